@@ -1,2 +1,1 @@
 -- Proofs that several functions of this crate cite.
-mod Limits

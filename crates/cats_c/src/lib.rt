@@ -4,11 +4,12 @@
 
 ghost use Rattle.rounding.specs.declared.replacement.FinePrices.TheVariants.{Refuse, Round};
 ghost use Rattle.std.specs.Prelude.{◌≡◌, if◌then◌else◌};
-ghost use Rattle.cats_calls.specs.Buffers.{Calls};
-ghost use Rattle.cats_calls.specs.OneText.{ChecksText, ExplainsText, NormalisesText};
-ghost use Rattle.cats_calls.specs.Refusals.{IsUnmade, IsUnread, OfOnly, OfTwo};
+ghost use Rattle.commands.specs.Outcomes.{check_outcome, explain_outcome, lp_outcome};
+ghost use Rattle.commands.specs.Outcomes.{normalise_outcome, revenue_outcome, show_outcome, value_outcome_by};
+ghost use Rattle.cats_calls.specs.FaultCalls.{FaultCalls};
+ghost use Rattle.cats_calls.specs.OneText.{CallsOn};
 ghost use Rattle.cats_calls.specs.Roundings.{AnswersRounding, RoundCalls, whole_status};
-ghost use Rattle.cats_calls.specs.TwoTexts.{ComparesTexts, DiffsTexts};
+ghost use Rattle.cats_calls.specs.TwoTexts.{CompareCalls, DiffCalls};
 ghost use Rattle.valuation.specs.SearchLimits.{bounded_options};
 ghost use Rattle.cats_c.specs.Totals.{total_of};
 
@@ -16,21 +17,96 @@ pub mod worked;
 
 use answers::RunFault;
 use cats_calls::{
-    RoundAnswer, TOO_SMALL, check, compare, diff, explain_text, give, give_report, give_rounded,
-    normalise, round_text,
+    RoundAnswer, TOO_SMALL, Text, find_fault, give, give_report, give_rounded, round_text,
 };
+use commands::{check, compare, diff, explain, lp, normalise, revenue, show, value};
 use rounding::FinePrices;
 use std::alloc::Global;
+use valuation::SearchOptions;
 
 /// The value of `total` that is no limit: `CATS_NO_TOTAL` of cats.h.
 const NO_TOTAL: u64 = 0;
 
+/// 10000 * major + 100 * minor + patch: `CATS_VERSION_NUMBER` of the cats.h of this library.
+const VERSION: u32 = 100;
+
+/// The version of the library.
+#[unsafe(no_mangle)]
+pub extern "C" fn cats_version() -> u32
+    ensures { result ≡ 100 }
+{
+    VERSION
+}
+
 /// `cats check`: the sizes of the file.
 #[unsafe(no_mangle)]
 pub extern "C" fn cats_check(alloc: Global, text: &[u8], out: &mut [u8], needed: &mut usize) -> u8
-    ensures { Calls (ChecksText text.now) (OfOnly (IsUnread text.now)) out.old out.new needed.new result }
+    ensures { CallsOn check_outcome text.now out.old out.new needed.new result }
 {
-    give(&check(alloc, text), out, needed)
+    let answer = check(alloc, &mut Text { bytes: text });
+    give(alloc, &answer, out, needed)
+}
+
+/// `cats fault`: where the first fault of the text is, and what helps. The name `text` stands for a path, and the bytes of
+/// the word are left out.
+#[unsafe(no_mangle)]
+pub extern "C" fn cats_fault(alloc: Global, text: &[u8], out: &mut [u8], needed: &mut usize) -> u8
+    ensures { FaultCalls text.now out.old out.new needed.new result }
+{
+    let answer = find_fault(alloc, text);
+    give(alloc, &answer, out, needed)
+}
+
+/// `cats show`: the file in its one layout.
+#[unsafe(no_mangle)]
+pub extern "C" fn cats_show(alloc: Global, text: &[u8], out: &mut [u8], needed: &mut usize) -> u8
+    ensures { CallsOn show_outcome text.now out.old out.new needed.new result }
+{
+    let answer = show(alloc, &mut Text { bytes: text });
+    give(alloc, &answer, out, needed)
+}
+
+/// `cats lp`: the winner determination problem of the file, for a solver.
+#[unsafe(no_mangle)]
+pub extern "C" fn cats_lp(alloc: Global, text: &[u8], out: &mut [u8], needed: &mut usize) -> u8
+    ensures { CallsOn lp_outcome text.now out.old out.new needed.new result }
+{
+    let answer = lp(alloc, &mut Text { bytes: text });
+    give(alloc, &answer, out, needed)
+}
+
+/// `cats revenue`: what the bids of these numbers bring as winners, or the first two of them that cannot both win.
+#[unsafe(no_mangle)]
+pub extern "C" fn cats_revenue(
+    alloc: Global,
+    text: &[u8],
+    bids: &[u32],
+    out: &mut [u8],
+    needed: &mut usize,
+) -> u8
+    ensures { CallsOn (revenue_outcome bids.now) text.now out.old out.new needed.new result }
+{
+    let answer = revenue(alloc, &mut Text { bytes: text }, bids);
+    give(alloc, &answer, out, needed)
+}
+
+/// `cats value`: what the file's bidders offer for the bundle of these goods. C fixes the parameters.
+#[unsafe(no_mangle)]
+pub extern "C" fn cats_value(
+    alloc: Global,
+    text: &[u8],
+    goods: &[u16],
+    steps: u64,
+    total: u64,
+    out: &mut [u8],
+    needed: &mut usize,
+) -> u8
+    ensures { let options = bounded_options steps (total_of total) in
+        CallsOn (value_outcome_by goods.now options) text.now out.old out.new needed.new result }
+{
+    let options = options_of(steps, total);
+    let answer = value(alloc, &mut Text { bytes: text }, goods, options);
+    give(alloc, &answer, out, needed)
 }
 
 /// `cats normalise`: the canonical text of the file's auction.
@@ -44,10 +120,11 @@ pub extern "C" fn cats_normalise(
     needed: &mut usize,
 ) -> u8
     ensures { let options = bounded_options steps (total_of total) in
-        Calls (NormalisesText options text.now) (OfOnly (IsUnmade options text.now)) out.old out.new needed.new result }
+        CallsOn (normalise_outcome options) text.now out.old out.new needed.new result }
 {
-    let answer = normalise(alloc, text, steps, total_of(total));
-    give(&answer, out, needed)
+    let options = options_of(steps, total);
+    let answer = normalise(alloc, &mut Text { bytes: text }, options);
+    give(alloc, &answer, out, needed)
 }
 
 /// `cats explain`: why each bid of the file is in its canonical file, or is not.
@@ -61,10 +138,10 @@ pub extern "C" fn cats_explain(
     needed: &mut usize,
 ) -> u8
     ensures { let options = bounded_options steps (total_of total) in
-        Calls (ExplainsText options text.now) (OfOnly (IsUnmade options text.now)) out.old out.new needed.new result }
+        CallsOn (explain_outcome options) text.now out.old out.new needed.new result }
 {
-    let answer = explain_text(alloc, text, steps, total_of(total));
-    give(&answer, out, needed)
+    let answer = explain(alloc, &mut Text { bytes: text }, steps, total_of(total));
+    give(alloc, &answer, out, needed)
 }
 
 /// `cats compare`: whether two files are the same auction, or else their first difference. C fixes the parameters.
@@ -78,12 +155,12 @@ pub extern "C" fn cats_compare(
     out: &mut [u8],
     needed: &mut usize,
 ) -> u8
-    ensures { let options = bounded_options steps (total_of total) in
-        Calls (ComparesTexts options left.now right.now) (OfTwo options left.now right.now)
-        out.old out.new needed.new result }
+    ensures { CompareCalls (bounded_options steps (total_of total)) left.now right.now out.old out.new needed.new result }
 {
-    let answer = compare(alloc, left, right, steps, total_of(total));
-    give(&answer, out, needed)
+    let options = options_of(steps, total);
+    let (mut first, mut second) = (Text { bytes: left }, Text { bytes: right });
+    let answer = compare(alloc, &mut first, &mut second, options);
+    give(alloc, &answer, out, needed)
 }
 
 /// `cats diff`: all differences of two files.
@@ -97,16 +174,16 @@ pub extern "C" fn cats_diff(
     out: &mut [u8],
     needed: &mut usize,
 ) -> u8
-    ensures { let options = bounded_options steps (total_of total) in
-        Calls (DiffsTexts options left.now right.now) (OfTwo options left.now right.now) out.old out.new needed.new result }
+    ensures { DiffCalls (bounded_options steps (total_of total)) left.now right.now out.old out.new needed.new result }
 {
-    let answer = diff(alloc, left, right, steps, total_of(total));
-    give(&answer, out, needed)
+    let options = options_of(steps, total);
+    let (mut first, mut second) = (Text { bytes: left }, Text { bytes: right });
+    let answer = diff(alloc, &mut first, &mut second, options);
+    give(alloc, &answer, out, needed)
 }
 
 /// `cats round`: the text with every price made valid, and a line for each price whose value changed. A price that is finer
-/// than
-/// a millionth is refused if `exact` is set.
+/// than a millionth is refused if `exact` is set.
 #[unsafe(no_mangle)]
 pub extern "C" fn cats_round(
     alloc: Global,
@@ -124,6 +201,13 @@ pub extern "C" fn cats_round(
     let reported = give_report(&rounded, report, report_needed);
     let given = give_rounded(&rounded, out, needed);
     whole_status(given, reported)
+}
+
+/// Bounded searches within the limits that a caller writes.
+fn options_of(steps: u64, total: u64) -> SearchOptions
+    ensures { result ≡ bounded_options steps (total_of total) }
+{
+    SearchOptions::bounded(steps, total_of(total))
 }
 
 /// The limit on all searches of a text together, if there is one.

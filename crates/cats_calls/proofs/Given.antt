@@ -1,31 +1,180 @@
--- What a call answered is given: a text with its status, or a fault.
-use Rattle.std.proofs.Common.{◌≡◌, ℕ, inl, inr, List, [], Result, Ok, Err, refl}
+-- What a command answered of a text is given: a text with its status, or a fault.
+use Rattle.std.proofs.Common.{◌≡◌, ◌≢◌, inl, inr, ℕ, true, List, [], take, Option, Some, Result, Ok, Err, IfSome, refl, sym, ap, subst}
+use Rattle.bid_file.specs.Files.{PlainFile}
+use Rattle.cats_text.specs.Faults.{fault_at, has_bid_line}
+use Rattle.cats_text.specs.Layout.{layout}
+use Rattle.cats_text.specs.declared.limits.TheConstants.{MAX_STREAM}
+use Rattle.cats_text.specs.declared.read_fault.Kind.TheVariants.{Memory as NoMemory}
+use Rattle.cats_text.specs.declared.read_fault.ReadFault.{ReadFault}
+use Rattle.cats_text.proofs.Texts.FaultKinds.{IsFaultOfBytes}
+use Rattle.valuation.specs.declared.search_options.SearchOptions.{SearchOptions}
+use Rattle.canon.specs.Comparing.{SpellsWithinLimit}
 use Rattle.canon.specs.declared.canon_fault.CanonFault.{CanonFault}
+use Rattle.canon.specs.declared.canon_fault.CanonFault.TheVariants.{Read, StepLimit, Memory}
 use Rattle.canon.specs.declared.which.Which.{Which}
+use Rattle.canon.specs.declared.which.Which.TheVariants.{Only, First, Second, Both}
 use Rattle.answers.specs.FaultLines.{line_of_fault}
 use Rattle.answers.specs.Statuses.{status_of_fault}
 use Rattle.answers.specs.declared.report.RunFault.{RunFault}
-use Rattle.answers.specs.declared.report.RunFault.TheVariants.{Refused, GoodRange, Sent}
+use Rattle.answers.specs.declared.report.RunFault.TheVariants.{Refused, GoodRange, BidRange, Sent}
 use Rattle.rounding.specs.declared.replacement.FinePrices.{FinePrices}
-use Rattle.cats_calls.specs.Answers.{Answers}
-use Rattle.cats_calls.specs.Buffers.{Calls, Gives}
+use Rattle.commands.specs.Commands.{Commands, GivesWithin, IsRefused, Makes, text_of}
+use Rattle.commands.specs.Outcomes.{Outcome, Prints, normalise_outcome}
+use Rattle.commands.specs.Pairs.{CommandsBoth, Compares, Diffs}
+use Rattle.commands.specs.declared.answer.Answer.{Answer}
+use Rattle.commands.specs.declared.answer.Output.{Output}
+use Rattle.commands.specs.declared.answer.Output.TheVariants as output
+use Rattle.cats_calls.specs.Buffers.{Calls, Gives, GivesFault, GivesOutput}
+use Rattle.cats_calls.specs.FaultCalls.{AnswersPlace, AnswersPlaceBy, FaultCalls, IsUnplaced, SaysPlace}
+use Rattle.cats_calls.specs.OneText.{CallsOn, IsRefusedText, IsUnmade, MakesOf, OfOnly, PrintsOf}
+use Rattle.cats_calls.specs.Refusals.{RefusesText, TextGives, TextRefuses, text_fault}
 use Rattle.cats_calls.specs.Roundings.{AnswersRounding, GivesReport, GivesRounded, RoundCalls, whole_status}
-use Rattle.cats_calls.specs.declared.answer.Answer.{Answer}
+use Rattle.cats_calls.specs.TwoTexts.{CompareCalls, ComparesTexts, DiffCalls, DiffsTexts, IsRefusedOfTwo}
 use Rattle.cats_calls.specs.declared.rounded_text.RoundAnswer.{RoundAnswer}
+use Rattle.cats_calls.specs.declared.text.Text.{Text}
+use Rattle.cats_calls.proofs.Refusing.{text_fault-of_bytes}
 
-module _ (Says : ℕ → List ℕ → Type 0) (Refuses : Which → CanonFault → Type 0) where
-  pub given_call : (r : Result Answer RunFault) → Answers Says Refuses r → (old new : List ℕ) (needed answer : ℕ) → Gives r old new needed answer
-      → Calls Says Refuses old new needed answer
-  given_call (Ok a) is old new needed answer g =
-      record { status = a.status; text = a.text.items; is = inl (is, g.is_needed); puts = g.puts }
-  given_call (Err (Refused which fault)) is old new needed answer g = record {
-    status = status_of_fault (Refused which fault);
-    text = line_of_fault (Refused which fault);
-    is = inr (record { which = which; fault = fault; refused = is; is_status = refl; is_line = refl; is_needed = g.is_needed });
+-- ---- an answer of which this is said
+
+module _ (Says : ℕ → List ℕ → Type 0) (Refuses : RunFault → Type 0) (old new : List ℕ) (needed answer : ℕ) where
+  given_fault : (fault : RunFault) → Refuses fault → GivesFault fault old new needed answer → Calls Says Refuses old new needed answer
+  given_fault fault refused g = record {
+    status = status_of_fault fault;
+    text = line_of_fault fault;
+    is = inr (record { fault = fault; refused = refused; is_status = refl; is_line = refl; is_needed = g.is_needed });
     puts = g.puts;
   }
-  given_call (Err (GoodRange good)) is old new needed answer g = absurd is
+
+  -- want of memory for the text of a file has the line and the status of the fault `wants`
+  given_output : (wants : RunFault) → (Refuses wants) → line_of_fault wants ≡ line_of_fault (Refused Only Memory)
+      → status_of_fault wants ≡ status_of_fault (Refused Only Memory) → (status : ℕ) (o : Output) → Says status (text_of o)
+      → GivesOutput status o old new needed answer → Calls Says Refuses old new needed answer
+  given_output wants refused same_line same_status status (output.Text text) says g =
+      record { status = status; text = text.items; is = inl (says, g.is_needed); puts = g.puts }
+  given_output wants refused same_line same_status status (output.File file) says (inl g) =
+      record { status = status; text = layout file; is = inl (says, g.is_needed); puts = g.puts }
+  given_output wants refused same_line same_status status (output.File file) says (inr g) = record {
+    status = status_of_fault (Refused Only Memory);
+    text = line_of_fault (Refused Only Memory);
+    is = inr (record { fault = wants; refused = refused; is_status = sym same_status; is_line = sym same_line; is_needed = g.is_needed });
+    puts = g.puts;
+  }
+
+-- ---- one text
+
+-- why reading a text gives no file, but for want of memory
+found_fault : (text : List ℕ) (why : ReadFault) → why.kind ≢ NoMemory → RefusesText text why → text_fault text ≡ Some why
+found_fault text why other (inl found) = found
+found_fault text why other (inr wants) = absurd (other (ap (λ (fault : ReadFault). fault.kind) wants.0))
+
+wanted_memory : (text : List ℕ) → RefusesText text (fault_at 0 NoMemory) → has_bid_line (take MAX_STREAM text) ≡ true
+wanted_memory text (inl found) =
+    absurd ((subst (λ (fault : Option ReadFault). IfSome fault IsFaultOfBytes) found (text_fault-of_bytes text)).1 refl)
+wanted_memory text (inr wants) = wants.1
+
+module _ (outcome : PlainFile → Outcome) (text after : Text) where
+  made_of : (expected : Outcome) → Makes TextGives TextRefuses outcome text after expected → MakesOf outcome text.bytes.now expected
+  made_of expected m = record { file = m.file; spelled = m.given; made = m.made }
+
+  pub unmade_of : (fault : CanonFault) → IsRefused TextGives TextRefuses outcome text after fault → IsUnmade outcome text.bytes.now fault
+  unmade_of (Read why) h = found_fault text.bytes.now why h.0 h.1
+  unmade_of (StepLimit goods) h = made_of _ h
+  unmade_of Memory (inl read) = inl (wanted_memory text.bytes.now read)
+  unmade_of Memory (inr given) = inr (record { file = given.file; spelled = given.given })
+
+  pub given_call : (r : Result Answer RunFault) → Commands TextGives TextRefuses outcome text after r
+      → (old new : List ℕ) (needed answer : ℕ) → Gives r old new needed answer → CallsOn outcome text.bytes.now old new needed answer
+  given_call (Ok a) is old new needed answer g =
+      given_output (PrintsOf outcome text.bytes.now) (IsRefusedText outcome text.bytes.now) old new needed answer (Refused Only Memory)
+      (inr (record { file = is.file; spelled = is.given })) refl refl a.status a.output (made_of _ is) g
+  given_call (Err (Refused which fault)) is old new needed answer g =
+      given_fault (PrintsOf outcome text.bytes.now) (IsRefusedText outcome text.bytes.now) old new needed answer (Refused which fault)
+      (subst (λ (w : Which). IsRefusedText outcome text.bytes.now (Refused w fault)) (sym is.0) (unmade_of fault is.1)) g
+  given_call (Err (GoodRange good)) is old new needed answer g =
+      given_fault (PrintsOf outcome text.bytes.now) (IsRefusedText outcome text.bytes.now) old new needed answer (GoodRange good)
+      (made_of _ is) g
+  given_call (Err (BidRange bid)) is old new needed answer g =
+      given_fault (PrintsOf outcome text.bytes.now) (IsRefusedText outcome text.bytes.now) old new needed answer (BidRange bid)
+      (made_of _ is) g
   given_call (Err (Sent fault)) is old new needed answer g = absurd is
+
+-- ---- the first fault of a text
+
+module _ (text : List ℕ) where
+  place_by : (status : ℕ) (o : Output) → AnswersPlaceBy text status o → (old new : List ℕ) (needed answer : ℕ)
+      → GivesOutput status o old new needed answer → FaultCalls text old new needed answer
+  place_by status (output.Text out) says old new needed answer g =
+      record { status = status; text = out.items; is = inl (says, g.is_needed); puts = g.puts }
+  place_by status (output.File file) says old new needed answer g = absurd says
+
+  pub given_place : (r : Result Answer RunFault) → AnswersPlace text r
+      → (old new : List ℕ) (needed answer : ℕ) → Gives r old new needed answer → FaultCalls text old new needed answer
+  given_place (Ok a) is old new needed answer g = place_by a.status a.output is old new needed answer g
+  given_place (Err fault) is old new needed answer g =
+      given_fault (SaysPlace text) (OfOnly (IsUnplaced text)) old new needed answer fault is g
+
+-- ---- two texts
+
+module _ (options : SearchOptions) (first first_after second second_after : Text) where
+  abbrev within_of : (text after : Text) (file : PlainFile) → GivesWithin TextGives TextRefuses options text after file
+      → SpellsWithinLimit options text.bytes.now
+  within_of text after file g = record { file = file; spelled = g.given; within_limit = g.within }
+
+  module _ {A : Type 0} (Given : A → Type 0) (outcome : A → Outcome) where
+    refused_of : (fault : RunFault)
+        → CommandsBoth TextGives TextRefuses TextGives TextRefuses options Given outcome first first_after second second_after (Err fault)
+        → IsRefusedOfTwo options first.bytes.now second.bytes.now fault
+    refused_of (Refused First fault) h = unmade_of (normalise_outcome options) first first_after fault h.refused
+    refused_of (Refused Second fault) h =
+        (within_of first first_after h.left h.given, unmade_of (normalise_outcome options) second second_after fault h.refused)
+    refused_of (Refused Both fault) h =
+        (within_of first first_after h.files.0 h.given.0, within_of second second_after h.files.1 h.given.1, h.memory)
+    refused_of (Refused Only fault) h = absurd h
+    refused_of (GoodRange good) h = absurd h
+    refused_of (BidRange bid) h = absurd h
+    refused_of (Sent fault) h = absurd h
+
+    module _ (Says : ℕ → List ℕ → Type 0)
+        (both : (given : A) → Given given → SpellsWithinLimit options first.bytes.now × SpellsWithinLimit options second.bytes.now)
+        (says : (given : A) → Given given → (status : ℕ) (out : List ℕ) → outcome given ≡ Prints status out → Says status out) where
+      given_both : (r : Result Answer RunFault)
+          → CommandsBoth TextGives TextRefuses TextGives TextRefuses options Given outcome first first_after second second_after r
+          → (old new : List ℕ) (needed answer : ℕ) → Gives r old new needed answer
+          → Calls Says (IsRefusedOfTwo options first.bytes.now second.bytes.now) old new needed answer
+      given_both (Ok a) is old new needed answer g =
+          let texts = both is.given is.gives in
+          given_output Says (IsRefusedOfTwo options first.bytes.now second.bytes.now) old new needed answer (Refused Both Memory)
+          (texts.0, texts.1, refl) refl refl a.status a.output (says is.given is.gives a.status (text_of a.output) is.made) g
+      given_both (Err fault) is old new needed answer g =
+          given_fault Says (IsRefusedOfTwo options first.bytes.now second.bytes.now) old new needed answer fault (refused_of fault is) g
+
+  pub given_compare : (r : Result Answer RunFault)
+      → Compares TextGives TextRefuses TextGives TextRefuses options first first_after second second_after r
+      → (old new : List ℕ) (needed answer : ℕ) → Gives r old new needed answer
+      → CompareCalls options first.bytes.now second.bytes.now old new needed answer
+  given_compare = given_both _ _ (ComparesTexts options first.bytes.now second.bytes.now)
+      (λ files given. (within_of first first_after files.0 given.0, within_of second second_after files.1 given.1))
+      (λ files given status out made. record {
+        first = within_of first first_after files.0 given.0;
+        second = within_of second second_after files.1 given.1;
+        made = made;
+      })
+
+  pub given_diff : (r : Result Answer RunFault)
+      → Diffs TextGives TextRefuses TextGives TextRefuses options first first_after second second_after r
+      → (old new : List ℕ) (needed answer : ℕ) → Gives r old new needed answer
+      → DiffCalls options first.bytes.now second.bytes.now old new needed answer
+  given_diff = given_both _ _ (DiffsTexts options first.bytes.now second.bytes.now)
+      (λ compared g. (within_of first first_after compared.0 g.given.0, within_of second second_after compared.1 g.given.1))
+      (λ compared g status out made. record {
+        first = within_of first first_after compared.0 g.given.0;
+        second = within_of second second_after compared.1 g.given.1;
+        differences = compared.2;
+        all = g.all;
+        made = made;
+      })
+
+-- ---- a rounded text
 
 module _ (fine : FinePrices) (bytes : List ℕ) where
   pub given_rounding : (r : Result RoundAnswer RunFault) → AnswersRounding fine bytes r
@@ -45,11 +194,11 @@ module _ (fine : FinePrices) (bytes : List ℕ) where
     puts_report = r.puts;
     is_answer = whole;
   }
-  given_rounding (Err (Refused which fault)) is old new needed given g report_old report_new report_needed reported r answer whole = record {
-    status = status_of_fault (Refused which fault);
-    text = line_of_fault (Refused which fault);
+  given_rounding (Err fault) is old new needed given g report_old report_new report_needed reported r answer whole = record {
+    status = status_of_fault fault;
+    text = line_of_fault fault;
     report = [];
-    is = inr (record { which = which; fault = fault; refused = is; is_status = refl; is_line = refl; is_needed = g.is_needed }, refl);
+    is = inr (record { fault = fault; refused = is; is_status = refl; is_line = refl; is_needed = g.is_needed }, refl);
     is_report_needed = r.is_needed;
     given = given;
     puts = g.puts;
@@ -57,5 +206,3 @@ module _ (fine : FinePrices) (bytes : List ℕ) where
     puts_report = r.puts;
     is_answer = whole;
   }
-  given_rounding (Err (GoodRange good)) is old new needed given g report_old report_new report_needed reported r answer whole = absurd is
-  given_rounding (Err (Sent fault)) is old new needed given g report_old report_new report_needed reported r answer whole = absurd is

@@ -1,6 +1,5 @@
 -- Proofs that several functions of this crate cite.
 pub mod Refusing
-pub mod TwoTexts
 pub mod Given
 pub mod SmallTexts
 pub mod Putting

@@ -1,24 +1,19 @@
--- A text that is read and normalised. One that is longer than a stream may be has a fault: that of its first bytes, or its length.
-use Rattle.std.proofs.Common.{◌≡◌, ◌≢◌, ◌<◌, ◌≤◌, ℕ, nat_le, ◌⊎◌, inl, inr, true, false, if◌then◌else◌, List, [], length, take, Option, Some, None, Result, Ok}
-use Rattle.std.proofs.Common.{Err, refl, sym, ap, ◌∙◌, subst, IfSome}
-use Rattle.std.specs.Prelude.{IsErrAnd}
+-- A text that is read. One that is longer than a stream may be has a fault: that of its first bytes, or its length.
+use Rattle.std.proofs.Common.{◌≡◌, ◌<◌, ◌≤◌, ◌⊎◌, inl, inr, ℕ, nat_le, if◌then◌else◌, true, false, List, [], length}
+use Rattle.std.proofs.Common.{take, Option, None, Some, Result, Ok, Err, IfErr, IfSome, sym, ap, ◌∙◌, subst, refl}
 use Rattle.std.proofs.lemmas.Bool.{le-leb, lt-leb}
 use Rattle.std.proofs.lemmas.List.{take_all}
-use Rattle.bid_file.specs.Files.{PlainFile}
 use Rattle.cats_text.specs.Faults.{first_fault, has_bid_line}
 use Rattle.cats_text.specs.Fed.{Fed, fed_fault}
-use Rattle.cats_text.specs.Reading.{FeedsAs, FeedsOn, WantsMemory}
-use Rattle.cats_text.specs.declared.read_fault.Kind.{Kind}
-use Rattle.cats_text.specs.declared.read_fault.Kind.TheVariants.{Memory as NoMemory}
+use Rattle.cats_text.specs.Reading.{FeedsAs, FeedsOn, PackedAnswer, WantsMemory}
 use Rattle.cats_text.specs.declared.read_fault.ReadFault.{ReadFault}
 use Rattle.cats_text.specs.declared.limits.TheConstants.{MAX_STREAM}
+use Rattle.cats_text.specs.declared.read_fault.Kind.TheVariants.{Memory as NoMemory}
 use Rattle.cats_text.proofs.Texts.FaultKinds.{IsFaultOfBytes, fed_fault-of_bytes, first_fault-of_bytes}
-use Rattle.canon.specs.Refusals.{refusal_by_kind, refusal_of}
-use Rattle.canon.specs.declared.canon_fault.CanonFault.{CanonFault}
-use Rattle.cats_calls.specs.Refusals.{IsUnread, text_fault}
-use Rattle.cats_calls.specs.Internal.Reading.{ReadsAs}
-
--- ---- faults of the text
+use Rattle.bid_file.specs.Files.{PlainFile}
+use Rattle.commands.specs.Inputs.{ReadsAs}
+use Rattle.cats_calls.specs.Refusals.{RefusesText, TextGives, TextRefuses, text_fault}
+use Rattle.cats_calls.specs.declared.text.Text.{Text}
 
 -- the fault is of the bytes that are read
 pub text_fault-of_bytes : (text : List ℕ) → IfSome (text_fault text) IsFaultOfBytes
@@ -28,62 +23,41 @@ text_fault-of_bytes text = elim (nat_le (length text) MAX_STREAM)
       | false ↦ fed_fault-of_bytes MAX_STREAM text
     ]
 
--- the fault of reading, or want of memory, is why the text is refused
-unread_by : (text : List ℕ) (why : ReadFault) → (text_fault text ≡ Some why) ⊎ ((why.kind ≡ NoMemory) × (has_bid_line (take MAX_STREAM text) ≡ true))
-    → IsUnread text (refusal_of why)
-unread_by text why h = by why.kind refl h
-  where
-    of_text : text_fault text ≡ Some why → why.kind ≢ NoMemory
-    of_text e = (subst (λ (fault : Option ReadFault). IfSome fault IsFaultOfBytes) e (text_fault-of_bytes text)).1
+-- want of memory is on no line
+pub memory_line : (text : List ℕ) (why : ReadFault) → RefusesText text why → why.kind ≡ NoMemory → why.line ≡ 0
+memory_line text why (inl found) is =
+    absurd ((subst (λ (fault : Option ReadFault). IfSome fault IsFaultOfBytes) found (text_fault-of_bytes text)).1 is)
+memory_line text why (inr wants) is = ap (λ (fault : ReadFault). fault.line) wants.0
 
-    by : (kind : Kind) → why.kind ≡ kind → (text_fault text ≡ Some why) ⊎ ((why.kind ≡ NoMemory) × (has_bid_line (take MAX_STREAM text) ≡ true))
-        → IsUnread text (refusal_by_kind why kind)
-    by NoMemory e (inl first) = absurd (of_text first e)
-    by NoMemory e (inr wants) = inl wants.1
-    by kind e (inl first) = first
-    by kind e (inr wants) = let none = sym e ∙ wants.0 in absurd (cc)
+-- a text that may be as long as it is
+short_refused : (text : List ℕ) (why : ReadFault) → length text ≤ MAX_STREAM → (first_fault text ≡ Some why) ⊎ WantsMemory text why
+    → RefusesText text why
+short_refused text why short (inl first) = inl (rw (le-leb (length text) MAX_STREAM short) first)
+short_refused text why short (inr wants) = inr (wants.0, ap has_bid_line (take_all MAX_STREAM text short) ∙ wants.1)
 
--- ---- a text that may be as long as it is
+pub short_read : (text : Text) → length text.bytes.now ≤ MAX_STREAM → (r : Result PlainFile ReadFault) → PackedAnswer text.bytes.now r
+    → ReadsAs TextGives TextRefuses text text r
+short_read text short (Ok file) spells = spells
+short_read text short (Err why) h = short_refused text.bytes.now why short h
 
-short_fault : (text : List ℕ) → length text ≤ MAX_STREAM → text_fault text ≡ first_fault text
-short_fault text short = rw (le-leb (length text) MAX_STREAM short) refl
+pub read_memory : (text : Text) (r : Result PlainFile ReadFault) → ReadsAs TextGives TextRefuses text text r
+    → IfErr r (λ fault. fault.kind ≡ NoMemory → fault.line ≡ 0)
+read_memory text (Ok file) h = tt
+read_memory text (Err why) h = memory_line text.bytes.now why h
 
-short_wants : (text : List ℕ) → length text ≤ MAX_STREAM → has_bid_line text ≡ true → has_bid_line (take MAX_STREAM text) ≡ true
-short_wants text short h = ap has_bid_line (take_all MAX_STREAM text short) ∙ h
-
-short_unread : (text : List ℕ) (why : ReadFault) → length text ≤ MAX_STREAM → (first_fault text ≡ Some why) ⊎ WantsMemory text why
-    → IsUnread text (refusal_of why)
-short_unread text why short (inl first) = unread_by text why (inl (short_fault text short ∙ first))
-short_unread text why short (inr wants) =
-    unread_by text why (inr (ap (λ (w : ReadFault). w.kind) wants.0, short_wants text short wants.1))
-
-pub text_unread : (text : List ℕ) (why : ReadFault) → length text ≤ MAX_STREAM → (first_fault text ≡ Some why) ⊎ WantsMemory text why
-    → (r : Result PlainFile CanonFault) → IsErrAnd r (λ fault. fault ≡ refusal_of why) → ReadsAs text r
-text_unread text why short h (Ok file) is = absurd is
-text_unread text why short h (Err fault) is = subst (IsUnread text) (sym is) (short_unread text why short h)
-
--- ---- a text that is too long
-
-module _ (text : List ℕ) (long : MAX_STREAM < length text) where
+-- what a reader that was fed a text that is too long answers
+module _ (text : List ℕ) (long : MAX_STREAM < length text) (why : ReadFault) where
   long_is : text_fault text ≡ fed_fault MAX_STREAM text
   long_is = rw (lt-leb (length text) MAX_STREAM long) refl
 
-  long_unread : (new : Fed) (why : ReadFault) → FeedsOn (record { limit = MAX_STREAM; bytes = []; failed = None }) text new (Err why)
-      → IsUnread text (refusal_of why)
-  long_unread new why fed = unread_by text why (by fed.answer.0)
+  long_refused : (new : Fed) → FeedsOn (record { limit = MAX_STREAM; bytes = []; failed = None }) text new (Err why) → RefusesText text why
+  long_refused new fed = by fed.answer.0
     where
-      of_text : fed_fault new.limit new.bytes ≡ fed_fault MAX_STREAM text
-      of_text = ap (λ (limit : ℕ). fed_fault limit new.bytes) fed.limit ∙ ap (fed_fault MAX_STREAM) fed.bytes
+      by : (fed_fault new.limit new.bytes ≡ Some why) ⊎ WantsMemory (take new.limit new.bytes) why → RefusesText text why
+      by (inl found) = inl (long_is ∙ sym (ap (λ (limit : ℕ). fed_fault limit new.bytes) fed.limit ∙ ap (fed_fault MAX_STREAM) fed.bytes) ∙ found)
+      by (inr wants) = inr (subst (λ (bytes : List ℕ). WantsMemory bytes why)
+          (ap (λ (limit : ℕ). take limit new.bytes) fed.limit ∙ ap (take MAX_STREAM) fed.bytes) wants)
 
-      first_bytes : take new.limit new.bytes ≡ take MAX_STREAM text
-      first_bytes = ap (λ (limit : ℕ). take limit new.bytes) fed.limit ∙ ap (take MAX_STREAM) fed.bytes
-
-      by : (fed_fault new.limit new.bytes ≡ Some why) ⊎ WantsMemory (take new.limit new.bytes) why
-          → (text_fault text ≡ Some why) ⊎ ((why.kind ≡ NoMemory) × (has_bid_line (take MAX_STREAM text) ≡ true))
-      by (inl found) = inl (long_is ∙ sym of_text ∙ found)
-      by (inr wants) = inr (ap (λ (w : ReadFault). w.kind) wants.0, ap has_bid_line (sym first_bytes) ∙ wants.1)
-
-  -- what a reader that was fed the text answers
-  pub long_fed : (old new : Fed) → old ≡ record { limit = MAX_STREAM; bytes = []; failed = None } → (why : ReadFault) → FeedsAs old text new (Err why)
-      → IsUnread text (refusal_of why)
-  long_fed old new is why fed = long_unread new why (subst (λ (o : Fed). FeedsAs o text new (Err why)) is fed)
+  pub long_fed : (old new : Fed) → old ≡ record { limit = MAX_STREAM; bytes = []; failed = None } → FeedsAs old text new (Err why)
+      → RefusesText text why
+  long_fed old new is fed = long_refused new (subst (λ (o : Fed). FeedsAs o text new (Err why)) is fed)

@@ -1,4 +1,2 @@
 -- What the contracts of private functions cite. No public contract rests on them.
-pub mod Reading
-pub mod Comparing
 pub mod Putting

@@ -1,8 +1,8 @@
 -- What the contracts of this crate cite.
 pub mod Refusals
-pub mod Answers
+pub mod Buffers
 pub mod OneText
 pub mod TwoTexts
 pub mod Roundings
-pub mod Buffers
+pub mod FaultCalls
 pub mod Internal

@@ -13,9 +13,8 @@ use Rattle.rounding.specs.Texts.{PlainChange, rounded_prices, rounded_text}
 use Rattle.rounding.specs.declared.replacement.FinePrices.{FinePrices}
 use Rattle.answers.specs.RoundedLines.{rounded_line}
 use Rattle.answers.specs.declared.report.RunFault.{RunFault}
-use Rattle.answers.specs.declared.report.RunFault.TheVariants.{Refused, GoodRange, Sent}
 use Rattle.cats_calls.specs.Buffers.{GivesFault, GivesText, PutsInto, RefusesBy}
-use Rattle.cats_calls.specs.Refusals.{OfOnly}
+use Rattle.cats_calls.specs.OneText.{OfOnly}
 use Rattle.cats_calls.specs.declared.buffer.TheConstants.{TOO_SMALL}
 use Rattle.cats_calls.specs.declared.rounded_text.RoundAnswer.{RoundAnswer}
 
@@ -45,9 +44,7 @@ IsUnrounded fine text Memory = WantsMemoryToRound fine text
 -- what the call answers
 abbrev pub AnswersRounding : FinePrices → List ℕ → Result RoundAnswer RunFault → Type 0
 AnswersRounding fine text (Ok answer) = RoundsText fine text answer.text.items answer.report.items
-AnswersRounding fine text (Err (Refused which fault)) = OfOnly (IsUnrounded fine text) which fault
-AnswersRounding fine text (Err (GoodRange good)) = ⊥
-AnswersRounding fine text (Err (Sent fault)) = ⊥
+AnswersRounding fine text (Err fault) = OfOnly (IsUnrounded fine text) fault
 
 -- ---- the two buffers
 

@@ -1,23 +1,43 @@
 //! A caller's buffer. A text is put into it whole, or not at all.
 
 ghost use Rattle.std.specs.Prelude.{◌≡◌, length};
-ghost use Rattle.cats_calls.specs.Buffers.{Gives, GivesFault, PutsInto};
+ghost use Rattle.cats_calls.specs.Buffers.{Gives, GivesFault, GivesOutput, PutsInto};
 
-use crate::answer::Answer;
 use crate::pieces::put_pieces;
 use answers::{RunFault, fault_pieces, status};
+use cats_text::write;
+use commands::{Answer, Output};
+use std::alloc::{AllocError, Global};
 
 /// The buffer is too small.
 pub const TOO_SMALL: u8 = 6;
 
-/// Puts what a call answers into a buffer, or the line of its fault, and answers the status. `needed` becomes the length of
-/// that text, whether it fits or not.
-pub fn give(answer: &Result<Answer, RunFault>, out: &mut [u8], needed: &mut usize) -> u8
+/// Puts what a command answered into a buffer, or the line of its fault, and answers the status. `needed` becomes the length
+/// of that text, whether it fits or not.
+pub fn give(
+    alloc: Global,
+    answer: &Result<Answer, RunFault>,
+    out: &mut [u8],
+    needed: &mut usize,
+) -> u8
     ensures { Gives answer.now out.old out.new needed.new result }
 {
     match answer {
-        Ok(answer) => put(answer.status, answer.text.as_slice(), out, needed),
+        Ok(answer) => give_output(alloc, answer.status, &answer.output, out, needed),
         Err(fault) => give_fault(fault, out, needed),
+    }
+}
+
+/// Puts an output into a buffer, and answers the status. The text of a file is made first.
+fn give_output(alloc: Global, status: u8, output: &Output, out: &mut [u8], needed: &mut usize) -> u8
+    ensures { GivesOutput status output.now out.old out.new needed.new result }
+{
+    match output {
+        Output::Text(text) => put(status, text.as_slice(), out, needed),
+        Output::File(file) => match write(alloc, file) {
+            Ok(text) => put(status, text.as_slice(), out, needed),
+            Err(AllocError) => give_fault(&RunFault::from(AllocError), out, needed),
+        },
     }
 }
 

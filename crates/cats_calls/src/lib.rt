@@ -1,18 +1,17 @@
-//! The calls of the C library, over values. Each answers texts, and its answer is put into a caller's buffer.
+//! The calls of the C library, over values: a text as the input of a command, and an answer in a caller's buffer.
 #![tactic(auto)]
 
-mod answer;
 mod buffer;
+mod fault_place;
 pub mod laws;
-mod one_text;
 mod pieces;
-mod reading;
 mod rounded_text;
-mod two_texts;
+#[cfg(test)]
+mod tests;
+mod text;
 pub mod worked;
 
-pub use answer::Answer;
 pub use buffer::{TOO_SMALL, give};
-pub use one_text::{check, explain_text, normalise};
+pub use fault_place::find_fault;
 pub use rounded_text::{RoundAnswer, give_report, give_rounded, round_text};
-pub use two_texts::{compare, diff};
+pub use text::Text;

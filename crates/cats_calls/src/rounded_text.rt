@@ -1,6 +1,11 @@
 //! The call that rounds the prices of a text. It has two texts: the rounded text, and the report of the prices that changed.
 
 ghost use Rattle.std.specs.Prelude.{◌≡◌, ◌++◌, IfErr, IfOk, OnOk};
+ghost use Rattle.cats_text.specs.Faults.{fault_at};
+ghost use Rattle.cats_text.specs.declared.read_fault.Kind.TheVariants.{TooLong};
+ghost use Rattle.canon.specs.declared.canon_fault.CanonFault.TheVariants.{Read};
+ghost use Rattle.canon.specs.declared.which.Which.TheVariants.{Only};
+ghost use Rattle.answers.specs.declared.report.RunFault.TheVariants.{Refused};
 ghost use Rattle.rounding.specs.Answers.{IsRounded};
 ghost use Rattle.rounding.specs.Views.{plain_changes};
 ghost use Rattle.cats_calls.specs.Roundings.{AnswersRounding, GivesReport, GivesRounded, IsUnrounded, lines_of};
@@ -24,10 +29,7 @@ pub fn round_text(alloc: Global, text: &[u8], fine: FinePrices) -> Result<RoundA
     ensures { AnswersRounding fine text.now result }
 {
     if text.len() as u64 > MAX_STREAM {
-        return Err(RunFault::from(CanonFault::Read(ReadFault {
-            line: 0,
-            kind: Kind::TooLong,
-        })));
+        return Err(too_long());
     }
     let rounded = round_bytes(alloc, text, fine)?;
     let report = report_text(alloc, rounded.prices.as_slice())?;
@@ -35,6 +37,16 @@ pub fn round_text(alloc: Global, text: &[u8], fine: FinePrices) -> Result<RoundA
         text: rounded.text,
         report,
     })
+}
+
+/// The fault of a text that is longer than is read.
+pub(crate) fn too_long() -> RunFault
+    ensures { result ≡ Refused Only (Read (fault_at 0 TooLong)) }
+{
+    RunFault::from(CanonFault::Read(ReadFault {
+        line: 0,
+        kind: Kind::TooLong,
+    }))
 }
 
 /// The text with its prices rounded.

@@ -1,81 +1,118 @@
 //! Worked rows of what the calls answer, on small texts. The prover computes them.
 
-ghost use Rattle.std.specs.Prelude.{◌≡◌, ℕ, [], ◌∷◌, ◌++◌, codes, Ok, Err, Some, None, Vec, List};
+ghost use Rattle.std.specs.Prelude.{◌≡◌, ℕ, [], ◌∷◌, ◌++◌, codes, Err, Some, None, Vec, List};
 ghost use Rattle.std.specs.Global.{Global};
 ghost use Rattle.cats_text.specs.Faults.{fault_at};
 ghost use Rattle.cats_text.specs.declared.read_fault.Kind.TheVariants.{Header, Missing, TooFine, TooLong};
+ghost use Rattle.cats_text.specs.declared.read_fault.Kind.TheVariants.{Memory as NoMemory};
 ghost use Rattle.cats_text.specs.declared.read_fault.ReadFault.{ReadFault};
 ghost use Rattle.valuation.specs.SearchLimits.{bounded_options, plain_options};
 ghost use Rattle.canon.specs.declared.canon_fault.CanonFault.TheVariants.{Read, StepLimit, Memory};
 ghost use Rattle.canon.specs.declared.which.Which.TheVariants.{Only, First, Second, Both};
 ghost use Rattle.rounding.specs.declared.replacement.FinePrices.TheVariants.{Round, Refuse};
 ghost use Rattle.answers.specs.DiffTexts.{diff_header};
-ghost use Rattle.answers.specs.declared.report.RunFault.TheVariants.{Refused, GoodRange};
-ghost use Rattle.cats_calls.specs.Answers.{Answers};
-ghost use Rattle.cats_calls.specs.Buffers.{Calls, Gives, PutsInto};
-ghost use Rattle.cats_calls.specs.OneText.{ChecksText, ExplainsText, NormalisesText};
-ghost use Rattle.cats_calls.specs.Refusals.{IsUnmade, IsUnread, OfOnly, OfTwo};
+ghost use Rattle.answers.specs.declared.report.RunFault.TheVariants.{Refused, GoodRange, BidRange};
+ghost use Rattle.commands.specs.Outcomes.{check_outcome, explain_outcome, normalise_outcome, revenue_outcome, show_outcome};
+ghost use Rattle.commands.specs.Outcomes.{value_outcome_by};
+ghost use Rattle.commands.specs.declared.answer.Output.TheVariants.{Text};
+ghost use Rattle.cats_calls.specs.Buffers.{Gives, GivesOutput, PutsInto};
+ghost use Rattle.cats_calls.specs.FaultCalls.{FaultCalls, IsUnplaced, SaysPlace};
+ghost use Rattle.cats_calls.specs.OneText.{CallsOn, IsRefusedText, IsUnmade, PrintsOf};
+ghost use Rattle.cats_calls.specs.Refusals.{RefusesText};
 ghost use Rattle.cats_calls.specs.Roundings.{GivesReport, IsUnrounded, RoundCalls, RoundsText, report_of, whole_status};
-ghost use Rattle.cats_calls.specs.TwoTexts.{ComparesTexts, DiffsTexts};
-ghost use Rattle.cats_calls.specs.declared.answer.Answer.{Answer};
+ghost use Rattle.cats_calls.specs.TwoTexts.{ComparesTexts, DiffsTexts, IsRefusedOfTwo};
 
-/// What `check` says of a text: the sizes of its file, with status 0. It says nothing of a text that is not a bid file.
-pub fn texts_checked()
-    ensures sizes { ChecksText (codes "goods 2\nbids 1\ndummy 0\n0 3 0 #\n") 0 (codes "goods 2 bids 1 dummy 0\n") }
-    ensures other_sizes { ChecksText (codes "goods 2\nbids 1\ndummy 0\n0 3 0 #\n") 0 (codes "goods 1 bids 1 dummy 0\n") → ⊥ }
-    ensures other_status { ChecksText (codes "goods 2\nbids 1\ndummy 0\n0 3 0 #\n") 1 (codes "goods 2 bids 1 dummy 0\n")
+/// What a call prints of a text: what its command makes of the file, with its status. It prints nothing of a text that is
+/// not a bid file.
+pub fn texts_printed()
+    ensures sizes { PrintsOf check_outcome (codes "goods 2\nbids 1\ndummy 0\n0 3 0 #\n") 0 (codes "goods 2 bids 1 dummy 0\n") }
+    ensures other_sizes { PrintsOf check_outcome (codes "goods 2\nbids 1\ndummy 0\n0 3 0 #\n") 0 (codes "goods 1 bids 1 dummy 0\n")
         → ⊥ }
-    ensures not_a_bid_file { (out : List ℕ) → ChecksText (codes "bids 0\n") 0 out → ⊥ }
-{}
-
-/// Why a text is not a bid file: its first fault. Memory is refused only if a bid line has begun, or for a bid file.
-pub fn texts_unread()
-    ensures fault { IsUnread (codes "bids 0\n") (Read (fault_at 1 Header)) }
-    ensures other_line { IsUnread (codes "bids 0\n") (Read (fault_at 2 Header)) → ⊥ }
-    ensures other_kind { IsUnread (codes "bids 0\n") (Read (fault_at 1 Missing)) → ⊥ }
-    ensures bid_file { (fault : ReadFault) → IsUnread (codes "goods 0\nbids 0\ndummy 0\n") (Read fault) → ⊥ }
-    ensures memory { IsUnread (codes "goods 1\nbids 1\ndummy 0\n0 1 0") Memory }
-    ensures no_memory { IsUnread (codes "bids 0\n") Memory → ⊥ }
-    ensures only { OfOnly (IsUnread (codes "bids 0\n")) Only (Read (fault_at 1 Header)) }
-    ensures not_first { OfOnly (IsUnread (codes "bids 0\n")) First (Read (fault_at 1 Header)) → ⊥ }
-{}
-
-/// The canonical text, and the bundle over a limit.
-pub fn texts_normalised()
-    ensures text { NormalisesText (bounded_options 1 None) (codes "goods 1\nbids 2\ndummy 0\n0 2 0 #\n1 3 0 #\n") 0
+    ensures other_status { PrintsOf check_outcome (codes "goods 2\nbids 1\ndummy 0\n0 3 0 #\n") 1
+        (codes "goods 2 bids 1 dummy 0\n") → ⊥ }
+    ensures not_a_bid_file { (out : List ℕ) → PrintsOf check_outcome (codes "bids 0\n") 0 out → ⊥ }
+    ensures file { PrintsOf show_outcome (codes "goods 1\nbids 1\ndummy 0\n0 3 0 #\n") 0
         (codes "goods 1\nbids 1\ndummy 0\n0\t3\t0\t#\n") }
-    ensures other_text { NormalisesText (bounded_options 1 None) (codes "goods 1\nbids 2\ndummy 0\n0 2 0 #\n1 3 0 #\n") 0
+    ensures canonical { PrintsOf (normalise_outcome (bounded_options 1 None)) (codes "goods 1\nbids 2\ndummy 0\n0 2 0 #\n1 3 0 #\n") 0
+        (codes "goods 1\nbids 1\ndummy 0\n0\t3\t0\t#\n") }
+    ensures other_bid { PrintsOf (normalise_outcome (bounded_options 1 None)) (codes "goods 1\nbids 2\ndummy 0\n0 2 0 #\n1 3 0 #\n") 0
         (codes "goods 1\nbids 1\ndummy 0\n0\t2\t0\t#\n") → ⊥ }
-    ensures over_limit { (goods : Vec ℕ Global) → goods.items ≡ 0 ∷ [] → IsUnmade (bounded_options 0 None)
-        (codes "goods 1\nbids 1\ndummy 0\n0 3 0 #\n") (StepLimit goods) }
-    ensures within_limit { (goods : Vec ℕ Global)
-        → IsUnmade (bounded_options 1 None) (codes "goods 1\nbids 1\ndummy 0\n0 3 0 #\n") (StepLimit goods)
-        → ⊥ }
+    ensures reasons { PrintsOf (explain_outcome (bounded_options 1 None)) (codes "goods 1\nbids 2\ndummy 0\n0 2 0 #\n1 3 0 #\n") 0
+        (codes "bid\tdummy\tprice\tgoods\treason\tkept\tby\n0\t\t2\t0\tsame\t\t1\n1\t\t3\t0\tkeep\t0\t\n") }
+    ensures none_left_out { PrintsOf (explain_outcome (bounded_options 1 None))
+        (codes "goods 1\nbids 2\ndummy 0\n0 2 0 #\n1 3 0 #\n") 0
+        (codes "bid\tdummy\tprice\tgoods\treason\tkept\tby\n1\t\t3\t0\tkeep\t0\t\n") → ⊥ }
+{}
+
+/// What bids bring as winners: a sum, or the two that cannot both win. A bid that is named twice counts once.
+pub fn winners_judged()
+    ensures sum { PrintsOf (revenue_outcome (1 ∷ 0 ∷ 1 ∷ [])) (codes "goods 2\nbids 2\ndummy 0\n0 3 0 #\n1 4.5 1 #\n") 0
+        (codes "revenue 7.5\n") }
+    ensures left_out { PrintsOf (revenue_outcome (1 ∷ 0 ∷ 1 ∷ [])) (codes "goods 2\nbids 2\ndummy 0\n0 3 0 #\n1 4.5 1 #\n") 0
+        (codes "revenue 4.5\n") → ⊥ }
+    ensures clash { PrintsOf (revenue_outcome (1 ∷ 0 ∷ [])) (codes "goods 1\nbids 2\ndummy 0\n0 3 0 #\n1 4.5 0 #\n") 1
+        (codes "bids 0 and 1 share good 0\n") }
+    ensures missing { IsRefusedText (revenue_outcome (1 ∷ 3 ∷ 2 ∷ [])) (codes "goods 1\nbids 2\ndummy 0\n0 3 0 #\n1 4.5 0 #\n") (BidRange 3) }
+    ensures other_missing { IsRefusedText (revenue_outcome (1 ∷ 3 ∷ 2 ∷ []))
+        (codes "goods 1\nbids 2\ndummy 0\n0 3 0 #\n1 4.5 0 #\n") (BidRange 2) → ⊥ }
+{}
+
+/// Where the first fault of a text is, and what helps. Nothing is said of a bid file.
+pub fn places_said()
+    ensures place { SaysPlace (codes "goods 1\nbids 1\ndummy 0\n0 0.0123456 0 #\n") 2
+        (codes "text:4:2: TooFine\na price has at most six places after the point; `cats round` rounds it\n") }
+    ensures other_word { SaysPlace (codes "goods 1\nbids 1\ndummy 0\n0 0.0123456 0 #\n") 2
+        (codes "text:4:3: TooFine\na price has at most six places after the point; `cats round` rounds it\n") → ⊥ }
+    ensures zero_of_a_fault { (out : List ℕ) → SaysPlace (codes "bids 0\n") 0 out → ⊥ }
+    ensures bid_file { SaysPlace (codes "goods 0\nbids 0\ndummy 0\n") 0 [] }
+    ensures memory { IsUnplaced (codes "bids 0\n") Memory }
+    ensures no_memory { IsUnplaced (codes "goods 0\nbids 0\ndummy 0\n") Memory → ⊥ }
+    ensures too_long { IsUnplaced (codes "bids 0\n") (Read (fault_at 0 TooLong)) → ⊥ }
+    ensures call { FaultCalls (codes "goods 0\nbids 0\ndummy 0\n") (codes "..") (codes "..") 0 0 }
+{}
+
+/// Why reading a text gives no file: its first fault, or memory was refused once a bid line has begun.
+pub fn texts_unread()
+    ensures fault { RefusesText (codes "bids 0\n") (fault_at 1 Header) }
+    ensures other_line { RefusesText (codes "bids 0\n") (fault_at 2 Header) → ⊥ }
+    ensures other_kind { RefusesText (codes "bids 0\n") (fault_at 1 Missing) → ⊥ }
+    ensures bid_file { (line : ℕ) → RefusesText (codes "goods 0\nbids 0\ndummy 0\n") (fault_at line Header) → ⊥ }
+    ensures memory { RefusesText (codes "goods 1\nbids 1\ndummy 0\n0 1 0") (fault_at 0 NoMemory) }
+    ensures no_memory { RefusesText (codes "bids 0\n") (fault_at 0 NoMemory) → ⊥ }
+{}
+
+/// Why nothing is printed of a text: it is refused, or the file does not have a good. Memory is also refused for a bid file.
+pub fn texts_refused()
+    ensures fault { IsRefusedText check_outcome (codes "bids 0\n") (Refused Only (Read (fault_at 1 Header))) }
+    ensures not_first { IsRefusedText check_outcome (codes "bids 0\n") (Refused First (Read (fault_at 1 Header))) → ⊥ }
+    ensures bid_file { (fault : ReadFault)
+        → IsRefusedText check_outcome (codes "goods 0\nbids 0\ndummy 0\n") (Refused Only (Read fault)) → ⊥ }
+    ensures memory { IsRefusedText check_outcome (codes "goods 0\nbids 0\ndummy 0\n") (Refused Only Memory) }
+    ensures no_memory { IsRefusedText check_outcome (codes "bids 0\n") (Refused Only Memory) → ⊥ }
+    ensures over_limit { (goods : Vec ℕ Global) → goods.items ≡ 0 ∷ []
+        → IsRefusedText (normalise_outcome (bounded_options 0 None)) (codes "goods 1\nbids 1\ndummy 0\n0 3 0 #\n") (Refused Only (StepLimit goods)) }
+    ensures good { IsRefusedText (value_outcome_by (0 ∷ 2 ∷ 1 ∷ []) (bounded_options 1 None))
+        (codes "goods 1\nbids 1\ndummy 0\n0 3 0 #\n") (GoodRange 2) }
+    ensures other_good { IsRefusedText (value_outcome_by (0 ∷ 2 ∷ 1 ∷ []) (bounded_options 1 None))
+        (codes "goods 1\nbids 1\ndummy 0\n0 3 0 #\n") (GoodRange 1) → ⊥ }
 {}
 
 /// The limits on steps. For the goods 0, 1 and 2 the plain search enters the bid of 4 for 0 and 1; the bounded one enters no
 /// bid, since the rates add up to 6. So each bundle with a bid takes one step. Each of two texts has a total of its own.
 pub fn texts_within_limits()
-    ensures bounded { (goods : Vec ℕ Global) → IsUnmade (bounded_options 1 None)
+    ensures within_limit { (goods : Vec ℕ Global) → IsUnmade (normalise_outcome (bounded_options 1 None))
+        (codes "goods 1\nbids 1\ndummy 0\n0 3 0 #\n") (StepLimit goods) → ⊥ }
+    ensures bounded { (goods : Vec ℕ Global) → IsUnmade (normalise_outcome (bounded_options 1 None))
         (codes "goods 3\nbids 3\ndummy 0\n0 4 0 1 #\n1 4 1 2 #\n2 7 0 1 2 #\n") (StepLimit goods) → ⊥ }
-    ensures plain { (goods : Vec ℕ Global) → goods.items ≡ 0 ∷ 1 ∷ 2 ∷ [] → IsUnmade (plain_options 1)
+    ensures plain { (goods : Vec ℕ Global) → goods.items ≡ 0 ∷ 1 ∷ 2 ∷ [] → IsUnmade (normalise_outcome (plain_options 1))
         (codes "goods 3\nbids 3\ndummy 0\n0 4 0 1 #\n1 4 1 2 #\n2 7 0 1 2 #\n") (StepLimit goods) }
-    ensures over_total { (goods : Vec ℕ Global) → goods.items ≡ 0 ∷ 1 ∷ 2 ∷ [] → IsUnmade (bounded_options 1 (Some 2))
+    ensures over_total { (goods : Vec ℕ Global) → goods.items ≡ 0 ∷ 1 ∷ 2 ∷ []
+        → IsUnmade (normalise_outcome (bounded_options 1 (Some 2)))
         (codes "goods 3\nbids 3\ndummy 0\n0 4 0 1 #\n1 4 1 2 #\n2 7 0 1 2 #\n") (StepLimit goods) }
-    ensures within_total { (goods : Vec ℕ Global) → IsUnmade (bounded_options 1 (Some 3))
+    ensures within_total { (goods : Vec ℕ Global) → IsUnmade (normalise_outcome (bounded_options 1 (Some 3)))
         (codes "goods 3\nbids 3\ndummy 0\n0 4 0 1 #\n1 4 1 2 #\n2 7 0 1 2 #\n") (StepLimit goods) → ⊥ }
     ensures one_total_each { ComparesTexts (bounded_options 1 (Some 1)) (codes "goods 1\nbids 1\ndummy 0\n0 3 0 #\n")
         (codes "goods 1\nbids 1\ndummy 0\n0 3 0 #\n") 0 (codes "same\n") }
-{}
-
-/// The reason of each bid.
-pub fn texts_explained()
-    ensures reasons { ExplainsText (bounded_options 1 None) (codes "goods 1\nbids 2\ndummy 0\n0 2 0 #\n1 3 0 #\n") 0
-        (codes "bid\tdummy\tprice\tgoods\treason\tkept\tby\n0\t\t2\t0\tsame\t\t1\n1\t\t3\t0\tkeep\t0\t\n") }
-    ensures other_status { ExplainsText (bounded_options 1 None) (codes "goods 1\nbids 2\ndummy 0\n0 2 0 #\n1 3 0 #\n") 1
-        (codes "bid\tdummy\tprice\tgoods\treason\tkept\tby\n0\t\t2\t0\tsame\t\t1\n1\t\t3\t0\tkeep\t0\t\n") → ⊥ }
-    ensures none_left_out { ExplainsText (bounded_options 1 None) (codes "goods 1\nbids 2\ndummy 0\n0 2 0 #\n1 3 0 #\n") 0
-        (codes "bid\tdummy\tprice\tgoods\treason\tkept\tby\n1\t\t3\t0\tkeep\t0\t\n") → ⊥ }
 {}
 
 /// Two texts of one auction, and texts of two.
@@ -108,13 +145,13 @@ pub fn texts_diffed()
 
 /// Which of two texts is refused: the second only if the first is not.
 pub fn one_of_two_refused()
-    ensures first { OfTwo (bounded_options 1 None) (codes "bids 0\n") (codes "goods 1\n") First (Read (fault_at 1 Header)) }
-    ensures second { OfTwo (bounded_options 1 None) (codes "goods 0\nbids 0\ndummy 0\n") (codes "bids 0\n") Second (Read (fault_at 1 Header)) }
-    ensures first_is_refused { OfTwo (bounded_options 1 None) (codes "bids 0\n") (codes "goods 1\n") Second (Read (fault_at 2 Missing)) → ⊥ }
-    ensures fault_of_the_second { OfTwo (bounded_options 1 None) (codes "bids 0\n") (codes "goods 1\n") First (Read (fault_at 2 Missing)) → ⊥ }
-    ensures both { OfTwo (bounded_options 1 None) (codes "goods 0\nbids 0\ndummy 0\n") (codes "goods 0\nbids 0\ndummy 0\n") Both Memory }
-    ensures both_by_fault { OfTwo (bounded_options 1 None) (codes "goods 0\nbids 0\ndummy 0\n") (codes "goods 0\nbids 0\ndummy 0\n") Both
-        (Read (fault_at 1 Header)) → ⊥ }
+    ensures first { IsRefusedOfTwo (bounded_options 1 None) (codes "bids 0\n") (codes "goods 1\n") (Refused First (Read (fault_at 1 Header))) }
+    ensures second { IsRefusedOfTwo (bounded_options 1 None) (codes "goods 0\nbids 0\ndummy 0\n") (codes "bids 0\n") (Refused Second (Read (fault_at 1 Header))) }
+    ensures first_is_refused { IsRefusedOfTwo (bounded_options 1 None) (codes "bids 0\n") (codes "goods 1\n") (Refused Second (Read (fault_at 2 Missing))) → ⊥ }
+    ensures fault_of_the_second { IsRefusedOfTwo (bounded_options 1 None) (codes "bids 0\n") (codes "goods 1\n") (Refused First (Read (fault_at 2 Missing))) → ⊥ }
+    ensures both { IsRefusedOfTwo (bounded_options 1 None) (codes "goods 0\nbids 0\ndummy 0\n") (codes "goods 0\nbids 0\ndummy 0\n") (Refused Both Memory) }
+    ensures both_by_fault { IsRefusedOfTwo (bounded_options 1 None) (codes "goods 0\nbids 0\ndummy 0\n") (codes "goods 0\nbids 0\ndummy 0\n")
+        (Refused Both (Read (fault_at 1 Header))) → ⊥ }
 {}
 
 /// A text with its prices rounded, and the report; and why there is none.
@@ -148,16 +185,11 @@ pub fn texts_in_buffers()
 
 /// What an answer gives: its text, or the line of its fault.
 pub fn answers_given()
-    ensures text { (answer : Answer) → answer.status ≡ 1 → answer.text.items ≡ codes "ab" → Gives (Ok answer) (codes "xyz")
-        (codes "abz") 2 1 }
-    ensures other_length { (answer : Answer) → answer.text.items ≡ codes "ab"
-        → Gives (Ok answer) (codes "xyz") (codes "abz") 3
-        1 → ⊥ }
-    ensures refused { Answers (ChecksText (codes "bids 0\n")) (OfOnly (IsUnread (codes "bids 0\n")))
-        (Err (Refused Only (Read (fault_at 1 Header)))) }
-    ensures out_of_range { Answers (ChecksText (codes "bids 0\n")) (OfOnly (IsUnread (codes "bids 0\n")))
-        (Err (GoodRange 0)) →
-        ⊥ }
+    ensures text { (text : Vec ℕ Global) → text.items ≡ codes "ab" → GivesOutput 1 (Text text) (codes "xyz") (codes "abz") 2 1 }
+    ensures other_length { (text : Vec ℕ Global) → text.items ≡ codes "ab" → GivesOutput 1 (Text text) (codes "xyz") (codes "abz") 3 1
+        → ⊥ }
+    ensures memory_for_a_text { (text : Vec ℕ Global) → text.items ≡ codes "ab"
+        → GivesOutput 1 (Text text) (codes "...............") (codes "want of memory\n") 15 4 → ⊥ }
     ensures report_of_refused { GivesReport (Err (Refused Only Memory)) (codes ".") (codes ".") 0 0 }
     ensures fault { Gives (Err (Refused First (Read (fault_at 1 Header)))) (codes "........................")
         (codes "first: line 1: Header\n..") 22 2 }
@@ -167,23 +199,18 @@ pub fn answers_given()
     ensures memory { Gives (Err (Refused Only Memory)) (codes "................") (codes "want of memory\n.") 15 4 }
     ensures memory_as_text { Gives (Err (Refused Only Memory)) (codes "................") (codes "want of memory\n.") 15 0
         → ⊥ }
+    ensures good { Gives (Err (GoodRange 7)) (codes "....................") (codes "good 7 out of range\n") 20 64 }
 {}
 
 /// What a whole call does.
 pub fn calls_made()
-    ensures text { let text = codes "goods 2\nbids 1\ndummy 0\n0 3 0 #\n" in Calls (ChecksText text) (OfOnly (IsUnread text))
+    ensures text { CallsOn check_outcome (codes "goods 2\nbids 1\ndummy 0\n0 3 0 #\n")
         (codes "........................") (codes "goods 2 bids 1 dummy 0\n.") 23 0 }
-    ensures too_small { let text = codes "goods 2\nbids 1\ndummy 0\n0 3 0 #\n" in Calls (ChecksText text) (OfOnly (IsUnread
-        text))
-        (codes "....") (codes "....") 23 6 }
-    ensures cut { let text = codes "goods 2\nbids 1\ndummy 0\n0 3 0 #\n" in Calls (ChecksText text) (OfOnly (IsUnread text))
-        (codes "....") (codes "good") 23 6 → ⊥ }
-    ensures fault { let text = codes "bids 0\n" in Calls (ChecksText text) (OfOnly (IsUnread text))
-        (codes "................") (codes "line 1: Header\n.") 15 2 }
-    ensures fault_as_text { let text = codes "bids 0\n" in Calls (ChecksText text) (OfOnly (IsUnread text))
-        (codes "................") (codes "line 1: Header\n.") 15 0 → ⊥ }
-    ensures memory { let text = codes "goods 2\nbids 1\ndummy 0\n0 3 0 #\n" in
-        Calls (ChecksText text) (OfOnly (IsUnread text))
+    ensures too_small { CallsOn check_outcome (codes "goods 2\nbids 1\ndummy 0\n0 3 0 #\n") (codes "....") (codes "....") 23 6 }
+    ensures cut { CallsOn check_outcome (codes "goods 2\nbids 1\ndummy 0\n0 3 0 #\n") (codes "....") (codes "good") 23 6 → ⊥ }
+    ensures fault { CallsOn check_outcome (codes "bids 0\n") (codes "................") (codes "line 1: Header\n.") 15 2 }
+    ensures fault_as_text { CallsOn check_outcome (codes "bids 0\n") (codes "................") (codes "line 1: Header\n.") 15 0 → ⊥ }
+    ensures memory { CallsOn check_outcome (codes "goods 2\nbids 1\ndummy 0\n0 3 0 #\n")
         (codes "................") (codes "want of memory\n.") 15 4 }
 {}
 

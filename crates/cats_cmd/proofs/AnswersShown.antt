@@ -3,27 +3,39 @@ use Rattle.std.proofs.Common.{◌≡◌, ℕ, ◌+◌, ◌-◌, ◌/◌, ◌%◌
 use Rattle.std.specs.Prelude.{codes, decimal, nat_lt, slice_index, Option, Some, None}
 use Rattle.std.specs.List.{AllByRecursion, flat_map, range_with_len}
 use Rattle.std.proofs.lemmas.Bool.{cond_both}
+use Rattle.std.proofs.lemmas.List.Elements.{All-take}
 use Rattle.answers.specs.DiffTexts.{bidder_rows, change_row, diff_header, diff_text, goods_rows, number_cells}
 use Rattle.answers.specs.DifferenceTexts.{atom_text, bidder_text, difference_lines, difference_text, side_text}
 use Rattle.answers.specs.ExplanationTexts.{bid_cells, explanation_header, explanation_row, explanation_text, reason_cells}
+use Rattle.answers.specs.FaultHints.{hint_of_kind}
+use Rattle.answers.specs.FaultPlaceTexts.{before_word, behind_word, shown_bytes}
+use Rattle.answers.specs.KindNames.{name_of_kind}
 use Rattle.answers.specs.Outputs.{check_text, number_cell, price_cell}
 use Rattle.bid_file.specs.Files.{PlainBid, PlainFile}
 use Rattle.canon.specs.Difference.{Difference, NoDifference, InGoods, InOr, InXor}
 use Rattle.canon.specs.Renaming.{kept_dummies, named_dummy}
 use Rattle.canon.specs.declared.verdict.Side.{Side}
 use Rattle.canon.specs.declared.verdict.Side.TheVariants.{Exactly, Below}
+use Rattle.cats_text.specs.FaultPlaces.{PlainPlace}
 use Rattle.cats_text.specs.Layout.{behind_point, digit_at, places_text, price_text, six_digits, with_place, without_zeros}
+use Rattle.cats_text.specs.declared.read_fault.Kind.{Kind}
+use Rattle.cats_text.specs.declared.read_fault.Kind.TheVariants as kinds
 use Rattle.differences.specs.BidderChanges.{PlainBidderChange}
 use Rattle.differences.specs.Differences.{PlainDifferences}
 use Rattle.differences.specs.PriceChanges.{PlainChange}
 use Rattle.explain.specs.Bids.{bid_at, numbers_of}
 use Rattle.explain.specs.Reasons.{PlainReason, Keep, Zero, Same, Inside, Packing, reason_at}
 use Rattle.valuation.specs.declared.atom.Atom.{Atom}
+use Rattle.winners.specs.AllocationVerdicts.{allocation_text, pair_text}
+use Rattle.winners.specs.declared.allocation_verdict.AllocationVerdict.{AllocationVerdict}
+use Rattle.winners.specs.declared.allocation_verdict.AllocationVerdict.TheVariants.{Revenue, SharedGood, SharedBidder}
 use Rattle.winners.specs.LpTexts.{PlainRow, binary_line, bids_with, if_none, lp_rows, lp_text, row_of, row_term, row_text}
-use Rattle.cats_cmd.specs.Escaping.{is_shown}
-use Rattle.cats_cmd.specs.ValueTexts.{numbers_text, value_text}
+use Rattle.cats_cmd.specs.Escaping.{AreBytes, is_shown}
+use Rattle.cats_cmd.specs.FindingFaults.{text_of_place}
+use Rattle.commands.specs.ValueTexts.{numbers_text, value_text}
 use Rattle.cats_cmd.proofs.PrintableTexts.{ascii_text, no_text}
-use Rattle.cats_cmd.proofs.ShownTexts.{Shown, bundle, number, ours, then}
+use Rattle.cats_cmd.proofs.FaultTexts.{name as kind_name}
+use Rattle.cats_cmd.proofs.ShownTexts.{Shown, bundle, number, ours, path_shown, plain_shown, then}
 
 -- what is shown of each is shown of all
 flat : {X : Type 0} (f : X → List ℕ) → ((x : X) → Shown (f x)) → (xs : List X) → Shown (flat_map f xs)
@@ -94,6 +106,52 @@ difference_shown NoDifference = ours (codes "same\n") refl
 difference_shown (InGoods left right) = differing (ours (codes "goods") refl) (number left) (number right)
 difference_shown (InOr b left right) = differing (then (ours (codes "or ") refl) (bundle b)) (side left) (side right)
 difference_shown (InXor atoms left right) = differing (then (ours (codes "xor") refl) (bidder atoms)) (number left) (number right)
+
+-- ---- `cats revenue`
+
+pair : (i j : ℕ) → Shown (pair_text i j)
+pair i j = then (then (then (ours (codes "bids ") refl) (number i)) (ours (codes " and ") refl)) (number j)
+
+pub revenue_shown : (verdict : AllocationVerdict) → Shown (allocation_text verdict)
+revenue_shown (Revenue millionths) = then (then (ours (codes "revenue ") refl) (price millionths)) (ours (codes "\n") refl)
+revenue_shown (SharedGood i j good) = then (pair i j) (then (then (ours (codes " share good ") refl) (number good)) (ours (codes "\n") refl))
+revenue_shown (SharedBidder i j dummy) =
+    then (pair i j) (then (then (ours (codes " are of one XOR bidder (dummy good ") refl) (number dummy)) (ours (codes ")\n") refl))
+
+-- ---- `cats fault`
+
+hint : (kind : Kind) → Shown (hint_of_kind kind)
+hint kinds.Header = ours (hint_of_kind kinds.Header) refl
+hint kinds.NotANumber = ours (hint_of_kind kinds.NotANumber) refl
+hint kinds.TooLarge = ours (hint_of_kind kinds.TooLarge) refl
+hint kinds.ExtraBid = ours (hint_of_kind kinds.ExtraBid) refl
+hint kinds.BidNumber = ours (hint_of_kind kinds.BidNumber) refl
+hint kinds.RepeatedNumber = ours (hint_of_kind kinds.RepeatedNumber) refl
+hint kinds.TooFine = ours (hint_of_kind kinds.TooFine) refl
+hint kinds.GoodRange = ours (hint_of_kind kinds.GoodRange) refl
+hint kinds.RepeatedGood = ours (hint_of_kind kinds.RepeatedGood) refl
+hint kinds.TwoDummies = ours (hint_of_kind kinds.TwoDummies) refl
+hint kinds.EmptyBundle = ours (hint_of_kind kinds.EmptyBundle) refl
+hint kinds.NoEnd = ours (hint_of_kind kinds.NoEnd) refl
+hint kinds.AfterEnd = ours (hint_of_kind kinds.AfterEnd) refl
+hint kinds.Missing = ours (hint_of_kind kinds.Missing) refl
+hint kinds.TooLong = ours (hint_of_kind kinds.TooLong) refl
+hint kinds.Device = ours (hint_of_kind kinds.Device) refl
+hint kinds.Memory = ours (hint_of_kind kinds.Memory) refl
+
+before : (word : List ℕ) → Shown (before_word word)
+before [] = no_text is_shown
+before (b ∷ bs) = ours (codes ": ") refl
+
+behind : (word : List ℕ) → Shown (behind_word word)
+behind word = cond_both (nat_lt 60 (length word)) (codes "..") [] Shown (λ e. ours (codes "..") refl) (λ e. no_text is_shown)
+
+pub place_shown : (path : List ℕ) (place : PlainPlace) → AreBytes path → AreBytes place.text → Shown (text_of_place path place)
+place_shown path place bytes word =
+    then (then (then (then (then (then (then (then (then (then (then (then (path_shown path bytes) (ours (codes ":") refl)) (number place.line)) (ours
+    (codes ":") refl)) (number place.word)) (ours (codes ": ") refl)) (plain_shown (name_of_kind place.kind) (kind_name place.kind))) (before
+    place.text)) (path_shown (shown_bytes place.text) (All-take (λ b. b < 256) 60 place.text word))) (behind place.text)) (ours (codes "\n") refl))
+    (hint place.kind)) (ours (codes "\n") refl)
 
 -- ---- `cats lp`
 

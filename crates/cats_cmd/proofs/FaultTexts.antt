@@ -10,7 +10,7 @@ use Rattle.answers.specs.FaultLines.{line_of_fault, prefix_of, text_of_canon_fau
 use Rattle.answers.specs.KindNames.{name_of_kind}
 use Rattle.answers.specs.Outputs.{after_commas, bundle_text, number_cell}
 use Rattle.answers.specs.declared.report.RunFault.{RunFault}
-use Rattle.answers.specs.declared.report.RunFault.TheVariants.{Refused, GoodRange, Sent}
+use Rattle.answers.specs.declared.report.RunFault.TheVariants.{Refused, GoodRange, BidRange, Sent}
 use Rattle.canon.specs.declared.canon_fault.CanonFault.{CanonFault}
 use Rattle.canon.specs.declared.canon_fault.CanonFault.TheVariants.{Read, StepLimit, Memory}
 use Rattle.canon.specs.declared.which.Which.{Which}
@@ -19,8 +19,8 @@ use Rattle.cats_text.specs.declared.read_fault.Kind.{Kind}
 use Rattle.cats_text.specs.declared.read_fault.Kind.TheVariants as kinds
 use Rattle.cats_cmd.specs.RequestErrors.{line_of_request_error, line_of_unopened}
 use Rattle.cats_cmd.specs.SizesTables.{fault_cell, without_end}
-use Rattle.cats_cmd.specs.declared.program.RequestError.{RequestError}
-use Rattle.cats_cmd.specs.declared.program.RequestError.TheVariants.{CannotOpen, NotOpened, Run}
+use Rattle.cats_cmd.specs.declared.errors.RequestError.{RequestError}
+use Rattle.cats_cmd.specs.declared.errors.RequestError.TheVariants.{CannotOpen, NotOpened, Run}
 use Rattle.cats_cmd.specs.declared.source.Unopened.{Unopened}
 use Rattle.cats_cmd.specs.declared.source.Unopened.TheVariants as unopened
 use Rattle.cats_cmd.proofs.PrintableTexts.{decimal_all}
@@ -72,7 +72,7 @@ pub bundle_plain : (goods : List ℕ) → Plain (bundle_text goods)
 bundle_plain [] = none
 bundle_plain (g ∷ goods) = then (number g) (commas goods)
 
-name : (kind : Kind) → Plain (name_of_kind kind)
+pub name : (kind : Kind) → Plain (name_of_kind kind)
 name kinds.Header = ours (codes "Header") refl
 name kinds.NotANumber = ours (codes "NotANumber") refl
 name kinds.TooLarge = ours (codes "TooLarge") refl
@@ -137,6 +137,11 @@ fault_line (GoodRange good) = record {
   text = codes "good " ++ decimal good ++ codes " out of range";
   is = sym (append_assoc (codes "good " ++ decimal good) (codes " out of range") (10 ∷ []));
   plain = then (then (ours (codes "good ") refl) (number good)) (ours (codes " out of range") refl);
+}
+fault_line (BidRange bid) = record {
+  text = codes "bid " ++ decimal bid ++ codes " out of range";
+  is = sym (append_assoc (codes "bid " ++ decimal bid) (codes " out of range") (10 ∷ []));
+  plain = then (then (ours (codes "bid ") refl) (number bid)) (ours (codes " out of range") refl);
 }
 fault_line (Sent why) = record {
   text = codes "output failed after " ++ decimal why.written ++ codes " bytes";

@@ -1,16 +1,16 @@
--- The paths of the files for each place: each is put after those of its place. And the text of the groups: a group of two paths has
+-- The paths of the files for each place: each is put after those of its place. And the text of the groups: a group that is printed has
 -- lines, so the next group comes after an empty line.
 use Rattle.std.proofs.Common.{append_assoc, fold, length-append, ◌≡◌, ℕ, zero, suc, ◌+◌, ◌<◌, ◌≤◌, ◌==◌, Bool, true, false, cond, ⊎_elim, List, [], ◌∷◌}
 use Rattle.std.proofs.Common.{◌++◌, length, map, get_or, set, take, replicate, Global, refl, sym, ap, ap₂, ◌∙◌, arith, append-nil, zero-add}
 use Rattle.std.specs.Borrow.{Bor}
 use Rattle.std.specs.Prelude.{Vec, filter}
 use Rattle.std.specs.List.{AllByRecursion, range_with_len}
-use Rattle.std.proofs.lemmas.Bool.{cases_Bool, cond-true, cond-false, cases_eq, ne_eqb, eq-eqb}
+use Rattle.std.proofs.lemmas.Bool.{cases_Bool, cond-true, cond-false, cases_eq, ltb-true, ne_eqb, eq-eqb}
 use Rattle.std.proofs.lemmas.List.{length-set, get_or-set_same, get_or-set_other, length-map, get_or-map, map-set, map-append, take_all, take_more}
 use Rattle.std.proofs.lemmas.List.Concat.{flat_map-append}
 use Rattle.std.proofs.lemmas.List.Elements.{filter_more}
 use Rattle.std.proofs.lemmas.List.FromFn.{fill_by_all, length-map-range_with_len, get_or-map-range_with_len}
-use Rattle.cats_cmd.specs.DuplicateTexts.{after_empty_lines, behind, duplicates_text, groups_of, groups_text, is_repeated, lines_of, paths_at, plain_group}
+use Rattle.cats_cmd.specs.DuplicateTexts.{after_empty_lines, behind, duplicates_text, groups_of, groups_text, is_printed, lines_of, paths_at, plain_group}
 use Rattle.cats_cmd.specs.DuplicateTexts.{plain_groups, with_group}
 use Rattle.cats_cmd.specs.Escaping.{end_of, escaped, path_text}
 use Rattle.cats_cmd.specs.declared.paths.Ending.{Ending}
@@ -75,17 +75,22 @@ pub length-plain_groups : (groups : List Group) (found : List Found) (n : ℕ) �
     → length groups ≡ n
 length-plain_groups groups found n h = sym (length-map groups plain_group) ∙ ap (length {A = List (List ℕ)}) h ∙ length-map-range_with_len (paths_at found) 0 n
 
--- ---- the text of the groups of two or more
+-- ---- the text of the groups that are printed
 
 -- a path has bytes
 path_long : (ending : Ending) (path : List ℕ) → 0 < length (path_text ending path)
 path_long Line path = let whole = length-append (escaped path) (10 ∷ []) in omega arith
 path_long Null path = let whole = length-append path (0 ∷ []) in omega arith
 
-module _ (ending : Ending) where
-  -- a group with two paths has lines
-  has_lines : (paths : List (List ℕ)) → is_repeated paths ≡ true → 0 < length (lines_of ending paths)
-  has_lines [] e = absurd (cc)
+-- a group that is printed has a path
+pub some_printed : (all : Bool) (paths : List (List ℕ)) → is_printed all paths ≡ true → 0 < length paths
+some_printed true paths e = ltb-true 0 (length paths) e
+some_printed false paths e = let more = ltb-true 1 (length paths) e in omega (arith, more)
+
+module _ (ending : Ending) (all : Bool) where
+  -- so it has lines
+  has_lines : (paths : List (List ℕ)) → is_printed all paths ≡ true → 0 < length (lines_of ending paths)
+  has_lines [] e = some_printed all [] e
   has_lines (path ∷ paths) e =
       let whole = length-append (path_text ending path) (lines_of ending paths) in
       let line = path_long ending path in
@@ -94,7 +99,7 @@ module _ (ending : Ending) where
   behind_long : (text lines : List ℕ) → 0 < length text → behind ending text lines ≡ text ++ end_of ending ++ lines
   behind_long text lines l = cond-false (length text == 0) lines (text ++ end_of ending ++ lines) (ne_eqb (length text) 0 (λ e. absurd (omega (arith, l))))
 
-  behind_groups : (groups : List (List (List ℕ))) (paths : List (List ℕ)) → AllByRecursion (λ g. is_repeated g ≡ true) groups
+  behind_groups : (groups : List (List (List ℕ))) (paths : List (List ℕ)) → AllByRecursion (λ g. is_printed all g ≡ true) groups
       → behind ending (groups_text ending groups) (lines_of ending paths) ≡ groups_text ending (groups ++ paths ∷ [])
   behind_groups [] paths h = sym (append-nil (lines_of ending paths))
   behind_groups (group ∷ groups) paths h =
@@ -107,58 +112,59 @@ module _ (ending : Ending) where
       (sym (flat_map-append (λ ps. end_of ending ++ lines_of ending ps) groups (paths ∷ [])
       ∙ ap (λ (text : List ℕ). after_empty_lines ending groups ++ text) (append-nil (end_of ending ++ lines_of ending paths))))
 
-  repeated_push : (groups : List (List (List ℕ))) (paths : List (List ℕ)) → AllByRecursion (λ g. is_repeated g ≡ true) groups → is_repeated paths ≡ true
-      → AllByRecursion (λ g. is_repeated g ≡ true) (groups ++ paths ∷ [])
+  repeated_push : (groups : List (List (List ℕ))) (paths : List (List ℕ)) → AllByRecursion (λ g. is_printed all g ≡ true) groups → is_printed all paths ≡ true
+      → AllByRecursion (λ g. is_printed all g ≡ true) (groups ++ paths ∷ [])
   repeated_push [] paths h e = (e, tt)
   repeated_push (group ∷ groups) paths h e = (h.0, repeated_push groups paths h.1 e)
 
   abbrev ArePrinted : List (List (List ℕ)) → List (List (List ℕ)) → Type 0
-  ArePrinted groups printed = fold (with_group ending) (groups_text ending printed) groups ≡ groups_text ending (printed ++ filter is_repeated groups)
+  ArePrinted groups printed = fold (with_group ending all) (groups_text ending printed) groups ≡ groups_text ending (printed ++ filter (is_printed all) groups)
 
-  printed_next : (printed : List (List (List ℕ))) (paths : List (List ℕ)) (groups : List (List (List ℕ))) → AllByRecursion (λ g. is_repeated g ≡ true) printed
-      → ((more : List (List (List ℕ))) → AllByRecursion (λ g. is_repeated g ≡ true) more → ArePrinted groups more) → ArePrinted (paths ∷ groups) printed
+  printed_next : (printed : List (List (List ℕ))) (paths : List (List ℕ)) (groups : List (List (List ℕ)))
+      → AllByRecursion (λ g. is_printed all g ≡ true) printed
+      → ((more : List (List (List ℕ))) → AllByRecursion (λ g. is_printed all g ≡ true) more → ArePrinted groups more) → ArePrinted (paths ∷ groups) printed
   printed_next printed paths groups h others =
       ⊎_elim
-      (λ (e : is_repeated paths ≡ true).
-      ap (λ (text : List ℕ). fold (with_group ending) text groups)
-      (cond-true (is_repeated paths) (behind ending (groups_text ending printed) (lines_of ending paths)) (groups_text ending printed) e
+      (λ (e : is_printed all paths ≡ true).
+      ap (λ (text : List ℕ). fold (with_group ending all) text groups)
+      (cond-true (is_printed all paths) (behind ending (groups_text ending printed) (lines_of ending paths)) (groups_text ending printed) e
       ∙ behind_groups printed paths h)
       ∙ others (printed ++ paths ∷ []) (repeated_push printed paths h e)
-      ∙ ap (groups_text ending) (append_assoc printed (paths ∷ []) (filter is_repeated groups)
+      ∙ ap (groups_text ending) (append_assoc printed (paths ∷ []) (filter (is_printed all) groups)
       ∙ ap (λ (gs : List (List (List ℕ))). printed ++ gs)
-      (sym (cond-true (is_repeated paths) (paths ∷ filter is_repeated groups) (filter is_repeated groups) e))))
-      (λ (e : is_repeated paths ≡ false).
-      ap (λ (text : List ℕ). fold (with_group ending) text groups)
-      (cond-false (is_repeated paths) (behind ending (groups_text ending printed) (lines_of ending paths)) (groups_text ending printed) e)
+      (sym (cond-true (is_printed all paths) (paths ∷ filter (is_printed all) groups) (filter (is_printed all) groups) e))))
+      (λ (e : is_printed all paths ≡ false).
+      ap (λ (text : List ℕ). fold (with_group ending all) text groups)
+      (cond-false (is_printed all paths) (behind ending (groups_text ending printed) (lines_of ending paths)) (groups_text ending printed) e)
       ∙ others printed h
       ∙ ap (λ (gs : List (List (List ℕ))). groups_text ending (printed ++ gs))
-      (sym (cond-false (is_repeated paths) (paths ∷ filter is_repeated groups) (filter is_repeated groups) e)))
-      (cases_Bool (is_repeated paths))
+      (sym (cond-false (is_printed all paths) (paths ∷ filter (is_printed all) groups) (filter (is_printed all) groups) e)))
+      (cases_Bool (is_printed all paths))
 
-  printed_behind : (printed groups : List (List (List ℕ))) → AllByRecursion (λ g. is_repeated g ≡ true) printed → ArePrinted groups printed
+  printed_behind : (printed groups : List (List (List ℕ))) → AllByRecursion (λ g. is_printed all g ≡ true) printed → ArePrinted groups printed
   printed_behind printed [] h = ap (groups_text ending) (sym (append-nil printed))
   printed_behind printed (paths ∷ groups) h = printed_next printed paths groups h (λ more k. printed_behind more groups k)
 
   -- the groups, one after the other
-  pub groups_printed : (groups : List (List (List ℕ))) → fold (with_group ending) [] groups ≡ groups_text ending (filter is_repeated groups)
+  pub groups_printed : (groups : List (List (List ℕ))) → fold (with_group ending all) [] groups ≡ groups_text ending (filter (is_printed all) groups)
   groups_printed groups = printed_behind [] groups tt
 
   -- one more group
   pub group_printed : (groups : List Group) (i : ℕ) (group : Group) (before after : List ℕ) → i < length groups → group ≡ get_or groups i group
-      → before ≡ fold (with_group ending) [] (plain_groups (take i groups)) → after ≡ with_group ending before (plain_group group)
-      → after ≡ fold (with_group ending) [] (plain_groups (take (i + 1) groups))
+      → before ≡ fold (with_group ending all) [] (plain_groups (take i groups)) → after ≡ with_group ending all before (plain_group group)
+      → after ≡ fold (with_group ending all) [] (plain_groups (take (i + 1) groups))
   group_printed groups i group before after l e b a =
-      a ∙ ap (λ (text : List ℕ). with_group ending text (plain_group group)) b
-      ∙ sym (ap (λ (gs : List Group). fold (with_group ending) [] (plain_groups gs)) (take_more groups i group l
+      a ∙ ap (λ (text : List ℕ). with_group ending all text (plain_group group)) b
+      ∙ sym (ap (λ (gs : List Group). fold (with_group ending all) [] (plain_groups gs)) (take_more groups i group l
       ∙ ap (λ (g : Group). take i groups ++ g ∷ []) (sym e))
-      ∙ ap (fold (with_group ending) []) (map-append plain_group (take i groups) (group ∷ []))
-      ∙ fold_push (with_group ending) [] (plain_groups (take i groups)) (plain_group group))
+      ∙ ap (fold (with_group ending all) []) (map-append plain_group (take i groups) (group ∷ []))
+      ∙ fold_push (with_group ending all) [] (plain_groups (take i groups)) (plain_group group))
 
   -- all groups
   pub all_groups_printed : (items groups : List Group) (i : ℕ) (text : List ℕ) (found : List Found)
-      → text ≡ fold (with_group ending) [] (plain_groups (take i items))
+      → text ≡ fold (with_group ending all) [] (plain_groups (take i items))
       → length items ≤ i → items ≡ groups → plain_groups groups ≡ groups_of found
-      → text ≡ duplicates_text ending found
+      → text ≡ duplicates_text ending all found
   all_groups_printed items groups i text found printed l same of =
-      printed ∙ ap (λ (gs : List Group). fold (with_group ending) [] (plain_groups gs)) (take_all i items l ∙ same) ∙ groups_printed (plain_groups groups)
-      ∙ ap (λ (gs : List (List (List ℕ))). groups_text ending (filter is_repeated gs)) of
+      printed ∙ ap (λ (gs : List Group). fold (with_group ending all) [] (plain_groups gs)) (take_all i items l ∙ same) ∙ groups_printed (plain_groups groups)
+      ∙ ap (λ (gs : List (List (List ℕ))). groups_text ending (filter (is_printed all) gs)) of

@@ -1,7 +1,7 @@
 -- The file at one path: what reading its stream says of it, in the words of the run.
-use Rattle.std.proofs.Common.{◌≡◌, ℕ, List, [], ◌∷◌, ◌++◌, Option, None, Some, Result, Ok, Err, refl, sym, ap, ◌∙◌, subst, ⊎_elim}
-use Rattle.std.specs.Prelude.{IfOk}
-use Rattle.std.specs.Borrow.{Bor}
+use Rattle.std.proofs.Common.{◌≡◌, ℕ, List, [], ◌∷◌, ◌++◌, Option, None, Some, Result, Ok, Err, refl, sym, ap, ◌∙◌, subst, ⊎_elim, inl, inr}
+use Rattle.std.specs.Global.{Global}
+use Rattle.std.specs.Prelude.{IfOk, Vec}
 use Rattle.std.specs.declared.alloc.AllocError.{AllocError}
 use Rattle.std.specs.Io.KnownBytes.{Consumes}
 use Rattle.bid_file.specs.Files.{PlainFile}
@@ -22,18 +22,18 @@ use Rattle.canon.specs.declared.canon_fault.CanonFault.{CanonFault}
 use Rattle.canon.specs.declared.canon_fault.CanonFault.TheVariants.{Read, StepLimit, Memory}
 use Rattle.canon.specs.declared.which.Which.TheVariants.{Only}
 use Rattle.cats_cmd.specs.DuplicateTexts.{found_paths}
-use Rattle.cats_cmd.specs.Inputs.{IsOpened, IsRefusedByReading, IsRefusedFile}
+use Rattle.commands.specs.Commands.{IsRefused}
+use Rattle.commands.specs.Inputs.{StreamGives, StreamRefuses}
+use Rattle.commands.specs.Outcomes.{ExceedsSteps, normalise_outcome, text_unless_refused}
+use Rattle.cats_cmd.specs.Inputs.{IsOpened}
 use Rattle.cats_cmd.specs.Internal.Judging.{AddsFile, AddsJudgement, AddsOpened, AddsPath, KeepsGroups}
 use Rattle.cats_cmd.specs.Paths.{IsUnopened, Judgement, IsHeavy, IsJudged, IsUnjudged, Judges, JudgesStream, Reporting, lines_on, status_if, request_error_of}
 use Rattle.cats_cmd.proofs.Skipping.{nothing_more}
-use Rattle.cats_cmd.specs.Outcomes.{ExceedsSteps, normalise_outcome, text_unless_refused}
-use Rattle.cats_cmd.specs.Runs.{MakesAs}
 use Rattle.cats_cmd.specs.RequestErrors.{ReportsAll}
-use Rattle.cats_cmd.specs.declared.program.RequestError.{RequestError}
-use Rattle.cats_cmd.specs.declared.program.RequestError.TheVariants.{CannotOpen, NotOpened, Run}
+use Rattle.cats_cmd.specs.declared.errors.RequestError.{RequestError}
+use Rattle.cats_cmd.specs.declared.errors.RequestError.TheVariants.{CannotOpen, NotOpened, Run}
 use Rattle.answers.specs.declared.report.RunFault.TheVariants.{Refused}
 use Rattle.cats_cmd.proofs.FindingPlaces.{groups_more}
-use Rattle.cats_cmd.proofs.RunsOfOneFile.{refused_in_reading, refused_in_making}
 use Rattle.cats_cmd.specs.declared.source.Unopened.{Unopened}
 
 -- ---- refused bundles
@@ -55,68 +55,73 @@ refused_bundle : (file : PlainFile) (heavy : Option (List ℕ)) (goods : List �
 refused_bundle file None goods is = cc
 refused_bundle file (Some heavy) goods is = cc
 
-made_by_normalising : (options : SearchOptions) (file : PlainFile) (fault : CanonFault) → RefusesAs (normalised_file options file) fault
-    → MakesAs (normalise_outcome options file) (Err fault)
-made_by_normalising options file (Read why) refused = absurd (no_fault_made file (first_refused options file.goods (or_atoms_of file.bids)) why refused)
-made_by_normalising options file (StepLimit goods) refused = same_excess file (first_refused options file.goods (or_atoms_of file.bids)) goods.items refused
-made_by_normalising options file Memory refused = tt
-
 -- ---- one stream
 
-module _ {R : Type 0} (remaining : R → Option (List ℕ)) where
-  refused_by_kind : (bytes : List ℕ) (input : Watched R) (why : ReadFault) (kind : Kind) → why.kind ≡ kind → FaultsAt remaining bytes input why.line kind
-      → IsRefusedByReading remaining bytes input (refusal_by_kind why kind)
-  refused_by_kind bytes input why NoMemory is faults = (refl, faults.1, faults.2)
-  refused_by_kind bytes input why kind is faults =
-      ((λ memory. cc), subst (λ (k : Kind). FaultsAt remaining bytes input why.line k) (sym is) faults)
+-- why the file of a stream was refused
+abbrev pub RefusesStream : {R : Type 0} → (R → Option (List ℕ)) → SearchOptions → Watched R → Watched R → CanonFault → Type 0
+RefusesStream remaining options old new fault = IsRefused (StreamGives remaining) (StreamRefuses remaining) (normalise_outcome options) old new fault
 
-  unread : (options : SearchOptions) (old new : Watched R) (bytes : List ℕ) → Consumes (remaining (inner_of old)) (remaining (inner_of new)) bytes
-      → (fault : CanonFault) → IsUnread remaining bytes new fault → IsRefusedFile remaining (normalise_outcome options) old new fault
-  unread options old new bytes consumes fault u =
-      subst (λ (f : CanonFault). IsRefusedFile remaining (normalise_outcome options) old new f) (sym u.is)
-      (refused_in_reading remaining (normalise_outcome options) old new (refusal_of u.why)
-      (record { bytes = bytes; consumes = consumes; reads = refused_by_kind bytes new u.why u.why.kind refl u.reads }))
+module _ {R : Type 0} (remaining : R → Option (List ℕ)) (options : SearchOptions) (old new : Watched R) where
+  refused_by_kind : (why : ReadFault) (kind : Kind) → why.kind ≡ kind → StreamRefuses remaining old new why
+      → RefusesStream remaining options old new (refusal_by_kind why kind)
+  refused_by_kind why NoMemory is refused =
+      let faults = subst (λ (k : Kind). FaultsAt remaining refused.bytes new why.line k) is refused.faults in
+      inl (record { bytes = refused.bytes; consumes = refused.consumes; faults = (refl, faults.1, faults.2) })
+  refused_by_kind why kind is refused = ((λ memory. cc), refused)
 
-  unmade : (options : SearchOptions) (old new : Watched R) (bytes : List ℕ) → Consumes (remaining (inner_of old)) (remaining (inner_of new)) bytes
-      → (fault : CanonFault) → IsUnmade remaining options bytes new fault → IsRefusedFile remaining (normalise_outcome options) old new fault
-  unmade options old new bytes consumes fault u =
-      refused_in_making remaining (normalise_outcome options) old new u.file (record { bytes = bytes; consumes = consumes; reads = u.reads }) fault
-      (made_by_normalising options u.file fault u.refused)
+  pub refused_in_reading : (why : ReadFault) → StreamRefuses remaining old new why → RefusesStream remaining options old new (refusal_of why)
+  refused_in_reading why refused = refused_by_kind why why.kind refl refused
 
-  pub stream_refused : (options : SearchOptions) (index more : TextIndex) (old new : Watched R) (fault : CanonFault)
-      → AddsStream remaining options index more old new (Err fault) → IsRefusedFile remaining (normalise_outcome options) old new fault
-  stream_refused options index more old new fault added =
+  refused_in_making : (file : PlainFile) → StreamGives remaining old new file → (fault : CanonFault) → RefusesAs (normalised_file options file) fault
+      → RefusesStream remaining options old new fault
+  refused_in_making file given (Read why) refused =
+      absurd (no_fault_made file (first_refused options file.goods (or_atoms_of file.bids)) why refused)
+  refused_in_making file given (StepLimit goods) refused =
+      record { file = file; given = given; made = same_excess file (first_refused options file.goods (or_atoms_of file.bids)) goods.items refused }
+  refused_in_making file given Memory refused = inr (record { file = file; given = given })
+
+  unread : (bytes : List ℕ) → Consumes (remaining (inner_of old)) (remaining (inner_of new)) bytes
+      → (fault : CanonFault) → IsUnread remaining bytes new fault → RefusesStream remaining options old new fault
+  unread bytes consumes fault u =
+      subst (λ (f : CanonFault). RefusesStream remaining options old new f) (sym u.is)
+      (refused_in_reading u.why (record { bytes = bytes; consumes = consumes; faults = u.reads }))
+
+  unmade : (bytes : List ℕ) → Consumes (remaining (inner_of old)) (remaining (inner_of new)) bytes
+      → (fault : CanonFault) → IsUnmade remaining options bytes new fault → RefusesStream remaining options old new fault
+  unmade bytes consumes fault u = refused_in_making u.file (record { bytes = bytes; consumes = consumes; reads = u.reads }) fault u.refused
+
+  stream_refused : (index more : TextIndex) (fault : CanonFault)
+      → AddsStream remaining options index more old new (Err fault) → RefusesStream remaining options old new fault
+  stream_refused index more fault added =
       ⊎_elim
-      (λ (u : IsUnread remaining added.bytes new fault). unread options old new added.bytes added.consumes fault u)
-      (λ (u : IsUnmade remaining options added.bytes new fault). unmade options old new added.bytes added.consumes fault u)
+      (λ (u : IsUnread remaining added.bytes new fault). unread added.bytes added.consumes fault u)
+      (λ (u : IsUnmade remaining options added.bytes new fault). unmade added.bytes added.consumes fault u)
       added.adds.1
 
--- ---- a stream
+  -- ---- what became of a file that was refused so
 
--- what became of a file that was refused so
-module _ {R : Type 0} (remaining : R → Option (List ℕ)) (options : SearchOptions) (old new : Watched R) where
-  abbrev refused_judgement : (fault : CanonFault) → IsRefusedFile remaining (normalise_outcome options) old new fault → Judgement
+  abbrev refused_judgement : (fault : CanonFault) → RefusesStream remaining options old new fault → Judgement
   refused_judgement (Read why) refused = IsUnjudged (Run (Refused Only (Read why)))
   refused_judgement (StepLimit goods) refused = IsHeavy refused.file goods
   refused_judgement Memory refused = IsUnjudged (Run (Refused Only Memory))
 
-  refused_judges : (fault : CanonFault) (refused : IsRefusedFile remaining (normalise_outcome options) old new fault)
+  refused_judges : (fault : CanonFault) (refused : RefusesStream remaining options old new fault)
       → JudgesStream remaining options old new (refused_judgement fault refused)
   refused_judges (Read why) refused = (refl, refused)
-  refused_judges (StepLimit goods) refused = record {
-    reads = refused.reads;
-    refused = refused_bundle refused.file (first_refused options refused.file.goods (or_atoms_of refused.file.bids)) goods.items refused.made;
-  }
+  refused_judges (StepLimit goods) refused = (
+    refused.given,
+    refused_bundle refused.file (first_refused options refused.file.goods (or_atoms_of refused.file.bids)) goods.items refused.made,
+  )
   refused_judges Memory refused = (refl, refused)
 
-  refused_error : (fault : CanonFault) (refused : IsRefusedFile remaining (normalise_outcome options) old new fault)
+  refused_error : (fault : CanonFault) (refused : RefusesStream remaining options old new fault)
       → Some (Run (Refused Only fault)) ≡ request_error_of (refused_judgement fault refused)
   refused_error (Read why) refused = refl
   refused_error (StepLimit goods) refused = refl
   refused_error Memory refused = refl
 
   -- no group has the file
-  refused_groups : (fault : CanonFault) (refused : IsRefusedFile remaining (normalise_outcome options) old new fault) (index : TextIndex)
+  refused_groups : (fault : CanonFault) (refused : RefusesStream remaining options old new fault) (index : TextIndex)
       (found : List (List ℕ × ℕ)) (path : List ℕ) (js : List (List ℕ × Judgement)) → KeepsGroups index found js
       → KeepsGroups index found (js ++ (path, refused_judgement fault refused) ∷ [])
   refused_groups (Read why) refused index found path js h = nothing_more index found js path (IsUnjudged (Run (Refused Only (Read why)))) refl refl h
@@ -125,21 +130,21 @@ module _ {R : Type 0} (remaining : R → Option (List ℕ)) (options : SearchOpt
 
   -- the file was added to the groups
   pub groups_judged : {C : Type 0} (Has : C → List (List ℕ × Judgement) → Type 0) (before after : C) (index more : TextIndex)
-      (found longer : List (Bor (List ℕ) × ℕ)) (path : Bor (List ℕ)) (place : ℕ)
+      (found longer : List (Vec ℕ Global × ℕ)) (path : List ℕ) (copy : Vec ℕ Global) (place : ℕ) → copy.items ≡ path
       → ((js : List (List ℕ × Judgement)) → Has before js → KeepsGroups index (found_paths found) js)
       → ((js : List (List ℕ × Judgement)) → KeepsGroups more (found_paths longer) js → Has after js)
-      → AddsStream remaining options index more old new (Ok place) → longer ≡ found ++ (path, place) ∷ []
-      → AddsOpened Has remaining options path.now before after old new None
-  groups_judged Has before after index more found longer path place has has_after added put =
+      → AddsStream remaining options index more old new (Ok place) → longer ≡ found ++ (copy, place) ∷ []
+      → AddsOpened Has remaining options path before after old new None
+  groups_judged Has before after index more found longer path copy place is has has_after added put =
       let a = added.adds in
       record {
         judgement = IsJudged a.file;
         judges = record {
-          reads = record { bytes = added.bytes; consumes = added.consumes; reads = a.reads };
+          given = record { bytes = added.bytes; consumes = added.consumes; reads = a.reads };
           within = text_within_limit a.file (first_refused options a.file.goods (or_atoms_of a.file.bids)) (canonical_text a.file) a.within_limit;
         };
-        adds = λ js h. has_after (js ++ (path.now, IsJudged a.file) ∷ [])
-            (groups_more index more found longer path a.file place a.reads.spelled.facts a.added put js (has js h));
+        adds = λ js h. has_after (js ++ (path, IsJudged a.file) ∷ [])
+            (groups_more index more found longer path copy a.file place is a.reads.spelled.facts a.added put js (has js h));
         is_error = refl;
       }
 
@@ -150,7 +155,7 @@ module _ {R : Type 0} (remaining : R → Option (List ℕ)) (options : SearchOpt
       → AddsStream remaining options index more old new (Err fault)
       → AddsOpened Has remaining options path before after old new (Some (Run (Refused Only fault)))
   groups_refused Has before after index more found path fault has has_after added =
-      let refused = stream_refused remaining options index more old new fault added in
+      let refused = stream_refused index more fault added in
       record {
         judgement = refused_judgement fault refused;
         judges = refused_judges fault refused;

@@ -1,14 +1,5 @@
 -- Proofs that several functions of this crate cite.
-pub mod Normalised
-mod Checking
-mod Numbering
-mod Bundling
-mod BestPlaces
-mod Printing
 mod AnswersOfRequests
-mod Comparing
-mod Diffing
-mod Explaining
 mod FaultTexts
 mod ReadingBack
 mod PrintableTexts
@@ -28,5 +19,6 @@ mod Skipping
 mod FindingPlaces
 mod Tabling
 mod RunsOfLists
+mod RunsOfBids
 mod RunsOfPaths
-pub mod RunsOfOneFile
+pub mod Sending

@@ -28,9 +28,9 @@ use Rattle.cats_cmd.specs.Rounding.{IsUnrounded, Rounds, round_outcome}
 use Rattle.cats_cmd.specs.Runs.{SendsAs}
 use Rattle.cats_cmd.specs.RequestErrors.{Reports, ReportsAll}
 use Rattle.answers.specs.declared.report.RunFault.{RunFault}
-use Rattle.answers.specs.declared.report.RunFault.TheVariants.{Refused, GoodRange, Sent}
+use Rattle.answers.specs.declared.report.RunFault.TheVariants.{Refused, GoodRange, BidRange, Sent}
 use Rattle.cats_cmd.proofs.JudgingPaths.{reports_more}
-use Rattle.cats_cmd.proofs.RunsOfOneFile.{wrote}
+use Rattle.cats_cmd.proofs.Sending.{wrote}
 
 -- ---- bytes
 
@@ -154,6 +154,7 @@ module _ {R W E : Type 0} (remaining : R → Option (List ℕ)) (contents : W �
       → Rounds remaining contents messages fine old new out out_after err err answer
   round_unsent out out_after err bytes all rounded r (Refused which fault) sends answer is = absurd sends
   round_unsent out out_after err bytes all rounded r (GoodRange good) sends answer is = absurd sends
+  round_unsent out out_after err bytes all rounded r (BidRange bid) sends answer is = absurd sends
   round_unsent out out_after err bytes all rounded r (Sent fault) sends answer is =
       let reported = err_from_is_err_and answer is in
       let only : answer ≡ Err (Sent fault) = reported.1 ∙ ap (λ (f : RunFault). Err f) reported.2 in

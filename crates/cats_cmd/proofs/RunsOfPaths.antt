@@ -8,12 +8,12 @@ use Rattle.valuation.specs.declared.search_options.SearchOptions.{SearchOptions}
 use Rattle.canon.specs.declared.canon_fault.CanonFault.TheVariants.{Memory}
 use Rattle.canon.specs.declared.which.Which.TheVariants.{Only}
 use Rattle.cats_cmd.specs.Internal.Judging.{HasJudged}
-use Rattle.cats_cmd.specs.Outcomes.{Prints}
+use Rattle.commands.specs.Outcomes.{Prints}
 use Rattle.cats_cmd.specs.Paths.{BeginsPaths, Judgement, JudgesPaths, MakesOfPaths, Reporting, RunsOnPaths, outcome_of_paths}
 use Rattle.cats_cmd.specs.Runs.{SendsAs}
 use Rattle.answers.specs.declared.report.RunFault.{RunFault}
-use Rattle.answers.specs.declared.report.RunFault.TheVariants.{Refused, GoodRange, Sent}
-use Rattle.cats_cmd.proofs.RunsOfOneFile.{wrote}
+use Rattle.answers.specs.declared.report.RunFault.TheVariants.{Refused, GoodRange, BidRange, Sent}
+use Rattle.cats_cmd.proofs.Sending.{wrote}
 use Rattle.cats_cmd.specs.declared.source.Unopened.{Unopened}
 
 module _ {F W E : Type 0} (may_open : List ℕ → F → Type 0) (may_refuse : List ℕ → Unopened → Type 0) (remaining : F → Option (List ℕ))
@@ -54,6 +54,7 @@ module _ {F W E : Type 0} (may_open : List ℕ → F → Type 0) (may_refuse : L
         (ap (λ (s : ℕ). Prints s text) (sym h.is_greatest)) reported sends
     paths_printed out out_after text made (Err (Refused which fault)) sends = absurd sends
     paths_printed out out_after text made (Err (GoodRange good)) sends = absurd sends
+    paths_printed out out_after text made (Err (BidRange bid)) sends = absurd sends
     paths_printed out out_after text made (Err (Sent fault)) sends = record {
       given = record { judgements = h.judgements; text = text };
       reads = record { judges = h.judges; makes = made };

@@ -5,13 +5,13 @@ use Rattle.std.specs.List.{All, AllByRecursion, list_any, range_with_len}
 use Rattle.std.proofs.lemmas.Bool.{and_parts, ltb-true, or_parts}
 use Rattle.std.proofs.lemmas.List.Elements.{All-filter, All-head, All-tail, All-weaker, recursion_from_All}
 use Rattle.answers.specs.Outputs.{bundle_text}
-use Rattle.cats_cmd.specs.DuplicateTexts.{after_empty_lines, duplicates_text, groups_of, groups_text, is_repeated, lines_of}
+use Rattle.cats_cmd.specs.DuplicateTexts.{after_empty_lines, duplicates_text, groups_of, groups_text, is_printed, lines_of}
 use Rattle.cats_cmd.specs.Escaping.{AreBytes, IsTextOf, escaped, is_printable, is_shown, path_text}
 use Rattle.cats_cmd.specs.Paths.{Judgement, progress_line, refusal_line}
 use Rattle.cats_cmd.specs.RequestErrors.{line_of_request_error}
 use Rattle.cats_cmd.specs.SizesTables.{MakesTable, cells, columns, rows_of_table, sizes_header}
 use Rattle.cats_cmd.specs.declared.paths.Ending.TheVariants.{Line}
-use Rattle.cats_cmd.specs.declared.program.RequestError.{RequestError}
+use Rattle.cats_cmd.specs.declared.errors.RequestError.{RequestError}
 use Rattle.cats_cmd.proofs.FaultTexts.{IsPlain, Plain, bundle_plain, error_line}
 use Rattle.cats_cmd.proofs.OutputPaths.{paths_all, words_plain}
 use Rattle.cats_cmd.proofs.PrintableTexts.{ascii_text, decimal_all, no_text, printable, text_behind}
@@ -45,7 +45,7 @@ then {xs} {ys} x y = text_behind is_shown xs ys x y
 pub number : (n : ℕ) → Shown (decimal n)
 number n = ascii_text is_shown (decimal n) (decimal_all (λ b. (b < 128) × (is_shown b ≡ true)) (λ d l. (omega arith, grind (arith, l))) n)
 
-path_shown : (path : List ℕ) → AreBytes path → Shown (escaped path)
+pub path_shown : (path : List ℕ) → AreBytes path → Shown (escaped path)
 path_shown path bytes =
     let text = printable path bytes in
     record {
@@ -57,7 +57,7 @@ path_shown path bytes =
 
 -- ---- faults
 
-plain_shown : (text : List ℕ) → Plain text → Shown text
+pub plain_shown : (text : List ℕ) → Plain text → Shown text
 plain_shown text plain =
     ascii_text is_shown text (recursion_from_All (λ b. (b < 128) × (is_shown b ≡ true)) text
     (All-weaker IsPlain (λ b. (b < 128) × (is_shown b ≡ true)) (λ b is. (omega (arith, is.1), grind (arith, is.0, is.1))) text plain.all))
@@ -96,10 +96,10 @@ groups_shown : (groups : List (List (List ℕ))) → All (All AreBytes) groups �
 groups_shown [] are = no_text is_shown
 groups_shown (paths ∷ groups) are = then (lines paths (All-head (All AreBytes) paths groups are)) (after groups (All-tail (All AreBytes) paths groups are))
 
-pub duplicates_shown : (found : List (List ℕ × ℕ)) → All (λ f. AreBytes f.0) found → Shown (duplicates_text Line found)
-duplicates_shown found are =
-    groups_shown (filter is_repeated (groups_of found))
-    (All-filter is_repeated (All AreBytes) (groups_of found) (paths_all AreBytes found are (range_with_len 0 (length found))))
+pub duplicates_shown : (all : Bool) (found : List (List ℕ × ℕ)) → All (λ f. AreBytes f.0) found → Shown (duplicates_text Line all found)
+duplicates_shown all found are =
+    groups_shown (filter (is_printed all) (groups_of found))
+    (All-filter (is_printed all) (All AreBytes) (groups_of found) (paths_all AreBytes found are (range_with_len 0 (length found))))
 
 -- ---- tables
 

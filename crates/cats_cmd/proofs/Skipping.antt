@@ -7,7 +7,7 @@ use Rattle.canon.specs.FirstPlaces.{IsFirstPlace, IsIndexOf, TextIndex}
 use Rattle.cats_cmd.specs.Duplicates.{files_if_judged, judged_files, judged_paths, paths_if_judged}
 use Rattle.cats_cmd.specs.Internal.Judging.{KeepsGroups}
 use Rattle.cats_cmd.specs.Paths.{Judgement, IsUnjudged}
-use Rattle.cats_cmd.specs.declared.program.RequestError.{RequestError}
+use Rattle.cats_cmd.specs.declared.errors.RequestError.{RequestError}
 
 -- a judgement of which no file was judged
 pub nothing_more : (index : TextIndex) (found : List (List ℕ × ℕ)) (js : List (List ℕ × Judgement)) (path : List ℕ) (j : Judgement)

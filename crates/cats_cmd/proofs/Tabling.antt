@@ -2,7 +2,7 @@
 use Rattle.std.proofs.Common.{◌≡◌, ℕ, suc, zero, ◌+◌, ◌-◌, ◌<◌, Bool, true, false, cond, List, [], ◌∷◌, ◌++◌, length, map, get_or, set, take, refl, sym}
 use Rattle.std.proofs.Common.{append-nil}
 use Rattle.std.proofs.Common.{ap, ◌∙◌, arith, Option, Some, None, Result, Ok, Err, ⊎_elim, zero-add, replicate}
-use Rattle.std.proofs.Common.{inl, inr, Global}
+use Rattle.std.proofs.Common.{inr, Global}
 use Rattle.std.specs.Prelude.{codes, decimal, filter, is_none, is_some, ◌||◌, Vec}
 use Rattle.std.specs.List.{range_with_len, slice_get}
 use Rattle.std.specs.Result.{OnOk}
@@ -21,18 +21,22 @@ use Rattle.cats_text.specs.declared.stream.Watched.{Watched}
 use Rattle.valuation.specs.Auctions.{is_dummy, or_atoms_of}
 use Rattle.prune.specs.SearchSteps.{first_refused}
 use Rattle.canon.specs.Canonical.{canonical_file}
-use Rattle.canon.specs.declared.canon_fault.CanonFault.{CanonFault}
 use Rattle.canon.specs.declared.canon_fault.CanonFault.TheVariants.{Read, StepLimit, Memory}
 use Rattle.canon.specs.declared.which.Which.TheVariants.{Only}
-use Rattle.cats_cmd.specs.Inputs.{ReadsInput}
+use Rattle.cats_text.specs.declared.read_fault.ReadFault.{ReadFault}
+use Rattle.cats_text.specs.declared.read_fault.Kind.{Kind}
+use Rattle.cats_text.specs.declared.read_fault.Kind.TheVariants.{Memory as NoMemory}
+use Rattle.canon.specs.Refusals.{refusal_by_kind, refusal_of}
+use Rattle.commands.specs.Inputs.{StreamGives, StreamRefuses}
+use Rattle.cats_cmd.proofs.Judging.{RefusesStream, refused_in_reading}
 use Rattle.cats_cmd.specs.Internal.Tables.{PutsNumbers}
 use Rattle.cats_cmd.specs.Paths.{Judgement, IsHeavy, IsJudged, IsUnjudged, JudgesStream, request_error_of}
 use Rattle.cats_cmd.specs.RequestErrors.{line_of_request_error}
 use Rattle.cats_cmd.specs.SizesTables.{cells, columns, counts_of, fault_cell, has_dummy, number_columns, row, rows_of_table, sizes_of, with_tabs, without_end}
 use Rattle.cats_cmd.specs.Escaping.{path_text}
 use Rattle.cats_cmd.specs.declared.paths.Ending.{Ending}
-use Rattle.cats_cmd.specs.declared.program.RequestError.{RequestError}
-use Rattle.cats_cmd.specs.declared.program.RequestError.TheVariants.{Run}
+use Rattle.cats_cmd.specs.declared.errors.RequestError.{RequestError}
+use Rattle.cats_cmd.specs.declared.errors.RequestError.TheVariants.{Run}
 use Rattle.answers.specs.declared.report.RunFault.{RunFault}
 use Rattle.answers.specs.declared.report.RunFault.TheVariants.{Refused}
 
@@ -108,19 +112,23 @@ module _ {R : Type 0} (remaining : R → Option (List ℕ)) (options : SearchOpt
       → PutsNumbers remaining options text longer old new (Some error)
   unjudged put error judges = record { judgement = IsUnjudged error; judges = judges; puts = put; is_error = refl }
 
-  pub numbers_unread : longer ≡ text ++ codes "\t\t\t\t\t\t\t\t" → (fault : CanonFault) → ReadsInput remaining old new (Err fault)
-      → PutsNumbers remaining options text longer old new (Some (Run (Refused Only fault)))
-  numbers_unread put (Read why) reads = unjudged put (Run (Refused Only (Read why))) (refl, reads)
-  numbers_unread put (StepLimit goods) reads = absurd reads.reads
-  numbers_unread put Memory reads = unjudged put (Run (Refused Only Memory)) (refl, inl reads)
+  unread_by_kind : longer ≡ text ++ codes "\t\t\t\t\t\t\t\t" → (why : ReadFault) (kind : Kind)
+      → RefusesStream remaining options old new (refusal_by_kind why kind)
+      → PutsNumbers remaining options text longer old new (Some (Run (Refused Only (refusal_by_kind why kind))))
+  unread_by_kind put why NoMemory refused = unjudged put (Run (Refused Only Memory)) (refl, refused)
+  unread_by_kind put why kind refused = unjudged put (Run (Refused Only (Read why))) (refl, refused)
 
-  module _ (file : PlainFile) (reads : ReadsInput remaining old new (Ok file)) where
+  pub numbers_unread : longer ≡ text ++ codes "\t\t\t\t\t\t\t\t" → (why : ReadFault) → StreamRefuses remaining old new why
+      → PutsNumbers remaining options text longer old new (Some (Run (Refused Only (refusal_of why))))
+  numbers_unread put why refused = unread_by_kind put why why.kind (refused_in_reading remaining options old new why refused)
+
+  module _ (file : PlainFile) (given : StreamGives remaining old new file) where
     pub numbers_judged : first_refused options file.goods (or_atoms_of file.bids) ≡ None
         → longer ≡ text ++ with_tabs (sizes_of file) ++ with_tabs (counts_of (canonical_file file))
         → PutsNumbers remaining options text longer old new None
     numbers_judged within put = record {
       judgement = IsJudged file;
-      judges = record { reads = reads; within = within };
+      judges = record { given = given; within = within };
       puts = put ∙ append_assoc text (with_tabs (sizes_of file)) (with_tabs (counts_of (canonical_file file)))
           ∙ ap (λ (more : List ℕ). text ++ more) (judged_numbers file);
       is_error = refl;
@@ -131,13 +139,13 @@ module _ {R : Type 0} (remaining : R → Option (List ℕ)) (options : SearchOpt
         → PutsNumbers remaining options text longer old new (Some (Run why))
     numbers_heavy goods heavy put why is = record {
       judgement = IsHeavy file goods;
-      judges = record { reads = reads; refused = heavy };
+      judges = (given, heavy);
       puts = put ∙ append_assoc text (with_tabs (sizes_of file)) (codes "\t\t\t") ∙ ap (λ (more : List ℕ). text ++ more) (heavy_numbers file goods);
       is_error = ap (λ (f : RunFault). Some (Run f)) is;
     }
 
     pub numbers_unmade : longer ≡ text ++ codes "\t\t\t\t\t\t\t\t" → PutsNumbers remaining options text longer old new (Some (Run (Refused Only Memory)))
-    numbers_unmade put = unjudged put (Run (Refused Only Memory)) (refl, inr (record { file = file; reads = reads }))
+    numbers_unmade put = unjudged put (Run (Refused Only Memory)) (refl, inr (record { file = file; given = given }))
 
 -- ---- marks
 

@@ -1,5 +1,5 @@
 -- What `cats duplicates` prints. Of the files that were found to be auctions, it has those that are not the only one of
--- theirs.
+-- theirs, or all.
 use Rattle.std.specs.Prelude.{ℕ, ◌==◌, nat_lt, if◌then◌else◌, Bool, List, [], ◌∷◌, ◌++◌, length, map, filter}
 use Rattle.std.specs.Prelude.{Vec}
 use Rattle.std.specs.Borrow.{Bor}
@@ -9,8 +9,8 @@ use Rattle.cats_cmd.specs.Escaping.{end_of, path_text}
 use Rattle.cats_cmd.specs.declared.paths.Ending.{Ending}
 
 -- each path, and the place of the first file of its auction
-abbrev pub found_paths : List (Bor (List ℕ) × ℕ) → List (List ℕ × ℕ)
-found_paths found = map (λ f. (f.0.now, f.1)) found
+abbrev pub found_paths : List (Vec ℕ Global × ℕ) → List (List ℕ × ℕ)
+found_paths found = map (λ f. (f.0.items, f.1)) found
 
 -- the paths of the files whose auction came first at this place
 abbrev pub paths_at : List (List ℕ × ℕ) → ℕ → List (List ℕ)
@@ -22,8 +22,9 @@ groups_of found = map (paths_at found) (range_with_len 0 (length found))
 
 -- ---- the text
 
-abbrev pub is_repeated : List (List ℕ) → Bool
-is_repeated paths = nat_lt 1 (length paths)
+-- a group of two files or more, or with `--all` of one
+abbrev pub is_printed : Bool → List (List ℕ) → Bool
+is_printed all paths = nat_lt (if all then 0 else 1) (length paths)
 
 -- the paths, each on a line, or each with NUL behind it
 abbrev pub lines_of : Ending → List (List ℕ) → List ℕ
@@ -38,17 +39,17 @@ abbrev pub groups_text : Ending → List (List (List ℕ)) → List ℕ
 groups_text ending [] = []
 groups_text ending (paths ∷ groups) = lines_of ending paths ++ after_empty_lines ending groups
 
--- the groups of two or more, in the order of the first of each
-abbrev pub duplicates_text : Ending → List (List ℕ × ℕ) → List ℕ
-duplicates_text ending found = groups_text ending (filter is_repeated (groups_of found))
+-- the groups that are printed, in the order of the first of each
+abbrev pub duplicates_text : Ending → Bool → List (List ℕ × ℕ) → List ℕ
+duplicates_text ending all found = groups_text ending (filter (is_printed all) (groups_of found))
 
 -- the lines after a text, with an empty line between them if there is a text
 abbrev pub behind : Ending → List ℕ → List ℕ → List ℕ
 behind ending text lines = if length text == 0 then lines else text ++ end_of ending ++ lines
 
 -- the text with one more group
-abbrev pub with_group : Ending → List ℕ → List (List ℕ) → List ℕ
-with_group ending text paths = if is_repeated paths then behind ending text (lines_of ending paths) else text
+abbrev pub with_group : Ending → Bool → List ℕ → List (List ℕ) → List ℕ
+with_group ending all text paths = if is_printed all paths then behind ending text (lines_of ending paths) else text
 
 -- groups as the code has them
 abbrev pub plain_group : Vec (Bor (List ℕ)) Global → List (List ℕ)

@@ -1,5 +1,5 @@
 -- What `cats duplicates` finds among files.
-use Rattle.std.specs.Prelude.{◌≡◌, ℕ, List, [], ◌∷◌, map}
+use Rattle.std.specs.Prelude.{◌≡◌, ℕ, Bool, List, [], ◌∷◌, map}
 use Rattle.std.specs.List.{AllZip, flat_map}
 use Rattle.bid_file.specs.Files.{PlainFile}
 use Rattle.canon.specs.FirstPlaces.{IsFirstPlace}
@@ -30,7 +30,8 @@ pub record FindsPlaces (judgements : List (List ℕ × Judgement)) (found : List
   pub places : AllZip (λ p file. IsFirstPlace (judged_files judgements) file p.1) found (judged_files judgements)
 
 -- the text is that of the groups of paths whose files are one auction
-pub record MakesGroups (ending : Ending) (judgements : List (List ℕ × Judgement)) (text : List ℕ) : Type 0 where
+pub record MakesGroups (ending : Ending) (all : Bool) (judgements : List (List ℕ × Judgement)) (text : List ℕ)
+    : Type 0 where
   pub found : List (List ℕ × ℕ)
   pub finds : FindsPlaces judgements found
-  pub is_text : text ≡ duplicates_text ending found
+  pub is_text : text ≡ duplicates_text ending all found

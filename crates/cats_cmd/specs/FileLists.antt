@@ -9,11 +9,11 @@ use Rattle.cats_cmd.specs.Inputs.{IsOpened, ReadsAll, StopsReading, WantsMemoryF
 use Rattle.cats_cmd.specs.PathLists.{paths_in}
 use Rattle.cats_cmd.specs.Paths.{refusal_line}
 use Rattle.cats_cmd.specs.RequestErrors.{Reports, status_of_request_error}
-use Rattle.cats_cmd.specs.declared.program.RequestError.{RequestError}
-use Rattle.cats_cmd.specs.declared.program.RequestError.TheVariants.{CannotOpen, NotOpened, Run}
+use Rattle.cats_cmd.specs.declared.errors.RequestError.{RequestError}
+use Rattle.cats_cmd.specs.declared.errors.RequestError.TheVariants.{CannotOpen, NotOpened, Run}
 use Rattle.cats_cmd.specs.declared.source.Unopened.{Unopened}
 use Rattle.answers.specs.declared.report.RunFault.{RunFault}
-use Rattle.answers.specs.declared.report.RunFault.TheVariants.{Refused, GoodRange, Sent}
+use Rattle.answers.specs.declared.report.RunFault.TheVariants.{Refused, GoodRange, BidRange, Sent}
 
 module _ {F : Type 0} (may_open : List ℕ → F → Type 0) (may_refuse : List ℕ → Unopened → Type 0)
     (remaining : F → Option (List ℕ)) (list : List ℕ) where
@@ -46,7 +46,17 @@ module _ {F : Type 0} (may_open : List ℕ → F → Type 0) (may_refuse : List 
   IsUnread (Run (Refused which (StepLimit goods))) = ⊥
   IsUnread (Run (Refused which Memory)) = (which ≡ Only) × WantsMemoryForList
   IsUnread (Run (GoodRange good)) = ⊥
+  IsUnread (Run (BidRange bid)) = ⊥
   IsUnread (Run (Sent fault)) = ⊥
+
+-- a list was not read, for one of these reasons, which was reported as of a file, and nothing was written
+pub record RefusesList {W E : Type 0} (messages : E → Option (List ℕ)) (Unread : RequestError → Type 0)
+    (list : List ℕ) (out out_after : Watched W) (err err_after : Watched E) (status : ℕ) : Type 0 where
+  pub error : RequestError
+  pub unread : Unread error
+  pub reports : Reports messages (refusal_line list error) err err_after
+  pub silent : out_after ≡ out
+  pub is_status : status ≡ status_of_request_error error
 
 -- `Runs` is the run on the files at some paths.
 module _ {F W E : Type 0} (may_open : List ℕ → F → Type 0) (may_refuse : List ℕ → Unopened → Type 0)
@@ -59,18 +69,10 @@ module _ {F W E : Type 0} (may_open : List ℕ → F → Type 0) (may_refuse : L
     pub reads : ReadsList may_open may_refuse remaining list bytes
     pub runs : Runs (paths_in bytes) out out_after err err_after answer
 
-  -- the list was not read, which was reported as of a file, and nothing was written
-  pub record RefusesList (list : List ℕ) (out out_after : Watched W) (err err_after : Watched E) (status : ℕ)
-      : Type 0 where
-    pub error : RequestError
-    pub unread : IsUnread may_open may_refuse remaining list error
-    pub reports : Reports messages (refusal_line list error) err err_after
-    pub silent : out_after ≡ out
-    pub is_status : status ≡ status_of_request_error error
-
   abbrev pub RunsOnList : List ℕ → Watched W → Watched W → Watched E → Watched E → Result ℕ RunFault → Type 0
   RunsOnList list out out_after err err_after (Ok status) =
-      RunsOnListed list out out_after err err_after (Ok status) ⊎ RefusesList list out out_after err err_after status
+      RunsOnListed list out out_after err err_after (Ok status)
+      ⊎ RefusesList messages (IsUnread may_open may_refuse remaining list) list out out_after err err_after status
   RunsOnList list out out_after err err_after (Err fault) = RunsOnListed list out out_after err err_after (Err fault)
 
   -- the run on the paths that are given, or that are listed

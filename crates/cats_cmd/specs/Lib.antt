@@ -1,13 +1,7 @@
 -- What the contracts of this crate cite.
-pub mod ValueTexts
-pub mod Outcomes
-pub mod Examples
 pub mod Inputs
 pub mod RequestErrors
 pub mod Runs
-pub mod Comparisons
-pub mod Diffs
-pub mod Explanations
 pub mod Escaping
 pub mod DuplicateTexts
 pub mod Paths
@@ -17,6 +11,8 @@ pub mod Duplicates
 pub mod SizesTables
 pub mod Rounding
 pub mod FileLists
+pub mod BidLists
+pub mod FindingFaults
 pub mod Opening
 pub mod Openings
 pub mod Requests

@@ -1,16 +1,17 @@
 -- Which paths a command line opens, each once, and in which order.
-use Rattle.std.specs.Prelude.{◌≡◌, ◌⊎◌, ℕ, List, [], ◌∷◌, Option, Some, Result, Ok, Err}
+use Rattle.std.specs.Prelude.{◌≡◌, ◌≤◌, ◌⊎◌, ℕ, List, [], ◌∷◌, Option, Some, Result, Ok, Err}
 use Rattle.answers.specs.Statuses.{status_of_fault}
 use Rattle.answers.specs.declared.report.RunFault.{RunFault}
-use Rattle.command_line.specs.PlainRequests.{PlainRequest, Check, Show, Value, Normalise, Explain, Round, Lp, Compare}
-use Rattle.command_line.specs.PlainRequests.{Diff, Duplicates, Sizes, PlainPaths, Given, ListedIn}
+use Rattle.command_line.specs.PlainRequests.{PlainRequest, Check, Fault, Show, Value, Revenue, Normalise, Explain}
+use Rattle.command_line.specs.PlainRequests.{Round, Lp, Compare, Diff, Duplicates, Sizes, PlainPaths, Given, ListedIn}
+use Rattle.command_line.specs.PlainRequests.{PlainBids, GivenBids, BidsIn}
 use Rattle.command_line.specs.Requests.{IsNoRequestOf, request_of}
 use Rattle.command_line.specs.declared.request.NoRequest.{NoRequest}
 use Rattle.cats_cmd.specs.FileLists.{ReadsList}
 use Rattle.cats_cmd.specs.Opening.{Opens, OpensEach}
 use Rattle.cats_cmd.specs.PathLists.{paths_in}
 use Rattle.cats_cmd.specs.RequestErrors.{status_of_request_error}
-use Rattle.cats_cmd.specs.declared.program.RequestError.{RequestError}
+use Rattle.cats_cmd.specs.declared.errors.RequestError.{RequestError}
 use Rattle.cats_cmd.specs.declared.source.Unopened.{Unopened}
 
 -- the status that a run comes to
@@ -47,11 +48,20 @@ module _ {S H F : Type 0} (content_of : S → H) (opened : S → Option (List (L
       Opens content_of opened old new (first ∷ second ∷ [])
       ⊎ ((status ≡ 5) × Opens content_of opened old new (first ∷ []))
 
+  -- the list of the bids, if they are in one, and then the file, unless the list is refused
+  abbrev pub OpensForBids : List ℕ → PlainBids → S → S → ℕ → Type 0
+  OpensForBids file (GivenBids bids) old new status = Opens content_of opened old new (file ∷ [])
+  OpensForBids file (BidsIn list) old new status =
+      Opens content_of opened old new (list ∷ file ∷ [])
+      ⊎ ((2 ≤ status) × Opens content_of opened old new (list ∷ []))
+
   -- the paths of a request, which ends with this status
   abbrev pub OpensFor : PlainRequest → S → S → ℕ → Type 0
   OpensFor (Check file) old new status = Opens content_of opened old new (file ∷ [])
+  OpensFor (Fault file) old new status = Opens content_of opened old new (file ∷ [])
   OpensFor (Show file) old new status = Opens content_of opened old new (file ∷ [])
   OpensFor (Value file goods limits) old new status = Opens content_of opened old new (file ∷ [])
+  OpensFor (Revenue file bids) old new status = OpensForBids file bids old new status
   OpensFor (Normalise file limits) old new status = Opens content_of opened old new (file ∷ [])
   OpensFor (Explain file limits) old new status = Opens content_of opened old new (file ∷ [])
   OpensFor (Round file exact) old new status = Opens content_of opened old new (file ∷ [])

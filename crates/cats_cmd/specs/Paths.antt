@@ -9,22 +9,26 @@ use Rattle.bid_file.specs.Files.{PlainFile}
 use Rattle.valuation.specs.declared.search_options.SearchOptions.{SearchOptions}
 use Rattle.cats_text.specs.declared.stream.Watched.{Watched}
 use Rattle.canon.specs.declared.canon_fault.CanonFault.{CanonFault}
-use Rattle.canon.specs.declared.canon_fault.CanonFault.TheVariants.{Read, StepLimit, Memory}
+use Rattle.canon.specs.declared.canon_fault.CanonFault.TheVariants.{StepLimit, Memory}
 use Rattle.canon.specs.declared.which.Which.{Which}
 use Rattle.canon.specs.declared.which.Which.TheVariants.{Only}
+use Rattle.valuation.specs.Auctions.{or_atoms_of}
+use Rattle.prune.specs.SearchSteps.{first_refused}
+use Rattle.commands.specs.Commands.{Commands, GivesWithin}
+use Rattle.commands.specs.Inputs.{StreamGives, StreamRefuses}
+use Rattle.commands.specs.Outcomes.{Outcome, Prints, normalise_outcome}
 use Rattle.cats_cmd.specs.Escaping.{escaped}
-use Rattle.cats_cmd.specs.Inputs.{IsOpened, IsRefusedFile, ReadsOverLimit, ReadsWithinLimit}
-use Rattle.cats_cmd.specs.Outcomes.{Outcome, Prints, normalise_outcome}
+use Rattle.cats_cmd.specs.Inputs.{IsOpened}
 use Rattle.cats_cmd.specs.Runs.{FailsInText, WritesText}
 use Rattle.cats_cmd.specs.RequestErrors.{ReportsAll, line_of_request_error, status_of_request_error}
 use Rattle.cats_cmd.specs.declared.paths.Progress.{Progress}
 use Rattle.cats_cmd.specs.declared.paths.Progress.TheVariants.{Silent, Lines, Terminal}
-use Rattle.cats_cmd.specs.declared.program.RequestError.{RequestError}
-use Rattle.cats_cmd.specs.declared.program.RequestError.TheVariants.{CannotOpen, NotOpened, Run}
+use Rattle.cats_cmd.specs.declared.errors.RequestError.{RequestError}
+use Rattle.cats_cmd.specs.declared.errors.RequestError.TheVariants.{CannotOpen, NotOpened, Run}
 use Rattle.cats_cmd.specs.declared.source.Unopened.{Unopened}
 use Rattle.cats_cmd.specs.declared.source.Unopened.TheVariants.{Other}
 use Rattle.answers.specs.declared.report.RunFault.{RunFault}
-use Rattle.answers.specs.declared.report.RunFault.TheVariants.{Refused, GoodRange, Sent}
+use Rattle.answers.specs.declared.report.RunFault.TheVariants.{Refused, GoodRange, BidRange, Sent}
 
 -- what became of the file at a path
 pub data Judgement : Type 0 where
@@ -129,17 +133,15 @@ IsUnopened may_refuse path why = may_refuse path why ⊎ ((why ≡ Other) × (Is
 module _ {F : Type 0} (remaining : F → Option (List ℕ)) (options : SearchOptions) where
   -- Reading the stream gives this. Of no stream but one that spells a file is a bundle refused.
   abbrev pub JudgesStream : Watched F → Watched F → Judgement → Type 0
-  JudgesStream before after (IsJudged file) = ReadsWithinLimit remaining options before after file
-  JudgesStream before after (IsHeavy file goods) = ReadsOverLimit remaining options before after file goods.items
+  JudgesStream before after (IsJudged file) =
+      GivesWithin (StreamGives remaining) (StreamRefuses remaining) options before after file
+  JudgesStream before after (IsHeavy file goods) = StreamGives remaining before after file
+      × (first_refused options file.goods (or_atoms_of file.bids) ≡ Some goods.items)
   JudgesStream before after (IsUnjudged (CannotOpen which)) = ⊥
   JudgesStream before after (IsUnjudged (NotOpened why)) = ⊥
-  JudgesStream before after (IsUnjudged (Run (Refused which (Read fault)))) =
-      (which ≡ Only) × IsRefusedFile remaining (normalise_outcome options) before after (Read fault)
   JudgesStream before after (IsUnjudged (Run (Refused which (StepLimit goods)))) = ⊥
-  JudgesStream before after (IsUnjudged (Run (Refused which Memory))) =
-      (which ≡ Only) × IsRefusedFile remaining (normalise_outcome options) before after Memory
-  JudgesStream before after (IsUnjudged (Run (GoodRange good))) = ⊥
-  JudgesStream before after (IsUnjudged (Run (Sent fault))) = ⊥
+  JudgesStream before after (IsUnjudged (Run fault)) =
+      Commands (StreamGives remaining) (StreamRefuses remaining) (normalise_outcome options) before after (Err fault)
 
 module _ {F : Type 0} (may_open : List ℕ → F → Type 0) (may_refuse : List ℕ → Unopened → Type 0) (remaining : F
     → Option (List ℕ))
@@ -211,5 +213,6 @@ module _ {F W E : Type 0} (may_open : List ℕ → F → Type 0) (may_refuse : L
   RunsOnPaths out out_after err err_after (Err (Refused which fault)) =
       RefusesPaths out out_after err err_after which fault
   RunsOnPaths out out_after err err_after (Err (GoodRange good)) = ⊥
+  RunsOnPaths out out_after err err_after (Err (BidRange bid)) = ⊥
   RunsOnPaths out out_after err err_after (Err (Sent fault)) =
       FailsInText contents (MakesOfPaths err err_after) outcome_of_paths out out_after fault.written

@@ -1,15 +1,15 @@
 -- Why a request fails, and what is then reported. The program's status is part of it.
-use Rattle.std.specs.Prelude.{◌≡◌, ◌⊎◌, ◌++◌, ℕ, Bool, true, false, List, [], ◌∷◌, Option, Result, codes}
+use Rattle.std.specs.Prelude.{◌≡◌, ◌⊎◌, ◌==◌, ◌++◌, ℕ, Bool, true, false, List, [], ◌∷◌, Option, Result, codes}
 use Rattle.std.specs.Option.{option_map_or}
 use Rattle.cats_text.specs.Streams.{has_failed, Sends}
 use Rattle.cats_text.specs.declared.read_fault.SendFault.{SendFault}
 use Rattle.cats_text.specs.declared.stream.Watched.{Watched}
 use Rattle.answers.specs.FaultLines.{line_of_fault, prefix_of}
 use Rattle.answers.specs.Statuses.{status_of_fault}
-use Rattle.command_line.specs.PlainRequests.{PlainRequest, Round, Duplicates, Sizes}
+use Rattle.command_line.specs.PlainRequests.{PlainRequest, Fault, Round, Duplicates, Sizes}
 use Rattle.command_line.specs.Requests.{request_of}
-use Rattle.cats_cmd.specs.declared.program.RequestError.{RequestError}
-use Rattle.cats_cmd.specs.declared.program.RequestError.TheVariants.{CannotOpen, NotOpened, Run}
+use Rattle.cats_cmd.specs.declared.errors.RequestError.{RequestError}
+use Rattle.cats_cmd.specs.declared.errors.RequestError.TheVariants.{CannotOpen, NotOpened, Run}
 use Rattle.cats_cmd.specs.declared.source.Unopened.{Unopened}
 use Rattle.cats_cmd.specs.declared.source.Unopened.TheVariants.{NoSuchFile, PermissionDenied, IsFolder, NotAFile, Other}
 
@@ -22,6 +22,15 @@ is_for_many_files request = false
 -- whether a command line requests `duplicates` or `sizes`
 abbrev pub names_many_files : List (List ℕ) → Bool
 names_many_files words = option_map_or is_for_many_files (request_of words) false
+
+-- whether a request printed the fault that it was to find, with the status of a file that is refused
+abbrev pub has_found : ℕ → PlainRequest → Bool
+has_found status (Fault file) = status == 2
+has_found status request = false
+
+-- whether a command line requests `fault`, and ended with this status
+abbrev pub names_found : ℕ → List (List ℕ) → Bool
+names_found status words = option_map_or (has_found status) (request_of words) false
 
 -- whether a request may report something before it ends
 abbrev pub is_reporting : PlainRequest → Bool

@@ -9,37 +9,37 @@ use Rattle.cats_text.specs.Streams.{SendsWhole, SendsPart}
 use Rattle.cats_text.specs.declared.stream.Watched.{Watched}
 use Rattle.canon.specs.declared.which.Which.{Which}
 use Rattle.canon.specs.declared.which.Which.TheVariants.{Only, First, Second}
-use Rattle.cats_cmd.specs.Comparisons.{Compares}
-use Rattle.cats_cmd.specs.Diffs.{DiffsFiles}
 use Rattle.cats_cmd.specs.Duplicates.{MakesGroups}
-use Rattle.cats_cmd.specs.Explanations.{ExplainsFile}
+use Rattle.cats_cmd.specs.BidLists.{RunsOnBids}
 use Rattle.cats_cmd.specs.FileLists.{RunsOnFiles}
+use Rattle.cats_cmd.specs.FindingFaults.{FindsFault}
 use Rattle.cats_cmd.specs.Inputs.{IsOpened, MayRefuse}
-use Rattle.cats_cmd.specs.Outcomes.{Outcome, check_outcome, show_outcome, lp_outcome, normalise_outcome}
-use Rattle.cats_cmd.specs.Outcomes.{value_outcome_by}
-use Rattle.cats_cmd.specs.Paths.{RunsOnPaths, with_refusals, without_refusals}
+use Rattle.cats_cmd.specs.Paths.{Judgement, Reporting, RunsOnPaths, with_refusals, without_refusals}
 use Rattle.cats_cmd.specs.Rounding.{Rounds}
-use Rattle.cats_cmd.specs.Runs.{RunsOnFile}
+use Rattle.cats_cmd.specs.Runs.{Compares, DiffsFiles, RunsOnFile}
 use Rattle.cats_cmd.specs.SizesTables.{MakesTable}
+use Rattle.commands.specs.Outcomes.{Outcome, check_outcome, explain_outcome, lp_outcome, normalise_outcome}
+use Rattle.commands.specs.Outcomes.{revenue_outcome, show_outcome, value_outcome_by}
 use Rattle.rounding.specs.declared.replacement.FinePrices.{FinePrices}
 use Rattle.rounding.specs.declared.replacement.FinePrices.TheVariants.{Round as RoundFine, Refuse}
 use Rattle.cats_cmd.specs.RequestErrors.{Reports, SendsText, line_of_request_error, status_of_request_error}
-use Rattle.command_line.specs.PlainRequests.{PlainRequest, Check, Show, Value, Normalise, Explain, Round, Lp, Compare}
-use Rattle.command_line.specs.PlainRequests.{Diff, Duplicates, Sizes}
+use Rattle.command_line.specs.PlainRequests.{PlainFiles, PlainRequest, Check, Fault, Show, Value, Revenue, Normalise}
+use Rattle.command_line.specs.PlainRequests.{Explain, Round, Lp, Compare, Diff, Duplicates, Sizes}
 use Rattle.command_line.specs.Requests.{IsNoRequestOf, request_of}
 use Rattle.command_line.specs.declared.request.NoRequest.{NoRequest}
 use Rattle.command_line.specs.declared.request.NoRequest.TheVariants.{Help, WrongUsage, Misused, NoMemory}
 use Rattle.command_line.specs.declared.request.Misuse.{Misuse}
 use Rattle.command_line.specs.declared.request.Misuse.TheVariants.{SignedNumber, MoreThanOneFile, MoreThanTwoFiles}
-use Rattle.command_line.specs.declared.request.Misuse.TheVariants.{UnboundedTotal, WrongFiles}
+use Rattle.command_line.specs.declared.request.Misuse.TheVariants.{BidsTwice, UnboundedTotal, WrongGoods}
+use Rattle.command_line.specs.declared.request.Misuse.TheVariants.{WrongFiles}
 use Rattle.command_line.specs.declared.request.Limits.{Limits}
 use Rattle.valuation.specs.SearchLimits.{bounded_options, plain_options}
 use Rattle.cats_cmd.specs.declared.paths.Ending.{Ending}
 use Rattle.cats_cmd.specs.declared.paths.Ending.TheVariants.{Line, Null}
 use Rattle.cats_cmd.specs.declared.paths.Progress.{Progress}
 use Rattle.cats_cmd.specs.declared.paths.Progress.TheVariants.{Silent, Lines, Terminal as OnTerminal}
-use Rattle.cats_cmd.specs.declared.program.RequestError.{RequestError}
-use Rattle.cats_cmd.specs.declared.program.RequestError.TheVariants.{CannotOpen, NotOpened, Run}
+use Rattle.cats_cmd.specs.declared.errors.RequestError.{RequestError}
+use Rattle.cats_cmd.specs.declared.errors.RequestError.TheVariants.{CannotOpen, NotOpened, Run}
 use Rattle.answers.specs.declared.report.RunFault.{RunFault}
 use Rattle.cats_cmd.specs.declared.source.Unopened.{Unopened}
 
@@ -50,7 +50,11 @@ abbrev pub misuse_text : Misuse → List ℕ
 misuse_text SignedNumber = codes "error: a number has digits alone, and no sign\n\nFor more information, try '--help'.\n"
 misuse_text MoreThanOneFile = codes "error: this command takes one file\n\nFor more information, try '--help'.\n"
 misuse_text MoreThanTwoFiles = codes "error: this command takes two files\n\nFor more information, try '--help'.\n"
+misuse_text BidsTwice =
+    codes "error: give bids, or '--bids <LIST>', and not both\n\nFor more information, try '--help'.\n"
 misuse_text UnboundedTotal = codes "error: '--total-steps <N>' needs '--bound'\n\nFor more information, try '--help'.\n"
+misuse_text WrongGoods =
+    codes "error: goods are numbers and ranges, as in '0,2-5'\n\nFor more information, try '--help'.\n"
 misuse_text WrongFiles =
     codes "error: give paths, or '--files0-from <LIST>', and not both\n\nFor more information, try '--help'.\n"
 
@@ -105,37 +109,23 @@ module _ {F W : Type 0} (may_open : List ℕ → F → Type 0) (remaining : F �
     pub opened : IsOpened may_open path before
     pub runs : RunsOnFile remaining contents outcome before after out out_after answer
 
-  -- an explanation of the stream that was opened at the path
-  pub record ExplainsAt (path : List ℕ) (options : SearchOptions) (out out_after : Watched W)
-      (answer : Result ℕ RunFault)
-      : Type 0 where
+  -- the first fault of a stream that was opened at the path
+  pub record FindsFaultAt (path : List ℕ) (out out_after : Watched W) (answer : Result ℕ RunFault) : Type 0 where
     pub before : Watched F
     pub after : Watched F
     pub opened : IsOpened may_open path before
-    pub runs : ExplainsFile remaining contents options before after out out_after answer
+    pub runs : FindsFault remaining contents path before after out out_after answer
 
-  -- a comparison of the streams that were opened at the two paths
-  pub record ComparesAt (first second : List ℕ) (options : SearchOptions) (out out_after : Watched W)
-      (answer : Result ℕ RunFault) : Type 0 where
-    pub left : Watched F
-    pub left_after : Watched F
-    pub right : Watched F
-    pub right_after : Watched F
-    pub left_opened : IsOpened may_open first left
-    pub right_opened : IsOpened may_open second right
-    pub runs : Compares remaining remaining contents options left left_after right right_after out out_after answer
-
-  -- all differences of the streams that were opened at the two paths
-  pub record DiffsAt (first second : List ℕ) (options : SearchOptions) (out out_after : Watched W)
-      (answer : Result ℕ RunFault)
-      : Type 0 where
-    pub left : Watched F
-    pub left_after : Watched F
-    pub right : Watched F
-    pub right_after : Watched F
-    pub left_opened : IsOpened may_open first left
-    pub right_opened : IsOpened may_open second right
-    pub runs : DiffsFiles remaining remaining contents options left left_after right right_after out out_after answer
+-- a run on the streams that were opened at the two paths, where `Runs` is its contract
+pub record RunsAtBoth {F : Type 0} (may_open : List ℕ → F → Type 0) (first second : List ℕ)
+    (Runs : Watched F → Watched F → Watched F → Watched F → Type 0) : Type 0 where
+  pub left : Watched F
+  pub left_after : Watched F
+  pub right : Watched F
+  pub right_after : Watched F
+  pub left_opened : IsOpened may_open first left
+  pub right_opened : IsOpened may_open second right
+  pub runs : Runs left left_after right right_after
 
 module _ {F W E : Type 0} (may_open : List ℕ → F → Type 0) (may_refuse : List ℕ → Unopened → Type 0)
     (remaining : F → Option (List ℕ)) (contents : W → Option (List ℕ)) (messages : E → Option (List ℕ)) where
@@ -155,45 +145,7 @@ bounded_by limits = bounded_options limits.steps limits.total
 abbrev pub options_of : Limits → SearchOptions
 options_of limits = if limits.bound then bounded_by limits else plain_options limits.steps
 
--- `terminal` says whether standard error is a terminal.
-module _ {F W E : Type 0} (may_open : List ℕ → F → Type 0) (may_refuse : List ℕ → Unopened → Type 0)
-    (remaining : F → Option (List ℕ)) (contents : W → Option (List ℕ)) (messages : E → Option (List ℕ))
-    (terminal : Bool) where
-  -- the run of each request, on its files and goods, by its searches and within its limits
-  abbrev pub RunsFor : PlainRequest → Watched W → Watched W → Watched E → Watched E → Result ℕ RunFault → Type 0
-  RunsFor (Check file) out out_after err err_after answer =
-      RunsAt may_open remaining contents file check_outcome out out_after answer × (err_after ≡ err)
-  RunsFor (Show file) out out_after err err_after answer =
-      RunsAt may_open remaining contents file show_outcome out out_after answer × (err_after ≡ err)
-  RunsFor (Value file goods limits) out out_after err err_after answer =
-      RunsAt may_open remaining contents file (value_outcome_by goods (options_of limits)) out out_after answer
-      × (err_after ≡ err)
-  RunsFor (Normalise file limits) out out_after err err_after answer =
-      RunsAt may_open remaining contents file (normalise_outcome (options_of limits)) out out_after answer ×
-      (err_after ≡ err)
-  RunsFor (Explain file limits) out out_after err err_after answer =
-      ExplainsAt may_open remaining contents file (bounded_by limits) out out_after answer × (err_after ≡ err)
-  RunsFor (Round file exact) out out_after err err_after answer =
-      RoundsAt may_open may_refuse remaining contents messages file (fine_of exact) out out_after err err_after answer
-  RunsFor (Lp file) out out_after err err_after answer =
-      RunsAt may_open remaining contents file lp_outcome out out_after answer × (err_after ≡ err)
-  RunsFor (Compare first second limits) out out_after err err_after answer =
-      ComparesAt may_open remaining contents first second (options_of limits) out out_after answer
-      × (err_after ≡ err)
-  RunsFor (Diff first second limits) out out_after err err_after answer =
-      DiffsAt may_open remaining contents first second (bounded_by limits) out out_after answer
-      × (err_after ≡ err)
-  RunsFor (Duplicates files) out out_after err err_after answer =
-      RunsOnFiles may_open may_refuse remaining messages
-      (λ paths. RunsOnPaths may_open may_refuse remaining contents messages (bounded_by files.limits)
-      (MakesGroups (ending_of files.null)) paths
-      (with_refusals (progress_of terminal files.progress))) files.paths out out_after err err_after answer
-  RunsFor (Sizes files) out out_after err err_after answer =
-      RunsOnFiles may_open may_refuse remaining messages
-      (λ paths. RunsOnPaths may_open may_refuse remaining contents messages (bounded_by files.limits)
-      (MakesTable (ending_of files.null)) paths
-      (without_refusals (progress_of terminal files.progress))) files.paths out out_after err err_after answer
-
+module _ (may_refuse : List ℕ → Unopened → Type 0) where
   -- the one of two files that cannot be opened
   abbrev pub CannotOpenPair : List ℕ → List ℕ → Which → Type 0
   CannotOpenPair first second which =
@@ -202,8 +154,10 @@ module _ {F W E : Type 0} (may_open : List ℕ → F → Type 0) (may_refuse : L
   -- the file of a request that cannot be opened; of `duplicates` and `sizes` none, as they go on with the others
   abbrev pub CannotOpenOf : PlainRequest → Which → Type 0
   CannotOpenOf (Check file) which = (which ≡ Only) × MayRefuse may_refuse file
+  CannotOpenOf (Fault file) which = (which ≡ Only) × MayRefuse may_refuse file
   CannotOpenOf (Show file) which = (which ≡ Only) × MayRefuse may_refuse file
   CannotOpenOf (Value file goods limits) which = (which ≡ Only) × MayRefuse may_refuse file
+  CannotOpenOf (Revenue file bids) which = (which ≡ Only) × MayRefuse may_refuse file
   CannotOpenOf (Normalise file limits) which = (which ≡ Only) × MayRefuse may_refuse file
   CannotOpenOf (Explain file limits) which = (which ≡ Only) × MayRefuse may_refuse file
   CannotOpenOf (Round file exact) which = (which ≡ Only) × MayRefuse may_refuse file
@@ -213,13 +167,64 @@ module _ {F W E : Type 0} (may_open : List ℕ → F → Type 0) (may_refuse : L
   CannotOpenOf (Duplicates files) which = ⊥
   CannotOpenOf (Sizes files) which = ⊥
 
+-- `terminal` says whether standard error is a terminal.
+module _ {F W E : Type 0} (may_open : List ℕ → F → Type 0) (may_refuse : List ℕ → Unopened → Type 0)
+    (remaining : F → Option (List ℕ)) (contents : W → Option (List ℕ)) (messages : E → Option (List ℕ))
+    (terminal : Bool) where
+  -- the run on many files, where `Makes` says which text is made of what became of them
+  abbrev pub RunsOnMany : (Ending → Bool → List (List ℕ × Judgement) → List ℕ → Type 0) → (Progress → Reporting)
+      → PlainFiles → Watched W → Watched W → Watched E → Watched E → Result ℕ RunFault → Type 0
+  RunsOnMany Makes reporting files out out_after err err_after answer =
+      RunsOnFiles may_open may_refuse remaining messages
+      (λ paths. RunsOnPaths may_open may_refuse remaining contents messages (bounded_by files.limits)
+      (Makes (ending_of files.null) files.all) paths (reporting (progress_of terminal files.progress))) files.paths
+      out out_after err err_after answer
+
+  -- the run of each request, on its files and goods, by its searches and within its limits
+  abbrev pub RunsFor : PlainRequest → Watched W → Watched W → Watched E → Watched E → Result ℕ RunFault → Type 0
+  RunsFor (Check file) out out_after err err_after answer =
+      RunsAt may_open remaining contents file check_outcome out out_after answer × (err_after ≡ err)
+  RunsFor (Fault file) out out_after err err_after answer =
+      FindsFaultAt may_open remaining contents file out out_after answer × (err_after ≡ err)
+  RunsFor (Show file) out out_after err err_after answer =
+      RunsAt may_open remaining contents file show_outcome out out_after answer × (err_after ≡ err)
+  RunsFor (Value file goods limits) out out_after err err_after answer =
+      RunsAt may_open remaining contents file (value_outcome_by goods (options_of limits)) out out_after answer
+      × (err_after ≡ err)
+  RunsFor (Revenue file bids) out out_after err err_after answer =
+      RunsOnBids may_open may_refuse remaining messages (λ numbers out out_after err err_after answer.
+      RunsAt may_open remaining contents file (revenue_outcome numbers) out out_after answer × (err_after ≡ err))
+      bids out out_after err err_after answer
+  RunsFor (Normalise file limits) out out_after err err_after answer =
+      RunsAt may_open remaining contents file (normalise_outcome (options_of limits)) out out_after answer ×
+      (err_after ≡ err)
+  RunsFor (Explain file limits) out out_after err err_after answer =
+      RunsAt may_open remaining contents file (explain_outcome (bounded_by limits)) out out_after answer
+      × (err_after ≡ err)
+  RunsFor (Round file exact) out out_after err err_after answer =
+      RoundsAt may_open may_refuse remaining contents messages file (fine_of exact) out out_after err err_after answer
+  RunsFor (Lp file) out out_after err err_after answer =
+      RunsAt may_open remaining contents file lp_outcome out out_after answer × (err_after ≡ err)
+  RunsFor (Compare first second limits) out out_after err err_after answer =
+      RunsAtBoth may_open first second (λ left left_after right right_after.
+      Compares remaining remaining contents (options_of limits) left left_after right right_after out out_after answer)
+      × (err_after ≡ err)
+  RunsFor (Diff first second limits) out out_after err err_after answer =
+      RunsAtBoth may_open first second (λ left left_after right right_after.
+      DiffsFiles remaining remaining contents (bounded_by limits) left left_after right right_after out out_after
+      answer) × (err_after ≡ err)
+  RunsFor (Duplicates files) out out_after err err_after answer =
+      RunsOnMany MakesGroups with_refusals files out out_after err err_after answer
+  RunsFor (Sizes files) out out_after err err_after answer =
+      RunsOnMany (λ ending all. MakesTable ending) without_refusals files out out_after err err_after answer
+
   -- the request's run answers, or a file of it cannot be opened, and then nothing was read, written or reported
   abbrev pub CarriesOut : PlainRequest → Watched W → Watched W → Watched E → Watched E → Result ℕ RequestError → Type 0
   CarriesOut request out out_after err err_after (Ok status) = RunsFor request out out_after err err_after (Ok status)
   CarriesOut request out out_after err err_after (Err (Run fault)) =
       RunsFor request out out_after err err_after (Err fault)
   CarriesOut request out out_after err err_after (Err (CannotOpen which)) =
-      CannotOpenOf request which × (out_after ≡ out) × (err_after ≡ err)
+      CannotOpenOf may_refuse request which × (out_after ≡ out) × (err_after ≡ err)
   CarriesOut request out out_after err err_after (Err (NotOpened why)) = ⊥
 
   -- the request failed; its line was reported after what its run reported, and the status is its own

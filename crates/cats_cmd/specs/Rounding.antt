@@ -14,11 +14,11 @@ use Rattle.rounding.specs.Texts.{rounded_prices, rounded_text}
 use Rattle.rounding.specs.declared.replacement.FinePrices.{FinePrices}
 use Rattle.answers.specs.RoundedLines.{rounded_line}
 use Rattle.cats_cmd.specs.Inputs.{ReadsAll, StopsReading, WantsMemoryForBytes}
-use Rattle.cats_cmd.specs.Outcomes.{Outcome, Prints}
+use Rattle.commands.specs.Outcomes.{Outcome, Prints}
 use Rattle.cats_cmd.specs.Runs.{FailsInText, WritesText}
 use Rattle.cats_cmd.specs.RequestErrors.{ReportsAll}
 use Rattle.answers.specs.declared.report.RunFault.{RunFault}
-use Rattle.answers.specs.declared.report.RunFault.TheVariants.{Refused, GoodRange, Sent}
+use Rattle.answers.specs.declared.report.RunFault.TheVariants.{Refused, GoodRange, BidRange, Sent}
 
 -- the text with its prices rounded, with status 0
 abbrev pub round_outcome : FinePrices → List ℕ → Outcome
@@ -80,5 +80,6 @@ module _ {R W E : Type 0} (remaining : R → Option (List ℕ)) (contents : W �
   Rounds old new out out_after err err_after (Err (Refused which fault)) =
       RefusesRounding old new out out_after err err_after which fault
   Rounds old new out out_after err err_after (Err (GoodRange good)) = ⊥
+  Rounds old new out out_after err err_after (Err (BidRange bid)) = ⊥
   Rounds old new out out_after err err_after (Err (Sent fault)) =
       FailsInRounding old new out out_after err err_after fault.written

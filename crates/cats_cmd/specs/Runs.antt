@@ -1,28 +1,20 @@
--- What a run writes, and the contract of a run of one file.
-use Rattle.std.specs.Prelude.{◌≡◌, ℕ, List, Option, Result, Ok, Err, Vec}
-use Rattle.std.specs.Global.{Global}
+-- What a run does: it sends what a command answers.
+use Rattle.std.specs.Prelude.{◌≡◌, ℕ, List, Option, Result, Ok, Err}
 use Rattle.bid_file.specs.Files.{PlainFile}
+use Rattle.valuation.specs.declared.search_options.SearchOptions.{SearchOptions}
 use Rattle.cats_text.specs.Streams.{SendsWhole, SendsPart}
 use Rattle.cats_text.specs.declared.stream.Watched.{Watched}
-use Rattle.canon.specs.declared.canon_fault.CanonFault.{CanonFault}
-use Rattle.canon.specs.declared.canon_fault.CanonFault.TheVariants.{Read, StepLimit, Memory}
+use Rattle.canon.specs.declared.canon_fault.CanonFault.TheVariants.{Memory}
 use Rattle.canon.specs.declared.which.Which.{Which}
-use Rattle.canon.specs.declared.which.Which.TheVariants.{Only}
-use Rattle.cats_cmd.specs.Inputs.{ReadsFrom, IsRefusedFile}
-use Rattle.cats_cmd.specs.Outcomes.{Outcome, Prints, LacksGood, ExceedsSteps}
+use Rattle.commands.specs.Commands.{Commands, text_of}
+use Rattle.commands.specs.Inputs.{StreamGives, StreamRefuses}
+use Rattle.commands.specs.Outcomes.{Outcome, Prints}
+use Rattle.commands.specs.Pairs.{Compares as ComparesFiles, Diffs}
+use Rattle.commands.specs.declared.answer.Answer.{Answer}
 use Rattle.answers.specs.declared.report.RunFault.{RunFault}
-use Rattle.answers.specs.declared.report.RunFault.TheVariants.{Refused, GoodRange, Sent}
+use Rattle.answers.specs.declared.report.RunFault.TheVariants.{Refused, GoodRange, BidRange, Sent}
 
--- ---- making a text
-
--- Making a run's whole text, when this is to come of it. Memory may be refused in place of either outcome.
-abbrev pub MakesAs : Outcome → Result (Vec ℕ Global) CanonFault → Type 0
-MakesAs outcome (Ok text) = outcome ≡ Prints 0 text.items
-MakesAs outcome (Err (Read fault)) = ⊥
-MakesAs outcome (Err (StepLimit goods)) = outcome ≡ ExceedsSteps goods.items
-MakesAs outcome (Err Memory) = Unit {0}
-
--- ---- sending it
+-- ---- sending a text
 
 module _ {W : Type 0} (contents : W → Option (List ℕ)) where
   -- Sending a run's whole text, when the run then answers this status.
@@ -30,13 +22,19 @@ module _ {W : Type 0} (contents : W → Option (List ℕ)) where
   SendsAs status text old new (Ok answer) = (answer ≡ status) × SendsWhole contents old new text
   SendsAs status text old new (Err (Refused which fault)) = ⊥
   SendsAs status text old new (Err (GoodRange good)) = ⊥
+  SendsAs status text old new (Err (BidRange bid)) = ⊥
   SendsAs status text old new (Err (Sent fault)) = SendsPart contents old new text fault.written
 
-  -- Making a text and sending it, or a file's text by pages, when the run then answers this status. Memory may be
-  -- refused, and then nothing is written; it belongs to this one of the inputs.
+  -- Sending a text, or a file's text by pages, when the run then answers this status. Memory may be refused, and then
+  -- nothing is written; it belongs to this one of the inputs.
   abbrev pub SendsMadeAs : Which → ℕ → List ℕ → Watched W → Watched W → Result ℕ RunFault → Type 0
   SendsMadeAs whose status text old new (Err (Refused which fault)) = (which ≡ whose) × (fault ≡ Memory) × (new ≡ old)
   SendsMadeAs whose status text old new answer = SendsAs status text old new answer
+
+  -- Sending what a command answered. If that is a fault, the run answers it too, and nothing is written.
+  abbrev pub SendsAnswer : Which → Result Answer RunFault → Watched W → Watched W → Result ℕ RunFault → Type 0
+  SendsAnswer whose (Ok answer) old new sent = SendsMadeAs whose answer.status (text_of answer.output) old new sent
+  SendsAnswer whose (Err fault) old new sent = (sent ≡ Err fault) × (new ≡ old)
 
 -- ---- what a run wrote, when `Reads` says what was read and `outcome` what is made of it
 
@@ -58,30 +56,55 @@ module _ {A W : Type 0} (contents : W → Option (List ℕ)) (Reads : A → Type
     pub made : outcome given ≡ Prints status text
     pub sent : SendsPart contents old new text written
 
-  -- a good that was named is missing, and nothing was written
-  pub record MissesGood (old new : Watched W) (good : ℕ) : Type 0 where
-    pub given : A
-    pub reads : Reads given
-    pub made : outcome given ≡ LacksGood good
-    pub silent : new ≡ old
+-- ---- a run of a command, when `Answers` is the command's contract
+
+module _ {W : Type 0} (contents : W → Option (List ℕ)) (Answers : Result Answer RunFault → Type 0) where
+  -- the command answered a text, with this status, and the whole text was written
+  pub record WritesAnswer (old new : Watched W) (status : ℕ) : Type 0 where
+    pub answer : Answer
+    pub answers : Answers (Ok answer)
+    pub is_status : status ≡ answer.status
+    pub sent : SendsWhole contents old new (text_of answer.output)
+
+  -- the command answered a text, and the output failed in it
+  pub record FailsInAnswer (old new : Watched W) (written : ℕ) : Type 0 where
+    pub answer : Answer
+    pub answers : Answers (Ok answer)
+    pub sent : SendsPart contents old new (text_of answer.output) written
+
+  -- the contract of such a run, from its output before to that after. If the command answered a fault, nothing was
+  -- written
+  abbrev pub RunsCommand : Watched W → Watched W → Result ℕ RunFault → Type 0
+  RunsCommand old new (Ok status) = WritesAnswer old new status
+  RunsCommand old new (Err (Refused which fault)) = Answers (Err (Refused which fault)) × (new ≡ old)
+  RunsCommand old new (Err (GoodRange good)) = Answers (Err (GoodRange good)) × (new ≡ old)
+  RunsCommand old new (Err (BidRange bid)) = Answers (Err (BidRange bid)) × (new ≡ old)
+  RunsCommand old new (Err (Sent fault)) = FailsInAnswer old new fault.written
 
 -- ---- a run of one file, of which `outcome` says what it makes
 
 module _ {R W : Type 0} (remaining : R → Option (List ℕ)) (contents : W → Option (List ℕ))
     (outcome : PlainFile → Outcome) where
-  -- the file was refused, and nothing was written
-  pub record RefusesFile (before after : Watched R) (old new : Watched W) (which : Which) (fault : CanonFault)
-      : Type 0 where
-    pub only : which ≡ Only
-    pub refused : IsRefusedFile remaining outcome before after fault
-    pub silent : new ≡ old
-
-  -- the contract of such a run, from its input and its output before to those after it
   abbrev pub RunsOnFile : Watched R → Watched R → Watched W → Watched W → Result ℕ RunFault → Type 0
-  RunsOnFile before after old new (Ok status) =
-      WritesText contents (ReadsFrom remaining before after) outcome old new status
-  RunsOnFile before after old new (Err (Refused which fault)) = RefusesFile before after old new which fault
-  RunsOnFile before after old new (Err (GoodRange good)) =
-      MissesGood contents (ReadsFrom remaining before after) outcome old new good
-  RunsOnFile before after old new (Err (Sent fault)) =
-      FailsInText contents (ReadsFrom remaining before after) outcome old new fault.written
+  RunsOnFile before after old new answer =
+      RunsCommand contents (Commands (StreamGives remaining) (StreamRefuses remaining) outcome before after) old new
+      answer
+
+-- ---- a run of two files
+
+module _ {R S W : Type 0} (remaining_first : R → Option (List ℕ)) (remaining_second : S → Option (List ℕ))
+    (contents : W → Option (List ℕ)) (options : SearchOptions) (first first_after : Watched R)
+    (second second_after : Watched S) where
+  -- a comparison
+  abbrev pub Compares : Watched W → Watched W → Result ℕ RunFault → Type 0
+  Compares old new answer =
+      RunsCommand contents (ComparesFiles (StreamGives remaining_first) (StreamRefuses remaining_first)
+      (StreamGives remaining_second) (StreamRefuses remaining_second) options first first_after second second_after)
+      old new answer
+
+  -- all differences
+  abbrev pub DiffsFiles : Watched W → Watched W → Result ℕ RunFault → Type 0
+  DiffsFiles old new answer =
+      RunsCommand contents (Diffs (StreamGives remaining_first) (StreamRefuses remaining_first)
+      (StreamGives remaining_second) (StreamRefuses remaining_second) options first first_after second second_after)
+      old new answer

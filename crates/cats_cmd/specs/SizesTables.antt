@@ -13,7 +13,7 @@ use Rattle.cats_cmd.specs.Escaping.{end_of, path_text}
 use Rattle.cats_cmd.specs.Paths.{Judgement, IsJudged, IsHeavy, IsUnjudged, request_error_of}
 use Rattle.cats_cmd.specs.RequestErrors.{line_of_request_error}
 use Rattle.cats_cmd.specs.declared.paths.Ending.{Ending}
-use Rattle.cats_cmd.specs.declared.program.RequestError.{RequestError}
+use Rattle.cats_cmd.specs.declared.errors.RequestError.{RequestError}
 
 -- whether some bid has the dummy good d
 abbrev pub has_dummy : List PlainBid → ℕ → Bool

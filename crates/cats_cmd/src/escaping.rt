@@ -6,7 +6,7 @@ ghost use Rattle.cats_cmd.specs.Escaping.{code_at, end_of, escaped, escaped_behi
 ghost use Rattle.cats_cmd.specs.Escaping.{low_bits, path_text, plain_length};
 
 use crate::paths::Ending;
-use std::alloc::AllocError;
+use std::alloc::{AllocError, Global};
 
 /// Puts a path behind the text as it is printed on standard output, with its end.
 pub(crate) fn push_path(text: &mut Vec<u8>, path: &[u8], ending: Ending) -> Result<(), AllocError>
@@ -47,6 +47,15 @@ pub(crate) fn escape_into(path: &[u8], text: &mut Vec<u8>) -> Result<(), AllocEr
         rest = behind;
     }
     Ok(())
+}
+
+/// A path, or a word, as it is printed on a line.
+pub(crate) fn escaped(alloc: Global, path: &[u8]) -> Result<Vec<u8>, AllocError>
+    ensures { IfOk result (λ text. text.items ≡ escaped path.now) }
+{
+    let mut text = Vec::new(alloc);
+    escape_into(path, &mut text)?;
+    Ok(text)
 }
 
 /// Puts the first of these bytes behind the text, of which `left` are of a character that is not escaped. Answers how

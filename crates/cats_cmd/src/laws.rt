@@ -1,21 +1,23 @@
 //! Laws of what the runs read and print.
 
 ghost use Rattle.std.specs.List.{All};
-ghost use Rattle.std.specs.Prelude.{◌≡◌, ◌==◌, ℕ, List, [], filter, map, false};
+ghost use Rattle.std.specs.Prelude.{◌≡◌, ◌==◌, ℕ, Bool, List, [], filter, map, false};
 ghost use Rattle.answers.specs.DiffTexts.{diff_text};
 ghost use Rattle.answers.specs.DifferenceTexts.{difference_text};
 ghost use Rattle.answers.specs.ExplanationTexts.{explanation_text};
 ghost use Rattle.answers.specs.Outputs.{check_text};
-ghost use Rattle.bid_file.specs.Files.{IsPlainFile, PlainFile};
+ghost use Rattle.bid_file.specs.Files.{PlainFile};
 ghost use Rattle.canon.specs.Difference.{Difference};
 ghost use Rattle.differences.specs.Differences.{PlainDifferences};
-ghost use Rattle.explain.specs.Reasons.{Explains, PlainReason};
+ghost use Rattle.explain.specs.Reasons.{PlainReason};
+ghost use Rattle.cats_text.specs.FaultPlaces.{PlainPlace};
+ghost use Rattle.winners.specs.AllocationVerdicts.{allocation_text};
 ghost use Rattle.winners.specs.LpTexts.{lp_text};
-ghost use Rattle.cats_cmd.specs.ValueTexts.{value_text};
+ghost use Rattle.winners.specs.declared.allocation_verdict.AllocationVerdict.{AllocationVerdict};
+ghost use Rattle.commands.specs.ValueTexts.{value_text};
 ghost use Rattle.cats_cmd.specs.Escaping.{AreBytes, IsTextOf, escaped, is_control_byte, is_printable, is_shown, unescaped};
-ghost use Rattle.cats_cmd.specs.DuplicateTexts.{duplicates_text, groups_of, is_repeated};
-ghost use Rattle.cats_cmd.specs.Explanations.{explain_outcome};
-ghost use Rattle.cats_cmd.specs.Outcomes.{Prints};
+ghost use Rattle.cats_cmd.specs.DuplicateTexts.{duplicates_text, groups_of, is_printed};
+ghost use Rattle.cats_cmd.specs.FindingFaults.{text_of_place};
 ghost use Rattle.cats_cmd.specs.OutputPaths.{IsPath, groups_in, paths_in_table};
 ghost use Rattle.cats_cmd.specs.PathLists.{listed, paths_in};
 ghost use Rattle.cats_cmd.specs.Paths.{Judgement, progress_line, refusal_line, report_lines, without_refusals};
@@ -24,7 +26,7 @@ ghost use Rattle.cats_cmd.specs.SizesTables.{MakesTable};
 ghost use Rattle.cats_cmd.specs.declared.paths.Ending.{Ending};
 ghost use Rattle.cats_cmd.specs.declared.paths.Ending.TheVariants.{Line};
 ghost use Rattle.cats_cmd.specs.declared.paths.Progress.TheVariants.{Silent};
-ghost use Rattle.cats_cmd.specs.declared.program.RequestError.{RequestError};
+ghost use Rattle.cats_cmd.specs.declared.errors.RequestError.{RequestError};
 
 /// The paths in a text that lists some paths are these: any paths without NUL can be listed.
 pub fn listed_paths_are_read_back()
@@ -47,8 +49,8 @@ pub fn printed_lines_are_shown()
     ensures refusals { (path : List ℕ) (error : RequestError) → AreBytes path → IsTextOf is_shown (refusal_line path error) }
     ensures progress { (number count : ℕ) (path : List ℕ) → AreBytes path
         → IsTextOf is_shown (progress_line number count path) }
-    ensures groups { (found : List (List ℕ × ℕ)) → All (λ f. AreBytes f.0) found
-        → IsTextOf is_shown (duplicates_text Line found) }
+    ensures groups { (all : Bool) (found : List (List ℕ × ℕ)) → All (λ f. AreBytes f.0) found
+        → IsTextOf is_shown (duplicates_text Line all found) }
     ensures tables { (judgements : List (List ℕ × Judgement)) (text : List ℕ) → All (λ j. AreBytes j.0) judgements
         → MakesTable Line judgements text → IsTextOf is_shown text }
 {}
@@ -59,23 +61,20 @@ pub fn printed_answers_are_shown()
     ensures check { (file : PlainFile) → IsTextOf is_shown (check_text file) }
     ensures value { (file : PlainFile) (goods : List ℕ) → IsTextOf is_shown (value_text file goods) }
     ensures lp { (file : PlainFile) → IsTextOf is_shown (lp_text file) }
+    ensures revenue { (verdict : AllocationVerdict) → IsTextOf is_shown (allocation_text verdict) }
+    ensures fault { (path : List ℕ) (place : PlainPlace) → AreBytes path → AreBytes place.text
+        → IsTextOf is_shown (text_of_place path place) }
     ensures compare { (difference : Difference) → IsTextOf is_shown (difference_text difference) }
     ensures explain { (file : PlainFile) (reasons : List PlainReason) → IsTextOf is_shown (explanation_text file reasons) }
     ensures diff { (left right : PlainFile) (differences : PlainDifferences)
         → IsTextOf is_shown (diff_text left right differences) }
 {}
 
-/// The reasons that `cats explain` prints are true.
-pub fn printed_reasons_are_true()
-    ensures { (file : PlainFile) (text : List ℕ) → IsPlainFile file → explain_outcome file ≡ Prints 0 text
-        → (reasons : List PlainReason) × Explains file reasons × (text ≡ explanation_text file reasons) }
-{}
-
 /// The text of `cats duplicates` has the paths of each group: its lines between each two that are empty, with NUL at the
-/// end of each or unescaped, are the paths of an auction that two or more files are.
+/// end of each or unescaped, are the paths of an auction that two or more files are, or with `all` of any.
 pub fn groups_are_read_back()
-    ensures { (ending : Ending) (found : List (List ℕ × ℕ)) → All (λ f. IsPath f.0) found
-        → groups_in ending (duplicates_text ending found) ≡ filter is_repeated (groups_of found) }
+    ensures { (ending : Ending) (all : Bool) (found : List (List ℕ × ℕ)) → All (λ f. IsPath f.0) found
+        → groups_in ending (duplicates_text ending all found) ≡ filter (is_printed all) (groups_of found) }
 {}
 
 /// The table of `cats sizes` has all paths, also of the files that were refused: what is behind the cells of each row below

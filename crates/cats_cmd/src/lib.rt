@@ -1,46 +1,41 @@
 //! The runs of the program `cats`. Each reads bid files, makes its text and sends it.
 #![tactic(auto)]
 
+mod bid_list;
 mod bytes;
-mod check;
-mod compare;
-mod diff;
 mod duplicates;
+mod errors;
 mod escaping;
-mod explanation;
+mod fault;
 pub mod laws;
 mod lines;
-mod lp;
 mod many_files;
-mod normalise;
+mod one_file;
 mod path_list;
 mod paths;
 mod program;
 mod round;
 mod run;
 mod searches;
-mod show;
 mod sizes;
 mod source;
+mod two_files;
 mod usage;
-mod value;
 pub mod worked;
 
 pub use answers::{NO_MEMORY, RunFault, WRONG_USAGE, fault_line, status};
 pub use canon::{CanonFault, Which};
-pub use check::run_check;
-pub use compare::{run_compare, run_compare_by};
-pub use diff::run_diff;
 pub use duplicates::run_duplicates;
-pub use explanation::run_explain;
-pub use lp::run_lp;
-pub use normalise::{run_normalise, run_normalise_by};
+pub use fault::run_fault;
+pub use one_file::{
+    run_check, run_explain, run_lp, run_normalise, run_normalise_by, run_revenue, run_show,
+    run_value, run_value_by,
+};
 pub use paths::{Ending, ManyFiles, Progress};
 pub use program::{Process, run_cats, run_program};
 pub use round::run_round;
 pub use rounding::FinePrices;
-pub use show::run_show;
 pub use sizes::run_sizes;
 pub use source::{Source, SystemFiles, Unopened};
+pub use two_files::{run_compare, run_compare_by, run_diff};
 pub use valuation::SearchOptions;
-pub use value::{run_value, run_value_by};

@@ -2,95 +2,88 @@
 
 ghost use Rattle.std.specs.Prelude.{◌≡◌, ◌∷◌, [], IfErr, IfOk, false};
 ghost use Rattle.cats_text.specs.Streams.{has_failed};
-ghost use Rattle.command_line.specs.PlainRequests.{plain_paths};
-ghost use Rattle.cats_cmd.specs.Duplicates.{MakesGroups};
-ghost use Rattle.cats_cmd.specs.FileLists.{IsUnread, ReadsList, RunsOnFiles};
+ghost use Rattle.command_line.specs.PlainRequests.{plain_files};
+ghost use Rattle.cats_cmd.specs.FileLists.{IsUnread, ReadsList};
+ghost use Rattle.cats_cmd.specs.Internal.Carrying.{many_files};
 ghost use Rattle.cats_cmd.specs.Opening.{Opens};
 ghost use Rattle.cats_cmd.specs.Openings.{OpensFiles, status_of_run};
-ghost use Rattle.cats_cmd.specs.Paths.{RunsOnPaths, refusal_line, with_refusals, without_refusals};
-ghost use Rattle.cats_cmd.specs.SizesTables.{MakesTable};
+ghost use Rattle.cats_cmd.specs.Paths.{refusal_line};
+ghost use Rattle.cats_cmd.specs.Requests.{RunsOnMany};
 ghost use Rattle.cats_cmd.specs.RequestErrors.{Reports, status_of_request_error};
 
 use crate::bytes::read_bytes;
-use crate::duplicates::run_duplicates;
+use crate::errors::{RequestError, status_of};
 use crate::path_list::split_paths;
-use crate::paths::{ManyFiles, open_file, report_refusal};
-use crate::program::{RequestError, status_of};
-use crate::sizes::run_sizes;
+use crate::paths::{
+    Collection, Ending, ManyFiles, Progress, open_file, report_refusal, run_on_paths,
+};
+use crate::searches::bounded_search;
 use crate::source::Source;
 use answers::RunFault;
 use cats_text::Watched;
-use command_line::FilePaths;
+use command_line::{FilePaths, FilesRequest};
 use std::alloc::AllocGlobal;
 use std::io::Write;
 
-/// `run_duplicates` on the files of a request. A list that is not read is reported as a file that is not judged.
-pub(crate) fn run_duplicates_of<S: Source + AllocGlobal, W: Write, E: Write>(
+/// The run on the files of a request. A list that is not read is reported as a file that is not judged.
+pub(crate) fn run_on_files<C: Collection, S: Source + AllocGlobal, W: Write, E: Write>(
     source: &mut S,
-    files: &FilePaths<'_>,
-    many: ManyFiles,
+    files: &FilesRequest<'_>,
+    terminal: bool,
     out: &mut Watched<W>,
     err: &mut Watched<E>,
 ) -> Result<u8, RunFault>
     requires { has_failed out.old ≡ false }
-    ensures runs { RunsOnFiles (S.may_open (S.content_of source.old)) (S.may_refuse (S.content_of source.old))
-        S.Stream.remaining E.contents
-        (λ paths. RunsOnPaths (S.may_open (S.content_of source.old)) (S.may_refuse (S.content_of source.old))
-        S.Stream.remaining W.contents E.contents many.options (MakesGroups many.ending) paths (with_refusals many.progress))
-        (plain_paths files.now) out.old out.new err.old err.new result }
-    ensures opens { OpensFiles S.content_of S.opened S.may_open S.may_refuse S.Stream.remaining (plain_paths files.now)
+    ensures runs { RunsOnMany (S.may_open (S.content_of source.old)) (S.may_refuse (S.content_of source.old))
+        S.Stream.remaining W.contents E.contents terminal C.Makes
+        (λ progress. record { refusals = C.refusals; progress = progress }) (plain_files files.now) out.old out.new
+        err.old err.new result }
+    ensures opens { OpensFiles S.content_of S.opened S.may_open S.may_refuse S.Stream.remaining (plain_files files.now).paths
         source.old source.new (status_of_run result) }
 {
-    let list = match files {
+    let many = many_files(files, terminal);
+    let list = match &files.paths {
         FilePaths::Given(paths) => {
-            return run_duplicates(source, paths.as_slice(), many, out, err);
+            return run_on_paths::<C, S, W, E>(source, paths.as_slice(), many, out, err);
         }
         FilePaths::ListedIn(list) => list,
     };
     match read_list(source, list) {
         Ok(text) => {
             let paths = split_paths(source.alloc(), text.as_slice())?;
-            run_duplicates(source, paths.as_slice(), many, out, err)
+            run_on_paths::<C, S, W, E>(source, paths.as_slice(), many, out, err)
         }
         Err(error) => Ok(refuse_list(list, &error, err)),
     }
 }
 
-/// `run_sizes` on the files of a request. A list that is not read is reported on `err`.
-pub(crate) fn run_sizes_of<S: Source + AllocGlobal, W: Write, E: Write>(
-    source: &mut S,
-    files: &FilePaths<'_>,
-    many: ManyFiles,
-    out: &mut Watched<W>,
-    err: &mut Watched<E>,
-) -> Result<u8, RunFault>
-    requires { has_failed out.old ≡ false }
-    ensures runs { RunsOnFiles (S.may_open (S.content_of source.old)) (S.may_refuse (S.content_of source.old))
-        S.Stream.remaining E.contents
-        (λ paths. RunsOnPaths (S.may_open (S.content_of source.old)) (S.may_refuse (S.content_of source.old))
-        S.Stream.remaining W.contents E.contents many.options (MakesTable many.ending) paths
-        (without_refusals many.progress))
-        (plain_paths files.now) out.old out.new err.old err.new result }
-    ensures opens { OpensFiles S.content_of S.opened S.may_open S.may_refuse S.Stream.remaining (plain_paths files.now)
-        source.old source.new (status_of_run result) }
+/// How a run on many files reads them and reports.
+fn many_files(files: &FilesRequest<'_>, terminal: bool) -> ManyFiles
+    ensures { result ≡ many_files terminal (plain_files files.now) }
 {
-    let list = match files {
-        FilePaths::Given(paths) => {
-            return run_sizes(source, paths.as_slice(), many, out, err);
-        }
-        FilePaths::ListedIn(list) => list,
+    let ending = if files.null {
+        Ending::Null
+    } else {
+        Ending::Line
     };
-    match read_list(source, list) {
-        Ok(text) => {
-            let paths = split_paths(source.alloc(), text.as_slice())?;
-            run_sizes(source, paths.as_slice(), many, out, err)
-        }
-        Err(error) => Ok(refuse_list(list, &error, err)),
+    let progress = match (terminal, files.progress) {
+        (_, false) => Progress::Silent,
+        (true, true) => Progress::Terminal,
+        (false, true) => Progress::Lines,
+    };
+    ManyFiles {
+        options: bounded_search(&files.limits),
+        progress,
+        ending,
+        all: files.all,
     }
 }
 
-/// Reads the list of paths in the file at this path.
-fn read_list<S: Source + AllocGlobal>(source: &mut S, list: &str) -> Result<Vec<u8>, RequestError>
+/// Reads the list in the file at this path.
+pub(crate) fn read_list<S: Source + AllocGlobal>(
+    source: &mut S,
+    list: &str,
+) -> Result<Vec<u8>, RequestError>
     ensures read { IfOk result (λ text. ReadsList (S.may_open (S.content_of source.old))
         (S.may_refuse (S.content_of source.old)) S.Stream.remaining list.now text.items) }
     ensures unread { IfErr result (IsUnread (S.may_open (S.content_of source.old)) (S.may_refuse (S.content_of source.old))
@@ -108,7 +101,7 @@ fn read_list<S: Source + AllocGlobal>(source: &mut S, list: &str) -> Result<Vec<
 }
 
 /// Reports why the list at this path was not read, and answers the status.
-fn refuse_list<E: Write>(list: &str, error: &RequestError, err: &mut Watched<E>) -> u8
+pub(crate) fn refuse_list<E: Write>(list: &str, error: &RequestError, err: &mut Watched<E>) -> u8
     ensures reports { Reports E.contents (refusal_line list.now error.now) err.old err.new }
     ensures status { result ≡ status_of_request_error error.now }
 {

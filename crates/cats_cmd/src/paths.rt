@@ -1,7 +1,7 @@
 //! The loop over many files. They are judged one after the other, and a text is made of all.
 
-ghost use Rattle.std.specs.Prelude.{◌≡◌, ◌++◌, ℕ, List, Option, [], ◌∷◌, map, IfErr, IfOk, OnOk, codes, decimal, false};
-ghost use Rattle.std.specs.Prelude.{true};
+ghost use Rattle.std.specs.Prelude.{◌≡◌, ◌++◌, ℕ, Bool, List, Option, [], ◌∷◌, map, IfErr, IfOk, OnOk, codes, decimal};
+ghost use Rattle.std.specs.Prelude.{true, false};
 ghost use Rattle.cats_text.specs.Streams.{has_ended, has_failed};
 ghost use Rattle.cats_cmd.specs.Inputs.{IsOpened};
 ghost use Rattle.cats_cmd.specs.Opening.{Opens, OpensEach, openable};
@@ -13,11 +13,11 @@ ghost use Rattle.cats_cmd.specs.RequestErrors.{Reports, ReportsAll};
 ghost use Rattle.cats_cmd.specs.Internal.Judging.{AddsFile, AddsJudgement, AddsPathAs, AddsOpened, HasSome, JudgesAllAs};
 ghost use Rattle.cats_cmd.specs.declared.paths.Ending.{Ending};
 ghost use Rattle.cats_cmd.specs.declared.paths.Progress.TheVariants.{Lines};
-ghost use Rattle.cats_cmd.specs.declared.program.RequestError.{RequestError};
-ghost use Rattle.cats_cmd.specs.declared.program.RequestError.TheVariants.{NotOpened};
+ghost use Rattle.cats_cmd.specs.declared.errors.RequestError.{RequestError};
+ghost use Rattle.cats_cmd.specs.declared.errors.RequestError.TheVariants.{NotOpened};
 
+use crate::errors::{RequestError, report_error, status_of};
 use crate::lines::{report, report_escaped, report_number};
-use crate::program::{RequestError, report_error, status_of};
 use crate::run::send_text;
 use crate::source::{Source, Unopened};
 use answers::{DONE, RunFault};
@@ -33,6 +33,8 @@ pub struct ManyFiles {
     pub options: SearchOptions,
     pub progress: Progress,
     pub ending: Ending,
+    /// Whether `duplicates` prints the files too that are the only ones of their auction.
+    pub all: bool,
 }
 
 /// How it is reported how many files were read.
@@ -67,10 +69,10 @@ struct Turn<'a> {
 const REMOVAL: &str = "\x1b[A\x1b[K";
 
 /// What a run makes of the files at some paths, which are judged one after the other.
-pub(crate) trait Collection<'a>: Sized + Drop {
+pub(crate) trait Collection: Sized + Drop {
     ghost has: { Ending → Self → List (List ℕ × Judgement) → Type 0 };
 
-    ghost Makes: { Ending → List (List ℕ × Judgement) → List ℕ → Type 0 };
+    ghost Makes: { Ending → Bool → List (List ℕ × Judgement) → List ℕ → Type 0 };
 
     ghost refusals: { List ℕ → Option RequestError → List (List ℕ) };
 
@@ -82,7 +84,7 @@ pub(crate) trait Collection<'a>: Sized + Drop {
     fn add<R: Read>(
         &mut self,
         alloc: Global,
-        path: &'a [u8],
+        path: &[u8],
         input: &mut Watched<R>,
         many: ManyFiles,
     ) -> Result<Option<RequestError>, AllocError>
@@ -96,7 +98,7 @@ pub(crate) trait Collection<'a>: Sized + Drop {
     fn add_unopened(
         &mut self,
         alloc: Global,
-        path: &'a [u8],
+        path: &[u8],
         why: Unopened,
         ending: Ending,
     ) -> Result<(), AllocError>
@@ -107,10 +109,10 @@ pub(crate) trait Collection<'a>: Sized + Drop {
         ensures { ReportsAll E.contents (refusals path.now error.now) err.old err.new };
 
     /// The text of all.
-    fn text(&self, alloc: Global, ending: Ending) -> Result<Vec<u8>, AllocError>
-        requires { HasSome (has ending) self.now }
-        ensures { (judgements : List (List ℕ × Judgement)) → has ending self.now judgements
-            → IfOk result (λ text. Makes ending judgements text.items) };
+    fn text(&self, alloc: Global, many: ManyFiles) -> Result<Vec<u8>, AllocError>
+        requires { HasSome (has many.ending) self.now }
+        ensures { (judgements : List (List ℕ × Judgement)) → has many.ending self.now judgements
+            → IfOk result (λ text. Makes many.ending many.all judgements text.items) };
 }
 
 /// Judges the files at these paths, one after the other, and sends the text that is made of them.
@@ -118,9 +120,9 @@ pub(crate) trait Collection<'a>: Sized + Drop {
 /// A file that cannot be judged is reported on `err` at once, unless the text says it, and the others go on; with
 /// `progress`, it is reported there after each hundredth file, and after the last, how many were read. The status is 0 if
 /// every file was judged, and else the greatest of the statuses of those that were not.
-pub(crate) fn run_on_paths<'a, C: Collection<'a>, S: Source + AllocGlobal, W: Write, E: Write>(
+pub(crate) fn run_on_paths<C: Collection, S: Source + AllocGlobal, W: Write, E: Write>(
     source: &mut S,
-    paths: &[&'a [u8]],
+    paths: &[&[u8]],
     many: ManyFiles,
     out: &mut Watched<W>,
     err: &mut Watched<E>,
@@ -128,22 +130,22 @@ pub(crate) fn run_on_paths<'a, C: Collection<'a>, S: Source + AllocGlobal, W: Wr
     requires { has_failed out.old ≡ false }
     ensures runs { RunsOnPaths (S.may_open (S.content_of source.old))
         (S.may_refuse (S.content_of source.old)) S.Stream.remaining W.contents E.contents many.options
-        (C.Makes many.ending) (map (λ path. path.now) paths.now)
+        (C.Makes many.ending many.all) (map (λ path. path.now) paths.now)
         (record { refusals = C.refusals; progress = many.progress }) out.old out.new err.old err.new result }
     ensures opens { OpensEach S.content_of S.opened (map (λ path. path.now) paths.now) source.old source.new
         (status_of_run result) }
 {
     let mut collection = C::none(source.alloc());
     let greatest = judge_all(source, &mut collection, paths, many, err)?;
-    let text = collection.text(source.alloc(), many.ending)?;
+    let text = collection.text(source.alloc(), many)?;
     send_text(out, greatest, text.as_slice())
 }
 
 /// Judges the files at these paths, and answers the greatest status.
-fn judge_all<'a, C: Collection<'a>, S: Source + AllocGlobal, E: Write>(
+fn judge_all<C: Collection, S: Source + AllocGlobal, E: Write>(
     source: &mut S,
     collection: &mut C,
-    paths: &[&'a [u8]],
+    paths: &[&[u8]],
     many: ManyFiles,
     err: &mut Watched<E>,
 ) -> Result<u8, AllocError>
@@ -170,10 +172,10 @@ fn judge_all<'a, C: Collection<'a>, S: Source + AllocGlobal, E: Write>(
 }
 
 /// Judges the file at a path, reports it, and answers its status.
-fn judge_path<'a, C: Collection<'a>, S: Source + AllocGlobal, E: Write>(
+fn judge_path<C: Collection, S: Source + AllocGlobal, E: Write>(
     source: &mut S,
     collection: &mut C,
-    turn: &Turn<'a>,
+    turn: &Turn<'_>,
     many: ManyFiles,
     err: &mut Watched<E>,
 ) -> Result<u8, AllocError>
@@ -199,10 +201,10 @@ fn status_if(error: &Option<RequestError>) -> u8
 }
 
 /// Judges the file at a path, and answers why it is not judged.
-fn judge<'a, C: Collection<'a>, S: Source + AllocGlobal>(
+fn judge<C: Collection, S: Source + AllocGlobal>(
     source: &mut S,
     collection: &mut C,
-    path: &'a [u8],
+    path: &[u8],
     many: ManyFiles,
 ) -> Result<Option<RequestError>, AllocError>
     ensures adds { IfOk result (AddsFile (C.has many.ending) (S.may_open (S.content_of source.old))
@@ -259,9 +261,9 @@ pub(crate) fn report_refusal<E: Write>(err: &mut Watched<E>, path: &[u8], error:
 }
 
 /// Reports why the file at a path was not judged, unless the text of all says it, and how many files were read.
-fn report_path<'a, C: Collection<'a>, E: Write>(
+fn report_path<C: Collection, E: Write>(
     progress: Progress,
-    turn: &Turn<'a>,
+    turn: &Turn<'_>,
     error: &Option<RequestError>,
     err: &mut Watched<E>,
 )

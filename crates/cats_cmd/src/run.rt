@@ -1,33 +1,15 @@
-//! What the runs share. They read a file, report why it was refused, and send a text or a file.
+//! What the runs share. They send a text, or what a command answers.
 
 ghost use Rattle.std.specs.Prelude.{◌≡◌, false};
-ghost use Rattle.cats_text.specs.Layout.{layout};
-ghost use Rattle.cats_text.specs.Streams.{has_ended, has_failed};
-ghost use Rattle.canon.specs.declared.which.Which.TheVariants.{Only};
-ghost use Rattle.cats_cmd.specs.Inputs.{ReadsInput};
-ghost use Rattle.cats_cmd.specs.Runs.{SendsAs, SendsMadeAs};
+ghost use Rattle.cats_text.specs.Streams.{has_failed};
+ghost use Rattle.cats_cmd.specs.Runs.{SendsAnswer, SendsAs};
 
-use answers::{DONE, RunFault};
-use bid_file::PackedFile;
-use canon::CanonFault;
-use cats_text::{Watched, read_packed_from, send, send_file};
-use std::alloc::Global;
-use std::io::{Read, Write};
-
-/// Reads a bid file. If memory is refused to the reader, the run answers that memory was refused.
-pub(crate) fn read_packed_file<R: Read>(
-    alloc: Global,
-    input: &mut Watched<R>,
-) -> Result<PackedFile, CanonFault>
-    requires works { has_failed input.old ≡ false }
-    requires fresh { has_ended input.old ≡ false }
-    ensures { ReadsInput R.remaining input.old input.new result }
-{
-    match read_packed_from(alloc, input) {
-        Ok(file) => Ok(file),
-        Err(fault) => Err(CanonFault::from(fault)),
-    }
-}
+use answers::RunFault;
+use canon::{CanonFault, Which};
+use cats_text::{Watched, send, send_file};
+use commands::{Answer, Output};
+use std::alloc::{AllocError, Global};
+use std::io::Write;
 
 /// Sends a run's whole text, and then answers its status.
 pub(crate) fn send_text<W: Write>(
@@ -44,17 +26,25 @@ pub(crate) fn send_text<W: Write>(
     }
 }
 
-/// Sends the text of a file, as `cats_text::write` has it, a page at a time, and then answers that the run is done.
-pub(crate) fn send_packed_file<W: Write>(
+/// Sends what a command answered: a text whole, or the text of a file a page at a time. Memory that is refused for a page
+/// belongs to `whose`.
+pub(crate) fn send_answer<W: Write>(
     alloc: Global,
     out: &mut Watched<W>,
-    file: &PackedFile,
+    answer: Result<Answer, RunFault>,
+    whose: Which,
 ) -> Result<u8, RunFault>
     requires { has_failed out.old ≡ false }
-    ensures { SendsMadeAs W.contents Only 0 (layout file.now) out.old out.new result }
+    ensures { SendsAnswer W.contents whose answer out.old out.new result }
 {
-    match send_file(alloc, out, file)? {
-        Ok(()) => Ok(DONE),
-        Err(fault) => Err(RunFault::Sent(fault)),
+    let answer = answer?;
+    let file = match &answer.output {
+        Output::Text(text) => return send_text(out, answer.status, text.as_slice()),
+        Output::File(file) => file,
+    };
+    match send_file(alloc, out, file) {
+        Ok(Ok(())) => Ok(answer.status),
+        Ok(Err(fault)) => Err(RunFault::Sent(fault)),
+        Err(AllocError) => Err(RunFault::Refused(whose, CanonFault::Memory)),
     }
 }

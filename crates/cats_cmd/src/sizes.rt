@@ -12,14 +12,14 @@ ghost use Rattle.cats_cmd.specs.Openings.{status_of_run};
 ghost use Rattle.cats_cmd.specs.Paths.{RunsOnPaths, without_refusals};
 ghost use Rattle.cats_cmd.specs.SizesTables.{MakesTable, fault_cell};
 
+use crate::errors::{RequestError, error_line};
 use crate::escaping::{push_end, push_path};
 use crate::paths::{Collection, Ending, ManyFiles, run_on_paths};
-use crate::program::{RequestError, error_line};
-use crate::run::read_packed_file;
 use crate::source::{Source, Unopened};
 use answers::RunFault;
 use canon::{CanonFault, normal_packed_file};
 use cats_text::Watched;
+use commands::Input;
 use count::{push_counts, push_sizes};
 use std::alloc::{AllocError, AllocGlobal, Global};
 use std::io::{Read, Write};
@@ -36,17 +36,17 @@ const NO_COUNTS: &str = "\t\t\t";
 
 /// The rows of the paths so far.
 #[derive(Drop)]
-struct Table {
+pub(crate) struct Table {
     rows: Vec<u8>,
 }
 
-impl<'a> Collection<'a> for Table {
+impl Collection for Table {
     ghost use Rattle.std.specs.Prelude.{◌≡◌, []};
     ghost use Rattle.cats_cmd.specs.SizesTables.{MakesTable, rows_of_table};
 
     ghost has = { λ ending table judgements. table.rows.items ≡ rows_of_table ending judgements };
 
-    ghost Makes = { MakesTable };
+    ghost Makes = { λ ending all. MakesTable ending };
 
     ghost refusals = { λ path error. [] };
 
@@ -59,7 +59,7 @@ impl<'a> Collection<'a> for Table {
     fn add<R: Read>(
         &mut self,
         alloc: Global,
-        path: &'a [u8],
+        path: &[u8],
         input: &mut Watched<R>,
         many: ManyFiles,
     ) -> Result<Option<RequestError>, AllocError> {
@@ -73,7 +73,7 @@ impl<'a> Collection<'a> for Table {
     fn add_unopened(
         &mut self,
         alloc: Global,
-        path: &'a [u8],
+        path: &[u8],
         why: Unopened,
         ending: Ending,
     ) -> Result<(), AllocError> {
@@ -89,9 +89,9 @@ impl<'a> Collection<'a> for Table {
         _err: &mut Watched<E>,
     ) {}
 
-    fn text(&self, alloc: Global, ending: Ending) -> Result<Vec<u8>, AllocError> {
+    fn text(&self, alloc: Global, many: ManyFiles) -> Result<Vec<u8>, AllocError> {
         let mut text = Vec::from_slice(alloc, HEADER.as_bytes())?;
-        push_end(&mut text, ending)?;
+        push_end(&mut text, many.ending)?;
         text.extend_from_slice(self.rows.as_slice())?;
         Ok(text)
     }
@@ -109,11 +109,11 @@ fn push_numbers<R: Read>(
     requires fresh { has_ended input.old ≡ false }
     ensures { IfOk result (PutsNumbers R.remaining options text.old.items text.new.items input.old input.new) }
 {
-    let file = match read_packed_file(alloc, input) {
+    let file = match input.read_file(alloc) {
         Ok(file) => file,
         Err(fault) => {
             text.extend_from_slice(NO_NUMBERS.as_bytes())?;
-            return Ok(Some(RequestError::Run(RunFault::from(fault))));
+            return Ok(Some(RequestError::Run(RunFault::from(CanonFault::from(fault)))));
         }
     };
     let mut sizes = Vec::new(alloc);

@@ -5,7 +5,7 @@ ghost use Rattle.std.specs.Prelude.{◌≡◌};
 ghost use Rattle.command_line.specs.Requests.{IsNoRequestOf, texts_of};
 ghost use Rattle.cats_cmd.specs.Requests.{misuse_text};
 
-use crate::escaping::escape_into;
+use crate::escaping::escaped;
 use command_line::{Misuse, NoRequest, parse};
 use std::alloc::{AllocError, Global};
 
@@ -30,11 +30,11 @@ pub(crate) fn with_escaped_words(
 
 /// What `clap` prints of these words if each is escaped as a path.
 fn escaped_usage(alloc: Global, version: &str, words: &[&str]) -> Result<String, AllocError> {
-    let mut escaped = Vec::new(alloc);
+    let mut shown = Vec::new(alloc);
     for word in words {
-        escaped.push(escaped_word(alloc, word)?)?;
+        shown.push(escaped_word(alloc, word)?)?;
     }
-    let words: Vec<&str> = escaped.iter().map(|word| word.as_str()).collect(alloc)?;
+    let words: Vec<&str> = shown.iter().map(|word| word.as_str()).collect(alloc)?;
     // no text of the help is in what `clap` prints of a wrong line
     match parse(alloc, version, &[], words.as_slice()) {
         Err(NoRequest::WrongUsage(text)) => Ok(text),
@@ -44,9 +44,7 @@ fn escaped_usage(alloc: Global, version: &str, words: &[&str]) -> Result<String,
 }
 
 fn escaped_word(alloc: Global, word: &str) -> Result<String, AllocError> {
-    let mut bytes = Vec::new(alloc);
-    escape_into(word.as_bytes(), &mut bytes)?;
-    String::from_utf8_lossy(alloc, bytes.as_slice())
+    String::from_utf8_lossy(alloc, escaped(alloc, word.as_bytes())?.as_slice())
 }
 
 /// Why a line is wrong whose words its subcommand takes.
@@ -63,8 +61,14 @@ pub(crate) fn misuse_text(misuse: Misuse) -> &'static str
         Misuse::MoreThanTwoFiles => {
             "error: this command takes two files\n\nFor more information, try '--help'.\n"
         }
+        Misuse::BidsTwice => {
+            "error: give bids, or '--bids <LIST>', and not both\n\nFor more information, try '--help'.\n"
+        }
         Misuse::UnboundedTotal => {
             "error: '--total-steps <N>' needs '--bound'\n\nFor more information, try '--help'.\n"
+        }
+        Misuse::WrongGoods => {
+            "error: goods are numbers and ranges, as in '0,2-5'\n\nFor more information, try '--help'.\n"
         }
         Misuse::WrongFiles => {
             "error: give paths, or '--files0-from <LIST>', and not both\n\nFor more information, try '--help'.\n"

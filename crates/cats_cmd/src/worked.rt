@@ -1,25 +1,10 @@
 //! Worked examples of what the runs print. The prover computes them.
 
-ghost use Rattle.std.specs.Prelude.{◌≡◌, ◌++◌, ℕ, [], ◌∷◌, map, codes, Vec, Ok, Err, Some, None, true, false};
+ghost use Rattle.std.specs.Prelude.{◌≡◌, ℕ, [], ◌∷◌, map, codes, Vec, Ok, Err, Some, None, true, false};
 ghost use Rattle.std.specs.Global.{Global};
-ghost use Rattle.cats_text.specs.declared.read_fault.Kind.TheVariants.{
-  TwoDummies,
-  NoEnd,
-  TooLong,
-  Device,
-  Memory as NoMemory,
-};
-ghost use Rattle.canon.specs.Difference.{NoDifference, InGoods, InOr, InXor};
-ghost use Rattle.canon.specs.declared.verdict.Side.TheVariants.{Exactly, Below};
-ghost use Rattle.valuation.specs.Examples.{atom};
-ghost use Rattle.explain.specs.Reasons.{Keep, Zero, Same, Inside, Packing};
-ghost use Rattle.answers.specs.DifferenceTexts.{difference_text};
-ghost use Rattle.cats_cmd.specs.Examples.{larger_bid, xor_ladder};
-ghost use Rattle.cats_cmd.specs.Outcomes.{LacksGood, ExceedsSteps, Prints, check_outcome, lp_outcome, show_outcome};
-ghost use Rattle.cats_cmd.specs.Outcomes.{value_outcome};
-ghost use Rattle.answers.specs.Outputs.{bundle_text, sizes_text};
-ghost use Rattle.cats_cmd.specs.ValueTexts.{bundle_from};
-ghost use Rattle.answers.specs.FaultLines.{line_of_fault};
+ghost use Rattle.cats_text.specs.declared.read_fault.Kind.TheVariants.{TwoDummies};
+ghost use Rattle.commands.specs.Examples.{larger_bid, xor_ladder};
+ghost use Rattle.commands.specs.Outcomes.{Prints};
 ghost use Rattle.cats_text.specs.Examples.{known, watched};
 ghost use Rattle.cats_cmd.specs.DuplicateTexts.{duplicates_text};
 ghost use Rattle.cats_cmd.specs.Escaping.{escaped};
@@ -31,47 +16,16 @@ ghost use Rattle.cats_cmd.specs.declared.paths.Progress.TheVariants.{Silent, Lin
 ghost use Rattle.cats_cmd.specs.Paths.{IsHeavy, IsJudged, IsUnjudged, greatest_status, progress_lines, report_lines};
 ghost use Rattle.cats_cmd.specs.Paths.{with_refusals, without_refusals};
 ghost use Rattle.cats_cmd.specs.SizesTables.{MakesTable, counts_of, row, sizes_of};
-ghost use Rattle.answers.specs.RoundedLines.{rounded_line};
 ghost use Rattle.cats_cmd.specs.Rounding.{round_outcome};
 ghost use Rattle.rounding.specs.declared.replacement.FinePrices.TheVariants.{Round};
 ghost use Rattle.cats_cmd.specs.Runs.{SendsMadeAs};
 ghost use Rattle.cats_cmd.specs.RequestErrors.{Reports, line_of_request_error};
-ghost use Rattle.cats_cmd.specs.declared.program.RequestError.TheVariants.{CannotOpen, NotOpened, Run};
+ghost use Rattle.cats_cmd.specs.declared.errors.RequestError.TheVariants.{CannotOpen, NotOpened, Run};
 ghost use Rattle.cats_cmd.specs.declared.source.Unopened.TheVariants.{NoSuchFile, PermissionDenied, IsFolder, NotAFile};
 ghost use Rattle.cats_cmd.specs.declared.source.Unopened.TheVariants.{Other};
-ghost use Rattle.answers.specs.Statuses.{status_of_difference, status_of_differences, status_of_fault};
-ghost use Rattle.canon.specs.declared.which.Which.TheVariants.{Only, First, Second, Both};
-ghost use Rattle.canon.specs.declared.canon_fault.CanonFault.TheVariants.{Read, StepLimit, Memory};
-ghost use Rattle.answers.specs.declared.report.RunFault.TheVariants.{Refused, GoodRange, Sent};
-
-/// What `cats check` and `cats show` make of files.
-pub fn sizes_and_layouts()
-    ensures check { check_outcome xor_ladder ≡ Prints 0 (codes "goods 2 bids 3 dummy 1\n") }
-    ensures show { show_outcome xor_ladder
-        ≡ Prints 0 (codes "goods 2\nbids 3\ndummy 1\n0\t5\t0\t2\t#\n1\t1.5\t1\t#\n2\t6\t0\t1\t2\t#\n") }
-{}
-
-/// What `cats lp` makes of two files, of which the second has no bids.
-pub fn lp_texts()
-    ensures shared { lp_outcome xor_ladder
-        ≡ Prints 0 (codes "Maximize\n revenue:\n + 5 x0\n + 1.5 x1\n + 6 x2\nSubject To\n"
-        ++ codes " g0:\n + x0\n + x2\n <= 1\n g1:\n + x1\n + x2\n <= 1\n d0:\n + x0\n + x2\n <= 1\n"
-        ++ codes "Binary\n x0\n x1\n x2\nEnd\n") }
-    ensures empty { lp_outcome (record { goods = 2; dummy = 1; bids = [] })
-        ≡ Prints 0 (codes "Maximize\n revenue:\n + 0 none\nSubject To\n none:\n + none\n <= 1\nBinary\n none\nEnd\n") }
-{}
-
-/// What `cats value` makes of two files.
-pub fn values()
-    ensures best_packing { value_outcome (1 ∷ 0 ∷ 1 ∷ []) 5 larger_bid ≡ Prints 0 (codes "or 7 2\n") }
-    ensures one_good { value_outcome (1 ∷ []) 2 larger_bid ≡ Prints 0 (codes "or 4 1\n") }
-    ensures step_limit { value_outcome (1 ∷ 0 ∷ []) 4 larger_bid ≡ ExceedsSteps (0 ∷ 1 ∷ []) }
-    ensures missing { value_outcome (0 ∷ 3 ∷ 2 ∷ []) 0 larger_bid ≡ LacksGood 3 }
-    ensures both { value_outcome (0 ∷ 1 ∷ []) 2 xor_ladder ≡ Prints 0 (codes "or 1.5 1\nxor 2 6 2\n") }
-    ensures first { value_outcome (0 ∷ []) 1 xor_ladder ≡ Prints 0 (codes "or 0\nxor 2 5 0\n") }
-    ensures none_inside { value_outcome [] 1 xor_ladder ≡ Prints 0 (codes "or 0\nxor 2 0\n") }
-    ensures bundle { bundle_from (3 ∷ 1 ∷ 3 ∷ 0 ∷ []) ≡ 0 ∷ 1 ∷ 3 ∷ [] }
-{}
+ghost use Rattle.canon.specs.declared.which.Which.TheVariants.{Only, First};
+ghost use Rattle.canon.specs.declared.canon_fault.CanonFault.TheVariants.{Read, Memory};
+ghost use Rattle.answers.specs.declared.report.RunFault.TheVariants.{Refused, Sent};
 
 /// The line of a file that cannot be opened: of the only one, of the first of two, and of one of many.
 pub fn unopened_lines()
@@ -108,12 +62,15 @@ pub fn paths_reported()
 /// The text of `cats duplicates` of two auctions with two files each and one with one, with LF at the end of each line
 /// and with NUL. A backslash is escaped on a line.
 pub fn groups_printed()
-    ensures lines { duplicates_text Line ((codes "a", 0) ∷ (codes "b", 1) ∷ (codes "\\c", 0) ∷ (codes "d", 3) ∷
+    ensures lines { duplicates_text Line false ((codes "a", 0) ∷ (codes "b", 1) ∷ (codes "\\c", 0) ∷ (codes "d", 3) ∷
         (codes "e", 1) ∷ [])
         ≡ codes "a\n\\\\c\n\nb\ne\n" }
-    ensures nulls { duplicates_text Null ((codes "a", 0) ∷ (codes "b", 1) ∷ (codes "\\c", 0) ∷ (codes "d", 3) ∷
+    ensures nulls { duplicates_text Null false ((codes "a", 0) ∷ (codes "b", 1) ∷ (codes "\\c", 0) ∷ (codes "d", 3) ∷
         (codes "e", 1) ∷ [])
         ≡ 97 ∷ 0 ∷ 92 ∷ 99 ∷ 0 ∷ 0 ∷ 98 ∷ 0 ∷ 101 ∷ 0 ∷ [] }
+    ensures all { duplicates_text Line true ((codes "a", 0) ∷ (codes "b", 1) ∷ (codes "\\c", 0) ∷ (codes "d", 3) ∷
+        (codes "e", 1) ∷ [])
+        ≡ codes "a\n\\\\c\n\nb\ne\n\nd\n" }
 {}
 
 /// Paths as they are printed on a line. Printable characters stay: U+E9, U+20AC, U+1F642, U+2027 and U+10FFFF.

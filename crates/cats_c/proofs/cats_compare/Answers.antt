@@ -1,10 +1,11 @@
+use Rattle.std.proofs.Common.{subst}
 use Rattle.valuation.specs.declared.search_options.SearchOptions.{SearchOptions}
-use Rattle.cats_calls.specs.Refusals.{OfTwo}
-use Rattle.cats_calls.specs.TwoTexts.{ComparesTexts}
-use Rattle.cats_c.proofs.Limits.{given_within}
+use Rattle.cats_calls.specs.TwoTexts.{CompareCalls}
+use Rattle.cats_calls.proofs.Given.{given_compare}
 use Rattle.cats_c.proofs.cats_compare.Goals as goal
 
 pub returns : goal.returns
 returns c =
-    given_within (λ (o : SearchOptions). ComparesTexts o c.args.left.now c.args.right.now) (λ (o : SearchOptions). OfTwo o c.args.left.now c.args.right.now)
-    c.args.steps c.args.total _ c.total_of.ensures c.compare-answer.result c.compare-answer.ensures _ _ _ _ c.give.ensures
+    subst (λ (o : SearchOptions). CompareCalls o c.args.left.now c.args.right.now c.args.out.now
+    c.give.new.out c.give.new.needed c.give.result) c.options_of-options.ensures
+    (given_compare c.options_of-options.result _ _ _ _ c.compare-answer.result c.compare-answer.ensures _ _ _ _ c.give.ensures)

@@ -1,10 +1,12 @@
-use Rattle.valuation.specs.declared.search_options.SearchOptions.{SearchOptions}
-use Rattle.cats_calls.specs.OneText.{ExplainsText}
-use Rattle.cats_calls.specs.Refusals.{IsUnmade, OfOnly}
-use Rattle.cats_c.proofs.Limits.{given_within}
+use Rattle.std.proofs.Common.{Option, ℕ, subst}
+use Rattle.valuation.specs.SearchLimits.{bounded_options}
+use Rattle.commands.specs.Outcomes.{explain_outcome}
+use Rattle.cats_calls.specs.OneText.{CallsOn}
+use Rattle.cats_calls.proofs.Given.{given_call}
 use Rattle.cats_c.proofs.cats_explain.Goals as goal
 
 pub returns : goal.returns
 returns c =
-    given_within (λ (o : SearchOptions). ExplainsText o c.args.text.now) (λ (o : SearchOptions). OfOnly (IsUnmade o c.args.text.now))
-    c.args.steps c.args.total _ c.total_of.ensures c.explain_text-answer.result c.explain_text-answer.ensures _ _ _ _ c.give.ensures
+    subst (λ (total : Option ℕ). CallsOn (explain_outcome (bounded_options c.args.steps total)) c.args.text.now c.args.out.now
+    c.give.new.out c.give.new.needed c.give.result) c.total_of.ensures
+    (given_call (explain_outcome (bounded_options c.args.steps c.total_of.result)) _ _ c.explain-answer.result c.explain-answer.ensures _ _ _ _ c.give.ensures)

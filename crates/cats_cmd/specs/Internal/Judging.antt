@@ -9,7 +9,7 @@ use Rattle.cats_cmd.specs.Opening.{Opens, OpensFirst, openable}
 use Rattle.cats_cmd.specs.Paths.{BeginsPaths, Judgement, Judges, JudgesPaths, JudgesStream, greatest_status}
 use Rattle.cats_cmd.specs.Paths.{Reporting, lines_of_path, request_error_of, status_of_judgement}
 use Rattle.cats_cmd.specs.RequestErrors.{ReportsAll}
-use Rattle.cats_cmd.specs.declared.program.RequestError.{RequestError}
+use Rattle.cats_cmd.specs.declared.errors.RequestError.{RequestError}
 use Rattle.cats_cmd.specs.declared.source.Unopened.{Unopened}
 
 -- what `cats duplicates` keeps: an index of the files that were judged, and what was found of them

@@ -4,7 +4,7 @@ use Rattle.cats_text.specs.declared.stream.Watched.{Watched}
 use Rattle.valuation.specs.declared.search_options.SearchOptions.{SearchOptions}
 use Rattle.cats_cmd.specs.Paths.{Judgement, JudgesStream, request_error_of}
 use Rattle.cats_cmd.specs.SizesTables.{cells, number_columns}
-use Rattle.cats_cmd.specs.declared.program.RequestError.{RequestError}
+use Rattle.cats_cmd.specs.declared.errors.RequestError.{RequestError}
 
 -- the stream was judged: the cells of its numbers were put behind a text, and this is why it was not
 pub record PutsNumbers {F : Type 0} (remaining : F → Option (List ℕ)) (options : SearchOptions) (old new : List ℕ)

@@ -14,30 +14,37 @@ use crate::escaping::{push_end, push_path};
 use crate::paths::Ending;
 use std::alloc::{AllocError, Global};
 
-/// For each auction that two or more of the files are, their paths, each on a line, and an empty line between two
-/// auctions. If each path ends with NUL, one more NUL is in the place of the empty line. With each path is given the place
-/// of the first file of its auction.
+/// For each auction that two or more of the files are, or with `all` for each auction, their paths, each on a line, and an
+/// empty line between two auctions. If each path ends with NUL, one more NUL is in the place of the empty line. With each
+/// path is given the place of the first file of its auction.
 pub(super) fn duplicates_text(
     alloc: Global,
-    found: &[(&[u8], usize)],
+    found: &[(Vec<u8>, usize)],
     ending: Ending,
+    all: bool,
 ) -> Result<Vec<u8>, AllocError>
     requires { All (λ f. f.1 < length found.now) found.now }
-    ensures { IfOk result (λ text. text.items ≡ duplicates_text ending (found_paths found.now)) }
+    ensures { IfOk result (λ text. text.items ≡ duplicates_text ending all (found_paths found.now)) }
 {
     let groups = group_by_place(alloc, found)?;
     let mut text = Vec::new(alloc);
     for group in &groups {
-        push_group(&mut text, group.as_slice(), ending)?;
+        push_group(&mut text, group.as_slice(), ending, all)?;
     }
     Ok(text)
 }
 
-/// Puts the lines of a group of two or more behind the text, with an empty line, or one more NUL, between them.
-fn push_group(text: &mut Vec<u8>, paths: &[&[u8]], ending: Ending) -> Result<(), AllocError>
-    ensures { OnOk result (text.new.items ≡ with_group ending text.old.items (map (λ path. path.now) paths.now)) }
+/// Puts the lines of a group behind the text, if it is printed, with an empty line, or one more NUL, between them.
+fn push_group(
+    text: &mut Vec<u8>,
+    paths: &[&[u8]],
+    ending: Ending,
+    all: bool,
+) -> Result<(), AllocError>
+    ensures { OnOk result (text.new.items ≡ with_group ending all text.old.items (map (λ path. path.now) paths.now)) }
 {
-    if paths.len() < 2 {
+    let least = if all { 1 } else { 2 };
+    if paths.len() < least {
         return Ok(());
     }
     if !text.is_empty() {
@@ -49,7 +56,7 @@ fn push_group(text: &mut Vec<u8>, paths: &[&[u8]], ending: Ending) -> Result<(),
 /// The paths of the files for each place.
 fn group_by_place<'a>(
     alloc: Global,
-    found: &[(&'a [u8], usize)],
+    found: &'a [(Vec<u8>, usize)],
 ) -> Result<Vec<Vec<&'a [u8]>>, AllocError>
     requires { All (λ f. f.1 < length found.now) found.now }
     ensures { IfOk result (λ groups. plain_groups groups.items ≡ groups_of (found_paths found.now)) }
@@ -57,7 +64,7 @@ fn group_by_place<'a>(
     let mut groups = empty_groups(alloc, found.len())?;
     for (path, place) in found {
         let group = &mut groups[*place];
-        group.push(*path)?;
+        group.push(path.as_slice())?;
     }
     Ok(groups)
 }

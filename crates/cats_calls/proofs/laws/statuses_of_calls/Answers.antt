@@ -1,26 +1,41 @@
+-- What holds of the statuses of outcomes and of faults, and of 6, holds of the status that a call gives.
 use Rattle.std.proofs.Common.{◌≡◌, ◌≢◌, ◌<◌, ◌≤◌, ◌==◌, ℕ, ◌⊎◌, inl, inr, ⊎_elim, Bool, true, false, if◌then◌else◌, List, [], ◌∷◌, length, Contains}
-use Rattle.std.proofs.Common.{Option, Some, IfSome, refl, sym, ap, subst, arith}
+use Rattle.std.proofs.Common.{Option, Some, None, IfSome, Result, Ok, Err, refl, sym, ap, subst, arith}
+use Rattle.bid_file.specs.Files.{PlainFile}
+use Rattle.cats_text.specs.FaultPlaces.{PlainPlace, first_place}
 use Rattle.cats_text.specs.Faults.{first_fault}
 use Rattle.cats_text.specs.declared.read_fault.Kind.{Kind}
 use Rattle.cats_text.specs.declared.read_fault.Kind.TheVariants.{Device, Memory as NoMemory}
 use Rattle.cats_text.specs.declared.read_fault.ReadFault.{ReadFault}
 use Rattle.cats_text.proofs.Texts.FaultKinds.{IsFaultOfBytes, first_fault-of_bytes}
+use Rattle.valuation.specs.Auctions.{auction_from, or_atoms_of}
 use Rattle.valuation.specs.Lemmas.Lists.{le_or_lt}
 use Rattle.valuation.specs.declared.search_options.SearchOptions.{SearchOptions}
-use Rattle.canon.specs.Difference.{Difference, NoDifference}
+use Rattle.prune.specs.SearchSteps.{first_refused}
+use Rattle.canon.specs.Difference.{Difference, NoDifference, first_difference}
 use Rattle.canon.specs.declared.canon_fault.CanonFault.{CanonFault}
 use Rattle.canon.specs.declared.canon_fault.CanonFault.TheVariants.{Read, StepLimit, Memory}
-use Rattle.canon.specs.declared.which.Which.{Which}
 use Rattle.canon.specs.declared.which.Which.TheVariants.{Only, First, Second, Both}
 use Rattle.rounding.specs.Texts.{rounded_text}
 use Rattle.rounding.specs.declared.replacement.FinePrices.{FinePrices}
 use Rattle.differences.specs.Differences.{is_none_at_all}
-use Rattle.answers.specs.Statuses.{status_of_canon_fault, status_of_difference, status_of_read_fault}
+use Rattle.winners.specs.AllocationVerdicts.{allocation_verdict}
+use Rattle.winners.specs.declared.allocation_verdict.AllocationVerdict.{AllocationVerdict}
+use Rattle.winners.specs.declared.allocation_verdict.AllocationVerdict.TheVariants.{Revenue, SharedGood, SharedBidder}
+use Rattle.answers.specs.Statuses.{status_of_canon_fault, status_of_difference, status_of_fault, status_of_read_fault}
+use Rattle.answers.specs.declared.report.RunFault.{RunFault}
+use Rattle.answers.specs.declared.report.RunFault.TheVariants.{Refused, GoodRange, BidRange, Sent}
+use Rattle.commands.specs.Outcomes.{Outcome, Prints, LacksGood, LacksBid, ExceedsSteps, exceeds_limits, explain_outcome}
+use Rattle.commands.specs.Outcomes.{explanation_unless_refused, missing_good}
+use Rattle.commands.specs.Outcomes.{normalise_outcome, outcome_unless, text_unless_refused, value_outcome_by, values_unless}
+use Rattle.commands.specs.Outcomes.{check_outcome, lp_outcome, outcome_of_verdict, revenue_outcome, show_outcome}
+use Rattle.commands.specs.ValueTexts.{bundle_from}
 use Rattle.cats_calls.specs.Buffers.{Calls, PutsInto, RefusesBy}
-use Rattle.cats_calls.specs.OneText.{ChecksText, ExplainsText, NormalisesText}
-use Rattle.cats_calls.specs.Refusals.{IsUnmade, IsUnread, OfOnly, OfTwo, text_fault}
+use Rattle.cats_calls.specs.FaultCalls.{FaultCalls, IsUnplaced, SaysPlace, outcome_of_place}
+use Rattle.cats_calls.specs.OneText.{CallsOn, IsRefusedText, IsUnmade, MakesOf, OfOnly, PrintsOf}
+use Rattle.cats_calls.specs.Refusals.{text_fault}
 use Rattle.cats_calls.specs.Roundings.{IsUnrounded, RoundCalls, RoundsText}
-use Rattle.cats_calls.specs.TwoTexts.{ComparesTexts, DiffsTexts}
+use Rattle.cats_calls.specs.TwoTexts.{CompareCalls, ComparesTexts, DiffCalls, DiffsTexts, IsRefusedOfTwo}
 use Rattle.cats_calls.specs.declared.buffer.TheConstants.{TOO_SMALL}
 use Rattle.cats_calls.proofs.Refusing.{text_fault-of_bytes}
 use Rattle.cats_calls.proofs.laws.statuses_of_calls.Goals as goal
@@ -34,11 +49,13 @@ found_status found why of_bytes is = by why.kind (subst (λ (fault : Option Read
     by NoMemory h = absurd (h.1 refl)
     by kind h = refl
 
--- What holds of the statuses of a call's texts and faults, and of 6, holds of the status that it gives.
-module _ (P : ℕ → Type 0) (zero : P 0) (two : P 2) (four : P 4) (six : P 6) where
-  of_zero : (status : ℕ) → status ≡ 0 → P status
-  of_zero status is = subst P (sym is) zero
+abbrev status_in : Outcome → ℕ
+status_in (Prints status text) = status
+status_in (LacksGood good) = 64
+status_in (LacksBid bid) = 64
+status_in (ExceedsSteps goods) = 3
 
+module _ (P : ℕ → Type 0) (zero : P 0) (two : P 2) (four : P 4) (six : P 6) where
   by_test : (test : Bool) (a b : ℕ) → P a → P b → P (if test then a else b)
   by_test true a b p q = p
   by_test false a b p q = q
@@ -48,12 +65,12 @@ module _ (P : ℕ → Type 0) (zero : P 0) (two : P 2) (four : P 4) (six : P 6) 
       ⊎_elim (λ (h : length text ≤ length old). subst P (sym (puts.fits h).0) p) (λ (h : length old < length text). subst P (sym (puts.small h).0) six)
       (le_or_lt (length text) (length old))
 
-  refused_by : (Refuses : Which → CanonFault → Type 0) → ((which : Which) (fault : CanonFault) → Refuses which fault → P (status_of_canon_fault fault))
+  refused_by : (Refuses : RunFault → Type 0) → ((fault : RunFault) → Refuses fault → P (status_of_fault fault))
       → (status : ℕ) (text : List ℕ) (needed : ℕ) → RefusesBy Refuses status text needed → P status
-  refused_by Refuses refused status text needed r = subst P (sym r.is_status) (refused r.which r.fault r.refused)
+  refused_by Refuses refused status text needed r = subst P (sym r.is_status) (refused r.fault r.refused)
 
-  called : (Says : ℕ → List ℕ → Type 0) (Refuses : Which → CanonFault → Type 0) → ((status : ℕ) (text : List ℕ) → Says status text → P status)
-      → ((which : Which) (fault : CanonFault) → Refuses which fault → P (status_of_canon_fault fault))
+  called : (Says : ℕ → List ℕ → Type 0) (Refuses : RunFault → Type 0) → ((status : ℕ) (text : List ℕ) → Says status text → P status)
+      → ((fault : RunFault) → Refuses fault → P (status_of_fault fault))
       → (old new : List ℕ) (needed status : ℕ) → Calls Says Refuses old new needed status → P status
   called Says Refuses said refused old new needed status c = put c.status c.text old new status (by c.is) c.puts
     where
@@ -62,51 +79,101 @@ module _ (P : ℕ → Type 0) (zero : P 0) (two : P 2) (four : P 4) (six : P 6) 
       by (inr r) = refused_by Refuses refused c.status c.text needed r
 
   of_only : (Refuses : CanonFault → Type 0) → ((fault : CanonFault) → Refuses fault → P (status_of_canon_fault fault))
-      → (which : Which) (fault : CanonFault) → OfOnly Refuses which fault → P (status_of_canon_fault fault)
-  of_only Refuses h Only fault r = h fault r
-  of_only Refuses h which fault r = absurd r
+      → (fault : RunFault) → OfOnly Refuses fault → P (status_of_fault fault)
+  of_only Refuses h (Refused Only fault) r = h fault r
+  of_only Refuses h fault r = absurd r
 
-  -- ---- a text is read
+  -- ---- one text
 
-  unread : (text : List ℕ) (fault : CanonFault) → IsUnread text fault → P (status_of_canon_fault fault)
-  unread text (Read why) h = subst P (sym (found_status (text_fault text) why (text_fault-of_bytes text) h)) two
-  unread text (StepLimit goods) h = absurd h
-  unread text Memory h = four
+  module _ (outcome : PlainFile → Outcome) (of_file : (file : PlainFile) → P (status_in (outcome file))) (text : List ℕ) where
+    made : (expected : Outcome) → MakesOf outcome text expected → P (status_in expected)
+    made expected m = subst (λ (o : Outcome). P (status_in o)) m.made (of_file m.file)
 
-  checked : (text old new : List ℕ) (needed status : ℕ) → Calls (ChecksText text) (OfOnly (IsUnread text)) old new needed status → P status
-  checked text = called (ChecksText text) (OfOnly (IsUnread text)) (λ status out says. of_zero status says.is_status) (of_only (IsUnread text) (unread text))
+    unmade : (fault : CanonFault) → IsUnmade outcome text fault → P (status_of_canon_fault fault)
+    unmade (Read why) h = subst P (sym (found_status (text_fault text) why (text_fault-of_bytes text) h)) two
+    unmade (StepLimit goods) h = made (ExceedsSteps goods.items) h
+    unmade Memory h = four
 
-  -- ---- a text is made canonical
+    refused : (fault : RunFault) → IsRefusedText outcome text fault → P (status_of_fault fault)
+    refused (GoodRange good) h = made (LacksGood good) h
+    refused (BidRange bid) h = made (LacksBid bid) h
+    refused (Refused which fault) h = of_only (IsUnmade outcome text) unmade (Refused which fault) h
+    refused (Sent fault) h = absurd h
+
+    on_text : (old new : List ℕ) (needed status : ℕ) → CallsOn outcome text old new needed status → P status
+    on_text = called (PrintsOf outcome text) (IsRefusedText outcome text) (λ status out says. made (Prints status out) says) refused
+
+  -- ---- bids that are named as winners
+
+  module _ (one : P 1) (last : P 64) where
+    of_verdict : (verdict : Result AllocationVerdict ℕ) → P (status_in (outcome_of_verdict verdict))
+    of_verdict (Err bid) = last
+    of_verdict (Ok (Revenue millionths)) = zero
+    of_verdict (Ok (SharedGood i j good)) = one
+    of_verdict (Ok (SharedBidder i j dummy)) = one
+
+  -- ---- the first fault of a text
+
+  module _ (text : List ℕ) where
+    of_place : (place : Option PlainPlace) → P (status_in (outcome_of_place place))
+    of_place None = zero
+    of_place (Some place) = two
+
+    unplaced : (fault : CanonFault) → IsUnplaced text fault → P (status_of_canon_fault fault)
+    unplaced (Read why) h = subst P (sym (ap (λ (e : ReadFault). status_of_read_fault e.kind) h.1)) two
+    unplaced (StepLimit goods) h = absurd h
+    unplaced Memory h = four
+
+    placed : (old new : List ℕ) (needed status : ℕ) → FaultCalls text old new needed status → P status
+    placed = called (SaysPlace text) (OfOnly (IsUnplaced text))
+        (λ status out says. subst (λ (o : Outcome). P (status_in o)) says.1 (of_place (first_place text)))
+        (of_only (IsUnplaced text) unplaced)
+
+  -- ---- searches
 
   module _ (three : P 3) (options : SearchOptions) where
-    unmade : (text : List ℕ) (fault : CanonFault) → IsUnmade options text fault → P (status_of_canon_fault fault)
-    unmade text (Read why) h = unread text (Read why) h
-    unmade text (StepLimit goods) h = three
-    unmade text Memory h = four
+    of_normalised : (file : PlainFile) → P (status_in (normalise_outcome options file))
+    of_normalised file = by (first_refused options file.goods (or_atoms_of file.bids))
+      where
+        by : (over : Option (List ℕ)) → P (status_in (text_unless_refused file over))
+        by None = zero
+        by (Some goods) = three
 
-    made : (text : List ℕ) (Says : ℕ → List ℕ → Type 0) → ((status : ℕ) (out : List ℕ) → Says status out → status ≡ 0)
-        → (old new : List ℕ) (needed status : ℕ) → Calls Says (OfOnly (IsUnmade options text)) old new needed status → P status
-    made text Says said =
-        called Says (OfOnly (IsUnmade options text)) (λ status out says. of_zero status (said status out says)) (of_only (IsUnmade options text) (unmade text))
+    of_explained : (file : PlainFile) → P (status_in (explain_outcome options file))
+    of_explained file = by (first_refused options file.goods (or_atoms_of file.bids))
+      where
+        by : (over : Option (List ℕ)) → P (status_in (explanation_unless_refused file over))
+        by None = zero
+        by (Some goods) = three
 
-    of_two : (left right : List ℕ) (which : Which) (fault : CanonFault) → OfTwo options left right which fault → P (status_of_canon_fault fault)
-    of_two left right Only fault r = absurd r
-    of_two left right First fault r = unmade left fault r
-    of_two left right Second fault r = unmade right fault r.1
-    of_two left right Both fault r = subst P (sym (ap status_of_canon_fault r.2)) four
+    of_values : P 64 → (goods : List ℕ) (file : PlainFile) → P (status_in (value_outcome_by goods options file))
+    of_values last goods file = by (missing_good file.goods goods) (exceeds_limits (bundle_from goods) options file)
+      where
+        by : (missing : Option ℕ) (over : Bool) → P (status_in (outcome_unless missing (values_unless over (bundle_from goods) file)))
+        by (Some good) over = last
+        by None true = three
+        by None false = zero
+
+    of_two : (left right : List ℕ) (fault : RunFault) → IsRefusedOfTwo options left right fault → P (status_of_fault fault)
+    of_two left right (Refused First fault) r = unmade (normalise_outcome options) of_normalised left fault r
+    of_two left right (Refused Second fault) r = unmade (normalise_outcome options) of_normalised right fault r.1
+    of_two left right (Refused Both fault) r = subst P (sym (ap status_of_canon_fault r.2)) four
+    of_two left right fault r = absurd r
 
     module _ (one : P 1) (left right : List ℕ) where
       of_difference : (d : Difference) → P (status_of_difference d)
       of_difference NoDifference = zero
       of_difference d = one
 
-      compared : (old new : List ℕ) (needed status : ℕ) → Calls (ComparesTexts options left right) (OfTwo options left right) old new needed status → P status
-      compared = called (ComparesTexts options left right) (OfTwo options left right)
-          (λ status out says. subst P (sym says.is_status) (of_difference says.difference)) (of_two left right)
+      compared : (old new : List ℕ) (needed status : ℕ) → CompareCalls options left right old new needed status → P status
+      compared = called (ComparesTexts options left right) (IsRefusedOfTwo options left right)
+          (λ status out says. subst (λ (o : Outcome). P (status_in o)) says.made
+          (of_difference (first_difference (auction_from says.first.file) (auction_from says.second.file)))) (of_two left right)
 
-      diffed : (old new : List ℕ) (needed status : ℕ) → Calls (DiffsTexts options left right) (OfTwo options left right) old new needed status → P status
-      diffed = called (DiffsTexts options left right) (OfTwo options left right)
-          (λ status out says. subst P (sym says.is_status) (by_test (is_none_at_all says.differences) 0 1 zero one)) (of_two left right)
+      diffed : (old new : List ℕ) (needed status : ℕ) → DiffCalls options left right old new needed status → P status
+      diffed = called (DiffsTexts options left right) (IsRefusedOfTwo options left right)
+          (λ status out says. subst (λ (o : Outcome). P (status_in o)) says.made (by_test (is_none_at_all says.differences) 0 1 zero one))
+          (of_two left right)
 
   -- ---- a text is rounded
 
@@ -125,35 +192,57 @@ module _ (P : ℕ → Type 0) (zero : P 0) (two : P 2) (four : P 4) (six : P 6) 
       where
         by : ((c.status ≡ 0) × RoundsText fine text c.text c.report × (needed ≡ length c.text))
             ⊎ (RefusesBy (OfOnly (IsUnrounded fine text)) c.status c.text needed × (c.report ≡ [])) → P c.status
-        by (inl rounds) = of_zero c.status rounds.0
+        by (inl rounds) = subst P (sym rounds.0) zero
         by (inr r) = refused_by (OfOnly (IsUnrounded fine text)) (of_only (IsUnrounded fine text) unrounded) c.status c.text needed r.0
 
 -- ---- the clauses
 
-pub returns-clause-check : goal.returns-clause-check
-returns-clause-check c =
-    checked (Contains (0 ∷ 2 ∷ 4 ∷ 6 ∷ [])) (0, omega arith, refl) (1, omega arith, refl) (2, omega arith, refl) (3, omega arith, refl)
+-- of calls that do not search, of those that do, of those of a bundle, of those of bids, and of those on two texts
+abbrev Plain : ℕ → Type 0
+Plain = Contains (0 ∷ 2 ∷ 4 ∷ 6 ∷ [])
 
-pub returns-clause-normalise : goal.returns-clause-normalise
-returns-clause-normalise c options text =
-    made (Contains (0 ∷ 2 ∷ 3 ∷ 4 ∷ 6 ∷ [])) (0, omega arith, refl) (1, omega arith, refl) (3, omega arith, refl) (4, omega arith, refl)
-    (2, omega arith, refl) options text (NormalisesText options text) (λ status out says. says.is_status)
+abbrev Searched : ℕ → Type 0
+Searched = Contains (0 ∷ 2 ∷ 3 ∷ 4 ∷ 6 ∷ [])
 
-pub returns-clause-explain : goal.returns-clause-explain
-returns-clause-explain c options text =
-    made (Contains (0 ∷ 2 ∷ 3 ∷ 4 ∷ 6 ∷ [])) (0, omega arith, refl) (1, omega arith, refl) (3, omega arith, refl) (4, omega arith, refl)
-    (2, omega arith, refl) options text (ExplainsText options text) (λ status out says. says.is_status)
+abbrev Valued : ℕ → Type 0
+Valued = Contains (0 ∷ 2 ∷ 3 ∷ 4 ∷ 6 ∷ 64 ∷ [])
 
-pub returns-clause-compare : goal.returns-clause-compare
-returns-clause-compare c options =
-    compared (Contains (0 ∷ 1 ∷ 2 ∷ 3 ∷ 4 ∷ 6 ∷ [])) (0, omega arith, refl) (2, omega arith, refl) (4, omega arith, refl) (5, omega arith, refl)
-    (3, omega arith, refl) options (1, omega arith, refl)
+abbrev OfBids : ℕ → Type 0
+OfBids = Contains (0 ∷ 1 ∷ 2 ∷ 4 ∷ 6 ∷ 64 ∷ [])
 
-pub returns-clause-diff : goal.returns-clause-diff
-returns-clause-diff c options =
-    diffed (Contains (0 ∷ 1 ∷ 2 ∷ 3 ∷ 4 ∷ 6 ∷ [])) (0, omega arith, refl) (2, omega arith, refl) (4, omega arith, refl) (5, omega arith, refl)
-    (3, omega arith, refl) options (1, omega arith, refl)
+abbrev OfTwo : ℕ → Type 0
+OfTwo = Contains (0 ∷ 1 ∷ 2 ∷ 3 ∷ 4 ∷ 6 ∷ [])
 
-pub returns-clause-round : goal.returns-clause-round
-returns-clause-round c =
-    rounded (Contains (0 ∷ 2 ∷ 4 ∷ 6 ∷ [])) (0, omega arith, refl) (1, omega arith, refl) (2, omega arith, refl) (3, omega arith, refl)
+plainly : (outcome : PlainFile → Outcome) → ((file : PlainFile) → status_in (outcome file) ≡ 0)
+    → (text old new : List ℕ) (needed status : ℕ) → CallsOn outcome text old new needed status → Plain status
+plainly outcome zero =
+    on_text Plain (0, omega arith, refl) (1, omega arith, refl) (2, omega arith, refl) (3, omega arith, refl) outcome
+    (λ file. subst Plain (sym (zero file)) (0, omega arith, refl))
+
+searched : (outcome : PlainFile → Outcome) → ((file : PlainFile) → Searched (status_in (outcome file)))
+    → (text old new : List ℕ) (needed status : ℕ) → CallsOn outcome text old new needed status → Searched status
+searched = on_text Searched (0, omega arith, refl) (1, omega arith, refl) (3, omega arith, refl) (4, omega arith, refl)
+
+pub returns : goal.returns
+returns c = record {
+  check = plainly check_outcome (λ file. refl);
+  show = plainly show_outcome (λ file. refl);
+  lp = plainly lp_outcome (λ file. refl);
+  fault = placed Plain (0, omega arith, refl) (1, omega arith, refl) (2, omega arith, refl) (3, omega arith, refl);
+  revenue = λ bids. on_text OfBids (0, omega arith, refl) (2, omega arith, refl) (3, omega arith, refl) (4, omega arith, refl) (revenue_outcome bids)
+      (λ file. of_verdict OfBids (0, omega arith, refl) (2, omega arith, refl) (3, omega arith, refl) (4, omega arith, refl) (1, omega arith, refl)
+      (5, omega arith, refl) (allocation_verdict file bids));
+  normalise = λ options. searched (normalise_outcome options) (of_normalised Searched (0, omega arith, refl) (1, omega arith, refl)
+      (3, omega arith, refl) (4, omega arith, refl) (2, omega arith, refl) options);
+  explain = λ options. searched (explain_outcome options) (of_explained Searched (0, omega arith, refl) (1, omega arith, refl)
+      (3, omega arith, refl) (4, omega arith, refl) (2, omega arith, refl) options);
+  value = λ goods options.
+      on_text Valued (0, omega arith, refl) (1, omega arith, refl) (3, omega arith, refl) (4, omega arith, refl) (value_outcome_by goods options)
+      (of_values Valued (0, omega arith, refl) (1, omega arith, refl) (3, omega arith, refl) (4, omega arith, refl) (2, omega arith, refl) options
+      (5, omega arith, refl) goods);
+  compare = λ options. compared OfTwo (0, omega arith, refl) (2, omega arith, refl) (4, omega arith, refl) (5, omega arith, refl)
+      (3, omega arith, refl) options (1, omega arith, refl);
+  diff = λ options. diffed OfTwo (0, omega arith, refl) (2, omega arith, refl) (4, omega arith, refl) (5, omega arith, refl)
+      (3, omega arith, refl) options (1, omega arith, refl);
+  round = rounded Plain (0, omega arith, refl) (1, omega arith, refl) (2, omega arith, refl) (3, omega arith, refl);
+}

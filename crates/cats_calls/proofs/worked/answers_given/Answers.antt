@@ -25,3 +25,8 @@ returns-clause-memory c =
       puts = puts_whole 4 (codes "want of memory\n") (codes "................")
           refl;
     }
+
+pub returns-clause-good : goal.returns-clause-good
+unfolding digits
+returns-clause-good c =
+    record { is_needed = refl; puts = puts_whole 64 (codes "good 7 out of range\n") (codes "....................") refl }

@@ -4,7 +4,9 @@ use Rattle.cats_text.specs.Faults.{fault_at}
 use Rattle.cats_text.specs.declared.read_fault.Kind.TheVariants.{Header}
 use Rattle.canon.specs.declared.canon_fault.CanonFault.TheVariants.{Read, Memory}
 use Rattle.canon.specs.declared.which.Which.TheVariants.{Only}
-use Rattle.cats_calls.proofs.SmallTexts.{checks, puts_none, puts_whole}
+use Rattle.answers.specs.declared.report.RunFault.TheVariants.{Refused}
+use Rattle.commands.specs.Outcomes.{Prints, check_outcome}
+use Rattle.cats_calls.proofs.SmallTexts.{makes, puts_none, puts_whole}
 use Rattle.cats_calls.proofs.worked.calls_made.Goals as goal
 
 pub returns-clause-text : goal.returns-clause-text
@@ -14,8 +16,7 @@ returns-clause-text c =
       status = 0;
       text = codes "goods 2 bids 1 dummy 0\n";
       is = inl (
-        checks (codes "goods 2\nbids 1\ndummy 0\n0 3 0 #\n")
-            (codes "goods 2 bids 1 dummy 0\n") refl refl,
+        makes check_outcome (codes "goods 2\nbids 1\ndummy 0\n0 3 0 #\n") (Prints 0 (codes "goods 2 bids 1 dummy 0\n")) refl refl,
         refl,
       );
       puts = puts_whole 0 (codes "goods 2 bids 1 dummy 0\n")
@@ -29,8 +30,7 @@ returns-clause-too_small c =
       status = 0;
       text = codes "goods 2 bids 1 dummy 0\n";
       is = inl (
-        checks (codes "goods 2\nbids 1\ndummy 0\n0 3 0 #\n")
-            (codes "goods 2 bids 1 dummy 0\n") refl refl,
+        makes check_outcome (codes "goods 2\nbids 1\ndummy 0\n0 3 0 #\n") (Prints 0 (codes "goods 2 bids 1 dummy 0\n")) refl refl,
         refl,
       );
       puts = puts_none 0 (codes "goods 2 bids 1 dummy 0\n") (codes "....") refl;
@@ -43,8 +43,7 @@ returns-clause-fault c =
       status = 2;
       text = codes "line 1: Header\n";
       is = inr (record {
-        which = Only;
-        fault = Read (fault_at 1 Header);
+        fault = Refused Only (Read (fault_at 1 Header));
         refused = refl;
         is_status =
             refl;
@@ -61,8 +60,7 @@ returns-clause-memory c =
       status = 4;
       text = codes "want of memory\n";
       is = inr (record {
-        which = Only;
-        fault = Memory;
+        fault = Refused Only Memory;
         refused = inl refl;
         is_status = refl;
         is_line =

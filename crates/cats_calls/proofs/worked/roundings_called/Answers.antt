@@ -6,6 +6,7 @@ use Rattle.cats_text.specs.Faults.{fault_at}
 use Rattle.cats_text.specs.declared.read_fault.Kind.TheVariants.{TooFine}
 use Rattle.canon.specs.declared.canon_fault.CanonFault.TheVariants.{Read}
 use Rattle.canon.specs.declared.which.Which.TheVariants.{Only}
+use Rattle.answers.specs.declared.report.RunFault.TheVariants.{Refused}
 use Rattle.cats_calls.proofs.SmallTexts.{puts_none, puts_whole}
 use Rattle.cats_calls.proofs.worked.roundings_called.Goals as goal
 
@@ -68,7 +69,7 @@ returns-clause-refused c =
       status = 2;
       text = codes "line 4: TooFine\n";
       report = [];
-      is = inr (record { which = Only; fault = Read (fault_at 4 TooFine); refused = inr refl; is_status = refl; is_line = refl; is_needed = refl }, refl);
+      is = inr (record { fault = Refused Only (Read (fault_at 4 TooFine)); refused = inr refl; is_status = refl; is_line = refl; is_needed = refl }, refl);
       is_report_needed = refl;
       given = 2;
       puts = puts_whole 2 (codes "line 4: TooFine\n") (codes "................") refl;

@@ -1,4 +1,4 @@
-use Rattle.cats_cmd.proofs.AnswersShown.{check_shown, diff_shown, difference_shown, explanation_shown, lp_shown, value_shown}
+use Rattle.cats_cmd.proofs.AnswersShown.{check_shown, diff_shown, difference_shown, explanation_shown, lp_shown, place_shown, revenue_shown, value_shown}
 use Rattle.cats_cmd.proofs.laws.printed_answers_are_shown.Goals as goal
 
 pub returns-clause-check : goal.returns-clause-check
@@ -9,6 +9,12 @@ returns-clause-value c = value_shown
 
 pub returns-clause-lp : goal.returns-clause-lp
 returns-clause-lp c = lp_shown
+
+pub returns-clause-revenue : goal.returns-clause-revenue
+returns-clause-revenue c = revenue_shown
+
+pub returns-clause-fault : goal.returns-clause-fault
+returns-clause-fault c = place_shown
 
 pub returns-clause-compare : goal.returns-clause-compare
 returns-clause-compare c = difference_shown

@@ -6,15 +6,15 @@ use Rattle.cats_cmd.proofs.sizes.push_numbers.Goals as goal
 
 pub returns-in-Err : goal.returns-in-Err
 returns-in-Err g c =
-    rw c.from.ensures
+    rw (c.from-in-Err.ensures, c.from.ensures)
     (numbers_unread g.R.Read.remaining c.args.options _ _ c.args.text.now.items _
     (c.in_ok-extend_from_slice-in-Err.ensures.items ∙ ap (λ bytes. c.args.text.now.items ++ bytes) c.as_bytes.ensures.value) c.in-Err.fault
-    c.in-Err.ensures)
+    c.in-Err.ensures.answer)
 
 pub returns-in-Ok-normal_packed_file : goal.returns-in-Ok-normal_packed_file
 returns-in-Ok-normal_packed_file g c =
     let normal = c.in-Ok-normal_packed_file.ensures.answer in
-    numbers_judged g.R.Read.remaining c.args.options _ _ c.args.text.now.items _ c.in-Ok.file c.in-Ok.ensures normal.within_limit
+    numbers_judged g.R.Read.remaining c.args.options _ _ c.args.text.now.items _ c.in-Ok.file c.in-Ok.ensures.answer normal.within_limit
     (c.in_ok-push_counts-in-Ok-normal_packed_file.ensures
     ∙ ap (λ f. c.extend_from_slice-in-Ok-normal_packed_file.new.self.items ++ with_tabs (counts_of f)) normal.canonical
     ∙ ap (λ numbers. numbers ++ with_tabs (counts_of (canonical_file c.in-Ok.file)))
@@ -23,7 +23,7 @@ returns-in-Ok-normal_packed_file g c =
 
 pub returns-in-Err-StepLimit : goal.returns-in-Err-StepLimit
 returns-in-Err-StepLimit g c =
-    numbers_heavy g.R.Read.remaining c.args.options _ _ c.args.text.now.items _ c.in-Ok.file c.in-Ok.ensures c.in-Err-StepLimit.goods
+    numbers_heavy g.R.Read.remaining c.args.options _ _ c.args.text.now.items _ c.in-Ok.file c.in-Ok.ensures.answer c.in-Err-StepLimit.goods
     (rw c.in-Err-StepLimit.field-0-is at c.in-Err-StepLimit.ensures.answer)
     (c.in_ok-extend_from_slice-in-Err-StepLimit-2.ensures.items
     ∙ ap (λ bytes. c.extend_from_slice-in-Err-StepLimit.new.self.items ++ bytes) c.as_bytes-in-Err-StepLimit.ensures.value
@@ -35,6 +35,6 @@ returns-in-Err-StepLimit g c =
 pub returns : goal.returns
 returns g c =
     rw c.from-in-Err-normal_packed_file.ensures
-    (numbers_unmade g.R.Read.remaining c.args.options _ _ c.args.text.now.items _ c.in-Ok.file c.in-Ok.ensures
+    (numbers_unmade g.R.Read.remaining c.args.options _ _ c.args.text.now.items _ c.in-Ok.file c.in-Ok.ensures.answer
     (c.in_ok-extend_from_slice-in-Err-normal_packed_file.ensures.items
     ∙ ap (λ bytes. c.args.text.now.items ++ bytes) c.as_bytes-in-Err-normal_packed_file.ensures.value))

@@ -1,5 +1,5 @@
 use Rattle.cats_cmd.specs.DuplicateTexts.{found_paths}
-use Rattle.cats_cmd.specs.declared.program.RequestError.TheVariants.{NotOpened}
+use Rattle.cats_cmd.specs.declared.errors.RequestError.TheVariants.{NotOpened}
 use Rattle.cats_cmd.proofs.Skipping.{groups_skip}
 use Rattle.cats_cmd.proofs.duplicates.GroupsCollection.add_unopened.Goals as goal
 

@@ -5,13 +5,14 @@ use Rattle.cats_cmd.proofs.duplicates.lines.duplicates_text.Goals as goal
 
 pub loop-group-preserved : goal.loop-group-preserved
 loop-group-preserved c =
-    group_printed c.args.ending c.deref-group-items.result.now c.loop-group.group-index c.group-item.result c.loop-group.text.items c.push_group.new.text.items
-    c.loop-group-test.true c.group-item.is c.loop-group.invariant
-    (c.in_ok-push_group.ensures ∙ ap (λ paths. with_group c.args.ending c.loop-group.text.items (map (λ path. path.now) paths)) c.as_slice.ensures.value)
+    group_printed c.args.ending c.args.all c.deref-group-items.result.now c.loop-group.group-index c.group-item.result c.loop-group.text.items
+    c.push_group.new.text.items c.loop-group-test.true c.group-item.is c.loop-group.invariant
+    (c.in_ok-push_group.ensures ∙ ap (λ paths. with_group c.args.ending c.args.all c.loop-group.text.items (map (λ path. path.now) paths))
+    c.as_slice.ensures.value)
 
 pub returns : goal.returns
 returns c =
-    all_groups_printed c.args.ending c.deref-group-items.result.now c.in_ok-groups.groups.items c.loop-group.group-index c.loop-group.text.items
+    all_groups_printed c.args.ending c.args.all c.deref-group-items.result.now c.in_ok-groups.groups.items c.loop-group.group-index c.loop-group.text.items
     (found_paths c.args.found.now)
     c.loop-group.invariant c.loop-group-test.false
     c.deref-group-items.ensures.value c.in_ok-groups.ensures

@@ -1,6 +1,6 @@
 use Rattle.std.proofs.Common.{◌∙◌, Some, refl}
 use Rattle.cats_cmd.specs.Paths.{IsUnjudged}
-use Rattle.cats_cmd.specs.declared.program.RequestError.TheVariants.{NotOpened}
+use Rattle.cats_cmd.specs.declared.errors.RequestError.TheVariants.{NotOpened}
 use Rattle.cats_cmd.proofs.Tabling.{row_if_put}
 use Rattle.cats_cmd.proofs.sizes.TableCollection.add_unopened.Goals as goal
 

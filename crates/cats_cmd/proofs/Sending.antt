@@ -1,0 +1,83 @@
+-- A run sends what its command answers: by the command's contract, what was sent is what the run promises.
+use Rattle.std.proofs.Common.{◌≡◌, ℕ, List, Option, Result, Ok, Err, refl, sym, subst, inr}
+use Rattle.valuation.specs.declared.search_options.SearchOptions.{SearchOptions}
+use Rattle.bid_file.specs.Files.{PlainFile}
+use Rattle.cats_text.specs.declared.read_fault.SendFault.{SendFault}
+use Rattle.cats_text.specs.declared.stream.Watched.{Watched}
+use Rattle.canon.specs.declared.canon_fault.CanonFault.{CanonFault}
+use Rattle.canon.specs.declared.canon_fault.CanonFault.TheVariants.{Memory}
+use Rattle.canon.specs.declared.which.Which.{Which}
+use Rattle.canon.specs.declared.which.Which.TheVariants.{Only, Both}
+use Rattle.answers.specs.declared.report.RunFault.{RunFault}
+use Rattle.answers.specs.declared.report.RunFault.TheVariants.{Refused, GoodRange, BidRange, Sent}
+use Rattle.commands.specs.Commands.{Commands, text_of}
+use Rattle.commands.specs.Inputs.{StreamGives, StreamRefuses}
+use Rattle.commands.specs.Outcomes.{Outcome, Prints}
+use Rattle.commands.specs.Pairs.{Compares as ComparesFiles, Diffs}
+use Rattle.commands.specs.declared.answer.Answer.{Answer}
+use Rattle.cats_cmd.specs.Runs.{Compares, DiffsFiles, RunsCommand, RunsOnFile, SendsAnswer, SendsAs, SendsMadeAs, WritesText}
+
+-- the status that was answered is that of the text
+pub wrote : {A W : Type 0} (contents : W → Option (List ℕ)) (Reads : A → Type 0) (outcome : A → Outcome) (old new : Watched W) (given : A) → Reads given
+    → (status : ℕ) (text : List ℕ) → outcome given ≡ Prints status text
+    → (reported : ℕ) → SendsAs contents status text old new (Ok reported) → WritesText contents Reads outcome old new reported
+wrote contents Reads outcome old new given reads status text is reported sends =
+    subst (λ (s : ℕ). WritesText contents Reads outcome old new s) (sym sends.0)
+    (record { given = given; reads = reads; text = text; made = is; sent = sends.1 })
+
+-- ---- a run of a command
+
+module _ {W : Type 0} (contents : W → Option (List ℕ)) (Answers : Result Answer RunFault → Type 0) (whose : Which)
+    (unsent : (fault : SendFault) → Answers (Err (Sent fault)) → ⊥) (memory : (answer : Answer) → Answers (Ok answer) → Answers (Err (Refused whose Memory)))
+    (old new : Watched W) where
+  text_sent : (answer : Answer) → Answers (Ok answer) → (result : Result ℕ RunFault)
+      → SendsMadeAs contents whose answer.status (text_of answer.output) old new result → RunsCommand contents Answers old new result
+  text_sent answer given (Ok status) sends = record { answer = answer; answers = given; is_status = sends.0; sent = sends.1 }
+  text_sent answer given (Err (Refused which fault)) sends = (
+    subst (λ (w : Which). Answers (Err (Refused w fault))) (sym sends.0)
+        (subst (λ (f : CanonFault). Answers (Err (Refused whose f))) (sym sends.1) (memory answer given)),
+    sends.2,
+  )
+  text_sent answer given (Err (GoodRange good)) sends = absurd sends
+  text_sent answer given (Err (BidRange bid)) sends = absurd sends
+  text_sent answer given (Err (Sent fault)) sends = record { answer = answer; answers = given; sent = sends }
+
+  nothing_sent : (fault : RunFault) → Answers (Err fault) → new ≡ old → RunsCommand contents Answers old new (Err fault)
+  nothing_sent (Refused which fault) given silent = (given, silent)
+  nothing_sent (GoodRange good) given silent = (given, silent)
+  nothing_sent (BidRange bid) given silent = (given, silent)
+  nothing_sent (Sent fault) given silent = absurd (unsent fault given)
+
+  command_run : (answer : Result Answer RunFault) → Answers answer → (result : Result ℕ RunFault) → SendsAnswer contents whose answer old new result
+      → RunsCommand contents Answers old new result
+  command_run (Ok answer) given result sends = text_sent answer given result sends
+  command_run (Err fault) given result sends =
+      subst (λ (r : Result ℕ RunFault). RunsCommand contents Answers old new r) (sym sends.0) (nothing_sent fault given sends.1)
+
+pub file_run : {R W : Type 0} (remaining : R → Option (List ℕ)) (contents : W → Option (List ℕ)) (outcome : PlainFile → Outcome) (before after : Watched R)
+    (old new : Watched W) (answer : Result Answer RunFault)
+    → Commands (StreamGives remaining) (StreamRefuses remaining) outcome before after answer
+    → (result : Result ℕ RunFault) → SendsAnswer contents Only answer old new result → RunsOnFile remaining contents outcome before after old new result
+file_run remaining contents outcome before after old new answer given result sends =
+    command_run contents (Commands (StreamGives remaining) (StreamRefuses remaining) outcome before after) Only (λ fault none. none)
+    (λ a made. (refl, inr (record { file = made.file; given = made.given }))) old new answer given result sends
+
+module _ {R S W : Type 0} (remaining_first : R → Option (List ℕ)) (remaining_second : S → Option (List ℕ)) (contents : W → Option (List ℕ))
+    (options : SearchOptions) (first first_after : Watched R) (second second_after : Watched S) (old new : Watched W) (answer : Result Answer RunFault) where
+  pub compare_run : ComparesFiles (StreamGives remaining_first) (StreamRefuses remaining_first) (StreamGives remaining_second)
+      (StreamRefuses remaining_second) options first first_after second second_after answer
+      → (result : Result ℕ RunFault) → SendsAnswer contents Both answer old new result
+      → Compares remaining_first remaining_second contents options first first_after second second_after old new result
+  compare_run given result sends =
+      command_run contents (ComparesFiles (StreamGives remaining_first) (StreamRefuses remaining_first) (StreamGives remaining_second)
+      (StreamRefuses remaining_second) options first first_after second second_after) Both (λ fault none. none)
+      (λ a made. record { files = made.given; given = made.gives; memory = refl }) old new answer given result sends
+
+  pub diff_run : Diffs (StreamGives remaining_first) (StreamRefuses remaining_first) (StreamGives remaining_second)
+      (StreamRefuses remaining_second) options first first_after second second_after answer
+      → (result : Result ℕ RunFault) → SendsAnswer contents Both answer old new result
+      → DiffsFiles remaining_first remaining_second contents options first first_after second second_after old new result
+  diff_run given result sends =
+      command_run contents (Diffs (StreamGives remaining_first) (StreamRefuses remaining_first) (StreamGives remaining_second)
+      (StreamRefuses remaining_second) options first first_after second second_after) Both (λ fault none. none)
+      (λ a made. record { files = (made.given.0, made.given.1); given = made.gives.given; memory = refl }) old new answer given result sends

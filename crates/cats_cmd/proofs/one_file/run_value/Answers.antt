@@ -1,0 +1,20 @@
+-- A plain search makes a step for each packing.
+use Rattle.std.proofs.Common.{◌≡◌, Bool, ap, ◌∙◌, subst}
+use Rattle.std.proofs.Math.Path.{fun_ext}
+use Rattle.bid_file.specs.Files.{PlainFile}
+use Rattle.valuation.specs.declared.search_options.SearchOptions.{SearchOptions}
+use Rattle.valuation.specs.Lemmas.SearchLimits.{plain-value_steps}
+use Rattle.valuation.specs.Auctions.{or_atoms_of}
+use Rattle.commands.specs.Outcomes.{exceeds_limits, exceeds_packings, value_outcome_if}
+use Rattle.cats_cmd.specs.Runs.{RunsOnFile}
+use Rattle.commands.specs.ValueTexts.{bundle_from}
+use Rattle.cats_cmd.proofs.one_file.run_value.Goals as goal
+
+pub returns : goal.returns
+returns g c =
+    let goods = c.args.goods.now in
+    let same : exceeds_limits (bundle_from goods) c.plain.result ≡ exceeds_packings (bundle_from goods) c.args.limit =
+    ap (λ (o : SearchOptions). exceeds_limits (bundle_from goods) o) c.plain.ensures
+    ∙ fun_ext (λ (file : PlainFile). plain-value_steps c.args.limit (or_atoms_of file.bids) (bundle_from goods)) in
+    subst (λ (refuses : PlainFile → Bool). RunsOnFile g.R.Read.remaining g.W.Write.contents (value_outcome_if refuses goods) c.args.input.now
+    c.run_value_by.new.input c.args.out.now c.run_value_by.new.out c.run_value_by.result) same c.run_value_by.ensures

@@ -1,9 +1,0 @@
-use Rattle.std.proofs.Common.{ℕ, List, [], ap, sym, ◌∙◌}
-use Rattle.std.proofs.lemmas.List.Sums.{fold_more}
-use Rattle.goods_set.specs.Bundles.{with_good}
-use Rattle.cats_cmd.proofs.value.bundles.bundle_of.Goals as goal
-
-pub loop-good-preserved : goal.loop-good-preserved
-loop-good-preserved g c =
-    c.in_ok-put.ensures.goods ∙ ap (with_good _) c.loop-good.invariant
-    ∙ sym (fold_more (λ (bundle : List ℕ) (good : ℕ). with_good good bundle) [] c.args.goods.now c.loop-good.good-index 0 c.loop-good-test.true)

@@ -1,7 +1,0 @@
-use Rattle.std.proofs.Common.{◌≡◌, take}
-use Rattle.cats_cmd.specs.ValueTexts.{bundle_from}
-use Rattle.cats_cmd.proofs.value.bundles.bundle_of.Given as goal
-
--- the goods so far are in the bundle
-abbrev pub invariant-loop-good : goal.invariant-loop-good
-invariant-loop-good g l = g.S.GoodsSet.goods l.bundle ≡ bundle_from (take l.good-index l.goods)

@@ -1,7 +1,0 @@
-use Rattle.std.proofs.Common.{◌≡◌, [], replicate}
-use Rattle.cats_cmd.specs.ValueTexts.{lists_of}
-use Rattle.cats_cmd.proofs.value.numbers.empty_lists.Given as goal
-
--- so many lists are made
-abbrev pub invariant-loop : goal.invariant-loop
-invariant-loop l = lists_of l.lists.items ≡ replicate l.counter []

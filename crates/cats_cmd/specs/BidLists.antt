@@ -1,0 +1,64 @@
+-- Runs of `cats revenue`. The bids are numbers that words of the command line are, or those in a list.
+use Rattle.std.specs.Prelude.{◌≡◌, ◌⊎◌, ℕ, List, Option, None, Result, Ok, Err}
+use Rattle.cats_text.specs.Faults.{fault_at}
+use Rattle.cats_text.specs.declared.read_fault.Kind.TheVariants.{NotANumber as NoNumber}
+use Rattle.cats_text.specs.declared.stream.Watched.{Watched}
+use Rattle.canon.specs.declared.canon_fault.CanonFault.{CanonFault}
+use Rattle.canon.specs.declared.canon_fault.CanonFault.TheVariants.{Read, Memory as NoMemory}
+use Rattle.canon.specs.declared.which.Which.TheVariants.{Only}
+use Rattle.command_line.specs.PlainRequests.{PlainBids, GivenBids, BidsIn}
+use Rattle.winners.specs.BidNumbers.{RefusesNumbers, bid_numbers, faulty_line, lines_in}
+use Rattle.winners.specs.declared.bid_numbers.BidNumbersFault.{BidNumbersFault}
+use Rattle.winners.specs.declared.bid_numbers.BidNumbersFault.TheVariants.{NotANumber, Memory}
+use Rattle.answers.specs.declared.report.RunFault.{RunFault}
+use Rattle.answers.specs.declared.report.RunFault.TheVariants.{Refused}
+use Rattle.cats_cmd.specs.FileLists.{IsUnread, ReadsList, RefusesList}
+use Rattle.cats_cmd.specs.declared.errors.RequestError.{RequestError}
+use Rattle.cats_cmd.specs.declared.errors.RequestError.TheVariants.{Run}
+use Rattle.cats_cmd.specs.declared.source.Unopened.{Unopened}
+
+-- as the fault of a bid file: a word of this line is not a number, or memory was refused
+abbrev pub fault_of_numbers : BidNumbersFault → CanonFault
+fault_of_numbers (NotANumber line) = Read (fault_at line NoNumber)
+fault_of_numbers Memory = NoMemory
+
+module _ {F : Type 0} (may_open : List ℕ → F → Type 0) (may_refuse : List ℕ → Unopened → Type 0)
+    (remaining : F → Option (List ℕ)) (list : List ℕ) where
+  -- these are the numbers in the list
+  pub record ReadsBids (bids : List ℕ) : Type 0 where
+    pub bytes : List ℕ
+    pub reads : ReadsList may_open may_refuse remaining list bytes
+    pub faultless : faulty_line 1 (lines_in bytes) ≡ None
+    pub are : bids ≡ bid_numbers bytes
+
+  -- the list was read, and its words are not numbers, or memory was refused for them
+  pub record RefusesBids (error : RequestError) : Type 0 where
+    pub bytes : List ℕ
+    pub reads : ReadsList may_open may_refuse remaining list bytes
+    pub fault : BidNumbersFault
+    pub refuses : RefusesNumbers bytes fault
+    pub is : error ≡ Run (Refused Only (fault_of_numbers fault))
+
+  -- why there are no bids
+  abbrev pub AreUnread : RequestError → Type 0
+  AreUnread error = IsUnread may_open may_refuse remaining list error ⊎ RefusesBids error
+
+-- `Runs` is the run on the bids of some numbers.
+module _ {F W E : Type 0} (may_open : List ℕ → F → Type 0) (may_refuse : List ℕ → Unopened → Type 0)
+    (remaining : F → Option (List ℕ)) (messages : E → Option (List ℕ))
+    (Runs : List ℕ → Watched W → Watched W → Watched E → Watched E → Result ℕ RunFault → Type 0) where
+  -- the list was read, and the run is on the bids in it
+  pub record RunsOnListedBids (list : List ℕ) (out out_after : Watched W) (err err_after : Watched E)
+      (answer : Result ℕ RunFault) : Type 0 where
+    pub bids : List ℕ
+    pub reads : ReadsBids may_open may_refuse remaining list bids
+    pub runs : Runs bids out out_after err err_after answer
+
+  -- the run on the bids that are given, or that are listed
+  abbrev pub RunsOnBids : PlainBids → Watched W → Watched W → Watched E → Watched E → Result ℕ RunFault → Type 0
+  RunsOnBids (GivenBids bids) out out_after err err_after answer = Runs bids out out_after err err_after answer
+  RunsOnBids (BidsIn list) out out_after err err_after (Ok status) =
+      RunsOnListedBids list out out_after err err_after (Ok status)
+      ⊎ RefusesList messages (AreUnread may_open may_refuse remaining list) list out out_after err err_after status
+  RunsOnBids (BidsIn list) out out_after err err_after (Err fault) =
+      RunsOnListedBids list out out_after err err_after (Err fault)

@@ -1,0 +1,51 @@
+-- The parts of carrying out a request.
+use Rattle.std.specs.Prelude.{◌≡◌, ◌⊎◌, ℕ, Bool, List, [], ◌∷◌, Option, Result, Ok, Err}
+use Rattle.bid_file.specs.Files.{PlainFile}
+use Rattle.cats_text.specs.declared.stream.Watched.{Watched}
+use Rattle.canon.specs.declared.which.Which.{Which}
+use Rattle.canon.specs.declared.which.Which.TheVariants.{Only}
+use Rattle.commands.specs.Outcomes.{Outcome}
+use Rattle.command_line.specs.PlainRequests.{PlainFiles}
+use Rattle.answers.specs.declared.report.RunFault.{RunFault}
+use Rattle.cats_cmd.specs.Inputs.{MayRefuse}
+use Rattle.cats_cmd.specs.Opening.{Opens}
+use Rattle.cats_cmd.specs.Requests.{CannotOpenPair, RunsAt, bounded_by, ending_of, progress_of}
+use Rattle.cats_cmd.specs.declared.errors.RequestError.{RequestError}
+use Rattle.cats_cmd.specs.declared.errors.RequestError.TheVariants.{CannotOpen, NotOpened, Run}
+use Rattle.cats_cmd.specs.declared.paths.ManyFiles.{ManyFiles}
+use Rattle.cats_cmd.specs.declared.source.Unopened.{Unopened}
+
+-- how a run on many files reads them and reports
+abbrev pub many_files : Bool → PlainFiles → ManyFiles
+many_files terminal files = record {
+  options = bounded_by files.limits;
+  progress = progress_of terminal files.progress;
+  ending = ending_of files.null;
+  all = files.all;
+}
+
+-- what a run answers, as the answer to its request
+abbrev pub answer_of_run : Result ℕ RunFault → Result ℕ RequestError
+answer_of_run (Ok status) = Ok status
+answer_of_run (Err fault) = Err (Run fault)
+
+-- one of two files cannot be opened: the second, or the first, and then the second was not opened
+pub record FailsToOpenPair {S H : Type 0} (content_of : S → H) (opened : S → Option (List (List ℕ)))
+    (may_refuse : List ℕ → Unopened → Type 0) (first second : List ℕ) (old new : S) (error : RequestError)
+    : Type 0 where
+  pub which : Which
+  pub is : error ≡ CannotOpen which
+  pub refused : CannotOpenPair may_refuse first second which
+  pub opens : Opens content_of opened old new (first ∷ second ∷ []) ⊎ Opens content_of opened old new (first ∷ [])
+
+-- the run on a stream that was opened at the path, or none was
+abbrev pub RunsAtOrNot : {F W : Type 0} → (List ℕ → F → Type 0) → (List ℕ → Unopened → Type 0)
+    → (F → Option (List ℕ)) → (W → Option (List ℕ)) → List ℕ → (PlainFile → Outcome) → Watched W → Watched W
+    → Result ℕ RequestError → Type 0
+RunsAtOrNot may_open may_refuse remaining contents path outcome out out_after (Ok status) =
+    RunsAt may_open remaining contents path outcome out out_after (Ok status)
+RunsAtOrNot may_open may_refuse remaining contents path outcome out out_after (Err (Run fault)) =
+    RunsAt may_open remaining contents path outcome out out_after (Err fault)
+RunsAtOrNot may_open may_refuse remaining contents path outcome out out_after (Err (CannotOpen which)) =
+    (which ≡ Only) × MayRefuse may_refuse path × (out_after ≡ out)
+RunsAtOrNot may_open may_refuse remaining contents path outcome out out_after (Err (NotOpened why)) = ⊥

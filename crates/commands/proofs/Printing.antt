@@ -1,0 +1,69 @@
+-- The lines of the XOR bidders, one by one: one more bidder's line, made piece by piece, is put behind those of the bidders before it.
+use Rattle.std.proofs.Common.{◌≡◌, ℕ, ◌+◌, ◌<◌, List, [], ◌∷◌, ◌++◌, length, map, get_or, Global, sym, ap, ap₂, ◌∙◌, arith, append_assoc}
+use Rattle.std.proofs.Common.{zero-add}
+use Rattle.std.specs.Prelude.{Vec, Option, Result, Ok, Err, OnOk, is_ok, if◌then◌else◌, All, codes, decimal}
+use Rattle.std.specs.List.{flat_map, range_with_len}
+use Rattle.std.proofs.lemmas.List.{get_or-map}
+use Rattle.std.proofs.lemmas.List.Elements.{All-weaker}
+use Rattle.std.proofs.lemmas.List.FromFn.{get_or-map-range_with_len}
+use Rattle.bid_file.specs.Files.{PlainBid, PlainFile}
+use Rattle.cats_text.specs.Layout.{price_text}
+use Rattle.valuation.specs.declared.atom.Atom.{Atom}
+use Rattle.valuation.specs.Auctions.{or_atoms_of, xor_atoms_of}
+use Rattle.valuation.specs.Bidders.{bidders_of}
+use Rattle.valuation.specs.Values.{atoms_of, chosen_places, xor_value}
+use Rattle.valuation.specs.Lemmas.Packings.{chosen_places-packing}
+use Rattle.valuation.proofs.Placing.{length-bidders_of}
+use Rattle.answers.proofs.Lines.{lines_more}
+use Rattle.commands.specs.ValueTexts.{best_place, dummy_line, numbers_text, option_places, or_numbers, xor_line, xor_numbers}
+use Rattle.commands.proofs.Numbering.{length-or_numbers}
+
+-- the atoms of a bidder
+pub bidder_at : {S : Type 0} (goods : S → List ℕ) (bidders : List (Vec (Atom S) Global)) (bids : List PlainBid) (n d : ℕ) (v : Vec (Atom S) Global)
+    → bidders_of goods bidders ≡ map (xor_atoms_of bids) (range_with_len 0 n) → d < n → v ≡ get_or bidders d v → atoms_of goods v.items ≡ xor_atoms_of bids d
+bidder_at {S} goods bidders bids n d v h m is =
+    let listed : Vec (Atom S) Global → List (Atom (List ℕ)) = λ w. atoms_of goods w.items in
+    let long = length-bidders_of goods bidders bids n h in
+    ap listed is ∙ sym (get_or-map listed bidders d v [] (omega arith)) ∙ ap (λ (xs : List (List (Atom (List ℕ)))). get_or xs d []) h
+    ∙ get_or-map-range_with_len (xor_atoms_of bids) 0 n d d [] m (zero-add d)
+
+-- the line of a bidder is added
+pub line_added : (file : PlainFile) (bundle old before after : List ℕ) (d good : ℕ) (atoms : List (Atom (List ℕ))) (numbers : List ℕ)
+    → before ≡ old ++ flat_map (dummy_line file bundle) (range_with_len 0 d) → after ≡ before ++ xor_line good atoms numbers bundle
+    → good ≡ file.goods + d → atoms ≡ xor_atoms_of file.bids d → numbers ≡ xor_numbers file.bids d
+    → after ≡ old ++ flat_map (dummy_line file bundle) (range_with_len 0 (d + 1))
+line_added file bundle old before after d good atoms numbers b a g seen listed =
+    let line : xor_line good atoms numbers bundle ≡ dummy_line file bundle d =
+    ap (λ (m : ℕ). xor_line m atoms numbers bundle) g ∙ ap₂ (λ (xs : List (Atom (List ℕ))) (ms : List ℕ). xor_line (file.goods + d) xs ms bundle) seen listed in
+    a ∙ ap₂ (λ (xs ys : List ℕ). xs ++ ys) b line ∙ append_assoc old (flat_map (dummy_line file bundle) (range_with_len 0 d)) (dummy_line file bundle d)
+    ∙ ap (λ (xs : List ℕ). old ++ xs) (lines_more (dummy_line file bundle) d)
+
+-- if it succeeded, this was appended
+pub appended : {T E : Type 0} (r : Result T E) (new longer old : List ℕ) → new ≡ (if is_ok r then longer else old) → OnOk r (new ≡ longer)
+appended (Ok x) new longer old e = e
+appended (Err x) new longer old e = tt
+
+-- the line of a bidder, piece by piece
+pub xor_line_made : (good value : ℕ) (place : Option ℕ) (atoms : List (Atom (List ℕ))) (numbers bundle old keyword named spaced priced printed after : List ℕ)
+    → value ≡ xor_value atoms bundle → best_place atoms bundle ≡ place
+    → keyword ≡ old ++ codes "xor" → named ≡ keyword ++ 32 ∷ decimal good → spaced ≡ named ++ codes " " → priced ≡ spaced ++ price_text value
+    → printed ≡ priced ++ numbers_text numbers (option_places place) → after ≡ printed ++ codes "\n" → after ≡ old ++ xor_line good atoms numbers bundle
+xor_line_made good value place atoms numbers bundle old keyword named spaced priced printed after v p k n s c t a =
+    let rest : List ℕ = numbers_text numbers (option_places (best_place atoms bundle)) in
+    let printed_best : printed ≡ priced ++ rest = t ∙ ap (λ (o : Option ℕ). priced ++ numbers_text numbers (option_places o)) (sym p) in
+    let priced_value : priced ≡ spaced ++ price_text (xor_value atoms bundle) = c ∙ ap (λ (m : ℕ). spaced ++ price_text m) v in
+    a ∙ ap (λ (xs : List ℕ). xs ++ codes "\n") (printed_best ∙ ap (λ (xs : List ℕ). xs ++ rest) (priced_value
+    ∙ ap (λ (xs : List ℕ). xs ++ price_text (xor_value atoms bundle)) (s
+    ∙ ap (λ (xs : List ℕ). xs ++ codes " ") (n ∙ ap (λ (xs : List ℕ). xs ++ 32 ∷ decimal good) k))))
+    ∙ joined old (codes "xor") (32 ∷ decimal good) (codes " ") (price_text (xor_value atoms bundle)) rest (codes "\n")
+  where
+    joined : (a b c d e f g : List ℕ) → a ++ b ++ c ++ d ++ e ++ f ++ g ≡ a ++ (b ++ c ++ d ++ e ++ f ++ g)
+    joined a b c d e f g = simp append_assoc
+
+-- the chosen places are those of bids
+pub places_within : (atoms : List (Atom (List ℕ))) (bids : List PlainBid) (bundle places numbers : List ℕ)
+    → places ≡ chosen_places atoms bundle → atoms ≡ or_atoms_of bids → numbers ≡ or_numbers bids → All (λ place. place < length numbers) places
+places_within atoms bids bundle places numbers p a n =
+    let long : length numbers ≡ length atoms = ap (length {A = ℕ}) n ∙ length-or_numbers bids ∙ ap (length {A = Atom (List ℕ)}) (sym a) in
+    rw p (All-weaker (λ i. i < length atoms) (λ i. i < length numbers) (λ i below. omega arith) (chosen_places atoms bundle)
+    (chosen_places-packing atoms bundle).within)

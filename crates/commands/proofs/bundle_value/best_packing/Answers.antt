@@ -1,0 +1,19 @@
+use Rattle.std.proofs.Common.{rules}
+use Rattle.std.proofs.lemmas.List.Elements.{All-weaker}
+use Rattle.bid_file.specs.declared.limits.TheConstants.{MAX_GOODS}
+use Rattle.goods_set.specs.Lemmas.Members.{AreBelow-higher}
+use Rattle.valuation.specs.Auctions.{IsAtom}
+use Rattle.commands.proofs.bundle_value.best_packing.Goals as goal
+
+pub or_value_by-requires : goal.or_value_by-requires
+or_value_by-requires g c =
+    let facts = c.args.auction.now.facts in
+    rw c.or_atoms.ensures (All-weaker (IsAtom c.args.auction.now.goods) (IsAtom MAX_GOODS)
+    (λ a h. record {
+      nonempty = h.nonempty;
+      bundle = (h.bundle.0, AreBelow-higher c.args.auction.now.goods MAX_GOODS a.bundle facts.goods h.bundle.1);
+      price = h.price;
+    }) _ facts.or_atoms)
+
+pub returns-in-Ok : goal.returns-in-Ok
+returns-in-Ok g c = search rules

@@ -1,0 +1,7 @@
+use Rattle.std.proofs.Common.{◌≡◌, [], replicate}
+use Rattle.commands.specs.ValueTexts.{lists_of}
+use Rattle.commands.proofs.bundle_value.numbers.empty_lists.Given as goal
+
+-- so many lists are made
+abbrev pub invariant-loop : goal.invariant-loop
+invariant-loop l = lists_of l.lists.items ≡ replicate l.counter []

@@ -1,0 +1,74 @@
+-- What a command on one file answers.
+use Rattle.std.specs.Prelude.{◌≡◌, ◌≢◌, ◌⊎◌, ℕ, List, Result, Ok, Err, None}
+use Rattle.bid_file.specs.Files.{PlainFile, IsPlainFile}
+use Rattle.cats_text.specs.Faults.{fault_at}
+use Rattle.cats_text.specs.Layout.{layout}
+use Rattle.cats_text.specs.declared.read_fault.Kind.TheVariants.{Memory as NoMemory}
+use Rattle.cats_text.specs.declared.read_fault.ReadFault.{ReadFault}
+use Rattle.valuation.specs.Auctions.{or_atoms_of}
+use Rattle.valuation.specs.declared.search_options.SearchOptions.{SearchOptions}
+use Rattle.prune.specs.SearchSteps.{first_refused}
+use Rattle.canon.specs.Canonical.{canonical_file}
+use Rattle.canon.specs.declared.canon_fault.CanonFault.{CanonFault}
+use Rattle.canon.specs.declared.canon_fault.CanonFault.TheVariants.{Read, StepLimit, Memory}
+use Rattle.canon.specs.declared.which.Which.TheVariants.{Only}
+use Rattle.answers.specs.declared.report.RunFault.{RunFault}
+use Rattle.answers.specs.declared.report.RunFault.TheVariants.{Refused, GoodRange, BidRange, Sent}
+use Rattle.commands.specs.Outcomes.{Outcome, Prints, LacksGood, LacksBid, ExceedsSteps, normalise_outcome}
+use Rattle.commands.specs.declared.answer.Answer.{Answer}
+use Rattle.commands.specs.declared.answer.Output.{Output}
+use Rattle.commands.specs.declared.answer.Output.TheVariants.{Text, File}
+
+-- what is printed
+abbrev pub text_of : Output → List ℕ
+text_of (Text text) = text.items
+text_of (File file) = layout file
+
+-- An input that gives a file, of which `outcome` says what is made.
+module _ {I : Type 0} (gives : I → I → PlainFile → Type 0) (refuses : I → I → ReadFault → Type 0)
+    (outcome : PlainFile → Outcome) where
+  -- a file was given
+  pub record GivesSome (old new : I) : Type 0 where
+    pub file : PlainFile
+    pub given : gives old new file
+
+  -- a file was given, of which this is made
+  pub record Makes (old new : I) (expected : Outcome) : Type 0 where
+    pub file : PlainFile
+    pub given : gives old new file
+    pub made : outcome file ≡ expected
+
+  -- Reading or making refused the file. Memory is refused in reading, or in what is made of a file that was given.
+  abbrev pub IsRefused : I → I → CanonFault → Type 0
+  IsRefused old new (Read fault) = (fault.kind ≢ NoMemory) × refuses old new fault
+  IsRefused old new (StepLimit goods) = Makes old new (ExceedsSteps goods.items)
+  IsRefused old new Memory = refuses old new (fault_at 0 NoMemory) ⊎ GivesSome old new
+
+  -- the contract of a command, from its input before to that after
+  abbrev pub Commands : I → I → Result Answer RunFault → Type 0
+  Commands old new (Ok answer) = Makes old new (Prints answer.status (text_of answer.output))
+  Commands old new (Err (Refused which fault)) = (which ≡ Only) × IsRefused old new fault
+  Commands old new (Err (GoodRange good)) = Makes old new (LacksGood good)
+  Commands old new (Err (BidRange bid)) = Makes old new (LacksBid bid)
+  Commands old new (Err (Sent fault)) = ⊥
+
+-- ---- a canonical file
+
+module _ {I : Type 0} (gives : I → I → PlainFile → Type 0) (refuses : I → I → ReadFault → Type 0)
+    (options : SearchOptions) where
+  -- a file was given of which no bundle is refused
+  pub record GivesWithin (old new : I) (file : PlainFile) : Type 0 where
+    pub given : gives old new file
+    pub within : first_refused options file.goods (or_atoms_of file.bids) ≡ None
+
+  -- a file was given, and this is its canonical file
+  pub record GivesCanonical (old new : I) (canonical : PlainFile) : Type 0 where
+    pub file : PlainFile
+    pub given : GivesWithin old new file
+    pub plain : IsPlainFile file
+    pub is : canonical ≡ canonical_file file
+
+  -- reading a file and making it canonical
+  abbrev pub ReadsCanonical : I → I → Result PlainFile CanonFault → Type 0
+  ReadsCanonical old new (Ok canonical) = GivesCanonical old new canonical
+  ReadsCanonical old new (Err fault) = IsRefused gives refuses (normalise_outcome options) old new fault

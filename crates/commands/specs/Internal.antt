@@ -1,0 +1,4 @@
+-- What the contracts of private functions cite. No public contract rests on them.
+pub mod Pairs
+pub mod Searches
+pub mod Values

@@ -1,0 +1,116 @@
+-- What a command makes of its files. It is a text with a status, or why there is none.
+use Rattle.std.specs.Prelude.{ℕ, Bool, List, Option, Some, None, find, nat_le, nat_lt, Result, Ok, Err}
+use Rattle.std.specs.Prelude.{if◌then◌else◌}
+use Rattle.bid_file.specs.Files.{PlainFile}
+use Rattle.cats_text.specs.Layout.{layout}
+use Rattle.valuation.specs.Auctions.{or_atoms_of, auction_from}
+use Rattle.valuation.specs.Packings.{count_packings}
+use Rattle.valuation.specs.SearchLimits.{is_one_over}
+use Rattle.valuation.specs.ValueSearches.{value_steps}
+use Rattle.valuation.specs.declared.search_options.SearchOptions.{SearchOptions}
+use Rattle.prune.specs.SearchSteps.{first_refused}
+use Rattle.canon.specs.Canonical.{canonical_text}
+use Rattle.canon.specs.Difference.{Difference, first_difference}
+use Rattle.answers.specs.DifferenceTexts.{difference_text}
+use Rattle.answers.specs.Outputs.{check_text}
+use Rattle.answers.specs.ExplanationTexts.{explanation_text}
+use Rattle.answers.specs.DiffTexts.{diff_text}
+use Rattle.answers.specs.Statuses.{status_of_difference, status_of_differences}
+use Rattle.differences.specs.Differences.{PlainDifferences}
+use Rattle.explain.specs.Reasons.{reasons_of}
+use Rattle.winners.specs.AllocationVerdicts.{allocation_status, allocation_text, allocation_verdict}
+use Rattle.winners.specs.LpTexts.{lp_text}
+use Rattle.winners.specs.declared.allocation_verdict.AllocationVerdict.{AllocationVerdict}
+use Rattle.commands.specs.ValueTexts.{bundle_from, value_text}
+
+pub data Outcome : Type 0 where
+  -- this status, and this text on the output
+  Prints : ℕ → List ℕ → Outcome
+  -- the file does not have this good
+  LacksGood : ℕ → Outcome
+  -- the file does not have this bid
+  LacksBid : ℕ → Outcome
+  -- a search on the bundle of these goods takes more steps than its limits leave
+  ExceedsSteps : List ℕ → Outcome
+
+-- of `cats check`
+abbrev pub check_outcome : PlainFile → Outcome
+check_outcome file = Prints 0 (check_text file)
+
+-- of `cats show`
+abbrev pub show_outcome : PlainFile → Outcome
+show_outcome file = Prints 0 (layout file)
+
+-- of `cats lp`
+abbrev pub lp_outcome : PlainFile → Outcome
+lp_outcome file = Prints 0 (lp_text file)
+
+-- the first of the goods that a file with so many does not have
+abbrev pub missing_good : ℕ → List ℕ → Option ℕ
+missing_good count goods = find (λ g. nat_le count g) goods
+
+abbrev pub outcome_unless : Option ℕ → Outcome → Outcome
+outcome_unless None outcome = outcome
+outcome_unless (Some good) outcome = LacksGood good
+
+-- the values of the bundle, unless it is refused
+abbrev pub values_unless : Bool → List ℕ → PlainFile → Outcome
+values_unless refused bundle file = if refused then ExceedsSteps bundle else Prints 0 (value_text file bundle)
+
+-- of `cats value` on these goods, if these are the files that are refused
+abbrev pub value_outcome_if : (PlainFile → Bool) → List ℕ → PlainFile → Outcome
+value_outcome_if refuses goods file =
+    outcome_unless (missing_good file.goods goods) (values_unless (refuses file) (bundle_from goods) file)
+
+-- a search for the value of the bundle takes more steps than the limits leave for it
+abbrev pub exceeds_limits : List ℕ → SearchOptions → PlainFile → Bool
+exceeds_limits bundle options file = is_one_over options (value_steps options.kind (or_atoms_of file.bids) bundle)
+
+-- of `cats value`, by searches of any kind
+abbrev pub value_outcome_by : List ℕ → SearchOptions → PlainFile → Outcome
+value_outcome_by goods options = value_outcome_if (exceeds_limits (bundle_from goods) options) goods
+
+-- the bundle has more packings than the limit
+abbrev pub exceeds_packings : List ℕ → ℕ → PlainFile → Bool
+exceeds_packings bundle limit file = nat_lt limit (count_packings (or_atoms_of file.bids) bundle)
+
+-- by the plain search, which takes a step for each packing
+abbrev pub value_outcome : List ℕ → ℕ → PlainFile → Outcome
+value_outcome goods limit = value_outcome_if (exceeds_packings (bundle_from goods) limit) goods
+
+-- the verdict on the bids, or the first of them that the file does not have
+abbrev pub outcome_of_verdict : Result AllocationVerdict ℕ → Outcome
+outcome_of_verdict (Err bid) = LacksBid bid
+outcome_of_verdict (Ok verdict) = Prints (allocation_status verdict) (allocation_text verdict)
+
+-- of `cats revenue` on the bids of these numbers
+abbrev pub revenue_outcome : List ℕ → PlainFile → Outcome
+revenue_outcome bids file = outcome_of_verdict (allocation_verdict file bids)
+
+abbrev pub text_unless_refused : PlainFile → Option (List ℕ) → Outcome
+text_unless_refused file None = Prints 0 (canonical_text file)
+text_unless_refused file (Some goods) = ExceedsSteps goods
+
+-- of `cats normalise`: the canonical text, unless a bundle of the OR bidder is refused
+abbrev pub normalise_outcome : SearchOptions → PlainFile → Outcome
+normalise_outcome options file = text_unless_refused file (first_refused options file.goods (or_atoms_of file.bids))
+
+-- of `cats explain`: the table of the bids with their reasons. It refuses what `cats normalise` refuses
+abbrev pub explanation_unless_refused : PlainFile → Option (List ℕ) → Outcome
+explanation_unless_refused file None = Prints 0 (explanation_text file (reasons_of file))
+explanation_unless_refused file (Some goods) = ExceedsSteps goods
+
+abbrev pub explain_outcome : SearchOptions → PlainFile → Outcome
+explain_outcome options file =
+    explanation_unless_refused file (first_refused options file.goods (or_atoms_of file.bids))
+
+abbrev pub outcome_of_difference : Difference → Outcome
+outcome_of_difference difference = Prints (status_of_difference difference) (difference_text difference)
+
+-- of `cats compare` on two files
+abbrev pub compare_outcome : PlainFile → PlainFile → Outcome
+compare_outcome left right = outcome_of_difference (first_difference (auction_from left) (auction_from right))
+
+-- of `cats diff` on two files, whose differences are these
+abbrev pub diff_outcome : PlainFile × PlainFile × PlainDifferences → Outcome
+diff_outcome compared = Prints (status_of_differences compared.2) (diff_text compared.0 compared.1 compared.2)

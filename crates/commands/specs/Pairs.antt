@@ -1,0 +1,90 @@
+-- What a command on two files answers. The first file is read and made canonical before the second is read.
+use Rattle.std.specs.Prelude.{◌≡◌, Result, Ok, Err}
+use Rattle.bid_file.specs.Files.{PlainFile}
+use Rattle.cats_text.specs.declared.read_fault.ReadFault.{ReadFault}
+use Rattle.valuation.specs.Auctions.{auction_from}
+use Rattle.valuation.specs.declared.search_options.SearchOptions.{SearchOptions}
+use Rattle.canon.specs.Canonical.{canonical_file}
+use Rattle.canon.specs.declared.canon_fault.CanonFault.{CanonFault}
+use Rattle.canon.specs.declared.canon_fault.CanonFault.TheVariants.{Memory}
+use Rattle.canon.specs.declared.which.Which.TheVariants.{Only, First, Second, Both}
+use Rattle.differences.specs.Differences.{AreAllDifferences, PlainDifferences}
+use Rattle.answers.specs.declared.report.RunFault.{RunFault}
+use Rattle.answers.specs.declared.report.RunFault.TheVariants.{Refused, GoodRange, BidRange, Sent}
+use Rattle.commands.specs.Commands.{GivesWithin, IsRefused, text_of}
+use Rattle.commands.specs.Outcomes.{Outcome, Prints, compare_outcome, diff_outcome, normalise_outcome}
+use Rattle.commands.specs.declared.answer.Answer.{Answer}
+
+abbrev pub outcome_of_both : PlainFile × PlainFile → Outcome
+outcome_of_both files = compare_outcome files.0 files.1
+
+module _ {I J : Type 0} (gives_first : I → I → PlainFile → Type 0) (refuses_first : I → I → ReadFault → Type 0)
+    (gives_second : J → J → PlainFile → Type 0) (refuses_second : J → J → ReadFault → Type 0)
+    (options : SearchOptions) where
+  -- both files were given, and of neither is a bundle refused
+  abbrev pub GivesBoth : I → I → J → J → PlainFile × PlainFile → Type 0
+  GivesBoth first first_after second second_after files =
+      GivesWithin gives_first refuses_first options first first_after files.0
+      × GivesWithin gives_second refuses_second options second second_after files.1
+
+  -- the first file was refused, and the second was not read
+  pub record RefusesFirst (first first_after : I) (second second_after : J) (fault : CanonFault) : Type 0 where
+    pub refused : IsRefused gives_first refuses_first (normalise_outcome options) first first_after fault
+    pub unread : second_after ≡ second
+
+  -- the second file was refused, and the first was not
+  pub record RefusesSecond (first first_after : I) (second second_after : J) (fault : CanonFault) : Type 0 where
+    pub left : PlainFile
+    pub given : GivesWithin gives_first refuses_first options first first_after left
+    pub refused : IsRefused gives_second refuses_second (normalise_outcome options) second second_after fault
+
+  -- neither file was refused, but memory for what is made of both
+  pub record RefusesBoth (first first_after : I) (second second_after : J) (fault : CanonFault) : Type 0 where
+    pub files : PlainFile × PlainFile
+    pub given : GivesBoth first first_after second second_after files
+    pub memory : fault ≡ Memory
+
+  -- what was given, and what is made of it
+  pub record MakesOfBoth {A : Type 0} (Gives : A → Type 0) (outcome : A → Outcome) (expected : Outcome) : Type 0 where
+    pub given : A
+    pub gives : Gives given
+    pub made : outcome given ≡ expected
+
+  -- the contract of a command, where `Gives` says what was given and `outcome` what is made of it
+  abbrev pub CommandsBoth : {A : Type 0} → (A → Type 0) → (A → Outcome) → I → I → J → J → Result Answer RunFault
+      → Type 0
+  CommandsBoth Gives outcome first first_after second second_after (Ok answer) =
+      MakesOfBoth Gives outcome (Prints answer.status (text_of answer.output))
+  CommandsBoth Gives outcome first first_after second second_after (Err (Refused First fault)) =
+      RefusesFirst first first_after second second_after fault
+  CommandsBoth Gives outcome first first_after second second_after (Err (Refused Second fault)) =
+      RefusesSecond first first_after second second_after fault
+  CommandsBoth Gives outcome first first_after second second_after (Err (Refused Both fault)) =
+      RefusesBoth first first_after second second_after fault
+  CommandsBoth Gives outcome first first_after second second_after (Err (Refused Only fault)) = ⊥
+  CommandsBoth Gives outcome first first_after second second_after (Err (GoodRange good)) = ⊥
+  CommandsBoth Gives outcome first first_after second second_after (Err (BidRange bid)) = ⊥
+  CommandsBoth Gives outcome first first_after second second_after (Err (Sent fault)) = ⊥
+
+  -- ---- a comparison
+
+  -- which files were given, and their first difference is printed
+  abbrev pub Compares : I → I → J → J → Result Answer RunFault → Type 0
+  Compares first first_after second second_after answer =
+      CommandsBoth (GivesBoth first first_after second second_after) outcome_of_both first first_after second
+      second_after answer
+
+  -- ---- all differences
+
+  -- both files were given, and these are all differences of their auctions
+  pub record GivesDifferences (first first_after : I) (second second_after : J)
+      (compared : PlainFile × PlainFile × PlainDifferences) : Type 0 where
+    pub given : GivesBoth first first_after second second_after (compared.0, compared.1)
+    pub all : AreAllDifferences (auction_from (canonical_file compared.0)) (auction_from (canonical_file compared.1))
+        compared.2
+
+  -- it refuses what a comparison refuses
+  abbrev pub Diffs : I → I → J → J → Result Answer RunFault → Type 0
+  Diffs first first_after second second_after answer =
+      CommandsBoth (GivesDifferences first first_after second second_after) diff_outcome first first_after second
+      second_after answer

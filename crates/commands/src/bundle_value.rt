@@ -1,0 +1,116 @@
+//! `cats value`: what a file's bidders offer for a bundle of goods.
+
+mod bundles;
+mod lines;
+mod numbers;
+
+ghost use Rattle.std.specs.Prelude.{◌≡◌, ◌≤◌, None};
+ghost use Rattle.bid_file.specs.Files.{IsPlainFile};
+ghost use Rattle.valuation.specs.Views.{plain_auction};
+ghost use Rattle.commands.specs.Internal.Searches.{SearchesAs};
+ghost use Rattle.commands.specs.Outcomes.{exceeds_limits, missing_good, value_outcome_by, values_unless};
+ghost use Rattle.commands.specs.Commands.{Commands};
+ghost use Rattle.commands.specs.Internal.Values.{MakesAs};
+ghost use Rattle.commands.specs.ValueTexts.{bundle_from};
+
+use crate::answer::{Answer, Output, done};
+use crate::input::Input;
+use answers::RunFault;
+use bid_file::PackedFile;
+use bundles::bundle_of;
+use canon::CanonFault;
+use goods_set::{GoodsSet, goods_of};
+use lines::{push_or_line, push_xor_lines};
+use numbers::bid_numbers;
+use std::alloc::Global;
+use valuation::{Auction, Packing, SearchOptions, ValueFault, auction_of, on_set_for, or_value_by};
+
+/// What the bidders of a file offer for the bundle of these goods: the OR value with the bids of one best packing, and each
+/// XOR bidder's value with the bid that gives it. The first of the goods that the file does not have is refused once the
+/// file was read.
+pub fn value<I: Input>(
+    alloc: Global,
+    input: &mut I,
+    goods: &[u16],
+    options: SearchOptions,
+) -> Result<Answer, RunFault>
+    requires { I.is_ready input.old }
+    ensures { Commands I.gives I.refuses (value_outcome_by goods.now options) input.old input.new result }
+{
+    let file = input.read_file(alloc).map_err(CanonFault::from)?;
+    if let Some(good) = first_missing(goods, file.goods()) {
+        return Err(RunFault::GoodRange(good));
+    }
+    let text = text_on_sets(alloc, &file, goods, options)?;
+    Ok(done(Output::Text(text)))
+}
+
+/// The first of the goods that a file with `count` goods does not have.
+fn first_missing(goods: &[u16], count: u16) -> Option<u16>
+    ensures { result ≡ missing_good count goods.now }
+{
+    goods.iter().copied().find(|good| *good >= count)
+}
+
+/// The values of the bundle of these goods, as they are printed, by the kind of sets that suits the file's bids.
+fn text_on_sets(
+    alloc: Global,
+    file: &PackedFile,
+    goods: &[u16],
+    options: SearchOptions,
+) -> Result<Vec<u8>, CanonFault>
+    requires facts { IsPlainFile file.now }
+    requires there { missing_good file.now.goods goods.now ≡ None }
+    ensures { MakesAs (values_unless (exceeds_limits (bundle_from goods.now) options file.now)
+        (bundle_from goods.now) file.now) result }
+{
+    on_set_for!(file, text_of_values(alloc, file, goods, options))
+}
+
+/// The values of the bundle of these goods, as they are printed.
+fn text_of_values<S: GoodsSet>(
+    alloc: Global,
+    file: &PackedFile,
+    goods: &[u16],
+    options: SearchOptions,
+) -> Result<Vec<u8>, CanonFault>
+    requires facts { IsPlainFile file.now }
+    requires cap { file.now.goods ≤ S.CAP }
+    requires there { missing_good file.now.goods goods.now ≡ None }
+    ensures { MakesAs (values_unless (exceeds_limits (bundle_from goods.now) options file.now)
+        (bundle_from goods.now) file.now) result }
+{
+    let bundle: S = bundle_of(alloc, goods)?;
+    let auction = auction_of(alloc, file)?;
+    let packing = best_packing(alloc, &auction, &bundle, options)?;
+    let numbers = bid_numbers(alloc, file)?;
+    let mut text = Vec::new(alloc);
+    push_or_line(&mut text, &packing, numbers.or_bids.as_slice())?;
+    push_xor_lines(
+        &mut text,
+        file,
+        auction.xor_bidders(),
+        numbers.xor_bids.as_slice(),
+        &bundle,
+    )?;
+    Ok(text)
+}
+
+/// A best packing of the bundle by the OR bidder.
+fn best_packing<S: GoodsSet>(
+    alloc: Global,
+    auction: &Auction<S>,
+    bundle: &S,
+    options: SearchOptions,
+) -> Result<Packing, CanonFault>
+    ensures { SearchesAs (plain_auction auction.now).or_atoms (S.goods bundle.now) options result }
+{
+    match or_value_by(alloc, auction.or_atoms(), bundle, options) {
+        Ok(packing) => Ok(packing),
+        Err(ValueFault::StepLimit) => {
+            let goods = goods_of(alloc, bundle)?;
+            Err(CanonFault::StepLimit { goods })
+        }
+        Err(ValueFault::Memory) => Err(CanonFault::Memory),
+    }
+}

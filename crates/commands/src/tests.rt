@@ -1,0 +1,106 @@
+//! Each command on files whose answer is known.
+
+use crate::{Answer, Output, check, compare, diff, explain, lp, normalise, revenue, show, value};
+use answers::RunFault;
+use cats_text::{Watched, write};
+use std::alloc::{AllocError, Global};
+use std::process::Abort;
+use std::test::Fail;
+use valuation::SearchOptions;
+
+/// A bid of the OR bidder, and two of an XOR bidder.
+static LADDER: &[u8] = b"goods 2\nbids 3\ndummy 1\n1 1.50 1 #\n0 5 0 2 #\n2 6 1 0 2 #\n";
+
+/// Its canonical text.
+static CANONICAL: &[u8] =
+    b"goods 2\nbids 3\ndummy 1\n0\t1.5\t1\t#\n1\t5\t0\t2\t#\n2\t6\t0\t1\t2\t#\n";
+
+/// The same without a bid.
+static CHEAPER: &[u8] = b"goods 2\nbids 2\ndummy 1\n0\t5\t0\t2\t#\n1\t6\t0\t1\t2\t#\n";
+
+/// Steps enough for these files.
+const STEPS: u64 = 1_000;
+
+/// What is printed.
+fn text_of(alloc: Global, output: Output) -> Result<Vec<u8>, AllocError> {
+    match output {
+        Output::Text(text) => Ok(text),
+        Output::File(file) => write(alloc, &file),
+    }
+}
+
+/// What a command answers.
+fn expect(
+    rt: &impl Abort,
+    alloc: Global,
+    answer: Result<Answer, RunFault>,
+    status: u8,
+    text: &[u8],
+) -> Result<(), Fail> {
+    let answer = answer?;
+    assert_eq!(rt; answer.status, status);
+    let printed = text_of(alloc, answer.output)?;
+    assert_eq!(rt; printed.as_slice(), text);
+    Ok(())
+}
+
+#[test]
+fn one_file(rt: HostRuntime) -> Result<(), Fail> {
+    let alloc = rt.alloc();
+    let options = SearchOptions::plain(STEPS);
+    let sizes = check(alloc, &mut Watched::new(LADDER));
+    expect(&rt, alloc, sizes, 0, b"goods 2 bids 3 dummy 1\n")?;
+    let shown = show(alloc, &mut Watched::new(LADDER));
+    let layout = b"goods 2\nbids 3\ndummy 1\n0\t5\t0\t2\t#\n1\t1.5\t1\t#\n2\t6\t0\t1\t2\t#\n";
+    expect(&rt, alloc, shown, 0, layout)?;
+    let normal = normalise(alloc, &mut Watched::new(LADDER), options);
+    expect(&rt, alloc, normal, 0, CANONICAL)?;
+    let values = value(alloc, &mut Watched::new(LADDER), &[1, 0], options);
+    expect(&rt, alloc, values, 0, b"or 1.5 1\nxor 2 6 2\n")?;
+    let winners = revenue(alloc, &mut Watched::new(LADDER), &[1, 0]);
+    expect(&rt, alloc, winners, 0, b"revenue 6.5\n")?;
+    let reasons = explain(alloc, &mut Watched::new(LADDER), STEPS, None);
+    let table = b"bid\tdummy\tprice\tgoods\treason\tkept\tby\n0\t0\t5\t0\tkeep\t1\t\n\
+        1\t\t1.5\t1\tkeep\t0\t\n2\t0\t6\t0,1\tkeep\t2\t\n";
+    expect(&rt, alloc, reasons, 0, table)
+}
+
+#[test]
+fn problem(rt: HostRuntime) -> Result<(), Fail> {
+    let alloc = rt.alloc();
+    let text =
+        b"Maximize\n revenue:\n + 5 x0\n + 1.5 x1\n + 6 x2\nSubject To\n g0:\n + x0\n + x2\n <= 1\n\
+        \x20g1:\n + x1\n + x2\n <= 1\n d0:\n + x0\n + x2\n <= 1\nBinary\n x0\n x1\n x2\nEnd\n";
+    let answer = lp(alloc, &mut Watched::new(LADDER));
+    expect(&rt, alloc, answer, 0, text)
+}
+
+#[test]
+fn two_files(rt: HostRuntime) -> Result<(), Fail> {
+    let alloc = rt.alloc();
+    let options = SearchOptions::plain(STEPS);
+    let same = compare(
+        alloc,
+        &mut Watched::new(LADDER),
+        &mut Watched::new(CANONICAL),
+        options,
+    );
+    expect(&rt, alloc, same, 0, b"same\n")?;
+    let other = compare(
+        alloc,
+        &mut Watched::new(LADDER),
+        &mut Watched::new(CHEAPER),
+        options,
+    );
+    let verdict = b"different\nor 1\nleft 1.5\nright below 1.5\n";
+    expect(&rt, alloc, other, 1, verdict)?;
+    let all = diff(
+        alloc,
+        &mut Watched::new(LADDER),
+        &mut Watched::new(CHEAPER),
+        options,
+    );
+    let table = b"kind\tgoods\tleft\tright\tleft_dummy\tright_dummy\tleft_bid\tright_bid\n\
+        or\t1\t1.5\t\t\t\t1\t\n";
+    expect(&rt, alloc, all, 1, table)
+}
