@@ -19,32 +19,23 @@ const TOTAL_STEPS: &str =
 const TOTAL_STEPS_BESIDE_BOUND: &str = "\
 The most steps that all searches together may take, from 1 to 1000000000000, only beside --bound [no limit by default]";
 
-/// The arguments of a subcommand for many files.
-const MANY: &[(&str, &str)] = &[
-    ("steps", STEPS_OF_BUNDLE),
-    ("total-steps", TOTAL_STEPS),
-    (
-        "progress",
-        "Reports on standard error how many files were read",
-    ),
-    (
-        "null",
-        "Prints each path as it is, and ends each line with NUL",
-    ),
-    (
-        "files0-from",
-        "The paths are in this file, each with NUL after it",
-    ),
-    ("FILE", "The paths of bid files"),
-];
+const PROGRESS: &str = "Reports on standard error how many files were read";
+
+const NULL: &str = "Prints each path as it is, and ends each line with NUL";
+
+const LIST: &str = "The paths are in this file, each with NUL after it";
+
+const FILES: &str = "The paths of bid files";
 
 /// The help of the program and of each subcommand.
-pub fn all_help<'a>() -> [CommandHelp<'a>; 12] {
+pub fn all_help<'a>() -> [CommandHelp<'a>; 14] {
     [
         program_help(),
         check_help(),
+        fault_help(),
         show_help(),
         value_help(),
+        revenue_help(),
         normalise_help(),
         explain_help(),
         round_help(),
@@ -74,6 +65,15 @@ fn check_help<'a>() -> CommandHelp<'a> {
     }
 }
 
+fn fault_help<'a>() -> CommandHelp<'a> {
+    CommandHelp {
+        name: "fault",
+        about: "Prints where the first fault of a bid file is, and what helps",
+        arguments: &[("FILE", FILE)],
+        after: FAULT,
+    }
+}
+
 fn show_help<'a>() -> CommandHelp<'a> {
     CommandHelp {
         name: "show",
@@ -95,9 +95,25 @@ fn value_help<'a>() -> CommandHelp<'a> {
             ),
             ("total-steps", TOTAL_STEPS_BESIDE_BOUND),
             ("FILE", FILE),
-            ("GOOD", "The goods of the bundle"),
+            (
+                "GOOD",
+                "The goods of the bundle: numbers, lists such as 0,1,2, and ranges such as 0-19",
+            ),
         ],
         after: VALUE,
+    }
+}
+
+fn revenue_help<'a>() -> CommandHelp<'a> {
+    CommandHelp {
+        name: "revenue",
+        about: "Prints the sum of the prices of bids that can win together, or which two cannot",
+        arguments: &[
+            ("bids", "The numbers of the bids are in this file"),
+            ("FILE", FILE),
+            ("BID", "The numbers of the bids"),
+        ],
+        after: REVENUE,
     }
 }
 
@@ -182,7 +198,18 @@ fn duplicates_help<'a>() -> CommandHelp<'a> {
     CommandHelp {
         name: "duplicates",
         about: "Prints which of many bid files are the same auction",
-        arguments: MANY,
+        arguments: &[
+            ("steps", STEPS_OF_BUNDLE),
+            ("total-steps", TOTAL_STEPS),
+            ("progress", PROGRESS),
+            ("null", NULL),
+            (
+                "all",
+                "Prints the files too that are the only ones of their auction",
+            ),
+            ("files0-from", LIST),
+            ("FILE", FILES),
+        ],
         after: DUPLICATES,
     }
 }
@@ -191,20 +218,27 @@ fn sizes_help<'a>() -> CommandHelp<'a> {
     CommandHelp {
         name: "sizes",
         about: "Prints a table of the numbers of bid files and of their canonical files",
-        arguments: MANY,
+        arguments: &[
+            ("steps", STEPS_OF_BUNDLE),
+            ("total-steps", TOTAL_STEPS),
+            ("progress", PROGRESS),
+            ("null", NULL),
+            ("files0-from", LIST),
+            ("FILE", FILES),
+        ],
         after: SIZES,
     }
 }
 
 const CATS: &str = "\
 A fault is one line on standard error. Statuses:
-   0  done; of compare and diff: the same auction
-   1  of compare and diff: different auctions
+   0  done; of compare and diff: the same auction; of revenue: the bids can win together
+   1  of compare and diff: different auctions; of revenue: two of the bids cannot win together
    2  a file is not a bid file, or longer than is read
    3  a search takes more steps than its limit: use --bound, and then a greater --steps
    4  memory was refused
    5  a file cannot be opened, a read failed, or the output failed
-  64  the command line is wrong, or names a good that the file does not have
+  64  the command line is wrong, or names a good or a bid that the file does not have
 
 The first fault of a file is reported as 'line L: KIND':
   Header          not the line that is due: 'goods N', 'bids N' and 'dummy N', in this order
@@ -231,11 +265,26 @@ Prints one line. For example:
 The path /dev/stdin is standard input:
   $ zcat auction.txt.gz | cats check /dev/stdin
 
+If the file is not a bid file, its first fault is reported. 'cats fault' prints the word that has it, and what helps.
+
 Statuses: 0; 2 if the file is not a bid file, 4, 5 and 64 as 'cats --help' lists them";
+
+const FAULT: &str = "\
+Prints two lines: the path, the line and the word of the file's first fault, with its kind and the word itself; and what
+helps. Lines and words are counted from 1. 'cats --help' lists the kinds. For example:
+  $ cats fault auction.txt
+  auction.txt:8:2: TooFine: 0.0123456
+  a price has at most six places after the point; `cats round` rounds it
+
+If the file is a bid file, nothing is printed.
+
+Statuses: 0 if the file is a bid file; 2 if it is not, 4, 5 and 64 as 'cats --help' lists them";
 
 const SHOW: &str = "\
 Prints the three lines of the header and a line for each bid, without comments. For example:
   $ cats show examples/two_bids.cats
+
+If the file is not a bid file, its first fault is reported. 'cats fault' prints the word that has it, and what helps.
 
 Statuses: 0; 2 if the file is not a bid file, 4, 5 and 64 as 'cats --help' lists them";
 
@@ -243,17 +292,31 @@ const VALUE: &str = "\
 Prints 'or', the greatest sum of prices of bids without a dummy good that lie in the bundle and share no good, and the
 numbers of these bids; then for each dummy good 'xor', the dummy good, the greatest price of its bids that lie in the
 bundle, and the number of the first that has it. For example, for all goods of a file with 40:
-  $ cats value auction.txt $(seq 0 39)
+  $ cats value auction.txt 0-39
+
+A good that is named twice counts once. Numbers, lists and ranges may stand side by side, as in '0-9,12 15 20-39'.
 
 A step is one packing: one family of the bids without a dummy good that lie in the bundle and share no good. A step
 takes 5 to 20 nanoseconds with up to 128 such bids, and some 30 nanoseconds more for each 1,000. If there are more than
 N packings, the program prints 'step limit at GOODS', with status 3. The bounded search decides many files that the
 plain search refuses, and its answer is the same. If it takes more steps too, a greater N lets the search go on:
-  $ cats value --bound auction.txt $(seq 0 39)
-  $ cats value --bound --steps 1000000000 auction.txt $(seq 0 39)
+  $ cats value --bound auction.txt 0-39
+  $ cats value --bound --steps 1000000000 auction.txt 0-39
 
 Statuses: 0; 2 if the file is not a bid file; 3 for the step limit: use --bound, and then a greater --steps; 64 for a
 good that the file does not have; 4 and 5 as 'cats --help' lists them";
+
+const REVENUE: &str = "\
+Prints 'revenue' and the sum of the bids' prices, if no two of them share a good or a dummy good. Else it prints the
+first two that do, and what they share. For example:
+  $ cats revenue examples/ladder.cats 0 1
+  revenue 7
+
+A bid that is named twice counts once. With --bids the numbers are in a file, with spaces or ends of lines between them:
+  $ cats revenue --bids winners.txt auction.txt
+
+Statuses: 0 if the bids can win together, 1 if not; 2 if the file is not a bid file; 64 for a bid that the file does not
+have; 4 and 5 as 'cats --help' lists them";
 
 const NORMALISE: &str = "\
 Prints the header and the bids that remain: those that the bidders' values need, in one order. Two files give the
@@ -316,10 +379,10 @@ Statuses: 0, whether or not a price was rounded; 2 if the text with its prices r
 64 as 'cats --help' lists them";
 
 const LP: &str = "\
-Prints the winner determination problem in CPLEX's LP format, which glpsol, cbc, HiGHS, SCIP, Gurobi and CPLEX read.
-Bid N is the binary variable xN, which is 1 if the bid wins, and the sum of the winners' prices is maximised. A row gN
-for each good, and a row dN for each dummy good, as its number among dummy goods, from 0, that two bids or more have
-says that one of them at most wins. For example:
+Prints the winner determination problem in CPLEX's LP format: glpsol and cbc read it, and other programs that read the
+LP format. Bid N is the binary variable xN, which is 1 if the bid wins, and the sum of the winners' prices is maximised.
+A row gN for each good, and a row dN for each dummy good, as its number among dummy goods, from 0, that two bids or more
+have says that one of them at most wins. For example:
   $ cats lp auction.txt > auction.lp
   $ glpsol --lp auction.lp -o winners
 
@@ -376,7 +439,8 @@ an empty line between two auctions. For example:
   examples/ladder.cats
   examples/ladder_rewritten.cats
 
-All files below a folder, however many there are:
+With --all each other file that was judged is printed too, as an auction of one file. All files below a folder, however
+many there are:
   $ find folder -type f -name '*.cats' -print0 | cats duplicates --files0-from /dev/stdin
 
 A control byte in a path is printed as \\n, \\t or \\x1b, with its two hexadecimal digits, and a backslash as \\\\.

@@ -1,5 +1,6 @@
 -- Proofs that several functions of this crate cite.
 pub mod Answering
+pub mod GoodsSoFar
 pub mod Lines
 pub mod PlainWords
 pub mod Reading

@@ -10,7 +10,8 @@ use Rattle.clap.specs.Simple.{Shape, built, entered, label_of, new_shape, rows_a
 use Rattle.clap.specs.ValueTests.{is_unsigned_in}
 use Rattle.clap.specs.Walk.{Row, Text, answers_to, idle, nothing_held, walk_from, walked}
 use Rattle.clap.specs.declared.error.kind.ErrorKind.TheVariants.{ValueValidation}
-use Rattle.command_line.specs.PlainRequests.{Check, Compare, Diff, Explain, Lp, Normalise, PlainRequest, Round, Show, Value}
+use Rattle.command_line.specs.PlainRequests.{Check, Compare, Diff, Explain, Fault, Lp, Normalise, PlainRequest, Round, Show, Value}
+use Rattle.command_line.specs.PlainRequests.{BidsIn, GivenBids, Revenue}
 use Rattle.command_line.specs.Subcommands.{begins_with_sign, cats, number_up_to, usual_limits}
 use Rattle.command_line.specs.Requests.{begins_with_hyphen, if_taken, request_from, request_of}
 use Rattle.command_line.proofs.PlainWords.{ArePlain, at, hyphens, level_after, rows_after_option, same_fault, same_rows}
@@ -30,6 +31,10 @@ plain_line name words plain =
 pub check_path : (program path : List ℕ) → begins_with_hyphen path ≡ false → request_of (program ∷ codes "check" ∷ path ∷ []) ≡ Some (Check path)
 unfolding clap_on_literals
 check_path program path plain = plain_line (codes "check") (path ∷ []) (plain, tt)
+
+pub fault_path : (program path : List ℕ) → begins_with_hyphen path ≡ false → request_of (program ∷ codes "fault" ∷ path ∷ []) ≡ Some (Fault path)
+unfolding clap_on_literals
+fault_path program path plain = plain_line (codes "fault") (path ∷ []) (plain, tt)
 
 pub show_path : (program path : List ℕ) → begins_with_hyphen path ≡ false → request_of (program ∷ codes "show" ∷ path ∷ []) ≡ Some (Show path)
 unfolding clap_on_literals
@@ -61,6 +66,11 @@ lp_path program path plain = plain_line (codes "lp") (path ∷ []) (plain, tt)
 pub any_path : (program path : List ℕ) → request_of (program ∷ codes "check" ∷ codes "--" ∷ path ∷ []) ≡ Some (Check path)
 unfolding clap_on_literals
 any_path program path = refl
+
+pub revenue_path : (program path : List ℕ) → begins_with_hyphen path ≡ false
+    → request_of (program ∷ codes "revenue" ∷ path ∷ []) ≡ Some (Revenue path (GivenBids []))
+unfolding clap_on_literals
+revenue_path program path plain = plain_line (codes "revenue") (path ∷ []) (plain, tt)
 
 pub compare_paths : (program first second : List ℕ) → begins_with_hyphen first ≡ false → begins_with_hyphen second ≡ false
     → request_of (program ∷ codes "compare" ∷ first ∷ second ∷ []) ≡ Some (Compare first second (usual_limits false))
@@ -103,6 +113,11 @@ pub exact_path : (program path : List ℕ) → begins_with_hyphen path ≡ false
 unfolding clap_on_literals
 exact_path program path plain = option_line (codes "round") (codes "--exact") refl refl (path ∷ []) (plain, tt)
 
+pub listed_bids : (program path list : List ℕ) → begins_with_hyphen path ≡ false
+    → request_of (program ∷ codes "revenue" ∷ (codes "--bids=" ++ list) ∷ path ∷ []) ≡ Some (Revenue path (BidsIn list))
+unfolding clap_on_literals
+listed_bids program path list plain = option_line (codes "revenue") (codes "--bids=" ++ list) refl refl (path ∷ []) (plain, tt)
+
 pub bounded_normalise : (program path : List ℕ) → begins_with_hyphen path ≡ false
     → request_of (program ∷ codes "normalise" ∷ codes "--bound" ∷ path ∷ []) ≡ Some (Normalise path (usual_limits true))
 unfolding clap_on_literals
@@ -126,11 +141,13 @@ abbrev pub value_fault : Bool → Kinds
 value_fault taken = or_else (or_else (or_else (or_else (or_else (if taken then [] else ValueValidation ∷ []) []) []) []) []) []
 
 -- a number with a sign requests nothing
-if_signed : (signed : Bool) (found : Option PlainRequest) → (if (((signed || false) || false) || false) then None else found) ≡ (if signed then None else found)
+if_signed : (signed : Bool) (found : Option PlainRequest)
+    → (if ((((signed || false) || false) || false) || false) then None else found) ≡ (if signed then None else found)
 if_signed true found = refl
 if_signed false found = refl
 
-if_none : (signed : Bool) (found : Option PlainRequest) → found ≡ None → (if (((signed || false) || false) || false) then None else found) ≡ None
+if_none : (signed : Bool) (found : Option PlainRequest) → found ≡ None
+    → (if ((((signed || false) || false) || false) || false) then None else found) ≡ None
 if_none true found none = refl
 if_none false found none = none
 
@@ -140,7 +157,7 @@ nothing (kind ∷ kinds) = refl
 
 -- the search has this limit
 abbrev pub limited_request : List ℕ → List ℕ → Option PlainRequest
-limited_request text path = option_map (Normalise path) (option_map (λ steps. record { bound = false; steps = steps; total = None })
+limited_request text path = option_map (λ limits. Normalise path limits) (option_map (λ steps. record { bound = false; steps = steps; total = None })
     (number_up_to 18446744073709551615 text))
 
 pub limit_attached : (program text path : List ℕ) → is_unsigned_in 1 1000000000 text ≡ true → begins_with_hyphen path ≡ false
@@ -149,7 +166,7 @@ unfolding clap_on_literals
 limit_attached program text path limit plain =
     option_line (codes "normalise") (codes "--steps=" ++ text) refl refl (path ∷ []) (plain, tt)
     ∙ ap (λ (taken : Bool). if_taken (value_fault taken)
-    (if (((begins_with_sign text || false) || false) || false) then None else limited_request text path)) limit
+    (if ((((begins_with_sign text || false) || false) || false) || false) then None else limited_request text path)) limit
     ∙ if_signed (begins_with_sign text) (limited_request text path)
 
 abbrev pub total_request : List ℕ → List ℕ → Option PlainRequest
@@ -161,11 +178,12 @@ unfolding clap_on_literals
 total_attached program text path limit plain =
     option_line (codes "explain") (codes "--total-steps=" ++ text) refl refl (path ∷ []) (plain, tt)
     ∙ ap (λ (taken : Bool). if_taken (value_fault taken)
-    (if (((begins_with_sign text || false) || false) || false) then None else total_request text path)) limit
+    (if ((((begins_with_sign text || false) || false) || false) || false) then None else total_request text path)) limit
     ∙ if_signed (begins_with_sign text) (total_request text path)
 
 -- whatever the text is, nothing is requested
-none_requested : (text : List ℕ) (kinds : Kinds) → if_taken kinds (if (((begins_with_sign text || false) || false) || false) then None else None) ≡ None
+none_requested : (text : List ℕ) (kinds : Kinds)
+    → if_taken kinds (if ((((begins_with_sign text || false) || false) || false) || false) then None else None) ≡ None
 none_requested text kinds = ap (if_taken kinds) (if_none (begins_with_sign text) None refl) ∙ nothing kinds
 
 pub unbounded_normalise : (program text path : List ℕ) → begins_with_hyphen path ≡ false

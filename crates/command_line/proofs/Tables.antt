@@ -11,7 +11,7 @@ use Rattle.clap.specs.Walk.{Row, Rule}
 use Rattle.command_line.specs.Internal.Commands.{rule_for, shape_for, with_row}
 use Rattle.command_line.specs.PlainRequests.{PlainRequest}
 use Rattle.command_line.specs.Requests.{request_from}
-use Rattle.command_line.specs.Subcommands.{has_more_files, has_signed_number}
+use Rattle.command_line.specs.Subcommands.{has_both_bids, has_more_files, has_signed_number}
 use Rattle.command_line.specs.declared.commands.Argument.{Argument}
 use Rattle.command_line.specs.declared.commands.Subcommand.{Subcommand}
 
@@ -40,15 +40,17 @@ differs a b ne = go (bytes_eq a b) refl
     go false is = is
 
 -- a name of no subcommand requests nothing
-pub no_subcommand : (name : List ℕ) (rows : List Row) → name ≢ codes "check" → name ≢ codes "show" → name ≢ codes "value" → name ≢ codes "normalise"
-    → name ≢ codes "explain" → name ≢ codes "round" → name ≢ codes "lp" → name ≢ codes "compare" → name ≢ codes "diff" → name ≢ codes "duplicates"
-    → name ≢ codes "sizes"
+pub no_subcommand : (name : List ℕ) (rows : List Row) → name ≢ codes "check" → name ≢ codes "fault" → name ≢ codes "show" → name ≢ codes "value" → name ≢ codes "revenue"
+    → name ≢ codes "normalise" → name ≢ codes "explain" → name ≢ codes "round" → name ≢ codes "lp"
+    → name ≢ codes "compare" → name ≢ codes "diff" → name ≢ codes "duplicates" → name ≢ codes "sizes"
     → request_from name rows ≡ None
-no_subcommand name rows check show value normalise explain round lp compare diff duplicates sizes =
+no_subcommand name rows check fault show value revenue normalise explain round lp compare diff duplicates sizes =
     rw (
       differs _ _ check,
+      differs _ _ fault,
       differs _ _ show,
       differs _ _ value,
+      differs _ _ revenue,
       differs _ _ normalise,
       differs _ _ explain,
       differs _ _ round,
@@ -57,7 +59,7 @@ no_subcommand name rows check show value normalise explain round lp compare diff
       differs _ _ diff,
       differs _ _ duplicates,
       differs _ _ sizes,
-    ) (either (has_signed_number rows || has_more_files rows) None refl)
+    ) (either (has_signed_number rows || has_more_files rows || has_both_bids rows) None refl)
   where
     either : (wrong : Bool) (found : Option PlainRequest) → found ≡ None → (if wrong then None else found) ≡ None
     either true found none = refl

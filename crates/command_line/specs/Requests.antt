@@ -12,17 +12,20 @@ use Rattle.clap.specs.Walk.{Row}
 use Rattle.clap.specs.declared.error.kind.ErrorKind.{ErrorKind}
 use Rattle.clap.specs.declared.error.kind.ErrorKind.TheVariants.{DisplayHelp, DisplayVersion}
 use Rattle.command_line.specs.PlainRequests.{PlainRequest}
-use Rattle.command_line.specs.Subcommands.{cats, has_more_files, has_signed_number, has_unbounded_total, second_in}
-use Rattle.command_line.specs.Subcommands.{subcommands}
+use Rattle.command_line.specs.Subcommands.{cats, has_both_bids, has_more_files, has_signed_number}
+use Rattle.command_line.specs.Subcommands.{has_unbounded_total, has_wrong_goods, second_in, subcommands}
 use Rattle.command_line.specs.declared.request.Misuse.{Misuse}
 use Rattle.command_line.specs.declared.request.Misuse.TheVariants.{SignedNumber, MoreThanOneFile, MoreThanTwoFiles}
-use Rattle.command_line.specs.declared.request.Misuse.TheVariants.{UnboundedTotal, WrongFiles}
+use Rattle.command_line.specs.declared.request.Misuse.TheVariants.{BidsTwice, UnboundedTotal}
+use Rattle.command_line.specs.declared.request.Misuse.TheVariants.{WrongGoods, WrongFiles}
 use Rattle.command_line.specs.declared.request.NoRequest.{NoRequest}
 use Rattle.command_line.specs.declared.request.NoRequest.TheVariants.{Help, WrongUsage, Misused, NoMemory}
 
--- what the subcommand of this name requests; nothing if a number has a sign, or if there are too many files
+-- what the subcommand of this name requests; nothing if a number has a sign, if there are too many files, or if both
+-- ways of naming bids are there
 abbrev pub request_from : List ℕ → List Row → Option PlainRequest
-request_from name rows = if has_signed_number rows || has_more_files rows then None
+request_from name rows = if has_signed_number rows || has_more_files rows
+    || has_both_bids rows then None
     else option_and_then (λ s. s.request rows) (find (λ s. bytes_eq s.name name) subcommands)
 
 -- a line without a fault requests this, and another nothing
@@ -43,7 +46,9 @@ file_misuse_in rows = if is_some (second_in rows) then MoreThanTwoFiles else Mor
 abbrev pub misuse_in : List Row → Misuse
 misuse_in rows = if has_signed_number rows then SignedNumber
     else (if has_more_files rows then file_misuse_in rows
-    else (if has_unbounded_total rows then UnboundedTotal else WrongFiles))
+    else (if has_both_bids rows then BidsTwice
+    else (if has_unbounded_total rows then UnboundedTotal
+    else (if has_wrong_goods rows then WrongGoods else WrongFiles))))
 
 abbrev pub misuse_of : List (List ℕ) → Misuse
 misuse_of words = option_map_or (λ p. misuse_in p.1) (subcommand_of cats words) WrongFiles

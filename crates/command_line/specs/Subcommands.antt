@@ -1,19 +1,20 @@
 -- The command line: its subcommands, each with its options and files, and what it requests. An option more is a row
 -- more.
-use Rattle.std.specs.Prelude.{◌==◌, ◌&&◌, ◌||◌, ℕ, Bool, true, false, not, List, [], ◌∷◌, map, pos, Option, Some, None}
-use Rattle.std.specs.Prelude.{codes, if◌then◌else◌, is_some, option_map, option_and_then}
+use Rattle.std.specs.Prelude.{◌==◌, ◌&&◌, ◌||◌, ℕ, Bool, true, false, not, List, [], ◌∷◌, ◌++◌, map, pos, Option, Some}
+use Rattle.std.specs.Prelude.{None, codes, if◌then◌else◌, is_none, is_some, option_map, option_and_then}
 use Rattle.std.specs.List.{list_any}
 use Rattle.std.specs.Option.{option_map_or}
 use Rattle.std.specs.Str.{bytes_eq}
-use Rattle.std.specs.Str.Parse.{digits_value, without_leading_plus}
 use Rattle.clap.specs.Lexer.{usize_max}
 use Rattle.clap.specs.Simple.{App, Shape, new_rule, new_shape}
-use Rattle.clap.specs.ValueTests.{is_unsigned_in}
 use Rattle.clap.specs.Walk.{Row, Rule, all_of, first_of, many_of, one_of}
 use Rattle.clap.specs.declared.builder.action.ArgAction.TheVariants.{SetTrue}
 use Rattle.clap.specs.declared.builder.value_parser.ValueParser.TheVariants.{Signed, Unsigned}
+pub use Rattle.command_line.specs.Numbers.{begins_with_sign, number_up_to, numbers_up_to}
+use Rattle.command_line.specs.Goods.{goods_of_words}
 use Rattle.command_line.specs.declared.request.Limits.{Limits}
-use Rattle.command_line.specs.PlainRequests.{PlainPaths, PlainFiles, PlainRequest, Given, ListedIn, Check, Show, Value}
+use Rattle.command_line.specs.PlainRequests.{PlainPaths, PlainBids, PlainFiles, PlainRequest, Given, ListedIn}
+use Rattle.command_line.specs.PlainRequests.{GivenBids, BidsIn, Check, Fault, Show, Value, Revenue}
 use Rattle.command_line.specs.PlainRequests.{Normalise, Explain, Round, Lp}
 use Rattle.command_line.specs.PlainRequests.{Compare, Diff, Duplicates, Sizes}
 
@@ -34,11 +35,15 @@ more_files = record (new_rule (codes "MORE_FILES")) {
 abbrev pub files : Rule
 files = record (new_rule (codes "FILE")) { range = Some (record { start_inclusive = 1; end_inclusive = usize_max }) }
 
--- goods have numbers of 16 bits
+-- words that name goods
 abbrev pub goods : Rule
-goods = record (new_rule (codes "GOOD")) {
+goods = record (new_rule (codes "GOOD")) { range = Some (record { start_inclusive = 0; end_inclusive = usize_max }) }
+
+-- bids have numbers of 32 bits
+abbrev pub bids : Rule
+bids = record (new_rule (codes "BID")) {
   range = Some (record { start_inclusive = 0; end_inclusive = usize_max });
-  parser = Some (Signed (pos 0) (pos 65535));
+  parser = Some (Signed (pos 0) (pos 4294967295));
 }
 
 -- ---- options and flags
@@ -55,9 +60,6 @@ steps = record (option (codes "steps")) { defaults = codes "1000000" ∷ []; par
 abbrev pub total_steps : Rule
 total_steps = record (option (codes "total-steps")) { parser = Some (Unsigned 1 1000000000000) }
 
-abbrev pub list : Rule
-list = option (codes "files0-from")
-
 abbrev pub flag : List ℕ → Rule
 flag name = record (new_rule name) { long = Some name; action = Some SetTrue }
 
@@ -69,19 +71,11 @@ null = record (flag (codes "null")) { short = Some 48 }
 abbrev pub bound : Rule
 bound = flag (codes "bound")
 
-abbrev pub many : List Rule
-many = steps ∷ total_steps ∷ flag (codes "progress") ∷ null ∷ list ∷ files ∷ []
+-- the rules of many files, with these behind the flags
+abbrev pub many : List Rule → List Rule
+many more = steps ∷ total_steps ∷ flag (codes "progress") ∷ null ∷ more ++ option (codes "files0-from") ∷ files ∷ []
 
 -- ---- what was given, by the rows of the arguments
-
--- the decimal number of a text, which may begin with '+', if it is at most this
-abbrev pub number_up_to : ℕ → List ℕ → Option ℕ
-number_up_to most text = if is_unsigned_in 0 most text then Some (digits_value 10 (without_leading_plus text)) else None
-
-abbrev pub numbers_up_to : ℕ → List (List ℕ) → Option (List ℕ)
-numbers_up_to most [] = Some []
-numbers_up_to most (text ∷ texts) =
-    option_and_then (λ n. option_map (λ ns. n ∷ ns) (numbers_up_to most texts)) (number_up_to most text)
 
 abbrev pub file_in : List Row → Option (List ℕ)
 file_in = first_of (codes "FILE")
@@ -90,7 +84,10 @@ abbrev pub second_in : List Row → Option (List ℕ)
 second_in = first_of (codes "SECOND_FILE")
 
 abbrev pub goods_in : List Row → Option (List ℕ)
-goods_in rows = option_map_or (numbers_up_to 65535) (many_of (codes "GOOD") rows) (Some [])
+goods_in rows = option_map_or goods_of_words (all_of (codes "GOOD") rows) (Some [])
+
+abbrev pub bid_numbers_in : List Row → Option (List ℕ)
+bid_numbers_in rows = option_map_or (numbers_up_to 4294967295) (many_of (codes "BID") rows) (Some [])
 
 -- the number that an option has
 abbrev pub number_in : List ℕ → List Row → Option ℕ
@@ -122,6 +119,19 @@ limits_in rows = if has_unbounded_total rows then None
 abbrev pub usual_limits : Bool → Limits
 usual_limits bounded = record { bound = bounded; steps = 1000000; total = None }
 
+-- a word names no goods
+abbrev pub has_wrong_goods : List Row → Bool
+has_wrong_goods rows = is_none (goods_in rows)
+
+-- a list of bids and words that name bids exclude each other
+abbrev pub has_both_bids : List Row → Bool
+has_both_bids rows = is_some (first_of (codes "bids") rows) && is_some (all_of (codes "BID") rows)
+
+-- the bids of the list, or else those that words name
+abbrev pub bids_in : List Row → Option PlainBids
+bids_in rows = option_map_or (λ list. Some (BidsIn list)) (first_of (codes "bids") rows)
+    (option_map GivenBids (bid_numbers_in rows))
+
 -- a list or paths, and not both
 abbrev pub paths_from : Option (List ℕ) → Option (List (List ℕ)) → Option PlainPaths
 paths_from (Some list) None = Some (ListedIn list)
@@ -137,6 +147,7 @@ files_in rows = option_and_then (λ limits. option_map (λ paths. record {
   limits = limits;
   progress = is_set (codes "progress") rows;
   null = is_set (codes "null") rows;
+  all = is_set (codes "all") rows;
 }) (paths_in rows)) (limits_in rows)
 
 abbrev pub has_more_files : List Row → Bool
@@ -144,17 +155,13 @@ has_more_files rows = is_some (first_of (codes "MORE_FILES") rows)
 
 -- ---- numbers have no sign
 
--- the first byte is '+' or '-'
-abbrev pub begins_with_sign : List ℕ → Bool
-begins_with_sign [] = false
-begins_with_sign (b ∷ rest) = b == 43 || b == 45
-
 abbrev pub is_signed : List ℕ → List Row → Bool
 is_signed name rows = option_map_or (list_any begins_with_sign) (all_of name rows) false
 
 abbrev pub has_signed_number : List Row → Bool
 has_signed_number rows =
-    is_signed (codes "steps") rows || (is_signed (codes "total-steps") rows || is_signed (codes "GOOD") rows)
+    is_signed (codes "steps") rows || (is_signed (codes "total-steps") rows
+    || (is_signed (codes "GOOD") rows || is_signed (codes "BID") rows))
 
 -- ---- the subcommands
 
@@ -166,30 +173,42 @@ pub record Subcommand : Type 0 where
 
 -- a request for one file under limits, and for two
 abbrev pub limited : (List ℕ → Limits → PlainRequest) → List Row → Option PlainRequest
-limited make rows = option_and_then (λ path. option_map (make path) (limits_in rows)) (file_in rows)
+limited make rows =
+    option_and_then (λ path. option_map (λ limits. make path limits) (limits_in rows)) (file_in rows)
 
 abbrev pub paired : (List ℕ → List ℕ → Limits → PlainRequest) → List Row → Option PlainRequest
-paired make rows =
-    option_and_then (λ first. option_and_then (λ second. option_map (make first second) (limits_in rows))
-    (second_in rows)) (file_in rows)
+paired make rows = option_and_then (λ first. option_and_then (λ second.
+    option_map (λ limits. make first second limits) (limits_in rows)) (second_in rows)) (file_in rows)
 
 abbrev pub valued : List Row → Option PlainRequest
-valued rows =
-    option_and_then (λ path. option_and_then (λ limits. option_map (λ given. Value path given limits) (goods_in rows))
-    (limits_in rows))
-    (file_in rows)
+valued rows = option_and_then (λ path. option_and_then (λ limits.
+    option_map (λ given. Value path given limits) (goods_in rows)) (limits_in rows)) (file_in rows)
+
+abbrev pub revenue : List Row → Option PlainRequest
+revenue rows = option_and_then (λ path.
+    option_map (λ named. Revenue path named) (bids_in rows)) (file_in rows)
 
 abbrev pub subcommands : List Subcommand
 subcommands =
     record { name = codes "check"; rules = file ∷ more_files ∷ []; request = λ rows. option_map Check (file_in rows) }
+    ∷ record { name = codes "fault"; rules = file ∷ more_files ∷ []; request = λ rows. option_map Fault (file_in rows) }
     ∷ record { name = codes "show"; rules = file ∷ more_files ∷ []; request = λ rows. option_map Show (file_in rows) }
     ∷ record { name = codes "value"; rules = bound ∷ steps ∷ total_steps ∷ file ∷ goods ∷ []; request = valued }
+    ∷ record {
+      name = codes "revenue";
+      rules = option (codes "bids") ∷ file ∷ bids ∷ [];
+      request = revenue;
+    }
     ∷ record {
       name = codes "normalise";
       rules = bound ∷ steps ∷ total_steps ∷ file ∷ more_files ∷ [];
       request = limited Normalise;
     }
-    ∷ record { name = codes "explain"; rules = steps ∷ total_steps ∷ file ∷ more_files ∷ []; request = limited Explain }
+    ∷ record {
+      name = codes "explain";
+      rules = steps ∷ total_steps ∷ file ∷ more_files ∷ [];
+      request = limited Explain;
+    }
     ∷ record {
       name = codes "round";
       rules = flag (codes "exact") ∷ file ∷ more_files ∷ [];
@@ -206,8 +225,12 @@ subcommands =
       rules = steps ∷ total_steps ∷ file ∷ second_file ∷ more_files ∷ [];
       request = paired Diff;
     }
-    ∷ record { name = codes "duplicates"; rules = many; request = λ rows. option_map Duplicates (files_in rows) }
-    ∷ record { name = codes "sizes"; rules = many; request = λ rows. option_map Sizes (files_in rows) }
+    ∷ record {
+      name = codes "duplicates";
+      rules = many (flag (codes "all") ∷ []);
+      request = λ rows. option_map Duplicates (files_in rows);
+    }
+    ∷ record { name = codes "sizes"; rules = many []; request = λ rows. option_map Sizes (files_in rows) }
     ∷ []
 
 abbrev pub shape_of_subcommand : Subcommand → Shape

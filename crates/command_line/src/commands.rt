@@ -3,8 +3,8 @@
 ghost use Rattle.std.specs.Prelude.{◌≡◌, IfOk, codes, false, fold};
 ghost use Rattle.clap.specs.Words.{app_of, rule_of};
 ghost use Rattle.command_line.specs.Internal.Commands.{has_globals, rule_for, shape_for, with_row};
-ghost use Rattle.command_line.specs.Subcommands.{bound, cats, file, files, flag, goods, list, more_files, null, steps};
-ghost use Rattle.command_line.specs.Subcommands.{total_steps};
+ghost use Rattle.command_line.specs.Subcommands.{bids, cats, file, files, flag, goods, more_files, null, option};
+ghost use Rattle.command_line.specs.Subcommands.{steps, total_steps};
 
 use crate::help::{CommandHelp, about_text, argument_text, find_help, text_after};
 use clap::{Arg, ArgAction, Command, value_parser};
@@ -19,6 +19,8 @@ pub(crate) const SECOND_FILE: &str = "SECOND_FILE";
 pub(crate) const MORE_FILES: &str = "MORE_FILES";
 
 pub(crate) const GOOD: &str = "GOOD";
+
+pub(crate) const BID: &str = "BID";
 
 pub(crate) const STEPS: &str = "steps";
 
@@ -35,6 +37,12 @@ pub(crate) const NULL: &str = "null";
 
 /// The option for a file that has the paths.
 pub(crate) const FILES0_FROM: &str = "files0-from";
+
+/// The option for a file that has the numbers of bids.
+pub(crate) const BIDS: &str = "bids";
+
+/// The flag for the files too that are the only ones of their auction.
+pub(crate) const ALL: &str = "all";
 
 pub(crate) const EXACT: &str = "exact";
 
@@ -58,6 +66,9 @@ enum Argument {
     Files,
     List,
     Goods,
+    Bids,
+    /// The option for a list of bids.
+    BidList,
     /// The option for a limit.
     Steps,
     /// The option for a limit of all searches together.
@@ -65,6 +76,7 @@ enum Argument {
     Bound,
     Progress,
     Null,
+    All,
     Exact,
 }
 
@@ -76,9 +88,13 @@ struct Subcommand {
 }
 
 /// The subcommands, as the help lists them.
-static SUBCOMMANDS: [Subcommand; 11] = [
+static SUBCOMMANDS: [Subcommand; 13] = [
     Subcommand {
         name: "check",
+        arguments: &[Argument::File, Argument::MoreFiles],
+    },
+    Subcommand {
+        name: "fault",
         arguments: &[Argument::File, Argument::MoreFiles],
     },
     Subcommand {
@@ -94,6 +110,10 @@ static SUBCOMMANDS: [Subcommand; 11] = [
             Argument::File,
             Argument::Goods,
         ],
+    },
+    Subcommand {
+        name: "revenue",
+        arguments: &[Argument::BidList, Argument::File, Argument::Bids],
     },
     Subcommand {
         name: "normalise",
@@ -150,6 +170,7 @@ static SUBCOMMANDS: [Subcommand; 11] = [
             Argument::TotalSteps,
             Argument::Progress,
             Argument::Null,
+            Argument::All,
             Argument::List,
             Argument::Files,
         ],
@@ -235,11 +256,14 @@ impl Argument {
             Argument::MoreFiles => MORE_FILES,
             Argument::List => FILES0_FROM,
             Argument::Goods => GOOD,
+            Argument::Bids => BID,
+            Argument::BidList => BIDS,
             Argument::Steps => STEPS,
             Argument::TotalSteps => TOTAL_STEPS,
             Argument::Bound => BOUND,
             Argument::Progress => PROGRESS,
             Argument::Null => NULL,
+            Argument::All => ALL,
             Argument::Exact => EXACT,
         }
     }
@@ -253,25 +277,26 @@ impl Argument {
             Argument::SecondFile => file_argument(alloc, SECOND_FILE).value_name(FILE),
             Argument::MoreFiles => more_files_argument(alloc),
             Argument::Files => files_argument(alloc),
-            Argument::List => list_option(alloc),
+            Argument::List => list_option(alloc, FILES0_FROM),
             Argument::Goods => goods_argument(alloc),
+            Argument::Bids => bids_argument(alloc),
+            Argument::BidList => list_option(alloc, BIDS),
             Argument::Steps => steps_option(alloc),
             Argument::TotalSteps => total_steps_option(alloc),
-            Argument::Bound => bound_flag(alloc),
-            Argument::Progress => progress_flag(alloc),
+            Argument::Bound => flag(alloc, BOUND),
+            Argument::Progress => flag(alloc, PROGRESS),
             Argument::Null => null_flag(alloc),
-            Argument::Exact => exact_flag(alloc),
+            Argument::All => flag(alloc, ALL),
+            Argument::Exact => flag(alloc, EXACT),
         }
     }
 }
 
-fn progress_flag<'a>(alloc: Global) -> Arg<'a>
-    ensures rule { rule_of result ≡ flag (codes "progress") }
+fn flag<'a>(alloc: Global, name: &'a str) -> Arg<'a>
+    ensures rule { rule_of result ≡ flag name.entry.now }
     ensures local { result.global ≡ false }
 {
-    Arg::new(alloc, PROGRESS)
-        .long(PROGRESS)
-        .action(ArgAction::SetTrue)
+    Arg::new(alloc, name).long(name).action(ArgAction::SetTrue)
 }
 
 fn null_flag<'a>(alloc: Global) -> Arg<'a>
@@ -284,23 +309,12 @@ fn null_flag<'a>(alloc: Global) -> Arg<'a>
         .action(ArgAction::SetTrue)
 }
 
-/// A list takes the place of the paths on the command line.
-fn list_option<'a>(alloc: Global) -> Arg<'a>
-    ensures rule { rule_of result ≡ list }
+/// A list takes the place of words on the command line.
+fn list_option<'a>(alloc: Global, name: &'a str) -> Arg<'a>
+    ensures rule { rule_of result ≡ option name.entry.now }
     ensures local { result.global ≡ false }
 {
-    Arg::new(alloc, FILES0_FROM)
-        .long(FILES0_FROM)
-        .value_name("LIST")
-}
-
-fn exact_flag<'a>(alloc: Global) -> Arg<'a>
-    ensures rule { rule_of result ≡ flag (codes "exact") }
-    ensures local { result.global ≡ false }
-{
-    Arg::new(alloc, EXACT)
-        .long(EXACT)
-        .action(ArgAction::SetTrue)
+    Arg::new(alloc, name).long(name).value_name("LIST")
 }
 
 fn steps_option<'a>(alloc: Global) -> Arg<'a>
@@ -322,15 +336,6 @@ fn total_steps_option<'a>(alloc: Global) -> Arg<'a>
         .long(TOTAL_STEPS)
         .value_name("N")
         .value_parser(value_parser!(u64).range(1..=MAX_TOTAL_STEPS))
-}
-
-fn bound_flag<'a>(alloc: Global) -> Arg<'a>
-    ensures rule { rule_of result ≡ bound }
-    ensures local { result.global ≡ false }
-{
-    Arg::new(alloc, BOUND)
-        .long(BOUND)
-        .action(ArgAction::SetTrue)
 }
 
 fn file_argument<'a>(alloc: Global, id: &'a str) -> Arg<'a>
@@ -355,11 +360,19 @@ fn files_argument<'a>(alloc: Global) -> Arg<'a>
     Arg::new(alloc, FILE).num_args(1..)
 }
 
+/// `clap` takes any words, and `goods` reads them.
 fn goods_argument<'a>(alloc: Global) -> Arg<'a>
     ensures rule { rule_of result ≡ goods }
     ensures local { result.global ≡ false }
 {
-    Arg::new(alloc, GOOD)
+    Arg::new(alloc, GOOD).num_args(0..)
+}
+
+fn bids_argument<'a>(alloc: Global) -> Arg<'a>
+    ensures rule { rule_of result ≡ bids }
+    ensures local { result.global ≡ false }
+{
+    Arg::new(alloc, BID)
         .num_args(0..)
-        .value_parser(value_parser!(u16))
+        .value_parser(value_parser!(u32))
 }

@@ -3,8 +3,8 @@
 
 ghost use Rattle.std.specs.Prelude.{◌≡◌, ◌++◌, ℕ, List, [], ◌∷◌, None, Some, codes, false, if◌then◌else◌, option_map};
 ghost use Rattle.std.specs.Prelude.{true};
-ghost use Rattle.command_line.specs.PlainRequests.{Check, Compare, Diff, Explain, Lp, Normalise, PlainRequest, Round};
-ghost use Rattle.command_line.specs.PlainRequests.{Show, Value};
+ghost use Rattle.command_line.specs.PlainRequests.{BidsIn, Check, Compare, Diff, Explain, Fault, GivenBids, Lp};
+ghost use Rattle.command_line.specs.PlainRequests.{Normalise, PlainRequest, Revenue, Round, Show, Value};
 ghost use Rattle.clap.specs.ValueTests.{is_unsigned_in};
 ghost use Rattle.command_line.specs.Subcommands.{begins_with_sign, number_up_to, usual_limits};
 ghost use Rattle.command_line.specs.Requests.{IsNoRequestOf, begins_with_hyphen, is_no_memory, request_of};
@@ -14,6 +14,8 @@ ghost use Rattle.command_line.specs.declared.request.NoRequest.{NoRequest};
 pub fn one_path()
     ensures check { (program path : List ℕ) → begins_with_hyphen path ≡ false
         → request_of (program ∷ codes "check" ∷ path ∷ []) ≡ Some (Check path) }
+    ensures fault { (program path : List ℕ) → begins_with_hyphen path ≡ false
+        → request_of (program ∷ codes "fault" ∷ path ∷ []) ≡ Some (Fault path) }
     ensures show { (program path : List ℕ) → begins_with_hyphen path ≡ false
         → request_of (program ∷ codes "show" ∷ path ∷ []) ≡ Some (Show path) }
     ensures normalise { (program path : List ℕ) → begins_with_hyphen path ≡ false
@@ -26,6 +28,8 @@ pub fn one_path()
         → request_of (program ∷ codes "round" ∷ path ∷ []) ≡ Some (Round path false) }
     ensures exact { (program path : List ℕ) → begins_with_hyphen path ≡ false
         → request_of (program ∷ codes "round" ∷ codes "--exact" ∷ path ∷ []) ≡ Some (Round path true) }
+    ensures revenue { (program path : List ℕ) → begins_with_hyphen path ≡ false
+        → request_of (program ∷ codes "revenue" ∷ path ∷ []) ≡ Some (Revenue path (GivenBids [])) }
     ensures lp { (program path : List ℕ) → begins_with_hyphen path ≡ false
         → request_of (program ∷ codes "lp" ∷ path ∷ []) ≡ Some (Lp path) }
 {}
@@ -41,6 +45,13 @@ pub fn two_paths()
         → request_of (program ∷ codes "compare" ∷ first ∷ second ∷ []) ≡ Some (Compare first second (usual_limits false)) }
     ensures diff { (program first second : List ℕ) → begins_with_hyphen first ≡ false → begins_with_hyphen second ≡ false
         → request_of (program ∷ codes "diff" ∷ first ∷ second ∷ []) ≡ Some (Diff first second (usual_limits true)) }
+{}
+
+/// The numbers of bids are in the file at any path that follows `--bids=`.
+pub fn listed_bids()
+    ensures { (program path list : List ℕ) → begins_with_hyphen path ≡ false
+        → request_of (program ∷ codes "revenue" ∷ (codes "--bids=" ++ list) ∷ path ∷ [])
+        ≡ Some (Revenue path (BidsIn list)) }
 {}
 
 /// `--bound` chooses the bounded search.
@@ -59,11 +70,9 @@ pub fn bounded()
 pub fn limit()
     ensures { (program text path : List ℕ) → is_unsigned_in 1 1000000000 text ≡ true → begins_with_hyphen path ≡ false
         → request_of (program ∷ codes "normalise" ∷ (codes "--steps=" ++ text) ∷ path ∷ [])
-        ≡ (if begins_with_sign text then None else option_map (Normalise path) (option_map (λ steps. record {
-          bound = false;
-          steps = steps;
-          total = None;
-        }) (number_up_to 18446744073709551615 text))) }
+        ≡ (if begins_with_sign text then None else option_map (λ limits. Normalise path limits)
+        (option_map (λ steps. record { bound = false; steps = steps; total = None })
+        (number_up_to 18446744073709551615 text))) }
 {}
 
 /// The limit of all searches together.

@@ -2,6 +2,7 @@
 #![tactic(auto)]
 
 mod commands;
+mod goods;
 mod help;
 pub mod laws;
 mod parser;
@@ -11,5 +12,7 @@ pub mod worked;
 
 pub use help::CommandHelp;
 pub use parser::parse;
-pub use request::{FilePaths, FilesRequest, Limits, Misuse, NoRequest, PairRequest, Request};
+pub use request::{
+    FilePaths, FilesRequest, Limits, Misuse, NamedBids, NoRequest, PairRequest, Request,
+};
 pub use version::VERSION;

@@ -6,22 +6,26 @@ ghost use Rattle.std.specs.Result.{result_ok};
 ghost use Rattle.clap.specs.Faults.{fault_of};
 ghost use Rattle.clap.specs.Words.{HasKind, all_of, first_of, kind_of};
 ghost use Rattle.command_line.specs.Internal.Matches.{IsAnswerTo, rows_in};
-ghost use Rattle.command_line.specs.PlainRequests.{Check, Explain, Lp, Normalise, PlainRequest, Round, Show};
-ghost use Rattle.command_line.specs.PlainRequests.{plain_files, plain_paths, plain_request};
+ghost use Rattle.command_line.specs.PlainRequests.{Check, Explain, Fault, Lp, Normalise, PlainRequest, Round, Show};
+ghost use Rattle.command_line.specs.PlainRequests.{plain_bids, plain_files, plain_paths, plain_request};
 ghost use Rattle.command_line.specs.Requests.{IsNoRequestOf, file_misuse_in, misuse_in, misuse_of, request_from};
 ghost use Rattle.command_line.specs.Requests.{request_of, texts_of};
-ghost use Rattle.command_line.specs.Subcommands.{begins_with_sign, cats, file_in, files_in, goods_in, has_more_files};
+ghost use Rattle.command_line.specs.Subcommands.{begins_with_sign, bid_numbers_in, bids_in, cats, file_in, files_in};
+ghost use Rattle.command_line.specs.Subcommands.{goods_in, has_both_bids, has_more_files, revenue};
 ghost use Rattle.command_line.specs.Subcommands.{has_signed_number};
 ghost use Rattle.command_line.specs.Subcommands.{has_unbounded_total, is_bounded, is_set, is_signed, limited, limits_in};
 ghost use Rattle.command_line.specs.Subcommands.{number_in, paired, paths_in, valued};
 ghost use Rattle.command_line.specs.declared.request.Limits.{Limits};
 
 use crate::commands::{
-    BOUND, EXACT, FILE, FILES0_FROM, GOOD, MORE_FILES, NULL, PROGRESS, SECOND_FILE, STEPS,
-    TOTAL_STEPS, cats_command,
+    ALL, BID, BIDS, BOUND, EXACT, FILE, FILES0_FROM, GOOD, MORE_FILES, NULL, PROGRESS, SECOND_FILE,
+    STEPS, TOTAL_STEPS, cats_command,
 };
+use crate::goods::goods_of_words;
 use crate::help::CommandHelp;
-use crate::request::{FilePaths, FilesRequest, Limits, Misuse, NoRequest, PairRequest, Request};
+use crate::request::{
+    FilePaths, FilesRequest, Limits, Misuse, NamedBids, NoRequest, PairRequest, Request,
+};
 use clap::error::ErrorKind;
 use clap::{ArgMatches, Error};
 use std::alloc::{AllocError, Global};
@@ -94,23 +98,27 @@ fn judge_subcommand<'a>(
 {
     match find_named_request(alloc, name, given)? {
         Some(request) => Ok(Ok(request)),
-        None => Ok(Err(misuse(given))),
+        None => Ok(Err(misuse(alloc, given)?)),
     }
 }
 
 /// Why a line without a request is wrong, by the matches of its subcommand.
-fn misuse(given: &ArgMatches<'_>) -> Misuse
-    ensures { result ≡ misuse_in (rows_in given.now) }
+fn misuse(alloc: Global, given: &ArgMatches<'_>) -> Result<Misuse, AllocError>
+    ensures { IfOk result (λ misuse. misuse ≡ misuse_in (rows_in given.now)) }
 {
-    if has_signed_number(given) {
+    Ok(if has_signed_number(given) {
         Misuse::SignedNumber
     } else if has_more_files(given) {
         file_misuse(given)
+    } else if has_both_bids(given) {
+        Misuse::BidsTwice
     } else if has_unbounded_total(given) {
         Misuse::UnboundedTotal
+    } else if find_goods(alloc, given)?.is_none() {
+        Misuse::WrongGoods
     } else {
         Misuse::WrongFiles
-    }
+    })
 }
 
 /// Of a line that has more files than its subcommand takes.
@@ -131,13 +139,15 @@ fn find_named_request<'a>(
 ) -> Result<Option<Request<'a>>, AllocError>
     ensures { IfOk result (λ found. option_map plain_request found ≡ request_from name.now (rows_in given.now)) }
 {
-    if has_signed_number(given) || has_more_files(given) {
+    if has_signed_number(given) || has_more_files(given) || has_both_bids(given) {
         return Ok(None);
     }
     match name {
         "check" => Ok(find_check_request(given)),
+        "fault" => Ok(find_fault_request(given)),
         "show" => Ok(find_show_request(given)),
         "value" => find_value_request(alloc, given),
+        "revenue" => find_revenue_request(alloc, given),
         "normalise" => Ok(find_normalise_request(given)),
         "explain" => Ok(find_explain_request(given)),
         "round" => Ok(find_round_request(given)),
@@ -155,6 +165,13 @@ fn find_check_request<'a>(given: &ArgMatches<'a>) -> Option<Request<'a>>
 {
     let file = find_text(given, FILE)?;
     Some(Request::Check { file })
+}
+
+fn find_fault_request<'a>(given: &ArgMatches<'a>) -> Option<Request<'a>>
+    ensures { option_map plain_request result ≡ option_map Fault (file_in (rows_in given.now)) }
+{
+    let file = find_text(given, FILE)?;
+    Some(Request::Fault { file })
 }
 
 fn find_show_request<'a>(given: &ArgMatches<'a>) -> Option<Request<'a>>
@@ -186,15 +203,49 @@ fn find_value_request<'a>(
 fn find_goods(alloc: Global, given: &ArgMatches<'_>) -> Result<Option<Vec<u16>>, AllocError>
     ensures { IfOk result (λ goods. option_map (λ found. found.items) goods ≡ goods_in (rows_in given.now)) }
 {
-    let mut goods = Vec::new(alloc);
-    let Some(words) = given.get_many::<u16>(GOOD) else {
-        return Ok(Some(goods));
-    };
-    for good in words {
-        let Ok(good) = good else { return Ok(None) };
-        goods.push(good)?;
+    match find_texts(given, GOOD) {
+        Some(words) => goods_of_words(alloc, words),
+        None => Ok(Some(Vec::new(alloc))),
     }
-    Ok(Some(goods))
+}
+
+fn find_revenue_request<'a>(
+    alloc: Global,
+    given: &ArgMatches<'a>,
+) -> Result<Option<Request<'a>>, AllocError>
+    ensures { IfOk result (λ found. option_map plain_request found ≡ revenue (rows_in given.now)) }
+{
+    let (Some(file), Some(bids)) = (find_text(given, FILE), find_bids(alloc, given)?) else {
+        return Ok(None);
+    };
+    Ok(Some(Request::Revenue { file, bids }))
+}
+
+/// The bids of a list, or else those that words name.
+fn find_bids<'a>(alloc: Global, given: &ArgMatches<'a>) -> Result<Option<NamedBids<'a>>, AllocError>
+    ensures { IfOk result (λ found. option_map plain_bids found ≡ bids_in (rows_in given.now)) }
+{
+    if let Some(list) = find_text(given, BIDS) {
+        return Ok(Some(NamedBids::ListedIn(list)));
+    }
+    match find_numbers(alloc, given)? {
+        Some(numbers) => Ok(Some(NamedBids::Given(numbers))),
+        None => Ok(None),
+    }
+}
+
+fn find_numbers(alloc: Global, given: &ArgMatches<'_>) -> Result<Option<Vec<u32>>, AllocError>
+    ensures { IfOk result (λ numbers. option_map (λ found. found.items) numbers ≡ bid_numbers_in (rows_in given.now)) }
+{
+    let mut numbers = Vec::new(alloc);
+    let Some(words) = given.get_many::<u32>(BID) else {
+        return Ok(Some(numbers));
+    };
+    for number in words {
+        let Ok(number) = number else { return Ok(None) };
+        numbers.push(number)?;
+    }
+    Ok(Some(numbers))
 }
 
 fn find_normalise_request<'a>(given: &ArgMatches<'a>) -> Option<Request<'a>>
@@ -231,7 +282,8 @@ fn find_lp_request<'a>(given: &ArgMatches<'a>) -> Option<Request<'a>>
 
 fn find_pair_request<'a>(given: &ArgMatches<'a>) -> Option<PairRequest<'a>>
     ensures { (make : List ℕ → List ℕ → Limits → PlainRequest)
-        → option_map (λ pair. make pair.first.now pair.second.now pair.limits) result ≡ paired make (rows_in given.now) }
+        → option_map (λ pair. make pair.first.now pair.second.now pair.limits) result
+        ≡ paired make (rows_in given.now) }
 {
     let first = find_text(given, FILE)?;
     let second = find_text(given, SECOND_FILE)?;
@@ -257,6 +309,7 @@ fn find_files_request<'a>(
         limits,
         progress: is_set(given, PROGRESS),
         null: is_set(given, NULL),
+        all: is_set(given, ALL),
     }))
 }
 
@@ -316,6 +369,13 @@ fn find_limits(given: &ArgMatches<'_>) -> Option<Limits>
     })
 }
 
+/// Whether the line has both a list of bids and words that name bids.
+fn has_both_bids(given: &ArgMatches<'_>) -> bool
+    ensures { result ≡ has_both_bids (rows_in given.now) }
+{
+    find_text(given, BIDS).is_some() && find_texts(given, BID).is_some()
+}
+
 /// Whether there is a limit of all searches together, but not for the bounded search, which alone has one.
 fn has_unbounded_total(given: &ArgMatches<'_>) -> bool
     ensures { result ≡ has_unbounded_total (rows_in given.now) }
@@ -351,7 +411,10 @@ fn has_more_files(given: &ArgMatches<'_>) -> bool
 fn has_signed_number(given: &ArgMatches<'_>) -> bool
     ensures { result ≡ has_signed_number (rows_in given.now) }
 {
-    is_signed(given, STEPS) || is_signed(given, TOTAL_STEPS) || is_signed(given, GOOD)
+    is_signed(given, STEPS)
+        || is_signed(given, TOTAL_STEPS)
+        || is_signed(given, GOOD)
+        || is_signed(given, BID)
 }
 
 fn is_signed(given: &ArgMatches<'_>, id: &str) -> bool
@@ -369,7 +432,7 @@ fn is_any_signed(numbers: &[&str]) -> bool
     numbers.iter().any(|number| begins_with_sign(number))
 }
 
-fn begins_with_sign(text: &str) -> bool
+pub(crate) fn begins_with_sign(text: &str) -> bool
     ensures { result ≡ begins_with_sign text.now }
 {
     matches!(text.as_bytes().first(), Some(b'+' | b'-'))

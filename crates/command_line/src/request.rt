@@ -6,6 +6,9 @@ pub enum Request<'a> {
     Check {
         file: &'a str,
     },
+    Fault {
+        file: &'a str,
+    },
     Show {
         file: &'a str,
     },
@@ -13,6 +16,10 @@ pub enum Request<'a> {
         file: &'a str,
         goods: Vec<u16>,
         limits: Limits,
+    },
+    Revenue {
+        file: &'a str,
+        bids: NamedBids<'a>,
     },
     Normalise {
         file: &'a str,
@@ -54,6 +61,15 @@ pub struct PairRequest<'a> {
     pub limits: Limits,
 }
 
+/// Bids of a file, by their numbers.
+#[derive(Debug, Drop)]
+pub enum NamedBids<'a> {
+    /// Words of the command line are the numbers.
+    Given(Vec<u32>),
+    /// The numbers are in the file at this path.
+    ListedIn(&'a str),
+}
+
 /// What is to be done with many files.
 #[derive(Debug, Drop)]
 pub struct FilesRequest<'a> {
@@ -63,6 +79,8 @@ pub struct FilesRequest<'a> {
     pub progress: bool,
     /// Whether each path of the output ends with NUL.
     pub null: bool,
+    /// Whether the files are printed too that are the only ones of their auction. It is false for `sizes`.
+    pub all: bool,
 }
 
 /// Where the paths of many files are.
@@ -96,8 +114,12 @@ pub enum Misuse {
     MoreThanOneFile,
     /// It has a third file, and its subcommand takes two.
     MoreThanTwoFiles,
+    /// It has both a list of bids and bids.
+    BidsTwice,
     /// It has a limit of all searches together, and not the bounded search, which alone has such a limit.
     UnboundedTotal,
+    /// A word that ought to name goods is not a list of numbers and ranges.
+    WrongGoods,
     /// It has both a list of paths and paths, or neither.
     WrongFiles,
 }

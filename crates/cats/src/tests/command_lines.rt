@@ -53,35 +53,35 @@ static REQUESTS: [(&[&str], &str); 26] = [
     ),
     (
         &["cats", "duplicates", "a", "b", "a"],
-        "Duplicates(FilesRequest { paths: Given([[97], [98], [97]]), limits: Limits { bound: true, steps: 1000000, total: None }, progress: false, null: false })",
+        "Duplicates(FilesRequest { paths: Given([[97], [98], [97]]), limits: Limits { bound: true, steps: 1000000, total: None }, progress: false, null: false, all: false })",
     ),
     (
         &["cats", "duplicates", "--progress", "a", "b", "--steps=9"],
-        "Duplicates(FilesRequest { paths: Given([[97], [98]]), limits: Limits { bound: true, steps: 9, total: None }, progress: true, null: false })",
+        "Duplicates(FilesRequest { paths: Given([[97], [98]]), limits: Limits { bound: true, steps: 9, total: None }, progress: true, null: false, all: false })",
     ),
     (
         &["cats", "duplicates", "-0", "a"],
-        "Duplicates(FilesRequest { paths: Given([[97]]), limits: Limits { bound: true, steps: 1000000, total: None }, progress: false, null: true })",
+        "Duplicates(FilesRequest { paths: Given([[97]]), limits: Limits { bound: true, steps: 1000000, total: None }, progress: false, null: true, all: false })",
     ),
     (
         &["cats", "duplicates", "a", "--", "-0"],
-        "Duplicates(FilesRequest { paths: Given([[97], [45, 48]]), limits: Limits { bound: true, steps: 1000000, total: None }, progress: false, null: false })",
+        "Duplicates(FilesRequest { paths: Given([[97], [45, 48]]), limits: Limits { bound: true, steps: 1000000, total: None }, progress: false, null: false, all: false })",
     ),
     (
         &["cats", "duplicates", "--files0-from", "a"],
-        "Duplicates(FilesRequest { paths: ListedIn(\"a\"), limits: Limits { bound: true, steps: 1000000, total: None }, progress: false, null: false })",
+        "Duplicates(FilesRequest { paths: ListedIn(\"a\"), limits: Limits { bound: true, steps: 1000000, total: None }, progress: false, null: false, all: false })",
     ),
     (
         &["cats", "sizes", "a"],
-        "Sizes(FilesRequest { paths: Given([[97]]), limits: Limits { bound: true, steps: 1000000, total: None }, progress: false, null: false })",
+        "Sizes(FilesRequest { paths: Given([[97]]), limits: Limits { bound: true, steps: 1000000, total: None }, progress: false, null: false, all: false })",
     ),
     (
         &["cats", "sizes", "--steps=9", "a", "--progress", "b"],
-        "Sizes(FilesRequest { paths: Given([[97], [98]]), limits: Limits { bound: true, steps: 9, total: None }, progress: true, null: false })",
+        "Sizes(FilesRequest { paths: Given([[97], [98]]), limits: Limits { bound: true, steps: 9, total: None }, progress: true, null: false, all: false })",
     ),
     (
         &["cats", "sizes", "a", "--null", "é"],
-        "Sizes(FilesRequest { paths: Given([[97], [195, 169]]), limits: Limits { bound: true, steps: 1000000, total: None }, progress: false, null: true })",
+        "Sizes(FilesRequest { paths: Given([[97], [195, 169]]), limits: Limits { bound: true, steps: 1000000, total: None }, progress: false, null: true, all: false })",
     ),
     (
         &[
@@ -91,7 +91,7 @@ static REQUESTS: [(&[&str], &str); 26] = [
             "-0",
             "--progress",
         ],
-        "Sizes(FilesRequest { paths: ListedIn(\"/dev/stdin\"), limits: Limits { bound: true, steps: 1000000, total: None }, progress: true, null: true })",
+        "Sizes(FilesRequest { paths: ListedIn(\"/dev/stdin\"), limits: Limits { bound: true, steps: 1000000, total: None }, progress: true, null: true, all: false })",
     ),
     (
         &["cats", "normalise", "--bound", "--total-steps=5", "a"],
@@ -182,15 +182,13 @@ fn help_texts(rt: HostRuntime) {
 }
 
 /// Command lines that are no request.
-static WRONG_LINES: [&[&str]; 18] = [
+static WRONG_LINES: [&[&str]; 16] = [
     &[],
     &["cats"],
     &["cats", "check"],
     &["cats", "Check", "a"],
     &["cats", "value", "--steps", "0", "a"],
-    &["cats", "value", "a", "65536"],
     &["cats", "diff", "a"],
-    &["cats", "value", "a", "b"],
     // two lists, a list without its path, and `-0` twice
     &["cats", "duplicates", "--files0-from=a", "--files0-from=b"],
     &["cats", "sizes", "--files0-from"],
@@ -214,7 +212,7 @@ fn wrong_usage(rt: HostRuntime) {
 }
 
 /// Command lines that `clap` takes and that are wrong, and why.
-static MISUSES: [(&[&str], Misuse); 20] = [
+static MISUSES: [(&[&str], Misuse); 22] = [
     (&["cats", "duplicates"], Misuse::WrongFiles),
     (&["cats", "sizes", "--total-steps=5"], Misuse::WrongFiles),
     (
@@ -246,6 +244,8 @@ static MISUSES: [(&[&str], Misuse); 20] = [
         Misuse::SignedNumber,
     ),
     (&["cats", "sizes", "--steps=+5"], Misuse::SignedNumber),
+    (&["cats", "value", "a", "65536"], Misuse::WrongGoods),
+    (&["cats", "value", "a", "b"], Misuse::WrongGoods),
     (&["cats", "value", "a", "0", "+1"], Misuse::SignedNumber),
     (&["cats", "value", "a", "--", "-0"], Misuse::SignedNumber),
     (&["cats", "check", "a", "b"], Misuse::MoreThanOneFile),

@@ -113,14 +113,16 @@ fn usage_faults(rt: HostRuntime) -> Result<(), Fail> {
 }
 
 /// Command lines that name help.
-static HELP_LINES: [&str; 13] = [
+static HELP_LINES: [&str; 15] = [
     "cats --help",
     "cats -h",
     "cats help",
     "cats help check",
     "cats check --help",
+    "cats fault --help",
     "cats show --help",
     "cats value --help",
+    "cats revenue --help",
     "cats normalise --help",
     "cats explain --help",
     "cats lp --help",

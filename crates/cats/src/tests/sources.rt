@@ -68,7 +68,7 @@ impl Alloc for FilesInMemory<'_> {
     }
 }
 
-static FILES: [(&str, &[u8]); 22] = [
+static FILES: [(&str, &[u8]); 24] = [
     ("one", b"goods 1\nbids 1\ndummy 0\n0 3 0 #\n"),
     ("same", b"goods 1\nbids 2\ndummy 0\n0 3 0 #\n1 2 0 #\n"),
     ("other", b"goods 1\nbids 1\ndummy 0\n0 4 0 #\n"),
@@ -82,6 +82,9 @@ static FILES: [(&str, &[u8]); 22] = [
         "bidders",
         b"goods 2\nbids 4\ndummy 3\n0 1 0 2 #\n1 1 0 4 #\n2 2 1 4 #\n3 9 1 #\n",
     ),
+    // lists of bids
+    ("bids", b"1\r\n0\t1\n"),
+    ("words", b"1 0\nx\n"),
     // lists of paths
     ("list", b"one\0other\0same\0"),
     ("list without its last NUL", b"one\0other\0same"),
@@ -114,7 +117,7 @@ static REFUSED: [(&str, Unopened); 4] = [
 /// A command line's words, and what it answers: its status, its output and its faults' lines.
 type Row<'a> = (&'a [&'a str], u8, &'a str, &'a str);
 
-static ROWS: [Row<'static>; 37] = [
+static ROWS: [Row<'static>; 50] = [
     (
         &["cats", "--version"],
         0,
@@ -348,6 +351,71 @@ none: cannot open: no such file\nbroken: cannot open\n",
         64,
         "",
         "error: give paths, or '--files0-from <LIST>', and not both\n\nFor more information, try '--help'.\n",
+    ),
+    (
+        &["cats", "duplicates", "--all", "one", "other", "same"],
+        0,
+        "one\nsame\n\nother\n",
+        "",
+    ),
+    (&["cats", "value", "sum", "0-1"], 0, "or 7 2\n", ""),
+    (&["cats", "revenue", "sum", "0", "1"], 0, "revenue 7\n", ""),
+    (
+        &["cats", "revenue", "--bids", "bids", "sum"],
+        0,
+        "revenue 7\n",
+        "",
+    ),
+    (
+        &["cats", "revenue", "sum", "2", "1"],
+        1,
+        "bids 1 and 2 share good 1\n",
+        "",
+    ),
+    (
+        &["cats", "revenue", "sum", "3"],
+        64,
+        "",
+        "bid 3 out of range\n",
+    ),
+    // the list comes before the file
+    (
+        &["cats", "revenue", "--bids", "words", "none"],
+        2,
+        "",
+        "words: line 2: NotANumber\n",
+    ),
+    (
+        &["cats", "revenue", "--bids", "none", "sum"],
+        5,
+        "",
+        "none: cannot open: no such file\n",
+    ),
+    (
+        &["cats", "revenue", "--bids", "bids", "none"],
+        5,
+        "",
+        "cannot open\n",
+    ),
+    (
+        &["cats", "revenue", "--bids", "bids", "sum", "0"],
+        64,
+        "",
+        "error: give bids, or '--bids <LIST>', and not both\n\nFor more information, try '--help'.\n",
+    ),
+    (
+        &["cats", "value", "sum", "1-0"],
+        64,
+        "",
+        "error: goods are numbers and ranges, as in '0,2-5'\n\nFor more information, try '--help'.\n",
+    ),
+    (&["cats", "fault", "one"], 0, "", ""),
+    (
+        &["cats", "fault", "bad"],
+        2,
+        "bad:2:1: Missing\n\
+        there are three header lines, and as many bid lines as `bids` says; add lines, or correct `bids`\n",
+        "",
     ),
     (
         &["cats", "round", "fine"],

@@ -1,4 +1,5 @@
-use Rattle.command_line.proofs.Lines.{check_path, show_path, normalise_path, explain_path, value_path, round_path, exact_path, lp_path}
+use Rattle.command_line.proofs.Lines.{check_path, exact_path, explain_path, fault_path, lp_path, normalise_path, revenue_path}
+use Rattle.command_line.proofs.Lines.{round_path, show_path, value_path}
 use Rattle.command_line.proofs.laws.one_path.Goals as goal
 
 pub returns-clause-check : goal.returns-clause-check
@@ -24,3 +25,9 @@ returns-clause-exact c = exact_path
 
 pub returns-clause-lp : goal.returns-clause-lp
 returns-clause-lp c = lp_path
+
+pub returns-clause-fault : goal.returns-clause-fault
+returns-clause-fault c = fault_path
+
+pub returns-clause-revenue : goal.returns-clause-revenue
+returns-clause-revenue c = revenue_path

@@ -1,0 +1,8 @@
+use Rattle.std.proofs.Common.{◌∙◌, rules, tests}
+use Rattle.command_line.proofs.GoodsSoFar.{no_word, one_word}
+use Rattle.command_line.proofs.goods.goods_of_words.Goals as goal
+
+pub loop-word-preserved : goal.loop-word-preserved
+loop-word-preserved c =
+    c.loop-word.invariant ∙ one_word c.loop-word.goods.items c.push_word.new.goods.items c.args.words.now c.loop-word.word-index _ c.loop-word-test.true _
+    (search (rules, tests)) c.in_ok-push_word.ensures

@@ -1,0 +1,9 @@
+use Rattle.std.proofs.Common.{◌≡◌, drop}
+use Rattle.command_line.specs.Goods.{goods_of_words}
+use Rattle.command_line.specs.Requests.{texts_of}
+use Rattle.command_line.proofs.GoodsSoFar.{after}
+use Rattle.command_line.proofs.goods.goods_of_words.Given as goal
+
+-- the goods so far, and those of the words that are left
+abbrev pub invariant-loop-word : goal.invariant-loop-word
+invariant-loop-word l = goods_of_words (texts_of l.words) ≡ after l.goods.items (goods_of_words (texts_of (drop l.word-index l.words)))

@@ -1,0 +1,7 @@
+use Rattle.std.proofs.Common.{◌≡◌, ◌++◌, ◌-◌}
+use Rattle.std.specs.List.{range_with_len}
+use Rattle.command_line.proofs.goods.push_range.Given as goal
+
+-- the goods below this one are pushed
+abbrev pub invariant-loop-good : goal.invariant-loop-good
+invariant-loop-good l = l.goods.items ≡ l.initial.goods.items ++ range_with_len l.first (l.good - l.first)

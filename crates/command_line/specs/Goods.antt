@@ -1,0 +1,41 @@
+-- The goods that words name: each word is a list, with commas, of numbers and of ranges of numbers.
+use Rattle.std.specs.Prelude.{◌==◌, ◌-◌, ◌+◌, ◌++◌, ℕ, List, [], ◌∷◌, nat_le, Option, Some, None, if◌then◌else◌}
+use Rattle.std.specs.Prelude.{option_and_then, option_map}
+use Rattle.std.specs.List.{range_with_len, slice_split}
+use Rattle.command_line.specs.Numbers.{begins_with_sign, number_up_to}
+
+-- goods have numbers of 16 bits, which are digits alone
+abbrev pub good_of : List ℕ → Option ℕ
+good_of text = if begins_with_sign text then None else number_up_to 65535 text
+
+abbrev pub both : Option ℕ → Option ℕ → Option (ℕ × ℕ)
+both first last = option_and_then (λ a. option_map (λ b. (a, b)) last) first
+
+-- the first and the last number of a range, by its texts; one number is both
+abbrev pub ends_of : List (List ℕ) → Option (ℕ × ℕ)
+ends_of (text ∷ []) = both (good_of text) (good_of text)
+ends_of (first ∷ last ∷ []) = both (good_of first) (good_of last)
+ends_of _ = None
+
+abbrev pub goods_between : ℕ → ℕ → Option (List ℕ)
+goods_between first last = if nat_le first last then Some (range_with_len first (last + 1 - first)) else None
+
+-- the goods of a number, or of a range, which has a hyphen (45) between its ends
+abbrev pub goods_of_part : List ℕ → Option (List ℕ)
+goods_of_part part = option_and_then (λ ends. goods_between ends.0 ends.1) (ends_of (slice_split (λ b. b == 45) part))
+
+-- two lists in one, if both are there
+abbrev pub joined : Option (List ℕ) → Option (List ℕ) → Option (List ℕ)
+joined found more = option_and_then (λ xs. option_map (λ ys. xs ++ ys) more) found
+
+abbrev pub goods_of_parts : List (List ℕ) → Option (List ℕ)
+goods_of_parts [] = Some []
+goods_of_parts (part ∷ parts) = joined (goods_of_part part) (goods_of_parts parts)
+
+-- the parts of a word have commas (44) between them
+abbrev pub goods_of_word : List ℕ → Option (List ℕ)
+goods_of_word word = goods_of_parts (slice_split (λ b. b == 44) word)
+
+abbrev pub goods_of_words : List (List ℕ) → Option (List ℕ)
+goods_of_words [] = Some []
+goods_of_words (word ∷ words) = joined (goods_of_word word) (goods_of_words words)

@@ -1,0 +1,19 @@
+-- Numbers of a command line, by their texts.
+use Rattle.std.specs.Prelude.{◌==◌, ◌||◌, ℕ, Bool, false, List, [], ◌∷◌, Option, Some, None, if◌then◌else◌, option_map}
+use Rattle.std.specs.Prelude.{option_and_then}
+use Rattle.std.specs.Str.Parse.{digits_value, without_leading_plus}
+use Rattle.clap.specs.ValueTests.{is_unsigned_in}
+
+-- the decimal number of a text, which may begin with '+', if it is at most this
+abbrev pub number_up_to : ℕ → List ℕ → Option ℕ
+number_up_to most text = if is_unsigned_in 0 most text then Some (digits_value 10 (without_leading_plus text)) else None
+
+abbrev pub numbers_up_to : ℕ → List (List ℕ) → Option (List ℕ)
+numbers_up_to most [] = Some []
+numbers_up_to most (text ∷ texts) =
+    option_and_then (λ n. option_map (λ ns. n ∷ ns) (numbers_up_to most texts)) (number_up_to most text)
+
+-- the first byte is '+' or '-'
+abbrev pub begins_with_sign : List ℕ → Bool
+begins_with_sign [] = false
+begins_with_sign (b ∷ rest) = b == 43 || b == 45
