@@ -1,5 +1,5 @@
-// The proved library libcats: bid files of combinatorial auctions, checked, normalised, explained, rounded and compared. docs/C.md shows
-// how it is used, and docs/FORMAT.md has the texts.
+// The proved library libcats: bid files of combinatorial auctions, checked, shown, valued, normalised, explained, rounded and compared, and
+// their winner determination problems, with what bids bring as winners. docs/C.md shows how it is used, and docs/FORMAT.md has the texts.
 //
 // What all functions have in common:
 //
@@ -23,24 +23,26 @@
 #include <stddef.h>
 #include <stdint.h>
 
-// The version of this header.
+// The version of this header, as a number too.
 #define CATS_VERSION_MAJOR 0
 #define CATS_VERSION_MINOR 1
 #define CATS_VERSION_PATCH 0
 #define CATS_VERSION "0.1.0"
+#define CATS_VERSION_NUMBER (10000 * CATS_VERSION_MAJOR + 100 * CATS_VERSION_MINOR + CATS_VERSION_PATCH)
 
 #ifdef __cplusplus
 extern "C" {
 #endif
 
-// What a call returns. The first five are the statuses of the program.
+// What a call returns. All but CATS_BUFFER_TOO_SMALL are statuses of the program.
 enum cats_status {
-    CATS_DONE = 0,            // done; of cats_compare and cats_diff: the same auction
-    CATS_DIFFERENT = 1,       // of cats_compare and cats_diff: different auctions
-    CATS_REFUSED = 2,         // a text is not a bid file, or is longer than is read
-    CATS_STEP_LIMIT = 3,      // a search takes more steps than its limits leave
-    CATS_WANT_OF_MEMORY = 4,  // memory was refused
-    CATS_BUFFER_TOO_SMALL = 6 // an output needs a larger buffer
+    CATS_DONE = 0,             // done; of cats_compare and cats_diff: the same auction
+    CATS_DIFFERENT = 1,        // of cats_compare and cats_diff: different auctions; of cats_revenue: two bids cannot both win
+    CATS_REFUSED = 2,          // a text is not a bid file, or is longer than is read
+    CATS_STEP_LIMIT = 3,       // a search takes more steps than its limits leave
+    CATS_WANT_OF_MEMORY = 4,   // memory was refused
+    CATS_BUFFER_TOO_SMALL = 6, // an output needs a larger buffer
+    CATS_WRONG_USAGE = 64      // of cats_value: the text has no such good; of cats_revenue: it has no such bid
 };
 
 // The two limits of a call that searches. All its searches are bounded, as those of the program with `--bound`.
@@ -51,10 +53,43 @@ enum cats_status {
 #define CATS_STEPS 1000000
 #define CATS_NO_TOTAL 0
 
+// The version of the library that was linked, as CATS_VERSION_NUMBER is that of this header.
+uint32_t cats_version(void);
+
 // Reads a text of `length` bytes and writes how many goods, bids and dummy goods it has, as `goods G bids B dummy D` and LF.
 // Returns CATS_DONE, CATS_REFUSED, CATS_WANT_OF_MEMORY or CATS_BUFFER_TOO_SMALL.
 uint8_t cats_check(const uint8_t *text, size_t length, uint8_t *out, size_t size, size_t *needed);
 #define CATS_CHECK_SIZE ((size_t)64)
+
+// Reads a text and writes where its first fault is, as `text:LINE:WORD: KIND`, and a line on what helps. Lines and the words of a line are
+// counted from 1; at the end of a line or of the text the word is the one behind the last. The bytes of the word, which the program prints
+// too, are left out: they are in the text. Of a bid file nothing is written, and of a text that is longer than is read the line `TooLong`.
+// Returns CATS_DONE, CATS_REFUSED, CATS_WANT_OF_MEMORY or CATS_BUFFER_TOO_SMALL.
+uint8_t cats_fault(const uint8_t *text, size_t length, uint8_t *out, size_t size, size_t *needed);
+#define CATS_FAULT_SIZE ((size_t)512)
+
+// Reads a text and writes it in the one layout: each bid on a line, in the order of the numbers.
+// Returns CATS_DONE, CATS_REFUSED, CATS_WANT_OF_MEMORY or CATS_BUFFER_TOO_SMALL.
+uint8_t cats_show(const uint8_t *text, size_t length, uint8_t *out, size_t size, size_t *needed);
+#define CATS_SHOW_SIZE(length) ((size_t)(length) + 64)
+
+// Reads a text and writes what `count` of its bids, by number and in any order, bring as winners: a line with their revenue, or which two of
+// them cannot both win. A bid that is named twice counts once. A bid that the text does not have is refused.
+// Returns CATS_DONE, CATS_DIFFERENT, CATS_REFUSED, CATS_WANT_OF_MEMORY, CATS_BUFFER_TOO_SMALL or CATS_WRONG_USAGE.
+uint8_t cats_revenue(const uint8_t *text, size_t length, const uint32_t *bids, size_t count, uint8_t *out, size_t size, size_t *needed);
+#define CATS_REVENUE_SIZE ((size_t)128)
+
+// Reads a text and writes its winner determination problem in CPLEX's LP format, for a solver.
+// Returns CATS_DONE, CATS_REFUSED, CATS_WANT_OF_MEMORY or CATS_BUFFER_TOO_SMALL.
+uint8_t cats_lp(const uint8_t *text, size_t length, uint8_t *out, size_t size, size_t *needed);
+#define CATS_LP_SIZE(length) (5 * (size_t)(length) + 64)
+
+// Reads a text and writes what its bidders offer for a bundle of `count` goods, in any order: a line for the OR bidder, with the bids of one
+// best packing, and a line for each XOR bidder. A good that the text does not have is refused.
+// Returns CATS_DONE, CATS_REFUSED, CATS_STEP_LIMIT, CATS_WANT_OF_MEMORY, CATS_BUFFER_TOO_SMALL or CATS_WRONG_USAGE.
+uint8_t cats_value(const uint8_t *text, size_t length, const uint16_t *goods, size_t count, uint64_t steps, uint64_t total, uint8_t *out,
+                   size_t size, size_t *needed);
+#define CATS_VALUE_SIZE(length) ((size_t)(length) + 800000)
 
 // Reads a text and writes the canonical text of its auction, which is the same for two texts exactly if they are the same auction.
 // Returns CATS_DONE, CATS_REFUSED, CATS_STEP_LIMIT, CATS_WANT_OF_MEMORY or CATS_BUFFER_TOO_SMALL.

@@ -21,7 +21,7 @@ from typing import NamedTuple
 PROGRAM, LIBRARY, REFUSING, *FILES = sys.argv[1:]
 
 sys.path[:0] = [os.path.dirname(os.path.abspath(LIBRARY)), os.path.join(os.path.dirname(os.path.abspath(__file__)), "tests")]
-from beside import CALLS, FEW_IN_ALL, FEW_STEPS, Answer, cases_of  # noqa: E402: they are in these folders
+from beside import CALLS, Answer, cases_of  # noqa: E402: they are in these folders
 from cats import _library  # noqa: E402
 from cats._library import LINE, Status  # noqa: E402
 from texts import BIDS, made_texts  # noqa: E402
@@ -36,6 +36,14 @@ FEW = 40
 
 # The most bytes of a text.
 MAX_STREAM = 2_147_483_648
+
+# Of each call, how many bytes of each output there are at most for each byte of the texts, beside a constant, which is mostly 64.
+TIMES = {
+    "check": [0], "fault": [0], "show": [1], "value": [1], "normalise": [1.5], "explain": [4], "revenue": [0], "lp": [5], "compare": [1],
+    "diff": [2], "round": [2, 5],
+}
+
+ROOM = {"fault": 512, "value": 800_000, "revenue": 128, "compare": 128, "diff": 128}
 
 # What is behind a buffer, and in it before a call.
 GUARD, MARK = 64, 0xA5
@@ -84,14 +92,13 @@ def call_library(library, call, texts, sizes):
     buffers = [buffer_of(size) for size in sizes]
     words = [word for text in texts for word in (text if isinstance(text, tuple) else (text, len(text)))]
     arguments = [word for buffer in buffers for word in (buffer.bytes, buffer.size, ctypes.byref(buffer.needed))]
-    return getattr(library, call.function)(*words, *call.arguments, *arguments), buffers
+    return getattr(library, call.function)(*words, *call.words_of_library(), *arguments), buffers
 
 
 def ample_sizes(call, texts):
     """The sizes that cats.h says always suffice."""
     length = sum(map(len, texts))
-    times = {"check": [0], "normalise": [1.5], "explain": [4], "compare": [1], "diff": [2], "round": [2, 5]}[call.name()]
-    return [int(factor * length) + (128 if call.texts == 2 else 64) for factor in times]
+    return [int(factor * length) + ROOM.get(call.name(), 64) for factor in TIMES[call.name()]]
 
 
 def answer_of_library(library, call, texts):
@@ -110,8 +117,7 @@ def check_answers(cases):
         TALLY.judge(answer == one.own, one, f"{answer} and not {one.own}, of {one.texts}")
     seen = {(str(one.call), one.own.status) for one in cases}
     for call in CALLS:
-        wanted = {0, 2} | ({1} if call.texts == 2 else set()) | ({3} if call.words in (FEW_STEPS, FEW_IN_ALL) else set())
-        lacking = [status for status in wanted if (str(call), status) not in seen]
+        lacking = [status for status in call.statuses() if (str(call), status) not in seen]
         TALLY.judge(not lacking, f"{call}: no file was answered by the statuses {lacking}")
 
 

@@ -47,6 +47,55 @@ static uint8_t check(struct edge *it) {
     return cats_check(it->left.bytes, it->left.size, it->out.bytes, it->out.size, &it->needed);
 }
 
+static uint8_t fault(struct edge *it) {
+    return cats_fault(it->left.bytes, it->left.size, it->out.bytes, it->out.size, &it->needed);
+}
+
+static uint8_t show(struct edge *it) {
+    return cats_show(it->left.bytes, it->left.size, it->out.bytes, it->out.size, &it->needed);
+}
+
+// Of the good 0, which the files have, and of none. The goods are in a block of their size too.
+static uint8_t value_of(struct edge *it, size_t count) {
+    uint16_t *goods = calloc(count ? count : 1, sizeof *goods);
+    if (!goods)
+        exit(70);
+    uint8_t status = cats_value(it->left.bytes, it->left.size, goods, count, CATS_STEPS, CATS_NO_TOTAL, it->out.bytes, it->out.size,
+                                &it->needed);
+    free(goods);
+    return status;
+}
+
+static uint8_t value(struct edge *it) {
+    return value_of(it, 1);
+}
+
+static uint8_t value_of_none(struct edge *it) {
+    return value_of(it, 0);
+}
+
+// Of the bid 0, which most files have, and of none. The bids are in a block of their size too.
+static uint8_t revenue_of(struct edge *it, size_t count) {
+    uint32_t *bids = calloc(count ? count : 1, sizeof *bids);
+    if (!bids)
+        exit(70);
+    uint8_t status = cats_revenue(it->left.bytes, it->left.size, bids, count, it->out.bytes, it->out.size, &it->needed);
+    free(bids);
+    return status;
+}
+
+static uint8_t revenue(struct edge *it) {
+    return revenue_of(it, 1);
+}
+
+static uint8_t revenue_of_none(struct edge *it) {
+    return revenue_of(it, 0);
+}
+
+static uint8_t lp(struct edge *it) {
+    return cats_lp(it->left.bytes, it->left.size, it->out.bytes, it->out.size, &it->needed);
+}
+
 static uint8_t normalise(struct edge *it) {
     return cats_normalise(it->left.bytes, it->left.size, CATS_STEPS, CATS_NO_TOTAL, it->out.bytes, it->out.size, &it->needed);
 }
@@ -112,6 +161,13 @@ static void try_sizes(const char *name, call *made, struct edge *edge, size_t mo
 static void try_calls(struct block left, struct block right) {
     struct edge edge = {.left = left, .right = right};
     try_sizes("cats_check", check, &edge, CATS_CHECK_SIZE);
+    try_sizes("cats_fault", fault, &edge, CATS_FAULT_SIZE);
+    try_sizes("cats_show", show, &edge, CATS_SHOW_SIZE(left.size));
+    try_sizes("cats_value", value, &edge, CATS_VALUE_SIZE(left.size));
+    try_sizes("cats_value of no good", value_of_none, &edge, CATS_VALUE_SIZE(left.size));
+    try_sizes("cats_revenue", revenue, &edge, CATS_REVENUE_SIZE);
+    try_sizes("cats_revenue of no bid", revenue_of_none, &edge, CATS_REVENUE_SIZE);
+    try_sizes("cats_lp", lp, &edge, CATS_LP_SIZE(left.size));
     try_sizes("cats_normalise", normalise, &edge, CATS_NORMALISE_SIZE(left.size));
     try_sizes("cats_explain", explain, &edge, CATS_EXPLAIN_SIZE(left.size));
     try_sizes("cats_compare", compare, &edge, CATS_COMPARE_SIZE(left.size, right.size));

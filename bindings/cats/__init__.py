@@ -8,24 +8,28 @@ of threads may call at once, and Python's lock is released during a call.
 Sizes(goods=3, bids=2, dummies=1)
 
 All searches are bounded, as those of the program with `--bound`. `steps` is the most steps of one search, and `total` those of all searches
-of one text together, if it is not None.
+of one text together, if it is not None. With `round` a text is read as `round_prices` prints it, and with `round="exact"` it is refused if
+that would change the value of a price.
 
 The library is looked for in the folder of this package (`libcats.so`), then in the folder that holds the package (`libcats.so`,
 `libcats.so.0`), and then where the system looks for libraries (`libcats.so.0`, `libcats.so`).
 """
-from cats._auction import Auction, read
+from cats._auction import Auction, read, sizes
 from cats._bids import Bid
-from cats._calls import check, compare, diff, explain, normalise, round_prices
+from cats._calls import check, compare, diff, duplicates, explain, lp, normalise, revenue, round_prices, show, value
 from cats._library import STEPS
-from cats._tables import Change, Difference, Reason, Rounded, Rows, Sizes, Verdict
-from cats.errors import CatsError, RefusedText, StepLimit, WantOfMemory
+from cats._library import check_version as _check_version
+from cats._tables import Allocation, Change, Difference, Reason, Rounded, Rows, Sizes, SizesRow, Value, Verdict, XorValue
+from cats.errors import CatsError, NoSuchBid, NoSuchGood, RefusedText, StepLimit, WantOfMemory
 
 __version__ = "0.1.0"
 
+_check_version(__version__)
+
 __all__ = [
-    "STEPS", "check", "normalise", "explain", "round_prices", "compare", "diff", "read",
-    "Auction", "Bid", "Sizes", "Reason", "Rounded", "Change", "Verdict", "Difference", "Rows",
-    "CatsError", "RefusedText", "StepLimit", "WantOfMemory",
+    "STEPS", "check", "show", "value", "normalise", "explain", "round_prices", "lp", "revenue", "compare", "diff", "duplicates", "sizes", "read",
+    "Auction", "Bid", "Sizes", "Value", "XorValue", "Reason", "Rounded", "Change", "Allocation", "Verdict", "Difference", "SizesRow", "Rows",
+    "CatsError", "RefusedText", "StepLimit", "NoSuchGood", "NoSuchBid", "WantOfMemory",
 ]
 
 # The name that `round_prices` had before. It is not in `__all__`, as it is that of a function of Python.

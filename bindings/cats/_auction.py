@@ -6,10 +6,10 @@ from functools import partial
 from typing import Iterable, Optional, Tuple, Type, TypeVar, Union
 
 from cats._bids import Bid, BidLike, bid_lines, bid_of, text_of
-from cats._calls import check, compare, diff, explain, normalise
+from cats._calls import check, compare, diff, explain, lp, normalise, revenue, value
 from cats._library import STEPS
-from cats._tables import Difference, Reason, Rows
-from cats._texts import TextOrPath, bytes_of
+from cats._tables import Allocation, Difference, Reason, Rows, SizesRow, Value
+from cats._texts import Rounding, TextOrPath, bytes_of, texts_of
 
 A = TypeVar("A", bound="Auction")
 
@@ -63,6 +63,10 @@ class Auction:
             self._bids = Rows(bid_lines(self._text), partial(bid_of, goods=self.goods))
         return self._bids
 
+    def value(self, goods: Iterable[int], steps: int = STEPS, *, total: Optional[int] = None) -> Value:
+        """What the bidders offer for the bundle of these goods."""
+        return value(self._text, goods, steps, total=total)
+
     def normalise(self, steps: int = STEPS, *, total: Optional[int] = None) -> Auction:
         """The canonical auction, whose text is the canonical text."""
         return Auction(normalise(self._text, steps, total=total))
@@ -70,6 +74,19 @@ class Auction:
     def explain(self, steps: int = STEPS, *, total: Optional[int] = None) -> Rows[Reason]:
         """For each bid, in order of number, why the canonical text has it or not."""
         return explain(self._text, steps, total=total)
+
+    def revenue(self, bids: Iterable[int]) -> Allocation:
+        """What the bids of these numbers bring as winners, or which two of them cannot both win."""
+        return revenue(self._text, bids)
+
+    def lp(self) -> bytes:
+        """The winner determination problem, as a text for solvers."""
+        return lp(self._text)
+
+    def sizes(self, steps: int = STEPS, *, total: Optional[int] = None) -> SizesRow:
+        """The sizes of the auction and of its canonical auction."""
+        kept = self.normalise(steps, total=total).bids
+        return SizesRow(self.goods, len(self.bids), *bidders_of(self.bids), self.dummies, len(kept), *bidders_of(kept))
 
     def same_as(self, other: Union[Auction, TextOrPath], steps: int = STEPS, *, total: Optional[int] = None) -> bool:
         """Whether the other file is the same auction."""
@@ -93,14 +110,30 @@ class Auction:
         return f"<Auction goods={goods} bids={bids} dummies={dummies}>"
 
 
+def bidders_of(bids: Iterable[Bid]) -> Tuple[int, int]:
+    """How many bids have no dummy good, and how many dummy goods some bid has."""
+    dummies = [bid.dummy for bid in bids]
+    return dummies.count(None), len({*dummies} - {None})
+
+
 def text_in(other: Union[Auction, TextOrPath]) -> TextOrPath:
     return other.text if isinstance(other, Auction) else other
 
 
-def read(path_or_bytes: TextOrPath) -> Auction:
+def read(path_or_bytes: TextOrPath, *, round: Rounding = False) -> Auction:
     """The auction of a file at a path, or of a text that is given as bytes. RefusedText: it is not a bid file.
 
     >>> read(b"goods 3\\nbids 1\\ndummy 0\\n0 20 2 1 #\\n").bids[0].goods
     (1, 2)
     """
-    return Auction(path_or_bytes)
+    (text,) = texts_of([path_or_bytes], round)
+    return Auction(text)
+
+
+def sizes(text: TextOrPath, steps: int = STEPS, *, total: Optional[int] = None, round: Rounding = False) -> SizesRow:
+    """The sizes of a file and of its canonical file.
+
+    >>> sizes(b"goods 2\\nbids 3\\ndummy 1\\n0 3 0 #\\n1 2 0 #\\n2 4 1 2 #\\n")
+    SizesRow(goods=2, bids=3, or_bids=2, xor_bidders=1, dummies=1, kept=2, kept_or_bids=1, kept_xor_bidders=1)
+    """
+    return read(text, round=round).sizes(steps, total=total)

@@ -1,16 +1,19 @@
-"""The functions of the library, each a call with what it prints as Python data."""
+"""The functions of the library, each a call with what it prints as Python data; and `duplicates`, which is made of such calls."""
 from __future__ import annotations
 
-from typing import List, Optional
+from typing import Dict, Iterable, List, Optional, Sequence, Tuple, TypeVar
 
-from cats._library import LINE, STEPS, answer
-from cats._tables import Difference, Reason, Rounded, Rows, Sizes, Verdict
-from cats._tables import changes_of, differences_of, reasons_of, sizes_of, verdict_of
-from cats._texts import TextOrPath, bytes_of, limits_of
-from cats.errors import RefusedText, StepLimit  # noqa: F401: for the examples
+from cats._library import LINE, STEPS
+from cats._tables import Allocation, Difference, Reason, Rounded, Rows, Sizes, Value, Verdict
+from cats._tables import allocation_of, changes_of, differences_of, reasons_of, sizes_of, value_of, verdict_of
+from cats._texts import Rounding, TextOrPath, answer_on, bids_of, bytes_of, goods_of, limits_of, rounded, texts_of
+from cats.errors import CatsError, NoSuchBid, NoSuchGood, RefusedText, StepLimit  # noqa: F401: for the examples
 
 # How many bytes an output mostly takes for each byte of the texts. One that takes more is asked for again.
-NORMALISE, EXPLAIN, COMPARE, DIFF = 2, 4, 1, 2
+SHOW, VALUE, NORMALISE, EXPLAIN, LP, COMPARE, DIFF = 1, 1, 2, 4, 4, 1, 2
+
+# A text as the caller has it.
+Given = TypeVar("Given", bound=TextOrPath)
 
 
 def check(text: TextOrPath) -> Sizes:
@@ -24,15 +27,54 @@ def check(text: TextOrPath) -> Sizes:
     >>> try:
     ...     check(b"goods 2\\nbids 1\\ndummy 0\\n0 1e3 0 #\\n")
     ... except RefusedText as fault:
-    ...     print(fault.line, fault.kind)
-    4 NotANumber
+    ...     print(fault.line, fault.word, fault.kind, fault.word_text)
+    4 2 NotANumber b'1e3'
     """
-    text = bytes_of(text)
-    (out,) = answer("cats_check", [text, len(text)], LINE)
-    return sizes_of(out)
+    return sizes_of(answer_on_texts("cats_check", [text], False, [], 0))
 
 
-def normalise(text: TextOrPath, steps: int = STEPS, *, total: Optional[int] = None) -> bytes:
+def show(text: TextOrPath) -> bytes:
+    """A file in one layout: no comments, plain numbers, bids in order of number, goods rising.
+
+    >>> show(b"goods 2\\nbids 2\\ndummy 0\\n% two\\n1 4.50 1 0 #\\n0 03 0 #\\n")
+    b'goods 2\\nbids 2\\ndummy 0\\n0\\t3\\t0\\t#\\n1\\t4.5\\t0\\t1\\t#\\n'
+    """
+    return answer_on_texts("cats_show", [text], False, [], SHOW)
+
+
+def value(text: TextOrPath, goods: Iterable[int], steps: int = STEPS, *, total: Optional[int] = None, round: Rounding = False) -> Value:
+    """What the bidders offer for the bundle of these goods. One that is named twice counts once.
+
+    >>> auction = b"goods 2\\nbids 3\\ndummy 1\\n0 3 0 #\\n1 4 1 #\\n2 5.5 0 1 2 #\\n"
+    >>> value(auction, [0, 1])
+    Value(or_value=Decimal('7'), packing=(0, 1), xor=(XorValue(good=2, value=Decimal('5.5'), bid=2),))
+    >>> try:
+    ...     value(auction, [0, 2])
+    ... except NoSuchGood as fault:
+    ...     print(fault.good)
+    2
+    """
+    return value_of(answer_on_texts("cats_value", [text], round, [*goods_of(goods), *limits_of(steps, total)], VALUE))
+
+
+def revenue(text: TextOrPath, bids: Iterable[int], *, round: Rounding = False) -> Allocation:
+    """What the bids of these numbers bring as winners, or which two of them cannot both win. One that is named twice counts once.
+
+    >>> auction = b"goods 2\\nbids 3\\ndummy 1\\n0 3 0 #\\n1 4.50 1 2 #\\n2 5.5 0 1 2 #\\n"
+    >>> revenue(auction, [0, 1]).revenue
+    Decimal('7.5')
+    >>> revenue(auction, [2, 0])
+    Allocation(revenue=None, first=0, second=2, good=0, dummy=None)
+    >>> try:
+    ...     revenue(auction, [0, 3])
+    ... except NoSuchBid as fault:
+    ...     print(fault.bid)
+    3
+    """
+    return allocation_of(answer_on_texts("cats_revenue", [text], round, bids_of(bids), 0))
+
+
+def normalise(text: TextOrPath, steps: int = STEPS, *, total: Optional[int] = None, round: Rounding = False) -> bytes:
     """The canonical text of an auction: two texts have the same exactly if they are the same auction.
 
     >>> normalise(b"goods 1\\nbids 2\\ndummy 0\\n0 3 0 #\\n1 4.50 0 #\\n")
@@ -45,11 +87,16 @@ def normalise(text: TextOrPath, steps: int = STEPS, *, total: Optional[int] = No
     ... except StepLimit as limit:
     ...     print(limit.bundle)
     (1,)
+
+    With `round` the text is read as `round_prices` prints it; with `"exact"` it is refused if a price's value would change:
+
+    >>> normalise(b"goods 1\\nbids 1\\ndummy 0\\n0 1e3 0 #\\n", round="exact")
+    b'goods 1\\nbids 1\\ndummy 0\\n0\\t1000\\t0\\t#\\n'
     """
-    return answer_on_texts("cats_normalise", [text], limits_of(steps, total), NORMALISE)
+    return answer_on_texts("cats_normalise", [text], round, limits_of(steps, total), NORMALISE)
 
 
-def explain(text: TextOrPath, steps: int = STEPS, *, total: Optional[int] = None) -> Rows[Reason]:
+def explain(text: TextOrPath, steps: int = STEPS, *, total: Optional[int] = None, round: Rounding = False) -> Rows[Reason]:
     """For each bid, in order of number, why the canonical text has it or not.
 
     >>> for row in explain(b"goods 2\\nbids 3\\ndummy 0\\n0 3 0 #\\n1 4 1 #\\n2 7 0 1 #\\n"):
@@ -58,25 +105,47 @@ def explain(text: TextOrPath, steps: int = STEPS, *, total: Optional[int] = None
     1 keep 1 ()
     2 packing None (0, 1)
     """
-    return reasons_of(answer_on_texts("cats_explain", [text], limits_of(steps, total), EXPLAIN))
+    return reasons_of(answer_on_texts("cats_explain", [text], round, limits_of(steps, total), EXPLAIN))
+
+
+def lp(text: TextOrPath, *, round: Rounding = False) -> bytes:
+    """The winner determination problem of a file, as a text for solvers, in CPLEX's LP format. The variable `xN` is 1 if bid N wins.
+
+    >>> print(lp(b"goods 1\\nbids 2\\ndummy 0\\n0 3 0 #\\n1 4.5 0 #\\n").decode(), end="")
+    Maximize
+     revenue:
+     + 3 x0
+     + 4.5 x1
+    Subject To
+     g0:
+     + x0
+     + x1
+     <= 1
+    Binary
+     x0
+     x1
+    End
+    """
+    return answer_on_texts("cats_lp", [text], round, [], LP)
 
 
 def round_prices(text: TextOrPath, exact: bool = False) -> Rounded:
     """The text with each price rounded to the nearest millionth, ties to even, and the prices whose values changed. If `exact`, a text with
     such a price is refused.
 
-    >>> rounded = round_prices(b"goods 1\\nbids 2\\ndummy 0\\n0 1e3 0 #\\n1 0.0123456 0 #\\n")
-    >>> rounded.text
+    >>> found = round_prices(b"goods 1\\nbids 2\\ndummy 0\\n0 1e3 0 #\\n1 0.0123456 0 #\\n")
+    >>> found.text
     b'goods 1\\nbids 2\\ndummy 0\\n0 1000 0 #\\n1 0.012346 0 #\\n'
-    >>> rounded.changes
+    >>> found.changes
     (Change(line=5, word='0.0123456', price='0.012346'),)
     """
-    text = bytes_of(text)
-    out, report = answer("cats_round", [text, len(text), bool(exact)], len(text) + LINE, LINE)
+    out, report = rounded(bytes_of(text), bool(exact))
     return Rounded(out, changes_of(report))
 
 
-def compare(left: TextOrPath, right: TextOrPath, steps: int = STEPS, *, total: Optional[int] = None) -> Verdict:
+def compare(
+    left: TextOrPath, right: TextOrPath, steps: int = STEPS, *, total: Optional[int] = None, round: Rounding = False
+) -> Verdict:
     """Whether two texts are the same auction, and else where they first differ.
 
     >>> one = b"goods 2\\nbids 2\\ndummy 0\\n0 3 0 #\\n1 4 1 #\\n"
@@ -85,10 +154,12 @@ def compare(left: TextOrPath, right: TextOrPath, steps: int = STEPS, *, total: O
     >>> compare(one, b"goods 2\\nbids 3\\ndummy 0\\n0 3 0 #\\n1 4 1 #\\n2 7.5 0 1 #\\n")
     Verdict(same=False, kind='or', where='0,1', left='below 7.5', right='7.5')
     """
-    return verdict_of(answer_on_texts("cats_compare", [left, right], limits_of(steps, total), COMPARE))
+    return verdict_of(answer_on_texts("cats_compare", [left, right], round, limits_of(steps, total), COMPARE))
 
 
-def diff(left: TextOrPath, right: TextOrPath, steps: int = STEPS, *, total: Optional[int] = None) -> Rows[Difference]:
+def diff(
+    left: TextOrPath, right: TextOrPath, steps: int = STEPS, *, total: Optional[int] = None, round: Rounding = False
+) -> Rows[Difference]:
     """All differences of two auctions: each bundle on which a bidder's prices differ. There is none exactly if they are the same.
 
     >>> one = b"goods 2\\nbids 2\\ndummy 0\\n0 3 0 #\\n1 4 1 #\\n"
@@ -97,12 +168,31 @@ def diff(left: TextOrPath, right: TextOrPath, steps: int = STEPS, *, total: Opti
     or (1,) 4 5 1 1
     or (0, 1) None 8.5 None 2
     """
-    return differences_of(answer_on_texts("cats_diff", [left, right], limits_of(steps, total), DIFF))
+    return differences_of(answer_on_texts("cats_diff", [left, right], round, limits_of(steps, total), DIFF))
 
 
-def answer_on_texts(name: str, texts: List[TextOrPath], limits: List[int], times: int) -> bytes:
-    """The output of a call on texts, which mostly takes at most so many times their length, and a line."""
-    read = [bytes_of(text) for text in texts]
-    arguments = [word for text in read for word in (text, len(text))]
-    (out,) = answer(name, [*arguments, *limits], times * sum(map(len, read)) + LINE)
-    return out
+def duplicates(
+    texts: Iterable[Given], steps: int = STEPS, *, total: Optional[int] = None, round: Rounding = False, all: bool = False
+) -> List[Tuple[Given, ...]]:
+    """The texts that are the same auction, in groups of two or more, in the order of their first ones. With `all` a text that is alone is a group
+    too. The first text that is refused raises its error, which has it as `text`.
+
+    >>> one, other = b"goods 1\\nbids 1\\ndummy 0\\n0 3 0 #\\n", b"goods 1\\nbids 0\\ndummy 0\\n"
+    >>> duplicates([one, other, b"% three\\n" + one]) == [(one, b"% three\\n" + one)]
+    True
+    """
+    groups: Dict[bytes, List[Given]] = {}
+    for text in texts:
+        try:
+            canonical = normalise(text, steps, total=total, round=round)
+        except CatsError as fault:
+            fault.text = text
+            raise
+        groups.setdefault(canonical, []).append(text)
+    return [tuple(group) for group in groups.values() if all or len(group) > 1]
+
+
+def answer_on_texts(name: str, texts: Sequence[TextOrPath], round: Rounding, words: Sequence[object], times: int) -> bytes:
+    """The output of a call on texts and these words, which mostly takes at most so many times the length of the texts, and a line."""
+    read = texts_of(texts, round)
+    return answer_on(name, read, words, times * sum(map(len, read)) + LINE)

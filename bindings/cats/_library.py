@@ -4,7 +4,7 @@ from __future__ import annotations
 import ctypes
 import enum
 import os
-from ctypes import POINTER, byref, c_bool, c_char_p, c_size_t, c_uint8, c_uint64, c_void_p
+from ctypes import POINTER, byref, c_bool, c_char_p, c_size_t, c_uint8, c_uint16, c_uint32, c_uint64, c_void_p
 from typing import Any, Dict, List, Sequence, Tuple
 
 from cats.errors import error_of
@@ -28,16 +28,25 @@ class Status(enum.IntEnum):
     STEP_LIMIT = 3
     WANT_OF_MEMORY = 4
     BUFFER_TOO_SMALL = 6
+    WRONG_USAGE = 64
 
 
 TEXT: List[Any] = [c_char_p, c_size_t]
+GOODS: List[Any] = [POINTER(c_uint16), c_size_t]
+BIDS: List[Any] = [POINTER(c_uint32), c_size_t]
 LIMITS: List[Any] = [c_uint64, c_uint64]
 OUT: List[Any] = [c_void_p, c_size_t, POINTER(c_size_t)]
 
 ARGUMENTS: Dict[str, List[Any]] = {
+    "cats_version": [],
     "cats_check": [*TEXT, *OUT],
+    "cats_fault": [*TEXT, *OUT],
+    "cats_show": [*TEXT, *OUT],
+    "cats_value": [*TEXT, *GOODS, *LIMITS, *OUT],
     "cats_normalise": [*TEXT, *LIMITS, *OUT],
     "cats_explain": [*TEXT, *LIMITS, *OUT],
+    "cats_revenue": [*TEXT, *BIDS, *OUT],
+    "cats_lp": [*TEXT, *OUT],
     "cats_compare": [*TEXT, *TEXT, *LIMITS, *OUT],
     "cats_diff": [*TEXT, *TEXT, *LIMITS, *OUT],
     "cats_round": [*TEXT, c_bool, *OUT, *OUT],
@@ -52,7 +61,7 @@ def load(path: str) -> ctypes.CDLL:
             function = getattr(library, name)
         except AttributeError as error:
             raise ImportError(f"the library {path} has no function {name}: it is of another version than this package") from error
-        function.argtypes, function.restype = arguments, c_uint8
+        function.argtypes, function.restype = arguments, c_uint32 if name == "cats_version" else c_uint8
     return library
 
 
@@ -78,6 +87,14 @@ def load_or_raise(path: str, where: str) -> ctypes.CDLL:
 
 
 LIBRARY = find_library()
+
+
+def check_version(version: str) -> None:
+    """Raises an ImportError if the package of this version has a library of another one, but for the patch."""
+    number = LIBRARY.cats_version()
+    if number // 100 != 100 * int(version.split(".")[0]) + int(version.split(".")[1]):
+        found = f"{number // 10_000}.{number // 100 % 100}.{number % 100}"
+        raise ImportError(f"the library {LIBRARY._name} is of version {found}, and this package of {version}")
 
 
 class Buffer:
@@ -107,9 +124,9 @@ def call(name: str, arguments: Sequence[object], *sizes: int) -> Tuple[int, List
         buffers = [Buffer(it.needed.value) if it.is_too_small() else it for it in buffers]
 
 
-def answer(name: str, arguments: Sequence[object], *sizes: int) -> List[bytes]:
-    """The outputs of a call. Raises an exception for what is refused."""
+def answer(name: str, arguments: Sequence[object], *sizes: int, prefix: bytes = b"") -> List[bytes]:
+    """The outputs of a call. Raises an exception for what is refused, whose line is behind the prefix."""
     status, outputs = call(name, arguments, *sizes)
     if status not in (Status.DONE, Status.DIFFERENT):
-        raise error_of(status, outputs[0])
+        raise error_of(status, prefix + outputs[0])
     return outputs

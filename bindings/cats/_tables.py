@@ -22,6 +22,38 @@ class Sizes(NamedTuple):
     dummies: int
 
 
+class SizesRow(NamedTuple):
+    """The sizes of a file and of its canonical file: `or_bids` are the bids without a dummy good, and `xor_bidders` the dummy goods that some bid
+    has. `kept`, `kept_or_bids` and `kept_xor_bidders` are the bids, OR bids and XOR bidders of the canonical file."""
+
+    goods: int
+    bids: int
+    or_bids: int
+    xor_bidders: int
+    dummies: int
+    kept: int
+    kept_or_bids: int
+    kept_xor_bidders: int
+
+
+class XorValue(NamedTuple):
+    """What the XOR bidder with this dummy good offers for a bundle: its greatest price, and the first bid of this price, or None if no bid is
+    inside the bundle. `good` is the number of the dummy good in the file."""
+
+    good: int
+    value: Decimal
+    bid: Optional[int]
+
+
+class Value(NamedTuple):
+    """What the bidders offer for a bundle: the OR bidder's value, the bids of one best packing, rising, and for each dummy good, rising, what its
+    XOR bidder offers."""
+
+    or_value: Decimal
+    packing: Tuple[int, ...]
+    xor: Tuple[XorValue, ...]
+
+
 class Reason(NamedTuple):
     """A bid, and why the canonical text has it or not: `keep`, `zero`, `same`, `inside` or `packing`. `dummy` is the number of its dummy good
     among the dummy goods, from 0, or None. `kept` is a kept bid's number in the canonical text, or None. `by` are the bids that
@@ -49,6 +81,17 @@ class Rounded(NamedTuple):
 
     text: bytes
     changes: Tuple[Change, ...]
+
+
+class Allocation(NamedTuple):
+    """What bids bring as winners: their `revenue`, if all can win together. If not, that is None, and `first` and `second` are the first two that
+    cannot both win: they share the good `good`, or are of one XOR bidder, whose dummy good is `dummy` among the dummy goods, from 0."""
+
+    revenue: Optional[Decimal]
+    first: Optional[int] = None
+    second: Optional[int] = None
+    good: Optional[int] = None
+    dummy: Optional[int] = None
 
 
 class Verdict(NamedTuple):
@@ -119,6 +162,17 @@ def sizes_of(printed: bytes) -> Sizes:
     return Sizes(int(goods), int(bids), int(dummies))
 
 
+def value_of(printed: bytes) -> Value:
+    """`or`, the value, and bids; then for each dummy good a line: `xor`, the dummy good, the value, and perhaps a bid."""
+    (_, price, *packing), *xor = map(bytes.split, printed.splitlines())
+    return Value(price_of(price), tuple(map(int, packing)), tuple(map(xor_value_of, xor)))
+
+
+def xor_value_of(words: List[bytes]) -> XorValue:
+    _, good, price, *bid = words
+    return XorValue(int(good), price_of(price), int(bid[0]) if bid else None)
+
+
 def reasons_of(printed: bytes) -> Rows[Reason]:
     """A header, and a line for each bid."""
     return Rows(printed.splitlines()[1:], reason_of)
@@ -139,6 +193,15 @@ def price_in(cell: bytes) -> Optional[Decimal]:
 
 def numbers_in(cell: bytes) -> Tuple[int, ...]:
     return tuple(map(int, cell.split(b","))) if cell else ()
+
+
+def allocation_of(printed: bytes) -> Allocation:
+    """`revenue` and a price; or which two bids share a good, `bids I and J share good G`, or `.. are of one XOR bidder (dummy good D)`."""
+    words = printed.rstrip(b")\n").split()
+    if words[0] == b"revenue":
+        return Allocation(price_of(words[1]))
+    last = int(words[-1])
+    return Allocation(None, int(words[1]), int(words[3]), *((last, None) if words[4] == b"share" else (None, last)))
 
 
 def verdict_of(printed: bytes) -> Verdict:

@@ -1,18 +1,25 @@
-"""The arguments of the calls: texts, and the limits of searches."""
+"""The arguments of the calls: texts, goods, bids, and the limits of searches."""
 from __future__ import annotations
 
 import mmap
 import os
+from ctypes import c_uint16, c_uint32
+from functools import partial
 from operator import index
-from typing import List, Optional, Union
+from typing import Iterable, List, Literal, Optional, Sequence, Union
 
-from cats._library import NO_TOTAL
+from cats._library import LINE, NO_TOTAL, answer
+from cats._places import place_in, place_in_rounded
+from cats.errors import NoSuchBid, NoSuchGood, RefusedText
 
 # The bytes of a file, or its path.
 TextOrPath = Union[bytes, bytearray, memoryview, mmap.mmap, "os.PathLike[str]", "os.PathLike[bytes]"]
 
-# One more than the greatest limit.
-LIMIT_END = 2**64
+# Whether prices are rounded before a text is read: no, yes, or yes and the text is refused if a price's value would change.
+Rounding = Union[bool, Literal["exact"]]
+
+# One more than the greatest limit, and than the greatest number of a good and of a bid that the library takes. No file has a greater one.
+LIMIT_END, GOOD_END, BID_END = 2**64, 2**16, 2**32
 
 
 def bytes_of(text: TextOrPath) -> bytes:
@@ -27,6 +34,56 @@ def bytes_of(text: TextOrPath) -> bytes:
     except TypeError:
         kind = type(text).__name__
         raise TypeError(f"a text is bytes or an os.PathLike, and no {kind}: pathlib.Path(name) is a path, and text.encode() a text") from None
+
+
+def texts_of(texts: Sequence[TextOrPath], round: Rounding) -> List[bytes]:
+    """The bytes of one text, or of two, as `round_prices` prints them if they are to be rounded."""
+    if round not in (False, True, "exact"):
+        raise ValueError(f'round is False, True or "exact", and not {round!r}')
+    read = [bytes_of(text) for text in texts]
+    if not round:
+        return read
+    prefixes = [b"first: ", b"second: "] if len(read) == 2 else [b""]
+    return [rounded(text, round == "exact", prefix)[0] for text, prefix in zip(read, prefixes)]
+
+
+def rounded(text: bytes, exact: bool, prefix: bytes = b"") -> List[bytes]:
+    """A text with its prices rounded, and the lines on those that changed. The line of a refusal is behind the prefix."""
+    try:
+        return answer("cats_round", [text, len(text), exact], len(text) + LINE, LINE, prefix=prefix)
+    except RefusedText as fault:
+        if fault.line is not None:
+            fault._find = partial(place_in_rounded, text, fault.line, exact)
+        raise
+
+
+def answer_on(name: str, texts: Sequence[bytes], words: Sequence[object], size: int) -> bytes:
+    """The output of a call on texts and these words."""
+    arguments = [word for text in texts for word in (text, len(text))]
+    try:
+        (out,) = answer(name, [*arguments, *words], size)
+    except RefusedText as fault:
+        fault._find = partial(place_in, texts[fault.which == "second"])
+        raise
+    return out
+
+
+def goods_of(goods: Iterable[int]) -> List[object]:
+    """Goods as the library takes them: an array and its length."""
+    numbers = list(map(index, goods))
+    for good in numbers:
+        if not 0 <= good < GOOD_END:
+            raise NoSuchGood(good)
+    return [(c_uint16 * len(numbers))(*numbers), len(numbers)]
+
+
+def bids_of(bids: Iterable[int]) -> List[object]:
+    """The numbers of bids as the library takes them: an array and its length."""
+    numbers = list(map(index, bids))
+    for bid in numbers:
+        if not 0 <= bid < BID_END:
+            raise NoSuchBid(bid)
+    return [(c_uint32 * len(numbers))(*numbers), len(numbers)]
 
 
 def limits_of(steps: int, total: Optional[int]) -> List[int]:

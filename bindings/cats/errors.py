@@ -2,18 +2,31 @@
 from __future__ import annotations
 
 import re
-from typing import Any, Optional, Tuple
+from typing import Any, Callable, NamedTuple, Optional, Tuple
 
 # The line of a fault, as the program prints it.
-FAULT = re.compile(r"(?:(first|second): )?(?:line (\d+): (\w+)|step limit at ([\d,]*)|(want of memory)|(\w+))\n")
+FAULT = re.compile(r"(?:(first|second): )?(?:line (\d+): (\w+)|step limit at ([\d,]*)|(good|bid) (\d+) out of range|(want of memory)|(\w+))\n")
+
+
+class Place(NamedTuple):
+    """Where a fault is in its line, and what helps: fields of RefusedText."""
+
+    word: Optional[int]
+    word_text: Optional[bytes]
+    hint: Optional[str]
+
+
+NO_PLACE = Place(None, None, None)
 
 
 class CatsError(Exception):
-    """Why a call gave no answer. `which` is `first` or `second` if it is about one of two texts, and else None."""
+    """Why a call gave no answer. `which` is `first` or `second` if it is about one of two texts, and else None. `text` is the one of the texts
+    of `duplicates` that it is about, as it was given, and else None."""
 
     def __init__(self, message: str, which: Optional[str] = None) -> None:
         super().__init__(f"{which}: {message}" if which else message)
         self.which = which
+        self.text: object = None
         self._words: Tuple[Any, ...] = (message, which)
 
     def __reduce__(self) -> Tuple[Any, ...]:
@@ -22,13 +35,42 @@ class CatsError(Exception):
 
 
 class RefusedText(CatsError):
-    """A text is not a bid file, or is longer than is read: the fault has a `kind`, and a `line` if it belongs to one."""
+    """A text is not a bid file, or is longer than is read: the fault has a `kind`, and a `line` if it belongs to one. `word` is the number of its
+    word in the line, from 1, and `word_text` has the bytes of that word, none at the end of the line or text. `hint` says what helps.
+    These three are looked up in the text when one is first read, and are None if the text is too long."""
 
     def __init__(self, kind: str, line: Optional[int] = None, which: Optional[str] = None) -> None:
         super().__init__(f"line {line}: {kind}" if line is not None else kind, which)
         self.kind = kind
         self.line = line
         self._words = (kind, line, which)
+        # how the call that raises it looks the place up
+        self._find: Optional[Callable[[], Place]] = None
+        self._place = NO_PLACE
+
+    @property
+    def word(self) -> Optional[int]:
+        return self._found().word
+
+    @property
+    def word_text(self) -> Optional[bytes]:
+        return self._found().word_text
+
+    @property
+    def hint(self) -> Optional[str]:
+        return self._found().hint
+
+    def _found(self) -> Place:
+        find = self._find
+        if find:
+            self._place = find()
+            self._find = None
+        return self._place
+
+    def __reduce__(self) -> Tuple[Any, ...]:
+        """The place is looked up, and goes with it in the place of the text."""
+        self._found()
+        return super().__reduce__()
 
 
 class StepLimit(CatsError):
@@ -40,6 +82,24 @@ class StepLimit(CatsError):
         self._words = (bundle, which)
 
 
+class NoSuchGood(CatsError):
+    """A bundle has a good that the file does not have: `good`."""
+
+    def __init__(self, good: int) -> None:
+        super().__init__(f"good {good} out of range")
+        self.good = good
+        self._words = (good,)
+
+
+class NoSuchBid(CatsError):
+    """A bid was named that the file does not have: `bid`."""
+
+    def __init__(self, bid: int) -> None:
+        super().__init__(f"bid {bid} out of range")
+        self.bid = bid
+        self._words = (bid,)
+
+
 class WantOfMemory(CatsError, MemoryError):
     """Memory was refused."""
 
@@ -49,9 +109,11 @@ def error_of(status: int, printed: bytes) -> CatsError:
     found = FAULT.fullmatch(printed.decode("ascii", "replace"))
     if not found:
         return CatsError(f"status {status}: {printed!r}")
-    which, line, kind, bundle, want, kind_alone = found.groups()
+    which, line, kind, bundle, lacking, number, want, kind_alone = found.groups()
     if want:
         return WantOfMemory(want, which)
+    if lacking:
+        return NoSuchGood(int(number)) if lacking == "good" else NoSuchBid(int(number))
     if bundle is not None:
         return StepLimit(tuple(int(good) for good in bundle.split(",") if good), which)
     return RefusedText(kind or kind_alone, int(line) if line else None, which)

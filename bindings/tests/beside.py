@@ -1,13 +1,18 @@
 """The calls of the library, each beside the words of the program that does the same."""
 import os
 import pathlib
+import re
 import subprocess
 from concurrent.futures import ThreadPoolExecutor
-from typing import NamedTuple
+from typing import NamedTuple, Optional
 
 from cats._library import NO_TOTAL, STEPS, Status
+from cats._texts import bids_of, goods_of
 
 SECONDS = 60
+
+# What `cats fault` prints of a file and the library does not: its path, and the bytes of the word.
+OF_FAULT = re.compile(rb"\A[^\n]*?(:\d+:\d+: \w+)(: [^\n]*)?\n")
 
 
 class Answer(NamedTuple):
@@ -19,37 +24,64 @@ class Answer(NamedTuple):
 
 
 class Call(NamedTuple):
-    """A function of the library, and the same as words of the program."""
+    """A function of the library, and the same as words of the program. `goods` are those of `value`, and `bids` those of `revenue`."""
 
     function: str
     words: tuple = ()
     arguments: tuple = (STEPS, NO_TOTAL)
     texts: int = 1
+    goods: Optional[tuple] = None
+    bids: Optional[tuple] = None
 
     def __str__(self):
-        return " ".join([self.name(), *self.words])
+        return " ".join([self.name(), *self.words, *self.words_behind()])
 
     def name(self):
         return self.function.partition("_")[2]
 
     def words_of_program(self):
-        """The subcommand and its options. The library always uses the bounded search, which two subcommands have an option for."""
-        return [self.name(), *(["--bound"] if self.name() in ("normalise", "compare") else []), *self.words]
+        """The subcommand and its options. The library always uses the bounded search, which three subcommands have an option for."""
+        return [self.name(), *(["--bound"] if self.name() in ("value", "normalise", "compare") else []), *self.words]
+
+    def words_behind(self):
+        """The words of the program behind the files."""
+        return list(map(str, self.goods or self.bids or ()))
+
+    def words_of_library(self):
+        """The arguments behind the texts."""
+        named = goods_of(self.goods) if self.goods is not None else bids_of(self.bids) if self.bids is not None else []
+        return [*named, *self.arguments]
 
     def words_of_package(self):
         """The arguments behind the texts, by the names that the package has for them. What is no limit is left out."""
         names = ("exact",) if self.name() == "round" else ("steps", "total")
-        return {name: value for name, value in zip(names, self.arguments) if (name, value) != ("total", NO_TOTAL)}
+        words = {name: value for name, value in zip(names, self.arguments) if (name, value) != ("total", NO_TOTAL)}
+        named = {name: numbers for name, numbers in (("goods", self.goods), ("bids", self.bids)) if numbers is not None}
+        return {**named, **words}
 
     def outputs(self):
         """How many buffers it writes to."""
         return 2 if self.name() == "round" else 1
+
+    def statuses(self):
+        """Those that some random text has."""
+        differs = {Status.DIFFERENT} if self.texts == 2 or self.bids else set()
+        limits = {Status.STEP_LIMIT} if self.words in (FEW_STEPS, FEW_IN_ALL) else set()
+        lacks = {Status.WRONG_USAGE} if self.goods or self.bids else set()
+        return {Status.DONE, Status.REFUSED} | differs | limits | lacks
 
 
 FEW_STEPS, FEW_IN_ALL = ("--steps", "3"), ("--total-steps", "3")
 LIMITS = {(): (STEPS, NO_TOTAL), FEW_STEPS: (3, NO_TOTAL), FEW_IN_ALL: (STEPS, 3)}
 CALLS = [
     Call("cats_check", arguments=()),
+    Call("cats_fault", arguments=()),
+    Call("cats_show", arguments=()),
+    Call("cats_revenue", arguments=(), bids=(1, 0, 1)),
+    Call("cats_revenue", arguments=(), bids=()),
+    Call("cats_lp", arguments=()),
+    *(Call("cats_value", *limits, goods=(2, 0, 1, 0)) for limits in LIMITS.items()),
+    Call("cats_value", goods=()),
     *(Call("cats_normalise", *limits) for limits in LIMITS.items()),
     *(Call("cats_explain", *limits) for limits in LIMITS.items()),
     Call("cats_round", arguments=(False,)),
@@ -75,6 +107,8 @@ def answer_of_program(program, words, paths):
     ran = subprocess.run([program, *words, *paths], stdin=subprocess.DEVNULL, stdout=subprocess.PIPE, stderr=subprocess.PIPE, timeout=SECONDS)
     if ran.returncode <= Status.DIFFERENT:
         return Answer(ran.returncode, ran.stdout, ran.stderr)
+    if words[0] == "fault" and ran.stdout:
+        return Answer(ran.returncode, OF_FAULT.sub(rb"text\1\n", ran.stdout))
     return Answer(ran.returncode, ran.stderr)
 
 
@@ -97,7 +131,7 @@ def cases_of(program, folder, texts):
 
     def case(number, call):
         which = [number] if call.texts == 1 else [max(number - 1, 0), number]
-        own = answer_of_program(program, call.words_of_program(), [paths[at] for at in which])
+        own = answer_of_program(program, call.words_of_program(), [*(paths[at] for at in which), *call.words_behind()])
         return Case(call, tuple(map(str, which)), tuple(texts[at] for at in which), own)
 
     return in_parallel(case, [(number, call) for number in range(len(texts)) for call in CALLS])

@@ -1,21 +1,61 @@
 """The functions answer what the program does, on the examples and on random texts."""
+import re
+
 import pytest
 from beside import CALLS, Answer
 
 import cats
 from cats._library import Status
 
-STATUSES = {cats.RefusedText: Status.REFUSED, cats.StepLimit: Status.STEP_LIMIT, cats.WantOfMemory: Status.WANT_OF_MEMORY}
+STATUSES = {
+    cats.RefusedText: Status.REFUSED, cats.StepLimit: Status.STEP_LIMIT, cats.NoSuchGood: Status.WRONG_USAGE, cats.NoSuchBid: Status.WRONG_USAGE,
+    cats.WantOfMemory: Status.WANT_OF_MEMORY,
+}
 
 
 def answer_of_package(call, texts):
     """What the package answers, or the exception that it raises, as the program prints it."""
-    function = getattr(cats, "round_prices" if call.name() == "round" else call.name())
+    function = function_of(call)
     try:
         found = function(*texts, **call.words_of_package())
     except cats.CatsError as error:
         return Answer(STATUSES[type(error)], f"{error}\n".encode())
     return PRINTED[call.name()](found)
+
+
+def function_of(call):
+    """That of the package, in which `fault` is a field of an exception."""
+    return fault if call.name() == "fault" else getattr(cats, "round_prices" if call.name() == "round" else call.name())
+
+
+def fault(text):
+    """Where the first fault of a text is, and what helps."""
+    try:
+        cats.check(text)
+    except cats.RefusedText as error:
+        assert error.line is not None and is_word_at(text, error)
+        return error
+    return None
+
+
+def is_word_at(text, error):
+    """Whether a fault has its word, or none behind the last one of its line."""
+    lines = text.split(b"\n")
+    words = re.split(rb"[ \t]+", re.sub(rb"\r\Z", b"", lines[error.line - 1]).strip(b" \t")) if error.line <= len(lines) else [b""]
+    return error.word_text == (words[error.word - 1] if error.word <= len(words) else b"")
+
+
+def printed_fault(error):
+    if error is None:
+        return Answer(0, b"")
+    return Answer(2, f"text:{error.line}:{error.word}: {error.kind}\n{error.hint}\n".encode())
+
+
+def printed_revenue(found):
+    if found.revenue is not None:
+        return Answer(0, f"revenue {found.revenue}\n".encode())
+    shared = f"share good {found.good}" if found.dummy is None else f"are of one XOR bidder (dummy good {found.dummy})"
+    return Answer(1, f"bids {found.first} and {found.second} {shared}\n".encode())
 
 
 def printed_table(rows, kind):
@@ -27,6 +67,12 @@ def printed_cell(cell):
     if cell is None:
         return ""
     return ",".join(map(str, cell)) if isinstance(cell, tuple) else str(cell)
+
+
+def printed_value(found):
+    rows = [("or", found.or_value, *found.packing)]
+    rows += [("xor", it.good, it.value, *([] if it.bid is None else [it.bid])) for it in found.xor]
+    return Answer(0, "".join(" ".join(map(str, row)) + "\n" for row in rows).encode())
 
 
 def printed_round(rounded):
@@ -42,6 +88,11 @@ def printed_compare(verdict):
 
 PRINTED = {
     "check": lambda sizes: Answer(0, b"goods %d bids %d dummy %d\n" % sizes),
+    "fault": printed_fault,
+    "show": lambda text: Answer(0, text),
+    "revenue": printed_revenue,
+    "lp": lambda text: Answer(0, text),
+    "value": printed_value,
     "normalise": lambda text: Answer(0, text),
     "explain": lambda rows: Answer(0, printed_table(rows, cats.Reason)),
     "round": printed_round,
@@ -56,21 +107,22 @@ def test_answers_are_those_of_the_program(cases, call):
     own = [case for case in cases if case.call == call]
     answers = [answer_of_package(call, case.texts) for case in own]
     assert [(str(case), answer, case.own, case.texts) for case, answer in zip(own, answers) if answer != case.own] == []
-    wanted = {Status.DONE, Status.REFUSED}
-    wanted |= {Status.DIFFERENT} if call.texts == 2 else set()
-    wanted |= {Status.STEP_LIMIT} if call.words and call.name() != "round" else set()
-    assert wanted <= {case.own.status for case in own}
+    assert call.statuses() <= {case.own.status for case in own}
 
 
 def test_errors_have_their_fields(cases):
-    """The kind, the line, the bundle and the text that a line of the program names."""
+    """The kind, the line, the bundle, the good and the text that a line of the program names."""
     for case in cases:
         try:
-            getattr(cats, "round_prices" if case.call.name() == "round" else case.call.name())(*case.texts, **case.call.words_of_package())
+            function_of(case.call)(*case.texts, **case.call.words_of_package())
         except cats.RefusedText as error:
             assert case.own.out.decode() == prefix_of(error) + (f"line {error.line}: " if error.line else "") + error.kind + "\n"
         except cats.StepLimit as error:
             assert case.own.out.decode() == prefix_of(error) + "step limit at " + ",".join(map(str, error.bundle)) + "\n"
+        except cats.NoSuchGood as error:
+            assert case.own.out.decode() == f"good {error.good} out of range\n"
+        except cats.NoSuchBid as error:
+            assert case.own.out.decode() == f"bid {error.bid} out of range\n"
 
 
 def prefix_of(error):

@@ -75,7 +75,9 @@ def test_methods_answer_as_the_functions(root, tmp_path):
     one, other, same = map(cats.read, paths)
     assert one.text == paths[0].read_bytes()
     assert one.normalise().text == cats.normalise(paths[0]) == same.normalise().text
-    assert one.explain() == cats.explain(paths[0])
+    assert one.explain() == cats.explain(paths[0]) and one.value([0]) == cats.value(paths[0], [0])
+    assert one.lp() == cats.lp(paths[0]) and one.sizes() == cats.sizes(paths[0])
+    assert one.revenue([0, 1]) == cats.revenue(paths[0], [0, 1])
     for right in (other, other.text, paths[1]):
         assert one.diff(right) == cats.diff(paths[0], paths[1]) and len(one.diff(right)) == 1 and not one.same_as(right)
     for right in (same, same.text, paths[2]):
@@ -88,7 +90,8 @@ def test_methods_answer_as_the_functions(root, tmp_path):
 def test_methods_keep_the_limits(root):
     auction = cats.read(root / "examples/three_reach.cats")
     for limits in ({"steps": 3}, {"total": 2}):
-        for call in (auction.normalise, auction.explain, lambda **it: auction.same_as(auction, **it), lambda **it: auction.diff(auction, **it)):
+        calls = [auction.normalise, auction.explain, auction.sizes, lambda **it: auction.value(range(auction.goods), **it)]
+        for call in (*calls, lambda **it: auction.same_as(auction, **it), lambda **it: auction.diff(auction, **it)):
             with pytest.raises(cats.StepLimit):
                 call(**limits)
     for other in (BIDS.decode(), "examples/ladder.cats"):

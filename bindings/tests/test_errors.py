@@ -16,16 +16,71 @@ ERRORS = [
     cats.WantOfMemory("want of memory", "first"),
     cats.StepLimit((0, 12)),
     cats.StepLimit((), "first"),
+    cats.NoSuchGood(7),
+    cats.NoSuchBid(65536),
 ]
-FIELDS = ("which", "kind", "line", "bundle", "args", "extra")
+FIELDS = ("which", "text", "kind", "line", "word", "word_text", "hint", "bundle", "good", "bid", "args", "extra")
 
 
 @pytest.mark.parametrize("error", ERRORS, ids=repr)
 def test_copies_are_the_same(error):
-    error.extra = "of the caller"
+    error.extra, error.text = "of the caller", BIDS
     for made in (pickle.loads(pickle.dumps(error)), copy.copy(error), copy.deepcopy(error)):
         assert type(made) is type(error) and str(made) == str(error)
         assert [getattr(made, field, None) for field in FIELDS] == [getattr(error, field, None) for field in FIELDS]
+
+
+def refusal_of(call, *arguments, **words):
+    with pytest.raises(cats.RefusedText) as refused:
+        call(*arguments, **words)
+    return refused.value
+
+
+def test_copies_have_the_place():
+    """It is looked up at last when a copy is made, which has it without the text."""
+    wrong = BIDS.replace(b" 4 ", b"\t4.5e0 ") + b"%" * 10_000
+    for make in (pickle.dumps, copy.copy, copy.deepcopy):
+        made = make(refusal_of(cats.check, wrong))
+        if isinstance(made, bytes):
+            assert len(made) < 1_000
+            made = pickle.loads(made)
+        assert (made.line, made.word, made.word_text, str(made)) == (5, 2, b"4.5e0", "line 5: NotANumber")
+        assert "cats round" in made.hint
+
+
+@pytest.mark.parametrize("text, line, word, found", [
+    (b"", 1, 1, b""),
+    (b"goods 2\nbids x", 2, 2, b"x"),
+    (BIDS.replace(b"0 #", b"0 \t\r"), 4, 4, b""),
+    (BIDS.replace(b"#\n1", b"\r\n1"), 4, 4, b""),
+    (BIDS.replace(b"#\n1", b"#\r\r\n1"), 4, 4, b"#\r"),
+    (BIDS.replace(b"bids 2", b"bids 3"), 6, 1, b""),
+])
+def test_places(text, line, word, found):
+    """The word is one between spaces and tabs, or the end of a line or of the text."""
+    for call in (cats.check, cats.read, cats.normalise, cats.explain, cats.lp, cats.show, lambda it: cats.revenue(it, [0]), cats.round_prices):
+        refused = refusal_of(call, text)
+        assert (refused.line, refused.word, refused.word_text) == (line, word, found)
+    refused = refusal_of(cats.compare, BIDS, text)
+    assert (refused.which, refused.line, refused.word, refused.word_text) == ("second", line, word, found)
+    assert refusal_of(cats.compare, text, BIDS).word_text == found
+
+
+@pytest.mark.parametrize("price, good, exact, word, kind", [
+    (b"4e0", b"x", False, 3, "NotANumber"),
+    (b"4e0", b"x", True, 3, "NotANumber"),
+    (b"4e99", b"x", False, 2, "TooLarge"),
+    (b"4e-9", b"x", True, 2, "TooFine"),
+    (b"4e-9", b"x", False, 3, "NotANumber"),
+    (b"e", b"x", False, 2, "NotANumber"),
+    (b"4e0", b"7", False, 3, "GoodRange"),
+])
+def test_places_in_rounded_texts(price, good, exact, word, kind):
+    """Prices that are rounded are no fault of a text, neither before its first one nor on the line of that."""
+    text = BIDS.replace(b" 3 ", b" 3e0 ").replace(b" 4 1 ", b" " + price + b" " + good + b" ")
+    for refused in (refusal_of(cats.round_prices, text, exact), refusal_of(cats.diff, BIDS, text, round="exact" if exact else True)):
+        assert (refused.line, refused.word, refused.kind) == (5, word, kind)
+        assert refused.word_text == (price if word == 2 else good) and refused.hint
 
 
 def test_process_pool():
@@ -44,4 +99,5 @@ def test_messages():
         raise ERRORS[3]
     assert list(map(str, ERRORS)) == [
         "no", "TooLong", "second: line 1: Header", "first: want of memory", "step limit at 0,12", "first: step limit at ",
+        "good 7 out of range", "bid 65536 out of range",
     ]

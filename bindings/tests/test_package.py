@@ -11,20 +11,30 @@ import shutil
 import subprocess
 import sys
 import tracemalloc
+import types
 import typing
+from decimal import Decimal
 
 import pytest
 from texts import BIDS
 
 import cats
+from cats import _library
 
 MODULES = ["cats", *(f"cats.{it.name}" for it in pkgutil.iter_modules(cats.__path__))]
 
 # Each function of a text, with that text in each place.
 CALLS = {
     "check": cats.check,
+    "show": cats.show,
+    "value": lambda text: cats.value(text, [0]),
     "normalise": cats.normalise,
+    "normalise, rounded": lambda text: cats.normalise(text, round=True),
     "explain": cats.explain,
+    "lp": cats.lp,
+    "revenue": lambda text: cats.revenue(text, [0]),
+    "sizes": cats.sizes,
+    "duplicates": lambda text: len(cats.duplicates([BIDS, text])),
     "round_prices": cats.round_prices,
     "read": lambda text: cats.read(text).text,
     "compare, left": lambda text: cats.compare(text, BIDS),
@@ -121,6 +131,46 @@ def test_limits():
             cats.normalise(BIDS, **limits)
 
 
+def test_goods():
+    """No good is taken for another one."""
+    assert cats.value(BIDS, (it for it in (1, 0, 1))) == cats.value(BIDS, {0, 1}) == cats.Value(7, (0, 1), ())
+    assert cats.value(BIDS, ()) == cats.Value(0, (), ())
+    for good in (2, 65535, 65536, 65537, 2**64, -1):
+        with pytest.raises(cats.NoSuchGood) as lacking:
+            cats.value(BIDS, [0, good, 9])
+        assert lacking.value.good == good and str(lacking.value) == f"good {good} out of range"
+    for goods in ([0.0], ["0"], "0", 0, None):
+        with pytest.raises(TypeError):
+            cats.value(BIDS, goods)
+
+
+def test_bids():
+    """No bid is taken for another one."""
+    wanted = cats.Allocation(Decimal(7), None, None, None, None)
+    assert cats.revenue(BIDS, (it for it in (1, 0, 1))) == cats.revenue(BIDS, {0, 1}) == cats.read(BIDS).revenue([1, 0]) == wanted
+    assert cats.revenue(BIDS, ()) == cats.Allocation(Decimal(0))
+    for bid in (2, 65536, 2**32 - 1, 2**32, 2**32 + 1, -1):
+        with pytest.raises(cats.NoSuchBid) as lacking:
+            cats.revenue(BIDS, [0, bid, 9])
+        assert lacking.value.bid == bid and str(lacking.value) == f"bid {bid} out of range"
+    for bids in ([0.0], ["0"], "0", 0, None):
+        with pytest.raises(TypeError):
+            cats.revenue(BIDS, bids)
+
+
+def test_bids_that_cannot_both_win():
+    text = b"goods 2\nbids 3\ndummy 2\n0 3 0 3 #\n1 1.5 1 3 #\n2 4 1 #\n"
+    assert cats.revenue(text, [0, 2]).revenue == 7
+    assert cats.revenue(text, [2, 1]) == cats.Allocation(None, 1, 2, good=1)
+    assert cats.revenue(text, [2, 1, 0]) == cats.Allocation(None, 0, 1, dummy=1)
+
+
+def test_many_dummy_goods():
+    """Each has a row, for which a text needs no byte."""
+    found = cats.value(b"goods 1\nbids 1\ndummy 65536\n0 2.50 0 3 #\n", [0])
+    assert len(found.xor) == 65_536 and found.xor[0] == (1, 0, None) and found.xor[2] == (3, Decimal("2.5"), 0)
+
+
 def test_room():
     """`round_prices` takes room for what it prints, and not for what it might."""
     text = BIDS + b"%" * 1_000_000
@@ -168,10 +218,21 @@ def test_no_library(installed, tmp_path):
     assert run_beside(installed).startswith(f"ImportError: the library cannot be loaded: {installed / 'libcats.so'}: ")
 
 
+def test_a_library_of_another_version(monkeypatch):
+    """Only its patch may be another one."""
+    for number, is_taken in ((100, True), (199, True), (99, False), (200, False), (10_100, False)):
+        monkeypatch.setattr(_library, "LIBRARY", types.SimpleNamespace(cats_version=lambda: number, _name="it"))
+        if is_taken:
+            _library.check_version("0.1.7")
+        else:
+            with pytest.raises(ImportError):
+                _library.check_version("0.1.7")
+
+
 def test_another_library(installed):
     """A library that lacks a function is one of another version."""
     import _ctypes
 
     shutil.copy(_ctypes.__file__, installed / "libcats.so")
     found = run_beside(installed)
-    assert found.startswith("ImportError: ") and "cats_check" in found and "version" in found
+    assert found.startswith("ImportError: ") and "cats_version" in found and "version" in found

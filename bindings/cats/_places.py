@@ -1,0 +1,59 @@
+"""Where the fault of a refused text is, and what helps: what a RefusedText looks up."""
+from __future__ import annotations
+
+import re
+from typing import List
+
+from cats._bids import HEADER_LINES, is_significant
+from cats._library import LINE, Status, call
+from cats.errors import NO_PLACE, Place, error_of
+
+# The lines of cats_fault, and room for them: CATS_FAULT_SIZE.
+PLACE, PLACE_SIZE = re.compile(r"text:(\d+):(\d+): \w+\n(.*)\n"), 512
+
+# The words that are read in the place of a price that cannot be rounded, by the kind of its fault.
+FAULTY = {b"TooLarge": b"1000000000001", b"TooFine": b"0.0000001"}
+
+
+def place_in(text: bytes) -> Place:
+    """The place of the first fault of a text. One that is longer than is read has none."""
+    found = PLACE.fullmatch(first_output("cats_fault", [text, len(text)], PLACE_SIZE).decode("ascii"))
+    return Place(int(found[2]), word_at(text, int(found[1]), int(found[2])), found[3]) if found else NO_PLACE
+
+
+def place_in_rounded(text: bytes, line: int, exact: bool) -> Place:
+    """The place of the first fault of a text whose prices are rounded, which is on this line. The library does not answer that text. So prices
+    before that line are replaced by one without a fault, and that of the line by one that is judged alike."""
+    lines = text.split(b"\n")
+    for at in [at for at, it in enumerate(lines[:line]) if is_significant(it)][HEADER_LINES:]:
+        words = words_of(lines[at])
+        words[1:2] = [judged_price(word, exact) if at + 1 == line else b"0" for word in words[1:2]]
+        lines[at] = b" ".join(words) + (b"\r" if lines[at].endswith(b"\r") else b"")
+    place = place_in(b"\n".join(lines))
+    return place._replace(word_text=word_at(text, line, place.word)) if place.word else place
+
+
+def judged_price(price: bytes, exact: bool) -> bytes:
+    """A price that is judged as this one is once it is rounded."""
+    text = b"goods 1\nbids 1\ndummy 0\n0 %b 0 #\n" % price
+    out = first_output("cats_round", [text, len(text), exact], len(text) + LINE, LINE)
+    return b"0" if out.startswith(b"goods ") else FAULTY.get(out.split()[-1], price)
+
+
+def first_output(name: str, arguments: List[object], *sizes: int) -> bytes:
+    """The output of a call, or the line of its refusal. WantOfMemory: memory was refused."""
+    status, outputs = call(name, arguments, *sizes)
+    if status == Status.WANT_OF_MEMORY:
+        raise error_of(status, outputs[0])
+    return outputs[0]
+
+
+def word_at(text: bytes, line: int, word: int) -> bytes:
+    """A word of a line, both counted from 1. Behind the last word and the last line there are no bytes."""
+    lines = text.split(b"\n", line)[line - 1 : line]
+    return b"".join(words_of(b"".join(lines))[word - 1 : word])
+
+
+def words_of(line: bytes) -> List[bytes]:
+    """The words of a line, between blanks: spaces, tabs, and a CR at its end."""
+    return re.findall(rb"[^ \t]+", line[:-1] if line.endswith(b"\r") else line)
