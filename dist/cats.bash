@@ -5,15 +5,17 @@ _cats() {
     COMPREPLY=()
     if ((COMP_CWORD > 1)); then command=${COMP_WORDS[1]}; fi
     case $command in
-        '') _cats_words "check show value normalise explain round lp compare diff duplicates sizes help -h --help -V --version" ;;
-        help) if ((COMP_CWORD == 2)); then _cats_words "check show value normalise explain round lp compare diff duplicates sizes help"; fi ;;
-        check | show | lp) _cats_operands 1 "-h --help" ;;
+        '') _cats_words "check fault show value revenue normalise explain round lp compare diff duplicates sizes help -h --help -V --version" ;;
+        help) if ((COMP_CWORD == 2)); then _cats_words "check fault show value revenue normalise explain round lp compare diff duplicates sizes help"; fi ;;
+        check | fault | show | lp) _cats_operands 1 "-h --help" ;;
         value | normalise) _cats_operands 1 "--bound --steps --total-steps -h --help" ;;
+        revenue) _cats_operands 1 "--bids -h --help" ;;
         explain) _cats_operands 1 "--steps --total-steps -h --help" ;;
         round) _cats_operands 1 "--exact -h --help" ;;
         compare) _cats_operands 2 "--bound --steps --total-steps -h --help" ;;
         diff) _cats_operands 2 "--steps --total-steps -h --help" ;;
-        duplicates | sizes) _cats_operands COMP_CWORD "--steps --total-steps --progress -0 --null --files0-from -h --help" ;;
+        duplicates) _cats_operands COMP_CWORD "--steps --total-steps --progress -0 --null --all --files0-from -h --help" ;;
+        sizes) _cats_operands COMP_CWORD "--steps --total-steps --progress -0 --null --files0-from -h --help" ;;
     esac
 }
 
@@ -23,12 +25,14 @@ _cats_words() {
 }
 
 # FILES OPTIONS: offers options to a word with a hyphen, and paths if fewer than FILES operands come before the cursor. What follows
-# `--steps` or `--total-steps` is a number, and so is a good, and none is offered. What follows `--files0-from` is a path, and then no other path is.
+# `--steps` or `--total-steps` is a number, and so are goods and bids, and none is offered. What follows `--bids` or `--files0-from` is a path,
+# and behind `--files0-from` no other path is offered.
 _cats_operands() {
     local at operands=0 value= is_listed=
     for ((at = 2; at < COMP_CWORD; at++)); do
         case ${COMP_WORDS[at]} in
             --steps | --total-steps) value=number ;;
+            --bids) value=path ;;
             --files0-from) value=path is_listed=1 ;;
             =) ;;
             -*) value= ;;

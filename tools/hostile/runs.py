@@ -166,8 +166,10 @@ def cases_of(path, other, goods):
     """Each subcommand on a file."""
     return [
         case(("check",), (path,)),
+        case(("fault",), (path,)),
         case(("show",), (path,)),
         case(("value",), (path,), goods),
+        case(("revenue",), (path,)),
         case(("normalise",), (path,)),
         case(("explain",), (path,)),
         case(("round",), (path,)),
@@ -182,7 +184,8 @@ def small_cases(folder):
     for name, (text, other, goods) in AUCTIONS.items():
         path = write_file(folder, name, text)
         cases += cases_of(path, write_file(folder, f"{name}_other", other), goods)
-    return [*cases, case(("round",), (write_file(folder, "six_digits", SIX_DIGITS),))]
+    fine = write_file(folder, "six_digits", SIX_DIGITS)
+    return [*cases, case(("round",), (fine,)), case(("fault",), (fine,))]
 
 
 def prefixes(one):
