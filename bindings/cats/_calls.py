@@ -27,19 +27,19 @@ def check(text: TextOrPath) -> Sizes:
     >>> try:
     ...     check(b"goods 2\\nbids 1\\ndummy 0\\n0 1e3 0 #\\n")
     ... except RefusedText as fault:
-    ...     print(fault.line, fault.word, fault.kind, fault.word_text)
+    ...     print(fault.line, fault.word, fault.kind, fault.text)
     4 2 NotANumber b'1e3'
     """
     return sizes_of(answer_on_texts("cats_check", [text], False, [], 0))
 
 
-def show(text: TextOrPath) -> bytes:
+def show(text: TextOrPath, *, round: Rounding = False) -> bytes:
     """A file in one layout: no comments, plain numbers, bids in order of number, goods rising.
 
     >>> show(b"goods 2\\nbids 2\\ndummy 0\\n% two\\n1 4.50 1 0 #\\n0 03 0 #\\n")
     b'goods 2\\nbids 2\\ndummy 0\\n0\\t3\\t0\\t#\\n1\\t4.5\\t0\\t1\\t#\\n'
     """
-    return answer_on_texts("cats_show", [text], False, [], SHOW)
+    return answer_on_texts("cats_show", [text], round, [], SHOW)
 
 
 def value(text: TextOrPath, goods: Iterable[int], steps: int = STEPS, *, total: Optional[int] = None, round: Rounding = False) -> Value:
@@ -186,7 +186,7 @@ def duplicates(
         try:
             canonical = normalise(text, steps, total=total, round=round)
         except CatsError as fault:
-            fault.text = text
+            fault.source = text
             raise
         groups.setdefault(canonical, []).append(text)
     return [tuple(group) for group in groups.values() if all or len(group) > 1]

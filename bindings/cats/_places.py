@@ -30,7 +30,7 @@ def place_in_rounded(text: bytes, line: int, exact: bool) -> Place:
         words[1:2] = [judged_price(word, exact) if at + 1 == line else b"0" for word in words[1:2]]
         lines[at] = b" ".join(words) + (b"\r" if lines[at].endswith(b"\r") else b"")
     place = place_in(b"\n".join(lines))
-    return place._replace(word_text=word_at(text, line, place.word)) if place.word else place
+    return place._replace(text=word_at(text, line, place.word)) if place.word else place
 
 
 def judged_price(price: bytes, exact: bool) -> bytes:

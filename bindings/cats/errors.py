@@ -12,7 +12,7 @@ class Place(NamedTuple):
     """Where a fault is in its line, and what helps: fields of RefusedText."""
 
     word: Optional[int]
-    word_text: Optional[bytes]
+    text: Optional[bytes]
     hint: Optional[str]
 
 
@@ -20,13 +20,13 @@ NO_PLACE = Place(None, None, None)
 
 
 class CatsError(Exception):
-    """Why a call gave no answer. `which` is `first` or `second` if it is about one of two texts, and else None. `text` is the one of the texts
-    of `duplicates` that it is about, as it was given, and else None."""
+    """Why a call gave no answer. `which` is `first` or `second` if it is about one of two texts, and else None. `source` is the one of the
+    texts of `duplicates` that it is about, as it was given, and else None."""
 
     def __init__(self, message: str, which: Optional[str] = None) -> None:
         super().__init__(f"{which}: {message}" if which else message)
         self.which = which
-        self.text: object = None
+        self.source: object = None
         self._words: Tuple[Any, ...] = (message, which)
 
     def __reduce__(self) -> Tuple[Any, ...]:
@@ -36,7 +36,7 @@ class CatsError(Exception):
 
 class RefusedText(CatsError):
     """A text is not a bid file, or is longer than is read: the fault has a `kind`, and a `line` if it belongs to one. `word` is the number of its
-    word in the line, from 1, and `word_text` has the bytes of that word, none at the end of the line or text. `hint` says what helps.
+    word in the line, from 1, and `text` has the bytes of that word, none at the end of the line or text. `hint` says what helps.
     These three are looked up in the text when one is first read, and are None if the text is too long."""
 
     def __init__(self, kind: str, line: Optional[int] = None, which: Optional[str] = None) -> None:
@@ -53,8 +53,8 @@ class RefusedText(CatsError):
         return self._found().word
 
     @property
-    def word_text(self) -> Optional[bytes]:
-        return self._found().word_text
+    def text(self) -> Optional[bytes]:
+        return self._found().text
 
     @property
     def hint(self) -> Optional[str]:

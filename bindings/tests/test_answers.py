@@ -42,7 +42,7 @@ def is_word_at(text, error):
     """Whether a fault has its word, or none behind the last one of its line."""
     lines = text.split(b"\n")
     words = re.split(rb"[ \t]+", re.sub(rb"\r\Z", b"", lines[error.line - 1]).strip(b" \t")) if error.line <= len(lines) else [b""]
-    return error.word_text == (words[error.word - 1] if error.word <= len(words) else b"")
+    return error.text == (words[error.word - 1] if error.word <= len(words) else b"")
 
 
 def printed_fault(error):

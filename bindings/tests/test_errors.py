@@ -19,12 +19,12 @@ ERRORS = [
     cats.NoSuchGood(7),
     cats.NoSuchBid(65536),
 ]
-FIELDS = ("which", "text", "kind", "line", "word", "word_text", "hint", "bundle", "good", "bid", "args", "extra")
+FIELDS = ("which", "source", "kind", "line", "word", "text", "hint", "bundle", "good", "bid", "args", "extra")
 
 
 @pytest.mark.parametrize("error", ERRORS, ids=repr)
 def test_copies_are_the_same(error):
-    error.extra, error.text = "of the caller", BIDS
+    error.extra, error.source = "of the caller", BIDS
     for made in (pickle.loads(pickle.dumps(error)), copy.copy(error), copy.deepcopy(error)):
         assert type(made) is type(error) and str(made) == str(error)
         assert [getattr(made, field, None) for field in FIELDS] == [getattr(error, field, None) for field in FIELDS]
@@ -44,7 +44,7 @@ def test_copies_have_the_place():
         if isinstance(made, bytes):
             assert len(made) < 1_000
             made = pickle.loads(made)
-        assert (made.line, made.word, made.word_text, str(made)) == (5, 2, b"4.5e0", "line 5: NotANumber")
+        assert (made.line, made.word, made.text, str(made)) == (5, 2, b"4.5e0", "line 5: NotANumber")
         assert "cats round" in made.hint
 
 
@@ -60,10 +60,10 @@ def test_places(text, line, word, found):
     """The word is one between spaces and tabs, or the end of a line or of the text."""
     for call in (cats.check, cats.read, cats.normalise, cats.explain, cats.lp, cats.show, lambda it: cats.revenue(it, [0]), cats.round_prices):
         refused = refusal_of(call, text)
-        assert (refused.line, refused.word, refused.word_text) == (line, word, found)
+        assert (refused.line, refused.word, refused.text) == (line, word, found)
     refused = refusal_of(cats.compare, BIDS, text)
-    assert (refused.which, refused.line, refused.word, refused.word_text) == ("second", line, word, found)
-    assert refusal_of(cats.compare, text, BIDS).word_text == found
+    assert (refused.which, refused.line, refused.word, refused.text) == ("second", line, word, found)
+    assert refusal_of(cats.compare, text, BIDS).text == found
 
 
 @pytest.mark.parametrize("price, good, exact, word, kind", [
@@ -80,7 +80,7 @@ def test_places_in_rounded_texts(price, good, exact, word, kind):
     text = BIDS.replace(b" 3 ", b" 3e0 ").replace(b" 4 1 ", b" " + price + b" " + good + b" ")
     for refused in (refusal_of(cats.round_prices, text, exact), refusal_of(cats.diff, BIDS, text, round="exact" if exact else True)):
         assert (refused.line, refused.word, refused.kind) == (5, word, kind)
-        assert refused.word_text == (price if word == 2 else good) and refused.hint
+        assert refused.text == (price if word == 2 else good) and refused.hint
 
 
 def test_process_pool():

@@ -59,7 +59,7 @@ def test_duplicates_raise_what_is_refused(tmp_path):
         (tmp_path / "no file").write_bytes(b"no file")
         with pytest.raises(error) as raised:
             cats.duplicates([b"goods 1\nbids 0\ndummy 0\n", refused], total=1)
-        assert raised.value.text is refused
+        assert raised.value.source is refused
     with pytest.raises(FileNotFoundError):
         cats.duplicates([BIDS, tmp_path / "none"])
     for texts in ("examples", BIDS, [BIDS.decode()]):
