@@ -184,8 +184,7 @@ def small_cases(folder):
     for name, (text, other, goods) in AUCTIONS.items():
         path = write_file(folder, name, text)
         cases += cases_of(path, write_file(folder, f"{name}_other", other), goods)
-    fine = write_file(folder, "six_digits", SIX_DIGITS)
-    return [*cases, case(("round",), (fine,)), case(("fault",), (fine,))]
+    return [*cases, case(("round",), (write_file(folder, "six_digits", SIX_DIGITS),))]
 
 
 def prefixes(one):
@@ -363,8 +362,10 @@ NO_FILES = {"/": (DEVICE_FAILED, b"Device\n"), "/dev/null": (FILE_REFUSED, b"lin
 
 
 def other_inputs(one, at, path):
-    """Something else is in place of a file."""
+    """Something else is in place of a file. What is not a bid file has its fault on the output of `fault`."""
     status, line = NO_FILES[path]
+    if one.command == ("fault",) and status == FILE_REFUSED:
+        return
     files = [*one.files[:at], path, *one.files[at + 1 :]]
     answer = run(one.words(files))
     TALLY.judge(answer == Answer(status, b"", prefixes(one)[at] + line), f"{one}: {path} as file {at + 1}", answer)
