@@ -47,8 +47,8 @@ pub extern "C" fn cats_check(alloc: Global, text: &[u8], out: &mut [u8], needed:
     give(alloc, &answer, out, needed)
 }
 
-/// `cats fault`: where the first fault of the text is, and what helps. The name `text` stands for a path, and the bytes of
-/// the word are left out.
+/// `cats fault`: where the first fault of the text is, and what helps. The name `text` is there in place of a path. The
+/// bytes of the word are left out.
 #[unsafe(no_mangle)]
 pub extern "C" fn cats_fault(alloc: Global, text: &[u8], out: &mut [u8], needed: &mut usize) -> u8
     ensures { FaultCalls text.now out.old out.new needed.new result }

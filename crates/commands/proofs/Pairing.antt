@@ -23,7 +23,7 @@ use Rattle.commands.specs.Outcomes.{Outcome, Prints, compare_outcome, diff_outco
 use Rattle.commands.specs.Pairs.{CommandsBoth, Compares, Diffs, GivesBoth, GivesDifferences, MakesOfBoth, outcome_of_both}
 use Rattle.commands.specs.declared.answer.Answer.{Answer}
 
--- what was given, if no fault is told
+-- what was given, if there is no fault
 given_of : {T : Type 0} (P : Result T CanonFault → Type 0) (which : Which) (answer : Result T CanonFault) (given : T)
     → P answer → Ok given ≡ of_file which answer → P (Ok given)
 given_of {T} P which (Ok other) given holds is =
