@@ -3,10 +3,10 @@ use Rattle.std.proofs.Common.{◌≡◌, ◌∙◌, ◌++◌, ◌+◌, ◌-◌, 
 use Rattle.std.proofs.Common.{ap, arith, le-leb, refl, suc, sym, zero}
 use Rattle.std.specs.Borrow.{Bor}
 use Rattle.std.specs.List.{range_with_len, slice_split}
-use Rattle.std.specs.Prelude.{◌==◌, if◌then◌else◌, nat_le, not, option_and_then, option_map}
+use Rattle.std.specs.Prelude.{◌==◌, if◌then◌else◌, not, option_map}
 use Rattle.std.proofs.lemmas.Bool.{lt-leb}
 use Rattle.std.proofs.lemmas.List.{append_assoc, at_drop_more}
-use Rattle.command_line.specs.Goods.{both, ends_of, good_of, goods_between, goods_of_part, goods_of_parts, goods_of_word, goods_of_words, joined}
+use Rattle.command_line.specs.Goods.{both, ends_of, good_of, goods_of_part, goods_of_parts, goods_of_word, goods_of_words, joined}
 use Rattle.command_line.specs.Requests.{texts_of}
 
 -- the goods so far, and those that are found after them

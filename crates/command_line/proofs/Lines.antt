@@ -10,10 +10,12 @@ use Rattle.clap.specs.Simple.{Shape, built, entered, label_of, new_shape, rows_a
 use Rattle.clap.specs.ValueTests.{is_unsigned_in}
 use Rattle.clap.specs.Walk.{Row, Text, answers_to, idle, nothing_held, walk_from, walked}
 use Rattle.clap.specs.declared.error.kind.ErrorKind.TheVariants.{ValueValidation}
-use Rattle.command_line.specs.PlainRequests.{Check, Compare, Diff, Explain, Fault, Lp, Normalise, PlainRequest, Round, Show, Value}
-use Rattle.command_line.specs.PlainRequests.{BidsIn, GivenBids, Revenue}
+use Rattle.command_line.specs.PlainRequests.{BidsIn, Check, Explain, Fault, GivenBids, Lp, Normalise, OnFile, OnPair, PlainRequest, Revenue}
+use Rattle.command_line.specs.PlainRequests.{Round, Show, Value}
 use Rattle.command_line.specs.Subcommands.{begins_with_sign, cats, number_up_to, usual_limits}
 use Rattle.command_line.specs.Requests.{begins_with_hyphen, if_taken, request_from, request_of}
+use Rattle.command_line.specs.declared.request.PairCommand.TheVariants.{Compare, Diff}
+use Rattle.command_line.specs.declared.request.Prices.TheVariants.{AsWritten, Rounded, RoundedExactly}
 use Rattle.command_line.proofs.PlainWords.{ArePlain, at, hyphens, level_after, rows_after_option, same_fault, same_rows}
 
 -- what a line requests that has no fault before its subcommand, by the subcommand's name and the words after it
@@ -28,7 +30,8 @@ plain_line name words plain =
 
 -- ---- paths
 
-pub check_path : (program path : List ℕ) → begins_with_hyphen path ≡ false → request_of (program ∷ codes "check" ∷ path ∷ []) ≡ Some (Check path)
+pub check_path : (program path : List ℕ) → begins_with_hyphen path ≡ false
+    → request_of (program ∷ codes "check" ∷ path ∷ []) ≡ Some (OnFile path AsWritten Check)
 unfolding clap_on_literals
 check_path program path plain = plain_line (codes "check") (path ∷ []) (plain, tt)
 
@@ -36,49 +39,52 @@ pub fault_path : (program path : List ℕ) → begins_with_hyphen path ≡ false
 unfolding clap_on_literals
 fault_path program path plain = plain_line (codes "fault") (path ∷ []) (plain, tt)
 
-pub show_path : (program path : List ℕ) → begins_with_hyphen path ≡ false → request_of (program ∷ codes "show" ∷ path ∷ []) ≡ Some (Show path)
+pub show_path : (program path : List ℕ) → begins_with_hyphen path ≡ false
+    → request_of (program ∷ codes "show" ∷ path ∷ []) ≡ Some (OnFile path AsWritten Show)
 unfolding clap_on_literals
 show_path program path plain = plain_line (codes "show") (path ∷ []) (plain, tt)
 
 pub normalise_path : (program path : List ℕ) → begins_with_hyphen path ≡ false
-    → request_of (program ∷ codes "normalise" ∷ path ∷ []) ≡ Some (Normalise path (usual_limits false))
+    → request_of (program ∷ codes "normalise" ∷ path ∷ []) ≡ Some (OnFile path AsWritten (Normalise (usual_limits false)))
 unfolding clap_on_literals
 normalise_path program path plain = plain_line (codes "normalise") (path ∷ []) (plain, tt)
 
 pub explain_path : (program path : List ℕ) → begins_with_hyphen path ≡ false
-    → request_of (program ∷ codes "explain" ∷ path ∷ []) ≡ Some (Explain path (usual_limits true))
+    → request_of (program ∷ codes "explain" ∷ path ∷ []) ≡ Some (OnFile path AsWritten (Explain (usual_limits true)))
 unfolding clap_on_literals
 explain_path program path plain = plain_line (codes "explain") (path ∷ []) (plain, tt)
 
 pub value_path : (program path : List ℕ) → begins_with_hyphen path ≡ false
-    → request_of (program ∷ codes "value" ∷ path ∷ []) ≡ Some (Value path [] (usual_limits false))
+    → request_of (program ∷ codes "value" ∷ path ∷ []) ≡ Some (OnFile path AsWritten (Value [] (usual_limits false)))
 unfolding clap_on_literals
 value_path program path plain = plain_line (codes "value") (path ∷ []) (plain, tt)
 
-pub round_path : (program path : List ℕ) → begins_with_hyphen path ≡ false → request_of (program ∷ codes "round" ∷ path ∷ []) ≡ Some (Round path false)
+pub round_path : (program path : List ℕ) → begins_with_hyphen path ≡ false
+    → request_of (program ∷ codes "round" ∷ path ∷ []) ≡ Some (Round path false)
 unfolding clap_on_literals
 round_path program path plain = plain_line (codes "round") (path ∷ []) (plain, tt)
 
-pub lp_path : (program path : List ℕ) → begins_with_hyphen path ≡ false → request_of (program ∷ codes "lp" ∷ path ∷ []) ≡ Some (Lp path)
+pub lp_path : (program path : List ℕ) → begins_with_hyphen path ≡ false
+    → request_of (program ∷ codes "lp" ∷ path ∷ []) ≡ Some (OnFile path AsWritten Lp)
 unfolding clap_on_literals
 lp_path program path plain = plain_line (codes "lp") (path ∷ []) (plain, tt)
 
-pub any_path : (program path : List ℕ) → request_of (program ∷ codes "check" ∷ codes "--" ∷ path ∷ []) ≡ Some (Check path)
+pub any_path : (program path : List ℕ) → request_of (program ∷ codes "check" ∷ codes "--" ∷ path ∷ []) ≡ Some (OnFile path AsWritten Check)
 unfolding clap_on_literals
 any_path program path = refl
 
 pub revenue_path : (program path : List ℕ) → begins_with_hyphen path ≡ false
-    → request_of (program ∷ codes "revenue" ∷ path ∷ []) ≡ Some (Revenue path (GivenBids []))
+    → request_of (program ∷ codes "revenue" ∷ path ∷ []) ≡ Some (OnFile path AsWritten (Revenue (GivenBids [])))
 unfolding clap_on_literals
 revenue_path program path plain = plain_line (codes "revenue") (path ∷ []) (plain, tt)
 
 pub compare_paths : (program first second : List ℕ) → begins_with_hyphen first ≡ false → begins_with_hyphen second ≡ false
-    → request_of (program ∷ codes "compare" ∷ first ∷ second ∷ []) ≡ Some (Compare first second (usual_limits false))
+    → request_of (program ∷ codes "compare" ∷ first ∷ second ∷ []) ≡ Some (OnPair first second AsWritten Compare (usual_limits false))
 unfolding clap_on_literals
 compare_paths program first second one other = plain_line (codes "compare") (first ∷ second ∷ []) (one, (other, tt))
 
 pub diff_paths : (program first second : List ℕ) → begins_with_hyphen first ≡ false → begins_with_hyphen second ≡ false
-    → request_of (program ∷ codes "diff" ∷ first ∷ second ∷ []) ≡ Some (Diff first second (usual_limits true))
+    → request_of (program ∷ codes "diff" ∷ first ∷ second ∷ []) ≡ Some (OnPair first second AsWritten Diff (usual_limits true))
 unfolding clap_on_literals
 diff_paths program first second one other = plain_line (codes "diff") (first ∷ second ∷ []) (one, (other, tt))
 
@@ -114,22 +120,47 @@ unfolding clap_on_literals
 exact_path program path plain = option_line (codes "round") (codes "--exact") refl refl (path ∷ []) (plain, tt)
 
 pub listed_bids : (program path list : List ℕ) → begins_with_hyphen path ≡ false
-    → request_of (program ∷ codes "revenue" ∷ (codes "--bids=" ++ list) ∷ path ∷ []) ≡ Some (Revenue path (BidsIn list))
+    → request_of (program ∷ codes "revenue" ∷ (codes "--bids=" ++ list) ∷ path ∷ []) ≡ Some (OnFile path AsWritten (Revenue (BidsIn list)))
 unfolding clap_on_literals
 listed_bids program path list plain = option_line (codes "revenue") (codes "--bids=" ++ list) refl refl (path ∷ []) (plain, tt)
 
+pub rounded_normalise : (program path : List ℕ) → begins_with_hyphen path ≡ false
+    → request_of (program ∷ codes "normalise" ∷ codes "--round" ∷ path ∷ []) ≡ Some (OnFile path Rounded (Normalise (usual_limits false)))
+unfolding clap_on_literals
+rounded_normalise program path plain = option_line (codes "normalise") (codes "--round") refl refl (path ∷ []) (plain, tt)
+
+pub rounded_compare : (program first second : List ℕ) → begins_with_hyphen first ≡ false → begins_with_hyphen second ≡ false
+    → request_of (program ∷ codes "compare" ∷ codes "--round" ∷ first ∷ second ∷ []) ≡ Some (OnPair first second Rounded Compare (usual_limits false))
+unfolding clap_on_literals
+rounded_compare program first second one other =
+    option_line (codes "compare") (codes "--round") refl refl (first ∷ second ∷ []) (one, (other, tt))
+
+pub exactly_rounded_normalise : (program path : List ℕ) → begins_with_hyphen path ≡ false
+    → request_of (program ∷ codes "normalise" ∷ codes "--round-exact" ∷ path ∷ [])
+    ≡ Some (OnFile path RoundedExactly (Normalise (usual_limits false)))
+unfolding clap_on_literals
+exactly_rounded_normalise program path plain = option_line (codes "normalise") (codes "--round-exact") refl refl (path ∷ []) (plain, tt)
+
+pub exactly_rounded_compare : (program first second : List ℕ) → begins_with_hyphen first ≡ false → begins_with_hyphen second ≡ false
+    → request_of (program ∷ codes "compare" ∷ codes "--round-exact" ∷ first ∷ second ∷ [])
+    ≡ Some (OnPair first second RoundedExactly Compare (usual_limits false))
+unfolding clap_on_literals
+exactly_rounded_compare program first second one other =
+    option_line (codes "compare") (codes "--round-exact") refl refl (first ∷ second ∷ []) (one, (other, tt))
+
 pub bounded_normalise : (program path : List ℕ) → begins_with_hyphen path ≡ false
-    → request_of (program ∷ codes "normalise" ∷ codes "--bound" ∷ path ∷ []) ≡ Some (Normalise path (usual_limits true))
+    → request_of (program ∷ codes "normalise" ∷ codes "--bound" ∷ path ∷ []) ≡ Some (OnFile path AsWritten (Normalise (usual_limits true)))
 unfolding clap_on_literals
 bounded_normalise program path plain = option_line (codes "normalise") (codes "--bound") refl refl (path ∷ []) (plain, tt)
 
 pub bounded_value : (program path : List ℕ) → begins_with_hyphen path ≡ false
-    → request_of (program ∷ codes "value" ∷ codes "--bound" ∷ path ∷ []) ≡ Some (Value path [] (usual_limits true))
+    → request_of (program ∷ codes "value" ∷ codes "--bound" ∷ path ∷ []) ≡ Some (OnFile path AsWritten (Value [] (usual_limits true)))
 unfolding clap_on_literals
 bounded_value program path plain = option_line (codes "value") (codes "--bound") refl refl (path ∷ []) (plain, tt)
 
 pub bounded_compare : (program first second : List ℕ) → begins_with_hyphen first ≡ false → begins_with_hyphen second ≡ false
-    → request_of (program ∷ codes "compare" ∷ codes "--bound" ∷ first ∷ second ∷ []) ≡ Some (Compare first second (usual_limits true))
+    → request_of (program ∷ codes "compare" ∷ codes "--bound" ∷ first ∷ second ∷ [])
+    ≡ Some (OnPair first second AsWritten Compare (usual_limits true))
 unfolding clap_on_literals
 bounded_compare program first second one other =
     option_line (codes "compare") (codes "--bound") refl refl (first ∷ second ∷ []) (one, (other, tt))
@@ -157,20 +188,33 @@ nothing (kind ∷ kinds) = refl
 
 -- the search has this limit
 abbrev pub limited_request : List ℕ → List ℕ → Option PlainRequest
-limited_request text path = option_map (λ limits. Normalise path limits) (option_map (λ steps. record { bound = false; steps = steps; total = None })
-    (number_up_to 18446744073709551615 text))
+limited_request text path =
+    option_map (λ steps. OnFile path AsWritten (Normalise (record { bound = false; steps = steps; total = None })))
+    (number_up_to 18446744073709551615 text)
+
+-- as it is requested, step by step
+abbrev pub limited_steps : List ℕ → Option ℕ → Option PlainRequest
+limited_steps path found =
+    option_map (λ c. OnFile path AsWritten c) (option_map Normalise (option_map (λ steps. record { bound = false; steps = steps; total = None }) found))
+
+limited_at_once : (path : List ℕ) (found : Option ℕ)
+    → limited_steps path found ≡ option_map (λ steps. OnFile path AsWritten (Normalise (record { bound = false; steps = steps; total = None }))) found
+limited_at_once path None = refl
+limited_at_once path (Some steps) = refl
 
 pub limit_attached : (program text path : List ℕ) → is_unsigned_in 1 1000000000 text ≡ true → begins_with_hyphen path ≡ false
     → request_of (program ∷ codes "normalise" ∷ (codes "--steps=" ++ text) ∷ path ∷ []) ≡ (if begins_with_sign text then None else limited_request text path)
 unfolding clap_on_literals
 limit_attached program text path limit plain =
+    let steps = number_up_to 18446744073709551615 text in
     option_line (codes "normalise") (codes "--steps=" ++ text) refl refl (path ∷ []) (plain, tt)
     ∙ ap (λ (taken : Bool). if_taken (value_fault taken)
-    (if ((((begins_with_sign text || false) || false) || false) || false) then None else limited_request text path)) limit
-    ∙ if_signed (begins_with_sign text) (limited_request text path)
+    (if ((((begins_with_sign text || false) || false) || false) || false) then None else limited_steps path steps)) limit
+    ∙ if_signed (begins_with_sign text) (limited_steps path steps)
+    ∙ ap (λ (found : Option PlainRequest). if begins_with_sign text then None else found) (limited_at_once path steps)
 
 abbrev pub total_request : List ℕ → List ℕ → Option PlainRequest
-total_request text path = Some (Explain path (record { bound = true; steps = 1000000; total = number_up_to 18446744073709551615 text }))
+total_request text path = Some (OnFile path AsWritten (Explain (record { bound = true; steps = 1000000; total = number_up_to 18446744073709551615 text })))
 
 pub total_attached : (program text path : List ℕ) → is_unsigned_in 1 1000000000000 text ≡ true → begins_with_hyphen path ≡ false
     → request_of (program ∷ codes "explain" ∷ (codes "--total-steps=" ++ text) ∷ path ∷ []) ≡ (if begins_with_sign text then None else total_request text path)

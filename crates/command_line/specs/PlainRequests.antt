@@ -1,11 +1,16 @@
 -- Requests, with the texts and numbers that they hold.
 use Rattle.std.specs.Prelude.{ℕ, Bool, List, map}
+use Rattle.command_line.specs.declared.request.FileCommand.{FileCommand}
+use Rattle.command_line.specs.declared.request.FileCommand.TheVariants as command
 use Rattle.command_line.specs.declared.request.FilePaths.{FilePaths}
 use Rattle.command_line.specs.declared.request.FilePaths.TheVariants as paths
+use Rattle.command_line.specs.declared.request.FilesCommand.{FilesCommand}
 use Rattle.command_line.specs.declared.request.FilesRequest.{FilesRequest}
 use Rattle.command_line.specs.declared.request.Limits.{Limits}
 use Rattle.command_line.specs.declared.request.NamedBids.{NamedBids}
 use Rattle.command_line.specs.declared.request.NamedBids.TheVariants as bids
+use Rattle.command_line.specs.declared.request.PairCommand.{PairCommand}
+use Rattle.command_line.specs.declared.request.Prices.{Prices}
 use Rattle.command_line.specs.declared.request.Request.{Request}
 use Rattle.command_line.specs.declared.request.Request.TheVariants as request
 
@@ -19,29 +24,33 @@ pub data PlainBids : Type 0 where
   GivenBids : List ℕ → PlainBids
   BidsIn : List ℕ → PlainBids
 
--- many files, under limits, with `--progress`, `--null` and `--all` or without
+-- a command on one file, with its goods or bids and its limits
+pub data PlainCommand : Type 0 where
+  Check : PlainCommand
+  Show : PlainCommand
+  Value : List ℕ → Limits → PlainCommand
+  Revenue : PlainBids → PlainCommand
+  Normalise : Limits → PlainCommand
+  Explain : Limits → PlainCommand
+  Lp : PlainCommand
+
+-- a command on many files, under limits, with `--progress` and `--null` or without
 pub record PlainFiles : Type 0 where
   pub paths : PlainPaths
+  pub prices : Prices
+  pub command : FilesCommand
   pub limits : Limits
   pub progress : Bool
   pub null : Bool
-  pub all : Bool
 
--- a subcommand with its paths, its goods or bids, its limits, and its flag `--exact`
+-- what a line requests: its paths, how the prices of the files are read, and the command. `fault` and `round` read a
+-- text; `round` may have the flag `--exact`
 pub data PlainRequest : Type 0 where
-  Check : List ℕ → PlainRequest
+  OnFile : List ℕ → Prices → PlainCommand → PlainRequest
+  OnPair : List ℕ → List ℕ → Prices → PairCommand → Limits → PlainRequest
+  OnFiles : PlainFiles → PlainRequest
   Fault : List ℕ → PlainRequest
-  Show : List ℕ → PlainRequest
-  Value : List ℕ → List ℕ → Limits → PlainRequest
-  Revenue : List ℕ → PlainBids → PlainRequest
-  Normalise : List ℕ → Limits → PlainRequest
-  Explain : List ℕ → Limits → PlainRequest
   Round : List ℕ → Bool → PlainRequest
-  Lp : List ℕ → PlainRequest
-  Compare : List ℕ → List ℕ → Limits → PlainRequest
-  Diff : List ℕ → List ℕ → Limits → PlainRequest
-  Duplicates : PlainFiles → PlainRequest
-  Sizes : PlainFiles → PlainRequest
 
 abbrev pub plain_paths : FilePaths → PlainPaths
 plain_paths (paths.Given words) = Given (map (λ word. word.now) words.items)
@@ -51,26 +60,28 @@ abbrev pub plain_bids : NamedBids → PlainBids
 plain_bids (bids.Given numbers) = GivenBids numbers.items
 plain_bids (bids.ListedIn list) = BidsIn list.now
 
+abbrev pub plain_command : FileCommand → PlainCommand
+plain_command command.Check = Check
+plain_command command.Show = Show
+plain_command (command.Value goods limits) = Value goods.items limits
+plain_command (command.Revenue named) = Revenue (plain_bids named)
+plain_command (command.Normalise limits) = Normalise limits
+plain_command (command.Explain limits) = Explain limits
+plain_command command.Lp = Lp
+
 abbrev pub plain_files : FilesRequest → PlainFiles
 plain_files files = record {
   paths = plain_paths files.paths;
+  prices = files.prices;
+  command = files.command;
   limits = files.limits;
   progress = files.progress;
   null = files.null;
-  all = files.all;
 }
 
 abbrev pub plain_request : Request → PlainRequest
-plain_request (request.Check file) = Check file.now
+plain_request (request.OnFile on) = OnFile on.file.now on.prices (plain_command on.command)
+plain_request (request.OnPair on) = OnPair on.first.now on.second.now on.prices on.command on.limits
+plain_request (request.OnFiles on) = OnFiles (plain_files on)
 plain_request (request.Fault file) = Fault file.now
-plain_request (request.Show file) = Show file.now
-plain_request (request.Value file goods limits) = Value file.now goods.items limits
-plain_request (request.Revenue file bids) = Revenue file.now (plain_bids bids)
-plain_request (request.Normalise file limits) = Normalise file.now limits
-plain_request (request.Explain file limits) = Explain file.now limits
 plain_request (request.Round file exact) = Round file.now exact
-plain_request (request.Lp file) = Lp file.now
-plain_request (request.Compare files) = Compare files.first.now files.second.now files.limits
-plain_request (request.Diff files) = Diff files.first.now files.second.now files.limits
-plain_request (request.Duplicates files) = Duplicates (plain_files files)
-plain_request (request.Sizes files) = Sizes (plain_files files)

@@ -1,6 +1,6 @@
 -- The command line: its subcommands, each with its options and files, and what it requests. An option more is a row
 -- more.
-use Rattle.std.specs.Prelude.{◌==◌, ◌&&◌, ◌||◌, ℕ, Bool, true, false, not, List, [], ◌∷◌, ◌++◌, map, pos, Option, Some}
+use Rattle.std.specs.Prelude.{◌&&◌, ◌||◌, ℕ, Bool, true, false, not, List, [], ◌∷◌, ◌++◌, map, pos, Option, Some}
 use Rattle.std.specs.Prelude.{None, codes, if◌then◌else◌, is_none, is_some, option_map, option_and_then}
 use Rattle.std.specs.List.{list_any}
 use Rattle.std.specs.Option.{option_map_or}
@@ -12,11 +12,16 @@ use Rattle.clap.specs.declared.builder.action.ArgAction.TheVariants.{SetTrue}
 use Rattle.clap.specs.declared.builder.value_parser.ValueParser.TheVariants.{Signed, Unsigned}
 pub use Rattle.command_line.specs.Numbers.{begins_with_sign, number_up_to, numbers_up_to}
 use Rattle.command_line.specs.Goods.{goods_of_words}
+use Rattle.command_line.specs.declared.request.FilesCommand.{FilesCommand}
+use Rattle.command_line.specs.declared.request.FilesCommand.TheVariants.{Duplicates, Sizes}
 use Rattle.command_line.specs.declared.request.Limits.{Limits}
-use Rattle.command_line.specs.PlainRequests.{PlainPaths, PlainBids, PlainFiles, PlainRequest, Given, ListedIn}
-use Rattle.command_line.specs.PlainRequests.{GivenBids, BidsIn, Check, Fault, Show, Value, Revenue}
-use Rattle.command_line.specs.PlainRequests.{Normalise, Explain, Round, Lp}
-use Rattle.command_line.specs.PlainRequests.{Compare, Diff, Duplicates, Sizes}
+use Rattle.command_line.specs.declared.request.PairCommand.{PairCommand}
+use Rattle.command_line.specs.declared.request.PairCommand.TheVariants.{Compare, Diff}
+use Rattle.command_line.specs.declared.request.Prices.{Prices}
+use Rattle.command_line.specs.declared.request.Prices.TheVariants.{AsWritten, Rounded, RoundedExactly}
+use Rattle.command_line.specs.PlainRequests.{PlainPaths, PlainBids, PlainCommand, PlainRequest, Given, ListedIn}
+use Rattle.command_line.specs.PlainRequests.{GivenBids, BidsIn, Check, Show, Value, Revenue, Normalise, Explain, Lp}
+use Rattle.command_line.specs.PlainRequests.{OnFile, OnPair, OnFiles, Fault, Round}
 
 -- ---- files and goods
 
@@ -71,9 +76,14 @@ null = record (flag (codes "null")) { short = Some 48 }
 abbrev pub bound : Rule
 bound = flag (codes "bound")
 
+-- the flags that round prices, before these rules
+abbrev pub with_rounding : List Rule → List Rule
+with_rounding rules = flag (codes "round") ∷ flag (codes "round-exact") ∷ rules
+
 -- the rules of many files, with these behind the flags
 abbrev pub many : List Rule → List Rule
-many more = steps ∷ total_steps ∷ flag (codes "progress") ∷ null ∷ more ++ option (codes "files0-from") ∷ files ∷ []
+many more = with_rounding (steps ∷ total_steps ∷ flag (codes "progress") ∷ null ∷ more
+    ++ option (codes "files0-from") ∷ files ∷ [])
 
 -- ---- what was given, by the rows of the arguments
 
@@ -98,6 +108,11 @@ is_true text = bytes_eq text (codes "true")
 
 abbrev pub is_set : List ℕ → List Row → Bool
 is_set name rows = option_map_or is_true (first_of name rows) false
+
+-- how prices are read: `--round-exact` is the stricter of two flags
+abbrev pub prices_in : List Row → Prices
+prices_in rows = if is_set (codes "round-exact") rows then RoundedExactly
+    else (if is_set (codes "round") rows then Rounded else AsWritten)
 
 -- The search is the bounded one if `--bound` is given. A subcommand that has no such flag always uses it.
 abbrev pub is_bounded : List Row → Bool
@@ -141,15 +156,6 @@ paths_from _ _ = None
 abbrev pub paths_in : List Row → Option PlainPaths
 paths_in rows = paths_from (first_of (codes "files0-from") rows) (all_of (codes "FILE") rows)
 
-abbrev pub files_in : List Row → Option PlainFiles
-files_in rows = option_and_then (λ limits. option_map (λ paths. record {
-  paths = paths;
-  limits = limits;
-  progress = is_set (codes "progress") rows;
-  null = is_set (codes "null") rows;
-  all = is_set (codes "all") rows;
-}) (paths_in rows)) (limits_in rows)
-
 abbrev pub has_more_files : List Row → Bool
 has_more_files rows = is_some (first_of (codes "MORE_FILES") rows)
 
@@ -171,66 +177,94 @@ pub record Subcommand : Type 0 where
   -- what is requested, by the rows of its arguments
   pub request : List Row → Option PlainRequest
 
--- a request for one file under limits, and for two
-abbrev pub limited : (List ℕ → Limits → PlainRequest) → List Row → Option PlainRequest
-limited make rows =
-    option_and_then (λ path. option_map (λ limits. make path limits) (limits_in rows)) (file_in rows)
+-- a request for one file
+abbrev pub on_file : (List Row → Option PlainCommand) → List Row → Option PlainRequest
+on_file command rows =
+    option_and_then (λ path. option_map (λ c. OnFile path (prices_in rows) c) (command rows)) (file_in rows)
 
-abbrev pub paired : (List ℕ → List ℕ → Limits → PlainRequest) → List Row → Option PlainRequest
-paired make rows = option_and_then (λ first. option_and_then (λ second.
-    option_map (λ limits. make first second limits) (limits_in rows)) (second_in rows)) (file_in rows)
+-- for two
+abbrev pub on_pair : PairCommand → List Row → Option PlainRequest
+on_pair command rows = option_and_then (λ first. option_and_then (λ second.
+    option_map (λ limits. OnPair first second (prices_in rows) command limits) (limits_in rows)) (second_in rows))
+    (file_in rows)
 
-abbrev pub valued : List Row → Option PlainRequest
-valued rows = option_and_then (λ path. option_and_then (λ limits.
-    option_map (λ given. Value path given limits) (goods_in rows)) (limits_in rows)) (file_in rows)
+-- for many
+abbrev pub on_files : FilesCommand → List Row → Option PlainRequest
+on_files command rows = option_and_then (λ limits. option_map (λ paths. OnFiles (record {
+  paths = paths;
+  prices = prices_in rows;
+  command = command;
+  limits = limits;
+  progress = is_set (codes "progress") rows;
+  null = is_set (codes "null") rows;
+})) (paths_in rows)) (limits_in rows)
 
-abbrev pub revenue : List Row → Option PlainRequest
-revenue rows = option_and_then (λ path.
-    option_map (λ named. Revenue path named) (bids_in rows)) (file_in rows)
+-- a command under limits
+abbrev pub limited : (Limits → PlainCommand) → List Row → Option PlainCommand
+limited make rows = option_map make (limits_in rows)
+
+abbrev pub valued : List Row → Option PlainCommand
+valued rows = option_and_then (λ limits. option_map (λ given. Value given limits) (goods_in rows)) (limits_in rows)
 
 abbrev pub subcommands : List Subcommand
 subcommands =
-    record { name = codes "check"; rules = file ∷ more_files ∷ []; request = λ rows. option_map Check (file_in rows) }
+    record {
+      name = codes "check";
+      rules = with_rounding (file ∷ more_files ∷ []);
+      request = on_file (λ rows. Some Check);
+    }
     ∷ record { name = codes "fault"; rules = file ∷ more_files ∷ []; request = λ rows. option_map Fault (file_in rows) }
-    ∷ record { name = codes "show"; rules = file ∷ more_files ∷ []; request = λ rows. option_map Show (file_in rows) }
-    ∷ record { name = codes "value"; rules = bound ∷ steps ∷ total_steps ∷ file ∷ goods ∷ []; request = valued }
+    ∷ record {
+      name = codes "show";
+      rules = with_rounding (file ∷ more_files ∷ []);
+      request = on_file (λ rows. Some Show);
+    }
+    ∷ record {
+      name = codes "value";
+      rules = with_rounding (bound ∷ steps ∷ total_steps ∷ file ∷ goods ∷ []);
+      request = on_file valued;
+    }
     ∷ record {
       name = codes "revenue";
-      rules = option (codes "bids") ∷ file ∷ bids ∷ [];
-      request = revenue;
+      rules = with_rounding (option (codes "bids") ∷ file ∷ bids ∷ []);
+      request = on_file (λ rows. option_map Revenue (bids_in rows));
     }
     ∷ record {
       name = codes "normalise";
-      rules = bound ∷ steps ∷ total_steps ∷ file ∷ more_files ∷ [];
-      request = limited Normalise;
+      rules = with_rounding (bound ∷ steps ∷ total_steps ∷ file ∷ more_files ∷ []);
+      request = on_file (limited Normalise);
     }
     ∷ record {
       name = codes "explain";
-      rules = steps ∷ total_steps ∷ file ∷ more_files ∷ [];
-      request = limited Explain;
+      rules = with_rounding (steps ∷ total_steps ∷ file ∷ more_files ∷ []);
+      request = on_file (limited Explain);
     }
     ∷ record {
       name = codes "round";
       rules = flag (codes "exact") ∷ file ∷ more_files ∷ [];
       request = λ rows. option_map (λ path. Round path (is_set (codes "exact") rows)) (file_in rows);
     }
-    ∷ record { name = codes "lp"; rules = file ∷ more_files ∷ []; request = λ rows. option_map Lp (file_in rows) }
+    ∷ record {
+      name = codes "lp";
+      rules = with_rounding (file ∷ more_files ∷ []);
+      request = on_file (λ rows. Some Lp);
+    }
     ∷ record {
       name = codes "compare";
-      rules = bound ∷ steps ∷ total_steps ∷ file ∷ second_file ∷ more_files ∷ [];
-      request = paired Compare;
+      rules = with_rounding (bound ∷ steps ∷ total_steps ∷ file ∷ second_file ∷ more_files ∷ []);
+      request = on_pair Compare;
     }
     ∷ record {
       name = codes "diff";
-      rules = steps ∷ total_steps ∷ file ∷ second_file ∷ more_files ∷ [];
-      request = paired Diff;
+      rules = with_rounding (steps ∷ total_steps ∷ file ∷ second_file ∷ more_files ∷ []);
+      request = on_pair Diff;
     }
     ∷ record {
       name = codes "duplicates";
       rules = many (flag (codes "all") ∷ []);
-      request = λ rows. option_map Duplicates (files_in rows);
+      request = λ rows. on_files (Duplicates (is_set (codes "all") rows)) rows;
     }
-    ∷ record { name = codes "sizes"; rules = many []; request = λ rows. option_map Sizes (files_in rows) }
+    ∷ record { name = codes "sizes"; rules = many []; request = on_files Sizes }
     ∷ []
 
 abbrev pub shape_of_subcommand : Subcommand → Shape

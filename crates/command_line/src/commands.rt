@@ -46,6 +46,12 @@ pub(crate) const ALL: &str = "all";
 
 pub(crate) const EXACT: &str = "exact";
 
+/// The flag for prices as `cats round` prints them.
+pub(crate) const ROUND: &str = "round";
+
+/// The flag for prices as `cats round --exact` prints them.
+pub(crate) const ROUND_EXACT: &str = "round-exact";
+
 /// The most steps that a command line may allow a search.
 const MAX_STEPS: i64 = 1_000_000_000;
 
@@ -78,6 +84,8 @@ enum Argument {
     Null,
     All,
     Exact,
+    Round,
+    RoundExact,
 }
 
 /// A subcommand of `cats`.
@@ -91,7 +99,12 @@ struct Subcommand {
 static SUBCOMMANDS: [Subcommand; 13] = [
     Subcommand {
         name: "check",
-        arguments: &[Argument::File, Argument::MoreFiles],
+        arguments: &[
+            Argument::Round,
+            Argument::RoundExact,
+            Argument::File,
+            Argument::MoreFiles,
+        ],
     },
     Subcommand {
         name: "fault",
@@ -99,11 +112,18 @@ static SUBCOMMANDS: [Subcommand; 13] = [
     },
     Subcommand {
         name: "show",
-        arguments: &[Argument::File, Argument::MoreFiles],
+        arguments: &[
+            Argument::Round,
+            Argument::RoundExact,
+            Argument::File,
+            Argument::MoreFiles,
+        ],
     },
     Subcommand {
         name: "value",
         arguments: &[
+            Argument::Round,
+            Argument::RoundExact,
             Argument::Bound,
             Argument::Steps,
             Argument::TotalSteps,
@@ -113,11 +133,19 @@ static SUBCOMMANDS: [Subcommand; 13] = [
     },
     Subcommand {
         name: "revenue",
-        arguments: &[Argument::BidList, Argument::File, Argument::Bids],
+        arguments: &[
+            Argument::Round,
+            Argument::RoundExact,
+            Argument::BidList,
+            Argument::File,
+            Argument::Bids,
+        ],
     },
     Subcommand {
         name: "normalise",
         arguments: &[
+            Argument::Round,
+            Argument::RoundExact,
             Argument::Bound,
             Argument::Steps,
             Argument::TotalSteps,
@@ -128,6 +156,8 @@ static SUBCOMMANDS: [Subcommand; 13] = [
     Subcommand {
         name: "explain",
         arguments: &[
+            Argument::Round,
+            Argument::RoundExact,
             Argument::Steps,
             Argument::TotalSteps,
             Argument::File,
@@ -140,11 +170,18 @@ static SUBCOMMANDS: [Subcommand; 13] = [
     },
     Subcommand {
         name: "lp",
-        arguments: &[Argument::File, Argument::MoreFiles],
+        arguments: &[
+            Argument::Round,
+            Argument::RoundExact,
+            Argument::File,
+            Argument::MoreFiles,
+        ],
     },
     Subcommand {
         name: "compare",
         arguments: &[
+            Argument::Round,
+            Argument::RoundExact,
             Argument::Bound,
             Argument::Steps,
             Argument::TotalSteps,
@@ -156,6 +193,8 @@ static SUBCOMMANDS: [Subcommand; 13] = [
     Subcommand {
         name: "diff",
         arguments: &[
+            Argument::Round,
+            Argument::RoundExact,
             Argument::Steps,
             Argument::TotalSteps,
             Argument::File,
@@ -166,6 +205,8 @@ static SUBCOMMANDS: [Subcommand; 13] = [
     Subcommand {
         name: "duplicates",
         arguments: &[
+            Argument::Round,
+            Argument::RoundExact,
             Argument::Steps,
             Argument::TotalSteps,
             Argument::Progress,
@@ -178,6 +219,8 @@ static SUBCOMMANDS: [Subcommand; 13] = [
     Subcommand {
         name: "sizes",
         arguments: &[
+            Argument::Round,
+            Argument::RoundExact,
             Argument::Steps,
             Argument::TotalSteps,
             Argument::Progress,
@@ -265,6 +308,8 @@ impl Argument {
             Argument::Null => NULL,
             Argument::All => ALL,
             Argument::Exact => EXACT,
+            Argument::Round => ROUND,
+            Argument::RoundExact => ROUND_EXACT,
         }
     }
 
@@ -288,6 +333,8 @@ impl Argument {
             Argument::Null => null_flag(alloc),
             Argument::All => flag(alloc, ALL),
             Argument::Exact => flag(alloc, EXACT),
+            Argument::Round => flag(alloc, ROUND),
+            Argument::RoundExact => flag(alloc, ROUND_EXACT),
         }
     }
 }

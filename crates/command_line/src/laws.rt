@@ -3,87 +3,114 @@
 
 ghost use Rattle.std.specs.Prelude.{◌≡◌, ◌++◌, ℕ, List, [], ◌∷◌, None, Some, codes, false, if◌then◌else◌, option_map};
 ghost use Rattle.std.specs.Prelude.{true};
-ghost use Rattle.command_line.specs.PlainRequests.{BidsIn, Check, Compare, Diff, Explain, Fault, GivenBids, Lp};
-ghost use Rattle.command_line.specs.PlainRequests.{Normalise, PlainRequest, Revenue, Round, Show, Value};
+ghost use Rattle.command_line.specs.PlainRequests.{BidsIn, Check, Explain, Fault, GivenBids, Lp, Normalise, OnFile};
+ghost use Rattle.command_line.specs.PlainRequests.{OnPair, PlainRequest, Revenue, Round, Show, Value};
 ghost use Rattle.clap.specs.ValueTests.{is_unsigned_in};
 ghost use Rattle.command_line.specs.Subcommands.{begins_with_sign, number_up_to, usual_limits};
 ghost use Rattle.command_line.specs.Requests.{IsNoRequestOf, begins_with_hyphen, is_no_memory, request_of};
 ghost use Rattle.command_line.specs.declared.request.NoRequest.{NoRequest};
+ghost use Rattle.command_line.specs.declared.request.PairCommand.TheVariants.{Compare, Diff};
+ghost use Rattle.command_line.specs.declared.request.Prices.TheVariants.{AsWritten, Rounded, RoundedExactly};
 
 /// A subcommand with one path.
 pub fn one_path()
     ensures check { (program path : List ℕ) → begins_with_hyphen path ≡ false
-        → request_of (program ∷ codes "check" ∷ path ∷ []) ≡ Some (Check path) }
+        → request_of (program ∷ codes "check" ∷ path ∷ []) ≡ Some (OnFile path AsWritten Check) }
     ensures fault { (program path : List ℕ) → begins_with_hyphen path ≡ false
         → request_of (program ∷ codes "fault" ∷ path ∷ []) ≡ Some (Fault path) }
     ensures show { (program path : List ℕ) → begins_with_hyphen path ≡ false
-        → request_of (program ∷ codes "show" ∷ path ∷ []) ≡ Some (Show path) }
+        → request_of (program ∷ codes "show" ∷ path ∷ []) ≡ Some (OnFile path AsWritten Show) }
     ensures normalise { (program path : List ℕ) → begins_with_hyphen path ≡ false
-        → request_of (program ∷ codes "normalise" ∷ path ∷ []) ≡ Some (Normalise path (usual_limits false)) }
+        → request_of (program ∷ codes "normalise" ∷ path ∷ [])
+        ≡ Some (OnFile path AsWritten (Normalise (usual_limits false))) }
     ensures explain { (program path : List ℕ) → begins_with_hyphen path ≡ false
-        → request_of (program ∷ codes "explain" ∷ path ∷ []) ≡ Some (Explain path (usual_limits true)) }
+        → request_of (program ∷ codes "explain" ∷ path ∷ [])
+        ≡ Some (OnFile path AsWritten (Explain (usual_limits true))) }
     ensures value { (program path : List ℕ) → begins_with_hyphen path ≡ false
-        → request_of (program ∷ codes "value" ∷ path ∷ []) ≡ Some (Value path [] (usual_limits false)) }
+        → request_of (program ∷ codes "value" ∷ path ∷ [])
+        ≡ Some (OnFile path AsWritten (Value [] (usual_limits false))) }
     ensures round { (program path : List ℕ) → begins_with_hyphen path ≡ false
         → request_of (program ∷ codes "round" ∷ path ∷ []) ≡ Some (Round path false) }
     ensures exact { (program path : List ℕ) → begins_with_hyphen path ≡ false
         → request_of (program ∷ codes "round" ∷ codes "--exact" ∷ path ∷ []) ≡ Some (Round path true) }
     ensures revenue { (program path : List ℕ) → begins_with_hyphen path ≡ false
-        → request_of (program ∷ codes "revenue" ∷ path ∷ []) ≡ Some (Revenue path (GivenBids [])) }
+        → request_of (program ∷ codes "revenue" ∷ path ∷ []) ≡ Some (OnFile path AsWritten (Revenue (GivenBids []))) }
     ensures lp { (program path : List ℕ) → begins_with_hyphen path ≡ false
-        → request_of (program ∷ codes "lp" ∷ path ∷ []) ≡ Some (Lp path) }
+        → request_of (program ∷ codes "lp" ∷ path ∷ []) ≡ Some (OnFile path AsWritten Lp) }
 {}
 
 /// Any path, after `--`.
 pub fn path_after_hyphens()
-    ensures { (program path : List ℕ) → request_of (program ∷ codes "check" ∷ codes "--" ∷ path ∷ []) ≡ Some (Check path) }
+    ensures { (program path : List ℕ)
+        → request_of (program ∷ codes "check" ∷ codes "--" ∷ path ∷ [])
+        ≡ Some (OnFile path AsWritten Check) }
 {}
 
 /// A subcommand with two paths, in their order.
 pub fn two_paths()
     ensures compare { (program first second : List ℕ) → begins_with_hyphen first ≡ false → begins_with_hyphen second ≡ false
-        → request_of (program ∷ codes "compare" ∷ first ∷ second ∷ []) ≡ Some (Compare first second (usual_limits false)) }
+        → request_of (program ∷ codes "compare" ∷ first ∷ second ∷ [])
+        ≡ Some (OnPair first second AsWritten Compare (usual_limits false)) }
     ensures diff { (program first second : List ℕ) → begins_with_hyphen first ≡ false → begins_with_hyphen second ≡ false
-        → request_of (program ∷ codes "diff" ∷ first ∷ second ∷ []) ≡ Some (Diff first second (usual_limits true)) }
+        → request_of (program ∷ codes "diff" ∷ first ∷ second ∷ [])
+        ≡ Some (OnPair first second AsWritten Diff (usual_limits true)) }
 {}
 
 /// The numbers of bids are in the file at any path that follows `--bids=`.
 pub fn listed_bids()
     ensures { (program path list : List ℕ) → begins_with_hyphen path ≡ false
         → request_of (program ∷ codes "revenue" ∷ (codes "--bids=" ++ list) ∷ path ∷ [])
-        ≡ Some (Revenue path (BidsIn list)) }
+        ≡ Some (OnFile path AsWritten (Revenue (BidsIn list))) }
+{}
+
+/// `--round` and `--round-exact` say how prices are read.
+pub fn rounded()
+    ensures normalise { (program path : List ℕ) → begins_with_hyphen path ≡ false
+        → request_of (program ∷ codes "normalise" ∷ codes "--round" ∷ path ∷ [])
+        ≡ Some (OnFile path Rounded (Normalise (usual_limits false))) }
+    ensures normalise_exactly { (program path : List ℕ) → begins_with_hyphen path ≡ false
+        → request_of (program ∷ codes "normalise" ∷ codes "--round-exact" ∷ path ∷ [])
+        ≡ Some (OnFile path RoundedExactly (Normalise (usual_limits false))) }
+    ensures compare { (program first second : List ℕ) → begins_with_hyphen first ≡ false → begins_with_hyphen second ≡ false
+        → request_of (program ∷ codes "compare" ∷ codes "--round" ∷ first ∷ second ∷ [])
+        ≡ Some (OnPair first second Rounded Compare (usual_limits false)) }
+    ensures compare_exactly { (program first second : List ℕ) → begins_with_hyphen first ≡ false
+        → begins_with_hyphen second ≡ false
+        → request_of (program ∷ codes "compare" ∷ codes "--round-exact" ∷ first ∷ second ∷ [])
+        ≡ Some (OnPair first second RoundedExactly Compare (usual_limits false)) }
 {}
 
 /// `--bound` chooses the bounded search.
 pub fn bounded()
     ensures normalise { (program path : List ℕ) → begins_with_hyphen path ≡ false
         → request_of (program ∷ codes "normalise" ∷ codes "--bound" ∷ path ∷ [])
-        ≡ Some (Normalise path (usual_limits true)) }
+        ≡ Some (OnFile path AsWritten (Normalise (usual_limits true))) }
     ensures value { (program path : List ℕ) → begins_with_hyphen path ≡ false
-        → request_of (program ∷ codes "value" ∷ codes "--bound" ∷ path ∷ []) ≡ Some (Value path [] (usual_limits true)) }
+        → request_of (program ∷ codes "value" ∷ codes "--bound" ∷ path ∷ [])
+        ≡ Some (OnFile path AsWritten (Value [] (usual_limits true))) }
     ensures compare { (program first second : List ℕ) → begins_with_hyphen first ≡ false → begins_with_hyphen second ≡ false
         → request_of (program ∷ codes "compare" ∷ codes "--bound" ∷ first ∷ second ∷ [])
-        ≡ Some (Compare first second (usual_limits true)) }
+        ≡ Some (OnPair first second AsWritten Compare (usual_limits true)) }
 {}
 
 /// The limit of each search. A value may follow `=`, or be the next word (`worked::lines`).
 pub fn limit()
     ensures { (program text path : List ℕ) → is_unsigned_in 1 1000000000 text ≡ true → begins_with_hyphen path ≡ false
         → request_of (program ∷ codes "normalise" ∷ (codes "--steps=" ++ text) ∷ path ∷ [])
-        ≡ (if begins_with_sign text then None else option_map (λ limits. Normalise path limits)
-        (option_map (λ steps. record { bound = false; steps = steps; total = None })
-        (number_up_to 18446744073709551615 text))) }
+        ≡ (if begins_with_sign text then None else option_map (λ steps. OnFile path AsWritten
+        (Normalise (record { bound = false; steps = steps; total = None })))
+        (number_up_to 18446744073709551615 text)) }
 {}
 
 /// The limit of all searches together.
 pub fn total_limit()
     ensures { (program text path : List ℕ) → is_unsigned_in 1 1000000000000 text ≡ true → begins_with_hyphen path ≡ false
         → request_of (program ∷ codes "explain" ∷ (codes "--total-steps=" ++ text) ∷ path ∷ [])
-        ≡ (if begins_with_sign text then None else Some (Explain path (record {
+        ≡ (if begins_with_sign text then None else Some (OnFile path AsWritten (Explain (record {
           bound = true;
           steps = 1000000;
           total = number_up_to 18446744073709551615 text;
-        }))) }
+        })))) }
 {}
 
 /// The plain search has no limit of all searches together.

@@ -13,6 +13,7 @@ pub mod worked;
 pub use help::CommandHelp;
 pub use parser::parse;
 pub use request::{
-    FilePaths, FilesRequest, Limits, Misuse, NamedBids, NoRequest, PairRequest, Request,
+    FileCommand, FilePaths, FileRequest, FilesCommand, FilesRequest, Limits, Misuse, NamedBids,
+    NoRequest, PairCommand, PairRequest, Prices, Request,
 };
 pub use version::VERSION;

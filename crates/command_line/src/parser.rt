@@ -6,25 +6,25 @@ ghost use Rattle.std.specs.Result.{result_ok};
 ghost use Rattle.clap.specs.Faults.{fault_of};
 ghost use Rattle.clap.specs.Words.{HasKind, all_of, first_of, kind_of};
 ghost use Rattle.command_line.specs.Internal.Matches.{IsAnswerTo, rows_in};
-ghost use Rattle.command_line.specs.PlainRequests.{Check, Explain, Fault, Lp, Normalise, PlainRequest, Round, Show};
-ghost use Rattle.command_line.specs.PlainRequests.{plain_bids, plain_files, plain_paths, plain_request};
+ghost use Rattle.command_line.specs.PlainRequests.{Explain, Fault, Normalise, Round, plain_bids, plain_command};
+ghost use Rattle.command_line.specs.PlainRequests.{plain_paths, plain_request};
 ghost use Rattle.command_line.specs.Requests.{IsNoRequestOf, file_misuse_in, misuse_in, misuse_of, request_from};
 ghost use Rattle.command_line.specs.Requests.{request_of, texts_of};
-ghost use Rattle.command_line.specs.Subcommands.{begins_with_sign, bid_numbers_in, bids_in, cats, file_in, files_in};
-ghost use Rattle.command_line.specs.Subcommands.{goods_in, has_both_bids, has_more_files, revenue};
-ghost use Rattle.command_line.specs.Subcommands.{has_signed_number};
-ghost use Rattle.command_line.specs.Subcommands.{has_unbounded_total, is_bounded, is_set, is_signed, limited, limits_in};
-ghost use Rattle.command_line.specs.Subcommands.{number_in, paired, paths_in, valued};
-ghost use Rattle.command_line.specs.declared.request.Limits.{Limits};
+ghost use Rattle.command_line.specs.Subcommands.{begins_with_sign, bid_numbers_in, bids_in, cats, file_in, goods_in};
+ghost use Rattle.command_line.specs.Subcommands.{has_both_bids, has_more_files, has_signed_number};
+ghost use Rattle.command_line.specs.Subcommands.{has_unbounded_total, is_bounded, is_set, is_signed, limited};
+ghost use Rattle.command_line.specs.Subcommands.{limits_in, number_in, on_file, on_files, on_pair, paths_in, prices_in};
+ghost use Rattle.command_line.specs.Subcommands.{valued};
 
 use crate::commands::{
-    ALL, BID, BIDS, BOUND, EXACT, FILE, FILES0_FROM, GOOD, MORE_FILES, NULL, PROGRESS, SECOND_FILE,
-    STEPS, TOTAL_STEPS, cats_command,
+    ALL, BID, BIDS, BOUND, EXACT, FILE, FILES0_FROM, GOOD, MORE_FILES, NULL, PROGRESS, ROUND,
+    ROUND_EXACT, SECOND_FILE, STEPS, TOTAL_STEPS, cats_command,
 };
 use crate::goods::goods_of_words;
 use crate::help::CommandHelp;
 use crate::request::{
-    FilePaths, FilesRequest, Limits, Misuse, NamedBids, NoRequest, PairRequest, Request,
+    FileCommand, FilePaths, FileRequest, FilesCommand, FilesRequest, Limits, Misuse, NamedBids,
+    NoRequest, PairCommand, PairRequest, Prices, Request,
 };
 use clap::error::ErrorKind;
 use clap::{ArgMatches, Error};
@@ -143,28 +143,24 @@ fn find_named_request<'a>(
         return Ok(None);
     }
     match name {
-        "check" => Ok(find_check_request(given)),
+        "check" => Ok(on_file(given, Some(FileCommand::Check))),
         "fault" => Ok(find_fault_request(given)),
-        "show" => Ok(find_show_request(given)),
-        "value" => find_value_request(alloc, given),
-        "revenue" => find_revenue_request(alloc, given),
-        "normalise" => Ok(find_normalise_request(given)),
-        "explain" => Ok(find_explain_request(given)),
+        "show" => Ok(on_file(given, Some(FileCommand::Show))),
+        "value" => Ok(on_file(given, find_value(alloc, given)?)),
+        "revenue" => Ok(on_file(given, find_bids(alloc, given)?.map(FileCommand::Revenue))),
+        "normalise" => Ok(on_file(given, find_normalise(given))),
+        "explain" => Ok(on_file(given, find_explain(given))),
         "round" => Ok(find_round_request(given)),
-        "lp" => Ok(find_lp_request(given)),
-        "compare" => Ok(find_pair_request(given).map(Request::Compare)),
-        "diff" => Ok(find_pair_request(given).map(Request::Diff)),
-        "duplicates" => Ok(find_files_request(alloc, given)?.map(Request::Duplicates)),
-        "sizes" => Ok(find_files_request(alloc, given)?.map(Request::Sizes)),
+        "lp" => Ok(on_file(given, Some(FileCommand::Lp))),
+        "compare" => Ok(find_pair_request(given, PairCommand::Compare)),
+        "diff" => Ok(find_pair_request(given, PairCommand::Diff)),
+        "duplicates" => {
+            let all = is_set(given, ALL);
+            find_files_request(alloc, given, FilesCommand::Duplicates { all })
+        }
+        "sizes" => find_files_request(alloc, given, FilesCommand::Sizes),
         _ => Ok(None),
     }
-}
-
-fn find_check_request<'a>(given: &ArgMatches<'a>) -> Option<Request<'a>>
-    ensures { option_map plain_request result ≡ option_map Check (file_in (rows_in given.now)) }
-{
-    let file = find_text(given, FILE)?;
-    Some(Request::Check { file })
 }
 
 fn find_fault_request<'a>(given: &ArgMatches<'a>) -> Option<Request<'a>>
@@ -174,30 +170,46 @@ fn find_fault_request<'a>(given: &ArgMatches<'a>) -> Option<Request<'a>>
     Some(Request::Fault { file })
 }
 
-fn find_show_request<'a>(given: &ArgMatches<'a>) -> Option<Request<'a>>
-    ensures { option_map plain_request result ≡ option_map Show (file_in (rows_in given.now)) }
+/// The request of a command on one file. There is no command if its own arguments are wrong.
+fn on_file<'a>(given: &ArgMatches<'a>, command: Option<FileCommand<'a>>) -> Option<Request<'a>>
+    ensures { option_map plain_request result
+        ≡ on_file (λ rows. option_map plain_command command.entry) (rows_in given.now) }
 {
     let file = find_text(given, FILE)?;
-    Some(Request::Show { file })
+    let command = command?;
+    Some(Request::OnFile(FileRequest {
+        file,
+        prices: find_prices(given),
+        command,
+    }))
 }
 
-fn find_value_request<'a>(
+/// How prices are read.
+fn find_prices(given: &ArgMatches<'_>) -> Prices
+    ensures { result ≡ prices_in (rows_in given.now) }
+{
+    if is_set(given, ROUND_EXACT) {
+        Prices::RoundedExactly
+    } else if is_set(given, ROUND) {
+        Prices::Rounded
+    } else {
+        Prices::AsWritten
+    }
+}
+
+fn find_value<'a>(
     alloc: Global,
     given: &ArgMatches<'a>,
-) -> Result<Option<Request<'a>>, AllocError>
-    ensures { IfOk result (λ found. option_map plain_request found ≡ valued (rows_in given.now)) }
+) -> Result<Option<FileCommand<'a>>, AllocError>
+    ensures { IfOk result (λ found. option_map plain_command found ≡ valued (rows_in given.now)) }
 {
-    let (Some(file), Some(limits)) = (find_text(given, FILE), find_limits(given)) else {
+    let Some(limits) = find_limits(given) else {
         return Ok(None);
     };
     let Some(goods) = find_goods(alloc, given)? else {
         return Ok(None);
     };
-    Ok(Some(Request::Value {
-        file,
-        goods,
-        limits,
-    }))
+    Ok(Some(FileCommand::Value { goods, limits }))
 }
 
 fn find_goods(alloc: Global, given: &ArgMatches<'_>) -> Result<Option<Vec<u16>>, AllocError>
@@ -207,18 +219,6 @@ fn find_goods(alloc: Global, given: &ArgMatches<'_>) -> Result<Option<Vec<u16>>,
         Some(words) => goods_of_words(alloc, words),
         None => Ok(Some(Vec::new(alloc))),
     }
-}
-
-fn find_revenue_request<'a>(
-    alloc: Global,
-    given: &ArgMatches<'a>,
-) -> Result<Option<Request<'a>>, AllocError>
-    ensures { IfOk result (λ found. option_map plain_request found ≡ revenue (rows_in given.now)) }
-{
-    let (Some(file), Some(bids)) = (find_text(given, FILE), find_bids(alloc, given)?) else {
-        return Ok(None);
-    };
-    Ok(Some(Request::Revenue { file, bids }))
 }
 
 /// The bids of a list, or else those that words name.
@@ -248,20 +248,18 @@ fn find_numbers(alloc: Global, given: &ArgMatches<'_>) -> Result<Option<Vec<u32>
     Ok(Some(numbers))
 }
 
-fn find_normalise_request<'a>(given: &ArgMatches<'a>) -> Option<Request<'a>>
-    ensures { option_map plain_request result ≡ limited Normalise (rows_in given.now) }
+fn find_normalise<'a>(given: &ArgMatches<'a>) -> Option<FileCommand<'a>>
+    ensures { option_map plain_command result ≡ limited Normalise (rows_in given.now) }
 {
-    let file = find_text(given, FILE)?;
     let limits = find_limits(given)?;
-    Some(Request::Normalise { file, limits })
+    Some(FileCommand::Normalise(limits))
 }
 
-fn find_explain_request<'a>(given: &ArgMatches<'a>) -> Option<Request<'a>>
-    ensures { option_map plain_request result ≡ limited Explain (rows_in given.now) }
+fn find_explain<'a>(given: &ArgMatches<'a>) -> Option<FileCommand<'a>>
+    ensures { option_map plain_command result ≡ limited Explain (rows_in given.now) }
 {
-    let file = find_text(given, FILE)?;
     let limits = find_limits(given)?;
-    Some(Request::Explain { file, limits })
+    Some(FileCommand::Explain(limits))
 }
 
 fn find_round_request<'a>(given: &ArgMatches<'a>) -> Option<Request<'a>>
@@ -273,44 +271,39 @@ fn find_round_request<'a>(given: &ArgMatches<'a>) -> Option<Request<'a>>
     Some(Request::Round { file, exact })
 }
 
-fn find_lp_request<'a>(given: &ArgMatches<'a>) -> Option<Request<'a>>
-    ensures { option_map plain_request result ≡ option_map Lp (file_in (rows_in given.now)) }
-{
-    let file = find_text(given, FILE)?;
-    Some(Request::Lp { file })
-}
-
-fn find_pair_request<'a>(given: &ArgMatches<'a>) -> Option<PairRequest<'a>>
-    ensures { (make : List ℕ → List ℕ → Limits → PlainRequest)
-        → option_map (λ pair. make pair.first.now pair.second.now pair.limits) result
-        ≡ paired make (rows_in given.now) }
+fn find_pair_request<'a>(given: &ArgMatches<'a>, command: PairCommand) -> Option<Request<'a>>
+    ensures { option_map plain_request result ≡ on_pair command (rows_in given.now) }
 {
     let first = find_text(given, FILE)?;
     let second = find_text(given, SECOND_FILE)?;
     let limits = find_limits(given)?;
-    Some(PairRequest {
+    Some(Request::OnPair(PairRequest {
         first,
         second,
+        prices: find_prices(given),
+        command,
         limits,
-    })
+    }))
 }
 
 fn find_files_request<'a>(
     alloc: Global,
     given: &ArgMatches<'a>,
-) -> Result<Option<FilesRequest<'a>>, AllocError>
-    ensures { IfOk result (λ found. option_map plain_files found ≡ files_in (rows_in given.now)) }
+    command: FilesCommand,
+) -> Result<Option<Request<'a>>, AllocError>
+    ensures { IfOk result (λ found. option_map plain_request found ≡ on_files command (rows_in given.now)) }
 {
     let (Some(limits), Some(paths)) = (find_limits(given), find_paths(alloc, given)?) else {
         return Ok(None);
     };
-    Ok(Some(FilesRequest {
+    Ok(Some(Request::OnFiles(FilesRequest {
         paths,
+        prices: find_prices(given),
+        command,
         limits,
         progress: is_set(given, PROGRESS),
         null: is_set(given, NULL),
-        all: is_set(given, ALL),
-    }))
+    })))
 }
 
 /// Where the paths are: in a list, or on the command line, and not both.

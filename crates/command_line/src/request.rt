@@ -3,43 +3,44 @@
 /// What the program has to do: the subcommand of a command line, with the words and numbers after it.
 #[derive(Debug, Drop)]
 pub enum Request<'a> {
-    Check {
-        file: &'a str,
-    },
-    Fault {
-        file: &'a str,
-    },
-    Show {
-        file: &'a str,
-    },
-    Value {
-        file: &'a str,
-        goods: Vec<u16>,
-        limits: Limits,
-    },
-    Revenue {
-        file: &'a str,
-        bids: NamedBids<'a>,
-    },
-    Normalise {
-        file: &'a str,
-        limits: Limits,
-    },
-    Explain {
-        file: &'a str,
-        limits: Limits,
-    },
-    Round {
-        file: &'a str,
-        exact: bool,
-    },
-    Lp {
-        file: &'a str,
-    },
-    Compare(PairRequest<'a>),
-    Diff(PairRequest<'a>),
-    Duplicates(FilesRequest<'a>),
-    Sizes(FilesRequest<'a>),
+    /// A command on one bid file.
+    OnFile(FileRequest<'a>),
+    /// A command on two bid files.
+    OnPair(PairRequest<'a>),
+    /// A command on many bid files.
+    OnFiles(FilesRequest<'a>),
+    Fault { file: &'a str },
+    Round { file: &'a str, exact: bool },
+}
+
+/// How the prices of bid files are read.
+#[derive(Clone, Copy, PartialEq, Eq, Debug)]
+pub enum Prices {
+    AsWritten,
+    /// As `cats round` prints them.
+    Rounded,
+    /// As `cats round --exact` prints them.
+    RoundedExactly,
+}
+
+/// The bid file of a request, and what is to be done with it.
+#[derive(Debug, Drop)]
+pub struct FileRequest<'a> {
+    pub file: &'a str,
+    pub prices: Prices,
+    pub command: FileCommand<'a>,
+}
+
+/// A command on one bid file.
+#[derive(Debug, Drop)]
+pub enum FileCommand<'a> {
+    Check,
+    Show,
+    Value { goods: Vec<u16>, limits: Limits },
+    Revenue(NamedBids<'a>),
+    Normalise(Limits),
+    Explain(Limits),
+    Lp,
 }
 
 /// How a request searches, and how long.
@@ -53,12 +54,21 @@ pub struct Limits {
     pub total: Option<u64>,
 }
 
-/// The two files of a request, and the limits of its searches.
+/// The two bid files of a request, and what is to be done with them.
 #[derive(Debug, Drop)]
 pub struct PairRequest<'a> {
     pub first: &'a str,
     pub second: &'a str,
+    pub prices: Prices,
+    pub command: PairCommand,
     pub limits: Limits,
+}
+
+/// A command on two bid files.
+#[derive(Clone, Copy, PartialEq, Eq, Debug)]
+pub enum PairCommand {
+    Compare,
+    Diff,
 }
 
 /// Bids of a file, by their numbers.
@@ -70,17 +80,25 @@ pub enum NamedBids<'a> {
     ListedIn(&'a str),
 }
 
-/// What is to be done with many files.
+/// The bid files of a request for many, and what is to be done with them.
 #[derive(Debug, Drop)]
 pub struct FilesRequest<'a> {
     pub paths: FilePaths<'a>,
+    pub prices: Prices,
+    pub command: FilesCommand,
     pub limits: Limits,
     /// Whether it is reported how many files were read.
     pub progress: bool,
     /// Whether each path of the output ends with NUL.
     pub null: bool,
-    /// Whether the files are printed too that are the only ones of their auction. It is false for `sizes`.
-    pub all: bool,
+}
+
+/// A command on many bid files.
+#[derive(Clone, Copy, PartialEq, Eq, Debug)]
+pub enum FilesCommand {
+    /// With `all`, the files too that are the only ones of their auction.
+    Duplicates { all: bool },
+    Sizes,
 }
 
 /// Where the paths of many files are.

@@ -9,7 +9,7 @@ use Rattle.command_line.specs.Subcommands.{total_steps, option, flag, null, bids
 use Rattle.command_line.specs.declared.commands.Argument.{Argument}
 use Rattle.command_line.specs.declared.commands.Argument.TheVariants.{File, SecondFile, MoreFiles, Files, List, Goods}
 use Rattle.command_line.specs.declared.commands.Argument.TheVariants.{Steps, TotalSteps, Bound, Progress, Null, Exact}
-use Rattle.command_line.specs.declared.commands.Argument.TheVariants.{All, Bids, BidList}
+use Rattle.command_line.specs.declared.commands.Argument.TheVariants.{All, Bids, BidList, Round, RoundExact}
 use Rattle.command_line.specs.declared.commands.Subcommand.{Subcommand}
 
 -- some argument is one of the subcommands too
@@ -32,6 +32,8 @@ rule_for Progress = flag (codes "progress")
 rule_for Null = null
 rule_for All = flag (codes "all")
 rule_for Exact = flag (codes "exact")
+rule_for Round = flag (codes "round")
+rule_for RoundExact = flag (codes "round-exact")
 
 abbrev pub shape_for : Subcommand → Shape
 shape_for s = record (new_shape s.name.now) { rules = map rule_for s.arguments.now }

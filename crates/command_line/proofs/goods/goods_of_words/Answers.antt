@@ -1,5 +1,5 @@
 use Rattle.std.proofs.Common.{◌∙◌, rules, tests}
-use Rattle.command_line.proofs.GoodsSoFar.{no_word, one_word}
+use Rattle.command_line.proofs.GoodsSoFar.{one_word}
 use Rattle.command_line.proofs.goods.goods_of_words.Goals as goal
 
 pub loop-word-preserved : goal.loop-word-preserved
