@@ -1,25 +1,23 @@
 -- The turns of a pruning's loop, by what the code knows of its variables: each is one of proofs/Results, once the code's lists are seen
 -- by the goods of their sets.
-use Rattle.std.proofs.Common.{◌≡◌, ℕ, zero, suc, ◌+◌, ◌<◌, ◌≤◌, Bool, false, ◌||◌, leb, ⊎_elim, List, [], ◌∷◌, ◌++◌, length, map, take, drop, max, get_or}
-use Rattle.std.proofs.Common.{sym, ap, ap₂, ◌∙◌, subst, arith, Bor}
+use Rattle.std.proofs.Common.{◌≡◌, ℕ, ◌+◌, ◌<◌, ◌≤◌, Bool, ◌||◌, leb, ⊎_elim, List, [], ◌∷◌, ◌++◌, length, map, take, drop, max, get_or}
+use Rattle.std.proofs.Common.{sym, ap, ◌∙◌, subst, arith, Bor}
 use Rattle.std.specs.Prelude.{All, Contains}
 use Rattle.std.specs.List.{filter, list_any}
 use Rattle.std.proofs.lemmas.Bool.{cases_lt, le-leb, lt-leb}
-use Rattle.std.proofs.lemmas.List.{map-append, map_push, drop_more, drop_all, take_all, take_more, take-append-drop, take-map}
+use Rattle.std.proofs.lemmas.List.{map-append, map_push, drop_all, take_all, take-append-drop}
 use Rattle.std.proofs.lemmas.List.Elements.{All-nil, All-cons, All-head, All-tail, All-contains, All-filter, All-weaker, Contains-append_left, filter_passes}
 use Rattle.goods_set.specs.Bundles.{IsRising, is_inside, IsInside}
 use Rattle.valuation.specs.declared.atom.Atom.{Atom}
-use Rattle.valuation.specs.Lemmas.Atoms.{get_or-atoms_of}
 use Rattle.valuation.specs.Auctions.{IsAtom}
 use Rattle.valuation.specs.Values.{atoms_of, xor_value, plain_atom}
 use Rattle.valuation.specs.Packings.{price_sum}
 use Rattle.valuation.specs.Lemmas.XorValues.{xor_value-nil, xor_value-inside}
-use Rattle.prune.specs.Lemmas.Values.{xor_value-member}
 use Rattle.prune.specs.Lemmas.Lists.{list_any_filter}
-use Rattle.prune.specs.Internal.Listings.{dominates, atom_at, AreUndominated}
+use Rattle.prune.specs.Internal.Listings.{dominates}
 use Rattle.prune.specs.Internal.BestBids.{AreBestBids}
-use Rattle.prune.proofs.Pruning.{HasRisingBundle, IsKept-none}
-use Rattle.prune.proofs.Results.{IsTurn, IsXorKept, IsOrKept, AreXorPoints, AreOrPoints, turn_among, turn_positive, xor_done, xor_missed, xor_more, xor_fewer}
+use Rattle.prune.proofs.Pruning.{HasRisingBundle}
+use Rattle.prune.proofs.Results.{IsTurn, IsXorKept, IsOrKept, AreXorPoints, AreOrPoints, turn_among, xor_done}
 use Rattle.prune.proofs.Results.{or_done}
 use Rattle.prune.proofs.Prefixes.{IsLeft, next_parts, next_taken, next_drop}
 use Rattle.prune.specs.Internal.Reaching.{atoms_inside}
@@ -137,53 +135,6 @@ turn_nonempty n bids done bid rest turn are = (All-contains (IsAtom n) bids bid 
 
 pub all_some : (n : ℕ) (bids : List (Atom (List ℕ))) → All (IsAtom n) bids → All (λ a. 0 < length a.bundle) bids
 all_some n bids are = All-weaker (IsAtom n) (λ a. 0 < length a.bundle) (λ a i. i.nonempty) bids are
-
--- ---- no bid is dominated by one before it
-
--- the first bids are kept as they are
-first_undominated : (bids best : List (Atom (List ℕ))) → AreBestBids bids best → All HasRisingBundle best → AreUndominated best → (i : ℕ) → i ≤ length best
-    → IsXorKept (take i best) (take i best)
-first_undominated bids best b rising free zero l = IsKept-none xor_value xor_value-member xor_more xor_fewer
-first_undominated bids best b rising free (suc i) l =
-    let x = atom_at best i in
-    let done = take i best in
-    let within : i < length best = omega arith in
-    let parts : best ≡ done ++ x ∷ drop (i + 1) best = sym (take-append-drop i best)
-    ∙ ap (λ zs. done ++ zs) (drop_more best i (record { bundle = []; price = 0 }) within) in
-    let turn : IsTurn bids done x (drop (i + 1) best) = record {
-      best = subst (λ (zs : List (Atom (List ℕ))). AreBestBids bids zs) parts b;
-      rising = subst (λ (zs : List (Atom (List ℕ))). All HasRisingBundle zs) parts rising;
-    } in
-    let missed = sym (free i within) ∙ dominates_is x.price x.bundle done (turn_positive _ _ _ _ turn) in
-    let on : suc i ≡ i + 1 = omega arith in
-    let prefix : take (suc i) best ≡ done ++ x ∷ [] = ap (λ n. take n best) on ∙ take_more best i (record { bundle = []; price = 0 }) within in
-    rw prefix (xor_missed _ _ _ _ done turn (first_undominated bids best b rising free i (omega arith)) missed)
-
--- one more bid
-pub one_more_undominated : {S : Type 0} (goods : S → List ℕ) (atoms before : List (Atom S)) (i : ℕ) (bid : Atom S)
-    → i < length atoms → bid ≡ get_or atoms i bid → before ≡ take i atoms → list_any (dominates (goods bid.bundle) bid.price) (atoms_of goods before) ≡ false
-    → ((k : ℕ) → k < i → list_any (dominates (atom_at (atoms_of goods atoms) k).bundle (atom_at (atoms_of goods atoms) k).price) (take k (atoms_of goods atoms))
-    ≡ false)
-    → (k : ℕ) → k < i + 1 → list_any (dominates (atom_at (atoms_of goods atoms) k).bundle (atom_at (atoms_of goods atoms) k).price)
-    (take k (atoms_of goods atoms))
-    ≡ false
-one_more_undominated {S} goods atoms before i bid l is prefix free h k within =
-    let seen = atoms_of goods atoms in
-    let at : atom_at seen i ≡ plain_atom goods bid = get_or-atoms_of goods atoms i bid (record { bundle = []; price = 0 }) l is in
-    let those : take i seen ≡ atoms_of goods before = take-map (plain_atom goods) i atoms ∙ ap (atoms_of goods) (sym prefix) in
-    let here : list_any (dominates (atom_at seen i).bundle (atom_at seen i).price) (take i seen) ≡ false =
-    ap₂ (λ (x : Atom (List ℕ)) (zs : List (Atom (List ℕ))). list_any (dominates x.bundle x.price) zs) at those ∙ free in
-    ⊎_elim (λ (lt : k < i). h k lt)
-    (λ (le : i ≤ k). let e : i ≡ k = omega arith in subst
-    (λ n. list_any (dominates (atom_at seen n).bundle (atom_at seen n).price) (take n seen) ≡ false) e here)
-    (cases_lt k i)
-
-pub xor_undominated : {S : Type 0} (goods : S → List ℕ) (rising : (s : S) → IsRising (goods s)) (bids : List (Atom (List ℕ))) (atoms : List (Atom S))
-    → AreBestBids bids (atoms_of goods atoms) → AreUndominated (atoms_of goods atoms) → AreXorPoints bids (atoms_of goods atoms)
-xor_undominated goods rising bids atoms b free =
-    let best = atoms_of goods atoms in
-    let whole : take (length best) best ≡ best = take_all (length best) best (omega arith) in
-    xor_done bids best best b (rw whole at (first_undominated bids best b (all_rising goods rising atoms) free (length best) (omega arith)))
 
 -- ---- the bids that are left
 

@@ -24,7 +24,7 @@ ghost use Rattle.valuation.specs.Auctions.{IsAtom};
 ghost use Rattle.valuation.specs.Values.{atoms_of, plain_atom, xor_value};
 ghost use Rattle.prune.specs.Fates.{xor_fates};
 ghost use Rattle.prune.specs.InOrder.{IsInOrder};
-ghost use Rattle.prune.specs.Internal.Listings.{dominates, first_dominating_place, AreUndominated, IsBehind, IsIndexOf};
+ghost use Rattle.prune.specs.Internal.Listings.{dominates, first_dominating_place, IsBehind, IsIndexOf};
 ghost use Rattle.prune.specs.Points.{xor_points};
 
 use crate::best::keep_best_bids;
@@ -55,21 +55,6 @@ fn first_dominating<S: GoodsSet>(bid: &Atom<S>, atoms: &[Atom<S>]) -> Option<usi
         }
     }
     None
-}
-
-/// Whether the bids are few, and none is dominated by one before it, so that all of them are kept.
-fn are_few_and_undominated<S: GoodsSet>(bids: &[Atom<S>]) -> bool
-    ensures { result ≡ true → AreUndominated (atoms_of S.goods bids.now) }
-{
-    if bids.len() > PAIRWISE {
-        return false;
-    }
-    for (place, bid) in bids.iter().enumerate() {
-        if first_dominating(bid, &bids[..place]).is_some() {
-            return false;
-        }
-    }
-    true
 }
 
 /// The place of the first kept atom inside the bid's bundle with at least its price. If there is none, the bid is added
@@ -148,11 +133,9 @@ pub fn prune_xor_noting<S: GoodsSet>(
         → log.new.fates.items ≡ xor_fates goods bids) }
 {
     keep_best_bids(alloc, &mut atoms)?;
-    if !log.is_wanted() && are_few_and_undominated(atoms.as_slice()) {
-        return Ok(atoms);
-    }
     let few = atoms.len() <= PAIRWISE;
-    let mut index = SubsetIndex::of(alloc, &atoms)?;
+    let listed = if few { 0 } else { atoms.len() };
+    let mut index = SubsetIndex::of(alloc, &atoms[..listed])?;
     let mut buffer = Vec::new(alloc);
     let mut kept = 0;
     for place in 0..atoms.len() {

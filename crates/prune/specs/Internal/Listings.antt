@@ -1,10 +1,10 @@
 -- Atoms listed by their goods. Those inside a bundle are found through the goods of the bundle.
 use Rattle.std.specs.Prelude.{◌≡◌, ℕ, ◌<◌, ◌≤◌, Bool, ◌&&◌, true, false, nat_le, map, slice_index_or, List, []}
 use Rattle.std.specs.Prelude.{length}
-use Rattle.std.specs.Prelude.{Option, take, All, AllPairs, Contains}
+use Rattle.std.specs.Prelude.{Option, All, AllPairs, Contains}
 use Rattle.std.proofs.Common.{Less}
 use Rattle.std.specs.Global.{Vec}
-use Rattle.std.specs.List.{find, list_any, range_with_len}
+use Rattle.std.specs.List.{find, range_with_len}
 use Rattle.valuation.specs.declared.atom.Atom.{Atom}
 use Rattle.goods_set.specs.Bundles.{has_good, is_inside}
 use Rattle.goods_set.specs.Orders.{bundle_cmp}
@@ -39,11 +39,6 @@ is_inside_at atoms bundle place = is_inside (atom_at atoms place).bundle bundle
 -- whether the atom is inside the bundle and has at least the price
 abbrev pub dominates : List ℕ → ℕ → Atom (List ℕ) → Bool
 dominates bundle price a = nat_le price a.price && is_inside a.bundle bundle
-
--- none of the atoms is dominated by one before it
-abbrev pub AreUndominated : List (Atom (List ℕ)) → Type 0
-AreUndominated atoms = (place : ℕ) → place < length atoms
-    → list_any (dominates (atom_at atoms place).bundle (atom_at atoms place).price) (take place atoms) ≡ false
 
 -- whether the atom at the place does
 abbrev pub dominates_at : List (Atom (List ℕ)) → List ℕ → ℕ → ℕ → Bool

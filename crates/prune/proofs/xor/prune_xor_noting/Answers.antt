@@ -1,9 +1,9 @@
 -- A turn of the loop keeps a bid exactly if no kept bid inside its bundle dominates it, which is a turn of proofs/Results; and at the
--- end the kept bids are the points. Few bids of which none dominates another are the points as they are.
+-- end the kept bids are the points.
 use Rattle.std.proofs.Common.{◌<◌, ◌≤◌, cond, [], ◌∷◌, ◌++◌, append-nil, length, refl, sym, ◌∙◌, subst, take, arith}
 use Rattle.bid_file.specs.declared.limits.TheConstants.{MAX_GOODS}
 use Rattle.valuation.specs.Values.{atoms_of, plain_atom}
-use Rattle.prune.specs.Internal.Listings.{AreUndominated, IsIndexOf}
+use Rattle.prune.specs.Internal.Listings.{IsIndexOf}
 use Rattle.prune.specs.Lemmas.KeptBids.{on_bundles, just_bundles}
 use Rattle.prune.proofs.Prefixes.{next_left}
 use Rattle.std.specs.Prelude.{is_some}
@@ -11,7 +11,7 @@ use Rattle.prune.specs.Points.{xor_points}
 use Rattle.prune.specs.Fates.{xor_fate}
 use Rattle.prune.proofs.Fates.{noted_all, xor_noted_dropped, xor_noted_kept}
 use Rattle.prune.proofs.FirstDominating.{is_some-first_dominating}
-use Rattle.prune.proofs.PruningLoop.{next_turn, one_done, one_kept, xor_end, xor_undominated, turn_nonempty, dominates_is}
+use Rattle.prune.proofs.PruningLoop.{next_turn, one_done, one_kept, xor_end, turn_nonempty, dominates_is}
 use Rattle.prune.proofs.Results.{turn_positive, turn_behind, xor_reached, xor_missed}
 use Rattle.prune.proofs.xor.prune_xor_noting.Goals as goal
 use Rattle.prune.proofs.xor.prune_xor_noting.Goals.{then-is_none, else-is_none}
@@ -109,31 +109,6 @@ returns-clause-fates g c = λ w n are.
     let on = on_bundles n bids are in
     noted_all goods xor_fate n bids (xor_points n bids) best.items _ _ c.loop-place.place _ on c.in_ok-keep_best_bids.ensures.best all
     c.truncate.ensures.items (done.points n (just_bundles n bids on)) (c.loop-place.invariant.noted w)
-
-pub returns-then-are_few_and_undominated-clause-points : goal.returns-then-are_few_and_undominated-clause-points
-returns-then-are_few_and_undominated-clause-points g c =
-    let bids = atoms_of g.S.GoodsSet.goods c.args.atoms.items in
-    λ n are. (xor_undominated g.S.GoodsSet.goods (λ s. (g.met.S.GoodsSet.is_bundle s).0) _ c.keep_best_bids.new.bids.items c.in_ok-keep_best_bids.ensures.best
-    (subst (λ zs. AreUndominated (atoms_of g.S.GoodsSet.goods zs)) c.as_slice.ensures.value
-    (c.are_few_and_undominated.ensures c.if-are_few_and_undominated.true))).points n (just_bundles n bids (on_bundles n bids are))
-
-pub returns-then-are_few_and_undominated-clause-values : goal.returns-then-are_few_and_undominated-clause-values
-returns-then-are_few_and_undominated-clause-values g c =
-    (xor_undominated g.S.GoodsSet.goods (λ s. (g.met.S.GoodsSet.is_bundle s).0) _ c.keep_best_bids.new.bids.items c.in_ok-keep_best_bids.ensures.best
-    (subst (λ zs. AreUndominated (atoms_of g.S.GoodsSet.goods zs)) c.as_slice.ensures.value
-    (c.are_few_and_undominated.ensures c.if-are_few_and_undominated.true))).values
-
-pub returns-then-are_few_and_undominated-clause-bids : goal.returns-then-are_few_and_undominated-clause-bids
-returns-then-are_few_and_undominated-clause-bids g c =
-    (xor_undominated g.S.GoodsSet.goods (λ s. (g.met.S.GoodsSet.is_bundle s).0) _ c.keep_best_bids.new.bids.items c.in_ok-keep_best_bids.ensures.best
-    (subst (λ zs. AreUndominated (atoms_of g.S.GoodsSet.goods zs)) c.as_slice.ensures.value
-    (c.are_few_and_undominated.ensures c.if-are_few_and_undominated.true))).among
-
-pub returns-then-are_few_and_undominated-clause-in_order : goal.returns-then-are_few_and_undominated-clause-in_order
-returns-then-are_few_and_undominated-clause-in_order g c =
-    (xor_undominated g.S.GoodsSet.goods (λ s. (g.met.S.GoodsSet.is_bundle s).0) _ c.keep_best_bids.new.bids.items c.in_ok-keep_best_bids.ensures.best
-    (subst (λ zs. AreUndominated (atoms_of g.S.GoodsSet.goods zs)) c.as_slice.ensures.value
-    (c.are_few_and_undominated.ensures c.if-are_few_and_undominated.true))).in_order
 
 pub returns-clause-points : goal.returns-clause-points
 returns-clause-points g c =
