@@ -3,4 +3,6 @@ pub mod Answering
 pub mod Differences
 pub mod SameDifferences
 pub mod Comparisons
+pub mod Alike
+pub mod DummiesExchanged
 pub mod Indexing

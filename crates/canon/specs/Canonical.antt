@@ -20,11 +20,15 @@ nonzero_bidders goods bidders = filter (λ bidder. is_nonzero (xor_table bidder 
 abbrev pub points_of_bidders : ℕ → List (List (Atom (List ℕ))) → List (List (Atom (List ℕ)))
 points_of_bidders goods bidders = map (xor_points goods) (nonzero_bidders goods bidders)
 
+-- and these in order
+abbrev pub canonical_bidders : ℕ → List (List (Atom (List ℕ))) → List (List (Atom (List ℕ)))
+canonical_bidders goods bidders = sort_by bidder_cmp (points_of_bidders goods bidders)
+
 abbrev pub canonical_auction : PlainAuction → PlainAuction
 canonical_auction a = record {
   goods = a.goods;
   or_atoms = or_points a.goods a.or_atoms;
-  xor_bidders = sort_by bidder_cmp (points_of_bidders a.goods a.xor_bidders);
+  xor_bidders = canonical_bidders a.goods a.xor_bidders;
 }
 
 abbrev pub IsCanonical : PlainAuction → Type 0

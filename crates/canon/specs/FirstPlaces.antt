@@ -1,4 +1,7 @@
--- The first file of each auction, among added files.
+-- The first file of each auction, among added files. What is said of files and their texts is said of any texts of
+-- files, and
+-- of any relation between files: files have one canonical text if they are the same auction, and one unsearched text if
+-- they are alike.
 use Rattle.std.specs.Map.{lookup}
 use Rattle.std.specs.Prelude.{◌≡◌, ◌⊎◌, ℕ, ◌+◌, ◌<◌, List, [], length, position, Option, Some, None, slice_get}
 use Rattle.std.specs.Prelude.{bytes_eq, cond, unwrap_or}
@@ -12,16 +15,17 @@ use Rattle.canon.specs.Answers.{RefusesAs}
 use Rattle.canon.specs.Canonical.{canonical_text}
 use Rattle.canon.specs.Normalising.{IsText, normalised_file}
 use Rattle.canon.specs.Refusals.{refusal_of}
-use Rattle.canon.specs.Sameness.{AreSameFiles}
 use Rattle.canon.specs.declared.canon_fault.CanonFault.{CanonFault}
 use Rattle.valuation.specs.declared.search_options.SearchOptions.{SearchOptions}
 
--- the place, counted from 0, of the first of the files that is the same auction as the given one
-pub record IsFirstPlace (files : List PlainFile) (given : PlainFile) (place : ℕ) : Type 0 where
+-- the place, counted from 0, of the first of the files that is in the relation to the given one
+pub record IsFirstPlace (Related : PlainFile → PlainFile → Type 0) (files : List PlainFile) (given : PlainFile) (place :
+    ℕ)
+    : Type 0 where
   pub file : PlainFile
   pub there : slice_get files place ≡ Some file
-  pub same : AreSameFiles file given
-  pub first : (k : ℕ) (other : PlainFile) → k < place → slice_get files k ≡ Some other → AreSameFiles other given → ⊥
+  pub related : Related file given
+  pub first : (k : ℕ) (other : PlainFile) → k < place → slice_get files k ≡ Some other → Related other given → ⊥
 
 -- the place of the first of the files that has the canonical text of the given one
 abbrev pub first_place : List PlainFile → PlainFile → Option ℕ
@@ -49,26 +53,28 @@ pub record AddsText (old new : TextIndex) (text : List ℕ) (place : ℕ) : Type
   pub places : (other : List ℕ) → text_place new other ≡ cond (bytes_eq text other) (Some place) (text_place old other)
   pub count : new.count ≡ old.count + 1
 
--- the first of the files with this canonical text is at this place
-pub record IsFirstText (files : List PlainFile) (text : List ℕ) (place : ℕ) : Type 0 where
-  pub file : PlainFile
-  pub there : slice_get files place ≡ Some file
-  pub has : canonical_text file ≡ text
-  pub first : (k : ℕ) (other : PlainFile) → k < place → slice_get files k ≡ Some other → canonical_text other ≡ text → ⊥
+-- by the text that each file has
+module _ (text_of : PlainFile → List ℕ) where
+  -- the first of the files with this text is at this place
+  pub record IsFirstText (files : List PlainFile) (text : List ℕ) (place : ℕ) : Type 0 where
+    pub file : PlainFile
+    pub there : slice_get files place ≡ Some file
+    pub has : text_of file ≡ text
+    pub first : (k : ℕ) (other : PlainFile) → k < place → slice_get files k ≡ Some other → text_of other ≡ text → ⊥
 
--- none of the files has this canonical text
-abbrev pub LacksText : List PlainFile → List ℕ → Type 0
-LacksText files text = (k : ℕ) (other : PlainFile) → slice_get files k ≡ Some other → canonical_text other ≡ text → ⊥
+  -- none of the files has this text
+  abbrev pub LacksText : List PlainFile → List ℕ → Type 0
+  LacksText files text = (k : ℕ) (other : PlainFile) → slice_get files k ≡ Some other → text_of other ≡ text → ⊥
 
-abbrev pub PlacesText : List PlainFile → List ℕ → Option ℕ → Type 0
-PlacesText files text None = LacksText files text
-PlacesText files text (Some place) = IsFirstText files text place
+  abbrev pub PlacesText : List PlainFile → List ℕ → Option ℕ → Type 0
+  PlacesText files text None = LacksText files text
+  PlacesText files text (Some place) = IsFirstText files text place
 
--- it is the index of these files: each text has the place of the first of them with this canonical text
-pub record IsIndexOf (index : TextIndex) (files : List PlainFile) : Type 0 where
-  pub facts : (k : ℕ) (file : PlainFile) → slice_get files k ≡ Some file → IsPlainFile file
-  pub texts : (text : List ℕ) → PlacesText files text (text_place index text)
-  pub count : index.count ≡ length files
+  -- it is the index of these files: each text has the place of the first of them that has it
+  pub record IsIndexOf (index : TextIndex) (files : List PlainFile) : Type 0 where
+    pub facts : (k : ℕ) (file : PlainFile) → slice_get files k ≡ Some file → IsPlainFile file
+    pub texts : (text : List ℕ) → PlacesText files text (text_place index text)
+    pub count : index.count ≡ length files
 
 -- ---- a file that is read from a stream first
 

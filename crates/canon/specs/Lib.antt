@@ -1,6 +1,7 @@
 -- What the contracts of this crate cite.
 pub mod Sameness
 pub mod Canonical
+pub mod Unsearched
 pub mod Renaming
 pub mod Normalising
 pub mod Answers

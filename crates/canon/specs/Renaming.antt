@@ -34,6 +34,10 @@ named_dummy dummies (Some d) = Some (slice_index_or dummies d 0)
 abbrev pub named_bid : List ℕ → PlainBid → PlainBid
 named_bid dummies b = record { price = b.price; goods = b.goods; dummy = named_dummy dummies b.dummy }
 
+-- a file with other dummy goods, each instead of the one whose place it has in the list
+abbrev pub with_dummies : List ℕ → PlainFile → PlainFile
+with_dummies dummies f = record { goods = f.goods; dummy = f.dummy; bids = map (named_bid dummies) f.bids }
+
 -- the bids of the canonical file, with the dummy goods of the file
 abbrev pub kept_bids : PlainFile → List PlainBid
 kept_bids f = map (named_bid (kept_dummies f)) (canonical_file f).bids

@@ -9,7 +9,7 @@ ghost use Rattle.valuation.specs.Views.{plain_auction};
 ghost use Rattle.prune.specs.Fates.{xor_fates};
 ghost use Rattle.prune.specs.Faults.{IfStepLimit};
 ghost use Rattle.prune.specs.SearchSteps.{first_heavy, first_refused};
-ghost use Rattle.canon.specs.Canonical.{IsCanonical, canonical_auction};
+ghost use Rattle.canon.specs.Canonical.{IsCanonical, canonical_auction, canonical_bidders as canonical_from};
 ghost use Rattle.canon.specs.Sameness.{IsSameAuction};
 ghost use Rattle.canon.specs.Internal.Fates.{AreFates};
 ghost use Rattle.canon.specs.Internal.KeyedBidders.{kept_numbers, keyed_bidders, numbered_cmp, numbered_points};
@@ -30,6 +30,17 @@ pub(crate) struct NamedAuction<S: GoodsSet> {
     pub(crate) dummies: Vec<u32>,
     /// What became of the best bids, if that is wanted.
     pub(crate) fates: BidderFates,
+}
+
+/// The canonical XOR bidders of an auction, and which is which.
+#[derive(Drop)]
+pub(crate) struct NamedBidders<S: GoodsSet> {
+    /// The atoms of each bidder.
+    pub(crate) bidders: Vec<Vec<Atom<S>>>,
+    /// For each the number of the bidder that it is of, counted from 0.
+    pub(crate) dummies: Vec<u32>,
+    /// What became of the best bids of each bidder of the auction, if that is wanted.
+    pub(crate) fates: Vec<Vec<Option<usize>>>,
 }
 
 /// The canonical auction of an auction: of each bidder the points, without the XOR bidders of value zero, and the
@@ -72,20 +83,49 @@ pub(crate) fn named_canonical<S: GoodsSet>(
     let (goods, or_atoms, xor_bidders) = auction.into_parts();
     let mut or_log = FateLog::new(alloc, with_fates);
     let or_points = prune_or_by(alloc, or_atoms, options, &mut or_log)?;
-    let mut xor_log = FateLog::new(alloc, with_fates);
-    let mut bidders = points_of_each(alloc, xor_bidders, &mut xor_log)?;
-    sort_bidders(&mut bidders);
-    let dummies = dummies_of(alloc, &bidders)?;
-    let xor_points = without_keys(alloc, bidders)?;
-    let auction = Auction::new(goods, or_points, xor_points);
+    let xor = canonical_bidders(alloc, xor_bidders, with_fates)?;
+    let auction = Auction::new(goods, or_points, xor.bidders);
+    let dummies = xor.dummies;
     let fates = BidderFates {
         or: or_log.into_fates(),
-        xor: xor_log.into_fates(),
+        xor: xor.fates,
     };
     Ok(NamedAuction {
         auction,
         dummies,
         fates,
+    })
+}
+
+/// The canonical XOR bidders of those of an auction, which is which, and what became of their best bids, if that is
+/// wanted. It searches nothing.
+pub(crate) fn canonical_bidders<S: GoodsSet>(
+    alloc: Global,
+    bidders: Vec<Vec<Atom<S>>>,
+    with_fates: bool,
+) -> Result<NamedBidders<S>, AllocError>
+    requires few { length bidders.items ≤ MAX_DUMMY }
+    requires atoms { All (All (IsAtom MAX_GOODS)) (bidders_of S.goods bidders.items) }
+    // For each number of goods that the atoms are within.
+    ensures bidders { let atoms = bidders_of S.goods bidders.items in
+        IfOk result (λ named. (goods : ℕ) → All (All (IsAtom goods)) atoms
+        → bidders_of S.goods named.bidders.items ≡ canonical_from goods atoms) }
+    ensures dummies { let atoms = bidders_of S.goods bidders.items in
+        IfOk result (λ named. (goods : ℕ) → All (All (IsAtom goods)) atoms
+        → named.dummies.items ≡ map (λ b. b.number) (sort_by numbered_cmp (numbered_points goods atoms))) }
+    ensures fates { let atoms = bidders_of S.goods bidders.items in
+        IfOk result (λ named. with_fates ≡ true → (goods : ℕ) → All (All (IsAtom goods)) atoms
+        → map (λ own. own.items) named.fates.items ≡ map (xor_fates goods) atoms) }
+{
+    let mut log = FateLog::new(alloc, with_fates);
+    let mut keyed = points_of_each(alloc, bidders, &mut log)?;
+    sort_bidders(&mut keyed);
+    let dummies = dummies_of(alloc, &keyed)?;
+    let bidders = without_keys(alloc, keyed)?;
+    Ok(NamedBidders {
+        bidders,
+        dummies,
+        fates: log.into_fates(),
     })
 }
 

@@ -6,10 +6,12 @@ ghost use Rattle.canon.specs.Answers.{RefusesAs};
 ghost use Rattle.canon.specs.Canonical.{canonical_text};
 ghost use Rattle.canon.specs.FirstPlaces.{AddsStream, AddsText, IsEmptyIndex};
 ghost use Rattle.canon.specs.Normalising.{IsText, normalised_file};
+ghost use Rattle.canon.specs.Unsearched.{unsearched_text};
 ghost use Rattle.canon.specs.Internal.TextPlaces.{place_of};
 
 use crate::canon_fault::CanonFault;
-use crate::normal::normal_packed_file;
+use crate::named::named_normal_file;
+use crate::unsearched::unsearched_file;
 use bid_file::PackedFile;
 use cats_text::{Watched, read_packed_from, write};
 use std::alloc::{AllocError, Global};
@@ -18,11 +20,13 @@ use std::io::Read;
 use std::marker::Model;
 use valuation::SearchOptions;
 
-/// The auctions of the files that were added. It keeps one canonical text for each auction, in order,
-/// so no texts can be made that take long to find. The files themselves are given up.
+/// The auctions of the files that were added. It keeps one text for each auction, in order, so no texts can be made that
+/// take long to find. It keeps no file.
+///
+/// The files of one index are all added by `add` and `add_from`, or all by `add_unsearched`.
 #[derive(Drop)]
 pub struct AuctionIndex {
-    /// Each canonical text, with the place of the first file that has it.
+    /// Each text, with the place of the first file that has it.
     places: BTreeMap<Vec<u8>, usize>,
     /// How many files were added.
     count: usize,
@@ -55,19 +59,38 @@ impl AuctionIndex {
     pub fn add(
         &mut self,
         alloc: Global,
-        file: PackedFile,
+        file: &PackedFile,
         options: SearchOptions,
     ) -> Result<usize, CanonFault>
-        ensures added { IfOk result (AddsText self.old self.new (canonical_text file)) }
-        ensures within_limits { OnOk result (normalised_file options file ≡ IsText (canonical_text file)) }
-        ensures refused { IfErr result (RefusesAs (normalised_file options file)) }
+        ensures added { IfOk result (AddsText self.old self.new (canonical_text file.now)) }
+        ensures within_limits { OnOk result (normalised_file options file.now ≡ IsText (canonical_text file.now)) }
+        ensures refused { IfErr result (RefusesAs (normalised_file options file.now)) }
         ensures unchanged { OnErr result (self.new ≡ self.old) }
     {
         let Some(count) = self.count.checked_add(1) else {
             return Err(CanonFault::Memory);
         };
-        let normal = normal_packed_file(alloc, file, options)?;
-        let text = write(alloc, &normal)?;
+        let normal = named_normal_file(alloc, file, options)?;
+        let text = write(alloc, &normal.file)?;
+        let place = place_text(&mut self.places, text, self.count)?;
+        self.count = count;
+        Ok(place)
+    }
+
+    /// Adds a packed file by what needs no search, and answers the place, counted from 0, of the first file added that is
+    /// alike; that is its own place where there is none. Alike files are the same auction, but some of the same auction are
+    /// not alike.
+    ///
+    /// It takes no more files than `add`.
+    pub fn add_unsearched(&mut self, alloc: Global, file: &PackedFile) -> Result<usize, AllocError>
+        ensures added { IfOk result (AddsText self.old self.new (unsearched_text file.now)) }
+        ensures unchanged { OnErr result (self.new ≡ self.old) }
+    {
+        let Some(count) = self.count.checked_add(1) else {
+            return Err(AllocError);
+        };
+        let file = unsearched_file(alloc, file)?;
+        let text = write(alloc, &file)?;
         let place = place_text(&mut self.places, text, self.count)?;
         self.count = count;
         Ok(place)
@@ -85,7 +108,7 @@ impl AuctionIndex {
         ensures { AddsStream R.remaining options self.old self.new input.old input.new result }
     {
         let file = read_packed_from(alloc, input)?;
-        self.add(alloc, file, options)
+        self.add(alloc, &file, options)
     }
 }
 

@@ -1,7 +1,7 @@
 //! What is promised, over the definitions alone.
 
-ghost use Rattle.std.specs.Prelude.{◌≡◌, ◌↔◌, ℕ, List, [], ◌∷◌, ◌++◌, None, true, ◌<◌, Some, All};
-ghost use Rattle.bid_file.specs.Files.{PlainFile, IsPlainFile};
+ghost use Rattle.std.specs.Prelude.{◌≡◌, ◌↔◌, ℕ, List, [], ◌∷◌, ◌++◌, None, true, ◌<◌, Some, All, Contains, IsPermutation};
+ghost use Rattle.bid_file.specs.Files.{PlainBid, PlainFile, IsPlainFile};
 ghost use Rattle.valuation.specs.Auctions.{PlainAuction, IsAuction, auction_from};
 ghost use Rattle.prune.specs.SearchSteps.{first_heavy, first_refused, greatest_price, is_heavy, search_steps_by};
 ghost use Rattle.valuation.specs.declared.search_kind.SearchKind.{SearchKind};
@@ -9,6 +9,9 @@ ghost use Rattle.valuation.specs.declared.search_options.SearchOptions.{SearchOp
 ghost use Rattle.canon.specs.Canonical.{IsCanonical, IsCanonicalFile, canonical_auction, canonical_text, file_from};
 ghost use Rattle.canon.specs.FirstPlaces.{AddsText, IsEmptyIndex, IsFirstPlace, IsIndexOf, TextIndex, first_place};
 ghost use Rattle.canon.specs.Normalising.{IsNormalised, IsText, Normalised, Normalises, SpellsCanonicalFile};
+ghost use Rattle.canon.specs.Unsearched.{AreAlike, unsearched_text};
+ghost use Rattle.canon.specs.Renaming.{with_dummies};
+ghost use Rattle.std.specs.List.{range_with_len};
 ghost use Rattle.canon.specs.Sameness.{AreSameFiles, AreSameTexts, IsSameAuction, bidders_with};
 ghost use Rattle.goods_set.specs.Bundles.{IsBundle};
 ghost use Rattle.goods_set.specs.Orders.{bundle_cmp};
@@ -94,14 +97,51 @@ pub fn no_new_heavy_bundle()
         → first_refused options a.goods (canonical_auction a).or_atoms ≡ None }
 {}
 
-/// An index that files are added to one by one is the index of these files, and the place that is answered is that of
-/// the first of them that is the same auction.
+/// An index that files are added to one by one, each with a text of its own, is the index of these files by these texts.
+/// The place that is answered is that of the first of them that is the same auction, where the texts are the canonical
+/// ones, and of the first that is alike, where they are the unsearched ones.
 pub fn added_files_have_first_places()
-    ensures none { (index : TextIndex) → IsEmptyIndex index → IsIndexOf index [] }
-    ensures index { (old new : TextIndex) (files : List PlainFile) (file : PlainFile) (place : ℕ) → IsIndexOf old files
-        → IsPlainFile file → AddsText old new (canonical_text file) place → IsIndexOf new (files ++ file ∷ []) }
-    ensures place { (old new : TextIndex) (files : List PlainFile) (file : PlainFile) (place : ℕ) → IsIndexOf old files
-        → IsPlainFile file → AddsText old new (canonical_text file) place → IsFirstPlace (files ++ file ∷ []) file place }
+    ensures none { (text_of : PlainFile → List ℕ) (index : TextIndex) → IsEmptyIndex index → IsIndexOf text_of index [] }
+    ensures index { (text_of : PlainFile → List ℕ) (old new : TextIndex) (files : List PlainFile) (file : PlainFile)
+        (place : ℕ) → IsIndexOf text_of old files → IsPlainFile file → AddsText old new (text_of file) place
+        → IsIndexOf text_of new (files ++ file ∷ []) }
+    ensures place { (old new : TextIndex) (files : List PlainFile) (file : PlainFile) (place : ℕ)
+        → IsIndexOf canonical_text old files → IsPlainFile file → AddsText old new (canonical_text file) place
+        → IsFirstPlace AreSameFiles (files ++ file ∷ []) file place }
+    ensures unsearched { (old new : TextIndex) (files : List PlainFile) (file : PlainFile) (place : ℕ)
+        → IsIndexOf unsearched_text old files → IsPlainFile file → AddsText old new (unsearched_text file) place
+        → IsFirstPlace AreAlike (files ++ file ∷ []) file place }
+{}
+
+/// Files have one unsearched text exactly if they are alike.
+pub fn alike_files_have_one_unsearched_text()
+    ensures { (f g : PlainFile) → IsPlainFile f → IsPlainFile g → (unsearched_text f ≡ unsearched_text g ↔ AreAlike f g) }
+{}
+
+/// Files that are alike are the same auction.
+pub fn alike_files_are_the_same_auction()
+    ensures { (f g : PlainFile) → IsPlainFile f → IsPlainFile g → AreAlike f g → AreSameFiles f g }
+{}
+
+/// Files with the same bids, in any order and any of them more than once, are alike.
+pub fn files_with_the_same_bids_are_alike()
+    ensures bids { (f g : PlainFile) → f.goods ≡ g.goods → f.dummy ≡ g.dummy
+        → ((bid : PlainBid) → (Contains f.bids bid ↔ Contains g.bids bid)) → AreAlike f g }
+    ensures order { (f g : PlainFile) → f.goods ≡ g.goods → f.dummy ≡ g.dummy → IsPermutation f.bids g.bids
+        → AreAlike f g }
+{}
+
+/// A file is alike with its dummy goods exchanged for one another.
+pub fn files_with_dummy_goods_exchanged_are_alike()
+    ensures { (f : PlainFile) (dummies : List ℕ) → IsPlainFile f → IsPermutation (range_with_len 0 f.dummy) dummies
+        → AreAlike f (with_dummies dummies f) }
+{}
+
+/// To be alike is an equivalence.
+pub fn alikeness_is_an_equivalence()
+    ensures reflexive { (f : PlainFile) → AreAlike f f }
+    ensures symmetric { (f g : PlainFile) → AreAlike f g → AreAlike g f }
+    ensures transitive { (f g h : PlainFile) → AreAlike f g → AreAlike g h → AreAlike f h }
 {}
 
 /// Two auctions have no difference exactly where they are the same auction.
@@ -160,5 +200,5 @@ pub fn difference_is_the_least_bidder()
 /// The first file that has the canonical text of a file is the first that is the same auction.
 pub fn first_place_by_text()
     ensures { (files : List PlainFile) (given : PlainFile) (place : ℕ) → All IsPlainFile files → IsPlainFile given
-        → first_place files given ≡ Some place → IsFirstPlace files given place }
+        → first_place files given ≡ Some place → IsFirstPlace AreSameFiles files given place }
 {}

@@ -2,7 +2,8 @@
 
 ghost use Rattle.std.specs.Prelude.{◌≡◌, [], ◌∷◌, Some, None, codes};
 ghost use Rattle.valuation.specs.Examples.{atom};
-ghost use Rattle.canon.specs.Canonical.{canonical_auction, file_from};
+ghost use Rattle.canon.specs.Canonical.{canonical_auction, canonical_text, file_from};
+ghost use Rattle.canon.specs.Unsearched.{AreAlike, unsearched_auction};
 ghost use Rattle.canon.specs.Examples.{auction};
 ghost use Rattle.canon.specs.Difference.{first_difference, NoDifference, InGoods, InOr, InXor};
 ghost use Rattle.canon.specs.Verdicts.{NamesGoods};
@@ -26,6 +27,34 @@ pub fn canonical_auctions()
     ensures bidders_sorted { canonical_auction
         (auction 2 [] ((atom (0 ∷ []) 2 ∷ atom (1 ∷ []) 1 ∷ []) ∷ (atom (0 ∷ []) 1 ∷ atom (1 ∷ []) 2 ∷ []) ∷ []))
         ≡ auction 2 [] ((atom (0 ∷ []) 1 ∷ atom (1 ∷ []) 2 ∷ []) ∷ (atom (0 ∷ []) 2 ∷ atom (1 ∷ []) 1 ∷ []) ∷ []) }
+{}
+
+/// The unsearched auction: OR bids that a single bid replaces go, others of value nothing stay, and bidders are canonical.
+#[tactic(auto, unfolding(prune::specs::Points::points_where, prune::specs::Points::is_xor_point, prune::specs::Points::is_or_point, valuation::specs::Values::xor_value, valuation::specs::Values::or_value))]
+pub fn unsearched_auctions()
+    ensures two_bids_replace_none { unsearched_auction
+        (auction 2 (atom (0 ∷ 1 ∷ []) 7 ∷ atom (1 ∷ []) 4 ∷ atom (0 ∷ []) 3 ∷ []) [])
+        ≡ auction 2 (atom (0 ∷ []) 3 ∷ atom (1 ∷ []) 4 ∷ atom (0 ∷ 1 ∷ []) 7 ∷ []) [] }
+    ensures one_bid_replaces { unsearched_auction
+        (auction 2 (atom (0 ∷ 1 ∷ []) 4 ∷ atom (1 ∷ []) 4 ∷ atom (1 ∷ []) 2 ∷ atom (0 ∷ []) 0 ∷ []) [])
+        ≡ auction 2 (atom (1 ∷ []) 4 ∷ []) [] }
+    ensures bidders_sorted { unsearched_auction
+        (auction 2 [] ((atom (0 ∷ []) 2 ∷ atom (1 ∷ []) 1 ∷ []) ∷ [] ∷ (atom (1 ∷ []) 2 ∷ atom (0 ∷ []) 1 ∷ []) ∷ []))
+        ≡ auction 2 [] ((atom (0 ∷ []) 1 ∷ atom (1 ∷ []) 2 ∷ []) ∷ (atom (0 ∷ []) 2 ∷ atom (1 ∷ []) 1 ∷ []) ∷ []) }
+{}
+
+/// Files that are alike, and files of the same auction that are not.
+#[tactic(auto, unfolding(prune::specs::Points::points_where, prune::specs::Points::is_xor_point, prune::specs::Points::is_or_point, valuation::specs::Values::xor_value, valuation::specs::Values::or_value))]
+pub fn alike_files()
+    ensures other_order { AreAlike
+        (file_from (auction 2 (atom (0 ∷ []) 3 ∷ atom (0 ∷ 1 ∷ []) 9 ∷ []) ((atom (0 ∷ []) 2 ∷ []) ∷ (atom (1 ∷ []) 1 ∷ []) ∷
+        [])))
+        (file_from (auction 2 (atom (0 ∷ 1 ∷ []) 9 ∷ atom (0 ∷ []) 3 ∷ []) ((atom (1 ∷ []) 1 ∷ []) ∷ (atom (0 ∷ []) 2 ∷ []) ∷
+        []))) }
+    ensures two_bids_for_one { AreAlike
+        (file_from (auction 2 (atom (0 ∷ []) 3 ∷ atom (1 ∷ []) 4 ∷ []) []))
+        (file_from (auction 2 (atom (0 ∷ []) 3 ∷ atom (1 ∷ []) 4 ∷ atom (0 ∷ 1 ∷ []) 7 ∷ []) [])) → ⊥ }
+    ensures goods { AreAlike (file_from (auction 1 [] [])) (file_from (auction 2 [] [])) → ⊥ }
 {}
 
 /// The first difference. Goods come before values, the first bundle before later ones, and the OR bidder before XOR
@@ -93,6 +122,7 @@ pub fn added_texts()
     ensures counted { AddsText (record { texts = []; count = 2 }) (record { texts = (codes "a", 2) ∷ []; count = 2 })
         (codes "a") 2 → ⊥ }
     ensures none { IsEmptyIndex (record { texts = []; count = 0 }) }
-    ensures of_none { IsIndexOf (record { texts = []; count = 0 }) [] }
-    ensures one_less { IsIndexOf (record { texts = []; count = 0 }) (file_from (auction 1 [] []) ∷ []) → ⊥ }
+    ensures of_none { IsIndexOf canonical_text (record { texts = []; count = 0 }) [] }
+    ensures one_less { IsIndexOf canonical_text (record { texts = []; count = 0 })
+        (file_from (auction 1 [] []) ∷ []) → ⊥ }
 {}

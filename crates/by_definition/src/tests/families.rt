@@ -224,7 +224,7 @@ fn expect_place(
 ) -> Result<(), Fail> {
     let expected = first_same(alloc, members, member)?;
     let file = read_packed(alloc, member.text.as_bytes())?;
-    let place = index.add(alloc, file, SearchOptions::plain(AMPLE))?;
+    let place = index.add(alloc, &file, SearchOptions::plain(AMPLE))?;
     assert_eq!(rt; place, expected);
     Ok(())
 }

@@ -58,7 +58,7 @@ canonical_is_same a h = record {
 }
 
 -- the canonical bidders, over the same number of goods
-same_bidders : (goods : ℕ) (one other : List (List (Atom (List ℕ)))) → All (All (IsAtom goods)) one → All (All (IsAtom goods)) other
+pub same_bidders : (goods : ℕ) (one other : List (List (Atom (List ℕ)))) → All (All (IsAtom goods)) one → All (All (IsAtom goods)) other
     → ((table : List ℕ) → is_nonzero table ≡ true → count_by (has_table goods table) one ≡ count_by (has_table goods table) other)
     → sort_by bidder_cmp (points_of_bidders goods one) ≡ sort_by bidder_cmp (points_of_bidders goods other)
 same_bidders goods one other h k same =

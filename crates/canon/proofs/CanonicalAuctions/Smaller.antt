@@ -21,7 +21,8 @@ use Rattle.prune.specs.Lemmas.Points.{points_where-in_order}
 use Rattle.prune.specs.Points.{or_points, xor_points, is_or_point, is_xor_point}
 use Rattle.valuation.specs.Values.{or_value, xor_value}
 use Rattle.canon.specs.Canonical.{canonical_auction, points_of_bidders}
-use Rattle.canon.proofs.CanonicalAuctions.Atoms.{HasAtoms}
+use Rattle.canon.specs.Unsearched.{unsearched_auction}
+use Rattle.canon.proofs.CanonicalAuctions.Atoms.{HasAtoms, xor_points_atoms}
 use Rattle.canon.proofs.CanonicalAuctions.Counting.{points_more, points_without}
 use Rattle.canon.proofs.CanonicalAuctions.Sames.{HasAtoms-auction, HasAtoms-canonical}
 
@@ -84,12 +85,18 @@ no_more_canonical_bidders a h =
     let all : sum_by one a.xor_bidders ≡ length a.xor_bidders = count_is_length a.xor_bidders in
     omega arith
 
+-- no more atoms of them
+no_more_xor_atoms : (a : PlainAuction) → HasAtoms a → sum_by length (canonical_auction a).xor_bidders ≤ sum_by length a.xor_bidders
+no_more_xor_atoms a h =
+    let same = sum_by-sort_by bidder_cmp (length {A = Atom (List ℕ)}) (points_of_bidders a.goods a.xor_bidders) in
+    let fewer = no_more_bidders a.goods length (λ b k. length-xor_points a.goods b k) a.xor_bidders h.xor_atoms in
+    omega arith
+
 -- and no more atoms
 pub no_more_canonical_atoms : (a : PlainAuction) → HasAtoms a → length (canonical_auction a).or_atoms + sum_by length (canonical_auction a).xor_bidders
     ≤ length a.or_atoms + sum_by length a.xor_bidders
 no_more_canonical_atoms a h =
-    let same = sum_by-sort_by bidder_cmp (length {A = Atom (List ℕ)}) (points_of_bidders a.goods a.xor_bidders) in
-    let fewer = no_more_bidders a.goods length (λ b k. length-xor_points a.goods b k) a.xor_bidders h.xor_atoms in
+    let fewer = no_more_xor_atoms a h in
     let ors = length-or_points a.goods a.or_atoms h.or_atoms in
     omega arith
 
@@ -104,4 +111,17 @@ IsAuction-canonical cap a h =
       xor_atoms = atoms.xor_atoms;
       bidders = omega (arith, h.bidders, no_more_canonical_bidders a given);
       atoms = omega (arith, h.atoms, no_more_canonical_atoms a given);
+    }
+
+-- nor has the unsearched one
+pub IsAuction-unsearched : (cap : ℕ) (a : PlainAuction) → IsAuction cap a → IsAuction cap (unsearched_auction a)
+IsAuction-unsearched cap a h =
+    let given = HasAtoms-auction cap a h in
+    record {
+      goods = h.goods;
+      fits = h.fits;
+      or_atoms = xor_points_atoms a.goods a.or_atoms h.or_atoms;
+      xor_atoms = (HasAtoms-canonical a given).xor_atoms;
+      bidders = omega (arith, h.bidders, no_more_canonical_bidders a given);
+      atoms = omega (arith, h.atoms, no_more_xor_atoms a given, length-xor_points a.goods a.or_atoms h.or_atoms);
     }

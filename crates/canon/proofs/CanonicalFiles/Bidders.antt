@@ -23,12 +23,13 @@ use Rattle.prune.specs.Fates.{or_fates, plain_fate, xor_fates}
 use Rattle.prune.specs.Lemmas.Lists.{Contains-head, zero_or_more}
 use Rattle.prune.specs.Points.{xor_points, or_points}
 use Rattle.prune.specs.SearchSteps.{first_refused}
-use Rattle.canon.specs.Canonical.{canonical_auction}
+use Rattle.canon.specs.Canonical.{canonical_auction, canonical_bidders}
+use Rattle.canon.specs.Unsearched.{unsearched_auction}
 use Rattle.canon.specs.declared.explained.BidderFates.{BidderFates}
 use Rattle.canon.specs.Internal.Fates.{AreFates}
 use Rattle.canon.specs.Internal.KeyedBidders.{NumberedBidder, numbered_points, numbered_cmp, kept_numbers}
 use Rattle.canon.specs.Lemmas.Renaming.{map-sorted}
-use Rattle.canon.proofs.CanonicalFiles.Numbering.{numbered_cmp_total, numbered_cmp_equal, points_push, points_skip, atoms_in_order}
+use Rattle.canon.proofs.CanonicalFiles.Numbering.{numbered_cmp_total, numbered_cmp_equal, points_push, points_skip}
 
 -- atoms over fewer goods are atoms over more
 pub atoms_within : (fewer more : ℕ) (atoms : List (Atom (List ℕ))) → fewer ≤ more → All (IsAtom fewer) atoms → All (IsAtom more) atoms
@@ -166,25 +167,27 @@ module _ (cap : ℕ) (a : PlainAuction) (facts : IsAuction cap a) (n : ℕ) (ors
   xor_part = bidders_within n MAX_GOODS xors made.goods made.xor_atoms
 
   -- the parts of the canonical auction
-  pub canonical_parts : (points : List (Atom (List ℕ))) (unsorted : List NumberedBidder) (sorted : List (List (Atom (List ℕ))))
-      → ((m : ℕ) → All (IsAtom m) ors → points ≡ or_points m ors) → ((m : ℕ) → All (All (IsAtom m)) xors → unsorted ≡ numbered_points m xors)
-      → sorted ≡ map (λ b. b.atoms) (sort_by numbered_cmp unsorted)
-      → ◌≡◌ {A = PlainAuction} (record { goods = n; or_atoms = points; xor_bidders = sorted }) (canonical_auction a)
-  canonical_parts points unsorted sorted h k e =
-      ap₂ (λ (or_atoms : List (Atom (List ℕ))) (xor_bidders : List (List (Atom (List ℕ)))). record {
-        goods = n;
-        or_atoms = or_atoms;
-        xor_bidders = xor_bidders;
-      })
-      (h n made.or_atoms) (e ∙ ap (λ (bs : List NumberedBidder). map (λ b. b.atoms) (sort_by numbered_cmp bs)) (k n made.xor_atoms)
-      ∙ atoms_in_order n xors)
-      ∙ ap canonical_auction (sym parts)
+  module _ (bids : List (Atom (List ℕ))) (bidders : List (List (Atom (List ℕ))))
+      (k : (m : ℕ) → All (All (IsAtom m)) xors → bidders ≡ canonical_bidders m xors) where
+    pub canonical_parts : ((m : ℕ) → All (IsAtom m) ors → bids ≡ or_points m ors)
+        → ◌≡◌ {A = PlainAuction} (record { goods = n; or_atoms = bids; xor_bidders = bidders }) (canonical_auction a)
+    canonical_parts h =
+        ap₂ (λ (os : List (Atom (List ℕ))) (xs : List (List (Atom (List ℕ)))). record { goods = n; or_atoms = os; xor_bidders = xs }) (h n made.or_atoms)
+        (k n made.xor_atoms)
+        ∙ ap canonical_auction (sym parts)
+
+    -- and those of the unsearched one
+    pub unsearched_parts : ((m : ℕ) → All (IsAtom m) ors → bids ≡ xor_points m ors)
+        → ◌≡◌ {A = PlainAuction} (record { goods = n; or_atoms = bids; xor_bidders = bidders }) (unsearched_auction a)
+    unsearched_parts h =
+        ap₂ (λ (os : List (Atom (List ℕ))) (xs : List (List (Atom (List ℕ)))). record { goods = n; or_atoms = os; xor_bidders = xs }) (h n made.or_atoms)
+        (k n made.xor_atoms)
+        ∙ ap unsearched_auction (sym parts)
 
   -- the numbers of its bidders
-  pub number_parts : (unsorted : List NumberedBidder) (numbers : List ℕ) → ((m : ℕ) → All (All (IsAtom m)) xors → unsorted ≡ numbered_points m xors)
-      → numbers ≡ map (λ b. b.number) (sort_by numbered_cmp unsorted) → numbers ≡ kept_numbers a
-  number_parts unsorted numbers k e =
-      e ∙ ap (λ (bs : List NumberedBidder). map (λ b. b.number) (sort_by numbered_cmp bs)) (k n made.xor_atoms) ∙ ap kept_numbers (sym parts)
+  pub number_parts : (numbers : List ℕ)
+      → ((m : ℕ) → All (All (IsAtom m)) xors → numbers ≡ map (λ b. b.number) (sort_by numbered_cmp (numbered_points m xors))) → numbers ≡ kept_numbers a
+  number_parts numbers k = k n made.xor_atoms ∙ ap kept_numbers (sym parts)
 
   pub fates_parts : (kind : SearchKind) (fates : BidderFates) → ((m : ℕ) → All (IsAtom m) ors → map plain_fate fates.or.items ≡ or_fates kind m ors)
       → ((m : ℕ) → All (All (IsAtom m)) xors → map (λ v. v.items) fates.xor.items ≡ map (xor_fates m) xors) → AreFates kind a fates

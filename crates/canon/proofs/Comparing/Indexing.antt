@@ -1,9 +1,9 @@
--- One more file in an index. Files have one text exactly where they are the same auction, so the first file with a text, which is the
--- one that the map has for it, is the first of its auction.
+-- One more file in an index. Files have one text exactly where they are related, as those of one auction are, so the first file with a
+-- text, which is the one that the map has for it, is the first of those.
 use Rattle.std.proofs.Common.{◌≡◌, ◌⊎◌, ℕ, zero, suc, ◌+◌, ◌<◌, Bool, true, false, cond, unwrap_or, bytes_eq, List, [], ◌∷◌, ◌++◌, length, get_or, map, All}
 use Rattle.std.proofs.Common.{Option}
 use Rattle.std.proofs.Common.{Some, None, slice_get, refl, sym, ap, ◌∙◌, subst, inl, inr, ⊎_elim, arith, length-append, Global}
-use Rattle.std.specs.Prelude.{Vec, Result, Ok, Err, IfOk, IfErr, OnOk, OnErr, IsErrAnd}
+use Rattle.std.specs.Prelude.{◌↔◌, Vec, Result, Ok, Err, IfOk, IfErr, OnOk, OnErr, IsErrAnd}
 use Rattle.std.specs.Io.KnownBytes.{Consumes}
 use Rattle.std.specs.BTreeMap.{BTreeMap, UpdatesBy}
 use Rattle.std.specs.Cmp.Lexicographic.{bytes_decides, slice_cmp}
@@ -24,6 +24,7 @@ use Rattle.canon.specs.Canonical.{canonical_text}
 use Rattle.canon.specs.FirstPlaces.{AddsStream, AddsText, IsEmptyIndex, IsFirstPlace, IsFirstText, IsIndexOf, LacksText, PlacesText, TextIndex, first_place}
 use Rattle.canon.specs.FirstPlaces.{text_place}
 use Rattle.canon.specs.Normalising.{IsText, normalised_file}
+use Rattle.canon.specs.Sameness.{AreSameFiles}
 use Rattle.canon.specs.declared.canon_fault.CanonFault.{CanonFault}
 use Rattle.canon.specs.Internal.TextPlaces.{place_of}
 use Rattle.canon.proofs.CanonicalFiles.Texts.{same_text, same_from_text}
@@ -55,12 +56,12 @@ pushed_earlier xs y x k l at =
 
 -- ---- texts
 
-module _ (files : List PlainFile) (f : PlainFile) where
+module _ (text_of : PlainFile → List ℕ) (files : List PlainFile) (f : PlainFile) where
   abbrev more : List PlainFile
   more = files ++ f ∷ []
 
   -- the file that was first stays it
-  stays_first : (text : List ℕ) (place : ℕ) → IsFirstText files text place → IsFirstText more text place
+  stays_first : (text : List ℕ) (place : ℕ) → IsFirstText text_of files text place → IsFirstText text_of more text place
   stays_first text place h = record {
     file = h.file;
     there = pushed_before files f h.file place h.there;
@@ -71,7 +72,7 @@ module _ (files : List PlainFile) (f : PlainFile) where
   }
 
   -- a text that no file had has its first file now
-  comes_first : LacksText files (canonical_text f) → IsFirstText more (canonical_text f) (length files)
+  comes_first : LacksText text_of files (text_of f) → IsFirstText text_of more (text_of f) (length files)
   comes_first h = record {
     file = f;
     there = pushed_last files f;
@@ -80,75 +81,82 @@ module _ (files : List PlainFile) (f : PlainFile) where
   }
 
   -- another text has the place that it had
-  stays_placed : (text : List ℕ) → bytes_eq (canonical_text f) text ≡ false → (o : Option ℕ) → PlacesText files text o → PlacesText more text o
+  stays_placed : (text : List ℕ) → bytes_eq (text_of f) text ≡ false → (o : Option ℕ) → PlacesText text_of files text o → PlacesText text_of more text o
   stays_placed text apart None h = λ k other at is.
       ⊎_elim
       (λ (e : slice_get files k ≡ Some other). h k other e is)
       (λ (e : (k ≡ length files) × (other ≡ f)).
-      let same : canonical_text f ≡ text = ap canonical_text (sym e.1) ∙ is in
-      let equal : bytes_eq (canonical_text f) text ≡ true = (bytes_decides (canonical_text f) text).1 same in
+      let same : text_of f ≡ text = ap text_of (sym e.1) ∙ is in
+      let equal : bytes_eq (text_of f) text ≡ true = (bytes_decides (text_of f) text).1 same in
       absurd (cc))
       (pushed files f other k at)
   stays_placed text apart (Some place) h = stays_first text place h
 
   -- the place that is answered
-  first_text : (o : Option ℕ) (count place : ℕ) → count ≡ length files → place ≡ unwrap_or o count → PlacesText files (canonical_text f) o
-      → IsFirstText more (canonical_text f) place
-  first_text None count place c e h = subst (λ (p : ℕ). IsFirstText more (canonical_text f) p) (sym (e ∙ c)) (comes_first h)
-  first_text (Some first) count place c e h = subst (λ (p : ℕ). IsFirstText more (canonical_text f) p) (sym e) (stays_first (canonical_text f) first h)
+  first_text : (o : Option ℕ) (count place : ℕ) → count ≡ length files → place ≡ unwrap_or o count → PlacesText text_of files (text_of f) o
+      → IsFirstText text_of more (text_of f) place
+  first_text None count place c e h = subst (λ (p : ℕ). IsFirstText text_of more (text_of f) p) (sym (e ∙ c)) (comes_first h)
+  first_text (Some first) count place c e h = subst (λ (p : ℕ). IsFirstText text_of more (text_of f) p) (sym e) (stays_first (text_of f) first h)
 
   all_plain : IsPlainFile f → ((k : ℕ) (g : PlainFile) → slice_get files k ≡ Some g → IsPlainFile g) → (k : ℕ) (g : PlainFile) → slice_get more k ≡ Some g
       → IsPlainFile g
   all_plain facts each k g at =
       ⊎_elim (λ (e : slice_get files k ≡ Some g). each k g e) (λ (e : (k ≡ length files) × (g ≡ f)). subst IsPlainFile (sym e.1) facts) (pushed files f g k at)
 
--- the first file with the text is the first of the auction
-first_of_auction : (files : List PlainFile) (f : PlainFile) (place : ℕ) → IsPlainFile f → ((k : ℕ) (g : PlainFile) → slice_get files k ≡ Some g → IsPlainFile g)
-    → IsFirstText files (canonical_text f) place → IsFirstPlace files f place
-first_of_auction files f place facts each h = record {
-  file = h.file;
-  there = h.there;
-  same = same_from_text h.file f (each place h.file h.there) facts h.has;
-  first = λ k other l at same. h.first k other l at (same_text other f (each k other at) facts same);
-}
+-- files have one text exactly where they are related
+abbrev pub TellsRelated : (PlainFile → List ℕ) → (PlainFile → PlainFile → Type 0) → Type 0
+TellsRelated text_of Related = (f g : PlainFile) → IsPlainFile f → IsPlainFile g → (text_of f ≡ text_of g ↔ Related f g)
+
+pub canonical_texts_tell : TellsRelated canonical_text AreSameFiles
+canonical_texts_tell f g h k = (same_from_text f g h k, same_text f g h k)
 
 -- ---- the index
 
 -- an index without a text is that of no files
-pub index_of_none : (index : TextIndex) → IsEmptyIndex index → IsIndexOf index []
-index_of_none index h = record {
+pub index_of_none : (text_of : PlainFile → List ℕ) (index : TextIndex) → IsEmptyIndex index → IsIndexOf text_of index []
+index_of_none text_of index h = record {
   facts = λ k file at. absurd (none-some file at);
-  texts = λ text. subst (λ (o : Option ℕ). PlacesText [] text o) (sym (ap (lookup (bytes_eq text)) h.texts)) (λ k other at is. absurd (none-some other at));
+  texts = λ text. subst (λ (o : Option ℕ). PlacesText text_of [] text o) (sym (ap (lookup (bytes_eq text)) h.texts))
+      (λ k other at is. absurd (none-some other at));
   count = h.count;
 }
 
-module _ (old new : TextIndex) (place : ℕ) (files : List PlainFile) (f : PlainFile) (facts : IsPlainFile f) (h : IsIndexOf old files)
-    (added : AddsText old new (canonical_text f) place) where
-  first : IsFirstText (files ++ f ∷ []) (canonical_text f) place
-  first = first_text files f (text_place old (canonical_text f)) old.count place h.count added.found (h.texts (canonical_text f))
+module _ (text_of : PlainFile → List ℕ) (old new : TextIndex) (place : ℕ) (files : List PlainFile) (f : PlainFile) (facts : IsPlainFile f)
+    (h : IsIndexOf text_of old files) (added : AddsText old new (text_of f) place) where
+  first : IsFirstText text_of (files ++ f ∷ []) (text_of f) place
+  first = first_text text_of files f (text_place old (text_of f)) old.count place h.count added.found (h.texts (text_of f))
 
-  put : (text : List ℕ) → bytes_eq (canonical_text f) text ≡ true → PlacesText (files ++ f ∷ []) text (text_place new text)
+  put : (text : List ℕ) → bytes_eq (text_of f) text ≡ true → PlacesText text_of (files ++ f ∷ []) text (text_place new text)
   put text equal =
-      let at : text_place new text ≡ Some place = added.places text ∙ cond-true (bytes_eq (canonical_text f) text) (Some place) (text_place old text) equal in
-      subst (λ (o : Option ℕ). PlacesText (files ++ f ∷ []) text o) (sym at)
-      (subst (λ (t : List ℕ). IsFirstText (files ++ f ∷ []) t place) ((bytes_decides (canonical_text f) text).0 equal) first)
+      let at : text_place new text ≡ Some place = added.places text ∙ cond-true (bytes_eq (text_of f) text) (Some place) (text_place old text) equal in
+      subst (λ (o : Option ℕ). PlacesText text_of (files ++ f ∷ []) text o) (sym at)
+      (subst (λ (t : List ℕ). IsFirstText text_of (files ++ f ∷ []) t place) ((bytes_decides (text_of f) text).0 equal) first)
 
-  kept : (text : List ℕ) → bytes_eq (canonical_text f) text ≡ false → PlacesText (files ++ f ∷ []) text (text_place new text)
+  kept : (text : List ℕ) → bytes_eq (text_of f) text ≡ false → PlacesText text_of (files ++ f ∷ []) text (text_place new text)
   kept text apart =
       let at : text_place new text ≡ text_place old text = added.places text
-      ∙ cond-false (bytes_eq (canonical_text f) text) (Some place) (text_place old text) apart in
-      subst (λ (o : Option ℕ). PlacesText (files ++ f ∷ []) text o) (sym at) (stays_placed files f text apart (text_place old text) (h.texts text))
+      ∙ cond-false (bytes_eq (text_of f) text) (Some place) (text_place old text) apart in
+      subst (λ (o : Option ℕ). PlacesText text_of (files ++ f ∷ []) text o) (sym at)
+      (stays_placed text_of files f text apart (text_place old text) (h.texts text))
 
   -- one more file
-  pub index_of_more : IsIndexOf new (files ++ f ∷ [])
+  pub index_of_more : IsIndexOf text_of new (files ++ f ∷ [])
   index_of_more = record {
-    facts = all_plain files f facts h.facts;
-    texts = λ text. ⊎_elim (put text) (kept text) (cases_Bool (bytes_eq (canonical_text f) text));
+    facts = all_plain text_of files f facts h.facts;
+    texts = λ text. ⊎_elim (put text) (kept text) (cases_Bool (bytes_eq (text_of f) text));
     count = omega (arith, length-append files (f ∷ []), h.count, added.count);
   }
 
-  pub place_of_more : IsFirstPlace (files ++ f ∷ []) f place
-  place_of_more = first_of_auction (files ++ f ∷ []) f place facts (all_plain files f facts h.facts) first
+  -- the first file with the text is the first that is related
+  pub place_of_more : (Related : PlainFile → PlainFile → Type 0) → TellsRelated text_of Related → IsFirstPlace Related (files ++ f ∷ []) f place
+  place_of_more Related tells =
+      let each = all_plain text_of files f facts h.facts in
+      record {
+        file = first.file;
+        there = first.there;
+        related = (tells first.file f (each place first.file first.there) facts).0 first.has;
+        first = λ k other l at related. first.first k other l at ((tells other f (each k other at) facts).1 related);
+      }
 
 -- ---- the map
 
@@ -254,26 +262,26 @@ stream_unread remaining options index before after bytes why consumes reads (Err
 -- ---- later files
 
 -- the first file of an auction stays it
-pub first_place_stays : (files : List PlainFile) (more given : PlainFile) (place : ℕ) → IsFirstPlace files given place
-    → IsFirstPlace (files ++ more ∷ []) given place
-first_place_stays files more given place h = record {
+pub first_place_stays : (Related : PlainFile → PlainFile → Type 0) (files : List PlainFile) (more given : PlainFile) (place : ℕ)
+    → IsFirstPlace Related files given place → IsFirstPlace Related (files ++ more ∷ []) given place
+first_place_stays Related files more given place h = record {
   file = h.file;
   there = pushed_before files more h.file place h.there;
-  same = h.same;
-  first = λ k other l at same.
+  related = h.related;
+  first = λ k other l at related.
       let within = slice_get_within files place h.file h.there in
-      h.first k other l (pushed_earlier files more other k (omega arith) at) same;
+      h.first k other l (pushed_earlier files more other k (omega arith) at) related;
 }
 
 -- the first file with the text of a file
 pub first_place_is : (files : List PlainFile) (given : PlainFile) (place : ℕ) → All IsPlainFile files → IsPlainFile given → first_place files given ≡ Some place
-    → IsFirstPlace files given place
+    → IsFirstPlace AreSameFiles files given place
 first_place_is files given place each facts e =
     let found = position-Some (λ file. bytes_eq (canonical_text file) (canonical_text given)) files place given e in
     record {
       file = get_or files place given;
       there = slice_get-get_or files place given found.0;
-      same = same_from_text (get_or files place given) given (each place given found.0) facts
+      related = same_from_text (get_or files place given) given (each place given found.0) facts
           ((bytes_decides (canonical_text (get_or files place given)) (canonical_text given)).0 found.1);
       first = λ k other l at same.
           let is : get_or files k given ≡ other = get_or_from_slice_get files k other given at in

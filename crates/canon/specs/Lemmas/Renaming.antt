@@ -84,7 +84,7 @@ has_value f d = is_nonzero (xor_table (xor_atoms_of f.bids d) f.goods)
 abbrev pub nonzero_dummies : PlainFile → List ℕ
 nonzero_dummies f = filter (has_value f) (range_with_len 0 f.dummy)
 
-points_of_nonzero : (f : PlainFile) → points_of_bidders f.goods (auction_from f).xor_bidders ≡ map (points_of_dummy f) (nonzero_dummies f)
+pub points_of_nonzero : (f : PlainFile) → points_of_bidders f.goods (auction_from f).xor_bidders ≡ map (points_of_dummy f) (nonzero_dummies f)
 points_of_nonzero f =
     ap (map (xor_points f.goods)) (filter-map (λ bidder. is_nonzero (xor_table bidder f.goods)) (xor_atoms_of f.bids) (range_with_len 0 f.dummy))
     ∙ map-map (xor_points f.goods) (xor_atoms_of f.bids) (nonzero_dummies f)
@@ -111,7 +111,7 @@ kept_dummies-has f d l e =
 
 -- ---- none is there twice
 
-range_differs : (n : ℕ) → AllPairs (λ d e. d ≢ e) (range_with_len 0 n)
+pub range_differs : (n : ℕ) → AllPairs (λ d e. d ≢ e) (range_with_len 0 n)
 range_differs n i j d l m e =
     let within : j < n = subst (λ k. j < k) (length-range_with_len 0 n) m in
     let one : get_or (range_with_len 0 n) i d ≡ 0 + i = get_or-range_with_len 0 n i d (omega arith) in
@@ -119,7 +119,7 @@ range_differs n i j d l m e =
     let same : get_or (range_with_len 0 n) i d ≡ get_or (range_with_len 0 n) j d = e in
     absurd (omega arith)
 
-eqb_flips : (x y : ℕ) → eqb x y ≡ eqb y x
+pub eqb_flips : (x y : ℕ) → eqb x y ≡ eqb y x
 eqb_flips x y = both_ways (eqb x y) (eqb y x) (λ t. eq-eqb y x (sym (eqb-true x y t))) (λ t. eq-eqb x y (sym (eqb-true y x t)))
 
 pub kept_dummies-differ : (f : PlainFile) → AllPairs (λ d e. d ≢ e) (kept_dummies f)

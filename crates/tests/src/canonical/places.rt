@@ -62,6 +62,37 @@ static ROWS: [(&str, u64, &str); 14] = [
     ),
 ];
 
+/// Texts that are added in this order by what needs no search, and the places that are printed.
+static UNSEARCHED: [(&str, &str); 8] = [
+    (
+        "goods 2\nbids 3\ndummy 0\n0\t3\t0\t#\n1\t4\t1\t#\n2\t7\t0\t1\t#\n",
+        "0",
+    ),
+    // another order, and a bid that a single one replaces
+    (
+        "goods 2\nbids 4\ndummy 0\n0\t7\t0\t1\t#\n1\t4\t1\t#\n2\t3\t0\t#\n3\t2\t1\t#\n",
+        "0",
+    ),
+    // the same auction, by a search alone
+    ("goods 2\nbids 2\ndummy 0\n0\t4\t1\t#\n1\t3\t0\t#\n", "2"),
+    // bidders with their dummy goods exchanged, and one changed
+    (
+        "goods 2\nbids 2\ndummy 2\n0\t1\t0\t2\t#\n1\t2\t1\t3\t#\n",
+        "3",
+    ),
+    (
+        "goods 2\nbids 2\ndummy 2\n0\t2\t1\t2\t#\n1\t1\t0\t3\t#\n",
+        "3",
+    ),
+    (
+        "goods 2\nbids 2\ndummy 2\n0\t2\t1\t2\t#\n1\t2\t0\t3\t#\n",
+        "5",
+    ),
+    // the number of goods changed
+    ("goods 3\nbids 2\ndummy 0\n0\t4\t1\t#\n1\t3\t0\t#\n", "6"),
+    ("goods 2\n", "line 2: Missing"),
+];
+
 fn place_text(alloc: Global, place: usize) -> Result<String, AllocError> {
     Ok(format!(in alloc; "{place}")?)
 }
@@ -84,7 +115,7 @@ fn places_of_files(rt: HostRuntime) -> Result<(), Fail> {
     let mut index = AuctionIndex::new(rt.alloc());
     for (text, limit, expected) in &ROWS {
         let answer = match read_packed(rt.alloc(), text.as_bytes()) {
-            Ok(file) => index.add(rt.alloc(), file, SearchOptions::plain(*limit)),
+            Ok(file) => index.add(rt.alloc(), &file, SearchOptions::plain(*limit)),
             Err(fault) => Err(CanonFault::from(fault)),
         };
         expect_place(&rt, &printed(rt.alloc(), answer)?, expected, text);
@@ -98,6 +129,19 @@ fn places_of_streams(rt: HostRuntime) -> Result<(), Fail> {
     for (text, limit, expected) in &ROWS {
         let mut input = Watched::new(text.as_bytes());
         let answer = index.add_from(rt.alloc(), &mut input, SearchOptions::plain(*limit));
+        expect_place(&rt, &printed(rt.alloc(), answer)?, expected, text);
+    }
+    Ok(())
+}
+
+#[test]
+fn places_without_search(rt: HostRuntime) -> Result<(), Fail> {
+    let mut index = AuctionIndex::new(rt.alloc());
+    for (text, expected) in &UNSEARCHED {
+        let answer = match read_packed(rt.alloc(), text.as_bytes()) {
+            Ok(file) => Ok(index.add_unsearched(rt.alloc(), &file)?),
+            Err(fault) => Err(CanonFault::from(fault)),
+        };
         expect_place(&rt, &printed(rt.alloc(), answer)?, expected, text);
     }
     Ok(())

@@ -8,11 +8,11 @@ use Rattle.canon.proofs.auction_index.AuctionIndex.add.Goals as goal
 
 pub returns-clause-added : goal.returns-clause-added
 returns-clause-added c =
-    let made = text_of_normal c.args.options c.args.file c.in_ok-normal.normal c.in_ok-normal.ensures.answer _ c.in_ok-text.ensures.layout in
-    let is = (text_of_file c.args.options c.args.file c.in_ok-text.text.items made).1 in
+    let made = text_of_normal c.args.options c.args.file.now c.in_ok-normal.normal.file c.in_ok-normal.ensures.answer _ c.in_ok-text.ensures.layout in
+    let is = (text_of_file c.args.options c.args.file.now c.in_ok-text.text.items made).1 in
     let counted : c.in-Some.count ≡ c.self.inside.count + 1 = grind (arith, c.in-Some.is, c.in-Some.ensures) in
     subst
-    (λ (old : TextIndex). AddsText old (record { texts = seen_texts c.place_text.new.places.entries; count = c.in-Some.count }) (canonical_text c.args.file)
+    (λ (old : TextIndex). AddsText old (record { texts = seen_texts c.place_text.new.places.entries; count = c.in-Some.count }) (canonical_text c.args.file.now)
     c.in_ok-place.place)
     c.self.view_is
     (added_text c.self.inside.places.entries c.place_text.new.places.entries c.self.inside.count c.in-Some.count c.in_ok-text.text.items _ c.in_ok-place.place

@@ -1,0 +1,181 @@
+-- Alike files. The idea: OR values depend on the bids that no single bid replaces alone, since any other may be taken for one inside its
+-- bundle with at least its price; and what needs no search depends on the XOR values of the bids alone, which neither their order nor their
+-- repetition changes.
+use Rattle.std.proofs.Common.{◌≡◌, ℕ, ◌<◌, ◌≤◌, List, length, map, Bool, refl, sym, ap, ap₂, ◌∙◌, subst, arith, le_antisymm, le_refl, is_none}
+use Rattle.std.specs.Prelude.{All, Contains, ◌↔◌}
+use Rattle.std.specs.List.{filter, range_with_len}
+use Rattle.std.proofs.lemmas.List.Elements.{All-contains, All-weaker}
+use Rattle.bid_file.specs.Files.{PlainBid, PlainFile, IsPlainFile}
+use Rattle.cats_text.specs.Grammar.{Spells}
+use Rattle.cats_text.specs.Layout.{layout}
+use Rattle.cats_text.proofs.Writing.Spells as laid_out
+use Rattle.cats_text.proofs.Spelling.Files.{spells_one}
+use Rattle.goods_set.specs.Bundles.{all_bundles, IsBundle, IsInside}
+use Rattle.goods_set.specs.Lemmas.Members.{inside_refl}
+use Rattle.valuation.specs.declared.atom.Atom.{Atom}
+use Rattle.valuation.specs.Auctions.{IsAtom, PlainAuction, atom_of, auction_from, is_dummy, xor_atoms_of}
+use Rattle.valuation.specs.Lemmas.AuctionsOfFiles.{IsAuction-auction_from}
+use Rattle.valuation.specs.Lemmas.Lists.{Contains-map, Contains-unmap}
+use Rattle.valuation.specs.Lemmas.OrValues.{or_value-price}
+use Rattle.valuation.specs.Orders.{bidder_cmp}
+use Rattle.valuation.specs.Sorting.{sort_by}
+use Rattle.valuation.specs.Tables.{xor_table, is_nonzero}
+use Rattle.valuation.specs.Values.{or_value, xor_value}
+use Rattle.prune.specs.Lemmas.KeptBids.{just_bundles, on_bundles, xor_points_are_atoms, xor_points_keep_values, xor_points_same}
+use Rattle.prune.specs.Lemmas.Lists.{All-from_Contains, Contains-filter, Contains-filter_parts, filter_same_on, map_same_on}
+use Rattle.prune.specs.Lemmas.Values.{or_value-dominated, xor_value-bound, xor_value-member}
+use Rattle.prune.specs.Points.{xor_points}
+use Rattle.canon.specs.Canonical.{file_from, points_of_bidders}
+use Rattle.canon.specs.Lemmas.Renaming.{has_value, nonzero_dummies, points_of_nonzero}
+use Rattle.canon.specs.Renaming.{points_of_dummy}
+use Rattle.canon.specs.Sameness.{AreSameFiles, IsSameAuction}
+use Rattle.canon.specs.Unsearched.{AreAlike, AreAlikeAuctions, unsearched_auction, unsearched_file, unsearched_text}
+use Rattle.canon.proofs.CanonicalAuctions.Atoms.{HasAtoms, xor_points_atoms}
+use Rattle.canon.proofs.CanonicalAuctions.Sames.{canonical_is_same, same_sym, same_trans}
+use Rattle.canon.proofs.CanonicalAuctions.Smaller.{IsAuction-unsearched}
+use Rattle.canon.proofs.CanonicalFiles.Files.{auction_from-file_from, IsPlainFile-file_from}
+use Rattle.canon.proofs.CanonicalFiles.Texts.{HasAtoms-file}
+
+-- ---- OR values without the bids that single bids replace
+
+some_goods : (goods : ℕ) (atoms : List (Atom (List ℕ))) → All (IsAtom goods) atoms → All (λ a. 0 < length a.bundle) atoms
+some_goods goods atoms h = All-weaker (IsAtom goods) (λ a. 0 < length a.bundle) (λ a i. i.nonempty) atoms h
+
+-- a packing reaches what one bid reaches
+xor_below_or : (atoms : List (Atom (List ℕ))) (bundle : List ℕ) → xor_value atoms bundle ≤ or_value atoms bundle
+xor_below_or atoms bundle =
+    xor_value-bound atoms bundle (or_value atoms bundle) (All-from_Contains (λ a. IsInside a.bundle bundle → a.price ≤ or_value atoms bundle) atoms
+    (λ a c i. or_value-price atoms a c bundle i))
+
+module _ (goods : ℕ) (atoms : List (Atom (List ℕ))) (h : All (IsAtom goods) atoms) where
+  abbrev points : List (Atom (List ℕ))
+  points = xor_points goods atoms
+
+  each_reached : (a : Atom (List ℕ)) → Contains atoms a → a.price ≤ or_value points a.bundle
+  each_reached a c =
+      let on = just_bundles goods atoms (on_bundles goods atoms h) in
+      let bundle : IsBundle goods a.bundle = (All-contains (IsAtom goods) atoms a h c).bundle in
+      let same : xor_value points a.bundle ≡ xor_value atoms a.bundle = xor_points_keep_values goods atoms on a.bundle bundle in
+      let low : a.price ≤ xor_value atoms a.bundle = xor_value-member atoms a c a.bundle (inside_refl a.bundle) in
+      let high : xor_value points a.bundle ≤ or_value points a.bundle = xor_below_or points a.bundle in
+      omega arith
+
+  kept_values : (bundle : List ℕ) → or_value atoms bundle ≡ or_value points bundle
+  kept_values bundle =
+      let on = just_bundles goods atoms (on_bundles goods atoms h) in
+      le_antisymm
+      (or_value-dominated points (some_goods goods points (xor_points_atoms goods atoms h)) atoms
+      (All-from_Contains (λ a. a.price ≤ or_value points a.bundle) atoms each_reached) bundle)
+      (or_value-dominated atoms (some_goods goods atoms h) points
+      (All-weaker (Contains atoms) (λ a. a.price ≤ or_value atoms a.bundle)
+      (λ a c. or_value-price atoms a c a.bundle (inside_refl a.bundle)) points (xor_points_are_atoms goods atoms on)) bundle)
+
+-- the unsearched auction is the same auction
+unsearched_is_same : (a : PlainAuction) → HasAtoms a → IsSameAuction a (unsearched_auction a)
+unsearched_is_same a h = record {
+  goods = refl;
+  or_values = map_same_on (or_value a.or_atoms) (or_value (xor_points a.goods a.or_atoms)) (all_bundles a.goods)
+      (All-from_Contains (λ bundle. or_value a.or_atoms bundle ≡ or_value (xor_points a.goods a.or_atoms) bundle) (all_bundles a.goods)
+      (λ bundle c. kept_values a.goods a.or_atoms h.or_atoms bundle));
+  xor_bidders = (canonical_is_same a h).xor_bidders;
+}
+
+-- ---- alike auctions have one unsearched auction
+
+one_from_alike : (a b : PlainAuction) → AreAlikeAuctions a b → unsearched_auction a ≡ unsearched_auction b
+one_from_alike a b s =
+    ap (λ n. record { goods = n; or_atoms = (unsearched_auction a).or_atoms; xor_bidders = (unsearched_auction a).xor_bidders }) s.goods
+    ∙ ap₂ (λ (os : List (Atom (List ℕ))) (xs : List (List (Atom (List ℕ)))). record { goods = b.goods; or_atoms = os; xor_bidders = xs }) s.or_bids
+    s.xor_bidders
+
+alike_from_one : (a b : PlainAuction) → unsearched_auction a ≡ unsearched_auction b → AreAlikeAuctions a b
+alike_from_one a b e = record {
+  goods = ap (λ (x : PlainAuction). x.goods) e;
+  or_bids = ap (λ (x : PlainAuction). x.or_atoms) e;
+  xor_bidders = ap (λ (x : PlainAuction). x.xor_bidders) e;
+}
+
+same_from_one : (a b : PlainAuction) → HasAtoms a → HasAtoms b → unsearched_auction a ≡ unsearched_auction b → IsSameAuction a b
+same_from_one a b h k e =
+    same_trans a (unsearched_auction b) b (subst (λ (x : PlainAuction). IsSameAuction a x) e (unsearched_is_same a h))
+    (same_sym b (unsearched_auction b) (unsearched_is_same b k))
+
+pub same_from_alike : (f g : PlainFile) → IsPlainFile f → IsPlainFile g → AreAlike f g → AreSameFiles f g
+same_from_alike f g h k s =
+    same_from_one (auction_from f) (auction_from g) (HasAtoms-file f h) (HasAtoms-file g k) (one_from_alike (auction_from f) (auction_from g) s)
+
+-- ---- and their files one text
+
+IsPlainFile-unsearched : (f : PlainFile) → IsPlainFile f → IsPlainFile (unsearched_file f)
+IsPlainFile-unsearched f h =
+    IsPlainFile-file_from f.goods (unsearched_auction (auction_from f))
+    (IsAuction-unsearched f.goods (auction_from f) (IsAuction-auction_from f.goods f h (le_refl f.goods)))
+
+one_from_texts : (f g : PlainFile) → IsPlainFile f → IsPlainFile g → unsearched_text f ≡ unsearched_text g
+    → unsearched_auction (auction_from f) ≡ unsearched_auction (auction_from g)
+one_from_texts f g h k e =
+    let one : Spells (unsearched_text g) (unsearched_file f) =
+    subst (λ (text : List ℕ). Spells text (unsearched_file f)) e (laid_out.layout_spells (unsearched_file f) (IsPlainFile-unsearched f h)) in
+    let other : Spells (unsearched_text g) (unsearched_file g) = laid_out.layout_spells (unsearched_file g) (IsPlainFile-unsearched g k) in
+    let files : unsearched_file f ≡ unsearched_file g = spells_one (unsearched_text g) (unsearched_file f) (unsearched_file g) one other in
+    sym (auction_from-file_from (unsearched_auction (auction_from f))) ∙ ap auction_from files
+    ∙ auction_from-file_from (unsearched_auction (auction_from g))
+
+pub unsearched_texts_tell : (f g : PlainFile) → IsPlainFile f → IsPlainFile g → (unsearched_text f ≡ unsearched_text g ↔ AreAlike f g)
+unsearched_texts_tell f g h k = (
+  λ e. alike_from_one (auction_from f) (auction_from g) (one_from_texts f g h k e),
+  λ s. ap (λ (a : PlainAuction). layout (file_from a)) (one_from_alike (auction_from f) (auction_from g) s),
+)
+
+-- ---- the same bids
+
+-- the XOR value of the bids that pass a test is no greater, where each of the bids is among others
+values_of_some : (p : PlainBid → Bool) (one other : List PlainBid) → ((bid : PlainBid) → Contains one bid → Contains other bid) → (bundle : List ℕ)
+    → xor_value (map atom_of (filter p one)) bundle ≤ xor_value (map atom_of (filter p other)) bundle
+values_of_some p one other among bundle =
+    let atoms : List (Atom (List ℕ)) = map atom_of (filter p one) in
+    let more : List (Atom (List ℕ)) = map atom_of (filter p other) in
+    xor_value-bound atoms bundle (xor_value more bundle) (All-from_Contains (λ a. IsInside a.bundle bundle → a.price ≤ xor_value more bundle) atoms
+    (λ a c i.
+    let bid = Contains-unmap atom_of (filter p one) a c in
+    let parts = Contains-filter_parts p one bid.0 bid.1 in
+    let there : Contains more (atom_of bid.0) = Contains-map atom_of (filter p other) bid.0 (Contains-filter p other bid.0 (among bid.0 parts.0) parts.1) in
+    xor_value-member more a (subst (λ (x : Atom (List ℕ)). Contains more x) (sym bid.2) there) bundle i))
+
+module _ (goods dummy : ℕ) (one other : List PlainBid) (same : (bid : PlainBid) → (Contains one bid ↔ Contains other bid)) where
+  abbrev f : PlainFile
+  f = record { goods = goods; dummy = dummy; bids = one }
+
+  abbrev g : PlainFile
+  g = record { goods = goods; dummy = dummy; bids = other }
+
+  values_alike : (p : PlainBid → Bool) (bundle : List ℕ) → xor_value (map atom_of (filter p one)) bundle ≡ xor_value (map atom_of (filter p other)) bundle
+  values_alike p bundle =
+      le_antisymm (values_of_some p one other (λ bid. (same bid).0) bundle) (values_of_some p other one (λ bid. (same bid).1) bundle)
+
+  points_alike : (p : PlainBid → Bool) → xor_points goods (map atom_of (filter p one)) ≡ xor_points goods (map atom_of (filter p other))
+  points_alike p = xor_points_same goods (map atom_of (filter p one)) (map atom_of (filter p other)) (λ bundle b. values_alike p bundle)
+
+  table_alike : (d : ℕ) → xor_table (xor_atoms_of one d) goods ≡ xor_table (xor_atoms_of other d) goods
+  table_alike d =
+      map_same_on (xor_value (xor_atoms_of one d)) (xor_value (xor_atoms_of other d)) (all_bundles goods)
+      (All-from_Contains (λ bundle. xor_value (xor_atoms_of one d) bundle ≡ xor_value (xor_atoms_of other d) bundle) (all_bundles goods)
+      (λ bundle c. values_alike (λ b. is_dummy d b.dummy) bundle))
+
+  bidders_alike : points_of_bidders goods (auction_from f).xor_bidders ≡ points_of_bidders goods (auction_from g).xor_bidders
+  bidders_alike =
+      points_of_nonzero f
+      ∙ ap (map (points_of_dummy f)) (filter_same_on (has_value f) (has_value g) (range_with_len 0 dummy)
+      (All-from_Contains (λ d. has_value f d ≡ has_value g d) (range_with_len 0 dummy) (λ d c. ap is_nonzero (table_alike d))))
+      ∙ map_same_on (points_of_dummy f) (points_of_dummy g) (nonzero_dummies g)
+      (All-from_Contains (λ d. points_of_dummy f d ≡ points_of_dummy g d) (nonzero_dummies g) (λ d c. points_alike (λ b. is_dummy d b.dummy)))
+      ∙ sym (points_of_nonzero g)
+
+  alike : AreAlike f g
+  alike = record { goods = refl; or_bids = points_alike (λ b. is_none b.dummy); xor_bidders = ap (sort_by bidder_cmp) bidders_alike }
+
+pub alike_by_bids : (f g : PlainFile) → f.goods ≡ g.goods → f.dummy ≡ g.dummy → ((bid : PlainBid) → (Contains f.bids bid ↔ Contains g.bids bid))
+    → AreAlike f g
+alike_by_bids f g e d same =
+    subst (λ n. AreAlike f (record { goods = n; dummy = g.dummy; bids = g.bids })) e
+    (subst (λ n. AreAlike f (record { goods = f.goods; dummy = n; bids = g.bids })) d (alike f.goods f.dummy f.bids g.bids same))

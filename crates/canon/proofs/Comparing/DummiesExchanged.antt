@@ -1,0 +1,124 @@
+-- A file with its dummy goods exchanged. Its bidders are those of the file in another order, so as many of them have each table of values.
+use Rattle.std.proofs.Common.{◌≡◌, ◌≢◌, ◌⊎◌, inl, inr, ℕ, ◌<◌, Bool, cond, eqb, is_none, List, length, get_or, map, Option, Some, None}
+use Rattle.std.proofs.Common.{refl, sym, ap, ◌∙◌, subst, arith}
+use Rattle.std.specs.Prelude.{All, AllPairs, IsPermutation}
+use Rattle.std.specs.Cmp.{both_ways}
+use Rattle.std.specs.List.{filter, range_with_len}
+use Rattle.std.proofs.lemmas.Bool.{eq-eqb, eqb-true}
+use Rattle.std.proofs.lemmas.Bool.Decides.{Decides-eqb}
+use Rattle.std.proofs.lemmas.List.{ext_get_or, get_or-map, length-map}
+use Rattle.std.proofs.lemmas.List.Elements.{All-from_recursion}
+use Rattle.std.proofs.lemmas.List.FromFn.{length-range_with_len, get_or-range_with_len}
+use Rattle.std.proofs.lemmas.List.Sorted.{All-permutation, IsPermutation-map, IsPermutation-sym, length_permutation, sum_by-IsPermutation}
+use Rattle.std.proofs.lemmas.Map.Keys.{IsDistinct-IsPermutation}
+use Rattle.std.proofs.lemmas.Map.Made.{AllPairs-from_IsDistinct, IsDistinct-from_AllPairs}
+use Rattle.std.proofs.lemmas.Simd.{map-map}
+use Rattle.bid_file.specs.Files.{IsBid, IsDummyBelow, IsPlainFile, PlainBid, PlainFile}
+use Rattle.valuation.specs.declared.atom.Atom.{Atom}
+use Rattle.valuation.specs.Auctions.{IsAtom, atom_of, auction_from, is_dummy, or_atoms_of, xor_atoms_of}
+use Rattle.prune.specs.Lemmas.Lists.{All-from_Contains, filter_same_on, map-filter, map_same_on}
+use Rattle.prune.specs.Lemmas.Ranges.{in_range}
+use Rattle.prune.specs.Points.{xor_points}
+use Rattle.canon.specs.Lemmas.Renaming.{eqb_flips, range_differs}
+use Rattle.canon.specs.Renaming.{named_bid, named_dummy, with_dummies}
+use Rattle.canon.specs.Sameness.{has_table}
+use Rattle.canon.specs.Unsearched.{AreAlike}
+use Rattle.canon.proofs.CanonicalAuctions.Sames.{same_bidders}
+use Rattle.canon.proofs.CanonicalFiles.Texts.{HasAtoms-file}
+
+-- the bids that pass a test after the exchange offer what those offer that pass another one before it
+offers_named : (dummies : List ℕ) (p q : PlainBid → Bool) (bids : List PlainBid) → All (λ b. p (named_bid dummies b) ≡ q b) bids
+    → map atom_of (filter p (map (named_bid dummies) bids)) ≡ map atom_of (filter q bids)
+offers_named dummies p q bids h =
+    ap (map atom_of) (sym (map-filter (named_bid dummies) p bids))
+    ∙ map-map atom_of (named_bid dummies) (filter (λ b. p (named_bid dummies b)) bids)
+    ∙ ap (map atom_of) (filter_same_on (λ b. p (named_bid dummies b)) q bids h)
+
+still_none : (dummies : List ℕ) (o : Option ℕ) → is_none (named_dummy dummies o) ≡ is_none o
+still_none dummies None = refl
+still_none dummies (Some d) = refl
+
+module _ (f : PlainFile) (dummies : List ℕ) (facts : IsPlainFile f) (moved : IsPermutation (range_with_len 0 f.dummy) dummies) where
+  abbrev named : ℕ → ℕ
+  named d = get_or dummies d 0
+
+  abbrev new : List PlainBid
+  new = map (named_bid dummies) f.bids
+
+  long : length dummies ≡ f.dummy
+  long = let same = length_permutation (range_with_len 0 f.dummy) dummies moved in let count = length-range_with_len 0 f.dummy in omega arith
+
+  -- no dummy good is there twice
+  differ : AllPairs (λ d e. d ≢ e) dummies
+  differ =
+      AllPairs-from_IsDistinct Decides-eqb dummies
+      (IsDistinct-IsPermutation eqb eqb_flips (range_with_len 0 f.dummy) dummies moved
+      (IsDistinct-from_AllPairs Decides-eqb (range_with_len 0 f.dummy) (range_differs f.dummy)))
+
+  one_place : (d e : ℕ) → d < f.dummy → e < f.dummy → named d ≡ named e → d ≡ e
+  one_place d e l m same = by (cases d e)
+    where
+      cases : (d e : ℕ) → (d < e) ⊎ ((d ≡ e) ⊎ (e < d))
+      cases d e = grind arith
+
+      by : (d < e) ⊎ ((d ≡ e) ⊎ (e < d)) → d ≡ e
+      by (inl below) = let within : e < length dummies = omega (arith, long) in absurd (differ d e 0 below within same)
+      by (inr (inl equal)) = equal
+      by (inr (inr above)) = let within : d < length dummies = omega (arith, long) in absurd (differ e d 0 above within (sym same))
+
+  -- a bid has a dummy good after the exchange exactly where it had the one before
+  still_dummy : (d : ℕ) → d < f.dummy → (o : Option ℕ) → IsDummyBelow f.dummy o → is_dummy (named d) (named_dummy dummies o) ≡ is_dummy d o
+  still_dummy d l None h = refl
+  still_dummy d l (Some e) h =
+      both_ways (eqb (named e) (named d)) (eqb e d) (λ t. eq-eqb e d (one_place e d h l (eqb-true (named e) (named d) t)))
+      (λ t. eq-eqb (named e) (named d) (ap named (eqb-true e d t)))
+
+  dummies_below : All (λ b. IsDummyBelow f.dummy b.dummy) f.bids
+  dummies_below =
+      let each : All (IsBid f.goods f.dummy) f.bids = All-from_recursion (IsBid f.goods f.dummy) f.bids facts.each in
+      λ k b m. (each k b m).dummy
+
+  bidder_named : (d : ℕ) → d < f.dummy → xor_atoms_of new (named d) ≡ xor_atoms_of f.bids d
+  bidder_named d l =
+      offers_named dummies (λ b. is_dummy (named d) b.dummy) (λ b. is_dummy d b.dummy) f.bids
+      (λ k b m. still_dummy d l _ (dummies_below k b m))
+
+  or_atoms_named : or_atoms_of new ≡ or_atoms_of f.bids
+  or_atoms_named = offers_named dummies (λ b. is_none b.dummy) (λ b. is_none b.dummy) f.bids (λ k b m. still_none dummies _)
+
+  -- all dummy goods by their places
+  all_named : dummies ≡ map named (range_with_len 0 f.dummy)
+  all_named =
+      let count = length-range_with_len 0 f.dummy in
+      let mapped = length-map (range_with_len 0 f.dummy) named in
+      ext_get_or 0 dummies (map named (range_with_len 0 f.dummy)) (omega (arith, long)) (λ i l.
+      let within : i < f.dummy = omega (arith, long) in
+      let here : i < length (range_with_len 0 f.dummy) = omega arith in
+      let place : get_or (range_with_len 0 f.dummy) i 0 ≡ i = let e = get_or-range_with_len 0 f.dummy i 0 within in omega arith in
+      sym (get_or-map named (range_with_len 0 f.dummy) i 0 0 here ∙ ap named place))
+
+  abbrev olds : List (List (Atom (List ℕ)))
+  olds = (auction_from f).xor_bidders
+
+  abbrev news : List (List (Atom (List ℕ)))
+  news = (auction_from (with_dummies dummies f)).xor_bidders
+
+  bidders_moved : IsPermutation news olds
+  bidders_moved =
+      subst (λ (bidders : List (List (Atom (List ℕ)))). IsPermutation news bidders)
+      (ap (map (xor_atoms_of new)) all_named ∙ map-map (xor_atoms_of new) named (range_with_len 0 f.dummy)
+      ∙ map_same_on (λ d. xor_atoms_of new (named d)) (xor_atoms_of f.bids) (range_with_len 0 f.dummy)
+      (All-from_Contains (λ d. xor_atoms_of new (named d) ≡ xor_atoms_of f.bids d) (range_with_len 0 f.dummy)
+      (λ d c. bidder_named d (in_range f.dummy d c))))
+      (IsPermutation-map (xor_atoms_of new) (range_with_len 0 f.dummy) dummies moved)
+
+  pub alike_exchanged : AreAlike f (with_dummies dummies f)
+  alike_exchanged =
+      let atoms = (HasAtoms-file f facts).xor_atoms in
+      record {
+        goods = refl;
+        or_bids = ap (xor_points f.goods) (sym or_atoms_named);
+        xor_bidders =
+            same_bidders f.goods olds news atoms (All-permutation (All (IsAtom f.goods)) olds news (IsPermutation-sym news olds bidders_moved) atoms)
+            (λ table n. sum_by-IsPermutation (λ b. cond {A = ℕ} (has_table f.goods table b) 1 0) news olds bidders_moved);
+      }
