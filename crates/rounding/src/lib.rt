@@ -12,4 +12,4 @@ mod value;
 pub mod worked;
 
 pub use replacement::{FinePrices, Replacement, replacement_of};
-pub use round_text::{RoundedPrice, RoundedText, round};
+pub use round_text::{RoundedPrice, RoundedText, round, round_prices};

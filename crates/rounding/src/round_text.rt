@@ -146,8 +146,8 @@ fn line_length(text: &[u8]) -> usize
     text.len()
 }
 
-/// The text with its prices rounded, whether or not it is a bid file.
-fn round_text(alloc: Global, text: &[u8], fine: FinePrices) -> Result<RoundedText, AllocError>
+/// The text with its prices rounded, whether or not it is a bid file then.
+pub fn round_prices(alloc: Global, text: &[u8], fine: FinePrices) -> Result<RoundedText, AllocError>
     ensures text { IfOk result (λ r. r.text.items ≡ rounded_text fine text.now) }
     ensures prices { IfOk result (λ r. plain_changes r.prices.items ≡ rounded_prices fine text.now) }
 {
@@ -218,7 +218,7 @@ pub fn round(alloc: Global, text: &[u8], fine: FinePrices) -> Result<RoundedText
     if !has_bid_line(text) {
         return round_header(alloc, text, fine);
     }
-    let Ok(rounded) = round_text(alloc, text, fine) else {
+    let Ok(rounded) = round_prices(alloc, text, fine) else {
         return Err(no_memory());
     };
     check(alloc, &rounded.text)?;

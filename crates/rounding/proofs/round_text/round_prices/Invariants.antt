@@ -1,7 +1,7 @@
 use Rattle.std.proofs.Common.{◌+◌, ◌-◌, ◌≤◌, length}
 use Rattle.rounding.specs.Views.{plain_changes}
 use Rattle.rounding.proofs.TextLines.{IsWritten}
-use Rattle.rounding.proofs.round_text.round_text.Given as goal
+use Rattle.rounding.proofs.round_text.round_prices.Given as goal
 
 abbrev pub invariant-loop-start : goal.invariant-loop-start
 invariant-loop-start l = (l.start ≤ length l.text) × (l.number ≤ l.start + 1) × (l.before ≤ l.start)

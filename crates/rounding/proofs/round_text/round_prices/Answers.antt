@@ -2,7 +2,7 @@ use Rattle.std.proofs.Common.{ℕ, List, ◌+◌, ◌-◌, ltb, ◌≤◌, lengt
 use Rattle.cats_text.specs.Lines.{line_words, blank_returns, is_significant}
 use Rattle.rounding.specs.Views.{plain_changes}
 use Rattle.rounding.proofs.TextLines.{IsCut, IsFirstLine, line_more, first_written, cut_line, one_or_none, at_most}
-use Rattle.rounding.proofs.round_text.round_text.Goals as goal
+use Rattle.rounding.proofs.round_text.round_prices.Goals as goal
 
 pub loop-start-preserved : goal.loop-start-preserved
 loop-start-preserved c =
