@@ -1,5 +1,6 @@
 -- How faults are reported on standard error.
-use Rattle.std.specs.Prelude.{ℕ, List, [], ◌++◌, codes, decimal}
+use Rattle.std.specs.Prelude.{ℕ, List, [], ◌++◌, length, take, codes, decimal, nat_lt, if◌then◌else◌, Option, Some}
+use Rattle.std.specs.Prelude.{None}
 use Rattle.cats_text.specs.declared.read_fault.Kind.{Kind}
 use Rattle.cats_text.specs.declared.read_fault.Kind.TheVariants.{TooLong, Device, Memory as NoMemory}
 use Rattle.cats_text.specs.declared.read_fault.ReadFault.{ReadFault}
@@ -8,7 +9,8 @@ use Rattle.canon.specs.declared.canon_fault.CanonFault.TheVariants.{Read, StepLi
 use Rattle.canon.specs.declared.which.Which.{Which}
 use Rattle.canon.specs.declared.which.Which.TheVariants.{Only, First, Second, Both}
 use Rattle.answers.specs.declared.report.RunFault.{RunFault}
-use Rattle.answers.specs.declared.report.RunFault.TheVariants.{Refused, GoodRange, BidRange, Sent}
+use Rattle.answers.specs.declared.report.RunFault.TheVariants.{Refused, TooHeavy, GoodRange, BidRange, Sent}
+use Rattle.answers.specs.declared.report.HeavyBid.{HeavyBid}
 use Rattle.answers.specs.KindNames.{name_of_kind}
 use Rattle.answers.specs.Outputs.{bundle_text}
 
@@ -34,8 +36,23 @@ text_of_canon_fault (Read fault) = text_of_read_fault fault
 text_of_canon_fault (StepLimit goods) = codes "step limit at " ++ bundle_text goods.items
 text_of_canon_fault Memory = codes "want of memory"
 
+-- the limit of all searches together, if there is one
+abbrev pub total_text : Option ℕ → List ℕ
+total_text None = []
+total_text (Some total) = codes " (" ++ decimal total ++ codes " in all)"
+
+-- how many goods there are, if they are more than are reported
+abbrev pub rest_text : ℕ → List ℕ
+rest_text count = if nat_lt 20 count then codes ",.. (" ++ decimal count ++ codes " goods)" else []
+
+-- the limits, the number of the bid, and at most 20 goods of its bundle
+abbrev pub text_of_heavy_bid : HeavyBid → List ℕ
+text_of_heavy_bid heavy = codes "step limit of " ++ decimal heavy.steps ++ total_text heavy.total ++ codes " at bid "
+    ++ decimal heavy.number ++ codes ": " ++ bundle_text (take 20 heavy.goods.items) ++ rest_text (length heavy.goods.items)
+
 abbrev pub line_of_fault : RunFault → List ℕ
 line_of_fault (Refused which fault) = prefix_of which ++ text_of_canon_fault fault ++ codes "\n"
+line_of_fault (TooHeavy which heavy) = prefix_of which ++ text_of_heavy_bid heavy ++ codes "\n"
 line_of_fault (GoodRange good) = codes "good " ++ decimal good ++ codes " out of range\n"
 line_of_fault (BidRange bid) = codes "bid " ++ decimal bid ++ codes " out of range\n"
 line_of_fault (Sent fault) = codes "output failed after " ++ decimal fault.written ++ codes " bytes\n"

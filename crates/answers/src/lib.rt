@@ -19,8 +19,8 @@ pub use explanation::explanation_text;
 pub use fault_hint::{fault_place_text, hint, shown_word};
 pub use pieces::Piece;
 pub use report::{
-    DEVICE_FAILED, DIFFERENT, DONE, FILE_REFUSED, NO_MEMORY, RunFault, STEPS_EXCEEDED, WRONG_USAGE,
-    fault_line, fault_pieces, joined_goods, status,
+    DEVICE_FAILED, DONE, FILE_REFUSED, HeavyBid, NO_MEMORY, RunFault, WRONG_USAGE, fault_line,
+    fault_pieces, status,
 };
 pub use rounded::{price_line, price_pieces};
 pub use sides::ComparedFile;

@@ -18,6 +18,8 @@ pub enum Piece<'a> {
     Price(u64),
 }
 
+pub(crate) const NOTHING: Piece<'static> = Piece::Text(b"");
+
 /// The pieces of a line of up to four texts, with a value behind the second.
 pub(crate) fn line_pieces<'a>(
     prefix: &'static str,
@@ -25,7 +27,7 @@ pub(crate) fn line_pieces<'a>(
     value: Piece<'a>,
     between: &'static str,
     behind: &'static str,
-) -> [Piece<'a>; 6]
+) -> [Piece<'a>; 14]
     ensures { text_of_pieces result
         ≡ prefix.now ++ before.now ++ text_of_piece value.entry ++ between.now ++ behind.now ++ codes "\n" }
 {
@@ -36,6 +38,14 @@ pub(crate) fn line_pieces<'a>(
         Piece::Text(between.as_bytes()),
         Piece::Text(behind.as_bytes()),
         Piece::Text(b"\n"),
+        NOTHING,
+        NOTHING,
+        NOTHING,
+        NOTHING,
+        NOTHING,
+        NOTHING,
+        NOTHING,
+        NOTHING,
     ]
 }
 

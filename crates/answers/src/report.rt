@@ -3,11 +3,12 @@
 ghost use Rattle.std.specs.Prelude.{◌≡◌, ◌++◌, IfOk, codes, string_bytes};
 ghost use Rattle.answers.specs.Outputs.{bundle_text};
 ghost use Rattle.answers.specs.KindNames.{name_of_kind};
-ghost use Rattle.answers.specs.Pieces.{text_of_pieces};
-ghost use Rattle.answers.specs.FaultLines.{line_of_fault, prefix_of, text_of_canon_fault, text_of_read_fault};
+ghost use Rattle.answers.specs.Pieces.{text_of_piece, text_of_pieces};
+ghost use Rattle.answers.specs.FaultLines.{line_of_fault, prefix_of, rest_text, text_of_canon_fault, text_of_heavy_bid};
+ghost use Rattle.answers.specs.FaultLines.{text_of_read_fault, total_text};
 ghost use Rattle.answers.specs.Statuses.{status_of_fault, status_of_canon_fault, status_of_read_fault};
 
-use crate::pieces::{Piece, line_pieces, text_of};
+use crate::pieces::{NOTHING, Piece, line_pieces, text_of};
 use canon::{CanonFault, Which};
 use cats_text::{Kind, ReadFault, SendFault};
 use std::alloc::{AllocError, Global};
@@ -33,11 +34,28 @@ pub const DEVICE_FAILED: u8 = 5;
 /// The command line names nothing that the program does.
 pub const WRONG_USAGE: u8 = 64;
 
+/// The bundle of a bid on which a search takes more steps than its limits leave.
+#[derive(PartialEq, Eq, Debug, Drop)]
+pub struct HeavyBid {
+    /// The number of the first bid of the OR bidder on this bundle.
+    pub number: u64,
+    pub goods: Vec<u16>,
+    /// The most steps of each search.
+    pub steps: u64,
+    /// The most steps of all searches together, if they have such a limit.
+    pub total: Option<u64>,
+}
+
+/// So many goods of the bundle of a heavy bid are reported.
+const SHOWN_GOODS: usize = 20;
+
 /// Why a run failed.
 #[derive(PartialEq, Eq, Debug, Drop)]
 pub enum RunFault {
     /// A file was refused.
     Refused(Which, CanonFault),
+    /// A file was refused for a step limit, by a command that names the bid.
+    TooHeavy(Which, HeavyBid),
     /// The bundle names a good that the file does not have.
     GoodRange(u16),
     /// A bid was named that the file does not have.
@@ -79,6 +97,7 @@ pub fn status(fault: &RunFault) -> u8
 {
     match fault {
         RunFault::Refused(_, fault) => canon_status(fault),
+        RunFault::TooHeavy(_, _) => STEPS_EXCEEDED,
         RunFault::GoodRange(_) | RunFault::BidRange(_) => WRONG_USAGE,
         RunFault::Sent(_) => DEVICE_FAILED,
     }
@@ -112,11 +131,12 @@ pub fn fault_line(alloc: Global, fault: &RunFault) -> Result<Vec<u8>, AllocError
 }
 
 /// The line that reports the fault, in pieces.
-pub fn fault_pieces(fault: &RunFault) -> [Piece<'_>; 6]
+pub fn fault_pieces(fault: &RunFault) -> [Piece<'_>; 14]
     ensures { text_of_pieces result ≡ line_of_fault fault.now }
 {
     match fault {
         RunFault::Refused(which, fault) => canon_pieces(prefix(*which), fault),
+        RunFault::TooHeavy(which, heavy) => heavy_pieces(prefix(*which), heavy),
         RunFault::GoodRange(good) => {
             let good = Piece::Number(u64::from(*good));
             line_pieces("", "good ", good, " out of range", "")
@@ -142,7 +162,7 @@ fn prefix(which: Which) -> &'static str
     }
 }
 
-fn canon_pieces<'a>(prefix: &'static str, fault: &'a CanonFault) -> [Piece<'a>; 6]
+fn canon_pieces<'a>(prefix: &'static str, fault: &'a CanonFault) -> [Piece<'a>; 14]
     ensures { text_of_pieces result ≡ prefix.now ++ text_of_canon_fault fault.now ++ codes "\n" }
 {
     match fault {
@@ -155,7 +175,59 @@ fn canon_pieces<'a>(prefix: &'static str, fault: &'a CanonFault) -> [Piece<'a>; 
     }
 }
 
-fn read_pieces<'a>(prefix: &'static str, fault: &ReadFault) -> [Piece<'a>; 6]
+fn heavy_pieces<'a>(prefix: &'static str, heavy: &'a HeavyBid) -> [Piece<'a>; 14]
+    ensures { text_of_pieces result ≡ prefix.now ++ text_of_heavy_bid heavy.now ++ codes "\n" }
+{
+    let goods = heavy.goods.as_slice();
+    let (before_total, total, behind_total) = total_pieces(heavy.total);
+    let (before_count, count, behind_count) = rest_pieces(goods.len());
+    [
+        Piece::Text(prefix.as_bytes()),
+        Piece::Text(b"step limit of "),
+        Piece::Number(heavy.steps),
+        before_total,
+        total,
+        behind_total,
+        Piece::Text(b" at bid "),
+        Piece::Number(heavy.number),
+        Piece::Text(b": "),
+        Piece::Goods(&goods[..goods.len().min(SHOWN_GOODS)]),
+        before_count,
+        count,
+        behind_count,
+        Piece::Text(b"\n"),
+    ]
+}
+
+/// The limit of all searches together, if there is one.
+fn total_pieces<'a>(total: Option<u64>) -> (Piece<'a>, Piece<'a>, Piece<'a>)
+    ensures { text_of_piece result.0 ++ text_of_piece result.1 ++ text_of_piece result.2 ≡ total_text total }
+{
+    match total {
+        None => (NOTHING, NOTHING, NOTHING),
+        Some(total) => (
+            Piece::Text(b" ("),
+            Piece::Number(total),
+            Piece::Text(b" in all)"),
+        ),
+    }
+}
+
+/// How many goods there are, if not all are reported.
+fn rest_pieces<'a>(count: usize) -> (Piece<'a>, Piece<'a>, Piece<'a>)
+    ensures { text_of_piece result.0 ++ text_of_piece result.1 ++ text_of_piece result.2 ≡ rest_text count }
+{
+    if count <= SHOWN_GOODS {
+        return (NOTHING, NOTHING, NOTHING);
+    }
+    (
+        Piece::Text(b",.. ("),
+        Piece::Number(count as u64),
+        Piece::Text(b" goods)"),
+    )
+}
+
+fn read_pieces<'a>(prefix: &'static str, fault: &ReadFault) -> [Piece<'a>; 14]
     ensures { text_of_pieces result ≡ prefix.now ++ text_of_read_fault fault.now ++ codes "\n" }
 {
     let name = kind_name(fault.kind);
@@ -167,7 +239,7 @@ fn read_pieces<'a>(prefix: &'static str, fault: &ReadFault) -> [Piece<'a>; 6]
     }
 }
 
-fn text_pieces<'a>(prefix: &'static str, text: &'static str) -> [Piece<'a>; 6]
+fn text_pieces<'a>(prefix: &'static str, text: &'static str) -> [Piece<'a>; 14]
     ensures { text_of_pieces result ≡ prefix.now ++ text.now ++ codes "\n" }
 {
     line_pieces(prefix, text, Piece::Text(b""), "", "")

@@ -1,7 +1,7 @@
 //! Worked examples of what is printed. The prover computes them.
 
 ghost use Rattle.std.specs.Prelude.{◌≡◌, ℕ, [], ◌∷◌, ◌++◌, map, length, replicate, nat_le, true, codes, Vec, Some, None};
-ghost use Rattle.std.specs.List.{list_all};
+ghost use Rattle.std.specs.List.{list_all, range_with_len};
 ghost use Rattle.cats_text.specs.Examples.{place};
 ghost use Rattle.std.specs.Global.{Global};
 ghost use Rattle.cats_text.specs.declared.read_fault.Kind.TheVariants.{
@@ -40,7 +40,7 @@ ghost use Rattle.answers.specs.FaultPlaceTexts.{place_text, shown_bytes};
 ghost use Rattle.answers.specs.Outputs.{bundle_text, sizes_text};
 ghost use Rattle.answers.specs.RoundedLines.{rounded_line};
 ghost use Rattle.answers.specs.Statuses.{status_of_difference, status_of_differences, status_of_fault};
-ghost use Rattle.answers.specs.declared.report.RunFault.TheVariants.{Refused, GoodRange, BidRange, Sent};
+ghost use Rattle.answers.specs.declared.report.RunFault.TheVariants.{Refused, TooHeavy, GoodRange, BidRange, Sent};
 
 /// The place of a fault and what helps: of a word, of a word that is printed in part, and of a line's end.
 pub fn places_of_faults()
@@ -99,6 +99,26 @@ pub fn step_limits()
     ensures first_file { (goods : Vec ℕ Global) → goods.items ≡ 4095 ∷ []
         → line_of_fault (Refused First (StepLimit goods)) ≡ codes "first: step limit at 4095\n" }
     ensures status { (goods : Vec ℕ Global) → status_of_fault (Refused Only (StepLimit goods)) ≡ 3 }
+{}
+
+/// How a command reports it that names the bid: with the limit of each search and of all together, and with 20 goods and
+/// with 21, of the first file and the second.
+pub fn heavy_bids()
+    ensures one_limit { (goods : Vec ℕ Global) → goods.items ≡ 0 ∷ 1 ∷ []
+        → line_of_fault (TooHeavy Only (record { number = 12; goods = goods; steps = 1000000; total = None }))
+        ≡ codes "step limit of 1000000 at bid 12: 0,1\n" }
+    ensures two_limits { (goods : Vec ℕ Global) → goods.items ≡ 0 ∷ 1 ∷ []
+        → line_of_fault (TooHeavy Only (record { number = 12; goods = goods; steps = 1000000; total = Some 5000000 }))
+        ≡ codes "step limit of 1000000 (5000000 in all) at bid 12: 0,1\n" }
+    ensures twenty { (goods : Vec ℕ Global) → goods.items ≡ range_with_len 0 20
+        → line_of_fault (TooHeavy First (record { number = 0; goods = goods; steps = 1; total = None }))
+        ≡ codes "first: step limit of 1 at bid 0: 0,1,2,3,4,5,6,7,8,9,10,11,12,13,14,15,16,17,18,19\n" }
+    ensures more { (goods : Vec ℕ Global) → goods.items ≡ range_with_len 0 21
+        → line_of_fault (TooHeavy Second (record { number = 0; goods = goods; steps = 1; total = None }))
+        ≡ codes "second: step limit of 1 at bid 0: 0,1,2,3,4,5,6,7,8,9,10,11,12,13,14,15,16,17,18,19"
+        ++ codes ",.. (21 goods)\n" }
+    ensures status { (goods : Vec ℕ Global)
+        → status_of_fault (TooHeavy Only (record { number = 0; goods = goods; steps = 1; total = None })) ≡ 3 }
 {}
 
 /// Bundles as they are printed.

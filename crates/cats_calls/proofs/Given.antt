@@ -16,10 +16,10 @@ use Rattle.canon.specs.declared.which.Which.TheVariants.{Only, First, Second, Bo
 use Rattle.answers.specs.FaultLines.{line_of_fault}
 use Rattle.answers.specs.Statuses.{status_of_fault}
 use Rattle.answers.specs.declared.report.RunFault.{RunFault}
-use Rattle.answers.specs.declared.report.RunFault.TheVariants.{Refused, GoodRange, BidRange, Sent}
+use Rattle.answers.specs.declared.report.RunFault.TheVariants.{Refused, TooHeavy, GoodRange, BidRange, Sent}
 use Rattle.rounding.specs.declared.replacement.FinePrices.{FinePrices}
 use Rattle.commands.specs.Commands.{Commands, GivesWithin, IsRefused, Makes, text_of}
-use Rattle.commands.specs.Outcomes.{Outcome, Prints, normalise_outcome}
+use Rattle.commands.specs.Outcomes.{Outcome, Prints, naming_outcome, normalise_outcome}
 use Rattle.commands.specs.Pairs.{CommandsBoth, Compares, Diffs}
 use Rattle.commands.specs.declared.answer.Answer.{Answer}
 use Rattle.commands.specs.declared.answer.Output.{Output}
@@ -73,7 +73,7 @@ wanted_memory text (inl found) =
 wanted_memory text (inr wants) = wants.1
 
 module _ (outcome : PlainFile → Outcome) (text after : Text) where
-  made_of : (expected : Outcome) → Makes TextGives TextRefuses outcome text after expected → MakesOf outcome text.bytes.now expected
+  pub made_of : (expected : Outcome) → Makes TextGives TextRefuses outcome text after expected → MakesOf outcome text.bytes.now expected
   made_of expected m = record { file = m.file; spelled = m.given; made = m.made }
 
   pub unmade_of : (fault : CanonFault) → IsRefused TextGives TextRefuses outcome text after fault → IsUnmade outcome text.bytes.now fault
@@ -90,6 +90,9 @@ module _ (outcome : PlainFile → Outcome) (text after : Text) where
   given_call (Err (Refused which fault)) is old new needed answer g =
       given_fault (PrintsOf outcome text.bytes.now) (IsRefusedText outcome text.bytes.now) old new needed answer (Refused which fault)
       (subst (λ (w : Which). IsRefusedText outcome text.bytes.now (Refused w fault)) (sym is.0) (unmade_of fault is.1)) g
+  given_call (Err (TooHeavy which heavy)) is old new needed answer g =
+      given_fault (PrintsOf outcome text.bytes.now) (IsRefusedText outcome text.bytes.now) old new needed answer (TooHeavy which heavy)
+      (is.0, made_of _ is.1) g
   given_call (Err (GoodRange good)) is old new needed answer g =
       given_fault (PrintsOf outcome text.bytes.now) (IsRefusedText outcome text.bytes.now) old new needed answer (GoodRange good)
       (made_of _ is) g
@@ -120,16 +123,21 @@ module _ (options : SearchOptions) (first first_after second second_after : Text
       → SpellsWithinLimit options text.bytes.now
   within_of text after file g = record { file = file; spelled = g.given; within_limit = g.within }
 
-  module _ {A : Type 0} (Given : A → Type 0) (outcome : A → Outcome) where
+  module _ {A : Type 0} (refusal : SearchOptions → PlainFile → Outcome) (Given : A → Type 0) (outcome : A → Outcome) where
     refused_of : (fault : RunFault)
-        → CommandsBoth TextGives TextRefuses TextGives TextRefuses options Given outcome first first_after second second_after (Err fault)
-        → IsRefusedOfTwo options first.bytes.now second.bytes.now fault
-    refused_of (Refused First fault) h = unmade_of (normalise_outcome options) first first_after fault h.refused
+        → CommandsBoth TextGives TextRefuses TextGives TextRefuses options (refusal options) Given outcome first first_after second second_after (Err fault)
+        → IsRefusedOfTwo options first.bytes.now second.bytes.now refusal fault
+    refused_of (Refused First fault) h = unmade_of (refusal options) first first_after fault h.why
     refused_of (Refused Second fault) h =
-        (within_of first first_after h.left h.given, unmade_of (normalise_outcome options) second second_after fault h.refused)
+        (within_of first first_after h.left h.given, unmade_of (refusal options) second second_after fault h.why)
     refused_of (Refused Both fault) h =
         (within_of first first_after h.files.0 h.given.0, within_of second second_after h.files.1 h.given.1, h.memory)
     refused_of (Refused Only fault) h = absurd h
+    refused_of (TooHeavy First heavy) h = made_of (refusal options) first first_after _ h.why
+    refused_of (TooHeavy Second heavy) h =
+        (within_of first first_after h.left h.given, made_of (refusal options) second second_after _ h.why)
+    refused_of (TooHeavy Only heavy) h = absurd h
+    refused_of (TooHeavy Both heavy) h = absurd h
     refused_of (GoodRange good) h = absurd h
     refused_of (BidRange bid) h = absurd h
     refused_of (Sent fault) h = absurd h
@@ -138,21 +146,21 @@ module _ (options : SearchOptions) (first first_after second second_after : Text
         (both : (given : A) → Given given → SpellsWithinLimit options first.bytes.now × SpellsWithinLimit options second.bytes.now)
         (says : (given : A) → Given given → (status : ℕ) (out : List ℕ) → outcome given ≡ Prints status out → Says status out) where
       given_both : (r : Result Answer RunFault)
-          → CommandsBoth TextGives TextRefuses TextGives TextRefuses options Given outcome first first_after second second_after r
+          → CommandsBoth TextGives TextRefuses TextGives TextRefuses options (refusal options) Given outcome first first_after second second_after r
           → (old new : List ℕ) (needed answer : ℕ) → Gives r old new needed answer
-          → Calls Says (IsRefusedOfTwo options first.bytes.now second.bytes.now) old new needed answer
+          → Calls Says (IsRefusedOfTwo options first.bytes.now second.bytes.now refusal) old new needed answer
       given_both (Ok a) is old new needed answer g =
           let texts = both is.given is.gives in
-          given_output Says (IsRefusedOfTwo options first.bytes.now second.bytes.now) old new needed answer (Refused Both Memory)
+          given_output Says (IsRefusedOfTwo options first.bytes.now second.bytes.now refusal) old new needed answer (Refused Both Memory)
           (texts.0, texts.1, refl) refl refl a.status a.output (says is.given is.gives a.status (text_of a.output) is.made) g
       given_both (Err fault) is old new needed answer g =
-          given_fault Says (IsRefusedOfTwo options first.bytes.now second.bytes.now) old new needed answer fault (refused_of fault is) g
+          given_fault Says (IsRefusedOfTwo options first.bytes.now second.bytes.now refusal) old new needed answer fault (refused_of fault is) g
 
   pub given_compare : (r : Result Answer RunFault)
       → Compares TextGives TextRefuses TextGives TextRefuses options first first_after second second_after r
       → (old new : List ℕ) (needed answer : ℕ) → Gives r old new needed answer
       → CompareCalls options first.bytes.now second.bytes.now old new needed answer
-  given_compare = given_both _ _ (ComparesTexts options first.bytes.now second.bytes.now)
+  given_compare = given_both normalise_outcome _ _ (ComparesTexts options first.bytes.now second.bytes.now)
       (λ files given. (within_of first first_after files.0 given.0, within_of second second_after files.1 given.1))
       (λ files given status out made. record {
         first = within_of first first_after files.0 given.0;
@@ -164,7 +172,7 @@ module _ (options : SearchOptions) (first first_after second second_after : Text
       → Diffs TextGives TextRefuses TextGives TextRefuses options first first_after second second_after r
       → (old new : List ℕ) (needed answer : ℕ) → Gives r old new needed answer
       → DiffCalls options first.bytes.now second.bytes.now old new needed answer
-  given_diff = given_both _ _ (DiffsTexts options first.bytes.now second.bytes.now)
+  given_diff = given_both naming_outcome _ _ (DiffsTexts options first.bytes.now second.bytes.now)
       (λ compared g. (within_of first first_after compared.0 g.given.0, within_of second second_after compared.1 g.given.1))
       (λ compared g status out made. record {
         first = within_of first first_after compared.0 g.given.0;

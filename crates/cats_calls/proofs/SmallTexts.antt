@@ -14,7 +14,7 @@ use Rattle.canon.specs.Canonical.{canonical_file}
 use Rattle.canon.specs.Comparing.{SpellsWithinLimit}
 use Rattle.differences.specs.Differences.{AreAllDifferences, PlainDifferences}
 use Rattle.answers.specs.DiffTexts.{bidder_rows, change_row, diff_header, diff_text, goods_row, goods_rows}
-use Rattle.commands.specs.Outcomes.{Outcome, Prints, LacksGood, LacksBid, ExceedsSteps, compare_outcome}
+use Rattle.commands.specs.Outcomes.{Outcome, Prints, LacksGood, LacksBid, ExceedsSteps, ExceedsAtBid, compare_outcome}
 use Rattle.cats_calls.specs.Buffers.{PutsInto}
 use Rattle.cats_calls.specs.OneText.{MakesOf}
 use Rattle.cats_calls.specs.TwoTexts.{ComparesTexts, DiffsTexts}
@@ -48,6 +48,7 @@ number_in (Prints status out) = status
 number_in (LacksGood good) = 10 + good
 number_in (LacksBid bid) = 10 + bid
 number_in (ExceedsSteps goods) = 2
+number_in (ExceedsAtBid steps total number goods) = 10 + number
 
 -- ---- two texts
 

@@ -9,7 +9,8 @@ use Rattle.canon.specs.declared.canon_fault.CanonFault.{CanonFault}
 use Rattle.canon.specs.declared.canon_fault.CanonFault.TheVariants.{Read, StepLimit, Memory}
 use Rattle.canon.specs.declared.which.Which.TheVariants.{Only}
 use Rattle.answers.specs.declared.report.RunFault.{RunFault}
-use Rattle.answers.specs.declared.report.RunFault.TheVariants.{Refused, GoodRange, BidRange}
+use Rattle.answers.specs.declared.report.RunFault.TheVariants.{Refused, TooHeavy, GoodRange, BidRange}
+use Rattle.commands.specs.Commands.{outcome_of_heavy_bid}
 use Rattle.commands.specs.Outcomes.{Outcome, Prints, LacksGood, LacksBid, ExceedsSteps}
 use Rattle.cats_calls.specs.Buffers.{Calls}
 use Rattle.cats_calls.specs.Refusals.{text_fault}
@@ -40,6 +41,7 @@ module _ (outcome : PlainFile → Outcome) (text : List ℕ) where
   abbrev pub IsRefusedText : RunFault → Type 0
   IsRefusedText (GoodRange good) = MakesOf (LacksGood good)
   IsRefusedText (BidRange bid) = MakesOf (LacksBid bid)
+  IsRefusedText (TooHeavy which heavy) = (which ≡ Only) × MakesOf (outcome_of_heavy_bid heavy)
   IsRefusedText fault = OfOnly IsUnmade fault
 
   -- what the call does with its buffer

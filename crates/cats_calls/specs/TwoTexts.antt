@@ -1,6 +1,7 @@
 -- What the calls on two texts answer. Each text is searched under the same options: the steps of one count nothing for
 -- the other.
 use Rattle.std.specs.Prelude.{◌≡◌, ℕ, List}
+use Rattle.bid_file.specs.Files.{PlainFile}
 use Rattle.valuation.specs.Auctions.{auction_from}
 use Rattle.valuation.specs.declared.search_options.SearchOptions.{SearchOptions}
 use Rattle.canon.specs.Canonical.{canonical_file}
@@ -9,10 +10,11 @@ use Rattle.canon.specs.declared.canon_fault.CanonFault.TheVariants.{Memory}
 use Rattle.canon.specs.declared.which.Which.TheVariants.{First, Second, Both}
 use Rattle.differences.specs.Differences.{AreAllDifferences, PlainDifferences}
 use Rattle.answers.specs.declared.report.RunFault.{RunFault}
-use Rattle.answers.specs.declared.report.RunFault.TheVariants.{Refused}
-use Rattle.commands.specs.Outcomes.{Prints, compare_outcome, diff_outcome, normalise_outcome}
+use Rattle.answers.specs.declared.report.RunFault.TheVariants.{Refused, TooHeavy}
+use Rattle.commands.specs.Commands.{outcome_of_heavy_bid}
+use Rattle.commands.specs.Outcomes.{Outcome, Prints, compare_outcome, diff_outcome, naming_outcome, normalise_outcome}
 use Rattle.cats_calls.specs.Buffers.{Calls}
-use Rattle.cats_calls.specs.OneText.{IsUnmade}
+use Rattle.cats_calls.specs.OneText.{IsUnmade, MakesOf}
 
 module _ (options : SearchOptions) (left right : List ℕ) where
   -- the first difference of the auctions of two texts
@@ -31,17 +33,21 @@ module _ (options : SearchOptions) (left right : List ℕ) where
     pub made : diff_outcome (first.file, second.file, differences) ≡ Prints status out
 
   -- Which text is refused, and why: the second only if the first is not, and both only by want of memory if neither is.
-  abbrev pub IsRefusedOfTwo : RunFault → Type 0
-  IsRefusedOfTwo (Refused First fault) = IsUnmade (normalise_outcome options) left fault
-  IsRefusedOfTwo (Refused Second fault) =
-      SpellsWithinLimit options left × IsUnmade (normalise_outcome options) right fault
-  IsRefusedOfTwo (Refused Both fault) =
+  -- `refusal` says how a text is refused alone.
+  abbrev pub IsRefusedOfTwo : (SearchOptions → PlainFile → Outcome) → RunFault → Type 0
+  IsRefusedOfTwo refusal (Refused First fault) = IsUnmade (refusal options) left fault
+  IsRefusedOfTwo refusal (Refused Second fault) =
+      SpellsWithinLimit options left × IsUnmade (refusal options) right fault
+  IsRefusedOfTwo refusal (Refused Both fault) =
       SpellsWithinLimit options left × SpellsWithinLimit options right × (fault ≡ Memory)
-  IsRefusedOfTwo fault = ⊥
+  IsRefusedOfTwo refusal (TooHeavy First heavy) = MakesOf (refusal options) left (outcome_of_heavy_bid heavy)
+  IsRefusedOfTwo refusal (TooHeavy Second heavy) =
+      SpellsWithinLimit options left × MakesOf (refusal options) right (outcome_of_heavy_bid heavy)
+  IsRefusedOfTwo refusal fault = ⊥
 
   -- what the calls do with their buffers
   abbrev pub CompareCalls : List ℕ → List ℕ → ℕ → ℕ → Type 0
-  CompareCalls old new needed answer = Calls ComparesTexts IsRefusedOfTwo old new needed answer
+  CompareCalls old new needed answer = Calls ComparesTexts (IsRefusedOfTwo normalise_outcome) old new needed answer
 
   abbrev pub DiffCalls : List ℕ → List ℕ → ℕ → ℕ → Type 0
-  DiffCalls old new needed answer = Calls DiffsTexts IsRefusedOfTwo old new needed answer
+  DiffCalls old new needed answer = Calls DiffsTexts (IsRefusedOfTwo naming_outcome) old new needed answer

@@ -167,7 +167,8 @@ fn limits_of_steps(rt: HostRuntime) -> Result<(), Fail> {
     let explained = explain(alloc, &mut text(CROSSING), 1, Some(3));
     expect(&rt, alloc, &explained, 0, reasons);
     let refused = explain(alloc, &mut text(CROSSING), 1, Some(2));
-    expect(&rt, alloc, &refused, 3, over);
+    let named = b"step limit of 1 (2 in all) at bid 2: 0,1,2\n";
+    expect(&rt, alloc, &refused, 3, named);
     Ok(())
 }
 
@@ -217,7 +218,7 @@ fn all_differences(rt: HostRuntime) -> Result<(), Fail> {
     let alloc = rt.alloc();
     let enough = SearchOptions::bounded(STEPS, None);
     let refused = b"first: line 4: GoodRange\n";
-    let over = b"second: step limit at 0,1,2\n";
+    let over = b"second: step limit of 1 (2 in all) at bid 2: 0,1,2\n";
     let table = b"kind\tgoods\tleft\tright\tleft_dummy\tright_dummy\tleft_bid\tright_bid\n\
         or\t0,1\t\t8\t\t\t\t2\n";
     expect_differences(

@@ -11,9 +11,10 @@ ghost use Rattle.canon.specs.declared.canon_fault.CanonFault.TheVariants.{Read, 
 ghost use Rattle.canon.specs.declared.which.Which.TheVariants.{Only, First, Second, Both};
 ghost use Rattle.rounding.specs.declared.replacement.FinePrices.TheVariants.{Round, Refuse};
 ghost use Rattle.answers.specs.DiffTexts.{diff_header};
-ghost use Rattle.answers.specs.declared.report.RunFault.TheVariants.{Refused, GoodRange, BidRange};
-ghost use Rattle.commands.specs.Outcomes.{check_outcome, explain_outcome, normalise_outcome, revenue_outcome, show_outcome};
-ghost use Rattle.commands.specs.Outcomes.{value_outcome_by};
+ghost use Rattle.answers.specs.declared.report.HeavyBid.{HeavyBid};
+ghost use Rattle.answers.specs.declared.report.RunFault.TheVariants.{Refused, TooHeavy, GoodRange, BidRange};
+ghost use Rattle.commands.specs.Outcomes.{check_outcome, explain_outcome, naming_outcome, normalise_outcome};
+ghost use Rattle.commands.specs.Outcomes.{revenue_outcome, show_outcome, value_outcome_by};
 ghost use Rattle.commands.specs.declared.answer.Output.TheVariants.{Text};
 ghost use Rattle.cats_calls.specs.Buffers.{Gives, GivesOutput, PutsInto};
 ghost use Rattle.cats_calls.specs.FaultCalls.{FaultCalls, IsUnplaced, SaysPlace};
@@ -91,6 +92,12 @@ pub fn texts_refused()
     ensures no_memory { IsRefusedText check_outcome (codes "bids 0\n") (Refused Only Memory) → ⊥ }
     ensures over_limit { (goods : Vec ℕ Global) → goods.items ≡ 0 ∷ []
         → IsRefusedText (normalise_outcome (bounded_options 0 None)) (codes "goods 1\nbids 1\ndummy 0\n0 3 0 #\n") (Refused Only (StepLimit goods)) }
+    ensures heavy_bid { (goods : Vec ℕ Global) → goods.items ≡ 0 ∷ []
+        → IsRefusedText (explain_outcome (bounded_options 0 None)) (codes "goods 1\nbids 1\ndummy 0\n0 3 0 #\n")
+        (TooHeavy Only (record { number = 0; goods = goods; steps = 0; total = None })) }
+    ensures other_bid { (goods : Vec ℕ Global) → IsRefusedText (explain_outcome (bounded_options 0 None))
+        (codes "goods 1\nbids 1\ndummy 0\n0 3 0 #\n")
+        (TooHeavy Only (record { number = 1; goods = goods; steps = 0; total = None })) → ⊥ }
     ensures good { IsRefusedText (value_outcome_by (0 ∷ 2 ∷ 1 ∷ []) (bounded_options 1 None))
         (codes "goods 1\nbids 1\ndummy 0\n0 3 0 #\n") (GoodRange 2) }
     ensures other_good { IsRefusedText (value_outcome_by (0 ∷ 2 ∷ 1 ∷ []) (bounded_options 1 None))
@@ -145,13 +152,19 @@ pub fn texts_diffed()
 
 /// Which of two texts is refused: the second only if the first is not.
 pub fn one_of_two_refused()
-    ensures first { IsRefusedOfTwo (bounded_options 1 None) (codes "bids 0\n") (codes "goods 1\n") (Refused First (Read (fault_at 1 Header))) }
-    ensures second { IsRefusedOfTwo (bounded_options 1 None) (codes "goods 0\nbids 0\ndummy 0\n") (codes "bids 0\n") (Refused Second (Read (fault_at 1 Header))) }
-    ensures first_is_refused { IsRefusedOfTwo (bounded_options 1 None) (codes "bids 0\n") (codes "goods 1\n") (Refused Second (Read (fault_at 2 Missing))) → ⊥ }
-    ensures fault_of_the_second { IsRefusedOfTwo (bounded_options 1 None) (codes "bids 0\n") (codes "goods 1\n") (Refused First (Read (fault_at 2 Missing))) → ⊥ }
-    ensures both { IsRefusedOfTwo (bounded_options 1 None) (codes "goods 0\nbids 0\ndummy 0\n") (codes "goods 0\nbids 0\ndummy 0\n") (Refused Both Memory) }
+    ensures first { IsRefusedOfTwo (bounded_options 1 None) (codes "bids 0\n") (codes "goods 1\n") normalise_outcome (Refused First (Read (fault_at 1 Header))) }
+    ensures second { IsRefusedOfTwo (bounded_options 1 None) (codes "goods 0\nbids 0\ndummy 0\n") (codes "bids 0\n") normalise_outcome (Refused Second (Read (fault_at 1 Header))) }
+    ensures first_is_refused { IsRefusedOfTwo (bounded_options 1 None) (codes "bids 0\n") (codes "goods 1\n") normalise_outcome (Refused Second (Read (fault_at 2 Missing))) → ⊥ }
+    ensures fault_of_the_second { IsRefusedOfTwo (bounded_options 1 None) (codes "bids 0\n") (codes "goods 1\n") normalise_outcome (Refused First (Read (fault_at 2 Missing))) → ⊥ }
+    ensures both { IsRefusedOfTwo (bounded_options 1 None) (codes "goods 0\nbids 0\ndummy 0\n") (codes "goods 0\nbids 0\ndummy 0\n") normalise_outcome (Refused Both Memory) }
     ensures both_by_fault { IsRefusedOfTwo (bounded_options 1 None) (codes "goods 0\nbids 0\ndummy 0\n") (codes "goods 0\nbids 0\ndummy 0\n")
-        (Refused Both (Read (fault_at 1 Header))) → ⊥ }
+        normalise_outcome (Refused Both (Read (fault_at 1 Header))) → ⊥ }
+    ensures named { (goods : Vec ℕ Global) → goods.items ≡ 0 ∷ []
+        → IsRefusedOfTwo (bounded_options 0 (Some 9)) (codes "goods 1\nbids 1\ndummy 0\n0 3 0 #\n") (codes "goods 1\n") naming_outcome
+        (TooHeavy First (record { number = 0; goods = goods; steps = 0; total = Some 9 })) }
+    ensures unnamed { (heavy : HeavyBid)
+        → IsRefusedOfTwo (bounded_options 0 None) (codes "goods 1\nbids 1\ndummy 0\n0 3 0 #\n") (codes "goods 1\n") normalise_outcome
+        (TooHeavy First heavy) → ⊥ }
 {}
 
 /// A text with its prices rounded, and the report; and why there is none.

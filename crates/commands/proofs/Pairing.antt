@@ -18,8 +18,8 @@ use Rattle.answers.specs.ComparedFiles.{PrintsDifferences}
 use Rattle.answers.specs.declared.report.RunFault.{RunFault}
 use Rattle.answers.specs.declared.sides.ComparedFile.{ComparedFile}
 use Rattle.commands.specs.Commands.{GivesCanonical, GivesWithin, ReadsCanonical, text_of}
-use Rattle.commands.specs.Internal.Pairs.{ReadsCompared, of_file}
-use Rattle.commands.specs.Outcomes.{Outcome, Prints, compare_outcome, diff_outcome, outcome_of_difference}
+use Rattle.commands.specs.Internal.Pairs.{of_file}
+use Rattle.commands.specs.Outcomes.{Outcome, Prints, compare_outcome, diff_outcome, naming_outcome, normalise_outcome, outcome_of_difference}
 use Rattle.commands.specs.Pairs.{CommandsBoth, Compares, Diffs, GivesBoth, GivesDifferences, MakesOfBoth, outcome_of_both}
 use Rattle.commands.specs.declared.answer.Answer.{Answer}
 
@@ -42,14 +42,15 @@ module _ {I J : Type 0} (gives_first : I → I → PlainFile → Type 0) (refuse
     (gives_second : J → J → PlainFile → Type 0) (refuses_second : J → J → ReadFault → Type 0)
     (options : SearchOptions)
     (first first_after : I) (second second_after : J) where
-  made_of_both : {A : Type 0} (Gives : A → Type 0) (outcome : A → Outcome) (files : PlainFile × PlainFile)
+  made_of_both : {A : Type 0} (refusal : PlainFile → Outcome) (Gives : A → Type 0) (outcome : A → Outcome) (files : PlainFile × PlainFile)
       → GivesBoth gives_first refuses_first gives_second refuses_second options first first_after second second_after files
       → (answer : Result Answer CanonFault)
       → IfOk answer (λ a. MakesOfBoth gives_first refuses_first gives_second refuses_second options Gives outcome (Prints a.status (text_of a.output)))
       → IfErr answer (λ fault. fault ≡ Memory)
-      → CommandsBoth gives_first refuses_first gives_second refuses_second options Gives outcome first first_after second second_after (of_file Both answer)
-  made_of_both Gives outcome files given (Ok answer) made memory = made
-  made_of_both Gives outcome files given (Err fault) made memory = record { files = files; given = given; memory = memory }
+      → CommandsBoth gives_first refuses_first gives_second refuses_second options refusal Gives outcome first first_after second second_after
+      (of_file Both answer)
+  made_of_both refusal Gives outcome files given (Ok answer) made memory = made
+  made_of_both refusal Gives outcome files given (Err fault) made memory = record { files = files; given = given; memory = memory }
 
   -- the canonical files were compared
   pub files_compared : (left right : PlainFile) (read_left read_right : Result PlainFile CanonFault)
@@ -68,22 +69,19 @@ module _ {I J : Type 0} (gives_first : I → I → PlainFile → Type 0) (refuse
       (one.given, other.given) in
       let same : compare_outcome one.file other.file ≡ compare_outcome left right =
       sym (canonical_outcome one.file other.file one.plain other.plain) ∙ ap₂ compare_outcome (sym one.is) (sym other.is) in
-      rw is (made_of_both (GivesBoth gives_first refuses_first gives_second refuses_second options first first_after second second_after) outcome_of_both
+      rw is (made_of_both (normalise_outcome options)
+      (GivesBoth gives_first refuses_first gives_second refuses_second options first first_after second second_after) outcome_of_both
       files given answer (IfOk-weaker answer _ _ (λ a h. record { given = files; gives = given; made = same ∙ h }) made) memory)
 
   -- all differences of the canonical files were found
-  pub files_differed : (left right : ComparedFile) (read_left read_right : Result ComparedFile CanonFault)
-      → ReadsCompared gives_first refuses_first options first first_after read_left → Ok left ≡ of_file First read_left
-      → ReadsCompared gives_second refuses_second options second second_after read_right → Ok right ≡ of_file Second read_right
+  pub files_differed : (left right : ComparedFile) → GivesWithin gives_first refuses_first options first first_after left.file
+      → GivesWithin gives_second refuses_second options second second_after right.file
       → (answer : Result Answer CanonFault) → IfOk answer (λ a. PrintsDifferences left.file right.file a.status (text_of a.output))
       → IfErr answer (λ fault. fault ≡ Memory) → (told : Result Answer RunFault) → told ≡ of_file Both answer
       → Diffs gives_first refuses_first gives_second refuses_second options first first_after second second_after told
-  files_differed left right read_left read_right reads_left is_left reads_right is_right answer made memory told is =
-      let one : GivesWithin gives_first refuses_first options first first_after left.file =
-      given_of (ReadsCompared gives_first refuses_first options first first_after) First read_left left reads_left is_left in
-      let other : GivesWithin gives_second refuses_second options second second_after right.file =
-      given_of (ReadsCompared gives_second refuses_second options second second_after) Second read_right right reads_right is_right in
-      rw is (made_of_both (GivesDifferences gives_first refuses_first gives_second refuses_second options first first_after second second_after) diff_outcome
+  files_differed left right one other answer made memory told is =
+      rw is (made_of_both (naming_outcome options)
+      (GivesDifferences gives_first refuses_first gives_second refuses_second options first first_after second second_after) diff_outcome
       (left.file, right.file) (one, other) answer
       (IfOk-weaker answer _ _ (λ a h. record {
         given = (left.file, right.file, h.differences);

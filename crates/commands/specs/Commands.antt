@@ -12,9 +12,10 @@ use Rattle.canon.specs.Canonical.{canonical_file}
 use Rattle.canon.specs.declared.canon_fault.CanonFault.{CanonFault}
 use Rattle.canon.specs.declared.canon_fault.CanonFault.TheVariants.{Read, StepLimit, Memory}
 use Rattle.canon.specs.declared.which.Which.TheVariants.{Only}
+use Rattle.answers.specs.declared.report.HeavyBid.{HeavyBid}
 use Rattle.answers.specs.declared.report.RunFault.{RunFault}
-use Rattle.answers.specs.declared.report.RunFault.TheVariants.{Refused, GoodRange, BidRange, Sent}
-use Rattle.commands.specs.Outcomes.{Outcome, Prints, LacksGood, LacksBid, ExceedsSteps, normalise_outcome}
+use Rattle.answers.specs.declared.report.RunFault.TheVariants.{Refused, TooHeavy, GoodRange, BidRange, Sent}
+use Rattle.commands.specs.Outcomes.{Outcome, Prints, LacksGood, LacksBid, ExceedsSteps, ExceedsAtBid, normalise_outcome}
 use Rattle.commands.specs.declared.answer.Answer.{Answer}
 use Rattle.commands.specs.declared.answer.Output.{Output}
 use Rattle.commands.specs.declared.answer.Output.TheVariants.{Text, File}
@@ -23,6 +24,10 @@ use Rattle.commands.specs.declared.answer.Output.TheVariants.{Text, File}
 abbrev pub text_of : Output → List ℕ
 text_of (Text text) = text.items
 text_of (File file) = layout file
+
+-- the bid that is named, and its bundle
+abbrev pub outcome_of_heavy_bid : HeavyBid → Outcome
+outcome_of_heavy_bid heavy = ExceedsAtBid heavy.steps heavy.total heavy.number heavy.goods.items
 
 -- An input that gives a file, of which `outcome` says what is made.
 module _ {I : Type 0} (gives : I → I → PlainFile → Type 0) (refuses : I → I → ReadFault → Type 0)
@@ -48,6 +53,7 @@ module _ {I : Type 0} (gives : I → I → PlainFile → Type 0) (refuses : I �
   abbrev pub Commands : I → I → Result Answer RunFault → Type 0
   Commands old new (Ok answer) = Makes old new (Prints answer.status (text_of answer.output))
   Commands old new (Err (Refused which fault)) = (which ≡ Only) × IsRefused old new fault
+  Commands old new (Err (TooHeavy which heavy)) = (which ≡ Only) × Makes old new (outcome_of_heavy_bid heavy)
   Commands old new (Err (GoodRange good)) = Makes old new (LacksGood good)
   Commands old new (Err (BidRange bid)) = Makes old new (LacksBid bid)
   Commands old new (Err (Sent fault)) = ⊥

@@ -20,3 +20,12 @@ xor_ladder = record {
   dummy = 1;
   bids = bid 5000000 (0 ∷ []) (Some 0) ∷ bid 1500000 (1 ∷ []) None ∷ bid 6000000 (0 ∷ 1 ∷ []) (Some 0) ∷ [];
 }
+
+-- bids on one bundle, the first of which is of an XOR bidder
+abbrev pub repeated_bundle : PlainFile
+repeated_bundle = record {
+  goods = 2;
+  dummy = 1;
+  bids = bid 5000000 (0 ∷ 1 ∷ []) (Some 0) ∷ bid 3000000 (0 ∷ []) None ∷ bid 4000000 (0 ∷ 1 ∷ []) None
+      ∷ bid 7000000 (0 ∷ 1 ∷ []) None ∷ [];
+}

@@ -1,5 +1,6 @@
 -- What the contracts of this crate cite.
 pub mod ValueTexts
+pub mod Naming
 pub mod Outcomes
 pub mod Inputs
 pub mod Commands

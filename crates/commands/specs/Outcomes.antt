@@ -1,7 +1,9 @@
 -- What a command makes of its files. It is a text with a status, or why there is none.
-use Rattle.std.specs.Prelude.{ℕ, Bool, List, Option, Some, None, find, nat_le, nat_lt, Result, Ok, Err}
-use Rattle.std.specs.Prelude.{if◌then◌else◌}
-use Rattle.bid_file.specs.Files.{PlainFile}
+use Rattle.std.specs.Prelude.{ℕ, Bool, ◌&&◌, List, Option, Some, None, find, is_none, nat_eq, nat_le, nat_lt, Result}
+use Rattle.std.specs.Prelude.{Ok, Err, if◌then◌else◌}
+use Rattle.std.specs.Cmp.Lexicographic.{pointwise}
+use Rattle.std.specs.List.{position_or_len}
+use Rattle.bid_file.specs.Files.{PlainBid, PlainFile}
 use Rattle.cats_text.specs.Layout.{layout}
 use Rattle.valuation.specs.Auctions.{or_atoms_of, auction_from}
 use Rattle.valuation.specs.Packings.{count_packings}
@@ -32,6 +34,9 @@ pub data Outcome : Type 0 where
   LacksBid : ℕ → Outcome
   -- a search on the bundle of these goods takes more steps than its limits leave
   ExceedsSteps : List ℕ → Outcome
+  -- the same, by a command that names the bid: the limits of each search and of all together, the number of the first
+  -- bid of the OR bidder on the bundle, and its goods
+  ExceedsAtBid : ℕ → Option ℕ → ℕ → List ℕ → Outcome
 
 -- of `cats check`
 abbrev pub check_outcome : PlainFile → Outcome
@@ -95,14 +100,32 @@ text_unless_refused file (Some goods) = ExceedsSteps goods
 abbrev pub normalise_outcome : SearchOptions → PlainFile → Outcome
 normalise_outcome options file = text_unless_refused file (first_refused options file.goods (or_atoms_of file.bids))
 
--- of `cats explain`: the table of the bids with their reasons. It refuses what `cats normalise` refuses
-abbrev pub explanation_unless_refused : PlainFile → Option (List ℕ) → Outcome
-explanation_unless_refused file None = Prints 0 (explanation_text file (reasons_of file))
-explanation_unless_refused file (Some goods) = ExceedsSteps goods
+-- a bid of the OR bidder on the bundle of these goods
+abbrev pub is_on : List ℕ → PlainBid → Bool
+is_on goods b = is_none b.dummy && pointwise nat_eq b.goods goods
 
+-- the number of the first such bid
+abbrev pub first_bid_on : PlainFile → List ℕ → ℕ
+first_bid_on file goods = position_or_len (is_on goods) file.bids
+
+-- the bundle of these goods is refused, and the bid is named
+abbrev pub exceeds_at : SearchOptions → PlainFile → List ℕ → Outcome
+exceeds_at options file goods = ExceedsAtBid options.each options.total (first_bid_on file goods) goods
+
+-- a text, unless a bundle of the OR bidder is refused
+abbrev pub text_unless_heavy : SearchOptions → List ℕ → PlainFile → Option (List ℕ) → Outcome
+text_unless_heavy options text file None = Prints 0 text
+text_unless_heavy options text file (Some goods) = exceeds_at options file goods
+
+-- the canonical text, by a command that names the bid whose bundle is refused
+abbrev pub naming_outcome : SearchOptions → PlainFile → Outcome
+naming_outcome options file =
+    text_unless_heavy options (canonical_text file) file (first_refused options file.goods (or_atoms_of file.bids))
+
+-- of `cats explain`: the table of the bids with their reasons. It refuses what `cats normalise` refuses
 abbrev pub explain_outcome : SearchOptions → PlainFile → Outcome
-explain_outcome options file =
-    explanation_unless_refused file (first_refused options file.goods (or_atoms_of file.bids))
+explain_outcome options file = text_unless_heavy options (explanation_text file (reasons_of file)) file
+    (first_refused options file.goods (or_atoms_of file.bids))
 
 abbrev pub outcome_of_difference : Difference → Outcome
 outcome_of_difference difference = Prints (status_of_difference difference) (difference_text difference)

@@ -10,9 +10,10 @@ use Rattle.canon.specs.declared.canon_fault.CanonFault.TheVariants.{Memory}
 use Rattle.canon.specs.declared.which.Which.TheVariants.{Only, First, Second, Both}
 use Rattle.differences.specs.Differences.{AreAllDifferences, PlainDifferences}
 use Rattle.answers.specs.declared.report.RunFault.{RunFault}
-use Rattle.answers.specs.declared.report.RunFault.TheVariants.{Refused, GoodRange, BidRange, Sent}
-use Rattle.commands.specs.Commands.{GivesWithin, IsRefused, text_of}
-use Rattle.commands.specs.Outcomes.{Outcome, Prints, compare_outcome, diff_outcome, normalise_outcome}
+use Rattle.answers.specs.declared.report.RunFault.TheVariants.{Refused, TooHeavy, GoodRange, BidRange, Sent}
+use Rattle.commands.specs.Commands.{GivesWithin, IsRefused, Makes, outcome_of_heavy_bid, text_of}
+use Rattle.commands.specs.Outcomes.{Outcome, Prints, compare_outcome, diff_outcome, naming_outcome}
+use Rattle.commands.specs.Outcomes.{normalise_outcome}
 use Rattle.commands.specs.declared.answer.Answer.{Answer}
 
 abbrev pub outcome_of_both : PlainFile × PlainFile → Outcome
@@ -27,16 +28,16 @@ module _ {I J : Type 0} (gives_first : I → I → PlainFile → Type 0) (refuse
       GivesWithin gives_first refuses_first options first first_after files.0
       × GivesWithin gives_second refuses_second options second second_after files.1
 
-  -- the first file was refused, and the second was not read
-  pub record RefusesFirst (first first_after : I) (second second_after : J) (fault : CanonFault) : Type 0 where
-    pub refused : IsRefused gives_first refuses_first (normalise_outcome options) first first_after fault
+  -- the first file was refused for this reason, and the second was not read
+  pub record RefusesFirst (refused : I → I → Type 0) (first first_after : I) (second second_after : J) : Type 0 where
+    pub why : refused first first_after
     pub unread : second_after ≡ second
 
-  -- the second file was refused, and the first was not
-  pub record RefusesSecond (first first_after : I) (second second_after : J) (fault : CanonFault) : Type 0 where
+  -- the second file was refused for this reason, and the first was not
+  pub record RefusesSecond (refused : J → J → Type 0) (first first_after : I) (second second_after : J) : Type 0 where
     pub left : PlainFile
     pub given : GivesWithin gives_first refuses_first options first first_after left
-    pub refused : IsRefused gives_second refuses_second (normalise_outcome options) second second_after fault
+    pub why : refused second second_after
 
   -- neither file was refused, but memory for what is made of both
   pub record RefusesBoth (first first_after : I) (second second_after : J) (fault : CanonFault) : Type 0 where
@@ -50,29 +51,39 @@ module _ {I J : Type 0} (gives_first : I → I → PlainFile → Type 0) (refuse
     pub gives : Gives given
     pub made : outcome given ≡ expected
 
-  -- the contract of a command, where `Gives` says what was given and `outcome` what is made of it
-  abbrev pub CommandsBoth : {A : Type 0} → (A → Type 0) → (A → Outcome) → I → I → J → J → Result Answer RunFault
-      → Type 0
-  CommandsBoth Gives outcome first first_after second second_after (Ok answer) =
+  -- The contract of a command, where `refusal` says how a file is refused alone, `Gives` what was given, and `outcome`
+  -- what is made of it.
+  abbrev pub CommandsBoth : {A : Type 0} → (PlainFile → Outcome) → (A → Type 0) → (A → Outcome) → I → I → J → J
+      → Result Answer RunFault → Type 0
+  CommandsBoth refusal Gives outcome first first_after second second_after (Ok answer) =
       MakesOfBoth Gives outcome (Prints answer.status (text_of answer.output))
-  CommandsBoth Gives outcome first first_after second second_after (Err (Refused First fault)) =
-      RefusesFirst first first_after second second_after fault
-  CommandsBoth Gives outcome first first_after second second_after (Err (Refused Second fault)) =
-      RefusesSecond first first_after second second_after fault
-  CommandsBoth Gives outcome first first_after second second_after (Err (Refused Both fault)) =
+  CommandsBoth refusal Gives outcome first first_after second second_after (Err (Refused First fault)) =
+      RefusesFirst (λ old new. IsRefused gives_first refuses_first refusal old new fault) first first_after second
+      second_after
+  CommandsBoth refusal Gives outcome first first_after second second_after (Err (Refused Second fault)) =
+      RefusesSecond (λ old new. IsRefused gives_second refuses_second refusal old new fault) first first_after second
+      second_after
+  CommandsBoth refusal Gives outcome first first_after second second_after (Err (Refused Both fault)) =
       RefusesBoth first first_after second second_after fault
-  CommandsBoth Gives outcome first first_after second second_after (Err (Refused Only fault)) = ⊥
-  CommandsBoth Gives outcome first first_after second second_after (Err (GoodRange good)) = ⊥
-  CommandsBoth Gives outcome first first_after second second_after (Err (BidRange bid)) = ⊥
-  CommandsBoth Gives outcome first first_after second second_after (Err (Sent fault)) = ⊥
+  CommandsBoth refusal Gives outcome first first_after second second_after (Err (Refused Only fault)) = ⊥
+  CommandsBoth refusal Gives outcome first first_after second second_after (Err (TooHeavy First heavy)) =
+      RefusesFirst (λ old new. Makes gives_first refuses_first refusal old new (outcome_of_heavy_bid heavy)) first
+      first_after second second_after
+  CommandsBoth refusal Gives outcome first first_after second second_after (Err (TooHeavy Second heavy)) =
+      RefusesSecond (λ old new. Makes gives_second refuses_second refusal old new (outcome_of_heavy_bid heavy)) first
+      first_after second second_after
+  CommandsBoth refusal Gives outcome first first_after second second_after (Err (TooHeavy which heavy)) = ⊥
+  CommandsBoth refusal Gives outcome first first_after second second_after (Err (GoodRange good)) = ⊥
+  CommandsBoth refusal Gives outcome first first_after second second_after (Err (BidRange bid)) = ⊥
+  CommandsBoth refusal Gives outcome first first_after second second_after (Err (Sent fault)) = ⊥
 
   -- ---- a comparison
 
   -- which files were given, and their first difference is printed
   abbrev pub Compares : I → I → J → J → Result Answer RunFault → Type 0
   Compares first first_after second second_after answer =
-      CommandsBoth (GivesBoth first first_after second second_after) outcome_of_both first first_after second
-      second_after answer
+      CommandsBoth (normalise_outcome options) (GivesBoth first first_after second second_after) outcome_of_both first
+      first_after second second_after answer
 
   -- ---- all differences
 
@@ -83,8 +94,8 @@ module _ {I J : Type 0} (gives_first : I → I → PlainFile → Type 0) (refuse
     pub all : AreAllDifferences (auction_from (canonical_file compared.0)) (auction_from (canonical_file compared.1))
         compared.2
 
-  -- it refuses what a comparison refuses
+  -- it refuses what a comparison refuses, and names the bid
   abbrev pub Diffs : I → I → J → J → Result Answer RunFault → Type 0
   Diffs first first_after second second_after answer =
-      CommandsBoth (GivesDifferences first first_after second second_after) diff_outcome first first_after second
-      second_after answer
+      CommandsBoth (naming_outcome options) (GivesDifferences first first_after second second_after) diff_outcome first
+      first_after second second_after answer

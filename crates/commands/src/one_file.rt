@@ -8,10 +8,11 @@ ghost use Rattle.commands.specs.Outcomes.{check_outcome, explain_outcome, lp_out
 ghost use Rattle.valuation.specs.SearchLimits.{bounded_options};
 
 use crate::answer::{Answer, Output, done};
+use crate::heavy_bid::name_bid;
 use crate::input::Input;
 use answers::{RunFault, explanation_text, sizes_line};
 use bid_file::PackedFile;
-use canon::{CanonFault, normal_packed_file};
+use canon::{CanonFault, Which, normal_packed_file};
 use cats_text::Header;
 use std::alloc::Global;
 use valuation::SearchOptions;
@@ -69,7 +70,13 @@ pub fn explain<I: Input>(
     ensures { Commands I.gives I.refuses (explain_outcome (bounded_options steps total)) input.old input.new result }
 {
     let file = input.read_file(alloc).map_err(CanonFault::from)?;
-    let reasons = explain::explain(alloc, &file, steps, total)?;
+    let reasons = match explain::explain(alloc, &file, steps, total) {
+        Ok(reasons) => reasons,
+        Err(fault) => {
+            let options = SearchOptions::bounded(steps, total);
+            return Err(name_bid(Which::Only, &file, options, fault));
+        }
+    };
     let text = explanation_text(alloc, &file, reasons.as_slice())?;
     Ok(done(Output::Text(text)))
 }

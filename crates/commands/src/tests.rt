@@ -1,7 +1,7 @@
 //! Each command on files whose answer is known.
 
 use crate::{Answer, Output, check, compare, diff, explain, lp, normalise, revenue, show, value};
-use answers::RunFault;
+use answers::{RunFault, fault_line};
 use cats_text::{Watched, write};
 use std::alloc::{AllocError, Global};
 use std::process::Abort;
@@ -17,6 +17,9 @@ static CANONICAL: &[u8] =
 
 /// The same without a bid.
 static CHEAPER: &[u8] = b"goods 2\nbids 2\ndummy 1\n0\t5\t0\t2\t#\n1\t6\t0\t1\t2\t#\n";
+
+/// Two steps decide on its last bundle.
+static LARGER: &[u8] = b"goods 2\nbids 3\ndummy 0\n0 3 0 #\n1 4 1 #\n2 7 0 1 #\n";
 
 /// Steps enough for these files.
 const STEPS: u64 = 1_000;
@@ -103,4 +106,47 @@ fn two_files(rt: HostRuntime) -> Result<(), Fail> {
     let table = b"kind\tgoods\tleft\tright\tleft_dummy\tright_dummy\tleft_bid\tright_bid\n\
         or\t1\t1.5\t\t\t\t1\t\n";
     expect(&rt, alloc, all, 1, table)
+}
+
+/// How a command reports why it failed.
+fn expect_fault(
+    rt: &impl Abort,
+    alloc: Global,
+    answer: Result<Answer, RunFault>,
+    line: &[u8],
+) -> Result<(), Fail> {
+    match answer {
+        Ok(_) => panic!(rt; "nothing was refused"),
+        Err(fault) => {
+            let printed = fault_line(alloc, &fault)?;
+            assert_eq!(rt; printed.as_slice(), line);
+            Ok(())
+        }
+    }
+}
+
+#[test]
+fn heavy_bid(rt: HostRuntime) -> Result<(), Fail> {
+    let alloc = rt.alloc();
+    let options = SearchOptions::bounded(1, Some(5));
+    let first = diff(
+        alloc,
+        &mut Watched::new(LARGER),
+        &mut Watched::new(LADDER),
+        options,
+    );
+    let second = diff(
+        alloc,
+        &mut Watched::new(LADDER),
+        &mut Watched::new(LARGER),
+        options,
+    );
+    let reasons = explain(alloc, &mut Watched::new(LARGER), 1, None);
+    let normal = normalise(alloc, &mut Watched::new(LARGER), options);
+    let line = b"first: step limit of 1 (5 in all) at bid 2: 0,1\n";
+    expect_fault(&rt, alloc, first, line)?;
+    let line = b"second: step limit of 1 (5 in all) at bid 2: 0,1\n";
+    expect_fault(&rt, alloc, second, line)?;
+    expect_fault(&rt, alloc, reasons, b"step limit of 1 at bid 2: 0,1\n")?;
+    expect_fault(&rt, alloc, normal, b"step limit at 0,1\n")
 }

@@ -10,6 +10,7 @@ ghost use Rattle.commands.specs.Outcomes.{Prints, compare_outcome};
 ghost use Rattle.commands.specs.Pairs.{Compares, Diffs};
 
 use crate::answer::{Answer, Output};
+use crate::heavy_bid::name_bid;
 use crate::input::Input;
 use crate::one_file::read_canonical;
 use answers::{ComparedFile, RunFault, differences_text, verdict_status, verdict_text};
@@ -46,8 +47,8 @@ pub fn diff<I: Input, J: Input>(
     requires second { J.is_ready second.old }
     ensures { Diffs I.gives I.refuses J.gives J.refuses options first.old first.new second.old second.new result }
 {
-    let left = of(Which::First, read_compared(alloc, first, options))?;
-    let right = of(Which::Second, read_compared(alloc, second, options))?;
+    let left = read_compared(alloc, first, options, Which::First)?;
+    let right = read_compared(alloc, second, options, Which::Second)?;
     of(Which::Both, all_differences(alloc, &left, &right))
 }
 
@@ -61,19 +62,23 @@ fn of<T>(which: Which, answer: Result<T, CanonFault>) -> Result<T, RunFault>
     }
 }
 
-/// The file that an input gives, and its canonical file, with the dummy goods that the bidders have in the file.
+/// The file that an input gives, and its canonical file, with the dummy goods that the bidders have in the file. A fault is
+/// of `which`.
 fn read_compared<I: Input>(
     alloc: Global,
     input: &mut I,
     options: SearchOptions,
-) -> Result<ComparedFile, CanonFault>
+    which: Which,
+) -> Result<ComparedFile, RunFault>
     requires { I.is_ready input.old }
-    ensures answer { ReadsCompared I.gives I.refuses options input.old input.new result }
+    ensures answer { ReadsCompared I.gives I.refuses options which input.old input.new result }
     ensures compared { IfOk result IsComparedFile }
 {
-    let file = input.read_file(alloc)?;
-    let named = named_normal_file(alloc, &file, options)?;
-    Ok(ComparedFile { file, named })
+    let file = of(which, input.read_file(alloc).map_err(CanonFault::from))?;
+    match named_normal_file(alloc, &file, options) {
+        Ok(named) => Ok(ComparedFile { file, named }),
+        Err(fault) => Err(name_bid(which, &file, options, fault)),
+    }
 }
 
 /// The first difference of two canonical files.

@@ -1,11 +1,12 @@
 //! Worked examples of what is made of files. The prover computes them.
 
-ghost use Rattle.std.specs.Prelude.{◌≡◌, ◌++◌, [], ◌∷◌, codes};
-ghost use Rattle.valuation.specs.SearchLimits.{plain_options};
-ghost use Rattle.commands.specs.Examples.{larger_bid, xor_ladder};
-ghost use Rattle.commands.specs.Outcomes.{ExceedsSteps, LacksBid, LacksGood, Prints, check_outcome, compare_outcome};
-ghost use Rattle.commands.specs.Outcomes.{explain_outcome, lp_outcome, normalise_outcome, revenue_outcome, show_outcome};
-ghost use Rattle.commands.specs.Outcomes.{value_outcome};
+ghost use Rattle.std.specs.Prelude.{◌≡◌, ◌++◌, [], ◌∷◌, None, Some, codes};
+ghost use Rattle.valuation.specs.SearchLimits.{bounded_options, plain_options};
+ghost use Rattle.valuation.specs.declared.search_kind.SearchKind.TheVariants.{Bounded};
+ghost use Rattle.commands.specs.Examples.{larger_bid, repeated_bundle, xor_ladder};
+ghost use Rattle.commands.specs.Outcomes.{ExceedsAtBid, ExceedsSteps, LacksBid, LacksGood, Prints, check_outcome};
+ghost use Rattle.commands.specs.Outcomes.{compare_outcome, exceeds_at, explain_outcome, first_bid_on, lp_outcome};
+ghost use Rattle.commands.specs.Outcomes.{naming_outcome, normalise_outcome, revenue_outcome, show_outcome, value_outcome};
 ghost use Rattle.commands.specs.ValueTexts.{bundle_from};
 
 /// What `cats check` and `cats show` make of files.
@@ -53,7 +54,15 @@ pub fn canonical_files()
     ensures reasons { explain_outcome (plain_options 3) larger_bid
         ≡ Prints 0 (codes "bid\tdummy\tprice\tgoods\treason\tkept\tby\n0\t\t3\t0\tkeep\t0\t\n1\t\t4\t1\tkeep\t1\t\n"
         ++ codes "2\t\t7\t0,1\tpacking\t\t0,1\n") }
-    ensures unexplained { explain_outcome (plain_options 1) larger_bid ≡ ExceedsSteps (0 ∷ 1 ∷ []) }
+    ensures unexplained { explain_outcome (plain_options 1) larger_bid ≡ ExceedsAtBid 1 None 2 (0 ∷ 1 ∷ []) }
+{}
+
+/// The bid that is named: not that of an XOR bidder, and the first of two.
+pub fn named_bids()
+    ensures first { first_bid_on repeated_bundle (0 ∷ 1 ∷ []) ≡ 2 }
+    ensures limits { exceeds_at (record { kind = Bounded; each = 5; total = Some 7 }) repeated_bundle (0 ∷ [])
+        ≡ ExceedsAtBid 5 (Some 7) 1 (0 ∷ []) }
+    ensures in_a_diff { naming_outcome (bounded_options 1 (Some 5)) larger_bid ≡ ExceedsAtBid 1 (Some 5) 2 (0 ∷ 1 ∷ []) }
 {}
 
 /// What `cats compare` makes of two files.

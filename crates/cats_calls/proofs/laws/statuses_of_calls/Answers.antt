@@ -24,10 +24,11 @@ use Rattle.winners.specs.declared.allocation_verdict.AllocationVerdict.{Allocati
 use Rattle.winners.specs.declared.allocation_verdict.AllocationVerdict.TheVariants.{Revenue, SharedGood, SharedBidder}
 use Rattle.answers.specs.Statuses.{status_of_canon_fault, status_of_difference, status_of_fault, status_of_read_fault}
 use Rattle.answers.specs.declared.report.RunFault.{RunFault}
-use Rattle.answers.specs.declared.report.RunFault.TheVariants.{Refused, GoodRange, BidRange, Sent}
-use Rattle.commands.specs.Outcomes.{Outcome, Prints, LacksGood, LacksBid, ExceedsSteps, exceeds_limits, explain_outcome}
-use Rattle.commands.specs.Outcomes.{explanation_unless_refused, missing_good}
-use Rattle.commands.specs.Outcomes.{normalise_outcome, outcome_unless, text_unless_refused, value_outcome_by, values_unless}
+use Rattle.answers.specs.declared.report.RunFault.TheVariants.{Refused, TooHeavy, GoodRange, BidRange, Sent}
+use Rattle.commands.specs.Commands.{outcome_of_heavy_bid}
+use Rattle.commands.specs.Outcomes.{Outcome, Prints, LacksGood, LacksBid, ExceedsSteps, ExceedsAtBid, exceeds_limits, explain_outcome}
+use Rattle.commands.specs.Outcomes.{missing_good, naming_outcome}
+use Rattle.commands.specs.Outcomes.{normalise_outcome, outcome_unless, text_unless_heavy, text_unless_refused, value_outcome_by, values_unless}
 use Rattle.commands.specs.Outcomes.{check_outcome, lp_outcome, outcome_of_verdict, revenue_outcome, show_outcome}
 use Rattle.commands.specs.ValueTexts.{bundle_from}
 use Rattle.cats_calls.specs.Buffers.{Calls, PutsInto, RefusesBy}
@@ -54,6 +55,7 @@ status_in (Prints status text) = status
 status_in (LacksGood good) = 64
 status_in (LacksBid bid) = 64
 status_in (ExceedsSteps goods) = 3
+status_in (ExceedsAtBid steps total number goods) = 3
 
 module _ (P : ℕ → Type 0) (zero : P 0) (two : P 2) (four : P 4) (six : P 6) where
   by_test : (test : Bool) (a b : ℕ) → P a → P b → P (if test then a else b)
@@ -98,6 +100,7 @@ module _ (P : ℕ → Type 0) (zero : P 0) (two : P 2) (four : P 4) (six : P 6) 
     refused (GoodRange good) h = made (LacksGood good) h
     refused (BidRange bid) h = made (LacksBid bid) h
     refused (Refused which fault) h = of_only (IsUnmade outcome text) unmade (Refused which fault) h
+    refused (TooHeavy which heavy) h = made (outcome_of_heavy_bid heavy) h.1
     refused (Sent fault) h = absurd h
 
     on_text : (old new : List ℕ) (needed status : ℕ) → CallsOn outcome text old new needed status → P status
@@ -139,12 +142,15 @@ module _ (P : ℕ → Type 0) (zero : P 0) (two : P 2) (four : P 4) (six : P 6) 
         by None = zero
         by (Some goods) = three
 
+    unless_heavy : (text : List ℕ) (file : PlainFile) (over : Option (List ℕ)) → P (status_in (text_unless_heavy options text file over))
+    unless_heavy text file None = zero
+    unless_heavy text file (Some goods) = three
+
     of_explained : (file : PlainFile) → P (status_in (explain_outcome options file))
-    of_explained file = by (first_refused options file.goods (or_atoms_of file.bids))
-      where
-        by : (over : Option (List ℕ)) → P (status_in (explanation_unless_refused file over))
-        by None = zero
-        by (Some goods) = three
+    of_explained file = unless_heavy _ file (first_refused options file.goods (or_atoms_of file.bids))
+
+    of_named : (file : PlainFile) → P (status_in (naming_outcome options file))
+    of_named file = unless_heavy _ file (first_refused options file.goods (or_atoms_of file.bids))
 
     of_values : P 64 → (goods : List ℕ) (file : PlainFile) → P (status_in (value_outcome_by goods options file))
     of_values last goods file = by (missing_good file.goods goods) (exceeds_limits (bundle_from goods) options file)
@@ -154,11 +160,15 @@ module _ (P : ℕ → Type 0) (zero : P 0) (two : P 2) (four : P 4) (six : P 6) 
         by None true = three
         by None false = zero
 
-    of_two : (left right : List ℕ) (fault : RunFault) → IsRefusedOfTwo options left right fault → P (status_of_fault fault)
-    of_two left right (Refused First fault) r = unmade (normalise_outcome options) of_normalised left fault r
-    of_two left right (Refused Second fault) r = unmade (normalise_outcome options) of_normalised right fault r.1
-    of_two left right (Refused Both fault) r = subst P (sym (ap status_of_canon_fault r.2)) four
-    of_two left right fault r = absurd r
+    module _ (refusal : SearchOptions → PlainFile → Outcome) (of_file : (file : PlainFile) → P (status_in (refusal options file)))
+        (left right : List ℕ) where
+      of_two : (fault : RunFault) → IsRefusedOfTwo options left right refusal fault → P (status_of_fault fault)
+      of_two (Refused First fault) r = unmade (refusal options) of_file left fault r
+      of_two (Refused Second fault) r = unmade (refusal options) of_file right fault r.1
+      of_two (Refused Both fault) r = subst P (sym (ap status_of_canon_fault r.2)) four
+      of_two (TooHeavy First heavy) r = made (refusal options) of_file left (outcome_of_heavy_bid heavy) r
+      of_two (TooHeavy Second heavy) r = made (refusal options) of_file right (outcome_of_heavy_bid heavy) r.1
+      of_two fault r = absurd r
 
     module _ (one : P 1) (left right : List ℕ) where
       of_difference : (d : Difference) → P (status_of_difference d)
@@ -166,14 +176,15 @@ module _ (P : ℕ → Type 0) (zero : P 0) (two : P 2) (four : P 4) (six : P 6) 
       of_difference d = one
 
       compared : (old new : List ℕ) (needed status : ℕ) → CompareCalls options left right old new needed status → P status
-      compared = called (ComparesTexts options left right) (IsRefusedOfTwo options left right)
+      compared = called (ComparesTexts options left right) (IsRefusedOfTwo options left right normalise_outcome)
           (λ status out says. subst (λ (o : Outcome). P (status_in o)) says.made
-          (of_difference (first_difference (auction_from says.first.file) (auction_from says.second.file)))) (of_two left right)
+          (of_difference (first_difference (auction_from says.first.file) (auction_from says.second.file))))
+          (of_two normalise_outcome of_normalised left right)
 
       diffed : (old new : List ℕ) (needed status : ℕ) → DiffCalls options left right old new needed status → P status
-      diffed = called (DiffsTexts options left right) (IsRefusedOfTwo options left right)
+      diffed = called (DiffsTexts options left right) (IsRefusedOfTwo options left right naming_outcome)
           (λ status out says. subst (λ (o : Outcome). P (status_in o)) says.made (by_test (is_none_at_all says.differences) 0 1 zero one))
-          (of_two left right)
+          (of_two naming_outcome of_named left right)
 
   -- ---- a text is rounded
 

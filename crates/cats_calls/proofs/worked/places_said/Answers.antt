@@ -1,4 +1,4 @@
-use Rattle.std.proofs.Common.{[], inl, inr, refl, sym, ap, codes, arith}
+use Rattle.std.proofs.Common.{[], inl, inr, refl, ap, codes, arith}
 use Rattle.std.proofs.lemmas.Bool.{eqb-false}
 use Rattle.std.specs.Fmt.{digits}
 use Rattle.cats_calls.proofs.SmallTexts.{number_in, other_byte, puts_whole, text_in}

@@ -8,7 +8,7 @@ use Rattle.prune.specs.Points.{points_where, is_or_point, is_xor_point}
 use Rattle.prune.specs.SearchSteps.{search_steps_by, first_over, first_refused}
 use Rattle.cats_text.specs.FileLines.{spelled_file}
 use Rattle.cats_text.proofs.Spelling.Files.{spells_from_no_fault}
-use Rattle.commands.specs.Outcomes.{ExceedsSteps, LacksGood, normalise_outcome, value_outcome_by}
+use Rattle.commands.specs.Outcomes.{ExceedsAtBid, ExceedsSteps, LacksGood, explain_outcome, normalise_outcome, value_outcome_by}
 use Rattle.cats_calls.proofs.SmallTexts.{makes, makes_only, number_in}
 use Rattle.cats_calls.proofs.worked.texts_refused.Goals as goal
 
@@ -21,6 +21,21 @@ pub returns-clause-over_limit : goal.returns-clause-over_limit
 unfolding digits first_refused first_over search_steps_by cut_steps points_where is_or_point is_xor_point or_value xor_value
 returns-clause-over_limit c =
     λ goods e. makes (normalise_outcome (bounded_options 0 None)) (codes "goods 1\nbids 1\ndummy 0\n0 3 0 #\n") (ExceedsSteps goods.items) refl (ap ExceedsSteps (sym e))
+
+pub returns-clause-heavy_bid : goal.returns-clause-heavy_bid
+unfolding digits first_refused first_over search_steps_by cut_steps points_where is_or_point is_xor_point or_value xor_value
+returns-clause-heavy_bid c =
+    λ goods e. (
+      refl,
+      makes (explain_outcome (bounded_options 0 None)) (codes "goods 1\nbids 1\ndummy 0\n0 3 0 #\n") (ExceedsAtBid 0 None 0 goods.items)
+          refl (ap (ExceedsAtBid 0 None 0) (sym e)),
+    )
+
+pub returns-clause-other_bid : goal.returns-clause-other_bid
+unfolding digits first_refused first_over search_steps_by cut_steps points_where is_or_point is_xor_point or_value xor_value
+returns-clause-other_bid c =
+    λ goods h. eqb-false 10 11 refl (ap number_in (makes_only (explain_outcome (bounded_options 0 None)) (codes "goods 1\nbids 1\ndummy 0\n0 3 0 #\n")
+    (ExceedsAtBid 0 None 1 goods.items) h.1))
 
 pub returns-clause-good : goal.returns-clause-good
 unfolding digits
