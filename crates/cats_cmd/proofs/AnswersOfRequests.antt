@@ -1,5 +1,5 @@
 -- What holds of each answer to a request: the statuses of a run that answered, what a request that failed has written, and that only
--- `round`, `duplicates` and `sizes` report before they end, or a list of bids that is refused.
+-- `round`, `duplicates`, `sizes` and rounded prices are reported on before they end, or a list of bids that is refused.
 use Rattle.std.proofs.Common.{◌≡◌, ◌≢◌, ℕ, List, Option, None, Some, Result, Ok, Err, Bool, true, false, cond, ◌∙◌, subst, arith, ◌≤◌}
 use Rattle.std.proofs.Common.{refl, sym, ⊎_elim, ◌⊎◌, inl, inr, ◌==◌}
 use Rattle.std.proofs.lemmas.Bool.{both_ways, eq-eqb}
@@ -16,37 +16,44 @@ use Rattle.canon.specs.declared.canon_fault.CanonFault.{CanonFault}
 use Rattle.canon.specs.declared.canon_fault.CanonFault.TheVariants.{Read, StepLimit, Memory}
 use Rattle.differences.specs.Differences.{PlainDifferences, is_none_at_all}
 use Rattle.commands.specs.Commands.{Commands}
-use Rattle.commands.specs.Inputs.{StreamGives, StreamRefuses}
 use Rattle.commands.specs.Outcomes.{Outcome, Prints, ExceedsSteps, check_outcome, show_outcome, lp_outcome, normalise_outcome, exceeds_limits}
-use Rattle.commands.specs.Outcomes.{explain_outcome, explanation_unless_refused, value_outcome_by, value_outcome_if, values_unless}
+use Rattle.commands.specs.Outcomes.{explain_outcome, text_unless_heavy, value_outcome_by, value_outcome_if, values_unless}
 use Rattle.commands.specs.Outcomes.{diff_outcome, missing_good, outcome_unless, text_unless_refused, outcome_of_difference, outcome_of_verdict}
 use Rattle.commands.specs.Outcomes.{revenue_outcome}
+use Rattle.answers.specs.ExplanationTexts.{explanation_text}
+use Rattle.explain.specs.Reasons.{reasons_of}
 use Rattle.commands.specs.Pairs.{Compares as ComparesFiles, Diffs}
 use Rattle.commands.specs.ValueTexts.{bundle_from, value_text}
 use Rattle.commands.specs.declared.answer.Answer.{Answer}
 use Rattle.winners.specs.AllocationVerdicts.{allocation_verdict}
 use Rattle.winners.specs.declared.allocation_verdict.AllocationVerdict.{AllocationVerdict}
 use Rattle.winners.specs.declared.allocation_verdict.AllocationVerdict.TheVariants.{Revenue as Revenue_is, SharedGood, SharedBidder}
-use Rattle.cats_cmd.specs.FindingFaults.{FindsFault, outcome_of_place}
-use Rattle.cats_cmd.specs.Inputs.{IsOpened}
-use Rattle.cats_cmd.specs.Internal.Carrying.{answer_of_run}
-use Rattle.cats_cmd.specs.Requests.{AnswersRequest, CarriesOut, RoundsAt, FindsFaultAt, RunsAt, RunsAtBoth, RunsFor, FailsRequest, bounded_by}
+use Rattle.cats_cmd.specs.FindingFaults.{outcome_of_place}
+use Rattle.cats_cmd.specs.PricedInputs.{PricedGives, PricedRefuses, fine_prices}
+use Rattle.cats_cmd.specs.Requests.{AnswersRequest, CarriesOut, RunsAt, RunsFor, RunsOfCommand, RunsOfPair, FailsRequest, bounded_by}
 use Rattle.cats_cmd.specs.Requests.{fine_of, options_of}
 use Rattle.rounding.specs.declared.replacement.FinePrices.{FinePrices}
-use Rattle.cats_cmd.specs.Runs.{RunsCommand, RunsOnFile}
+use Rattle.cats_cmd.specs.Runs.{RunsCommand}
 use Rattle.answers.specs.Statuses.{status_of_canon_fault, status_of_differences, status_of_read_fault}
 use Rattle.cats_cmd.specs.Rounding.{Rounds}
-use Rattle.cats_cmd.specs.RequestErrors.{Reports, line_of_request_error, has_found, is_for_many_files, is_reporting}
+use Rattle.cats_cmd.specs.RequestErrors.{Reports, line_of_request_error, has_found, is_for_many_files, is_reporting, is_rounding}
 use Rattle.cats_cmd.specs.RequestErrors.{names_found, names_many_files, names_reporting}
 use Rattle.cats_cmd.specs.RequestErrors.{status_of_request_error}
 use Rattle.cats_cmd.specs.declared.errors.RequestError.{RequestError}
 use Rattle.cats_cmd.specs.declared.errors.RequestError.TheVariants.{CannotOpen, NotOpened, Run}
 use Rattle.answers.specs.declared.report.RunFault.{RunFault}
-use Rattle.answers.specs.declared.report.RunFault.TheVariants.{Refused, GoodRange, BidRange, Sent}
-use Rattle.command_line.specs.PlainRequests.{PlainRequest, Check, Fault, Show, Value, Revenue, Normalise, Explain, Round, Lp, Compare}
-use Rattle.command_line.specs.PlainRequests.{Diff, Duplicates, Sizes, GivenBids, BidsIn}
+use Rattle.answers.specs.declared.report.RunFault.TheVariants.{Refused, TooHeavy, GoodRange, BidRange, Sent}
+use Rattle.command_line.specs.PlainRequests.{PlainRequest, OnFile, OnPair, OnFiles, Fault, Round, GivenBids, BidsIn}
+use Rattle.command_line.specs.PlainRequests.{PlainCommand, Check, Show, Value, Revenue, Normalise, Explain, Lp}
+use Rattle.command_line.specs.declared.request.Limits.{Limits}
+use Rattle.command_line.specs.declared.request.PairCommand.{PairCommand}
+use Rattle.command_line.specs.declared.request.PairCommand.TheVariants.{Compare, Diff}
+use Rattle.command_line.specs.declared.request.Prices.{Prices}
+use Rattle.command_line.specs.declared.request.Prices.TheVariants.{AsWritten}
 use Rattle.command_line.specs.Requests.{request_of}
+use Rattle.cats_cmd.specs.declared.priced_input.PricedInput.{PricedInput}
 use Rattle.cats_cmd.specs.declared.source.Unopened.{Unopened}
+use Rattle.cats_cmd.proofs.PricedInputs.{none_given}
 
 -- ---- the outcomes that have a text
 
@@ -69,14 +76,15 @@ pub normalise_prints : (options : SearchOptions) (file : PlainFile) (status : �
     → status ≡ 0
 normalise_prints options file status text is = normal_prints (first_refused options file.goods (or_atoms_of file.bids)) file status text is
 
-explained_prints : (heavy : Option (List ℕ)) (file : PlainFile) (status : ℕ) (text : List ℕ) → explanation_unless_refused file heavy ≡ Prints status text
-    → status ≡ 0
-explained_prints None file status text is = cc
-explained_prints (Some goods) file status text is = cc
+explained_prints : (heavy : Option (List ℕ)) (options : SearchOptions) (made : List ℕ) (file : PlainFile) (status : ℕ) (text : List ℕ)
+    → text_unless_heavy options made file heavy ≡ Prints status text → status ≡ 0
+explained_prints None options made file status text is = cc
+explained_prints (Some goods) options made file status text is = cc
 
 pub explain_prints : (options : SearchOptions) (file : PlainFile) (status : ℕ) (text : List ℕ) → explain_outcome options file ≡ Prints status text
     → status ≡ 0
-explain_prints options file status text is = explained_prints (first_refused options file.goods (or_atoms_of file.bids)) file status text is
+explain_prints options file status text is =
+    explained_prints (first_refused options file.goods (or_atoms_of file.bids)) options (explanation_text file (reasons_of file)) file status text is
 
 pub value_prints : (goods : List ℕ) (refuses : PlainFile → Bool) (file : PlainFile) (status : ℕ) (text : List ℕ)
     → value_outcome_if refuses goods file ≡ Prints status text → status ≡ 0
@@ -133,6 +141,7 @@ abbrev IsSilent : {W : Type 0} → RequestError → Watched W → Watched W → 
 IsSilent (CannotOpen which) old new = new ≡ old
 IsSilent (NotOpened why) old new = new ≡ old
 IsSilent (Run (Refused which fault)) old new = new ≡ old
+IsSilent (Run (TooHeavy which heavy)) old new = new ≡ old
 IsSilent (Run (GoodRange good)) old new = new ≡ old
 IsSilent (Run (BidRange bid)) old new = new ≡ old
 IsSilent (Run (Sent fault)) old new = Unit {0}
@@ -141,6 +150,7 @@ IsSilent (Run (Sent fault)) old new = Unit {0}
 silent_run : {W : Type 0} (contents : W → Option (List ℕ)) (Answers : Result Answer RunFault → Type 0) (old new : Watched W) (fault : RunFault)
     → RunsCommand contents Answers old new (Err fault) → IsSilent (Run fault) old new
 silent_run contents Answers old new (Refused which fault) ran = ran.1
+silent_run contents Answers old new (TooHeavy which heavy) ran = ran.1
 silent_run contents Answers old new (GoodRange good) ran = ran.1
 silent_run contents Answers old new (BidRange bid) ran = ran.1
 silent_run contents Answers old new (Sent fault) ran = tt
@@ -150,6 +160,7 @@ silent_rounding : {R W E : Type 0} (remaining : R → Option (List ℕ)) (conten
     (before after : Watched R) (out out_after : Watched W) (err err_after : Watched E) (fault : RunFault)
     → Rounds remaining contents messages fine before after out out_after err err_after (Err fault) → IsSilent (Run fault) out out_after
 silent_rounding remaining contents messages fine before after out out_after err err_after (Refused which fault) ran = ran.silent
+silent_rounding remaining contents messages fine before after out out_after err err_after (TooHeavy which heavy) ran = absurd ran
 silent_rounding remaining contents messages fine before after out out_after err err_after (GoodRange good) ran = absurd ran
 silent_rounding remaining contents messages fine before after out out_after err err_after (BidRange bid) ran = absurd ran
 silent_rounding remaining contents messages fine before after out out_after err err_after (Sent fault) ran = tt
@@ -171,6 +182,7 @@ error_status_above : (error : RequestError) → 2 ≤ status_of_request_error er
 error_status_above (CannotOpen which) = omega arith
 error_status_above (NotOpened why) = omega arith
 error_status_above (Run (Refused which fault)) = canon_status_above fault
+error_status_above (Run (TooHeavy which heavy)) = omega arith
 error_status_above (Run (GoodRange good)) = omega arith
 error_status_above (Run (BidRange bid)) = omega arith
 error_status_above (Run (Sent fault)) = omega arith
@@ -179,120 +191,188 @@ silent_unless_failed : {W : Type 0} (error : RequestError) (old new : Watched W)
 silent_unless_failed (CannotOpen which) old new silent failed = silent
 silent_unless_failed (NotOpened why) old new silent failed = silent
 silent_unless_failed (Run (Refused which fault)) old new silent failed = silent
+silent_unless_failed (Run (TooHeavy which heavy)) old new silent failed = silent
 silent_unless_failed (Run (GoodRange good)) old new silent failed = silent
 silent_unless_failed (Run (BidRange bid)) old new silent failed = silent
 silent_unless_failed (Run (Sent fault)) old new silent failed = absurd (failed refl)
 
+-- prices that are not rounded are read as they are written
+none_rounded : (prices : Prices) → is_rounding prices ≡ false → fine_prices prices ≡ None
+none_rounded AsWritten plain = refl
+none_rounded prices plain = cc
+
 -- ---- requests
 
 module _ {F W E : Type 0} (may_open : List ℕ → F → Type 0) (may_refuse : List ℕ → Unopened → Type 0) (remaining : F → Option (List ℕ))
-    (contents : W → Option (List ℕ)) (messages : E → Option (List ℕ)) (terminal : Bool) (out out_after : Watched W) (err : Watched E) where
+    (contents : W → Option (List ℕ)) (messages : E → Option (List ℕ)) (terminal : Bool)
+    (may_find : List ℕ → Option (List (List ℕ)) → Type 0) (out out_after : Watched W) (err : Watched E) where
   -- a run of one file that answered has the status of its outcome
-  printed_at : (path : List ℕ) (outcome : PlainFile → Outcome)
-      → ((file : PlainFile) (status : ℕ) (text : List ℕ) → outcome file ≡ Prints status text → status ≡ 0) → (status : ℕ)
-      → RunsAt may_open remaining contents path outcome out out_after (Ok status) → status ≤ 1
-  printed_at path outcome only status ran =
+  printed_at : (path : List ℕ) (prices : Prices) (outcome : PlainFile → Outcome)
+      → ((file : PlainFile) (status : ℕ) (text : List ℕ) → outcome file ≡ Prints status text → status ≡ 0) → (err_after : Watched E) (status : ℕ)
+      → RunsAt may_open remaining contents messages path prices outcome out out_after err err_after (Ok status) → status ≤ 1
+  printed_at path prices outcome only err_after status ran =
       let r = ran.runs in let none = only r.answers.file r.answer.status _ r.answers.made in let is = r.is_status in omega (arith, none, is)
 
-  winners_printed : (path bids : List ℕ) (status : ℕ) → RunsAt may_open remaining contents path (revenue_outcome bids) out out_after (Ok status)
-      → status ≤ 1
-  winners_printed path bids status ran =
+  winners_printed : (path : List ℕ) (prices : Prices) (bids : List ℕ) (err_after : Watched E) (status : ℕ)
+      → RunsAt may_open remaining contents messages path prices (revenue_outcome bids) out out_after err err_after (Ok status) → status ≤ 1
+  winners_printed path prices bids err_after status ran =
       let r = ran.runs in
       let most = revenue_prints (allocation_verdict r.answers.file bids) r.answer.status _ r.answers.made in
       let is = r.is_status in
       omega (arith, most, is)
 
+  -- one that answered has reported nothing, if prices are not rounded
+  quiet_at : (path : List ℕ) (prices : Prices) (outcome : PlainFile → Outcome) (err_after : Watched E) (status : ℕ) → is_rounding prices ≡ false
+      → RunsAt may_open remaining contents messages path prices outcome out out_after err err_after (Ok status) → err_after ≡ err
+  quiet_at path prices outcome err_after status plain ran =
+      let made = ran.runs.answers in
+      let none = none_given remaining ran.before ran.after (ran.opened.fine ∙ none_rounded prices plain) made.file made.given in
+      rw none at ran.reports
+
   -- one that failed has written nothing, unless its output failed
-  silent_at : (path : List ℕ) (outcome : PlainFile → Outcome) (fault : RunFault) → RunsAt may_open remaining contents path outcome out out_after (Err fault)
+  silent_at : (path : List ℕ) (prices : Prices) (outcome : PlainFile → Outcome) (err_after : Watched E) (fault : RunFault)
+      → RunsAt may_open remaining contents messages path prices outcome out out_after err err_after (Err fault) → IsSilent (Run fault) out out_after
+  silent_at path prices outcome err_after fault ran =
+      silent_run contents (Commands (PricedGives remaining) (PricedRefuses remaining) outcome ran.before ran.after) out out_after fault ran.runs
+
+  -- ---- a command on one file
+
+  -- it has the status 0 or 1, or has written nothing
+  command_answered : (path : List ℕ) (prices : Prices) (command : PlainCommand) (err_after : Watched E) (status : ℕ)
+      → RunsOfCommand may_open may_refuse remaining contents messages terminal path prices command out out_after err err_after (Ok status)
+      → (status ≤ 1) ⊎ (out_after ≡ out)
+  command_answered path prices Check err_after status ran = inl (printed_at path prices check_outcome (λ file s text is. cc) err_after status ran)
+  command_answered path prices Show err_after status ran = inl (printed_at path prices show_outcome (λ file s text is. cc) err_after status ran)
+  command_answered path prices (Value goods limits) err_after status ran =
+      inl (printed_at path prices (value_outcome_by goods (options_of limits)) (value_prints goods (exceeds_limits (bundle_from goods) (options_of limits)))
+      err_after status ran)
+  command_answered path prices (Revenue (GivenBids bids)) err_after status ran = inl (winners_printed path prices bids err_after status ran)
+  command_answered path prices (Revenue (BidsIn list)) err_after status ran =
+      ⊎_elim (λ listed. inl (winners_printed path prices listed.bids err_after status listed.runs)) (λ refused. inr refused.silent) ran
+  command_answered path prices (Normalise limits) err_after status ran =
+      inl (printed_at path prices (normalise_outcome (options_of limits)) (normalise_prints (options_of limits)) err_after status ran)
+  command_answered path prices (Explain limits) err_after status ran =
+      inl (printed_at path prices (explain_outcome (bounded_by limits)) (explain_prints (bounded_by limits)) err_after status ran)
+  command_answered path prices Lp err_after status ran = inl (printed_at path prices lp_outcome (λ file s text is. cc) err_after status ran)
+
+  command_quiet : (path : List ℕ) (prices : Prices) (command : PlainCommand) (err_after : Watched E) (status : ℕ) → is_rounding prices ≡ false
+      → RunsOfCommand may_open may_refuse remaining contents messages terminal path prices command out out_after err err_after (Ok status) → status ≤ 1
+      → err_after ≡ err
+  command_quiet path prices Check err_after status plain ran most = quiet_at path prices check_outcome err_after status plain ran
+  command_quiet path prices Show err_after status plain ran most = quiet_at path prices show_outcome err_after status plain ran
+  command_quiet path prices (Value goods limits) err_after status plain ran most =
+      quiet_at path prices (value_outcome_by goods (options_of limits)) err_after status plain ran
+  command_quiet path prices (Revenue (GivenBids bids)) err_after status plain ran most =
+      quiet_at path prices (revenue_outcome bids) err_after status plain ran
+  command_quiet path prices (Revenue (BidsIn list)) err_after status plain ran most =
+      ⊎_elim (λ listed. quiet_at path prices (revenue_outcome listed.bids) err_after status plain listed.runs)
+      (λ refused. let least = error_status_above refused.error in let is = refused.is_status in absurd (omega (arith, least, is, most))) ran
+  command_quiet path prices (Normalise limits) err_after status plain ran most =
+      quiet_at path prices (normalise_outcome (options_of limits)) err_after status plain ran
+  command_quiet path prices (Explain limits) err_after status plain ran most =
+      quiet_at path prices (explain_outcome (bounded_by limits)) err_after status plain ran
+  command_quiet path prices Lp err_after status plain ran most = quiet_at path prices lp_outcome err_after status plain ran
+
+  command_silent : (path : List ℕ) (prices : Prices) (command : PlainCommand) (err_after : Watched E) (fault : RunFault)
+      → RunsOfCommand may_open may_refuse remaining contents messages terminal path prices command out out_after err err_after (Err fault)
       → IsSilent (Run fault) out out_after
-  silent_at path outcome fault ran =
-      silent_run contents (Commands (StreamGives remaining) (StreamRefuses remaining) outcome ran.before ran.after) out out_after fault ran.runs
+  command_silent path prices Check err_after fault ran = silent_at path prices check_outcome err_after fault ran
+  command_silent path prices Show err_after fault ran = silent_at path prices show_outcome err_after fault ran
+  command_silent path prices (Value goods limits) err_after fault ran =
+      silent_at path prices (value_outcome_by goods (options_of limits)) err_after fault ran
+  command_silent path prices (Revenue (GivenBids bids)) err_after fault ran = silent_at path prices (revenue_outcome bids) err_after fault ran
+  command_silent path prices (Revenue (BidsIn list)) err_after fault ran = silent_at path prices (revenue_outcome ran.bids) err_after fault ran.runs
+  command_silent path prices (Normalise limits) err_after fault ran =
+      silent_at path prices (normalise_outcome (options_of limits)) err_after fault ran
+  command_silent path prices (Explain limits) err_after fault ran = silent_at path prices (explain_outcome (bounded_by limits)) err_after fault ran
+  command_silent path prices Lp err_after fault ran = silent_at path prices lp_outcome err_after fault ran
+
+  -- ---- a command on two files
+
+  module _ (limits : Limits) (left left_after right right_after : PricedInput F) where
+    pair_answered : (command : PairCommand) (status : ℕ)
+        → RunsOfPair may_open may_refuse remaining contents messages terminal command limits out out_after (Ok status) left left_after right right_after
+        → status ≤ 1
+    pair_answered Compare status ran =
+        let given = ran.answers.given in
+        let most = differs_or_same (first_difference (auction_from given.0) (auction_from given.1)) ran.answer.status _ ran.answers.made in
+        let is = ran.is_status in
+        omega (arith, most, is)
+    pair_answered Diff status ran =
+        let most = any_differences ran.answers.given ran.answer.status _ ran.answers.made in
+        let is = ran.is_status in
+        omega (arith, most, is)
+
+    -- no price is rounded of files whose prices are read as they are written
+    pair_unrounded : (command : PairCommand) (status : ℕ)
+        → RunsOfPair may_open may_refuse remaining contents messages terminal command limits out out_after (Ok status) left left_after right right_after
+        → left.fine ≡ None → right.fine ≡ None → (left_after.rounded ≡ 0) × (right_after.rounded ≡ 0)
+    pair_unrounded Compare status ran first second =
+        let given = ran.answers.gives in
+        (none_given remaining left left_after first _ given.0.given, none_given remaining right right_after second _ given.1.given)
+    pair_unrounded Diff status ran first second =
+        let given = ran.answers.gives.given in
+        (none_given remaining left left_after first _ given.0.given, none_given remaining right right_after second _ given.1.given)
+
+    pair_silent : (command : PairCommand) (fault : RunFault)
+        → RunsOfPair may_open may_refuse remaining contents messages terminal command limits out out_after (Err fault) left left_after right right_after
+        → IsSilent (Run fault) out out_after
+    pair_silent Compare fault ran =
+        silent_run contents (ComparesFiles (PricedGives remaining) (PricedRefuses remaining) (PricedGives remaining) (PricedRefuses remaining)
+        (options_of limits) left left_after right right_after) out out_after fault ran
+    pair_silent Diff fault ran =
+        silent_run contents (Diffs (PricedGives remaining) (PricedRefuses remaining) (PricedGives remaining) (PricedRefuses remaining) (bounded_by limits)
+        left left_after right right_after) out out_after fault ran
+
+  -- ---- any request
 
   -- a request for one or two files that answered has the status 0 or 1, or has written nothing, unless it has found a fault
   answered : (request : PlainRequest) (err_after : Watched E) (status : ℕ)
-      → RunsFor may_open may_refuse remaining contents messages terminal request out out_after err err_after (Ok status) → is_for_many_files request ≡ false
+      → RunsFor may_open may_refuse remaining contents messages terminal may_find request out out_after err err_after (Ok status) → is_for_many_files request ≡
+      false
       → has_found status request ≡ false → (status ≤ 1) ⊎ (out_after ≡ out)
-  answered (Check file) err_after status ran few none = inl (printed_at file check_outcome (λ file s text is. cc) status ran.0)
+  answered (OnFile path prices command) err_after status ran few none = command_answered path prices command err_after status ran
+  answered (OnPair first second prices command limits) err_after status ran few none =
+      inl (pair_answered limits ran.left ran.left_after ran.right ran.right_after command status ran.runs)
+  answered (OnFiles files) err_after status ran few none = absurd (cc)
   answered (Fault file) err_after status ran few none =
       let made = ran.0.runs in inl (none_printed file (first_place made.given) status made.text made.made none)
-  answered (Show file) err_after status ran few none = inl (printed_at file show_outcome (λ file s text is. cc) status ran.0)
-  answered (Value file goods limits) err_after status ran few none =
-      inl (printed_at file (value_outcome_by goods (options_of limits)) (value_prints goods (exceeds_limits (bundle_from goods) (options_of limits)))
-      status ran.0)
-  answered (Revenue file (GivenBids bids)) err_after status ran few none = inl (winners_printed file bids status ran.0)
-  answered (Revenue file (BidsIn list)) err_after status ran few none =
-      ⊎_elim (λ listed. inl (winners_printed file listed.bids status listed.runs.0)) (λ refused. inr refused.silent) ran
-  answered (Normalise file limits) err_after status ran few none =
-      inl (printed_at file (normalise_outcome (options_of limits)) (normalise_prints (options_of limits)) status ran.0)
-  answered (Explain file limits) err_after status ran few none =
-      inl (printed_at file (explain_outcome (bounded_by limits)) (explain_prints (bounded_by limits)) status ran.0)
   answered (Round file exact) err_after status ran few none = let made = ran.runs.made in let is : 0 ≡ status = cc in inl (omega (arith, is))
-  answered (Lp file) err_after status ran few none = inl (printed_at file lp_outcome (λ file s text is. cc) status ran.0)
-  answered (Compare first second limits) err_after status ran few none =
-      let r = ran.0.runs in
-      let most = differs_or_same (first_difference (auction_from r.answers.given.0) (auction_from r.answers.given.1)) r.answer.status _ r.answers.made in
-      let is = r.is_status in
-      inl (omega (arith, most, is))
-  answered (Diff first second limits) err_after status ran few none =
-      let r = ran.0.runs in
-      let most = any_differences r.answers.given r.answer.status _ r.answers.made in
-      let is = r.is_status in
-      inl (omega (arith, most, is))
-  answered (Duplicates files) err_after status ran few none = absurd (cc)
-  answered (Sizes files) err_after status ran few none = absurd (cc)
 
   -- a request that answered has reported nothing, unless it is one that reports
   quiet : (request : PlainRequest) (err_after : Watched E) (status : ℕ)
-      → RunsFor may_open may_refuse remaining contents messages terminal request out out_after err err_after (Ok status) → is_reporting request ≡ false
+      → RunsFor may_open may_refuse remaining contents messages terminal may_find request out out_after err err_after (Ok status) → is_reporting request ≡ false
       → status ≤ 1 → err_after ≡ err
-  quiet (Check file) err_after status ran silent most = ran.1
-  quiet (Fault file) err_after status ran silent most = ran.1
-  quiet (Show file) err_after status ran silent most = ran.1
-  quiet (Value file goods limits) err_after status ran silent most = ran.1
-  quiet (Revenue file (GivenBids bids)) err_after status ran silent most = ran.1
-  quiet (Revenue file (BidsIn list)) err_after status ran silent most =
-      ⊎_elim (λ listed. listed.runs.1)
-      (λ refused. let least = error_status_above refused.error in let is = refused.is_status in absurd (omega (arith, least, is, most))) ran
-  quiet (Normalise file limits) err_after status ran silent most = ran.1
-  quiet (Explain file limits) err_after status ran silent most = ran.1
-  quiet (Round file exact) err_after status ran silent most = absurd (cc)
-  quiet (Lp file) err_after status ran silent most = ran.1
-  quiet (Compare left right limits) err_after status ran silent most = ran.1
-  quiet (Diff left right limits) err_after status ran silent most = ran.1
-  quiet (Duplicates files) err_after status ran silent most = absurd (cc)
-  quiet (Sizes files) err_after status ran silent most = absurd (cc)
+  quiet (OnFile path prices command) err_after status ran plain most = command_quiet path prices command err_after status plain ran most
+  quiet (OnPair first second prices command limits) err_after status ran plain most =
+      let written = none_rounded prices plain in
+      let none = pair_unrounded limits ran.left ran.left_after ran.right ran.right_after command status ran.runs (ran.left_opened.fine ∙ written)
+      (ran.right_opened.fine ∙ written) in
+      rw none.1 at (rw none.0 at ran.reports)
+  quiet (OnFiles files) err_after status ran plain most = absurd (cc)
+  quiet (Fault file) err_after status ran plain most = ran.1
+  quiet (Round file exact) err_after status ran plain most = absurd (cc)
 
   -- a request that failed has written nothing, unless its output failed
   silent_fault : (request : PlainRequest) (err_after : Watched E) (fault : RunFault)
-      → RunsFor may_open may_refuse remaining contents messages terminal request out out_after err err_after (Err fault) → is_for_many_files request ≡ false
+      → RunsFor may_open may_refuse remaining contents messages terminal may_find request out out_after err err_after (Err fault) → is_for_many_files request ≡
+      false
       → IsSilent (Run fault) out out_after
-  silent_fault (Check file) err_after fault ran few = silent_at file check_outcome fault ran.0
+  silent_fault (OnFile path prices command) err_after fault ran few = command_silent path prices command err_after fault ran
+  silent_fault (OnPair first second prices command limits) err_after fault ran few =
+      pair_silent limits ran.left ran.left_after ran.right ran.right_after command fault ran.runs
+  silent_fault (OnFiles files) err_after fault ran few = absurd (cc)
   silent_fault (Fault file) err_after (Refused which fault) ran few = ran.0.runs.2
+  silent_fault (Fault file) err_after (TooHeavy which heavy) ran few = absurd ran.0.runs
   silent_fault (Fault file) err_after (GoodRange good) ran few = absurd ran.0.runs
   silent_fault (Fault file) err_after (BidRange bid) ran few = absurd ran.0.runs
   silent_fault (Fault file) err_after (Sent fault) ran few = tt
-  silent_fault (Show file) err_after fault ran few = silent_at file show_outcome fault ran.0
-  silent_fault (Value file goods limits) err_after fault ran few = silent_at file (value_outcome_by goods (options_of limits)) fault ran.0
-  silent_fault (Revenue file (GivenBids bids)) err_after fault ran few = silent_at file (revenue_outcome bids) fault ran.0
-  silent_fault (Revenue file (BidsIn list)) err_after fault ran few = silent_at file (revenue_outcome ran.bids) fault ran.runs.0
-  silent_fault (Normalise file limits) err_after fault ran few = silent_at file (normalise_outcome (options_of limits)) fault ran.0
-  silent_fault (Explain file limits) err_after fault ran few = silent_at file (explain_outcome (bounded_by limits)) fault ran.0
   silent_fault (Round file exact) err_after fault ran few =
       silent_rounding remaining contents messages (fine_of exact) ran.before ran.after out out_after err err_after fault ran.runs
-  silent_fault (Lp file) err_after fault ran few = silent_at file lp_outcome fault ran.0
-  silent_fault (Compare first second limits) err_after fault ran few =
-      let r = ran.0 in
-      silent_run contents (ComparesFiles (StreamGives remaining) (StreamRefuses remaining) (StreamGives remaining) (StreamRefuses remaining) (options_of limits)
-      r.left r.left_after r.right r.right_after) out out_after fault r.runs
-  silent_fault (Diff first second limits) err_after fault ran few =
-      let r = ran.0 in
-      silent_run contents (Diffs (StreamGives remaining) (StreamRefuses remaining) (StreamGives remaining) (StreamRefuses remaining) (bounded_by limits)
-      r.left r.left_after r.right r.right_after) out out_after fault r.runs
-  silent_fault (Duplicates files) err_after fault ran few = absurd (cc)
-  silent_fault (Sizes files) err_after fault ran few = absurd (cc)
 
   silent_request : (request : PlainRequest) (err_after : Watched E) (error : RequestError)
-      → CarriesOut may_open may_refuse remaining contents messages terminal request out out_after err err_after (Err error) → is_for_many_files request ≡ false
+      → CarriesOut may_open may_refuse remaining contents messages terminal may_find request out out_after err err_after (Err error) → is_for_many_files request
+      ≡ false
       → IsSilent error out out_after
   silent_request request err_after (CannotOpen which) ran few = ran.1
   silent_request request err_after (NotOpened why) ran few = absurd ran
@@ -300,100 +380,34 @@ module _ {F W E : Type 0} (may_open : List ℕ → F → Type 0) (may_refuse : L
 
   -- a status but 0, 1 and 5 says that nothing was written, unless a fault was found
   pub silent_answer : (request : PlainRequest) (err_after : Watched E) (status : ℕ)
-      → AnswersRequest may_open may_refuse remaining contents messages terminal request out out_after err err_after status → is_for_many_files request ≡ false
+      → AnswersRequest may_open may_refuse remaining contents messages terminal may_find request out out_after err err_after status → is_for_many_files request
+      ≡ false
       → has_found status request ≡ false → status ≢ 0 → status ≢ 1 → status ≢ 5 → out_after ≡ out
   silent_answer request err_after status answers few none a b c =
       ⊎_elim
-      (λ (ran : CarriesOut may_open may_refuse remaining contents messages terminal request out out_after err err_after (Ok status)).
+      (λ (ran : CarriesOut may_open may_refuse remaining contents messages terminal may_find request out out_after err err_after (Ok status)).
       ⊎_elim (λ (most : status ≤ 1). absurd (omega (arith, most, a, b))) (λ (silent : out_after ≡ out). silent)
       (answered request err_after status ran few none))
-      (λ (s : FailsRequest may_open may_refuse remaining contents messages terminal request out out_after err err_after status).
+      (λ (s : FailsRequest may_open may_refuse remaining contents messages terminal may_find request out out_after err err_after status).
       silent_unless_failed s.error out out_after (silent_request request s.between s.error s.carries few) (λ five. c (s.is_status ∙ five)))
       answers
 
   -- the statuses 0 and 1 say that nothing was reported
   pub done_answer : (request : PlainRequest) (err_after : Watched E) (status : ℕ)
-      → AnswersRequest may_open may_refuse remaining contents messages terminal request out out_after err err_after status → is_reporting request ≡ false
+      → AnswersRequest may_open may_refuse remaining contents messages terminal may_find request out out_after err err_after status → is_reporting request ≡
+      false
       → status ≤ 1 → err_after ≡ err
   done_answer request err_after status answers few most =
       ⊎_elim
-      (λ (ran : CarriesOut may_open may_refuse remaining contents messages terminal request out out_after err err_after (Ok status)).
+      (λ (ran : CarriesOut may_open may_refuse remaining contents messages terminal may_find request out out_after err err_after (Ok status)).
       quiet request err_after status ran few most)
-      (λ (s : FailsRequest may_open may_refuse remaining contents messages terminal request out out_after err err_after status).
+      (λ (s : FailsRequest may_open may_refuse remaining contents messages terminal may_find request out out_after err err_after status).
       let least = error_status_above s.error in let is = s.is_status in absurd (omega (arith, least, is, most)))
       answers
 
   pub failed_request : (request : PlainRequest) (error : RequestError) (between err_after : Watched E) (status : ℕ)
-      → CarriesOut may_open may_refuse remaining contents messages terminal request out out_after err between (Err error)
+      → CarriesOut may_open may_refuse remaining contents messages terminal may_find request out out_after err between (Err error)
       → Reports messages (line_of_request_error error) between err_after → status ≡ status_of_request_error error
-      → FailsRequest may_open may_refuse remaining contents messages terminal request out out_after err err_after status
+      → FailsRequest may_open may_refuse remaining contents messages terminal may_find request out out_after err err_after status
   failed_request request error between err_after status carries reports is =
       record { error = error; between = between; carries = carries; reports = reports; is_status = is }
-
-  -- the answer of a run is that of its request
-  pub carried : (request : PlainRequest) (err_after : Watched E) (answer : Result ℕ RunFault)
-      → RunsFor may_open may_refuse remaining contents messages terminal request out out_after err err_after answer
-      → CarriesOut may_open may_refuse remaining contents messages terminal request out out_after err err_after (answer_of_run answer)
-  carried request err_after (Ok status) ran = ran
-  carried request err_after (Err fault) ran = ran
-
--- ---- the streams of a run are those that were opened
-
-pub found_at : {F W : Type 0} (may_open : List ℕ → F → Type 0) (remaining : F → Option (List ℕ)) (contents : W → Option (List ℕ))
-    (path printed : List ℕ) → printed ≡ path
-    → (before after : Watched F) (out out_after : Watched W) (answer : Result ℕ RunFault) → IsOpened may_open path before
-    → FindsFault remaining contents printed before after out out_after answer → FindsFaultAt may_open remaining contents path out out_after answer
-found_at may_open remaining contents path printed same before after out out_after answer opened runs = record {
-  before = before;
-  after = after;
-  opened = opened;
-  runs = subst (λ (p : List ℕ). FindsFault remaining contents p before after out out_after answer) same runs;
-}
-
-pub rounded_at : {F W E : Type 0} (may_open : List ℕ → F → Type 0) (may_refuse : List ℕ → Unopened → Type 0) (remaining : F → Option (List ℕ))
-    (contents : W → Option (List ℕ)) (messages : E → Option (List ℕ)) (path : List ℕ) (exact : Bool) (fine : FinePrices) → fine ≡ fine_of exact
-    → (before after : Watched F) (out out_after : Watched W) (err err_after : Watched E) (answer : Result ℕ RunFault) → IsOpened may_open path before
-    → Rounds remaining contents messages fine before after out out_after err err_after answer
-    → RoundsAt may_open may_refuse remaining contents messages path (fine_of exact) out out_after err err_after answer
-rounded_at may_open may_refuse remaining contents messages path exact fine is before after out out_after err err_after answer opened runs =
-    subst (λ (f : FinePrices). RoundsAt may_open may_refuse remaining contents messages path f out out_after err err_after answer) is
-    (record { before = before; after = after; opened = opened; runs = runs })
-
-module _ {F W : Type 0} (may_open : List ℕ → F → Type 0) (remaining : F → Option (List ℕ)) (contents : W → Option (List ℕ)) where
-  pub ran_at : (path : List ℕ) (outcome : PlainFile → Outcome) (before after : Watched F) (out out_after : Watched W) (answer : Result ℕ RunFault)
-      → IsOpened may_open path before → RunsOnFile remaining contents outcome before after out out_after answer
-      → RunsAt may_open remaining contents path outcome out out_after answer
-  ran_at path outcome before after out out_after answer opened runs = record { before = before; after = after; opened = opened; runs = runs }
-
-  -- the run is by the searches that the request chooses
-  pub ran_by : (path : List ℕ) (outcome : SearchOptions → PlainFile → Outcome) (used options : SearchOptions) → used ≡ options
-      → (before after : Watched F) (out out_after : Watched W) (answer : Result ℕ RunFault) → IsOpened may_open path before
-      → RunsOnFile remaining contents (outcome used) before after out out_after answer
-      → RunsAt may_open remaining contents path (outcome options) out out_after answer
-  ran_by path outcome used options is before after out out_after answer opened runs =
-      subst (λ (o : SearchOptions). RunsAt may_open remaining contents path (outcome o) out out_after answer) is
-      (ran_at path (outcome used) before after out out_after answer opened runs)
-
-  pub valued_at : (path goods given : List ℕ) (used options : SearchOptions) → used ≡ options → given ≡ goods → (before after : Watched F)
-      (out out_after : Watched W) (answer : Result ℕ RunFault) → IsOpened may_open path before
-      → RunsOnFile remaining contents (value_outcome_by given used) before after out out_after answer
-      → RunsAt may_open remaining contents path (value_outcome_by goods options) out out_after answer
-  valued_at path goods given used options is same before after out out_after answer opened runs =
-      subst (λ (gs : List ℕ). RunsAt may_open remaining contents path (value_outcome_by gs options) out out_after answer) same
-      (ran_by path (value_outcome_by given) used options is before after out out_after answer opened runs)
-
-pub both_at : {F W : Type 0} (may_open : List ℕ → F → Type 0)
-    (Runs : SearchOptions → Watched F → Watched F → Watched F → Watched F → Watched W → Watched W → Result ℕ RunFault → Type 0)
-    (first second : List ℕ) (used options : SearchOptions) → used ≡ options → (left left_after right right_after : Watched F) → (out out_after : Watched W)
-    (answer : Result ℕ RunFault) → IsOpened may_open first left → IsOpened may_open second right
-    → Runs used left left_after right right_after out out_after answer
-    → RunsAtBoth may_open first second (λ l l_after r r_after. Runs options l l_after r r_after out out_after answer)
-both_at may_open Runs first second used options is left left_after right right_after out out_after answer one other runs = record {
-  left = left;
-  left_after = left_after;
-  right = right;
-  right_after = right_after;
-  left_opened = one;
-  right_opened = other;
-  runs = subst (λ (o : SearchOptions). Runs o left left_after right right_after out out_after answer) is runs;
-}

@@ -8,7 +8,7 @@ use Rattle.std.proofs.lemmas.Bool.{and_parts, ne_eqb}
 use Rattle.std.proofs.lemmas.Bool.Decides.{Decides-eqb}
 use Rattle.std.proofs.lemmas.List.{append_assoc, drop-drop, take_all}
 use Rattle.std.proofs.lemmas.Slice.Eq.{starts_is}
-use Rattle.cats_cmd.specs.Escaping.{code_at, escaped, escaped_behind, escaped_byte, is_plain, plain_length}
+use Rattle.cats_cmd.specs.Escaping.{code_at, escaped, escaped_behind, is_plain, plain_length}
 
 -- a character that is not escaped is there as a whole
 pub plain_within : (bytes : List ℕ) → plain_length bytes ≤ length bytes
@@ -57,13 +57,6 @@ run_more bytes run so_far more some =
 
 pub run_within : (bytes : List ℕ) (run : ℕ) → run ≤ length bytes → run + plain_length (drop run bytes) ≤ length bytes
 run_within bytes run l = omega (arith, plain_within (drop run bytes), length-drop run bytes, l)
-
--- a byte that is escaped
-pub escaped_first : (bytes : List ℕ) (b : ℕ) (bs : List ℕ) → bytes ≡ b ∷ bs → plain_length bytes ≡ 0 → escaped bytes ≡ escaped_byte b ++ escaped bs
-escaped_first bytes b bs is none = rw is (first b bs (ap (λ (xs : List ℕ). plain_length xs) (sym is) ∙ none))
-  where
-    first : (b : ℕ) (bs : List ℕ) → plain_length (b ∷ bs) ≡ 0 → escaped (b ∷ bs) ≡ escaped_byte b ++ escaped bs
-    first b bs none = rw (ap (λ (n : ℕ). n == 0) none) refl
 
 -- the bytes behind a run, as the code has them
 pub behind_run : (bytes : List ℕ) (run : ℕ) → run ≤ length bytes → take (length bytes - run) (drop run bytes) ≡ drop run bytes

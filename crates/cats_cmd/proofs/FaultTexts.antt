@@ -1,16 +1,17 @@
 -- What is reported of a fault is a line of printable ASCII.
-use Rattle.std.proofs.Common.{◌≡◌, ℕ, ◌+◌, ◌-◌, ◌<◌, ◌==◌, ◌&&◌, Bool, true, false, not, List, [], ◌∷◌, ◌++◌, length, take, ltb, refl, sym, ap, ◌∙◌, arith}
-use Rattle.std.specs.Prelude.{codes, decimal, Option, Some, None}
-use Rattle.std.specs.List.{All, AllByRecursion, list_any}
+use Rattle.std.proofs.Common.{◌≡◌, ℕ, ◌-◌, ◌<◌, ◌==◌, ◌&&◌, Bool, true, false, not, List, [], ◌∷◌, ◌++◌, length, take, ltb, refl, sym, ap, ◌∙◌, arith}
+use Rattle.std.specs.Prelude.{codes, decimal, nat_lt, Option, Some, None}
+use Rattle.std.specs.List.{All, list_any}
 use Rattle.std.proofs.Math.Seq.{take-append_seam}
-use Rattle.std.proofs.lemmas.Bool.{and_parts, ltb-true, ne_eqb, or_parts}
+use Rattle.std.proofs.lemmas.Bool.{and_parts, cond_both, ltb-true, ne_eqb, or_parts}
 use Rattle.std.proofs.lemmas.List.{append_assoc, length-append}
 use Rattle.std.proofs.lemmas.List.Elements.{All-append, All-cons, All-from_recursion, All-nil, All-weaker}
-use Rattle.answers.specs.FaultLines.{line_of_fault, prefix_of, text_of_canon_fault, text_of_kind}
+use Rattle.answers.specs.FaultLines.{line_of_fault, prefix_of, rest_text, text_of_canon_fault, text_of_heavy_bid, text_of_kind, total_text}
+use Rattle.answers.specs.declared.report.HeavyBid.{HeavyBid}
 use Rattle.answers.specs.KindNames.{name_of_kind}
 use Rattle.answers.specs.Outputs.{after_commas, bundle_text, number_cell}
 use Rattle.answers.specs.declared.report.RunFault.{RunFault}
-use Rattle.answers.specs.declared.report.RunFault.TheVariants.{Refused, GoodRange, BidRange, Sent}
+use Rattle.answers.specs.declared.report.RunFault.TheVariants.{Refused, TooHeavy, GoodRange, BidRange, Sent}
 use Rattle.canon.specs.declared.canon_fault.CanonFault.{CanonFault}
 use Rattle.canon.specs.declared.canon_fault.CanonFault.TheVariants.{Read, StepLimit, Memory}
 use Rattle.canon.specs.declared.which.Which.{Which}
@@ -124,6 +125,20 @@ canon_text (Read fault) = kind_text fault.line fault.kind
 canon_text (StepLimit goods) = then (ours (codes "step limit at ") refl) (bundle_plain goods.items)
 canon_text Memory = ours (codes "want of memory") refl
 
+total : (limit : Option ℕ) → Plain (total_text limit)
+total None = none
+total (Some limit) = then (then (ours (codes " (") refl) (number limit)) (ours (codes " in all)") refl)
+
+rest : (count : ℕ) → Plain (rest_text count)
+rest count =
+    cond_both (nat_lt 20 count) (codes ",.. (" ++ decimal count ++ codes " goods)") [] Plain
+    (λ e. then (then (ours (codes ",.. (") refl) (number count)) (ours (codes " goods)") refl)) (λ e. none)
+
+heavy_text : (heavy : HeavyBid) → Plain (text_of_heavy_bid heavy)
+heavy_text heavy =
+    then (then (then (then (then (then (then (ours (codes "step limit of ") refl) (number heavy.steps)) (total heavy.total)) (ours (codes " at bid ") refl))
+    (number heavy.number)) (ours (codes ": ") refl)) (bundle_plain (take 20 heavy.goods.items))) (rest (length heavy.goods.items))
+
 -- ---- lines of faults
 
 pub record IsLine (line : List ℕ) : Type 0 where
@@ -133,6 +148,7 @@ pub record IsLine (line : List ℕ) : Type 0 where
 
 fault_line : (why : RunFault) → IsLine (line_of_fault why)
 fault_line (Refused w why) = record { text = prefix_of w ++ text_of_canon_fault why; is = refl; plain = then (prefix w) (canon_text why) }
+fault_line (TooHeavy w heavy) = record { text = prefix_of w ++ text_of_heavy_bid heavy; is = refl; plain = then (prefix w) (heavy_text heavy) }
 fault_line (GoodRange good) = record {
   text = codes "good " ++ decimal good ++ codes " out of range";
   is = sym (append_assoc (codes "good " ++ decimal good) (codes " out of range") (10 ∷ []));

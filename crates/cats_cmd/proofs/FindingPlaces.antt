@@ -1,5 +1,6 @@
--- The groups of `cats duplicates`: one more file that was judged has its place behind the others, and one that was not adds nothing.
-use Rattle.std.proofs.Common.{◌≡◌, ℕ, suc, All, ◌<◌, List, [], ◌∷◌, ◌++◌, length, refl, sym, ap, ◌∙◌, subst}
+-- The groups of `cats duplicates`: one more file has its place behind the others, among those that were judged or among those that a step
+-- limit refused.
+use Rattle.std.proofs.Common.{◌≡◌, ℕ, suc, All, ◌<◌, List, [], ◌∷◌, ◌++◌, length, refl, sym, ap, ◌∙◌, subst, append-nil}
 use Rattle.std.specs.Global.{Global}
 use Rattle.std.specs.Prelude.{Vec}
 use Rattle.std.specs.List.{AllByRecursion, AllZip}
@@ -9,12 +10,15 @@ use Rattle.std.proofs.lemmas.List.Elements.{All-from_recursion}
 use Rattle.std.proofs.lemmas.Option.{slice_get_within}
 use Rattle.bid_file.specs.Files.{PlainFile, IsPlainFile}
 use Rattle.canon.specs.Canonical.{canonical_text}
-use Rattle.canon.specs.FirstPlaces.{AddsText, IsEmptyIndex, IsFirstPlace, IsIndexOf, TextIndex}
-use Rattle.canon.proofs.Comparing.Indexing.{first_place_stays, index_of_none, index_of_more, place_of_more}
+use Rattle.canon.specs.FirstPlaces.{AddsText, IsEmptyIndex, IsFirstPlace, TextIndex}
+use Rattle.canon.specs.Sameness.{AreSameFiles}
+use Rattle.canon.specs.Unsearched.{AreAlike, unsearched_text}
+use Rattle.canon.proofs.Comparing.Indexing.{TellsRelated, first_place_stays, index_of_none, index_of_more, place_of_more}
 use Rattle.cats_cmd.specs.DuplicateTexts.{found_paths}
-use Rattle.cats_cmd.specs.Duplicates.{files_if_judged, judged_files, paths_if_judged}
-use Rattle.cats_cmd.specs.Internal.Judging.{KeepsGroups}
-use Rattle.cats_cmd.specs.Paths.{Judgement, IsJudged}
+use Rattle.cats_cmd.specs.Duplicates.{files_if_heavy, files_if_judged, heavy_files, heavy_paths, judged_files, judged_paths, paths_if_heavy, paths_if_judged}
+use Rattle.cats_cmd.specs.Internal.Judging.{KeepsHeavy, KeepsJudged, KeepsPlaces}
+use Rattle.cats_cmd.specs.Paths.{Judgement, IsHeavy, IsJudged}
+use Rattle.answers.specs.declared.report.HeavyBid.{HeavyBid}
 
 -- two lists that are as long, with one element more each
 zip_push : {X Y : Type 0} (R S : X → Y → Type 0) (xs : List X) (ys : List Y) (x : X) (y : Y) → ((a : X) (b : Y) → R a b → S a b) → AllZip R xs ys → S x y
@@ -24,52 +28,103 @@ zip_push R S [] (b ∷ ys) x y weaker h s = absurd h
 zip_push R S (a ∷ xs) [] x y weaker h s = absurd h
 zip_push R S (a ∷ xs) (b ∷ ys) x y weaker h s = (weaker a b h.0, zip_push R S xs ys x y weaker h.1 s)
 
-pub no_groups : (index : TextIndex) → IsEmptyIndex index → KeepsGroups index [] []
-no_groups index none = record { is_index = index_of_none index none; finds = record { judged = refl; places = tt } }
+-- files of which a text tells which are related
+module _ (text_of : PlainFile → List ℕ) (Related : PlainFile → PlainFile → Type 0) where
+  pub no_places : (index : TextIndex) → IsEmptyIndex index → KeepsPlaces text_of Related [] [] index []
+  no_places index none = record { is_index = index_of_none text_of index none; finds = record { of_paths = refl; places = tt } }
 
--- one more file that was judged
-pub groups_more : (old new : TextIndex) (found longer : List (Vec ℕ Global × ℕ)) (path : List ℕ) (copy : Vec ℕ Global) (file : PlainFile)
-    (place : ℕ) → copy.items ≡ path → IsPlainFile file → AddsText old new (canonical_text file) place → longer ≡ found ++ (copy, place) ∷ []
-    → (js : List (List ℕ × Judgement))
-    → KeepsGroups old (found_paths found) js → KeepsGroups new (found_paths longer) (js ++ (path, IsJudged file) ∷ [])
-groups_more old new found longer path copy file place is facts added put js h =
-    let all : judged_files (js ++ (path, IsJudged file) ∷ []) ≡ judged_files js ++ file ∷ [] =
-    flat_map-append (λ (j : List ℕ × Judgement). files_if_judged j.1) js ((path, IsJudged file) ∷ []) in
-    let more_paths : found_paths longer ≡ found_paths found ++ (path, place) ∷ [] = ap found_paths put
-    ∙ map-append (λ (f : Vec ℕ Global × ℕ). (f.0.items, f.1)) found ((copy, place) ∷ [])
-    ∙ ap (λ (p : List ℕ). found_paths found ++ (p, place) ∷ []) is in
-    rw more_paths (record {
-      is_index = subst (λ (fs : List PlainFile). IsIndexOf new fs) (sym all) (index_of_more old new place (judged_files js) file facts h.is_index added);
-      finds = record {
-        judged = map-append (λ (f : List ℕ × ℕ). f.0) (found_paths found) ((path, place) ∷ [])
-            ∙ ap (λ (ps : List (List ℕ)). ps ++ path ∷ []) h.finds.judged
-            ∙ sym (flat_map-append (λ (j : List ℕ × Judgement). paths_if_judged j.0 j.1) js ((path, IsJudged file) ∷ []));
-        places =
-            subst (λ (fs : List PlainFile). AllZip (λ f g. IsFirstPlace fs g f.1) (found_paths found ++ (path, place) ∷ []) fs) (sym all)
-            (zip_push (λ f g. IsFirstPlace (judged_files js) g f.1) (λ f g. IsFirstPlace (judged_files js ++ file ∷ []) g f.1)
-            (found_paths found) (judged_files js) (path, place) file (λ f g is. first_place_stays (judged_files js) file g f.1 is) h.finds.places
-            (place_of_more old new place (judged_files js) file facts h.is_index added));
-      };
-    })
+  -- one more file
+  pub places_more : TellsRelated text_of Related → (old new : TextIndex) (found longer : List (Vec ℕ Global × ℕ)) (path : List ℕ) (copy : Vec ℕ Global)
+      (file : PlainFile) (place : ℕ) → copy.items ≡ path → IsPlainFile file → AddsText old new (text_of file) place → longer ≡ found ++ (copy, place) ∷ []
+      → (paths : List (List ℕ)) (files : List PlainFile) → KeepsPlaces text_of Related paths files old (found_paths found)
+      → KeepsPlaces text_of Related (paths ++ path ∷ []) (files ++ file ∷ []) new (found_paths longer)
+  places_more tells old new found longer path copy file place is facts added put paths files h =
+      let more_paths : found_paths longer ≡ found_paths found ++ (path, place) ∷ [] = ap found_paths put
+      ∙ map-append (λ (f : Vec ℕ Global × ℕ). (f.0.items, f.1)) found ((copy, place) ∷ [])
+      ∙ ap (λ (p : List ℕ). found_paths found ++ (p, place) ∷ []) is in
+      rw more_paths (record {
+        is_index = index_of_more text_of old new place files file facts h.is_index added;
+        finds = record {
+          of_paths = map-append (λ (f : List ℕ × ℕ). f.0) (found_paths found) ((path, place) ∷ [])
+              ∙ ap (λ (ps : List (List ℕ)). ps ++ path ∷ []) h.finds.of_paths;
+          places =
+              zip_push (λ f g. IsFirstPlace Related files g f.1) (λ f g. IsFirstPlace Related (files ++ file ∷ []) g f.1)
+              (found_paths found) files (path, place) file (λ f g is. first_place_stays Related files file g f.1 is) h.finds.places
+              (place_of_more text_of old new place files file facts h.is_index added Related tells);
+        };
+      })
+
+  pub places_same : (paths more : List (List ℕ)) (files others : List PlainFile) (index : TextIndex) (found : List (List ℕ × ℕ)) → more ≡ paths → others ≡ files
+      → KeepsPlaces text_of Related paths files index found → KeepsPlaces text_of Related more others index found
+  places_same paths more files others index found e f h =
+      subst (λ (ps : List (List ℕ)). KeepsPlaces text_of Related ps others index found) (sym e)
+      (subst (λ (fs : List PlainFile). KeepsPlaces text_of Related paths fs index found) (sym f) h)
+
+-- ---- one more judgement
+
+module _ (js : List (List ℕ × Judgement)) (path : List ℕ) where
+  abbrev with_judgement : Judgement → List (List ℕ × Judgement)
+  with_judgement j = js ++ (path, j) ∷ []
+
+  -- a file that was judged, and one that was not
+  pub judged_more : (file : PlainFile) (index : TextIndex) (found : List (List ℕ × ℕ))
+      → KeepsPlaces canonical_text AreSameFiles (judged_paths js ++ path ∷ []) (judged_files js ++ file ∷ []) index found
+      → KeepsJudged (with_judgement (IsJudged file)) index found
+  judged_more file index found h =
+      places_same canonical_text AreSameFiles (judged_paths js ++ path ∷ []) (judged_paths (with_judgement (IsJudged file))) (judged_files js ++ file ∷ [])
+      (judged_files (with_judgement (IsJudged file))) index found
+      (flat_map-append (λ (j : List ℕ × Judgement). paths_if_judged j.0 j.1) js ((path, IsJudged file) ∷ []))
+      (flat_map-append (λ (j : List ℕ × Judgement). files_if_judged j.1) js ((path, IsJudged file) ∷ [])) h
+
+  pub judged_stay : (j : Judgement) → files_if_judged j ≡ [] → paths_if_judged path j ≡ [] → (index : TextIndex) (found : List (List ℕ × ℕ))
+      → KeepsJudged js index found → KeepsJudged (with_judgement j) index found
+  judged_stay j no_file no_path index found h =
+      places_same canonical_text AreSameFiles (judged_paths js) (judged_paths (with_judgement j)) (judged_files js) (judged_files (with_judgement j)) index
+      found
+      (flat_map-append (λ (x : List ℕ × Judgement). paths_if_judged x.0 x.1) js ((path, j) ∷ [])
+      ∙ ap (λ (ps : List (List ℕ)). judged_paths js ++ (ps ++ [])) no_path ∙ append-nil (judged_paths js))
+      (flat_map-append (λ (x : List ℕ × Judgement). files_if_judged x.1) js ((path, j) ∷ [])
+      ∙ ap (λ (fs : List PlainFile). judged_files js ++ (fs ++ [])) no_file ∙ append-nil (judged_files js)) h
+
+  -- a file that a step limit refused, and another one
+  pub heavy_more : (file : PlainFile) (heavy : HeavyBid) (index : TextIndex) (found : List (List ℕ × ℕ))
+      → KeepsPlaces unsearched_text AreAlike (heavy_paths js ++ path ∷ []) (heavy_files js ++ file ∷ []) index found
+      → KeepsHeavy (with_judgement (IsHeavy file heavy)) index found
+  heavy_more file heavy index found h =
+      let j = IsHeavy file heavy in
+      places_same unsearched_text AreAlike (heavy_paths js ++ path ∷ []) (heavy_paths (with_judgement j)) (heavy_files js ++ file ∷ [])
+      (heavy_files (with_judgement j)) index found
+      (flat_map-append (λ (x : List ℕ × Judgement). paths_if_heavy x.0 x.1) js ((path, j) ∷ []))
+      (flat_map-append (λ (x : List ℕ × Judgement). files_if_heavy x.1) js ((path, j) ∷ [])) h
+
+  pub heavy_stay : (j : Judgement) → files_if_heavy j ≡ [] → paths_if_heavy path j ≡ [] → (index : TextIndex) (found : List (List ℕ × ℕ))
+      → KeepsHeavy js index found → KeepsHeavy (with_judgement j) index found
+  heavy_stay j no_file no_path index found h =
+      places_same unsearched_text AreAlike (heavy_paths js) (heavy_paths (with_judgement j)) (heavy_files js) (heavy_files (with_judgement j)) index found
+      (flat_map-append (λ (x : List ℕ × Judgement). paths_if_heavy x.0 x.1) js ((path, j) ∷ [])
+      ∙ ap (λ (ps : List (List ℕ)). heavy_paths js ++ (ps ++ [])) no_path ∙ append-nil (heavy_paths js))
+      (flat_map-append (λ (x : List ℕ × Judgement). files_if_heavy x.1) js ((path, j) ∷ [])
+      ∙ ap (λ (fs : List PlainFile). heavy_files js ++ (fs ++ [])) no_file ∙ append-nil (heavy_files js)) h
 
 -- ---- what was found
 
-zip_within : (all : List PlainFile) (found : List (Vec ℕ Global × ℕ)) (files : List PlainFile)
-    → AllZip (λ f file. IsFirstPlace all file f.1) (found_paths found) files → AllByRecursion (λ f. f.1 < length all) found
-zip_within all [] files h = tt
-zip_within all (f ∷ found) [] h = absurd h
-zip_within all (f ∷ found) (file ∷ files) h = (slice_get_within all f.1 h.0.file h.0.there, zip_within all found files h.1)
+zip_within : (Related : PlainFile → PlainFile → Type 0) (all : List PlainFile) (found : List (Vec ℕ Global × ℕ)) (files : List PlainFile)
+    → AllZip (λ f file. IsFirstPlace Related all file f.1) (found_paths found) files → AllByRecursion (λ f. f.1 < length all) found
+zip_within Related all [] files h = tt
+zip_within Related all (f ∷ found) [] h = absurd h
+zip_within Related all (f ∷ found) (file ∷ files) h = (slice_get_within all f.1 h.0.file h.0.there, zip_within Related all found files h.1)
 
-zip_length : (all : List PlainFile) (found : List (Vec ℕ Global × ℕ)) (files : List PlainFile)
-    → AllZip (λ f file. IsFirstPlace all file f.1) (found_paths found) files → length found ≡ length files
-zip_length all [] [] h = refl
-zip_length all [] (file ∷ files) h = absurd h
-zip_length all (f ∷ found) [] h = absurd h
-zip_length all (f ∷ found) (file ∷ files) h = ap suc (zip_length all found files h.1)
+zip_length : (Related : PlainFile → PlainFile → Type 0) (all : List PlainFile) (found : List (Vec ℕ Global × ℕ)) (files : List PlainFile)
+    → AllZip (λ f file. IsFirstPlace Related all file f.1) (found_paths found) files → length found ≡ length files
+zip_length Related all [] [] h = refl
+zip_length Related all [] (file ∷ files) h = absurd h
+zip_length Related all (f ∷ found) [] h = absurd h
+zip_length Related all (f ∷ found) (file ∷ files) h = ap suc (zip_length Related all found files h.1)
 
 -- each place is that of a file that was judged
-pub places_within : (files : List PlainFile) (found : List (Vec ℕ Global × ℕ)) → AllZip (λ f file. IsFirstPlace files file f.1) (found_paths found) files
+pub places_within : (Related : PlainFile → PlainFile → Type 0) (files : List PlainFile) (found : List (Vec ℕ Global × ℕ)) → AllZip (λ f file. IsFirstPlace
+    Related files file f.1) (found_paths found) files
     → All (λ f. f.1 < length found) found
-places_within files found zipped =
+places_within Related files found zipped =
     All-from_recursion (λ f. f.1 < length found) found
-    (subst (λ (n : ℕ). AllByRecursion (λ f. f.1 < n) found) (sym (zip_length files found files zipped)) (zip_within files found files zipped))
+    (subst (λ (n : ℕ). AllByRecursion (λ f. f.1 < n) found) (sym (zip_length Related files found files zipped)) (zip_within Related files found files zipped))

@@ -3,15 +3,15 @@
 use Rattle.std.proofs.Common.{append_assoc, fold, length-append, ◌≡◌, ℕ, zero, suc, ◌+◌, ◌<◌, ◌≤◌, ◌==◌, Bool, true, false, cond, ⊎_elim, List, [], ◌∷◌}
 use Rattle.std.proofs.Common.{◌++◌, length, map, get_or, set, take, replicate, Global, refl, sym, ap, ap₂, ◌∙◌, arith, append-nil, zero-add}
 use Rattle.std.specs.Borrow.{Bor}
-use Rattle.std.specs.Prelude.{Vec, filter}
+use Rattle.std.specs.Prelude.{All, Vec, filter}
 use Rattle.std.specs.List.{AllByRecursion, range_with_len}
 use Rattle.std.proofs.lemmas.Bool.{cases_Bool, cond-true, cond-false, cases_eq, ltb-true, ne_eqb, eq-eqb}
 use Rattle.std.proofs.lemmas.List.{length-set, get_or-set_same, get_or-set_other, length-map, get_or-map, map-set, map-append, take_all, take_more}
 use Rattle.std.proofs.lemmas.List.Concat.{flat_map-append}
-use Rattle.std.proofs.lemmas.List.Elements.{filter_more}
+use Rattle.std.proofs.lemmas.List.Elements.{All-append, All-from_recursion, All-weaker, filter_more, filter_passes, recursion_from_All}
 use Rattle.std.proofs.lemmas.List.FromFn.{fill_by_all, length-map-range_with_len, get_or-map-range_with_len}
 use Rattle.cats_cmd.specs.DuplicateTexts.{after_empty_lines, behind, duplicates_text, groups_of, groups_text, is_printed, lines_of, paths_at, plain_group}
-use Rattle.cats_cmd.specs.DuplicateTexts.{plain_groups, with_group}
+use Rattle.cats_cmd.specs.DuplicateTexts.{plain_groups, printed_groups, with_group}
 use Rattle.cats_cmd.specs.Escaping.{end_of, escaped, path_text}
 use Rattle.cats_cmd.specs.declared.paths.Ending.{Ending}
 use Rattle.cats_cmd.specs.declared.paths.Ending.TheVariants.{Line, Null}
@@ -87,24 +87,39 @@ pub some_printed : (all : Bool) (paths : List (List ℕ)) → is_printed all pat
 some_printed true paths e = ltb-true 0 (length paths) e
 some_printed false paths e = let more = ltb-true 1 (length paths) e in omega (arith, more)
 
-module _ (ending : Ending) (all : Bool) where
-  -- so it has lines
-  has_lines : (paths : List (List ℕ)) → is_printed all paths ≡ true → 0 < length (lines_of ending paths)
-  has_lines [] e = some_printed all [] e
-  has_lines (path ∷ paths) e =
-      let whole = length-append (path_text ending path) (lines_of ending paths) in
-      let line = path_long ending path in
-      omega (arith, line)
+-- so it has lines
+has_lines : (ending : Ending) (paths : List (List ℕ)) → 0 < length paths → 0 < length (lines_of ending paths)
+has_lines ending [] l = l
+has_lines ending (path ∷ paths) l =
+    let whole = length-append (path_text ending path) (lines_of ending paths) in
+    let line = path_long ending path in
+    omega (arith, line)
 
+-- each group has a path
+abbrev HavePaths : List (List (List ℕ)) → Type 0
+HavePaths groups = AllByRecursion (λ g. 0 < length g) groups
+
+have_paths : (all : Bool) (groups : List (List (List ℕ))) → HavePaths (filter (is_printed all) groups)
+have_paths all groups =
+    recursion_from_All (λ g. 0 < length g) (filter (is_printed all) groups)
+    (All-weaker (λ g. is_printed all g ≡ true) (λ g. 0 < length g) (some_printed all) (filter (is_printed all) groups) (filter_passes (is_printed all) groups))
+
+pub printed_have_paths : (all : Bool) (judged heavy : List Found) → All (λ g. 0 < length g) (printed_groups all judged heavy)
+printed_have_paths all judged heavy =
+    All-append (λ g. 0 < length g) (filter (is_printed all) (groups_of judged)) (filter (is_printed false) (groups_of heavy))
+    (All-from_recursion (λ g. 0 < length g) (filter (is_printed all) (groups_of judged)) (have_paths all (groups_of judged)))
+    (All-from_recursion (λ g. 0 < length g) (filter (is_printed false) (groups_of heavy)) (have_paths false (groups_of heavy)))
+
+module _ (ending : Ending) (all : Bool) where
   behind_long : (text lines : List ℕ) → 0 < length text → behind ending text lines ≡ text ++ end_of ending ++ lines
   behind_long text lines l = cond-false (length text == 0) lines (text ++ end_of ending ++ lines) (ne_eqb (length text) 0 (λ e. absurd (omega (arith, l))))
 
-  behind_groups : (groups : List (List (List ℕ))) (paths : List (List ℕ)) → AllByRecursion (λ g. is_printed all g ≡ true) groups
+  behind_groups : (groups : List (List (List ℕ))) (paths : List (List ℕ)) → HavePaths groups
       → behind ending (groups_text ending groups) (lines_of ending paths) ≡ groups_text ending (groups ++ paths ∷ [])
   behind_groups [] paths h = sym (append-nil (lines_of ending paths))
   behind_groups (group ∷ groups) paths h =
       let whole = length-append (lines_of ending group) (after_empty_lines ending groups) in
-      let some = has_lines group h.0 in
+      let some = has_lines ending group h.0 in
       behind_long (groups_text ending (group ∷ groups)) (lines_of ending paths) (omega arith)
       ∙ append_assoc (groups_text ending (group ∷ groups)) (end_of ending) (lines_of ending paths)
       ∙ append_assoc (lines_of ending group) (after_empty_lines ending groups) (end_of ending ++ lines_of ending paths)
@@ -112,24 +127,22 @@ module _ (ending : Ending) (all : Bool) where
       (sym (flat_map-append (λ ps. end_of ending ++ lines_of ending ps) groups (paths ∷ [])
       ∙ ap (λ (text : List ℕ). after_empty_lines ending groups ++ text) (append-nil (end_of ending ++ lines_of ending paths))))
 
-  repeated_push : (groups : List (List (List ℕ))) (paths : List (List ℕ)) → AllByRecursion (λ g. is_printed all g ≡ true) groups → is_printed all paths ≡ true
-      → AllByRecursion (λ g. is_printed all g ≡ true) (groups ++ paths ∷ [])
-  repeated_push [] paths h e = (e, tt)
-  repeated_push (group ∷ groups) paths h e = (h.0, repeated_push groups paths h.1 e)
+  repeated_push : (groups : List (List (List ℕ))) (paths : List (List ℕ)) → HavePaths groups → 0 < length paths → HavePaths (groups ++ paths ∷ [])
+  repeated_push [] paths h l = (l, tt)
+  repeated_push (group ∷ groups) paths h l = (h.0, repeated_push groups paths h.1 l)
 
   abbrev ArePrinted : List (List (List ℕ)) → List (List (List ℕ)) → Type 0
   ArePrinted groups printed = fold (with_group ending all) (groups_text ending printed) groups ≡ groups_text ending (printed ++ filter (is_printed all) groups)
 
   printed_next : (printed : List (List (List ℕ))) (paths : List (List ℕ)) (groups : List (List (List ℕ)))
-      → AllByRecursion (λ g. is_printed all g ≡ true) printed
-      → ((more : List (List (List ℕ))) → AllByRecursion (λ g. is_printed all g ≡ true) more → ArePrinted groups more) → ArePrinted (paths ∷ groups) printed
+      → HavePaths printed → ((more : List (List (List ℕ))) → HavePaths more → ArePrinted groups more) → ArePrinted (paths ∷ groups) printed
   printed_next printed paths groups h others =
       ⊎_elim
       (λ (e : is_printed all paths ≡ true).
       ap (λ (text : List ℕ). fold (with_group ending all) text groups)
       (cond-true (is_printed all paths) (behind ending (groups_text ending printed) (lines_of ending paths)) (groups_text ending printed) e
       ∙ behind_groups printed paths h)
-      ∙ others (printed ++ paths ∷ []) (repeated_push printed paths h e)
+      ∙ others (printed ++ paths ∷ []) (repeated_push printed paths h (some_printed all paths e))
       ∙ ap (groups_text ending) (append_assoc printed (paths ∷ []) (filter (is_printed all) groups)
       ∙ ap (λ (gs : List (List (List ℕ))). printed ++ gs)
       (sym (cond-true (is_printed all paths) (paths ∷ filter (is_printed all) groups) (filter (is_printed all) groups) e))))
@@ -141,30 +154,33 @@ module _ (ending : Ending) (all : Bool) where
       (sym (cond-false (is_printed all paths) (paths ∷ filter (is_printed all) groups) (filter (is_printed all) groups) e)))
       (cases_Bool (is_printed all paths))
 
-  printed_behind : (printed groups : List (List (List ℕ))) → AllByRecursion (λ g. is_printed all g ≡ true) printed → ArePrinted groups printed
+  printed_behind : (printed groups : List (List (List ℕ))) → HavePaths printed → ArePrinted groups printed
   printed_behind printed [] h = ap (groups_text ending) (sym (append-nil printed))
   printed_behind printed (paths ∷ groups) h = printed_next printed paths groups h (λ more k. printed_behind more groups k)
 
-  -- the groups, one after the other
-  pub groups_printed : (groups : List (List (List ℕ))) → fold (with_group ending all) [] groups ≡ groups_text ending (filter (is_printed all) groups)
-  groups_printed groups = printed_behind [] groups tt
-
-  -- one more group
-  pub group_printed : (groups : List Group) (i : ℕ) (group : Group) (before after : List ℕ) → i < length groups → group ≡ get_or groups i group
-      → before ≡ fold (with_group ending all) [] (plain_groups (take i groups)) → after ≡ with_group ending all before (plain_group group)
-      → after ≡ fold (with_group ending all) [] (plain_groups (take (i + 1) groups))
-  group_printed groups i group before after l e b a =
+  -- one more group behind a text
+  pub group_printed : (start : List ℕ) (groups : List Group) (i : ℕ) (group : Group) (before after : List ℕ) → i < length groups
+      → group ≡ get_or groups i group
+      → before ≡ fold (with_group ending all) start (plain_groups (take i groups)) → after ≡ with_group ending all before (plain_group group)
+      → after ≡ fold (with_group ending all) start (plain_groups (take (i + 1) groups))
+  group_printed start groups i group before after l e b a =
       a ∙ ap (λ (text : List ℕ). with_group ending all text (plain_group group)) b
-      ∙ sym (ap (λ (gs : List Group). fold (with_group ending all) [] (plain_groups gs)) (take_more groups i group l
+      ∙ sym (ap (λ (gs : List Group). fold (with_group ending all) start (plain_groups gs)) (take_more groups i group l
       ∙ ap (λ (g : Group). take i groups ++ g ∷ []) (sym e))
-      ∙ ap (fold (with_group ending all) []) (map-append plain_group (take i groups) (group ∷ []))
-      ∙ fold_push (with_group ending all) [] (plain_groups (take i groups)) (plain_group group))
+      ∙ ap (fold (with_group ending all) start) (map-append plain_group (take i groups) (group ∷ []))
+      ∙ fold_push (with_group ending all) start (plain_groups (take i groups)) (plain_group group))
 
   -- all groups
-  pub all_groups_printed : (items groups : List Group) (i : ℕ) (text : List ℕ) (found : List Found)
-      → text ≡ fold (with_group ending all) [] (plain_groups (take i items))
-      → length items ≤ i → items ≡ groups → plain_groups groups ≡ groups_of found
-      → text ≡ duplicates_text ending all found
-  all_groups_printed items groups i text found printed l same of =
-      printed ∙ ap (λ (gs : List Group). fold (with_group ending all) [] (plain_groups gs)) (take_all i items l ∙ same) ∙ groups_printed (plain_groups groups)
-      ∙ ap (λ (gs : List (List (List ℕ))). groups_text ending (filter (is_printed all) gs)) of
+  pub all_groups_printed : (start : List ℕ) (groups : List Group) (i : ℕ) (text : List ℕ)
+      → text ≡ fold (with_group ending all) start (plain_groups (take i groups)) → length groups ≤ i
+      → text ≡ fold (with_group ending all) start (plain_groups groups)
+  all_groups_printed start groups i text printed l =
+      printed ∙ ap (λ (gs : List Group). fold (with_group ending all) start (plain_groups gs)) (take_all i groups l)
+
+-- the groups of the judged files, and behind them those of the others
+pub both_printed : (ending : Ending) (all : Bool) (judged heavy : List Found) (first both : List ℕ)
+    → first ≡ fold (with_group ending all) [] (groups_of judged) → both ≡ fold (with_group ending false) first (groups_of heavy)
+    → both ≡ duplicates_text ending all judged heavy
+both_printed ending all judged heavy first both e f =
+    f ∙ ap (λ (text : List ℕ). fold (with_group ending false) text (groups_of heavy)) (e ∙ printed_behind ending all [] (groups_of judged) tt)
+    ∙ printed_behind ending false (filter (is_printed all) (groups_of judged)) (groups_of heavy) (have_paths all (groups_of judged))

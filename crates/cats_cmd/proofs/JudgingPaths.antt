@@ -1,19 +1,21 @@
--- One more path, whose file was judged: what became of the files before it stays, and the path adds its judgement, a status that may be
--- the greatest, and its lines.
+-- One more path, whose file was judged: what became of the files before it stays, and the path adds its judgement, how many of its prices
+-- were rounded, a status that may be the greatest, and its lines.
 use Rattle.std.proofs.Common.{◌≡◌, ℕ, suc, ◌+◌, ◌<◌, max, true, List, [], ◌∷◌, ◌++◌, length, map, get_or, take, refl, sym}
 use Rattle.std.proofs.Common.{ap, ◌∙◌, subst, arith, append-nil, ◌≤◌, Option, Result, Ok, Err}
 use Rattle.std.specs.Prelude.{IsErr}
 use Rattle.std.specs.Borrow.{Bor}
-use Rattle.std.specs.List.{AllByRecursion}
+use Rattle.std.specs.List.{AllByRecursion, flat_map}
 use Rattle.std.specs.declared.alloc.AllocError.{AllocError}
 use Rattle.std.proofs.lemmas.Bool.{lt-ltb}
 use Rattle.std.proofs.lemmas.List.{map-append, take_more, take_all, append_assoc, length-map, length-take-le, take-map}
 use Rattle.std.proofs.lemmas.List.Sums.{fold_push}
 use Rattle.cats_text.specs.declared.stream.Watched.{Watched}
+use Rattle.command_line.specs.declared.request.Prices.{Prices}
 use Rattle.valuation.specs.declared.search_options.SearchOptions.{SearchOptions}
 use Rattle.cats_cmd.specs.Internal.Judging.{AddsPath, HasJudged, JudgesAllAs}
-use Rattle.cats_cmd.specs.Paths.{is_counted, Judgement, Judges, JudgesPaths, Reporting, greatest_status, lines_from, lines_of_path}
+use Rattle.cats_cmd.specs.Paths.{is_counted, JudgedPath, Judgement, Judges, JudgesPaths, Reporting, greatest_status, judgement_at, lines_from, lines_of_path}
 use Rattle.cats_cmd.specs.Paths.{line_removal, progress_line, progress_lines, removal_lines, report_lines, status_of_judgement, without_refusals}
+use Rattle.cats_cmd.specs.PricedInputs.{rounding_lines}
 use Rattle.cats_cmd.specs.declared.paths.Progress.{Progress}
 use Rattle.cats_cmd.specs.declared.paths.Progress.TheVariants.{Silent, Lines, Terminal}
 use Rattle.cats_cmd.specs.RequestErrors.{Reports, ReportsAll}
@@ -30,7 +32,7 @@ pub reports_more : {E : Type 0} (messages : E → Option (List ℕ)) (lines more
 reports_more {E = E} messages [] more a b c first then = subst (λ (e : Watched E). ReportsAll messages more e c) first then
 reports_more messages (line ∷ lines) more a b c first then = (first.0, first.1, reports_more messages lines more first.0 b c first.2 then)
 
-lines_push : (reporting : Reporting) (count number : ℕ) (js : List (List ℕ × Judgement)) (j : List ℕ × Judgement)
+lines_push : (reporting : Reporting) (count number : ℕ) (js : List JudgedPath) (j : JudgedPath)
     → lines_from reporting count number (js ++ j ∷ []) ≡ lines_from reporting count number js ++ lines_of_path reporting count (number + length js) j
 lines_push reporting count number [] j =
     let same : number ≡ number + 0 = omega arith in
@@ -43,16 +45,22 @@ lines_push reporting count number (i ∷ js) j =
     ∙ sym (append_assoc (lines_of_path reporting count number i) (lines_from reporting count (suc number) js)
     (lines_of_path reporting count (number + suc (length js)) j))
 
--- nothing of files, if refusals are not reported, nor how many files were read
-pub nothing_reported : (count number : ℕ) (js : List (List ℕ × Judgement)) → lines_from (without_refusals Silent) count number js ≡ []
-nothing_reported count number [] = refl
-nothing_reported count number (j ∷ js) = nothing_reported count (suc number) js
+-- only how many prices of each file were rounded, if refusals are not reported, nor how many files were read
+pub roundings_reported : (count number : ℕ) (js : List JudgedPath)
+    → lines_from (without_refusals Silent) count number js ≡ flat_map (λ j. rounding_lines j.path j.rounded) js
+roundings_reported count number [] = refl
+roundings_reported count number (j ∷ js) =
+    ap (λ (lines : List (List ℕ)). lines ++ lines_from (without_refusals Silent) count (suc number) js) (append-nil (rounding_lines j.path j.rounded ++ []))
+    ∙ ap (λ (lines : List (List ℕ)). lines ++ lines_from (without_refusals Silent) count (suc number) js) (append-nil (rounding_lines j.path j.rounded))
+    ∙ ap (λ (rest : List (List ℕ)). rounding_lines j.path j.rounded ++ rest) (roundings_reported count (suc number) js)
 
 -- what is reported of one path
-pub path_reported : {E : Type 0} (messages : E → Option (List ℕ)) (first then last : List (List ℕ)) (a b c d : Watched E) → ReportsAll messages first a b
-    → ReportsAll messages then b c → ReportsAll messages last c d → ReportsAll messages (first ++ then ++ last) a d
-path_reported messages first then last a b c d one two three =
-    reports_more messages (first ++ then) last a c d (reports_more messages first then a b c one two) three
+pub path_reported : {E : Type 0} (messages : E → Option (List ℕ)) (first then more last : List (List ℕ)) (a b c d e : Watched E)
+    → ReportsAll messages first a b → ReportsAll messages then b c → ReportsAll messages more c d → ReportsAll messages last d e
+    → ReportsAll messages (first ++ then ++ more ++ last) a e
+path_reported messages first then more last a b c d e one two three four =
+    reports_more messages (first ++ then ++ more) last a d e
+    (reports_more messages (first ++ then) more a c d (reports_more messages first then a b c one two) three) four
 
 module _ {E : Type 0} (messages : E → Option (List ℕ)) (number : ℕ) (old new : Watched E) where
   pub hundreds_reported : (count : ℕ) (path : List ℕ) → is_counted number count ≡ true → Reports messages (progress_line number count path) old new
@@ -67,49 +75,52 @@ module _ {E : Type 0} (messages : E → Option (List ℕ)) (number : ℕ) (old n
 -- ---- the paths so far
 
 module _ {C F E : Type 0} (Has : C → List (List ℕ × Judgement) → Type 0) (may_open : List ℕ → F → Type 0) (may_refuse : List ℕ → Unopened → Type 0)
-    (remaining : F → Option (List ℕ)) (options : SearchOptions) (messages : E → Option (List ℕ)) (reporting : Reporting) (count : ℕ) (err : Watched E) where
-  pub none_judged : (kept : C) → Has kept [] → HasJudged Has may_open may_refuse remaining options messages reporting count [] kept err err 0
+    (remaining : F → Option (List ℕ)) (options : SearchOptions) (prices : Prices) (messages : E → Option (List ℕ))
+    (reporting : Reporting) (count : ℕ) (err : Watched E) where
+  pub none_judged : (kept : C) → Has kept [] → HasJudged Has may_open may_refuse remaining options prices messages reporting count [] kept err err 0
   none_judged kept has = record {
-    judgements = [];
+    judged = [];
     judges = record { of_paths = refl; each = tt; reports = refl };
     has = has;
     is_greatest = refl;
   }
 
   pub judged_more : (paths : List (List ℕ)) (kept more : C) (greatest status : ℕ) (before after : Watched E) (path : List ℕ)
-      → HasJudged Has may_open may_refuse remaining options messages reporting count paths kept err before greatest
-      → AddsPath Has may_open may_refuse remaining options messages reporting count (length paths + 1) path kept more before after status
-      → HasJudged Has may_open may_refuse remaining options messages reporting count (paths ++ path ∷ []) more err after (max greatest status)
+      → HasJudged Has may_open may_refuse remaining options prices messages reporting count paths kept err before greatest
+      → AddsPath Has may_open may_refuse remaining options prices messages reporting count (length paths + 1) path kept more before after status
+      → HasJudged Has may_open may_refuse remaining options prices messages reporting count (paths ++ path ∷ []) more err after (max greatest status)
   judged_more paths kept more greatest status before after path h a =
-      let js = h.judgements in
-      let j = a.judgement in
+      let js = h.judged in
+      let j : JudgedPath = record { path = path; judgement = a.judgement; rounded = a.rounded } in
       let long : length paths + 1 ≡ 1 + length js =
-      let e = sym (length-map js (λ (x : List ℕ × Judgement). x.0)) ∙ ap (length {A = List ℕ}) h.judges.of_paths in omega (arith, e) in
-      let all : ReportsAll messages (report_lines reporting count js ++ lines_of_path reporting count (1 + length js) (path, j)) err after =
-      reports_more messages (report_lines reporting count js) (lines_of_path reporting count (1 + length js) (path, j)) err before after h.judges.reports
-      (subst (λ (n : ℕ). ReportsAll messages (lines_of_path reporting count n (path, j)) before after) long a.reports) in
+      let e = sym (length-map js (λ (x : JudgedPath). x.path)) ∙ ap (length {A = List ℕ}) h.judges.of_paths in omega (arith, e) in
+      let all : ReportsAll messages (report_lines reporting count js ++ lines_of_path reporting count (1 + length js) j) err after =
+      reports_more messages (report_lines reporting count js) (lines_of_path reporting count (1 + length js) j) err before after h.judges.reports
+      (subst (λ (n : ℕ). ReportsAll messages (lines_of_path reporting count n j) before after) long a.reports) in
+      let more_judgements : map judgement_at (js ++ j ∷ []) ≡ map judgement_at js ++ judgement_at j ∷ [] = map-append judgement_at js (j ∷ []) in
       record {
-        judgements = js ++ (path, j) ∷ [];
+        judged = js ++ j ∷ [];
         judges = record {
-          of_paths = map-append (λ (x : List ℕ × Judgement). x.0) js ((path, j) ∷ []) ∙ ap (λ (ps : List (List ℕ)). ps ++ path ∷ []) h.judges.of_paths;
-          each = all_push (Judges may_open may_refuse remaining options) js (path, j) h.judges.each a.judges;
-          reports = subst (λ (lines : List (List ℕ)). ReportsAll messages lines err after) (sym (lines_push reporting count 1 js (path, j))) all;
+          of_paths = map-append (λ (x : JudgedPath). x.path) js (j ∷ []) ∙ ap (λ (ps : List (List ℕ)). ps ++ path ∷ []) h.judges.of_paths;
+          each = all_push (Judges may_open may_refuse remaining options prices) js j h.judges.each a.judges;
+          reports = subst (λ (lines : List (List ℕ)). ReportsAll messages lines err after) (sym (lines_push reporting count 1 js j)) all;
         };
-        has = a.adds js h.has;
-        is_greatest = ap (λ (g : ℕ). max g status) h.is_greatest ∙ ap (max (greatest_status js)) a.is_status
-            ∙ sym (fold_push (λ (g : ℕ) (x : List ℕ × Judgement). max g (status_of_judgement x.1)) 0 js (path, j));
+        has = subst (λ (judgements : List (List ℕ × Judgement)). Has more judgements) (sym more_judgements) (a.adds (map judgement_at js) h.has);
+        is_greatest = ap (λ (g : ℕ). max g status) h.is_greatest ∙ ap (max (greatest_status (map judgement_at js))) a.is_status
+            ∙ sym (ap greatest_status more_judgements
+            ∙ fold_push (λ (g : ℕ) (x : List ℕ × Judgement). max g (status_of_judgement x.1)) 0 (map judgement_at js) (judgement_at j));
       }
 
 -- a file that was judged later is judged by what the source held at first
 pub path_in : {C F E H : Type 0} (Has : C → List (List ℕ × Judgement) → Type 0) (may_open : H → List ℕ → F → Type 0)
-    (may_refuse : H → List ℕ → Unopened → Type 0) (remaining : F → Option (List ℕ)) (options : SearchOptions) (messages : E → Option (List ℕ))
+    (may_refuse : H → List ℕ → Unopened → Type 0) (remaining : F → Option (List ℕ)) (options : SearchOptions) (prices : Prices) (messages : E → Option (List ℕ))
     (reporting : Reporting)
     (count number : ℕ) (path : List ℕ) (old new : C) (err err_after : Watched E) (status : ℕ) (later first : H) → later ≡ first
-    → AddsPath Has (may_open later) (may_refuse later) remaining options messages reporting count number path old new err err_after status
-    → AddsPath Has (may_open first) (may_refuse first) remaining options messages reporting count number path old new err err_after status
-path_in {H = H} Has may_open may_refuse remaining options messages reporting count number path old new err err_after status later first stays adds =
+    → AddsPath Has (may_open later) (may_refuse later) remaining options prices messages reporting count number path old new err err_after status
+    → AddsPath Has (may_open first) (may_refuse first) remaining options prices messages reporting count number path old new err err_after status
+path_in {H = H} Has may_open may_refuse remaining options prices messages reporting count number path old new err err_after status later first stays adds =
     subst
-    (λ (h : H). AddsPath Has (may_open h) (may_refuse h) remaining options messages reporting count number path old new err err_after status) stays adds
+    (λ (h : H). AddsPath Has (may_open h) (may_refuse h) remaining options prices messages reporting count number path old new err err_after status) stays adds
 
 -- ---- as the code has them
 
@@ -123,37 +134,38 @@ so_many : (paths : List (Bor (List ℕ))) (i : ℕ) → i < length paths → len
 so_many paths i l = length-map (take i paths) (λ (p : Bor (List ℕ)). p.now) ∙ length-take-le i paths (omega (arith, l))
 
 module _ {C F E : Type 0} (Has : C → List (List ℕ × Judgement) → Type 0) (may_open : List ℕ → F → Type 0) (may_refuse : List ℕ → Unopened → Type 0)
-    (remaining : F → Option (List ℕ)) (options : SearchOptions) (messages : E → Option (List ℕ)) (reporting : Reporting) (paths : List (Bor (List ℕ)))
-    (err : Watched E)
+    (remaining : F → Option (List ℕ)) (options : SearchOptions) (prices : Prices) (messages : E → Option (List ℕ))
+    (reporting : Reporting) (paths : List (Bor (List ℕ))) (err : Watched E)
     (i : ℕ) (kept : C) (greatest : ℕ) (before : Watched E)
-    (h : HasJudged Has may_open may_refuse remaining options messages reporting (length paths) (map (λ p. p.now) (take i paths)) kept err before greatest) where
+    (h : HasJudged Has may_open may_refuse remaining options prices messages reporting (length paths) (map (λ p. p.now) (take i paths))
+    kept err before greatest) where
   pub path_more : (d : Bor (List ℕ)) → i < length paths → (more : C) (status last : ℕ) (after : Watched E)
-      → AddsPath Has may_open may_refuse remaining options messages reporting (length paths) (i + 1) (get_or paths i d).now kept more before after status
+      → AddsPath Has may_open may_refuse remaining options prices messages reporting (length paths) (i + 1) (get_or paths i d).now kept more before after status
       → last ≡ max greatest status
-      → HasJudged Has may_open may_refuse remaining options messages reporting (length paths) (map (λ p. p.now) (take (i + 1) paths)) more err after last
+      → HasJudged Has may_open may_refuse remaining options prices messages reporting (length paths) (map (λ p. p.now) (take (i + 1) paths)) more err after last
   path_more d l more status last after a is =
-      rw is (rw (one_more_path paths i d l) (judged_more Has may_open may_refuse remaining options messages reporting (length paths) err
+      rw is (rw (one_more_path paths i d l) (judged_more Has may_open may_refuse remaining options prices messages reporting (length paths) err
       (map (λ (p : Bor (List ℕ)). p.now) (take i paths)) kept more greatest status before after (get_or paths i d).now h
       (subst
       (λ (n : ℕ).
-      AddsPath Has may_open may_refuse remaining options messages reporting (length paths) (n + 1) (get_or paths i d).now kept more before after status)
+      AddsPath Has may_open may_refuse remaining options prices messages reporting (length paths) (n + 1) (get_or paths i d).now kept more before after status)
       (sym (so_many paths i l)) a)))
 
-  counted : (ps : List (List ℕ)) (js : List (List ℕ × Judgement))
-      → JudgesPaths may_open may_refuse remaining messages options reporting (length paths) ps err before js
-      → JudgesPaths may_open may_refuse remaining messages options reporting (length (map (λ (p : Bor (List ℕ)). p.now) paths)) ps err before js
-  counted ps js j = subst (λ (n : ℕ). JudgesPaths may_open may_refuse remaining messages options reporting n ps err before js)
+  counted : (ps : List (List ℕ)) (js : List JudgedPath)
+      → JudgesPaths may_open may_refuse remaining messages options prices reporting (length paths) ps err before js
+      → JudgesPaths may_open may_refuse remaining messages options prices reporting (length (map (λ (p : Bor (List ℕ)). p.now) paths)) ps err before js
+  counted ps js j = subst (λ (n : ℕ). JudgesPaths may_open may_refuse remaining messages options prices reporting n ps err before js)
       (sym (length-map paths (λ (p : Bor (List ℕ)). p.now))) j
 
   -- all paths were judged
-  pub all_judged : length paths ≤ i → JudgesAllAs Has may_open may_refuse remaining options messages (map (λ p. p.now) paths) reporting kept err before
+  pub all_judged : length paths ≤ i → JudgesAllAs Has may_open may_refuse remaining options prices messages (map (λ p. p.now) paths) reporting kept err before
       (Ok greatest)
   all_judged l = record {
-    judgements = h.judgements;
-    judges = counted (map (λ p. p.now) paths) h.judgements
+    judged = h.judged;
+    judges = counted (map (λ p. p.now) paths) h.judged
         (subst
         (λ (ps : List (Bor (List ℕ))).
-        JudgesPaths may_open may_refuse remaining messages options reporting (length paths) (map (λ p. p.now) ps) err before h.judgements)
+        JudgesPaths may_open may_refuse remaining messages options prices reporting (length paths) (map (λ p. p.now) ps) err before h.judged)
         (take_all i paths l) h.judges);
     has = h.has;
     is_greatest = h.is_greatest;
@@ -161,14 +173,14 @@ module _ {C F E : Type 0} (Has : C → List (List ℕ × Judgement) → Type 0) 
 
   -- the others were not opened
   pub first_judged : (other : C) (after : Watched E) → after ≡ before → (answer : Result ℕ AllocError) → IsErr answer
-      → JudgesAllAs Has may_open may_refuse remaining options messages (map (λ p. p.now) paths) reporting other err after answer
+      → JudgesAllAs Has may_open may_refuse remaining options prices messages (map (λ p. p.now) paths) reporting other err after answer
   first_judged other after same (Ok status) is = cc
   first_judged other after same (Err e) is = rw same (record {
     count = i;
-    judgements = h.judgements;
-    judges = counted (take i (map (λ p. p.now) paths)) h.judgements
+    judged = h.judged;
+    judges = counted (take i (map (λ p. p.now) paths)) h.judged
         (subst
         (λ (ps : List (List ℕ)).
-        JudgesPaths may_open may_refuse remaining messages options reporting (length paths) ps err before h.judgements)
+        JudgesPaths may_open may_refuse remaining messages options prices reporting (length paths) ps err before h.judged)
         (sym (take-map (λ (p : Bor (List ℕ)). p.now) i paths)) h.judges);
   })

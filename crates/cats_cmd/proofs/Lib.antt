@@ -1,17 +1,23 @@
 -- Proofs that several functions of this crate cite.
 mod AnswersOfRequests
+mod CarryingOut
 mod FaultTexts
 mod ReadingBack
 mod PrintableTexts
 mod ShownTexts
 mod AnswersShown
 mod Grouping
+mod PricedInputs
+mod ReadingBytes
 mod Rounding
 mod Reporting
 mod Escaped
 mod Zeros
 mod Judging
 mod JudgingPaths
+mod WrittenPrices
+mod FilesOfPaths
+mod Walking
 mod Opening
 mod ListingPaths
 mod OutputPaths
@@ -19,6 +25,5 @@ mod Skipping
 mod FindingPlaces
 mod Tabling
 mod RunsOfLists
-mod RunsOfBids
 mod RunsOfPaths
 pub mod Sending

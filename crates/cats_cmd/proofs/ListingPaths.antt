@@ -1,5 +1,5 @@
 -- The parts of a list of paths: what is behind its last NUL is a path only if it is not empty.
-use Rattle.std.proofs.Common.{◌≡◌, ◌≢◌, ℕ, List, [], ◌∷◌, ◌++◌, length, refl, sym, ap, ◌∙◌, subst, arith, map, ◌<◌, false, Bor, Option, Err}
+use Rattle.std.proofs.Common.{◌≡◌, ◌≢◌, ℕ, List, [], ◌∷◌, ◌++◌, length, refl, sym, ap, ◌∙◌, subst, arith, map, ◌<◌, false, Bor, Option, Err, inl, inr}
 use Rattle.std.specs.List.{All, slice_split}
 use Rattle.std.specs.Prelude.{◌==◌}
 use Rattle.std.proofs.lemmas.Bool.{eq-eqb}
@@ -7,11 +7,13 @@ use Rattle.std.proofs.lemmas.List.{append_assoc, length-map, map-append}
 use Rattle.std.proofs.lemmas.List.Splits.{length-slice_split, slice_split_at}
 use Rattle.std.proofs.lemmas.List.Elements.{All-head, All-tail}
 use Rattle.cats_text.specs.declared.stream.Watched.{Watched}
-use Rattle.canon.specs.declared.canon_fault.CanonFault.{CanonFault}
-use Rattle.canon.specs.declared.canon_fault.CanonFault.TheVariants.{Read, StepLimit, Memory}
+use Rattle.cats_text.specs.declared.read_fault.Kind.{Kind}
+use Rattle.cats_text.specs.declared.read_fault.Kind.TheVariants.{Memory as NoMemory}
+use Rattle.cats_text.specs.declared.read_fault.ReadFault.{ReadFault}
+use Rattle.canon.specs.Refusals.{refusal_by_kind, refusal_of}
 use Rattle.canon.specs.declared.which.Which.TheVariants.{Only}
 use Rattle.cats_cmd.specs.FileLists.{IsUnread}
-use Rattle.cats_cmd.specs.Inputs.{IsOpened, ReadsBytes}
+use Rattle.cats_cmd.specs.Inputs.{IsOpened, ReadsBytes, StopsReading}
 use Rattle.cats_cmd.specs.declared.errors.RequestError.TheVariants.{Run}
 use Rattle.answers.specs.declared.report.RunFault.TheVariants.{Refused}
 use Rattle.cats_cmd.specs.PathLists.{ended, parts_in, paths_in, without_empty_end}
@@ -85,11 +87,16 @@ parts_back end (part ∷ parts) plain =
 -- ---- the stream of a list
 
 -- why the bytes of the list were not read
-pub list_unread : {F : Type 0} (may_open : List ℕ → F → Type 0) (may_refuse : List ℕ → Unopened → Type 0) (remaining : F → Option (List ℕ)) (list : List ℕ)
-    (fault : CanonFault) (before after : Watched F) → IsOpened may_open list before → ReadsBytes remaining before after (Err fault)
-    → IsUnread may_open may_refuse remaining list (Run (Refused Only fault))
-list_unread may_open may_refuse remaining list (Read fault) before after opened stops =
-    (refl, record { before = before; after = after; opened = opened; stops = stops })
-list_unread may_open may_refuse remaining list (StepLimit goods) before after opened stops = absurd stops
-list_unread may_open may_refuse remaining list Memory before after opened stops =
-    (refl, record { before = before; after = after; opened = opened; wants = stops })
+module _ {F : Type 0} (may_open : List ℕ → F → Type 0) (may_refuse : List ℕ → Unopened → Type 0) (remaining : F → Option (List ℕ)) (list : List ℕ)
+    (before after : Watched F) (opened : IsOpened may_open list before) where
+  stopped : (fault : ReadFault) (kind : Kind) → fault.kind ≡ kind → StopsReading remaining before after fault.line fault.kind
+      → IsUnread may_open may_refuse remaining list (Run (Refused Only (refusal_by_kind fault kind)))
+  stopped fault NoMemory is stops = absurd (subst (λ (k : Kind). StopsReading remaining before after fault.line k) is stops)
+  stopped fault kind is stops = (refl, record { before = before; after = after; opened = opened; stops = stops })
+
+  pub list_unread : (fault : ReadFault) → ReadsBytes remaining before after (Err fault)
+      → IsUnread may_open may_refuse remaining list (Run (Refused Only (refusal_of fault)))
+  list_unread fault (inl stops) = stopped fault fault.kind refl stops
+  list_unread fault (inr wants) =
+      subst (λ (f : ReadFault). IsUnread may_open may_refuse remaining list (Run (Refused Only (refusal_of f)))) (sym wants.0)
+      (refl, record { before = before; after = after; opened = opened; wants = wants.1 })

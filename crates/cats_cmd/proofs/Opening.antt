@@ -1,5 +1,5 @@
 -- Paths that were opened, and more of them behind these.
-use Rattle.std.proofs.Common.{◌≡◌, ◌⊎◌, inl, inr, ℕ, ◌+◌, ◌<◌, ◌≤◌, List, [], ◌∷◌, ◌++◌, length, map, filter, get_or, take, refl, sym, ap, ◌∙◌, subst, arith}
+use Rattle.std.proofs.Common.{◌≡◌, inl, inr, ℕ, ◌+◌, ◌<◌, ◌≤◌, List, [], ◌∷◌, ◌++◌, length, map, get_or, take, refl, sym, ap, ◌∙◌, subst, arith}
 use Rattle.std.proofs.Common.{append-nil, ⊎_elim, true, false, Option, Some, None, Result, Ok, Err, Bor}
 use Rattle.std.specs.Prelude.{IsErr, IsErrAnd}
 use Rattle.std.specs.Str.{IsUtf8, is_utf8}
@@ -9,13 +9,12 @@ use Rattle.std.proofs.lemmas.List.Elements.{filter-append}
 use Rattle.std.proofs.lemmas.Bool.{cases_Bool}
 use Rattle.std.proofs.lemmas.Result.{err_from_is_err_and}
 use Rattle.std.proofs.lemmas.Str.{IsUtf8-from_is_utf8, is_utf8-from_IsUtf8}
-use Rattle.cats_text.specs.declared.stream.Watched.{Watched}
 use Rattle.canon.specs.declared.canon_fault.CanonFault.TheVariants.{Memory}
 use Rattle.canon.specs.declared.which.Which.TheVariants.{Only}
 use Rattle.answers.specs.declared.report.RunFault.{RunFault}
 use Rattle.answers.specs.declared.report.RunFault.TheVariants.{Refused}
 use Rattle.cats_cmd.specs.Internal.Judging.{OpensAllAs}
-use Rattle.cats_cmd.specs.Opening.{Opens, OpensEach, OpensFirst, openable, with_paths}
+use Rattle.cats_cmd.specs.Opening.{Opens, OpensAtPaths, OpensEach, OpensFirst, openable, with_paths}
 use Rattle.cats_cmd.specs.Openings.{OpensList, status_of_run}
 use Rattle.cats_cmd.specs.FileLists.{ReadsList}
 use Rattle.cats_cmd.specs.PathLists.{paths_in}
@@ -85,20 +84,22 @@ module _ {S H : Type 0} (content_of : S → H) (opened : S → Option (List (Lis
     opens = subst (λ (ps : List (List ℕ)). Opens content_of opened old new (openable ps)) (sym (take_all (length paths) paths (omega arith))) opens;
   }
 
-  -- the paths of a list that was read
-  pub opens_listed : {F : Type 0} (may_open : H → List ℕ → F → Type 0) (may_refuse : H → List ℕ → Unopened → Type 0) (remaining : F → Option (List ℕ))
-      (list bytes : List ℕ) (paths : List (List ℕ)) (old between new : S) (status : ℕ) → Opens content_of opened old between (list ∷ [])
-      → ReadsList (may_open (content_of old)) (may_refuse (content_of old)) remaining list bytes → paths ≡ paths_in bytes
-      → OpensEach content_of opened paths between new status → OpensList content_of opened may_open may_refuse remaining list old new status
-  opens_listed may_open may_refuse remaining list bytes paths old between new status opens reads same each = record {
-    between = between;
-    opens = opens;
-    rest = inl (record {
-      bytes = bytes;
-      reads = reads;
-      opens = subst (λ (ps : List (List ℕ)). OpensEach content_of opened ps between new status) same each;
-    });
-  }
+  module _ {F : Type 0} (may_open : H → List ℕ → F → Type 0) (may_refuse : H → List ℕ → Unopened → Type 0) (remaining : F → Option (List ℕ))
+      (may_find : H → List ℕ → Option (List (List ℕ)) → Type 0) where
+    -- the paths of a list that was read
+    pub opens_listed : (list bytes : List ℕ) (paths : List (List ℕ)) (old between new : S) (status : ℕ) → Opens content_of opened old between (list ∷ [])
+        → ReadsList (may_open (content_of old)) (may_refuse (content_of old)) remaining list bytes → paths ≡ paths_in bytes
+        → OpensAtPaths content_of opened may_find paths between new status
+        → OpensList content_of opened may_open may_refuse remaining may_find list old new status
+    opens_listed list bytes paths old between new status opens reads same each = record {
+      between = between;
+      opens = opens;
+      rest = inl (record {
+        bytes = bytes;
+        reads = reads;
+        opens = subst (λ (ps : List (List ℕ)). OpensAtPaths content_of opened may_find ps between new status) same each;
+      });
+    }
 
 -- ---- the path of one file
 

@@ -1,19 +1,18 @@
 -- The paths are read back from the whole output. A text is its lines with a byte behind each, which no line has: a printed path has no
 -- control byte, or, with NUL at its end, no NUL. The lines of groups are cut at the empty ones, and the rows of a table behind nine tabs.
-use Rattle.std.proofs.Common.{◌≡◌, ℕ, suc, ◌+◌, ◌<◌, ◌==◌, Bool, true, false, List, [], ◌∷◌, ◌++◌, length, map, refl, sym, ap, ap₂, ◌∙◌, subst}
-use Rattle.std.proofs.Common.{arith, append-nil, zero}
+use Rattle.std.proofs.Common.{◌≡◌, ℕ, suc, ◌<◌, ◌==◌, Bool, true, false, List, [], ◌∷◌, ◌++◌, length, map, refl, sym, ap, ap₂, ◌∙◌, subst}
+use Rattle.std.proofs.Common.{arith, append-nil}
 use Rattle.std.specs.Prelude.{codes, filter, drop, Option}
 use Rattle.std.specs.Option.{option_map}
 use Rattle.std.specs.List.{All, flat_map, list_any, range_with_len, slice_split}
 use Rattle.std.proofs.lemmas.Bool.{lt-ltb, ne_eqb, or_parts}
 use Rattle.std.proofs.lemmas.Grind.{flat_map-append}
-use Rattle.std.proofs.lemmas.List.{append_assoc, length-map, map-append}
-use Rattle.std.proofs.lemmas.List.Elements.{All-append, All-cons, All-filter, All-from_recursion, All-head, All-map, All-nil, All-tail, All-weaker}
-use Rattle.std.proofs.lemmas.List.Elements.{filter_passes}
+use Rattle.std.proofs.lemmas.List.{append_assoc, length-map}
+use Rattle.std.proofs.lemmas.List.Elements.{All-append, All-cons, All-filter, All-head, All-map, All-nil, All-tail, All-weaker}
 use Rattle.std.proofs.lemmas.List.Splits.{slice_split_at, slice_split_none}
 use Rattle.answers.specs.Outputs.{number_cell}
 use Rattle.bid_file.specs.Files.{PlainFile}
-use Rattle.cats_cmd.specs.DuplicateTexts.{after_empty_lines, duplicates_text, groups_of, groups_text, is_printed, lines_of, paths_at}
+use Rattle.cats_cmd.specs.DuplicateTexts.{after_empty_lines, duplicates_text, groups_of, groups_text, is_printed, lines_of, paths_at, printed_groups}
 use Rattle.cats_cmd.specs.Escaping.{end_of, escaped, is_control_byte, path_text}
 use Rattle.cats_cmd.specs.OutputPaths.{IsPath, behind_tabs, end_byte, groups_in, has_lines, is_empty, paths_in_table, read_path}
 use Rattle.cats_cmd.specs.PathLists.{ended, parts_in}
@@ -23,7 +22,7 @@ use Rattle.cats_cmd.specs.SizesTables.{number_columns, row, rows_of_table, sizes
 use Rattle.cats_cmd.specs.declared.paths.Ending.{Ending}
 use Rattle.cats_cmd.specs.declared.paths.Ending.TheVariants.{Line, Null}
 use Rattle.cats_cmd.proofs.FaultTexts.{Plain, fault_plain, number_plain, plain_lacks}
-use Rattle.cats_cmd.proofs.Grouping.{some_printed}
+use Rattle.cats_cmd.proofs.Grouping.{printed_have_paths}
 use Rattle.cats_cmd.proofs.ListingPaths.{parts_back}
 use Rattle.cats_cmd.proofs.ReadingBack.{harmless, read_back}
 
@@ -140,33 +139,38 @@ module _ (ending : Ending) where
   group_back [] = refl
   group_back (path ∷ paths) = ap₂ (λ (p : List ℕ) (ps : List (List ℕ)). p ∷ ps) (printed_back ending path) (group_back paths)
 
-  groups_back : (all : Bool) (groups : List (List (List ℕ))) → All (λ paths. is_printed all paths ≡ true) groups
+  groups_back : (groups : List (List (List ℕ))) → All (λ paths. 0 < length paths) groups
       → map (map (read_path ending)) (filter has_lines (map (map line) groups)) ≡ groups
-  groups_back all [] printed = refl
-  groups_back all (paths ∷ groups) printed =
-      let more = some_printed all paths (All-head (λ ps. is_printed all ps ≡ true) paths groups printed) in
+  groups_back [] some = refl
+  groups_back (paths ∷ groups) some =
+      let more = All-head (λ ps. 0 < length ps) paths groups some in
       let long = length-map paths line in
-      let some : has_lines (map line paths) ≡ true = lt-ltb 0 (length (map line paths)) (omega (arith, more, long)) in
-      rw some (ap₂ (λ (g : List (List ℕ)) (gs : List (List (List ℕ))). g ∷ gs) (group_back paths)
-      (groups_back all groups (All-tail (λ ps. is_printed all ps ≡ true) paths groups printed)))
+      let has : has_lines (map line paths) ≡ true = lt-ltb 0 (length (map line paths)) (omega (arith, more, long)) in
+      rw has (ap₂ (λ (g : List (List ℕ)) (gs : List (List (List ℕ))). g ∷ gs) (group_back paths)
+      (groups_back groups (All-tail (λ ps. 0 < length ps) paths groups some)))
 
-  all_back : (all : Bool) (groups : List (List (List ℕ))) → All IsGroup groups → All (λ paths. is_printed all paths ≡ true) groups
+  all_back : (groups : List (List (List ℕ))) → All IsGroup groups → All (λ paths. 0 < length paths) groups
       → groups_in ending (groups_text ending groups) ≡ groups
-  all_back all [] are printed = refl
-  all_back all (paths ∷ groups) are printed =
+  all_back [] are some = refl
+  all_back (paths ∷ groups) are some =
       ap (λ (ls : List (List ℕ)). map (map (read_path ending)) (filter has_lines (slice_split is_empty ls)))
       (ap (parts_in (end_byte ending)) (groups_ended (paths ∷ groups))
       ∙ parts_back (end_byte ending) (lines_of_groups (paths ∷ groups)) (groups_lack (paths ∷ groups) are))
       ∙ ap (λ (gs : List (List (List ℕ))). map (map (read_path ending)) (filter has_lines gs))
       (lines_cut paths groups (All-head IsGroup paths groups are) (All-tail IsGroup paths groups are))
-      ∙ groups_back all (paths ∷ groups) printed
+      ∙ groups_back (paths ∷ groups) some
 
-  pub duplicates_back : (all : Bool) (found : List (List ℕ × ℕ)) → All (λ f. IsPath f.0) found
-      → groups_in ending (duplicates_text ending all found) ≡ filter (is_printed all) (groups_of found)
-  duplicates_back all found are =
-      all_back all (filter (is_printed all) (groups_of found))
-      (All-filter (is_printed all) IsGroup (groups_of found) (paths_all IsPath found are (range_with_len 0 (length found))))
-      (filter_passes (is_printed all) (groups_of found))
+  printed_paths : (all : Bool) (found : List (List ℕ × ℕ)) → All (λ f. IsPath f.0) found → All IsGroup (filter (is_printed all) (groups_of found))
+  printed_paths all found are =
+      All-filter (is_printed all) IsGroup (groups_of found) (paths_all IsPath found are (range_with_len 0 (length found)))
+
+  pub duplicates_back : (all : Bool) (judged heavy : List (List ℕ × ℕ)) → All (λ f. IsPath f.0) judged → All (λ f. IsPath f.0) heavy
+      → groups_in ending (duplicates_text ending all judged heavy) ≡ printed_groups all judged heavy
+  duplicates_back all judged heavy are others =
+      all_back (printed_groups all judged heavy)
+      (All-append IsGroup (filter (is_printed all) (groups_of judged)) (filter (is_printed false) (groups_of heavy)) (printed_paths all judged are)
+      (printed_paths false heavy others))
+      (printed_have_paths all judged heavy)
 
 -- ---- the cells of a row
 

@@ -1,5 +1,5 @@
 -- Texts that are reported one after the other.
-use Rattle.std.proofs.Common.{◌≡◌, ℕ, ◌+◌, ◌<◌, ◌≤◌, true, false, List, [], ◌∷◌, ◌++◌, length, get_or, take, refl, sym, ap, ◌∙◌, inl, inr, ⊎_elim, subst}
+use Rattle.std.proofs.Common.{◌≡◌, ℕ, ◌+◌, ◌<◌, true, false, List, [], ◌∷◌, ◌++◌, length, get_or, take, refl, sym, ap, ◌∙◌, inl, inr, ⊎_elim, subst}
 use Rattle.std.proofs.Common.{arith, append-nil, length-append, Option, Result, Ok, Err}
 use Rattle.std.specs.List.{flat_map}
 use Rattle.std.proofs.KnownBytes.{Appends-nil, Appends-trans}
@@ -7,7 +7,7 @@ use Rattle.std.specs.Io.KnownBytes.{Appends}
 use Rattle.std.proofs.Math.Seq.{take-append-add}
 use Rattle.std.proofs.lemmas.Bool.{both_ways, cases_Bool}
 use Rattle.std.proofs.lemmas.Grind.{flat_map-append}
-use Rattle.std.proofs.lemmas.List.{take_all, take_more, take-append-le}
+use Rattle.std.proofs.lemmas.List.{take_more, take-append-le}
 use Rattle.cats_text.specs.Streams.{Sends, SendsPart, SendsWhole, has_failed, inner_of}
 use Rattle.cats_text.specs.declared.read_fault.SendFault.{SendFault}
 use Rattle.cats_text.specs.declared.stream.Watched.{Watched}
@@ -77,7 +77,7 @@ module _ {E : Type 0} (messages : E → Option (List ℕ)) where
   reports_three one two three a b c d first second third =
       reports_then (one ++ two) three a c d (reports_then one two a b c first second) third
 
-  -- of a list of texts: one more, and all
+  -- of a list of texts: one more
   pub reports_next : {X : Type 0} (f : X → List ℕ) (xs : List X) (i : ℕ) (d : X) → i < length xs → (a b c : Watched E)
       → Reports messages (flat_map f (take i xs)) a b → Reports messages (f (get_or xs i d)) b c
       → Reports messages (flat_map f (take (i + 1) xs)) a c
@@ -87,8 +87,3 @@ module _ {E : Type 0} (messages : E → Option (List ℕ)) where
       ∙ ap (λ (t : List ℕ). flat_map f (take i xs) ++ t) (append-nil (f (get_or xs i d))) in
       subst (λ (t : List ℕ). Reports messages t a c) (sym more)
       (reports_then (flat_map f (take i xs)) (f (get_or xs i d)) a b c before now)
-
-  pub reports_all_of : {X : Type 0} (f : X → List ℕ) (xs : List X) (i : ℕ) → length xs ≤ i → (a b : Watched E)
-      → Reports messages (flat_map f (take i xs)) a b → Reports messages (flat_map f xs) a b
-  reports_all_of {X = X} f xs i l a b reports =
-      subst (λ (ys : List X). Reports messages (flat_map f ys) a b) (take_all i xs l) reports

@@ -1,17 +1,12 @@
--- `cats round`: the bytes that came so far, the prices that were reported so far, and the ways in which the run ends.
-use Rattle.std.proofs.Common.{◌≡◌, ◌<◌, ◌≤◌, ◌+◌, ℕ, Bool, true, false, ◌||◌, List, [], ◌∷◌, ◌++◌, length, take, map, get_or, refl, sym, ap, ◌∙◌, subst, arith}
-use Rattle.std.proofs.Common.{append-nil, length-append, Option, Result, Ok, Err, inl, inr, ⊎_elim}
-use Rattle.std.specs.Prelude.{IsErrAnd, Vec}
-use Rattle.std.specs.Global.{Global}
-use Rattle.std.specs.Io.KnownBytes.{Consumes}
-use Rattle.std.proofs.KnownBytes.{Consumes-trans}
+-- `cats round`: the prices that were reported so far, and the ways in which the run ends.
+use Rattle.std.proofs.Common.{◌≡◌, ◌<◌, ◌≤◌, ◌+◌, ℕ, List, [], ◌∷◌, ◌++◌, length, take, map, get_or, refl, sym, ap, ◌∙◌, subst}
+use Rattle.std.proofs.Common.{Option, Result, Ok, Err, inl, inr}
+use Rattle.std.specs.Prelude.{IsErrAnd}
 use Rattle.std.proofs.lemmas.List.{map-append, take_more, take_all}
-use Rattle.std.proofs.lemmas.Bool.{cases_lt, ne_eqb}
 use Rattle.std.proofs.lemmas.Result.{err_from_is_err_and}
-use Rattle.cats_text.specs.Streams.{inner_of, has_ended, has_failed, moved_nothing}
-use Rattle.cats_text.specs.declared.read_fault.Kind.TheVariants.{TooLong}
-use Rattle.cats_text.specs.declared.limits.TheConstants.{MAX_STREAM}
 use Rattle.cats_text.specs.declared.stream.Watched.{Watched}
+use Rattle.cats_text.specs.declared.read_fault.ReadFault.{ReadFault}
+use Rattle.canon.specs.Refusals.{refusal_of}
 use Rattle.canon.specs.declared.canon_fault.CanonFault.{CanonFault}
 use Rattle.canon.specs.declared.canon_fault.CanonFault.TheVariants.{Read, StepLimit, Memory}
 use Rattle.canon.specs.declared.which.Which.TheVariants.{Only}
@@ -22,75 +17,16 @@ use Rattle.rounding.specs.declared.replacement.FinePrices.{FinePrices}
 use Rattle.rounding.specs.declared.round_text.RoundedPrice.{RoundedPrice}
 use Rattle.rounding.specs.declared.round_text.RoundedText.{RoundedText}
 use Rattle.cats_cmd.specs.Internal.Roundings.{RoundsText}
-use Rattle.cats_cmd.specs.Inputs.{ReadsAll, ReadsBytes, StopsReading}
+use Rattle.cats_cmd.specs.Inputs.{IsUnreadStream, ReadsAll}
 use Rattle.answers.specs.RoundedLines.{rounded_line}
 use Rattle.cats_cmd.specs.Rounding.{IsUnrounded, Rounds, round_outcome}
 use Rattle.cats_cmd.specs.Runs.{SendsAs}
 use Rattle.cats_cmd.specs.RequestErrors.{Reports, ReportsAll}
 use Rattle.answers.specs.declared.report.RunFault.{RunFault}
-use Rattle.answers.specs.declared.report.RunFault.TheVariants.{Refused, GoodRange, BidRange, Sent}
+use Rattle.answers.specs.declared.report.RunFault.TheVariants.{Refused, TooHeavy, GoodRange, BidRange, Sent}
 use Rattle.cats_cmd.proofs.JudgingPaths.{reports_more}
+use Rattle.cats_cmd.proofs.ReadingBytes.{unread_stream}
 use Rattle.cats_cmd.proofs.Sending.{wrote}
-
--- ---- bytes
-
--- a read that gave nothing
-pub no_more : (a b c : Option (List ℕ)) (bytes piece : List ℕ) (n : ℕ) → n ≡ 0 → Consumes a b bytes → Consumes b c (take n piece) → Consumes a c bytes
-no_more a b c bytes piece n none came gave =
-    let joined = Consumes-trans a b c bytes [] came (rw none at gave) in rw append-nil at joined
-
--- a read that gave something
-pub not_at_the_end : (before : Bool) (n : ℕ) (piece : List ℕ) → before ≡ false → (n ≡ 0 → ⊥) → (before || moved_nothing (Ok n) piece) ≡ false
-not_at_the_end before n [] fresh some = rw fresh refl
-not_at_the_end before n (byte ∷ piece) fresh some = rw fresh (ne_eqb n 0 some)
-
-pub at_the_end : (before : Bool) (n : ℕ) (piece : List ℕ) → n ≡ 0 → 0 < length piece → (before || moved_nothing (Ok n) piece) ≡ true
-at_the_end before n [] none not_empty = absurd (omega arith)
-at_the_end before n (byte ∷ piece) none not_empty = grind arith
-
--- a read that gave a piece
-pub came_more : (a b c : Option (List ℕ)) (bytes piece all : List ℕ) → Consumes a b bytes → Consumes b c piece → all ≡ bytes ++ piece → Consumes a c all
-came_more a b c bytes piece all came gave joined = rw joined (Consumes-trans a b c bytes piece came gave)
-
--- so many bytes came
-pub so_many_bytes : (bytes piece : List ℕ) (n : ℕ) → n ≡ length piece → length (bytes ++ piece) ≡ length bytes + n
-so_many_bytes bytes piece n count = length-append bytes piece ∙ ap (λ (m : ℕ). length bytes + m) (sym count)
-
-module _ {R : Type 0} (remaining : R → Option (List ℕ)) where
-  pub too_many : (old between new : Watched R) (bytes piece : List ℕ) (n : ℕ) → Consumes (remaining (inner_of old)) (remaining (inner_of between)) bytes
-      → Consumes (remaining (inner_of between)) (remaining (inner_of new)) piece → n ≡ length piece → MAX_STREAM < length bytes + n
-      → StopsReading remaining old new 0 TooLong
-  too_many old between new bytes piece n came gave count beyond = (
-    refl,
-    record {
-      bytes = bytes ++ piece;
-      consumes = Consumes-trans (remaining (inner_of old)) (remaining (inner_of between)) (remaining (inner_of new)) bytes piece came gave;
-      beyond = rw (so_many_bytes bytes piece n count) beyond;
-    },
-  )
-
-  -- memory was refused for a piece that came
-  pub bytes_wanted : (old between new : Watched R) (bytes piece : List ℕ) (n : ℕ) → Consumes (remaining (inner_of old)) (remaining (inner_of between)) bytes
-      → Consumes (remaining (inner_of between)) (remaining (inner_of new)) piece → n ≡ length piece → (n ≡ 0 → ⊥) → length bytes + n ≤ MAX_STREAM
-      → has_failed new ≡ false → has_ended new ≡ false → (answer : Result (Vec ℕ Global) CanonFault) → IsErrAnd answer (λ fault. fault ≡ Memory)
-      → ReadsBytes remaining old new answer
-  bytes_wanted old between new bytes piece n came gave count some within works unended (Ok text) is = absurd is
-  bytes_wanted old between new bytes piece n came gave count some within works unended (Err fault) is =
-      let all : length (bytes ++ piece) ≡ length bytes + n = so_many_bytes bytes piece n count in
-      subst (λ (f : CanonFault). ReadsBytes remaining old new (Err f)) (sym is) (record {
-        bytes = bytes ++ piece;
-        consumes = Consumes-trans (remaining (inner_of old)) (remaining (inner_of between)) (remaining (inner_of new)) bytes piece came gave;
-        some = positive;
-        within = omega (arith, all, within);
-        works = works;
-        unended = unended;
-      })
-    where
-      positive : 0 < length (bytes ++ piece)
-      positive = ⊎_elim
-          (λ (p : 0 < n). omega (arith, so_many_bytes bytes piece n count, p))
-          (λ (q : n ≤ 0). absurd (some (omega (arith, q))))
-          (cases_lt 0 n)
 
 -- ---- reports
 
@@ -126,21 +62,17 @@ module _ {R W E : Type 0} (remaining : R → Option (List ℕ)) (contents : W �
       subst (λ (r : Result ℕ RunFault). Rounds remaining contents messages fine old new out out err err r) (sym only)
       (record { only = refl; refused = refused; silent = refl; quiet = refl })
 
-  unread : (fault : CanonFault) → ReadsBytes remaining old new (Err fault) → IsUnrounded remaining contents messages fine old new fault
-  unread (Read fault) stops = inl stops
-  unread (StepLimit goods) stops = absurd stops
-  unread Memory stops = inl stops
-
   unmade : (bytes : List ℕ) → ReadsAll remaining old new bytes → (fault : CanonFault) → RoundsText fine bytes (Err fault)
       → IsUnrounded remaining contents messages fine old new fault
   unmade bytes all (Read fault) first = inr (record { bytes = bytes; all = all; first = first })
   unmade bytes all (StepLimit goods) first = absurd first
   unmade bytes all Memory first = inr (record { bytes = bytes; all = all; wants = first })
 
-  pub round_unread : (out : Watched W) (err : Watched E) (fault : CanonFault) → ReadsBytes remaining old new (Err fault)
-      → (answer : Result ℕ RunFault) → IsErrAnd answer (λ reported. reported ≡ Refused Only fault)
-      → Rounds remaining contents messages fine old new out out err err answer
-  round_unread out err fault stops answer is = run_refused out err fault (unread fault stops) answer is
+  pub round_unread : (out : Watched W) (err : Watched E) (fault : ReadFault) → IsUnreadStream remaining old new fault
+      → Rounds remaining contents messages fine old new out out err err (Err (Refused Only (refusal_of fault)))
+  round_unread out err fault unread =
+      let refused = unread_stream remaining old new (IsUnrounded remaining contents messages fine old new) (λ f s. inl s) inl fault unread in
+      record { only = refl; refused = refused; silent = refl; quiet = refl }
 
   pub round_unmade : (out : Watched W) (err : Watched E) (bytes : List ℕ) → ReadsAll remaining old new bytes → (fault : CanonFault)
       → RoundsText fine bytes (Err fault) → (answer : Result ℕ RunFault) → IsErrAnd answer (λ reported. reported ≡ Refused Only fault)
@@ -153,6 +85,7 @@ module _ {R W E : Type 0} (remaining : R → Option (List ℕ)) (contents : W �
       → (answer : Result ℕ RunFault) → IsErrAnd answer (λ reported. reported ≡ fault)
       → Rounds remaining contents messages fine old new out out_after err err answer
   round_unsent out out_after err bytes all rounded r (Refused which fault) sends answer is = absurd sends
+  round_unsent out out_after err bytes all rounded r (TooHeavy which heavy) sends answer is = absurd sends
   round_unsent out out_after err bytes all rounded r (GoodRange good) sends answer is = absurd sends
   round_unsent out out_after err bytes all rounded r (BidRange bid) sends answer is = absurd sends
   round_unsent out out_after err bytes all rounded r (Sent fault) sends answer is =

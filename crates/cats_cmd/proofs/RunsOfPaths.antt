@@ -1,62 +1,67 @@
 -- The run of many files: the text that is made of them is sent, or memory was refused to all of them together.
-use Rattle.std.proofs.Common.{◌≡◌, ℕ, List, Option, Result, Ok, Err, length, refl, sym, ap, ◌∙◌, subst, arith}
+use Rattle.std.proofs.Common.{◌≡◌, ℕ, List, Option, Result, Ok, Err, length, map, refl, sym, ap, ◌∙◌, subst, arith}
 use Rattle.std.specs.Prelude.{IsErrAnd}
 use Rattle.std.proofs.lemmas.List.{take_all}
 use Rattle.std.proofs.lemmas.Result.{err_from_is_err_and}
 use Rattle.cats_text.specs.declared.stream.Watched.{Watched}
+use Rattle.command_line.specs.declared.request.Prices.{Prices}
 use Rattle.valuation.specs.declared.search_options.SearchOptions.{SearchOptions}
 use Rattle.canon.specs.declared.canon_fault.CanonFault.TheVariants.{Memory}
 use Rattle.canon.specs.declared.which.Which.TheVariants.{Only}
 use Rattle.cats_cmd.specs.Internal.Judging.{HasJudged}
 use Rattle.commands.specs.Outcomes.{Prints}
-use Rattle.cats_cmd.specs.Paths.{BeginsPaths, Judgement, JudgesPaths, MakesOfPaths, Reporting, RunsOnPaths, outcome_of_paths}
+use Rattle.cats_cmd.specs.Paths.{BeginsPaths, Judgement, JudgesPaths, MakesOfPaths, Reporting, RunsOnPaths, judgement_at, outcome_of_paths}
 use Rattle.cats_cmd.specs.Runs.{SendsAs}
 use Rattle.answers.specs.declared.report.RunFault.{RunFault}
-use Rattle.answers.specs.declared.report.RunFault.TheVariants.{Refused, GoodRange, BidRange, Sent}
+use Rattle.answers.specs.declared.report.RunFault.TheVariants.{Refused, TooHeavy, GoodRange, BidRange, Sent}
 use Rattle.cats_cmd.proofs.Sending.{wrote}
 use Rattle.cats_cmd.specs.declared.source.Unopened.{Unopened}
 
 module _ {F W E : Type 0} (may_open : List ℕ → F → Type 0) (may_refuse : List ℕ → Unopened → Type 0) (remaining : F → Option (List ℕ))
-    (contents : W → Option (List ℕ)) (messages : E → Option (List ℕ)) (options : SearchOptions) (Makes : List (List ℕ × Judgement) → List ℕ → Type 0)
+    (contents : W → Option (List ℕ)) (messages : E → Option (List ℕ)) (options : SearchOptions) (prices : Prices)
+    (Makes : List (List ℕ × Judgement) → List ℕ → Type 0)
     (paths : List (List ℕ)) (reporting : Reporting) (err err_after : Watched E) where
   -- memory was refused after the first of the paths
-  pub paths_refused : (out : Watched W) → BeginsPaths may_open may_refuse remaining messages options reporting paths err err_after
+  pub paths_refused : (out : Watched W) → BeginsPaths may_open may_refuse remaining messages options prices reporting paths err err_after
       → (answer : Result ℕ RunFault) → IsErrAnd answer (λ reported. reported ≡ Refused Only Memory)
-      → RunsOnPaths may_open may_refuse remaining contents messages options Makes paths reporting out out err err_after answer
+      → RunsOnPaths may_open may_refuse remaining contents messages options prices Makes paths reporting out out err err_after answer
   paths_refused out begins answer is =
       let reported = err_from_is_err_and answer is in
       let only : answer ≡ Err (Refused Only Memory) = reported.1 ∙ ap (λ (f : RunFault). Err f) reported.2 in
-      subst (λ (r : Result ℕ RunFault). RunsOnPaths may_open may_refuse remaining contents messages options Makes paths reporting out out err err_after r)
+      subst
+      (λ (r : Result ℕ RunFault). RunsOnPaths may_open may_refuse remaining contents messages options prices Makes paths reporting out out err err_after r)
       (sym only) (record { only = refl; memory = refl; silent = refl; begins = begins })
 
   module _ {C : Type 0} (Has : C → List (List ℕ × Judgement) → Type 0) (kept : C) (greatest : ℕ)
-      (h : HasJudged Has may_open may_refuse remaining options messages reporting (length paths) paths kept err err_after greatest) where
+      (h : HasJudged Has may_open may_refuse remaining options prices messages reporting (length paths) paths kept err err_after greatest) where
     -- memory was refused after all of them
     pub text_refused : (out : Watched W) (answer : Result ℕ RunFault) → IsErrAnd answer (λ reported. reported ≡ Refused Only Memory)
-        → RunsOnPaths may_open may_refuse remaining contents messages options Makes paths reporting out out err err_after answer
+        → RunsOnPaths may_open may_refuse remaining contents messages options prices Makes paths reporting out out err err_after answer
     text_refused out answer is =
         paths_refused out (record {
           count = length paths;
-          judgements = h.judgements;
+          judged = h.judged;
           judges = subst
               (λ (ps : List (List ℕ)).
-              JudgesPaths may_open may_refuse remaining messages options reporting (length paths) ps err err_after h.judgements)
+              JudgesPaths may_open may_refuse remaining messages options prices reporting (length paths) ps err err_after h.judged)
               (sym (take_all (length paths) paths (omega arith))) h.judges;
         }) answer is
 
     -- the text is sent
-    pub paths_printed : (out out_after : Watched W) (text : List ℕ) → Makes h.judgements text
+    pub paths_printed : (out out_after : Watched W) (text : List ℕ) → Makes (map judgement_at h.judged) text
         → (answer : Result ℕ RunFault) → SendsAs contents greatest text out out_after answer
-        → RunsOnPaths may_open may_refuse remaining contents messages options Makes paths reporting out out_after err err_after answer
+        → RunsOnPaths may_open may_refuse remaining contents messages options prices Makes paths reporting out out_after err err_after answer
     paths_printed out out_after text made (Ok reported) sends =
-        wrote contents (MakesOfPaths may_open may_refuse remaining contents messages options Makes paths reporting err err_after) outcome_of_paths out out_after
-        (record { judgements = h.judgements; text = text }) (record { judges = h.judges; makes = made }) greatest text
+        wrote contents (MakesOfPaths may_open may_refuse remaining contents messages options prices Makes paths reporting err err_after)
+        outcome_of_paths out out_after
+        (record { judged = h.judged; text = text }) (record { judges = h.judges; makes = made }) greatest text
         (ap (λ (s : ℕ). Prints s text) (sym h.is_greatest)) reported sends
     paths_printed out out_after text made (Err (Refused which fault)) sends = absurd sends
+    paths_printed out out_after text made (Err (TooHeavy which heavy)) sends = absurd sends
     paths_printed out out_after text made (Err (GoodRange good)) sends = absurd sends
     paths_printed out out_after text made (Err (BidRange bid)) sends = absurd sends
     paths_printed out out_after text made (Err (Sent fault)) sends = record {
-      given = record { judgements = h.judgements; text = text };
+      given = record { judged = h.judged; text = text };
       reads = record { judges = h.judges; makes = made };
       status = greatest;
       text = text;

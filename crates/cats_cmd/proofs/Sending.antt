@@ -2,6 +2,7 @@
 use Rattle.std.proofs.Common.{◌≡◌, ℕ, List, Option, Result, Ok, Err, refl, sym, subst, inr}
 use Rattle.valuation.specs.declared.search_options.SearchOptions.{SearchOptions}
 use Rattle.bid_file.specs.Files.{PlainFile}
+use Rattle.cats_text.specs.declared.read_fault.ReadFault.{ReadFault}
 use Rattle.cats_text.specs.declared.read_fault.SendFault.{SendFault}
 use Rattle.cats_text.specs.declared.stream.Watched.{Watched}
 use Rattle.canon.specs.declared.canon_fault.CanonFault.{CanonFault}
@@ -9,9 +10,8 @@ use Rattle.canon.specs.declared.canon_fault.CanonFault.TheVariants.{Memory}
 use Rattle.canon.specs.declared.which.Which.{Which}
 use Rattle.canon.specs.declared.which.Which.TheVariants.{Only, Both}
 use Rattle.answers.specs.declared.report.RunFault.{RunFault}
-use Rattle.answers.specs.declared.report.RunFault.TheVariants.{Refused, GoodRange, BidRange, Sent}
+use Rattle.answers.specs.declared.report.RunFault.TheVariants.{Refused, TooHeavy, GoodRange, BidRange, Sent}
 use Rattle.commands.specs.Commands.{Commands, text_of}
-use Rattle.commands.specs.Inputs.{StreamGives, StreamRefuses}
 use Rattle.commands.specs.Outcomes.{Outcome, Prints}
 use Rattle.commands.specs.Pairs.{Compares as ComparesFiles, Diffs}
 use Rattle.commands.specs.declared.answer.Answer.{Answer}
@@ -38,12 +38,14 @@ module _ {W : Type 0} (contents : W → Option (List ℕ)) (Answers : Result Ans
         (subst (λ (f : CanonFault). Answers (Err (Refused whose f))) (sym sends.1) (memory answer given)),
     sends.2,
   )
+  text_sent answer given (Err (TooHeavy which heavy)) sends = absurd sends
   text_sent answer given (Err (GoodRange good)) sends = absurd sends
   text_sent answer given (Err (BidRange bid)) sends = absurd sends
   text_sent answer given (Err (Sent fault)) sends = record { answer = answer; answers = given; sent = sends }
 
   nothing_sent : (fault : RunFault) → Answers (Err fault) → new ≡ old → RunsCommand contents Answers old new (Err fault)
   nothing_sent (Refused which fault) given silent = (given, silent)
+  nothing_sent (TooHeavy which heavy) given silent = (given, silent)
   nothing_sent (GoodRange good) given silent = (given, silent)
   nothing_sent (BidRange bid) given silent = (given, silent)
   nothing_sent (Sent fault) given silent = absurd (unsent fault given)
@@ -54,30 +56,28 @@ module _ {W : Type 0} (contents : W → Option (List ℕ)) (Answers : Result Ans
   command_run (Err fault) given result sends =
       subst (λ (r : Result ℕ RunFault). RunsCommand contents Answers old new r) (sym sends.0) (nothing_sent fault given sends.1)
 
-pub file_run : {R W : Type 0} (remaining : R → Option (List ℕ)) (contents : W → Option (List ℕ)) (outcome : PlainFile → Outcome) (before after : Watched R)
-    (old new : Watched W) (answer : Result Answer RunFault)
-    → Commands (StreamGives remaining) (StreamRefuses remaining) outcome before after answer
-    → (result : Result ℕ RunFault) → SendsAnswer contents Only answer old new result → RunsOnFile remaining contents outcome before after old new result
-file_run remaining contents outcome before after old new answer given result sends =
-    command_run contents (Commands (StreamGives remaining) (StreamRefuses remaining) outcome before after) Only (λ fault none. none)
+pub file_run : {I W : Type 0} (gives : I → I → PlainFile → Type 0) (refuses : I → I → ReadFault → Type 0) (contents : W → Option (List ℕ))
+    (outcome : PlainFile → Outcome) (before after : I) (old new : Watched W) (answer : Result Answer RunFault)
+    → Commands gives refuses outcome before after answer → (result : Result ℕ RunFault) → SendsAnswer contents Only answer old new result
+    → RunsOnFile gives refuses contents outcome before after old new result
+file_run gives refuses contents outcome before after old new answer given result sends =
+    command_run contents (Commands gives refuses outcome before after) Only (λ fault none. none)
     (λ a made. (refl, inr (record { file = made.file; given = made.given }))) old new answer given result sends
 
-module _ {R S W : Type 0} (remaining_first : R → Option (List ℕ)) (remaining_second : S → Option (List ℕ)) (contents : W → Option (List ℕ))
-    (options : SearchOptions) (first first_after : Watched R) (second second_after : Watched S) (old new : Watched W) (answer : Result Answer RunFault) where
-  pub compare_run : ComparesFiles (StreamGives remaining_first) (StreamRefuses remaining_first) (StreamGives remaining_second)
-      (StreamRefuses remaining_second) options first first_after second second_after answer
+module _ {I J W : Type 0} (gives_first : I → I → PlainFile → Type 0) (refuses_first : I → I → ReadFault → Type 0)
+    (gives_second : J → J → PlainFile → Type 0) (refuses_second : J → J → ReadFault → Type 0) (contents : W → Option (List ℕ))
+    (options : SearchOptions) (first first_after : I) (second second_after : J) (old new : Watched W) (answer : Result Answer RunFault) where
+  pub compare_run : ComparesFiles gives_first refuses_first gives_second refuses_second options first first_after second second_after answer
       → (result : Result ℕ RunFault) → SendsAnswer contents Both answer old new result
-      → Compares remaining_first remaining_second contents options first first_after second second_after old new result
+      → Compares gives_first refuses_first gives_second refuses_second contents options first first_after second second_after old new result
   compare_run given result sends =
-      command_run contents (ComparesFiles (StreamGives remaining_first) (StreamRefuses remaining_first) (StreamGives remaining_second)
-      (StreamRefuses remaining_second) options first first_after second second_after) Both (λ fault none. none)
-      (λ a made. record { files = made.given; given = made.gives; memory = refl }) old new answer given result sends
+      command_run contents (ComparesFiles gives_first refuses_first gives_second refuses_second options first first_after second second_after) Both
+      (λ fault none. none) (λ a made. record { files = made.given; given = made.gives; memory = refl }) old new answer given result sends
 
-  pub diff_run : Diffs (StreamGives remaining_first) (StreamRefuses remaining_first) (StreamGives remaining_second)
-      (StreamRefuses remaining_second) options first first_after second second_after answer
+  pub diff_run : Diffs gives_first refuses_first gives_second refuses_second options first first_after second second_after answer
       → (result : Result ℕ RunFault) → SendsAnswer contents Both answer old new result
-      → DiffsFiles remaining_first remaining_second contents options first first_after second second_after old new result
+      → DiffsFiles gives_first refuses_first gives_second refuses_second contents options first first_after second second_after old new result
   diff_run given result sends =
-      command_run contents (Diffs (StreamGives remaining_first) (StreamRefuses remaining_first) (StreamGives remaining_second)
-      (StreamRefuses remaining_second) options first first_after second second_after) Both (λ fault none. none)
-      (λ a made. record { files = (made.given.0, made.given.1); given = made.gives.given; memory = refl }) old new answer given result sends
+      command_run contents (Diffs gives_first refuses_first gives_second refuses_second options first first_after second second_after) Both
+      (λ fault none. none) (λ a made. record { files = (made.given.0, made.given.1); given = made.gives.given; memory = refl }) old new answer given result
+      sends

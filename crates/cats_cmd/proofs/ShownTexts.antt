@@ -3,9 +3,9 @@ use Rattle.std.proofs.Common.{◌≡◌, ℕ, ◌<◌, ◌&&◌, Bool, true, fal
 use Rattle.std.specs.Prelude.{codes, decimal, filter, nat_lt}
 use Rattle.std.specs.List.{All, AllByRecursion, list_any, range_with_len}
 use Rattle.std.proofs.lemmas.Bool.{and_parts, ltb-true, or_parts}
-use Rattle.std.proofs.lemmas.List.Elements.{All-filter, All-head, All-tail, All-weaker, recursion_from_All}
+use Rattle.std.proofs.lemmas.List.Elements.{All-append, All-filter, All-head, All-tail, All-weaker, recursion_from_All}
 use Rattle.answers.specs.Outputs.{bundle_text}
-use Rattle.cats_cmd.specs.DuplicateTexts.{after_empty_lines, duplicates_text, groups_of, groups_text, is_printed, lines_of}
+use Rattle.cats_cmd.specs.DuplicateTexts.{after_empty_lines, duplicates_text, groups_of, groups_text, is_printed, lines_of, printed_groups}
 use Rattle.cats_cmd.specs.Escaping.{AreBytes, IsTextOf, escaped, is_printable, is_shown, path_text}
 use Rattle.cats_cmd.specs.Paths.{Judgement, progress_line, refusal_line}
 use Rattle.cats_cmd.specs.RequestErrors.{line_of_request_error}
@@ -96,10 +96,16 @@ groups_shown : (groups : List (List (List ℕ))) → All (All AreBytes) groups �
 groups_shown [] are = no_text is_shown
 groups_shown (paths ∷ groups) are = then (lines paths (All-head (All AreBytes) paths groups are)) (after groups (All-tail (All AreBytes) paths groups are))
 
-pub duplicates_shown : (all : Bool) (found : List (List ℕ × ℕ)) → All (λ f. AreBytes f.0) found → Shown (duplicates_text Line all found)
-duplicates_shown all found are =
-    groups_shown (filter (is_printed all) (groups_of found))
-    (All-filter (is_printed all) (All AreBytes) (groups_of found) (paths_all AreBytes found are (range_with_len 0 (length found))))
+printed_shown : (all : Bool) (found : List (List ℕ × ℕ)) → All (λ f. AreBytes f.0) found → All (All AreBytes) (filter (is_printed all) (groups_of found))
+printed_shown all found are =
+    All-filter (is_printed all) (All AreBytes) (groups_of found) (paths_all AreBytes found are (range_with_len 0 (length found)))
+
+pub duplicates_shown : (all : Bool) (judged heavy : List (List ℕ × ℕ)) → All (λ f. AreBytes f.0) judged → All (λ f. AreBytes f.0) heavy
+    → Shown (duplicates_text Line all judged heavy)
+duplicates_shown all judged heavy are others =
+    groups_shown (printed_groups all judged heavy)
+    (All-append (All AreBytes) (filter (is_printed all) (groups_of judged)) (filter (is_printed false) (groups_of heavy)) (printed_shown all judged are)
+    (printed_shown false heavy others))
 
 -- ---- tables
 

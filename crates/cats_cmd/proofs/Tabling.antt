@@ -2,7 +2,7 @@
 use Rattle.std.proofs.Common.{◌≡◌, ℕ, suc, zero, ◌+◌, ◌-◌, ◌<◌, Bool, true, false, cond, List, [], ◌∷◌, ◌++◌, length, map, get_or, set, take, refl, sym}
 use Rattle.std.proofs.Common.{append-nil}
 use Rattle.std.proofs.Common.{ap, ◌∙◌, arith, Option, Some, None, Result, Ok, Err, ⊎_elim, zero-add, replicate}
-use Rattle.std.proofs.Common.{inr, Global}
+use Rattle.std.proofs.Common.{Global}
 use Rattle.std.specs.Prelude.{codes, decimal, filter, is_none, is_some, ◌||◌, Vec}
 use Rattle.std.specs.List.{range_with_len, slice_get}
 use Rattle.std.specs.Result.{OnOk}
@@ -17,26 +17,25 @@ use Rattle.std.proofs.lemmas.List.FromFn.{fill_by_all, length-map-range_with_len
 use Rattle.std.proofs.lemmas.Option.{get_or_from_slice_get, slice_get_within}
 use Rattle.bid_file.specs.Files.{PlainBid, PlainFile}
 use Rattle.valuation.specs.declared.search_options.SearchOptions.{SearchOptions}
-use Rattle.cats_text.specs.declared.stream.Watched.{Watched}
 use Rattle.valuation.specs.Auctions.{is_dummy, or_atoms_of}
 use Rattle.prune.specs.SearchSteps.{first_refused}
 use Rattle.canon.specs.Canonical.{canonical_file}
-use Rattle.canon.specs.declared.canon_fault.CanonFault.TheVariants.{Read, StepLimit, Memory}
+use Rattle.canon.specs.declared.canon_fault.CanonFault.TheVariants.{StepLimit, Memory}
 use Rattle.canon.specs.declared.which.Which.TheVariants.{Only}
 use Rattle.cats_text.specs.declared.read_fault.ReadFault.{ReadFault}
-use Rattle.cats_text.specs.declared.read_fault.Kind.{Kind}
 use Rattle.cats_text.specs.declared.read_fault.Kind.TheVariants.{Memory as NoMemory}
-use Rattle.canon.specs.Refusals.{refusal_by_kind, refusal_of}
-use Rattle.commands.specs.Inputs.{StreamGives, StreamRefuses}
-use Rattle.cats_cmd.proofs.Judging.{RefusesStream, refused_in_reading}
+use Rattle.canon.specs.Refusals.{refusal_of}
+use Rattle.commands.specs.Naming.{with_bid}
+use Rattle.cats_cmd.proofs.Judging.{heavy_bid, judged_heavy, judged_unmade, judged_unread}
 use Rattle.cats_cmd.specs.Internal.Tables.{PutsNumbers}
-use Rattle.cats_cmd.specs.Paths.{Judgement, IsHeavy, IsJudged, IsUnjudged, JudgesStream, request_error_of}
+use Rattle.cats_cmd.specs.Paths.{Judgement, IsHeavy, IsJudged, IsUnjudged, JudgesInput, request_error_of}
 use Rattle.cats_cmd.specs.RequestErrors.{line_of_request_error}
 use Rattle.cats_cmd.specs.SizesTables.{cells, columns, counts_of, fault_cell, has_dummy, number_columns, row, rows_of_table, sizes_of, with_tabs, without_end}
 use Rattle.cats_cmd.specs.Escaping.{path_text}
 use Rattle.cats_cmd.specs.declared.paths.Ending.{Ending}
 use Rattle.cats_cmd.specs.declared.errors.RequestError.{RequestError}
 use Rattle.cats_cmd.specs.declared.errors.RequestError.TheVariants.{Run}
+use Rattle.answers.specs.declared.report.HeavyBid.{HeavyBid}
 use Rattle.answers.specs.declared.report.RunFault.{RunFault}
 use Rattle.answers.specs.declared.report.RunFault.TheVariants.{Refused}
 
@@ -50,9 +49,9 @@ pub judged_numbers : (file : PlainFile)
     → with_tabs (sizes_of file) ++ with_tabs (counts_of (canonical_file file)) ≡ cells (map (λ c. c.1 (IsJudged file)) number_columns)
 judged_numbers file = sym (flat_map-append tabbed (map decimal (sizes_of file)) (map decimal (counts_of (canonical_file file))))
 
-pub heavy_numbers : (file : PlainFile) (goods : Vec ℕ Global)
-    → with_tabs (sizes_of file) ++ codes "\t\t\t" ≡ cells (map (λ c. c.1 (IsHeavy file goods)) number_columns)
-heavy_numbers file goods = sym (flat_map-append tabbed (map decimal (sizes_of file)) ([] ∷ [] ∷ [] ∷ []))
+pub heavy_numbers : (file : PlainFile) (heavy : HeavyBid)
+    → with_tabs (sizes_of file) ++ codes "\t\t\t" ≡ cells (map (λ c. c.1 (IsHeavy file heavy)) number_columns)
+heavy_numbers file heavy = sym (flat_map-append tabbed (map decimal (sizes_of file)) ([] ∷ [] ∷ [] ∷ []))
 
 row_cells : (j : Judgement) → cells (map (λ c. c.1 j) columns)
     ≡ cells (map (λ c. c.1 j) number_columns) ++ (fault_cell (request_error_of j) ++ codes "\t")
@@ -105,27 +104,23 @@ fault_put text longer line error why size end some is long before put =
 pub no_fault_put : (text : List ℕ) (error : Option RequestError) → error ≡ None → text ≡ text ++ fault_cell error
 no_fault_put text error none = sym (ap (λ (e : Option RequestError). text ++ fault_cell e) none ∙ append-nil text)
 
--- ---- the numbers of the file of a stream
+-- ---- the numbers of the file that an input gives
 
-module _ {R : Type 0} (remaining : R → Option (List ℕ)) (options : SearchOptions) (old new : Watched R) (text longer : List ℕ) where
-  unjudged : longer ≡ text ++ codes "\t\t\t\t\t\t\t\t" → (error : RequestError) → JudgesStream remaining options old new (IsUnjudged error)
-      → PutsNumbers remaining options text longer old new (Some error)
+module _ {I : Type 0} (gives : I → I → PlainFile → Type 0) (refuses : I → I → ReadFault → Type 0) (options : SearchOptions) (old new : I)
+    (text longer : List ℕ) where
+  unjudged : longer ≡ text ++ codes "\t\t\t\t\t\t\t\t" → (error : RequestError) → JudgesInput gives refuses options old new (IsUnjudged error)
+      → PutsNumbers gives refuses options text longer old new (Some error)
   unjudged put error judges = record { judgement = IsUnjudged error; judges = judges; puts = put; is_error = refl }
 
-  unread_by_kind : longer ≡ text ++ codes "\t\t\t\t\t\t\t\t" → (why : ReadFault) (kind : Kind)
-      → RefusesStream remaining options old new (refusal_by_kind why kind)
-      → PutsNumbers remaining options text longer old new (Some (Run (Refused Only (refusal_by_kind why kind))))
-  unread_by_kind put why NoMemory refused = unjudged put (Run (Refused Only Memory)) (refl, refused)
-  unread_by_kind put why kind refused = unjudged put (Run (Refused Only (Read why))) (refl, refused)
+  pub numbers_unread : longer ≡ text ++ codes "\t\t\t\t\t\t\t\t" → (why : ReadFault) → (why.kind ≡ NoMemory → why.line ≡ 0) → refuses old new why
+      → PutsNumbers gives refuses options text longer old new (Some (Run (Refused Only (refusal_of why))))
+  numbers_unread put why no_line refused =
+      unjudged put (Run (Refused Only (refusal_of why))) (judged_unread gives refuses options old new why no_line refused)
 
-  pub numbers_unread : longer ≡ text ++ codes "\t\t\t\t\t\t\t\t" → (why : ReadFault) → StreamRefuses remaining old new why
-      → PutsNumbers remaining options text longer old new (Some (Run (Refused Only (refusal_of why))))
-  numbers_unread put why refused = unread_by_kind put why why.kind (refused_in_reading remaining options old new why refused)
-
-  module _ (file : PlainFile) (given : StreamGives remaining old new file) where
+  module _ (file : PlainFile) (given : gives old new file) where
     pub numbers_judged : first_refused options file.goods (or_atoms_of file.bids) ≡ None
         → longer ≡ text ++ with_tabs (sizes_of file) ++ with_tabs (counts_of (canonical_file file))
-        → PutsNumbers remaining options text longer old new None
+        → PutsNumbers gives refuses options text longer old new None
     numbers_judged within put = record {
       judgement = IsJudged file;
       judges = record { given = given; within = within };
@@ -135,17 +130,19 @@ module _ {R : Type 0} (remaining : R → Option (List ℕ)) (options : SearchOpt
     }
 
     pub numbers_heavy : (goods : Vec ℕ Global) → first_refused options file.goods (or_atoms_of file.bids) ≡ Some goods.items
-        → longer ≡ text ++ with_tabs (sizes_of file) ++ codes "\t\t\t" → (why : RunFault) → why ≡ Refused Only (StepLimit goods)
-        → PutsNumbers remaining options text longer old new (Some (Run why))
+        → longer ≡ text ++ with_tabs (sizes_of file) ++ codes "\t\t\t" → (why : RunFault)
+        → why ≡ with_bid Only file options (StepLimit goods)
+        → PutsNumbers gives refuses options text longer old new (Some (Run why))
     numbers_heavy goods heavy put why is = record {
-      judgement = IsHeavy file goods;
-      judges = (given, heavy);
-      puts = put ∙ append_assoc text (with_tabs (sizes_of file)) (codes "\t\t\t") ∙ ap (λ (more : List ℕ). text ++ more) (heavy_numbers file goods);
+      judgement = IsHeavy file (heavy_bid options file goods);
+      judges = judged_heavy gives refuses options old new file given goods heavy;
+      puts = put ∙ append_assoc text (with_tabs (sizes_of file)) (codes "\t\t\t")
+          ∙ ap (λ (more : List ℕ). text ++ more) (heavy_numbers file (heavy_bid options file goods));
       is_error = ap (λ (f : RunFault). Some (Run f)) is;
     }
 
-    pub numbers_unmade : longer ≡ text ++ codes "\t\t\t\t\t\t\t\t" → PutsNumbers remaining options text longer old new (Some (Run (Refused Only Memory)))
-    numbers_unmade put = unjudged put (Run (Refused Only Memory)) (refl, inr (record { file = file; given = given }))
+    pub numbers_unmade : longer ≡ text ++ codes "\t\t\t\t\t\t\t\t" → PutsNumbers gives refuses options text longer old new (Some (Run (Refused Only Memory)))
+    numbers_unmade put = unjudged put (Run (Refused Only Memory)) (judged_unmade gives refuses options old new file given)
 
 -- ---- marks
 

@@ -1,6 +1,7 @@
--- What `cats duplicates` prints. Of the files that were found to be auctions, it has those that are not the only one of
--- theirs, or all.
-use Rattle.std.specs.Prelude.{ℕ, ◌==◌, nat_lt, if◌then◌else◌, Bool, List, [], ◌∷◌, ◌++◌, length, map, filter}
+-- What `cats duplicates` prints. Of the files that were judged, it has those that are not the only one of their
+-- auction, or
+-- all. Of those that a step limit refused, it has those that are alike to another one.
+use Rattle.std.specs.Prelude.{ℕ, ◌==◌, nat_lt, if◌then◌else◌, Bool, false, List, [], ◌∷◌, ◌++◌, length, map, filter}
 use Rattle.std.specs.Prelude.{Vec}
 use Rattle.std.specs.Borrow.{Bor}
 use Rattle.std.specs.Global.{Global}
@@ -8,11 +9,11 @@ use Rattle.std.specs.List.{flat_map, range_with_len}
 use Rattle.cats_cmd.specs.Escaping.{end_of, path_text}
 use Rattle.cats_cmd.specs.declared.paths.Ending.{Ending}
 
--- each path, and the place of the first file of its auction
+-- each path, and the place of the first file that its file is grouped with
 abbrev pub found_paths : List (Vec ℕ Global × ℕ) → List (List ℕ × ℕ)
 found_paths found = map (λ f. (f.0.items, f.1)) found
 
--- the paths of the files whose auction came first at this place
+-- the paths of the files of which this is the place
 abbrev pub paths_at : List (List ℕ × ℕ) → ℕ → List (List ℕ)
 paths_at found place = map (λ f. f.0) (filter (λ f. f.1 == place) found)
 
@@ -39,9 +40,14 @@ abbrev pub groups_text : Ending → List (List (List ℕ)) → List ℕ
 groups_text ending [] = []
 groups_text ending (paths ∷ groups) = lines_of ending paths ++ after_empty_lines ending groups
 
--- the groups that are printed, in the order of the first of each
-abbrev pub duplicates_text : Ending → Bool → List (List ℕ × ℕ) → List ℕ
-duplicates_text ending all found = groups_text ending (filter (is_printed all) (groups_of found))
+-- the groups that are printed, in the order of the first of each: those of the files that were judged, and behind them
+-- those of the files that a step limit refused, which are of two files or more
+abbrev pub printed_groups : Bool → List (List ℕ × ℕ) → List (List ℕ × ℕ) → List (List (List ℕ))
+printed_groups all judged heavy =
+    filter (is_printed all) (groups_of judged) ++ filter (is_printed false) (groups_of heavy)
+
+abbrev pub duplicates_text : Ending → Bool → List (List ℕ × ℕ) → List (List ℕ × ℕ) → List ℕ
+duplicates_text ending all judged heavy = groups_text ending (printed_groups all judged heavy)
 
 -- the lines after a text, with an empty line between them if there is a text
 abbrev pub behind : Ending → List ℕ → List ℕ → List ℕ

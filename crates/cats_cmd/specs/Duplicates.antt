@@ -3,18 +3,20 @@ use Rattle.std.specs.Prelude.{◌≡◌, ℕ, Bool, List, [], ◌∷◌, map}
 use Rattle.std.specs.List.{AllZip, flat_map}
 use Rattle.bid_file.specs.Files.{PlainFile}
 use Rattle.canon.specs.FirstPlaces.{IsFirstPlace}
+use Rattle.canon.specs.Sameness.{AreSameFiles}
+use Rattle.canon.specs.Unsearched.{AreAlike}
 use Rattle.cats_cmd.specs.DuplicateTexts.{duplicates_text}
 use Rattle.cats_cmd.specs.declared.paths.Ending.{Ending}
 use Rattle.cats_cmd.specs.Paths.{Judgement, IsJudged, IsHeavy, IsUnjudged}
 
 abbrev pub files_if_judged : Judgement → List PlainFile
 files_if_judged (IsJudged file) = file ∷ []
-files_if_judged (IsHeavy file goods) = []
+files_if_judged (IsHeavy file heavy) = []
 files_if_judged (IsUnjudged error) = []
 
 abbrev pub paths_if_judged : List ℕ → Judgement → List (List ℕ)
 paths_if_judged path (IsJudged file) = path ∷ []
-paths_if_judged path (IsHeavy file goods) = []
+paths_if_judged path (IsHeavy file heavy) = []
 paths_if_judged path (IsUnjudged error) = []
 
 -- the files that were judged, and their paths, in the order of the paths
@@ -24,14 +26,36 @@ judged_files judgements = flat_map (λ j. files_if_judged j.1) judgements
 abbrev pub judged_paths : List (List ℕ × Judgement) → List (List ℕ)
 judged_paths judgements = flat_map (λ j. paths_if_judged j.0 j.1) judgements
 
--- the paths of the files that were judged, each with the place of the first of these files that is the same auction
-pub record FindsPlaces (judgements : List (List ℕ × Judgement)) (found : List (List ℕ × ℕ)) : Type 0 where
-  pub judged : map (λ p. p.0) found ≡ judged_paths judgements
-  pub places : AllZip (λ p file. IsFirstPlace (judged_files judgements) file p.1) found (judged_files judgements)
+-- the files that a step limit refused, and their paths
+abbrev pub files_if_heavy : Judgement → List PlainFile
+files_if_heavy (IsJudged file) = []
+files_if_heavy (IsHeavy file heavy) = file ∷ []
+files_if_heavy (IsUnjudged error) = []
 
--- the text is that of the groups of paths whose files are one auction
+abbrev pub paths_if_heavy : List ℕ → Judgement → List (List ℕ)
+paths_if_heavy path (IsJudged file) = []
+paths_if_heavy path (IsHeavy file heavy) = path ∷ []
+paths_if_heavy path (IsUnjudged error) = []
+
+abbrev pub heavy_files : List (List ℕ × Judgement) → List PlainFile
+heavy_files judgements = flat_map (λ j. files_if_heavy j.1) judgements
+
+abbrev pub heavy_paths : List (List ℕ × Judgement) → List (List ℕ)
+heavy_paths judgements = flat_map (λ j. paths_if_heavy j.0 j.1) judgements
+
+-- the paths of files, each with the place of the first of these files that is related to its file
+pub record FindsPlaces (Related : PlainFile → PlainFile → Type 0) (paths : List (List ℕ)) (files : List PlainFile)
+    (found : List (List ℕ × ℕ)) : Type 0 where
+  pub of_paths : map (λ p. p.0) found ≡ paths
+  pub places : AllZip (λ p file. IsFirstPlace Related files file p.1) found files
+
+-- The text is that of the groups of paths whose files are one auction: of the files that were judged, and of those that
+-- a
+-- step limit refused, as far as that is known without any search, as the files are alike.
 pub record MakesGroups (ending : Ending) (all : Bool) (judgements : List (List ℕ × Judgement)) (text : List ℕ)
     : Type 0 where
-  pub found : List (List ℕ × ℕ)
-  pub finds : FindsPlaces judgements found
-  pub is_text : text ≡ duplicates_text ending all found
+  pub judged : List (List ℕ × ℕ)
+  pub finds_judged : FindsPlaces AreSameFiles (judged_paths judgements) (judged_files judgements) judged
+  pub heavy : List (List ℕ × ℕ)
+  pub finds_heavy : FindsPlaces AreAlike (heavy_paths judgements) (heavy_files judgements) heavy
+  pub is_text : text ≡ duplicates_text ending all judged heavy

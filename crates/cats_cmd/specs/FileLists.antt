@@ -5,6 +5,7 @@ use Rattle.cats_text.specs.declared.stream.Watched.{Watched}
 use Rattle.canon.specs.declared.canon_fault.CanonFault.TheVariants.{Read, StepLimit, Memory}
 use Rattle.canon.specs.declared.which.Which.TheVariants.{Only}
 use Rattle.command_line.specs.PlainRequests.{PlainPaths, Given, ListedIn}
+use Rattle.cats_cmd.specs.Folders.{StandFor}
 use Rattle.cats_cmd.specs.Inputs.{IsOpened, ReadsAll, StopsReading, WantsMemoryForBytes}
 use Rattle.cats_cmd.specs.PathLists.{paths_in}
 use Rattle.cats_cmd.specs.Paths.{refusal_line}
@@ -13,7 +14,7 @@ use Rattle.cats_cmd.specs.declared.errors.RequestError.{RequestError}
 use Rattle.cats_cmd.specs.declared.errors.RequestError.TheVariants.{CannotOpen, NotOpened, Run}
 use Rattle.cats_cmd.specs.declared.source.Unopened.{Unopened}
 use Rattle.answers.specs.declared.report.RunFault.{RunFault}
-use Rattle.answers.specs.declared.report.RunFault.TheVariants.{Refused, GoodRange, BidRange, Sent}
+use Rattle.answers.specs.declared.report.RunFault.TheVariants.{Refused, TooHeavy, GoodRange, BidRange, Sent}
 
 module _ {F : Type 0} (may_open : List ℕ → F → Type 0) (may_refuse : List ℕ → Unopened → Type 0)
     (remaining : F → Option (List ℕ)) (list : List ℕ) where
@@ -45,6 +46,7 @@ module _ {F : Type 0} (may_open : List ℕ → F → Type 0) (may_refuse : List 
   IsUnread (Run (Refused which (Read fault))) = (which ≡ Only) × StopsList fault
   IsUnread (Run (Refused which (StepLimit goods))) = ⊥
   IsUnread (Run (Refused which Memory)) = (which ≡ Only) × WantsMemoryForList
+  IsUnread (Run (TooHeavy which heavy)) = ⊥
   IsUnread (Run (GoodRange good)) = ⊥
   IsUnread (Run (BidRange bid)) = ⊥
   IsUnread (Run (Sent fault)) = ⊥
@@ -57,6 +59,21 @@ pub record RefusesList {W E : Type 0} (messages : E → Option (List ℕ)) (Unre
   pub reports : Reports messages (refusal_line list error) err err_after
   pub silent : out_after ≡ out
   pub is_status : status ≡ status_of_request_error error
+
+-- `Runs` is the run on some files.
+module _ {W E : Type 0} (may_find : List ℕ → Option (List (List ℕ)) → Type 0)
+    (Runs : List (List ℕ) → Watched W → Watched W → Watched E → Watched E → Result ℕ RunFault → Type 0) where
+  -- the run is on the files that these paths stand for
+  pub record RunsOnFound (paths : List (List ℕ)) (out out_after : Watched W) (err err_after : Watched E)
+      (answer : Result ℕ RunFault) : Type 0 where
+    pub files : List (List ℕ)
+    pub stand : StandFor may_find paths files
+    pub runs : Runs files out out_after err err_after answer
+
+  -- it is, or memory was refused while folders were read, and nothing was written or reported
+  abbrev pub RunsAtPaths : List (List ℕ) → Watched W → Watched W → Watched E → Watched E → Result ℕ RunFault → Type 0
+  RunsAtPaths paths out out_after err err_after answer = RunsOnFound paths out out_after err err_after answer
+      ⊎ ((answer ≡ Err (Refused Only Memory)) × (out_after ≡ out) × (err_after ≡ err))
 
 -- `Runs` is the run on the files at some paths.
 module _ {F W E : Type 0} (may_open : List ℕ → F → Type 0) (may_refuse : List ℕ → Unopened → Type 0)

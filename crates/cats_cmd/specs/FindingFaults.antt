@@ -8,7 +8,7 @@ use Rattle.canon.specs.declared.canon_fault.CanonFault.TheVariants.{Read, StepLi
 use Rattle.canon.specs.declared.which.Which.TheVariants.{Only}
 use Rattle.answers.specs.FaultPlaceTexts.{place_text, shown_bytes}
 use Rattle.answers.specs.declared.report.RunFault.{RunFault}
-use Rattle.answers.specs.declared.report.RunFault.TheVariants.{Refused, GoodRange, BidRange, Sent}
+use Rattle.answers.specs.declared.report.RunFault.TheVariants.{Refused, TooHeavy, GoodRange, BidRange, Sent}
 use Rattle.commands.specs.Outcomes.{Outcome, Prints}
 use Rattle.cats_cmd.specs.Escaping.{escaped}
 use Rattle.cats_cmd.specs.Inputs.{ReadsAll, StopsReading, WantsMemoryForBytes}
@@ -51,6 +51,7 @@ module _ {R W : Type 0} (remaining : R → Option (List ℕ)) (contents : W → 
       WritesText contents (ReadsAll remaining old new) (fault_outcome path) out out_after status
   FindsFault old new out out_after (Err (Refused which fault)) =
       (which ≡ Only) × IsUnfound old new fault × (out_after ≡ out)
+  FindsFault old new out out_after (Err (TooHeavy which heavy)) = ⊥
   FindsFault old new out out_after (Err (GoodRange good)) = ⊥
   FindsFault old new out out_after (Err (BidRange bid)) = ⊥
   FindsFault old new out out_after (Err (Sent fault)) =

@@ -1,14 +1,14 @@
 -- What a run reads. It is which stream was opened at a path, and all bytes of a stream.
-use Rattle.std.specs.Prelude.{◌≡◌, ◌<◌, ◌≤◌, ℕ, true, false, List, length, Option, Result, Ok, Err, Vec}
+use Rattle.std.specs.Prelude.{◌≡◌, ◌⊎◌, ◌<◌, ◌≤◌, ℕ, true, false, List, length, Option, Result, Ok, Err, Vec}
 use Rattle.std.specs.Global.{Global}
 use Rattle.std.specs.Io.KnownBytes.{Consumes, IsAtEnd}
 use Rattle.cats_text.specs.Streams.{inner_of, has_failed, has_ended}
 use Rattle.cats_text.specs.declared.read_fault.Kind.{Kind}
-use Rattle.cats_text.specs.declared.read_fault.Kind.TheVariants.{Device, TooLong}
+use Rattle.cats_text.specs.declared.read_fault.Kind.TheVariants.{Device, TooLong, Memory as NoMemory}
 use Rattle.cats_text.specs.declared.limits.TheConstants.{MAX_STREAM}
 use Rattle.cats_text.specs.declared.stream.Watched.{Watched}
-use Rattle.canon.specs.declared.canon_fault.CanonFault.{CanonFault}
-use Rattle.canon.specs.declared.canon_fault.CanonFault.TheVariants.{Read, StepLimit, Memory}
+use Rattle.cats_text.specs.Faults.{fault_at}
+use Rattle.cats_text.specs.declared.read_fault.ReadFault.{ReadFault}
 use Rattle.cats_cmd.specs.declared.source.Unopened.{Unopened}
 
 -- a file at this path may be refused, for some reason
@@ -53,9 +53,12 @@ module _ {R : Type 0} (remaining : R → Option (List ℕ)) where
     pub works : has_failed new ≡ false
     pub unended : has_ended new ≡ false
 
+  -- why the bytes of a stream were not read
+  abbrev pub IsUnreadStream : Watched R → Watched R → ReadFault → Type 0
+  IsUnreadStream old new fault = StopsReading old new fault.line fault.kind
+      ⊎ ((fault ≡ fault_at 0 NoMemory) × WantsMemoryForBytes old new)
+
   -- the contract of reading the bytes of a stream
-  abbrev pub ReadsBytes : Watched R → Watched R → Result (Vec ℕ Global) CanonFault → Type 0
+  abbrev pub ReadsBytes : Watched R → Watched R → Result (Vec ℕ Global) ReadFault → Type 0
   ReadsBytes old new (Ok text) = ReadsAll old new text.items
-  ReadsBytes old new (Err (Read fault)) = StopsReading old new fault.line fault.kind
-  ReadsBytes old new (Err (StepLimit goods)) = ⊥
-  ReadsBytes old new (Err Memory) = WantsMemoryForBytes old new
+  ReadsBytes old new (Err fault) = IsUnreadStream old new fault

@@ -3,6 +3,7 @@ pub mod Inputs
 pub mod RequestErrors
 pub mod Runs
 pub mod Escaping
+pub mod PricedInputs
 pub mod DuplicateTexts
 pub mod Paths
 pub mod PathLists
@@ -13,6 +14,7 @@ pub mod Rounding
 pub mod FileLists
 pub mod BidLists
 pub mod FindingFaults
+pub mod Folders
 pub mod Opening
 pub mod Openings
 pub mod Requests

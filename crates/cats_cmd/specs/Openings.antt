@@ -2,13 +2,12 @@
 use Rattle.std.specs.Prelude.{◌≡◌, ◌≤◌, ◌⊎◌, ℕ, List, [], ◌∷◌, Option, Some, Result, Ok, Err}
 use Rattle.answers.specs.Statuses.{status_of_fault}
 use Rattle.answers.specs.declared.report.RunFault.{RunFault}
-use Rattle.command_line.specs.PlainRequests.{PlainRequest, Check, Fault, Show, Value, Revenue, Normalise, Explain}
-use Rattle.command_line.specs.PlainRequests.{Round, Lp, Compare, Diff, Duplicates, Sizes, PlainPaths, Given, ListedIn}
-use Rattle.command_line.specs.PlainRequests.{PlainBids, GivenBids, BidsIn}
+use Rattle.command_line.specs.PlainRequests.{PlainRequest, OnFile, OnPair, OnFiles, Fault, Round, PlainCommand, Revenue}
+use Rattle.command_line.specs.PlainRequests.{PlainPaths, Given, ListedIn, PlainBids, GivenBids, BidsIn}
 use Rattle.command_line.specs.Requests.{IsNoRequestOf, request_of}
 use Rattle.command_line.specs.declared.request.NoRequest.{NoRequest}
 use Rattle.cats_cmd.specs.FileLists.{ReadsList}
-use Rattle.cats_cmd.specs.Opening.{Opens, OpensEach}
+use Rattle.cats_cmd.specs.Opening.{Opens, OpensAtPaths}
 use Rattle.cats_cmd.specs.PathLists.{paths_in}
 use Rattle.cats_cmd.specs.RequestErrors.{status_of_request_error}
 use Rattle.cats_cmd.specs.declared.errors.RequestError.{RequestError}
@@ -26,22 +25,6 @@ status_of_answer (Err error) = status_of_request_error error
 module _ {S H F : Type 0} (content_of : S → H) (opened : S → Option (List (List ℕ)))
     (may_open : H → List ℕ → F → Type 0) (may_refuse : H → List ℕ → Unopened → Type 0)
     (remaining : F → Option (List ℕ)) where
-  -- the list was read from a stream that the source might open at first, and the paths in it are opened
-  pub record OpensListed (list : List ℕ) (first old new : S) (status : ℕ) : Type 0 where
-    pub bytes : List ℕ
-    pub reads : ReadsList (may_open (content_of first)) (may_refuse (content_of first)) remaining list bytes
-    pub opens : OpensEach content_of opened (paths_in bytes) old new status
-
-  -- the list is opened, and then the paths in it, unless it is not read or memory is refused for them
-  pub record OpensList (list : List ℕ) (old new : S) (status : ℕ) : Type 0 where
-    pub between : S
-    pub opens : Opens content_of opened old between (list ∷ [])
-    pub rest : OpensListed list old between new status ⊎ (new ≡ between)
-
-  abbrev pub OpensFiles : PlainPaths → S → S → ℕ → Type 0
-  OpensFiles (Given paths) old new status = OpensEach content_of opened paths old new status
-  OpensFiles (ListedIn list) old new status = OpensList list old new status
-
   -- both files are opened, or only the first, which is refused
   abbrev pub OpensPair : List ℕ → List ℕ → S → S → ℕ → Type 0
   OpensPair first second old new status =
@@ -55,27 +38,10 @@ module _ {S H F : Type 0} (content_of : S → H) (opened : S → Option (List (L
       Opens content_of opened old new (list ∷ file ∷ [])
       ⊎ ((2 ≤ status) × Opens content_of opened old new (list ∷ []))
 
-  -- the paths of a request, which ends with this status
-  abbrev pub OpensFor : PlainRequest → S → S → ℕ → Type 0
-  OpensFor (Check file) old new status = Opens content_of opened old new (file ∷ [])
-  OpensFor (Fault file) old new status = Opens content_of opened old new (file ∷ [])
-  OpensFor (Show file) old new status = Opens content_of opened old new (file ∷ [])
-  OpensFor (Value file goods limits) old new status = Opens content_of opened old new (file ∷ [])
-  OpensFor (Revenue file bids) old new status = OpensForBids file bids old new status
-  OpensFor (Normalise file limits) old new status = Opens content_of opened old new (file ∷ [])
-  OpensFor (Explain file limits) old new status = Opens content_of opened old new (file ∷ [])
-  OpensFor (Round file exact) old new status = Opens content_of opened old new (file ∷ [])
-  OpensFor (Lp file) old new status = Opens content_of opened old new (file ∷ [])
-  OpensFor (Compare first second limits) old new status = OpensPair first second old new status
-  OpensFor (Diff first second limits) old new status = OpensPair first second old new status
-  OpensFor (Duplicates files) old new status = OpensFiles files.paths old new status
-  OpensFor (Sizes files) old new status = OpensFiles files.paths old new status
-
-  -- the line has this request, whose paths are opened
-  pub record OpensAsked (words : List (List ℕ)) (old new : S) (status : ℕ) : Type 0 where
-    pub request : PlainRequest
-    pub asked : request_of words ≡ Some request
-    pub opens : OpensFor request old new status
+  -- the paths of a command on one file, which ends with this status
+  abbrev pub OpensForCommand : List ℕ → PlainCommand → S → S → ℕ → Type 0
+  OpensForCommand file (Revenue bids) old new status = OpensForBids file bids old new status
+  OpensForCommand file command old new status = Opens content_of opened old new (file ∷ [])
 
   -- the line is no request, or memory was refused, and nothing is opened
   pub record OpensNothing (words : List (List ℕ)) (old new : S) : Type 0 where
@@ -83,6 +49,39 @@ module _ {S H F : Type 0} (content_of : S → H) (opened : S → Option (List (L
     pub unasked : IsNoRequestOf words no_request
     pub unopened : new ≡ old
 
-  -- what any command line opens
-  abbrev pub OpensLine : List (List ℕ) → S → S → ℕ → Type 0
-  OpensLine words old new status = OpensAsked words old new status ⊎ OpensNothing words old new
+  module _ (may_find : H → List ℕ → Option (List (List ℕ)) → Type 0) where
+    -- the list was read from a stream that the source might open at first, and the files that the paths in it stand for
+    -- are opened
+    pub record OpensListed (list : List ℕ) (first old new : S) (status : ℕ) : Type 0 where
+      pub bytes : List ℕ
+      pub reads : ReadsList (may_open (content_of first)) (may_refuse (content_of first)) remaining list bytes
+      pub opens : OpensAtPaths content_of opened may_find (paths_in bytes) old new status
+
+    -- the list is opened, and then the files that the paths in it stand for, unless it is not read or memory is refused
+    -- for them
+    pub record OpensList (list : List ℕ) (old new : S) (status : ℕ) : Type 0 where
+      pub between : S
+      pub opens : Opens content_of opened old between (list ∷ [])
+      pub rest : OpensListed list old between new status ⊎ (new ≡ between)
+
+    abbrev pub OpensFiles : PlainPaths → S → S → ℕ → Type 0
+    OpensFiles (Given paths) old new status = OpensAtPaths content_of opened may_find paths old new status
+    OpensFiles (ListedIn list) old new status = OpensList list old new status
+
+    -- the paths of a request, which ends with this status
+    abbrev pub OpensFor : PlainRequest → S → S → ℕ → Type 0
+    OpensFor (OnFile file prices command) old new status = OpensForCommand file command old new status
+    OpensFor (OnPair first second prices command limits) old new status = OpensPair first second old new status
+    OpensFor (OnFiles files) old new status = OpensFiles files.paths old new status
+    OpensFor (Fault file) old new status = Opens content_of opened old new (file ∷ [])
+    OpensFor (Round file exact) old new status = Opens content_of opened old new (file ∷ [])
+
+    -- the line has this request, whose paths are opened
+    pub record OpensAsked (words : List (List ℕ)) (old new : S) (status : ℕ) : Type 0 where
+      pub request : PlainRequest
+      pub asked : request_of words ≡ Some request
+      pub opens : OpensFor request old new status
+
+    -- what any command line opens
+    abbrev pub OpensLine : List (List ℕ) → S → S → ℕ → Type 0
+    OpensLine words old new status = OpensAsked words old new status ⊎ OpensNothing words old new

@@ -1,8 +1,7 @@
 -- The contract of a run on many files. It has what became of each file, what is reported, and the text that is sent.
 use Rattle.std.specs.Prelude.{◌≡◌, ◌⊎◌, ◌==◌, ◌||◌, ◌%◌, nat_lt, if◌then◌else◌, ℕ, suc, max, Bool}
-use Rattle.std.specs.Prelude.{List, [], ◌∷◌, ◌++◌, length, fold, map, take, Vec}
+use Rattle.std.specs.Prelude.{List, [], ◌∷◌, ◌++◌, length, fold, map, take}
 use Rattle.std.specs.Prelude.{Option, Some, None, Result, Ok, Err, codes, decimal}
-use Rattle.std.specs.Global.{Global}
 use Rattle.std.specs.List.{AllByRecursion}
 use Rattle.std.specs.Str.{IsUtf8}
 use Rattle.bid_file.specs.Files.{PlainFile}
@@ -12,13 +11,13 @@ use Rattle.canon.specs.declared.canon_fault.CanonFault.{CanonFault}
 use Rattle.canon.specs.declared.canon_fault.CanonFault.TheVariants.{StepLimit, Memory}
 use Rattle.canon.specs.declared.which.Which.{Which}
 use Rattle.canon.specs.declared.which.Which.TheVariants.{Only}
-use Rattle.valuation.specs.Auctions.{or_atoms_of}
-use Rattle.prune.specs.SearchSteps.{first_refused}
-use Rattle.commands.specs.Commands.{Commands, GivesWithin}
-use Rattle.commands.specs.Inputs.{StreamGives, StreamRefuses}
-use Rattle.commands.specs.Outcomes.{Outcome, Prints, normalise_outcome}
+use Rattle.commands.specs.Commands.{Commands, GivesWithin, outcome_of_heavy_bid}
+use Rattle.cats_text.specs.declared.read_fault.ReadFault.{ReadFault}
+use Rattle.command_line.specs.declared.request.Prices.{Prices}
+use Rattle.commands.specs.Outcomes.{Outcome, Prints, naming_outcome, normalise_outcome}
 use Rattle.cats_cmd.specs.Escaping.{escaped}
-use Rattle.cats_cmd.specs.Inputs.{IsOpened}
+use Rattle.cats_cmd.specs.PricedInputs.{IsPriced, PricedGives, PricedRefuses, rounding_lines}
+use Rattle.cats_cmd.specs.declared.priced_input.PricedInput.{PricedInput}
 use Rattle.cats_cmd.specs.Runs.{FailsInText, WritesText}
 use Rattle.cats_cmd.specs.RequestErrors.{ReportsAll, line_of_request_error, status_of_request_error}
 use Rattle.cats_cmd.specs.declared.paths.Progress.{Progress}
@@ -27,22 +26,35 @@ use Rattle.cats_cmd.specs.declared.errors.RequestError.{RequestError}
 use Rattle.cats_cmd.specs.declared.errors.RequestError.TheVariants.{CannotOpen, NotOpened, Run}
 use Rattle.cats_cmd.specs.declared.source.Unopened.{Unopened}
 use Rattle.cats_cmd.specs.declared.source.Unopened.TheVariants.{Other}
+use Rattle.answers.specs.declared.report.HeavyBid.{HeavyBid}
 use Rattle.answers.specs.declared.report.RunFault.{RunFault}
-use Rattle.answers.specs.declared.report.RunFault.TheVariants.{Refused, GoodRange, BidRange, Sent}
+use Rattle.answers.specs.declared.report.RunFault.TheVariants.{Refused, TooHeavy, GoodRange, BidRange, Sent}
 
 -- what became of the file at a path
 pub data Judgement : Type 0 where
   -- it was judged: it spells this file, of which no bundle is refused
   IsJudged : PlainFile → Judgement
-  -- it spells this file, of which the bundle of these goods is the first that is refused
-  IsHeavy : PlainFile → Vec ℕ Global → Judgement
+  -- it spells this file, of which the bundle of this bid is the first that is refused
+  IsHeavy : PlainFile → HeavyBid → Judgement
   -- it was not judged, for this reason
   IsUnjudged : RequestError → Judgement
+
+-- what became of the file at a path, and how many of its prices were rounded
+pub record JudgedPath : Type 0 where
+  pub path : List ℕ
+  pub judgement : Judgement
+  pub rounded : ℕ
+
+abbrev pub judged_path : List ℕ → Judgement → ℕ → JudgedPath
+judged_path path judgement rounded = record { path = path; judgement = judgement; rounded = rounded }
+
+abbrev pub judgement_at : JudgedPath → List ℕ × Judgement
+judgement_at judged = (judged.path, judged.judgement)
 
 -- why the file was not judged
 abbrev pub request_error_of : Judgement → Option RequestError
 request_error_of (IsJudged file) = None
-request_error_of (IsHeavy file goods) = Some (Run (Refused Only (StepLimit goods)))
+request_error_of (IsHeavy file heavy) = Some (Run (TooHeavy Only heavy))
 request_error_of (IsUnjudged error) = Some error
 
 abbrev pub status_if : Option RequestError → ℕ
@@ -106,23 +118,25 @@ with_refusals progress = record { refusals = refusal_lines; progress = progress 
 abbrev pub without_refusals : Progress → Reporting
 without_refusals progress = record { refusals = λ path error. []; progress = progress }
 
--- of the path with this number, among so many, and why its file was not judged
-abbrev pub lines_on : Reporting → ℕ → ℕ → List ℕ → Option RequestError → List (List ℕ)
-lines_on reporting count number path error = removal_lines reporting.progress number ++ reporting.refusals path error
+-- of the path with this number, among so many: how many prices of its file were rounded, and why it was not judged
+abbrev pub lines_on : Reporting → ℕ → ℕ → List ℕ → ℕ → Option RequestError → List (List ℕ)
+lines_on reporting count number path rounded error = removal_lines reporting.progress number
+    ++ rounding_lines path rounded ++ reporting.refusals path error
     ++ progress_lines reporting.progress number count path
 
-abbrev pub lines_of_path : Reporting → ℕ → ℕ → List ℕ × Judgement → List (List ℕ)
-lines_of_path reporting count number j = lines_on reporting count number j.0 (request_error_of j.1)
+abbrev pub lines_of_path : Reporting → ℕ → ℕ → JudgedPath → List (List ℕ)
+lines_of_path reporting count number judged =
+    lines_on reporting count number judged.path judged.rounded (request_error_of judged.judgement)
 
 -- of paths of which the first has this number
-abbrev pub lines_from : Reporting → ℕ → ℕ → List (List ℕ × Judgement) → List (List ℕ)
+abbrev pub lines_from : Reporting → ℕ → ℕ → List JudgedPath → List (List ℕ)
 lines_from reporting count number [] = []
-lines_from reporting count number (j ∷ judgements) =
-    lines_of_path reporting count number j ++ lines_from reporting count (suc number) judgements
+lines_from reporting count number (judged ∷ rest) =
+    lines_of_path reporting count number judged ++ lines_from reporting count (suc number) rest
 
 -- of all paths
-abbrev pub report_lines : Reporting → ℕ → List (List ℕ × Judgement) → List (List ℕ)
-report_lines reporting count judgements = lines_from reporting count 1 judgements
+abbrev pub report_lines : Reporting → ℕ → List JudgedPath → List (List ℕ)
+report_lines reporting count judged = lines_from reporting count 1 judged
 
 -- ---- the file at a path
 
@@ -130,73 +144,78 @@ report_lines reporting count judgements = lines_from reporting count 1 judgement
 abbrev pub IsUnopened : (List ℕ → Unopened → Type 0) → List ℕ → Unopened → Type 0
 IsUnopened may_refuse path why = may_refuse path why ⊎ ((why ≡ Other) × (IsUtf8 path → ⊥))
 
-module _ {F : Type 0} (remaining : F → Option (List ℕ)) (options : SearchOptions) where
-  -- Reading the stream gives this. Of no stream but one that spells a file is a bundle refused.
-  abbrev pub JudgesStream : Watched F → Watched F → Judgement → Type 0
-  JudgesStream before after (IsJudged file) =
-      GivesWithin (StreamGives remaining) (StreamRefuses remaining) options before after file
-  JudgesStream before after (IsHeavy file goods) = StreamGives remaining before after file
-      × (first_refused options file.goods (or_atoms_of file.bids) ≡ Some goods.items)
-  JudgesStream before after (IsUnjudged (CannotOpen which)) = ⊥
-  JudgesStream before after (IsUnjudged (NotOpened why)) = ⊥
-  JudgesStream before after (IsUnjudged (Run (Refused which (StepLimit goods)))) = ⊥
-  JudgesStream before after (IsUnjudged (Run fault)) =
-      Commands (StreamGives remaining) (StreamRefuses remaining) (normalise_outcome options) before after (Err fault)
+module _ {I : Type 0} (gives : I → I → PlainFile → Type 0) (refuses : I → I → ReadFault → Type 0)
+    (options : SearchOptions) where
+  -- Reading the input gives this. Of no input but one that gives a file is a bundle refused.
+  abbrev pub JudgesInput : I → I → Judgement → Type 0
+  JudgesInput before after (IsJudged file) = GivesWithin gives refuses options before after file
+  JudgesInput before after (IsHeavy file heavy) = gives before after file
+      × (naming_outcome options file ≡ outcome_of_heavy_bid heavy)
+  JudgesInput before after (IsUnjudged (CannotOpen which)) = ⊥
+  JudgesInput before after (IsUnjudged (NotOpened why)) = ⊥
+  JudgesInput before after (IsUnjudged (Run (Refused which (StepLimit goods)))) = ⊥
+  JudgesInput before after (IsUnjudged (Run (TooHeavy which heavy))) = ⊥
+  JudgesInput before after (IsUnjudged (Run fault)) =
+      Commands gives refuses (normalise_outcome options) before after (Err fault)
 
 module _ {F : Type 0} (may_open : List ℕ → F → Type 0) (may_refuse : List ℕ → Unopened → Type 0) (remaining : F
     → Option (List ℕ))
-    (options : SearchOptions) where
+    (options : SearchOptions) (prices : Prices) where
   -- this became of a stream that was opened at the path
-  pub record JudgesOpened (path : List ℕ) (judgement : Judgement) : Type 0 where
-    pub before : Watched F
-    pub after : Watched F
-    pub opened : IsOpened may_open path before
-    pub judges : JudgesStream remaining options before after judgement
+  pub record JudgesOpened (path : List ℕ) (judgement : Judgement) (rounded : ℕ) : Type 0 where
+    pub before : PricedInput F
+    pub after : PricedInput F
+    pub opened : IsPriced may_open prices path before
+    pub judges : JudgesInput (PricedGives remaining) (PricedRefuses remaining) options before after judgement
+    pub count : rounded ≡ after.rounded
 
-  abbrev pub Judges : List ℕ × Judgement → Type 0
-  Judges (path, IsJudged file) = JudgesOpened path (IsJudged file)
-  Judges (path, IsHeavy file goods) = JudgesOpened path (IsHeavy file goods)
-  Judges (path, IsUnjudged (CannotOpen which)) = ⊥
-  Judges (path, IsUnjudged (NotOpened why)) = IsUnopened may_refuse path why
-  Judges (path, IsUnjudged (Run fault)) = JudgesOpened path (IsUnjudged (Run fault))
+  abbrev pub JudgesAs : List ℕ → ℕ → Judgement → Type 0
+  JudgesAs path rounded (IsJudged file) = JudgesOpened path (IsJudged file) rounded
+  JudgesAs path rounded (IsHeavy file heavy) = JudgesOpened path (IsHeavy file heavy) rounded
+  JudgesAs path rounded (IsUnjudged (CannotOpen which)) = ⊥
+  JudgesAs path rounded (IsUnjudged (NotOpened why)) = IsUnopened may_refuse path why × (rounded ≡ 0)
+  JudgesAs path rounded (IsUnjudged (Run fault)) = JudgesOpened path (IsUnjudged (Run fault)) rounded
+
+  abbrev pub Judges : JudgedPath → Type 0
+  Judges judged = JudgesAs judged.path judged.rounded judged.judgement
 
 -- ---- the files at all paths
 
 -- what became of the file at each path, and the text that is made of them
 pub record Made : Type 0 where
-  pub judgements : List (List ℕ × Judgement)
+  pub judged : List JudgedPath
   pub text : List ℕ
 
 module _ {F E : Type 0} (may_open : List ℕ → F → Type 0) (may_refuse : List ℕ → Unopened → Type 0)
-    (remaining : F → Option (List ℕ)) (messages : E → Option (List ℕ)) (options : SearchOptions)
+    (remaining : F → Option (List ℕ)) (messages : E → Option (List ℕ)) (options : SearchOptions) (prices : Prices)
     (reporting : Reporting) where
   -- this became of the files at these paths, which are the first of so many, and it was reported
   pub record JudgesPaths (count : ℕ) (paths : List (List ℕ)) (err err_after : Watched E)
-      (judgements : List (List ℕ × Judgement)) : Type 0 where
-    pub of_paths : map (λ j. j.0) judgements ≡ paths
-    pub each : AllByRecursion (Judges may_open may_refuse remaining options) judgements
-    pub reports : ReportsAll messages (report_lines reporting count judgements) err err_after
+      (judged : List JudgedPath) : Type 0 where
+    pub of_paths : map (λ j. j.path) judged ≡ paths
+    pub each : AllByRecursion (Judges may_open may_refuse remaining options prices) judged
+    pub reports : ReportsAll messages (report_lines reporting count judged) err err_after
 
   -- this became of the files at the first so many of the paths
   pub record BeginsPaths (paths : List (List ℕ)) (err err_after : Watched E) : Type 0 where
     pub count : ℕ
-    pub judgements : List (List ℕ × Judgement)
-    pub judges : JudgesPaths (length paths) (take count paths) err err_after judgements
+    pub judged : List JudgedPath
+    pub judges : JudgesPaths (length paths) (take count paths) err err_after judged
 
 -- ---- the run
 
 abbrev pub outcome_of_paths : Made → Outcome
-outcome_of_paths made = Prints (greatest_status made.judgements) made.text
+outcome_of_paths made = Prints (greatest_status (map judgement_at made.judged)) made.text
 
 -- `Makes` says which text is made of what became of the files
 module _ {F W E : Type 0} (may_open : List ℕ → F → Type 0) (may_refuse : List ℕ → Unopened → Type 0)
     (remaining : F → Option (List ℕ)) (contents : W → Option (List ℕ)) (messages : E → Option (List ℕ))
-    (options : SearchOptions)
+    (options : SearchOptions) (prices : Prices)
     (Makes : List (List ℕ × Judgement) → List ℕ → Type 0) (paths : List (List ℕ)) (reporting : Reporting) where
   pub record MakesOfPaths (err err_after : Watched E) (made : Made) : Type 0 where
-    pub judges : JudgesPaths may_open may_refuse remaining messages options reporting (length paths) paths err err_after
-        made.judgements
-    pub makes : Makes made.judgements made.text
+    pub judges : JudgesPaths may_open may_refuse remaining messages options prices reporting (length paths) paths err
+        err_after made.judged
+    pub makes : Makes (map judgement_at made.judged) made.text
 
   -- memory was refused to all files together: nothing was written, and the paths after some were not opened
   pub record RefusesPaths (out out_after : Watched W) (err err_after : Watched E) (which : Which) (fault : CanonFault)
@@ -204,7 +223,7 @@ module _ {F W E : Type 0} (may_open : List ℕ → F → Type 0) (may_refuse : L
     pub only : which ≡ Only
     pub memory : fault ≡ Memory
     pub silent : out_after ≡ out
-    pub begins : BeginsPaths may_open may_refuse remaining messages options reporting paths err err_after
+    pub begins : BeginsPaths may_open may_refuse remaining messages options prices reporting paths err err_after
 
   -- the contract of the run, from its output and standard error before to those after it
   abbrev pub RunsOnPaths : Watched W → Watched W → Watched E → Watched E → Result ℕ RunFault → Type 0
@@ -212,6 +231,7 @@ module _ {F W E : Type 0} (may_open : List ℕ → F → Type 0) (may_refuse : L
       WritesText contents (MakesOfPaths err err_after) outcome_of_paths out out_after status
   RunsOnPaths out out_after err err_after (Err (Refused which fault)) =
       RefusesPaths out out_after err err_after which fault
+  RunsOnPaths out out_after err err_after (Err (TooHeavy which heavy)) = ⊥
   RunsOnPaths out out_after err err_after (Err (GoodRange good)) = ⊥
   RunsOnPaths out out_after err err_after (Err (BidRange bid)) = ⊥
   RunsOnPaths out out_after err err_after (Err (Sent fault)) =

@@ -6,8 +6,10 @@ use Rattle.cats_text.specs.declared.read_fault.SendFault.{SendFault}
 use Rattle.cats_text.specs.declared.stream.Watched.{Watched}
 use Rattle.answers.specs.FaultLines.{line_of_fault, prefix_of}
 use Rattle.answers.specs.Statuses.{status_of_fault}
-use Rattle.command_line.specs.PlainRequests.{PlainRequest, Fault, Round, Duplicates, Sizes}
+use Rattle.command_line.specs.PlainRequests.{PlainRequest, OnFile, OnPair, OnFiles, Fault, Round}
 use Rattle.command_line.specs.Requests.{request_of}
+use Rattle.command_line.specs.declared.request.Prices.{Prices}
+use Rattle.command_line.specs.declared.request.Prices.TheVariants.{AsWritten}
 use Rattle.cats_cmd.specs.declared.errors.RequestError.{RequestError}
 use Rattle.cats_cmd.specs.declared.errors.RequestError.TheVariants.{CannotOpen, NotOpened, Run}
 use Rattle.cats_cmd.specs.declared.source.Unopened.{Unopened}
@@ -15,8 +17,7 @@ use Rattle.cats_cmd.specs.declared.source.Unopened.TheVariants.{NoSuchFile, Perm
 
 -- whether each of a request's files may be refused, and the others go on
 abbrev pub is_for_many_files : PlainRequest → Bool
-is_for_many_files (Duplicates files) = true
-is_for_many_files (Sizes files) = true
+is_for_many_files (OnFiles files) = true
 is_for_many_files request = false
 
 -- whether a command line requests `duplicates` or `sizes`
@@ -32,14 +33,20 @@ has_found status request = false
 abbrev pub names_found : ℕ → List (List ℕ) → Bool
 names_found status words = option_map_or (has_found status) (request_of words) false
 
+-- whether prices are rounded
+abbrev pub is_rounding : Prices → Bool
+is_rounding AsWritten = false
+is_rounding prices = true
+
 -- whether a request may report something before it ends
 abbrev pub is_reporting : PlainRequest → Bool
+is_reporting (OnFile file prices command) = is_rounding prices
+is_reporting (OnPair first second prices command limits) = is_rounding prices
+is_reporting (OnFiles files) = true
+is_reporting (Fault file) = false
 is_reporting (Round file exact) = true
-is_reporting (Duplicates files) = true
-is_reporting (Sizes files) = true
-is_reporting request = false
 
--- whether a command line requests `round`, `duplicates` or `sizes`
+-- whether a command line requests `round`, `duplicates` or `sizes`, or that prices are rounded
 abbrev pub names_reporting : List (List ℕ) → Bool
 names_reporting words = option_map_or is_reporting (request_of words) false
 

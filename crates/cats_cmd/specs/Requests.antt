@@ -1,6 +1,6 @@
 -- The contract of the program. It is the run of the request, on the files at its paths, what is sent where, and
 -- with which status.
-use Rattle.std.specs.Prelude.{◌≡◌, ◌⊎◌, ℕ, Bool, true, false, List, [], ◌∷◌, Option, Some, Result, Ok, Err, codes}
+use Rattle.std.specs.Prelude.{◌≡◌, ◌⊎◌, ◌++◌, ℕ, Bool, true, false, List, [], ◌∷◌, Option, Some, Result, Ok, Err, codes}
 use Rattle.std.specs.Prelude.{if◌then◌else◌}
 use Rattle.std.specs.Prelude.{string_bytes}
 use Rattle.bid_file.specs.Files.{PlainFile}
@@ -11,9 +11,11 @@ use Rattle.canon.specs.declared.which.Which.{Which}
 use Rattle.canon.specs.declared.which.Which.TheVariants.{Only, First, Second}
 use Rattle.cats_cmd.specs.Duplicates.{MakesGroups}
 use Rattle.cats_cmd.specs.BidLists.{RunsOnBids}
-use Rattle.cats_cmd.specs.FileLists.{RunsOnFiles}
+use Rattle.cats_cmd.specs.FileLists.{RunsAtPaths, RunsOnFiles}
 use Rattle.cats_cmd.specs.FindingFaults.{FindsFault}
 use Rattle.cats_cmd.specs.Inputs.{IsOpened, MayRefuse}
+use Rattle.cats_cmd.specs.PricedInputs.{IsPriced, PricedGives, PricedRefuses, rounding_lines}
+use Rattle.cats_cmd.specs.declared.priced_input.PricedInput.{PricedInput}
 use Rattle.cats_cmd.specs.Paths.{Judgement, Reporting, RunsOnPaths, with_refusals, without_refusals}
 use Rattle.cats_cmd.specs.Rounding.{Rounds}
 use Rattle.cats_cmd.specs.Runs.{Compares, DiffsFiles, RunsOnFile}
@@ -22,9 +24,14 @@ use Rattle.commands.specs.Outcomes.{Outcome, check_outcome, explain_outcome, lp_
 use Rattle.commands.specs.Outcomes.{revenue_outcome, show_outcome, value_outcome_by}
 use Rattle.rounding.specs.declared.replacement.FinePrices.{FinePrices}
 use Rattle.rounding.specs.declared.replacement.FinePrices.TheVariants.{Round as RoundFine, Refuse}
-use Rattle.cats_cmd.specs.RequestErrors.{Reports, SendsText, line_of_request_error, status_of_request_error}
-use Rattle.command_line.specs.PlainRequests.{PlainFiles, PlainRequest, Check, Fault, Show, Value, Revenue, Normalise}
-use Rattle.command_line.specs.PlainRequests.{Explain, Round, Lp, Compare, Diff, Duplicates, Sizes}
+use Rattle.cats_cmd.specs.RequestErrors.{Reports, ReportsAll, SendsText, line_of_request_error, status_of_request_error}
+use Rattle.command_line.specs.PlainRequests.{PlainRequest, OnFile, OnPair, OnFiles, Fault, Round, PlainFiles}
+use Rattle.command_line.specs.PlainRequests.{PlainCommand, Check, Show, Value, Revenue, Normalise, Explain, Lp}
+use Rattle.command_line.specs.declared.request.FilesCommand.{FilesCommand}
+use Rattle.command_line.specs.declared.request.FilesCommand.TheVariants.{Duplicates, Sizes}
+use Rattle.command_line.specs.declared.request.PairCommand.{PairCommand}
+use Rattle.command_line.specs.declared.request.PairCommand.TheVariants.{Compare, Diff}
+use Rattle.command_line.specs.declared.request.Prices.{Prices}
 use Rattle.command_line.specs.Requests.{IsNoRequestOf, request_of}
 use Rattle.command_line.specs.declared.request.NoRequest.{NoRequest}
 use Rattle.command_line.specs.declared.request.NoRequest.TheVariants.{Help, WrongUsage, Misused, NoMemory}
@@ -99,15 +106,31 @@ abbrev pub fine_of : Bool → FinePrices
 fine_of true = Refuse
 fine_of false = RoundFine
 
-module _ {F W : Type 0} (may_open : List ℕ → F → Type 0) (remaining : F → Option (List ℕ))
-    (contents : W → Option (List ℕ)) where
-  -- a run on a stream that was opened at the path
-  pub record RunsAt (path : List ℕ) (outcome : PlainFile → Outcome) (out out_after : Watched W)
-      (answer : Result ℕ RunFault) : Type 0 where
-    pub before : Watched F
-    pub after : Watched F
-    pub opened : IsOpened may_open path before
-    pub runs : RunsOnFile remaining contents outcome before after out out_after answer
+module _ {F W E : Type 0} (may_open : List ℕ → F → Type 0) (remaining : F → Option (List ℕ))
+    (contents : W → Option (List ℕ)) (messages : E → Option (List ℕ)) where
+  -- a run on a stream that was opened at the path, with its prices read so; how many were rounded is reported
+  pub record RunsAt (path : List ℕ) (prices : Prices) (outcome : PlainFile → Outcome) (out out_after : Watched W)
+      (err err_after : Watched E) (answer : Result ℕ RunFault) : Type 0 where
+    pub before : PricedInput F
+    pub after : PricedInput F
+    pub opened : IsPriced may_open prices path before
+    pub runs : RunsOnFile (PricedGives remaining) (PricedRefuses remaining) contents outcome before after out out_after
+        answer
+    pub reports : ReportsAll messages (rounding_lines path after.rounded) err err_after
+
+  -- a run on the streams that were opened at the two paths, where `Runs` is its contract
+  pub record RunsAtBoth (first second : List ℕ) (prices : Prices)
+      (Runs : PricedInput F → PricedInput F → PricedInput F → PricedInput F → Type 0) (err err_after : Watched E)
+      : Type 0 where
+    pub left : PricedInput F
+    pub left_after : PricedInput F
+    pub right : PricedInput F
+    pub right_after : PricedInput F
+    pub left_opened : IsPriced may_open prices first left
+    pub right_opened : IsPriced may_open prices second right
+    pub runs : Runs left left_after right right_after
+    pub reports : ReportsAll messages
+        (rounding_lines first left_after.rounded ++ rounding_lines second right_after.rounded) err err_after
 
   -- the first fault of a stream that was opened at the path
   pub record FindsFaultAt (path : List ℕ) (out out_after : Watched W) (answer : Result ℕ RunFault) : Type 0 where
@@ -115,17 +138,6 @@ module _ {F W : Type 0} (may_open : List ℕ → F → Type 0) (remaining : F �
     pub after : Watched F
     pub opened : IsOpened may_open path before
     pub runs : FindsFault remaining contents path before after out out_after answer
-
--- a run on the streams that were opened at the two paths, where `Runs` is its contract
-pub record RunsAtBoth {F : Type 0} (may_open : List ℕ → F → Type 0) (first second : List ℕ)
-    (Runs : Watched F → Watched F → Watched F → Watched F → Type 0) : Type 0 where
-  pub left : Watched F
-  pub left_after : Watched F
-  pub right : Watched F
-  pub right_after : Watched F
-  pub left_opened : IsOpened may_open first left
-  pub right_opened : IsOpened may_open second right
-  pub runs : Runs left left_after right right_after
 
 module _ {F W E : Type 0} (may_open : List ℕ → F → Type 0) (may_refuse : List ℕ → Unopened → Type 0)
     (remaining : F → Option (List ℕ)) (contents : W → Option (List ℕ)) (messages : E → Option (List ℕ)) where
@@ -151,113 +163,127 @@ module _ (may_refuse : List ℕ → Unopened → Type 0) where
   CannotOpenPair first second which =
       ((which ≡ First) × MayRefuse may_refuse first) ⊎ ((which ≡ Second) × MayRefuse may_refuse second)
 
-  -- the file of a request that cannot be opened; of `duplicates` and `sizes` none, as they go on with the others
+  -- the file of a request that cannot be opened; of many files none, as the request goes on with the others
   abbrev pub CannotOpenOf : PlainRequest → Which → Type 0
-  CannotOpenOf (Check file) which = (which ≡ Only) × MayRefuse may_refuse file
+  CannotOpenOf (OnFile file prices command) which = (which ≡ Only) × MayRefuse may_refuse file
+  CannotOpenOf (OnPair first second prices command limits) which = CannotOpenPair first second which
+  CannotOpenOf (OnFiles files) which = ⊥
   CannotOpenOf (Fault file) which = (which ≡ Only) × MayRefuse may_refuse file
-  CannotOpenOf (Show file) which = (which ≡ Only) × MayRefuse may_refuse file
-  CannotOpenOf (Value file goods limits) which = (which ≡ Only) × MayRefuse may_refuse file
-  CannotOpenOf (Revenue file bids) which = (which ≡ Only) × MayRefuse may_refuse file
-  CannotOpenOf (Normalise file limits) which = (which ≡ Only) × MayRefuse may_refuse file
-  CannotOpenOf (Explain file limits) which = (which ≡ Only) × MayRefuse may_refuse file
   CannotOpenOf (Round file exact) which = (which ≡ Only) × MayRefuse may_refuse file
-  CannotOpenOf (Lp file) which = (which ≡ Only) × MayRefuse may_refuse file
-  CannotOpenOf (Compare first second limits) which = CannotOpenPair first second which
-  CannotOpenOf (Diff first second limits) which = CannotOpenPair first second which
-  CannotOpenOf (Duplicates files) which = ⊥
-  CannotOpenOf (Sizes files) which = ⊥
 
 -- `terminal` says whether standard error is a terminal.
 module _ {F W E : Type 0} (may_open : List ℕ → F → Type 0) (may_refuse : List ℕ → Unopened → Type 0)
     (remaining : F → Option (List ℕ)) (contents : W → Option (List ℕ)) (messages : E → Option (List ℕ))
     (terminal : Bool) where
-  -- the run on many files, where `Makes` says which text is made of what became of them
-  abbrev pub RunsOnMany : (Ending → Bool → List (List ℕ × Judgement) → List ℕ → Type 0) → (Progress → Reporting)
-      → PlainFiles → Watched W → Watched W → Watched E → Watched E → Result ℕ RunFault → Type 0
-  RunsOnMany Makes reporting files out out_after err err_after answer =
-      RunsOnFiles may_open may_refuse remaining messages
-      (λ paths. RunsOnPaths may_open may_refuse remaining contents messages (bounded_by files.limits)
-      (Makes (ending_of files.null) files.all) paths (reporting (progress_of terminal files.progress))) files.paths
-      out out_after err err_after answer
-
-  -- the run of each request, on its files and goods, by its searches and within its limits
-  abbrev pub RunsFor : PlainRequest → Watched W → Watched W → Watched E → Watched E → Result ℕ RunFault → Type 0
-  RunsFor (Check file) out out_after err err_after answer =
-      RunsAt may_open remaining contents file check_outcome out out_after answer × (err_after ≡ err)
-  RunsFor (Fault file) out out_after err err_after answer =
-      FindsFaultAt may_open remaining contents file out out_after answer × (err_after ≡ err)
-  RunsFor (Show file) out out_after err err_after answer =
-      RunsAt may_open remaining contents file show_outcome out out_after answer × (err_after ≡ err)
-  RunsFor (Value file goods limits) out out_after err err_after answer =
-      RunsAt may_open remaining contents file (value_outcome_by goods (options_of limits)) out out_after answer
-      × (err_after ≡ err)
-  RunsFor (Revenue file bids) out out_after err err_after answer =
-      RunsOnBids may_open may_refuse remaining messages (λ numbers out out_after err err_after answer.
-      RunsAt may_open remaining contents file (revenue_outcome numbers) out out_after answer × (err_after ≡ err))
+  -- the run of a command on one file
+  abbrev pub RunsOfCommand : List ℕ → Prices → PlainCommand → Watched W → Watched W → Watched E → Watched E
+      → Result ℕ RunFault → Type 0
+  RunsOfCommand path prices Check out out_after err err_after answer =
+      RunsAt may_open remaining contents messages path prices check_outcome out out_after err err_after answer
+  RunsOfCommand path prices Show out out_after err err_after answer =
+      RunsAt may_open remaining contents messages path prices show_outcome out out_after err err_after answer
+  RunsOfCommand path prices (Value goods limits) out out_after err err_after answer =
+      RunsAt may_open remaining contents messages path prices (value_outcome_by goods (options_of limits)) out out_after
+      err err_after answer
+  RunsOfCommand path prices (Revenue bids) out out_after err err_after answer =
+      RunsOnBids may_open may_refuse remaining messages (λ numbers.
+      RunsAt may_open remaining contents messages path prices (revenue_outcome numbers))
       bids out out_after err err_after answer
-  RunsFor (Normalise file limits) out out_after err err_after answer =
-      RunsAt may_open remaining contents file (normalise_outcome (options_of limits)) out out_after answer ×
-      (err_after ≡ err)
-  RunsFor (Explain file limits) out out_after err err_after answer =
-      RunsAt may_open remaining contents file (explain_outcome (bounded_by limits)) out out_after answer
-      × (err_after ≡ err)
-  RunsFor (Round file exact) out out_after err err_after answer =
-      RoundsAt may_open may_refuse remaining contents messages file (fine_of exact) out out_after err err_after answer
-  RunsFor (Lp file) out out_after err err_after answer =
-      RunsAt may_open remaining contents file lp_outcome out out_after answer × (err_after ≡ err)
-  RunsFor (Compare first second limits) out out_after err err_after answer =
-      RunsAtBoth may_open first second (λ left left_after right right_after.
-      Compares remaining remaining contents (options_of limits) left left_after right right_after out out_after answer)
-      × (err_after ≡ err)
-  RunsFor (Diff first second limits) out out_after err err_after answer =
-      RunsAtBoth may_open first second (λ left left_after right right_after.
-      DiffsFiles remaining remaining contents (bounded_by limits) left left_after right right_after out out_after
-      answer) × (err_after ≡ err)
-  RunsFor (Duplicates files) out out_after err err_after answer =
-      RunsOnMany MakesGroups with_refusals files out out_after err err_after answer
-  RunsFor (Sizes files) out out_after err err_after answer =
-      RunsOnMany (λ ending all. MakesTable ending) without_refusals files out out_after err err_after answer
+  RunsOfCommand path prices (Normalise limits) out out_after err err_after answer =
+      RunsAt may_open remaining contents messages path prices (normalise_outcome (options_of limits)) out out_after err
+      err_after answer
+  RunsOfCommand path prices (Explain limits) out out_after err err_after answer =
+      RunsAt may_open remaining contents messages path prices (explain_outcome (bounded_by limits)) out out_after err
+      err_after answer
+  RunsOfCommand path prices Lp out out_after err err_after answer =
+      RunsAt may_open remaining contents messages path prices lp_outcome out out_after err err_after answer
 
-  -- the request's run answers, or a file of it cannot be opened, and then nothing was read, written or reported
-  abbrev pub CarriesOut : PlainRequest → Watched W → Watched W → Watched E → Watched E → Result ℕ RequestError → Type 0
-  CarriesOut request out out_after err err_after (Ok status) = RunsFor request out out_after err err_after (Ok status)
-  CarriesOut request out out_after err err_after (Err (Run fault)) =
-      RunsFor request out out_after err err_after (Err fault)
-  CarriesOut request out out_after err err_after (Err (CannotOpen which)) =
-      CannotOpenOf may_refuse request which × (out_after ≡ out) × (err_after ≡ err)
-  CarriesOut request out out_after err err_after (Err (NotOpened why)) = ⊥
+  -- the run of a command on two files
+  abbrev pub RunsOfPair : PairCommand → Limits → Watched W → Watched W → Result ℕ RunFault → PricedInput F
+      → PricedInput F → PricedInput F → PricedInput F → Type 0
+  RunsOfPair Compare limits out out_after answer left left_after right right_after =
+      Compares (PricedGives remaining) (PricedRefuses remaining) (PricedGives remaining) (PricedRefuses remaining)
+      contents (options_of limits) left left_after right right_after out out_after answer
+  RunsOfPair Diff limits out out_after answer left left_after right right_after =
+      DiffsFiles (PricedGives remaining) (PricedRefuses remaining) (PricedGives remaining) (PricedRefuses remaining)
+      contents (bounded_by limits) left left_after right right_after out out_after answer
 
-  -- the request failed; its line was reported after what its run reported, and the status is its own
-  pub record FailsRequest (request : PlainRequest) (out out_after : Watched W) (err err_after : Watched E) (status : ℕ)
-      : Type 0 where
-    pub error : RequestError
-    pub between : Watched E
-    pub carries : CarriesOut request out out_after err between (Err error)
-    pub reports : Reports messages (line_of_request_error error) between err_after
-    pub is_status : status ≡ status_of_request_error error
+  module _ (may_find : List ℕ → Option (List (List ℕ)) → Type 0) where
+    -- the run on many files, where `Makes` says which text is made of what became of them
+    abbrev pub RunsOnMany : (Ending → List (List ℕ × Judgement) → List ℕ → Type 0) → (Progress → Reporting)
+        → PlainFiles → Watched W → Watched W → Watched E → Watched E → Result ℕ RunFault → Type 0
+    RunsOnMany Makes reporting files out out_after err err_after answer =
+        RunsOnFiles may_open may_refuse remaining messages
+        (RunsAtPaths may_find (λ paths. RunsOnPaths may_open may_refuse remaining contents messages
+        (bounded_by files.limits) files.prices (Makes (ending_of files.null)) paths
+        (reporting (progress_of terminal files.progress)))) files.paths
+        out out_after err err_after answer
 
-  abbrev pub AnswersRequest : PlainRequest → Watched W → Watched W → Watched E → Watched E → ℕ → Type 0
-  AnswersRequest request out out_after err err_after status =
-      CarriesOut request out out_after err err_after (Ok status)
-      ⊎ FailsRequest request out out_after err err_after status
+    -- the run of a command on many files
+    abbrev pub RunsOfFiles : FilesCommand → PlainFiles → Watched W → Watched W → Watched E → Watched E
+        → Result ℕ RunFault → Type 0
+    RunsOfFiles (Duplicates all) files out out_after err err_after answer =
+        RunsOnMany (λ ending. MakesGroups ending all) with_refusals files out out_after err err_after answer
+    RunsOfFiles Sizes files out out_after err err_after answer =
+        RunsOnMany MakesTable without_refusals files out out_after err err_after answer
 
-  -- ---- any command line
+    -- the run of each request
+    abbrev pub RunsFor : PlainRequest → Watched W → Watched W → Watched E → Watched E → Result ℕ RunFault → Type 0
+    RunsFor (OnFile file prices command) out out_after err err_after answer =
+        RunsOfCommand file prices command out out_after err err_after answer
+    RunsFor (OnPair first second prices command limits) out out_after err err_after answer =
+        RunsAtBoth may_open remaining contents messages first second prices
+        (RunsOfPair command limits out out_after answer) err err_after
+    RunsFor (OnFiles files) out out_after err err_after answer =
+        RunsOfFiles files.command files out out_after err err_after answer
+    RunsFor (Fault file) out out_after err err_after answer =
+        FindsFaultAt may_open remaining contents messages file out out_after answer × (err_after ≡ err)
+    RunsFor (Round file exact) out out_after err err_after answer =
+        RoundsAt may_open may_refuse remaining contents messages file (fine_of exact) out out_after err err_after answer
 
-  -- the line has this request, which is answered
-  pub record AnswersAsked (words : List (List ℕ)) (out out_after : Watched W) (err err_after : Watched E) (status : ℕ)
-      : Type 0 where
-    pub request : PlainRequest
-    pub asked : request_of words ≡ Some request
-    pub answers : AnswersRequest request out out_after err err_after status
+    -- the request's run answers, or a file of it cannot be opened, and then nothing was read, written or reported
+    abbrev pub CarriesOut : PlainRequest → Watched W → Watched W → Watched E → Watched E → Result ℕ RequestError → Type
+        0
+    CarriesOut request out out_after err err_after (Ok status) = RunsFor request out out_after err err_after (Ok status)
+    CarriesOut request out out_after err err_after (Err (Run fault)) =
+        RunsFor request out out_after err err_after (Err fault)
+    CarriesOut request out out_after err err_after (Err (CannotOpen which)) =
+        CannotOpenOf may_refuse request which × (out_after ≡ out) × (err_after ≡ err)
+    CarriesOut request out out_after err err_after (Err (NotOpened why)) = ⊥
 
-  -- the line is no request, or memory was refused, which is answered
-  pub record AnswersUnasked (words : List (List ℕ)) (out out_after : Watched W) (err err_after : Watched E) (status : ℕ)
-      : Type 0 where
-    pub no_request : NoRequest
-    pub unasked : IsNoRequestOf words no_request
-    pub answers : AnswersNoRequest contents messages no_request out out_after err err_after status
+    -- the request failed; its line was reported after what its run reported, and the status is its own
+    pub record FailsRequest (request : PlainRequest) (out out_after : Watched W) (err err_after : Watched E) (status :
+        ℕ)
+        : Type 0 where
+      pub error : RequestError
+      pub between : Watched E
+      pub carries : CarriesOut request out out_after err between (Err error)
+      pub reports : Reports messages (line_of_request_error error) between err_after
+      pub is_status : status ≡ status_of_request_error error
 
-  -- the contract of the program
-  abbrev pub AnswersLine : List (List ℕ) → Watched W → Watched W → Watched E → Watched E → ℕ → Type 0
-  AnswersLine words out out_after err err_after status =
-      AnswersAsked words out out_after err err_after status ⊎ AnswersUnasked words out out_after err err_after status
+    abbrev pub AnswersRequest : PlainRequest → Watched W → Watched W → Watched E → Watched E → ℕ → Type 0
+    AnswersRequest request out out_after err err_after status =
+        CarriesOut request out out_after err err_after (Ok status)
+        ⊎ FailsRequest request out out_after err err_after status
+
+    -- ---- any command line
+
+    -- the line has this request, which is answered
+    pub record AnswersAsked (words : List (List ℕ)) (out out_after : Watched W) (err err_after : Watched E) (status : ℕ)
+        : Type 0 where
+      pub request : PlainRequest
+      pub asked : request_of words ≡ Some request
+      pub answers : AnswersRequest request out out_after err err_after status
+
+    -- the line is no request, or memory was refused, which is answered
+    pub record AnswersUnasked (words : List (List ℕ)) (out out_after : Watched W) (err err_after : Watched E) (status :
+        ℕ)
+        : Type 0 where
+      pub no_request : NoRequest
+      pub unasked : IsNoRequestOf words no_request
+      pub answers : AnswersNoRequest contents messages no_request out out_after err err_after status
+
+    -- the contract of the program
+    abbrev pub AnswersLine : List (List ℕ) → Watched W → Watched W → Watched E → Watched E → ℕ → Type 0
+    AnswersLine words out out_after err err_after status =
+        AnswersAsked words out out_after err err_after status ⊎ AnswersUnasked words out out_after err err_after status

@@ -1,9 +1,7 @@
 -- What `cats round` does. It reads bytes, sends the text with their prices rounded, and reports.
-use Rattle.std.specs.Prelude.{◌≡◌, ◌⊎◌, ℕ, List, map, Some, Option, Result, Ok, Err}
+use Rattle.std.specs.Prelude.{◌≡◌, ◌⊎◌, ℕ, List, map, Option, Result, Ok, Err}
 use Rattle.bid_file.specs.Files.{PlainFile}
-use Rattle.cats_text.specs.Faults.{first_fault}
 use Rattle.cats_text.specs.Grammar.{Spells}
-use Rattle.cats_text.specs.declared.read_fault.ReadFault.{ReadFault}
 use Rattle.cats_text.specs.declared.stream.Watched.{Watched}
 use Rattle.canon.specs.declared.canon_fault.CanonFault.{CanonFault}
 use Rattle.canon.specs.declared.canon_fault.CanonFault.TheVariants.{Read, StepLimit, Memory}
@@ -14,11 +12,12 @@ use Rattle.rounding.specs.Texts.{rounded_prices, rounded_text}
 use Rattle.rounding.specs.declared.replacement.FinePrices.{FinePrices}
 use Rattle.answers.specs.RoundedLines.{rounded_line}
 use Rattle.cats_cmd.specs.Inputs.{ReadsAll, StopsReading, WantsMemoryForBytes}
+use Rattle.cats_cmd.specs.PricedInputs.{HasRoundedFault}
 use Rattle.commands.specs.Outcomes.{Outcome, Prints}
 use Rattle.cats_cmd.specs.Runs.{FailsInText, WritesText}
 use Rattle.cats_cmd.specs.RequestErrors.{ReportsAll}
 use Rattle.answers.specs.declared.report.RunFault.{RunFault}
-use Rattle.answers.specs.declared.report.RunFault.TheVariants.{Refused, GoodRange, BidRange, Sent}
+use Rattle.answers.specs.declared.report.RunFault.TheVariants.{Refused, TooHeavy, GoodRange, BidRange, Sent}
 
 -- the text with its prices rounded, with status 0
 abbrev pub round_outcome : FinePrices → List ℕ → Outcome
@@ -39,12 +38,6 @@ module _ {R W E : Type 0} (remaining : R → Option (List ℕ)) (contents : W �
     pub reads : ReadsRoundable old new bytes
     pub reports : ReportsAll messages (map rounded_line (rounded_prices fine bytes)) err err_after
 
-  -- the bytes that were read, with their prices rounded, have this first fault
-  pub record HasFault (old new : Watched R) (fault : ReadFault) : Type 0 where
-    pub bytes : List ℕ
-    pub all : ReadsAll remaining old new bytes
-    pub first : first_fault (rounded_text fine bytes) ≡ Some fault
-
   -- memory is refused to round the bytes that were read: a bid line has begun, or the rounded text spells a file
   pub record WantsMemoryForRounding (old new : Watched R) : Type 0 where
     pub bytes : List ℕ
@@ -54,7 +47,8 @@ module _ {R W E : Type 0} (remaining : R → Option (List ℕ)) (contents : W �
   -- Why the file was refused: the stream failed or was too long, or the rounded text has a fault, or memory was
   -- refused, to the bytes as they came or to their rounding.
   abbrev pub IsUnrounded : Watched R → Watched R → CanonFault → Type 0
-  IsUnrounded old new (Read fault) = StopsReading remaining old new fault.line fault.kind ⊎ HasFault old new fault
+  IsUnrounded old new (Read fault) =
+      StopsReading remaining old new fault.line fault.kind ⊎ HasRoundedFault remaining fine old new fault
   IsUnrounded old new (StepLimit goods) = ⊥
   IsUnrounded old new Memory = WantsMemoryForBytes remaining old new ⊎ WantsMemoryForRounding old new
 
@@ -79,6 +73,7 @@ module _ {R W E : Type 0} (remaining : R → Option (List ℕ)) (contents : W �
       WritesText contents (ReadsAndReports old new err err_after) (round_outcome fine) out out_after status
   Rounds old new out out_after err err_after (Err (Refused which fault)) =
       RefusesRounding old new out out_after err err_after which fault
+  Rounds old new out out_after err err_after (Err (TooHeavy which heavy)) = ⊥
   Rounds old new out out_after err err_after (Err (GoodRange good)) = ⊥
   Rounds old new out out_after err err_after (Err (BidRange bid)) = ⊥
   Rounds old new out out_after err err_after (Err (Sent fault)) =

@@ -7,12 +7,12 @@ use Rattle.cats_text.specs.declared.stream.Watched.{Watched}
 use Rattle.canon.specs.declared.canon_fault.CanonFault.TheVariants.{Memory}
 use Rattle.canon.specs.declared.which.Which.{Which}
 use Rattle.commands.specs.Commands.{Commands, text_of}
-use Rattle.commands.specs.Inputs.{StreamGives, StreamRefuses}
+use Rattle.cats_text.specs.declared.read_fault.ReadFault.{ReadFault}
 use Rattle.commands.specs.Outcomes.{Outcome, Prints}
 use Rattle.commands.specs.Pairs.{Compares as ComparesFiles, Diffs}
 use Rattle.commands.specs.declared.answer.Answer.{Answer}
 use Rattle.answers.specs.declared.report.RunFault.{RunFault}
-use Rattle.answers.specs.declared.report.RunFault.TheVariants.{Refused, GoodRange, BidRange, Sent}
+use Rattle.answers.specs.declared.report.RunFault.TheVariants.{Refused, TooHeavy, GoodRange, BidRange, Sent}
 
 -- ---- sending a text
 
@@ -21,6 +21,7 @@ module _ {W : Type 0} (contents : W → Option (List ℕ)) where
   abbrev pub SendsAs : ℕ → List ℕ → Watched W → Watched W → Result ℕ RunFault → Type 0
   SendsAs status text old new (Ok answer) = (answer ≡ status) × SendsWhole contents old new text
   SendsAs status text old new (Err (Refused which fault)) = ⊥
+  SendsAs status text old new (Err (TooHeavy which heavy)) = ⊥
   SendsAs status text old new (Err (GoodRange good)) = ⊥
   SendsAs status text old new (Err (BidRange bid)) = ⊥
   SendsAs status text old new (Err (Sent fault)) = SendsPart contents old new text fault.written
@@ -77,34 +78,32 @@ module _ {W : Type 0} (contents : W → Option (List ℕ)) (Answers : Result Ans
   abbrev pub RunsCommand : Watched W → Watched W → Result ℕ RunFault → Type 0
   RunsCommand old new (Ok status) = WritesAnswer old new status
   RunsCommand old new (Err (Refused which fault)) = Answers (Err (Refused which fault)) × (new ≡ old)
+  RunsCommand old new (Err (TooHeavy which heavy)) = Answers (Err (TooHeavy which heavy)) × (new ≡ old)
   RunsCommand old new (Err (GoodRange good)) = Answers (Err (GoodRange good)) × (new ≡ old)
   RunsCommand old new (Err (BidRange bid)) = Answers (Err (BidRange bid)) × (new ≡ old)
   RunsCommand old new (Err (Sent fault)) = FailsInAnswer old new fault.written
 
 -- ---- a run of one file, of which `outcome` says what it makes
 
-module _ {R W : Type 0} (remaining : R → Option (List ℕ)) (contents : W → Option (List ℕ))
-    (outcome : PlainFile → Outcome) where
-  abbrev pub RunsOnFile : Watched R → Watched R → Watched W → Watched W → Result ℕ RunFault → Type 0
+module _ {I W : Type 0} (gives : I → I → PlainFile → Type 0) (refuses : I → I → ReadFault → Type 0)
+    (contents : W → Option (List ℕ)) (outcome : PlainFile → Outcome) where
+  abbrev pub RunsOnFile : I → I → Watched W → Watched W → Result ℕ RunFault → Type 0
   RunsOnFile before after old new answer =
-      RunsCommand contents (Commands (StreamGives remaining) (StreamRefuses remaining) outcome before after) old new
-      answer
+      RunsCommand contents (Commands gives refuses outcome before after) old new answer
 
 -- ---- a run of two files
 
-module _ {R S W : Type 0} (remaining_first : R → Option (List ℕ)) (remaining_second : S → Option (List ℕ))
-    (contents : W → Option (List ℕ)) (options : SearchOptions) (first first_after : Watched R)
-    (second second_after : Watched S) where
+module _ {I J W : Type 0} (gives_first : I → I → PlainFile → Type 0) (refuses_first : I → I → ReadFault → Type 0)
+    (gives_second : J → J → PlainFile → Type 0) (refuses_second : J → J → ReadFault → Type 0)
+    (contents : W → Option (List ℕ)) (options : SearchOptions) (first first_after : I) (second second_after : J) where
   -- a comparison
   abbrev pub Compares : Watched W → Watched W → Result ℕ RunFault → Type 0
   Compares old new answer =
-      RunsCommand contents (ComparesFiles (StreamGives remaining_first) (StreamRefuses remaining_first)
-      (StreamGives remaining_second) (StreamRefuses remaining_second) options first first_after second second_after)
-      old new answer
+      RunsCommand contents (ComparesFiles gives_first refuses_first gives_second refuses_second options first
+      first_after second second_after) old new answer
 
   -- all differences
   abbrev pub DiffsFiles : Watched W → Watched W → Result ℕ RunFault → Type 0
   DiffsFiles old new answer =
-      RunsCommand contents (Diffs (StreamGives remaining_first) (StreamRefuses remaining_first)
-      (StreamGives remaining_second) (StreamRefuses remaining_second) options first first_after second second_after)
-      old new answer
+      RunsCommand contents (Diffs gives_first refuses_first gives_second refuses_second options first first_after second
+      second_after) old new answer

@@ -53,13 +53,13 @@ counts_of f = map (λ n. n.1 f) canonical_numbers
 -- the file at the path, if it was read
 abbrev pub file_read : Judgement → Option PlainFile
 file_read (IsJudged file) = Some file
-file_read (IsHeavy file goods) = Some file
+file_read (IsHeavy file heavy) = Some file
 file_read (IsUnjudged error) = None
 
 -- its canonical file, if the step limit did not stop it
 abbrev pub canonical_known : Judgement → Option PlainFile
 canonical_known (IsJudged file) = Some (canonical_file file)
-canonical_known (IsHeavy file goods) = None
+canonical_known (IsHeavy file heavy) = None
 canonical_known (IsUnjudged error) = None
 
 -- a line without its end

@@ -3,10 +3,8 @@
 ghost use Rattle.std.specs.Prelude.{◌≡◌, false};
 ghost use Rattle.cats_text.specs.Faults.{fault_at};
 ghost use Rattle.cats_text.specs.Streams.{has_ended, has_failed};
-ghost use Rattle.canon.specs.declared.canon_fault.CanonFault.TheVariants.{Read as IsRead};
 ghost use Rattle.cats_cmd.specs.Inputs.{ReadsBytes};
 
-use canon::CanonFault;
 use cats_text::{Kind, MAX_STREAM, ReadFault, Watched};
 use std::alloc::Global;
 use std::io::Read;
@@ -18,7 +16,7 @@ const PIECE: usize = 65_536;
 pub(crate) fn read_bytes<R: Read>(
     alloc: Global,
     input: &mut Watched<R>,
-) -> Result<Vec<u8>, CanonFault>
+) -> Result<Vec<u8>, ReadFault>
     requires works { has_failed input.old ≡ false }
     requires fresh { has_ended input.old ≡ false }
     ensures { ReadsBytes R.remaining input.old input.new result }
@@ -32,7 +30,9 @@ pub(crate) fn read_bytes<R: Read>(
                 if count as u64 > MAX_STREAM - text.len() as u64 {
                     return Err(whole_fault(Kind::TooLong));
                 }
-                text.extend_from_slice(&piece[..count])?;
+                if text.extend_from_slice(&piece[..count]).is_err() {
+                    return Err(whole_fault(Kind::Memory));
+                }
             }
             Err(_) => return Err(whole_fault(Kind::Device)),
         }
@@ -40,8 +40,8 @@ pub(crate) fn read_bytes<R: Read>(
 }
 
 /// A fault of the whole stream.
-fn whole_fault(kind: Kind) -> CanonFault
-    ensures { result ≡ IsRead (fault_at 0 kind) }
+pub(crate) fn whole_fault(kind: Kind) -> ReadFault
+    ensures { result ≡ fault_at 0 kind }
 {
-    CanonFault::Read(ReadFault { line: 0, kind })
+    ReadFault { line: 0, kind }
 }

@@ -2,7 +2,7 @@
 
 mod lines;
 
-ghost use Rattle.std.specs.Prelude.{◌≡◌, map, false};
+ghost use Rattle.std.specs.Prelude.{◌≡◌, map, false, OnOk};
 ghost use Rattle.cats_text.specs.Streams.{has_failed};
 ghost use Rattle.cats_cmd.specs.Duplicates.{MakesGroups};
 ghost use Rattle.cats_cmd.specs.Opening.{OpensEach};
@@ -14,27 +14,64 @@ use crate::errors::RequestError;
 use crate::paths::{Collection, Ending, ManyFiles, report_if_refused, run_on_paths};
 use crate::source::{Source, Unopened};
 use answers::RunFault;
-use canon::AuctionIndex;
+use bid_file::PackedFile;
+use canon::{AuctionIndex, CanonFault, Which};
 use cats_text::Watched;
+use commands::{Input, name_bid};
 use lines::duplicates_text;
 use std::alloc::{AllocError, AllocGlobal, Global};
-use std::io::{Read, Write};
+use std::io::Write;
 
-/// The files that were judged, by their auctions.
+/// Files in groups.
 #[derive(Drop)]
-pub(crate) struct Groups {
+pub(crate) struct PlacedFiles {
     index: AuctionIndex,
-    /// The path of each file, with the place of the first file of its auction.
+    /// The path of each file, with the place of the first file of its group.
     found: Vec<(Vec<u8>, usize)>,
 }
 
+/// The files that were judged, by their auctions, and those that a step limit refused, which are together where they are
+/// alike.
+#[derive(Drop)]
+pub(crate) struct Groups {
+    judged: PlacedFiles,
+    heavy: PlacedFiles,
+}
+
+impl Groups {
+    ghost use Rattle.bid_file.specs.Files.{IsPlainFile};
+    ghost use Rattle.cats_cmd.specs.Internal.Judging.{AddsRefused};
+
+    /// Adds a file for this fault, which it was refused for, if a step limit refused it.
+    fn add_refused(
+        &mut self,
+        alloc: Global,
+        path: &[u8],
+        file: &PackedFile,
+        fault: &CanonFault,
+    ) -> Result<(), AllocError>
+        requires { IsPlainFile file.now }
+        ensures { OnOk result (AddsRefused path.now file.now fault.now self.old self.new) }
+    {
+        match fault {
+            CanonFault::StepLimit { goods: _ } => {
+                let place = self.heavy.index.add_unsearched(alloc, file)?;
+                let path = Vec::from_slice(alloc, path)?;
+                self.heavy.found.push((path, place))?;
+                Ok(())
+            }
+            CanonFault::Read(_) => Ok(()),
+            CanonFault::Memory => Ok(()),
+        }
+    }
+}
+
 impl Collection for Groups {
-    ghost use Rattle.cats_cmd.specs.DuplicateTexts.{found_paths};
     ghost use Rattle.cats_cmd.specs.Duplicates.{MakesGroups};
     ghost use Rattle.cats_cmd.specs.Internal.Judging.{KeepsGroups};
     ghost use Rattle.cats_cmd.specs.Paths.{refusal_lines};
 
-    ghost has = { λ ending groups judgements. KeepsGroups groups.index (found_paths groups.found.items) judgements };
+    ghost has = { λ ending groups judgements. KeepsGroups groups judgements };
 
     ghost Makes = { MakesGroups };
 
@@ -42,24 +79,41 @@ impl Collection for Groups {
 
     fn none(alloc: Global) -> Groups {
         Groups {
-            index: AuctionIndex::new(alloc),
-            found: Vec::new(alloc),
+            judged: PlacedFiles {
+                index: AuctionIndex::new(alloc),
+                found: Vec::new(alloc),
+            },
+            heavy: PlacedFiles {
+                index: AuctionIndex::new(alloc),
+                found: Vec::new(alloc),
+            },
         }
     }
 
-    fn add<R: Read>(
+    fn add<I: Input>(
         &mut self,
         alloc: Global,
         path: &[u8],
-        input: &mut Watched<R>,
+        input: &mut I,
         many: ManyFiles,
     ) -> Result<Option<RequestError>, AllocError> {
-        match self.index.add_from(alloc, input, many.options) {
+        let file = match input.read_file(alloc) {
+            Ok(file) => file,
+            Err(fault) => {
+                return Ok(Some(RequestError::Run(RunFault::from(CanonFault::from(fault)))));
+            }
+        };
+        match self.judged.index.add(alloc, &file, many.options) {
             Ok(place) => {
-                self.found.push((Vec::from_slice(alloc, path)?, place))?;
+                let path = Vec::from_slice(alloc, path)?;
+                self.judged.found.push((path, place))?;
                 Ok(None)
             }
-            Err(fault) => Ok(Some(RequestError::Run(RunFault::from(fault)))),
+            Err(fault) => {
+                self.add_refused(alloc, path, &file, &fault)?;
+                let fault = name_bid(Which::Only, &file, many.options, fault);
+                Ok(Some(RequestError::Run(fault)))
+            }
         }
     }
 
@@ -81,16 +135,19 @@ impl Collection for Groups {
     }
 
     fn text(&self, alloc: Global, many: ManyFiles) -> Result<Vec<u8>, AllocError> {
-        duplicates_text(alloc, self.found.as_slice(), many.ending, many.all)
+        let judged = self.judged.found.as_slice();
+        let heavy = self.heavy.found.as_slice();
+        duplicates_text(alloc, judged, heavy, many.ending, many.all)
     }
 }
 
 /// Reads the files at these paths, one after the other, and sends the paths of those that are the same auction; with `all`,
-/// those too that are the only ones of theirs.
+/// those too that are the only ones of theirs. Behind them come the paths of the files that a step limit refused and that
+/// are the same auction as another one of these without any search.
 ///
-/// A file that cannot be judged is reported on `err` at once, and the others go on; with `progress`, it is
-/// reported there after each hundredth file, and after the last, how many were read. The status is 0 if every file was
-/// judged, and else the greatest of the statuses of those that were not.
+/// A file that cannot be judged is reported on `err` at once, and the others go on; so is, where prices are rounded, how
+/// many of a file's were. With `progress`, it is reported there after each hundredth file, and after the last, how many
+/// were read. The status is 0 if every file was judged, and else the greatest of the statuses of those that were not.
 pub fn run_duplicates<S: Source + AllocGlobal, W: Write, E: Write>(
     source: &mut S,
     paths: &[&[u8]],
@@ -100,7 +157,7 @@ pub fn run_duplicates<S: Source + AllocGlobal, W: Write, E: Write>(
 ) -> Result<u8, RunFault>
     requires { has_failed out.old ≡ false }
     ensures runs { RunsOnPaths (S.may_open (S.content_of source.old))
-        (S.may_refuse (S.content_of source.old)) S.Stream.remaining W.contents E.contents many.options
+        (S.may_refuse (S.content_of source.old)) S.Stream.remaining W.contents E.contents many.options many.prices
         (MakesGroups many.ending many.all) (map (λ path. path.now) paths.now) (with_refusals many.progress) out.old out.new
         err.old err.new result }
     ensures opens { OpensEach S.content_of S.opened (map (λ path. path.now) paths.now) source.old source.new

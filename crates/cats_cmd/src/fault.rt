@@ -10,6 +10,7 @@ use crate::bytes::read_bytes;
 use crate::escaping::escaped;
 use crate::run::send_text;
 use answers::{DONE, FILE_REFUSED, RunFault, fault_place_text, shown_word};
+use canon::CanonFault;
 use cats_text::{FaultPlace, Watched, place_of_fault};
 use std::alloc::{AllocError, Global};
 use std::io::{Read, Write};
@@ -27,7 +28,7 @@ pub fn run_fault<R: Read, W: Write>(
     requires out_works { has_failed out.old ≡ false }
     ensures { FindsFault R.remaining W.contents path.now input.old input.new out.old out.new result }
 {
-    let bytes = read_bytes(alloc, input)?;
+    let bytes = read_bytes(alloc, input).map_err(CanonFault::from)?;
     let (status, text) = judge(alloc, path, bytes.as_slice())?;
     send_text(out, status, text.as_slice())
 }

@@ -1,7 +1,7 @@
 //! Laws of what the runs read and print.
 
-ghost use Rattle.std.specs.List.{All};
-ghost use Rattle.std.specs.Prelude.{◌≡◌, ◌==◌, ℕ, Bool, List, [], filter, map, false};
+ghost use Rattle.std.specs.List.{All, flat_map};
+ghost use Rattle.std.specs.Prelude.{◌≡◌, ◌==◌, ℕ, Bool, List, filter, map, false};
 ghost use Rattle.answers.specs.DiffTexts.{diff_text};
 ghost use Rattle.answers.specs.DifferenceTexts.{difference_text};
 ghost use Rattle.answers.specs.ExplanationTexts.{explanation_text};
@@ -16,17 +16,24 @@ ghost use Rattle.winners.specs.LpTexts.{lp_text};
 ghost use Rattle.winners.specs.declared.allocation_verdict.AllocationVerdict.{AllocationVerdict};
 ghost use Rattle.commands.specs.ValueTexts.{value_text};
 ghost use Rattle.cats_cmd.specs.Escaping.{AreBytes, IsTextOf, escaped, is_control_byte, is_printable, is_shown, unescaped};
-ghost use Rattle.cats_cmd.specs.DuplicateTexts.{duplicates_text, groups_of, is_printed};
+ghost use Rattle.cats_cmd.specs.DuplicateTexts.{duplicates_text, printed_groups};
 ghost use Rattle.cats_cmd.specs.FindingFaults.{text_of_place};
 ghost use Rattle.cats_cmd.specs.OutputPaths.{IsPath, groups_in, paths_in_table};
 ghost use Rattle.cats_cmd.specs.PathLists.{listed, paths_in};
-ghost use Rattle.cats_cmd.specs.Paths.{Judgement, progress_line, refusal_line, report_lines, without_refusals};
+ghost use Rattle.cats_cmd.specs.Paths.{JudgedPath, Judgement, JudgesInput, progress_line, refusal_line, report_lines};
+ghost use Rattle.cats_cmd.specs.Paths.{without_refusals};
+ghost use Rattle.cats_cmd.specs.PricedInputs.{PricedGives, PricedRefuses, fine_prices, rounding_lines};
+ghost use Rattle.cats_cmd.specs.declared.priced_input.PricedInput.{PricedInput};
 ghost use Rattle.cats_cmd.specs.RequestErrors.{line_of_request_error};
 ghost use Rattle.cats_cmd.specs.SizesTables.{MakesTable};
 ghost use Rattle.cats_cmd.specs.declared.paths.Ending.{Ending};
 ghost use Rattle.cats_cmd.specs.declared.paths.Ending.TheVariants.{Line};
 ghost use Rattle.cats_cmd.specs.declared.paths.Progress.TheVariants.{Silent};
 ghost use Rattle.cats_cmd.specs.declared.errors.RequestError.{RequestError};
+ghost use Rattle.command_line.specs.declared.request.Prices.TheVariants.{AsWritten};
+ghost use Rattle.valuation.specs.declared.search_options.SearchOptions.{SearchOptions};
+
+use std::io::Read;
 
 /// The paths in a text that lists some paths are these: any paths without NUL can be listed.
 pub fn listed_paths_are_read_back()
@@ -49,8 +56,8 @@ pub fn printed_lines_are_shown()
     ensures refusals { (path : List ℕ) (error : RequestError) → AreBytes path → IsTextOf is_shown (refusal_line path error) }
     ensures progress { (number count : ℕ) (path : List ℕ) → AreBytes path
         → IsTextOf is_shown (progress_line number count path) }
-    ensures groups { (all : Bool) (found : List (List ℕ × ℕ)) → All (λ f. AreBytes f.0) found
-        → IsTextOf is_shown (duplicates_text Line all found) }
+    ensures groups { (all : Bool) (judged heavy : List (List ℕ × ℕ)) → All (λ f. AreBytes f.0) judged
+        → All (λ f. AreBytes f.0) heavy → IsTextOf is_shown (duplicates_text Line all judged heavy) }
     ensures tables { (judgements : List (List ℕ × Judgement)) (text : List ℕ) → All (λ j. AreBytes j.0) judgements
         → MakesTable Line judgements text → IsTextOf is_shown text }
 {}
@@ -73,8 +80,9 @@ pub fn printed_answers_are_shown()
 /// The text of `cats duplicates` has the paths of each group: its lines between each two that are empty, with NUL at the
 /// end of each or unescaped, are the paths of an auction that two or more files are, or with `all` of any.
 pub fn groups_are_read_back()
-    ensures { (ending : Ending) (all : Bool) (found : List (List ℕ × ℕ)) → All (λ f. IsPath f.0) found
-        → groups_in ending (duplicates_text ending all found) ≡ filter (is_printed all) (groups_of found) }
+    ensures { (ending : Ending) (all : Bool) (judged heavy : List (List ℕ × ℕ)) → All (λ f. IsPath f.0) judged
+        → All (λ f. IsPath f.0) heavy
+        → groups_in ending (duplicates_text ending all judged heavy) ≡ printed_groups all judged heavy }
 {}
 
 /// The table of `cats sizes` has all paths, also of the files that were refused: what is behind the cells of each row below
@@ -85,8 +93,17 @@ pub fn table_paths_are_read_back()
         → paths_in_table ending text ≡ map (λ j. j.0) judgements }
 {}
 
-/// `cats sizes` reports nothing of files without `--progress`: its table says why a file was not judged.
-pub fn tables_report_nothing()
-    ensures { (count : ℕ) (judgements : List (List ℕ × Judgement)) → report_lines (without_refusals Silent) count judgements
-        ≡ [] }
+/// Of files, `cats sizes` reports without `--progress` only how many of their prices were rounded: its table says why a
+/// file was not judged.
+pub fn tables_report_roundings()
+    ensures { (count : ℕ) (judged : List JudgedPath) → report_lines (without_refusals Silent) count judged
+        ≡ flat_map (λ j. rounding_lines j.path j.rounded) judged }
+{}
+
+/// No price of a file is rounded whose prices are read as they are written.
+pub fn written_prices_are_not_rounded<R: Read>()
+    ensures { (options : SearchOptions) (before after : PricedInput R) (judgement : Judgement)
+        → before.fine ≡ fine_prices AsWritten
+        → JudgesInput (PricedGives R.remaining) (PricedRefuses R.remaining) options before after judgement
+        → after.rounded ≡ 0 }
 {}

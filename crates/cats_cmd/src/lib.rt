@@ -7,13 +7,17 @@ mod duplicates;
 mod errors;
 mod escaping;
 mod fault;
+mod folder;
+mod folders;
 pub mod laws;
 mod lines;
 mod many_files;
 mod one_file;
 mod path_list;
 mod paths;
+mod priced_input;
 mod program;
+mod requests;
 mod round;
 mod run;
 mod searches;
@@ -32,6 +36,7 @@ pub use one_file::{
     run_value, run_value_by,
 };
 pub use paths::{Ending, ManyFiles, Progress};
+pub use priced_input::PricedInput;
 pub use program::{Process, run_cats, run_program};
 pub use round::run_round;
 pub use rounding::FinePrices;

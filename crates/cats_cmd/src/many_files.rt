@@ -1,18 +1,19 @@
 //! Runs on many files. Their paths are words of the command line, or are in a list of paths.
 
-ghost use Rattle.std.specs.Prelude.{◌≡◌, ◌∷◌, [], IfErr, IfOk, false};
+ghost use Rattle.std.specs.Prelude.{◌≡◌, ◌∷◌, [], map, IfErr, IfOk, false};
 ghost use Rattle.cats_text.specs.Streams.{has_failed};
 ghost use Rattle.command_line.specs.PlainRequests.{plain_files};
-ghost use Rattle.cats_cmd.specs.FileLists.{IsUnread, ReadsList};
-ghost use Rattle.cats_cmd.specs.Internal.Carrying.{many_files};
-ghost use Rattle.cats_cmd.specs.Opening.{Opens};
+ghost use Rattle.cats_cmd.specs.FileLists.{IsUnread, ReadsList, RunsAtPaths};
+ghost use Rattle.cats_cmd.specs.Internal.Carrying.{is_all, many_files};
+ghost use Rattle.cats_cmd.specs.Opening.{Opens, OpensAtPaths};
 ghost use Rattle.cats_cmd.specs.Openings.{OpensFiles, status_of_run};
-ghost use Rattle.cats_cmd.specs.Paths.{refusal_line};
+ghost use Rattle.cats_cmd.specs.Paths.{RunsOnPaths, refusal_line};
 ghost use Rattle.cats_cmd.specs.Requests.{RunsOnMany};
 ghost use Rattle.cats_cmd.specs.RequestErrors.{Reports, status_of_request_error};
 
 use crate::bytes::read_bytes;
 use crate::errors::{RequestError, status_of};
+use crate::folders::{files_at, slices};
 use crate::path_list::split_paths;
 use crate::paths::{
     Collection, Ending, ManyFiles, Progress, open_file, report_refusal, run_on_paths,
@@ -20,8 +21,9 @@ use crate::paths::{
 use crate::searches::bounded_search;
 use crate::source::Source;
 use answers::RunFault;
+use canon::CanonFault;
 use cats_text::Watched;
-use command_line::{FilePaths, FilesRequest};
+use command_line::{FilePaths, FilesCommand, FilesRequest};
 use std::alloc::AllocGlobal;
 use std::io::Write;
 
@@ -35,26 +37,49 @@ pub(crate) fn run_on_files<C: Collection, S: Source + AllocGlobal, W: Write, E: 
 ) -> Result<u8, RunFault>
     requires { has_failed out.old ≡ false }
     ensures runs { RunsOnMany (S.may_open (S.content_of source.old)) (S.may_refuse (S.content_of source.old))
-        S.Stream.remaining W.contents E.contents terminal C.Makes
-        (λ progress. record { refusals = C.refusals; progress = progress }) (plain_files files.now) out.old out.new
-        err.old err.new result }
-    ensures opens { OpensFiles S.content_of S.opened S.may_open S.may_refuse S.Stream.remaining (plain_files files.now).paths
-        source.old source.new (status_of_run result) }
+        S.Stream.remaining W.contents E.contents terminal (S.may_find (S.content_of source.old))
+        (λ ending. C.Makes ending (is_all files.now.command))
+        (λ progress. record { refusals = C.refusals; progress = progress }) (plain_files files.now) out.old out.new err.old
+        err.new result }
+    ensures opens { OpensFiles S.content_of S.opened S.may_open S.may_refuse S.Stream.remaining S.may_find
+        (plain_files files.now).paths source.old source.new (status_of_run result) }
 {
     let many = many_files(files, terminal);
     let list = match &files.paths {
         FilePaths::Given(paths) => {
-            return run_on_paths::<C, S, W, E>(source, paths.as_slice(), many, out, err);
+            return run_at_paths::<C, S, W, E>(source, paths.as_slice(), many, out, err);
         }
         FilePaths::ListedIn(list) => list,
     };
     match read_list(source, list) {
         Ok(text) => {
             let paths = split_paths(source.alloc(), text.as_slice())?;
-            run_on_paths::<C, S, W, E>(source, paths.as_slice(), many, out, err)
+            run_at_paths::<C, S, W, E>(source, paths.as_slice(), many, out, err)
         }
         Err(error) => Ok(refuse_list(list, &error, err)),
     }
+}
+
+/// The run on the files that paths stand for.
+fn run_at_paths<C: Collection, S: Source + AllocGlobal, W: Write, E: Write>(
+    source: &mut S,
+    paths: &[&[u8]],
+    many: ManyFiles,
+    out: &mut Watched<W>,
+    err: &mut Watched<E>,
+) -> Result<u8, RunFault>
+    requires { has_failed out.old ≡ false }
+    ensures runs { RunsAtPaths (S.may_find (S.content_of source.old)) (λ files. RunsOnPaths
+        (S.may_open (S.content_of source.old)) (S.may_refuse (S.content_of source.old)) S.Stream.remaining W.contents
+        E.contents many.options many.prices (C.Makes many.ending many.all) files
+        (record { refusals = C.refusals; progress = many.progress })) (map (λ path. path.now) paths.now) out.old out.new
+        err.old err.new result }
+    ensures opens { OpensAtPaths S.content_of S.opened S.may_find (map (λ path. path.now) paths.now) source.old source.new
+        (status_of_run result) }
+{
+    let found = files_at(&*source, source.alloc(), paths)?;
+    let files = slices(source.alloc(), found.as_slice())?;
+    run_on_paths::<C, S, W, E>(source, files.as_slice(), many, out, err)
 }
 
 /// How a run on many files reads them and reports.
@@ -75,7 +100,18 @@ fn many_files(files: &FilesRequest<'_>, terminal: bool) -> ManyFiles
         options: bounded_search(&files.limits),
         progress,
         ending,
-        all: files.all,
+        prices: files.prices,
+        all: is_all(files.command),
+    }
+}
+
+/// Whether the files are printed too that are the only ones of their auction.
+fn is_all(command: FilesCommand) -> bool
+    ensures { result ≡ is_all command }
+{
+    match command {
+        FilesCommand::Duplicates { all } => all,
+        FilesCommand::Sizes => false,
     }
 }
 
@@ -96,7 +132,7 @@ pub(crate) fn read_list<S: Source + AllocGlobal>(
     };
     match read_bytes(source.alloc(), &mut input) {
         Ok(text) => Ok(text),
-        Err(fault) => Err(RequestError::Run(RunFault::from(fault))),
+        Err(fault) => Err(RequestError::Run(RunFault::from(CanonFault::from(fault)))),
     }
 }
 

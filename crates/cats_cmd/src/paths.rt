@@ -1,13 +1,13 @@
 //! The loop over many files. They are judged one after the other, and a text is made of all.
 
 ghost use Rattle.std.specs.Prelude.{◌≡◌, ◌++◌, ℕ, Bool, List, Option, [], ◌∷◌, map, IfErr, IfOk, OnOk, codes, decimal};
-ghost use Rattle.std.specs.Prelude.{true, false};
-ghost use Rattle.cats_text.specs.Streams.{has_ended, has_failed};
+ghost use Rattle.std.specs.Prelude.{false};
+ghost use Rattle.cats_text.specs.Streams.{has_failed};
 ghost use Rattle.cats_cmd.specs.Inputs.{IsOpened};
 ghost use Rattle.cats_cmd.specs.Opening.{Opens, OpensEach, openable};
 ghost use Rattle.cats_cmd.specs.Openings.{status_of_run};
 ghost use Rattle.cats_cmd.specs.Internal.Judging.{OpensAllAs};
-ghost use Rattle.cats_cmd.specs.Paths.{Judgement, IsUnjudged, IsUnopened, RunsOnPaths, count_line, lines_on, progress_line};
+ghost use Rattle.cats_cmd.specs.Paths.{Judgement, IsUnjudged, IsUnopened, RunsOnPaths, count_line, progress_line};
 ghost use Rattle.cats_cmd.specs.Paths.{progress_lines, refusal_line, refusal_lines, removal_lines, status_if};
 ghost use Rattle.cats_cmd.specs.RequestErrors.{Reports, ReportsAll};
 ghost use Rattle.cats_cmd.specs.Internal.Judging.{AddsFile, AddsJudgement, AddsPathAs, AddsOpened, HasSome, JudgesAllAs};
@@ -18,12 +18,15 @@ ghost use Rattle.cats_cmd.specs.declared.errors.RequestError.TheVariants.{NotOpe
 
 use crate::errors::{RequestError, report_error, status_of};
 use crate::lines::{report, report_escaped, report_number};
+use crate::priced_input::{PricedInput, report_rounded};
 use crate::run::send_text;
 use crate::source::{Source, Unopened};
 use answers::{DONE, RunFault};
 use cats_text::Watched;
+use command_line::Prices;
+use commands::Input;
 use std::alloc::{AllocError, AllocGlobal, Global};
-use std::io::{Read, Write};
+use std::io::Write;
 use valuation::SearchOptions;
 
 /// How a run on many files reads them, reports and prints.
@@ -33,6 +36,7 @@ pub struct ManyFiles {
     pub options: SearchOptions,
     pub progress: Progress,
     pub ending: Ending,
+    pub prices: Prices,
     /// Whether `duplicates` prints the files too that are the only ones of their auction.
     pub all: bool,
 }
@@ -80,18 +84,17 @@ pub(crate) trait Collection: Sized + Drop {
     fn none(alloc: Global) -> Self
         ensures { (ending : Ending) → has ending result [] };
 
-    /// Judges the file at one more path from its stream, and answers why it is not judged.
-    fn add<R: Read>(
+    /// Judges the file at one more path, and answers why it is not judged.
+    fn add<I: Input>(
         &mut self,
         alloc: Global,
         path: &[u8],
-        input: &mut Watched<R>,
+        input: &mut I,
         many: ManyFiles,
     ) -> Result<Option<RequestError>, AllocError>
-        requires works { has_failed input.old ≡ false }
-        requires fresh { has_ended input.old ≡ false }
+        requires { I.is_ready input.old }
         ensures { IfOk result (λ error. AddsOpened
-            (has many.ending) R.remaining many.options path.now self.old self.new input.old input.new
+            (has many.ending) I.gives I.refuses many.options path.now self.old self.new input.old input.new
             error) };
 
     /// Adds a path at which no file was opened, for this reason.
@@ -117,9 +120,10 @@ pub(crate) trait Collection: Sized + Drop {
 
 /// Judges the files at these paths, one after the other, and sends the text that is made of them.
 ///
-/// A file that cannot be judged is reported on `err` at once, unless the text says it, and the others go on; with
-/// `progress`, it is reported there after each hundredth file, and after the last, how many were read. The status is 0 if
-/// every file was judged, and else the greatest of the statuses of those that were not.
+/// A file that cannot be judged is reported on `err` at once, unless the text says it, and the others go on; so is, where
+/// prices are rounded, how many of a file's were. With `progress`, it is reported there after each hundredth file, and
+/// after the last, how many were read. The status is 0 if every file was judged, and else the greatest of the statuses of
+/// those that were not.
 pub(crate) fn run_on_paths<C: Collection, S: Source + AllocGlobal, W: Write, E: Write>(
     source: &mut S,
     paths: &[&[u8]],
@@ -129,7 +133,7 @@ pub(crate) fn run_on_paths<C: Collection, S: Source + AllocGlobal, W: Write, E: 
 ) -> Result<u8, RunFault>
     requires { has_failed out.old ≡ false }
     ensures runs { RunsOnPaths (S.may_open (S.content_of source.old))
-        (S.may_refuse (S.content_of source.old)) S.Stream.remaining W.contents E.contents many.options
+        (S.may_refuse (S.content_of source.old)) S.Stream.remaining W.contents E.contents many.options many.prices
         (C.Makes many.ending many.all) (map (λ path. path.now) paths.now)
         (record { refusals = C.refusals; progress = many.progress }) out.old out.new err.old err.new result }
     ensures opens { OpensEach S.content_of S.opened (map (λ path. path.now) paths.now) source.old source.new
@@ -151,7 +155,7 @@ fn judge_all<C: Collection, S: Source + AllocGlobal, E: Write>(
 ) -> Result<u8, AllocError>
     requires { C.has many.ending collection.old [] }
     ensures judges { JudgesAllAs (C.has many.ending) (S.may_open (S.content_of source.old))
-        (S.may_refuse (S.content_of source.old)) S.Stream.remaining many.options E.contents
+        (S.may_refuse (S.content_of source.old)) S.Stream.remaining many.options many.prices E.contents
         (map (λ path. path.now) paths.now) (record { refusals = C.refusals; progress = many.progress }) collection.new
         err.old err.new result }
     ensures opens { OpensAllAs S.content_of S.opened (map (λ path. path.now) paths.now) source.old source.new result }
@@ -180,13 +184,16 @@ fn judge_path<C: Collection, S: Source + AllocGlobal, E: Write>(
     err: &mut Watched<E>,
 ) -> Result<u8, AllocError>
     ensures adds { AddsPathAs (C.has many.ending) (S.may_open (S.content_of source.old))
-        (S.may_refuse (S.content_of source.old)) S.Stream.remaining many.options E.contents
+        (S.may_refuse (S.content_of source.old)) S.Stream.remaining many.options many.prices E.contents
         (record { refusals = C.refusals; progress = many.progress }) turn.now.count turn.now.number turn.now.path.now
         collection.old collection.new err.old err.new result }
     ensures opens { Opens S.content_of S.opened source.old source.new (openable (turn.now.path.now ∷ [])) }
 {
-    let error = judge(source, collection, turn.path, many)?;
-    report_path::<C, E>(many.progress, turn, &error, err);
+    let (error, rounded) = judge(source, collection, turn.path, many)?;
+    remove_progress(many.progress, turn.number, err);
+    report_rounded(turn.path, rounded, err);
+    C::report_refusal(turn.path, &error, err);
+    report_progress(many.progress, turn, err);
     Ok(status_if(&error))
 }
 
@@ -200,23 +207,27 @@ fn status_if(error: &Option<RequestError>) -> u8
     }
 }
 
-/// Judges the file at a path, and answers why it is not judged.
+/// Judges the file at a path, and answers why it is not judged, and how many of its prices were rounded.
 fn judge<C: Collection, S: Source + AllocGlobal>(
     source: &mut S,
     collection: &mut C,
     path: &[u8],
     many: ManyFiles,
-) -> Result<Option<RequestError>, AllocError>
-    ensures adds { IfOk result (AddsFile (C.has many.ending) (S.may_open (S.content_of source.old))
-        (S.may_refuse (S.content_of source.old)) S.Stream.remaining many.options
-        path.now collection.old collection.new) }
+) -> Result<(Option<RequestError>, usize), AllocError>
+    ensures adds { IfOk result (λ judged. AddsFile (C.has many.ending) (S.may_open (S.content_of source.old))
+        (S.may_refuse (S.content_of source.old)) S.Stream.remaining many.options many.prices
+        path.now collection.old collection.new judged.1 judged.0) }
     ensures opens { Opens S.content_of S.opened source.old source.new (openable (path.now ∷ [])) }
 {
     match open_path(source, path) {
-        Ok(mut input) => collection.add(source.alloc(), path, &mut input, many),
+        Ok(stream) => {
+            let mut input = PricedInput::new(stream, many.prices);
+            let error = collection.add(source.alloc(), path, &mut input, many)?;
+            Ok((error, input.rounded()))
+        }
         Err(why) => {
             collection.add_unopened(source.alloc(), path, why, many.ending)?;
-            Ok(Some(RequestError::NotOpened(why)))
+            Ok((Some(RequestError::NotOpened(why)), 0))
         }
     }
 }
@@ -258,21 +269,6 @@ pub(crate) fn report_refusal<E: Write>(err: &mut Watched<E>, path: &[u8], error:
     report_escaped(err, path);
     report(err, b": ");
     report_error(err, error);
-}
-
-/// Reports why the file at a path was not judged, unless the text of all says it, and how many files were read.
-fn report_path<C: Collection, E: Write>(
-    progress: Progress,
-    turn: &Turn<'_>,
-    error: &Option<RequestError>,
-    err: &mut Watched<E>,
-)
-    ensures { ReportsAll E.contents (lines_on (record { refusals = C.refusals; progress = progress })
-        turn.now.count turn.now.number turn.now.path.now error.now) err.old err.new }
-{
-    remove_progress(progress, turn.number, err);
-    C::report_refusal(turn.path, error, err);
-    report_progress(progress, turn, err);
 }
 
 /// Removes the line of progress of a terminal, which is there after the first file.

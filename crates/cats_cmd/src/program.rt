@@ -1,35 +1,21 @@
 //! The program `cats`, but for its process. It has a command line, two output streams and an exit status.
 
-ghost use Rattle.std.specs.Prelude.{◌≡◌, ◌≢◌, ◌≤◌, ◌∷◌, [], IfErr, IfOk, false};
-ghost use Rattle.canon.specs.declared.which.Which.TheVariants.{Only};
+ghost use Rattle.std.specs.Prelude.{◌≡◌, ◌≢◌, ◌≤◌, false};
 ghost use Rattle.cats_text.specs.Streams.{has_failed};
-ghost use Rattle.cats_cmd.specs.Inputs.{IsOpened, MayRefuse};
-ghost use Rattle.cats_cmd.specs.Requests.{AnswersLine, AnswersNoRequest, AnswersRequest, CarriesOut, fine_of, memory_text};
-ghost use Rattle.cats_cmd.specs.Opening.{Opens};
-ghost use Rattle.cats_cmd.specs.Openings.{OpensFor, OpensLine, status_of_answer};
+ghost use Rattle.cats_cmd.specs.Requests.{AnswersLine, AnswersNoRequest, AnswersRequest, memory_text};
+ghost use Rattle.cats_cmd.specs.Openings.{OpensFor, OpensLine};
 ghost use Rattle.command_line.specs.PlainRequests.{plain_request};
 ghost use Rattle.command_line.specs.Requests.{texts_of};
-ghost use Rattle.cats_cmd.specs.Internal.Carrying.{FailsToOpenPair, answer_of_run};
 ghost use Rattle.cats_cmd.specs.RequestErrors.{has_found, is_for_many_files, is_reporting, names_found, names_many_files};
 ghost use Rattle.cats_cmd.specs.RequestErrors.{names_reporting};
 
-use crate::bid_list::run_on_bids;
-use crate::duplicates::Groups;
-use crate::errors::{RequestError, report_request_error};
-use crate::fault::run_fault;
-use crate::many_files::run_on_files;
-use crate::one_file::{run_check, run_explain, run_lp, run_normalise_by, run_show, run_value_by};
-use crate::round::run_round;
-use crate::searches::{bounded_search, search_options};
-use crate::sizes::Table;
+use crate::errors::report_request_error;
+use crate::requests::carry_out;
 use crate::source::{Source, SystemFiles};
-use crate::two_files::{run_compare_by, run_diff};
 use crate::usage::{misuse_text, with_escaped_words};
-use answers::{DEVICE_FAILED, DONE, NO_MEMORY, RunFault, WRONG_USAGE};
-use canon::Which;
+use answers::{DEVICE_FAILED, DONE, NO_MEMORY, WRONG_USAGE};
 use cats_text::{Watched, send};
-use command_line::{CommandHelp, NoRequest, PairRequest, Request, VERSION, parse};
-use rounding::FinePrices;
+use command_line::{CommandHelp, NoRequest, Request, VERSION, parse};
 use std::alloc::AllocGlobal;
 use std::io::Write;
 use std::rt::Files;
@@ -59,7 +45,7 @@ pub fn run_cats<F: Files + AllocGlobal, W: Write, E: Write>(
     requires out_works { has_failed out.old ≡ false }
     requires err_works { has_failed err.old ≡ false }
     ensures answers { AnswersLine (λ path stream. Unit {0}) (λ path why. Unit {0}) F.File.remaining W.contents E.contents
-        false (texts_of words.now) out.old out.new err.old err.new result }
+        false (λ path found. Unit {0}) (texts_of words.now) out.old out.new err.old err.new result }
     ensures silent { names_many_files (texts_of words.now) ≡ false → names_found result (texts_of words.now) ≡ false
         → result ≢ 0 → result ≢ 1 → result ≢ 5 → out.new ≡ out.old }
     ensures done { names_reporting (texts_of words.now) ≡ false → result ≤ 1 → err.new ≡ err.old }
@@ -87,10 +73,10 @@ pub fn run_program<S: Source + AllocGlobal, W: Write, E: Write>(
     requires out_works { has_failed out.old ≡ false }
     requires err_works { has_failed err.old ≡ false }
     ensures answers { AnswersLine (S.may_open (S.content_of source.old)) (S.may_refuse (S.content_of source.old))
-        S.Stream.remaining W.contents E.contents process.now.terminal (texts_of words.now) out.old out.new err.old err.new
-        result }
-    ensures opens { OpensLine S.content_of S.opened S.may_open S.may_refuse S.Stream.remaining (texts_of words.now)
-        source.old source.new result }
+        S.Stream.remaining W.contents E.contents process.now.terminal (S.may_find (S.content_of source.old))
+        (texts_of words.now) out.old out.new err.old err.new result }
+    ensures opens { OpensLine S.content_of S.opened S.may_open S.may_refuse S.Stream.remaining S.may_find
+        (texts_of words.now) source.old source.new result }
     ensures silent { names_many_files (texts_of words.now) ≡ false → names_found result (texts_of words.now) ≡ false
         → result ≢ 0 → result ≢ 1 → result ≢ 5 → out.new ≡ out.old }
     ensures done { names_reporting (texts_of words.now) ≡ false → result ≤ 1 → err.new ≡ err.old }
@@ -113,10 +99,10 @@ fn answer_request<S: Source + AllocGlobal, W: Write, E: Write>(
 ) -> u8
     requires out_works { has_failed out.old ≡ false }
     ensures answers { AnswersRequest (S.may_open (S.content_of source.old)) (S.may_refuse (S.content_of source.old))
-        S.Stream.remaining W.contents E.contents terminal (plain_request request.now) out.old out.new err.old err.new
-        result }
-    ensures opens { OpensFor S.content_of S.opened S.may_open S.may_refuse S.Stream.remaining (plain_request request.now)
-        source.old source.new result }
+        S.Stream.remaining W.contents E.contents terminal (S.may_find (S.content_of source.old)) (plain_request request.now)
+        out.old out.new err.old err.new result }
+    ensures opens { OpensFor S.content_of S.opened S.may_open S.may_refuse S.Stream.remaining S.may_find
+        (plain_request request.now) source.old source.new result }
     ensures silent { is_for_many_files (plain_request request.now) ≡ false
         → has_found result (plain_request request.now) ≡ false → result ≢ 0 → result ≢ 1 → result ≢ 5 → out.new ≡ out.old }
     ensures done { is_reporting (plain_request request.now) ≡ false → result ≤ 1 → err.new ≡ err.old }
@@ -124,161 +110,6 @@ fn answer_request<S: Source + AllocGlobal, W: Write, E: Write>(
     match carry_out(source, request, out, err, terminal) {
         Ok(status) => status,
         Err(error) => report_request_error(&error, err),
-    }
-}
-
-/// `err` is for requests that report faults and go on.
-fn carry_out<S: Source + AllocGlobal, W: Write, E: Write>(
-    source: &mut S,
-    request: &Request<'_>,
-    out: &mut Watched<W>,
-    err: &mut Watched<E>,
-    terminal: bool,
-) -> Result<u8, RequestError>
-    requires { has_failed out.old ≡ false }
-    ensures carries { CarriesOut (S.may_open (S.content_of source.old)) (S.may_refuse (S.content_of source.old))
-        S.Stream.remaining W.contents E.contents terminal (plain_request request.now) out.old out.new err.old err.new
-        result }
-    ensures opens { OpensFor S.content_of S.opened S.may_open S.may_refuse S.Stream.remaining (plain_request request.now)
-        source.old source.new (status_of_answer result) }
-{
-    let alloc = source.alloc();
-    match request {
-        Request::Check { file } => ran(run_check(alloc, &mut open_only(source, file)?, out)),
-        Request::Fault { file } => {
-            let mut input = open_only(source, file)?;
-            ran(run_fault(alloc, &mut input, file.as_bytes(), out))
-        }
-        Request::Show { file } => ran(run_show(alloc, &mut open_only(source, file)?, out)),
-        Request::Lp { file } => ran(run_lp(alloc, &mut open_only(source, file)?, out)),
-        Request::Value {
-            file,
-            goods,
-            limits,
-        } => {
-            let mut input = open_only(source, file)?;
-            ran(run_value_by(
-                alloc,
-                &mut input,
-                goods.as_slice(),
-                search_options(limits),
-                out,
-            ))
-        }
-        Request::Revenue { file, bids } => run_on_bids(source, file, bids, out, err),
-        Request::Normalise { file, limits } => {
-            ran(run_normalise_by(
-                alloc,
-                &mut open_only(source, file)?,
-                search_options(limits),
-                out,
-            ))
-        }
-        Request::Explain { file, limits } => {
-            ran(run_explain(
-                alloc,
-                &mut open_only(source, file)?,
-                limits.steps,
-                limits.total,
-                out,
-            ))
-        }
-        Request::Round { file, exact } => {
-            let mut input = open_only(source, file)?;
-            ran(run_round(alloc, &mut input, fine_prices(*exact), out, err))
-        }
-        Request::Compare(files) => {
-            let (mut left, mut right) = open_both(source, files)?;
-            ran(run_compare_by(
-                alloc,
-                &mut left,
-                &mut right,
-                search_options(&files.limits),
-                out,
-            ))
-        }
-        Request::Diff(files) => {
-            let (mut left, mut right) = open_both(source, files)?;
-            ran(run_diff(
-                alloc,
-                &mut left,
-                &mut right,
-                bounded_search(&files.limits),
-                out,
-            ))
-        }
-        Request::Duplicates(files) => {
-            ran(run_on_files::<Groups, S, W, E>(source, files, terminal, out, err))
-        }
-        Request::Sizes(files) => {
-            ran(run_on_files::<Table, S, W, E>(source, files, terminal, out, err))
-        }
-    }
-}
-
-/// What a run answers, as the answer to its request.
-pub(crate) fn ran(answer: Result<u8, RunFault>) -> Result<u8, RequestError>
-    ensures { result ≡ answer_of_run answer }
-{
-    match answer {
-        Ok(status) => Ok(status),
-        Err(fault) => Err(RequestError::Run(fault)),
-    }
-}
-
-/// What becomes of prices that are finer than a millionth.
-fn fine_prices(exact: bool) -> FinePrices
-    ensures { result ≡ fine_of exact }
-{
-    if exact {
-        FinePrices::Refuse
-    } else {
-        FinePrices::Round
-    }
-}
-
-/// Opens the one file of a request.
-pub(crate) fn open_only<S: Source>(
-    source: &mut S,
-    path: &str,
-) -> Result<Watched<S::Stream>, RequestError>
-    ensures opened { IfOk result (IsOpened (S.may_open (S.content_of source.old)) path.now) }
-    ensures refused { IfErr result (λ error. (error ≡ RequestError.CannotOpen Only)
-        × MayRefuse (S.may_refuse (S.content_of source.old)) path.now) }
-    ensures opens { Opens S.content_of S.opened source.old source.new (path.now ∷ []) }
-{
-    open(source, path, Which::Only)
-}
-
-/// Opens the files of a request for two, the second unless the first is refused.
-fn open_both<S: Source>(
-    source: &mut S,
-    files: &PairRequest<'_>,
-) -> Result<(Watched<S::Stream>, Watched<S::Stream>), RequestError>
-    ensures opened { IfOk result (λ both. IsOpened (S.may_open (S.content_of source.old)) files.now.first.now both.0
-        × IsOpened (S.may_open (S.content_of source.old)) files.now.second.now both.1
-        × Opens S.content_of S.opened source.old source.new (files.now.first.now ∷ files.now.second.now ∷ [])) }
-    ensures refused { IfErr result (λ error. FailsToOpenPair S.content_of S.opened (S.may_refuse (S.content_of source.old))
-        files.now.first.now files.now.second.now source.old source.new error) }
-{
-    let left = open(source, files.first, Which::First)?;
-    let right = open(source, files.second, Which::Second)?;
-    Ok((left, right))
-}
-
-fn open<S: Source>(
-    source: &mut S,
-    path: &str,
-    which: Which,
-) -> Result<Watched<S::Stream>, RequestError>
-    ensures opened { IfOk result (IsOpened (S.may_open (S.content_of source.old)) path.now) }
-    ensures refused { IfErr result (λ error. (error ≡ RequestError.CannotOpen which)
-        × MayRefuse (S.may_refuse (S.content_of source.old)) path.now) }
-    ensures opens { Opens S.content_of S.opened source.old source.new (path.now ∷ []) }
-{
-    match source.open(path) {
-        Ok(stream) => Ok(Watched::new(stream)),
-        Err(_) => Err(RequestError::CannotOpen(which)),
     }
 }
 

@@ -34,7 +34,10 @@ pub fn run_round<R: Read, W: Write, E: Write>(
     requires out_works { has_failed out.old ≡ false }
     ensures { Rounds R.remaining W.contents E.contents fine input.old input.new out.old out.new err.old err.new result }
 {
-    let text = read_bytes(alloc, input)?;
+    let text = match read_bytes(alloc, input) {
+        Ok(text) => text,
+        Err(fault) => return Err(RunFault::from(CanonFault::from(fault))),
+    };
     let rounded = round_bytes(alloc, text.as_slice(), fine)?;
     let status = send_text(out, DONE, rounded.text.as_slice())?;
     report_prices(rounded.prices.as_slice(), err);

@@ -4,7 +4,7 @@
 mod count;
 
 ghost use Rattle.std.specs.Prelude.{◌≡◌, ◌++◌, List, ℕ, codes, map, IfOk, OnOk, false};
-ghost use Rattle.cats_text.specs.Streams.{has_ended, has_failed};
+ghost use Rattle.cats_text.specs.Streams.{has_failed};
 ghost use Rattle.cats_cmd.specs.Escaping.{path_text};
 ghost use Rattle.cats_cmd.specs.Internal.Tables.{PutsNumbers};
 ghost use Rattle.cats_cmd.specs.Opening.{OpensEach};
@@ -17,12 +17,12 @@ use crate::escaping::{push_end, push_path};
 use crate::paths::{Collection, Ending, ManyFiles, run_on_paths};
 use crate::source::{Source, Unopened};
 use answers::RunFault;
-use canon::{CanonFault, normal_packed_file};
+use canon::{CanonFault, Which, named_normal_file};
 use cats_text::Watched;
-use commands::Input;
+use commands::{Input, name_bid};
 use count::{push_counts, push_sizes};
 use std::alloc::{AllocError, AllocGlobal, Global};
-use std::io::{Read, Write};
+use std::io::Write;
 use valuation::SearchOptions;
 
 /// The line above the rows.
@@ -56,11 +56,11 @@ impl Collection for Table {
         }
     }
 
-    fn add<R: Read>(
+    fn add<I: Input>(
         &mut self,
         alloc: Global,
         path: &[u8],
-        input: &mut Watched<R>,
+        input: &mut I,
         many: ManyFiles,
     ) -> Result<Option<RequestError>, AllocError> {
         let mut cells = Vec::new(alloc);
@@ -99,15 +99,14 @@ impl Collection for Table {
 
 /// Puts the numbers of a file and of its canonical file behind the text, each with a tab after it, and answers why the
 /// file was not judged. A number that is not known is an empty cell.
-fn push_numbers<R: Read>(
+fn push_numbers<I: Input>(
     alloc: Global,
     text: &mut Vec<u8>,
-    input: &mut Watched<R>,
+    input: &mut I,
     options: SearchOptions,
 ) -> Result<Option<RequestError>, AllocError>
-    requires works { has_failed input.old ≡ false }
-    requires fresh { has_ended input.old ≡ false }
-    ensures { IfOk result (PutsNumbers R.remaining options text.old.items text.new.items input.old input.new) }
+    requires { I.is_ready input.old }
+    ensures { IfOk result (PutsNumbers I.gives I.refuses options text.old.items text.new.items input.old input.new) }
 {
     let file = match input.read_file(alloc) {
         Ok(file) => file,
@@ -118,16 +117,17 @@ fn push_numbers<R: Read>(
     };
     let mut sizes = Vec::new(alloc);
     push_sizes(alloc, &mut sizes, &file)?;
-    match normal_packed_file(alloc, file, options) {
-        Ok(normal) => {
+    match named_normal_file(alloc, &file, options) {
+        Ok(named) => {
             text.extend_from_slice(sizes.as_slice())?;
-            push_counts(alloc, text, &normal)?;
+            push_counts(alloc, text, &named.file)?;
             Ok(None)
         }
         Err(CanonFault::StepLimit { goods }) => {
             text.extend_from_slice(sizes.as_slice())?;
             text.extend_from_slice(NO_COUNTS.as_bytes())?;
-            Ok(Some(RequestError::Run(RunFault::from(CanonFault::StepLimit { goods }))))
+            let fault = CanonFault::StepLimit { goods };
+            Ok(Some(RequestError::Run(name_bid(Which::Only, &file, options, fault))))
         }
         // a file that was read is refused for nothing else
         Err(_) => {
@@ -168,9 +168,9 @@ fn push_row(rows: &mut Vec<u8>, cells: &[u8], path: &[u8], ending: Ending) -> Re
 /// each has, and how many bids are left in its canonical file.
 ///
 /// The row of a file that cannot be judged says why, and the others go on; it has the numbers of the file if only the step
-/// limit stops it, and else none. On `err` nothing is reported but, with `progress`, how many files were read: after each
-/// hundredth file, and after the last. The status is 0 if every file was judged, and else the greatest of the statuses of
-/// those that were not.
+/// limit stops it, and else none. On `err` nothing is reported but, where prices are rounded, how many of a file's were,
+/// and, with `progress`, how many files were read: after each hundredth file, and after the last. The status is 0 if every
+/// file was judged, and else the greatest of the statuses of those that were not.
 pub fn run_sizes<S: Source + AllocGlobal, W: Write, E: Write>(
     source: &mut S,
     paths: &[&[u8]],
@@ -180,7 +180,7 @@ pub fn run_sizes<S: Source + AllocGlobal, W: Write, E: Write>(
 ) -> Result<u8, RunFault>
     requires { has_failed out.old ≡ false }
     ensures runs { RunsOnPaths (S.may_open (S.content_of source.old))
-        (S.may_refuse (S.content_of source.old)) S.Stream.remaining W.contents E.contents many.options
+        (S.may_refuse (S.content_of source.old)) S.Stream.remaining W.contents E.contents many.options many.prices
         (MakesTable many.ending) (map (λ path. path.now) paths.now) (without_refusals many.progress) out.old out.new err.old
         err.new result }
     ensures opens { OpensEach S.content_of S.opened (map (λ path. path.now) paths.now) source.old source.new

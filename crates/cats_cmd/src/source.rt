@@ -1,9 +1,11 @@
 //! Where the program opens its files.
 
 ghost use Rattle.std.specs.Prelude.{ℕ, List, [], ◌∷◌, Option, None, IfErr, IfOk};
+ghost use Rattle.cats_cmd.specs.Folders.{Finds, found_of};
 ghost use Rattle.cats_cmd.specs.Opening.{Opens};
 
-use std::alloc::{Alloc, Global};
+use crate::folder::files_below;
+use std::alloc::{Alloc, AllocError, Global};
 use std::fs;
 use std::fs::OpenFile;
 use std::io::{ErrorKind, Read};
@@ -27,6 +29,8 @@ pub trait Source {
 
     ghost may_refuse: { Content → List ℕ → Unopened → Type 0 };
 
+    ghost may_find: { Content → List ℕ → Option (List (List ℕ)) → Type 0 };
+
     ghost opened: { Self → Option (List (List ℕ)) };
 
     /// Opens what is at a path. A folder may be opened too; then reading it fails.
@@ -47,6 +51,12 @@ pub trait Source {
         ensures opened { IfOk result (Self.may_open (Self.content_of self.old) path.now) }
         ensures refused { IfErr result (Self.may_refuse (Self.content_of self.old) path.now) }
         ensures opens { Opens Self.content_of Self.opened self.old self.new (path.now ∷ []) };
+
+    /// If a folder is at a path, the paths of the files below it, each with the folder's own path before it. No file is
+    /// opened. Where one of the folders below cannot be read, its path is among them. Without a folder that can be read
+    /// there is none.
+    fn find(&self, alloc: Global, path: &str) -> Result<Option<Vec<Vec<u8>>>, AllocError>
+        ensures { IfOk result (λ found. Finds (Self.may_find (Self.content_of self.now)) path.now (found_of found)) };
 }
 
 /// Why a file could not be opened.
@@ -85,6 +95,8 @@ impl<F: Files> Source for SystemFiles<'_, F> {
 
     ghost may_refuse = { λ _ _ _. Unit {0} };
 
+    ghost may_find = { λ _ _ _. Unit {0} };
+
     ghost opened = { λ _. None };
 
     fn open(&mut self, path: &str) -> Result<F::File, Unopened> {
@@ -105,10 +117,14 @@ impl<F: Files> Source for SystemFiles<'_, F> {
     fn open_regular(&mut self, path: &str) -> Result<F::File, Unopened> {
         match fs::metadata(self.files, path) {
             Ok(metadata) if metadata.is_file() => self.open(path),
-            Ok(metadata) if metadata.is_dir() => Err(Unopened::IsFolder),
+            Ok(metadata) if metadata.is_dir() => Err(folder_reason(self.files, path)),
             Ok(_) => Err(Unopened::NotAFile),
             Err(error) => Err(reason(error.kind())),
         }
+    }
+
+    fn find(&self, alloc: Global, path: &str) -> Result<Option<Vec<Vec<u8>>>, AllocError> {
+        files_below(self.files, alloc, path)
     }
 }
 
@@ -118,6 +134,14 @@ fn reason(kind: ErrorKind) -> Unopened {
         ErrorKind::NotFound => Unopened::NoSuchFile,
         ErrorKind::PermissionDenied => Unopened::PermissionDenied,
         _ => Unopened::Other,
+    }
+}
+
+/// Why the folder at a path is refused. One that can be read is so as a folder.
+fn folder_reason<F: Files>(files: &F, path: &str) -> Unopened {
+    match files.open_dir(path) {
+        Err(error) if error.kind() == ErrorKind::PermissionDenied => Unopened::PermissionDenied,
+        _ => Unopened::IsFolder,
     }
 }
 

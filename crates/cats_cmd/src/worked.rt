@@ -2,22 +2,26 @@
 
 ghost use Rattle.std.specs.Prelude.{◌≡◌, ℕ, [], ◌∷◌, map, codes, Vec, Ok, Err, Some, None, true, false};
 ghost use Rattle.std.specs.Global.{Global};
-ghost use Rattle.cats_text.specs.declared.read_fault.Kind.TheVariants.{TwoDummies};
+ghost use Rattle.cats_text.specs.declared.read_fault.Kind.TheVariants.{TooFine, TwoDummies};
 ghost use Rattle.commands.specs.Examples.{larger_bid, xor_ladder};
 ghost use Rattle.commands.specs.Outcomes.{Prints};
 ghost use Rattle.cats_text.specs.Examples.{known, watched};
 ghost use Rattle.cats_cmd.specs.DuplicateTexts.{duplicates_text};
 ghost use Rattle.cats_cmd.specs.Escaping.{escaped};
-ghost use Rattle.cats_cmd.specs.Duplicates.{judged_paths};
+ghost use Rattle.cats_cmd.specs.Duplicates.{heavy_paths, judged_paths};
+ghost use Rattle.cats_cmd.specs.Folders.{ListsFolder, files_at, with_slash};
 ghost use Rattle.cats_cmd.specs.Opening.{with_paths};
+ghost use Rattle.std.specs.List.{flat_map};
 ghost use Rattle.cats_cmd.specs.PathLists.{paths_in};
 ghost use Rattle.cats_cmd.specs.declared.paths.Ending.TheVariants.{Line, Null};
 ghost use Rattle.cats_cmd.specs.declared.paths.Progress.TheVariants.{Silent, Lines, Terminal};
-ghost use Rattle.cats_cmd.specs.Paths.{IsHeavy, IsJudged, IsUnjudged, greatest_status, progress_lines, report_lines};
+ghost use Rattle.cats_cmd.specs.Paths.{IsHeavy, IsJudged, IsUnjudged, greatest_status, judged_path, progress_lines};
+ghost use Rattle.cats_cmd.specs.Paths.{report_lines};
 ghost use Rattle.cats_cmd.specs.Paths.{with_refusals, without_refusals};
 ghost use Rattle.cats_cmd.specs.SizesTables.{MakesTable, counts_of, row, sizes_of};
 ghost use Rattle.cats_cmd.specs.Rounding.{round_outcome};
-ghost use Rattle.rounding.specs.declared.replacement.FinePrices.TheVariants.{Round};
+ghost use Rattle.cats_cmd.specs.PricedInputs.{PricedGives, PricedRefuses, rounding_lines};
+ghost use Rattle.rounding.specs.declared.replacement.FinePrices.TheVariants.{Refuse, Round};
 ghost use Rattle.cats_cmd.specs.Runs.{SendsMadeAs};
 ghost use Rattle.cats_cmd.specs.RequestErrors.{Reports, line_of_request_error};
 ghost use Rattle.cats_cmd.specs.declared.errors.RequestError.TheVariants.{CannotOpen, NotOpened, Run};
@@ -37,40 +41,53 @@ pub fn unopened_lines()
         ∷ codes "cannot open: not a file\n" ∷ codes "cannot open\n" ∷ [] }
 {}
 
-/// What `cats duplicates` reports of two paths: the reason for the one that was not judged, and, with progress, how many
-/// were read. On a terminal the line of progress is taken away before anything else is printed. Of 250 files that is
-/// reported after the hundredth, the two hundredth and the last.
+/// What `cats duplicates` reports of two paths: how many prices of each were rounded, then the reason for the one that was
+/// not judged, and, with progress, how many were read. On a terminal the line of progress is taken away before anything else
+/// is printed. Of 250 files that is reported after the hundredth, the two hundredth and the last.
 pub fn paths_reported()
-    ensures reason { report_lines (with_refusals Silent) 2 ((codes "a", IsUnjudged (NotOpened NoSuchFile)) ∷
-        (codes "b", IsJudged larger_bid) ∷ [])
+    ensures reason { report_lines (with_refusals Silent) 2 (judged_path (codes "a") (IsUnjudged (NotOpened NoSuchFile)) 0 ∷
+        judged_path (codes "b") (IsJudged larger_bid) 0 ∷ [])
         ≡ codes "a: cannot open: no such file\n" ∷ [] }
-    ensures progress { report_lines (with_refusals Lines) 2 ((codes "a", IsUnjudged (NotOpened NoSuchFile)) ∷
-        (codes "b", IsJudged larger_bid) ∷ [])
+    ensures progress { report_lines (with_refusals Lines) 2 (judged_path (codes "a") (IsUnjudged (NotOpened NoSuchFile)) 0 ∷
+        judged_path (codes "b") (IsJudged larger_bid) 0 ∷ [])
         ≡ codes "a: cannot open: no such file\n" ∷ codes "2 of 2 b\n" ∷ [] }
+    ensures rounded { (goods : Vec ℕ Global) → goods.items ≡ 0 ∷ 1 ∷ 2 ∷ []
+        → report_lines (with_refusals Lines) 2
+        (judged_path (codes "a") (IsHeavy larger_bid (record { number = 2; goods = goods; steps = 1000000; total = None })) 1 ∷
+        judged_path (codes "b") (IsJudged larger_bid) 1288 ∷ [])
+        ≡ codes "a: 1 price rounded\n" ∷ codes "a: step limit of 1000000 at bid 2: 0,1,2\n" ∷ codes "b: 1288 prices rounded\n"
+        ∷ codes "2 of 2 b\n" ∷ [] }
     ensures counted { map (λ number. progress_lines Lines number 250 (codes "a")) (1 ∷ 99 ∷ 100 ∷ 200 ∷ 249 ∷ 250 ∷ [])
         ≡ [] ∷ [] ∷ (codes "100 of 250 a\n" ∷ []) ∷ (codes "200 of 250 a\n" ∷ []) ∷ []
         ∷ (codes "250 of 250 a\n" ∷ []) ∷ [] }
-    ensures terminal { report_lines (with_refusals Terminal) 2
-        ((codes "a", IsJudged larger_bid) ∷ (codes "b", IsUnjudged (NotOpened NoSuchFile)) ∷ [])
+    ensures terminal { report_lines (with_refusals Terminal) 2 (judged_path (codes "a") (IsJudged larger_bid) 0 ∷
+        judged_path (codes "b") (IsUnjudged (NotOpened NoSuchFile)) 0 ∷ [])
         ≡ codes "1 of 2\n" ∷ (27 ∷ 91 ∷ 65 ∷ 27 ∷ 91 ∷ 75 ∷ []) ∷ codes "b: cannot open: no such file\n" ∷ codes "2 of 2\n" ∷ [] }
     ensures status { greatest_status ((codes "a", IsUnjudged (NotOpened NoSuchFile)) ∷ (codes "b", IsJudged larger_bid) ∷ [])
         ≡ 5 }
     ensures judged { judged_paths ((codes "a", IsUnjudged (NotOpened NoSuchFile)) ∷ (codes "b", IsJudged larger_bid) ∷ [])
         ≡ codes "b" ∷ [] }
+    ensures heavy { (goods : Vec ℕ Global) → heavy_paths ((codes "a", IsUnjudged (NotOpened NoSuchFile)) ∷
+        (codes "b", IsJudged larger_bid) ∷
+        (codes "c", IsHeavy larger_bid (record { number = 2; goods = goods; steps = 1000000; total = None })) ∷ [])
+        ≡ codes "c" ∷ [] }
 {}
 
 /// The text of `cats duplicates` of two auctions with two files each and one with one, with LF at the end of each line
 /// and with NUL. A backslash is escaped on a line.
 pub fn groups_printed()
     ensures lines { duplicates_text Line false ((codes "a", 0) ∷ (codes "b", 1) ∷ (codes "\\c", 0) ∷ (codes "d", 3) ∷
-        (codes "e", 1) ∷ [])
+        (codes "e", 1) ∷ []) []
         ≡ codes "a\n\\\\c\n\nb\ne\n" }
     ensures nulls { duplicates_text Null false ((codes "a", 0) ∷ (codes "b", 1) ∷ (codes "\\c", 0) ∷ (codes "d", 3) ∷
-        (codes "e", 1) ∷ [])
+        (codes "e", 1) ∷ []) []
         ≡ 97 ∷ 0 ∷ 92 ∷ 99 ∷ 0 ∷ 0 ∷ 98 ∷ 0 ∷ 101 ∷ 0 ∷ [] }
     ensures all { duplicates_text Line true ((codes "a", 0) ∷ (codes "b", 1) ∷ (codes "\\c", 0) ∷ (codes "d", 3) ∷
-        (codes "e", 1) ∷ [])
+        (codes "e", 1) ∷ []) []
         ≡ codes "a\n\\\\c\n\nb\ne\n\nd\n" }
+    ensures refused { duplicates_text Line true ((codes "a", 0) ∷ (codes "b", 0) ∷ []) ((codes "c", 0) ∷ (codes "d", 1) ∷
+        (codes "e", 1) ∷ [])
+        ≡ codes "a\nb\n\nd\ne\n" }
 {}
 
 /// Paths as they are printed on a line. Printable characters stay: U+E9, U+20AC, U+1F642, U+2027 and U+10FFFF.
@@ -101,22 +118,44 @@ pub fn table_rows()
     ensures no_bidders { counts_of larger_bid ≡ 3 ∷ 3 ∷ 0 ∷ [] }
     ensures header { MakesTable Line [] (codes "goods\tbids\tor\txor\tdummy\tkept\tkept_or\tkept_xor\tfault\tfile\n") }
     ensures heavy { (goods : Vec ℕ Global) → goods.items ≡ 0 ∷ 1 ∷ 2 ∷ []
-        → row Line (codes "a b") (IsHeavy larger_bid goods)
-        ≡ codes "2\t3\t3\t0\t0\t\t\t\tstep limit at 0,1,2\ta b\n" }
+        → row Line (codes "a b") (IsHeavy larger_bid (record { number = 2; goods = goods; steps = 1000000; total = Some 5000000 }))
+        ≡ codes "2\t3\t3\t0\t0\t\t\t\tstep limit of 1000000 (5000000 in all) at bid 2: 0,1,2\ta b\n" }
     ensures refused { map (λ error. row Line (codes "a") (IsUnjudged error))
         (NotOpened NoSuchFile ∷ NotOpened Other ∷ Run (Refused Only (Read (record { kind = TwoDummies; line = 7 })))
         ∷ Run (Refused Only Memory) ∷ []) ≡
         codes "\t\t\t\t\t\t\t\tcannot open: no such file\ta\n" ∷ codes "\t\t\t\t\t\t\t\tcannot open\ta\n"
         ∷ codes "\t\t\t\t\t\t\t\tline 7: TwoDummies\ta\n" ∷ codes "\t\t\t\t\t\t\t\twant of memory\ta\n" ∷ [] }
     ensures reported { report_lines (without_refusals Lines) 2
-        ((codes "a", IsUnjudged (NotOpened NoSuchFile)) ∷ (codes "b", IsJudged larger_bid) ∷ [])
-        ≡ codes "2 of 2 b\n" ∷ [] }
+        (judged_path (codes "a") (IsUnjudged (NotOpened NoSuchFile)) 0 ∷ judged_path (codes "b") (IsJudged larger_bid) 2 ∷ [])
+        ≡ codes "b: 2 prices rounded\n" ∷ codes "2 of 2 b\n" ∷ [] }
 {}
 
 /// What `cats round` makes of bytes.
 pub fn rounded_texts()
     ensures { round_outcome Round (codes "goods 1\nbids 1\ndummy 0\n0 0.0123456 0 #\n")
         ≡ Prints 0 (codes "goods 1\nbids 1\ndummy 0\n0 0.012346 0 #\n") }
+{}
+
+/// What is reported of a file of which no price was rounded, one, and more.
+pub fn roundings_reported()
+    ensures { map (rounding_lines (codes "a\\b")) (0 ∷ 1 ∷ 1288 ∷ []) ≡
+        [] ∷ (codes "a\\\\b: 1 price rounded\n" ∷ []) ∷ (codes "a\\\\b: 1288 prices rounded\n" ∷ []) ∷ [] }
+{}
+
+/// A text in which one price is finer than a millionth. If that is rounded, a file is given, and one price was rounded, not
+/// none; else its line is refused.
+pub fn fine_price_read()
+    ensures rounded { PricedGives known
+        (record { stream = watched (codes "goods 1\nbids 1\ndummy 0\n0 0.0123456 0 #\n") false false; fine = Some Round; rounded = 0 })
+        (record { stream = watched [] false true; fine = Some Round; rounded = 1 })
+        (record { goods = 1; dummy = 0; bids = record { price = 12346; goods = 0 ∷ []; dummy = None } ∷ [] }) }
+    ensures counted { PricedGives known
+        (record { stream = watched (codes "goods 1\nbids 1\ndummy 0\n0 0.0123456 0 #\n") false false; fine = Some Round; rounded = 0 })
+        (record { stream = watched [] false true; fine = Some Round; rounded = 0 })
+        (record { goods = 1; dummy = 0; bids = record { price = 12346; goods = 0 ∷ []; dummy = None } ∷ [] }) → ⊥ }
+    ensures refused { PricedRefuses known
+        (record { stream = watched (codes "goods 1\nbids 1\ndummy 0\n0 0.0123456 0 #\n") false false; fine = Some Refuse; rounded = 0 })
+        (record { stream = watched [] false true; fine = Some Refuse; rounded = 0 }) (record { line = 4; kind = TooFine }) }
 {}
 
 /// What becomes of a line for standard error: it is sent, and nothing else is; after a failure nothing is.
@@ -159,4 +198,17 @@ pub fn paths_opened()
     ensures known { with_paths (Some (codes "a" ∷ [])) (codes "b" ∷ codes "a" ∷ [])
         ≡ Some (codes "a" ∷ codes "b" ∷ codes "a" ∷ []) }
     ensures unknown { with_paths None (codes "b" ∷ []) ≡ None }
+{}
+
+/// The files that paths stand for: a file for itself, a folder for the files below it, and an empty folder for none. Below a
+/// folder the paths begin with its own, with a slash behind it unless it has one.
+pub fn folders_found()
+    ensures files { flat_map files_at (record { path = codes "b"; found = None } ∷
+        record { path = codes "f"; found = Some (codes "f/a.b" ∷ codes "f/a/b" ∷ []) }
+        ∷ record { path = codes "e"; found = Some [] } ∷ [])
+        ≡ codes "b" ∷ codes "f/a.b" ∷ codes "f/a/b" ∷ [] }
+    ensures slashes { map with_slash (codes "f" ∷ codes "f/" ∷ codes "/" ∷ []) ≡ codes "f/" ∷ codes "f/" ∷ codes "/" ∷ [] }
+    ensures ordered { ListsFolder (codes "f") (codes "f/a.b" ∷ codes "f/a/b" ∷ []) }
+    ensures unordered { ListsFolder (codes "f") (codes "f/a/b" ∷ codes "f/a.b" ∷ []) → ⊥ }
+    ensures elsewhere { ListsFolder (codes "f") (codes "g/a" ∷ []) → ⊥ }
 {}

@@ -1,11 +1,17 @@
 -- The parts of carrying out a request.
-use Rattle.std.specs.Prelude.{◌≡◌, ◌⊎◌, ℕ, Bool, List, [], ◌∷◌, Option, Result, Ok, Err}
+use Rattle.std.specs.Prelude.{◌≡◌, ◌⊎◌, ℕ, Bool, false, List, [], ◌∷◌, Option, Result, Ok, Err}
 use Rattle.bid_file.specs.Files.{PlainFile}
 use Rattle.cats_text.specs.declared.stream.Watched.{Watched}
 use Rattle.canon.specs.declared.which.Which.{Which}
 use Rattle.canon.specs.declared.which.Which.TheVariants.{Only}
-use Rattle.commands.specs.Outcomes.{Outcome}
+use Rattle.commands.specs.Outcomes.{Outcome, check_outcome, explain_outcome, lp_outcome, normalise_outcome}
+use Rattle.commands.specs.Outcomes.{revenue_outcome, show_outcome, value_outcome_by}
+use Rattle.command_line.specs.declared.request.Prices.{Prices}
+use Rattle.cats_cmd.specs.declared.requests.FileRun.{FileRun}
+use Rattle.cats_cmd.specs.declared.requests.FileRun.TheVariants as run
 use Rattle.command_line.specs.PlainRequests.{PlainFiles}
+use Rattle.command_line.specs.declared.request.FilesCommand.{FilesCommand}
+use Rattle.command_line.specs.declared.request.FilesCommand.TheVariants.{Duplicates, Sizes}
 use Rattle.answers.specs.declared.report.RunFault.{RunFault}
 use Rattle.cats_cmd.specs.Inputs.{MayRefuse}
 use Rattle.cats_cmd.specs.Opening.{Opens}
@@ -15,13 +21,19 @@ use Rattle.cats_cmd.specs.declared.errors.RequestError.TheVariants.{CannotOpen, 
 use Rattle.cats_cmd.specs.declared.paths.ManyFiles.{ManyFiles}
 use Rattle.cats_cmd.specs.declared.source.Unopened.{Unopened}
 
+-- whether the files are printed too that are the only ones of their auction
+abbrev pub is_all : FilesCommand → Bool
+is_all (Duplicates all) = all
+is_all Sizes = false
+
 -- how a run on many files reads them and reports
 abbrev pub many_files : Bool → PlainFiles → ManyFiles
 many_files terminal files = record {
   options = bounded_by files.limits;
   progress = progress_of terminal files.progress;
   ending = ending_of files.null;
-  all = files.all;
+  prices = files.prices;
+  all = is_all files.command;
 }
 
 -- what a run answers, as the answer to its request
@@ -38,14 +50,28 @@ pub record FailsToOpenPair {S H : Type 0} (content_of : S → H) (opened : S →
   pub refused : CannotOpenPair may_refuse first second which
   pub opens : Opens content_of opened old new (first ∷ second ∷ []) ⊎ Opens content_of opened old new (first ∷ [])
 
+-- what a run makes of its file
+abbrev pub outcome_of_run : FileRun → PlainFile → Outcome
+outcome_of_run run.Check = check_outcome
+outcome_of_run run.Show = show_outcome
+outcome_of_run (run.Value goods options) = value_outcome_by goods.now options
+outcome_of_run (run.Revenue bids) = revenue_outcome bids.now
+outcome_of_run (run.Normalise options) = normalise_outcome options
+outcome_of_run (run.Explain limits) = explain_outcome (bounded_by limits.now)
+outcome_of_run run.Lp = lp_outcome
+
 -- the run on a stream that was opened at the path, or none was
-abbrev pub RunsAtOrNot : {F W : Type 0} → (List ℕ → F → Type 0) → (List ℕ → Unopened → Type 0)
-    → (F → Option (List ℕ)) → (W → Option (List ℕ)) → List ℕ → (PlainFile → Outcome) → Watched W → Watched W
-    → Result ℕ RequestError → Type 0
-RunsAtOrNot may_open may_refuse remaining contents path outcome out out_after (Ok status) =
-    RunsAt may_open remaining contents path outcome out out_after (Ok status)
-RunsAtOrNot may_open may_refuse remaining contents path outcome out out_after (Err (Run fault)) =
-    RunsAt may_open remaining contents path outcome out out_after (Err fault)
-RunsAtOrNot may_open may_refuse remaining contents path outcome out out_after (Err (CannotOpen which)) =
-    (which ≡ Only) × MayRefuse may_refuse path × (out_after ≡ out)
-RunsAtOrNot may_open may_refuse remaining contents path outcome out out_after (Err (NotOpened why)) = ⊥
+abbrev pub RunsAtOrNot : {F W E : Type 0} → (List ℕ → F → Type 0) → (List ℕ → Unopened → Type 0)
+    → (F → Option (List ℕ)) → (W → Option (List ℕ)) → (E → Option (List ℕ)) → List ℕ → Prices → (PlainFile → Outcome)
+    → Watched W → Watched W → Watched E → Watched E → Result ℕ RequestError → Type 0
+RunsAtOrNot may_open may_refuse remaining contents messages path prices outcome out out_after err err_after
+    (Ok status) =
+    RunsAt may_open remaining contents messages path prices outcome out out_after err err_after (Ok status)
+RunsAtOrNot may_open may_refuse remaining contents messages path prices outcome out out_after err err_after
+    (Err (Run fault)) =
+    RunsAt may_open remaining contents messages path prices outcome out out_after err err_after (Err fault)
+RunsAtOrNot may_open may_refuse remaining contents messages path prices outcome out out_after err err_after
+    (Err (CannotOpen which)) =
+    (which ≡ Only) × MayRefuse may_refuse path × (out_after ≡ out) × (err_after ≡ err)
+RunsAtOrNot may_open may_refuse remaining contents messages path prices outcome out out_after err err_after
+    (Err (NotOpened why)) = ⊥

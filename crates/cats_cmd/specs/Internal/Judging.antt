@@ -1,22 +1,48 @@
 -- Judging the file at one path of many. The definitions say what it does, and what is kept.
-use Rattle.std.specs.Prelude.{◌≡◌, ℕ, List, [], ◌∷◌, ◌++◌, length, Option, Result, Ok, Err}
+use Rattle.std.specs.Prelude.{◌≡◌, ℕ, List, [], ◌∷◌, ◌++◌, length, map, Option, Result, Ok, Err}
 use Rattle.std.specs.declared.alloc.AllocError.{AllocError}
 use Rattle.cats_text.specs.declared.stream.Watched.{Watched}
+use Rattle.cats_text.specs.declared.read_fault.ReadFault.{ReadFault}
+use Rattle.bid_file.specs.Files.{PlainFile}
+use Rattle.command_line.specs.declared.request.Prices.{Prices}
 use Rattle.valuation.specs.declared.search_options.SearchOptions.{SearchOptions}
 use Rattle.canon.specs.FirstPlaces.{IsIndexOf, TextIndex}
-use Rattle.cats_cmd.specs.Duplicates.{FindsPlaces, judged_files}
+use Rattle.canon.specs.Canonical.{canonical_text}
+use Rattle.canon.specs.Sameness.{AreSameFiles}
+use Rattle.canon.specs.Unsearched.{AreAlike, unsearched_text}
+use Rattle.cats_cmd.specs.DuplicateTexts.{found_paths}
+use Rattle.cats_cmd.specs.Duplicates.{FindsPlaces, heavy_files, heavy_paths, judged_files, judged_paths}
+use Rattle.cats_cmd.specs.declared.duplicates.Groups.{Groups}
 use Rattle.cats_cmd.specs.Opening.{Opens, OpensFirst, openable}
-use Rattle.cats_cmd.specs.Paths.{BeginsPaths, Judgement, Judges, JudgesPaths, JudgesStream, greatest_status}
-use Rattle.cats_cmd.specs.Paths.{Reporting, lines_of_path, request_error_of, status_of_judgement}
+use Rattle.answers.specs.declared.report.HeavyBid.{HeavyBid}
+use Rattle.canon.specs.declared.canon_fault.CanonFault.{CanonFault}
+use Rattle.canon.specs.declared.canon_fault.CanonFault.TheVariants.{StepLimit}
+use Rattle.cats_cmd.specs.Paths.{BeginsPaths, IsHeavy, IsUnjudged, JudgedPath, Judgement, JudgesAs, JudgesInput}
+use Rattle.cats_cmd.specs.Paths.{JudgesPaths}
+use Rattle.cats_cmd.specs.Paths.{Reporting, greatest_status, judgement_at, lines_on, request_error_of}
+use Rattle.cats_cmd.specs.Paths.{status_of_judgement}
 use Rattle.cats_cmd.specs.RequestErrors.{ReportsAll}
 use Rattle.cats_cmd.specs.declared.errors.RequestError.{RequestError}
 use Rattle.cats_cmd.specs.declared.source.Unopened.{Unopened}
 
--- what `cats duplicates` keeps: an index of the files that were judged, and what was found of them
-pub record KeepsGroups (index : TextIndex) (found : List (List ℕ × ℕ)) (judgements : List (List ℕ × Judgement))
-    : Type 0 where
-  pub is_index : IsIndexOf index (judged_files judgements)
-  pub finds : FindsPlaces judgements found
+-- an index of files at some paths by a text of each, and what was found of them
+pub record KeepsPlaces (text_of : PlainFile → List ℕ) (Related : PlainFile → PlainFile → Type 0) (paths : List (List ℕ))
+    (files : List PlainFile) (index : TextIndex) (found : List (List ℕ × ℕ)) : Type 0 where
+  pub is_index : IsIndexOf text_of index files
+  pub finds : FindsPlaces Related paths files found
+
+abbrev pub KeepsJudged : List (List ℕ × Judgement) → TextIndex → List (List ℕ × ℕ) → Type 0
+KeepsJudged judgements index found =
+    KeepsPlaces canonical_text AreSameFiles (judged_paths judgements) (judged_files judgements) index found
+
+abbrev pub KeepsHeavy : List (List ℕ × Judgement) → TextIndex → List (List ℕ × ℕ) → Type 0
+KeepsHeavy judgements index found =
+    KeepsPlaces unsearched_text AreAlike (heavy_paths judgements) (heavy_files judgements) index found
+
+-- what `cats duplicates` keeps
+pub record KeepsGroups (groups : Groups) (judgements : List (List ℕ × Judgement)) : Type 0 where
+  pub judged : KeepsJudged judgements groups.judged.index (found_paths groups.judged.found.items)
+  pub heavy : KeepsHeavy judgements groups.heavy.index (found_paths groups.heavy.found.items)
 
 -- What is kept, in the words of the collection that keeps it: `Has` says of which files' judgements it is.
 module _ {C : Type 0} (Has : C → List (List ℕ × Judgement) → Type 0) where
@@ -28,21 +54,27 @@ module _ {C : Type 0} (Has : C → List (List ℕ × Judgement) → Type 0) wher
   AddsJudgement path judgement old new = (judgements : List (List ℕ × Judgement)) → Has old judgements
       → Has new (judgements ++ (path, judgement) ∷ [])
 
+  -- The file at the path was refused for this fault. It is kept where a step limit refused it.
+  abbrev pub AddsRefusedTo : List ℕ → PlainFile → CanonFault → C → C → Type 0
+  AddsRefusedTo path file (StepLimit goods) old new = (heavy : HeavyBid) → AddsJudgement path (IsHeavy file heavy) old
+      new
+  AddsRefusedTo path file fault old new = (error : RequestError) → AddsJudgement path (IsUnjudged error) old new
+
   -- the stream was judged, and this is why it was not
-  pub record AddsOpened {F : Type 0} (remaining : F → Option (List ℕ)) (options : SearchOptions) (path : List ℕ)
-      (old new : C)
-      (before after : Watched F) (error : Option RequestError) : Type 0 where
+  pub record AddsOpened {I : Type 0} (gives : I → I → PlainFile → Type 0) (refuses : I → I → ReadFault → Type 0)
+      (options : SearchOptions) (path : List ℕ) (old new : C) (before after : I) (error : Option RequestError)
+      : Type 0 where
     pub judgement : Judgement
-    pub judges : JudgesStream remaining options before after judgement
+    pub judges : JudgesInput gives refuses options before after judgement
     pub adds : AddsJudgement path judgement old new
     pub is_error : error ≡ request_error_of judgement
 
   module _ {F : Type 0} (may_open : List ℕ → F → Type 0) (may_refuse : List ℕ → Unopened → Type 0)
-      (remaining : F → Option (List ℕ)) (options : SearchOptions) where
-    -- the file at the path was judged
-    pub record AddsFile (path : List ℕ) (old new : C) (error : Option RequestError) : Type 0 where
+      (remaining : F → Option (List ℕ)) (options : SearchOptions) (prices : Prices) where
+    -- the file at the path was judged, and so many of its prices were rounded
+    pub record AddsFile (path : List ℕ) (old new : C) (rounded : ℕ) (error : Option RequestError) : Type 0 where
       pub judgement : Judgement
-      pub judges : Judges may_open may_refuse remaining options (path, judgement)
+      pub judges : JudgesAs may_open may_refuse remaining options prices path rounded judgement
       pub adds : AddsJudgement path judgement old new
       pub is_error : error ≡ request_error_of judgement
 
@@ -50,9 +82,11 @@ module _ {C : Type 0} (Has : C → List (List ℕ × Judgement) → Type 0) wher
     pub record AddsPath {E : Type 0} (messages : E → Option (List ℕ)) (reporting : Reporting) (count number : ℕ)
         (path : List ℕ) (old new : C) (err err_after : Watched E) (status : ℕ) : Type 0 where
       pub judgement : Judgement
-      pub judges : Judges may_open may_refuse remaining options (path, judgement)
+      pub rounded : ℕ
+      pub judges : JudgesAs may_open may_refuse remaining options prices path rounded judgement
       pub adds : AddsJudgement path judgement old new
-      pub reports : ReportsAll messages (lines_of_path reporting count number (path, judgement)) err err_after
+      pub reports : ReportsAll messages
+          (lines_on reporting count number path rounded (request_error_of judgement)) err err_after
       pub is_status : status ≡ status_of_judgement judgement
 
     abbrev pub AddsPathAs : {E : Type 0} → (E → Option (List ℕ)) → Reporting → ℕ → ℕ → List ℕ → C → C → Watched E
@@ -64,11 +98,11 @@ module _ {C : Type 0} (Has : C → List (List ℕ × Judgement) → Type 0) wher
     -- so far
     pub record HasJudged {E : Type 0} (messages : E → Option (List ℕ)) (reporting : Reporting) (count : ℕ)
         (paths : List (List ℕ)) (kept : C) (err err_after : Watched E) (greatest : ℕ) : Type 0 where
-      pub judgements : List (List ℕ × Judgement)
-      pub judges : JudgesPaths may_open may_refuse remaining messages options reporting count paths err err_after
-          judgements
-      pub has : Has kept judgements
-      pub is_greatest : greatest ≡ greatest_status judgements
+      pub judged : List JudgedPath
+      pub judges : JudgesPaths may_open may_refuse remaining messages options prices reporting count paths err err_after
+          judged
+      pub has : Has kept (map judgement_at judged)
+      pub is_greatest : greatest ≡ greatest_status (map judgement_at judged)
 
     -- the files at all paths, or, when memory is refused, those at the first of them
     abbrev pub JudgesAllAs : {E : Type 0} → (E → Option (List ℕ)) → List
@@ -77,7 +111,10 @@ module _ {C : Type 0} (Has : C → List (List ℕ × Judgement) → Type 0) wher
     JudgesAllAs messages paths reporting kept err err_after (Ok greatest) =
         HasJudged messages reporting (length paths) paths kept err err_after greatest
     JudgesAllAs messages paths reporting kept err err_after (Err e) =
-        BeginsPaths may_open may_refuse remaining messages options reporting paths err err_after
+        BeginsPaths may_open may_refuse remaining messages options prices reporting paths err err_after
+
+abbrev pub AddsRefused : List ℕ → PlainFile → CanonFault → Groups → Groups → Type 0
+AddsRefused path file fault old new = AddsRefusedTo KeepsGroups path file fault old new
 
 -- all paths were opened, or, when memory is refused, the first of them
 abbrev pub OpensAllAs : {S H : Type 0} → (S → H) → (S → Option (List (List ℕ))) → List (List ℕ) → S → S

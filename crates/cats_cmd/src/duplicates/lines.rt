@@ -1,6 +1,6 @@
 //! The text that `cats duplicates` prints.
 
-ghost use Rattle.std.specs.Prelude.{◌≡◌, ◌<◌, ◌++◌, [], length, map, replicate, All, IfOk, OnOk};
+ghost use Rattle.std.specs.Prelude.{◌≡◌, ◌<◌, ◌++◌, [], fold, length, map, replicate, All, IfOk, OnOk};
 ghost use Rattle.cats_cmd.specs.DuplicateTexts.{
   duplicates_text,
   found_paths,
@@ -14,24 +14,42 @@ use crate::escaping::{push_end, push_path};
 use crate::paths::Ending;
 use std::alloc::{AllocError, Global};
 
-/// For each auction that two or more of the files are, or with `all` for each auction, their paths, each on a line, and an
-/// empty line between two auctions. If each path ends with NUL, one more NUL is in the place of the empty line. With each
-/// path is given the place of the first file of its auction.
+/// For each auction that two or more of the judged files are, or with `all` for each auction, their paths, each on a line,
+/// and an empty line between two auctions. Then the same of the heavy files, but never of one alone. If each path ends with
+/// NUL, one more NUL is in the place of the empty line. With each path is given the place of the first file of its group.
 pub(super) fn duplicates_text(
     alloc: Global,
-    found: &[(Vec<u8>, usize)],
+    judged: &[(Vec<u8>, usize)],
+    heavy: &[(Vec<u8>, usize)],
     ending: Ending,
     all: bool,
 ) -> Result<Vec<u8>, AllocError>
-    requires { All (λ f. f.1 < length found.now) found.now }
-    ensures { IfOk result (λ text. text.items ≡ duplicates_text ending all (found_paths found.now)) }
+    requires judged { All (λ f. f.1 < length judged.now) judged.now }
+    requires heavy { All (λ f. f.1 < length heavy.now) heavy.now }
+    ensures { IfOk result (λ text. text.items
+        ≡ duplicates_text ending all (found_paths judged.now) (found_paths heavy.now)) }
 {
-    let groups = group_by_place(alloc, found)?;
+    let judged = group_by_place(alloc, judged)?;
+    let heavy = group_by_place(alloc, heavy)?;
     let mut text = Vec::new(alloc);
-    for group in &groups {
-        push_group(&mut text, group.as_slice(), ending, all)?;
-    }
+    push_groups(&mut text, judged.as_slice(), ending, all)?;
+    push_groups(&mut text, heavy.as_slice(), ending, false)?;
     Ok(text)
+}
+
+/// Puts each group behind the text, if it is printed.
+fn push_groups(
+    text: &mut Vec<u8>,
+    groups: &[Vec<&[u8]>],
+    ending: Ending,
+    all: bool,
+) -> Result<(), AllocError>
+    ensures { OnOk result (text.new.items ≡ fold (with_group ending all) text.old.items (plain_groups groups.now)) }
+{
+    for group in groups {
+        push_group(text, group.as_slice(), ending, all)?;
+    }
+    Ok(())
 }
 
 /// Puts the lines of a group behind the text, if it is printed, with an empty line, or one more NUL, between them.

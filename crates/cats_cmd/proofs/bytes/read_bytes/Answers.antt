@@ -1,5 +1,5 @@
-use Rattle.std.proofs.Common.{arith, ◌<◌, length, refl, ◌∙◌}
-use Rattle.cats_cmd.proofs.Rounding.{bytes_wanted, no_more, not_at_the_end, at_the_end, too_many}
+use Rattle.std.proofs.Common.{arith, ◌<◌, length, refl, ◌∙◌, inl, inr}
+use Rattle.cats_cmd.proofs.ReadingBytes.{bytes_wanted, no_more, not_at_the_end, at_the_end, too_many}
 use Rattle.cats_cmd.proofs.bytes.read_bytes.Goals as goal
 
 pub returns-in-Ok-eq0 : goal.returns-in-Ok-eq0
@@ -19,16 +19,19 @@ returns-in-Ok-eq0 g c =
 pub returns-then-count-len : goal.returns-then-count-len
 returns-then-count-len g c =
     rw c.whole_fault.ensures
-    (too_many g.R.Read.remaining c.args.input.now c.loop-text.input c.read.new.self c.loop-text.text.items _ c.in-Ok.count c.loop-text.invariant.came
+    (inl (too_many g.R.Read.remaining c.args.input.now c.loop-text.input c.read.new.self c.loop-text.text.items _ c.in-Ok.count c.loop-text.invariant.came
     c.in-Ok.ensures.bytes.0 c.in-Ok.ensures.bound.1
-    (omega (arith, c.if-count-len.true, c.len.ensures, c.loop-text.invariant.within)))
+    (omega (arith, c.if-count-len.true, c.len.ensures, c.loop-text.invariant.within))))
 
 pub returns-in-Err : goal.returns-in-Err
-returns-in-Err g c = rw c.whole_fault-in-Err.ensures (refl, c.in-Err.ensures.failed)
+returns-in-Err g c = rw c.whole_fault-in-Err.ensures (inl (refl, c.in-Err.ensures.failed))
 
-pub returns-in_err-extend_from_slice-in-Ok : goal.returns-in_err-extend_from_slice-in-Ok
-returns-in_err-extend_from_slice-in-Ok g c =
-    bytes_wanted g.R.Read.remaining c.args.input.now c.loop-text.input c.read.new.self c.loop-text.text.items _ c.in-Ok.count c.loop-text.invariant.came
-    c.in-Ok.ensures.bytes.0 c.in-Ok.ensures.bound.1 c.in-Ok.count-test.1
-    (omega (arith, c.if-count-len.false, c.len.ensures, c.loop-text.invariant.within)) c.in-Ok.ensures.failed
-    (c.in-Ok.ensures.ended ∙ not_at_the_end _ c.in-Ok.count c.read.new.piece c.loop-text.invariant.fresh c.in-Ok.count-test.1) _ c.from_residual.ensures.1
+pub returns-then-is_err : goal.returns-then-is_err
+returns-then-is_err g c =
+    inr (
+      c.whole_fault-then-is_err.ensures,
+      bytes_wanted g.R.Read.remaining c.args.input.now c.loop-text.input c.read.new.self c.loop-text.text.items _ c.in-Ok.count
+          c.loop-text.invariant.came c.in-Ok.ensures.bytes.0 c.in-Ok.ensures.bound.1 c.in-Ok.count-test.1
+          (omega (arith, c.if-count-len.false, c.len.ensures, c.loop-text.invariant.within)) c.in-Ok.ensures.failed
+          (c.in-Ok.ensures.ended ∙ not_at_the_end _ c.in-Ok.count c.read.new.piece c.loop-text.invariant.fresh c.in-Ok.count-test.1),
+    )

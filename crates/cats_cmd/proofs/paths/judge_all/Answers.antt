@@ -8,20 +8,20 @@ abbrev nowhere : Bor (List ℕ)
 nowhere = record { ref_ptr = (0, 0); now = [] }
 
 pub loop-number-init : goal.loop-number-init
-loop-number-init g c = record { judged = none_judged _ _ _ _ _ _ _ _ _ _ c.requires; opens = opens_none _ _ _ }
+loop-number-init g c = record { judged = none_judged _ _ _ _ _ _ _ _ _ _ _ c.requires; opens = opens_none _ _ _ }
 
 pub loop-number-preserved : goal.loop-number-preserved
 loop-number-preserved g c = record {
-  judged = path_more _ _ _ _ _ _ _ c.args.paths.now _ c.loop-number.number _ _ _ c.loop-number.invariant.judged nowhere c.loop-number-test.true _
+  judged = path_more _ _ _ _ _ _ _ _ c.args.paths.now _ c.loop-number.number _ _ _ c.loop-number.invariant.judged nowhere c.loop-number-test.true _
       c.in_ok-status.status _ _
-      (path_in _ g.S.Source.may_open g.S.Source.may_refuse _ _ _ _ _ _ _ _ _ _ _ _ _ _ c.loop-number.invariant.opens.stays
+      (path_in _ g.S.Source.may_open g.S.Source.may_refuse _ _ _ _ _ _ _ _ _ _ _ _ _ _ _ c.loop-number.invariant.opens.stays
       c.in_ok-status.ensures.adds) c.max-greatest.ensures;
   opens = opens_next _ _ _ _ _ c.args.paths.now c.loop-number.number nowhere c.loop-number-test.true c.loop-number.invariant.opens c.judge_path.ensures.opens;
 }
 
 pub returns-in_err-status-clause-judges : goal.returns-in_err-status-clause-judges
 returns-in_err-status-clause-judges g c =
-    first_judged _ _ _ _ _ _ _ c.args.paths.now _ c.loop-number.number _ _ _ c.loop-number.invariant.judged _ _ c.in_err-status.ensures.adds _
+    first_judged _ _ _ _ _ _ _ _ c.args.paths.now _ c.loop-number.number _ _ _ c.loop-number.invariant.judged _ _ c.in_err-status.ensures.adds _
     c.from_residual.ensures.0
 
 pub returns-in_err-status-clause-opens : goal.returns-in_err-status-clause-opens
@@ -31,7 +31,7 @@ returns-in_err-status-clause-opens g c =
 
 pub returns-clause-judges : goal.returns-clause-judges
 returns-clause-judges g c =
-    all_judged _ _ _ _ _ _ _ c.args.paths.now _ c.loop-number.number _ _ _ c.loop-number.invariant.judged (omega (arith, c.loop-number-test.false))
+    all_judged _ _ _ _ _ _ _ _ c.args.paths.now _ c.loop-number.number _ _ _ c.loop-number.invariant.judged (omega (arith, c.loop-number-test.false))
 
 pub returns-clause-opens : goal.returns-clause-opens
 returns-clause-opens g c =

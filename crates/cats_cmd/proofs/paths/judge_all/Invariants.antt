@@ -7,7 +7,7 @@ use Rattle.cats_cmd.proofs.paths.judge_all.Given as goal
 abbrev pub invariant-loop-number : goal.invariant-loop-number
 invariant-loop-number g l = record {
   judged : HasJudged (g.C.Collection.has l.many.ending) (g.S.Source.may_open (g.S.Source.content_of l.initial.source))
-      (g.S.Source.may_refuse (g.S.Source.content_of l.initial.source)) g.S.Stream.Read.remaining l.many.options
+      (g.S.Source.may_refuse (g.S.Source.content_of l.initial.source)) g.S.Stream.Read.remaining l.many.options l.many.prices
       g.E.Write.contents (record { refusals = g.C.Collection.refusals; progress = l.many.progress }) (length l.paths)
       (map (λ path. path.now) (take l.number l.paths)) l.collection l.initial.err l.err l.greatest;
   opens : Opens g.S.Source.content_of g.S.Source.opened l.initial.source l.source (openable (map (λ path. path.now) (take l.number l.paths)));

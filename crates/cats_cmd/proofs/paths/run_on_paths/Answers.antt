@@ -1,5 +1,6 @@
-use Rattle.std.proofs.Common.{inl}
+use Rattle.std.proofs.Common.{inl, map}
 use Rattle.cats_cmd.proofs.Opening.{first_of_all, opens_refused}
+use Rattle.cats_cmd.specs.Paths.{judgement_at}
 use Rattle.cats_cmd.proofs.RunsOfPaths.{text_refused, paths_printed}
 use Rattle.cats_cmd.proofs.paths.run_on_paths.Goals as goal
 
@@ -8,7 +9,7 @@ returns-in_err-greatest-clause-opens g c = opens_refused _ _ _ _ _ c.in_err-grea
 
 pub returns-in_err-text-clause-runs : goal.returns-in_err-text-clause-runs
 returns-in_err-text-clause-runs g c =
-    text_refused _ _ _ _ _ _ _ _ _ _ _ _ _ _ c.in_ok-greatest.ensures.judges _ _ c.from_residual-in_err-text.ensures.1
+    text_refused _ _ _ _ _ _ _ _ _ _ _ _ _ _ _ c.in_ok-greatest.ensures.judges _ _ c.from_residual-in_err-text.ensures.1
 
 pub returns-in_err-text-clause-opens : goal.returns-in_err-text-clause-opens
 returns-in_err-text-clause-opens g c =
@@ -16,8 +17,9 @@ returns-in_err-text-clause-opens g c =
 
 pub returns-clause-runs : goal.returns-clause-runs
 returns-clause-runs g c =
-    paths_printed _ _ _ _ _ _ _ _ _ _ _ _ _ _ c.in_ok-greatest.ensures.judges _ _ c.as_slice.result.now
-    (rw c.as_slice.ensures.value (c.in_ok-text.ensures c.in_ok-greatest.ensures.judges.judgements c.in_ok-greatest.ensures.judges.has)) _ c.send_text.ensures
+    paths_printed _ _ _ _ _ _ _ _ _ _ _ _ _ _ _ c.in_ok-greatest.ensures.judges _ _ c.as_slice.result.now
+    (rw c.as_slice.ensures.value (c.in_ok-text.ensures (map judgement_at c.in_ok-greatest.ensures.judges.judged) c.in_ok-greatest.ensures.judges.has))
+    _ c.send_text.ensures
 
 pub returns-clause-opens : goal.returns-clause-opens
 returns-clause-opens g c = inl c.in_ok-greatest.ensures.opens

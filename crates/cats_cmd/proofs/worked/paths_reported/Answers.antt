@@ -11,6 +11,10 @@ pub returns-clause-progress : goal.returns-clause-progress
 unfolding digits encode_utf8
 returns-clause-progress c = refl
 
+pub returns-clause-rounded : goal.returns-clause-rounded
+unfolding digits encode_utf8
+returns-clause-rounded c = λ goods are. rw are refl
+
 pub returns-clause-counted : goal.returns-clause-counted
 unfolding digits encode_utf8
 returns-clause-counted c = refl

@@ -1,15 +1,24 @@
-use Rattle.cats_cmd.specs.DuplicateTexts.{found_paths}
-use Rattle.cats_cmd.proofs.Judging.{groups_judged, groups_refused}
+use Rattle.std.proofs.Common.{refl, rules, ap}
+use Rattle.canon.specs.FirstPlaces.{TextIndex}
+use Rattle.cats_cmd.proofs.Judging.{groups_judged, groups_unmade, groups_unread}
 use Rattle.cats_cmd.proofs.duplicates.GroupsCollection.add.Goals as goal
 
-pub returns-in_ok-push-in-Ok : goal.returns-in_ok-push-in-Ok
-returns-in_ok-push-in-Ok g c =
-    groups_judged g.R.Read.remaining c.args.many.options c.args.input.now c.add_from.new.input _ _ _ c.args.self.now.index c.add_from.new.self
-    c.args.self.now.found.items c.push.new.self.items c.args.path.now c.in_ok-from_slice-in-Ok.field-0 c.in-Ok.place
-    c.in_ok-from_slice-in-Ok.ensures.items (λ js h. h) (λ js h. h) c.in-Ok.ensures c.in_ok-push-in-Ok.ensures.items
+pub returns-in-Ok-add : goal.returns-in-Ok-add
+returns-in-Ok-add g c =
+    groups_judged g.I.Input.gives g.I.Input.refuses c.args.many.options c.args.input.now c.read_file.new.self c.args.self.now _ c.args.path.now
+    c.in_ok-path-in-Ok-add.path c.in-Ok-add.place c.in_ok-path-in-Ok-add.ensures.items refl c.in-Ok.file (search rules) c.in-Ok.ensures.answer
+    c.in-Ok-add.ensures.added c.in-Ok-add.ensures.within_limits c.in_ok-push-in-Ok-add.ensures.items
+
+pub returns : goal.returns
+returns g c =
+    rw c.name_bid-fault.ensures
+    (groups_unmade g.I.Input.gives g.I.Input.refuses c.args.many.options c.args.input.now c.read_file.new.self c.args.self.now _ _ c.args.path.now
+    (ap (λ (index : TextIndex). record { judged = record { index = index; found = c.args.self.now.judged.found }; heavy = c.args.self.now.heavy })
+    c.in-Err-add.ensures.unchanged)
+    c.in-Ok.file c.in-Ok.ensures.answer c.in-Err-add.fault c.in-Err-add.ensures.refused c.in_ok-add_refused-in-Err-add.ensures)
 
 pub returns-in-Err : goal.returns-in-Err
 returns-in-Err g c =
-    rw c.from.ensures
-    (groups_refused g.R.Read.remaining c.args.many.options c.args.input.now c.add_from.new.input _ _ _ c.args.self.now.index c.add_from.new.self
-    (found_paths c.args.self.now.found.items) c.args.path.now c.in-Err.fault (λ js h. h) (λ js h. h) c.in-Err.ensures)
+    rw (c.from-in-Err.ensures, c.from.ensures)
+    (groups_unread g.I.Input.gives g.I.Input.refuses c.args.many.options c.args.input.now c.read_file.new.self c.args.self.now c.args.path.now
+    c.in-Err.fault c.in-Err.ensures.memory c.in-Err.ensures.answer)

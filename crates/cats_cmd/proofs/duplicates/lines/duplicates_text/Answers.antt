@@ -1,18 +1,15 @@
-use Rattle.std.proofs.Common.{map, ap, ◌∙◌}
-use Rattle.cats_cmd.specs.DuplicateTexts.{found_paths, with_group}
-use Rattle.cats_cmd.proofs.Grouping.{group_printed, all_groups_printed}
+use Rattle.std.proofs.Common.{ℕ, false, List, fold, ap, ap₂, ◌∙◌}
+use Rattle.cats_cmd.specs.DuplicateTexts.{found_paths, plain_groups, with_group}
+use Rattle.cats_cmd.proofs.Grouping.{both_printed}
 use Rattle.cats_cmd.proofs.duplicates.lines.duplicates_text.Goals as goal
-
-pub loop-group-preserved : goal.loop-group-preserved
-loop-group-preserved c =
-    group_printed c.args.ending c.args.all c.deref-group-items.result.now c.loop-group.group-index c.group-item.result c.loop-group.text.items
-    c.push_group.new.text.items c.loop-group-test.true c.group-item.is c.loop-group.invariant
-    (c.in_ok-push_group.ensures ∙ ap (λ paths. with_group c.args.ending c.args.all c.loop-group.text.items (map (λ path. path.now) paths))
-    c.as_slice.ensures.value)
 
 pub returns : goal.returns
 returns c =
-    all_groups_printed c.args.ending c.args.all c.deref-group-items.result.now c.in_ok-groups.groups.items c.loop-group.group-index c.loop-group.text.items
-    (found_paths c.args.found.now)
-    c.loop-group.invariant c.loop-group-test.false
-    c.deref-group-items.ensures.value c.in_ok-groups.ensures
+    both_printed c.args.ending c.args.all (found_paths c.args.judged.now) (found_paths c.args.heavy.now) c.push_groups.new.text.items
+    c.push_groups-2.new.text.items
+    (c.in_ok-push_groups.ensures
+    ∙ ap₂ (λ (text : List ℕ) (groups : List (List (List ℕ))). fold (with_group c.args.ending c.args.all) text groups) c.new-text.ensures.items
+    (ap plain_groups c.as_slice.ensures.value ∙ c.in_ok-judged.ensures))
+    (c.in_ok-push_groups-2.ensures
+    ∙ ap (λ (groups : List (List (List ℕ))). fold (with_group c.args.ending false) c.push_groups.new.text.items groups)
+    (ap plain_groups c.as_slice-2.ensures.value ∙ c.in_ok-heavy.ensures))

@@ -1,0 +1,79 @@
+-- The files that paths stand for: each path adds its own behind those of the paths before it.
+use Rattle.std.proofs.Common.{◌≡◌, inl, inr, ℕ, ◌+◌, ◌<◌, length, get_or, take, List, [], ◌∷◌, ◌++◌, map, refl, sym, ap, ◌∙◌, subst, true, false, Option}
+use Rattle.std.proofs.Common.{Some, None, Result, Ok, Err, Vec, append-nil}
+use Rattle.std.specs.Borrow.{Bor}
+use Rattle.std.specs.Global.{Global}
+use Rattle.std.specs.Prelude.{IfOk}
+use Rattle.std.specs.declared.alloc.AllocError.{AllocError}
+use Rattle.std.specs.List.{flat_map}
+use Rattle.std.specs.Str.{IsUtf8, is_utf8}
+use Rattle.std.proofs.lemmas.Bool.{cases_Bool}
+use Rattle.std.proofs.Common.{⊎_elim}
+use Rattle.std.proofs.lemmas.List.{map-append, map_push}
+use Rattle.std.proofs.lemmas.List.Elements.{All-nil, All-push}
+use Rattle.std.proofs.lemmas.Grind.{flat_map-append}
+use Rattle.std.proofs.lemmas.Str.{IsUtf8-from_is_utf8, is_utf8-from_IsUtf8}
+use Rattle.cats_cmd.proofs.JudgingPaths.{one_more_path}
+use Rattle.cats_cmd.specs.Folders.{Finds, FindsAt, FoundAt, StandFor, files_at, files_of, found_of, paths_of}
+
+module _ (may_find : List ℕ → Option (List (List ℕ)) → Type 0) where
+  -- what is found at a path that is text
+  pub found_at_text : (path text : List ℕ) → text ≡ path → IsUtf8 path → (answer : Result (Option (Vec (Vec ℕ Global) Global)) AllocError)
+      → IfOk answer (λ found. Finds may_find text (found_of found)) → IfOk answer (λ found. FindsAt may_find path (found_of found))
+  found_at_text path text same valid (Ok None) finds = inl (subst (λ (p : List ℕ). may_find p None) same finds)
+  found_at_text path text same valid (Ok (Some files)) finds =
+      subst (λ (p : List ℕ). FindsAt may_find p (Some (paths_of files.items))) same
+      (is_utf8-from_IsUtf8 text (subst IsUtf8 (sym same) valid), finds.0, finds.1)
+  found_at_text path text same valid (Err e) finds = tt
+
+  -- nothing is looked for at another
+  pub found_at_none : (path : List ℕ) → (IsUtf8 path → ⊥) → FindsAt may_find path None
+  found_at_none path broken = ⊎_elim
+      (λ (e : is_utf8 path ≡ true). absurd (broken (IsUtf8-from_is_utf8 path e)))
+      (λ (e : is_utf8 path ≡ false). inr e)
+      (cases_Bool (is_utf8 path))
+
+  pub no_paths : StandFor may_find [] []
+  no_paths = record { found = []; of_paths = refl; finds = All-nil (λ (f : FoundAt). FindsAt may_find f.path f.found); is = refl }
+
+  one_more : (paths files : List (List ℕ)) (path : List ℕ) (found : Option (List (List ℕ))) → StandFor may_find paths files
+      → FindsAt may_find path found → StandFor may_find (paths ++ path ∷ []) (files ++ files_of path found)
+  one_more paths files path found so_far finds =
+      let at : FoundAt = record { path = path; found = found } in
+      record {
+        found = so_far.found ++ at ∷ [];
+        of_paths = map_push (λ (f : FoundAt). f.path) so_far.found at ∙ ap (λ (ps : List (List ℕ)). ps ++ path ∷ []) so_far.of_paths;
+        finds = All-push (λ (f : FoundAt). FindsAt may_find f.path f.found) so_far.found at so_far.finds finds;
+        is = ap (λ (fs : List (List ℕ)). fs ++ files_of path found) so_far.is
+            ∙ ap (λ (fs : List (List ℕ)). flat_map files_at so_far.found ++ fs) (sym (append-nil (files_of path found)))
+            ∙ sym (flat_map-append files_at so_far.found (at ∷ []));
+      }
+
+  -- the files of one more path are kept behind those of the paths before it
+  next_files : (paths : List (Bor (List ℕ))) (i : ℕ) (d : Bor (List ℕ)) → i < length paths → (files mine all : List (Vec ℕ Global))
+      → StandFor may_find (map (λ p. p.now) (take i paths)) (paths_of files) → (found : Option (List (List ℕ)))
+      → FindsAt may_find (get_or paths i d).now found → paths_of mine ≡ files_of (get_or paths i d).now found → all ≡ files ++ mine
+      → StandFor may_find (map (λ p. p.now) (take (i + 1) paths)) (paths_of all)
+  next_files paths i d l files mine all so_far found finds same is =
+      rw (one_more_path paths i d l)
+      (subst (λ (fs : List (List ℕ)). StandFor may_find (map (λ (p : Bor (List ℕ)). p.now) (take i paths) ++ (get_or paths i d).now ∷ []) fs)
+      (ap (λ (fs : List (List ℕ)). paths_of files ++ fs) (sym same)
+      ∙ sym (ap paths_of is ∙ map-append (λ (f : Vec ℕ Global). f.items) files mine))
+      (one_more (map (λ (p : Bor (List ℕ)). p.now) (take i paths)) (paths_of files) (get_or paths i d).now found so_far finds))
+
+  pub next_below : (paths : List (Bor (List ℕ))) (i : ℕ) (d : Bor (List ℕ)) → i < length paths → (files all : List (Vec ℕ Global))
+      → StandFor may_find (map (λ p. p.now) (take i paths)) (paths_of files) → (found : Option (Vec (Vec ℕ Global) Global))
+      → FindsAt may_find (get_or paths i d).now (found_of found) → (below : Vec (Vec ℕ Global) Global) → found ≡ Some below → all ≡ files ++ below.items
+      → StandFor may_find (map (λ p. p.now) (take (i + 1) paths)) (paths_of all)
+  next_below paths i d l files all so_far found finds below some is =
+      next_files paths i d l files below.items all so_far (found_of found) finds
+      (ap (λ (f : Option (Vec (Vec ℕ Global) Global)). files_of (get_or paths i d).now (found_of f)) (sym some)) is
+
+  pub next_itself : (paths : List (Bor (List ℕ))) (i : ℕ) (d : Bor (List ℕ)) → i < length paths → (files all : List (Vec ℕ Global))
+      → StandFor may_find (map (λ p. p.now) (take i paths)) (paths_of files) → (found : Option (Vec (Vec ℕ Global) Global))
+      → FindsAt may_find (get_or paths i d).now (found_of found) → found ≡ None → (itself : Vec ℕ Global) → itself.items ≡ (get_or paths i d).now
+      → all ≡ files ++ itself ∷ [] → StandFor may_find (map (λ p. p.now) (take (i + 1) paths)) (paths_of all)
+  next_itself paths i d l files all so_far found finds none itself same is =
+      next_files paths i d l files (itself ∷ []) all so_far (found_of found) finds
+      (ap (λ (p : List ℕ). p ∷ []) same
+      ∙ ap (λ (f : Option (Vec (Vec ℕ Global) Global)). files_of (get_or paths i d).now (found_of f)) (sym none)) is

@@ -1,0 +1,81 @@
+-- The bytes of a stream: those that came so far, and why they were not all read.
+use Rattle.std.proofs.Common.{◌≡◌, ◌<◌, ◌≤◌, ◌+◌, ℕ, Bool, true, false, ◌||◌, List, [], ◌∷◌, ◌++◌, length, take, refl, sym, ap, ◌∙◌, subst, arith}
+use Rattle.std.proofs.Common.{append-nil, length-append, Option, Ok, ⊎_elim}
+use Rattle.std.specs.Io.KnownBytes.{Consumes}
+use Rattle.std.proofs.KnownBytes.{Consumes-trans}
+use Rattle.std.proofs.lemmas.Bool.{cases_lt, ne_eqb}
+use Rattle.cats_text.specs.Streams.{inner_of, has_ended, has_failed, moved_nothing}
+use Rattle.cats_text.specs.declared.read_fault.Kind.{Kind}
+use Rattle.cats_text.specs.declared.read_fault.Kind.TheVariants.{Device, TooLong}
+use Rattle.cats_text.specs.declared.read_fault.ReadFault.{ReadFault}
+use Rattle.cats_text.specs.declared.limits.TheConstants.{MAX_STREAM}
+use Rattle.cats_text.specs.declared.stream.Watched.{Watched}
+use Rattle.canon.specs.Refusals.{refusal_by_kind, refusal_of}
+use Rattle.canon.specs.declared.canon_fault.CanonFault.{CanonFault}
+use Rattle.canon.specs.declared.canon_fault.CanonFault.TheVariants.{Read, Memory}
+use Rattle.cats_cmd.specs.Inputs.{IsUnreadStream, StopsReading, WantsMemoryForBytes}
+
+-- a read that gave nothing
+pub no_more : (a b c : Option (List ℕ)) (bytes piece : List ℕ) (n : ℕ) → n ≡ 0 → Consumes a b bytes → Consumes b c (take n piece) → Consumes a c bytes
+no_more a b c bytes piece n none came gave =
+    let joined = Consumes-trans a b c bytes [] came (rw none at gave) in rw append-nil at joined
+
+-- a read that gave something
+pub not_at_the_end : (before : Bool) (n : ℕ) (piece : List ℕ) → before ≡ false → (n ≡ 0 → ⊥) → (before || moved_nothing (Ok n) piece) ≡ false
+not_at_the_end before n [] fresh some = rw fresh refl
+not_at_the_end before n (byte ∷ piece) fresh some = rw fresh (ne_eqb n 0 some)
+
+pub at_the_end : (before : Bool) (n : ℕ) (piece : List ℕ) → n ≡ 0 → 0 < length piece → (before || moved_nothing (Ok n) piece) ≡ true
+at_the_end before n [] none not_empty = absurd (omega arith)
+at_the_end before n (byte ∷ piece) none not_empty = grind arith
+
+-- so many bytes came
+pub so_many_bytes : (bytes piece : List ℕ) (n : ℕ) → n ≡ length piece → length (bytes ++ piece) ≡ length bytes + n
+so_many_bytes bytes piece n count = length-append bytes piece ∙ ap (λ (m : ℕ). length bytes + m) (sym count)
+
+module _ {R : Type 0} (remaining : R → Option (List ℕ)) where
+  pub too_many : (old between new : Watched R) (bytes piece : List ℕ) (n : ℕ) → Consumes (remaining (inner_of old)) (remaining (inner_of between)) bytes
+      → Consumes (remaining (inner_of between)) (remaining (inner_of new)) piece → n ≡ length piece → MAX_STREAM < length bytes + n
+      → StopsReading remaining old new 0 TooLong
+  too_many old between new bytes piece n came gave count beyond = (
+    refl,
+    record {
+      bytes = bytes ++ piece;
+      consumes = Consumes-trans (remaining (inner_of old)) (remaining (inner_of between)) (remaining (inner_of new)) bytes piece came gave;
+      beyond = rw (so_many_bytes bytes piece n count) beyond;
+    },
+  )
+
+  -- memory was refused for a piece that came
+  pub bytes_wanted : (old between new : Watched R) (bytes piece : List ℕ) (n : ℕ) → Consumes (remaining (inner_of old)) (remaining (inner_of between)) bytes
+      → Consumes (remaining (inner_of between)) (remaining (inner_of new)) piece → n ≡ length piece → (n ≡ 0 → ⊥) → length bytes + n ≤ MAX_STREAM
+      → has_failed new ≡ false → has_ended new ≡ false → WantsMemoryForBytes remaining old new
+  bytes_wanted old between new bytes piece n came gave count some within works unended =
+      let all : length (bytes ++ piece) ≡ length bytes + n = so_many_bytes bytes piece n count in
+      record {
+        bytes = bytes ++ piece;
+        consumes = Consumes-trans (remaining (inner_of old)) (remaining (inner_of between)) (remaining (inner_of new)) bytes piece came gave;
+        some = ⊎_elim
+            (λ (p : 0 < n). omega (arith, all, p))
+            (λ (q : n ≤ 0). absurd (some (omega (arith, q))))
+            (cases_lt 0 n);
+        within = omega (arith, all, within);
+        works = works;
+        unended = unended;
+      }
+
+  -- why the bytes were not read, as the refusal of a file
+  module _ (old new : Watched R) (P : CanonFault → Type 0)
+      (stopped : (fault : ReadFault) → StopsReading remaining old new fault.line fault.kind → P (Read fault))
+      (memory : WantsMemoryForBytes remaining old new → P Memory) where
+    stopped_by : (fault : ReadFault) (kind : Kind) → kind ≡ fault.kind → StopsReading remaining old new fault.line kind → P (refusal_by_kind fault kind)
+    stopped_by fault Device is stops = stopped fault (subst (λ (k : Kind). StopsReading remaining old new fault.line k) is stops)
+    stopped_by fault TooLong is stops = stopped fault (subst (λ (k : Kind). StopsReading remaining old new fault.line k) is stops)
+    stopped_by fault kind is stops = absurd stops
+
+    pub unread_stream : (fault : ReadFault) → IsUnreadStream remaining old new fault → P (refusal_of fault)
+    unread_stream fault unread =
+        ⊎_elim
+        (λ (stops : StopsReading remaining old new fault.line fault.kind). stopped_by fault fault.kind refl stops)
+        (λ wants. subst (λ (f : ReadFault). P (refusal_of f)) (sym wants.0) (memory wants.1))
+        unread

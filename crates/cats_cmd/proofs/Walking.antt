@@ -1,0 +1,69 @@
+-- A walk through folders. What is added to it begins as the folder's path that it was found in, so all of it stays below the first folder.
+use Rattle.std.proofs.Common.{◌≡◌, ℕ, List, [], ◌∷◌, ◌++◌, refl, sym, ap, ◌∙◌, subst, true, false, cond, append-nil, Vec, length, arith}
+use Rattle.std.specs.Global.{Global}
+use Rattle.std.specs.Prelude.{All, IsPermutation}
+use Rattle.std.specs.List.{ends_with}
+use Rattle.std.specs.List.Sorted.{IsSorted}
+use Rattle.std.specs.Ordering.{is_lt, nat_cmp}
+use Rattle.std.specs.Cmp.Lexicographic.{slice_cmp}
+use Rattle.std.specs.Prelude.{nat_eq}
+use Rattle.std.proofs.lemmas.List.{append_assoc, get_or_append_left, length-append}
+use Rattle.std.proofs.lemmas.List.Elements.{All-append, All-map, All-nil, All-push}
+use Rattle.std.proofs.lemmas.List.Sorted.{All-permutation}
+use Rattle.std.proofs.Math.Seq.{get_or-append_seam}
+use Rattle.canon.specs.Lemmas.Renaming.{map-sorted}
+use Rattle.cats_cmd.specs.Folders.{BeginsWith, IsBelow, ListsFolder, paths_of, with_slash}
+use Rattle.cats_cmd.specs.Internal.Walking.{WalksBelow}
+use Rattle.cats_cmd.specs.declared.folder.Walk.{Walk}
+
+abbrev pub Begins : List ℕ → Vec ℕ Global → Type 0
+Begins start path = BeginsWith start path.items
+
+pub begins_more : (start path more : List ℕ) → BeginsWith start path → (longer : List ℕ) → longer ≡ path ++ more → BeginsWith start longer
+begins_more start path more begins longer is =
+    (begins.0 ++ more, is ∙ ap (λ (p : List ℕ). p ++ more) begins.1 ∙ append_assoc start begins.0 more)
+
+pub begins_itself : (path : List ℕ) → BeginsWith path path
+begins_itself path = ([], sym (append-nil path))
+
+-- a slash behind a path, unless it has one
+slash_of : (path : List ℕ) → BeginsWith path (with_slash path)
+slash_of path = elim (ends_with nat_eq path (47 ∷ [])) as (λ b. BeginsWith path (cond b path (path ++ 47 ∷ []))) [
+  | true ↦ begins_itself path
+  | false ↦ (47 ∷ [], refl)
+]
+
+pub slash_begins : (start path longer : List ℕ) → longer ≡ with_slash path → BeginsWith start path → BeginsWith start longer
+slash_begins start path longer is begins = begins_more start path (slash_of path).0 begins longer (is ∙ (slash_of path).1)
+
+pub starts_below : (start : List ℕ) (walk : Walk) → walk.folders.items ≡ [] → walk.found.items ≡ [] → WalksBelow start walk
+starts_below start walk folders found = record {
+  folders = subst (All (Begins start)) (sym folders) (All-nil (Begins start));
+  found = subst (All (Begins start)) (sym found) (All-nil (Begins start));
+}
+
+pub all_more : (start : List ℕ) (old new : List (Vec ℕ Global)) (path : Vec ℕ Global) → new ≡ old ++ path ∷ [] → Begins start path
+    → All (λ p. BeginsWith start p.items) old → All (λ p. BeginsWith start p.items) new
+all_more start old new path is begins all = subst (All (Begins start)) (sym is) (All-push (Begins start) old path all begins)
+
+-- the last one is taken away
+pub all_fewer : (start : List ℕ) (old new : List (Vec ℕ Global)) (path : Vec ℕ Global) → old ≡ new ++ path ∷ []
+    → All (λ p. BeginsWith start p.items) old → All (λ p. BeginsWith start p.items) new × BeginsWith start path.items
+all_fewer start old new path is all =
+    let both = subst (All (Begins start)) is all in (
+      λ k d l. subst (Begins start) (get_or_append_left new (path ∷ []) d k l)
+          (both k d (rw (length-append new (path ∷ [])) (omega (arith, l)))),
+      subst (Begins start) (get_or-append_seam new path [] path)
+          (both (length new) path (rw (length-append new (path ∷ [])) (omega arith))),
+    )
+
+-- the paths that a walk ends with
+pub lists_folder : (folder : List ℕ) (found folders all sorted : List (Vec ℕ Global)) → All (λ p. IsBelow folder p.items) found
+    → All (λ p. IsBelow folder p.items) folders → all ≡ found ++ folders → IsPermutation all sorted
+    → IsSorted (λ (p q : Vec ℕ Global). slice_cmp nat_cmp p.items q.items) sorted → ListsFolder folder (paths_of sorted)
+lists_folder folder found folders all sorted files more is moves in_order = record {
+  below = All-map (IsBelow folder) (λ (p : Vec ℕ Global). p.items) sorted
+      (All-permutation (Begins (with_slash folder)) all sorted moves
+      (subst (All (Begins (with_slash folder))) (sym is) (All-append (Begins (with_slash folder)) found folders files more)));
+  sorted = map-sorted (λ (p : Vec ℕ Global). p.items) (λ (p q : List ℕ). is_lt (slice_cmp nat_cmp p q)) sorted in_order;
+}

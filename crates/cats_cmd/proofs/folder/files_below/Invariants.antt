@@ -1,0 +1,6 @@
+use Rattle.cats_cmd.specs.Folders.{with_slash}
+use Rattle.cats_cmd.specs.Internal.Walking.{WalksBelow}
+use Rattle.cats_cmd.proofs.folder.files_below.Given as goal
+
+abbrev pub invariant-loop : goal.invariant-loop
+invariant-loop g l = WalksBelow (with_slash l.fn.path) l.walk

@@ -1,0 +1,28 @@
+use Rattle.std.proofs.Common.{◌≡◌, ℕ, zero, suc, List, [], ◌∷◌, get_or, ap, arith, refl, true, false}
+use Rattle.std.specs.Cmp.Lexicographic.{slice_cmp}
+use Rattle.std.specs.List.Sorted.{IsSorted}
+use Rattle.std.specs.Ordering.{is_lt, nat_cmp}
+use Rattle.std.specs.Prelude.{codes}
+use Rattle.std.proofs.lemmas.List.Elements.{All-nil, All-push}
+use Rattle.cats_cmd.specs.Folders.{IsBelow}
+use Rattle.cats_cmd.proofs.worked.folders_found.Goals as goal
+
+in_order : (x y : List ℕ) → is_lt (slice_cmp nat_cmp y x) ≡ false → IsSorted (slice_cmp nat_cmp) (x ∷ y ∷ [])
+in_order x y least zero d low high = least
+in_order x y least (suc k) d low high = let no : ⊥ = omega (arith, high) in absurd no
+
+pub returns-clause-ordered : goal.returns-clause-ordered
+returns-clause-ordered c =
+    let below = IsBelow (codes "f") in
+    record {
+      below = All-push below (codes "f/a.b" ∷ []) (codes "f/a/b") (All-push below [] (codes "f/a.b") (All-nil below) (codes "a.b", refl)) (codes "a/b", refl);
+      sorted = in_order (codes "f/a.b") (codes "f/a/b") refl;
+    }
+
+pub returns-clause-unordered : goal.returns-clause-unordered
+returns-clause-unordered c = λ lists. let less : true ≡ false = lists.sorted 0 [] (omega arith) (omega arith) in absurd (cc)
+
+pub returns-clause-elsewhere : goal.returns-clause-elsewhere
+returns-clause-elsewhere c = λ lists.
+    let same : 103 ≡ 102 = ap (λ (path : List ℕ). get_or path 0 0) (lists.below 0 [] (omega arith)).1 in
+    let no : ⊥ = omega (arith, same) in absurd no

@@ -1,0 +1,87 @@
+-- A stream of which a bid file is read, with its prices as they are written, or rounded.
+use Rattle.std.specs.Prelude.{◌≡◌, ◌⊎◌, ◌++◌, ◌==◌, ℕ, List, [], ◌∷◌, length, Option, Some, None, codes, decimal}
+use Rattle.std.specs.Prelude.{if◌then◌else◌}
+use Rattle.bid_file.specs.Files.{PlainFile}
+use Rattle.cats_text.specs.Faults.{fault_at, first_fault}
+use Rattle.cats_text.specs.Grammar.{Spells}
+use Rattle.cats_text.specs.declared.read_fault.Kind.TheVariants.{Memory}
+use Rattle.cats_text.specs.declared.read_fault.ReadFault.{ReadFault}
+use Rattle.cats_text.specs.declared.stream.Watched.{Watched}
+use Rattle.command_line.specs.declared.request.Prices.{Prices}
+use Rattle.command_line.specs.declared.request.Prices.TheVariants.{AsWritten, Rounded, RoundedExactly}
+use Rattle.commands.specs.Inputs.{StreamGives, StreamRefuses}
+use Rattle.rounding.specs.Texts.{rounded_prices, rounded_text}
+use Rattle.rounding.specs.declared.replacement.FinePrices.{FinePrices}
+use Rattle.rounding.specs.declared.replacement.FinePrices.TheVariants.{Round, Refuse}
+use Rattle.cats_cmd.specs.Escaping.{escaped}
+use Rattle.cats_cmd.specs.Inputs.{IsOpened, ReadsAll, StopsReading, WantsMemoryForBytes}
+use Rattle.cats_cmd.specs.declared.priced_input.PricedInput.{PricedInput}
+
+-- what becomes of fine prices, if prices are rounded
+abbrev pub fine_prices : Prices → Option FinePrices
+fine_prices AsWritten = None
+fine_prices Rounded = Some Round
+fine_prices RoundedExactly = Some Refuse
+
+-- a stream that was opened at this path, of which nothing was read; the prices of its file are read so
+pub record IsPriced {R : Type 0} (may_open : List ℕ → R → Type 0) (prices : Prices) (path : List ℕ)
+    (input : PricedInput R) : Type 0 where
+  pub opened : IsOpened may_open path input.stream
+  pub fine : input.fine ≡ fine_prices prices
+  pub unread : input.rounded ≡ 0
+
+module _ {R : Type 0} (remaining : R → Option (List ℕ)) where
+  -- ---- the file that was given, and how many of its prices have another value than is written
+
+  pub record GivesAsWritten (old new : PricedInput R) (file : PlainFile) : Type 0 where
+    pub given : StreamGives remaining old.stream new.stream file
+    pub count : new.rounded ≡ 0
+
+  -- the bytes that were read, with their prices rounded, spell the file
+  pub record GivesRounded (fine : FinePrices) (old new : PricedInput R) (file : PlainFile) : Type 0 where
+    pub bytes : List ℕ
+    pub all : ReadsAll remaining old.stream new.stream bytes
+    pub spells : Spells (rounded_text fine bytes) file
+    pub count : new.rounded ≡ length (rounded_prices fine bytes)
+
+  abbrev pub gives_by : Option FinePrices → PricedInput R → PricedInput R → PlainFile → Type 0
+  gives_by None old new file = GivesAsWritten old new file
+  gives_by (Some fine) old new file = GivesRounded fine old new file
+
+  abbrev pub PricedGives : PricedInput R → PricedInput R → PlainFile → Type 0
+  PricedGives old new file = gives_by old.fine old new file
+
+  -- ---- why no file was given
+
+  -- the bytes that were read, with their prices rounded, have this first fault
+  pub record HasRoundedFault (fine : FinePrices) (old new : Watched R) (fault : ReadFault) : Type 0 where
+    pub bytes : List ℕ
+    pub all : ReadsAll remaining old new bytes
+    pub first : first_fault (rounded_text fine bytes) ≡ Some fault
+
+  -- memory is refused for the bytes, or for what is made of all of them
+  pub record WantsMemoryToRead (old new : Watched R) (fault : ReadFault) : Type 0 where
+    pub is : fault ≡ fault_at 0 Memory
+    pub wants : WantsMemoryForBytes remaining old new ⊎ ((bytes : List ℕ) × ReadsAll remaining old new bytes)
+
+  abbrev pub RefusesRounded : FinePrices → Watched R → Watched R → ReadFault → Type 0
+  RefusesRounded fine old new fault = StopsReading remaining old new fault.line fault.kind
+      ⊎ HasRoundedFault fine old new fault ⊎ WantsMemoryToRead old new fault
+
+  abbrev pub refuses_by : Option FinePrices → Watched R → Watched R → ReadFault → Type 0
+  refuses_by None old new fault = StreamRefuses remaining old new fault
+  refuses_by (Some fine) old new fault = RefusesRounded fine old new fault
+
+  pub record PricedRefuses (old new : PricedInput R) (fault : ReadFault) : Type 0 where
+    pub refuses : refuses_by old.fine old.stream new.stream fault
+    pub count : new.rounded ≡ 0
+
+-- ---- what is reported
+
+abbrev pub rounding_line : List ℕ → ℕ → List ℕ
+rounding_line path count = escaped path ++ codes ": " ++ decimal count
+    ++ (if count == 1 then codes " price rounded\n" else codes " prices rounded\n")
+
+-- of a file at this path, how many of its prices were rounded: nothing if none was
+abbrev pub rounding_lines : List ℕ → ℕ → List (List ℕ)
+rounding_lines path count = if count == 0 then [] else rounding_line path count ∷ []

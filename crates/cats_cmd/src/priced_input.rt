@@ -1,0 +1,132 @@
+//! A stream of which a bid file is read, with its prices as they are written, or rounded.
+
+ghost use Rattle.std.specs.Prelude.{◌≡◌, false};
+ghost use Rattle.cats_text.specs.Streams.{has_ended, has_failed};
+ghost use Rattle.cats_cmd.specs.Internal.Roundings.{ReadsRounded};
+ghost use Rattle.cats_cmd.specs.PricedInputs.{fine_prices, rounding_line, rounding_lines};
+ghost use Rattle.cats_cmd.specs.RequestErrors.{Reports, ReportsAll};
+
+use crate::bytes::{read_bytes, whole_fault};
+use crate::lines::{report, report_escaped, report_number};
+use bid_file::PackedFile;
+use cats_text::{Header, Kind, ReadFault, Watched, check, read_packed};
+use command_line::Prices;
+use commands::Input;
+use rounding::{FinePrices, round_prices};
+use std::alloc::{AllocError, Global};
+use std::io::{Read, Write};
+
+/// A stream, and what becomes of the prices of its file.
+#[derive(Drop)]
+pub struct PricedInput<R> {
+    stream: Watched<R>,
+    /// What becomes of fine prices, if prices are rounded.
+    fine: Option<FinePrices>,
+    /// How many prices of the file that was given have another value than is written.
+    rounded: usize,
+}
+
+impl<R: Read> Input for PricedInput<R> {
+    ghost use Rattle.std.specs.Prelude.{◌≡◌, false};
+    ghost use Rattle.cats_text.specs.Streams.{has_ended, has_failed};
+    ghost use Rattle.cats_cmd.specs.PricedInputs.{PricedGives, PricedRefuses};
+
+    ghost is_ready = { λ input. (has_failed input.stream ≡ false) × (has_ended input.stream ≡ false)
+        × (input.rounded ≡ 0) };
+
+    ghost gives = { PricedGives R.remaining };
+
+    ghost refuses = { PricedRefuses R.remaining };
+
+    fn read_file(&mut self, alloc: Global) -> Result<PackedFile, ReadFault> {
+        let Some(fine) = self.fine else {
+            return self.stream.read_file(alloc);
+        };
+        let (text, rounded) = read_rounded(alloc, &mut self.stream, fine)?;
+        let file = read_packed(alloc, text.as_slice())?;
+        self.rounded = rounded;
+        Ok(file)
+    }
+
+    fn read_sizes(&mut self, alloc: Global) -> Result<Header, ReadFault> {
+        let Some(fine) = self.fine else {
+            return self.stream.read_sizes(alloc);
+        };
+        let (text, rounded) = read_rounded(alloc, &mut self.stream, fine)?;
+        let header = check(alloc, text.as_slice())?;
+        self.rounded = rounded;
+        Ok(header)
+    }
+}
+
+impl<R> PricedInput<R> {
+    /// A stream of which nothing was read.
+    pub(crate) fn new(stream: Watched<R>, prices: Prices) -> PricedInput<R>
+        ensures stream { result.stream ≡ stream }
+        ensures fine { result.fine ≡ fine_prices prices }
+        ensures unread { result.rounded ≡ 0 }
+    {
+        PricedInput {
+            stream,
+            fine: fine_prices(prices),
+            rounded: 0,
+        }
+    }
+
+    /// How many prices of the file that was given were rounded.
+    pub(crate) fn rounded(&self) -> usize
+        ensures { result ≡ self.now.rounded }
+    {
+        self.rounded
+    }
+}
+
+/// What becomes of fine prices, if prices are rounded.
+fn fine_prices(prices: Prices) -> Option<FinePrices>
+    ensures { result ≡ fine_prices prices }
+{
+    match prices {
+        Prices::AsWritten => None,
+        Prices::Rounded => Some(FinePrices::Round),
+        Prices::RoundedExactly => Some(FinePrices::Refuse),
+    }
+}
+
+/// Reads all bytes of a stream, and rounds their prices. It answers how many have another value now.
+fn read_rounded<R: Read>(
+    alloc: Global,
+    stream: &mut Watched<R>,
+    fine: FinePrices,
+) -> Result<(Vec<u8>, usize), ReadFault>
+    requires works { has_failed stream.old ≡ false }
+    requires fresh { has_ended stream.old ≡ false }
+    ensures { ReadsRounded R.remaining fine stream.old stream.new result }
+{
+    let bytes = read_bytes(alloc, stream)?;
+    match round_prices(alloc, bytes.as_slice(), fine) {
+        Ok(rounded) => Ok((rounded.text, rounded.prices.len())),
+        Err(AllocError) => Err(whole_fault(Kind::Memory)),
+    }
+}
+
+/// Reports how many prices of the file at this path were rounded, if any was.
+pub(crate) fn report_rounded<E: Write>(path: &[u8], count: usize, err: &mut Watched<E>)
+    ensures { ReportsAll E.contents (rounding_lines path.now count) err.old err.new }
+{
+    if count > 0 {
+        report_rounded_count(path, count, err);
+    }
+}
+
+fn report_rounded_count<E: Write>(path: &[u8], count: usize, err: &mut Watched<E>)
+    ensures { Reports E.contents (rounding_line path.now count) err.old err.new }
+{
+    report_escaped(err, path);
+    report(err, b": ");
+    report_number(err, count as u64);
+    if count == 1 {
+        report(err, b" price rounded\n");
+    } else {
+        report(err, b" prices rounded\n");
+    }
+}
