@@ -7,81 +7,90 @@ use std::process::Abort;
 use std::test::Fail;
 
 /// Command lines, and their requests.
-static REQUESTS: [(&[&str], &str); 26] = [
-    (&["cats", "check", "a"], "Check { file: \"a\" }"),
-    (&["cats", "show", "a"], "Show { file: \"a\" }"),
+static REQUESTS: [(&[&str], &str); 30] = [
+    (
+        &["cats", "check", "a"],
+        "OnFile(FileRequest { file: \"a\", prices: AsWritten, command: Check })",
+    ),
+    (
+        &["cats", "show", "a"],
+        "OnFile(FileRequest { file: \"a\", prices: AsWritten, command: Show })",
+    ),
     (
         &["cats", "value", "a"],
-        "Value { file: \"a\", goods: [], limits: Limits { bound: false, steps: 1000000, total: None } }",
+        "OnFile(FileRequest { file: \"a\", prices: AsWritten, command: Value { goods: [], limits: Limits { bound: false, steps: 1000000, total: None } } })",
     ),
     (
         &["cats", "value", "a", "3", "4", "--steps", "7"],
-        "Value { file: \"a\", goods: [3, 4], limits: Limits { bound: false, steps: 7, total: None } }",
+        "OnFile(FileRequest { file: \"a\", prices: AsWritten, command: Value { goods: [3, 4], limits: Limits { bound: false, steps: 7, total: None } } })",
     ),
     (
         &["cats", "normalise", "a"],
-        "Normalise { file: \"a\", limits: Limits { bound: false, steps: 1000000, total: None } }",
+        "OnFile(FileRequest { file: \"a\", prices: AsWritten, command: Normalise(Limits { bound: false, steps: 1000000, total: None }) })",
     ),
     (
         &["cats", "normalise", "--steps=1000000000", "a"],
-        "Normalise { file: \"a\", limits: Limits { bound: false, steps: 1000000000, total: None } }",
+        "OnFile(FileRequest { file: \"a\", prices: AsWritten, command: Normalise(Limits { bound: false, steps: 1000000000, total: None }) })",
     ),
     (
         &["cats", "explain", "a"],
-        "Explain { file: \"a\", limits: Limits { bound: true, steps: 1000000, total: None } }",
+        "OnFile(FileRequest { file: \"a\", prices: AsWritten, command: Explain(Limits { bound: true, steps: 1000000, total: None }) })",
     ),
     (
         &["cats", "explain", "a", "--steps", "8"],
-        "Explain { file: \"a\", limits: Limits { bound: true, steps: 8, total: None } }",
+        "OnFile(FileRequest { file: \"a\", prices: AsWritten, command: Explain(Limits { bound: true, steps: 8, total: None }) })",
     ),
-    (&["cats", "lp", "a"], "Lp { file: \"a\" }"),
+    (
+        &["cats", "lp", "a"],
+        "OnFile(FileRequest { file: \"a\", prices: AsWritten, command: Lp })",
+    ),
     (
         &["cats", "compare", "a", "b"],
-        "Compare(PairRequest { first: \"a\", second: \"b\", limits: Limits { bound: false, steps: 1000000, total: None } })",
+        "OnPair(PairRequest { first: \"a\", second: \"b\", prices: AsWritten, command: Compare, limits: Limits { bound: false, steps: 1000000, total: None } })",
     ),
     (
         &["cats", "compare", "--steps", "1", "a", "b"],
-        "Compare(PairRequest { first: \"a\", second: \"b\", limits: Limits { bound: false, steps: 1, total: None } })",
+        "OnPair(PairRequest { first: \"a\", second: \"b\", prices: AsWritten, command: Compare, limits: Limits { bound: false, steps: 1, total: None } })",
     ),
     (
         &["cats", "diff", "a", "b"],
-        "Diff(PairRequest { first: \"a\", second: \"b\", limits: Limits { bound: true, steps: 1000000, total: None } })",
+        "OnPair(PairRequest { first: \"a\", second: \"b\", prices: AsWritten, command: Diff, limits: Limits { bound: true, steps: 1000000, total: None } })",
     ),
     (
         &["cats", "diff", "b", "--steps=7", "a"],
-        "Diff(PairRequest { first: \"b\", second: \"a\", limits: Limits { bound: true, steps: 7, total: None } })",
+        "OnPair(PairRequest { first: \"b\", second: \"a\", prices: AsWritten, command: Diff, limits: Limits { bound: true, steps: 7, total: None } })",
     ),
     (
         &["cats", "duplicates", "a", "b", "a"],
-        "Duplicates(FilesRequest { paths: Given([[97], [98], [97]]), limits: Limits { bound: true, steps: 1000000, total: None }, progress: false, null: false, all: false })",
+        "OnFiles(FilesRequest { paths: Given([[97], [98], [97]]), prices: AsWritten, command: Duplicates { all: false }, limits: Limits { bound: true, steps: 1000000, total: None }, progress: false, null: false })",
     ),
     (
         &["cats", "duplicates", "--progress", "a", "b", "--steps=9"],
-        "Duplicates(FilesRequest { paths: Given([[97], [98]]), limits: Limits { bound: true, steps: 9, total: None }, progress: true, null: false, all: false })",
+        "OnFiles(FilesRequest { paths: Given([[97], [98]]), prices: AsWritten, command: Duplicates { all: false }, limits: Limits { bound: true, steps: 9, total: None }, progress: true, null: false })",
     ),
     (
         &["cats", "duplicates", "-0", "a"],
-        "Duplicates(FilesRequest { paths: Given([[97]]), limits: Limits { bound: true, steps: 1000000, total: None }, progress: false, null: true, all: false })",
+        "OnFiles(FilesRequest { paths: Given([[97]]), prices: AsWritten, command: Duplicates { all: false }, limits: Limits { bound: true, steps: 1000000, total: None }, progress: false, null: true })",
     ),
     (
         &["cats", "duplicates", "a", "--", "-0"],
-        "Duplicates(FilesRequest { paths: Given([[97], [45, 48]]), limits: Limits { bound: true, steps: 1000000, total: None }, progress: false, null: false, all: false })",
+        "OnFiles(FilesRequest { paths: Given([[97], [45, 48]]), prices: AsWritten, command: Duplicates { all: false }, limits: Limits { bound: true, steps: 1000000, total: None }, progress: false, null: false })",
     ),
     (
         &["cats", "duplicates", "--files0-from", "a"],
-        "Duplicates(FilesRequest { paths: ListedIn(\"a\"), limits: Limits { bound: true, steps: 1000000, total: None }, progress: false, null: false, all: false })",
+        "OnFiles(FilesRequest { paths: ListedIn(\"a\"), prices: AsWritten, command: Duplicates { all: false }, limits: Limits { bound: true, steps: 1000000, total: None }, progress: false, null: false })",
     ),
     (
         &["cats", "sizes", "a"],
-        "Sizes(FilesRequest { paths: Given([[97]]), limits: Limits { bound: true, steps: 1000000, total: None }, progress: false, null: false, all: false })",
+        "OnFiles(FilesRequest { paths: Given([[97]]), prices: AsWritten, command: Sizes, limits: Limits { bound: true, steps: 1000000, total: None }, progress: false, null: false })",
     ),
     (
         &["cats", "sizes", "--steps=9", "a", "--progress", "b"],
-        "Sizes(FilesRequest { paths: Given([[97], [98]]), limits: Limits { bound: true, steps: 9, total: None }, progress: true, null: false, all: false })",
+        "OnFiles(FilesRequest { paths: Given([[97], [98]]), prices: AsWritten, command: Sizes, limits: Limits { bound: true, steps: 9, total: None }, progress: true, null: false })",
     ),
     (
         &["cats", "sizes", "a", "--null", "é"],
-        "Sizes(FilesRequest { paths: Given([[97], [195, 169]]), limits: Limits { bound: true, steps: 1000000, total: None }, progress: false, null: true, all: false })",
+        "OnFiles(FilesRequest { paths: Given([[97], [195, 169]]), prices: AsWritten, command: Sizes, limits: Limits { bound: true, steps: 1000000, total: None }, progress: false, null: true })",
     ),
     (
         &[
@@ -91,23 +100,39 @@ static REQUESTS: [(&[&str], &str); 26] = [
             "-0",
             "--progress",
         ],
-        "Sizes(FilesRequest { paths: ListedIn(\"/dev/stdin\"), limits: Limits { bound: true, steps: 1000000, total: None }, progress: true, null: true, all: false })",
+        "OnFiles(FilesRequest { paths: ListedIn(\"/dev/stdin\"), prices: AsWritten, command: Sizes, limits: Limits { bound: true, steps: 1000000, total: None }, progress: true, null: true })",
     ),
     (
         &["cats", "normalise", "--bound", "--total-steps=5", "a"],
-        "Normalise { file: \"a\", limits: Limits { bound: true, steps: 1000000, total: Some(5) } }",
+        "OnFile(FileRequest { file: \"a\", prices: AsWritten, command: Normalise(Limits { bound: true, steps: 1000000, total: Some(5) }) })",
     ),
     (
         &["cats", "compare", "a", "--total-steps", "5", "b", "--bound"],
-        "Compare(PairRequest { first: \"a\", second: \"b\", limits: Limits { bound: true, steps: 1000000, total: Some(5) } })",
+        "OnPair(PairRequest { first: \"a\", second: \"b\", prices: AsWritten, command: Compare, limits: Limits { bound: true, steps: 1000000, total: Some(5) } })",
     ),
     (
         &["cats", "value", "--bound", "a", "0"],
-        "Value { file: \"a\", goods: [0], limits: Limits { bound: true, steps: 1000000, total: None } }",
+        "OnFile(FileRequest { file: \"a\", prices: AsWritten, command: Value { goods: [0], limits: Limits { bound: true, steps: 1000000, total: None } } })",
     ),
     (
         &["cats", "explain", "--total-steps=1000000000000", "a"],
-        "Explain { file: \"a\", limits: Limits { bound: true, steps: 1000000, total: Some(1000000000000) } }",
+        "OnFile(FileRequest { file: \"a\", prices: AsWritten, command: Explain(Limits { bound: true, steps: 1000000, total: Some(1000000000000) }) })",
+    ),
+    (
+        &["cats", "check", "--round", "a"],
+        "OnFile(FileRequest { file: \"a\", prices: Rounded, command: Check })",
+    ),
+    (
+        &["cats", "revenue", "a", "--round-exact"],
+        "OnFile(FileRequest { file: \"a\", prices: RoundedExactly, command: Revenue(Given([])) })",
+    ),
+    (
+        &["cats", "diff", "--round", "--round-exact", "a", "b"],
+        "OnPair(PairRequest { first: \"a\", second: \"b\", prices: RoundedExactly, command: Diff, limits: Limits { bound: true, steps: 1000000, total: None } })",
+    ),
+    (
+        &["cats", "sizes", "a", "--round"],
+        "OnFiles(FilesRequest { paths: Given([[97]]), prices: Rounded, command: Sizes, limits: Limits { bound: true, steps: 1000000, total: None }, progress: false, null: false })",
     ),
 ];
 
@@ -182,7 +207,7 @@ fn help_texts(rt: HostRuntime) {
 }
 
 /// Command lines that are no request.
-static WRONG_LINES: [&[&str]; 16] = [
+static WRONG_LINES: [&[&str]; 20] = [
     &[],
     &["cats"],
     &["cats", "check"],
@@ -200,6 +225,10 @@ static WRONG_LINES: [&[&str]; 16] = [
     &["cats", "explain", "--total-steps=0", "a"],
     &["cats", "normalise", "--bound", "--bound", "a"],
     &["cats", "normalise", "--steps", "1,000,000", "a"],
+    &["cats", "fault", "--round", "a"],
+    &["cats", "round", "--round-exact", "a"],
+    &["cats", "lp", "--round", "--round", "a"],
+    &["cats", "show", "--round-exact=yes", "a"],
 ];
 
 #[test]

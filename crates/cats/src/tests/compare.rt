@@ -191,22 +191,20 @@ fn differences(rt: HostRuntime) -> Result<(), Fail> {
 }
 
 /// Texts under a limit, and the status and the line of the one that is refused first.
-pub(super) static REFUSALS: [(&str, &str, u64, u8, &str); 9] = [
+pub(super) static REFUSALS: [(&str, &str, u64, u8, &str); 5] = [
     (TWO_DUMMIES, NO_END, 2, 2, "first: line 5: TwoDummies\n"),
     (NO_END, TWO_DUMMIES, 2, 2, "first: line 6: NoEnd\n"),
     (NOTHING, TWO_DUMMIES, 2, 2, "second: line 5: TwoDummies\n"),
     (TWO_DUMMIES, NOTHING, 2, 2, "first: line 5: TwoDummies\n"),
     (TWO_DUMMIES, LARGER_BID, 2, 2, "first: line 5: TwoDummies\n"),
-    (LARGER_BID, TWO_DUMMIES, 2, 3, "first: step limit at 0,1\n"),
-    (LARGER_BID, LARGER_BID, 2, 3, "first: step limit at 0,1\n"),
-    (
-        LARGER_BID,
-        "goods 3\nbids 0\ndummy 0\n",
-        2,
-        3,
-        "first: step limit at 0,1\n",
-    ),
-    (SINGLES, LARGER_BID, 2, 3, "second: step limit at 0,1\n"),
+];
+
+/// Two files, and which of them is refused first for a limit of 2 steps.
+pub(super) static HEAVY: [(&str, &str, &str); 4] = [
+    (LARGER_BID, TWO_DUMMIES, "first"),
+    (LARGER_BID, LARGER_BID, "first"),
+    (LARGER_BID, "goods 3\nbids 0\ndummy 0\n", "first"),
+    (SINGLES, LARGER_BID, "second"),
 ];
 
 #[test]
@@ -214,6 +212,11 @@ fn refusals_in_order(rt: HostRuntime) -> Result<(), Fail> {
     for (first, second, limit, status, line) in &REFUSALS {
         let answer = compared(rt.alloc(), first, second, *limit, CAPACITY)?;
         expect(&rt, &answer, *status, "", line);
+    }
+    for (first, second, which) in &HEAVY {
+        let answer = compared(rt.alloc(), first, second, 2, CAPACITY)?;
+        let line = format!(in rt.alloc(); "{which}: step limit at 0,1\n")?;
+        expect(&rt, &answer, 3, "", line.as_str());
     }
     let answer = compared(rt.alloc(), LARGER_BID, SINGLES, 3, CAPACITY)?;
     expect(&rt, &answer, 0, "same\n", "");

@@ -1,7 +1,7 @@
 //! `cats diff`: the table of all differences. What is expected is worked out by hand.
 
 use super::compare::{
-    APART, EQUAL_BIDDERS, FIVE, FOUR, LARGER_BID, NOTHING, REFUSALS, SINGLES, TOGETHER,
+    APART, EQUAL_BIDDERS, FIVE, FOUR, HEAVY, LARGER_BID, NOTHING, REFUSALS, SINGLES, TOGETHER,
 };
 use super::streams::{RunAnswer, answer_of, expect, expect_cut_off, reader, writer};
 use cats_cmd::{SearchOptions, run_diff};
@@ -321,10 +321,15 @@ fn both_kinds_of_bidders(rt: HostRuntime) -> Result<(), Fail> {
 }
 
 #[test]
-fn diff_refuses_as_compare_does(rt: HostRuntime) -> Result<(), Fail> {
+fn diff_refuses_what_compare_refuses(rt: HostRuntime) -> Result<(), Fail> {
     for (first, second, limit, status, line) in &REFUSALS {
         let answer = differed(rt.alloc(), first, second, *limit, CAPACITY)?;
         expect(&rt, &answer, *status, "", line);
+    }
+    for (first, second, which) in &HEAVY {
+        let answer = differed(rt.alloc(), first, second, 2, CAPACITY)?;
+        let line = format!(in rt.alloc(); "{which}: step limit of 2 at bid 2: 0,1\n")?;
+        expect(&rt, &answer, 3, "", line.as_str());
     }
     let answer = differed(rt.alloc(), LARGER_BID, SINGLES, 3, CAPACITY)?;
     expect(&rt, &answer, 0, HEADER, "");

@@ -8,7 +8,7 @@ use std::test::Fail;
 use std::{fs, process};
 
 /// The files, each with its name.
-static FILES: [(&str, &str); 12] = [
+static FILES: [(&str, &str); 14] = [
     (
         "a",
         "goods 2\nbids 3\ndummy 0\n0\t3\t0\t#\n1\t4\t1\t#\n2\t7\t0\t1\t#\n",
@@ -17,6 +17,15 @@ static FILES: [(&str, &str); 12] = [
     (
         "a2",
         "% a\ngoods 2\nbids 2\ndummy 0\n\n1 3.0 0 #\n0 04 1 #\n",
+    ),
+    // its bids in another order, and one of them twice
+    (
+        "a3",
+        "goods 2\nbids 3\ndummy 0\n0\t7\t0\t1\t#\n1\t4\t1\t#\n2\t3\t0\t#\n",
+    ),
+    (
+        "a4",
+        "goods 2\nbids 4\ndummy 0\n0\t4\t1\t#\n1\t3\t0\t#\n2\t4\t1\t#\n3\t7\t0\t1\t#\n",
     ),
     (
         "b",
@@ -56,7 +65,7 @@ const CAPACITY: usize = 65_536;
 /// lines.
 type Row = (&'static str, usize, usize, u8, &'static str, &'static str);
 
-static ROWS: [Row; 20] = [
+static ROWS: [Row; 22] = [
     ("cats duplicates @a @b", CAPACITY, CAPACITY, 0, "", ""),
     (
         "cats duplicates @a @a2",
@@ -114,9 +123,34 @@ static ROWS: [Row; 20] = [
         CAPACITY,
         3,
         "@a2\n@a2\n",
-        "@a: step limit at 0,1\n@bad: line 2: Missing\n",
+        "@a: step limit of 2 at bid 2: 0,1\n@bad: line 2: Missing\n",
     ),
-    // a device without an end and a folder among files, and one file alone
+    // refused files that are alike, behind the others, and one that is alone
+    (
+        "cats duplicates --steps 2 @a @c @a3 @a2 @a4 @c2",
+        CAPACITY,
+        CAPACITY,
+        3,
+        "@c\n@c2\n\n@a\n@a3\n@a4\n",
+        "@a: step limit of 2 at bid 2: 0,1\n@a3: step limit of 2 at bid 0: 0,1\n@a4: step limit of 2 at bid 3: 0,1\n",
+    ),
+    (
+        "cats duplicates --all --steps 2 @a @b @a3",
+        CAPACITY,
+        CAPACITY,
+        3,
+        "@b\n\n@a\n@a3\n",
+        "@a: step limit of 2 at bid 2: 0,1\n@a3: step limit of 2 at bid 0: 0,1\n",
+    ),
+    (
+        "cats duplicates --all --steps 2 @a @b",
+        CAPACITY,
+        CAPACITY,
+        3,
+        "@b\n",
+        "@a: step limit of 2 at bid 2: 0,1\n",
+    ),
+    // a device without an end among files, and one file alone
     (
         "cats duplicates @a /dev/zero @a2",
         CAPACITY,
@@ -124,14 +158,6 @@ static ROWS: [Row; 20] = [
         5,
         "@a\n@a2\n",
         "/dev/zero: cannot open: not a file\n",
-    ),
-    (
-        "cats duplicates @a /tmp @a2",
-        CAPACITY,
-        CAPACITY,
-        5,
-        "@a\n@a2\n",
-        "/tmp: cannot open: is a folder\n",
     ),
     (
         "cats duplicates @a @a/b",

@@ -137,8 +137,14 @@ fn xor_bidders(rt: HostRuntime) -> Result<(), Fail> {
 #[test]
 fn refusals(rt: HostRuntime) -> Result<(), Fail> {
     for (text, fails, limit, status, line) in &[
-        (TRIPLE_REACHED, false, 3, 3, "step limit at 0,1,2\n"),
-        (LARGER_BID, false, 2, 3, "step limit at 0,1\n"),
+        (
+            TRIPLE_REACHED,
+            false,
+            3,
+            3,
+            "step limit of 3 at bid 3: 0,1,2\n",
+        ),
+        (LARGER_BID, false, 2, 3, "step limit of 2 at bid 2: 0,1\n"),
         (
             "goods 2\nbids 2\ndummy 2\n0 1 0 2 #\n1 1 1 2 3 #\n",
             false,

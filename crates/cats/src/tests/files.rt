@@ -325,7 +325,7 @@ static LARGER_BID_ROWS: [Row<'static>; 18] = [
         CAPACITY,
         3,
         "",
-        "step limit at 0,1\n",
+        "step limit of 2 at bid 2: 0,1\n",
     ),
     (
         "cats explain FILE",
@@ -424,7 +424,7 @@ static LARGER_BID_ROWS: [Row<'static>; 18] = [
         CAPACITY,
         3,
         "",
-        "second: step limit at 0,1\n",
+        "second: step limit of 2 at bid 2: 0,1\n",
     ),
     (
         "cats normalise --steps 3 FILE",

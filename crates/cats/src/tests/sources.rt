@@ -10,7 +10,7 @@ use super::streams::{RunAnswer, expect, text_taken, writer};
 use crate::help::all_help;
 use crate::version::version_text;
 use cats_cmd::{Process, Source, Unopened, run_program};
-use std::alloc::{Alloc, AllocGlobal, Global};
+use std::alloc::{Alloc, AllocError, AllocGlobal, Global};
 use std::process::Abort;
 use std::test::Fail;
 
@@ -33,6 +33,8 @@ impl<'a> Source for FilesInMemory<'a> {
     ghost may_open = { λ content path stream. Any (λ f. (f.0.now ≡ path) × (f.1.now ≡ stream.now)) content.0 };
 
     ghost may_refuse = { λ content path why. Any (λ r. (r.0.now ≡ path) × (r.1 ≡ why)) content.1 ⊎ (why ≡ NoSuchFile) };
+
+    ghost may_find = { λ _ _ found. found ≡ None };
 
     ghost opened = { λ _. None };
 
@@ -57,6 +59,10 @@ impl<'a> Source for FilesInMemory<'a> {
             }
         }
         Err(Unopened::NoSuchFile)
+    }
+
+    fn find(&self, _alloc: Global, _path: &str) -> Result<Option<Vec<Vec<u8>>>, AllocError> {
+        Ok(None)
     }
 }
 
@@ -115,7 +121,7 @@ static REFUSED: [(&str, Unopened); 4] = [
 ];
 
 /// A command line's words, and what it answers: its status, its output and its faults' lines.
-type Row<'a> = (&'a [&'a str], u8, &'a str, &'a str);
+pub(super) type Row<'a> = (&'a [&'a str], u8, &'a str, &'a str);
 
 static ROWS: [Row<'static>; 50] = [
     (
@@ -206,7 +212,8 @@ static ROWS: [Row<'static>; 50] = [
         &["cats", "sizes", "--steps", "2", "bad", "sum", "one"],
         3,
         "goods\tbids\tor\txor\tdummy\tkept\tkept_or\tkept_xor\tfault\tfile\n\
-\t\t\t\t\t\t\t\tline 2: Missing\tbad\n2\t3\t3\t0\t0\t\t\t\tstep limit at 0,1\tsum\n\
+\t\t\t\t\t\t\t\tline 2: Missing\tbad\n2\t3\t3\t0\t0\t\t\t\t\
+step limit of 2 at bid 2: 0,1\tsum\n\
 1\t1\t1\t0\t0\t1\t1\t0\t\tone\n",
         "",
     ),
@@ -466,16 +473,18 @@ static TERMINAL_ROWS: [Row<'static>; 4] = [
 
 #[test]
 fn files_in_memory(rt: HostRuntime) -> Result<(), Fail> {
-    judge_rows(&rt, &ROWS, false)
+    judge_rows(&rt, &FILES, &ROWS, false)
 }
 
 #[test]
 fn files_in_memory_on_a_terminal(rt: HostRuntime) -> Result<(), Fail> {
-    judge_rows(&rt, &TERMINAL_ROWS, true)
+    judge_rows(&rt, &FILES, &TERMINAL_ROWS, true)
 }
 
-fn judge_rows(
+/// That command lines on these files answer what their rows say.
+pub(super) fn judge_rows(
     rt: &(impl Abort + AllocGlobal),
+    files: &'static [(&'static str, &'static [u8])],
     rows: &[Row<'_>],
     terminal: bool,
 ) -> Result<(), Fail> {
@@ -483,7 +492,7 @@ fn judge_rows(
     let version = version_text(alloc)?;
     let help = all_help();
     let mut source = FilesInMemory {
-        files: &FILES,
+        files,
         refused: &REFUSED,
         openings: 0,
         alloc,

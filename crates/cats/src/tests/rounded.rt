@@ -1,0 +1,364 @@
+//! Commands on files whose prices are rounded.
+
+use super::program::{CAPACITY, run};
+use super::sources::{Row, judge_rows};
+use super::streams::expect;
+use std::test::Fail;
+use std::{fs, process};
+
+static FILES: [(&str, &[u8]); 9] = [
+    // two prices are finer than a millionth, one of them halfway between two
+    (
+        "fine",
+        b"goods 2\nbids 3\ndummy 1\n0 0.0123456 0 #\n1 1e3 1 #\n2 2.0000005 0 1 2 #\n",
+    ),
+    // the same auction, once both are rounded
+    (
+        "twin",
+        b"goods 2\nbids 3\ndummy 4\n0 2 0 1 5 #\n1 12346e-6 0 #\n2 1000.0000001 1 #\n",
+    ),
+    ("exponents", b"goods 1\nbids 1\ndummy 0\n0 1.5e1 0 #\n"),
+    (
+        "sum",
+        b"goods 2\nbids 3\ndummy 0\n0 3 0 #\n1 4 1 #\n2 7.0000001 0 1 #\n",
+    ),
+    ("large", b"goods 1\nbids 1\ndummy 0\n0 1e13 0 #\n"),
+    ("bad", b"goods 1\n"),
+    ("a\nb", b"goods 1\nbids 1\ndummy 0\n0 1e-7 0 #\n"),
+    // lists of bids
+    ("bids", b"1\n0\n"),
+    ("words", b"0\nx\n"),
+];
+
+/// What `show` and `normalise` print of `fine`, rounded.
+const SHOWN: &str =
+    "goods 2\nbids 3\ndummy 1\n0\t0.012346\t0\t#\n1\t1000\t1\t#\n2\t2\t0\t1\t2\t#\n";
+
+const DIFF_HEADER: &str =
+    "kind\tgoods\tleft\tright\tleft_dummy\tright_dummy\tleft_bid\tright_bid\n";
+
+static ROWS: [Row<'static>; 37] = [
+    (
+        &["cats", "check", "--round", "fine"],
+        0,
+        "goods 2 bids 3 dummy 1\n",
+        "fine: 2 prices rounded\n",
+    ),
+    (
+        &["cats", "show", "--round", "fine"],
+        0,
+        SHOWN,
+        "fine: 2 prices rounded\n",
+    ),
+    (
+        &["cats", "value", "--round", "fine", "0-1"],
+        0,
+        "or 1000.012346 0 1\nxor 2 2 2\n",
+        "fine: 2 prices rounded\n",
+    ),
+    (
+        &["cats", "revenue", "--round", "fine", "0", "1"],
+        0,
+        "revenue 1000.012346\n",
+        "fine: 2 prices rounded\n",
+    ),
+    (
+        &["cats", "normalise", "--round", "fine"],
+        0,
+        SHOWN,
+        "fine: 2 prices rounded\n",
+    ),
+    (
+        &["cats", "explain", "--round", "fine"],
+        0,
+        "bid\tdummy\tprice\tgoods\treason\tkept\tby\n\
+        0\t\t0.012346\t0\tkeep\t0\t\n1\t\t1000\t1\tkeep\t1\t\n2\t0\t2\t0,1\tkeep\t2\t\n",
+        "fine: 2 prices rounded\n",
+    ),
+    (
+        &["cats", "lp", "--round", "fine"],
+        0,
+        "Maximize\n revenue:\n + 0.012346 x0\n + 1000 x1\n + 2 x2\n\
+        Subject To\n g0:\n + x0\n + x2\n <= 1\n g1:\n + x1\n + x2\n <= 1\n\
+        Binary\n x0\n x1\n x2\nEnd\n",
+        "fine: 2 prices rounded\n",
+    ),
+    (
+        &["cats", "compare", "--round", "fine", "twin"],
+        0,
+        "same\n",
+        "fine: 2 prices rounded\ntwin: 1 price rounded\n",
+    ),
+    (
+        &["cats", "diff", "--round", "twin", "fine"],
+        0,
+        DIFF_HEADER,
+        "twin: 1 price rounded\nfine: 2 prices rounded\n",
+    ),
+    (
+        &["cats", "duplicates", "--round", "fine", "sum", "twin"],
+        0,
+        "fine\ntwin\n",
+        "fine: 2 prices rounded\nsum: 1 price rounded\ntwin: 1 price rounded\n",
+    ),
+    (
+        &["cats", "sizes", "--round", "fine", "twin"],
+        0,
+        "goods\tbids\tor\txor\tdummy\tkept\tkept_or\tkept_xor\tfault\tfile\n\
+        2\t3\t2\t1\t1\t3\t2\t1\t\tfine\n2\t3\t2\t1\t4\t3\t2\t1\t\ttwin\n",
+        "fine: 2 prices rounded\ntwin: 1 price rounded\n",
+    ),
+    // prices that keep their values are not reported
+    (
+        &["cats", "show", "--round", "exponents"],
+        0,
+        "goods 1\nbids 1\ndummy 0\n0\t15\t0\t#\n",
+        "",
+    ),
+    (
+        &["cats", "show", "--round-exact", "exponents"],
+        0,
+        "goods 1\nbids 1\ndummy 0\n0\t15\t0\t#\n",
+        "",
+    ),
+    (
+        &["cats", "compare", "--round", "exponents", "fine"],
+        1,
+        "different\ngoods\nleft 1\nright 2\n",
+        "fine: 2 prices rounded\n",
+    ),
+    (
+        &["cats", "check", "--round", "a\nb"],
+        0,
+        "goods 1 bids 1 dummy 0\n",
+        "a\\nb: 1 price rounded\n",
+    ),
+    // with both flags the exact one holds
+    (
+        &["cats", "check", "--round-exact", "fine"],
+        2,
+        "",
+        "line 4: TooFine\n",
+    ),
+    (
+        &["cats", "value", "--round", "--round-exact", "fine", "0"],
+        2,
+        "",
+        "line 4: TooFine\n",
+    ),
+    (
+        &["cats", "lp", "--round-exact", "--round", "fine"],
+        2,
+        "",
+        "line 4: TooFine\n",
+    ),
+    (
+        &["cats", "compare", "--round-exact", "exponents", "fine"],
+        2,
+        "",
+        "second: line 4: TooFine\n",
+    ),
+    (
+        &[
+            "cats",
+            "duplicates",
+            "--round-exact",
+            "exponents",
+            "fine",
+            "exponents",
+        ],
+        2,
+        "exponents\nexponents\n",
+        "fine: line 4: TooFine\n",
+    ),
+    (
+        &["cats", "sizes", "--round-exact", "twin"],
+        2,
+        "goods\tbids\tor\txor\tdummy\tkept\tkept_or\tkept_xor\tfault\tfile\n\
+        \t\t\t\t\t\t\t\tline 6: TooFine\ttwin\n",
+        "",
+    ),
+    // a file that is refused has no such line, and one that was read has it before its fault
+    (
+        &["cats", "check", "--round", "large"],
+        2,
+        "",
+        "line 4: TooLarge\n",
+    ),
+    (
+        &["cats", "normalise", "--round", "bad"],
+        2,
+        "",
+        "line 2: Missing\n",
+    ),
+    (
+        &["cats", "normalise", "--round", "--steps", "2", "sum"],
+        3,
+        "",
+        "sum: 1 price rounded\nstep limit at 0,1\n",
+    ),
+    (
+        &["cats", "value", "--round", "fine", "7"],
+        64,
+        "",
+        "fine: 2 prices rounded\ngood 7 out of range\n",
+    ),
+    (
+        &["cats", "revenue", "fine", "--round", "3"],
+        64,
+        "",
+        "fine: 2 prices rounded\nbid 3 out of range\n",
+    ),
+    (
+        &["cats", "compare", "--round", "bad", "fine"],
+        2,
+        "",
+        "first: line 2: Missing\n",
+    ),
+    (
+        &["cats", "diff", "--round", "fine", "bad"],
+        2,
+        "",
+        "fine: 2 prices rounded\nsecond: line 2: Missing\n",
+    ),
+    (
+        &["cats", "compare", "--round", "--steps", "2", "sum", "fine"],
+        3,
+        "",
+        "sum: 1 price rounded\nfirst: step limit at 0,1\n",
+    ),
+    (
+        &["cats", "compare", "--round", "fine", "none"],
+        5,
+        "",
+        "second: cannot open\n",
+    ),
+    (
+        &[
+            "cats",
+            "duplicates",
+            "--round",
+            "--steps",
+            "2",
+            "sum",
+            "bad",
+            "fine",
+            "none",
+        ],
+        5,
+        "",
+        "sum: 1 price rounded\nsum: step limit of 2 at bid 2: 0,1\nbad: line 2: Missing\n\
+        fine: 2 prices rounded\nnone: cannot open: no such file\n",
+    ),
+    (
+        &["cats", "sizes", "--round", "--steps", "2", "sum", "bad"],
+        3,
+        "goods\tbids\tor\txor\tdummy\tkept\tkept_or\tkept_xor\tfault\tfile\n\
+        2\t3\t3\t0\t0\t\t\t\tstep limit of 2 at bid 2: 0,1\tsum\n\t\t\t\t\t\t\t\tline 2: Missing\tbad\n",
+        "sum: 1 price rounded\n",
+    ),
+    (
+        &[
+            "cats",
+            "duplicates",
+            "--round",
+            "--progress",
+            "fine",
+            "twin",
+        ],
+        0,
+        "fine\ntwin\n",
+        "fine: 2 prices rounded\ntwin: 1 price rounded\n2 of 2 twin\n",
+    ),
+    // a list of bids is read as it is
+    (
+        &["cats", "revenue", "--round", "--bids", "bids", "fine"],
+        0,
+        "revenue 1000.012346\n",
+        "fine: 2 prices rounded\n",
+    ),
+    (
+        &["cats", "revenue", "--round", "--bids", "words", "fine"],
+        2,
+        "",
+        "words: line 2: NotANumber\n",
+    ),
+    // without a flag prices are read as they are written
+    (&["cats", "check", "fine"], 2, "", "line 4: TooFine\n"),
+    (
+        &["cats", "check", "exponents"],
+        2,
+        "",
+        "line 4: NotANumber\n",
+    ),
+];
+
+/// The same if standard error is a terminal.
+static TERMINAL_ROWS: [Row<'static>; 1] = [(
+    &[
+        "cats",
+        "duplicates",
+        "--round",
+        "--progress",
+        "fine",
+        "twin",
+    ],
+    0,
+    "fine\ntwin\n",
+    "fine: 2 prices rounded\n1 of 2\n\x1b[A\x1b[Ktwin: 1 price rounded\n2 of 2\n",
+)];
+
+#[test]
+fn files_with_rounded_prices(rt: HostRuntime) -> Result<(), Fail> {
+    judge_rows(&rt, &FILES, &ROWS, false)
+}
+
+#[test]
+fn rounded_prices_on_a_terminal(rt: HostRuntime) -> Result<(), Fail> {
+    judge_rows(&rt, &FILES, &TERMINAL_ROWS, true)
+}
+
+#[test]
+fn an_output_fails_after_rounding(rt: HostRuntime) -> Result<(), Fail> {
+    let id = process::id(rt.process());
+    let path = format!(in rt.alloc(); "/tmp/cats_rounded_{id}.cats")?;
+    fs::write(&rt, path.as_str(), "goods 1\nbids 1\ndummy 0\n0 1e-7 0 #\n")?;
+    let reported = format!(in rt.alloc();
+        "{path}: 1 price rounded\noutput failed after 5 bytes\n"
+    )?;
+    let answer = run(
+        &rt,
+        "cats check --round FILE",
+        path.as_str(),
+        "",
+        5,
+        CAPACITY,
+    )?;
+    expect(&rt, &answer, 5, "goods", reported.as_str());
+    let silent = run(
+        &rt,
+        "cats check --round FILE",
+        path.as_str(),
+        "",
+        CAPACITY,
+        0,
+    )?;
+    expect(&rt, &silent, 0, "goods 1 bids 1 dummy 0\n", "");
+    fs::remove_file(&rt, path.as_str())?;
+    Ok(())
+}
+
+#[test]
+fn an_input_fails_before_rounding(rt: HostRuntime) -> Result<(), Fail> {
+    // a folder is opened, and cannot be read
+    let answer = run(
+        &rt,
+        "cats show --round FILE",
+        "/tmp",
+        "",
+        CAPACITY,
+        CAPACITY,
+    )?;
+    expect(&rt, &answer, 5, "", "Device\n");
+    Ok(())
+}
