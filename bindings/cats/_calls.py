@@ -16,7 +16,7 @@ SHOW, VALUE, NORMALISE, EXPLAIN, LP, COMPARE, DIFF = 1, 1, 2, 4, 4, 1, 2
 Given = TypeVar("Given", bound=TextOrPath)
 
 
-def check(text: TextOrPath) -> Sizes:
+def check(text: TextOrPath, *, round: Rounding = False) -> Sizes:
     """How many goods, bids and dummy goods a file has.
 
     >>> check(b"goods 2\\nbids 1\\ndummy 0\\n0 3 0 #\\n")
@@ -30,7 +30,7 @@ def check(text: TextOrPath) -> Sizes:
     ...     print(fault.line, fault.word, fault.kind, fault.text)
     4 2 NotANumber b'1e3'
     """
-    return sizes_of(answer_on_texts("cats_check", [text], False, [], 0))
+    return sizes_of(answer_on_texts("cats_check", [text], round, [], 0))
 
 
 def show(text: TextOrPath, *, round: Rounding = False) -> bytes:
@@ -175,7 +175,7 @@ def duplicates(
     texts: Iterable[Given], steps: int = STEPS, *, total: Optional[int] = None, round: Rounding = False, all: bool = False
 ) -> List[Tuple[Given, ...]]:
     """The texts that are the same auction, in groups of two or more, in the order of their first ones. With `all` a text that is alone is a group
-    too. The first text that is refused raises its error, which has it as `text`.
+    too. The first text that is refused raises its error, which has it as `source`; a text that is refused is in no group.
 
     >>> one, other = b"goods 1\\nbids 1\\ndummy 0\\n0 3 0 #\\n", b"goods 1\\nbids 0\\ndummy 0\\n"
     >>> duplicates([one, other, b"% three\\n" + one]) == [(one, b"% three\\n" + one)]

@@ -4,7 +4,10 @@ from __future__ import annotations
 import re
 from typing import Any, Callable, NamedTuple, Optional, Tuple
 
-# The line of a fault, as the program prints it.
+# The line of a step limit, by a call that names the bid, as the program prints it.
+HEAVY = re.compile(r"(?:(first|second): )?step limit of (\d+)(?: \((\d+) in all\))? at bid (\d+): ([\d,]*)(?:,\.\. \((\d+) goods\))?\n")
+
+# That of any other fault.
 FAULT = re.compile(r"(?:(first|second): )?(?:line (\d+): (\w+)|step limit at ([\d,]*)|(good|bid) (\d+) out of range|(want of memory)|(\w+))\n")
 
 
@@ -17,6 +20,15 @@ class Place(NamedTuple):
 
 
 NO_PLACE = Place(None, None, None)
+
+
+class HeavyBid(NamedTuple):
+    """The first bid on a bundle whose search is over a limit: its number, how many goods it has, and the limits."""
+
+    bid: int
+    count: int
+    steps: int
+    total: Optional[int]
 
 
 class CatsError(Exception):
@@ -74,12 +86,26 @@ class RefusedText(CatsError):
 
 
 class StepLimit(CatsError):
-    """The search on a bundle takes more steps than `steps`, or than are left of `total`. `bundle` has the goods, rising."""
+    """The search on a bundle takes more steps than `steps`, or than are left of `total`. `bundle` has the goods, rising, and `count` is their
+    number. If `explain` or `diff` raises it, `bid` is the number of the first bid of the OR bidder on the bundle, and `bundle` has the first 20
+    goods if there are more; else `bid` is None."""
 
-    def __init__(self, bundle: Tuple[int, ...], which: Optional[str] = None) -> None:
-        super().__init__("step limit at " + ",".join(map(str, bundle)), which)
+    def __init__(self, bundle: Tuple[int, ...], which: Optional[str] = None, heavy: Optional[HeavyBid] = None) -> None:
+        super().__init__(step_limit_text(bundle, heavy), which)
         self.bundle = bundle
-        self._words = (bundle, which)
+        self.bid = heavy.bid if heavy else None
+        self.count = heavy.count if heavy else len(bundle)
+        self._words = (bundle, which, heavy)
+
+
+def step_limit_text(bundle: Tuple[int, ...], heavy: Optional[HeavyBid]) -> str:
+    """The line of a step limit."""
+    goods = ",".join(map(str, bundle))
+    if heavy is None:
+        return f"step limit at {goods}"
+    total = "" if heavy.total is None else f" ({heavy.total} in all)"
+    rest = f",.. ({heavy.count} goods)" if heavy.count > len(bundle) else ""
+    return f"step limit of {heavy.steps}{total} at bid {heavy.bid}: {goods}{rest}"
 
 
 class NoSuchGood(CatsError):
@@ -104,16 +130,31 @@ class WantOfMemory(CatsError, MemoryError):
     """Memory was refused."""
 
 
+def bundle_of(goods: str) -> Tuple[int, ...]:
+    """The goods of a line."""
+    return tuple(int(good) for good in goods.split(",") if good)
+
+
+def heavy_error_of(which: Optional[str], steps: str, total: Optional[str], bid: str, goods: str, count: Optional[str]) -> StepLimit:
+    """The exception for a step limit whose line names the bid."""
+    bundle = bundle_of(goods)
+    return StepLimit(bundle, which, HeavyBid(int(bid), int(count) if count else len(bundle), int(steps), int(total) if total else None))
+
+
 def error_of(status: int, printed: bytes) -> CatsError:
     """The exception for a status and the line of its fault."""
-    found = FAULT.fullmatch(printed.decode("ascii", "replace"))
+    line = printed.decode("ascii", "replace")
+    heavy = HEAVY.fullmatch(line)
+    if heavy:
+        return heavy_error_of(*heavy.groups())
+    found = FAULT.fullmatch(line)
     if not found:
         return CatsError(f"status {status}: {printed!r}")
-    which, line, kind, bundle, lacking, number, want, kind_alone = found.groups()
+    which, number_of_line, kind, bundle, lacking, number, want, kind_alone = found.groups()
     if want:
         return WantOfMemory(want, which)
     if lacking:
         return NoSuchGood(int(number)) if lacking == "good" else NoSuchBid(int(number))
     if bundle is not None:
-        return StepLimit(tuple(int(good) for good in bundle.split(",") if good), which)
-    return RefusedText(kind or kind_alone, int(line) if line else None, which)
+        return StepLimit(bundle_of(bundle), which)
+    return RefusedText(kind or kind_alone, int(number_of_line) if number_of_line else None, which)

@@ -5,7 +5,7 @@ import pytest
 from beside import CALLS, Answer
 
 import cats
-from cats._library import Status
+from cats._library import NO_TOTAL, Status
 
 STATUSES = {
     cats.RefusedText: Status.REFUSED, cats.StepLimit: Status.STEP_LIMIT, cats.NoSuchGood: Status.WRONG_USAGE, cats.NoSuchBid: Status.WRONG_USAGE,
@@ -118,11 +118,23 @@ def test_errors_have_their_fields(cases):
         except cats.RefusedText as error:
             assert case.own.out.decode() == prefix_of(error) + (f"line {error.line}: " if error.line else "") + error.kind + "\n"
         except cats.StepLimit as error:
-            assert case.own.out.decode() == prefix_of(error) + "step limit at " + ",".join(map(str, error.bundle)) + "\n"
+            assert case.own.out.decode() == prefix_of(error) + printed_limit(case.call, error)
         except cats.NoSuchGood as error:
             assert case.own.out.decode() == f"good {error.good} out of range\n"
         except cats.NoSuchBid as error:
             assert case.own.out.decode() == f"bid {error.bid} out of range\n"
+
+
+def printed_limit(call, error):
+    """The line of a step limit. Two calls name the bid."""
+    goods = ",".join(map(str, error.bundle))
+    assert (error.bid is None) == (call.name() not in ("explain", "diff"))
+    if error.bid is None:
+        return f"step limit at {goods}\n"
+    steps, total = call.arguments
+    in_all = "" if total == NO_TOTAL else f" ({total} in all)"
+    rest = f",.. ({error.count} goods)" if error.count > 20 else ""
+    return f"step limit of {steps}{in_all} at bid {error.bid}: {goods}{rest}\n"
 
 
 def prefix_of(error):

@@ -8,6 +8,7 @@ import pytest
 from texts import BIDS
 
 import cats
+from cats.errors import HeavyBid
 
 ERRORS = [
     cats.CatsError("no"),
@@ -16,10 +17,12 @@ ERRORS = [
     cats.WantOfMemory("want of memory", "first"),
     cats.StepLimit((0, 12)),
     cats.StepLimit((), "first"),
+    cats.StepLimit((0, 12), "second", HeavyBid(3, 2, 1_000, 5_000)),
+    cats.StepLimit(tuple(range(20)), None, HeavyBid(0, 58, 1, None)),
     cats.NoSuchGood(7),
     cats.NoSuchBid(65536),
 ]
-FIELDS = ("which", "source", "kind", "line", "word", "text", "hint", "bundle", "good", "bid", "args", "extra")
+FIELDS = ("which", "source", "kind", "line", "word", "text", "hint", "bundle", "count", "good", "bid", "args", "extra")
 
 
 @pytest.mark.parametrize("error", ERRORS, ids=repr)
@@ -99,5 +102,29 @@ def test_messages():
         raise ERRORS[3]
     assert list(map(str, ERRORS)) == [
         "no", "TooLong", "second: line 1: Header", "first: want of memory", "step limit at 0,12", "first: step limit at ",
+        "second: step limit of 1000 (5000 in all) at bid 3: 0,12",
+        "step limit of 1 at bid 0: 0,1,2,3,4,5,6,7,8,9,10,11,12,13,14,15,16,17,18,19,.. (58 goods)",
         "good 7 out of range", "bid 65536 out of range",
     ]
+
+
+def one_bid(goods):
+    """A text with one bid for so many goods."""
+    return b"goods %d\nbids 1\ndummy 0\n0 3 %s #\n" % (goods, b" ".join(b"%d" % good for good in range(goods)))
+
+
+@pytest.mark.parametrize("goods", (1, 20, 21, 58))
+def test_named_bids(goods):
+    """A step limit of `explain` and `diff` names the bid, and at most 20 of its goods."""
+    with pytest.raises(cats.StepLimit) as alone:
+        cats.explain(one_bid(goods), 0)
+    with pytest.raises(cats.StepLimit) as second:
+        cats.diff(b"goods 0\nbids 0\ndummy 0\n", one_bid(goods), 0, total=7)
+    for raised in (alone, second):
+        assert (raised.value.bid, raised.value.count, raised.value.bundle) == (0, goods, tuple(range(min(goods, 20))))
+    shown = ",".join(map(str, range(min(goods, 20)))) + (f",.. ({goods} goods)" if goods > 20 else "")
+    assert str(alone.value) == f"step limit of 0 at bid 0: {shown}"
+    assert str(second.value) == f"second: step limit of 0 (7 in all) at bid 0: {shown}"
+    with pytest.raises(cats.StepLimit) as other:
+        cats.normalise(one_bid(goods), 0)
+    assert (other.value.bid, other.value.count, other.value.bundle) == (None, goods, tuple(range(goods)))

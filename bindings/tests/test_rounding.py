@@ -6,6 +6,7 @@ import cats
 
 CALLS = {
     "read": lambda text, **words: cats.read(text, **words).text,
+    "check": cats.check,
     "show": cats.show,
     "value": lambda text, **words: cats.value(text, [0], **words),
     "normalise": cats.normalise,
