@@ -7,15 +7,16 @@ _cats() {
     case $command in
         '') _cats_words "check fault show value revenue normalise explain round lp compare diff duplicates sizes help -h --help -V --version" ;;
         help) if ((COMP_CWORD == 2)); then _cats_words "check fault show value revenue normalise explain round lp compare diff duplicates sizes help"; fi ;;
-        check | fault | show | lp) _cats_operands 1 "-h --help" ;;
-        value | normalise) _cats_operands 1 "--bound --steps --total-steps -h --help" ;;
-        revenue) _cats_operands 1 "--bids -h --help" ;;
-        explain) _cats_operands 1 "--steps --total-steps -h --help" ;;
+        fault) _cats_operands 1 "-h --help" ;;
+        check | show | lp) _cats_operands 1 "--round --round-exact -h --help" ;;
+        value | normalise) _cats_operands 1 "--round --round-exact --bound --steps --total-steps -h --help" ;;
+        revenue) _cats_operands 1 "--round --round-exact --bids -h --help" ;;
+        explain) _cats_operands 1 "--round --round-exact --steps --total-steps -h --help" ;;
         round) _cats_operands 1 "--exact -h --help" ;;
-        compare) _cats_operands 2 "--bound --steps --total-steps -h --help" ;;
-        diff) _cats_operands 2 "--steps --total-steps -h --help" ;;
-        duplicates) _cats_operands COMP_CWORD "--steps --total-steps --progress -0 --null --all --files0-from -h --help" ;;
-        sizes) _cats_operands COMP_CWORD "--steps --total-steps --progress -0 --null --files0-from -h --help" ;;
+        compare) _cats_operands 2 "--round --round-exact --bound --steps --total-steps -h --help" ;;
+        diff) _cats_operands 2 "--round --round-exact --steps --total-steps -h --help" ;;
+        duplicates) _cats_operands COMP_CWORD "--round --round-exact --steps --total-steps --progress -0 --null --all --files0-from -h --help" ;;
+        sizes) _cats_operands COMP_CWORD "--round --round-exact --steps --total-steps --progress -0 --null --files0-from -h --help" ;;
     esac
 }
 

@@ -38,6 +38,8 @@ complete -c cats -n __fish_use_subcommand -a sizes -d 'Print a table of the numb
 complete -c cats -n __fish_use_subcommand -a help -d 'Print help'
 complete -c cats -n '__fish_seen_subcommand_from help' -a 'check fault show value revenue normalise explain round lp compare diff duplicates sizes'
 complete -c cats -n __cats_takes_path -F
+complete -c cats -n '__fish_seen_subcommand_from check show value revenue normalise explain lp compare diff duplicates sizes' -l round -d 'Round prices to millionths'
+complete -c cats -n '__fish_seen_subcommand_from check show value revenue normalise explain lp compare diff duplicates sizes' -l round-exact -d 'Refuse a price that would be rounded'
 complete -c cats -n '__fish_seen_subcommand_from value normalise explain compare diff duplicates sizes' -x -l steps -d 'The most steps of a search'
 complete -c cats -n '__fish_seen_subcommand_from value normalise explain compare diff duplicates sizes' -x -l total-steps -d 'The most steps of all searches of a file'
 complete -c cats -n '__fish_seen_subcommand_from value normalise compare' -l bound -d 'Search by the bounded search'

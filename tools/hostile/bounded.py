@@ -13,6 +13,7 @@ import sys
 import tempfile
 from collections import Counter
 from concurrent.futures import ThreadPoolExecutor
+from functools import partial
 from threading import Lock
 from typing import NamedTuple
 
@@ -82,6 +83,13 @@ def judge_run(wanted, *words):
 def refused(goods, before=""):
     """What is answered of a search that the limit stops."""
     return Answer(STEP_LIMIT, "", f"{before}step limit at {','.join(map(str, goods))}\n")
+
+
+def refused_bid(goods, path, option, limit, before=""):
+    """What is answered of it by a command that names the limits and the first bid on the bundle."""
+    limits = f"{STEPS} ({limit} in all)" if option == "--total-steps" else limit
+    number = [bid.goods for bid in or_bids(path, SMALL_GOODS)].index(frozenset(goods))
+    return Answer(STEP_LIMIT, "", f"{before}step limit of {limits} at bid {number}: {','.join(map(str, goods))}\n")
 
 
 def generated(folder, kind, goods, bids, *more):
@@ -210,9 +218,11 @@ def judge_commands(path, made, total, most):
         judge_run(Answer(0, f"{path}\n{path}\n", ""), "duplicates", option, enough, path, path)
         if enough > 1:
             judge_run(refused(bundle, "first: "), "compare", "--bound", option, enough - 1, path, path)
-            judge_run(refused(bundle, "first: "), "diff", option, enough - 1, path, path)
-            judge_run(refused(bundle), "explain", option, enough - 1, path)
-            judge_run(refused(bundle, f"{path}: "), "duplicates", option, enough - 1, path)
+            named = partial(refused_bid, bundle, path, option, enough - 1)
+            judge_run(named("first: "), "diff", option, enough - 1, path, path)
+            judge_run(named(), "explain", option, enough - 1, path)
+            twice = Answer(STEP_LIMIT, f"{path}\n{path}\n", 2 * named(f"{path}: ").err)
+            judge_run(twice, "duplicates", option, enough - 1, path, path)
 
 
 def judge_lines(folder):

@@ -1,7 +1,8 @@
 // Preloaded into the program by tools/faults: one of its calls fails, or its reads and writes move few bytes at a time.
 //
 // The environment says what happens:
-//   FAULTS_CALL    allocation, read, write, open, or denied: an opening that fails for want of permission
+//   FAULTS_CALL    allocation, read, write, open, or denied: an opening that fails for want of permission; folder: the opening of
+//                  a folder; names: the reading of its names; or look: a look at what is at a path
 //   FAULTS_NUMBER  which of these calls fails, counted from 1
 //   FAULTS_REST    set: all after it fail too
 //   FAULTS_PIECE   the most bytes that a read or a write moves
@@ -81,4 +82,18 @@ int open(const char *path, int flags, ...) {
     mode_t mode = flags & O_CREAT ? va_arg(rest, mode_t) : 0;
     va_end(rest);
     return fails("open", EMFILE) || fails("denied", EACCES) ? -1 : (int)syscall(SYS_openat, AT_FDCWD, path, flags, mode);
+}
+
+int openat(int folder, const char *path, int flags, ...) {
+    return fails("folder", EACCES) ? -1 : (int)syscall(SYS_openat, folder, path, flags, 0);
+}
+
+ssize_t getdents64(int folder, void *names, size_t size) {
+    return fails("names", EIO) ? -1 : syscall(SYS_getdents64, folder, names, size);
+}
+
+struct statx;
+
+int statx(int folder, const char *path, int flags, unsigned int mask, struct statx *found) {
+    return fails("look", EACCES) ? -1 : (int)syscall(SYS_statx, folder, path, flags, mask, found);
 }

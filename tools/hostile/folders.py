@@ -1,5 +1,5 @@
 """Runs the commands on many files where memory, reads, writes and opening fail, and judges each answer: such a run reports the file
-and continues with the others.
+and continues with the others. Also lists of paths, folders, names that are escaped, and files that the step limit refuses.
 
     folders.py PROGRAM CALLS GENERATED LARGE
 
@@ -7,17 +7,29 @@ The words are those of runs.py. Prints what is wrong and 'N runs, M wrong'; the 
 """
 import os
 import resource
+import socket
+import stat
 import sys
 import tempfile
 import tty
 from concurrent.futures import ThreadPoolExecutor
 from itertools import count
 
-from runs import BIDDERS, DEVICE_FAILED, FILE_REFUSED, LADDER, LARGER_BID, NO_MEMORY, PIECE, PIPE, SINGLES, TALLY, Answer, case, ended, full, reads_of, run, start, write_file
+from runs import BIDDERS, DEVICE_FAILED, LADDER, LARGER_BID, NO_MEMORY, PIECE, PIPE, SINGLES, TALLY, Answer, Case, case, ended, full, header, reads_of, run, start, write_file
 
-WRONG_USAGE = 64
+STEP_LIMIT, WRONG_USAGE = 3, 64
 
 WANT = b"want of memory\n"
+
+
+class OfFolder(Case):
+    """A case whose files are all those of a folder, in order, which is given in their place."""
+
+    def words(self, files=None):
+        return [*self.command, os.path.dirname(self.files[0])]
+
+    def __str__(self):
+        return f"{super().__str__()}, by their folder"
 
 
 def beside(one, left_out):
@@ -27,7 +39,7 @@ def beside(one, left_out):
 
 def makes_table(one):
     """Whether a refused file is a row of the table, and no line on standard error."""
-    return one.command == ("sizes",)
+    return one.command[0] == "sizes"
 
 
 def refused_row(path, line):
@@ -104,9 +116,8 @@ def writes(one):
 
 
 def other_inputs(one):
-    """A folder, a device that gives nothing and a path where nothing is are among the files."""
+    """A device that gives nothing and a path where nothing is are among the files."""
     for path, status, line in (
-        ("/", DEVICE_FAILED, b"cannot open: is a folder\n"),
         ("/dev/null", DEVICE_FAILED, b"cannot open: not a file\n"),
         ("/nothing", DEVICE_FAILED, b"cannot open: no such file\n"),
     ):
@@ -136,6 +147,7 @@ def lists(folder):
         with open(path, "w", encoding="ascii") as file:
             file.write(LADDER)
     one, listed, folder_of_files = paths[0], b"".join(path + b"\0" for path in paths), names + b"/"
+    below = b"".join(path + b"\n" for path in sorted(paths))
     groups, pair = b"".join(path + b"\n" for path in paths), one + b"\n" + one + b"\n"
     rows = [
         (listed, 0, groups, []),
@@ -147,7 +159,8 @@ def lists(folder):
         (b"\0", DEVICE_FAILED, b"", [b": cannot open: no such file\n"]),
         (one + b"\0" + names + b"/none\0" + one, DEVICE_FAILED, pair, [names + b"/none: cannot open: no such file\n"]),
         (one + b"\0" + names + b"/b\xff\0" + one, DEVICE_FAILED, pair, [names + rb"/b\xff" + b": cannot open\n"]),
-        (one + b"\0" + folder_of_files + b"\0" + one, DEVICE_FAILED, pair, [folder_of_files + b": cannot open: is a folder\n"]),
+        (one + b"\0" + folder_of_files + b"\0" + one, 0, one + b"\n" + below + one + b"\n", []),
+        (names, 0, below, []),
     ]
     path = os.path.join(os.fsencode(folder), b"list")
     for text, status, out, lines in rows:
@@ -224,6 +237,167 @@ def names(folder):
     TALLY.judge(is_told(answer, 0, b"", []), "one file", answer)
 
 
+def is_utf8(name):
+    try:
+        name.decode()
+    except UnicodeDecodeError:
+        return False
+    return True
+
+
+def files_below(folder):
+    """The files below a folder, as Python finds them. What has a name that is not UTF-8 is one, as it cannot be looked at, and so is a folder
+    that cannot be read."""
+    start, found = folder if folder.endswith(b"/") else folder + b"/", []
+    for top, folders, others in os.walk(start, onerror=lambda error: found.append(error.filename)):
+        paths = [os.path.join(top, name) for name in (*folders, *others)]
+        found += [path for path in paths if not is_utf8(path) or stat.S_ISREG(os.lstat(path).st_mode)]
+        folders[:] = filter(is_utf8, folders)
+    return sorted(found)
+
+
+def make_tree(tree):
+    """A folder with files that are all one auction, and with what is left out, and some names that are not UTF-8."""
+    for name in (b"", b"/a", b"/a/y", b"/a/empty", b"/a.c", b"/\xfe"):
+        os.mkdir(tree + name)
+    for name in (b"/b", b"/a/z", b"/a.b", b"/a/y/x", b"/a/y/.hidden", b"/a.c/d\ne", b"/\xc3\xa9", b"/\xff", b"/\xfe/f"):
+        with open(tree + name, "w", encoding="ascii") as file:
+            file.write(LADDER)
+    os.symlink(b"b", tree + b"/link")
+    os.symlink(b"a", tree + b"/link to a folder")
+    os.symlink(b"..", tree + b"/a/above")
+    os.symlink(b"nothing", tree + b"/link to nothing")
+    os.mkfifo(tree + b"/a/fifo")
+    with socket.socket(socket.AF_UNIX) as it:
+        it.bind(tree + b"/a/socket")
+
+
+def judge_paths(words, paths, refused=()):
+    """The files of a run are those at these paths, in order, all of one auction; of the refused ones the path and the reason are given."""
+    refused = dict(refused)
+    lines = [path.replace(b"\xff", rb"\xff").replace(b"\xfe", rb"\xfe") + b": " + refused[path] for path in paths if path in refused]
+    judged = [path + b"\0" for path in paths if path not in refused]
+    status, groups = DEVICE_FAILED if lines else 0, b"".join(judged) if len(judged) > 1 else b""
+    answer = run(["duplicates", "-0", *words])
+    TALLY.judge(answer.printed() == (status, groups, b"".join(lines)), f"the groups of {words}", answer)
+    answer = run(["sizes", "-0", *words])
+    printed = [line.split(b"\t", 9)[-1] for line in answer.out.split(b"\0")[1:-1]]
+    TALLY.judge(answer.printed()[::2] == (status, b"") and printed == paths, f"the table of {words}", answer)
+
+
+def trees(folder):
+    """Folders among the paths: each stands for the files below it."""
+    folder = os.fsencode(folder)
+    tree, again, path = folder + b"/tree", folder + b"/again", folder + b"/list of folders"
+    make_tree(tree)
+    os.symlink(b"tree", again)
+    below = files_below(tree)
+    wanted = [b"/a.b", b"/a.c/d\ne", b"/a/y/.hidden", b"/a/y/x", b"/a/z", b"/b", b"/\xc3\xa9", b"/\xfe", b"/\xff"]
+    TALLY.judge(below == [tree + name for name in wanted], "the files below the folder", below)
+    refused = {path: b"cannot open\n" for path in below if not is_utf8(path)}
+    inner = files_below(tree + b"/a")
+    judge_paths([tree], below, refused)
+    judge_paths([tree + b"/"], below, refused)
+    judge_paths([tree, tree], below + below, refused)
+    judge_paths([tree + b"/b", tree + b"/a", tree + b"/a.b"], [tree + b"/b", *inner, tree + b"/a.b"])
+    judge_paths([tree + b"/a", tree + b"/a/y/x"], [*inner, tree + b"/a/y/x"])
+    judge_paths([tree + b"/a/empty"], [])
+    judge_paths([tree + b"/a/empty", tree + b"/a/empty/"], [])
+    judge_paths([tree + b"/a//"], [tree + b"/a//" + name[len(tree + b"/a/") :] for name in inner])
+    # a link on the line is followed
+    for link in (again, again + b"/"):
+        judge_paths([link + b"/a"], files_below(link + b"/a"))
+    judge_paths([tree + b"/link to a folder", tree + b"/link"], [*files_below(tree + b"/link to a folder"), tree + b"/link"])
+    judge_paths([tree + b"/a/fifo", tree + b"/a/z"], [tree + b"/a/fifo", tree + b"/a/z"], {tree + b"/a/fifo": b"cannot open: not a file\n"})
+    # no folder is looked for at a path that is not UTF-8
+    with open(path, "wb") as file:
+        file.write(tree + b"/a\0" + tree + b"/\xfe\0" + again)
+    turned = files_below(again)
+    refused.update({path: b"cannot open\n" for path in turned if not is_utf8(path)})
+    judge_paths(["--files0-from", path], [*inner, tree + b"/\xfe", *turned], refused)
+    if os.geteuid() != 0:
+        locked(tree + b"/a")
+
+
+def locked(folder):
+    """A folder on the line, and one below it, without permission to read."""
+    inner = folder + b"/y"
+    os.chmod(inner, 0)
+    refused = {inner: b"cannot open: permission denied\n"}
+    judge_paths([inner], [inner], refused)
+    judge_paths([folder, folder], 2 * files_below(folder), refused)
+    os.chmod(inner, 0o700)
+
+
+def unread(folder):
+    """A folder cannot be opened or read, or what is in it cannot be looked at: it is reported as a file that cannot be opened. If it can be
+    opened afterwards, it is reported as a folder."""
+    top = os.path.join(os.fsencode(folder), b"top")
+    os.makedirs(top + b"/b")
+    paths = [top + name for name in (b"/a", b"/b/c", b"/d")]
+    for path in paths:
+        with open(path, "w", encoding="ascii") as file:
+            file.write(LADDER)
+
+    def told(path, why):
+        files = {top: []}.get(path, [it for it in paths if not (it + b"/").startswith(path + b"/")])
+        return (DEVICE_FAILED, b"".join(it + b"\n" for it in files), path + b": cannot open: " + why + b"\n")
+
+    own = (0, b"".join(path + b"\n" for path in paths), b"")
+    denied, is_folder = b"permission denied", b"is a folder"
+    folders = [told(path, is_folder) for path in (top, top + b"/b")]
+    for call, rest, wanted in (
+        ("folder", False, folders),
+        ("folder", True, [told(path, denied) for path in (top, top + b"/b")]),
+        ("names", False, folders),
+        ("look", False, [own, folders[1], *(told(path, denied) for path in paths)]),
+    ):
+        printed = []
+        for number in count(1):
+            answer = run(["duplicates", top], call=call, number=number, rest=rest)
+            if not answer.failures:
+                break
+            TALLY.judge(answer.printed() in wanted, f"a folder: {call} {number}", answer)
+            printed.append(answer.printed())
+        TALLY.judge(answer.printed() == own, f"a folder: no {call}", answer)
+        TALLY.judge(all(it in printed for it in wanted), f"a folder: {call}: not all was printed that may be", printed)
+
+
+# An auction with bids on which a search takes three steps, and the same with the bids in another order, with bids that a single other bid
+# replaces, and with another price for the bid that others replace together, which is seen by a search alone.
+HEAVY = LARGER_BID
+TURNED = header(2, 3, 5) + "1 7 1 0 #\n0 4 1 #\n2 3.0 0 #\n"
+REPLACED = header(2, 6, 0) + "0 3 0 #\n1 2 0 #\n2 4 1 #\n3 7 0 1 #\n4 6 0 1 #\n5 0 1 #\n"
+LESS = header(2, 3, 0) + "0 3 0 #\n1 4 1 #\n2 6 0 1 #\n"
+
+# The same bids beside two XOR bidders, and these with other dummy goods.
+BESIDE = header(2, 5, 2) + "0 3 0 #\n1 4 1 #\n2 7 0 1 #\n3 5 0 2 #\n4 6 1 3 #\n"
+RENAMED = header(2, 5, 3) + "0 3 0 #\n1 4 1 #\n2 7 0 1 #\n3 6 1 2 #\n4 5 0 4 #\n"
+
+
+def alike(folder):
+    """Files that the step limit refuses are grouped behind the others if they are alike without any search, and are reported all the same."""
+    texts = {
+        "s": SINGLES, "heavy": HEAVY, "beside": BESIDE, "turned": TURNED, "less": LESS, "bidders": BIDDERS, "s2": SINGLES,
+        "renamed": RENAMED, "replaced": REPLACED,
+    }
+    place = os.path.join(folder, "alike")
+    os.mkdir(place)
+    paths = {name: os.fsencode(write_file(place, name, text)) for name, text in texts.items()}
+    refused = [paths[name] + b": step limit " for name in ("heavy", "beside", "turned", "less", "renamed", "replaced")]
+    heavy = [["heavy", "turned", "replaced"], ["beside", "renamed"]]
+    for options, groups in (([], [["s", "s2"], *heavy]), (["--all"], [["s", "s2"], ["bidders"], *heavy])):
+        for null, end in (([], b"\n"), (["-0"], b"\0")):
+            out = end.join(b"".join(paths[name] + end for name in group) for group in groups)
+            answer = run(["duplicates", "--steps", "2", *options, *null, *paths.values()])
+            TALLY.judge(is_told(answer, STEP_LIMIT, out, refused), f"files alike {options}", answer)
+    answer = run(["duplicates", "--steps", "2", paths["heavy"], paths["less"], paths["s"]])
+    TALLY.judge(is_told(answer, STEP_LIMIT, b"", refused[:1] + refused[3:4]), "files that are not alike", answer)
+    answer = run(["duplicates", "--steps", "3", *paths.values()])
+    group = b"".join(paths[name] + b"\n" for name in ("s", "heavy", "turned", "less", "s2", "replaced"))
+    TALLY.judge(is_told(answer, 0, group + b"\n" + b"".join(paths[name] + b"\n" for name in heavy[1]), []), "files that are searched", answer)
+
+
 def terminal(path):
     """If standard error is a terminal, one line says how many files were read, and is gone before a fault is printed."""
     removal = b"\x1b[A\x1b[K"
@@ -244,15 +418,22 @@ def terminal(path):
 def work(folder):
     lists(folder)
     names(folder)
+    trees(folder)
+    unread(folder)
+    alike(folder)
     terminal(write_file(folder, "file", LADDER))
+    place = os.path.join(folder, "files")
+    os.mkdir(place)
     files = tuple(
-        write_file(folder, name, text)
+        write_file(place, name, text)
         for name, text in (("larger", LARGER_BID), ("singles", SINGLES), ("ladder", LADDER), ("bidders", BIDDERS), ("again", LADDER))
     )
-    for command in ("sizes", "duplicates"):
-        one = case((command,), files)
+    for command in (("sizes",), ("duplicates",), ("sizes", "--round"), ("duplicates", "--round")):
+        one, below = case(command, files), OfFolder(*case(command, tuple(sorted(files))))
+        TALLY.judge(run(below.words()) == below.own, f"{below}", below.own)
         calls = [lambda: opens(one), lambda: reads(one, PIECE), lambda: reads(one, 7), lambda: writes(one), lambda: other_inputs(one)]
-        calls += [lambda rest=rest: memory(one, rest) for rest in (False, True)]
+        calls += [lambda: opens(below), lambda: reads(below, PIECE)]
+        calls += [lambda it=it, rest=rest: memory(it, rest) for it in (one, below) for rest in (False, True)]
         with ThreadPoolExecutor(os.cpu_count()) as pool:
             list(pool.map(lambda call: call(), calls))
         full(one)

@@ -53,6 +53,11 @@ class Case(NamedTuple):
     def words(self, files=None):
         return [*self.command, *(files or self.files), *self.goods]
 
+    def counts(self, many):
+        """What `--round` reports of the first so many files: how many prices of each were rounded."""
+        lines = self.own.err.splitlines(True) if "--round" in self.command else []
+        return b"".join([line for line in lines if line.endswith(b" rounded\n")][:many])
+
     def __str__(self):
         return " ".join([*self.command, *map(os.path.basename, self.files), *self.goods])
 
@@ -150,6 +155,9 @@ AUCTIONS = {
 # A file two of whose prices are rounded. `round --exact` refuses it.
 SIX_DIGITS = header(2, 4, 0) + "0\t1.02345e+06\t0\t#\n1\t0.0123456\t1\t#\n2\t2.5e-07\t0\t1\t#\n3\t7\t0\t#\n"
 
+# Another with such prices.
+FINE = header(2, 2, 0) + "0\t1e-7\t0\t#\n1\t1.0000005\t1\t#\n"
+
 # A file with a fault, and how many of its bytes are read before that is reported.
 FAULTY = header(2, 2, 2) + "0 1 0 2 #\n1 1 1 2 3 #\n"
 FAULT_AT = 43
@@ -184,7 +192,10 @@ def small_cases(folder):
     for name, (text, other, goods) in AUCTIONS.items():
         path = write_file(folder, name, text)
         cases += cases_of(path, write_file(folder, f"{name}_other", other), goods)
-    return [*cases, case(("round",), (write_file(folder, "six_digits", SIX_DIGITS),))]
+    six_digits, fine = write_file(folder, "six_digits", SIX_DIGITS), write_file(folder, "other_prices", FINE)
+    rounded = [case((command, "--round"), (six_digits,)) for command in ("check", "normalise", "explain")]
+    rounded += [case((command, "--round"), (six_digits, fine)) for command in ("compare", "diff")]
+    return [*cases, case(("round",), (six_digits,)), *rounded]
 
 
 def prefixes(one):
@@ -195,13 +206,14 @@ def prefixes(one):
 def is_want_of_memory(one, answer):
     """Whether a run printed want of memory, of one of its files or of neither, or of the command line."""
     lines = [which + b"want of memory\n" for which in (b"", *prefixes(one))] + [b"error: out of memory\n"]
+    lines = [one.counts(many) + line for many in range(len(one.files) + 1) for line in lines]
     return answer.status == NO_MEMORY and answer.out == b"" and answer.err in lines
 
 
 def places(answers):
     """For each want of memory in a run on two files 1 for the first file, 2 for the second and 3 for neither; those of the command line,
     before it, are left out."""
-    found = [{b"first:": 1, b"second": 2}.get(it.err[:6], 3) for it in answers]
+    found = [{b"first:": 1, b"second": 2}.get(it.err.splitlines()[-1][:6], 3) for it in answers]
     begun = next((at for at, place in enumerate(found) if place < 3), 0)
     return found[begun:]
 
@@ -218,7 +230,7 @@ def memory(one, rest):
         wants += [answer] * is_want
     TALLY.judge(answer.printed() == one.own.printed(), f"{what}: none", answer)
     TALLY.judge(wants, f"{what}: no want of memory was printed", None)
-    if not one.own.err and len(one.files) == 2 and not rest:
+    if one.own.err == one.counts(2) and len(one.files) == 2 and not rest:
         found = places(wants)
         TALLY.judge(found == sorted(found), f"{what}: the files are reported out of order", found)
         # the text is made once both files are canonical, so memory that is refused for it is reported of neither
@@ -243,11 +255,11 @@ def reads_of(one, piece):
 
 def reads(one, piece, counts=None):
     """Each read fails, of so many bytes each. Of each file there are as many as given, or else up to its end."""
-    each = zip(prefixes(one), counts or reads_of(one, piece))
-    failing = [which for which, many in each for _ in range(many)]
-    for number, which in enumerate(failing, 1):
+    lines = [one.counts(at) + which + b"Device\n" for at, which in enumerate(prefixes(one))]
+    failing = [line for line, many in zip(lines, counts or reads_of(one, piece)) for _ in range(many)]
+    for number, line in enumerate(failing, 1):
         answer = run(one.words(), call="read", number=number, piece=piece)
-        wanted = Answer(DEVICE_FAILED, b"", which + b"Device\n", 1)
+        wanted = Answer(DEVICE_FAILED, b"", line, 1)
         TALLY.judge(answer == wanted, f"{one}: read {number} of {piece} bytes", answer)
     answer = run(one.words(), call="read", number=len(failing) + 1, piece=piece)
     TALLY.judge(answer == one.own, f"{one}: no read of {piece} bytes", answer)
@@ -256,7 +268,7 @@ def reads(one, piece, counts=None):
 def cut_off(one, is_output, at, rest):
     """What is printed if the output, or else standard error, fails after so many bytes. If the rest fails too, nothing more is."""
     if is_output:
-        return (DEVICE_FAILED, one.own.out[:at], b"" if rest else b"output failed after %d bytes\n" % at)
+        return (DEVICE_FAILED, one.own.out[:at], b"" if rest else one.counts(2) + b"output failed after %d bytes\n" % at)
     return (one.own.status, one.own.out, one.own.err[:at])
 
 
@@ -326,7 +338,7 @@ def closed(one, size):
     came = read_from_pipe(pipe, size) if size else b""
     answer = ended(process, report)
     most = size + PIPE if size else 0
-    lines = {b"output failed after %d bytes\n" % at for at in range(size, min(most + 1, len(one.own.out)))}
+    lines = {one.counts(2) + b"output failed after %d bytes\n" % at for at in range(size, min(most + 1, len(one.own.out)))}
     is_whole = answer.printed() == (one.own.status, None, one.own.err) and len(one.own.out) <= most
     is_cut_off = answer.status == DEVICE_FAILED and answer.err in lines
     is_right = (is_whole or is_cut_off) and came == one.own.out[:size]
@@ -354,7 +366,10 @@ def fifos(one, piece):
                 text = opened.read()
             threading.Thread(target=feed, args=(path, text, piece), daemon=True).start()
         answer = run(one.words(paths))
-    TALLY.judge(answer == one.own, f"{one}: FIFOs in pieces of {piece} bytes", answer)
+    err = one.own.err
+    for path, file in zip(paths, one.files):
+        err = err.replace(os.fsencode(file) + b": ", os.fsencode(path) + b": ")
+    TALLY.judge(answer == one.own._replace(err=err), f"{one}: FIFOs in pieces of {piece} bytes", answer)
 
 
 # What is in place of a file, and what is reported of it: a directory, and a device that gives nothing.
@@ -368,7 +383,7 @@ def other_inputs(one, at, path):
         return
     files = [*one.files[:at], path, *one.files[at + 1 :]]
     answer = run(one.words(files))
-    TALLY.judge(answer == Answer(status, b"", prefixes(one)[at] + line), f"{one}: {path} as file {at + 1}", answer)
+    TALLY.judge(answer == Answer(status, b"", one.counts(at) + prefixes(one)[at] + line), f"{one}: {path} as file {at + 1}", answer)
 
 
 def refused_cases(folder):
@@ -380,8 +395,9 @@ def refused_cases(folder):
     one_file = [case((command,), (faulty,)) for command in ("check", "show", "value", "normalise", "explain", "lp")]
     pairs = {(faulty, nothing): (FAULT_AT, 0), (nothing, faulty): (ended, FAULT_AT)}
     compared = {case((command,), pair): counts for command in ("compare", "diff") for pair, counts in pairs.items()}
-    # `round` reads the whole file
-    rounded = {case(("round",), (faulty,)): (len(FAULTY) + 1,), case(("round", "--exact"), (fine,)): (len(SIX_DIGITS) + 1,)}
+    # to round prices the whole file is read
+    rounded = {case(words, (faulty,)): (len(FAULTY) + 1,) for words in (("round",), ("check", "--round"))}
+    rounded.update({case(words, (fine,)): (len(SIX_DIGITS) + 1,) for words in (("round", "--exact"), ("check", "--round-exact"))})
     return {**{one: (FAULT_AT,) for one in one_file}, **rounded, **compared}
 
 

@@ -171,9 +171,9 @@ def bids_on(count, size):
 
 
 def judge_files(folder):
-    """3,000 files, of which the last 1,000 are rewritings of others, and then one file 70,000 times; all listed too, and one file
-    300,000 times, whose paths are more than one command takes."""
-    print("3,000 files, one file 70,000 times, and lists of these and of 300,000 paths", flush=True)
+    """3,000 files, of which the last 1,000 are rewritings of others, also by their folder, and then one file 70,000 times; all listed too, and
+    one file 300,000 times, whose paths are more than one command takes."""
+    print("3,000 files, their folder, one file 70,000 times, and lists of these and of 300,000 paths", flush=True)
     for number in range(2000):
         write(folder, str(number), text_of(2, [Bid(5, (0, 1)), Bid(1 + number, (1,))], MANY_XOR))
     for number in range(1000):
@@ -183,6 +183,8 @@ def judge_files(folder):
     progress = "".join(f"{number} of 3000 {number - 1}\n" for number in range(100, 3001, 100))
     run(["duplicates", *paths], (0, groups, ""), folder)
     run(["duplicates", "--progress", *paths], (0, groups, progress), folder)
+    below = sorted(sorted((f"./{2 * number}", f"./{2000 + number}")) for number in range(1000))
+    run(["duplicates", "."], (0, "\n".join(f"{one}\n{other}\n" for one, other in below), ""), folder)
     run(["duplicates", *["0"] * 70_000], (0, "0\n" * 70_000, ""), folder)
     write(folder, "list", "".join(path + "\0" for path in paths))
     run(["duplicates", "--progress", "--files0-from", "list"], (0, groups, progress), folder)

@@ -1,0 +1,314 @@
+"""Compares each command with --round and with --round-exact with the same command on what `cats round` prints.
+
+    rounded.py PROGRAM GENERATE
+
+The commands on one file read texts of many forms, most of which have prices with exponents or finer places, and some of which are refused. Those
+on two files read pairs of these. `duplicates` and `sizes` read 300 files of tools/generate --kind with prices as `%g` prints them, some of which
+are the same auction only once they are rounded. What is printed and the status have to be those of the rounded texts, but for the line on
+standard error that says how many prices were rounded: as many as `cats round` reports. Prints what is wrong and 'N runs, M wrong'; the status is
+0 if M is 0, and else 1.
+"""
+import os
+import random
+import re
+import subprocess
+import sys
+import tempfile
+from concurrent.futures import ThreadPoolExecutor
+from decimal import Decimal
+from functools import lru_cache
+from typing import NamedTuple
+
+from rounding import MIXED, OTHER_TEXTS, PLAIN, RETURNS, ROWS, TALLY, Answer, latin, price_of, run, text_of
+
+GENERATE = sys.argv[2]
+
+FILE_REFUSED, STEP_LIMIT, WRONG_USAGE = 2, 3, 64
+
+# Flags, each with the option of `cats round` that it stands for. The stricter of two holds.
+FLAGS = {
+    ("--round",): (),
+    ("--round-exact",): ("--exact",),
+    ("--round", "--round-exact"): ("--exact",),
+    ("--round-exact", "--round"): ("--exact",),
+}
+
+KINDS = ("l1", "l2", "l3", "l4", "l5", "l6", "l7", "arbitrary", "regions", "paths", "matching", "scheduling")
+FILES, GOODS, BIDS = 300, 8, 20
+
+
+class Command(NamedTuple):
+    """The words before the files, and those behind them."""
+
+    words: tuple
+    behind: tuple = ()
+
+    def line(self, files, flags=()):
+        """A command line with its flags, the last of two behind the files."""
+        name, *options = self.words
+        return [name, *flags[:1], *options, *files, *self.behind, *flags[1:]]
+
+
+ON_FILE = (
+    Command(("check",)),
+    Command(("show",)),
+    Command(("lp",)),
+    Command(("explain",)),
+    Command(("explain", "--steps", "1")),
+    Command(("normalise",)),
+    Command(("normalise", "--bound")),
+    Command(("normalise", "--bound", "--total-steps", "2")),
+    Command(("value", "--bound"), ("0-1",)),
+    Command(("value", "--steps", "1"), ("0", "1")),
+    Command(("value",), ("0", "65535")),
+    Command(("revenue",), ("0",)),
+    Command(("revenue",), ("1", "0")),
+    Command(("revenue",), ("70000",)),
+)
+ON_PAIR = (Command(("compare", "--bound")), Command(("compare", "--steps", "1")), Command(("diff",)), Command(("diff", "--steps", "1")))
+ON_FILES = (
+    ("duplicates",),
+    ("duplicates", "--all"),
+    ("duplicates", "-0"),
+    ("duplicates", "--progress"),
+    ("duplicates", "--steps", "2"),
+    ("sizes",),
+    ("sizes", "-0"),
+    ("sizes", "--progress", "--steps", "2"),
+)
+
+
+@lru_cache(maxsize=None)
+def rounding_of(text, exact):
+    """What `cats round` answers of a text."""
+    return run(["round", *exact, "/dev/stdin"], text)
+
+
+def report(path, rounding):
+    """The line that says how many prices of the file at a path were rounded, if its rounded text is a bid file and one was."""
+    many = 0 if rounding.status else rounding.err.count(b"\n")
+    return b"" if many == 0 else path + b": %d price%s rounded\n" % (many, b"" if many == 1 else b"s")
+
+
+# ---- one file
+
+def judge_text(command, flags, text):
+    rounding = rounding_of(text, FLAGS[flags])
+    wanted = rounding
+    if not rounding.status:
+        own = run(command.line(["/dev/stdin"]), rounding.out)
+        wanted = own._replace(err=report(b"/dev/stdin", rounding) + own.err)
+    TALLY.judge(f"{command.line(['FILE'], flags)} of {text!r}", wanted, run(command.line(["/dev/stdin"], flags), text))
+
+
+def texts():
+    """Texts of many forms: with valid prices alone, with exponents, with finer places, with faults, and cut off."""
+    choose = random.Random(7)
+    taken = [word for word, rounded, _ in ROWS if not price_of(word, False).fault and "\r" not in word]
+    exact = [word for word in taken if not price_of(word, True).fault]
+    valid = [word for word in exact if price_of(word, True).text == word]
+    refused = [word for word, *_ in ROWS if price_of(word, False).fault and len(word) < 20]
+    found = [b"", *(latin(text) for text, _ in OTHER_TEXTS)]
+    for form in (PLAIN, RETURNS, MIXED):
+        for words in (valid, exact, taken, [*valid, "0.0123456"], *([*taken[:3], word, "1e3"] for word in choose.sample(refused, 8))):
+            some = choose.sample(words, min(len(words), choose.randrange(1, 12))) if choose.random() < 0.5 else words
+            found.append(latin("".join(text_of(some, form, False, choose).source)))
+    for seed in range(24):
+        found.append(printed(generated(seed), choose.randrange(-6, 8)))
+        found.append(found[-1][: choose.randrange(len(found[-1]))])
+    return found
+
+
+def check_texts(some):
+    calls = [(command, flags, text) for command in ON_FILE for flags in FLAGS for text in some]
+    with ThreadPoolExecutor(os.cpu_count()) as pool:
+        list(pool.map(lambda call: judge_text(*call), calls))
+
+
+# ---- two files
+
+def write_file(path, text):
+    with open(path, "wb") as file:
+        file.write(text)
+    return path
+
+
+def wanted_of_pair(command, paths, roundings, copies):
+    """What is answered of the rounded copies, with the counts of the files that are read: the second only if the first is not refused."""
+    first, second = roundings
+    if first.status:
+        return first._replace(err=b"first: " + first.err)
+    begin = report(paths[0], first)
+    if second.status:
+        alone = run(command.line([copies[0]] * 2))
+        if alone.status == STEP_LIMIT:
+            return alone._replace(err=begin + alone.err)
+        return second._replace(err=begin + b"second: " + second.err)
+    own = run(command.line(copies))
+    is_read = not own.err.startswith(b"first: ")
+    return own._replace(err=begin + report(paths[1], second) * is_read + own.err)
+
+
+def judge_pair(folder, number, pair):
+    paths = [write_file(folder + b"/%d %d" % (number, at), text) for at, text in enumerate(pair)]
+    for flags, exact in FLAGS.items():
+        roundings = [rounding_of(text, exact) for text in pair]
+        copies = [write_file(path + b" copy", rounding.out) for path, rounding in zip(paths, roundings)]
+        for command in ON_PAIR:
+            wanted = wanted_of_pair(command, paths, roundings, copies)
+            TALLY.judge(f"{command.line(['FILE', 'FILE'], flags)} of {pair!r}", wanted, run(command.line(paths, flags)))
+
+
+def pairs(some):
+    """Each text beside another, and beside one that is the same auction once both are rounded."""
+    turned = [*some[7:], *some[:7]]
+    twins = [(text, twin(text)) for text in some if not rounding_of(text, ()).status]
+    return [*zip(some, turned), *twins, *((other, text) for text, other in twins)]
+
+
+def check_pairs(folder, some):
+    with ThreadPoolExecutor(os.cpu_count()) as pool:
+        list(pool.map(lambda it: judge_pair(folder, *it), enumerate(pairs(some))))
+
+
+# ---- many files
+
+def generated(seed):
+    """A file of tools/generate: of each kind in turn, half of them with XOR bids."""
+    words = ["--kind", KINDS[seed % len(KINDS)], "--goods", str(GOODS), "--bids", str(BIDS), "--seed", str(seed)]
+    return subprocess.run([GENERATE, *words, *["--dummies"] * (seed % 2)], check=True, capture_output=True).stdout
+
+
+BID = re.compile(rb"^(\d+\t)(\S+)", re.M)
+
+
+def printed(text, power):
+    """The text with each price times a power of ten, as `%g` prints it."""
+    return BID.sub(lambda bid: bid[1] + b"%g" % (float(bid[2]) * 10**power), text)
+
+
+def twin(text):
+    """A text of the same auction, once both are rounded: its prices are rounded and have exponents, and its bids are in another order."""
+    *header, text = re.split(rb"(?m)^(dummy \d+\n)", rounding_of(text, ()).out, maxsplit=1)
+    return b"".join([*header, *reversed(BID.sub(spelt_anew, text).splitlines(True))]) if header else text
+
+
+def spelt_anew(bid):
+    """A price as a whole number of millionths, and perhaps a little more, which rounding takes away."""
+    more = b".25" if len(bid[1]) % 2 else b""
+    return bid[1] + b"%d%se-6" % (Decimal(bid[2].decode()) * 10**6, more)
+
+
+def folder_of_files(folder):
+    """The paths of the files, with their texts: of each three the second is a twin of the first, and some are refused."""
+    choose = random.Random(8)
+    with ThreadPoolExecutor(os.cpu_count()) as pool:
+        plain = list(pool.map(generated, range(FILES)))
+    found = {}
+    for number, text in enumerate(plain):
+        text = printed(text, choose.randrange(-6, 8))
+        if number % 3 == 1:
+            text = twin(last)
+        elif number % 30 == 2:
+            text = text.replace(b"dummy", b"dummies")
+        elif number % 30 == 5:
+            text = text[: len(text) // 2]
+        last = text
+        found[write_file(folder + b"/%03d.cats" % number, text)] = text
+    return found
+
+
+def with_counts(own, command, roundings, refusals):
+    """Standard error of a run on many files: of each how many prices were rounded, why it was refused, and how many were read."""
+    lines = []
+    for number, (path, rounding) in enumerate(roundings.items(), 1):
+        lines += [report(path, rounding), refusals.get(path, b"") if command[0] == "duplicates" else b""]
+        if "--progress" in command and (number % 100 == 0 or number == len(roundings)):
+            lines.append(b"%d of %d %s\n" % (number, len(roundings), path))
+    return own._replace(err=b"".join(lines))
+
+
+def wanted_of_files(command, roundings, folder, copies):
+    """What is answered of the rounded copies of the files that rounding does not refuse, with the others as they have to be reported."""
+    listed = b"".join(path.replace(folder, copies) + b"\0" for path, rounding in roundings.items() if not rounding.status)
+    own = run([*(word for word in command if word != "--progress"), "--files0-from", "/dev/stdin"], listed)
+    out, err = own.out.replace(copies, folder), own.err.replace(copies, folder)
+    refused = {path: rounding.err for path, rounding in roundings.items() if rounding.status}
+    refusals = {line.partition(b": ")[0]: line for line in err.splitlines(True)}
+    refusals.update({path: path + b": " + line for path, line in refused.items()})
+    if command[0] == "sizes":
+        end = b"\0" if "-0" in command else b"\n"
+        header, *rows = out.split(end)[:-1]
+        rows = {row.split(b"\t", 9)[-1]: row for row in rows}
+        rows.update({path: 8 * b"\t" + line.removesuffix(b"\n") + b"\t" + path for path, line in refused.items()})
+        out = b"".join(line + end for line in (header, *map(rows.get, roundings)))
+    status = max(own.status, FILE_REFUSED if refused else 0)
+    return with_counts(Answer(status, out, b""), command, roundings, refusals)
+
+
+def check_files(folder):
+    found = folder_of_files(folder)
+    listed = b"".join(path + b"\0" for path in found)
+    for flags, exact in FLAGS.items():
+        with ThreadPoolExecutor(os.cpu_count()) as pool:
+            roundings = dict(zip(found, pool.map(lambda text: rounding_of(text, exact), found.values())))
+        with tempfile.TemporaryDirectory() as copies:
+            for path, rounding in roundings.items():
+                write_file(path.replace(folder, os.fsencode(copies)), rounding.out)
+            for command in ON_FILES:
+                wanted = wanted_of_files(command, roundings, folder, os.fsencode(copies))
+                TALLY.judge(f"{command} {flags}", wanted, run([*command, *flags, "--files0-from", "/dev/stdin"], listed))
+    groups = run(["duplicates", "--round", "--files0-from", "/dev/stdin"], listed)
+    shown = (groups.out.count(b"\n\n") >= FILES // 4, groups.err.count(b" rounded\n") >= FILES // 4, groups.err.count(b": line ") >= FILES // 20)
+    if not all(shown):
+        sys.exit(f"rounded.py makes files that show too little: {shown}")
+
+
+# ---- paths and command lines
+
+# Names of files, and how they are printed.
+NAMES = {b"a\nb": rb"a\nb", b"\x1b[2J": rb"\x1b[2J", b"a\\b": rb"a\\b", b"\xc3\xa9 b": b"\xc3\xa9 b", b"\xe2\x80\xae": rb"\xe2\x80\xae"}
+ONE_FINE, TWO_FINE = b"goods 1\nbids 1\ndummy 0\n0 1e-7 0 #\n", b"goods 1\nbids 2\ndummy 0\n0 1e-7 0 #\n1 0.0123456 0 #\n"
+
+
+def check_names(folder):
+    """A path is escaped in the line on its prices."""
+    one = write_file(folder + b"/one", ONE_FINE)
+    for name, shown in NAMES.items():
+        path, line = write_file(folder + b"/" + name, TWO_FINE), folder + b"/" + shown + b": 2 prices rounded\n"
+        rows = (
+            (["check", "--round", path], b"goods 1 bids 2 dummy 0\n", line),
+            (["compare", "--round", path, path], b"same\n", 2 * line),
+            (["duplicates", "-0", "--round", path, one], b"", line + one + b": 1 price rounded\n"),
+        )
+        for words, out, err in rows:
+            TALLY.judge(f"{words}", Answer(0, out, err), run(words))
+
+
+def check_lines(folder):
+    """Each command has both flags, once each and without a value, and `fault` and `round` have neither."""
+    path = write_file(folder + b"/file", ONE_FINE)
+    named = {command.words[0]: command.line([path]) for command in ON_FILE}
+    named.update({command.words[0]: command.line([path, path]) for command in ON_PAIR})
+    named.update({command[0]: [*command, path] for command in ON_FILES})
+    wrong = [[name, flag, path] for name in ("fault", "round") for flag in ("--round", "--round-exact")]
+    wrong += [[*line, flag, flag] for line in named.values() for flag in ("--round", "--round-exact")]
+    wrong += [[*line, flag] for line in named.values() for flag in ("--round=yes", "--round-exact=1", "--exact", "--rounded")]
+    for words in wrong:
+        answer = run(words)
+        is_refused = answer.err.startswith(b"error: ")
+        TALLY.judge(f"{words}", Answer(WRONG_USAGE, b"", answer.err if is_refused else b"error: .."), answer)
+
+
+def main():
+    some = texts()
+    check_texts(some)
+    for check in (check_names, check_lines, check_files, lambda folder: check_pairs(folder, some)):
+        with tempfile.TemporaryDirectory() as folder:
+            check(os.fsencode(folder))
+    print(f"{TALLY.runs} runs, {TALLY.wrong} wrong")
+    return 1 if TALLY.wrong else 0
+
+
+if __name__ == "__main__":
+    sys.exit(main())
