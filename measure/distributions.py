@@ -7,7 +7,7 @@ auction algorithms" (2000), with the usual parameters, and not after the code of
 earlier sources are named at KINDS. Unlike in CATS, dominated bids stay, and the numbers of bids and of goods are met exactly.
 
 All bids are OR bids, or with --dummies the bids of a bidder who has several are XOR bids by a dummy good of its own. FORM is how a price is
-printed: `%.4f`, which is used if none is given, `%.2f`, `%d` for 1,000 times the price as a whole number, or `%.6g`, which needs `cats round`
+printed: `%.4f`, which is used if none is given, `%.2f`, `%d` for 1,000 times the price as a whole number, or `%.6g`, which needs `--round`
 if a price is small. What would be printed as 0 is the least price above it.
 """
 import argparse
