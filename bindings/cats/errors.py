@@ -26,7 +26,7 @@ class HeavyBid(NamedTuple):
     """The first bid on a bundle whose search is over a limit: its number, how many goods it has, and the limits."""
 
     bid: int
-    count: int
+    goods_count: int
     steps: int
     total: Optional[int]
 
@@ -94,7 +94,7 @@ class StepLimit(CatsError):
         super().__init__(step_limit_text(bundle, heavy), which)
         self.bundle = bundle
         self.bid = heavy.bid if heavy else None
-        self.count = heavy.count if heavy else len(bundle)
+        self.count = heavy.goods_count if heavy else len(bundle)
         self._words = (bundle, which, heavy)
 
 
@@ -104,7 +104,7 @@ def step_limit_text(bundle: Tuple[int, ...], heavy: Optional[HeavyBid]) -> str:
     if heavy is None:
         return f"step limit at {goods}"
     total = "" if heavy.total is None else f" ({heavy.total} in all)"
-    rest = f",.. ({heavy.count} goods)" if heavy.count > len(bundle) else ""
+    rest = f",.. ({heavy.goods_count} goods)" if heavy.goods_count > len(bundle) else ""
     return f"step limit of {heavy.steps}{total} at bid {heavy.bid}: {goods}{rest}"
 
 
