@@ -286,7 +286,7 @@ def judge_paths(words, paths, refused=()):
 
 
 def trees(folder):
-    """Folders among the paths: each stands for the files below it."""
+    """Folders among the paths: the files below each are judged."""
     folder = os.fsencode(folder)
     tree, again, path = folder + b"/tree", folder + b"/again", folder + b"/list of folders"
     make_tree(tree)
@@ -339,18 +339,18 @@ def unread(folder):
         with open(path, "w", encoding="ascii") as file:
             file.write(LADDER)
 
-    def told(path, why):
+    def refusal(path, why):
         files = {top: []}.get(path, [it for it in paths if not (it + b"/").startswith(path + b"/")])
         return (DEVICE_FAILED, b"".join(it + b"\n" for it in files), path + b": cannot open: " + why + b"\n")
 
     own = (0, b"".join(path + b"\n" for path in paths), b"")
     denied, is_folder = b"permission denied", b"is a folder"
-    folders = [told(path, is_folder) for path in (top, top + b"/b")]
+    folders = [refusal(path, is_folder) for path in (top, top + b"/b")]
     for call, rest, wanted in (
         ("folder", False, folders),
-        ("folder", True, [told(path, denied) for path in (top, top + b"/b")]),
+        ("folder", True, [refusal(path, denied) for path in (top, top + b"/b")]),
         ("names", False, folders),
-        ("look", False, [own, folders[1], *(told(path, denied) for path in paths)]),
+        ("look", False, [own, folders[1], *(refusal(path, denied) for path in paths)]),
     ):
         printed = []
         for number in count(1):

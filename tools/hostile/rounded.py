@@ -25,7 +25,7 @@ GENERATE = sys.argv[2]
 
 FILE_REFUSED, STEP_LIMIT, WRONG_USAGE = 2, 3, 64
 
-# Flags, each with the option of `cats round` that it stands for. The stricter of two holds.
+# Flags, each with the option of `cats round` that it is like. The stricter of two holds.
 FLAGS = {
     ("--round",): (),
     ("--round-exact",): ("--exact",),

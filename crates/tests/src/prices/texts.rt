@@ -1,7 +1,7 @@
 //! Whole texts.
 
 use cats_text::Kind;
-use rounding::{FinePrices, round};
+use rounding::{FinePrices, round, round_prices};
 use std::test::Fail;
 
 /// A text with CR and LF, comments, tabs, and no LF at its end, and what it becomes.
@@ -30,5 +30,21 @@ fn prices_of_a_text(rt: HostRuntime) -> Result<(), Fail> {
             assert!(rt; fault.kind == Kind::TooFine);
         }
     }
+    Ok(())
+}
+
+/// A text that is no bid file, and what it becomes.
+static NO_FILE: &[u8] = b"goods 2\nbids 1\ndummy 0\n0 1e-7 9 #\n1 2.5e0 x";
+
+static ROUNDED: &[u8] = b"goods 2\nbids 1\ndummy 0\n0 0 9 #\n1 2.5 x";
+
+#[test]
+fn prices_of_any_text(rt: HostRuntime) -> Result<(), Fail> {
+    let rounded = round_prices(rt.alloc(), NO_FILE, FinePrices::Round)?;
+    assert!(rt; rounded.text.as_slice() == ROUNDED);
+    assert_eq!(rt; rounded.prices.len(), 1);
+    assert_eq!(rt; rounded.prices[0].line, 4);
+    assert_eq!(rt; rounded.prices[0].price, 0);
+    assert!(rt; rounded.prices[0].word.as_slice() == b"1e-7".as_slice());
     Ok(())
 }
