@@ -37,7 +37,7 @@ const NULL: &str = "Prints each path as it is, and ends each line with NUL";
 
 const LIST: &str = "The paths are in this file, each with NUL after it";
 
-const FILES: &str = "The paths of bid files and of folders. A folder stands for all files below it";
+const FILES: &str = "The paths of bid files, and of folders for all files below them";
 
 /// The help of the program and of each subcommand.
 pub fn all_help<'a>() -> [CommandHelp<'a>; 14] {

@@ -1,4 +1,4 @@
--- The files that paths stand for: each path adds its own behind those of the paths before it.
+-- The files at paths: each path adds its own behind those of the paths before it.
 use Rattle.std.proofs.Common.{◌≡◌, inl, inr, ℕ, ◌+◌, ◌<◌, length, get_or, take, List, [], ◌∷◌, ◌++◌, map, refl, sym, ap, ◌∙◌, subst, true, false, Option}
 use Rattle.std.proofs.Common.{Some, None, Result, Ok, Err, Vec, append-nil}
 use Rattle.std.specs.Borrow.{Bor}
@@ -14,7 +14,7 @@ use Rattle.std.proofs.lemmas.List.Elements.{All-nil, All-push}
 use Rattle.std.proofs.lemmas.Grind.{flat_map-append}
 use Rattle.std.proofs.lemmas.Str.{IsUtf8-from_is_utf8, is_utf8-from_IsUtf8}
 use Rattle.cats_cmd.proofs.JudgingPaths.{one_more_path}
-use Rattle.cats_cmd.specs.Folders.{Finds, FindsAt, FoundAt, StandFor, files_at, files_of, found_of, paths_of}
+use Rattle.cats_cmd.specs.Folders.{Finds, FindsAt, FoundAt, AreFilesAt, files_at, files_of, found_of, paths_of}
 
 module _ (may_find : List ℕ → Option (List (List ℕ)) → Type 0) where
   -- what is found at a path that is text
@@ -33,11 +33,11 @@ module _ (may_find : List ℕ → Option (List (List ℕ)) → Type 0) where
       (λ (e : is_utf8 path ≡ false). inr e)
       (cases_Bool (is_utf8 path))
 
-  pub no_paths : StandFor may_find [] []
+  pub no_paths : AreFilesAt may_find [] []
   no_paths = record { found = []; of_paths = refl; finds = All-nil (λ (f : FoundAt). FindsAt may_find f.path f.found); is = refl }
 
-  one_more : (paths files : List (List ℕ)) (path : List ℕ) (found : Option (List (List ℕ))) → StandFor may_find paths files
-      → FindsAt may_find path found → StandFor may_find (paths ++ path ∷ []) (files ++ files_of path found)
+  one_more : (paths files : List (List ℕ)) (path : List ℕ) (found : Option (List (List ℕ))) → AreFilesAt may_find paths files
+      → FindsAt may_find path found → AreFilesAt may_find (paths ++ path ∷ []) (files ++ files_of path found)
   one_more paths files path found so_far finds =
       let at : FoundAt = record { path = path; found = found } in
       record {
@@ -51,28 +51,28 @@ module _ (may_find : List ℕ → Option (List (List ℕ)) → Type 0) where
 
   -- the files of one more path are kept behind those of the paths before it
   next_files : (paths : List (Bor (List ℕ))) (i : ℕ) (d : Bor (List ℕ)) → i < length paths → (files mine all : List (Vec ℕ Global))
-      → StandFor may_find (map (λ p. p.now) (take i paths)) (paths_of files) → (found : Option (List (List ℕ)))
+      → AreFilesAt may_find (map (λ p. p.now) (take i paths)) (paths_of files) → (found : Option (List (List ℕ)))
       → FindsAt may_find (get_or paths i d).now found → paths_of mine ≡ files_of (get_or paths i d).now found → all ≡ files ++ mine
-      → StandFor may_find (map (λ p. p.now) (take (i + 1) paths)) (paths_of all)
+      → AreFilesAt may_find (map (λ p. p.now) (take (i + 1) paths)) (paths_of all)
   next_files paths i d l files mine all so_far found finds same is =
       rw (one_more_path paths i d l)
-      (subst (λ (fs : List (List ℕ)). StandFor may_find (map (λ (p : Bor (List ℕ)). p.now) (take i paths) ++ (get_or paths i d).now ∷ []) fs)
+      (subst (λ (fs : List (List ℕ)). AreFilesAt may_find (map (λ (p : Bor (List ℕ)). p.now) (take i paths) ++ (get_or paths i d).now ∷ []) fs)
       (ap (λ (fs : List (List ℕ)). paths_of files ++ fs) (sym same)
       ∙ sym (ap paths_of is ∙ map-append (λ (f : Vec ℕ Global). f.items) files mine))
       (one_more (map (λ (p : Bor (List ℕ)). p.now) (take i paths)) (paths_of files) (get_or paths i d).now found so_far finds))
 
   pub next_below : (paths : List (Bor (List ℕ))) (i : ℕ) (d : Bor (List ℕ)) → i < length paths → (files all : List (Vec ℕ Global))
-      → StandFor may_find (map (λ p. p.now) (take i paths)) (paths_of files) → (found : Option (Vec (Vec ℕ Global) Global))
+      → AreFilesAt may_find (map (λ p. p.now) (take i paths)) (paths_of files) → (found : Option (Vec (Vec ℕ Global) Global))
       → FindsAt may_find (get_or paths i d).now (found_of found) → (below : Vec (Vec ℕ Global) Global) → found ≡ Some below → all ≡ files ++ below.items
-      → StandFor may_find (map (λ p. p.now) (take (i + 1) paths)) (paths_of all)
+      → AreFilesAt may_find (map (λ p. p.now) (take (i + 1) paths)) (paths_of all)
   next_below paths i d l files all so_far found finds below some is =
       next_files paths i d l files below.items all so_far (found_of found) finds
       (ap (λ (f : Option (Vec (Vec ℕ Global) Global)). files_of (get_or paths i d).now (found_of f)) (sym some)) is
 
   pub next_itself : (paths : List (Bor (List ℕ))) (i : ℕ) (d : Bor (List ℕ)) → i < length paths → (files all : List (Vec ℕ Global))
-      → StandFor may_find (map (λ p. p.now) (take i paths)) (paths_of files) → (found : Option (Vec (Vec ℕ Global) Global))
+      → AreFilesAt may_find (map (λ p. p.now) (take i paths)) (paths_of files) → (found : Option (Vec (Vec ℕ Global) Global))
       → FindsAt may_find (get_or paths i d).now (found_of found) → found ≡ None → (itself : Vec ℕ Global) → itself.items ≡ (get_or paths i d).now
-      → all ≡ files ++ itself ∷ [] → StandFor may_find (map (λ p. p.now) (take (i + 1) paths)) (paths_of all)
+      → all ≡ files ++ itself ∷ [] → AreFilesAt may_find (map (λ p. p.now) (take (i + 1) paths)) (paths_of all)
   next_itself paths i d l files all so_far found finds none itself same is =
       next_files paths i d l files (itself ∷ []) all so_far (found_of found) finds
       (ap (λ (p : List ℕ). p ∷ []) same

@@ -28,7 +28,7 @@ zip_push R S [] (b ∷ ys) x y weaker h s = absurd h
 zip_push R S (a ∷ xs) [] x y weaker h s = absurd h
 zip_push R S (a ∷ xs) (b ∷ ys) x y weaker h s = (weaker a b h.0, zip_push R S xs ys x y weaker h.1 s)
 
--- files of which a text tells which are related
+-- files, of which those are related that have one text
 module _ (text_of : PlainFile → List ℕ) (Related : PlainFile → PlainFile → Type 0) where
   pub no_places : (index : TextIndex) → IsEmptyIndex index → KeepsPlaces text_of Related [] [] index []
   no_places index none = record { is_index = index_of_none text_of index none; finds = record { of_paths = refl; places = tt } }

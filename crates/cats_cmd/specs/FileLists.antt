@@ -5,7 +5,7 @@ use Rattle.cats_text.specs.declared.stream.Watched.{Watched}
 use Rattle.canon.specs.declared.canon_fault.CanonFault.TheVariants.{Read, StepLimit, Memory}
 use Rattle.canon.specs.declared.which.Which.TheVariants.{Only}
 use Rattle.command_line.specs.PlainRequests.{PlainPaths, Given, ListedIn}
-use Rattle.cats_cmd.specs.Folders.{StandFor}
+use Rattle.cats_cmd.specs.Folders.{AreFilesAt}
 use Rattle.cats_cmd.specs.Inputs.{IsOpened, ReadsAll, StopsReading, WantsMemoryForBytes}
 use Rattle.cats_cmd.specs.PathLists.{paths_in}
 use Rattle.cats_cmd.specs.Paths.{refusal_line}
@@ -63,11 +63,11 @@ pub record RefusesList {W E : Type 0} (messages : E → Option (List ℕ)) (Unre
 -- `Runs` is the run on some files.
 module _ {W E : Type 0} (may_find : List ℕ → Option (List (List ℕ)) → Type 0)
     (Runs : List (List ℕ) → Watched W → Watched W → Watched E → Watched E → Result ℕ RunFault → Type 0) where
-  -- the run is on the files that these paths stand for
+  -- the run is on the files at these paths
   pub record RunsOnFound (paths : List (List ℕ)) (out out_after : Watched W) (err err_after : Watched E)
       (answer : Result ℕ RunFault) : Type 0 where
     pub files : List (List ℕ)
-    pub stand : StandFor may_find paths files
+    pub are : AreFilesAt may_find paths files
     pub runs : Runs files out out_after err err_after answer
 
   -- it is, or memory was refused while folders were read, and nothing was written or reported

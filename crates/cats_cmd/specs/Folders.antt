@@ -1,7 +1,6 @@
--- The files that paths stand for. A path stands for itself, or, if a folder is there, for the files below it.
+-- The files at paths: the path itself, or, if a folder is there, the files below it.
 use Rattle.std.specs.Prelude.{◌≡◌, ◌⊎◌, ◌++◌, if◌then◌else◌, nat_eq, ℕ, false, true, List, [], ◌∷◌, map, Option, Some}
-use Rattle.std.specs.Prelude.{None}
-use Rattle.std.specs.Prelude.{option_map, Vec}
+use Rattle.std.specs.Prelude.{None, option_map, Vec}
 use Rattle.std.specs.Cmp.Lexicographic.{slice_cmp}
 use Rattle.std.specs.Global.{Global}
 use Rattle.std.specs.List.{All, ends_with, flat_map}
@@ -55,8 +54,8 @@ module _ (may_find : List ℕ → Option (List (List ℕ)) → Type 0) where
   FindsAt path None = may_find path None ⊎ (is_utf8 path ≡ false)
   FindsAt path (Some files) = (is_utf8 path ≡ true) × may_find path (Some files) × ListsFolder path files
 
-  -- the files that these paths stand for, in the order of the paths
-  pub record StandFor (paths files : List (List ℕ)) : Type 0 where
+  -- the files at these paths, in the order of the paths
+  pub record AreFilesAt (paths files : List (List ℕ)) : Type 0 where
     pub found : List FoundAt
     pub of_paths : map (λ f. f.path) found ≡ paths
     pub finds : All (λ f. FindsAt f.path f.found) found

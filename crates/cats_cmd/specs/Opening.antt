@@ -1,7 +1,7 @@
 -- Which paths a source has opened: each once, in the order of the request.
 use Rattle.std.specs.Prelude.{◌≡◌, ◌⊎◌, ◌++◌, ℕ, List, filter, take, Option, option_map}
 use Rattle.std.specs.Str.{is_utf8}
-use Rattle.cats_cmd.specs.Folders.{StandFor}
+use Rattle.cats_cmd.specs.Folders.{AreFilesAt}
 
 -- known paths, and then these
 abbrev pub with_paths : Option (List (List ℕ)) → List (List ℕ) → Option (List (List ℕ))
@@ -29,10 +29,10 @@ module _ {S H : Type 0} (content_of : S → H) (opened : S → Option (List (Lis
       Opens old new (openable paths) ⊎ ((status ≡ 4) × OpensFirst old new paths)
 
   module _ (may_find : H → List ℕ → Option (List (List ℕ)) → Type 0) where
-    -- the files that these paths stand for are opened
+    -- the files at these paths are opened
     pub record OpensFound (paths : List (List ℕ)) (old new : S) (status : ℕ) : Type 0 where
       pub files : List (List ℕ)
-      pub stand : StandFor (may_find (content_of old)) paths files
+      pub are : AreFilesAt (may_find (content_of old)) paths files
       pub opens : OpensEach files old new status
 
     -- they are, or memory was refused while folders were read, and nothing is opened

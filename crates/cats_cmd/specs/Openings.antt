@@ -50,15 +50,14 @@ module _ {S H F : Type 0} (content_of : S → H) (opened : S → Option (List (L
     pub unopened : new ≡ old
 
   module _ (may_find : H → List ℕ → Option (List (List ℕ)) → Type 0) where
-    -- the list was read from a stream that the source might open at first, and the files that the paths in it stand for
+    -- the list was read from a stream that the source might open at first, and the files at the paths in it
     -- are opened
     pub record OpensListed (list : List ℕ) (first old new : S) (status : ℕ) : Type 0 where
       pub bytes : List ℕ
       pub reads : ReadsList (may_open (content_of first)) (may_refuse (content_of first)) remaining list bytes
       pub opens : OpensAtPaths content_of opened may_find (paths_in bytes) old new status
 
-    -- the list is opened, and then the files that the paths in it stand for, unless it is not read or memory is refused
-    -- for them
+    -- the list is opened, and then the files at the paths in it, unless it is not read or memory is refused for them
     pub record OpensList (list : List ℕ) (old new : S) (status : ℕ) : Type 0 where
       pub between : S
       pub opens : Opens content_of opened old between (list ∷ [])

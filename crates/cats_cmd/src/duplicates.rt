@@ -2,24 +2,20 @@
 
 mod lines;
 
-ghost use Rattle.std.specs.Prelude.{◌≡◌, map, false, OnOk};
-ghost use Rattle.cats_text.specs.Streams.{has_failed};
-ghost use Rattle.cats_cmd.specs.Duplicates.{MakesGroups};
-ghost use Rattle.cats_cmd.specs.Opening.{OpensEach};
-ghost use Rattle.cats_cmd.specs.Openings.{status_of_run};
-ghost use Rattle.cats_cmd.specs.Paths.{RunsOnPaths, refusal_lines, with_refusals};
+ghost use Rattle.std.specs.Prelude.{OnOk};
+ghost use Rattle.cats_cmd.specs.Paths.{refusal_lines};
 ghost use Rattle.cats_cmd.specs.RequestErrors.{ReportsAll};
 
 use crate::errors::RequestError;
-use crate::paths::{Collection, Ending, ManyFiles, report_if_refused, run_on_paths};
-use crate::source::{Source, Unopened};
+use crate::paths::{Collection, Ending, ManyFiles, report_if_refused};
+use crate::source::Unopened;
 use answers::RunFault;
 use bid_file::PackedFile;
 use canon::{AuctionIndex, CanonFault, Which};
 use cats_text::Watched;
 use commands::{Input, name_bid};
 use lines::duplicates_text;
-use std::alloc::{AllocError, AllocGlobal, Global};
+use std::alloc::{AllocError, Global};
 use std::io::Write;
 
 /// Files in groups.
@@ -139,29 +135,4 @@ impl Collection for Groups {
         let heavy = self.heavy.found.as_slice();
         duplicates_text(alloc, judged, heavy, many.ending, many.all)
     }
-}
-
-/// Reads the files at these paths, one after the other, and sends the paths of those that are the same auction; with `all`,
-/// those too that are the only ones of theirs. Behind them come the paths of the files that a step limit refused and that
-/// are the same auction as another one of these without any search.
-///
-/// A file that cannot be judged is reported on `err` at once, and the others go on; so is, where prices are rounded, how
-/// many of a file's were. With `progress`, it is reported there after each hundredth file, and after the last, how many
-/// were read. The status is 0 if every file was judged, and else the greatest of the statuses of those that were not.
-pub fn run_duplicates<S: Source + AllocGlobal, W: Write, E: Write>(
-    source: &mut S,
-    paths: &[&[u8]],
-    many: ManyFiles,
-    out: &mut Watched<W>,
-    err: &mut Watched<E>,
-) -> Result<u8, RunFault>
-    requires { has_failed out.old ≡ false }
-    ensures runs { RunsOnPaths (S.may_open (S.content_of source.old))
-        (S.may_refuse (S.content_of source.old)) S.Stream.remaining W.contents E.contents many.options many.prices
-        (MakesGroups many.ending many.all) (map (λ path. path.now) paths.now) (with_refusals many.progress) out.old out.new
-        err.old err.new result }
-    ensures opens { OpensEach S.content_of S.opened (map (λ path. path.now) paths.now) source.old source.new
-        (status_of_run result) }
-{
-    run_on_paths::<Groups, S, W, E>(source, paths, many, out, err)
 }

@@ -1,18 +1,18 @@
 //! Paths of which some may be of folders.
 
 ghost use Rattle.std.specs.Prelude.{◌≡◌, map, IfOk};
-ghost use Rattle.cats_cmd.specs.Folders.{FindsAt, StandFor, found_of, paths_of};
+ghost use Rattle.cats_cmd.specs.Folders.{FindsAt, AreFilesAt, found_of, paths_of};
 
 use crate::source::Source;
 use std::alloc::{AllocError, Global};
 
-/// The files that paths stand for: a path stands for itself, or, if a folder is there, for the files below it.
+/// The files at paths: the path itself, or, if a folder is there, the files below it.
 pub(crate) fn files_at<S: Source>(
     source: &S,
     alloc: Global,
     paths: &[&[u8]],
 ) -> Result<Vec<Vec<u8>>, AllocError>
-    ensures { IfOk result (λ files. StandFor (S.may_find (S.content_of source.now)) (map (λ path. path.now) paths.now)
+    ensures { IfOk result (λ files. AreFilesAt (S.may_find (S.content_of source.now)) (map (λ path. path.now) paths.now)
         (paths_of files.items)) }
 {
     let mut files = Vec::new(alloc);

@@ -29,18 +29,15 @@ pub mod worked;
 
 pub use answers::{NO_MEMORY, RunFault, WRONG_USAGE, fault_line, status};
 pub use canon::{CanonFault, Which};
-pub use duplicates::run_duplicates;
 pub use fault::run_fault;
 pub use one_file::{
     run_check, run_explain, run_lp, run_normalise, run_normalise_by, run_revenue, run_show,
     run_value, run_value_by,
 };
-pub use paths::{Ending, ManyFiles, Progress};
 pub use priced_input::PricedInput;
 pub use program::{Process, run_cats, run_program};
 pub use round::run_round;
 pub use rounding::FinePrices;
-pub use sizes::run_sizes;
 pub use source::{Source, SystemFiles, Unopened};
 pub use two_files::{run_compare, run_compare_by, run_diff};
 pub use valuation::SearchOptions;

@@ -60,7 +60,7 @@ pub(crate) fn run_on_files<C: Collection, S: Source + AllocGlobal, W: Write, E: 
     }
 }
 
-/// The run on the files that paths stand for.
+/// The run on the files at these paths.
 fn run_at_paths<C: Collection, S: Source + AllocGlobal, W: Write, E: Write>(
     source: &mut S,
     paths: &[&[u8]],

@@ -3,25 +3,21 @@
 
 mod count;
 
-ghost use Rattle.std.specs.Prelude.{◌≡◌, ◌++◌, List, ℕ, codes, map, IfOk, OnOk, false};
-ghost use Rattle.cats_text.specs.Streams.{has_failed};
+ghost use Rattle.std.specs.Prelude.{◌≡◌, ◌++◌, List, ℕ, codes, IfOk, OnOk};
 ghost use Rattle.cats_cmd.specs.Escaping.{path_text};
 ghost use Rattle.cats_cmd.specs.Internal.Tables.{PutsNumbers};
-ghost use Rattle.cats_cmd.specs.Opening.{OpensEach};
-ghost use Rattle.cats_cmd.specs.Openings.{status_of_run};
-ghost use Rattle.cats_cmd.specs.Paths.{RunsOnPaths, without_refusals};
-ghost use Rattle.cats_cmd.specs.SizesTables.{MakesTable, fault_cell};
+ghost use Rattle.cats_cmd.specs.SizesTables.{fault_cell};
 
 use crate::errors::{RequestError, error_line};
 use crate::escaping::{push_end, push_path};
-use crate::paths::{Collection, Ending, ManyFiles, run_on_paths};
-use crate::source::{Source, Unopened};
+use crate::paths::{Collection, Ending, ManyFiles};
+use crate::source::Unopened;
 use answers::RunFault;
 use canon::{CanonFault, Which, named_normal_file};
 use cats_text::Watched;
 use commands::{Input, name_bid};
 use count::{push_counts, push_sizes};
-use std::alloc::{AllocError, AllocGlobal, Global};
+use std::alloc::{AllocError, Global};
 use std::io::Write;
 use valuation::SearchOptions;
 
@@ -162,29 +158,4 @@ fn push_row(rows: &mut Vec<u8>, cells: &[u8], path: &[u8], ending: Ending) -> Re
 {
     rows.extend_from_slice(cells)?;
     push_path(rows, path, ending)
-}
-
-/// Reads the files at these paths, one after the other, and sends a table of their numbers: how many goods and bids
-/// each has, and how many bids are left in its canonical file.
-///
-/// The row of a file that cannot be judged says why, and the others go on; it has the numbers of the file if only the step
-/// limit stops it, and else none. On `err` nothing is reported but, where prices are rounded, how many of a file's were,
-/// and, with `progress`, how many files were read: after each hundredth file, and after the last. The status is 0 if every
-/// file was judged, and else the greatest of the statuses of those that were not.
-pub fn run_sizes<S: Source + AllocGlobal, W: Write, E: Write>(
-    source: &mut S,
-    paths: &[&[u8]],
-    many: ManyFiles,
-    out: &mut Watched<W>,
-    err: &mut Watched<E>,
-) -> Result<u8, RunFault>
-    requires { has_failed out.old ≡ false }
-    ensures runs { RunsOnPaths (S.may_open (S.content_of source.old))
-        (S.may_refuse (S.content_of source.old)) S.Stream.remaining W.contents E.contents many.options many.prices
-        (MakesTable many.ending) (map (λ path. path.now) paths.now) (without_refusals many.progress) out.old out.new err.old
-        err.new result }
-    ensures opens { OpensEach S.content_of S.opened (map (λ path. path.now) paths.now) source.old source.new
-        (status_of_run result) }
-{
-    run_on_paths::<Table, S, W, E>(source, paths, many, out, err)
 }

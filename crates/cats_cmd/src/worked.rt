@@ -200,8 +200,8 @@ pub fn paths_opened()
     ensures unknown { with_paths None (codes "b" ∷ []) ≡ None }
 {}
 
-/// The files that paths stand for: a file for itself, a folder for the files below it, and an empty folder for none. Below a
-/// folder the paths begin with its own, with a slash behind it unless it has one.
+/// The files at paths: a file itself, the files below a folder, and none of an empty folder. Below a folder the paths begin
+/// with its own, with a slash behind it unless it has one.
 pub fn folders_found()
     ensures files { flat_map files_at (record { path = codes "b"; found = None } ∷
         record { path = codes "f"; found = Some (codes "f/a.b" ∷ codes "f/a/b" ∷ []) }

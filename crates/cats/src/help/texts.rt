@@ -219,7 +219,7 @@ an empty line between two auctions. For example:
 
 With --all each other file that was judged is printed too, as an auction of one file.
 
-A folder stands for all files below it, in the order of the bytes of their paths. Links, devices and FIFOs below it are
+A folder is taken for all files below it, in the order of the bytes of their paths. Links, devices and FIFOs below it are
 left out. A folder below it that cannot be read is reported as a file that cannot be opened:
   $ cats duplicates folder
 

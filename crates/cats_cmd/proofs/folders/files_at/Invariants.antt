@@ -1,8 +1,8 @@
 use Rattle.std.proofs.Common.{map, take}
-use Rattle.cats_cmd.specs.Folders.{StandFor, paths_of}
+use Rattle.cats_cmd.specs.Folders.{AreFilesAt, paths_of}
 use Rattle.cats_cmd.proofs.folders.files_at.Given as goal
 
 -- the files of the paths so far
 abbrev pub invariant-loop-path : goal.invariant-loop-path
 invariant-loop-path g l =
-    StandFor (g.S.Source.may_find (g.S.Source.content_of l.fn.source)) (map (λ path. path.now) (take l.path-index l.fn.paths)) (paths_of l.files.items)
+    AreFilesAt (g.S.Source.may_find (g.S.Source.content_of l.fn.source)) (map (λ path. path.now) (take l.path-index l.fn.paths)) (paths_of l.files.items)
