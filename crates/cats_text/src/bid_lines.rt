@@ -8,13 +8,14 @@ ghost use Rattle.cats_text.specs.Internal.Scanning.{state, IsGoodDue, ScansTo};
 
 use crate::keep::Keep;
 use crate::leading_token::{ends_bid, leading_token, number};
-use crate::scanner::{Mode, ScanError, Scanner};
+use crate::read_fault::Kind;
+use crate::scanner::{Mode, Scanner};
 use crate::word::Word;
 
 impl<K: Keep> Scanner<K> {
     /// Takes a good that is due, which with its blank has so many bytes at the start; answers how many.
     #[inline(always)]
-    fn take_good(&mut self, good: u64, taken: usize) -> Result<usize, ScanError>
+    fn take_good(&mut self, good: u64, taken: usize) -> Result<usize, Kind>
         requires waits { self.old.waiting ≡ false }
         requires due { IsGoodDue (state K.keep self.old) }
         ensures scanned { (bytes : List ℕ) → IsLeadingToken bytes (Word.Number good) taken
@@ -24,15 +25,13 @@ impl<K: Keep> Scanner<K> {
         ensures line { self.new.line ≡ self.old.line }
         ensures waiting { self.new.waiting ≡ self.old.waiting }
     {
-        if let Err(stop) = self.parser.take_good(good) {
-            return Err(ScanError::at(self.line, stop));
-        }
+        self.parser.take_good(good)?;
         Ok(taken)
     }
 
     /// Goods at the start, where a good is due; answers how many bytes they and their blanks have.
     #[inline(always)]
-    fn take_goods(&mut self, bytes: &[u8]) -> Result<usize, ScanError>
+    fn take_goods(&mut self, bytes: &[u8]) -> Result<usize, Kind>
         requires waits { self.old.waiting ≡ false }
         requires due { IsGoodDue (state K.keep self.old) }
         ensures scanned { ScansTo (state K.keep self.old) (state K.keep self.new) self.new.waiting
@@ -50,7 +49,7 @@ impl<K: Keep> Scanner<K> {
 
     /// The `#` and the LF that are at the start, where a good is due; answers how many bytes they have.
     #[inline(always)]
-    fn take_bid_end(&mut self) -> Result<usize, ScanError>
+    fn take_bid_end(&mut self) -> Result<usize, Kind>
         requires waits { self.old.waiting ≡ false }
         requires due { IsGoodDue (state K.keep self.old) }
         requires line { self.old.line < 2 ^ 64 - 1 }
@@ -60,9 +59,7 @@ impl<K: Keep> Scanner<K> {
         ensures halted { OnErr result (self.new.line ≡ self.old.line) }
         ensures waiting { self.new.waiting ≡ self.old.waiting }
     {
-        if let Err(stop) = self.parser.close_bid() {
-            return Err(ScanError::at(self.line, stop));
-        }
+        self.parser.close_bid()?;
         self.mode = Mode::Start;
         self.line += 1;
         Ok(2)
@@ -70,7 +67,7 @@ impl<K: Keep> Scanner<K> {
 
     /// Reads a bid line at the start, with its LF. If the line is not there whole, or not in the usual order, reads its
     /// words as far as they are. Answers how many bytes were read.
-    fn read_bid_line(&mut self, bytes: &[u8]) -> Result<usize, ScanError>
+    fn read_bid_line(&mut self, bytes: &[u8]) -> Result<usize, Kind>
         requires waits { self.old.waiting ≡ false }
         requires start { self.old.mode ≡ Mode.Start }
         requires stage { self.old.parser.stage ≡ Bid }
@@ -100,7 +97,7 @@ impl<K: Keep> Scanner<K> {
     }
 
     /// Whole bid lines at the start, and of one more the words that are there whole; answers how many bytes they have.
-    pub fn read_bid_lines(&mut self, bytes: &[u8]) -> Result<usize, ScanError>
+    pub fn read_bid_lines(&mut self, bytes: &[u8]) -> Result<usize, Kind>
         requires waits { self.old.waiting ≡ false }
         requires start { self.old.mode ≡ Mode.Start }
         requires space { self.old.line + length bytes.now < 2 ^ 64 }

@@ -1,13 +1,11 @@
 //! `place_of_fault`: where the first fault of a text is. The parser judges its words, as for `read`.
 
-ghost use Rattle.std.specs.Prelude.{◌≡◌, ◌<◌, [], not, length, position, true, Err, IsOk, IfOk, OnErr, option_map};
-ghost use Rattle.std.specs.Prelude.{MatchOption};
+ghost use Rattle.std.specs.Prelude.{◌≡◌, ◌<◌, [], not, length, position, true, IfOk, OnErr, option_map, MatchOption};
 ghost use Rattle.cats_text.specs.Lines.{line_words, is_blank, is_significant};
 ghost use Rattle.cats_text.specs.Faults.{has_bid_line};
 ghost use Rattle.cats_text.specs.FaultPlaces.{first_place};
 ghost use Rattle.cats_text.specs.Views.{plain_place};
 ghost use Rattle.cats_text.specs.Internal.Machine.{summary};
-ghost use Rattle.cats_text.specs.Internal.Parsing.{word_read, line_read};
 ghost use Rattle.cats_text.specs.Internal.Places.{
   IsFirstWord,
   IsFirstLine,
@@ -15,12 +13,11 @@ ghost use Rattle.cats_text.specs.Internal.Places.{
   seen,
   line_judged,
   words_judged,
-  GivesKind,
-  GivesPlace,
+  Judges,
 };
 
 use crate::keep::BidCount;
-use crate::parser::{ParseError, Parser, Stage};
+use crate::parser::Parser;
 use crate::read_fault::Kind;
 use crate::scanner::line_feed;
 use crate::word::Word;
@@ -111,83 +108,49 @@ fn is_significant(line: &[u8]) -> bool
     word.first() != Some(&b'%')
 }
 
-/// The fault that the parser answered, unless it lacked memory.
-fn fault_in(read: Result<(), ParseError>) -> Result<Option<Kind>, AllocError>
-    ensures fault { IfOk result (λ fault. MatchOption fault (IsOk read) (λ kind. read ≡ Err (ParseError.Fault kind))) }
-    ensures memory { OnErr result (read ≡ Err ParseError.Memory) }
-{
-    match read {
-        Ok(()) => Ok(None),
-        Err(ParseError::Fault(kind)) => Ok(Some(kind)),
-        Err(ParseError::Memory) => Err(AllocError),
-    }
-}
-
-/// The fault of the next word.
-fn take_word(parser: &mut Parser<BidCount>, text: &[u8]) -> Result<Option<Kind>, AllocError>
-    ensures fault { IfOk result
-        (λ fault. GivesKind (seen parser.new) fault (word_read (seen parser.old) (summary text.now))) }
-    ensures memory { OnErr result (parser.old.stage ≡ Stage.Bid) }
-    ensures stage { parser.new.stage ≡ parser.old.stage }
-{
-    fault_in(parser.take_word(word_of(text)))
-}
-
-/// The fault of the line's end.
-fn end_line(parser: &mut Parser<BidCount>) -> Result<Option<Kind>, AllocError>
-    ensures fault { IfOk result (λ fault. GivesKind (seen parser.new) fault (line_read (seen parser.old))) }
-    ensures memory { OnErr result (parser.old.stage ≡ Stage.Bid) }
-{
-    fault_in(parser.end_line())
-}
-
-/// The place of the first fault of a line's words, or of its end.
-fn place_in_words<'a>(
+/// Judges the words of a line and its end.
+fn judge_words<'a>(
     parser: &mut Parser<BidCount>,
     number: u64,
     line: &'a [u8],
-) -> Result<Option<FaultPlace<'a>>, AllocError>
-    ensures place { IfOk result
-        (λ place. GivesPlace (seen parser.new) place (words_judged number 1 (line_words line.now) (seen parser.old))) }
-    ensures memory { OnErr result (parser.old.stage ≡ Stage.Bid) }
+) -> Result<(), FaultPlace<'a>>
+    ensures { Judges (words_judged number 1 (line_words line.now)) (seen parser.old) (seen parser.new) result }
 {
     let mut word = 1;
     let mut rest = line;
     while let Some((text, behind)) = split_word(rest) {
-        if let Some(kind) = take_word(parser, text)? {
-            return Ok(Some(FaultPlace {
+        if let Err(kind) = parser.take_word(word_of(text)) {
+            return Err(FaultPlace {
                 line: number,
                 word,
                 text,
                 kind,
-            }));
+            });
         }
         word += 1;
         rest = behind;
     }
-    let fault = end_line(parser)?;
-    Ok(fault.map(|kind| FaultPlace {
+    parser.end_line().map_err(|kind| FaultPlace {
         line: number,
         word,
         text: b"",
         kind,
-    }))
+    })
 }
 
-/// The place of the first fault of a line, unless it is empty or a comment.
-fn place_in_line<'a>(
+/// Judges a line, unless it is empty or a comment.
+fn judge_line<'a>(
     parser: &mut Parser<BidCount>,
     number: u64,
     line: &'a [u8],
-) -> Result<Option<FaultPlace<'a>>, AllocError>
-    ensures place { IfOk result
-        (λ place. GivesPlace (seen parser.new) place (line_judged number (line_words line.now) (seen parser.old))) }
-    ensures memory { OnErr result ((parser.old.stage ≡ Stage.Bid) × (is_significant (line_words line.now) ≡ true)) }
+) -> Result<(), FaultPlace<'a>>
+    ensures judged { Judges (line_judged number (line_words line.now)) (seen parser.old) (seen parser.new) result }
+    ensures significant { OnErr result (is_significant (line_words line.now) ≡ true) }
 {
     if !is_significant(line) {
-        return Ok(None);
+        return Ok(());
     }
-    place_in_words(parser, number, line)
+    judge_words(parser, number, line)
 }
 
 /// The place of the first fault of a text.
@@ -200,8 +163,11 @@ pub fn place_of_fault(alloc: Global, text: &[u8]) -> Result<Option<FaultPlace<'_
     let mut rest = text;
     while !rest.is_empty() {
         let (line, behind) = split_line(rest);
-        if let Some(place) = place_in_line(&mut parser, number, line)? {
-            return Ok(Some(place));
+        if let Err(place) = judge_line(&mut parser, number, line) {
+            return match place.kind {
+                Kind::Memory => Err(AllocError),
+                _ => Ok(Some(place)),
+            };
         }
         number += 1;
         rest = behind;

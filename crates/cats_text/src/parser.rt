@@ -3,7 +3,7 @@
 ghost use Rattle.std.specs.Prelude.{◌≡◌, ◌<◌, [], length, Ok, IfOk, OnOk, OnErr};
 ghost use Rattle.std.specs.Bool.{OnTrue};
 ghost use Rattle.cats_text.specs.FileLines.{put_slot, filled};
-ghost use Rattle.cats_text.specs.Internal.Progress.{progress, Gives, NeedsMemoryOnBidLines};
+ghost use Rattle.cats_text.specs.Internal.Progress.{progress, Gives};
 ghost use Rattle.cats_text.specs.Internal.Parsing.{
   start,
   keyword_read,
@@ -29,38 +29,7 @@ use crate::price::price_of;
 use crate::read_fault::Kind;
 use crate::word::{Keyword, Word};
 use bid_file::{MAX_BIDS, MAX_DUMMY, MAX_GOODS};
-use std::alloc::{AllocError, AllocFailed, Global};
-
-/// Why parsing stops.
-#[derive(Clone, Copy)]
-pub enum ParseError {
-    /// A fault of the text.
-    Fault(Kind),
-    /// Memory was refused.
-    Memory,
-}
-
-impl From<AllocError> for ParseError {
-    ghost use Rattle.std.specs.Prelude.{◌≡◌};
-    ghost use Rattle.cats_text.specs.declared.parser.ParseError.TheVariants.{Memory};
-
-    ghost from_gives = { λ _ stop. stop ≡ Memory };
-
-    fn from(_refused: AllocError) -> ParseError {
-        ParseError::Memory
-    }
-}
-
-impl<T: Drop> From<AllocFailed<T>> for ParseError {
-    ghost use Rattle.std.specs.Prelude.{◌≡◌};
-    ghost use Rattle.cats_text.specs.declared.parser.ParseError.TheVariants.{Memory};
-
-    ghost from_gives = { λ _ stop. stop ≡ Memory };
-
-    fn from(_refused: AllocFailed<T>) -> ParseError {
-        ParseError::Memory
-    }
-}
+use std::alloc::{AllocError, Global};
 
 /// Which significant line it is.
 #[derive(Clone, Copy, PartialEq, Eq)]
@@ -136,26 +105,25 @@ impl<K: Keep> Parser<K> {
         }
     }
 
-    fn take_keyword(&mut self, keyword: Keyword, word: Word) -> Result<(), ParseError>
-        ensures reads { Gives (progress K.keep self.new) result (keyword_read (progress K.keep self.old) keyword word) }
-        ensures memory { NeedsMemoryOnBidLines (progress K.keep self.old) result }
+    fn take_keyword(&mut self, keyword: Keyword, word: Word) -> Result<(), Kind>
+        ensures reads { Gives (λ p. keyword_read p keyword word)
+            (progress K.keep self.old) (progress K.keep self.new) result }
         ensures stage { self.new.stage ≡ self.old.stage }
     {
         if word == Word::Keyword(keyword, keyword.text().len()) {
             self.column = Column::Second;
             Ok(())
         } else {
-            Err(ParseError::Fault(Kind::Header))
+            Err(Kind::Header)
         }
     }
 
-    fn take_header_number(&mut self, word: Word) -> Result<(), ParseError>
-        ensures reads { Gives (progress K.keep self.new) result (header_number_read (progress K.keep self.old) word) }
-        ensures memory { NeedsMemoryOnBidLines (progress K.keep self.old) result }
+    fn take_header_number(&mut self, word: Word) -> Result<(), Kind>
+        ensures reads { Gives (λ p. header_number_read p word) (progress K.keep self.old) (progress K.keep self.new) result }
         ensures stage { self.new.stage ≡ self.old.stage }
     {
         let Word::Number(value) = word else {
-            return Err(ParseError::Fault(Kind::NotANumber));
+            return Err(Kind::NotANumber);
         };
         match self.stage {
             Stage::Goods if value <= u64::from(MAX_GOODS) => self.header.goods = value as u16,
@@ -164,29 +132,28 @@ impl<K: Keep> Parser<K> {
                 self.due = value as u32;
             }
             Stage::Dummy if value <= u64::from(MAX_DUMMY) => self.header.dummy = value as u32,
-            Stage::Bid => return Err(ParseError::Fault(Kind::Header)),
-            _ => return Err(ParseError::Fault(Kind::TooLarge)),
+            Stage::Bid => return Err(Kind::Header),
+            _ => return Err(Kind::TooLarge),
         }
         self.column = Column::Later;
         Ok(())
     }
 
-    fn take_number(&mut self, word: Word) -> Result<(), ParseError>
-        ensures reads { Gives (progress K.keep self.new) result (number_read (progress K.keep self.old) word) }
-        ensures memory { NeedsMemoryOnBidLines (progress K.keep self.old) result }
+    fn take_number(&mut self, word: Word) -> Result<(), Kind>
+        ensures reads { Gives (λ p. number_read p word) (progress K.keep self.old) (progress K.keep self.new) result }
         ensures stage { self.new.stage ≡ self.old.stage }
     {
         let Word::Number(value) = word else {
-            return Err(ParseError::Fault(Kind::NotANumber));
+            return Err(Kind::NotANumber);
         };
         if self.due == 0 {
-            return Err(ParseError::Fault(Kind::ExtraBid));
+            return Err(Kind::ExtraBid);
         }
         if value >= u64::from(self.header.bids) {
-            return Err(ParseError::Fault(Kind::BidNumber));
+            return Err(Kind::BidNumber);
         }
         if self.slots.has(value as u32) {
-            return Err(ParseError::Fault(Kind::RepeatedNumber));
+            return Err(Kind::RepeatedNumber);
         }
         self.draft = Draft {
             number: value as u32,
@@ -197,9 +164,8 @@ impl<K: Keep> Parser<K> {
         Ok(())
     }
 
-    fn take_price(&mut self, word: Word) -> Result<(), ParseError>
-        ensures reads { Gives (progress K.keep self.new) result (price_read (progress K.keep self.old) word) }
-        ensures memory { NeedsMemoryOnBidLines (progress K.keep self.old) result }
+    fn take_price(&mut self, word: Word) -> Result<(), Kind>
+        ensures reads { Gives (λ p. price_read p word) (progress K.keep self.old) (progress K.keep self.new) result }
         ensures stage { self.new.stage ≡ self.old.stage }
     {
         self.draft.price = match word {
@@ -207,7 +173,7 @@ impl<K: Keep> Parser<K> {
             Word::Decimal(decimal) if decimal.decimals > 0 => {
                 price_of(decimal.whole, decimal.millionths, decimal.fine)?
             }
-            _ => return Err(ParseError::Fault(Kind::NotANumber)),
+            _ => return Err(Kind::NotANumber),
         };
         self.column = Column::Later;
         Ok(())
@@ -215,10 +181,9 @@ impl<K: Keep> Parser<K> {
 
     /// A good of the bid whose line has begun.
     #[inline(always)]
-    pub fn take_good(&mut self, value: u64) -> Result<(), ParseError>
-        ensures reads { Gives (progress K.keep self.new) result (good_read (progress K.keep self.old) value) }
-        ensures memory { (progress K.keep self.old).stage ≡ Stage.Bid
-            → NeedsMemoryOnBidLines (progress K.keep self.old) result }
+    pub fn take_good(&mut self, value: u64) -> Result<(), Kind>
+        requires { self.old.stage ≡ Stage.Bid }
+        ensures reads { Gives (λ p. good_read p value) (progress K.keep self.old) (progress K.keep self.new) result }
         ensures stage { self.new.stage ≡ self.old.stage }
         ensures column { self.new.column ≡ self.old.column }
     {
@@ -231,11 +196,11 @@ impl<K: Keep> Parser<K> {
             return if self.goods.put(good)? {
                 Ok(())
             } else {
-                Err(ParseError::Fault(Kind::RepeatedGood))
+                Err(Kind::RepeatedGood)
             };
         }
         if value >= goods + u64::from(self.header.dummy) {
-            return Err(ParseError::Fault(Kind::GoodRange));
+            return Err(Kind::GoodRange);
         }
         let dummy = (value - goods) as u32;
         match self.draft.dummy {
@@ -243,26 +208,25 @@ impl<K: Keep> Parser<K> {
                 self.draft.dummy = Some(dummy);
                 Ok(())
             }
-            Some(before) if before == dummy => Err(ParseError::Fault(Kind::RepeatedGood)),
-            Some(_) => Err(ParseError::Fault(Kind::TwoDummies)),
+            Some(before) if before == dummy => Err(Kind::RepeatedGood),
+            Some(_) => Err(Kind::TwoDummies),
         }
     }
 
     #[inline(always)]
-    fn take_good_or_end(&mut self, word: Word) -> Result<(), ParseError>
-        ensures reads { Gives (progress K.keep self.new) result (good_or_end_read (progress K.keep self.old) word) }
-        ensures memory { (progress K.keep self.old).stage ≡ Stage.Bid
-            → NeedsMemoryOnBidLines (progress K.keep self.old) result }
+    fn take_good_or_end(&mut self, word: Word) -> Result<(), Kind>
+        requires { self.old.stage ≡ Stage.Bid }
+        ensures reads { Gives (λ p. good_or_end_read p word) (progress K.keep self.old) (progress K.keep self.new) result }
         ensures stage { self.new.stage ≡ self.old.stage }
     {
         match word {
             Word::Number(value) => self.take_good(value),
-            Word::End if self.goods.is_empty() => Err(ParseError::Fault(Kind::EmptyBundle)),
+            Word::End if self.goods.is_empty() => Err(Kind::EmptyBundle),
             Word::End => {
                 self.column = Column::Ended;
                 Ok(())
             }
-            _ => Err(ParseError::Fault(Kind::NotANumber)),
+            _ => Err(Kind::NotANumber),
         }
     }
 
@@ -282,9 +246,8 @@ impl<K: Keep> Parser<K> {
 
     /// The next word of a line.
     #[inline(always)]
-    pub fn take_word(&mut self, word: Word) -> Result<(), ParseError>
-        ensures reads { Gives (progress K.keep self.new) result (word_read (progress K.keep self.old) word) }
-        ensures memory { NeedsMemoryOnBidLines (progress K.keep self.old) result }
+    pub fn take_word(&mut self, word: Word) -> Result<(), Kind>
+        ensures reads { Gives (λ p. word_read p word) (progress K.keep self.old) (progress K.keep self.new) result }
         ensures stage { self.new.stage ≡ self.old.stage }
     {
         match (self.column, self.stage) {
@@ -295,8 +258,8 @@ impl<K: Keep> Parser<K> {
             (Column::Second, Stage::Bid) => self.take_price(word),
             (Column::Second, _) => self.take_header_number(word),
             (Column::Later, Stage::Bid) => self.take_good_or_end(word),
-            (Column::Later, _) => Err(ParseError::Fault(Kind::Header)),
-            (Column::Ended, _) => Err(ParseError::Fault(Kind::AfterEnd)),
+            (Column::Later, _) => Err(Kind::Header),
+            (Column::Ended, _) => Err(Kind::AfterEnd),
         }
     }
 
@@ -318,10 +281,9 @@ impl<K: Keep> Parser<K> {
 
     /// Puts what is kept of the bid whose line ends.
     #[inline(always)]
-    fn put_bid(&mut self) -> Result<(), ParseError>
-        ensures reads { Gives (progress K.keep self.new) result (Ok (with_bid (progress K.keep self.old))) }
-        ensures memory { (progress K.keep self.old).stage ≡ Stage.Bid
-            → NeedsMemoryOnBidLines (progress K.keep self.old) result }
+    fn put_bid(&mut self) -> Result<(), Kind>
+        requires { self.old.stage ≡ Stage.Bid }
+        ensures { Gives (λ p. Ok (with_bid p)) (progress K.keep self.old) (progress K.keep self.new) result }
     {
         self.keep_bid()?;
         // One is due: the line began where one was.
@@ -331,36 +293,33 @@ impl<K: Keep> Parser<K> {
     }
 
     #[inline(always)]
-    fn end_bid(&mut self) -> Result<(), ParseError>
-        ensures reads { Gives (progress K.keep self.new) result (bid_read (progress K.keep self.old)) }
-        ensures memory { (progress K.keep self.old).stage ≡ Stage.Bid
-            → NeedsMemoryOnBidLines (progress K.keep self.old) result }
+    fn end_bid(&mut self) -> Result<(), Kind>
+        requires { self.old.stage ≡ Stage.Bid }
+        ensures { Gives bid_read (progress K.keep self.old) (progress K.keep self.new) result }
     {
         if self.column != Column::Ended {
-            return Err(ParseError::Fault(Kind::NoEnd));
+            return Err(Kind::NoEnd);
         }
         self.put_bid()
     }
 
     /// The `#` of a bid where a good or `#` is due, and the end of its line behind it.
     #[inline(always)]
-    pub fn close_bid(&mut self) -> Result<(), ParseError>
-        ensures reads { Gives (progress K.keep self.new) result (bid_closed (progress K.keep self.old)) }
-        ensures memory { (progress K.keep self.old).stage ≡ Stage.Bid
-            → NeedsMemoryOnBidLines (progress K.keep self.old) result }
+    pub fn close_bid(&mut self) -> Result<(), Kind>
+        requires { self.old.stage ≡ Stage.Bid }
+        ensures { Gives bid_closed (progress K.keep self.old) (progress K.keep self.new) result }
     {
         if self.goods.is_empty() {
-            return Err(ParseError::Fault(Kind::EmptyBundle));
+            return Err(Kind::EmptyBundle);
         }
         self.put_bid()
     }
 
-    fn end_header_line(&mut self, next: Stage) -> Result<(), ParseError>
-        ensures reads { Gives (progress K.keep self.new) result (header_line_read (progress K.keep self.old) next) }
-        ensures memory { NeedsMemoryOnBidLines (progress K.keep self.old) result }
+    fn end_header_line(&mut self, next: Stage) -> Result<(), Kind>
+        ensures { Gives (λ p. header_line_read p next) (progress K.keep self.old) (progress K.keep self.new) result }
     {
         if self.column != Column::Later {
-            return Err(ParseError::Fault(Kind::Header));
+            return Err(Kind::Header);
         }
         self.stage = next;
         self.column = Column::First;
@@ -369,9 +328,8 @@ impl<K: Keep> Parser<K> {
 
     /// The end of a line that has words.
     #[inline(always)]
-    pub fn end_line(&mut self) -> Result<(), ParseError>
-        ensures reads { Gives (progress K.keep self.new) result (line_read (progress K.keep self.old)) }
-        ensures memory { NeedsMemoryOnBidLines (progress K.keep self.old) result }
+    pub fn end_line(&mut self) -> Result<(), Kind>
+        ensures { Gives line_read (progress K.keep self.old) (progress K.keep self.new) result }
     {
         match self.stage {
             Stage::Goods => self.end_header_line(Stage::Bids),

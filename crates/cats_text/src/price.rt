@@ -5,9 +5,7 @@ ghost use Rattle.cats_text.specs.Layout.{price_text, places_text, without_zeros}
 ghost use Rattle.cats_text.specs.declared.price.TheConstants.{MILLION, PRICE, BEHIND};
 ghost use Rattle.cats_text.specs.Internal.Keywords.{place_value_of};
 ghost use Rattle.cats_text.specs.Internal.Parsing.{price_parts};
-ghost use Rattle.cats_text.specs.Internal.Progress.{Answers};
 
-use crate::parser::ParseError;
 use crate::read_fault::Kind;
 use bid_file::MAX_PRICE;
 use itoa::{Buffer, write_digits};
@@ -71,15 +69,15 @@ impl Decimal {
 }
 
 /// A price of so many whole units and millionths, and perhaps finer places.
-pub fn price_of(whole: u64, millionths: u64, fine: bool) -> Result<u64, ParseError>
-    ensures { Answers result (price_parts whole millionths fine) }
+pub fn price_of(whole: u64, millionths: u64, fine: bool) -> Result<u64, Kind>
+    ensures { result ≡ price_parts whole millionths fine }
 {
     let greatest = MAX_PRICE / MILLION;
     if whole > greatest || (whole == greatest && (fine || millionths > 0)) {
-        return Err(ParseError::Fault(Kind::TooLarge));
+        return Err(Kind::TooLarge);
     }
     if fine {
-        return Err(ParseError::Fault(Kind::TooFine));
+        return Err(Kind::TooFine);
     }
     // Never saturates: the millionths that are read are less than one unit, which their type does not say.
     Ok((whole * MILLION).saturating_add(millionths))

@@ -1,15 +1,14 @@
 //! `PushReader`: bytes pushed to the scanner, up to a limit.
 
 ghost use Rattle.std.specs.Prelude.{◌≡◌, ◌^◌, ◌<◌, [], None};
-ghost use Rattle.cats_text.specs.Faults.{fault_at};
-ghost use Rattle.cats_text.specs.Internal.Reading.{reported_fault, PartsAs, PackedAs, Unpacks};
+ghost use Rattle.cats_text.specs.Internal.Reading.{PartsAs, PackedAs, Unpacks};
 ghost use Rattle.cats_text.specs.Reading.{FeedsAs};
 
 use crate::history::History;
 use crate::keep::Keep;
 use crate::parser::Header;
 use crate::read_fault::{Kind, ReadFault};
-use crate::scanner::{ScanError, Scanner};
+use crate::scanner::Scanner;
 use bid_file::{BidFile, PackedBids, PackedFile};
 use std::alloc::Global;
 use std::marker::Model;
@@ -62,8 +61,8 @@ impl<K: Keep> PushReader<K> {
         let space = (self.limit - self.count) as usize;
         let within = piece.len().min(space);
         let judged = match self.scanner.take(&piece[..within]) {
-            Err(scan_error) => Err(reported(scan_error)),
-            Ok(()) if within < piece.len() => Err(too_long()),
+            Err(kind) => Err(ReadFault::at(self.scanner.line, kind)),
+            Ok(()) if within < piece.len() => Err(ReadFault::at(0, Kind::TooLong)),
             Ok(()) => Ok(()),
         };
         self.count += within as u64;
@@ -78,10 +77,7 @@ impl<K: Keep> PushReader<K> {
         if let Some(fault) = self.failed {
             return Err(fault);
         }
-        match self.scanner.finish() {
-            Ok(parts) => Ok(parts),
-            Err(stopped) => Err(reported(stopped)),
-        }
+        self.scanner.finish()
     }
 }
 
@@ -97,30 +93,6 @@ pub fn finish_packed(push_reader: PushReader<PackedBids>) -> Result<PackedFile, 
 pub fn unpacked(alloc: Global, file: &PackedFile) -> Result<BidFile, ReadFault>
     ensures { Unpacks file.now result }
 {
-    match file.to_file(alloc) {
-        Ok(file) => Ok(file),
-        Err(_) => Err(reported(ScanError::Memory)),
-    }
-}
-
-/// How a reader says what stopped it.
-fn reported(scan_error: ScanError) -> ReadFault
-    ensures { result ≡ reported_fault scan_error }
-{
-    match scan_error {
-        ScanError::Fault(fault) => fault,
-        ScanError::Memory => ReadFault {
-            line: 0,
-            kind: Kind::Memory,
-        },
-    }
-}
-
-fn too_long() -> ReadFault
-    ensures { result ≡ fault_at 0 Kind.TooLong }
-{
-    ReadFault {
-        line: 0,
-        kind: Kind::TooLong,
-    }
+    file.to_file(alloc)
+        .map_err(|_| ReadFault::at(0, Kind::Memory))
 }

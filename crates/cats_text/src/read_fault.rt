@@ -1,5 +1,9 @@
 //! Why reading or sending a text failed. The text may not be a bid file, or a stream may have failed.
 
+ghost use Rattle.std.specs.Prelude.{◌≡◌};
+ghost use Rattle.cats_text.specs.Internal.Reading.{placed_fault};
+
+use std::alloc::AllocError;
 use thiserror::Error;
 
 /// What is wrong. The first fourteen kinds are faults of the text itself; a text's fault is the first of its places
@@ -42,6 +46,17 @@ pub enum Kind {
     Memory,
 }
 
+impl From<AllocError> for Kind {
+    ghost use Rattle.std.specs.Prelude.{◌≡◌};
+    ghost use Rattle.cats_text.specs.declared.read_fault.Kind.TheVariants.{Memory};
+
+    ghost from_gives = { λ _ kind. kind ≡ Memory };
+
+    fn from(_refused: AllocError) -> Kind {
+        Kind::Memory
+    }
+}
+
 /// Why a text is not a bid file. `line` counts the text's lines from 1; it is 0 for the kinds `TooLong`, `Device` and
 /// `Memory`, which belong to no line.
 #[derive(Clone, Copy, PartialEq, Eq, Debug, Drop, Error)]
@@ -49,6 +64,18 @@ pub enum Kind {
 pub struct ReadFault {
     pub line: u64,
     pub kind: Kind,
+}
+
+impl ReadFault {
+    /// The fault of this kind at this line. Want of memory is on no line.
+    pub(crate) fn at(line: u64, kind: Kind) -> ReadFault
+        ensures { result ≡ placed_fault line kind }
+    {
+        match kind {
+            Kind::Memory => ReadFault { line: 0, kind },
+            _ => ReadFault { line, kind },
+        }
+    }
 }
 
 /// A writer failed. It took the first `written` bytes of what was sent to it, which is all of them where only the last

@@ -4,53 +4,28 @@ ghost use Rattle.std.specs.Prelude.{◌≡◌, ◌+◌, ◌-◌, ◌<◌, ◌≤
 ghost use Rattle.cats_text.specs.Internal.LeadingToken.{IsLeadingToken};
 ghost use Rattle.cats_text.specs.Internal.Returns.{settled, waits, carried, return_byte};
 ghost use Rattle.cats_text.specs.Internal.Scanning.{
-  scan_error_of,
   letter_mode,
   state,
   first_state,
   blank_step,
   words_step,
   byte_step,
-  scan,
   end_of,
   is_before_word,
   ScansTo,
   Steps,
-  NeedsMemoryHere,
-  NeedsMemory,
-  ArePartsOf,
+  Scans,
   Finishes,
-  NeedsMemoryAtEnd,
   IsInLine,
+  IsInBidLine,
 };
 
 use crate::keep::Keep;
 use crate::leading_token::{leading_token, with_digits};
-use crate::parser::{Header, ParseError, Parser};
+use crate::parser::{Header, Parser};
 use crate::read_fault::{Kind, ReadFault};
 use crate::word::Word;
 use std::alloc::Global;
-
-/// Why scanning stops.
-#[derive(Clone, Copy)]
-pub enum ScanError {
-    /// The text has this fault.
-    Fault(ReadFault),
-    /// Memory was refused.
-    Memory,
-}
-
-impl ScanError {
-    /// The error of scanning where the parser stopped at this line.
-    pub fn at(line: u64, stop: ParseError) -> ScanError
-        ensures { result ≡ scan_error_of line stop }
-    {
-        match stop {
-            ParseError::Fault(kind) => ScanError::Fault(ReadFault { line, kind }),
-            ParseError::Memory => ScanError::Memory,
-        }
-    }
-}
 
 /// Where in a line the scanner is.
 #[derive(Clone, Copy, PartialEq, Eq)]
@@ -121,9 +96,8 @@ impl<K: Keep> Scanner<K> {
 
     /// A blank, or the end of a line, after which no word goes on.
     #[inline(always)]
-    fn end_word(&mut self) -> Result<(), ScanError>
-        ensures steps { Steps (state K.keep self.new) result (blank_step (state K.keep self.old)) }
-        ensures memory { NeedsMemoryHere (state K.keep self.old) result }
+    fn end_word(&mut self) -> Result<(), Kind>
+        ensures steps { Steps IsInBidLine blank_step (state K.keep self.old) (state K.keep self.new) result }
         ensures begun { IsInLine self.new.mode → IsInLine self.old.mode }
         ensures stage { self.new.parser.stage ≡ self.old.parser.stage }
         ensures line { self.new.line ≡ self.old.line }
@@ -131,9 +105,7 @@ impl<K: Keep> Scanner<K> {
     {
         match self.mode {
             Mode::Inside(word) => {
-                if let Err(stop) = self.parser.take_word(word) {
-                    return Err(ScanError::at(self.line, stop));
-                }
+                self.parser.take_word(word)?;
                 self.mode = Mode::Between;
             }
             Mode::Start => self.mode = Mode::Blank,
@@ -144,26 +116,22 @@ impl<K: Keep> Scanner<K> {
 
     /// The end of the words of a line.
     #[inline(always)]
-    fn end_words(&mut self) -> Result<(), ScanError>
-        ensures steps { Steps (state K.keep self.new) result (words_step (state K.keep self.old)) }
-        ensures memory { NeedsMemoryHere (state K.keep self.old) result }
+    fn end_words(&mut self) -> Result<(), Kind>
+        ensures steps { Steps IsInBidLine words_step (state K.keep self.old) (state K.keep self.new) result }
         ensures line { self.new.line ≡ self.old.line }
         ensures waiting { self.new.waiting ≡ self.old.waiting }
     {
         if let Mode::Between = self.mode {
-            if let Err(stop) = self.parser.end_line() {
-                return Err(ScanError::at(self.line, stop));
-            }
+            self.parser.end_line()?;
         }
         Ok(())
     }
 
     /// The next byte, no CR that ends a line.
     #[inline(always)]
-    fn take_byte(&mut self, byte: u8) -> Result<(), ScanError>
+    fn take_byte(&mut self, byte: u8) -> Result<(), Kind>
         requires { self.old.line < 2 ^ 64 - 1 }
-        ensures steps { Steps (state K.keep self.new) result (byte_step (state K.keep self.old) byte) }
-        ensures memory { NeedsMemoryHere (state K.keep self.old) result }
+        ensures steps { Steps IsInBidLine (λ s. byte_step s byte) (state K.keep self.old) (state K.keep self.new) result }
         ensures line { self.new.line ≤ self.old.line + 1 }
         ensures waiting { self.new.waiting ≡ self.old.waiting }
     {
@@ -185,7 +153,7 @@ impl<K: Keep> Scanner<K> {
 
     /// Takes this word, which with its blank has so many bytes at the start; answers how many.
     #[inline(always)]
-    pub fn take_word(&mut self, word: Word, taken: usize) -> Result<usize, ScanError>
+    pub fn take_word(&mut self, word: Word, taken: usize) -> Result<usize, Kind>
         requires waits { self.old.waiting ≡ false }
         requires before { is_before_word self.old.mode ≡ true }
         ensures scanned { (bytes : List ℕ) → IsLeadingToken bytes word taken
@@ -196,15 +164,13 @@ impl<K: Keep> Scanner<K> {
         ensures line { self.new.line ≡ self.old.line }
         ensures waiting { self.new.waiting ≡ self.old.waiting }
     {
-        if let Err(stop) = self.parser.take_word(word) {
-            return Err(ScanError::at(self.line, stop));
-        }
+        self.parser.take_word(word)?;
         self.mode = Mode::Between;
         Ok(taken)
     }
 
     /// Whole words at the start; answers how many bytes they and their blanks have.
-    fn read_words(&mut self, bytes: &[u8]) -> Result<usize, ScanError>
+    fn read_words(&mut self, bytes: &[u8]) -> Result<usize, Kind>
         requires waits { self.old.waiting ≡ false }
         requires before { is_before_word self.old.mode ≡ true }
         ensures scanned { ScansTo (state K.keep self.old) (state K.keep self.new) self.new.waiting bytes.now result }
@@ -218,7 +184,7 @@ impl<K: Keep> Scanner<K> {
     }
 
     /// Continues a comment or a number as far as it reaches, or reads whole words; answers how many bytes these have.
-    fn go_on(&mut self, bytes: &[u8]) -> Result<usize, ScanError>
+    fn go_on(&mut self, bytes: &[u8]) -> Result<usize, Kind>
         requires waits { self.old.waiting ≡ false }
         requires some { 0 < length bytes.now }
         requires space { self.old.line + length bytes.now < 2 ^ 64 }
@@ -244,11 +210,10 @@ impl<K: Keep> Scanner<K> {
     }
 
     /// The next bytes, behind no CR that waits.
-    fn scan(&mut self, bytes: &[u8]) -> Result<(), ScanError>
+    fn scan(&mut self, bytes: &[u8]) -> Result<(), Kind>
         requires waits { self.old.waiting ≡ false }
         requires space { self.old.line + length bytes.now < 2 ^ 64 }
-        ensures steps { Steps (state K.keep self.new) result (scan (state K.keep self.old) (settled bytes.now)) }
-        ensures memory { NeedsMemory (state K.keep self.old) (settled bytes.now) result }
+        ensures steps { Scans (settled bytes.now) (state K.keep self.old) (state K.keep self.new) result }
         ensures waiting { OnOk result (self.new.waiting ≡ waits bytes.now) }
         ensures line { self.new.line ≤ self.old.line + length bytes.now }
     {
@@ -271,11 +236,10 @@ impl<K: Keep> Scanner<K> {
     }
 
     /// The next bytes.
-    pub fn take(&mut self, bytes: &[u8]) -> Result<(), ScanError>
+    pub fn take(&mut self, bytes: &[u8]) -> Result<(), Kind>
         requires { self.old.line + length bytes.now < 2 ^ 64 - 1 }
-        ensures steps { Steps (state K.keep self.new) result
-            (scan (state K.keep self.old) (settled (carried self.old.waiting bytes.now))) }
-        ensures memory { NeedsMemory (state K.keep self.old) (settled (carried self.old.waiting bytes.now)) result }
+        ensures steps { Scans (settled (carried self.old.waiting bytes.now))
+            (state K.keep self.old) (state K.keep self.new) result }
         ensures waiting { OnOk result (self.new.waiting ≡ waits (carried self.old.waiting bytes.now)) }
         ensures line { self.new.line ≤ self.old.line + length bytes.now + 1 }
     {
@@ -289,41 +253,34 @@ impl<K: Keep> Scanner<K> {
         self.scan(bytes)
     }
 
-    /// The end of the input.
-    fn end(&mut self) -> Result<(), ScanError>
+    /// The end of the input. A line that is still due is missing behind the last one.
+    fn end(&mut self) -> Result<(), Kind>
         requires { self.old.line < 2 ^ 64 - 2 }
-        ensures steps { Steps (state K.keep self.new) result (end_of self.old.waiting (state K.keep self.old)) }
-        ensures memory { NeedsMemoryHere (state K.keep self.old) result }
+        ensures { Steps IsInBidLine (end_of self.old.waiting) (state K.keep self.old) (state K.keep self.new) result }
     {
         if self.waiting {
             self.take_byte(b' ')?;
         }
-        let lines = if self.mode == Mode::Start {
-            self.line
-        } else {
-            self.line + 1
-        };
+        let has_begun = self.mode != Mode::Start;
         self.end_word()?;
         self.end_words()?;
         if self.parser.is_due() {
-            return Err(ScanError::Fault(ReadFault {
-                line: lines,
-                kind: Kind::Missing,
-            }));
+            self.line += u64::from(has_begun);
+            return Err(Kind::Missing);
         }
         Ok(())
     }
 
     /// The end of the input: what the header lines said, and what is kept of the bids.
-    pub fn finish(mut self) -> Result<(Header, K), ScanError>
+    pub fn finish(mut self) -> Result<(Header, K), ReadFault>
         requires { self.line < 2 ^ 64 - 2 }
-        ensures steps { Finishes (ArePartsOf K.bids) result (end_of self.waiting (state K.keep self)) }
-        ensures memory { NeedsMemoryAtEnd self.waiting (state K.keep self) result }
+        ensures { Finishes K.bids self.waiting (state K.keep self) result }
     {
-        self.end()?;
-        match self.parser.into_parts() {
-            Ok(parts) => Ok(parts),
-            Err(_) => Err(ScanError::Memory),
+        if let Err(kind) = self.end() {
+            return Err(ReadFault::at(self.line, kind));
         }
+        self.parser
+            .into_parts()
+            .map_err(|_| ReadFault::at(0, Kind::Memory))
     }
 }

@@ -17,7 +17,6 @@ ghost use Rattle.std.specs.Prelude.{
 ghost use Rattle.std.specs.Io.{ReadsAtMost, WritesAtMost};
 ghost use Rattle.std.specs.Io.KnownBytes.{Consumes, Keeps, ReadConsumes, WriteAppends};
 ghost use Rattle.std.specs.IoError.{error_kind};
-ghost use Rattle.cats_text.specs.Faults.{fault_at};
 ghost use Rattle.cats_text.specs.Streams.{
   inner_of,
   has_failed,
@@ -223,17 +222,8 @@ fn feed_from<K: Keep, R: Read>(
         match input.read(&mut piece) {
             Ok(0) => return Ok(()),
             Ok(count) => push_reader.feed(&piece[..count])?,
-            Err(_) => return Err(device_failed()),
+            Err(_) => return Err(ReadFault::at(0, Kind::Device)),
         }
-    }
-}
-
-fn device_failed() -> ReadFault
-    ensures { result ≡ fault_at 0 Kind.Device }
-{
-    ReadFault {
-        line: 0,
-        kind: Kind::Device,
     }
 }
 

@@ -7,7 +7,7 @@ use Rattle.std.proofs.lemmas.Bool.{le-leb, lt-leb}
 use Rattle.std.proofs.lemmas.Bool.Decides.{leb_tells}
 use Rattle.cats_text.specs.Faults.{complete_fault, first_fault, has_bid_line, fault_at}
 use Rattle.cats_text.specs.Fed.{Fed, fed_fault}
-use Rattle.cats_text.specs.Internal.Reading.{HasTaken, IsReading, SpellsParts, reported_fault}
+use Rattle.cats_text.specs.Internal.Reading.{HasTaken, IsReading, SpellsParts, PartsAnswer, placed_fault}
 use Rattle.cats_text.specs.Reading.{WantsMemory, FeedsAs}
 use Rattle.cats_text.specs.Internal.Returns.{settled, waits, carried}
 use Rattle.cats_text.specs.Internal.Scanning.{
@@ -17,20 +17,18 @@ use Rattle.cats_text.specs.Internal.Scanning.{
   Scan,
   scan,
   and_then,
-  Steps,
-  NeedsMemory,
+  Scans,
   MeetsBidLine,
   end_of,
   ArePartsOf,
   Finishes,
 }
-use Rattle.cats_text.specs.Internal.Scanning.{NeedsMemoryAtEnd, IsInBidLine, HasBids}
+use Rattle.cats_text.specs.Internal.Scanning.{IsInBidLine, HasBids}
 use Rattle.cats_text.specs.declared.read_fault.ReadFault.{ReadFault}
-use Rattle.cats_text.specs.declared.read_fault.Kind.TheVariants.{TooLong}
+use Rattle.cats_text.specs.declared.read_fault.Kind.{Kind}
+use Rattle.cats_text.specs.declared.read_fault.Kind.TheVariants.{TooLong, Memory}
 use Rattle.cats_text.specs.declared.parser.Header.{Header}
 use Rattle.bid_file.specs.Files.{PlainBid}
-use Rattle.cats_text.specs.declared.scanner.ScanError.{ScanError}
-use Rattle.cats_text.specs.declared.scanner.ScanError.TheVariants.{Fault, Memory}
 use Rattle.cats_text.specs.declared.scanner.Scanner.{Scanner}
 use Rattle.cats_text.proofs.Scanning.Lines.{scan-append}
 use Rattle.cats_text.proofs.Texts.MachineAnswers.{stops_at_complete_fault, continues_without_fault, meets_bid_line, complete_fault_is_first, ends_at_parts}
@@ -100,21 +98,6 @@ nothing_taken k limit scanner bytes first waiting none = record {
 
 -- ---- the answers
 
--- the scanner stopped in the bytes that are judged
-pub halted : {K : Type 0} (k : PlainBid → PlainBid) (limit taken : ℕ) (scanner : Scanner K) (bytes judged all : List ℕ) (new : State) (scan_error : ScanError)
-    → HasTaken k limit taken scanner bytes
-    → bytes ++ judged ≡ take limit all
-    → Steps {A = Unit {0}} new (Err scan_error) (scan (state k scanner) (settled (carried scanner.waiting judged)))
-    → NeedsMemory {A = Unit {0}} (state k scanner) (settled (carried scanner.waiting judged)) (Err scan_error)
-    → (fed_fault limit all ≡ Some (reported_fault scan_error)) ⊎ WantsMemory (take limit all) (reported_fault scan_error)
-halted k limit taken scanner bytes judged all new (Fault e) kept is steps needs =
-    inl (fed-judged limit all e (ap complete_fault (sym is) ∙
-    stops_at_complete_fault k (bytes ++ judged) e (scan_on k bytes judged (state k scanner) scanner.waiting kept.runs kept.waiting ∙ steps)))
-halted k limit taken scanner bytes judged all new Memory kept is steps needs =
-    let behind = meets_behind (first_state k) (state k scanner) (settled bytes) (settled (carried scanner.waiting judged)) kept.runs needs in
-    let met : MeetsBidLine (first_state k) (settled (bytes ++ judged)) = rw (settled-append bytes judged, ← kept.waiting) behind in
-    inr (refl, ap has_bid_line (sym is) ∙ meets_bid_line k (bytes ++ judged) met)
-
 -- the scanner took them
 pub went_on : {K : Type 0} (k : PlainBid → PlainBid) (limit taken : ℕ) (old new : Scanner K) (bytes judged : List ℕ) → HasTaken k limit taken old bytes
     → scan (state k old) (settled (carried old.waiting judged)) ≡ Ok (state k new)
@@ -149,14 +132,19 @@ abbrev pub IsJudged : {K : Type 0} → (PlainBid → PlainBid) → ℕ → ℕ �
 IsJudged k limit count scanner all (Ok u) = (fed_fault limit all ≡ None) × HasTaken k limit count scanner all
 IsJudged k limit count scanner all (Err e) = (fed_fault limit all ≡ Some e) ⊎ WantsMemory (take limit all) e
 
-pub judged_halted : {K : Type 0} (k : PlainBid → PlainBid) (limit count taken : ℕ) (old new : Scanner K) (bytes judged all : List ℕ) (scan_error : ScanError)
-    → HasTaken k limit taken old bytes
-    → bytes ++ judged ≡ take limit all
-    → Steps {A = Unit {0}} (state k new) (Err scan_error) (scan (state k old) (settled (carried old.waiting judged)))
-    → NeedsMemory {A = Unit {0}} (state k old) (settled (carried old.waiting judged)) (Err scan_error)
-    → IsJudged k limit count new all (Err (reported_fault scan_error))
-judged_halted k limit count taken old new bytes judged all scan_error kept is steps needs =
-    halted k limit taken old bytes judged all (state k new) scan_error kept is steps needs
+-- the scanner stopped in the bytes that are judged
+pub judged_halted : {K : Type 0} (k : PlainBid → PlainBid) (limit count taken : ℕ) (old new : Scanner K) (bytes judged all : List ℕ) (kind : Kind)
+    → HasTaken k limit taken old bytes → bytes ++ judged ≡ take limit all
+    → Scans (settled (carried old.waiting judged)) (state k old) (state k new) (Err kind)
+    → IsJudged k limit count new all (Err (placed_fault new.line kind))
+judged_halted k limit count taken old new bytes judged all Memory kept is needs =
+    let behind = meets_behind (first_state k) (state k old) (settled bytes) (settled (carried old.waiting judged)) kept.runs needs in
+    let met : MeetsBidLine (first_state k) (settled (bytes ++ judged)) = rw (settled-append bytes judged, ← kept.waiting) behind in
+    inr (refl, ap has_bid_line (sym is) ∙ meets_bid_line k (bytes ++ judged) met)
+judged_halted k limit count taken old new bytes judged all kind kept is read =
+    inl (fed-judged limit all (fault_at new.line kind) (ap complete_fault (sym is) ∙
+    stops_at_complete_fault k (bytes ++ judged) (fault_at new.line kind)
+    (scan_on k bytes judged (state k old) old.waiting kept.runs kept.waiting ∙ read)))
 
 pub judged_too_long : {K : Type 0} (k : PlainBid → PlainBid) (limit count taken : ℕ) (old new : Scanner K) (bytes judged all : List ℕ)
     → HasTaken k limit taken old bytes
@@ -194,25 +182,19 @@ fed_reported k old piece count scanner (Err e) none reported = rw none (record {
 -- ---- the end of the input
 
 pub ended_parts : {K : Type 0} (bids : K → List PlainBid) (k : PlainBid → PlainBid) (limit taken : ℕ) (scanner : Scanner K) (bytes : List ℕ)
-    (parts : Header × K) → HasTaken k limit taken scanner bytes → ArePartsOf bids parts (end_of scanner.waiting (state k scanner))
-    → SpellsParts k bytes parts.0 (bids parts.1)
-ended_parts bids k limit taken scanner bytes parts kept are = at_end (end_of scanner.waiting (state k scanner)) refl are
+    (answer : Result (Header × K) ReadFault) → HasTaken k limit taken scanner bytes → Finishes bids scanner.waiting (state k scanner) answer
+    → PartsAnswer k bids bytes answer
+ended_parts bids k limit taken scanner bytes (Ok parts) kept are = at_end (end_of scanner.waiting (state k scanner)) refl are
   where
     at_end : (r : Scan) → end_of scanner.waiting (state k scanner) ≡ r → ArePartsOf bids parts r → SpellsParts k bytes parts.0 (bids parts.1)
     at_end (Ok t) e same = rw (same.0, same.1) (ends_at_parts k bytes (state k scanner) t kept.runs (ap (λ w. end_of w (state k scanner)) (sym kept.waiting)
         ∙ e))
     at_end (Err fault) e same = absurd same
-
-pub ended_fault : {K : Type 0} {A : Type 0} (IsOf : A → Scan → Type 0) (k : PlainBid → PlainBid) (limit taken : ℕ) (scanner : Scanner K) (bytes : List ℕ)
-    (scan_error : ScanError)
-    → HasTaken k limit taken scanner bytes
-    → Finishes IsOf (Err scan_error) (end_of scanner.waiting (state k scanner)) → NeedsMemoryAtEnd {A = A} scanner.waiting (state k scanner) (Err scan_error)
-    → (first_fault bytes ≡ Some (reported_fault scan_error)) ⊎ WantsMemory bytes (reported_fault scan_error)
-ended_fault IsOf k limit taken scanner bytes (Fault e) kept ends needs =
+ended_parts bids k limit taken scanner bytes (Err e) kept (inl ends) =
     inl (ends_at_first_fault k bytes (state k scanner) e kept.runs (ap (λ w. end_of w (state k scanner)) (sym kept.waiting) ∙ ends))
-ended_fault IsOf k limit taken scanner bytes Memory kept ends needs =
-    let memory : IsInBidLine (state k scanner) ⊎ HasBids (end_of (waits bytes) (state k scanner)) = rw (← kept.waiting) needs in
-    inr (refl, ends_in_bid_line k bytes (state k scanner) kept.runs memory)
+ended_parts bids k limit taken scanner bytes (Err e) kept (inr lacks) =
+    let memory : IsInBidLine (state k scanner) ⊎ HasBids (end_of (waits bytes) (state k scanner)) = rw (← kept.waiting) lacks.1 in
+    inr (lacks.0, ends_in_bid_line k bytes (state k scanner) kept.runs memory)
 
 -- a whole text that was fed at once
 pub whole_reported : (text bytes : List ℕ) (limit : ℕ) (e : ReadFault) → limit ≡ length text → bytes ≡ text

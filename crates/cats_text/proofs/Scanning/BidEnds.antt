@@ -4,22 +4,19 @@ use Rattle.std.proofs.Common.{add-one}
 use Rattle.std.proofs.lemmas.Bool.{eqb-true}
 use Rattle.cats_text.specs.Internal.LeadingToken.{IsLeadingToken}
 use Rattle.cats_text.specs.Internal.Parsing.{word_read, line_read, end_read, bid_closed, with_bid}
-use Rattle.cats_text.specs.Internal.Progress.{Progress, Gives, NeedsMemoryOnBidLines}
-use Rattle.cats_text.specs.Internal.Scanning.{State, byte_step, is_before_word, scan_error_of, IsGoodDue, ScansTo}
+use Rattle.cats_text.specs.Internal.Progress.{Progress, Gives}
+use Rattle.cats_text.specs.Internal.Scanning.{State, byte_step, is_before_word, IsGoodDue, ScansTo}
 use Rattle.cats_text.specs.declared.read_fault.Kind.{Kind}
 use Rattle.cats_text.specs.declared.read_fault.Kind.TheVariants.{EmptyBundle}
 use Rattle.cats_text.specs.declared.parser.Column.{Column}
 use Rattle.cats_text.specs.declared.parser.Column.TheVariants.{Later, Ended}
 use Rattle.cats_text.specs.declared.parser.Stage.{Stage}
 use Rattle.cats_text.specs.declared.parser.Stage.TheVariants.{Bid}
-use Rattle.cats_text.specs.declared.parser.ParseError.{ParseError}
-use Rattle.cats_text.specs.declared.parser.ParseError.TheVariants.{Fault, Memory}
-use Rattle.cats_text.specs.declared.scanner.ScanError.{ScanError}
 use Rattle.cats_text.specs.declared.scanner.Mode.TheVariants.{Start}
 use Rattle.cats_text.specs.declared.word.Word.{Word}
 use Rattle.cats_text.specs.declared.word.Word.TheVariants.{End}
 use Rattle.cats_text.proofs.Scanning.Rests.{scan_byte_at}
-use Rattle.cats_text.proofs.Scanning.WholeWords.{behind_word, word_taken, word_halts}
+use Rattle.cats_text.proofs.Scanning.WholeWords.{behind_word, word_taken, word_halts, stops_in}
 
 -- behind a word of one byte with no blank there is LF
 token_one : (bytes : List ℕ) (w : Word) → IsLeadingToken bytes w 1 → (1 < length bytes) × (get_or bytes 1 0 ≡ 10)
@@ -84,14 +81,9 @@ end_passed s p v w bytes due token closed e same =
       omega (arith, ends.0),
     )
 
-gives_end : (s : State) (u : Progress) (stop : ParseError) → IsGoodDue s → Gives {A = Unit {0}} u (Err stop) (bid_closed s.progress)
-    → Gives {A = Unit {0}} u (Err stop) (word_read s.progress End)
-gives_end s u (Fault kind) due read = end_word s.progress due.stage due.column ∙ stopped_by s.progress kind (eqb (length s.progress.goods) 0) read
-gives_end s u Memory due read = tt
-
 -- or the parser stops
-pub end_halts : (s t : State) (u : Progress) (v : Bool) (bytes : List ℕ) (stop : ParseError) (scan_error : ScanError) → IsGoodDue s → IsLeadingToken bytes End 1
-    → Gives {A = Unit {0}} u (Err stop) (bid_closed s.progress) → NeedsMemoryOnBidLines {A = Unit {0}} s.progress (Err stop)
-    → scan_error ≡ scan_error_of s.line stop → ScansTo s t v bytes (Err scan_error)
-end_halts s t u v bytes stop scan_error due token read needs e =
-    word_halts s t u v bytes End 1 stop scan_error (ap is_before_word due.mode) token (gives_end s u stop due read) needs e
+pub end_halts : (s : State) (u : Progress) (v : Bool) (bytes : List ℕ) (kind : Kind) → IsGoodDue s → IsLeadingToken bytes End 1
+    → Gives bid_closed s.progress u (Err kind) → ScansTo s (record s { progress = u }) v bytes (Err kind)
+end_halts s u v bytes kind due token stop =
+    word_halts s u v bytes End 1 kind (ap is_before_word due.mode) token (stops_in kind (λ needs. needs)
+    (λ read. end_word s.progress due.stage due.column ∙ stopped_by s.progress kind (eqb (length s.progress.goods) 0) read) stop)

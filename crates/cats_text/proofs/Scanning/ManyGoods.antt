@@ -1,18 +1,17 @@
 -- A good that is due is read as any word in its column is.
 use Rattle.std.proofs.Common.{◌≡◌, ℕ, Bool, true, List, sym, ap, ap₂, ◌∙◌, subst, false, Ok, Err}
 use Rattle.cats_text.specs.Internal.LeadingToken.{IsLeadingToken}
-use Rattle.cats_text.specs.Internal.Progress.{Progress, Gives, NeedsMemoryOnBidLines}
+use Rattle.cats_text.specs.Internal.Progress.{Progress, Gives}
 use Rattle.cats_text.specs.Internal.Parsing.{good_read, word_read}
-use Rattle.cats_text.specs.Internal.Scanning.{State, IsGoodDue, ScansTo, is_before_word, scan_error_of}
+use Rattle.cats_text.specs.Internal.Scanning.{State, IsGoodDue, ScansTo, is_before_word}
 use Rattle.cats_text.specs.declared.parser.Stage.{Stage}
 use Rattle.cats_text.specs.declared.parser.Column.{Column}
-use Rattle.cats_text.specs.declared.parser.ParseError.{ParseError}
+use Rattle.cats_text.specs.declared.read_fault.Kind.{Kind}
 use Rattle.cats_text.specs.declared.parser.Stage.TheVariants.{Bid}
 use Rattle.cats_text.specs.declared.parser.Column.TheVariants.{Later}
-use Rattle.cats_text.specs.declared.scanner.ScanError.{ScanError}
 use Rattle.cats_text.specs.declared.scanner.Mode.{Mode}
 use Rattle.cats_text.specs.declared.word.Word.TheVariants.{Number}
-use Rattle.cats_text.proofs.Scanning.WholeWords.{behind_word, word_taken, word_halts}
+use Rattle.cats_text.proofs.Scanning.WholeWords.{behind_word, word_taken, word_halts, stops_in}
 
 good_word : (p : Progress) (n : ℕ) → p.stage ≡ Bid → p.column ≡ Later → word_read p (Number n) ≡ good_read p n
 good_word p n stage column =
@@ -29,10 +28,9 @@ good_taken s p v bytes good taken due token read stage e =
     (word_taken s p v bytes (Number good) taken before token (good_word s.progress good due.stage due.column ∙ read) stage e)
 
 -- or stops the parser
-pub good_halts : (s t : State) (u : Progress) (v : Bool) (bytes : List ℕ) (good taken : ℕ) (stop : ParseError) (scan_error : ScanError) → IsGoodDue s
-    → IsLeadingToken bytes (Number good) taken → Gives {A = Unit {0}} u (Err stop) (good_read s.progress good)
-    → NeedsMemoryOnBidLines {A = Unit {0}} s.progress (Err stop) → scan_error ≡ scan_error_of s.line stop → ScansTo s t v bytes (Err scan_error)
-good_halts s t u v bytes good taken stop scan_error due token read needs e =
-    let before : is_before_word s.mode ≡ true = ap is_before_word due.mode in
-    word_halts s t u v bytes (Number good) taken stop scan_error before token
-    (subst (Gives {A = Unit {0}} u (Err stop)) (sym (good_word s.progress good due.stage due.column)) read) needs e
+pub good_halts : (s : State) (u : Progress) (v : Bool) (bytes : List ℕ) (good taken : ℕ) (kind : Kind) → IsGoodDue s
+    → IsLeadingToken bytes (Number good) taken → Gives (λ p. good_read p good) s.progress u (Err kind)
+    → ScansTo s (record s { progress = u }) v bytes (Err kind)
+good_halts s u v bytes good taken kind due token stop =
+    word_halts s u v bytes (Number good) taken kind (ap is_before_word due.mode) token
+    (stops_in kind (λ needs. needs) (λ read. good_word s.progress good due.stage due.column ∙ read) stop)

@@ -1,38 +1,39 @@
 -- Whole words at the start of bytes, each read before the byte that ends it.
 use Rattle.std.proofs.Common.{◌≡◌, ◌≢◌, ℕ, ◌+◌, ◌-◌, ◌<◌, ◌≤◌, Bool, true, false, ◌||◌, cond, eqb, ⊎_elim, inl, inr, List, [], ◌∷◌, length, get_or, take, drop}
-use Rattle.std.proofs.Common.{refl, sym, ap, ◌∙◌, subst, arith, Result, Ok, Err, IsOkAnd, IsErr, IsErrAnd}
+use Rattle.std.proofs.Common.{refl, sym, ap, ◌∙◌, subst, arith, Ok, Err, IsOkAnd}
 use Rattle.std.proofs.lemmas.Bool.{both_ways}
 use Rattle.std.proofs.lemmas.List.{length-drop, drop-drop}
 use Rattle.cats_text.specs.Lines.{is_blank}
 use Rattle.cats_text.specs.Internal.Returns.{settled}
 use Rattle.cats_text.specs.Faults.{fault_at}
 use Rattle.cats_text.specs.Internal.LeadingToken.{IsLeadingToken, ends_word}
-use Rattle.cats_text.specs.Internal.Progress.{Progress, Gives, NeedsMemoryOnBidLines}
+use Rattle.cats_text.specs.Internal.Progress.{Progress, Stops, Gives}
 use Rattle.cats_text.specs.Internal.Parsing.{word_read}
 use Rattle.cats_text.specs.Internal.Scanning.{
   State,
   and_then,
   scan,
   byte_step,
-  scan_error_of,
   is_before_word,
-  NeedsMemoryHere,
   IsInBidLine,
   MeetsBidLine,
   IsScanned,
   ScansTo,
+  Steps,
+  Scans,
 }
-use Rattle.cats_text.specs.Internal.Scanning.{Steps, NeedsMemory}
 use Rattle.cats_text.specs.declared.read_fault.Kind.{Kind}
-use Rattle.cats_text.specs.declared.parser.ParseError.{ParseError}
-use Rattle.cats_text.specs.declared.parser.ParseError.TheVariants.{Fault, Memory}
+use Rattle.cats_text.specs.declared.read_fault.Kind.TheVariants.{Memory}
 use Rattle.cats_text.specs.declared.parser.Stage.TheVariants.{Bid}
-use Rattle.cats_text.specs.declared.scanner.ScanError.{ScanError}
-use Rattle.cats_text.specs.declared.scanner.ScanError.TheVariants as halts
 use Rattle.cats_text.specs.declared.scanner.Mode.TheVariants.{Between, Inside}
 use Rattle.cats_text.specs.declared.word.Word.{Word}
 use Rattle.cats_text.proofs.Scanning.Rests.{settled-other, at_place, scan_byte_at, scanned_then}
 use Rattle.cats_text.proofs.Scanning.ManyBytes.{word_scanned, rest_is}
+
+-- where a call stopped, the call that made it does
+pub stops_in : (kind : Kind) {N M F G : Type 0} → (N → M) → (F → G) → Stops kind N F → Stops kind M G
+stops_in Memory needs reads stop = needs stop
+stops_in kind needs reads stop = reads stop
 
 -- in a word, and behind it
 abbrev in_word : State → Word → State
@@ -152,17 +153,11 @@ word_taken s p v bytes word taken before token read stage e =
     token_taken s p v bytes token.count taken token.within token.ends token.is (read_scanned s p bytes word taken v before token read stage e)
 
 -- or stops the parser
-pub word_halts : (s t : State) (u : Progress) (v : Bool) (bytes : List ℕ) (word : Word) (taken : ℕ) (stop : ParseError) (scan_error : ScanError)
-    → is_before_word s.mode ≡ true
-    → IsLeadingToken bytes word taken → Gives {A = Unit {0}} u (Err stop) (word_read s.progress word)
-    → NeedsMemoryOnBidLines {A = Unit {0}} s.progress (Err stop)
-    → scan_error ≡ scan_error_of s.line stop → ScansTo s t v bytes (Err scan_error)
-word_halts s t u v bytes word taken (Fault kind) scan_error before token read needs e =
-    subst (λ (h : ScanError). ScansTo s t v bytes (Err h)) (sym e) (token_faults s bytes word taken kind before token read)
-word_halts s t u v bytes word taken Memory scan_error before token read needs e =
-    subst (λ (h : ScanError). ScansTo s t v bytes (Err h)) (sym e) (token_needs s bytes word taken before token needs)
-
--- ---- one word after another
+pub word_halts : (s : State) (u : Progress) (v : Bool) (bytes : List ℕ) (word : Word) (taken : ℕ) (kind : Kind) → is_before_word s.mode ≡ true
+    → IsLeadingToken bytes word taken → Gives (λ p. word_read p word) s.progress u (Err kind)
+    → ScansTo s (record s { progress = u }) v bytes (Err kind)
+word_halts s u v bytes word taken kind before token =
+    stops_in kind (token_needs s bytes word taken before token) (token_faults s bytes word taken kind before token)
 
 -- ---- a call on the rest of the bytes
 
@@ -189,35 +184,22 @@ rest_scanned s0 s t w v bytes place count l so_far next =
     let left : length (drop place bytes) ≡ length bytes - place = length-drop place bytes in
     rest_then s0 s t w v bytes place count (omega arith) (λ q. absurd (let none : length (drop place bytes) ≡ 0 = ap length q in omega arith)) so_far next
 
-pub rest_stops_to : (s0 s t u : State) (w v x : Bool) (bytes : List ℕ) (place : ℕ) (scan_error : ScanError) → IsScanned s0 s w bytes (drop place bytes)
-    → ScansTo s t v (take (length bytes - place) (drop place bytes)) (Err scan_error) → ScansTo s0 u x bytes (Err scan_error)
-rest_stops_to s0 s t u w v x bytes place (halts.Fault e) so_far stop = sym so_far.steps ∙ subst (λ ds. scan s (settled ds) ≡ Err e) (rest_is bytes place) stop
-rest_stops_to s0 s t u w v x bytes place halts.Memory so_far stop = so_far.needs (subst (λ ds. MeetsBidLine s (settled ds)) (rest_is bytes place) stop)
+pub rest_stops_to : (s0 s t : State) (w v : Bool) (bytes : List ℕ) (place : ℕ) (kind : Kind) → IsScanned s0 s w bytes (drop place bytes)
+    → ScansTo s t v (take (length bytes - place) (drop place bytes)) (Err kind) → ScansTo s0 t v bytes (Err kind)
+rest_stops_to s0 s t w v bytes place kind so_far = stops_in kind
+    (λ needs. so_far.needs (subst (λ ds. MeetsBidLine s (settled ds)) (rest_is bytes place) needs))
+    (λ read. sym so_far.steps ∙ subst (λ ds. scan s (settled ds) ≡ Err (fault_at t.line kind)) (rest_is bytes place) read)
 
 -- behind that call a byte stopped
-pub byte_stops : (s0 s t u : State) (w v : Bool) (bytes : List ℕ) (place count : ℕ) (scan_error : ScanError) → place < length bytes
+pub byte_stops : (s0 s t u : State) (w v : Bool) (bytes : List ℕ) (place count : ℕ) (kind : Kind) → place < length bytes
     → IsScanned s0 s w bytes (drop place bytes) → ScansTo s t v (take (length bytes - place) (drop place bytes)) (Ok count)
     → place + count < length bytes → get_or bytes (place + count) 0 ≢ 13
-    → Steps {A = Unit {0}} u (Err scan_error) (byte_step t (get_or bytes (place + count) 0))
-    → NeedsMemoryHere {A = Unit {0}} t (Err scan_error)
-    → Steps {A = Unit {0}} u (Err scan_error) (scan s0 (settled bytes)) × NeedsMemory {A = Unit {0}} s0 (settled bytes) (Err scan_error)
-byte_stops s0 s t u w v bytes place count scan_error l so_far next here ne steps needs =
+    → Steps IsInBidLine (λ x. byte_step x (get_or bytes (place + count) 0)) t u (Err kind) → Scans (settled bytes) s0 u (Err kind)
+byte_stops s0 s t u w v bytes place count kind l so_far next here ne =
     let both = rest_scanned s0 s t w v bytes place count l so_far next in
     let b : ℕ = get_or bytes (place + count) 0 in
-    let split : settled (drop (place + count) bytes) ≡ b ∷ settled (drop (place + count + 1) bytes) = ap settled (at_place bytes (place + count) here)
+    let later : List ℕ = settled (drop (place + count + 1) bytes) in
+    let split : settled (drop (place + count) bytes) ≡ b ∷ later = ap settled (at_place bytes (place + count) here)
     ∙ settled-other b (drop (place + count + 1) bytes) ne in
-    at_byte s0 t u v bytes (drop (place + count) bytes) b (settled (drop (place + count + 1) bytes)) scan_error both.0 split steps needs
-  where
-    at_byte : (s0 t u : State) (v : Bool) (bytes rest : List ℕ) (b : ℕ) (later : List ℕ) (scan_error : ScanError) → IsScanned s0 t v bytes rest
-        → settled rest ≡ b ∷ later
-        → Steps {A = Unit {0}} u (Err scan_error) (byte_step t b) → NeedsMemoryHere {A = Unit {0}} t (Err scan_error)
-        → Steps {A = Unit {0}} u (Err scan_error) (scan s0 (settled bytes)) × NeedsMemory {A = Unit {0}} s0 (settled bytes) (Err scan_error)
-    at_byte s0 t u v bytes rest b later (halts.Fault e) so_far split steps needs =
-        (sym so_far.steps ∙ ap (scan t) split ∙ ap (λ r. and_then r (λ x. scan x later)) steps, tt)
-    at_byte s0 t u v bytes rest b later halts.Memory so_far split steps needs = (tt, so_far.needs (subst (MeetsBidLine t) (sym split) (inl needs)))
-
--- what a `?` answers
-pub residual_is : {A : Type 0} (r : Result A ScanError) (scan_error : ScanError) (P : Result A ScanError → Type 0) → IsErr r → IsErrAnd r (λ h. h ≡ scan_error)
-    → P (Err scan_error) → P r
-residual_is (Ok x) scan_error P err is p = cc
-residual_is (Err h) scan_error P err is p = subst (λ (k : ScanError). P (Err k)) (sym is) p
+    stops_in kind (λ needs. both.0.needs (subst (MeetsBidLine t) (sym split) (inl needs)))
+    (λ read. sym both.0.steps ∙ ap (scan t) split ∙ ap (λ r. and_then r (λ x. scan x later)) read)

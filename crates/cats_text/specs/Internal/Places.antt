@@ -1,6 +1,6 @@
 -- What the search for a fault's place does. It cuts off the first line of a text and the first word of a line, and asks
 -- the parser for each word and each line's end.
-use Rattle.std.specs.Prelude.{◌≡◌, ℕ, suc, ◌<◌, ◌==◌, if◌then◌else◌, List, [], ◌∷◌, length, Option, Some, None}
+use Rattle.std.specs.Prelude.{◌≡◌, ℕ, suc, ◌<◌, ◌==◌, if◌then◌else◌, List, [], ◌∷◌, length}
 use Rattle.std.specs.Prelude.{Result, Ok, Err}
 use Rattle.cats_text.specs.Lines.{Word, RawLine, raw_lines, blank_returns, line_words, is_significant}
 use Rattle.cats_text.specs.FaultPlaces.{PlainPlace}
@@ -8,11 +8,11 @@ use Rattle.cats_text.specs.Views.{plain_place}
 use Rattle.cats_text.specs.Internal.Kept.{number_alone}
 use Rattle.cats_text.specs.Internal.Machine.{summary}
 use Rattle.cats_text.specs.Internal.Parsing.{Reading, word_read, line_read}
-use Rattle.cats_text.specs.Internal.Progress.{Progress, progress}
+use Rattle.cats_text.specs.Internal.Progress.{Progress, progress, Stops}
 use Rattle.cats_text.specs.declared.fault_place.FaultPlace.{FaultPlace}
 use Rattle.cats_text.specs.declared.keep.BidCount.{BidCount}
 use Rattle.cats_text.specs.declared.parser.Parser.{Parser}
-use Rattle.cats_text.specs.declared.read_fault.Kind.{Kind}
+use Rattle.cats_text.specs.declared.parser.Stage.TheVariants.{Bid}
 
 -- the first word of a line, and what is behind it
 pub record IsFirstWord (line word behind : List ℕ) : Type 0 where
@@ -58,12 +58,7 @@ words_judged line word (w ∷ ws) p =
 abbrev pub line_judged : ℕ → List Word → Progress → Judged
 line_judged line words p = if is_significant words then words_judged line 1 words p else Ok p
 
--- a call answered no place and left this, or the place that has the fault
-abbrev pub GivesPlace : Progress → Option FaultPlace → Judged → Type 0
-GivesPlace new None judged = judged ≡ Ok new
-GivesPlace new (Some place) judged = judged ≡ Err (plain_place place)
-
--- the same of a kind
-abbrev pub GivesKind : Progress → Option Kind → Reading → Type 0
-GivesKind new None read = read ≡ Ok new
-GivesKind new (Some kind) read = read ≡ Err kind
+-- a call judged this, or lacked memory on a bid line
+abbrev pub Judges : (Progress → Judged) → Progress → Progress → Result (Unit {0}) FaultPlace → Type 0
+Judges step old new (Ok u) = step old ≡ Ok new
+Judges step old new (Err place) = Stops place.kind (old.stage ≡ Bid) (step old ≡ Err (plain_place place))

@@ -2,8 +2,7 @@
 use Rattle.std.specs.Prelude.{◌≡◌, ℕ, List, Option, Result, Ok, Err}
 use Rattle.bid_file.specs.Files.{PlainBid}
 use Rattle.cats_text.specs.declared.read_fault.Kind.{Kind}
-use Rattle.cats_text.specs.declared.parser.ParseError.{ParseError}
-use Rattle.cats_text.specs.declared.parser.ParseError.TheVariants.{Fault, Memory}
+use Rattle.cats_text.specs.declared.read_fault.Kind.TheVariants.{Memory}
 use Rattle.cats_text.specs.declared.parser.Stage.{Stage}
 use Rattle.cats_text.specs.declared.parser.Stage.TheVariants.{Bid}
 use Rattle.cats_text.specs.declared.parser.Column.{Column}
@@ -35,20 +34,12 @@ module _ {K : Type 0} (keep : PlainBid → PlainBid) where
     goods = p.goods;
   }
 
--- a call gave what the machine gives, unless memory was refused
-abbrev pub Gives : {A B : Type 0} → B → Result A ParseError → Result B Kind → Type 0
-Gives new (Ok x) read = read ≡ Ok new
-Gives new (Err (Fault kind)) read = read ≡ Err kind
-Gives new (Err Memory) read = Unit {0}
+-- of a call that stopped: for want of memory, the first holds, and at a fault of the text the second
+abbrev pub Stops : Kind → Type 0 → Type 0 → Type 0
+Stops Memory needs reads = needs
+Stops kind needs reads = reads
 
--- memory is requested on bid lines alone
-abbrev pub NeedsMemoryOnBidLines : {A : Type 0} → Progress → Result A ParseError → Type 0
-NeedsMemoryOnBidLines old (Ok x) = Unit {0}
-NeedsMemoryOnBidLines old (Err (Fault kind)) = Unit {0}
-NeedsMemoryOnBidLines old (Err Memory) = old.stage ≡ Bid
-
--- the same of a call that requests no memory
-abbrev pub Answers : {A : Type 0} → Result A ParseError → Result A Kind → Type 0
-Answers (Ok x) read = read ≡ Ok x
-Answers (Err (Fault kind)) read = read ≡ Err kind
-Answers (Err Memory) read = ⊥
+-- a call did this step of the machine, or lacked memory on a bid line
+abbrev pub Gives : (Progress → Result Progress Kind) → Progress → Progress → Result (Unit {0}) Kind → Type 0
+Gives step old new (Ok u) = step old ≡ Ok new
+Gives step old new (Err kind) = Stops kind (old.stage ≡ Bid) (step old ≡ Err kind)

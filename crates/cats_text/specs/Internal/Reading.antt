@@ -11,17 +11,17 @@ use Rattle.cats_text.specs.Views.{HasSizes}
 use Rattle.cats_text.specs.Fed.{Fed}
 use Rattle.cats_text.specs.Internal.Returns.{settled, waits}
 use Rattle.cats_text.specs.Internal.Scanning.{state, first_state, scan}
+use Rattle.cats_text.specs.declared.read_fault.Kind.{Kind}
 use Rattle.cats_text.specs.declared.read_fault.ReadFault.{ReadFault}
-use Rattle.cats_text.specs.declared.read_fault.Kind.TheVariants.{Memory as NoMemory}
+use Rattle.cats_text.specs.declared.read_fault.Kind.TheVariants.{Memory}
 use Rattle.cats_text.specs.declared.parser.Header.{Header}
-use Rattle.cats_text.specs.declared.scanner.ScanError.{ScanError}
-use Rattle.cats_text.specs.declared.scanner.ScanError.TheVariants.{Fault, Memory}
 use Rattle.cats_text.specs.declared.scanner.Scanner.{Scanner}
 use Rattle.cats_text.specs.Reading.{PackedAnswer, WantsMemory}
 
-abbrev pub reported_fault : ScanError → ReadFault
-reported_fault (Fault e) = e
-reported_fault Memory = fault_at 0 NoMemory
+-- the fault of a call that stopped at a line; want of memory is on no line
+abbrev pub placed_fault : ℕ → Kind → ReadFault
+placed_fault line Memory = fault_at 0 Memory
+placed_fault line kind = fault_at line kind
 
 -- the scanner, which keeps this of each bid, has taken these bytes
 pub record HasTaken {K : Type 0} (keep : PlainBid → PlainBid) (limit taken : ℕ) (scanner : Scanner K)
@@ -39,7 +39,7 @@ pub record IsReading {K : Type 0} (keep : PlainBid → PlainBid) (most count : �
 -- the file with a vector for each bid: memory may be refused if there are bids
 abbrev pub Unpacks : PlainFile → Result BidFile ReadFault → Type 0
 Unpacks file (Ok f) = plain_file f ≡ file
-Unpacks file (Err e) = (e ≡ fault_at 0 NoMemory) × (0 < length file.bids)
+Unpacks file (Err e) = (e ≡ fault_at 0 Memory) × (0 < length file.bids)
 
 abbrev pub PackedAs : Fed → Result PlainFile ReadFault → Type 0
 PackedAs fed r = MatchOption fed.failed (PackedAnswer fed.bytes r) (λ e. r ≡ Err e)

@@ -7,17 +7,14 @@ use Rattle.cats_text.specs.Faults.{fault_at}
 use Rattle.bid_file.specs.Files.{PlainBid}
 use Rattle.cats_text.specs.FileLines.{filled}
 use Rattle.cats_text.specs.Internal.Machine.{word_from, word_with}
-use Rattle.cats_text.specs.Internal.Progress.{Progress, progress}
+use Rattle.cats_text.specs.Internal.Progress.{Progress, progress, Stops}
 use Rattle.cats_text.specs.Internal.Parsing.{Reading, start, word_read, line_read, is_due}
-use Rattle.cats_text.specs.declared.read_fault.Kind.TheVariants.{Missing}
+use Rattle.cats_text.specs.declared.read_fault.Kind.{Kind}
+use Rattle.cats_text.specs.declared.read_fault.Kind.TheVariants.{Missing, Memory}
 use Rattle.cats_text.specs.declared.read_fault.ReadFault.{ReadFault}
 use Rattle.cats_text.specs.declared.parser.Header.{Header}
-use Rattle.cats_text.specs.declared.parser.ParseError.{ParseError}
-use Rattle.cats_text.specs.declared.parser.ParseError.TheVariants as stops
 use Rattle.cats_text.specs.declared.parser.Stage.TheVariants.{Bid}
 use Rattle.cats_text.specs.declared.parser.Column.TheVariants.{Later}
-use Rattle.cats_text.specs.declared.scanner.ScanError.{ScanError}
-use Rattle.cats_text.specs.declared.scanner.ScanError.TheVariants.{Fault, Memory}
 use Rattle.cats_text.specs.declared.scanner.Mode.{Mode}
 use Rattle.cats_text.specs.declared.scanner.Mode.TheVariants.{Start, Blank, Comment, Between, Inside}
 use Rattle.cats_text.specs.declared.scanner.Scanner.{Scanner}
@@ -36,10 +33,6 @@ first_state keep = record { mode = Start; line = 1; progress = start keep }
 
 abbrev pub Scan : Type 0
 Scan = Result State ReadFault
-
-abbrev pub scan_error_of : ℕ → ParseError → ScanError
-scan_error_of line (stops.Fault kind) = Fault (fault_at line kind)
-scan_error_of line stops.Memory = Memory
 
 abbrev pub and_then : Scan → (State → Scan) → Scan
 and_then (Ok s) f = f s
@@ -133,11 +126,10 @@ end_of false s = end_step s
 
 -- ---- what the code's calls give
 
--- a call gave what the machine gives, unless memory was refused
-abbrev pub Steps : {A : Type 0} → State → Result A ScanError → Scan → Type 0
-Steps new (Ok x) read = read ≡ Ok new
-Steps new (Err (Fault e)) read = read ≡ Err e
-Steps new (Err Memory) read = Unit {0}
+-- a call did this step of the machine, a fault being on the line where it stopped, or lacked memory where it needs some
+abbrev pub Steps : (State → Type 0) → (State → Scan) → State → State → Result (Unit {0}) Kind → Type 0
+Steps Needs step old new (Ok u) = step old ≡ Ok new
+Steps Needs step old new (Err kind) = Stops kind (Needs old) (step old ≡ Err (fault_at new.line kind))
 
 abbrev pub IsInLine : Mode → Type 0
 IsInLine Start = ⊥
@@ -150,42 +142,30 @@ IsInLine (Inside w) = Unit {0}
 abbrev pub IsInBidLine : State → Type 0
 IsInBidLine s = (s.progress.stage ≡ Bid) × IsInLine s.mode
 
--- memory was refused in a bid line, in this state
-abbrev pub NeedsMemoryHere : {A : Type 0} → State → Result A ScanError → Type 0
-NeedsMemoryHere s (Ok x) = Unit {0}
-NeedsMemoryHere s (Err (Fault e)) = Unit {0}
-NeedsMemoryHere s (Err Memory) = IsInBidLine s
-
 -- a bid line is in the bytes
 abbrev pub MeetsBidLine : State → List ℕ → Type 0
 MeetsBidLine s [] = IsInBidLine s
 MeetsBidLine s (b ∷ bs) = IsInBidLine s ⊎ IsOkAnd (byte_step s b) (λ t. MeetsBidLine t bs)
 
-abbrev pub NeedsMemory : {A : Type 0} → State → List ℕ → Result A ScanError → Type 0
-NeedsMemory s bytes (Ok x) = Unit {0}
-NeedsMemory s bytes (Err (Fault e)) = Unit {0}
-NeedsMemory s bytes (Err Memory) = MeetsBidLine s bytes
+-- a call scanned all these bytes
+abbrev pub Scans : List ℕ → State → State → Result (Unit {0}) Kind → Type 0
+Scans bytes = Steps (λ s. MeetsBidLine s bytes) (λ s. scan s bytes)
 
 -- the header lines, and what is kept of the bids, at the end of the input
 abbrev pub ArePartsOf : {K : Type 0} → (K → List PlainBid) → Header × K → Scan → Type 0
 ArePartsOf bids parts (Ok s) = (parts.0 ≡ s.progress.header) × (bids parts.1 ≡ filled s.progress.slots)
 ArePartsOf bids parts (Err e) = ⊥
 
--- a call at the end of the input gave what `IsOf` requires, or the fault that the machine gives
-abbrev pub Finishes : {A : Type 0} → (A → Scan → Type 0) → Result A ScanError → Scan → Type 0
-Finishes IsOf (Ok x) read = IsOf x read
-Finishes IsOf (Err (Fault e)) read = read ≡ Err e
-Finishes IsOf (Err Memory) read = Unit {0}
-
--- memory was refused in a bid line, or for bids that came
+-- bids came
 abbrev pub HasBids : Scan → Type 0
 HasBids (Ok s) = 0 < length s.progress.slots
 HasBids (Err e) = ⊥
 
-abbrev pub NeedsMemoryAtEnd : {A : Type 0} → Bool → State → Result A ScanError → Type 0
-NeedsMemoryAtEnd waiting s (Ok x) = Unit {0}
-NeedsMemoryAtEnd waiting s (Err (Fault e)) = Unit {0}
-NeedsMemoryAtEnd waiting s (Err Memory) = IsInBidLine s ⊎ HasBids (end_of waiting s)
+-- a call at the end of the input gave what the machine gives, or lacked memory in a bid line or for bids that came
+abbrev pub Finishes : {K : Type 0} → (K → List PlainBid) → Bool → State → Result (Header × K) ReadFault → Type 0
+Finishes bids waiting s (Ok parts) = ArePartsOf bids parts (end_of waiting s)
+Finishes bids waiting s (Err e) = (end_of waiting s ≡ Err e)
+    ⊎ ((e ≡ fault_at 0 Memory) × (IsInBidLine s ⊎ HasBids (end_of waiting s)))
 
 -- What is left of a scan does to the state reached what the whole does to the first, and a CR waits at the end.
 pub record IsScanned (s0 s : State) (waiting : Bool) (bytes rest : List ℕ) : Type 0 where
@@ -195,8 +175,8 @@ pub record IsScanned (s0 s : State) (waiting : Bool) (bytes rest : List ℕ) : T
   pub going : 0 < length rest → waiting ≡ false
   pub ended : rest ≡ [] → waiting ≡ waits bytes
 
--- a call scanned so many of the bytes, or stopped at what the machine says of them
-abbrev pub ScansTo : State → State → Bool → List ℕ → Result ℕ ScanError → Type 0
+-- a call scanned so many of the bytes, or stopped at what the machine says of them, or lacked memory in a bid line
+abbrev pub ScansTo : State → State → Bool → List ℕ → Result ℕ Kind → Type 0
 ScansTo s0 s waiting bytes (Ok count) = IsScanned s0 s waiting bytes (drop count bytes) × (count ≤ length bytes)
-ScansTo s0 s waiting bytes (Err (Fault e)) = scan s0 (settled bytes) ≡ Err e
-ScansTo s0 s waiting bytes (Err Memory) = MeetsBidLine s0 (settled bytes)
+ScansTo s0 s waiting bytes (Err kind) =
+    Stops kind (MeetsBidLine s0 (settled bytes)) (scan s0 (settled bytes) ≡ Err (fault_at s.line kind))

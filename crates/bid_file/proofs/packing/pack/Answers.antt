@@ -1,3 +1,4 @@
+-- `pack`
 use Rattle.std.proofs.Common.{◌∙◌, List, ◌++◌, ◌∷◌, [], ap, sym}
 use Rattle.bid_file.specs.Files.{PlainBid}
 use Rattle.bid_file.specs.Views.{seen_bid}

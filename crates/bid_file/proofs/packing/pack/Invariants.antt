@@ -1,3 +1,4 @@
+-- `pack`
 use Rattle.std.proofs.Common.{◌≡◌, take}
 use Rattle.bid_file.proofs.packing.pack.Given as goal
 

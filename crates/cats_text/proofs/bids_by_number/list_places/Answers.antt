@@ -1,3 +1,4 @@
+-- `list_places`
 use Rattle.std.proofs.Common.{◌≡◌, ◌≤◌, length, arith, rules}
 use Rattle.std.proofs.lemmas.Grind.{common_steps}
 use Rattle.cats_text.proofs.Parsing.BidsByNumber.{none_numbered, next_numbered, all_listed, within_numbered}

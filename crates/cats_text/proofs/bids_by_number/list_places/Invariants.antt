@@ -1,3 +1,4 @@
+-- `list_places`
 use Rattle.std.proofs.Common.{◌≡◌, ◌≤◌, ◌-◌, length}
 use Rattle.cats_text.proofs.Parsing.BidsByNumber.{numbered}
 use Rattle.cats_text.proofs.bids_by_number.list_places.Given as goal

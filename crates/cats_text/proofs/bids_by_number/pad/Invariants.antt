@@ -1,3 +1,4 @@
+-- `pad`
 use Rattle.std.proofs.Common.{◌+◌, ◌-◌, length, ℕ}
 use Rattle.cats_text.specs.Internal.Kept.{IsPadded, AreWithin}
 use Rattle.cats_text.proofs.bids_by_number.pad.Given as goal

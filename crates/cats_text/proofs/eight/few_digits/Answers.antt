@@ -1,4 +1,4 @@
--- The first byte that is no digit is found by its flag; the digits before it, moved up, are worth what they spell.
+-- `few_digits`: the first byte that is no digit is found by its flag; the digits before it, moved up, are worth what they spell.
 use Rattle.std.proofs.Common.{arith, take, sym, ◌∙◌}
 use Rattle.core.proofs.dec2flt.Eight.{lanes_are, first_other, shifted_is, eight_at, word_at}
 use Rattle.cats_text.proofs.eight.few_digits.Goals as goal

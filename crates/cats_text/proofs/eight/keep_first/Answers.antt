@@ -1,3 +1,4 @@
+-- `keep_first`
 use Rattle.core.proofs.dec2flt.Eight.{bytes_up}
 use Rattle.cats_text.proofs.eight.keep_first.Goals as goal
 

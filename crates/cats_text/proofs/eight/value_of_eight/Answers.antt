@@ -1,3 +1,4 @@
+-- `value_of_eight`
 use Rattle.core.proofs.dec2flt.Eight.{eight_is}
 use Rattle.cats_text.proofs.eight.value_of_eight.Goals as goal
 

@@ -1,12 +1,16 @@
-use Rattle.std.proofs.Common.{◌≡◌, ℕ, List, [], length, ap, ◌∙◌, sym, subst, arith, Some, None, option_map, cond, Ok, Err, add-one}
+-- `place_of_fault`
+use Rattle.std.proofs.Common.{◌≡◌, ◌≢◌, refl, ℕ, List, [], length, ap, ◌∙◌, sym, subst, arith, Some, None, option_map, cond, add-one}
 use Rattle.std.proofs.lemmas.Bool.{eqb-true}
-use Rattle.cats_text.specs.Lines.{line_words, raw_lines, blank_returns}
+use Rattle.cats_text.specs.Lines.{raw_lines, blank_returns}
 use Rattle.cats_text.specs.FaultPlaces.{place_behind}
-use Rattle.cats_text.specs.Internal.Places.{seen, line_judged, GivesPlace}
+use Rattle.cats_text.specs.Internal.Places.{seen, line_judged}
+use Rattle.cats_text.specs.Internal.Progress.{Stops}
 use Rattle.cats_text.specs.Views.{plain_place}
-use Rattle.cats_text.specs.declared.read_fault.Kind.TheVariants.{Missing}
+use Rattle.cats_text.specs.declared.read_fault.Kind.{Kind}
+use Rattle.cats_text.specs.declared.read_fault.Kind.TheVariants.{Missing, Memory}
 use Rattle.cats_text.proofs.Texts.FirstPlaces.{IsBehind, at_first_line, line_stopped, line_passed, lines_ended, none_left, place_if}
 use Rattle.cats_text.proofs.fault_place.place_of_fault.Goals as goal
+use Rattle.cats_text.proofs.fault_place.place_of_fault.Goals.{in-Memory, in_default-kind}
 
 pub loop-rest-init : goal.loop-rest-init
 loop-rest-init c = record {
@@ -18,27 +22,32 @@ pub loop-rest-preserved : goal.loop-rest-preserved
 loop-rest-preserved c =
     let f = c.split_line.ensures in
     let p = seen c.loop-rest.parser in
-    let judged = line_judged c.loop-rest.number (line_words c.split_line.result.0.now) p in
-    let gives : judged ≡ Ok (seen c.place_in_line.new.parser) =
-    subst (λ o. GivesPlace (seen c.place_in_line.new.parser) o judged) c.in_default.is c.in_ok-place.ensures.place in
-    let next = line_passed c.args.text.now c.loop-rest.number f.raw (raw_lines (blank_returns c.split_line.result.1.now)) p (seen c.place_in_line.new.parser)
+    let next = line_passed c.args.text.now c.loop-rest.number f.raw (raw_lines (blank_returns c.split_line.result.1.now)) p (seen c.judge_line.new.parser)
     (subst (λ raws. IsBehind c.args.text.now c.loop-rest.number raws p) f.lines c.loop-rest.invariant.behind)
-    (ap (λ ws. line_judged c.loop-rest.number ws p) f.words ∙ gives) in
+    (ap (λ ws. line_judged c.loop-rest.number ws p) f.words ∙ c.in_default.ensures.judged) in
     record {
       behind = rw add-one next;
       count = let within = f.within in let count = c.loop-rest.invariant.count in omega arith;
     }
 
-pub returns-in-Some-clause-place : goal.returns-in-Some-clause-place
-returns-in-Some-clause-place c =
+-- a call that did not lack memory stopped where the machine does
+machine_stops : (kind : Kind) (N F : Type 0) → kind ≢ Memory → Stops kind N F → F
+machine_stops Memory N F other stop = absurd (other refl)
+machine_stops kind N F other stop = stop
+
+pub returns-in-Err-clause-place : goal.returns-in-Err-clause-place
+returns-in-Err-clause-place c =
     let f = c.split_line.ensures in
     let p = seen c.loop-rest.parser in
-    let judged = line_judged c.loop-rest.number (line_words c.split_line.result.0.now) p in
-    let gives : judged ≡ Err (plain_place c.in-Some.place) =
-    subst (λ o. GivesPlace (seen c.place_in_line.new.parser) o judged) c.in-Some.is c.in_ok-place.ensures.place in
-    sym (line_stopped c.args.text.now c.loop-rest.number f.raw (raw_lines (blank_returns c.split_line.result.1.now)) p (plain_place c.in-Some.place)
-    (subst (λ raws. IsBehind c.args.text.now c.loop-rest.number raws p) f.lines c.loop-rest.invariant.behind)
-    (ap (λ ws. line_judged c.loop-rest.number ws p) f.words ∙ gives))
+    elim c.match-place.branch [
+      | in-Memory w ↦ rw w.result-is tt
+      | in_default-kind w ↦
+          let stops = machine_stops c.in-Err.place.kind _ _ w.in_default-kind.not-Memory c.in-Err.ensures.judged in
+          rw w.result-is
+          (sym (line_stopped c.args.text.now c.loop-rest.number f.raw (raw_lines (blank_returns c.split_line.result.1.now)) p (plain_place c.in-Err.place)
+          (subst (λ raws. IsBehind c.args.text.now c.loop-rest.number raws p) f.lines c.loop-rest.invariant.behind)
+          (ap (λ ws. line_judged c.loop-rest.number ws p) f.words ∙ stops)))
+    ]
 
 pub returns-clause-place : goal.returns-clause-place
 returns-clause-place c =

@@ -1,3 +1,4 @@
+-- `place_of_fault`
 use Rattle.std.proofs.Common.{◌+◌, ◌≤◌, length}
 use Rattle.cats_text.specs.Lines.{raw_lines, blank_returns}
 use Rattle.cats_text.specs.Internal.Places.{seen}

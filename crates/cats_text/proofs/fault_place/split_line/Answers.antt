@@ -1,3 +1,4 @@
+-- `split_line`
 use Rattle.std.proofs.Common.{ℕ, List, ◌-◌, eqb, ap, ◌∙◌, length, take, drop, subst, sym}
 use Rattle.std.specs.Option.{unwrap_or}
 use Rattle.std.proofs.lemmas.List.{take_rest}

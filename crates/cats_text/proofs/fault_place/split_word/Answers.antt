@@ -1,3 +1,4 @@
+-- `split_word`
 use Rattle.std.proofs.Common.{◌≡◌, ℕ, List, not, Some, ap, ◌∙◌, sym, length, take, drop, refl, subst, ◌-◌}
 use Rattle.std.specs.List.{position}
 use Rattle.std.specs.Option.{unwrap_or}

@@ -1,3 +1,4 @@
+-- `without_return`
 use Rattle.std.proofs.Common.{◌∷◌, [], ◌++◌, ap, ◌∙◌, sym}
 use Rattle.std.proofs.lemmas.Bool.{ne_eqb}
 use Rattle.cats_text.specs.Internal.Places.{without_return}

@@ -1,3 +1,4 @@
+-- `cover`
 use Rattle.std.proofs.Common.{◌≡◌, ℕ, ◌+◌, ◌-◌, get_or, vec_len}
 use Rattle.cats_text.proofs.good_list.cover.Given as goal
 

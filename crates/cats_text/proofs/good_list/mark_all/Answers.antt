@@ -1,3 +1,4 @@
+-- `mark_all`
 use Rattle.std.proofs.Common.{arith, ◌≡◌, ◌-◌, ◌<◌, ◌≤◌, [], length, take, get_or, vec_len}
 use Rattle.std.proofs.lemmas.List.{take_more}
 use Rattle.cats_text.proofs.Spelling.Marks.{IsMarked-push, IsMarked-covered}

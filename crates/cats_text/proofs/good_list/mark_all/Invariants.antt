@@ -1,4 +1,4 @@
--- The goods so far are marked, and each has its mark.
+-- `mark_all`: the goods so far are marked, and each has its mark.
 use Rattle.std.proofs.Common.{ℕ, ◌<◌, length, take, get_or, vec_len}
 use Rattle.cats_text.specs.Internal.Marks.{IsMarked}
 use Rattle.cats_text.proofs.good_list.mark_all.Given as goal

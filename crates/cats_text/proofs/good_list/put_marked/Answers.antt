@@ -1,3 +1,4 @@
+-- `put_marked`
 use Rattle.std.proofs.Common.{◌≡◌, ◌≢◌, ◌<◌, false, eqb, get_or, length, rules, sym, ap, ◌∙◌, arith}
 use Rattle.std.proofs.lemmas.Bool.{ne_eqb}
 use Rattle.std.proofs.lemmas.Grind.{common_steps}

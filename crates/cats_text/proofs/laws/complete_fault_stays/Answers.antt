@@ -1,3 +1,4 @@
+-- `complete_fault_stays`
 use Rattle.cats_text.proofs.Texts.MachineAnswers as proof
 use Rattle.cats_text.proofs.laws.complete_fault_stays.Goals as goal
 

@@ -1,3 +1,4 @@
+-- `layout_spells`
 use Rattle.cats_text.specs.Layout.{layout}
 use Rattle.cats_text.proofs.Spelling.Files.{spells_one}
 use Rattle.cats_text.proofs.Writing.Spells as proof

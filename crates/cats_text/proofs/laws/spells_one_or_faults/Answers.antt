@@ -1,3 +1,4 @@
+-- `spells_one_or_faults`
 use Rattle.cats_text.proofs.Spelling.Files.{spells_one, spells_or_fault, never_spells_and_faults}
 use Rattle.cats_text.proofs.laws.spells_one_or_faults.Goals as goal
 

@@ -1,3 +1,4 @@
+-- `push_bids`
 use Rattle.std.proofs.Common.{◌++◌, List, ℕ, arith, ap, ◌∙◌}
 use Rattle.cats_text.proofs.Writing.BidTexts.{bids_text_on, bids_text_all}
 use Rattle.cats_text.specs.declared.layout.TheConstants.{LONGEST_LINE}

@@ -1,3 +1,4 @@
+-- `push_bids`
 use Rattle.std.proofs.Common.{◌≡◌, ◌++◌, drop}
 use Rattle.cats_text.specs.Layout.{bids_text}
 use Rattle.cats_text.proofs.layout.push_bids.Given as goal

@@ -1,3 +1,4 @@
+-- `push_header`
 use Rattle.std.proofs.lemmas.Grind.{common_steps}
 use Rattle.std.proofs.Common.{arith}
 use Rattle.cats_text.proofs.layout.push_header.Goals as goal

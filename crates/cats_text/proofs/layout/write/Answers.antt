@@ -1,3 +1,4 @@
+-- `write`
 use Rattle.std.proofs.Common.{◌≡◌, List, ℕ, sym, subst, arith}
 use Rattle.std.proofs.lemmas.Grind.{common_steps}
 use Rattle.cats_text.specs.Grammar.{Spells}

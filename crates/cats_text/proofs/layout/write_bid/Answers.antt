@@ -1,3 +1,4 @@
+-- `write_bid`
 use Rattle.std.proofs.Common.{◌++◌, ◌∷◌, decimal, List, ℕ, ap, ◌∙◌, arith}
 use Rattle.bid_file.specs.Files.{dummy_good}
 use Rattle.bid_file.specs.Views.{seen_bid}

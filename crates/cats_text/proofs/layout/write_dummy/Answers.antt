@@ -1,3 +1,4 @@
+-- `write_dummy`
 use Rattle.std.proofs.Common.{◌+◌, arith}
 use Rattle.std.proofs.lemmas.Fmt.{length-decimal-le}
 use Rattle.cats_text.proofs.layout.write_dummy.Goals as goal

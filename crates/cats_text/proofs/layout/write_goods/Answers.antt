@@ -1,3 +1,4 @@
+-- `write_goods`
 use Rattle.std.proofs.Common.{◌≡◌, ◌-◌, ◌≤◌, ◌∷◌, ◌++◌, length, take, drop, get_or, decimal, ap, ◌∙◌, arith}
 use Rattle.std.proofs.lemmas.Fmt.{length-decimal-le}
 use Rattle.std.proofs.lemmas.List.{length-take-le}

@@ -1,3 +1,4 @@
+-- `write_goods`
 use Rattle.std.proofs.Common.{◌≡◌, ◌+◌, ◌*◌, ◌≤◌, ◌++◌, length, take, drop}
 use Rattle.cats_text.specs.Layout.{tabbed}
 use Rattle.cats_text.specs.declared.layout.TheConstants.{GOOD}

@@ -1,3 +1,4 @@
+-- `write_number_and_price`
 use Rattle.std.proofs.Common.{arith, rules}
 use Rattle.std.proofs.lemmas.Fmt.{length-decimal-le}
 use Rattle.cats_text.proofs.layout.write_number_and_price.Goals as goal

@@ -1,3 +1,4 @@
+-- `many_digits`
 use Rattle.std.proofs.Common.{arith}
 use Rattle.cats_text.proofs.Scanning.FewDigits.{few_read}
 use Rattle.cats_text.proofs.leading_token.many_digits.Goals as goal

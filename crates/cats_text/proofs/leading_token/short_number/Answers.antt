@@ -1,3 +1,4 @@
+-- `short_number`
 use Rattle.cats_text.proofs.Scanning.FewDigits.{if_eight_read}
 use Rattle.cats_text.proofs.leading_token.short_number.Goals as goal
 

@@ -1,3 +1,4 @@
+-- `with_digits`
 use Rattle.std.proofs.Common.{◌≡◌, ◌≤◌, true, get_or, rules}
 use Rattle.std.proofs.lemmas.Bool.{le-leb, and_from}
 use Rattle.cats_text.specs.Numbers.{is_digit}

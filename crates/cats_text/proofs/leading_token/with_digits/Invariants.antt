@@ -1,3 +1,4 @@
+-- `with_digits`
 use Rattle.cats_text.specs.Internal.LeadingToken.{IsNumberSoFar}
 use Rattle.cats_text.proofs.leading_token.with_digits.Given as goal
 

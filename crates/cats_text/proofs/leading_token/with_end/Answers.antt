@@ -1,3 +1,4 @@
+-- `with_end`
 use Rattle.std.proofs.Common.{◌<◌, ◌≡◌, length, get_or, true, rules, arith}
 use Rattle.std.proofs.lemmas.Grind.{common_steps}
 use Rattle.cats_text.specs.Lines.{is_blank}

@@ -1,3 +1,4 @@
+-- `with_places`
 use Rattle.cats_text.proofs.Scanning.ManyBytes.{IsDecimalSoFar}
 use Rattle.cats_text.proofs.leading_token.with_places.Given as goal
 

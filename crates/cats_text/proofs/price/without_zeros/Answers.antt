@@ -1,3 +1,4 @@
+-- `without_zeros`
 use Rattle.std.proofs.Common.{◌∙◌, sym, arith}
 use Rattle.cats_text.proofs.Writing.Zeros.{zero_dropped, last_stays}
 use Rattle.cats_text.proofs.price.without_zeros.Goals as goal

@@ -1,3 +1,4 @@
+-- `without_zeros`
 use Rattle.std.proofs.Common.{◌≡◌, ◌<◌, ◌≤◌, decimal}
 use Rattle.cats_text.specs.Layout.{without_zeros}
 use Rattle.cats_text.proofs.price.without_zeros.Given as goal

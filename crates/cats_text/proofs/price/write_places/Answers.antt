@@ -1,4 +1,4 @@
--- The digits of the millionths behind a leading 1, without the zeros at the end: the point takes the place of that 1.
+-- `write_places`: the digits of the millionths behind a leading 1, without the zeros at the end: the point takes the place of that 1.
 use Rattle.std.proofs.Common.{◌<◌, ◌++◌, length, drop, decimal, sym, ap, ◌∙◌, arith}
 use Rattle.std.proofs.lemmas.Fmt.{length-decimal-le, decimal_nonempty}
 use Rattle.cats_text.proofs.Writing.SixDigits.{places_text_none, places_written}

@@ -1,3 +1,4 @@
+-- `write_price`
 use Rattle.std.proofs.Common.{◌/◌, arith}
 use Rattle.std.proofs.lemmas.Fmt.{length-decimal-le, decimal_nonempty}
 use Rattle.cats_text.proofs.price.write_price.Goals as goal

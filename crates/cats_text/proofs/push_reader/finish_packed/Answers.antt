@@ -1,3 +1,4 @@
+-- `finish_packed`
 use Rattle.cats_text.proofs.Feeding.Files.{parts_reported}
 use Rattle.cats_text.proofs.push_reader.finish_packed.Goals as goal
 

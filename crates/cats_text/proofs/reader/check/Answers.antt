@@ -1,4 +1,4 @@
--- What a `PushReader` that was fed the whole text and counts bids answers.
+-- `check`: what a `PushReader` that was fed the whole text and counts bids answers.
 use Rattle.std.proofs.lemmas.Result.{err_from_is_err_and}
 use Rattle.cats_text.proofs.Feeding.Pieces.{whole_reported}
 use Rattle.cats_text.proofs.reader.check.Goals as goal

@@ -1,3 +1,4 @@
+-- `flush`
 use Rattle.cats_text.proofs.sending.flush.Goals as goal
 
 pub returns-in-Err-clause-failed : goal.returns-in-Err-clause-failed

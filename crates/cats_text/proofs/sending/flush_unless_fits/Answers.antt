@@ -1,3 +1,4 @@
+-- `flush_unless_fits`
 use Rattle.std.proofs.Common.{arith}
 use Rattle.cats_text.proofs.sending.flush_unless_fits.Goals as goal
 

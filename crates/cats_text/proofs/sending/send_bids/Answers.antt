@@ -1,3 +1,4 @@
+-- `send_bids`
 use Rattle.std.proofs.Common.{◌++◌, ◌-◌, ◌≤◌, List, ℕ, arith, length, length-drop, length-append, refl, ap, ◌∙◌}
 use Rattle.std.proofs.lemmas.Bool.{false≢true}
 use Rattle.std.proofs.KnownBytes.{Appends-nil}

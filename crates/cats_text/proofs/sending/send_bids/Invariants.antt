@@ -1,3 +1,4 @@
+-- `send_bids`
 use Rattle.std.proofs.Common.{◌≡◌, ◌+◌, ◌*◌, ◌++◌, ◌≤◌, length, take, drop, false, vec_capacity}
 use Rattle.std.specs.Io.KnownBytes.{Appends}
 use Rattle.cats_text.specs.Layout.{bids_text, layout}

@@ -1,4 +1,4 @@
--- One more piece was sent: what was sent is still the beginning of the text, and the writer still works.
+-- `send_piece`: one more piece was sent: what was sent is still the beginning of the text, and the writer still works.
 use Rattle.std.proofs.Common.{arith, ◌≡◌, ◌<◌, ◌≤◌, ◌∷◌, List, [], length, take, drop, false, ℕ, ◌+◌, ◌-◌, Ok, Option, refl, ◌∙◌}
 use Rattle.std.proofs.Math.Seq.{take-add, take-length}
 use Rattle.std.proofs.lemmas.List.{length-drop}

@@ -1,3 +1,4 @@
+-- `send_piece`
 use Rattle.std.proofs.Common.{length, ◌-◌, ◌≡◌, ◌≤◌, take, false}
 use Rattle.std.specs.Io.KnownBytes.{Appends}
 use Rattle.cats_text.specs.Streams.{inner_of, has_failed, has_ended}

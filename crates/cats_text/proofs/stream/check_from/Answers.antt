@@ -1,4 +1,4 @@
--- The header lines of all bytes that were fed, or the fault that feeding them reported.
+-- `check_from`: the header lines of all bytes that were fed, or the fault that feeding them reported.
 use Rattle.std.proofs.lemmas.Result.{err_from_is_err_and}
 use Rattle.cats_text.proofs.Feeding.Streams.{checked_reported, ended_reported}
 use Rattle.cats_text.proofs.stream.check_from.Goals as goal

@@ -1,4 +1,4 @@
--- The bytes that came are those that were fed.
+-- `feed_from`: the bytes that came are those that were fed.
 use Rattle.std.proofs.Common.{arith, ◌≡◌, ◌<◌, ◌++◌, ℕ, Bool, true, List, [], ◌∷◌, ◌||◌, length, take, refl, ◌∙◌, append-nil, Ok, Option, length-append, ◌≢◌}
 use Rattle.std.proofs.lemmas.Result.{err_from_is_err_and}
 use Rattle.cats_text.specs.declared.limits.TheConstants.{MAX_STREAM}
@@ -85,5 +85,5 @@ returns-in-Err g c =
     let kept = c.loop-count.invariant in
     record {
       bytes = Consumes-kept _ _ _ c.loop-count.push_reader.bytes kept.came c.in-Err.ensures.bytes;
-      answer = rw c.device_failed.ensures (refl, c.in-Err.ensures.failed, kept.no_fault);
+      answer = rw c.at.ensures (refl, c.in-Err.ensures.failed, kept.no_fault);
     }

@@ -1,3 +1,4 @@
+-- `feed_from`
 use Rattle.std.proofs.Common.{◌≡◌, ◌<◌, ◌+◌, ◌-◌, length, false, None}
 use Rattle.std.specs.Io.KnownBytes.{Consumes}
 use Rattle.cats_text.specs.declared.limits.TheConstants.{MAX_STREAM}

@@ -1,4 +1,4 @@
--- The packed file that the stream spells, with a vector for each bid.
+-- `read_from`: the packed file that the stream spells, with a vector for each bid.
 use Rattle.std.proofs.lemmas.Result.{err_from_is_err_and}
 use Rattle.cats_text.proofs.Feeding.Files.{unpacked_reported}
 use Rattle.cats_text.proofs.Feeding.Streams.{finished_reported}

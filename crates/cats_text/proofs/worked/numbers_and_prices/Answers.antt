@@ -1,3 +1,4 @@
+-- `numbers_and_prices`
 use Rattle.std.proofs.Common.{refl}
 use Rattle.std.specs.Fmt.{digits}
 use Rattle.cats_text.proofs.worked.numbers_and_prices.Goals as goal

@@ -1,3 +1,4 @@
+-- `streams_read`
 use Rattle.std.proofs.Common.{refl, codes}
 use Rattle.cats_text.specs.FileLines.{spelled_file}
 use Rattle.cats_text.proofs.Spelling.Files.{spells_from_no_fault}

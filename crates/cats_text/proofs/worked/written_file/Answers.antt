@@ -1,3 +1,4 @@
+-- `written_file`
 use Rattle.std.proofs.Common.{refl}
 use Rattle.std.specs.Fmt.{digits}
 use Rattle.cats_text.proofs.worked.written_file.Goals as goal

@@ -1,3 +1,4 @@
+-- `fingerprint`
 use Rattle.goods_set.proofs.Marks.{no_marks, marks_more}
 use Rattle.goods_set.proofs.fingerprints.fingerprint.Goals as goal
 

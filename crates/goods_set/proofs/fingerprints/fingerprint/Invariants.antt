@@ -1,4 +1,4 @@
--- The marks of the goods so far are set.
+-- `fingerprint`: the marks of the goods so far are set.
 use Rattle.std.proofs.Common.{take}
 use Rattle.goods_set.specs.Fingerprints.{AreMarks}
 use Rattle.goods_set.proofs.fingerprints.fingerprint.Given as goal

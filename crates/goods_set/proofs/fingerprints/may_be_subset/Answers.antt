@@ -1,3 +1,4 @@
+-- `may_be_subset`
 use Rattle.std.proofs.Common.{arith}
 use Rattle.goods_set.proofs.Marks.{may_be_subset}
 use Rattle.goods_set.proofs.fingerprints.may_be_subset.Goals as goal

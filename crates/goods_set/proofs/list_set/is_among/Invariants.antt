@@ -1,3 +1,4 @@
+-- `is_among`
 use Rattle.std.proofs.Common.{◌≡◌, take}
 use Rattle.goods_set.specs.Bundles.{has_good}
 use Rattle.goods_set.proofs.list_set.is_among.Given as goal

@@ -1,3 +1,4 @@
+-- `good_behind`
 use Rattle.std.proofs.Common.{ℕ, ◌+◌, List, sym, ap, ◌∙◌}
 use Rattle.goods_set.specs.Bundles.{good_from}
 use Rattle.goods_set.proofs.Places.{good_behind, no_good_behind}

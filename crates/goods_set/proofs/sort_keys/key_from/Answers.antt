@@ -1,3 +1,4 @@
+-- `key_from`
 use Rattle.std.proofs.Common.{arith, sym}
 use Rattle.goods_set.specs.SortKeys.{first_goods}
 use Rattle.goods_set.specs.Lemmas.SortKeys.{sort_key_of-short, sort_key_of-long}

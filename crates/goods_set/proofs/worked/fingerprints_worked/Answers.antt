@@ -1,4 +1,4 @@
--- Good 5 marks bit 5, which is 32.
+-- `fingerprints_worked`: good 5 marks bit 5, which is 32.
 use Rattle.std.proofs.Common.{◌≡◌, true, false, [], ⊎_elim, refl, arith, ap, ◌∙◌}
 use Rattle.std.proofs.lemmas.Bool.{both_ways}
 use Rattle.goods_set.specs.Bundles.{has_good}

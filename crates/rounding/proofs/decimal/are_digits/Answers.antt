@@ -1,3 +1,4 @@
+-- `are_digits`
 use Rattle.std.proofs.Common.{sym, ◌∙◌, ap, ◌&&◌}
 use Rattle.cats_text.specs.Numbers.{digits_alone}
 use Rattle.rounding.proofs.Words.{digits_both}

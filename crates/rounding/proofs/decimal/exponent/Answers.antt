@@ -1,3 +1,4 @@
+-- `exponent`
 use Rattle.rounding.proofs.Spans.{mark_cut, mark_past}
 use Rattle.rounding.proofs.decimal.exponent.Goals as goal
 

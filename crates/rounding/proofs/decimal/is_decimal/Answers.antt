@@ -1,3 +1,4 @@
+-- `is_decimal`
 use Rattle.std.proofs.Common.{◌∙◌, ap}
 use Rattle.rounding.specs.Decimals.{without_sign}
 use Rattle.cats_text.specs.Numbers.{is_number}

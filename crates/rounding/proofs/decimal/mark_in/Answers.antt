@@ -1,3 +1,4 @@
+-- `mark_in`
 use Rattle.std.proofs.Common.{arith, add-one, length}
 use Rattle.std.proofs.Common.{sym, ◌∙◌}
 use Rattle.std.proofs.lemmas.List.{at_drop_all}

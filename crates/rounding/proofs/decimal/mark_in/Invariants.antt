@@ -1,3 +1,4 @@
+-- `mark_in`
 use Rattle.std.proofs.Common.{◌≡◌, ◌+◌, length, drop}
 use Rattle.rounding.specs.Decimals.{significand}
 use Rattle.rounding.proofs.decimal.mark_in.Given as goal

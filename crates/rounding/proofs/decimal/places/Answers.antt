@@ -1,3 +1,4 @@
+-- `places`
 use Rattle.rounding.proofs.Spans.{point_cut, point_past}
 use Rattle.rounding.proofs.decimal.places.Goals as goal
 

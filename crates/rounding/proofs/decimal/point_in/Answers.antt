@@ -1,3 +1,4 @@
+-- `point_in`
 use Rattle.std.proofs.Common.{arith, add-one, length}
 use Rattle.std.proofs.lemmas.Bool.{ne_eqb, eq-eqb}
 use Rattle.std.proofs.lemmas.List.{at_drop_all}

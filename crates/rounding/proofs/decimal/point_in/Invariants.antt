@@ -1,3 +1,4 @@
+-- `point_in`
 use Rattle.std.proofs.Common.{◌≡◌, ◌+◌, length, drop}
 use Rattle.cats_text.specs.Numbers.{whole_part}
 use Rattle.rounding.proofs.decimal.point_in.Given as goal

@@ -1,3 +1,4 @@
+-- `significand`
 use Rattle.rounding.proofs.Spans.{mark_taken}
 use Rattle.rounding.proofs.decimal.significand.Goals as goal
 

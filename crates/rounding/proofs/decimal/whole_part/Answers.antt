@@ -1,3 +1,4 @@
+-- `whole_part`
 use Rattle.rounding.proofs.Spans.{point_taken}
 use Rattle.rounding.proofs.decimal.whole_part.Goals as goal
 

@@ -1,3 +1,4 @@
+-- `digits_alone`
 use Rattle.std.proofs.Common.{◌≡◌, true, take}
 use Rattle.cats_text.specs.Numbers.{digits_alone}
 use Rattle.rounding.proofs.digits.digits_alone.Given as goal

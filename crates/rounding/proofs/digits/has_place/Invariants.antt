@@ -1,3 +1,4 @@
+-- `has_place`
 use Rattle.std.proofs.Common.{◌≡◌, false, not, eqb, take}
 use Rattle.std.specs.List.{list_any}
 use Rattle.rounding.proofs.digits.has_place.Given as goal

@@ -1,3 +1,4 @@
+-- `held_number`
 use Rattle.std.proofs.Common.{◌≡◌, ◌+◌, ◌*◌, ◌-◌, min, take, fold}
 use Rattle.rounding.proofs.digits.held_number.Given as goal
 

@@ -1,3 +1,4 @@
+-- `rest_after`
 use Rattle.std.proofs.Common.{◌≡◌, take, fold}
 use Rattle.rounding.specs.Internal.Rests.{rest_with}
 use Rattle.rounding.proofs.digits.rest_after.Given as goal

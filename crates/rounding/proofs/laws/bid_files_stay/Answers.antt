@@ -1,3 +1,4 @@
+-- `bid_files_stay`
 use Rattle.rounding.proofs.FileLines.{file_stays, file_unchanged}
 use Rattle.rounding.proofs.laws.bid_files_stay.Goals as goal
 

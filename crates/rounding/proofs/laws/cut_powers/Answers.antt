@@ -1,3 +1,4 @@
+-- `cut_powers`
 use Rattle.rounding.proofs.Exactness.{powers_cut}
 use Rattle.rounding.proofs.laws.cut_powers.Goals as goal
 

@@ -1,3 +1,4 @@
+-- `nearest_numbers`
 use Rattle.rounding.proofs.Exactness.{nearest_is, nearest_only}
 use Rattle.rounding.proofs.laws.nearest_numbers.Goals as goal
 

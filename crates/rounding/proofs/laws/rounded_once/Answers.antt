@@ -1,3 +1,4 @@
+-- `rounded_once`
 use Rattle.std.proofs.Common.{ℕ, List}
 use Rattle.bid_file.specs.Files.{PlainFile}
 use Rattle.cats_text.specs.Grammar.{Spells}

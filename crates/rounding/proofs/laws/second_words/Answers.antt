@@ -1,3 +1,4 @@
+-- `second_words`
 use Rattle.rounding.proofs.FileLines.{line_parts, second_is}
 use Rattle.rounding.proofs.laws.second_words.Goals as goal
 

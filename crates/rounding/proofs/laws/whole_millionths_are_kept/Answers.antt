@@ -1,3 +1,4 @@
+-- `whole_millionths_are_kept`
 use Rattle.rounding.proofs.Exactness.{whole_kept}
 use Rattle.rounding.proofs.laws.whole_millionths_are_kept.Goals as goal
 

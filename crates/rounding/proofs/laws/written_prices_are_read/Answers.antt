@@ -1,3 +1,4 @@
+-- `written_prices_are_read`
 use Rattle.rounding.proofs.FileLines.{written_spells, written_faultless}
 use Rattle.rounding.proofs.laws.written_prices_are_read.Goals as goal
 

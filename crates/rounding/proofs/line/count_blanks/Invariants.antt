@@ -1,3 +1,4 @@
+-- `count_blanks`
 use Rattle.std.proofs.Common.{◌≡◌, ◌+◌, length, drop}
 use Rattle.rounding.specs.Texts.{blanks}
 use Rattle.rounding.proofs.line.count_blanks.Given as goal

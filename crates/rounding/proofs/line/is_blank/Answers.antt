@@ -1,3 +1,4 @@
+-- `is_blank`
 use Rattle.rounding.proofs.Words.{blank_if_return}
 use Rattle.rounding.proofs.line.is_blank.Goals as goal
 

@@ -1,3 +1,4 @@
+-- `is_significant`
 use Rattle.std.proofs.Common.{sym, ◌∙◌}
 use Rattle.std.proofs.lemmas.Bool.{le-ltb}
 use Rattle.rounding.proofs.Words.{significant_at, significant_none}

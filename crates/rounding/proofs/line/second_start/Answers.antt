@@ -1,3 +1,4 @@
+-- `second_start`
 use Rattle.rounding.proofs.Words.{second_count}
 use Rattle.rounding.proofs.line.second_start.Goals as goal
 

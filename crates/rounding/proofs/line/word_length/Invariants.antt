@@ -1,3 +1,4 @@
+-- `word_length`
 use Rattle.std.proofs.Common.{◌≡◌, ◌+◌, length, drop}
 use Rattle.rounding.specs.Texts.{leading_word}
 use Rattle.rounding.proofs.line.word_length.Given as goal

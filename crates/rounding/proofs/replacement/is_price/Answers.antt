@@ -1,3 +1,4 @@
+-- `is_price`
 use Rattle.std.proofs.Common.{◌∙◌, ap, length}
 use Rattle.cats_text.specs.Numbers.{is_number}
 use Rattle.rounding.proofs.Words.{price_without, price_with}

@@ -1,3 +1,4 @@
+-- `line_length`
 use Rattle.std.proofs.Common.{◌≡◌, ◌+◌, length, drop}
 use Rattle.rounding.specs.Internal.RawTexts.{first_line}
 use Rattle.rounding.proofs.round_text.line_length.Given as goal

@@ -1,3 +1,4 @@
+-- `round_header`
 use Rattle.std.proofs.Common.{inr}
 use Rattle.rounding.proofs.Headers.{header_refused, header_rounded, header_spells}
 use Rattle.rounding.proofs.round_text.round_header.Goals as goal

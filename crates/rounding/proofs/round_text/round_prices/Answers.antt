@@ -1,3 +1,4 @@
+-- `round_prices`
 use Rattle.std.proofs.Common.{ℕ, List, ◌+◌, ◌-◌, ltb, ◌≤◌, length, take, drop, refl, ap, ◌∙◌, arith}
 use Rattle.cats_text.specs.Lines.{line_words, blank_returns, is_significant}
 use Rattle.rounding.specs.Views.{plain_changes}

@@ -1,3 +1,4 @@
+-- `round_prices`
 use Rattle.std.proofs.Common.{◌+◌, ◌-◌, ◌≤◌, length}
 use Rattle.rounding.specs.Views.{plain_changes}
 use Rattle.rounding.proofs.TextLines.{IsWritten}

@@ -1,3 +1,4 @@
+-- `cut_value`
 use Rattle.std.proofs.Common.{refl}
 use Rattle.rounding.proofs.Worth.{cut_none, cut_two}
 use Rattle.rounding.proofs.value.cut_value.Goals as goal

@@ -1,3 +1,4 @@
+-- `raised_number`
 use Rattle.std.proofs.Common.{◌≡◌, ◌*◌, suc, min, ap, ◌∙◌, arith}
 use Rattle.bid_file.specs.declared.limits.TheConstants.{MAX_PRICE}
 use Rattle.rounding.proofs.Worth.{raised_once}

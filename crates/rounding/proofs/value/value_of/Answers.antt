@@ -1,3 +1,4 @@
+-- `value_of`
 use Rattle.rounding.proofs.Worth.{sizes_in, decimal_digits, cut_in, raised_in}
 use Rattle.rounding.proofs.value.value_of.Goals as goal
 

@@ -1,3 +1,4 @@
+-- `faults`
 use Rattle.std.proofs.Common.{refl}
 use Rattle.std.specs.Fmt.{digits}
 use Rattle.rounding.proofs.worked.faults.Goals as goal

@@ -1,3 +1,4 @@
+-- `texts`
 use Rattle.std.proofs.Common.{refl}
 use Rattle.std.specs.Fmt.{digits}
 use Rattle.rounding.proofs.worked.texts.Goals as goal

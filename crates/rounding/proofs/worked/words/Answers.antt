@@ -1,3 +1,4 @@
+-- `words`
 use Rattle.std.proofs.Common.{refl}
 use Rattle.std.specs.Fmt.{digits}
 use Rattle.rounding.proofs.worked.words.Goals as goal

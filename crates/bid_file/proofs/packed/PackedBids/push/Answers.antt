@@ -1,3 +1,4 @@
+-- `PackedBids::push`
 use Rattle.std.proofs.Common.{◌∙◌, ◌++◌, ◌∷◌, [], List, ap, arith, length, length-append}
 use Rattle.bid_file.specs.Files.{PlainBid}
 use Rattle.bid_file.specs.declared.packed.BidSpan.{BidSpan}

@@ -1,4 +1,4 @@
--- Each turn makes the next bid, with a vector of its goods.
+-- `PackedFile::to_file`: each turn makes the next bid, with a vector of its goods.
 use Rattle.std.proofs.Common.{rules, ◌≡◌, ◌∙◌, List, ℕ, Some, ap, arith, length, sym}
 use Rattle.std.proofs.lemmas.List.{map_push, take_all}
 use Rattle.std.specs.List.{slice_get}

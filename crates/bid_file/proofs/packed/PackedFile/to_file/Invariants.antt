@@ -1,3 +1,4 @@
+-- `PackedFile::to_file`
 use Rattle.std.proofs.Common.{◌≡◌, take}
 use Rattle.bid_file.specs.Files.{plain_bids}
 use Rattle.bid_file.proofs.packed.PackedFile.to_file.Given as goal

@@ -1,3 +1,4 @@
+-- `BidsByNumber::has`
 use Rattle.std.proofs.Common.{◌≡◌, ◌∙◌, List, Option, length, sym, ap, arith}
 use Rattle.std.proofs.lemmas.Grind.{common_steps}
 use Rattle.std.proofs.Common.{rules}

@@ -1,3 +1,4 @@
+-- `BidsByNumber::into_kept`
 use Rattle.std.proofs.Common.{◌≡◌, take}
 use Rattle.cats_text.specs.FileLines.{filled}
 use Rattle.cats_text.specs.Internal.Kept.{placed}

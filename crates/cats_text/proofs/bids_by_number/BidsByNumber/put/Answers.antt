@@ -1,3 +1,4 @@
+-- `BidsByNumber::put`
 use Rattle.std.proofs.Common.{◌≡◌, ◌∙◌, length, arith, rules}
 use Rattle.std.proofs.lemmas.Grind.{common_steps}
 use Rattle.cats_text.specs.Internal.Kept.{with_goods}

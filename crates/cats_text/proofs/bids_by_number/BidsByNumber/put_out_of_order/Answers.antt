@@ -1,3 +1,4 @@
+-- `BidsByNumber::put_out_of_order`
 use Rattle.std.proofs.Common.{◌≡◌, ◌∙◌, ◌+◌, ◌∷◌, [], length, sym, ap, arith, length-append}
 use Rattle.cats_text.specs.Internal.Kept.{AreWithin, with_goods}
 use Rattle.cats_text.proofs.Parsing.BidsByNumber.{put_listed, within_more, within_set}

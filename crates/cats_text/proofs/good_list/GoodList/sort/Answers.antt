@@ -1,4 +1,4 @@
--- Goods that do not rise are sorted: the marks stay theirs.
+-- `GoodList::sort`: goods that do not rise are sorted: the marks stay theirs.
 use Rattle.std.proofs.Common.{◌≡◌, true, sym, ap, ◌∙◌, List, ℕ}
 use Rattle.std.proofs.lemmas.Bool.{both_ways}
 use Rattle.std.proofs.lemmas.List.Sorted.{list_any-IsPermutation, IsNonDecreasingBy-from_sort}

@@ -1,4 +1,4 @@
--- It makes a value of no bytes, at the empty list.
+-- `History::new`: it makes a value of no bytes, at the empty list.
 use mathlib.Core.Path.{refl}
 use mathlib.Core.List.{[], ◌∷◌}
 use seplogic.Ra.Ura.{Ura}

@@ -1,4 +1,4 @@
--- An empty body. The borrow is opened and closed at another ghost value.
+-- `History::note`: an empty body. The borrow is opened and closed at another ghost value.
 use Rattle.std.proofs.Common.{ℕ, List, [], ◌∷◌, ◌++◌, refl, MutBor}
 use seplogic.Ra.Ura.{Ura}
 use mir.Syntax.{named}

@@ -1,3 +1,4 @@
+-- `BidCountKeep::add_from`
 use Rattle.std.proofs.Common.{◌≡◌, ◌∙◌, ◌+◌, ◌++◌, ◌∷◌, [], ℕ, replicate, sym, ap, arith, rules}
 use Rattle.std.proofs.lemmas.Grind.{common_steps, replicate_next}
 use Rattle.bid_file.specs.Files.{PlainBid}

@@ -1,4 +1,4 @@
--- The goods in rising order are those that a bid keeps.
+-- `PackedBidsKeep::sort`: the goods in rising order are those that a bid keeps.
 use Rattle.std.proofs.Common.{List, ℕ, ap}
 use Rattle.cats_text.specs.Internal.Kept.{with_goods}
 use Rattle.cats_text.proofs.Spelling.Rising.{rising_of_is}

@@ -1,4 +1,4 @@
--- What is kept of the bid is at its number, and its goods are gone.
+-- `Parser::keep_bid`: what is kept of the bid is at its number, and its goods are gone.
 use Rattle.std.proofs.Common.{rules}
 use Rattle.cats_text.proofs.parser.Parser.keep_bid.Goals as goal
 

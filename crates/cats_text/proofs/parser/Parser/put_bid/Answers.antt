@@ -1,4 +1,4 @@
--- What is kept of the bid is at its number, and its goods are gone.
+-- `Parser::put_bid`: what is kept of the bid is at its number, and its goods are gone.
 use Rattle.std.proofs.Common.{◌≡◌, ◌∙◌, ℕ, ◌-◌, [], Ok, sym, ap}
 use Rattle.cats_text.specs.FileLines.{put_slot}
 use Rattle.cats_text.specs.Internal.Parsing.{drafted}
@@ -6,8 +6,8 @@ use Rattle.cats_text.specs.Internal.Progress.{Progress, progress}
 use Rattle.cats_text.specs.declared.parser.Column.TheVariants.{First}
 use Rattle.cats_text.proofs.parser.Parser.put_bid.Goals as goal
 
-pub returns-clause-reads : goal.returns-clause-reads
-returns-clause-reads g c =
+pub returns : goal.returns
+returns g c =
     let before : Progress = progress g.K.Keep.keep c.args.self.now in
     let kept : Progress = record before {
       slots = put_slot before.slots before.draft.number (before.keep (drafted before));

@@ -1,4 +1,4 @@
--- What the scanner was given is what the limit leaves of the piece.
+-- `PushReader::feed`: what the scanner was given is what the limit leaves of the piece.
 use Rattle.std.proofs.Common.{arith, ◌≡◌, ◌<◌, ◌≤◌, ◌+◌, ◌-◌, ◌++◌, min, ℕ, List, length, take, sym, ap, ◌∙◌, length-append}
 use Rattle.std.proofs.Math.Seq.{take-length}
 use Rattle.std.proofs.lemmas.List.{length-take}
@@ -9,7 +9,7 @@ use Rattle.cats_text.proofs.push_reader.PushReader.feed.Goals.{in-Err, in-Ok, in
 pub take-requires : goal.take-requires
 take-requires g c =
     let kept = c.self.invariant.taken c.in_default.is in
-    let lines = few_lines g.K.Keep.keep c.self.inside.limit c.self.inside.count c.self.inside.scanner c.self.inside.history.bytes kept in
+    let lines = few_lines _ _ _ _ _ kept in
     let within = kept.within in
     let limit = c.self.invariant.limit in
     let some = c.min-within.ensures in
@@ -38,24 +38,18 @@ judged g c =
     let piece = c.args.piece.now in
     let bytes = c.self.inside.history.bytes in
     let all = bytes ++ piece in
-    let old = c.self.inside.scanner in
-    let new = c.take.new.self in
     let kept = c.self.invariant.taken c.in_default.is in
     let is : bytes ++ take within piece ≡ take limit all = rw c.min-within.ensures (judged_bytes limit count bytes piece kept.count kept.within) in
     elim c.match-take.branch [
-      | in-Err w ↦
-          rw (w.judged-is, w.reported.ensures)
-          (judged_halted g.K.Keep.keep limit (count + within) count old new bytes (take within piece) all w.in-Err.scan_error kept is w.in-Err.ensures.steps
-          w.in-Err.ensures.memory)
-      | in-Ok w ↦
-          rw (w.judged-is, w.too_long.ensures)
-          (judged_too_long g.K.Keep.keep limit (count + within) count old new bytes (take within piece) all kept is
+      | in-Err w ↦ rw (w.judged-is, w.at.ensures)
+          (judged_halted _ _ (count + within) _ _ c.take.new.self _ _ all w.in-Err.kind kept is w.in-Err.ensures.steps)
+      | in-Ok w ↦ rw (w.judged-is, w.at-in-Ok.ensures)
+          (judged_too_long _ _ (count + within) _ _ c.take.new.self _ _ all kept is
           (too_many limit count within bytes piece kept.count c.min-within.ensures w.if-within-piece.true) w.in-Ok.ensures.steps)
       | in-Ok-2 w ↦
           let whole = all_judged limit count within bytes piece kept.count kept.within c.min-within.ensures w.if-within-piece.false in
           rw w.judged-is
-          (judged_ok g.K.Keep.keep limit (count + within) count old new bytes (take within piece) all kept (ap (λ l. bytes ++ l) whole.1) whole.0
-          w.in-Ok-2.ensures.steps w.in-Ok-2.ensures.waiting
+          (judged_ok _ _ _ _ _ _ _ _ all kept (ap (λ l. bytes ++ l) whole.1) whole.0 w.in-Ok-2.ensures.steps w.in-Ok-2.ensures.waiting
           (ap (λ n. count + n) (whole.2 ∙ ap length (sym whole.1))) (let sum = length-append bytes piece in let counted = kept.count in let more = whole.0 in
           let same = whole.2 in omega arith))
     ]
@@ -63,9 +57,7 @@ judged g c =
 pub invariant_of-self : goal.invariant_of-self
 invariant_of-self g c =
     rw (c.note.ensures, c.err-self-inside.ensures.value)
-    (still_reading g.K.Keep.keep c.self.inside.limit (c.self.inside.count + c.min-within.result) c.take.new.self
-    (c.self.inside.history.bytes ++ c.args.piece.now) c.match-take.judged
-    c.self.invariant.limit (judged g c))
+    (still_reading _ _ _ _ _ c.match-take.judged c.self.invariant.limit (judged g c))
 
 pub returns : goal.returns
 returns g c =

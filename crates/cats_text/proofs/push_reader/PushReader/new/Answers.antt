@@ -1,4 +1,4 @@
--- It has taken no bytes.
+-- `PushReader::new`: it has taken no bytes.
 use Rattle.std.proofs.Common.{refl}
 use Rattle.cats_text.proofs.Feeding.Pieces.{nothing_taken}
 use Rattle.cats_text.proofs.push_reader.PushReader.new.Goals as goal

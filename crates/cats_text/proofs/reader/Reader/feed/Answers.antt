@@ -1,3 +1,4 @@
+-- `Reader::feed`
 use Rattle.cats_text.proofs.reader.Reader.feed.Goals as goal
 
 pub returns : goal.returns

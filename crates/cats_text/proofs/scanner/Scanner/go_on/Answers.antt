@@ -1,3 +1,4 @@
+-- `Scanner::go_on`
 use Rattle.std.proofs.Common.{◌≡◌, ◌-◌, ◌&&◌, eqb, length, get_or, sym, ap, ◌∙◌, rules}
 use Rattle.std.proofs.lemmas.Bool.{eq-eqb, ne_eqb}
 use Rattle.std.specs.Option.{unwrap_or}

@@ -1,3 +1,4 @@
+-- `Scanner::read_bid_lines`
 use Rattle.std.proofs.Common.{◌≡◌, ◌≤◌, ◌+◌, ◌-◌, false, drop, length}
 use Rattle.cats_text.specs.Internal.Scanning.{state, IsScanned}
 use Rattle.cats_text.proofs.scanner.Scanner.read_bid_lines.Given as goal

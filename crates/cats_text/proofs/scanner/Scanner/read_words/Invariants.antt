@@ -1,3 +1,4 @@
+-- `Scanner::read_words`
 use Rattle.std.proofs.Common.{◌≡◌, ◌≤◌, ◌-◌, true, false, drop, length}
 use Rattle.cats_text.specs.Internal.Scanning.{state, is_before_word, IsScanned}
 use Rattle.cats_text.proofs.scanner.Scanner.read_words.Given as goal

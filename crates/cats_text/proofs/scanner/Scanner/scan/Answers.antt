@@ -1,9 +1,10 @@
--- The bytes so far are scanned; what goes on from there, and one more byte where it stops short, make the scan longer.
+-- `Scanner::scan`: the bytes so far are scanned; what goes on from there, and one more byte where it stops short, make the scan longer.
 use Rattle.std.proofs.Common.{◌≡◌, ◌≢◌, ◌+◌, ◌≤◌, ◌<◌, Ok, length, drop, get_or, arith, rules}
-use Rattle.cats_text.specs.Internal.Scanning.{state, scan, byte_step, IsScanned, Steps, NeedsMemory}
-use Rattle.cats_text.specs.Internal.Returns.{settled, return_byte}
+use Rattle.std.proofs.lemmas.Result.{err_from_is_err_and}
+use Rattle.cats_text.specs.Internal.Scanning.{state, byte_step, IsScanned}
+use Rattle.cats_text.specs.Internal.Returns.{return_byte}
 use Rattle.cats_text.proofs.Scanning.Rests.{scan_byte_at, scan_last_return_at, scan_return_at}
-use Rattle.cats_text.proofs.Scanning.WholeWords.{rest_scanned, byte_stops, residual_is}
+use Rattle.cats_text.proofs.Scanning.WholeWords.{rest_scanned, byte_stops}
 use Rattle.cats_text.proofs.scanner.Scanner.scan.Goals as goal
 use Rattle.cats_text.proofs.scanner.Scanner.scan.Goals.{then-bytes-place-ne13+in_ok-take_byte, else-bytes-place-ne13+then-place-bytes-2}
 use Rattle.cats_text.proofs.scanner.Scanner.scan.Goals.{else-bytes-place-ne13+else-place-bytes-2+in_ok-take_byte-2}
@@ -18,26 +19,9 @@ returns-in_err-take_byte-clause-steps g c =
     let ne : get_or c.args.bytes.now (c.loop-place.place + c.in_ok-place.field-0) 0 ≢ 13 = c.if-bytes-place-ne13.true in
     let stops = byte_stops _ _ _ (state g.K.Keep.keep c.take_byte.new.self) _ _ c.args.bytes.now c.loop-place.place c.in_ok-place.field-0
     c.in_err-take_byte.field-0.0
-    c.loop-place-test.true c.loop-place.invariant.0 c.in_ok-place.ensures.scanned here ne c.in_err-take_byte.ensures.steps c.in_err-take_byte.ensures.memory in
-    residual_is c.from_residual-in_err-take_byte.result c.in_err-take_byte.field-0.0
-    (λ r. Steps (state g.K.Keep.keep c.take_byte.new.self) r
-    (scan (state g.K.Keep.keep c.args.self.now) (settled c.args.bytes.now))) c.from_residual-in_err-take_byte.ensures.0
-    c.from_residual-in_err-take_byte.ensures.1 stops.0
-
-pub returns-in_err-take_byte-clause-memory : goal.returns-in_err-take_byte-clause-memory
-returns-in_err-take_byte-clause-memory g c =
-    let both = rest_scanned _ _ _ _ _ c.args.bytes.now c.loop-place.place c.in_ok-place.field-0 c.loop-place-test.true c.loop-place.invariant.0
-    c.in_ok-place.ensures.scanned in
-    let most : c.loop-place.place + c.in_ok-place.field-0 ≤ length c.args.bytes.now = both.1 in
-    let left : c.loop-place.place + c.in_ok-place.field-0 ≢ length c.args.bytes.now = search rules in
-    let here : c.loop-place.place + c.in_ok-place.field-0 < length c.args.bytes.now = omega arith in
-    let ne : get_or c.args.bytes.now (c.loop-place.place + c.in_ok-place.field-0) 0 ≢ 13 = c.if-bytes-place-ne13.true in
-    let stops = byte_stops _ _ _ (state g.K.Keep.keep c.take_byte.new.self) _ _ c.args.bytes.now c.loop-place.place c.in_ok-place.field-0
-    c.in_err-take_byte.field-0.0
-    c.loop-place-test.true c.loop-place.invariant.0 c.in_ok-place.ensures.scanned here ne c.in_err-take_byte.ensures.steps c.in_err-take_byte.ensures.memory in
-    residual_is c.from_residual-in_err-take_byte.result c.in_err-take_byte.field-0.0
-    (λ r. NeedsMemory (state g.K.Keep.keep c.args.self.now) (settled c.args.bytes.now) r)
-    c.from_residual-in_err-take_byte.ensures.0 c.from_residual-in_err-take_byte.ensures.1 stops.1
+    c.loop-place-test.true c.loop-place.invariant.0 c.in_ok-place.ensures.scanned here ne c.in_err-take_byte.ensures.steps in
+    let reported = err_from_is_err_and c.from_residual-in_err-take_byte.result c.from_residual-in_err-take_byte.ensures.1 in
+    rw (reported.1, reported.2) stops
 
 pub loop-place-preserved : goal.loop-place-preserved
 loop-place-preserved g c =

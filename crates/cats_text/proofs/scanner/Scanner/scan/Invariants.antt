@@ -1,3 +1,4 @@
+-- `Scanner::scan`
 use Rattle.std.proofs.Common.{◌≤◌, ◌+◌, ◌-◌, drop, length}
 use Rattle.cats_text.specs.Internal.Scanning.{state, IsScanned}
 use Rattle.cats_text.proofs.scanner.Scanner.scan.Given as goal

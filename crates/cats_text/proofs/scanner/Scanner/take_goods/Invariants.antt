@@ -1,3 +1,4 @@
+-- `Scanner::take_goods`
 use Rattle.std.proofs.Common.{◌≡◌, ◌≤◌, ◌-◌, false, drop, length}
 use Rattle.cats_text.specs.Internal.Scanning.{state, IsGoodDue, IsScanned}
 use Rattle.cats_text.proofs.scanner.Scanner.take_goods.Given as goal

@@ -1,3 +1,4 @@
+-- `Watched::ended`
 use Rattle.std.proofs.Common.{refl}
 use Rattle.cats_text.proofs.stream.Watched.ended.Goals as goal
 

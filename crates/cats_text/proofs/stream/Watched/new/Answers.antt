@@ -1,3 +1,4 @@
+-- `Watched::new`
 use Rattle.std.proofs.Common.{refl}
 use Rattle.cats_text.proofs.stream.Watched.new.Goals as goal
 

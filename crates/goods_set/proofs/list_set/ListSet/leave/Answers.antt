@@ -1,3 +1,4 @@
+-- `ListSet::leave`
 use Rattle.std.proofs.Common.{rules, not}
 use Rattle.std.proofs.lemmas.Fn.{filter_same}
 use Rattle.goods_set.specs.Bundles.{has_good}

@@ -1,3 +1,4 @@
+-- `ListSet::left_of`
 use Rattle.std.proofs.Common.{◌≡◌, ◌≤◌, length, take}
 use Rattle.goods_set.specs.Bundles.{without}
 use Rattle.goods_set.proofs.list_set.ListSet.left_of.Given as goal

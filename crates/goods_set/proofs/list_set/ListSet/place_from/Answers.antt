@@ -1,3 +1,4 @@
+-- `ListSet::place_from`
 use Rattle.std.proofs.Common.{◌≡◌, ◌≤◌, ℕ, List, true, false, rules, ltb, sym, subst, length}
 use Rattle.std.proofs.lemmas.List.Sorted.{IsPartitionPoint-from_clause}
 use Rattle.std.specs.List.Sorted.{IsPartitionedBy, IsPartitionPoint}

@@ -1,3 +1,4 @@
+-- `ListSetGoodsSet::empty`
 use Rattle.std.proofs.lemmas.Grind.{common_steps}
 use Rattle.std.proofs.Common.{arith}
 use Rattle.goods_set.proofs.list_set.ListSetGoodsSet.empty.Goals as goal

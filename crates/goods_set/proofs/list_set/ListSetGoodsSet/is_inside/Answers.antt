@@ -1,3 +1,4 @@
+-- `ListSetGoodsSet::is_inside`
 use Rattle.std.proofs.lemmas.Bool.Decides.{Decides-eqb}
 use Rattle.std.proofs.lemmas.Slice.Eq.{slice_eq-Decides}
 use Rattle.goods_set.specs.Lemmas.Sizes.{inside_not_larger}

@@ -1,3 +1,4 @@
+-- `ListSetGoodsSet::next_from`
 use Rattle.std.proofs.Common.{◌∙◌, ℕ, List, subst}
 use Rattle.std.specs.Slice.{IsItemAt}
 use Rattle.goods_set.proofs.Places.{next_at, got}

@@ -1,3 +1,4 @@
+-- `ListSetGoodsSet::order`
 use Rattle.std.proofs.Common.{◌≡◌, ◌∙◌, nat_cmp, ap}
 use Rattle.goods_set.specs.SortKeys.{sort_key_of}
 use Rattle.goods_set.specs.Lemmas.SortKeys.{order_by_key}

@@ -1,3 +1,4 @@
+-- `ListSetGoodsSet::put`
 use Rattle.std.proofs.Common.{◌≡◌, rules, List, ℕ, sym, subst}
 use Rattle.std.specs.Prelude.{Result, Ok, Err, OnOk, OnErr}
 use Rattle.goods_set.specs.Bundles.{IsBundle}

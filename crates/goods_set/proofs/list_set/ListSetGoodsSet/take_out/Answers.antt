@@ -1,3 +1,4 @@
+-- `ListSetGoodsSet::take_out`
 use Rattle.std.proofs.Common.{List, ℕ, sym, subst}
 use Rattle.goods_set.specs.Bundles.{IsBundle}
 use Rattle.goods_set.specs.Lemmas.Members.{IsBundle-without}

@@ -1,4 +1,4 @@
--- The set has the goods so far: one more good is below the cap, so its word is there, and its bit puts it.
+-- `WordSetGoodsSet::from_slice`: the set has the goods so far: one more good is below the cap, so its word is there, and its bit puts it.
 use Rattle.std.proofs.Common.{◌≡◌, ◌/◌, ◌<◌, get_or, length, ap, ◌∙◌, arith}
 use Rattle.std.proofs.lemmas.List.{length-set}
 use Rattle.std.proofs.lemmas.Simd.{length-replicate}

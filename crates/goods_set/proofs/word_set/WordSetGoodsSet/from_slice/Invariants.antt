@@ -1,3 +1,4 @@
+-- `WordSetGoodsSet::from_slice`
 use Rattle.std.proofs.Common.{◌≡◌, length, take}
 use Rattle.goods_set.specs.Words.{word_cap, word_goods}
 use Rattle.goods_set.proofs.word_set.WordSetGoodsSet.from_slice.Given as goal

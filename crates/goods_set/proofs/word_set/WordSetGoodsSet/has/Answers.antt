@@ -1,3 +1,4 @@
+-- `WordSetGoodsSet::has`
 use Rattle.std.proofs.Common.{◌≡◌, ◌∙◌, ◌/◌, ◌<◌, ◌≤◌, sym, arith}
 use Rattle.std.proofs.lemmas.Bool.{le-ltb}
 use Rattle.goods_set.specs.Words.{word_cap}

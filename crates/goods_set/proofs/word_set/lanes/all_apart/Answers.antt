@@ -1,3 +1,4 @@
+-- `all_apart`
 use Rattle.std.proofs.Common.{ℕ, ◌+◌, ◌≤◌, length, sym, arith}
 use Rattle.std.specs.Int.RustNames.{bit_and}
 use Rattle.goods_set.specs.Lemmas.Words.{words_apart, words_sharing}

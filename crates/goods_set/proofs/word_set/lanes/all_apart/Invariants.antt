@@ -1,3 +1,4 @@
+-- `all_apart`
 use Rattle.std.proofs.Common.{◌≡◌, ℕ, ◌-◌, ◌<◌, ◌≤◌, length, get_or}
 use Rattle.std.specs.Int.RustNames.{bit_and}
 use Rattle.goods_set.proofs.word_set.lanes.all_apart.Given as goal

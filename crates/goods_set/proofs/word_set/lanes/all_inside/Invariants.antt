@@ -1,3 +1,4 @@
+-- `all_inside`
 use Rattle.std.proofs.Common.{◌≡◌, ℕ, ◌-◌, ◌<◌, ◌≤◌, length, get_or, w64}
 use Rattle.std.specs.Int.{bit_not}
 use Rattle.std.specs.Int.RustNames.{bit_and}

@@ -1,3 +1,4 @@
+-- `remove_shared`
 use Rattle.std.proofs.Common.{arith}
 use Rattle.std.proofs.lemmas.List.{length-take}
 use Rattle.goods_set.proofs.LongWords.{shared_removed}

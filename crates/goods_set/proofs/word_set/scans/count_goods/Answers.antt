@@ -1,3 +1,4 @@
+-- `count_goods`
 use Rattle.std.proofs.Common.{◌≡◌, ◌∙◌, ◌+◌, ◌*◌, ◌≤◌, ℕ, sym, ap, arith, length, get_or}
 use Rattle.std.specs.Int.RustNames.{count_ones}
 use Rattle.goods_set.specs.Words.{word_goods}

@@ -1,4 +1,4 @@
--- What is listed, and the bits that are left, are all bits.
+-- `list_bits`: what is listed, and the bits that are left, are all bits.
 use Rattle.std.proofs.Common.{◌≡◌, ◌+◌, [], ◌∷◌, ◌++◌, map, length}
 use Rattle.goods_set.specs.Words.{word_goods}
 use Rattle.goods_set.proofs.word_set.scans.list_bits.Given as goal

@@ -1,3 +1,4 @@
+-- `list_goods`
 use Rattle.std.proofs.Common.{refl}
 use Rattle.goods_set.proofs.Listed.{words_more, words_none}
 use Rattle.goods_set.proofs.word_set.scans.list_goods.Goals as goal

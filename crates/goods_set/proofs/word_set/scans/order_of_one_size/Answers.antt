@@ -1,3 +1,4 @@
+-- `order_of_one_size`
 use Rattle.std.proofs.Common.{ℕ, length, get_or, sym, arith}
 use Rattle.std.proofs.lemmas.Nat.{xor_lt}
 use Rattle.goods_set.proofs.Firsts.{differs_first, less_by_words, greater_by_words, equal_words}

@@ -1,3 +1,4 @@
+-- `order_of_one_size`
 use Rattle.goods_set.proofs.Firsts.{AreSameWords}
 use Rattle.goods_set.proofs.word_set.scans.order_of_one_size.Given as goal
 

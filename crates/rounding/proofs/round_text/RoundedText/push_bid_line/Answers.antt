@@ -1,3 +1,4 @@
+-- `RoundedText::push_bid_line`
 use Rattle.std.proofs.Common.{ℕ, List, ◌++◌, sym, ◌∙◌, ap, refl}
 use Rattle.std.proofs.lemmas.List.{append-nil}
 use Rattle.rounding.specs.Texts.{PlainChange}

@@ -1,3 +1,4 @@
+-- `Value::exact`
 use Rattle.std.proofs.Common.{sym, ◌∙◌, ℕ}
 use Rattle.rounding.specs.Internal.Values.{Holds}
 use Rattle.rounding.proofs.Deciding.{refuse_above, refuse_whole, refuse_fine}

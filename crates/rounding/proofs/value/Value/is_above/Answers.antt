@@ -1,3 +1,4 @@
+-- `Value::is_above`
 use Rattle.std.proofs.Common.{◌∙◌, ℕ, ap, not}
 use Rattle.rounding.specs.Internal.Values.{Holds}
 use Rattle.rounding.proofs.Deciding.{above_equal, above_other}

@@ -1,3 +1,4 @@
+-- `Value::rounded`
 use Rattle.std.proofs.Common.{sym, ◌∙◌, ℕ}
 use Rattle.rounding.specs.Internal.Values.{Holds}
 use Rattle.rounding.proofs.Deciding.{round_large, round_whole, round_fine}
