@@ -13,7 +13,8 @@ use Rattle.valuation.specs.declared.search_kind.SearchKind.{SearchKind}
 use Rattle.valuation.specs.Values.{or_value, atoms_of}
 use Rattle.prune.specs.Fates.{best_bids, found_places, or_fate, places_below, plain_fate, xor_fate}
 use Rattle.prune.specs.Internal.BestBids.{AreBestBids}
-use Rattle.prune.specs.Internal.Listings.{atom_at, is_inside_at, first_dominating_place}
+use Rattle.prune.specs.Internal.Listings.{is_inside_at, first_dominating_place}
+use Rattle.valuation.specs.Packings.{atom_at}
 use Rattle.prune.specs.Internal.Reaching.{atoms_inside, found_inside, places_inside}
 use Rattle.prune.specs.Lemmas.Fates.{or_fate-push, xor_fate-push}
 use Rattle.prune.specs.Lemmas.Lists.{All-from_Contains, filter_same_on, find_filter, map_same_on, Contains-head}

@@ -12,8 +12,9 @@ use Rattle.goods_set.specs.Lemmas.Sizes.{IsNextGood, good_from-Some}
 use Rattle.goods_set.specs.Fingerprints.{AreMarks}
 use Rattle.valuation.specs.declared.atom.Atom.{Atom}
 use Rattle.valuation.specs.Values.{atoms_of, plain_atom}
-use Rattle.prune.specs.declared.posting.Posting.{Posting}
-use Rattle.prune.specs.Internal.Listings.{places_at, atom_at, is_inside_at, dominates, dominates_at, first_dominating_place, listed_at, AreListed}
+use Rattle.prune.specs.declared.subset_index.Posting.{Posting}
+use Rattle.prune.specs.Internal.Listings.{places_at, is_inside_at, dominates, dominates_at, first_dominating_place, listed_at, AreListed}
+use Rattle.valuation.specs.Packings.{atom_at}
 use Rattle.prune.specs.Internal.Listings.{NoneInsideFrom}
 use Rattle.prune.specs.Internal.Listings.{MayBePosting}
 use Rattle.prune.specs.Lemmas.Lists.{is_some-find_map}

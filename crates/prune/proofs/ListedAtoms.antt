@@ -31,9 +31,10 @@ use Rattle.valuation.specs.declared.atom.Atom.{Atom}
 use Rattle.valuation.specs.Values.{atoms_of}
 use Rattle.valuation.specs.Lemmas.Atoms.{get_or-atoms_of}
 use Rattle.valuation.specs.Lemmas.Lists.{AllPairs-head, AllPairs-tail, AllPairs-append, Contains-map, Contains-unmap}
-use Rattle.prune.specs.declared.posting.Posting.{Posting}
+use Rattle.prune.specs.declared.subset_index.Posting.{Posting}
 use Rattle.prune.specs.InOrder.{IsInOrder}
-use Rattle.prune.specs.Internal.Listings.{listed_at, places_at, atom_at, is_inside_at, dominates_at, IsListed, IsPosting, AreListed}
+use Rattle.prune.specs.Internal.Listings.{listed_at, places_at, is_inside_at, dominates_at, IsListed, IsPosting, AreListed}
+use Rattle.valuation.specs.Packings.{atom_at}
 use Rattle.prune.specs.Internal.Listings.{AreGoodsOf, IsBehind, NoneInsideFrom}
 use Rattle.prune.specs.Lemmas.InOrder.{before_itself}
 use Rattle.prune.specs.Lemmas.Lists.{map-filter, Contains-head, Contains-tail, Contains-filter, Contains-filter_parts, All-from_Contains}

@@ -1,23 +1,22 @@
 -- The turns of a pruning's loop, by what the code knows of its variables: each is one of proofs/Results, once the code's lists are seen
 -- by the goods of their sets.
-use Rattle.std.proofs.Common.{◌≡◌, ℕ, ◌+◌, ◌<◌, ◌≤◌, Bool, ◌||◌, leb, ⊎_elim, List, [], ◌∷◌, ◌++◌, length, map, take, drop, max, get_or}
-use Rattle.std.proofs.Common.{sym, ap, ◌∙◌, subst, arith, Bor}
-use Rattle.std.specs.Prelude.{All, Contains}
-use Rattle.std.specs.List.{filter, list_any}
+use Rattle.std.proofs.Common.{◌≡◌, ℕ, ◌+◌, ◌<◌, ◌≤◌, ◌||◌, leb, ⊎_elim, List, [], ◌∷◌, ◌++◌, length, take, drop, max, get_or}
+use Rattle.std.proofs.Common.{sym, ap, ◌∙◌, subst, arith}
+use Rattle.std.specs.Prelude.{All}
+use Rattle.std.specs.List.{list_any}
 use Rattle.std.proofs.lemmas.Bool.{cases_lt, le-leb, lt-leb}
-use Rattle.std.proofs.lemmas.List.{map-append, map_push, drop_all, take_all, take-append-drop}
-use Rattle.std.proofs.lemmas.List.Elements.{All-nil, All-cons, All-head, All-tail, All-contains, All-filter, All-weaker, Contains-append_left, filter_passes}
+use Rattle.std.proofs.lemmas.List.{map-append, map_push, drop_all, take_all}
+use Rattle.std.proofs.lemmas.List.Elements.{All-nil, All-cons, All-head, All-tail, All-weaker, filter_passes}
 use Rattle.goods_set.specs.Bundles.{IsRising, is_inside, IsInside}
 use Rattle.valuation.specs.declared.atom.Atom.{Atom}
 use Rattle.valuation.specs.Auctions.{IsAtom}
 use Rattle.valuation.specs.Values.{atoms_of, xor_value, plain_atom}
-use Rattle.valuation.specs.Packings.{price_sum}
 use Rattle.valuation.specs.Lemmas.XorValues.{xor_value-nil, xor_value-inside}
 use Rattle.prune.specs.Lemmas.Lists.{list_any_filter}
 use Rattle.prune.specs.Internal.Listings.{dominates}
 use Rattle.prune.specs.Internal.BestBids.{AreBestBids}
 use Rattle.prune.proofs.Pruning.{HasRisingBundle}
-use Rattle.prune.proofs.Results.{IsTurn, IsXorKept, IsOrKept, AreXorPoints, AreOrPoints, turn_among, xor_done}
+use Rattle.prune.proofs.Results.{IsTurn, IsXorKept, IsOrKept, AreXorPoints, AreOrPoints, xor_done}
 use Rattle.prune.proofs.Results.{or_done}
 use Rattle.prune.proofs.Prefixes.{IsLeft, next_parts, next_taken, next_drop}
 use Rattle.prune.specs.Internal.Reaching.{atoms_inside}
@@ -97,41 +96,6 @@ pub dominates_is : (price : ℕ) (bundle : List ℕ) (kept : List (Atom (List �
 dominates_is price bundle kept l =
     list_any_filter (λ (a : Atom (List ℕ)). leb price a.price) (λ (a : Atom (List ℕ)). is_inside a.bundle bundle) kept
     ∙ price_reached price l bundle (atoms_inside kept bundle) (filter_passes (λ a. is_inside a.bundle bundle) kept)
-
--- the atoms inside the bundle have some goods, as all kept ones do
-pub nonempty_inside : {S : Type 0} (goods : S → List ℕ) (inside seen : List (Bor (Atom S))) (p : Atom (List ℕ) → Bool) (kept : List (Atom (List ℕ)))
-    → seen ≡ inside → atoms_of goods (map (λ a. a.now) inside) ≡ filter p kept → All (λ a. 0 < length a.bundle) kept
-    → All (λ a. 0 < length a.bundle) (atoms_of goods (map (λ a. a.now) seen))
-nonempty_inside goods inside seen p kept d e some = rw (d, e) (All-filter p (λ a. 0 < length a.bundle) kept some)
-
--- and are inside it
-pub inside_bundle : {S : Type 0} (goods : S → List ℕ) (inside seen : List (Bor (Atom S))) (bundle : List ℕ) (kept : List (Atom (List ℕ))) → seen ≡ inside
-    → atoms_of goods (map (λ a. a.now) inside) ≡ atoms_inside kept bundle → All (λ a. IsInside a.bundle bundle) (atoms_of goods (map (λ a. a.now) seen))
-inside_bundle goods inside seen bundle kept d e = rw (d, e) (filter_passes (λ a. is_inside a.bundle bundle) kept)
-
--- their prices together do not reach a price
-pub too_low : {S : Type 0} (goods : S → List ℕ) (inside seen : List (Bor (Atom S))) (bundle : List ℕ) (price : ℕ) (kept : List (Atom (List ℕ))) → seen ≡ inside
-    → atoms_of goods (map (λ a. a.now) inside) ≡ atoms_inside kept bundle → price_sum (atoms_of goods (map (λ a. a.now) seen)) < price
-    → price_sum (atoms_inside kept bundle) < price
-too_low {S} goods inside seen bundle price kept d e l =
-    subst (λ (xs : List (Atom (List ℕ))). price_sum xs < price) (ap (λ (zs : List (Bor (Atom S))). atoms_of goods (map (λ a. a.now) zs)) d ∙ e) l
-
-pub kept_nonempty : {S : Type 0} (goods : S → List ℕ) (n : ℕ) (bids : List (Atom (List ℕ))) (best kept : List (Atom S)) (place : ℕ)
-    → AreBestBids bids (atoms_of goods best) → All (IsAtom n) bids → All (Contains (atoms_of goods (take place best))) (atoms_of goods kept)
-    → All (λ a. 0 < length a.bundle) (atoms_of goods kept)
-kept_nonempty {S} goods n bids best kept place b are among =
-    let parts : atoms_of goods (take place best) ++ atoms_of goods (drop place best) ≡ atoms_of goods best =
-    sym (map-append (plain_atom goods) (take place best) (drop place best)) ∙ ap (atoms_of goods) (take-append-drop place best) in
-    All-weaker (Contains (atoms_of goods (take place best))) (λ a. 0 < length a.bundle)
-    (λ a c.
-    let there : Contains (atoms_of goods best) a = subst (λ (zs : List (Atom (List ℕ))). Contains zs a) parts
-    (Contains-append_left (atoms_of goods (take place best)) (atoms_of goods (drop place best)) a c) in
-    (All-contains (IsAtom n) bids a are (All-contains (Contains bids) (atoms_of goods best) a b.among there)).nonempty)
-    (atoms_of goods kept) among
-
-pub turn_nonempty : (n : ℕ) (bids done : List (Atom (List ℕ))) (bid : Atom (List ℕ)) (rest : List (Atom (List ℕ))) → IsTurn bids done bid rest
-    → All (IsAtom n) bids → 0 < length bid.bundle
-turn_nonempty n bids done bid rest turn are = (All-contains (IsAtom n) bids bid are (turn_among bids done bid rest turn)).nonempty
 
 pub all_some : (n : ℕ) (bids : List (Atom (List ℕ))) → All (IsAtom n) bids → All (λ a. 0 < length a.bundle) bids
 all_some n bids are = All-weaker (IsAtom n) (λ a. 0 < length a.bundle) (λ a i. i.nonempty) bids are

@@ -1,10 +1,10 @@
 -- The limits along a pruning's loop. The best bids are those of the searched bundles, one on each, in order; the search for a best bid among the points so
 -- far takes the steps that the definition says; so what is left of the limits decides on the bids that are left as the first limits do on all.
-use Rattle.std.proofs.Common.{◌≡◌, ℕ, ◌+◌, ◌-◌, ◌<◌, false, ltb, ⊎_elim, List, [], ◌∷◌, ◌++◌, map, refl, sym, ap, ap₂, ◌∙◌, subst, arith, Some, None, Less}
+use Rattle.std.proofs.Common.{◌≡◌, ℕ, ◌+◌, ◌<◌, false, true, ltb, ⊎_elim, List, [], ◌∷◌, ◌++◌, map, refl, sym, ap, ap₂, ◌∙◌, subst, arith, Some, None, Less}
 use Rattle.std.specs.Prelude.{All, Contains}
 use Rattle.std.specs.List.{AllByRecursion}
 use Rattle.std.specs.List.Sorted.{IsStrictlySortedBy}
-use Rattle.std.proofs.lemmas.Bool.{lt-ltb, ltb-true}
+use Rattle.std.proofs.lemmas.Bool.{lt-ltb, ltb-false, ltb-true}
 use Rattle.std.proofs.lemmas.List.Elements.{All-head, All-tail, All-contains, Contains-append_right}
 use Rattle.std.proofs.lemmas.List.Kept.{IsStrictlySortedBy-filter}
 use Rattle.goods_set.specs.Bundles.{all_bundles}
@@ -18,7 +18,8 @@ use Rattle.valuation.specs.declared.search_options.SearchOptions.{SearchOptions}
 use Rattle.valuation.specs.Auctions.{IsAtom}
 use Rattle.valuation.specs.Values.{or_value}
 use Rattle.valuation.specs.Searches.{bound_of}
-use Rattle.valuation.specs.SearchLimits.{next_steps, options_after}
+use Rattle.valuation.specs.SearchLimits.{is_one_over, options_after, options_after_all}
+use Rattle.valuation.specs.Lemmas.SearchLimits.{is_one_over-one, options_after_all-one}
 use Rattle.valuation.specs.SearchSteps.{cut_steps as steps_with}
 use Rattle.valuation.specs.Lemmas.Lists.{Contains-cons_cases, Contains-map, Contains-unmap, AllPairs-head, AllPairs-tail}
 use Rattle.valuation.specs.Lemmas.OrValues.{or_value-price, or_value-filter_le}
@@ -33,7 +34,7 @@ use Rattle.prune.specs.Lemmas.KeptBids.{all_nonempty, on_bundles}
 use Rattle.prune.specs.Lemmas.Refusals.{first_over-refused, first_over-within}
 use Rattle.prune.proofs.Pruning.{HasRisingBundle, completion, later_not_below, not_below_itself, behind_next}
 use Rattle.prune.proofs.Results.{IsTurn, IsOrKept, turn_below, or_more, or_done, best_on, best_price}
-use Rattle.prune.specs.Internal.Reaching.{atoms_inside}
+use Rattle.prune.specs.Internal.Reaching.{atoms_inside, steps_for}
 
 -- ---- the best bids are on the searched bundles
 
@@ -109,36 +110,37 @@ IsWithin-start start bids best b = record {
 -- the steps of the turn by the kind that is kept
 now_steps : (start now : SearchOptions) (goods : ℕ) (bids done : List (Atom (List ℕ))) (x : Atom (List ℕ)) (rest kept : List (Atom (List ℕ)))
     → All (IsAtom goods) bids → IsTurn bids done x rest → IsOrKept done kept → now.kind ≡ start.kind
-    → 1 + steps_with (bound_of now.kind) (in_search_order now.kind (atoms_inside kept x.bundle)) x.bundle x.price
-    ≡ search_steps_by start.kind goods bids x.bundle
+    → steps_for now.kind kept x.bundle x.price ≡ search_steps_by start.kind goods bids x.bundle
 now_steps start now goods bids done x rest kept are t k e =
     turn_steps now.kind goods bids done x rest kept (on_bundles goods bids are) t k
     ∙ ap (λ (kind : SearchKind). search_steps_by kind goods bids x.bundle) e
 
--- the search of a bid leaves so many of the steps that it may take
-pub IsWithin-next : (start now : SearchOptions) (bids done : List (Atom (List ℕ))) (x : Atom (List ℕ)) (rest kept : List (Atom (List ℕ))) (after : ℕ)
-    → IsTurn bids done x rest → IsOrKept done kept → IsWithin start now bids (x ∷ rest)
-    → next_steps now ≡ after
-    + (1 + steps_with (bound_of now.kind) (in_search_order now.kind (atoms_inside kept x.bundle)) x.bundle x.price)
-    → IsWithin start (options_after now (next_steps now - after)) bids rest
-IsWithin-next start now bids done x rest kept after t k w e = record {
-  kind = w.kind;
-  left = λ goods are.
-      let steps = now_steps start now goods bids done x rest kept are t k w.kind in
-      let used : search_steps_by start.kind goods bids x.bundle ≡ next_steps now - after = omega arith in
-      w.left goods are
-      ∙ first_over-within (search_steps_by start.kind goods bids) now x.bundle (map (λ a. a.bundle) rest) (omega arith)
-      ∙ ap (λ n. first_over (search_steps_by start.kind goods bids) (options_after now n) (map (λ a. a.bundle) rest)) used;
-}
+module _ (start now : SearchOptions) (bids done : List (Atom (List ℕ))) (x : Atom (List ℕ)) (rest kept : List (Atom (List ℕ)))
+    (t : IsTurn bids done x rest) (k : IsOrKept done kept) (w : IsWithin start now bids (x ∷ rest))
+  where
+    -- the search of a bid is within the limits
+    pub IsWithin-next : (after : SearchOptions) → is_one_over now (steps_for now.kind kept x.bundle x.price ∷ []) ≡ false
+        → after ≡ options_after_all now (steps_for now.kind kept x.bundle x.price ∷ []) → IsWithin start after bids rest
+    IsWithin-next after within left =
+        let same : after ≡ options_after now (steps_for now.kind kept x.bundle x.price) = left ∙ sym (options_after_all-one now _) in
+        let fits = ltb-false _ _ (sym (is_one_over-one now (steps_for now.kind kept x.bundle x.price)) ∙ within) in
+        rw same (record {
+          kind = w.kind;
+          left = λ goods are.
+              let steps = now_steps start now goods bids done x rest kept are t k w.kind in
+              w.left goods are
+              ∙ first_over-within (search_steps_by start.kind goods bids) now x.bundle (map (λ a. a.bundle) rest) (omega (arith, steps, fits))
+              ∙ ap (λ n. first_over (search_steps_by start.kind goods bids) (options_after now n) (map (λ a. a.bundle) rest)) (sym steps);
+        })
 
--- the search of a bid takes more than it may
-pub IsWithin-refused : (start now : SearchOptions) (bids done : List (Atom (List ℕ))) (x : Atom (List ℕ)) (rest kept : List (Atom (List ℕ)))
-    → IsTurn bids done x rest → IsOrKept done kept → IsWithin start now bids (x ∷ rest)
-    → next_steps now < 1 + steps_with (bound_of now.kind) (in_search_order now.kind (atoms_inside kept x.bundle)) x.bundle x.price
-    → (goods : ℕ) → All (IsAtom goods) bids → first_refused start goods bids ≡ Some x.bundle
-IsWithin-refused start now bids done x rest kept t k w l goods are =
-    let steps = now_steps start now goods bids done x rest kept are t k w.kind in
-    w.left goods are ∙ first_over-refused (search_steps_by start.kind goods bids) now x.bundle (map (λ a. a.bundle) rest) (omega arith)
+    -- it is not
+    pub IsWithin-refused : is_one_over now (steps_for now.kind kept x.bundle x.price ∷ []) ≡ true
+        → (goods : ℕ) → All (IsAtom goods) bids → first_refused start goods bids ≡ Some x.bundle
+    IsWithin-refused over goods are =
+        let steps = now_steps start now goods bids done x rest kept are t k w.kind in
+        let more = ltb-true _ _ (sym (is_one_over-one now (steps_for now.kind kept x.bundle x.price)) ∙ over) in
+        w.left goods are
+        ∙ first_over-refused (search_steps_by start.kind goods bids) now x.bundle (map (λ a. a.bundle) rest) (omega (arith, steps, more))
 
 -- no bid is left
 pub IsWithin-end : (start now : SearchOptions) (bids : List (Atom (List ℕ))) → IsWithin start now bids [] → (goods : ℕ) → All (IsAtom goods) bids

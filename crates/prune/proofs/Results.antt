@@ -15,7 +15,8 @@ use Rattle.prune.specs.Points.{xor_points, or_points}
 use Rattle.prune.specs.Lemmas.OnBundles.{IsOnBundle}
 use Rattle.prune.specs.SearchSteps.{is_below, atoms_below, greatest_price}
 use Rattle.prune.specs.Lemmas.Lists.{zero_or_more, Contains-head, Contains-filter_parts, All-from_Contains, filter_same_on}
-use Rattle.prune.specs.Internal.Listings.{IsBehind}
+use Rattle.valuation.specs.Auctions.{IsAtom}
+use Rattle.prune.specs.Internal.Listings.{ComesNext, IsBehind}
 use Rattle.prune.specs.InOrder.{IsBefore, IsInOrder}
 use Rattle.prune.specs.Lemmas.InOrder.{same_bundle_same_atom}
 use Rattle.prune.specs.Lemmas.Values.{xor_value-member, xor_value-bound, xor_value-dominated, or_value-dominated}
@@ -91,6 +92,19 @@ pub turn_below : (bids done : List (Atom (List ℕ))) (x : Atom (List ℕ)) (res
     → filter (λ a. is_inside a.bundle x.bundle) kept ≡ atoms_below kept x.bundle
 turn_below bids done x rest kept t among =
     filter_same_on (λ a. is_inside a.bundle x.bundle) (λ a. is_below a.bundle x.bundle) kept (turn_inside bids done x rest kept t among)
+
+-- the bid comes next
+pub turn_next : (n : ℕ) (bids done : List (Atom (List ℕ))) (x : Atom (List ℕ)) (rest kept : List (Atom (List ℕ))) → IsTurn bids done x rest
+    → All (IsAtom n) bids → IsInOrder kept → All (Contains done) kept → ComesNext kept x.bundle
+turn_next n bids done x rest kept t are order among = record {
+  in_order = order;
+  behind = turn_behind bids done x rest kept t among;
+  some = (All-contains (IsAtom n) bids x are (turn_among bids done x rest t)).nonempty;
+  each = All-weaker (Contains done) (λ a. 0 < length a.bundle)
+      (λ a c. (All-contains (IsAtom n) bids a are (All-contains (Contains bids) (done ++ x ∷ rest) a t.best.among
+      (Contains-append_left done (x ∷ rest) a c))).nonempty)
+      kept among;
+}
 
 pub xor_reached : (bids done : List (Atom (List ℕ))) (x : Atom (List ℕ)) (rest kept : List (Atom (List ℕ))) → IsTurn bids done x rest → IsXorKept done kept
     → true ≡ leb x.price (xor_value (filter (λ a. is_inside a.bundle x.bundle) kept) x.bundle) → IsXorKept (done ++ x ∷ []) kept

@@ -3,7 +3,7 @@ use Rattle.std.proofs.Common.{◌≡◌, ℕ, zero, suc, ◌<◌, set, get_or-se
 use Rattle.std.proofs.Common.{arith}
 use Rattle.std.specs.Global.{Vec}
 use Rattle.std.proofs.lemmas.List.{map-set, get_or-map, length-map}
-use Rattle.prune.specs.declared.posting.Posting.{Posting}
+use Rattle.prune.specs.declared.subset_index.Posting.{Posting}
 use Rattle.prune.specs.Internal.Listings.{lists_of, listed_at}
 
 pub listed_there : (vectors : List (Vec Posting)) (good : ℕ) (v : Vec Posting) → good < length vectors → v ≡ get_or vectors good v

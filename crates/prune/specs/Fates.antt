@@ -7,7 +7,7 @@ use Rattle.std.specs.List.{filter, find, range_with_len}
 use Rattle.valuation.specs.declared.atom.Atom.{Atom}
 use Rattle.valuation.specs.declared.search_kind.SearchKind.{SearchKind}
 use Rattle.valuation.specs.declared.search_kind.SearchKind.TheVariants.{Plain, Bounded}
-use Rattle.valuation.specs.Conflicts.{atom_at}
+use Rattle.valuation.specs.Packings.{atom_at}
 use Rattle.valuation.specs.SearchSteps.{found_indices}
 use Rattle.valuation.specs.Values.{or_value}
 use Rattle.prune.specs.Points.{or_points, xor_points}

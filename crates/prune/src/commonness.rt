@@ -1,4 +1,5 @@
-//! How common each good is among atoms.
+//! How common each good is among atoms. This is only for speed: it decides at which good an atom is listed, and no clause
+//! depends on that.
 ghost use Rattle.std.specs.Prelude.{◌≡◌, ◌<◌, true, length};
 ghost use Rattle.goods_set.specs.Bundles.{has_good};
 
@@ -9,61 +10,45 @@ use valuation::Atom;
 /// No more than about so many atoms are counted: they show the rare goods of a bundle nearly as well as all would.
 const SAMPLE: usize = 1_024;
 
-/// How many atoms of a sample have each good. It is only for speed: it decides at which good an atom is listed, and no
-/// clause depends on that.
-#[derive(Drop)]
-pub struct Commonness {
-    counts: Vec<u32>,
+/// Counts each of the goods once more.
+fn count_goods(counts: &mut Vec<u32>, goods: &[u16]) -> Result<(), AllocError> {
+    for good in goods {
+        let place = usize::from(*good);
+        if counts.len() <= place {
+            counts.resize(place + 1, 0)?;
+        }
+        counts[place] = counts[place].saturating_add(1);
+    }
+    Ok(())
 }
 
-impl Commonness {
-    /// That of the goods of these atoms.
-    pub fn of<S: GoodsSet>(alloc: Global, atoms: &[Atom<S>]) -> Result<Commonness, AllocError> {
-        let mut commonness = Commonness {
-            counts: Vec::new(alloc),
-        };
-        let mut buffer = Vec::new(alloc);
-        let step = atoms.len() / SAMPLE + 1;
-        for atom in atoms.iter().step_by(step) {
-            commonness.count_goods(rising_goods(&atom.bundle, &mut buffer)?)?;
-        }
-        Ok(commonness)
+/// How many atoms of a sample have each good.
+pub fn goods_counts<S: GoodsSet>(alloc: Global, atoms: &[Atom<S>]) -> Result<Vec<u32>, AllocError> {
+    let mut counts = Vec::new(alloc);
+    let mut buffer = Vec::new(alloc);
+    let step = atoms.len() / SAMPLE + 1;
+    for atom in atoms.iter().step_by(step) {
+        count_goods(&mut counts, rising_goods(&atom.bundle, &mut buffer)?)?;
     }
+    Ok(counts)
+}
 
-    /// Counts each of the goods once more.
-    fn count_goods(&mut self, goods: &[u16]) -> Result<(), AllocError> {
-        for good in goods {
-            let place = usize::from(*good);
-            if self.counts.len() <= place {
-                self.counts.resize(place + 1, 0)?;
-            }
-            self.counts[place] = self.counts[place].saturating_add(1);
-        }
-        Ok(())
-    }
-
-    /// How many atoms of the sample have the good.
-    fn at(&self, good: u16) -> u32 {
-        match self.counts.get(usize::from(good)) {
+/// The first of the rarest of the goods, by how many atoms have each.
+pub fn rarest(counts: &[u32], goods: &[u16]) -> u16
+    requires { 0 < length goods.now }
+    ensures { has_good goods.now result ≡ true }
+{
+    let mut best = goods[0];
+    let mut fewest = u32::MAX;
+    for good in goods {
+        let count = match counts.get(usize::from(*good)) {
             Some(count) => *count,
             None => 0,
+        };
+        if count < fewest {
+            best = *good;
+            fewest = count;
         }
     }
-
-    /// The first of the rarest of the goods.
-    pub fn rarest(&self, goods: &[u16]) -> u16
-        requires { 0 < length goods.now }
-        ensures { has_good goods.now result ≡ true }
-    {
-        let mut best = goods[0];
-        let mut fewest = self.at(best);
-        for good in goods {
-            let count = self.at(*good);
-            if count < fewest {
-                best = *good;
-                fewest = count;
-            }
-        }
-        best
-    }
+    best
 }

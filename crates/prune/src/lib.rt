@@ -7,7 +7,6 @@ mod fate_log;
 pub mod laws;
 mod or;
 mod packing_finder;
-mod posting;
 mod prefix;
 mod prune_fault;
 mod sorting;

@@ -1,32 +1,45 @@
 //! `SubsetIndex`: the kept atoms. Those inside a bundle are found by its goods.
 ghost use Rattle.std.specs.Prelude.{◌≡◌, ℕ, List, ◌+◌, ◌<◌, ◌≤◌, false, true, map, length, All, AllPairs, IfOk, OnOk, []};
-ghost use Rattle.std.specs.Prelude.{◌∷◌, ◌++◌};
+ghost use Rattle.std.specs.Prelude.{◌∷◌, ◌++◌, cond, is_some};
 ghost use Rattle.std.specs.Bool.{OnTrue};
-ghost use Rattle.std.specs.List.{filter, range_with_len};
+ghost use Rattle.std.specs.List.{filter};
 ghost use Rattle.goods_set.specs.Fingerprints.{AreMarks};
-ghost use Rattle.valuation.specs.Values.{atoms_of};
+ghost use Rattle.valuation.specs.Values.{atoms_of, plain_atom};
 ghost use Rattle.valuation.specs.declared.atom.Atom.{Atom};
 ghost use Rattle.prune.specs.InOrder.{IsInOrder};
 ghost use Rattle.prune.specs.Internal.Listings.{
-  atom_at,
   count_listed,
   indices_of,
   is_inside_at,
+  listed_at,
+  lists_of,
   dominates_at,
   first_dominating_place,
-  postings_of,
+  AreAllListed,
+  ComesNext,
   IsBehind,
   IsIndexOf,
   IsPosting,
   MayBePosting,
-  IsReadyFor,
 };
+ghost use Rattle.prune.specs.Internal.Reaching.{places_inside};
+ghost use Rattle.valuation.specs.Packings.{atom_at};
 
-use crate::commonness::Commonness;
-use crate::posting::Posting;
+use crate::commonness::{goods_counts, rarest};
 use goods_set::{GoodsSet, fingerprint, may_be_subset, rising_goods};
 use std::alloc::{AllocError, Global};
 use valuation::Atom;
+
+/// An atom as it is listed at a good. Searches read many of these, and so each is kept small: an index takes 4 bytes, and
+/// the price is read from the atom. The fingerprint rules out most atoms that are not inside a bundle before they are read,
+/// which mostly means waiting for memory.
+#[derive(Drop)]
+struct Posting {
+    /// The index of the atom.
+    index: u32,
+    /// The fingerprint of its bundle.
+    fingerprint: u128,
+}
 
 /// Lists atoms, each at one of its goods, so that those inside a bundle are found through the bundle's goods. The atoms
 /// themselves are given with each call: those kept so far, in order, and so the smaller bundles first.
@@ -41,8 +54,8 @@ pub struct SubsetIndex {
     listed: usize,
     /// For each good the atoms that are listed there.
     lists: Vec<Vec<Posting>>,
-    /// How common goods are among all atoms that may be kept.
-    commonness: Commonness,
+    /// How common each good is among all atoms that may be kept.
+    counts: Vec<u32>,
     /// A buffer for the goods of an atom.
     buffer: Vec<u16>,
 }
@@ -132,6 +145,40 @@ fn first_dominating_among<S: GoodsSet>(
     kept.len()
 }
 
+/// What is listed at the good.
+fn postings_at(lists: &[Vec<Posting>], good: u16) -> &[Posting]
+    ensures { result.now ≡ listed_at (lists_of lists.now) good }
+{
+    match lists.get(usize::from(good)) {
+        Some(postings) => postings.as_slice(),
+        None => &[],
+    }
+}
+
+/// The place of the first kept atom inside the bid's bundle, which has these goods, with at least its price.
+fn first_dominating_listed<S: GoodsSet>(
+    lists: &[Vec<Posting>],
+    kept: &[Atom<S>],
+    bid: &Atom<S>,
+    goods: &[u16],
+) -> Option<usize>
+    requires goods { goods.now ≡ S.goods bid.now.bundle }
+    requires listed { AreAllListed (lists_of lists.now) (atoms_of S.goods kept.now) (S.goods bid.now.bundle) }
+    ensures { result
+        ≡ first_dominating_place (atoms_of S.goods kept.now) (S.goods bid.now.bundle) bid.now.price }
+{
+    let marks = fingerprint(goods);
+    let mut first = kept.len();
+    for good in goods {
+        let postings = postings_at(lists, *good);
+        first = first_dominating_among(postings, &kept[..first], &bid.bundle, marks, bid.price);
+    }
+    if first < kept.len() {
+        return Some(first);
+    }
+    None
+}
+
 impl SubsetIndex {
     /// The index of those of these atoms that will be kept. None is kept so far.
     pub fn of<S: GoodsSet>(alloc: Global, atoms: &[Atom<S>]) -> Result<SubsetIndex, AllocError>
@@ -142,7 +189,7 @@ impl SubsetIndex {
             goods: Vec::new(alloc),
             listed: 0,
             lists: Vec::new(alloc),
-            commonness: Commonness::of(alloc, atoms)?,
+            counts: goods_counts(alloc, atoms)?,
             buffer: Vec::new(alloc),
         })
     }
@@ -154,7 +201,7 @@ impl SubsetIndex {
         ensures index { OnOk result ((kept : List (Atom (List ℕ))) (atom : Atom (List ℕ)) → atom.bundle ≡ goods.now
             → IsIndexOf kept self.old → IsIndexOf (kept ++ atom ∷ []) self.new) }
     {
-        self.goods.push(self.commonness.rarest(goods))?;
+        self.goods.push(rarest(&self.counts, goods))?;
         Ok(())
     }
 
@@ -198,16 +245,13 @@ impl SubsetIndex {
     }
 
     /// Lists the kept atoms with fewer goods than the bundle, which comes behind all of them.
-    pub fn list_below<S: GoodsSet>(
-        &mut self,
-        kept: &[Atom<S>],
-        bundle: &S,
-    ) -> Result<(), AllocError>
+    fn list_below<S: GoodsSet>(&mut self, kept: &[Atom<S>], bundle: &S) -> Result<(), AllocError>
         requires in_order { IsInOrder (atoms_of S.goods kept.now) }
         requires behind { IsBehind (S.goods bundle.now) (atoms_of S.goods kept.now) }
         requires index { IsIndexOf (atoms_of S.goods kept.now) self.old }
         ensures index { OnOk result (IsIndexOf (atoms_of S.goods kept.now) self.new) }
-        ensures ready { OnOk result (IsReadyFor (S.goods bundle.now) (atoms_of S.goods kept.now) self.new) }
+        ensures listed { OnOk result (AreAllListed (lists_of self.new.lists.items) (atoms_of S.goods kept.now)
+            (S.goods bundle.now)) }
     {
         let size = bundle.size();
         while self.is_next_smaller(kept, size) {
@@ -216,63 +260,52 @@ impl SubsetIndex {
         Ok(())
     }
 
-    /// What is listed at the good.
-    fn postings_at(&self, good: u16) -> &[Posting]
-        ensures { result.now ≡ postings_of self.now good }
-    {
-        let place = usize::from(good);
-        if place < self.lists.len() {
-            return self.lists[place].as_slice();
-        }
-        &[]
-    }
-
-    /// Replaces the places by those of the kept atoms inside the bundle, which has these goods, rising.
+    /// Replaces the places by those of the kept atoms inside the bundle, which has these goods and comes behind all of them.
     pub fn find_inside<S: GoodsSet>(
-        &self,
+        &mut self,
         kept: &[Atom<S>],
         bundle: &S,
         goods: &[u16],
         places: &mut Vec<usize>,
     ) -> Result<(), AllocError>
         requires goods { goods.now ≡ S.goods bundle.now }
-        requires index { IsIndexOf (atoms_of S.goods kept.now) self.now }
-        requires ready { IsReadyFor (S.goods bundle.now) (atoms_of S.goods kept.now) self.now }
-        ensures { let inside = is_inside_at (atoms_of S.goods kept.now) (S.goods bundle.now) in
-            let all = range_with_len 0 (length kept.now) in
-            OnOk result (places.new.items ≡ filter inside all) }
+        requires next { ComesNext (atoms_of S.goods kept.now) (S.goods bundle.now) }
+        requires index { IsIndexOf (atoms_of S.goods kept.now) self.old }
+        ensures index { OnOk result (IsIndexOf (atoms_of S.goods kept.now) self.new) }
+        ensures places { OnOk result (places.new.items
+            ≡ places_inside (atoms_of S.goods kept.now) (S.goods bundle.now)) }
     {
+        self.list_below(kept, bundle)?;
         let marks = fingerprint(goods);
         places.clear();
         for good in goods {
-            find_inside_among(self.postings_at(*good), kept, bundle, marks, places)?;
+            let postings = postings_at(&self.lists, *good);
+            find_inside_among(postings, kept, bundle, marks, places)?;
         }
         places.sort_unstable();
         Ok(())
     }
 
-    /// The place of the first kept atom inside the bundle, which has these goods, with at least the price.
-    pub fn find_dominating<S: GoodsSet>(
-        &self,
+    /// The place of the first kept atom inside the bid's bundle with at least its price. If there is none, the bid is the
+    /// next one that is kept.
+    pub fn decide<S: GoodsSet>(
+        &mut self,
         kept: &[Atom<S>],
-        bundle: &S,
-        goods: &[u16],
-        price: u64,
-    ) -> Option<usize>
-        requires goods { goods.now ≡ S.goods bundle.now }
-        requires index { IsIndexOf (atoms_of S.goods kept.now) self.now }
-        requires ready { IsReadyFor (S.goods bundle.now) (atoms_of S.goods kept.now) self.now }
-        ensures { result ≡ first_dominating_place (atoms_of S.goods kept.now) (S.goods bundle.now) price }
+        bid: &Atom<S>,
+    ) -> Result<Option<usize>, AllocError>
+        requires next { ComesNext (atoms_of S.goods kept.now) (S.goods bid.now.bundle) }
+        requires index { IsIndexOf (atoms_of S.goods kept.now) self.old }
+        ensures index { IfOk result (λ found. IsIndexOf
+            (atoms_of S.goods kept.now ++ cond (is_some found) [] (plain_atom S.goods bid.now ∷ [])) self.new) }
+        ensures found { IfOk result (λ found. found
+            ≡ first_dominating_place (atoms_of S.goods kept.now) (S.goods bid.now.bundle) bid.now.price) }
     {
-        let marks = fingerprint(goods);
-        let mut first = kept.len();
-        for good in goods {
-            let postings = self.postings_at(*good);
-            first = first_dominating_among(postings, &kept[..first], bundle, marks, price);
+        self.list_below(kept, &bid.bundle)?;
+        let goods = rising_goods(&bid.bundle, &mut self.buffer)?;
+        let found = first_dominating_listed(&self.lists, kept, bid, goods);
+        if found.is_none() {
+            self.goods.push(rarest(&self.counts, goods))?;
         }
-        if first < kept.len() {
-            return Some(first);
-        }
-        None
+        Ok(found)
     }
 }

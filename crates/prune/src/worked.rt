@@ -3,7 +3,7 @@ ghost use Rattle.std.specs.Prelude.{◌≡◌, ◌+◌, ◌^◌, [], ◌∷◌, 
 ghost use Rattle.valuation.specs.declared.search_kind.SearchKind.TheVariants.{Plain, Bounded};
 ghost use Rattle.valuation.specs.Examples.{atom};
 ghost use Rattle.valuation.specs.SearchLimits.{plain_options};
-ghost use Rattle.prune.specs.declared.posting.Posting.{Posting};
+ghost use Rattle.prune.specs.declared.subset_index.Posting.{Posting};
 ghost use Rattle.prune.specs.Fates.{best_bids, or_fate, or_fates, places_below, xor_fate, xor_fates};
 ghost use Rattle.prune.specs.Internal.Listings.{IsListed, IsPosting, AreListed, NoneInsideFrom};
 ghost use Rattle.prune.specs.Points.{xor_points, or_points};

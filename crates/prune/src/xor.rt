@@ -2,10 +2,8 @@
 ghost use Rattle.std.specs.Prelude.{
   ◌≡◌,
   ℕ,
-  ◌<◌,
   ◌≤◌,
   true,
-  false,
   cond,
   List,
   [],
@@ -14,24 +12,24 @@ ghost use Rattle.std.specs.Prelude.{
   All,
   Contains,
   IfOk,
+  IfSome,
   OnOk,
   is_some,
   vec_len,
-  length,
 };
 ghost use Rattle.bid_file.specs.declared.limits.TheConstants.{MAX_GOODS};
 ghost use Rattle.valuation.specs.Auctions.{IsAtom};
 ghost use Rattle.valuation.specs.Values.{atoms_of, plain_atom, xor_value};
 ghost use Rattle.prune.specs.Fates.{xor_fates};
 ghost use Rattle.prune.specs.InOrder.{IsInOrder};
-ghost use Rattle.prune.specs.Internal.Listings.{dominates, first_dominating_place, IsBehind, IsIndexOf};
+ghost use Rattle.prune.specs.Internal.Listings.{dominates, first_dominating_place, ComesNext, IsIndexOf};
 ghost use Rattle.prune.specs.Points.{xor_points};
 
 use crate::best::keep_best_bids;
 use crate::fate_log::FateLog;
 use crate::prefix::move_to_prefix;
 use crate::subset_index::SubsetIndex;
-use goods_set::{GoodsSet, rising_goods};
+use goods_set::GoodsSet;
 use std::alloc::{AllocError, Global};
 use valuation::Atom;
 
@@ -57,34 +55,37 @@ fn first_dominating<S: GoodsSet>(bid: &Atom<S>, atoms: &[Atom<S>]) -> Option<usi
     None
 }
 
-/// The place of the first kept atom inside the bid's bundle with at least its price. If there is none, the bid is added
-/// to the index. Few atoms need no index. `buffer` is for goods.
+/// The index of those of these atoms that will be kept, if they are many.
+fn index_of_many<S: GoodsSet>(
+    alloc: Global,
+    atoms: &[Atom<S>],
+) -> Result<Option<SubsetIndex>, AllocError>
+    ensures { IfOk result (λ index. IfSome index (IsIndexOf [])) }
+{
+    if atoms.len() <= PAIRWISE {
+        return Ok(None);
+    }
+    Ok(Some(SubsetIndex::of(alloc, atoms)?))
+}
+
+/// The place of the first kept atom inside the bid's bundle with at least its price, by the index if there is one. If
+/// there is none, the bid is the next one that is kept.
 fn first_kept_dominating<S: GoodsSet>(
-    index: &mut SubsetIndex,
+    index: &mut Option<SubsetIndex>,
     kept: &[Atom<S>],
     bid: &Atom<S>,
-    few: bool,
-    buffer: &mut Vec<u16>,
 ) -> Result<Option<usize>, AllocError>
-    requires some { 0 < length (S.goods bid.now.bundle) }
-    requires in_order { IsInOrder (atoms_of S.goods kept.now) }
-    requires behind { IsBehind (S.goods bid.now.bundle) (atoms_of S.goods kept.now) }
-    requires index { few ≡ false → IsIndexOf (atoms_of S.goods kept.now) index.old }
-    ensures answer { IfOk result (λ found. found
+    requires next { ComesNext (atoms_of S.goods kept.now) (S.goods bid.now.bundle) }
+    requires index { IfSome index.old (IsIndexOf (atoms_of S.goods kept.now)) }
+    ensures index { IfOk result (λ found. IfSome index.new (IsIndexOf
+        (atoms_of S.goods kept.now ++ cond (is_some found) [] (plain_atom S.goods bid.now ∷ [])))) }
+    ensures found { IfOk result (λ found. found
         ≡ first_dominating_place (atoms_of S.goods kept.now) (S.goods bid.now.bundle) bid.now.price) }
-    ensures index { few ≡ false → IfOk result (λ found. IsIndexOf
-        (atoms_of S.goods kept.now ++ cond (is_some found) [] (plain_atom S.goods bid.now ∷ [])) index.new) }
 {
-    if few {
-        return Ok(first_dominating(bid, kept));
+    match index {
+        Some(index) => index.decide(kept, bid),
+        None => Ok(first_dominating(bid, kept)),
     }
-    index.list_below(kept, &bid.bundle)?;
-    let goods = rising_goods(&bid.bundle, buffer)?;
-    let found = index.find_dominating(kept, &bid.bundle, goods, bid.price);
-    if found.is_none() {
-        index.keep(goods)?;
-    }
-    Ok(found)
 }
 
 /// The bids that the bidder's values need, in order: a bid is kept if no kept bid inside its bundle has its price.
@@ -133,14 +134,10 @@ pub fn prune_xor_noting<S: GoodsSet>(
         → log.new.fates.items ≡ xor_fates goods bids) }
 {
     keep_best_bids(alloc, &mut atoms)?;
-    let few = atoms.len() <= PAIRWISE;
-    let listed = if few { 0 } else { atoms.len() };
-    let mut index = SubsetIndex::of(alloc, &atoms[..listed])?;
-    let mut buffer = Vec::new(alloc);
+    let mut index = index_of_many(alloc, &atoms)?;
     let mut kept = 0;
     for place in 0..atoms.len() {
-        let bid = &atoms[place];
-        let found = first_kept_dominating(&mut index, &atoms[..kept], bid, few, &mut buffer)?;
+        let found = first_kept_dominating(&mut index, &atoms[..kept], &atoms[place])?;
         log.note(found)?;
         if found.is_none() {
             move_to_prefix(&mut atoms, kept, place);

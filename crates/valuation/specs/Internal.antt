@@ -4,3 +4,7 @@ pub mod Inside
 pub mod Holders
 pub mod Reaching
 pub mod BestSearch
+pub mod Searches
+pub mod Conflicts
+pub mod Paths
+pub mod Listed

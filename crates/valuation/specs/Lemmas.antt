@@ -3,6 +3,7 @@ pub mod Atoms
 pub mod AuctionsOfFiles
 pub mod Bounds
 pub mod Limits
+pub mod Listed
 pub mod Lists
 pub mod OrValues
 pub mod Orders

@@ -8,8 +8,6 @@ pub mod Tables
 pub mod Orders
 pub mod Auctions
 pub mod Bidders
-pub mod Conflicts
-pub mod Paths
 pub mod Searches
 pub mod ValueSearches
 pub mod Listed

@@ -40,7 +40,7 @@ impl SearchOptions {
     }
 
     /// The steps that the next search may take.
-    pub fn next_budget(&self) -> Budget
+    pub(crate) fn next_budget(&self) -> Budget
         ensures { result ≡ next_steps self.now }
     {
         match self.total {
@@ -50,7 +50,7 @@ impl SearchOptions {
     }
 
     /// What is left for later searches once one has left so many steps of its budget.
-    pub fn after(&self, budget: &Budget) -> SearchOptions
+    pub(crate) fn after(&self, budget: &Budget) -> SearchOptions
         requires { budget.now ≤ next_steps self.now }
         ensures { result ≡ options_after self.now (next_steps self.now - budget.now) }
     {

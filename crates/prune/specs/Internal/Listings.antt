@@ -9,7 +9,9 @@ use Rattle.valuation.specs.declared.atom.Atom.{Atom}
 use Rattle.goods_set.specs.Bundles.{has_good, is_inside}
 use Rattle.goods_set.specs.Orders.{bundle_cmp}
 use Rattle.goods_set.specs.Fingerprints.{AreMarks}
-use Rattle.prune.specs.declared.posting.Posting.{Posting}
+use Rattle.valuation.specs.Packings.{atom_at}
+use Rattle.prune.specs.InOrder.{IsInOrder}
+use Rattle.prune.specs.declared.subset_index.Posting.{Posting}
 use Rattle.prune.specs.declared.subset_index.SubsetIndex.{SubsetIndex}
 
 -- for each good what is listed there
@@ -27,10 +29,6 @@ indices_of postings = map (λ posting. posting.index) postings
 -- the places that are listed at a good
 abbrev pub places_at : List (List Posting) → ℕ → List ℕ
 places_at lists good = indices_of (listed_at lists good)
-
--- the atom at a place
-abbrev pub atom_at : List (Atom (List ℕ)) → ℕ → Atom (List ℕ)
-atom_at atoms place = slice_index_or atoms place (record { bundle = []; price = 0 })
 
 -- whether the atom at the place is inside the bundle
 abbrev pub is_inside_at : List (Atom (List ℕ)) → List ℕ → ℕ → Bool
@@ -81,10 +79,6 @@ pub record AreGoodsOf (goods : List ℕ) (atoms : List (Atom (List ℕ))) : Type
   pub each : (place : ℕ) → place < length atoms
       → has_good (atom_at atoms place).bundle (slice_index_or goods place 0) ≡ true
 
--- what an index lists at a good
-abbrev pub postings_of : SubsetIndex → ℕ → List Posting
-postings_of index good = listed_at (lists_of index.lists.items) good
-
 -- how many atoms the index lists, from the first on
 abbrev pub count_listed : SubsetIndex → ℕ
 count_listed index = index.listed
@@ -103,6 +97,19 @@ abbrev pub NoneInsideFrom : ℕ → List (Atom (List ℕ)) → List ℕ → Type
 NoneInsideFrom from atoms bundle = (place : ℕ) → from ≤ place → place < length atoms
     → is_inside_at atoms bundle place ≡ false
 
--- none of the atoms that the index does not list is inside the bundle
-abbrev pub IsReadyFor : List ℕ → List (Atom (List ℕ)) → SubsetIndex → Type 0
-IsReadyFor bundle atoms index = NoneInsideFrom (count_listed index) atoms bundle
+-- each of the atoms that is inside the bundle is listed
+pub record AreAllListed (lists : List (List Posting)) (atoms : List (Atom (List ℕ))) (bundle : List ℕ) : Type 0 where
+  pub count : ℕ
+  pub listed : AreListed lists count atoms
+  pub others : NoneInsideFrom count atoms bundle
+
+-- each atom has a good
+abbrev pub HaveGoods : List (Atom (List ℕ)) → Type 0
+HaveGoods atoms = All (λ a. 0 < length a.bundle) atoms
+
+-- a bid on the bundle may be the next one that is kept
+pub record ComesNext (kept : List (Atom (List ℕ))) (bundle : List ℕ) : Type 0 where
+  pub in_order : IsInOrder kept
+  pub behind : IsBehind bundle kept
+  pub some : 0 < length bundle
+  pub each : HaveGoods kept

@@ -12,7 +12,7 @@ use Rattle.goods_set.specs.Bundles.{is_inside}
 use Rattle.valuation.specs.declared.atom.Atom.{Atom}
 use Rattle.valuation.specs.declared.search_kind.SearchKind.{SearchKind}
 use Rattle.valuation.specs.declared.search_kind.SearchKind.TheVariants.{Plain, Bounded}
-use Rattle.valuation.specs.Conflicts.{atom_at}
+use Rattle.valuation.specs.Packings.{atom_at}
 use Rattle.valuation.specs.Lemmas.SearchSteps.{found_indices-packing}
 use Rattle.valuation.specs.Packings.{IsPackingFor, atoms_at}
 use Rattle.valuation.specs.SearchSteps.{found_indices}

@@ -1,3 +1,4 @@
+-- `keep_best_bids`
 use Rattle.std.proofs.Common.{rules}
 use Rattle.std.proofs.lemmas.Fn.{filter_same, dedup_same, always_returns_same}
 use Rattle.std.proofs.lemmas.List.Sorted.{ranks_by, IsPermutation-trans}

@@ -1,3 +1,4 @@
+-- `fates_reach`
 use Rattle.prune.specs.Lemmas.Fates.{or_fate-reaches, xor_fate-reaches}
 use Rattle.prune.proofs.laws.fates_reach.Goals as goal
 

@@ -1,3 +1,4 @@
+-- `goods_without_bids`
 use Rattle.prune.specs.Lemmas.KeptBids.{on_bundles, xor_points_any_goods, or_points_any_goods}
 use Rattle.prune.specs.Lemmas.Refusals.{first_refused_any_goods, first_heavy_any_goods}
 use Rattle.prune.proofs.laws.goods_without_bids.Goals as goal

@@ -1,3 +1,4 @@
+-- `no_new_heavy_bundle`
 use Rattle.prune.specs.Lemmas.KeptBids.{on_bundles}
 use Rattle.prune.specs.Lemmas.SearchSteps.{search_steps-point, no_new_heavy}
 use Rattle.prune.proofs.laws.no_new_heavy_bundle.Goals as goal

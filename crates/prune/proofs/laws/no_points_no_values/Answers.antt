@@ -1,3 +1,4 @@
+-- `no_points_no_values`
 use Rattle.prune.specs.Lemmas.KeptBids.{on_bundles}
 use Rattle.prune.specs.Lemmas.Tables.{no_xor_points, no_or_points}
 use Rattle.prune.proofs.laws.no_points_no_values.Goals as goal

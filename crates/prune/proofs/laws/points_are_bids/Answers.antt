@@ -1,3 +1,4 @@
+-- `points_are_bids`
 use Rattle.prune.specs.Lemmas.KeptBids.{on_bundles, just_bundles, xor_points_are_atoms, or_points_are_atoms}
 use Rattle.prune.proofs.laws.points_are_bids.Goals as goal
 

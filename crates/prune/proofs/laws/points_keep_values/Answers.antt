@@ -1,3 +1,4 @@
+-- `points_keep_values`
 use Rattle.prune.specs.Lemmas.KeptBids.{on_bundles, just_bundles, xor_points_keep_values, or_points_keep_values}
 use Rattle.prune.proofs.laws.points_keep_values.Goals as goal
 

@@ -1,3 +1,4 @@
+-- `points_of_points`
 use Rattle.prune.specs.Lemmas.KeptBids.{on_bundles, just_bundles, xor_points_again, or_points_again}
 use Rattle.prune.proofs.laws.points_of_points.Goals as goal
 

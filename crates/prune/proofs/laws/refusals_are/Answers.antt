@@ -1,3 +1,4 @@
+-- `refusals_are`
 use Rattle.prune.specs.Lemmas.Refusals.{none_refused, none_refused-from}
 use Rattle.prune.proofs.laws.refusals_are.Goals as goal
 

@@ -1,3 +1,4 @@
+-- `refused_is_heavy`
 use Rattle.prune.specs.Lemmas.Refusals.{first_refused-plain}
 use Rattle.prune.proofs.laws.refused_is_heavy.Goals as goal
 

@@ -1,3 +1,4 @@
+-- `same_tables_same_points`
 use Rattle.prune.specs.Lemmas.KeptBids.{on_bundles}
 use Rattle.prune.specs.Lemmas.Tables.{same_xor_points, same_or_points}
 use Rattle.prune.proofs.laws.same_tables_same_points.Goals as goal

@@ -1,3 +1,4 @@
+-- `steps_are_bounded`
 use Rattle.prune.specs.Lemmas.KeptBids.{on_bundles}
 use Rattle.prune.specs.Lemmas.SearchSteps.{search_within_packings, search_within_bound}
 use Rattle.prune.proofs.laws.steps_are_bounded.Goals as goal

@@ -1,4 +1,4 @@
--- A plain pruning refuses at the first heavy bundle.
+-- `prune_or`: A plain pruning refuses at the first heavy bundle.
 use Rattle.std.proofs.Common.{◌≡◌, ◌<◌, ℕ, None, Some, sym, ◌∙◌, refl, subst}
 use Rattle.std.specs.Prelude.{All}
 use Rattle.std.proofs.lemmas.Result.{IfOk-weaker, IfErr-weaker}

@@ -1,10 +1,9 @@
--- From the place on the best bids are as they were; what is kept of those before it, the prefix, is as it should be;
+-- `prune_or_by`: from the place on the best bids are as they were; what is kept of those before it, the prefix, is as it should be;
 -- what is left of the limits decides on those from it on; and what was noted is what becomes of those before it, by the prefix.
 use Rattle.std.proofs.Common.{◌≡◌, ◌≤◌, true, map, drop, take}
-use Rattle.valuation.specs.Listed.{AreListsOf}
 use Rattle.valuation.specs.Values.{atoms_of}
 use Rattle.prune.specs.Fates.{or_fate, plain_fate}
-use Rattle.prune.specs.Internal.Listings.{IsIndexOf}
+use Rattle.prune.specs.Internal.Reaching.{IsFinderOf}
 use Rattle.prune.proofs.Prefixes.{IsLeft}
 use Rattle.prune.proofs.Refusals.{IsWithin}
 use Rattle.prune.proofs.Results.{IsOrKept}
@@ -18,11 +17,9 @@ invariant-loop-place g l =
     let prefix = atoms_of goods (take l.kept l.atoms.items) in
     record {
       left : IsLeft l.initial.atoms.items l.atoms.items l.place;
-      index : IsIndexOf prefix l.finder.index;
-      kind : l.finder.search.kind ≡ l.options.kind;
-      lists : AreListsOf prefix l.finder.lists;
+      finder : IsFinderOf prefix l.finder;
       kept : IsOrKept done prefix;
-      within : IsWithin l.fn.options l.options (atoms_of goods l.fn.atoms.items) rest;
+      within : IsWithin l.fn.options l.finder.search.options (atoms_of goods l.fn.atoms.items) rest;
       fewer : l.kept ≤ l.place;
       wanted : l.log.wanted ≡ l.fn.log.wanted;
       noted : l.fn.log.wanted ≡ true → map plain_fate l.log.fates.items ≡ map (or_fate l.fn.options.kind prefix) done;

@@ -1,3 +1,4 @@
+-- `move_to_prefix`
 use Rattle.std.proofs.Common.{◌+◌, ◌++◌, ◌∷◌, [], get_or, take, drop, ap, ◌∙◌, arith}
 use Rattle.std.proofs.lemmas.List.{take_more}
 use Rattle.prune.proofs.Prefixes.{swap-prefix, swap-rest}

@@ -1,3 +1,4 @@
+-- `put_in_order`
 use Rattle.std.proofs.Common.{◌<◌, length, ◌∙◌, arith}
 use Rattle.std.proofs.lemmas.List.Sorted.{IsPermutation-swap, IsPermutation-trans}
 use Rattle.prune.proofs.sorting.put_in_order.Goals as goal

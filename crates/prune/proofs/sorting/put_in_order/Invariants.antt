@@ -1,3 +1,4 @@
+-- `put_in_order`
 use Rattle.std.proofs.Common.{◌≡◌, vec_len}
 use Rattle.std.specs.Prelude.{IsPermutation}
 use Rattle.prune.proofs.sorting.put_in_order.Given as goal

@@ -1,6 +1,7 @@
+-- `find_inside_among`
 use Rattle.std.proofs.Common.{◌≡◌, ◌++◌, map, get_or, sym, ap, ◌∙◌, true, false, cond, [], ◌∷◌, append-nil}
 use Rattle.valuation.specs.Values.{atoms_of}
-use Rattle.prune.specs.declared.posting.Posting.{Posting}
+use Rattle.prune.specs.declared.subset_index.Posting.{Posting}
 use Rattle.prune.specs.Internal.Listings.{is_inside_at}
 use Rattle.prune.proofs.ListedAtoms.{place_of, places_get, found_more}
 use Rattle.prune.proofs.subset_index.find_inside_among.Goals as goal

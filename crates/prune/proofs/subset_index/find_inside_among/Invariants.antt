@@ -1,3 +1,4 @@
+-- `find_inside_among`
 use Rattle.std.proofs.Common.{◌≡◌, ◌++◌, take}
 use Rattle.std.specs.List.{filter}
 use Rattle.valuation.specs.Values.{atoms_of}

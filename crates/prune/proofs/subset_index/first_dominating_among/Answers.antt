@@ -1,9 +1,10 @@
+-- `first_dominating_among`
 -- None of the atoms listed before dominates the bid, and the next one does not either, or it is the first that does; places that rise
 -- are no longer among the atoms once one is not.
 use Rattle.std.proofs.Common.{length, get_or, sym, ◌∙◌, arith}
 use Rattle.std.proofs.lemmas.List.{length-map}
 use Rattle.valuation.specs.Values.{atoms_of}
-use Rattle.prune.specs.declared.posting.Posting.{Posting}
+use Rattle.prune.specs.declared.subset_index.Posting.{Posting}
 use Rattle.prune.specs.Internal.Listings.{dominates_at, indices_of}
 use Rattle.prune.proofs.FirstDominating.{NonePass-more, none_before}
 use Rattle.prune.proofs.ListedAtoms.{place_of, places_get}

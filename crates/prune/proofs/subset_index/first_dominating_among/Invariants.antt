@@ -1,3 +1,4 @@
+-- `first_dominating_among`
 use Rattle.std.proofs.Common.{length}
 use Rattle.valuation.specs.Values.{atoms_of}
 use Rattle.prune.specs.Internal.Listings.{indices_of, dominates_at}

@@ -1,3 +1,4 @@
+-- `posting_worked`
 use Rattle.std.proofs.Common.{refl, arith}
 use Rattle.std.proofs.lemmas.Nat.Bits.{bit_at-zero}
 use Rattle.prune.proofs.WorkedPostings.{listed_rightly}

@@ -1,4 +1,4 @@
--- None of the atoms before dominates the bid: one that does is the first, and else there is none.
+-- `first_dominating`: none of the atoms before dominates the bid: one that does is the first, and else there is none.
 use Rattle.std.proofs.Common.{◌≡◌, ◌<◌, ◌≤◌, false, length, sym, ap, ◌∙◌, ⊎_elim, true, arith}
 use Rattle.std.proofs.lemmas.Bool.{cases_lt}
 use Rattle.valuation.specs.Lemmas.Atoms.{get_or-atoms_of, length-atoms_of}

@@ -1,4 +1,4 @@
--- None of the atoms so far dominates the bid.
+-- `first_dominating`: none of the atoms so far dominates the bid.
 use Rattle.std.proofs.Common.{◌≡◌, ℕ, ◌<◌, false}
 use Rattle.valuation.specs.Values.{atoms_of}
 use Rattle.prune.specs.Internal.Listings.{dominates_at}

@@ -1,49 +1,39 @@
+-- `prune_xor_noting`
 -- A turn of the loop keeps a bid exactly if no kept bid inside its bundle dominates it, which is a turn of proofs/Results; and at the
 -- end the kept bids are the points.
-use Rattle.std.proofs.Common.{◌<◌, ◌≤◌, cond, [], ◌∷◌, ◌++◌, append-nil, length, refl, sym, ◌∙◌, subst, take, arith}
+use Rattle.std.proofs.Common.{◌<◌, ◌≤◌, cond, [], ◌∷◌, ◌++◌, append-nil, length, refl, sym, ◌∙◌, subst, take, arith, rules}
 use Rattle.bid_file.specs.declared.limits.TheConstants.{MAX_GOODS}
 use Rattle.valuation.specs.Values.{atoms_of, plain_atom}
 use Rattle.prune.specs.Internal.Listings.{IsIndexOf}
 use Rattle.prune.specs.Lemmas.KeptBids.{on_bundles, just_bundles}
 use Rattle.prune.proofs.Prefixes.{next_left}
-use Rattle.std.specs.Prelude.{is_some}
+use Rattle.std.specs.Prelude.{is_some, IfSome}
 use Rattle.prune.specs.Points.{xor_points}
 use Rattle.prune.specs.Fates.{xor_fate}
 use Rattle.prune.proofs.Fates.{noted_all, xor_noted_dropped, xor_noted_kept}
 use Rattle.prune.proofs.FirstDominating.{is_some-first_dominating}
-use Rattle.prune.proofs.PruningLoop.{next_turn, one_done, one_kept, xor_end, turn_nonempty, dominates_is}
-use Rattle.prune.proofs.Results.{turn_positive, turn_behind, xor_reached, xor_missed}
+use Rattle.prune.proofs.PruningLoop.{next_turn, one_done, one_kept, xor_end, dominates_is}
+use Rattle.prune.proofs.Results.{turn_positive, turn_next, xor_reached, xor_missed}
 use Rattle.prune.proofs.xor.prune_xor_noting.Goals as goal
 use Rattle.prune.proofs.xor.prune_xor_noting.Goals.{then-is_none, else-is_none}
 use Rattle.std.proofs.Common.{ap}
 
-pub first_kept_dominating-requires-clause-some : goal.first_kept_dominating-requires-clause-some
-first_kept_dominating-requires-clause-some g c =
+pub first_kept_dominating-requires-clause-next : goal.first_kept_dominating-requires-clause-next
+first_kept_dominating-requires-clause-next g c =
     let goods = g.S.GoodsSet.goods in
     let h = c.loop-place.invariant in
     let best = c.keep_best_bids.new.bids in
     let now = c.loop-place.atoms in
-    let there : c.loop-place.place < length now.items = omega (arith, c.loop-place-test.true, c.len-place-end.ensures, best.ok.0, h.left.long) in
-    let turn = next_turn goods (λ s. (g.met.S.GoodsSet.is_bundle s).0) _ best.items now.items c.loop-place.place c.index-bid.result.now
-    c.in_ok-keep_best_bids.ensures.best h.left there c.index-bid.ensures in
-    turn_nonempty MAX_GOODS _ _ _ _ turn c.requires.atoms
+    let place = c.loop-place.place in
+    let bid = c.index.result.now in
+    let kept = atoms_of goods (take c.loop-place.kept now.items) in
+    let there : place < length now.items = omega (arith, c.loop-place-test.true, c.len-place-end.ensures, best.ok.0, h.left.long) in
+    let turn = next_turn goods (λ s. (g.met.S.GoodsSet.is_bundle s).0) (atoms_of goods c.args.atoms.items) best.items now.items place bid
+    c.in_ok-keep_best_bids.ensures.best h.left there c.index.ensures in
+    rw c.deref-in-loop-place.ensures.value (turn_next MAX_GOODS _ _ _ _ kept turn c.requires.atoms h.kept.in_order h.kept.among)
 
 pub first_kept_dominating-requires-clause-index : goal.first_kept_dominating-requires-clause-index
-first_kept_dominating-requires-clause-index g c = λ f. rw c.deref-in-loop-place.ensures.value (c.loop-place.invariant.index f)
-
-pub first_kept_dominating-requires-clause-in_order : goal.first_kept_dominating-requires-clause-in_order
-first_kept_dominating-requires-clause-in_order g c = rw c.deref-in-loop-place.ensures.value c.loop-place.invariant.kept.in_order
-
-pub first_kept_dominating-requires-clause-behind : goal.first_kept_dominating-requires-clause-behind
-first_kept_dominating-requires-clause-behind g c =
-    let goods = g.S.GoodsSet.goods in
-    let h = c.loop-place.invariant in
-    let best = c.keep_best_bids.new.bids in
-    let now = c.loop-place.atoms in
-    let there : c.loop-place.place < length now.items = omega (arith, c.loop-place-test.true, c.len-place-end.ensures, best.ok.0, h.left.long) in
-    let turn = next_turn goods (λ s. (g.met.S.GoodsSet.is_bundle s).0) _ best.items now.items c.loop-place.place c.index-bid.result.now
-    c.in_ok-keep_best_bids.ensures.best h.left there c.index-bid.ensures in
-    rw c.deref-in-loop-place.ensures.value (turn_behind _ _ _ _ (atoms_of goods (take c.loop-place.kept now.items)) turn h.kept.among)
+first_kept_dominating-requires-clause-index g c = rw c.deref-in-loop-place.ensures.value c.loop-place.invariant.index
 
 pub loop-place-preserved : goal.loop-place-preserved
 loop-place-preserved g c =
@@ -52,100 +42,67 @@ loop-place-preserved g c =
     let best = c.keep_best_bids.new.bids in
     let now = c.loop-place.atoms in
     let place = c.loop-place.place in
-    let bid = c.index-bid.result.now in
-    let kept = take c.loop-place.kept now.items in
-    let index = c.first_kept_dominating.new.index in
+    let bid = c.index.result.now in
+    let kept = atoms_of goods (take c.loop-place.kept now.items) in
     let there : place < length now.items = omega (arith, c.loop-place-test.true, c.len-place-end.ensures, best.ok.0, h.left.long) in
     let turn = next_turn goods (λ s. (g.met.S.GoodsSet.is_bundle s).0) (atoms_of goods c.args.atoms.items) best.items now.items place bid
-    c.in_ok-keep_best_bids.ensures.best h.left there c.index-bid.ensures in
-    let done = one_done goods best.items now.items place bid h.left there c.index-bid.ensures in
+    c.in_ok-keep_best_bids.ensures.best h.left there c.index.ensures in
+    let done = one_done goods best.items now.items place bid h.left there c.index.ensures in
     let same = c.deref-in-loop-place.ensures.value in
+    let index = c.first_kept_dominating.new.index in
     let found = c.in_ok-found.found in
-    let answer = rw same at c.in_ok-found.ensures.answer in
-    let reaches = ap is_some answer ∙ is_some-first_dominating (atoms_of goods kept) (goods bid.bundle) bid.price
-    ∙ dominates_is bid.price (goods bid.bundle) (atoms_of goods kept) (turn_positive _ _ _ _ turn) in
+    let answer = rw same at c.in_ok-found.ensures.found in
+    let reaches = ap is_some answer ∙ is_some-first_dominating kept (goods bid.bundle) bid.price
+    ∙ dominates_is bid.price (goods bid.bundle) kept (turn_positive _ _ _ _ turn) in
     let indexed = rw same at c.in_ok-found.ensures.index in
     elim c.if-is_none.branch [
       | then-is_none w ↦
           let after = w.move_to_prefix.new.elements in
           let moved = w.move_to_prefix.ensures in
-          let more = one_kept goods now.items after.items c.loop-place.kept place bid c.index-bid.ensures moved.prefix in
+          let more = one_kept goods now.items after.items c.loop-place.kept place bid c.index.ensures moved.prefix in
           rw (w.atoms-is, w.kept-is) (record {
-            left = next_left best.items now.items place bid h.left there c.index-bid.ensures after.items (omega (arith, moved.len, after.ok.0, now.ok.0))
-                moved.rest;
-            index = λ f.
-                rw more
-                (subst (λ b. IsIndexOf (atoms_of goods kept ++ cond b [] (plain_atom goods bid ∷ [])) index) w.if-is_none.ensures (indexed f));
-            kept = rw (done, more) (xor_missed _ _ _ _ (atoms_of goods kept) turn h.kept (sym w.if-is_none.ensures ∙ reaches));
+            left = next_left best.items now.items place bid h.left there c.index.ensures after.items (omega (
+              arith,
+              moved.len,
+              after.ok.0,
+              now.ok.0,
+            )) moved.rest;
+            index = rw more (subst (λ b. IfSome index (IsIndexOf (kept ++ cond b [] (plain_atom goods bid ∷ [])))) w.if-is_none.ensures indexed);
+            kept = rw (done, more) (xor_missed _ _ _ _ kept turn h.kept (sym w.if-is_none.ensures ∙ reaches));
             fewer = omega (arith, h.fewer);
             wanted = c.note.ensures.wanted ∙ h.wanted;
             noted = λ w.
-                rw (done, more) (xor_noted_kept _ _ _ _ (atoms_of goods kept) turn h.kept.among _ _ found (c.in_ok-note.ensures.noted (h.wanted ∙ w)) answer
-                (h.noted w));
+                rw (done, more) (xor_noted_kept _ _ _ _ kept turn h.kept.among _ _ found (c.in_ok-note.ensures.noted (h.wanted ∙ w)) answer (h.noted w));
           })
       | else-is_none w ↦
           rw (w.atoms-is, w.kept-is) (record {
-            left = next_left best.items now.items place bid h.left there c.index-bid.ensures now.items refl refl;
-            index = λ f.
-                subst (λ zs. IsIndexOf zs index) (append-nil (atoms_of goods kept))
-                (subst (λ b. IsIndexOf (atoms_of goods kept ++ cond b [] (plain_atom goods bid ∷ [])) index) w.if-is_none.ensures (indexed f));
-            kept = rw done (xor_reached _ _ _ _ (atoms_of goods kept) turn h.kept (sym w.if-is_none.ensures ∙ reaches));
+            left = next_left best.items now.items place bid h.left there c.index.ensures now.items refl refl;
+            index = subst (λ zs. IfSome index (IsIndexOf zs)) (append-nil kept)
+                (subst (λ b. IfSome index (IsIndexOf (kept ++ cond b [] (plain_atom goods bid ∷ [])))) w.if-is_none.ensures indexed);
+            kept = rw done (xor_reached _ _ _ _ kept turn h.kept (sym w.if-is_none.ensures ∙ reaches));
             fewer = omega (arith, h.fewer);
             wanted = c.note.ensures.wanted ∙ h.wanted;
             noted = λ w.
-                rw done (xor_noted_dropped _ _ _ _ (atoms_of goods kept) turn h.kept.among _ _ found (c.in_ok-note.ensures.noted (h.wanted ∙ w)) answer
-                (h.noted w));
+                rw done (xor_noted_dropped _ _ _ _ kept turn h.kept.among _ _ found (c.in_ok-note.ensures.noted (h.wanted ∙ w)) answer (h.noted w));
           })
     ]
 
-pub returns-clause-fates : goal.returns-clause-fates
-returns-clause-fates g c = λ w n are.
+pub returns : goal.returns
+returns g c =
     let goods = g.S.GoodsSet.goods in
     let bids = atoms_of goods c.args.atoms.items in
     let best = c.keep_best_bids.new.bids in
+    let h = c.loop-place.invariant in
     let all : length best.items ≤ c.loop-place.place = omega (arith, c.loop-place-test.false, c.len-place-end.ensures, best.ok.0) in
-    let done = xor_end goods bids best.items _ _ c.loop-place.place c.in_ok-keep_best_bids.ensures.best c.loop-place.invariant.kept all c.truncate.ensures.items
-    in
-    let on = on_bundles n bids are in
-    noted_all goods xor_fate n bids (xor_points n bids) best.items _ _ c.loop-place.place _ on c.in_ok-keep_best_bids.ensures.best all
-    c.truncate.ensures.items (done.points n (just_bundles n bids on)) (c.loop-place.invariant.noted w)
-
-pub returns-clause-points : goal.returns-clause-points
-returns-clause-points g c =
-    let goods = g.S.GoodsSet.goods in
-    let bids = atoms_of goods c.args.atoms.items in
-    let best = c.keep_best_bids.new.bids in
-    let all : length best.items ≤ c.loop-place.place = omega (arith, c.loop-place-test.false, c.len-place-end.ensures, best.ok.0) in
-    let done = xor_end goods bids best.items _ _ c.loop-place.place c.in_ok-keep_best_bids.ensures.best c.loop-place.invariant.kept all c.truncate.ensures.items
-    in
-    λ n are. done.points n (just_bundles n bids (on_bundles n bids are))
-
-pub returns-clause-values : goal.returns-clause-values
-returns-clause-values g c =
-    let goods = g.S.GoodsSet.goods in
-    let bids = atoms_of goods c.args.atoms.items in
-    let best = c.keep_best_bids.new.bids in
-    let all : length best.items ≤ c.loop-place.place = omega (arith, c.loop-place-test.false, c.len-place-end.ensures, best.ok.0) in
-    let done = xor_end goods bids best.items _ _ c.loop-place.place c.in_ok-keep_best_bids.ensures.best c.loop-place.invariant.kept all c.truncate.ensures.items
-    in
-    done.values
-
-pub returns-clause-bids : goal.returns-clause-bids
-returns-clause-bids g c =
-    let goods = g.S.GoodsSet.goods in
-    let bids = atoms_of goods c.args.atoms.items in
-    let best = c.keep_best_bids.new.bids in
-    let all : length best.items ≤ c.loop-place.place = omega (arith, c.loop-place-test.false, c.len-place-end.ensures, best.ok.0) in
-    let done = xor_end goods bids best.items _ _ c.loop-place.place c.in_ok-keep_best_bids.ensures.best c.loop-place.invariant.kept all c.truncate.ensures.items
-    in
-    done.among
-
-pub returns-clause-in_order : goal.returns-clause-in_order
-returns-clause-in_order g c =
-    let goods = g.S.GoodsSet.goods in
-    let bids = atoms_of goods c.args.atoms.items in
-    let best = c.keep_best_bids.new.bids in
-    let all : length best.items ≤ c.loop-place.place = omega (arith, c.loop-place-test.false, c.len-place-end.ensures, best.ok.0) in
-    let done = xor_end goods bids best.items _ _ c.loop-place.place c.in_ok-keep_best_bids.ensures.best c.loop-place.invariant.kept all c.truncate.ensures.items
-    in
-    done.in_order
+    let done = xor_end goods bids best.items _ _ c.loop-place.place c.in_ok-keep_best_bids.ensures.best h.kept all c.truncate.ensures.items in
+    record {
+      points = λ n are. done.points n (just_bundles n bids (on_bundles n bids are));
+      values = done.values;
+      bids = done.among;
+      in_order = done.in_order;
+      no_longer = search rules;
+      fates = λ w n are.
+          let on = on_bundles n bids are in
+          noted_all goods xor_fate n bids (xor_points n bids) best.items _ _ c.loop-place.place _ on c.in_ok-keep_best_bids.ensures.best all
+          c.truncate.ensures.items (done.points n (just_bundles n bids on)) (h.noted w);
+    }

@@ -1,6 +1,7 @@
--- From the place on the best bids are as they were; what is kept of those before it, the prefix, is as it should be;
+-- `prune_xor_noting`: from the place on the best bids are as they were; what is kept of those before it, the prefix, is as it should be;
 -- and what was noted is what becomes of them, by the prefix.
-use Rattle.std.proofs.Common.{◌≡◌, ◌≤◌, false, true, map, take}
+use Rattle.std.proofs.Common.{◌≡◌, ◌≤◌, true, map, take}
+use Rattle.std.specs.Prelude.{IfSome}
 use Rattle.valuation.specs.Values.{atoms_of}
 use Rattle.prune.specs.Fates.{xor_fate}
 use Rattle.prune.specs.Internal.Listings.{IsIndexOf}
@@ -15,7 +16,7 @@ invariant-loop-place g l =
     let prefix = atoms_of goods (take l.kept l.atoms.items) in
     record {
       left : IsLeft l.initial.atoms.items l.atoms.items l.place;
-      index : l.few ≡ false → IsIndexOf prefix l.index;
+      index : IfSome l.index (IsIndexOf prefix);
       kept : IsXorKept done prefix;
       fewer : l.kept ≤ l.place;
       wanted : l.log.wanted ≡ l.fn.log.wanted;

@@ -1,3 +1,4 @@
+-- `auction_of`
 use Rattle.std.proofs.Common.{◌≡◌, map, take}
 use Rattle.std.specs.List.{range_with_len}
 use Rattle.valuation.specs.Values.{atoms_of}

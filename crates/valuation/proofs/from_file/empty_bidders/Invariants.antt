@@ -1,3 +1,4 @@
+-- `empty_bidders`
 use Rattle.std.proofs.Common.{◌≡◌, [], replicate}
 use Rattle.valuation.specs.Bidders.{bidders_of}
 use Rattle.valuation.proofs.from_file.empty_bidders.Given as goal

@@ -1,3 +1,4 @@
+-- `bound_laws`
 use Rattle.valuation.specs.Lemmas.Bounds.{or_value-all_prices, or_value-rates}
 use Rattle.valuation.proofs.laws.bound_laws.Goals as goal
 

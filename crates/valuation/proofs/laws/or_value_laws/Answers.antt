@@ -1,3 +1,4 @@
+-- `or_value_laws`
 use Rattle.valuation.specs.Lemmas.OrValues.{or_value-grows, or_value-permutation, or_value-parts, or_value-dominated}
 use Rattle.valuation.proofs.laws.or_value_laws.Goals as goal
 

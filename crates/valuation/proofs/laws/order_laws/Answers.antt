@@ -1,3 +1,4 @@
+-- `order_laws`
 use Rattle.valuation.specs.Lemmas.Orders.{atom_cmp_total, atom_cmp_equal, bidder_cmp_total, bidder_cmp_equal}
 use Rattle.valuation.proofs.laws.order_laws.Goals as goal
 

@@ -1,3 +1,4 @@
+-- `packings_are_counted`
 use Rattle.valuation.specs.Lemmas.PackingCounts.{count_packings-packings}
 use Rattle.valuation.proofs.laws.packings_are_counted.Goals as goal
 

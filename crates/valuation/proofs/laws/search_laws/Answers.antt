@@ -1,3 +1,4 @@
+-- `search_laws`
 use Rattle.valuation.specs.Lemmas.SearchSteps.{cut_within_packings, found_indices-packing}
 use Rattle.valuation.proofs.ValueStepsCounted.{value_steps-counted}
 use Rattle.valuation.proofs.laws.search_laws.Goals as goal

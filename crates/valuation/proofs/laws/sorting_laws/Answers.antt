@@ -1,3 +1,4 @@
+-- `sorting_laws`
 use Rattle.valuation.specs.Orders.{bidder_cmp}
 use Rattle.valuation.specs.Lemmas.Orders.{bidder_cmp_total, bidder_cmp_equal}
 use Rattle.valuation.specs.Lemmas.Sorting.{permutation-sort_by, sorted-sort_by, sorted_same}

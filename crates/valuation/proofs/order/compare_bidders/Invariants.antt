@@ -1,3 +1,4 @@
+-- `compare_bidders`
 use Rattle.std.proofs.Common.{◌≡◌, drop}
 use Rattle.valuation.specs.Values.{atoms_of}
 use Rattle.valuation.specs.Orders.{bidder_cmp}

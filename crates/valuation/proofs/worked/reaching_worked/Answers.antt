@@ -1,3 +1,4 @@
+-- `reaching_worked`
 use Rattle.std.proofs.Common.{arith, [], ◌∷◌}
 use Rattle.std.proofs.lemmas.Bool.{both_ways}
 use Rattle.goods_set.specs.Bundles.{has_good}

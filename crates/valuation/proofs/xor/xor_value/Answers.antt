@@ -1,4 +1,4 @@
--- The atoms before i were looked at: see proofs/FirstBestAtoms.
+-- `xor_value`: the atoms before i were looked at: see proofs/FirstBestAtoms.
 use Rattle.std.proofs.Common.{arith, sym, ◌∙◌, ◌≡◌, ◌<◌, ◌⊎◌, inl, inr, None, length}
 use Rattle.std.proofs.lemmas.Bool.{both_ways, ltb-true, ltb-false}
 use Rattle.valuation.specs.Values.{atoms_of}
@@ -7,7 +7,7 @@ use Rattle.valuation.proofs.FirstBestAtoms.{Scanned-take, Scanned-outside, Scann
 use Rattle.valuation.proofs.xor.xor_value.Goals as goal
 use Rattle.valuation.proofs.xor.xor_value.Goals.{then-is_none, else-is_none, then-value-atom+then-is_inside, else-value-atom}
 use Rattle.valuation.proofs.xor.xor_value.Goals.{else-value-atom-via-then-value-atom+else-is_inside, else-value-atom-via-else-value-atom}
-use Rattle.valuation.specs.Conflicts.{atom_at}
+use Rattle.valuation.specs.Packings.{atom_at}
 
 pub loop-i-preserved : goal.loop-i-preserved
 loop-i-preserved g c =

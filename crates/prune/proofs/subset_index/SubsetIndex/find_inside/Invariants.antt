@@ -1,3 +1,4 @@
+-- `SubsetIndex::find_inside`
 use Rattle.valuation.specs.Values.{atoms_of}
 use Rattle.prune.specs.Internal.Listings.{lists_of}
 use Rattle.prune.proofs.ListedAtoms.{IsFinding, behind_first}

@@ -1,3 +1,4 @@
+-- `SubsetIndex::keep`
 use Rattle.std.proofs.Common.{ap, ◌∙◌}
 use Rattle.goods_set.specs.Bundles.{has_good}
 use Rattle.prune.specs.Internal.Listings.{lists_of}

@@ -1,4 +1,4 @@
--- So many atoms are listed.
+-- `SubsetIndex::list_below`: so many atoms are listed.
 use Rattle.std.proofs.Common.{◌-◌, length}
 use Rattle.valuation.specs.Values.{atoms_of}
 use Rattle.prune.specs.Internal.Listings.{IsIndexOf}

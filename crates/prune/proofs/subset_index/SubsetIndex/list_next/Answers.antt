@@ -1,3 +1,4 @@
+-- `SubsetIndex::list_next`
 use Rattle.std.proofs.Common.{arith, refl, ◌≡◌, ◌++◌, ◌<◌, ℕ, length, get_or, sym, ap, ◌∙◌, subst, set, List, [], ◌∷◌, true}
 use Rattle.std.proofs.lemmas.Grind.{get_or_default_zero}
 use Rattle.goods_set.specs.Bundles.{has_good}
@@ -5,7 +6,7 @@ use Rattle.goods_set.specs.Fingerprints.{AreMarks}
 use Rattle.valuation.specs.Values.{atoms_of, plain_atom}
 use Rattle.valuation.specs.Lemmas.Atoms.{length-atoms_of, get_or-atoms_of}
 use Rattle.valuation.specs.declared.atom.Atom.{Atom}
-use Rattle.prune.specs.declared.posting.Posting.{Posting}
+use Rattle.prune.specs.declared.subset_index.Posting.{Posting}
 use Rattle.std.specs.Global.{Vec}
 use Rattle.prune.specs.Internal.Listings.{lists_of, listed_at, AreGoodsOf}
 use Rattle.prune.proofs.ListedAtoms.{AreListed-more, bundle_there}

@@ -1,4 +1,4 @@
--- The lists that are added are empty.
+-- `SubsetIndex::list_next`: the lists that are added are empty.
 use Rattle.std.proofs.Common.{◌≡◌, ℕ, ◌+◌, ◌-◌, vec_len}
 use Rattle.prune.specs.Internal.Listings.{lists_of, listed_at}
 use Rattle.prune.proofs.subset_index.SubsetIndex.list_next.Given as goal

@@ -1,4 +1,4 @@
--- The first good from the number of goods on is there exactly where the bundle is not below that number.
+-- `Atom::keeps_limits`: the first good from the number of goods on is there exactly where the bundle is not below that number.
 use Rattle.std.proofs.Common.{arith, ◌≡◌, ℕ, ◌<◌, ◌≤◌, List, Some, None, ⊎_elim, sym, ap, ◌∙◌}
 use Rattle.std.proofs.lemmas.Bool.{both_ways, cases_lt, ltb-true, lt-ltb}
 use Rattle.goods_set.specs.Bundles.{IsRising, AreBelow, has_good, good_from}

@@ -1,7 +1,7 @@
--- The good chosen so far is one of them.
+-- `rarest`: the good chosen so far is one of them.
 use Rattle.std.proofs.Common.{◌≡◌, true}
 use Rattle.goods_set.specs.Bundles.{has_good}
-use Rattle.prune.proofs.commonness.Commonness.rarest.Given as goal
+use Rattle.prune.proofs.commonness.rarest.Given as goal
 
 abbrev pub invariant-loop-good : goal.invariant-loop-good
 invariant-loop-good l = has_good l.goods l.best ≡ true
