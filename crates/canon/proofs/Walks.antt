@@ -3,4 +3,5 @@ pub mod BidRuns
 pub mod BidOrders
 pub mod SplitBidders
 pub mod BidderWalks
+pub mod PriceWalks
 pub mod OrWalks

@@ -56,8 +56,3 @@ pub record IsNormalFileOf (options : SearchOptions) (text : List ℕ) (h : Plain
 abbrev pub ReadsNormalAs : SearchOptions → List ℕ → Result PlainFile CanonFault → Type 0
 ReadsNormalAs options text (Ok h) = IsNormalFileOf options text h
 ReadsNormalAs options text (Err fault) = RefusesText options text fault
-
--- the same, of the text that a refusal names
-abbrev pub ReadsOneAs : Which → SearchOptions → List ℕ → Result PlainFile (Which × CanonFault) → Type 0
-ReadsOneAs which options text (Ok h) = IsNormalFileOf options text h
-ReadsOneAs which options text (Err refusal) = (refusal.0 ≡ which) × RefusesText options text refusal.1

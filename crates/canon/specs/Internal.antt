@@ -5,4 +5,5 @@ pub mod BidderKeys
 pub mod Fates
 pub mod KeyedBidders
 pub mod OrBids
+pub mod PriceWalks
 pub mod TextPlaces

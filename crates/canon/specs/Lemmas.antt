@@ -2,5 +2,7 @@
 pub mod Renaming
 pub mod Finding
 pub mod OrDifferences
+pub mod PriceChanges
+pub mod FirstChanges
 pub mod BidderDifferences
 pub mod CanonicalOrders

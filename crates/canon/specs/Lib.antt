@@ -10,6 +10,7 @@ pub mod Refusals
 pub mod Examples
 pub mod Bidders
 pub mod Difference
+pub mod PriceChanges
 pub mod Verdicts
 pub mod Comparing
 pub mod FirstPlaces

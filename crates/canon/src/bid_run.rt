@@ -1,6 +1,6 @@
 //! Adjacent bids of a file. The walks that compare two files use them.
 
-ghost use Rattle.std.specs.Prelude.{◌≡◌, ◌<◌, ◌≤◌, length, take, drop, slice_get, Some};
+ghost use Rattle.std.specs.Prelude.{◌≡◌, ◌<◌, ◌≤◌, ◌∷◌, [], MatchOption, length, take, drop, slice_get, Some};
 ghost use Rattle.bid_file.specs.Files.{IsPlainFile};
 ghost use Rattle.bid_file.specs.Views.{seen_bid};
 ghost use Rattle.canon.specs.Internal.BidderBids.{leading};
@@ -56,6 +56,16 @@ impl<'a, B: Bids> BidRun<'a, B> {
         ensures { slice_get self.now index ≡ Some (seen_bid result) }
     {
         self.file.at(self.first + index)
+    }
+
+    /// The first one, if there is one.
+    pub(crate) fn first(&self) -> Option<BidRef<'a>>
+        ensures { MatchOption result (self.now ≡ []) (λ first. self.now ≡ seen_bid first ∷ drop 1 self.now) }
+    {
+        if self.len() == 0 {
+            return None;
+        }
+        Some(self.at(0))
     }
 
     /// The bids before an index.

@@ -1,30 +1,27 @@
 //! The first difference of two files or texts. If there is none, they are the same auction.
 
-ghost use Rattle.std.specs.Prelude.{◌≡◌, ◌↔◌, ◌≤◌, length, IfOk, IfErr, OnErr};
+ghost use Rattle.std.specs.Prelude.{◌≡◌, ◌↔◌, ◌≤◌, length, IfOk, OnErr};
 ghost use Rattle.bid_file.specs.Files.{IsPlainFile};
 ghost use Rattle.bid_file.specs.declared.limits.TheConstants.{MAX_BIDS};
 ghost use Rattle.valuation.specs.Auctions.{auction_from};
 ghost use Rattle.valuation.specs.SearchLimits.{plain_options};
 ghost use Rattle.canon.specs.Canonical.{IsCanonicalFile};
-ghost use Rattle.canon.specs.Comparing.{ComparesAs, ReadsNormalAs, ReadsOneAs};
+ghost use Rattle.canon.specs.Comparing.{ComparesAs};
 ghost use Rattle.canon.specs.Difference.{first_difference};
 ghost use Rattle.canon.specs.Internal.BidderBids.{HasBidders};
 ghost use Rattle.canon.specs.Internal.OrBids.{HasOrBids};
 ghost use Rattle.canon.specs.Sameness.{AreSameFiles, AreSameTexts};
 ghost use Rattle.canon.specs.Verdicts.{NamesGoods, plain_verdict};
-ghost use Rattle.canon.specs.declared.canon_fault.CanonFault.TheVariants.{Memory};
 ghost use Rattle.canon.specs.declared.verdict.Verdict.TheVariants.{Same};
-ghost use Rattle.canon.specs.declared.which.Which.TheVariants.{First, Second, Both};
 
 use crate::bid_run::BidRun;
 use crate::bundles::bundle_verdict;
 use crate::canon_fault::CanonFault;
-use crate::normal::normal_packed_file;
+use crate::normal_text::read_normal;
 use crate::verdict::Verdict;
 use crate::which::Which;
 use crate::xor_bidders::bidder_verdict;
-use bid_file::{Bids, PackedFile};
-use cats_text::read_packed;
+use bid_file::Bids;
 use std::alloc::{AllocError, Global};
 use valuation::SearchOptions;
 
@@ -40,9 +37,9 @@ pub fn compare(
     ensures same { IfOk result (λ verdict. verdict ≡ Same ↔ AreSameTexts left.now right.now) }
 {
     let options = SearchOptions::plain(limit);
-    let first = read_first(alloc, left, options)?;
-    let second = read_second(alloc, right, options)?;
-    compare_read(alloc, &first, &second)
+    let first = read_normal(alloc, left, options).map_err(|fault| (Which::First, fault))?;
+    let second = read_normal(alloc, right, options).map_err(|fault| (Which::Second, fault))?;
+    compare_files(alloc, &first, &second).map_err(|_| (Which::Both, CanonFault::Memory))
 }
 
 /// The first difference of the auctions of two canonical files, of bids that lie in memory in any way. Only the goods
@@ -79,61 +76,4 @@ pub(crate) fn split_bids<B: Bids>(file: &B) -> (BidRun<'_, B>, BidRun<'_, B>)
     let bids = BidRun::all(file);
     let count = bids.count_leading(None);
     (bids.up_to(count), bids.from(count))
-}
-
-/// The first difference of two canonical files. If memory is refused, both files are refused.
-fn compare_read(
-    alloc: Global,
-    first: &PackedFile,
-    second: &PackedFile,
-) -> Result<Verdict, (Which, CanonFault)>
-    requires first_canonical { IsCanonicalFile first.now }
-    requires second_canonical { IsCanonicalFile second.now }
-    ensures difference { IfOk result (λ verdict. plain_verdict verdict
-        ≡ first_difference (auction_from first.now) (auction_from second.now)) }
-    ensures same { IfOk result (λ verdict. verdict ≡ Same ↔ AreSameFiles first.now second.now) }
-    ensures both { IfErr result (λ refusal. (refusal.0 ≡ Both) × (refusal.1 ≡ Memory)) }
-    ensures memory { let difference = first_difference (auction_from first.now) (auction_from second.now) in
-        OnErr result (NamesGoods difference) }
-{
-    match compare_files(alloc, first, second) {
-        Ok(verdict) => Ok(verdict),
-        Err(_) => Err((Which::Both, CanonFault::Memory)),
-    }
-}
-
-/// The canonical file of the first text's file. A refusal is one of the first.
-fn read_first(
-    alloc: Global,
-    text: &[u8],
-    options: SearchOptions,
-) -> Result<PackedFile, (Which, CanonFault)>
-    ensures { ReadsOneAs First options text.now result }
-{
-    match read_normal(alloc, text, options) {
-        Ok(file) => Ok(file),
-        Err(fault) => Err((Which::First, fault)),
-    }
-}
-
-/// The canonical file of the second text's file. A refusal is one of the second.
-fn read_second(
-    alloc: Global,
-    text: &[u8],
-    options: SearchOptions,
-) -> Result<PackedFile, (Which, CanonFault)>
-    ensures { ReadsOneAs Second options text.now result }
-{
-    match read_normal(alloc, text, options) {
-        Ok(file) => Ok(file),
-        Err(fault) => Err((Which::Second, fault)),
-    }
-}
-
-/// The canonical file of the file that a text spells.
-fn read_normal(alloc: Global, text: &[u8], options: SearchOptions) -> Result<PackedFile, CanonFault>
-    ensures { ReadsNormalAs options text.now result }
-{
-    let file = read_packed(alloc, text)?;
-    normal_packed_file(alloc, file, options)
 }

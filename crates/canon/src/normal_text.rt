@@ -6,11 +6,13 @@ ghost use Rattle.cats_text.specs.Grammar.{Spells};
 ghost use Rattle.valuation.specs.SearchLimits.{plain_options};
 ghost use Rattle.canon.specs.Answers.{NormalisesTextAs};
 ghost use Rattle.canon.specs.Canonical.{canonical_text};
+ghost use Rattle.canon.specs.Comparing.{ReadsNormalAs};
 ghost use Rattle.canon.specs.Normalising.{IsText, Normalises};
 ghost use Rattle.canon.specs.Sameness.{AreSameFiles};
 
 use crate::canon_fault::CanonFault;
 use crate::normal::normal_packed_file;
+use bid_file::PackedFile;
 use cats_text::{read_packed, write};
 use std::alloc::Global;
 use valuation::SearchOptions;
@@ -24,7 +26,18 @@ pub fn normalise(alloc: Global, text: &[u8], limit: u64) -> Result<Vec<u8>, Cano
         → (out.items ≡ canonical_text g ↔ AreSameFiles f g)) }
     ensures again { IfOk result (λ out. Normalises (plain_options limit) out.items (IsText out.items)) }
 {
-    let file = read_packed(alloc, text)?;
-    let normal = normal_packed_file(alloc, file, SearchOptions::plain(limit))?;
+    let normal = read_normal(alloc, text, SearchOptions::plain(limit))?;
     Ok(write(alloc, &normal)?)
+}
+
+/// The canonical file of the file that a text spells.
+pub(crate) fn read_normal(
+    alloc: Global,
+    text: &[u8],
+    options: SearchOptions,
+) -> Result<PackedFile, CanonFault>
+    ensures { ReadsNormalAs options text.now result }
+{
+    let file = read_packed(alloc, text)?;
+    normal_packed_file(alloc, file, options)
 }

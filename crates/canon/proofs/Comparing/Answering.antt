@@ -1,7 +1,6 @@
 -- What the calls answer, from what the calls below them answered: each kind of answer of one is, by the definitions, one of the other.
-use Rattle.std.proofs.Common.{◌≡◌, ℕ, ◌⊎◌, inl, inr, true, List, Option, Some, None, Result, Ok, Err, refl, sym, ap, ◌∙◌, subst, Global, IfSome}
-use Rattle.std.specs.Prelude.{IsErrAnd}
-use Rattle.std.specs.Prelude.{Vec, ◌↔◌}
+use Rattle.std.proofs.Common.{◌≡◌, ℕ, ◌⊎◌, inl, inr, true, List, Option, Some, None, refl, sym, ap, ◌∙◌, subst, IfSome}
+use Rattle.std.specs.Prelude.{◌↔◌}
 use Rattle.bid_file.specs.Files.{PlainFile, IsPlainFile}
 use Rattle.cats_text.specs.Grammar.{Spells}
 use Rattle.cats_text.specs.Layout.{layout}
@@ -14,7 +13,7 @@ use Rattle.cats_text.proofs.Texts.FaultKinds.{IsFound, first_fault-found}
 use Rattle.cats_text.proofs.Spelling.Files.{spells_one}
 use Rattle.valuation.specs.Auctions.{PlainAuction, auction_from, or_atoms_of}
 use Rattle.valuation.specs.declared.search_options.SearchOptions.{SearchOptions}
-use Rattle.canon.specs.Answers.{RefusesAs, RefusesText, NormalisesTextAs, RefusesAuction, IsNormalFile}
+use Rattle.canon.specs.Answers.{RefusesAs, RefusesText, RefusesAuction, IsNormalFile}
 use Rattle.canon.specs.Canonical.{IsCanonical, IsCanonicalFile, canonical_auction, canonical_text, file_from}
 use Rattle.canon.specs.Least.{IsLeastFor}
 use Rattle.canon.specs.Normalising.{IsNoFile, IsText, Normalises, unless_refused, normalised_file}
@@ -51,11 +50,6 @@ unread_text options text why h = by why.kind refl h
     by NoMemory e (inr wants) = inl wants.1
     by kind e (inl first) = first
     by kind e (inr wants) = let none = sym e ∙ ap (λ (w : ReadFault). w.kind) wants.0 in absurd (cc)
-
-pub unread_answer : (options : SearchOptions) (text : List ℕ) (why : ReadFault) → (first_fault text ≡ Some why) ⊎ WantsMemory text why
-    → (r : Result (Vec ℕ Global) CanonFault) → IsErrAnd r (λ fault. fault ≡ refusal_of why) → NormalisesTextAs options text r
-unread_answer options text why h (Ok out) is = absurd is
-unread_answer options text why h (Err fault) is = subst (RefusesText options text) (sym is) (unread_text options text why h)
 
 -- a text that spells a file is answered as the file is
 module _ (options : SearchOptions) (text : List ℕ) (f : PlainFile) (s : Spells text f) where

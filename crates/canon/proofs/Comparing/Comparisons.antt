@@ -33,7 +33,7 @@ use Rattle.canon.specs.declared.canon_fault.CanonFault.TheVariants.{Memory}
 use Rattle.canon.specs.declared.verdict.Verdict.{Verdict}
 use Rattle.canon.specs.declared.verdict.Verdict.TheVariants.{Same, Goods, Or, Xor}
 use Rattle.canon.specs.declared.which.Which.{Which}
-use Rattle.canon.specs.declared.which.Which.TheVariants.{First, Second, Both}
+use Rattle.canon.specs.declared.which.Which.TheVariants.{Both}
 use Rattle.canon.proofs.Comparing.Answering.{refused_file, refused_text, unread_text}
 use Rattle.canon.proofs.Comparing.Differences.{at_same_goods, same_from_no_difference, no_difference_from_same}
 use Rattle.canon.proofs.CanonicalFiles.Files.{auction_from-file_from}
@@ -128,6 +128,10 @@ pub normal_unread : (options : SearchOptions) (text : List ℕ) (why : ReadFault
 normal_unread options text why h (Ok file) is = absurd is
 normal_unread options text why h (Err fault) is = subst (RefusesText options text) (sym is) (unread_text options text why h)
 
+pub normal_of : (options : SearchOptions) (text : List ℕ) (r : Result PlainFile CanonFault) (h : PlainFile) → ReadsNormalAs options text r → r ≡ Ok h
+    → IsNormalFileOf options text h
+normal_of options text r h n e = subst (ReadsNormalAs options text) e n
+
 module _ (options : SearchOptions) (text : List ℕ) (h : PlainFile) (n : IsNormalFileOf options text h) where
   pub text_within_limit : SpellsWithinLimit options text
   text_within_limit = record { file = n.file; spelled = n.spelled; within_limit = n.normal.within_limit }
@@ -190,28 +194,6 @@ module _ (options : SearchOptions) (one other : List ℕ) (h k : PlainFile) (n :
       → IfOk r (λ verdict. verdict ≡ Same ↔ AreSameTexts one other)
   same_by_texts r e = IfOk-weaker r (λ verdict. verdict ≡ Same ↔ AreSameFiles h k) (λ verdict. verdict ≡ Same ↔ AreSameTexts one other)
       (λ v same. (λ p. same_texts (same.0 p), λ t. same.1 (same_files t))) e
-
--- ---- one text has none
-
-module _ (options : SearchOptions) (one other : List ℕ) where
-  first_of : (refusal : Which × CanonFault) → (refusal.0 ≡ First) × RefusesText options one refusal.1 → RefusesOf options one other refusal.0 refusal.1
-  first_of (which, fault) e = subst (λ (w : Which). RefusesOf options one other w fault) (sym e.0) e.1
-
-  second_of : SpellsWithinLimit options one → (refusal : Which × CanonFault) → (refusal.0 ≡ Second) × RefusesText options other refusal.1
-      → RefusesOf options one other refusal.0 refusal.1
-  second_of within_limit (which, fault) e = subst (λ (w : Which). RefusesOf options one other w fault) (sym e.0) (within_limit, e.1)
-
-  pub first_refused : (refusal : Which × CanonFault) → (refusal.0 ≡ First) × RefusesText options one refusal.1
-      → (r : Result Verdict (Which × CanonFault)) → IsErrAnd r (λ why. why ≡ refusal) → ComparesAs options one other r
-  first_refused refusal e (Ok verdict) is = absurd is
-  first_refused refusal e (Err why) is = subst (λ (t : Which × CanonFault). RefusesOf options one other t.0 t.1) (sym is) (first_of refusal e)
-
-  pub second_refused : (h : PlainFile) → IsNormalFileOf options one h → (refusal : Which × CanonFault)
-      → (refusal.0 ≡ Second) × RefusesText options other refusal.1
-      → (r : Result Verdict (Which × CanonFault)) → IsErrAnd r (λ why. why ≡ refusal) → ComparesAs options one other r
-  second_refused h n refusal e (Ok verdict) is = absurd is
-  second_refused h n refusal e (Err why) is =
-      subst (λ (t : Which × CanonFault). RefusesOf options one other t.0 t.1) (sym is) (second_of (text_within_limit options one h n) refusal e)
 
 -- ---- the walk over two files
 

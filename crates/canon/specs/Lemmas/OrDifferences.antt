@@ -1,26 +1,24 @@
--- The first bundle on which the OR values differ, of any two OR bidders, and of two lists of points that part at some place.
-use Rattle.std.proofs.Common.{◌≡◌, ℕ, ◌+◌, ◌<◌, ◌≤◌, Bool, true, false, not, eqb, ⊎_elim, List, [], ◌∷◌, ◌++◌, refl, sym, ap, ◌∙◌, subst, arith, Some, Less}
+-- The first bundle on which the OR values of two OR bidders differ.
+use Rattle.std.proofs.Common.{◌≡◌, ℕ, ◌+◌, ◌<◌, ◌≤◌, Bool, true, false, not, eqb, ⊎_elim, List, refl, sym, ap, ◌∙◌, subst, arith, Some, Less}
 use Rattle.std.specs.Prelude.{All, Contains}
-use Rattle.std.specs.List.{filter, find}
-use Rattle.std.proofs.lemmas.Bool.{cases_Bool, both_ways, eqb-true, eqb-false, eq-eqb, ne_eqb, not_from_true, not_from_false, false_from_ne_true}
-use Rattle.std.proofs.lemmas.List.{append-nil}
-use Rattle.std.proofs.lemmas.List.Elements.{All-contains, Contains-append_cases, Contains-append_right, filter-append}
-use Rattle.goods_set.specs.Bundles.{IsRising, IsBundle, is_inside, without, all_bundles}
+use Rattle.std.specs.List.{find}
+use Rattle.std.proofs.lemmas.Bool.{cases_Bool, both_ways, eqb-true, eqb-false, eq-eqb, ne_eqb, not_from_true, not_from_false}
+use Rattle.std.proofs.lemmas.List.Elements.{All-contains}
+use Rattle.goods_set.specs.Bundles.{IsBundle, is_inside, without, all_bundles}
 use Rattle.goods_set.specs.Lemmas.Members.{inside_refl, without_inside, IsBundle-without}
 use Rattle.goods_set.specs.Orders.{bundle_cmp}
-use Rattle.goods_set.specs.Lemmas.Orders.{bundle_cmp_total, inside_before}
+use Rattle.goods_set.specs.Lemmas.Orders.{inside_before}
 use Rattle.goods_set.specs.Lemmas.AllBundles.{all_bundles_are, all_bundles_has, all_bundles_rise}
 use Rattle.valuation.specs.declared.atom.Atom.{Atom}
 use Rattle.valuation.specs.Values.{or_value}
-use Rattle.valuation.specs.Lemmas.Lists.{Contains-cons_cases, AllPairs-head, AllPairs-tail}
-use Rattle.valuation.specs.Lemmas.OrValues.{or_value-split, or_value-filter}
-use Rattle.prune.specs.InOrder.{IsBefore, IsInOrder}
-use Rattle.prune.specs.Lemmas.InOrder.{before_itself, before_both, before_not_inside}
+use Rattle.valuation.specs.Lemmas.OrValues.{or_value-split}
+use Rattle.prune.specs.InOrder.{IsInOrder}
+use Rattle.prune.specs.Lemmas.InOrder.{before_both}
 use Rattle.prune.specs.Lemmas.KeptBids.{all_nonempty, left_is_proper}
-use Rattle.prune.specs.Lemmas.Lists.{Contains-nil, Contains-head, nil_from_none, Contains-filter_parts, filter_same_on, find_alike, All-from_Contains}
+use Rattle.prune.specs.Lemmas.Lists.{filter_same_on, find_alike, All-from_Contains}
 use Rattle.prune.specs.Lemmas.OnBundles.{IsOnBundle}
 use Rattle.prune.specs.Points.{is_or_point, or_points, IsPart, IsOrPoint}
-use Rattle.prune.specs.Lemmas.Points.{IsOrPoint-from_test, is_or_point-true, no_or_point, inside_below, points_where-in_order, or_points_are}
+use Rattle.prune.specs.Lemmas.Points.{IsOrPoint-from_test, no_or_point, inside_below, points_where-in_order, or_points_are}
 use Rattle.canon.specs.Lemmas.Finding.{found_first, find_it}
 
 -- whether the values on the bundle differ
@@ -136,32 +134,7 @@ module _ (goods : ℕ) where
       omega arith)
       (no_or_point goods other bundle t)
 
-  -- ---- lists of points that part at some place
-
-  pub suffix_in_order : (prefix rest : List (Atom (List ℕ))) → IsInOrder (prefix ++ rest) → IsInOrder rest
-  suffix_in_order [] rest s = s
-  suffix_in_order (a ∷ prefix) rest s = suffix_in_order prefix rest (AllPairs-tail IsBefore a (prefix ++ rest) s)
-
-  prefix_before : (prefix rest : List (Atom (List ℕ))) → IsInOrder (prefix ++ rest) → (a b : Atom (List ℕ)) → Contains prefix a → Contains rest b → IsBefore a b
-  prefix_before [] rest s a b c d = absurd (Contains-nil a c)
-  prefix_before (z ∷ prefix) rest s a b c d =
-      ⊎_elim (λ (e : z ≡ a). subst (λ w. IsBefore w b) e (All-contains (IsBefore z) (prefix ++ rest) b (AllPairs-head IsBefore z (prefix ++ rest) s)
-      (Contains-append_right prefix rest b d)))
-      (λ (e : Contains prefix a). prefix_before prefix rest (AllPairs-tail IsBefore z (prefix ++ rest) s) a b e d)
-      (Contains-cons_cases z prefix a c)
-
-  -- atoms behind a bundle do not matter for it
-  value_of_prefix : (prefix rest : List (Atom (List ℕ))) (bundle : List ℕ) → IsRising bundle
-      → ((a : Atom (List ℕ)) → Contains rest a → IsRising a.bundle × (bundle_cmp bundle a.bundle ≡ Less))
-      → or_value (prefix ++ rest) bundle ≡ or_value prefix bundle
-  value_of_prefix prefix rest bundle r h =
-      let p : Atom (List ℕ) → Bool = λ a. is_inside a.bundle bundle in
-      let none : filter p rest ≡ [] = nil_from_none (filter p rest) (λ a c. let q = Contains-filter_parts p rest a c in let k = h a q.0 in
-      before_not_inside bundle a.bundle r k.0 k.1 q.1) in
-      sym (or_value-filter p (prefix ++ rest) bundle (λ a i. i))
-      ∙ ap (λ (zs : List (Atom (List ℕ))). or_value zs bundle) (filter-append p prefix rest ∙ ap (λ (zs : List (Atom (List ℕ))). filter p prefix ++ zs) none
-      ∙ append-nil (filter p prefix))
-      ∙ or_value-filter p prefix bundle (λ a i. i)
+  -- ---- lists of points
 
   -- the OR points of some bidder
   pub record ArePoints (atoms : List (Atom (List ℕ))) : Type 0 where
@@ -182,93 +155,3 @@ module _ (goods : ℕ) where
   point_of atoms p bundle b t =
       subst (λ (zs : List (Atom (List ℕ))). Contains zs (record { bundle = bundle; price = or_value atoms bundle })) p.points
       ((or_points_are goods atoms (record { bundle = bundle; price = or_value atoms bundle })).1 (b, IsOrPoint-from_test goods atoms bundle b t, refl))
-
-  module _ (prefix : List (Atom (List ℕ))) (x : Atom (List ℕ)) (xs : List (Atom (List ℕ))) (left : ArePoints (prefix ++ (x ∷ xs))) where
-    x_there : Contains (prefix ++ (x ∷ xs)) x
-    x_there = Contains-append_right prefix (x ∷ xs) x (Contains-head x xs)
-
-    -- the values before the bundle of the place are those of the prefix
-    before_place : (earlier : List ℕ) → IsBundle goods earlier → bundle_cmp earlier x.bundle ≡ Less
-        → or_value (prefix ++ (x ∷ xs)) earlier ≡ or_value prefix earlier
-    before_place earlier b l =
-        value_of_prefix prefix (x ∷ xs) earlier b.0 (λ a c. (
-          (All-contains (IsOnBundle goods) (prefix ++ (x ∷ xs)) a left.on (Contains-append_right prefix (x ∷ xs) a c)).bundle.0,
-          ⊎_elim (λ (d : x ≡ a). subst (λ (z : Atom (List ℕ)). bundle_cmp earlier z.bundle ≡ Less) d l)
-              (λ (d : Contains xs a). bundle_cmp_total.trans earlier x.bundle a.bundle l
-              (All-contains (IsBefore x) xs a (AllPairs-head IsBefore x xs (suffix_in_order prefix (x ∷ xs) (in_order (prefix ++ (x ∷ xs)) left))) d))
-              (Contains-cons_cases x xs a c),
-        ))
-
-    -- the other list goes on behind the bundle, or ends
-    module _ (ys : List (Atom (List ℕ))) (right : ArePoints (prefix ++ ys)) (later : (y : Atom (List ℕ)) → Contains ys y → IsBefore x y) where
-      pub record IsLeftPoint : Type 0 where
-        pub found : find (are_unequal (prefix ++ (x ∷ xs)) (prefix ++ ys)) (all_bundles goods) ≡ Some x.bundle
-        pub point : is_or_point goods (prefix ++ (x ∷ xs)) x.bundle ≡ true
-        pub price : or_value (prefix ++ (x ∷ xs)) x.bundle ≡ x.price
-        pub no_point : is_or_point goods (prefix ++ ys) x.bundle ≡ false
-
-      agree_left : AgreeBefore (prefix ++ (x ∷ xs)) (prefix ++ ys) x.bundle
-      agree_left = record {
-        agree = λ earlier b l. before_place earlier b l ∙ sym (value_of_prefix prefix ys earlier b.0 (λ a c. (
-          (All-contains (IsOnBundle goods) (prefix ++ ys) a right.on (Contains-append_right prefix ys a c)).bundle.0,
-          bundle_cmp_total.trans earlier x.bundle a.bundle l (later a c),
-        )));
-      }
-
-      none_on_right : is_or_point goods (prefix ++ ys) x.bundle ≡ false
-      none_on_right =
-          false_from_ne_true (is_or_point goods (prefix ++ ys) x.bundle) (λ t.
-          let p : Atom (List ℕ) = record { bundle = x.bundle; price = or_value (prefix ++ ys) x.bundle } in
-          let c = point_of (prefix ++ ys) right x.bundle (point_there (prefix ++ (x ∷ xs)) left x x_there).0 t in
-          ⊎_elim (λ (d : Contains prefix p). before_itself x.bundle
-          (prefix_before prefix (x ∷ xs) (in_order (prefix ++ (x ∷ xs)) left) p x d (Contains-head x xs)))
-          (λ (d : Contains ys p). before_itself x.bundle (later p d))
-          (Contains-append_cases prefix ys p c))
-
-      pub parts_at_left : IsLeftPoint
-      parts_at_left =
-          let point = point_there (prefix ++ (x ∷ xs)) left x x_there in
-          let less = less_without_point (prefix ++ (x ∷ xs)) (prefix ++ ys) x.bundle point.0 agree_left point.1 none_on_right in
-          record {
-            found = first_unequal_found (prefix ++ (x ∷ xs)) (prefix ++ ys) x.bundle (record {
-              within = point.0;
-              earlier = agree_left;
-              differ = λ e. omega arith;
-            });
-            point = is_or_point-true goods (prefix ++ (x ∷ xs)) x.bundle point.1;
-            price = sym point.2;
-            no_point = none_on_right;
-          }
-
-    -- the other list has another price there
-    module _ (y : Atom (List ℕ)) (ys : List (Atom (List ℕ))) (right : ArePoints (prefix ++ (y ∷ ys))) (same : x.bundle ≡ y.bundle)
-        (differ : x.price ≡ y.price → ⊥) where
-      pub record AreBothPoints : Type 0 where
-        pub found : find (are_unequal (prefix ++ (x ∷ xs)) (prefix ++ (y ∷ ys))) (all_bundles goods) ≡ Some x.bundle
-        pub left_point : is_or_point goods (prefix ++ (x ∷ xs)) x.bundle ≡ true
-        pub left_price : or_value (prefix ++ (x ∷ xs)) x.bundle ≡ x.price
-        pub right_point : is_or_point goods (prefix ++ (y ∷ ys)) x.bundle ≡ true
-        pub right_price : or_value (prefix ++ (y ∷ ys)) x.bundle ≡ y.price
-
-  pub both_at : (prefix : List (Atom (List ℕ))) (x : Atom (List ℕ)) (xs : List (Atom (List ℕ))) (left : ArePoints (prefix ++ (x ∷ xs))) (y : Atom (List ℕ))
-      (ys : List (Atom (List ℕ))) (right : ArePoints (prefix ++ (y ∷ ys))) (same : x.bundle ≡ y.bundle) (differ : x.price ≡ y.price → ⊥)
-      → AreBothPoints prefix x xs left y ys right same differ
-  both_at prefix x xs left y ys right same differ =
-      let mine = point_there (prefix ++ (x ∷ xs)) left x (x_there prefix x xs left) in
-      let other = point_there (prefix ++ (y ∷ ys)) right y (x_there prefix y ys right) in
-      let price : y.price ≡ or_value (prefix ++ (y ∷ ys)) x.bundle = other.2 ∙ ap (or_value (prefix ++ (y ∷ ys))) (sym same) in
-      let there : IsOrPoint (prefix ++ (y ∷ ys)) x.bundle = subst (λ (b : List ℕ). IsOrPoint (prefix ++ (y ∷ ys)) b) (sym same) other.1 in
-      record {
-        found = first_unequal_found (prefix ++ (x ∷ xs)) (prefix ++ (y ∷ ys)) x.bundle (record {
-          within = mine.0;
-          earlier = record {
-            agree = λ earlier b l. before_place prefix x xs left earlier b l
-                ∙ sym (before_place prefix y ys right earlier b (subst (λ (b : List ℕ). bundle_cmp earlier b ≡ Less) same l));
-          };
-          differ = λ e. differ (mine.2 ∙ e ∙ sym price);
-        });
-        left_point = is_or_point-true goods (prefix ++ (x ∷ xs)) x.bundle mine.1;
-        left_price = sym mine.2;
-        right_point = is_or_point-true goods (prefix ++ (y ∷ ys)) x.bundle there;
-        right_price = sym price;
-      }

@@ -1,4 +1,4 @@
--- Plain searches refuse at the first heavy bundle.
+-- `canonical`: plain searches refuse at the first heavy bundle.
 use Rattle.std.proofs.Common.{◌≡◌, None, Some, Result, Ok, Err, sym, subst, ◌∙◌}
 use Rattle.std.specs.Prelude.{IfErr, IsErrAnd}
 use Rattle.valuation.specs.declared.search_options.SearchOptions.{SearchOptions}

@@ -1,4 +1,4 @@
--- The bidders are put in order with their numbers, which does not change the order of their atoms.
+-- `canonical_bidders`: the bidders are put in order with their numbers, which does not change the order of their atoms.
 use Rattle.std.proofs.Common.{ℕ, List, map, ap, ◌∙◌, Global}
 use Rattle.std.specs.Prelude.{Option, Vec}
 use Rattle.valuation.specs.Bidders.{bidders_of}

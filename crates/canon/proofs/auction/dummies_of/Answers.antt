@@ -1,3 +1,4 @@
+-- `dummies_of`
 use Rattle.std.proofs.Common.{◌++◌, ◌∷◌, [], ◌∙◌, ap, sym, arith}
 use Rattle.std.proofs.lemmas.Simd.{map-map}
 use Rattle.canon.specs.declared.keyed_bidder.KeyedBidder.{KeyedBidder}

@@ -1,3 +1,4 @@
+-- `dummies_of`
 use Rattle.std.proofs.Common.{◌≡◌, map, take}
 use Rattle.canon.proofs.auction.dummies_of.Given as goal
 

@@ -1,4 +1,4 @@
--- What is made of the pruned parts is the canonical auction (proofs/Bidders), so the laws of that auction are those of the result.
+-- `named_canonical`: what is made of the pruned parts is the canonical auction (proofs/Bidders), so the laws of that auction are those of the result.
 use Rattle.std.proofs.Common.{sym, ap, ◌∙◌, map, subst, arith, Global}
 use Rattle.std.specs.Prelude.{Option, Vec}
 use Rattle.std.proofs.Common.{ℕ}

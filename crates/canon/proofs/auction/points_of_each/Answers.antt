@@ -1,4 +1,4 @@
--- The points so far are those of the bidders that are done: the next bidder adds its points, or nothing where it has none.
+-- `points_of_each`: the points so far are those of the bidders that are done: the next bidder adds its points, or nothing where it has none.
 use Rattle.std.proofs.Common.{arith, ◌≡◌, ℕ, ◌+◌, ◌<◌, [], length, map, refl, sym, ap, ap₂, ◌∙◌, Global}
 use Rattle.std.specs.Prelude.{All, Option, Vec}
 use Rattle.std.specs.Iterator.Adapters.{enumerate_count, enumerate_source}

@@ -1,4 +1,4 @@
--- The bidders that are done and those still to come are all bidders; of those done the points are there, with their numbers,
+-- `points_of_each`: the bidders that are done and those still to come are all bidders; of those done the points are there, with their numbers,
 -- and what became of their best bids is noted.
 use Rattle.std.proofs.Common.{◌≡◌, ℕ, ◌++◌, true, length, map}
 use Rattle.std.specs.Prelude.{All}

@@ -1,4 +1,4 @@
--- The bidders so far are those that are done: the next one adds itself.
+-- `without_keys`: the bidders so far are those that are done: the next one adds itself.
 use Rattle.std.proofs.Common.{arith, ◌≡◌, ◌∙◌, [], ◌∷◌, ◌++◌, ap, sym, Global}
 use Rattle.std.specs.Prelude.{Vec}
 use Rattle.std.specs.Vec.Iter.{into_iter_items}

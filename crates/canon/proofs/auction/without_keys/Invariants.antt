@@ -1,4 +1,4 @@
--- The bidders that are done and those still to come are all bidders; those done are there, without what was beside them.
+-- `without_keys`: the bidders that are done and those still to come are all bidders; those done are there, without what was beside them.
 use Rattle.std.proofs.Common.{◌≡◌, ◌++◌, map}
 use Rattle.std.specs.Vec.Iter.{into_iter_items}
 use Rattle.canon.proofs.auction.without_keys.Given as goal

@@ -1,3 +1,4 @@
+-- `place_text`
 use Rattle.std.proofs.Common.{rules, ◌≡◌, ℕ, List, cond, bytes_eq, Some, subst}
 use Rattle.canon.specs.Internal.TextPlaces.{place_of}
 use Rattle.canon.proofs.Comparing.Indexing.{updated}

@@ -1,34 +1,42 @@
-use Rattle.std.proofs.Common.{subst}
+-- `compare`
+use Rattle.std.proofs.Common.{◌≡◌, rules, subst}
+use Rattle.std.specs.Prelude.{IfOk, IfErr, OnErr}
+use Rattle.valuation.specs.Auctions.{auction_from}
 use Rattle.valuation.specs.declared.search_options.SearchOptions.{SearchOptions}
-use Rattle.canon.specs.Comparing.{ComparesAs}
-use Rattle.canon.proofs.Comparing.Comparisons.{canonical_of_text, compared_as, first_refused, same_by_texts, second_refused}
+use Rattle.canon.specs.Comparing.{ComparesAs, IsNormalFileOf}
+use Rattle.canon.specs.Difference.{first_difference}
+use Rattle.canon.specs.Verdicts.{NamesGoods, plain_verdict}
+use Rattle.canon.specs.declared.canon_fault.CanonFault.TheVariants.{Memory}
+use Rattle.canon.specs.declared.which.Which.TheVariants.{Both}
+use Rattle.canon.proofs.Comparing.Comparisons.{canonical_of_text, compared_as, normal_of, same_by_texts}
 use Rattle.canon.proofs.comparison.compare.Goals as goal
 
-pub returns-in_err-first-clause-answer : goal.returns-in_err-first-clause-answer
-returns-in_err-first-clause-answer c =
-    subst (λ (o : SearchOptions). ComparesAs o c.args.left.now c.args.right.now c.from_residual.result) c.plain-options.ensures
-    (first_refused c.plain-options.result c.args.left.now c.args.right.now c.in_err-first.field-0.0 c.in_err-first.ensures c.from_residual.result
-    c.from_residual.ensures.1)
+pub compare_files-requires-clause-left_canonical : goal.compare_files-requires-clause-left_canonical
+compare_files-requires-clause-left_canonical c =
+    canonical_of_text _ _ _ (normal_of c.plain-options.result c.args.left.now c.read_normal.result c.in_ok-first.first c.read_normal.ensures (search rules))
 
-pub returns-in_err-second-clause-answer : goal.returns-in_err-second-clause-answer
-returns-in_err-second-clause-answer c =
-    subst (λ (o : SearchOptions). ComparesAs o c.args.left.now c.args.right.now c.from_residual-in_err-second.result) c.plain-options.ensures
-    (second_refused c.plain-options.result c.args.left.now c.args.right.now c.in_ok-first.first c.in_ok-first.ensures c.in_err-second.field-0.0
-    c.in_err-second.ensures c.from_residual-in_err-second.result c.from_residual-in_err-second.ensures.1)
+pub compare_files-requires-clause-right_canonical : goal.compare_files-requires-clause-right_canonical
+compare_files-requires-clause-right_canonical c =
+    canonical_of_text _ _ _
+    (normal_of c.plain-options.result c.args.right.now c.read_normal-2.result c.in_ok-second.second c.read_normal-2.ensures (search rules))
 
-pub compare_read-requires-clause-first_canonical : goal.compare_read-requires-clause-first_canonical
-compare_read-requires-clause-first_canonical c = canonical_of_text c.plain-options.result c.args.left.now c.in_ok-first.first c.in_ok-first.ensures
+first : (c : goal.After-drop-first-inside-3) → IsNormalFileOf c.plain-options.result c.args.left.now c.in_ok-first.first
+first c = normal_of _ _ c.read_normal.result c.in_ok-first.first c.read_normal.ensures (search rules)
 
-pub compare_read-requires-clause-second_canonical : goal.compare_read-requires-clause-second_canonical
-compare_read-requires-clause-second_canonical c = canonical_of_text c.plain-options.result c.args.right.now c.in_ok-second.second c.in_ok-second.ensures
+second : (c : goal.After-drop-first-inside-3) → IsNormalFileOf c.plain-options.result c.args.right.now c.in_ok-second.second
+second c = normal_of _ _ c.read_normal-2.result c.in_ok-second.second c.read_normal-2.ensures (search rules)
 
 pub returns-clause-answer : goal.returns-clause-answer
 returns-clause-answer c =
-    subst (λ (o : SearchOptions). ComparesAs o c.args.left.now c.args.right.now c.compare_read.result) c.plain-options.ensures
-    (compared_as c.plain-options.result c.args.left.now c.args.right.now c.in_ok-first.first c.in_ok-second.second c.in_ok-first.ensures
-    c.in_ok-second.ensures c.compare_read.result c.compare_read.ensures.difference c.compare_read.ensures.both c.compare_read.ensures.memory)
+    let difference = first_difference (auction_from c.in_ok-first.first) (auction_from c.in_ok-second.second) in
+    let d : IfOk c.map_err-3.result (λ verdict. plain_verdict verdict ≡ difference) = search rules in
+    let both : IfErr c.map_err-3.result (λ refusal. (refusal.0 ≡ Both) × (refusal.1 ≡ Memory)) = search rules in
+    let named : OnErr c.map_err-3.result (NamesGoods difference) = search rules in
+    subst (λ (o : SearchOptions). ComparesAs o c.args.left.now c.args.right.now c.map_err-3.result) c.plain-options.ensures
+    (compared_as c.plain-options.result c.args.left.now c.args.right.now c.in_ok-first.first c.in_ok-second.second (first c) (second c) c.map_err-3.result
+    d both named)
 
 pub returns-clause-same : goal.returns-clause-same
 returns-clause-same c =
-    same_by_texts c.plain-options.result c.args.left.now c.args.right.now c.in_ok-first.first c.in_ok-second.second c.in_ok-first.ensures
-    c.in_ok-second.ensures c.compare_read.result c.compare_read.ensures.same
+    same_by_texts c.plain-options.result c.args.left.now c.args.right.now c.in_ok-first.first c.in_ok-second.second (first c) (second c) c.map_err-3.result
+    (search rules)

@@ -1,4 +1,4 @@
--- The two parts of each file's bids are those of its auction, so what the walks over them answer is the first difference of the
+-- `compare_files`: the two parts of each file's bids are those of its auction, so what the walks over them answer is the first difference of the
 -- auctions: a bundle of the OR bidders, or else the least XOR bidder.
 use Rattle.std.proofs.Common.{◌≡◌, arith}
 use Rattle.valuation.specs.Auctions.{auction_from}

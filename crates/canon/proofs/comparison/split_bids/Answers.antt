@@ -1,3 +1,4 @@
+-- `split_bids`
 use Rattle.std.proofs.lemmas.List.Sums.{prefix_len-le-length}
 use Rattle.canon.proofs.Comparing.Comparisons.{or_bids_of, xor_bids_of}
 use Rattle.canon.proofs.comparison.split_bids.Goals as goal

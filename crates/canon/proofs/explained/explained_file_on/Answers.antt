@@ -1,3 +1,4 @@
+-- `explained_file_on`
 use Rattle.std.proofs.Common.{◌≡◌, ap, ◌∙◌, subst, true}
 use Rattle.std.proofs.lemmas.Result.{IfOk-weaker}
 use Rattle.valuation.specs.Auctions.{PlainAuction, auction_from}

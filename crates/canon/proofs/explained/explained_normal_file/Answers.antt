@@ -1,3 +1,4 @@
+-- `explained_normal_file`
 use Rattle.std.proofs.Common.{◌≡◌, true, ◌∙◌, map, refl}
 use Rattle.std.specs.List.{range_with_len}
 use Rattle.std.proofs.lemmas.Result.{IfOk-weaker}

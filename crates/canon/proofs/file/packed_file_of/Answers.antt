@@ -1,4 +1,4 @@
--- The bids so far, with those of the bidders still to come, are the bids of the auction's file (proofs/Filing), so in the end they
+-- `packed_file_of`: the bids so far, with those of the bidders still to come, are the bids of the auction's file (proofs/Filing), so in the end they
 -- are all of them and keep its limits.
 use Rattle.std.proofs.Common.{List, ◌++◌, None, Some, map, refl, ap, ap₂, ◌∙◌, arith}
 use Rattle.bid_file.specs.Files.{PlainBid}

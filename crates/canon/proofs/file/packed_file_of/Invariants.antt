@@ -1,4 +1,4 @@
--- The bids so far, and those of the bidders still to come, are the bids of the file.
+-- `packed_file_of`: the bids so far, and those of the bidders still to come, are the bids of the file.
 use Rattle.std.proofs.Common.{◌≡◌, ◌++◌, drop}
 use Rattle.valuation.specs.Bidders.{bidders_of}
 use Rattle.valuation.specs.Views.{plain_auction}

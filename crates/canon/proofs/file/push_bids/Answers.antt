@@ -1,3 +1,4 @@
+-- `push_bids`
 use Rattle.std.proofs.Common.{arith, ◌∙◌}
 use Rattle.valuation.specs.Lemmas.Atoms.{length-atoms_of}
 use Rattle.valuation.specs.Values.{atoms_of}

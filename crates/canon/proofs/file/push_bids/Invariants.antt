@@ -1,4 +1,4 @@
--- The bids so far, and those of the atoms still to come, are all bids.
+-- `push_bids`: the bids so far, and those of the atoms still to come, are all bids.
 use Rattle.std.proofs.Common.{◌≡◌, ◌++◌, map, drop}
 use Rattle.valuation.specs.Values.{atoms_of}
 use Rattle.canon.specs.Canonical.{bid_from}

@@ -1,4 +1,4 @@
--- The bids of the OR bidder are its points, and those of the XOR bidders are split.
+-- `bidders_of`: the bids of the OR bidder are its points, and those of the XOR bidders are split.
 use Rattle.valuation.specs.Auctions.{auction_from}
 use Rattle.canon.proofs.Walks.BidderWalks.{bids_of_canonical}
 use Rattle.canon.proofs.Walks.OrWalks.{offers_are}

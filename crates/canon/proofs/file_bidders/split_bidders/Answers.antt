@@ -1,4 +1,4 @@
--- The next bidder is split as well; where no bid is left, all bidders are.
+-- `split_bidders`: the next bidder is split as well; where no bid is left, all bidders are.
 use Rattle.canon.proofs.Walks.SplitBidders.{one_more_split, all_split}
 use Rattle.canon.proofs.file_bidders.split_bidders.Goals as goal
 

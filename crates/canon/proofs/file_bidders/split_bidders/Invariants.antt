@@ -1,3 +1,4 @@
+-- `split_bidders`
 use Rattle.std.proofs.Common.{ℕ, List, length}
 use Rattle.valuation.specs.declared.atom.Atom.{Atom}
 use Rattle.canon.specs.Internal.BidderBids.{AreBidsOf}

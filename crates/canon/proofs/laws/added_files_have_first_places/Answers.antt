@@ -1,3 +1,4 @@
+-- `added_files_have_first_places`
 use Rattle.canon.specs.Canonical.{canonical_text}
 use Rattle.canon.specs.Sameness.{AreSameFiles}
 use Rattle.canon.specs.Unsearched.{AreAlike, unsearched_text}

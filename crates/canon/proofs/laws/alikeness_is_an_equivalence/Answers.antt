@@ -1,3 +1,4 @@
+-- `alikeness_is_an_equivalence`
 use Rattle.std.proofs.Common.{refl, sym, ◌∙◌}
 use Rattle.canon.proofs.laws.alikeness_is_an_equivalence.Goals as goal
 

@@ -1,3 +1,4 @@
+-- `canonical_auctions_have_canonical_files`
 use Rattle.std.proofs.Common.{refl}
 use Rattle.canon.specs.Canonical.{file_from}
 use Rattle.canon.proofs.Comparing.Answering.{canonical_file_is, canonical_auction_is}

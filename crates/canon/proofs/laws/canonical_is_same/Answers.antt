@@ -1,3 +1,4 @@
+-- `canonical_is_same`
 use Rattle.canon.proofs.CanonicalAuctions.Sames as proof
 use Rattle.canon.proofs.CanonicalAuctions.Sames.{HasAtoms-auction, canonical_is_fixed}
 use Rattle.canon.proofs.CanonicalAuctions.Smaller.{IsAuction-canonical}

@@ -1,3 +1,4 @@
+-- `differences_exchanged`
 use Rattle.canon.proofs.Comparing.Differences.{differences_swap}
 use Rattle.canon.proofs.laws.differences_exchanged.Goals as goal
 

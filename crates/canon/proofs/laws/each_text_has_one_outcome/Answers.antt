@@ -1,3 +1,4 @@
+-- `each_text_has_one_outcome`
 use Rattle.canon.proofs.CanonicalFiles.Texts.{has_outcome, one_outcome}
 use Rattle.canon.proofs.laws.each_text_has_one_outcome.Goals as goal
 

@@ -1,3 +1,4 @@
+-- `equal_text_exactly_for_the_same_auction`
 use Rattle.canon.proofs.CanonicalFiles.Texts.{text_from_normalised, normalised_from_text, normalised_again, equal_texts, one_canonical_text, texts_equal}
 use Rattle.canon.proofs.CanonicalFiles.Texts.{spells_canonical}
 use Rattle.canon.proofs.laws.equal_text_exactly_for_the_same_auction.Goals as goal

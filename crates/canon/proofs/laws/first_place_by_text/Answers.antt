@@ -1,3 +1,4 @@
+-- `first_place_by_text`
 use Rattle.canon.proofs.Comparing.Indexing.{first_place_is}
 use Rattle.canon.proofs.laws.first_place_by_text.Goals as goal
 

@@ -1,3 +1,4 @@
+-- `no_new_heavy_bundle`
 use Rattle.prune.specs.Lemmas.SearchSteps.{no_new_heavy, search_steps-point}
 use Rattle.prune.specs.Lemmas.Refusals.{no_heavy_point, no_refused_point}
 use Rattle.prune.specs.Lemmas.KeptBids.{on_bundles}

@@ -1,3 +1,4 @@
+-- `same_auction_same_text`
 use Rattle.canon.proofs.CanonicalFiles.Texts.{same_text, same_from_text}
 use Rattle.canon.proofs.laws.same_auction_same_text.Goals as goal
 

@@ -1,3 +1,4 @@
+-- `sameness_is_an_equivalence`
 use Rattle.canon.proofs.CanonicalAuctions.Sames.{same_refl, same_sym, same_trans}
 use Rattle.canon.proofs.laws.sameness_is_an_equivalence.Goals as goal
 

@@ -1,3 +1,4 @@
+-- `normal_auction_file`
 use Rattle.canon.proofs.Comparing.Answering.{canonical_file_is}
 use Rattle.canon.proofs.normal.normal_auction_file.Goals as goal
 

@@ -1,3 +1,4 @@
+-- `normal_file`
 use Rattle.std.proofs.Common.{subst, sym}
 use Rattle.bid_file.specs.Files.{PlainFile}
 use Rattle.bid_file.specs.Views.{plain_file}

@@ -1,4 +1,4 @@
--- The pruned parts are those of the unsearched auction, which keeps the limits of auctions.
+-- `unsearched_auction`: the pruned parts are those of the unsearched auction, which keeps the limits of auctions.
 use Rattle.std.proofs.Common.{sym, ◌∙◌, subst, arith, Global}
 use Rattle.std.specs.Prelude.{Vec}
 use Rattle.std.proofs.lemmas.List.{length-map}

@@ -1,3 +1,4 @@
+-- `added_texts`
 use Rattle.std.proofs.Common.{◌≡◌, [], ℕ, cond, Option, Some, None, refl, ap, arith}
 use Rattle.std.specs.Prelude.{codes}
 use Rattle.canon.specs.Canonical.{canonical_text}

@@ -1,3 +1,4 @@
+-- `alike_files`
 use Rattle.std.proofs.Common.{◌≡◌, ℕ, refl, length, List, ap, arith}
 use Rattle.prune.specs.Points.{points_where, is_xor_point, is_or_point}
 use Rattle.valuation.specs.declared.atom.Atom.{Atom}

@@ -1,3 +1,4 @@
+-- `first_places`
 use Rattle.std.proofs.Common.{refl}
 use Rattle.std.specs.Fmt.{digits}
 use Rattle.prune.specs.Points.{points_where, is_xor_point, is_or_point}

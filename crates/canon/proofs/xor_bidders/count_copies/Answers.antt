@@ -1,4 +1,4 @@
--- The copies so far, with those among the bidders of the bids still to come, are all (IsCounted): the next bidder is one copy more,
+-- `count_copies`: the copies so far, with those among the bidders of the bids still to come, are all (IsCounted): the next bidder is one copy more,
 -- or none.
 use Rattle.std.proofs.Common.{◌≡◌, ℕ, ◌+◌, ◌≤◌, cond, length, sym, ap, ◌∙◌, arith}
 use Rattle.std.specs.Ordering.{is_eq}

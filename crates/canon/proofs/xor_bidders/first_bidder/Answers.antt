@@ -1,3 +1,4 @@
+-- `first_bidder`
 use Rattle.std.proofs.lemmas.List.Sums.{prefix_len-le-length}
 use Rattle.bid_file.specs.Views.{seen_bid}
 use Rattle.canon.proofs.Walks.BidderWalks.{leading_bids}

@@ -1,4 +1,4 @@
--- The bidders that were walked past are the same on both sides (proofs/BidderWalks), so the first difference is at the two that come
+-- `least_unequal`: the bidders that were walked past are the same on both sides (proofs/BidderWalks), so the first difference is at the two that come
 -- next, of which the lesser is the least uneven one, or at the end of one list.
 use Rattle.std.proofs.Common.{◌≡◌, ◌⊎◌, inl, inr, List, length, Option, Some, None, sym, subst}
 use Rattle.std.specs.Prelude.{MatchOption}

@@ -1,3 +1,4 @@
+-- `least_unequal`
 use Rattle.std.proofs.Common.{length}
 use Rattle.valuation.specs.Auctions.{PlainAuction}
 use Rattle.canon.specs.Internal.BidderBids.{HasBidders}

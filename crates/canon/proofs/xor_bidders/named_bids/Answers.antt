@@ -1,3 +1,4 @@
+-- `named_bids`
 use Rattle.bid_file.specs.Views.{seen_bid}
 use Rattle.canon.proofs.Walks.BidOrders.{one_more_named}
 use Rattle.canon.proofs.xor_bidders.named_bids.Goals as goal

@@ -1,3 +1,4 @@
+-- `named_bids`
 use Rattle.std.proofs.Common.{◌≡◌, take}
 use Rattle.canon.specs.Bidders.{offers}
 use Rattle.canon.specs.Verdicts.{printed_atoms}

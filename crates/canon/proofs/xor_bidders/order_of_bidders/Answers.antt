@@ -1,3 +1,4 @@
+-- `order_of_bidders`
 use Rattle.std.proofs.Common.{◌+◌, drop, sym, ap₂, ◌∙◌, nat_cmp, arith}
 use Rattle.bid_file.specs.Views.{seen_bid}
 use Rattle.valuation.specs.Orders.{atom_cmp, bidder_cmp}

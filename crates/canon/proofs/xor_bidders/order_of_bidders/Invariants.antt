@@ -1,3 +1,4 @@
+-- `order_of_bidders`
 use Rattle.std.proofs.Common.{◌≡◌, drop}
 use Rattle.valuation.specs.Orders.{bidder_cmp}
 use Rattle.canon.specs.Bidders.{offers}

@@ -1,3 +1,4 @@
+-- `AuctionIndex::add`
 use Rattle.std.proofs.Common.{◌≡◌, ◌+◌, arith, subst}
 use Rattle.canon.proofs.Comparing.Answering.{text_of_normal}
 use Rattle.canon.specs.Canonical.{canonical_text}

@@ -1,3 +1,4 @@
+-- `AuctionIndex::add_from`
 use Rattle.canon.proofs.Comparing.Indexing.{stream_added, stream_unread}
 use Rattle.canon.proofs.auction_index.AuctionIndex.add_from.Goals as goal
 

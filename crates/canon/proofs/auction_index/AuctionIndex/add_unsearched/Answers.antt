@@ -1,3 +1,4 @@
+-- `AuctionIndex::add_unsearched`
 use Rattle.std.proofs.Common.{◌≡◌, ◌+◌, arith, subst, ap, ◌∙◌}
 use Rattle.cats_text.specs.Layout.{layout}
 use Rattle.canon.specs.FirstPlaces.{AddsText, TextIndex}

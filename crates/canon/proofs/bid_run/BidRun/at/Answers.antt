@@ -1,3 +1,4 @@
+-- `BidRun::at`
 use Rattle.std.proofs.Common.{◌≡◌, ◌∙◌, length, sym, ap, slice_get, arith}
 use Rattle.std.specs.List.{slice_range}
 use Rattle.canon.proofs.Walks.BidRuns.{get_in_range, range_length}

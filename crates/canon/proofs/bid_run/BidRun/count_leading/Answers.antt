@@ -1,3 +1,4 @@
+-- `BidRun::count_leading`
 use Rattle.std.proofs.Common.{◌∙◌, sym, arith}
 use Rattle.bid_file.specs.Views.{seen_bid}
 use Rattle.canon.proofs.Walks.BidRuns.{one_more_leads, none_leads}

@@ -1,3 +1,4 @@
+-- `BidRun::count_leading`
 use Rattle.std.proofs.Common.{◌≡◌, ◌+◌, ◌-◌, ◌≤◌, length, drop}
 use Rattle.canon.specs.Internal.BidderBids.{leading}
 use Rattle.canon.proofs.bid_run.BidRun.count_leading.Given as goal

@@ -1,3 +1,4 @@
+-- `BidRun::from`
 use Rattle.std.proofs.Common.{◌≡◌, ◌∙◌, length, drop, ap, arith}
 use Rattle.std.specs.List.{slice_range}
 use Rattle.canon.proofs.Walks.BidRuns.{range_length, rest_of_range}

@@ -1,3 +1,4 @@
+-- `KeyedBidder::new`
 use Rattle.std.proofs.Common.{◌∙◌, List, sym, ap}
 use Rattle.std.specs.List.{slice_get}
 use Rattle.std.specs.Option.{option_copied}

@@ -1,3 +1,4 @@
+-- `KeyedBidder::order`
 use Rattle.std.proofs.Common.{◌≡◌, ◌∙◌, nat_cmp, ap}
 use Rattle.goods_set.specs.Lemmas.Members.{AreBelow-higher}
 use Rattle.valuation.specs.Orders.{bidder_cmp}

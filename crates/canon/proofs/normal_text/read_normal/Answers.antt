@@ -1,5 +1,6 @@
+-- `read_normal`
 use Rattle.canon.proofs.Comparing.Comparisons.{normal_from_file, normal_unread}
-use Rattle.canon.proofs.comparison.read_normal.Goals as goal
+use Rattle.canon.proofs.normal_text.read_normal.Goals as goal
 
 pub returns-in_err-file : goal.returns-in_err-file
 returns-in_err-file c =

@@ -1,0 +1,124 @@
+-- Two lists of atoms in order are walked side by side, bundle by bundle. What is still to be found are the changes of the two
+-- rests: where the changes of the rests are given, the bundle that was walked past is put in front of them if its prices differ.
+use Rattle.std.proofs.Common.{◌≡◌, ℕ, true, false, cond, ◌⊎◌, inl, inr, ⊎_elim, List, [], ◌∷◌, map, refl, sym, ap, ◌∙◌, subst, Option, Some, None, Less}
+use Rattle.std.specs.Prelude.{◌≢◌, All, Contains}
+use Rattle.std.specs.Ordering.{is_eq}
+use Rattle.std.proofs.lemmas.List.Elements.{All-cons, All-head, All-tail, All-weaker}
+use Rattle.goods_set.specs.Orders.{bundle_cmp}
+use Rattle.valuation.specs.declared.atom.Atom.{Atom}
+use Rattle.valuation.specs.Lemmas.Lists.{AllPairs-cons}
+use Rattle.prune.specs.Lemmas.InOrder.{before_itself, same_cases}
+use Rattle.prune.specs.Lemmas.Lists.{Contains-head, Contains-tail}
+use Rattle.canon.specs.PriceChanges.{PlainChange, price_on, IsPriceChange, ArePriceChanges}
+
+-- ---- the price on a bundle
+
+-- the bundle comes before each atom
+abbrev pub AreLater : List ℕ → List (Atom (List ℕ)) → Type 0
+AreLater bundle atoms = All (λ (a : Atom (List ℕ)). bundle_cmp bundle a.bundle ≡ Less) atoms
+
+pub price_here : (a : Atom (List ℕ)) (rest : List (Atom (List ℕ))) (bundle : List ℕ) → a.bundle ≡ bundle → price_on (a ∷ rest) bundle ≡ Some a.price
+price_here a rest bundle e =
+    ⊎_elim (λ (h : (a.bundle ≡ bundle) × (is_eq (bundle_cmp a.bundle bundle) ≡ true)).
+    ap (λ t. cond {A = Option ℕ} t (Some a.price) (price_on rest bundle)) h.1)
+    (λ (h : (a.bundle ≡ bundle → ⊥) × (is_eq (bundle_cmp a.bundle bundle) ≡ false)). absurd (h.0 e))
+    (same_cases a.bundle bundle)
+
+pub price_behind : (a : Atom (List ℕ)) (rest : List (Atom (List ℕ))) (bundle : List ℕ) → (a.bundle ≡ bundle → ⊥)
+    → price_on (a ∷ rest) bundle ≡ price_on rest bundle
+price_behind a rest bundle n =
+    ⊎_elim (λ (h : (a.bundle ≡ bundle) × (is_eq (bundle_cmp a.bundle bundle) ≡ true)). absurd (n h.0))
+    (λ (h : (a.bundle ≡ bundle → ⊥) × (is_eq (bundle_cmp a.bundle bundle) ≡ false)).
+    ap (λ t. cond {A = Option ℕ} t (Some a.price) (price_on rest bundle)) h.1)
+    (same_cases a.bundle bundle)
+
+-- a bundle that has a price comes after what all atoms come after
+priced_later : (first bundle : List ℕ) (atoms : List (Atom (List ℕ))) → AreLater first atoms → (bundle_cmp first bundle ≡ Less) ⊎ (price_on atoms bundle ≡ None)
+priced_later first bundle [] later = inr refl
+priced_later first bundle (a ∷ rest) later =
+    let P : Atom (List ℕ) → Type 0 = λ z. bundle_cmp first z.bundle ≡ Less in
+    ⊎_elim (λ (h : (a.bundle ≡ bundle) × (is_eq (bundle_cmp a.bundle bundle) ≡ true)).
+    inl (subst (λ (zs : List ℕ). bundle_cmp first zs ≡ Less) h.0 (All-head P a rest later)))
+    (λ (h : (a.bundle ≡ bundle → ⊥) × (is_eq (bundle_cmp a.bundle bundle) ≡ false)).
+    ⊎_elim (λ (l : bundle_cmp first bundle ≡ Less). inl l)
+    (λ (e : price_on rest bundle ≡ None). inr (price_behind a rest bundle h.0 ∙ e))
+    (priced_later first bundle rest (All-tail P a rest later)))
+    (same_cases a.bundle bundle)
+
+pub no_price : (bundle : List ℕ) (atoms : List (Atom (List ℕ))) → AreLater bundle atoms → price_on atoms bundle ≡ None
+no_price bundle atoms later =
+    ⊎_elim (λ (l : bundle_cmp bundle bundle ≡ Less). absurd (before_itself bundle l)) (λ (e : price_on atoms bundle ≡ None). e)
+    (priced_later bundle bundle atoms later)
+
+-- the first change is on a bundle before that of the second
+abbrev pub IsEarlier : PlainChange → PlainChange → Type 0
+IsEarlier c d = bundle_cmp c.bundle d.bundle ≡ Less
+
+-- ---- past a bundle
+
+-- the atoms without those on the bundle, which come after it
+pub record IsBehind (bundle : List ℕ) (atoms rest : List (Atom (List ℕ))) : Type 0 where
+  pub later : AreLater bundle rest
+  pub same : (other : List ℕ) → (bundle ≡ other → ⊥) → price_on atoms other ≡ price_on rest other
+
+-- each bundle whose prices in the rests differ comes later
+changes_later : (bundle : List ℕ) (left right : List (Atom (List ℕ))) → AreLater bundle left → AreLater bundle right → (c : PlainChange)
+    → IsPriceChange left right c → bundle_cmp bundle c.bundle ≡ Less
+changes_later bundle left right l r c h =
+    ⊎_elim (λ (e : bundle_cmp bundle c.bundle ≡ Less). e)
+    (λ (e : price_on left c.bundle ≡ None).
+    ⊎_elim (λ (f : bundle_cmp bundle c.bundle ≡ Less). f)
+    (λ (f : price_on right c.bundle ≡ None). absurd (h.differ (h.on_left ∙ e ∙ sym (h.on_right ∙ f))))
+    (priced_later bundle c.bundle right r))
+    (priced_later bundle c.bundle left l)
+
+module _ (bundle : List ℕ) (left left_rest right right_rest : List (Atom (List ℕ))) (behind_left : IsBehind bundle left left_rest)
+    (behind_right : IsBehind bundle right right_rest) (changes : List PlainChange) (found : ArePriceChanges left_rest right_rest changes) where
+  later_changes : All (λ (d : PlainChange). bundle_cmp bundle d.bundle ≡ Less) changes
+  later_changes =
+      All-weaker (IsPriceChange left_rest right_rest) (λ (d : PlainChange). bundle_cmp bundle d.bundle ≡ Less)
+      (changes_later bundle left_rest right_rest behind_left.later behind_right.later) changes found.each
+
+  -- a change of the rests is one of the whole lists
+  still_changes : All (IsPriceChange left right) changes
+  still_changes =
+      All-weaker (λ (d : PlainChange). IsPriceChange left_rest right_rest d) (IsPriceChange left right)
+      (λ d h.
+      let l : bundle_cmp bundle d.bundle ≡ Less = changes_later bundle left_rest right_rest behind_left.later behind_right.later d h in
+      let n : bundle ≡ d.bundle → ⊥ = λ e. before_itself bundle (subst (λ (zs : List ℕ). bundle_cmp bundle zs ≡ Less) (sym e) l) in
+      record {
+        on_left = h.on_left ∙ sym (behind_left.same d.bundle n);
+        on_right = h.on_right ∙ sym (behind_right.same d.bundle n);
+        differ = h.differ;
+      }) changes found.each
+
+  -- another bundle whose prices differ is among the changes of the rests
+  found_behind : (other : List ℕ) → (bundle ≡ other → ⊥) → price_on left other ≢ price_on right other
+      → Contains (map (λ (d : PlainChange). d.bundle) changes) other
+  found_behind other n differ =
+      found.all other (λ e. differ (behind_left.same other n ∙ e ∙ sym (behind_right.same other n)))
+
+  pub past_change : (c : PlainChange) → c.bundle ≡ bundle → IsPriceChange left right c → ArePriceChanges left right (c ∷ changes)
+  past_change c e h = record {
+    in_order = AllPairs-cons (λ (x y : PlainChange). bundle_cmp x.bundle y.bundle ≡ Less) c changes
+        (subst (λ (zs : List ℕ). All (λ (d : PlainChange). bundle_cmp zs d.bundle ≡ Less) changes) (sym e) later_changes) found.in_order;
+    each = All-cons (IsPriceChange left right) c changes h still_changes;
+    all = λ other differ.
+        ⊎_elim (λ (k : (bundle ≡ other) × (is_eq (bundle_cmp bundle other) ≡ true)).
+        subst (λ (zs : List ℕ). Contains (c.bundle ∷ map (λ (d : PlainChange). d.bundle) changes) zs) (e ∙ k.0)
+        (Contains-head c.bundle (map (λ (d : PlainChange). d.bundle) changes)))
+        (λ (k : (bundle ≡ other → ⊥) × (is_eq (bundle_cmp bundle other) ≡ false)).
+        Contains-tail c.bundle (map (λ (d : PlainChange). d.bundle) changes) other (found_behind other k.0 differ))
+        (same_cases bundle other);
+  }
+
+  pub past_same : price_on left bundle ≡ price_on right bundle → ArePriceChanges left right changes
+  past_same e = record {
+    in_order = found.in_order;
+    each = still_changes;
+    all = λ other differ.
+        ⊎_elim (λ (k : (bundle ≡ other) × (is_eq (bundle_cmp bundle other) ≡ true)).
+        absurd (differ (subst (λ (zs : List ℕ). price_on left zs ≡ price_on right zs) k.0 e)))
+        (λ (k : (bundle ≡ other → ⊥) × (is_eq (bundle_cmp bundle other) ≡ false)). found_behind other k.0 differ)
+        (same_cases bundle other);
+  }
