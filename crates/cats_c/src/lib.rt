@@ -1,28 +1,35 @@
 //! The exports of the C library. Each call puts what it answers into its caller's buffer, and nothing is kept. All searches
-//! are bounded: `steps` is the most steps of one search, and `total` those of all searches of one text together.
+//! are bounded: `steps` is the most steps of one search, and `total` those of all searches of one text together. `prices`
+//! says whether a text is read with its prices as they are written, or rounded.
 #![tactic(auto)]
 
 ghost use Rattle.rounding.specs.declared.replacement.FinePrices.TheVariants.{Refuse, Round};
 ghost use Rattle.std.specs.Prelude.{◌≡◌, if◌then◌else◌};
 ghost use Rattle.commands.specs.Outcomes.{check_outcome, explain_outcome, lp_outcome};
 ghost use Rattle.commands.specs.Outcomes.{normalise_outcome, revenue_outcome, show_outcome, value_outcome_by};
-ghost use Rattle.cats_calls.specs.FaultCalls.{FaultCalls};
-ghost use Rattle.cats_calls.specs.OneText.{CallsOn};
-ghost use Rattle.cats_calls.specs.Roundings.{AnswersRounding, RoundCalls, whole_status};
-ghost use Rattle.cats_calls.specs.TwoTexts.{CompareCalls, DiffCalls};
+ghost use Rattle.commands.specs.FaultCalls.{FaultCalls};
+ghost use Rattle.commands.specs.OneText.{CallsOn};
+ghost use Rattle.commands.specs.Roundings.{AnswersRounding, RoundCalls, whole_status};
+ghost use Rattle.commands.specs.SizesCalls.{SizesCalls};
+ghost use Rattle.commands.specs.TwoTexts.{CompareCalls, DiffCalls};
 ghost use Rattle.valuation.specs.SearchLimits.{bounded_options};
+ghost use Rattle.cats_c.specs.Prices.{fine_of};
 ghost use Rattle.cats_c.specs.Totals.{total_of};
 
 pub mod worked;
 
-use answers::RunFault;
-use cats_calls::{
-    RoundAnswer, TOO_SMALL, Text, find_fault, give, give_report, give_rounded, round_text,
+use commands::{
+    RoundAnswer, RunFault, TOO_SMALL, Text, check, compare, diff, explain, find_fault, give,
+    give_report, give_rounded, lp, normalise, revenue, round_text, show, sizes, value,
 };
-use commands::{check, compare, diff, explain, lp, normalise, revenue, show, value};
 use rounding::FinePrices;
 use std::alloc::Global;
 use valuation::SearchOptions;
+
+/// The values of `prices`: `CATS_AS_WRITTEN` and `CATS_ROUNDED` of cats.h. Any other one is `CATS_ROUNDED_EXACTLY`.
+const AS_WRITTEN: u8 = 0;
+
+const ROUNDED: u8 = 1;
 
 /// The value of `total` that is no limit: `CATS_NO_TOTAL` of cats.h.
 const NO_TOTAL: u64 = 0;
@@ -40,10 +47,17 @@ pub extern "C" fn cats_version() -> u32
 
 /// `cats check`: the sizes of the file.
 #[unsafe(no_mangle)]
-pub extern "C" fn cats_check(alloc: Global, text: &[u8], out: &mut [u8], needed: &mut usize) -> u8
-    ensures { CallsOn check_outcome text.now out.old out.new needed.new result }
+pub extern "C" fn cats_check(
+    alloc: Global,
+    text: &[u8],
+    prices: u8,
+    out: &mut [u8],
+    needed: &mut usize,
+) -> u8
+    ensures { CallsOn check_outcome (fine_of prices) text.now out.old out.new needed.new result }
 {
-    let answer = check(alloc, &mut Text { bytes: text });
+    let fine = fine_of(prices);
+    let answer = check(alloc, &mut Text { bytes: text, fine });
     give(alloc, &answer, out, needed)
 }
 
@@ -59,19 +73,33 @@ pub extern "C" fn cats_fault(alloc: Global, text: &[u8], out: &mut [u8], needed:
 
 /// `cats show`: the file in its one layout.
 #[unsafe(no_mangle)]
-pub extern "C" fn cats_show(alloc: Global, text: &[u8], out: &mut [u8], needed: &mut usize) -> u8
-    ensures { CallsOn show_outcome text.now out.old out.new needed.new result }
+pub extern "C" fn cats_show(
+    alloc: Global,
+    text: &[u8],
+    prices: u8,
+    out: &mut [u8],
+    needed: &mut usize,
+) -> u8
+    ensures { CallsOn show_outcome (fine_of prices) text.now out.old out.new needed.new result }
 {
-    let answer = show(alloc, &mut Text { bytes: text });
+    let fine = fine_of(prices);
+    let answer = show(alloc, &mut Text { bytes: text, fine });
     give(alloc, &answer, out, needed)
 }
 
 /// `cats lp`: the winner determination problem of the file, for a solver.
 #[unsafe(no_mangle)]
-pub extern "C" fn cats_lp(alloc: Global, text: &[u8], out: &mut [u8], needed: &mut usize) -> u8
-    ensures { CallsOn lp_outcome text.now out.old out.new needed.new result }
+pub extern "C" fn cats_lp(
+    alloc: Global,
+    text: &[u8],
+    prices: u8,
+    out: &mut [u8],
+    needed: &mut usize,
+) -> u8
+    ensures { CallsOn lp_outcome (fine_of prices) text.now out.old out.new needed.new result }
 {
-    let answer = lp(alloc, &mut Text { bytes: text });
+    let fine = fine_of(prices);
+    let answer = lp(alloc, &mut Text { bytes: text, fine });
     give(alloc, &answer, out, needed)
 }
 
@@ -80,13 +108,15 @@ pub extern "C" fn cats_lp(alloc: Global, text: &[u8], out: &mut [u8], needed: &m
 pub extern "C" fn cats_revenue(
     alloc: Global,
     text: &[u8],
+    prices: u8,
     bids: &[u32],
     out: &mut [u8],
     needed: &mut usize,
 ) -> u8
-    ensures { CallsOn (revenue_outcome bids.now) text.now out.old out.new needed.new result }
+    ensures { CallsOn (revenue_outcome bids.now) (fine_of prices) text.now out.old out.new needed.new result }
 {
-    let answer = revenue(alloc, &mut Text { bytes: text }, bids);
+    let fine = fine_of(prices);
+    let answer = revenue(alloc, &mut Text { bytes: text, fine }, bids);
     give(alloc, &answer, out, needed)
 }
 
@@ -95,6 +125,7 @@ pub extern "C" fn cats_revenue(
 pub extern "C" fn cats_value(
     alloc: Global,
     text: &[u8],
+    prices: u8,
     goods: &[u16],
     steps: u64,
     total: u64,
@@ -102,10 +133,11 @@ pub extern "C" fn cats_value(
     needed: &mut usize,
 ) -> u8
     ensures { let options = bounded_options steps (total_of total) in
-        CallsOn (value_outcome_by goods.now options) text.now out.old out.new needed.new result }
+        CallsOn (value_outcome_by goods.now options) (fine_of prices) text.now out.old out.new needed.new result }
 {
     let options = options_of(steps, total);
-    let answer = value(alloc, &mut Text { bytes: text }, goods, options);
+    let fine = fine_of(prices);
+    let answer = value(alloc, &mut Text { bytes: text, fine }, goods, options);
     give(alloc, &answer, out, needed)
 }
 
@@ -114,16 +146,18 @@ pub extern "C" fn cats_value(
 pub extern "C" fn cats_normalise(
     alloc: Global,
     text: &[u8],
+    prices: u8,
     steps: u64,
     total: u64,
     out: &mut [u8],
     needed: &mut usize,
 ) -> u8
     ensures { let options = bounded_options steps (total_of total) in
-        CallsOn (normalise_outcome options) text.now out.old out.new needed.new result }
+        CallsOn (normalise_outcome options) (fine_of prices) text.now out.old out.new needed.new result }
 {
     let options = options_of(steps, total);
-    let answer = normalise(alloc, &mut Text { bytes: text }, options);
+    let fine = fine_of(prices);
+    let answer = normalise(alloc, &mut Text { bytes: text, fine }, options);
     give(alloc, &answer, out, needed)
 }
 
@@ -132,15 +166,38 @@ pub extern "C" fn cats_normalise(
 pub extern "C" fn cats_explain(
     alloc: Global,
     text: &[u8],
+    prices: u8,
     steps: u64,
     total: u64,
     out: &mut [u8],
     needed: &mut usize,
 ) -> u8
     ensures { let options = bounded_options steps (total_of total) in
-        CallsOn (explain_outcome options) text.now out.old out.new needed.new result }
+        CallsOn (explain_outcome options) (fine_of prices) text.now out.old out.new needed.new result }
 {
-    let answer = explain(alloc, &mut Text { bytes: text }, steps, total_of(total));
+    let fine = fine_of(prices);
+    let mut input = Text { bytes: text, fine };
+    let answer = explain(alloc, &mut input, steps, total_of(total));
+    give(alloc, &answer, out, needed)
+}
+
+/// `cats sizes`: the row of the file in its table, without the path.
+#[unsafe(no_mangle)]
+pub extern "C" fn cats_sizes(
+    alloc: Global,
+    text: &[u8],
+    prices: u8,
+    steps: u64,
+    total: u64,
+    out: &mut [u8],
+    needed: &mut usize,
+) -> u8
+    ensures { let options = bounded_options steps (total_of total) in
+        SizesCalls options (fine_of prices) text.now out.old out.new needed.new result }
+{
+    let options = options_of(steps, total);
+    let fine = fine_of(prices);
+    let answer = sizes(alloc, &mut Text { bytes: text, fine }, options);
     give(alloc, &answer, out, needed)
 }
 
@@ -150,15 +207,18 @@ pub extern "C" fn cats_compare(
     alloc: Global,
     left: &[u8],
     right: &[u8],
+    prices: u8,
     steps: u64,
     total: u64,
     out: &mut [u8],
     needed: &mut usize,
 ) -> u8
-    ensures { CompareCalls (bounded_options steps (total_of total)) left.now right.now out.old out.new needed.new result }
+    ensures { let options = bounded_options steps (total_of total) in
+        CompareCalls options (fine_of prices) left.now right.now out.old out.new needed.new result }
 {
     let options = options_of(steps, total);
-    let (mut first, mut second) = (Text { bytes: left }, Text { bytes: right });
+    let fine = fine_of(prices);
+    let (mut first, mut second) = (Text { bytes: left, fine }, Text { bytes: right, fine });
     let answer = compare(alloc, &mut first, &mut second, options);
     give(alloc, &answer, out, needed)
 }
@@ -169,15 +229,18 @@ pub extern "C" fn cats_diff(
     alloc: Global,
     left: &[u8],
     right: &[u8],
+    prices: u8,
     steps: u64,
     total: u64,
     out: &mut [u8],
     needed: &mut usize,
 ) -> u8
-    ensures { DiffCalls (bounded_options steps (total_of total)) left.now right.now out.old out.new needed.new result }
+    ensures { let options = bounded_options steps (total_of total) in
+        DiffCalls options (fine_of prices) left.now right.now out.old out.new needed.new result }
 {
     let options = options_of(steps, total);
-    let (mut first, mut second) = (Text { bytes: left }, Text { bytes: right });
+    let fine = fine_of(prices);
+    let (mut first, mut second) = (Text { bytes: left, fine }, Text { bytes: right, fine });
     let answer = diff(alloc, &mut first, &mut second, options);
     give(alloc, &answer, out, needed)
 }
@@ -201,6 +264,17 @@ pub extern "C" fn cats_round(
     let reported = give_report(&rounded, report, report_needed);
     let given = give_rounded(&rounded, out, needed);
     whole_status(given, reported)
+}
+
+/// What becomes of fine prices by what a caller writes, if prices are rounded.
+fn fine_of(prices: u8) -> Option<FinePrices>
+    ensures { result ≡ fine_of prices }
+{
+    match prices {
+        AS_WRITTEN => None,
+        ROUNDED => Some(FinePrices::Round),
+        _ => Some(FinePrices::Refuse),
+    }
 }
 
 /// Bounded searches within the limits that a caller writes.

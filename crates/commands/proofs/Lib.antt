@@ -1,6 +1,18 @@
--- Proofs that several functions of this crate cite.
+-- Proofs that several functions cite, here and in the crates above.
+pub mod Lines
+pub mod Explanations
+pub mod ComparedFiles
+pub mod BidNumbers
+pub mod BidsOfFiles
+pub mod Unrounded
 mod Numbering
 mod Bundling
 mod BestPlaces
 mod Printing
 mod Pairing
+mod NamedBids
+pub mod Sizing
+pub mod Refusing
+pub mod Given
+pub mod SmallTexts
+pub mod Putting

@@ -14,9 +14,9 @@ use Rattle.canon.specs.declared.canon_fault.CanonFault.{CanonFault}
 use Rattle.canon.specs.declared.canon_fault.CanonFault.TheVariants.{Memory}
 use Rattle.canon.specs.declared.which.Which.{Which}
 use Rattle.canon.specs.declared.which.Which.TheVariants.{First, Second, Both}
-use Rattle.answers.specs.ComparedFiles.{PrintsDifferences}
-use Rattle.answers.specs.declared.report.RunFault.{RunFault}
-use Rattle.answers.specs.declared.sides.ComparedFile.{ComparedFile}
+use Rattle.commands.specs.Internal.ComparedFiles.{PrintsDifferences}
+use Rattle.commands.specs.declared.run_fault.RunFault.{RunFault}
+use Rattle.commands.specs.declared.printed.sides.ComparedFile.{ComparedFile}
 use Rattle.commands.specs.Commands.{GivesCanonical, GivesWithin, ReadsCanonical, text_of}
 use Rattle.commands.specs.Internal.Pairs.{of_file}
 use Rattle.commands.specs.Outcomes.{Outcome, Prints, compare_outcome, diff_outcome, naming_outcome, normalise_outcome, outcome_of_difference}

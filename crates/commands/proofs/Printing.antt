@@ -14,7 +14,7 @@ use Rattle.valuation.specs.Bidders.{bidders_of}
 use Rattle.valuation.specs.Values.{atoms_of, chosen_places, xor_value}
 use Rattle.valuation.specs.Lemmas.Packings.{chosen_places-packing}
 use Rattle.valuation.proofs.Placing.{length-bidders_of}
-use Rattle.answers.proofs.Lines.{lines_more}
+use Rattle.commands.proofs.Lines.{lines_more}
 use Rattle.commands.specs.ValueTexts.{best_place, dummy_line, numbers_text, option_places, or_numbers, xor_line, xor_numbers}
 use Rattle.commands.proofs.Numbering.{length-or_numbers}
 

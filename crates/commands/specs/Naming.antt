@@ -4,8 +4,8 @@ use Rattle.canon.specs.declared.canon_fault.CanonFault.{CanonFault}
 use Rattle.canon.specs.declared.canon_fault.CanonFault.TheVariants.{StepLimit}
 use Rattle.canon.specs.declared.which.Which.{Which}
 use Rattle.valuation.specs.declared.search_options.SearchOptions.{SearchOptions}
-use Rattle.answers.specs.declared.report.RunFault.{RunFault}
-use Rattle.answers.specs.declared.report.RunFault.TheVariants.{Refused, TooHeavy}
+use Rattle.commands.specs.declared.run_fault.RunFault.{RunFault}
+use Rattle.commands.specs.declared.run_fault.RunFault.TheVariants.{Refused, TooHeavy}
 use Rattle.commands.specs.Outcomes.{first_bid_on}
 
 abbrev pub with_bid : Which → PlainFile → SearchOptions → CanonFault → RunFault

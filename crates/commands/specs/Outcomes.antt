@@ -13,16 +13,16 @@ use Rattle.valuation.specs.declared.search_options.SearchOptions.{SearchOptions}
 use Rattle.prune.specs.SearchSteps.{first_refused}
 use Rattle.canon.specs.Canonical.{canonical_text}
 use Rattle.canon.specs.Difference.{Difference, first_difference}
-use Rattle.answers.specs.DifferenceTexts.{difference_text}
-use Rattle.answers.specs.Outputs.{check_text}
-use Rattle.answers.specs.ExplanationTexts.{explanation_text}
-use Rattle.answers.specs.DiffTexts.{diff_text}
-use Rattle.answers.specs.Statuses.{status_of_difference, status_of_differences}
-use Rattle.differences.specs.Differences.{PlainDifferences}
-use Rattle.explain.specs.Reasons.{reasons_of}
-use Rattle.winners.specs.AllocationVerdicts.{allocation_status, allocation_text, allocation_verdict}
-use Rattle.winners.specs.LpTexts.{lp_text}
-use Rattle.winners.specs.declared.allocation_verdict.AllocationVerdict.{AllocationVerdict}
+use Rattle.commands.specs.ComparisonTexts.{difference_text}
+use Rattle.commands.specs.Outputs.{check_text}
+use Rattle.commands.specs.ExplanationTexts.{explanation_text}
+use Rattle.commands.specs.DiffTexts.{diff_text}
+use Rattle.commands.specs.Statuses.{status_of_difference, status_of_differences}
+use Rattle.analysis.specs.Differences.{PlainDifferences}
+use Rattle.analysis.specs.Reasons.{reasons_of}
+use Rattle.analysis.specs.AllocationVerdicts.{allocation_status, allocation_text, allocation_verdict}
+use Rattle.analysis.specs.LpTexts.{lp_text}
+use Rattle.analysis.specs.declared.winners.allocation_verdict.AllocationVerdict.{AllocationVerdict}
 use Rattle.commands.specs.ValueTexts.{bundle_from, value_text}
 
 pub data Outcome : Type 0 where

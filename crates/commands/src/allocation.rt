@@ -5,10 +5,10 @@ ghost use Rattle.commands.specs.Outcomes.{revenue_outcome};
 
 use crate::answer::{Answer, Output};
 use crate::input::Input;
-use answers::RunFault;
+use crate::run_fault::RunFault;
+use analysis::{allocation_status, allocation_text, judge_allocation};
 use canon::CanonFault;
 use std::alloc::Global;
-use winners::{allocation_status, allocation_text, judge_allocation};
 
 /// The revenue of the bids of these numbers if they can all win together, and else the first two that cannot. A number that
 /// the file does not have is refused once the file was read.

@@ -15,7 +15,7 @@ ghost use Rattle.commands.specs.ValueTexts.{bundle_from};
 
 use crate::answer::{Answer, Output, done};
 use crate::input::Input;
-use answers::RunFault;
+use crate::run_fault::RunFault;
 use bid_file::PackedFile;
 use bundles::bundle_of;
 use canon::CanonFault;

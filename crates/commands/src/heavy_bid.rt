@@ -5,7 +5,7 @@ ghost use Rattle.bid_file.specs.Views.{seen_bid};
 ghost use Rattle.commands.specs.Naming.{with_bid};
 ghost use Rattle.commands.specs.Outcomes.{first_bid_on, is_on};
 
-use answers::{HeavyBid, RunFault};
+use crate::run_fault::{HeavyBid, RunFault};
 use bid_file::{BidRef, Bids, PackedFile};
 use canon::{CanonFault, Which};
 use valuation::SearchOptions;

@@ -1,13 +1,18 @@
-//! The commands on one bid file or two, as functions of their inputs: what the program and the library answer.
+//! The commands on one bid file or two, as functions of their inputs, what they print, and the calls of the C library, which
+//! are commands on texts in memory.
 #![tactic(auto)]
 
 mod allocation;
 mod answer;
 mod bundle_value;
+mod calls;
 mod heavy_bid;
 mod input;
 pub mod laws;
 mod one_file;
+mod printed;
+mod run_fault;
+mod sizes_row;
 #[cfg(test)]
 mod tests;
 mod two_files;
@@ -16,7 +21,16 @@ pub mod worked;
 pub use allocation::revenue;
 pub use answer::{Answer, Output};
 pub use bundle_value::value;
+pub use calls::{
+    RoundAnswer, TOO_SMALL, Text, find_fault, give, give_report, give_rounded, round_text,
+};
 pub use heavy_bid::name_bid;
 pub use input::Input;
-pub use one_file::{check, explain, lp, normalise, read_canonical, show};
+pub use one_file::{check, explain, lp, normalise, show};
+pub use printed::{
+    DEVICE_FAILED, DONE, FILE_REFUSED, NO_MEMORY, Piece, WRONG_USAGE, fault_line, fault_pieces,
+    fault_place_text, price_pieces, shown_word, status,
+};
+pub use run_fault::{HeavyBid, RunFault};
+pub use sizes_row::{NO_NUMBERS, push_numbers, sizes};
 pub use two_files::{compare, diff};

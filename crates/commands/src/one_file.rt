@@ -10,13 +10,14 @@ ghost use Rattle.valuation.specs.SearchLimits.{bounded_options};
 use crate::answer::{Answer, Output, done};
 use crate::heavy_bid::name_bid;
 use crate::input::Input;
-use answers::{RunFault, explanation_text, sizes_line};
+use crate::printed::{explanation_text, sizes_line};
+use crate::run_fault::RunFault;
+use analysis::lp_text;
 use bid_file::PackedFile;
 use canon::{CanonFault, Which, normal_packed_file};
 use cats_text::Header;
 use std::alloc::Global;
 use valuation::SearchOptions;
-use winners::lp_text;
 
 /// The sizes of a bid file: how many goods, bids and dummy goods it has. No bid is kept.
 pub fn check<I: Input>(alloc: Global, input: &mut I) -> Result<Answer, RunFault>
@@ -70,7 +71,7 @@ pub fn explain<I: Input>(
     ensures { Commands I.gives I.refuses (explain_outcome (bounded_options steps total)) input.old input.new result }
 {
     let file = input.read_file(alloc).map_err(CanonFault::from)?;
-    let reasons = match explain::explain(alloc, &file, steps, total) {
+    let reasons = match analysis::explain(alloc, &file, steps, total) {
         Ok(reasons) => reasons,
         Err(fault) => {
             let options = SearchOptions::bounded(steps, total);
@@ -82,7 +83,7 @@ pub fn explain<I: Input>(
 }
 
 /// The canonical file of the file that an input gives, which is given up for it.
-pub fn read_canonical<I: Input>(
+pub(crate) fn read_canonical<I: Input>(
     alloc: Global,
     input: &mut I,
     options: SearchOptions,

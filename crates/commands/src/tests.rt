@@ -1,7 +1,9 @@
 //! Each command on files whose answer is known.
 
-use crate::{Answer, Output, check, compare, diff, explain, lp, normalise, revenue, show, value};
-use answers::{RunFault, fault_line};
+use crate::{
+    Answer, Output, RunFault, check, compare, diff, explain, fault_line, lp, normalise, revenue,
+    show, sizes, value,
+};
 use cats_text::{Watched, write};
 use std::alloc::{AllocError, Global};
 use std::process::Abort;
@@ -66,6 +68,20 @@ fn one_file(rt: HostRuntime) -> Result<(), Fail> {
     let table = b"bid\tdummy\tprice\tgoods\treason\tkept\tby\n0\t0\t5\t0\tkeep\t1\t\n\
         1\t\t1.5\t1\tkeep\t0\t\n2\t0\t6\t0,1\tkeep\t2\t\n";
     expect(&rt, alloc, reasons, 0, table)
+}
+
+#[test]
+fn rows_of_sizes(rt: HostRuntime) -> Result<(), Fail> {
+    let alloc = rt.alloc();
+    let options = SearchOptions::bounded(1, None);
+    let judged = sizes(alloc, &mut Watched::new(LADDER), options);
+    expect(&rt, alloc, judged, 0, b"2\t3\t1\t1\t1\t3\t1\t1\t\n")?;
+    let heavy = sizes(alloc, &mut Watched::new(LARGER), options);
+    let row = b"2\t3\t3\t0\t0\t\t\t\tstep limit of 1 at bid 2: 0,1\n";
+    expect(&rt, alloc, heavy, 3, row)?;
+    let header: &[u8] = b"bids 0\n";
+    let refused = sizes(alloc, &mut Watched::new(header), options);
+    expect(&rt, alloc, refused, 2, b"\t\t\t\t\t\t\t\tline 1: Header\n")
 }
 
 #[test]

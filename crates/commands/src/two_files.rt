@@ -1,7 +1,7 @@
 //! The commands on two files. The second is not read if the first is refused.
 
 ghost use Rattle.std.specs.Prelude.{◌≡◌, IfOk, IfErr};
-ghost use Rattle.answers.specs.ComparedFiles.{IsComparedFile, PrintsDifferences};
+ghost use Rattle.commands.specs.Internal.ComparedFiles.{IsComparedFile, PrintsDifferences};
 ghost use Rattle.canon.specs.Canonical.{IsCanonicalFile};
 ghost use Rattle.canon.specs.declared.canon_fault.CanonFault.TheVariants.{Memory};
 ghost use Rattle.commands.specs.Commands.{text_of};
@@ -13,7 +13,8 @@ use crate::answer::{Answer, Output};
 use crate::heavy_bid::name_bid;
 use crate::input::Input;
 use crate::one_file::read_canonical;
-use answers::{ComparedFile, RunFault, differences_text, verdict_status, verdict_text};
+use crate::printed::{ComparedFile, differences_text, verdict_status, verdict_text};
+use crate::run_fault::RunFault;
 use bid_file::PackedFile;
 use canon::{CanonFault, Which, compare_files, named_normal_file};
 use std::alloc::{AllocError, Global};

@@ -1,11 +1,14 @@
+-- `cats_diff`
 use Rattle.std.proofs.Common.{subst}
 use Rattle.valuation.specs.declared.search_options.SearchOptions.{SearchOptions}
-use Rattle.cats_calls.specs.TwoTexts.{DiffCalls}
-use Rattle.cats_calls.proofs.Given.{given_diff}
+use Rattle.commands.specs.TwoTexts.{DiffCalls}
+use Rattle.commands.proofs.Given.{given_diff}
+use Rattle.cats_c.specs.Prices.{fine_of}
 use Rattle.cats_c.proofs.cats_diff.Goals as goal
 
 pub returns : goal.returns
 returns c =
-    subst (λ (o : SearchOptions). DiffCalls o c.args.left.now c.args.right.now c.args.out.now
+    subst (λ (o : SearchOptions). DiffCalls o (fine_of c.args.prices) c.args.left.now c.args.right.now c.args.out.now
     c.give.new.out c.give.new.needed c.give.result) c.options_of-options.ensures
-    (given_diff c.options_of-options.result _ _ _ _ c.diff-answer.result c.diff-answer.ensures _ _ _ _ c.give.ensures)
+    (given_diff c.options_of-options.result (fine_of c.args.prices) _ _ _ _ c.fine_of-fine.ensures c.fine_of-fine.ensures
+    c.diff-answer.result c.diff-answer.ensures _ _ _ _ c.give.ensures)

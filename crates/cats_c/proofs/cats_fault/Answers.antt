@@ -1,4 +1,5 @@
-use Rattle.cats_calls.proofs.Given.{given_place}
+-- `cats_fault`
+use Rattle.commands.proofs.Given.{given_place}
 use Rattle.cats_c.proofs.cats_fault.Goals as goal
 
 pub returns : goal.returns

@@ -1,6 +1,7 @@
+-- `cats_round`
 use Rattle.std.specs.Prelude.{if◌then◌else◌}
 use Rattle.rounding.specs.declared.replacement.FinePrices.TheVariants.{Refuse, Round}
-use Rattle.cats_calls.proofs.Given.{given_rounding}
+use Rattle.commands.proofs.Given.{given_rounding}
 use Rattle.cats_c.proofs.cats_round.Goals as goal
 
 pub returns : goal.returns

@@ -1,12 +1,15 @@
+-- `cats_value`
 use Rattle.std.proofs.Common.{subst}
 use Rattle.valuation.specs.declared.search_options.SearchOptions.{SearchOptions}
 use Rattle.commands.specs.Outcomes.{value_outcome_by}
-use Rattle.cats_calls.specs.OneText.{CallsOn}
-use Rattle.cats_calls.proofs.Given.{given_call}
+use Rattle.commands.specs.OneText.{CallsOn}
+use Rattle.commands.proofs.Given.{given_call}
+use Rattle.cats_c.specs.Prices.{fine_of}
 use Rattle.cats_c.proofs.cats_value.Goals as goal
 
 pub returns : goal.returns
 returns c =
-    subst (λ (o : SearchOptions). CallsOn (value_outcome_by c.args.goods.now o) c.args.text.now c.args.out.now
+    subst (λ (o : SearchOptions). CallsOn (value_outcome_by c.args.goods.now o) (fine_of c.args.prices) c.args.text.now c.args.out.now
     c.give.new.out c.give.new.needed c.give.result) c.options_of-options.ensures
-    (given_call (value_outcome_by c.args.goods.now c.options_of-options.result) _ _ c.value-answer.result c.value-answer.ensures _ _ _ _ c.give.ensures)
+    (given_call (fine_of c.args.prices) _ _ c.fine_of-fine.ensures (value_outcome_by c.args.goods.now c.options_of-options.result)
+    c.value-answer.result c.value-answer.ensures _ _ _ _ c.give.ensures)

@@ -1,3 +1,4 @@
+-- `+bidders_from`
 use Rattle.std.proofs.Common.{◌≡◌, ℕ, List, ◌∷◌, map, sym, ap, ap₂, ◌∙◌, Global}
 use Rattle.std.specs.Prelude.{Vec}
 use Rattle.std.specs.List.{range_with_len}

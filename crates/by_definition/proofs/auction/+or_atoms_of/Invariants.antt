@@ -1,3 +1,4 @@
+-- `+or_atoms_of`
 use Rattle.std.proofs.Common.{length}
 use Rattle.by_definition.proofs.auction.+or_atoms_of.Given as goal
 

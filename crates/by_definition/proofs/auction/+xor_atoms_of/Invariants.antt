@@ -1,3 +1,4 @@
+-- `+xor_atoms_of`
 use Rattle.std.proofs.Common.{length}
 use Rattle.by_definition.proofs.auction.+xor_atoms_of.Given as goal
 

@@ -1,3 +1,4 @@
+-- `+bundles_from`
 use Rattle.by_definition.proofs.bundle.+bundles_from.Given as goal
 
 abbrev pub decreases-bundles_from : goal.decreases-bundles_from

@@ -1,3 +1,4 @@
+-- `+with_front`
 use Rattle.std.proofs.Common.{length}
 use Rattle.by_definition.proofs.bundle.+with_front.Given as goal
 

@@ -1,3 +1,4 @@
+-- `+points_of_bidders`
 use Rattle.std.proofs.Common.{length}
 use Rattle.by_definition.proofs.canonical.+points_of_bidders.Given as goal
 

@@ -1,3 +1,4 @@
+-- `canonical_text`
 use Rattle.std.proofs.Common.{sym, subst, le_refl}
 use Rattle.bid_file.specs.Views.{plain_file}
 use Rattle.valuation.specs.Auctions.{PlainAuction, IsAuction}

@@ -1,3 +1,4 @@
+-- `+count_of`
 use Rattle.std.proofs.Common.{length}
 use Rattle.by_definition.proofs.difference.+count_of.Given as goal
 

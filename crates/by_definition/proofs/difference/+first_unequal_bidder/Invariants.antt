@@ -1,3 +1,4 @@
+-- `+first_unequal_bidder`
 use Rattle.std.proofs.Common.{length}
 use Rattle.by_definition.proofs.difference.+first_unequal_bidder.Given as goal
 

@@ -1,3 +1,4 @@
+-- `+printed_atoms`
 use Rattle.std.proofs.Common.{length}
 use Rattle.by_definition.proofs.difference.+printed_atoms.Given as goal
 

@@ -1,3 +1,4 @@
+-- `difference_of_auctions`
 use Rattle.std.proofs.Common.{◌≡◌, ℕ, List, None, not, sym, ap, ◌∙◌}
 use Rattle.std.specs.Prelude.{◌==◌, option_map}
 use Rattle.std.specs.List.{find}

@@ -1,3 +1,4 @@
+-- `+bids_from`
 use Rattle.std.proofs.Common.{length}
 use Rattle.by_definition.proofs.file.+bids_from.Given as goal
 

@@ -1,3 +1,4 @@
+-- `+dummy_bids`
 use Rattle.std.proofs.Common.{length}
 use Rattle.by_definition.proofs.file.+dummy_bids.Given as goal
 

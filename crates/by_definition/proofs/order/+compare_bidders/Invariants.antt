@@ -1,3 +1,4 @@
+-- `+compare_bidders`
 use Rattle.std.proofs.Common.{length}
 use Rattle.by_definition.proofs.order.+compare_bidders.Given as goal
 

@@ -1,3 +1,4 @@
+-- `+insert_bidder`
 use Rattle.std.proofs.Common.{vec_len}
 use Rattle.by_definition.proofs.order.+insert_bidder.Given as goal
 

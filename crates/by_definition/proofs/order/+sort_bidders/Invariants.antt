@@ -1,3 +1,4 @@
+-- `+sort_bidders`
 use Rattle.std.proofs.Common.{vec_len}
 use Rattle.by_definition.proofs.order.+sort_bidders.Given as goal
 

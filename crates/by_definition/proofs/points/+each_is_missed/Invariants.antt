@@ -1,3 +1,4 @@
+-- `+each_is_missed`
 use Rattle.std.proofs.Common.{length}
 use Rattle.by_definition.proofs.points.+each_is_missed.Given as goal
 

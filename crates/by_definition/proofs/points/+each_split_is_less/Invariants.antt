@@ -1,3 +1,4 @@
+-- `+each_split_is_less`
 use Rattle.std.proofs.Common.{length}
 use Rattle.by_definition.proofs.points.+each_split_is_less.Given as goal
 

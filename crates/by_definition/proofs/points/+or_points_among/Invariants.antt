@@ -1,3 +1,4 @@
+-- `+or_points_among`
 use Rattle.std.proofs.Common.{length}
 use Rattle.by_definition.proofs.points.+or_points_among.Given as goal
 

@@ -1,3 +1,4 @@
+-- `+xor_points_among`
 use Rattle.std.proofs.Common.{length}
 use Rattle.by_definition.proofs.points.+xor_points_among.Given as goal
 

@@ -1,3 +1,4 @@
+-- `+are_as_frequent`
 use Rattle.std.proofs.Common.{length}
 use Rattle.by_definition.proofs.same.+are_as_frequent.Given as goal
 

@@ -1,3 +1,4 @@
+-- `+bidders_with`
 use Rattle.std.proofs.Common.{length}
 use Rattle.by_definition.proofs.same.+bidders_with.Given as goal
 

@@ -1,4 +1,4 @@
--- The goods, the OR tables and the counts of each valuation are compared in turn, and the first that differs decides.
+-- `is_same_auction`: the goods, the OR tables and the counts of each valuation are compared in turn, and the first that differs decides.
 use Rattle.std.proofs.Common.{◌≡◌, ℕ, Bool, true, ◌↔◌, List, sym, ap, ap₂, ◌∙◌, Global}
 use Rattle.std.specs.Prelude.{Vec}
 use Rattle.std.specs.Cmp.Lexicographic.{slice_cmp}

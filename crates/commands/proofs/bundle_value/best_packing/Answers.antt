@@ -1,3 +1,4 @@
+-- `best_packing`
 use Rattle.std.proofs.Common.{rules}
 use Rattle.std.proofs.lemmas.List.Elements.{All-weaker}
 use Rattle.bid_file.specs.declared.limits.TheConstants.{MAX_GOODS}

@@ -1,3 +1,4 @@
+-- `text_of_values`
 use Rattle.std.proofs.Common.{arith, ◌<◌, ap, ◌∙◌}
 use Rattle.std.proofs.lemmas.List.Elements.{All-weaker}
 use Rattle.valuation.specs.Auctions.{PlainAuction}

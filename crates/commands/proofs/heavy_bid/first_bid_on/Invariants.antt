@@ -1,4 +1,4 @@
--- No bid before it is on the bundle.
+-- `first_bid_on`: no bid before it is on the bundle.
 use Rattle.std.proofs.Common.{◌≡◌, ◌<◌, ℕ, false, get_or}
 use Rattle.bid_file.specs.Files.{PlainBid}
 use Rattle.commands.specs.Outcomes.{is_on}

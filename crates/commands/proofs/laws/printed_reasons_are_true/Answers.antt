@@ -1,11 +1,12 @@
+-- `printed_reasons_are_true`
 use Rattle.std.proofs.Common.{◌≡◌, ℕ, List, Option, None, Some}
 use Rattle.bid_file.specs.Files.{PlainFile}
-use Rattle.explain.specs.Reasons.{reasons_of}
-use Rattle.explain.proofs.TrueReasons.{reasons_explain}
+use Rattle.analysis.specs.Reasons.{reasons_of}
+use Rattle.analysis.proofs.Explaining.TrueReasons.{reasons_explain}
 use Rattle.valuation.specs.Auctions.{or_atoms_of}
 use Rattle.valuation.specs.declared.search_options.SearchOptions.{SearchOptions}
 use Rattle.prune.specs.SearchSteps.{first_refused}
-use Rattle.answers.specs.ExplanationTexts.{explanation_text}
+use Rattle.commands.specs.ExplanationTexts.{explanation_text}
 use Rattle.commands.specs.Outcomes.{Outcome, Prints, text_unless_heavy}
 use Rattle.commands.proofs.laws.printed_reasons_are_true.Goals as goal
 

@@ -1,3 +1,4 @@
+-- `compare`
 use Rattle.commands.proofs.Pairing.{files_compared}
 use Rattle.commands.proofs.two_files.compare.Goals as goal
 

@@ -1,3 +1,4 @@
+-- `diff`
 use Rattle.commands.proofs.Pairing.{files_differed}
 use Rattle.commands.proofs.two_files.diff.Goals as goal
 

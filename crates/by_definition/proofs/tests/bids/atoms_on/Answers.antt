@@ -1,3 +1,4 @@
+-- `atoms_on`
 use Rattle.bid_file.specs.declared.limits.TheConstants.{MAX_GOODS}
 use Rattle.valuation.specs.Auctions.{IsAtom}
 use Rattle.valuation.specs.Lemmas.Atoms.{All-atoms_of-push}

@@ -1,3 +1,4 @@
+-- `atoms_on`
 use Rattle.std.proofs.Common.{All}
 use Rattle.bid_file.specs.declared.limits.TheConstants.{MAX_GOODS}
 use Rattle.valuation.specs.Auctions.{IsAtom}

@@ -1,3 +1,4 @@
+-- `bundle_of`
 use Rattle.std.proofs.Common.{ℕ, List, [], ap, sym, ◌∙◌}
 use Rattle.std.proofs.lemmas.List.Sums.{fold_more}
 use Rattle.goods_set.specs.Bundles.{with_good}

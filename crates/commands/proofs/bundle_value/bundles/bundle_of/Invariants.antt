@@ -1,3 +1,4 @@
+-- `bundle_of`
 use Rattle.std.proofs.Common.{◌≡◌, take}
 use Rattle.commands.specs.ValueTexts.{bundle_from}
 use Rattle.commands.proofs.bundle_value.bundles.bundle_of.Given as goal

@@ -1,3 +1,4 @@
+-- `push_bids`
 use Rattle.std.proofs.Common.{◌≡◌, ◌++◌, take}
 use Rattle.commands.specs.ValueTexts.{numbers_text}
 use Rattle.commands.proofs.bundle_value.lines.push_bids.Given as goal

@@ -1,3 +1,4 @@
+-- `push_xor_line`
 use Rattle.std.proofs.Common.{sym, ◌∙◌}
 use Rattle.std.proofs.lemmas.Result.{on_ok_weaker}
 use Rattle.valuation.specs.Lemmas.Atoms.{length-atoms_of}

@@ -1,4 +1,4 @@
--- The text so far has the lines of the bidders before; the next bidder's atoms and numbers are as many, and its line is put behind.
+-- `push_xor_lines`: the text so far has the lines of the bidders before; the next bidder's atoms and numbers are as many, and its line is put behind.
 use Rattle.std.proofs.Common.{arith, ◌≡◌, ◌<◌, ◌+◌, ◌++◌, ℕ, List, length, sym, ap, ◌∙◌}
 use Rattle.std.specs.List.{flat_map, range_with_len}
 use Rattle.bid_file.specs.Files.{PlainFile}

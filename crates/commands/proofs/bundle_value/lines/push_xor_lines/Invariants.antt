@@ -1,3 +1,4 @@
+-- `push_xor_lines`
 use Rattle.std.proofs.Common.{◌≡◌, ◌++◌}
 use Rattle.std.specs.List.{flat_map, range_with_len}
 use Rattle.commands.specs.ValueTexts.{dummy_line}

@@ -1,4 +1,4 @@
--- The lists hold the numbers of the bids so far, bidder by bidder, and the next bid's number is put at the end of its bidder's list
+-- `bid_numbers`: the lists hold the numbers of the bids so far, bidder by bidder, and the next bid's number is put at the end of its bidder's list
 -- (proofs/Numbering).
 use Rattle.std.proofs.Common.{arith, ◌<◌, take, refl, sym, ◌∙◌}
 use Rattle.std.proofs.lemmas.Option.{get_or_from_slice_get, slice_get_within}

@@ -1,3 +1,4 @@
+-- `bid_numbers`
 use Rattle.std.proofs.Common.{◌≡◌, map, take}
 use Rattle.std.specs.List.{range_with_len}
 use Rattle.commands.specs.ValueTexts.{lists_of, or_numbers, xor_numbers}

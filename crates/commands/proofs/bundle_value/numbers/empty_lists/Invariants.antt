@@ -1,3 +1,4 @@
+-- `empty_lists`
 use Rattle.std.proofs.Common.{◌≡◌, [], replicate}
 use Rattle.commands.specs.ValueTexts.{lists_of}
 use Rattle.commands.proofs.bundle_value.numbers.empty_lists.Given as goal

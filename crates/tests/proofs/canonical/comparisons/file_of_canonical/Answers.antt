@@ -1,3 +1,4 @@
+-- `file_of_canonical`
 use Rattle.std.proofs.Common.{sym, subst}
 use Rattle.valuation.specs.Views.{plain_auction}
 use Rattle.canon.specs.Canonical.{IsCanonicalFile}

@@ -1,0 +1,151 @@
+-- The numbers of the bids that have a good, bid by bid. The goods of a bid rise, with its dummy good behind them, so its number is put once
+-- in the list of each.
+use Rattle.std.proofs.Common.{◌≡◌, ℕ, ◌+◌, ◌<◌, ◌≤◌, Bool, ◌||◌, eqb, ⊎_elim, List, [], ◌∷◌, ◌++◌, length, set, get_or, refl, sym, ap, ap₂}
+use Rattle.std.proofs.Common.{◌∙◌, subst, arith, Option, None, Some, Global, append-nil, get_or-set_same, get_or-set_other}
+use Rattle.std.specs.Prelude.{All, Vec}
+use Rattle.std.specs.List.{filter, range_with_len}
+use Rattle.std.proofs.lemmas.Bool.{cases_eq, eq-eqb, ne_eqb, or_left}
+use Rattle.std.proofs.Math.Seq.{get_or-append_seam}
+use Rattle.std.proofs.lemmas.List.{get_or_append_left, get_or-map, length-append, length-map, length-set, map-set}
+use Rattle.std.proofs.lemmas.List.Elements.{All-from_recursion, filter-append}
+use Rattle.goods_set.specs.Bundles.{AreAbove, AreBelow, IsRising, has_good}
+use Rattle.goods_set.specs.Lemmas.Members.{has_not_head}
+use Rattle.bid_file.specs.Files.{IsBid, IsDummyBelow, PlainBid, PlainFile, dummy_good, goods_of}
+use Rattle.valuation.specs.Lemmas.AuctionsOfFiles.{below-from, rising-from}
+use Rattle.prune.specs.Lemmas.Lists.{filter-kept, filter-lost}
+use Rattle.analysis.specs.Bids.{bid_at}
+use Rattle.analysis.specs.Internal.BidsByGood.{AreByGood, list_at, lists_of, with_bid, with_number}
+use Rattle.analysis.specs.LpTexts.{bids_with}
+use Rattle.analysis.proofs.Allocating.RowTexts.{range_next}
+
+-- ---- the goods of a bid
+
+above_push : (x : ℕ) (gs : List ℕ) (y : ℕ) → AreAbove x gs → x < y → AreAbove x (gs ++ y ∷ [])
+above_push x [] y a l = (l, tt)
+above_push x (g ∷ gs) y a l = (a.0, above_push x gs y a.1 l)
+
+rising_push : (gs : List ℕ) (y : ℕ) → IsRising gs → AreBelow y gs → IsRising (gs ++ y ∷ [])
+rising_push [] y r b = (tt, tt)
+rising_push (g ∷ gs) y r b = (above_push g gs y r.0 b.0, rising_push gs y r.1 b.1)
+
+below_more : (n m : ℕ) (gs : List ℕ) → n ≤ m → AreBelow n gs → AreBelow m gs
+below_more n m [] l b = tt
+below_more n m (g ∷ gs) l b = let h : g < n = b.0 in (omega arith, below_more n m gs l b.1)
+
+below_push : (m : ℕ) (gs : List ℕ) (y : ℕ) → AreBelow m gs → y < m → AreBelow m (gs ++ y ∷ [])
+below_push m [] y b l = (l, tt)
+below_push m (g ∷ gs) y b l = (b.0, below_push m gs y b.1 l)
+
+module _ (G D : ℕ) (b : PlainBid) (is : IsBid G D b) where
+  rising : IsRising b.goods
+  rising = rising-from b.goods is.rising
+
+  below : AreBelow G b.goods
+  below = below-from G b.goods is.below
+
+  pub goods_rising : IsRising (goods_of G b)
+  goods_rising = at b.dummy
+    where
+      at : (o : Option ℕ) → IsRising (b.goods ++ dummy_good G o)
+      at None = subst IsRising (sym (append-nil b.goods)) rising
+      at (Some d) = rising_push b.goods (G + d) rising (below_more G (G + d) b.goods (omega arith) below)
+
+  pub goods_below : AreBelow (G + D) (goods_of G b)
+  goods_below = at b.dummy is.dummy
+    where
+      more : AreBelow (G + D) b.goods
+      more = below_more G (G + D) b.goods (omega arith) below
+
+      at : (o : Option ℕ) → IsDummyBelow D o → AreBelow (G + D) (b.goods ++ dummy_good G o)
+      at None l = subst (AreBelow (G + D)) (sym (append-nil b.goods)) more
+      at (Some d) l = let m : d < D = l in below_push (G + D) b.goods (G + d) more (omega arith)
+
+-- ---- one more number
+
+pub length-with_bid : (n : ℕ) (lists : List (List ℕ)) (goods : List ℕ) → length (with_bid n lists goods) ≡ length lists
+length-with_bid n lists [] = refl
+length-with_bid n lists (g ∷ gs) = length-with_bid n (with_number n lists g) gs ∙ length-set lists g (list_at lists g ++ n ∷ [])
+
+pub length-lists_of : (lists : List (Vec ℕ Global)) → length (lists_of lists) ≡ length lists
+length-lists_of lists = length-map lists (λ (v : Vec ℕ Global). v.items)
+
+pub number_put : (n : ℕ) (lists : List (Vec ℕ Global)) (old new : Vec ℕ Global) (good : ℕ) → good < length lists → old ≡ get_or lists good old
+    → new.items ≡ old.items ++ n ∷ [] → lists_of (set lists good new) ≡ with_number n (lists_of lists) good
+number_put n lists old new good l is more =
+    let listed : Vec ℕ Global → List ℕ = λ v. v.items in
+    let before : old.items ≡ list_at (lists_of lists) good = ap listed is ∙ sym (get_or-map listed lists good old [] l) in
+    map-set listed lists good new ∙ ap (set (lists_of lists) good) (more ∙ ap (λ (xs : List ℕ). xs ++ n ∷ []) before)
+
+module _ (n good : ℕ) where
+  -- the number, if the good is one of these
+  abbrev put : List ℕ → List ℕ
+  put goods = filter (λ i. has_good goods good) (n ∷ [])
+
+  at_bid : (goods : List ℕ) (lists : List (List ℕ)) → IsRising goods → AreBelow (length lists) goods
+      → list_at (with_bid n lists goods) good ≡ list_at lists good ++ put goods
+  at_bid [] lists r b = sym (append-nil (list_at lists good))
+  at_bid (x ∷ xs) lists r b =
+      let next : List (List ℕ) = with_number n lists x in
+      let long = length-set lists x (list_at lists x ++ n ∷ []) in
+      at_bid xs next r.1 (subst (λ m. AreBelow m xs) (sym long) b.1)
+      ∙ ⊎_elim
+      (λ (same : good ≡ x).
+      ap₂ (λ (ys zs : List ℕ). ys ++ zs) (ap (list_at next) same ∙ get_or-set_same lists x (list_at lists x ++ n ∷ []) [] b.0
+      ∙ ap (λ (g : ℕ). list_at lists g ++ n ∷ []) (sym same))
+      (filter-lost (λ i. has_good xs good) n [] (ap (has_good xs) same ∙ has_not_head x xs r.0))
+      ∙ append-nil (list_at lists good ++ n ∷ [])
+      ∙ ap (λ (zs : List ℕ). list_at lists good ++ zs)
+      (sym (filter-kept (λ i. has_good (x ∷ xs) good) n [] (or_left (eqb x good) (has_good xs good) (eq-eqb x good (sym same))))))
+      (λ (other : good ≡ x → ⊥).
+      ap₂ (λ (ys zs : List ℕ). ys ++ zs) (get_or-set_other lists x good (list_at lists x ++ n ∷ []) [] other)
+      (ap (λ (t : Bool). filter (λ i. t || has_good xs good) (n ∷ [])) (sym (ne_eqb x good (λ e. other (sym e))))))
+      (cases_eq good x)
+
+pub bid_put : (f : PlainFile) (n : ℕ) (b : PlainBid) (lists changed : List (List ℕ)) → IsBid f.goods f.dummy b → b ≡ bid_at f n
+    → changed ≡ with_bid n lists (goods_of f.goods b) → AreByGood f n lists → AreByGood f (n + 1) changed
+bid_put f n b lists changed is here c h = record {
+  long = ap (length {A = List ℕ}) c ∙ length-with_bid n lists (goods_of f.goods b) ∙ h.long;
+  each = λ good l.
+      let has : PlainBid → Bool = λ a. has_good (goods_of f.goods a) good in
+      let test : ℕ → Bool = λ i. has (bid_at f i) in
+      ap (λ (zs : List (List ℕ)). list_at zs good) c
+      ∙ at_bid n good (goods_of f.goods b) lists (goods_rising f.goods f.dummy b is)
+      (subst (λ m. AreBelow m (goods_of f.goods b)) (sym h.long) (goods_below f.goods f.dummy b is))
+      ∙ ap₂ (λ (ys zs : List ℕ). ys ++ zs) (h.each good l) (ap (λ (a : PlainBid). filter (λ (i : ℕ). has a) (n ∷ [])) here)
+      ∙ sym (filter-append test (range_with_len 0 n) (n ∷ [])) ∙ ap (filter test) (sym (range_next n));
+}
+
+pub goods_within : (f : PlainFile) (b : PlainBid) (n : ℕ) (lists : List (Vec ℕ Global)) → IsBid f.goods f.dummy b → AreByGood f n (lists_of lists)
+    → All (λ g. g < length lists) (goods_of f.goods b)
+goods_within f b n lists is h =
+    let long : f.goods + f.dummy ≡ length lists = sym h.long ∙ length-lists_of lists in
+    subst (λ m. All (λ g. g < m) (goods_of f.goods b)) long
+    (All-from_recursion (λ g. g < f.goods + f.dummy) (goods_of f.goods b) (goods_below f.goods f.dummy b is))
+
+pub good_within : (G m i : ℕ) (b : PlainBid) → All (λ g. g < m) (goods_of G b) → i < length b.goods → get_or b.goods i 0 < m
+good_within G m i b h l =
+    let at = get_or_append_left b.goods (dummy_good G b.dummy) 0 i l in
+    let long = length-append b.goods (dummy_good G b.dummy) in
+    let one = h i 0 (omega arith) in
+    omega arith
+
+pub dummy_within : (G m d : ℕ) (b : PlainBid) → All (λ g. g < m) (goods_of G b) → b.dummy ≡ Some d → G + d < m
+dummy_within G m d b h s =
+    let all : All (λ g. g < m) (b.goods ++ (G + d) ∷ []) = subst (λ (o : Option ℕ). All (λ g. g < m) (b.goods ++ dummy_good G o)) s h in
+    let at = get_or-append_seam b.goods (G + d) [] 0 in
+    let long = length-append b.goods ((G + d) ∷ []) in
+    let one = all (length b.goods) 0 (omega arith) in
+    omega arith
+
+pub same_length : (n : ℕ) (lists now : List (Vec ℕ Global)) (goods : List ℕ) → lists_of now ≡ with_bid n (lists_of lists) goods → length now ≡ length lists
+same_length n lists now goods h =
+    sym (length-lists_of now) ∙ ap (length {A = List ℕ}) h ∙ length-with_bid n (lists_of lists) goods ∙ length-lists_of lists
+
+-- the list of a good
+pub bids_found : (f : PlainFile) (lists : List (Vec ℕ Global)) (good : ℕ) (v : Vec ℕ Global) → AreByGood f (length f.bids) (lists_of lists)
+    → good < length lists → v ≡ get_or lists good v → v.items ≡ bids_with f good
+bids_found f lists good v h l is =
+    let listed : Vec ℕ Global → List ℕ = λ v. v.items in
+    let long = length-lists_of lists in
+    let there = h.long in
+    ap listed is ∙ sym (get_or-map listed lists good v [] l) ∙ h.each good (omega arith)

@@ -1,0 +1,233 @@
+-- Clashes, from the last bid to the first. Two bids cannot both win exactly if they share a good, where the dummy good is one behind the
+-- real goods. So the first later bid that clashes with a bid is the least of the first later bids that have one of its goods.
+use Rattle.std.proofs.Common.{◌≡◌, ℕ, ◌+◌, ◌<◌, ◌≤◌, Bool, true, false, not, cond, ◌||◌, eqb, ⊎_elim, List, [], ◌∷◌, length, drop, set, replicate}
+use Rattle.std.proofs.Common.{get_or, refl, sym, ap, ◌∙◌, subst, arith, Option, None, Some, get_or-set_same, get_or-set_other, zero, suc}
+use Rattle.std.specs.Prelude.{All, IfSome}
+use Rattle.std.specs.List.{find, list_any}
+use Rattle.std.proofs.lemmas.Bool.{both_ways, cases_Bool, cases_eq, eq-eqb, false_from_ne_true, ne_eqb, not_from_false, not_from_true, or_left}
+use Rattle.std.proofs.lemmas.List.{drop_all, drop_more, get_or-replicate, length-replicate, length-set}
+use Rattle.std.proofs.lemmas.List.Elements.{All-from_recursion}
+use Rattle.goods_set.specs.Bundles.{AreAbove, AreBelow, IsBundle, IsRising, has_good}
+use Rattle.goods_set.specs.Lemmas.Members.{has_below}
+use Rattle.bid_file.specs.Files.{IsBid, IsPlainFile, PlainBid, PlainFile, goods_of}
+use Rattle.prune.specs.Lemmas.Lists.{All-from_Contains, find_same_on, list_any_fails, list_any_found}
+use Rattle.analysis.specs.Bids.{bid_at}
+use Rattle.analysis.proofs.Explaining.KeptBids.{bid_here}
+use Rattle.analysis.specs.AllocationVerdicts.{first_clash, first_rival, pair_or}
+use Rattle.analysis.specs.Allocations.{can_both_win}
+use Rattle.analysis.specs.Internal.FirstHolders.{AreHolders, has, held_by, holder_at, least_holder, lesser}
+use Rattle.analysis.proofs.Allocating.ByGood.{goods_below}
+use Rattle.analysis.proofs.Allocating.LpRows.{both_win, contains_from, has_from, share_none}
+
+-- ---- the lesser of two numbers
+
+lesser_none : (o : Option ℕ) → lesser o None ≡ o
+lesser_none None = refl
+lesser_none (Some i) = refl
+
+lesser_assoc : (o p q : Option ℕ) → lesser (lesser o p) q ≡ lesser o (lesser p q)
+lesser_assoc None p q = refl
+lesser_assoc (Some i) None q = refl
+lesser_assoc (Some i) (Some j) None = refl
+lesser_assoc (Some i) (Some j) (Some k) = ap Some (omega arith)
+
+lesser_left : (i : ℕ) (o : Option ℕ) → IfSome o (λ j. i < j) → lesser (Some i) o ≡ Some i
+lesser_left i None l = refl
+lesser_left i (Some j) l = let m : i < j = l in ap Some (omega arith)
+
+lesser_right : (o : Option ℕ) (j : ℕ) → IfSome o (λ i. j < i) → lesser o (Some j) ≡ Some j
+lesser_right None j l = refl
+lesser_right (Some i) j l = let m : j < i = l in ap Some (omega arith)
+
+-- ---- the first of rising numbers that passes a test
+
+found_above : (p : ℕ → Bool) (x : ℕ) (xs : List ℕ) → AreAbove x xs → IfSome (find p xs) (λ y. x < y)
+found_above p x [] a = tt
+found_above p x (y ∷ ys) a =
+    elim (p y) as (λ b. IfSome (cond b (Some y) (find p ys)) (λ z. x < z)) [
+      | true ↦ a.0
+      | false ↦ found_above p x ys a.1
+    ]
+
+find_either : (p q : ℕ → Bool) (xs : List ℕ) → IsRising xs → lesser (find p xs) (find q xs) ≡ find (λ x. p x || q x) xs
+find_either p q [] r = refl
+find_either p q (x ∷ xs) r =
+    let either : Option ℕ = find (λ y. p y || q y) xs in
+    let same : lesser (Some x) (Some x) ≡ Some x = ap Some (omega arith) in
+    elim (p x) as (λ b. lesser (cond b (Some x) (find p xs)) (cond (q x) (Some x) (find q xs)) ≡ cond (b || q x) (Some x) either) [
+      | true ↦ elim (q x) as (λ b. lesser (Some x) (cond b (Some x) (find q xs)) ≡ Some x) [
+        | true ↦ same
+        | false ↦ lesser_left x (find q xs) (found_above q x xs r.0)
+      ]
+      | false ↦ elim (q x) as (λ b. lesser (find p xs) (cond b (Some x) (find q xs)) ≡ cond b (Some x) either) [
+        | true ↦ lesser_right (find p xs) x (found_above p x xs r.0)
+        | false ↦ find_either p q xs r.1
+      ]
+    ]
+
+find_nothing : (xs : List ℕ) → find (λ x. false) xs ≡ None
+find_nothing [] = refl
+find_nothing (x ∷ xs) = find_nothing xs
+
+-- ---- bids that share a good
+
+share_test : (G D : ℕ) (a b : PlainBid) → IsBid G D a → IsBid G D b
+    → list_any (λ good. has_good (goods_of G b) good) (goods_of G a) ≡ not (can_both_win a b)
+share_test G D a b is_a is_b =
+    let shares : ℕ → Bool = has_good (goods_of G b) in
+    ⊎_elim
+    (λ (win : can_both_win a b ≡ true).
+    false_from_ne_true (list_any shares (goods_of G a)) (λ t.
+    let r = list_any_found shares (goods_of G a) t in
+    share_none G D a b is_a is_b win r.0 (has_from (goods_of G a) r.0 r.1) r.2)
+    ∙ sym (not_from_true (can_both_win a b) win))
+    (λ (clash : can_both_win a b ≡ false).
+    ⊎_elim (λ (t : list_any shares (goods_of G a) ≡ true). t ∙ sym (not_from_false (can_both_win a b) clash))
+    (λ (none : list_any shares (goods_of G a) ≡ false).
+    absurd (both_ways (can_both_win a b) clash (both_win G D a b is_a is_b (λ good l h k.
+    both_ways (shares good) (list_any_fails shares (goods_of G a) none good (contains_from (goods_of G a) good h)) k))))
+    (cases_Bool (list_any shares (goods_of G a))))
+    (cases_Bool (can_both_win a b))
+
+module _ (f : PlainFile) (is : IsPlainFile f) where
+  rival_is : (i : ℕ) (later : List ℕ) → i < length f.bids → AreBelow (length f.bids) later
+      → find (λ j. list_any (λ good. has f good j) (goods_of f.goods (bid_at f i))) later ≡ first_rival f i later
+  rival_is i later l below =
+      let shares : ℕ → Bool = λ j. list_any (λ good. has f good j) (goods_of f.goods (bid_at f i)) in
+      let clashes : ℕ → Bool = λ j. not (can_both_win (bid_at f i) (bid_at f j)) in
+      find_same_on shares clashes later
+      (All-from_Contains (λ j. shares j ≡ clashes j) later (λ j c.
+      share_test f.goods f.dummy (bid_at f i) (bid_at f j) (bid_here f is i l)
+      (bid_here f is j (has_below (length f.bids) later j below (has_from later j c)))))
+
+  least_is : (later : List ℕ) (holders : List (Option ℕ)) → IsRising later → AreHolders f later holders → (goods : List ℕ)
+      → AreBelow (f.goods + f.dummy) goods → (start : Option ℕ)
+      → least_holder holders start goods ≡ lesser start (find (λ j. list_any (λ good. has f good j) goods) later)
+  least_is later holders rises h [] below start = sym (ap (lesser start) (find_nothing later) ∙ lesser_none start)
+  least_is later holders rises h (good ∷ goods) below start =
+      let others : Option ℕ = find (λ j. list_any (λ g. has f g j) goods) later in
+      least_is later holders rises h goods below.1 (lesser start (holder_at holders good))
+      ∙ lesser_assoc start (holder_at holders good) others
+      ∙ ap (lesser start)
+      (ap (λ o. lesser o others) (h.each good below.0) ∙ find_either (has f good) (λ j. list_any (λ g. has f g j) goods) later rises)
+
+-- ---- a bid at its goods
+
+length-held_by : (n : ℕ) (holders : List (Option ℕ)) (goods : List ℕ) → length (held_by n holders goods) ≡ length holders
+length-held_by n holders [] = refl
+length-held_by n holders (good ∷ goods) = length-held_by n (set holders good (Some n)) goods ∙ length-set holders good (Some n)
+
+cond_same : {X : Type 0} (b : Bool) (x : X) → cond b x x ≡ x
+cond_same true x = refl
+cond_same false x = refl
+
+at_held : (n good : ℕ) (goods : List ℕ) (holders : List (Option ℕ)) → AreBelow (length holders) goods
+    → holder_at (held_by n holders goods) good ≡ cond (has_good goods good) (Some n) (holder_at holders good)
+at_held n good [] holders below = refl
+at_held n good (x ∷ xs) holders below =
+    let next : List (Option ℕ) = set holders x (Some n) in
+    let long = length-set holders x (Some n) in
+    at_held n good xs next (subst (λ m. AreBelow m xs) (sym long) below.1)
+    ∙ ⊎_elim
+    (λ (same : good ≡ x).
+    ap (λ o. cond (has_good xs good) (Some n) o) (ap (holder_at next) same ∙ get_or-set_same holders x (Some n) None below.0)
+    ∙ cond_same (has_good xs good) (Some n)
+    ∙ sym (ap (λ t. cond t (Some n) (holder_at holders good)) (or_left (eqb x good) (has_good xs good) (eq-eqb x good (sym same)))))
+    (λ (other : good ≡ x → ⊥).
+    ap (λ o. cond (has_good xs good) (Some n) o) (get_or-set_other holders x good (Some n) None other)
+    ∙ sym (ap (λ t. cond (t || has_good xs good) (Some n) (holder_at holders good)) (ne_eqb x good (λ e. other (sym e)))))
+    (cases_eq good x)
+
+one_more : (f : PlainFile) (n : ℕ) (b : PlainBid) (later : List ℕ) (holders : List (Option ℕ)) → IsBid f.goods f.dummy b → b ≡ bid_at f n
+    → AreHolders f later holders → AreHolders f (n ∷ later) (held_by n holders (goods_of f.goods b))
+one_more f n b later holders is here h = record {
+  long = length-held_by n holders (goods_of f.goods b) ∙ h.long;
+  each = λ good l.
+      at_held n good (goods_of f.goods b) holders
+      (subst (λ m. AreBelow m (goods_of f.goods b)) (sym h.long) (goods_below f.goods f.dummy b is))
+      ∙ ap (λ (o : Option ℕ). cond (has_good (goods_of f.goods b) good) (Some n) o) (h.each good l)
+      ∙ ap (λ (a : PlainBid). cond (has_good (goods_of f.goods a) good) (Some n) (find (has f good) later)) here;
+}
+
+-- ---- the walk
+
+-- what is known of the winners from this place on
+pub record IsWalked (f : PlainFile) (winners : List ℕ) (place : ℕ) (holders : List (Option ℕ)) (clash : Option (ℕ × ℕ)) : Type 0 where
+  pub held : AreHolders f (drop place winners) holders
+  pub is_clash : clash ≡ first_clash f (drop place winners)
+
+abbrev nobody : Option ℕ
+nobody = None
+
+pub none_walked : (f : PlainFile) (winners : List ℕ) (holders : List (Option ℕ)) → holders ≡ replicate (f.goods + f.dummy) nobody
+    → IsWalked f winners (length winners) holders None
+none_walked f winners holders e = record {
+  held = record {
+    long = ap (length {A = Option ℕ}) e ∙ length-replicate (f.goods + f.dummy) nobody;
+    each = λ good l.
+        ap (λ (hs : List (Option ℕ)). holder_at hs good) e ∙ get_or-replicate (f.goods + f.dummy) good nobody None l
+        ∙ ap (find (has f good)) (sym (drop_all (length winners) winners (omega arith)));
+  };
+  is_clash = ap (first_clash f) (sym (drop_all (length winners) winners (omega arith)));
+}
+
+drop_rises : (k : ℕ) (xs : List ℕ) → IsRising xs → IsRising (drop k xs)
+drop_rises zero xs r = r
+drop_rises (suc k) [] r = tt
+drop_rises (suc k) (x ∷ xs) r = drop_rises k xs r.1
+
+drop_below : (n k : ℕ) (xs : List ℕ) → AreBelow n xs → AreBelow n (drop k xs)
+drop_below n zero xs b = b
+drop_below n (suc k) [] b = tt
+drop_below n (suc k) (x ∷ xs) b = drop_below n k xs b.1
+
+below_at : (n : ℕ) (xs : List ℕ) (k : ℕ) → AreBelow n xs → k < length xs → get_or xs k 0 < n
+below_at n [] k b l = absurd (omega arith)
+below_at n (x ∷ xs) zero b l = b.0
+below_at n (x ∷ xs) (suc k) b l = below_at n xs k b.1 (omega arith)
+
+pub number_there : (f : PlainFile) (winners : List ℕ) → IsBundle (length f.bids) winners → (place : ℕ) → place < length winners
+    → get_or winners place 0 < length f.bids
+number_there f winners numbers place l = below_at (length f.bids) winners place numbers.1 l
+
+-- one winner more, whose bid is this one
+module _ (f : PlainFile) (is : IsPlainFile f) (winners : List ℕ) (numbers : IsBundle (length f.bids) winners) (place next n : ℕ)
+    (before : place + 1 ≡ next) (within : next ≤ length winners) (at : n ≡ get_or winners place 0) (b : PlainBid) (here : b ≡ bid_at f n)
+    (holders : List (Option ℕ)) (clash : Option (ℕ × ℕ)) (walked : IsWalked f winners next holders clash) where
+  w : IsWalked f winners (place + 1) holders clash
+  w = subst (λ (m : ℕ). IsWalked f winners m holders clash) (sym before) walked
+
+  whole : drop place winners ≡ n ∷ drop (place + 1) winners
+  whole = drop_more winners place 0 (omega arith) ∙ ap (λ (x : ℕ). x ∷ drop (place + 1) winners) (sym at)
+
+  rises : IsRising (n ∷ drop (place + 1) winners)
+  rises = subst IsRising whole (drop_rises place winners numbers.0)
+
+  below : AreBelow (length f.bids) (n ∷ drop (place + 1) winners)
+  below = subst (AreBelow (length f.bids)) whole (drop_below (length f.bids) place winners numbers.1)
+
+  is_bid : IsBid f.goods f.dummy b
+  is_bid = subst (IsBid f.goods f.dummy) (sym here) (bid_here f is n below.0)
+
+  goods_there : AreBelow (f.goods + f.dummy) (goods_of f.goods b)
+  goods_there = goods_below f.goods f.dummy b is_bid
+
+  pub goods_held : All (λ good. good < length holders) (goods_of f.goods b)
+  goods_held =
+      subst (λ m. All (λ good. good < m) (goods_of f.goods b)) (sym w.held.long)
+      (All-from_recursion (λ good. good < f.goods + f.dummy) (goods_of f.goods b) goods_there)
+
+  rival : least_holder holders None (goods_of f.goods b) ≡ first_rival f n (drop (place + 1) winners)
+  rival =
+      least_is f is (drop (place + 1) winners) holders rises.1 w.held (goods_of f.goods b) goods_there None
+      ∙ ap (λ (a : PlainBid). find (λ j. list_any (λ good. has f good j) (goods_of f.goods a)) (drop (place + 1) winners)) here
+      ∙ rival_is f is n (drop (place + 1) winners) below.0 below.1
+
+  pub one_walked : (changed : List (Option ℕ)) (after : Option (ℕ × ℕ)) → changed ≡ held_by n holders (goods_of f.goods b)
+      → after ≡ pair_or n (least_holder holders None (goods_of f.goods b)) clash → IsWalked f winners place changed after
+  one_walked changed after c e = record {
+    held = subst (λ ws. AreHolders f ws changed) (sym whole)
+        (subst (AreHolders f (n ∷ drop (place + 1) winners)) (sym c) (one_more f n b (drop (place + 1) winners) holders is_bid here w.held));
+    is_clash = e ∙ ap (λ (o : Option ℕ). pair_or n o clash) rival
+        ∙ ap (pair_or n (first_rival f n (drop (place + 1) winners))) w.is_clash ∙ ap (first_clash f) (sym whole);
+  }

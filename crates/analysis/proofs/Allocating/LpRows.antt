@@ -1,0 +1,239 @@
+-- The rows are met exactly by allocations: two winners that share a good, or a dummy good, are both in its row, and other winners are not.
+-- A row's bids are those of all numbers that pass a test, so they rise; and so are the winners, whose prices the objective adds up.
+use Rattle.std.proofs.Common.{◌≡◌, ℕ, ◌+◌, ◌*◌, ◌<◌, ◌≤◌, Bool, true, false, not, eqb, ⊎_elim, ◌⊎◌, inl, inr, List, [], ◌∷◌, ◌++◌, length, map}
+use Rattle.std.proofs.Common.{refl, sym, ap, ◌∙◌, subst}
+use Rattle.std.proofs.Common.{Option, Some, None, arith}
+use Rattle.std.specs.Prelude.{Contains, IsTrue, if◌then◌else◌, sum_by}
+use Rattle.std.specs.List.{filter, list_all, range_with_len}
+use Rattle.std.proofs.lemmas.Bool.{and_from, and_parts, both_ways, cases_Bool, eq-eqb, eqb-true, lt-ltb, not_from_false}
+use Rattle.std.proofs.lemmas.Bool.{false_from_ne_true, not-true}
+use Rattle.std.proofs.lemmas.List.Elements.{All-contains, Contains-append_cases, Contains-append_left, Contains-append_right}
+use Rattle.std.proofs.lemmas.List.Kept.{AllPairs-filter}
+use Rattle.std.proofs.lemmas.List.Sums.{sum_by-cons}
+use Rattle.goods_set.specs.Bundles.{IsBundle, IsRising, are_apart, has_good}
+use Rattle.goods_set.specs.Lemmas.Members.{apart_at, apart_from, has-filter, has_above, has_below, has_cases, has_head, has_tail, same_from_has}
+use Rattle.bid_file.specs.Files.{IsBid, IsDummyBelow, IsPlainFile, PlainBid, PlainFile, dummy_good, goods_of}
+use Rattle.valuation.specs.Lemmas.Bounds.{sum-zero}
+use Rattle.valuation.specs.Lemmas.AuctionsOfFiles.{below-from}
+use Rattle.valuation.specs.Lemmas.Lists.{Contains-map, Contains-unmap}
+use Rattle.prune.specs.Lemmas.Lists.{All-from_Contains, Contains-filter, Contains-filter_parts, filter-kept, filter-lost}
+use Rattle.prune.specs.Lemmas.Lists.{list_all_from, list_any_found, list_any_has}
+use Rattle.prune.specs.Lemmas.Ranges.{range_contains, range_rising}
+use Rattle.analysis.specs.Bids.{bid_at, numbers_of}
+use Rattle.analysis.proofs.Explaining.KeptBids.{bid_here}
+use Rattle.analysis.specs.Allocations.{can_all_win, can_both_win, revenue, share_dummy}
+use Rattle.analysis.specs.LpTexts.{AreRowsMet, PlainRow, bids_with, is_shared, lp_rows, objective, row_of, value_of}
+use Rattle.analysis.proofs.Allocating.Allocations.{CanWin, both_flip, pairs_at, pairs_from_test, rising_from_pairs}
+
+-- ---- members
+
+pub has_from : (xs : List ℕ) (x : ℕ) → Contains xs x → has_good xs x ≡ true
+has_from xs x c = list_any_has (λ y. eqb y x) xs x c (eq-eqb x x refl)
+
+pub contains_from : (xs : List ℕ) (x : ℕ) → has_good xs x ≡ true → Contains xs x
+contains_from xs x h =
+    let r = list_any_found (λ y. eqb y x) xs h in
+    subst (Contains xs) (eqb-true r.0 x r.2) r.1
+
+-- ---- how many of a list pass a test
+
+abbrev one_if : (ℕ → Bool) → ℕ → ℕ
+one_if p i = if p i then 1 else 0
+
+module _ (p : ℕ → Bool) where
+  one : (x : ℕ) → p x ≡ true → one_if p x ≡ 1
+  one x t = ap (λ b. if b then 1 else 0) t
+
+  none : (x : ℕ) → p x ≡ false → one_if p x ≡ 0
+  none x t = ap (λ b. if b then 1 else 0) t
+
+  at_most_one : (xs : List ℕ) → IsRising xs → ((x y : ℕ) → has_good xs x ≡ true → has_good xs y ≡ true → p x ≡ true → p y ≡ true → x < y → ⊥)
+      → sum_by (one_if p) xs ≤ 1
+  at_most_one [] r h = omega arith
+  at_most_one (x ∷ xs) r h =
+      let sum = sum_by-cons (one_if p) x xs in
+      ⊎_elim
+      (λ (t : p x ≡ true).
+      let rest = sum-zero (one_if p) xs (λ y k. none y (false_from_ne_true (p y) (λ u. h x y (has_head x xs) (has_tail x xs y k) t u
+      (has_above x xs y r.0 k)))) in
+      let first = one x t in
+      omega arith)
+      (λ (t : p x ≡ false).
+      let rest = at_most_one xs r.1 (λ y z a b. h y z (has_tail x xs y a) (has_tail x xs z b)) in
+      let first = none x t in
+      omega arith)
+      (cases_Bool (p x))
+
+  at_least_one : (xs : List ℕ) (y : ℕ) → has_good xs y ≡ true → p y ≡ true → 1 ≤ sum_by (one_if p) xs
+  at_least_one [] y h t = absurd (both_ways false refl h)
+  at_least_one (x ∷ xs) y h t =
+      let sum = sum_by-cons (one_if p) x xs in
+      ⊎_elim (λ (e : x ≡ y). let first = one x (ap p e ∙ t) in omega arith)
+      (λ (k : has_good xs y ≡ true). let rest = at_least_one xs y k t in omega arith) (has_cases x xs y h)
+
+  at_least_two : (xs : List ℕ) (y z : ℕ) → has_good xs y ≡ true → has_good xs z ≡ true → p y ≡ true → p z ≡ true → y < z → 2 ≤ sum_by (one_if p) xs
+  at_least_two [] y z h k t u l = absurd (both_ways false refl h)
+  at_least_two (x ∷ xs) y z h k t u l =
+      let sum = sum_by-cons (one_if p) x xs in
+      ⊎_elim
+      (λ (e : x ≡ y).
+      let first = one x (ap p e ∙ t) in
+      ⊎_elim (λ (d : x ≡ z). absurd (omega arith)) (λ (m : has_good xs z ≡ true). let rest = at_least_one xs z m u in omega arith) (has_cases x xs z k))
+      (λ (m : has_good xs y ≡ true).
+      ⊎_elim (λ (d : x ≡ z). let first = one x (ap p d ∙ u) in let rest = at_least_one xs y m t in omega arith)
+      (λ (n : has_good xs z ≡ true). let rest = at_least_two xs y z m n t u l in omega arith) (has_cases x xs z k))
+      (has_cases x xs y h)
+
+  at_most_all : (xs : List ℕ) → sum_by (one_if p) xs ≤ length xs
+  at_most_all [] = omega arith
+  at_most_all (x ∷ xs) =
+      let sum = sum_by-cons (one_if p) x xs in
+      let rest = at_most_all xs in
+      ⊎_elim (λ (t : p x ≡ true). let first = one x t in omega arith) (λ (t : p x ≡ false). let first = none x t in omega arith) (cases_Bool (p x))
+
+  -- the sum over those that pass
+  weighed : (weight : ℕ → ℕ) (xs : List ℕ) → sum_by (λ i. weight i * one_if p i) xs ≡ sum_by weight (filter p xs)
+  weighed weight [] = refl
+  weighed weight (x ∷ xs) =
+      let sum = sum_by-cons (λ i. weight i * one_if p i) x xs in
+      let rest = weighed weight xs in
+      ⊎_elim
+      (λ (t : p x ≡ true).
+      let first : weight x * one_if p x ≡ weight x * 1 = ap (λ n. weight x * n) (one x t) in
+      let kept = ap (sum_by weight) (filter-kept p x xs t) ∙ sum_by-cons weight x (filter p xs) in
+      omega arith)
+      (λ (t : p x ≡ false).
+      let first : weight x * one_if p x ≡ weight x * 0 = ap (λ n. weight x * n) (none x t) in
+      let lost = ap (sum_by weight) (filter-lost p x xs t) in
+      omega arith)
+      (cases_Bool (p x))
+
+-- ---- the numbers of a file's bids that pass a test
+
+module _ (f : PlainFile) where
+  pub in_numbers : (i : ℕ) → i < length f.bids → has_good (numbers_of f) i ≡ true
+  in_numbers i l = has_from (numbers_of f) i (range_contains (length f.bids) i l)
+
+  pub passing_rise : (p : ℕ → Bool) → IsRising (filter p (numbers_of f))
+  passing_rise p = rising_from_pairs (filter p (numbers_of f)) (AllPairs-filter (λ i j. i < j) p (numbers_of f) (range_rising 0 (length f.bids)))
+
+  pub objective_is_revenue : (winners : List ℕ) → IsBundle (length f.bids) winners → objective f winners ≡ revenue f winners
+  objective_is_revenue winners h =
+      let price : ℕ → ℕ = λ i. (bid_at f i).price in
+      weighed (has_good winners) price (numbers_of f)
+      ∙ ap (sum_by price) (same_from_has (filter (has_good winners) (numbers_of f)) winners (passing_rise (has_good winners)) h.0
+      (λ i k. (and_parts (has_good winners i) (has_good (numbers_of f) i) (sym (has-filter (has_good winners) (numbers_of f) i) ∙ k)).0)
+      (λ i k. has-filter (has_good winners) (numbers_of f) i
+      ∙ and_from (has_good winners i) (has_good (numbers_of f) i) k (in_numbers i (has_below (length f.bids) winners i h.1 k))))
+
+-- ---- the goods that two bids share
+
+has_left : (xs ys : List ℕ) (g : ℕ) → has_good xs g ≡ true → has_good (xs ++ ys) g ≡ true
+has_left xs ys g h = has_from (xs ++ ys) g (Contains-append_left xs ys g (contains_from xs g h))
+
+has_right : (xs ys : List ℕ) (g : ℕ) → has_good ys g ≡ true → has_good (xs ++ ys) g ≡ true
+has_right xs ys g h = has_from (xs ++ ys) g (Contains-append_right xs ys g (contains_from ys g h))
+
+has_either : (xs ys : List ℕ) (g : ℕ) → has_good (xs ++ ys) g ≡ true → (has_good xs g ≡ true) ⊎ (has_good ys g ≡ true)
+has_either xs ys g h =
+    ⊎_elim (λ (c : Contains xs g). inl (has_from xs g c)) (λ (c : Contains ys g). inr (has_from ys g c))
+    (Contains-append_cases xs ys g (contains_from (xs ++ ys) g h))
+
+in_dummy : (G : ℕ) (o : Option ℕ) (g : ℕ) → has_good (dummy_good G o) g ≡ true → (d : ℕ) × (o ≡ Some d) × (G + d ≡ g)
+in_dummy G None g h = absurd (both_ways false refl h)
+in_dummy G (Some d) g h = ⊎_elim (λ (e : G + d ≡ g). (d, refl, e)) (λ (k : false ≡ true). absurd (both_ways false refl k)) (has_cases (G + d) [] g h)
+
+pub same_dummy : (o p : Option ℕ) → share_dummy o p ≡ true → (d : ℕ) × (o ≡ Some d) × (p ≡ Some d)
+same_dummy None p s = absurd (both_ways false refl s)
+same_dummy (Some d) None s = absurd (both_ways false refl s)
+same_dummy (Some d) (Some e) s = (d, refl, ap Some (eqb-true e d s))
+
+module _ (G D : ℕ) (a b : PlainBid) (is_a : IsBid G D a) (is_b : IsBid G D b) where
+  below_a : (g : ℕ) → has_good a.goods g ≡ true → g < G
+  below_a g h = has_below G a.goods g (below-from G a.goods is_a.below) h
+
+  below_b : (g : ℕ) → has_good b.goods g ≡ true → g < G
+  below_b g h = has_below G b.goods g (below-from G b.goods is_b.below) h
+
+  pub share_none : IsTrue (can_both_win a b) → (g : ℕ) → has_good (goods_of G a) g ≡ true → has_good (goods_of G b) g ≡ true → ⊥
+  share_none win g h k =
+      let parts = and_parts (are_apart a.goods b.goods) (not (share_dummy a.dummy b.dummy)) win in
+      ⊎_elim
+      (λ (m : has_good a.goods g ≡ true).
+      ⊎_elim (λ (n : has_good b.goods g ≡ true). both_ways (has_good b.goods g) (apart_at a.goods b.goods g parts.0 m) n)
+      (λ (n : has_good (dummy_good G b.dummy) g ≡ true). let d = in_dummy G b.dummy g n in let e = d.2 in let l = below_a g m in absurd (omega arith))
+      (has_either b.goods (dummy_good G b.dummy) g k))
+      (λ (m : has_good (dummy_good G a.dummy) g ≡ true).
+      let d = in_dummy G a.dummy g m in
+      let e : G + d.0 ≡ g = d.2 in
+      ⊎_elim (λ (n : has_good b.goods g ≡ true). let l = below_b g n in absurd (omega arith))
+      (λ (n : has_good (dummy_good G b.dummy) g ≡ true).
+      let c = in_dummy G b.dummy g n in
+      let q : G + c.0 ≡ g = c.2 in
+      let same : c.0 ≡ d.0 = omega arith in
+      both_ways (share_dummy a.dummy b.dummy) (not-true (share_dummy a.dummy b.dummy) parts.1)
+      (ap (λ (o : Option ℕ). share_dummy o b.dummy) d.1 ∙ ap (share_dummy (Some d.0)) c.1 ∙ eq-eqb c.0 d.0 same))
+      (has_either b.goods (dummy_good G b.dummy) g k))
+      (has_either a.goods (dummy_good G a.dummy) g h)
+
+  pub both_win : ((g : ℕ) → g < G + D → has_good (goods_of G a) g ≡ true → has_good (goods_of G b) g ≡ true → ⊥) → IsTrue (can_both_win a b)
+  both_win clash =
+      and_from (are_apart a.goods b.goods) (not (share_dummy a.dummy b.dummy))
+      (apart_from a.goods b.goods (λ g h. false_from_ne_true (has_good b.goods g) (λ k.
+      let l = below_a g h in clash g (omega arith) (has_left a.goods (dummy_good G a.dummy) g h) (has_left b.goods (dummy_good G b.dummy) g k))))
+      (not_from_false (share_dummy a.dummy b.dummy) (false_from_ne_true (share_dummy a.dummy b.dummy) (λ s.
+      let d = same_dummy a.dummy b.dummy s in
+      let l : d.0 < D = subst (IsDummyBelow D) d.1 is_a.dummy in
+      let g : ℕ = G + d.0 in
+      let here : (o : Option ℕ) → o ≡ Some d.0 → has_good (dummy_good G o) g ≡ true =
+      λ o e. ap (λ (p : Option ℕ). has_good (dummy_good G p) g) e ∙ has_head g [] in
+      clash g (omega arith) (has_right a.goods (dummy_good G a.dummy) g (here a.dummy d.1))
+      (has_right b.goods (dummy_good G b.dummy) g (here b.dummy d.2)))))
+
+-- ---- the rows
+
+all_win : (f : PlainFile) (xs : List ℕ) → IsRising xs → ((x y : ℕ) → has_good xs x ≡ true → has_good xs y ≡ true → x < y → CanWin f x y)
+    → can_all_win f xs ≡ true
+all_win f [] r h = refl
+all_win f (x ∷ xs) r h =
+    let test = λ (j : ℕ). can_both_win (bid_at f x) (bid_at f j) in
+    and_from (list_all test xs) (can_all_win f xs)
+    (list_all_from test xs (λ j c. let k = has_from xs j c in h x j (has_head x xs) (has_tail x xs j k) (has_above x xs j r.0 k)))
+    (all_win f xs r.1 (λ a b p q. h a b (has_tail x xs a p) (has_tail x xs b q)))
+
+module _ (f : PlainFile) (is : IsPlainFile f) (winners : List ℕ) (numbers : IsBundle (length f.bids) winners) where
+  abbrev has : ℕ → ℕ → Bool
+  has g i = has_good (goods_of f.goods (bid_at f i)) g
+
+  abbrev all_goods : List ℕ
+  all_goods = range_with_len 0 (f.goods + f.dummy)
+
+  here : (x : ℕ) → has_good winners x ≡ true → IsBid f.goods f.dummy (bid_at f x)
+  here x h = bid_here f is x (has_below (length f.bids) winners x numbers.1 h)
+
+  pub rows_met : can_all_win f winners ≡ true → AreRowsMet f winners
+  rows_met win = All-from_Contains (λ row. sum_by (value_of winners) row.bids ≤ 1) (lp_rows f) (λ row c.
+      let r = Contains-unmap (row_of f) all_goods row (Contains-filter_parts is_shared (map (row_of f) all_goods) row c).0 in
+      let g = r.0 in
+      let with : (x : ℕ) → has_good (bids_with f g) x ≡ true → has g x ≡ true =
+      λ x h. (and_parts (has g x) (has_good (numbers_of f) x) (sym (has-filter (has g) (numbers_of f) x) ∙ h)).0 in
+      subst (λ (s : PlainRow). sum_by (value_of winners) s.bids ≤ 1) (sym r.2)
+      (at_most_one (has_good winners) (bids_with f g) (passing_rise f (has g)) (λ x y h k t u l.
+      share_none f.goods f.dummy (bid_at f x) (bid_at f y) (here x t) (here y u)
+      (pairs_at (CanWin f) (λ i j q. both_flip (bid_at f i) (bid_at f j) q) winners (pairs_from_test f winners win) x y (contains_from winners x t)
+      (contains_from winners y u) (λ e. omega arith))
+      g (with x h) (with y k))))
+
+  pub all_win_from_rows : AreRowsMet f winners → can_all_win f winners ≡ true
+  all_win_from_rows met = all_win f winners numbers.0 (λ x y h k l.
+      both_win f.goods f.dummy (bid_at f x) (bid_at f y) (here x h) (here y k) (λ g m p q.
+      let bids = bids_with f g in
+      let with : (z : ℕ) → has_good winners z ≡ true → has g z ≡ true → has_good bids z ≡ true =
+      λ z a b. has-filter (has g) (numbers_of f) z
+      ∙ and_from (has g z) (has_good (numbers_of f) z) b (in_numbers f z (has_below (length f.bids) winners z numbers.1 a)) in
+      let two = at_least_two (has_good winners) bids x y (with x h p) (with y k q) h k l in
+      let long = at_most_all (has_good winners) bids in
+      let there = Contains-filter is_shared (map (row_of f) all_goods) (row_of f g)
+      (Contains-map (row_of f) all_goods g (range_contains (f.goods + f.dummy) g m)) (lt-ltb 1 (length bids) (omega arith)) in
+      let one = All-contains (λ row. sum_by (value_of winners) row.bids ≤ 1) (lp_rows f) (row_of f g) met there in
+      absurd (omega (arith, one, two))))

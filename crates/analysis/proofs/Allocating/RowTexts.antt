@@ -1,0 +1,62 @@
+-- The text of the rows, good by good: the row of one more good is put behind them if two bids share it.
+use Rattle.std.proofs.Common.{◌≡◌, ℕ, ◌+◌, true, false, List, [], ◌∷◌, ◌++◌, map, refl, sym, ap, ◌∙◌, arith, append_assoc, append-nil}
+use Rattle.std.specs.List.{filter, flat_map, range_with_len}
+use Rattle.std.proofs.lemmas.List.{map-append}
+use Rattle.std.proofs.lemmas.List.Concat.{flat_map-append}
+use Rattle.std.proofs.lemmas.List.Elements.{filter-append}
+use Rattle.bid_file.specs.Files.{PlainFile}
+use Rattle.prune.specs.Lemmas.Lists.{filter-kept, filter-lost}
+use Rattle.prune.specs.Lemmas.Ranges.{range_more}
+use Rattle.analysis.specs.LpTexts.{PlainRow, if_none, is_shared, row_of, row_text}
+use Rattle.analysis.specs.Internal.RowTexts.{instead}
+
+-- the text of the rows of the first goods
+abbrev pub first_rows : PlainFile → ℕ → List ℕ
+first_rows f n = flat_map row_text (filter is_shared (map (row_of f) (range_with_len 0 n)))
+
+pub range_next : (n : ℕ) → range_with_len 0 (n + 1) ≡ range_with_len 0 n ++ n ∷ []
+range_next n = let e : 0 + n ≡ n = omega arith in range_more 0 n ∙ ap (λ m. range_with_len 0 n ++ m ∷ []) e
+
+one_more : (f : PlainFile) (n : ℕ) → first_rows f (n + 1) ≡ first_rows f n ++ flat_map row_text (filter is_shared (row_of f n ∷ []))
+one_more f n =
+    let before : List ℕ = range_with_len 0 n in
+    ap (λ (goods : List ℕ). flat_map row_text (filter is_shared (map (row_of f) goods))) (range_next n)
+    ∙ ap (λ (rows : List PlainRow). flat_map row_text (filter is_shared rows)) (map-append (row_of f) before (n ∷ []))
+    ∙ ap (flat_map row_text) (filter-append is_shared (map (row_of f) before) (row_of f n ∷ []))
+    ∙ flat_map-append row_text (filter is_shared (map (row_of f) before)) (filter is_shared (row_of f n ∷ []))
+
+-- the row of the next good, shared or not
+pub row_kept : (f : PlainFile) (n : ℕ) → is_shared (row_of f n) ≡ true → first_rows f (n + 1) ≡ first_rows f n ++ row_text (row_of f n)
+row_kept f n t =
+    one_more f n ∙ ap (λ (rows : List PlainRow). first_rows f n ++ flat_map row_text rows) (filter-kept is_shared (row_of f n) [] t)
+    ∙ ap (λ (text : List ℕ). first_rows f n ++ text) (append-nil (row_text (row_of f n)))
+
+pub row_left_out : (f : PlainFile) (n : ℕ) → is_shared (row_of f n) ≡ false → first_rows f (n + 1) ≡ first_rows f n
+row_left_out f n t =
+    one_more f n ∙ ap (λ (rows : List PlainRow). first_rows f n ++ flat_map row_text rows) (filter-lost is_shared (row_of f n) [] t)
+    ∙ append-nil (first_rows f n)
+
+-- a row has bytes
+pub instead_is : (rows : List PlainRow) (other : List ℕ) → instead (flat_map row_text rows) other ≡ if_none rows other
+instead_is [] other = refl
+instead_is (row ∷ rows) other = refl
+
+-- one more line
+pub line_behind : (line : ℕ → List ℕ) (n : ℕ) (start before after : List ℕ) → before ≡ start ++ flat_map line (range_with_len 0 n)
+    → after ≡ before ++ line n → after ≡ start ++ flat_map line (range_with_len 0 (n + 1))
+line_behind line n start before after h e =
+    let lines : List ℕ = flat_map line (range_with_len 0 n) in
+    e ∙ ap (λ (text : List ℕ). text ++ line n) h ∙ append_assoc start lines (line n)
+    ∙ ap (λ (text : List ℕ). start ++ text)
+    (sym (ap (flat_map line) (range_next n) ∙ flat_map-append line (range_with_len 0 n) (n ∷ []) ∙ ap (λ (text : List ℕ). lines ++ text) (append-nil (line n))))
+
+-- ---- piece by piece
+
+pub behind : (start old new piece : List ℕ) → old ≡ start → new ≡ old ++ piece → new ≡ start ++ piece
+behind start old new piece h e = e ∙ ap (λ (text : List ℕ). text ++ piece) h
+
+pub behind_if_none : (rows : List PlainRow) (bytes other start old new : List ℕ) → bytes ≡ flat_map row_text rows → old ≡ start
+    → new ≡ old ++ instead bytes other → new ≡ start ++ if_none rows other
+behind_if_none rows bytes other start old new is h e =
+    behind start old new (if_none rows other) h
+    (e ∙ ap (λ (text : List ℕ). old ++ text) (ap (λ (text : List ℕ). instead text other) is ∙ instead_is rows other))

@@ -1,0 +1,210 @@
+-- What a verdict says. It has three cases: a named number that the file does not have, two bids that clash, or neither.
+use Rattle.std.proofs.Common.{◌≡◌, ◌↔◌, ℕ, ◌<◌, ◌≤◌, false, not, leb, ⊎_elim, List, length, refl, sym, ap, ◌∙◌, subst, Option, Some, None}
+use Rattle.std.specs.Prelude.{All, Contains, Result, Ok, Err}
+use Rattle.std.specs.Option.{unwrap_or}
+use Rattle.std.proofs.lemmas.Bool.{and_cases, both_ways, cases_lt, leb-false, leb-true, lt-leb, not-false}
+use Rattle.std.proofs.lemmas.List.Elements.{All-contains}
+use Rattle.goods_set.specs.Bundles.{IsBundle, are_apart, has_good}
+use Rattle.goods_set.specs.Lemmas.Members.{AreBelow-from_has, apart_from}
+use Rattle.bid_file.specs.Files.{IsPlainFile, PlainFile}
+use Rattle.valuation.specs.Lemmas.AuctionsOfFiles.{rising-from}
+use Rattle.prune.specs.Lemmas.Lists.{All-from_Contains, Contains-filter, Contains-filter_parts, find_none, found_none}
+use Rattle.prune.specs.Lemmas.Ranges.{in_range, range_contains}
+use Rattle.analysis.specs.Bids.{bid_at, numbers_of}
+use Rattle.analysis.proofs.Explaining.KeptBids.{bid_here}
+use Rattle.analysis.specs.AllocationVerdicts.{AreOneBidders, IsFirstClash, IsLeastShared, allocation_verdict, clash_on, first_clash, missing_bid}
+use Rattle.analysis.specs.AllocationVerdicts.{named_bids, shared_good, verdict_by, verdict_unless}
+use Rattle.analysis.specs.Allocations.{IsAllocation, revenue, share_dummy}
+use Rattle.analysis.specs.declared.winners.allocation_verdict.AllocationVerdict.{AllocationVerdict}
+use Rattle.analysis.specs.declared.winners.allocation_verdict.AllocationVerdict.TheVariants.{Revenue, SharedBidder, SharedGood}
+use Rattle.analysis.proofs.Allocating.FirstPairs.{all_win_if_none, first_pair, found_at, found_least, none_if_all_win}
+use Rattle.analysis.proofs.Allocating.LpRows.{contains_from, has_from, passing_rise, same_dummy}
+
+-- a verdict is one of these
+pub data IsVerdict (f : PlainFile) (named : List ℕ) (verdict : Result AllocationVerdict ℕ) : Type 0 where
+  Missing : (i : ℕ) → missing_bid f named ≡ Some i → verdict ≡ Err i → IsVerdict f named verdict
+  All_win : missing_bid f named ≡ None → first_clash f (named_bids f named) ≡ None → verdict ≡ Ok (Revenue (revenue f (named_bids f named)))
+      → IsVerdict f named verdict
+  Share : (i j good : ℕ) → missing_bid f named ≡ None → first_clash f (named_bids f named) ≡ Some (i, j)
+      → shared_good (bid_at f i) (bid_at f j) ≡ Some good → verdict ≡ Ok (SharedGood i j good) → IsVerdict f named verdict
+  Share_none : (i j : ℕ) → missing_bid f named ≡ None → first_clash f (named_bids f named) ≡ Some (i, j)
+      → shared_good (bid_at f i) (bid_at f j) ≡ None → verdict ≡ Ok (SharedBidder i j (unwrap_or (bid_at f i).dummy 0)) → IsVerdict f named verdict
+
+module _ (f : PlainFile) (named : List ℕ) where
+  abbrev bids : List ℕ
+  bids = named_bids f named
+
+  pub cases : IsVerdict f named (allocation_verdict f named)
+  cases = by (missing_bid f named) (first_clash f bids) refl refl
+    where
+      clashing : (i j : ℕ) (good : Option ℕ) → missing_bid f named ≡ None → first_clash f bids ≡ Some (i, j)
+          → shared_good (bid_at f i) (bid_at f j) ≡ good → IsVerdict f named (Ok (clash_on f i j good))
+      clashing i j (Some good) m c s = Share i j good m c s refl
+      clashing i j None m c s = Share_none i j m c s refl
+
+      by : (missing : Option ℕ) (clash : Option (ℕ × ℕ)) → missing_bid f named ≡ missing → first_clash f bids ≡ clash
+          → IsVerdict f named (verdict_unless missing (verdict_by f bids clash))
+      by (Some i) clash m c = Missing i m refl
+      by None None m c = All_win m c refl
+      by None (Some pair) m c = clashing pair.0 pair.1 (shared_good (bid_at f pair.0) (bid_at f pair.1)) m c refl
+
+  -- ---- the named bids
+
+  in_named : (i : ℕ) → Contains bids i → Contains named i
+  in_named i c = contains_from named i (Contains-filter_parts (has_good named) (numbers_of f) i c).1
+
+  in_bids : (i : ℕ) → i < length f.bids → Contains named i → Contains bids i
+  in_bids i l c = Contains-filter (has_good named) (numbers_of f) i (range_contains (length f.bids) i l) (has_from named i c)
+
+  pub are_numbers : IsBundle (length f.bids) bids
+  are_numbers = (
+    passing_rise f (has_good named),
+    AreBelow-from_has (length f.bids) bids (λ i h.
+        in_range (length f.bids) i (Contains-filter_parts (has_good named) (numbers_of f) i (contains_from bids i h)).0),
+  )
+
+  pub same_members : All (λ i. i < length f.bids) named → (i : ℕ) → Contains bids i ↔ Contains named i
+  same_members within i = (in_named i, λ c. in_bids i (All-contains (λ n. n < length f.bids) named i within c) c)
+
+  within_if_none : missing_bid f named ≡ None → (i : ℕ) → Contains named i → i < length f.bids
+  within_if_none none i c = leb-false (length f.bids) i (found_none (leb (length f.bids)) named none i c)
+
+  pub all_within : missing_bid f named ≡ None → All (λ i. i < length f.bids) named
+  all_within none = All-from_Contains (λ i. i < length f.bids) named (within_if_none none)
+
+  none_if_within : All (λ i. i < length f.bids) named → missing_bid f named ≡ None
+  none_if_within within =
+      find_none (leb (length f.bids)) named (λ i c. lt-leb (length f.bids) i (All-contains (λ n. n < length f.bids) named i within c))
+
+  -- ---- an allocation
+
+  pub has_revenue : All (λ i. i < length f.bids) named → IsAllocation f bids → allocation_verdict f named ≡ Ok (Revenue (revenue f bids))
+  has_revenue within h =
+      ap (λ (o : Option ℕ). verdict_unless o (verdict_by f bids (first_clash f bids))) (none_if_within within)
+      ∙ ap (λ (clash : Option (ℕ × ℕ)). Ok (verdict_by f bids clash)) (none_if_all_win f bids h.win)
+
+  pub is_allocation : first_clash f bids ≡ None → IsAllocation f bids
+  is_allocation none = record { numbers = are_numbers; win = all_win_if_none f bids none }
+
+  -- ---- a clash
+
+  pub is_first : (i j : ℕ) → missing_bid f named ≡ None → first_clash f bids ≡ Some (i, j) → IsFirstClash f named i j
+  is_first i j none c =
+      let p = first_pair f bids are_numbers.0 i j c in
+      record {
+        first = in_named i p.first;
+        second = in_named j p.second;
+        order = p.order;
+        clash = p.clash;
+        earlier = λ k l d e. p.earlier k l (in_bids k (within_if_none none k d) d) (in_bids l (within_if_none none l e) e);
+      }
+
+  pub is_least : IsPlainFile f → (i j good : ℕ) → first_clash f bids ≡ Some (i, j) → shared_good (bid_at f i) (bid_at f j) ≡ Some good
+      → IsLeastShared (bid_at f i).goods (bid_at f j).goods good
+  is_least plain i j good c s =
+      let a = bid_at f i in
+      let b = bid_at f j in
+      let there = found_at (has_good b.goods) a.goods good s in
+      let p = first_pair f bids are_numbers.0 i j c in
+      let within = in_range (length f.bids) i (Contains-filter_parts (has_good named) (numbers_of f) i p.first).0 in
+      let rises = rising-from a.goods (bid_here f plain i within).rising in
+      record {
+        first = has_from a.goods good there.0;
+        second = there.1;
+        least = λ g h k.
+            ⊎_elim
+            (λ (l : g < good).
+            absurd (both_ways (has_good b.goods g) (found_least (has_good b.goods) a.goods rises good s g (contains_from a.goods g h) l) k))
+            (λ (l : good ≤ g). l) (cases_lt g good);
+      }
+
+  pub are_one_bidders : (i j : ℕ) → first_clash f bids ≡ Some (i, j) → shared_good (bid_at f i) (bid_at f j) ≡ None
+      → AreOneBidders (bid_at f i) (bid_at f j) (unwrap_or (bid_at f i).dummy 0)
+  are_one_bidders i j c s =
+      let a = bid_at f i in
+      let b = bid_at f j in
+      let apart = apart_from a.goods b.goods (λ g h. found_none (has_good b.goods) a.goods s g (contains_from a.goods g h)) in
+      let p = first_pair f bids are_numbers.0 i j c in
+      let share = not-false (share_dummy a.dummy b.dummy)
+      (⊎_elim (λ (no : are_apart a.goods b.goods ≡ false). absurd (both_ways (are_apart a.goods b.goods) no apart))
+      (λ (no : not (share_dummy a.dummy b.dummy) ≡ false). no)
+      (and_cases (are_apart a.goods b.goods) (not (share_dummy a.dummy b.dummy)) p.clash)) in
+      let d = same_dummy a.dummy b.dummy share in
+      let is : unwrap_or a.dummy 0 ≡ d.0 = ap (λ (o : Option ℕ). unwrap_or o 0) d.1 in
+      record { apart = apart; first = d.1 ∙ ap Some (sym is); second = d.2 ∙ ap Some (sym is) }
+
+  pub is_missing : (i : ℕ) → missing_bid f named ≡ Some i → Contains named i × (length f.bids ≤ i)
+  is_missing i m = let there = found_at (leb (length f.bids)) named i m in (there.0, leb-true (length f.bids) i there.1)
+
+-- ---- from the verdict
+
+pub record HasRevenue (f : PlainFile) (named : List ℕ) (n : ℕ) : Type 0 where
+  pub within : All (λ i. i < length f.bids) named
+  pub allocation : IsAllocation f (named_bids f named)
+  pub revenue : n ≡ revenue f (named_bids f named)
+
+pub record SharesGood (f : PlainFile) (named : List ℕ) (i j good : ℕ) : Type 0 where
+  pub first : IsFirstClash f named i j
+  pub clash : first_clash f (named_bids f named) ≡ Some (i, j)
+  pub shared : shared_good (bid_at f i) (bid_at f j) ≡ Some good
+
+pub record SharesBidder (f : PlainFile) (named : List ℕ) (i j dummy : ℕ) : Type 0 where
+  pub first : IsFirstClash f named i j
+  pub bidders : AreOneBidders (bid_at f i) (bid_at f j) dummy
+
+module _ (f : PlainFile) (named : List ℕ) where
+  pub if_revenue : (n : ℕ) → allocation_verdict f named ≡ Ok (Revenue n) → HasRevenue f named n
+  if_revenue n e = by (cases f named)
+    where
+      by : IsVerdict f named (allocation_verdict f named) → HasRevenue f named n
+      by (Missing i m v) = let no : Err i ≡ Ok (Revenue n) = sym v ∙ e in absurd (cc)
+      by (All_win m c v) =
+          let is : Ok (Revenue (revenue f (named_bids f named))) ≡ Ok (Revenue n) = sym v ∙ e in
+          let same : n ≡ revenue f (named_bids f named) = cc in
+          record { within = all_within f named m; allocation = is_allocation f named c; revenue = same }
+      by (Share i j good m c s v) = let no : Ok (SharedGood i j good) ≡ Ok (Revenue n) = sym v ∙ e in absurd (cc)
+      by (Share_none i j m c s v) = let no : Ok (SharedBidder i j (unwrap_or (bid_at f i).dummy 0)) ≡ Ok (Revenue n) = sym v ∙ e in absurd (cc)
+
+  pub if_good : (i j good : ℕ) → allocation_verdict f named ≡ Ok (SharedGood i j good) → SharesGood f named i j good
+  if_good i j good e = by (cases f named)
+    where
+      by : IsVerdict f named (allocation_verdict f named) → SharesGood f named i j good
+      by (Missing k m v) = let no : Err k ≡ Ok (SharedGood i j good) = sym v ∙ e in absurd (cc)
+      by (All_win m c v) = let no : Ok (Revenue (revenue f (named_bids f named))) ≡ Ok (SharedGood i j good) = sym v ∙ e in absurd (cc)
+      by (Share k l g m c s v) =
+          let is : Ok (SharedGood k l g) ≡ Ok (SharedGood i j good) = sym v ∙ e in
+          let one : k ≡ i = cc in
+          let other : l ≡ j = cc in
+          let same : g ≡ good = cc in
+          subst (λ (n : ℕ). SharesGood f named n j good) one
+          (subst (λ (n : ℕ). SharesGood f named k n good) other
+          (subst (λ (n : ℕ). SharesGood f named k l n) same (record { first = is_first f named k l m c; clash = c; shared = s })))
+      by (Share_none k l m c s v) = let no : Ok (SharedBidder k l (unwrap_or (bid_at f k).dummy 0)) ≡ Ok (SharedGood i j good) = sym v ∙ e in absurd (cc)
+
+  pub if_bidder : (i j dummy : ℕ) → allocation_verdict f named ≡ Ok (SharedBidder i j dummy) → SharesBidder f named i j dummy
+  if_bidder i j dummy e = by (cases f named)
+    where
+      by : IsVerdict f named (allocation_verdict f named) → SharesBidder f named i j dummy
+      by (Missing k m v) = let no : Err k ≡ Ok (SharedBidder i j dummy) = sym v ∙ e in absurd (cc)
+      by (All_win m c v) = let no : Ok (Revenue (revenue f (named_bids f named))) ≡ Ok (SharedBidder i j dummy) = sym v ∙ e in absurd (cc)
+      by (Share k l g m c s v) = let no : Ok (SharedGood k l g) ≡ Ok (SharedBidder i j dummy) = sym v ∙ e in absurd (cc)
+      by (Share_none k l m c s v) =
+          let is : Ok (SharedBidder k l (unwrap_or (bid_at f k).dummy 0)) ≡ Ok (SharedBidder i j dummy) = sym v ∙ e in
+          let one : k ≡ i = cc in
+          let other : l ≡ j = cc in
+          let same : unwrap_or (bid_at f k).dummy 0 ≡ dummy = cc in
+          subst (λ (n : ℕ). SharesBidder f named n j dummy) one
+          (subst (λ (n : ℕ). SharesBidder f named k n dummy) other
+          (subst (λ (n : ℕ). SharesBidder f named k l n) same (record { first = is_first f named k l m c; bidders = are_one_bidders f named k l c s })))
+
+  pub if_missing : (i : ℕ) → allocation_verdict f named ≡ Err i → Contains named i × (length f.bids ≤ i)
+  if_missing i e = by (cases f named)
+    where
+      by : IsVerdict f named (allocation_verdict f named) → Contains named i × (length f.bids ≤ i)
+      by (Missing k m v) =
+          let is : Err k ≡ Err i = sym v ∙ e in
+          let same : k ≡ i = cc in
+          subst (λ (n : ℕ). Contains named n × (length f.bids ≤ n)) same (is_missing f named k m)
+      by (All_win m c v) = let no : Ok (Revenue (revenue f (named_bids f named))) ≡ Err i = sym v ∙ e in absurd (cc)
+      by (Share k l g m c s v) = let no : Ok (SharedGood k l g) ≡ Err i = sym v ∙ e in absurd (cc)
+      by (Share_none k l m c s v) = let no : Ok (SharedBidder k l (unwrap_or (bid_at f k).dummy 0)) ≡ Err i = sym v ∙ e in absurd (cc)

@@ -1,0 +1,19 @@
+-- Differences: the bundles with other prices, the bidders in excess, and their partners.
+pub mod Waiting
+pub mod HoldersFound
+pub mod Partnering
+pub mod RarestBundle
+pub mod BidsOnBundles
+pub mod Changes
+pub mod BidsOfBidders
+pub mod LawsLists
+pub mod LeftBidders
+pub mod ExchangedChanges
+pub mod SamePartners
+pub mod BeginAuctions
+pub mod ChangesWithBids
+pub mod ExcessBidders
+pub mod ExcessWalks
+pub mod Indices
+pub mod SameLists
+pub mod WorkedRows

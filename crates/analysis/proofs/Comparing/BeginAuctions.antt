@@ -1,0 +1,146 @@
+-- All differences begin with the first difference: each of its kinds is found by what is in the lists of changes.
+use Rattle.std.proofs.Common.{◌≡◌, ℕ, ◌-◌, Bool, true, false, eqb, cond, ⊎_elim, List, [], ◌∷◌, length, refl, sym, ap, ap₂, ◌∙◌, subst, arith}
+use Rattle.std.proofs.Common.{Option, Some, None}
+use Rattle.std.specs.Prelude.{◌↔◌, ◌||◌, is_some}
+use Rattle.std.proofs.lemmas.Bool.{and_parts, cases_Bool, eqb-true, eqb-false}
+use Rattle.std.proofs.lemmas.List.Elements.{All-head}
+use Rattle.goods_set.specs.Bundles.{all_bundles}
+use Rattle.valuation.specs.declared.atom.Atom.{Atom}
+use Rattle.valuation.specs.Auctions.{PlainAuction}
+use Rattle.valuation.specs.Lemmas.Orders.{bidder_cmp_total, bidder_cmp_equal}
+use Rattle.valuation.specs.Orders.{bidder_cmp}
+use Rattle.valuation.specs.Sorting.{count_of}
+use Rattle.valuation.specs.Values.{or_value}
+use Rattle.prune.specs.Lemmas.KeptBids.{on_bundles}
+use Rattle.prune.specs.Lemmas.Lists.{Contains-head, find_none}
+use Rattle.canon.specs.Canonical.{IsCanonical}
+use Rattle.canon.specs.Difference as canon
+use Rattle.canon.specs.Difference.{Difference, first_difference, first_unequal_bundle, least_unequal_bidder, or_difference, xor_difference}
+use Rattle.canon.specs.Lemmas.BidderDifferences.{least_uneven, least_uneven_is, all_even}
+use Rattle.canon.specs.Lemmas.CanonicalOrders.{or_atoms_in_order}
+use Rattle.canon.specs.Lemmas.OrDifferences.{are_unequal, equal_test, ArePoints}
+use Rattle.canon.specs.Sameness.{IsSameAuction}
+use Rattle.canon.proofs.CanonicalAuctions.Atoms.{HasAtoms}
+use Rattle.canon.proofs.Comparing.Differences.{at_same_goods, at_other_goods, same_from_no_difference, no_difference_from_same}
+use Rattle.analysis.specs.BidderChanges.{PlainBidderChange, IsBidderChange, AreBidderChanges, bidder_at}
+use Rattle.analysis.specs.Differences.{AreAllDifferences, BeginsWith, PlainDifferences, is_none_at_all, no_differences}
+use Rattle.canon.specs.PriceChanges.{PlainChange, ArePriceChanges}
+use Rattle.canon.specs.Lemmas.FirstChanges.{first_change_found, same_bids}
+use Rattle.analysis.proofs.Comparing.LeftBidders.{left_is_more, right_is_more, lefts_counted, rights_counted}
+
+-- ---- the XOR bidders
+
+-- without a change each bidder is on both sides equally often
+all_counted_alike : (left right : List (List (Atom (List ℕ)))) → AreBidderChanges left right [] → (bidder : List (Atom (List ℕ)))
+    → count_of bidder_cmp bidder left ≡ count_of bidder_cmp bidder right
+all_counted_alike left right are bidder =
+    let one : 0 ≡ count_of bidder_cmp bidder left - count_of bidder_cmp bidder right = lefts_counted left right [] are bidder in
+    let other : 0 ≡ count_of bidder_cmp bidder right - count_of bidder_cmp bidder left = rights_counted left right [] are bidder in
+    omega arith
+
+-- and with a change some bidder is not
+some_counted_unlike : (left right : List (List (Atom (List ℕ)))) (c : PlainBidderChange) (rest : List PlainBidderChange)
+    → AreBidderChanges left right (c ∷ rest)
+    → (bidder : List (Atom (List ℕ))) × (count_of bidder_cmp bidder left ≡ count_of bidder_cmp bidder right → ⊥)
+some_counted_unlike left right c rest are =
+    by c.left c.right refl refl (All-head (IsBidderChange left right) c rest are.each).some
+  where
+    by : (on_left on_right : Option ℕ) → c.left ≡ on_left → c.right ≡ on_right → is_some on_left || is_some on_right ≡ true
+        → (bidder : List (Atom (List ℕ))) × (count_of bidder_cmp bidder left ≡ count_of bidder_cmp bidder right → ⊥)
+    by (Some i) on_right e f t = (
+      bidder_at left i,
+      λ same. let more = left_is_more left right (c ∷ rest) are c i (Contains-head c rest) e in omega arith,
+    )
+    by None (Some j) e f t = (
+      bidder_at right j,
+      λ same. let more = right_is_more left right (c ∷ rest) are c j (Contains-head c rest) f in omega arith,
+    )
+    by None None e f t = absurd (cc)
+
+-- ---- the auctions
+
+points_of_canonical : (a : PlainAuction) → HasAtoms a → IsCanonical a → ArePoints a.goods a.or_atoms
+points_of_canonical a h canonical = record {
+  on = on_bundles a.goods a.or_atoms h.or_atoms;
+  points = ap (λ (c : PlainAuction). c.or_atoms) canonical;
+}
+
+module _ (a b : PlainAuction) (h : HasAtoms a) (k : HasAtoms b) (canonical : IsCanonical a) (also : IsCanonical b) where
+  least_of_bidders : least_unequal_bidder a b ≡ least_uneven bidder_cmp bidder_cmp_total bidder_cmp_equal a.xor_bidders b.xor_bidders
+  least_of_bidders =
+      ap₂ (λ (one other : List (List (Atom (List ℕ)))). least_uneven bidder_cmp bidder_cmp_total bidder_cmp_equal one other)
+      (ap (λ (c : PlainAuction). c.xor_bidders) canonical) (ap (λ (c : PlainAuction). c.xor_bidders) also)
+
+  begins_in_bidders : (goods : Option (ℕ × ℕ)) → goods ≡ None → (bidders : List PlainBidderChange) → AreBidderChanges a.xor_bidders b.xor_bidders bidders
+      → (o : Option (List (Atom (List ℕ)))) → least_unequal_bidder a b ≡ o
+      → BeginsWith (xor_difference a b o) (record { goods = goods; bundles = []; bidders = bidders })
+  begins_in_bidders goods equal [] are None e = ap (λ (g : Option (ℕ × ℕ)). record { goods = g; bundles = []; bidders = [] }) equal
+  begins_in_bidders goods equal [] are (Some bidder) e =
+      absurd ((least_uneven_is bidder_cmp bidder_cmp_total bidder_cmp_equal a.xor_bidders b.xor_bidders bidder (sym least_of_bidders ∙ e)).differ
+      (all_counted_alike a.xor_bidders b.xor_bidders are bidder))
+  begins_in_bidders goods equal (c ∷ rest) are None e =
+      let unlike = some_counted_unlike a.xor_bidders b.xor_bidders c rest are in
+      absurd (unlike.1 (all_even bidder_cmp bidder_cmp_total bidder_cmp_equal a.xor_bidders b.xor_bidders (sym least_of_bidders ∙ e) unlike.0))
+  begins_in_bidders goods equal (c ∷ rest) are (Some bidder) e = (equal, refl, tt)
+
+  begins_in_bids : a.goods ≡ b.goods → (goods : Option (ℕ × ℕ)) → goods ≡ None → (bundles : List PlainChange)
+      → ArePriceChanges a.or_atoms b.or_atoms bundles → (bidders : List PlainBidderChange) → AreBidderChanges a.xor_bidders b.xor_bidders bidders
+      → BeginsWith (or_difference a b (first_unequal_bundle a b)) (record { goods = goods; bundles = bundles; bidders = bidders })
+  begins_in_bids alike goods equal [] on bidders are =
+      let same = same_bids a.or_atoms b.or_atoms (or_atoms_in_order a canonical) (or_atoms_in_order b also) on in
+      let none : first_unequal_bundle a b ≡ None =
+      find_none (are_unequal a.or_atoms b.or_atoms) (all_bundles a.goods) (λ bundle c.
+      equal_test a.or_atoms b.or_atoms bundle (ap (λ (atoms : List (Atom (List ℕ))). or_value atoms bundle) same)) in
+      subst (λ (o : Option (List ℕ)). BeginsWith (or_difference a b o) (record { goods = goods; bundles = []; bidders = bidders })) (sym none)
+      (begins_in_bidders goods equal bidders are (least_unequal_bidder a b) refl)
+  begins_in_bids alike goods equal (c ∷ rest) on bidders are =
+      let others = subst (λ (n : ℕ). ArePoints n b.or_atoms) (sym alike) (points_of_canonical b k also) in
+      let found : first_unequal_bundle a b ≡ Some c.bundle =
+      first_change_found a.goods a.or_atoms b.or_atoms (points_of_canonical a h canonical) others c rest on in
+      subst (λ (o : Option (List ℕ)). BeginsWith (or_difference a b o) (record { goods = goods; bundles = c ∷ rest; bidders = bidders })) (sym found)
+      (equal, refl)
+
+  pub begins_with_first : (differences : PlainDifferences) → AreAllDifferences a b differences → BeginsWith (first_difference a b) differences
+  begins_with_first differences are =
+      ⊎_elim
+      (λ (t : eqb a.goods b.goods ≡ true).
+      let alike = eqb-true a.goods b.goods t in
+      subst (λ (d : Difference). BeginsWith d differences) (sym (at_same_goods a b alike))
+      (begins_in_bids alike differences.goods (are.goods ∙ ap (λ (c : Bool). cond {A = Option (ℕ × ℕ)} c None (Some (a.goods, b.goods))) t)
+      differences.bundles are.bundles differences.bidders are.bidders))
+      (λ (t : eqb a.goods b.goods ≡ false).
+      subst (λ (d : Difference). BeginsWith d differences) (sym (at_other_goods a b (eqb-false a.goods b.goods t)))
+      (are.goods ∙ ap (λ (c : Bool). cond {A = Option (ℕ × ℕ)} c None (Some (a.goods, b.goods))) t))
+      (cases_Bool (eqb a.goods b.goods))
+
+-- ---- the same auction
+
+pub empty_from_test : (differences : PlainDifferences) → is_none_at_all differences ≡ true → differences ≡ no_differences
+empty_from_test differences = by differences.goods differences.bundles differences.bidders
+  where
+    by : (goods : Option (ℕ × ℕ)) (bundles : List PlainChange) (bidders : List PlainBidderChange)
+        → is_none_at_all (record { goods = goods; bundles = bundles; bidders = bidders }) ≡ true
+        → record { goods = goods; bundles = bundles; bidders = bidders } ≡ no_differences
+    by None [] [] e = refl
+    by None [] (c ∷ rest) e = let none = eqb-true (length (c ∷ rest)) 0 e in absurd (omega arith)
+    by None (c ∷ rest) bidders e =
+        let none = eqb-true (length (c ∷ rest)) 0 (and_parts (eqb (length (c ∷ rest)) 0) _ e).0 in
+        absurd (omega arith)
+    by (Some numbers) bundles bidders e = absurd (cc)
+
+none_from_empty : (d : Difference) → BeginsWith d no_differences → d ≡ canon.NoDifference
+none_from_empty canon.NoDifference e = refl
+none_from_empty (canon.InGoods left right) e = absurd (cc)
+none_from_empty (canon.InOr bundle left right) e = absurd e.1
+none_from_empty (canon.InXor bidder left right) e = absurd e.2
+
+module _ (a b : PlainAuction) (h : HasAtoms a) (k : HasAtoms b) (differences : PlainDifferences)
+    (begins : BeginsWith (first_difference a b) differences) where
+  pub none_exactly_for_same : (is_none_at_all differences ≡ true ↔ IsSameAuction a b)
+  none_exactly_for_same = (
+    λ e. same_from_no_difference a b h k
+        (none_from_empty (first_difference a b) (subst (λ (d : PlainDifferences). BeginsWith (first_difference a b) d) (empty_from_test differences e) begins)),
+    λ same. let empty : differences ≡ no_differences =
+        subst (λ (d : Difference). BeginsWith d differences) (no_difference_from_same a b h k same) begins in
+        ap is_none_at_all empty,
+  )

@@ -1,0 +1,117 @@
+-- The bids of bidders on a bundle, bid by bid and bidder by bidder. A bidder has one bid on a bundle at most.
+use Rattle.std.proofs.Common.{◌≡◌, ◌<◌, ◌+◌, ℕ, zero, suc, Bool, true, false, cond, List, [], ◌∷◌, ◌++◌, length, get_or, map, take, Some, Ordering, Less, Equal}
+use Rattle.std.proofs.Common.{Greater}
+use Rattle.std.proofs.Common.{slice_get, refl, sym, ap, ap₂, ◌∙◌, arith, ⊎_elim, append_assoc}
+use Rattle.std.specs.Prelude.{All, is_some, filter}
+use Rattle.std.specs.Ordering.{is_eq}
+use Rattle.std.proofs.lemmas.Bool.{cases_Bool, false_from_ne_true}
+use Rattle.std.proofs.lemmas.List.{get_or-map, length-map, map_push, take_more}
+use Rattle.std.proofs.lemmas.List.Elements.{All-cons, All-nil, All-weaker, filter-append}
+use Rattle.std.proofs.lemmas.Option.{get_or_from_slice_get, slice_get_within}
+use Rattle.goods_set.specs.Orders.{bundle_cmp}
+use Rattle.goods_set.specs.Lemmas.Orders.{bundle_cmp_equal, bundle_cmp_refl}
+use Rattle.bid_file.specs.Files.{PlainBid}
+use Rattle.valuation.specs.declared.atom.Atom.{Atom}
+use Rattle.valuation.specs.Auctions.{atom_of}
+use Rattle.valuation.specs.Lemmas.Lists.{AllPairs-head, AllPairs-tail}
+use Rattle.prune.specs.InOrder.{IsBefore, IsInOrder}
+use Rattle.canon.specs.Bidders.{offers}
+use Rattle.analysis.specs.BidderChanges.{bidder_at, bidders_on}
+use Rattle.canon.specs.PriceChanges.{price_on}
+use Rattle.analysis.specs.Internal.Holders.{is_on}
+use Rattle.analysis.proofs.Comparing.LawsLists.{none_pass}
+
+pub equal_from_test : (o : Ordering) → is_eq o ≡ true → o ≡ Equal
+equal_from_test Less t = absurd (cc)
+equal_from_test Equal t = refl
+equal_from_test Greater t = absurd (cc)
+
+-- the bidder, once for each bid on the bundle
+abbrev pub once_each : ℕ → List ℕ → List (Atom (List ℕ)) → List ℕ
+once_each index bundle atoms = map (λ _. index) (filter (is_on bundle) atoms)
+
+once_each-append : (index : ℕ) (bundle : List ℕ) (xs ys : List (Atom (List ℕ)))
+    → once_each index bundle (xs ++ ys) ≡ once_each index bundle xs ++ once_each index bundle ys
+once_each-append index bundle [] ys = refl
+once_each-append index bundle (x ∷ xs) ys =
+    at (is_on bundle x) refl (once_each-append index bundle xs ys)
+  where
+    at : (b : Bool) → is_on bundle x ≡ b → once_each index bundle (xs ++ ys) ≡ once_each index bundle xs ++ once_each index bundle ys
+        → once_each index bundle (x ∷ (xs ++ ys)) ≡ once_each index bundle (x ∷ xs) ++ once_each index bundle ys
+    at b t e = rw t (elim b as (λ b. map (λ _. index) (cond b (x ∷ filter (is_on bundle) (xs ++ ys)) (filter (is_on bundle) (xs ++ ys)))
+        ≡ map (λ _. index) (cond b (x ∷ filter (is_on bundle) xs) (filter (is_on bundle) xs)) ++ once_each index bundle ys) [
+          | true ↦ ap (λ (zs : List ℕ). index ∷ zs) e
+          | false ↦ e
+        ])
+
+once_each-one : (index : ℕ) (bundle : List ℕ) (x : Atom (List ℕ)) → once_each index bundle (x ∷ []) ≡ cond (is_on bundle x) (index ∷ []) []
+once_each-one index bundle x = elim (is_on bundle x) as (λ b. map (λ _. index) (cond b (x ∷ []) []) ≡ cond b (index ∷ []) []) [
+  | true ↦ refl
+  | false ↦ refl
+]
+
+-- one more bid of a bidder
+pub one_more_bid : (index : ℕ) (bids : List PlainBid) (i : ℕ) (bid : PlainBid) → slice_get bids i ≡ Some bid → (bundle first before after : List ℕ)
+    → before ≡ first ++ once_each index bundle (offers (take i bids))
+    → after ≡ before ++ cond (is_eq (bundle_cmp bid.goods bundle)) (index ∷ []) []
+    → after ≡ first ++ once_each index bundle (offers (take (i + 1) bids))
+one_more_bid index bids i bid e bundle first before after so_far more =
+    let at : get_or bids i bid ≡ bid = get_or_from_slice_get bids i bid bid e in
+    let list : offers (take (i + 1) bids) ≡ offers (take i bids) ++ atom_of bid ∷ [] =
+    ap offers (take_more bids i bid (slice_get_within bids i bid e) ∙ ap (λ (x : PlainBid). take i bids ++ x ∷ []) at) ∙ map_push atom_of (take i bids) bid in
+    more ∙ ap₂ (λ (xs ys : List ℕ). xs ++ ys) so_far (sym (once_each-one index bundle (atom_of bid)))
+    ∙ append_assoc first (once_each index bundle (offers (take i bids))) (once_each index bundle (atom_of bid ∷ []))
+    ∙ ap (λ (xs : List ℕ). first ++ xs) (sym (once_each-append index bundle (offers (take i bids)) (atom_of bid ∷ [])) ∙ ap (once_each index bundle) (sym list))
+
+-- its bundle comes behind those before it
+pub one_more_bundle_of : (bids : List PlainBid) (i : ℕ) (bid : PlainBid) → slice_get bids i ≡ Some bid
+    → map (λ a. a.bundle) (offers (take (i + 1) bids)) ≡ map (λ a. a.bundle) (offers (take i bids)) ++ bid.goods ∷ []
+one_more_bundle_of bids i bid e =
+    let at : get_or bids i bid ≡ bid = get_or_from_slice_get bids i bid bid e in
+    let list : offers (take (i + 1) bids) ≡ offers (take i bids) ++ atom_of bid ∷ [] =
+    ap offers (take_more bids i bid (slice_get_within bids i bid e) ∙ ap (λ (x : PlainBid). take i bids ++ x ∷ []) at) ∙ map_push atom_of (take i bids) bid in
+    ap (map (λ (a : Atom (List ℕ)). a.bundle)) list ∙ map_push (λ (a : Atom (List ℕ)). a.bundle) (offers (take i bids)) (atom_of bid)
+
+pub bundles_before : (bids : List PlainBid) (i : ℕ) (bid : PlainBid) → slice_get bids i ≡ Some bid → IsInOrder (offers bids)
+    → All (λ b. bundle_cmp b bid.goods ≡ Less) (map (λ a. a.bundle) (offers (take i bids)))
+bundles_before [] i bid e order = absurd (cc)
+bundles_before (x ∷ bids) zero bid e order = All-nil (λ b. bundle_cmp b bid.goods ≡ Less)
+bundles_before (x ∷ bids) (suc i) bid e order =
+    let within = slice_get_within bids i bid e in
+    let at : get_or (offers bids) i (atom_of bid) ≡ atom_of bid =
+    get_or-map atom_of bids i bid (atom_of bid) within ∙ ap atom_of (get_or_from_slice_get bids i bid bid e) in
+    All-cons (λ b. bundle_cmp b bid.goods ≡ Less) x.goods (map (λ a. a.bundle) (offers (take i bids)))
+    (ap (λ (a : Atom (List ℕ)). bundle_cmp x.goods a.bundle) (sym at)
+    ∙ AllPairs-head IsBefore (atom_of x) (offers bids) order i (atom_of bid) (omega (arith, within, length-map bids atom_of)))
+    (bundles_before bids i bid e (AllPairs-tail IsBefore (atom_of x) (offers bids) order))
+
+-- all bids of a bidder
+pub one_bid_each : (index : ℕ) (bundle : List ℕ) (atoms : List (Atom (List ℕ))) → IsInOrder atoms
+    → once_each index bundle atoms ≡ cond (is_some (price_on atoms bundle)) (index ∷ []) []
+one_bid_each index bundle [] order = refl
+one_bid_each index bundle (a ∷ rest) order =
+    ⊎_elim
+    (λ (t : is_eq (bundle_cmp a.bundle bundle) ≡ true).
+    let same : a.bundle ≡ bundle = bundle_cmp_equal a.bundle bundle (equal_from_test _ t) in
+    let none : filter (is_on bundle) rest ≡ [] =
+    none_pass (is_on bundle) rest (All-weaker (IsBefore a) (λ r. is_on bundle r ≡ false)
+    (λ r l. false_from_ne_true (is_on bundle r) (λ u.
+    let other : r.bundle ≡ bundle = bundle_cmp_equal r.bundle bundle (equal_from_test _ u) in
+    let less : bundle_cmp a.bundle r.bundle ≡ Less = l in
+    let tied : bundle_cmp a.bundle r.bundle ≡ Equal = ap (bundle_cmp a.bundle) (other ∙ sym same) ∙ bundle_cmp_refl a.bundle in
+    absurd (cc))) rest (AllPairs-head IsBefore a rest order)) in
+    rw t (ap (λ (xs : List (Atom (List ℕ))). map (λ _. index) (a ∷ xs)) none))
+    (λ (t : is_eq (bundle_cmp a.bundle bundle) ≡ false). rw t (one_bid_each index bundle rest (AllPairs-tail IsBefore a rest order)))
+    (cases_Bool (is_eq (bundle_cmp a.bundle bundle)))
+
+-- one more bidder
+pub one_more_bidder : (bidders : List (List (Atom (List ℕ)))) (indices : List ℕ) (k index : ℕ) → k < length indices → get_or indices k 0 ≡ index
+    → (atoms : List (Atom (List ℕ))) → atoms ≡ bidder_at bidders index → IsInOrder atoms → (bundle before after : List ℕ)
+    → before ≡ bidders_on bidders (take k indices) bundle → after ≡ before ++ once_each index bundle atoms
+    → after ≡ bidders_on bidders (take (k + 1) indices) bundle
+one_more_bidder bidders indices k index l at atoms is order bundle before after so_far more =
+    let has : ℕ → Bool = λ i. is_some (price_on (bidder_at bidders i) bundle) in
+    let own : once_each index bundle atoms ≡ filter has (index ∷ []) =
+    one_bid_each index bundle atoms order ∙ ap (λ (xs : List (Atom (List ℕ))). cond (is_some (price_on xs bundle)) (index ∷ []) []) is in
+    more ∙ ap₂ (λ (xs ys : List ℕ). xs ++ ys) so_far own ∙ sym (filter-append has (take k indices) (index ∷ []))
+    ∙ ap (filter has) (sym (take_more indices k 0 l ∙ ap (λ (n : ℕ). take k indices ++ n ∷ []) at))

@@ -1,0 +1,56 @@
+-- Exchanging the auctions. The idea: the changes of two lists of bids are determined by the prices, since they are in order and on exactly
+-- the bundles on which the prices differ.
+use Rattle.std.proofs.Common.{◌≡◌, ℕ, List, map, sym, ap, ap₂, ◌∙◌, subst, Option}
+use Rattle.std.specs.Prelude.{Contains}
+use Rattle.std.proofs.lemmas.List.Elements.{All-contains, All-map, All-weaker}
+use Rattle.valuation.specs.declared.atom.Atom.{Atom}
+use Rattle.valuation.specs.Lemmas.Lists.{AllPairs-map, Contains-map, Contains-unmap}
+use Rattle.prune.specs.Lemmas.InOrder.{before_both}
+use Rattle.analysis.specs.Differences.{exchanged_change}
+use Rattle.canon.specs.Lemmas.PriceChanges.{IsEarlier}
+use Rattle.canon.specs.PriceChanges.{PlainChange, price_on, IsPriceChange, ArePriceChanges}
+use Rattle.analysis.proofs.Comparing.LawsLists.{same_in_strict_order}
+
+module _ (left right : List (Atom (List ℕ))) where
+  -- two changes on one bundle are one
+  same_on_bundle : (c d : PlainChange) → IsPriceChange left right c → IsPriceChange left right d → c.bundle ≡ d.bundle → d ≡ c
+  same_on_bundle c d h k e =
+      let on_left : d.left ≡ c.left = k.on_left ∙ ap (price_on left) (sym e) ∙ sym h.on_left in
+      let on_right : d.right ≡ c.right = k.on_right ∙ ap (price_on right) (sym e) ∙ sym h.on_right in
+      ap (λ (bundle : List ℕ). record { bundle = bundle; left = d.left; right = d.right }) (sym e)
+      ∙ ap₂ (λ (p q : Option ℕ). record { bundle = c.bundle; left = p; right = q }) on_left on_right
+
+  -- a change of the bids is among all of them
+  pub change_is_there : (changes : List PlainChange) → ArePriceChanges left right changes → (c : PlainChange) → IsPriceChange left right c
+      → Contains changes c
+  change_is_there changes are c h =
+      let there = are.all c.bundle (λ e. h.differ (h.on_left ∙ e ∙ sym h.on_right)) in
+      let found = Contains-unmap (λ (d : PlainChange). d.bundle) changes c.bundle there in
+      subst (λ (d : PlainChange). Contains changes d)
+      (same_on_bundle c found.0 h (All-contains (IsPriceChange left right) changes found.0 are.each found.1) found.2) found.1
+
+  pub one_list_of_changes : (changes others : List PlainChange) → ArePriceChanges left right changes → ArePriceChanges left right others → changes ≡ others
+  one_list_of_changes changes others are also =
+      same_in_strict_order IsEarlier (λ c d. before_both c.bundle d.bundle) changes others are.in_order also.in_order
+      (λ c there. change_is_there others also c (All-contains (IsPriceChange left right) changes c are.each there))
+      (λ c there. change_is_there changes are c (All-contains (IsPriceChange left right) others c also.each there))
+
+  exchanged_is_change : (c : PlainChange) → IsPriceChange left right c → IsPriceChange right left (exchanged_change c)
+  exchanged_is_change c h = record { on_left = h.on_right; on_right = h.on_left; differ = λ e. h.differ (sym e) }
+
+  pub exchanged_are_changes : (changes : List PlainChange) → ArePriceChanges left right changes → ArePriceChanges right left (map exchanged_change changes)
+  exchanged_are_changes changes are = record {
+    in_order = AllPairs-map IsEarlier IsEarlier exchanged_change (λ c d l. l) changes are.in_order;
+    each = All-map (IsPriceChange right left) exchanged_change changes
+        (All-weaker (IsPriceChange left right) (λ c. IsPriceChange right left (exchanged_change c)) exchanged_is_change changes are.each);
+    all = λ bundle n.
+        let found = Contains-unmap (λ (d : PlainChange). d.bundle) changes bundle (are.all bundle (λ e. n (sym e))) in
+        subst (λ (b : List ℕ). Contains (map (λ (d : PlainChange). d.bundle) (map exchanged_change changes)) b) (sym found.2)
+        (Contains-map (λ (d : PlainChange). d.bundle) (map exchanged_change changes) (exchanged_change found.0)
+        (Contains-map exchanged_change changes found.0 found.1));
+  }
+
+pub bundles_exchanged : (left right : List (Atom (List ℕ))) (one other : List PlainChange) → ArePriceChanges left right one
+    → ArePriceChanges right left other → other ≡ map exchanged_change one
+bundles_exchanged left right one other are also =
+    one_list_of_changes right left other (map exchanged_change one) also (exchanged_are_changes left right one are)

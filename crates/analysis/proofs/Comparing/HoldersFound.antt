@@ -1,0 +1,105 @@
+-- The bidders that have a bid on a bundle, as a map has them, and the first of them that waits.
+use Rattle.std.proofs.Common.{◌≡◌, ◌<◌, ℕ, zero, suc, Bool, true, false, cond, List, [], ◌∷◌, ◌++◌, length, get_or, Some, Ordering}
+use Rattle.std.proofs.Common.{slice_get, refl, sym, ap, ◌∙◌, subst, arith, ⊎_elim, append-nil}
+use Rattle.std.specs.Prelude.{filter}
+use Rattle.std.specs.Borrow.{Bor}
+use Rattle.std.specs.BTreeMap.{BTreeMap, UpdatesBy}
+use Rattle.std.specs.Cmp.Lexicographic.{bytes_decides, slice_cmp}
+use Rattle.std.specs.Map.{IsKeyTest, AreApart, KeepsOthers, lookup}
+use Rattle.std.specs.Ordering.{is_eq, nat_cmp}
+use Rattle.std.proofs.lemmas.Bool.{cases_Bool, cond-true, cond-false, both_ways, false_from_ne_true}
+use Rattle.std.proofs.lemmas.Cmp.{nat_list_eq_equiv}
+use Rattle.std.proofs.lemmas.Map.Text.{is_eq-slice_cmp}
+use Rattle.goods_set.specs.Orders.{bundle_cmp}
+use Rattle.goods_set.specs.Lemmas.Orders.{bundle_cmp_equal, bundle_cmp_refl}
+use Rattle.analysis.specs.declared.differences.holders.Holders.{Holders}
+use Rattle.analysis.proofs.Comparing.BidsOnBundles.{equal_from_test}
+use Rattle.analysis.specs.Internal.Holders.{found_at, holders_at, indices_in, passed_in}
+
+-- ---- the first that passes a test
+
+pub first_passes : (p : ℕ → Bool) (xs : List ℕ) (k : ℕ) → k < length xs → p (get_or xs k 0) ≡ true → ((j : ℕ) → j < k → p (get_or xs j 0) ≡ false)
+    → slice_get (filter p xs) 0 ≡ Some (get_or xs k 0)
+first_passes p [] k l t before = absurd (omega arith)
+first_passes p (y ∷ ys) zero l t before = ap (λ b. slice_get (cond {A = List ℕ} b (y ∷ filter p ys) (filter p ys)) 0) t
+first_passes p (y ∷ ys) (suc k) l t before =
+    ap (λ b. slice_get (cond {A = List ℕ} b (y ∷ filter p ys) (filter p ys)) 0) (before 0 (omega arith))
+    ∙ first_passes p ys k (omega arith) t (λ j m. before (suc j) (omega arith))
+
+pub none_passes : (p : ℕ → Bool) (xs : List ℕ) → ((j : ℕ) → j < length xs → p (get_or xs j 0) ≡ false) → filter p xs ≡ []
+none_passes p [] before = refl
+none_passes p (y ∷ ys) before =
+    ap (λ b. cond {A = List ℕ} b (y ∷ filter p ys) (filter p ys)) (before 0 (omega arith)) ∙ none_passes p ys (λ j l. before (suc j) (omega arith))
+
+-- ---- the map
+
+abbrev same_order : List ℕ → List ℕ → Bool
+same_order one other = is_eq (slice_cmp nat_cmp one other)
+
+abbrev pub key_cmp : Bor (List ℕ) → Bor (List ℕ) → Ordering
+key_cmp one other = slice_cmp nat_cmp one.now other.now
+
+abbrev key_eq : Bor (List ℕ) → Bor (List ℕ) → Bool
+key_eq one other = same_order one.now other.now
+
+other_entries : {X : Type 0} (test : Bor (List ℕ) → Bool) (old new : List (Bor (List ℕ) × X)) → KeepsOthers key_eq test old new → (other : Bor (List ℕ) → Bool)
+    → IsKeyTest key_eq other → AreApart test other
+    → lookup other new ≡ lookup other old
+unfolding KeepsOthers
+other_entries test old new h = h
+
+same_test : (text one other : List ℕ) → same_order text one ≡ true → same_order text other ≡ same_order one other
+same_test text one other e =
+    is_eq-slice_cmp text other ∙ nat_list_eq_equiv.congr text one other (sym (is_eq-slice_cmp text one) ∙ e) ∙ sym (is_eq-slice_cmp one other)
+
+same_list : (one other : List ℕ) → same_order one other ≡ true → one ≡ other
+same_list one other e = (bytes_decides one other).0 (sym (is_eq-slice_cmp one other) ∙ e)
+
+apart : (goods bundle key : List ℕ) → is_eq (bundle_cmp goods bundle) ≡ false → same_order goods key ≡ true → same_order bundle key ≡ false
+apart goods bundle key n e =
+    false_from_ne_true (same_order bundle key) (λ t.
+    both_ways (is_eq (bundle_cmp goods bundle)) n
+    (ap is_eq (ap (λ (xs : List ℕ). bundle_cmp xs bundle) (same_list goods key e ∙ sym (same_list bundle key t)) ∙ bundle_cmp_refl bundle)))
+
+-- what a map has for a bundle, after holders were put there
+pub updated : (old new : BTreeMap (Bor (List ℕ)) Holders) (goods : List ℕ) (holders : Holders)
+    → UpdatesBy key_cmp (λ key. slice_cmp nat_cmp goods key.now) old new (Some holders)
+    → (bundle : List ℕ) → found_at new bundle ≡ cond (is_eq (bundle_cmp goods bundle)) (Some holders) (found_at old bundle)
+updated old new goods holders h bundle =
+    ⊎_elim
+    (λ (y : is_eq (bundle_cmp goods bundle) ≡ true).
+    subst (λ (b : List ℕ). found_at new b ≡ Some holders) (bundle_cmp_equal goods bundle (equal_from_test _ y)) h.1
+    ∙ sym (cond-true (is_eq (bundle_cmp goods bundle)) (Some holders) (found_at old bundle) y))
+    (λ (n : is_eq (bundle_cmp goods bundle) ≡ false).
+    other_entries (λ key. same_order goods key.now) old.entries new.entries h.3 (λ key. same_order bundle key.now)
+    (λ x y. same_test bundle x.now y.now) (λ key. apart goods bundle key.now n)
+    ∙ sym (cond-false (is_eq (bundle_cmp goods bundle)) (Some holders) (found_at old bundle) n))
+    (cases_Bool (is_eq (bundle_cmp goods bundle)))
+
+-- one more bidder has a bid on the bundle
+pub added : (old new : BTreeMap (Bor (List ℕ)) Holders) (goods : List ℕ) (holders : Holders) (index : ℕ)
+    → UpdatesBy key_cmp (λ key. slice_cmp nat_cmp goods key.now) old new (Some holders) → holders.indices.items ≡ holders_at old goods ++ index ∷ []
+    → (bundle : List ℕ) → holders_at new bundle ≡ holders_at old bundle ++ cond (is_eq (bundle_cmp goods bundle)) (index ∷ []) []
+added old new goods holders index h more bundle =
+    ap indices_in (updated old new goods holders h bundle)
+    ∙ ⊎_elim
+    (λ (y : is_eq (bundle_cmp goods bundle) ≡ true).
+    let same : goods ≡ bundle = bundle_cmp_equal goods bundle (equal_from_test _ y) in
+    ap (λ b. indices_in (cond b (Some holders) (found_at old bundle))) y ∙ more
+    ∙ ap (λ (xs : List ℕ). holders_at old xs ++ index ∷ []) same ∙ sym (ap (λ b. holders_at old bundle ++ cond {A = List ℕ} b (index ∷ []) []) y))
+    (λ (n : is_eq (bundle_cmp goods bundle) ≡ false).
+    ap (λ b. indices_in (cond b (Some holders) (found_at old bundle))) n
+    ∙ sym (append-nil (holders_at old bundle)) ∙ sym (ap (λ b. holders_at old bundle ++ cond {A = List ℕ} b (index ∷ []) []) n))
+    (cases_Bool (is_eq (bundle_cmp goods bundle)))
+
+pub still_passed : (old new : BTreeMap (Bor (List ℕ)) Holders) (goods : List ℕ) (holders : Holders)
+    → UpdatesBy key_cmp (λ key. slice_cmp nat_cmp goods key.now) old new (Some holders) → holders.passed ≡ passed_in (found_at old goods)
+    → (bundle : List ℕ) → passed_in (found_at new bundle) ≡ passed_in (found_at old bundle)
+still_passed old new goods holders h same bundle =
+    ap passed_in (updated old new goods holders h bundle)
+    ∙ ⊎_elim
+    (λ (y : is_eq (bundle_cmp goods bundle) ≡ true).
+    ap (λ b. passed_in (cond b (Some holders) (found_at old bundle))) y ∙ same
+    ∙ ap (λ (xs : List ℕ). passed_in (found_at old xs)) (bundle_cmp_equal goods bundle (equal_from_test _ y)))
+    (λ (n : is_eq (bundle_cmp goods bundle) ≡ false). ap (λ b. passed_in (cond b (Some holders) (found_at old bundle))) n)
+    (cases_Bool (is_eq (bundle_cmp goods bundle)))

@@ -1,0 +1,147 @@
+-- The bidders in excess. The idea: along the bidders from their end on, those in excess have each bidder as often as these bidders
+-- have it more often than the others.
+use Rattle.std.proofs.Common.{◌≡◌, ℕ, zero, suc, ◌+◌, ◌-◌, ◌<◌, ◌≤◌, Bool, true, false, cond, ◌⊎◌, inl, inr, ⊎_elim, List, [], ◌∷◌, length, map, drop}
+use Rattle.std.proofs.Common.{sym, ap, ◌∙◌, subst, arith, Some, Ordering, Less, Equal, Greater, nat_cmp, refl}
+use Rattle.std.specs.Prelude.{All, Contains}
+use Rattle.std.specs.FinMap.{nat_cmp-IsAntisymmetric}
+use Rattle.std.specs.List.{filter, range_with_len}
+use Rattle.std.specs.Ordering.{is_eq}
+use Rattle.std.proofs.Math.Seq.{drop-length}
+use Rattle.std.proofs.lemmas.Bool.{cases_Bool, ltb-true, ltb-false}
+use Rattle.std.proofs.lemmas.Cmp.{nat_cmp_total}
+use Rattle.std.proofs.lemmas.List.Sums.{sum_by-cons, sum_by-take-drop, sum_by-drop_more}
+use Rattle.valuation.specs.declared.atom.Atom.{Atom}
+use Rattle.valuation.specs.Orders.{bidder_cmp}
+use Rattle.valuation.specs.Sorting.{count_of}
+use Rattle.valuation.specs.Lemmas.Orders.{bidder_cmp_equal}
+use Rattle.prune.specs.Lemmas.Lists.{Contains-filter_parts, All-from_Contains}
+use Rattle.canon.specs.Lemmas.Finding.{counted_is_there}
+use Rattle.analysis.specs.BidderChanges.{PlainBidderChange, AreBidderChanges, bidder_at, is_excess, excess_bidders, lefts_of, rights_of}
+use Rattle.analysis.proofs.Comparing.LawsLists.{Contains-filter_map, sum_by-map, there_is_counted, sum_of_same_counts}
+
+equal_from_test : (o : Ordering) → is_eq o ≡ true → o ≡ Equal
+equal_from_test Less e = absurd (cc)
+equal_from_test Equal e = refl
+equal_from_test Greater e = absurd (cc)
+
+-- ---- how often a bidder is in excess
+
+module _ (bidders others : List (List (Atom (List ℕ)))) (bidder : List (Atom (List ℕ))) where
+  abbrev times : List (List (Atom (List ℕ))) → ℕ
+  times list = count_of bidder_cmp bidder list
+
+  -- one if the bidder of this index is the bidder
+  abbrev is_here : ℕ → ℕ
+  is_here index = cond (is_eq (bidder_cmp bidder (bidder_at bidders index))) 1 0
+
+  here_cases : (index : ℕ) → (is_here index ≡ 0)
+      ⊎ ((is_here index ≡ 1) × ((list : List (List (Atom (List ℕ)))) → times list ≡ count_of bidder_cmp (bidder_at bidders index) list))
+  here_cases index =
+      ⊎_elim
+      (λ (t : is_eq (bidder_cmp bidder (bidder_at bidders index)) ≡ true).
+      let same : bidder ≡ bidder_at bidders index = bidder_cmp_equal bidder (bidder_at bidders index) (equal_from_test _ t) in
+      inr (ap (λ b. cond {A = ℕ} b 1 0) t, λ list. ap (λ (b : List (Atom (List ℕ))). count_of bidder_cmp b list) same))
+      (λ (t : is_eq (bidder_cmp bidder (bidder_at bidders index)) ≡ false). inl (ap (λ b. cond {A = ℕ} b 1 0) t))
+      (cases_Bool (is_eq (bidder_cmp bidder (bidder_at bidders index))))
+
+  -- from the places behind an index to those from it on
+  excess_here : (index : ℕ) (behind : List ℕ) → times (drop index bidders) ≡ is_here index + times (drop (index + 1) bidders)
+      → times (map (bidder_at bidders) behind) ≡ times (drop (index + 1) bidders) - times others → (excess : Bool)
+      → is_excess bidders others index ≡ excess
+      → times (map (bidder_at bidders) (cond excess (index ∷ behind) behind)) ≡ times (drop index bidders) - times others
+  excess_here index behind all later true e =
+      let more : count_of bidder_cmp (bidder_at bidders index) others < count_of bidder_cmp (bidder_at bidders index) (drop index bidders) = ltb-true _ _ e in
+      let front = sum_by-cons (λ b. cond {A = ℕ} (is_eq (bidder_cmp bidder b)) 1 0) (bidder_at bidders index) (map (bidder_at bidders) behind) in
+      ⊎_elim (λ (none : is_here index ≡ 0). omega arith)
+      (λ (one : (is_here index ≡ 1) × ((list : List (List (Atom (List ℕ)))) → times list ≡ count_of bidder_cmp (bidder_at bidders index) list)).
+      let first = one.0 in
+      let mine = one.1 (drop index bidders) in
+      let theirs = one.1 others in
+      omega arith)
+      (here_cases index)
+  excess_here index behind all later false e =
+      let fewer : count_of bidder_cmp (bidder_at bidders index) (drop index bidders) ≤ count_of bidder_cmp (bidder_at bidders index) others = ltb-false _ _ e in
+      ⊎_elim (λ (none : is_here index ≡ 0). omega arith)
+      (λ (one : (is_here index ≡ 1) × ((list : List (List (Atom (List ℕ)))) → times list ≡ count_of bidder_cmp (bidder_at bidders index) list)).
+      let first = one.0 in
+      let mine = one.1 (drop index bidders) in
+      let theirs = one.1 others in
+      omega arith)
+      (here_cases index)
+
+  excess_from : (n index : ℕ) → index + n ≡ length bidders
+      → times (map (bidder_at bidders) (filter (is_excess bidders others) (range_with_len index n))) ≡ times (drop index bidders) - times others
+  excess_from zero index e =
+      let all : index ≡ length bidders = omega arith in
+      let none : times (drop index bidders) ≡ 0 = ap (λ i. times (drop i bidders)) all ∙ ap times (drop-length bidders) in
+      omega arith
+  excess_from (suc n) index e =
+      excess_here index (filter (is_excess bidders others) (range_with_len (index + 1) n))
+      (sum_by-drop_more (λ b. cond {A = ℕ} (is_eq (bidder_cmp bidder b)) 1 0) bidders index [] (omega arith))
+      (excess_from n (index + 1) (omega arith)) (is_excess bidders others index) refl
+
+  -- as often as these bidders have it more often than the others
+  pub excess_counted : count_of bidder_cmp bidder (map (bidder_at bidders) (excess_bidders bidders others))
+      ≡ count_of bidder_cmp bidder bidders - count_of bidder_cmp bidder others
+  excess_counted = excess_from (length bidders) 0 (omega arith)
+
+-- ---- the bidders of the changes
+
+-- a bidder in excess is more often among these
+pub excess_is_more : (bidders others : List (List (Atom (List ℕ)))) (index : ℕ) → Contains (excess_bidders bidders others) index
+    → count_of bidder_cmp (bidder_at bidders index) others < count_of bidder_cmp (bidder_at bidders index) bidders
+excess_is_more bidders others index c =
+    let bidder = bidder_at bidders index in
+    let excess = (Contains-filter_parts (is_excess bidders others) (range_with_len 0 (length bidders)) index c).1 in
+    let more : count_of bidder_cmp bidder others < count_of bidder_cmp bidder (drop index bidders) = ltb-true _ _ excess in
+    let parts = sum_by-take-drop (λ b. cond {A = ℕ} (is_eq (bidder_cmp bidder b)) 1 0) bidders index in
+    omega arith
+
+module _ (left right : List (List (Atom (List ℕ)))) (changes : List PlainBidderChange) (are : AreBidderChanges left right changes) where
+  pub left_is_more : (c : PlainBidderChange) (index : ℕ) → Contains changes c → c.left ≡ Some index
+      → count_of bidder_cmp (bidder_at left index) right < count_of bidder_cmp (bidder_at left index) left
+  left_is_more c index there e =
+      excess_is_more left right index
+      (subst (λ (indices : List ℕ). Contains indices index) are.lefts (Contains-filter_map (λ (d : PlainBidderChange). d.left) changes c index there e))
+
+  pub right_is_more : (c : PlainBidderChange) (index : ℕ) → Contains changes c → c.right ≡ Some index
+      → count_of bidder_cmp (bidder_at right index) left < count_of bidder_cmp (bidder_at right index) right
+  right_is_more c index there e =
+      let some : 0 < count_of nat_cmp index (rights_of changes) =
+      there_is_counted nat_cmp nat_cmp_total index (rights_of changes) (Contains-filter_map (λ (d : PlainBidderChange). d.right) changes c index there e) in
+      let same = are.rights index in
+      excess_is_more right left index
+      (counted_is_there nat_cmp nat_cmp_total nat_cmp-IsAntisymmetric index (excess_bidders right left) (omega arith))
+
+  -- so it is no bidder of both
+  pub none_on_both : All (λ (c : PlainBidderChange). (i j : ℕ) → c.left ≡ Some i → c.right ≡ Some j → bidder_at left i ≡ bidder_at right j → ⊥) changes
+  none_on_both =
+      All-from_Contains (λ (c : PlainBidderChange). (i j : ℕ) → c.left ≡ Some i → c.right ≡ Some j → bidder_at left i ≡ bidder_at right j → ⊥) changes
+      (λ c there i j on_left on_right same.
+      let more = left_is_more c i there on_left in
+      let fewer = right_is_more c j there on_right in
+      let mine : count_of bidder_cmp (bidder_at left i) left ≡ count_of bidder_cmp (bidder_at right j) left =
+      ap (λ (b : List (Atom (List ℕ))). count_of bidder_cmp b left) same in
+      let theirs : count_of bidder_cmp (bidder_at left i) right ≡ count_of bidder_cmp (bidder_at right j) right =
+      ap (λ (b : List (Atom (List ℕ))). count_of bidder_cmp b right) same in
+      omega arith)
+
+  -- how often the changes have a bidder
+  pub lefts_counted : (bidder : List (Atom (List ℕ))) → count_of bidder_cmp bidder (map (bidder_at left) (lefts_of changes))
+      ≡ count_of bidder_cmp bidder left - count_of bidder_cmp bidder right
+  lefts_counted bidder = ap (λ (indices : List ℕ). count_of bidder_cmp bidder (map (bidder_at left) indices)) are.lefts ∙ excess_counted left right bidder
+
+  pub rights_counted : (bidder : List (Atom (List ℕ))) → count_of bidder_cmp bidder (map (bidder_at right) (rights_of changes))
+      ≡ count_of bidder_cmp bidder right - count_of bidder_cmp bidder left
+  rights_counted bidder =
+      let test = λ (b : List (Atom (List ℕ))). cond {A = ℕ} (is_eq (bidder_cmp bidder b)) 1 0 in
+      sum_by-map test (bidder_at right) (rights_of changes)
+      ∙ sum_of_same_counts (λ i. test (bidder_at right i)) (rights_of changes) (excess_bidders right left) are.rights
+      ∙ sym (sum_by-map test (bidder_at right) (excess_bidders right left))
+      ∙ excess_counted right left bidder
+
+  -- without them a bidder is on both sides as often as on the side that has it less often
+  pub same_without_changes : (bidder : List (Atom (List ℕ)))
+      → count_of bidder_cmp bidder left - count_of bidder_cmp bidder (map (bidder_at left) (lefts_of changes))
+      ≡ count_of bidder_cmp bidder right - count_of bidder_cmp bidder (map (bidder_at right) (rights_of changes))
+  same_without_changes bidder = let one = lefts_counted bidder in let other = rights_counted bidder in omega arith

@@ -1,0 +1,171 @@
+-- The rarest bundle of a left bidder on which a right bidder waits: it is found bundle by bundle, and the partner is there. The idea:
+-- of the bundles in order of rarity it is the first on which one waits.
+use Rattle.std.proofs.Common.{◌≡◌, ◌≢◌, ◌<◌, ◌≤◌, ℕ, false, List, [], ◌∷◌, ◌++◌, length, map, Option, Some, None}
+use Rattle.std.proofs.Common.{Ordering, Less, Equal, Greater, nat_cmp, slice_get, refl, sym, ap, ap₂, ◌∙◌, subst, arith, ⊎_elim}
+use Rattle.std.specs.Prelude.{All, Contains, MatchOption, if◌then◌else◌}
+use Rattle.std.specs.Cmp.{IsTotalOrder}
+use Rattle.std.specs.List.{flat_map}
+use Rattle.std.specs.Ordering.{is_gt, ordering_then, ordering_reverse}
+use Rattle.std.proofs.lemmas.Bool.{both_ways, cases_lt, lt-ltb, le-ltb}
+use Rattle.std.proofs.lemmas.Cmp.{nat_cmp_total, on_total, then_total}
+use Rattle.std.proofs.lemmas.List.Elements.{All-contains, All-from_recursion, All-head, All-push, All-tail, All-weaker, Contains-append_left, Contains-push}
+use Rattle.std.proofs.lemmas.List.Sorted.{Contains-permutation}
+use Rattle.goods_set.specs.Orders.{bundle_cmp}
+use Rattle.goods_set.specs.Lemmas.Orders.{bundle_cmp_equal, bundle_cmp_refl, bundle_cmp_total, nat_cmp-gt, nat_cmp-lt, nat_cmp-refl}
+use Rattle.valuation.specs.declared.atom.Atom.{Atom}
+use Rattle.valuation.specs.Lemmas.Lists.{Contains-cons_cases}
+use Rattle.valuation.specs.Lemmas.Sorting.{All-sort_by, IsOrdered, ordered-sort_by, permutation-sort_by}
+use Rattle.valuation.specs.Sorting.{sort_by}
+use Rattle.prune.specs.Lemmas.Lists.{Contains-nil}
+use Rattle.analysis.specs.BidderChanges.{bidders_on, partner_of, rarer}
+use Rattle.analysis.specs.declared.differences.holders.Candidate.{Candidate}
+use Rattle.analysis.specs.Internal.Partners.{IsCandidate, IsRarest, IsRarestIfAny, rarer_candidate}
+
+module _ (right : List (List (Atom (List ℕ)))) (excess : List ℕ) where
+  abbrev count : List ℕ → ℕ
+  count bundle = length (bidders_on right excess bundle)
+
+  rarer_total : IsTotalOrder (rarer right excess)
+  rarer_total = then_total (on_total count nat_cmp_total) bundle_cmp_total
+
+  rarer_equal : (one other : List ℕ) → rarer right excess one other ≡ Equal → one ≡ other
+  rarer_equal one other e = bundle_cmp_equal one other (second (nat_cmp (count one) (count other)) e)
+    where
+      second : (o : Ordering) → ordering_then o (bundle_cmp one other) ≡ Equal → bundle_cmp one other ≡ Equal
+      second Less f = absurd (cc)
+      second Equal f = f
+      second Greater f = absurd (cc)
+
+  fewer_is_rarer : (one other : List ℕ) → count one < count other → is_gt (rarer right excess one other) ≡ false
+  fewer_is_rarer one other l = ap (λ o. is_gt (ordering_then o (bundle_cmp one other))) (nat_cmp-lt (count one) (count other) l)
+
+  first_is_rarer : (one other : List ℕ) → count one ≤ count other → is_gt (bundle_cmp one other) ≡ false → is_gt (rarer right excess one other) ≡ false
+  first_is_rarer one other l f =
+      ⊎_elim (λ (m : count one < count other). fewer_is_rarer one other m)
+      (λ (m : count other ≤ count one).
+      let same : count one ≡ count other = omega (arith, l, m) in
+      ap (λ n. is_gt (ordering_then (nat_cmp n (count other)) (bundle_cmp one other))) same
+      ∙ ap (λ o. is_gt (ordering_then o (bundle_cmp one other))) (nat_cmp-refl (count other)) ∙ f)
+      (cases_lt (count one) (count other))
+
+  not_more : (one other : List ℕ) → is_gt (rarer right excess one other) ≡ false → count one ≤ count other
+  not_more one other e =
+      ⊎_elim (λ (m : count other < count one).
+      absurd (both_ways (is_gt (rarer right excess one other)) e
+      (ap (λ o. is_gt (ordering_then o (bundle_cmp one other))) (nat_cmp-gt (count one) (count other) m))))
+      (λ (m : count one ≤ count other). m)
+      (cases_lt (count other) (count one))
+
+  module _ (waiting : List ℕ) where
+    -- no bundle on which one waits is rarer
+    abbrev IsFirst : List ℕ → List ℕ → Type 0
+    IsFirst bundle other = bidders_on right waiting other ≢ [] → is_gt (rarer right excess bundle other) ≡ false
+
+    pub one_more_bundle : (bundles : List (List ℕ)) (bundle : List ℕ) → All (λ b. bundle_cmp b bundle ≡ Less) bundles → (rarest found : Option Candidate)
+        → IsRarestIfAny right excess waiting bundles rarest → MatchOption found (bidders_on right waiting bundle ≡ []) (IsCandidate right excess waiting bundle)
+        → IsRarestIfAny right excess waiting (bundles ++ bundle ∷ []) (rarer_candidate rarest found)
+    one_more_bundle bundles bundle before None None none here = All-push (λ b. bidders_on right waiting b ≡ []) bundles bundle none here
+    one_more_bundle bundles bundle before None (Some d) none here = record {
+      bundle = bundle;
+      there = Contains-push bundles bundle;
+      is = here;
+      none_rarer = All-push (IsFirst bundle) bundles bundle
+          (All-weaker (λ b. bidders_on right waiting b ≡ []) (IsFirst bundle) (λ b e n. absurd (n e)) bundles none)
+          (λ n. first_is_rarer bundle bundle (omega arith) (ap is_gt (bundle_cmp_refl bundle)));
+    }
+    one_more_bundle bundles bundle before (Some c) None r here = record {
+      bundle = r.bundle;
+      there = Contains-append_left bundles (bundle ∷ []) r.bundle r.there;
+      is = r.is;
+      none_rarer = All-push (IsFirst r.bundle) bundles bundle r.none_rarer (λ n. absurd (n here));
+    }
+    one_more_bundle bundles bundle before (Some c) (Some d) r here =
+        ⊎_elim
+        (λ (l : d.count < c.count). subst (IsRarestIfAny right excess waiting (bundles ++ bundle ∷ []))
+        (sym (ap (λ b. if b then Some d else Some c) (lt-ltb d.count c.count l))) (record {
+          bundle = bundle;
+          there = Contains-push bundles bundle;
+          is = here;
+          none_rarer = All-push (IsFirst bundle) bundles bundle
+              (All-weaker (IsFirst r.bundle) (IsFirst bundle) (λ b h n.
+              let more = not_more r.bundle b (h n) in
+              fewer_is_rarer bundle b (omega (arith, more, l, here.count, r.is.count))) bundles r.none_rarer)
+              (λ n. first_is_rarer bundle bundle (omega arith) (ap is_gt (bundle_cmp_refl bundle)));
+        }))
+        (λ (l : c.count ≤ d.count). subst (IsRarestIfAny right excess waiting (bundles ++ bundle ∷ []))
+        (sym (ap (λ b. if b then Some d else Some c) (le-ltb d.count c.count l))) (record {
+          bundle = r.bundle;
+          there = Contains-append_left bundles (bundle ∷ []) r.bundle r.there;
+          is = r.is;
+          none_rarer = All-push (IsFirst r.bundle) bundles bundle r.none_rarer
+              (λ n. first_is_rarer r.bundle bundle (omega (arith, l, here.count, r.is.count))
+              (ap is_gt (All-contains (λ b. bundle_cmp b bundle ≡ Less) bundles r.bundle before r.there)));
+        }))
+        (cases_lt d.count c.count)
+
+    -- ---- the partner
+
+    none_waits : (sorted : List (List ℕ)) → All (λ b. bidders_on right waiting b ≡ []) sorted → flat_map (bidders_on right waiting) sorted ≡ []
+    none_waits [] none = refl
+    none_waits (b ∷ sorted) none =
+        ap₂ (λ (xs ys : List ℕ). xs ++ ys) (All-head (λ b. bidders_on right waiting b ≡ []) b sorted none)
+        (none_waits sorted (All-tail (λ b. bidders_on right waiting b ≡ []) b sorted none))
+
+    first_waits : (sorted : List (List ℕ)) (bundle : List ℕ) (index : ℕ) → IsOrdered (rarer right excess) sorted → Contains sorted bundle
+        → slice_get (bidders_on right waiting bundle) 0 ≡ Some index → All (IsFirst bundle) sorted
+        → slice_get (flat_map (bidders_on right waiting) sorted) 0 ≡ Some index
+    first_waits [] bundle index ordered there e first = absurd (Contains-nil bundle there)
+    first_waits (b ∷ sorted) bundle index ordered there e first =
+        at (bidders_on right waiting b) refl (λ c. first_waits sorted bundle index ordered.1 c e (All-tail (IsFirst bundle) b sorted first))
+      where
+        later : bidders_on right waiting b ≡ [] → Contains sorted bundle
+        later none = ⊎_elim
+            (λ (same : b ≡ bundle).
+            let lost : slice_get (bidders_on right waiting bundle) 0 ≡ None =
+            ap (λ (xs : List ℕ). slice_get xs 0) (ap (bidders_on right waiting) (sym same) ∙ none) in
+            absurd (cc))
+            (λ (c : Contains sorted bundle). c)
+            (Contains-cons_cases b sorted bundle there)
+
+        same : bidders_on right waiting b ≢ [] → b ≡ bundle
+        same some = ⊎_elim
+            (λ (e : b ≡ bundle). e)
+            (λ (c : Contains sorted bundle).
+            let up : is_gt (rarer right excess b bundle) ≡ false = All-contains (λ y. is_gt (rarer right excess b y) ≡ false) sorted bundle
+            (All-from_recursion (λ y. is_gt (rarer right excess b y) ≡ false) sorted ordered.0) c in
+            let down : is_gt (rarer right excess bundle b) ≡ false = All-head (IsFirst bundle) b sorted first some in
+            rarer_equal b bundle (tied (rarer right excess b bundle) (rarer right excess bundle b) (rarer_total.antisymm b bundle) up down))
+            (Contains-cons_cases b sorted bundle there)
+          where
+            tied : (o p : Ordering) → o ≡ ordering_reverse p → is_gt o ≡ false → is_gt p ≡ false → o ≡ Equal
+            tied Less Less f u d = absurd (cc)
+            tied Less Equal f u d = absurd (cc)
+            tied Less Greater f u d = absurd (cc)
+            tied Equal p f u d = refl
+            tied Greater p f u d = absurd (cc)
+
+        at : (xs : List ℕ) → bidders_on right waiting b ≡ xs
+            → (Contains sorted bundle → slice_get (flat_map (bidders_on right waiting) sorted) 0 ≡ Some index)
+            → slice_get (flat_map (bidders_on right waiting) (b ∷ sorted)) 0 ≡ Some index
+        at [] none next =
+            ap (λ (xs : List ℕ). slice_get (xs ++ flat_map (bidders_on right waiting) sorted) 0) none ∙ next (later none)
+        at (x ∷ xs) some next =
+            let is : b ≡ bundle = same (λ none. let not : x ∷ xs ≡ [] = sym some ∙ none in absurd (cc)) in
+            let head : slice_get (x ∷ xs) 0 ≡ Some index =
+            ap (λ (ys : List ℕ). slice_get ys 0) (sym some ∙ ap (bidders_on right waiting) is) ∙ e in
+            ap (λ (ys : List ℕ). slice_get (ys ++ flat_map (bidders_on right waiting) sorted) 0) some ∙ head
+
+    module _ (bidder : List (Atom (List ℕ))) where
+      abbrev bundles : List (List ℕ)
+      bundles = map (λ a. a.bundle) bidder
+
+      pub no_partner : All (λ b. bidders_on right waiting b ≡ []) bundles → partner_of right excess waiting bidder ≡ None
+      no_partner none =
+          ap (λ (xs : List ℕ). slice_get xs 0)
+          (none_waits (sort_by (rarer right excess) bundles) (All-sort_by (rarer right excess) (λ b. bidders_on right waiting b ≡ []) bundles none))
+
+      pub rarest_is_partner : (c : Candidate) → IsRarest right excess waiting bundles c → partner_of right excess waiting bidder ≡ Some c.index
+      rarest_is_partner c r =
+          first_waits (sort_by (rarer right excess) bundles) r.bundle c.index (ordered-sort_by (rarer right excess) rarer_total bundles)
+          (Contains-permutation bundles (sort_by (rarer right excess) bundles) r.bundle (permutation-sort_by (rarer right excess) bundles) r.there)
+          r.is.first (All-sort_by (rarer right excess) (IsFirst r.bundle) bundles r.none_rarer)

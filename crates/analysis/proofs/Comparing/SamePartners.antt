@@ -1,0 +1,143 @@
+-- With the same partners there is one list of changes. The idea: the left bidders and their partners are given, and so is which
+-- right bidders are alone, in which order; and a change is determined by its bidders.
+use Rattle.std.proofs.Common.{◌≡◌, ℕ, ◌+◌, ◌<◌, true, List, [], ◌∷◌, ◌++◌, map, get_or, refl, sym, ap, ap₂, ◌∙◌, subst, arith, Option, Some, None}
+use Rattle.std.specs.Prelude.{All, AllPairs, is_some, ◌||◌}
+use Rattle.std.specs.FinMap.{nat_cmp-IsAntisymmetric}
+use Rattle.std.specs.List.{cons_option, filter_map}
+use Rattle.std.specs.Option.{is_none}
+use Rattle.std.specs.Ordering.{nat_cmp}
+use Rattle.std.proofs.lemmas.Cmp.{nat_cmp_total}
+use Rattle.std.proofs.lemmas.List.{append-nil}
+use Rattle.std.proofs.lemmas.List.Elements.{All-filter, All-head, All-tail, filter_passes}
+use Rattle.goods_set.specs.Bundles.{IsRising}
+use Rattle.valuation.specs.declared.atom.Atom.{Atom}
+use Rattle.valuation.specs.Lemmas.Lists.{AllPairs-cons, AllPairs-nil}
+use Rattle.valuation.specs.Sorting.{count_of}
+use Rattle.canon.specs.Lemmas.Finding.{counted_is_there}
+use Rattle.analysis.specs.BidderChanges.{PlainBidderChange, IsBidderChange, AreBidderChanges, bids_at, lefts_of, rights_of, right_alone, with_left}
+use Rattle.canon.specs.PriceChanges.{PlainChange, ArePriceChanges}
+use Rattle.analysis.proofs.Comparing.Changes.{count-append, lefts-append, no_lefts_alone, rights-append}
+use Rattle.analysis.proofs.Comparing.ExchangedChanges.{one_list_of_changes}
+use Rattle.analysis.proofs.Comparing.LawsLists.{above_all, same_in_strict_order, there_is_counted}
+
+-- ---- lists
+
+-- if each has one
+map_of_some : (h : PlainBidderChange → Option ℕ) (xs : List PlainBidderChange) → All (λ c. is_some (h c) ≡ true) xs
+    → map h xs ≡ map (λ i. Some i) (filter_map h xs)
+map_of_some h [] all = refl
+map_of_some h (c ∷ xs) all =
+    at (h c) (All-head (λ (d : PlainBidderChange). is_some (h d) ≡ true) c xs all)
+    (map_of_some h xs (All-tail (λ (d : PlainBidderChange). is_some (h d) ≡ true) c xs all))
+  where
+    at : (o : Option ℕ) → is_some o ≡ true → map h xs ≡ map (λ i. Some i) (filter_map h xs)
+        → o ∷ map h xs ≡ map (λ i. Some i) (cons_option o (filter_map h xs))
+    at (Some i) e same = ap (λ (os : List (Option ℕ)). Some i ∷ os) same
+    at None e same = absurd (cc)
+
+none_from_test : (o : Option ℕ) → is_none o ≡ true → o ≡ None
+none_from_test None e = refl
+none_from_test (Some i) e = absurd (cc)
+
+map_of_none : (xs : List PlainBidderChange) → All (λ c. c.left ≡ None) xs → map (λ c. c.left) xs ≡ map (λ (o : Option ℕ). None) (map (λ c. c.right) xs)
+map_of_none [] all = refl
+map_of_none (c ∷ xs) all =
+    ap₂ (λ (o : Option ℕ) (os : List (Option ℕ)). o ∷ os) (All-head (λ (d : PlainBidderChange). d.left ≡ None) c xs all)
+    (map_of_none xs (All-tail (λ (d : PlainBidderChange). d.left ≡ None) c xs all))
+
+pairs_rise : (xs : List ℕ) → IsRising xs → AllPairs (λ x y. x < y) xs
+pairs_rise [] r = AllPairs-nil (λ x y. x < y)
+pairs_rise (x ∷ xs) r = AllPairs-cons (λ x y. x < y) x xs (above_all x xs r.0) (pairs_rise xs r.1)
+
+same_rising : (xs ys : List ℕ) → IsRising xs → IsRising ys → ((i : ℕ) → count_of nat_cmp i xs ≡ count_of nat_cmp i ys) → xs ≡ ys
+same_rising xs ys r s same =
+    same_in_strict_order (λ x y. x < y) (λ x y l m. omega arith) xs ys (pairs_rise xs r) (pairs_rise ys s)
+    (λ x c. let some = there_is_counted nat_cmp nat_cmp_total x xs c in let e = same x in
+    counted_is_there nat_cmp nat_cmp_total nat_cmp-IsAntisymmetric x ys (omega arith))
+    (λ x c. let some = there_is_counted nat_cmp nat_cmp_total x ys c in let e = same x in
+    counted_is_there nat_cmp nat_cmp_total nat_cmp-IsAntisymmetric x xs (omega arith))
+
+same_head : (o p : Option ℕ) (os ps : List (Option ℕ)) → o ∷ os ≡ p ∷ ps → o ≡ p
+same_head o p os ps e = cc
+
+same_rest : (o p : Option ℕ) (os ps : List (Option ℕ)) → o ∷ os ≡ p ∷ ps → os ≡ ps
+same_rest o p os ps e = cc
+
+-- ---- the changes of two files
+
+module _ (left right : List (List (Atom (List ℕ)))) where
+  same_change : (c d : PlainBidderChange) → IsBidderChange left right c → IsBidderChange left right d → c.left ≡ d.left → c.right ≡ d.right → c ≡ d
+  same_change c d h k e f =
+      let bids : c.bids ≡ d.bids =
+      one_list_of_changes (bids_at left c.left) (bids_at right c.right) c.bids d.bids h.bids
+      (subst (λ (o : Option ℕ). ArePriceChanges (bids_at left c.left) (bids_at right o) d.bids) (sym f)
+      (subst (λ (o : Option ℕ). ArePriceChanges (bids_at left o) (bids_at right d.right) d.bids) (sym e) k.bids)) in
+      ap₂ (λ (o p : Option ℕ). record { left = o; right = p; bids = c.bids }) e f
+      ∙ ap (λ (changes : List PlainChange). record { left = d.left; right = d.right; bids = changes }) bids
+
+  same_changes : (xs ys : List PlainBidderChange) → All (IsBidderChange left right) xs → All (IsBidderChange left right) ys
+      → map (λ c. c.left) xs ≡ map (λ c. c.left) ys → map (λ c. c.right) xs ≡ map (λ c. c.right) ys → xs ≡ ys
+  same_changes [] [] h k e f = refl
+  same_changes [] (d ∷ ys) h k e f = absurd (cc)
+  same_changes (c ∷ xs) [] h k e f = absurd (cc)
+  same_changes (c ∷ xs) (d ∷ ys) h k e f =
+      let is = IsBidderChange left right in
+      ap₂ (λ (z : PlainBidderChange) (zs : List PlainBidderChange). z ∷ zs)
+      (same_change c d (All-head is c xs h) (All-head is d ys k) (same_head c.left d.left (map (λ z. z.left) xs) (map (λ z. z.left) ys) e)
+      (same_head c.right d.right (map (λ z. z.right) xs) (map (λ z. z.right) ys) f))
+      (same_changes xs ys (All-tail is c xs h) (All-tail is d ys k) (same_rest c.left d.left (map (λ z. z.left) xs) (map (λ z. z.left) ys) e)
+      (same_rest c.right d.right (map (λ z. z.right) xs) (map (λ z. z.right) ys) f))
+
+  -- a change without a left bidder has a right one
+  is_right : (c : PlainBidderChange) → IsBidderChange left right c → c.left ≡ None → is_some c.right ≡ true
+  is_right c h e = sym (ap (λ (o : Option ℕ). is_some o || is_some c.right) e) ∙ h.some
+
+  module _ (changes : List PlainBidderChange) (are : AreBidderChanges left right changes) where
+    none_left : All (λ c. c.left ≡ None) (right_alone changes)
+    none_left k d l = none_from_test (get_or (right_alone changes) k d).left (filter_passes (λ c. is_none c.left) changes k d l)
+
+    each_alone : All (IsBidderChange left right) (right_alone changes)
+    each_alone = All-filter (λ c. is_none c.left) (IsBidderChange left right) changes are.each
+
+    each_with_left : All (IsBidderChange left right) (with_left changes)
+    each_with_left = All-filter (λ c. is_some c.left) (IsBidderChange left right) changes are.each
+
+    lefts_of_first : map (λ c. c.left) (with_left changes) ≡ map (λ i. Some i) (lefts_of changes)
+    lefts_of_first =
+        map_of_some (λ c. c.left) (with_left changes) (filter_passes (λ c. is_some c.left) changes)
+        ∙ ap (map (λ i. Some i)) (sym (ap lefts_of are.alone_last ∙ lefts-append (with_left changes) (right_alone changes)
+        ∙ ap (λ (is : List ℕ). lefts_of (with_left changes) ++ is) (no_lefts_alone (right_alone changes) none_left)
+        ∙ append-nil (lefts_of (with_left changes))))
+
+    rights_of_last : map (λ c. c.right) (right_alone changes) ≡ map (λ i. Some i) (rights_of (right_alone changes))
+    rights_of_last =
+        map_of_some (λ c. c.right) (right_alone changes) (λ k d l. is_right (get_or (right_alone changes) k d) (each_alone k d l) (none_left k d l))
+
+    rights_counted_apart : (i : ℕ) → count_of nat_cmp i (rights_of changes)
+        ≡ count_of nat_cmp i (rights_of (with_left changes)) + count_of nat_cmp i (rights_of (right_alone changes))
+    rights_counted_apart i =
+        ap (λ (xs : List PlainBidderChange). count_of nat_cmp i (rights_of xs)) are.alone_last
+        ∙ ap (count_of nat_cmp i) (rights-append (with_left changes) (right_alone changes))
+        ∙ count-append i (rights_of (with_left changes)) (rights_of (right_alone changes))
+
+  pub one_with_partners : (one other : List PlainBidderChange) → AreBidderChanges left right one → AreBidderChanges left right other
+      → map (λ c. c.right) (with_left one) ≡ map (λ c. c.right) (with_left other) → one ≡ other
+  one_with_partners one other are also same =
+      let first : with_left one ≡ with_left other =
+      same_changes (with_left one) (with_left other) (each_with_left one are) (each_with_left other also)
+      (lefts_of_first one are ∙ ap (map (λ i. Some i)) (are.lefts ∙ sym also.lefts) ∙ sym (lefts_of_first other also)) same in
+      let alone : rights_of (right_alone one) ≡ rights_of (right_alone other) =
+      same_rising (rights_of (right_alone one)) (rights_of (right_alone other)) are.alone_in_order also.alone_in_order
+      (λ i. let a = rights_counted_apart one are i in
+      let b = rights_counted_apart other also i in
+      let c = are.rights i in
+      let d = also.rights i in
+      let e = ap (λ (xs : List PlainBidderChange). count_of nat_cmp i (rights_of xs)) first in
+      omega arith) in
+      let rights : map (λ c. c.right) (right_alone one) ≡ map (λ c. c.right) (right_alone other) =
+      rights_of_last one are ∙ ap (map (λ i. Some i)) alone ∙ sym (rights_of_last other also) in
+      let last : right_alone one ≡ right_alone other =
+      same_changes (right_alone one) (right_alone other) (each_alone one are) (each_alone other also)
+      (map_of_none (right_alone one) (none_left one are) ∙ ap (map (λ (o : Option ℕ). None)) rights
+      ∙ sym (map_of_none (right_alone other) (none_left other also))) rights in
+      are.alone_last ∙ ap₂ (λ (xs ys : List PlainBidderChange). xs ++ ys) first last ∙ sym also.alone_last

@@ -1,0 +1,242 @@
+-- The bids of a file's canonical file. The idea: a point's price is the value of its bundle, which no bid there exceeds, so
+-- it is the price of a best bid; and the points of a bidder are on different bundles.
+use Rattle.std.proofs.Common.{◌≡◌, ℕ, ◌+◌, ◌<◌, ◌≤◌, not, eqb, ⊎_elim, List, [], ◌∷◌, ◌++◌, length, map, get_or}
+use Rattle.std.proofs.Common.{Option, Some, None, is_none, refl, sym, ap, ap₂, ◌∙◌, subst, arith}
+use Rattle.std.specs.Prelude.{All, Contains, slice_get}
+use Rattle.std.specs.List.{flat_map, range_with_len}
+use Rattle.std.specs.Option.{unwrap_or}
+use Rattle.std.proofs.Math.Seq.{get_or-append_seam}
+use Rattle.std.proofs.lemmas.Bool.{not_from_false, ne_eqb}
+use Rattle.std.proofs.lemmas.List.{map-append, length-append, append_assoc}
+use Rattle.std.proofs.lemmas.List.Concat.{flat_map-cons}
+use Rattle.std.proofs.lemmas.List.Elements.{All-contains, All-from_recursion, Contains-append_left, Contains-append_right, Contains-append_cases}
+use Rattle.std.proofs.lemmas.Option.{slice_get-get_or}
+use Rattle.goods_set.specs.Bundles.{IsBundle, all_bundles, IsInside}
+use Rattle.goods_set.specs.Lemmas.AllBundles.{all_bundles_has}
+use Rattle.goods_set.specs.Lemmas.Members.{inside_refl}
+use Rattle.bid_file.specs.Files.{PlainBid, PlainFile, IsBid, IsDummyBelow, IsPlainFile}
+use Rattle.valuation.specs.declared.atom.Atom.{Atom}
+use Rattle.valuation.specs.Auctions.{IsAtom, IsAuction, atom_of, auction_from, is_dummy, or_atoms_of, xor_atoms_of}
+use Rattle.valuation.specs.Tables.{xor_table}
+use Rattle.valuation.specs.Values.{or_value, xor_value}
+use Rattle.valuation.specs.Lemmas.AuctionsOfFiles.{IsAuction-auction_from, rising-from, below-from}
+use Rattle.valuation.specs.Lemmas.Lists.{AllPairs-map, Contains-map, Contains-unmap}
+use Rattle.valuation.specs.Lemmas.OrValues.{or_value-price}
+use Rattle.prune.specs.InOrder.{IsBefore, IsInOrder}
+use Rattle.prune.specs.Points.{or_points, is_or_point, is_xor_point}
+use Rattle.prune.specs.Lemmas.InOrder.{before_itself}
+use Rattle.prune.specs.Lemmas.KeptBids.{on_bundles, just_bundles, or_points_are_atoms, xor_points_are_atoms}
+use Rattle.prune.specs.Lemmas.Lists.{list_any_has}
+use Rattle.prune.specs.Lemmas.OnBundles.{IsOnBundle}
+use Rattle.prune.specs.Lemmas.Points.{or_points_are, xor_points_are, points_where-in_order}
+use Rattle.prune.specs.Lemmas.Values.{xor_value-member}
+use Rattle.canon.specs.Canonical.{bid_from, canonical_auction, dummy_bids}
+use Rattle.canon.specs.Lemmas.Renaming.{points_of_kept_dummies, kept_dummies-differ, kept_dummies-below, kept_dummies-has}
+use Rattle.canon.specs.Renaming.{kept_bids, kept_dummies, named_bid, points_of_dummy}
+use Rattle.analysis.specs.Bids.{bid_at, bidder_of}
+use Rattle.analysis.specs.Reasons.{IsKeptAs}
+use Rattle.analysis.proofs.Explaining.BestBids.{element_at, HaveOneKey}
+use Rattle.analysis.proofs.Explaining.KeptBidsLists.{in_numbers, in_flat_map, from_flat_map, AreDifferent, different_places, different_append}
+use Rattle.analysis.proofs.Explaining.KeptBidsLists.{different_flat_map}
+use Rattle.analysis.proofs.Explaining.KeptBidsBest.{same_bidder, best_of, atom_there, atom_from, none_is, some_is, is_dummy-same}
+
+-- ---- the bids, bidder by bidder
+
+map_of_map : {X Y Z : Type 0} (h : Y → Z) (g : X → Y) (k : X → Z) → ((x : X) → h (g x) ≡ k x) → (xs : List X) → map h (map g xs) ≡ map k xs
+map_of_map h g k e [] = refl
+map_of_map {Z = Z} h g k e (x ∷ xs) = ap₂ (λ (z : Z) (zs : List Z). z ∷ zs) (e x) (map_of_map h g k e xs)
+
+-- the bids that a bidder keeps
+abbrev pub bids_of_dummy : PlainFile → ℕ → List PlainBid
+bids_of_dummy f d = map (bid_from (Some d)) (points_of_dummy f d)
+
+abbrev pub or_points_of : PlainFile → List (Atom (List ℕ))
+or_points_of f = or_points f.goods (or_atoms_of f.bids)
+
+named_bids : (points : ℕ → List (Atom (List ℕ))) (before ds : List ℕ) (n : ℕ) → length before ≡ n
+    → map (named_bid (before ++ ds)) (dummy_bids n (map points ds)) ≡ flat_map (λ d. map (bid_from (Some d)) (points d)) ds
+named_bids points before [] n l = refl
+named_bids points before (d ∷ ds) n l =
+    map-append (named_bid (before ++ d ∷ ds)) (map (bid_from (Some n)) (points d)) (dummy_bids (n + 1) (map points ds))
+    ∙ ap₂ (λ (xs ys : List PlainBid). xs ++ ys)
+    (map_of_map (named_bid (before ++ d ∷ ds)) (bid_from (Some n)) (bid_from (Some d))
+    (λ a. ap (λ (e : ℕ). bid_from (Some e) a) (ap (λ (m : ℕ). get_or (before ++ d ∷ ds) m 0) (sym l) ∙ get_or-append_seam before d ds 0)) (points d))
+    (ap (λ (es : List ℕ). map (named_bid es) (dummy_bids (n + 1) (map points ds))) (sym (append_assoc before (d ∷ []) ds))
+    ∙ named_bids points (before ++ d ∷ []) ds (n + 1) (let long = length-append before (d ∷ []) in omega arith))
+    ∙ sym (flat_map-cons (λ e. map (bid_from (Some e)) (points e)) d ds)
+
+-- the OR bidder's, and then each XOR bidder's
+pub kept_bids_are : (f : PlainFile) → kept_bids f ≡ map (bid_from None) (or_points_of f) ++ flat_map (bids_of_dummy f) (kept_dummies f)
+kept_bids_are f =
+    let names = named_bid (kept_dummies f) in
+    map-append names (map (bid_from None) (or_points_of f)) (dummy_bids 0 (canonical_auction (auction_from f)).xor_bidders)
+    ∙ ap₂ (λ (xs ys : List PlainBid). xs ++ ys) (map_of_map names (bid_from None) (bid_from None) (λ a. refl) (or_points_of f))
+    (ap (λ (bidders : List (List (Atom (List ℕ)))). map names (dummy_bids 0 bidders)) (sym (points_of_kept_dummies f))
+    ∙ named_bids (points_of_dummy f) [] (kept_dummies f) 0 refl)
+
+-- ---- points are among them
+
+listed : (xs : List PlainBid) (b : PlainBid) → Contains xs b → (k : ℕ) × (slice_get xs k ≡ Some b)
+listed xs b c = (c.0, slice_get-get_or xs c.0 b c.1 ∙ ap Some c.2)
+
+pub or-points-are-kept : (f : PlainFile) → (a : Atom (List ℕ)) → Contains (or_points_of f) a
+    → (k : ℕ) × (slice_get (kept_bids f) k ≡ Some (bid_from None a))
+or-points-are-kept f a c =
+    subst (λ (bs : List PlainBid). (k : ℕ) × (slice_get bs k ≡ Some (bid_from None a))) (sym (kept_bids_are f))
+    (listed _ (bid_from None a) (Contains-append_left (map (bid_from None) (or_points_of f)) (flat_map (bids_of_dummy f) (kept_dummies f)) (bid_from None a)
+    (Contains-map (bid_from None) (or_points_of f) a c)))
+
+pub xor-points-are-kept : (f : PlainFile) → (d : ℕ) → Contains (kept_dummies f) d → (a : Atom (List ℕ)) → Contains (points_of_dummy f d) a
+    → (k : ℕ) × (slice_get (kept_bids f) k ≡ Some (bid_from (Some d) a))
+xor-points-are-kept f d e a c =
+    subst (λ (bs : List PlainBid). (k : ℕ) × (slice_get bs k ≡ Some (bid_from (Some d) a))) (sym (kept_bids_are f))
+    (listed _ (bid_from (Some d) a) (Contains-append_right (map (bid_from None) (or_points_of f)) (flat_map (bids_of_dummy f) (kept_dummies f))
+    (bid_from (Some d) a) (in_flat_map (bids_of_dummy f) (kept_dummies f) d (bid_from (Some d) a) e
+    (Contains-map (bid_from (Some d)) (points_of_dummy f d) a c))))
+
+-- ---- no two are equal
+
+same_bundles : (dummy : Option ℕ) (points : List (Atom (List ℕ))) → IsInOrder points → AreDifferent (map (bid_from dummy) points)
+same_bundles dummy points order =
+    AllPairs-map IsBefore (λ b c. b ≡ c → ⊥) (bid_from dummy)
+    (λ a b l e. before_itself a.bundle (subst (λ (xs : List ℕ). IsBefore a (record { bundle = xs; price = 0 })) (sym (ap (λ (c : PlainBid). c.goods) e)) l))
+    points order
+
+bids-different : (f : PlainFile) → AreDifferent (map (bid_from None) (or_points_of f) ++ flat_map (bids_of_dummy f) (kept_dummies f))
+bids-different f =
+    different_append (map (bid_from None) (or_points_of f)) (flat_map (bids_of_dummy f) (kept_dummies f))
+    (same_bundles None (or_points_of f) (points_where-in_order (is_or_point f.goods (or_atoms_of f.bids)) (or_value (or_atoms_of f.bids)) f.goods))
+    (different_flat_map (bids_of_dummy f) (λ (b : PlainBid). unwrap_or b.dummy 0) (kept_dummies f) (kept_dummies-differ f)
+    (λ d c. same_bundles (Some d) (points_of_dummy f d) (points_where-in_order (is_xor_point (xor_atoms_of f.bids d))
+    (xor_value (xor_atoms_of f.bids d)) f.goods))
+    (λ d b c. let r = Contains-unmap (bid_from (Some d)) (points_of_dummy f d) b c in ap (λ (z : PlainBid). unwrap_or z.dummy 0) r.2))
+    (λ b c e.
+    let r = Contains-unmap (bid_from None) (or_points_of f) b c in
+    let s = from_flat_map (bids_of_dummy f) (kept_dummies f) b e in
+    let t = Contains-unmap (bid_from (Some s.0)) (points_of_dummy f s.0) b s.2 in
+    let clash : bidder_of None ≡ bidder_of (Some s.0) = ap (λ (z : PlainBid). bidder_of z.dummy) (sym r.2 ∙ t.2) in
+    omega arith)
+
+pub kept-once : (f : PlainFile) → (k l : ℕ) → k < length (kept_bids f) → l < length (kept_bids f)
+    → slice_get (kept_bids f) k ≡ slice_get (kept_bids f) l → k ≡ l
+kept-once f =
+    different_places (kept_bids f) (subst (λ (bs : List PlainBid). AreDifferent bs) (sym (kept_bids_are f)) (bids-different f))
+
+-- ---- each is a best bid of the file
+
+-- a bid of the file that none of its bidder on its goods exceeds
+record IsGreatest (f : PlainFile) (b : PlainBid) (j : ℕ) : Type 0 where
+  positive : 0 < b.price
+  within : j < length f.bids
+  is : bid_at f j ≡ b
+  greatest : (i : ℕ) → i < length f.bids → HaveOneKey (bid_at f i) b → (bid_at f i).price ≤ b.price
+
+auction : (f : PlainFile) → IsPlainFile f → IsAuction f.goods (auction_from f)
+auction f is = IsAuction-auction_from f.goods f is (omega arith)
+
+pub or_on : (f : PlainFile) → IsPlainFile f → All (IsOnBundle f.goods) (or_atoms_of f.bids)
+or_on f is = on_bundles f.goods (or_atoms_of f.bids) (auction f is).or_atoms
+
+pub xor_on : (f : PlainFile) → IsPlainFile f → (d : ℕ) → d < f.dummy → All (IsOnBundle f.goods) (xor_atoms_of f.bids d)
+xor_on f is d l =
+    on_bundles f.goods (xor_atoms_of f.bids d) (All-contains (All (IsAtom f.goods)) (map (xor_atoms_of f.bids) (range_with_len 0 f.dummy))
+    (xor_atoms_of f.bids d)
+    (auction f is).xor_atoms (Contains-map (xor_atoms_of f.bids) (range_with_len 0 f.dummy) d (in_numbers f.dummy d l)))
+
+bid_of_atom : (dummy : Option ℕ) (a : Atom (List ℕ)) (b : PlainBid) → b.dummy ≡ dummy → a ≡ atom_of b → b ≡ bid_from dummy a
+bid_of_atom dummy a b e h = ap₂ (λ (o : Option ℕ) (z : Atom (List ℕ)). bid_from o z) e (sym h)
+
+or_greatest : (f : PlainFile) → IsPlainFile f → (a : Atom (List ℕ)) → Contains (or_points_of f) a → (j : ℕ) × IsGreatest f (bid_from None a) j
+or_greatest f is a c =
+    let atoms = or_atoms_of f.bids in
+    let point = (or_points_are f.goods atoms a).0 c in
+    let there = All-contains (Contains atoms) (or_points_of f) a (or_points_are_atoms f.goods atoms (or_on f is)) c in
+    let r = atom_from (λ b. is_none b.dummy) f a there in
+    let value : a.price ≡ or_value atoms a.bundle = point.2 in
+    let positive : 0 < or_value atoms a.bundle = point.1.positive in (
+      r.0,
+      record {
+        positive = omega arith;
+        within = r.1.within;
+        is = bid_of_atom None a (bid_at f r.0) (none_is (bid_at f r.0).dummy r.1.passes) r.1.is;
+        greatest = λ i l h.
+            let none : (bid_at f i).dummy ≡ None = same_bidder (bid_at f i).dummy None h.bidder in
+            let low = or_value-price atoms (atom_of (bid_at f i)) (atom_there (λ b. is_none b.dummy) f i l (ap is_none none)) a.bundle
+            (subst (λ (xs : List ℕ). IsInside (bid_at f i).goods xs) h.goods (inside_refl (bid_at f i).goods)) in
+            omega arith;
+      },
+    )
+
+xor_greatest : (f : PlainFile) → IsPlainFile f → (d : ℕ) → d < f.dummy → (a : Atom (List ℕ)) → Contains (points_of_dummy f d) a
+    → (j : ℕ) × IsGreatest f (bid_from (Some d) a) j
+xor_greatest f is d m a c =
+    let atoms = xor_atoms_of f.bids d in
+    let point = (xor_points_are f.goods atoms a).0 c in
+    let there = All-contains (Contains atoms) (points_of_dummy f d) a (xor_points_are_atoms f.goods atoms (just_bundles f.goods atoms (xor_on f is d m))) c in
+    let r = atom_from (λ b. is_dummy d b.dummy) f a there in
+    let value : a.price ≡ xor_value atoms a.bundle = point.2 in
+    let positive : 0 < xor_value atoms a.bundle = point.1.positive in (
+      r.0,
+      record {
+        positive = omega arith;
+        within = r.1.within;
+        is = bid_of_atom (Some d) a (bid_at f r.0) (some_is d (bid_at f r.0).dummy r.1.passes) r.1.is;
+        greatest = λ i l h.
+            let some : (bid_at f i).dummy ≡ Some d = same_bidder (bid_at f i).dummy (Some d) h.bidder in
+            let low = xor_value-member atoms (atom_of (bid_at f i))
+            (atom_there (λ b. is_dummy d b.dummy) f i l (is_dummy-same d (bid_at f i).dummy some)) a.bundle
+            (subst (λ (xs : List ℕ). IsInside (bid_at f i).goods xs) h.goods (inside_refl (bid_at f i).goods)) in
+            omega arith;
+      },
+    )
+
+kept_greatest : (f : PlainFile) → IsPlainFile f → (b : PlainBid) → Contains (kept_bids f) b → (j : ℕ) × IsGreatest f b j
+kept_greatest f is b c =
+    ⊎_elim
+    (λ (e : Contains (map (bid_from None) (or_points_of f)) b).
+    let r = Contains-unmap (bid_from None) (or_points_of f) b e in
+    subst (λ (z : PlainBid). (j : ℕ) × IsGreatest f z j) (sym r.2) (or_greatest f is r.0 r.1))
+    (λ (e : Contains (flat_map (bids_of_dummy f) (kept_dummies f)) b).
+    let s = from_flat_map (bids_of_dummy f) (kept_dummies f) b e in
+    let r = Contains-unmap (bid_from (Some s.0)) (points_of_dummy f s.0) b s.2 in
+    subst (λ (z : PlainBid). (j : ℕ) × IsGreatest f z j) (sym r.2) (xor_greatest f is s.0 (kept_dummies-below f s.0 s.1).0 r.0 r.1))
+    (Contains-append_cases (map (bid_from None) (or_points_of f)) (flat_map (bids_of_dummy f) (kept_dummies f)) b
+    (subst (λ (bs : List PlainBid). Contains bs b) (kept_bids_are f) c))
+
+pub kept-is-best : (f : PlainFile) → IsPlainFile f → (k : ℕ) → k < length (kept_bids f) → (j : ℕ) × (j < length f.bids) × IsKeptAs f j k
+kept-is-best f is k l =
+    let b = element_at (kept_bids f) k l in
+    let g = kept_greatest f is b.0 (k, l, b.1 b.0) in
+    let r = best_of f b.0 g.0 g.1.within g.1.is g.1.greatest in
+    let price : (bid_at f r.0).price ≡ b.0.price = ap (λ (z : PlainBid). z.price) r.1.is in
+    let positive = g.1.positive in
+    let kept = slice_get-get_or (kept_bids f) k b.0 l ∙ ap Some (b.1 b.0 ∙ sym r.1.is) in
+    (r.0, r.1.within, record { bid = record { positive = omega arith; best = r.1.best }; is = kept })
+
+-- ---- a bid of the file with a price above 0
+
+pub bid_here : (f : PlainFile) → IsPlainFile f → (i : ℕ) → i < length f.bids → IsBid f.goods f.dummy (bid_at f i)
+bid_here f is i l = All-from_recursion (IsBid f.goods f.dummy) f.bids is.each i _ l
+
+pub bundle_here : (f : PlainFile) → IsPlainFile f → (i : ℕ) → i < length f.bids → IsBundle f.goods (bid_at f i).goods
+bundle_here f is i l = let b = bid_here f is i l in (rising-from (bid_at f i).goods b.rising, below-from f.goods (bid_at f i).goods b.below)
+
+below_here : (f : PlainFile) → IsPlainFile f → (i : ℕ) → i < length f.bids → (d : ℕ) → (bid_at f i).dummy ≡ Some d → d < f.dummy
+below_here f is i l d some = subst (λ (o : Option ℕ). IsDummyBelow f.dummy o) some (bid_here f is i l).dummy
+
+within_value : (f : PlainFile) (i : ℕ) → i < length f.bids → (d : ℕ) → (bid_at f i).dummy ≡ Some d
+    → (bid_at f i).price ≤ xor_value (xor_atoms_of f.bids d) (bid_at f i).goods
+within_value f i l d some =
+    xor_value-member (xor_atoms_of f.bids d) (atom_of (bid_at f i)) (atom_there (λ b. is_dummy d b.dummy) f i l (is_dummy-same d (bid_at f i).dummy some))
+    (bid_at f i).goods (inside_refl (bid_at f i).goods)
+
+-- its bidder is in the canonical file
+pub dummy-is-kept : (f : PlainFile) → IsPlainFile f → (i : ℕ) → i < length f.bids → (d : ℕ) → (bid_at f i).dummy ≡ Some d → 0 < (bid_at f i).price
+    → Contains (kept_dummies f) d
+dummy-is-kept f is i l d some positive =
+    let atoms = xor_atoms_of f.bids d in
+    let goods = (bid_at f i).goods in
+    let low = within_value f i l d some in
+    kept_dummies-has f d (below_here f is i l d some) (list_any_has (λ value. not (eqb value 0)) (xor_table atoms f.goods) (xor_value atoms goods)
+    (Contains-map (xor_value atoms) (all_bundles f.goods) goods (all_bundles_has f.goods goods (bundle_here f is i l)))
+    (not_from_false (eqb (xor_value atoms goods) 0) (ne_eqb (xor_value atoms goods) 0 (λ e. omega arith))))

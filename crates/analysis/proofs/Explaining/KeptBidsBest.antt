@@ -1,0 +1,180 @@
+-- The best bids of a file. The idea: a best bid has the greatest price of its bidder's bids on its goods, and of a
+-- bidder's bids on a bundle one alone is the best, the first of those with the greatest price.
+use Rattle.std.proofs.Common.{◌≡◌, ℕ, ◌<◌, ◌≤◌, Bool, true, false, ◌&&◌, ◌||◌, ltb, eqb, ⊎_elim, List, [], length, map}
+use Rattle.std.proofs.Common.{Option, Some, None, is_none, refl, sym, ap, ◌∙◌, subst, arith, le_antisymm}
+use Rattle.std.specs.Prelude.{Contains}
+use Rattle.std.specs.List.{filter}
+use Rattle.std.proofs.lemmas.Bool.{and_parts, and_from, or_left, or_right, or_cases, cases_lt, both_ways, eqb-true, eq-eqb, ltb-true, lt-ltb, not_from_false}
+use Rattle.std.proofs.lemmas.Bool.{not-true, false_from_ne_true}
+use Rattle.std.proofs.lemmas.List.{get_or_default}
+use Rattle.std.proofs.lemmas.List.Elements.{Contains-get_or}
+use Rattle.std.proofs.lemmas.List.Folds.{list_any_none}
+use Rattle.bid_file.specs.Files.{PlainBid, PlainFile}
+use Rattle.valuation.specs.declared.atom.Atom.{Atom}
+use Rattle.valuation.specs.Auctions.{atom_of, is_dummy}
+use Rattle.valuation.specs.Lemmas.Lists.{Contains-map, Contains-unmap}
+use Rattle.prune.specs.SearchSteps.{greatest_price}
+use Rattle.prune.specs.Lemmas.Lists.{All-from_Contains, Contains-filter, Contains-filter_parts, list_any_fails}
+use Rattle.prune.specs.Lemmas.SearchSteps.{greatest_price-member, greatest_price-bound}
+use Rattle.analysis.specs.Bids.{bid_at, bidder_of, are_alike, is_better, is_best, numbers_of}
+use Rattle.analysis.proofs.Explaining.BestBids.{HaveOneKey, one_key, alike_from}
+use Rattle.analysis.proofs.Explaining.KeptBidsLists.{in_numbers, below_numbers, first_place}
+
+-- ---- bids
+
+pub same_bidder : (o p : Option ℕ) → bidder_of o ≡ bidder_of p → o ≡ p
+same_bidder None None e = refl
+same_bidder None (Some d) e = absurd (omega arith)
+same_bidder (Some c) None e = absurd (omega arith)
+same_bidder (Some c) (Some d) e = let f : c ≡ d = omega arith in ap Some f
+
+pub same_bid : (a b : PlainBid) → HaveOneKey a b → a.price ≡ b.price → a ≡ b
+same_bid a b h e =
+    ap (λ (o : Option ℕ). record { price = a.price; goods = a.goods; dummy = o }) (same_bidder a.dummy b.dummy h.bidder)
+    ∙ ap (λ (xs : List ℕ). record { price = a.price; goods = xs; dummy = b.dummy }) h.goods
+    ∙ ap (λ (n : ℕ). record { price = n; goods = b.goods; dummy = b.dummy }) e
+
+pub one_key_sym : (a b : PlainBid) → HaveOneKey a b → HaveOneKey b a
+one_key_sym a b h = record { bidder = sym h.bidder; goods = sym h.goods }
+
+pub one_key_same : (a b : PlainBid) → a ≡ b → HaveOneKey a b
+one_key_same a b e = record { bidder = ap (λ (c : PlainBid). bidder_of c.dummy) e; goods = ap (λ (c : PlainBid). c.goods) e }
+
+-- ---- none is better than a best bid
+
+module _ (f : PlainFile) (i j : ℕ) (best : is_best f i ≡ true) (l : j < length f.bids) (h : HaveOneKey (bid_at f j) (bid_at f i)) where
+  not_better : is_better f j i ≡ false
+  not_better = list_any_fails (λ k. is_better f k i) (numbers_of f) (not-true _ best) j (in_numbers (length f.bids) j l)
+
+  better : (ltb (bid_at f i).price (bid_at f j).price || (eqb (bid_at f j).price (bid_at f i).price && ltb j i)) ≡ true → ⊥
+  better t = both_ways (is_better f j i) not_better (and_from (are_alike (bid_at f j) (bid_at f i)) _ (alike_from (bid_at f j) (bid_at f i) h) t)
+
+  pub best_is_greatest : (bid_at f j).price ≤ (bid_at f i).price
+  best_is_greatest =
+      ⊎_elim (λ (m : (bid_at f i).price < (bid_at f j).price). absurd (better (or_left (ltb (bid_at f i).price (bid_at f j).price) _ (lt-ltb _ _ m))))
+      (λ (m : (bid_at f j).price ≤ (bid_at f i).price). m) (cases_lt (bid_at f i).price (bid_at f j).price)
+
+  pub best_is_first : (bid_at f j).price ≡ (bid_at f i).price → i ≤ j
+  best_is_first e =
+      ⊎_elim
+      (λ (m : j < i). absurd (better (or_right (ltb (bid_at f i).price (bid_at f j).price) _
+      (and_from (eqb (bid_at f j).price (bid_at f i).price) (ltb j i) (eq-eqb _ _ e) (lt-ltb j i m)))))
+      (λ (m : i ≤ j). m) (cases_lt j i)
+
+-- of the bids of a bidder on a bundle one is the best
+pub best-once : (f : PlainFile) (i j : ℕ) → i < length f.bids → j < length f.bids → is_best f i ≡ true → is_best f j ≡ true
+    → are_alike (bid_at f i) (bid_at f j) ≡ true → i ≡ j
+best-once f i j l m b c alike =
+    let h = one_key (bid_at f i) (bid_at f j) alike in
+    let back = one_key_sym (bid_at f i) (bid_at f j) h in
+    let e = le_antisymm (best_is_greatest f j i c l h) (best_is_greatest f i j b m back) in
+    le_antisymm (best_is_first f i j b m back (sym e)) (best_is_first f j i c l h e)
+
+-- ---- a bid that no bid of its bidder on its goods exceeds is among the best
+
+abbrev is_same : PlainBid → PlainBid → Bool
+is_same b c = are_alike c b && eqb c.price b.price
+
+pub record IsBestOf (f : PlainFile) (b : PlainBid) (j : ℕ) : Type 0 where
+  pub within : j < length f.bids
+  pub is : bid_at f j ≡ b
+  pub best : is_best f j ≡ true
+
+pub best_of : (f : PlainFile) (b : PlainBid) (k : ℕ) → k < length f.bids → bid_at f k ≡ b
+    → ((j : ℕ) → j < length f.bids → HaveOneKey (bid_at f j) b → (bid_at f j).price ≤ b.price) → (j : ℕ) × IsBestOf f b j
+best_of f b k l e greatest =
+    let r = first_place (is_same b) f.bids (record { price = 0; goods = []; dummy = None }) k l
+    (and_from (are_alike (bid_at f k) b) (eqb (bid_at f k).price b.price) (alike_from (bid_at f k) b (one_key_same (bid_at f k) b e))
+    (eq-eqb (bid_at f k).price b.price (ap (λ (c : PlainBid). c.price) e))) in
+    let there = same (bid_at f r.0) r.1.passes in (
+      r.0,
+      record {
+        within = r.1.within;
+        is = there;
+        best = not_from_false _ (list_any_none (λ i. is_better f i r.0) (numbers_of f)
+            (All-from_Contains (λ i. is_better f i r.0 ≡ false) (numbers_of f) (λ i c. false_from_ne_true (is_better f i r.0)
+            (none r.0 there r.1.none i (below_numbers (length f.bids) i c)))));
+      },
+    )
+  where
+    same : (c : PlainBid) → is_same b c ≡ true → c ≡ b
+    same c t = let parts = and_parts (are_alike c b) (eqb c.price b.price) t in same_bid c b (one_key c b parts.0) (eqb-true _ _ parts.1)
+
+    none : (j : ℕ) → bid_at f j ≡ b → ((i : ℕ) → i < j → is_same b (bid_at f i) ≡ false) → (i : ℕ) → i < length f.bids → is_better f i j ≡ true → ⊥
+    none j is before i m t =
+        let parts = and_parts (are_alike (bid_at f i) (bid_at f j)) _ t in
+        let alike : are_alike (bid_at f i) b ≡ true = subst (λ (c : PlainBid). are_alike (bid_at f i) c ≡ true) is parts.0 in
+        let low = greatest i m (one_key (bid_at f i) b alike) in
+        let price : (bid_at f j).price ≡ b.price = ap (λ (c : PlainBid). c.price) is in
+        ⊎_elim (λ (s : ltb (bid_at f j).price (bid_at f i).price ≡ true). let o = ltb-true _ _ s in absurd (omega arith))
+        (λ (s : (eqb (bid_at f i).price (bid_at f j).price && ltb i j) ≡ true).
+        let both = and_parts (eqb (bid_at f i).price (bid_at f j).price) (ltb i j) s in
+        both_ways (is_same b (bid_at f i)) (before i (ltb-true _ _ both.1))
+        (and_from (are_alike (bid_at f i) b) (eqb (bid_at f i).price b.price) alike (eq-eqb (bid_at f i).price b.price (eqb-true _ _ both.0 ∙ price))))
+        (or_cases (ltb (bid_at f j).price (bid_at f i).price) _ parts.1)
+
+-- ---- the atoms of a bidder are its bids
+
+pub atom_there : (p : PlainBid → Bool) (f : PlainFile) (j : ℕ) → j < length f.bids → p (bid_at f j) ≡ true
+    → Contains (map atom_of (filter p f.bids)) (atom_of (bid_at f j))
+atom_there p f j l t =
+    Contains-map atom_of (filter p f.bids) (bid_at f j) (Contains-filter p f.bids (bid_at f j) (Contains-get_or f.bids j _ l) t)
+
+pub record IsAtomOf (p : PlainBid → Bool) (f : PlainFile) (a : Atom (List ℕ)) (j : ℕ) : Type 0 where
+  pub within : j < length f.bids
+  pub passes : p (bid_at f j) ≡ true
+  pub is : a ≡ atom_of (bid_at f j)
+
+pub atom_from : (p : PlainBid → Bool) (f : PlainFile) (a : Atom (List ℕ)) → Contains (map atom_of (filter p f.bids)) a → (j : ℕ) × IsAtomOf p f a j
+atom_from p f a c =
+    let r = Contains-unmap atom_of (filter p f.bids) a c in
+    let s = Contains-filter_parts p f.bids r.0 r.1 in
+    let at : r.0 ≡ bid_at f s.0.0 = sym s.0.2 ∙ get_or_default f.bids s.0.0 r.0 _ s.0.1 in
+    (s.0.0, record { within = s.0.1; passes = sym (ap p at) ∙ s.1; is = r.2 ∙ ap atom_of at })
+
+pub none_is : (o : Option ℕ) → is_none o ≡ true → o ≡ None
+none_is None e = refl
+none_is (Some d) e = absurd (cc)
+
+pub some_is : (d : ℕ) (o : Option ℕ) → is_dummy d o ≡ true → o ≡ Some d
+some_is d None e = absurd (cc)
+some_is d (Some c) e = ap Some (eqb-true c d e)
+
+pub is_dummy-same : (d : ℕ) (o : Option ℕ) → o ≡ Some d → is_dummy d o ≡ true
+is_dummy-same d o e = ap (is_dummy d) e ∙ eq-eqb d d refl
+
+-- ---- the bids of a bidder
+
+abbrev pub is_of : Option ℕ → PlainBid → Bool
+is_of None b = is_none b.dummy
+is_of (Some d) b = is_dummy d b.dummy
+
+abbrev pub atoms_of_bidder : PlainFile → Option ℕ → List (Atom (List ℕ))
+atoms_of_bidder f dummy = map atom_of (filter (is_of dummy) f.bids)
+
+pub of_it : (dummy : Option ℕ) (b : PlainBid) → is_of dummy b ≡ true → b.dummy ≡ dummy
+of_it None b t = none_is b.dummy t
+of_it (Some d) b t = some_is d b.dummy t
+
+pub its_own : (dummy : Option ℕ) (b : PlainBid) → b.dummy ≡ dummy → is_of dummy b ≡ true
+its_own None b e = ap is_none e
+its_own (Some d) b e = is_dummy-same d b.dummy e
+
+-- ---- the price of a best bid is the greatest on its goods
+
+pub greatest-is-best : (f : PlainFile) (i : ℕ) → i < length f.bids → is_best f i ≡ true
+    → greatest_price (atoms_of_bidder f (bid_at f i).dummy) (bid_at f i).goods ≡ (bid_at f i).price
+greatest-is-best f i l best =
+    let dummy = (bid_at f i).dummy in
+    le_antisymm
+    (greatest_price-bound (atoms_of_bidder f dummy) (bid_at f i).goods (bid_at f i).price
+    (All-from_Contains (λ a. a.bundle ≡ (bid_at f i).goods → a.price ≤ (bid_at f i).price) (atoms_of_bidder f dummy) (λ a c e.
+    let r = atom_from (is_of dummy) f a c in
+    let price : a.price ≡ (bid_at f r.0).price = ap (λ (z : Atom (List ℕ)). z.price) r.1.is in
+    let goods : a.bundle ≡ (bid_at f r.0).goods = ap (λ (z : Atom (List ℕ)). z.bundle) r.1.is in
+    let low = best_is_greatest f i r.0 best r.1.within (record {
+      bidder = ap bidder_of (of_it dummy (bid_at f r.0) r.1.passes);
+      goods = sym goods ∙ e;
+    }) in
+    omega arith)))
+    (greatest_price-member (atoms_of_bidder f dummy) (atom_of (bid_at f i)) (atom_there (is_of dummy) f i l (its_own dummy (bid_at f i) refl)))

@@ -1,0 +1,133 @@
+-- A bidder's points are its bids in the canonical file. So a best bid is there exactly if it is kept.
+use Rattle.std.proofs.Common.{◌≡◌, ℕ, ◌<◌, true, ⊎_elim, List, [], length, map, get_or, Option, Some, None, sym, ap, ◌∙◌, subst, arith}
+use Rattle.std.specs.Prelude.{Contains, slice_get}
+use Rattle.std.specs.List.{filter, flat_map, range_with_len}
+use Rattle.std.specs.Option.{unwrap_or}
+use Rattle.std.proofs.lemmas.Bool.{false_from_ne_true}
+use Rattle.std.proofs.lemmas.List.Elements.{Contains-append_cases, Contains-get_or}
+use Rattle.std.proofs.lemmas.Option.{slice_get_within, slice_get-get_or, get_or_from_slice_get}
+use Rattle.bid_file.specs.Files.{PlainBid, PlainFile, IsDummyBelow, IsPlainFile}
+use Rattle.valuation.specs.declared.atom.Atom.{Atom}
+use Rattle.valuation.specs.declared.search_kind.SearchKind.TheVariants.{Bounded}
+use Rattle.valuation.specs.Auctions.{atom_of, or_atoms_of, xor_atoms_of}
+use Rattle.valuation.specs.Lemmas.Lists.{Contains-unmap}
+use Rattle.prune.specs.Fates.{best_bids}
+use Rattle.prune.specs.Lemmas.Lists.{Contains-filter, Contains-filter_parts, find_first}
+use Rattle.canon.specs.Canonical.{bid_from}
+use Rattle.canon.specs.Renaming.{kept_bids, kept_dummies, points_of_dummy}
+use Rattle.analysis.specs.Bids.{bid_at, are_alike, is_best, best_number}
+use Rattle.analysis.specs.Reasons.{IsKeptAs, kept_bid, kept_number, points_of, point_number}
+use Rattle.analysis.specs.Internal.Walks.{is_kept_atom}
+use Rattle.analysis.proofs.Explaining.BestBids.{alike_from}
+use Rattle.analysis.proofs.Explaining.BestNumbers.{best_number_is, numbers_rise}
+use Rattle.analysis.proofs.Explaining.Deciding.{priced_within}
+use Rattle.analysis.proofs.Explaining.KeptBids.{bids_of_dummy, kept_bids_are, kept-is-best, kept-once, or-points-are-kept, or_on, or_points_of}
+use Rattle.analysis.proofs.Explaining.KeptBids.{xor-points-are-kept, xor_on}
+use Rattle.analysis.proofs.Explaining.KeptBids.{bundle_here, dummy-is-kept}
+use Rattle.analysis.proofs.Explaining.KeptBidsBest.{atoms_of_bidder, best-once, greatest-is-best, one_key_same}
+use Rattle.analysis.proofs.Explaining.KeptBidsLists.{from_flat_map, in_numbers}
+use Rattle.analysis.proofs.Explaining.Packings.{IsPointOf}
+use Rattle.analysis.proofs.Explaining.PointFates.{best_bids-has, or_kept_are_points, xor_kept_are_points}
+
+-- ---- bids of the canonical file
+
+pub same_some : (a b : PlainBid) → ◌≡◌ {A = Option PlainBid} (Some a) (Some b) → a ≡ b
+same_some a b e = cc
+
+-- the bid of the file that a bid of the canonical file is
+pub record IsBidOf (f : PlainFile) (k : ℕ) (target : PlainBid) (number : ℕ) : Type 0 where
+  pub within : number < length f.bids
+  pub is : bid_at f number ≡ target
+  pub kept : IsKeptAs f number k
+
+pub bid_of : (f : PlainFile) → IsPlainFile f → (k : ℕ) (target : PlainBid) → slice_get (kept_bids f) k ≡ Some target → (j : ℕ) × IsBidOf f k target j
+bid_of f is k target e =
+    let r = kept-is-best f is k (slice_get_within (kept_bids f) k target e) in
+    (r.0, record { within = r.1; is = same_some (bid_at f r.0) target (sym r.2.is ∙ e); kept = r.2 })
+
+-- it is a point of its bidder
+pub kept_is_point : (f : PlainFile) (k : ℕ) (b : PlainBid) → slice_get (kept_bids f) k ≡ Some b → Contains (points_of f b.dummy) (atom_of b)
+kept_is_point f k b e =
+    let there : Contains (kept_bids f) b = (k, slice_get_within (kept_bids f) k b e, get_or_from_slice_get (kept_bids f) k b b e) in
+    ⊎_elim
+    (λ (c : Contains (map (bid_from None) (or_points_of f)) b).
+    let r = Contains-unmap (bid_from None) (or_points_of f) b c in
+    subst (λ (z : PlainBid). Contains (points_of f z.dummy) (atom_of z)) (sym r.2) r.1)
+    (λ (c : Contains (flat_map (bids_of_dummy f) (kept_dummies f)) b).
+    let s = from_flat_map (bids_of_dummy f) (kept_dummies f) b c in
+    let r = Contains-unmap (bid_from (Some s.0)) (points_of_dummy f s.0) b s.2 in
+    subst (λ (z : PlainBid). Contains (points_of f z.dummy) (atom_of z)) (sym r.2) r.1)
+    (Contains-append_cases (map (bid_from None) (or_points_of f)) (flat_map (bids_of_dummy f) (kept_dummies f)) b
+    (subst (λ (bs : List PlainBid). Contains bs b) (kept_bids_are f) there))
+
+-- the bidder is in the canonical file
+abbrev pub IsKeptBidder : PlainFile → Option ℕ → Type 0
+IsKeptBidder f None = Unit {0}
+IsKeptBidder f (Some d) = Contains (kept_dummies f) d
+
+pub bidder_is_kept : (f : PlainFile) → IsPlainFile f → (i : ℕ) → i < length f.bids → 0 < (bid_at f i).price → (o : Option ℕ) → (bid_at f i).dummy ≡ o
+    → IsKeptBidder f o
+bidder_is_kept f is i l positive None e = tt
+bidder_is_kept f is i l positive (Some d) e = dummy-is-kept f is i l d e positive
+
+pub point_is_kept : (f : PlainFile) (dummy : Option ℕ) → IsKeptBidder f dummy → (a : Atom (List ℕ)) → Contains (points_of f dummy) a
+    → (k : ℕ) × (slice_get (kept_bids f) k ≡ Some (bid_from dummy a))
+point_is_kept f None kept a c = or-points-are-kept f a c
+point_is_kept f (Some d) kept a c = xor-points-are-kept f d kept a c
+
+-- the best bid on the bundle of a point is the one that it is
+pub point_number_is : (f : PlainFile) → IsPlainFile f → (dummy : Option ℕ) → IsKeptBidder f dummy → (p : ℕ) → p < length (points_of f dummy)
+    → IsPointOf f dummy (get_or (points_of f dummy) p (record { bundle = []; price = 0 })) (point_number f dummy p)
+point_number_is f is dummy kept p l =
+    let a : Atom (List ℕ) = get_or (points_of f dummy) p (record { bundle = []; price = 0 }) in
+    let k = point_is_kept f dummy kept a (Contains-get_or (points_of f dummy) p (record { bundle = []; price = 0 }) l) in
+    let j = bid_of f is k.0 (bid_from dummy a) k.1 in
+    let key = one_key_same (bid_at f j.0) (bid_from dummy a) j.1.is in
+    let number : best_number f dummy a.bundle ≡ Some j.0 =
+    best_number_is f dummy a.bundle j.0 j.1.within j.1.kept.bid.best (record { bidder = key.bidder; goods = key.goods }) in
+    subst (IsPointOf f dummy a) (sym (ap (λ (o : Option ℕ). unwrap_or o 0) number)) (record { point = record { k = k.0; is = j.1.kept }; is = j.1.is })
+
+-- and the bid of the canonical file on the goods of a kept bid is that bid
+pub kept_number_is : (f : PlainFile) → IsPlainFile f → (i k : ℕ) → IsKeptAs f i k → kept_number f i ≡ k
+kept_number_is f is i k kept =
+    let count = length (kept_bids f) in
+    let within = slice_get_within (kept_bids f) k (bid_at f i) kept.is in
+    let here : kept_bid f k ≡ bid_at f i = get_or_from_slice_get (kept_bids f) k (bid_at f i) _ kept.is in
+    ap (λ (o : Option ℕ). unwrap_or o 0)
+    (find_first (λ x y. x < y) (λ k. are_alike (kept_bid f k) (bid_at f i)) (range_with_len 0 count) (numbers_rise count) k (in_numbers count k within)
+    (alike_from (kept_bid f k) (bid_at f i) (one_key_same (kept_bid f k) (bid_at f i) here))
+    (λ y less. false_from_ne_true (are_alike (kept_bid f y) (bid_at f i)) (λ t.
+    let there : slice_get (kept_bids f) y ≡ Some (kept_bid f y) = slice_get-get_or (kept_bids f) y _ (omega arith) in
+    let j = bid_of f is y (kept_bid f y) there in
+    let alike : are_alike (bid_at f j.0) (bid_at f i) ≡ true = ap (λ (b : PlainBid). are_alike b (bid_at f i)) j.1.is ∙ t in
+    let one : j.0 ≡ i = best-once f j.0 i j.1.within (priced_within f i kept.bid.positive) j.1.kept.bid.best kept.bid.best alike in
+    let same : y ≡ k = kept-once f y k (omega arith) within (there ∙ ap Some (sym j.1.is ∙ ap (bid_at f) one) ∙ sym kept.is) in
+    omega arith)))
+
+-- ---- a best bid is a point exactly if it is kept
+
+pub kept_points : (f : PlainFile) → IsPlainFile f → (dummy : Option ℕ) → IsDummyBelow f.dummy dummy
+    → filter (is_kept_atom f dummy) (best_bids f.goods (atoms_of_bidder f dummy)) ≡ points_of f dummy
+kept_points f is None below = or_kept_are_points f.goods (or_atoms_of f.bids) (or_on f is) Bounded
+kept_points f is (Some d) below = xor_kept_are_points f.goods (xor_atoms_of f.bids d) (xor_on f is d below)
+
+pub best_is_there : (f : PlainFile) → IsPlainFile f → (i : ℕ) → i < length f.bids → 0 < (bid_at f i).price → is_best f i ≡ true
+    → Contains (best_bids f.goods (atoms_of_bidder f (bid_at f i).dummy)) (atom_of (bid_at f i))
+best_is_there f is i l positive best =
+    best_bids-has f.goods (atoms_of_bidder f (bid_at f i).dummy) (atom_of (bid_at f i)) (record {
+      bundle = bundle_here f is i l;
+      positive = positive;
+      greatest = sym (greatest-is-best f i l best);
+    })
+
+pub kept_if_point : (f : PlainFile) → IsPlainFile f → (dummy : Option ℕ) → IsDummyBelow f.dummy dummy → (a : Atom (List ℕ)) → Contains (points_of f dummy) a
+    → is_kept_atom f dummy a ≡ true
+kept_if_point f is dummy below a c =
+    (Contains-filter_parts (is_kept_atom f dummy) (best_bids f.goods (atoms_of_bidder f dummy)) a
+    (subst (λ (xs : List (Atom (List ℕ))). Contains xs a) (sym (kept_points f is dummy below)) c)).1
+
+pub point_if_kept : (f : PlainFile) → IsPlainFile f → (dummy : Option ℕ) → IsDummyBelow f.dummy dummy → (a : Atom (List ℕ))
+    → Contains (best_bids f.goods (atoms_of_bidder f dummy)) a → is_kept_atom f dummy a ≡ true → Contains (points_of f dummy) a
+point_if_kept f is dummy below a c t =
+    subst (λ (xs : List (Atom (List ℕ))). Contains xs a) (kept_points f is dummy below)
+    (Contains-filter (is_kept_atom f dummy) (best_bids f.goods (atoms_of_bidder f dummy)) a c t)

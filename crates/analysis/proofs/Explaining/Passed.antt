@@ -1,0 +1,321 @@
+-- The best bids that a walk over the bids in order passes are a bidder's best bids, in order: of each bundle one alone is the best.
+use Rattle.std.proofs.Common.{◌≡◌, ◌≢◌, ℕ, ◌+◌, ◌-◌, ◌<◌, ◌≤◌, Bool, true, false, ◌&&◌, eqb, ltb, cond, ⊎_elim, List, [], ◌∷◌, ◌++◌, length, map, get_or}
+use Rattle.std.proofs.Common.{take, drop}
+use Rattle.std.proofs.Common.{Option, None, refl, sym, ap, ap₂, ◌∙◌, subst, arith, Ordering, Less, Equal, Greater, is_lt, nat_cmp}
+use Rattle.std.specs.Prelude.{AllPairs, Contains}
+use Rattle.std.specs.List.{filter}
+use Rattle.std.specs.Option.{unwrap_or}
+use Rattle.std.specs.Ordering.{ordering_reverse, ordering_then}
+use Rattle.std.proofs.lemmas.Bool.{and_from, and_parts, both_ways, cases_lt, eq-eqb, eqb-true, lt-ltb, ltb-true}
+use Rattle.std.proofs.lemmas.Bool.Decides.{Decides-eqb}
+use Rattle.std.proofs.lemmas.List.{drop_more, get_or-append_right, get_or-map, get_or_append_left, get_or_at, length-append, length-map, map-append}
+use Rattle.std.proofs.lemmas.List.{take-append-drop}
+use Rattle.std.proofs.lemmas.List.Elements.{All-contains, Contains-append_left, Contains-append_right, Contains-get_or, filter-append, filter_more}
+use Rattle.std.proofs.lemmas.List.Kept.{AllPairs-filter}
+use Rattle.std.proofs.lemmas.List.Sorted.{IsPermutation-map, ranks_by, sorted_far}
+use Rattle.std.proofs.lemmas.Map.Keys.{IsDistinct-IsPermutation}
+use Rattle.std.proofs.lemmas.Map.Made.{AllPairs-from_IsDistinct, IsDistinct-from_AllPairs}
+use Rattle.std.proofs.lemmas.Option.{get_or_from_slice_get, slice_get_within}
+use Rattle.goods_set.specs.Bundles.{IsInside, IsRising}
+use Rattle.goods_set.specs.Orders.{bundle_cmp}
+use Rattle.goods_set.specs.Lemmas.Orders.{bundle_cmp_equal, bundle_cmp_total, nat_cmp-refl}
+use Rattle.bid_file.specs.Files.{PlainBid, PlainFile, IsDummyBelow, IsPlainFile}
+use Rattle.bid_file.specs.Views.{seen_bid}
+use Rattle.valuation.specs.declared.atom.Atom.{Atom}
+use Rattle.valuation.specs.Auctions.{atom_of}
+use Rattle.valuation.specs.Packings.{atom_at}
+use Rattle.valuation.specs.Lemmas.Lists.{AllPairs-map, Contains-cons_cases, Contains-map, Contains-unmap}
+use Rattle.prune.specs.Fates.{best_bids}
+use Rattle.prune.specs.InOrder.{IsBefore, IsInOrder}
+use Rattle.prune.specs.SearchSteps.{greatest_price}
+use Rattle.prune.specs.Lemmas.InOrder.{before_not_inside, same_in_order}
+use Rattle.prune.specs.Lemmas.Lists.{Contains-filter, Contains-filter_parts, Contains-head, filter-kept}
+use Rattle.prune.specs.Lemmas.SearchSteps.{greatest_price-member, greatest_price-reached}
+use Rattle.prune.proofs.Pruning.{behind_next}
+use Rattle.canon.specs.Lemmas.Renaming.{filter-map}
+use Rattle.analysis.specs.declared.reasons.best.NumberedBid.{NumberedBid}
+use Rattle.analysis.specs.Bids.{bid_at, bidder_of, is_best}
+use Rattle.analysis.specs.Reasons.{point_number, points_of}
+use Rattle.analysis.specs.BidOrders.{AreInOrder, numbered_cmp}
+use Rattle.analysis.specs.Internal.Walks.{IsNextBest, is_best_of, is_kept_atom, is_kept_bid, passed_bids}
+use Rattle.analysis.proofs.Explaining.BestBids.{alike_from, at_number, numbered, numbered_cmp_total}
+use Rattle.analysis.proofs.Explaining.BestNumbers.{best_number_is}
+use Rattle.analysis.proofs.Explaining.KeptBids.{bid_here}
+use Rattle.analysis.proofs.Explaining.KeptBidsBest.{atom_from, atom_there, atoms_of_bidder, best-once, best_of, is_of, its_own, of_it, same_bidder}
+use Rattle.analysis.proofs.Explaining.KeptPoints.{best_is_there, kept_points}
+use Rattle.analysis.proofs.Explaining.Packings.{eqb_flips, pairs_unmap}
+use Rattle.analysis.proofs.Explaining.PointFates.{best_bids-are, best_bids-in_order}
+
+-- what a bid of the list offers
+abbrev pub offer : NumberedBid → Atom (List ℕ)
+offer n = atom_of (seen_bid n.bid)
+
+-- no two bids of the list are one
+module _ (f : PlainFile) (bids : List NumberedBid) (order : AreInOrder f bids) where
+  abbrev number : NumberedBid → ℕ
+  number n = n.number
+
+  first_numbers : AllPairs (λ i j. i ≢ j) (map number order.numbered)
+  first_numbers i j d l m =
+      let long = length-map order.numbered number in
+      let blank : NumberedBid = get_or order.numbered 0 (record {
+        bid = record { price = 0; goods = record { ref_ptr = (0, 0); now = [] }; dummy = None };
+        number
+            = 0;
+      }) in
+      let one = get_or-map number order.numbered i blank d (omega arith) in
+      let other = get_or-map number order.numbered j blank d (omega arith) in
+      let one_is = (order.are.each i blank (omega arith)).0 in
+      let other_is = (order.are.each j blank (omega arith)).0 in
+      λ e. let clash : i ≡ j = sym (one ∙ one_is) ∙ e ∙ other ∙ other_is in omega arith
+
+  numbers_differ : AllPairs (λ m n. m.number ≢ n.number) bids
+  numbers_differ =
+      pairs_unmap (λ i j. i ≢ j) number bids
+      (AllPairs-from_IsDistinct Decides-eqb (map number bids)
+      (IsDistinct-IsPermutation eqb eqb_flips (map number order.numbered) (map number bids) (IsPermutation-map number order.numbered bids order.same)
+      (IsDistinct-from_AllPairs Decides-eqb (map number order.numbered) first_numbers)))
+
+  none_after : AllPairs (λ m n. is_lt (numbered_cmp n m) ≡ false) bids
+  none_after i j d l m =
+      sorted_far (λ (a b : NumberedBid). is_lt (numbered_cmp a b)) (ranks_by numbered_cmp_total (λ (n : NumberedBid). n)) bids order.sorted i j d
+      (omega arith) m
+
+module _ (f : PlainFile) (is : IsPlainFile f) (bids : List NumberedBid) (order : AreInOrder f bids) (dummy : Option ℕ)
+    (below : IsDummyBelow f.dummy dummy) where
+  abbrev all : List NumberedBid
+  all = filter (is_best_of f dummy) bids
+
+  pub record IsOne (n : NumberedBid) : Type 0 where
+    pub within : n.number < length f.bids
+    pub seen : seen_bid n.bid ≡ bid_at f n.number
+    pub bidder : n.bid.dummy ≡ dummy
+    pub positive : 0 < n.bid.price
+    pub best : is_best f n.number ≡ true
+
+  pub one_of_all : (n : NumberedBid) → Contains all n → IsOne n
+  one_of_all n c =
+      let there = Contains-filter_parts (is_best_of f dummy) bids n c in
+      let here = numbered f bids order (bid_at f 0) n there.0 in
+      let bidder = and_parts (eqb (bidder_of n.bid.dummy) (bidder_of dummy)) (ltb 0 n.bid.price && is_best f n.number) there.1 in
+      let rest = and_parts (ltb 0 n.bid.price) (is_best f n.number) bidder.1 in
+      record {
+        within = here.0;
+        seen = here.1;
+        bidder = same_bidder n.bid.dummy dummy (eqb-true _ _ bidder.0);
+        positive = ltb-true 0 n.bid.price rest.0;
+        best = rest.1;
+      }
+
+  before : (m n : NumberedBid) → IsOne m → IsOne n → m.number ≢ n.number → is_lt (numbered_cmp n m) ≡ false
+      → (o : Ordering) → bundle_cmp m.bid.goods.now n.bid.goods.now ≡ o → o ≡ Less
+  before m n a b differ after Less e = refl
+  before m n a b differ after Equal e =
+      let goods : (seen_bid m.bid).goods ≡ (seen_bid n.bid).goods = bundle_cmp_equal m.bid.goods.now n.bid.goods.now e in
+      absurd (differ (best-once f m.number n.number a.within b.within a.best b.best (alike_from (bid_at f m.number) (bid_at f n.number) (record {
+        bidder = ap (λ (z : PlainBid). bidder_of z.dummy) (sym a.seen) ∙ ap bidder_of (a.bidder ∙ sym b.bidder) ∙ ap (λ
+            (z : PlainBid). bidder_of z.dummy) b.seen;
+        goods = ap (λ (z : PlainBid). z.goods) (sym a.seen) ∙ goods ∙ ap (λ (z : PlainBid). z.goods) b.seen;
+      }))))
+  before m n a b differ after Greater e =
+      let back : bundle_cmp n.bid.goods.now m.bid.goods.now ≡ Less = bundle_cmp_total.antisymm n.bid.goods.now m.bid.goods.now
+      ∙ ap (λ (o : Ordering). ordering_reverse o) e in
+      let same : nat_cmp (bidder_of n.bid.dummy) (bidder_of m.bid.dummy) ≡ Equal =
+      ap (λ (k : ℕ). nat_cmp k (bidder_of m.bid.dummy)) (ap bidder_of (b.bidder ∙ sym a.bidder)) ∙ nat_cmp-refl (bidder_of m.bid.dummy) in
+      let less : is_lt (numbered_cmp n m) ≡ true =
+      ap₂ (λ (o p : Ordering). is_lt (ordering_then (ordering_then (ordering_then o p) (nat_cmp m.bid.price n.bid.price))
+      (nat_cmp n.number m.number))) same back in
+      absurd (both_ways (is_lt (numbered_cmp n m)) after less)
+
+  all_in_order : IsInOrder (map offer all)
+  all_in_order = AllPairs-map (λ m n. IsBefore (offer m) (offer n)) IsBefore offer (λ m n h. h) all (λ i j d l m.
+      let first : i < length all = omega arith in
+      before (get_or all i d) (get_or all j d) (one_of_all (get_or all i d) (Contains-get_or all i d first)) (one_of_all (get_or all j d) (Contains-get_or all j
+      d m))
+      (AllPairs-filter (λ m n. m.number ≢ n.number) (is_best_of f dummy) bids (numbers_differ f bids order) i j d l m)
+      (AllPairs-filter (λ m n. is_lt (numbered_cmp n m) ≡ false) (is_best_of f dummy) bids (none_after f bids order) i j d l m)
+      (bundle_cmp (get_or all i d).bid.goods.now (get_or all j d).bid.goods.now) refl)
+
+  its_best : (a : Atom (List ℕ)) → Contains (map offer all) a → Contains (best_bids f.goods (atoms_of_bidder f dummy)) a
+  its_best a c =
+      let r = Contains-unmap offer all a c in
+      let one = one_of_all r.0 r.1 in
+      let bidder : (bid_at f r.0.number).dummy ≡ dummy = ap (λ (z : PlainBid). z.dummy) (sym one.seen) ∙ one.bidder in
+      let price : (bid_at f r.0.number).price ≡ r.0.bid.price = ap (λ (z : PlainBid). z.price) (sym one.seen) in
+      let positive = one.positive in
+      subst (λ (o : Option ℕ). Contains (best_bids f.goods (atoms_of_bidder f o)) a) bidder
+      (subst (λ (z : Atom (List ℕ)). Contains (best_bids f.goods (atoms_of_bidder f (bid_at f r.0.number).dummy)) z) (sym (r.2 ∙ ap atom_of one.seen))
+      (best_is_there f is r.0.number one.within (omega arith) one.best))
+
+  best_is_listed : (a : Atom (List ℕ)) → Contains (best_bids f.goods (atoms_of_bidder f dummy)) a → Contains (map offer all) a
+  best_is_listed a c =
+      let h = best_bids-are f.goods (atoms_of_bidder f dummy) a c in
+      let greatest = h.greatest in
+      let positive = h.positive in
+      let r = greatest_price-reached (atoms_of_bidder f dummy) a.bundle (omega arith) in
+      let k = atom_from (is_of dummy) f r.0 r.1 in
+      let bidder = of_it dummy (bid_at f k.0) k.1.passes in
+      let goods : (bid_at f k.0).goods ≡ a.bundle = ap (λ (z : Atom (List ℕ)). z.bundle) (sym k.1.is) ∙ r.2 in
+      let price : (bid_at f k.0).price ≡ a.price = ap (λ (z : Atom (List ℕ)). z.price) (sym k.1.is) ∙ r.3 ∙ sym h.greatest in
+      let j = best_of f (bid_at f k.0) k.0 k.1.within refl (λ i l own.
+      let low = greatest_price-member (atoms_of_bidder f dummy) (atom_of (bid_at f i)) (atom_there (is_of dummy) f i l
+      (its_own dummy (bid_at f i) (same_bidder (bid_at f i).dummy dummy (own.bidder ∙ ap bidder_of bidder)))) in
+      let there : (bid_at f i).goods ≡ a.bundle = own.goods ∙ goods in
+      let same = ap (greatest_price (atoms_of_bidder f dummy)) there in
+      omega arith) in
+      let n = at_number f bids order (bid_at f j.0) j.0 j.1.within in
+      let seen : seen_bid n.0.bid ≡ bid_at f k.0 = n.3 ∙ j.1.is in
+      let is_it : offer n.0 ≡ a = ap atom_of seen ∙ ap₂ (λ (xs : List ℕ) (p : ℕ). record { bundle = xs; price = p }) goods price in
+      let own_price : n.0.bid.price ≡ a.price = ap (λ (z : PlainBid). z.price) seen ∙ price in
+      let own_bidder : n.0.bid.dummy ≡ dummy = ap (λ (z : PlainBid). z.dummy) seen ∙ bidder in
+      let best : is_best f n.0.number ≡ true = ap (is_best f) n.2 ∙ j.1.best in
+      subst (λ (z : Atom (List ℕ)). Contains (map offer all) z) is_it
+      (Contains-map offer all n.0 (Contains-filter (is_best_of f dummy) bids n.0 n.1
+      (and_from (eqb (bidder_of n.0.bid.dummy) (bidder_of dummy)) (ltb 0 n.0.bid.price && is_best f n.0.number) (eq-eqb _ _ (ap bidder_of own_bidder))
+      (and_from (ltb 0 n.0.bid.price) (is_best f n.0.number) (lt-ltb 0 n.0.bid.price (omega arith)) best))))
+
+  pub all_passed : map offer all ≡ best_bids f.goods (atoms_of_bidder f dummy)
+  all_passed =
+      same_in_order (map offer all) (best_bids f.goods (atoms_of_bidder f dummy)) all_in_order (best_bids-in_order f.goods (atoms_of_bidder f dummy)) its_best
+      best_is_listed
+
+-- ---- the next best bid
+
+module _ (f : PlainFile) (is : IsPlainFile f) (bids : List NumberedBid) (order : AreInOrder f bids) (place : ℕ) (n : NumberedBid)
+    (next : IsNextBest f bids place n) where
+  abbrev dummy : Option ℕ
+  dummy = n.bid.dummy
+
+  pub next_within : place < length bids
+  next_within = slice_get_within bids place n next.there
+
+  at : (d : NumberedBid) → get_or bids place d ≡ n
+  at d = get_or_from_slice_get bids place n d next.there
+
+  there : Contains bids n
+  there = (place, next_within, at n)
+
+  here : (n.number < length f.bids) × (seen_bid n.bid ≡ bid_at f n.number)
+  here = numbered f bids order (bid_at f 0) n there
+
+  pub next_number : n.number < length f.bids
+  next_number = here.0
+
+  pub next_is : seen_bid n.bid ≡ bid_at f n.number
+  next_is = here.1
+
+  pub next_below : IsDummyBelow f.dummy dummy
+  next_below = subst (λ (b : PlainBid). IsDummyBelow f.dummy b.dummy) (sym next_is) (bid_here f is n.number next_number).dummy
+
+  passes : is_best_of f dummy n ≡ true
+  passes = and_from (eqb (bidder_of dummy) (bidder_of dummy)) (ltb 0 n.bid.price && is_best f n.number) (eq-eqb _ _ refl)
+      (and_from (ltb 0 n.bid.price) (is_best f n.number) (lt-ltb 0 n.bid.price next.positive) next.best)
+
+  abbrev pub done : List NumberedBid
+  done = passed_bids f bids dummy place
+
+  abbrev more : List NumberedBid
+  more = filter (is_best_of f dummy) (drop (place + 1) bids)
+
+  split : filter (is_best_of f dummy) bids ≡ done ++ n ∷ more
+  split =
+      ap (filter (is_best_of f dummy)) (sym (take-append-drop place bids)) ∙ filter-append (is_best_of f dummy) (take place bids) (drop place bids)
+      ∙ ap (λ (xs : List NumberedBid). done ++ xs)
+      (ap (filter (is_best_of f dummy)) (drop_more bids place n next_within ∙ ap (λ (m : NumberedBid). m ∷ drop (place + 1) bids) (at n))
+      ∙ filter-kept (is_best_of f dummy) n (drop (place + 1) bids) passes)
+
+  pub passed_more : passed_bids f bids dummy (place + 1) ≡ done ++ n ∷ []
+  passed_more =
+      filter_more (is_best_of f dummy) bids place n next_within
+      ∙ ap (λ (m : NumberedBid). done ++ cond (is_best_of f dummy m) (m ∷ []) []) (at n)
+      ∙ ap (λ (b : Bool). done ++ cond b (n ∷ []) []) passes
+
+  abbrev rest : List (Atom (List ℕ))
+  rest = offer n ∷ map offer more
+
+  pub best_split : best_bids f.goods (atoms_of_bidder f dummy) ≡ map offer done ++ rest
+  best_split =
+      sym (all_passed f is bids order dummy next_below) ∙ ap (map offer) split ∙ map-append offer done (n ∷ more)
+
+  -- the bidder's points so far
+  abbrev pub kept : List NumberedBid
+  kept = filter (is_kept_bid f dummy) done
+
+  points_split : points_of f dummy ≡ map offer kept ++ filter (is_kept_atom f dummy) rest
+  points_split =
+      sym (kept_points f is dummy next_below) ∙ ap (filter (is_kept_atom f dummy)) best_split
+      ∙ filter-append (is_kept_atom f dummy) (map offer done) rest
+      ∙ ap (λ (xs : List (Atom (List ℕ))). xs ++ filter (is_kept_atom f dummy) rest) (filter-map (is_kept_atom f dummy) offer done)
+
+  blank : Atom (List ℕ)
+  blank = record { bundle = []; price = 0 }
+
+  -- the number of the bid that such a point is
+  pub number_of_point : (p : ℕ) → p < length kept → get_or (map (λ (m : NumberedBid). m.number) kept) p 0 ≡ point_number f dummy p
+  number_of_point p l =
+      let m : NumberedBid = get_or kept p n in
+      let in_done = (Contains-filter_parts (is_kept_bid f dummy) done m (Contains-get_or kept p n l)).0 in
+      let in_all = Contains-filter (is_best_of f dummy) bids m
+      (subst (λ (xs : List NumberedBid). Contains xs m) (take-append-drop place bids) (Contains-append_left
+      (take place bids) (drop place bids) m (Contains-filter_parts (is_best_of f dummy) (take place bids) m in_done).0))
+      (Contains-filter_parts (is_best_of f dummy) (take place bids) m in_done).1 in
+      let one = one_of_all f is bids order dummy next_below m in_all in
+      let long = length-map kept offer in
+      let is_point : atom_at (points_of f dummy) p ≡ offer m =
+      ap (λ (xs : List (Atom (List ℕ))). get_or xs p (record { bundle = []; price = 0 })) points_split
+      ∙ get_or_append_left (map offer kept) (filter (is_kept_atom f dummy) rest) (record { bundle = []; price = 0 }) p (omega arith)
+      ∙ get_or-map offer kept p n (record { bundle = []; price = 0 }) l in
+      let goods : (bid_at f m.number).goods ≡ (atom_at (points_of f dummy) p).bundle =
+      ap (λ (z : PlainBid). z.goods) (sym one.seen) ∙ ap (λ (z : Atom (List ℕ)). z.bundle) (sym is_point) in
+      let found = best_number_is f dummy (atom_at (points_of f dummy) p).bundle m.number one.within one.best
+      (record { bidder = ap (λ (z : PlainBid). bidder_of z.dummy) (sym one.seen) ∙ ap bidder_of one.bidder; goods = goods }) in
+      get_or-map (λ (m : NumberedBid). m.number) kept p n 0 l ∙ sym (ap (λ (o : Option ℕ). unwrap_or o 0) found)
+
+  -- if it is dropped, the points inside its goods are among them
+  pub inside_is_kept : is_kept_bid f dummy n ≡ false → (q : ℕ) → q < length (points_of f dummy)
+      → IsInside (atom_at (points_of f dummy) q).bundle (offer n).bundle → q < length kept
+  inside_is_kept dropped q within inside =
+      ⊎_elim (λ (l : q < length kept). l) (λ (l : length kept ≤ q). absurd (not_there l)) (cases_lt q (length kept))
+    where
+      rising : (a : Atom (List ℕ)) → Contains rest a → IsRising a.bundle
+      rising a c =
+          (best_bids-are f.goods (atoms_of_bidder f dummy) a (subst (λ (xs : List (Atom (List ℕ))). Contains xs a) (sym best_split)
+          (Contains-append_right (map offer done) rest a c))).bundle.0
+
+      not_inside : (a : Atom (List ℕ)) → Contains rest a → is_kept_atom f dummy a ≡ true → IsInside a.bundle (offer n).bundle → ⊥
+      not_inside a c t i =
+          ⊎_elim
+          (λ (e : offer n ≡ a). both_ways (is_kept_bid f dummy n) dropped (ap (is_kept_atom f dummy) e ∙ t))
+          (λ (m : Contains (map offer more) a).
+          before_not_inside (offer n).bundle a.bundle (rising (offer n) (Contains-head (offer n) (map offer more))) (rising a c)
+          (All-contains (IsBefore (offer n)) (map offer more) a (behind_next (map offer done) (offer n) (map offer more)
+          (subst (λ (xs : List (Atom (List ℕ))). IsInOrder xs) best_split (best_bids-in_order f.goods (atoms_of_bidder f dummy)))) m) i)
+          (Contains-cons_cases (offer n) (map offer more) a c)
+
+      not_there : length kept ≤ q → ⊥
+      not_there l =
+          let tail = filter (is_kept_atom f dummy) rest in
+          let long = length-map kept offer in
+          let same_long = ap (length {A = Atom (List ℕ)}) points_split in
+          let both = length-append (map offer kept) tail in
+          let k : q - length kept < length tail = omega arith in
+          let is_it : atom_at (points_of f dummy) q ≡ get_or tail (q - length kept) (record { bundle = []; price = 0 }) =
+          ap (λ (xs : List (Atom (List ℕ))). get_or xs q (record { bundle = []; price = 0 })) points_split
+          ∙ get_or-append_right (map offer kept) tail (length kept) q (record { bundle = []; price = 0 }) long l in
+          let a : Atom (List ℕ) = get_or tail (q - length kept) (record { bundle = []; price = 0 }) in
+          let there = Contains-filter_parts (is_kept_atom f dummy) rest a (Contains-get_or tail (q - length kept) (record { bundle = []; price = 0 }) k) in
+          not_inside a there.0 there.1 (subst (λ (z : Atom (List ℕ)). IsInside z.bundle (offer n).bundle) is_it inside)
+
+  -- if it is kept itself, it is the next point
+  pub next_point : is_kept_bid f dummy n ≡ true → (length kept < length (points_of f dummy)) × (atom_at (points_of f dummy) (length kept) ≡ offer n)
+  next_point t =
+      let tail = filter (is_kept_atom f dummy) (map offer more) in
+      let long = length-map kept offer in
+      let are : points_of f dummy ≡ map offer kept ++ offer n ∷ tail =
+      points_split ∙ ap (λ (xs : List (Atom (List ℕ))). map offer kept ++ xs) (filter-kept (is_kept_atom f dummy) (offer n) (map offer more) t) in
+      let same_long = ap (length {A = Atom (List ℕ)}) are in
+      let both = length-append (map offer kept) (offer n ∷ tail) in (
+        omega arith,
+        ap (λ (xs : List (Atom (List ℕ))). get_or xs (length kept) (record { bundle = []; price = 0 })) are
+            ∙ get_or_at (map offer kept) (offer n) tail (record { bundle = []; price = 0 }) (length kept) long,
+      )

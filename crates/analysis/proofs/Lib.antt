@@ -1,0 +1,4 @@
+-- Proofs that several functions cite, here and in the crate `commands`.
+pub mod Explaining
+pub mod Allocating
+pub mod Comparing

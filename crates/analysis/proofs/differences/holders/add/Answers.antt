@@ -1,0 +1,44 @@
+-- `add`
+use Rattle.std.proofs.Common.{◌≡◌, ◌∙◌, ◌++◌, ◌∷◌, [], List, ℕ, ap, cond, sym, subst, refl}
+use Rattle.std.specs.Ordering.{is_eq}
+use Rattle.std.specs.Prelude.{IsSome, Option}
+use Rattle.goods_set.specs.Orders.{bundle_cmp}
+use Rattle.analysis.specs.declared.differences.holders.Holders.{Holders}
+use Rattle.analysis.specs.Internal.Holders.{found_at, indices_in, passed_in}
+use Rattle.analysis.proofs.Comparing.HoldersFound.{added, still_passed}
+use Rattle.analysis.proofs.differences.holders.add.Goals as goal
+
+pub returns-in-Some-clause-indices : goal.returns-in-Some-clause-indices
+returns-in-Some-clause-indices c =
+    let put : Holders = record { indices = c.push.new.self; passed = c.in-Some.known.now.passed } in
+    added c.args.holders.now (c.get_mut.follows.lender put) c.args.goods.now put c.args.index
+    ((c.get_mut.follows.holds put).3 (subst IsSome c.in-Some.ensures.value refl))
+    (c.in_ok-push.ensures.items ∙ ap (λ (o : Option Holders). indices_in o ++ c.args.index ∷ []) c.in-Some.ensures.value)
+
+pub returns-in-Some-clause-passed : goal.returns-in-Some-clause-passed
+returns-in-Some-clause-passed c =
+    let put : Holders = record { indices = c.push.new.self; passed = c.in-Some.known.now.passed } in
+    still_passed c.args.holders.now (c.get_mut.follows.lender put) c.args.goods.now put
+    ((c.get_mut.follows.holds put).3 (subst IsSome c.in-Some.ensures.value refl)) (ap passed_in c.in-Some.ensures.value)
+
+pub returns-clause-indices : goal.returns-clause-indices
+returns-clause-indices c = λ bundle.
+    let old = c.args.holders.now in
+    let goods = c.args.goods.now in
+    let unfound = c.get_mut.follows.lender-at-none in
+    let same : (b : List ℕ) → found_at unfound b ≡ found_at old b = λ b. ap (λ m. found_at m b) c.get_mut.follows.holds-at-none in
+    let put : Holders = record { indices = c.push-2.new.self; passed = 0 } in
+    added unfound c.insert.new.self goods put c.args.index c.in_ok-insert.ensures.updates
+    (c.in_ok-push-2.ensures.items ∙ ap (λ (xs : List ℕ). xs ++ c.args.index ∷ []) c.new-indices.ensures.items
+    ∙ ap (λ (o : Option Holders). indices_in o ++ c.args.index ∷ []) (c.in_default.ensures.value ∙ sym (same goods))) bundle
+    ∙ ap (λ (o : Option Holders). indices_in o ++ cond {A = List ℕ} (is_eq (bundle_cmp goods bundle)) (c.args.index ∷ []) []) (same bundle)
+
+pub returns-clause-passed : goal.returns-clause-passed
+returns-clause-passed c = λ bundle.
+    let old = c.args.holders.now in
+    let goods = c.args.goods.now in
+    let unfound = c.get_mut.follows.lender-at-none in
+    let same : (b : List ℕ) → found_at unfound b ≡ found_at old b = λ b. ap (λ m. found_at m b) c.get_mut.follows.holds-at-none in
+    let put : Holders = record { indices = c.push-2.new.self; passed = 0 } in
+    still_passed unfound c.insert.new.self goods put c.in_ok-insert.ensures.updates
+    (ap passed_in (c.in_default.ensures.value ∙ sym (same goods))) bundle ∙ ap passed_in (same bundle)

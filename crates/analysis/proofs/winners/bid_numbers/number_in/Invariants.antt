@@ -1,0 +1,11 @@
+-- `number_in`
+use Rattle.std.proofs.Common.{◌≡◌, min, take, true}
+use Rattle.cats_text.specs.Numbers.{digits_alone, number_of}
+use Rattle.analysis.proofs.winners.bid_numbers.number_in.Given as goal
+
+-- the bytes so far are digits, and their number is held at the bound
+abbrev pub invariant-loop-byte : goal.invariant-loop-byte
+invariant-loop-byte l = record {
+  alone : digits_alone (take l.byte-index l.word) ≡ true;
+  held : l.number ≡ min 4294967296 (number_of (take l.byte-index l.word));
+}

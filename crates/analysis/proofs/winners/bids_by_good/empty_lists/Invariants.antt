@@ -1,0 +1,8 @@
+-- `empty_lists`
+use Rattle.std.proofs.Common.{◌≡◌, [], replicate}
+use Rattle.analysis.specs.Internal.BidsByGood.{lists_of}
+use Rattle.analysis.proofs.winners.bids_by_good.empty_lists.Given as goal
+
+-- so many lists are made
+abbrev pub invariant-loop : goal.invariant-loop
+invariant-loop l = lists_of l.lists.items ≡ replicate l.counter []

@@ -1,0 +1,8 @@
+-- `least_holder`
+use Rattle.std.proofs.Common.{◌≡◌, take, None}
+use Rattle.analysis.specs.Internal.FirstHolders.{least_holder}
+use Rattle.analysis.proofs.winners.clashes.least_holder.Given as goal
+
+-- the least number at the goods so far
+abbrev pub invariant-loop-good : goal.invariant-loop-good
+invariant-loop-good l = l.least ≡ least_holder l.holders None (take l.good-index l.bid.goods.now)

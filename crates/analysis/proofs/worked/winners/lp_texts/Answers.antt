@@ -1,0 +1,16 @@
+-- `lp_texts`
+use Rattle.std.proofs.Common.{refl}
+use Rattle.std.specs.Fmt.{digits}
+use Rattle.analysis.proofs.worked.winners.lp_texts.Goals as goal
+
+pub returns-clause-no_row : goal.returns-clause-no_row
+unfolding digits
+returns-clause-no_row c = refl
+
+pub returns-clause-decimals : goal.returns-clause-decimals
+unfolding digits
+returns-clause-decimals c = refl
+
+pub returns-clause-xor_bids : goal.returns-clause-xor_bids
+unfolding digits
+returns-clause-xor_bids c = refl

@@ -1,0 +1,13 @@
+//! All differences of the auctions of two canonical files.
+
+mod auctions;
+mod bidder_changes;
+mod change;
+mod excess;
+mod holders;
+mod partners;
+#[cfg(test)]
+mod tests;
+
+pub use auctions::all_differences;
+pub use change::{BidderChange, Differences};

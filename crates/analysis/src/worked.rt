@@ -1,0 +1,5 @@
+//! Worked examples of the definitions, computed by the prover.
+
+pub mod differences;
+pub mod reasons;
+pub mod winners;

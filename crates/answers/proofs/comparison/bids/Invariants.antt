@@ -1,8 +1,0 @@
-use Rattle.std.proofs.Common.{◌≡◌, ◌++◌, codes, take}
-use Rattle.canon.specs.Verdicts.{printed_atoms}
-use Rattle.answers.specs.DifferenceTexts.{bidder_text}
-use Rattle.answers.proofs.comparison.bids.Given as goal
-
--- the bids so far are printed
-abbrev pub invariant-loop-goods : goal.invariant-loop-goods
-invariant-loop-goods l = l.text.items ≡ codes "xor" ++ bidder_text (printed_atoms (take l.goods-index l.bidder))

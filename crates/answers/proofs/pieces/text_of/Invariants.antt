@@ -1,6 +1,0 @@
-use Rattle.std.proofs.Common.{◌≡◌, take}
-use Rattle.answers.specs.Pieces.{text_of_pieces}
-use Rattle.answers.proofs.pieces.text_of.Given as goal
-
-abbrev pub invariant-loop-piece : goal.invariant-loop-piece
-invariant-loop-piece l = l.text.items ≡ text_of_pieces (take l.piece-index l.pieces)

@@ -1,7 +1,0 @@
-use Rattle.std.proofs.Common.{refl}
-use Rattle.std.specs.Fmt.{digits}
-use Rattle.answers.proofs.worked.explanations.Goals as goal
-
-pub returns : goal.returns
-unfolding digits
-returns c = record { no_bids = refl; kept = refl; packing = refl; inside = refl; zero = refl; same = refl; two_bids = refl }

@@ -1,2 +1,0 @@
--- What the contracts of private functions cite. No public contract rests on them.
-pub mod Sides

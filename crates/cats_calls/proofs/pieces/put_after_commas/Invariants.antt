@@ -1,8 +1,0 @@
--- the goods so far were put
-use Rattle.std.proofs.Common.{take}
-use Rattle.answers.specs.Outputs.{after_commas}
-use Rattle.cats_calls.specs.Internal.Putting.{PutsFrom}
-use Rattle.cats_calls.proofs.pieces.put_after_commas.Given as goal
-
-abbrev pub invariant-loop-good : goal.invariant-loop-good
-invariant-loop-good l = PutsFrom l.fn.at (after_commas (take l.good-index l.goods)) l.initial.out l.out l.end

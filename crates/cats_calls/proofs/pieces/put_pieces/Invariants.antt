@@ -1,8 +1,0 @@
--- the pieces so far were put
-use Rattle.std.proofs.Common.{take}
-use Rattle.answers.specs.Pieces.{text_of_pieces}
-use Rattle.cats_calls.specs.Internal.Putting.{PutsFrom}
-use Rattle.cats_calls.proofs.pieces.put_pieces.Given as goal
-
-abbrev pub invariant-loop-piece : goal.invariant-loop-piece
-invariant-loop-piece l = PutsFrom l.fn.at (text_of_pieces (take l.piece-index l.pieces)) l.initial.out l.out l.end

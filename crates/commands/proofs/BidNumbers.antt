@@ -1,0 +1,63 @@
+-- The number of a bid. The best of a bidder's bids on a bundle is the only one there that is found.
+use Rattle.std.proofs.Common.{◌≡◌, ℕ, ◌<◌, Bool, true, false, ◌&&◌, cond, ⊎_elim, List, [], ◌∷◌, length, sym, ap, ◌∙◌, subst, Option, Some}
+use Rattle.std.specs.Prelude.{Contains}
+use Rattle.std.specs.List.{find}
+use Rattle.std.proofs.lemmas.Bool.{and_from, and_parts, both_ways, cases_Bool}
+use Rattle.std.proofs.lemmas.List.{get_or_default}
+use Rattle.bid_file.specs.Files.{PlainBid, PlainFile}
+use Rattle.valuation.specs.Lemmas.Lists.{Contains-cons_cases}
+use Rattle.prune.specs.Lemmas.Lists.{Contains-head, Contains-nil, Contains-tail}
+use Rattle.analysis.specs.Bids.{bid_at, are_alike, is_best, numbers_of, best_number, IsBestFor}
+use Rattle.analysis.specs.BidOrders.{AreInOrder, HasBid}
+use Rattle.analysis.specs.declared.reasons.best.NumberedBid.{NumberedBid}
+use Rattle.commands.specs.DiffTexts.{bid_number}
+use Rattle.commands.specs.Internal.Sides.{IsBidOf}
+use Rattle.analysis.proofs.Explaining.BestBids.{alike_from, one_key}
+use Rattle.analysis.proofs.Explaining.KeptBidsBest.{best-once, one_key_sym}
+use Rattle.analysis.proofs.Explaining.KeptBidsLists.{below_numbers, in_numbers}
+
+find_only : {X : Type 0} (p : X → Bool) (xs : List X) (x : X) → Contains xs x → p x ≡ true → ((y : X) → Contains xs y → p y ≡ true → y ≡ x)
+    → find p xs ≡ Some x
+find_only p [] x c t only = absurd (Contains-nil x c)
+find_only {X} p (y ∷ ys) x c t only =
+    ⊎_elim
+    (λ (here : p y ≡ true). ap (λ (b : Bool). cond {A = Option X} b (Some y) (find p ys)) here ∙ ap Some (only y (Contains-head y ys) here))
+    (λ (past : p y ≡ false). ap (λ (b : Bool). cond {A = Option X} b (Some y) (find p ys)) past
+    ∙ ⊎_elim (λ (e : y ≡ x). absurd (both_ways (p y) past (ap p e ∙ t)))
+    (λ (d : Contains ys x). find_only p ys x d t (λ z there. only z (Contains-tail y ys z there)))
+    (Contains-cons_cases y ys x c))
+    (cases_Bool (p y))
+
+pub number_is_best : (f : PlainFile) (i j : ℕ) → IsBestFor f i j → best_number f (bid_at f i).dummy (bid_at f i).goods ≡ Some j
+number_is_best f i j h =
+    find_only (λ k. are_alike (bid_at f k) (bid_at f i) && is_best f k) (numbers_of f) j (in_numbers (length f.bids) j h.within)
+    (and_from (are_alike (bid_at f j) (bid_at f i)) (is_best f j) h.alike h.best)
+    (λ k there t.
+    let parts = and_parts (are_alike (bid_at f k) (bid_at f i)) (is_best f k) t in
+    let one = one_key (bid_at f k) (bid_at f i) parts.0 in
+    let other = one_key_sym (bid_at f j) (bid_at f i) (one_key (bid_at f j) (bid_at f i) h.alike) in
+    best-once f k j (below_numbers (length f.bids) k there) h.within parts.1 h.best
+    (alike_from (bid_at f k) (bid_at f j) (record { bidder = one.bidder ∙ other.bidder; goods = one.goods ∙ other.goods })))
+
+module _ (f : PlainFile) (bids : List NumberedBid) (order : AreInOrder f bids) (bid : PlainBid) (there : Contains f.bids bid) where
+  is_at : bid_at f there.0 ≡ bid
+  is_at = sym (get_or_default f.bids there.0 bid _ there.1) ∙ there.2
+
+  -- a bid of the file is in the list of all its bids
+  pub has_bid : HasBid bids bid
+  has_bid = record { file = f; order = order; number = there.0; within = there.1; is = is_at }
+
+  -- what is found in the list is the number of the best bid
+  pub found_number : (number : ℕ) → ((g : PlainFile) → AreInOrder g bids → (i : ℕ) → i < length g.bids → bid_at g i ≡ bid → IsBestFor g i number)
+      → Some number ≡ best_number f bid.dummy bid.goods
+  found_number number found =
+      sym (number_is_best f there.0 number (found f order there.0 there.1 is_at))
+      ∙ ap (λ (b : PlainBid). best_number f b.dummy b.goods) is_at
+
+-- if there is a price on the bundle, the number is found
+pub number_at_price : (f : PlainFile) (bids : List NumberedBid) → AreInOrder f bids → (dummy : Option ℕ) (goods : List ℕ) (o : Option ℕ) (price : ℕ)
+    → o ≡ Some price → IsBidOf f dummy goods o → (number : ℕ) → ((g : PlainFile) → AreInOrder g bids → (i : ℕ) → i < length g.bids
+    → bid_at g i ≡ record { price = price; goods = goods; dummy = dummy } → IsBestFor g i number) → Some number ≡ bid_number f dummy goods o
+number_at_price f bids order dummy goods o price is there number found =
+    found_number f bids order (record { price = price; goods = goods; dummy = dummy }) (subst (IsBidOf f dummy goods) is there) number found
+    ∙ sym (ap (bid_number f dummy goods) is)

@@ -1,0 +1,25 @@
+-- The rows of bids, one by one, as `cats explain` prints them.
+use Rattle.std.proofs.Common.{◌≡◌, ◌<◌, ◌+◌, ◌++◌, ℕ, List, length, map, get_or, sym, ap, ap₂, ◌∙◌, append_assoc}
+use Rattle.std.specs.List.{flat_map, range_with_len}
+use Rattle.std.proofs.lemmas.List.{get_or-map}
+use Rattle.bid_file.specs.Files.{PlainBid, PlainFile}
+use Rattle.analysis.specs.Bids.{bid_at}
+use Rattle.analysis.specs.Reasons.{PlainReason, Zero, plain_reason, reason_at}
+use Rattle.analysis.specs.declared.reasons.reason.Reason.{Reason}
+use Rattle.commands.specs.ExplanationTexts.{explanation_row}
+use Rattle.commands.proofs.Lines.{lines_more}
+
+-- the row of one more bid is put behind those of the bids before it
+pub row_of_bid : (file : PlainFile) (reasons : List Reason) (i : ℕ) (bid : PlainBid) (reason : Reason) → i < length reasons
+    → reason ≡ get_or reasons i reason → bid ≡ bid_at file i → (header before after : List ℕ)
+    → before ≡ header ++ flat_map (λ j. explanation_row j (bid_at file j) (reason_at (map plain_reason reasons) j)) (range_with_len 0 i)
+    → after ≡ before ++ explanation_row i bid (plain_reason reason)
+    → after ≡ header ++ flat_map (λ j. explanation_row j (bid_at file j) (reason_at (map plain_reason reasons) j)) (range_with_len 0 (i + 1))
+row_of_bid file reasons i bid reason within is_reason is_bid header before after so_far more =
+    let row : ℕ → List ℕ = λ j. explanation_row j (bid_at file j) (reason_at (map plain_reason reasons) j) in
+    let own : plain_reason reason ≡ reason_at (map plain_reason reasons) i =
+    ap plain_reason is_reason ∙ sym (get_or-map plain_reason reasons i reason Zero within) in
+    more ∙ ap₂ (λ (b : PlainBid) (r : PlainReason). before ++ explanation_row i b r) is_bid own
+    ∙ ap (λ (xs : List ℕ). xs ++ row i) so_far
+    ∙ append_assoc header (flat_map row (range_with_len 0 i)) (row i)
+    ∙ ap (λ (xs : List ℕ). header ++ xs) (lines_more row i)

@@ -1,0 +1,64 @@
+-- Texts that are put into a buffer, one behind the other.
+use Rattle.std.proofs.Common.{◌≡◌, ℕ, ◌+◌, ◌^◌, ◌<◌, ◌≤◌, List, [], ◌∷◌, ◌++◌, length, get_or, take, drop, refl, sym, ap, ap₂, ◌∙◌, subst, arith}
+use Rattle.std.proofs.Common.{append-nil, length-append}
+use Rattle.std.specs.List.{flat_map}
+use Rattle.std.proofs.lemmas.Grind.{flat_map-append}
+use Rattle.std.proofs.lemmas.List.{append_assoc, drop-drop, take-append-drop, take_more}
+use Rattle.commands.specs.Buffers.{PutsInto}
+use Rattle.commands.specs.Internal.Putting.{PutsFrom}
+
+pub puts_nothing : (at : ℕ) (old : List ℕ) → at < 2 ^ 64 → PutsFrom at [] old old at
+puts_nothing at old small = record {
+  is_end = omega (arith, small);
+  is_length = refl;
+  before = λ fits. let same : at + 0 ≡ at = omega arith in ap (λ (n : ℕ). take n old) same ∙ sym (append-nil (take at old));
+  behind = λ fits. refl;
+}
+
+-- what is behind a place is behind each later one
+drop_later : (n more : ℕ) (xs ys : List ℕ) → drop n xs ≡ drop n ys → drop (n + more) xs ≡ drop (n + more) ys
+drop_later n more xs ys same = sym (drop-drop more n xs) ∙ ap (drop more) same ∙ drop-drop more n ys
+
+pub puts_then : (text more : List ℕ) (at : ℕ) (old mid new : List ℕ) (place end : ℕ) → length old < 2 ^ 64 → PutsFrom at text old mid place
+    → PutsFrom place more mid new end → PutsFrom at (text ++ more) old new end
+puts_then text more at old mid new place end small first second = record {
+  is_end = omega (arith, length-append text more, first.is_end, second.is_end);
+  is_length = second.is_length ∙ first.is_length;
+  before = λ fits.
+      let next : place ≡ at + length text = omega (arith, length-append text more, first.is_end, fits, small) in
+      let same : at + length (text ++ more) ≡ place + length more = omega (arith, length-append text more, next) in
+      let room : place + length more ≤ length mid = omega (arith, same, fits, first.is_length) in
+      ap (λ (n : ℕ). take n new) same ∙ second.before room ∙ ap (λ (n : ℕ). take n mid ++ more) next
+      ∙ ap (λ (t : List ℕ). t ++ more) (first.before (omega (arith, length-append text more, fits))) ∙ append_assoc (take at old) text more;
+  behind = λ fits.
+      let next : place ≡ at + length text = omega (arith, length-append text more, first.is_end, fits, small) in
+      let same : at + length (text ++ more) ≡ place + length more = omega (arith, length-append text more, next) in
+      let room : place + length more ≤ length mid = omega (arith, same, fits, first.is_length) in
+      let rest : drop place mid ≡ drop place old =
+      ap (λ (n : ℕ). drop n mid) next ∙ first.behind (omega (arith, length-append text more, fits)) ∙ ap (λ (n : ℕ). drop n old) (sym next) in
+      ap (λ (n : ℕ). drop n new) same ∙ second.behind room ∙ drop_later place (length more) mid old rest ∙ ap (λ (n : ℕ). drop n old) (sym same);
+}
+
+-- one more of a list of texts
+module _ {X : Type 0} (f : X → List ℕ) (xs : List X) (at : ℕ) (old : List ℕ) (small : length old < 2 ^ 64) where
+  pub puts_next : (i : ℕ) (d : X) → i < length xs → (mid new : List ℕ) (place end : ℕ) → PutsFrom at (flat_map f (take i xs)) old mid place
+      → PutsFrom place (f (get_or xs i d)) mid new end → PutsFrom at (flat_map f (take (i + 1) xs)) old new end
+  puts_next i d l mid new place end before now =
+      let more : flat_map f (take (i + 1) xs) ≡ flat_map f (take i xs) ++ f (get_or xs i d) =
+      ap (flat_map f) (take_more xs i d l) ∙ flat_map-append f (take i xs) (get_or xs i d ∷ [])
+      ∙ ap (λ (t : List ℕ). flat_map f (take i xs) ++ t) (append-nil (f (get_or xs i d))) in
+      subst (λ (t : List ℕ). PutsFrom at t old new end) (sym more)
+      (puts_then (flat_map f (take i xs)) (f (get_or xs i d)) at old mid new place end small before now)
+
+-- ---- from the front
+
+pub puts_into : (status : ℕ) (text old new : List ℕ) (end : ℕ) → length text ≤ length old → PutsFrom 0 text old new end → PutsInto status text old new status
+puts_into status text old new end room puts = record {
+  fits = λ fits.
+      let same : 0 + length text ≡ length text = omega arith in
+      let before : take (length text) new ≡ text = ap (λ (n : ℕ). take n new) (sym same) ∙ puts.before (omega (arith, room)) in
+      let behind : drop (length text) new ≡ drop (length text) old =
+      ap (λ (n : ℕ). drop n new) (sym same) ∙ puts.behind (omega (arith, room)) ∙ ap (λ (n : ℕ). drop n old) same in
+      (refl, sym (take-append-drop (length text) new) ∙ ap₂ (λ (s t : List ℕ). s ++ t) before behind);
+  small = λ small. absurd (omega (arith, room, small));
+}

@@ -1,0 +1,9 @@
+-- `bids`
+use Rattle.std.proofs.Common.{◌≡◌, ◌++◌, codes, take}
+use Rattle.canon.specs.Verdicts.{printed_atoms}
+use Rattle.commands.specs.ComparisonTexts.{bidder_text}
+use Rattle.commands.proofs.printed.comparison.bids.Given as goal
+
+-- the bids so far are printed
+abbrev pub invariant-loop-goods : goal.invariant-loop-goods
+invariant-loop-goods l = l.text.items ≡ codes "xor" ++ bidder_text (printed_atoms (take l.goods-index l.bidder))

@@ -1,0 +1,41 @@
+-- `heavy_pieces`
+use Rattle.std.proofs.Common.{◌≡◌, ◌++◌, ℕ, List, length, take, min, append_assoc, ◌∙◌, ap, ap₂, codes, decimal, refl, arith}
+use Rattle.std.proofs.lemmas.List.{take_min}
+use Rattle.commands.specs.Outputs.{bundle_text}
+use Rattle.commands.specs.FaultLines.{rest_text, text_of_heavy_bid, total_text}
+use Rattle.commands.specs.Pieces.{text_of_piece}
+use Rattle.commands.specs.declared.printed.pieces.Piece.{Piece}
+use Rattle.commands.specs.declared.run_fault.HeavyBid.{HeavyBid}
+use Rattle.commands.proofs.printed.report.heavy_pieces.Goals as goal
+
+joined : (prefix limit steps a b c bid number colon goods d e f end : List ℕ)
+    → prefix ++ (limit ++ (steps ++ (a ++ (b ++ (c ++ (bid ++ (number ++ (colon ++ (goods ++ (d ++ (e ++ (f ++ end))))))))))))
+    ≡ prefix ++ (limit ++ steps ++ (a ++ b ++ c) ++ bid ++ number ++ colon ++ goods ++ (d ++ e ++ f)) ++ end
+joined prefix limit steps a b c bid number colon goods d e f end = simp append_assoc refl
+
+abbrev text_of_three : Piece × Piece × Piece → List ℕ
+text_of_three three = text_of_piece three.0 ++ text_of_piece three.1 ++ text_of_piece three.2
+
+-- the line, where three pieces are of the total and three of the goods that are not shown
+line_joined : (heavy : HeavyBid) (prefix text goods : List ℕ) (shown : ℕ) (a b : Piece × Piece × Piece) → text ≡ prefix → goods ≡ heavy.goods.items
+    → shown ≡ min (length goods) 20 → text_of_three a ≡ total_text heavy.total → text_of_three b ≡ rest_text (length goods)
+    → text ++ (codes "step limit of " ++ (decimal heavy.steps ++ (text_of_piece a.0 ++ (text_of_piece a.1 ++ (text_of_piece a.2
+    ++ (codes " at bid " ++ (decimal heavy.number ++ (codes ": " ++ (bundle_text (take shown goods) ++ (text_of_piece b.0 ++ (text_of_piece b.1
+    ++ (text_of_piece b.2 ++ codes "\n"))))))))))))
+    ≡ prefix ++ text_of_heavy_bid heavy ++ codes "\n"
+line_joined heavy prefix text goods shown a b t g s total rest =
+    let least : shown ≡ min 20 (length goods) = omega (arith, s) in
+    let first : take shown goods ≡ take 20 heavy.goods.items =
+    ap (λ (n : ℕ). take n goods) least ∙ take_min 20 goods ∙ ap (take 20) g in
+    let known : rest_text (length goods) ≡ rest_text (length heavy.goods.items) = ap (λ (xs : List ℕ). rest_text (length xs)) g in
+    let line : List ℕ → List ℕ → List ℕ → List ℕ → List ℕ = λ before all goods behind. before ++ (codes "step limit of " ++ decimal heavy.steps
+    ++ all ++ codes " at bid " ++ decimal heavy.number ++ codes ": " ++ bundle_text goods ++ behind) ++ codes "\n" in
+    joined text (codes "step limit of ") (decimal heavy.steps) (text_of_piece a.0) (text_of_piece a.1) (text_of_piece a.2) (codes " at bid ")
+    (decimal heavy.number) (codes ": ") (bundle_text (take shown goods)) (text_of_piece b.0) (text_of_piece b.1) (text_of_piece b.2) (codes "\n")
+    ∙ ap₂ (λ (before goods : List ℕ). line before (text_of_three a) goods (text_of_three b)) t first
+    ∙ ap₂ (λ (all behind : List ℕ). line prefix all (take 20 heavy.goods.items) behind) total (rest ∙ known)
+
+pub returns : goal.returns
+returns c =
+    line_joined c.args.heavy.now c.args.prefix.now _ _ _ c.total_pieces.result c.rest_pieces.result c.as_bytes.ensures.value
+    c.as_slice-goods.ensures.value c.min.ensures c.total_pieces.ensures c.rest_pieces.ensures

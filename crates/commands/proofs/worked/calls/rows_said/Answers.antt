@@ -1,0 +1,49 @@
+-- `rows_said`
+use Rattle.std.proofs.Common.{◌≡◌, ℕ, List, None, Some, Option, inl, inr, refl, sym, ap, ◌∙◌, subst, codes}
+use Rattle.std.specs.Fmt.{digits}
+use Rattle.bid_file.specs.Files.{PlainFile}
+use Rattle.cats_text.specs.Faults.{fault_at, first_fault}
+use Rattle.cats_text.specs.FileLines.{spelled_file}
+use Rattle.cats_text.specs.declared.read_fault.Kind.TheVariants.{Header}
+use Rattle.cats_text.specs.declared.read_fault.ReadFault.{ReadFault}
+use Rattle.cats_text.proofs.Spelling.Files.{spells_from_no_fault}
+use Rattle.rounding.specs.declared.replacement.FinePrices.TheVariants.{Round}
+use Rattle.valuation.specs.SearchLimits.{bounded_options}
+use Rattle.valuation.specs.SearchSteps.{cut_steps}
+use Rattle.valuation.specs.Values.{or_value, xor_value}
+use Rattle.prune.specs.Points.{points_where, is_or_point, is_xor_point}
+use Rattle.prune.specs.SearchSteps.{search_steps_by, first_over, first_refused}
+use Rattle.canon.specs.declared.canon_fault.CanonFault.TheVariants.{Read, Memory}
+use Rattle.canon.specs.declared.which.Which.TheVariants.{Only}
+use Rattle.commands.specs.declared.run_fault.RunFault.TheVariants.{Refused}
+use Rattle.commands.specs.SizesRows.{IsSized, IsUnsized}
+use Rattle.commands.specs.Refusals.{text_read}
+use Rattle.commands.proofs.SmallTexts.{puts_whole}
+use Rattle.commands.proofs.worked.calls.rows_said.Goals as goal
+
+pub returns-clause-judged : goal.returns-clause-judged
+unfolding digits first_refused first_over search_steps_by cut_steps points_where is_or_point is_xor_point or_value xor_value
+returns-clause-judged c = record {
+  sized = IsSized (spelled_file (text_read (Some Round) (codes "goods 1\nbids 2\ndummy 0\n0 2 0 #\n1 3e0 0 #\n")));
+  sizes = (spells_from_no_fault (text_read (Some Round) (codes "goods 1\nbids 2\ndummy 0\n0 2 0 #\n1 3e0 0 #\n")) refl, refl);
+  is_status = refl;
+  is_row = refl;
+}
+
+pub returns-clause-refused : goal.returns-clause-refused
+unfolding digits
+returns-clause-refused c = record {
+  sized = IsUnsized (Read (fault_at 1 Header));
+  sizes = ((λ e. absurd (cc)), inl refl);
+  is_status = refl;
+  is_row = refl;
+}
+
+pub returns-clause-memory : goal.returns-clause-memory
+unfolding digits
+returns-clause-memory c = record {
+  status = 4;
+  text = codes "want of memory\n";
+  is = inr (record { fault = Refused Only Memory; refused = refl; is_status = refl; is_line = refl; is_needed = refl });
+  puts = puts_whole 4 (codes "want of memory\n") (codes "................") refl;
+}

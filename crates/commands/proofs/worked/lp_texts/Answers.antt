@@ -1,7 +1,0 @@
-use Rattle.std.proofs.Common.{refl}
-use Rattle.std.specs.Fmt.{digits}
-use Rattle.commands.proofs.worked.lp_texts.Goals as goal
-
-pub returns : goal.returns
-unfolding digits
-returns c = record { shared = refl; empty = refl }

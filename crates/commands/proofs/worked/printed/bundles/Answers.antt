@@ -1,0 +1,8 @@
+-- `bundles`
+use Rattle.std.proofs.Common.{refl}
+use Rattle.std.specs.Fmt.{digits}
+use Rattle.commands.proofs.worked.printed.bundles.Goals as goal
+
+pub returns : goal.returns
+unfolding digits
+returns c = refl

@@ -1,0 +1,15 @@
+-- `differences`
+use Rattle.std.proofs.Common.{refl}
+use Rattle.std.specs.Fmt.{digits}
+use Rattle.commands.proofs.worked.printed.differences.Goals as goal
+
+pub returns : goal.returns
+unfolding digits
+returns c = record {
+  same = refl;
+  goods = refl;
+  below = refl;
+  pair = refl;
+  bidder = refl;
+  statuses = refl;
+}

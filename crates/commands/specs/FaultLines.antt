@@ -1,0 +1,58 @@
+-- How faults are reported on standard error.
+use Rattle.std.specs.Prelude.{ℕ, List, [], ◌++◌, length, take, codes, decimal, nat_lt, if◌then◌else◌, Option, Some}
+use Rattle.std.specs.Prelude.{None}
+use Rattle.cats_text.specs.declared.read_fault.Kind.{Kind}
+use Rattle.cats_text.specs.declared.read_fault.Kind.TheVariants.{TooLong, Device, Memory as NoMemory}
+use Rattle.cats_text.specs.declared.read_fault.ReadFault.{ReadFault}
+use Rattle.canon.specs.declared.canon_fault.CanonFault.{CanonFault}
+use Rattle.canon.specs.declared.canon_fault.CanonFault.TheVariants.{Read, StepLimit, Memory}
+use Rattle.canon.specs.declared.which.Which.{Which}
+use Rattle.canon.specs.declared.which.Which.TheVariants.{Only, First, Second, Both}
+use Rattle.commands.specs.declared.run_fault.RunFault.{RunFault}
+use Rattle.commands.specs.declared.run_fault.RunFault.TheVariants.{Refused, TooHeavy, GoodRange, BidRange, Sent}
+use Rattle.commands.specs.declared.run_fault.HeavyBid.{HeavyBid}
+use Rattle.commands.specs.KindNames.{name_of_kind}
+use Rattle.commands.specs.Outputs.{bundle_text}
+
+-- which of two files was refused
+abbrev pub prefix_of : Which → List ℕ
+prefix_of Only = []
+prefix_of First = codes "first: "
+prefix_of Second = codes "second: "
+prefix_of Both = []
+
+-- a fault of this kind in this line
+abbrev pub text_of_kind : ℕ → Kind → List ℕ
+text_of_kind line TooLong = name_of_kind TooLong
+text_of_kind line Device = name_of_kind Device
+text_of_kind line NoMemory = codes "want of memory"
+text_of_kind line kind = codes "line " ++ decimal line ++ codes ": " ++ name_of_kind kind
+
+abbrev pub text_of_read_fault : ReadFault → List ℕ
+text_of_read_fault fault = text_of_kind fault.line fault.kind
+
+abbrev pub text_of_canon_fault : CanonFault → List ℕ
+text_of_canon_fault (Read fault) = text_of_read_fault fault
+text_of_canon_fault (StepLimit goods) = codes "step limit at " ++ bundle_text goods.items
+text_of_canon_fault Memory = codes "want of memory"
+
+-- the limit of all searches together, if there is one
+abbrev pub total_text : Option ℕ → List ℕ
+total_text None = []
+total_text (Some total) = codes " (" ++ decimal total ++ codes " in all)"
+
+-- how many goods there are, if they are more than are reported
+abbrev pub rest_text : ℕ → List ℕ
+rest_text count = if nat_lt 20 count then codes ",.. (" ++ decimal count ++ codes " goods)" else []
+
+-- the limits, the number of the bid, and at most 20 goods of its bundle
+abbrev pub text_of_heavy_bid : HeavyBid → List ℕ
+text_of_heavy_bid heavy = codes "step limit of " ++ decimal heavy.steps ++ total_text heavy.total ++ codes " at bid "
+    ++ decimal heavy.number ++ codes ": " ++ bundle_text (take 20 heavy.goods.items) ++ rest_text (length heavy.goods.items)
+
+abbrev pub line_of_fault : RunFault → List ℕ
+line_of_fault (Refused which fault) = prefix_of which ++ text_of_canon_fault fault ++ codes "\n"
+line_of_fault (TooHeavy which heavy) = prefix_of which ++ text_of_heavy_bid heavy ++ codes "\n"
+line_of_fault (GoodRange good) = codes "good " ++ decimal good ++ codes " out of range\n"
+line_of_fault (BidRange bid) = codes "bid " ++ decimal bid ++ codes " out of range\n"
+line_of_fault (Sent fault) = codes "output failed after " ++ decimal fault.written ++ codes " bytes\n"

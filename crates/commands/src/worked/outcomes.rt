@@ -1,0 +1,89 @@
+//! Worked examples of what is made of files. The prover computes them.
+
+ghost use Rattle.std.specs.Prelude.{◌≡◌, ◌++◌, ℕ, [], ◌∷◌, None, Some, Vec, codes, map};
+ghost use Rattle.std.specs.Global.{Global};
+ghost use Rattle.cats_text.specs.declared.read_fault.Kind.TheVariants.{TwoDummies};
+ghost use Rattle.canon.specs.declared.canon_fault.CanonFault.TheVariants.{Memory, Read};
+ghost use Rattle.valuation.specs.SearchLimits.{bounded_options, plain_options};
+ghost use Rattle.valuation.specs.declared.search_kind.SearchKind.TheVariants.{Bounded};
+ghost use Rattle.commands.specs.Examples.{larger_bid, repeated_bundle, xor_ladder};
+ghost use Rattle.commands.specs.Outcomes.{ExceedsAtBid, ExceedsSteps, LacksBid, LacksGood, Prints, check_outcome};
+ghost use Rattle.commands.specs.Outcomes.{compare_outcome, exceeds_at, explain_outcome, first_bid_on, lp_outcome};
+ghost use Rattle.commands.specs.Outcomes.{naming_outcome, normalise_outcome, revenue_outcome, show_outcome, value_outcome};
+ghost use Rattle.commands.specs.SizesRows.{IsSized, IsTooHeavy, IsUnsized, fault_sized, sizes_row, status_unless};
+ghost use Rattle.commands.specs.ValueTexts.{bundle_from};
+
+/// What `cats check` and `cats show` make of files.
+pub fn sizes_and_layouts()
+    ensures check { check_outcome xor_ladder ≡ Prints 0 (codes "goods 2 bids 3 dummy 1\n") }
+    ensures show { show_outcome xor_ladder
+        ≡ Prints 0 (codes "goods 2\nbids 3\ndummy 1\n0\t5\t0\t2\t#\n1\t1.5\t1\t#\n2\t6\t0\t1\t2\t#\n") }
+{}
+
+/// What `cats lp` makes of two files, of which the second has no bids.
+pub fn lp_texts()
+    ensures shared { lp_outcome xor_ladder
+        ≡ Prints 0 (codes "Maximize\n revenue:\n + 5 x0\n + 1.5 x1\n + 6 x2\nSubject To\n"
+        ++ codes " g0:\n + x0\n + x2\n <= 1\n g1:\n + x1\n + x2\n <= 1\n d0:\n + x0\n + x2\n <= 1\n"
+        ++ codes "Binary\n x0\n x1\n x2\nEnd\n") }
+    ensures empty { lp_outcome (record { goods = 2; dummy = 1; bids = [] })
+        ≡ Prints 0 (codes "Maximize\n revenue:\n + 0 none\nSubject To\n none:\n + none\n <= 1\nBinary\n none\nEnd\n") }
+{}
+
+/// What `cats value` makes of two files.
+pub fn values()
+    ensures best_packing { value_outcome (1 ∷ 0 ∷ 1 ∷ []) 5 larger_bid ≡ Prints 0 (codes "or 7 2\n") }
+    ensures one_good { value_outcome (1 ∷ []) 2 larger_bid ≡ Prints 0 (codes "or 4 1\n") }
+    ensures step_limit { value_outcome (1 ∷ 0 ∷ []) 4 larger_bid ≡ ExceedsSteps (0 ∷ 1 ∷ []) }
+    ensures missing { value_outcome (0 ∷ 3 ∷ 2 ∷ []) 0 larger_bid ≡ LacksGood 3 }
+    ensures both { value_outcome (0 ∷ 1 ∷ []) 2 xor_ladder ≡ Prints 0 (codes "or 1.5 1\nxor 2 6 2\n") }
+    ensures first { value_outcome (0 ∷ []) 1 xor_ladder ≡ Prints 0 (codes "or 0\nxor 2 5 0\n") }
+    ensures none_inside { value_outcome [] 1 xor_ladder ≡ Prints 0 (codes "or 0\nxor 2 0\n") }
+    ensures bundle { bundle_from (3 ∷ 1 ∷ 3 ∷ 0 ∷ []) ≡ 0 ∷ 1 ∷ 3 ∷ [] }
+{}
+
+/// What `cats revenue` makes of a file: of bids that can all win, of which one is named twice, of two that cannot, and of
+/// bids that it does not have.
+pub fn revenues()
+    ensures sum { revenue_outcome (1 ∷ 0 ∷ 1 ∷ []) larger_bid ≡ Prints 0 (codes "revenue 7\n") }
+    ensures clash { revenue_outcome (2 ∷ 0 ∷ []) larger_bid ≡ Prints 1 (codes "bids 0 and 2 share good 0\n") }
+    ensures missing { revenue_outcome (2 ∷ 4 ∷ 0 ∷ 3 ∷ []) larger_bid ≡ LacksBid 4 }
+{}
+
+/// Rows of `cats sizes`: of a file that was judged, of one with a heavy bundle, and of none.
+pub fn sizes_rows()
+    ensures judged { sizes_row (IsSized larger_bid) ≡ codes "2\t3\t3\t0\t0\t2\t2\t0\t\n" }
+    ensures heavy { (goods : Vec ℕ Global) → goods.items ≡ 0 ∷ 1 ∷ []
+        → sizes_row (IsTooHeavy xor_ladder (record { number = 2; goods = goods; steps = 1; total = None }))
+        ≡ codes "2\t3\t1\t1\t1\t\t\t\tstep limit of 1 at bid 2: 0,1\n" }
+    ensures refused { sizes_row (IsUnsized (Read (record { kind = TwoDummies; line = 7 })))
+        ≡ codes "\t\t\t\t\t\t\t\tline 7: TwoDummies\n" }
+    ensures statuses { map (λ sized. status_unless (fault_sized sized)) (IsSized larger_bid ∷ IsUnsized Memory ∷ [])
+        ≡ 0 ∷ 4 ∷ [] }
+{}
+
+/// What `cats normalise` and `cats explain` make of a file: the same limits refuse it.
+pub fn canonical_files()
+    ensures text { normalise_outcome (plain_options 3) larger_bid
+        ≡ Prints 0 (codes "goods 2\nbids 2\ndummy 0\n0\t3\t0\t#\n1\t4\t1\t#\n") }
+    ensures refused { normalise_outcome (plain_options 1) larger_bid ≡ ExceedsSteps (0 ∷ 1 ∷ []) }
+    ensures reasons { explain_outcome (plain_options 3) larger_bid
+        ≡ Prints 0 (codes "bid\tdummy\tprice\tgoods\treason\tkept\tby\n0\t\t3\t0\tkeep\t0\t\n1\t\t4\t1\tkeep\t1\t\n"
+        ++ codes "2\t\t7\t0,1\tpacking\t\t0,1\n") }
+    ensures unexplained { explain_outcome (plain_options 1) larger_bid ≡ ExceedsAtBid 1 None 2 (0 ∷ 1 ∷ []) }
+{}
+
+/// The bid that is named: not that of an XOR bidder, and the first of two.
+pub fn named_bids()
+    ensures first { first_bid_on repeated_bundle (0 ∷ 1 ∷ []) ≡ 2 }
+    ensures limits { exceeds_at (record { kind = Bounded; each = 5; total = Some 7 }) repeated_bundle (0 ∷ [])
+        ≡ ExceedsAtBid 5 (Some 7) 1 (0 ∷ []) }
+    ensures in_a_diff { naming_outcome (bounded_options 1 (Some 5)) larger_bid ≡ ExceedsAtBid 1 (Some 5) 2 (0 ∷ 1 ∷ []) }
+{}
+
+/// What `cats compare` makes of two files.
+pub fn comparisons()
+    ensures same { compare_outcome larger_bid larger_bid ≡ Prints 0 (codes "same\n") }
+    ensures different { compare_outcome larger_bid xor_ladder
+        ≡ Prints 1 (codes "different\nor 0\nleft 3\nright below 3\n") }
+{}

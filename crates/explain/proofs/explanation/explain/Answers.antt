@@ -1,9 +1,0 @@
--- The reasons are those of the file, and these are true (proofs/TrueReasons).
-use Rattle.std.proofs.Common.{List, sym, subst}
-use Rattle.explain.specs.Reasons.{PlainReason, Explains}
-use Rattle.explain.proofs.TrueReasons.{reasons_explain}
-use Rattle.explain.proofs.explanation.explain.Goals as goal
-
-pub returns-clause-reasons : goal.returns-clause-reasons
-returns-clause-reasons c =
-    subst (λ (reasons : List PlainReason). Explains c.args.file.now reasons) (sym c.in_ok-all_reasons.ensures) (reasons_explain c.args.file.now c.requires)

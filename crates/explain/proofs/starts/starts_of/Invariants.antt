@@ -1,7 +1,0 @@
--- The starts are found among the last bids.
-use Rattle.std.proofs.Common.{◌-◌}
-use Rattle.explain.specs.Internal.Starts.{AreStarts}
-use Rattle.explain.proofs.starts.starts_of.Given as goal
-
-abbrev pub invariant-loop-behind : goal.invariant-loop-behind
-invariant-loop-behind l = AreStarts l.file (l.count - l.behind) l.starts.items

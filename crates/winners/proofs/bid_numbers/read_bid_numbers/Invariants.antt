@@ -1,9 +1,0 @@
-use Rattle.std.proofs.Common.{length}
-use Rattle.winners.proofs.NumberLines.{IsRead}
-use Rattle.winners.proofs.bid_numbers.read_bid_numbers.Given as goal
-
-abbrev pub invariant-loop-line : goal.invariant-loop-line
-invariant-loop-line l = IsRead l.text l.rest l.ends l.numbers.items
-
-abbrev pub decreases-loop-line : goal.decreases-loop-line
-decreases-loop-line l = length l.rest

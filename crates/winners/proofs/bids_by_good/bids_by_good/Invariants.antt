@@ -1,6 +1,0 @@
-use Rattle.winners.specs.Internal.BidsByGood.{AreByGood, lists_of}
-use Rattle.winners.proofs.bids_by_good.bids_by_good.Given as goal
-
--- the numbers of the bids so far are there
-abbrev pub invariant-loop-number : goal.invariant-loop-number
-invariant-loop-number l = AreByGood l.file l.number (lists_of l.lists.items)

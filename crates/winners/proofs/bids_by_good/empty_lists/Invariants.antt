@@ -1,7 +1,0 @@
-use Rattle.std.proofs.Common.{◌≡◌, [], replicate}
-use Rattle.winners.specs.Internal.BidsByGood.{lists_of}
-use Rattle.winners.proofs.bids_by_good.empty_lists.Given as goal
-
--- so many lists are made
-abbrev pub invariant-loop : goal.invariant-loop
-invariant-loop l = lists_of l.lists.items ≡ replicate l.counter []

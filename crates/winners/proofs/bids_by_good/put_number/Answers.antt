@@ -1,7 +1,0 @@
-use Rattle.winners.proofs.ByGood.{number_put}
-use Rattle.winners.proofs.bids_by_good.put_number.Goals as goal
-
-pub returns : goal.returns
-returns c =
-    number_put c.args.number c.args.lists.now.items c.index_mut-list.result.now c.push.new.self c.args.good c.requires c.index_mut-list.ensures.value
-    c.in_ok-push.ensures.items

@@ -1,5 +1,0 @@
-use Rattle.winners.proofs.FindingClashes.{IsWalked}
-use Rattle.winners.proofs.clashes.first_clash.Given as goal
-
-abbrev pub invariant-loop-place : goal.invariant-loop-place
-invariant-loop-place l = IsWalked l.file l.winners l.place l.holders.items l.clash

@@ -1,7 +1,0 @@
-use Rattle.std.proofs.Common.{◌≡◌, take}
-use Rattle.winners.specs.Internal.Holders.{held_by}
-use Rattle.winners.proofs.clashes.hold.Given as goal
-
--- the number is at the goods so far
-abbrev pub invariant-loop-good : goal.invariant-loop-good
-invariant-loop-good l = l.holders ≡ held_by l.number l.initial.holders (take l.good-index l.bid.goods.now)

@@ -1,7 +1,0 @@
-use Rattle.std.proofs.Common.{◌≡◌, take, None}
-use Rattle.winners.specs.Internal.Holders.{least_holder}
-use Rattle.winners.proofs.clashes.least_holder.Given as goal
-
--- the least number at the goods so far
-abbrev pub invariant-loop-good : goal.invariant-loop-good
-invariant-loop-good l = l.least ≡ least_holder l.holders None (take l.good-index l.bid.goods.now)

@@ -1,9 +1,0 @@
-use Rattle.std.proofs.Common.{◌≡◌, ◌++◌}
-use Rattle.std.specs.List.{flat_map, range_with_len}
-use Rattle.explain.specs.Bids.{bid_at}
-use Rattle.winners.specs.LpTexts.{price_term}
-use Rattle.winners.proofs.lp.push_prices.Given as goal
-
--- the terms of the bids so far are appended
-abbrev pub invariant-loop-number : goal.invariant-loop-number
-invariant-loop-number l = l.text.items ≡ l.initial.text.items ++ flat_map (λ i. price_term (bid_at l.file i).price i) (range_with_len 0 l.number)

@@ -1,6 +1,0 @@
-use Rattle.winners.specs.LpTexts.{binary_line}
-use Rattle.winners.proofs.RowTexts.{line_behind}
-use Rattle.winners.proofs.lp.push_variables.Goals as goal
-
-pub loop-number-preserved : goal.loop-number-preserved
-loop-number-preserved c = line_behind binary_line c.loop-number.number _ _ _ c.loop-number.invariant c.in_ok-push_numbered.ensures

@@ -1,7 +1,0 @@
-use Rattle.std.proofs.Common.{◌≡◌}
-use Rattle.winners.proofs.RowTexts.{first_rows}
-use Rattle.winners.proofs.lp.rows_text.Given as goal
-
--- the rows of the goods so far are there
-abbrev pub invariant-loop-good : goal.invariant-loop-good
-invariant-loop-good l = l.text.items ≡ first_rows l.file l.good
