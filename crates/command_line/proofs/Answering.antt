@@ -1,5 +1,5 @@
 -- What `clap` answers to the program's command line, and what the program makes of it.
-use Rattle.std.proofs.Common.{◌≡◌, ◌∙◌, ℕ, Bool, true, false, List, [], ◌∷◌, Option, Some, None, Result, Ok, Err, ap, sym, subst, refl, inl, inr}
+use Rattle.std.proofs.Common.{◌≡◌, ◌∙◌, ℕ, Bool, true, false, List, [], ◌∷◌, Option, Some, None, Result, ap, sym, subst, refl, inl, inr}
 use Rattle.std.specs.Prelude.{◌||◌, Box, IfErr, not, option_map, option_and_then}
 use Rattle.std.specs.Option.{option_map_or}
 use Rattle.std.specs.List.{list_any}
@@ -9,7 +9,6 @@ use Rattle.clap.specs.Simple.{App, HasMatchesOf, is_simple, subcommand_of, subco
 use Rattle.clap.specs.Walk.{Row}
 use Rattle.clap.specs.declared.error.Error.{Error}
 use Rattle.clap.specs.declared.error.kind.ErrorKind.{ErrorKind}
-use Rattle.clap.specs.declared.error.kind.ErrorKind.TheVariants.{OutOfMemory}
 use Rattle.clap.specs.declared.parser.matches.ArgMatches.{ArgMatches}
 use Rattle.clap.specs.declared.parser.matches.SubCommand.{SubCommand}
 use Rattle.clap.proofs.OnLiterals.{clap_on_literals}
@@ -34,21 +33,12 @@ unfolding clap_on_literals
 is_without_settings = refl
 
 module _ (app : App) (is : app ≡ cats) (words : List (List ℕ)) where
-  -- a line that is refused has a fault
-  pub refused : (answer : Result ArgMatches Error) (error : Error) → (is_simple_and_free app ≡ true → FailsBy (fault_of app words) answer) → answer ≡ Err error
-      → HasKind (fault_of cats words) error
-  refused answer error fails was =
-      subst (λ (r : Result ArgMatches Error). FailsBy (fault_of cats words) r) was
-      (subst (λ (a : App). FailsBy (fault_of a words) answer) is (fails (ap is_simple_and_free is ∙ is_plain)))
+  -- a line that is refused has a fault, and one that is taken has none
+  pub fails_by : (answer : Result ArgMatches Error) → (is_simple_and_free app ≡ true → FailsBy (fault_of app words) answer)
+      → FailsBy (fault_of cats words) answer
+  fails_by answer fails = subst (λ (a : App). FailsBy (fault_of a words) answer) is (fails (ap is_simple_and_free is ∙ is_plain))
 
-  -- a line that is taken has none
-  pub taken : (answer : Result ArgMatches Error) (m : ArgMatches) → (is_simple_and_free app ≡ true → FailsBy (fault_of app words) answer) → answer ≡ Ok m
-      → fault_of cats words ≡ []
-  taken answer m fails was =
-      subst (λ (r : Result ArgMatches Error). FailsBy (fault_of cats words) r) was
-      (subst (λ (a : App). FailsBy (fault_of a words) answer) is (fails (ap is_simple_and_free is ∙ is_plain)))
-
-  -- and its subcommand is that of the words
+  -- its subcommand is that of the words
   pub entered : (m : ArgMatches) → HasMatchesOf app words m → subcommand_rows_of m ≡ subcommand_of cats words
   entered m has = (has (ap is_simple is ∙ is_without_settings)).1 ∙ ap (λ a. subcommand_of a words) is
 
@@ -81,12 +71,9 @@ among_shown kind (first ∷ rest) test passes (inr later) = rw (among_shown kind
     or_true true = refl
     or_true false = refl
 
-memory_is_no_help : (kind : ErrorKind) → kind ≡ OutOfMemory → is_shown kind ≡ false
-memory_is_no_help kind is = rw is refl
-
 pub answered : (words : List (List ℕ)) (error : Error) (answer : NoRequest) → HasKind (fault_of cats words) error → IsAnswerTo error.kind answer
     → IsNoRequestOf words answer
-answered words error (Help text) (inl memory) is = let no = memory_is_no_help error.kind memory in cc
+answered words error (Help text) (inl memory) is = let no : is_shown error.kind ≡ false = rw memory refl in cc
 answered words error (Help text) (inr among) is = among_shown error.kind _ is_shown is among
 answered words error (WrongUsage text) (inl memory) is = absurd (is.1 memory)
 answered words error (WrongUsage text) (inr among) is = among_shown error.kind _ (λ kind. not (is_shown kind)) (ap not is.0) among

@@ -1,15 +1,15 @@
 -- Words that do not begin with a hyphen are taken as they are after `--`: the walk over a line without `--` before its last words goes in step
 -- with the walk over the line that has it.
-use Rattle.std.proofs.Common.{◌≡◌, ◌∙◌, ℕ, Bool, List, [], ◌∷◌, Option, None, Some, true, false, ap, ap₂, refl, sym}
-use Rattle.std.specs.Prelude.{◌||◌, fold, find, if◌then◌else◌, option_map}
+use Rattle.std.proofs.Common.{◌≡◌, ◌∙◌, ◌++◌, ℕ, Bool, List, [], ◌∷◌, Option, None, Some, true, false, ap, ap₂, refl, sym}
+use Rattle.std.specs.Prelude.{◌||◌, fold, if◌then◌else◌}
 use Rattle.std.specs.Option.{option_map_or}
 use Rattle.std.specs.Str.{bytes_eq}
-use Rattle.clap.specs.Faults.{check_fault, defaults_fault, entered_fault, level_fault, settle_fault, step_fault, turn_fault, walk_fault, word_fault}
+use Rattle.clap.specs.Faults.{step_fault, turn_fault, walk_fault, word_fault}
 use Rattle.clap.specs.Kinds.{Kinds, or_else}
 use Rattle.clap.specs.Lexer.{long_of, short_of}
-use Rattle.clap.specs.Simple.{App, Shape, entered, label_of, rows_at}
-use Rattle.clap.specs.Walk.{Held, Row, Rule, Text, Waiting, Walk, answers_to, idle, option, positional, value, nothing_held, walk_from, walked}
-use Rattle.clap.specs.Walk.{arg_by_index, finished, is_multiple, next_position, positional_held, settled, to_positional, word_met}
+use Rattle.clap.specs.Simple.{Shape}
+use Rattle.clap.specs.Walk.{Held, Rule, Text, Waiting, Walk, idle, option, positional, value, walked}
+use Rattle.clap.specs.Walk.{arg_by_index, is_multiple, next_position, positional_held, to_positional, word_met}
 use Rattle.command_line.specs.Requests.{begins_with_hyphen}
 
 abbrev pub hyphens : Text
@@ -122,64 +122,21 @@ same_walk s (word ∷ words) plain held waiting position trailing ready =
           (ap (λ (w : Walk). walk_fault s [] w words) one ∙ later.1 ∙ sym (ap (λ (w : Walk). walk_fault s [] w words) other)),
     )
 
-module _ (s : Shape) (words : List Text) (plain : ArePlain words) where
-  same_held : (fold (walked s.rules []) (walk_from nothing_held) words).held ≡ (fold (walked s.rules []) (walk_from nothing_held) (hyphens ∷ words)).held
-  unfolding walked
-  same_held = (same_walk s words plain nothing_held idle 1 false at_start).0
+-- no option waits for a value, and `--` was not met
+abbrev pub IsIdle : Walk → Type 0
+IsIdle walk = walk ≡ at walk.held idle walk.position false
 
-  same_words : walk_fault s [] (walk_from nothing_held) words ≡ walk_fault s [] (walk_from nothing_held) (hyphens ∷ words)
-  unfolding walked walk_fault
-  same_words = (same_walk s words plain nothing_held idle 1 false at_start).1
-
-  same_level : level_fault s [] nothing_held words false [] ≡ level_fault s [] nothing_held (hyphens ∷ words) false []
-  same_level = ap₂ (λ (kinds : Kinds) (end : Held). or_else kinds (or_else (settle_fault s.rules s.args_override_self end)
-      (or_else (defaults_fault (settled s.rules end).rows s.rules) (check_fault s (finished s.rules end) false)))) same_words same_held
-
--- ---- a subcommand of these words
-
-module _ (app : App) (name : Text) (words : List Text) (plain : ArePlain words) where
-  pub same_fault : entered_fault app (Some (name, words)) ≡ entered_fault app (Some (name, hyphens ∷ words))
-  same_fault = go (find (λ s. answers_to name (label_of s)) app.subs)
-    where
-      go : (found : Option Shape) → option_map_or (λ s. level_fault s [] nothing_held words false []) found []
-          ≡ option_map_or (λ s. level_fault s [] nothing_held (hyphens ∷ words) false []) found []
-      go None = refl
-      go (Some s) = same_level s words plain
-
-  pub same_rows : entered app (Some (name, words)) ≡ entered app (Some (name, hyphens ∷ words))
-  same_rows = go (find (λ s. answers_to name (label_of s)) app.subs)
-    where
-      rows_with : Shape → List Text → Text × List Row
-      rows_with s words = (s.name, finished s.rules (fold (walked s.rules []) (walk_from nothing_held) words).held)
-
-      go : (found : Option Shape) → option_map (λ s. rows_with s words) found ≡ option_map (λ s. rows_with s (hyphens ∷ words)) found
-      go None = refl
-      go (Some s) = ap (λ (end : Held). Some (s.name, finished s.rules end)) (same_held s words plain)
-
--- ---- an option before these words
-
-module _ (s : Shape) (first : Text)
-    (is : walked s.rules [] (walk_from nothing_held) first
-    ≡ at (walked s.rules [] (walk_from nothing_held) first).held idle (walked s.rules [] (walk_from nothing_held) first).position false)
-    (words : List Text) (plain : ArePlain words) where
-  later : Walk
-  later = at (walked s.rules [] (walk_from nothing_held) first).held idle (walked s.rules [] (walk_from nothing_held) first).position false
-
-  held_after : (fold (walked s.rules []) (walk_from nothing_held) (first ∷ words)).held
-      ≡ (fold (walked s.rules []) (walk_from nothing_held) (first ∷ hyphens ∷ words)).held
-  unfolding walked later
-  held_after = ap (λ (w : Walk). (fold (walked s.rules []) w words).held) is ∙ (same_walk s words plain later.held idle later.position false at_start).0
-      ∙ sym (ap (λ (w : Walk). (fold (walked s.rules []) w (hyphens ∷ words)).held) is)
-
-  words_after : walk_fault s [] (walk_from nothing_held) (first ∷ words) ≡ walk_fault s [] (walk_from nothing_held) (first ∷ hyphens ∷ words)
-  unfolding walked walk_fault later
-  words_after = ap (or_else (turn_fault s [] (walk_from nothing_held) first))
-      (ap (λ (w : Walk). walk_fault s [] w words) is ∙ (same_walk s words plain later.held idle later.position false at_start).1
-      ∙ sym (ap (λ (w : Walk). walk_fault s [] w (hyphens ∷ words)) is))
-
-  pub level_after : level_fault s [] nothing_held (first ∷ words) false [] ≡ level_fault s [] nothing_held (first ∷ hyphens ∷ words) false []
-  level_after = ap₂ (λ (kinds : Kinds) (end : Held). or_else kinds (or_else (settle_fault s.rules s.args_override_self end)
-      (or_else (defaults_fault (settled s.rules end).rows s.rules) (check_fault s (finished s.rules end) false)))) words_after held_after
-
-  pub rows_after_option : rows_at s (first ∷ words) ≡ rows_at s (first ∷ hyphens ∷ words)
-  rows_after_option = ap (λ (end : Held). (s.name, finished s.rules end)) held_after
+-- these words behind others, which may be options with their values
+pub same_after : (s : Shape) (words : List Text) → ArePlain words → (firsts : List Text) (walk : Walk) → IsIdle (fold (walked s.rules []) walk firsts)
+    → ((fold (walked s.rules []) walk (firsts ++ words)).held ≡ (fold (walked s.rules []) walk (firsts ++ hyphens ∷ words)).held)
+    × (walk_fault s [] walk (firsts ++ words) ≡ walk_fault s [] walk (firsts ++ hyphens ∷ words))
+unfolding walked walk_fault
+same_after s words plain [] walk is =
+    let same = same_walk s words plain walk.held idle walk.position false at_start in (
+      ap (λ (w : Walk). (fold (walked s.rules []) w words).held) is ∙ same.0
+          ∙ sym (ap (λ (w : Walk). (fold (walked s.rules []) w (hyphens ∷ words)).held) is),
+      ap (λ (w : Walk). walk_fault s [] w words) is ∙ same.1 ∙ sym (ap (λ (w : Walk). walk_fault s [] w (hyphens ∷ words)) is),
+    )
+same_after s words plain (first ∷ firsts) walk is =
+    let later = same_after s words plain firsts (walked s.rules [] walk first) is in
+    (later.0, ap (or_else (turn_fault s [] walk first)) later.1)

@@ -1,7 +1,7 @@
 -- What a command has once one more row of the table was added to it, and that the table has all names.
 use Rattle.std.proofs.Common.{◌≡◌, ◌≢◌, ◌∙◌, ◌<◌, ◌+◌, ◌++◌, ℕ, Bool, true, false, List, [], ◌∷◌, Option, None, ap, ap₂, sym, refl, arith}
-use Rattle.std.proofs.Common.{codes, map, take, length, get_or}
-use Rattle.std.specs.Prelude.{◌||◌, fold, if◌then◌else◌}
+use Rattle.std.proofs.Common.{map, take, length, get_or}
+use Rattle.std.specs.Prelude.{◌||◌, find, fold, if◌then◌else◌, option_and_then}
 use Rattle.std.specs.Str.{bytes_eq}
 use Rattle.std.proofs.lemmas.Slice.Eq.{bytes_eq-Decides}
 use Rattle.std.proofs.lemmas.List.{map-append, take_more}
@@ -11,7 +11,8 @@ use Rattle.clap.specs.Walk.{Row, Rule}
 use Rattle.command_line.specs.Internal.Commands.{rule_for, shape_for, with_row}
 use Rattle.command_line.specs.PlainRequests.{PlainRequest}
 use Rattle.command_line.specs.Requests.{request_from}
-use Rattle.command_line.specs.Subcommands.{has_both_bids, has_more_files, has_signed_number}
+use Rattle.command_line.specs.Subcommands as table
+use Rattle.command_line.specs.Subcommands.{has_both_bids, has_more_files, has_signed_number, subcommands}
 use Rattle.command_line.specs.declared.commands.Argument.{Argument}
 use Rattle.command_line.specs.declared.commands.Subcommand.{Subcommand}
 
@@ -39,27 +40,18 @@ differs a b ne = go (bytes_eq a b) refl
     go true is = absurd (ne (sym ((bytes_eq-Decides a b).0 is)))
     go false is = is
 
--- a name of no subcommand requests nothing
-pub no_subcommand : (name : List ℕ) (rows : List Row) → name ≢ codes "check" → name ≢ codes "fault" → name ≢ codes "show" → name ≢ codes "value" → name ≢ codes "revenue"
-    → name ≢ codes "normalise" → name ≢ codes "explain" → name ≢ codes "round" → name ≢ codes "lp"
-    → name ≢ codes "compare" → name ≢ codes "diff" → name ≢ codes "duplicates" → name ≢ codes "sizes"
-    → request_from name rows ≡ None
-no_subcommand name rows check fault show value revenue normalise explain round lp compare diff duplicates sizes =
-    rw (
-      differs _ _ check,
-      differs _ _ fault,
-      differs _ _ show,
-      differs _ _ value,
-      differs _ _ revenue,
-      differs _ _ normalise,
-      differs _ _ explain,
-      differs _ _ round,
-      differs _ _ lp,
-      differs _ _ compare,
-      differs _ _ diff,
-      differs _ _ duplicates,
-      differs _ _ sizes,
-    ) (either (has_signed_number rows || has_more_files rows || has_both_bids rows) None refl)
+-- no subcommand has this name
+abbrev pub IsNoName : List ℕ → List table.Subcommand → Type 0
+IsNoName name [] = Unit {0}
+IsNoName name (s ∷ rest) = (name ≢ s.name) × IsNoName name rest
+
+none_named : (name : List ℕ) (rest : List table.Subcommand) → IsNoName name rest → find (λ s. bytes_eq s.name name) rest ≡ None
+none_named name [] others = refl
+none_named name (s ∷ rest) others = rw (differs s.name name others.0) (none_named name rest others.1)
+
+pub no_subcommand : (name : List ℕ) (rows : List Row) → IsNoName name subcommands → request_from name rows ≡ None
+no_subcommand name rows others = either (has_signed_number rows || has_more_files rows || has_both_bids rows) _
+    (ap (λ (found : Option table.Subcommand). option_and_then (λ s. s.request rows) found) (none_named name subcommands others))
   where
     either : (wrong : Bool) (found : Option PlainRequest) → found ≡ None → (if wrong then None else found) ≡ None
     either true found none = refl

@@ -2,19 +2,17 @@
 use Rattle.std.specs.Prelude.{◌==◌, ◌-◌, ◌+◌, ◌++◌, ℕ, List, [], ◌∷◌, nat_le, Option, Some, None, if◌then◌else◌}
 use Rattle.std.specs.Prelude.{option_and_then, option_map}
 use Rattle.std.specs.List.{range_with_len, slice_split}
+use Rattle.std.specs.Option.{option_zip}
 use Rattle.command_line.specs.Numbers.{begins_with_sign, number_up_to}
 
 -- goods have numbers of 16 bits, which are digits alone
 abbrev pub good_of : List ℕ → Option ℕ
 good_of text = if begins_with_sign text then None else number_up_to 65535 text
 
-abbrev pub both : Option ℕ → Option ℕ → Option (ℕ × ℕ)
-both first last = option_and_then (λ a. option_map (λ b. (a, b)) last) first
-
 -- the first and the last number of a range, by its texts; one number is both
 abbrev pub ends_of : List (List ℕ) → Option (ℕ × ℕ)
-ends_of (text ∷ []) = both (good_of text) (good_of text)
-ends_of (first ∷ last ∷ []) = both (good_of first) (good_of last)
+ends_of (text ∷ []) = option_zip (good_of text) (good_of text)
+ends_of (first ∷ last ∷ []) = option_zip (good_of first) (good_of last)
 ends_of _ = None
 
 abbrev pub goods_between : ℕ → ℕ → Option (List ℕ)
@@ -28,14 +26,14 @@ goods_of_part part = option_and_then (λ ends. goods_between ends.0 ends.1) (end
 abbrev pub joined : Option (List ℕ) → Option (List ℕ) → Option (List ℕ)
 joined found more = option_and_then (λ xs. option_map (λ ys. xs ++ ys) more) found
 
-abbrev pub goods_of_parts : List (List ℕ) → Option (List ℕ)
-goods_of_parts [] = Some []
-goods_of_parts (part ∷ parts) = joined (goods_of_part part) (goods_of_parts parts)
+-- the goods of all texts, if each has goods
+abbrev pub all_goods : (List ℕ → Option (List ℕ)) → List (List ℕ) → Option (List ℕ)
+all_goods goods_of [] = Some []
+all_goods goods_of (text ∷ texts) = joined (goods_of text) (all_goods goods_of texts)
 
 -- the parts of a word have commas (44) between them
 abbrev pub goods_of_word : List ℕ → Option (List ℕ)
-goods_of_word word = goods_of_parts (slice_split (λ b. b == 44) word)
+goods_of_word word = all_goods goods_of_part (slice_split (λ b. b == 44) word)
 
 abbrev pub goods_of_words : List (List ℕ) → Option (List ℕ)
-goods_of_words [] = Some []
-goods_of_words (word ∷ words) = joined (goods_of_word word) (goods_of_words words)
+goods_of_words = all_goods goods_of_word

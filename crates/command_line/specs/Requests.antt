@@ -1,9 +1,9 @@
 -- What a command line requests, and what it is if it requests nothing.
 use Rattle.std.specs.Prelude.{◌≡◌, ◌==◌, ◌||◌, ℕ, Bool, true, false, not, List, [], ◌∷◌, map, find, Option, None}
-use Rattle.std.specs.Prelude.{option_and_then, if◌then◌else◌, is_some}
+use Rattle.std.specs.Prelude.{option_and_then, if◌then◌else◌, is_none, is_some}
 use Rattle.std.specs.Option.{option_map_or}
 use Rattle.std.specs.Borrow.{Bor}
-use Rattle.std.specs.List.{list_any}
+use Rattle.std.specs.List.{list_any, slice_split}
 use Rattle.std.specs.Str.{bytes_eq}
 use Rattle.clap.specs.Faults.{fault_of}
 use Rattle.clap.specs.Kinds.{Kinds}
@@ -13,7 +13,7 @@ use Rattle.clap.specs.declared.error.kind.ErrorKind.{ErrorKind}
 use Rattle.clap.specs.declared.error.kind.ErrorKind.TheVariants.{DisplayHelp, DisplayVersion}
 use Rattle.command_line.specs.PlainRequests.{PlainRequest}
 use Rattle.command_line.specs.Subcommands.{cats, has_both_bids, has_more_files, has_signed_number}
-use Rattle.command_line.specs.Subcommands.{has_unbounded_total, has_wrong_goods, second_in, subcommands}
+use Rattle.command_line.specs.Subcommands.{goods_in, has_unbounded_total, second_in, subcommands}
 use Rattle.command_line.specs.declared.request.Misuse.{Misuse}
 use Rattle.command_line.specs.declared.request.Misuse.TheVariants.{SignedNumber, MoreThanOneFile, MoreThanTwoFiles}
 use Rattle.command_line.specs.declared.request.Misuse.TheVariants.{BidsTwice, UnboundedTotal}
@@ -38,20 +38,20 @@ abbrev pub request_of : List (List ℕ) → Option PlainRequest
 request_of words = if_taken (fault_of cats words)
     (option_and_then (λ p. request_from p.0 p.1) (subcommand_of cats words))
 
--- of a line with too many files: those that its subcommand takes are one, or two
-abbrev pub file_misuse_in : List Row → Misuse
-file_misuse_in rows = if is_some (second_in rows) then MoreThanTwoFiles else MoreThanOneFile
-
 -- why a line requests nothing although `clap` takes it
 abbrev pub misuse_in : List Row → Misuse
 misuse_in rows = if has_signed_number rows then SignedNumber
-    else (if has_more_files rows then file_misuse_in rows
+    else (if has_more_files rows then (if is_some (second_in rows) then MoreThanTwoFiles else MoreThanOneFile)
     else (if has_both_bids rows then BidsTwice
     else (if has_unbounded_total rows then UnboundedTotal
-    else (if has_wrong_goods rows then WrongGoods else WrongFiles))))
+    else (if is_none (goods_in rows) then WrongGoods else WrongFiles))))
 
 abbrev pub misuse_of : List (List ℕ) → Misuse
 misuse_of words = option_map_or (λ p. misuse_in p.1) (subcommand_of cats words) WrongFiles
+
+-- a line as words, with a space (32) between each two
+abbrev pub words_in : List ℕ → List (List ℕ)
+words_in line = slice_split (λ b. b == 32) line
 
 -- the texts of the words
 abbrev pub texts_of : List (Bor (List ℕ)) → List (List ℕ)

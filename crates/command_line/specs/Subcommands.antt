@@ -1,7 +1,7 @@
 -- The command line: its subcommands, each with its options and files, and what it requests. An option more is a row
 -- more.
 use Rattle.std.specs.Prelude.{◌&&◌, ◌||◌, ℕ, Bool, true, false, not, List, [], ◌∷◌, ◌++◌, map, pos, Option, Some}
-use Rattle.std.specs.Prelude.{None, codes, if◌then◌else◌, is_none, is_some, option_map, option_and_then}
+use Rattle.std.specs.Prelude.{None, codes, if◌then◌else◌, is_some, option_map, option_and_then}
 use Rattle.std.specs.List.{list_any}
 use Rattle.std.specs.Option.{option_map_or}
 use Rattle.std.specs.Str.{bytes_eq}
@@ -19,7 +19,8 @@ use Rattle.command_line.specs.declared.request.PairCommand.{PairCommand}
 use Rattle.command_line.specs.declared.request.PairCommand.TheVariants.{Compare, Diff}
 use Rattle.command_line.specs.declared.request.Prices.{Prices}
 use Rattle.command_line.specs.declared.request.Prices.TheVariants.{AsWritten, Rounded, RoundedExactly}
-use Rattle.command_line.specs.PlainRequests.{PlainPaths, PlainBids, PlainCommand, PlainRequest, Given, ListedIn}
+use Rattle.command_line.specs.PlainRequests.{PlainPaths, PlainBids, PlainCommand, PlainFiles, PlainRequest}
+use Rattle.command_line.specs.PlainRequests.{Given, ListedIn}
 use Rattle.command_line.specs.PlainRequests.{GivenBids, BidsIn, Check, Show, Value, Revenue, Normalise, Explain, Lp}
 use Rattle.command_line.specs.PlainRequests.{OnFile, OnPair, OnFiles, Fault, Round}
 
@@ -134,9 +135,16 @@ limits_in rows = if has_unbounded_total rows then None
 abbrev pub usual_limits : Bool → Limits
 usual_limits bounded = record { bound = bounded; steps = 1000000; total = None }
 
--- a word names no goods
-abbrev pub has_wrong_goods : List Row → Bool
-has_wrong_goods rows = is_none (goods_in rows)
+-- the files of a line that has no flag
+abbrev pub usual_files : PlainPaths → FilesCommand → PlainFiles
+usual_files paths command = record {
+  paths = paths;
+  prices = AsWritten;
+  command = command;
+  limits = usual_limits true;
+  progress = false;
+  null = false;
+}
 
 -- a list of bids and words that name bids exclude each other
 abbrev pub has_both_bids : List Row → Bool

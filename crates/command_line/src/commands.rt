@@ -1,63 +1,55 @@
 //! The commands as `clap` takes them. They have arguments and options. The subcommands are a table.
 
-ghost use Rattle.std.specs.Prelude.{◌≡◌, IfOk, codes, false, fold};
+ghost use Rattle.std.specs.Prelude.{◌≡◌, IfOk, false, fold};
 ghost use Rattle.clap.specs.Words.{app_of, rule_of};
 ghost use Rattle.command_line.specs.Internal.Commands.{has_globals, rule_for, shape_for, with_row};
-ghost use Rattle.command_line.specs.Subcommands.{bids, cats, file, files, flag, goods, more_files, null, option};
-ghost use Rattle.command_line.specs.Subcommands.{steps, total_steps};
+ghost use Rattle.command_line.specs.Subcommands.{cats, flag, option};
 
-use crate::help::{CommandHelp, about_text, argument_text, find_help, text_after};
+use crate::help::{CommandHelp, argument_text, find_help};
+use Argument::{
+    All, BidList, Bids, Bound, Exact, File, Files, Goods, List, MoreFiles, Null, Progress, Round,
+    RoundExact, SecondFile, Steps, TotalSteps,
+};
 use clap::{Arg, ArgAction, Command, value_parser};
 use std::alloc::{AllocError, Global};
 
+/// The one file, or the first of two, or many.
 pub(crate) const FILE: &str = "FILE";
-
-/// The second of two files, whose first is `FILE`.
+/// The second of two files.
 pub(crate) const SECOND_FILE: &str = "SECOND_FILE";
-
 /// More files than a subcommand takes.
 pub(crate) const MORE_FILES: &str = "MORE_FILES";
-
+/// Words that name goods.
 pub(crate) const GOOD: &str = "GOOD";
-
+/// Words that are the numbers of bids.
 pub(crate) const BID: &str = "BID";
-
+/// The option for a limit of each search.
 pub(crate) const STEPS: &str = "steps";
-
 /// The option for a limit of all searches together.
 pub(crate) const TOTAL_STEPS: &str = "total-steps";
-
 /// The flag for the bounded search.
 pub(crate) const BOUND: &str = "bound";
-
+/// The flag for reports of how many files were read.
 pub(crate) const PROGRESS: &str = "progress";
-
 /// The flag for NUL after each path of the output.
 pub(crate) const NULL: &str = "null";
-
 /// The option for a file that has the paths.
 pub(crate) const FILES0_FROM: &str = "files0-from";
-
 /// The option for a file that has the numbers of bids.
 pub(crate) const BIDS: &str = "bids";
-
 /// The flag for the files too that are the only ones of their auction.
 pub(crate) const ALL: &str = "all";
-
+/// The flag of `cats round` that refuses a price which would be rounded.
 pub(crate) const EXACT: &str = "exact";
-
 /// The flag for prices as `cats round` prints them.
 pub(crate) const ROUND: &str = "round";
-
 /// The flag for prices as `cats round --exact` prints them.
 pub(crate) const ROUND_EXACT: &str = "round-exact";
 
 /// The most steps that a command line may allow a search.
 const MAX_STEPS: i64 = 1_000_000_000;
-
 /// The most steps that a command line may allow all searches together.
 const MAX_TOTAL_STEPS: i64 = 1_000_000_000_000;
-
 /// The steps that a search may make if the command line names no limit.
 const DEFAULT_STEPS: &str = "1000000";
 
@@ -99,134 +91,62 @@ struct Subcommand {
 static SUBCOMMANDS: [Subcommand; 13] = [
     Subcommand {
         name: "check",
-        arguments: &[
-            Argument::Round,
-            Argument::RoundExact,
-            Argument::File,
-            Argument::MoreFiles,
-        ],
+        arguments: &[Round, RoundExact, File, MoreFiles],
     },
     Subcommand {
         name: "fault",
-        arguments: &[Argument::File, Argument::MoreFiles],
+        arguments: &[File, MoreFiles],
     },
     Subcommand {
         name: "show",
-        arguments: &[
-            Argument::Round,
-            Argument::RoundExact,
-            Argument::File,
-            Argument::MoreFiles,
-        ],
+        arguments: &[Round, RoundExact, File, MoreFiles],
     },
     Subcommand {
         name: "value",
-        arguments: &[
-            Argument::Round,
-            Argument::RoundExact,
-            Argument::Bound,
-            Argument::Steps,
-            Argument::TotalSteps,
-            Argument::File,
-            Argument::Goods,
-        ],
+        arguments: &[Round, RoundExact, Bound, Steps, TotalSteps, File, Goods],
     },
     Subcommand {
         name: "revenue",
-        arguments: &[
-            Argument::Round,
-            Argument::RoundExact,
-            Argument::BidList,
-            Argument::File,
-            Argument::Bids,
-        ],
+        arguments: &[Round, RoundExact, BidList, File, Bids],
     },
     Subcommand {
         name: "normalise",
-        arguments: &[
-            Argument::Round,
-            Argument::RoundExact,
-            Argument::Bound,
-            Argument::Steps,
-            Argument::TotalSteps,
-            Argument::File,
-            Argument::MoreFiles,
-        ],
+        arguments: &[Round, RoundExact, Bound, Steps, TotalSteps, File, MoreFiles],
     },
     Subcommand {
         name: "explain",
-        arguments: &[
-            Argument::Round,
-            Argument::RoundExact,
-            Argument::Steps,
-            Argument::TotalSteps,
-            Argument::File,
-            Argument::MoreFiles,
-        ],
+        arguments: &[Round, RoundExact, Steps, TotalSteps, File, MoreFiles],
     },
     Subcommand {
         name: "round",
-        arguments: &[Argument::Exact, Argument::File, Argument::MoreFiles],
+        arguments: &[Exact, File, MoreFiles],
     },
     Subcommand {
         name: "lp",
-        arguments: &[
-            Argument::Round,
-            Argument::RoundExact,
-            Argument::File,
-            Argument::MoreFiles,
-        ],
+        arguments: &[Round, RoundExact, File, MoreFiles],
     },
     Subcommand {
         name: "compare",
         arguments: &[
-            Argument::Round,
-            Argument::RoundExact,
-            Argument::Bound,
-            Argument::Steps,
-            Argument::TotalSteps,
-            Argument::File,
-            Argument::SecondFile,
-            Argument::MoreFiles,
+            Round, RoundExact, Bound, Steps, TotalSteps, File, SecondFile, MoreFiles,
         ],
     },
     Subcommand {
         name: "diff",
         arguments: &[
-            Argument::Round,
-            Argument::RoundExact,
-            Argument::Steps,
-            Argument::TotalSteps,
-            Argument::File,
-            Argument::SecondFile,
-            Argument::MoreFiles,
+            Round, RoundExact, Steps, TotalSteps, File, SecondFile, MoreFiles,
         ],
     },
     Subcommand {
         name: "duplicates",
         arguments: &[
-            Argument::Round,
-            Argument::RoundExact,
-            Argument::Steps,
-            Argument::TotalSteps,
-            Argument::Progress,
-            Argument::Null,
-            Argument::All,
-            Argument::List,
-            Argument::Files,
+            Round, RoundExact, Steps, TotalSteps, Progress, Null, All, List, Files,
         ],
     },
     Subcommand {
         name: "sizes",
         arguments: &[
-            Argument::Round,
-            Argument::RoundExact,
-            Argument::Steps,
-            Argument::TotalSteps,
-            Argument::Progress,
-            Argument::Null,
-            Argument::List,
-            Argument::Files,
+            Round, RoundExact, Steps, TotalSteps, Progress, Null, List, Files,
         ],
     },
 ];
@@ -241,9 +161,9 @@ pub(crate) fn cats_command<'a>(
 {
     let texts = find_help(help, "cats");
     let cats = Command::new(alloc, "cats")
-        .about(about_text(texts))
+        .about(texts.map_or("", |texts| texts.about))
         .version(version)
-        .after_help(text_after(texts))
+        .after_help(texts.map_or("", |texts| texts.after))
         .subcommand_required(true);
     with_subcommands(alloc, cats, &SUBCOMMANDS, help)
 }
@@ -273,68 +193,51 @@ impl Subcommand {
     {
         let texts = find_help(help, self.name);
         let mut command = Command::new(alloc, self.name)
-            .about(about_text(texts))
-            .after_help(text_after(texts));
+            .about(texts.map_or("", |texts| texts.about))
+            .after_help(texts.map_or("", |texts| texts.after));
         for argument in self.arguments {
-            command = command.arg(argument.arg(alloc, texts))?;
+            let arg = argument.arg(alloc);
+            let text = argument_text(texts, arg.get_id());
+            command = command.arg(arg.help(text))?;
         }
         Ok(command)
     }
 }
 
 impl Argument {
-    fn arg<'a>(&self, alloc: Global, texts: Option<CommandHelp<'a>>) -> Arg<'a>
-        ensures rule { rule_of result ≡ rule_for self.now }
-        ensures local { result.global ≡ false }
-    {
-        self.without_help(alloc)
-            .help(argument_text(texts, self.name()))
-    }
-
-    /// The name by which the texts have it.
-    fn name(&self) -> &'static str {
-        match self {
-            Argument::File | Argument::Files => FILE,
-            Argument::SecondFile => SECOND_FILE,
-            Argument::MoreFiles => MORE_FILES,
-            Argument::List => FILES0_FROM,
-            Argument::Goods => GOOD,
-            Argument::Bids => BID,
-            Argument::BidList => BIDS,
-            Argument::Steps => STEPS,
-            Argument::TotalSteps => TOTAL_STEPS,
-            Argument::Bound => BOUND,
-            Argument::Progress => PROGRESS,
-            Argument::Null => NULL,
-            Argument::All => ALL,
-            Argument::Exact => EXACT,
-            Argument::Round => ROUND,
-            Argument::RoundExact => ROUND_EXACT,
-        }
-    }
-
-    fn without_help<'a>(&self, alloc: Global) -> Arg<'a>
-        ensures rule { rule_of result ≡ rule_for self.now }
+    fn arg<'a>(self, alloc: Global) -> Arg<'a>
+        ensures rule { rule_of result ≡ rule_for self }
         ensures local { result.global ≡ false }
     {
         match self {
-            Argument::File => file_argument(alloc, FILE),
-            Argument::SecondFile => file_argument(alloc, SECOND_FILE).value_name(FILE),
-            Argument::MoreFiles => more_files_argument(alloc),
-            Argument::Files => files_argument(alloc),
-            Argument::List => list_option(alloc, FILES0_FROM),
-            Argument::Goods => goods_argument(alloc),
-            Argument::Bids => bids_argument(alloc),
-            Argument::BidList => list_option(alloc, BIDS),
-            Argument::Steps => steps_option(alloc),
-            Argument::TotalSteps => total_steps_option(alloc),
-            Argument::Bound => flag(alloc, BOUND),
-            Argument::Progress => flag(alloc, PROGRESS),
-            Argument::Null => null_flag(alloc),
-            Argument::All => flag(alloc, ALL),
-            Argument::Exact => flag(alloc, EXACT),
-            Argument::Round => flag(alloc, ROUND),
-            Argument::RoundExact => flag(alloc, ROUND_EXACT),
+            File => Arg::new(alloc, FILE).required(true),
+            SecondFile => Arg::new(alloc, SECOND_FILE).required(true).value_name(FILE),
+            // `clap` takes more files, so that it is the parser which says how many files there may be.
+            MoreFiles => Arg::new(alloc, MORE_FILES).num_args(0..).hide(true),
+            Files => Arg::new(alloc, FILE).num_args(1..),
+            List => list_option(alloc, FILES0_FROM),
+            // `clap` takes any words, and `goods` reads them.
+            Goods => Arg::new(alloc, GOOD).num_args(0..),
+            Bids => Arg::new(alloc, BID)
+                .num_args(0..)
+                .value_parser(value_parser!(u32)),
+            BidList => list_option(alloc, BIDS),
+            Steps => Arg::new(alloc, STEPS)
+                .long(STEPS)
+                .value_name("N")
+                .default_value(DEFAULT_STEPS)
+                .value_parser(value_parser!(u64).range(1..=MAX_STEPS)),
+            TotalSteps => Arg::new(alloc, TOTAL_STEPS)
+                .long(TOTAL_STEPS)
+                .value_name("N")
+                .value_parser(value_parser!(u64).range(1..=MAX_TOTAL_STEPS)),
+            Bound => flag(alloc, BOUND),
+            Progress => flag(alloc, PROGRESS),
+            Null => flag(alloc, NULL).short('0'),
+            All => flag(alloc, ALL),
+            Exact => flag(alloc, EXACT),
+            Round => flag(alloc, ROUND),
+            RoundExact => flag(alloc, ROUND_EXACT),
         }
     }
 }
@@ -346,80 +249,10 @@ fn flag<'a>(alloc: Global, name: &'a str) -> Arg<'a>
     Arg::new(alloc, name).long(name).action(ArgAction::SetTrue)
 }
 
-fn null_flag<'a>(alloc: Global) -> Arg<'a>
-    ensures rule { rule_of result ≡ null }
-    ensures local { result.global ≡ false }
-{
-    Arg::new(alloc, NULL)
-        .short('0')
-        .long(NULL)
-        .action(ArgAction::SetTrue)
-}
-
 /// A list takes the place of words on the command line.
 fn list_option<'a>(alloc: Global, name: &'a str) -> Arg<'a>
     ensures rule { rule_of result ≡ option name.entry.now }
     ensures local { result.global ≡ false }
 {
     Arg::new(alloc, name).long(name).value_name("LIST")
-}
-
-fn steps_option<'a>(alloc: Global) -> Arg<'a>
-    ensures rule { rule_of result ≡ steps }
-    ensures local { result.global ≡ false }
-{
-    Arg::new(alloc, STEPS)
-        .long(STEPS)
-        .value_name("N")
-        .default_value(DEFAULT_STEPS)
-        .value_parser(value_parser!(u64).range(1..=MAX_STEPS))
-}
-
-fn total_steps_option<'a>(alloc: Global) -> Arg<'a>
-    ensures rule { rule_of result ≡ total_steps }
-    ensures local { result.global ≡ false }
-{
-    Arg::new(alloc, TOTAL_STEPS)
-        .long(TOTAL_STEPS)
-        .value_name("N")
-        .value_parser(value_parser!(u64).range(1..=MAX_TOTAL_STEPS))
-}
-
-fn file_argument<'a>(alloc: Global, id: &'a str) -> Arg<'a>
-    ensures rule { rule_of result ≡ record file { id = id.entry.now } }
-    ensures local { result.global ≡ false }
-{
-    Arg::new(alloc, id).required(true)
-}
-
-/// `clap` takes more files, so that it is the parser which says how many files there may be.
-fn more_files_argument<'a>(alloc: Global) -> Arg<'a>
-    ensures rule { rule_of result ≡ more_files }
-    ensures local { result.global ≡ false }
-{
-    Arg::new(alloc, MORE_FILES).num_args(0..).hide(true)
-}
-
-fn files_argument<'a>(alloc: Global) -> Arg<'a>
-    ensures rule { rule_of result ≡ files }
-    ensures local { result.global ≡ false }
-{
-    Arg::new(alloc, FILE).num_args(1..)
-}
-
-/// `clap` takes any words, and `goods` reads them.
-fn goods_argument<'a>(alloc: Global) -> Arg<'a>
-    ensures rule { rule_of result ≡ goods }
-    ensures local { result.global ≡ false }
-{
-    Arg::new(alloc, GOOD).num_args(0..)
-}
-
-fn bids_argument<'a>(alloc: Global) -> Arg<'a>
-    ensures rule { rule_of result ≡ bids }
-    ensures local { result.global ≡ false }
-{
-    Arg::new(alloc, BID)
-        .num_args(0..)
-        .value_parser(value_parser!(u32))
 }

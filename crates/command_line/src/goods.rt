@@ -1,8 +1,8 @@
 //! The goods that words name: each word is a list, with commas, of numbers and of ranges of numbers.
 
-ghost use Rattle.std.specs.Prelude.{◌≡◌, ◌+◌, ◌-◌, ◌++◌, ◌==◌, ◌≤◌, IfOk, None, OnOk, Some, if◌then◌else◌, map, option_map};
+ghost use Rattle.std.specs.Prelude.{◌≡◌, ◌+◌, ◌-◌, ◌++◌, ◌==◌, ◌<◌, ◌≤◌, IfOk, None, OnOk, Some, if◌then◌else◌, option_map};
 ghost use Rattle.std.specs.List.{range_with_len, slice_split};
-ghost use Rattle.command_line.specs.Goods.{both, ends_of, good_of, goods_of_word, goods_of_words};
+ghost use Rattle.command_line.specs.Goods.{ends_of, good_of, goods_of_word, goods_of_words};
 ghost use Rattle.command_line.specs.Requests.{texts_of};
 
 use crate::parser::begins_with_sign;
@@ -26,9 +26,9 @@ fn push_word(alloc: Global, goods: &mut Vec<u16>, word: &str) -> Result<bool, Al
     ensures { IfOk result (λ right. (if right then Some goods.new.items else None)
         ≡ option_map (λ more. goods.old.items ++ more) (goods_of_word word.now)) }
 {
-    let parts = split(alloc, word.as_bytes(), b',')?;
+    let parts = split(alloc, word, ',')?;
     for part in parts.as_slice() {
-        let Some((first, last)) = ends(split(alloc, part, b'-')?.as_slice()) else {
+        let Some((first, last)) = ends(split(alloc, part, '-')?.as_slice()) else {
             return Ok(false);
         };
         if first > last {
@@ -44,43 +44,27 @@ fn push_range(goods: &mut Vec<u16>, first: u16, last: u16) -> Result<(), AllocEr
     requires { first ≤ last }
     ensures { OnOk result (goods.new.items ≡ goods.old.items ++ range_with_len first (last + 1 - first)) }
 {
-    for good in first..last {
+    for good in first..=last {
         goods.push(good)?;
     }
-    goods.push(last)?;
     Ok(())
 }
 
 /// The first and the last number of a range, by its texts. A number alone is both.
-fn ends(texts: &[&[u8]]) -> Option<(u16, u16)>
-    ensures { result ≡ ends_of (map (λ text. text.now) texts.now) }
+#[tactic(auto, using(crate::proofs::GoodsSoFar::more_texts))]
+fn ends(texts: &[&str]) -> Option<(u16, u16)>
+    ensures { result ≡ ends_of (texts_of texts.now) }
 {
-    if texts.is_empty() {
-        return None;
-    }
-    if texts.len() > 2 {
-        return None;
-    }
-    both(good_of(texts[0]), good_of(texts[texts.len() - 1]))
-}
-
-fn both(first: Option<u16>, last: Option<u16>) -> Option<(u16, u16)>
-    ensures { result ≡ both first last }
-{
-    Some((first?, last?))
-}
-
-fn good_of(text: &[u8]) -> Option<u16>
-    ensures { result ≡ good_of text.now }
-{
-    match str::from_utf8(text) {
-        Ok(text) => number_of(text),
-        Err(_) => None,
+    match texts {
+        [number] => good_of(number).zip(good_of(number)),
+        [first, last] => good_of(first).zip(good_of(last)),
+        _ => None,
     }
 }
 
 /// The number of a text of digits alone.
-fn number_of(text: &str) -> Option<u16>
+#[tactic(auto, using(crate::proofs::Reading::good_read))]
+fn good_of(text: &str) -> Option<u16>
     ensures { result ≡ good_of text.now }
 {
     if begins_with_sign(text) {
@@ -89,13 +73,10 @@ fn number_of(text: &str) -> Option<u16>
     text.parse::<u16>().ok()
 }
 
-/// The parts of a text between each two of these bytes.
-fn split(alloc: Global, text: &[u8], at: u8) -> Result<Vec<&[u8]>, AllocError>
-    ensures { IfOk result (λ parts. map (λ part. part.now) parts.items ≡ slice_split (λ b. b == at) text.now) }
+/// The parts of a text between each two of these characters.
+fn split<'a>(alloc: Global, text: &'a str, at: char) -> Result<Vec<&'a str>, AllocError>
+    requires { at < 128 }
+    ensures { IfOk result (λ parts. texts_of parts.items ≡ slice_split (λ b. b == at) text.now) }
 {
-    let mut parts = Vec::new(alloc);
-    for part in text.split(|byte| *byte == at) {
-        parts.push(part)?;
-    }
-    Ok(parts)
+    text.split(at).collect(alloc)
 }

@@ -18,25 +18,9 @@ pub(crate) fn find_help<'a>(help: &[CommandHelp<'a>], name: &str) -> Option<Comm
     help.iter().find(|command| command.name == name).copied()
 }
 
-pub(crate) fn about_text<'a>(help: Option<CommandHelp<'a>>) -> &'a str {
-    match help {
-        Some(help) => help.about,
-        None => "",
-    }
-}
-
-pub(crate) fn text_after<'a>(help: Option<CommandHelp<'a>>) -> &'a str {
-    match help {
-        Some(help) => help.after,
-        None => "",
-    }
-}
-
 /// The text of an argument, which is empty if it is not there.
 pub(crate) fn argument_text<'a>(help: Option<CommandHelp<'a>>, name: &str) -> &'a str {
     let Some(help) = help else { return "" };
-    match help.arguments.iter().find(|argument| argument.0 == name) {
-        Some(argument) => argument.1,
-        None => "",
-    }
+    let found = help.arguments.iter().find(|argument| argument.0 == name);
+    found.map_or("", |argument| argument.1)
 }

@@ -40,6 +40,7 @@ pub fn one_path()
 {}
 
 /// Any path, after `--`.
+#[tactic(auto, unfolding(clap::proofs::OnLiterals::clap_on_literals))]
 pub fn path_after_hyphens()
     ensures { (program path : List ℕ)
         → request_of (program ∷ codes "check" ∷ codes "--" ∷ path ∷ [])

@@ -7,6 +7,8 @@ mod help;
 pub mod laws;
 mod parser;
 mod request;
+#[cfg(test)]
+mod tests;
 mod version;
 pub mod worked;
 

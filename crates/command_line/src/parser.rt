@@ -1,16 +1,16 @@
 //! From the words of a command line to a request.
 
-ghost use Rattle.std.specs.Prelude.{◌≡◌, ℕ, List, [], IfErr, IfOk, Some, codes, map, option_map};
+ghost use Rattle.std.specs.Prelude.{◌≡◌, List, [], IfErr, IfOk, Some, map, option_map};
 ghost use Rattle.std.specs.List.{list_any};
 ghost use Rattle.std.specs.Result.{result_ok};
 ghost use Rattle.clap.specs.Faults.{fault_of};
 ghost use Rattle.clap.specs.Words.{HasKind, all_of, first_of, kind_of};
 ghost use Rattle.command_line.specs.Internal.Matches.{IsAnswerTo, rows_in};
-ghost use Rattle.command_line.specs.PlainRequests.{Explain, Fault, Normalise, Round, plain_bids, plain_command};
+ghost use Rattle.command_line.specs.PlainRequests.{Explain, Normalise, plain_bids, plain_command};
 ghost use Rattle.command_line.specs.PlainRequests.{plain_paths, plain_request};
-ghost use Rattle.command_line.specs.Requests.{IsNoRequestOf, file_misuse_in, misuse_in, misuse_of, request_from};
+ghost use Rattle.command_line.specs.Requests.{IsNoRequestOf, misuse_in, misuse_of, request_from};
 ghost use Rattle.command_line.specs.Requests.{request_of, texts_of};
-ghost use Rattle.command_line.specs.Subcommands.{begins_with_sign, bid_numbers_in, bids_in, cats, file_in, goods_in};
+ghost use Rattle.command_line.specs.Subcommands.{begins_with_sign, bid_numbers_in, bids_in, cats, goods_in};
 ghost use Rattle.command_line.specs.Subcommands.{has_both_bids, has_more_files, has_signed_number};
 ghost use Rattle.command_line.specs.Subcommands.{has_unbounded_total, is_bounded, is_set, is_signed, limited};
 ghost use Rattle.command_line.specs.Subcommands.{limits_in, number_in, on_file, on_files, on_pair, paths_in, prices_in};
@@ -32,6 +32,7 @@ use std::alloc::{AllocError, Global};
 
 /// Reads a command line, whose first word is the program's name. `--version` prints `version` after that name, and
 /// `--help` the texts of `help`.
+#[tactic(auto, using(crate::proofs::Answering::answered))]
 pub fn parse<'a>(
     alloc: Global,
     version: &'a str,
@@ -109,7 +110,10 @@ fn misuse(alloc: Global, given: &ArgMatches<'_>) -> Result<Misuse, AllocError>
     Ok(if has_signed_number(given) {
         Misuse::SignedNumber
     } else if has_more_files(given) {
-        file_misuse(given)
+        match find_text(given, SECOND_FILE) {
+            Some(_) => Misuse::MoreThanTwoFiles,
+            None => Misuse::MoreThanOneFile,
+        }
     } else if has_both_bids(given) {
         Misuse::BidsTwice
     } else if has_unbounded_total(given) {
@@ -119,16 +123,6 @@ fn misuse(alloc: Global, given: &ArgMatches<'_>) -> Result<Misuse, AllocError>
     } else {
         Misuse::WrongFiles
     })
-}
-
-/// Of a line that has more files than its subcommand takes.
-fn file_misuse(given: &ArgMatches<'_>) -> Misuse
-    ensures { result ≡ file_misuse_in (rows_in given.now) }
-{
-    match find_text(given, SECOND_FILE) {
-        Some(_) => Misuse::MoreThanTwoFiles,
-        None => Misuse::MoreThanOneFile,
-    }
 }
 
 /// The request of a subcommand, by the matches of its own arguments.
@@ -144,13 +138,16 @@ fn find_named_request<'a>(
     }
     match name {
         "check" => Ok(on_file(given, Some(FileCommand::Check))),
-        "fault" => Ok(find_fault_request(given)),
+        "fault" => Ok(find_text(given, FILE).map(|file| Request::Fault { file })),
         "show" => Ok(on_file(given, Some(FileCommand::Show))),
         "value" => Ok(on_file(given, find_value(alloc, given)?)),
         "revenue" => Ok(on_file(given, find_bids(alloc, given)?.map(FileCommand::Revenue))),
         "normalise" => Ok(on_file(given, find_normalise(given))),
         "explain" => Ok(on_file(given, find_explain(given))),
-        "round" => Ok(find_round_request(given)),
+        "round" => {
+            let exact = is_set(given, EXACT);
+            Ok(find_text(given, FILE).map(|file| Request::Round { file, exact }))
+        }
         "lp" => Ok(on_file(given, Some(FileCommand::Lp))),
         "compare" => Ok(find_pair_request(given, PairCommand::Compare)),
         "diff" => Ok(find_pair_request(given, PairCommand::Diff)),
@@ -161,13 +158,6 @@ fn find_named_request<'a>(
         "sizes" => find_files_request(alloc, given, FilesCommand::Sizes),
         _ => Ok(None),
     }
-}
-
-fn find_fault_request<'a>(given: &ArgMatches<'a>) -> Option<Request<'a>>
-    ensures { option_map plain_request result ≡ option_map Fault (file_in (rows_in given.now)) }
-{
-    let file = find_text(given, FILE)?;
-    Some(Request::Fault { file })
 }
 
 /// The request of a command on one file. There is no command if its own arguments are wrong.
@@ -203,10 +193,7 @@ fn find_value<'a>(
 ) -> Result<Option<FileCommand<'a>>, AllocError>
     ensures { IfOk result (λ found. option_map plain_command found ≡ valued (rows_in given.now)) }
 {
-    let Some(limits) = find_limits(given) else {
-        return Ok(None);
-    };
-    let Some(goods) = find_goods(alloc, given)? else {
+    let (Some(limits), Some(goods)) = (find_limits(given), find_goods(alloc, given)?) else {
         return Ok(None);
     };
     Ok(Some(FileCommand::Value { goods, limits }))
@@ -251,24 +238,13 @@ fn find_numbers(alloc: Global, given: &ArgMatches<'_>) -> Result<Option<Vec<u32>
 fn find_normalise<'a>(given: &ArgMatches<'a>) -> Option<FileCommand<'a>>
     ensures { option_map plain_command result ≡ limited Normalise (rows_in given.now) }
 {
-    let limits = find_limits(given)?;
-    Some(FileCommand::Normalise(limits))
+    Some(FileCommand::Normalise(find_limits(given)?))
 }
 
 fn find_explain<'a>(given: &ArgMatches<'a>) -> Option<FileCommand<'a>>
     ensures { option_map plain_command result ≡ limited Explain (rows_in given.now) }
 {
-    let limits = find_limits(given)?;
-    Some(FileCommand::Explain(limits))
-}
-
-fn find_round_request<'a>(given: &ArgMatches<'a>) -> Option<Request<'a>>
-    ensures { option_map plain_request result
-        ≡ option_map (λ path. Round path (is_set (codes "exact") (rows_in given.now))) (file_in (rows_in given.now)) }
-{
-    let file = find_text(given, FILE)?;
-    let exact = is_set(given, EXACT);
-    Some(Request::Round { file, exact })
+    Some(FileCommand::Explain(find_limits(given)?))
 }
 
 fn find_pair_request<'a>(given: &ArgMatches<'a>, command: PairCommand) -> Option<Request<'a>>
@@ -313,14 +289,11 @@ fn find_paths<'a>(
 ) -> Result<Option<FilePaths<'a>>, AllocError>
     ensures { IfOk result (λ found. option_map plain_paths found ≡ paths_in (rows_in given.now)) }
 {
-    let list = find_text(given, FILES0_FROM);
-    let Some(words) = find_texts(given, FILE) else {
-        return Ok(list.map(FilePaths::ListedIn));
-    };
-    if list.is_some() {
-        return Ok(None);
+    match (find_text(given, FILES0_FROM), find_texts(given, FILE)) {
+        (Some(list), None) => Ok(Some(FilePaths::ListedIn(list))),
+        (None, Some(words)) => Ok(Some(FilePaths::Given(paths_of(alloc, words)?))),
+        _ => Ok(None),
     }
-    Ok(Some(FilePaths::Given(paths_of(alloc, words)?)))
 }
 
 /// Words as paths.
@@ -410,6 +383,7 @@ fn has_signed_number(given: &ArgMatches<'_>) -> bool
         || is_signed(given, BID)
 }
 
+#[tactic(auto, using(crate::proofs::Reading::any_of_texts))]
 fn is_signed(given: &ArgMatches<'_>, id: &str) -> bool
     ensures { result ≡ is_signed id.now (rows_in given.now) }
 {

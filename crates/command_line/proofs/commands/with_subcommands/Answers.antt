@@ -1,3 +1,4 @@
+-- `with_subcommands`
 use Rattle.std.proofs.Common.{◌∙◌, ap}
 use Rattle.std.proofs.lemmas.List.{get_or_default}
 use Rattle.clap.specs.Simple.{app_of}

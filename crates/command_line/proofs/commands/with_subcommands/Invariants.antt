@@ -1,3 +1,4 @@
+-- `with_subcommands`
 use Rattle.std.proofs.Common.{◌≡◌, take}
 use Rattle.std.specs.Prelude.{fold}
 use Rattle.clap.specs.Simple.{app_of}

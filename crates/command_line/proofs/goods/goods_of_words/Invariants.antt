@@ -1,3 +1,4 @@
+-- `goods_of_words`
 use Rattle.std.proofs.Common.{◌≡◌, drop}
 use Rattle.command_line.specs.Goods.{goods_of_words}
 use Rattle.command_line.specs.Requests.{texts_of}

@@ -1,3 +1,4 @@
+-- `push_range`
 use Rattle.std.proofs.Common.{◌≡◌, ◌++◌, ◌-◌}
 use Rattle.std.specs.List.{range_with_len}
 use Rattle.command_line.proofs.goods.push_range.Given as goal

@@ -1,9 +1,11 @@
-use Rattle.std.proofs.Common.{◌≡◌, drop, map}
-use Rattle.command_line.specs.Goods.{goods_of_parts}
+-- `push_word`
+use Rattle.std.proofs.Common.{◌≡◌, drop}
+use Rattle.command_line.specs.Goods.{all_goods, goods_of_part}
+use Rattle.command_line.specs.Requests.{texts_of}
 use Rattle.command_line.proofs.GoodsSoFar.{after}
 use Rattle.command_line.proofs.goods.push_word.Given as goal
 
 -- the goods so far, and those of the parts that are left
 abbrev pub invariant-loop-part : goal.invariant-loop-part
-invariant-loop-part l = after l.initial.goods.items (goods_of_parts (map (λ part. part.now) l.part-items))
-    ≡ after l.goods.items (goods_of_parts (map (λ part. part.now) (drop l.part-index l.part-items)))
+invariant-loop-part l = after l.initial.goods.items (all_goods goods_of_part (texts_of l.part-items))
+    ≡ after l.goods.items (all_goods goods_of_part (texts_of (drop l.part-index l.part-items)))

@@ -1,13 +1,8 @@
-use Rattle.std.proofs.Common.{rules, tests, ap, map, ◌∙◌}
-use Rattle.std.proofs.lemmas.Iterator.Consumers.{YieldsList-at, YieldsList-end}
-use Rattle.std.proofs.lemmas.Iterator.Splits.{YieldsList-from_slice_split}
+-- `split`
+use Rattle.std.proofs.lemmas.Iterator.Consumers.{map_from_collect}
+use Rattle.std.proofs.lemmas.Iterator.Splits.{YieldsList-from_str_split}
 use Rattle.command_line.proofs.goods.split.Goals as goal
 
 pub returns : goal.returns
-returns c =
-    let split =
-    YieldsList-from_slice_split _ _ c.args.text.now c.split-part-items.ensures.rest c.split-part-items.ensures.done c.split-part-items.ensures.closure
-    (λ x r q k. search (rules, tests)) in
-    let all = YieldsList-at c.into_iter-part-iterator.ensures.into_iter_gives split in
-    ap (map (λ part. part.now)) c.loop-part.invariant
-    ∙ (YieldsList-end all c.loop-part.yielded _ c.loop-part.yielded_by _ _ c.in-None.is c.next.ensures.steps).0
+returns c = map_from_collect _ c.collect.ensures.ran
+    (YieldsList-from_str_split c.args.at c.args.text.now c.requires c.split.ensures.text c.split.ensures.has_more c.split.ensures.pattern)

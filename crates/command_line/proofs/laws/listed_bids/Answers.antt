@@ -1,5 +1,9 @@
-use Rattle.command_line.proofs.Lines.{listed_bids}
+-- `listed_bids`
+use Rattle.std.proofs.Common.{◌++◌, [], ◌∷◌, codes, refl}
+use Rattle.clap.proofs.OnLiterals.{clap_on_literals}
+use Rattle.command_line.proofs.Lines.{line}
 use Rattle.command_line.proofs.laws.listed_bids.Goals as goal
 
 pub returns : goal.returns
-returns c = listed_bids
+unfolding clap_on_literals
+returns c program path list plain = line (codes "revenue") ((codes "--bids=" ++ list) ∷ []) (path ∷ []) (plain, tt) refl refl

@@ -1,14 +1,21 @@
-use Rattle.command_line.proofs.Lines.{exactly_rounded_compare, exactly_rounded_normalise, rounded_compare, rounded_normalise}
+-- `rounded`
+use Rattle.std.proofs.Common.{[], ◌∷◌, codes, refl}
+use Rattle.clap.proofs.OnLiterals.{clap_on_literals}
+use Rattle.command_line.proofs.Lines.{line}
 use Rattle.command_line.proofs.laws.rounded.Goals as goal
 
 pub returns-clause-normalise : goal.returns-clause-normalise
-returns-clause-normalise c = rounded_normalise
+unfolding clap_on_literals
+returns-clause-normalise c program path plain = line (codes "normalise") (codes "--round" ∷ []) (path ∷ []) (plain, tt) refl refl
 
 pub returns-clause-normalise_exactly : goal.returns-clause-normalise_exactly
-returns-clause-normalise_exactly c = exactly_rounded_normalise
+unfolding clap_on_literals
+returns-clause-normalise_exactly c program path plain = line (codes "normalise") (codes "--round-exact" ∷ []) (path ∷ []) (plain, tt) refl refl
 
 pub returns-clause-compare : goal.returns-clause-compare
-returns-clause-compare c = rounded_compare
+unfolding clap_on_literals
+returns-clause-compare c program first second one other = line (codes "compare") (codes "--round" ∷ []) (first ∷ second ∷ []) (one, (other, tt)) refl refl
 
 pub returns-clause-compare_exactly : goal.returns-clause-compare_exactly
-returns-clause-compare_exactly c = exactly_rounded_compare
+unfolding clap_on_literals
+returns-clause-compare_exactly c program first second one other = line (codes "compare") (codes "--round-exact" ∷ []) (first ∷ second ∷ []) (one, (other, tt)) refl refl

@@ -1,5 +1,13 @@
-use Rattle.command_line.proofs.Lines.{total_attached}
+-- `total_limit`
+use Rattle.std.proofs.Common.{◌++◌, ◌∙◌, [], ◌∷◌, codes, refl}
+use Rattle.clap.proofs.OnLiterals.{clap_on_literals}
+use Rattle.clap.specs.ValueTests.{is_unsigned_in}
+use Rattle.command_line.specs.Subcommands.{begins_with_sign}
+use Rattle.command_line.proofs.Lines.{limit_taken, line}
 use Rattle.command_line.proofs.laws.total_limit.Goals as goal
 
 pub returns : goal.returns
-returns c = total_attached
+unfolding clap_on_literals
+returns c program text path limit plain =
+    line (codes "explain") ((codes "--total-steps=" ++ text) ∷ []) (path ∷ []) (plain, tt) refl refl
+    ∙ limit_taken (is_unsigned_in 1 1000000000000 text) (begins_with_sign text) _ _ limit refl

@@ -1,11 +1,22 @@
-use Rattle.command_line.proofs.Lines.{unbounded_compare, unbounded_normalise, unbounded_value}
+-- `unbounded_total`
+use Rattle.std.proofs.Common.{◌++◌, ◌∙◌, [], ◌∷◌, codes, refl}
+use Rattle.clap.proofs.OnLiterals.{clap_on_literals}
+use Rattle.command_line.specs.Subcommands.{begins_with_sign}
+use Rattle.command_line.proofs.Lines.{line, none_requested}
 use Rattle.command_line.proofs.laws.unbounded_total.Goals as goal
 
 pub returns-clause-normalise : goal.returns-clause-normalise
-returns-clause-normalise c = unbounded_normalise
+unfolding clap_on_literals
+returns-clause-normalise c program text path plain =
+    line (codes "normalise") ((codes "--total-steps=" ++ text) ∷ []) (path ∷ []) (plain, tt) refl refl ∙ none_requested _ (begins_with_sign text)
 
 pub returns-clause-value : goal.returns-clause-value
-returns-clause-value c = unbounded_value
+unfolding clap_on_literals
+returns-clause-value c program text path plain =
+    line (codes "value") ((codes "--total-steps=" ++ text) ∷ []) (path ∷ []) (plain, tt) refl refl ∙ none_requested _ (begins_with_sign text)
 
 pub returns-clause-compare : goal.returns-clause-compare
-returns-clause-compare c = unbounded_compare
+unfolding clap_on_literals
+returns-clause-compare c program text first second one other =
+    line (codes "compare") ((codes "--total-steps=" ++ text) ∷ []) (first ∷ second ∷ []) (one, (other, tt)) refl refl
+    ∙ none_requested _ (begins_with_sign text)

@@ -1,3 +1,4 @@
+-- `find_numbers`
 use Rattle.std.proofs.Common.{◌∙◌, codes, sym, rules}
 use Rattle.std.specs.Str.Parse.{ParsesUnsigned, ExplainsUnsignedError, HasUnsignedDigitsIfOk}
 use Rattle.clap.specs.Matches.{found_of, values_left}

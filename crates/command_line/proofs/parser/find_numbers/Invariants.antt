@@ -1,3 +1,4 @@
+-- `find_numbers`
 use Rattle.std.proofs.Common.{◌≡◌}
 use Rattle.clap.specs.Matches.{values_left}
 use Rattle.command_line.specs.Internal.Matches.{rows_in}

@@ -1,23 +1,22 @@
+-- `find_request`
 use Rattle.std.proofs.Common.{◌∙◌, sym, rules}
 use Rattle.command_line.specs.Internal.Matches.{rows_in}
 use Rattle.command_line.specs.Requests.{texts_of}
-use Rattle.command_line.proofs.Answering.{refused, taken, entered, requested, both_are, misused}
+use Rattle.command_line.proofs.Answering.{fails_by, entered, requested, both_are, misused}
 use Rattle.command_line.proofs.parser.find_request.Goals as goal
 
 pub returns-in_err-matches-clause-refused : goal.returns-in_err-matches-clause-refused
 returns-in_err-matches-clause-refused c =
-    let kind = refused _ c.in_ok-cats_command.ensures
-    (texts_of c.args.words.now) _ c.in_err-matches.field-0.0 c.try_get_matches_from.ensures.kinds c.in_err-matches.was in
+    let kind = rw c.in_err-matches.was at (fails_by _ c.in_ok-cats_command.ensures (texts_of c.args.words.now) _ c.try_get_matches_from.ensures.kinds) in
     search rules
 
 pub returns-in-Some-clause-taken : goal.returns-in-Some-clause-taken
 returns-in-Some-clause-taken c =
-    taken _ c.in_ok-cats_command.ensures (texts_of c.args.words.now) _ c.in_ok-matches.matches c.try_get_matches_from.ensures.kinds c.in_ok-matches.was
+    rw c.in_ok-matches.was at (fails_by _ c.in_ok-cats_command.ensures (texts_of c.args.words.now) _ c.try_get_matches_from.ensures.kinds)
 
 pub returns-in-Some-clause-found : goal.returns-in-Some-clause-found
 returns-in-Some-clause-found c =
-    let none = taken _ c.in_ok-cats_command.ensures
-    (texts_of c.args.words.now) _ c.in_ok-matches.matches c.try_get_matches_from.ensures.kinds c.in_ok-matches.was in
+    let none = rw c.in_ok-matches.was at (fails_by _ c.in_ok-cats_command.ensures (texts_of c.args.words.now) _ c.try_get_matches_from.ensures.kinds) in
     let met = entered _ c.in_ok-cats_command.ensures (texts_of c.args.words.now) c.in_ok-matches.matches c.in_ok-matches.ensures.matches in
     c.in_ok-judge_subcommand-in-Some.ensures.found ∙ requested (texts_of c.args.words.now) _ none
     (sym (both_are _ c.in-Some.name.now (rows_in c.in-Some.given.now) (search rules) (search rules)) ∙ met)

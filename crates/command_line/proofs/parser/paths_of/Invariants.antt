@@ -1,3 +1,4 @@
+-- `paths_of`
 use Rattle.std.proofs.Common.{◌≡◌, take}
 use Rattle.command_line.specs.Requests.{texts_of}
 use Rattle.command_line.proofs.parser.paths_of.Given as goal

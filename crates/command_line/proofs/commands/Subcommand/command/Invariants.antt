@@ -1,3 +1,4 @@
+-- `Subcommand::command`
 use Rattle.std.proofs.Common.{◌≡◌, false, map, take, []}
 use Rattle.clap.specs.Simple.{app_of, new_shape}
 use Rattle.command_line.specs.Internal.Commands.{has_globals, rule_for}
