@@ -1,23 +1,5 @@
-//! Worked rows of the runs and of the program. Each is by the call of `cats_cmd` that it shows.
+//! Tests of what `main` has beside the runs of `cats_cmd`.
 
-mod check;
-mod command_lines;
-mod compare;
-mod devices;
-mod diff;
-mod duplicates;
-mod explanations;
-mod fault;
-mod files;
-mod folders;
-mod lp;
-mod normalise;
-mod program;
-mod revenue;
-mod round;
-mod rounded;
-mod show;
-mod sources;
-mod streams;
-mod value;
+mod help;
+mod version;
 mod words;

@@ -14,35 +14,35 @@ use Rattle.prune.specs.SearchSteps.{first_refused}
 use Rattle.canon.specs.Difference.{Difference, NoDifference, InGoods, InOr, InXor, first_difference}
 use Rattle.canon.specs.declared.canon_fault.CanonFault.{CanonFault}
 use Rattle.canon.specs.declared.canon_fault.CanonFault.TheVariants.{Read, StepLimit, Memory}
-use Rattle.differences.specs.Differences.{PlainDifferences, is_none_at_all}
+use Rattle.analysis.specs.Differences.{PlainDifferences, is_none_at_all}
 use Rattle.commands.specs.Commands.{Commands}
 use Rattle.commands.specs.Outcomes.{Outcome, Prints, ExceedsSteps, check_outcome, show_outcome, lp_outcome, normalise_outcome, exceeds_limits}
 use Rattle.commands.specs.Outcomes.{explain_outcome, text_unless_heavy, value_outcome_by, value_outcome_if, values_unless}
 use Rattle.commands.specs.Outcomes.{diff_outcome, missing_good, outcome_unless, text_unless_refused, outcome_of_difference, outcome_of_verdict}
 use Rattle.commands.specs.Outcomes.{revenue_outcome}
-use Rattle.answers.specs.ExplanationTexts.{explanation_text}
-use Rattle.explain.specs.Reasons.{reasons_of}
+use Rattle.commands.specs.ExplanationTexts.{explanation_text}
+use Rattle.analysis.specs.Reasons.{reasons_of}
 use Rattle.commands.specs.Pairs.{Compares as ComparesFiles, Diffs}
 use Rattle.commands.specs.ValueTexts.{bundle_from, value_text}
 use Rattle.commands.specs.declared.answer.Answer.{Answer}
-use Rattle.winners.specs.AllocationVerdicts.{allocation_verdict}
-use Rattle.winners.specs.declared.allocation_verdict.AllocationVerdict.{AllocationVerdict}
-use Rattle.winners.specs.declared.allocation_verdict.AllocationVerdict.TheVariants.{Revenue as Revenue_is, SharedGood, SharedBidder}
+use Rattle.analysis.specs.AllocationVerdicts.{allocation_verdict}
+use Rattle.analysis.specs.declared.winners.allocation_verdict.AllocationVerdict.{AllocationVerdict}
+use Rattle.analysis.specs.declared.winners.allocation_verdict.AllocationVerdict.TheVariants.{Revenue as Revenue_is, SharedGood, SharedBidder}
 use Rattle.cats_cmd.specs.FindingFaults.{outcome_of_place}
 use Rattle.cats_cmd.specs.PricedInputs.{PricedGives, PricedRefuses, fine_prices}
 use Rattle.cats_cmd.specs.Requests.{AnswersRequest, CarriesOut, RunsAt, RunsFor, RunsOfCommand, RunsOfPair, FailsRequest, bounded_by}
 use Rattle.cats_cmd.specs.Requests.{fine_of, options_of}
 use Rattle.rounding.specs.declared.replacement.FinePrices.{FinePrices}
 use Rattle.cats_cmd.specs.Runs.{RunsCommand}
-use Rattle.answers.specs.Statuses.{status_of_canon_fault, status_of_differences, status_of_read_fault}
+use Rattle.commands.specs.Statuses.{status_of_canon_fault, status_of_differences, status_of_read_fault}
 use Rattle.cats_cmd.specs.Rounding.{Rounds}
 use Rattle.cats_cmd.specs.RequestErrors.{Reports, line_of_request_error, has_found, is_for_many_files, is_reporting, is_rounding}
 use Rattle.cats_cmd.specs.RequestErrors.{names_found, names_many_files, names_reporting}
 use Rattle.cats_cmd.specs.RequestErrors.{status_of_request_error}
 use Rattle.cats_cmd.specs.declared.errors.RequestError.{RequestError}
 use Rattle.cats_cmd.specs.declared.errors.RequestError.TheVariants.{CannotOpen, NotOpened, Run}
-use Rattle.answers.specs.declared.report.RunFault.{RunFault}
-use Rattle.answers.specs.declared.report.RunFault.TheVariants.{Refused, TooHeavy, GoodRange, BidRange, Sent}
+use Rattle.commands.specs.declared.run_fault.RunFault.{RunFault}
+use Rattle.commands.specs.declared.run_fault.RunFault.TheVariants.{Refused, TooHeavy, GoodRange, BidRange, Sent}
 use Rattle.command_line.specs.PlainRequests.{PlainRequest, OnFile, OnPair, OnFiles, Fault, Round, GivenBids, BidsIn}
 use Rattle.command_line.specs.PlainRequests.{PlainCommand, Check, Show, Value, Revenue, Normalise, Explain, Lp}
 use Rattle.command_line.specs.declared.request.Limits.{Limits}

@@ -4,13 +4,13 @@ use Rattle.std.specs.Prelude.{codes, decimal, nat_lt, slice_index, Option, Some,
 use Rattle.std.specs.List.{AllByRecursion, flat_map, range_with_len}
 use Rattle.std.proofs.lemmas.Bool.{cond_both}
 use Rattle.std.proofs.lemmas.List.Elements.{All-take}
-use Rattle.answers.specs.DiffTexts.{bidder_rows, change_row, diff_header, diff_text, goods_rows, number_cells}
-use Rattle.answers.specs.DifferenceTexts.{atom_text, bidder_text, difference_lines, difference_text, side_text}
-use Rattle.answers.specs.ExplanationTexts.{bid_cells, explanation_header, explanation_row, explanation_text, reason_cells}
-use Rattle.answers.specs.FaultHints.{hint_of_kind}
-use Rattle.answers.specs.FaultPlaceTexts.{before_word, behind_word, shown_bytes}
-use Rattle.answers.specs.KindNames.{name_of_kind}
-use Rattle.answers.specs.Outputs.{check_text, number_cell, price_cell}
+use Rattle.commands.specs.DiffTexts.{bidder_rows, change_row, diff_header, diff_text, goods_rows, number_cells}
+use Rattle.commands.specs.ComparisonTexts.{atom_text, bidder_text, difference_lines, difference_text, side_text}
+use Rattle.commands.specs.ExplanationTexts.{bid_cells, explanation_header, explanation_row, explanation_text, reason_cells}
+use Rattle.commands.specs.FaultHints.{hint_of_kind}
+use Rattle.commands.specs.FaultPlaceTexts.{before_word, behind_word, shown_bytes}
+use Rattle.commands.specs.KindNames.{name_of_kind}
+use Rattle.commands.specs.Outputs.{check_text, number_cell, price_cell}
 use Rattle.bid_file.specs.Files.{PlainBid, PlainFile}
 use Rattle.canon.specs.Difference.{Difference, NoDifference, InGoods, InOr, InXor}
 use Rattle.canon.specs.Renaming.{kept_dummies, named_dummy}
@@ -20,16 +20,16 @@ use Rattle.cats_text.specs.FaultPlaces.{PlainPlace}
 use Rattle.cats_text.specs.Layout.{behind_point, digit_at, places_text, price_text, six_digits, with_place, without_zeros}
 use Rattle.cats_text.specs.declared.read_fault.Kind.{Kind}
 use Rattle.cats_text.specs.declared.read_fault.Kind.TheVariants as kinds
-use Rattle.differences.specs.BidderChanges.{PlainBidderChange}
-use Rattle.differences.specs.Differences.{PlainDifferences}
-use Rattle.differences.specs.PriceChanges.{PlainChange}
-use Rattle.explain.specs.Bids.{bid_at, numbers_of}
-use Rattle.explain.specs.Reasons.{PlainReason, Keep, Zero, Same, Inside, Packing, reason_at}
+use Rattle.analysis.specs.BidderChanges.{PlainBidderChange}
+use Rattle.analysis.specs.Differences.{PlainDifferences}
+use Rattle.canon.specs.PriceChanges.{PlainChange}
+use Rattle.analysis.specs.Bids.{bid_at, numbers_of}
+use Rattle.analysis.specs.Reasons.{PlainReason, Keep, Zero, Same, Inside, Packing, reason_at}
 use Rattle.valuation.specs.declared.atom.Atom.{Atom}
-use Rattle.winners.specs.AllocationVerdicts.{allocation_text, pair_text}
-use Rattle.winners.specs.declared.allocation_verdict.AllocationVerdict.{AllocationVerdict}
-use Rattle.winners.specs.declared.allocation_verdict.AllocationVerdict.TheVariants.{Revenue, SharedGood, SharedBidder}
-use Rattle.winners.specs.LpTexts.{PlainRow, binary_line, bids_with, if_none, lp_rows, lp_text, row_of, row_term, row_text}
+use Rattle.analysis.specs.AllocationVerdicts.{allocation_text, pair_text}
+use Rattle.analysis.specs.declared.winners.allocation_verdict.AllocationVerdict.{AllocationVerdict}
+use Rattle.analysis.specs.declared.winners.allocation_verdict.AllocationVerdict.TheVariants.{Revenue, SharedGood, SharedBidder}
+use Rattle.analysis.specs.LpTexts.{PlainRow, binary_line, bids_with, if_none, lp_rows, lp_text, row_of, row_term, row_text}
 use Rattle.cats_cmd.specs.Escaping.{AreBytes, is_shown}
 use Rattle.cats_cmd.specs.FindingFaults.{text_of_place}
 use Rattle.commands.specs.ValueTexts.{numbers_text, value_text}

@@ -10,7 +10,7 @@ use Rattle.command_line.specs.declared.request.Limits.{Limits}
 use Rattle.command_line.specs.declared.request.PairCommand.{PairCommand}
 use Rattle.command_line.specs.declared.request.Prices.{Prices}
 use Rattle.commands.specs.Outcomes.{Outcome}
-use Rattle.answers.specs.declared.report.RunFault.{RunFault}
+use Rattle.commands.specs.declared.run_fault.RunFault.{RunFault}
 use Rattle.rounding.specs.declared.replacement.FinePrices.{FinePrices}
 use Rattle.cats_cmd.specs.FindingFaults.{FindsFault}
 use Rattle.cats_cmd.specs.Inputs.{IsOpened}

@@ -18,7 +18,7 @@ use Rattle.cats_cmd.specs.DuplicateTexts.{found_paths}
 use Rattle.cats_cmd.specs.Duplicates.{files_if_heavy, files_if_judged, heavy_files, heavy_paths, judged_files, judged_paths, paths_if_heavy, paths_if_judged}
 use Rattle.cats_cmd.specs.Internal.Judging.{KeepsHeavy, KeepsJudged, KeepsPlaces}
 use Rattle.cats_cmd.specs.Paths.{Judgement, IsHeavy, IsJudged}
-use Rattle.answers.specs.declared.report.HeavyBid.{HeavyBid}
+use Rattle.commands.specs.declared.run_fault.HeavyBid.{HeavyBid}
 
 -- two lists that are as long, with one element more each
 zip_push : {X Y : Type 0} (R S : X → Y → Type 0) (xs : List X) (ys : List Y) (x : X) (y : Y) → ((a : X) (b : Y) → R a b → S a b) → AllZip R xs ys → S x y

@@ -21,7 +21,7 @@ use Rattle.canon.specs.declared.canon_fault.CanonFault.{CanonFault}
 use Rattle.canon.specs.declared.canon_fault.CanonFault.TheVariants.{Read, StepLimit, Memory}
 use Rattle.canon.specs.declared.which.Which.TheVariants.{Only}
 use Rattle.cats_cmd.specs.DuplicateTexts.{found_paths}
-use Rattle.answers.specs.declared.report.HeavyBid.{HeavyBid}
+use Rattle.commands.specs.declared.run_fault.HeavyBid.{HeavyBid}
 use Rattle.commands.specs.Naming.{with_bid}
 use Rattle.commands.specs.Outcomes.{first_bid_on, text_unless_heavy}
 use Rattle.cats_cmd.specs.PricedInputs.{IsPriced, PricedGives, PricedRefuses}
@@ -32,7 +32,7 @@ use Rattle.cats_cmd.specs.RequestErrors.{ReportsAll}
 use Rattle.cats_cmd.specs.declared.errors.RequestError.{RequestError}
 use Rattle.cats_cmd.specs.declared.errors.RequestError.TheVariants.{CannotOpen, NotOpened, Run}
 use Rattle.cats_cmd.specs.declared.priced_input.PricedInput.{PricedInput}
-use Rattle.answers.specs.declared.report.RunFault.TheVariants.{Refused}
+use Rattle.commands.specs.declared.run_fault.RunFault.TheVariants.{Refused}
 use Rattle.cats_cmd.proofs.FindingPlaces.{heavy_more, heavy_stay, judged_more, judged_stay, places_more}
 use Rattle.cats_cmd.specs.Duplicates.{heavy_files, heavy_paths, judged_files, judged_paths}
 use Rattle.cats_cmd.specs.declared.duplicates.Groups.{Groups}

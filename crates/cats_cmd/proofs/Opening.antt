@@ -11,8 +11,8 @@ use Rattle.std.proofs.lemmas.Result.{err_from_is_err_and}
 use Rattle.std.proofs.lemmas.Str.{IsUtf8-from_is_utf8, is_utf8-from_IsUtf8}
 use Rattle.canon.specs.declared.canon_fault.CanonFault.TheVariants.{Memory}
 use Rattle.canon.specs.declared.which.Which.TheVariants.{Only}
-use Rattle.answers.specs.declared.report.RunFault.{RunFault}
-use Rattle.answers.specs.declared.report.RunFault.TheVariants.{Refused}
+use Rattle.commands.specs.declared.run_fault.RunFault.{RunFault}
+use Rattle.commands.specs.declared.run_fault.RunFault.TheVariants.{Refused}
 use Rattle.cats_cmd.specs.Internal.Judging.{OpensAllAs}
 use Rattle.cats_cmd.specs.Opening.{Opens, OpensAtPaths, OpensEach, OpensFirst, openable, with_paths}
 use Rattle.cats_cmd.specs.Openings.{OpensList, status_of_run}

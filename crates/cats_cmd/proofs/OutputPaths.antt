@@ -10,14 +10,15 @@ use Rattle.std.proofs.lemmas.Grind.{flat_map-append}
 use Rattle.std.proofs.lemmas.List.{append_assoc, length-map}
 use Rattle.std.proofs.lemmas.List.Elements.{All-append, All-cons, All-filter, All-head, All-map, All-nil, All-tail, All-weaker}
 use Rattle.std.proofs.lemmas.List.Splits.{slice_split_at, slice_split_none}
-use Rattle.answers.specs.Outputs.{number_cell}
+use Rattle.commands.specs.Outputs.{number_cell}
 use Rattle.bid_file.specs.Files.{PlainFile}
 use Rattle.cats_cmd.specs.DuplicateTexts.{after_empty_lines, duplicates_text, groups_of, groups_text, is_printed, lines_of, paths_at, printed_groups}
 use Rattle.cats_cmd.specs.Escaping.{end_of, escaped, is_control_byte, path_text}
 use Rattle.cats_cmd.specs.OutputPaths.{IsPath, behind_tabs, end_byte, groups_in, has_lines, is_empty, paths_in_table, read_path}
 use Rattle.cats_cmd.specs.PathLists.{ended, parts_in}
 use Rattle.cats_cmd.specs.Paths.{Judgement, request_error_of}
-use Rattle.cats_cmd.specs.SizesTables.{MakesTable, Number, canonical_known, canonical_numbers, cells, columns, fault_cell, file_numbers, file_read}
+use Rattle.commands.specs.SizesRows.{Number, canonical_numbers, cells, file_numbers}
+use Rattle.cats_cmd.specs.SizesTables.{MakesTable, canonical_known, columns, fault_cell, file_read}
 use Rattle.cats_cmd.specs.SizesTables.{number_columns, row, rows_of_table, sizes_header}
 use Rattle.cats_cmd.specs.declared.paths.Ending.{Ending}
 use Rattle.cats_cmd.specs.declared.paths.Ending.TheVariants.{Line, Null}

@@ -18,12 +18,12 @@ use Rattle.rounding.specs.declared.round_text.RoundedPrice.{RoundedPrice}
 use Rattle.rounding.specs.declared.round_text.RoundedText.{RoundedText}
 use Rattle.cats_cmd.specs.Internal.Roundings.{RoundsText}
 use Rattle.cats_cmd.specs.Inputs.{IsUnreadStream, ReadsAll}
-use Rattle.answers.specs.RoundedLines.{rounded_line}
+use Rattle.commands.specs.RoundedLines.{rounded_line}
 use Rattle.cats_cmd.specs.Rounding.{IsUnrounded, Rounds, round_outcome}
 use Rattle.cats_cmd.specs.Runs.{SendsAs}
 use Rattle.cats_cmd.specs.RequestErrors.{Reports, ReportsAll}
-use Rattle.answers.specs.declared.report.RunFault.{RunFault}
-use Rattle.answers.specs.declared.report.RunFault.TheVariants.{Refused, TooHeavy, GoodRange, BidRange, Sent}
+use Rattle.commands.specs.declared.run_fault.RunFault.{RunFault}
+use Rattle.commands.specs.declared.run_fault.RunFault.TheVariants.{Refused, TooHeavy, GoodRange, BidRange, Sent}
 use Rattle.cats_cmd.proofs.JudgingPaths.{reports_more}
 use Rattle.cats_cmd.proofs.ReadingBytes.{unread_stream}
 use Rattle.cats_cmd.proofs.Sending.{wrote}

@@ -12,8 +12,8 @@ use Rattle.cats_cmd.specs.Internal.Judging.{HasJudged}
 use Rattle.commands.specs.Outcomes.{Prints}
 use Rattle.cats_cmd.specs.Paths.{BeginsPaths, Judgement, JudgesPaths, MakesOfPaths, Reporting, RunsOnPaths, judgement_at, outcome_of_paths}
 use Rattle.cats_cmd.specs.Runs.{SendsAs}
-use Rattle.answers.specs.declared.report.RunFault.{RunFault}
-use Rattle.answers.specs.declared.report.RunFault.TheVariants.{Refused, TooHeavy, GoodRange, BidRange, Sent}
+use Rattle.commands.specs.declared.run_fault.RunFault.{RunFault}
+use Rattle.commands.specs.declared.run_fault.RunFault.TheVariants.{Refused, TooHeavy, GoodRange, BidRange, Sent}
 use Rattle.cats_cmd.proofs.Sending.{wrote}
 use Rattle.cats_cmd.specs.declared.source.Unopened.{Unopened}
 

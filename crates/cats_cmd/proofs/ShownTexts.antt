@@ -4,12 +4,13 @@ use Rattle.std.specs.Prelude.{codes, decimal, filter, nat_lt}
 use Rattle.std.specs.List.{All, AllByRecursion, list_any, range_with_len}
 use Rattle.std.proofs.lemmas.Bool.{and_parts, ltb-true, or_parts}
 use Rattle.std.proofs.lemmas.List.Elements.{All-append, All-filter, All-head, All-tail, All-weaker, recursion_from_All}
-use Rattle.answers.specs.Outputs.{bundle_text}
+use Rattle.commands.specs.Outputs.{bundle_text}
 use Rattle.cats_cmd.specs.DuplicateTexts.{after_empty_lines, duplicates_text, groups_of, groups_text, is_printed, lines_of, printed_groups}
 use Rattle.cats_cmd.specs.Escaping.{AreBytes, IsTextOf, escaped, is_printable, is_shown, path_text}
 use Rattle.cats_cmd.specs.Paths.{Judgement, progress_line, refusal_line}
 use Rattle.cats_cmd.specs.RequestErrors.{line_of_request_error}
-use Rattle.cats_cmd.specs.SizesTables.{MakesTable, cells, columns, rows_of_table, sizes_header}
+use Rattle.commands.specs.SizesRows.{cells}
+use Rattle.cats_cmd.specs.SizesTables.{MakesTable, columns, rows_of_table, sizes_header}
 use Rattle.cats_cmd.specs.declared.paths.Ending.TheVariants.{Line}
 use Rattle.cats_cmd.specs.declared.errors.RequestError.{RequestError}
 use Rattle.cats_cmd.proofs.FaultTexts.{IsPlain, Plain, bundle_plain, error_line}

@@ -4,8 +4,8 @@ use Rattle.valuation.specs.declared.search_options.SearchOptions.{SearchOptions}
 use Rattle.canon.specs.declared.canon_fault.CanonFault.TheVariants.{Read, StepLimit, Memory}
 use Rattle.commands.specs.Commands.{Commands, GivesSome}
 use Rattle.commands.specs.Outcomes.{normalise_outcome}
-use Rattle.answers.specs.declared.report.RunFault.{RunFault}
-use Rattle.answers.specs.declared.report.RunFault.TheVariants.{Refused, TooHeavy, GoodRange, BidRange, Sent}
+use Rattle.commands.specs.declared.run_fault.RunFault.{RunFault}
+use Rattle.commands.specs.declared.run_fault.RunFault.TheVariants.{Refused, TooHeavy, GoodRange, BidRange, Sent}
 use Rattle.cats_cmd.specs.Paths.{Judgement, IsHeavy, IsJudged, IsUnjudged, JudgesInput}
 use Rattle.cats_cmd.specs.PricedInputs.{PricedGives, PricedRefuses}
 use Rattle.cats_cmd.specs.declared.errors.RequestError.TheVariants.{CannotOpen, NotOpened, Run}

@@ -7,11 +7,11 @@ use Rattle.canon.specs.declared.canon_fault.CanonFault.{CanonFault}
 use Rattle.canon.specs.declared.canon_fault.CanonFault.TheVariants.{Read, Memory as NoMemory}
 use Rattle.canon.specs.declared.which.Which.TheVariants.{Only}
 use Rattle.command_line.specs.PlainRequests.{PlainBids, GivenBids, BidsIn}
-use Rattle.winners.specs.BidNumbers.{RefusesNumbers, bid_numbers, faulty_line, lines_in}
-use Rattle.winners.specs.declared.bid_numbers.BidNumbersFault.{BidNumbersFault}
-use Rattle.winners.specs.declared.bid_numbers.BidNumbersFault.TheVariants.{NotANumber, Memory}
-use Rattle.answers.specs.declared.report.RunFault.{RunFault}
-use Rattle.answers.specs.declared.report.RunFault.TheVariants.{Refused}
+use Rattle.analysis.specs.BidNumbers.{RefusesNumbers, bid_numbers, faulty_line, lines_in}
+use Rattle.analysis.specs.declared.winners.bid_numbers.BidNumbersFault.{BidNumbersFault}
+use Rattle.analysis.specs.declared.winners.bid_numbers.BidNumbersFault.TheVariants.{NotANumber, Memory}
+use Rattle.commands.specs.declared.run_fault.RunFault.{RunFault}
+use Rattle.commands.specs.declared.run_fault.RunFault.TheVariants.{Refused}
 use Rattle.cats_cmd.specs.FileLists.{IsUnread, ReadsList, RefusesList}
 use Rattle.cats_cmd.specs.declared.errors.RequestError.{RequestError}
 use Rattle.cats_cmd.specs.declared.errors.RequestError.TheVariants.{Run}

@@ -3,5 +3,4 @@
 pub mod Carrying
 pub mod Judging
 pub mod Roundings
-pub mod Tables
 pub mod Walking

@@ -4,8 +4,8 @@ use Rattle.std.specs.Option.{option_map_or}
 use Rattle.cats_text.specs.Streams.{has_failed, Sends}
 use Rattle.cats_text.specs.declared.read_fault.SendFault.{SendFault}
 use Rattle.cats_text.specs.declared.stream.Watched.{Watched}
-use Rattle.answers.specs.FaultLines.{line_of_fault, prefix_of}
-use Rattle.answers.specs.Statuses.{status_of_fault}
+use Rattle.commands.specs.FaultLines.{line_of_fault, prefix_of}
+use Rattle.commands.specs.Statuses.{status_of_fault}
 use Rattle.command_line.specs.PlainRequests.{PlainRequest, OnFile, OnPair, OnFiles, Fault, Round}
 use Rattle.command_line.specs.Requests.{request_of}
 use Rattle.command_line.specs.declared.request.Prices.{Prices}

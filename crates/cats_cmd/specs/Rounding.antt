@@ -10,14 +10,14 @@ use Rattle.canon.specs.declared.which.Which.TheVariants.{Only}
 use Rattle.rounding.specs.Answers.{WantsMemoryToRound}
 use Rattle.rounding.specs.Texts.{rounded_prices, rounded_text}
 use Rattle.rounding.specs.declared.replacement.FinePrices.{FinePrices}
-use Rattle.answers.specs.RoundedLines.{rounded_line}
+use Rattle.commands.specs.RoundedLines.{rounded_line}
 use Rattle.cats_cmd.specs.Inputs.{ReadsAll, StopsReading, WantsMemoryForBytes}
 use Rattle.cats_cmd.specs.PricedInputs.{HasRoundedFault}
 use Rattle.commands.specs.Outcomes.{Outcome, Prints}
 use Rattle.cats_cmd.specs.Runs.{FailsInText, WritesText}
 use Rattle.cats_cmd.specs.RequestErrors.{ReportsAll}
-use Rattle.answers.specs.declared.report.RunFault.{RunFault}
-use Rattle.answers.specs.declared.report.RunFault.TheVariants.{Refused, TooHeavy, GoodRange, BidRange, Sent}
+use Rattle.commands.specs.declared.run_fault.RunFault.{RunFault}
+use Rattle.commands.specs.declared.run_fault.RunFault.TheVariants.{Refused, TooHeavy, GoodRange, BidRange, Sent}
 
 -- the text with its prices rounded, with status 0
 abbrev pub round_outcome : FinePrices → List ℕ → Outcome

@@ -11,8 +11,8 @@ use Rattle.cats_text.specs.declared.read_fault.ReadFault.{ReadFault}
 use Rattle.commands.specs.Outcomes.{Outcome, Prints}
 use Rattle.commands.specs.Pairs.{Compares as ComparesFiles, Diffs}
 use Rattle.commands.specs.declared.answer.Answer.{Answer}
-use Rattle.answers.specs.declared.report.RunFault.{RunFault}
-use Rattle.answers.specs.declared.report.RunFault.TheVariants.{Refused, TooHeavy, GoodRange, BidRange, Sent}
+use Rattle.commands.specs.declared.run_fault.RunFault.{RunFault}
+use Rattle.commands.specs.declared.run_fault.RunFault.TheVariants.{Refused, TooHeavy, GoodRange, BidRange, Sent}
 
 -- ---- sending a text
 

@@ -7,11 +7,11 @@ ghost use Rattle.cats_cmd.specs.Opening.{Opens};
 use crate::errors::RequestError;
 use crate::many_files::read_list;
 use crate::source::Source;
-use answers::RunFault;
+use analysis::{BidNumbersFault, read_bid_numbers};
 use canon::CanonFault;
 use cats_text::{Kind, ReadFault};
+use commands::RunFault;
 use std::alloc::AllocGlobal;
-use winners::{BidNumbersFault, read_bid_numbers};
 
 /// Reads the numbers of bids in the file at this path.
 pub(crate) fn read_bids<S: Source + AllocGlobal>(

@@ -6,9 +6,9 @@ ghost use Rattle.cats_cmd.specs.declared.errors.RequestError.{RequestError};
 
 use crate::lines::{report, report_pieces};
 use crate::source::Unopened;
-use answers::{DEVICE_FAILED, RunFault, fault_line, fault_pieces, status};
 use canon::Which;
 use cats_text::Watched;
+use commands::{DEVICE_FAILED, RunFault, fault_line, fault_pieces, status};
 use std::alloc::{AllocError, Global};
 use std::io::Write;
 

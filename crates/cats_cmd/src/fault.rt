@@ -9,15 +9,15 @@ ghost use Rattle.cats_cmd.specs.FindingFaults.{FindsFault, WantsMemoryToFind, fa
 use crate::bytes::read_bytes;
 use crate::escaping::escaped;
 use crate::run::send_text;
-use answers::{DONE, FILE_REFUSED, RunFault, fault_place_text, shown_word};
 use canon::CanonFault;
 use cats_text::{FaultPlace, Watched, place_of_fault};
+use commands::{DONE, FILE_REFUSED, RunFault, fault_place_text, shown_word};
 use std::alloc::{AllocError, Global};
 use std::io::{Read, Write};
 
 /// Reads the text of a file at this path, and sends the place of its first fault with a hint, with status 2. Of a bid file
 /// nothing is sent.
-pub fn run_fault<R: Read, W: Write>(
+pub(crate) fn run_fault<R: Read, W: Write>(
     alloc: Global,
     input: &mut Watched<R>,
     path: &[u8],

@@ -2,18 +2,18 @@
 
 ghost use Rattle.std.specs.List.{All, flat_map};
 ghost use Rattle.std.specs.Prelude.{◌≡◌, ◌==◌, ℕ, Bool, List, filter, map, false};
-ghost use Rattle.answers.specs.DiffTexts.{diff_text};
-ghost use Rattle.answers.specs.DifferenceTexts.{difference_text};
-ghost use Rattle.answers.specs.ExplanationTexts.{explanation_text};
-ghost use Rattle.answers.specs.Outputs.{check_text};
+ghost use Rattle.commands.specs.DiffTexts.{diff_text};
+ghost use Rattle.commands.specs.ComparisonTexts.{difference_text};
+ghost use Rattle.commands.specs.ExplanationTexts.{explanation_text};
+ghost use Rattle.commands.specs.Outputs.{check_text};
 ghost use Rattle.bid_file.specs.Files.{PlainFile};
 ghost use Rattle.canon.specs.Difference.{Difference};
-ghost use Rattle.differences.specs.Differences.{PlainDifferences};
-ghost use Rattle.explain.specs.Reasons.{PlainReason};
+ghost use Rattle.analysis.specs.Differences.{PlainDifferences};
+ghost use Rattle.analysis.specs.Reasons.{PlainReason};
 ghost use Rattle.cats_text.specs.FaultPlaces.{PlainPlace};
-ghost use Rattle.winners.specs.AllocationVerdicts.{allocation_text};
-ghost use Rattle.winners.specs.LpTexts.{lp_text};
-ghost use Rattle.winners.specs.declared.allocation_verdict.AllocationVerdict.{AllocationVerdict};
+ghost use Rattle.analysis.specs.AllocationVerdicts.{allocation_text};
+ghost use Rattle.analysis.specs.LpTexts.{lp_text};
+ghost use Rattle.analysis.specs.declared.winners.allocation_verdict.AllocationVerdict.{AllocationVerdict};
 ghost use Rattle.commands.specs.ValueTexts.{value_text};
 ghost use Rattle.cats_cmd.specs.Escaping.{AreBytes, IsTextOf, escaped, is_control_byte, is_printable, is_shown, unescaped};
 ghost use Rattle.cats_cmd.specs.DuplicateTexts.{duplicates_text, printed_groups};

@@ -23,21 +23,15 @@ mod run;
 mod searches;
 mod sizes;
 mod source;
+#[cfg(test)]
+mod tests;
 mod two_files;
 mod usage;
 pub mod worked;
 
-pub use answers::{NO_MEMORY, RunFault, WRONG_USAGE, fault_line, status};
 pub use canon::{CanonFault, Which};
-pub use fault::run_fault;
-pub use one_file::{
-    run_check, run_explain, run_lp, run_normalise, run_normalise_by, run_revenue, run_show,
-    run_value, run_value_by,
-};
-pub use priced_input::PricedInput;
+pub use commands::{NO_MEMORY, RunFault, WRONG_USAGE, fault_line, status};
+pub use one_file::{run_check, run_normalise, run_show, run_value};
 pub use program::{Process, run_cats, run_program};
-pub use round::run_round;
-pub use rounding::FinePrices;
 pub use source::{Source, SystemFiles, Unopened};
-pub use two_files::{run_compare, run_compare_by, run_diff};
-pub use valuation::SearchOptions;
+pub use two_files::run_compare;

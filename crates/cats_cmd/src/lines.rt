@@ -2,15 +2,15 @@
 //! that has failed.
 
 ghost use Rattle.std.specs.Prelude.{◌≡◌, ◌∷◌, ◌++◌, ◌<◌, ℕ, List, decimal, length};
-ghost use Rattle.answers.specs.Outputs.{after_commas, bundle_text};
-ghost use Rattle.answers.specs.Pieces.{text_of_piece, text_of_pieces};
+ghost use Rattle.commands.specs.Outputs.{after_commas, bundle_text};
+ghost use Rattle.commands.specs.Pieces.{text_of_piece, text_of_pieces};
 ghost use Rattle.cats_text.specs.Layout.{behind_point, digit_at, price_text, six_digits, without_zeros};
 ghost use Rattle.cats_cmd.specs.Escaping.{escaped, escaped_byte};
 ghost use Rattle.cats_cmd.specs.RequestErrors.{Reports};
 
 use crate::escaping::{hex_escape, plain_run};
-use answers::Piece;
 use cats_text::{Watched, send};
+use commands::Piece;
 use itoa::Buffer;
 use std::io::Write;
 

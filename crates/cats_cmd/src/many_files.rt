@@ -20,10 +20,10 @@ use crate::paths::{
 };
 use crate::searches::bounded_search;
 use crate::source::Source;
-use answers::RunFault;
 use canon::CanonFault;
 use cats_text::Watched;
 use command_line::{FilePaths, FilesCommand, FilesRequest};
+use commands::RunFault;
 use std::alloc::AllocGlobal;
 use std::io::Write;
 

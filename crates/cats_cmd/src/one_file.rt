@@ -8,10 +8,9 @@ ghost use Rattle.commands.specs.Outcomes.{revenue_outcome, value_outcome, value_
 ghost use Rattle.valuation.specs.SearchLimits.{bounded_options, plain_options};
 
 use crate::run::send_answer;
-use answers::RunFault;
 use canon::Which;
 use cats_text::Watched;
-use commands::Input;
+use commands::{Input, RunFault};
 use std::alloc::Global;
 use std::io::Write;
 use valuation::SearchOptions;
@@ -48,7 +47,7 @@ pub fn run_show<I: Input, W: Write>(
 
 /// Reads a bid file, and sends its winner determination problem in CPLEX's LP format.
 #[tactic(auto, using(crate::proofs::Sending::file_run))]
-pub fn run_lp<I: Input, W: Write>(
+pub(crate) fn run_lp<I: Input, W: Write>(
     alloc: Global,
     input: &mut I,
     out: &mut Watched<W>,
@@ -83,7 +82,7 @@ pub fn run_value<I: Input, W: Write>(
 
 /// The same by searches of any kind, within the limits of their steps.
 #[tactic(auto, using(crate::proofs::Sending::file_run))]
-pub fn run_value_by<I: Input, W: Write>(
+pub(crate) fn run_value_by<I: Input, W: Write>(
     alloc: Global,
     input: &mut I,
     goods: &[u16],
@@ -104,7 +103,7 @@ pub fn run_value_by<I: Input, W: Write>(
 ///
 /// The first of the numbers that the file does not have is refused once the file was read.
 #[tactic(auto, using(crate::proofs::Sending::file_run))]
-pub fn run_revenue<I: Input, W: Write>(
+pub(crate) fn run_revenue<I: Input, W: Write>(
     alloc: Global,
     input: &mut I,
     bids: &[u32],
@@ -136,7 +135,7 @@ pub fn run_normalise<I: Input, W: Write>(
 
 /// The same by searches of any kind, within the limits of their steps.
 #[tactic(auto, using(crate::proofs::Sending::file_run))]
-pub fn run_normalise_by<I: Input, W: Write>(
+pub(crate) fn run_normalise_by<I: Input, W: Write>(
     alloc: Global,
     input: &mut I,
     options: SearchOptions,
@@ -155,7 +154,7 @@ pub fn run_normalise_by<I: Input, W: Write>(
 /// `limit` bounds the steps of each bounded search that decides on a bundle of the OR bidder, and `total` those of all
 /// together.
 #[tactic(auto, using(crate::proofs::Sending::file_run))]
-pub fn run_explain<I: Input, W: Write>(
+pub(crate) fn run_explain<I: Input, W: Write>(
     alloc: Global,
     input: &mut I,
     limit: u64,

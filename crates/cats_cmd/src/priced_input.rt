@@ -18,7 +18,7 @@ use std::io::{Read, Write};
 
 /// A stream, and what becomes of the prices of its file.
 #[derive(Drop)]
-pub struct PricedInput<R> {
+pub(crate) struct PricedInput<R> {
     stream: Watched<R>,
     /// What becomes of fine prices, if prices are rounded.
     fine: Option<FinePrices>,

@@ -26,14 +26,13 @@ use crate::searches::{bounded_search, search_options};
 use crate::sizes::Table;
 use crate::source::Source;
 use crate::two_files::{run_compare_by, run_diff};
-use answers::RunFault;
 use canon::Which;
 use cats_text::Watched;
 use command_line::{
     FileCommand, FileRequest, FilesCommand, FilesRequest, Limits, NamedBids, PairCommand,
     PairRequest, Request,
 };
-use commands::Input;
+use commands::{Input, RunFault};
 use rounding::FinePrices;
 use std::alloc::{AllocGlobal, Global};
 use std::io::Write;

@@ -3,7 +3,7 @@
 ghost use Rattle.std.specs.Prelude.{◌≡◌, map, false};
 ghost use Rattle.cats_text.specs.Streams.{has_ended, has_failed};
 ghost use Rattle.rounding.specs.Views.{plain_change, plain_changes};
-ghost use Rattle.answers.specs.RoundedLines.{rounded_line};
+ghost use Rattle.commands.specs.RoundedLines.{rounded_line};
 ghost use Rattle.cats_cmd.specs.Rounding.{Rounds};
 ghost use Rattle.cats_cmd.specs.Internal.Roundings.{RoundsText};
 ghost use Rattle.cats_cmd.specs.RequestErrors.{Reports, ReportsAll};
@@ -11,9 +11,9 @@ ghost use Rattle.cats_cmd.specs.RequestErrors.{Reports, ReportsAll};
 use crate::bytes::read_bytes;
 use crate::lines::report_pieces;
 use crate::run::send_text;
-use answers::{DONE, RunFault, price_pieces};
 use canon::CanonFault;
 use cats_text::Watched;
+use commands::{DONE, RunFault, price_pieces};
 use rounding::{FinePrices, RoundedPrice, RoundedText, round};
 use std::alloc::Global;
 use std::io::{Read, Write};
@@ -22,7 +22,7 @@ use std::io::{Read, Write};
 /// otherwise as a price. Sends that text if it is a bid file, and then reports on `err` each price whose value changed.
 ///
 /// A fault is the first of the text that results, as `run_check` has it.
-pub fn run_round<R: Read, W: Write, E: Write>(
+pub(crate) fn run_round<R: Read, W: Write, E: Write>(
     alloc: Global,
     input: &mut Watched<R>,
     fine: FinePrices,

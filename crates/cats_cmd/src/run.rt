@@ -4,10 +4,9 @@ ghost use Rattle.std.specs.Prelude.{◌≡◌, false};
 ghost use Rattle.cats_text.specs.Streams.{has_failed};
 ghost use Rattle.cats_cmd.specs.Runs.{SendsAnswer, SendsAs};
 
-use answers::RunFault;
 use canon::{CanonFault, Which};
 use cats_text::{Watched, send, send_file};
-use commands::{Answer, Output};
+use commands::{Answer, Output, RunFault};
 use std::alloc::{AllocError, Global};
 use std::io::Write;
 

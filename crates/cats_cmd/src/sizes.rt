@@ -1,34 +1,21 @@
 //! `cats sizes`: a table of the numbers of files. Each row has those of a bid file and of its canonical file, and why the
 //! file was not judged.
 
-mod count;
-
-ghost use Rattle.std.specs.Prelude.{◌≡◌, ◌++◌, List, ℕ, codes, IfOk, OnOk};
+ghost use Rattle.std.specs.Prelude.{◌≡◌, ◌++◌, List, ℕ, codes, OnOk};
 ghost use Rattle.cats_cmd.specs.Escaping.{path_text};
-ghost use Rattle.cats_cmd.specs.Internal.Tables.{PutsNumbers};
 ghost use Rattle.cats_cmd.specs.SizesTables.{fault_cell};
 
 use crate::errors::{RequestError, error_line};
 use crate::escaping::{push_end, push_path};
 use crate::paths::{Collection, Ending, ManyFiles};
 use crate::source::Unopened;
-use answers::RunFault;
-use canon::{CanonFault, Which, named_normal_file};
 use cats_text::Watched;
-use commands::{Input, name_bid};
-use count::{push_counts, push_sizes};
+use commands::{Input, NO_NUMBERS, push_numbers};
 use std::alloc::{AllocError, Global};
 use std::io::Write;
-use valuation::SearchOptions;
 
 /// The line above the rows.
 const HEADER: &str = "goods\tbids\tor\txor\tdummy\tkept\tkept_or\tkept_xor\tfault\tfile";
-
-/// The empty cells of the numbers of a file that was not read.
-const NO_NUMBERS: &str = "\t\t\t\t\t\t\t\t";
-
-/// The empty cells of the numbers of a canonical file that is not known.
-const NO_COUNTS: &str = "\t\t\t";
 
 /// The rows of the paths so far.
 #[derive(Drop)]
@@ -60,7 +47,8 @@ impl Collection for Table {
         many: ManyFiles,
     ) -> Result<Option<RequestError>, AllocError> {
         let mut cells = Vec::new(alloc);
-        let error = push_numbers(alloc, &mut cells, input, many.options)?;
+        let fault = push_numbers(alloc, &mut cells, input, many.options)?;
+        let error = fault.map(RequestError::Run);
         push_fault(alloc, &mut cells, &error)?;
         push_row(&mut self.rows, cells.as_slice(), path, many.ending)?;
         Ok(error)
@@ -90,46 +78,6 @@ impl Collection for Table {
         push_end(&mut text, many.ending)?;
         text.extend_from_slice(self.rows.as_slice())?;
         Ok(text)
-    }
-}
-
-/// Puts the numbers of a file and of its canonical file behind the text, each with a tab after it, and answers why the
-/// file was not judged. A number that is not known is an empty cell.
-fn push_numbers<I: Input>(
-    alloc: Global,
-    text: &mut Vec<u8>,
-    input: &mut I,
-    options: SearchOptions,
-) -> Result<Option<RequestError>, AllocError>
-    requires { I.is_ready input.old }
-    ensures { IfOk result (PutsNumbers I.gives I.refuses options text.old.items text.new.items input.old input.new) }
-{
-    let file = match input.read_file(alloc) {
-        Ok(file) => file,
-        Err(fault) => {
-            text.extend_from_slice(NO_NUMBERS.as_bytes())?;
-            return Ok(Some(RequestError::Run(RunFault::from(CanonFault::from(fault)))));
-        }
-    };
-    let mut sizes = Vec::new(alloc);
-    push_sizes(alloc, &mut sizes, &file)?;
-    match named_normal_file(alloc, &file, options) {
-        Ok(named) => {
-            text.extend_from_slice(sizes.as_slice())?;
-            push_counts(alloc, text, &named.file)?;
-            Ok(None)
-        }
-        Err(CanonFault::StepLimit { goods }) => {
-            text.extend_from_slice(sizes.as_slice())?;
-            text.extend_from_slice(NO_COUNTS.as_bytes())?;
-            let fault = CanonFault::StepLimit { goods };
-            Ok(Some(RequestError::Run(name_bid(Which::Only, &file, options, fault))))
-        }
-        // a file that was read is refused for nothing else
-        Err(_) => {
-            text.extend_from_slice(NO_NUMBERS.as_bytes())?;
-            Ok(Some(RequestError::Run(RunFault::from(CanonFault::Memory))))
-        }
     }
 }
 

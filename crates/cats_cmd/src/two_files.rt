@@ -6,10 +6,9 @@ ghost use Rattle.cats_cmd.specs.Runs.{Compares, DiffsFiles};
 ghost use Rattle.valuation.specs.SearchLimits.{plain_options};
 
 use crate::run::send_answer;
-use answers::RunFault;
 use canon::Which;
 use cats_text::Watched;
-use commands::Input;
+use commands::{Input, RunFault};
 use std::alloc::Global;
 use std::io::Write;
 use valuation::SearchOptions;
@@ -37,7 +36,7 @@ pub fn run_compare<I: Input, J: Input, W: Write>(
 
 /// The same by searches of any kind, within the limits of their steps. Each file has a total of its own.
 #[tactic(auto, using(crate::proofs::Sending::compare_run))]
-pub fn run_compare_by<I: Input, J: Input, W: Write>(
+pub(crate) fn run_compare_by<I: Input, J: Input, W: Write>(
     alloc: Global,
     first: &mut I,
     second: &mut J,
@@ -60,7 +59,7 @@ pub fn run_compare_by<I: Input, J: Input, W: Write>(
 /// The status is 0 for the same auction, and 1 for a difference. A fault of a file says which of the two it belongs to;
 /// a refusal of memory after both files are normalised belongs to both.
 #[tactic(auto, using(crate::proofs::Sending::diff_run))]
-pub fn run_diff<I: Input, J: Input, W: Write>(
+pub(crate) fn run_diff<I: Input, J: Input, W: Write>(
     alloc: Global,
     first: &mut I,
     second: &mut J,

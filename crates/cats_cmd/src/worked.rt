@@ -18,7 +18,8 @@ ghost use Rattle.cats_cmd.specs.declared.paths.Progress.TheVariants.{Silent, Lin
 ghost use Rattle.cats_cmd.specs.Paths.{IsHeavy, IsJudged, IsUnjudged, greatest_status, judged_path, progress_lines};
 ghost use Rattle.cats_cmd.specs.Paths.{report_lines};
 ghost use Rattle.cats_cmd.specs.Paths.{with_refusals, without_refusals};
-ghost use Rattle.cats_cmd.specs.SizesTables.{MakesTable, counts_of, row, sizes_of};
+ghost use Rattle.commands.specs.SizesRows.{counts_of, sizes_of};
+ghost use Rattle.cats_cmd.specs.SizesTables.{MakesTable, row};
 ghost use Rattle.cats_cmd.specs.Rounding.{round_outcome};
 ghost use Rattle.cats_cmd.specs.PricedInputs.{PricedGives, PricedRefuses, rounding_lines};
 ghost use Rattle.rounding.specs.declared.replacement.FinePrices.TheVariants.{Refuse, Round};
@@ -29,7 +30,7 @@ ghost use Rattle.cats_cmd.specs.declared.source.Unopened.TheVariants.{NoSuchFile
 ghost use Rattle.cats_cmd.specs.declared.source.Unopened.TheVariants.{Other};
 ghost use Rattle.canon.specs.declared.which.Which.TheVariants.{Only, First};
 ghost use Rattle.canon.specs.declared.canon_fault.CanonFault.TheVariants.{Read, Memory};
-ghost use Rattle.answers.specs.declared.report.RunFault.TheVariants.{Refused, Sent};
+ghost use Rattle.commands.specs.declared.run_fault.RunFault.TheVariants.{Refused, Sent};
 
 /// The line of a file that cannot be opened: of the only one, of the first of two, and of one of many.
 pub fn unopened_lines()

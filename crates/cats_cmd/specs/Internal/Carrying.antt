@@ -12,7 +12,7 @@ use Rattle.cats_cmd.specs.declared.requests.FileRun.TheVariants as run
 use Rattle.command_line.specs.PlainRequests.{PlainFiles}
 use Rattle.command_line.specs.declared.request.FilesCommand.{FilesCommand}
 use Rattle.command_line.specs.declared.request.FilesCommand.TheVariants.{Duplicates, Sizes}
-use Rattle.answers.specs.declared.report.RunFault.{RunFault}
+use Rattle.commands.specs.declared.run_fault.RunFault.{RunFault}
 use Rattle.cats_cmd.specs.Inputs.{MayRefuse}
 use Rattle.cats_cmd.specs.Opening.{Opens}
 use Rattle.cats_cmd.specs.Requests.{CannotOpenPair, RunsAt, bounded_by, ending_of, progress_of}

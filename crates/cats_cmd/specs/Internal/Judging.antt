@@ -14,7 +14,7 @@ use Rattle.cats_cmd.specs.DuplicateTexts.{found_paths}
 use Rattle.cats_cmd.specs.Duplicates.{FindsPlaces, heavy_files, heavy_paths, judged_files, judged_paths}
 use Rattle.cats_cmd.specs.declared.duplicates.Groups.{Groups}
 use Rattle.cats_cmd.specs.Opening.{Opens, OpensFirst, openable}
-use Rattle.answers.specs.declared.report.HeavyBid.{HeavyBid}
+use Rattle.commands.specs.declared.run_fault.HeavyBid.{HeavyBid}
 use Rattle.canon.specs.declared.canon_fault.CanonFault.{CanonFault}
 use Rattle.canon.specs.declared.canon_fault.CanonFault.TheVariants.{StepLimit}
 use Rattle.cats_cmd.specs.Paths.{BeginsPaths, IsHeavy, IsUnjudged, JudgedPath, Judgement, JudgesAs, JudgesInput}

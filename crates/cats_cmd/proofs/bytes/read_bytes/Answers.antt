@@ -1,3 +1,4 @@
+-- `read_bytes`
 use Rattle.std.proofs.Common.{arith, ◌<◌, length, refl, ◌∙◌, inl, inr}
 use Rattle.cats_cmd.proofs.ReadingBytes.{bytes_wanted, no_more, not_at_the_end, at_the_end, too_many}
 use Rattle.cats_cmd.proofs.bytes.read_bytes.Goals as goal

@@ -1,3 +1,4 @@
+-- `read_bytes`
 use Rattle.std.proofs.Common.{◌≡◌, ◌<◌, ◌≤◌, ◌+◌, ◌-◌, length, false}
 use Rattle.std.specs.Io.KnownBytes.{Consumes}
 use Rattle.cats_text.specs.declared.limits.TheConstants.{MAX_STREAM}

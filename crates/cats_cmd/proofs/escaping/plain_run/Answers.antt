@@ -1,3 +1,4 @@
+-- `plain_run`
 use Rattle.std.proofs.Common.{rules, ◌≡◌, ◌==◌, ◌≤◌, ◌+◌, ℕ, false, length, drop, arith, sym, ap, ◌∙◌, length-drop}
 use Rattle.std.proofs.lemmas.Bool.{ne_eqb}
 use Rattle.cats_cmd.specs.Escaping.{plain_length}

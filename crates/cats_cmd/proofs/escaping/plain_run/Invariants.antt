@@ -1,4 +1,4 @@
--- the bytes so far are not escaped
+-- `plain_run`: the bytes so far are not escaped
 use Rattle.std.proofs.Common.{◌≡◌, ◌≤◌, ◌-◌, ◌++◌, length, take, drop}
 use Rattle.cats_cmd.specs.Escaping.{escaped}
 use Rattle.cats_cmd.proofs.escaping.plain_run.Given as goal

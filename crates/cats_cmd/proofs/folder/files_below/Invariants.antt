@@ -1,3 +1,4 @@
+-- `files_below`
 use Rattle.cats_cmd.specs.Folders.{with_slash}
 use Rattle.cats_cmd.specs.Internal.Walking.{WalksBelow}
 use Rattle.cats_cmd.proofs.folder.files_below.Given as goal

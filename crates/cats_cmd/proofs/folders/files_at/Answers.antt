@@ -1,3 +1,4 @@
+-- `files_at`
 use Rattle.std.proofs.Common.{ℕ, List, [], ◌∙◌, ap, Vec}
 use Rattle.std.specs.Borrow.{Bor}
 use Rattle.std.specs.Global.{Global}

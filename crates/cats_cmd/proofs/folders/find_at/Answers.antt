@@ -1,3 +1,4 @@
+-- `find_at`
 use Rattle.cats_cmd.proofs.FilesOfPaths.{found_at_none, found_at_text}
 use Rattle.cats_cmd.proofs.folders.find_at.Goals as goal
 

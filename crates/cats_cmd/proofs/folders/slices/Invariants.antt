@@ -1,3 +1,4 @@
+-- `slices`
 use Rattle.std.proofs.Common.{◌≡◌, map, take}
 use Rattle.cats_cmd.specs.Folders.{paths_of}
 use Rattle.cats_cmd.proofs.folders.slices.Given as goal

@@ -1,3 +1,4 @@
+-- `escaped_path_is_read_back`
 use Rattle.cats_cmd.proofs.PrintableTexts.{printable}
 use Rattle.cats_cmd.proofs.ReadingBack.{harmless, read_back}
 use Rattle.cats_cmd.proofs.laws.escaped_path_is_read_back.Goals as goal

@@ -1,3 +1,4 @@
+-- `listed_paths_are_read_back`
 use Rattle.cats_cmd.proofs.ListingPaths.{parts_back}
 use Rattle.cats_cmd.proofs.laws.listed_paths_are_read_back.Goals as goal
 

@@ -1,3 +1,4 @@
+-- `printed_answers_are_shown`
 use Rattle.cats_cmd.proofs.AnswersShown.{check_shown, diff_shown, difference_shown, explanation_shown, lp_shown, place_shown, revenue_shown, value_shown}
 use Rattle.cats_cmd.proofs.laws.printed_answers_are_shown.Goals as goal
 

@@ -1,3 +1,4 @@
+-- `printed_lines_are_shown`
 use Rattle.cats_cmd.proofs.ShownTexts.{duplicates_shown, error_shown, progress_shown, refusal_shown, table_shown}
 use Rattle.cats_cmd.proofs.laws.printed_lines_are_shown.Goals as goal
 

@@ -1,3 +1,4 @@
+-- `tables_report_roundings`
 use Rattle.cats_cmd.proofs.JudgingPaths.{roundings_reported}
 use Rattle.cats_cmd.proofs.laws.tables_report_roundings.Goals as goal
 

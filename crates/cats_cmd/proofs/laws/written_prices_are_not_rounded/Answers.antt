@@ -1,3 +1,4 @@
+-- `written_prices_are_not_rounded`
 use Rattle.cats_cmd.proofs.WrittenPrices.{none_judged}
 use Rattle.cats_cmd.proofs.laws.written_prices_are_not_rounded.Goals as goal
 

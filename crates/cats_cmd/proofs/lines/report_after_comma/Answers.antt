@@ -1,3 +1,4 @@
+-- `report_after_comma`
 use Rattle.std.proofs.Common.{ℕ, [], ◌∷◌, decimal, subst}
 use Rattle.cats_cmd.specs.RequestErrors.{Reports}
 use Rattle.cats_cmd.proofs.Reporting.{reports_then}

@@ -1,6 +1,6 @@
--- the goods so far were reported
+-- `report_after_commas`: the goods so far were reported
 use Rattle.std.proofs.Common.{take}
-use Rattle.answers.specs.Outputs.{after_commas}
+use Rattle.commands.specs.Outputs.{after_commas}
 use Rattle.cats_cmd.specs.RequestErrors.{Reports}
 use Rattle.cats_cmd.proofs.lines.report_after_commas.Given as goal
 

@@ -1,3 +1,4 @@
+-- `report_behind_point`
 use Rattle.std.proofs.Common.{◌≡◌, ◌<◌, ℕ, List, [], ◌∷◌, length, refl, arith}
 use Rattle.cats_text.specs.Layout.{behind_point}
 use Rattle.cats_cmd.proofs.Reporting.{reports_then}

@@ -1,3 +1,4 @@
+-- `report_escaped`
 use Rattle.std.proofs.Common.{ℕ, List, ◌++◌, ap, ◌∙◌}
 use Rattle.std.proofs.lemmas.List.{append_assoc}
 use Rattle.cats_cmd.specs.Escaping.{escaped}

@@ -1,4 +1,4 @@
--- a text was reported, and what is still to come completes it
+-- `report_escaped`: a text was reported, and what is still to come completes it
 use Rattle.std.proofs.Common.{◌≡◌, ◌++◌, ℕ, List, length}
 use Rattle.cats_cmd.specs.Escaping.{escaped}
 use Rattle.cats_cmd.specs.RequestErrors.{Reports}

@@ -1,5 +1,6 @@
+-- `report_goods`
 use Rattle.std.proofs.Common.{rules, ◌≡◌, ◌∷◌, ℕ, decimal, subst}
-use Rattle.answers.specs.Outputs.{after_commas}
+use Rattle.commands.specs.Outputs.{after_commas}
 use Rattle.cats_cmd.specs.RequestErrors.{Reports}
 use Rattle.cats_cmd.proofs.Reporting.{reports_then}
 use Rattle.cats_cmd.proofs.lines.report_goods.Goals as goal

@@ -1,4 +1,5 @@
-use Rattle.answers.specs.Pieces.{text_of_piece}
+-- `report_pieces`
+use Rattle.commands.specs.Pieces.{text_of_piece}
 use Rattle.cats_cmd.proofs.Reporting.{reports_nothing, reports_next}
 use Rattle.cats_cmd.proofs.lines.report_pieces.Goals as goal
 

@@ -1,6 +1,6 @@
--- the pieces so far were reported
+-- `report_pieces`: the pieces so far were reported
 use Rattle.std.proofs.Common.{take}
-use Rattle.answers.specs.Pieces.{text_of_pieces}
+use Rattle.commands.specs.Pieces.{text_of_pieces}
 use Rattle.cats_cmd.specs.RequestErrors.{Reports}
 use Rattle.cats_cmd.proofs.lines.report_pieces.Given as goal
 

@@ -1,3 +1,4 @@
+-- `report_price`
 use Rattle.std.proofs.Common.{◌/◌, ◌%◌, ℕ, List, decimal, ap, ◌∙◌, subst}
 use Rattle.cats_text.specs.Layout.{behind_point, places_text, without_zeros}
 use Rattle.cats_cmd.specs.RequestErrors.{Reports}

@@ -1,3 +1,4 @@
+-- `without_zeros`
 use Rattle.std.proofs.Common.{◌∙◌}
 use Rattle.cats_cmd.proofs.Zeros.{digit_kept, zero_gone}
 use Rattle.cats_cmd.proofs.lines.without_zeros.Goals as goal

@@ -1,4 +1,4 @@
--- the zeros that are gone do not count
+-- `without_zeros`: the zeros that are gone do not count
 use Rattle.std.proofs.Common.{◌≡◌, length}
 use Rattle.cats_text.specs.Layout.{without_zeros}
 use Rattle.cats_cmd.proofs.lines.without_zeros.Given as goal

@@ -1,3 +1,4 @@
+-- `read_list`
 use Rattle.cats_cmd.proofs.ListingPaths.{list_unread}
 use Rattle.cats_cmd.proofs.many_files.read_list.Goals as goal
 

@@ -1,3 +1,4 @@
+-- `run_on_files`
 use Rattle.std.proofs.Common.{◌∙◌, ap, inr, map, refl}
 use Rattle.cats_cmd.specs.PathLists.{paths_in}
 use Rattle.cats_cmd.proofs.Opening.{opens_listed}

@@ -1,3 +1,4 @@
+-- `run_normalise`
 use Rattle.std.proofs.Common.{subst}
 use Rattle.valuation.specs.declared.search_options.SearchOptions.{SearchOptions}
 use Rattle.commands.specs.Outcomes.{normalise_outcome}

@@ -1,4 +1,4 @@
--- A plain search makes a step for each packing.
+-- `run_value`: A plain search makes a step for each packing.
 use Rattle.std.proofs.Common.{◌≡◌, Bool, ap, ◌∙◌, subst}
 use Rattle.std.proofs.Math.Path.{fun_ext}
 use Rattle.bid_file.specs.Files.{PlainFile}

@@ -1,3 +1,4 @@
+-- `split_at_nul`
 use Rattle.std.proofs.Common.{rules, tests, ap, map, ◌∙◌}
 use Rattle.std.proofs.lemmas.Iterator.Consumers.{YieldsList-at, YieldsList-end}
 use Rattle.std.proofs.lemmas.Iterator.Splits.{YieldsList-from_slice_split}

@@ -1,3 +1,4 @@
+-- `split_at_nul`
 use Rattle.std.proofs.Common.{◌≡◌}
 use Rattle.cats_cmd.proofs.path_list.split_at_nul.Given as goal
 

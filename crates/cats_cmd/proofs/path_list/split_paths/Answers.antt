@@ -1,3 +1,4 @@
+-- `split_paths`
 use Rattle.std.proofs.Common.{rules, tests, arith, sym, ◌∙◌, ◌≡◌}
 use Rattle.cats_cmd.proofs.ListingPaths.{no_rest, rest_dropped, rest_kept}
 use Rattle.cats_cmd.proofs.path_list.split_paths.Goals as goal

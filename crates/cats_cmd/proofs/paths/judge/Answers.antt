@@ -1,3 +1,4 @@
+-- `judge`
 use Rattle.cats_cmd.proofs.Judging.{file_added, file_unopened}
 use Rattle.cats_cmd.proofs.paths.judge.Goals as goal
 

@@ -1,3 +1,4 @@
+-- `judge_all`
 use Rattle.std.proofs.Common.{ℕ, List, [], arith}
 use Rattle.std.specs.Borrow.{Bor}
 use Rattle.cats_cmd.proofs.JudgingPaths.{all_judged, first_judged, none_judged, path_in, path_more}

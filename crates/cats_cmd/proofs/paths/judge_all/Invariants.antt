@@ -1,3 +1,4 @@
+-- `judge_all`
 use Rattle.std.proofs.Common.{map, take, length}
 use Rattle.cats_cmd.specs.Internal.Judging.{HasJudged}
 use Rattle.cats_cmd.specs.Opening.{Opens, openable}

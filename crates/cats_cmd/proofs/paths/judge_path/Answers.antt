@@ -1,3 +1,4 @@
+-- `judge_path`
 use Rattle.cats_cmd.proofs.Judging.{path_judged}
 use Rattle.cats_cmd.proofs.JudgingPaths.{path_reported}
 use Rattle.cats_cmd.proofs.paths.judge_path.Goals as goal

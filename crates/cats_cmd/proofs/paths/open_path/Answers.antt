@@ -1,3 +1,4 @@
+-- `open_path`
 use Rattle.cats_cmd.proofs.Opening.{opens_broken, opens_text}
 use Rattle.cats_cmd.proofs.paths.open_path.Goals as goal
 

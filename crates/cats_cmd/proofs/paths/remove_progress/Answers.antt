@@ -1,3 +1,4 @@
+-- `remove_progress`
 use Rattle.cats_cmd.proofs.JudgingPaths.{removal_reported}
 use Rattle.cats_cmd.proofs.paths.remove_progress.Goals as goal
 

@@ -1,3 +1,4 @@
+-- `report_count`
 use Rattle.std.proofs.Common.{◌++◌, codes, decimal}
 use Rattle.cats_cmd.proofs.Reporting.{reports_then}
 use Rattle.cats_cmd.proofs.paths.report_count.Goals as goal

@@ -1,3 +1,4 @@
+-- `report_hundreds`
 use Rattle.std.proofs.Common.{rules, tests}
 use Rattle.cats_cmd.proofs.JudgingPaths.{hundreds_reported}
 use Rattle.cats_cmd.proofs.paths.report_hundreds.Goals as goal

@@ -1,3 +1,4 @@
+-- `report_if_refused`
 use Rattle.std.proofs.Common.{refl}
 use Rattle.cats_cmd.proofs.paths.report_if_refused.Goals as goal
 

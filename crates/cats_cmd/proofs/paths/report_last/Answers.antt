@@ -1,3 +1,4 @@
+-- `report_last`
 use Rattle.std.proofs.Common.{◌++◌, ℕ, List, codes, decimal}
 use Rattle.cats_cmd.specs.Escaping.{escaped}
 use Rattle.cats_cmd.proofs.Reporting.{reports_then, reports_three}

@@ -1,3 +1,4 @@
+-- `report_progress`
 use Rattle.std.proofs.Common.{refl}
 use Rattle.cats_cmd.proofs.paths.report_progress.Goals as goal
 

@@ -1,3 +1,4 @@
+-- `report_refusal`
 use Rattle.std.proofs.Common.{codes}
 use Rattle.cats_cmd.specs.Escaping.{escaped}
 use Rattle.cats_cmd.specs.RequestErrors.{line_of_request_error}

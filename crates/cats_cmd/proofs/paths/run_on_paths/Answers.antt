@@ -1,3 +1,4 @@
+-- `run_on_paths`
 use Rattle.std.proofs.Common.{inl, map}
 use Rattle.cats_cmd.proofs.Opening.{first_of_all, opens_refused}
 use Rattle.cats_cmd.specs.Paths.{judgement_at}

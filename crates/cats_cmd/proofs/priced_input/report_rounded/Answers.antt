@@ -1,3 +1,4 @@
+-- `report_rounded`
 use Rattle.std.proofs.Common.{refl, arith}
 use Rattle.std.proofs.lemmas.Bool.{ne_eqb}
 use Rattle.cats_cmd.proofs.priced_input.report_rounded.Goals as goal

@@ -1,3 +1,4 @@
+-- `report_rounded_count`
 use Rattle.std.proofs.Common.{◌++◌, codes, decimal}
 use Rattle.std.proofs.lemmas.Bool.{eq-eqb, ne_eqb}
 use Rattle.cats_cmd.specs.Escaping.{escaped}

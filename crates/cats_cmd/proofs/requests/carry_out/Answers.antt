@@ -1,3 +1,4 @@
+-- `carry_out`
 use Rattle.std.proofs.Common.{refl}
 use Rattle.command_line.specs.PlainRequests.{plain_request}
 use Rattle.cats_cmd.proofs.CarryingOut.{carried, found_at, rounded_at}

@@ -1,3 +1,4 @@
+-- `carry_out_on_file`
 use Rattle.std.proofs.Common.{[], ◌∷◌, inl}
 use Rattle.cats_cmd.proofs.Opening.{opens_then}
 use Rattle.cats_cmd.proofs.requests.carry_out_on_file.Goals as goal

@@ -1,3 +1,4 @@
+-- `carry_out_on_pair`
 use Rattle.std.proofs.Common.{Bool}
 use Rattle.cats_cmd.specs.Requests.{RunsOfPair}
 use Rattle.cats_cmd.proofs.CarryingOut.{both_at, is_priced, reported_at}

@@ -1,3 +1,4 @@
+-- `run_at`
 use Rattle.cats_cmd.proofs.CarryingOut.{is_priced, ran_at, reported_at}
 use Rattle.cats_cmd.proofs.requests.run_at.Goals as goal
 

@@ -1,3 +1,4 @@
+-- `run_on_many`
 use Rattle.command_line.specs.PlainRequests.{plain_files}
 use Rattle.cats_cmd.proofs.CarryingOut.{groups_made}
 use Rattle.cats_cmd.proofs.requests.run_on_many.Goals as goal

@@ -1,7 +1,8 @@
+-- `report_prices`
 use Rattle.std.proofs.Common.{subst}
 use Rattle.rounding.specs.Views.{plain_change}
 use Rattle.rounding.specs.declared.round_text.RoundedPrice.{RoundedPrice}
-use Rattle.answers.specs.RoundedLines.{rounded_line}
+use Rattle.commands.specs.RoundedLines.{rounded_line}
 use Rattle.cats_cmd.specs.RequestErrors.{Reports}
 use Rattle.cats_cmd.proofs.Rounding.{reported_more, reported_all}
 use Rattle.cats_cmd.proofs.round.report_prices.Goals as goal

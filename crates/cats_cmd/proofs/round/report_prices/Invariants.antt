@@ -1,6 +1,7 @@
+-- `report_prices`
 use Rattle.std.proofs.Common.{map, take}
 use Rattle.rounding.specs.Views.{plain_changes}
-use Rattle.answers.specs.RoundedLines.{rounded_line}
+use Rattle.commands.specs.RoundedLines.{rounded_line}
 use Rattle.cats_cmd.specs.RequestErrors.{ReportsAll}
 use Rattle.cats_cmd.proofs.round.report_prices.Given as goal
 

@@ -1,9 +1,10 @@
+-- `run_round`
 use Rattle.std.proofs.Common.{ℕ, List, Ok, Err, map, ◌∙◌, subst}
 use Rattle.rounding.specs.Answers.{IsRounded}
 use Rattle.rounding.specs.Views.{plain_changes}
 use Rattle.rounding.specs.declared.round_text.RoundedPrice.{RoundedPrice}
 use Rattle.cats_cmd.specs.Internal.Roundings.{RoundsText}
-use Rattle.answers.specs.RoundedLines.{rounded_line}
+use Rattle.commands.specs.RoundedLines.{rounded_line}
 use Rattle.cats_cmd.specs.Runs.{SendsAs}
 use Rattle.cats_cmd.specs.RequestErrors.{ReportsAll}
 use Rattle.cats_cmd.proofs.Rounding.{round_unread, round_unmade, round_unsent, round_printed}

@@ -1,3 +1,4 @@
+-- `push_fault`
 use Rattle.std.proofs.Common.{◌++◌, ◌∙◌, ap, arith, codes, take}
 use Rattle.std.proofs.lemmas.List.{append_assoc}
 use Rattle.cats_cmd.specs.SizesTables.{fault_cell}

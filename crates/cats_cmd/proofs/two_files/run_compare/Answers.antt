@@ -1,3 +1,4 @@
+-- `run_compare`
 use Rattle.std.proofs.Common.{subst}
 use Rattle.valuation.specs.declared.search_options.SearchOptions.{SearchOptions}
 use Rattle.cats_cmd.specs.Runs.{Compares}

@@ -1,3 +1,4 @@
+-- `fine_price_read`
 use Rattle.std.proofs.Common.{◌≡◌, ℕ, List, length, codes, refl, sym, ◌∙◌, append-nil, inl, inr, subst, arith}
 use Rattle.std.specs.Fmt.{digits}
 use Rattle.cats_text.proofs.Spelling.Files.{spells_from_no_fault}

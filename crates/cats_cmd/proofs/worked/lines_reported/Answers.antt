@@ -1,3 +1,4 @@
+-- `lines_reported`
 use Rattle.std.proofs.Common.{Err, Ok, refl, inr, arith}
 use Rattle.cats_cmd.proofs.worked.lines_reported.Goals as goal
 

@@ -1,3 +1,4 @@
+-- `rounded_texts`
 use Rattle.std.proofs.Common.{refl}
 use Rattle.std.specs.Fmt.{digits}
 use Rattle.cats_cmd.proofs.worked.rounded_texts.Goals as goal

@@ -1,3 +1,4 @@
+-- `Groups::add_refused`
 use Rattle.std.proofs.Common.{refl}
 use Rattle.cats_cmd.proofs.Judging.{groups_heavy}
 use Rattle.cats_cmd.proofs.Skipping.{groups_skip}

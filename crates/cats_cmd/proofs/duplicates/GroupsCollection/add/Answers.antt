@@ -1,3 +1,4 @@
+-- `GroupsCollection::add`
 use Rattle.std.proofs.Common.{refl, rules, ap}
 use Rattle.canon.specs.FirstPlaces.{TextIndex}
 use Rattle.cats_cmd.proofs.Judging.{groups_judged, groups_unmade, groups_unread}

@@ -1,3 +1,4 @@
+-- `GroupsCollection::add_unopened`
 use Rattle.cats_cmd.specs.declared.errors.RequestError.TheVariants.{NotOpened}
 use Rattle.cats_cmd.proofs.Skipping.{groups_skip}
 use Rattle.cats_cmd.proofs.duplicates.GroupsCollection.add_unopened.Goals as goal

@@ -1,3 +1,4 @@
+-- `GroupsCollection::text`
 use Rattle.canon.specs.Sameness.{AreSameFiles}
 use Rattle.canon.specs.Unsearched.{AreAlike}
 use Rattle.cats_cmd.proofs.FindingPlaces.{places_within}

@@ -1,3 +1,4 @@
+-- `duplicates_text`
 use Rattle.std.proofs.Common.{ℕ, false, List, fold, ap, ap₂, ◌∙◌}
 use Rattle.cats_cmd.specs.DuplicateTexts.{found_paths, plain_groups, with_group}
 use Rattle.cats_cmd.proofs.Grouping.{both_printed}

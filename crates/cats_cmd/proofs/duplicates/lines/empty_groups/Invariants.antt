@@ -1,3 +1,4 @@
+-- `empty_groups`
 use Rattle.std.proofs.Common.{◌≡◌, [], replicate}
 use Rattle.cats_cmd.specs.DuplicateTexts.{plain_groups}
 use Rattle.cats_cmd.proofs.duplicates.lines.empty_groups.Given as goal

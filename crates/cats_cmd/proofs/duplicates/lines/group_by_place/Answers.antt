@@ -1,3 +1,4 @@
+-- `group_by_place`
 use Rattle.std.proofs.Common.{ℕ, List, ◌<◌, length, take, refl, sym, ap, ◌∙◌, subst, arith}
 use Rattle.std.specs.Global.{Global}
 use Rattle.std.specs.Prelude.{Vec}

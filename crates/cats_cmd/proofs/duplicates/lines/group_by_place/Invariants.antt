@@ -1,3 +1,4 @@
+-- `group_by_place`
 use Rattle.std.proofs.Common.{◌≡◌, length, map, take}
 use Rattle.std.specs.List.{range_with_len}
 use Rattle.cats_cmd.specs.DuplicateTexts.{found_paths, paths_at, plain_groups}

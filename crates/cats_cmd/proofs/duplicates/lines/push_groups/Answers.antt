@@ -1,3 +1,4 @@
+-- `push_groups`
 use Rattle.std.proofs.Common.{map, ap, ◌∙◌}
 use Rattle.cats_cmd.specs.DuplicateTexts.{with_group}
 use Rattle.cats_cmd.proofs.Grouping.{group_printed, all_groups_printed}

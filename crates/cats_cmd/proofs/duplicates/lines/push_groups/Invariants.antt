@@ -1,3 +1,4 @@
+-- `push_groups`
 use Rattle.std.proofs.Common.{◌≡◌, fold, take}
 use Rattle.cats_cmd.specs.DuplicateTexts.{plain_groups, with_group}
 use Rattle.cats_cmd.proofs.duplicates.lines.push_groups.Given as goal

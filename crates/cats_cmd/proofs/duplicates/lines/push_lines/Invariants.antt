@@ -1,3 +1,4 @@
+-- `push_lines`
 use Rattle.std.proofs.Common.{◌≡◌, ◌++◌, map, take}
 use Rattle.cats_cmd.specs.DuplicateTexts.{lines_of}
 use Rattle.cats_cmd.proofs.duplicates.lines.push_lines.Given as goal

@@ -1,3 +1,4 @@
+-- `Walk::read`
 use Rattle.cats_cmd.proofs.folder.Walk.read.Goals as goal
 
 pub loop-name-preserved-then-ne-2 : goal.loop-name-preserved-then-ne-2

@@ -1,3 +1,4 @@
+-- `Walk::read`
 use Rattle.cats_cmd.specs.Internal.Walking.{StaysBelow}
 use Rattle.cats_cmd.proofs.folder.Walk.read.Given as goal
 

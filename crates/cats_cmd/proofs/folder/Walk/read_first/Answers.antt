@@ -1,3 +1,4 @@
+-- `Walk::read_first`
 use Rattle.std.proofs.Common.{ap, ◌∙◌, List, ℕ, subst}
 use Rattle.std.specs.Prelude.{OnOk}
 use Rattle.cats_cmd.specs.Folders.{with_slash}

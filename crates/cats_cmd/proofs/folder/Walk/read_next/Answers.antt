@@ -1,3 +1,4 @@
+-- `Walk::read_next`
 use Rattle.std.proofs.Common.{ap, ◌∙◌}
 use Rattle.cats_cmd.specs.Folders.{with_slash}
 use Rattle.cats_cmd.proofs.Walking.{all_more, slash_begins}

@@ -1,3 +1,4 @@
+-- `TableCollection::add_unopened`
 use Rattle.std.proofs.Common.{◌∙◌, Some, refl}
 use Rattle.cats_cmd.specs.Paths.{IsUnjudged}
 use Rattle.cats_cmd.specs.declared.errors.RequestError.TheVariants.{NotOpened}

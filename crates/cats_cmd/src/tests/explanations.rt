@@ -2,7 +2,7 @@
 
 use super::normalise::bids_on_one_good;
 use super::streams::{RunAnswer, answer_of, expect, reader, writer};
-use cats_cmd::run_explain;
+use crate::one_file::run_explain;
 use std::alloc::Global;
 use std::process::Abort;
 use std::test::Fail;

@@ -1,7 +1,8 @@
 //! `cats round`: rounded texts, reports and refusals.
 
 use super::streams::{RunAnswer, answer_of, expect, reader, text_taken, writer};
-use cats_cmd::{FinePrices, run_round};
+use crate::round::run_round;
+use rounding::FinePrices;
 use std::alloc::Global;
 use std::test::Fail;
 

@@ -1,7 +1,7 @@
 //! `cats revenue`: what bids bring as winners.
 
 use super::streams::{RunAnswer, answer_of, expect, reader, writer};
-use cats_cmd::run_revenue;
+use crate::one_file::run_revenue;
 use std::alloc::Global;
 use std::test::Fail;
 

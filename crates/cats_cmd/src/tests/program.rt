@@ -1,7 +1,7 @@
 //! The program on files of the system, by command lines.
 
 use super::streams::{RunAnswer, expect, text_taken, writer};
-use cats_cmd::run_cats;
+use crate::run_cats;
 use std::process::Abort;
 use std::test::Fail;
 

@@ -7,15 +7,15 @@ use super::streams::{
     RunAnswer, StepReader, StepWriter, answer_of, byte_reader, expect, expect_cut_off, reader,
     stalling_writer, writer,
 };
-use cats_cmd::{
-    SearchOptions, run_check, run_compare, run_diff, run_explain, run_lp, run_normalise, run_show,
-    run_value,
-};
+use crate::one_file::{run_explain, run_lp};
+use crate::two_files::run_diff;
+use crate::{run_check, run_compare, run_normalise, run_show, run_value};
 use cats_text::Watched;
 use std::alloc::Global;
 use std::io::ErrorKind;
 use std::process::Abort;
 use std::test::Fail;
+use valuation::SearchOptions;
 
 /// The runs, and of one on two files which of its two inputs a test is about.
 #[derive(Clone, Copy)]

@@ -4,10 +4,11 @@ use super::compare::{
     APART, EQUAL_BIDDERS, FIVE, FOUR, HEAVY, LARGER_BID, NOTHING, REFUSALS, SINGLES, TOGETHER,
 };
 use super::streams::{RunAnswer, answer_of, expect, expect_cut_off, reader, writer};
-use cats_cmd::{SearchOptions, run_diff};
+use crate::two_files::run_diff;
 use std::alloc::Global;
 use std::process::Abort;
 use std::test::Fail;
+use valuation::SearchOptions;
 
 const STEPS: u64 = 1_000_000;
 

@@ -1,7 +1,7 @@
 //! `cats lp`: the winner determination problems of files.
 
 use super::streams::{RunAnswer, answer_of, expect, reader, writer};
-use cats_cmd::run_lp;
+use crate::one_file::run_lp;
 use std::alloc::Global;
 use std::test::Fail;
 

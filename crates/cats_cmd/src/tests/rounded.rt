@@ -1,7 +1,7 @@
 //! Commands on files whose prices are rounded.
 
+use super::memory::{Row, judge_rows};
 use super::program::{CAPACITY, run};
-use super::sources::{Row, judge_rows};
 use super::streams::expect;
 use std::test::Fail;
 use std::{fs, process};

@@ -3,7 +3,7 @@
 ghost use Rattle.std.specs.Prelude.{◌≡◌, false};
 ghost use Rattle.cats_text.specs.Streams.{has_ended, has_failed};
 
-use cats_cmd::{RunFault, fault_line, status};
+use crate::{RunFault, fault_line, status};
 use cats_text::Watched;
 use std::alloc::{AllocError, Global};
 use std::io;

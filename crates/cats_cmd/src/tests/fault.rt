@@ -1,7 +1,7 @@
 //! `cats fault`: where the first fault of a text is.
 
 use super::streams::{RunAnswer, answer_of, expect, reader, writer};
-use cats_cmd::run_fault;
+use crate::fault::run_fault;
 use std::alloc::Global;
 use std::test::Fail;
 

@@ -1,7 +1,0 @@
-use Rattle.std.proofs.Common.{◌≡◌, ◌≤◌, length, filter, take}
-use Rattle.std.specs.Prelude.{is_none}
-use Rattle.cats_cmd.proofs.sizes.count.count_or.Given as goal
-
--- the bids so far are counted
-abbrev pub invariant-loop-number : goal.invariant-loop-number
-invariant-loop-number l = (l.count ≡ length (filter (λ b. is_none b.dummy) (take l.number l.file.bids))) × (l.count ≤ l.number)

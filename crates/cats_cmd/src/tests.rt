@@ -1,0 +1,24 @@
+//! Worked rows of the runs and of the program. Each is by the call that it shows.
+
+mod check;
+mod compare;
+mod devices;
+mod diff;
+mod duplicates;
+mod explanations;
+mod fault;
+mod few_files;
+mod files;
+mod folders;
+mod lp;
+mod many_files;
+mod memory;
+mod normalise;
+mod openings;
+mod program;
+mod revenue;
+mod round;
+mod rounded;
+mod show;
+mod streams;
+mod value;

@@ -1,0 +1,162 @@
+//! Files in memory, and the program on them. Its contract says what it does there for a command line.
+
+ghost use Rattle.std.specs.Borrow.{Bor};
+ghost use Rattle.std.specs.List.{Any};
+ghost use Rattle.std.specs.Prelude.{◌≡◌, ◌⊎◌, ℕ, List, None};
+ghost use Rattle.cats_cmd.specs.declared.source.Unopened.{Unopened};
+ghost use Rattle.cats_cmd.specs.declared.source.Unopened.TheVariants.{NoSuchFile};
+
+use super::streams::{RunAnswer, expect, text_taken, writer};
+use crate::source::{Source, Unopened};
+use crate::{Process, run_program};
+use std::alloc::{Alloc, AllocError, AllocGlobal, Global};
+use std::process::Abort;
+use std::test::Fail;
+
+/// Files with their paths, paths that are refused, and how many openings there were.
+#[derive(Drop)]
+pub(super) struct FilesInMemory<'a> {
+    files: &'a [(&'a str, &'a [u8])],
+    refused: &'a [(&'a str, Unopened)],
+    pub(super) openings: usize,
+    alloc: Global,
+}
+
+impl<'a> FilesInMemory<'a> {
+    pub(super) fn new(alloc: Global, files: &'a [(&'a str, &'a [u8])]) -> FilesInMemory<'a> {
+        FilesInMemory {
+            files,
+            refused: &REFUSED,
+            openings: 0,
+            alloc,
+        }
+    }
+}
+
+impl<'a> Source for FilesInMemory<'a> {
+    type Stream = &'a [u8];
+
+    ghost Content = { List (Bor (List ℕ) × Bor (List ℕ)) × List (Bor (List ℕ) × Unopened) };
+
+    ghost content_of = { λ source. (source.files.now, source.refused.now) };
+
+    ghost may_open = { λ content path stream. Any (λ f. (f.0.now ≡ path) × (f.1.now ≡ stream.now)) content.0 };
+
+    ghost may_refuse = { λ content path why. Any (λ r. (r.0.now ≡ path) × (r.1 ≡ why)) content.1 ⊎ (why ≡ NoSuchFile) };
+
+    ghost may_find = { λ _ _ found. found ≡ None };
+
+    ghost opened = { λ _. None };
+
+    fn open(&mut self, path: &str) -> Result<&'a [u8], Unopened> {
+        self.open_file(path)
+    }
+
+    fn open_regular(&mut self, path: &str) -> Result<&'a [u8], Unopened> {
+        self.open_file(path)
+    }
+
+    fn open_file(&mut self, path: &str) -> Result<&'a [u8], Unopened> {
+        self.openings = self.openings.saturating_add(1);
+        for (name, why) in self.refused {
+            if *name == path {
+                return Err(*why);
+            }
+        }
+        for (name, text) in self.files {
+            if *name == path {
+                return Ok(*text);
+            }
+        }
+        Err(Unopened::NoSuchFile)
+    }
+
+    fn find(&self, _alloc: Global, _path: &str) -> Result<Option<Vec<Vec<u8>>>, AllocError> {
+        Ok(None)
+    }
+}
+
+impl Alloc for FilesInMemory<'_> {
+    type A = Global;
+
+    fn alloc(&self) -> Global {
+        self.alloc
+    }
+}
+
+pub(super) static FILES: [(&str, &[u8]); 24] = [
+    ("one", b"goods 1\nbids 1\ndummy 0\n0 3 0 #\n"),
+    ("same", b"goods 1\nbids 2\ndummy 0\n0 3 0 #\n1 2 0 #\n"),
+    ("other", b"goods 1\nbids 1\ndummy 0\n0 4 0 #\n"),
+    ("bad", b"goods 1\n"),
+    ("fine", b"goods 1\nbids 1\ndummy 0\n0 1e-7 0 #\n"),
+    (
+        "sum",
+        b"goods 2\nbids 3\ndummy 0\n0 3 0 #\n1 4 1 #\n2 7 0 1 #\n",
+    ),
+    (
+        "bidders",
+        b"goods 2\nbids 4\ndummy 3\n0 1 0 2 #\n1 1 0 4 #\n2 2 1 4 #\n3 9 1 #\n",
+    ),
+    // lists of bids
+    ("bids", b"1\r\n0\t1\n"),
+    ("words", b"1 0\nx\n"),
+    // lists of paths
+    ("list", b"one\0other\0same\0"),
+    ("list without its last NUL", b"one\0other\0same"),
+    ("empty list", b""),
+    ("list with a path twice", b"same\0other\0same\0"),
+    ("list with an empty path", b"one\0\0same\0"),
+    ("list with LF", b"one\nother\nsame\n"),
+    // names with LF, tab, escape, backslash, delete, U+E9, U+9B and U+202E, and in a list a byte that is no UTF-8
+    ("a\nb", b"goods 1\nbids 1\ndummy 0\n0 3 0 #\n"),
+    ("a\tb", b"goods 1\nbids 1\ndummy 0\n0 3 0 #\n"),
+    ("\x1b[2J", b"goods 1\nbids 1\ndummy 0\n0 3 0 #\n"),
+    ("a\\nb", b"goods 1\nbids 1\ndummy 0\n0 3 0 #\n"),
+    ("\x7f", b"goods 1\nbids 1\ndummy 0\n0 3 0 #\n"),
+    ("\u{e9}", b"goods 1\nbids 1\ndummy 0\n0 3 0 #\n"),
+    ("\u{9b}2J", b"goods 1\nbids 1\ndummy 0\n0 3 0 #\n"),
+    ("\u{202e}b", b"goods 1\nbids 1\ndummy 0\n0 3 0 #\n"),
+    (
+        "list of such names",
+        b"a\nb\0a\tb\0\x1b[2J\0a\\nb\0\x7f\0\xc3\xa9\0\xc2\x9b2J\0\xe2\x80\xaeb\0\x1bnone\0\xff\0",
+    ),
+];
+
+static REFUSED: [(&str, Unopened); 4] = [
+    ("folder", Unopened::IsFolder),
+    ("fifo", Unopened::NotAFile),
+    ("secret", Unopened::PermissionDenied),
+    ("broken", Unopened::Other),
+];
+
+/// A command line's words, and what it answers: its status, its output and its faults' lines.
+pub(super) type Row<'a> = (&'a [&'a str], u8, &'a str, &'a str);
+
+/// That command lines on these files answer what their rows say.
+pub(super) fn judge_rows(
+    rt: &(impl Abort + AllocGlobal),
+    files: &'static [(&'static str, &'static [u8])],
+    rows: &[Row<'_>],
+    terminal: bool,
+) -> Result<(), Fail> {
+    let alloc = rt.alloc();
+    let mut source = FilesInMemory::new(alloc, files);
+    for (words, status, sent, reported) in rows {
+        let mut out = writer(alloc, 4096, 4096);
+        let mut err = writer(alloc, 4096, 4096);
+        let process = Process {
+            version: "1.2 (test)",
+            help: &[],
+            terminal,
+        };
+        let status_answered = run_program(&mut source, words, &mut out, &mut err, &process);
+        let answer = RunAnswer {
+            status: status_answered,
+            sent: text_taken(out)?,
+            line: text_taken(err)?,
+        };
+        expect(rt, &answer, *status, sent, reported);
+    }
+    Ok(())
+}
