@@ -6,9 +6,10 @@
 // - A text is a pointer and a length in bytes. Only these bytes are read. It needs no NUL at its end.
 // - An output buffer is a pointer and its size in bytes. `needed` gets the length of the output, whatever the status.
 // - With every status but CATS_BUFFER_TOO_SMALL, the first `*needed` bytes of the buffer are the output: what the program `cats` prints
-//   on standard output, or, if the text is refused, the line that it prints on standard error. There is no NUL behind it.
+//   on standard output, or, if the text is refused, the line that it prints on standard error; of cats_sizes a row. There is no NUL behind it.
 // - With CATS_BUFFER_TOO_SMALL the buffer that is too small is as it was, and a call with a buffer of `*needed` bytes gives the output.
-// - For each function the macro CATS_.._SIZE is a buffer size that always suffices, for the output and for the line of a fault.
+// - For each function the macro CATS_.._SIZE is a buffer size that always suffices, for the output and for the line of a fault. If the prices
+//   of a text are rounded, CATS_ROUND_SIZE(length) counts in the place of its length, as in CATS_SHOW_SIZE(CATS_ROUND_SIZE(length)).
 //
 // The caller has to guarantee that each pointer is valid for its length or size and not null (for 0 bytes too), that the buffers, `needed`
 // and the texts do not overlap, but that the two texts may be the same, and that nothing else changes a text or uses a buffer during
@@ -45,6 +46,13 @@ enum cats_status {
     CATS_WRONG_USAGE = 64      // of cats_value: the text has no such good; of cats_revenue: it has no such bid
 };
 
+// How `prices` says that a text is read, or each of two texts. Any other number is as CATS_ROUNDED_EXACTLY.
+enum cats_prices {
+    CATS_AS_WRITTEN = 0,     // as it is: a price such as 1e3 is a fault
+    CATS_ROUNDED = 1,        // as cats_round writes it, which the program does with `--round`
+    CATS_ROUNDED_EXACTLY = 2 // the same, but refused if the value of a price would change, as by the program with `--round-exact`
+};
+
 // The two limits of a call that searches. All its searches are bounded, as those of the program with `--bound`.
 //
 // - `steps`: the most steps of one search, of which a file may need as many as it has bids. Any number is a limit; CATS_STEPS is what the
@@ -58,7 +66,7 @@ uint32_t cats_version(void);
 
 // Reads a text of `length` bytes and writes how many goods, bids and dummy goods it has, as `goods G bids B dummy D` and LF.
 // Returns CATS_DONE, CATS_REFUSED, CATS_WANT_OF_MEMORY or CATS_BUFFER_TOO_SMALL.
-uint8_t cats_check(const uint8_t *text, size_t length, uint8_t *out, size_t size, size_t *needed);
+uint8_t cats_check(const uint8_t *text, size_t length, uint8_t prices, uint8_t *out, size_t size, size_t *needed);
 #define CATS_CHECK_SIZE ((size_t)64)
 
 // Reads a text and writes where its first fault is, as `text:LINE:WORD: KIND`, and a line on what helps. Lines and the words of a line are
@@ -70,49 +78,61 @@ uint8_t cats_fault(const uint8_t *text, size_t length, uint8_t *out, size_t size
 
 // Reads a text and writes it in the one layout: each bid on a line, in the order of the numbers.
 // Returns CATS_DONE, CATS_REFUSED, CATS_WANT_OF_MEMORY or CATS_BUFFER_TOO_SMALL.
-uint8_t cats_show(const uint8_t *text, size_t length, uint8_t *out, size_t size, size_t *needed);
+uint8_t cats_show(const uint8_t *text, size_t length, uint8_t prices, uint8_t *out, size_t size, size_t *needed);
 #define CATS_SHOW_SIZE(length) ((size_t)(length) + 64)
 
 // Reads a text and writes what `count` of its bids, by number and in any order, bring as winners: a line with their revenue, or which two of
 // them cannot both win. A bid that is named twice counts once. A bid that the text does not have is refused.
 // Returns CATS_DONE, CATS_DIFFERENT, CATS_REFUSED, CATS_WANT_OF_MEMORY, CATS_BUFFER_TOO_SMALL or CATS_WRONG_USAGE.
-uint8_t cats_revenue(const uint8_t *text, size_t length, const uint32_t *bids, size_t count, uint8_t *out, size_t size, size_t *needed);
+uint8_t cats_revenue(const uint8_t *text, size_t length, uint8_t prices, const uint32_t *bids, size_t count, uint8_t *out, size_t size,
+                     size_t *needed);
 #define CATS_REVENUE_SIZE ((size_t)128)
 
 // Reads a text and writes its winner determination problem in CPLEX's LP format, for a solver.
 // Returns CATS_DONE, CATS_REFUSED, CATS_WANT_OF_MEMORY or CATS_BUFFER_TOO_SMALL.
-uint8_t cats_lp(const uint8_t *text, size_t length, uint8_t *out, size_t size, size_t *needed);
+uint8_t cats_lp(const uint8_t *text, size_t length, uint8_t prices, uint8_t *out, size_t size, size_t *needed);
 #define CATS_LP_SIZE(length) (5 * (size_t)(length) + 64)
 
 // Reads a text and writes what its bidders offer for a bundle of `count` goods, in any order: a line for the OR bidder, with the bids of one
 // best packing, and a line for each XOR bidder. A good that the text does not have is refused.
 // Returns CATS_DONE, CATS_REFUSED, CATS_STEP_LIMIT, CATS_WANT_OF_MEMORY, CATS_BUFFER_TOO_SMALL or CATS_WRONG_USAGE.
-uint8_t cats_value(const uint8_t *text, size_t length, const uint16_t *goods, size_t count, uint64_t steps, uint64_t total, uint8_t *out,
-                   size_t size, size_t *needed);
+uint8_t cats_value(const uint8_t *text, size_t length, uint8_t prices, const uint16_t *goods, size_t count, uint64_t steps, uint64_t total,
+                   uint8_t *out, size_t size, size_t *needed);
 #define CATS_VALUE_SIZE(length) ((size_t)(length) + 800000)
 
 // Reads a text and writes the canonical text of its auction, which is the same for two texts exactly if they are the same auction.
 // Returns CATS_DONE, CATS_REFUSED, CATS_STEP_LIMIT, CATS_WANT_OF_MEMORY or CATS_BUFFER_TOO_SMALL.
-uint8_t cats_normalise(const uint8_t *text, size_t length, uint64_t steps, uint64_t total, uint8_t *out, size_t size, size_t *needed);
+uint8_t cats_normalise(const uint8_t *text, size_t length, uint8_t prices, uint64_t steps, uint64_t total, uint8_t *out, size_t size,
+                       size_t *needed);
 #define CATS_NORMALISE_SIZE(length) ((size_t)(length) + (size_t)(length) / 2 + 64)
 
 // Reads a text and writes a table, a header and a line for each of its bids: the bid, and why the canonical text has it or not.
 // Returns CATS_DONE, CATS_REFUSED, CATS_STEP_LIMIT, CATS_WANT_OF_MEMORY or CATS_BUFFER_TOO_SMALL.
-uint8_t cats_explain(const uint8_t *text, size_t length, uint64_t steps, uint64_t total, uint8_t *out, size_t size, size_t *needed);
+uint8_t cats_explain(const uint8_t *text, size_t length, uint8_t prices, uint64_t steps, uint64_t total, uint8_t *out, size_t size,
+                     size_t *needed);
 #define CATS_EXPLAIN_SIZE(length) (4 * (size_t)(length) + 64)
+
+// Reads a text and writes its row in the table of `cats sizes`, without the path: nine cells, with a tab between each two, and LF. Eight are
+// numbers: goods, bids, bids without a dummy good, dummy goods that some bid has, dummy goods; and of the canonical text bids, bids without a
+// dummy good, and dummy goods. The last is empty, or has why some numbers are not known, whose cells are then empty. So a text that is
+// refused has a row too. Only if memory is refused for the row, the line `want of memory` is written in its place.
+// Returns CATS_DONE, CATS_REFUSED, CATS_STEP_LIMIT, CATS_WANT_OF_MEMORY or CATS_BUFFER_TOO_SMALL.
+uint8_t cats_sizes(const uint8_t *text, size_t length, uint8_t prices, uint64_t steps, uint64_t total, uint8_t *out, size_t size,
+                   size_t *needed);
+#define CATS_SIZES_SIZE ((size_t)512)
 
 // Reads two texts and writes `same` and LF, or four lines: `different`, and where the two auctions first differ.
 // The line of a refused text begins with `first: ` or `second: `.
 // Returns CATS_DONE, CATS_DIFFERENT, CATS_REFUSED, CATS_STEP_LIMIT, CATS_WANT_OF_MEMORY or CATS_BUFFER_TOO_SMALL.
-uint8_t cats_compare(const uint8_t *left, size_t left_length, const uint8_t *right, size_t right_length, uint64_t steps, uint64_t total,
-                     uint8_t *out, size_t size, size_t *needed);
+uint8_t cats_compare(const uint8_t *left, size_t left_length, const uint8_t *right, size_t right_length, uint8_t prices, uint64_t steps,
+                     uint64_t total, uint8_t *out, size_t size, size_t *needed);
 #define CATS_COMPARE_SIZE(left_length, right_length) ((size_t)(left_length) + (size_t)(right_length) + 128)
 
 // Reads two texts and writes a table, a header and a line for each difference of the two auctions: none if they are the same.
 // The line of a refused text begins with `first: ` or `second: `.
 // Returns CATS_DONE, CATS_DIFFERENT, CATS_REFUSED, CATS_STEP_LIMIT, CATS_WANT_OF_MEMORY or CATS_BUFFER_TOO_SMALL.
-uint8_t cats_diff(const uint8_t *left, size_t left_length, const uint8_t *right, size_t right_length, uint64_t steps, uint64_t total,
-                  uint8_t *out, size_t size, size_t *needed);
+uint8_t cats_diff(const uint8_t *left, size_t left_length, const uint8_t *right, size_t right_length, uint8_t prices, uint64_t steps,
+                  uint64_t total, uint8_t *out, size_t size, size_t *needed);
 #define CATS_DIFF_SIZE(left_length, right_length) (2 * ((size_t)(left_length) + (size_t)(right_length)) + 128)
 
 // Reads a text, and writes it with each price that is a decimal rounded to the nearest millionth. A second buffer gets a line for each price

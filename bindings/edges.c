@@ -16,6 +16,7 @@ struct block {
 // What a call reads and writes. The report is of cats_round alone.
 struct edge {
     struct block left, right, out, report;
+    uint8_t prices;
     size_t needed, report_needed;
 };
 
@@ -44,7 +45,7 @@ static struct block read_file(const char *path) {
 }
 
 static uint8_t check(struct edge *it) {
-    return cats_check(it->left.bytes, it->left.size, it->out.bytes, it->out.size, &it->needed);
+    return cats_check(it->left.bytes, it->left.size, it->prices, it->out.bytes, it->out.size, &it->needed);
 }
 
 static uint8_t fault(struct edge *it) {
@@ -52,7 +53,7 @@ static uint8_t fault(struct edge *it) {
 }
 
 static uint8_t show(struct edge *it) {
-    return cats_show(it->left.bytes, it->left.size, it->out.bytes, it->out.size, &it->needed);
+    return cats_show(it->left.bytes, it->left.size, it->prices, it->out.bytes, it->out.size, &it->needed);
 }
 
 // Of the good 0, which the files have, and of none. The goods are in a block of their size too.
@@ -60,8 +61,8 @@ static uint8_t value_of(struct edge *it, size_t count) {
     uint16_t *goods = calloc(count ? count : 1, sizeof *goods);
     if (!goods)
         exit(70);
-    uint8_t status = cats_value(it->left.bytes, it->left.size, goods, count, CATS_STEPS, CATS_NO_TOTAL, it->out.bytes, it->out.size,
-                                &it->needed);
+    uint8_t status = cats_value(it->left.bytes, it->left.size, it->prices, goods, count, CATS_STEPS, CATS_NO_TOTAL, it->out.bytes,
+                                it->out.size, &it->needed);
     free(goods);
     return status;
 }
@@ -79,7 +80,7 @@ static uint8_t revenue_of(struct edge *it, size_t count) {
     uint32_t *bids = calloc(count ? count : 1, sizeof *bids);
     if (!bids)
         exit(70);
-    uint8_t status = cats_revenue(it->left.bytes, it->left.size, bids, count, it->out.bytes, it->out.size, &it->needed);
+    uint8_t status = cats_revenue(it->left.bytes, it->left.size, it->prices, bids, count, it->out.bytes, it->out.size, &it->needed);
     free(bids);
     return status;
 }
@@ -93,25 +94,29 @@ static uint8_t revenue_of_none(struct edge *it) {
 }
 
 static uint8_t lp(struct edge *it) {
-    return cats_lp(it->left.bytes, it->left.size, it->out.bytes, it->out.size, &it->needed);
+    return cats_lp(it->left.bytes, it->left.size, it->prices, it->out.bytes, it->out.size, &it->needed);
 }
 
 static uint8_t normalise(struct edge *it) {
-    return cats_normalise(it->left.bytes, it->left.size, CATS_STEPS, CATS_NO_TOTAL, it->out.bytes, it->out.size, &it->needed);
+    return cats_normalise(it->left.bytes, it->left.size, it->prices, CATS_STEPS, CATS_NO_TOTAL, it->out.bytes, it->out.size, &it->needed);
 }
 
 static uint8_t explain(struct edge *it) {
-    return cats_explain(it->left.bytes, it->left.size, FEW_STEPS, CATS_NO_TOTAL, it->out.bytes, it->out.size, &it->needed);
+    return cats_explain(it->left.bytes, it->left.size, it->prices, FEW_STEPS, CATS_NO_TOTAL, it->out.bytes, it->out.size, &it->needed);
+}
+
+static uint8_t sizes(struct edge *it) {
+    return cats_sizes(it->left.bytes, it->left.size, it->prices, CATS_STEPS, FEW_STEPS, it->out.bytes, it->out.size, &it->needed);
 }
 
 static uint8_t compare(struct edge *it) {
-    return cats_compare(it->left.bytes, it->left.size, it->right.bytes, it->right.size, CATS_STEPS, CATS_NO_TOTAL, it->out.bytes,
-                        it->out.size, &it->needed);
+    return cats_compare(it->left.bytes, it->left.size, it->right.bytes, it->right.size, it->prices, CATS_STEPS, CATS_NO_TOTAL,
+                        it->out.bytes, it->out.size, &it->needed);
 }
 
 static uint8_t diff(struct edge *it) {
-    return cats_diff(it->left.bytes, it->left.size, it->right.bytes, it->right.size, CATS_STEPS, FEW_STEPS, it->out.bytes, it->out.size,
-                     &it->needed);
+    return cats_diff(it->left.bytes, it->left.size, it->right.bytes, it->right.size, it->prices, CATS_STEPS, FEW_STEPS, it->out.bytes,
+                     it->out.size, &it->needed);
 }
 
 static uint8_t round_prices(struct edge *it) {
@@ -158,32 +163,43 @@ static void try_sizes(const char *name, call *made, struct edge *edge, size_t mo
     wrong += is_wrong;
 }
 
-static void try_calls(struct block left, struct block right) {
-    struct edge edge = {.left = left, .right = right};
+// The calls that read a text as `prices` says. A text whose prices are rounded counts with the size that rounding it needs.
+static void try_calls(struct block left, struct block right, uint8_t prices) {
+    struct edge edge = {.left = left, .right = right, .prices = prices};
+    size_t length = prices == CATS_AS_WRITTEN ? left.size : CATS_ROUND_SIZE(left.size);
+    size_t second = prices == CATS_AS_WRITTEN ? right.size : CATS_ROUND_SIZE(right.size);
     try_sizes("cats_check", check, &edge, CATS_CHECK_SIZE);
-    try_sizes("cats_fault", fault, &edge, CATS_FAULT_SIZE);
-    try_sizes("cats_show", show, &edge, CATS_SHOW_SIZE(left.size));
-    try_sizes("cats_value", value, &edge, CATS_VALUE_SIZE(left.size));
-    try_sizes("cats_value of no good", value_of_none, &edge, CATS_VALUE_SIZE(left.size));
+    try_sizes("cats_show", show, &edge, CATS_SHOW_SIZE(length));
+    try_sizes("cats_value", value, &edge, CATS_VALUE_SIZE(length));
+    try_sizes("cats_value of no good", value_of_none, &edge, CATS_VALUE_SIZE(length));
     try_sizes("cats_revenue", revenue, &edge, CATS_REVENUE_SIZE);
     try_sizes("cats_revenue of no bid", revenue_of_none, &edge, CATS_REVENUE_SIZE);
-    try_sizes("cats_lp", lp, &edge, CATS_LP_SIZE(left.size));
-    try_sizes("cats_normalise", normalise, &edge, CATS_NORMALISE_SIZE(left.size));
-    try_sizes("cats_explain", explain, &edge, CATS_EXPLAIN_SIZE(left.size));
-    try_sizes("cats_compare", compare, &edge, CATS_COMPARE_SIZE(left.size, right.size));
-    try_sizes("cats_diff", diff, &edge, CATS_DIFF_SIZE(left.size, right.size));
+    try_sizes("cats_lp", lp, &edge, CATS_LP_SIZE(length));
+    try_sizes("cats_normalise", normalise, &edge, CATS_NORMALISE_SIZE(length));
+    try_sizes("cats_explain", explain, &edge, CATS_EXPLAIN_SIZE(length));
+    try_sizes("cats_sizes", sizes, &edge, CATS_SIZES_SIZE);
+    try_sizes("cats_compare", compare, &edge, CATS_COMPARE_SIZE(length, second));
+    try_sizes("cats_diff", diff, &edge, CATS_DIFF_SIZE(length, second));
+}
+
+static void try_all_calls(struct block left, struct block right) {
+    struct edge edge = {.left = left, .right = right};
+    try_sizes("cats_fault", fault, &edge, CATS_FAULT_SIZE);
     try_sizes("cats_round", round_prices, &edge, CATS_ROUND_SIZE(left.size));
+    try_calls(left, right, CATS_AS_WRITTEN);
+    try_calls(left, right, CATS_ROUNDED);
+    try_calls(left, right, CATS_ROUNDED_EXACTLY);
 }
 
 int main(int count, char **paths) {
     struct block left = new_block(0);
     for (int number = 1; number < count; number++) {
         struct block right = read_file(paths[number]);
-        try_calls(left, right);
+        try_all_calls(left, right);
         free(left.bytes);
         left = right;
     }
-    try_calls(left, left);
+    try_all_calls(left, left);
     free(left.bytes);
     return wrong ? 1 : 0;
 }

@@ -48,7 +48,8 @@ static uint8_t compare(struct text left, struct text right) {
     uint8_t *out = malloc(size);
     if (!out)
         return CATS_WANT_OF_MEMORY;
-    uint8_t status = cats_compare(left.bytes, left.length, right.bytes, right.length, CATS_STEPS, CATS_NO_TOTAL, out, size, &needed);
+    uint8_t status = cats_compare(left.bytes, left.length, right.bytes, right.length, CATS_AS_WRITTEN, CATS_STEPS, CATS_NO_TOTAL, out, size,
+                                  &needed);
     print(status, out, needed);
     free(out);
     return status;
@@ -59,7 +60,7 @@ static uint8_t normalise(struct text text) {
     uint8_t *out = malloc(size);
     if (!out)
         return CATS_WANT_OF_MEMORY;
-    uint8_t status = cats_normalise(text.bytes, text.length, CATS_STEPS, CATS_NO_TOTAL, out, size, &needed);
+    uint8_t status = cats_normalise(text.bytes, text.length, CATS_AS_WRITTEN, CATS_STEPS, CATS_NO_TOTAL, out, size, &needed);
     print(status, out, needed);
     free(out);
     return status;

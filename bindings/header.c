@@ -10,6 +10,6 @@ int main(void) {
     const uint8_t text[] = {'x'};
     uint8_t out[CATS_CHECK_SIZE];
     size_t needed;
-    uint8_t status = cats_check(text, sizeof text, out, sizeof out, &needed);
+    uint8_t status = cats_check(text, sizeof text, CATS_AS_WRITTEN, out, sizeof out, &needed);
     return status == CATS_REFUSED && cats_version() == CATS_VERSION_NUMBER ? 0 : 1;
 }

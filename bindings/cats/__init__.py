@@ -14,9 +14,9 @@ that would change the value of a price.
 The library is looked for in the folder of this package (`libcats.so`), then in the folder that holds the package (`libcats.so`,
 `libcats.so.0`), and then where the system looks for libraries (`libcats.so.0`, `libcats.so`).
 """
-from cats._auction import Auction, read, sizes
+from cats._auction import Auction, read
 from cats._bids import Bid
-from cats._calls import check, compare, diff, duplicates, explain, lp, normalise, revenue, round_prices, show, value
+from cats._calls import check, compare, diff, duplicates, explain, lp, normalise, revenue, round_prices, show, sizes, value
 from cats._library import STEPS
 from cats._library import check_version as _check_version
 from cats._tables import Allocation, Change, Difference, Reason, Rounded, Rows, Sizes, SizesRow, Value, Verdict, XorValue

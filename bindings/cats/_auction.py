@@ -6,10 +6,10 @@ from functools import partial
 from typing import Iterable, Optional, Tuple, Type, TypeVar, Union
 
 from cats._bids import Bid, BidLike, bid_lines, bid_of, text_of
-from cats._calls import check, compare, diff, explain, lp, normalise, revenue, value
-from cats._library import STEPS
+from cats._calls import check, compare, diff, explain, lp, normalise, revenue, sizes, value
+from cats._library import STEPS, Prices
 from cats._tables import Allocation, Difference, Reason, Rows, SizesRow, Value
-from cats._texts import Rounding, TextOrPath, bytes_of, texts_of
+from cats._texts import Rounding, TextOrPath, bytes_of, prices_of, rounded
 
 A = TypeVar("A", bound="Auction")
 
@@ -85,8 +85,7 @@ class Auction:
 
     def sizes(self, steps: int = STEPS, *, total: Optional[int] = None) -> SizesRow:
         """The sizes of the auction and of its canonical auction."""
-        kept = self.normalise(steps, total=total).bids
-        return SizesRow(self.goods, len(self.bids), *bidders_of(self.bids), self.dummies, len(kept), *bidders_of(kept))
+        return sizes(self._text, steps, total=total)
 
     def same_as(self, other: Union[Auction, TextOrPath], steps: int = STEPS, *, total: Optional[int] = None) -> bool:
         """Whether the other file is the same auction."""
@@ -110,12 +109,6 @@ class Auction:
         return f"<Auction goods={goods} bids={bids} dummies={dummies}>"
 
 
-def bidders_of(bids: Iterable[Bid]) -> Tuple[int, int]:
-    """How many bids have no dummy good, and how many dummy goods some bid has."""
-    dummies = [bid.dummy for bid in bids]
-    return dummies.count(None), len({*dummies} - {None})
-
-
 def text_in(other: Union[Auction, TextOrPath]) -> TextOrPath:
     return other.text if isinstance(other, Auction) else other
 
@@ -126,14 +119,6 @@ def read(path_or_bytes: TextOrPath, *, round: Rounding = False) -> Auction:
     >>> read(b"goods 3\\nbids 1\\ndummy 0\\n0 20 2 1 #\\n").bids[0].goods
     (1, 2)
     """
-    (text,) = texts_of([path_or_bytes], round)
-    return Auction(text)
-
-
-def sizes(text: TextOrPath, steps: int = STEPS, *, total: Optional[int] = None, round: Rounding = False) -> SizesRow:
-    """The sizes of a file and of its canonical file.
-
-    >>> sizes(b"goods 2\\nbids 3\\ndummy 1\\n0 3 0 #\\n1 2 0 #\\n2 4 1 2 #\\n")
-    SizesRow(goods=2, bids=3, or_bids=2, xor_bidders=1, dummies=1, kept=2, kept_or_bids=1, kept_xor_bidders=1)
-    """
-    return read(text, round=round).sizes(steps, total=total)
+    prices = prices_of(round)
+    text = bytes_of(path_or_bytes)
+    return Auction(text if prices == Prices.AS_WRITTEN else rounded(text, prices == Prices.ROUNDED_EXACTLY)[0])

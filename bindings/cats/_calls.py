@@ -4,9 +4,9 @@ from __future__ import annotations
 from typing import Dict, Iterable, List, Optional, Sequence, Tuple, TypeVar
 
 from cats._library import LINE, STEPS
-from cats._tables import Allocation, Difference, Reason, Rounded, Rows, Sizes, Value, Verdict
-from cats._tables import allocation_of, changes_of, differences_of, reasons_of, sizes_of, value_of, verdict_of
-from cats._texts import Rounding, TextOrPath, answer_on, bids_of, bytes_of, goods_of, limits_of, rounded, texts_of
+from cats._tables import Allocation, Difference, Reason, Rounded, Rows, Sizes, SizesRow, Value, Verdict
+from cats._tables import allocation_of, changes_of, differences_of, reasons_of, row_of_sizes, sizes_of, value_of, verdict_of
+from cats._texts import Rounding, TextOrPath, answer_on, bids_of, bytes_of, goods_of, limits_of, prices_of, rounded
 from cats.errors import CatsError, NoSuchBid, NoSuchGood, RefusedText, StepLimit  # noqa: F401: for the examples
 
 # How many bytes an output mostly takes for each byte of the texts. One that takes more is asked for again.
@@ -129,6 +129,15 @@ def lp(text: TextOrPath, *, round: Rounding = False) -> bytes:
     return answer_on_texts("cats_lp", [text], round, [], LP)
 
 
+def sizes(text: TextOrPath, steps: int = STEPS, *, total: Optional[int] = None, round: Rounding = False) -> SizesRow:
+    """The sizes of a file and of its canonical file.
+
+    >>> sizes(b"goods 2\\nbids 3\\ndummy 1\\n0 3 0 #\\n1 2 0 #\\n2 4 1 2 #\\n")
+    SizesRow(goods=2, bids=3, or_bids=2, xor_bidders=1, dummies=1, kept=2, kept_or_bids=1, kept_xor_bidders=1)
+    """
+    return row_of_sizes(answer_on_texts("cats_sizes", [text], round, limits_of(steps, total), 0))
+
+
 def round_prices(text: TextOrPath, exact: bool = False) -> Rounded:
     """The text with each price rounded to the nearest millionth, ties to even, and the prices whose values changed. If `exact`, a text with
     such a price is refused.
@@ -194,5 +203,6 @@ def duplicates(
 
 def answer_on_texts(name: str, texts: Sequence[TextOrPath], round: Rounding, words: Sequence[object], times: int) -> bytes:
     """The output of a call on texts and these words, which mostly takes at most so many times the length of the texts, and a line."""
-    read = texts_of(texts, round)
-    return answer_on(name, read, words, times * sum(map(len, read)) + LINE)
+    prices = prices_of(round)
+    read = [bytes_of(text) for text in texts]
+    return answer_on(name, read, prices, words, times * sum(map(len, read)) + LINE)

@@ -31,7 +31,16 @@ class Status(enum.IntEnum):
     WRONG_USAGE = 64
 
 
+class Prices(enum.IntEnum):
+    """How a text is read, or each of two: `enum cats_prices`."""
+
+    AS_WRITTEN = 0
+    ROUNDED = 1
+    ROUNDED_EXACTLY = 2
+
+
 TEXT: List[Any] = [c_char_p, c_size_t]
+PRICES: List[Any] = [c_uint8]
 GOODS: List[Any] = [POINTER(c_uint16), c_size_t]
 BIDS: List[Any] = [POINTER(c_uint32), c_size_t]
 LIMITS: List[Any] = [c_uint64, c_uint64]
@@ -39,16 +48,17 @@ OUT: List[Any] = [c_void_p, c_size_t, POINTER(c_size_t)]
 
 ARGUMENTS: Dict[str, List[Any]] = {
     "cats_version": [],
-    "cats_check": [*TEXT, *OUT],
+    "cats_check": [*TEXT, *PRICES, *OUT],
     "cats_fault": [*TEXT, *OUT],
-    "cats_show": [*TEXT, *OUT],
-    "cats_value": [*TEXT, *GOODS, *LIMITS, *OUT],
-    "cats_normalise": [*TEXT, *LIMITS, *OUT],
-    "cats_explain": [*TEXT, *LIMITS, *OUT],
-    "cats_revenue": [*TEXT, *BIDS, *OUT],
-    "cats_lp": [*TEXT, *OUT],
-    "cats_compare": [*TEXT, *TEXT, *LIMITS, *OUT],
-    "cats_diff": [*TEXT, *TEXT, *LIMITS, *OUT],
+    "cats_show": [*TEXT, *PRICES, *OUT],
+    "cats_value": [*TEXT, *PRICES, *GOODS, *LIMITS, *OUT],
+    "cats_normalise": [*TEXT, *PRICES, *LIMITS, *OUT],
+    "cats_explain": [*TEXT, *PRICES, *LIMITS, *OUT],
+    "cats_sizes": [*TEXT, *PRICES, *LIMITS, *OUT],
+    "cats_revenue": [*TEXT, *PRICES, *BIDS, *OUT],
+    "cats_lp": [*TEXT, *PRICES, *OUT],
+    "cats_compare": [*TEXT, *TEXT, *PRICES, *LIMITS, *OUT],
+    "cats_diff": [*TEXT, *TEXT, *PRICES, *LIMITS, *OUT],
     "cats_round": [*TEXT, c_bool, *OUT, *OUT],
 }
 
@@ -124,9 +134,9 @@ def call(name: str, arguments: Sequence[object], *sizes: int) -> Tuple[int, List
         buffers = [Buffer(it.needed.value) if it.is_too_small() else it for it in buffers]
 
 
-def answer(name: str, arguments: Sequence[object], *sizes: int, prefix: bytes = b"") -> List[bytes]:
-    """The outputs of a call. Raises an exception for what is refused, whose line is behind the prefix."""
+def answer(name: str, arguments: Sequence[object], *sizes: int) -> List[bytes]:
+    """The outputs of a call. Raises an exception for what is refused, whose line may be behind cells."""
     status, outputs = call(name, arguments, *sizes)
     if status not in (Status.DONE, Status.DIFFERENT):
-        raise error_of(status, prefix + outputs[0])
+        raise error_of(status, outputs[0].rpartition(b"\t")[2])
     return outputs

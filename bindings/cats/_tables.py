@@ -162,6 +162,11 @@ def sizes_of(printed: bytes) -> Sizes:
     return Sizes(int(goods), int(bids), int(dummies))
 
 
+def row_of_sizes(printed: bytes) -> SizesRow:
+    """Eight numbers, with a tab after each."""
+    return SizesRow(*map(int, printed.split(b"\t")[:-1]))
+
+
 def value_of(printed: bytes) -> Value:
     """`or`, the value, and bids; then for each dummy good a line: `xor`, the dummy good, the value, and perhaps a bid."""
     (_, price, *packing), *xor = map(bytes.split, printed.splitlines())

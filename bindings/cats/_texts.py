@@ -1,4 +1,4 @@
-"""The arguments of the calls: texts, goods, bids, and the limits of searches."""
+"""The arguments of the calls: texts, what becomes of their prices, goods, bids, and the limits of searches."""
 from __future__ import annotations
 
 import mmap
@@ -6,16 +6,16 @@ import os
 from ctypes import c_uint16, c_uint32
 from functools import partial
 from operator import index
-from typing import Iterable, List, Literal, Optional, Sequence, Union
+from typing import Callable, Iterable, List, Literal, Optional, Sequence, Union
 
-from cats._library import LINE, NO_TOTAL, answer
+from cats._library import LINE, NO_TOTAL, Prices, answer
 from cats._places import place_in, place_in_rounded
-from cats.errors import NoSuchBid, NoSuchGood, RefusedText
+from cats.errors import NoSuchBid, NoSuchGood, Place, RefusedText
 
 # The bytes of a file, or its path.
 TextOrPath = Union[bytes, bytearray, memoryview, mmap.mmap, "os.PathLike[str]", "os.PathLike[bytes]"]
 
-# Whether prices are rounded before a text is read: no, yes, or yes and the text is refused if a price's value would change.
+# Whether a text is read with its prices rounded: no, yes, or yes and the text is refused if a price's value would change.
 Rounding = Union[bool, Literal["exact"]]
 
 # One more than the greatest limit, and than the greatest number of a good and of a bid that the library takes. No file has a greater one.
@@ -36,36 +36,40 @@ def bytes_of(text: TextOrPath) -> bytes:
         raise TypeError(f"a text is bytes or an os.PathLike, and no {kind}: pathlib.Path(name) is a path, and text.encode() a text") from None
 
 
-def texts_of(texts: Sequence[TextOrPath], round: Rounding) -> List[bytes]:
-    """The bytes of one text, or of two, as `round_prices` prints them if they are to be rounded."""
+def prices_of(round: Rounding) -> Prices:
+    """What becomes of prices, as the library takes it."""
     if round not in (False, True, "exact"):
         raise ValueError(f'round is False, True or "exact", and not {round!r}')
-    read = [bytes_of(text) for text in texts]
-    if not round:
-        return read
-    prefixes = [b"first: ", b"second: "] if len(read) == 2 else [b""]
-    return [rounded(text, round == "exact", prefix)[0] for text, prefix in zip(read, prefixes)]
+    return Prices.ROUNDED_EXACTLY if round == "exact" else Prices.ROUNDED if round else Prices.AS_WRITTEN
 
 
-def rounded(text: bytes, exact: bool, prefix: bytes = b"") -> List[bytes]:
-    """A text with its prices rounded, and the lines on those that changed. The line of a refusal is behind the prefix."""
+def rounded(text: bytes, exact: bool) -> List[bytes]:
+    """A text with its prices rounded, and the lines on those that changed."""
     try:
-        return answer("cats_round", [text, len(text), exact], len(text) + LINE, LINE, prefix=prefix)
+        return answer("cats_round", [text, len(text), exact], len(text) + LINE, LINE)
     except RefusedText as fault:
-        if fault.line is not None:
-            fault._find = partial(place_in_rounded, text, fault.line, exact)
+        fault._find = finder(text, fault.line, Prices.ROUNDED_EXACTLY if exact else Prices.ROUNDED)
         raise
 
 
-def answer_on(name: str, texts: Sequence[bytes], words: Sequence[object], size: int) -> bytes:
-    """The output of a call on texts and these words."""
+def answer_on(name: str, texts: Sequence[bytes], prices: Prices, words: Sequence[object], size: int) -> bytes:
+    """The output of a call on texts, which are read so, and these words."""
     arguments = [word for text in texts for word in (text, len(text))]
     try:
-        (out,) = answer(name, [*arguments, *words], size)
+        (out,) = answer(name, [*arguments, prices, *words], size)
     except RefusedText as fault:
-        fault._find = partial(place_in, texts[fault.which == "second"])
+        fault._find = finder(texts[fault.which == "second"], fault.line, prices)
         raise
     return out
+
+
+def finder(text: bytes, line: Optional[int], prices: Prices) -> Optional[Callable[[], Place]]:
+    """What finds the place of the first fault of a text that is read so, which is on this line. Without a line it has none."""
+    if line is None:
+        return None
+    if prices == Prices.AS_WRITTEN:
+        return partial(place_in, text)
+    return partial(place_in_rounded, text, line, prices == Prices.ROUNDED_EXACTLY)
 
 
 def goods_of(goods: Iterable[int]) -> List[object]:

@@ -1,6 +1,5 @@
 """`sizes` and `duplicates` answer what the program does, on the examples and on random texts."""
 import pathlib
-import re
 import subprocess
 
 import pytest
@@ -25,11 +24,6 @@ def cells_of_package(path):
         return [*[""] * 8, str(fault)]
 
 
-def without_bid(fault):
-    """A fault as `normalise` reports it: the program may name the bid of a step limit."""
-    return re.sub(r"step limit of \d+ at bid \d+: ", "step limit at ", fault)
-
-
 @pytest.fixture(scope="module")
 def paths(root, tmp_path_factory):
     made = write_texts(tmp_path_factory.mktemp("many"), made_texts())
@@ -43,7 +37,7 @@ def test_sizes(program, paths):
     kinds = set()
     for path, (*cells, fault, _) in zip(paths, rows):
         own = cells_of_package(path)
-        assert own == ([*[""] * 8, without_bid(fault)] if fault else [*cells, fault])
+        assert own == ([*[""] * 8, fault] if fault else [*cells, fault])
         kinds.add(fault.split(" ")[0])
     assert kinds == {"", "line", "step"}
 

@@ -72,3 +72,9 @@ def test_other_words(call):
     for round in ("Exact", "", None, 2, b"exact"):
         with pytest.raises(ValueError):
             call(BIDS, round=round)
+
+
+def test_the_first_text_is_searched_before_the_second_is_rounded():
+    for call in (cats.compare, cats.diff):
+        with pytest.raises(cats.StepLimit):
+            call(BIDS, b"no file", 0, round=True)
