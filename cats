@@ -2,5 +2,4 @@
 # Runs the proved program; tools/build proves and builds it first if it is not built from the files as they are. Status 70: that
 # failed. It may be called through a symbolic link.
 root=$(dirname "$(readlink -f -- "$0")") || exit 70
-command -v python3 > /dev/null || { echo 'cats is built by tools/build, which needs Python 3, and there is no python3' >&2; exit 70; }
 exec "$root/tools/build" --then "$root/out/cats" "$@"
