@@ -199,8 +199,8 @@ def check_long_texts():
         before = [BIDS] * (call.texts - 1)
         status, buffers = call_library(TESTED, call, [*before, (zeros, length)], [LINE] * call.outputs())
         out = buffers[0].bytes.raw[: buffers[0].needed.value]
-        wanted = (Status.REFUSED, b"second: " + line if before else line)
-        TALLY.judge((status, out) == wanted, f"{call} on {length} bytes", (status, out))
+        prefix = b"second: " if before else b"\t" * 8 if call.name() == "sizes" else b""
+        TALLY.judge((status, out) == (Status.REFUSED, prefix + line), f"{call} on {length} bytes", (status, out))
 
 
 def main():
