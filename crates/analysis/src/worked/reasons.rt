@@ -74,7 +74,7 @@ pub fn xor_bids()
         (Keep 1 ∷ Keep 0 ∷ []) }
 {}
 
-/// The reason of each bid. A packing is the one that the bounded search finds: it goes through the points from the last
+/// The reason of each bid. A packing is the one that the bounded search finds: it visits the points from the last
 /// to the first.
 #[tactic(auto, unfolding(prune::specs::Points::points_where, prune::specs::Points::is_xor_point, prune::specs::Points::is_or_point, valuation::specs::Values::xor_value, valuation::specs::Values::or_value, valuation::specs::SearchSteps::found_indices, prune::specs::Fates::found_places, prune::specs::Fates::or_fate, prune::specs::Fates::xor_fate, crate::specs::Reasons::reason_of))]
 pub fn reasons()
