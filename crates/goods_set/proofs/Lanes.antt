@@ -29,18 +29,18 @@ fold_none (x ∷ xs) a (suc k) e l =
     (omega (arith, r.0), r.1)
 
 pub record Somewhere (P : ℕ → Type 0) (n : ℕ) : Type 0 where
-  pub place : ℕ
-  pub within : place < n
-  pub holds : P place
+  pub index : ℕ
+  pub within : index < n
+  pub holds : P index
 
 pub fold_some : (xs : List ℕ) (a : ℕ) → a ≡ 0 → fold_l bit_or a xs ≢ 0 → Somewhere (λ k. get_or xs k 0 ≢ 0) (length xs)
 fold_some [] a z n = absurd (n z)
 fold_some (x ∷ xs) a z n =
     ⊎_elim (λ (e : x ≡ 0).
     let r : Somewhere (λ k. get_or xs k 0 ≢ 0) (length xs) = fold_some xs (bit_or a x) (ap₂ (λ (b c : ℕ). bit_or b c) z e ∙ or_zero_l 0) n in
-    let l : r.place < length xs = r.within in
-    record { place = suc r.place; within = omega arith; holds = r.holds })
-    (λ (d : x ≡ 0 → ⊥). record { place = 0; within = omega arith; holds = d })
+    let l : r.index < length xs = r.within in
+    record { index = suc r.index; within = omega arith; holds = r.holds })
+    (λ (d : x ≡ 0 → ⊥). record { index = 0; within = omega arith; holds = d })
     (cases_eq x 0)
 
 -- ---- the lanes are the words
@@ -91,8 +91,8 @@ pub some_here : (f : ℕ → ℕ → ℕ) (xs ys : List ℕ) (i : ℕ) (vs : Lis
 some_here f xs ys i vs v l n =
     let s : Somewhere (λ k. get_or vs k 0 ≢ 0) (length vs) = fold_some vs 0 refl n in
     let m : length vs ≡ 8 = v.many in
-    let w : s.place < length vs = s.within in
-    record { place = i + s.place; within = omega arith; holds = λ e. s.holds (v.lane s.place (omega arith) ∙ e) }
+    let w : s.index < length vs = s.within in
+    record { index = i + s.index; within = omega arith; holds = λ e. s.holds (v.lane s.index (omega arith) ∙ e) }
 
 -- the step of a loop that writes f of each word: what is written, and what is not yet
 pub written_more : (f : ℕ → ℕ → ℕ) (first xs ys : List ℕ) (i : ℕ) (vs : List ℕ) → AreLanes f xs ys i vs → i + 8 ≤ length xs

@@ -1,6 +1,5 @@
 -- Proofs that several functions of this crate cite.
 pub mod Bits
-pub mod Marks
 pub mod Firsts
 pub mod Lanes
 pub mod Places

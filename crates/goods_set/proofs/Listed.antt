@@ -1,4 +1,4 @@
--- The goods of words, listed: those of one word after another, and in a word the place of its lowest bit that is set, and then
+-- The goods of words, listed: those of one word after another, and in a word the index of its lowest bit that is set, and then
 -- those of the word without it.
 use Rattle.std.proofs.Common.{◌≡◌, ℕ, zero, suc, ◌+◌, ◌-◌, ◌*◌, ◌/◌, ◌%◌, ◌^◌, ◌<◌, ◌≤◌, ◌≢◌, Bool, true, false, cond, eqb, ⊎_elim, List, [], ◌∷◌, ◌++◌, map}
 use Rattle.std.proofs.Common.{length}
@@ -68,22 +68,22 @@ lowest_first w t l here low =
 
 -- the step of a loop over the bits of a word
 pub bits_more : (w t first : ℕ) (out new all : List ℕ) → w ≢ 0 → w < 2 ^ 64 → t ≡ trailing_zeros w64 w → new ≡ out ++ (first + t) ∷ []
-    → out ++ map (λ place. first + place) (word_goods 64 (w ∷ [])) ≡ all
-    → new ++ map (λ place. first + place) (word_goods 64 (later_bits w ∷ [])) ≡ all
+    → out ++ map (λ index. first + index) (word_goods 64 (w ∷ [])) ≡ all
+    → new ++ map (λ index. first + index) (word_goods 64 (later_bits w ∷ [])) ≡ all
 bits_more w t first out new all some fits is more before =
     let low : (trailing_zeros w64 w < 64) × (bit_at w (trailing_zeros w64 w) ≡ 1) × ((i : ℕ) → i < trailing_zeros w64 w → bit_at w i ≡ 0) =
     bit_at-trailing_zeros w64 w (omega arith) fits in
     let next : word_goods 64 (w ∷ []) ≡ t ∷ word_goods 64 (later_bits w ∷ []) =
     lowest_first w t (omega arith) (ap (bit_at w) is ∙ low.1) (λ i l. low.2 i (omega arith)) in
-    let rest : List ℕ = map (λ place. first + place) (word_goods 64 (later_bits w ∷ [])) in
+    let rest : List ℕ = map (λ index. first + index) (word_goods 64 (later_bits w ∷ [])) in
     ap (λ (xs : List ℕ). xs ++ rest) more ∙ append_assoc out ((first + t) ∷ []) rest
-    ∙ ap (λ (xs : List ℕ). out ++ map (λ place. first + place) xs) (sym next) ∙ before
+    ∙ ap (λ (xs : List ℕ). out ++ map (λ index. first + index) xs) (sym next) ∙ before
 
 -- no bit is left
-pub bits_all : (first : ℕ) (out all : List ℕ) (w : ℕ) → w ≡ 0 → out ++ map (λ place. first + place) (word_goods 64 (w ∷ [])) ≡ all → out ≡ all
+pub bits_all : (first : ℕ) (out all : List ℕ) (w : ℕ) → w ≡ 0 → out ++ map (λ index. first + index) (word_goods 64 (w ∷ [])) ≡ all → out ≡ all
 bits_all first out all w none before =
     let empty : word_goods 64 (w ∷ []) ≡ [] = ap (λ v. word_goods 64 (v ∷ [])) none ∙ no_bits 64 1 in
-    sym (append-nil out) ∙ ap (λ (xs : List ℕ). out ++ map (λ place. first + place) xs) (sym empty) ∙ before
+    sym (append-nil out) ∙ ap (λ (xs : List ℕ). out ++ map (λ index. first + index) xs) (sym empty) ∙ before
 
 -- how many bits are left falls
 pub fewer_bits : (w t : ℕ) → w ≢ 0 → w < 2 ^ 64 → t ≡ trailing_zeros w64 w → length (word_goods 64 (later_bits w ∷ []))
@@ -117,7 +117,7 @@ filter_split p a (suc m) n =
 -- the goods from the one at bit i of word k on, by the bits of the word
 shifted : (ws : List ℕ) (k j i n : ℕ) → j ≡ 64 * k + i → i + n ≤ 64
     → filter (λ g. eqb (word_bit ws g) 1) (range_with_len j n)
-    ≡ map (λ place. 64 * k + place) (filter (λ g. eqb (word_bit (get_or ws k 0 ∷ []) g) 1) (range_with_len i n))
+    ≡ map (λ index. 64 * k + index) (filter (λ g. eqb (word_bit (get_or ws k 0 ∷ []) g) 1) (range_with_len i n))
 shifted ws k j i zero e l = refl
 shifted ws k j i (suc n) e l =
     let h = shifted ws k (j + 1) (i + 1) n (omega arith) (omega arith) in
@@ -125,14 +125,14 @@ shifted ws k j i (suc n) e l =
     ∙ sym (one_word (get_or ws k 0) i (omega arith)) in
     one (eqb (word_bit ws j) 1) (eqb (word_bit (get_or ws k 0 ∷ []) i) 1) _ _ (ap (λ x. eqb x 1) b) h
   where
-    one : (c d : Bool) (xs ys : List ℕ) → c ≡ d → xs ≡ map (λ place. 64 * k + place) ys
-        → cond c (j ∷ xs) xs ≡ map (λ place. 64 * k + place) (cond d (i ∷ ys) ys)
+    one : (c d : Bool) (xs ys : List ℕ) → c ≡ d → xs ≡ map (λ index. 64 * k + index) ys
+        → cond c (j ∷ xs) xs ≡ map (λ index. 64 * k + index) (cond d (i ∷ ys) ys)
     one true true xs ys q h = ap₂ (λ (x : ℕ) (zs : List ℕ). x ∷ zs) e h
     one true false xs ys q h = absurd (cc)
     one false true xs ys q h = absurd (cc)
     one false false xs ys q h = h
 
-one_word_more : (ws : List ℕ) (k : ℕ) → word_goods (64 * (k + 1)) ws ≡ word_goods (64 * k) ws ++ map (λ place. 64 * k + place)
+one_word_more : (ws : List ℕ) (k : ℕ) → word_goods (64 * (k + 1)) ws ≡ word_goods (64 * k) ws ++ map (λ index. 64 * k + index)
     (word_goods 64 (get_or ws k 0 ∷ []))
 unfolding word_goods
 one_word_more ws k =
@@ -144,11 +144,11 @@ one_word_more ws k =
 
 -- the step of a loop over words
 pub words_more : (ws : List ℕ) (k first word : ℕ) (before out new : List ℕ) → first ≡ 64 * k → word ≡ get_or ws k 0 → out ≡ before ++ word_goods (64 * k) ws
-    → new ≡ out ++ map (λ place. first + place) (word_goods 64 (word ∷ [])) → new ≡ before ++ word_goods (64 * (k + 1)) ws
+    → new ≡ out ++ map (λ index. first + index) (word_goods 64 (word ∷ [])) → new ≡ before ++ word_goods (64 * (k + 1)) ws
 words_more ws k first word before out new f w so more =
-    more ∙ ap₂ (λ (n v : ℕ). out ++ map (λ place. n + place) (word_goods 64 (v ∷ []))) f w
-    ∙ ap (λ (xs : List ℕ). xs ++ map (λ place. 64 * k + place) (word_goods 64 (get_or ws k 0 ∷ []))) so
-    ∙ append_assoc before (word_goods (64 * k) ws) (map (λ place. 64 * k + place) (word_goods 64 (get_or ws k 0 ∷ [])))
+    more ∙ ap₂ (λ (n v : ℕ). out ++ map (λ index. n + index) (word_goods 64 (v ∷ []))) f w
+    ∙ ap (λ (xs : List ℕ). xs ++ map (λ index. 64 * k + index) (word_goods 64 (get_or ws k 0 ∷ []))) so
+    ∙ append_assoc before (word_goods (64 * k) ws) (map (λ index. 64 * k + index) (word_goods 64 (get_or ws k 0 ∷ [])))
     ∙ ap (λ (xs : List ℕ). before ++ xs) (sym (one_word_more ws k))
 
 pub words_none : (ws before : List ℕ) → before ≡ before ++ word_goods (64 * 0) ws

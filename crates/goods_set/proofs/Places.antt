@@ -108,7 +108,7 @@ none_behind [] i e = refl
 none_behind (x ∷ xs) zero e = absurd (cc)
 none_behind (x ∷ xs) (suc i) e = none_behind xs i e
 
--- behind the good at a place comes the one at the next place
+-- behind the good at an index comes the one at the next index
 pub good_behind : (xs : List ℕ) (i x : ℕ) → IsRising xs → slice_get xs i ≡ Some x → good_from xs (x + 1) ≡ slice_get xs (i + 1)
 good_behind xs i x r e = let next : suc i ≡ i + 1 = omega arith in behind xs i x r e ∙ ap (slice_get xs) next
 

@@ -111,13 +111,13 @@ count_fits cap ws = length_filter (λ g. eqb (word_bit ws g) 1) 0 cap
 
 -- ---- the next good
 
--- a scan from `from` on has come to the word at `place`, of which `rest` is what is left
-pub record IsScan (ws : List ℕ) (from place rest : ℕ) : Type 0 where
-  pub reached : from < 64 * (place + 1)
-  pub passed : (g : ℕ) → from ≤ g → g < 64 * place → word_bit ws g ≡ 0
+-- a scan from `from` on has come to the word at `index`, of which `rest` is what is left
+pub record IsScan (ws : List ℕ) (from index rest : ℕ) : Type 0 where
+  pub reached : from < 64 * (index + 1)
+  pub passed : (g : ℕ) → from ≤ g → g < 64 * index → word_bit ws g ≡ 0
   pub fits : rest < 2 ^ 64
-  pub above : (i : ℕ) → i < 64 → from ≤ 64 * place + i → bit_at rest i ≡ bit_at (get_or ws place 0) i
-  pub below : (i : ℕ) → i < 64 → 64 * place + i < from → bit_at rest i ≡ 0
+  pub above : (i : ℕ) → i < 64 → from ≤ 64 * index + i → bit_at rest i ≡ bit_at (get_or ws index 0) i
+  pub below : (i : ℕ) → i < 64 → 64 * index + i < from → bit_at rest i ≡ 0
 
 scan_masked : (w k rest i : ℕ) → k < 64 → rest ≡ bit_and w ((2 ^ 64 - 1) * 2 ^ k % 2 ^ 64) → bit_at rest i ≡ min (bit_at w i) (bit_at (2 ^ 64 - 2 ^ k) i)
 scan_masked w k rest i l is = ap (λ r. bit_at r i) is ∙ bit_at_and w ((2 ^ 64 - 1) * 2 ^ k % 2 ^ 64) i
@@ -136,60 +136,60 @@ scan_left_out w k rest i l is a =
     let m : bit_at (2 ^ 64 - 2 ^ k) i ≡ 0 = bit_at_mask_below k 64 i a in
     omega arith
 
-pub scan_begun : (ws : List ℕ) (from place rest : ℕ) → place ≡ from / 64 → get_or ws place 0 < 2 ^ 64
-    → rest ≡ bit_and (get_or ws place 0) ((2 ^ 64 - 1) * 2 ^ (from % 64) % 2 ^ 64) → IsScan ws from place rest
-scan_begun ws from place rest e l is =
-    let m : bit_and (get_or ws place 0) ((2 ^ 64 - 1) * 2 ^ (from % 64) % 2 ^ 64) ≤ get_or ws place 0 =
-    and_le_l (get_or ws place 0) ((2 ^ 64 - 1) * 2 ^ (from % 64) % 2 ^ 64) in
+pub scan_begun : (ws : List ℕ) (from index rest : ℕ) → index ≡ from / 64 → get_or ws index 0 < 2 ^ 64
+    → rest ≡ bit_and (get_or ws index 0) ((2 ^ 64 - 1) * 2 ^ (from % 64) % 2 ^ 64) → IsScan ws from index rest
+scan_begun ws from index rest e l is =
+    let m : bit_and (get_or ws index 0) ((2 ^ 64 - 1) * 2 ^ (from % 64) % 2 ^ 64) ≤ get_or ws index 0 =
+    and_le_l (get_or ws index 0) ((2 ^ 64 - 1) * 2 ^ (from % 64) % 2 ^ 64) in
     record {
       reached = omega arith;
       passed = λ g a b. absurd (omega arith);
       fits = omega arith;
-      above = λ i k a. scan_kept (get_or ws place 0) (from % 64) rest i (omega arith) is (omega arith) k;
-      below = λ i k a. scan_left_out (get_or ws place 0) (from % 64) rest i (omega arith) is (omega arith);
+      above = λ i k a. scan_kept (get_or ws index 0) (from % 64) rest i (omega arith) is (omega arith) k;
+      below = λ i k a. scan_left_out (get_or ws index 0) (from % 64) rest i (omega arith) is (omega arith);
     }
 
 -- where the rest is 0, the word has no good from `from` on
-scan_passed : (ws : List ℕ) (from place rest : ℕ) → IsScan ws from place rest → rest ≡ 0 → (g : ℕ) → from ≤ g → g < 64 * (place + 1) → word_bit ws g ≡ 0
-scan_passed ws from place rest s z g a b = ⊎_elim (λ (l : g < 64 * place). s.passed g a l) (λ (l : 64 * place ≤ g). here l) (cases_lt g (64 * place))
+scan_passed : (ws : List ℕ) (from index rest : ℕ) → IsScan ws from index rest → rest ≡ 0 → (g : ℕ) → from ≤ g → g < 64 * (index + 1) → word_bit ws g ≡ 0
+scan_passed ws from index rest s z g a b = ⊎_elim (λ (l : g < 64 * index). s.passed g a l) (λ (l : 64 * index ≤ g). here l) (cases_lt g (64 * index))
   where
-    here : 64 * place ≤ g → word_bit ws g ≡ 0
+    here : 64 * index ≤ g → word_bit ws g ≡ 0
     here l =
-        let d : 64 * place + (g - 64 * place) ≡ g = omega arith in
-        let e : word_bit ws (64 * place + (g - 64 * place)) ≡ 0 = word_bit_at ws place (g - 64 * place) (omega arith)
-        ∙ sym (s.above (g - 64 * place) (omega arith) (omega arith)) ∙ ap (λ x. bit_at x (g - 64 * place)) z ∙ bit_at-zero (g - 64 * place) in
+        let d : 64 * index + (g - 64 * index) ≡ g = omega arith in
+        let e : word_bit ws (64 * index + (g - 64 * index)) ≡ 0 = word_bit_at ws index (g - 64 * index) (omega arith)
+        ∙ sym (s.above (g - 64 * index) (omega arith) (omega arith)) ∙ ap (λ x. bit_at x (g - 64 * index)) z ∙ bit_at-zero (g - 64 * index) in
         subst (λ x. word_bit ws x ≡ 0) d e
 
 -- every word is passed
-pub scan_ended : (n : ℕ) (ws : List ℕ) (from place rest : ℕ) → IsScan ws from place rest → rest ≡ 0 → n ≤ place + 1
+pub scan_ended : (n : ℕ) (ws : List ℕ) (from index rest : ℕ) → IsScan ws from index rest → rest ≡ 0 → n ≤ index + 1
     → good_from (word_goods (64 * n) ws) from ≡ None
-scan_ended n ws from place rest s z l =
+scan_ended n ws from index rest s z l =
     good_from_none (word_goods (64 * n) ws) from (word_goods_bundle (64 * n) ws).0
-    (λ g a. ⊎_elim (λ (b : g < 64 * n). word_goods_lacks (64 * n) ws g (scan_passed ws from place rest s z g a (omega arith)))
+    (λ g a. ⊎_elim (λ (b : g < 64 * n). word_goods_lacks (64 * n) ws g (scan_passed ws from index rest s z g a (omega arith)))
     (λ (b : 64 * n ≤ g). word_goods_past (64 * n) ws g b) (cases_lt g (64 * n)))
 
 pub scan_outside : (n : ℕ) (ws : List ℕ) (from : ℕ) → n ≤ from / 64 → good_from (word_goods (64 * n) ws) from ≡ None
 scan_outside n ws from l = good_from_none (word_goods (64 * n) ws) from (word_goods_bundle (64 * n) ws).0 (λ g a. word_goods_past (64 * n) ws g (omega arith))
 
 -- the lowest one of the rest is the next good
-pub scan_found : (n : ℕ) (ws : List ℕ) (from place rest : ℕ) → IsScan ws from place rest → rest ≢ 0 → place < n
-    → good_from (word_goods (64 * n) ws) from ≡ Some (64 * place + trailing_zeros w64 rest)
-scan_found n ws from place rest s z l =
+pub scan_found : (n : ℕ) (ws : List ℕ) (from index rest : ℕ) → IsScan ws from index rest → rest ≢ 0 → index < n
+    → good_from (word_goods (64 * n) ws) from ≡ Some (64 * index + trailing_zeros w64 rest)
+scan_found n ws from index rest s z l =
     let t : (trailing_zeros w64 rest < 64) × (bit_at rest (trailing_zeros w64 rest) ≡ 1) × ((i : ℕ) → i < trailing_zeros w64 rest → bit_at rest i ≡ 0) =
     bit_at-trailing_zeros w64 rest (omega arith) s.fits in
-    found (trailing_zeros w64 rest) t.0 t.1 t.2 (cases_lt (64 * place + trailing_zeros w64 rest) from)
+    found (trailing_zeros w64 rest) t.0 t.1 t.2 (cases_lt (64 * index + trailing_zeros w64 rest) from)
   where
-    found : (i : ℕ) → i < 64 → bit_at rest i ≡ 1 → ((j : ℕ) → j < i → bit_at rest j ≡ 0) → (64 * place + i < from) ⊎ (from ≤ 64 * place + i)
-        → good_from (word_goods (64 * n) ws) from ≡ Some (64 * place + i)
+    found : (i : ℕ) → i < 64 → bit_at rest i ≡ 1 → ((j : ℕ) → j < i → bit_at rest j ≡ 0) → (64 * index + i < from) ⊎ (from ≤ 64 * index + i)
+        → good_from (word_goods (64 * n) ws) from ≡ Some (64 * index + i)
     found i k b low (inl c) = let e : bit_at rest i ≡ 0 = s.below i k c in absurd (omega arith)
-    found i k b low (inr c) = good_from_next (word_goods (64 * n) ws) from (64 * place + i) (word_goods_bundle (64 * n) ws).0 (record {
-      there = word_goods_has (64 * n) ws (64 * place + i) (omega arith) (word_bit_at ws place i k ∙ sym (s.above i k c) ∙ b);
+    found i k b low (inr c) = good_from_next (word_goods (64 * n) ws) from (64 * index + i) (word_goods_bundle (64 * n) ws).0 (record {
+      there = word_goods_has (64 * n) ws (64 * index + i) (omega arith) (word_bit_at ws index i k ∙ sym (s.above i k c) ∙ b);
       from = c;
-      least = λ g d f. word_goods_lacks (64 * n) ws g (⊎_elim (λ (q : g < 64 * place). s.passed g d q) (λ (q : 64 * place ≤ g).
-          let m : 64 * place + (g - 64 * place) ≡ g = omega arith in
-          let e : word_bit ws (64 * place + (g - 64 * place)) ≡ 0 = word_bit_at ws place (g - 64 * place) (omega arith)
-          ∙ sym (s.above (g - 64 * place) (omega arith) (omega arith)) ∙ low (g - 64 * place) (omega arith) in
-          subst (λ x. word_bit ws x ≡ 0) m e) (cases_lt g (64 * place)));
+      least = λ g d f. word_goods_lacks (64 * n) ws g (⊎_elim (λ (q : g < 64 * index). s.passed g d q) (λ (q : 64 * index ≤ g).
+          let m : 64 * index + (g - 64 * index) ≡ g = omega arith in
+          let e : word_bit ws (64 * index + (g - 64 * index)) ≡ 0 = word_bit_at ws index (g - 64 * index) (omega arith)
+          ∙ sym (s.above (g - 64 * index) (omega arith) (omega arith)) ∙ low (g - 64 * index) (omega arith) in
+          subst (λ x. word_bit ws x ≡ 0) m e) (cases_lt g (64 * index)));
     })
 
 -- the next good is below the bound

@@ -47,7 +47,7 @@ AreApart xs ys = IsTrue (are_apart xs ys)
 abbrev pub without : List ℕ → List ℕ → List ℕ
 without xs ys = filter (λ g. not (has_good ys g)) xs
 
--- a rising list with the good g put at its place, unless it is there
+-- a rising list with the good g put in order, unless it is there
 abbrev pub with_good : ℕ → List ℕ → List ℕ
 with_good g [] = g ∷ []
 with_good g (x ∷ xs) = cond (nat_lt g x) (g ∷ (x ∷ xs)) (cond (g == x) (x ∷ xs) (x ∷ with_good g xs))

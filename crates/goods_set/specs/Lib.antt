@@ -2,7 +2,6 @@
 pub mod Bundles
 pub mod Orders
 pub mod SortKeys
-pub mod Fingerprints
 pub mod Words
 pub mod Sets
 pub mod Lemmas

@@ -2,7 +2,6 @@
 //! and a bit set that implement it, and the order of bundles.
 #![tactic(auto)]
 
-mod fingerprints;
 pub mod laws;
 mod least;
 mod list_set;
@@ -14,7 +13,6 @@ mod sort_keys;
 mod word_set;
 pub mod worked;
 
-pub use fingerprints::{fingerprint, may_be_subset};
 pub use list_set::ListSet;
 pub use listing::{goods_of, rising_goods};
 pub use long_mask::LongMask;

@@ -48,7 +48,7 @@ impl ListSet {
     }
 
     // Where the good is, or else where it goes.
-    fn place(&self, good: u16) -> Result<usize, usize>
+    fn index_of(&self, good: u16) -> Result<usize, usize>
         ensures { MatchResult result
             (λ i. has_good self.now.goods good ≡ true)
             (λ i. (i ≤ length self.now.goods)
@@ -59,7 +59,7 @@ impl ListSet {
     }
 
     // How many goods are below a bound.
-    fn place_from(&self, from: u32) -> usize
+    fn index_from(&self, from: u32) -> usize
         ensures fits { result ≤ length self.now.goods }
         ensures parts { IsPartitionPoint (λ good. nat_lt good from ≡ true) (λ good. nat_lt good from ≡ false)
             self.now.goods result }
@@ -117,10 +117,10 @@ impl GoodsSet for ListSet {
     }
 
     fn put(&mut self, good: u16) -> Result<bool, AllocError> {
-        match self.place(good) {
+        match self.index_of(good) {
             Ok(_) => Ok(false),
-            Err(place) => {
-                self.goods.insert(place, good)?;
+            Err(index) => {
+                self.goods.insert(index, good)?;
                 Ok(true)
             }
         }
@@ -133,7 +133,7 @@ impl GoodsSet for ListSet {
         if goods.len() <= LOOKED_AT {
             is_among(goods, good)
         } else {
-            self.place(good).is_ok()
+            self.index_of(good).is_ok()
         }
     }
 
@@ -142,8 +142,8 @@ impl GoodsSet for ListSet {
     }
 
     fn next_from(&self, from: u32) -> Option<u16> {
-        let place = self.place_from(from);
-        self.goods.as_slice().get(place).copied()
+        let index = self.index_from(from);
+        self.goods.as_slice().get(index).copied()
     }
 
     fn list_into(&self, out: &mut Vec<u16>) -> Result<(), AllocError> {

@@ -59,8 +59,8 @@ impl<const N: usize> GoodsSet for WordSet<N> {
     {
         let mut set = WordSet { words: [0; N] };
         for good in rising {
-            let place = usize::from(*good / 64);
-            set.words[place] |= 1u64 << (*good % 64);
+            let index = usize::from(*good / 64);
+            set.words[index] |= 1u64 << (*good % 64);
         }
         Ok(set)
     }
@@ -72,16 +72,16 @@ impl<const N: usize> GoodsSet for WordSet<N> {
         ensures refused { OnErr result (set_goods self.new ≡ set_goods self.old) }
         ensures ok { IsOk result }
     {
-        let place = usize::from(good / 64);
+        let index = usize::from(good / 64);
         let bit = 1u64 << (good % 64);
-        let new = self.words[place] & bit == 0;
-        self.words[place] |= bit;
+        let new = self.words[index] & bit == 0;
+        self.words[index] |= bit;
         Ok(new)
     }
 
     fn has(&self, good: u16) -> bool {
-        let place = usize::from(good / 64);
-        place < N && (self.words[place] >> (good % 64)) & 1 == 1
+        let index = usize::from(good / 64);
+        index < N && (self.words[index] >> (good % 64)) & 1 == 1
     }
 
     fn size(&self) -> usize {

@@ -4,7 +4,6 @@ ghost use Rattle.goods_set.specs.Bundles.{IsBundle, IsInside, AreApart, is_insid
 ghost use Rattle.goods_set.specs.Bundles.{all_bundles};
 ghost use Rattle.goods_set.specs.Orders.{bundle_cmp};
 ghost use Rattle.goods_set.specs.SortKeys.{sort_key_of};
-ghost use Rattle.goods_set.specs.Fingerprints.{AreMarks, mark_of};
 ghost use Rattle.std.specs.declared.cmp.Ordering.TheVariants.{Less, Equal, Greater};
 
 /// Bundles are strictly rising lists of goods below the number of goods.
@@ -42,20 +41,6 @@ pub fn order_worked()
     ensures all { all_bundles 3 ≡ [] ∷ (0 ∷ []) ∷ (1 ∷ []) ∷ (2 ∷ [])
         ∷ (0 ∷ 1 ∷ []) ∷ (0 ∷ 2 ∷ []) ∷ (1 ∷ 2 ∷ []) ∷ (0 ∷ 1 ∷ 2 ∷ []) ∷ [] }
     ensures over_none { all_bundles 0 ≡ [] ∷ [] }
-{}
-
-/// Goods near one another, and those that differ by 64 or 65, mark different bits. Some goods share one.
-pub fn fingerprints_worked()
-    ensures highest { mark_of 0 ≡ 96 }
-    ensures low { mark_of 1 ≡ 39 }
-    ensures high { mark_of 2 ≡ 79 }
-    ensures by_64 { mark_of 65 ≡ 10 }
-    ensures by_65 { mark_of 66 ≡ 50 }
-    ensures shared { mark_of 90 ≡ mark_of 1 }
-    ensures no_goods { AreMarks [] 0 }
-    ensures one_good { AreMarks (5 ∷ []) 32 }
-    ensures one_lacks { ¬ AreMarks (5 ∷ 65 ∷ []) 32 }
-    ensures one_too_many { ¬ AreMarks (5 ∷ []) 33 }
 {}
 
 /// The size is in the highest 16 bits of a sort key, then the first three goods, so that fewer goods come first.

@@ -11,11 +11,11 @@ use Rattle.std.proofs.lemmas.List.Elements.{All-contains, All-push}
 use Rattle.valuation.specs.declared.atom.Atom.{Atom}
 use Rattle.valuation.specs.declared.search_kind.SearchKind.{SearchKind}
 use Rattle.valuation.specs.Values.{or_value, atoms_of}
-use Rattle.prune.specs.Fates.{best_bids, found_places, or_fate, places_below, plain_fate, xor_fate}
+use Rattle.prune.specs.Fates.{best_bids, found_points, or_fate, indices_below, plain_fate, xor_fate}
 use Rattle.prune.specs.Internal.BestBids.{AreBestBids}
-use Rattle.prune.specs.Internal.Listings.{is_inside_at, first_dominating_place}
+use Rattle.prune.specs.Internal.Listings.{is_inside_at, first_dominating_index}
 use Rattle.valuation.specs.Packings.{atom_at}
-use Rattle.prune.specs.Internal.Reaching.{atoms_inside, found_inside, places_inside}
+use Rattle.prune.specs.Internal.Reaching.{atoms_inside, found_inside, indices_inside}
 use Rattle.prune.specs.Lemmas.Fates.{or_fate-push, xor_fate-push}
 use Rattle.prune.specs.Lemmas.Lists.{All-from_Contains, filter_same_on, find_filter, map_same_on, Contains-head}
 use Rattle.prune.specs.Lemmas.OnBundles.{IsOnBundle}
@@ -55,33 +55,33 @@ module _ {F : Type 0} (fate : List (Atom (List ℕ)) → Atom (List ℕ) → F)
 module _ (bids done : List (Atom (List ℕ))) (x : Atom (List ℕ)) (rest kept : List (Atom (List ℕ))) (turn : IsTurn bids done x rest)
     (among : All (Contains done) kept)
   where
-    inside_places : places_inside kept x.bundle ≡ places_below kept x.bundle
-    inside_places =
-        filter_same_on (is_inside_at kept x.bundle) (λ place. is_below (atom_at kept place).bundle x.bundle) (range_with_len 0 (length kept))
-        (All-from_Contains (λ place. is_inside_at kept x.bundle place ≡ is_below (atom_at kept place).bundle x.bundle) (range_with_len 0 (length kept))
-        (λ place c. turn_inside bids done x rest kept turn among place (record { bundle = []; price = 0 }) (in_range (length kept) place c)))
+    inside_indices : indices_inside kept x.bundle ≡ indices_below kept x.bundle
+    inside_indices =
+        filter_same_on (is_inside_at kept x.bundle) (λ index. is_below (atom_at kept index).bundle x.bundle) (range_with_len 0 (length kept))
+        (All-from_Contains (λ index. is_inside_at kept x.bundle index ≡ is_below (atom_at kept index).bundle x.bundle) (range_with_len 0 (length kept))
+        (λ index c. turn_inside bids done x rest kept turn among index (record { bundle = []; price = 0 }) (in_range (length kept) index c)))
 
     pub found_is_fate : (kind : SearchKind) (found : Option (Vec ℕ)) → is_some found ≡ leb x.price (or_value (atoms_inside kept x.bundle) x.bundle)
-        → IfSome found (λ places. places.items ≡ found_inside kind kept x.bundle x.price) → plain_fate found ≡ or_fate kind kept x
-    unfolding or_fate found_places
-    found_is_fate kind None answer places =
+        → IfSome found (λ indices. indices.items ≡ found_inside kind kept x.bundle x.price) → plain_fate found ≡ or_fate kind kept x
+    unfolding or_fate found_points
+    found_is_fate kind None answer indices =
         let none : leb x.price (or_value (atoms_below kept x.bundle) x.bundle) ≡ false =
         ap (λ (zs : List (Atom (List ℕ))). leb x.price (or_value zs x.bundle)) (sym (turn_below bids done x rest kept turn among)) ∙ sym answer in
         rw none refl
-    found_is_fate kind (Some found) answer places =
+    found_is_fate kind (Some found) answer indices =
         let some : leb x.price (or_value (atoms_below kept x.bundle) x.bundle) ≡ true =
         ap (λ (zs : List (Atom (List ℕ))). leb x.price (or_value zs x.bundle)) (sym (turn_below bids done x rest kept turn among)) ∙ sym answer in
-        rw (some, sym inside_places, sym (turn_below bids done x rest kept turn among)) (ap Some places)
+        rw (some, sym inside_indices, sym (turn_below bids done x rest kept turn among)) (ap Some indices)
 
     -- what was noted of the OR bidder
     module _ (kind searched : SearchKind) (same : searched ≡ kind) (noted more : List (Option (Vec ℕ))) (found : Option (Vec ℕ))
         (one : more ≡ noted ++ found ∷ [])
         (answer : is_some found ≡ leb x.price (or_value (atoms_inside kept x.bundle) x.bundle))
-        (places : IfSome found (λ places. places.items ≡ found_inside searched kept x.bundle x.price))
+        (indices : IfSome found (λ indices. indices.items ≡ found_inside searched kept x.bundle x.price))
         (so_far : map plain_fate noted ≡ map (or_fate kind kept) done)
       where
         this : plain_fate found ≡ or_fate kind kept x
-        this = subst (λ (k : SearchKind). plain_fate found ≡ or_fate k kept x) same (found_is_fate searched found answer places)
+        this = subst (λ (k : SearchKind). plain_fate found ≡ or_fate k kept x) same (found_is_fate searched found answer indices)
 
         pushed : map plain_fate more ≡ map plain_fate noted ++ plain_fate found ∷ []
         pushed = ap (map plain_fate) one ∙ map_push plain_fate noted found
@@ -93,15 +93,15 @@ module _ (bids done : List (Atom (List ℕ))) (x : Atom (List ℕ)) (rest kept :
         pub or_noted_kept : map plain_fate more ≡ map (or_fate kind (kept ++ x ∷ [])) (done ++ x ∷ [])
         or_noted_kept = pushed ∙ noted_kept (or_fate kind) (or_fate-push kind) bids done x rest kept turn (map plain_fate noted) (plain_fate found) this so_far
 
-    pub dominating_is_fate : first_dominating_place kept x.bundle x.price ≡ xor_fate kept x
+    pub dominating_is_fate : first_dominating_index kept x.bundle x.price ≡ xor_fate kept x
     unfolding xor_fate
     dominating_is_fate =
-        sym (find_filter (λ place. leb x.price (atom_at kept place).price) (is_inside_at kept x.bundle) (range_with_len 0 (length kept)))
-        ∙ ap (find (λ place. leb x.price (atom_at kept place).price)) inside_places
+        sym (find_filter (λ index. leb x.price (atom_at kept index).price) (is_inside_at kept x.bundle) (range_with_len 0 (length kept)))
+        ∙ ap (find (λ index. leb x.price (atom_at kept index).price)) inside_indices
 
     -- what was noted of an XOR bidder
     module _ (noted more : List (Option ℕ)) (found : Option ℕ) (one : more ≡ noted ++ found ∷ [])
-        (answer : found ≡ first_dominating_place kept x.bundle x.price) (so_far : noted ≡ map (xor_fate kept) done)
+        (answer : found ≡ first_dominating_index kept x.bundle x.price) (so_far : noted ≡ map (xor_fate kept) done)
       where
         pub xor_noted_dropped : more ≡ map (xor_fate kept) (done ++ x ∷ [])
         xor_noted_dropped = one ∙ noted_dropped xor_fate xor_fate-push bids done x rest kept turn noted found (answer ∙ dominating_is_fate) so_far
@@ -126,10 +126,10 @@ best_bids_are goods bids best on b =
 
 -- what was noted is what becomes of all, by all points
 pub noted_all : {S F : Type 0} (goods : S → List ℕ) (fate : List (Atom (List ℕ)) → Atom (List ℕ) → F) (n : ℕ) (bids points : List (Atom (List ℕ)))
-    (best kept result : List (Atom S)) (place : ℕ) (noted : List F) → All (IsOnBundle n) bids → AreBestBids bids (atoms_of goods best) → length best ≤ place
-    → result ≡ kept → atoms_of goods result ≡ points → noted ≡ map (fate (atoms_of goods kept)) (atoms_of goods (take place best))
+    (best kept result : List (Atom S)) (index : ℕ) (noted : List F) → All (IsOnBundle n) bids → AreBestBids bids (atoms_of goods best) → length best ≤ index
+    → result ≡ kept → atoms_of goods result ≡ points → noted ≡ map (fate (atoms_of goods kept)) (atoms_of goods (take index best))
     → noted ≡ map (fate points) (best_bids n bids)
-noted_all {S} goods fate n bids points best kept result place noted on b l truncated are h =
-    h ∙ ap (λ (zs : List (Atom S)). map (fate (atoms_of goods kept)) (atoms_of goods zs)) (take_all place best l)
+noted_all {S} goods fate n bids points best kept result index noted on b l truncated are h =
+    h ∙ ap (λ (zs : List (Atom S)). map (fate (atoms_of goods kept)) (atoms_of goods zs)) (take_all index best l)
     ∙ ap (map (fate (atoms_of goods kept))) (best_bids_are n bids (atoms_of goods best) on b)
     ∙ ap (λ (zs : List (Atom (List ℕ))). map (fate zs) (best_bids n bids)) (ap (atoms_of goods) (sym truncated) ∙ are)

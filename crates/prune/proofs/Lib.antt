@@ -1,5 +1,6 @@
 -- Proofs that several functions of this crate cite.
 pub mod Pruning
+pub mod Marks
 pub mod BestBids
 pub mod FirstDominating
 pub mod ListedAtoms
@@ -10,4 +11,4 @@ pub mod Prefixes
 pub mod PruningLoop
 pub mod Fates
 pub mod WorkedPostings
-pub mod SearchedPlaces
+pub mod SearchedIndices

@@ -1,5 +1,5 @@
 -- Atoms are found through the goods of a bundle: each atom inside it is listed at one of its goods, which is a good of the bundle.
--- The places found, sorted, are those of the atoms inside the bundle, since no place is listed twice.
+-- The indices found, sorted, are those of the atoms inside the bundle, since no index is listed twice.
 use Rattle.std.proofs.Common.{◌≡◌, ◌≢◌, ℕ, zero, suc, ◌+◌, ◌<◌, ◌≤◌, Bool, true, false, cond, leb, take, append_assoc}
 use Rattle.std.proofs.Common.{Bor, eqb, ◌⊎◌, inl, inr, ⊎_elim, List, [], ◌∷◌, ◌++◌, length, map, get_or, refl, sym, ap, ◌∙◌, subst, subst₂, arith, Some, None}
 use Rattle.std.proofs.Common.{nat_cmp, Less, Greater}
@@ -23,7 +23,7 @@ use Rattle.std.proofs.lemmas.Map.Made.{IsDistinct-from_AllPairs}
 use Rattle.goods_set.specs.Bundles.{AreAbove, IsRising, has_good, is_inside, good_from}
 use Rattle.goods_set.specs.Lemmas.Members.{has_cases, has-filter, AreAbove-from_has, IsRising-filter, same_from_has, inside_at}
 use Rattle.goods_set.specs.Orders.{bundle_cmp}
-use Rattle.goods_set.specs.Fingerprints.{AreMarks}
+use Rattle.prune.specs.Internal.Fingerprints.{AreMarks}
 use Rattle.goods_set.specs.Lemmas.Orders.{larger_last}
 use Rattle.goods_set.specs.Lemmas.Sizes.{IsNextGood, good_from-Some, good_from-None, length_inside, same_from_length}
 use Rattle.goods_set.specs.Lemmas.Words.{range_has, range_rises}
@@ -33,28 +33,28 @@ use Rattle.valuation.specs.Lemmas.Atoms.{get_or-atoms_of}
 use Rattle.valuation.specs.Lemmas.Lists.{AllPairs-head, AllPairs-tail, AllPairs-append, Contains-map, Contains-unmap}
 use Rattle.prune.specs.declared.subset_index.Posting.{Posting}
 use Rattle.prune.specs.InOrder.{IsInOrder}
-use Rattle.prune.specs.Internal.Listings.{listed_at, places_at, is_inside_at, dominates_at, IsListed, IsPosting, AreListed}
+use Rattle.prune.specs.Internal.Listings.{listed_at, indices_at, is_inside_at, dominates_at, IsListed, IsPosting, AreListed}
 use Rattle.valuation.specs.Packings.{atom_at}
 use Rattle.prune.specs.Internal.Listings.{AreGoodsOf, IsBehind, NoneInsideFrom}
 use Rattle.prune.specs.Lemmas.InOrder.{before_itself}
 use Rattle.prune.specs.Lemmas.Lists.{map-filter, Contains-head, Contains-tail, Contains-filter, Contains-filter_parts, All-from_Contains}
 use Rattle.prune.specs.Lemmas.KeptBids.{has_from_Contains}
 
--- ---- lists of places
+-- ---- lists of indices
 
-abbrev pub place_of : Posting → ℕ
-place_of posting = posting.index
+abbrev pub index_of : Posting → ℕ
+index_of posting = posting.index
 
--- what is listed at the place is right
-pub posting_at : (lists : List (List Posting)) (listed : ℕ) (atoms : List (Atom (List ℕ))) (good place : ℕ) → AreListed lists listed atoms
-    → Contains (places_at lists good) place
-    → (posting : Posting) × IsPosting atoms posting × (place ≡ posting.index)
-posting_at lists listed atoms good place a c = let r = Contains-unmap place_of (listed_at lists good) place c in (r.0, a.right good r.0 r.1, r.2)
+-- what is listed at the index is right
+pub posting_at : (lists : List (List Posting)) (listed : ℕ) (atoms : List (Atom (List ℕ))) (good index : ℕ) → AreListed lists listed atoms
+    → Contains (indices_at lists good) index
+    → (posting : Posting) × IsPosting atoms posting × (index ≡ posting.index)
+posting_at lists listed atoms good index a c = let r = Contains-unmap index_of (listed_at lists good) index c in (r.0, a.right good r.0 r.1, r.2)
 
-pub place_within : (lists : List (List Posting)) (listed : ℕ) (atoms : List (Atom (List ℕ))) (good place : ℕ) → AreListed lists listed atoms
-    → Contains (places_at lists good) place
-    → place < length atoms
-place_within lists listed atoms good place a c = let r = posting_at lists listed atoms good place a c in let l = r.1.within in omega (arith, r.2)
+pub index_within : (lists : List (List Posting)) (listed : ℕ) (atoms : List (Atom (List ℕ))) (good index : ℕ) → AreListed lists listed atoms
+    → Contains (indices_at lists good) index
+    → index < length atoms
+index_within lists listed atoms good index a c = let r = posting_at lists listed atoms good index a c in let l = r.1.within in omega (arith, r.2)
 
 pub Contains_from_has : (xs : List ℕ) (g : ℕ) → has_good xs g ≡ true → Contains xs g
 Contains_from_has [] g h = absurd (both_ways false refl h)
@@ -84,44 +84,44 @@ rising_differ xs rising i j d l m e = let less = rising i j d l m in omega (arit
 
 -- what was found at the goods below `from`
 pub record IsFinding (lists : List (List Posting)) (atoms : List (Atom (List ℕ))) (bundle : List ℕ) (from : ℕ) (found : List ℕ) : Type 0 where
-  pub sound : All (λ place. (is_inside_at atoms bundle place ≡ true) × (place < length atoms)) found
-  pub complete : (good place : ℕ) → has_good bundle good ≡ true → good < from → Contains (places_at lists good) place → is_inside_at atoms bundle place ≡ true
-      → Contains found place
-  pub earlier : All (λ place. (good : ℕ) × (good < from) × Contains (places_at lists good) place) found
+  pub sound : All (λ index. (is_inside_at atoms bundle index ≡ true) × (index < length atoms)) found
+  pub complete : (good index : ℕ) → has_good bundle good ≡ true → good < from → Contains (indices_at lists good) index → is_inside_at atoms bundle index ≡ true
+      → Contains found index
+  pub earlier : All (λ index. (good : ℕ) × (good < from) × Contains (indices_at lists good) index) found
   pub once : AllPairs (λ one other. one ≢ other) found
 
 pub IsFinding-more : (lists : List (List Posting)) (listed : ℕ) (atoms : List (Atom (List ℕ))) (bundle : List ℕ) (from good : ℕ) (found more : List ℕ)
     → AreListed lists listed atoms → IsRising bundle → good_from bundle from ≡ Some good
-    → more ≡ found ++ filter (is_inside_at atoms bundle) (places_at lists good)
+    → more ≡ found ++ filter (is_inside_at atoms bundle) (indices_at lists good)
     → IsFinding lists atoms bundle from found → IsFinding lists atoms bundle (good + 1) more
 IsFinding-more lists listed atoms bundle from good found more a r next e f =
     let p = is_inside_at atoms bundle in
-    let new = filter p (places_at lists good) in
+    let new = filter p (indices_at lists good) in
     let n : IsNextGood bundle from good = good_from-Some bundle from good r next in
     let further : from ≤ good = n.from in
     rw e (record {
-      sound = All-append (λ place. (p place ≡ true) × (place < length atoms)) found new f.sound
-          (All-from_Contains (λ place. (p place ≡ true) × (place < length atoms)) new
-          (λ place c. let t = Contains-filter_parts p (places_at lists good) place c in (t.1, place_within lists listed atoms good place a t.0)));
-      complete = λ g place h l c t.
-          ⊎_elim (λ (q : g ≡ good). Contains-append_right found new place
-          (Contains-filter p (places_at lists good) place (subst (λ m. Contains (places_at lists m) place) q c) t))
+      sound = All-append (λ index. (p index ≡ true) × (index < length atoms)) found new f.sound
+          (All-from_Contains (λ index. (p index ≡ true) × (index < length atoms)) new
+          (λ index c. let t = Contains-filter_parts p (indices_at lists good) index c in (t.1, index_within lists listed atoms good index a t.0)));
+      complete = λ g index h l c t.
+          ⊎_elim (λ (q : g ≡ good). Contains-append_right found new index
+          (Contains-filter p (indices_at lists good) index (subst (λ m. Contains (indices_at lists m) index) q c) t))
           (λ (d : g ≡ good → ⊥). ⊎_elim
-          (λ (m : g < from). Contains-append_left found new place (f.complete g place h m c t))
+          (λ (m : g < from). Contains-append_left found new index (f.complete g index h m c t))
           (λ (m : from ≤ g). let none = n.least g m (omega arith) in absurd (both_ways (has_good bundle g) none h))
           (cases_lt g from))
           (cases_eq g good);
-      earlier = All-append (λ place. (other : ℕ) × (other < good + 1) × Contains (places_at lists other) place) found new
-          (All-weaker (λ place. (other : ℕ) × (other < from) × Contains (places_at lists other) place) (λ place. (other : ℕ) × (other < good + 1)
-          × Contains (places_at lists other) place) (λ place h. let l : h.0 < from = h.1 in (h.0, omega arith, h.2)) found f.earlier)
-          (All-from_Contains (λ place. (other : ℕ) × (other < good + 1) × Contains (places_at lists other) place) new
-          (λ place c. (good, omega arith, (Contains-filter_parts p (places_at lists good) place c).0)));
+      earlier = All-append (λ index. (other : ℕ) × (other < good + 1) × Contains (indices_at lists other) index) found new
+          (All-weaker (λ index. (other : ℕ) × (other < from) × Contains (indices_at lists other) index) (λ index. (other : ℕ) × (other < good + 1)
+          × Contains (indices_at lists other) index) (λ index h. let l : h.0 < from = h.1 in (h.0, omega arith, h.2)) found f.earlier)
+          (All-from_Contains (λ index. (other : ℕ) × (other < good + 1) × Contains (indices_at lists other) index) new
+          (λ index c. (good, omega arith, (Contains-filter_parts p (indices_at lists good) index c).0)));
       once = AllPairs-append (λ one other. one ≢ other) found new f.once
-          (AllPairs-filter (λ one other. one ≢ other) p (places_at lists good) (rising_differ (places_at lists good) (a.rising good)))
+          (AllPairs-filter (λ one other. one ≢ other) p (indices_at lists good) (rising_differ (indices_at lists good) (a.rising good)))
           (All-from_Contains (λ one. All (λ other. one ≢ other) new) found (λ one c. All-from_Contains (λ other. one ≢ other) new (λ other d q.
-          let h = All-contains (λ place. (other : ℕ) × (other < from) × Contains (places_at lists other) place) found one f.earlier c in
-          let there : Contains (places_at lists good) one =
-          subst (λ place. Contains (places_at lists good) place) (sym q) (Contains-filter_parts p (places_at lists good) other d).0 in
+          let h = All-contains (λ index. (other : ℕ) × (other < from) × Contains (indices_at lists other) index) found one f.earlier c in
+          let there : Contains (indices_at lists good) one =
+          subst (λ index. Contains (indices_at lists good) index) (sym q) (Contains-filter_parts p (indices_at lists good) other d).0 in
           let same : h.0 ≡ good = a.one_good h.0 good one h.2 there in
           let l : h.0 < from = h.1 in
           absurd (omega arith))));
@@ -169,20 +169,20 @@ behind_next goods bundle i e =
     ap (λ (xs : List ℕ). get_or xs i 0 + 1) e ∙ ap (behind_first bundle) next
 
 -- an atom inside the bundle is listed
-pub is_listed : (listed : ℕ) (atoms : List (Atom (List ℕ))) (bundle : List ℕ) → NoneInsideFrom listed atoms bundle → (place : ℕ) → place < length atoms
-    → is_inside_at atoms bundle place ≡ true → place < listed
-is_listed listed atoms bundle unlisted place l t =
-    ⊎_elim (λ (m : place < listed). m)
-    (λ (m : listed ≤ place). absurd (both_ways (is_inside_at atoms bundle place) (unlisted place m l) t))
-    (cases_lt place listed)
+pub is_listed : (listed : ℕ) (atoms : List (Atom (List ℕ))) (bundle : List ℕ) → NoneInsideFrom listed atoms bundle → (index : ℕ) → index < length atoms
+    → is_inside_at atoms bundle index ≡ true → index < listed
+is_listed listed atoms bundle unlisted index l t =
+    ⊎_elim (λ (m : index < listed). m)
+    (λ (m : listed ≤ index). absurd (both_ways (is_inside_at atoms bundle index) (unlisted index m l) t))
+    (cases_lt index listed)
 
 -- the good at which an atom inside the bundle is listed has been visited
-pub listed_before : (lists : List (List Posting)) (listed : ℕ) (atoms : List (Atom (List ℕ))) (bundle : List ℕ) (from place : ℕ) → AreListed lists listed atoms
-    → good_from bundle from ≡ None → place < listed → is_inside_at atoms bundle place ≡ true → (good : ℕ) × (has_good bundle good ≡ true) × (good < from)
-    × Contains (places_at lists good) place
-listed_before lists listed atoms bundle from place a none l t =
-    let at = a.each place l in
-    let of_bundle = inside_at (atom_at atoms place).bundle bundle at.good t at.has in (
+pub listed_before : (lists : List (List Posting)) (listed : ℕ) (atoms : List (Atom (List ℕ))) (bundle : List ℕ) (from index : ℕ) → AreListed lists listed atoms
+    → good_from bundle from ≡ None → index < listed → is_inside_at atoms bundle index ≡ true → (good : ℕ) × (has_good bundle good ≡ true) × (good < from)
+    × Contains (indices_at lists good) index
+listed_before lists listed atoms bundle from index a none l t =
+    let at = a.each index l in
+    let of_bundle = inside_at (atom_at atoms index).bundle bundle at.good t at.has in (
       at.good,
       of_bundle,
       ⊎_elim (λ (m : at.good < from). m)
@@ -193,7 +193,7 @@ listed_before lists listed atoms bundle from place a none l t =
 eqb_flips : (x y : ℕ) → eqb x y ≡ eqb y x
 eqb_flips x y = same_test (eqb x y) (eqb y x) (λ t. eq-eqb y x (sym (eqb-true x y t))) (λ t. eq-eqb x y (sym (eqb-true y x t)))
 
--- all goods are done: the places found are those of the atoms inside the bundle
+-- all goods are done: the indices found are those of the atoms inside the bundle
 pub IsFinding-all : (lists : List (List Posting)) (listed : ℕ) (atoms : List (Atom (List ℕ))) (bundle : List ℕ) (from : ℕ) (found sorted : List ℕ)
     → AreListed lists listed atoms
     → NoneInsideFrom listed atoms bundle → good_from bundle from ≡ None → IsFinding lists atoms bundle from found
@@ -208,7 +208,7 @@ IsFinding-all lists listed atoms bundle from found sorted a unlisted none f p up
     (IsRising-filter test all (range_rises 0 (length atoms)))
     (λ g h.
     let there = Contains-permutation sorted found g (IsPermutation-sym found sorted p) (Contains_from_has sorted g h) in
-    let s = All-contains (λ place. (test place ≡ true) × (place < length atoms)) found g f.sound there in
+    let s = All-contains (λ index. (test index ≡ true) × (index < length atoms)) found g f.sound there in
     has-filter test all g ∙ and_from (test g) (has_good all g) s.0 (range_has 0 (length atoms) g (omega arith) (omega (arith, s.1))))
     (λ g h.
     let t = and_parts (test g) (has_good all g) (sym (has-filter test all g) ∙ h) in
@@ -217,18 +217,18 @@ IsFinding-all lists listed atoms bundle from found sorted a unlisted none f p up
     let l = listed_before lists listed atoms bundle from g a none within t.0 in
     has_from_Contains sorted g (Contains-permutation found sorted g p (f.complete l.0 g l.1 l.2 l.3 t.0)))
 
--- ---- the atoms at the places found
+-- ---- the atoms at the indices found
 
-pub places_in_list : (atoms : List (Atom (List ℕ))) (bundle places : List ℕ) → places ≡ filter (is_inside_at atoms bundle) (range_with_len 0 (length atoms))
-    → All (λ place. place < length atoms) places
-places_in_list atoms bundle places e =
-    rw e (All-filter (is_inside_at atoms bundle) (λ place. place < length atoms) (range_with_len 0 (length atoms))
-    (All-from_Contains (λ place. place < length atoms) (range_with_len 0 (length atoms))
+pub indices_in_list : (atoms : List (Atom (List ℕ))) (bundle indices : List ℕ) → indices ≡ filter (is_inside_at atoms bundle) (range_with_len 0 (length atoms))
+    → All (λ index. index < length atoms) indices
+indices_in_list atoms bundle indices e =
+    rw e (All-filter (is_inside_at atoms bundle) (λ index. index < length atoms) (range_with_len 0 (length atoms))
+    (All-from_Contains (λ index. index < length atoms) (range_with_len 0 (length atoms))
     (λ g c. let r = has_range 0 (length atoms) g (has_from_Contains (range_with_len 0 (length atoms)) g c) in omega (arith, r.1))))
 
-pub atoms_at_places : (atoms : List (Atom (List ℕ))) (bundle places : List ℕ) → places ≡ filter (is_inside_at atoms bundle) (range_with_len 0 (length atoms))
-    → map (atom_at atoms) places ≡ filter (λ a. is_inside a.bundle bundle) atoms
-atoms_at_places atoms bundle places e =
+pub atoms_at_indices : (atoms : List (Atom (List ℕ))) (bundle indices : List ℕ) → indices ≡ filter (is_inside_at atoms bundle) (range_with_len 0 (length atoms))
+    → map (atom_at atoms) indices ≡ filter (λ a. is_inside a.bundle bundle) atoms
+atoms_at_indices atoms bundle indices e =
     ap (map (atom_at atoms)) e ∙ map-filter (atom_at atoms) (λ a. is_inside a.bundle bundle) (range_with_len 0 (length atoms))
     ∙ ap (filter (λ a. is_inside a.bundle bundle))
     (sym (fill_by_all (atom_at atoms) atoms (length atoms) (record { bundle = []; price = 0 }) refl (λ k l. refl)))
@@ -243,8 +243,8 @@ AreListed-push lists listed atoms a h =
     let most : listed ≤ length atoms = h.most in
     record {
       most = omega arith;
-      each = λ place l.
-          subst (λ (b : Atom (List ℕ)). IsListed lists b.bundle place) (sym (get_or_append_left atoms (a ∷ []) d place (omega arith))) (h.each place l);
+      each = λ index l.
+          subst (λ (b : Atom (List ℕ)). IsListed lists b.bundle index) (sym (get_or_append_left atoms (a ∷ []) d index (omega arith))) (h.each index l);
       right = λ g posting c. still_right (h.right g posting c);
       no_more = h.no_more;
       rising = h.rising;
@@ -274,21 +274,21 @@ AreGoodsOf-push goods atoms good a has h =
     let longer = length_push atoms a in
     record {
       long = omega arith;
-      each = λ place l.
+      each = λ index l.
           ⊎_elim
-          (λ (m : place < length atoms). subst₂ (λ (b : Atom (List ℕ)) (n : ℕ). has_good b.bundle n ≡ true) (sym (get_or_append_left atoms (a ∷ []) d place m))
-          (sym (get_or_append_left goods (good ∷ []) 0 place (omega arith))) (h.each place m))
-          (λ (m : length atoms ≤ place).
-          subst₂ (λ (b : Atom (List ℕ)) (n : ℕ). has_good b.bundle n ≡ true) (sym (get_or_push atoms a d place (omega arith)))
-          (sym (get_or_push goods good 0 place (omega arith))) has)
-          (cases_lt place (length atoms));
+          (λ (m : index < length atoms). subst₂ (λ (b : Atom (List ℕ)) (n : ℕ). has_good b.bundle n ≡ true) (sym (get_or_append_left atoms (a ∷ []) d index m))
+          (sym (get_or_append_left goods (good ∷ []) 0 index (omega arith))) (h.each index m))
+          (λ (m : length atoms ≤ index).
+          subst₂ (λ (b : Atom (List ℕ)) (n : ℕ). has_good b.bundle n ≡ true) (sym (get_or_push atoms a d index (omega arith)))
+          (sym (get_or_push goods good 0 index (omega arith))) has)
+          (cases_lt index (length atoms));
     }
 
 -- ---- one more atom is listed
 
 module _ (lists more : List (List Posting)) (listed : ℕ) (atoms : List (Atom (List ℕ))) (good : ℕ) (new : Posting) (h : AreListed lists listed atoms)
     (others : (g : ℕ) → (g ≡ good → ⊥) → listed_at more g ≡ listed_at lists g) (there : listed_at more good ≡ listed_at lists good ++ new ∷ [])
-    (place : new.index ≡ listed)
+    (index : new.index ≡ listed)
   where
     -- what is listed now was listed before, or is new
     posting_cases : (g : ℕ) (posting : Posting) → Contains (listed_at more g) posting → Contains (listed_at lists g) posting ⊎ ((g ≡ good) × (new ≡ posting))
@@ -300,29 +300,29 @@ module _ (lists more : List (List Posting)) (listed : ℕ) (atoms : List (Atom (
         (λ (n : g ≡ good → ⊥). inl (subst (λ (zs : List Posting). Contains zs posting) (others g n) c))
         (cases_eq g good)
 
-    place_cases : (g spot : ℕ) → Contains (places_at more g) spot → Contains (places_at lists g) spot ⊎ ((g ≡ good) × (spot ≡ listed))
-    place_cases g spot c =
-        let r = Contains-unmap place_of (listed_at more g) spot c in
+    index_cases : (g spot : ℕ) → Contains (indices_at more g) spot → Contains (indices_at lists g) spot ⊎ ((g ≡ good) × (spot ≡ listed))
+    index_cases g spot c =
+        let r = Contains-unmap index_of (listed_at more g) spot c in
         ⊎_elim (λ (k : Contains (listed_at lists g) r.0). inl
-        (subst (λ n. Contains (places_at lists g) n) (sym r.2) (Contains-map place_of (listed_at lists g) r.0 k)))
-        (λ (k : (g ≡ good) × (new ≡ r.0)). inr (k.0, r.2 ∙ ap place_of (sym k.1) ∙ place)) (posting_cases g r.0 r.1)
+        (subst (λ n. Contains (indices_at lists g) n) (sym r.2) (Contains-map index_of (listed_at lists g) r.0 k)))
+        (λ (k : (g ≡ good) × (new ≡ r.0)). inr (k.0, r.2 ∙ ap index_of (sym k.1) ∙ index)) (posting_cases g r.0 r.1)
 
-    still : (g spot : ℕ) → Contains (places_at lists g) spot → Contains (places_at more g) spot
+    still : (g spot : ℕ) → Contains (indices_at lists g) spot → Contains (indices_at more g) spot
     still g spot c =
-        ⊎_elim (λ (e : g ≡ good). subst (λ (zs : List Posting). Contains (map place_of zs) spot) (sym (ap (listed_at more) e ∙ there))
-        (subst (λ (zs : List ℕ). Contains zs spot) (sym (map_push place_of (listed_at lists good) new))
-        (Contains-append_left (places_at lists good) (new.index ∷ []) spot (subst (λ m. Contains (places_at lists m) spot) e c))))
-        (λ (n : g ≡ good → ⊥). subst (λ (zs : List Posting). Contains (map place_of zs) spot) (sym (others g n)) c)
+        ⊎_elim (λ (e : g ≡ good). subst (λ (zs : List Posting). Contains (map index_of zs) spot) (sym (ap (listed_at more) e ∙ there))
+        (subst (λ (zs : List ℕ). Contains zs spot) (sym (map_push index_of (listed_at lists good) new))
+        (Contains-append_left (indices_at lists good) (new.index ∷ []) spot (subst (λ m. Contains (indices_at lists m) spot) e c))))
+        (λ (n : g ≡ good → ⊥). subst (λ (zs : List Posting). Contains (map index_of zs) spot) (sym (others g n)) c)
         (cases_eq g good)
 
-    here : Contains (places_at more good) (listed)
-    here = subst (λ n. Contains (places_at more good) n) place (subst (λ (zs : List Posting). Contains (map place_of zs) new.index) (sym there)
-        (subst (λ (zs : List ℕ). Contains zs new.index) (sym (map_push place_of (listed_at lists good) new)) (Contains-push (places_at lists good) new.index)))
+    here : Contains (indices_at more good) (listed)
+    here = subst (λ n. Contains (indices_at more good) n) index (subst (λ (zs : List Posting). Contains (map index_of zs) new.index) (sym there)
+        (subst (λ (zs : List ℕ). Contains zs new.index) (sym (map_push index_of (listed_at lists good) new)) (Contains-push (indices_at lists good) new.index)))
 
     pub AreListed-more : (a : Atom (List ℕ)) → a ≡ atom_at atoms listed → listed < length atoms → has_good a.bundle good ≡ true
         → AreMarks a.bundle new.fingerprint → AreListed more (listed + 1) atoms
     AreListed-more a is next has marks =
-        let at : atom_at atoms new.index ≡ a = ap (atom_at atoms) place ∙ sym is in
+        let at : atom_at atoms new.index ≡ a = ap (atom_at atoms) index ∙ sym is in
         record {
           most = omega arith;
           each = λ spot l.
@@ -343,22 +343,22 @@ module _ (lists more : List (List Posting)) (listed : ℕ) (atoms : List (Atom (
               }))
               (posting_cases g posting c);
           no_more = λ g spot c.
-              ⊎_elim (λ (k : Contains (places_at lists g) spot). let l = h.no_more g spot k in omega (arith, l))
+              ⊎_elim (λ (k : Contains (indices_at lists g) spot). let l = h.no_more g spot k in omega (arith, l))
               (λ (k : (g ≡ good) × (spot ≡ listed)). let e : spot ≡ listed = k.1 in omega arith)
-              (place_cases g spot c);
+              (index_cases g spot c);
           rising = λ g.
               ⊎_elim
-              (λ (e : g ≡ good). subst (λ (zs : List ℕ). AllPairs (λ one other. one < other) zs) (sym (ap (λ m. places_at more m) e ∙ ap (map place_of) there
-              ∙ map_push place_of (listed_at lists good) new))
-              (all_pairs_push (λ one other. one < other) (places_at lists good) new.index (h.rising good) (λ k d l.
-              let w = h.no_more good (get_or (places_at lists good) k d) (Contains-get_or (places_at lists good) k d l) in
+              (λ (e : g ≡ good). subst (λ (zs : List ℕ). AllPairs (λ one other. one < other) zs) (sym (ap (λ m. indices_at more m) e ∙ ap (map index_of) there
+              ∙ map_push index_of (listed_at lists good) new))
+              (all_pairs_push (λ one other. one < other) (indices_at lists good) new.index (h.rising good) (λ k d l.
+              let w = h.no_more good (get_or (indices_at lists good) k d) (Contains-get_or (indices_at lists good) k d l) in
               omega (arith, w))))
-              (λ (n : g ≡ good → ⊥). subst (λ (zs : List Posting). AllPairs (λ one other. one < other) (map place_of zs)) (sym (others g n)) (h.rising g))
+              (λ (n : g ≡ good → ⊥). subst (λ (zs : List Posting). AllPairs (λ one other. one < other) (map index_of zs)) (sym (others g n)) (h.rising g))
               (cases_eq g good);
-          one_good = λ g o spot c k. both g o spot (place_cases g spot c) (place_cases o spot k);
+          one_good = λ g o spot c k. both g o spot (index_cases g spot c) (index_cases o spot k);
         }
       where
-        both : (g o spot : ℕ) → Contains (places_at lists g) spot ⊎ ((g ≡ good) × (spot ≡ listed)) → Contains (places_at lists o) spot
+        both : (g o spot : ℕ) → Contains (indices_at lists g) spot ⊎ ((g ≡ good) × (spot ≡ listed)) → Contains (indices_at lists o) spot
             ⊎ ((o ≡ good) × (spot ≡ listed)) → g ≡ o
         both g o spot (inl c) (inl k) = h.one_good g o spot c k
         both g o spot (inl c) (inr k) = let l = h.no_more g spot c in let e : spot ≡ listed = k.1 in absurd (omega (arith, l))
@@ -371,19 +371,19 @@ module _ (lists more : List (List Posting)) (listed : ℕ) (atoms : List (Atom (
 pub none_inside : (from : ℕ) (atoms : List (Atom (List ℕ))) (bundle : List ℕ) → All (λ a. IsRising a.bundle) atoms → IsRising bundle → IsInOrder atoms
     → IsBehind bundle atoms → (from < length atoms → length bundle ≤ length (atom_at atoms from).bundle)
     → NoneInsideFrom from atoms bundle
-none_inside from atoms bundle rising r order before large place behind within =
+none_inside from atoms bundle rising r order before large index behind within =
     let d : Atom (List ℕ) = record { bundle = []; price = 0 } in
-    let x = atom_at atoms place in
+    let x = atom_at atoms index in
     let y = atom_at atoms from in
     let least : length bundle ≤ length y.bundle = large (omega arith) in
     let larger : length y.bundle ≤ length x.bundle =
-    ⊎_elim (λ (e : from ≡ place). subst (λ n. length y.bundle ≤ length (atom_at atoms n).bundle) e (omega arith))
-    (λ (n : from ≡ place → ⊥). no_smaller y.bundle x.bundle (order from place d (apart from place behind n) within))
-    (cases_eq from place) in
+    ⊎_elim (λ (e : from ≡ index). subst (λ n. length y.bundle ≤ length (atom_at atoms n).bundle) e (omega arith))
+    (λ (n : from ≡ index → ⊥). no_smaller y.bundle x.bundle (order from index d (apart from index behind n) within))
+    (cases_eq from index) in
     false_from_ne_true (is_inside x.bundle bundle) (λ i.
-    let fits = length_inside x.bundle bundle (rising place d within) r i in
-    let same = same_from_length x.bundle bundle (rising place d within) r i (omega (arith, fits, larger, least)) in
-    before_itself bundle (subst (λ zs. bundle_cmp zs bundle ≡ Less) same (before place d within)))
+    let fits = length_inside x.bundle bundle (rising index d within) r i in
+    let same = same_from_length x.bundle bundle (rising index d within) r i (omega (arith, fits, larger, least)) in
+    before_itself bundle (subst (λ zs. bundle_cmp zs bundle ≡ Less) same (before index d within)))
   where
     apart : (m n : ℕ) → m ≤ n → (m ≡ n → ⊥) → m < n
     apart m n l e = ⊎_elim (λ (k : m < n). k) (λ (k : n ≤ m). absurd (e (omega arith))) (cases_lt m n)
@@ -394,24 +394,24 @@ none_inside from atoms bundle rising r order before large place behind within =
         (λ (k : length xs ≤ length ys). k)
         (cases_lt (length ys) (length xs))
 
--- ---- the places found so far at one good
+-- ---- the indices found so far at one good
 
-pub found_more : (p : ℕ → Bool) (old found more xs : List ℕ) (i place : ℕ) → i < length xs → get_or xs i 0 ≡ place → found ≡ old ++ filter p (take i xs)
-    → more ≡ found ++ cond (p place) (place ∷ []) [] → more ≡ old ++ filter p (take (i + 1) xs)
-found_more p old found more xs i place l is e f =
+pub found_more : (p : ℕ → Bool) (old found more xs : List ℕ) (i index : ℕ) → i < length xs → get_or xs i 0 ≡ index → found ≡ old ++ filter p (take i xs)
+    → more ≡ found ++ cond (p index) (index ∷ []) [] → more ≡ old ++ filter p (take (i + 1) xs)
+found_more p old found more xs i index l is e f =
     f ∙ ap (λ n. found ++ cond (p n) (n ∷ []) []) (sym is) ∙ ap (λ (zs : List ℕ). zs ++ cond (p (get_or xs i 0)) (get_or xs i 0 ∷ []) []) e
     ∙ append_assoc old (filter p (take i xs)) (cond (p (get_or xs i 0)) (get_or xs i 0 ∷ []) [])
     ∙ ap (λ (zs : List ℕ). old ++ zs) (sym (filter_more p xs i 0 l))
 
--- the bundle that is read at a place
+-- the bundle that is read at an index
 pub bundle_there : {S : Type 0} (goods : S → List ℕ) (atoms : List (Atom S)) (i : ℕ) (a : Atom S) → a ≡ get_or atoms i a
     → goods (get_or atoms i a).bundle ≡ goods a.bundle
 bundle_there {S} goods atoms i a e = ap (λ (b : Atom S). goods b.bundle) (sym e)
 
--- the place at an index, and what is listed there
-pub places_get : (listed : List Posting) (i : ℕ) (d : Posting) → i < length listed → (i < length (map place_of listed))
-    × (get_or (map place_of listed) i 0 ≡ (get_or listed i d).index)
-places_get listed i d l = let long = length-map listed place_of in (omega arith, get_or-map place_of listed i d 0 l)
+-- what is listed at an index, and its index
+pub indices_get : (listed : List Posting) (i : ℕ) (d : Posting) → i < length listed → (i < length (map index_of listed))
+    × (get_or (map index_of listed) i 0 ≡ (get_or listed i d).index)
+indices_get listed i d l = let long = length-map listed index_of in (omega arith, get_or-map index_of listed i d 0 l)
 
 pub postings_right : (lists : List (List Posting)) (count : ℕ) (atoms : List (Atom (List ℕ))) (good : ℕ) (postings : List Posting)
     → AreListed lists count atoms → postings ≡ listed_at lists good → All (IsPosting atoms) postings
@@ -424,22 +424,22 @@ pub not_inside : (atoms : List (Atom (List ℕ))) (bundle : List ℕ) (price : �
     → dominates_at atoms bundle price posting.index ≡ false
 not_inside atoms bundle price posting t = and_right (leb price (atom_at atoms posting.index).price) (is_inside_at atoms bundle posting.index) t
 
--- ---- the atoms at the places found so far
+-- ---- the atoms at the indices found so far
 
-pub seen_more : {S : Type 0} (goods : S → List ℕ) (atoms : List (Atom S)) (inside more : List (Bor (Atom S))) (places : List ℕ) (i : ℕ) (a : Bor (Atom S))
-    → i < length places → get_or places i 0 < length atoms → a.now ≡ get_or atoms (get_or places i 0) a.now
-    → atoms_of goods (map (λ a. a.now) inside) ≡ map (atom_at (atoms_of goods atoms)) (take i places) → more ≡ inside ++ a ∷ []
-    → atoms_of goods (map (λ a. a.now) more) ≡ map (atom_at (atoms_of goods atoms)) (take (i + 1) places)
-seen_more {S} goods atoms inside more places i a l m e h f =
+pub seen_more : {S : Type 0} (goods : S → List ℕ) (atoms : List (Atom S)) (inside more : List (Bor (Atom S))) (indices : List ℕ) (i : ℕ) (a : Bor (Atom S))
+    → i < length indices → get_or indices i 0 < length atoms → a.now ≡ get_or atoms (get_or indices i 0) a.now
+    → atoms_of goods (map (λ a. a.now) inside) ≡ map (atom_at (atoms_of goods atoms)) (take i indices) → more ≡ inside ++ a ∷ []
+    → atoms_of goods (map (λ a. a.now) more) ≡ map (atom_at (atoms_of goods atoms)) (take (i + 1) indices)
+seen_more {S} goods atoms inside more indices i a l m e h f =
     let seen : Bor (Atom S) → Atom (List ℕ) = λ a. record { bundle = goods a.now.bundle; price = a.now.price } in
     let all : Atom S → Atom (List ℕ) = λ a. record { bundle = goods a.bundle; price = a.price } in
     let pushed : atoms_of goods (map (λ a. a.now) more) ≡ atoms_of goods (map (λ a. a.now) inside) ++ seen a ∷ [] =
     ap (λ (zs : List (Bor (Atom S))). atoms_of goods (map (λ a. a.now) zs)) f ∙ ap (map all) (map_push (λ (a : Bor (Atom S)). a.now) inside a)
     ∙ map_push all (map (λ (a : Bor (Atom S)). a.now) inside) a.now in
-    let taken : map (atom_at (atoms_of goods atoms)) (take (i + 1) places) ≡ map (atom_at (atoms_of goods atoms)) (take i places)
-    ++ atom_at (atoms_of goods atoms) (get_or places i 0) ∷ [] =
-    ap (map (atom_at (atoms_of goods atoms))) (take_more places i 0 l) ∙ map_push (atom_at (atoms_of goods atoms)) (take i places) (get_or places i 0) in
-    let here : atom_at (atoms_of goods atoms) (get_or places i 0) ≡ seen a =
-    get_or-atoms_of goods atoms (get_or places i 0) a.now (record { bundle = []; price = 0 }) m e in
+    let taken : map (atom_at (atoms_of goods atoms)) (take (i + 1) indices) ≡ map (atom_at (atoms_of goods atoms)) (take i indices)
+    ++ atom_at (atoms_of goods atoms) (get_or indices i 0) ∷ [] =
+    ap (map (atom_at (atoms_of goods atoms))) (take_more indices i 0 l) ∙ map_push (atom_at (atoms_of goods atoms)) (take i indices) (get_or indices i 0) in
+    let here : atom_at (atoms_of goods atoms) (get_or indices i 0) ≡ seen a =
+    get_or-atoms_of goods atoms (get_or indices i 0) a.now (record { bundle = []; price = 0 }) m e in
     pushed ∙ ap (λ (zs : List (Atom (List ℕ))). zs ++ seen a ∷ []) h
-    ∙ sym (taken ∙ ap (λ (b : Atom (List ℕ)). map (atom_at (atoms_of goods atoms)) (take i places) ++ b ∷ []) here)
+    ∙ sym (taken ∙ ap (λ (b : Atom (List ℕ)). map (atom_at (atoms_of goods atoms)) (take i indices) ++ b ∷ []) here)

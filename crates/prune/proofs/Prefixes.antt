@@ -7,56 +7,56 @@ use Rattle.std.proofs.lemmas.List.Edits.{swap_is}
 
 -- ---- one swap
 
-pub swap-prefix : {X : Type 0} (xs : List X) (prefix place : ℕ) (d : X) → prefix ≤ place → (prefix ≡ place → ⊥) → place < length xs
-    → take (prefix + 1) (swap xs prefix place) ≡ take prefix xs ++ get_or xs place d ∷ []
-swap-prefix xs prefix place d before apart there =
-    let below : prefix < place = omega arith in
-    let x = get_or xs place d in
-    sym (ap (take (prefix + 1)) (swap_is xs prefix place d (omega arith) there))
-    ∙ take-set-le (prefix + 1) (set xs prefix x) place (get_or xs prefix d) (omega arith)
+pub swap-prefix : {X : Type 0} (xs : List X) (prefix index : ℕ) (d : X) → prefix ≤ index → (prefix ≡ index → ⊥) → index < length xs
+    → take (prefix + 1) (swap xs prefix index) ≡ take prefix xs ++ get_or xs index d ∷ []
+swap-prefix xs prefix index d before apart there =
+    let below : prefix < index = omega arith in
+    let x = get_or xs index d in
+    sym (ap (take (prefix + 1)) (swap_is xs prefix index d (omega arith) there))
+    ∙ take-set-le (prefix + 1) (set xs prefix x) index (get_or xs prefix d) (omega arith)
     ∙ take_more_set xs prefix x (omega arith)
 
-pub swap-rest : {X : Type 0} (xs : List X) (prefix place : ℕ) → prefix ≤ place → (prefix ≡ place → ⊥) → place < length xs
-    → drop (place + 1) (swap xs prefix place) ≡ drop (place + 1) xs
-swap-rest [] prefix place before apart there = refl
-swap-rest {X} (d ∷ ys) prefix place before apart there =
+pub swap-rest : {X : Type 0} (xs : List X) (prefix index : ℕ) → prefix ≤ index → (prefix ≡ index → ⊥) → index < length xs
+    → drop (index + 1) (swap xs prefix index) ≡ drop (index + 1) xs
+swap-rest [] prefix index before apart there = refl
+swap-rest {X} (d ∷ ys) prefix index before apart there =
     let xs : List X = d ∷ ys in
-    let below : prefix < place = omega arith in
-    let x = get_or xs place d in
-    sym (ap (drop (place + 1)) (swap_is xs prefix place d (omega arith) there))
-    ∙ drop-set-lt (place + 1) (set xs prefix x) place (get_or xs prefix d) (omega arith)
-    ∙ drop-set-lt (place + 1) xs prefix x (omega arith)
+    let below : prefix < index = omega arith in
+    let x = get_or xs index d in
+    sym (ap (drop (index + 1)) (swap_is xs prefix index d (omega arith) there))
+    ∙ drop-set-lt (index + 1) (set xs prefix x) index (get_or xs prefix d) (omega arith)
+    ∙ drop-set-lt (index + 1) xs prefix x (omega arith)
 
 -- ---- a list that is visited in order
 
--- from the place on the list is as it was at first
-pub record IsLeft {X : Type 0} (first now : List X) (place : ℕ) : Type 0 where
+-- from the index on the list is as it was at first
+pub record IsLeft {X : Type 0} (first now : List X) (index : ℕ) : Type 0 where
   pub long : length now ≡ length first
-  pub rest : drop place now ≡ drop place first
+  pub rest : drop index now ≡ drop index first
 
-module _ {X : Type 0} (first now : List X) (place : ℕ) (x : X) (h : IsLeft first now place) (l : place < length now) (is : x ≡ get_or now place x)
+module _ {X : Type 0} (first now : List X) (index : ℕ) (x : X) (h : IsLeft first now index) (l : index < length now) (is : x ≡ get_or now index x)
   where
-    next_rest : drop place first ≡ x ∷ drop (place + 1) now
-    next_rest = sym h.rest ∙ drop_more now place x l ∙ ap (λ y. y ∷ drop (place + 1) now) (sym is)
+    next_rest : drop index first ≡ x ∷ drop (index + 1) now
+    next_rest = sym h.rest ∙ drop_more now index x l ∙ ap (λ y. y ∷ drop (index + 1) now) (sym is)
 
     -- the next element was there at first
-    next_there : (x ≡ get_or first place x) × (drop (place + 1) now ≡ drop (place + 1) first)
+    next_there : (x ≡ get_or first index x) × (drop (index + 1) now ≡ drop (index + 1) first)
     next_there =
         let long = h.long in
         let e = next_rest in
-        let f = drop_more first place x (omega (arith, long)) in (cc, cc)
+        let f = drop_more first index x (omega (arith, long)) in (cc, cc)
 
-    pub next_taken : take (place + 1) first ≡ take place first ++ x ∷ []
+    pub next_taken : take (index + 1) first ≡ take index first ++ x ∷ []
     next_taken =
         let long = h.long in
-        take_more first place x (omega (arith, long)) ∙ ap (λ y. take place first ++ y ∷ []) (sym next_there.0)
+        take_more first index x (omega (arith, long)) ∙ ap (λ y. take index first ++ y ∷ []) (sym next_there.0)
 
-    pub next_parts : first ≡ take place first ++ x ∷ drop (place + 1) first
-    next_parts = sym (take-append-drop place first) ∙ ap (λ zs. take place first ++ zs) (next_rest ∙ ap (λ zs. x ∷ zs) next_there.1)
+    pub next_parts : first ≡ take index first ++ x ∷ drop (index + 1) first
+    next_parts = sym (take-append-drop index first) ∙ ap (λ zs. take index first ++ zs) (next_rest ∙ ap (λ zs. x ∷ zs) next_there.1)
 
-    pub next_drop : drop place first ≡ x ∷ drop (place + 1) first
+    pub next_drop : drop index first ≡ x ∷ drop (index + 1) first
     next_drop = next_rest ∙ ap (λ zs. x ∷ zs) next_there.1
 
     -- what is behind the element stays
-    pub next_left : (after : List X) → length after ≡ length now → drop (place + 1) after ≡ drop (place + 1) now → IsLeft first after (place + 1)
+    pub next_left : (after : List X) → length after ≡ length now → drop (index + 1) after ≡ drop (index + 1) now → IsLeft first after (index + 1)
     next_left after long rest = record { long = long ∙ h.long; rest = rest ∙ next_there.1 }

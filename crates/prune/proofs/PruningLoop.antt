@@ -29,45 +29,45 @@ module _ {S : Type 0} (goods : S → List ℕ) (rising : (s : S) → IsRising (g
   all_rising (a ∷ rest) = All-cons HasRisingBundle (plain_atom goods a) (atoms_of goods rest) (rising a.bundle) (all_rising rest)
 
   -- the next bid
-  pub next_turn : (bids : List (Atom (List ℕ))) (best now : List (Atom S)) (place : ℕ) (bid : Atom S) → AreBestBids bids (atoms_of goods best)
-      → IsLeft best now place → place < length now → bid ≡ get_or now place bid
-      → IsTurn bids (atoms_of goods (take place best)) (plain_atom goods bid) (atoms_of goods (drop (place + 1) best))
-  next_turn bids best now place bid b h l is =
-      let parts : atoms_of goods best ≡ atoms_of goods (take place best) ++ plain_atom goods bid ∷ atoms_of goods (drop (place + 1) best) =
-      ap (atoms_of goods) (next_parts best now place bid h l is) ∙ map-append (plain_atom goods) (take place best) (bid ∷ drop (place + 1) best) in
+  pub next_turn : (bids : List (Atom (List ℕ))) (best now : List (Atom S)) (index : ℕ) (bid : Atom S) → AreBestBids bids (atoms_of goods best)
+      → IsLeft best now index → index < length now → bid ≡ get_or now index bid
+      → IsTurn bids (atoms_of goods (take index best)) (plain_atom goods bid) (atoms_of goods (drop (index + 1) best))
+  next_turn bids best now index bid b h l is =
+      let parts : atoms_of goods best ≡ atoms_of goods (take index best) ++ plain_atom goods bid ∷ atoms_of goods (drop (index + 1) best) =
+      ap (atoms_of goods) (next_parts best now index bid h l is) ∙ map-append (plain_atom goods) (take index best) (bid ∷ drop (index + 1) best) in
       record {
         best = subst (λ (zs : List (Atom (List ℕ))). AreBestBids bids zs) parts b;
         rising = subst (λ (zs : List (Atom (List ℕ))). All HasRisingBundle zs) parts (all_rising best);
       }
 
 -- the next bid is done
-pub one_done : {S : Type 0} (goods : S → List ℕ) (best now : List (Atom S)) (place : ℕ) (bid : Atom S) → IsLeft best now place → place < length now
-    → bid ≡ get_or now place bid → atoms_of goods (take (place + 1) best) ≡ atoms_of goods (take place best) ++ plain_atom goods bid ∷ []
-one_done goods best now place bid h l is =
-    ap (atoms_of goods) (next_taken best now place bid h l is) ∙ map_push (plain_atom goods) (take place best) bid
+pub one_done : {S : Type 0} (goods : S → List ℕ) (best now : List (Atom S)) (index : ℕ) (bid : Atom S) → IsLeft best now index → index < length now
+    → bid ≡ get_or now index bid → atoms_of goods (take (index + 1) best) ≡ atoms_of goods (take index best) ++ plain_atom goods bid ∷ []
+one_done goods best now index bid h l is =
+    ap (atoms_of goods) (next_taken best now index bid h l is) ∙ map_push (plain_atom goods) (take index best) bid
 
 -- and it is kept
-pub one_kept : {S : Type 0} (goods : S → List ℕ) (now after : List (Atom S)) (kept place : ℕ) (bid : Atom S) → bid ≡ get_or now place bid
-    → ((d : Atom S) → take (kept + 1) after ≡ take kept now ++ get_or now place d ∷ [])
+pub one_kept : {S : Type 0} (goods : S → List ℕ) (now after : List (Atom S)) (kept index : ℕ) (bid : Atom S) → bid ≡ get_or now index bid
+    → ((d : Atom S) → take (kept + 1) after ≡ take kept now ++ get_or now index d ∷ [])
     → atoms_of goods (take (kept + 1) after) ≡ atoms_of goods (take kept now) ++ plain_atom goods bid ∷ []
-one_kept {S} goods now after kept place bid is e =
-    ap (atoms_of goods) (e bid) ∙ map_push (plain_atom goods) (take kept now) (get_or now place bid)
+one_kept {S} goods now after kept index bid is e =
+    ap (atoms_of goods) (e bid) ∙ map_push (plain_atom goods) (take kept now) (get_or now index bid)
     ∙ ap (λ (a : Atom S). atoms_of goods (take kept now) ++ plain_atom goods a ∷ []) (sym is)
 
 -- ---- the loop's end
 
-pub xor_end : {S : Type 0} (goods : S → List ℕ) (bids : List (Atom (List ℕ))) (best kept result : List (Atom S)) (place : ℕ)
-    → AreBestBids bids (atoms_of goods best) → IsXorKept (atoms_of goods (take place best)) (atoms_of goods kept) → length best ≤ place → result ≡ kept
+pub xor_end : {S : Type 0} (goods : S → List ℕ) (bids : List (Atom (List ℕ))) (best kept result : List (Atom S)) (index : ℕ)
+    → AreBestBids bids (atoms_of goods best) → IsXorKept (atoms_of goods (take index best)) (atoms_of goods kept) → length best ≤ index → result ≡ kept
     → AreXorPoints bids (atoms_of goods result)
-xor_end {S} goods bids best kept result place b k l e =
-    let all = subst (λ (zs : List (Atom S)). IsXorKept (atoms_of goods zs) (atoms_of goods kept)) (take_all place best l) k in
+xor_end {S} goods bids best kept result index b k l e =
+    let all = subst (λ (zs : List (Atom S)). IsXorKept (atoms_of goods zs) (atoms_of goods kept)) (take_all index best l) k in
     rw e (xor_done bids (atoms_of goods best) (atoms_of goods kept) b all)
 
-pub or_end : {S : Type 0} (goods : S → List ℕ) (bids : List (Atom (List ℕ))) (best kept result : List (Atom S)) (place : ℕ)
+pub or_end : {S : Type 0} (goods : S → List ℕ) (bids : List (Atom (List ℕ))) (best kept result : List (Atom S)) (index : ℕ)
     → All (λ a. 0 < length a.bundle) bids → AreBestBids bids (atoms_of goods best)
-    → IsOrKept (atoms_of goods (take place best)) (atoms_of goods kept) → length best ≤ place → result ≡ kept → AreOrPoints bids (atoms_of goods result)
-or_end {S} goods bids best kept result place some b k l e =
-    let all = subst (λ (zs : List (Atom S)). IsOrKept (atoms_of goods zs) (atoms_of goods kept)) (take_all place best l) k in
+    → IsOrKept (atoms_of goods (take index best)) (atoms_of goods kept) → length best ≤ index → result ≡ kept → AreOrPoints bids (atoms_of goods result)
+or_end {S} goods bids best kept result index some b k l e =
+    let all = subst (λ (zs : List (Atom S)). IsOrKept (atoms_of goods zs) (atoms_of goods kept)) (take_all index best l) k in
     rw e (or_done bids (atoms_of goods best) (atoms_of goods kept) some b all)
 
 -- ---- an atom of a list of atoms inside a bundle has a price
@@ -103,11 +103,11 @@ all_some n bids are = All-weaker (IsAtom n) (λ a. 0 < length a.bundle) (λ a i.
 -- ---- the bids that are left
 
 -- the next one is the first of them
-pub one_left : {S : Type 0} (goods : S → List ℕ) (best now : List (Atom S)) (place : ℕ) (bid : Atom S) → IsLeft best now place → place < length now
-    → bid ≡ get_or now place bid
-    → atoms_of goods (drop place best) ≡ plain_atom goods bid ∷ atoms_of goods (drop (place + 1) best)
-one_left {S} goods best now place bid h l is = ap (atoms_of goods) (next_drop best now place bid h l is)
+pub one_left : {S : Type 0} (goods : S → List ℕ) (best now : List (Atom S)) (index : ℕ) (bid : Atom S) → IsLeft best now index → index < length now
+    → bid ≡ get_or now index bid
+    → atoms_of goods (drop index best) ≡ plain_atom goods bid ∷ atoms_of goods (drop (index + 1) best)
+one_left {S} goods best now index bid h l is = ap (atoms_of goods) (next_drop best now index bid h l is)
 
 -- behind the last one there is none
-pub none_left : {S : Type 0} (goods : S → List ℕ) (best : List (Atom S)) (place : ℕ) → length best ≤ place → atoms_of goods (drop place best) ≡ []
-none_left goods best place l = ap (atoms_of goods) (drop_all place best l)
+pub none_left : {S : Type 0} (goods : S → List ℕ) (best : List (Atom S)) (index : ℕ) → length best ≤ index → atoms_of goods (drop index best) ≡ []
+none_left goods best index l = ap (atoms_of goods) (drop_all index best l)

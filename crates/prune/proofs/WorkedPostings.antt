@@ -4,7 +4,7 @@ use Rattle.std.specs.Int.{bit_at}
 use Rattle.std.proofs.lemmas.Nat.Bits.{bit_at-pow_same, bit_at-pow_other}
 use Rattle.std.proofs.lemmas.Bool.{both_ways, cases_eq}
 use Rattle.goods_set.specs.Bundles.{has_good}
-use Rattle.goods_set.specs.Fingerprints.{AreMarks, mark_of}
+use Rattle.prune.specs.Internal.Fingerprints.{AreMarks, mark_of}
 use Rattle.goods_set.specs.Lemmas.Members.{has_cases}
 use Rattle.valuation.specs.Examples.{atom}
 use Rattle.prune.specs.Internal.Listings.{IsPosting}

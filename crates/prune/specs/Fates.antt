@@ -1,6 +1,6 @@
 -- What becomes of a bidder's best bids: one on each bundle with a price above 0, in order, at the greatest price there.
--- A best bid is kept as a point, or the points below its bundle reach its price. Points are named by their places among
--- the bidder's points, which are in order.
+-- A best bid is kept as a point, or the points below its bundle reach its price. Points are named by their indices
+-- among the bidder's points, which are in order.
 use Rattle.std.specs.Prelude.{ℕ, nat_le, if◌then◌else◌, Option, Some, None, List, map, length, reverse, slice_index_or}
 use Rattle.std.specs.Global.{Vec}
 use Rattle.std.specs.List.{filter, find, range_with_len}
@@ -18,10 +18,10 @@ abbrev pub best_bids : ℕ → List (Atom (List ℕ)) → List (Atom (List ℕ))
 best_bids goods atoms = map (λ bundle. record { bundle = bundle; price = greatest_price atoms bundle })
     (searched_bundles goods atoms)
 
--- the places of the points below a bundle, rising
-abbrev pub places_below : List (Atom (List ℕ)) → List ℕ → List ℕ
-places_below points bundle =
-    filter (λ place. is_below (atom_at points place).bundle bundle) (range_with_len 0 (length points))
+-- the indices of the points below a bundle, rising
+abbrev pub indices_below : List (Atom (List ℕ)) → List ℕ → List ℕ
+indices_below points bundle =
+    filter (λ index. is_below (atom_at points index).bundle bundle) (range_with_len 0 (length points))
 
 -- ---- the OR bidder
 
@@ -34,18 +34,18 @@ ordered Bounded xs = reverse xs
 abbrev pub numbers_at : List ℕ → List ℕ → List ℕ
 numbers_at numbers indices = map (λ index. slice_index_or numbers index 0) indices
 
--- the places, rising, of the packing that the search of a kind finds among the points below a bundle, if there is one
+-- the indices, rising, of the packing that the search of a kind finds among the points below a bundle, if there is one
 -- that reaches the price
-unfoldable pub found_places : SearchKind → List (Atom (List ℕ)) → List ℕ → ℕ → List ℕ
-found_places kind points bundle price =
-    ordered kind (numbers_at (ordered kind (places_below points bundle))
+unfoldable pub found_points : SearchKind → List (Atom (List ℕ)) → List ℕ → ℕ → List ℕ
+found_points kind points bundle price =
+    ordered kind (numbers_at (ordered kind (indices_below points bundle))
     (found_indices (in_search_order kind (atoms_below points bundle)) bundle price))
 
--- of a best bid: none if it is kept, and else the places of the packing that reaches its price
+-- of a best bid: none if it is kept, and else the indices of the packing that reaches its price
 unfoldable pub or_fate : SearchKind → List (Atom (List ℕ)) → Atom (List ℕ) → Option (List ℕ)
 or_fate kind points bid =
     if nat_le bid.price (or_value (atoms_below points bid.bundle) bid.bundle)
-    then Some (found_places kind points bid.bundle bid.price) else None
+    then Some (found_points kind points bid.bundle bid.price) else None
 
 abbrev pub or_fates : SearchKind → ℕ → List (Atom (List ℕ)) → List (Option (List ℕ))
 or_fates kind goods atoms = map (or_fate kind (or_points goods atoms)) (best_bids goods atoms)
@@ -53,14 +53,14 @@ or_fates kind goods atoms = map (or_fate kind (or_points goods atoms)) (best_bid
 -- a fate, as a caller sees it
 abbrev pub plain_fate : Option (Vec ℕ) → Option (List ℕ)
 plain_fate None = None
-plain_fate (Some places) = Some places.items
+plain_fate (Some indices) = Some indices.items
 
 -- ---- an XOR bidder
 
--- of a best bid: none if it is kept, and else the place of the first point below its bundle whose price is at least its
+-- of a best bid: none if it is kept, and else the index of the first point below its bundle whose price is at least its
 -- own
 unfoldable pub xor_fate : List (Atom (List ℕ)) → Atom (List ℕ) → Option ℕ
-xor_fate points bid = find (λ place. nat_le bid.price (atom_at points place).price) (places_below points bid.bundle)
+xor_fate points bid = find (λ index. nat_le bid.price (atom_at points index).price) (indices_below points bid.bundle)
 
 abbrev pub xor_fates : ℕ → List (Atom (List ℕ)) → List (Option ℕ)
 xor_fates goods atoms = map (xor_fate (xor_points goods atoms)) (best_bids goods atoms)

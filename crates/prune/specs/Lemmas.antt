@@ -4,7 +4,7 @@ pub mod InOrder
 pub mod KeptBids
 pub mod Lists
 pub mod OnBundles
-pub mod PackingPlaces
+pub mod PackingIndices
 pub mod Points
 pub mod Ranges
 pub mod Refusals

@@ -13,11 +13,11 @@ const SAMPLE: usize = 1_024;
 /// Counts each of the goods once more.
 fn count_goods(counts: &mut Vec<u32>, goods: &[u16]) -> Result<(), AllocError> {
     for good in goods {
-        let place = usize::from(*good);
-        if counts.len() <= place {
-            counts.resize(place + 1, 0)?;
+        let index = usize::from(*good);
+        if counts.len() <= index {
+            counts.resize(index + 1, 0)?;
         }
-        counts[place] = counts[place].saturating_add(1);
+        counts[index] = counts[index].saturating_add(1);
     }
     Ok(())
 }

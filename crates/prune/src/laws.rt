@@ -107,9 +107,9 @@ pub fn same_tables_same_points()
 /// What becomes of a dropped bid reaches its price: of an OR bid a packing of points, of an XOR bid a point.
 pub fn fates_reach()
     ensures or { (kind : SearchKind) (points : List (Atom (List ℕ))) (bid : Atom (List ℕ))
-        → IfSome (or_fate kind points bid) (λ places. IsPackingFor points bid.bundle bid.price places) }
+        → IfSome (or_fate kind points bid) (λ indices. IsPackingFor points bid.bundle bid.price indices) }
     ensures xor { (points : List (Atom (List ℕ))) (bid : Atom (List ℕ))
-        → IfSome (xor_fate points bid) (λ place. IsPointFor points bid.bundle bid.price place) }
+        → IfSome (xor_fate points bid) (λ index. IsPointFor points bid.bundle bid.price index) }
 {}
 
 /// If no bundle is heavy for the bids, or none is refused, that holds for their points.

@@ -4,6 +4,7 @@
 mod best;
 mod commonness;
 mod fate_log;
+mod fingerprints;
 pub mod laws;
 mod or;
 mod packing_finder;

@@ -13,11 +13,11 @@ use valuation::Atom;
 /// So few bids are left as they are: to sort them without keys takes less time than to list the keys.
 const SHORT_LIST: usize = 32;
 
-/// A bid, by the sort key of its bundle and its place.
+/// A bid, by the sort key of its bundle and its index.
 #[derive(Clone, Copy)]
-struct KeyedPlace {
+struct KeyedIndex {
     key: u64,
-    place: usize,
+    index: usize,
 }
 
 /// The order of bids: by bundle, and on one bundle the greater price first.
@@ -30,9 +30,9 @@ pub fn greater_price_first<S: GoodsSet>(one: &Atom<S>, other: &Atom<S>) -> Order
 }
 
 /// The order of two of the bids. If the keys differ, none is looked at.
-fn order_by_keys<S: GoodsSet>(bids: &[Atom<S>], one: &KeyedPlace, other: &KeyedPlace) -> Ordering {
+fn order_by_keys<S: GoodsSet>(bids: &[Atom<S>], one: &KeyedIndex, other: &KeyedIndex) -> Ordering {
     match one.key.cmp(&other.key) {
-        Ordering::Equal => match (bids.get(one.place), bids.get(other.place)) {
+        Ordering::Equal => match (bids.get(one.index), bids.get(other.index)) {
             (Some(one), Some(other)) => greater_price_first(one, other),
             _ => Ordering::Equal,
         },
@@ -40,28 +40,28 @@ fn order_by_keys<S: GoodsSet>(bids: &[Atom<S>], one: &KeyedPlace, other: &KeyedP
     }
 }
 
-/// The places of the bids in the order of the bids.
-fn places_in_order<S: GoodsSet>(
+/// The indices of the bids in the order of the bids.
+fn indices_in_order<S: GoodsSet>(
     alloc: Global,
     bids: &[Atom<S>],
-) -> Result<Vec<KeyedPlace>, AllocError> {
-    let mut places = Vec::with_capacity(alloc, bids.len())?;
-    for (place, bid) in bids.iter().enumerate() {
+) -> Result<Vec<KeyedIndex>, AllocError> {
+    let mut indices = Vec::with_capacity(alloc, bids.len())?;
+    for (index, bid) in bids.iter().enumerate() {
         let key = sort_key(&bid.bundle);
-        places.push(KeyedPlace { key, place })?;
+        indices.push(KeyedIndex { key, index })?;
     }
-    places.sort_unstable_by(|one, other| order_by_keys(bids, one, other));
-    Ok(places)
+    indices.sort_unstable_by(|one, other| order_by_keys(bids, one, other));
+    Ok(indices)
 }
 
-/// Where the bid that belongs at `to` is now, when each place before `to` has its bid. At first it was at the place that
-/// is listed at `to`. The bid that was at a place before `to` is where the bid of that place came from, and that place
+/// Where the bid that belongs at `to` is now, when each index before `to` has its bid. At first it was at the index that
+/// is listed at `to`. The bid that was at an index before `to` is where the bid of that index came from, and that index
 /// is listed there now.
-fn place_now(places: &[KeyedPlace], to: usize) -> usize {
+fn index_now(indices: &[KeyedIndex], to: usize) -> usize {
     let mut from = to;
-    for _ in 0..places.len() {
-        from = match places.get(from) {
-            Some(listed) => listed.place,
+    for _ in 0..indices.len() {
+        from = match indices.get(from) {
+            Some(listed) => listed.index,
             None => to,
         };
         if to <= from {
@@ -71,7 +71,7 @@ fn place_now(places: &[KeyedPlace], to: usize) -> usize {
     from
 }
 
-/// Puts the bids in order. A place past the end, which never comes, is skipped.
+/// Puts the bids in order. An index past the end, which never comes, is skipped.
 pub fn put_in_order<S: GoodsSet>(alloc: Global, bids: &mut Vec<Atom<S>>) -> Result<(), AllocError>
     ensures permutation { IsPermutation bids.old.items bids.new.items }
     ensures len { vec_len bids.new ≡ vec_len bids.old }
@@ -79,11 +79,11 @@ pub fn put_in_order<S: GoodsSet>(alloc: Global, bids: &mut Vec<Atom<S>>) -> Resu
     if bids.len() <= SHORT_LIST {
         return Ok(());
     }
-    let mut places = places_in_order(alloc, bids)?;
+    let mut indices = indices_in_order(alloc, bids)?;
     for to in 0..bids.len() {
-        let from = place_now(&places, to);
-        if let Some(listed) = places.get_mut(to) {
-            listed.place = from;
+        let from = index_now(&indices, to);
+        if let Some(listed) = indices.get_mut(to) {
+            listed.index = from;
         }
         if to < from && from < bids.len() {
             bids.swap(to, from);

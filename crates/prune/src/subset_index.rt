@@ -3,7 +3,7 @@ ghost use Rattle.std.specs.Prelude.{◌≡◌, ℕ, List, ◌+◌, ◌<◌, ◌�
 ghost use Rattle.std.specs.Prelude.{◌∷◌, ◌++◌, cond, is_some};
 ghost use Rattle.std.specs.Bool.{OnTrue};
 ghost use Rattle.std.specs.List.{filter};
-ghost use Rattle.goods_set.specs.Fingerprints.{AreMarks};
+ghost use Rattle.prune.specs.Internal.Fingerprints.{AreMarks};
 ghost use Rattle.valuation.specs.Values.{atoms_of, plain_atom};
 ghost use Rattle.valuation.specs.declared.atom.Atom.{Atom};
 ghost use Rattle.prune.specs.InOrder.{IsInOrder};
@@ -14,7 +14,7 @@ ghost use Rattle.prune.specs.Internal.Listings.{
   listed_at,
   lists_of,
   dominates_at,
-  first_dominating_place,
+  first_dominating_index,
   AreAllListed,
   ComesNext,
   IsBehind,
@@ -22,11 +22,12 @@ ghost use Rattle.prune.specs.Internal.Listings.{
   IsPosting,
   MayBePosting,
 };
-ghost use Rattle.prune.specs.Internal.Reaching.{places_inside};
+ghost use Rattle.prune.specs.Internal.Reaching.{indices_inside};
 ghost use Rattle.valuation.specs.Packings.{atom_at};
 
 use crate::commonness::{goods_counts, rarest};
-use goods_set::{GoodsSet, fingerprint, may_be_subset, rising_goods};
+use crate::fingerprints::{fingerprint, may_be_subset};
+use goods_set::{GoodsSet, rising_goods};
 use std::alloc::{AllocError, Global};
 use valuation::Atom;
 
@@ -115,7 +116,7 @@ fn find_inside_among<S: GoodsSet>(
     Ok(())
 }
 
-/// The place of the first of the listed atoms that is among these atoms, is inside the bundle and has at least the price, or
+/// The index of the first of the listed atoms that is among these atoms, is inside the bundle and has at least the price, or
 /// the number of atoms if there is none.
 fn first_dominating_among<S: GoodsSet>(
     postings: &[Posting],
@@ -131,15 +132,15 @@ fn first_dominating_among<S: GoodsSet>(
     ensures found { result < length kept.now
         → dominates_at (atoms_of S.goods kept.now) (S.goods bundle.now) price result ≡ true }
     ensures none { let dominating = dominates_at (atoms_of S.goods kept.now) (S.goods bundle.now) price in
-        All (λ place. place < result → dominating place ≡ false) (indices_of postings.now) }
+        All (λ index. index < result → dominating index ≡ false) (indices_of postings.now) }
 {
     for posting in postings {
-        let place = posting.index as usize;
-        if place >= kept.len() {
+        let index = posting.index as usize;
+        if index >= kept.len() {
             break;
         }
         if is_dominating(kept, posting, bundle, marks, price) {
-            return place;
+            return index;
         }
     }
     kept.len()
@@ -155,7 +156,7 @@ fn postings_at(lists: &[Vec<Posting>], good: u16) -> &[Posting]
     }
 }
 
-/// The place of the first kept atom inside the bid's bundle, which has these goods, with at least its price.
+/// The index of the first kept atom inside the bid's bundle, which has these goods, with at least its price.
 fn first_dominating_listed<S: GoodsSet>(
     lists: &[Vec<Posting>],
     kept: &[Atom<S>],
@@ -165,7 +166,7 @@ fn first_dominating_listed<S: GoodsSet>(
     requires goods { goods.now ≡ S.goods bid.now.bundle }
     requires listed { AreAllListed (lists_of lists.now) (atoms_of S.goods kept.now) (S.goods bid.now.bundle) }
     ensures { result
-        ≡ first_dominating_place (atoms_of S.goods kept.now) (S.goods bid.now.bundle) bid.now.price }
+        ≡ first_dominating_index (atoms_of S.goods kept.now) (S.goods bid.now.bundle) bid.now.price }
 {
     let marks = fingerprint(goods);
     let mut first = kept.len();
@@ -260,33 +261,34 @@ impl SubsetIndex {
         Ok(())
     }
 
-    /// Replaces the places by those of the kept atoms inside the bundle, which has these goods and comes behind all of them.
+    /// Replaces the indices by those of the kept atoms inside the bundle, which has these goods and comes behind all of
+    /// them.
     pub fn find_inside<S: GoodsSet>(
         &mut self,
         kept: &[Atom<S>],
         bundle: &S,
         goods: &[u16],
-        places: &mut Vec<usize>,
+        indices: &mut Vec<usize>,
     ) -> Result<(), AllocError>
         requires goods { goods.now ≡ S.goods bundle.now }
         requires next { ComesNext (atoms_of S.goods kept.now) (S.goods bundle.now) }
         requires index { IsIndexOf (atoms_of S.goods kept.now) self.old }
         ensures index { OnOk result (IsIndexOf (atoms_of S.goods kept.now) self.new) }
-        ensures places { OnOk result (places.new.items
-            ≡ places_inside (atoms_of S.goods kept.now) (S.goods bundle.now)) }
+        ensures indices { OnOk result (indices.new.items
+            ≡ indices_inside (atoms_of S.goods kept.now) (S.goods bundle.now)) }
     {
         self.list_below(kept, bundle)?;
         let marks = fingerprint(goods);
-        places.clear();
+        indices.clear();
         for good in goods {
             let postings = postings_at(&self.lists, *good);
-            find_inside_among(postings, kept, bundle, marks, places)?;
+            find_inside_among(postings, kept, bundle, marks, indices)?;
         }
-        places.sort_unstable();
+        indices.sort_unstable();
         Ok(())
     }
 
-    /// The place of the first kept atom inside the bid's bundle with at least its price. If there is none, the bid is the
+    /// The index of the first kept atom inside the bid's bundle with at least its price. If there is none, the bid is the
     /// next one that is kept.
     pub fn decide<S: GoodsSet>(
         &mut self,
@@ -298,7 +300,7 @@ impl SubsetIndex {
         ensures index { IfOk result (λ found. IsIndexOf
             (atoms_of S.goods kept.now ++ cond (is_some found) [] (plain_atom S.goods bid.now ∷ [])) self.new) }
         ensures found { IfOk result (λ found. found
-            ≡ first_dominating_place (atoms_of S.goods kept.now) (S.goods bid.now.bundle) bid.now.price) }
+            ≡ first_dominating_index (atoms_of S.goods kept.now) (S.goods bid.now.bundle) bid.now.price) }
     {
         self.list_below(kept, &bid.bundle)?;
         let goods = rising_goods(&bid.bundle, &mut self.buffer)?;

@@ -4,7 +4,8 @@ ghost use Rattle.valuation.specs.declared.search_kind.SearchKind.TheVariants.{Pl
 ghost use Rattle.valuation.specs.Examples.{atom};
 ghost use Rattle.valuation.specs.SearchLimits.{plain_options};
 ghost use Rattle.prune.specs.declared.subset_index.Posting.{Posting};
-ghost use Rattle.prune.specs.Fates.{best_bids, or_fate, or_fates, places_below, xor_fate, xor_fates};
+ghost use Rattle.prune.specs.Fates.{best_bids, or_fate, or_fates, indices_below, xor_fate, xor_fates};
+ghost use Rattle.prune.specs.Internal.Fingerprints.{AreMarks, mark_of};
 ghost use Rattle.prune.specs.Internal.Listings.{IsListed, IsPosting, AreListed, NoneInsideFrom};
 ghost use Rattle.prune.specs.Points.{xor_points, or_points};
 ghost use Rattle.prune.specs.SearchSteps.{
@@ -82,11 +83,11 @@ pub fn steps_worked()
 {}
 
 /// What becomes of best bids. A plain search finds the first points that reach the price, a bounded search the last.
-#[tactic(auto, unfolding(crate::specs::Points::points_where, crate::specs::Points::is_or_point, crate::specs::Points::is_xor_point, crate::specs::Fates::found_places, crate::specs::Fates::or_fate, crate::specs::Fates::xor_fate, valuation::specs::SearchSteps::found_indices, valuation::specs::Values::or_value, valuation::specs::Values::xor_value))]
+#[tactic(auto, unfolding(crate::specs::Points::points_where, crate::specs::Points::is_or_point, crate::specs::Points::is_xor_point, crate::specs::Fates::found_points, crate::specs::Fates::or_fate, crate::specs::Fates::xor_fate, valuation::specs::SearchSteps::found_indices, valuation::specs::Values::or_value, valuation::specs::Values::xor_value))]
 pub fn fates_worked()
     ensures best { best_bids 2 (atom (1 ∷ []) 4 ∷ atom (0 ∷ []) 0 ∷ atom (1 ∷ []) 5 ∷ atom (0 ∷ 1 ∷ []) 2 ∷ [])
         ≡ atom (1 ∷ []) 5 ∷ atom (0 ∷ 1 ∷ []) 2 ∷ [] }
-    ensures below { places_below (atom (0 ∷ []) 3 ∷ atom (2 ∷ []) 5 ∷ atom (0 ∷ 1 ∷ []) 8 ∷ atom (1 ∷ []) 4 ∷ [])
+    ensures below { indices_below (atom (0 ∷ []) 3 ∷ atom (2 ∷ []) 5 ∷ atom (0 ∷ 1 ∷ []) 8 ∷ atom (1 ∷ []) 4 ∷ [])
         (0 ∷ 1 ∷ []) ≡ 0 ∷ 3 ∷ [] }
     ensures plain { or_fate Plain (atom (0 ∷ []) 3 ∷ atom (1 ∷ []) 4 ∷ atom (2 ∷ []) 5 ∷ []) (atom (0 ∷ 1 ∷ 2 ∷ []) 7)
         ≡ Some (0 ∷ 1 ∷ []) }
@@ -146,13 +147,27 @@ pub fn refused_worked()
     ensures worthless { first_refused (plain_options 0) 1 (atom (0 ∷ []) 0 ∷ []) ≡ None }
 {}
 
-/// A place is listed at a good of the bundle.
+/// Goods near one another, and those that differ by 64 or 65, mark different bits. Some goods share one.
+fn fingerprints_worked()
+    ensures highest { mark_of 0 ≡ 96 }
+    ensures low { mark_of 1 ≡ 39 }
+    ensures high { mark_of 2 ≡ 79 }
+    ensures by_64 { mark_of 65 ≡ 10 }
+    ensures by_65 { mark_of 66 ≡ 50 }
+    ensures shared { mark_of 90 ≡ mark_of 1 }
+    ensures no_goods { AreMarks [] 0 }
+    ensures one_good { AreMarks (5 ∷ []) 32 }
+    ensures one_lacks { ¬ AreMarks (5 ∷ 65 ∷ []) 32 }
+    ensures one_too_many { ¬ AreMarks (5 ∷ []) 33 }
+{}
+
+/// An index is listed at a good of the bundle.
 fn listed_worked()
     ensures one { let it : Posting = record { index = 0; fingerprint = 2 ^ 96 } in
         IsListed ((it ∷ []) ∷ []) (0 ∷ []) 0 }
     ensures other_good { let it : Posting = record { index = 0; fingerprint = 2 ^ 96 } in
         ¬ IsListed ((it ∷ []) ∷ []) (1 ∷ []) 0 }
-    ensures other_place { let it : Posting = record { index = 0; fingerprint = 2 ^ 96 } in
+    ensures other_index { let it : Posting = record { index = 0; fingerprint = 2 ^ 96 } in
         ¬ IsListed ((it ∷ []) ∷ []) (0 ∷ []) 1 }
 {}
 
@@ -173,7 +188,7 @@ fn postings_worked()
         ¬ AreListed ((it ∷ []) ∷ []) 0 (atom (0 ∷ []) 5 ∷ []) }
 {}
 
-/// From a place on no atom is inside the bundle.
+/// From an index on no atom is inside the bundle.
 fn none_inside_from_worked()
     ensures no_atoms { NoneInsideFrom 0 [] (0 ∷ []) }
     ensures behind_it { NoneInsideFrom 1 (atom (0 ∷ []) 3 ∷ atom (1 ∷ []) 4 ∷ []) (0 ∷ []) }

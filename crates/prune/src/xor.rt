@@ -22,7 +22,7 @@ ghost use Rattle.valuation.specs.Auctions.{IsAtom};
 ghost use Rattle.valuation.specs.Values.{atoms_of, plain_atom, xor_value};
 ghost use Rattle.prune.specs.Fates.{xor_fates};
 ghost use Rattle.prune.specs.InOrder.{IsInOrder};
-ghost use Rattle.prune.specs.Internal.Listings.{dominates, first_dominating_place, ComesNext, IsIndexOf};
+ghost use Rattle.prune.specs.Internal.Listings.{dominates, first_dominating_index, ComesNext, IsIndexOf};
 ghost use Rattle.prune.specs.Points.{xor_points};
 
 use crate::best::keep_best_bids;
@@ -43,13 +43,13 @@ fn is_dominated_by<S: GoodsSet>(bid: &Atom<S>, atom: &Atom<S>) -> bool
     bid.price <= atom.price && atom.bundle.is_inside(&bid.bundle)
 }
 
-/// The place of the first of the atoms that is inside the bid's bundle and has at least its price.
+/// The index of the first of the atoms that is inside the bid's bundle and has at least its price.
 fn first_dominating<S: GoodsSet>(bid: &Atom<S>, atoms: &[Atom<S>]) -> Option<usize>
-    ensures { result ≡ first_dominating_place (atoms_of S.goods atoms.now) (S.goods bid.now.bundle) bid.now.price }
+    ensures { result ≡ first_dominating_index (atoms_of S.goods atoms.now) (S.goods bid.now.bundle) bid.now.price }
 {
-    for (place, atom) in atoms.iter().enumerate() {
+    for (index, atom) in atoms.iter().enumerate() {
         if is_dominated_by(bid, atom) {
-            return Some(place);
+            return Some(index);
         }
     }
     None
@@ -68,7 +68,7 @@ fn index_of_many<S: GoodsSet>(
     Ok(Some(SubsetIndex::of(alloc, atoms)?))
 }
 
-/// The place of the first kept atom inside the bid's bundle with at least its price, by the index if there is one. If
+/// The index of the first kept atom inside the bid's bundle with at least its price, by the index if there is one. If
 /// there is none, the bid is the next one that is kept.
 fn first_kept_dominating<S: GoodsSet>(
     index: &mut Option<SubsetIndex>,
@@ -80,7 +80,7 @@ fn first_kept_dominating<S: GoodsSet>(
     ensures index { IfOk result (λ found. IfSome index.new (IsIndexOf
         (atoms_of S.goods kept.now ++ cond (is_some found) [] (plain_atom S.goods bid.now ∷ [])))) }
     ensures found { IfOk result (λ found. found
-        ≡ first_dominating_place (atoms_of S.goods kept.now) (S.goods bid.now.bundle) bid.now.price) }
+        ≡ first_dominating_index (atoms_of S.goods kept.now) (S.goods bid.now.bundle) bid.now.price) }
 {
     match index {
         Some(index) => index.decide(kept, bid),
@@ -136,11 +136,11 @@ pub fn prune_xor_noting<S: GoodsSet>(
     keep_best_bids(alloc, &mut atoms)?;
     let mut index = index_of_many(alloc, &atoms)?;
     let mut kept = 0;
-    for place in 0..atoms.len() {
-        let found = first_kept_dominating(&mut index, &atoms[..kept], &atoms[place])?;
+    for next in 0..atoms.len() {
+        let found = first_kept_dominating(&mut index, &atoms[..kept], &atoms[next])?;
         log.note(found)?;
         if found.is_none() {
-            move_to_prefix(&mut atoms, kept, place);
+            move_to_prefix(&mut atoms, kept, next);
             kept += 1;
         }
     }

@@ -3,7 +3,7 @@ use Rattle.std.proofs.Common.{ℕ, cond, List, [], ◌∷◌, Ordering}
 use Rattle.std.specs.List.{count_by}
 use Rattle.std.specs.Ordering.{is_eq, is_gt}
 
--- an element at its place in a list in order
+-- an element put into a list in order
 abbrev pub insert_by : {X : Type 0} → (X → X → Ordering) → X → List X → List X
 insert_by cmp x [] = x ∷ []
 insert_by cmp x (y ∷ ys) = cond (is_gt (cmp x y)) (y ∷ insert_by cmp x ys) (x ∷ (y ∷ ys))

@@ -5,7 +5,7 @@ ghost use Rattle.std.specs.declared.cmp.Ordering.TheVariants.{Equal};
 ghost use Rattle.goods_set.specs.Bundles.{IsInside, IsRising, AreApart};
 ghost use Rattle.bid_file.specs.Files.{PlainFile, IsPlainFile};
 ghost use Rattle.valuation.specs.declared.atom.Atom.{Atom};
-ghost use Rattle.valuation.specs.Values.{xor_value, or_value, chosen_places};
+ghost use Rattle.valuation.specs.Values.{xor_value, or_value, chosen_indices};
 ghost use Rattle.valuation.specs.Packings.{atoms_at, price_sum, count_packings, IsPacking, IsBestPacking, AreThePackings};
 ghost use Rattle.valuation.specs.Bounds.{price_bound, rate_bound, IsOnGoods};
 ghost use Rattle.valuation.specs.SearchSteps.{cut_steps, found_indices};
@@ -15,13 +15,13 @@ ghost use Rattle.valuation.specs.Orders.{atom_cmp, bidder_cmp};
 ghost use Rattle.valuation.specs.Sorting.{sort_by};
 ghost use Rattle.valuation.specs.Auctions.{IsAuction, auction_from};
 
-/// The OR value is the price sum of the atoms at the chosen places. These are pairwise apart and inside the bundle, and
+/// The OR value is the price sum of the atoms at the chosen indices. These are pairwise apart and inside the bundle, and
 /// no other such family has a greater price sum.
 pub fn or_value_is_best_packing()
     ensures value { (atoms : List (Atom (List ℕ))) (bundle : List ℕ)
-        → or_value atoms bundle ≡ price_sum (atoms_at atoms (chosen_places atoms bundle)) }
+        → or_value atoms bundle ≡ price_sum (atoms_at atoms (chosen_indices atoms bundle)) }
     ensures best { (atoms : List (Atom (List ℕ))) (bundle : List ℕ)
-        → IsBestPacking atoms bundle (chosen_places atoms bundle) }
+        → IsBestPacking atoms bundle (chosen_indices atoms bundle) }
 {}
 
 /// The number of packings counts them: there is a list of so many, which has each packing once and nothing else.

@@ -42,10 +42,8 @@ impl BidSizes {
     }
 
     /// Whether the bids have so few of this many goods that lists of them take less memory than words with a bit for each
-    /// good,
-    /// and large bundles are a few. If most bids are the OR bidder's, whose searches use sets the most and words answer
-    /// faster,
-    /// the goods have to be fewer still.
+    /// good, and large bundles are a few. If most bids are the OR bidder's, whose searches use sets the most and words
+    /// answer faster, the goods have to be fewer still.
     fn suit_lists(&self, goods: u16) -> bool {
         let words = usize::from(goods / 64);
         let most = if self.or_bids > self.bids / 2 {
@@ -63,8 +61,8 @@ pub fn has_sparse_bids<B: Bids>(file: &B) -> bool {
 }
 
 /// Calls a function that is generic over sets of goods on the kind of sets that suits a file's bids: on lists, or on the
-/// least of a few sets of words that hold the file's goods, the greatest of which holds 4,096. The fewer words a set has,
-/// the less memory it takes and the faster its calls are.
+/// least of four sets of words that holds the file's goods: 64, 256, 1,024 or 4,096. The fewer words a set has, the less
+/// memory it takes and the faster its calls are. Each kind is one more copy of the generic code to compile.
 #[macro_export]
 macro_rules! on_set_for {
     ($file:expr, $call:ident($($argument:expr),*)) => {
@@ -74,9 +72,7 @@ macro_rules! on_set_for {
             match $file.goods() {
                 0..=64 => $call::<goods_set::WordSet<1>>($($argument),*),
                 65..=256 => $call::<goods_set::WordSet<4>>($($argument),*),
-                257..=512 => $call::<goods_set::WordSet<8>>($($argument),*),
-                513..=1024 => $call::<goods_set::WordSet<16>>($($argument),*),
-                1025..=2048 => $call::<goods_set::WordSet<32>>($($argument),*),
+                257..=1024 => $call::<goods_set::WordSet<16>>($($argument),*),
                 _ => $call::<goods_set::WordSet<64>>($($argument),*),
             }
         }

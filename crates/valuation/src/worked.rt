@@ -3,7 +3,7 @@ ghost use Rattle.std.specs.Prelude.{◌≡◌, [], ◌∷◌, true, false, Ok, S
 ghost use Rattle.std.specs.declared.cmp.Ordering.TheVariants.{Less, Equal, Greater};
 ghost use Rattle.valuation.specs.declared.search_kind.SearchKind.TheVariants.{Plain, Bounded};
 ghost use Rattle.valuation.specs.Examples.{atom};
-ghost use Rattle.valuation.specs.Values.{xor_value, or_value, chosen_places};
+ghost use Rattle.valuation.specs.Values.{xor_value, or_value, chosen_indices};
 ghost use Rattle.valuation.specs.Internal.BestSearch.{numbers_at};
 ghost use Rattle.valuation.specs.Internal.Reaching.{ArePricesLeft, IsReachedBy};
 ghost use Rattle.valuation.specs.Packings.{count_packings, IsPackingFor};
@@ -26,8 +26,8 @@ pub fn xor_worked()
     ensures worthless { xor_value (atom (0 ∷ []) 0 ∷ []) (0 ∷ []) ≡ 0 }
 {}
 
-/// The OR value is the greatest price sum of atoms that share no good, and the atoms at the chosen places have it.
-#[tactic(auto, unfolding(crate::specs::Values::or_value, crate::specs::Values::chosen_places))]
+/// The OR value is the greatest price sum of atoms that share no good, and the atoms at the chosen indices have it.
+#[tactic(auto, unfolding(crate::specs::Values::or_value, crate::specs::Values::chosen_indices))]
 pub fn or_worked()
     ensures no_atoms { or_value [] (0 ∷ []) ≡ 0 }
     ensures overlapping { let a = atom (0 ∷ 1 ∷ []) 6 ∷ atom (1 ∷ 2 ∷ []) 5 ∷ [] in or_value a (0 ∷ 1 ∷ 2 ∷ []) ≡ 6 }
@@ -36,10 +36,10 @@ pub fn or_worked()
     ensures equal { let a = atom (0 ∷ []) 3 ∷ atom (1 ∷ []) 4 ∷ atom (0 ∷ 1 ∷ []) 7 ∷ [] in
         or_value a (0 ∷ 1 ∷ []) ≡ 7 }
     ensures later_first { let a = atom (0 ∷ []) 3 ∷ atom (1 ∷ []) 4 ∷ atom (0 ∷ 1 ∷ []) 7 ∷ [] in
-        chosen_places a (0 ∷ 1 ∷ []) ≡ 2 ∷ [] }
+        chosen_indices a (0 ∷ 1 ∷ []) ≡ 2 ∷ [] }
     ensures both { let a = atom (0 ∷ []) 3 ∷ atom (1 ∷ []) 5 ∷ atom (0 ∷ 1 ∷ []) 7 ∷ [] in
-        chosen_places a (0 ∷ 1 ∷ []) ≡ 0 ∷ 1 ∷ [] }
-    ensures worthless { chosen_places (atom (0 ∷ []) 0 ∷ []) (0 ∷ []) ≡ [] }
+        chosen_indices a (0 ∷ 1 ∷ []) ≡ 0 ∷ 1 ∷ [] }
+    ensures worthless { chosen_indices (atom (0 ∷ []) 0 ∷ []) (0 ∷ []) ≡ [] }
 {}
 
 /// Packings are counted with the empty one.
@@ -177,7 +177,7 @@ pub fn sorting_worked()
         sort_by bidder_cmp (two ∷ both ∷ one ∷ two ∷ []) ≡ one ∷ both ∷ two ∷ two ∷ [] }
 {}
 
-/// At each place is what the prices from there on add up to.
+/// At each index is what the prices from there on add up to.
 fn prices_left_worked()
     ensures none { ArePricesLeft [] [] }
     ensures two { ArePricesLeft (atom (0 ∷ []) 3 ∷ atom (1 ∷ []) 4 ∷ []) (7 ∷ 4 ∷ []) }

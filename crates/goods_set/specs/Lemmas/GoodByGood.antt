@@ -14,7 +14,7 @@ with_good-last g (x ∷ xs) b =
     let rest = with_good-last g xs b.1 in
     simp (t, e, rest)
 
--- in a rising list the goods before a place are below the good there
+-- in a rising list the goods before an index are below the good there
 above_at : (x : ℕ) (xs : List ℕ) (i d : ℕ) → AreAbove x xs → i < length xs → x < get_or xs i d
 above_at x [] i d a l = absurd (omega arith)
 above_at x (y ∷ ys) zero d a l = a.0

@@ -1,5 +1,5 @@
 -- Lists are ordered by their sort keys, where these differ. Of two lists of one length the first goods are unpacked one by one: where their
--- numbers differ, so do the goods at the first place at which the lists do.
+-- numbers differ, so do the goods at the first index at which the lists do.
 use Rattle.std.proofs.Common.{◌≡◌, ℕ, zero, suc, ◌+◌, ◌*◌, ◌^◌, ◌<◌, ◌≤◌, cond, ⊎_elim, List, [], ◌∷◌, length, get_or, refl, sym, ap, ◌∙◌, arith}
 use Rattle.std.proofs.Common.{Less, Equal, Greater, nat_cmp}
 use Rattle.std.specs.Ordering.{ordering_then}

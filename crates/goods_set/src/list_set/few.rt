@@ -74,16 +74,16 @@ impl FewGoods {
         self.count = end as u8;
     }
 
-    /// The goods with another at a place.
-    pub(crate) fn with(&self, place: usize, good: u16) -> FewGoods
+    /// The goods with another at an index.
+    pub(crate) fn with(&self, index: usize, good: u16) -> FewGoods
         requires space { length self.now < INLINE_GOODS }
-        requires place { place ≤ length self.now }
-        ensures { result ≡ insert self.now place good }
+        requires index { index ≤ length self.now }
+        ensures { result ≡ insert self.now index good }
     {
         let goods = self.as_slice();
-        let mut with = FewGoods::from_slice(&goods[..place]);
+        let mut with = FewGoods::from_slice(&goods[..index]);
         with.push(good);
-        with.append(&goods[place..]);
+        with.append(&goods[index..]);
         with
     }
 

@@ -60,25 +60,25 @@ impl Goods {
         }
     }
 
-    /// Puts a good in at a place.
-    pub(crate) fn insert(&mut self, place: usize, good: u16) -> Result<(), AllocError>
-        requires { place ≤ length self.old }
-        ensures goods { OnOk result (self.new ≡ insert self.old place good) }
+    /// Puts a good in at an index.
+    pub(crate) fn insert(&mut self, index: usize, good: u16) -> Result<(), AllocError>
+        requires { index ≤ length self.old }
+        ensures goods { OnOk result (self.new ≡ insert self.old index good) }
         ensures same { OnErr result (self.new ≡ self.old) }
     {
         match &mut self.held {
             Held::Few(alloc, few) => {
                 let goods = few.as_slice();
                 if goods.len() < INLINE_GOODS {
-                    *few = few.with(place, good);
+                    *few = few.with(index, good);
                 } else {
                     let mut many = Vec::with_capacity(*alloc, 2 * INLINE_GOODS)?;
                     many.extend_from_slice(goods)?;
-                    many.insert(place, good)?;
+                    many.insert(index, good)?;
                     self.held = Held::Many(many);
                 }
             }
-            Held::Many(many) => many.insert(place, good)?,
+            Held::Many(many) => many.insert(index, good)?,
         }
         Ok(())
     }

@@ -31,26 +31,26 @@ pub(crate) fn next_good(words: &[u64], from: u32) -> Option<u16>
     Some(good as u16)
 }
 
-/// The least place that is at least `from` of a bit that is set, of any number of words.
+/// The least index that is at least `from` of a bit that is set, of any number of words.
 #[inline]
 pub(crate) fn next_bit(words: &[u64], from: usize) -> Option<usize>
     requires { 64 * length words.now ≤ 2 ^ 64 }
     ensures { result ≡ good_from (word_goods (64 * length words.now) words.now) from }
 {
-    let mut place = from / 64;
-    if place >= words.len() {
+    let mut index = from / 64;
+    if index >= words.len() {
         return None;
     }
     // The bits of the first word that are below `from` are left out.
-    let mut rest = words[place] & (u64::MAX << (from % 64));
+    let mut rest = words[index] & (u64::MAX << (from % 64));
     while rest == 0 {
-        place += 1;
-        if place >= words.len() {
+        index += 1;
+        if index >= words.len() {
             return None;
         }
-        rest = words[place];
+        rest = words[index];
     }
-    Some(64 * place + rest.trailing_zeros() as usize)
+    Some(64 * index + rest.trailing_zeros() as usize)
 }
 
 /// Appends the goods that the words hold, rising.
@@ -64,15 +64,15 @@ pub(crate) fn list_goods(words: &[u64], out: &mut Vec<u16>) -> Result<(), AllocE
     Ok(())
 }
 
-/// Appends the places of the bits that are set in a word, counted from `first`.
+/// Appends the indices of the bits that are set in a word, counted from `first`.
 fn list_bits(word: u64, first: u16, out: &mut Vec<u16>) -> Result<(), AllocError>
     requires { first ≤ 65472 }
-    ensures { OnOk result (out.new.items ≡ out.old.items ++ map (λ place. first + place) (word_goods 64 (word ∷ []))) }
+    ensures { OnOk result (out.new.items ≡ out.old.items ++ map (λ index. first + index) (word_goods 64 (word ∷ []))) }
 {
     let mut rest = word;
     while rest != 0 {
-        let place = rest.trailing_zeros();
-        out.push(first + place as u16)?;
+        let index = rest.trailing_zeros();
+        out.push(first + index as u16)?;
         rest &= rest - 1;
     }
     Ok(())

@@ -8,7 +8,7 @@ use Rattle.std.specs.List.{find, range_with_len}
 use Rattle.valuation.specs.declared.atom.Atom.{Atom}
 use Rattle.goods_set.specs.Bundles.{has_good, is_inside}
 use Rattle.goods_set.specs.Orders.{bundle_cmp}
-use Rattle.goods_set.specs.Fingerprints.{AreMarks}
+use Rattle.prune.specs.Internal.Fingerprints.{AreMarks}
 use Rattle.valuation.specs.Packings.{atom_at}
 use Rattle.prune.specs.InOrder.{IsInOrder}
 use Rattle.prune.specs.declared.subset_index.Posting.{Posting}
@@ -22,35 +22,35 @@ lists_of vectors = map (λ v. v.items) vectors
 abbrev pub listed_at : List (List Posting) → ℕ → List Posting
 listed_at lists good = slice_index_or lists good []
 
--- the places of listed atoms
+-- the indices of listed atoms
 abbrev pub indices_of : List Posting → List ℕ
 indices_of postings = map (λ posting. posting.index) postings
 
--- the places that are listed at a good
-abbrev pub places_at : List (List Posting) → ℕ → List ℕ
-places_at lists good = indices_of (listed_at lists good)
+-- the indices that are listed at a good
+abbrev pub indices_at : List (List Posting) → ℕ → List ℕ
+indices_at lists good = indices_of (listed_at lists good)
 
--- whether the atom at the place is inside the bundle
+-- whether the atom at the index is inside the bundle
 abbrev pub is_inside_at : List (Atom (List ℕ)) → List ℕ → ℕ → Bool
-is_inside_at atoms bundle place = is_inside (atom_at atoms place).bundle bundle
+is_inside_at atoms bundle index = is_inside (atom_at atoms index).bundle bundle
 
 -- whether the atom is inside the bundle and has at least the price
 abbrev pub dominates : List ℕ → ℕ → Atom (List ℕ) → Bool
 dominates bundle price a = nat_le price a.price && is_inside a.bundle bundle
 
--- whether the atom at the place does
+-- whether the atom at the index does
 abbrev pub dominates_at : List (Atom (List ℕ)) → List ℕ → ℕ → ℕ → Bool
-dominates_at atoms bundle price place = dominates bundle price (atom_at atoms place)
+dominates_at atoms bundle price index = dominates bundle price (atom_at atoms index)
 
--- the place of the first atom that does
-abbrev pub first_dominating_place : List (Atom (List ℕ)) → List ℕ → ℕ → Option ℕ
-first_dominating_place atoms bundle price = find (dominates_at atoms bundle price) (range_with_len 0 (length atoms))
+-- the index of the first atom that does
+abbrev pub first_dominating_index : List (Atom (List ℕ)) → List ℕ → ℕ → Option ℕ
+first_dominating_index atoms bundle price = find (dominates_at atoms bundle price) (range_with_len 0 (length atoms))
 
--- the place is listed at a good of the bundle
-pub record IsListed (lists : List (List Posting)) (bundle : List ℕ) (place : ℕ) : Type 0 where
+-- the index is listed at a good of the bundle
+pub record IsListed (lists : List (List Posting)) (bundle : List ℕ) (index : ℕ) : Type 0 where
   pub good : ℕ
   pub has : has_good bundle good ≡ true
-  pub listed : Contains (places_at lists good) place
+  pub listed : Contains (indices_at lists good) index
 
 -- what is listed is one of the atoms, with the fingerprint of its bundle
 pub record IsPosting (atoms : List (Atom (List ℕ))) (posting : Posting) : Type 0 where
@@ -66,18 +66,19 @@ MayBePosting atoms posting =
 -- else is listed
 pub record AreListed (lists : List (List Posting)) (listed : ℕ) (atoms : List (Atom (List ℕ))) : Type 0 where
   pub most : listed ≤ length atoms
-  pub each : (place : ℕ) → place < listed → IsListed lists (atom_at atoms place).bundle place
+  pub each : (index : ℕ) → index < listed → IsListed lists (atom_at atoms index).bundle index
   pub right : (good : ℕ) (posting : Posting) → Contains (listed_at lists good) posting → IsPosting atoms posting
-  pub no_more : (good place : ℕ) → Contains (places_at lists good) place → place < listed
-  pub rising : (good : ℕ) → AllPairs (λ one other. one < other) (places_at lists good)
-  pub one_good : (good other place : ℕ) → Contains (places_at lists good) place → Contains (places_at lists other) place
+  pub no_more : (good index : ℕ) → Contains (indices_at lists good) index → index < listed
+  pub rising : (good : ℕ) → AllPairs (λ one other. one < other) (indices_at lists good)
+  pub one_good : (good other index : ℕ) → Contains (indices_at lists good) index
+      → Contains (indices_at lists other) index
       → good ≡ other
 
 -- of each atom a good of its bundle
 pub record AreGoodsOf (goods : List ℕ) (atoms : List (Atom (List ℕ))) : Type 0 where
   pub long : length goods ≡ length atoms
-  pub each : (place : ℕ) → place < length atoms
-      → has_good (atom_at atoms place).bundle (slice_index_or goods place 0) ≡ true
+  pub each : (index : ℕ) → index < length atoms
+      → has_good (atom_at atoms index).bundle (slice_index_or goods index 0) ≡ true
 
 -- how many atoms the index lists, from the first on
 abbrev pub count_listed : SubsetIndex → ℕ
@@ -92,10 +93,10 @@ pub record IsIndexOf (atoms : List (Atom (List ℕ))) (index : SubsetIndex) : Ty
 abbrev pub IsBehind : List ℕ → List (Atom (List ℕ)) → Type 0
 IsBehind bundle atoms = All (λ a. bundle_cmp a.bundle bundle ≡ Less) atoms
 
--- none of the atoms from a place on is inside the bundle
+-- none of the atoms from an index on is inside the bundle
 abbrev pub NoneInsideFrom : ℕ → List (Atom (List ℕ)) → List ℕ → Type 0
-NoneInsideFrom from atoms bundle = (place : ℕ) → from ≤ place → place < length atoms
-    → is_inside_at atoms bundle place ≡ false
+NoneInsideFrom from atoms bundle = (index : ℕ) → from ≤ index → index < length atoms
+    → is_inside_at atoms bundle index ≡ false
 
 -- each of the atoms that is inside the bundle is listed
 pub record AreAllListed (lists : List (List Posting)) (atoms : List (Atom (List ℕ))) (bundle : List ℕ) : Type 0 where

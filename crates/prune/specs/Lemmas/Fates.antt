@@ -17,11 +17,11 @@ use Rattle.valuation.specs.Lemmas.SearchSteps.{found_indices-packing}
 use Rattle.valuation.specs.Packings.{IsPackingFor, atoms_at}
 use Rattle.valuation.specs.SearchSteps.{found_indices}
 use Rattle.valuation.specs.Values.{or_value}
-use Rattle.prune.specs.Fates.{places_below, found_places, or_fate, xor_fate}
+use Rattle.prune.specs.Fates.{indices_below, found_points, or_fate, xor_fate}
 use Rattle.prune.specs.Reached.{IsPointFor}
 use Rattle.prune.specs.SearchSteps.{is_below, atoms_below, in_search_order}
 use Rattle.prune.specs.Lemmas.Lists.{All-from_Contains, Contains-filter_parts, filter-lost, filter_same_on, find_same_on, found_some, map-filter}
-use Rattle.prune.specs.Lemmas.PackingPlaces.{map-reverse, packing_falling, packing_rising, reversed_falling, reversed_within}
+use Rattle.prune.specs.Lemmas.PackingIndices.{map-reverse, packing_falling, packing_rising, reversed_falling, reversed_within}
 use Rattle.prune.specs.Lemmas.Ranges.{in_range, range_more, range_rising}
 use Rattle.prune.specs.Lemmas.SearchSteps.{ordered_value}
 
@@ -34,22 +34,22 @@ atoms_below-push points x bundle n =
     ∙ ap (λ (zs : List (Atom (List ℕ))). atoms_below points bundle ++ zs) (filter-lost (λ (a : Atom (List ℕ)). is_below a.bundle bundle) x [] n)
     ∙ append-nil (atoms_below points bundle)
 
-atom_at-push : (points : List (Atom (List ℕ))) (x : Atom (List ℕ)) (place : ℕ) → place < length points → atom_at (points ++ x ∷ []) place ≡ atom_at points place
-atom_at-push points x place l = get_or_append_left points (x ∷ []) (record { bundle = []; price = 0 }) place l
+atom_at-push : (points : List (Atom (List ℕ))) (x : Atom (List ℕ)) (index : ℕ) → index < length points → atom_at (points ++ x ∷ []) index ≡ atom_at points index
+atom_at-push points x index l = get_or_append_left points (x ∷ []) (record { bundle = []; price = 0 }) index l
 
-pub places_below-within : (points : List (Atom (List ℕ))) (bundle : List ℕ) (place : ℕ) → Contains (places_below points bundle) place
-    → (place < length points) × (is_below (atom_at points place).bundle bundle ≡ true)
-places_below-within points bundle place c =
-    let parts = Contains-filter_parts (λ place. is_below (atom_at points place).bundle bundle) (range_with_len 0 (length points)) place c in
-    (in_range (length points) place parts.0, parts.1)
+pub indices_below-within : (points : List (Atom (List ℕ))) (bundle : List ℕ) (index : ℕ) → Contains (indices_below points bundle) index
+    → (index < length points) × (is_below (atom_at points index).bundle bundle ≡ true)
+indices_below-within points bundle index c =
+    let parts = Contains-filter_parts (λ index. is_below (atom_at points index).bundle bundle) (range_with_len 0 (length points)) index c in
+    (in_range (length points) index parts.0, parts.1)
 
-pub places_below-push : (points : List (Atom (List ℕ))) (x : Atom (List ℕ)) (bundle : List ℕ) → is_below x.bundle bundle ≡ false
-    → places_below (points ++ x ∷ []) bundle ≡ places_below points bundle
-places_below-push points x bundle n =
+pub indices_below-push : (points : List (Atom (List ℕ))) (x : Atom (List ℕ)) (bundle : List ℕ) → is_below x.bundle bundle ≡ false
+    → indices_below (points ++ x ∷ []) bundle ≡ indices_below points bundle
+indices_below-push points x bundle n =
     let more = points ++ x ∷ [] in
     let count = length points in
-    let test : ℕ → Bool = λ place. is_below (atom_at more place).bundle bundle in
-    let own : ℕ → Bool = λ place. is_below (atom_at points place).bundle bundle in
+    let test : ℕ → Bool = λ index. is_below (atom_at more index).bundle bundle in
+    let own : ℕ → Bool = λ index. is_below (atom_at points index).bundle bundle in
     let zero_more : 0 + count ≡ count = omega arith in
     let last : test count ≡ false =
     ap (λ (a : Atom (List ℕ)). is_below a.bundle bundle) (get_or_push points x (record { bundle = []; price = 0 }) count refl) ∙ n in
@@ -58,36 +58,36 @@ places_below-push points x bundle n =
     ∙ filter-append test (range_with_len 0 count) (count ∷ [])
     ∙ ap (λ (zs : List ℕ). filter test (range_with_len 0 count) ++ zs) (filter-lost test count [] last)
     ∙ append-nil (filter test (range_with_len 0 count))
-    ∙ filter_same_on test own (range_with_len 0 count) (All-from_Contains (λ place. test place ≡ own place) (range_with_len 0 count)
-    (λ place c. ap (λ (a : Atom (List ℕ)). is_below a.bundle bundle) (atom_at-push points x place (in_range count place c))))
+    ∙ filter_same_on test own (range_with_len 0 count) (All-from_Contains (λ index. test index ≡ own index) (range_with_len 0 count)
+    (λ index c. ap (λ (a : Atom (List ℕ)). is_below a.bundle bundle) (atom_at-push points x index (in_range count index c))))
 
 pub or_fate-push : (kind : SearchKind) (points : List (Atom (List ℕ))) (x bid : Atom (List ℕ)) → is_below x.bundle bid.bundle ≡ false
     → or_fate kind (points ++ x ∷ []) bid ≡ or_fate kind points bid
-unfolding or_fate found_places
-or_fate-push kind points x bid n = rw (atoms_below-push points x bid.bundle n, places_below-push points x bid.bundle n) refl
+unfolding or_fate found_points
+or_fate-push kind points x bid n = rw (atoms_below-push points x bid.bundle n, indices_below-push points x bid.bundle n) refl
 
 pub xor_fate-push : (points : List (Atom (List ℕ))) (x bid : Atom (List ℕ)) → is_below x.bundle bid.bundle ≡ false
     → xor_fate (points ++ x ∷ []) bid ≡ xor_fate points bid
 unfolding xor_fate
 xor_fate-push points x bid n =
     let more = points ++ x ∷ [] in
-    let test : ℕ → Bool = λ place. leb bid.price (atom_at more place).price in
-    let own : ℕ → Bool = λ place. leb bid.price (atom_at points place).price in
-    ap (find test) (places_below-push points x bid.bundle n)
-    ∙ find_same_on test own (places_below points bid.bundle) (All-from_Contains (λ place. test place ≡ own place) (places_below points bid.bundle)
-    (λ place c. ap (λ (a : Atom (List ℕ)). leb bid.price a.price) (atom_at-push points x place (places_below-within points bid.bundle place c).0)))
+    let test : ℕ → Bool = λ index. leb bid.price (atom_at more index).price in
+    let own : ℕ → Bool = λ index. leb bid.price (atom_at points index).price in
+    ap (find test) (indices_below-push points x bid.bundle n)
+    ∙ find_same_on test own (indices_below points bid.bundle) (All-from_Contains (λ index. test index ≡ own index) (indices_below points bid.bundle)
+    (λ index c. ap (λ (a : Atom (List ℕ)). leb bid.price a.price) (atom_at-push points x index (indices_below-within points bid.bundle index c).0)))
 
 -- ---- what a fate names reaches the price
 
-places_rising : (points : List (Atom (List ℕ))) (bundle : List ℕ) → AllPairs (λ i j. i < j) (places_below points bundle)
-places_rising points bundle =
-    AllPairs-filter (λ i j. i < j) (λ place. is_below (atom_at points place).bundle bundle) (range_with_len 0 (length points)) (range_rising 0 (length points))
+indices_rising : (points : List (Atom (List ℕ))) (bundle : List ℕ) → AllPairs (λ i j. i < j) (indices_below points bundle)
+indices_rising points bundle =
+    AllPairs-filter (λ i j. i < j) (λ index. is_below (atom_at points index).bundle bundle) (range_with_len 0 (length points)) (range_rising 0 (length points))
 
-all_within : (points : List (Atom (List ℕ))) (bundle : List ℕ) → All (λ place. place < length points) (places_below points bundle)
+all_within : (points : List (Atom (List ℕ))) (bundle : List ℕ) → All (λ index. index < length points) (indices_below points bundle)
 all_within points bundle =
-    All-from_Contains (λ place. place < length points) (places_below points bundle) (λ place c. (places_below-within points bundle place c).0)
+    All-from_Contains (λ index. index < length points) (indices_below points bundle) (λ index c. (indices_below-within points bundle index c).0)
 
-atoms_at_below : (points : List (Atom (List ℕ))) (bundle : List ℕ) → atoms_at points (places_below points bundle) ≡ atoms_below points bundle
+atoms_at_below : (points : List (Atom (List ℕ))) (bundle : List ℕ) → atoms_at points (indices_below points bundle) ≡ atoms_below points bundle
 atoms_at_below points bundle =
     map-filter (atom_at points) (λ a. is_below a.bundle bundle) (range_with_len 0 (length points))
     ∙ ap (filter (λ a. is_below a.bundle bundle))
@@ -101,47 +101,47 @@ searched_packing kind points bundle price l =
     let found = found_indices-packing searched bundle price (rw (ordered_value kind (atoms_below points bundle) bundle) l) in
     record { packing = found.0; enough = found.1 }
 
-pub found_places-packing : (kind : SearchKind) (points : List (Atom (List ℕ))) (bundle : List ℕ) (price : ℕ)
-    → price ≤ or_value (atoms_below points bundle) bundle → IsPackingFor points bundle price (found_places kind points bundle price)
-unfolding found_places
-found_places-packing Plain points bundle price l =
-    packing_rising points bundle price (places_below points bundle) (found_indices (atoms_below points bundle) bundle price) (all_within points bundle)
-    (places_rising points bundle)
+pub found_points-packing : (kind : SearchKind) (points : List (Atom (List ℕ))) (bundle : List ℕ) (price : ℕ)
+    → price ≤ or_value (atoms_below points bundle) bundle → IsPackingFor points bundle price (found_points kind points bundle price)
+unfolding found_points
+found_points-packing Plain points bundle price l =
+    packing_rising points bundle price (indices_below points bundle) (found_indices (atoms_below points bundle) bundle price) (all_within points bundle)
+    (indices_rising points bundle)
     (subst (λ (zs : List (Atom (List ℕ))). IsPackingFor zs bundle price (found_indices (atoms_below points bundle) bundle price))
     (sym (atoms_at_below points bundle)) (searched_packing Plain points bundle price l))
-found_places-packing Bounded points bundle price l =
+found_points-packing Bounded points bundle price l =
     let searched = reverse (atoms_below points bundle) in
-    let same : atoms_at points (reverse (places_below points bundle)) ≡ searched =
-    map-reverse (atom_at points) (places_below points bundle) ∙ ap (λ (zs : List (Atom (List ℕ))). reverse zs) (atoms_at_below points bundle) in
-    packing_falling points bundle price (reverse (places_below points bundle)) (found_indices searched bundle price)
-    (reversed_within (length points) (places_below points bundle) (all_within points bundle))
-    (reversed_falling (places_below points bundle) (places_rising points bundle))
+    let same : atoms_at points (reverse (indices_below points bundle)) ≡ searched =
+    map-reverse (atom_at points) (indices_below points bundle) ∙ ap (λ (zs : List (Atom (List ℕ))). reverse zs) (atoms_at_below points bundle) in
+    packing_falling points bundle price (reverse (indices_below points bundle)) (found_indices searched bundle price)
+    (reversed_within (length points) (indices_below points bundle) (all_within points bundle))
+    (reversed_falling (indices_below points bundle) (indices_rising points bundle))
     (subst (λ (zs : List (Atom (List ℕ))). IsPackingFor zs bundle price (found_indices searched bundle price)) (sym same)
     (searched_packing Bounded points bundle price l))
 
 pub or_fate-reaches : (kind : SearchKind) (points : List (Atom (List ℕ))) (bid : Atom (List ℕ))
-    → IfSome (or_fate kind points bid) (λ places. IsPackingFor points bid.bundle bid.price places)
+    → IfSome (or_fate kind points bid) (λ indices. IsPackingFor points bid.bundle bid.price indices)
 unfolding or_fate
 or_fate-reaches kind points bid = go (leb bid.price (or_value (atoms_below points bid.bundle) bid.bundle)) refl
   where
     go : (b : Bool) → leb bid.price (or_value (atoms_below points bid.bundle) bid.bundle) ≡ b
-        → IfSome (cond b (Some (found_places kind points bid.bundle bid.price)) None) (λ places. IsPackingFor points bid.bundle bid.price places)
-    go true e = found_places-packing kind points bid.bundle bid.price (leb-true _ _ e)
+        → IfSome (cond b (Some (found_points kind points bid.bundle bid.price)) None) (λ indices. IsPackingFor points bid.bundle bid.price indices)
+    go true e = found_points-packing kind points bid.bundle bid.price (leb-true _ _ e)
     go false e = tt
 
 pub xor_fate-reaches : (points : List (Atom (List ℕ))) (bid : Atom (List ℕ)) → IfSome (xor_fate points bid) (IsPointFor points bid.bundle bid.price)
 unfolding xor_fate
 xor_fate-reaches points bid =
-    let test : ℕ → Bool = λ place. leb bid.price (atom_at points place).price in
-    go (find test (places_below points bid.bundle)) (found_some test (places_below points bid.bundle))
+    let test : ℕ → Bool = λ index. leb bid.price (atom_at points index).price in
+    go (find test (indices_below points bid.bundle)) (found_some test (indices_below points bid.bundle))
   where
-    go : (found : Option ℕ) → IfSome found (λ place. Contains (places_below points bid.bundle) place × (leb bid.price (atom_at points place).price ≡ true))
+    go : (found : Option ℕ) → IfSome found (λ index. Contains (indices_below points bid.bundle) index × (leb bid.price (atom_at points index).price ≡ true))
         → IfSome found (IsPointFor points bid.bundle bid.price)
     go None h = tt
-    go (Some place) h =
-        let at = places_below-within points bid.bundle place h.0 in
+    go (Some index) h =
+        let at = indices_below-within points bid.bundle index h.0 in
         record {
           within = at.0;
-          inside = (and_parts (is_inside (atom_at points place).bundle bid.bundle) (not (is_inside bid.bundle (atom_at points place).bundle)) at.1).0;
+          inside = (and_parts (is_inside (atom_at points index).bundle bid.bundle) (not (is_inside bid.bundle (atom_at points index).bundle)) at.1).0;
           enough = leb-true _ _ h.1;
         }

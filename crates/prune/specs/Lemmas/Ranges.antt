@@ -1,4 +1,4 @@
--- Lemmas on the places of a list, which are the numbers from 0 on.
+-- Lemmas on the indices of a list, which are the numbers from 0 on.
 use Rattle.std.proofs.Common.{◌≡◌, ℕ, zero, suc, ◌+◌, ◌<◌, Bool, true, false, List, [], ◌∷◌, ◌++◌, get_or, sym, ap, ◌∙◌, subst, arith, Some, None}
 use Rattle.std.specs.Prelude.{AllPairs, Contains}
 use Rattle.std.specs.List.{find, range_with_len}

@@ -9,7 +9,7 @@ use Rattle.valuation.specs.Values.{atoms_of}
 pub length-atoms_of : {S : Type 0} (goods : S → List ℕ) (atoms : List (Atom S)) → length (atoms_of goods atoms) ≡ length atoms
 length-atoms_of {S} goods atoms = length-map atoms (λ (b : Atom S). record { bundle = goods b.bundle; price = b.price })
 
--- the atom at a place, which a read of that place gave
+-- the atom at an index, which a read of that index gave
 pub get_or-atoms_of : {S : Type 0} (goods : S → List ℕ) (atoms : List (Atom S)) (i : ℕ) (a : Atom S) (d : Atom (List ℕ)) → i < length atoms
     → a ≡ get_or atoms i a → get_or (atoms_of goods atoms) i d ≡ record { bundle = goods a.bundle; price = a.price }
 get_or-atoms_of {S} goods atoms i a d l e =

@@ -5,14 +5,13 @@ use Rattle.std.proofs.Common.{Option, Some, None, is_none, refl, sym, ap, ap₂,
 use Rattle.std.specs.Prelude.{All, filter, sum_by}
 use Rattle.std.specs.List.{range_with_len, AllByRecursion, slice_get}
 use Rattle.std.proofs.lemmas.Bool.{cases_eq, ne_eqb, eq-eqb}
-use Rattle.std.proofs.lemmas.List.{take_more, map-append, length-set, get_or-set_same, get_or-set_other, length-map, append-nil, get_or-map}
+use Rattle.std.proofs.lemmas.List.{take_more, map-append, length-set, get_or-set_same, get_or-set_other, append-nil}
 use Rattle.std.proofs.lemmas.List.Elements.{All-map, All-filter, All-from_recursion, All-weaker, filter-append}
 use Rattle.std.proofs.lemmas.List.Sums.{sum_by-cons}
 use Rattle.std.proofs.lemmas.Option.{get_or_from_slice_get, slice_get_within}
 use Rattle.std.proofs.lemmas.List.FromFn.{fill_by_all, length-map-range_with_len, get_or-map-range_with_len}
 use Rattle.goods_set.specs.Bundles.{IsRising, AreAbove, AreBelow}
 use Rattle.bid_file.specs.Files as files
-use Rattle.bid_file.specs.declared.bid.Bid.{Bid}
 use Rattle.bid_file.specs.Files.{plain_bid, plain_bids, PlainBid, PlainFile, IsBid, IsBidFile, IsPlainFile}
 use Rattle.valuation.specs.declared.atom.Atom.{Atom}
 use Rattle.valuation.specs.Auctions.{IsAtom, IsAuction, atom_of, is_dummy, or_atoms_of, xor_atoms_of, auction_from}
@@ -169,18 +168,6 @@ IsAuction-auction_from cap f h fits = record {
   bidders = let long = length-map-range_with_len (xor_atoms_of f.bids) 0 f.dummy in omega (arith, h.dummy);
   atoms = omega (arith, count_atoms f.bids f.dummy, h.count);
 }
-
--- ---- the bids as the code has them
-
-pub plain_bid_at : (bids : List Bid) (i : ℕ) (b : Bid) → i < length bids → b ≡ get_or bids i b → get_or (plain_bids bids) i (plain_bid b) ≡ plain_bid b
-plain_bid_at bids i b l e = get_or-map plain_bid bids i b (plain_bid b) l ∙ ap plain_bid (sym e)
-
--- a bid of a file
-pub IsBid-at : (G D : ℕ) (bids : List Bid) (i : ℕ) (b : Bid) → i < length bids → b ≡ get_or bids i b → AllByRecursion (IsBid G D) (plain_bids bids)
-    → IsBid G D (plain_bid b)
-IsBid-at G D bids i b l e h =
-    let long = length-map bids plain_bid in
-    subst (IsBid G D) (plain_bid_at bids i b l e) (All-from_recursion (IsBid G D) (plain_bids bids) h i (plain_bid b) (omega arith))
 
 -- ---- a bid that is in a list of the bids of a file
 

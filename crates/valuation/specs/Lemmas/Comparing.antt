@@ -6,7 +6,7 @@ use Rattle.valuation.specs.Values.{plain_atom, atoms_of}
 use Rattle.valuation.specs.Orders.{atom_cmp, bidder_cmp}
 use Rattle.valuation.specs.Lemmas.Atoms.{drop-atoms_of}
 
--- what the atoms from a place on answer, by the two that are there
+-- what the atoms from an index on answer, by the two that are there
 pub bidder_cmp-drop : {S : Type 0} (goods : S → List ℕ) (xs ys : List (Atom S)) (i : ℕ) (x y : Atom S) → i < length xs → i < length ys → x ≡ get_or xs i x
     → y ≡ get_or ys i y
     → bidder_cmp (drop i (atoms_of goods xs)) (drop i (atoms_of goods ys)) ≡ ordering_then (atom_cmp (plain_atom goods x) (plain_atom goods y))

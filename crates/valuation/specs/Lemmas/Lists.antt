@@ -1,4 +1,4 @@
--- Lemmas on lists: what holds of each element, of each pair of elements, and of the places of a list and of the list behind its
+-- Lemmas on lists: what holds of each element, of each pair of elements, and of the indices of a list and of the list behind its
 -- first element.
 use Rattle.std.proofs.Common.{◌≡◌, ℕ, zero, suc, pred, ◌<◌, ◌≤◌, ◌≢◌, ◌⊎◌, inl, inr, ⊎_elim, List, [], ◌∷◌, ◌++◌, length, map, get_or, refl, sym, ap, ◌∙◌}
 use Rattle.std.proofs.Common.{arith}
@@ -34,54 +34,55 @@ AllPairs-head R x xs h k d l = h 0 (suc k) d (omega arith) (omega arith)
 pub AllPairs-tail : {X : Type 0} (R : X → X → Type 0) (x : X) (xs : List X) → AllPairs R (x ∷ xs) → AllPairs R xs
 AllPairs-tail R x xs h i j d l m = h (suc i) (suc j) d (omega arith) (omega arith)
 
--- ---- places of a list, and of the list behind its first element
+-- ---- indices of a list, and of the list behind its first element
 
 -- each number is one more
-pub All-map_suc : (P : ℕ → Type 0) (places : List ℕ) → All (λ i. P (suc i)) places → All P (map suc places)
+pub All-map_suc : (P : ℕ → Type 0) (indices : List ℕ) → All (λ i. P (suc i)) indices → All P (map suc indices)
 All-map_suc P [] h = All-nil P
-All-map_suc P (i ∷ places) h =
-    All-cons P (suc i) (map suc places) (All-head (λ i. P (suc i)) i places h) (All-map_suc P places (All-tail (λ i. P (suc i)) i places h))
+All-map_suc P (i ∷ indices) h =
+    All-cons P (suc i) (map suc indices) (All-head (λ i. P (suc i)) i indices h) (All-map_suc P indices (All-tail (λ i. P (suc i)) i indices h))
 
-pub All-unmap_suc : (P : ℕ → Type 0) (places : List ℕ) → All P (map suc places) → All (λ i. P (suc i)) places
+pub All-unmap_suc : (P : ℕ → Type 0) (indices : List ℕ) → All P (map suc indices) → All (λ i. P (suc i)) indices
 All-unmap_suc P [] h = All-nil (λ i. P (suc i))
-All-unmap_suc P (i ∷ places) h =
-    All-cons (λ i. P (suc i)) i places (All-head P (suc i) (map suc places) h) (All-unmap_suc P places (All-tail P (suc i) (map suc places) h))
+All-unmap_suc P (i ∷ indices) h =
+    All-cons (λ i. P (suc i)) i indices (All-head P (suc i) (map suc indices) h) (All-unmap_suc P indices (All-tail P (suc i) (map suc indices) h))
 
-pub rising-map_suc : (places : List ℕ) → AllPairs (λ i j. i < j) places → AllPairs (λ i j. i < j) (map suc places)
+pub rising-map_suc : (indices : List ℕ) → AllPairs (λ i j. i < j) indices → AllPairs (λ i j. i < j) (map suc indices)
 rising-map_suc [] h = AllPairs-nil (λ i j. i < j)
-rising-map_suc (i ∷ places) h =
-    AllPairs-cons (λ i j. i < j) (suc i) (map suc places)
-    (All-map_suc (λ j. suc i < j) places (λ k d l. let m : i < get_or places k d = AllPairs-head (λ i j. i < j) i places h k d l in omega arith))
-    (rising-map_suc places (AllPairs-tail (λ i j. i < j) i places h))
+rising-map_suc (i ∷ indices) h =
+    AllPairs-cons (λ i j. i < j) (suc i) (map suc indices)
+    (All-map_suc (λ j. suc i < j) indices (λ k d l. let m : i < get_or indices k d = AllPairs-head (λ i j. i < j) i indices h k d l in omega arith))
+    (rising-map_suc indices (AllPairs-tail (λ i j. i < j) i indices h))
 
-pub rising-unmap_suc : (places : List ℕ) → AllPairs (λ i j. i < j) (map suc places) → AllPairs (λ i j. i < j) places
+pub rising-unmap_suc : (indices : List ℕ) → AllPairs (λ i j. i < j) (map suc indices) → AllPairs (λ i j. i < j) indices
 rising-unmap_suc [] h = AllPairs-nil (λ i j. i < j)
-rising-unmap_suc (i ∷ places) h =
-    AllPairs-cons (λ i j. i < j) i places
-    (λ k d l. let m : suc i < suc (get_or places k d) = All-unmap_suc (λ j. suc i < j) places (AllPairs-head (λ i j. i < j) (suc i) (map suc places) h) k d l in
+rising-unmap_suc (i ∷ indices) h =
+    AllPairs-cons (λ i j. i < j) i indices
+    (λ k d l. let m : suc i < suc (get_or indices k d) =
+    All-unmap_suc (λ j. suc i < j) indices (AllPairs-head (λ i j. i < j) (suc i) (map suc indices) h) k d l in
     omega arith)
-    (rising-unmap_suc places (AllPairs-tail (λ i j. i < j) (suc i) (map suc places) h))
+    (rising-unmap_suc indices (AllPairs-tail (λ i j. i < j) (suc i) (map suc indices) h))
 
 -- numbers above 0 are each one more than some number
-pub positive_places : (places : List ℕ) → All (λ i. 0 < i) places → (lower : List ℕ) × (places ≡ map suc lower)
-positive_places [] h = ([], refl)
-positive_places (zero ∷ places) h = let l : 0 < 0 = All-head (λ i. 0 < i) zero places h in absurd (omega arith)
-positive_places (suc i ∷ places) h =
-    let r = positive_places places (All-tail (λ i. 0 < i) (suc i) places h) in
+pub positive_indices : (indices : List ℕ) → All (λ i. 0 < i) indices → (lower : List ℕ) × (indices ≡ map suc lower)
+positive_indices [] h = ([], refl)
+positive_indices (zero ∷ indices) h = let l : 0 < 0 = All-head (λ i. 0 < i) zero indices h in absurd (omega arith)
+positive_indices (suc i ∷ indices) h =
+    let r = positive_indices indices (All-tail (λ i. 0 < i) (suc i) indices h) in
     (i ∷ r.0, ap (λ (p : List ℕ). suc i ∷ p) r.1)
 
--- a rising list of places has the first place or not
-pub rising_cases : (places : List ℕ) → AllPairs (λ i j. i < j) places → ((lower : List ℕ) × (places ≡ map suc lower))
-    ⊎ ((lower : List ℕ) × (places ≡ 0 ∷ map suc lower))
+-- a rising list of indices has the first index or not
+pub rising_cases : (indices : List ℕ) → AllPairs (λ i j. i < j) indices → ((lower : List ℕ) × (indices ≡ map suc lower))
+    ⊎ ((lower : List ℕ) × (indices ≡ 0 ∷ map suc lower))
 rising_cases [] h = inl ([], refl)
-rising_cases (zero ∷ places) h =
-    let r = positive_places places (AllPairs-head (λ i j. i < j) zero places h) in
+rising_cases (zero ∷ indices) h =
+    let r = positive_indices indices (AllPairs-head (λ i j. i < j) zero indices h) in
     inr (r.0, ap (λ (p : List ℕ). 0 ∷ p) r.1)
-rising_cases (suc i ∷ places) h =
-    let r = positive_places places (λ k d l. let m : suc i < get_or places k d = AllPairs-head (λ i j. i < j) (suc i) places h k d l in omega arith) in
+rising_cases (suc i ∷ indices) h =
+    let r = positive_indices indices (λ k d l. let m : suc i < get_or indices k d = AllPairs-head (λ i j. i < j) (suc i) indices h k d l in omega arith) in
     inl (i ∷ r.0, ap (λ (p : List ℕ). suc i ∷ p) r.1)
 
--- ---- lists of lists of places
+-- ---- lists of lists of indices
 
 pub AllPairs-append : {X : Type 0} (R : X → X → Type 0) (xs ys : List X) → AllPairs R xs → AllPairs R ys → All (λ x. All (R x) ys) xs → AllPairs R (xs ++ ys)
 AllPairs-append R [] ys h k cross = k
@@ -110,9 +111,9 @@ Contains-unmap f (z ∷ xs) y c =
     (λ (d : Contains (map f xs) y). let r = Contains-unmap f xs y d in (r.0, Contains-append_right (z ∷ []) xs r.0 r.1, r.2))
     (Contains-cons_cases (f z) (map f xs) y c)
 
-pub unmap_suc : (places : List ℕ) → map pred (map suc places) ≡ places
+pub unmap_suc : (indices : List ℕ) → map pred (map suc indices) ≡ indices
 unmap_suc [] = refl
-unmap_suc (i ∷ places) = ap (λ (p : List ℕ). i ∷ p) (unmap_suc places)
+unmap_suc (i ∷ indices) = ap (λ (p : List ℕ). i ∷ p) (unmap_suc indices)
 
 pub map_suc_different : (xs ys : List ℕ) → xs ≢ ys → map suc xs ≢ map suc ys
 map_suc_different xs ys differ e = differ (sym (unmap_suc xs) ∙ ap (map pred) e ∙ unmap_suc ys)

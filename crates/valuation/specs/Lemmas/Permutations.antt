@@ -10,7 +10,7 @@ module _ {X : Type 0} (R : List X → List X → Type 0)
     (prefix : (x : X) (xs ys : List X) → R xs ys → R (x ∷ xs) (x ∷ ys))
     (exchange : (x y : X) (xs : List X) → R (x ∷ y ∷ xs) (y ∷ x ∷ xs))
   where
-    -- the first element and one behind it change places
+    -- the first element and one behind it are exchanged
     with_first : (x : X) (xs : List X) (j : ℕ) (d : X) → j < length xs → R (x ∷ xs) (get_or xs j d ∷ set xs j x)
     with_first x [] j d l = absurd (omega arith)
     with_first x (z ∷ zs) zero d l = exchange x z zs
@@ -18,7 +18,7 @@ module _ {X : Type 0} (R : List X → List X → Type 0)
         let lower : j < length zs = omega arith in
         join _ _ _ (exchange x z zs) (join _ _ _ (prefix z _ _ (with_first x zs j d lower)) (exchange z (get_or zs j d) (set zs j x)))
 
-    -- two elements change places
+    -- two elements are exchanged
     exchanged : (xs : List X) (i j : ℕ) (d : X) → i < length xs → j < length xs → R xs (set (set xs i (get_or xs j d)) j (get_or xs i d))
     exchanged [] i j d l m = absurd (omega arith)
     exchanged (x ∷ xs) zero zero d l m = same (x ∷ xs)

@@ -21,23 +21,23 @@ use Rattle.prune.proofs.or.prune_or_by.Goals as goal
 pub decide-requires-clause-next : goal.decide-requires-clause-next
 decide-requires-clause-next g c =
     let goods = g.S.GoodsSet.goods in
-    let h = c.loop-place.invariant in
+    let h = c.loop-next.invariant in
     let bids = atoms_of goods c.args.atoms.items in
     let best = c.keep_best_bids.new.bids in
-    let now = c.loop-place.atoms in
-    let place = c.loop-place.place in
+    let now = c.loop-next.atoms in
+    let next = c.loop-next.next in
     let bid = c.index.result.now in
-    let kept = atoms_of goods (take c.loop-place.kept now.items) in
-    let there : place < length now.items = omega (arith, c.loop-place-test.true, c.len-place-end.ensures, best.ok.0, h.left.long) in
-    let turn = next_turn goods (λ s. (g.met.S.GoodsSet.is_bundle s).0) bids best.items now.items place bid
+    let kept = atoms_of goods (take c.loop-next.kept now.items) in
+    let there : next < length now.items = omega (arith, c.loop-next-test.true, c.len-next-end.ensures, best.ok.0, h.left.long) in
+    let turn = next_turn goods (λ s. (g.met.S.GoodsSet.is_bundle s).0) bids best.items now.items next bid
     c.in_ok-keep_best_bids.ensures.best h.left there c.index.ensures in
-    rw c.deref-in-loop-place.ensures.value (turn_next MAX_GOODS _ _ _ _ kept turn c.requires.atoms h.kept.in_order h.kept.among)
+    rw c.deref-in-loop-next.ensures.value (turn_next MAX_GOODS _ _ _ _ kept turn c.requires.atoms h.kept.in_order h.kept.among)
 
 pub decide-requires-clause-finder : goal.decide-requires-clause-finder
-decide-requires-clause-finder g c = rw c.deref-in-loop-place.ensures.value c.loop-place.invariant.finder
+decide-requires-clause-finder g c = rw c.deref-in-loop-next.ensures.value c.loop-next.invariant.finder
 
-pub loop-place-init : goal.loop-place-init
-loop-place-init g c =
+pub loop-next-init : goal.loop-next-init
+loop-next-init g c =
     let bids = atoms_of g.S.GoodsSet.goods c.args.atoms.items in
     let best = atoms_of g.S.GoodsSet.goods c.keep_best_bids.new.bids.items in
     record {
@@ -51,29 +51,29 @@ loop-place-init g c =
       noted = λ _. ap (map plain_fate) c.requires.empty;
     }
 
-pub loop-place-preserved-then-is_dropped : goal.loop-place-preserved-then-is_dropped
-loop-place-preserved-then-is_dropped g c =
+pub loop-next-preserved-then-is_dropped : goal.loop-next-preserved-then-is_dropped
+loop-next-preserved-then-is_dropped g c =
     let goods = g.S.GoodsSet.goods in
-    let h = c.loop-place.invariant in
+    let h = c.loop-next.invariant in
     let bids = atoms_of goods c.args.atoms.items in
     let best = c.keep_best_bids.new.bids in
-    let now = c.loop-place.atoms in
-    let place = c.loop-place.place in
+    let now = c.loop-next.atoms in
+    let next = c.loop-next.next in
     let bid = c.index.result.now in
-    let kept = atoms_of goods (take c.loop-place.kept now.items) in
-    let there : place < length now.items = omega (arith, c.loop-place-test.true, c.len-place-end.ensures, best.ok.0, h.left.long) in
-    let turn = next_turn goods (λ s. (g.met.S.GoodsSet.is_bundle s).0) bids best.items now.items place bid
+    let kept = atoms_of goods (take c.loop-next.kept now.items) in
+    let there : next < length now.items = omega (arith, c.loop-next-test.true, c.len-next-end.ensures, best.ok.0, h.left.long) in
+    let turn = next_turn goods (λ s. (g.met.S.GoodsSet.is_bundle s).0) bids best.items now.items next bid
     c.in_ok-keep_best_bids.ensures.best h.left there c.index.ensures in
-    let options = c.loop-place.finder.search.options in
-    let within : IsWithin c.args.options options bids (plain_atom goods bid ∷ atoms_of goods (drop (place + 1) best.items)) =
-    subst (IsWithin c.args.options options bids) (one_left goods best.items now.items place bid h.left there c.index.ensures) h.within in
-    let done = one_done goods best.items now.items place bid h.left there c.index.ensures in
+    let options = c.loop-next.finder.search.options in
+    let within : IsWithin c.args.options options bids (plain_atom goods bid ∷ atoms_of goods (drop (next + 1) best.items)) =
+    subst (IsWithin c.args.options options bids) (one_left goods best.items now.items next bid h.left there c.index.ensures) h.within in
+    let done = one_done goods best.items now.items next bid h.left there c.index.ensures in
     let found = c.in-Ok.found in
-    let decided = rw c.deref-in-loop-place.ensures.value at c.in-Ok.ensures.decided in
-    let ready = rw c.deref-in-loop-place.ensures.value at c.in-Ok.ensures.finder in
+    let decided = rw c.deref-in-loop-next.ensures.value at c.in-Ok.ensures.decided in
+    let ready = rw c.deref-in-loop-next.ensures.value at c.in-Ok.ensures.finder in
     let dropped = sym c.is_some-is_dropped.ensures ∙ c.if-is_dropped.true in
     record {
-      left = next_left best.items now.items place bid h.left there c.index.ensures now.items refl refl;
+      left = next_left best.items now.items next bid h.left there c.index.ensures now.items refl refl;
       finder = subst (λ zs. IsFinderOf zs c.decide.new.self) (append-nil kept)
           (subst (λ b. IsFinderOf (kept ++ cond b [] (plain_atom goods bid ∷ [])) c.decide.new.self) dropped ready);
       kept = rw done (or_reached _ _ _ _ kept turn h.kept (sym dropped ∙ decided.answer.answer));
@@ -82,35 +82,35 @@ loop-place-preserved-then-is_dropped g c =
       wanted = c.note.ensures.wanted ∙ h.wanted;
       noted = λ w.
           rw done (or_noted_dropped _ _ _ _ kept turn h.kept.among c.args.options.kind _ h.within.kind _ _ found
-          (c.in_ok-note.ensures.noted (h.wanted ∙ w)) decided.answer.answer decided.answer.places (h.noted w));
+          (c.in_ok-note.ensures.noted (h.wanted ∙ w)) decided.answer.answer decided.answer.indices (h.noted w));
     }
 
-pub loop-place-preserved : goal.loop-place-preserved
-loop-place-preserved g c =
+pub loop-next-preserved : goal.loop-next-preserved
+loop-next-preserved g c =
     let goods = g.S.GoodsSet.goods in
-    let h = c.loop-place.invariant in
+    let h = c.loop-next.invariant in
     let bids = atoms_of goods c.args.atoms.items in
     let best = c.keep_best_bids.new.bids in
-    let now = c.loop-place.atoms in
-    let place = c.loop-place.place in
+    let now = c.loop-next.atoms in
+    let next = c.loop-next.next in
     let bid = c.index.result.now in
-    let kept = atoms_of goods (take c.loop-place.kept now.items) in
-    let there : place < length now.items = omega (arith, c.loop-place-test.true, c.len-place-end.ensures, best.ok.0, h.left.long) in
-    let turn = next_turn goods (λ s. (g.met.S.GoodsSet.is_bundle s).0) bids best.items now.items place bid
+    let kept = atoms_of goods (take c.loop-next.kept now.items) in
+    let there : next < length now.items = omega (arith, c.loop-next-test.true, c.len-next-end.ensures, best.ok.0, h.left.long) in
+    let turn = next_turn goods (λ s. (g.met.S.GoodsSet.is_bundle s).0) bids best.items now.items next bid
     c.in_ok-keep_best_bids.ensures.best h.left there c.index.ensures in
-    let options = c.loop-place.finder.search.options in
-    let within : IsWithin c.args.options options bids (plain_atom goods bid ∷ atoms_of goods (drop (place + 1) best.items)) =
-    subst (IsWithin c.args.options options bids) (one_left goods best.items now.items place bid h.left there c.index.ensures) h.within in
-    let done = one_done goods best.items now.items place bid h.left there c.index.ensures in
+    let options = c.loop-next.finder.search.options in
+    let within : IsWithin c.args.options options bids (plain_atom goods bid ∷ atoms_of goods (drop (next + 1) best.items)) =
+    subst (IsWithin c.args.options options bids) (one_left goods best.items now.items next bid h.left there c.index.ensures) h.within in
+    let done = one_done goods best.items now.items next bid h.left there c.index.ensures in
     let found = c.in-Ok.found in
-    let decided = rw c.deref-in-loop-place.ensures.value at c.in-Ok.ensures.decided in
-    let ready = rw c.deref-in-loop-place.ensures.value at c.in-Ok.ensures.finder in
+    let decided = rw c.deref-in-loop-next.ensures.value at c.in-Ok.ensures.decided in
+    let ready = rw c.deref-in-loop-next.ensures.value at c.in-Ok.ensures.finder in
     let missed = sym c.is_some-is_dropped.ensures ∙ c.if-is_dropped.false in
     let after = c.move_to_prefix.new.elements in
     let moved = c.move_to_prefix.ensures in
-    let more = one_kept goods now.items after.items c.loop-place.kept place bid c.index.ensures moved.prefix in
+    let more = one_kept goods now.items after.items c.loop-next.kept next bid c.index.ensures moved.prefix in
     record {
-      left = next_left best.items now.items place bid h.left there c.index.ensures after.items (omega (arith, moved.len, after.ok.0, now.ok.0))
+      left = next_left best.items now.items next bid h.left there c.index.ensures after.items (omega (arith, moved.len, after.ok.0, now.ok.0))
           moved.rest;
       finder = rw more (subst (λ b. IsFinderOf (kept ++ cond b [] (plain_atom goods bid ∷ [])) c.decide.new.self) missed ready);
       kept = rw (done, more) (or_missed _ _ _ _ kept turn h.kept (sym missed ∙ decided.answer.answer));
@@ -119,45 +119,45 @@ loop-place-preserved g c =
       wanted = c.note.ensures.wanted ∙ h.wanted;
       noted = λ w.
           rw (done, more) (or_noted_kept _ _ _ _ kept turn h.kept.among c.args.options.kind _ h.within.kind _ _ found
-          (c.in_ok-note.ensures.noted (h.wanted ∙ w)) decided.answer.answer decided.answer.places (h.noted w));
+          (c.in_ok-note.ensures.noted (h.wanted ∙ w)) decided.answer.answer decided.answer.indices (h.noted w));
     }
 
 pub returns-in-Err-StepLimit-clause-refused : goal.returns-in-Err-StepLimit-clause-refused
 returns-in-Err-StepLimit-clause-refused g c =
     let goods = g.S.GoodsSet.goods in
-    let h = c.loop-place.invariant in
+    let h = c.loop-next.invariant in
     let bids = atoms_of goods c.args.atoms.items in
     let best = c.keep_best_bids.new.bids in
-    let now = c.loop-place.atoms in
-    let place = c.loop-place.place in
+    let now = c.loop-next.atoms in
+    let next = c.loop-next.next in
     let bid = c.index.result.now in
-    let kept = atoms_of goods (take c.loop-place.kept now.items) in
-    let there : place < length now.items = omega (arith, c.loop-place-test.true, c.len-place-end.ensures, best.ok.0, h.left.long) in
-    let turn = next_turn goods (λ s. (g.met.S.GoodsSet.is_bundle s).0) bids best.items now.items place bid
+    let kept = atoms_of goods (take c.loop-next.kept now.items) in
+    let there : next < length now.items = omega (arith, c.loop-next-test.true, c.len-next-end.ensures, best.ok.0, h.left.long) in
+    let turn = next_turn goods (λ s. (g.met.S.GoodsSet.is_bundle s).0) bids best.items now.items next bid
     c.in_ok-keep_best_bids.ensures.best h.left there c.index.ensures in
-    let options = c.loop-place.finder.search.options in
-    let within : IsWithin c.args.options options bids (plain_atom goods bid ∷ atoms_of goods (drop (place + 1) best.items)) =
-    subst (IsWithin c.args.options options bids) (one_left goods best.items now.items place bid h.left there c.index.ensures) h.within in
-    let decided = rw c.deref-in-loop-place.ensures.value at c.in-Err-StepLimit.ensures.decided in
+    let options = c.loop-next.finder.search.options in
+    let within : IsWithin c.args.options options bids (plain_atom goods bid ∷ atoms_of goods (drop (next + 1) best.items)) =
+    subst (IsWithin c.args.options options bids) (one_left goods best.items now.items next bid h.left there c.index.ensures) h.within in
+    let decided = rw c.deref-in-loop-next.ensures.value at c.in-Err-StepLimit.ensures.decided in
     let over = decided.step_limit (ap Err c.in-Err-StepLimit.field-0-is) in
     let removed = c.swap_remove-bundle.result in
-    let read : bid ≡ removed = get_or_read now.items place bid there c.index.ensures removed ∙ sym c.swap_remove-bundle.ensures.value in
+    let read : bid ≡ removed = get_or_read now.items next bid there c.index.ensures removed ∙ sym c.swap_remove-bundle.ensures.value in
     rw (sym read) (IsWithin-refused c.args.options options bids _ _ _ kept turn h.kept within over)
 
 pub returns : goal.returns
 returns g c =
     let goods = g.S.GoodsSet.goods in
     let bids = atoms_of goods c.args.atoms.items in
-    let h = c.loop-place.invariant in
+    let h = c.loop-next.invariant in
     let best = c.keep_best_bids.new.bids in
-    let options = c.loop-place.finder.search.options in
-    let all : length best.items ≤ c.loop-place.place = omega (arith, c.loop-place-test.false, c.len-place-end.ensures, best.ok.0) in
-    let done = or_end goods bids best.items _ _ c.loop-place.place (all_some MAX_GOODS bids c.requires.atoms) c.in_ok-keep_best_bids.ensures.best h.kept all
+    let options = c.loop-next.finder.search.options in
+    let all : length best.items ≤ c.loop-next.next = omega (arith, c.loop-next-test.false, c.len-next-end.ensures, best.ok.0) in
+    let done = or_end goods bids best.items _ _ c.loop-next.next (all_some MAX_GOODS bids c.requires.atoms) c.in_ok-keep_best_bids.ensures.best h.kept all
     c.truncate.ensures.items in
     record {
       points = λ n are. done.points n (on_bundles n bids are);
       none_refused = λ n are.
-          IsWithin-end c.args.options options bids (subst (IsWithin c.args.options options bids) (none_left goods best.items c.loop-place.place all) h.within)
+          IsWithin-end c.args.options options bids (subst (IsWithin c.args.options options bids) (none_left goods best.items c.loop-next.next all) h.within)
           n are;
       values = done.values;
       bids = done.among;
@@ -166,6 +166,6 @@ returns g c =
       refused = tt;
       fates = λ w n are.
           let on = on_bundles n bids are in
-          noted_all goods (or_fate c.args.options.kind) n bids (or_points n bids) best.items _ _ c.loop-place.place _ on c.in_ok-keep_best_bids.ensures.best all
+          noted_all goods (or_fate c.args.options.kind) n bids (or_points n bids) best.items _ _ c.loop-next.next _ on c.in_ok-keep_best_bids.ensures.best all
           c.truncate.ensures.items (done.points n on) (h.noted w);
     }

@@ -1,4 +1,4 @@
--- `prune_or_by`: from the place on the best bids are as they were; what is kept of those before it, the prefix, is as it should be;
+-- `prune_or_by`: from the next one on the best bids are as they were; what is kept of those before it, the prefix, is as it should be;
 -- what is left of the limits decides on those from it on; and what was noted is what becomes of those before it, by the prefix.
 use Rattle.std.proofs.Common.{◌≡◌, ◌≤◌, true, map, drop, take}
 use Rattle.valuation.specs.Values.{atoms_of}
@@ -9,18 +9,18 @@ use Rattle.prune.proofs.Refusals.{IsWithin}
 use Rattle.prune.proofs.Results.{IsOrKept}
 use Rattle.prune.proofs.or.prune_or_by.Given as goal
 
-abbrev pub invariant-loop-place : goal.invariant-loop-place
-invariant-loop-place g l =
+abbrev pub invariant-loop-next : goal.invariant-loop-next
+invariant-loop-next g l =
     let goods = g.S.GoodsSet.goods in
-    let done = atoms_of goods (take l.place l.initial.atoms.items) in
-    let rest = atoms_of goods (drop l.place l.initial.atoms.items) in
+    let done = atoms_of goods (take l.next l.initial.atoms.items) in
+    let rest = atoms_of goods (drop l.next l.initial.atoms.items) in
     let prefix = atoms_of goods (take l.kept l.atoms.items) in
     record {
-      left : IsLeft l.initial.atoms.items l.atoms.items l.place;
+      left : IsLeft l.initial.atoms.items l.atoms.items l.next;
       finder : IsFinderOf prefix l.finder;
       kept : IsOrKept done prefix;
       within : IsWithin l.fn.options l.finder.search.options (atoms_of goods l.fn.atoms.items) rest;
-      fewer : l.kept ≤ l.place;
+      fewer : l.kept ≤ l.next;
       wanted : l.log.wanted ≡ l.fn.log.wanted;
       noted : l.fn.log.wanted ≡ true → map plain_fate l.log.fates.items ≡ map (or_fate l.fn.options.kind prefix) done;
     }

@@ -1,5 +1,5 @@
 -- `first_dominating_among`
--- None of the atoms listed before dominates the bid, and the next one does not either, or it is the first that does; places that rise
+-- None of the atoms listed before dominates the bid, and the next one does not either, or it is the first that does; indices that rise
 -- are no longer among the atoms once one is not.
 use Rattle.std.proofs.Common.{length, get_or, sym, ◌∙◌, arith}
 use Rattle.std.proofs.lemmas.List.{length-map}
@@ -7,7 +7,7 @@ use Rattle.valuation.specs.Values.{atoms_of}
 use Rattle.prune.specs.declared.subset_index.Posting.{Posting}
 use Rattle.prune.specs.Internal.Listings.{dominates_at, indices_of}
 use Rattle.prune.proofs.FirstDominating.{NonePass-more, none_before}
-use Rattle.prune.proofs.ListedAtoms.{place_of, places_get}
+use Rattle.prune.proofs.ListedAtoms.{index_of, indices_get}
 use Rattle.prune.proofs.subset_index.first_dominating_among.Goals as goal
 
 pub loop-posting-preserved : goal.loop-posting-preserved
@@ -16,7 +16,7 @@ loop-posting-preserved g c =
     let d : Posting = record { index = 0; fingerprint = 0 } in
     let listed = c.args.postings.now in
     let i = c.loop-posting.posting-index in
-    let at = places_get listed i d c.loop-posting-test.true in
+    let at = indices_get listed i d c.loop-posting-test.true in
     NonePass-more (dominates_at (atoms_of goods c.args.kept.now) (goods c.args.bundle.now) c.args.price) (indices_of listed) (length c.args.kept.now) i
     (get_or listed i d).index at.1 (sym c.is_dominating.ensures ∙ c.if-is_dominating.false) c.loop-posting.invariant
 
@@ -26,25 +26,25 @@ returns-then-is_dominating-clause-none g c =
     let d : Posting = record { index = 0; fingerprint = 0 } in
     let listed = c.args.postings.now in
     let i = c.loop-posting.posting-index in
-    let at = places_get listed i d c.loop-posting-test.true in
+    let at = indices_get listed i d c.loop-posting-test.true in
     none_before (dominates_at (atoms_of goods c.args.kept.now) (goods c.args.bundle.now) c.args.price) (indices_of listed) (length c.args.kept.now) i
-    (get_or listed i d).index c.requires.rising (omega (arith, c.if-place-kept.false)) (λ l. omega (arith, at.1)) c.loop-posting.invariant
+    (get_or listed i d).index c.requires.rising (omega (arith, c.if-index-kept.false)) (λ l. omega (arith, at.1)) c.loop-posting.invariant
 
-pub returns-then-place-kept-clause-none : goal.returns-then-place-kept-clause-none
-returns-then-place-kept-clause-none g c =
+pub returns-then-index-kept-clause-none : goal.returns-then-index-kept-clause-none
+returns-then-index-kept-clause-none g c =
     let goods = g.S.GoodsSet.goods in
     let d : Posting = record { index = 0; fingerprint = 0 } in
     let listed = c.args.postings.now in
     let i = c.loop-posting.posting-index in
-    let at = places_get listed i d c.loop-posting-test.true in
+    let at = indices_get listed i d c.loop-posting-test.true in
     none_before (dominates_at (atoms_of goods c.args.kept.now) (goods c.args.bundle.now) c.args.price) (indices_of listed) (length c.args.kept.now) i
-    (length c.args.kept.now) c.requires.rising (omega arith) (λ l. omega (arith, at.1, c.if-place-kept.true)) c.loop-posting.invariant
+    (length c.args.kept.now) c.requires.rising (omega arith) (λ l. omega (arith, at.1, c.if-index-kept.true)) c.loop-posting.invariant
 
 pub returns-after-loop-posting-clause-none : goal.returns-after-loop-posting-clause-none
 returns-after-loop-posting-clause-none g c =
     let goods = g.S.GoodsSet.goods in
     let listed = c.args.postings.now in
-    let long = length-map listed place_of in
+    let long = length-map listed index_of in
     none_before (dominates_at (atoms_of goods c.args.kept.now) (goods c.args.bundle.now) c.args.price) (indices_of listed) (length c.args.kept.now)
     c.loop-posting.posting-index (length c.args.kept.now) c.requires.rising (omega arith)
     (λ l. absurd (omega (arith, long, c.loop-posting-test.false))) c.loop-posting.invariant

@@ -6,7 +6,7 @@ use Rattle.valuation.specs.declared.atom.Atom.{Atom}
 use Rattle.valuation.specs.Lemmas.Atoms.{length-atoms_of}
 use Rattle.valuation.specs.Values.{atoms_of, plain_atom}
 use Rattle.prune.specs.declared.subset_index.Posting.{Posting}
-use Rattle.prune.specs.Internal.Listings.{lists_of, indices_of, places_at, dominates_at}
+use Rattle.prune.specs.Internal.Listings.{lists_of, indices_of, indices_at, dominates_at}
 use Rattle.prune.proofs.ListedAtoms.{next_there, none_there, behind_next}
 use Rattle.prune.proofs.FirstDominating.{IsFirstSoFar-all, IsFirstSoFar-more, IsFirstSoFar-some, postings_before}
 use Rattle.prune.proofs.subset_index.first_dominating_listed.Goals as goal
@@ -37,9 +37,9 @@ loop-good-preserved g c =
     (IsFirstSoFar-more (lists_of c.args.lists.now) atoms bundle price _ _ first next rises
     (next_there goods bundle index c.requires.goods rises c.loop-good-test.true) (omega (arith, got.within, long))
     (λ l. subst (λ (zs : List (Atom (List ℕ))). dominates_at zs bundle price next ≡ true) before (got.found (omega (arith, l, long))))
-    (subst (λ (zs : List (Atom (List ℕ))). All (λ place. place < next → dominates_at zs bundle price place ≡ false)
-    (places_at (lists_of c.args.lists.now) (get_or goods index 0))) before
-    (subst (λ (ps : List Posting). All (λ place. place < next → dominates_at (atoms_of seen (take first c.args.kept.now)) bundle price place ≡ false)
+    (subst (λ (zs : List (Atom (List ℕ))). All (λ index. index < next → dominates_at zs bundle price index ≡ false)
+    (indices_at (lists_of c.args.lists.now) (get_or goods index 0))) before
+    (subst (λ (ps : List Posting). All (λ index. index < next → dominates_at (atoms_of seen (take first c.args.kept.now)) bundle price index ≡ false)
     (indices_of ps)) c.postings_at-postings.ensures got.none))
     h)
 

@@ -25,27 +25,27 @@ returns-then-price-atom g c =
     let items = c.args.kept.now in
     let atoms = atoms_of goods items in
     let bundle = goods c.args.bundle.now in
-    let place = c.args.posting.now.index in
+    let index = c.args.posting.now.index in
     let long = length-atoms_of goods items in
     let within = c.requires.listed.within in
-    let at = get_or-atoms_of goods items place c.index-kept-posting.result (record { bundle = []; price = 0 }) (omega (arith, within, long))
+    let at = get_or-atoms_of goods items index c.index-kept-posting.result (record { bundle = []; price = 0 }) (omega (arith, within, long))
     c.index-kept-posting.is in
     let priced = ap (λ (a : Atom (List ℕ)). a.price) at in
     let same = ap (λ (a : Atom (List ℕ)). is_inside a.bundle bundle) (sym at) in
-    let reached = le-leb c.args.price (atom_at atoms place).price (omega (arith, priced, c.if-price-atom.true)) in
-    c.is_inside.ensures ∙ same ∙ sym (ap (λ b. b && is_inside_at atoms bundle place) reached)
+    let reached = le-leb c.args.price (atom_at atoms index).price (omega (arith, priced, c.if-price-atom.true)) in
+    c.is_inside.ensures ∙ same ∙ sym (ap (λ b. b && is_inside_at atoms bundle index) reached)
 
 pub returns-else-price-atom : goal.returns-else-price-atom
 returns-else-price-atom g c =
     let goods = g.S.GoodsSet.goods in
     let items = c.args.kept.now in
     let atoms = atoms_of goods items in
-    let place = c.args.posting.now.index in
+    let index = c.args.posting.now.index in
     let long = length-atoms_of goods items in
     let within = c.requires.listed.within in
-    let at = get_or-atoms_of goods items place c.index-kept-posting.result (record { bundle = []; price = 0 }) (omega (arith, within, long))
+    let at = get_or-atoms_of goods items index c.index-kept-posting.result (record { bundle = []; price = 0 }) (omega (arith, within, long))
     c.index-kept-posting.is in
     let priced = ap (λ (a : Atom (List ℕ)). a.price) at in
-    let too_cheap = lt-leb c.args.price (atom_at atoms place).price (omega (arith, priced, c.if-price-atom.false)) in
+    let too_cheap = lt-leb c.args.price (atom_at atoms index).price (omega (arith, priced, c.if-price-atom.false)) in
     lt-leb _ c.index-kept-posting.result.price c.if-price-atom.false
-    ∙ sym (and_left (leb c.args.price (atom_at atoms place).price) (is_inside_at atoms (goods c.args.bundle.now) place) too_cheap)
+    ∙ sym (and_left (leb c.args.price (atom_at atoms index).price) (is_inside_at atoms (goods c.args.bundle.now) index) too_cheap)

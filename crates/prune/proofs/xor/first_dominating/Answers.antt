@@ -13,24 +13,24 @@ returns-then-is_dominated_by g c =
     let atoms = c.args.atoms.now in
     let bundle = goods c.args.bid.now.bundle in
     let price = c.args.bid.now.price in
-    let i = c.loop-place.place in
+    let i = c.loop-index.index in
     let is : dominates_at (atoms_of goods atoms) bundle price i ≡ true =
-    ap (dominates bundle price) (get_or-atoms_of goods atoms i c.index-atoms-place.result _ c.loop-place-test.true c.index-atoms-place.is)
+    ap (dominates bundle price) (get_or-atoms_of goods atoms i c.index-atoms-index.result _ c.loop-index-test.true c.index-atoms-index.is)
     ∙ sym c.is_dominated_by.ensures ∙ c.if-is_dominated_by.true in
     sym (first_in_range (dominates_at (atoms_of goods atoms) bundle price) (length (atoms_of goods atoms)) i
-    (omega (arith, c.loop-place-test.true, length-atoms_of goods atoms)) is c.loop-place.invariant)
+    (omega (arith, c.loop-index-test.true, length-atoms_of goods atoms)) is c.loop-index.invariant)
 
-pub loop-place-preserved : goal.loop-place-preserved
-loop-place-preserved g c = λ k l.
+pub loop-index-preserved : goal.loop-index-preserved
+loop-index-preserved g c = λ k l.
     let goods = g.S.GoodsSet.goods in
     let atoms = c.args.atoms.now in
     let bundle = goods c.args.bid.now.bundle in
     let price = c.args.bid.now.price in
-    let i = c.loop-place.place in
+    let i = c.loop-index.index in
     let is : dominates_at (atoms_of goods atoms) bundle price i ≡ false =
-    ap (dominates bundle price) (get_or-atoms_of goods atoms i c.index-atoms-place.result _ c.loop-place-test.true c.index-atoms-place.is)
+    ap (dominates bundle price) (get_or-atoms_of goods atoms i c.index-atoms-index.result _ c.loop-index-test.true c.index-atoms-index.is)
     ∙ sym c.is_dominated_by.ensures ∙ c.if-is_dominated_by.false in
-    ⊎_elim (λ (m : k < i). c.loop-place.invariant k m)
+    ⊎_elim (λ (m : k < i). c.loop-index.invariant k m)
     (λ (m : i ≤ k). let e : k ≡ i = omega arith in ap (dominates_at (atoms_of goods atoms) bundle price) e ∙ is)
     (cases_lt k i)
 
@@ -39,4 +39,4 @@ returns g c =
     let goods = g.S.GoodsSet.goods in
     let atoms = c.args.atoms.now in
     sym (none_in_range (dominates_at (atoms_of goods atoms) (goods c.args.bid.now.bundle) c.args.bid.now.price) (length (atoms_of goods atoms))
-    (λ k l. c.loop-place.invariant k (omega (arith, l, c.loop-place-test.false, length-atoms_of goods atoms))))
+    (λ k l. c.loop-index.invariant k (omega (arith, l, c.loop-index-test.false, length-atoms_of goods atoms))))

@@ -21,34 +21,34 @@ use Rattle.std.proofs.Common.{ap}
 pub first_kept_dominating-requires-clause-next : goal.first_kept_dominating-requires-clause-next
 first_kept_dominating-requires-clause-next g c =
     let goods = g.S.GoodsSet.goods in
-    let h = c.loop-place.invariant in
+    let h = c.loop-next.invariant in
     let best = c.keep_best_bids.new.bids in
-    let now = c.loop-place.atoms in
-    let place = c.loop-place.place in
+    let now = c.loop-next.atoms in
+    let next = c.loop-next.next in
     let bid = c.index.result.now in
-    let kept = atoms_of goods (take c.loop-place.kept now.items) in
-    let there : place < length now.items = omega (arith, c.loop-place-test.true, c.len-place-end.ensures, best.ok.0, h.left.long) in
-    let turn = next_turn goods (λ s. (g.met.S.GoodsSet.is_bundle s).0) (atoms_of goods c.args.atoms.items) best.items now.items place bid
+    let kept = atoms_of goods (take c.loop-next.kept now.items) in
+    let there : next < length now.items = omega (arith, c.loop-next-test.true, c.len-next-end.ensures, best.ok.0, h.left.long) in
+    let turn = next_turn goods (λ s. (g.met.S.GoodsSet.is_bundle s).0) (atoms_of goods c.args.atoms.items) best.items now.items next bid
     c.in_ok-keep_best_bids.ensures.best h.left there c.index.ensures in
-    rw c.deref-in-loop-place.ensures.value (turn_next MAX_GOODS _ _ _ _ kept turn c.requires.atoms h.kept.in_order h.kept.among)
+    rw c.deref-in-loop-next.ensures.value (turn_next MAX_GOODS _ _ _ _ kept turn c.requires.atoms h.kept.in_order h.kept.among)
 
 pub first_kept_dominating-requires-clause-index : goal.first_kept_dominating-requires-clause-index
-first_kept_dominating-requires-clause-index g c = rw c.deref-in-loop-place.ensures.value c.loop-place.invariant.index
+first_kept_dominating-requires-clause-index g c = rw c.deref-in-loop-next.ensures.value c.loop-next.invariant.index
 
-pub loop-place-preserved : goal.loop-place-preserved
-loop-place-preserved g c =
+pub loop-next-preserved : goal.loop-next-preserved
+loop-next-preserved g c =
     let goods = g.S.GoodsSet.goods in
-    let h = c.loop-place.invariant in
+    let h = c.loop-next.invariant in
     let best = c.keep_best_bids.new.bids in
-    let now = c.loop-place.atoms in
-    let place = c.loop-place.place in
+    let now = c.loop-next.atoms in
+    let next = c.loop-next.next in
     let bid = c.index.result.now in
-    let kept = atoms_of goods (take c.loop-place.kept now.items) in
-    let there : place < length now.items = omega (arith, c.loop-place-test.true, c.len-place-end.ensures, best.ok.0, h.left.long) in
-    let turn = next_turn goods (λ s. (g.met.S.GoodsSet.is_bundle s).0) (atoms_of goods c.args.atoms.items) best.items now.items place bid
+    let kept = atoms_of goods (take c.loop-next.kept now.items) in
+    let there : next < length now.items = omega (arith, c.loop-next-test.true, c.len-next-end.ensures, best.ok.0, h.left.long) in
+    let turn = next_turn goods (λ s. (g.met.S.GoodsSet.is_bundle s).0) (atoms_of goods c.args.atoms.items) best.items now.items next bid
     c.in_ok-keep_best_bids.ensures.best h.left there c.index.ensures in
-    let done = one_done goods best.items now.items place bid h.left there c.index.ensures in
-    let same = c.deref-in-loop-place.ensures.value in
+    let done = one_done goods best.items now.items next bid h.left there c.index.ensures in
+    let same = c.deref-in-loop-next.ensures.value in
     let index = c.first_kept_dominating.new.index in
     let found = c.in_ok-found.found in
     let answer = rw same at c.in_ok-found.ensures.found in
@@ -59,9 +59,9 @@ loop-place-preserved g c =
       | then-is_none w ↦
           let after = w.move_to_prefix.new.elements in
           let moved = w.move_to_prefix.ensures in
-          let more = one_kept goods now.items after.items c.loop-place.kept place bid c.index.ensures moved.prefix in
+          let more = one_kept goods now.items after.items c.loop-next.kept next bid c.index.ensures moved.prefix in
           rw (w.atoms-is, w.kept-is) (record {
-            left = next_left best.items now.items place bid h.left there c.index.ensures after.items (omega (
+            left = next_left best.items now.items next bid h.left there c.index.ensures after.items (omega (
               arith,
               moved.len,
               after.ok.0,
@@ -76,7 +76,7 @@ loop-place-preserved g c =
           })
       | else-is_none w ↦
           rw (w.atoms-is, w.kept-is) (record {
-            left = next_left best.items now.items place bid h.left there c.index.ensures now.items refl refl;
+            left = next_left best.items now.items next bid h.left there c.index.ensures now.items refl refl;
             index = subst (λ zs. IfSome index (IsIndexOf zs)) (append-nil kept)
                 (subst (λ b. IfSome index (IsIndexOf (kept ++ cond b [] (plain_atom goods bid ∷ [])))) w.if-is_none.ensures indexed);
             kept = rw done (xor_reached _ _ _ _ kept turn h.kept (sym w.if-is_none.ensures ∙ reaches));
@@ -92,9 +92,9 @@ returns g c =
     let goods = g.S.GoodsSet.goods in
     let bids = atoms_of goods c.args.atoms.items in
     let best = c.keep_best_bids.new.bids in
-    let h = c.loop-place.invariant in
-    let all : length best.items ≤ c.loop-place.place = omega (arith, c.loop-place-test.false, c.len-place-end.ensures, best.ok.0) in
-    let done = xor_end goods bids best.items _ _ c.loop-place.place c.in_ok-keep_best_bids.ensures.best h.kept all c.truncate.ensures.items in
+    let h = c.loop-next.invariant in
+    let all : length best.items ≤ c.loop-next.next = omega (arith, c.loop-next-test.false, c.len-next-end.ensures, best.ok.0) in
+    let done = xor_end goods bids best.items _ _ c.loop-next.next c.in_ok-keep_best_bids.ensures.best h.kept all c.truncate.ensures.items in
     record {
       points = λ n are. done.points n (just_bundles n bids (on_bundles n bids are));
       values = done.values;
@@ -103,6 +103,6 @@ returns g c =
       no_longer = search rules;
       fates = λ w n are.
           let on = on_bundles n bids are in
-          noted_all goods xor_fate n bids (xor_points n bids) best.items _ _ c.loop-place.place _ on c.in_ok-keep_best_bids.ensures.best all
+          noted_all goods xor_fate n bids (xor_points n bids) best.items _ _ c.loop-next.next _ on c.in_ok-keep_best_bids.ensures.best all
           c.truncate.ensures.items (done.points n (just_bundles n bids on)) (h.noted w);
     }

@@ -1,4 +1,4 @@
--- `prune_xor_noting`: from the place on the best bids are as they were; what is kept of those before it, the prefix, is as it should be;
+-- `prune_xor_noting`: from the next one on the best bids are as they were; what is kept of those before it, the prefix, is as it should be;
 -- and what was noted is what becomes of them, by the prefix.
 use Rattle.std.proofs.Common.{◌≡◌, ◌≤◌, true, map, take}
 use Rattle.std.specs.Prelude.{IfSome}
@@ -9,16 +9,16 @@ use Rattle.prune.proofs.Prefixes.{IsLeft}
 use Rattle.prune.proofs.Results.{IsXorKept}
 use Rattle.prune.proofs.xor.prune_xor_noting.Given as goal
 
-abbrev pub invariant-loop-place : goal.invariant-loop-place
-invariant-loop-place g l =
+abbrev pub invariant-loop-next : goal.invariant-loop-next
+invariant-loop-next g l =
     let goods = g.S.GoodsSet.goods in
-    let done = atoms_of goods (take l.place l.initial.atoms.items) in
+    let done = atoms_of goods (take l.next l.initial.atoms.items) in
     let prefix = atoms_of goods (take l.kept l.atoms.items) in
     record {
-      left : IsLeft l.initial.atoms.items l.atoms.items l.place;
+      left : IsLeft l.initial.atoms.items l.atoms.items l.next;
       index : IfSome l.index (IsIndexOf prefix);
       kept : IsXorKept done prefix;
-      fewer : l.kept ≤ l.place;
+      fewer : l.kept ≤ l.next;
       wanted : l.log.wanted ≡ l.fn.log.wanted;
       noted : l.fn.log.wanted ≡ true → l.log.fates.items ≡ map (xor_fate prefix) done;
     }

@@ -1,4 +1,4 @@
--- `auction_of`: each turn of the loop puts one atom at its place (proofs/Placing), and what was placed from all bids is the auction of the file,
+-- `auction_of`: each turn of the loop puts one atom at its end (proofs/Placing), and what was placed from all bids is the auction of the file,
 -- whose limits follow from those of the file.
 use Rattle.std.proofs.Common.{arith, ◌≡◌, ◌<◌, length, take, refl, sym, ap, ◌∙◌}
 use Rattle.std.proofs.lemmas.Option.{get_or_from_slice_get, slice_get_within}

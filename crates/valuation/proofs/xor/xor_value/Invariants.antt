@@ -6,4 +6,4 @@ use Rattle.valuation.proofs.xor.xor_value.Given as goal
 abbrev pub invariant-loop-i : goal.invariant-loop-i
 invariant-loop-i g l =
     let goods = g.S.GoodsSet.goods in
-    Scanned (atoms_of goods l.atoms) (goods l.bundle) l.i l.value l.place
+    Scanned (atoms_of goods l.atoms) (goods l.bundle) l.i l.value l.index

@@ -6,14 +6,14 @@ use Rattle.goods_set.specs.Lemmas.Words.{word_goods_past}
 use Rattle.goods_set.proofs.Bits.{tested_shifted}
 use Rattle.goods_set.proofs.word_set.WordSetGoodsSet.has.Goals as goal
 
-pub returns-then-place : goal.returns-then-place
-returns-then-place g c =
-    let p : c.from-place.result ≡ c.args.good / 64 = c.from-place.ensures in
+pub returns-then-index : goal.returns-then-index
+returns-then-index g c =
+    let p : c.from-index.result ≡ c.args.good / 64 = c.from-index.ensures in
     let l : c.args.good < word_cap g.row.N = omega (arith, c.ranges.good.fits) in
-    tested_shifted (word_cap g.row.N) c.args.self.now.words c.args.good c.from-place.result p l
+    tested_shifted (word_cap g.row.N) c.args.self.now.words c.args.good c.from-index.result p l
 
-pub returns-else-place : goal.returns-else-place
-returns-else-place g c =
-    let p : c.from-place.result ≡ c.args.good / 64 = c.from-place.ensures in
-    let n : g.row.N ≤ c.from-place.result = c.if-place.false in
-    le-ltb c.from-place.result g.row.N n ∙ sym (word_goods_past (word_cap g.row.N) c.args.self.now.words c.args.good (omega arith))
+pub returns-else-index : goal.returns-else-index
+returns-else-index g c =
+    let p : c.from-index.result ≡ c.args.good / 64 = c.from-index.ensures in
+    let n : g.row.N ≤ c.from-index.result = c.if-index.false in
+    le-ltb c.from-index.result g.row.N n ∙ sym (word_goods_past (word_cap g.row.N) c.args.self.now.words c.args.good (omega arith))

@@ -12,7 +12,7 @@ returns-then-shared-ne0 c =
     let i : ℕ = c.loop-i.i in
     let space : i + 8 ≤ length xs = omega arith in
     let s = some_here (bit_and) xs ys i _ (lanes_shared xs ys i space c.requires) space c.if-shared-ne0.true in
-    sym (words_sharing (length xs) xs ys s.place (λ k. (c.type_inv.one k).fits) s.within s.holds)
+    sym (words_sharing (length xs) xs ys s.index (λ k. (c.type_inv.one k).fits) s.within s.holds)
 
 pub loop-i-preserved : goal.loop-i-preserved
 loop-i-preserved c =

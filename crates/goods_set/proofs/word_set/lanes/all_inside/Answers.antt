@@ -13,7 +13,7 @@ returns-then-outside-ne0 c =
     let i : ℕ = c.loop-i.i in
     let space : i + 8 ≤ length xs = omega arith in
     let s = some_here (λ x y. bit_and x (bit_not w64 y)) xs ys i _ (lanes_outside xs ys i space c.requires) space c.if-outside-ne0.true in
-    sym (words_outside (length xs) xs ys s.place (λ k. (c.type_inv.inner k).fits) (λ k. (c.type_inv.outer k).fits) s.within s.holds)
+    sym (words_outside (length xs) xs ys s.index (λ k. (c.type_inv.inner k).fits) (λ k. (c.type_inv.outer k).fits) s.within s.holds)
 
 pub loop-i-preserved : goal.loop-i-preserved
 loop-i-preserved c =

@@ -4,7 +4,7 @@ use Rattle.goods_set.proofs.Scans.{IsScan}
 use Rattle.goods_set.proofs.word_set.scans.next_bit.Given as goal
 
 abbrev pub invariant-loop-rest : goal.invariant-loop-rest
-invariant-loop-rest l = record { within : l.place < length l.words; scan : IsScan l.words l.from l.place l.rest }
+invariant-loop-rest l = record { within : l.index < length l.words; scan : IsScan l.words l.from l.index l.rest }
 
 abbrev pub decreases-loop-rest : goal.decreases-loop-rest
-decreases-loop-rest l = length l.words - l.place
+decreases-loop-rest l = length l.words - l.index

@@ -22,14 +22,14 @@ loop-good-preserved g c =
     let rises = (g.met.S.GoodsSet.is_bundle c.args.bundle.now).0 in
     let there = c.postings_at-postings.ensures ∙ ap (λ (vs : List (Vec Posting)). listed_at (lists_of vs) (get_or goods i 0)) c.deref.ensures.value in
     let found = c.in_ok-find_inside_among.ensures
-    ∙ ap (λ (ps : List Posting). c.loop-good.places.items ++ filter (is_inside_at (atoms_of g.S.GoodsSet.goods c.args.kept.now) bundle) (indices_of ps))
+    ∙ ap (λ (ps : List Posting). c.loop-good.indices.items ++ filter (is_inside_at (atoms_of g.S.GoodsSet.goods c.args.kept.now) bundle) (indices_of ps))
     there in
     let more = IsFinding-more _ _ _ bundle _ _ _ _ c.in_ok-list_below.ensures.listed.listed rises
     (next_there goods bundle i c.requires.goods rises c.loop-good-test.true) found c.loop-good.invariant in
     rw (sym (behind_next goods bundle i c.requires.goods)) more
 
-pub returns-clause-places : goal.returns-clause-places
-returns-clause-places g c =
+pub returns-clause-indices : goal.returns-clause-indices
+returns-clause-indices g c =
     let goods = g.S.GoodsSet.goods in
     let bundle = goods c.args.bundle.now in
     let all = c.in_ok-list_below.ensures.listed in

@@ -1,7 +1,7 @@
 //! Fingerprints of bundles. Most bundles that are not inside another are rejected without reading their goods.
 ghost use Rattle.std.specs.Prelude.{◌≡◌, ℕ, true, List};
 ghost use Rattle.goods_set.specs.Bundles.{IsInside};
-ghost use Rattle.goods_set.specs.Fingerprints.{AreMarks, mark_of};
+ghost use Rattle.prune.specs.Internal.Fingerprints.{AreMarks, mark_of};
 
 /// A multiplier that spreads goods near one another, and those at equal distances.
 const MIXER: u16 = 40_503;

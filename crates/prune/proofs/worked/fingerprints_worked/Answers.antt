@@ -2,10 +2,10 @@
 use Rattle.std.proofs.Common.{◌≡◌, true, false, [], ⊎_elim, refl, arith, ap, ◌∙◌}
 use Rattle.std.proofs.lemmas.Bool.{both_ways}
 use Rattle.goods_set.specs.Bundles.{has_good}
-use Rattle.goods_set.specs.Fingerprints.{mark_of}
+use Rattle.prune.specs.Internal.Fingerprints.{mark_of}
 use Rattle.goods_set.specs.Lemmas.Members.{has_cases}
-use Rattle.goods_set.proofs.Marks.{no_marks, one_more}
-use Rattle.goods_set.proofs.worked.fingerprints_worked.Goals as goal
+use Rattle.prune.proofs.Marks.{no_marks, one_more}
+use Rattle.prune.proofs.worked.fingerprints_worked.Goals as goal
 
 pub returns-clause-no_goods : goal.returns-clause-no_goods
 returns-clause-no_goods c = no_marks

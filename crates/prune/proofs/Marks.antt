@@ -9,7 +9,7 @@ use Rattle.std.proofs.lemmas.List.{take_more}
 use Rattle.std.proofs.lemmas.Nat.{and_le_l}
 use Rattle.std.proofs.lemmas.Nat.Bits.{bit_at-lt, bit_at_and, bit_at_not, bit_at-zero, bit_at-trailing_zeros, bit_at_set_same, bit_at_set_other}
 use Rattle.goods_set.specs.Bundles.{IsInside, has_good}
-use Rattle.goods_set.specs.Fingerprints.{AreMarks, mark_of, mixed}
+use Rattle.prune.specs.Internal.Fingerprints.{AreMarks, mark_of, mixed}
 use Rattle.goods_set.specs.Lemmas.Members.{has_head, has_tail, has_cases, inside_at}
 
 -- ---- the bit of a good

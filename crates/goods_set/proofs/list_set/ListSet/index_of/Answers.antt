@@ -1,9 +1,9 @@
--- `ListSet::place`
+-- `ListSet::index_of`
 use Rattle.std.proofs.Common.{List, ℕ, subst}
 use Rattle.std.specs.List.Sorted.{IsBinarySearchResult}
 use Rattle.std.specs.Ordering.{nat_cmp}
 use Rattle.goods_set.proofs.Places.{placed}
-use Rattle.goods_set.proofs.list_set.ListSet.place.Goals as goal
+use Rattle.goods_set.proofs.list_set.ListSet.index_of.Goals as goal
 
 pub returns : goal.returns
 returns c =

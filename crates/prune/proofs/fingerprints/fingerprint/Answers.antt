@@ -1,6 +1,6 @@
 -- `fingerprint`
-use Rattle.goods_set.proofs.Marks.{no_marks, marks_more}
-use Rattle.goods_set.proofs.fingerprints.fingerprint.Goals as goal
+use Rattle.prune.proofs.Marks.{no_marks, marks_more}
+use Rattle.prune.proofs.fingerprints.fingerprint.Goals as goal
 
 pub loop-good-init : goal.loop-good-init
 loop-good-init c = no_marks

@@ -1,9 +1,9 @@
--- `ListSet::place_from`
+-- `ListSet::index_from`
 use Rattle.std.proofs.Common.{◌≡◌, ◌≤◌, ℕ, List, true, false, rules, ltb, sym, subst, length}
 use Rattle.std.proofs.lemmas.List.Sorted.{IsPartitionPoint-from_clause}
 use Rattle.std.specs.List.Sorted.{IsPartitionedBy, IsPartitionPoint}
 use Rattle.goods_set.proofs.Places.{parted}
-use Rattle.goods_set.proofs.list_set.ListSet.place_from.Goals as goal
+use Rattle.goods_set.proofs.list_set.ListSet.index_from.Goals as goal
 
 pub returns-clause-fits : goal.returns-clause-fits
 returns-clause-fits c =
