@@ -44,7 +44,7 @@ pub fn compare_bidders(one: &[ListAtom], other: &[ListAtom]) -> Ordering
     compare_atoms(first, other_first).then(compare_bidders(rest, other_rest))
 }
 
-/// The bidders, of which the list is in order, with one more at its place.
+/// The bidders, of which the list is in order, with one more in order.
 fn insert_bidder(
     alloc: Global,
     bidder: Bidder,

@@ -13,7 +13,6 @@ use Rattle.valuation.specs.declared.search_options.SearchOptions.{SearchOptions}
 use Rattle.canon.specs.Canonical.{canonical_auction, file_from}
 use Rattle.canon.specs.Normalising.{Normalised, IsNoFile, ExceedsSteps, IsText, Normalises}
 use Rattle.canon.specs.declared.canon_fault.CanonFault.{CanonFault}
-use Rattle.canon.specs.declared.explained.ExplainedFile.{ExplainedFile}
 use Rattle.canon.specs.declared.named.NamedFile.{NamedFile}
 use Rattle.canon.specs.declared.canon_fault.CanonFault.TheVariants.{Read, StepLimit, Memory}
 
@@ -68,12 +67,7 @@ plain_answer (Err fault) = Err fault
 abbrev pub NormalisesFileAs : SearchOptions → PlainFile → Result BidFile CanonFault → Type 0
 NormalisesFileAs options f r = NormalisesPlainAs options f (plain_answer r)
 
--- an answer, without the dummy goods that it names
+-- an answer, without the dummy goods that it names, and without what became of the bids
 abbrev pub unnamed_answer : Result NamedFile CanonFault → Result PlainFile CanonFault
 unnamed_answer (Ok named) = Ok named.file
 unnamed_answer (Err fault) = Err fault
-
--- nor what became of the bids
-abbrev pub unexplained_answer : Result ExplainedFile CanonFault → Result PlainFile CanonFault
-unexplained_answer (Ok explained) = Ok explained.named.file
-unexplained_answer (Err fault) = Err fault

@@ -6,4 +6,4 @@ pub mod Fates
 pub mod KeyedBidders
 pub mod OrBids
 pub mod PriceWalks
-pub mod TextPlaces
+pub mod TextNumbers

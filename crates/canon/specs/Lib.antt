@@ -13,6 +13,6 @@ pub mod Difference
 pub mod PriceChanges
 pub mod Verdicts
 pub mod Comparing
-pub mod FirstPlaces
+pub mod FirstNumbers
 pub mod Lemmas
 pub mod Internal

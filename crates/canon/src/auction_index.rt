@@ -4,10 +4,10 @@ ghost use Rattle.std.specs.Prelude.{◌≡◌, ℕ, List, cond, unwrap_or, bytes
 ghost use Rattle.cats_text.specs.Streams.{has_ended, has_failed};
 ghost use Rattle.canon.specs.Answers.{RefusesAs};
 ghost use Rattle.canon.specs.Canonical.{canonical_text};
-ghost use Rattle.canon.specs.FirstPlaces.{AddsStream, AddsText, IsEmptyIndex};
+ghost use Rattle.canon.specs.FirstNumbers.{AddsStream, AddsText, IsEmptyIndex};
 ghost use Rattle.canon.specs.Normalising.{IsText, normalised_file};
 ghost use Rattle.canon.specs.Unsearched.{unsearched_text};
-ghost use Rattle.canon.specs.Internal.TextPlaces.{place_of};
+ghost use Rattle.canon.specs.Internal.TextNumbers.{number_of};
 
 use crate::canon_fault::CanonFault;
 use crate::named::named_normal_file;
@@ -26,19 +26,19 @@ use valuation::SearchOptions;
 /// The files of one index are all added by `add` and `add_from`, or all by `add_unsearched`.
 #[derive(Drop)]
 pub struct AuctionIndex {
-    /// Each text, with the place of the first file that has it.
-    places: BTreeMap<Vec<u8>, usize>,
+    /// Each text, with the number of the first file that has it.
+    numbers: BTreeMap<Vec<u8>, usize>,
     /// How many files were added.
     count: usize,
 }
 
 impl Model for AuctionIndex {
     ghost use Rattle.std.specs.Prelude.{map};
-    ghost use Rattle.canon.specs.FirstPlaces.{TextIndex};
+    ghost use Rattle.canon.specs.FirstNumbers.{TextIndex};
 
     ghost Value = { TextIndex };
 
-    ghost view = { λ index. record { texts = map (λ e. (e.0.items, e.1)) index.places.entries; count = index.count } };
+    ghost view = { λ index. record { texts = map (λ e. (e.0.items, e.1)) index.numbers.entries; count = index.count } };
 }
 
 impl AuctionIndex {
@@ -47,13 +47,13 @@ impl AuctionIndex {
         ensures { IsEmptyIndex result }
     {
         AuctionIndex {
-            places: BTreeMap::new(alloc),
+            numbers: BTreeMap::new(alloc),
             count: 0,
         }
     }
 
-    /// Adds a packed file, and answers the place, counted from 0, of the first file added that is the same auction;
-    /// that is its own place where there is none.
+    /// Adds a packed file, and answers the number, counted from 0, of the first file added that is the same auction;
+    /// that is its own number where there is none.
     ///
     /// An index to which `usize::MAX` files were added takes no more, and reports want of memory.
     pub fn add(
@@ -72,13 +72,13 @@ impl AuctionIndex {
         };
         let normal = named_normal_file(alloc, file, options)?;
         let text = write(alloc, &normal.file)?;
-        let place = place_text(&mut self.places, text, self.count)?;
+        let number = number_text(&mut self.numbers, text, self.count)?;
         self.count = count;
-        Ok(place)
+        Ok(number)
     }
 
-    /// Adds a packed file by what needs no search, and answers the place, counted from 0, of the first file added that is
-    /// alike; that is its own place where there is none. Alike files are the same auction, but some of the same auction are
+    /// Adds a packed file by what needs no search, and answers the number, counted from 0, of the first file added that is
+    /// alike; that is its own number where there is none. Alike files are the same auction, but some of the same auction are
     /// not alike.
     ///
     /// It takes no more files than `add`.
@@ -91,9 +91,9 @@ impl AuctionIndex {
         };
         let file = unsearched_file(alloc, file)?;
         let text = write(alloc, &file)?;
-        let place = place_text(&mut self.places, text, self.count)?;
+        let number = number_text(&mut self.numbers, text, self.count)?;
         self.count = count;
-        Ok(place)
+        Ok(number)
     }
 
     /// Reads a bid file and adds it, as `add`.
@@ -112,22 +112,22 @@ impl AuctionIndex {
     }
 }
 
-/// The place of a text, which is put at this place where it has none yet. No more memory is kept than the text needs.
-fn place_text(
-    places: &mut BTreeMap<Vec<u8>, usize>,
+/// The number of a text, which gets this number if it has none yet. No more memory is kept than the text needs.
+fn number_text(
+    numbers: &mut BTreeMap<Vec<u8>, usize>,
     text: Vec<u8>,
-    place: usize,
+    number: usize,
 ) -> Result<usize, AllocError>
-    ensures answer { IfOk result (λ first. first ≡ unwrap_or (place_of places.old text.items) place) }
+    ensures answer { IfOk result (λ first. first ≡ unwrap_or (number_of numbers.old text.items) number) }
     ensures placed { IfOk result (λ first. (other : List ℕ)
-        → place_of places.new other ≡ cond (bytes_eq text.items other) (Some first) (place_of places.old other)) }
-    ensures unchanged { OnErr result (places.new.entries ≡ places.old.entries) }
+        → number_of numbers.new other ≡ cond (bytes_eq text.items other) (Some first) (number_of numbers.old other)) }
+    ensures unchanged { OnErr result (numbers.new.entries ≡ numbers.old.entries) }
 {
-    if let Some(first) = places.get(text.as_slice()) {
+    if let Some(first) = numbers.get(text.as_slice()) {
         return Ok(*first);
     }
     let mut text = text;
     text.shrink_to_fit();
-    places.insert(text, place)?;
-    Ok(place)
+    numbers.insert(text, number)?;
+    Ok(number)
 }

@@ -3,9 +3,13 @@
 ghost use Rattle.std.specs.Prelude.{◌≡◌, ◌<◌, ◌≤◌, ◌∷◌, [], MatchOption, length, take, drop, slice_get, Some};
 ghost use Rattle.bid_file.specs.Files.{IsPlainFile};
 ghost use Rattle.bid_file.specs.Views.{seen_bid};
+ghost use Rattle.valuation.specs.Orders.{bidder_cmp};
+ghost use Rattle.canon.specs.Bidders.{offers};
 ghost use Rattle.canon.specs.Internal.BidderBids.{leading};
 
+use crate::bid_order::canonical_order;
 use bid_file::{BidRef, Bids};
+use std::cmp::Ordering;
 use std::marker::Model;
 
 /// The bids of a file from the number `first` up to `end`, without the bid `end`.
@@ -101,5 +105,19 @@ impl<'a, B: Bids> BidRun<'a, B> {
             count += 1;
         }
         count
+    }
+
+    /// The order of the bidders that have these bids, which is lexicographic.
+    pub fn order(&self, other: &BidRun<'_, B>) -> Ordering
+        ensures { result ≡ bidder_cmp (offers self.now) (offers other.now) }
+    {
+        let both = self.len().min(other.len());
+        for i in 0..both {
+            let bids = canonical_order(&self.at(i), &other.at(i));
+            if bids.is_ne() {
+                return bids;
+            }
+        }
+        self.len().cmp(&other.len())
     }
 }

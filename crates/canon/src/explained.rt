@@ -4,7 +4,7 @@ ghost use Rattle.std.specs.Prelude.{◌≡◌, ◌≤◌, true, IfOk, map};
 ghost use Rattle.std.specs.List.{range_with_len};
 ghost use Rattle.valuation.specs.Auctions.{auction_from, or_atoms_of, xor_atoms_of};
 ghost use Rattle.prune.specs.Fates.{or_fates, plain_fate, xor_fates};
-ghost use Rattle.canon.specs.Answers.{NormalisesPlainAs, unexplained_answer};
+ghost use Rattle.canon.specs.Answers.{NormalisesPlainAs, unnamed_answer};
 ghost use Rattle.canon.specs.Internal.Fates.{AreFates};
 ghost use Rattle.canon.specs.Renaming.{kept_dummies};
 
@@ -19,18 +19,11 @@ use valuation::{Auction, SearchOptions, auction_of, on_set_for};
 /// What became of the best bids of each bidder of a file.
 #[derive(Drop)]
 pub struct BidderFates {
-    /// Of the OR bidder's best bids, in order: none if the bid is kept, and else the places, among the points, of the
+    /// Of the OR bidder's best bids, in order: none if the bid is kept, and else the indices, among the points, of the
     /// packing that reaches its price.
     pub or: Vec<Option<Vec<usize>>>,
-    /// Of each dummy good's bidder the same: the place of the first point inside the bundle with at least its price.
+    /// Of each dummy good's bidder the same: the index of the first point inside the bundle with at least its price.
     pub xor: Vec<Vec<Option<usize>>>,
-}
-
-/// The canonical file of a file, and what became of its bids.
-#[derive(Drop)]
-pub struct ExplainedFile {
-    pub named: NamedFile,
-    pub fates: BidderFates,
 }
 
 /// The canonical file of a packed file, as `named_normal_file`, and what became of its bids.
@@ -38,9 +31,9 @@ pub fn explained_normal_file(
     alloc: Global,
     file: &PackedFile,
     options: SearchOptions,
-) -> Result<ExplainedFile, CanonFault>
-    ensures answer { NormalisesPlainAs options file.now (unexplained_answer result) }
-    ensures dummies { IfOk result (λ e. e.named.dummies.items ≡ kept_dummies file.now) }
+) -> Result<NamedFile, CanonFault>
+    ensures answer { NormalisesPlainAs options file.now (unnamed_answer result) }
+    ensures dummies { IfOk result (λ e. e.dummies.items ≡ kept_dummies file.now) }
     ensures or_fates { let f = file.now in
         IfOk result (λ e. map plain_fate e.fates.or.items ≡ or_fates options.kind f.goods (or_atoms_of f.bids)) }
     ensures xor_fates { let f = file.now in
@@ -56,9 +49,9 @@ pub(crate) fn explained_file(
     file: &PackedFile,
     options: SearchOptions,
     with_fates: bool,
-) -> Result<ExplainedFile, CanonFault>
-    ensures answer { NormalisesPlainAs options file.now (unexplained_answer result) }
-    ensures dummies { IfOk result (λ e. e.named.dummies.items ≡ kept_dummies file.now) }
+) -> Result<NamedFile, CanonFault>
+    ensures answer { NormalisesPlainAs options file.now (unnamed_answer result) }
+    ensures dummies { IfOk result (λ e. e.dummies.items ≡ kept_dummies file.now) }
     ensures fates { IfOk result (λ e. with_fates ≡ true → AreFates options.kind (auction_from file.now) e.fates) }
 {
     prove!(file.goods() <= MAX_GOODS);
@@ -71,10 +64,10 @@ fn explained_file_on<S: GoodsSet>(
     file: &PackedFile,
     options: SearchOptions,
     with_fates: bool,
-) -> Result<ExplainedFile, CanonFault>
+) -> Result<NamedFile, CanonFault>
     requires { file.now.goods ≤ S.CAP }
-    ensures answer { NormalisesPlainAs options file.now (unexplained_answer result) }
-    ensures dummies { IfOk result (λ e. e.named.dummies.items ≡ kept_dummies file.now) }
+    ensures answer { NormalisesPlainAs options file.now (unnamed_answer result) }
+    ensures dummies { IfOk result (λ e. e.dummies.items ≡ kept_dummies file.now) }
     ensures fates { IfOk result (λ e. with_fates ≡ true → AreFates options.kind (auction_from file.now) e.fates) }
 {
     let auction: Auction<S> = auction_of(alloc, file)?;

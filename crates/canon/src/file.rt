@@ -21,7 +21,7 @@ pub fn file_of<S: GoodsSet>(alloc: Global, auction: &Auction<S>) -> Result<BidFi
 }
 
 /// The packed file of any auction, as `file_of`. The goods of one bid at a time are listed, in one buffer.
-pub fn packed_file_of<S: GoodsSet>(
+pub(crate) fn packed_file_of<S: GoodsSet>(
     alloc: Global,
     auction: &Auction<S>,
 ) -> Result<PackedFile, AllocError>

@@ -1,6 +1,6 @@
 //! Where each bidder's bids lie in a canonical file.
 
-ghost use Rattle.std.specs.Prelude.{◌≡◌, ◌≤◌, ℕ, List, IfOk, length};
+ghost use Rattle.std.specs.Prelude.{◌≡◌, ◌≤◌, ℕ, List, IfOk, length, map};
 ghost use Rattle.bid_file.specs.Files.{IsPlainFile};
 ghost use Rattle.bid_file.specs.declared.limits.TheConstants.{MAX_BIDS};
 ghost use Rattle.valuation.specs.Auctions.{auction_from};
@@ -8,7 +8,6 @@ ghost use Rattle.valuation.specs.declared.atom.Atom.{Atom};
 ghost use Rattle.canon.specs.Bidders.{AreBidders, offers};
 ghost use Rattle.canon.specs.Canonical.{IsCanonicalFile};
 ghost use Rattle.canon.specs.Internal.BidderBids.{AreBidsOf};
-ghost use Rattle.std.specs.Prelude.{map};
 
 use crate::bid_run::BidRun;
 use crate::comparison::split_bids;
@@ -25,19 +24,21 @@ pub struct FileBidders<'a, B: Bids> {
     pub xor_bidders: Vec<BidRun<'a, B>>,
 }
 
-/// The bidders of a canonical file. It takes memory for each XOR bidder, and copies no bid.
-pub fn bidders_of<B: Bids>(alloc: Global, file: &B) -> Result<FileBidders<'_, B>, AllocError>
-    requires facts { IsPlainFile (B.file file.now) }
-    requires canonical { IsCanonicalFile (B.file file.now) }
-    ensures { IfOk result (λ bidders. AreBidders
-        (auction_from (B.file file.now)) bidders.or_bids bidders.xor_bidders.items) }
-{
-    let (or_bids, xor_bids) = split_bids(file);
-    let xor_bidders = split_bidders(alloc, &xor_bids)?;
-    Ok(FileBidders {
-        or_bids,
-        xor_bidders,
-    })
+impl<'a, B: Bids> FileBidders<'a, B> {
+    /// The bidders of a canonical file. It takes memory for each XOR bidder, and copies no bid.
+    pub fn of(alloc: Global, file: &'a B) -> Result<FileBidders<'a, B>, AllocError>
+        requires facts { IsPlainFile (B.file file.now) }
+        requires canonical { IsCanonicalFile (B.file file.now) }
+        ensures { IfOk result (λ bidders. AreBidders
+            (auction_from (B.file file.now)) bidders.or_bids bidders.xor_bidders.items) }
+    {
+        let (or_bids, xor_bids) = split_bids(file);
+        let xor_bidders = split_bidders(alloc, &xor_bids)?;
+        Ok(FileBidders {
+            or_bids,
+            xor_bidders,
+        })
+    }
 }
 
 /// The bids of XOR bidders, bidder by bidder.

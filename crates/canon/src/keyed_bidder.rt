@@ -6,9 +6,10 @@ ghost use Rattle.valuation.specs.Orders.{bidder_cmp};
 ghost use Rattle.valuation.specs.Values.{atoms_of};
 ghost use Rattle.canon.specs.Internal.BidderKeys.{bidder_key};
 
+use crate::atom_order::compare_bidders;
 use goods_set::{GoodsSet, sort_key};
 use std::cmp::Ordering;
-use valuation::{Atom, compare_bidders};
+use valuation::Atom;
 
 /// The atoms of a bidder and its dummy good, with the sort key of the first atom's bundle, 0 where there is none.
 #[derive(Drop)]

@@ -7,7 +7,7 @@ ghost use Rattle.prune.specs.SearchSteps.{first_heavy, first_refused, greatest_p
 ghost use Rattle.valuation.specs.declared.search_kind.SearchKind.{SearchKind};
 ghost use Rattle.valuation.specs.declared.search_options.SearchOptions.{SearchOptions};
 ghost use Rattle.canon.specs.Canonical.{IsCanonical, IsCanonicalFile, canonical_auction, canonical_text, file_from};
-ghost use Rattle.canon.specs.FirstPlaces.{AddsText, IsEmptyIndex, IsFirstPlace, IsIndexOf, TextIndex, first_place};
+ghost use Rattle.canon.specs.FirstNumbers.{AddsText, IsEmptyIndex, IsFirstNumber, IsIndexOf, TextIndex, first_number};
 ghost use Rattle.canon.specs.Normalising.{IsNormalised, IsText, Normalised, Normalises, SpellsCanonicalFile};
 ghost use Rattle.canon.specs.Unsearched.{AreAlike, unsearched_text};
 ghost use Rattle.canon.specs.Renaming.{with_dummies};
@@ -98,19 +98,19 @@ pub fn no_new_heavy_bundle()
 {}
 
 /// An index that files are added to one by one, each with a text of its own, is the index of these files by these texts.
-/// The place that is answered is that of the first of them that is the same auction, where the texts are the canonical
+/// The number that is answered is that of the first of them that is the same auction, where the texts are the canonical
 /// ones, and of the first that is alike, where they are the unsearched ones.
-pub fn added_files_have_first_places()
+pub fn added_files_have_first_numbers()
     ensures none { (text_of : PlainFile → List ℕ) (index : TextIndex) → IsEmptyIndex index → IsIndexOf text_of index [] }
     ensures index { (text_of : PlainFile → List ℕ) (old new : TextIndex) (files : List PlainFile) (file : PlainFile)
-        (place : ℕ) → IsIndexOf text_of old files → IsPlainFile file → AddsText old new (text_of file) place
+        (number : ℕ) → IsIndexOf text_of old files → IsPlainFile file → AddsText old new (text_of file) number
         → IsIndexOf text_of new (files ++ file ∷ []) }
-    ensures place { (old new : TextIndex) (files : List PlainFile) (file : PlainFile) (place : ℕ)
-        → IsIndexOf canonical_text old files → IsPlainFile file → AddsText old new (canonical_text file) place
-        → IsFirstPlace AreSameFiles (files ++ file ∷ []) file place }
-    ensures unsearched { (old new : TextIndex) (files : List PlainFile) (file : PlainFile) (place : ℕ)
-        → IsIndexOf unsearched_text old files → IsPlainFile file → AddsText old new (unsearched_text file) place
-        → IsFirstPlace AreAlike (files ++ file ∷ []) file place }
+    ensures number { (old new : TextIndex) (files : List PlainFile) (file : PlainFile) (number : ℕ)
+        → IsIndexOf canonical_text old files → IsPlainFile file → AddsText old new (canonical_text file) number
+        → IsFirstNumber AreSameFiles (files ++ file ∷ []) file number }
+    ensures unsearched { (old new : TextIndex) (files : List PlainFile) (file : PlainFile) (number : ℕ)
+        → IsIndexOf unsearched_text old files → IsPlainFile file → AddsText old new (unsearched_text file) number
+        → IsFirstNumber AreAlike (files ++ file ∷ []) file number }
 {}
 
 /// Files have one unsearched text exactly if they are alike.
@@ -198,7 +198,7 @@ pub fn difference_is_the_least_bidder()
 {}
 
 /// The first file that has the canonical text of a file is the first that is the same auction.
-pub fn first_place_by_text()
-    ensures { (files : List PlainFile) (given : PlainFile) (place : ℕ) → All IsPlainFile files → IsPlainFile given
-        → first_place files given ≡ Some place → IsFirstPlace AreSameFiles files given place }
+pub fn first_number_by_text()
+    ensures { (files : List PlainFile) (given : PlainFile) (number : ℕ) → All IsPlainFile files → IsPlainFile given
+        → first_number files given ≡ Some number → IsFirstNumber AreSameFiles files given number }
 {}

@@ -2,6 +2,7 @@
 //! auction.
 #![tactic(auto)]
 
+mod atom_order;
 mod auction;
 mod auction_index;
 mod bid_order;
@@ -30,13 +31,12 @@ pub use bid_order::order_of_bundles;
 pub use bid_run::BidRun;
 pub use canon_fault::CanonFault;
 pub use comparison::{compare, compare_files};
-pub use explained::{BidderFates, ExplainedFile, explained_normal_file};
-pub use file::{file_of, packed_file_of};
-pub use file_bidders::{FileBidders, bidders_of};
+pub use explained::{BidderFates, explained_normal_file};
+pub use file::file_of;
+pub use file_bidders::FileBidders;
 pub use named::{NamedFile, named_normal_file};
 pub use normal::{normal_file, normal_packed_file};
 pub use normal_text::normalise;
 pub use price_walk::{PriceChange, price_changes};
 pub use verdict::{Side, Verdict};
 pub use which::Which;
-pub use xor_bidders::order_of_bidders;

@@ -5,12 +5,12 @@ ghost use Rattle.canon.specs.Answers.{NormalisesPlainAs, unnamed_answer};
 ghost use Rattle.canon.specs.Renaming.{kept_dummies};
 
 use crate::canon_fault::CanonFault;
-use crate::explained::explained_file;
+use crate::explained::{BidderFates, explained_file};
 use bid_file::PackedFile;
 use std::alloc::Global;
 use valuation::SearchOptions;
 
-/// The canonical file of a file, with the dummy goods that its bidders have there.
+/// The canonical file of a file, with what `named_normal_file` and `explained_normal_file` say of it.
 #[derive(Drop)]
 pub struct NamedFile {
     /// The canonical file.
@@ -18,6 +18,8 @@ pub struct NamedFile {
     /// For each of its dummy goods the one of the same bidder in the file that it is of. Equal bidders keep the order of
     /// their dummy goods.
     pub dummies: Vec<u32>,
+    /// What became of the best bids of each bidder there, if `explained_normal_file` made it.
+    pub fates: BidderFates,
 }
 
 /// The canonical file of a packed file, as `normal_packed_file`, and which bidder is which.
@@ -29,5 +31,5 @@ pub fn named_normal_file(
     ensures answer { NormalisesPlainAs options file.now (unnamed_answer result) }
     ensures dummies { IfOk result (λ named. named.dummies.items ≡ kept_dummies file.now) }
 {
-    Ok(explained_file(alloc, file, options, false)?.named)
+    explained_file(alloc, file, options, false)
 }

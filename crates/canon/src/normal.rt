@@ -6,7 +6,7 @@ ghost use Rattle.valuation.specs.SearchLimits.{plain_options};
 ghost use Rattle.valuation.specs.Views.{plain_auction};
 ghost use Rattle.prune.specs.SearchSteps.{first_refused};
 ghost use Rattle.canon.specs.Answers.{NormalisesAuctionAs, NormalisesFileAs, NormalisesPlainAs, RefusesAuction};
-ghost use Rattle.canon.specs.Answers.{unexplained_answer};
+ghost use Rattle.canon.specs.Answers.{unnamed_answer};
 ghost use Rattle.canon.specs.Canonical.{IsCanonical, IsCanonicalFile, canonical_auction};
 ghost use Rattle.canon.specs.Internal.Fates.{AreFates};
 ghost use Rattle.canon.specs.Internal.KeyedBidders.{kept_numbers};
@@ -15,7 +15,6 @@ ghost use Rattle.canon.specs.Sameness.{AreSameFiles};
 
 use crate::auction::{NamedAuction, named_canonical};
 use crate::canon_fault::CanonFault;
-use crate::explained::ExplainedFile;
 use crate::file::packed_file_of;
 use crate::named::NamedFile;
 use bid_file::{BidFile, PackedFile, pack};
@@ -63,8 +62,8 @@ fn normal_file_on<S: GoodsSet>(
 {
     let auction: Auction<S> = auction_of(alloc, &file)?;
     mem::drop(file);
-    let explained = normal_auction_file(alloc, auction, options, false)?;
-    Ok(explained.named.file)
+    let named = normal_auction_file(alloc, auction, options, false)?;
+    Ok(named.file)
 }
 
 /// The canonical file of an auction, which bidder is which, and what became of the best bids, if that is wanted.
@@ -73,10 +72,10 @@ pub(crate) fn normal_auction_file<S: GoodsSet>(
     auction: Auction<S>,
     options: SearchOptions,
     with_fates: bool,
-) -> Result<ExplainedFile, CanonFault>
-    ensures answer { NormalisesAuctionAs options (plain_auction auction) (unexplained_answer result) }
-    ensures dummies { IfOk result (λ e. e.named.dummies.items ≡ kept_numbers (plain_auction auction)) }
-    ensures canonical { IfOk result (λ e. IsCanonicalFile e.named.file) }
+) -> Result<NamedFile, CanonFault>
+    ensures answer { NormalisesAuctionAs options (plain_auction auction) (unnamed_answer result) }
+    ensures dummies { IfOk result (λ e. e.dummies.items ≡ kept_numbers (plain_auction auction)) }
+    ensures canonical { IfOk result (λ e. IsCanonicalFile e.file) }
     ensures fates { IfOk result (λ e. with_fates ≡ true → AreFates options.kind (plain_auction auction) e.fates) }
 {
     let NamedAuction {
@@ -85,8 +84,11 @@ pub(crate) fn normal_auction_file<S: GoodsSet>(
         fates,
     } = canonical_within_limits(alloc, auction, options, with_fates)?;
     let file = packed_file_of(alloc, &auction)?;
-    let named = NamedFile { file, dummies };
-    Ok(ExplainedFile { named, fates })
+    Ok(NamedFile {
+        file,
+        dummies,
+        fates,
+    })
 }
 
 /// The canonical auction, if no bundle is refused.

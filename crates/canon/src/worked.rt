@@ -8,7 +8,7 @@ ghost use Rattle.canon.specs.Examples.{auction};
 ghost use Rattle.canon.specs.Difference.{first_difference, NoDifference, InGoods, InOr, InXor};
 ghost use Rattle.canon.specs.Verdicts.{NamesGoods};
 ghost use Rattle.canon.specs.declared.verdict.Side.TheVariants.{Exactly, Below};
-ghost use Rattle.canon.specs.FirstPlaces.{AddsText, IsEmptyIndex, IsIndexOf, first_place};
+ghost use Rattle.canon.specs.FirstNumbers.{AddsText, IsEmptyIndex, IsIndexOf, first_number};
 
 /// The canonical auction: points stay, zero bidders go, and equal bidders stay beside one another.
 #[tactic(auto, unfolding(prune::specs::Points::points_where, prune::specs::Points::is_xor_point, prune::specs::Points::is_or_point, valuation::specs::Values::xor_value, valuation::specs::Values::or_value))]
@@ -97,22 +97,22 @@ pub fn differences_that_name_goods()
 
 /// Bids that change no value, the order of bids and bidders and those of value zero do not count; prices, goods and
 /// equal bidders do.
-pub fn first_places()
-    ensures larger_bid_dominated { first_place (file_from (auction 2 [] [])
+pub fn first_numbers()
+    ensures larger_bid_dominated { first_number (file_from (auction 2 [] [])
         ∷ file_from (auction 2 (atom (0 ∷ []) 3 ∷ atom (1 ∷ []) 4 ∷ atom (0 ∷ 1 ∷ []) 7 ∷ []) [])
         ∷ file_from (auction 2 (atom (1 ∷ []) 4 ∷ atom (0 ∷ []) 3 ∷ []) []) ∷ [])
         (file_from (auction 2 (atom (1 ∷ []) 4 ∷ atom (0 ∷ []) 3 ∷ []) [])) ≡ Some 1 }
-    ensures bidders_in_any_order { first_place
+    ensures bidders_in_any_order { first_number
         (file_from (auction 2 [] ((atom (1 ∷ []) 2 ∷ []) ∷ [] ∷ (atom (0 ∷ []) 1 ∷ []) ∷ [])) ∷ [])
         (file_from (auction 2 [] ((atom (0 ∷ []) 1 ∷ []) ∷ (atom (1 ∷ []) 2 ∷ []) ∷ []))) ≡ Some 0 }
-    ensures equal_bidders_counted { first_place (file_from (auction 1 [] ((atom (0 ∷ []) 1 ∷ []) ∷ [])) ∷ [])
+    ensures equal_bidders_counted { first_number (file_from (auction 1 [] ((atom (0 ∷ []) 1 ∷ []) ∷ [])) ∷ [])
         (file_from (auction 1 [] ((atom (0 ∷ []) 1 ∷ []) ∷ (atom (0 ∷ []) 1 ∷ []) ∷ []))) ≡ None }
-    ensures prices_and_goods { first_place (file_from (auction 1 (atom (0 ∷ []) 4 ∷ []) [])
+    ensures prices_and_goods { first_number (file_from (auction 1 (atom (0 ∷ []) 4 ∷ []) [])
         ∷ file_from (auction 2 (atom (0 ∷ []) 5 ∷ []) []) ∷ file_from (auction 1 [] ((atom (0 ∷ []) 5 ∷ []) ∷ [])) ∷ [])
         (file_from (auction 1 (atom (0 ∷ []) 5 ∷ []) [])) ≡ None }
 {}
 
-/// A text that an index has keeps its place, and a new one is placed behind all files.
+/// A text that an index has keeps its number, and a new one gets the number behind all files.
 pub fn added_texts()
     ensures new { AddsText (record { texts = []; count = 2 }) (record { texts = (codes "a", 2) ∷ []; count = 3 })
         (codes "a") 2 }

@@ -15,7 +15,6 @@ ghost use Rattle.canon.specs.Internal.BidderBids.{AreBidsOf, HasBidders, IsFirst
 ghost use Rattle.canon.specs.Difference.{least_unequal_bidder, xor_difference};
 ghost use Rattle.canon.specs.Verdicts.{NamesGoods, plain_verdict, printed_atoms};
 
-use crate::bid_order::canonical_order;
 use crate::bid_run::BidRun;
 use crate::verdict::Verdict;
 use bid_file::Bids;
@@ -54,7 +53,7 @@ fn least_unequal<'a, B: Bids>(left: &BidRun<'a, B>, right: &BidRun<'a, B>) -> Op
     let mut left_rest = left.from(0);
     let mut right_rest = right.from(0);
     while let (Some(one), Some(other)) = (first_bidder(&left_rest), first_bidder(&right_rest)) {
-        match order_of_bidders(&one, &other) {
+        match one.order(&other) {
             Ordering::Less => return Some(one),
             Ordering::Greater => return Some(other),
             Ordering::Equal => {
@@ -75,7 +74,7 @@ fn count_copies<B: Bids>(bidder: &BidRun<'_, B>, bids: &BidRun<'_, B>) -> u32
     let mut copies = 0;
     let mut rest = bids.from(0);
     while let Some(first) = first_bidder(&rest) {
-        if order_of_bidders(bidder, &first).is_eq() {
+        if bidder.order(&first).is_eq() {
             copies += 1;
         }
         rest = rest.from(first.len());
@@ -91,20 +90,6 @@ pub(crate) fn first_bidder<'a, B: Bids>(bids: &BidRun<'a, B>) -> Option<BidRun<'
         return None;
     }
     Some(bids.up_to(bids.count_leading(bids.at(0).dummy)))
-}
-
-/// The order of bidders, which is lexicographic by their bids.
-pub fn order_of_bidders<B: Bids>(one: &BidRun<'_, B>, other: &BidRun<'_, B>) -> Ordering
-    ensures { result ≡ bidder_cmp (offers one.now) (offers other.now) }
-{
-    let both = one.len().min(other.len());
-    for i in 0..both {
-        let bids = canonical_order(&one.at(i), &other.at(i));
-        if bids.is_ne() {
-            return bids;
-        }
-    }
-    one.len().cmp(&other.len())
 }
 
 /// The bids' goods and prices.

@@ -1,13 +1,12 @@
-//! Auctions of files, and the orders of atoms and bidders, on both kinds of sets.
+//! Auctions of files, on both kinds of sets.
 
-use crate::tests::bids::{PricedGoods, UNIT, expect_row, row_on};
+use crate::tests::bids::{UNIT, expect_row};
 use bid_file::{Bid, BidFile, PackedBids, PackedFile};
 use goods_set::{GoodsSet, ListSet, WordSet};
 use std::alloc::Global;
-use std::cmp::Ordering;
 use std::process::Abort;
 use std::test::Fail;
-use valuation::{Atom, Auction, auction_of, compare_atoms, compare_bidders};
+use valuation::{Auction, auction_of};
 
 // Three goods and two dummy goods: a bid with the first dummy good, then one without.
 fn small_file(alloc: Global) -> Result<BidFile, Fail> {
@@ -68,61 +67,4 @@ fn auction_of_small_file<S: GoodsSet>(rt: &impl Abort, alloc: Global) -> Result<
 fn auctions_of_files(rt: HostRuntime) -> Result<(), Fail> {
     auction_of_small_file::<ListSet>(&rt, rt.alloc())?;
     auction_of_small_file::<WordSet<64>>(&rt, rt.alloc())
-}
-
-// Each bidder comes before those after it.
-static BIDDERS: [&[PricedGoods]; 5] = [
-    &[],
-    &[(&[0], 9)],
-    &[(&[0], 9), (&[1], 8)],
-    &[(&[1], 8)],
-    &[(&[0, 1], 1)],
-];
-
-// The order of the ones at the places i and j is that of their places.
-fn expect_order(rt: &impl Abort, order: Ordering, i: usize, j: usize) {
-    assert_eq!(rt; order, i.cmp(&j), "{i} and {j}");
-}
-
-// The bidder at the place i is in order with each.
-fn bidder_in_order<S: GoodsSet>(
-    rt: &impl Abort,
-    alloc: Global,
-    one: &[Atom<S>],
-    i: usize,
-) -> Result<(), Fail> {
-    for (j, others) in BIDDERS.iter().enumerate() {
-        let other = row_on::<S>(rt, alloc, others)?;
-        expect_order(rt, compare_bidders(one, &other), i, j);
-    }
-    Ok(())
-}
-
-fn bidders_in_order<S: GoodsSet>(rt: &impl Abort, alloc: Global) -> Result<(), Fail> {
-    for (i, some) in BIDDERS.iter().enumerate() {
-        let one = row_on::<S>(rt, alloc, some)?;
-        bidder_in_order(rt, alloc, &one, i)?;
-    }
-    Ok(())
-}
-
-// So does each atom.
-static ATOMS: [PricedGoods; 3] = [(&[1], 8), (&[1], 9), (&[0, 1], 1)];
-
-fn atoms_in_order<S: GoodsSet>(rt: &impl Abort, alloc: Global) -> Result<(), Fail> {
-    let atoms = row_on::<S>(rt, alloc, &ATOMS)?;
-    for (i, one) in atoms.iter().enumerate() {
-        for (j, other) in atoms.iter().enumerate() {
-            expect_order(rt, compare_atoms(one, other), i, j);
-        }
-    }
-    Ok(())
-}
-
-#[test]
-fn orders_on_both_sets(rt: HostRuntime) -> Result<(), Fail> {
-    bidders_in_order::<ListSet>(&rt, rt.alloc())?;
-    bidders_in_order::<WordSet<16>>(&rt, rt.alloc())?;
-    atoms_in_order::<ListSet>(&rt, rt.alloc())?;
-    atoms_in_order::<WordSet<16>>(&rt, rt.alloc())
 }

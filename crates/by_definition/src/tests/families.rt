@@ -204,18 +204,18 @@ fn equal_text_exactly_for_the_same_auction(rt: HostRuntime) -> Result<(), Fail> 
     Ok(())
 }
 
-/// The place of the first member that the tables of values say is the same auction as this one.
+/// The number of the first member that the tables of values say is the same auction as this one.
 fn first_same(alloc: Global, members: &[Member], one: &Member) -> Result<usize, Fail> {
-    for (place, other) in members.iter().enumerate() {
+    for (number, other) in members.iter().enumerate() {
         if are_same_files(alloc, &other.file, &one.file)? {
-            return Ok(place);
+            return Ok(number);
         }
     }
     Ok(members.len())
 }
 
-/// The member's file, added to the index, has the place of the first member that is the same auction.
-fn expect_place(
+/// The member's file, added to the index, has the number of the first member that is the same auction.
+fn expect_number(
     rt: &impl Abort,
     alloc: Global,
     index: &mut AuctionIndex,
@@ -224,18 +224,18 @@ fn expect_place(
 ) -> Result<(), Fail> {
     let expected = first_same(alloc, members, member)?;
     let file = read_packed(alloc, member.text.as_bytes())?;
-    let place = index.add(alloc, &file, SearchOptions::plain(AMPLE))?;
-    assert_eq!(rt; place, expected);
+    let number = index.add(alloc, &file, SearchOptions::plain(AMPLE))?;
+    assert_eq!(rt; number, expected);
     Ok(())
 }
 
-/// Files that are added one by one have the place of the first of their auction.
+/// Files that are added one by one have the number of the first of their auction.
 #[test]
-fn places_are_by_definition(rt: HostRuntime) -> Result<(), Fail> {
+fn numbers_are_by_definition(rt: HostRuntime) -> Result<(), Fail> {
     let members = first_members(rt.alloc(), 300)?;
     let mut index = AuctionIndex::new(rt.alloc());
     for member in &members {
-        expect_place(&rt, rt.alloc(), &mut index, &members, member)?;
+        expect_number(&rt, rt.alloc(), &mut index, &members, member)?;
     }
     Ok(())
 }

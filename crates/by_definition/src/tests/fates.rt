@@ -21,7 +21,7 @@ const OR_BIDS: &[PricedGoods] = &[
     (&[1], 0),
 ];
 
-// What becomes of them by plain and by bounded searches: the places of the packings that reach the prices of the last two.
+// What becomes of them by plain and by bounded searches: the indices of the packings that reach the prices of the last two.
 type OrFates = [Option<&'static [usize]>; 6];
 
 static PLAIN_FATES: OrFates = [None, None, None, None, Some(&[1, 2]), Some(&[0, 1, 2])];
@@ -39,9 +39,9 @@ fn or_fates<S: GoodsSet>(
     assert!(rt; prune_or_by(alloc, bids, options, &mut log).is_ok());
     let fates = log.into_fates();
     assert_eq!(rt; fates.len(), expected.len());
-    for (fate, places) in fates.iter().zip(expected.iter()) {
-        match (fate, places) {
-            (Some(found), Some(places)) => assert_eq!(rt; found.as_slice(), *places),
+    for (fate, indices) in fates.iter().zip(expected.iter()) {
+        match (fate, indices) {
+            (Some(found), Some(indices)) => assert_eq!(rt; found.as_slice(), *indices),
             (None, None) => (),
             _ => panic!(rt; "the bid is kept or dropped as it has to be"),
         }
@@ -61,7 +61,7 @@ fn or_fates_on_both_sets(rt: HostRuntime) -> Result<(), Fail> {
     or_fates_of_both_kinds::<WordSet<16>>(&rt, rt.alloc())
 }
 
-// Bids, and what becomes of the best ones: none, or the place of the first point inside the bundle with at least the price.
+// Bids, and what becomes of the best ones: none, or the index of the first point inside the bundle with at least the price.
 static XOR_ROWS: [(&[PricedGoods], &[Option<usize>]); 3] = [
     (&[(&[0], 0)], &[]),
     (
@@ -108,7 +108,7 @@ fn xor_rows<S: GoodsSet>(rt: &impl Abort, alloc: Global) -> Result<(), Fail> {
 }
 
 // Bids beside 40 on single goods at a price of 1, so many that they are found by their goods. The first point inside the
-// last bundle, {2, 5}, has an earlier place than {3, 4}.
+// last bundle, {2, 5}, has an earlier index than {3, 4}.
 const BESIDE_SINGLES: &[PricedGoods] = &[
     (&[3, 4], 50),
     (&[2, 5], 50),

@@ -186,8 +186,8 @@ fn stopped_bomb<S: GoodsSet>(rt: &impl Abort, alloc: Global, n: u16) -> Result<(
 
 // The bids of the bomb on 20 goods, in order.
 fn expect_bomb<S: GoodsSet>(rt: &impl Abort, kept: &[Atom<S>]) {
-    for (place, bid) in kept.iter().enumerate() {
-        let price = match place {
+    for (index, bid) in kept.iter().enumerate() {
+        let price = match index {
             20 => 20,
             21 => 22,
             _ => 1,
@@ -228,9 +228,9 @@ fn search_stops_at_its_limit(rt: HostRuntime) -> Result<(), Fail> {
 fn pairs_and_all(alloc: Global) -> Result<Bidder, AllocError> {
     let mut bids = Vec::new(alloc);
     push_bid(alloc, &mut bids, &goods_below(alloc, 17)?, 8)?;
-    for place in 0..289u16 {
-        if place / 17 < place % 17 {
-            push_bid(alloc, &mut bids, &[place / 17, place % 17], 1)?;
+    for index in 0..289u16 {
+        if index / 17 < index % 17 {
+            push_bid(alloc, &mut bids, &[index / 17, index % 17], 1)?;
         }
     }
     Ok(bids)
@@ -291,7 +291,7 @@ fn halves_and_all(alloc: Global, n: u16, price: u64) -> Result<Bidder, AllocErro
     Ok(bids)
 }
 
-// Sizes of bundles on both sides of what one set of places holds.
+// Sizes of bundles on both sides of what one set of indices holds.
 static SIZES: [u16; 5] = [64, 65, 1024, 1025, 4096];
 
 // The whole at what the halves bring is reached in three steps; at one more it stays.
@@ -358,8 +358,8 @@ fn family_bids(alloc: Global, bundles: &[Vec<u16>], seed: u64) -> Result<Bidder,
     let mut state = seed;
     let mut bids = Vec::new(alloc);
     for _i in 0..next_number(&mut state) % 9 {
-        let place = next_number(&mut state) % 7 + 1;
-        let goods = bundles.get(place as usize).ok_or("no bundle")?;
+        let index = next_number(&mut state) % 7 + 1;
+        let goods = bundles.get(index as usize).ok_or("no bundle")?;
         push_bid(alloc, &mut bids, goods, next_number(&mut state) % 6)?;
     }
     Ok(bids)

@@ -13,7 +13,7 @@ use std::process::Abort;
 use std::test::Fail;
 use valuation::{Packing, SearchOptions, ValueFault, or_value, or_value_by, xor_value};
 
-// Bids and a bundle, and what is found: the value, and the place of the atom that bids it.
+// Bids and a bundle, and what is found: the value, and the index of the atom that bids it.
 type XorRow = (&'static [PricedGoods], &'static [u16], (u64, Option<usize>));
 
 static XOR_ROWS: [XorRow; 6] = [
@@ -41,7 +41,7 @@ fn xor_values_on_both_sets(rt: HostRuntime) -> Result<(), Fail> {
     xor_values::<WordSet<64>>(&rt, rt.alloc())
 }
 
-// What a search for a value answers: the value and the places of the atoms, or nothing if its steps do not suffice.
+// What a search for a value answers: the value and the indices of the atoms, or nothing if its steps do not suffice.
 type Found = Option<(u128, &'static [usize])>;
 
 const PAIR: &[PricedGoods] = &[(&[0], 3_000_000), (&[1], 4_000_000), (&[0, 1], 7_000_000)];
@@ -221,7 +221,7 @@ fn agree_on<S: GoodsSet>(
     let packing = or_value(alloc, &atoms, &bundle, 1_000_000)?;
     let value = slow::or_value(alloc, bids, goods)?;
     assert_eq!(rt; packing.value, u128::from(value));
-    assert_eq!(rt; packing.members, slow::chosen_places(alloc, bids, goods)?);
+    assert_eq!(rt; packing.members, slow::chosen_indices(alloc, bids, goods)?);
     let count = slow::count_packings(alloc, bids, goods)?;
     assert!(rt; or_value(alloc, &atoms, &bundle, count).is_ok());
     assert!(rt; count > 0);
@@ -247,6 +247,8 @@ fn agree<S: GoodsSet>(rt: &impl Abort, alloc: Global, others: usize) -> Result<(
 fn values_are_by_definition(rt: HostRuntime) -> Result<(), Fail> {
     agree::<ListSet>(&rt, rt.alloc(), 0)?;
     agree::<ListSet>(&rt, rt.alloc(), 130)?;
+    agree::<WordSet<1>>(&rt, rt.alloc(), 0)?;
+    agree::<WordSet<4>>(&rt, rt.alloc(), 130)?;
     agree::<WordSet<16>>(&rt, rt.alloc(), 0)?;
-    agree::<WordSet<16>>(&rt, rt.alloc(), 130)
+    agree::<WordSet<64>>(&rt, rt.alloc(), 130)
 }

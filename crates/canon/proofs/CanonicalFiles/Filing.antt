@@ -28,7 +28,7 @@ pub all_bids : {X Y : Type 0} (done : List Y) (f : X → Y) (xs : List X) (i : �
 all_bids {X} {Y} done f xs i all l h =
     sym (append-nil done) ∙ ap (λ (zs : List X). done ++ map f zs) (sym (drop_all i xs l)) ∙ h
 
--- the bidder at a place, and those behind it
+-- the bidder at an index, and those behind it
 pub next_bidder : {S : Type 0} (goods : S → List ℕ) (bidders : List (Vec (Atom S) Global)) (i : ℕ) (b : Vec (Atom S) Global)
     → i < length bidders → b ≡ get_or bidders i b → drop i (bidders_of goods bidders) ≡ atoms_of goods b.items ∷ drop (i + 1) (bidders_of goods bidders)
 next_bidder {S} goods bidders i b l e =

@@ -55,8 +55,8 @@ module _ (f : PlainFile) (dummies : List ℕ) (facts : IsPlainFile f) (moved : I
       (IsDistinct-IsPermutation eqb eqb_flips (range_with_len 0 f.dummy) dummies moved
       (IsDistinct-from_AllPairs Decides-eqb (range_with_len 0 f.dummy) (range_differs f.dummy)))
 
-  one_place : (d e : ℕ) → d < f.dummy → e < f.dummy → named d ≡ named e → d ≡ e
-  one_place d e l m same = by (cases d e)
+  one_number : (d e : ℕ) → d < f.dummy → e < f.dummy → named d ≡ named e → d ≡ e
+  one_number d e l m same = by (cases d e)
     where
       cases : (d e : ℕ) → (d < e) ⊎ ((d ≡ e) ⊎ (e < d))
       cases d e = grind arith
@@ -70,7 +70,7 @@ module _ (f : PlainFile) (dummies : List ℕ) (facts : IsPlainFile f) (moved : I
   still_dummy : (d : ℕ) → d < f.dummy → (o : Option ℕ) → IsDummyBelow f.dummy o → is_dummy (named d) (named_dummy dummies o) ≡ is_dummy d o
   still_dummy d l None h = refl
   still_dummy d l (Some e) h =
-      both_ways (eqb (named e) (named d)) (eqb e d) (λ t. eq-eqb e d (one_place e d h l (eqb-true (named e) (named d) t)))
+      both_ways (eqb (named e) (named d)) (eqb e d) (λ t. eq-eqb e d (one_number e d h l (eqb-true (named e) (named d) t)))
       (λ t. eq-eqb (named e) (named d) (ap named (eqb-true e d t)))
 
   dummies_below : All (λ b. IsDummyBelow f.dummy b.dummy) f.bids
@@ -86,7 +86,7 @@ module _ (f : PlainFile) (dummies : List ℕ) (facts : IsPlainFile f) (moved : I
   or_atoms_named : or_atoms_of new ≡ or_atoms_of f.bids
   or_atoms_named = offers_named dummies (λ b. is_none b.dummy) (λ b. is_none b.dummy) f.bids (λ k b m. still_none dummies _)
 
-  -- all dummy goods by their places
+  -- all dummy goods by their numbers
   all_named : dummies ≡ map named (range_with_len 0 f.dummy)
   all_named =
       let count = length-range_with_len 0 f.dummy in
@@ -94,8 +94,8 @@ module _ (f : PlainFile) (dummies : List ℕ) (facts : IsPlainFile f) (moved : I
       ext_get_or 0 dummies (map named (range_with_len 0 f.dummy)) (omega (arith, long)) (λ i l.
       let within : i < f.dummy = omega (arith, long) in
       let here : i < length (range_with_len 0 f.dummy) = omega arith in
-      let place : get_or (range_with_len 0 f.dummy) i 0 ≡ i = let e = get_or-range_with_len 0 f.dummy i 0 within in omega arith in
-      sym (get_or-map named (range_with_len 0 f.dummy) i 0 0 here ∙ ap named place))
+      let number : get_or (range_with_len 0 f.dummy) i 0 ≡ i = let e = get_or-range_with_len 0 f.dummy i 0 within in omega arith in
+      sym (get_or-map named (range_with_len 0 f.dummy) i 0 0 here ∙ ap named number))
 
   abbrev olds : List (List (Atom (List ℕ)))
   olds = (auction_from f).xor_bidders

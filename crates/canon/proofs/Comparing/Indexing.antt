@@ -21,12 +21,12 @@ use Rattle.valuation.specs.declared.search_options.SearchOptions.{SearchOptions}
 use Rattle.cats_text.specs.declared.stream.Watched.{Watched}
 use Rattle.canon.specs.Answers.{RefusesAs}
 use Rattle.canon.specs.Canonical.{canonical_text}
-use Rattle.canon.specs.FirstPlaces.{AddsStream, AddsText, IsEmptyIndex, IsFirstPlace, IsFirstText, IsIndexOf, LacksText, PlacesText, TextIndex, first_place}
-use Rattle.canon.specs.FirstPlaces.{text_place}
+use Rattle.canon.specs.FirstNumbers.{AddsStream, AddsText, IsEmptyIndex, IsFirstNumber, IsFirstText, IsIndexOf, LacksText, NumbersText, TextIndex, first_number}
+use Rattle.canon.specs.FirstNumbers.{text_number}
 use Rattle.canon.specs.Normalising.{IsText, normalised_file}
 use Rattle.canon.specs.Sameness.{AreSameFiles}
 use Rattle.canon.specs.declared.canon_fault.CanonFault.{CanonFault}
-use Rattle.canon.specs.Internal.TextPlaces.{place_of}
+use Rattle.canon.specs.Internal.TextNumbers.{number_of}
 use Rattle.canon.proofs.CanonicalFiles.Texts.{same_text, same_from_text}
 use Rattle.cats_text.specs.declared.read_fault.ReadFault.{ReadFault}
 use Rattle.canon.specs.Refusals.{refusal_of}
@@ -61,13 +61,13 @@ module _ (text_of : PlainFile → List ℕ) (files : List PlainFile) (f : PlainF
   more = files ++ f ∷ []
 
   -- the file that was first stays it
-  stays_first : (text : List ℕ) (place : ℕ) → IsFirstText text_of files text place → IsFirstText text_of more text place
-  stays_first text place h = record {
+  stays_first : (text : List ℕ) (number : ℕ) → IsFirstText text_of files text number → IsFirstText text_of more text number
+  stays_first text number h = record {
     file = h.file;
-    there = pushed_before files f h.file place h.there;
+    there = pushed_before files f h.file number h.there;
     has = h.has;
     first = λ k other l at is.
-        let within = slice_get_within files place h.file h.there in
+        let within = slice_get_within files number h.file h.there in
         h.first k other l (pushed_earlier files f other k (omega arith) at) is;
   }
 
@@ -80,8 +80,8 @@ module _ (text_of : PlainFile → List ℕ) (files : List PlainFile) (f : PlainF
     first = λ k other l at is. h k other (pushed_earlier files f other k l at) is;
   }
 
-  -- another text has the place that it had
-  stays_placed : (text : List ℕ) → bytes_eq (text_of f) text ≡ false → (o : Option ℕ) → PlacesText text_of files text o → PlacesText text_of more text o
+  -- another text has the number that it had
+  stays_placed : (text : List ℕ) → bytes_eq (text_of f) text ≡ false → (o : Option ℕ) → NumbersText text_of files text o → NumbersText text_of more text o
   stays_placed text apart None h = λ k other at is.
       ⊎_elim
       (λ (e : slice_get files k ≡ Some other). h k other e is)
@@ -90,13 +90,13 @@ module _ (text_of : PlainFile → List ℕ) (files : List PlainFile) (f : PlainF
       let equal : bytes_eq (text_of f) text ≡ true = (bytes_decides (text_of f) text).1 same in
       absurd (cc))
       (pushed files f other k at)
-  stays_placed text apart (Some place) h = stays_first text place h
+  stays_placed text apart (Some number) h = stays_first text number h
 
-  -- the place that is answered
-  first_text : (o : Option ℕ) (count place : ℕ) → count ≡ length files → place ≡ unwrap_or o count → PlacesText text_of files (text_of f) o
-      → IsFirstText text_of more (text_of f) place
-  first_text None count place c e h = subst (λ (p : ℕ). IsFirstText text_of more (text_of f) p) (sym (e ∙ c)) (comes_first h)
-  first_text (Some first) count place c e h = subst (λ (p : ℕ). IsFirstText text_of more (text_of f) p) (sym e) (stays_first (text_of f) first h)
+  -- the number that is answered
+  first_text : (o : Option ℕ) (count number : ℕ) → count ≡ length files → number ≡ unwrap_or o count → NumbersText text_of files (text_of f) o
+      → IsFirstText text_of more (text_of f) number
+  first_text None count number c e h = subst (λ (p : ℕ). IsFirstText text_of more (text_of f) p) (sym (e ∙ c)) (comes_first h)
+  first_text (Some first) count number c e h = subst (λ (p : ℕ). IsFirstText text_of more (text_of f) p) (sym e) (stays_first (text_of f) first h)
 
   all_plain : IsPlainFile f → ((k : ℕ) (g : PlainFile) → slice_get files k ≡ Some g → IsPlainFile g) → (k : ℕ) (g : PlainFile) → slice_get more k ≡ Some g
       → IsPlainFile g
@@ -116,28 +116,28 @@ canonical_texts_tell f g h k = (same_from_text f g h k, same_text f g h k)
 pub index_of_none : (text_of : PlainFile → List ℕ) (index : TextIndex) → IsEmptyIndex index → IsIndexOf text_of index []
 index_of_none text_of index h = record {
   facts = λ k file at. absurd (none-some file at);
-  texts = λ text. subst (λ (o : Option ℕ). PlacesText text_of [] text o) (sym (ap (lookup (bytes_eq text)) h.texts))
+  texts = λ text. subst (λ (o : Option ℕ). NumbersText text_of [] text o) (sym (ap (lookup (bytes_eq text)) h.texts))
       (λ k other at is. absurd (none-some other at));
   count = h.count;
 }
 
-module _ (text_of : PlainFile → List ℕ) (old new : TextIndex) (place : ℕ) (files : List PlainFile) (f : PlainFile) (facts : IsPlainFile f)
-    (h : IsIndexOf text_of old files) (added : AddsText old new (text_of f) place) where
-  first : IsFirstText text_of (files ++ f ∷ []) (text_of f) place
-  first = first_text text_of files f (text_place old (text_of f)) old.count place h.count added.found (h.texts (text_of f))
+module _ (text_of : PlainFile → List ℕ) (old new : TextIndex) (number : ℕ) (files : List PlainFile) (f : PlainFile) (facts : IsPlainFile f)
+    (h : IsIndexOf text_of old files) (added : AddsText old new (text_of f) number) where
+  first : IsFirstText text_of (files ++ f ∷ []) (text_of f) number
+  first = first_text text_of files f (text_number old (text_of f)) old.count number h.count added.found (h.texts (text_of f))
 
-  put : (text : List ℕ) → bytes_eq (text_of f) text ≡ true → PlacesText text_of (files ++ f ∷ []) text (text_place new text)
+  put : (text : List ℕ) → bytes_eq (text_of f) text ≡ true → NumbersText text_of (files ++ f ∷ []) text (text_number new text)
   put text equal =
-      let at : text_place new text ≡ Some place = added.places text ∙ cond-true (bytes_eq (text_of f) text) (Some place) (text_place old text) equal in
-      subst (λ (o : Option ℕ). PlacesText text_of (files ++ f ∷ []) text o) (sym at)
-      (subst (λ (t : List ℕ). IsFirstText text_of (files ++ f ∷ []) t place) ((bytes_decides (text_of f) text).0 equal) first)
+      let at : text_number new text ≡ Some number = added.numbers text ∙ cond-true (bytes_eq (text_of f) text) (Some number) (text_number old text) equal in
+      subst (λ (o : Option ℕ). NumbersText text_of (files ++ f ∷ []) text o) (sym at)
+      (subst (λ (t : List ℕ). IsFirstText text_of (files ++ f ∷ []) t number) ((bytes_decides (text_of f) text).0 equal) first)
 
-  kept : (text : List ℕ) → bytes_eq (text_of f) text ≡ false → PlacesText text_of (files ++ f ∷ []) text (text_place new text)
+  kept : (text : List ℕ) → bytes_eq (text_of f) text ≡ false → NumbersText text_of (files ++ f ∷ []) text (text_number new text)
   kept text apart =
-      let at : text_place new text ≡ text_place old text = added.places text
-      ∙ cond-false (bytes_eq (text_of f) text) (Some place) (text_place old text) apart in
-      subst (λ (o : Option ℕ). PlacesText text_of (files ++ f ∷ []) text o) (sym at)
-      (stays_placed text_of files f text apart (text_place old text) (h.texts text))
+      let at : text_number new text ≡ text_number old text = added.numbers text
+      ∙ cond-false (bytes_eq (text_of f) text) (Some number) (text_number old text) apart in
+      subst (λ (o : Option ℕ). NumbersText text_of (files ++ f ∷ []) text o) (sym at)
+      (stays_placed text_of files f text apart (text_number old text) (h.texts text))
 
   -- one more file
   pub index_of_more : IsIndexOf text_of new (files ++ f ∷ [])
@@ -148,13 +148,13 @@ module _ (text_of : PlainFile → List ℕ) (old new : TextIndex) (place : ℕ) 
   }
 
   -- the first file with the text is the first that is related
-  pub place_of_more : (Related : PlainFile → PlainFile → Type 0) → TellsRelated text_of Related → IsFirstPlace Related (files ++ f ∷ []) f place
-  place_of_more Related tells =
+  pub number_of_more : (Related : PlainFile → PlainFile → Type 0) → TellsRelated text_of Related → IsFirstNumber Related (files ++ f ∷ []) f number
+  number_of_more Related tells =
       let each = all_plain text_of files f facts h.facts in
       record {
         file = first.file;
         there = first.there;
-        related = (tells first.file f (each place first.file first.there) facts).0 first.has;
+        related = (tells first.file f (each number first.file first.there) facts).0 first.has;
         first = λ k other l at related. first.first k other l at ((tells other f (each k other at) facts).1 related);
       }
 
@@ -188,12 +188,12 @@ apart_texts one other key n e =
 pub bytes_eq_sym : (one other : List ℕ) → bytes_eq one other ≡ bytes_eq other one
 bytes_eq_sym one other = nat_list_eq_equiv.symm one other
 
--- the place that is seen of a map
-pub place_seen : (entries : List (Vec ℕ Global × ℕ)) (text : List ℕ)
+-- the number that is seen of a map
+pub number_seen : (entries : List (Vec ℕ Global × ℕ)) (text : List ℕ)
     → lookup (bytes_eq text) (map (λ e. (e.0.items, e.1)) entries) ≡ lookup (λ key. same_order text key.items) entries
-place_seen [] text = refl
-place_seen (e ∷ entries) text =
-    ap (λ (o : Option ℕ). cond (bytes_eq text e.0.items) (Some e.1) o) (place_seen entries text)
+number_seen [] text = refl
+number_seen (e ∷ entries) text =
+    ap (λ (o : Option ℕ). cond (bytes_eq text e.0.items) (Some e.1) o) (number_seen entries text)
     ∙ ap (λ (b : Bool). cond b (Some e.1) (lookup (λ key. same_order text key.items) entries)) (sym (is_eq-slice_cmp text e.0.items))
 
 -- what is seen of a map
@@ -201,32 +201,32 @@ abbrev pub seen_texts : List (Vec ℕ Global × ℕ) → List (List ℕ × ℕ)
 seen_texts entries = map (λ e. (e.0.items, e.1)) entries
 
 -- the text of one more file was put into a map
-pub added_text : (old new : List (Vec ℕ Global × ℕ)) (m k : ℕ) (text canonical : List ℕ) (place : ℕ) → text ≡ canonical
-    → place ≡ unwrap_or (lookup (λ key. same_order text key.items) old) m
+pub added_text : (old new : List (Vec ℕ Global × ℕ)) (m k : ℕ) (text canonical : List ℕ) (number : ℕ) → text ≡ canonical
+    → number ≡ unwrap_or (lookup (λ key. same_order text key.items) old) m
     → ((other : List ℕ) → lookup (λ key. same_order other key.items) new
-    ≡ cond (bytes_eq text other) (Some place) (lookup (λ key. same_order other key.items) old))
-    → k ≡ m + 1 → AddsText (record { texts = seen_texts old; count = m }) (record { texts = seen_texts new; count = k }) canonical place
-added_text old new m k text canonical place is answer placed more =
-    subst (λ (t : List ℕ). AddsText (record { texts = seen_texts old; count = m }) (record { texts = seen_texts new; count = k }) t place) is
+    ≡ cond (bytes_eq text other) (Some number) (lookup (λ key. same_order other key.items) old))
+    → k ≡ m + 1 → AddsText (record { texts = seen_texts old; count = m }) (record { texts = seen_texts new; count = k }) canonical number
+added_text old new m k text canonical number is answer placed more =
+    subst (λ (t : List ℕ). AddsText (record { texts = seen_texts old; count = m }) (record { texts = seen_texts new; count = k }) t number) is
     (record {
-      found = answer ∙ ap (λ (o : Option ℕ). unwrap_or o m) (sym (place_seen old text));
-      places = λ other. place_seen new other ∙ placed other
-          ∙ ap (λ (o : Option ℕ). cond (bytes_eq text other) (Some place) o) (sym (place_seen old other));
+      found = answer ∙ ap (λ (o : Option ℕ). unwrap_or o m) (sym (number_seen old text));
+      numbers = λ other. number_seen new other ∙ placed other
+          ∙ ap (λ (o : Option ℕ). cond (bytes_eq text other) (Some number) o) (sym (number_seen old other));
       count = more;
     })
 
 -- what a map has for a text, after one was put there
-pub updated : (old new : BTreeMap (Vec ℕ Global) ℕ) (text : List ℕ) (place : ℕ)
-    → UpdatesBy key_cmp (λ key. slice_cmp nat_cmp text key.items) old new (Some place)
-    → (other : List ℕ) → place_of new other ≡ cond (bytes_eq text other) (Some place) (place_of old other)
-updated old new text place h other =
+pub updated : (old new : BTreeMap (Vec ℕ Global) ℕ) (text : List ℕ) (number : ℕ)
+    → UpdatesBy key_cmp (λ key. slice_cmp nat_cmp text key.items) old new (Some number)
+    → (other : List ℕ) → number_of new other ≡ cond (bytes_eq text other) (Some number) (number_of old other)
+updated old new text number h other =
     ⊎_elim
-    (λ (y : bytes_eq text other ≡ true). subst (λ (t : List ℕ). place_of new t ≡ Some place) ((bytes_decides text other).0 y) h.1
-    ∙ sym (cond-true (bytes_eq text other) (Some place) (place_of old other) y))
+    (λ (y : bytes_eq text other ≡ true). subst (λ (t : List ℕ). number_of new t ≡ Some number) ((bytes_decides text other).0 y) h.1
+    ∙ sym (cond-true (bytes_eq text other) (Some number) (number_of old other) y))
     (λ (n : bytes_eq text other ≡ false).
     other_entries (λ key. same_order text key.items) old.entries new.entries h.3 (λ key. same_order other key.items)
     (λ x y. same_test other x.items y.items) (λ key. apart_texts text other key.items n)
-    ∙ sym (cond-false (bytes_eq text other) (Some place) (place_of old other) n))
+    ∙ sym (cond-false (bytes_eq text other) (Some number) (number_of old other) n))
     (cases_Bool (bytes_eq text other))
 
 -- ---- a file that was read first
@@ -237,7 +237,7 @@ pub stream_added : {R : Type 0} (remaining : R → Option (List ℕ)) (options :
     → (answer : Result ℕ CanonFault) → IfOk answer (AddsText old new (canonical_text file))
     → OnOk answer (normalised_file options file ≡ IsText (canonical_text file))
     → IfErr answer (RefusesAs (normalised_file options file)) → OnErr answer (new ≡ old) → AddsStream remaining options old new before after answer
-stream_added remaining options old new before after bytes file consumes reads (Ok place) added within_limit refused unchanged = record {
+stream_added remaining options old new before after bytes file consumes reads (Ok number) added within_limit refused unchanged = record {
   bytes = bytes;
   consumes = consumes;
   adds = record { file = file; reads = reads; within_limit = within_limit; added = added };
@@ -252,7 +252,7 @@ stream_added remaining options old new before after bytes file consumes reads (E
 pub stream_unread : {R : Type 0} (remaining : R → Option (List ℕ)) (options : SearchOptions) (index : TextIndex) (before after : Watched R) (bytes : List ℕ)
     (why : ReadFault) → Consumes (remaining (inner_of before)) (remaining (inner_of after)) bytes → ReadsAs remaining bytes after (Err why)
     → (answer : Result ℕ CanonFault) → IsErrAnd answer (λ fault. fault ≡ refusal_of why) → AddsStream remaining options index index before after answer
-stream_unread remaining options index before after bytes why consumes reads (Ok place) is = absurd is
+stream_unread remaining options index before after bytes why consumes reads (Ok number) is = absurd is
 stream_unread remaining options index before after bytes why consumes reads (Err fault) is = record {
   bytes = bytes;
   consumes = consumes;
@@ -262,27 +262,28 @@ stream_unread remaining options index before after bytes why consumes reads (Err
 -- ---- later files
 
 -- the first file of an auction stays it
-pub first_place_stays : (Related : PlainFile → PlainFile → Type 0) (files : List PlainFile) (more given : PlainFile) (place : ℕ)
-    → IsFirstPlace Related files given place → IsFirstPlace Related (files ++ more ∷ []) given place
-first_place_stays Related files more given place h = record {
+pub first_number_stays : (Related : PlainFile → PlainFile → Type 0) (files : List PlainFile) (more given : PlainFile) (number : ℕ)
+    → IsFirstNumber Related files given number → IsFirstNumber Related (files ++ more ∷ []) given number
+first_number_stays Related files more given number h = record {
   file = h.file;
-  there = pushed_before files more h.file place h.there;
+  there = pushed_before files more h.file number h.there;
   related = h.related;
   first = λ k other l at related.
-      let within = slice_get_within files place h.file h.there in
+      let within = slice_get_within files number h.file h.there in
       h.first k other l (pushed_earlier files more other k (omega arith) at) related;
 }
 
 -- the first file with the text of a file
-pub first_place_is : (files : List PlainFile) (given : PlainFile) (place : ℕ) → All IsPlainFile files → IsPlainFile given → first_place files given ≡ Some place
-    → IsFirstPlace AreSameFiles files given place
-first_place_is files given place each facts e =
-    let found = position-Some (λ file. bytes_eq (canonical_text file) (canonical_text given)) files place given e in
+pub first_number_is : (files : List PlainFile) (given : PlainFile) (number : ℕ) → All IsPlainFile files → IsPlainFile given
+    → first_number files given ≡ Some number
+    → IsFirstNumber AreSameFiles files given number
+first_number_is files given number each facts e =
+    let found = position-Some (λ file. bytes_eq (canonical_text file) (canonical_text given)) files number given e in
     record {
-      file = get_or files place given;
-      there = slice_get-get_or files place given found.0;
-      related = same_from_text (get_or files place given) given (each place given found.0) facts
-          ((bytes_decides (canonical_text (get_or files place given)) (canonical_text given)).0 found.1);
+      file = get_or files number given;
+      there = slice_get-get_or files number given found.0;
+      related = same_from_text (get_or files number given) given (each number given found.0) facts
+          ((bytes_decides (canonical_text (get_or files number given)) (canonical_text given)).0 found.1);
       first = λ k other l at same.
           let is : get_or files k given ≡ other = get_or_from_slice_get files k other given at in
           let plain : IsPlainFile other = subst IsPlainFile is (each k given (slice_get_within files k other at)) in

@@ -105,7 +105,7 @@ module _ {X : Type 0} (cmp : X → X → Ordering) (total : IsTotalOrder cmp) (e
       (uneven_test cmp one other x h.differ)
       (λ y l. even_test cmp one other y (h.earlier y l))
 
-  -- ---- lists in order that part at some place
+  -- ---- lists in order that part at some index
 
   -- the elements of a list in order whose first is behind x
   pub behind : (x y : X) (ys : List X) → IsOrdered cmp (y ∷ ys) → cmp x y ≡ Less → AllByRecursion (λ z. cmp x z ≡ Less) (y ∷ ys)

@@ -11,8 +11,8 @@ use Rattle.canon.proofs.explained.explained_file_on.Goals as goal
 
 pub returns-clause-dummies : goal.returns-clause-dummies
 returns-clause-dummies g c =
-    IfOk-weaker c.normal_auction_file.result (λ e. e.named.dummies.items ≡ kept_numbers (plain_auction c.in_ok-auction.auction))
-    (λ e. e.named.dummies.items ≡ kept_dummies c.args.file.now)
+    IfOk-weaker c.normal_auction_file.result (λ e. e.dummies.items ≡ kept_numbers (plain_auction c.in_ok-auction.auction))
+    (λ e. e.dummies.items ≡ kept_dummies c.args.file.now)
     (λ named e. e ∙ ap kept_numbers c.in_ok-auction.ensures ∙ kept_numbers_are c.args.file.now) c.normal_auction_file.ensures.dummies
 
 pub returns-clause-fates : goal.returns-clause-fates

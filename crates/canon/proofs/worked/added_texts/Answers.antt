@@ -9,7 +9,7 @@ pub returns : goal.returns
 returns c = record {
   new = record {
     found = refl;
-    places = λ other. ap (λ b. cond {A = Option ℕ} b (Some 2) None) (bytes_eq_sym other (codes "a"));
+    numbers = λ other. ap (λ b. cond {A = Option ℕ} b (Some 2) None) (bytes_eq_sym other (codes "a"));
     count = refl;
   };
   known = λ h. let e : 2 ≡ 0 = h.found in absurd (omega arith);

@@ -15,7 +15,7 @@ loop-first-preserved g c =
     let first = c.in-Some.first in
     let bidder = offers c.args.bidder.now in
     let shorter = length-drop (length first) rest in
-    let test : c.is_eq.result ≡ is_eq (bidder_cmp bidder (offers first)) = c.is_eq.ensures ∙ ap is_eq c.order_of_bidders.ensures in
+    let test : c.is_eq.result ≡ is_eq (bidder_cmp bidder (offers first)) = c.is_eq.ensures ∙ ap is_eq c.order.ensures in
     let copies : c.if-is_eq.copies ≡ c.loop-first.copies + cond {A = ℕ} (is_eq (bidder_cmp bidder (offers first))) 1 0 =
     elim c.if-is_eq.branch [
       | then-is_eq w ↦ let one : cond {A = ℕ} (is_eq (bidder_cmp bidder (offers first))) 1 0 ≡ 1 = ap (λ b. cond {A = ℕ} b 1 0) (sym test ∙ w.if-is_eq.true) in

@@ -1,7 +1,7 @@
 -- `AuctionIndex::add_unsearched`
 use Rattle.std.proofs.Common.{◌≡◌, ◌+◌, arith, subst, ap, ◌∙◌}
 use Rattle.cats_text.specs.Layout.{layout}
-use Rattle.canon.specs.FirstPlaces.{AddsText, TextIndex}
+use Rattle.canon.specs.FirstNumbers.{AddsText, TextIndex}
 use Rattle.canon.specs.Unsearched.{unsearched_text}
 use Rattle.canon.proofs.Comparing.Indexing.{added_text, seen_texts}
 use Rattle.canon.proofs.auction_index.AuctionIndex.add_unsearched.Goals as goal
@@ -10,11 +10,9 @@ pub returns-clause-added : goal.returns-clause-added
 returns-clause-added c =
     let is = c.in_ok-text.ensures.layout ∙ ap layout c.in_ok-file.ensures in
     let counted : c.in-Some.count ≡ c.self.inside.count + 1 = grind (arith, c.in-Some.is, c.in-Some.ensures) in
+    let new = c.number_text.new.numbers.entries in
     subst
-    (λ (old : TextIndex). AddsText old (record { texts = seen_texts c.place_text.new.places.entries; count = c.in-Some.count }) (unsearched_text
-    c.args.file.now)
-    c.in_ok-place.place)
+    (λ (old : TextIndex). AddsText old (record { texts = seen_texts new; count = c.in-Some.count }) (unsearched_text c.args.file.now) c.in_ok-number.number)
     c.self.view_is
-    (added_text c.self.inside.places.entries c.place_text.new.places.entries c.self.inside.count c.in-Some.count c.in_ok-text.text.items _ c.in_ok-place.place
-    is
-    c.in_ok-place.ensures.answer c.in_ok-place.ensures.placed counted)
+    (added_text c.self.inside.numbers.entries new c.self.inside.count c.in-Some.count c.in_ok-text.text.items _ c.in_ok-number.number is
+    c.in_ok-number.ensures.answer c.in_ok-number.ensures.placed counted)

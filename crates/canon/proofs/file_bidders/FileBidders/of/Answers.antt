@@ -1,8 +1,8 @@
--- `bidders_of`: the bids of the OR bidder are its points, and those of the XOR bidders are split.
+-- `FileBidders::of`: the bids of the OR bidder are its points, and those of the XOR bidders are split.
 use Rattle.valuation.specs.Auctions.{auction_from}
 use Rattle.canon.proofs.Walks.BidderWalks.{bids_of_canonical}
 use Rattle.canon.proofs.Walks.OrWalks.{offers_are}
-use Rattle.canon.proofs.file_bidders.bidders_of.Goals as goal
+use Rattle.canon.proofs.file_bidders.FileBidders.of.Goals as goal
 
 pub returns : goal.returns
 returns g c =

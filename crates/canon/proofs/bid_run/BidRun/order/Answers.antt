@@ -1,15 +1,15 @@
--- `order_of_bidders`
+-- `BidRun::order`
 use Rattle.std.proofs.Common.{◌+◌, drop, sym, ap₂, ◌∙◌, nat_cmp, arith}
 use Rattle.bid_file.specs.Views.{seen_bid}
 use Rattle.valuation.specs.Orders.{atom_cmp, bidder_cmp}
 use Rattle.canon.specs.Bidders.{offers}
 use Rattle.valuation.specs.Lemmas.Orders.{then-decided, then-left, slice_cmp-ended}
 use Rattle.canon.proofs.Walks.BidOrders.{bidder_cmp-drop, length-offers}
-use Rattle.canon.proofs.xor_bidders.order_of_bidders.Goals as goal
+use Rattle.canon.proofs.bid_run.BidRun.order.Goals as goal
 
 pub returns-then-is_ne : goal.returns-then-is_ne
 returns-then-is_ne g c =
-    let some = c.args.one.now in
+    let some = c.args.self.now in
     let other = c.args.other.now in
     let i = c.loop-i.i in
     let later = bidder_cmp (drop (i + 1) (offers some)) (drop (i + 1) (offers other)) in
@@ -19,7 +19,7 @@ returns-then-is_ne g c =
 
 pub loop-i-preserved : goal.loop-i-preserved
 loop-i-preserved g c =
-    let some = c.args.one.now in
+    let some = c.args.self.now in
     let other = c.args.other.now in
     let i = c.loop-i.i in
     let later = bidder_cmp (drop (i + 1) (offers some)) (drop (i + 1) (offers other)) in
@@ -29,8 +29,8 @@ loop-i-preserved g c =
 
 pub returns : goal.returns
 returns g c =
-    let some = length-offers c.args.one.now in
+    let some = length-offers c.args.self.now in
     let other = length-offers c.args.other.now in
     c.cmp.ensures ∙ ap₂ nat_cmp c.len-3.ensures c.len-4.ensures
-    ∙ sym (rw (some, other) at (slice_cmp-ended atom_cmp c.loop-i.i (offers c.args.one.now) (offers c.args.other.now) (omega arith)))
+    ∙ sym (rw (some, other) at (slice_cmp-ended atom_cmp c.loop-i.i (offers c.args.self.now) (offers c.args.other.now) (omega arith)))
     ∙ c.loop-i.invariant

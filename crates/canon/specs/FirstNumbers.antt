@@ -18,74 +18,74 @@ use Rattle.canon.specs.Refusals.{refusal_of}
 use Rattle.canon.specs.declared.canon_fault.CanonFault.{CanonFault}
 use Rattle.valuation.specs.declared.search_options.SearchOptions.{SearchOptions}
 
--- the place, counted from 0, of the first of the files that is in the relation to the given one
-pub record IsFirstPlace (Related : PlainFile → PlainFile → Type 0) (files : List PlainFile) (given : PlainFile) (place :
-    ℕ)
-    : Type 0 where
+-- the number, counted from 0, of the first of the files that is in the relation to the given one
+pub record IsFirstNumber (Related : PlainFile → PlainFile → Type 0) (files : List PlainFile) (given : PlainFile)
+    (number : ℕ) : Type 0 where
   pub file : PlainFile
-  pub there : slice_get files place ≡ Some file
+  pub there : slice_get files number ≡ Some file
   pub related : Related file given
-  pub first : (k : ℕ) (other : PlainFile) → k < place → slice_get files k ≡ Some other → Related other given → ⊥
+  pub first : (k : ℕ) (other : PlainFile) → k < number → slice_get files k ≡ Some other → Related other given → ⊥
 
--- the place of the first of the files that has the canonical text of the given one
-abbrev pub first_place : List PlainFile → PlainFile → Option ℕ
-first_place files given = position (λ file. bytes_eq (canonical_text file) (canonical_text given)) files
+-- the number of the first of the files that has the canonical text of the given one
+abbrev pub first_number : List PlainFile → PlainFile → Option ℕ
+first_number files given = position (λ file. bytes_eq (canonical_text file) (canonical_text given)) files
 
 -- ---- an index of texts
 
--- what an index holds: texts, each with its place, and how many files were added
+-- what an index holds: texts, each with its number, and how many files were added
 pub record TextIndex : Type 0 where
   pub texts : List (List ℕ × ℕ)
   pub count : ℕ
 
--- the place of a text, if the index has it
-abbrev pub text_place : TextIndex → List ℕ → Option ℕ
-text_place index text = lookup (bytes_eq text) index.texts
+-- the number of a text, if the index has it
+abbrev pub text_number : TextIndex → List ℕ → Option ℕ
+text_number index text = lookup (bytes_eq text) index.texts
 
 -- it holds no text, and no file was added
 pub record IsEmptyIndex (index : TextIndex) : Type 0 where
   pub texts : index.texts ≡ []
   pub count : index.count ≡ 0
 
--- one more file has this text and this place: the place of the text, and if it had none, the one behind all files
-pub record AddsText (old new : TextIndex) (text : List ℕ) (place : ℕ) : Type 0 where
-  pub found : place ≡ unwrap_or (text_place old text) old.count
-  pub places : (other : List ℕ) → text_place new other ≡ cond (bytes_eq text other) (Some place) (text_place old other)
+-- one more file has this text and this number: the number of the text, and if it had none, the one behind all files
+pub record AddsText (old new : TextIndex) (text : List ℕ) (number : ℕ) : Type 0 where
+  pub found : number ≡ unwrap_or (text_number old text) old.count
+  pub numbers : (other : List ℕ) → text_number new other
+      ≡ cond (bytes_eq text other) (Some number) (text_number old other)
   pub count : new.count ≡ old.count + 1
 
 -- by the text that each file has
 module _ (text_of : PlainFile → List ℕ) where
-  -- the first of the files with this text is at this place
-  pub record IsFirstText (files : List PlainFile) (text : List ℕ) (place : ℕ) : Type 0 where
+  -- the first of the files with this text has this number
+  pub record IsFirstText (files : List PlainFile) (text : List ℕ) (number : ℕ) : Type 0 where
     pub file : PlainFile
-    pub there : slice_get files place ≡ Some file
+    pub there : slice_get files number ≡ Some file
     pub has : text_of file ≡ text
-    pub first : (k : ℕ) (other : PlainFile) → k < place → slice_get files k ≡ Some other → text_of other ≡ text → ⊥
+    pub first : (k : ℕ) (other : PlainFile) → k < number → slice_get files k ≡ Some other → text_of other ≡ text → ⊥
 
   -- none of the files has this text
   abbrev pub LacksText : List PlainFile → List ℕ → Type 0
   LacksText files text = (k : ℕ) (other : PlainFile) → slice_get files k ≡ Some other → text_of other ≡ text → ⊥
 
-  abbrev pub PlacesText : List PlainFile → List ℕ → Option ℕ → Type 0
-  PlacesText files text None = LacksText files text
-  PlacesText files text (Some place) = IsFirstText files text place
+  abbrev pub NumbersText : List PlainFile → List ℕ → Option ℕ → Type 0
+  NumbersText files text None = LacksText files text
+  NumbersText files text (Some number) = IsFirstText files text number
 
-  -- it is the index of these files: each text has the place of the first of them that has it
+  -- it is the index of these files: each text has the number of the first of them that has it
   pub record IsIndexOf (index : TextIndex) (files : List PlainFile) : Type 0 where
     pub facts : (k : ℕ) (file : PlainFile) → slice_get files k ≡ Some file → IsPlainFile file
-    pub texts : (text : List ℕ) → PlacesText files text (text_place index text)
+    pub texts : (text : List ℕ) → NumbersText files text (text_number index text)
     pub count : index.count ≡ length files
 
 -- ---- a file that is read from a stream first
 
 module _ {R : Type 0} (remaining : R → Option (List ℕ)) where
-  -- the bytes spell a file, which is added with its canonical text, and this is its place
+  -- the bytes spell a file, which is added with its canonical text, and this is its number
   pub record AddsFile (options : SearchOptions) (old new : TextIndex) (bytes : List ℕ) (input : Watched R)
-      (place : ℕ) : Type 0 where
+      (number : ℕ) : Type 0 where
     pub file : PlainFile
     pub reads : ReadsFile remaining bytes input file
     pub within_limit : normalised_file options file ≡ IsText (canonical_text file)
-    pub added : AddsText old new (canonical_text file) place
+    pub added : AddsText old new (canonical_text file) number
 
   -- the bytes spell no file, or no more came
   pub record IsUnread (bytes : List ℕ) (input : Watched R) (fault : CanonFault) : Type 0 where
@@ -100,7 +100,7 @@ module _ {R : Type 0} (remaining : R → Option (List ℕ)) where
     pub refused : RefusesAs (normalised_file options file) fault
 
   abbrev pub AddsOrRefuses : SearchOptions → TextIndex → TextIndex → List ℕ → Watched R → Result ℕ CanonFault → Type 0
-  AddsOrRefuses options old new bytes input (Ok place) = AddsFile options old new bytes input place
+  AddsOrRefuses options old new bytes input (Ok number) = AddsFile options old new bytes input number
   AddsOrRefuses options old new bytes input (Err fault) =
       (new ≡ old) × (IsUnread bytes input fault ⊎ IsUnmade options bytes input fault)
 

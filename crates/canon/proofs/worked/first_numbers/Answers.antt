@@ -1,9 +1,9 @@
--- `first_places`
+-- `first_numbers`
 use Rattle.std.proofs.Common.{refl}
 use Rattle.std.specs.Fmt.{digits}
 use Rattle.prune.specs.Points.{points_where, is_xor_point, is_or_point}
 use Rattle.valuation.specs.Values.{xor_value, or_value}
-use Rattle.canon.proofs.worked.first_places.Goals as goal
+use Rattle.canon.proofs.worked.first_numbers.Goals as goal
 
 pub returns : goal.returns
 unfolding digits points_where is_xor_point is_or_point xor_value or_value
