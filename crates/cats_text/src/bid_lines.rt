@@ -40,11 +40,11 @@ impl<K: Keep> Scanner<K> {
         ensures line { self.new.line ≡ self.old.line }
         ensures waiting { self.new.waiting ≡ self.old.waiting }
     {
-        let mut place = 0;
-        while let Some((good, taken)) = number(&bytes[place..]) {
-            place += self.take_good(good, taken)?;
+        let mut offset = 0;
+        while let Some((good, taken)) = number(&bytes[offset..]) {
+            offset += self.take_good(good, taken)?;
         }
-        Ok(place)
+        Ok(offset)
     }
 
     /// The `#` and the LF that are at the start, where a good is due; answers how many bytes they have.
@@ -80,20 +80,20 @@ impl<K: Keep> Scanner<K> {
         let Some((number, taken)) = number(bytes) else {
             return Ok(0);
         };
-        let mut place = self.take_word(Word::Number(number), taken)?;
-        let Some((price, taken)) = leading_token(&bytes[place..]) else {
-            return Ok(place);
+        let mut offset = self.take_word(Word::Number(number), taken)?;
+        let Some((price, taken)) = leading_token(&bytes[offset..]) else {
+            return Ok(offset);
         };
-        place += self.take_word(price, taken)?;
+        offset += self.take_word(price, taken)?;
         if !self.parser.takes_goods() {
-            return Ok(place);
+            return Ok(offset);
         }
-        place += self.take_goods(&bytes[place..])?;
-        if !ends_bid(&bytes[place..]) {
-            return Ok(place);
+        offset += self.take_goods(&bytes[offset..])?;
+        if !ends_bid(&bytes[offset..]) {
+            return Ok(offset);
         }
-        place += self.take_bid_end()?;
-        Ok(place)
+        offset += self.take_bid_end()?;
+        Ok(offset)
     }
 
     /// Whole bid lines at the start, and of one more the words that are there whole; answers how many bytes they have.
@@ -105,14 +105,14 @@ impl<K: Keep> Scanner<K> {
         ensures line { IfOk result (λ count. self.new.line ≤ self.old.line + count) }
         ensures most { self.new.line ≤ self.old.line + length bytes.now }
     {
-        let mut place = 0;
-        while place < bytes.len() && self.mode == Mode::Start && self.parser.begins_bid() {
-            let taken = self.read_bid_line(&bytes[place..])?;
+        let mut offset = 0;
+        while offset < bytes.len() && self.mode == Mode::Start && self.parser.begins_bid() {
+            let taken = self.read_bid_line(&bytes[offset..])?;
             if taken == 0 {
                 break;
             }
-            place += taken;
+            offset += taken;
         }
-        Ok(place)
+        Ok(offset)
     }
 }

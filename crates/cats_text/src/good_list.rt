@@ -54,12 +54,12 @@ impl Model for GoodList {
     ghost invariant = { λ s. IsListed s.goods.items s.marks.items s.bid_mark s.rises s.least };
 }
 
-/// Lengthens the marks so that there is one at this place.
-fn cover(marks: &mut Vec<u32>, place: usize) -> Result<(), AllocError>
+/// Lengthens the marks so that there is one at this index.
+fn cover(marks: &mut Vec<u32>, index: usize) -> Result<(), AllocError>
     ensures same { (k : ℕ) → slice_index marks.new.items k ≡ slice_index marks.old.items k }
-    ensures covered { OnOk result (place < vec_len marks.new) }
+    ensures covered { OnOk result (index < vec_len marks.new) }
 {
-    while marks.len() <= place {
+    while marks.len() <= index {
         marks.push(0)?;
     }
     Ok(())
@@ -96,13 +96,13 @@ fn put_marked(
     ensures same { OnErr result (goods.new.items ≡ goods.old.items) }
     ensures marked { IsMarked goods.new.items marks.new.items bid_mark }
 {
-    let place = usize::from(good);
-    cover(marks, place)?;
-    if marks[place] == bid_mark {
+    let index = usize::from(good);
+    cover(marks, index)?;
+    if marks[index] == bid_mark {
         return Ok(false);
     }
     goods.push(good)?;
-    marks[place] = bid_mark;
+    marks[index] = bid_mark;
     Ok(true)
 }
 

@@ -34,9 +34,9 @@ pub trait Keep: Sized + Drop {
         ensures same { OnErr result (bids self.new ≡ bids self.old) };
 
     /// Keeps one of other bids behind the others.
-    fn add_from(&mut self, other: &Self, place: usize) -> Result<(), AllocError>
-        requires { place < length (bids other.now) }
-        ensures { (bid : PlainBid) → slice_get (bids other.now) place ≡ Some bid
+    fn add_from(&mut self, other: &Self, index: usize) -> Result<(), AllocError>
+        requires { index < length (bids other.now) }
+        ensures { (bid : PlainBid) → slice_get (bids other.now) index ≡ Some bid
             → OnOk result (bids self.new ≡ bids self.old ++ bid ∷ []) };
 }
 
@@ -67,8 +67,8 @@ impl Keep for PackedBids {
         PackedBids::push(self, draft.price, goods, draft.dummy)
     }
 
-    fn add_from(&mut self, other: &PackedBids, place: usize) -> Result<(), AllocError> {
-        let (price, goods, dummy) = other.at(place);
+    fn add_from(&mut self, other: &PackedBids, index: usize) -> Result<(), AllocError> {
+        let (price, goods, dummy) = other.at(index);
         PackedBids::push(self, price, goods, dummy)
     }
 }
@@ -104,7 +104,7 @@ impl Keep for BidCount {
         Ok(())
     }
 
-    fn add_from(&mut self, _other: &BidCount, _place: usize) -> Result<(), AllocError> {
+    fn add_from(&mut self, _other: &BidCount, _index: usize) -> Result<(), AllocError> {
         let Some(count) = self.count.checked_add(1) else {
             return Err(AllocError);
         };

@@ -25,7 +25,7 @@ ghost use Rattle.cats_text.specs.declared.layout.TheConstants.{NUMBER_AND_PRICE,
 
 use crate::price::write_price;
 use bid_file::{Bids, MAX_GOODS};
-use itoa::{Buffer, Integer, write_digits};
+use itoa::{Buffer, write_digits};
 use std::alloc::{AllocError, Global};
 
 /// The text of a file: its header, then its bids in order of number, each with its goods rising and its dummy good
@@ -86,7 +86,7 @@ fn push_header_line(out: &mut Vec<u8>, keyword: &[u8], value: u64) -> Result<(),
 {
     out.extend_from_slice(keyword)?;
     out.push(b' ')?;
-    push_number(out, value)?;
+    out.extend_from_slice(Buffer::new().format(value).as_bytes())?;
     out.push(b'\n')?;
     Ok(())
 }
@@ -184,11 +184,4 @@ fn write_good(good: u64, text: &mut [u8], end: usize) -> usize
     let tab = write_digits(good, text, end) - 1;
     text[tab] = b'\t';
     tab
-}
-
-fn push_number<I: Integer>(out: &mut Vec<u8>, number: I) -> Result<(), AllocError>
-    ensures text { OnOk result (out.new.items ≡ out.old.items ++ I.text number) }
-    ensures capacity { vec_capacity out.old ≤ vec_capacity out.new }
-{
-    out.extend_from_slice(Buffer::new().format(number).as_bytes())
 }

@@ -23,14 +23,12 @@ mod stream;
 mod word;
 pub mod worked;
 
-pub use bid_file::{
-    Bid, BidFile, MAX_BIDS, MAX_DUMMY, MAX_GOODS, MAX_PRICE, PackedBids, PackedFile,
-};
+pub use bid_file::{Bid, BidFile, MAX_BIDS, MAX_DUMMY, MAX_GOODS, MAX_PRICE};
 pub use fault_place::{FaultPlace, place_of_fault};
 pub use layout::write;
 pub use limits::MAX_STREAM;
 pub use parser::Header;
-pub use price::push_price;
+pub use price::{PRICE_SIZE, push_price, write_price};
 pub use read_fault::{Kind, ReadFault, SendFault};
 pub use reader::{Reader, check, read, read_packed};
 pub use sending::{send, send_file};

@@ -2,7 +2,7 @@
 
 ghost use Rattle.std.specs.Prelude.{◌≡◌, ◌+◌, ◌++◌, ◌<◌, ◌≤◌, length, drop, OnOk, decimal};
 ghost use Rattle.cats_text.specs.Layout.{price_text, places_text, without_zeros};
-ghost use Rattle.cats_text.specs.declared.price.TheConstants.{MILLION, PRICE, BEHIND};
+ghost use Rattle.cats_text.specs.declared.price.TheConstants.{MILLION, PRICE_SIZE, BEHIND};
 ghost use Rattle.cats_text.specs.Internal.Keywords.{place_value_of};
 ghost use Rattle.cats_text.specs.Internal.Parsing.{price_parts};
 
@@ -83,9 +83,10 @@ pub fn price_of(whole: u64, millionths: u64, fine: bool) -> Result<u64, Kind>
     Ok((whole * MILLION).saturating_add(millionths))
 }
 
-/// The bytes that a price of 64 bits has at most, and those that its point and the digits behind it have.
-const PRICE: usize = 27;
+/// The bytes that the text of a price of 64 bits has at most.
+pub const PRICE_SIZE: usize = 27;
 
+/// Those that its point and the digits behind it have.
 const BEHIND: usize = 7;
 
 /// Appends a price, given in millionths: its whole part, then, if millionths are left, a point and their digits
@@ -101,12 +102,12 @@ pub fn push_price(out: &mut Vec<u8>, millionths: u128) -> Result<(), AllocError>
     out.extend_from_slice(&text[start..])
 }
 
-/// Writes a price that fits 64 bits, so that its text ends at `end`, and returns where it starts.
+/// Writes a price, given in millionths, so that its text ends at `end`, and returns where it starts.
 #[inline(always)]
 pub fn write_price(millionths: u64, text: &mut [u8], end: usize) -> usize
-    requires space { PRICE ≤ end }
+    requires space { PRICE_SIZE ≤ end }
     requires inside { end ≤ length text.old }
-    ensures start { (result < end) × (end ≤ result + PRICE) }
+    ensures start { (result < end) × (end ≤ result + PRICE_SIZE) }
     ensures written { drop result text.new ≡ price_text millionths ++ drop end text.old }
 {
     let point = write_places(millionths % MILLION, text, end);

@@ -62,7 +62,7 @@ impl<K: Keep> PushReader<K> {
         let within = piece.len().min(space);
         let judged = match self.scanner.take(&piece[..within]) {
             Err(kind) => Err(ReadFault::at(self.scanner.line, kind)),
-            Ok(()) if within < piece.len() => Err(ReadFault::at(0, Kind::TooLong)),
+            Ok(()) if within < piece.len() => Err(ReadFault::whole(Kind::TooLong)),
             Ok(()) => Ok(()),
         };
         self.count += within as u64;
@@ -94,5 +94,5 @@ pub fn unpacked(alloc: Global, file: &PackedFile) -> Result<BidFile, ReadFault>
     ensures { Unpacks file.now result }
 {
     file.to_file(alloc)
-        .map_err(|_| ReadFault::at(0, Kind::Memory))
+        .map_err(|_| ReadFault::whole(Kind::Memory))
 }

@@ -1,6 +1,7 @@
 //! Why reading or sending a text failed. The text may not be a bid file, or a stream may have failed.
 
 ghost use Rattle.std.specs.Prelude.{◌≡◌};
+ghost use Rattle.cats_text.specs.Faults.{fault_at};
 ghost use Rattle.cats_text.specs.Internal.Reading.{placed_fault};
 
 use std::alloc::AllocError;
@@ -67,12 +68,19 @@ pub struct ReadFault {
 }
 
 impl ReadFault {
+    /// A fault of a text or a stream as a whole.
+    pub fn whole(kind: Kind) -> ReadFault
+        ensures { result ≡ fault_at 0 kind }
+    {
+        ReadFault { line: 0, kind }
+    }
+
     /// The fault of this kind at this line. Want of memory is on no line.
     pub(crate) fn at(line: u64, kind: Kind) -> ReadFault
         ensures { result ≡ placed_fault line kind }
     {
         match kind {
-            Kind::Memory => ReadFault { line: 0, kind },
+            Kind::Memory => ReadFault::whole(kind),
             _ => ReadFault { line, kind },
         }
     }

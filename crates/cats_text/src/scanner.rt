@@ -63,7 +63,7 @@ fn carriage_return(next: u8) -> u8
     if next == b'\n' { b' ' } else { b'\r' }
 }
 
-/// The place of the first LF.
+/// The offset of the first LF.
 pub fn line_feed(bytes: &[u8]) -> Option<usize>
     ensures { result ≡ position (λ b. b == 10) bytes.now }
 {
@@ -176,11 +176,11 @@ impl<K: Keep> Scanner<K> {
         ensures scanned { ScansTo (state K.keep self.old) (state K.keep self.new) self.new.waiting bytes.now result }
         ensures line { self.new.line ≡ self.old.line }
     {
-        let mut place = 0;
-        while let Some((word, taken)) = leading_token(&bytes[place..]) {
-            place += self.take_word(word, taken)?;
+        let mut offset = 0;
+        while let Some((word, taken)) = leading_token(&bytes[offset..]) {
+            offset += self.take_word(word, taken)?;
         }
-        Ok(place)
+        Ok(offset)
     }
 
     /// Continues a comment or a number as far as it reaches, or reads whole words; answers how many bytes these have.
@@ -217,20 +217,20 @@ impl<K: Keep> Scanner<K> {
         ensures waiting { OnOk result (self.new.waiting ≡ waits bytes.now) }
         ensures line { self.new.line ≤ self.old.line + length bytes.now }
     {
-        let mut place = 0;
-        while place < bytes.len() {
-            place += self.go_on(&bytes[place..])?;
-            if place == bytes.len() {
+        let mut offset = 0;
+        while offset < bytes.len() {
+            offset += self.go_on(&bytes[offset..])?;
+            if offset == bytes.len() {
                 break;
             }
-            if bytes[place] != b'\r' {
-                self.take_byte(bytes[place])?;
-            } else if place + 1 == bytes.len() {
+            if bytes[offset] != b'\r' {
+                self.take_byte(bytes[offset])?;
+            } else if offset + 1 == bytes.len() {
                 self.waiting = true;
             } else {
-                self.take_byte(carriage_return(bytes[place + 1]))?;
+                self.take_byte(carriage_return(bytes[offset + 1]))?;
             }
-            place += 1;
+            offset += 1;
         }
         Ok(())
     }
@@ -281,6 +281,6 @@ impl<K: Keep> Scanner<K> {
         }
         self.parser
             .into_parts()
-            .map_err(|_| ReadFault::at(0, Kind::Memory))
+            .map_err(|_| ReadFault::whole(Kind::Memory))
     }
 }

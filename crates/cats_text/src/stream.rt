@@ -222,7 +222,7 @@ fn feed_from<K: Keep, R: Read>(
         match input.read(&mut piece) {
             Ok(0) => return Ok(()),
             Ok(count) => push_reader.feed(&piece[..count])?,
-            Err(_) => return Err(ReadFault::at(0, Kind::Device)),
+            Err(_) => return Err(ReadFault::whole(Kind::Device)),
         }
     }
 }

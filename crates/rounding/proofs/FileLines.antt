@@ -1,9 +1,8 @@
 -- The words of lines, and a bid file that is rounded.
 use Rattle.std.specs.Prelude.{if◌then◌else◌}
 use Rattle.std.proofs.Common.{◌≡◌, ℕ, zero, suc, ◌-◌, ◌<◌, ◌≤◌, true, false, ◌&&◌, eqb, leb, List, [], ◌∷◌, ◌++◌, map, filter, drop, refl, sym, ap, ◌∙◌, arith}
-use Rattle.std.proofs.Common.{◌+◌, ltb, length}
-use Rattle.std.proofs.Common.{◌⊎◌, inl, inr, Bool, ⊎_elim, Some, None, append_assoc, subst, slice_get, codes}
-use Rattle.std.proofs.lemmas.Bool.{cases_Bool, both_ways, and_parts, eqb-true, cases_lt, lt-leb, ltb-false, lt-ltb}
+use Rattle.std.proofs.Common.{◌+◌, length, Bool, ⊎_elim, Some, None, append_assoc, subst, slice_get, codes}
+use Rattle.std.proofs.lemmas.Bool.{cases_Bool, both_ways, and_parts, eqb-true, cases_lt, lt-leb, ltb-false}
 use Rattle.std.proofs.lemmas.List.{drop_all, length-drop, length-map}
 use Rattle.std.specs.List.{AllByRecursion}
 use Rattle.cats_text.specs.Lines.{Word, RawLine, Line, is_blank, line_byte, line_ends, blank_returns, raw_lines, lines_with, with_byte, line_words, words_with}
@@ -353,16 +352,6 @@ line_counted text start next count more significant l en es em before =
     let behind : length (words_from (raw_lines (drop next text))) ≡ length (words_from (raw_lines (behind_line (drop start text)))) =
     ap (λ (t : List ℕ). length (words_from (raw_lines t))) en in
     omega (arith, first, behind, before)
-
--- all lines were counted, or more than three
-pub counted_all : (text : List ℕ) (start count : ℕ) → IsCounted text start count → (length text ≤ start) ⊎ (3 < count)
-    → ltb 3 count ≡ has_bid_line text
-counted_all text start count counted (inl end) =
-    let none : length (words_from (raw_lines (drop start text))) ≡ 0 =
-    ap (λ (t : List ℕ). length (words_from (raw_lines t))) (drop_all start text end) in
-    ap (λ n. ltb 3 n) (omega (arith, counted, none))
-counted_all text start count counted (inr many) =
-    lt-ltb 3 count many ∙ sym (lt-ltb 3 (length (significant_lines text)) (omega (arith, counted, many)))
 
 -- ---- prices that are written
 

@@ -8,7 +8,6 @@ use Rattle.cats_text.specs.Grammar.{Spells}
 use Rattle.cats_text.specs.Reading.{WantsMemory}
 use Rattle.cats_text.specs.declared.read_fault.ReadFault.{ReadFault}
 use Rattle.rounding.specs.Answers.{IsRounded, RoundAnswer, SpellsRounded}
-use Rattle.rounding.specs.Texts.{rounded_text}
 use Rattle.rounding.specs.Views.{plain_changes}
 use Rattle.rounding.specs.declared.replacement.FinePrices.{FinePrices}
 use Rattle.rounding.specs.declared.round_text.RoundedPrice.{RoundedPrice}

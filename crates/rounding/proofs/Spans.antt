@@ -1,8 +1,7 @@
 -- Runs of bytes up to the first one of a kind: their lengths, one byte further, and what is behind them.
 use Rattle.std.specs.Prelude.{if◌then◌else◌}
 use Rattle.std.proofs.Common.{◌≡◌, ℕ, suc, ◌+◌, ◌<◌, ◌≤◌, true, false, ◌||◌, eqb, [], ◌∷◌, length, take, drop, get_or, refl, sym, ap, ◌∙◌}
-use Rattle.std.proofs.Common.{arith, drop-cons, add-one}
-use Rattle.std.proofs.Common.{◌-◌}
+use Rattle.std.proofs.Common.{arith, drop-cons, add-one, ◌-◌}
 use Rattle.std.proofs.lemmas.List.{take_rest, drop_all}
 use Rattle.cats_text.specs.Lines.{Word, is_blank, line_byte}
 use Rattle.cats_text.specs.Numbers.{whole_part, places, has_point}
@@ -132,11 +131,6 @@ blanks_taken (b ∷ bs) = elim (is_blank (line_byte b bs)) as
     (λ v. take (length (if v then (b ∷ blanks bs) else [])) (b ∷ bs) ≡ (if v then (b ∷ blanks bs) else []))
     [ true ↦ ap (λ (ws : Word). b ∷ ws) (blanks_taken bs) | false ↦ refl ]
 
-pub blanks_within : (w : Word) → length (blanks w) ≤ length w
-blanks_within [] = omega arith
-blanks_within (b ∷ bs) = elim (is_blank (line_byte b bs)) as (λ v. length (if v then (b ∷ blanks bs) else []) ≤ suc (length bs))
-    [ true ↦ omega (arith, blanks_within bs) | false ↦ omega arith ]
-
 pub blanks_dropped : (w : Word) → drop (length (blanks w)) w ≡ behind_blanks w
 blanks_dropped [] = refl
 blanks_dropped (b ∷ bs) = elim (is_blank (line_byte b bs)) as
@@ -157,11 +151,6 @@ word_taken [] = refl
 word_taken (b ∷ bs) = elim (is_blank (line_byte b bs)) as
     (λ v. take (length (if v then [] else (b ∷ leading_word bs))) (b ∷ bs) ≡ (if v then [] else (b ∷ leading_word bs)))
     [ true ↦ refl | false ↦ ap (λ (ws : Word). b ∷ ws) (word_taken bs) ]
-
-pub word_within : (w : Word) → length (leading_word w) ≤ length w
-word_within [] = omega arith
-word_within (b ∷ bs) = elim (is_blank (line_byte b bs)) as (λ v. length (if v then [] else (b ∷ leading_word bs)) ≤ suc (length bs))
-    [ true ↦ omega arith | false ↦ omega (arith, word_within bs) ]
 
 pub word_dropped : (w : Word) → drop (length (leading_word w)) w ≡ behind_word w
 word_dropped [] = refl

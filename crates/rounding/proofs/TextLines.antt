@@ -1,10 +1,9 @@
 -- Texts line by line: the first line and what is behind it, and one more line that is rounded.
 use Rattle.std.specs.Prelude.{if◌then◌else◌}
 use Rattle.std.proofs.Common.{◌≡◌, ℕ, suc, ◌+◌, ◌-◌, ◌<◌, ◌≤◌, min, Bool, true, false, ◌&&◌, ◌||◌, eqb, leb, ltb, List, [], ◌∷◌, ◌++◌, length, take, drop, refl}
-use Rattle.std.proofs.Common.{sym, ap, ◌∙◌, ⊎_elim}
-use Rattle.std.proofs.Common.{arith, append_assoc}
+use Rattle.std.proofs.Common.{sym, ap, ◌∙◌, ⊎_elim, arith, append_assoc}
 use Rattle.std.proofs.lemmas.Bool.{lt-ltb, le-ltb, cases_lt}
-use Rattle.std.proofs.lemmas.List.{map-append, length-drop, take_rest, append-nil, drop_all}
+use Rattle.std.proofs.lemmas.List.{map-append, length-drop, take_rest, drop_all}
 use Rattle.std.proofs.lemmas.List.Prefix.{front_rest}
 use mir.Val.{bool_byte}
 use Rattle.cats_text.specs.Lines.{Word, RawLine, raw_lines, lines_with, with_byte, blank_returns, line_words, is_significant}
@@ -181,17 +180,6 @@ line_more fine text t0 t2 p0 p1 start next number before more significant l en f
           ∙ ap (λ (ls : List RawLine). p0 ++ lines_changes fine number before ls) (sym split)
           ∙ w.prices_are;
     }
-
-pub lines_none : (fine : FinePrices) (text : List ℕ) → IsWritten fine text 0 1 0 [] []
-lines_none fine text = record { text_is = refl; prices_are = refl }
-
-pub lines_all : (fine : FinePrices) (text t : List ℕ) (p : List PlainChange) (start number before : ℕ) → length text ≤ start
-    → IsWritten fine text start number before t p → (t ≡ rounded_text fine text) × (p ≡ rounded_prices fine text)
-lines_all fine text t p start number before l w =
-    let none : drop start text ≡ [] = drop_all start text l in (
-      sym (append-nil t) ∙ ap (λ (u : List ℕ). t ++ lines_text (rounded_lines fine before (raw_lines u))) (sym none) ∙ w.text_is,
-      sym (append-nil p) ∙ ap (λ (u : List ℕ). p ++ lines_changes fine number before (raw_lines u)) (sym none) ∙ w.prices_are,
-    )
 
 -- ---- one for true
 

@@ -11,9 +11,9 @@ fn point_in(word: &[u8]) -> usize
     ensures count { result ≡ length (whole_part word.now) }
     ensures within { result ≤ length word.now }
 {
-    for (place, byte) in word.iter().enumerate() {
+    for (offset, byte) in word.iter().enumerate() {
         if *byte == b'.' {
-            return place;
+            return offset;
         }
     }
     word.len()
@@ -50,9 +50,9 @@ fn mark_in(word: &[u8]) -> usize
     ensures count { result ≡ length (significand word.now) }
     ensures within { result ≤ length word.now }
 {
-    for (place, byte) in word.iter().enumerate() {
+    for (offset, byte) in word.iter().enumerate() {
         if is_exponent_mark(*byte) {
-            return place;
+            return offset;
         }
     }
     word.len()

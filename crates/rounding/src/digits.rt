@@ -50,18 +50,18 @@ pub fn held_number(digits: &[u8], start: u64, bound: u64) -> u64
     held
 }
 
-/// What digits are worth after the place where a number is cut.
+/// What the digits are worth that a number is cut before.
 #[derive(Clone, Copy, PartialEq, Eq)]
 pub enum Rest {
-    /// No digit is behind it.
+    /// There are none.
     Nothing,
-    /// All digits behind it are 0.
+    /// All are 0.
     Zeros,
-    /// Less than half of one at that place.
+    /// Less than half of the unit before the cut.
     BelowHalf,
-    /// Exactly half of one.
+    /// Exactly half of it.
     Half,
-    /// More than half of one.
+    /// More than half of it.
     AboveHalf,
 }
 

@@ -11,13 +11,13 @@ fn line_ends(bytes: &[u8]) -> bool
     matches!(bytes, [] | [b'\n', ..])
 }
 
-/// Whether the byte at a place is a blank: a space, a tab, or a CR that ends the line.
-fn is_blank(line: &[u8], place: usize) -> bool
-    requires { place < length line.now }
-    ensures { result ≡ is_blank (line_byte (slice_index line.now place) (drop (suc place) line.now)) }
+/// Whether the byte at an offset is a blank: a space, a tab, or a CR that ends the line.
+fn is_blank(line: &[u8], offset: usize) -> bool
+    requires { offset < length line.now }
+    ensures { result ≡ is_blank (line_byte (slice_index line.now offset) (drop (suc offset) line.now)) }
 {
-    let byte = line[place];
-    byte == b' ' || byte == b'\t' || (byte == b'\r' && line_ends(&line[place + 1..]))
+    let byte = line[offset];
+    byte == b' ' || byte == b'\t' || (byte == b'\r' && line_ends(&line[offset + 1..]))
 }
 
 /// How many blanks are at the beginning.
@@ -25,9 +25,9 @@ fn count_blanks(line: &[u8]) -> usize
     ensures count { result ≡ length (blanks line.now) }
     ensures within { result ≤ length line.now }
 {
-    for place in 0..line.len() {
-        if !is_blank(line, place) {
-            return place;
+    for offset in 0..line.len() {
+        if !is_blank(line, offset) {
+            return offset;
         }
     }
     line.len()
@@ -38,9 +38,9 @@ fn word_length(line: &[u8]) -> usize
     ensures count { result ≡ length (leading_word line.now) }
     ensures within { result ≤ length line.now }
 {
-    for place in 0..line.len() {
-        if is_blank(line, place) {
-            return place;
+    for offset in 0..line.len() {
+        if is_blank(line, offset) {
+            return offset;
         }
     }
     line.len()

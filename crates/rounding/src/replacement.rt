@@ -19,7 +19,7 @@ pub enum FinePrices {
     Refuse,
 }
 
-/// What is written in the place of a word that has to be a price.
+/// What is written in place of a word that has to be a price.
 #[derive(Clone, Copy, PartialEq, Eq, Debug, Drop)]
 pub enum Replacement {
     /// The word itself: it is a price that is read exactly, or no decimal.
@@ -56,7 +56,7 @@ fn is_too_large(word: &[u8]) -> bool
     units > GREATEST_UNITS || (units == GREATEST_UNITS && has_place(places(word)))
 }
 
-/// Whether a price has a digit other than 0 behind its sixth place.
+/// Whether a price has a digit other than 0 behind its sixth decimal.
 fn is_too_fine(word: &[u8]) -> bool
     ensures { result ≡ is_too_fine word.now }
 {
@@ -71,7 +71,7 @@ fn is_exact_price(word: &[u8]) -> bool
     is_price(word) && !is_too_large(word) && !is_too_fine(word)
 }
 
-/// What is written in the place of a word that has to be a price.
+/// What is written in place of a word that has to be a price.
 pub fn replacement_of(word: &[u8], fine: FinePrices) -> Replacement
     ensures { result ≡ replacement fine word.now }
 {

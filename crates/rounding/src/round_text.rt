@@ -14,7 +14,7 @@ ghost use Rattle.std.specs.Prelude.{
   length,
   false,
 };
-ghost use Rattle.cats_text.specs.Faults.{has_bid_line, fault_at};
+ghost use Rattle.cats_text.specs.Faults.{has_bid_line};
 ghost use Rattle.rounding.specs.Answers.{RoundAnswer};
 ghost use Rattle.rounding.specs.Texts.{with_rounded, second_word, rounded_text, rounded_prices, change_by};
 ghost use Rattle.rounding.specs.Replacements.{replacement, replacement_text};
@@ -44,7 +44,7 @@ pub struct RoundedText {
 /// Significant lines before the first bid line.
 const HEADER_LINES: usize = 3;
 
-/// Appends what is written in the place of a word.
+/// Appends what is written in place of a word.
 fn push_replacement(
     text: &mut Vec<u8>,
     word: &[u8],
@@ -138,9 +138,9 @@ fn line_length(text: &[u8]) -> usize
     ensures count { result ≡ length (first_line text.now) }
     ensures within { result ≤ length text.now }
 {
-    for (place, byte) in text.iter().enumerate() {
+    for (offset, byte) in text.iter().enumerate() {
         if *byte == b'\n' {
-            return place;
+            return offset;
         }
     }
     text.len()
@@ -186,15 +186,6 @@ fn has_bid_line(text: &[u8]) -> bool
     count > HEADER_LINES
 }
 
-fn no_memory() -> ReadFault
-    ensures { result ≡ fault_at 0 Kind.Memory }
-{
-    ReadFault {
-        line: 0,
-        kind: Kind::Memory,
-    }
-}
-
 /// Judges a text in which no bid line has begun. No byte of it changes, so its fault needs no memory.
 fn round_header(alloc: Global, text: &[u8], fine: FinePrices) -> Result<RoundedText, ReadFault>
     requires { has_bid_line text.now ≡ false }
@@ -206,7 +197,7 @@ fn round_header(alloc: Global, text: &[u8], fine: FinePrices) -> Result<RoundedT
             text,
             prices: Vec::new(alloc),
         }),
-        Err(AllocError) => Err(no_memory()),
+        Err(AllocError) => Err(ReadFault::whole(Kind::Memory)),
     }
 }
 
@@ -219,7 +210,7 @@ pub fn round(alloc: Global, text: &[u8], fine: FinePrices) -> Result<RoundedText
         return round_header(alloc, text, fine);
     }
     let Ok(rounded) = round_prices(alloc, text, fine) else {
-        return Err(no_memory());
+        return Err(ReadFault::whole(Kind::Memory));
     };
     check(alloc, &rounded.text)?;
     Ok(rounded)

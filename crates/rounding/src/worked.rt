@@ -35,7 +35,7 @@ pub fn nearest_numbers()
         ≡ 0 ∷ 0 ∷ 1 ∷ 2 ∷ 2 ∷ 3 ∷ 7 ∷ [] }
 {}
 
-/// What is written in the place of words, if fine prices are rounded.
+/// What is written in place of words, if fine prices are rounded.
 pub fn replacements()
     ensures exact { map (replacement Round) (codes "1e6" ∷ codes "1.02345e+06" ∷ codes "1E-3" ∷ codes ".5" ∷ codes "5."
         ∷ codes "0e999999999" ∷ codes "1e12" ∷ []) ≡ Exact 1000000000000 ∷ Exact 1023450000000 ∷ Exact 1000 ∷ Exact 500000

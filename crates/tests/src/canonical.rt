@@ -2,5 +2,5 @@
 
 mod calls;
 mod comparisons;
-mod places;
+mod file_numbers;
 mod refusals;

@@ -1,18 +1,18 @@
 -- The file of what the header lines said and the bids that were kept whole.
-use Rattle.std.proofs.Common.{◌≡◌, ◌<◌, ℕ, true, List, length, Option, Some, None, Result, Ok, Err, MatchOption, refl, sym, subst, ap, inr, arith}
+use Rattle.std.proofs.Common.{◌≡◌, ◌<◌, ℕ, true, List, length, Option, Some, None, Result, Ok, Err, MatchOption, refl, sym, subst, inr, arith}
 use Rattle.std.proofs.lemmas.List.{length-map}
 use Rattle.std.proofs.lemmas.Bool.{lt-ltb}
-use Rattle.cats_text.specs.Lines.{Line, significant_lines}
 use Rattle.cats_text.specs.Faults.{has_bid_line}
 use Rattle.bid_file.specs.Files.{PlainBid, PlainFile, IsPlainFile}
 use Rattle.bid_file.specs.declared.bid.BidFile.{BidFile}
 use Rattle.cats_text.specs.Fed.{Fed}
-use Rattle.cats_text.specs.Grammar.{Spells, significant_words}
+use Rattle.cats_text.specs.Grammar.{Spells}
 use Rattle.cats_text.specs.Reading.{PackedAnswer, FinishAnswer, FinishesAs}
 use Rattle.cats_text.specs.Internal.Kept.{whole}
 use Rattle.cats_text.specs.Internal.Reading.{PartsAnswer, PartsAs, PackedAs, Unpacks}
 use Rattle.cats_text.specs.declared.read_fault.ReadFault.{ReadFault}
 use Rattle.cats_text.specs.declared.parser.Header.{Header}
+use Rattle.std.proofs.lemmas.Grind.{common_steps}
 
 same_file : (g d : ℕ) (bids : List PlainBid) (f : PlainFile) → g ≡ f.goods → d ≡ f.dummy → bids ≡ f.bids
     → record { goods = g; dummy = d; bids = bids } ≡ f
@@ -28,10 +28,7 @@ module _ {K : Type 0} (bids : K → List PlainBid) where
   by_failed : (failed : Option ReadFault) (bytes : List ℕ) (parts : Header × K)
       → MatchOption failed (PartsAnswer whole bids bytes (Ok parts)) (λ (e : ReadFault). Ok parts ≡ Err e)
       → IsPlainFile (file_of parts) × MatchOption failed (PackedAnswer bytes (Ok (file_of parts))) (λ (e : ReadFault). Ok (file_of parts) ≡ Err e)
-  by_failed None bytes parts says =
-      let same : file_of parts ≡ says.file = same_file parts.0.goods parts.0.dummy (bids parts.1) says.file says.sizes.goods says.sizes.dummy
-      (says.bids_are refl) in
-      (subst IsPlainFile (sym same) says.spelled.facts, subst (Spells bytes) (sym same) says.spelled)
+  by_failed None bytes parts says = grind (arith, common_steps, same_file)
   by_failed (Some e) bytes parts q = absurd (not_err parts e q)
 
   -- it is a bid file, and what is answered of it
@@ -42,10 +39,7 @@ module _ {K : Type 0} (bids : K → List PlainBid) where
 
 -- a text that spells a file of some bids has a bid line
 has_line : (bytes : List ℕ) (file : PlainFile) → Spells bytes file → 0 < length file.bids → has_bid_line bytes ≡ true
-has_line bytes file spelled some =
-    let lines = ap length spelled.lines_are in
-    let same : length (significant_words bytes) ≡ length (significant_lines bytes) = length-map (significant_lines bytes) (λ (l : Line). l.words) in
-    lt-ltb 3 (length (significant_lines bytes)) (omega (arith, lines, same, spelled.count, some))
+has_line bytes file spelled some = grind (arith, common_steps, length-map, lt-ltb)
 
 -- what is answered of it
 pub unpacked_reported : (bytes : List ℕ) (file : PlainFile) (answer : Result BidFile ReadFault) → Spells bytes file → Unpacks file answer

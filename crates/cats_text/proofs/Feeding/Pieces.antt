@@ -10,19 +10,7 @@ use Rattle.cats_text.specs.Fed.{Fed, fed_fault}
 use Rattle.cats_text.specs.Internal.Reading.{HasTaken, IsReading, SpellsParts, PartsAnswer, placed_fault}
 use Rattle.cats_text.specs.Reading.{WantsMemory, FeedsAs}
 use Rattle.cats_text.specs.Internal.Returns.{settled, waits, carried}
-use Rattle.cats_text.specs.Internal.Scanning.{
-  State,
-  state,
-  first_state,
-  Scan,
-  scan,
-  and_then,
-  Scans,
-  MeetsBidLine,
-  end_of,
-  ArePartsOf,
-  Finishes,
-}
+use Rattle.cats_text.specs.Internal.Scanning.{State, state, first_state, Scan, scan, Scans, MeetsBidLine, end_of, ArePartsOf, Finishes}
 use Rattle.cats_text.specs.Internal.Scanning.{IsInBidLine, HasBids}
 use Rattle.cats_text.specs.declared.read_fault.ReadFault.{ReadFault}
 use Rattle.cats_text.specs.declared.read_fault.Kind.{Kind}
@@ -36,15 +24,14 @@ use Rattle.cats_text.proofs.Texts.MachineAnswers.{ends_at_first_fault, ends_in_b
 use Rattle.cats_text.proofs.Scanning.Pieces.{settled-append, waits-append}
 use Rattle.std.proofs.lemmas.List.{take_all}
 use Rattle.cats_text.proofs.Scanning.Appends.{meets_behind, scan-line, settled-length}
+use Rattle.std.proofs.lemmas.Grind.{common_steps}
 
 -- ---- the bytes that are judged
 
 take-behind : (n : ℕ) (xs ys : List ℕ) → length xs ≤ n → take n (xs ++ ys) ≡ xs ++ take (n - length xs) ys
 take-behind n [] ys h = let whole : n - 0 ≡ n = omega arith in rw whole refl
 take-behind zero (x ∷ xs) ys h = absurd (omega arith)
-take-behind (suc n) (x ∷ xs) ys h =
-    let less : suc n - suc (length xs) ≡ n - length xs = omega arith in
-    ap (λ l. x ∷ l) (take-behind n xs ys (omega arith) ∙ ap (λ k. xs ++ take k ys) (sym less))
+take-behind (suc n) (x ∷ xs) ys h = grind (arith, common_steps, (take-behind n xs ys))
 
 take-min : (n : ℕ) (xs : List ℕ) → take (min (length xs) n) xs ≡ take n xs
 take-min zero [] = refl
@@ -55,16 +42,13 @@ take-min (suc n) (x ∷ xs) = let more : min (suc (length xs)) (suc n) ≡ suc (
 -- the scanner is given what is left of the limit
 pub judged_bytes : (limit count : ℕ) (bytes piece : List ℕ) → count ≡ length bytes → count ≤ limit
     → bytes ++ take (min (length piece) (limit - count)) piece ≡ take limit (bytes ++ piece)
-judged_bytes limit count bytes piece c within =
-    ap (λ l. bytes ++ l) (take-min (limit - count) piece ∙ ap (λ n. take (limit - n) piece) c) ∙ sym (take-behind limit bytes piece (omega arith))
+judged_bytes limit count bytes piece c within = grind (arith, common_steps, take-behind, take-min)
 
 -- ---- the machine on them
 
 scan_on : (k : PlainBid → PlainBid) (bytes taken : List ℕ) (s : State) (waiting : Bool) → scan (first_state k) (settled bytes) ≡ Ok s → waiting ≡ waits bytes
     → scan (first_state k) (settled (bytes ++ taken)) ≡ scan s (settled (carried waiting taken))
-scan_on k bytes taken s waiting runs w =
-    ap (scan (first_state k)) (settled-append bytes taken) ∙ scan-append (first_state k) (settled bytes) (settled (carried (waits bytes) taken))
-    ∙ ap (λ r. and_then r (λ t. scan t (settled (carried (waits bytes) taken)))) runs ∙ ap (λ v. scan s (settled (carried v taken))) (sym w)
+scan_on k bytes taken s waiting runs w = grind (arith, common_steps, scan-append, settled-append)
 
 -- no fault in bytes within the limit
 pub fed-within : (limit : ℕ) (bytes : List ℕ) → length bytes ≤ limit → fed_fault limit bytes ≡ complete_fault bytes
@@ -76,10 +60,7 @@ fed-beyond limit bytes h = rw (lt-leb (length bytes) limit h) refl
 
 -- a fault that is complete in what is judged
 pub fed-judged : (limit : ℕ) (bytes : List ℕ) (e : ReadFault) → complete_fault (take limit bytes) ≡ Some e → fed_fault limit bytes ≡ Some e
-fed-judged limit bytes e h = elim (leb_tells (length bytes) limit) [
-  | inl within ↦ fed-within limit bytes within.1 ∙ ap complete_fault (sym (take_all limit bytes within.1)) ∙ h
-  | inr beyond ↦ fed-beyond limit bytes beyond.1 ∙ ap (λ f. option_or f (Some (fault_at 0 TooLong))) h
-]
+fed-judged limit bytes e h = grind (arith, common_steps, fed-beyond, fed-within, leb_tells, take_all)
 
 -- none, and there are too many
 pub fed-too_long : (limit : ℕ) (bytes : List ℕ) → limit < length bytes → complete_fault (take limit bytes) ≡ None
@@ -89,12 +70,7 @@ fed-too_long limit bytes beyond h = fed-beyond limit bytes beyond ∙ ap (λ f. 
 pub nothing_taken : {K : Type 0} (k : PlainBid → PlainBid) (limit : ℕ) (scanner : Scanner K) (bytes : List ℕ) → state k scanner ≡ first_state k
     → scanner.waiting ≡ false → bytes ≡ []
     → HasTaken k limit 0 scanner bytes
-nothing_taken k limit scanner bytes first waiting none = record {
-  count = rw none refl;
-  within = omega arith;
-  runs = rw none (ap (λ s. Ok s) (sym first));
-  waiting = rw none waiting;
-}
+nothing_taken k limit scanner bytes first waiting none = grind (arith, common_steps)
 
 -- ---- the answers
 
@@ -110,12 +86,7 @@ pub took : {K : Type 0} (k : PlainBid → PlainBid) (limit before count : ℕ) (
     → scan (state k old) (settled (carried old.waiting judged)) ≡ Ok (state k new)
     → new.waiting ≡ waits (carried old.waiting judged) → count ≡ before + length judged → count ≤ limit
     → HasTaken k limit count new (bytes ++ judged)
-took k limit before count old new bytes judged kept steps waiting sum within = record {
-  count = rw (length-append bytes judged, ← kept.count) sum;
-  within = within;
-  runs = scan_on k bytes judged (state k old) old.waiting kept.runs kept.waiting ∙ steps;
-  waiting = waiting ∙ ap (λ w. waits (carried w judged)) kept.waiting ∙ sym (waits-append bytes judged);
-}
+took k limit before count old new bytes judged kept steps waiting sum within = grind (arith, common_steps, length-append, scan_on, waits-append)
 
 -- the number of the line stays small
 pub few_lines : {K : Type 0} (k : PlainBid → PlainBid) (limit taken : ℕ) (scanner : Scanner K) (bytes : List ℕ) → HasTaken k limit taken scanner bytes
@@ -190,8 +161,7 @@ ended_parts bids k limit taken scanner bytes (Ok parts) kept are = at_end (end_o
     at_end (Ok t) e same = rw (same.0, same.1) (ends_at_parts k bytes (state k scanner) t kept.runs (ap (λ w. end_of w (state k scanner)) (sym kept.waiting)
         ∙ e))
     at_end (Err fault) e same = absurd same
-ended_parts bids k limit taken scanner bytes (Err e) kept (inl ends) =
-    inl (ends_at_first_fault k bytes (state k scanner) e kept.runs (ap (λ w. end_of w (state k scanner)) (sym kept.waiting) ∙ ends))
+ended_parts bids k limit taken scanner bytes (Err e) kept (inl ends) = grind (arith, common_steps, ends_at_first_fault)
 ended_parts bids k limit taken scanner bytes (Err e) kept (inr lacks) =
     let memory : IsInBidLine (state k scanner) ⊎ HasBids (end_of (waits bytes) (state k scanner)) = rw (← kept.waiting) lacks.1 in
     inr (lacks.0, ends_in_bid_line k bytes (state k scanner) kept.runs memory)
@@ -199,11 +169,5 @@ ended_parts bids k limit taken scanner bytes (Err e) kept (inr lacks) =
 -- a whole text that was fed at once
 pub whole_reported : (text bytes : List ℕ) (limit : ℕ) (e : ReadFault) → limit ≡ length text → bytes ≡ text
     → (fed_fault limit bytes ≡ Some e) ⊎ WantsMemory (take limit bytes) e → (first_fault text ≡ Some e) ⊎ WantsMemory text e
-whole_reported text bytes limit e most same (inl fault) =
-    let within : length text ≤ limit = omega arith in
-    let reported : fed_fault limit text ≡ Some e = rw (← same) fault in
-    inl (complete_fault_is_first text e (sym (fed-within limit text within) ∙ reported))
-whole_reported text bytes limit e most same (inr want) =
-    let within : length bytes ≤ limit = rw same (omega arith) in
-    let all : take limit bytes ≡ text = take_all limit bytes within ∙ same in
-    inr (rw (← all) want)
+whole_reported text bytes limit e most same (inl fault) = grind (arith, common_steps, complete_fault_is_first, fed-within)
+whole_reported text bytes limit e most same (inr want) = grind (arith, common_steps, take_all)

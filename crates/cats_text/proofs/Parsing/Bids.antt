@@ -1,9 +1,9 @@
 -- The words of a bid line: the parser and the definitions agree.
-use Rattle.std.proofs.Common.{◌≡◌, ℕ, ◌+◌, ◌-◌, ◌*◌, ◌^◌, ◌<◌, ◌≤◌, min, Bool, true, false, not, ◌&&◌, ◌||◌, cond, eqb, ltb, leb, ⊎_elim, List, [], ◌∷◌, ◌++◌}
-use Rattle.std.proofs.Common.{length, refl, sym, ap, ap₂, ◌∙◌, subst, arith, Option, None, Ok, Err}
+use Rattle.std.proofs.Common.{◌≡◌, ℕ, ◌-◌, ◌<◌, ◌≤◌, Bool, true, false, not, ◌&&◌, ◌||◌, cond, eqb, ltb, leb, List, [], ◌∷◌}
+use Rattle.std.proofs.Common.{length, refl, ap, ◌∙◌, arith, Option, None, Err}
 use Rattle.std.proofs.lemmas.Bool.{ltb-false, lt-ltb, leb-true, leb-false, eq-eqb, ne_eqb, both_ways, or_left, and_parts}
 use Rattle.std.specs.List.{list_any, slice_get}
-use Rattle.cats_text.specs.Numbers.{is_number, number_of, is_too_large, is_too_fine, price_of, whole_part, places, has_place_from, six_places, is_digit}
+use Rattle.cats_text.specs.Numbers.{number_of, is_too_large, is_too_fine, price_of, whole_part, places, has_place_from, six_places}
 use Rattle.cats_text.specs.Numbers.{digits_alone, GREATEST_PRICE}
 use Rattle.cats_text.specs.Grammar.{line_number}
 use Rattle.cats_text.specs.Faults.{header_value, word_fault, when}
@@ -16,7 +16,6 @@ use Rattle.cats_text.specs.declared.read_fault.Kind.TheVariants as kinds
 use Rattle.cats_text.specs.declared.word.Word.{Word}
 use Rattle.cats_text.specs.declared.price.Decimal.{Decimal}
 use Rattle.cats_text.specs.declared.word.Word.TheVariants.{Keyword, Number, Decimal as Fraction, End, Other}
-use Rattle.cats_text.specs.declared.word.TheConstants.{HELD}
 use Rattle.cats_text.specs.declared.parser.Header.{Header}
 use Rattle.cats_text.specs.declared.parser.Column.TheVariants.{Later}
 use Rattle.bid_file.specs.declared.limits.TheConstants.{MAX_BIDS}
@@ -26,15 +25,13 @@ use Rattle.cats_text.proofs.Words.Tests.{IsTested}
 use Rattle.cats_text.proofs.Parsing.States.{IsAt, WordFollows}
 use Rattle.cats_text.proofs.Parsing.Headers.{holds_le, holds_same}
 use Rattle.cats_text.proofs.Parsing.NumbersTaken.{taken}
+use Rattle.std.proofs.lemmas.Grind.{common_steps}
 
 -- one test of the definitions against one of the parser
 pub follow_test : (lines : List (List (List ℕ))) (before : List (List ℕ)) (w : List ℕ) (b c : Bool) (kind : Kind) (r : Reading) (rest : Option Kind)
     → word_fault lines before w ≡ when c kind rest → b ≡ c → (b ≡ false → word_fault lines before w ≡ rest → WordFollows lines before w r)
     → WordFollows lines before w (cond b (Err kind) r)
-follow_test lines before w b c kind r rest fault same next = elim b as (λ x. b ≡ x → WordFollows lines before w (cond x (Err kind) r)) [
-  | true ↦ λ (e : b ≡ true). fault ∙ ap (λ x. when x kind rest) (sym same ∙ e)
-  | false ↦ λ (e : b ≡ false). next e (fault ∙ ap (λ x. when x kind rest) (sym same ∙ e))
-] refl
+follow_test lines before w b c kind r rest fault same next = grind (arith, common_steps)
 
 -- a fault that the definitions name too
 pub fault_named : (lines : List (List (List ℕ))) (before : List (List ℕ)) (w : List ℕ) (c : Bool) (kind : Kind) (rest : Option Kind)
@@ -49,10 +46,7 @@ passes lines before w c kind rest fault e = fault ∙ ap (λ x. when x kind rest
 -- ---- the number
 
 none_due : (bids count : ℕ) → eqb (bids - count) 0 ≡ leb bids count
-none_due bids count = elim (leb bids count) as (λ b. leb bids count ≡ b → eqb (bids - count) 0 ≡ b) [
-  | true ↦ λ (h : leb bids count ≡ true). let l : bids ≤ count = leb-true bids count h in eq-eqb (bids - count) 0 (omega arith)
-  | false ↦ λ (h : leb bids count ≡ false). let l : count < bids = leb-false bids count h in ne_eqb (bids - count) 0 (λ e. absurd (omega arith))
-] refl
+none_due bids count = grind (arith, common_steps, eq-eqb, leb-false, leb-true, ne_eqb)
 
 number_follows : (g b d : List (List ℕ)) (lines : List (List (List ℕ))) (w : List ℕ) (v : ℕ) (p : Progress) → Summarises w (Number v)
     → IsAt (g ∷ b ∷ d ∷ lines) [] p
@@ -100,17 +94,10 @@ bid_first g b d lines w Other p tested t at = fault_named (g ∷ b ∷ d ∷ lin
 
 large_same : (v n : ℕ) (x y : Bool) → Holds v n → x ≡ y → (ltb GREATEST_PRICE v || (eqb v GREATEST_PRICE && x))
     ≡ (ltb GREATEST_PRICE n || (eqb n GREATEST_PRICE && y))
-large_same v n x y h e = ⊎_elim (λ (same : v ≡ n). ap₂ (λ (k : ℕ) (z : Bool). ltb GREATEST_PRICE k || (eqb k GREATEST_PRICE && z)) same e)
-    (λ (above : (HELD ≤ v) × (HELD ≤ n)). let a : HELD ≤ v = above.0 in let b : HELD ≤ n = above.1 in
-    or_left (ltb GREATEST_PRICE v) (eqb v GREATEST_PRICE && x) (lt-ltb GREATEST_PRICE v (omega arith))
-    ∙ sym (or_left (ltb GREATEST_PRICE n) (eqb n GREATEST_PRICE && y) (lt-ltb GREATEST_PRICE n (omega arith)))) h
+large_same v n x y h e = grind (arith, common_steps, lt-ltb, or_left)
 
 not_large : (v : ℕ) (x : Bool) → (ltb GREATEST_PRICE v || (eqb v GREATEST_PRICE && x)) ≡ false → v ≤ GREATEST_PRICE
-not_large v x h = ltb-false GREATEST_PRICE v (left (ltb GREATEST_PRICE v) (eqb v GREATEST_PRICE && x) h)
-  where
-    left : (a b : Bool) → (a || b) ≡ false → a ≡ false
-    left true b e = e
-    left false b e = refl
+not_large v x h = grind (arith, common_steps, ltb-false)
 
 -- the whole part, the millionths and what is finer, as the parser holds them, of a price word
 pub record IsPriced (w : List ℕ) (v m : ℕ) (fine : Bool) : Type 0 where
@@ -124,73 +111,23 @@ price_follows : (lines : List (List (List ℕ))) (n w : List ℕ) (p : Progress)
     → word_fault lines (n ∷ []) w ≡ when (is_too_large w) kinds.TooLarge (when (is_too_fine w) kinds.TooFine None)
     → ((x : ℕ) → x ≡ price_of w → IsAt lines (n ∷ w ∷ []) (record p { column = Later; draft = record p.draft { price = x } }))
     → WordFollows lines (n ∷ []) w (with_price p (price_parts v m fine))
-price_follows lines n w p v m fine i fault next =
-    let large : (ltb GREATEST_PRICE v || (eqb v GREATEST_PRICE && (fine || ltb 0 m))) ≡ is_too_large w =
-    large_same v (number_of (whole_part w)) (fine || ltb 0 m) (has_place_from 0 (places w)) i.whole i.more in
-    elim (ltb GREATEST_PRICE v || (eqb v GREATEST_PRICE && (fine || ltb 0 m))) as (λ b. (ltb GREATEST_PRICE v || (eqb v GREATEST_PRICE && (fine || ltb 0 m)))
-    ≡ b
-    → WordFollows lines (n ∷ []) w (with_price p (cond b (Err kinds.TooLarge) (cond fine (Err kinds.TooFine) (Ok (min (v * 1000000 + m) (2 ^ 64 - 1))))))) [
-      | true ↦ λ (e : (ltb GREATEST_PRICE v || (eqb v GREATEST_PRICE && (fine || ltb 0 m))) ≡ true). fault_named lines (n ∷ []) w _ _ _ fault (sym large ∙ e)
-      | false ↦ λ (e : (ltb GREATEST_PRICE v || (eqb v GREATEST_PRICE && (fine || ltb 0 m))) ≡ false).
-          let later : word_fault lines (n ∷ []) w ≡ when (is_too_fine w) kinds.TooFine None = passes lines (n ∷ []) w _ _ _ fault (sym large ∙ e) in
-          elim fine as (λ b. fine ≡ b → WordFollows lines (n ∷ []) w (with_price p (cond b (Err kinds.TooFine) (Ok (min (v * 1000000 + m) (2 ^ 64 - 1)))))) [
-            | true ↦ λ (f : fine ≡ true). fault_named lines (n ∷ []) w _ _ _ later (sym i.finer ∙ f)
-            | false ↦ λ (f : fine ≡ false).
-                let l : v ≤ GREATEST_PRICE = not_large v (fine || ltb 0 m) e in
-                let same : v ≡ number_of (whole_part w) = holds_same v (number_of (whole_part w)) (omega arith) i.whole in
-                let below : m ≤ 1000000 = i.below in
-                let millionths : m ≡ number_of (six_places (places w)) = i.millionths in
-                (passes lines (n ∷ []) w _ _ _ later (sym i.finer ∙ f), next (min (v * 1000000 + m) (2 ^ 64 - 1)) (omega arith))
-          ] refl
-    ] refl
+price_follows lines n w p v m fine i fault next = grind (arith, common_steps, fault_named, holds_same, large_same, not_large, passes)
 
 places-digits : (w : List ℕ) → digits_alone w ≡ true → places w ≡ []
 places-digits [] h = refl
-places-digits (a ∷ w) h = let q = and_parts (is_digit a) (digits_alone w) h in
-    let no : eqb a 46 ≡ false = ne_eqb a 46 (λ e. let low : 48 ≤ a = (digit_bounds a q.0).0 in absurd (omega arith)) in rw no (places-digits w q.1)
+places-digits (a ∷ w) h = grind (arith, common_steps, and_parts, digit_bounds, ne_eqb, (places-digits w))
 
 priced_number : (w : List ℕ) (v : ℕ) → Summarises w (Number v) → IsPriced w v 0 false
 priced_number [] v t = absurd (both_ways false refl t.0)
-priced_number (a ∷ w) v t =
-    let none : places (a ∷ w) ≡ [] = places-digits (a ∷ w) t.0 in record {
-      whole = subst (Holds v) (ap number_of (sym (whole-digits (a ∷ w) t.0))) t.1;
-      more = sym (ap (has_place_from 0) none);
-      finer = sym (ap (has_place_from 6) none);
-      millionths = sym (ap (λ ds. number_of (six_places ds)) none);
-      below = omega arith;
-    }
+priced_number (a ∷ w) v t = grind (arith, common_steps, places-digits, whole-digits)
 
 priced_fraction : (w : List ℕ) (d : Decimal) → Summarises w (Fraction d) → IsPriced w d.whole d.millionths d.fine
-priced_fraction w d f = at f.whole f.is f.number f.value
-  where
-    at : (whole : List ℕ) → w ≡ whole ++ 46 ∷ f.behind → is_number whole ≡ true → Holds d.whole (number_of whole) → IsPriced w d.whole d.millionths d.fine
-    at [] e n h = absurd (both_ways false refl n)
-    at (c ∷ cs) e n h =
-        let whole_is : whole_part w ≡ c ∷ cs = ap whole_part e ∙ whole-point (c ∷ cs) f.behind n in
-        let places_is : places w ≡ f.behind = ap places e ∙ places-point (c ∷ cs) f.behind n in
-        let below : places_from 0 f.behind ≤ 1000000 = places_below_one f.behind f.digits in
-        let m : d.millionths ≡ places_from 0 f.behind = f.millionths in record {
-          whole = subst (Holds d.whole) (ap number_of (sym whole_is)) h;
-          more = ap₂ (λ (x : Bool) (k : ℕ). x || ltb 0 k) f.fine m ∙ sym (place_not_zero f.behind f.digits) ∙ sym (ap (has_place_from 0) places_is);
-          finer = f.fine ∙ sym (ap (has_place_from 6) places_is);
-          millionths = m ∙ sym (places-six f.behind) ∙ sym (ap (λ ds. number_of (six_places ds)) places_is);
-          below = omega arith;
-        }
+priced_fraction w d f = grind (arith, common_steps, both_ways, place_not_zero, places-point, places-six, places_below_one, places_from, whole-point)
 
 -- nothing but the price has come
 behind_price : (g b d : List (List ℕ)) (lines : List (List (List ℕ))) (n w : List ℕ) (p : Progress) → IsAt (g ∷ b ∷ d ∷ lines) (n ∷ []) p
     → (x : ℕ) → x ≡ price_of w → IsAt (g ∷ b ∷ d ∷ lines) (n ∷ w ∷ []) (record p { column = Later; draft = record p.draft { price = x } })
-behind_price g b d lines n w p at x e = record {
-  stage = at.stage;
-  column = refl;
-  header = at.header;
-  due = at.due;
-  slots = at.slots;
-  draft = record { number = at.draft.0; price = e; dummy = at.draft.1; goods = at.draft.2; one = λ v _ h. absurd (both_ways false refl h) };
-  goods = at.goods;
-  bids = at.bids;
-  dummy = at.dummy;
-}
+behind_price g b d lines n w p at x e = grind (arith, common_steps, both_ways)
 
 pub bid_second : (g b d : List (List ℕ)) (lines : List (List (List ℕ))) (n w : List ℕ) (s : Word) (p : Progress) → IsTested w s → Summarises w s
     → IsAt (g ∷ b ∷ d ∷ lines) (n ∷ []) p

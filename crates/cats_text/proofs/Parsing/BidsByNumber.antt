@@ -1,10 +1,10 @@
 -- The places of the bids by number. The idea: the bids stay in the order in which they came, and a place is a number in
 -- that order, which one more bid behind the others does not change.
-use Rattle.std.proofs.Common.{◌≡◌, ℕ, zero, suc, ◌+◌, ◌-◌, ◌<◌, ◌≤◌, List, [], ◌∷◌, ◌++◌, length, replicate, set, take, get_or, subst, option_map, add-one}
+use Rattle.std.proofs.Common.{◌≡◌, ℕ, zero, suc, ◌+◌, ◌-◌, ◌<◌, ◌≤◌, List, [], ◌∷◌, ◌++◌, length, replicate, set, take, get_or, subst, add-one}
 use Rattle.std.proofs.Common.{Option, Some, None, Result, Ok, Err, OnOk}
 use Rattle.std.proofs.Common.{true, false, nat_lt, inl, inr, ◌⊎◌, map, append-nil, refl, sym, ap, ap₂, ◌∙◌, arith, append_assoc, length-append}
 use Rattle.std.proofs.lemmas.List.{length-replicate, replicate-append-replicate, map-set, map-append, length-map, take_more, take_all}
-use Rattle.std.proofs.lemmas.Option.{slice_get-map, slice_get_past, slice_get-get_or, slice_get_cases}
+use Rattle.std.proofs.lemmas.Option.{slice_get_past, slice_get-get_or, slice_get_cases}
 use Rattle.std.proofs.lemmas.List.Elements.{filter_map-append}
 use Rattle.std.proofs.lemmas.Bool.{lt-ltb, le-ltb}
 use Rattle.std.specs.List.{slice_get}
@@ -12,6 +12,7 @@ use Rattle.std.specs.Option.{option_to_list}
 use Rattle.bid_file.specs.Files.{PlainBid}
 use Rattle.cats_text.specs.Internal.Kept.{is_some_bid, number_alone, slot_at, placed, AreWithin, IsPadded, slot_list}
 use Rattle.cats_text.specs.FileLines.{put_slot, filled}
+use Rattle.std.proofs.lemmas.Grind.{common_steps}
 
 some_same : (x y : ℕ) → Some x ≡ Some y → x ≡ y
 some_same x y e = cc
@@ -33,14 +34,8 @@ by_count : (came : List PlainBid) (n count : ℕ) → count ≡ length came
     → ((x : Option PlainBid) × (n < length (all_of came)) × (slice_get (all_of came) n ≡ Some x) × (get_or (all_of came) n x ≡ x))
     ⊎ ((length (all_of came) ≤ n) × (slice_get (all_of came) n ≡ None))
     → nat_lt n count ≡ is_some_bid (slice_get (all_of came) n)
-by_count came n count e (inl h) =
-    let long : length (all_of came) ≡ length came = length-map came (λ b. Some b) in
-    let l : n < length (all_of came) = h.1 in
-    lt-ltb n count (omega arith) ∙ sym (has_first came n (omega arith))
-by_count came n count e (inr h) =
-    let long : length (all_of came) ≡ length came = length-map came (λ b. Some b) in
-    let l : length (all_of came) ≤ n = h.0 in
-    le-ltb n count (omega arith) ∙ sym (has_no_more came n (omega arith))
+by_count came n count e (inl h) = grind (arith, common_steps, has_first, length-map, lt-ltb)
+by_count came n count e (inr h) = grind (arith, common_steps, has_no_more, le-ltb, length-map)
 
 pub has_in_order : (came : List PlainBid) (places : List ℕ) (n count : ℕ) → length places ≡ 0 → count ≡ length came
     → nat_lt n count ≡ is_some_bid (slice_get (slot_list came places) n)
@@ -79,35 +74,10 @@ listed_set came [] n k l = absurd (let no : n < 0 = l in omega arith)
 listed_set came (p ∷ places) zero k l = refl
 listed_set came (p ∷ places) (suc n) k l = refl
 
-has_here : (came : List PlainBid) (i : ℕ) → i < length came → is_some_bid (Some (slice_get came i)) ≡ true
-has_here [] i l = absurd (let no : i < 0 = l in omega arith)
-has_here (b ∷ came) zero l = refl
-has_here (b ∷ came) (suc i) l = has_here came i (omega arith)
-
-has_place : (came : List PlainBid) (p : ℕ) → p ≤ length came → 0 < p → is_some_bid (Some (slot_at came p)) ≡ true
-has_place came zero l some = absurd (let no : 0 < 0 = some in omega arith)
-has_place came (suc i) l some = has_here came i (omega arith)
-
 pub within_at : (n : ℕ) (places : List ℕ) (i p : ℕ) → AreWithin n places → slice_get places i ≡ Some p → p ≤ n
 within_at n [] i p all e = cc
 within_at n (q ∷ places) zero p all e = subst (λ (k : ℕ). k ≤ n) (some_same q p e) all.0
 within_at n (q ∷ places) (suc i) p all e = within_at n places i p all.1 e
-
--- whether a bid is at a place
-pub has_some : (came : List PlainBid) (places : List ℕ) (n p : ℕ) → AreWithin (length came) places → slice_get places n ≡ Some p → 0 < p
-    → is_some_bid (slice_get (placed came places) n) ≡ true
-has_some came places n p all e some =
-    ap is_some_bid (slice_get-map (slot_at came) places n) ∙ ap (λ (o : Option ℕ). is_some_bid (option_map (slot_at came) o)) e
-    ∙ has_place came p (within_at (length came) places n p all e) some
-
-pub has_none : (came : List PlainBid) (places : List ℕ) (n p : ℕ) → slice_get places n ≡ Some p → p ≡ 0 → is_some_bid (slice_get (placed came places) n) ≡ false
-has_none came places n p e none =
-    ap is_some_bid (slice_get-map (slot_at came) places n) ∙ ap (λ (o : Option ℕ). is_some_bid (option_map (slot_at came) o)) e
-    ∙ ap (λ (k : ℕ). is_some_bid (Some (slot_at came k))) none
-
-pub has_past : (came : List PlainBid) (places : List ℕ) (n : ℕ) → slice_get places n ≡ None → is_some_bid (slice_get (placed came places) n) ≡ false
-has_past came places n e =
-    ap is_some_bid (slice_get-map (slot_at came) places n) ∙ ap (λ (o : Option ℕ). is_some_bid (option_map (slot_at came) o)) e
 
 -- ---- one more bid behind the others
 
@@ -119,8 +89,7 @@ slot_stays (c ∷ came) b (suc (suc i)) l = slot_stays came b (suc i) (omega ari
 
 placed_stay : (came : List PlainBid) (b : PlainBid) (places : List ℕ) → AreWithin (length came) places → placed (came ++ b ∷ []) places ≡ placed came places
 placed_stay came b [] all = refl
-placed_stay came b (p ∷ places) all =
-    ap₂ (λ (x : Option PlainBid) (xs : List (Option PlainBid)). x ∷ xs) (slot_stays came b p all.0) (placed_stay came b places all.1)
+placed_stay came b (p ∷ places) all = grind (arith, common_steps, slot_stays, (placed_stay came b places all.1))
 
 slot_last : (came : List PlainBid) (b : PlainBid) → slot_at (came ++ b ∷ []) (suc (length came)) ≡ Some b
 slot_last [] b = refl
@@ -168,10 +137,6 @@ abbrev pub numbered : ℕ → List ℕ
 numbered zero = []
 numbered (suc k) = numbered k ++ suc k ∷ []
 
-length-numbered : (k : ℕ) → length (numbered k) ≡ k
-length-numbered zero = refl
-length-numbered (suc k) = length-append (numbered k) (suc k ∷ []) ∙ ap (λ n. n + 1) (length-numbered k) ∙ add-one k
-
 pub within_push : (n : ℕ) (places : List ℕ) (p : ℕ) → AreWithin n places → p ≤ n → AreWithin n (places ++ p ∷ [])
 within_push n [] p all l = (l, tt)
 within_push n (q ∷ places) p all l = (all.0, within_push n places p all.1 l)
@@ -195,9 +160,7 @@ none_numbered (p ∷ places) none = absurd (let no : suc (length places) ≡ 0 =
 
 pub next_numbered : (places next : List ℕ) (p : ℕ) → places ≡ numbered (length places) → p ≡ length places + 1 → next ≡ places ++ p ∷ []
     → next ≡ numbered (length next)
-next_numbered places next p e at is =
-    let long : length next ≡ suc (length places) = ap length is ∙ length-append places (p ∷ []) ∙ add-one (length places) in
-    is ∙ ap₂ (λ (ps : List ℕ) (k : ℕ). ps ++ k ∷ []) e (at ∙ add-one (length places)) ∙ ap numbered (sym long)
+next_numbered places next p e at is = grind (arith, common_steps, length-append)
 
 pub all_listed : (came : List PlainBid) (before places : List ℕ) (count : ℕ) → length before ≡ 0 → length came ≡ count → places ≡ numbered (length places)
     → length places ≡ count → placed came places ≡ slot_list came before
@@ -225,13 +188,7 @@ filled_all came (p ∷ places) none = absurd (let no : suc (length places) ≡ 0
 
 filled_more : (came : List PlainBid) (places : List ℕ) (p : ℕ)
     → filled (placed came (places ++ p ∷ [])) ≡ filled (placed came places) ++ option_to_list (slot_at came p)
-filled_more came places p =
-    ap filled (map-append (slot_at came) places (p ∷ [])) ∙ filter_map-append (λ s. s) (placed came places) (slot_at came p ∷ [])
-    ∙ ap (λ bs. filled (placed came places) ++ bs) (one (slot_at came p))
-  where
-    one : (s : Option PlainBid) → filled (s ∷ []) ≡ option_to_list s
-    one None = refl
-    one (Some b) = refl
+filled_more came places p = grind (arith, common_steps, filter_map-append, map-append)
 
 -- no bid is at a place that is 0
 pub kept_none : (came kept : List PlainBid) (places : List ℕ) (p : ℕ) → kept ≡ filled (placed came places) → p ≡ 0
@@ -259,8 +216,5 @@ on_ok (Err e) P Q f h = tt
 -- each of many that are the same
 pub same_bid : (count i : ℕ) (x bid : PlainBid) → slice_get (replicate count x) i ≡ Some bid → bid ≡ x
 same_bid zero i x bid e = cc
-same_bid (suc count) zero x bid e = sym (same_some x bid e)
-  where
-    same_some : (a b : PlainBid) → Some a ≡ Some b → a ≡ b
-    same_some a b q = cc
+same_bid (suc count) zero x bid e = grind (arith, common_steps)
 same_bid (suc count) (suc i) x bid e = same_bid count i x bid e

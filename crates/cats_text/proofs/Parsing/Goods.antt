@@ -1,5 +1,5 @@
 -- The goods of a bid line and its `#`: the parser and the definitions agree.
-use Rattle.std.proofs.Common.{◌≡◌, ◌≢◌, ℕ, ◌+◌, ◌-◌, ◌<◌, ◌≤◌, Bool, true, false, not, ◌&&◌, cond, eqb, ltb, leb, List, [], ◌∷◌, ◌++◌, length, refl, sym, ap}
+use Rattle.std.proofs.Common.{◌≡◌, ℕ, ◌+◌, ◌-◌, ◌<◌, ◌≤◌, Bool, true, false, not, ◌&&◌, cond, eqb, ltb, leb, List, [], ◌∷◌, ◌++◌, length, refl, sym, ap}
 use Rattle.std.proofs.Common.{ap₂, ◌∙◌, subst, arith, Option, Some, None, Ok, Err}
 use Rattle.std.proofs.lemmas.Bool.{ltb-true, ltb-false, le-leb, lt-leb, leb-true, leb-false, eqb-true, eqb-false, eq-eqb, ne_eqb}
 use Rattle.std.specs.List.{list_any, find}
@@ -24,6 +24,7 @@ use Rattle.cats_text.proofs.Parsing.Bids.{follow_test, fault_named, passes}
 use Rattle.cats_text.proofs.Parsing.GoodsSoFar.{values, before_end-all, before_end-ended, before_end-push, has_end-push, values-push, any_find, any_values}
 use Rattle.cats_text.proofs.Parsing.GoodsSoFar.{find_passes, has_filtered, none_real, no_dummy_has_not, other_dummy_has_not, one_more_real, first_dummy}
 use Rattle.cats_text.proofs.Parsing.GoodsSoFar.{real_goods-real, real_goods-dummy, dummy_in-real, dummy_in-dummy}
+use Rattle.std.proofs.lemmas.Grind.{common_steps}
 
 -- the tests of a good, in the order of the definitions
 abbrev tests_from_range : ℕ → ℕ → List (List ℕ) → List ℕ → Option Kind
@@ -131,10 +132,7 @@ real_follows g b d lines n x gs w v p o e same l fault =
 -- ---- a dummy good
 
 same_behind : (G e v : ℕ) → G ≤ e → G ≤ v → eqb (e - G) (v - G) ≡ eqb e v
-same_behind G e v le lv = elim (eqb e v) as (λ t. eqb e v ≡ t → eqb (e - G) (v - G) ≡ t) [
-  | true ↦ λ (q : eqb e v ≡ true). let same : e ≡ v = eqb-true e v q in eq-eqb (e - G) (v - G) (omega arith)
-  | false ↦ λ (q : eqb e v ≡ false). let ne : e ≢ v = eqb-false e v q in ne_eqb (e - G) (v - G) (λ z. ne (omega arith))
-] refl
+same_behind G e v le lv = grind (arith, common_steps, eq-eqb, eqb-false, eqb-true, ne_eqb)
 
 dummy_follows : (g b d : List (List ℕ)) (lines : List (List (List ℕ))) (n x : List ℕ) (gs : List (List ℕ)) (w : List ℕ) (p : Progress)
     → Continues g b d lines n x gs p → is_end w ≡ false
@@ -223,10 +221,7 @@ tests_here g b d lines n x gs w p o = ap (λ t. when t kinds.AfterEnd (tests_fro
 no_good : (g b d : List (List ℕ)) (lines : List (List (List ℕ))) (n x : List ℕ) (gs : List (List ℕ)) (w : List ℕ) (s : Word) (p : Progress)
     → Continues g b d lines n x gs p → IsTested w s
     → ends_by s ≡ false → is_number_by s ≡ false → WordFollows (g ∷ b ∷ d ∷ lines) (n ∷ x ∷ gs) w (Err kinds.NotANumber)
-no_good g b d lines n x gs w s p o tested e m = tests_here g b d lines n x gs w p o
-    ∙ ap (λ t. cond t (when (not (list_any (λ v. ltb (number_of v) p.header.goods) gs)) kinds.EmptyBundle None)
-    (tests_from_number p.header.goods p.header.dummy gs w)) (tested.ended ∙ e)
-    ∙ ap (λ t. when (not t) kinds.NotANumber (tests_from_range p.header.goods p.header.dummy gs w)) (tested.number ∙ m)
+no_good g b d lines n x gs w s p o tested e m = grind (arith, common_steps, tests_here)
 
 pub bid_later : (g b d : List (List ℕ)) (lines : List (List (List ℕ))) (n x : List ℕ) (gs : List (List ℕ)) (w : List ℕ) (s : Word) (p : Progress) → IsTested w s
     → Summarises w s → Continues g b d lines n x gs p
@@ -236,8 +231,7 @@ bid_later g b d lines n x gs w (Number v) p tested t o = good_follows g b d line
     ∙ ap (λ u. cond u (when (not (list_any (λ v. ltb (number_of v) p.header.goods) gs)) kinds.EmptyBundle None)
     (tests_from_number p.header.goods p.header.dummy gs w)) tested.ended
     ∙ ap (λ u. when (not u) kinds.NotANumber (tests_from_range p.header.goods p.header.dummy gs w)) tested.number)
-bid_later g b d lines n x gs w End p tested t o =
-    end_follows g b d lines n x gs w p o tested.ended (ap (λ u. when u kinds.AfterEnd (tests_from_end (header_value g) (header_value d) gs w)) o.on)
+bid_later g b d lines n x gs w End p tested t o = grind (arith, common_steps, end_follows)
 bid_later g b d lines n x gs w (Keyword j k) p tested t o = no_good g b d lines n x gs w (Keyword j k) p o tested refl refl
 bid_later g b d lines n x gs w (Fraction f) p tested t o = no_good g b d lines n x gs w (Fraction f) p o tested refl refl
 bid_later g b d lines n x gs w Other p tested t o = no_good g b d lines n x gs w Other p o tested refl refl

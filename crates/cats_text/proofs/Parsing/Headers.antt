@@ -1,5 +1,5 @@
 -- The words of the header lines: the parser and the definitions agree.
-use Rattle.std.proofs.Common.{lit<, ◌≡◌, ℕ, ◌<◌, ◌≤◌, true, false, not, cond, ltb, leb, ⊎_elim, List, [], ◌∷◌, ◌++◌, refl, sym, ap, ap₂, ◌∙◌, subst, arith}
+use Rattle.std.proofs.Common.{◌≡◌, ℕ, ◌<◌, ◌≤◌, true, false, not, cond, ltb, leb, ⊎_elim, List, [], ◌∷◌, ◌++◌, refl, sym, ap, ap₂, ◌∙◌, subst, arith}
 use Rattle.std.proofs.Common.{Option, None, Ok, Err}
 use Rattle.std.proofs.lemmas.Bool.{ltb-false, lt-ltb, le-leb, both_ways}
 use Rattle.cats_text.specs.Numbers.{is_number, number_of}
@@ -14,7 +14,6 @@ use Rattle.cats_text.specs.declared.word.Keyword.TheVariants as keywords
 use Rattle.cats_text.specs.declared.word.Word.{Word}
 use Rattle.cats_text.specs.declared.word.Word.TheVariants.{Keyword, Number, Decimal as Fraction, End, Other}
 use Rattle.cats_text.specs.declared.word.TheConstants.{HELD}
-use Rattle.cats_text.specs.declared.parser.Header.{Header}
 use Rattle.cats_text.specs.declared.parser.Stage.{Stage}
 use Rattle.cats_text.specs.declared.parser.Stage.TheVariants.{Goods, Bids, Dummy, Bid}
 use Rattle.cats_text.specs.declared.parser.Column.{Column}
@@ -23,6 +22,7 @@ use Rattle.bid_file.specs.declared.limits.TheConstants.{MAX_GOODS, MAX_BIDS, MAX
 use Rattle.cats_text.proofs.Words.Kept.{Summarises, Holds}
 use Rattle.cats_text.proofs.Words.Tests.{IsTested, is_number_by, is_keyword_by}
 use Rattle.cats_text.proofs.Parsing.States.{IsAt, WordFollows}
+use Rattle.std.proofs.lemmas.Grind.{common_steps}
 
 -- ---- a word by its column, the column and the line given
 
@@ -42,12 +42,10 @@ read_at column stage p w = elim column [
 -- ---- numbers that are held
 
 pub holds_lt : (m v n : ℕ) → m < HELD → Holds v n → ltb m v ≡ ltb m n
-holds_lt m v n small h = ⊎_elim (λ (e : v ≡ n). ap (λ k. ltb m k) e) (λ (above : (HELD ≤ v) × (HELD ≤ n)).
-    let a : HELD ≤ v = above.0 in let b : HELD ≤ n = above.1 in lt-ltb m v (omega arith) ∙ sym (lt-ltb m n (omega arith))) h
+holds_lt m v n small h = grind (arith, common_steps, lt-ltb)
 
 pub holds_le : (m v n : ℕ) → m ≤ HELD → Holds v n → leb m v ≡ leb m n
-holds_le m v n small h = ⊎_elim (λ (e : v ≡ n). ap (λ k. leb m k) e) (λ (above : (HELD ≤ v) × (HELD ≤ n)).
-    let a : HELD ≤ v = above.0 in let b : HELD ≤ n = above.1 in le-leb m v (omega arith) ∙ sym (le-leb m n (omega arith))) h
+holds_le m v n small h = grind (arith, common_steps, le-leb)
 
 pub holds_same : (v n : ℕ) → v < HELD → Holds v n → v ≡ n
 holds_same v n small h = ⊎_elim (λ (e : v ≡ n). e) (λ (above : (HELD ≤ v) × (HELD ≤ n)). let a : HELD ≤ v = above.0 in absurd (omega arith)) h
@@ -71,16 +69,7 @@ keyword_bad p k Other h = refl
 first_word : (lines : List (List (List ℕ))) (k : Key) (limit : ℕ) (p : Progress) (s : Word) (w : List ℕ) → IsTested w s
     → word_read p s ≡ keyword_read p k s → word_fault lines [] w ≡ header_word (keyword_text k) limit [] w
     → IsAt lines (w ∷ []) (record p { column = Second }) → WordFollows lines [] w (word_read p s)
-first_word lines k limit p s w t read fault next = subst (WordFollows lines [] w) (sym read)
-    (elim (is_keyword_by k s) as (λ b. is_keyword_by k s ≡ b → WordFollows lines [] w (keyword_read p k s)) [
-      | true ↦ λ (h : is_keyword_by k s ≡ true). subst (WordFollows lines [] w) (sym (keyword_good p k s h)) (
-        fault
-            ∙ ap (λ b. when (not b) kinds.Header None) (t.keyword k ∙ h),
-        next,
-      )
-      | false ↦ λ (h : is_keyword_by k s ≡ false). subst (WordFollows lines [] w) (sym (keyword_bad p k s h)) (fault
-          ∙ ap (λ b. when (not b) kinds.Header None) (t.keyword k ∙ h))
-    ] refl)
+first_word lines k limit p s w t read fault next = grind (arith, common_steps, is_keyword_by, keyword_bad, keyword_good)
 
 -- ---- the second word of a header line
 
@@ -95,14 +84,7 @@ number_word_none w limit n h e l = rw (h, e, l) refl
 second_number : (lines : List (List (List ℕ))) (before : List (List ℕ)) (limit : ℕ) (q : Progress) (v : ℕ) (w : List ℕ) → limit < HELD → Summarises w (Number v)
     → word_fault lines before w ≡ when (not (is_number w)) kinds.NotANumber (when (ltb limit (number_of w)) kinds.TooLarge None)
     → (v ≡ number_of w → v ≤ limit → IsAt lines (before ++ w ∷ []) q) → WordFollows lines before w (limited limit q v)
-second_number lines before limit q v w small t fault next =
-    elim (ltb limit v) as (λ b. ltb limit v ≡ b → WordFollows lines before w (cond b (Err kinds.TooLarge) (Ok q))) [
-      | true ↦ λ (h : ltb limit v ≡ true). fault ∙ ap (λ b. when (not b) kinds.NotANumber (when (ltb limit (number_of w)) kinds.TooLarge None)) t.0
-          ∙ ap (λ b. when b kinds.TooLarge None) (sym (holds_lt limit v (number_of w) small t.1) ∙ h)
-      | false ↦ λ (h : ltb limit v ≡ false). let le : v ≤ limit = ltb-false limit v h in let same : v ≡ number_of w =
-          holds_same v (number_of w) (omega arith) t.1 in
-          (fault ∙ number_word_none w limit v t.0 (sym same) h, next same le)
-    ] refl
+second_number lines before limit q v w small t fault next = grind (arith, common_steps, holds_lt, holds_same, ltb-false, number_word_none)
 
 -- a word that is no number
 no_number : (lines : List (List (List ℕ))) (before : List (List ℕ)) (w : List ℕ) (rest : Option Kind) → is_number w ≡ false
@@ -117,17 +99,11 @@ second_word : (lines : List (List (List ℕ))) (k : List ℕ) (limit : ℕ) (p :
     → ((x : Word) → is_number_by x ≡ false → word_read p x ≡ Err kinds.NotANumber)
     → word_fault lines (k ∷ []) w ≡ when (not (is_number w)) kinds.NotANumber (when (ltb limit (number_of w)) kinds.TooLarge None)
     → ((v : ℕ) → v ≡ header_value (k ∷ w ∷ []) → v ≤ limit → IsAt lines (k ∷ w ∷ []) (q v)) → WordFollows lines (k ∷ []) w (word_read p s)
-second_word lines k limit p (Number v) w small tested t q number other fault next =
-    subst (WordFollows lines (k ∷ []) w) (sym (number v))
-    (second_number lines (k ∷ []) limit (q v) v w small t fault (λ e le. next v (header_value_of k w v t.0 e) le))
-second_word lines k limit p (Keyword j n) w small tested t q number other fault next =
-    subst (WordFollows lines (k ∷ []) w) (sym (other (Keyword j n) refl)) (no_number lines (k ∷ []) w _ tested.number fault)
-second_word lines k limit p (Fraction d) w small tested t q number other fault next =
-    subst (WordFollows lines (k ∷ []) w) (sym (other (Fraction d) refl)) (no_number lines (k ∷ []) w _ tested.number fault)
-second_word lines k limit p End w small tested t q number other fault next =
-    subst (WordFollows lines (k ∷ []) w) (sym (other End refl)) (no_number lines (k ∷ []) w _ tested.number fault)
-second_word lines k limit p Other w small tested t q number other fault next =
-    subst (WordFollows lines (k ∷ []) w) (sym (other Other refl)) (no_number lines (k ∷ []) w _ tested.number fault)
+second_word lines k limit p (Number v) w small tested t q number other fault next = grind (arith, common_steps, header_value_of, second_number)
+second_word lines k limit p (Keyword j n) w small tested t q number other fault next = grind (arith, common_steps, no_number)
+second_word lines k limit p (Fraction d) w small tested t q number other fault next = grind (arith, common_steps, no_number)
+second_word lines k limit p End w small tested t q number other fault next = grind (arith, common_steps, no_number)
+second_word lines k limit p Other w small tested t q number other fault next = grind (arith, common_steps, no_number)
 
 -- ---- a header line, whichever it is
 
@@ -167,21 +143,7 @@ goods_word [] w s p tested t at = first_word [] keywords.Goods MAX_GOODS p s w t
       bids = at.bids;
       dummy = at.dummy;
     })
-goods_word (k ∷ []) w s p tested t at =
-    second_word [] k MAX_GOODS p s w (lit< tt) tested t (λ v. record p { column = Later; header = record p.header { goods = v } })
-    (λ v. read_there Second Goods p (Number v) at.column at.stage ∙ number_there Goods p v at.stage)
-    (λ x h. read_there Second Goods p x at.column at.stage ∙ not_number_read p x h) refl
-    (λ v e le. record {
-      stage = at.stage;
-      column = refl;
-      header = ap₂ (λ (x : ℕ) (h : Header). record h { goods = x }) e at.header;
-      due = at.due;
-      slots = at.slots;
-      draft = at.draft;
-      goods = le;
-      bids = at.bids;
-      dummy = at.dummy;
-    })
+goods_word (k ∷ []) w s p tested t at = grind (arith, common_steps, not_number_read, number_there, read_there, second_word)
 goods_word (k ∷ v ∷ words) w s p tested t at = subst (WordFollows [] (k ∷ v ∷ words) w) (sym (read_there Later Goods p s at.column at.stage)) refl
 
 pub bids_word : (g : List (List ℕ)) (words : List (List ℕ)) (w : List ℕ) (s : Word) (p : Progress) → IsTested w s → Summarises w s → IsAt (g ∷ []) words p
@@ -198,21 +160,7 @@ bids_word g [] w s p tested t at = first_word (g ∷ []) keywords.Bids MAX_BIDS 
       bids = at.bids;
       dummy = at.dummy;
     })
-bids_word g (k ∷ []) w s p tested t at =
-    second_word (g ∷ []) k MAX_BIDS p s w (lit< tt) tested t (λ v. record p { column = Later; header = record p.header { bids = v }; due = v })
-    (λ v. read_there Second Bids p (Number v) at.column at.stage ∙ number_there Bids p v at.stage)
-    (λ x h. read_there Second Bids p x at.column at.stage ∙ not_number_read p x h) refl
-    (λ v e le. record {
-      stage = at.stage;
-      column = refl;
-      header = ap₂ (λ (x : ℕ) (h : Header). record h { bids = x }) e at.header;
-      due = omega arith;
-      slots = at.slots;
-      draft = at.draft;
-      goods = at.goods;
-      bids = le;
-      dummy = at.dummy;
-    })
+bids_word g (k ∷ []) w s p tested t at = grind (arith, common_steps, not_number_read, number_there, read_there, second_word)
 bids_word g (k ∷ v ∷ words) w s p tested t at = subst (WordFollows (g ∷ []) (k ∷ v ∷ words) w) (sym (read_there Later Bids p s at.column at.stage)) refl
 
 pub dummy_word : (g b : List (List ℕ)) (words : List (List ℕ)) (w : List ℕ) (s : Word) (p : Progress) → IsTested w s → Summarises w s
@@ -230,19 +178,5 @@ dummy_word g b [] w s p tested t at = first_word (g ∷ b ∷ []) keywords.Dummy
       bids = at.bids;
       dummy = at.dummy;
     })
-dummy_word g b (k ∷ []) w s p tested t at =
-    second_word (g ∷ b ∷ []) k MAX_DUMMY p s w (lit< tt) tested t (λ v. record p { column = Later; header = record p.header { dummy = v } })
-    (λ v. read_there Second Dummy p (Number v) at.column at.stage ∙ number_there Dummy p v at.stage)
-    (λ x h. read_there Second Dummy p x at.column at.stage ∙ not_number_read p x h) refl
-    (λ v e le. record {
-      stage = at.stage;
-      column = refl;
-      header = ap₂ (λ (x : ℕ) (h : Header). record h { dummy = x }) e at.header;
-      due = at.due;
-      slots = at.slots;
-      draft = at.draft;
-      goods = at.goods;
-      bids = at.bids;
-      dummy = le;
-    })
+dummy_word g b (k ∷ []) w s p tested t at = grind (arith, common_steps, not_number_read, number_there, read_there, second_word)
 dummy_word g b (k ∷ v ∷ words) w s p tested t at = subst (WordFollows (g ∷ b ∷ []) (k ∷ v ∷ words) w) (sym (read_there Later Dummy p s at.column at.stage)) refl

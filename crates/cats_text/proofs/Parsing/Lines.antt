@@ -1,17 +1,13 @@
 -- Words, line ends and whole lines: the parser and the definitions agree.
-use Rattle.std.proofs.Common.{◌≡◌, ℕ, ◌+◌, ◌-◌, ◌<◌, ◌≤◌, Bool, true, false, not, ltb, List, [], ◌∷◌, ◌++◌, length, refl, sym, ap, ap₂, ◌∙◌, subst, arith}
-use Rattle.std.proofs.Common.{Option, None, Ok, Err, length-append}
+use Rattle.std.proofs.Common.{◌≡◌, ℕ, ◌-◌, ◌<◌, Bool, true, false, ltb, List, [], ◌∷◌, length, refl, sym, ap, ap₂, ◌∙◌, subst, arith}
+use Rattle.std.proofs.Common.{Ok, Err, length-append}
 use Rattle.std.proofs.lemmas.Bool.{ltb-true, ltb-false, lt-ltb, le-ltb}
 use Rattle.std.proofs.lemmas.List.Sums.{fold_push}
-use Rattle.cats_text.specs.Numbers.{number_of, price_of}
-use Rattle.cats_text.specs.Grammar.{line_number}
-use Rattle.cats_text.specs.Faults.{is_line_due, when, has_end}
-use Rattle.cats_text.specs.FileLines.{rising_of, put_slot, before_end, real_goods, bid_of}
-use Rattle.bid_file.specs.Files.{PlainBid}
+use Rattle.cats_text.specs.Faults.{is_line_due, has_end}
+use Rattle.cats_text.specs.FileLines.{bid_of}
 use Rattle.cats_text.specs.Internal.Progress.{Progress}
 use Rattle.cats_text.specs.Internal.Parsing.{Reading, word_read, line_read, with_bid, drafted, is_due}
 use Rattle.cats_text.specs.declared.read_fault.Kind.TheVariants as kinds
-use Rattle.cats_text.specs.declared.parser.Header.{Header}
 use Rattle.cats_text.specs.declared.parser.Stage.{Stage}
 use Rattle.cats_text.specs.declared.parser.Stage.TheVariants.{Goods, Bids, Dummy, Bid}
 use Rattle.cats_text.specs.declared.parser.Column.{Column}
@@ -23,17 +19,15 @@ use Rattle.cats_text.proofs.Parsing.States.{IsAt, IsDraft, WordFollows, LineFoll
 use Rattle.cats_text.proofs.Parsing.Headers.{read_there, goods_word, bids_word, dummy_word}
 use Rattle.cats_text.proofs.Parsing.Bids.{fault_named, bid_first, bid_second}
 use Rattle.cats_text.proofs.Parsing.Goods.{bid_later}
+use Rattle.std.proofs.lemmas.Grind.{common_steps}
 
 -- ---- a word
 
 bid_word_step : (g b d : List (List ℕ)) (lines : List (List (List ℕ))) (words : List (List ℕ)) (a : ℕ) (w : List ℕ) (p : Progress)
     → IsAt (g ∷ b ∷ d ∷ lines) words p
     → WordFollows (g ∷ b ∷ d ∷ lines) words (a ∷ w) (word_read p (summary (a ∷ w)))
-bid_word_step g b d lines [] a w p at = subst (WordFollows (g ∷ b ∷ d ∷ lines) [] (a ∷ w)) (sym (read_there First Bid p (summary (a ∷ w)) at.column at.stage))
-    (bid_first g b d lines (a ∷ w) (summary (a ∷ w)) p (tested a w (summary (a ∷ w)) (summarises a w)) (summarises a w) at)
-bid_word_step g b d lines (n ∷ []) a w p at =
-    subst (WordFollows (g ∷ b ∷ d ∷ lines) (n ∷ []) (a ∷ w)) (sym (read_there Second Bid p (summary (a ∷ w)) at.column at.stage))
-    (bid_second g b d lines n (a ∷ w) (summary (a ∷ w)) p (tested a w (summary (a ∷ w)) (summarises a w)) (summarises a w) at)
+bid_word_step g b d lines [] a w p at = grind (arith, common_steps, bid_first, read_there, summarises, tested)
+bid_word_step g b d lines (n ∷ []) a w p at = grind (arith, common_steps, bid_second, read_there, summarises, tested)
 bid_word_step g b d lines (n ∷ x ∷ gs) a w p at =
     elim (has_end gs) as (λ t. has_end gs ≡ t → WordFollows (g ∷ b ∷ d ∷ lines) (n ∷ x ∷ gs) (a ∷ w) (word_read p (summary (a ∷ w)))) [
       | true ↦ λ (e : has_end gs ≡ true). subst (WordFollows (g ∷ b ∷ d ∷ lines) (n ∷ x ∷ gs) (a ∷ w))
@@ -81,100 +75,30 @@ line_at column stage p = elim stage [
 line_there : (column : Column) (stage : Stage) (p : Progress) → p.column ≡ column → p.stage ≡ stage → line_read p ≡ line_at column stage p
 line_there column stage p e f = ap₂ (λ (x : Column) (y : Stage). line_at x y p) e f
 
-abbrev bid_made : ℕ → List ℕ → Option ℕ → PlainBid
-bid_made price goods dummy = record { price = price; goods = rising_of goods; dummy = dummy }
-
 drafted_is : (G : ℕ) (n x : List ℕ) (gs : List (List ℕ)) (p : Progress) → IsDraft G n x gs p → drafted p ≡ bid_of G (n ∷ x ∷ gs)
-drafted_is G n x gs p d = ap (λ k. bid_made k p.goods p.draft.dummy) d.price ∙ ap (λ k. bid_made (price_of x) k p.draft.dummy) d.goods
-    ∙ ap (λ k. bid_made (price_of x) (real_goods G (before_end gs)) k) d.dummy
+drafted_is G n x gs p d = grind (arith, common_steps)
 
 bid_line_step : (g b d : List (List ℕ)) (lines : List (List (List ℕ))) (words : List (List ℕ)) (p : Progress) → 0 < length words
     → IsAt (g ∷ b ∷ d ∷ lines) words p → LineFollows (g ∷ b ∷ d ∷ lines) words (line_read p)
 bid_line_step g b d lines [] p l at = absurd (let no : 0 < 0 = l in omega arith)
 bid_line_step g b d lines (n ∷ []) p l at = subst (LineFollows (g ∷ b ∷ d ∷ lines) (n ∷ [])) (sym (line_there Second Bid p at.column at.stage)) refl
-bid_line_step g b d lines (n ∷ x ∷ gs) p l at = elim (has_end gs) as (λ t. has_end gs ≡ t → LineFollows (g ∷ b ∷ d ∷ lines) (n ∷ x ∷ gs) (line_read p)) [
-  | true ↦ λ (e : has_end gs ≡ true). subst (LineFollows (g ∷ b ∷ d ∷ lines) (n ∷ x ∷ gs))
-      (sym (line_there Ended Bid p (at.column ∙ ap ended_column e) at.stage)) (
-        ap (λ t. when (not t) kinds.NoEnd None) e,
-        record {
-          stage = at.stage;
-          column = refl;
-          header = at.header;
-          due = (let due : p.due ≡ p.header.bids - length lines = at.due in
-              let more : length (lines ++ (n ∷ x ∷ gs) ∷ []) ≡ length lines + 1 = length-append lines
-              ((n ∷ x ∷ gs) ∷ []) in omega arith);
-          slots = ap₂ (λ (s : List (Option PlainBid)) (k : ℕ). put_slot s k (p.keep (drafted p))) at.slots at.draft.number
-              ∙ ap (λ (b : PlainBid). put_slot (kept_slots p.keep p.header.goods lines) (number_of n) (p.keep b))
-              (drafted_is p.header.goods n x gs p at.draft)
-              ∙ sym (fold_push (λ s m. put_slot s (line_number m) (p.keep (bid_of p.header.goods m))) [] lines (n ∷ x ∷ gs));
-          draft = refl;
-          goods = at.goods;
-          bids = at.bids;
-          dummy = at.dummy;
-        },
-      )
-  | false ↦ λ (e : has_end gs ≡ false). subst (LineFollows (g ∷ b ∷ d ∷ lines) (n ∷ x ∷ gs))
-      (sym (line_there Later Bid p (at.column ∙ ap ended_column e) at.stage))
-      (ap (λ t. when (not t) kinds.NoEnd None) e)
-] refl
+bid_line_step g b d lines (n ∷ x ∷ gs) p l at = grind (arith, common_steps, drafted_is, ended_column, fold_push, kept_slots, length-append, line_there)
 
 pub line_step : (lines : List (List (List ℕ))) (words : List (List ℕ)) (p : Progress) → 0 < length words → IsAt lines words p
     → LineFollows lines words (line_read p)
 line_step lines [] p l at = absurd (let no : 0 < 0 = l in omega arith)
 line_step [] (k ∷ []) p l at = subst (LineFollows [] (k ∷ [])) (sym (line_there Second Goods p at.column at.stage)) refl
-line_step [] (k ∷ v ∷ ws) p l at = subst (LineFollows [] (k ∷ v ∷ ws)) (sym (line_there Later Goods p at.column at.stage)) (
-  refl,
-  record {
-    stage = refl;
-    column = refl;
-    header = at.header;
-    due = at.due;
-    slots = at.slots;
-    draft = at.draft;
-    goods = at.goods;
-    bids = at.bids;
-    dummy = at.dummy;
-  },
-)
+line_step [] (k ∷ v ∷ ws) p l at = grind (arith, common_steps, line_there)
 line_step (g ∷ []) (k ∷ []) p l at = subst (LineFollows (g ∷ []) (k ∷ [])) (sym (line_there Second Bids p at.column at.stage)) refl
-line_step (g ∷ []) (k ∷ v ∷ ws) p l at = subst (LineFollows (g ∷ []) (k ∷ v ∷ ws)) (sym (line_there Later Bids p at.column at.stage)) (
-  refl,
-  record {
-    stage = refl;
-    column = refl;
-    header = at.header;
-    due = at.due;
-    slots = at.slots;
-    draft = at.draft;
-    goods = at.goods;
-    bids = at.bids;
-    dummy = at.dummy;
-  },
-)
+line_step (g ∷ []) (k ∷ v ∷ ws) p l at = grind (arith, common_steps, line_there)
 line_step (g ∷ b ∷ []) (k ∷ []) p l at = subst (LineFollows (g ∷ b ∷ []) (k ∷ [])) (sym (line_there Second Dummy p at.column at.stage)) refl
-line_step (g ∷ b ∷ []) (k ∷ v ∷ ws) p l at = subst (LineFollows (g ∷ b ∷ []) (k ∷ v ∷ ws)) (sym (line_there Later Dummy p at.column at.stage)) (
-  refl,
-  record {
-    stage = refl;
-    column = refl;
-    header = at.header;
-    due = at.due;
-    slots = at.slots;
-    draft = at.draft;
-    goods = at.goods;
-    bids = at.bids;
-    dummy = at.dummy;
-  },
-)
+line_step (g ∷ b ∷ []) (k ∷ v ∷ ws) p l at = grind (arith, common_steps, line_there)
 line_step (g ∷ b ∷ d ∷ lines) (k ∷ ws) p l at = bid_line_step g b d lines (k ∷ ws) p l at
 
 -- ---- what is due
 
 left_over : (bids count : ℕ) → ltb 0 (bids - count) ≡ ltb count bids
-left_over bids count = elim (ltb count bids) as (λ t. ltb count bids ≡ t → ltb 0 (bids - count) ≡ t) [
-  | true ↦ λ (e : ltb count bids ≡ true). let l : count < bids = ltb-true count bids e in lt-ltb 0 (bids - count) (omega arith)
-  | false ↦ λ (e : ltb count bids ≡ false). let l : bids ≤ count = ltb-false count bids e in le-ltb 0 (bids - count) (omega arith)
-] refl
+left_over bids count = grind (arith, common_steps, le-ltb, lt-ltb, ltb-false, ltb-true)
 
 abbrev due_at : Stage → ℕ → Bool
 due_at stage due = elim stage [ Goods ↦ true | Bids ↦ true | Dummy ↦ true | Bid ↦ ltb 0 due ]
@@ -183,5 +107,4 @@ pub due_step : (lines : List (List (List ℕ))) (p : Progress) → IsAt lines []
 due_step [] p at = ap (λ (x : Stage). due_at x p.due) at.stage
 due_step (g ∷ []) p at = ap (λ (x : Stage). due_at x p.due) at.stage
 due_step (g ∷ b ∷ []) p at = ap (λ (x : Stage). due_at x p.due) at.stage
-due_step (g ∷ b ∷ d ∷ lines) p at = ap (λ (x : Stage). due_at x p.due) at.stage ∙ ap (ltb 0) at.due ∙ left_over p.header.bids (length lines)
-    ∙ ap (λ (h : Header). ltb (length lines) h.bids) at.header
+due_step (g ∷ b ∷ d ∷ lines) p at = grind (arith, common_steps, left_over)

@@ -1,6 +1,6 @@
 -- Which numbers are taken: a place is filled exactly if a line has its number.
-use Rattle.std.proofs.Common.{◌≡◌, ◌≢◌, ℕ, zero, suc, ◌+◌, ◌-◌, ◌<◌, Bool, true, false, ◌||◌, eqb, List, [], ◌∷◌, ◌++◌, length, set, replicate, fold, refl, sym}
-use Rattle.std.proofs.Common.{ap, ◌∙◌, arith, Option, Some, None, length-append}
+use Rattle.std.proofs.Common.{◌≡◌, ℕ, zero, suc, ◌<◌, false, ◌||◌, eqb, List, [], ◌∷◌, ◌++◌, length, set, replicate, fold, refl, sym}
+use Rattle.std.proofs.Common.{ap, arith, Option, Some, None, length-append}
 use Rattle.std.proofs.lemmas.Bool.{eqb-true, eqb-false, eq-eqb, ne_eqb}
 use Rattle.std.proofs.lemmas.List.{length-replicate}
 use Rattle.std.specs.List.{slice_get, list_any}
@@ -9,6 +9,7 @@ use Rattle.bid_file.specs.Files.{PlainBid}
 use Rattle.cats_text.specs.Grammar.{line_number}
 use Rattle.cats_text.specs.Internal.Kept.{is_some_bid}
 use Rattle.cats_text.specs.FileLines.{put_slot}
+use Rattle.std.proofs.lemmas.Grind.{common_steps}
 
 taken_set : (xs : List (Option PlainBid)) (n : ℕ) (b : PlainBid) (k : ℕ) → n < length xs → is_some_bid (slice_get (set xs n (Some b)) k)
     ≡ (eqb n k || is_some_bid (slice_get xs k))
@@ -16,13 +17,7 @@ taken_set [] n b k l = absurd (let no : n < 0 = l in omega arith)
 taken_set (x ∷ xs) zero b zero l = refl
 taken_set (x ∷ xs) zero b (suc k) l = sym (ap (λ t. t || is_some_bid (slice_get xs k)) (ne_eqb 0 (suc k) (λ e. absurd (omega arith))))
 taken_set (x ∷ xs) (suc n) b zero l = sym (ap (λ t. t || is_some_bid (Some x)) (ne_eqb (suc n) 0 (λ e. absurd (omega arith))))
-taken_set (x ∷ xs) (suc n) b (suc k) l = taken_set xs n b k (omega arith) ∙ ap (λ t. t || is_some_bid (slice_get xs k)) (shift n k)
-  where
-    shift : (n k : ℕ) → eqb n k ≡ eqb (suc n) (suc k)
-    shift n k = elim (eqb n k) as (λ t. eqb n k ≡ t → t ≡ eqb (suc n) (suc k)) [
-      | true ↦ λ (e : eqb n k ≡ true). let same : n ≡ k = eqb-true n k e in sym (eq-eqb (suc n) (suc k) (omega arith))
-      | false ↦ λ (e : eqb n k ≡ false). let ne : n ≢ k = eqb-false n k e in sym (ne_eqb (suc n) (suc k) (λ q. ne (omega arith)))
-    ] refl
+taken_set (x ∷ xs) (suc n) b (suc k) l = grind (arith, common_steps, eq-eqb, eqb-false, eqb-true, ne_eqb, (taken_set xs n b k))
 
 taken_none : (count k : ℕ) → is_some_bid (slice_get (replicate count None) k) ≡ false
 taken_none zero k = refl
@@ -36,28 +31,13 @@ taken_padded (x ∷ xs) count (suc k) = taken_padded xs count k
 
 pub taken_put : (xs : List (Option PlainBid)) (n : ℕ) (b : PlainBid) (k : ℕ) → is_some_bid (slice_get (put_slot xs n b) k)
     ≡ (eqb n k || is_some_bid (slice_get xs k))
-taken_put xs n b k =
-    let long : length (xs ++ replicate (n + 1 - length xs) None) ≡ length xs + (n + 1 - length xs) = length-append xs (replicate (n + 1 - length xs) None)
-    ∙ ap (λ m. length xs + m) (length-replicate (n + 1 - length xs) None) in
-    taken_set (xs ++ replicate (n + 1 - length xs) None) n b k (omega arith) ∙ ap (λ t. eqb n k || t) (taken_padded xs (n + 1 - length xs) k)
+taken_put xs n b k = grind (arith, common_steps, length-append, length-replicate, taken_padded, taken_set)
 
 taken_fold : (bid : List Word → PlainBid) (lines : List (List Word)) (slots : List (Option PlainBid)) (k : ℕ)
     → is_some_bid (slice_get (fold (λ s l. put_slot s (line_number l) (bid l)) slots lines) k)
     ≡ (is_some_bid (slice_get slots k) || list_any (λ l. eqb (line_number l) k) lines)
-taken_fold bid [] slots k = sym (or_false (is_some_bid (slice_get slots k)))
-  where
-    or_false : (b : Bool) → (b || false) ≡ b
-    or_false true = refl
-    or_false false = refl
-taken_fold bid (l ∷ lines) slots k = taken_fold bid lines (put_slot slots (line_number l) (bid l)) k
-    ∙ ap (λ t. t || list_any (λ m. eqb (line_number m) k) lines) (taken_put slots (line_number l) (bid l) k)
-    ∙ or_swap (eqb (line_number l) k) (is_some_bid (slice_get slots k)) (list_any (λ m. eqb (line_number m) k) lines)
-  where
-    or_swap : (a b c : Bool) → ((a || b) || c) ≡ (b || (a || c))
-    or_swap true true c = refl
-    or_swap true false c = refl
-    or_swap false true c = refl
-    or_swap false false c = refl
+taken_fold bid [] slots k = grind (arith, common_steps)
+taken_fold bid (l ∷ lines) slots k = grind (arith, common_steps, taken_put, (taken_fold bid lines (put_slot slots (line_number l) (bid l)) k))
 
 pub taken : (bid : List Word → PlainBid) (lines : List (List Word)) (k : ℕ)
     → is_some_bid (slice_get (fold (λ s l. put_slot s (line_number l) (bid l)) [] lines) k) ≡ list_any (λ l. eqb (line_number l) k) lines

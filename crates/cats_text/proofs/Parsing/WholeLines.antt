@@ -1,18 +1,19 @@
 -- All words of a line, and all lines: the parser and the definitions agree.
-use Rattle.std.proofs.Common.{◌≡◌, ℕ, suc, ◌<◌, Bool, true, false, ◌&&◌, ◌||◌, cond, List, [], ◌∷◌, ◌++◌, length, map, refl, sym, ap, ◌∙◌, subst, arith, Some}
+use Rattle.std.proofs.Common.{◌≡◌, ℕ, suc, ◌<◌, Bool, true, false, ◌&&◌, ◌||◌, cond, List, [], ◌∷◌, ◌++◌, length, map, refl, sym, ap, subst, arith, Some}
 use Rattle.std.proofs.Common.{None, Result, Ok, Err, append-nil, append_assoc}
 use Rattle.std.proofs.lemmas.Bool.{both_ways}
-use Rattle.std.specs.Option.{option_or, option_map}
+use Rattle.std.specs.Option.{option_or}
 use Rattle.std.specs.List.{AllByRecursion}
 use Rattle.cats_text.specs.Lines.{Word, Line}
-use Rattle.cats_text.specs.Faults.{end_fault, words_fault, line_fault, lines_fault, fault_at, is_line_due}
+use Rattle.cats_text.specs.Faults.{words_fault, line_fault, lines_fault, fault_at, is_line_due}
 use Rattle.cats_text.specs.Internal.Progress.{Progress}
 use Rattle.cats_text.specs.Internal.Parsing.{Reading, word_read, line_read, is_due}
 use Rattle.cats_text.specs.declared.read_fault.Kind.TheVariants.{Missing}
 use Rattle.cats_text.specs.declared.read_fault.ReadFault.{ReadFault}
 use Rattle.cats_text.specs.Internal.Machine.{summary}
-use Rattle.cats_text.proofs.Parsing.States.{IsAt, WordFollows, LineFollows}
+use Rattle.cats_text.proofs.Parsing.States.{IsAt, WordFollows}
 use Rattle.cats_text.proofs.Parsing.Lines.{word_step, line_step, due_step}
+use Rattle.std.proofs.lemmas.Grind.{common_steps}
 
 abbrev pub IsWord : Word → Type 0
 IsWord w = 0 < length w
@@ -34,22 +35,14 @@ WordsFollow lines before ws (Err kind) = words_fault lines before ws ≡ Some ki
 words_after : (lines : List (List Word)) (before : List Word) (w : Word) (ws : List Word) (r : Reading) → WordFollows lines before w r
     → ((q : Progress) → IsAt lines (before ++ w ∷ []) q → WordsFollow lines (before ++ w ∷ []) ws (words_read ws q))
     → WordsFollow lines before (w ∷ ws) (reading_then r (words_read ws))
-words_after lines before w ws (Ok q) h next = joined (words_read ws q) (next q h.1)
-  where
-    joined : (r : Reading) → WordsFollow lines (before ++ w ∷ []) ws r → WordsFollow lines before (w ∷ ws) r
-    joined (Ok q) f = (
-      ap (λ o. option_or o (words_fault lines (before ++ w ∷ []) ws)) h.0 ∙ f.0,
-      subst (λ ds. IsAt lines ds q) (append_assoc before (w ∷ []) ws) f.1,
-    )
-    joined (Err kind) f = ap (λ o. option_or o (words_fault lines (before ++ w ∷ []) ws)) h.0 ∙ f
+words_after lines before w ws (Ok q) h next = grind (arith, common_steps, append_assoc)
 words_after lines before w ws (Err kind) h next = ap (λ o. option_or o (words_fault lines (before ++ w ∷ []) ws)) h
 
 pub words_step : (lines : List (List Word)) (before ws : List Word) (p : Progress) → AllByRecursion IsWord ws → IsAt lines before p
     → WordsFollow lines before ws (words_read ws p)
 words_step lines before [] p words at = (refl, subst (λ ds. IsAt lines ds p) (sym (append-nil before)) at)
 words_step lines before ([] ∷ ws) p words at = absurd (let no : 0 < 0 = words.0 in omega arith)
-words_step lines before ((a ∷ w) ∷ ws) p words at = words_after lines before (a ∷ w) ws (word_read p (summary (a ∷ w))) (word_step lines before a w p at)
-    (λ q at'. words_step lines (before ++ (a ∷ w) ∷ []) ws q words.1 at')
+words_step lines before ((a ∷ w) ∷ ws) p words at = grind (arith, common_steps, word_step, words_after, (words_step lines (before ++ (a ∷ w) ∷ []) ws))
 
 -- ---- a line
 
@@ -82,20 +75,7 @@ LineIs whole lines l (Err e) = line_fault whole lines l ≡ Some e
 
 pub whole_line_step : (whole : Bool) (lines : List (List Word)) (l : Line) (p : Progress) → (l.ended || whole) ≡ true → IsLine l → IsAt lines [] p
     → LineIs whole lines l (whole_line l p)
-whole_line_step whole lines l p judged is at = by_words (words_read l.words p) (words_step lines [] l.words p is.1 at)
-  where
-    by_end : (q : Progress) (r : Reading) → words_fault lines [] l.words ≡ None → LineFollows lines l.words r → LineIs whole lines l (on_line l.number r)
-    by_end q (Ok s) none f = (
-      ap (λ o. option_map (fault_at l.number) (option_or o (cond (l.ended || whole) (end_fault lines l.words) None))) none
-          ∙ ap (λ b. option_map (fault_at l.number) (cond b (end_fault lines l.words) None)) judged ∙ ap (option_map (fault_at l.number)) f.0,
-      f.1,
-    )
-    by_end q (Err kind) none f = ap (λ o. option_map (fault_at l.number) (option_or o (cond (l.ended || whole) (end_fault lines l.words) None))) none
-        ∙ ap (λ b. option_map (fault_at l.number) (cond b (end_fault lines l.words) None)) judged ∙ ap (option_map (fault_at l.number)) f
-
-    by_words : (r : Reading) → WordsFollow lines [] l.words r → LineIs whole lines l (on_line l.number (reading_then r line_read))
-    by_words (Ok q) f = by_end q (line_read q) f.0 (line_step lines l.words q is.0 f.1)
-    by_words (Err kind) f = ap (λ o. option_map (fault_at l.number) (option_or o (cond (l.ended || whole) (end_fault lines l.words) None))) f
+whole_line_step whole lines l p judged is at = grind (arith, common_steps, line_step, words_step)
 
 -- ---- all lines
 
@@ -118,39 +98,18 @@ LinesAre whole count lines ls (Err e) = lines_fault whole count lines ls ≡ Som
 end_step : (whole : Bool) (count : ℕ) (lines : List (List Word)) (p : Progress) → IsAt lines [] p
     → LinesAre whole count lines [] (cond (whole && is_due p) (Err (fault_at (suc count) Missing)) (Ok p))
 end_step false count lines p at = (refl, λ e. absurd (both_ways false refl e))
-end_step true count lines p at = elim (is_due p) as (λ b. is_due p ≡ b → LinesAre true count lines [] (cond b (Err (fault_at (suc count) Missing)) (Ok p))) [
-  | true ↦ λ (e : is_due p ≡ true). ap (λ b. cond b (Some (fault_at (suc count) Missing)) None) (sym (due_step lines p at) ∙ e)
-  | false ↦ λ (e : is_due p ≡ false). let no : is_line_due lines ≡ false = sym (due_step lines p at) ∙ e in (
-    ap (λ b. cond b (Some (fault_at (suc count) Missing)) None) no,
-    λ _. (subst (λ ds. IsAt ds [] p) (sym (append-nil lines)) at, ap is_line_due (append-nil lines) ∙ no),
-  )
-] refl
+end_step true count lines p at = grind (arith, common_steps, append-nil, due_step)
 
 judged_line : (whole : Bool) (count : ℕ) (lines : List (List Word)) (l : Line) (ls : List Line) (r : Scanned) → LineIs whole lines l r
     → ((q : Progress) → IsAt (lines ++ l.words ∷ []) [] q → LinesAre whole count (lines ++ l.words ∷ []) ls (lines_scan whole count ls q))
     → LinesAre whole count lines (l ∷ ls) (scanned_then r (lines_scan whole count ls))
 judged_line whole count lines l ls (Err e) h next = ap (λ o. option_or o (lines_fault whole count (lines ++ l.words ∷ []) ls)) h
-judged_line whole count lines l ls (Ok q) h next = joined (lines_scan whole count ls q) (next q h.1)
-  where
-    joined : (r : Scanned) → LinesAre whole count (lines ++ l.words ∷ []) ls r → LinesAre whole count lines (l ∷ ls) r
-    joined (Ok s) f = (
-      ap (λ o. option_or o (lines_fault whole count (lines ++ l.words ∷ []) ls)) h.0 ∙ f.0,
-      λ e. subst (λ ds. IsAt ds [] s × (is_line_due ds ≡ false)) (append_assoc lines (l.words ∷ []) (map (λ m. m.words) ls)) (f.1 e),
-    )
-    joined (Err e) f = ap (λ o. option_or o (lines_fault whole count (lines ++ l.words ∷ []) ls)) h.0 ∙ f
+judged_line whole count lines l ls (Ok q) h next = grind (arith, common_steps, append_assoc)
 
 -- the last line, without its LF, where the input goes on
 open_last : (count : ℕ) (lines : List (List Word)) (l : Line) (p : Progress) → l.ended ≡ false → IsLine l → IsAt lines [] p
     → LinesAre false count lines (l ∷ []) (open_line l p)
-open_last count lines l p unended is at = by_words (words_read l.words p) (words_step lines [] l.words p is.1 at)
-  where
-    by_words : (r : Reading) → WordsFollow lines [] l.words r → LinesAre false count lines (l ∷ []) (on_line l.number r)
-    by_words (Ok q) f = (
-      ap (λ o. option_or (option_map (fault_at l.number) (option_or o (cond (l.ended || false) (end_fault lines l.words) None))) None) f.0
-          ∙ ap (λ b. option_or (option_map (fault_at l.number) (cond (b || false) (end_fault lines l.words) None)) None) unended,
-      λ e. absurd (both_ways false refl e),
-    )
-    by_words (Err kind) f = ap (λ o. option_or (option_map (fault_at l.number) (option_or o (cond (l.ended || false) (end_fault lines l.words) None))) None) f
+open_last count lines l p unended is at = grind (arith, common_steps, both_ways, words_step)
 
 open_is_last : (count : ℕ) (lines : List (List Word)) (l : Line) (ls : List Line) (p : Progress) → l.ended ≡ false → AreEndedButLast (l ∷ ls) → IsLine l
     → IsAt lines [] p → LinesAre false count lines (l ∷ ls) (open_line l p)

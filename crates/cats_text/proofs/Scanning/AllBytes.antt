@@ -3,7 +3,7 @@ use Rattle.std.proofs.Common.{◌≡◌, ℕ, suc, ◌<◌, Bool, true, false, �
 use Rattle.std.proofs.Common.{Err, append-nil}
 use Rattle.std.proofs.lemmas.Bool.{both_ways, eqb-true}
 use Rattle.std.specs.List.{AllByRecursion}
-use Rattle.cats_text.specs.Lines.{Word, RawLine, raw_lines, lines_with, with_byte, line_words, is_significant, is_blank}
+use Rattle.cats_text.specs.Lines.{Word, RawLine, raw_lines, with_byte, line_words, is_significant, is_blank}
 use Rattle.cats_text.specs.Faults.{fault_at}
 use Rattle.cats_text.specs.Internal.Progress.{Progress}
 use Rattle.cats_text.specs.Internal.Parsing.{Reading, line_read, is_due}
@@ -16,6 +16,7 @@ use Rattle.cats_text.specs.declared.scanner.Mode.TheVariants.{Start, Blank, Comm
 use Rattle.cats_text.specs.Internal.Machine.{word_from}
 use Rattle.cats_text.proofs.Scanning.Lines.{byte_blank, byte_letter, and_then-assoc, scan-append, IsNoEnd, standing, lifted, fresh_outcome, quiet, from_start}
 use Rattle.cats_text.proofs.Parsing.WholeLines.{words_read, reading_then, on_line, Scanned, scanned_then}
+use Rattle.std.proofs.lemmas.Grind.{common_steps}
 
 -- ---- a text as its lines
 
@@ -25,17 +26,7 @@ text_of (l ∷ ls) = l.bytes ++ cond l.ended (10 ∷ text_of ls) (text_of ls)
 
 pub text_of-lines : (text : List ℕ) → text_of (raw_lines text) ≡ text
 text_of-lines [] = refl
-text_of-lines (b ∷ bs) = joined b (raw_lines bs) ∙ ap (λ ds. b ∷ ds) (text_of-lines bs)
-  where
-    prefix : (b : ℕ) (ls : List RawLine) → text_of (with_byte b ls) ≡ b ∷ text_of ls
-    prefix b [] = refl
-    prefix b (l ∷ ls) = refl
-
-    joined : (b : ℕ) (ls : List RawLine) → text_of (lines_with b ls) ≡ b ∷ text_of ls
-    joined b ls = elim (eqb b 10) as (λ t. eqb b 10 ≡ t → text_of (cond t (record { bytes = []; ended = true } ∷ ls) (with_byte b ls)) ≡ b ∷ text_of ls) [
-      | true ↦ λ (e : eqb b 10 ≡ true). ap (λ c. c ∷ text_of ls) (sym (eqb-true b 10 e))
-      | false ↦ λ (e : eqb b 10 ≡ false). prefix b ls
-    ] refl
+text_of-lines (b ∷ bs) = grind (arith, common_steps, eqb-true, (text_of-lines bs))
 
 -- no LF in a line; only the last may lack one behind it, and then it is not empty
 abbrev pub AreRaw : List RawLine → Type 0
@@ -54,13 +45,7 @@ raw_ended (l ∷ ls) r = (tt, refl, r)
 
 pub AreRaw-lines : (text : List ℕ) → AreRaw (raw_lines text)
 AreRaw-lines [] = tt
-AreRaw-lines (b ∷ bs) = joined b (raw_lines bs) (AreRaw-lines bs)
-  where
-    joined : (b : ℕ) (ls : List RawLine) → AreRaw ls → AreRaw (lines_with b ls)
-    joined b ls r = elim (eqb b 10) as (λ t. eqb b 10 ≡ t → AreRaw (cond t (record { bytes = []; ended = true } ∷ ls) (with_byte b ls))) [
-      | true ↦ λ (e : eqb b 10 ≡ true). raw_ended ls r
-      | false ↦ λ (e : eqb b 10 ≡ false). raw_with_byte b ls e r
-    ] refl
+AreRaw-lines (b ∷ bs) = grind (arith, common_steps, raw_ended, raw_with_byte, (AreRaw-lines bs))
 
 -- ---- a line and its LF
 
@@ -88,20 +73,7 @@ quiet_words n (w ∷ ws) p = refl
 -- then the end of the words and the next line, or something else that looks at the progress alone
 pub line_then : (n : ℕ) (ws : List Word) (p : Progress) (f : State → Scan) (g : Progress → Scan) → ((m : Mode) (q : Progress) → f (standing m n q) ≡ g q)
     → and_then (and_then (fresh_outcome n ws p) words_step) f ≡ then_from (line_outcome n ws p) g
-line_then n ws p f g same =
-    elim (is_significant ws) as (λ t. and_then (and_then (cond t (lifted n Between (words_read ws p)) (Ok (standing (quiet ws) n p))) words_step) f
-    ≡ then_from (cond t (on_line n (reading_then (words_read ws p) line_read)) (Ok p)) g) [
-      | true ↦ by_words (words_read ws p)
-      | false ↦ ap (λ r. and_then r f) (quiet_words n ws p) ∙ same (quiet ws) p
-    ]
-  where
-    at_end : (q : Progress) (r : Reading) → and_then (with_reading (standing Between n q) Between r) f ≡ then_from (on_line n r) g
-    at_end q (Ok s) = same Between s
-    at_end q (Err kind) = refl
-
-    by_words : (r : Reading) → and_then (and_then (lifted n Between r) words_step) f ≡ then_from (on_line n (reading_then r line_read)) g
-    by_words (Ok q) = at_end q (line_read q)
-    by_words (Err kind) = refl
+line_then n ws p f g same = grind (arith, common_steps, lifted, on_line, quiet, quiet_words, reading_then, standing, words_read)
 
 -- a line, its LF, and the rest of the text
 pub line_and_rest : (n : ℕ) (p : Progress) (bytes rest : List ℕ) → AllByRecursion IsNoEnd bytes
@@ -129,20 +101,7 @@ scan_then (Err e) f = Err e
 line_then_outcome : (n : ℕ) (ws : List Word) (p : Progress) (f : State → Scanned) (g : Progress → Scanned)
     → ((m : Mode) (q : Progress) → f (standing m n q) ≡ g q)
     → scan_then (and_then (fresh_outcome n ws p) words_step) f ≡ scanned_then (line_outcome n ws p) g
-line_then_outcome n ws p f g same =
-    elim (is_significant ws) as (λ t. scan_then (and_then (cond t (lifted n Between (words_read ws p)) (Ok (standing (quiet ws) n p))) words_step) f
-    ≡ scanned_then (cond t (on_line n (reading_then (words_read ws p) line_read)) (Ok p)) g) [
-      | true ↦ by_words (words_read ws p)
-      | false ↦ ap (λ r. scan_then r f) (quiet_words n ws p) ∙ same (quiet ws) p
-    ]
-  where
-    at_end : (q : Progress) (r : Reading) → scan_then (with_reading (standing Between n q) Between r) f ≡ scanned_then (on_line n r) g
-    at_end q (Ok s) = same Between s
-    at_end q (Err kind) = refl
-
-    by_words : (r : Reading) → scan_then (and_then (lifted n Between r) words_step) f ≡ scanned_then (on_line n (reading_then r line_read)) g
-    by_words (Ok q) = at_end q (line_read q)
-    by_words (Err kind) = refl
+line_then_outcome n ws p f g same = grind (arith, common_steps, lifted, on_line, quiet, quiet_words, reading_then, scanned_then, standing, words_read)
 
 -- behind a byte of a line the line has begun
 pub record HasBegun (s t : State) : Type 0 where
@@ -217,11 +176,7 @@ abbrev pub due_outcome : ℕ → Progress → Scanned
 due_outcome n p = cond (is_due p) (Err (fault_at n Missing)) (Ok p)
 
 due_is : (n : ℕ) (s : State) → outcome (missing_step n s) ≡ due_outcome n s.progress
-due_is n s = elim (is_due s.progress) as (λ t. outcome (cond t (Err (fault_at n Missing)) (Ok s)) ≡ cond t (Err (fault_at n Missing)) (Ok s.progress)) [
-  | true ↦
-      refl
-  | false ↦ refl
-]
+due_is n s = grind (arith, common_steps)
 
 outcome_then : (r : Scanned) (g : Progress → Scan) (f : State → Scan) → outcome (and_then (then_from r g) f) ≡ scanned_then r (λ q. outcome (and_then (g q) f))
 outcome_then (Ok p) g f = refl

@@ -7,8 +7,9 @@ use Rattle.cats_text.specs.declared.read_fault.ReadFault.{ReadFault}
 use Rattle.cats_text.specs.declared.scanner.Mode.{Mode}
 use Rattle.cats_text.specs.declared.scanner.Mode.TheVariants.{Start, Blank, Comment, Between, Inside}
 use Rattle.cats_text.specs.Internal.Parsing.{Reading, word_read, line_read}
-use Rattle.cats_text.specs.Internal.Scanning.{State, Scan, and_then, with_reading, blank_step_at, blank_step, words_step_at, words_step, line_step, byte_step}
+use Rattle.cats_text.specs.Internal.Scanning.{State, Scan, and_then, with_reading, blank_step_at, blank_step, words_step_at, line_step, byte_step}
 use Rattle.cats_text.specs.Internal.Scanning.{scan, MeetsBidLine}
+use Rattle.std.proofs.lemmas.Grind.{common_steps}
 
 abbrev ok : State → Scan
 ok t = Ok t
@@ -19,10 +20,7 @@ err e = Err e
 then_meets : (r : Scan) (t : State) (xs ys : List ℕ) → ((s : State) → scan s xs ≡ Ok t → MeetsBidLine s (xs ++ ys))
     → and_then r (λ s. scan s xs) ≡ Ok t → IsOkAnd r (λ s. MeetsBidLine s (xs ++ ys))
 then_meets (Ok s) t xs ys h e = h s e
-then_meets (Err fault) t xs ys h e = absurd (no e)
-  where
-    no : err fault ≡ ok t → ⊥
-    no q = cc
+then_meets (Err fault) t xs ys h e = grind (arith, common_steps)
 
 -- a bid line that is met behind the first bytes is met from their start
 pub meets_behind : (s t : State) (xs ys : List ℕ) → scan s xs ≡ Ok t → MeetsBidLine t ys → MeetsBidLine s (xs ++ ys)
@@ -59,11 +57,7 @@ at_most (Ok t) n m h le = omega arith
 at_most (Err e) n m h le = tt
 
 line_step-line : (s : State) → IfOk (line_step s) (λ u. u.line ≤ suc s.line)
-line_step-line s =
-    then-line (and_then (blank_step s) words_step) _ s.line (suc s.line)
-    (then-line (blank_step s) words_step s.line s.line (at_most (blank_step s) s.line s.line (blank-line s.mode s) (omega arith))
-    (λ t h. at_most (words_step t) t.line s.line (words-line t.mode t) h))
-    (λ t h. omega arith)
+line_step-line s = grind (arith, common_steps, at_most, blank-line, then-line, words-line)
 
 either-line : (test : Bool) (a b : Scan) (n : ℕ) → IfOk a (λ u. u.line ≤ n) → IfOk b (λ u. u.line ≤ n) → IfOk (if test then a else b) (λ u. u.line ≤ n)
 either-line true a b n h g = h
@@ -86,11 +80,7 @@ scan-line s (b ∷ bytes) =
     up_to (Err e) n m h le = tt
 
 settle-length : (b : ℕ) (bs decided : List ℕ) → length (settle b bs decided) ≤ suc (length decided)
-settle-length b [] decided = first (b == 13)
-  where
-    first : (test : Bool) → length (if test then [] else (b ∷ decided)) ≤ suc (length decided)
-    first true = omega arith
-    first false = omega arith
+settle-length b [] decided = grind (arith, common_steps)
 settle-length b (c ∷ cs) decided = omega arith
 
 -- no more bytes are decided than come

@@ -1,6 +1,5 @@
 -- The `#` and the LF that end a bid line.
-use Rattle.std.proofs.Common.{◌≡◌, ◌≢◌, ℕ, ◌+◌, ◌<◌, Bool, true, false, cond, eqb, List, length, get_or, refl, sym, ap, ap₂, subst, ◌∙◌, arith, Ok, Err}
-use Rattle.std.proofs.Common.{add-one}
+use Rattle.std.proofs.Common.{◌≡◌, ◌≢◌, ℕ, ◌+◌, ◌<◌, Bool, true, false, cond, eqb, List, length, get_or, refl, sym, ap, subst, ◌∙◌, arith, Ok, Err, add-one}
 use Rattle.std.proofs.lemmas.Bool.{eqb-true}
 use Rattle.cats_text.specs.Internal.LeadingToken.{IsLeadingToken}
 use Rattle.cats_text.specs.Internal.Parsing.{word_read, line_read, end_read, bid_closed, with_bid}
@@ -8,30 +7,18 @@ use Rattle.cats_text.specs.Internal.Progress.{Progress, Gives}
 use Rattle.cats_text.specs.Internal.Scanning.{State, byte_step, is_before_word, IsGoodDue, ScansTo}
 use Rattle.cats_text.specs.declared.read_fault.Kind.{Kind}
 use Rattle.cats_text.specs.declared.read_fault.Kind.TheVariants.{EmptyBundle}
-use Rattle.cats_text.specs.declared.parser.Column.{Column}
 use Rattle.cats_text.specs.declared.parser.Column.TheVariants.{Later, Ended}
-use Rattle.cats_text.specs.declared.parser.Stage.{Stage}
 use Rattle.cats_text.specs.declared.parser.Stage.TheVariants.{Bid}
 use Rattle.cats_text.specs.declared.scanner.Mode.TheVariants.{Start}
 use Rattle.cats_text.specs.declared.word.Word.{Word}
 use Rattle.cats_text.specs.declared.word.Word.TheVariants.{End}
 use Rattle.cats_text.proofs.Scanning.Rests.{scan_byte_at}
 use Rattle.cats_text.proofs.Scanning.WholeWords.{behind_word, word_taken, word_halts, stops_in}
+use Rattle.std.proofs.lemmas.Grind.{common_steps}
 
 -- behind a word of one byte with no blank there is LF
 token_one : (bytes : List ℕ) (w : Word) → IsLeadingToken bytes w 1 → (1 < length bytes) × (get_or bytes 1 0 ≡ 10)
-token_one bytes w token =
-    let some : 0 < token.count = token.kept.some in
-    let is : 1 ≡ token.count + cond (eqb (get_or bytes token.count 0) 10) 0 1 = token.is in
-    elim (eqb (get_or bytes token.count 0) 10) as (λ t. eqb (get_or bytes token.count 0) 10 ≡ t → (1 < length bytes) × (get_or bytes 1 0 ≡ 10)) [
-      | true ↦ λ (e : eqb (get_or bytes token.count 0) 10 ≡ true).
-          let all : token.count + cond (eqb (get_or bytes token.count 0) 10) 0 1 ≡ token.count + 0 = ap (λ t. token.count + cond t 0 1) e in
-          let one : token.count ≡ 1 = omega arith in
-          (subst (λ k. k < length bytes) one token.within, subst (λ k. get_or bytes k 0 ≡ 10) one (eqb-true _ _ e))
-      | false ↦ λ (e : eqb (get_or bytes token.count 0) 10 ≡ false).
-          let all : token.count + cond (eqb (get_or bytes token.count 0) 10) 0 1 ≡ token.count + 1 = ap (λ t. token.count + cond t 0 1) e in
-          absurd (omega arith)
-    ] refl
+token_one bytes w token = grind (arith, common_steps, eqb-true)
 
 no_return : (b : ℕ) → b ≡ 10 → b ≢ 13
 no_return b e q = omega arith
@@ -42,13 +29,10 @@ abbrev ended : Progress → Progress
 ended p = record p { column = Ended }
 
 end_word : (p : Progress) → p.stage ≡ Bid → p.column ≡ Later → word_read p End ≡ end_read p
-end_word p stage column =
-    let is : p ≡ record p { stage = Bid; column = Later } = ap₂ (λ (s : Stage) (l : Column). record p { stage = s; column = l }) stage column in
-    ap (λ (q : Progress). word_read q End) is ∙ sym (ap end_read is)
+end_word p stage column = grind (arith, common_steps)
 
 end_line : (p : Progress) → p.stage ≡ Bid → line_read (ended p) ≡ Ok (with_bid p)
-end_line p stage = let is : p ≡ record p { stage = Bid } = ap (λ (s : Stage). record p { stage = s }) stage in
-    ap (λ (q : Progress). line_read (ended q)) is ∙ sym (ap (λ (q : Progress). Ok (with_bid q)) is)
+end_line p stage = grind (arith, common_steps)
 
 -- of a bid with a good the `#` is read, and the bid is put
 put_by : (p q : Progress) (t : Bool) → cond t (Err EmptyBundle) (Ok (with_bid p)) ≡ Ok q

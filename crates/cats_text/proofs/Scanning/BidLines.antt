@@ -1,16 +1,13 @@
 -- Where the scanner is in a bid line, a fourth significant line has begun. The idea: count the lines that begin, byte by byte,
 -- and the header lines that have ended by the parser's stage.
-use Rattle.std.proofs.Common.{◌≡◌, ℕ, suc, ◌+◌, ◌-◌, ◌≤◌, Option, Some, None, Bool, true, false, not, cond, eqb, ltb, leb, ⊎_elim, List, [], ◌∷◌, ◌++◌, length}
+use Rattle.std.proofs.Common.{◌≡◌, ℕ, suc, ◌+◌, ◌≤◌, Option, Some, None, Bool, true, false, not, cond, eqb, ltb, ⊎_elim, List, [], ◌∷◌, ◌++◌, length}
 use Rattle.std.proofs.Common.{filter, refl, sym, ap, ◌∙◌, subst, arith, Result, Ok, Err, IsOkAnd}
 use Rattle.std.proofs.lemmas.Bool.{lt-ltb}
 use Rattle.cats_text.specs.Lines.{Word, RawLine, Line, raw_lines, lines_with, with_byte, line_words, words_with, with_letter, begins_word, is_significant}
 use Rattle.cats_text.specs.Lines.{is_blank, numbered, blank_returns, significant_lines}
 use Rattle.cats_text.specs.Faults.{has_bid_line}
-use Rattle.std.specs.List.{slice_get}
-use Rattle.cats_text.specs.Grammar.{has_number}
 use Rattle.cats_text.specs.Internal.Progress.{Progress}
 use Rattle.cats_text.specs.Internal.Parsing.{Reading, keyword_read, header_number_read, number_read, price_parts, with_price, price_read}
-use Rattle.cats_text.specs.Internal.Kept.{is_some_bid}
 use Rattle.cats_text.specs.Internal.Parsing.{dummy_read, good_or_end_read, word_read, line_read}
 use Rattle.cats_text.specs.declared.read_fault.Kind.{Kind}
 use Rattle.cats_text.specs.declared.read_fault.Kind.TheVariants as kinds
@@ -32,6 +29,7 @@ use Rattle.cats_text.specs.declared.parser.Stage.TheVariants.{Goods, Bids, Dummy
 use Rattle.cats_text.specs.declared.scanner.Mode.{Mode}
 use Rattle.cats_text.specs.declared.scanner.Mode.TheVariants.{Start, Blank, Comment, Between, Inside}
 use Rattle.cats_text.proofs.Scanning.Lines.{standing, words_blank}
+use Rattle.std.proofs.lemmas.Grind.{common_steps}
 
 -- ---- how many significant lines begin in the bytes
 
@@ -58,15 +56,12 @@ abbrev counted : ℕ → List RawLine → ℕ
 counted n ls = length (filter (λ (l : Line). is_significant l.words) (numbered n ls))
 
 counted-cons : (n : ℕ) (l : RawLine) (ls : List RawLine) → counted n (l ∷ ls) ≡ one_if (is_significant (line_words l.bytes)) + counted (suc n) ls
-counted-cons n l ls = elim (is_significant (line_words l.bytes)) as (λ t. length
-    (cond t (record { number = n; words = line_words l.bytes; ended = l.ended } ∷ filter (λ (m : Line). is_significant m.words) (numbered (suc n) ls))
-    (filter (λ (m : Line). is_significant m.words) (numbered (suc n) ls))) ≡ one_if t + counted (suc n) ls) [ true ↦ omega arith | false ↦ omega arith ]
+counted-cons n l ls = grind (arith, common_steps)
 
 -- the number of the first line does not matter
 counted-from : (m n : ℕ) (ls : List RawLine) → counted m ls ≡ counted n ls
 counted-from m n [] = refl
-counted-from m n (l ∷ ls) = counted-cons m l ls ∙ ap (λ k. one_if (is_significant (line_words l.bytes)) + k) (counted-from (suc m) (suc n) ls)
-    ∙ sym (counted-cons n l ls)
+counted-from m n (l ∷ ls) = grind (arith, common_steps, counted-cons, (counted-from (suc m) (suc n) ls))
 
 -- the lines behind the first
 abbrev behind_first : List RawLine → List RawLine
@@ -99,17 +94,7 @@ record Begins (text : List ℕ) : Type 0 where
   later : begins_after true text ≡ counted 1 (behind_first (raw_lines text))
 
 begins_lf : (b : ℕ) (bs : List ℕ) → eqb b 10 ≡ true → Begins bs → Begins (b ∷ bs)
-begins_lf b bs e h = record {
-  fresh = begins-cons false b bs
-      ∙ ap (λ t. cond t (begins_after false bs)
-      (cond (is_blank b) (begins_after false bs) (cond (eqb b 37) (begins_after true bs) (suc (begins_after true bs))))) e ∙ h.fresh
-      ∙ sym (counted_first (lines_with b (raw_lines bs))
-      ∙ ap (λ t. one_if (is_significant
-      (line_words (first_bytes (cond t (record { bytes = []; ended = true } ∷ raw_lines bs) (with_byte b (raw_lines bs))))))
-      + counted 1 (behind_first (cond t (record { bytes = []; ended = true } ∷ raw_lines bs) (with_byte b (raw_lines bs))))) e ∙ omega arith);
-  later = begins-cons true b bs ∙ ap (λ t. cond t (begins_after false bs) (begins_after true bs)) e ∙ h.fresh
-      ∙ sym (ap (λ t. counted 1 (behind_first (cond t (record { bytes = []; ended = true } ∷ raw_lines bs) (with_byte b (raw_lines bs))))) e);
-}
+begins_lf b bs e h = grind (arith, common_steps, begins-cons, begins_after, counted_first)
 
 first_with : (b : ℕ) (ls : List RawLine) → first_bytes (with_byte b ls) ≡ b ∷ first_bytes ls
 first_with b [] = refl
@@ -123,33 +108,8 @@ lines_other : (b : ℕ) (ls : List RawLine) → eqb b 10 ≡ false → lines_wit
 lines_other b ls e = ap (λ t. cond t (record { bytes = []; ended = true } ∷ ls) (with_byte b ls)) e
 
 begins_other : (b : ℕ) (bs : List ℕ) → eqb b 10 ≡ false → Begins bs → Begins (b ∷ bs)
-begins_other b bs e h = record {
-  fresh = begins-cons false b bs
-      ∙ ap (λ t. cond t (begins_after false bs)
-      (cond (is_blank b) (begins_after false bs) (cond (eqb b 37) (begins_after true bs) (suc (begins_after true bs))))) e
-      ∙ by_blank ∙ sym whole;
-  later = begins-cons true b bs ∙ ap (λ t. cond t (begins_after false bs) (begins_after true bs)) e ∙ h.later
-      ∙ sym (ap (counted 1) (ap behind_first (lines_other b (raw_lines bs) e) ∙ behind_with b (raw_lines bs)));
-}
-  where
-    whole : counted 1 (raw_lines (b ∷ bs)) ≡ one_if (is_significant (line_words (b ∷ first_bytes (raw_lines bs)))) + counted 1 (behind_first (raw_lines bs))
-    whole = counted_first (raw_lines (b ∷ bs)) ∙ ap (λ (ls : List RawLine). one_if (is_significant (line_words (first_bytes ls))) + counted 1 (behind_first ls))
-        (lines_other b (raw_lines bs) e)
-        ∙ ap (λ (ds : List ℕ). one_if (is_significant (line_words ds)) + counted 1 (behind_first (with_byte b (raw_lines bs)))) (first_with b (raw_lines bs))
-        ∙ ap (λ (ls : List RawLine). one_if (is_significant (line_words (b ∷ first_bytes (raw_lines bs)))) + counted 1 ls) (behind_with b (raw_lines bs))
-
-    by_blank : cond (is_blank b) (begins_after false bs) (cond (eqb b 37) (begins_after true bs) (suc (begins_after true bs)))
-        ≡ one_if (is_significant (line_words (b ∷ first_bytes (raw_lines bs)))) + counted 1 (behind_first (raw_lines bs))
-    by_blank = elim (is_blank b) as (λ t. is_blank b ≡ t → cond t (begins_after false bs) (cond (eqb b 37) (begins_after true bs) (suc (begins_after true bs)))
-        ≡ one_if (is_significant (line_words (b ∷ first_bytes (raw_lines bs)))) + counted 1 (behind_first (raw_lines bs))) [
-          | true ↦ λ (q : is_blank b ≡ true). h.fresh ∙ counted_first (raw_lines bs)
-              ∙ ap (λ ws. one_if (is_significant ws) + counted 1 (behind_first (raw_lines bs))) (sym (words_blank b (first_bytes (raw_lines bs)) q))
-          | false ↦ λ (q : is_blank b ≡ false).
-              (elim (eqb b 37) as (λ t. cond t (begins_after true bs) (suc (begins_after true bs)) ≡ one_if (not t) + counted 1 (behind_first (raw_lines bs))) [
-                | true ↦ h.later ∙ omega arith
-                | false ↦ ap suc h.later ∙ omega arith
-              ]) ∙ ap (λ t. one_if t + counted 1 (behind_first (raw_lines bs))) (sym (significant_letter b (first_bytes (raw_lines bs)) q))
-        ] refl
+begins_other b bs e h =
+    grind (arith, common_steps, begins-cons, begins_after, behind_with, counted_first, first_with, lines_other, significant_letter, words_blank)
 
 begins_are : (text : List ℕ) → Begins text
 begins_are [] = record { fresh = begins-nil false; later = begins-nil true }
@@ -161,24 +121,7 @@ begins_are (b ∷ bs) = elim (eqb b 10) as (λ t. eqb b 10 ≡ t → Begins (b �
 -- more bytes begin no fewer lines
 begins_more : (d : Bool) (xs ys : List ℕ) → begins_after d xs ≤ begins_after d (xs ++ ys)
 begins_more d [] ys = let none : begins_after d [] ≡ 0 = begins-nil d in omega arith
-begins_more d (x ∷ xs) ys = let first : begins_after d (x ∷ xs) ≡ next_begin d x (begins_after false xs) (begins_after true xs) = begins-cons d x xs in
-    let whole : begins_after d (x ∷ (xs ++ ys)) ≡ next_begin d x (begins_after false (xs ++ ys)) (begins_after true (xs ++ ys)) = begins-cons d x (xs ++ ys) in
-    subst (λ k. k ≤ begins_after d (x ∷ (xs ++ ys))) (sym first) (subst (λ k. next_begin d x (begins_after false xs) (begins_after true xs) ≤ k) (sym whole)
-    (grows (begins_after false xs) (begins_after true xs) (begins_after false (xs ++ ys)) (begins_after true (xs ++ ys)) (begins_more false xs ys)
-    (begins_more true xs ys)))
-  where
-    grows : (a b c e : ℕ) → a ≤ c → b ≤ e → next_begin d x a b ≤ next_begin d x c e
-    grows a b c e l m = elim (eqb x 10) as (λ t. cond t a (cond d b (cond (is_blank x) a (cond (eqb x 37) b (suc b))))
-        ≤ cond t c (cond d e (cond (is_blank x) c (cond (eqb x 37) e (suc e))))) [
-          | true ↦ l
-          | false ↦ elim d as (λ t. cond t b (cond (is_blank x) a (cond (eqb x 37) b (suc b))) ≤ cond t e (cond (is_blank x) c (cond (eqb x 37) e (suc e)))) [
-            | true ↦ m
-            | false ↦ elim (is_blank x) as (λ t. cond t a (cond (eqb x 37) b (suc b)) ≤ cond t c (cond (eqb x 37) e (suc e))) [
-              | true ↦ l
-              | false ↦ elim (eqb x 37) as (λ t. cond t b (suc b) ≤ cond t e (suc e)) [ true ↦ m | false ↦ omega arith ]
-            ]
-          ]
-        ]
+begins_more d (x ∷ xs) ys = grind (arith, common_steps, begins-cons, begins_after, (begins_more false xs ys), (begins_more true xs ys))
 
 -- ---- the header lines that have ended
 
@@ -188,31 +131,16 @@ rank Bids = 1
 rank Dummy = 2
 rank Bid = 3
 
-abbrev ok_of : Progress → Reading
-ok_of p = Ok p
-
-abbrev err_of : Kind → Reading
-err_of kind = Err kind
-
 -- what is read is of the same line, and as much is kept of its bid
 pub record Keeps (p : Progress) (r : Reading) : Type 0 where
   pub same : (q : Progress) → r ≡ Ok q → q.stage ≡ p.stage
   pub keeping : (q : Progress) → r ≡ Ok q → q.keep ≡ p.keep
 
 keeps_ok : (p q : Progress) → q.stage ≡ p.stage → q.keep ≡ p.keep → Keeps p (Ok q)
-keeps_ok p q e f = record {
-  same = λ t h. subst (λ (u : Progress). u.stage ≡ p.stage) (progress_ok q t h) e;
-  keeping = λ t h. subst (λ (u : Progress). u.keep ≡ p.keep) (progress_ok q t h) f;
-}
-  where
-    progress_ok : (x y : Progress) → ok_of x ≡ ok_of y → x ≡ y
-    progress_ok x y h = cc
+keeps_ok p q e f = grind (arith, common_steps)
 
 keeps_err : (p : Progress) (kind : Kind) → Keeps p (Err kind)
-keeps_err p kind = record { same = λ t h. absurd (no kind t h); keeping = λ t h. absurd (no kind t h) }
-  where
-    no : (k : Kind) (t : Progress) → err_of k ≡ ok_of t → ⊥
-    no k t h = cc
+keeps_err p kind = grind (arith, common_steps)
 
 keeps_cond : (p : Progress) (b : Bool) (x y : Reading) → Keeps p x → Keeps p y → Keeps p (cond b x y)
 keeps_cond p true x y h k = h
@@ -245,14 +173,7 @@ keeps_second p Other = keeps_err p _
 
 keeps_number : (p : Progress) (w : Kept) → Keeps p (number_read p w)
 keeps_number p (Keyword j n) = keeps_err p _
-keeps_number p (Number v) =
-    let last : Reading = Ok (record p { column = Second; draft = record { number = v; price = 0; dummy = None } }) in
-    let new : Reading = cond (is_some_bid (slice_get p.slots v)) (Err kinds.RepeatedNumber) last in
-    let low : Reading = cond (leb p.header.bids v) (Err kinds.BidNumber) new in
-    keeps_cond p (eqb p.due 0) (Err kinds.ExtraBid) low (keeps_err p kinds.ExtraBid)
-    (keeps_cond p (leb p.header.bids v) (Err kinds.BidNumber) new (keeps_err p kinds.BidNumber)
-    (keeps_cond p (is_some_bid (slice_get p.slots v)) (Err kinds.RepeatedNumber) last (keeps_err p kinds.RepeatedNumber)
-    (keeps_ok p (record p { column = Second; draft = record { number = v; price = 0; dummy = None } }) refl refl)))
+keeps_number p (Number v) = grind (arith, common_steps, keeps_cond, keeps_err, keeps_ok)
 keeps_number p (Fraction d) = keeps_err p _
 keeps_number p End = keeps_err p _
 keeps_number p Other = keeps_err p _
@@ -274,14 +195,7 @@ keeps_dummy p (Some e) d = keeps_cond p _ _ _ (keeps_err p _) (keeps_err p _)
 
 keeps_good : (p : Progress) (w : Kept) → Keeps p (good_or_end_read p w)
 keeps_good p (Keyword j n) = keeps_err p _
-keeps_good p (Number v) =
-    let real : Reading = cond (has_number p.goods v) (Err kinds.RepeatedGood) (Ok (record p { goods = p.goods ++ v ∷ [] })) in
-    let good : Reading = cond (ltb v p.header.goods) real (dummy_read p p.draft.dummy (v - p.header.goods)) in
-    keeps_cond p (leb (p.header.goods + p.header.dummy) v) (Err kinds.GoodRange) good (keeps_err p kinds.GoodRange)
-    (keeps_cond p (ltb v p.header.goods) real (dummy_read p p.draft.dummy (v - p.header.goods))
-    (keeps_cond p (has_number p.goods v) (Err kinds.RepeatedGood) (Ok (record p { goods = p.goods ++ v ∷ [] })) (keeps_err p kinds.RepeatedGood)
-    (keeps_ok p (record p { goods = p.goods ++ v ∷ [] }) refl refl))
-    (keeps_dummy p p.draft.dummy (v - p.header.goods)))
+keeps_good p (Number v) = grind (arith, common_steps, keeps_cond, keeps_dummy, keeps_err, keeps_ok)
 keeps_good p (Fraction d) = keeps_err p _
 keeps_good p End = keeps_cond p _ _ _ (keeps_err p _) (keeps_ok p _ refl refl)
 keeps_good p Other = keeps_err p _

@@ -1,7 +1,6 @@
 -- The digits at the start of bytes and the number that they spell, where they are few.
 use Rattle.std.proofs.Common.{◌≡◌, ℕ, suc, ◌+◌, ◌-◌, ◌*◌, ◌%◌, ◌^◌, ◌<◌, ◌≤◌, min, true, false, cond, List, [], ◌∷◌, length, take, drop, slice_range, fold}
-use Rattle.std.proofs.Common.{Option, Some, None, IfSome}
-use Rattle.std.proofs.Common.{refl, sym, ap, ◌∙◌, subst, arith, lt_of_lt_of_le}
+use Rattle.std.proofs.Common.{Option, Some, None, IfSome, refl, sym, ap, ◌∙◌, subst, arith, lt_of_lt_of_le}
 use Rattle.std.proofs.Math.Nat.{pow-suc, pow-le-pow_right, mod-eq_of_lt}
 use Rattle.std.proofs.lemmas.Bool.{and_parts, and_from, lt-ltb}
 use Rattle.std.proofs.lemmas.List.{length-take, take-take}
@@ -12,10 +11,10 @@ use Rattle.core.proofs.dec2flt.DigitsLemmas.{is_digit as digit_worth, digits_len
 use Rattle.cats_text.specs.Numbers.{is_digit, digits_alone}
 use Rattle.cats_text.specs.Internal.Machine.{word_with}
 use Rattle.cats_text.specs.declared.word.Word.TheVariants.{Number}
-use Rattle.cats_text.specs.declared.word.TheConstants.{HELD}
 use Rattle.cats_text.proofs.Words.Places.{digit_bounds}
 use Rattle.cats_text.specs.Internal.LeadingToken.{IsNumberSoFar}
 use Rattle.cats_text.proofs.Scanning.ManyBytes.{number_with}
+use Rattle.std.proofs.lemmas.Grind.{common_steps}
 
 digits_in_prefix : (bs : List ℕ) → digits_alone (take (digits_len bs) bs) ≡ true
 digits_in_prefix [] = refl
@@ -28,25 +27,20 @@ digits_in_prefix (b ∷ bs) = elim (is_digit b) as (λ t. is_digit b ≡ t → d
 -- up to thirteen digits are not held back, and spell what they are worth
 few_spell : (ds : List ℕ) (v k : ℕ) → v < 10 ^ k → k + length ds ≤ 13 → digits_alone ds ≡ true
     → (Number (digits_value_after 10 v ds) ≡ fold word_with (Number v) ds) × (digits_value_after 10 v ds < 10 ^ 13)
-few_spell [] v k small few h =
-    let ten : 0 < 10 = omega arith in
-    let space : k ≤ 13 = omega arith in
-    (refl, lt_of_lt_of_le small (pow-le-pow_right ten space))
+few_spell [] v k small few h = grind (arith, common_steps, lt_of_lt_of_le, pow-le-pow_right)
 few_spell (b ∷ ds) v k small few h =
-    let p = and_parts (is_digit b) (digits_alone ds) h in
-    let bounds = digit_bounds b p.0 in
-    let ten : 0 < 10 = omega arith in
-    let space : k ≤ 13 = omega arith in
-    let below : 10 ^ k ≤ 10 ^ 13 = pow-le-pow_right ten space in
-    let held : v < HELD = omega arith in
-    let worth : digit_value b ≡ b - 48 = (digit_worth b bounds.0 bounds.1).1 in
-    let step : word_with (Number v) b ≡ Number (v * 10 + digit_value b) =
-    number_with v b p.0 ∙ ap (λ t. Number (cond t (v * 10 + (b - 48)) v)) (lt-ltb v HELD held) ∙ ap (λ d. Number (v * 10 + d)) (sym worth) in
-    let low : 48 ≤ b = bounds.0 in
-    let high : b ≤ 57 = bounds.1 in
-    let more : v * 10 + digit_value b < 10 ^ (suc k) = omega (arith, pow-suc 10 k) in
-    let rest = few_spell ds (v * 10 + digit_value b) (suc k) more (omega arith) p.1 in
-    (rest.0 ∙ ap (λ w. fold word_with w ds) (sym step), rest.1)
+    grind (
+      arith,
+      common_steps,
+      and_parts,
+      digit_bounds,
+      digit_worth,
+      lt-ltb,
+      number_with,
+      pow-le-pow_right,
+      pow-suc,
+      (few_spell ds (v * 10 + digit_value b) (suc k)),
+    )
 
 -- few digits at the start and what they are worth
 few_spelt : (bytes : List ℕ) (count value : ℕ) → digits_len bytes ≡ count → count ≤ 13 → value ≡ digits_value 10 (take count bytes)

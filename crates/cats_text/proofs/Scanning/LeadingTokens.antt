@@ -1,6 +1,6 @@
 -- What is kept of the word at the start of bytes: of digits, of digits and a point, and of `#`.
 use Rattle.std.proofs.Common.{◌≡◌, ℕ, ◌+◌, ◌-◌, ◌<◌, ◌≤◌, min, true, false, List, [], ◌∷◌, ◌++◌, length, get_or, take, drop, fold, refl, sym, ap, ◌∙◌, subst}
-use Rattle.std.proofs.Common.{arith, zero, suc, zero-add, cond, eqb}
+use Rattle.std.proofs.Common.{arith, zero, suc, zero-add, eqb}
 use Rattle.std.proofs.lemmas.Bool.{and_parts, both_ways, eqb-true, eq-eqb, or_left, or_right}
 use Rattle.std.proofs.lemmas.List.{length-take, length-drop}
 use Rattle.std.proofs.lemmas.List.Sums.{fold-append}
@@ -13,6 +13,7 @@ use Rattle.cats_text.specs.declared.word.Word.{Word}
 use Rattle.cats_text.specs.declared.price.Decimal.{Decimal}
 use Rattle.cats_text.specs.declared.word.Word.TheVariants.{Number, Decimal as Fraction, End}
 use Rattle.cats_text.proofs.Scanning.ManyBytes.{digits_plain}
+use Rattle.std.proofs.lemmas.Grind.{common_steps}
 
 first_digit : (b : ℕ) → is_digit b ≡ true → word_from b ≡ word_with (Number 0) b
 first_digit b d = rw d (ap (λ n. Number n) (sym (zero-add (b - 48))))
@@ -39,21 +40,11 @@ take_parts (b ∷ bytes) (suc i) k l = let e : suc i + 1 + k ≡ suc (i + 1 + k)
 
 pub number_kept : (bytes : List ℕ) (count v : ℕ) → 0 < count → count ≤ length bytes → digits_alone (take count bytes) ≡ true
     → Number v ≡ fold word_with (Number 0) (take count bytes) → IsKept bytes (Number v) count
-number_kept bytes count v some within digits value = let long : length (take count bytes) ≡ min count (length bytes) = length-take count bytes in record {
-  some = some;
-  within = within;
-  plain = digits_plain (take count bytes) digits;
-  word = digits_summary (take count bytes) v (omega arith) digits value;
-}
+number_kept bytes count v some within digits value = grind (arith, common_steps, digits_plain, digits_summary, length-take)
 
 pub end_kept : (bytes : List ℕ) → 0 < length bytes → get_or bytes 0 0 ≡ 35 → IsKept bytes End 1
 end_kept [] l e = absurd (let no : 0 < 0 = l in omega arith)
-end_kept (b ∷ bytes) l e = record {
-  some = omega arith;
-  within = omega arith;
-  plain = subst (λ c. AllByRecursion IsPlain (c ∷ [])) (sym e) ((omega arith, refl), tt);
-  word = ap word_from (sym e);
-}
+end_kept (b ∷ bytes) l e = grind (arith, common_steps)
 
 pub decimal_kept : (bytes : List ℕ) (count v : ℕ) (d : Decimal) (places : ℕ) → 0 < count → count < length bytes → get_or bytes count 0 ≡ 46
     → digits_alone (take count bytes) ≡ true → Number v ≡ fold word_with (Number 0) (take count bytes)
@@ -80,30 +71,15 @@ decimal_kept bytes count v d places some within point digits value space more fr
 -- ---- the word and what is behind it
 
 blank_no_feed : (b : ℕ) → is_blank b ≡ true → eqb b 10 ≡ false
-blank_no_feed b h = elim (eqb b 10) as (λ t. eqb b 10 ≡ t → t ≡ false) [
-  | true ↦ λ (e : eqb b 10 ≡ true). absurd (both_ways (is_blank 10) refl (subst (λ c. is_blank c ≡ true) (eqb-true b 10 e) h))
-  | false ↦ λ e. refl
-] refl
+blank_no_feed b h = grind (arith, common_steps, both_ways, eqb-true)
 
 pub token_before_blank : (bytes : List ℕ) (w : Word) (count : ℕ) → IsKept bytes w count → count < length bytes → is_blank (get_or bytes count 0) ≡ true
     → IsLeadingToken bytes w (count + 1)
-token_before_blank bytes w count kept within blank = record {
-  count = count;
-  kept = kept;
-  within = within;
-  ends = or_left (is_blank (get_or bytes count 0)) (eqb (get_or bytes count 0) 10) blank;
-  is = sym (ap (λ t. count + cond t 0 1) (blank_no_feed (get_or bytes count 0) blank));
-}
+token_before_blank bytes w count kept within blank = grind (arith, common_steps, blank_no_feed, or_left)
 
 pub token_before_feed : (bytes : List ℕ) (w : Word) (count : ℕ) → IsKept bytes w count → count < length bytes → get_or bytes count 0 ≡ 10
     → IsLeadingToken bytes w count
-token_before_feed bytes w count kept within feed = let is : eqb (get_or bytes count 0) 10 ≡ true = eq-eqb (get_or bytes count 0) 10 feed in record {
-  count = count;
-  kept = kept;
-  within = within;
-  ends = or_right (is_blank (get_or bytes count 0)) (eqb (get_or bytes count 0) 10) is;
-  is = sym (ap (λ t. count + cond t 0 1) is ∙ omega arith);
-}
+token_before_feed bytes w count kept within feed = grind (arith, common_steps, eq-eqb, or_right)
 
 -- `#` and LF
 pub token_of_end : (bytes : List ℕ) → 1 < length bytes → get_or bytes 0 0 ≡ 35 → get_or bytes 1 0 ≡ 10 → IsLeadingToken bytes End 1

@@ -1,5 +1,5 @@
 -- Several bytes at once: the digits of a number, whole words, and the bytes of a comment.
-use Rattle.std.proofs.Common.{◌≡◌, ◌≢◌, ℕ, suc, ◌+◌, ◌-◌, ◌*◌, ◌<◌, ◌≤◌, Bool, true, false, not, ◌&&◌, ◌||◌, cond, eqb, ltb, List, [], ◌∷◌, ◌++◌, length}
+use Rattle.std.proofs.Common.{◌≡◌, ◌≢◌, ℕ, suc, ◌+◌, ◌-◌, ◌*◌, ◌<◌, ◌≤◌, Bool, true, false, not, ◌&&◌, cond, eqb, ltb, List, [], ◌∷◌, ◌++◌, length}
 use Rattle.std.proofs.Common.{get_or, take, drop, fold, refl, sym, ap, ◌∙◌, subst, arith, Ok, add-one, append-nil, Some, None, min}
 use Rattle.std.proofs.lemmas.Bool.{and_parts, and_from, ltb-false, ne_eqb, eq-eqb}
 use Rattle.std.proofs.lemmas.List.Sums.{fold_push}
@@ -25,6 +25,7 @@ use Rattle.cats_text.specs.declared.word.Word.{Word}
 use Rattle.cats_text.specs.declared.word.Word.TheVariants.{Number, Decimal as Fraction}
 use Rattle.cats_text.specs.declared.price.Decimal.{Decimal}
 use Rattle.cats_text.specs.declared.word.TheConstants.{HELD}
+use Rattle.std.proofs.lemmas.Grind.{common_steps}
 
 take_push : (bytes : List ℕ) (i : ℕ) → i < length bytes → take (i + 1) bytes ≡ take i bytes ++ get_or bytes i 0 ∷ []
 take_push bytes i l = rw add-one (take-suc bytes i 0 l)
@@ -39,13 +40,7 @@ number_with v b d = rw d refl
 -- one more digit
 pub number_more : (first : ℕ) (bytes : List ℕ) (i sum next : ℕ) → i < length bytes → is_digit (get_or bytes i 0) ≡ true → IsNumberSoFar first bytes i sum
     → next ≡ cond (ltb sum HELD) (sum * 10 + (get_or bytes i 0 - 48)) sum → IsNumberSoFar first bytes (i + 1) next
-number_more first bytes i sum next l d so e = record {
-  digits = ap digits_alone (take_push bytes i l) ∙ digits_push (take i bytes) (get_or bytes i 0) so.digits d;
-  value = ap (λ n. Number n) e ∙ sym (number_with sum (get_or bytes i 0) d)
-      ∙ ap (λ w. word_with w (get_or bytes i 0)) so.value
-      ∙ sym (fold_push word_with (Number first) (take i bytes) (get_or bytes i 0))
-      ∙ ap (fold word_with (Number first)) (sym (take_push bytes i l));
-}
+number_more first bytes i sum next l d so e = grind (arith, common_steps, digits_push, fold_push, number_with, take_push)
 
 pub record IsDecimalSoFar (first : Decimal) (bytes : List ℕ) (count : ℕ) (sum : Decimal) : Type 0 where
   pub digits : digits_alone (take count bytes) ≡ true
@@ -58,13 +53,7 @@ decimal_digit d b h = rw h refl
 pub decimal_more : (first : Decimal) (bytes : List ℕ) (i : ℕ) (sum next : Decimal) → i < length bytes → is_digit (get_or bytes i 0) ≡ true
     → IsDecimalSoFar first bytes i sum
     → next ≡ decimal_with sum (get_or bytes i 0 - 48) → IsDecimalSoFar first bytes (i + 1) next
-decimal_more first bytes i sum next l d so e = record {
-  digits = ap digits_alone (take_push bytes i l) ∙ digits_push (take i bytes) (get_or bytes i 0) so.digits d;
-  value = ap (λ n. Fraction n) e ∙ sym (decimal_digit sum (get_or bytes i 0) d)
-      ∙ ap (λ w. word_with w (get_or bytes i 0)) so.value
-      ∙ sym (fold_push word_with (Fraction first) (take i bytes) (get_or bytes i 0))
-      ∙ ap (fold word_with (Fraction first)) (sym (take_push bytes i l));
-}
+decimal_more first bytes i sum next l d so e = grind (arith, common_steps, decimal_digit, digits_push, fold_push, take_push)
 
 -- ---- over several bytes at once
 
@@ -155,12 +144,7 @@ feed_at bytes = elim (ltb (position_or_len (λ b. eqb b 10) bytes) (length bytes
     ] refl
 
 pub comment_within : (rest : List ℕ) (count : ℕ) → count ≡ unwrap_or (position (λ b. eqb b 10) rest) (length rest) → count ≤ length rest
-comment_within rest count feed =
-    let most : length (take (prefix_len (λ b. not (eqb b 10)) rest) rest) ≡ prefix_len (λ b. not (eqb b 10)) rest =
-    length-prefix_len (λ b. not (eqb b 10)) rest in
-    let short : length (take (prefix_len (λ b. not (eqb b 10)) rest) rest) ≤ length rest =
-    min_le_right _ _ _ (length-take (prefix_len (λ b. not (eqb b 10)) rest) rest) in
-    let at : count ≡ prefix_len (λ b. not (eqb b 10)) rest = feed ∙ feed_at rest in omega arith
+comment_within rest count feed = grind (arith, common_steps, feed_at, length-prefix_len, length-take, min_le_right)
 
 -- the rest of a comment in these bytes
 pub comment_scanned : (s : State) (rest : List ℕ) (count : ℕ) (w : Bool) → s.mode ≡ Comment → 0 < length rest
@@ -201,17 +185,12 @@ waits_plain (b ∷ []) h = ne_eqb b 13 (plain_no_return b h.0)
 waits_plain (b ∷ c ∷ xs) h = waits_plain (c ∷ xs) h.1
 
 plain_letter : (b : ℕ) → IsPlain b → (eqb b 10 ≡ false) × (is_blank b ≡ false)
-plain_letter b p = let low : 32 < b = p.0 in
-    (ne_eqb b 10 (λ e. absurd (omega arith)), neither (eqb b 32) (eqb b 9) (ne_eqb b 32 (λ e. absurd (omega arith))) (ne_eqb b 9 (λ e. absurd (omega arith))))
-  where
-    neither : (x y : Bool) → x ≡ false → y ≡ false → (x || y) ≡ false
-    neither x y e f = rw (e, f) refl
+plain_letter b p = grind (arith, common_steps, ne_eqb)
 
 plain_scan : (w : Word) (n : ℕ) (p : Progress) (ds : List ℕ) → AllByRecursion IsPlain ds
     → scan (standing (Inside w) n p) ds ≡ Ok (standing (Inside (fold word_with w ds)) n p)
 plain_scan w n p [] h = refl
-plain_scan w n p (b ∷ ds) h = let letter = plain_letter b h.0 in
-    ap (λ r. and_then r (λ t. scan t ds)) (byte_letter (standing (Inside w) n p) b letter.0 letter.1) ∙ plain_scan (word_with w b) n p ds h.1
+plain_scan w n p (b ∷ ds) h = grind (arith, common_steps, byte_letter, plain_letter, standing, (plain_scan (word_with w b) n p ds h.1))
 
 plain_begins : (m : Mode) (b : ℕ) → is_before_word m ≡ true → IsPlain b → letter_mode m b ≡ Inside (word_from b)
 plain_begins Start b e h = ap (λ t. cond t Comment (Inside (word_from b))) h.1
@@ -223,9 +202,7 @@ plain_begins (Inside w) b e h = cc
 word_scan : (m : Mode) (n : ℕ) (p : Progress) (ds : List ℕ) → is_before_word m ≡ true → 0 < length ds → AllByRecursion IsPlain ds
     → scan (standing m n p) ds ≡ Ok (standing (Inside (summary ds)) n p)
 word_scan m n p [] before l h = absurd (let no : 0 < 0 = l in omega arith)
-word_scan m n p (b ∷ ds) before l h = let letter = plain_letter b h.0 in
-    ap (λ r. and_then r (λ t. scan t ds)) (byte_letter (standing m n p) b letter.0 letter.1 ∙ ap (λ k. Ok (standing k n p)) (plain_begins m b before h.0))
-    ∙ plain_scan (word_from b) n p ds h.1
+word_scan m n p (b ∷ ds) before l h = grind (arith, common_steps, byte_letter, plain_begins, plain_letter, plain_scan, standing)
 
 -- bytes of a word at the start, which lead from one state to another
 plain_scanned : (s t : State) (rest : List ℕ) (count : ℕ) (w : Bool) → AllByRecursion IsPlain (take count rest) → scan s (take count rest) ≡ Ok t → w ≡ false

@@ -1,10 +1,11 @@
 -- A scan of a list of bytes: what is left of it does to the state reached what the whole does to the first.
 use Rattle.std.proofs.Math.ListN.{drop_of_length-le}
-use Rattle.std.proofs.Common.{add-one, drop-cons, ◌≡◌, ◌≢◌, ℕ, ◌+◌, ◌<◌, Bool, true, false, List, [], ◌∷◌, length, drop, get_or, refl, sym, ap, ◌∙◌, subst}
-use Rattle.std.proofs.Common.{arith, inr, Ok}
+use Rattle.std.proofs.Common.{add-one, drop-cons, ◌≡◌, ◌≢◌, ℕ, ◌+◌, ◌<◌, Bool, true, false, List, [], ◌∷◌, length, drop, get_or, refl, sym, subst}
+use Rattle.std.proofs.Common.{arith, Ok}
 use Rattle.std.proofs.lemmas.Bool.{ne_eqb, eq-eqb}
 use Rattle.cats_text.specs.Internal.Returns.{settled, waits, return_byte}
 use Rattle.cats_text.specs.Internal.Scanning.{State, scan, byte_step, MeetsBidLine, IsScanned}
+use Rattle.std.proofs.lemmas.Grind.{common_steps}
 
 pub settled-other : (b : ℕ) (rest : List ℕ) → b ≢ 13 → settled (b ∷ rest) ≡ b ∷ settled rest
 settled-other b [] ne = rw (ne_eqb b 13 ne) refl
@@ -22,50 +23,18 @@ waits-one b ne = ne_eqb b 13 ne
 -- a decided byte, and what is decided after it
 scan_decided : (s0 s t : State) (w : Bool) (bytes rest after : List ℕ) (b : ℕ) → settled rest ≡ b ∷ after → IsScanned s0 s w bytes rest → byte_step s b ≡ Ok t
     → (scan t after ≡ scan s0 (settled bytes)) × (MeetsBidLine t after → MeetsBidLine s0 (settled bytes))
-scan_decided s0 s t w bytes rest after b e p step = (
-  rw step at (sym (ap (λ ds. scan s ds) e) ∙ p.steps),
-  λ m. p.needs (rw e (let here : MeetsBidLine s (b ∷ after) = inr (rw step m) in here)),
-)
+scan_decided s0 s t w bytes rest after b e p step = grind (arith, common_steps)
 
 pub scan_byte : (s0 s t : State) (w : Bool) (bytes : List ℕ) (b : ℕ) (rest : List ℕ) → b ≢ 13 → IsScanned s0 s w bytes (b ∷ rest) → byte_step s b ≡ Ok t
     → IsScanned s0 t w bytes rest
-scan_byte s0 s t w bytes b rest ne p step = let both : (scan t (settled rest) ≡ scan s0 (settled bytes))
-    × (MeetsBidLine t (settled rest) → MeetsBidLine s0 (settled bytes)) =
-    scan_decided s0 s t w bytes (b ∷ rest) (settled rest) b (settled-other b rest ne) p step in record {
-      steps = both.0;
-      needs = both.1;
-      last = more rest p.last;
-      going = λ l. p.going (omega arith);
-      ended = λ e. p.going (omega arith) ∙ sym (waits-one b ne) ∙ ap (λ bs. waits (b ∷ bs)) (sym e) ∙ p.last (omega arith);
-    }
-  where
-    more : (rest : List ℕ) → (0 < length (b ∷ rest) → waits (b ∷ rest) ≡ waits bytes) → 0 < length rest → waits rest ≡ waits bytes
-    more [] h l = absurd (let no : 0 < 0 = l in omega arith)
-    more (c ∷ cs) h l = h (omega arith)
+scan_byte s0 s t w bytes b rest ne p step = grind (arith, common_steps, scan_decided, settled-other, waits-one)
 
 pub scan_last_return : (s0 s : State) (w : Bool) (bytes : List ℕ) (b : ℕ) → b ≡ 13 → IsScanned s0 s w bytes (b ∷ []) → IsScanned s0 s true bytes []
-scan_last_return s0 s w bytes b e p = record {
-  steps = ap (λ ds. scan s ds) (sym (settled-last_return b e)) ∙ p.steps;
-  needs = λ m. p.needs (rw (settled-last_return b e) m);
-  last = λ l. absurd (let no : 0 < 0 = l in omega arith);
-  going = λ l. absurd (let no : 0 < 0 = l in omega arith);
-  ended = λ q. sym (eq-eqb b 13 e) ∙ p.last (omega arith);
-}
+scan_last_return s0 s w bytes b e p = grind (arith, common_steps, eq-eqb, settled-last_return)
 
 pub scan_return : (s0 s t : State) (w : Bool) (bytes : List ℕ) (b c : ℕ) (cs : List ℕ) → b ≡ 13 → IsScanned s0 s w bytes (b ∷ c ∷ cs)
     → byte_step s (return_byte c) ≡ Ok t → IsScanned s0 t w bytes (c ∷ cs)
-scan_return s0 s t w bytes b c cs e p step = let both : (scan t (settled (c ∷ cs)) ≡ scan s0 (settled bytes))
-    × (MeetsBidLine t (settled (c ∷ cs)) → MeetsBidLine s0 (settled bytes)) =
-    scan_decided s0 s t w bytes (b ∷ c ∷ cs) (settled (c ∷ cs)) (return_byte c) (settled-return b c cs e) p step in record {
-      steps = both.0;
-      needs = both.1;
-      last = λ l. p.last (omega arith);
-      going = λ l. p.going (omega arith);
-      ended = λ q. absurd (cons_not_nil c cs q);
-    }
-  where
-    cons_not_nil : (x : ℕ) (xs : List ℕ) → x ∷ xs ≡ [] → ⊥
-    cons_not_nil x xs q = cc
+scan_return s0 s t w bytes b c cs e p step = grind (arith, common_steps, scan_decided, settled-return)
 
 -- ---- the same at a place of the list
 
@@ -80,33 +49,16 @@ scan_byte_at s0 s t w v bytes place l ne p step e =
 
 pub scan_last_return_at : (s0 s : State) (w : Bool) (bytes : List ℕ) (place : ℕ) → place + 1 ≡ length bytes → get_or bytes place 0 ≡ 13
     → IsScanned s0 s w bytes (drop place bytes) → IsScanned s0 s true bytes (drop (place + 1) bytes)
-scan_last_return_at s0 s w bytes place end e p =
-    let none : drop (place + 1) bytes ≡ [] = drop_of_length-le bytes (omega arith) in
-    rw none (scan_last_return s0 s w bytes (get_or bytes place 0) e (subst (λ r. IsScanned s0 s w bytes r) (at_place bytes place (omega arith)
-    ∙ ap (λ r. get_or bytes place 0 ∷ r) none) p))
+scan_last_return_at s0 s w bytes place end e p = grind (arith, common_steps, at_place, drop_of_length-le, scan_last_return)
 
 pub scan_return_at : (s0 s t : State) (w v : Bool) (bytes : List ℕ) (place : ℕ) → place + 1 < length bytes → get_or bytes place 0 ≡ 13
     → IsScanned s0 s w bytes (drop place bytes) → byte_step s (return_byte (get_or bytes (place + 1) 0)) ≡ Ok t → v ≡ w
     → IsScanned s0 t v bytes (drop (place + 1) bytes)
-scan_return_at s0 s t w v bytes place l e p step q =
-    let next : drop (place + 1) bytes ≡ get_or bytes (place + 1) 0 ∷ drop (place + 1 + 1) bytes = at_place bytes (place + 1) l in
-    subst (λ u. IsScanned s0 t u bytes (drop (place + 1) bytes)) (sym q) (rw next
-    (scan_return s0 s t w bytes (get_or bytes place 0) (get_or bytes (place + 1) 0) (drop (place + 1 + 1) bytes) e
-    (subst (λ r. IsScanned s0 s w bytes r) (at_place bytes place (omega arith) ∙ ap (λ r. get_or bytes place 0 ∷ r) next) p) step))
+scan_return_at s0 s t w v bytes place l e p step q = grind (arith, common_steps, at_place, scan_return)
 
 -- ---- several bytes at once
 
 -- one scan behind another
 pub scanned_then : (s0 s t : State) (w v : Bool) (bytes mid rest : List ℕ) → IsScanned s0 s w bytes mid → IsScanned s t v mid rest
     → (0 < length rest → 0 < length mid) → (mid ≡ [] → rest ≡ [] → v ≡ w) → IsScanned s0 t v bytes rest
-scanned_then s0 s t w v bytes mid rest p q more none = record {
-  steps = q.steps ∙ p.steps;
-  needs = λ m. p.needs (q.needs m);
-  last = λ l. q.last l ∙ p.last (more l);
-  going = q.going;
-  ended = λ e. by_mid mid refl e;
-}
-  where
-    by_mid : (m : List ℕ) → mid ≡ m → rest ≡ [] → v ≡ waits bytes
-    by_mid [] is e = none is e ∙ p.ended is
-    by_mid (b ∷ bs) is e = q.ended e ∙ p.last (subst (λ (ds : List ℕ). 0 < length ds) (sym is) (omega arith))
+scanned_then s0 s t w v bytes mid rest p q more none = grind (arith, common_steps)

@@ -29,6 +29,7 @@ use Rattle.cats_text.specs.declared.scanner.Mode.TheVariants.{Between, Inside}
 use Rattle.cats_text.specs.declared.word.Word.{Word}
 use Rattle.cats_text.proofs.Scanning.Rests.{settled-other, at_place, scan_byte_at, scanned_then}
 use Rattle.cats_text.proofs.Scanning.ManyBytes.{word_scanned, rest_is}
+use Rattle.std.proofs.lemmas.Grind.{common_steps}
 
 -- where a call stopped, the call that made it does
 pub stops_in : (kind : Kind) {N M F G : Type 0} → (N → M) → (F → G) → Stops kind N F → Stops kind M G
@@ -62,10 +63,7 @@ blank_ends_word s w p b e h read = rw (e, h, read) refl
 -- a word may be read before the byte that ends it
 byte_ends : (s : State) (w : Word) (p : Progress) (b : ℕ) → ends_word b ≡ true → word_read s.progress w ≡ Ok p
     → byte_step (in_word s w) b ≡ byte_step (behind_word s p) b
-byte_ends s w p b ends read = elim (eqb b 10) as (λ t. eqb b 10 ≡ t → byte_step (in_word s w) b ≡ byte_step (behind_word s p) b) [
-  | true ↦ λ (e : eqb b 10 ≡ true). line_ends_word s w p b e read
-  | false ↦ λ (e : eqb b 10 ≡ false). blank_ends_word s w p b e (blank_from (is_blank b) (eqb b 10) ends e) read
-] refl
+byte_ends s w p b ends read = grind (arith, common_steps, blank_ends_word, blank_from, line_ends_word)
 
 line_faults : (s : State) (w : Word) (kind : Kind) (b : ℕ) → eqb b 10 ≡ true → word_read s.progress w ≡ Err kind
     → byte_step (in_word s w) b ≡ Err (fault_at s.line kind)
@@ -77,10 +75,7 @@ blank_faults s w kind b e h read = rw (e, h, read) refl
 
 byte_faults : (s : State) (w : Word) (kind : Kind) (b : ℕ) → ends_word b ≡ true → word_read s.progress w ≡ Err kind
     → byte_step (in_word s w) b ≡ Err (fault_at s.line kind)
-byte_faults s w kind b ends read = elim (eqb b 10) as (λ t. eqb b 10 ≡ t → byte_step (in_word s w) b ≡ Err (fault_at s.line kind)) [
-  | true ↦ λ (e : eqb b 10 ≡ true). line_faults s w kind b e read
-  | false ↦ λ (e : eqb b 10 ≡ false). blank_faults s w kind b e (blank_from (is_blank b) (eqb b 10) ends e) read
-] refl
+byte_faults s w kind b ends read = grind (arith, common_steps, blank_faults, blank_from, line_faults)
 
 blank_stays : (s : State) (p : Progress) (b : ℕ) → eqb b 10 ≡ false → is_blank b ≡ true → byte_step (behind_word s p) b ≡ Ok (behind_word s p)
 blank_stays s p b e h = rw (e, h) refl
@@ -90,8 +85,7 @@ blank_stays s p b e h = rw (e, h) refl
 -- the byte that ends the word, and what is decided behind it
 settled_end : (bytes : List ℕ) (count : ℕ) → count < length bytes → ends_word (get_or bytes count 0) ≡ true → settled (drop count bytes) ≡ get_or bytes count 0
     ∷ settled (drop (count + 1) bytes)
-settled_end bytes count within ends = ap settled (at_place bytes count within)
-    ∙ settled-other (get_or bytes count 0) (drop (count + 1) bytes) (ends_no_return (get_or bytes count 0) ends)
+settled_end bytes count within ends = grind (arith, common_steps, at_place, ends_no_return, settled-other)
 
 -- the word is read before the byte that ends it
 read_scanned : (s : State) (p : Progress) (bytes : List ℕ) (w : Word) (taken : ℕ) (v : Bool) → is_before_word s.mode ≡ true
@@ -166,40 +160,20 @@ pub rest_then : (s0 s t : State) (w v : Bool) (bytes : List ℕ) (place count : 
     → IsScanned s0 s w bytes (drop place bytes)
     → ScansTo s t v (take (length bytes - place) (drop place bytes)) (Ok count) → IsScanned s0 t v bytes (drop (place + count) bytes)
     × (place + count ≤ length bytes)
-rest_then s0 s t w v bytes place count l same so_far next =
-    let here : IsScanned s t v (drop place bytes) (drop count (drop place bytes)) =
-    subst (λ ds. IsScanned s t v ds (drop count ds)) (rest_is bytes place) next.0 in
-    let left : length (drop place bytes) ≡ length bytes - place = length-drop place bytes in
-    let behind : length (drop count (drop place bytes)) ≡ length (drop place bytes) - count = length-drop count (drop place bytes) in
-    let most : count ≤ length (drop place bytes) = subst (λ ds. count ≤ length ds) (rest_is bytes place) next.1 in (
-      subst (IsScanned s0 t v bytes) (drop-drop count place bytes) (scanned_then s0 s t w v bytes (drop place bytes) (drop count (drop place bytes)) so_far here
-          (λ k. omega arith) (λ q k. same q)),
-      omega arith,
-    )
+rest_then s0 s t w v bytes place count l same so_far next = grind (arith, common_steps, drop-drop, length-drop, rest_is, scanned_then)
 
 pub rest_scanned : (s0 s t : State) (w v : Bool) (bytes : List ℕ) (place count : ℕ) → place < length bytes → IsScanned s0 s w bytes (drop place bytes)
     → ScansTo s t v (take (length bytes - place) (drop place bytes)) (Ok count)
     → IsScanned s0 t v bytes (drop (place + count) bytes) × (place + count ≤ length bytes)
-rest_scanned s0 s t w v bytes place count l so_far next =
-    let left : length (drop place bytes) ≡ length bytes - place = length-drop place bytes in
-    rest_then s0 s t w v bytes place count (omega arith) (λ q. absurd (let none : length (drop place bytes) ≡ 0 = ap length q in omega arith)) so_far next
+rest_scanned s0 s t w v bytes place count l so_far next = grind (arith, common_steps, length-drop, rest_then)
 
 pub rest_stops_to : (s0 s t : State) (w v : Bool) (bytes : List ℕ) (place : ℕ) (kind : Kind) → IsScanned s0 s w bytes (drop place bytes)
     → ScansTo s t v (take (length bytes - place) (drop place bytes)) (Err kind) → ScansTo s0 t v bytes (Err kind)
-rest_stops_to s0 s t w v bytes place kind so_far = stops_in kind
-    (λ needs. so_far.needs (subst (λ ds. MeetsBidLine s (settled ds)) (rest_is bytes place) needs))
-    (λ read. sym so_far.steps ∙ subst (λ ds. scan s (settled ds) ≡ Err (fault_at t.line kind)) (rest_is bytes place) read)
+rest_stops_to s0 s t w v bytes place kind so_far = grind (arith, common_steps, rest_is, stops_in)
 
 -- behind that call a byte stopped
 pub byte_stops : (s0 s t u : State) (w v : Bool) (bytes : List ℕ) (place count : ℕ) (kind : Kind) → place < length bytes
     → IsScanned s0 s w bytes (drop place bytes) → ScansTo s t v (take (length bytes - place) (drop place bytes)) (Ok count)
     → place + count < length bytes → get_or bytes (place + count) 0 ≢ 13
     → Steps IsInBidLine (λ x. byte_step x (get_or bytes (place + count) 0)) t u (Err kind) → Scans (settled bytes) s0 u (Err kind)
-byte_stops s0 s t u w v bytes place count kind l so_far next here ne =
-    let both = rest_scanned s0 s t w v bytes place count l so_far next in
-    let b : ℕ = get_or bytes (place + count) 0 in
-    let later : List ℕ = settled (drop (place + count + 1) bytes) in
-    let split : settled (drop (place + count) bytes) ≡ b ∷ later = ap settled (at_place bytes (place + count) here)
-    ∙ settled-other b (drop (place + count + 1) bytes) ne in
-    stops_in kind (λ needs. both.0.needs (subst (MeetsBidLine t) (sym split) (inl needs)))
-    (λ read. sym both.0.steps ∙ ap (scan t) split ∙ ap (λ r. and_then r (λ x. scan x later)) read)
+byte_stops s0 s t u w v bytes place count kind l so_far next here ne = grind (arith, common_steps, at_place, rest_scanned, settled-other, stops_in)

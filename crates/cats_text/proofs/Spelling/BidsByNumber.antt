@@ -1,6 +1,6 @@
 -- The bids of lines, each at its number. The idea: each line with a number of its own fills one more place, so as many lines
 -- as there are places fill them all.
-use Rattle.std.proofs.Common.{◌≡◌, ◌≢◌, ℕ, zero, suc, ◌+◌, ◌-◌, ◌<◌, ◌≤◌, ⊎_elim, List, [], ◌∷◌, ◌++◌, length, map, replicate, set, get_or, Option, Some, None}
+use Rattle.std.proofs.Common.{◌≡◌, ◌≢◌, ℕ, zero, suc, ◌+◌, ◌-◌, ◌<◌, ◌≤◌, List, [], ◌∷◌, ◌++◌, length, map, replicate, set, get_or, Option, Some, None}
 use Rattle.std.proofs.Common.{refl, sym, ap, ap₂, ◌∙◌, subst, arith, length-append, get_or-set_same, get_or-set_other}
 use Rattle.std.proofs.lemmas.Bool.{cases_eq}
 use Rattle.std.proofs.lemmas.List.{length-replicate, length-set}
@@ -9,6 +9,7 @@ use Rattle.cats_text.specs.Lines.{Word}
 use Rattle.bid_file.specs.Files.{PlainBid}
 use Rattle.cats_text.specs.Grammar.{AreDistinct, line_number}
 use Rattle.cats_text.specs.FileLines.{put_slot, filled, bid_of, slots_of}
+use Rattle.std.proofs.lemmas.Grind.{common_steps}
 
 abbrev BidsByNumber : Type 0
 BidsByNumber = List (Option PlainBid)
@@ -56,24 +57,16 @@ length_padded : (xs : BidsByNumber) (k : ℕ) → length (xs ++ replicate k None
 length_padded xs k = length-append xs (replicate k None) ∙ ap (λ n. length xs + n) (length-replicate k None)
 
 put_same : (xs : BidsByNumber) (n : ℕ) (b : PlainBid) → get_or (put_slot xs n b) n None ≡ Some b
-put_same xs n b =
-    let len : length (xs ++ replicate (n + 1 - length xs) None) ≡ length xs + (n + 1 - length xs) = length_padded xs (n + 1 - length xs) in
-    get_or-set_same (xs ++ replicate (n + 1 - length xs) None) n (Some b) None (omega arith)
+put_same xs n b = grind (arith, common_steps, get_or-set_same, length_padded)
 
 put_other : (xs : BidsByNumber) (n : ℕ) (b : PlainBid) (k : ℕ) → k ≢ n → get_or (put_slot xs n b) k None ≡ get_or xs k None
 put_other xs n b k ne = get_or-set_other (xs ++ replicate (n + 1 - length xs) None) n k (Some b) None ne ∙ at_padded xs (n + 1 - length xs) k
 
 length_put : (xs : BidsByNumber) (n : ℕ) (b : PlainBid) (m : ℕ) → length xs ≤ m → n < m → length (put_slot xs n b) ≤ m
-length_put xs n b m le lt =
-    let len : length (xs ++ replicate (n + 1 - length xs) None) ≡ length xs + (n + 1 - length xs) = length_padded xs (n + 1 - length xs) in
-    let all : length (put_slot xs n b) ≡ length (xs ++ replicate (n + 1 - length xs) None) = length-set (xs ++ replicate (n + 1 - length xs) None) n (Some b) in
-    omega arith
+length_put xs n b m le lt = grind (arith, common_steps, length-set, length_padded)
 
 length_filled_put : (xs : BidsByNumber) (n : ℕ) (b : PlainBid) → get_or xs n None ≡ None → length (filled (put_slot xs n b)) ≡ suc (length (filled xs))
-length_filled_put xs n b e =
-    let len : length (xs ++ replicate (n + 1 - length xs) None) ≡ length xs + (n + 1 - length xs) = length_padded xs (n + 1 - length xs) in
-    length_filled_set (xs ++ replicate (n + 1 - length xs) None) n b (omega arith) (at_padded xs (n + 1 - length xs) n ∙ e)
-    ∙ ap (λ bs. suc (length bs)) (filled_padded xs (n + 1 - length xs))
+length_filled_put xs n b e = grind (arith, common_steps, at_padded, filled_padded, length_filled_set, length_padded)
 
 all_put : (P : PlainBid → Type 0) (xs : BidsByNumber) (n : ℕ) (b : PlainBid) → AllByRecursion P (filled xs) → P b → AllByRecursion P (filled (put_slot xs n b))
 all_put P xs n b a p = all_filled_set P (xs ++ replicate (n + 1 - length xs) None) n b (subst (AllByRecursion P) (sym (filled_padded xs (n + 1 - length xs))) a)
@@ -112,10 +105,7 @@ kept G xs (l ∷ ls) k a = kept G (put_slot xs (line_number l) (bid_of G l)) ls 
 each_put : (G : ℕ) (xs : BidsByNumber) (lines : List (List Word)) → AreDistinct (lines_numbers lines)
     → AllByRecursion (λ l. get_or (slots_from G xs lines) (line_number l) None ≡ Some (bid_of G l)) lines
 each_put G xs [] d = tt
-each_put G xs (l ∷ ls) d = (
-  kept G (put_slot xs (line_number l) (bid_of G l)) ls (line_number l) d.0 ∙ put_same xs (line_number l) (bid_of G l),
-  each_put G (put_slot xs (line_number l) (bid_of G l)) ls d.1,
-)
+each_put G xs (l ∷ ls) d = grind (arith, common_steps, kept, put_same, (each_put G (put_slot xs (line_number l) (bid_of G l)) ls d.1))
 
 free_put : (xs : BidsByNumber) (n : ℕ) (b : PlainBid) (ms : List ℕ) → AllByRecursion (λ m. n ≢ m) ms → AllByRecursion (λ m. get_or xs m None ≡ None) ms
     → AllByRecursion (λ m. get_or (put_slot xs n b) m None ≡ None) ms
@@ -127,11 +117,13 @@ filled_count : (G : ℕ) (xs : BidsByNumber) (lines : List (List Word)) → AreD
     → length (filled (slots_from G xs lines)) ≡ length lines + length (filled xs)
 filled_count G xs [] d f = omega arith
 filled_count G xs (l ∷ ls) d f =
-    let one : length (filled (put_slot xs (line_number l) (bid_of G l))) ≡ suc (length (filled xs)) = length_filled_put xs (line_number l) (bid_of G l) f.0 in
-    let rest : length (filled (slots_from G (put_slot xs (line_number l) (bid_of G l)) ls))
-    ≡ length ls + length (filled (put_slot xs (line_number l) (bid_of G l)))
-    = filled_count G (put_slot xs (line_number l) (bid_of G l)) ls d.1 (free_put xs (line_number l) (bid_of G l) (lines_numbers ls) d.0 f.1) in
-    omega arith
+    grind (
+      arith,
+      common_steps,
+      free_put,
+      length_filled_put,
+      (filled_count G (put_slot xs (line_number l) (bid_of G l)) ls d.1 (free_put xs (line_number l) (bid_of G l) (lines_numbers ls) d.0 f.1)),
+    )
 
 within : (G : ℕ) (xs : BidsByNumber) (lines : List (List Word)) (m : ℕ) → length xs ≤ m → AllByRecursion (λ n. n < m) (lines_numbers lines)
     → length (slots_from G xs lines) ≤ m
@@ -199,10 +191,7 @@ same_by_place (x ∷ xs) (y ∷ ys) l h =
 put_agrees : (bids : List PlainBid) (xs : BidsByNumber) (n : ℕ) (b : PlainBid) → slice_get bids n ≡ Some b
     → ((k : ℕ) (c : PlainBid) → get_or xs k None ≡ Some c → slice_get bids k ≡ Some c)
     → (k : ℕ) (c : PlainBid) → get_or (put_slot xs n b) k None ≡ Some c → slice_get bids k ≡ Some c
-put_agrees bids xs n b s h k c e = ⊎_elim
-    (λ (q : k ≡ n). let there : get_or (put_slot xs n b) k None ≡ Some b = subst (λ m. get_or (put_slot xs n b) m None ≡ Some b) (sym q) (put_same xs n b) in
-    ap (slice_get bids) q ∙ s ∙ sym there ∙ e)
-    (λ (ne : k ≡ n → ⊥). h k c (sym (put_other xs n b k ne) ∙ e)) (cases_eq k n)
+put_agrees bids xs n b s h k c e = grind (arith, common_steps, cases_eq, put_other, put_same)
 
 agrees : (G : ℕ) (bids : List PlainBid) (xs : BidsByNumber) (lines : List (List Word))
     → AllByRecursion (λ l. slice_get bids (line_number l) ≡ Some (bid_of G l)) lines

@@ -1,6 +1,6 @@
 -- Lists of numbers in which none is twice. The idea: how often a number is in a list is the same however the list is
 -- ordered, and in a list without repeats it is at most 1; so such a list rises once it is sorted.
-use Rattle.std.proofs.Common.{◌≡◌, ◌≢◌, ℕ, zero, suc, ◌+◌, ◌<◌, ◌≤◌, true, false, cond, eqb, List, [], ◌∷◌, length, get_or, refl, sym, ap, subst, arith}
+use Rattle.std.proofs.Common.{◌≡◌, ◌≢◌, ℕ, zero, suc, ◌+◌, ◌<◌, ◌≤◌, cond, eqb, List, [], ◌∷◌, length, get_or, refl, sym, subst, arith}
 use Rattle.std.proofs.lemmas.Bool.{eqb-true, eq-eqb, ne_eqb}
 use Rattle.std.proofs.lemmas.List.Sorted.{sum_by-IsPermutation}
 use Rattle.std.proofs.lemmas.List.Sums.{sum_by-cons}
@@ -8,6 +8,7 @@ use Rattle.std.specs.List.{sum_by, AllByRecursion}
 use Rattle.std.specs.List.Sorted.{IsPermutation, IsNonDecreasing}
 use Rattle.bid_file.specs.Files.{IsRising, AreAbove}
 use Rattle.cats_text.specs.Grammar.{AreDistinct}
+use Rattle.std.proofs.lemmas.Grind.{common_steps}
 
 abbrev one_at : ℕ → ℕ → ℕ
 one_at g x = cond (eqb x g) 1 0
@@ -27,19 +28,11 @@ one_at-other x g ne = rw (ne_eqb x g ne) refl
 
 times-none : (x : ℕ) (xs : List ℕ) → AllByRecursion (λ y. x ≢ y) xs → times xs x ≡ 0
 times-none x [] h = refl
-times-none x (y ∷ ys) h =
-    let head : one_at x y ≡ 0 = one_at-other y x (λ e. h.0 (sym e)) in
-    let tail : times ys x ≡ 0 = times-none x ys h.1 in omega (arith, times-cons y ys x)
+times-none x (y ∷ ys) h = grind (arith, common_steps, one_at-other, times-cons, (times-none x ys h.1))
 
 pub times-AreDistinct : (xs : List ℕ) → AreDistinct xs → (g : ℕ) → times xs g ≤ 1
 times-AreDistinct [] d g = omega arith
-times-AreDistinct (x ∷ xs) d g = rw (times-cons x xs g)
-    (let tail : times xs g ≤ 1 = times-AreDistinct xs d.1 g in
-    elim (eqb x g) as (λ b. eqb x g ≡ b → cond b 1 0 + times xs g ≤ 1) [
-      | true ↦ λ (e : eqb x g ≡ true). let none : times xs x ≡ 0 = times-none x xs d.0 in
-          let same : times xs g ≡ times xs x = ap (times xs) (sym (eqb-true x g e)) in omega arith
-      | false ↦ λ (e : eqb x g ≡ false). omega arith
-    ] refl)
+times-AreDistinct (x ∷ xs) d g = grind (arith, common_steps, eqb-true, times-cons, times-none, (times-AreDistinct xs d.1 g))
 
 times-at : (xs : List ℕ) (i : ℕ) → i < length xs → 0 < times xs (get_or xs i 0)
 times-at [] i l = absurd (let no : i < 0 = l in omega arith)

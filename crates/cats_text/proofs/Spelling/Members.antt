@@ -12,6 +12,7 @@ use Rattle.cats_text.specs.Grammar.{AreDistinct, has_number}
 use Rattle.cats_text.specs.FileLines.{rising_of}
 use Rattle.cats_text.proofs.Spelling.Rising.{has_head, has_tail, has_cases, has_rising_of, rising_of_is}
 use Rattle.cats_text.proofs.Spelling.Marks.{AreDistinct-push}
+use Rattle.std.proofs.lemmas.Grind.{common_steps}
 
 -- ---- tests
 
@@ -56,12 +57,7 @@ real G ns = filter (λ v. ltb v G) ns
 
 has_real : (G : ℕ) (ns : List ℕ) (g : ℕ) → Has ns g → g < G → Has (real G ns) g
 has_real G [] g h l = absurd (has_nothing g h)
-has_real G (v ∷ vs) g h l = elim (ltb v G) as (λ b. ltb v G ≡ b → Has (cond b (v ∷ real G vs) (real G vs)) g) [
-  | true ↦ λ (e : ltb v G ≡ true). ⊎_elim (λ (q : v ≡ g). subst (λ n. Has (v ∷ real G vs) n) q (has_head v (real G vs)))
-      (λ (k : Has vs g). has_tail v (real G vs) g (has_real G vs g k l)) (has_cases v vs g h)
-  | false ↦ λ (e : ltb v G ≡ false). ⊎_elim (λ (q : v ≡ g). let le : G ≤ v = ltb-false v G e in absurd (omega arith)) (λ (k : Has vs g). has_real G vs g k l)
-      (has_cases v vs g h)
-] refl
+has_real G (v ∷ vs) g h l = grind (arith, common_steps, has_cases, has_head, has_tail, ltb-false, (has_real G vs g))
 
 real_has : (G : ℕ) (ns : List ℕ) (g : ℕ) → Has (real G ns) g → (g < G) × Has ns g
 real_has G [] g = λ h. absurd (has_nothing g h)
@@ -120,25 +116,10 @@ abbrev pub dummy_of : ℕ → List ℕ → Option ℕ
 dummy_of G ns = option_map (λ v. v - G) (first_high G ns)
 
 has_dummy : (G D : ℕ) (ns : List ℕ) → AreGoods G D ns → (g : ℕ) → Has ns g → G ≤ g → Has (dummy_good G (dummy_of G ns)) g
-has_dummy G D ns p g h l = ⊎_elim
-    (λ (n : NoneHigh G ns). let lt : g < G = n.low g h in absurd (omega arith))
-    (λ (q : (v : ℕ) × IsHigh G ns v).
-    let same : q.0 ≡ g = p.one_dummy q.0 g q.1.has h q.1.high l in
-    let le : G ≤ q.0 = q.1.high in
-    let good : G + (q.0 - G) ≡ g = omega arith in
-    subst (λ o. Has (dummy_good G (option_map (λ v. v - G) o)) g) (sym q.1.first)
-    (subst (λ n. Has ((G + (q.0 - G)) ∷ []) n) good (has_head (G + (q.0 - G)) [])))
-    (high_cases G ns)
+has_dummy G D ns p g h l = grind (arith, common_steps, has_head, high_cases)
 
 dummy_has : (G : ℕ) (ns : List ℕ) (g : ℕ) → Has (dummy_good G (dummy_of G ns)) g → (G ≤ g) × Has ns g
-dummy_has G ns g h = ⊎_elim
-    (λ (n : NoneHigh G ns). absurd (has_nothing g (subst (λ o. Has (dummy_good G (option_map (λ v. v - G) o)) g) n.first h)))
-    (λ (q : (v : ℕ) × IsHigh G ns v).
-    let one : G + (q.0 - G) ≡ g = has_one (G + (q.0 - G)) g (subst (λ o. Has (dummy_good G (option_map (λ v. v - G) o)) g) q.1.first h) in
-    let le : G ≤ q.0 = q.1.high in
-    let same : q.0 ≡ g = omega arith in
-    (subst (λ n. G ≤ n) same le, subst (λ n. Has ns n) same q.1.has))
-    (high_cases G ns)
+dummy_has G ns g h = grind (arith, common_steps, has_nothing, has_one, high_cases)
 
 -- a bid on the goods of these numbers
 abbrev pub bid_on : ℕ → ℕ → List ℕ → PlainBid
@@ -164,13 +145,7 @@ pub bid_on_real : (G : ℕ) (ns : List ℕ) (g : ℕ) → Has ns g → g < G →
 bid_on_real G ns g h l = length_from_has (rising_of (real G ns)) g (has_rising G ns g h l)
 
 pub bid_on_dummy : (G D : ℕ) (ns : List ℕ) → AreGoods G D ns → IsDummyBelow D (dummy_of G ns)
-bid_on_dummy G D ns p = ⊎_elim
-    (λ (n : NoneHigh G ns). subst (λ o. IsDummyBelow D (option_map (λ v. v - G) o)) (sym n.first) tt)
-    (λ (q : (v : ℕ) × IsHigh G ns v).
-    let le : G ≤ q.0 = q.1.high in let lt : q.0 < G + D = p.below q.0 q.1.has in
-    let good : q.0 - G < D = omega arith in
-    subst (λ o. IsDummyBelow D (option_map (λ v. v - G) o)) (sym q.1.first) good)
-    (high_cases G ns)
+bid_on_dummy G D ns p = grind (arith, common_steps, high_cases)
 
 -- ---- a bid of a file, and a list of the numbers of its goods
 
@@ -199,27 +174,16 @@ module _ (G D : ℕ) (goods : List ℕ) (dummy : Option ℕ) (ns : List ℕ)
   high_part g h l = ⊎_elim (λ (k : Has goods g). let lt : g < G = good_low g k in absurd (omega arith)) (λ (k : Has (dummy_good G dummy) g). k) (parts g h)
 
   low_part : (g : ℕ) → Has ns g → g < G → Has goods g
-  low_part g h l = ⊎_elim (λ (k : Has goods g). k) (λ (k : Has (dummy_good G dummy) g). let le : G ≤ g = dummy_number G dummy g k in absurd (omega arith))
-      (parts g h)
+  low_part g h l = grind (arith, common_steps, dummy_number, parts)
 
   pub goods_are : AreDistinct ns → AreGoods G D ns
-  goods_are d = record {
-    distinct = d;
-    below = λ g h. ⊎_elim (λ (k : Has goods g). let lt : g < G = good_low g k in omega arith) (λ (k : Has (dummy_good G dummy) g). dummy_low G D dummy low g k)
-        (parts g h);
-    one_dummy = λ x y h k l m. dummies_same G dummy x y (high_part x h l) (high_part y k m);
-  }
+  goods_are d = grind (arith, common_steps, dummies_same, dummy_low, good_low, high_part, parts)
 
   pub rising_goods : goods ≡ rising_of (real G ns)
-  rising_goods = rising_of_is goods (real G ns) rising (λ g. same_test (has_number goods g) (has_number (real G ns) g)
-      (λ h. has_real G ns g (same g ∙ has_before goods (dummy_good G dummy) g h) (good_low g h))
-      (λ h. let p : (g < G) × Has ns g = real_has G ns g h in low_part g p.1 p.0))
+  rising_goods = grind (arith, common_steps, good_low, has_before, has_real, low_part, real_has, rising_of_is, same_test)
 
   dummy_from : (o : Option ℕ) → dummy ≡ o → dummy ≡ dummy_of G ns
-  dummy_from None e = ⊎_elim
-      (λ (n : NoneHigh G ns). e ∙ sym (ap (option_map (λ v. v - G)) n.first))
-      (λ (q : (v : ℕ) × IsHigh G ns v). absurd (has_nothing q.0 (subst (λ o. Has (dummy_good G o) q.0) e (high_part q.0 q.1.has q.1.high))))
-      (high_cases G ns)
+  dummy_from None e = grind (arith, common_steps, has_nothing, high_cases, high_part)
   dummy_from (Some d) e = ⊎_elim
       (λ (n : NoneHigh G ns).
       let there : Has (dummy_good G dummy) (G + d) = subst (λ o. Has (dummy_good G o) (G + d)) (sym e) (has_head (G + d) []) in
@@ -247,16 +211,7 @@ no_goods G D = record { distinct = tt; below = λ g h. absurd (has_nothing g h);
 
 any_high : (G : ℕ) (ns : List ℕ) (g : ℕ) → Has ns g → G ≤ g → list_any (λ v. leb G v) ns ≡ true
 any_high G [] g h l = absurd (has_nothing g h)
-any_high G (v ∷ vs) g h l = ⊎_elim
-    (λ (e : v ≡ g). or_left (leb G v) (list_any (λ w. leb G w) vs) (true_from_le v (omega arith)))
-    (λ (k : Has vs g). or_right (leb G v) (list_any (λ w. leb G w) vs) (any_high G vs g k l)) (has_cases v vs g h)
-  where
-    true_from_le : (w : ℕ) → G ≤ w → leb G w ≡ true
-    true_from_le w m = elim (leb G w) as (λ b. leb G w ≡ b → b ≡ true) [
-      | true ↦ λ (e : leb G w ≡ true). refl
-      | false ↦ λ (e : leb G w ≡ false). let lt : w
-          < G = leb-false G w e in absurd (omega arith)
-    ] refl
+any_high G (v ∷ vs) g h l = grind (arith, common_steps, has_cases, leb-false, or_left, or_right, (any_high G vs g))
 
 high_any : (G : ℕ) (ns : List ℕ) → list_any (λ v. leb G v) ns ≡ true → (g : ℕ) × (G ≤ g) × Has ns g
 high_any G [] h = absurd (both_ways false refl h)
@@ -272,26 +227,10 @@ pub record MayFollow (G D : ℕ) (ns : List ℕ) (v : ℕ) : Type 0 where
   pub one : (leb G v && list_any (λ w. leb G w) ns) ≡ false
 
 no_second : (G D : ℕ) (ns : List ℕ) (v : ℕ) → MayFollow G D ns v → G ≤ v → (g : ℕ) → Has ns g → G ≤ g → ⊥
-no_second G D ns v m l g h k =
-    both_ways (leb G v && list_any (λ w. leb G w) ns) m.one (and_both (leb G v) (list_any (λ w. leb G w) ns) (any_high G (v ∷ []) v (has_head v []) l)
-    (any_high G ns g h k))
-  where
-    and_both : (a b : Bool) → (a || false) ≡ true → b ≡ true → (a && b) ≡ true
-    and_both true b p q = q
-    and_both false b p q = absurd (both_ways false refl p)
+no_second G D ns v m l g h k = grind (arith, common_steps, any_high, both_ways, has_head)
 
 pub push_goods : (G D : ℕ) (ns : List ℕ) (v : ℕ) → AreGoods G D ns → MayFollow G D ns v → AreGoods G D (ns ++ v ∷ [])
-push_goods G D ns v p m = record {
-  distinct = AreDistinct-push ns v p.distinct m.new;
-  below = λ g h. ⊎_elim (λ (k : Has ns g). p.below g k) (λ (k : Has (v ∷ []) g). let lt : v < G + D = leb-false (G + D) v m.range in
-      subst (λ n. n < G + D) (has_one v g k) lt) (has_append ns (v ∷ []) g h);
-  one_dummy = λ x y h k l n. ⊎_elim
-      (λ (a : Has ns x). ⊎_elim (λ (b : Has ns y). p.one_dummy x y a b l n)
-      (λ (b : Has (v ∷ []) y). absurd (no_second G D ns v m (subst (λ z. G ≤ z) (sym (has_one v y b)) n) x a l)) (has_append ns (v ∷ []) y k))
-      (λ (a : Has (v ∷ []) x). ⊎_elim (λ (b : Has ns y). absurd (no_second G D ns v m (subst (λ z. G ≤ z) (sym (has_one v x a)) l) y b n))
-      (λ (b : Has (v ∷ []) y). sym (has_one v x a) ∙ has_one v y b) (has_append ns (v ∷ []) y k))
-      (has_append ns (v ∷ []) x h);
-}
+push_goods G D ns v p m = grind (arith, common_steps, AreDistinct-push, has_append, has_one, leb-false, no_second)
 
 -- a number of a list without repeats is not before its place
 pub new_at : (before : List ℕ) (v : ℕ) (rest : List ℕ) → AreDistinct (before ++ v ∷ rest) → has_number before v ≡ false

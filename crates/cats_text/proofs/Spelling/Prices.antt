@@ -1,6 +1,6 @@
 -- Prices: a price that is neither too large nor too fine is at most the greatest one in millionths, and the other way round.
-use Rattle.std.proofs.Common.{◌≡◌, ℕ, zero, suc, ◌+◌, ◌-◌, ◌*◌, ◌^◌, ◌<◌, ◌≤◌, Bool, true, false, not, eqb, ltb, leb, ◌||◌, ◌&&◌, ⊎_elim, List, [], ◌∷◌, ◌++◌}
-use Rattle.std.proofs.Common.{length, take, drop, refl, sym, ap, ◌∙◌, subst, arith, length-append, length-take}
+use Rattle.std.proofs.Common.{◌≡◌, ℕ, zero, suc, ◌+◌, ◌-◌, ◌*◌, ◌^◌, ◌<◌, ◌≤◌, Bool, true, false, not, eqb, ltb, leb, ◌&&◌, List, [], ◌∷◌, ◌++◌}
+use Rattle.std.proofs.Common.{length, take, refl, sym, ◌∙◌, subst, arith, length-append, length-take}
 use Rattle.std.proofs.lemmas.Bool.{both_ways, eqb-true, eq-eqb, ltb-false, le-ltb, leb-true, or_cases, or_parts, or_from, and_parts, and_from}
 use Rattle.std.proofs.lemmas.Bool.{false_from_ne_true, not-true, not-false, cases_Bool}
 use Rattle.std.proofs.lemmas.List.{take-append-drop}
@@ -11,6 +11,7 @@ use Rattle.cats_text.specs.Lines.{Word}
 use Rattle.cats_text.specs.Numbers.{is_digit, digits_alone, is_number, number_of, whole_part, has_point, places, is_price, has_place_from, is_too_large}
 use Rattle.cats_text.specs.Numbers.{is_too_fine, six_places, price_of, GREATEST_PRICE}
 use Rattle.bid_file.specs.declared.limits.TheConstants.{MAX_PRICE}
+use Rattle.std.proofs.lemmas.Grind.{common_steps}
 
 -- ---- what digits are worth
 
@@ -42,22 +43,11 @@ value_least n (b ∷ bs) = let rest : 10 * n + (b - 48) ≤ value (10 * n + (b -
 
 value_zero : (w : Word) → list_any is_place w ≡ false → value 0 w ≡ 0
 value_zero [] h = refl
-value_zero (b ∷ bs) h =
-    let p : (is_place b ≡ false) × (list_any is_place bs ≡ false) = or_parts (is_place b) (list_any is_place bs) h in
-    let zero_digit : b ≡ 48 = eqb-true b 48 (not-false (eqb b 48) p.0) in
-    let none : 10 * 0 + (b - 48) ≡ 0 = omega arith in
-    ap (λ n. value n bs) none ∙ value_zero bs p.1
+value_zero (b ∷ bs) h = grind (arith, common_steps, eqb-true, not-false, or_parts, (value_zero bs))
 
 zero_value : (n : ℕ) (w : Word) → digits_alone w ≡ true → value n w ≡ 0 → list_any is_place w ≡ false
 zero_value n [] h e = refl
-zero_value n (b ∷ bs) h e =
-    let p : (is_digit b ≡ true) × (digits_alone bs ≡ true) = and_parts (is_digit b) (digits_alone bs) h in
-    let range : (48 ≤ b) × (b ≤ 57) = digit_range b p.0 in
-    let large : 48 ≤ b = range.0 in
-    let least : 10 * n + (b - 48) ≤ value (10 * n + (b - 48)) bs = value_least (10 * n + (b - 48)) bs in
-    let all : value (10 * n + (b - 48)) bs ≡ 0 = e in
-    let zero_digit : b ≡ 48 = omega arith in
-    or_from (is_place b) (list_any is_place bs) (ap not (eq-eqb b 48 zero_digit)) (zero_value (10 * n + (b - 48)) bs p.1 e)
+zero_value n (b ∷ bs) h e = grind (arith, common_steps, and_parts, digit_range, eq-eqb, or_from, value_least, (zero_value (10 * n + (b - 48)) bs))
 
 -- ---- six places
 
@@ -67,20 +57,17 @@ zeros = 48 ∷ 48 ∷ 48 ∷ 48 ∷ 48 ∷ 48 ∷ []
 all_take : (p : ℕ → Bool) (k : ℕ) (xs : List ℕ) → list_all p xs ≡ true → list_all p (take k xs) ≡ true
 all_take p zero xs h = refl
 all_take p (suc k) [] h = refl
-all_take p (suc k) (x ∷ xs) h = let q : (p x ≡ true) × (list_all p xs ≡ true) = and_parts (p x) (list_all p xs) h in
-    and_from (p x) (list_all p (take k xs)) q.0 (all_take p k xs q.1)
+all_take p (suc k) (x ∷ xs) h = grind (arith, common_steps, and_from, and_parts, (all_take p k xs))
 
 none_take : (p : ℕ → Bool) (k : ℕ) (xs : List ℕ) → list_any p xs ≡ false → list_any p (take k xs) ≡ false
 none_take p zero xs h = refl
 none_take p (suc k) [] h = refl
-none_take p (suc k) (x ∷ xs) h = let q : (p x ≡ false) × (list_any p xs ≡ false) = or_parts (p x) (list_any p xs) h in
-    or_from (p x) (list_any p (take k xs)) q.0 (none_take p k xs q.1)
+none_take p (suc k) (x ∷ xs) h = grind (arith, common_steps, or_from, or_parts, (none_take p k xs))
 
 none_in_prefix : (p : ℕ → Bool) (k : ℕ) (xs ys : List ℕ) → list_any p (take k (xs ++ ys)) ≡ false → list_any p (take k xs) ≡ false
 none_in_prefix p zero xs ys h = refl
 none_in_prefix p (suc k) [] ys h = refl
-none_in_prefix p (suc k) (x ∷ xs) ys h = let q : (p x ≡ false) × (list_any p (take k (xs ++ ys)) ≡ false) = or_parts (p x) (list_any p (take k (xs ++ ys))) h in
-    or_from (p x) (list_any p (take k xs)) q.0 (none_in_prefix p k xs ys q.1)
+none_in_prefix p (suc k) (x ∷ xs) ys h = grind (arith, common_steps, or_from, or_parts, (none_in_prefix p k xs ys))
 
 six_digits_alone : (ds : Word) → digits_alone ds ≡ true → digits_alone (six_places ds) ≡ true
 six_digits_alone ds h = all_take is_digit 6 (ds ++ zeros) (list_all-append is_digit ds zeros ∙ and_from (digits_alone ds) true h refl)
@@ -89,20 +76,14 @@ length_six : (ds : Word) → length (six_places ds) ≡ 6
 length_six ds = let all : length (ds ++ zeros) ≡ length ds + 6 = length-append ds zeros in omega (arith, length-take 6 (ds ++ zeros))
 
 six_below : (ds : Word) → digits_alone ds ≡ true → number_of (six_places ds) < 1000000
-six_below ds h =
-    let below : value 0 (six_places ds) < (0 + 1) * 10 ^ length (six_places ds) = value_below 0 (six_places ds) (six_digits_alone ds h) in
-    let power : 10 ^ length (six_places ds) ≡ 1000000 = ap (λ n. 10 ^ n) (length_six ds) in
-    omega arith
+six_below ds h = grind (arith, common_steps, length_six, six_digits_alone, value_below)
 
 six_zero : (ds : Word) → list_any is_place ds ≡ false → number_of (six_places ds) ≡ 0
 six_zero ds h = value_zero (six_places ds) (none_take is_place 6 (ds ++ zeros) (list_any-append is_place ds zeros
     ∙ or_from (list_any is_place ds) false h refl))
 
 zero_six : (ds : Word) → digits_alone ds ≡ true → has_place_from 6 ds ≡ false → number_of (six_places ds) ≡ 0 → list_any is_place ds ≡ false
-zero_six ds h fine e =
-    sym (ap (list_any is_place) (take-append-drop 6 ds)) ∙ list_any-append is_place (take 6 ds) (drop 6 ds)
-    ∙ or_from (list_any is_place (take 6 ds)) (list_any is_place (drop 6 ds))
-    (none_in_prefix is_place 6 ds zeros (zero_value 0 (six_places ds) (six_digits_alone ds h) e)) fine
+zero_six ds h fine e = grind (arith, common_steps, list_any-append, none_in_prefix, or_from, six_digits_alone, take-append-drop, zero_value)
 
 -- ---- prices
 
@@ -112,37 +93,13 @@ number_digits (b ∷ bs) h = h
 
 no_places : (w : Word) → has_point w ≡ false → places w ≡ []
 no_places [] h = refl
-no_places (b ∷ bs) h =
-    let p : (eqb b 46 ≡ false) × (has_point bs ≡ false) = or_parts (eqb b 46) (has_point bs) h in
-    rw p.0 (no_places bs p.1)
+no_places (b ∷ bs) h = grind (arith, common_steps, or_parts, (no_places bs))
 
 places_digits : (w : Word) → is_price w ≡ true → digits_alone (places w) ≡ true
-places_digits w h =
-    let p : (is_number (whole_part w) ≡ true) × ((not (has_point w) || is_number (places w)) ≡ true) =
-    and_parts (is_number (whole_part w)) (not (has_point w) || is_number (places w)) h in
-    ⊎_elim (λ (e : not (has_point w) ≡ true). ap digits_alone (no_places w (not-true (has_point w) e)))
-    (λ (e : is_number (places w) ≡ true). number_digits (places w) e)
-    (or_cases (not (has_point w)) (is_number (places w)) p.1)
+places_digits w h = grind (arith, common_steps, and_parts, no_places, not-true, number_digits, or_cases)
 
 pub price_below : (w : Word) → is_price w ≡ true → is_too_large w ≡ false → price_of w ≤ MAX_PRICE
-price_below w h large =
-    let p : (ltb GREATEST_PRICE (number_of (whole_part w)) ≡ false) × ((eqb (number_of (whole_part w)) GREATEST_PRICE && has_place_from 0 (places w)) ≡ false)
-    = or_parts (ltb GREATEST_PRICE (number_of (whole_part w))) (eqb (number_of (whole_part w)) GREATEST_PRICE && has_place_from 0 (places w)) large in
-    let le : number_of (whole_part w) ≤ GREATEST_PRICE = ltb-false GREATEST_PRICE (number_of (whole_part w)) p.0 in
-    let six : number_of (six_places (places w)) < 1000000 = six_below (places w) (places_digits w h) in
-    ⊎_elim
-    (λ (e : has_place_from 0 (places w) ≡ true). greatest e p.1 le six)
-    (λ (e : has_place_from 0 (places w) ≡ false). let none : number_of (six_places (places w)) ≡ 0 = six_zero (places w) e in omega arith)
-    (cases_Bool (has_place_from 0 (places w)))
-  where
-    greatest : has_place_from 0 (places w) ≡ true → (eqb (number_of (whole_part w)) GREATEST_PRICE && has_place_from 0 (places w)) ≡ false
-        → number_of (whole_part w) ≤ GREATEST_PRICE → number_of (six_places (places w)) < 1000000 → price_of w ≤ MAX_PRICE
-    greatest e q le six =
-        let other : number_of (whole_part w) ≡ GREATEST_PRICE → ⊥ =
-        λ same. both_ways (eqb (number_of (whole_part w)) GREATEST_PRICE && has_place_from 0 (places w)) q
-        (and_from (eqb (number_of (whole_part w)) GREATEST_PRICE) (has_place_from 0 (places w)) (eq-eqb (number_of (whole_part w)) GREATEST_PRICE same)
-        e) in
-        omega arith
+price_below w h large = grind (arith, common_steps, and_from, both_ways, cases_Bool, eq-eqb, ltb-false, or_parts, places_digits, six_below, six_zero)
 
 pub price_small : (w : Word) → is_price w ≡ true → is_too_fine w ≡ false → price_of w ≤ MAX_PRICE → is_too_large w ≡ false
 price_small w h fine le =

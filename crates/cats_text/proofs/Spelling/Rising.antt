@@ -1,11 +1,11 @@
 -- Rising lists of numbers. Two that have the same numbers are equal, so a list put in order is the one rising list of its numbers.
-use Rattle.std.proofs.Common.{◌≡◌, ◌≢◌, ℕ, ◌<◌, ◌≤◌, Bool, true, false, cond, ◌||◌, eqb, ltb, ◌⊎◌, inl, inr, ⊎_elim, List, [], ◌∷◌, ◌++◌, ◌-◌, zero, suc}
-use Rattle.std.proofs.Common.{length, take, get_or, refl, sym, ap, ap₂, ◌∙◌}
-use Rattle.std.proofs.Common.{subst, arith}
+use Rattle.std.proofs.Common.{◌≡◌, ℕ, ◌<◌, ◌≤◌, Bool, true, false, ◌||◌, eqb, ◌⊎◌, inl, inr, ⊎_elim, List, [], ◌∷◌, ◌++◌, ◌-◌, zero, suc}
+use Rattle.std.proofs.Common.{length, take, get_or, refl, sym, ap, ◌∙◌, subst, arith}
 use Rattle.std.proofs.lemmas.Bool.{or_cases, or_left, or_right, both_ways, eqb-true, eqb-false, eq-eqb, ne_eqb, ltb-true, ltb-false, false_from_ne_true}
 use Rattle.bid_file.specs.Files.{IsRising, AreAbove}
 use Rattle.cats_text.specs.Grammar.{has_number}
 use Rattle.cats_text.specs.FileLines.{rising_with, rising_of}
+use Rattle.std.proofs.lemmas.Grind.{common_steps}
 
 pub has_head : (x : ℕ) (xs : List ℕ) → has_number (x ∷ xs) x ≡ true
 has_head x xs = or_left (eqb x x) (has_number xs x) (eq-eqb x x refl)
@@ -32,26 +32,17 @@ same_head x xs y ys r s h =
 
 -- and so for their tails
 tail_has : (x : ℕ) (xs ys : List ℕ) (g : ℕ) → AreAbove x xs → has_number (x ∷ xs) g ≡ has_number (x ∷ ys) g → has_number xs g ≡ true → has_number ys g ≡ true
-tail_has x xs ys g a h k = ⊎_elim (λ (e : x ≡ g). let l : x < g = above_has x xs g a k in absurd (omega arith)) (λ (m : has_number ys g ≡ true). m)
-    (has_cases x ys g (sym h ∙ has_tail x xs g k))
+tail_has x xs ys g a h k = grind (arith, common_steps, above_has, has_cases, has_tail)
 
 same_tail : (x : ℕ) (xs ys : List ℕ) → AreAbove x xs → AreAbove x ys → ((g : ℕ) → has_number (x ∷ xs) g ≡ has_number (x ∷ ys) g) → (g : ℕ)
     → has_number xs g ≡ has_number ys g
-same_tail x xs ys a b h g = elim (has_number xs g) as (λ p. has_number xs g ≡ p → p ≡ has_number ys g) [
-  | true ↦ λ (e : has_number xs g ≡ true). sym (tail_has x xs ys g a (h g) e)
-  | false ↦ λ (e : has_number xs g ≡ false). sym
-      (false_from_ne_true (has_number ys g) (λ k. both_ways (has_number xs g) e (tail_has x ys xs g b (sym (h g)) k)))
-] refl
+same_tail x xs ys a b h g = grind (arith, common_steps, both_ways, false_from_ne_true, tail_has)
 
 pub same_rising : (xs ys : List ℕ) → IsRising xs → IsRising ys → ((g : ℕ) → has_number xs g ≡ has_number ys g) → xs ≡ ys
 same_rising [] [] r s h = refl
 same_rising [] (y ∷ ys) r s h = absurd (both_ways false refl (h y ∙ has_head y ys))
 same_rising (x ∷ xs) [] r s h = absurd (both_ways false refl (sym (h x) ∙ has_head x xs))
-same_rising (x ∷ xs) (y ∷ ys) r s h =
-    let e : x ≡ y = same_head x xs y ys r s h in
-    let s' : IsRising (x ∷ ys) = subst (λ n. IsRising (n ∷ ys)) (sym e) s in
-    let h' : (g : ℕ) → has_number (x ∷ xs) g ≡ has_number (x ∷ ys) g = λ g. h g ∙ ap (λ n. has_number (n ∷ ys) g) (sym e) in
-    ap₂ (λ n ns. n ∷ ns) e (same_rising xs ys r.1 s'.1 (same_tail x xs ys r.0 s'.0 h'))
+same_rising (x ∷ xs) (y ∷ ys) r s h = grind (arith, common_steps, same_head, same_tail, (same_rising xs ys r.1))
 
 -- ---- one more number behind
 
@@ -72,10 +63,7 @@ has_at (x ∷ xs) (suc i) d l = has_tail x xs (get_or xs i d) (has_at xs i d (om
 pub rising_new : (xs : List ℕ) (i d : ℕ) → IsRising xs → i < length xs → has_number (take i xs) (get_or xs i d) ≡ false
 rising_new [] i d r l = absurd (let none : i < 0 = l in omega arith)
 rising_new (x ∷ xs) zero d r l = refl
-rising_new (x ∷ xs) (suc i) d r l =
-    let above : x < get_or xs i d = above_has x xs (get_or xs i d) r.0 (has_at xs i d (omega arith)) in
-    let other : x ≢ get_or xs i d = omega arith in
-    ap (λ b. b || has_number (take i xs) (get_or xs i d)) (ne_eqb x (get_or xs i d) other) ∙ rising_new xs i d r.1 (omega arith)
+rising_new (x ∷ xs) (suc i) d r l = grind (arith, common_steps, above_has, has_at, ne_eqb, (rising_new xs i d r.1))
 
 -- the last number of a rising list is the greatest
 pub last_is_most : (xs : List ℕ) (d k : ℕ) → IsRising xs → has_number xs k ≡ true → k ≤ get_or xs (length xs - 1) d
@@ -109,32 +97,25 @@ or_swap false false c = refl
 
 pub has_rising_with : (g : ℕ) (xs : List ℕ) (n : ℕ) → has_number (rising_with g xs) n ≡ (eqb g n || has_number xs n)
 has_rising_with g [] n = refl
-has_rising_with g (x ∷ xs) n = elim (ltb g x) as (λ b. has_number (cond b (g ∷ (x ∷ xs)) (cond (eqb g x) (x ∷ xs) (x ∷ rising_with g xs))) n
-    ≡ (eqb g n || (eqb x n || has_number xs n))) [
-      | true ↦ refl
-      | false ↦ elim (eqb g x) as (λ b. eqb g x ≡ b → has_number (cond b (x ∷ xs) (x ∷ rising_with g xs)) n ≡ (eqb g n || (eqb x n || has_number xs n))) [
-        | true ↦ λ (e : eqb g x ≡ true). rw (eqb-true g x e) (or_twice (eqb x n) (has_number xs n))
-        | false ↦ λ (e : eqb g x ≡ false). ap (λ b. eqb x n || b) (has_rising_with g xs n) ∙ or_swap (eqb x n) (eqb g n) (has_number xs n)
-      ] refl
-    ]
+has_rising_with g (x ∷ xs) n = grind (arith, common_steps, eqb-true, or_swap, or_twice, (has_rising_with g xs n))
 
 pub IsRising-with : (g : ℕ) (xs : List ℕ) → IsRising xs → IsRising (rising_with g xs)
 IsRising-with g [] r = (tt, tt)
-IsRising-with g (x ∷ xs) r = elim (ltb g x) as (λ b. ltb g x ≡ b → IsRising (cond b (g ∷ (x ∷ xs)) (cond (eqb g x) (x ∷ xs) (x ∷ rising_with g xs)))) [
-  | true ↦ λ (e : ltb g x ≡ true). let l : g < x = ltb-true g x e in (
-    above_from_has g (x ∷ xs) (λ n k. ⊎_elim (λ (q : x ≡ n). subst (λ m. g < m) q l) (λ (m : has_number xs n ≡ true). let above : x
-        < n = above_has x xs n r.0 m in omega arith) (has_cases x xs n k)),
-    r,
-  )
-  | false ↦ λ (e : ltb g x ≡ false). elim (eqb g x) as (λ b. eqb g x ≡ b → IsRising (cond b (x ∷ xs) (x ∷ rising_with g xs))) [
-    | true ↦ λ (q : eqb g x ≡ true). r
-    | false ↦ λ (q : eqb g x ≡ false). let le : x ≤ g = ltb-false g x e in let ne : g ≢ x = eqb-false g x q in (
-      above_from_has x (rising_with g xs) (λ n k. ⊎_elim (λ (m : eqb g n ≡ true). let same : g ≡ n = eqb-true g n m in
-          omega arith) (λ (m : has_number xs n ≡ true). above_has x xs n r.0 m) (or_cases (eqb g n) (has_number xs n) (sym (has_rising_with g xs n) ∙ k))),
-      IsRising-with g xs r.1,
+IsRising-with g (x ∷ xs) r =
+    grind (
+      arith,
+      common_steps,
+      above_from_has,
+      above_has,
+      eqb-false,
+      eqb-true,
+      has_cases,
+      has_rising_with,
+      ltb-false,
+      ltb-true,
+      or_cases,
+      (IsRising-with g xs r.1),
     )
-  ] refl
-] refl
 
 pub has_rising_of : (xs : List ℕ) (n : ℕ) → has_number (rising_of xs) n ≡ has_number xs n
 has_rising_of [] n = refl

@@ -1,16 +1,16 @@
 -- Which kinds a fault of a text has, and at which lines.
-use Rattle.std.proofs.Common.{◌≡◌, ◌≢◌, ℕ, suc, ◌<◌, ◌≤◌, nat_le, Bool, true, false, ◌||◌, ◌&&◌, cond, List, [], ◌∷◌, ◌++◌, Option, Some, None, IfSome}
+use Rattle.std.proofs.Common.{◌≡◌, ◌≢◌, ℕ, suc, ◌<◌, ◌≤◌, nat_le, Bool, true, false, ◌&&◌, List, [], ◌∷◌, ◌++◌, Option, Some, None, IfSome}
 use Rattle.std.proofs.Common.{option_map, refl, if◌then◌else◌, take, length, filter, arith}
 use Rattle.std.specs.Option.{option_or}
 use Rattle.std.specs.List.{AllByRecursion}
-use Rattle.cats_text.specs.Lines.{Word, RawLine, Line, line_count, significant_lines, raw_lines, blank_returns, numbered, is_significant, line_words}
+use Rattle.cats_text.specs.Lines.{Word, RawLine, Line, line_count, significant_lines, raw_lines, blank_returns, numbered, is_significant}
 use Rattle.cats_text.specs.Faults.{when, header_word, header_end, number_word, price_word, good_word, bid_word, bid_end, Bounds, word_fault, end_fault}
-use Rattle.cats_text.specs.Faults.{words_fault, fault_at, line_fault, lines_fault, first_fault, complete_fault, up_to_final, is_line_due, is_text_kind}
-use Rattle.cats_text.specs.Faults.{IsOfText}
+use Rattle.cats_text.specs.Faults.{words_fault, fault_at, line_fault, lines_fault, first_fault, complete_fault, is_line_due, is_text_kind, IsOfText}
 use Rattle.cats_text.specs.Fed.{fed_fault}
 use Rattle.cats_text.specs.declared.read_fault.Kind.{Kind}
 use Rattle.cats_text.specs.declared.read_fault.Kind.TheVariants.{Missing, TooLong, Device, Memory}
 use Rattle.cats_text.specs.declared.read_fault.ReadFault.{ReadFault}
+use Rattle.std.proofs.lemmas.Grind.{common_steps}
 
 -- a word, or a line's end, may have a fault of this kind
 abbrev is_line_kind : Kind → Bool
@@ -93,8 +93,7 @@ at-found whole line None l h = tt
 at-found whole line (Some kind) l h = line_kind-found whole line kind l h
 
 line_fault-found : (whole : Bool) (lines : List (List Word)) (l : Line) → 0 < l.number → Found whole (line_fault whole lines l)
-line_fault-found whole lines l h =
-    at-found whole l.number _ h (or-kind _ _ (words_fault-kind lines [] l.words) (if-kind (l.ended || whole) _ _ (end_fault-kind lines l.words) tt))
+line_fault-found whole lines l h = grind (arith, common_steps, at-found, end_fault-kind, if-kind, or-kind, words_fault-kind)
 
 or-found : (whole : Bool) (first later : Option ReadFault) → Found whole first → Found whole later → Found whole (option_or first later)
 or-found whole None later h rest = rest
@@ -109,25 +108,18 @@ lines_fault-found : (whole : Bool) (count : ℕ) (lines : List (List Word)) (ls 
     → Found whole (lines_fault whole count lines ls)
 lines_fault-found whole count lines [] h = missing-found whole (is_line_due lines) count
 lines_fault-found whole count lines (l ∷ ls) h =
-    or-found whole _ _ (line_fault-found whole lines l h.0) (lines_fault-found whole count (lines ++ l.words ∷ []) ls h.1)
+    grind (arith, common_steps, line_fault-found, or-found, (lines_fault-found whole count (lines ++ l.words ∷ []) ls h.1))
 
 -- lines are counted from 1
 numbered-pos : (n : ℕ) (ls : List RawLine) → 0 < n → AllByRecursion (λ l. 0 < l.number) (filter (λ l. is_significant l.words) (numbered n ls))
 numbered-pos n [] h = tt
-numbered-pos n (l ∷ ls) h = elim (is_significant (line_words l.bytes))
-    as (λ t. AllByRecursion (λ l. 0 < l.number)
-    (cond t (record { number = n; words = line_words l.bytes; ended = l.ended } ∷ filter (λ l. is_significant l.words) (numbered (suc n) ls))
-    (filter (λ l. is_significant l.words) (numbered (suc n) ls)))) [
-      | true ↦ (h, numbered-pos (suc n) ls (omega arith))
-      | false ↦ numbered-pos (suc n) ls (omega arith)
-    ]
+numbered-pos n (l ∷ ls) h = grind (arith, common_steps, (numbered-pos (suc n) ls))
 
 pub first_fault-found : (text : List ℕ) → Found true (first_fault text)
 first_fault-found text = lines_fault-found true (line_count text) [] (significant_lines text) (numbered-pos 1 (raw_lines (blank_returns text)) (omega arith))
 
 pub complete_fault-found : (bytes : List ℕ) → Found false (complete_fault bytes)
-complete_fault-found bytes =
-    lines_fault-found false 0 [] (significant_lines (up_to_final bytes)) (numbered-pos 1 (raw_lines (blank_returns (up_to_final bytes))) (omega arith))
+complete_fault-found bytes = grind (arith, common_steps, lines_fault-found, numbered-pos)
 
 -- neither a device nor memory is at fault
 abbrev pub IsFaultOfBytes : ReadFault → Type 0
@@ -171,6 +163,4 @@ if_none false first fault e h = absurd (or_some fault e h)
 
 -- no fault was found, so there are no more bytes than the limit
 pub fed_within : (limit : ℕ) (bytes : List ℕ) → fed_fault limit bytes ≡ None → length bytes ≤ limit
-fed_within limit bytes h =
-    let test = if_none (nat_le (length bytes) limit) (complete_fault bytes) (complete_fault (take limit bytes)) (fault_at 0 TooLong) h in
-    grind (arith, test)
+fed_within limit bytes h = grind (arith, common_steps, if_none, nat_le)

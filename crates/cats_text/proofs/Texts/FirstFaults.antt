@@ -1,24 +1,24 @@
 -- The scanner's answer over a text is the definitions' first fault, and over the bytes so far the fault that is complete.
-use Rattle.std.proofs.Common.{◌≡◌, ℕ, suc, ◌+◌, ◌<◌, Bool, true, false, not, ◌&&◌, ◌||◌, cond, eqb, List, [], ◌∷◌, ◌++◌, length, filter, refl, sym, ap, ◌∙◌}
+use Rattle.std.proofs.Common.{◌≡◌, ℕ, suc, ◌+◌, ◌<◌, Bool, true, false, ◌||◌, cond, eqb, List, [], ◌∷◌, ◌++◌, length, filter, refl, sym, ap, ◌∙◌}
 use Rattle.std.proofs.Common.{subst, arith, Some, None, Ok, Err, append-nil}
 use Rattle.std.proofs.lemmas.Bool.{both_ways}
 use Rattle.std.specs.List.{AllByRecursion}
 use Rattle.cats_text.specs.Lines.{Word, RawLine, Line, raw_lines, line_words, words_with, with_letter, begins_word, is_significant, is_blank, numbered}
 use Rattle.cats_text.specs.Lines.{significant_lines, blank_returns, line_count, lines_with, with_byte}
 use Rattle.cats_text.specs.Grammar.{significant_words}
-use Rattle.cats_text.specs.Faults.{fault_at, lines_fault, first_fault, is_line_due, is_final}
+use Rattle.cats_text.specs.Faults.{lines_fault, first_fault, is_line_due, is_final}
 use Rattle.cats_text.specs.Internal.Progress.{Progress}
-use Rattle.cats_text.specs.Internal.Parsing.{Reading, start, is_due, line_read}
+use Rattle.cats_text.specs.Internal.Parsing.{start}
 use Rattle.cats_text.specs.Internal.Scanning.{Scan, first_state, and_then, scan, byte_step, blank_step, end_step}
 use Rattle.bid_file.specs.Files.{PlainBid}
-use Rattle.cats_text.specs.declared.read_fault.Kind.TheVariants.{Missing}
-use Rattle.cats_text.specs.declared.scanner.Mode.TheVariants.{Start, Between}
+use Rattle.cats_text.specs.declared.scanner.Mode.TheVariants.{Start}
 use Rattle.cats_text.proofs.Scanning.Lines.{scan-append, IsNoEnd, standing, fresh_outcome, lifted, quiet, from_start, byte_blank, words_blank}
 use Rattle.cats_text.proofs.Parsing.WholeLines.{words_read, on_line, reading_then, Scanned, scanned_then, lines_scan, lines_step, LinesAre, IsLine, IsWord}
 use Rattle.cats_text.proofs.Parsing.WholeLines.{AreEndedButLast}
 use Rattle.cats_text.proofs.Parsing.States.{IsAt}
 use Rattle.cats_text.proofs.Scanning.AllBytes.{text_of, text_of-lines, AreRaw, AreRaw-lines, raw_scan, whole_text, outcome, line_outcome, open_outcome}
 use Rattle.cats_text.proofs.Scanning.AllBytes.{line_and_rest, outcome_from}
+use Rattle.std.proofs.lemmas.Grind.{common_steps}
 
 -- ---- the significant lines alone
 
@@ -46,29 +46,13 @@ raw_line : (whole : Bool) (n : ℕ) (l : RawLine) (ls : List RawLine) (p : Progr
     → ((q : Progress) → raw_scan whole (suc n) ls q ≡ lines_scan whole count (kept (numbered (suc n) ls)) q)
     → raw_scan whole n (l ∷ ls) p ≡ lines_scan whole count (kept (numbered n (l ∷ ls))) p
 raw_line whole n l ls p count r again =
-    elim (is_significant (line_words l.bytes)) as (λ t. cond (l.ended || whole)
-    (scanned_then (cond t (on_line n (reading_then (words_read (line_words l.bytes) p) line_read)) (Ok p)) (raw_scan whole (suc n) ls))
-    (cond t (on_line n (words_read (line_words l.bytes) p)) (Ok p))
-    ≡ lines_scan whole count (cond t (record { number = n; words = line_words l.bytes; ended = l.ended } ∷ kept (numbered (suc n) ls))
-    (kept (numbered (suc n) ls))) p) [
-      | true ↦ ap (λ (x : Scanned). cond (l.ended || whole) x (on_line n (words_read (line_words l.bytes) p)))
-          (scanned_same (on_line n (reading_then (words_read (line_words l.bytes) p) line_read)) (raw_scan whole (suc n) ls)
-          (lines_scan whole count (kept (numbered (suc n) ls))) again)
-      | false ↦ elim (l.ended || whole) as (λ t. (l.ended || whole) ≡ t → cond t (raw_scan whole (suc n) ls p) (Ok p)
-          ≡ lines_scan whole count (kept (numbered (suc n) ls)) p) [
-            | true ↦ λ (e : (l.ended || whole) ≡ true). again p
-            | false ↦ λ (e : (l.ended || whole) ≡ false). let both = neither l.ended whole e in
-                sym (ap (λ (ms : List RawLine). lines_scan whole count (kept (numbered (suc n) ms)) p) (last_raw l ls r both.0)
-                ∙ ap (λ t. cond (t && is_due p) (Err (fault_at (suc count) Missing)) (Ok p)) both.1)
-          ] refl
-    ]
+    grind (arith, common_steps, last_raw, lines_scan, neither, on_line, raw_scan, reading_then, scanned_same, scanned_then, words_read)
 
 -- lines without words to judge do nothing
 pub raw_scan-lines : (whole : Bool) (n : ℕ) (ls : List RawLine) (p : Progress) (count : ℕ) → AreRaw ls → (whole ≡ true → suc count ≡ n + length ls)
     → raw_scan whole n ls p ≡ lines_scan whole count (kept (numbered n ls)) p
 raw_scan-lines false n [] p count r c = refl
-raw_scan-lines true n [] p count r c = let e : suc count ≡ n + 0 = c refl in let at : n ≡ suc count = omega arith in
-    ap (λ k. cond (is_due p) (Err (fault_at k Missing)) (Ok p)) at
+raw_scan-lines true n [] p count r c = grind (arith, common_steps)
 raw_scan-lines whole n (l ∷ ls) p count r c =
     raw_line whole n l ls p count r (λ q. raw_scan-lines whole (suc n) ls q count (tail_raw l ls r) (λ w. let e : suc count ≡ n + length (l ∷ ls) = c w in
     omega arith))
@@ -98,12 +82,7 @@ significant_pos (w ∷ ws) e = omega arith
 
 pub kept_are : (n : ℕ) (ls : List RawLine) → AllByRecursion IsLine (kept (numbered n ls))
 kept_are n [] = tt
-kept_are n (l ∷ ls) = elim (is_significant (line_words l.bytes)) as (λ t. is_significant (line_words l.bytes) ≡ t
-    → AllByRecursion IsLine (cond t (record { number = n; words = line_words l.bytes; ended = l.ended } ∷ kept (numbered (suc n) ls))
-    (kept (numbered (suc n) ls)))) [
-      | true ↦ λ (e : is_significant (line_words l.bytes) ≡ true). ((significant_pos (line_words l.bytes) e, words_are l.bytes), kept_are (suc n) ls)
-      | false ↦ λ (e : is_significant (line_words l.bytes) ≡ false). kept_are (suc n) ls
-    ] refl
+kept_are n (l ∷ ls) = grind (arith, common_steps, significant_pos, words_are, (kept_are (suc n) ls))
 
 -- a line before others, which has its LF or is the last
 ends_prefix : (l : Line) (ls : List Line) → (0 < length ls → l.ended ≡ true) → AreEndedButLast ls → AreEndedButLast (l ∷ ls)
@@ -116,28 +95,12 @@ ended_or_last l (m ∷ ls) n r h = r.1
 
 pub kept_ends : (n : ℕ) (ls : List RawLine) → AreRaw ls → AreEndedButLast (kept (numbered n ls))
 kept_ends n [] r = tt
-kept_ends n (l ∷ ls) r =
-    elim (is_significant (line_words l.bytes)) as (λ t. AreEndedButLast
-    (cond t (record { number = n; words = line_words l.bytes; ended = l.ended } ∷ kept (numbered (suc n) ls)) (kept (numbered (suc n) ls)))) [
-      | true ↦ ends_prefix (record { number = n; words = line_words l.bytes; ended = l.ended }) (kept (numbered (suc n) ls)) (ended_or_last l ls (suc n) r)
-          (kept_ends (suc n) ls (tail_raw l ls r))
-      | false ↦ kept_ends (suc n) ls (tail_raw l ls r)
-    ]
+kept_ends n (l ∷ ls) r = grind (arith, common_steps, ended_or_last, ends_prefix, tail_raw, (kept_ends (suc n) ls (tail_raw l ls r)))
 
 -- ---- before the first line
 
 pub at_start : (k : PlainBid → PlainBid) → IsAt [] [] (start k)
-at_start k = record {
-  stage = refl;
-  column = refl;
-  header = refl;
-  due = refl;
-  slots = refl;
-  draft = refl;
-  goods = omega arith;
-  bids = omega arith;
-  dummy = omega arith;
-}
+at_start k = grind (arith, common_steps)
 
 -- the answer for a whole text
 abbrev pub WholeIs : List ℕ → Scanned → Type 0
@@ -180,11 +143,7 @@ blank_with b l [] h = λ e. let k = h e in (b ∷ k.0, k.1, ap (λ ds. b ∷ ds)
 blank_with b l (m ∷ ls) h = h
 
 blank_of_final : (b : ℕ) → is_final b ≡ true → eqb b 10 ≡ false → is_blank b ≡ true
-blank_of_final b f e = right (is_blank b) (eqb b 10) f e
-  where
-    right : (x y : Bool) → (x || y) ≡ true → y ≡ false → x ≡ true
-    right true y h k = refl
-    right false y h k = absurd (both_ways y k h)
+blank_of_final b f e = grind (arith, common_steps, both_ways)
 
 some_line : (c : ℕ) (cs : List ℕ) → (l : RawLine) × (ls : List RawLine) × (raw_lines (c ∷ cs) ≡ l ∷ ls)
 some_line c cs = joined (raw_lines cs)
@@ -217,12 +176,7 @@ EndsBlank-lines (b ∷ c ∷ cs) f =
 
 pub words_trailing : (bs : List ℕ) (b : ℕ) → is_blank b ≡ true → line_words (bs ++ b ∷ []) ≡ line_words bs
 words_trailing [] b e = words_blank b [] e
-words_trailing (c ∷ []) b e =
-    elim (is_blank c) as (λ t. cond t (line_words (b ∷ [])) (cond (begins_word (b ∷ [])) (with_letter c (line_words (b ∷ []))) ((c ∷ []) ∷ line_words (b ∷ [])))
-    ≡ cond t [] ((c ∷ []) ∷ [])) [
-      | true ↦ words_blank b [] e
-      | false ↦ ap (λ t. cond (not t) (with_letter c (line_words (b ∷ []))) ((c ∷ []) ∷ line_words (b ∷ []))) e ∙ ap (λ ws. (c ∷ []) ∷ ws) (words_blank b [] e)
-    ]
+words_trailing (c ∷ []) b e = grind (arith, common_steps, words_blank)
 words_trailing (c ∷ d ∷ ds) b e = ap (words_with c (d ∷ ds)) (words_trailing (d ∷ ds) b e)
 
 and_then_ok : (r : Scan) → and_then r (λ t. Ok t) ≡ r
@@ -230,12 +184,7 @@ and_then_ok (Ok t) = refl
 and_then_ok (Err e) = refl
 
 open_is : (n : ℕ) (ws : List Word) (p : Progress) → outcome (fresh_outcome n ws p) ≡ open_outcome n ws p
-open_is n ws p = elim (is_significant ws) as (λ t. outcome (cond t (lifted n Between (words_read ws p)) (Ok (standing (quiet ws) n p)))
-    ≡ cond t (on_line n (words_read ws p)) (Ok p)) [ true ↦ by_words (words_read ws p) | false ↦ refl ]
-  where
-    by_words : (r : Reading) → outcome (lifted n Between r) ≡ on_line n r
-    by_words (Ok q) = refl
-    by_words (Err kind) = refl
+open_is n ws p = grind (arith, common_steps, lifted, on_line, outcome, quiet, standing, words_read)
 
 -- a last line without its LF, up to a blank
 open_line_end : (n : ℕ) (p : Progress) (bs : List ℕ) (b : ℕ) → AllByRecursion IsNoEnd (bs ++ b ∷ []) → is_blank b ≡ true

@@ -1,13 +1,12 @@
 -- The place of the first fault: the parser's answers over the lines give it, and it has the first fault. The idea: each
 -- step of the search is a step of the definition, at what the parser keeps of the lines and words before.
-use Rattle.std.proofs.Common.{◌≡◌, ℕ, suc, ◌+◌, ◌<◌, ◌≤◌, Bool, true, false, ◌||◌, cond, List, [], ◌∷◌, ◌++◌, length, filter, refl, sym, ap, ap₂, ◌∙◌}
+use Rattle.std.proofs.Common.{◌≡◌, ℕ, suc, ◌+◌, ◌<◌, Bool, true, false, cond, List, [], ◌∷◌, ◌++◌, length, filter, refl, sym, ap, ◌∙◌}
 use Rattle.std.proofs.Common.{subst, arith, Option, Some, None, Ok, Err, option_map, append-nil, append_assoc, length-append}
-use Rattle.std.proofs.lemmas.Bool.{lt-ltb}
 use Rattle.std.specs.Bool.{then_some}
 use Rattle.std.specs.Option.{option_or}
 use Rattle.std.specs.List.{AllByRecursion}
 use Rattle.cats_text.specs.Lines.{Word, RawLine, Line, raw_lines, blank_returns, line_words, is_significant, numbered, significant_lines, line_count}
-use Rattle.cats_text.specs.Faults.{word_fault, end_fault, words_fault, line_fault, lines_fault, first_fault, fault_at, is_line_due, has_bid_line}
+use Rattle.cats_text.specs.Faults.{word_fault, end_fault, words_fault, line_fault, lines_fault, first_fault, fault_at}
 use Rattle.cats_text.specs.FaultPlaces.{PlainPlace, place_behind, words_place, lines_place, first_place, fault_of}
 use Rattle.cats_text.specs.Views.{plain_place}
 use Rattle.cats_text.specs.declared.fault_place.FaultPlace.{FaultPlace}
@@ -16,14 +15,14 @@ use Rattle.cats_text.specs.Internal.Machine.{summary}
 use Rattle.cats_text.specs.Internal.Parsing.{Reading, start, word_read, line_read, is_due}
 use Rattle.cats_text.specs.Internal.Places.{Judged, judged_at, judged_then, words_judged, line_judged}
 use Rattle.cats_text.specs.Internal.Progress.{Progress}
-use Rattle.cats_text.specs.declared.parser.Stage.TheVariants.{Bid}
 use Rattle.cats_text.specs.declared.read_fault.Kind.{Kind}
 use Rattle.cats_text.specs.declared.read_fault.Kind.TheVariants.{Missing}
 use Rattle.cats_text.specs.declared.read_fault.ReadFault.{ReadFault}
 use Rattle.cats_text.proofs.Parsing.Lines.{word_step, line_step, due_step}
-use Rattle.cats_text.proofs.Parsing.States.{IsAt, stage_of, WordFollows, LineFollows}
+use Rattle.cats_text.proofs.Parsing.States.{IsAt, WordFollows}
 use Rattle.cats_text.proofs.Parsing.WholeLines.{IsWord}
 use Rattle.cats_text.proofs.Texts.FirstFaults.{at_start, words_are, significant_pos}
+use Rattle.std.proofs.lemmas.Grind.{common_steps}
 
 -- ---- the words of a line
 
@@ -33,11 +32,7 @@ WordsPlaced n lines before ws (Err place) = words_place n lines before ws ≡ So
 
 end_placed : (n : ℕ) (lines : List (List Word)) (before : List Word) (p : Progress) → 0 < length before → IsAt lines before p
     → WordsPlaced n lines before [] (judged_at n (suc (length before)) [] (line_read p))
-end_placed n lines before p some at = by_end (line_read p) (line_step lines before p some at)
-  where
-    by_end : (r : Reading) → LineFollows lines before r → WordsPlaced n lines before [] (judged_at n (suc (length before)) [] r)
-    by_end (Ok q) f = (ap (option_map (place_behind n before [])) f.0, subst (λ ds. IsAt (lines ++ ds ∷ []) [] q) (sym (append-nil before)) f.1)
-    by_end (Err kind) f = ap (option_map (place_behind n before [])) f
+end_placed n lines before p some at = grind (arith, common_steps, append-nil, line_step, option_map)
 
 pub words_placed : (n : ℕ) (lines : List (List Word)) (before ws : List Word) (p : Progress) → AllByRecursion IsWord ws → 0 < length before + length ws
     → IsAt lines before p → WordsPlaced n lines before ws (words_judged n (suc (length before)) ws p)
@@ -96,8 +91,7 @@ kept_behind n raw raws s = rw s refl
 -- what the words of the next line give
 line_placed : (text : List ℕ) (n : ℕ) (raw : RawLine) (raws : List RawLine) (p : Progress) (b : IsBehind text n (raw ∷ raws) p)
     → is_significant (line_words raw.bytes) ≡ true → WordsPlaced n b.lines [] (line_words raw.bytes) (words_judged n 1 (line_words raw.bytes) p)
-line_placed text n raw raws p b s =
-    words_placed n b.lines [] (line_words raw.bytes) p (words_are raw.bytes) (omega (arith, significant_pos (line_words raw.bytes) s)) b.at
+line_placed text n raw raws p b s = grind (arith, common_steps, significant_pos, words_are, words_placed)
 
 -- the place is in the next line
 pub line_stopped : (text : List ℕ) (n : ℕ) (raw : RawLine) (raws : List RawLine) (p : Progress) (place : PlainPlace) → IsBehind text n (raw ∷ raws) p
@@ -141,22 +135,7 @@ line_passed text n raw raws p q b judged = elim (is_significant (line_words raw.
 -- behind the last line
 pub lines_ended : (text : List ℕ) (n : ℕ) (p : Progress) → IsBehind text n [] p
     → first_place text ≡ cond (is_due p) (Some (place_behind n [] [] Missing)) None
-lines_ended text n p b =
-    let behind : suc (line_count text) ≡ n = omega (arith, b.number) in
-    sym b.place ∙ ap₂ (λ (t : Bool) (k : ℕ). cond t (Some (place_behind k [] [] Missing)) None) (sym (due_step b.lines p b.at)) behind
-
--- a bid line comes
-at_bids : (lines : List (List Word)) → stage_of lines ≡ Bid → 3 ≤ length lines
-at_bids [] s = absurd cc
-at_bids (_ ∷ []) s = absurd cc
-at_bids (_ ∷ _ ∷ []) s = absurd cc
-at_bids (_ ∷ _ ∷ _ ∷ ls) s = omega arith
-
-pub bid_line_comes : (text : List ℕ) (n : ℕ) (raw : RawLine) (raws : List RawLine) (p : Progress) → IsBehind text n (raw ∷ raws) p
-    → p.stage ≡ Bid → is_significant (line_words raw.bytes) ≡ true → has_bid_line text ≡ true
-bid_line_comes text n raw raws p b stage s =
-    let three : 3 ≤ length b.lines = at_bids b.lines (sym b.at.stage ∙ stage) in
-    lt-ltb 3 (length (significant_lines text)) (omega (arith, three, b.count, ap (λ (ls : List Line). length ls) (kept_first n raw raws s)))
+lines_ended text n p b = grind (arith, common_steps, due_step)
 
 pub none_left : (text : List ℕ) → length text ≡ 0 → text ≡ []
 none_left [] e = refl
@@ -181,24 +160,14 @@ or_fault n before w (Some kind) later end place e = refl
 
 words_same : (n : ℕ) (lines : List (List Word)) (before ws : List Word)
     → option_map fault_of (words_place n lines before ws) ≡ option_map (fault_at n) (option_or (words_fault lines before ws) (end_fault lines (before ++ ws)))
-words_same n lines before [] = at_fault n before [] (end_fault lines before)
-    ∙ ap (λ ds. option_map (fault_at n) (end_fault lines ds)) (sym (append-nil before))
-words_same n lines before (w ∷ ws) =
-    or_fault n before w (word_fault lines before w) (words_fault lines (before ++ w ∷ []) ws) (end_fault lines (before ++ w ∷ ws))
-    (words_place n lines (before ++ w ∷ []) ws)
-    (words_same n lines (before ++ w ∷ []) ws
-    ∙ ap (λ ds. option_map (fault_at n) (option_or (words_fault lines (before ++ w ∷ []) ws) (end_fault lines ds))) (append_assoc before (w ∷ []) ws))
+words_same n lines before [] = grind (arith, common_steps, append-nil, at_fault, option_map)
+words_same n lines before (w ∷ ws) = grind (arith, common_steps, append_assoc, option_map, or_fault, (words_same n lines (before ++ w ∷ []) ws))
 
 line_same : (lines : List (List Word)) (l : Line) → option_map fault_of (words_place l.number lines [] l.words) ≡ line_fault true lines l
-line_same lines l = words_same l.number lines [] l.words
-    ∙ elim l.ended as (λ t. option_map (fault_at l.number) (option_or (words_fault lines [] l.words) (end_fault lines l.words))
-    ≡ option_map (fault_at l.number) (option_or (words_fault lines [] l.words) (cond (t || true) (end_fault lines l.words) None)))
-    [ true ↦ refl | false ↦ refl ]
+line_same lines l = grind (arith, common_steps, option_map, words_same)
 
 lines_same : (count : ℕ) (lines : List (List Word)) (ls : List Line) → option_map fault_of (lines_place count lines ls) ≡ lines_fault true count lines ls
-lines_same count lines [] = elim (is_line_due lines) as
-    (λ t. option_map fault_of (cond t (Some (place_behind (suc count) [] [] Missing)) None) ≡ cond t (Some (fault_at (suc count) Missing)) None)
-    [ true ↦ refl | false ↦ refl ]
+lines_same count lines [] = grind (arith, common_steps, option_map)
 lines_same count lines (l ∷ ls) =
     joined (words_place l.number lines [] l.words) (line_fault true lines l) (line_same lines l) (lines_same count (lines ++ l.words ∷ []) ls)
   where

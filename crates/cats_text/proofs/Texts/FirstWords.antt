@@ -11,6 +11,7 @@ use Rattle.cats_text.specs.Lines.{is_blank, raw_lines, with_byte, line_ends, bla
 use Rattle.cats_text.specs.Internal.Places.{IsFirstWord, IsFirstLine, without_return}
 use Rattle.cats_text.proofs.Scanning.Lines.{IsNoEnd, words_blank, words_last, words_next}
 use Rattle.cats_text.proofs.Texts.FirstFaults.{words_trailing}
+use Rattle.std.proofs.lemmas.Grind.{common_steps}
 
 -- ---- where a byte is found
 
@@ -69,9 +70,7 @@ leading : (w rest : List ℕ) → 0 < length w → AllByRecursion (λ b. is_blan
     → line_words (w ++ rest) ≡ w ∷ line_words rest
 leading [] rest some letters ends = absurd (omega arith)
 leading (a ∷ w) [] some letters ends = ap line_words (append-nil (a ∷ w)) ∙ words_last a w letters
-leading (a ∷ w) (b ∷ bs) some letters ends =
-    let blank : is_blank b ≡ true = ends (omega arith) in
-    words_next a w b bs letters blank ∙ ap (λ ws. (a ∷ w) ∷ ws) (sym (words_blank b bs blank))
+leading (a ∷ w) (b ∷ bs) some letters ends = grind (arith, common_steps, words_blank, words_next)
 
 first_kept : (x : ℕ) (xs : List ℕ) (n : ℕ) → is_blank x ≡ false → IsFound is_blank (x ∷ xs) n → 0 < n
 first_kept x xs zero letter found = absurd (both_ways (is_blank x) letter (found.passes (omega arith)))
@@ -94,16 +93,7 @@ word_of_letters (x ∷ xs) n some letter found =
 
 pub first_word : (line : List ℕ) (start end : ℕ) → IsFound (λ b. not (is_blank b)) line start → start < length line → IsFound is_blank (drop start line) end
     → IsFirstWord line (take end (drop start line)) (drop end (drop start line))
-first_word line start end blanks some letters =
-    let ahead : drop start line ≡ get_or line start 0 ∷ drop (suc start) line = drop-cons line start 0 some in
-    let letter : is_blank (get_or line start 0) ≡ false = not_true (is_blank (get_or line start 0)) (blanks.passes some) in
-    let more : 0 < length (drop start line) = omega (arith, length-drop start line) in
-    let kept : 0 < end = first_kept (get_or line start 0) (drop (suc start) line) end letter (subst (λ xs. IsFound is_blank xs end) ahead letters) in
-    record {
-      words = behind_blanks start line blanks.before
-          ∙ word_of_letters (drop start line) end more (ap (λ xs. is_blank (get_or xs 0 0)) ahead ∙ letter) letters;
-      within = omega (arith, length-drop start line, length-drop end (drop start line));
-    }
+first_word line start end blanks some letters = grind (arith, common_steps, behind_blanks, drop-cons, first_kept, length-drop, not_true, word_of_letters)
 
 -- ---- the first line
 
@@ -130,9 +120,7 @@ lines_last x (y ∷ ys) h = rw h.0 (ap (with_byte x) (lines_last y ys h.1))
 -- a CR at the end of a line is a blank, and no other is
 returns_of_line : (xs : List ℕ) → AllByRecursion IsNoEnd xs → (blank_returns xs ≡ without_return xs) ⊎ (blank_returns xs ≡ without_return xs ++ 32 ∷ [])
 returns_of_line [] h = inl refl
-returns_of_line (b ∷ []) h = elim (eqb b 13) as
-    (λ t. (cond (t && true) 32 b ∷ [] ≡ cond t [] (b ∷ [])) ⊎ (cond (t && true) 32 b ∷ [] ≡ cond t [] (b ∷ []) ++ 32 ∷ []))
-    [ true ↦ inr refl | false ↦ inl refl ]
+returns_of_line (b ∷ []) h = grind (arith, common_steps)
 returns_of_line (b ∷ c ∷ cs) h = ⊎_elim
     (λ (e : blank_returns (c ∷ cs) ≡ without_return (c ∷ cs)). inl (ap₂ (λ (k : ℕ) (ds : List ℕ). k ∷ ds) stays e))
     (λ (e : blank_returns (c ∷ cs) ≡ without_return (c ∷ cs) ++ 32 ∷ []). inr (ap₂ (λ (k : ℕ) (ds : List ℕ). k ∷ ds) stays e))
@@ -142,10 +130,7 @@ returns_of_line (b ∷ c ∷ cs) h = ⊎_elim
     stays = ap (λ t. cond (eqb b 13 && t) 32 b) h.1.0 ∙ elim (eqb b 13) as (λ t. cond (t && false) 32 b ≡ b) [ true ↦ refl | false ↦ refl ]
 
 words_of_line : (xs : List ℕ) → AllByRecursion IsNoEnd xs → line_words (blank_returns xs) ≡ line_words (without_return xs)
-words_of_line xs h = ⊎_elim
-    (λ (e : blank_returns xs ≡ without_return xs). ap line_words e)
-    (λ (e : blank_returns xs ≡ without_return xs ++ 32 ∷ []). ap line_words e ∙ words_trailing (without_return xs) 32 refl)
-    (returns_of_line xs h)
+words_of_line xs h = grind (arith, common_steps, returns_of_line, words_trailing)
 
 pub without_last : (xs : List ℕ) → without_return (xs ++ 13 ∷ []) ≡ xs
 without_last [] = refl

@@ -1,7 +1,7 @@
 -- What the reader keeps of a word says all that the grammar needs of the word. The idea: `Summarises w s` says it of each kind of
 -- summary s, and one more byte keeps it.
-use Rattle.std.proofs.Common.{◌≡◌, ◌≢◌, ℕ, zero, suc, ◌+◌, ◌-◌, ◌*◌, ◌^◌, ◌<◌, ◌≤◌, min, Bool, true, false, not, ◌&&◌, ◌||◌, cond, eqb, ltb, ◌⊎◌, inl, inr}
-use Rattle.std.proofs.Common.{⊎_elim, List, [], ◌∷◌, ◌++◌, length, get_or, drop, take, fold, refl, sym, ap, ◌∙◌, subst, arith, append_assoc, add-one}
+use Rattle.std.proofs.Common.{◌≡◌, ◌≢◌, ℕ, zero, suc, ◌+◌, ◌-◌, ◌*◌, ◌^◌, ◌<◌, ◌≤◌, min, true, false, not, ◌&&◌, ◌||◌, cond, eqb, ltb, ◌⊎◌}
+use Rattle.std.proofs.Common.{List, [], ◌∷◌, ◌++◌, length, get_or, take, fold, refl, sym, ap, ◌∙◌, subst, arith, append_assoc, add-one}
 use Rattle.std.proofs.Common.{length-append, append-nil}
 use Rattle.std.proofs.lemmas.Bool.{and_parts, and_from, eqb-true, eqb-false, eq-eqb, ne_eqb, ltb-true, ltb-false, lt-ltb, le-ltb, or_right, both_ways}
 use Rattle.std.proofs.lemmas.List.Sums.{fold-append}
@@ -22,6 +22,7 @@ use Rattle.cats_text.specs.declared.price.Decimal.{Decimal}
 use Rattle.cats_text.specs.declared.word.Word.TheVariants.{Keyword, Number, Decimal as Fraction, End, Other}
 use Rattle.cats_text.specs.declared.word.TheConstants.{HELD}
 use Rattle.cats_text.proofs.Words.Places.{places_from, places-push, place_value_late, digit_bounds, places_below_one}
+use Rattle.std.proofs.lemmas.Grind.{common_steps}
 
 pub summary-push : (a : ℕ) (w : List ℕ) (b : ℕ) → summary ((a ∷ w) ++ b ∷ []) ≡ word_with (summary (a ∷ w)) b
 summary-push a w b = fold-append word_with (word_from a) w (b ∷ [])
@@ -61,35 +62,18 @@ not_digit_first : (a : ℕ) (w : List ℕ) → is_digit a ≡ false → is_numbe
 not_digit_first a w h = rw h refl
 
 not_price_first : (a : ℕ) (w : List ℕ) → is_digit a ≡ false → is_price (a ∷ w) ≡ false
-not_price_first a w h = elim (eqb a 46) as (λ t. (is_number (cond t [] (a ∷ whole_part w)) && (not (t || has_point w) || is_number (cond t w (places w))))
-    ≡ false) [
-      | true ↦ refl
-      | false ↦ rw h refl
-    ]
+not_price_first a w h = grind (arith, common_steps)
 
 -- the first byte begins neither a number, nor `#`, nor a keyword
 other_first : (a : ℕ) (w : List ℕ) → is_digit a ≡ false → a ≢ 35 → a ≢ 103 → a ≢ 98 → a ≢ 100 → IsOther (a ∷ w)
-other_first a w digit hash g b d = record {
-  number = not_digit_first a w digit;
-  price = not_price_first a w digit;
-  ended = rw (ne_eqb a 35 hash) refl;
-  keyword = elim [ Goods ↦ rw (ne_eqb a 103 g) refl | Bids ↦ rw (ne_eqb a 98 b) refl | Dummy ↦ rw (ne_eqb a 100 d) refl ];
-}
+other_first a w digit hash g b d = grind (arith, common_steps, ne_eqb, not_digit_first, not_price_first)
 
 -- the first byte is a digit, so that it is neither `#` nor a keyword
 pub digit_not : (a c : ℕ) (w t : List ℕ) → is_digit a ≡ true → is_digit c ≡ false → bytes_eq (a ∷ w) (c ∷ t) ≡ false
-digit_not a c w t h k = elim (eqb a c) as (λ q. eqb a c ≡ q → (q && bytes_eq w t) ≡ false) [
-  | true ↦ λ (e : eqb a c ≡ true). absurd (both_ways (is_digit c) k (subst (λ n. is_digit n ≡ true) (eqb-true a c e) h))
-  | false ↦ λ (e : eqb a c ≡ false). refl
-] refl
+digit_not a c w t h k = grind (arith, common_steps, both_ways, eqb-true)
 
 digit_is_other : (a : ℕ) (w : List ℕ) → is_digit a ≡ true → is_number (a ∷ w) ≡ false → is_price (a ∷ w) ≡ false → IsOther (a ∷ w)
-digit_is_other a w h n p = record {
-  number = n;
-  price = p;
-  ended = digit_not a 35 w [] h refl;
-  keyword = elim [ Goods ↦ digit_not a 103 w _ h refl | Bids ↦ digit_not a 98 w _ h refl | Dummy ↦ digit_not a 100 w _ h refl ];
-}
+digit_is_other a w h n p = grind (arith, common_steps, digit_not)
 
 -- ---- parts of a word
 
@@ -125,11 +109,7 @@ whole-other (a ∷ w) t b h ne = let p = digits_head a w h in rw (digit_no_point
 
 pub digits-not : (w t : List ℕ) (b : ℕ) → is_digit b ≡ false → digits_alone (w ++ b ∷ t) ≡ false
 digits-not [] t b h = rw h refl
-digits-not (a ∷ w) t b h = rw (digits-not w t b h) (and_false (is_digit a))
-  where
-    and_false : (x : Bool) → (x && false) ≡ false
-    and_false true = refl
-    and_false false = refl
+digits-not (a ∷ w) t b h = grind (arith, common_steps, (digits-not w t b h))
 
 digits-more : (w : List ℕ) (b : ℕ) → digits_alone w ≡ true → is_digit b ≡ true → digits_alone (w ++ b ∷ []) ≡ true
 digits-more [] b h k = rw k refl
@@ -140,39 +120,12 @@ number_of-push w b = fold-append (λ n c. 10 * n + (c - 48)) 0 w (b ∷ [])
 
 -- a number held, with one more digit
 holds_more : (v n d : ℕ) → Holds v n → Holds (cond (ltb v HELD) (v * 10 + d) v) (10 * n + d)
-holds_more v n d h = elim (ltb v HELD) as (λ t. ltb v HELD ≡ t → Holds (cond t (v * 10 + d) v) (10 * n + d)) [
-  | true ↦ λ (e : ltb v HELD ≡ true). let below : v < HELD = ltb-true v HELD e in
-      ⊎_elim (λ (same : v ≡ n). inl (omega arith)) (λ (above : (HELD ≤ v) × (HELD ≤ n)). let no : HELD ≤ v = above.0 in absurd (omega arith)) h
-  | false ↦ λ (e : ltb v HELD ≡ false). let above : HELD ≤ v = ltb-false v HELD e in
-      inr (above, ⊎_elim (λ (same : v ≡ n). omega arith) (λ (both : (HELD ≤ v) × (HELD ≤ n)). let more : HELD ≤ n = both.1 in omega arith) h)
-] refl
+holds_more v n d h = grind (arith, common_steps, ltb-false, ltb-true)
 
 -- ---- the first byte
 
 pub summarises_first : (a : ℕ) → Summarises (a ∷ []) (word_from a)
-summarises_first a = elim (is_digit a) as (λ t. is_digit a ≡ t
-    → Summarises (a ∷ []) (cond t (Number (a - 48))
-    (cond (eqb a 35) End (cond (eqb a 103) (Keyword Goods 1) (cond (eqb a 98) (Keyword Bids 1) (cond (eqb a 100) (Keyword Dummy 1) Other)))))) [
-      | true ↦ λ (e : is_digit a ≡ true). (rw e refl, inl (omega arith))
-      | false ↦ λ (digit : is_digit a ≡ false). elim (eqb a 35) as (λ t. eqb a 35 ≡ t
-          → Summarises (a ∷ []) (cond t End (cond (eqb a 103) (Keyword Goods 1)
-          (cond (eqb a 98) (Keyword Bids 1) (cond (eqb a 100) (Keyword Dummy 1) Other))))) [
-            | true ↦ λ (e : eqb a 35 ≡ true). ap (λ n. n ∷ []) (eqb-true a 35 e)
-            | false ↦ λ (hash : eqb a 35 ≡ false). elim (eqb a 103) as (λ t. eqb a 103 ≡ t
-                → Summarises (a ∷ []) (cond t (Keyword Goods 1) (cond (eqb a 98) (Keyword Bids 1) (cond (eqb a 100) (Keyword Dummy 1) Other)))) [
-                  | true ↦ λ (e : eqb a 103 ≡ true). (ap (λ n. n ∷ []) (eqb-true a 103 e), omega arith, omega arith)
-                  | false ↦ λ (g : eqb a 103 ≡ false). elim (eqb a 98) as (λ t. eqb a 98 ≡ t
-                      → Summarises (a ∷ []) (cond t (Keyword Bids 1) (cond (eqb a 100) (Keyword Dummy 1) Other))) [
-                        | true ↦ λ (e : eqb a 98 ≡ true). (ap (λ n. n ∷ []) (eqb-true a 98 e), omega arith, omega arith)
-                        | false ↦ λ (b : eqb a 98 ≡ false). elim (eqb a 100) as (λ t. eqb a 100 ≡ t → Summarises (a ∷ []) (cond t (Keyword Dummy 1) Other)) [
-                          | true ↦ λ (e : eqb a 100 ≡ true). (ap (λ n. n ∷ []) (eqb-true a 100 e), omega arith, omega arith)
-                          | false ↦ λ (d : eqb a 100 ≡ false). λ t. other_first a t digit (eqb-false a 35 hash) (eqb-false a 103 g) (eqb-false a 98 b)
-                              (eqb-false a 100 d)
-                        ] refl
-                      ] refl
-                ] refl
-          ] refl
-    ] refl
+summarises_first a = grind (arith, common_steps, eqb-false, eqb-true, other_first)
 
 -- ---- one more byte
 
@@ -217,20 +170,7 @@ is_number-not (a ∷ w) h = h
 -- behind digits, a point and digits, a byte that is no digit
 fraction_other : (a : ℕ) (w behind : List ℕ) (b : ℕ) (t : List ℕ) → digits_alone (a ∷ w) ≡ true → is_digit b ≡ false
     → IsOther ((a ∷ w) ++ 46 ∷ (behind ++ b ∷ t))
-fraction_other a w behind b t h digit =
-    let first = digits_head a w h in
-    let none : is_number (places ((a ∷ w) ++ 46 ∷ (behind ++ b ∷ t))) ≡ false = ap is_number (places-point (a ∷ w) (behind ++ b ∷ t) h)
-    ∙ is_number-not (behind ++ b ∷ t) (digits-not behind t b digit) in
-    let point : has_point ((a ∷ w) ++ 46 ∷ (behind ++ b ∷ t)) ≡ true = point-point (a ∷ w) (behind ++ b ∷ t) in
-    digit_is_other a (w ++ 46 ∷ (behind ++ b ∷ t)) first.0 (digits-not (a ∷ w) (behind ++ b ∷ t) 46 refl)
-    (price_false _ _ _ point none)
-  where
-    price_false : (x y z : Bool) → y ≡ true → z ≡ false → (x && (not y || z)) ≡ false
-    price_false x y z p q = rw (p, q) (and_false x)
-      where
-        and_false : (x : Bool) → (x && false) ≡ false
-        and_false true = refl
-        and_false false = refl
+fraction_other a w behind b t h digit = grind (arith, common_steps, digit_is_other, digits-not, digits_head, is_number-not, places-point, point-point)
 
 has_place_early : (ds : List ℕ) → length ds ≤ 6 → has_place_from 6 ds ≡ false
 has_place_early ds l = ap (λ (r : List ℕ). list_any (λ c. not (eqb c 48)) r) (drop_of_length-le ds l)
@@ -239,62 +179,19 @@ has_place_early ds l = ap (λ (r : List ℕ). list_any (λ c. not (eqb c 48)) r)
 fraction_early : (w : List ℕ) (d : Decimal) (b : ℕ) → IsFraction w d → is_digit b ≡ true → d.decimals < 6
     → IsFraction (w ++ b ∷ []) (record d { millionths = min (d.millionths + (b - 48) * place_value_of d.decimals) (2 ^ 64 - 1); decimals = d.decimals + 1 })
 fraction_early w d b f digit early =
-    let count : d.decimals ≡ min 6 (length f.behind) = f.count in
-    let same : d.decimals ≡ 0 + length f.behind = omega arith in
-    let more : length (f.behind ++ b ∷ []) ≡ length f.behind + 1 = length-append f.behind (b ∷ []) in
-    let digits : digits_alone (f.behind ++ b ∷ []) ≡ true = digits-more f.behind b f.digits digit in
-    let sum : d.millionths + (b - 48) * place_value_of d.decimals ≡ places_from 0 (f.behind ++ b ∷ []) =
-    ap (λ v. d.millionths + (b - 48) * place_value_of v) same ∙ ap (λ v. v + (b - 48) * place_value_of (0 + length f.behind)) f.millionths
-    ∙ sym (places-push 0 f.behind b) in
-    let low : places_from 0 (f.behind ++ b ∷ []) ≤ 1000000 = places_below_one (f.behind ++ b ∷ []) digits in
-    record {
-      whole = f.whole;
-      behind = f.behind ++ b ∷ [];
-      is = ap (λ ds. ds ++ b ∷ []) f.is ∙ append_assoc f.whole (46 ∷ f.behind) (b ∷ []);
-      number = f.number;
-      digits = digits;
-      value = f.value;
-      count = omega arith;
-      millionths = omega arith;
-      fine = f.fine ∙ has_place_early f.behind (omega arith) ∙ sym (has_place_early (f.behind ++ b ∷ []) (omega arith));
-    }
+    grind (arith, common_steps, append_assoc, digits-more, has_place_early, length-append, places-push, places_below_one, places_from)
 
 zero_digit : (b : ℕ) → is_digit b ≡ true → eqb (b - 48) 0 ≡ eqb b 48
-zero_digit b digit = let low : 48 ≤ b = (digit_bounds b digit).0 in elim (eqb b 48) as (λ t. eqb b 48 ≡ t → eqb (b - 48) 0 ≡ t) [
-  | true ↦ λ (e : eqb b 48 ≡ true). let is : b ≡ 48 = eqb-true b 48 e in eq-eqb (b - 48) 0 (omega arith)
-  | false ↦ λ (e : eqb b 48 ≡ false). let ne : b ≢ 48 = eqb-false b 48 e in ne_eqb (b - 48) 0 (λ z. absurd (omega arith))
-] refl
+zero_digit b digit = grind (arith, common_steps, digit_bounds, eq-eqb, eqb-false, eqb-true, ne_eqb)
 
 one_more : (ds : List ℕ) (b : ℕ) → 6 ≤ length ds → (has_place_from 6 ds || not (eqb b 48)) ≡ has_place_from 6 (ds ++ b ∷ [])
-one_more ds b l = sym (ap (λ (r : List ℕ). list_any (λ c. not (eqb c 48)) r) (drop-append-le 6 ds (b ∷ []) l)
-    ∙ list_any-append (λ c. not (eqb c 48)) (drop 6 ds) (b ∷ []) ∙ ap (λ x. has_place_from 6 ds || x) (or_false (not (eqb b 48))))
-  where
-    or_false : (x : Bool) → (x || false) ≡ x
-    or_false true = refl
-    or_false false = refl
+one_more ds b l = grind (arith, common_steps, drop-append-le, list_any-append)
 
 -- a place more, behind the first six
 fraction_late : (w : List ℕ) (d : Decimal) (b : ℕ) → IsFraction w d → is_digit b ≡ true → 6 ≤ d.decimals
     → IsFraction (w ++ b ∷ []) (record d { fine = d.fine || not (eqb (b - 48) 0) })
 fraction_late w d b f digit late =
-    let count : d.decimals ≡ min 6 (length f.behind) = f.count in
-    let long : 6 ≤ length f.behind = omega arith in
-    let more : length (f.behind ++ b ∷ []) ≡ length f.behind + 1 = length-append f.behind (b ∷ []) in
-    let none : place_value_of (0 + length f.behind) ≡ 0 = place_value_late (0 + length f.behind) (omega arith) in
-    let product : (b - 48) * place_value_of (0 + length f.behind) ≡ 0 = ap (λ v. (b - 48) * v) none ∙ omega arith in
-    let sum : places_from 0 (f.behind ++ b ∷ []) ≡ places_from 0 f.behind + (b - 48) * place_value_of (0 + length f.behind) = places-push 0 f.behind b in
-    let millionths : d.millionths ≡ places_from 0 f.behind = f.millionths in
-    record {
-      whole = f.whole;
-      behind = f.behind ++ b ∷ [];
-      is = ap (λ ds. ds ++ b ∷ []) f.is ∙ append_assoc f.whole (46 ∷ f.behind) (b ∷ []);
-      number = f.number;
-      digits = digits-more f.behind b f.digits digit;
-      value = f.value;
-      count = omega arith;
-      millionths = omega arith;
-      fine = ap (λ x. x || not (eqb (b - 48) 0)) f.fine ∙ ap (λ x. has_place_from 6 f.behind || not x) (zero_digit b digit) ∙ one_more f.behind b long;
-    }
+    grind (arith, common_steps, append_assoc, digits-more, length-append, one_more, place_value_late, places-push, places_from, zero_digit)
 
 summarises_fraction : (a : ℕ) (w : List ℕ) (b : ℕ) (d : Decimal) → Summarises (a ∷ w) (Fraction d) → Summarises ((a ∷ w) ++ b ∷ []) (word_with (Fraction d) b)
 summarises_fraction a w b d f = elim (is_digit b) as (λ t. is_digit b ≡ t
@@ -319,64 +216,20 @@ summarises_fraction a w b d f = elim (is_digit b) as (λ t. is_digit b ≡ t
 bytes_mismatch : (n : ℕ) (s : List ℕ) (b : ℕ) (t : List ℕ) → n ≤ length s → (ltb n (length s) && eqb (get_or s n 0) b) ≡ false
     → bytes_eq (take n s ++ b ∷ t) s ≡ false
 bytes_mismatch zero [] b t l h = refl
-bytes_mismatch zero (x ∷ xs) b t l h = elim (eqb b x) as (λ q. eqb b x ≡ q → (q && bytes_eq t xs) ≡ false) [
-  | true ↦ λ (e : eqb b x ≡ true). absurd (both_ways (eqb x b) (ap (λ q. q && eqb x b) (sym (lt-ltb 0 (length (x ∷ xs)) (omega arith)))
-      ∙ h) (eq-eqb x b (sym (eqb-true b x e))))
-  | false ↦ λ (e : eqb b x ≡ false). refl
-] refl
+bytes_mismatch zero (x ∷ xs) b t l h = grind (arith, common_steps, both_ways, eq-eqb, eqb-true, lt-ltb)
 bytes_mismatch (suc n) [] b t l h = absurd (let no : suc n ≤ 0 = l in omega arith)
-bytes_mismatch (suc n) (x ∷ xs) b t l h = rw (eq-eqb x x refl) (bytes_mismatch n xs b t (omega arith) (shorter ∙ h))
-  where
-    shorter : (ltb n (length xs) && eqb (get_or xs n 0) b) ≡ (ltb (suc n) (length (x ∷ xs)) && eqb (get_or (x ∷ xs) (suc n) 0) b)
-    shorter = elim (ltb n (length xs)) as (λ q. ltb n (length xs) ≡ q
-        → (q && eqb (get_or xs n 0) b) ≡ (ltb (suc n) (suc (length xs)) && eqb (get_or xs n 0) b)) [
-          | true ↦ λ (e : ltb n (length xs) ≡ true). let l : n < length xs = ltb-true n (length xs) e in
-              rw (lt-ltb (suc n) (suc (length xs)) (omega arith)) refl
-          | false ↦ λ (e : ltb n (length xs) ≡ false). let l : length xs ≤ n = ltb-false n (length xs) e in
-              rw (le-ltb (suc n) (suc (length xs)) (omega arith)) refl
-        ] refl
+bytes_mismatch (suc n) (x ∷ xs) b t l h = grind (arith, common_steps, eq-eqb, le-ltb, lt-ltb, ltb-false, ltb-true, (bytes_mismatch n))
 
 -- the first byte of a keyword's prefix
 pub first_of_take : (a : ℕ) (w : List ℕ) (x : ℕ) (xs : List ℕ) (n : ℕ) → a ∷ w ≡ take n (x ∷ xs) → a ≡ x
-first_of_take a w x xs zero e = absurd (no e)
-  where
-    no : a ∷ w ≡ [] → ⊥
-    no q = cc
+first_of_take a w x xs zero e = grind (arith, common_steps)
 first_of_take a w x xs (suc n) e = cc
 
 keyword_other : (k : Key) (a : ℕ) (w : List ℕ) (n b : ℕ) (t : List ℕ) → a ∷ w ≡ take n (keyword_text k) → n ≤ length (keyword_text k)
     → (ltb n (length (keyword_text k)) && eqb (get_or (keyword_text k) n 0) b) ≡ false → IsOther ((a ∷ w) ++ b ∷ t)
-keyword_other Goods a w n b t e l h = let first : a ≡ 103 = first_of_take a w 103 _ n e in record {
-  number = rw first refl;
-  price = rw first (not_price_first 103 (w ++ b ∷ t) refl);
-  ended = rw first refl;
-  keyword = elim [
-    | Goods ↦ ap (λ ds. bytes_eq (ds ++ b ∷ t) (keyword_text Goods)) e ∙ bytes_mismatch n (keyword_text Goods) b t l h
-    | Bids ↦ rw first refl
-    | Dummy ↦ rw first refl
-  ];
-}
-keyword_other Bids a w n b t e l h = let first : a ≡ 98 = first_of_take a w 98 _ n e in record {
-  number = rw first refl;
-  price = rw first (not_price_first 98 (w ++ b ∷ t) refl);
-  ended = rw first refl;
-  keyword = elim [
-    | Goods ↦ rw first refl
-    | Bids ↦ ap (λ ds. bytes_eq (ds ++ b ∷ t) (keyword_text Bids)) e ∙ bytes_mismatch n (keyword_text Bids) b t l h
-    | Dummy ↦ rw first refl
-  ];
-}
-keyword_other Dummy a w n b t e l h = let first : a ≡ 100 = first_of_take a w 100 _ n e in record {
-  number = rw first refl;
-  price = rw first (not_price_first 100 (w ++ b ∷ t) refl);
-  ended = rw first refl;
-  keyword = elim [
-    | Goods ↦ rw first refl
-    | Bids ↦ rw first refl
-    | Dummy ↦ ap (λ ds. bytes_eq (ds ++ b ∷ t) (keyword_text Dummy)) e
-        ∙ bytes_mismatch n (keyword_text Dummy) b t l h
-  ];
-}
+keyword_other Goods a w n b t e l h = grind (arith, common_steps, bytes_mismatch, first_of_take, not_price_first)
+keyword_other Bids a w n b t e l h = grind (arith, common_steps, bytes_mismatch, first_of_take, not_price_first)
+keyword_other Dummy a w n b t e l h = grind (arith, common_steps, bytes_mismatch, first_of_take, not_price_first)
 
 summarises_keyword : (k : Key) (a : ℕ) (w : List ℕ) (b n : ℕ) → Summarises (a ∷ w) (Keyword k n) → Summarises ((a ∷ w) ++ b ∷ []) (word_with (Keyword k n) b)
 summarises_keyword k a w b n h =

@@ -1,10 +1,11 @@
 -- The digits behind a point, as a sum of what each place counts.
 use Rattle.std.proofs.Math.Nat.{mul-le-mul_right}
-use Rattle.std.proofs.Common.{add-zero, ◌≡◌, ◌≢◌, ℕ, zero, suc, ◌+◌, ◌-◌, ◌*◌, ◌<◌, ◌≤◌, Bool, true, false, not, ◌||◌, eqb, ltb, leb, List, [], ◌∷◌, ◌++◌}
-use Rattle.std.proofs.Common.{length, refl, sym, ap, ◌∙◌, arith}
+use Rattle.std.proofs.Common.{add-zero, ◌≡◌, ℕ, zero, suc, ◌+◌, ◌-◌, ◌*◌, ◌<◌, ◌≤◌, true, ◌||◌, ltb, leb, List, [], ◌∷◌, ◌++◌}
+use Rattle.std.proofs.Common.{length, refl, ap, ◌∙◌, arith}
 use Rattle.std.proofs.lemmas.Bool.{and_parts, eqb-true, eqb-false, ne_eqb, leb-true, lt-ltb, or_right}
 use Rattle.cats_text.specs.Numbers.{is_digit, digits_alone, number_of, six_places, has_place_from}
 use Rattle.cats_text.specs.Internal.Keywords.{place_value_of}
+use Rattle.std.proofs.lemmas.Grind.{common_steps}
 
 -- what the digits from the n-th place on count, in millionths
 abbrev pub places_from : ℕ → List ℕ → ℕ
@@ -16,10 +17,7 @@ digit_bounds b h = let both = and_parts (leb 48 b) (leb b 57) h in (leb-true 48 
 
 -- from the seventh place on nothing counts
 pub place_value_late : (n : ℕ) → 6 ≤ n → place_value_of n ≡ 0
-place_value_late n l =
-    let a : n ≢ 0 = omega arith in let b : n ≢ 1 = omega arith in let c : n ≢ 2 = omega arith in
-    let d : n ≢ 3 = omega arith in let e : n ≢ 4 = omega arith in let f : n ≢ 5 = omega arith in
-    rw (ne_eqb n 0 a, ne_eqb n 1 b, ne_eqb n 2 c, ne_eqb n 3 d, ne_eqb n 4 e, ne_eqb n 5 f) refl
+place_value_late n l = grind (arith, common_steps, ne_eqb)
 
 pub places_late : (n : ℕ) (bs : List ℕ) → 6 ≤ n → places_from n bs ≡ 0
 places_late n [] l = refl
@@ -83,30 +81,5 @@ place_value_pos (suc (suc (suc (suc (suc (suc k)))))) l = absurd (omega arith)
 
 -- some digit is not 0: one behind the first six places, or one that counts
 pub place_not_zero : (bs : List ℕ) → digits_alone bs ≡ true → has_place_from 0 bs ≡ (has_place_from 6 bs || ltb 0 (places_from 0 bs))
-place_not_zero bs h = at 6 0 bs h refl
-  where
-    at : (left n : ℕ) (bs : List ℕ) → digits_alone bs ≡ true → n + left ≡ 6 → has_place_from 0 bs ≡ (has_place_from left bs || ltb 0 (places_from n bs))
-    at zero n bs h e = let none : places_from n bs ≡ 0 = places_late n bs (omega arith) in rw none (sym (or_false (has_place_from 0 bs)))
-      where
-        or_false : (b : Bool) → (b || false) ≡ b
-        or_false true = refl
-        or_false false = refl
-    at (suc left) n [] h e = refl
-    at (suc left) n (b ∷ bs) h e =
-        let parts = and_parts (is_digit b) (digits_alone bs) h in
-        let low : 48 ≤ b = (digit_bounds b parts.0).0 in
-        let later : has_place_from 0 bs ≡ (has_place_from left bs || ltb 0 (places_from (suc n) bs)) = at left (suc n) bs parts.1 (omega arith) in
-        elim (eqb b 48) as (λ t. eqb b 48 ≡ t
-        → (not t || has_place_from 0 bs) ≡ (has_place_from left bs || ltb 0 ((b - 48) * place_value_of n + places_from (suc n) bs))) [
-          | true ↦ λ (q : eqb b 48 ≡ true). let is : b - 48 ≡ 0 = (let same : b ≡ 48 = eqb-true b 48 q in omega arith) in
-              let sum : (b - 48) * place_value_of n + places_from (suc n) bs ≡ places_from (suc n) bs =
-              ap (λ k. k * place_value_of n + places_from (suc n) bs) is ∙ omega arith in
-              later ∙ ap (λ k. has_place_from left bs || ltb 0 k) (sym sum)
-          | false ↦ λ (q : eqb b 48 ≡ false). let ne : b ≢ 48 = eqb-false b 48 q in
-              let pos : 0 < place_value_of n = place_value_pos n (omega arith) in
-              let product : 1 * place_value_of n ≤ (b - 48) * place_value_of n = mul-le-mul_right (place_value_of n) (let one : 1 ≤ b - 48 = omega arith in
-              one) in
-              let more : 0 < (b - 48) * place_value_of n + places_from (suc n) bs = omega arith in
-              sym (or_right (has_place_from left bs) (ltb 0 ((b - 48) * place_value_of n + places_from (suc n) bs))
-              (lt-ltb 0 ((b - 48) * place_value_of n + places_from (suc n) bs) more))
-        ] refl
+place_not_zero bs h =
+    grind (arith, common_steps, and_parts, digit_bounds, eqb-false, eqb-true, lt-ltb, mul-le-mul_right, or_right, place_value_pos, places_late)

@@ -1,9 +1,9 @@
 -- What is kept of a word answers every test that the grammar makes of the word.
-use Rattle.std.proofs.Common.{◌≡◌, ◌≢◌, ℕ, zero, suc, ◌<◌, ◌≤◌, min, Bool, true, false, not, ◌&&◌, ◌||◌, cond, eqb, List, [], ◌∷◌, ◌++◌, length, take, refl}
+use Rattle.std.proofs.Common.{◌≡◌, ◌≢◌, ℕ, zero, suc, ◌<◌, ◌≤◌, min, Bool, true, false, not, ◌&&◌, ◌||◌, eqb, List, [], ◌∷◌, ◌++◌, length, take, refl}
 use Rattle.std.proofs.Common.{sym, ap, ◌∙◌, subst, arith, append-nil}
 use Rattle.std.proofs.lemmas.Bool.{and_parts, eqb-true, eqb-false, eq-eqb, ne_eqb, both_ways}
 use Rattle.std.specs.Str.{bytes_eq}
-use Rattle.cats_text.specs.Numbers.{is_digit, digits_alone, is_number, is_price, whole_part, has_point, places}
+use Rattle.cats_text.specs.Numbers.{is_digit, digits_alone, is_number, is_price, has_point, places}
 use Rattle.cats_text.specs.Faults.{is_end}
 use Rattle.cats_text.specs.Internal.Keywords.{keyword_text}
 use Rattle.cats_text.specs.Internal.Parsing.{is_same_keyword}
@@ -14,6 +14,7 @@ use Rattle.cats_text.specs.declared.price.Decimal.{Decimal}
 use Rattle.cats_text.specs.declared.word.Word.TheVariants.{Keyword, Number, Decimal as Fraction, End, Other}
 use Rattle.cats_text.proofs.Words.Kept.{Summarises, IsOther, digit_not, first_of_take, digits-not, whole-digits, point-digits, whole-point, places-point}
 use Rattle.cats_text.proofs.Words.Kept.{point-point}
+use Rattle.std.proofs.lemmas.Grind.{common_steps}
 
 abbrev pub is_number_by : Word → Bool
 is_number_by (Number v) = true
@@ -40,11 +41,7 @@ pub record IsTested (w : List ℕ) (s : Word) : Type 0 where
   pub keyword : (k : Key) → bytes_eq w (keyword_text k) ≡ is_keyword_by k s
 
 first_not_digit : (a : ℕ) (w : List ℕ) → is_digit a ≡ false → (is_number (a ∷ w) ≡ false) × (is_price (a ∷ w) ≡ false)
-first_not_digit a w h = (
-  rw h refl,
-  elim (eqb a 46) as (λ t. (is_number (cond t [] (a ∷ whole_part w)) && (not (t || has_point w) || is_number (cond t w (places w))))
-      ≡ false) [ true ↦ refl | false ↦ rw h refl ],
-)
+first_not_digit a w h = grind (arith, common_steps)
 
 -- the prefix of a keyword is the keyword where it is all of it
 same_prefix : (s : List ℕ) (n : ℕ) → n ≤ length s → bytes_eq (take n s) s ≡ eqb n (length s)
@@ -95,22 +92,10 @@ tested_keyword Dummy a w n h = let first : a ≡ 100 = first_of_take a w 100 _ n
 
 -- a word that begins with a digit is neither `#` nor a keyword
 digit_first : (a : ℕ) (w : List ℕ) → is_digit a ≡ true → (is_end (a ∷ w) ≡ false) × ((k : Key) → bytes_eq (a ∷ w) (keyword_text k) ≡ false)
-digit_first a w h = (
-  digit_not a 35 w [] h refl,
-  elim [
-    | Goods ↦ digit_not a 103 w _ h refl
-    | Bids ↦ digit_not a 98 w _ h refl
-    | Dummy ↦ digit_not a 100 w _ h refl
-  ],
-)
+digit_first a w h = grind (arith, common_steps, digit_not)
 
 tested_number : (a : ℕ) (w : List ℕ) (v : ℕ) → Summarises (a ∷ w) (Number v) → IsTested (a ∷ w) (Number v)
-tested_number a w v h = let first = digit_first a w (and_parts (is_digit a) (digits_alone w) h.0).0 in record {
-  number = h.0;
-  price = rw (whole-digits (a ∷ w) h.0, point-digits (a ∷ w) h.0, h.0) refl;
-  ended = first.0;
-  keyword = first.1;
-}
+tested_number a w v h = grind (arith, common_steps, and_parts, digit_first, point-digits, whole-digits)
 
 price_behind : (behind : List ℕ) (count : ℕ) → digits_alone behind ≡ true → count ≡ min 6 (length behind) → is_number behind ≡ not (eqb count 0)
 price_behind [] count h e = rw e refl
@@ -145,10 +130,5 @@ pub tested : (a : ℕ) (w : List ℕ) (s : Word) → Summarises (a ∷ w) s → 
 tested a w (Keyword k n) h = tested_keyword k a w n h
 tested a w (Number v) h = tested_number a w v h
 tested a w (Fraction d) h = tested_fraction a w d h
-tested a w End h = subst (λ ds. IsTested ds End) (sym h) (record {
-  number = refl;
-  price = refl;
-  ended = refl;
-  keyword = elim [ Goods ↦ refl | Bids ↦ refl | Dummy ↦ refl ];
-})
+tested a w End h = grind (arith, common_steps)
 tested a w Other h = tested_other (a ∷ w) h

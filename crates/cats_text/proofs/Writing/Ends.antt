@@ -1,9 +1,9 @@
 -- A text that is written from its end to its start.
-use Rattle.std.proofs.Common.{◌≡◌, ℕ, ◌+◌, ◌-◌, ◌<◌, ◌≤◌, List, [], ◌∷◌, ◌++◌, codes, length, take, drop, set, get_or, decimal, sym, ap, ◌∙◌}
+use Rattle.std.proofs.Common.{◌≡◌, ℕ, ◌-◌, ◌<◌, ◌≤◌, List, ◌∷◌, ◌++◌, codes, length, take, drop, set, get_or, decimal, sym, ap, ◌∙◌}
 use Rattle.std.proofs.Common.{arith, append_assoc, take-take}
 use Rattle.std.proofs.lemmas.List.{append-nil, drop-set, drop-drop, drop-append-le, take_more, take_all, get_or-take, length-take-le, length-drop}
-use Rattle.std.proofs.lemmas.Grind.{flat_map-append}
-use Rattle.bid_file.specs.Files.{PlainBid, dummy_good, goods_of}
+use Rattle.std.proofs.lemmas.Grind.{flat_map-append, common_steps}
+use Rattle.bid_file.specs.Files.{PlainBid, dummy_good}
 use Rattle.cats_text.specs.Layout.{price_text, tabbed, bid_text}
 
 -- a byte in place of the first
@@ -19,18 +19,11 @@ tabbed_all gs hs = flat_map-append (λ g. 9 ∷ decimal g) gs hs
 
 pub last_good : (gs rest : List ℕ) → 1 ≤ length gs
     → tabbed (take (length gs - 1) gs) ++ ((9 ∷ decimal (get_or gs (length gs - 1) 0)) ++ rest) ≡ tabbed gs ++ rest
-last_good gs rest some =
-    let prefix = take (length gs - 1) gs in
-    let good = get_or gs (length gs - 1) 0 in
-    let whole : gs ≡ prefix ++ good ∷ [] = sym (take_all (length gs - 1 + 1) gs (omega arith)) ∙ take_more gs (length gs - 1) 0 (omega arith) in
-    sym (append_assoc (tabbed prefix) (9 ∷ decimal good) rest)
-    ∙ ap (λ t. t ++ rest) (ap (λ t. tabbed prefix ++ t) (sym (append-nil (9 ∷ decimal good))) ∙ sym (tabbed_all prefix (good ∷ [])) ∙ ap tabbed (sym whole))
+last_good gs rest some = grind (arith, common_steps, append-nil, append_assoc, tabbed_all, take_all, take_more)
 
 -- those that are left are the prefix of them all
 pub shorter_prefix : (xs whole : List ℕ) → xs ≡ take (length xs) whole → take (length xs - 1) xs ≡ take (length (take (length xs - 1) xs)) whole
-shorter_prefix xs whole e =
-    let n = length xs - 1 in
-    ap (take n) e ∙ take-take n (length xs) whole (omega arith) ∙ ap (λ k. take k whole) (sym (length-take-le n xs (omega arith)))
+shorter_prefix xs whole e = grind (arith, common_steps, length-take-le, take-take)
 
 pub last_of_prefix : (xs whole : List ℕ) → 1 ≤ length xs → xs ≡ take (length xs) whole → get_or xs (length xs - 1) 0 ≡ get_or whole (length xs - 1) 0
 last_of_prefix xs whole some e = ap (λ ys. get_or ys (length xs - 1) 0) e ∙ get_or-take (length xs) whole (length xs - 1) 0 (omega arith)
@@ -39,14 +32,7 @@ last_of_prefix xs whole some e = ap (λ ys. get_or ys (length xs - 1) 0) e ∙ g
 
 pub whole_line : (real goods number : ℕ) (bid : PlainBid) → real ≡ goods
     → (decimal number ++ 9 ∷ price_text bid.price) ++ (tabbed bid.goods ++ (tabbed (dummy_good real bid.dummy) ++ codes "\t#\n")) ≡ bid_text goods number bid
-whole_line real goods number bid same =
-    let offer = decimal number ++ 9 ∷ price_text bid.price in
-    let end : List ℕ = codes "\t#\n" in
-    ap (λ (n : ℕ). offer ++ (tabbed bid.goods ++ (tabbed (dummy_good n bid.dummy) ++ end))) same
-    ∙ ap (λ (t : List ℕ). offer ++ t)
-    (sym (append_assoc (tabbed bid.goods) (tabbed (dummy_good goods bid.dummy)) end)
-    ∙ ap (λ (t : List ℕ). t ++ end) (sym (tabbed_all bid.goods (dummy_good goods bid.dummy))))
-    ∙ sym (append_assoc offer (tabbed (goods_of goods bid)) end)
+whole_line real goods number bid same = grind (arith, common_steps, append_assoc, tabbed_all)
 
 -- a buffer from a place on
 pub rest_of : (size start : ℕ) (line : List ℕ) → length line ≡ size → take (size - start) (drop start line) ≡ drop start line

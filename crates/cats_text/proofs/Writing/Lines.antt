@@ -1,11 +1,11 @@
 -- The lines and words of a layout.
-use Rattle.std.proofs.Common.{◌≡◌, ℕ, suc, ◌+◌, ◌/◌, ◌^◌, ◌<◌, true, eqb, List, [], ◌∷◌, ◌++◌, length, map, codes, decimal, Option, Some, None, refl, sym, ap}
-use Rattle.std.proofs.Common.{◌∙◌, arith, rules, append_assoc}
+use Rattle.std.proofs.Common.{◌≡◌, ℕ, suc, ◌+◌, ◌/◌, ◌^◌, ◌<◌, true, List, [], ◌∷◌, ◌++◌, length, map, codes, decimal, Option, Some, None, refl, sym, ap}
+use Rattle.std.proofs.Common.{◌∙◌, arith, append_assoc}
 use Rattle.std.specs.List.{AllByRecursion}
 use Rattle.std.proofs.lemmas.Bool.{and_parts, false≢true, ne_eqb, not_from_false}
 use Rattle.std.proofs.lemmas.List.{append-nil}
 use Rattle.cats_text.specs.Lines.{Word, line_words, is_significant}
-use Rattle.cats_text.specs.Numbers.{is_digit, digits_alone, is_number}
+use Rattle.cats_text.specs.Numbers.{is_number}
 use Rattle.cats_text.specs.Grammar.{significant_words}
 use Rattle.bid_file.specs.Files.{PlainBid, PlainFile, IsBid, IsDummyBelow, dummy_good, goods_of}
 use Rattle.cats_text.specs.Layout.{price_text, header_text, tabbed, bid_text, bids_text, layout}
@@ -14,6 +14,7 @@ use Rattle.cats_text.proofs.Writing.Numerals.{decimal_spells}
 use Rattle.cats_text.proofs.Writing.Prices.{price_text_is_word}
 use Rattle.cats_text.proofs.Writing.TextLines.{IsInLine, IsWord, all_append, letters_in_line, number_is_word, line_words-word, line_words-last, lines_from}
 use Rattle.cats_text.proofs.Writing.TextLines.{lines_from-line}
+use Rattle.std.proofs.lemmas.Grind.{common_steps}
 
 -- ---- the words that are written
 
@@ -29,9 +30,7 @@ decimal_is_word n fits = number_is_word (decimal n) (decimal_spells n fits).numb
 
 number_is_significant : (w : Word) (ws : List Word) → is_number w ≡ true → is_significant (w ∷ ws) ≡ true
 number_is_significant [] ws number = absurd (false≢true number)
-number_is_significant (b ∷ bs) ws number =
-    let bounds = digit_bounds b (and_parts (is_digit b) (digits_alone bs) number).0 in
-    not_from_false (eqb b 37) (ne_eqb b 37 (λ e. omega arith))
+number_is_significant (b ∷ bs) ws number = grind (arith, common_steps, and_parts, digit_bounds, ne_eqb, not_from_false)
 
 -- ---- goods
 
@@ -59,9 +58,7 @@ tabbed_in_line (g ∷ gs) short =
 tabbed_words : (w : Word) (gs : List ℕ) → IsWord w → AreShort gs → line_words ((w ++ tabbed gs) ++ codes "\t#") ≡ w ∷ (map decimal gs ++ codes "#" ∷ [])
 tabbed_words w [] word short = ap (λ v. line_words (v ++ codes "\t#")) (append-nil w) ∙ line_words-word w 9 (codes "#") word refl
 tabbed_words w (g ∷ gs) word short =
-    ap line_words (append_assoc w (tabbed (g ∷ gs)) (codes "\t#"))
-    ∙ line_words-word w 9 ((decimal g ++ tabbed gs) ++ codes "\t#") word refl
-    ∙ ap (λ ws. w ∷ ws) (tabbed_words (decimal g) gs (decimal_is_word g short.0) short.1)
+    grind (arith, common_steps, append_assoc, decimal_is_word, line_words-word, (tabbed_words (decimal g) gs (decimal_is_word g short.0) short.1))
 
 -- ---- bid lines
 
@@ -78,10 +75,7 @@ regrouped : (n p gs e : List ℕ) → n ++ 9 ∷ p ++ gs ++ e ≡ n ++ 9 ∷ ((p
 regrouped n p gs e = append_assoc (n ++ 9 ∷ p) gs e ∙ append_assoc n (9 ∷ p) (gs ++ e) ∙ ap (λ t. n ++ 9 ∷ t) (sym (append_assoc p gs e))
 
 bid_line_words : (goods n : ℕ) (b : PlainBid) → IsBidLine goods n b → line_words (bid_line goods n b) ≡ bid_words goods n b
-bid_line_words goods n b fits =
-    ap line_words (regrouped (decimal n) (price_text b.price) (tabbed (goods_of goods b)) (codes "\t#"))
-    ∙ line_words-word (decimal n) 9 ((price_text b.price ++ tabbed (goods_of goods b)) ++ codes "\t#") (decimal_is_word n fits.number) refl
-    ∙ ap (λ ws. decimal n ∷ ws) (tabbed_words (price_text b.price) (goods_of goods b) (price_text_is_word b.price fits.price) fits.short)
+bid_line_words goods n b fits = grind (arith, common_steps, decimal_is_word, line_words-word, price_text_is_word, regrouped, tabbed_words)
 
 bid_line_in_line : (goods n : ℕ) (b : PlainBid) → IsBidLine goods n b → AllByRecursion IsInLine (bid_line goods n b)
 bid_line_in_line goods n b fits =
@@ -99,9 +93,7 @@ ended prefix rest = ap (λ t. t ++ rest) (sym (append_assoc prefix (codes "\t#")
 lines_from-bid : (k goods n : ℕ) (b : PlainBid) (rest : List ℕ) → IsBidLine goods n b → lines_from k (bid_text goods n b ++ rest) ≡ bid_words goods n b
     ∷ lines_from (suc k) rest
 lines_from-bid k goods n b rest fits =
-    ap (lines_from k) (ended (decimal n ++ 9 ∷ price_text b.price ++ tabbed (goods_of goods b)) rest)
-    ∙ lines_from-line k (bid_line goods n b) rest (bid_words goods n b) (bid_line_in_line goods n b fits) (bid_line_words goods n b fits)
-    (number_is_significant (decimal n) _ (decimal_spells n fits.number).number)
+    grind (arith, common_steps, bid_line_in_line, bid_line_words, decimal_spells, ended, lines_from, lines_from-line, number_is_significant)
 
 -- what holds of the bids from the n-th on
 pub record AreBids (goods dummy n : ℕ) (bs : List PlainBid) : Type 0 where
@@ -139,11 +131,7 @@ lines_from-header k keyword n rest word significant fits =
     significant
 
 keywords : IsWord (codes "goods") × IsWord (codes "bids") × IsWord (codes "dummy")
-keywords = (
-  record { some = omega arith; letters = search rules },
-  record { some = omega arith; letters = search rules },
-  record { some = omega arith; letters = search rules },
-)
+keywords = grind (arith, common_steps)
 
 -- ---- the whole text
 

@@ -6,6 +6,7 @@ use Rattle.std.proofs.lemmas.Fmt.{digits_decimal, digits_value-decimal, decimal_
 use Rattle.cats_text.specs.Lines.{Word}
 use Rattle.cats_text.specs.Numbers.{digits_alone, is_number, number_of}
 use Rattle.cats_text.specs.Grammar.{SpellsNumber}
+use Rattle.std.proofs.lemmas.Grind.{common_steps}
 
 -- digits behind a number
 abbrev pub number_then : ℕ → Word → ℕ
@@ -24,10 +25,7 @@ is_number_from_digits (b ∷ bs) digits some = digits
 
 -- a number as it is written
 pub decimal_spells : (n : ℕ) → n < 2 ^ 64 → SpellsNumber (decimal n) n
-decimal_spells n fits = record {
-  number = is_number_from_digits (decimal n) (digits_decimal numerals n fits) (decimal_nonempty n fits);
-  value = digits_value-decimal numerals n fits;
-}
+decimal_spells n fits = grind (arith, common_steps, decimal_nonempty, digits_decimal, digits_value-decimal, is_number_from_digits, numerals)
 
 carried : (n d p v : ℕ) → (10 * n + d) * p + v ≡ n * (p * 10) + ((10 * 0 + d) * p + v)
 carried n d p v = grind arith

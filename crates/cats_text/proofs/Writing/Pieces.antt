@@ -9,12 +9,13 @@ use Rattle.std.proofs.lemmas.List.{drop-drop, take-append-le, drop-append-le, le
 use Rattle.std.proofs.lemmas.Result.{err_from_is_err_and}
 use Rattle.std.specs.Io.KnownBytes.{Appends}
 use Rattle.std.specs.List.{AllByRecursion, slice_get}
-use Rattle.bid_file.specs.Files.{PlainBid, PlainFile, IsRising, AreAbove, IsBid, IsPlainFile}
+use Rattle.bid_file.specs.Files.{PlainBid, PlainFile, IsRising, AreAbove, IsPlainFile}
 use Rattle.cats_text.specs.Layout.{bid_text, bids_text, header_text, headers_text}
 use Rattle.cats_text.specs.Streams.{inner_of, Sends, SendsPart}
 use Rattle.cats_text.specs.declared.read_fault.SendFault.{SendFault}
 use Rattle.cats_text.specs.declared.stream.Watched.{Watched}
 use Rattle.cats_text.proofs.Writing.BidTexts.{bid_at, bids_text_on}
+use Rattle.std.proofs.lemmas.Grind.{common_steps}
 
 -- ---- what is sent, and what is held
 
@@ -28,9 +29,7 @@ module _ (before count : ℕ) (page rest whole : List ℕ) (later : before ≤ c
   piece = ap (take (count - before)) (sym next) ∙ take-append-le (count - before) page rest (omega arith)
 
   pub sent_on : (a b c : Option (List ℕ)) → Appends a b (take before whole) → Appends b c (take (count - before) page) → Appends a c (take count whole)
-  sent_on a b c first more =
-      subst (λ (n : ℕ). Appends a c (take n whole)) behind
-      (rw (take-add before (count - before) whole) (Appends-trans a b c _ _ first (rw piece more)))
+  sent_on a b c first more = grind (arith, common_steps, Appends-trans, behind, piece, take-add)
 
   pub left_on : drop (count - before) page ++ rest ≡ drop count whole
   left_on =
@@ -73,24 +72,15 @@ failed_in_piece contents a b c before page piece rest whole fault same next insi
 -- numbers that rise above k and stay below G
 rising_within : (G k : ℕ) (xs : List ℕ) → AreAbove k xs → IsRising xs → AllByRecursion (λ x. x < G) xs → k < G → length xs + k < G
 rising_within G k [] above rising below start = omega arith
-rising_within G k (x ∷ xs) above rising below start =
-    let rest : length xs + x < G = rising_within G x xs rising.0 rising.1 below.1 below.0 in
-    let more : k < x = above.0 in
-    omega arith
+rising_within G k (x ∷ xs) above rising below start = grind (arith, common_steps, (rising_within G x xs rising.0 rising.1 below.1 below.0))
 
 -- a bundle has at most as many goods as the file
 pub goods_within : (G : ℕ) (xs : List ℕ) → IsRising xs → AllByRecursion (λ x. x < G) xs → length xs ≤ G
 goods_within G [] rising below = omega arith
-goods_within G (x ∷ xs) rising below =
-    let rest : length xs + x < G = rising_within G x xs rising.0 rising.1 below.1 below.0 in
-    omega arith
+goods_within G (x ∷ xs) rising below = grind (arith, common_steps, rising_within)
 
 pub bundle_within : (file : PlainFile) (i : ℕ) (bid : PlainBid) → IsPlainFile file → slice_get file.bids i ≡ Some bid → length bid.goods ≤ 4096
-bundle_within file i bid facts is =
-    let this : IsBid file.goods file.dummy bid = bid_at (IsBid file.goods file.dummy) file.bids i bid facts.each is in
-    let few : length bid.goods ≤ file.goods = goods_within file.goods bid.goods this.rising this.below in
-    let bound : file.goods ≤ 4096 = facts.goods in
-    omega arith
+bundle_within file i bid facts is = grind (arith, common_steps, bid_at, goods_within)
 
 header_line_short : (keyword : List ℕ) (n : ℕ) → n < 2 ^ 64 → length keyword ≤ 8 → length (header_text keyword n) ≤ 30
 header_line_short keyword n small short =

@@ -1,11 +1,10 @@
 -- What the text of a price spells.
-use Rattle.std.proofs.Common.{◌≡◌, ℕ, ◌+◌, ◌*◌, ◌/◌, ◌%◌, ◌^◌, ◌<◌, ◌≤◌, true, false, not, eqb, [], ◌∷◌, ◌++◌, length, decimal, refl, sym, ap, subst, ◌∙◌, inl}
+use Rattle.std.proofs.Common.{◌≡◌, ℕ, ◌+◌, ◌*◌, ◌/◌, ◌%◌, ◌^◌, ◌<◌, ◌≤◌, true, false, eqb, [], ◌∷◌, ◌++◌, length, decimal, refl, sym, ap, subst, ◌∙◌, inl}
 use Rattle.std.proofs.Common.{inr, arith, length-append}
-use Rattle.std.specs.List.{list_any}
 use Rattle.std.proofs.lemmas.Bool.{and_parts, and_from, or_left, or_right, cases_eq, cond-false, ne_eqb}
 use Rattle.std.proofs.lemmas.List.{append-nil, drop_all}
 use Rattle.cats_text.specs.Lines.{Word}
-use Rattle.cats_text.specs.Numbers.{is_digit, digits_alone, is_number, number_of, whole_part, places, six_places, has_place_from}
+use Rattle.cats_text.specs.Numbers.{is_digit, digits_alone, is_number, number_of, places, six_places}
 use Rattle.cats_text.specs.Grammar.{SpellsNumber, SpellsPrice}
 use Rattle.cats_text.specs.Layout.{without_zeros, six_digits, places_text, price_text}
 use Rattle.cats_text.proofs.Writing.Numerals.{decimal_spells, digits_from_number, is_number_from_digits}
@@ -14,6 +13,7 @@ use Rattle.cats_text.proofs.Words.Kept.{whole-digits, point-digits, whole-point,
 use Rattle.cats_text.proofs.Writing.SixDigits.{six_digits_spell, six_places-without_zeros, digits_alone-without_zeros, length-without_zeros-le}
 use Rattle.cats_text.proofs.Writing.SixDigits.{places_text_none, places_text_some}
 use Rattle.cats_text.proofs.Writing.TextLines.{IsWord, IsLetter, all_append, digits_are_letters, number_is_word}
+use Rattle.std.proofs.lemmas.Grind.{common_steps}
 
 digit_not_point : (b : ℕ) → is_digit b ≡ true → eqb b 46 ≡ false
 digit_not_point b digit = let bounds = digit_bounds b digit in ne_eqb b 46 (λ e. omega arith)
@@ -22,40 +22,17 @@ digit_not_point b digit = let bounds = digit_bounds b digit in ne_eqb b 46 (λ e
 
 places-digits : (w : Word) → digits_alone w ≡ true → places w ≡ []
 places-digits [] digits = refl
-places-digits (b ∷ bs) digits =
-    let parts = and_parts (is_digit b) (digits_alone bs) digits in
-    cond-false _ _ _ (digit_not_point b parts.0) ∙ places-digits bs parts.1
+places-digits (b ∷ bs) digits = grind (arith, common_steps, and_parts, cond-false, digit_not_point, (places-digits bs))
 
 whole_price : (w : Word) (n : ℕ) → SpellsNumber w n → SpellsPrice w (1000000 * n)
-whole_price w n spelled =
-    let digits : digits_alone w ≡ true = digits_from_number w spelled.number in
-    let whole : whole_part w ≡ w = whole-digits w digits in
-    let none : places w ≡ [] = places-digits w digits in
-    record {
-      price = and_from _ _ (ap is_number whole ∙ spelled.number) (or_left _ _ (ap not (point-digits w digits)));
-      exact = ap (has_place_from 6) none;
-      value = ap (λ v. 1000000 * number_of v + number_of (six_places (places w))) whole
-          ∙ ap (λ v. 1000000 * v + number_of (six_places (places w))) spelled.value
-          ∙ ap (λ ds. 1000000 * n + number_of (six_places ds)) none
-          ∙ omega arith;
-    }
+whole_price w n spelled = grind (arith, common_steps, and_from, digits_from_number, or_left, places-digits, point-digits, whole-digits)
 
 -- ---- digits, a point and digits
 
 pointed_price : (w ds : Word) (n m : ℕ) → SpellsNumber w n → is_number ds ≡ true → length ds ≤ 6 → number_of (six_places ds) ≡ m
     → SpellsPrice (w ++ 46 ∷ ds) (1000000 * n + m)
 pointed_price w ds n m spelled places_number few value =
-    let digits : digits_alone w ≡ true = digits_from_number w spelled.number in
-    let whole : whole_part (w ++ 46 ∷ ds) ≡ w = whole-point w ds digits in
-    let behind : places (w ++ 46 ∷ ds) ≡ ds = places-point w ds digits in
-    record {
-      price = and_from _ _ (ap is_number whole ∙ spelled.number) (or_right _ _ (ap is_number behind ∙ places_number));
-      exact = ap (has_place_from 6) behind ∙ ap (list_any (λ b. not (eqb b 48))) (drop_all 6 ds few);
-      value = ap (λ v. 1000000 * number_of v + number_of (six_places (places (w ++ 46 ∷ ds)))) whole
-          ∙ ap (λ v. 1000000 * v + number_of (six_places (places (w ++ 46 ∷ ds)))) spelled.value
-          ∙ ap (λ v. 1000000 * n + number_of (six_places v)) behind
-          ∙ ap (λ v. 1000000 * n + v) value;
-    }
+    grind (arith, common_steps, and_from, digits_from_number, drop_all, or_right, places-point, whole-point)
 
 -- ---- as it is written
 

@@ -1,7 +1,6 @@
 -- The six digits behind the point: what they spell, and that taking away the zeros at their end loses nothing.
 use Rattle.std.proofs.Common.{◌≡◌, ℕ, zero, suc, ◌+◌, nat_le, List, map, ◌<◌, ◌≤◌, true, eqb, [], ◌∷◌, ◌++◌, length, take, drop, replicate, decimal, refl, sym}
-use Rattle.std.proofs.Common.{ap}
-use Rattle.std.proofs.Common.{subst, ◌∙◌, inl, inr, arith}
+use Rattle.std.proofs.Common.{ap, subst, ◌∙◌, inl, inr, arith}
 use Rattle.std.specs.Fmt.{digits}
 use Rattle.std.proofs.lemmas.Bool.{le-leb, and_parts, and_from, cases_eq, cond-false, cond_both, ne_eqb}
 use Rattle.std.proofs.lemmas.Fmt.{decimal-digits_value}
@@ -10,6 +9,7 @@ use Rattle.cats_text.specs.Numbers.{is_digit, digits_alone, number_of, six_place
 use Rattle.cats_text.specs.Layout.{with_place, without_zeros, digit_at, six_digits, behind_point, places_text}
 use Rattle.cats_text.proofs.Writing.Zeros.{drop_without_zeros}
 use Rattle.cats_text.proofs.Writing.Numerals.{numerals, number_of-cons}
+use Rattle.std.proofs.lemmas.Grind.{common_steps}
 
 -- six digits of this value
 pub record SpellsPlaces (w : Word) (n : ℕ) : Type 0 where
@@ -18,9 +18,7 @@ pub record SpellsPlaces (w : Word) (n : ℕ) : Type 0 where
   pub value : number_of w ≡ n
 
 is_digit_at : (n place : ℕ) → is_digit (digit_at n place) ≡ true
-is_digit_at n place =
-    and_from (nat_le 48 (digit_at n place)) (nat_le (digit_at n place) 57) (le-leb 48 (digit_at n place) (omega arith))
-    (le-leb (digit_at n place) 57 (omega arith))
+is_digit_at n place = grind (arith, common_steps, and_from, le-leb, nat_le)
 
 digits_at : (n : ℕ) (at : List ℕ) → digits_alone (map (digit_at n) at) ≡ true
 digits_at n [] = refl
@@ -28,11 +26,7 @@ digits_at n (place ∷ at) = and_from (is_digit (digit_at n place)) (digits_alon
 
 -- millionths
 pub six_digits_spell : (n : ℕ) → n < 1000000 → SpellsPlaces (six_digits n) n
-six_digits_spell n places = record {
-  long = refl;
-  digits = digits_at n (100000 ∷ 10000 ∷ 1000 ∷ 100 ∷ 10 ∷ 1 ∷ []);
-  value = omega arith;
-}
+six_digits_spell n places = grind (arith, common_steps, digits_at)
 
 -- a leading 1 counts a million
 seven_digits : (n : ℕ) → n < 1000000 → decimal (1000000 + n) ≡ 49 ∷ six_digits n
@@ -74,9 +68,7 @@ place_digits b [] here there = cond_both (eqb b 48) [] (b ∷ []) (λ (ws : Word
 
 pub digits_alone-without_zeros : (ds : Word) → digits_alone ds ≡ true → digits_alone (without_zeros ds) ≡ true
 digits_alone-without_zeros [] digits = refl
-digits_alone-without_zeros (b ∷ bs) digits =
-    let parts = and_parts (is_digit b) (digits_alone bs) digits in
-    place_digits b (without_zeros bs) parts.0 (digits_alone-without_zeros bs parts.1)
+digits_alone-without_zeros (b ∷ bs) digits = grind (arith, common_steps, and_parts, place_digits, (digits_alone-without_zeros bs))
 
 place_length : (b : ℕ) (ws : Word) → length (with_place b ws) ≤ suc (length ws)
 place_length b (c ∷ cs) = omega arith
@@ -100,13 +92,9 @@ pub places_text_none : (n : ℕ) → n ≡ 0 → places_text n ≡ []
 places_text_none n none = ap places_text none ∙ places_text_zero
 
 pub places_text_some : (n : ℕ) → 0 < n → n < 1000000 → places_text n ≡ 46 ∷ without_zeros (six_digits n)
-places_text_some n some places =
-    let six = six_digits_spell n places in
-    some_places (without_zeros (six_digits n)) n (ap number_of (six_places-without_zeros (six_digits n) six.long) ∙ six.value) some
+places_text_some n some places = grind (arith, common_steps, six_digits_spell, six_places-without_zeros, some_places)
 
 -- the point in place of the first digit of the seven
 pub places_written : (shown n : ℕ) → 0 < n → n < 1000000 → decimal shown ≡ without_zeros (decimal (1000000 + n))
     → 46 ∷ drop 1 (decimal shown) ≡ places_text n
-places_written shown n some places e =
-    ap (λ ds. 46 ∷ drop 1 ds) e ∙ ap (λ ds. 46 ∷ ds) (drop_without_zeros (decimal (1000000 + n)))
-    ∙ ap (λ ds. 46 ∷ without_zeros (drop 1 ds)) (seven_digits n places) ∙ sym (places_text_some n some places)
+places_written shown n some places e = grind (arith, common_steps, drop_without_zeros, places_text_some, seven_digits)

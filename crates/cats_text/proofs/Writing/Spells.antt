@@ -10,6 +10,7 @@ use Rattle.cats_text.specs.Layout.{price_text, layout}
 use Rattle.cats_text.proofs.Writing.Numerals.{decimal_spells}
 use Rattle.cats_text.proofs.Writing.Prices.{price_text_spells}
 use Rattle.cats_text.proofs.Writing.Lines.{AreShort, AreBids, bid_words, bids_words, bid_goods_short, behind_first, layout_words}
+use Rattle.std.proofs.lemmas.Grind.{common_steps}
 
 -- ---- numbers that rise are distinct
 
@@ -80,11 +81,16 @@ spells_bids : (f : PlainFile) (prefix bs : List PlainBid) → f.bids ≡ prefix 
     → AllByRecursion (SpellsBid f) (bids_words f.goods (length prefix) bs)
 spells_bids f prefix [] split bids = tt
 spells_bids f prefix (b ∷ bs) split bids =
-    let longer : length (prefix ++ b ∷ []) ≡ suc (length prefix) = omega (arith, length-append prefix (b ∷ [])) in
-    let behind : AreBids f.goods f.dummy (length (prefix ++ b ∷ [])) bs =
-    subst (λ (n : ℕ). AreBids f.goods f.dummy n bs) (sym longer) (behind_first f.goods f.dummy (length prefix) b bs bids) in
-    let later = spells_bids f (prefix ++ b ∷ []) bs (split ∙ sym (append_assoc prefix (b ∷ []) bs)) behind in
-    (spells_bid f prefix b bs split bids, subst (λ (n : ℕ). AllByRecursion (SpellsBid f) (bids_words f.goods n bs)) longer later)
+    grind (
+      arith,
+      common_steps,
+      append_assoc,
+      behind_first,
+      bids_words,
+      length-append,
+      spells_bid,
+      (spells_bids f (prefix ++ b ∷ []) bs (split ∙ sym (append_assoc prefix (b ∷ []) bs))),
+    )
 
 -- ---- the lines
 

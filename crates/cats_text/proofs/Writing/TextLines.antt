@@ -1,11 +1,11 @@
 -- The lines and words of a text that is put together of words, blanks and line ends.
-use Rattle.std.proofs.Common.{◌≡◌, ℕ, suc, ◌<◌, true, false, eqb, List, [], ◌∷◌, ◌++◌, length, map, filter, refl, ap, ◌∙◌, arith}
+use Rattle.std.proofs.Common.{◌≡◌, ℕ, suc, ◌<◌, true, false, eqb, List, [], ◌∷◌, ◌++◌, length, map, filter, refl, ◌∙◌, arith}
 use Rattle.std.specs.List.{AllByRecursion}
 use Rattle.std.proofs.lemmas.Bool.{false≢true, cond-true, cond-false, not_from_true, not_from_false, and_parts, and_left, or_from, ne_eqb}
-use Rattle.cats_text.specs.Lines.{Word, Line, is_blank, blank_returns, lines_with, raw_lines, begins_word, with_letter, words_with, line_words, is_significant}
-use Rattle.cats_text.specs.Lines.{numbered}
+use Rattle.cats_text.specs.Lines.{Word, is_blank, blank_returns, raw_lines, begins_word, with_letter, words_with, line_words, is_significant, numbered}
 use Rattle.cats_text.specs.Numbers.{is_digit, digits_alone, is_number}
 use Rattle.cats_text.proofs.Words.Places.{digit_bounds}
+use Rattle.std.proofs.lemmas.Grind.{common_steps}
 
 -- a byte of a line, other than CR
 pub record IsInLine (b : ℕ) : Type 0 where
@@ -30,18 +30,11 @@ letters_in_line [] letters = tt
 letters_in_line (b ∷ bs) letters = (letters.0.line, letters_in_line bs letters.1)
 
 digit_is_letter : (b : ℕ) → is_digit b ≡ true → IsLetter b
-digit_is_letter b digit =
-    let bounds = digit_bounds b digit in
-    record {
-      blank = or_from _ _ (ne_eqb b 32 (λ e. omega arith)) (ne_eqb b 9 (λ e. omega arith));
-      line = record { feed = ne_eqb b 10 (λ e. omega arith); return = ne_eqb b 13 (λ e. omega arith) };
-    }
+digit_is_letter b digit = grind (arith, common_steps, digit_bounds, ne_eqb, or_from)
 
 pub digits_are_letters : (w : Word) → digits_alone w ≡ true → AllByRecursion IsLetter w
 digits_are_letters [] digits = tt
-digits_are_letters (b ∷ bs) digits =
-    let parts = and_parts (is_digit b) (digits_alone bs) digits in
-    (digit_is_letter b parts.0, digits_are_letters bs parts.1)
+digits_are_letters (b ∷ bs) digits = grind (arith, common_steps, and_parts, digit_is_letter, (digits_are_letters bs))
 
 pub number_is_word : (w : Word) → is_number w ≡ true → IsWord w
 number_is_word [] number = absurd (false≢true number)
@@ -61,35 +54,24 @@ word_continues b bs ws letter on = cond-false _ _ _ letter ∙ cond-true _ _ _ o
 -- a word before a blank
 pub line_words-word : (w : Word) (b : ℕ) (bs : List ℕ) → IsWord w → is_blank b ≡ true → line_words (w ++ b ∷ bs) ≡ w ∷ line_words bs
 line_words-word [] b bs word blank = absurd (omega (arith, word.some))
-line_words-word (a ∷ []) b bs word blank =
-    word_ends a (b ∷ bs) (line_words (b ∷ bs)) word.letters.0.blank (not_from_true (is_blank b) blank)
-    ∙ ap (λ ws. (a ∷ []) ∷ ws) (blank_begins b bs (line_words bs) blank)
-line_words-word (a ∷ c ∷ w) b bs word blank =
-    let behind : IsWord (c ∷ w) = record { some = omega arith; letters = word.letters.1 } in
-    word_continues a (c ∷ w ++ b ∷ bs) (line_words (c ∷ w ++ b ∷ bs)) word.letters.0.blank (not_from_false (is_blank c) word.letters.1.0.blank)
-    ∙ ap (with_letter a) (line_words-word (c ∷ w) b bs behind blank)
+line_words-word (a ∷ []) b bs word blank = grind (arith, common_steps, blank_begins, not_from_true, word_ends)
+line_words-word (a ∷ c ∷ w) b bs word blank = grind (arith, common_steps, not_from_false, word_continues, (line_words-word (c ∷ w) b bs))
 
 -- the last word of a line
 pub line_words-last : (w : Word) → IsWord w → line_words w ≡ w ∷ []
 line_words-last [] word = absurd (omega (arith, word.some))
 line_words-last (a ∷ []) word = word_ends a [] [] word.letters.0.blank refl
-line_words-last (a ∷ c ∷ w) word =
-    let behind : IsWord (c ∷ w) = record { some = omega arith; letters = word.letters.1 } in
-    word_continues a (c ∷ w) (line_words (c ∷ w)) word.letters.0.blank (not_from_false (is_blank c) word.letters.1.0.blank)
-    ∙ ap (with_letter a) (line_words-last (c ∷ w) behind)
+line_words-last (a ∷ c ∷ w) word = grind (arith, common_steps, not_from_false, word_continues, (line_words-last (c ∷ w)))
 
 -- ---- lines
 
 blank_returns-line : (line rest : List ℕ) → AllByRecursion IsInLine line → blank_returns (line ++ 10 ∷ rest) ≡ line ++ 10 ∷ blank_returns rest
 blank_returns-line [] rest within = refl
-blank_returns-line (b ∷ bs) rest within =
-    ap (λ c. c ∷ blank_returns (bs ++ 10 ∷ rest)) (cond-false _ 32 b (and_left (eqb b 13) _ within.0.return))
-    ∙ ap (λ cs. b ∷ cs) (blank_returns-line bs rest within.1)
+blank_returns-line (b ∷ bs) rest within = grind (arith, common_steps, and_left, cond-false, (blank_returns-line bs rest within.1))
 
 raw_lines-line : (line rest : List ℕ) → AllByRecursion IsInLine line → raw_lines (line ++ 10 ∷ rest) ≡ record { bytes = line; ended = true } ∷ raw_lines rest
 raw_lines-line [] rest within = refl
-raw_lines-line (b ∷ bs) rest within =
-    ap (lines_with b) (raw_lines-line bs rest within.1) ∙ cond-false _ _ _ within.0.feed
+raw_lines-line (b ∷ bs) rest within = grind (arith, common_steps, cond-false, (raw_lines-line bs rest within.1))
 
 -- the words of the significant lines, the first line having a number
 abbrev pub lines_from : ℕ → List ℕ → List (List Word)
@@ -98,9 +80,4 @@ lines_from n text = map (λ l. l.words) (filter (λ l. is_significant l.words) (
 -- a significant line
 pub lines_from-line : (n : ℕ) (line rest : List ℕ) (ws : List Word) → AllByRecursion IsInLine line → line_words line ≡ ws → is_significant ws ≡ true
     → lines_from n (line ++ 10 ∷ rest) ≡ ws ∷ lines_from (suc n) rest
-lines_from-line n line rest ws within words significant =
-    let later : List Line = numbered (suc n) (raw_lines (blank_returns rest)) in
-    ap (λ t. map (λ (l : Line). l.words) (filter (λ (l : Line). is_significant l.words) (numbered n t)))
-    (ap raw_lines (blank_returns-line line rest within) ∙ raw_lines-line line (blank_returns rest) within)
-    ∙ ap (λ v. map (λ (l : Line). l.words) (filter (λ (l : Line). is_significant l.words) (record { number = n; words = v; ended = true } ∷ later))) words
-    ∙ ap (λ ls. map (λ (l : Line). l.words) ls) (cond-true (is_significant ws) _ _ significant)
+lines_from-line n line rest ws within words significant = grind (arith, common_steps, blank_returns-line, cond-true, raw_lines-line)

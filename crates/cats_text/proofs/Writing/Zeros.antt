@@ -1,9 +1,9 @@
 -- The zeros at the end of digits.
-use Rattle.std.proofs.Common.{◌≡◌, ◌≢◌, ℕ, ◌+◌, ◌/◌, ◌%◌, ◌^◌, ◌<◌, List, [], ◌∷◌, ◌++◌, length, drop, eqb, decimal, refl, sym, ap, ◌∙◌, inl, inr, arith}
-use Rattle.std.proofs.Common.{length-append}
+use Rattle.std.proofs.Common.{◌≡◌, ◌≢◌, ℕ, ◌+◌, ◌/◌, ◌%◌, ◌^◌, ◌<◌, List, [], ◌∷◌, ◌++◌, length, drop, eqb, decimal, refl, sym, ap, ◌∙◌, arith, length-append}
 use Rattle.std.proofs.lemmas.Bool.{cases_lt, cond-false, cond_both, ne_eqb}
 use Rattle.std.proofs.lemmas.Fmt.{decimal_digit, decimal_step}
 use Rattle.cats_text.specs.Layout.{with_place, without_zeros}
+use Rattle.std.proofs.lemmas.Grind.{common_steps}
 
 without_zeros_push : (xs : List ℕ) → without_zeros (xs ++ 48 ∷ []) ≡ without_zeros xs
 without_zeros_push [] = refl
@@ -15,8 +15,7 @@ with_place-more b (x ∷ xs) some = refl
 
 without_zeros_stops : (xs : List ℕ) (b : ℕ) → b ≢ 48 → without_zeros (xs ++ b ∷ []) ≡ xs ++ b ∷ []
 without_zeros_stops [] b other = cond-false _ [] (b ∷ []) (ne_eqb b 48 other)
-without_zeros_stops (x ∷ xs) b other =
-    ap (with_place x) (without_zeros_stops xs b other) ∙ with_place-more x (xs ++ b ∷ []) (omega (arith, length-append xs (b ∷ [])))
+without_zeros_stops (x ∷ xs) b other = grind (arith, common_steps, length-append, with_place-more, (without_zeros_stops xs b other))
 
 -- a zero at the end goes
 pub zero_dropped : (n : ℕ) → 0 < n → n < 2 ^ 64 → n % 10 ≡ 0 → without_zeros (decimal (n / 10)) ≡ without_zeros (decimal n)
@@ -28,15 +27,7 @@ zero_dropped n some fits zero =
 
 -- another digit at the end stays
 pub last_stays : (n : ℕ) → n < 2 ^ 64 → n % 10 ≢ 0 → without_zeros (decimal n) ≡ decimal n
-last_stays n fits other =
-    elim (cases_lt n 10) as (λ _. without_zeros (decimal n) ≡ decimal n) [
-      | inl short ↦
-          let digit = decimal_digit n short in
-          ap without_zeros digit ∙ without_zeros_stops [] (48 + n) (λ e. other (omega arith)) ∙ sym digit
-      | inr long ↦
-          let step = decimal_step n long fits in
-          ap without_zeros step ∙ without_zeros_stops (decimal (n / 10)) (48 + n % 10) (λ e. other (omega arith)) ∙ sym step
-    ]
+last_stays n fits other = grind (arith, common_steps, cases_lt, decimal_digit, decimal_step, without_zeros_stops)
 
 drop_place : (b : ℕ) (ws : List ℕ) → drop 1 (with_place b ws) ≡ ws
 drop_place b [] = cond_both (eqb b 48) [] (b ∷ []) (λ (ws : List ℕ). drop 1 ws ≡ []) (λ _. refl) (λ _. refl)

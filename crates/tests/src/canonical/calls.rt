@@ -4,7 +4,7 @@ use super::refusals::{expect_line, refusal_text};
 use bid_file::{BidFile, Bids, PackedFile};
 use canon::{
     CanonFault, NamedFile, canonical, file_of, named_normal_file, normal_file, normal_packed_file,
-    normalise, packed_file_of,
+    normalise,
 };
 use cats_text::{read, read_packed, write};
 use goods_set::{GoodsSet, ListSet, WordSet};
@@ -87,25 +87,14 @@ fn canonical_auctions(rt: HostRuntime) -> Result<(), Fail> {
     Ok(())
 }
 
-/// The file of an auction, made twice, has this text.
-fn expect_texts<S: GoodsSet>(
-    rt: &impl Abort,
-    alloc: Global,
-    auction: &Auction<S>,
-    text: &str,
-) -> Result<(), Fail> {
-    expect_line(rt, &text_of(alloc, &file_of(alloc, auction)?)?, text);
-    expect_line(rt, &text_of(alloc, &packed_file_of(alloc, auction)?)?, text);
-    Ok(())
-}
-
 #[test]
 fn files_of_auctions(rt: HostRuntime) -> Result<(), Fail> {
     for text in &[EQUAL_BIDDERS_TEXT, LARGER_BID] {
         let file = read(rt.alloc(), text.as_bytes())?;
         assert!(rt; file.goods() <= 1024);
         let auction: Auction<WordSet<16>> = auction_of(rt.alloc(), &file)?;
-        expect_texts(&rt, rt.alloc(), &auction, text)?;
+        let file = file_of(rt.alloc(), &auction)?;
+        expect_line(&rt, &text_of(rt.alloc(), &file)?, text);
     }
     Ok(())
 }
@@ -183,6 +172,27 @@ fn canonical_packed_files(rt: HostRuntime) -> Result<(), Fail> {
         let file = read_packed(rt.alloc(), text.as_bytes())?;
         let answer = normal_packed_file(rt.alloc(), file, SearchOptions::plain(*limit));
         expect_line(&rt, &printed_packed_file(rt.alloc(), answer)?, expected);
+    }
+    Ok(())
+}
+
+/// The last goods of files on each side of the borders between the kinds of sets of words.
+const LAST_GOODS: &[u16] = &[63, 64, 255, 256, 1_023, 1_024, 4_095];
+
+const SIXTEEN_GOODS: &str = "0\t1\t2\t3\t4\t5\t6\t7\t8\t9\t10\t11\t12\t13\t14\t15";
+
+/// Words suit bids of 17 goods.
+#[test]
+fn canonical_packed_files_on_words(rt: HostRuntime) -> Result<(), Fail> {
+    let alloc = rt.alloc();
+    for last in LAST_GOODS {
+        let header = format!(in alloc; "goods {}\n", u32::from(*last) + 1)?;
+        let bundle = format!(in alloc; "{SIXTEEN_GOODS}\t{last}\t#\n")?;
+        let text = format!(in alloc; "{header}bids 2\ndummy 0\n0\t1\t{bundle}1\t2\t{bundle}")?;
+        let expected = format!(in alloc; "{header}bids 1\ndummy 0\n0\t2\t{bundle}")?;
+        let file = read_packed(alloc, text.as_bytes())?;
+        let answer = normal_packed_file(alloc, file, SearchOptions::plain(1));
+        expect_line(&rt, &printed_packed_file(alloc, answer)?, &expected);
     }
     Ok(())
 }

@@ -1,8 +1,6 @@
 //! Sets of both kinds, on worked examples. Each call is made with ample memory, so
 //! that it has to succeed.
-use goods_set::{
-    GoodsSet, ListSet, WordSet, fingerprint, goods_of, may_be_subset, rising_goods, sort_key,
-};
+use goods_set::{GoodsSet, ListSet, WordSet, goods_of, rising_goods, sort_key};
 use std::alloc::Global;
 use std::cmp::Ordering;
 use std::process::Abort;
@@ -118,16 +116,6 @@ fn compare_sets<S: GoodsSet>(rt: &impl Abort, alloc: Global) -> Result<(), Fail>
     for pair in &PAIRS {
         compare_pair::<S>(rt, alloc, pair)?;
     }
-    Ok(())
-}
-
-// Goods 0 and 1 mark bits 96 and 39, and good 2 bit 79.
-#[test]
-fn fingerprints_reject_what_is_not_inside(rt: HostRuntime) -> Result<(), Fail> {
-    let marks = fingerprint(&[0, 1]);
-    assert!(&rt; marks == 1 << 96 | 1 << 39);
-    assert!(&rt; may_be_subset(fingerprint(&[1]), marks));
-    assert!(&rt; !may_be_subset(fingerprint(&[1, 2]), marks));
     Ok(())
 }
 

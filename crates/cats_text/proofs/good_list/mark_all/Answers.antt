@@ -22,9 +22,9 @@ loop-good-preserved c =
     let goods = c.args.goods.now in
     let i = c.loop-good.good-index in
     let here : i < length goods = omega (arith, c.loop-good-test.true) in
-    let place : c.from-in-loop-good.result ≡ get_or goods i 0 = c.from-in-loop-good.ensures in
+    let index : c.from-in-loop-good.result ≡ get_or goods i 0 = c.from-in-loop-good.ensures in
     record {
-      marked = rw (take_more goods i 0 here, place) (IsMarked-push (take i goods) c.loop-good.marks.items c.args.bid_mark (get_or goods i 0)
+      marked = rw (take_more goods i 0 here, index) (IsMarked-push (take i goods) c.loop-good.marks.items c.args.bid_mark (get_or goods i 0)
           c.loop-good.invariant.marked (rising_new goods i 0 c.requires.rising here)
           (omega (arith, c.loop-good.invariant.space i here, c.loop-good.marks.ok.0)));
       space = c.loop-good.invariant.space;

@@ -85,5 +85,5 @@ returns-in-Err g c =
     let kept = c.loop-count.invariant in
     record {
       bytes = Consumes-kept _ _ _ c.loop-count.push_reader.bytes kept.came c.in-Err.ensures.bytes;
-      answer = rw c.at.ensures (refl, c.in-Err.ensures.failed, kept.no_fault);
+      answer = rw c.whole.ensures (refl, c.in-Err.ensures.failed, kept.no_fault);
     }

@@ -3,5 +3,5 @@ use Rattle.std.proofs.Common.{◌≡◌, ◌+◌, length, drop}
 use Rattle.rounding.specs.Decimals.{significand}
 use Rattle.rounding.proofs.decimal.mark_in.Given as goal
 
-abbrev pub invariant-loop-place : goal.invariant-loop-place
-invariant-loop-place l = l.place + length (significand (drop l.place l.word)) ≡ length (significand l.word)
+abbrev pub invariant-loop-offset : goal.invariant-loop-offset
+invariant-loop-offset l = l.offset + length (significand (drop l.offset l.word)) ≡ length (significand l.word)

@@ -6,18 +6,18 @@ use Rattle.cats_text.specs.Numbers.{whole_part}
 use Rattle.rounding.proofs.Spans.{point_further, point_found}
 use Rattle.rounding.proofs.decimal.point_in.Goals as goal
 
-pub loop-place-preserved : goal.loop-place-preserved
-loop-place-preserved c =
+pub loop-offset-preserved : goal.loop-offset-preserved
+loop-offset-preserved c =
     rw add-one (omega (
       arith,
-      c.loop-place.invariant,
-      point_further c.args.word.now c.loop-place.place c.loop-place-test.true
+      c.loop-offset.invariant,
+      point_further c.args.word.now c.loop-offset.offset c.loop-offset-test.true
           (ne_eqb _ _ c.if-byte-eq46.false),
     ))
 
 pub returns-then-byte-eq46-clause-count : goal.returns-then-byte-eq46-clause-count
 returns-then-byte-eq46-clause-count c =
-    omega (arith, c.loop-place.invariant, point_found c.args.word.now c.loop-place.place c.loop-place-test.true (eq-eqb _ _ c.if-byte-eq46.true))
+    omega (arith, c.loop-offset.invariant, point_found c.args.word.now c.loop-offset.offset c.loop-offset-test.true (eq-eqb _ _ c.if-byte-eq46.true))
 
 pub returns-clause-count : goal.returns-clause-count
-returns-clause-count c = omega (arith, c.loop-place.invariant, at_drop_all (λ ws. length (whole_part ws)) c.args.word.now c.loop-place.place (omega arith))
+returns-clause-count c = omega (arith, c.loop-offset.invariant, at_drop_all (λ ws. length (whole_part ws)) c.args.word.now c.loop-offset.offset (omega arith))

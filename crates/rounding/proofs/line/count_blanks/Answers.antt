@@ -1,17 +1,16 @@
 -- `count_blanks`
-use Rattle.std.proofs.Common.{arith, add-one, length}
-use Rattle.std.proofs.Common.{sym, ◌∙◌}
+use Rattle.std.proofs.Common.{arith, add-one, length, sym, ◌∙◌}
 use Rattle.std.proofs.lemmas.List.{at_drop_all}
 use Rattle.rounding.specs.Texts.{blanks}
 use Rattle.rounding.proofs.Spans.{blanks_further, blanks_found}
 use Rattle.rounding.proofs.line.count_blanks.Goals as goal
 
-pub loop-place-preserved : goal.loop-place-preserved
-loop-place-preserved c =
+pub loop-offset-preserved : goal.loop-offset-preserved
+loop-offset-preserved c =
     rw add-one (omega (
       arith,
-      c.loop-place.invariant,
-      blanks_further c.args.line.now c.loop-place.place c.loop-place-test.true (sym c.is_blank.ensures
+      c.loop-offset.invariant,
+      blanks_further c.args.line.now c.loop-offset.offset c.loop-offset-test.true (sym c.is_blank.ensures
           ∙ c.if-not-is_blank.false),
     ))
 
@@ -19,10 +18,10 @@ pub returns-then-not-is_blank-clause-count : goal.returns-then-not-is_blank-clau
 returns-then-not-is_blank-clause-count c =
     omega (
       arith,
-      c.loop-place.invariant,
-      blanks_found c.args.line.now c.loop-place.place c.loop-place-test.true (sym c.is_blank.ensures
+      c.loop-offset.invariant,
+      blanks_found c.args.line.now c.loop-offset.offset c.loop-offset-test.true (sym c.is_blank.ensures
           ∙ c.if-not-is_blank.true),
     )
 
 pub returns-clause-count : goal.returns-clause-count
-returns-clause-count c = omega (arith, c.loop-place.invariant, at_drop_all (λ ws. length (blanks ws)) c.args.line.now c.loop-place.place (omega arith))
+returns-clause-count c = omega (arith, c.loop-offset.invariant, at_drop_all (λ ws. length (blanks ws)) c.args.line.now c.loop-offset.offset (omega arith))

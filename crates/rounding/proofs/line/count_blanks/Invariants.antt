@@ -3,5 +3,5 @@ use Rattle.std.proofs.Common.{◌≡◌, ◌+◌, length, drop}
 use Rattle.rounding.specs.Texts.{blanks}
 use Rattle.rounding.proofs.line.count_blanks.Given as goal
 
-abbrev pub invariant-loop-place : goal.invariant-loop-place
-invariant-loop-place l = l.place + length (blanks (drop l.place l.line)) ≡ length (blanks l.line)
+abbrev pub invariant-loop-offset : goal.invariant-loop-offset
+invariant-loop-offset l = l.offset + length (blanks (drop l.offset l.line)) ≡ length (blanks l.line)

@@ -12,4 +12,4 @@ returns-in-Ok c =
     header_rounded c.args.fine c.args.text.now c.requires _ c.in-Ok.ensures.items c.new.ensures.items _ c.in_ok-check.ensures.spells
 
 pub returns-in-Err : goal.returns-in-Err
-returns-in-Err c = inr (c.no_memory.ensures, inr (header_spells c.args.fine c.args.text.now c.requires _ c.in_ok-check.ensures.spells))
+returns-in-Err c = inr (c.whole.ensures, inr (header_spells c.args.fine c.args.text.now c.requires _ c.in_ok-check.ensures.spells))

@@ -43,7 +43,7 @@ judged g c =
     elim c.match-take.branch [
       | in-Err w ↦ rw (w.judged-is, w.at.ensures)
           (judged_halted _ _ (count + within) _ _ c.take.new.self _ _ all w.in-Err.kind kept is w.in-Err.ensures.steps)
-      | in-Ok w ↦ rw (w.judged-is, w.at-in-Ok.ensures)
+      | in-Ok w ↦ rw (w.judged-is, w.whole.ensures)
           (judged_too_long _ _ (count + within) _ _ c.take.new.self _ _ all kept is
           (too_many limit count within bytes piece kept.count c.min-within.ensures w.if-within-piece.true) w.in-Ok.ensures.steps)
       | in-Ok-2 w ↦

@@ -3,13 +3,13 @@ use Rattle.std.proofs.Common.{◌≡◌, ◌≤◌, ◌+◌, ◌-◌, false, dro
 use Rattle.cats_text.specs.Internal.Scanning.{state, IsScanned}
 use Rattle.cats_text.proofs.scanner.Scanner.read_bid_lines.Given as goal
 
-abbrev pub invariant-loop-place : goal.invariant-loop-place
-invariant-loop-place g l = record {
-  scanned : IsScanned (state g.K.Keep.keep l.fn.self) (state g.K.Keep.keep l.self) l.self.waiting l.bytes (drop l.place l.bytes);
-  within : l.place ≤ length l.bytes;
-  line : l.self.line ≤ l.fn.self.line + l.place;
+abbrev pub invariant-loop-offset : goal.invariant-loop-offset
+invariant-loop-offset g l = record {
+  scanned : IsScanned (state g.K.Keep.keep l.fn.self) (state g.K.Keep.keep l.self) l.self.waiting l.bytes (drop l.offset l.bytes);
+  within : l.offset ≤ length l.bytes;
+  line : l.self.line ≤ l.fn.self.line + l.offset;
   waits : l.self.waiting ≡ false;
 }
 
-abbrev pub decreases-loop-place : goal.decreases-loop-place
-decreases-loop-place g l = length l.bytes - l.place
+abbrev pub decreases-loop-offset : goal.decreases-loop-offset
+decreases-loop-offset g l = length l.bytes - l.offset

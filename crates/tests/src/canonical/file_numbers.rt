@@ -8,7 +8,7 @@ use std::process::Abort;
 use std::test::Fail;
 use valuation::SearchOptions;
 
-/// Texts that are added in this order, the steps that a search may take, and what is printed: a place, or why there is
+/// Texts that are added in this order, the steps that a search may take, and what is printed: a number, or why there is
 /// none.
 static ROWS: [(&str, u64, &str); 14] = [
     (
@@ -62,7 +62,7 @@ static ROWS: [(&str, u64, &str); 14] = [
     ),
 ];
 
-/// Texts that are added in this order by what needs no search, and the places that are printed.
+/// Texts that are added in this order by what needs no search, and the numbers that are printed.
 static UNSEARCHED: [(&str, &str); 8] = [
     (
         "goods 2\nbids 3\ndummy 0\n0\t3\t0\t#\n1\t4\t1\t#\n2\t7\t0\t1\t#\n",
@@ -93,56 +93,56 @@ static UNSEARCHED: [(&str, &str); 8] = [
     ("goods 2\n", "line 2: Missing"),
 ];
 
-fn place_text(alloc: Global, place: usize) -> Result<String, AllocError> {
-    Ok(format!(in alloc; "{place}")?)
+fn number_text(alloc: Global, number: usize) -> Result<String, AllocError> {
+    Ok(format!(in alloc; "{number}")?)
 }
 
 /// What was printed of a file.
 fn printed(alloc: Global, answer: Result<usize, CanonFault>) -> Result<String, Fail> {
     match answer {
-        Ok(place) => Ok(place_text(alloc, place)?),
+        Ok(number) => Ok(number_text(alloc, number)?),
         Err(fault) => refusal_text(alloc, fault),
     }
 }
 
 /// This is the line that is printed of a text.
-fn expect_place(rt: &impl Abort, line: &str, expected: &str, text: &str) {
+fn expect_number(rt: &impl Abort, line: &str, expected: &str, text: &str) {
     assert_eq!(rt; line, expected, "of {text:?}");
 }
 
 #[test]
-fn places_of_files(rt: HostRuntime) -> Result<(), Fail> {
+fn numbers_of_files(rt: HostRuntime) -> Result<(), Fail> {
     let mut index = AuctionIndex::new(rt.alloc());
     for (text, limit, expected) in &ROWS {
         let answer = match read_packed(rt.alloc(), text.as_bytes()) {
             Ok(file) => index.add(rt.alloc(), &file, SearchOptions::plain(*limit)),
             Err(fault) => Err(CanonFault::from(fault)),
         };
-        expect_place(&rt, &printed(rt.alloc(), answer)?, expected, text);
+        expect_number(&rt, &printed(rt.alloc(), answer)?, expected, text);
     }
     Ok(())
 }
 
 #[test]
-fn places_of_streams(rt: HostRuntime) -> Result<(), Fail> {
+fn numbers_of_streams(rt: HostRuntime) -> Result<(), Fail> {
     let mut index = AuctionIndex::new(rt.alloc());
     for (text, limit, expected) in &ROWS {
         let mut input = Watched::new(text.as_bytes());
         let answer = index.add_from(rt.alloc(), &mut input, SearchOptions::plain(*limit));
-        expect_place(&rt, &printed(rt.alloc(), answer)?, expected, text);
+        expect_number(&rt, &printed(rt.alloc(), answer)?, expected, text);
     }
     Ok(())
 }
 
 #[test]
-fn places_without_search(rt: HostRuntime) -> Result<(), Fail> {
+fn numbers_without_search(rt: HostRuntime) -> Result<(), Fail> {
     let mut index = AuctionIndex::new(rt.alloc());
     for (text, expected) in &UNSEARCHED {
         let answer = match read_packed(rt.alloc(), text.as_bytes()) {
             Ok(file) => Ok(index.add_unsearched(rt.alloc(), &file)?),
             Err(fault) => Err(CanonFault::from(fault)),
         };
-        expect_place(&rt, &printed(rt.alloc(), answer)?, expected, text);
+        expect_number(&rt, &printed(rt.alloc(), answer)?, expected, text);
     }
     Ok(())
 }
