@@ -119,9 +119,9 @@ abbrev pub points_of : PlainFile → Option ℕ → List (Atom (List ℕ))
 points_of f None = or_points f.goods (or_atoms_of f.bids)
 points_of f (Some d) = points_of_dummy f d
 
--- the number of the best bid on the bundle of the point at a place
+-- the number of the best bid on the bundle of the point at an index
 abbrev pub point_number : PlainFile → Option ℕ → ℕ → ℕ
-point_number f dummy place = unwrap_or (best_number f dummy (atom_at (points_of f dummy) place).bundle) 0
+point_number f dummy index = unwrap_or (best_number f dummy (atom_at (points_of f dummy) index).bundle) 0
 
 -- which bid of the canonical file is of bid i's bidder on its goods
 abbrev pub kept_number : PlainFile → ℕ → ℕ
@@ -131,11 +131,11 @@ kept_number f i =
 -- the reason of a best bid, by what becomes of it. A packing is the one that the bounded search finds among the points
 abbrev pub or_reason : PlainFile → ℕ → Option (List ℕ) → PlainReason
 or_reason f i None = Keep (kept_number f i)
-or_reason f i (Some places) = Packing (sort_by nat_cmp (map (point_number f None) places))
+or_reason f i (Some indices) = Packing (sort_by nat_cmp (map (point_number f None) indices))
 
 abbrev pub xor_reason : PlainFile → ℕ → ℕ → Option ℕ → PlainReason
 xor_reason f d i None = Keep (kept_number f i)
-xor_reason f d i (Some place) = Inside (point_number f (Some d) place)
+xor_reason f d i (Some index) = Inside (point_number f (Some d) index)
 
 abbrev pub best_reason : PlainFile → ℕ → Option ℕ → PlainReason
 best_reason f i None = or_reason f i (or_fate Bounded (points_of f None) (atom_of (bid_at f i)))

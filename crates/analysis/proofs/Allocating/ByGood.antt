@@ -1,21 +1,11 @@
 -- The numbers of the bids that have a good, bid by bid. The goods of a bid rise, with its dummy good behind them, so its number is put once
 -- in the list of each.
-use Rattle.std.proofs.Common.{◌≡◌, ℕ, ◌+◌, ◌<◌, ◌≤◌, Bool, ◌||◌, eqb, ⊎_elim, List, [], ◌∷◌, ◌++◌, length, set, get_or, refl, sym, ap, ap₂}
-use Rattle.std.proofs.Common.{◌∙◌, subst, arith, Option, None, Some, Global, append-nil, get_or-set_same, get_or-set_other}
-use Rattle.std.specs.Prelude.{All, Vec}
-use Rattle.std.specs.List.{filter, range_with_len}
-use Rattle.std.proofs.lemmas.Bool.{cases_eq, eq-eqb, ne_eqb, or_left}
-use Rattle.std.proofs.Math.Seq.{get_or-append_seam}
-use Rattle.std.proofs.lemmas.List.{get_or_append_left, get_or-map, length-append, length-map, length-set, map-set}
-use Rattle.std.proofs.lemmas.List.Elements.{All-from_recursion, filter-append}
-use Rattle.goods_set.specs.Bundles.{AreAbove, AreBelow, IsRising, has_good}
-use Rattle.goods_set.specs.Lemmas.Members.{has_not_head}
-use Rattle.bid_file.specs.Files.{IsBid, IsDummyBelow, PlainBid, PlainFile, dummy_good, goods_of}
-use Rattle.valuation.specs.Lemmas.AuctionsOfFiles.{below-from, rising-from}
-use Rattle.prune.specs.Lemmas.Lists.{filter-kept, filter-lost}
-use Rattle.analysis.specs.Bids.{bid_at}
-use Rattle.analysis.specs.Internal.BidsByGood.{AreByGood, list_at, lists_of, with_bid, with_number}
-use Rattle.analysis.specs.LpTexts.{bids_with}
+use Rattle.analysis.proofs.Common.{rules, ◌≡◌, ℕ, ◌+◌, ◌<◌, ◌≤◌, Bool, ◌||◌, eqb, ⊎_elim, List, [], ◌∷◌, ◌++◌, length, set, get_or, refl, sym, ap, ap₂, ◌∙◌}
+use Rattle.analysis.proofs.Common.{subst, arith, Option, Some, Global, append-nil, get_or-set_same, get_or-set_other, All, Vec, filter, range_with_len}
+use Rattle.analysis.proofs.Common.{cases_eq, eq-eqb, ne_eqb, or_left, get_or-append_seam, get_or_append_left, get_or-map, length-append, length-map, length-set}
+use Rattle.analysis.proofs.Common.{map-set, All-from_recursion, filter-append, AreAbove, AreBelow, IsRising, has_good, IsBid, PlainBid, PlainFile, dummy_good}
+use Rattle.analysis.proofs.Common.{goods_of, below-from, rising-from, filter-kept, filter-lost, bid_at, AreByGood, lists_of, with_bid, bids_with, has_not_head}
+use Rattle.analysis.proofs.Common.{list_at, with_number}
 use Rattle.analysis.proofs.Allocating.RowTexts.{range_next}
 
 -- ---- the goods of a bid
@@ -44,21 +34,10 @@ module _ (G D : ℕ) (b : PlainBid) (is : IsBid G D b) where
   below = below-from G b.goods is.below
 
   pub goods_rising : IsRising (goods_of G b)
-  goods_rising = at b.dummy
-    where
-      at : (o : Option ℕ) → IsRising (b.goods ++ dummy_good G o)
-      at None = subst IsRising (sym (append-nil b.goods)) rising
-      at (Some d) = rising_push b.goods (G + d) rising (below_more G (G + d) b.goods (omega arith) below)
+  goods_rising = search (rules, append-nil, rising, rising_push, below_more, below)
 
   pub goods_below : AreBelow (G + D) (goods_of G b)
-  goods_below = at b.dummy is.dummy
-    where
-      more : AreBelow (G + D) b.goods
-      more = below_more G (G + D) b.goods (omega arith) below
-
-      at : (o : Option ℕ) → IsDummyBelow D o → AreBelow (G + D) (b.goods ++ dummy_good G o)
-      at None l = subst (AreBelow (G + D)) (sym (append-nil b.goods)) more
-      at (Some d) l = let m : d < D = l in below_push (G + D) b.goods (G + d) more (omega arith)
+  goods_below = search (rules, below_more, below, append-nil, below_push)
 
 -- ---- one more number
 
@@ -71,10 +50,7 @@ length-lists_of lists = length-map lists (λ (v : Vec ℕ Global). v.items)
 
 pub number_put : (n : ℕ) (lists : List (Vec ℕ Global)) (old new : Vec ℕ Global) (good : ℕ) → good < length lists → old ≡ get_or lists good old
     → new.items ≡ old.items ++ n ∷ [] → lists_of (set lists good new) ≡ with_number n (lists_of lists) good
-number_put n lists old new good l is more =
-    let listed : Vec ℕ Global → List ℕ = λ v. v.items in
-    let before : old.items ≡ list_at (lists_of lists) good = ap listed is ∙ sym (get_or-map listed lists good old [] l) in
-    map-set listed lists good new ∙ ap (set (lists_of lists) good) (more ∙ ap (λ (xs : List ℕ). xs ++ n ∷ []) before)
+number_put n lists old new good l is more = search (rules, get_or-map, map-set)
 
 module _ (n good : ℕ) where
   -- the number, if the good is one of these
@@ -123,11 +99,7 @@ goods_within f b n lists is h =
     (All-from_recursion (λ g. g < f.goods + f.dummy) (goods_of f.goods b) (goods_below f.goods f.dummy b is))
 
 pub good_within : (G m i : ℕ) (b : PlainBid) → All (λ g. g < m) (goods_of G b) → i < length b.goods → get_or b.goods i 0 < m
-good_within G m i b h l =
-    let at = get_or_append_left b.goods (dummy_good G b.dummy) 0 i l in
-    let long = length-append b.goods (dummy_good G b.dummy) in
-    let one = h i 0 (omega arith) in
-    omega arith
+good_within G m i b h l = search (rules, get_or_append_left, length-append)
 
 pub dummy_within : (G m d : ℕ) (b : PlainBid) → All (λ g. g < m) (goods_of G b) → b.dummy ≡ Some d → G + d < m
 dummy_within G m d b h s =
@@ -144,8 +116,4 @@ same_length n lists now goods h =
 -- the list of a good
 pub bids_found : (f : PlainFile) (lists : List (Vec ℕ Global)) (good : ℕ) (v : Vec ℕ Global) → AreByGood f (length f.bids) (lists_of lists)
     → good < length lists → v ≡ get_or lists good v → v.items ≡ bids_with f good
-bids_found f lists good v h l is =
-    let listed : Vec ℕ Global → List ℕ = λ v. v.items in
-    let long = length-lists_of lists in
-    let there = h.long in
-    ap listed is ∙ sym (get_or-map listed lists good v [] l) ∙ h.each good (omega arith)
+bids_found f lists good v h l is = search (rules, length-lists_of, get_or-map)

@@ -1,28 +1,16 @@
 -- Numbers of kept bids and numbers of the canonical file. Each gives back the other, so a list of either that rises does too, once what it
 -- gives is sorted.
-use Rattle.std.proofs.Common.{◌≡◌, ℕ, ◌<◌, true, cond, List, [], ◌∷◌, length, map, refl, sym, ap, ap₂, ◌∙◌, subst, nat_cmp, Ordering}
-use Rattle.std.specs.FinMap.{nat_cmp-IsAntisymmetric}
-use Rattle.std.specs.Ordering.{is_gt}
-use Rattle.std.specs.Prelude.{All, IsPermutation}
-use Rattle.std.proofs.lemmas.Cmp.{nat_cmp_total}
-use Rattle.std.proofs.lemmas.List.Elements.{All-head, All-map, All-tail, All-weaker}
-use Rattle.std.proofs.lemmas.List.Sorted.{IsPermutation-map, IsPermutation-sym, IsPermutation-trans}
-use Rattle.goods_set.specs.Bundles.{AreAbove, IsRising}
-use Rattle.goods_set.specs.Lemmas.Orders.{nat_cmp-lt}
-use Rattle.bid_file.specs.Files.{PlainBid, PlainFile, IsPlainFile}
-use Rattle.valuation.specs.Lemmas.Sorting.{All-sort_by, permutation-sort_by, sorted-sort_by, sorted_is_sort_by}
-use Rattle.valuation.specs.Sorting.{insert_by, sort_by}
-use Rattle.canon.specs.Canonical.{canonical_file}
-use Rattle.canon.proofs.CanonicalFiles.Texts.{IsPlainFile-canonical}
-use Rattle.analysis.specs.Bids.{bid_at}
-use Rattle.analysis.specs.Reasons.{PlainReason, Keep, Zero, Same, Inside, Packing, IsKeptAs, is_kept, kept_number, reason_of}
-use Rattle.analysis.specs.Internal.Deciding.{IsDecided}
+use Rattle.analysis.proofs.Common.{◌≡◌, ℕ, ◌<◌, true, cond, List, [], ◌∷◌, length, map, refl, sym, ap, ap₂, ◌∙◌, subst, nat_cmp, Ordering}
+use Rattle.analysis.proofs.Common.{nat_cmp-IsAntisymmetric, is_gt, All, IsPermutation, nat_cmp_total, All-head, All-map, All-tail, All-weaker}
+use Rattle.analysis.proofs.Common.{IsPermutation-map, IsPermutation-sym, AreAbove, IsRising, nat_cmp-lt, PlainBid, PlainFile, IsPlainFile, All-sort_by}
+use Rattle.analysis.proofs.Common.{permutation-sort_by, sorted-sort_by, sorted_is_sort_by, sort_by, canonical_file, IsPlainFile-canonical, bid_at, PlainReason}
+use Rattle.analysis.proofs.Common.{Keep, Zero, Same, Inside, Packing, IsKeptAs, is_kept, kept_number, IsDecided, IsAllocation, AreKept, in_canonical_file}
+use Rattle.analysis.proofs.Common.{kept_as, number_kept_as, same_Some, IsPermutation-trans, insert_by}
+use Rattle.analysis.specs.Reasons.{reason_of}
 use Rattle.analysis.proofs.Explaining.BestBids.{alike_from}
 use Rattle.analysis.proofs.Explaining.KeptBidsBest.{best-once, one_key_same}
-use Rattle.analysis.proofs.Explaining.KeptPoints.{kept_number_is, same_some}
+use Rattle.analysis.proofs.Explaining.KeptPoints.{kept_number_is}
 use Rattle.analysis.proofs.Explaining.TrueReasons.{reason_is_decided}
-use Rattle.analysis.specs.Allocations.{IsAllocation}
-use Rattle.analysis.specs.KeptWinners.{AreKept, in_canonical_file, kept_as, number_kept_as}
 use Rattle.analysis.proofs.Allocating.Allocations.{winners_within}
 use Rattle.analysis.proofs.Allocating.Reasons.{kept_reason, number_kept_is}
 use Rattle.analysis.proofs.Allocating.Renumbering.{IsCounterpart, IsMoved, counterpart, length-kept_bids, renumbered, win_here, win_there}
@@ -92,20 +80,20 @@ module _ (f : PlainFile) (is : IsPlainFile f) where
   abbrev IsKept : ℕ → Type 0
   IsKept i = (i < length f.bids) × (is_kept (reason_of f i) ≡ true)
 
-  place_is : (i : ℕ) → IsKept i → IsKeptAs f i (kept_number f i)
-  place_is i p =
+  index_is : (i : ℕ) → IsKept i → IsKeptAs f i (kept_number f i)
+  index_is i p =
       let k = kept_somewhere f i (reason_of f i) (reason_is_decided f is i p.0) p.1 in
       subst (IsKeptAs f i) (sym (kept_number_is f is i k.0 k.1)) k.1
 
   there : (i : ℕ) → IsKept i → IsCounterpart f i (kept_number f i)
-  there i p = counterpart f i (kept_number f i) (place_is i p)
+  there i p = counterpart f i (kept_number f i) (index_is i p)
 
   all_kept : (winners : List ℕ) → IsAllocation f winners → AreKept f winners → All IsKept winners
   all_kept winners h kept i d l = (winners_within f winners h i d l, kept i d l)
 
   pub moved_there : (winners : List ℕ) → IsAllocation f winners → AreKept f winners → IsMoved f other winners (in_canonical_file f winners)
   moved_there winners h kept =
-      renumbered f other (IsPlainFile-canonical f is) (kept_number f) IsKept (λ i p. (there i p).place)
+      renumbered f other (IsPlainFile-canonical f is) (kept_number f) IsKept (λ i p. (there i p).index)
       (λ i p. sym (ap (λ (b : PlainBid). b.price) (there i p).is))
       (λ i j p q. win_there f is i j (kept_number f i) (kept_number f j) (there i p) (there j q)) winners (all_kept winners h kept) h
 
@@ -113,7 +101,7 @@ module _ (f : PlainFile) (is : IsPlainFile f) where
 
   one_number : (i j k : ℕ) → IsKeptAs f i k → IsKeptAs f j k → i ≡ j
   one_number i j k one two =
-      let same = same_some (bid_at f i) (bid_at f j) (sym one.is ∙ two.is) in
+      let same = same_Some (bid_at f i) (bid_at f j) (sym one.is ∙ two.is) in
       best-once f i j (counterpart f i k one).within (counterpart f j k two).within one.bid.best two.bid.best
       (alike_from (bid_at f i) (bid_at f j) (one_key_same (bid_at f i) (bid_at f j) same))
 
@@ -121,7 +109,7 @@ module _ (f : PlainFile) (is : IsPlainFile f) where
   back winners h kept =
       there_and_back (number_kept_as f) (kept_number f) winners h.numbers.0
       (All-weaker IsKept (λ i. number_kept_as f (kept_number f i) ≡ i) (λ i p.
-      one_number (number_kept_as f (kept_number f i)) i (kept_number f i) (number_is (kept_number f i) (there i p).place) (place_is i p))
+      one_number (number_kept_as f (kept_number f i)) i (kept_number f i) (number_is (kept_number f i) (there i p).index) (index_is i p))
       winners (all_kept winners h kept))
 
   pub forth : (winners : List ℕ) → IsAllocation other winners → in_canonical_file f (kept_as f winners) ≡ winners

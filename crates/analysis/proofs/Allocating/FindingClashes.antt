@@ -1,21 +1,12 @@
 -- Clashes, from the last bid to the first. Two bids cannot both win exactly if they share a good, where the dummy good is one behind the
 -- real goods. So the first later bid that clashes with a bid is the least of the first later bids that have one of its goods.
-use Rattle.std.proofs.Common.{◌≡◌, ℕ, ◌+◌, ◌<◌, ◌≤◌, Bool, true, false, not, cond, ◌||◌, eqb, ⊎_elim, List, [], ◌∷◌, length, drop, set, replicate}
-use Rattle.std.proofs.Common.{get_or, refl, sym, ap, ◌∙◌, subst, arith, Option, None, Some, get_or-set_same, get_or-set_other, zero, suc}
-use Rattle.std.specs.Prelude.{All, IfSome}
-use Rattle.std.specs.List.{find, list_any}
-use Rattle.std.proofs.lemmas.Bool.{both_ways, cases_Bool, cases_eq, eq-eqb, false_from_ne_true, ne_eqb, not_from_false, not_from_true, or_left}
-use Rattle.std.proofs.lemmas.List.{drop_all, drop_more, get_or-replicate, length-replicate, length-set}
-use Rattle.std.proofs.lemmas.List.Elements.{All-from_recursion}
-use Rattle.goods_set.specs.Bundles.{AreAbove, AreBelow, IsBundle, IsRising, has_good}
-use Rattle.goods_set.specs.Lemmas.Members.{has_below}
-use Rattle.bid_file.specs.Files.{IsBid, IsPlainFile, PlainBid, PlainFile, goods_of}
-use Rattle.prune.specs.Lemmas.Lists.{All-from_Contains, find_same_on, list_any_fails, list_any_found}
-use Rattle.analysis.specs.Bids.{bid_at}
+use Rattle.analysis.proofs.Common.{◌≡◌, ℕ, ◌+◌, ◌<◌, ◌≤◌, Bool, true, false, not, cond, ◌||◌, eqb, ⊎_elim, List, [], ◌∷◌, length, drop, set, get_or, refl, sym}
+use Rattle.analysis.proofs.Common.{ap, ◌∙◌, subst, arith, Option, None, Some, get_or-set_same, get_or-set_other, zero, suc, All, IfSome, find, both_ways}
+use Rattle.analysis.proofs.Common.{cases_Bool, cases_eq, eq-eqb, false_from_ne_true, ne_eqb, not_from_false, not_from_true, or_left, drop_more, length-set}
+use Rattle.analysis.proofs.Common.{All-from_recursion, AreAbove, AreBelow, IsBundle, IsRising, has_good, has_below, IsBid, IsPlainFile, PlainBid, PlainFile}
+use Rattle.analysis.proofs.Common.{goods_of, All-from_Contains, list_any_fails, list_any_found, bid_at, first_clash, first_rival, pair_or, can_both_win}
+use Rattle.analysis.proofs.Common.{held_by, least_holder, list_any, find_same_on, AreHolders, has, holder_at, lesser}
 use Rattle.analysis.proofs.Explaining.KeptBids.{bid_here}
-use Rattle.analysis.specs.AllocationVerdicts.{first_clash, first_rival, pair_or}
-use Rattle.analysis.specs.Allocations.{can_both_win}
-use Rattle.analysis.specs.Internal.FirstHolders.{AreHolders, has, held_by, holder_at, least_holder, lesser}
 use Rattle.analysis.proofs.Allocating.ByGood.{goods_below}
 use Rattle.analysis.proofs.Allocating.LpRows.{both_win, contains_from, has_from, share_none}
 
@@ -151,63 +142,38 @@ one_more f n b later holders is here h = record {
 
 -- ---- the walk
 
--- what is known of the winners from this place on
-pub record IsWalked (f : PlainFile) (winners : List ℕ) (place : ℕ) (holders : List (Option ℕ)) (clash : Option (ℕ × ℕ)) : Type 0 where
-  pub held : AreHolders f (drop place winners) holders
-  pub is_clash : clash ≡ first_clash f (drop place winners)
+-- what is known of the winners from this index on
+pub record IsWalked (f : PlainFile) (winners : List ℕ) (index : ℕ) (holders : List (Option ℕ)) (clash : Option (ℕ × ℕ)) : Type 0 where
+  pub held : AreHolders f (drop index winners) holders
+  pub is_clash : clash ≡ first_clash f (drop index winners)
 
 abbrev nobody : Option ℕ
 nobody = None
 
-pub none_walked : (f : PlainFile) (winners : List ℕ) (holders : List (Option ℕ)) → holders ≡ replicate (f.goods + f.dummy) nobody
-    → IsWalked f winners (length winners) holders None
-none_walked f winners holders e = record {
-  held = record {
-    long = ap (length {A = Option ℕ}) e ∙ length-replicate (f.goods + f.dummy) nobody;
-    each = λ good l.
-        ap (λ (hs : List (Option ℕ)). holder_at hs good) e ∙ get_or-replicate (f.goods + f.dummy) good nobody None l
-        ∙ ap (find (has f good)) (sym (drop_all (length winners) winners (omega arith)));
-  };
-  is_clash = ap (first_clash f) (sym (drop_all (length winners) winners (omega arith)));
-}
+IsBundle-drop : (n k : ℕ) (xs : List ℕ) → IsBundle n xs → IsBundle n (drop k xs)
+IsBundle-drop n zero xs b = b
+IsBundle-drop n (suc k) [] b = (tt, tt)
+IsBundle-drop n (suc k) (x ∷ xs) b = IsBundle-drop n k xs (b.0.1, b.1.1)
 
-drop_rises : (k : ℕ) (xs : List ℕ) → IsRising xs → IsRising (drop k xs)
-drop_rises zero xs r = r
-drop_rises (suc k) [] r = tt
-drop_rises (suc k) (x ∷ xs) r = drop_rises k xs r.1
-
-drop_below : (n k : ℕ) (xs : List ℕ) → AreBelow n xs → AreBelow n (drop k xs)
-drop_below n zero xs b = b
-drop_below n (suc k) [] b = tt
-drop_below n (suc k) (x ∷ xs) b = drop_below n k xs b.1
-
-below_at : (n : ℕ) (xs : List ℕ) (k : ℕ) → AreBelow n xs → k < length xs → get_or xs k 0 < n
-below_at n [] k b l = absurd (omega arith)
-below_at n (x ∷ xs) zero b l = b.0
-below_at n (x ∷ xs) (suc k) b l = below_at n xs k b.1 (omega arith)
-
-pub number_there : (f : PlainFile) (winners : List ℕ) → IsBundle (length f.bids) winners → (place : ℕ) → place < length winners
-    → get_or winners place 0 < length f.bids
-number_there f winners numbers place l = below_at (length f.bids) winners place numbers.1 l
+pub number_there : (f : PlainFile) (winners : List ℕ) → IsBundle (length f.bids) winners → (index : ℕ) → index < length winners
+    → get_or winners index 0 < length f.bids
+number_there f winners numbers index l = All-from_recursion (λ i. i < length f.bids) winners numbers.1 index 0 l
 
 -- one winner more, whose bid is this one
-module _ (f : PlainFile) (is : IsPlainFile f) (winners : List ℕ) (numbers : IsBundle (length f.bids) winners) (place next n : ℕ)
-    (before : place + 1 ≡ next) (within : next ≤ length winners) (at : n ≡ get_or winners place 0) (b : PlainBid) (here : b ≡ bid_at f n)
+module _ (f : PlainFile) (is : IsPlainFile f) (winners : List ℕ) (numbers : IsBundle (length f.bids) winners) (index next n : ℕ)
+    (before : index + 1 ≡ next) (within : next ≤ length winners) (at : n ≡ get_or winners index 0) (b : PlainBid) (here : b ≡ bid_at f n)
     (holders : List (Option ℕ)) (clash : Option (ℕ × ℕ)) (walked : IsWalked f winners next holders clash) where
-  w : IsWalked f winners (place + 1) holders clash
+  w : IsWalked f winners (index + 1) holders clash
   w = subst (λ (m : ℕ). IsWalked f winners m holders clash) (sym before) walked
 
-  whole : drop place winners ≡ n ∷ drop (place + 1) winners
-  whole = drop_more winners place 0 (omega arith) ∙ ap (λ (x : ℕ). x ∷ drop (place + 1) winners) (sym at)
+  whole : drop index winners ≡ n ∷ drop (index + 1) winners
+  whole = drop_more winners index 0 (omega arith) ∙ ap (λ (x : ℕ). x ∷ drop (index + 1) winners) (sym at)
 
-  rises : IsRising (n ∷ drop (place + 1) winners)
-  rises = subst IsRising whole (drop_rises place winners numbers.0)
-
-  below : AreBelow (length f.bids) (n ∷ drop (place + 1) winners)
-  below = subst (AreBelow (length f.bids)) whole (drop_below (length f.bids) place winners numbers.1)
+  rest : IsBundle (length f.bids) (n ∷ drop (index + 1) winners)
+  rest = subst (IsBundle (length f.bids)) whole (IsBundle-drop (length f.bids) index winners numbers)
 
   is_bid : IsBid f.goods f.dummy b
-  is_bid = subst (IsBid f.goods f.dummy) (sym here) (bid_here f is n below.0)
+  is_bid = subst (IsBid f.goods f.dummy) (sym here) (bid_here f is n rest.1.0)
 
   goods_there : AreBelow (f.goods + f.dummy) (goods_of f.goods b)
   goods_there = goods_below f.goods f.dummy b is_bid
@@ -217,17 +183,17 @@ module _ (f : PlainFile) (is : IsPlainFile f) (winners : List ℕ) (numbers : Is
       subst (λ m. All (λ good. good < m) (goods_of f.goods b)) (sym w.held.long)
       (All-from_recursion (λ good. good < f.goods + f.dummy) (goods_of f.goods b) goods_there)
 
-  rival : least_holder holders None (goods_of f.goods b) ≡ first_rival f n (drop (place + 1) winners)
+  rival : least_holder holders None (goods_of f.goods b) ≡ first_rival f n (drop (index + 1) winners)
   rival =
-      least_is f is (drop (place + 1) winners) holders rises.1 w.held (goods_of f.goods b) goods_there None
-      ∙ ap (λ (a : PlainBid). find (λ j. list_any (λ good. has f good j) (goods_of f.goods a)) (drop (place + 1) winners)) here
-      ∙ rival_is f is n (drop (place + 1) winners) below.0 below.1
+      least_is f is (drop (index + 1) winners) holders rest.0.1 w.held (goods_of f.goods b) goods_there None
+      ∙ ap (λ (a : PlainBid). find (λ j. list_any (λ good. has f good j) (goods_of f.goods a)) (drop (index + 1) winners)) here
+      ∙ rival_is f is n (drop (index + 1) winners) rest.1.0 rest.1.1
 
   pub one_walked : (changed : List (Option ℕ)) (after : Option (ℕ × ℕ)) → changed ≡ held_by n holders (goods_of f.goods b)
-      → after ≡ pair_or n (least_holder holders None (goods_of f.goods b)) clash → IsWalked f winners place changed after
+      → after ≡ pair_or n (least_holder holders None (goods_of f.goods b)) clash → IsWalked f winners index changed after
   one_walked changed after c e = record {
     held = subst (λ ws. AreHolders f ws changed) (sym whole)
-        (subst (AreHolders f (n ∷ drop (place + 1) winners)) (sym c) (one_more f n b (drop (place + 1) winners) holders is_bid here w.held));
+        (subst (AreHolders f (n ∷ drop (index + 1) winners)) (sym c) (one_more f n b (drop (index + 1) winners) holders is_bid here w.held));
     is_clash = e ∙ ap (λ (o : Option ℕ). pair_or n o clash) rival
-        ∙ ap (pair_or n (first_rival f n (drop (place + 1) winners))) w.is_clash ∙ ap (first_clash f) (sym whole);
+        ∙ ap (pair_or n (first_rival f n (drop (index + 1) winners))) w.is_clash ∙ ap (first_clash f) (sym whole);
   }

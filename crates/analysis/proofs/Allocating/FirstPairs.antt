@@ -1,17 +1,8 @@
 -- The first two bids that cannot both win. None is found exactly if all can win, and no earlier two clash.
-use Rattle.std.proofs.Common.{◌≡◌, ℕ, ◌<◌, Bool, true, false, not, cond, ⊎_elim, List, [], ◌∷◌, refl, sym, ap, ◌∙◌, subst, arith}
-use Rattle.std.proofs.Common.{Option, Some, None}
-use Rattle.std.specs.Prelude.{Contains, IfSome}
-use Rattle.std.specs.List.{find, list_all}
-use Rattle.std.proofs.lemmas.Bool.{and_from, and_parts, cases_Bool, not-false, not-true, not_from_true}
-use Rattle.goods_set.specs.Bundles.{IsRising}
-use Rattle.goods_set.specs.Lemmas.Members.{has_above}
-use Rattle.bid_file.specs.Files.{PlainFile}
-use Rattle.valuation.specs.Lemmas.Lists.{Contains-cons_cases}
-use Rattle.prune.specs.Lemmas.Lists.{Contains-head, Contains-nil, Contains-tail, find_none, found_none, found_some, list_all_at, list_all_from}
-use Rattle.analysis.specs.Bids.{bid_at}
-use Rattle.analysis.specs.AllocationVerdicts.{IsFirstClash, first_clash, first_rival, pair_or}
-use Rattle.analysis.specs.Allocations.{can_all_win, can_both_win}
+use Rattle.analysis.proofs.Common.{◌≡◌, ℕ, ◌<◌, Bool, true, false, not, cond, ⊎_elim, List, [], ◌∷◌, refl, sym, ap, ◌∙◌, subst, arith, Option, Some, None}
+use Rattle.analysis.proofs.Common.{Contains, IfSome, find, list_all, and_from, and_parts, cases_Bool, not-false, not-true, not_from_true, IsRising, has_above}
+use Rattle.analysis.proofs.Common.{PlainFile, Contains-cons_cases, Contains-head, Contains-nil, Contains-tail, find_none, found_none, found_some, list_all_at}
+use Rattle.analysis.proofs.Common.{list_all_from, bid_at, IsFirstClash, first_clash, first_rival, pair_or, can_all_win, can_both_win, same_Some}
 use Rattle.analysis.proofs.Allocating.LpRows.{has_from}
 
 -- the first of rising numbers that passes a test: no lesser one does
@@ -31,9 +22,6 @@ found_least p (z ∷ zs) r x e y c l =
 
 pub found_at : (p : ℕ → Bool) (xs : List ℕ) (x : ℕ) → find p xs ≡ Some x → Contains xs x × (p x ≡ true)
 found_at p xs x e = subst (λ (o : Option ℕ). IfSome o (λ y. Contains xs y × (p y ≡ true))) e (found_some p xs)
-
-some_same : (p q : ℕ × ℕ) → ◌≡◌ {A = Option (ℕ × ℕ)} (Some p) (Some q) → p ≡ q
-some_same p q e = cc
 
 module _ (f : PlainFile) where
   abbrev Win : ℕ → ℕ → Type 0
@@ -96,7 +84,7 @@ module _ (f : PlainFile) where
           }
       by (Some x) h others =
           let found : ◌≡◌ {A = Option (ℕ × ℕ)} (Some (w, x)) (Some (i, j)) = sym (ap (λ (o : Option ℕ). pair_or w o (first_clash f later)) h) ∙ e in
-          let pair : ◌≡◌ {A = ℕ × ℕ} (w, x) (i, j) = some_same (w, x) (i, j) found in
+          let pair : ◌≡◌ {A = ℕ × ℕ} (w, x) (i, j) = same_Some {A = ℕ × ℕ} (w, x) (i, j) found in
           let same : w ≡ i = ap (λ (p : ℕ × ℕ). p.0) pair in
           let other : x ≡ j = ap (λ (p : ℕ × ℕ). p.1) pair in
           let there = found_at (clash w) later x h in

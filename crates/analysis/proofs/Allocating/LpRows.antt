@@ -1,29 +1,17 @@
 -- The rows are met exactly by allocations: two winners that share a good, or a dummy good, are both in its row, and other winners are not.
 -- A row's bids are those of all numbers that pass a test, so they rise; and so are the winners, whose prices the objective adds up.
-use Rattle.std.proofs.Common.{◌≡◌, ℕ, ◌+◌, ◌*◌, ◌<◌, ◌≤◌, Bool, true, false, not, eqb, ⊎_elim, ◌⊎◌, inl, inr, List, [], ◌∷◌, ◌++◌, length, map}
-use Rattle.std.proofs.Common.{refl, sym, ap, ◌∙◌, subst}
-use Rattle.std.proofs.Common.{Option, Some, None, arith}
-use Rattle.std.specs.Prelude.{Contains, IsTrue, if◌then◌else◌, sum_by}
-use Rattle.std.specs.List.{filter, list_all, range_with_len}
-use Rattle.std.proofs.lemmas.Bool.{and_from, and_parts, both_ways, cases_Bool, eq-eqb, eqb-true, lt-ltb, not_from_false}
-use Rattle.std.proofs.lemmas.Bool.{false_from_ne_true, not-true}
-use Rattle.std.proofs.lemmas.List.Elements.{All-contains, Contains-append_cases, Contains-append_left, Contains-append_right}
-use Rattle.std.proofs.lemmas.List.Kept.{AllPairs-filter}
-use Rattle.std.proofs.lemmas.List.Sums.{sum_by-cons}
-use Rattle.goods_set.specs.Bundles.{IsBundle, IsRising, are_apart, has_good}
-use Rattle.goods_set.specs.Lemmas.Members.{apart_at, apart_from, has-filter, has_above, has_below, has_cases, has_head, has_tail, same_from_has}
-use Rattle.bid_file.specs.Files.{IsBid, IsDummyBelow, IsPlainFile, PlainBid, PlainFile, dummy_good, goods_of}
-use Rattle.valuation.specs.Lemmas.Bounds.{sum-zero}
-use Rattle.valuation.specs.Lemmas.AuctionsOfFiles.{below-from}
-use Rattle.valuation.specs.Lemmas.Lists.{Contains-map, Contains-unmap}
-use Rattle.prune.specs.Lemmas.Lists.{All-from_Contains, Contains-filter, Contains-filter_parts, filter-kept, filter-lost}
-use Rattle.prune.specs.Lemmas.Lists.{list_all_from, list_any_found, list_any_has}
-use Rattle.prune.specs.Lemmas.Ranges.{range_contains, range_rising}
-use Rattle.analysis.specs.Bids.{bid_at, numbers_of}
+use Rattle.analysis.proofs.Common.{rules, ◌≡◌, ℕ, ◌+◌, ◌*◌, ◌<◌, ◌≤◌, Bool, true, false, not, eqb, ⊎_elim, ◌⊎◌, inl, inr, List, [], ◌∷◌, ◌++◌, length, map}
+use Rattle.analysis.proofs.Common.{refl, sym, ap, ◌∙◌, subst, Option, Some, None, arith, Contains, IsTrue, if◌then◌else◌, sum_by, filter, list_all}
+use Rattle.analysis.proofs.Common.{range_with_len, and_from, and_parts, both_ways, cases_Bool, eq-eqb, eqb-true, lt-ltb, not_from_false, false_from_ne_true}
+use Rattle.analysis.proofs.Common.{not-true, All-contains, Contains-append_cases, Contains-append_left, Contains-append_right, AllPairs-filter, sum_by-cons}
+use Rattle.analysis.proofs.Common.{IsBundle, IsRising, are_apart, has_good, apart_from, has-filter, has_above, has_below, has_cases, same_from_has, IsBid}
+use Rattle.analysis.proofs.Common.{IsDummyBelow, IsPlainFile, PlainBid, PlainFile, dummy_good, goods_of, below-from, Contains-map, Contains-unmap}
+use Rattle.analysis.proofs.Common.{All-from_Contains, Contains-filter, Contains-filter_parts, filter-kept, filter-lost, list_all_from, list_any_found}
+use Rattle.analysis.proofs.Common.{list_any_has, range_contains, bid_at, numbers_of, can_all_win, can_both_win, revenue, share_dummy, PlainRow, bids_with}
+use Rattle.analysis.proofs.Common.{is_shared, lp_rows, row_of, apart_at, has_head, has_tail, sum-zero, range_rising, AreRowsMet, objective, value_of}
 use Rattle.analysis.proofs.Explaining.KeptBids.{bid_here}
-use Rattle.analysis.specs.Allocations.{can_all_win, can_both_win, revenue, share_dummy}
-use Rattle.analysis.specs.LpTexts.{AreRowsMet, PlainRow, bids_with, is_shared, lp_rows, objective, row_of, value_of}
-use Rattle.analysis.proofs.Allocating.Allocations.{CanWin, both_flip, pairs_at, pairs_from_test, rising_from_pairs}
+use Rattle.analysis.proofs.Allocating.Allocations.{CanWin, both_flip, pairs_from_test}
+use Rattle.analysis.proofs.Explaining.Packings.{pairs_at, rising_from_pairs}
 
 -- ---- members
 
@@ -31,9 +19,7 @@ pub has_from : (xs : List ℕ) (x : ℕ) → Contains xs x → has_good xs x ≡
 has_from xs x c = list_any_has (λ y. eqb y x) xs x c (eq-eqb x x refl)
 
 pub contains_from : (xs : List ℕ) (x : ℕ) → has_good xs x ≡ true → Contains xs x
-contains_from xs x h =
-    let r = list_any_found (λ y. eqb y x) xs h in
-    subst (Contains xs) (eqb-true r.0 x r.2) r.1
+contains_from xs x h = search (rules, list_any_found, eqb-true)
 
 -- ---- how many of a list pass a test
 
@@ -156,25 +142,7 @@ module _ (G D : ℕ) (a b : PlainBid) (is_a : IsBid G D a) (is_b : IsBid G D b) 
   below_b g h = has_below G b.goods g (below-from G b.goods is_b.below) h
 
   pub share_none : IsTrue (can_both_win a b) → (g : ℕ) → has_good (goods_of G a) g ≡ true → has_good (goods_of G b) g ≡ true → ⊥
-  share_none win g h k =
-      let parts = and_parts (are_apart a.goods b.goods) (not (share_dummy a.dummy b.dummy)) win in
-      ⊎_elim
-      (λ (m : has_good a.goods g ≡ true).
-      ⊎_elim (λ (n : has_good b.goods g ≡ true). both_ways (has_good b.goods g) (apart_at a.goods b.goods g parts.0 m) n)
-      (λ (n : has_good (dummy_good G b.dummy) g ≡ true). let d = in_dummy G b.dummy g n in let e = d.2 in let l = below_a g m in absurd (omega arith))
-      (has_either b.goods (dummy_good G b.dummy) g k))
-      (λ (m : has_good (dummy_good G a.dummy) g ≡ true).
-      let d = in_dummy G a.dummy g m in
-      let e : G + d.0 ≡ g = d.2 in
-      ⊎_elim (λ (n : has_good b.goods g ≡ true). let l = below_b g n in absurd (omega arith))
-      (λ (n : has_good (dummy_good G b.dummy) g ≡ true).
-      let c = in_dummy G b.dummy g n in
-      let q : G + c.0 ≡ g = c.2 in
-      let same : c.0 ≡ d.0 = omega arith in
-      both_ways (share_dummy a.dummy b.dummy) (not-true (share_dummy a.dummy b.dummy) parts.1)
-      (ap (λ (o : Option ℕ). share_dummy o b.dummy) d.1 ∙ ap (share_dummy (Some d.0)) c.1 ∙ eq-eqb c.0 d.0 same))
-      (has_either b.goods (dummy_good G b.dummy) g k))
-      (has_either a.goods (dummy_good G a.dummy) g h)
+  share_none win g h k = search (rules, and_parts, apart_at, in_dummy, below_a, has_either, below_b, not-true, eq-eqb)
 
   pub both_win : ((g : ℕ) → g < G + D → has_good (goods_of G a) g ≡ true → has_good (goods_of G b) g ≡ true → ⊥) → IsTrue (can_both_win a b)
   both_win clash =

@@ -1,19 +1,10 @@
 -- Numbers, line by line. A line is cut off at its LF, and what is said of the whole text is what is said of the rest.
-use Rattle.std.proofs.Common.{◌≡◌, ℕ, ◌+◌, ◌<◌, ◌≤◌, Bool, true, false, not, cond, eqb, ltb, ⊎_elim, List, [], ◌∷◌, ◌++◌, length, map, take, drop}
-use Rattle.std.proofs.Common.{get_or, zero, suc, refl, sym, ap, ◌∙◌, subst, arith, None, Some, Result, Ok, Err, append_assoc, append-nil}
-use Rattle.std.specs.Prelude.{IfErr, IsErrAnd, position}
-use Rattle.std.specs.List.{list_all, position_or_len, onto_first}
-use Rattle.std.proofs.lemmas.Bool.{and_parts, both_ways, cases_Bool, cases_lt, cond-false, cond-true, false_from_ne_true, le-ltb, lt-ltb}
-use Rattle.std.proofs.lemmas.List.{map-append}
-use Rattle.std.proofs.lemmas.List.Splits.{slice_split_first}
-use Rattle.cats_text.specs.Lines.{Word}
-use Rattle.cats_text.specs.Numbers.{number_of}
-use Rattle.prune.specs.Lemmas.Lists.{list_all_at}
-use Rattle.analysis.specs.BidNumbers.{RefusesNumbers, all_words, begins_with_number, bid_number, bid_numbers, faulty_line, is_bid_number}
-use Rattle.analysis.specs.BidNumbers.{lines_in, words_in}
-use Rattle.analysis.specs.Internal.NumberLines.{RefusesLine}
-use Rattle.analysis.specs.declared.winners.bid_numbers.BidNumbersFault.{BidNumbersFault}
-use Rattle.analysis.specs.declared.winners.bid_numbers.BidNumbersFault.TheVariants.{NotANumber, Memory}
+use Rattle.analysis.proofs.Common.{rules, ◌≡◌, ℕ, ◌+◌, ◌<◌, ◌≤◌, Bool, true, false, not, cond, eqb, ⊎_elim, List, [], ◌∷◌, ◌++◌, length, map, take, drop}
+use Rattle.analysis.proofs.Common.{get_or, zero, suc, refl, sym, ap, ◌∙◌, subst, arith, None, Some, Result, Ok, Err, append_assoc, append-nil, list_all}
+use Rattle.analysis.proofs.Common.{and_parts, both_ways, cases_Bool, cond-false, cond-true, false_from_ne_true, le-ltb, lt-ltb, map-append, Word, number_of}
+use Rattle.analysis.proofs.Common.{list_all_at, RefusesNumbers, is_bid_number, lines_in, words_in, RefusesLine, Memory, IfErr, IsErrAnd, position}
+use Rattle.analysis.proofs.Common.{position_or_len, onto_first, slice_split_first, all_words, begins_with_number, bid_number, bid_numbers, faulty_line}
+use Rattle.analysis.proofs.Common.{BidNumbersFault, NotANumber}
 
 -- ---- a line is cut off
 
@@ -21,16 +12,7 @@ abbrev is_end : ℕ → Bool
 is_end b = eqb b 10
 
 pub cut : (text : List ℕ) (end : ℕ) → position is_end text ≡ Some end → lines_in text ≡ take end text ∷ lines_in (drop (end + 1) text)
-cut text end e =
-    let at : ℕ = position_or_len is_end text in
-    ⊎_elim
-    (λ (l : at < length text).
-    let found : Some at ≡ Some end = sym (cond-true (ltb at (length text)) (Some at) None (lt-ltb at (length text) l)) ∙ e in
-    let same : at ≡ end = cc in
-    slice_split_first is_end text 0 l ∙ ap (λ (n : ℕ). take n text ∷ lines_in (drop (n + 1) text)) same)
-    (λ (l : length text ≤ at).
-    let none : None ≡ Some end = sym (cond-false (ltb at (length text)) (Some at) None (le-ltb at (length text) l)) ∙ e in absurd (cc))
-    (cases_lt at (length text))
+cut text end e = search (rules, cond-true, lt-ltb, slice_split_first, cond-false, le-ltb)
 
 no_end : (text : List ℕ) → length text ≤ position_or_len is_end text → lines_in text ≡ text ∷ []
 no_end [] l = refl
@@ -45,13 +27,7 @@ no_end (b ∷ bs) l =
     (cases_Bool (is_end b))
 
 pub last : (text : List ℕ) → position is_end text ≡ None → lines_in text ≡ text ∷ []
-last text e =
-    let at : ℕ = position_or_len is_end text in
-    ⊎_elim
-    (λ (l : at < length text).
-    let found : Some at ≡ None = sym (cond-true (ltb at (length text)) (Some at) None (lt-ltb at (length text) l)) ∙ e in absurd (cc))
-    (λ (l : length text ≤ at). no_end text l)
-    (cases_lt at (length text))
+last text e = search (rules, cond-true, lt-ltb, no_end)
 
 -- ---- the first word
 
@@ -71,9 +47,6 @@ pub record IsRead (text rest : List ℕ) (ends : ℕ) (numbers : List ℕ) : Typ
   pub all : numbers ++ map number_of (all_words (lines_in rest)) ≡ bid_numbers text
   pub faults : faulty_line (ends + 1) (lines_in rest) ≡ faulty_line 1 (lines_in text)
   pub begins : begins_with_number (all_words (lines_in rest)) ≡ true → begins_with_number (all_words (lines_in text)) ≡ true
-
-pub none_read : (text : List ℕ) → IsRead text text 0 []
-none_read text = record { within = omega arith; all = refl; faults = refl; begins = λ h. h }
 
 module _ (text rest : List ℕ) (ends : ℕ) (numbers : List ℕ) (read : IsRead text rest ends numbers) where
   abbrev words : List (List ℕ) → List Word
@@ -108,12 +81,7 @@ module _ (text rest : List ℕ) (ends : ℕ) (numbers : List ℕ) (read : IsRead
 
   pub all_read : (more : List ℕ) → lines_in rest ≡ rest ∷ [] → list_all is_bid_number (words_in rest) ≡ true
       → more ≡ numbers ++ map number_of (words_in rest) → (more ≡ bid_numbers text) × (faulty_line 1 (lines_in text) ≡ None)
-  all_read more is faultless is_more = (
-    is_more ∙ ap (λ (ws : List Word). numbers ++ map number_of ws) (sym (append-nil (words_in rest)))
-        ∙ ap (λ (ls : List (List ℕ)). numbers ++ map number_of (all_words ls)) (sym is) ∙ read.all,
-    sym read.faults ∙ ap (faulty_line (ends + 1)) is
-        ∙ cond-true (list_all is_bid_number (words_in rest)) None (Some (ends + 1)) faultless,
-  )
+  all_read more is faultless is_more = search (rules, append-nil, cond-true)
 
 -- a fault that is handed on
 pub came_through : {X F : Type 0} (P : F → Type 0) (answer : Result X F) (came : F) → IsErrAnd answer (λ fault. fault ≡ came) → P came → IfErr answer P
@@ -123,23 +91,10 @@ came_through P (Err fault) came is h = subst P (sym is) h
 -- ---- the words of a line
 
 pub number_found : (w : Word) (n : ℕ) → bid_number w ≡ Some n → (is_bid_number w ≡ true) × (n ≡ number_of w)
-number_found w n e =
-    ⊎_elim
-    (λ (t : is_bid_number w ≡ true).
-    let is : Some (number_of w) ≡ Some n = sym (cond-true (is_bid_number w) (Some (number_of w)) None t) ∙ e in
-    let same : n ≡ number_of w = cc in
-    (t, same))
-    (λ (t : is_bid_number w ≡ false).
-    let is : None ≡ Some n = sym (cond-false (is_bid_number w) (Some (number_of w)) None t) ∙ e in absurd (cc))
-    (cases_Bool (is_bid_number w))
+number_found w n e = search (rules, cond-true, cond-false)
 
 pub no_number : (w : Word) → bid_number w ≡ None → is_bid_number w ≡ false
-no_number w e =
-    ⊎_elim
-    (λ (t : is_bid_number w ≡ true).
-    let is : Some (number_of w) ≡ None = sym (cond-true (is_bid_number w) (Some (number_of w)) None t) ∙ e in absurd (cc))
-    (λ (t : is_bid_number w ≡ false). t)
-    (cases_Bool (is_bid_number w))
+no_number w e = search (rules, cond-true)
 
 pub fails_at : (ws : List Word) (k : ℕ) (w : Word) → k < length ws → w ≡ get_or ws k w → is_bid_number w ≡ false → list_all is_bid_number ws ≡ false
 fails_at ws k w l is f =
@@ -150,8 +105,3 @@ pub begins_at : (ws : List Word) (k : ℕ) (w : Word) → k < length ws → w �
 begins_at [] k w l is all t = absurd (omega arith)
 begins_at (x ∷ xs) zero w l is all t = ap is_bid_number (sym is) ∙ t
 begins_at (x ∷ xs) (suc k) w l is all t = (and_parts (is_bid_number x) (list_all is_bid_number (take k xs)) all).0
-
--- an empty line has no word
-pub some_byte : (line : List ℕ) (k : ℕ) → k < length (words_in line) → 0 < length line
-some_byte [] k l = absurd (omega arith)
-some_byte (b ∷ bs) k l = omega arith

@@ -1,27 +1,17 @@
 -- Kept bids in the place of dropped ones. Each is inside the goods of the bid that it replaces and is of its bidder, so it can win beside
 -- whatever that bid can win beside.
-use Rattle.std.proofs.Common.{◌≡◌, ℕ, ◌<◌, ◌≤◌, true, not, List, [], ◌∷◌, length, refl, sym, ap, ap₂, ◌∙◌, subst}
-use Rattle.std.proofs.Common.{Option, None, arith, eqb}
-use Rattle.std.specs.Prelude.{All, AllPairs, Contains}
-use Rattle.std.specs.List.{AllByRecursion, flat_map, list_all}
-use Rattle.std.proofs.lemmas.Bool.{and_parts, and_from, both_ways, eq-eqb}
-use Rattle.std.proofs.lemmas.List.Concat.{flat_map-cons}
-use Rattle.std.proofs.lemmas.List.Elements.{All-nil, All-cons, All-head, All-tail, All-append, All-weaker, All-contains, All-from_recursion}
-use Rattle.std.proofs.lemmas.List.Sums.{sum_by-append, sum_by-cons}
-use Rattle.goods_set.specs.Bundles.{IsInside, are_apart}
-use Rattle.goods_set.specs.Lemmas.Members.{apart_inside, apart_sym, inside_refl}
-use Rattle.bid_file.specs.Files.{PlainFile, IsPlainFile}
-use Rattle.valuation.specs.Lemmas.Lists.{AllPairs-nil, AllPairs-cons, AllPairs-append, AllPairs-head, AllPairs-tail}
-use Rattle.prune.specs.Lemmas.Lists.{Contains-head, Contains-tail}
-use Rattle.analysis.specs.Bids.{bid_at, is_best}
-use Rattle.analysis.specs.Reasons.{PlainReason, Keep, Zero, Same, Inside, Packing, all_apart, goods_at, is_kept, reason_of}
-use Rattle.analysis.specs.Internal.Deciding.{IsDecided, IsPointBid, IsPointInside}
+use Rattle.analysis.proofs.Common.{rules, ◌≡◌, ℕ, ◌<◌, ◌≤◌, true, not, List, [], ◌∷◌, length, refl, sym, ap, ◌∙◌, subst, Option, None, arith, eqb, All}
+use Rattle.analysis.proofs.Common.{AllPairs, Contains, AllByRecursion, flat_map, list_all, and_parts, and_from, both_ways, eq-eqb, flat_map-cons, All-nil}
+use Rattle.analysis.proofs.Common.{All-cons, All-head, All-tail, All-append, All-weaker, All-contains, All-from_recursion, sum_by-append, sum_by-cons, IsInside}
+use Rattle.analysis.proofs.Common.{are_apart, apart_sym, inside_refl, PlainFile, IsPlainFile, AllPairs-nil, AllPairs-cons, AllPairs-append, AllPairs-head}
+use Rattle.analysis.proofs.Common.{AllPairs-tail, Contains-head, Contains-tail, bid_at, is_best, PlainReason, Keep, Zero, Same, Inside, Packing, all_apart}
+use Rattle.analysis.proofs.Common.{goods_at, is_kept, IsDecided, IsPointBid, IsPointInside, can_all_win, can_both_win, revenue, share_dummy, in_place_of}
+use Rattle.analysis.proofs.Common.{apart_inside, kept_by, named_by}
+use Rattle.analysis.specs.Reasons.{reason_of}
 use Rattle.analysis.proofs.Explaining.BestBids.{one_key}
 use Rattle.analysis.proofs.Explaining.Deciding.{priced_within}
 use Rattle.analysis.proofs.Explaining.KeptBidsBest.{best_is_greatest, best-once, one_key_sym, same_bidder}
 use Rattle.analysis.proofs.Explaining.TrueReasons.{reason_is_decided}
-use Rattle.analysis.specs.Allocations.{can_all_win, can_both_win, revenue, share_dummy}
-use Rattle.analysis.specs.KeptWinners.{in_place_of, kept_by, named_by}
 use Rattle.analysis.proofs.Allocating.Allocations.{CanWin, pairs_from_test}
 use Rattle.analysis.proofs.Allocating.Reasons.{kept_reason}
 
@@ -39,16 +29,7 @@ pub record AreFor (f : PlainFile) (i : ℕ) (js : List ℕ) : Type 0 where
   pub enough : (bid_at f i).price ≤ revenue f js
 
 stand_beside : (f : PlainFile) (i j k l : ℕ) → StandsFor f i k → StandsFor f j l → CanWin f i j → CanWin f k l
-stand_beside f i j k l one other h =
-    let a = bid_at f i in
-    let b = bid_at f j in
-    let parts = and_parts (are_apart a.goods b.goods) (not (share_dummy a.dummy b.dummy)) h in
-    let c = bid_at f k in
-    let d = bid_at f l in
-    let near = apart_inside c.goods a.goods b.goods one.inside parts.0 in
-    and_from (are_apart c.goods d.goods) (not (share_dummy c.dummy d.dummy))
-    (apart_sym d.goods c.goods (apart_inside d.goods b.goods c.goods other.inside (apart_sym c.goods b.goods near)))
-    (ap₂ (λ (o p : Option ℕ). not (share_dummy o p)) one.bidder other.bidder ∙ parts.1)
+stand_beside f i j k l one other h = search (rules, and_parts, apart_inside, and_from, apart_sym)
 
 -- ---- the bids that a reason names
 
@@ -62,13 +43,7 @@ point_stands f is i j point inside bidder = record {
 }
 
 one_bid : (f : PlainFile) (i j : ℕ) → StandsFor f i j → (bid_at f i).price ≤ (bid_at f j).price → AreFor f i (j ∷ [])
-one_bid f i j stands enough =
-    let sum = sum_by-cons (λ k. (bid_at f k).price) j [] in
-    record {
-      each = All-cons (StandsFor f i) j [] stands (All-nil (StandsFor f i));
-      win = AllPairs-cons (CanWin f) j [] (All-nil (CanWin f j)) (AllPairs-nil (CanWin f));
-      enough = omega arith;
-    }
+one_bid f i j stands enough = search (rules, sum_by-cons, All-cons, All-nil, AllPairs-cons, AllPairs-nil)
 
 packed_beside : (f : PlainFile) (i : ℕ) (js : List ℕ) → (bid_at f i).dummy ≡ None → list_all (are_apart (bid_at f i).goods) (goods_at f js) ≡ true
     → list_all (λ j. can_both_win (bid_at f i) (bid_at f j)) js ≡ true

@@ -1,14 +1,7 @@
 -- The text of the rows, good by good: the row of one more good is put behind them if two bids share it.
-use Rattle.std.proofs.Common.{◌≡◌, ℕ, ◌+◌, true, false, List, [], ◌∷◌, ◌++◌, map, refl, sym, ap, ◌∙◌, arith, append_assoc, append-nil}
-use Rattle.std.specs.List.{filter, flat_map, range_with_len}
-use Rattle.std.proofs.lemmas.List.{map-append}
-use Rattle.std.proofs.lemmas.List.Concat.{flat_map-append}
-use Rattle.std.proofs.lemmas.List.Elements.{filter-append}
-use Rattle.bid_file.specs.Files.{PlainFile}
-use Rattle.prune.specs.Lemmas.Lists.{filter-kept, filter-lost}
-use Rattle.prune.specs.Lemmas.Ranges.{range_more}
-use Rattle.analysis.specs.LpTexts.{PlainRow, if_none, is_shared, row_of, row_text}
-use Rattle.analysis.specs.Internal.RowTexts.{instead}
+use Rattle.analysis.proofs.Common.{rules, ◌≡◌, ℕ, ◌+◌, true, false, List, [], ◌∷◌, ◌++◌, map, refl, ap, ◌∙◌, arith, append_assoc, append-nil, filter, flat_map}
+use Rattle.analysis.proofs.Common.{range_with_len, map-append, filter-append, PlainFile, filter-kept, filter-lost, PlainRow, is_shared, row_of, row_text}
+use Rattle.analysis.proofs.Common.{flat_map-append, range_more, if_none, instead}
 
 -- the text of the rows of the first goods
 abbrev pub first_rows : PlainFile → ℕ → List ℕ
@@ -27,14 +20,10 @@ one_more f n =
 
 -- the row of the next good, shared or not
 pub row_kept : (f : PlainFile) (n : ℕ) → is_shared (row_of f n) ≡ true → first_rows f (n + 1) ≡ first_rows f n ++ row_text (row_of f n)
-row_kept f n t =
-    one_more f n ∙ ap (λ (rows : List PlainRow). first_rows f n ++ flat_map row_text rows) (filter-kept is_shared (row_of f n) [] t)
-    ∙ ap (λ (text : List ℕ). first_rows f n ++ text) (append-nil (row_text (row_of f n)))
+row_kept f n t = search (rules, one_more, filter-kept, append-nil)
 
 pub row_left_out : (f : PlainFile) (n : ℕ) → is_shared (row_of f n) ≡ false → first_rows f (n + 1) ≡ first_rows f n
-row_left_out f n t =
-    one_more f n ∙ ap (λ (rows : List PlainRow). first_rows f n ++ flat_map row_text rows) (filter-lost is_shared (row_of f n) [] t)
-    ∙ append-nil (first_rows f n)
+row_left_out f n t = search (rules, one_more, filter-lost, append-nil)
 
 -- a row has bytes
 pub instead_is : (rows : List PlainRow) (other : List ℕ) → instead (flat_map row_text rows) other ≡ if_none rows other
@@ -44,11 +33,7 @@ instead_is (row ∷ rows) other = refl
 -- one more line
 pub line_behind : (line : ℕ → List ℕ) (n : ℕ) (start before after : List ℕ) → before ≡ start ++ flat_map line (range_with_len 0 n)
     → after ≡ before ++ line n → after ≡ start ++ flat_map line (range_with_len 0 (n + 1))
-line_behind line n start before after h e =
-    let lines : List ℕ = flat_map line (range_with_len 0 n) in
-    e ∙ ap (λ (text : List ℕ). text ++ line n) h ∙ append_assoc start lines (line n)
-    ∙ ap (λ (text : List ℕ). start ++ text)
-    (sym (ap (flat_map line) (range_next n) ∙ flat_map-append line (range_with_len 0 n) (n ∷ []) ∙ ap (λ (text : List ℕ). lines ++ text) (append-nil (line n))))
+line_behind line n start before after h e = search (rules, append_assoc, range_next, flat_map-append, append-nil)
 
 -- ---- piece by piece
 
@@ -57,6 +42,4 @@ behind start old new piece h e = e ∙ ap (λ (text : List ℕ). text ++ piece) 
 
 pub behind_if_none : (rows : List PlainRow) (bytes other start old new : List ℕ) → bytes ≡ flat_map row_text rows → old ≡ start
     → new ≡ old ++ instead bytes other → new ≡ start ++ if_none rows other
-behind_if_none rows bytes other start old new is h e =
-    behind start old new (if_none rows other) h
-    (e ∙ ap (λ (text : List ℕ). old ++ text) (ap (λ (text : List ℕ). instead text other) is ∙ instead_is rows other))
+behind_if_none rows bytes other start old new is h e = search (rules, behind, instead_is)

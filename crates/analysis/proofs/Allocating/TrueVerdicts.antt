@@ -1,22 +1,11 @@
 -- What a verdict says. It has three cases: a named number that the file does not have, two bids that clash, or neither.
-use Rattle.std.proofs.Common.{◌≡◌, ◌↔◌, ℕ, ◌<◌, ◌≤◌, false, not, leb, ⊎_elim, List, length, refl, sym, ap, ◌∙◌, subst, Option, Some, None}
-use Rattle.std.specs.Prelude.{All, Contains, Result, Ok, Err}
-use Rattle.std.specs.Option.{unwrap_or}
-use Rattle.std.proofs.lemmas.Bool.{and_cases, both_ways, cases_lt, leb-false, leb-true, lt-leb, not-false}
-use Rattle.std.proofs.lemmas.List.Elements.{All-contains}
-use Rattle.goods_set.specs.Bundles.{IsBundle, are_apart, has_good}
-use Rattle.goods_set.specs.Lemmas.Members.{AreBelow-from_has, apart_from}
-use Rattle.bid_file.specs.Files.{IsPlainFile, PlainFile}
-use Rattle.valuation.specs.Lemmas.AuctionsOfFiles.{rising-from}
-use Rattle.prune.specs.Lemmas.Lists.{All-from_Contains, Contains-filter, Contains-filter_parts, find_none, found_none}
-use Rattle.prune.specs.Lemmas.Ranges.{in_range, range_contains}
-use Rattle.analysis.specs.Bids.{bid_at, numbers_of}
+use Rattle.analysis.proofs.Common.{rules, ◌≡◌, ◌↔◌, ℕ, ◌<◌, ◌≤◌, false, not, leb, ⊎_elim, List, length, refl, sym, ap, ◌∙◌, subst, Option, Some, None, All}
+use Rattle.analysis.proofs.Common.{Contains, Result, Ok, Err, unwrap_or, both_ways, cases_lt, leb-false, leb-true, lt-leb, not-false, All-contains, IsBundle}
+use Rattle.analysis.proofs.Common.{are_apart, has_good, AreBelow-from_has, apart_from, IsPlainFile, PlainFile, rising-from, All-from_Contains, Contains-filter}
+use Rattle.analysis.proofs.Common.{Contains-filter_parts, find_none, found_none, range_contains, bid_at, numbers_of, IsFirstClash, allocation_verdict}
+use Rattle.analysis.proofs.Common.{first_clash, missing_bid, named_bids, verdict_by, verdict_unless, IsAllocation, revenue, share_dummy, Revenue, and_cases}
+use Rattle.analysis.proofs.Common.{in_range, AreOneBidders, IsLeastShared, clash_on, shared_good, AllocationVerdict, SharedBidder, SharedGood}
 use Rattle.analysis.proofs.Explaining.KeptBids.{bid_here}
-use Rattle.analysis.specs.AllocationVerdicts.{AreOneBidders, IsFirstClash, IsLeastShared, allocation_verdict, clash_on, first_clash, missing_bid}
-use Rattle.analysis.specs.AllocationVerdicts.{named_bids, shared_good, verdict_by, verdict_unless}
-use Rattle.analysis.specs.Allocations.{IsAllocation, revenue, share_dummy}
-use Rattle.analysis.specs.declared.winners.allocation_verdict.AllocationVerdict.{AllocationVerdict}
-use Rattle.analysis.specs.declared.winners.allocation_verdict.AllocationVerdict.TheVariants.{Revenue, SharedBidder, SharedGood}
 use Rattle.analysis.proofs.Allocating.FirstPairs.{all_win_if_none, first_pair, found_at, found_least, none_if_all_win}
 use Rattle.analysis.proofs.Allocating.LpRows.{contains_from, has_from, passing_rise, same_dummy}
 
@@ -79,9 +68,7 @@ module _ (f : PlainFile) (named : List ℕ) where
   -- ---- an allocation
 
   pub has_revenue : All (λ i. i < length f.bids) named → IsAllocation f bids → allocation_verdict f named ≡ Ok (Revenue (revenue f bids))
-  has_revenue within h =
-      ap (λ (o : Option ℕ). verdict_unless o (verdict_by f bids (first_clash f bids))) (none_if_within within)
-      ∙ ap (λ (clash : Option (ℕ × ℕ)). Ok (verdict_by f bids clash)) (none_if_all_win f bids h.win)
+  has_revenue within h = search (rules, none_if_within, none_if_all_win)
 
   pub is_allocation : first_clash f bids ≡ None → IsAllocation f bids
   is_allocation none = record { numbers = are_numbers; win = all_win_if_none f bids none }
@@ -154,16 +141,7 @@ pub record SharesBidder (f : PlainFile) (named : List ℕ) (i j dummy : ℕ) : T
 
 module _ (f : PlainFile) (named : List ℕ) where
   pub if_revenue : (n : ℕ) → allocation_verdict f named ≡ Ok (Revenue n) → HasRevenue f named n
-  if_revenue n e = by (cases f named)
-    where
-      by : IsVerdict f named (allocation_verdict f named) → HasRevenue f named n
-      by (Missing i m v) = let no : Err i ≡ Ok (Revenue n) = sym v ∙ e in absurd (cc)
-      by (All_win m c v) =
-          let is : Ok (Revenue (revenue f (named_bids f named))) ≡ Ok (Revenue n) = sym v ∙ e in
-          let same : n ≡ revenue f (named_bids f named) = cc in
-          record { within = all_within f named m; allocation = is_allocation f named c; revenue = same }
-      by (Share i j good m c s v) = let no : Ok (SharedGood i j good) ≡ Ok (Revenue n) = sym v ∙ e in absurd (cc)
-      by (Share_none i j m c s v) = let no : Ok (SharedBidder i j (unwrap_or (bid_at f i).dummy 0)) ≡ Ok (Revenue n) = sym v ∙ e in absurd (cc)
+  if_revenue n e = search (rules, cases, all_within, is_allocation)
 
   pub if_good : (i j good : ℕ) → allocation_verdict f named ≡ Ok (SharedGood i j good) → SharesGood f named i j good
   if_good i j good e = by (cases f named)
@@ -173,12 +151,9 @@ module _ (f : PlainFile) (named : List ℕ) where
       by (All_win m c v) = let no : Ok (Revenue (revenue f (named_bids f named))) ≡ Ok (SharedGood i j good) = sym v ∙ e in absurd (cc)
       by (Share k l g m c s v) =
           let is : Ok (SharedGood k l g) ≡ Ok (SharedGood i j good) = sym v ∙ e in
-          let one : k ≡ i = cc in
-          let other : l ≡ j = cc in
-          let same : g ≡ good = cc in
-          subst (λ (n : ℕ). SharesGood f named n j good) one
-          (subst (λ (n : ℕ). SharesGood f named k n good) other
-          (subst (λ (n : ℕ). SharesGood f named k l n) same (record { first = is_first f named k l m c; clash = c; shared = s })))
+          let clash : first_clash f (named_bids f named) ≡ Some (i, j) = cc in
+          let shared : shared_good (bid_at f i) (bid_at f j) ≡ Some good = cc in
+          record { first = is_first f named i j m clash; clash = clash; shared = shared }
       by (Share_none k l m c s v) = let no : Ok (SharedBidder k l (unwrap_or (bid_at f k).dummy 0)) ≡ Ok (SharedGood i j good) = sym v ∙ e in absurd (cc)
 
   pub if_bidder : (i j dummy : ℕ) → allocation_verdict f named ≡ Ok (SharedBidder i j dummy) → SharesBidder f named i j dummy
@@ -190,21 +165,11 @@ module _ (f : PlainFile) (named : List ℕ) where
       by (Share k l g m c s v) = let no : Ok (SharedGood k l g) ≡ Ok (SharedBidder i j dummy) = sym v ∙ e in absurd (cc)
       by (Share_none k l m c s v) =
           let is : Ok (SharedBidder k l (unwrap_or (bid_at f k).dummy 0)) ≡ Ok (SharedBidder i j dummy) = sym v ∙ e in
-          let one : k ≡ i = cc in
-          let other : l ≡ j = cc in
-          let same : unwrap_or (bid_at f k).dummy 0 ≡ dummy = cc in
-          subst (λ (n : ℕ). SharesBidder f named n j dummy) one
-          (subst (λ (n : ℕ). SharesBidder f named k n dummy) other
-          (subst (λ (n : ℕ). SharesBidder f named k l n) same (record { first = is_first f named k l m c; bidders = are_one_bidders f named k l c s })))
+          let clash : first_clash f (named_bids f named) ≡ Some (i, j) = cc in
+          let none : shared_good (bid_at f i) (bid_at f j) ≡ None = cc in
+          let same : unwrap_or (bid_at f i).dummy 0 ≡ dummy = cc in
+          let bidders = are_one_bidders f named i j clash none in
+          record { first = is_first f named i j m clash; bidders = subst (AreOneBidders (bid_at f i) (bid_at f j)) same bidders }
 
   pub if_missing : (i : ℕ) → allocation_verdict f named ≡ Err i → Contains named i × (length f.bids ≤ i)
-  if_missing i e = by (cases f named)
-    where
-      by : IsVerdict f named (allocation_verdict f named) → Contains named i × (length f.bids ≤ i)
-      by (Missing k m v) =
-          let is : Err k ≡ Err i = sym v ∙ e in
-          let same : k ≡ i = cc in
-          subst (λ (n : ℕ). Contains named n × (length f.bids ≤ n)) same (is_missing f named k m)
-      by (All_win m c v) = let no : Ok (Revenue (revenue f (named_bids f named))) ≡ Err i = sym v ∙ e in absurd (cc)
-      by (Share k l g m c s v) = let no : Ok (SharedGood k l g) ≡ Err i = sym v ∙ e in absurd (cc)
-      by (Share_none k l m c s v) = let no : Ok (SharedBidder k l (unwrap_or (bid_at f k).dummy 0)) ≡ Err i = sym v ∙ e in absurd (cc)
+  if_missing i e = search (rules, cases, is_missing)

@@ -1,19 +1,10 @@
 -- The greatest revenue of a file and of its canonical file. Kept bids are enough, they are the bids of the canonical file, and files of one
 -- auction have one canonical file.
-use Rattle.std.proofs.Common.{◌≡◌, ℕ, ◌<◌, ◌≤◌, true, List, length, sym, ap, ◌∙◌, le_antisymm, arith, nat_cmp}
-use Rattle.std.specs.Prelude.{Contains}
-use Rattle.std.specs.List.{flat_map}
-use Rattle.std.proofs.lemmas.List.Elements.{All-weaker}
-use Rattle.bid_file.specs.Files.{PlainFile, IsPlainFile}
-use Rattle.valuation.specs.Auctions.{auction_from}
-use Rattle.valuation.specs.Lemmas.Sorting.{All-sort_by}
-use Rattle.canon.specs.Canonical.{canonical_file, file_from}
-use Rattle.canon.specs.Sameness.{AreSameFiles}
-use Rattle.canon.proofs.CanonicalAuctions.Sames.{same_canonical}
-use Rattle.canon.proofs.CanonicalFiles.Texts.{HasAtoms-file}
-use Rattle.analysis.specs.Reasons.{is_kept, reason_of}
-use Rattle.analysis.specs.Allocations.{AreWinners, IsAllocation, greatest_revenue, revenue}
-use Rattle.analysis.specs.KeptWinners.{AreKept, in_canonical_file, in_place_of, kept_as, with_kept_bids}
+use Rattle.analysis.proofs.Common.{rules, ◌≡◌, ℕ, ◌<◌, ◌≤◌, true, List, length, sym, ap, ◌∙◌, le_antisymm, arith, nat_cmp, Contains, flat_map, All-weaker}
+use Rattle.analysis.proofs.Common.{PlainFile, IsPlainFile, auction_from, All-sort_by, canonical_file, is_kept, AreWinners, IsAllocation, greatest_revenue}
+use Rattle.analysis.proofs.Common.{revenue, AreKept, in_canonical_file, in_place_of, kept_as, file_from, AreSameFiles, same_canonical, HasAtoms-file}
+use Rattle.analysis.proofs.Common.{with_kept_bids}
+use Rattle.analysis.specs.Reasons.{reason_of}
 use Rattle.analysis.proofs.Allocating.Allocations.{greatest_revenue_at_most, pairs_from_test, revenue_at_most, revenue_of_sorted, sorted_is_allocation}
 use Rattle.analysis.proofs.Allocating.Allocations.{winners_within}
 use Rattle.analysis.proofs.Allocating.CanonicalNumbers.{moved_here, moved_there}
@@ -43,10 +34,7 @@ module _ (f : PlainFile) (is : IsPlainFile f) (winners : List ℕ) (h : IsAlloca
       (All-weaker IsFor (λ j. is_kept (reason_of f j) ≡ true) (λ j s. s.2.kept) bids replaced.each)
 
   pub kept_winners : revenue f winners ≡ greatest_revenue f → AreWinners f (with_kept_bids f winners)
-  kept_winners greatest =
-      let more = kept_revenue in
-      let most = revenue_at_most f (with_kept_bids f winners) kept_allocation in
-      record { allocation = kept_allocation; greatest = omega arith }
+  kept_winners greatest = search (rules, kept_revenue, revenue_at_most, kept_allocation)
 
 -- ---- the greatest revenue
 
@@ -64,9 +52,7 @@ module _ (f : PlainFile) (is : IsPlainFile f) where
       (in_canonical_file f kept, moved.allocation, omega arith)))
 
   pub winners_here : (winners : List ℕ) → AreWinners (canonical_file f) winners → AreWinners f (kept_as f winners)
-  winners_here winners h =
-      let moved = moved_here f is winners h.allocation in
-      record { allocation = moved.allocation; greatest = moved.revenue ∙ h.greatest ∙ greatest_is_canonical }
+  winners_here winners h = search (rules, moved_here, greatest_is_canonical)
 
 pub greatest_is_same : (f g : PlainFile) → IsPlainFile f → IsPlainFile g → AreSameFiles f g → greatest_revenue f ≡ greatest_revenue g
 greatest_is_same f g h k s =

@@ -1,14 +1,7 @@
 -- The words that a loop over the parts of a line has, where it leaves out the empty ones.
-use Rattle.std.proofs.Common.{◌≡◌, ℕ, Bool, false, List, Bor}
-use Rattle.std.specs.Fn.{CalledAt}
-use Rattle.std.specs.Iterator.{Yields}
-use Rattle.std.specs.Iterator.Adapters.{filter_callee, filter_source, filter_steps}
+use Rattle.analysis.proofs.Common.{◌≡◌, ℕ, Bool, false, List, Bor, words_in, CalledAt, Yields, filter_callee, filter_source, filter_steps, YieldsList}
+use Rattle.analysis.proofs.Common.{YieldsList-at, YieldsList-from_filter, YieldsList-from_slice_split, is_gap, is_word, Mut}
 use Rattle.std.specs.Slice.Iter as slice
-use Rattle.std.proofs.lemmas.Iterator.{YieldsList}
-use Rattle.std.proofs.lemmas.Iterator.Consumers.{YieldsList-at, YieldsList-from_filter}
-use Rattle.std.proofs.lemmas.Iterator.Splits.{YieldsList-from_slice_split}
-use Rattle.analysis.specs.BidNumbers.{is_gap, is_word, words_in}
-use denote.Param.Members.{Mut}
 
 pub words_yielded : {F H : Type 0} {g : Mut F (Bor ℕ × Unit {0}) Bool} {h : Mut H (Bor (Bor (List ℕ)) × Unit {0}) Bool} {s all parts : _} {f : F} {k : H}
     (line : List ℕ) (xs : List (Bor (List ℕ))) (t : _) → Yields (filter_steps (slice.split_steps g) h) s xs t → s ≡ all → filter_source all ≡ parts

@@ -1,32 +1,13 @@
 -- All differences begin with the first difference: each of its kinds is found by what is in the lists of changes.
-use Rattle.std.proofs.Common.{◌≡◌, ℕ, ◌-◌, Bool, true, false, eqb, cond, ⊎_elim, List, [], ◌∷◌, length, refl, sym, ap, ap₂, ◌∙◌, subst, arith}
-use Rattle.std.proofs.Common.{Option, Some, None}
-use Rattle.std.specs.Prelude.{◌↔◌, ◌||◌, is_some}
-use Rattle.std.proofs.lemmas.Bool.{and_parts, cases_Bool, eqb-true, eqb-false}
-use Rattle.std.proofs.lemmas.List.Elements.{All-head}
-use Rattle.goods_set.specs.Bundles.{all_bundles}
-use Rattle.valuation.specs.declared.atom.Atom.{Atom}
-use Rattle.valuation.specs.Auctions.{PlainAuction}
-use Rattle.valuation.specs.Lemmas.Orders.{bidder_cmp_total, bidder_cmp_equal}
-use Rattle.valuation.specs.Orders.{bidder_cmp}
-use Rattle.valuation.specs.Sorting.{count_of}
-use Rattle.valuation.specs.Values.{or_value}
-use Rattle.prune.specs.Lemmas.KeptBids.{on_bundles}
-use Rattle.prune.specs.Lemmas.Lists.{Contains-head, find_none}
-use Rattle.canon.specs.Canonical.{IsCanonical}
-use Rattle.canon.specs.Difference as canon
-use Rattle.canon.specs.Difference.{Difference, first_difference, first_unequal_bundle, least_unequal_bidder, or_difference, xor_difference}
-use Rattle.canon.specs.Lemmas.BidderDifferences.{least_uneven, least_uneven_is, all_even}
-use Rattle.canon.specs.Lemmas.CanonicalOrders.{or_atoms_in_order}
-use Rattle.canon.specs.Lemmas.OrDifferences.{are_unequal, equal_test, ArePoints}
-use Rattle.canon.specs.Sameness.{IsSameAuction}
-use Rattle.canon.proofs.CanonicalAuctions.Atoms.{HasAtoms}
-use Rattle.canon.proofs.Comparing.Differences.{at_same_goods, at_other_goods, same_from_no_difference, no_difference_from_same}
-use Rattle.analysis.specs.BidderChanges.{PlainBidderChange, IsBidderChange, AreBidderChanges, bidder_at}
-use Rattle.analysis.specs.Differences.{AreAllDifferences, BeginsWith, PlainDifferences, is_none_at_all, no_differences}
-use Rattle.canon.specs.PriceChanges.{PlainChange, ArePriceChanges}
-use Rattle.canon.specs.Lemmas.FirstChanges.{first_change_found, same_bids}
+use Rattle.analysis.proofs.Common.{common_steps, rules, ◌≡◌, ℕ, ◌-◌, true, List, [], ◌∷◌, refl, sym, ap, ◌∙◌, subst, arith, Option, Some, None, ◌↔◌, ◌||◌}
+use Rattle.analysis.proofs.Common.{is_some, and_parts, eqb-true, eqb-false, All-head, all_bundles, Atom, PlainAuction, bidder_cmp_total, bidder_cmp_equal}
+use Rattle.analysis.proofs.Common.{bidder_cmp, count_of, or_value, on_bundles, Contains-head, find_none, IsCanonical, or_atoms_in_order, HasAtoms}
+use Rattle.analysis.proofs.Common.{PlainBidderChange, IsBidderChange, AreBidderChanges, bidder_at, PlainChange, ArePriceChanges, same_bids, Difference}
+use Rattle.analysis.proofs.Common.{first_difference, first_unequal_bundle, least_unequal_bidder, or_difference, xor_difference, least_uneven, least_uneven_is}
+use Rattle.analysis.proofs.Common.{all_even, are_unequal, equal_test, ArePoints, IsSameAuction, at_same_goods, at_other_goods, same_from_no_difference}
+use Rattle.analysis.proofs.Common.{no_difference_from_same, AreAllDifferences, BeginsWith, PlainDifferences, is_none_at_all, no_differences, first_change_found}
 use Rattle.analysis.proofs.Comparing.LeftBidders.{left_is_more, right_is_more, lefts_counted, rights_counted}
+use Rattle.canon.specs.Difference as canon
 
 -- ---- the XOR bidders
 
@@ -60,16 +41,11 @@ some_counted_unlike left right c rest are =
 -- ---- the auctions
 
 points_of_canonical : (a : PlainAuction) → HasAtoms a → IsCanonical a → ArePoints a.goods a.or_atoms
-points_of_canonical a h canonical = record {
-  on = on_bundles a.goods a.or_atoms h.or_atoms;
-  points = ap (λ (c : PlainAuction). c.or_atoms) canonical;
-}
+points_of_canonical a h canonical = search (rules, on_bundles)
 
 module _ (a b : PlainAuction) (h : HasAtoms a) (k : HasAtoms b) (canonical : IsCanonical a) (also : IsCanonical b) where
   least_of_bidders : least_unequal_bidder a b ≡ least_uneven bidder_cmp bidder_cmp_total bidder_cmp_equal a.xor_bidders b.xor_bidders
-  least_of_bidders =
-      ap₂ (λ (one other : List (List (Atom (List ℕ)))). least_uneven bidder_cmp bidder_cmp_total bidder_cmp_equal one other)
-      (ap (λ (c : PlainAuction). c.xor_bidders) canonical) (ap (λ (c : PlainAuction). c.xor_bidders) also)
+  least_of_bidders = search (rules, least_uneven, bidder_cmp_total, bidder_cmp_equal)
 
   begins_in_bidders : (goods : Option (ℕ × ℕ)) → goods ≡ None → (bidders : List PlainBidderChange) → AreBidderChanges a.xor_bidders b.xor_bidders bidders
       → (o : Option (List (Atom (List ℕ)))) → least_unequal_bidder a b ≡ o
@@ -101,32 +77,12 @@ module _ (a b : PlainAuction) (h : HasAtoms a) (k : HasAtoms b) (canonical : IsC
       (equal, refl)
 
   pub begins_with_first : (differences : PlainDifferences) → AreAllDifferences a b differences → BeginsWith (first_difference a b) differences
-  begins_with_first differences are =
-      ⊎_elim
-      (λ (t : eqb a.goods b.goods ≡ true).
-      let alike = eqb-true a.goods b.goods t in
-      subst (λ (d : Difference). BeginsWith d differences) (sym (at_same_goods a b alike))
-      (begins_in_bids alike differences.goods (are.goods ∙ ap (λ (c : Bool). cond {A = Option (ℕ × ℕ)} c None (Some (a.goods, b.goods))) t)
-      differences.bundles are.bundles differences.bidders are.bidders))
-      (λ (t : eqb a.goods b.goods ≡ false).
-      subst (λ (d : Difference). BeginsWith d differences) (sym (at_other_goods a b (eqb-false a.goods b.goods t)))
-      (are.goods ∙ ap (λ (c : Bool). cond {A = Option (ℕ × ℕ)} c None (Some (a.goods, b.goods))) t))
-      (cases_Bool (eqb a.goods b.goods))
+  begins_with_first differences are = search (rules, eqb-true, at_same_goods, begins_in_bids, at_other_goods, eqb-false)
 
 -- ---- the same auction
 
 pub empty_from_test : (differences : PlainDifferences) → is_none_at_all differences ≡ true → differences ≡ no_differences
-empty_from_test differences = by differences.goods differences.bundles differences.bidders
-  where
-    by : (goods : Option (ℕ × ℕ)) (bundles : List PlainChange) (bidders : List PlainBidderChange)
-        → is_none_at_all (record { goods = goods; bundles = bundles; bidders = bidders }) ≡ true
-        → record { goods = goods; bundles = bundles; bidders = bidders } ≡ no_differences
-    by None [] [] e = refl
-    by None [] (c ∷ rest) e = let none = eqb-true (length (c ∷ rest)) 0 e in absurd (omega arith)
-    by None (c ∷ rest) bidders e =
-        let none = eqb-true (length (c ∷ rest)) 0 (and_parts (eqb (length (c ∷ rest)) 0) _ e).0 in
-        absurd (omega arith)
-    by (Some numbers) bundles bidders e = absurd (cc)
+empty_from_test differences = grind (arith, common_steps, eqb-true, and_parts)
 
 none_from_empty : (d : Difference) → BeginsWith d no_differences → d ≡ canon.NoDifference
 none_from_empty canon.NoDifference e = refl
@@ -137,10 +93,4 @@ none_from_empty (canon.InXor bidder left right) e = absurd e.2
 module _ (a b : PlainAuction) (h : HasAtoms a) (k : HasAtoms b) (differences : PlainDifferences)
     (begins : BeginsWith (first_difference a b) differences) where
   pub none_exactly_for_same : (is_none_at_all differences ≡ true ↔ IsSameAuction a b)
-  none_exactly_for_same = (
-    λ e. same_from_no_difference a b h k
-        (none_from_empty (first_difference a b) (subst (λ (d : PlainDifferences). BeginsWith (first_difference a b) d) (empty_from_test differences e) begins)),
-    λ same. let empty : differences ≡ no_differences =
-        subst (λ (d : Difference). BeginsWith d differences) (no_difference_from_same a b h k same) begins in
-        ap is_none_at_all empty,
-  )
+  none_exactly_for_same = search (rules, same_from_no_difference, none_from_empty, empty_from_test, no_difference_from_same)

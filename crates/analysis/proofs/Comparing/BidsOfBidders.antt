@@ -1,15 +1,7 @@
 -- The bids of a bidder, as they lie in its file and as they are seen.
-use Rattle.std.proofs.Common.{◌≡◌, ℕ, ◌<◌, List, [], length, map, get_or, take, true, false, ◌||◌, sym, ap, ap₂, ◌∙◌, subst, arith, Option, Some, None}
-use Rattle.std.specs.Prelude.{All, IfSome, is_some}
-use Rattle.std.proofs.lemmas.Bool.{both_ways}
-use Rattle.std.proofs.lemmas.List.{get_or-map, length-map}
-use Rattle.std.proofs.lemmas.List.Elements.{All-get_or}
-use Rattle.bid_file.specs.Files.{PlainBid}
-use Rattle.valuation.specs.declared.atom.Atom.{Atom}
-use Rattle.prune.specs.InOrder.{IsInOrder}
-use Rattle.canon.specs.Bidders.{offers}
-use Rattle.canon.specs.PriceChanges.{PlainChange, ArePriceChanges}
-use Rattle.analysis.specs.BidderChanges.{bidder_at, bids_at}
+use Rattle.analysis.proofs.Common.{rules, ◌≡◌, ℕ, ◌<◌, List, [], length, map, get_or, take, true, ◌||◌, sym, ap, ◌∙◌, subst, Option, Some, None, All, IfSome}
+use Rattle.analysis.proofs.Common.{is_some, get_or-map, length-map, PlainBid, Atom, IsInOrder, offers, PlainChange, ArePriceChanges, bidder_at, bids_at}
+use Rattle.analysis.proofs.Common.{All-get_or}
 
 pub within : (count : ℕ) (o : Option ℕ) (i : ℕ) → o ≡ Some i → IfSome o (λ index. index < count) → i < count
 within count o i e h = subst (λ (p : Option ℕ). IfSome p (λ index. index < count)) e h
@@ -19,9 +11,7 @@ module _ (bidders : List (List PlainBid)) (i : ℕ) (bids : List PlainBid) (l : 
   bids_are = ap offers is ∙ sym (get_or-map offers bidders i bids [] l)
 
   pub bids_in_order : All IsInOrder (map offers bidders) → IsInOrder (offers bids)
-  bids_in_order h =
-      let long = length-map bidders offers in
-      subst IsInOrder (sym bids_are) (All-get_or IsInOrder (map offers bidders) i [] (omega arith) h)
+  bids_in_order h = search (rules, length-map, bids_are, All-get_or)
 
   pub bids_at_are : (o : Option ℕ) → o ≡ Some i → offers bids ≡ bids_at (map offers bidders) o
   bids_at_are o e = bids_are ∙ sym (ap (bids_at (map offers bidders)) e)
@@ -32,13 +22,7 @@ none_at bidders o bids none e f = ap offers f ∙ sym (ap (bids_at (map offers b
 
 pub changes_at : (one other left right : List (Atom (List ℕ))) (changes more : List PlainChange) → one ≡ left → other ≡ right → more ≡ changes
     → ArePriceChanges one other changes → ArePriceChanges left right more
-changes_at one other left right changes more e f g h =
-    subst (λ (cs : List PlainChange). ArePriceChanges left right cs) (sym g)
-    (subst (λ (xs : List (Atom (List ℕ))). ArePriceChanges xs right changes) e
-    (subst (λ (ys : List (Atom (List ℕ))). ArePriceChanges one ys changes) f h))
+changes_at one other left right changes more e f g h = search (rules)
 
 pub none_of_both : (own other : Option ℕ) → own ≡ None → other ≡ None → is_some own || is_some other ≡ true → ⊥
-none_of_both own other e f some =
-    let none : is_some own || is_some other ≡ false =
-    ap₂ (λ (o p : Option ℕ). is_some o || is_some p) e f in
-    both_ways (is_some own || is_some other) none some
+none_of_both own other e f some = search (rules)

@@ -1,30 +1,11 @@
 -- The bids of bidders on a bundle, bid by bid and bidder by bidder. A bidder has one bid on a bundle at most.
-use Rattle.std.proofs.Common.{◌≡◌, ◌<◌, ◌+◌, ℕ, zero, suc, Bool, true, false, cond, List, [], ◌∷◌, ◌++◌, length, get_or, map, take, Some, Ordering, Less, Equal}
-use Rattle.std.proofs.Common.{Greater}
-use Rattle.std.proofs.Common.{slice_get, refl, sym, ap, ap₂, ◌∙◌, arith, ⊎_elim, append_assoc}
-use Rattle.std.specs.Prelude.{All, is_some, filter}
-use Rattle.std.specs.Ordering.{is_eq}
-use Rattle.std.proofs.lemmas.Bool.{cases_Bool, false_from_ne_true}
-use Rattle.std.proofs.lemmas.List.{get_or-map, length-map, map_push, take_more}
-use Rattle.std.proofs.lemmas.List.Elements.{All-cons, All-nil, All-weaker, filter-append}
-use Rattle.std.proofs.lemmas.Option.{get_or_from_slice_get, slice_get_within}
-use Rattle.goods_set.specs.Orders.{bundle_cmp}
-use Rattle.goods_set.specs.Lemmas.Orders.{bundle_cmp_equal, bundle_cmp_refl}
-use Rattle.bid_file.specs.Files.{PlainBid}
-use Rattle.valuation.specs.declared.atom.Atom.{Atom}
-use Rattle.valuation.specs.Auctions.{atom_of}
-use Rattle.valuation.specs.Lemmas.Lists.{AllPairs-head, AllPairs-tail}
-use Rattle.prune.specs.InOrder.{IsBefore, IsInOrder}
-use Rattle.canon.specs.Bidders.{offers}
-use Rattle.analysis.specs.BidderChanges.{bidder_at, bidders_on}
-use Rattle.canon.specs.PriceChanges.{price_on}
-use Rattle.analysis.specs.Internal.Holders.{is_on}
+use Rattle.analysis.proofs.Common.{common_steps, rules, ◌≡◌, ◌<◌, ◌+◌, ℕ, zero, suc, Bool, true, false, cond, List, [], ◌∷◌, ◌++◌, length, get_or, map, take}
+use Rattle.analysis.proofs.Common.{Some, Less, Equal, slice_get, refl, sym, ap, ap₂, ◌∙◌, arith, ⊎_elim, append_assoc, All, is_some, filter, is_eq, cases_Bool}
+use Rattle.analysis.proofs.Common.{false_from_ne_true, get_or-map, length-map, map_push, take_more, All-cons, All-nil, All-weaker, filter-append}
+use Rattle.analysis.proofs.Common.{get_or_from_slice_get, slice_get_within, bundle_cmp, bundle_cmp_equal, bundle_cmp_refl, PlainBid, Atom, atom_of}
+use Rattle.analysis.proofs.Common.{AllPairs-head, AllPairs-tail, IsBefore, IsInOrder, offers, bidder_at, bidders_on, price_on, is_on}
 use Rattle.analysis.proofs.Comparing.LawsLists.{none_pass}
-
-pub equal_from_test : (o : Ordering) → is_eq o ≡ true → o ≡ Equal
-equal_from_test Less t = absurd (cc)
-equal_from_test Equal t = refl
-equal_from_test Greater t = absurd (cc)
+use Rattle.analysis.proofs.Explaining.BestBids.{equal_from}
 
 -- the bidder, once for each bid on the bundle
 abbrev pub once_each : ℕ → List ℕ → List (Atom (List ℕ)) → List ℕ
@@ -45,10 +26,7 @@ once_each-append index bundle (x ∷ xs) ys =
         ])
 
 once_each-one : (index : ℕ) (bundle : List ℕ) (x : Atom (List ℕ)) → once_each index bundle (x ∷ []) ≡ cond (is_on bundle x) (index ∷ []) []
-once_each-one index bundle x = elim (is_on bundle x) as (λ b. map (λ _. index) (cond b (x ∷ []) []) ≡ cond b (index ∷ []) []) [
-  | true ↦ refl
-  | false ↦ refl
-]
+once_each-one index bundle x = search (rules)
 
 -- one more bid of a bidder
 pub one_more_bid : (index : ℕ) (bids : List PlainBid) (i : ℕ) (bid : PlainBid) → slice_get bids i ≡ Some bid → (bundle first before after : List ℕ)
@@ -92,11 +70,11 @@ one_bid_each index bundle [] order = refl
 one_bid_each index bundle (a ∷ rest) order =
     ⊎_elim
     (λ (t : is_eq (bundle_cmp a.bundle bundle) ≡ true).
-    let same : a.bundle ≡ bundle = bundle_cmp_equal a.bundle bundle (equal_from_test _ t) in
+    let same : a.bundle ≡ bundle = bundle_cmp_equal a.bundle bundle (equal_from _ t) in
     let none : filter (is_on bundle) rest ≡ [] =
     none_pass (is_on bundle) rest (All-weaker (IsBefore a) (λ r. is_on bundle r ≡ false)
     (λ r l. false_from_ne_true (is_on bundle r) (λ u.
-    let other : r.bundle ≡ bundle = bundle_cmp_equal r.bundle bundle (equal_from_test _ u) in
+    let other : r.bundle ≡ bundle = bundle_cmp_equal r.bundle bundle (equal_from _ u) in
     let less : bundle_cmp a.bundle r.bundle ≡ Less = l in
     let tied : bundle_cmp a.bundle r.bundle ≡ Equal = ap (bundle_cmp a.bundle) (other ∙ sym same) ∙ bundle_cmp_refl a.bundle in
     absurd (cc))) rest (AllPairs-head IsBefore a rest order)) in
@@ -110,8 +88,4 @@ pub one_more_bidder : (bidders : List (List (Atom (List ℕ)))) (indices : List 
     → before ≡ bidders_on bidders (take k indices) bundle → after ≡ before ++ once_each index bundle atoms
     → after ≡ bidders_on bidders (take (k + 1) indices) bundle
 one_more_bidder bidders indices k index l at atoms is order bundle before after so_far more =
-    let has : ℕ → Bool = λ i. is_some (price_on (bidder_at bidders i) bundle) in
-    let own : once_each index bundle atoms ≡ filter has (index ∷ []) =
-    one_bid_each index bundle atoms order ∙ ap (λ (xs : List (Atom (List ℕ))). cond (is_some (price_on xs bundle)) (index ∷ []) []) is in
-    more ∙ ap₂ (λ (xs ys : List ℕ). xs ++ ys) so_far own ∙ sym (filter-append has (take k indices) (index ∷ []))
-    ∙ ap (filter has) (sym (take_more indices k 0 l ∙ ap (λ (n : ℕ). take k indices ++ n ∷ []) at))
+    grind (arith, common_steps, one_bid_each, filter-append, take_more)

@@ -1,24 +1,11 @@
 -- Changes that are put together one by one: those of the left bidders, and then those of the right bidders that are left.
-use Rattle.std.proofs.Common.{◌≡◌, ℕ, ◌+◌, true, false, not, cond, List, [], ◌∷◌, ◌++◌, length, map, append_assoc, refl, sym, ap, ap₂, ◌∙◌, subst, arith}
-use Rattle.std.proofs.Common.{Option}
-use Rattle.std.proofs.Common.{Some, None}
-use Rattle.std.specs.Prelude.{All, is_some}
-use Rattle.std.specs.List.{cons_option, filter_map, range_with_len}
-use Rattle.std.specs.Option.{is_none}
-use Rattle.std.specs.Ordering.{nat_cmp, is_eq}
-use Rattle.std.proofs.lemmas.List.Elements.{filter-append, filter_map-append, All-append, All-head, All-nil, All-push, All-tail, All-weaker}
-use Rattle.std.proofs.lemmas.List.Sums.{sum_by-append, sum_by-cons}
-use Rattle.std.proofs.lemmas.List.{append-nil, map_push}
-use Rattle.goods_set.specs.Bundles.{IsRising}
-use Rattle.goods_set.specs.Lemmas.Members.{IsRising-filter}
-use Rattle.goods_set.specs.Lemmas.Words.{range_rises}
-use Rattle.valuation.specs.declared.atom.Atom.{Atom}
-use Rattle.valuation.specs.Sorting.{count_of}
-use Rattle.analysis.specs.BidderChanges.{PlainBidderChange, IsBidderChange, AreBidderChanges, bidder_at, excess_bidders, is_excess, lefts_of, partner_of}
-use Rattle.analysis.specs.BidderChanges.{partners_of, rights_of, right_alone, waiting_after, without_partner}
-use Rattle.analysis.specs.BidderChanges.{with_left}
-use Rattle.analysis.specs.Internal.Changes.{AreLefts, AreRest}
-use Rattle.analysis.specs.Internal.Partners.{TakesPartner}
+use Rattle.analysis.proofs.Common.{rules, ◌≡◌, ℕ, ◌+◌, true, false, not, cond, List, [], ◌∷◌, ◌++◌, length, map, append_assoc, refl, sym, ap, ap₂, ◌∙◌, subst}
+use Rattle.analysis.proofs.Common.{arith, Option, Some, None, All, is_some, cons_option, filter_map, range_with_len, is_none, nat_cmp, is_eq, filter-append}
+use Rattle.analysis.proofs.Common.{All-append, All-head, All-nil, All-push, All-tail, All-weaker, sum_by-append, sum_by-cons, append-nil, map_push, IsRising}
+use Rattle.analysis.proofs.Common.{Atom, count_of, PlainBidderChange, IsBidderChange, AreBidderChanges, bidder_at, excess_bidders, is_excess, lefts_of}
+use Rattle.analysis.proofs.Common.{partner_of, partners_of, rights_of, waiting_after, without_partner, with_left, AreLefts, AreRest, TakesPartner}
+use Rattle.analysis.proofs.Common.{filter_map-append, IsRising-filter, range_rises}
+use Rattle.analysis.specs.BidderChanges.{right_alone}
 use Rattle.analysis.proofs.Comparing.LawsLists.{all_pass, none_pass}
 use Rattle.analysis.proofs.Comparing.Waiting.{All-counted, partners_more, still_rise, taken, taken_counted, waiting_more}
 
@@ -42,14 +29,7 @@ excess_rises bidders others = IsRising-filter (is_excess bidders others) (range_
 
 module _ (left right : List (List (Atom (List ℕ)))) where
   pub no_lefts : (excess : List ℕ) → IsRising excess → AreLefts left right [] excess []
-  no_lefts excess rising = record {
-    each = All-nil (IsBidderChange left right);
-    named = refl;
-    each_left = All-nil (λ (c : PlainBidderChange). is_some c.left ≡ true);
-    partners = refl;
-    taken = λ i. let none : count_of nat_cmp i [] ≡ 0 = refl in omega arith;
-    in_order = rising;
-  }
+  no_lefts excess rising = search (rules, All-nil, taken)
 
   right_taken : (c : PlainBidderChange) (partner : Option ℕ) → c.right ≡ partner → (before after : List ℕ) → TakesPartner before after partner → (i : ℕ)
       → count_of nat_cmp i (rights_of (c ∷ [])) + count_of nat_cmp i after ≡ count_of nat_cmp i before
@@ -101,13 +81,7 @@ module _ (left right : List (List (Atom (List ℕ)))) where
       }
 
   pub no_rest : (before : List PlainBidderChange) → AreRest left right [] before before
-  no_rest before = record {
-    added = [];
-    behind = sym (append-nil before);
-    each = All-nil (IsBidderChange left right);
-    alone = All-nil (λ (c : PlainBidderChange). c.left ≡ None);
-    rights = refl;
-  }
+  no_rest before = search (rules, append-nil, All-nil)
 
   -- one more right bidder, alone
   pub one_more_alone : (rest : List ℕ) (index : ℕ) (before changes : List PlainBidderChange) (c : PlainBidderChange) → AreRest left right rest before changes

@@ -1,30 +1,10 @@
 -- Each change of a bidder has a bid. The idea: without one both sides have the same bids, but two equal bidders are no change, and no bidder
 -- of a canonical auction is without a bid.
-use Rattle.std.proofs.Common.{◌≡◌, ◌≢◌, ℕ, ◌<◌, List, [], refl, sym, ap, subst, arith, Option, Some, None}
-use Rattle.std.specs.Prelude.{All, Contains}
-use Rattle.std.specs.List.{filter}
-use Rattle.std.proofs.lemmas.Bool.{both_ways}
-use Rattle.std.proofs.lemmas.List.Elements.{All-contains, All-map}
-use Rattle.valuation.specs.declared.atom.Atom.{Atom}
-use Rattle.valuation.specs.Auctions.{IsAtom, PlainAuction}
-use Rattle.valuation.specs.Lemmas.Lists.{AllPairs-nil}
-use Rattle.valuation.specs.Lemmas.Orders.{bidder_cmp_total, bidder_cmp_equal}
-use Rattle.valuation.specs.Lemmas.Sorting.{All-sort_by}
-use Rattle.valuation.specs.Orders.{bidder_cmp}
-use Rattle.valuation.specs.Sorting.{count_of}
-use Rattle.valuation.specs.Tables.{xor_table, is_nonzero}
-use Rattle.prune.specs.InOrder.{IsBefore, IsInOrder}
-use Rattle.prune.specs.Lemmas.KeptBids.{on_bundles}
-use Rattle.prune.specs.Lemmas.Lists.{All-from_Contains, Contains-filter_parts}
-use Rattle.prune.specs.Lemmas.Tables.{no_xor_points}
-use Rattle.prune.specs.Points.{xor_points}
-use Rattle.canon.specs.Canonical.{IsCanonical, points_of_bidders}
-use Rattle.canon.specs.Lemmas.CanonicalOrders.{each_in_order}
-use Rattle.canon.specs.Lemmas.Finding.{counted_is_there}
-use Rattle.canon.proofs.CanonicalAuctions.Atoms.{HasAtoms}
-use Rattle.analysis.specs.BidderChanges.{PlainBidderChange, IsBidderChange, AreBidderChanges, bidder_at, bids_at}
-use Rattle.canon.specs.PriceChanges.{PlainChange, ArePriceChanges}
-use Rattle.canon.specs.Lemmas.FirstChanges.{same_bids}
+use Rattle.analysis.proofs.Common.{rules, ◌≡◌, ◌≢◌, ℕ, ◌<◌, List, [], refl, sym, ap, subst, arith, Option, Some, None, All, Contains, filter, both_ways}
+use Rattle.analysis.proofs.Common.{All-contains, All-map, Atom, IsAtom, PlainAuction, AllPairs-nil, bidder_cmp_total, bidder_cmp_equal, All-sort_by, bidder_cmp}
+use Rattle.analysis.proofs.Common.{count_of, xor_table, IsBefore, IsInOrder, on_bundles, All-from_Contains, Contains-filter_parts, xor_points, IsCanonical}
+use Rattle.analysis.proofs.Common.{each_in_order, counted_is_there, HasAtoms, PlainBidderChange, IsBidderChange, AreBidderChanges, bidder_at, bids_at}
+use Rattle.analysis.proofs.Common.{same_bids, is_nonzero, no_xor_points, points_of_bidders}
 use Rattle.analysis.proofs.Comparing.BidsOfBidders.{none_of_both}
 use Rattle.analysis.proofs.Comparing.LeftBidders.{left_is_more, none_on_both, right_is_more}
 
@@ -56,11 +36,7 @@ module _ (a b : PlainAuction) (h : HasAtoms a) (k : HasAtoms b) (canonical : IsC
   -- without a bid both sides have the same bids
   same_of_both : (c : PlainBidderChange) → IsBidderChange a.xor_bidders b.xor_bidders c → c.bids ≡ [] → (o p : Option ℕ) → c.left ≡ o → c.right ≡ p
       → IsInOrder (bids_at a.xor_bidders o) → IsInOrder (bids_at b.xor_bidders p) → bids_at a.xor_bidders o ≡ bids_at b.xor_bidders p
-  same_of_both c is none o p e f s t =
-      same_bids (bids_at a.xor_bidders o) (bids_at b.xor_bidders p) s t
-      (subst (λ (q : Option ℕ). ArePriceChanges (bids_at a.xor_bidders o) (bids_at b.xor_bidders q) []) f
-      (subst (λ (q : Option ℕ). ArePriceChanges (bids_at a.xor_bidders q) (bids_at b.xor_bidders c.right) []) e
-      (subst (λ (xs : List PlainChange). ArePriceChanges (bids_at a.xor_bidders c.left) (bids_at b.xor_bidders c.right) xs) none is.bids)))
+  same_of_both c is none o p e f s t = search (rules, same_bids)
 
   no_bids : IsInOrder []
   no_bids = AllPairs-nil IsBefore

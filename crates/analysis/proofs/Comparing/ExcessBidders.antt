@@ -1,15 +1,7 @@
 -- The walk of proofs/ExcessWalks over bidders, as the code reads them at their indices. The idea: what is read at an index is the
 -- element there.
-use Rattle.std.proofs.Common.{◌≡◌, ℕ, ◌+◌, ◌-◌, ◌<◌, ◌≤◌, true, false, List, [], ◌∷◌, ◌++◌, length, map, get_or, sym, ap, ◌∙◌, subst, arith}
-use Rattle.std.specs.Ordering.{is_eq}
-use Rattle.std.proofs.lemmas.List.{get_or-map, length-map}
-use Rattle.bid_file.specs.Files.{PlainBid}
-use Rattle.valuation.specs.declared.atom.Atom.{Atom}
-use Rattle.valuation.specs.Orders.{bidder_cmp}
-use Rattle.valuation.specs.Lemmas.Orders.{bidder_cmp_total, bidder_cmp_equal}
-use Rattle.canon.specs.Bidders.{offers}
-use Rattle.analysis.specs.BidderChanges.{bidder_at}
-use Rattle.analysis.specs.Internal.Orders.{NeverFall}
+use Rattle.analysis.proofs.Common.{rules, ◌≡◌, ℕ, ◌+◌, ◌-◌, ◌<◌, ◌≤◌, true, false, List, [], ◌∷◌, ◌++◌, length, map, get_or, sym, ap, ◌∙◌, subst, arith, is_eq}
+use Rattle.analysis.proofs.Common.{get_or-map, length-map, PlainBid, Atom, bidder_cmp, bidder_cmp_total, bidder_cmp_equal, offers, bidder_at, NeverFall}
 use Rattle.analysis.proofs.Comparing.ExcessWalks.{IsWalked, IsSkipped, walked_equal, walked_excess}
 
 pub bidder_at_index : (bidders : List (List PlainBid)) (index : ℕ) (bidder : List PlainBid) → index < length bidders
@@ -50,9 +42,7 @@ module _ (bidders others : List (List PlainBid)) (later end before : ℕ) (indic
   -- the last of the others that are left, beside the bidder
   test_at : (last : ℕ) (other : List PlainBid) → last + 1 ≡ before → other ≡ get_or others last other
       → is_eq (bidder_cmp (bidder_at (map offers bidders) (later - 1)) (bidder_at (map offers others) last)) ≡ is_eq (bidder_cmp (offers bidder) (offers other))
-  test_at last other e f =
-      let there = bidder_at_index others last other (omega (arith, others_within)) f in
-      rw (at_index, there)
+  test_at last other e f = search (rules, bidder_at_index, others_within, at_index)
 
   pub one_equal : (other : List PlainBid) → 0 < before → other ≡ get_or others (before - 1) other → is_eq (bidder_cmp (offers bidder) (offers other)) ≡ true
       → AreWalked bidders others (later - 1) (before - 1) indices

@@ -1,18 +1,11 @@
 -- Two lists in order are walked from their ends, and each element takes an equal one of the others with it, if one is left. The
 -- idea: of an element that is still to come, as many others were taken as elements were passed, up to all that there are. So
 -- an element is in excess exactly where none is left for it.
-use Rattle.std.proofs.Common.{◌≡◌, ℕ, zero, suc, ◌+◌, ◌-◌, ◌<◌, ◌≤◌, Bool, true, false, cond, min, ⊎_elim, List, [], ◌∷◌, ◌++◌, length, drop, get_or}
-use Rattle.std.proofs.Common.{reverse, refl, sym, ap, ◌∙◌, subst, arith, Ordering, Less, Equal, Greater}
-use Rattle.std.specs.Prelude.{nat_lt, AllPairs}
-use Rattle.std.specs.List.{filter, range_with_len}
-use Rattle.std.specs.Ordering.{is_eq, is_gt, is_lt, ordering_reverse}
-use Rattle.std.specs.Cmp.{IsTotalOrder}
-use Rattle.std.proofs.lemmas.Bool.{lt-ltb, le-ltb}
-use Rattle.std.proofs.lemmas.Cmp.{tied_itself}
-use Rattle.std.proofs.lemmas.List.{reverse-append}
-use Rattle.std.proofs.lemmas.List.Sums.{sum_by-drop_more, sum_by-take-drop}
-use Rattle.valuation.specs.Sorting.{count_of}
-use Rattle.valuation.specs.Lemmas.Lists.{le_or_lt}
+use Rattle.analysis.proofs.Common.{common_steps, rules, ◌≡◌, ℕ, zero, suc, ◌+◌, ◌-◌, ◌<◌, ◌≤◌, Bool, true, false, cond, min, List, [], ◌∷◌, ◌++◌, length, drop}
+use Rattle.analysis.proofs.Common.{get_or, refl, sym, ap, ◌∙◌, subst, arith, Ordering, Less, Equal, Greater, AllPairs, filter, range_with_len, is_eq, is_gt}
+use Rattle.analysis.proofs.Common.{is_lt, ordering_reverse, IsTotalOrder, lt-ltb, le-ltb, tied_itself, sum_by-drop_more, sum_by-take-drop, count_of, le_or_lt}
+use Rattle.analysis.proofs.Common.{reverse, nat_lt, reverse-append}
+use Rattle.analysis.proofs.Explaining.BestBids.{equal_from}
 
 -- ---- tests of an order
 
@@ -20,11 +13,6 @@ less_from_test : (o : Ordering) → is_lt o ≡ true → o ≡ Less
 less_from_test Less e = refl
 less_from_test Equal e = absurd (cc)
 less_from_test Greater e = absurd (cc)
-
-equal_from_test : (o : Ordering) → is_eq o ≡ true → o ≡ Equal
-equal_from_test Less e = absurd (cc)
-equal_from_test Equal e = refl
-equal_from_test Greater e = absurd (cc)
 
 greater_from_tests : (o : Ordering) → is_lt o ≡ false → is_eq o ≡ false → o ≡ Greater
 greater_from_tests Less e f = absurd (cc)
@@ -43,16 +31,11 @@ passing_before passes index number below =
 
 one_passes : (passes : ℕ → Bool) (indices : List ℕ) (index number : ℕ) → index < number → reverse indices ≡ passing_from passes (index + 1) number
     → passes index ≡ true → reverse (indices ++ index ∷ []) ≡ passing_from passes index number
-one_passes passes indices index number below named e =
-    let later = passing_from passes (index + 1) number in
-    reverse-append indices (index ∷ []) ∙ ap (λ (rest : List ℕ). index ∷ rest) named
-    ∙ sym (passing_before passes index number below ∙ ap (λ b. cond b (index ∷ later) later) e)
+one_passes passes indices index number below named e = search (rules, reverse-append, passing_before)
 
 one_fails : (passes : ℕ → Bool) (indices : List ℕ) (index number : ℕ) → index < number → reverse indices ≡ passing_from passes (index + 1) number
     → passes index ≡ false → reverse indices ≡ passing_from passes index number
-one_fails passes indices index number below named e =
-    let later = passing_from passes (index + 1) number in
-    named ∙ sym (passing_before passes index number below ∙ ap (λ b. cond b (index ∷ later) later) e)
+one_fails passes indices index number below named e = search (rules, passing_before)
 
 -- ---- what was taken
 
@@ -82,7 +65,7 @@ module _ {X : Type 0} (cmp : X → X → Ordering) (none : X) where
   pub count_from-le : (x : X) (xs : List X) (index : ℕ) → count_of cmp x (drop index xs) ≤ count_of cmp x xs
   count_from-le x xs index = let all = sum_by-take-drop (λ y. cond {A = ℕ} (is_eq (cmp x y)) 1 0) xs index in omega arith
 
-  -- the elements between two places are none of these
+  -- the elements between two indices are none of these
   count_past : (x : X) (xs : List X) (number from end : ℕ) → from + number ≡ end → end ≤ length xs
       → ((k : ℕ) → from ≤ k → k < end → is_eq (cmp x (get_or xs k none)) ≡ false)
       → count_of cmp x (drop from xs) ≡ count_of cmp x (drop end xs)
@@ -97,21 +80,11 @@ module _ {X : Type 0} (cmp : X → X → Ordering) (none : X) where
 
 module _ {X : Type 0} (cmp : X → X → Ordering) (none : X) (total : IsTotalOrder cmp) (exact : (x y : X) → cmp x y ≡ Equal → x ≡ y) where
   below_further : (x y z : X) → is_gt (cmp x y) ≡ false → cmp y z ≡ Less → cmp x z ≡ Less
-  below_further x y z h l = by (cmp x y) refl h
-    where
-      by : (o : Ordering) → cmp x y ≡ o → is_gt o ≡ false → cmp x z ≡ Less
-      by Less e k = total.trans x y z e l
-      by Equal e k = subst (λ (w : X). cmp w z ≡ Less) (sym (exact x y e)) l
-      by Greater e k = absurd (cc)
+  below_further x y z h l = search (rules)
 
   not_above_last : (xs : List X) → NeverAbove cmp none xs → (k last : ℕ) → k ≤ last → last < length xs
       → is_gt (cmp (get_or xs k none) (get_or xs last none)) ≡ false
-  not_above_last xs up k last l within =
-      ⊎_elim
-      (λ (e : last ≤ k). let same : k ≡ last = omega arith in
-      subst (λ n. is_gt (cmp (get_or xs n none) (get_or xs last none)) ≡ false) (sym same) (ap is_gt (tied_itself total (get_or xs last none))))
-      (λ (m : k < last). up k last none m within)
-      (le_or_lt last k)
+  not_above_last xs up k last l within = search (rules, tied_itself, le_or_lt)
 
   count_at : (xs : List X) (index : ℕ) → index < length xs
       → count_of cmp (get_or xs index none) (drop index xs) ≡ 1 + count_of cmp (get_or xs index none) (drop (index + 1) xs)
@@ -201,12 +174,7 @@ module _ {X : Type 0} (cmp : X → X → Ordering) (none : X) (total : IsTotalOr
 
     -- it is in excess
     none_left : is_more_often cmp none xs others index ≡ true
-    none_left =
-        let x = get_or xs index none in
-        let here = count_at xs index below in
-        let taken = w.counted index (omega arith) in
-        let all = all_taken in
-        lt-ltb (count_of cmp x others) (count_of cmp x (drop index xs)) (omega arith)
+    none_left = omega (arith, count_at, all_taken, lt-ltb)
 
   -- ---- the indices in excess, last first, and what was taken
 
@@ -227,13 +195,7 @@ module _ {X : Type 0} (cmp : X → X → Ordering) (none : X) (total : IsTotalOr
 
     pub walked_equal : (last : ℕ) → last + 1 ≡ before → is_eq (cmp (get_or xs index none) (get_or others last none)) ≡ true
         → IsWalked xs others index last indices
-    walked_equal last e tied =
-        let equal = equal_from_test (cmp (get_or xs index none) (get_or others last none)) tied in
-        let taken = subst (AreTaken cmp none xs others (index + 1)) (sym e) past in
-        record {
-          named = one_fails (is_more_often cmp none xs others) indices index (length xs) below w.named (equal_left xs others index last below taken equal);
-          taken = taken_equal xs others index last below taken equal;
-        }
+    walked_equal last e tied = grind (arith, common_steps, equal_from, past, one_fails, equal_left, taken_equal)
 
     pub walked_excess : NeverAbove cmp none others
         → ((last : ℕ) → last + 1 ≡ before → is_eq (cmp (get_or xs index none) (get_or others last none)) ≡ false)

@@ -1,24 +1,13 @@
 -- Exchanging the auctions. The idea: the changes of two lists of bids are determined by the prices, since they are in order and on exactly
 -- the bundles on which the prices differ.
-use Rattle.std.proofs.Common.{◌≡◌, ℕ, List, map, sym, ap, ap₂, ◌∙◌, subst, Option}
-use Rattle.std.specs.Prelude.{Contains}
-use Rattle.std.proofs.lemmas.List.Elements.{All-contains, All-map, All-weaker}
-use Rattle.valuation.specs.declared.atom.Atom.{Atom}
-use Rattle.valuation.specs.Lemmas.Lists.{AllPairs-map, Contains-map, Contains-unmap}
-use Rattle.prune.specs.Lemmas.InOrder.{before_both}
-use Rattle.analysis.specs.Differences.{exchanged_change}
-use Rattle.canon.specs.Lemmas.PriceChanges.{IsEarlier}
-use Rattle.canon.specs.PriceChanges.{PlainChange, price_on, IsPriceChange, ArePriceChanges}
+use Rattle.analysis.proofs.Common.{rules, ◌≡◌, ℕ, List, map, sym, ◌∙◌, subst, Contains, All-contains, All-map, All-weaker, Atom, AllPairs-map, Contains-map}
+use Rattle.analysis.proofs.Common.{Contains-unmap, PlainChange, IsPriceChange, ArePriceChanges, before_both, exchanged_change, IsEarlier}
 use Rattle.analysis.proofs.Comparing.LawsLists.{same_in_strict_order}
 
 module _ (left right : List (Atom (List ℕ))) where
   -- two changes on one bundle are one
   same_on_bundle : (c d : PlainChange) → IsPriceChange left right c → IsPriceChange left right d → c.bundle ≡ d.bundle → d ≡ c
-  same_on_bundle c d h k e =
-      let on_left : d.left ≡ c.left = k.on_left ∙ ap (price_on left) (sym e) ∙ sym h.on_left in
-      let on_right : d.right ≡ c.right = k.on_right ∙ ap (price_on right) (sym e) ∙ sym h.on_right in
-      ap (λ (bundle : List ℕ). record { bundle = bundle; left = d.left; right = d.right }) (sym e)
-      ∙ ap₂ (λ (p q : Option ℕ). record { bundle = c.bundle; left = p; right = q }) on_left on_right
+  same_on_bundle c d h k e = search (rules)
 
   -- a change of the bids is among all of them
   pub change_is_there : (changes : List PlainChange) → ArePriceChanges left right changes → (c : PlainChange) → IsPriceChange left right c

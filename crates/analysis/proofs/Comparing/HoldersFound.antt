@@ -1,20 +1,11 @@
 -- The bidders that have a bid on a bundle, as a map has them, and the first of them that waits.
-use Rattle.std.proofs.Common.{◌≡◌, ◌<◌, ℕ, zero, suc, Bool, true, false, cond, List, [], ◌∷◌, ◌++◌, length, get_or, Some, Ordering}
-use Rattle.std.proofs.Common.{slice_get, refl, sym, ap, ◌∙◌, subst, arith, ⊎_elim, append-nil}
-use Rattle.std.specs.Prelude.{filter}
-use Rattle.std.specs.Borrow.{Bor}
-use Rattle.std.specs.BTreeMap.{BTreeMap, UpdatesBy}
-use Rattle.std.specs.Cmp.Lexicographic.{bytes_decides, slice_cmp}
-use Rattle.std.specs.Map.{IsKeyTest, AreApart, KeepsOthers, lookup}
-use Rattle.std.specs.Ordering.{is_eq, nat_cmp}
-use Rattle.std.proofs.lemmas.Bool.{cases_Bool, cond-true, cond-false, both_ways, false_from_ne_true}
-use Rattle.std.proofs.lemmas.Cmp.{nat_list_eq_equiv}
-use Rattle.std.proofs.lemmas.Map.Text.{is_eq-slice_cmp}
-use Rattle.goods_set.specs.Orders.{bundle_cmp}
-use Rattle.goods_set.specs.Lemmas.Orders.{bundle_cmp_equal, bundle_cmp_refl}
-use Rattle.analysis.specs.declared.differences.holders.Holders.{Holders}
-use Rattle.analysis.proofs.Comparing.BidsOnBundles.{equal_from_test}
-use Rattle.analysis.specs.Internal.Holders.{found_at, holders_at, indices_in, passed_in}
+use Rattle.analysis.proofs.Common.{◌≡◌, ◌<◌, ℕ, zero, suc, Bool, true, false, cond, List, [], ◌∷◌, ◌++◌, length, get_or, Some, Ordering, slice_get, sym, ap}
+use Rattle.analysis.proofs.Common.{◌∙◌, subst, arith, ⊎_elim, append-nil, filter, Bor, BTreeMap, UpdatesBy, slice_cmp, is_eq, nat_cmp, cases_Bool, cond-true}
+use Rattle.analysis.proofs.Common.{cond-false, both_ways, false_from_ne_true, bundle_cmp, bundle_cmp_equal, bundle_cmp_refl, Holders, holders_at, indices_in}
+use Rattle.analysis.proofs.Common.{passed_in, bytes_decides, IsKeyTest, lookup, nat_list_eq_equiv, is_eq-slice_cmp}
+use Rattle.std.specs.Map.{AreApart, KeepsOthers}
+use Rattle.analysis.proofs.Explaining.BestBids.{equal_from}
+use Rattle.analysis.specs.Internal.Holders.{found_at}
 
 -- ---- the first that passes a test
 
@@ -25,11 +16,6 @@ first_passes p (y ∷ ys) zero l t before = ap (λ b. slice_get (cond {A = List 
 first_passes p (y ∷ ys) (suc k) l t before =
     ap (λ b. slice_get (cond {A = List ℕ} b (y ∷ filter p ys) (filter p ys)) 0) (before 0 (omega arith))
     ∙ first_passes p ys k (omega arith) t (λ j m. before (suc j) (omega arith))
-
-pub none_passes : (p : ℕ → Bool) (xs : List ℕ) → ((j : ℕ) → j < length xs → p (get_or xs j 0) ≡ false) → filter p xs ≡ []
-none_passes p [] before = refl
-none_passes p (y ∷ ys) before =
-    ap (λ b. cond {A = List ℕ} b (y ∷ filter p ys) (filter p ys)) (before 0 (omega arith)) ∙ none_passes p ys (λ j l. before (suc j) (omega arith))
 
 -- ---- the map
 
@@ -68,7 +54,7 @@ pub updated : (old new : BTreeMap (Bor (List ℕ)) Holders) (goods : List ℕ) (
 updated old new goods holders h bundle =
     ⊎_elim
     (λ (y : is_eq (bundle_cmp goods bundle) ≡ true).
-    subst (λ (b : List ℕ). found_at new b ≡ Some holders) (bundle_cmp_equal goods bundle (equal_from_test _ y)) h.1
+    subst (λ (b : List ℕ). found_at new b ≡ Some holders) (bundle_cmp_equal goods bundle (equal_from _ y)) h.1
     ∙ sym (cond-true (is_eq (bundle_cmp goods bundle)) (Some holders) (found_at old bundle) y))
     (λ (n : is_eq (bundle_cmp goods bundle) ≡ false).
     other_entries (λ key. same_order goods key.now) old.entries new.entries h.3 (λ key. same_order bundle key.now)
@@ -84,7 +70,7 @@ added old new goods holders index h more bundle =
     ap indices_in (updated old new goods holders h bundle)
     ∙ ⊎_elim
     (λ (y : is_eq (bundle_cmp goods bundle) ≡ true).
-    let same : goods ≡ bundle = bundle_cmp_equal goods bundle (equal_from_test _ y) in
+    let same : goods ≡ bundle = bundle_cmp_equal goods bundle (equal_from _ y) in
     ap (λ b. indices_in (cond b (Some holders) (found_at old bundle))) y ∙ more
     ∙ ap (λ (xs : List ℕ). holders_at old xs ++ index ∷ []) same ∙ sym (ap (λ b. holders_at old bundle ++ cond {A = List ℕ} b (index ∷ []) []) y))
     (λ (n : is_eq (bundle_cmp goods bundle) ≡ false).
@@ -100,6 +86,6 @@ still_passed old new goods holders h same bundle =
     ∙ ⊎_elim
     (λ (y : is_eq (bundle_cmp goods bundle) ≡ true).
     ap (λ b. passed_in (cond b (Some holders) (found_at old bundle))) y ∙ same
-    ∙ ap (λ (xs : List ℕ). passed_in (found_at old xs)) (bundle_cmp_equal goods bundle (equal_from_test _ y)))
+    ∙ ap (λ (xs : List ℕ). passed_in (found_at old xs)) (bundle_cmp_equal goods bundle (equal_from _ y)))
     (λ (n : is_eq (bundle_cmp goods bundle) ≡ false). ap (λ b. passed_in (cond b (Some holders) (found_at old bundle))) n)
     (cases_Bool (is_eq (bundle_cmp goods bundle)))

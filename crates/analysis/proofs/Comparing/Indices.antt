@@ -1,36 +1,14 @@
 -- What holds of the indices of bidders in excess, and of the bidders of canonical files.
-use Rattle.std.proofs.Common.{◌≡◌, ℕ, ◌<◌, ◌≤◌, false, List, [], ◌∷◌, length, map, sym, ap, ◌∙◌, subst, arith}
-use Rattle.std.specs.Prelude.{All}
-use Rattle.std.specs.List.{range_with_len}
-use Rattle.std.specs.Ordering.{is_gt}
-use Rattle.std.proofs.lemmas.List.{length-map}
-use Rattle.std.proofs.lemmas.List.Elements.{All-filter, All-from_get_or, All-from_recursion}
-use Rattle.std.proofs.lemmas.List.FromFn.{get_or-range_with_len, length-range_with_len}
-use Rattle.bid_file.specs.Files.{PlainBid, PlainFile, IsPlainFile}
-use Rattle.bid_file.specs.declared.limits.TheConstants.{MAX_GOODS, MAX_DUMMY}
-use Rattle.valuation.specs.declared.atom.Atom.{Atom}
-use Rattle.valuation.specs.Auctions.{auction_from}
-use Rattle.valuation.specs.Lemmas.AuctionsOfFiles.{IsAuction-auction_from}
-use Rattle.valuation.specs.Lemmas.Lists.{AllPairs-cons, AllPairs-nil}
-use Rattle.valuation.specs.Lemmas.Sorting.{IsOrdered}
-use Rattle.valuation.specs.Orders.{bidder_cmp}
-use Rattle.prune.specs.InOrder.{IsInOrder}
-use Rattle.canon.specs.Bidders.{AreBidders, offers}
-use Rattle.canon.specs.Canonical.{IsCanonical, IsCanonicalFile, canonical_auction}
-use Rattle.canon.specs.Lemmas.CanonicalOrders.{or_atoms_in_order, bidders_ordered, each_in_order}
-use Rattle.canon.proofs.CanonicalFiles.Files.{auction_from-file_from}
-use Rattle.analysis.specs.BidderChanges.{excess_bidders, is_excess}
-use Rattle.analysis.specs.Internal.Orders.{NeverFall}
+use Rattle.analysis.proofs.Common.{rules, ◌≡◌, ℕ, ◌<◌, ◌≤◌, false, List, [], ◌∷◌, length, map, sym, ap, ◌∙◌, subst, arith, All, range_with_len, is_gt}
+use Rattle.analysis.proofs.Common.{length-map, All-filter, All-from_recursion, get_or-range_with_len, length-range_with_len, PlainBid, PlainFile, IsPlainFile}
+use Rattle.analysis.proofs.Common.{Atom, auction_from, IsAuction-auction_from, AllPairs-cons, AllPairs-nil, IsOrdered, bidder_cmp, IsInOrder, offers}
+use Rattle.analysis.proofs.Common.{IsCanonical, canonical_auction, or_atoms_in_order, each_in_order, excess_bidders, is_excess, NeverFall, All-from_get_or}
+use Rattle.analysis.proofs.Common.{MAX_DUMMY, AreBidders, IsCanonicalFile, bidders_ordered, auction_from-file_from}
 
 -- ---- the bidders in excess are bidders
 
 below : (n : ℕ) → All (λ i. i < n) (range_with_len 0 n)
-below n =
-    let long = length-range_with_len 0 n in
-    All-from_get_or (λ i. i < n) (range_with_len 0 n) 0 (λ i l.
-    let less : i < n = omega arith in
-    let is = get_or-range_with_len 0 n i 0 less in
-    omega arith)
+below n = omega (arith, length-range_with_len, All-from_get_or, get_or-range_with_len)
 
 pub excess_within : (bidders : List (List PlainBid)) (others : List (List (Atom (List ℕ)))) (excess : List ℕ)
     → excess ≡ excess_bidders (map offers bidders) others → All (λ index. index < length bidders) excess
@@ -65,9 +43,4 @@ module _ (f : PlainFile) (plain : IsPlainFile f) (canonical : IsCanonicalFile f)
   bidders_never_fall = subst NeverFall (sym are.xor) (pairs_from_ordered (auction_from f).xor_bidders (bidders_ordered (auction_from f) is_canonical))
 
   pub few_bidders : length xor_bidders ≤ MAX_DUMMY
-  few_bidders =
-      let facts = IsAuction-auction_from MAX_GOODS f plain plain.goods in
-      let long : length (map offers xor_bidders) ≡ length (auction_from f).xor_bidders = ap length are.xor in
-      let same = length-map xor_bidders offers in
-      let few = facts.bidders in
-      omega arith
+  few_bidders = search (rules, IsAuction-auction_from, length-map)

@@ -1,21 +1,9 @@
 -- Lists: what is there behind a partial map or a test, how often, and that a list in a strict order is what it contains.
-use Rattle.std.proofs.Common.{◌≡◌, ℕ, zero, suc, ◌<◌, Bool, true, false, cond, ◌⊎◌, inl, inr, ⊎_elim, List, [], ◌∷◌, map, refl, sym, ap, ap₂, ◌∙◌, subst, arith}
-use Rattle.std.proofs.Common.{Option}
-use Rattle.std.proofs.Common.{Some, None, Ordering}
-use Rattle.std.proofs.Common.{nat_cmp}
-use Rattle.std.specs.Prelude.{All, AllPairs, Contains}
-use Rattle.std.specs.Cmp.{IsTotalOrder}
-use Rattle.std.specs.FinMap.{nat_cmp-IsAntisymmetric}
-use Rattle.std.specs.List.{filter, filter_map, cons_option, sum_by}
-use Rattle.std.specs.Ordering.{is_eq}
-use Rattle.std.proofs.lemmas.Cmp.{tied_itself, nat_cmp_total}
-use Rattle.std.proofs.lemmas.List.Elements.{All-contains, All-head, All-tail}
-use Rattle.std.proofs.lemmas.List.Sums.{sum_by-cons}
-use Rattle.goods_set.specs.Bundles.{AreAbove}
-use Rattle.valuation.specs.Sorting.{count_of}
-use Rattle.valuation.specs.Lemmas.Lists.{Contains-cons_cases, AllPairs-head, AllPairs-tail}
-use Rattle.valuation.specs.Lemmas.Sorting.{sum_by-sort_by, sort_by-same}
-use Rattle.prune.specs.Lemmas.Lists.{Contains-nil, Contains-head, Contains-tail}
+use Rattle.analysis.proofs.Common.{◌≡◌, ℕ, zero, suc, ◌<◌, Bool, true, false, cond, ◌⊎◌, inl, inr, ⊎_elim, List, [], ◌∷◌, map, refl, sym, ap, ap₂, ◌∙◌, subst}
+use Rattle.analysis.proofs.Common.{arith, Option, Some, None, Ordering, nat_cmp, All, AllPairs, Contains, IsTotalOrder, nat_cmp-IsAntisymmetric, filter}
+use Rattle.analysis.proofs.Common.{filter_map, cons_option, sum_by, is_eq, tied_itself, nat_cmp_total, All-contains, All-head, All-tail, sum_by-cons, AreAbove}
+use Rattle.analysis.proofs.Common.{count_of, Contains-cons_cases, AllPairs-head, AllPairs-tail, Contains-nil, Contains-head, Contains-tail, sum_by-sort_by}
+use Rattle.analysis.proofs.Common.{sort_by-same}
 
 pub Contains-filter_map : {X Y : Type 0} (h : X → Option Y) (xs : List X) (x : X) (y : Y) → Contains xs x → h x ≡ Some y → Contains (filter_map h xs) y
 Contains-filter_map h [] x y c e = absurd (Contains-nil x c)

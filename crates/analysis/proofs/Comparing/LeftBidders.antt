@@ -1,28 +1,12 @@
 -- The bidders in excess. The idea: along the bidders from their end on, those in excess have each bidder as often as these bidders
 -- have it more often than the others.
-use Rattle.std.proofs.Common.{◌≡◌, ℕ, zero, suc, ◌+◌, ◌-◌, ◌<◌, ◌≤◌, Bool, true, false, cond, ◌⊎◌, inl, inr, ⊎_elim, List, [], ◌∷◌, length, map, drop}
-use Rattle.std.proofs.Common.{sym, ap, ◌∙◌, subst, arith, Some, Ordering, Less, Equal, Greater, nat_cmp, refl}
-use Rattle.std.specs.Prelude.{All, Contains}
-use Rattle.std.specs.FinMap.{nat_cmp-IsAntisymmetric}
-use Rattle.std.specs.List.{filter, range_with_len}
-use Rattle.std.specs.Ordering.{is_eq}
-use Rattle.std.proofs.Math.Seq.{drop-length}
-use Rattle.std.proofs.lemmas.Bool.{cases_Bool, ltb-true, ltb-false}
-use Rattle.std.proofs.lemmas.Cmp.{nat_cmp_total}
-use Rattle.std.proofs.lemmas.List.Sums.{sum_by-cons, sum_by-take-drop, sum_by-drop_more}
-use Rattle.valuation.specs.declared.atom.Atom.{Atom}
-use Rattle.valuation.specs.Orders.{bidder_cmp}
-use Rattle.valuation.specs.Sorting.{count_of}
-use Rattle.valuation.specs.Lemmas.Orders.{bidder_cmp_equal}
-use Rattle.prune.specs.Lemmas.Lists.{Contains-filter_parts, All-from_Contains}
-use Rattle.canon.specs.Lemmas.Finding.{counted_is_there}
-use Rattle.analysis.specs.BidderChanges.{PlainBidderChange, AreBidderChanges, bidder_at, is_excess, excess_bidders, lefts_of, rights_of}
+use Rattle.analysis.proofs.Common.{◌≡◌, ℕ, zero, suc, ◌+◌, ◌-◌, ◌<◌, ◌≤◌, Bool, true, false, cond, ◌⊎◌, inl, inr, ⊎_elim, List, [], ◌∷◌, length, map, drop, sym}
+use Rattle.analysis.proofs.Common.{ap, ◌∙◌, subst, arith, Some, nat_cmp, refl, All, Contains, nat_cmp-IsAntisymmetric, filter, range_with_len, is_eq}
+use Rattle.analysis.proofs.Common.{cases_Bool, ltb-true, nat_cmp_total, sum_by-cons, sum_by-take-drop, sum_by-drop_more, Atom, bidder_cmp, count_of}
+use Rattle.analysis.proofs.Common.{bidder_cmp_equal, Contains-filter_parts, All-from_Contains, counted_is_there, PlainBidderChange, AreBidderChanges, bidder_at}
+use Rattle.analysis.proofs.Common.{is_excess, excess_bidders, lefts_of, rights_of, drop-length, ltb-false}
 use Rattle.analysis.proofs.Comparing.LawsLists.{Contains-filter_map, sum_by-map, there_is_counted, sum_of_same_counts}
-
-equal_from_test : (o : Ordering) → is_eq o ≡ true → o ≡ Equal
-equal_from_test Less e = absurd (cc)
-equal_from_test Equal e = refl
-equal_from_test Greater e = absurd (cc)
+use Rattle.analysis.proofs.Explaining.BestBids.{equal_from}
 
 -- ---- how often a bidder is in excess
 
@@ -39,12 +23,12 @@ module _ (bidders others : List (List (Atom (List ℕ)))) (bidder : List (Atom (
   here_cases index =
       ⊎_elim
       (λ (t : is_eq (bidder_cmp bidder (bidder_at bidders index)) ≡ true).
-      let same : bidder ≡ bidder_at bidders index = bidder_cmp_equal bidder (bidder_at bidders index) (equal_from_test _ t) in
+      let same : bidder ≡ bidder_at bidders index = bidder_cmp_equal bidder (bidder_at bidders index) (equal_from _ t) in
       inr (ap (λ b. cond {A = ℕ} b 1 0) t, λ list. ap (λ (b : List (Atom (List ℕ))). count_of bidder_cmp b list) same))
       (λ (t : is_eq (bidder_cmp bidder (bidder_at bidders index)) ≡ false). inl (ap (λ b. cond {A = ℕ} b 1 0) t))
       (cases_Bool (is_eq (bidder_cmp bidder (bidder_at bidders index))))
 
-  -- from the places behind an index to those from it on
+  -- from the indices behind an index to those from it on
   excess_here : (index : ℕ) (behind : List ℕ) → times (drop index bidders) ≡ is_here index + times (drop (index + 1) bidders)
       → times (map (bidder_at bidders) behind) ≡ times (drop (index + 1) bidders) - times others → (excess : Bool)
       → is_excess bidders others index ≡ excess

@@ -1,28 +1,12 @@
 -- The partners of left bidders: what is taken waits no more, and the candidate on the rarest bundle is the partner.
-use Rattle.std.proofs.Common.{◌≡◌, ◌≢◌, ◌<◌, ◌≤◌, ◌==◌, ℕ, Bool, true, false, not, ◌&&◌, cond, List, [], ◌∷◌, length, set, Option}
-use Rattle.std.proofs.Common.{Some, None, slice_get, refl, sym, ap, ap₂, ◌∙◌, subst, arith, ⊎_elim}
-use Rattle.std.specs.Prelude.{MatchOption, Vec, filter, is_some}
-use Rattle.std.specs.Borrow.{Bor}
-use Rattle.std.specs.BTreeMap.{BTreeMap, UpdatesBy}
-use Rattle.std.specs.Cmp.Lexicographic.{slice_cmp}
-use Rattle.std.specs.Global.{Global}
-use Rattle.std.specs.Ordering.{is_eq, nat_cmp}
-use Rattle.std.proofs.lemmas.Bool.{and_right, cases_Bool, cases_eq, eq-eqb, ne_eqb}
-use Rattle.std.proofs.Math.Bool.{and_comm}
-use Rattle.std.proofs.lemmas.Grind.{get_or-set_at}
-use Rattle.std.proofs.lemmas.List.{get_or-set_other, get_or_past}
-use Rattle.valuation.specs.declared.atom.Atom.{Atom}
-use Rattle.goods_set.specs.Orders.{bundle_cmp}
-use Rattle.goods_set.specs.Lemmas.Orders.{bundle_cmp_equal}
-use Rattle.analysis.proofs.Comparing.BidsOnBundles.{equal_from_test}
+use Rattle.analysis.proofs.Common.{rules, ◌≡◌, ◌<◌, ◌≤◌, ◌==◌, ℕ, Bool, true, false, not, ◌&&◌, cond, List, [], ◌∷◌, length, set, Option, Some, None, slice_get}
+use Rattle.analysis.proofs.Common.{refl, sym, ap, ap₂, ◌∙◌, subst, ⊎_elim, MatchOption, Vec, filter, Bor, BTreeMap, UpdatesBy, slice_cmp, Global, is_eq}
+use Rattle.analysis.proofs.Common.{nat_cmp, cases_Bool, eq-eqb, ne_eqb, get_or-set_other, get_or_past, Atom, bundle_cmp, bundle_cmp_equal, bidders_on}
+use Rattle.analysis.proofs.Common.{Candidate, Holders, ArePassed, holders_at, indices_in, waits_at, ArePartners, IsCandidate, and_right, and_comm}
+use Rattle.analysis.proofs.Common.{get_or-set_at, Partners}
+use Rattle.analysis.proofs.Explaining.BestBids.{equal_from}
 use Rattle.analysis.proofs.Comparing.HoldersFound.{key_cmp, updated}
-use Rattle.canon.specs.PriceChanges.{price_on}
-use Rattle.analysis.specs.BidderChanges.{bidder_at, bidders_on}
-use Rattle.analysis.specs.declared.differences.partners.Partners.{Partners}
-use Rattle.analysis.specs.declared.differences.holders.Candidate.{Candidate}
-use Rattle.analysis.specs.declared.differences.holders.Holders.{Holders}
-use Rattle.analysis.specs.Internal.Holders.{ArePassed, found_at, holders_at, indices_in, waits_at}
-use Rattle.analysis.specs.Internal.Partners.{ArePartners, IsCandidate}
+use Rattle.analysis.specs.Internal.Holders.{found_at}
 
 -- ---- one that waits no more
 
@@ -61,18 +45,10 @@ one_waits_less right waiting old new index e f same are = record {
 
 pub set_waits : (waits : List Bool) (index : ℕ) → index < length waits → (i : ℕ)
     → waits_at (set waits index false) i ≡ (not (i == index) && waits_at waits i)
-set_waits waits index l i =
-    ⊎_elim
-    (λ (e : i ≡ index). get_or-set_at waits index i false false e l ∙ sym (ap (λ b. not b && waits_at waits i) (eq-eqb i index e)))
-    (λ (n : i ≢ index). get_or-set_other waits index i false false n ∙ sym (ap (λ b. not b && waits_at waits i) (ne_eqb i index n)))
-    (cases_eq i index)
+set_waits waits index l i = search (rules, get_or-set_at, eq-eqb, get_or-set_other, ne_eqb)
 
 pub unset_waits : (waits : List Bool) (index : ℕ) → length waits ≤ index → (i : ℕ) → waits_at waits i ≡ (not (i == index) && waits_at waits i)
-unset_waits waits index l i =
-    ⊎_elim
-    (λ (e : i ≡ index). get_or_past waits i false (omega (arith, l, e)) ∙ sym (ap (λ b. not b && waits_at waits i) (eq-eqb i index e)))
-    (λ (n : i ≢ index). sym (ap (λ b. not b && waits_at waits i) (ne_eqb i index n)))
-    (cases_eq i index)
+unset_waits waits index l i = search (rules, get_or_past, eq-eqb, ne_eqb)
 
 -- ---- the first that waits of those that have a bid on a bundle
 
@@ -82,10 +58,7 @@ swapped p q xs = sym (both_tests p q xs) ∙ all_tested (λ x. p x && q x) (λ x
 module _ (right : List (List (Atom (List ℕ)))) (waiting : List ℕ) (partners : Partners) (are : ArePartners right waiting partners) where
   -- they are those that wait of all that have one
   pub waiting_on : (bundle : List ℕ) → bidders_on right waiting bundle ≡ filter (waits_at partners.waits.items) (holders_at partners.holders bundle)
-  waiting_on bundle =
-      ap (λ (is : List ℕ). bidders_on right is bundle) (sym are.wait)
-      ∙ swapped (λ i. is_some (price_on (bidder_at right i) bundle)) (waits_at partners.waits.items) partners.excess.items
-      ∙ ap (filter (waits_at partners.waits.items)) (sym (are.holders bundle))
+  waiting_on bundle = search (rules, swapped)
 
   pub none_found : (bundle : List ℕ) → None ≡ found_at partners.holders bundle → bidders_on right waiting bundle ≡ []
   none_found bundle e = waiting_on bundle ∙ ap (λ (o : Option Holders). filter (waits_at partners.waits.items) (indices_in o)) (sym e)
@@ -131,4 +104,4 @@ module _ (right : List (List (Atom (List ℕ)))) (waiting : List ℕ) (partners 
   }
     where
       same_goods : (bundle : List ℕ) → is_eq (bundle_cmp goods bundle) ≡ true → goods ≡ bundle
-      same_goods bundle y = bundle_cmp_equal goods bundle (equal_from_test _ y)
+      same_goods bundle y = bundle_cmp_equal goods bundle (equal_from _ y)

@@ -1,25 +1,12 @@
 -- The rarest bundle of a left bidder on which a right bidder waits: it is found bundle by bundle, and the partner is there. The idea:
 -- of the bundles in order of rarity it is the first on which one waits.
-use Rattle.std.proofs.Common.{◌≡◌, ◌≢◌, ◌<◌, ◌≤◌, ℕ, false, List, [], ◌∷◌, ◌++◌, length, map, Option, Some, None}
-use Rattle.std.proofs.Common.{Ordering, Less, Equal, Greater, nat_cmp, slice_get, refl, sym, ap, ap₂, ◌∙◌, subst, arith, ⊎_elim}
-use Rattle.std.specs.Prelude.{All, Contains, MatchOption, if◌then◌else◌}
-use Rattle.std.specs.Cmp.{IsTotalOrder}
-use Rattle.std.specs.List.{flat_map}
-use Rattle.std.specs.Ordering.{is_gt, ordering_then, ordering_reverse}
-use Rattle.std.proofs.lemmas.Bool.{both_ways, cases_lt, lt-ltb, le-ltb}
-use Rattle.std.proofs.lemmas.Cmp.{nat_cmp_total, on_total, then_total}
-use Rattle.std.proofs.lemmas.List.Elements.{All-contains, All-from_recursion, All-head, All-push, All-tail, All-weaker, Contains-append_left, Contains-push}
-use Rattle.std.proofs.lemmas.List.Sorted.{Contains-permutation}
-use Rattle.goods_set.specs.Orders.{bundle_cmp}
-use Rattle.goods_set.specs.Lemmas.Orders.{bundle_cmp_equal, bundle_cmp_refl, bundle_cmp_total, nat_cmp-gt, nat_cmp-lt, nat_cmp-refl}
-use Rattle.valuation.specs.declared.atom.Atom.{Atom}
-use Rattle.valuation.specs.Lemmas.Lists.{Contains-cons_cases}
-use Rattle.valuation.specs.Lemmas.Sorting.{All-sort_by, IsOrdered, ordered-sort_by, permutation-sort_by}
-use Rattle.valuation.specs.Sorting.{sort_by}
-use Rattle.prune.specs.Lemmas.Lists.{Contains-nil}
-use Rattle.analysis.specs.BidderChanges.{bidders_on, partner_of, rarer}
-use Rattle.analysis.specs.declared.differences.holders.Candidate.{Candidate}
-use Rattle.analysis.specs.Internal.Partners.{IsCandidate, IsRarest, IsRarestIfAny, rarer_candidate}
+use Rattle.analysis.proofs.Common.{rules, ◌≡◌, ◌≢◌, ◌<◌, ◌≤◌, ℕ, false, List, [], ◌∷◌, ◌++◌, length, map, Option, Some, None, Ordering, Less, Equal, Greater}
+use Rattle.analysis.proofs.Common.{slice_get, refl, sym, ap, ap₂, ◌∙◌, subst, arith, ⊎_elim, All, Contains, MatchOption, if◌then◌else◌, IsTotalOrder, flat_map}
+use Rattle.analysis.proofs.Common.{is_gt, ordering_then, ordering_reverse, cases_lt, lt-ltb, le-ltb, nat_cmp_total, on_total, then_total, All-contains}
+use Rattle.analysis.proofs.Common.{All-from_recursion, All-head, All-push, All-tail, All-weaker, Contains-append_left, Contains-permutation, bundle_cmp}
+use Rattle.analysis.proofs.Common.{bundle_cmp_equal, bundle_cmp_refl, bundle_cmp_total, nat_cmp-lt, nat_cmp-refl, Atom, Contains-cons_cases, All-sort_by}
+use Rattle.analysis.proofs.Common.{IsOrdered, permutation-sort_by, sort_by, Contains-nil, bidders_on, partner_of, rarer, Candidate, IsCandidate, IsRarestIfAny}
+use Rattle.analysis.proofs.Common.{rarer_candidate, Contains-push, nat_cmp-gt, ordered-sort_by, IsRarest}
 
 module _ (right : List (List (Atom (List ℕ)))) (excess : List ℕ) where
   abbrev count : List ℕ → ℕ
@@ -29,32 +16,16 @@ module _ (right : List (List (Atom (List ℕ)))) (excess : List ℕ) where
   rarer_total = then_total (on_total count nat_cmp_total) bundle_cmp_total
 
   rarer_equal : (one other : List ℕ) → rarer right excess one other ≡ Equal → one ≡ other
-  rarer_equal one other e = bundle_cmp_equal one other (second (nat_cmp (count one) (count other)) e)
-    where
-      second : (o : Ordering) → ordering_then o (bundle_cmp one other) ≡ Equal → bundle_cmp one other ≡ Equal
-      second Less f = absurd (cc)
-      second Equal f = f
-      second Greater f = absurd (cc)
+  rarer_equal one other e = search (rules, bundle_cmp_equal)
 
   fewer_is_rarer : (one other : List ℕ) → count one < count other → is_gt (rarer right excess one other) ≡ false
   fewer_is_rarer one other l = ap (λ o. is_gt (ordering_then o (bundle_cmp one other))) (nat_cmp-lt (count one) (count other) l)
 
   first_is_rarer : (one other : List ℕ) → count one ≤ count other → is_gt (bundle_cmp one other) ≡ false → is_gt (rarer right excess one other) ≡ false
-  first_is_rarer one other l f =
-      ⊎_elim (λ (m : count one < count other). fewer_is_rarer one other m)
-      (λ (m : count other ≤ count one).
-      let same : count one ≡ count other = omega (arith, l, m) in
-      ap (λ n. is_gt (ordering_then (nat_cmp n (count other)) (bundle_cmp one other))) same
-      ∙ ap (λ o. is_gt (ordering_then o (bundle_cmp one other))) (nat_cmp-refl (count other)) ∙ f)
-      (cases_lt (count one) (count other))
+  first_is_rarer one other l f = search (rules, fewer_is_rarer, nat_cmp-refl)
 
   not_more : (one other : List ℕ) → is_gt (rarer right excess one other) ≡ false → count one ≤ count other
-  not_more one other e =
-      ⊎_elim (λ (m : count other < count one).
-      absurd (both_ways (is_gt (rarer right excess one other)) e
-      (ap (λ o. is_gt (ordering_then o (bundle_cmp one other))) (nat_cmp-gt (count one) (count other) m))))
-      (λ (m : count one ≤ count other). m)
-      (cases_lt (count other) (count one))
+  not_more one other e = search (rules, nat_cmp-gt)
 
   module _ (waiting : List ℕ) where
     -- no bundle on which one waits is rarer
@@ -160,9 +131,7 @@ module _ (right : List (List (Atom (List ℕ)))) (excess : List ℕ) where
       bundles = map (λ a. a.bundle) bidder
 
       pub no_partner : All (λ b. bidders_on right waiting b ≡ []) bundles → partner_of right excess waiting bidder ≡ None
-      no_partner none =
-          ap (λ (xs : List ℕ). slice_get xs 0)
-          (none_waits (sort_by (rarer right excess) bundles) (All-sort_by (rarer right excess) (λ b. bidders_on right waiting b ≡ []) bundles none))
+      no_partner none = search (rules, none_waits, All-sort_by)
 
       pub rarest_is_partner : (c : Candidate) → IsRarest right excess waiting bundles c → partner_of right excess waiting bidder ≡ Some c.index
       rarest_is_partner c r =

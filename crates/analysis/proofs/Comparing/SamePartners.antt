@@ -1,24 +1,14 @@
 -- With the same partners there is one list of changes. The idea: the left bidders and their partners are given, and so is which
 -- right bidders are alone, in which order; and a change is determined by its bidders.
-use Rattle.std.proofs.Common.{◌≡◌, ℕ, ◌+◌, ◌<◌, true, List, [], ◌∷◌, ◌++◌, map, get_or, refl, sym, ap, ap₂, ◌∙◌, subst, arith, Option, Some, None}
-use Rattle.std.specs.Prelude.{All, AllPairs, is_some, ◌||◌}
-use Rattle.std.specs.FinMap.{nat_cmp-IsAntisymmetric}
-use Rattle.std.specs.List.{cons_option, filter_map}
-use Rattle.std.specs.Option.{is_none}
-use Rattle.std.specs.Ordering.{nat_cmp}
-use Rattle.std.proofs.lemmas.Cmp.{nat_cmp_total}
-use Rattle.std.proofs.lemmas.List.{append-nil}
-use Rattle.std.proofs.lemmas.List.Elements.{All-filter, All-head, All-tail, filter_passes}
-use Rattle.goods_set.specs.Bundles.{IsRising}
-use Rattle.valuation.specs.declared.atom.Atom.{Atom}
-use Rattle.valuation.specs.Lemmas.Lists.{AllPairs-cons, AllPairs-nil}
-use Rattle.valuation.specs.Sorting.{count_of}
-use Rattle.canon.specs.Lemmas.Finding.{counted_is_there}
-use Rattle.analysis.specs.BidderChanges.{PlainBidderChange, IsBidderChange, AreBidderChanges, bids_at, lefts_of, rights_of, right_alone, with_left}
-use Rattle.canon.specs.PriceChanges.{PlainChange, ArePriceChanges}
+use Rattle.analysis.proofs.Common.{rules, ◌≡◌, ℕ, ◌+◌, ◌<◌, true, List, [], ◌∷◌, ◌++◌, map, get_or, refl, sym, ap, ap₂, ◌∙◌, subst, arith, Option, Some, None}
+use Rattle.analysis.proofs.Common.{All, AllPairs, is_some, ◌||◌, nat_cmp-IsAntisymmetric, cons_option, filter_map, is_none, nat_cmp, nat_cmp_total, append-nil}
+use Rattle.analysis.proofs.Common.{All-filter, All-head, All-tail, IsRising, Atom, AllPairs-cons, AllPairs-nil, count_of, counted_is_there, PlainBidderChange}
+use Rattle.analysis.proofs.Common.{IsBidderChange, AreBidderChanges, bids_at, lefts_of, rights_of, with_left, PlainChange, ArePriceChanges, filter_passes}
+use Rattle.analysis.specs.BidderChanges.{right_alone}
 use Rattle.analysis.proofs.Comparing.Changes.{count-append, lefts-append, no_lefts_alone, rights-append}
 use Rattle.analysis.proofs.Comparing.ExchangedChanges.{one_list_of_changes}
 use Rattle.analysis.proofs.Comparing.LawsLists.{above_all, same_in_strict_order, there_is_counted}
+use Rattle.analysis.proofs.Explaining.KeptBidsBest.{none_is}
 
 -- ---- lists
 
@@ -34,10 +24,6 @@ map_of_some h (c ∷ xs) all =
         → o ∷ map h xs ≡ map (λ i. Some i) (cons_option o (filter_map h xs))
     at (Some i) e same = ap (λ (os : List (Option ℕ)). Some i ∷ os) same
     at None e same = absurd (cc)
-
-none_from_test : (o : Option ℕ) → is_none o ≡ true → o ≡ None
-none_from_test None e = refl
-none_from_test (Some i) e = absurd (cc)
 
 map_of_none : (xs : List PlainBidderChange) → All (λ c. c.left ≡ None) xs → map (λ c. c.left) xs ≡ map (λ (o : Option ℕ). None) (map (λ c. c.right) xs)
 map_of_none [] all = refl
@@ -94,7 +80,7 @@ module _ (left right : List (List (Atom (List ℕ)))) where
 
   module _ (changes : List PlainBidderChange) (are : AreBidderChanges left right changes) where
     none_left : All (λ c. c.left ≡ None) (right_alone changes)
-    none_left k d l = none_from_test (get_or (right_alone changes) k d).left (filter_passes (λ c. is_none c.left) changes k d l)
+    none_left k d l = none_is (get_or (right_alone changes) k d).left (filter_passes (λ c. is_none c.left) changes k d l)
 
     each_alone : All (IsBidderChange left right) (right_alone changes)
     each_alone = All-filter (λ c. is_none c.left) (IsBidderChange left right) changes are.each
@@ -103,11 +89,7 @@ module _ (left right : List (List (Atom (List ℕ)))) where
     each_with_left = All-filter (λ c. is_some c.left) (IsBidderChange left right) changes are.each
 
     lefts_of_first : map (λ c. c.left) (with_left changes) ≡ map (λ i. Some i) (lefts_of changes)
-    lefts_of_first =
-        map_of_some (λ c. c.left) (with_left changes) (filter_passes (λ c. is_some c.left) changes)
-        ∙ ap (map (λ i. Some i)) (sym (ap lefts_of are.alone_last ∙ lefts-append (with_left changes) (right_alone changes)
-        ∙ ap (λ (is : List ℕ). lefts_of (with_left changes) ++ is) (no_lefts_alone (right_alone changes) none_left)
-        ∙ append-nil (lefts_of (with_left changes))))
+    lefts_of_first = search (rules, map_of_some, filter_passes, lefts-append, no_lefts_alone, none_left, append-nil)
 
     rights_of_last : map (λ c. c.right) (right_alone changes) ≡ map (λ i. Some i) (rights_of (right_alone changes))
     rights_of_last =

@@ -1,24 +1,9 @@
 -- The bidders that wait for a partner: each is there or is taken, and what is taken is the only one that is gone.
-use Rattle.std.proofs.Common.{◌≡◌, ◌==◌, ℕ, ◌+◌, ◌<◌, ◌≤◌, Bool, true, not, cond, ⊎_elim, List, [], ◌∷◌, ◌++◌, map, slice_get, refl, sym, ap, ◌∙◌, subst, arith}
-use Rattle.std.proofs.Common.{Option, Some}
-use Rattle.std.proofs.Common.{None}
-use Rattle.std.specs.Prelude.{All, Contains, IfSome, is_some}
-use Rattle.std.specs.FinMap.{nat_cmp-IsAntisymmetric}
-use Rattle.std.specs.List.{filter, flat_map}
-use Rattle.std.specs.Ordering.{nat_cmp, is_eq}
-use Rattle.std.proofs.lemmas.Cmp.{nat_cmp_total}
-use Rattle.std.proofs.lemmas.Bool.{eq-eqb, ne_eqb}
-use Rattle.std.proofs.lemmas.List.Elements.{All-cons, All-contains, All-nil}
-use Rattle.std.proofs.lemmas.List.Sums.{sum_by-append, sum_by-cons}
-use Rattle.goods_set.specs.Bundles.{AreAbove, IsRising}
-use Rattle.valuation.specs.declared.atom.Atom.{Atom}
-use Rattle.valuation.specs.Lemmas.Lists.{Contains-cons_cases}
-use Rattle.valuation.specs.Sorting.{count_of, sort_by}
-use Rattle.prune.specs.Lemmas.Lists.{All-from_Contains, Contains-filter_parts, Contains-head, Contains-nil}
-use Rattle.canon.specs.Lemmas.Finding.{counted_is_there}
-use Rattle.analysis.specs.BidderChanges.{bidder_at, partner_of, partners_of, rarer, waiting_after, without_partner}
-use Rattle.canon.specs.PriceChanges.{price_on}
-use Rattle.analysis.specs.Internal.Partners.{TakesPartner}
+use Rattle.analysis.proofs.Common.{common_steps, ◌≡◌, ◌==◌, ℕ, ◌+◌, ◌<◌, ◌≤◌, Bool, true, not, cond, ⊎_elim, List, [], ◌∷◌, ◌++◌, map, slice_get, refl, sym, ap}
+use Rattle.analysis.proofs.Common.{◌∙◌, subst, arith, Option, Some, None, All, Contains, IfSome, is_some, nat_cmp-IsAntisymmetric, filter, flat_map, nat_cmp}
+use Rattle.analysis.proofs.Common.{is_eq, nat_cmp_total, eq-eqb, ne_eqb, All-cons, All-contains, All-nil, sum_by-append, sum_by-cons, AreAbove, IsRising, Atom}
+use Rattle.analysis.proofs.Common.{Contains-cons_cases, count_of, sort_by, All-from_Contains, Contains-filter_parts, Contains-head, Contains-nil}
+use Rattle.analysis.proofs.Common.{counted_is_there, bidder_at, partner_of, partners_of, rarer, waiting_after, without_partner, price_on, TakesPartner}
 use Rattle.analysis.proofs.Comparing.LawsLists.{above_all, all_pass, there_is_counted}
 
 -- whether the index is this one
@@ -31,14 +16,7 @@ count-cons i index xs = sum_by-cons (λ y. cond {A = ℕ} (is_eq (nat_cmp i y)) 
 -- the only one that is gone
 pub taken_counted : (before after : List ℕ) (index : ℕ) → TakesPartner before after (Some index) → (i : ℕ)
     → count_of nat_cmp i before ≡ count_of nat_cmp i (index ∷ after)
-taken_counted before after index h i =
-    let a = ap (count_of nat_cmp i) h.2 in
-    let b = sum_by-append (one_if i) h.0 (index ∷ h.1) in
-    let c = count-cons i index h.1 in
-    let d = ap (count_of nat_cmp i) h.3 in
-    let e = sum_by-append (one_if i) h.0 h.1 in
-    let f = count-cons i index after in
-    omega arith
+taken_counted before after index h i = grind (arith, common_steps, sum_by-append, count-cons)
 
 -- ---- the partner is one that waits
 
@@ -134,12 +112,6 @@ All-counted P xs ys less h =
     let some = there_is_counted nat_cmp nat_cmp_total y ys c in
     let most = less y in
     All-contains P xs y h (counted_is_there nat_cmp nat_cmp_total nat_cmp-IsAntisymmetric y xs (omega arith)))
-
--- those that still wait, and the one that is taken
-pub still_wait : (P : ℕ → Type 0) (before after : List ℕ) (taken : Option ℕ) → TakesPartner before after taken → All P before → All P after
-still_wait P before after None h all = subst (All P) (sym h) all
-still_wait P before after (Some index) h all = All-counted P before after (λ i. let a = taken_counted before after index h i in
-    let b = count-cons i index after in omega arith) all
 
 pub taken_has : (P : ℕ → Type 0) (before after : List ℕ) (taken : Option ℕ) → TakesPartner before after taken → All P before → IfSome taken P
 taken_has P before after None h all = tt

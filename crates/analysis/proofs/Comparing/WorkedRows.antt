@@ -1,12 +1,6 @@
 -- Changes of worked rows: those that the walk of two lists gives are computed.
-use Rattle.std.proofs.Common.{ℕ, List, [], ◌∷◌, Some, None}
-use Rattle.std.proofs.lemmas.List.Elements.{All-nil}
-use Rattle.valuation.specs.declared.atom.Atom.{Atom}
-use Rattle.valuation.specs.Lemmas.Lists.{AllPairs-cons, AllPairs-nil}
-use Rattle.prune.specs.InOrder.{IsBefore, IsInOrder}
-use Rattle.canon.specs.PriceChanges.{ArePriceChanges}
-use Rattle.canon.proofs.Walks.PriceWalks.{are_all}
-use Rattle.analysis.specs.Examples.{atom, change}
+use Rattle.analysis.proofs.Common.{ℕ, List, [], ◌∷◌, Some, None, All-nil, Atom, AllPairs-cons, AllPairs-nil, IsBefore, IsInOrder, ArePriceChanges, atom, change}
+use Rattle.analysis.proofs.Common.{are_all}
 
 none : IsInOrder []
 none = AllPairs-nil IsBefore

@@ -1,26 +1,14 @@
 -- In a list of all bids in order, the first bid that does not come before a bidder and a bundle is the best of that bidder's bids
 -- on that bundle, if there are any: each of them is there or after it.
-use Rattle.std.proofs.Common.{◌≡◌, ℕ, zero, suc, ◌+◌, ◌<◌, ◌≤◌, true, false, ◌&&◌, ltb, eqb, ⊎_elim, List, [], ◌∷◌, length, get_or, refl, sym, ap, ap₂, ◌∙◌}
-use Rattle.std.proofs.Common.{subst, arith}
-use Rattle.std.proofs.Common.{Ordering, Less, Equal, Greater, is_lt, nat_cmp}
-use Rattle.std.specs.Prelude.{Contains}
-use Rattle.std.specs.Cmp.{IsTotalOrder}
-use Rattle.std.specs.List.Sorted.{IsSortedBy, IsPartitionedBy, IsPartitionPoint}
-use Rattle.std.specs.Ordering.{is_eq, ordering_then, ordering_index, ordering_reverse}
-use Rattle.std.specs.FinMap.{nat_cmp-IsAntisymmetric}
-use Rattle.std.proofs.lemmas.Bool.{and_parts, and_from, cases_lt, both_ways, false_from_ne_true, eqb-true, eq-eqb, ltb-true, or_cases, not_from_false}
-use Rattle.std.proofs.lemmas.Cmp.{on_total, then_total, back_total, nat_cmp_total}
-use Rattle.std.proofs.lemmas.List.{get_or_default}
-use Rattle.std.proofs.lemmas.List.Folds.{list_any_none}
-use Rattle.std.proofs.lemmas.List.FromFn.{length-range_with_len, get_or-range_with_len}
-use Rattle.std.proofs.lemmas.List.Sorted.{length_permutation, sorted_far, ranks_by, searchable_from_sorted, Contains-permutation, IsPermutation-sym}
-use Rattle.goods_set.specs.Orders.{bundle_cmp}
-use Rattle.goods_set.specs.Lemmas.Orders.{bundle_cmp_total, bundle_cmp_equal, bundle_cmp_refl, nat_cmp-lt, nat_cmp-refl}
-use Rattle.bid_file.specs.Files.{PlainBid, PlainFile}
-use Rattle.bid_file.specs.Views.{seen_bid}
-use Rattle.analysis.specs.declared.reasons.best.NumberedBid.{NumberedBid}
-use Rattle.analysis.specs.Bids.{bid_at, bidder_of, are_alike, is_better, numbers_of, IsBestFor}
-use Rattle.analysis.specs.BidOrders.{key_cmp, numbered_cmp, AreInOrder}
+use Rattle.analysis.proofs.Common.{rules, ◌≡◌, ℕ, zero, suc, ◌<◌, ◌≤◌, true, false, ◌&&◌, ltb, eqb, ⊎_elim, List, [], ◌∷◌, length, get_or, refl, sym, ap, ap₂}
+use Rattle.analysis.proofs.Common.{◌∙◌, subst, arith, Ordering, Less, Equal, Greater, is_lt, nat_cmp, Contains, IsTotalOrder, is_eq, ordering_then}
+use Rattle.analysis.proofs.Common.{ordering_reverse, and_parts, and_from, cases_lt, both_ways, false_from_ne_true, eqb-true, eq-eqb, ltb-true, or_cases}
+use Rattle.analysis.proofs.Common.{not_from_false, on_total, then_total, nat_cmp_total, get_or_default, list_any_none, length-range_with_len}
+use Rattle.analysis.proofs.Common.{get_or-range_with_len, sorted_far, ranks_by, Contains-permutation, IsPermutation-sym, bundle_cmp, bundle_cmp_total}
+use Rattle.analysis.proofs.Common.{bundle_cmp_equal, bundle_cmp_refl, nat_cmp-lt, nat_cmp-refl, PlainBid, PlainFile, seen_bid, NumberedBid, bid_at, bidder_of}
+use Rattle.analysis.proofs.Common.{are_alike, is_better, numbers_of, IsBestFor, numbered_cmp, AreInOrder, IsSortedBy, IsPartitionedBy, IsPartitionPoint}
+use Rattle.analysis.proofs.Common.{ordering_index, back_total, length_permutation, searchable_from_sorted}
+use Rattle.analysis.specs.BidOrders.{key_cmp}
 
 -- ---- lists
 
@@ -73,14 +61,10 @@ pub record HaveOneKey (a b : PlainBid) : Type 0 where
   pub goods : a.goods ≡ b.goods
 
 pub one_key : (a b : PlainBid) → are_alike a b ≡ true → HaveOneKey a b
-one_key a b e =
-    let parts = and_parts (eqb (bidder_of a.dummy) (bidder_of b.dummy)) (is_eq (bundle_cmp a.goods b.goods)) e in
-    record { bidder = eqb-true _ _ parts.0; goods = bundle_cmp_equal a.goods b.goods (equal_from (bundle_cmp a.goods b.goods) parts.1) }
+one_key a b e = search (rules, and_parts, eqb-true, bundle_cmp_equal, equal_from)
 
 pub alike_from : (a b : PlainBid) → HaveOneKey a b → are_alike a b ≡ true
-alike_from a b h =
-    and_from (eqb (bidder_of a.dummy) (bidder_of b.dummy)) (is_eq (bundle_cmp a.goods b.goods)) (eq-eqb _ _ h.bidder)
-    (ap is_eq (ap (λ (xs : List ℕ). bundle_cmp xs b.goods) h.goods ∙ bundle_cmp_refl b.goods))
+alike_from a b h = search (rules, and_from, eq-eqb, bundle_cmp_refl)
 
 pub key_same : (a b c : PlainBid) → HaveOneKey a b → key_cmp a c ≡ key_cmp b c
 key_same a b c h = ap₂ (λ (m : ℕ) (xs : List ℕ). ordering_then (nat_cmp m (bidder_of c.dummy)) (bundle_cmp xs c.goods)) h.bidder h.goods
@@ -90,31 +74,13 @@ key_equal a b h = key_same a b b h
     ∙ ap₂ ordering_then (nat_cmp-refl (bidder_of b.dummy)) (bundle_cmp_refl b.goods)
 
 pub from_equal : (a b : PlainBid) → key_cmp a b ≡ Equal → HaveOneKey a b
-from_equal a b e = record {
-  bidder = number_same (bidder_of a.dummy) (bidder_of b.dummy) (first (nat_cmp (bidder_of a.dummy) (bidder_of b.dummy)) (bundle_cmp a.goods b.goods) e);
-  goods = bundle_cmp_equal a.goods b.goods (second (nat_cmp (bidder_of a.dummy) (bidder_of b.dummy)) (bundle_cmp a.goods b.goods) e);
-}
-  where
-    first : (o p : Ordering) → ordering_then o p ≡ Equal → o ≡ Equal
-    first Less p e = absurd (cc)
-    first Equal p e = refl
-    first Greater p e = absurd (cc)
-
-    second : (o p : Ordering) → ordering_then o p ≡ Equal → p ≡ Equal
-    second Less p e = absurd (cc)
-    second Equal p e = e
-    second Greater p e = absurd (cc)
-
-    number_same : (m n : ℕ) → nat_cmp m n ≡ Equal → m ≡ n
-    number_same m n e = nat_cmp-IsAntisymmetric m n e
+from_equal a b e = search (rules, bundle_cmp_equal)
 
 -- ---- the first that does not come before a key
 
 module _ (f : PlainFile) (bids : List NumberedBid) (order : AreInOrder f bids) (target : PlainBid) where
   by_key : IsSortedBy (λ (a b : NumberedBid). is_lt (key_cmp (seen_bid a.bid) (seen_bid b.bid))) bids
-  by_key k d l m = key_first (key_cmp (seen_bid (get_or bids (k + 1) d).bid) (seen_bid (get_or bids k d).bid))
-      (nat_cmp (get_or bids k d).bid.price (get_or bids (k + 1) d).bid.price) (nat_cmp (get_or bids (k + 1) d).number (get_or bids k d).number)
-      (order.sorted k d l m)
+  by_key k d l m = search (rules, key_first)
 
   pub partitioned : IsPartitionedBy (λ (n : NumberedBid). is_lt (key_cmp (seen_bid n.bid) target)) bids
   partitioned i j d l m h =
@@ -148,12 +114,12 @@ module _ (f : PlainFile) (bids : List NumberedBid) (order : AreInOrder f bids) (
         ap (λ (m : NumberedBid). seen_bid m.bid) (sym d.2) ∙ each.1 ∙ ap (bid_at f) (sym number),
       )
 
-  module _ (place : ℕ)
+  module _ (index : ℕ)
       (point : IsPartitionPoint (λ (n : NumberedBid). is_lt (key_cmp (seen_bid n.bid) target) ≡ true)
-      (λ (n : NumberedBid). is_lt (key_cmp (seen_bid n.bid) target) ≡ false) bids place) where
-    -- a bid with the key is at the place or behind it
+      (λ (n : NumberedBid). is_lt (key_cmp (seen_bid n.bid) target) ≡ false) bids index) where
+    -- a bid with the key is at the index or behind it
     behind : (k : ℕ) → k < length f.bids → HaveOneKey (bid_at f k) target
-        → (n : NumberedBid) × (n.number ≡ k) × (seen_bid n.bid ≡ bid_at f k) × (q : ℕ) × (place ≤ q) × (q < length bids) × (get_or bids q n ≡ n)
+        → (n : NumberedBid) × (n.number ≡ k) × (seen_bid n.bid ≡ bid_at f k) × (q : ℕ) × (index ≤ q) × (q < length bids) × (get_or bids q n ≡ n)
     behind k l h =
         let r = at_number k l in
         let c = r.1 in
@@ -164,23 +130,23 @@ module _ (f : PlainFile) (bids : List NumberedBid) (order : AreInOrder f bids) (
           r.3,
           c.0,
           ⊎_elim
-              (λ (m : c.0 < place). absurd (both_ways (is_lt (key_cmp (seen_bid r.0.bid) target)) not_less
+              (λ (m : c.0 < index). absurd (both_ways (is_lt (key_cmp (seen_bid r.0.bid) target)) not_less
               (subst (λ (n : NumberedBid). is_lt (key_cmp (seen_bid n.bid) target) ≡ true) c.2 (point.0 c.0 r.0 (omega arith) m))))
-              (λ (m : place ≤ c.0). m) (cases_lt c.0 place),
+              (λ (m : index ≤ c.0). m) (cases_lt c.0 index),
           c.1,
           c.2,
         )
 
-    module _ (x : NumberedBid) (is : (d : NumberedBid) → get_or bids place d ≡ x) (there : place < length bids) where
+    module _ (x : NumberedBid) (is : (d : NumberedBid) → get_or bids index d ≡ x) (there : index < length bids) where
       -- no bid behind it comes before it
-      not_before : (n : NumberedBid) (q : ℕ) → place ≤ q → q < length bids → get_or bids q n ≡ n → is_lt (numbered_cmp n x) ≡ false
+      not_before : (n : NumberedBid) (q : ℕ) → index ≤ q → q < length bids → get_or bids q n ≡ n → is_lt (numbered_cmp n x) ≡ false
       not_before n q l m e =
           subst (λ (a : NumberedBid). is_lt (numbered_cmp a x) ≡ false) e
           (subst (λ (b : NumberedBid). is_lt (numbered_cmp (get_or bids q n) b) ≡ false) (is n)
-          (sorted_far (λ (a b : NumberedBid). is_lt (numbered_cmp a b)) (ranks_by numbered_cmp_total (λ (n : NumberedBid). n)) bids order.sorted place q n l m))
+          (sorted_far (λ (a b : NumberedBid). is_lt (numbered_cmp a b)) (ranks_by numbered_cmp_total (λ (n : NumberedBid). n)) bids order.sorted index q n l m))
 
       facts : (x.number < length f.bids) × (seen_bid x.bid ≡ bid_at f x.number)
-      facts = numbered x (place, there, is x)
+      facts = numbered x (index, there, is x)
 
       has_key : (k : ℕ) → k < length f.bids → HaveOneKey (bid_at f k) target → HaveOneKey (bid_at f x.number) target
       has_key k l h =
@@ -190,7 +156,7 @@ module _ (f : PlainFile) (bids : List NumberedBid) (order : AreInOrder f bids) (
           let one : is_lt (key_cmp target (seen_bid x.bid)) ≡ false = ap is_lt (sym (ap (λ (b : PlainBid). key_cmp b (seen_bid x.bid)) r.2
           ∙ key_same (bid_at f k) target (seen_bid x.bid) h)) ∙ first in
           let other : is_lt (key_cmp (seen_bid x.bid) target) ≡ false =
-          subst (λ (n : NumberedBid). is_lt (key_cmp (seen_bid n.bid) target) ≡ false) (is x) (point.1 place x (omega arith) there) in
+          subst (λ (n : NumberedBid). is_lt (key_cmp (seen_bid n.bid) target) ≡ false) (is x) (point.1 index x (omega arith) there) in
           subst (λ (b : PlainBid). HaveOneKey b target) facts.1
           (from_equal (seen_bid x.bid) target (both_not_less _ _ (key_cmp_total.antisymm (seen_bid x.bid) target) other one))
 
@@ -238,14 +204,14 @@ module _ (f : PlainFile) (bids : List NumberedBid) (order : AreInOrder f bids) (
           }
 
     -- there is one
-    pub has_place : (k : ℕ) → k < length f.bids → bid_at f k ≡ target → place < length bids
-    has_place k l at = let r = behind k l (has_own k at) in let m = r.4 in let n = r.5 in omega (arith, m, n)
+    pub has_index : (k : ℕ) → k < length f.bids → bid_at f k ≡ target → index < length bids
+    has_index k l at = let r = behind k l (has_own k at) in let m = r.4 in let n = r.5 in omega (arith, m, n)
 
-    -- the bid at the place is the best
-    pub first_is_best : (d : NumberedBid) (k : ℕ) → k < length f.bids → bid_at f k ≡ target → IsBestFor f k (get_or bids place d).number
+    -- the bid at the index is the best
+    pub first_is_best : (d : NumberedBid) (k : ℕ) → k < length f.bids → bid_at f k ≡ target → IsBestFor f k (get_or bids index d).number
     first_is_best d k l at =
-        let there = has_place k l at in
-        is_the_best (get_or bids place d) (λ e. get_or_default bids place e d there) there k l at
+        let there = has_index k l at in
+        is_the_best (get_or bids index d) (λ e. get_or_default bids index e d there) there k l at
 
 -- there are as many as in the file
 pub length_of : (f : PlainFile) (bids : List NumberedBid) → AreInOrder f bids → length bids ≡ length f.bids

@@ -1,44 +1,20 @@
 -- The bids of a file's canonical file. The idea: a point's price is the value of its bundle, which no bid there exceeds, so
 -- it is the price of a best bid; and the points of a bidder are on different bundles.
-use Rattle.std.proofs.Common.{◌≡◌, ℕ, ◌+◌, ◌<◌, ◌≤◌, not, eqb, ⊎_elim, List, [], ◌∷◌, ◌++◌, length, map, get_or}
-use Rattle.std.proofs.Common.{Option, Some, None, is_none, refl, sym, ap, ap₂, ◌∙◌, subst, arith}
-use Rattle.std.specs.Prelude.{All, Contains, slice_get}
-use Rattle.std.specs.List.{flat_map, range_with_len}
-use Rattle.std.specs.Option.{unwrap_or}
-use Rattle.std.proofs.Math.Seq.{get_or-append_seam}
-use Rattle.std.proofs.lemmas.Bool.{not_from_false, ne_eqb}
-use Rattle.std.proofs.lemmas.List.{map-append, length-append, append_assoc}
-use Rattle.std.proofs.lemmas.List.Concat.{flat_map-cons}
-use Rattle.std.proofs.lemmas.List.Elements.{All-contains, All-from_recursion, Contains-append_left, Contains-append_right, Contains-append_cases}
-use Rattle.std.proofs.lemmas.Option.{slice_get-get_or}
-use Rattle.goods_set.specs.Bundles.{IsBundle, all_bundles, IsInside}
-use Rattle.goods_set.specs.Lemmas.AllBundles.{all_bundles_has}
-use Rattle.goods_set.specs.Lemmas.Members.{inside_refl}
-use Rattle.bid_file.specs.Files.{PlainBid, PlainFile, IsBid, IsDummyBelow, IsPlainFile}
-use Rattle.valuation.specs.declared.atom.Atom.{Atom}
-use Rattle.valuation.specs.Auctions.{IsAtom, IsAuction, atom_of, auction_from, is_dummy, or_atoms_of, xor_atoms_of}
-use Rattle.valuation.specs.Tables.{xor_table}
-use Rattle.valuation.specs.Values.{or_value, xor_value}
-use Rattle.valuation.specs.Lemmas.AuctionsOfFiles.{IsAuction-auction_from, rising-from, below-from}
-use Rattle.valuation.specs.Lemmas.Lists.{AllPairs-map, Contains-map, Contains-unmap}
-use Rattle.valuation.specs.Lemmas.OrValues.{or_value-price}
-use Rattle.prune.specs.InOrder.{IsBefore, IsInOrder}
-use Rattle.prune.specs.Points.{or_points, is_or_point, is_xor_point}
-use Rattle.prune.specs.Lemmas.InOrder.{before_itself}
-use Rattle.prune.specs.Lemmas.KeptBids.{on_bundles, just_bundles, or_points_are_atoms, xor_points_are_atoms}
-use Rattle.prune.specs.Lemmas.Lists.{list_any_has}
-use Rattle.prune.specs.Lemmas.OnBundles.{IsOnBundle}
-use Rattle.prune.specs.Lemmas.Points.{or_points_are, xor_points_are, points_where-in_order}
-use Rattle.prune.specs.Lemmas.Values.{xor_value-member}
-use Rattle.canon.specs.Canonical.{bid_from, canonical_auction, dummy_bids}
-use Rattle.canon.specs.Lemmas.Renaming.{points_of_kept_dummies, kept_dummies-differ, kept_dummies-below, kept_dummies-has}
-use Rattle.canon.specs.Renaming.{kept_bids, kept_dummies, named_bid, points_of_dummy}
-use Rattle.analysis.specs.Bids.{bid_at, bidder_of}
-use Rattle.analysis.specs.Reasons.{IsKeptAs}
-use Rattle.analysis.proofs.Explaining.BestBids.{element_at, HaveOneKey}
-use Rattle.analysis.proofs.Explaining.KeptBidsLists.{in_numbers, in_flat_map, from_flat_map, AreDifferent, different_places, different_append}
+use Rattle.analysis.proofs.Common.{◌≡◌, ℕ, ◌+◌, ◌<◌, ◌≤◌, not, eqb, ⊎_elim, List, [], ◌∷◌, ◌++◌, length, map, get_or, Option, Some, None, refl, sym, ap, ap₂}
+use Rattle.analysis.proofs.Common.{◌∙◌, subst, arith, All, Contains, slice_get, flat_map, range_with_len, unwrap_or, get_or-append_seam, not_from_false, ne_eqb}
+use Rattle.analysis.proofs.Common.{map-append, length-append, append_assoc, flat_map-cons, All-contains, All-from_recursion, Contains-append_left}
+use Rattle.analysis.proofs.Common.{Contains-append_right, Contains-append_cases, slice_get-get_or, slice_get_within, get_or_from_slice_get, IsBundle}
+use Rattle.analysis.proofs.Common.{all_bundles, all_bundles_has, inside_refl, PlainBid, PlainFile, IsBid, IsDummyBelow, IsPlainFile, Atom, IsAtom, atom_of}
+use Rattle.analysis.proofs.Common.{auction_from, is_dummy, or_atoms_of, xor_atoms_of, xor_table, or_value, xor_value, IsAuction-auction_from, rising-from}
+use Rattle.analysis.proofs.Common.{below-from, AllPairs-map, Contains-map, Contains-unmap, greatest_price, IsBefore, IsInOrder, or_points, is_or_point}
+use Rattle.analysis.proofs.Common.{is_xor_point, on_bundles, list_any_has, IsOnBundle, points_where-in_order, xor_value-member, bid_from, canonical_auction}
+use Rattle.analysis.proofs.Common.{dummy_bids, points_of_kept_dummies, kept_dummies-differ, kept_dummies-below, kept_bids, kept_dummies, named_bid}
+use Rattle.analysis.proofs.Common.{points_of_dummy, bid_at, bidder_of, IsKeptAs, points_of, IsAuction, before_itself, kept_dummies-has}
+use Rattle.analysis.proofs.Explaining.BestBids.{element_at}
+use Rattle.analysis.proofs.Explaining.KeptBidsLists.{in_numbers, in_flat_map, from_flat_map, AreDifferent, different_indices, different_append}
 use Rattle.analysis.proofs.Explaining.KeptBidsLists.{different_flat_map}
-use Rattle.analysis.proofs.Explaining.KeptBidsBest.{same_bidder, best_of, atom_there, atom_from, none_is, some_is, is_dummy-same}
+use Rattle.analysis.proofs.Explaining.KeptBidsBest.{atom_there, atoms_of_bidder, best_of_greatest, is_dummy-same}
+use Rattle.analysis.proofs.Explaining.PointFates.{IsGreatest, or_is_greatest, xor_is_greatest}
 
 -- ---- the bids, bidder by bidder
 
@@ -120,16 +96,9 @@ bids-different f =
 pub kept-once : (f : PlainFile) → (k l : ℕ) → k < length (kept_bids f) → l < length (kept_bids f)
     → slice_get (kept_bids f) k ≡ slice_get (kept_bids f) l → k ≡ l
 kept-once f =
-    different_places (kept_bids f) (subst (λ (bs : List PlainBid). AreDifferent bs) (sym (kept_bids_are f)) (bids-different f))
+    different_indices (kept_bids f) (subst (λ (bs : List PlainBid). AreDifferent bs) (sym (kept_bids_are f)) (bids-different f))
 
 -- ---- each is a best bid of the file
-
--- a bid of the file that none of its bidder on its goods exceeds
-record IsGreatest (f : PlainFile) (b : PlainBid) (j : ℕ) : Type 0 where
-  positive : 0 < b.price
-  within : j < length f.bids
-  is : bid_at f j ≡ b
-  greatest : (i : ℕ) → i < length f.bids → HaveOneKey (bid_at f i) b → (bid_at f i).price ≤ b.price
 
 auction : (f : PlainFile) → IsPlainFile f → IsAuction f.goods (auction_from f)
 auction f is = IsAuction-auction_from f.goods f is (omega arith)
@@ -143,75 +112,42 @@ xor_on f is d l =
     (xor_atoms_of f.bids d)
     (auction f is).xor_atoms (Contains-map (xor_atoms_of f.bids) (range_with_len 0 f.dummy) d (in_numbers f.dummy d l)))
 
-bid_of_atom : (dummy : Option ℕ) (a : Atom (List ℕ)) (b : PlainBid) → b.dummy ≡ dummy → a ≡ atom_of b → b ≡ bid_from dummy a
-bid_of_atom dummy a b e h = ap₂ (λ (o : Option ℕ) (z : Atom (List ℕ)). bid_from o z) e (sym h)
+-- a point of a bidder that the file has
+abbrev IsPoint : PlainFile → PlainBid → Type 0
+IsPoint f b = IsDummyBelow f.dummy b.dummy × Contains (points_of f b.dummy) (atom_of b)
 
-or_greatest : (f : PlainFile) → IsPlainFile f → (a : Atom (List ℕ)) → Contains (or_points_of f) a → (j : ℕ) × IsGreatest f (bid_from None a) j
-or_greatest f is a c =
-    let atoms = or_atoms_of f.bids in
-    let point = (or_points_are f.goods atoms a).0 c in
-    let there = All-contains (Contains atoms) (or_points_of f) a (or_points_are_atoms f.goods atoms (or_on f is)) c in
-    let r = atom_from (λ b. is_none b.dummy) f a there in
-    let value : a.price ≡ or_value atoms a.bundle = point.2 in
-    let positive : 0 < or_value atoms a.bundle = point.1.positive in (
-      r.0,
-      record {
-        positive = omega arith;
-        within = r.1.within;
-        is = bid_of_atom None a (bid_at f r.0) (none_is (bid_at f r.0).dummy r.1.passes) r.1.is;
-        greatest = λ i l h.
-            let none : (bid_at f i).dummy ≡ None = same_bidder (bid_at f i).dummy None h.bidder in
-            let low = or_value-price atoms (atom_of (bid_at f i)) (atom_there (λ b. is_none b.dummy) f i l (ap is_none none)) a.bundle
-            (subst (λ (xs : List ℕ). IsInside (bid_at f i).goods xs) h.goods (inside_refl (bid_at f i).goods)) in
-            omega arith;
-      },
-    )
-
-xor_greatest : (f : PlainFile) → IsPlainFile f → (d : ℕ) → d < f.dummy → (a : Atom (List ℕ)) → Contains (points_of_dummy f d) a
-    → (j : ℕ) × IsGreatest f (bid_from (Some d) a) j
-xor_greatest f is d m a c =
-    let atoms = xor_atoms_of f.bids d in
-    let point = (xor_points_are f.goods atoms a).0 c in
-    let there = All-contains (Contains atoms) (points_of_dummy f d) a (xor_points_are_atoms f.goods atoms (just_bundles f.goods atoms (xor_on f is d m))) c in
-    let r = atom_from (λ b. is_dummy d b.dummy) f a there in
-    let value : a.price ≡ xor_value atoms a.bundle = point.2 in
-    let positive : 0 < xor_value atoms a.bundle = point.1.positive in (
-      r.0,
-      record {
-        positive = omega arith;
-        within = r.1.within;
-        is = bid_of_atom (Some d) a (bid_at f r.0) (some_is d (bid_at f r.0).dummy r.1.passes) r.1.is;
-        greatest = λ i l h.
-            let some : (bid_at f i).dummy ≡ Some d = same_bidder (bid_at f i).dummy (Some d) h.bidder in
-            let low = xor_value-member atoms (atom_of (bid_at f i))
-            (atom_there (λ b. is_dummy d b.dummy) f i l (is_dummy-same d (bid_at f i).dummy some)) a.bundle
-            (subst (λ (xs : List ℕ). IsInside (bid_at f i).goods xs) h.goods (inside_refl (bid_at f i).goods)) in
-            omega arith;
-      },
-    )
-
-kept_greatest : (f : PlainFile) → IsPlainFile f → (b : PlainBid) → Contains (kept_bids f) b → (j : ℕ) × IsGreatest f b j
-kept_greatest f is b c =
+pub kept_is_point : (f : PlainFile) (k : ℕ) (b : PlainBid) → slice_get (kept_bids f) k ≡ Some b
+    → IsDummyBelow f.dummy b.dummy × Contains (points_of f b.dummy) (atom_of b)
+kept_is_point f k b e =
+    let there : Contains (kept_bids f) b = (k, slice_get_within (kept_bids f) k b e, get_or_from_slice_get (kept_bids f) k b b e) in
     ⊎_elim
-    (λ (e : Contains (map (bid_from None) (or_points_of f)) b).
-    let r = Contains-unmap (bid_from None) (or_points_of f) b e in
-    subst (λ (z : PlainBid). (j : ℕ) × IsGreatest f z j) (sym r.2) (or_greatest f is r.0 r.1))
-    (λ (e : Contains (flat_map (bids_of_dummy f) (kept_dummies f)) b).
-    let s = from_flat_map (bids_of_dummy f) (kept_dummies f) b e in
+    (λ (c : Contains (map (bid_from None) (or_points_of f)) b).
+    let r = Contains-unmap (bid_from None) (or_points_of f) b c in
+    subst (IsPoint f) (sym r.2) (tt, r.1))
+    (λ (c : Contains (flat_map (bids_of_dummy f) (kept_dummies f)) b).
+    let s = from_flat_map (bids_of_dummy f) (kept_dummies f) b c in
     let r = Contains-unmap (bid_from (Some s.0)) (points_of_dummy f s.0) b s.2 in
-    subst (λ (z : PlainBid). (j : ℕ) × IsGreatest f z j) (sym r.2) (xor_greatest f is s.0 (kept_dummies-below f s.0 s.1).0 r.0 r.1))
+    subst (IsPoint f) (sym r.2) ((kept_dummies-below f s.0 s.1).0, r.1))
     (Contains-append_cases (map (bid_from None) (or_points_of f)) (flat_map (bids_of_dummy f) (kept_dummies f)) b
-    (subst (λ (bs : List PlainBid). Contains bs b) (kept_bids_are f) c))
+    (subst (λ (bs : List PlainBid). Contains bs b) (kept_bids_are f) there))
+
+point_is_greatest : (f : PlainFile) → IsPlainFile f → (dummy : Option ℕ) → IsDummyBelow f.dummy dummy → (a : Atom (List ℕ)) → Contains (points_of f dummy) a
+    → IsGreatest f.goods (atoms_of_bidder f dummy) a
+point_is_greatest f is None below a c = or_is_greatest f.goods (or_atoms_of f.bids) (or_on f is) a c
+point_is_greatest f is (Some d) below a c = xor_is_greatest f.goods (xor_atoms_of f.bids d) (xor_on f is d below) a c
 
 pub kept-is-best : (f : PlainFile) → IsPlainFile f → (k : ℕ) → k < length (kept_bids f) → (j : ℕ) × (j < length f.bids) × IsKeptAs f j k
 kept-is-best f is k l =
     let b = element_at (kept_bids f) k l in
-    let g = kept_greatest f is b.0 (k, l, b.1 b.0) in
-    let r = best_of f b.0 g.0 g.1.within g.1.is g.1.greatest in
-    let price : (bid_at f r.0).price ≡ b.0.price = ap (λ (z : PlainBid). z.price) r.1.is in
-    let positive = g.1.positive in
-    let kept = slice_get-get_or (kept_bids f) k b.0 l ∙ ap Some (b.1 b.0 ∙ sym r.1.is) in
-    (r.0, r.1.within, record { bid = record { positive = omega arith; best = r.1.best }; is = kept })
+    let at = slice_get-get_or (kept_bids f) k b.0 l ∙ ap Some (b.1 b.0) in
+    let point = kept_is_point f k b.0 at in
+    let g = point_is_greatest f is b.0.dummy point.0 (atom_of b.0) point.1 in
+    let positive : 0 < b.0.price = g.positive in
+    let greatest : b.0.price ≡ greatest_price (atoms_of_bidder f b.0.dummy) b.0.goods = g.greatest in
+    let r = best_of_greatest f b.0.dummy b.0.goods (omega arith) in
+    let same : bid_at f r.0 ≡ b.0 = r.1.is ∙ ap (λ (n : ℕ). record { price = n; goods = b.0.goods; dummy = b.0.dummy }) (sym greatest) in
+    let price : (bid_at f r.0).price ≡ b.0.price = ap (λ (z : PlainBid). z.price) same in
+    (r.0, r.1.within, record { bid = record { positive = omega arith; best = r.1.best }; is = at ∙ ap Some (sym same) })
 
 -- ---- a bid of the file with a price above 0
 

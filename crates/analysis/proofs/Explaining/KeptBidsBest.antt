@@ -1,24 +1,13 @@
 -- The best bids of a file. The idea: a best bid has the greatest price of its bidder's bids on its goods, and of a
 -- bidder's bids on a bundle one alone is the best, the first of those with the greatest price.
-use Rattle.std.proofs.Common.{◌≡◌, ℕ, ◌<◌, ◌≤◌, Bool, true, false, ◌&&◌, ◌||◌, ltb, eqb, ⊎_elim, List, [], length, map}
-use Rattle.std.proofs.Common.{Option, Some, None, is_none, refl, sym, ap, ◌∙◌, subst, arith, le_antisymm}
-use Rattle.std.specs.Prelude.{Contains}
-use Rattle.std.specs.List.{filter}
-use Rattle.std.proofs.lemmas.Bool.{and_parts, and_from, or_left, or_right, or_cases, cases_lt, both_ways, eqb-true, eq-eqb, ltb-true, lt-ltb, not_from_false}
-use Rattle.std.proofs.lemmas.Bool.{not-true, false_from_ne_true}
-use Rattle.std.proofs.lemmas.List.{get_or_default}
-use Rattle.std.proofs.lemmas.List.Elements.{Contains-get_or}
-use Rattle.std.proofs.lemmas.List.Folds.{list_any_none}
-use Rattle.bid_file.specs.Files.{PlainBid, PlainFile}
-use Rattle.valuation.specs.declared.atom.Atom.{Atom}
-use Rattle.valuation.specs.Auctions.{atom_of, is_dummy}
-use Rattle.valuation.specs.Lemmas.Lists.{Contains-map, Contains-unmap}
-use Rattle.prune.specs.SearchSteps.{greatest_price}
-use Rattle.prune.specs.Lemmas.Lists.{All-from_Contains, Contains-filter, Contains-filter_parts, list_any_fails}
-use Rattle.prune.specs.Lemmas.SearchSteps.{greatest_price-member, greatest_price-bound}
-use Rattle.analysis.specs.Bids.{bid_at, bidder_of, are_alike, is_better, is_best, numbers_of}
+use Rattle.analysis.proofs.Common.{rules, ◌≡◌, ℕ, ◌<◌, ◌≤◌, Bool, true, false, ◌&&◌, ◌||◌, ltb, eqb, ⊎_elim, List, [], length, map, Option, Some, None, is_none}
+use Rattle.analysis.proofs.Common.{refl, sym, ap, ◌∙◌, subst, arith, le_antisymm, Contains, filter, and_parts, and_from, or_left, or_cases, both_ways, eqb-true}
+use Rattle.analysis.proofs.Common.{eq-eqb, ltb-true, lt-ltb, not_from_false, not-true, false_from_ne_true, get_or_default, Contains-get_or, list_any_none}
+use Rattle.analysis.proofs.Common.{PlainBid, PlainFile, Atom, atom_of, is_dummy, Contains-map, Contains-unmap, greatest_price, All-from_Contains}
+use Rattle.analysis.proofs.Common.{Contains-filter, Contains-filter_parts, list_any_fails, greatest_price-member, greatest_price-bound, greatest_price-reached}
+use Rattle.analysis.proofs.Common.{bid_at, bidder_of, are_alike, is_better, is_best, numbers_of, or_right}
 use Rattle.analysis.proofs.Explaining.BestBids.{HaveOneKey, one_key, alike_from}
-use Rattle.analysis.proofs.Explaining.KeptBidsLists.{in_numbers, below_numbers, first_place}
+use Rattle.analysis.proofs.Explaining.KeptBidsLists.{in_numbers, below_numbers, first_index}
 
 -- ---- bids
 
@@ -29,10 +18,7 @@ same_bidder (Some c) None e = absurd (omega arith)
 same_bidder (Some c) (Some d) e = let f : c ≡ d = omega arith in ap Some f
 
 pub same_bid : (a b : PlainBid) → HaveOneKey a b → a.price ≡ b.price → a ≡ b
-same_bid a b h e =
-    ap (λ (o : Option ℕ). record { price = a.price; goods = a.goods; dummy = o }) (same_bidder a.dummy b.dummy h.bidder)
-    ∙ ap (λ (xs : List ℕ). record { price = a.price; goods = xs; dummy = b.dummy }) h.goods
-    ∙ ap (λ (n : ℕ). record { price = n; goods = b.goods; dummy = b.dummy }) e
+same_bid a b h e = search (rules, same_bidder)
 
 pub one_key_sym : (a b : PlainBid) → HaveOneKey a b → HaveOneKey b a
 one_key_sym a b h = record { bidder = sym h.bidder; goods = sym h.goods }
@@ -50,25 +36,15 @@ module _ (f : PlainFile) (i j : ℕ) (best : is_best f i ≡ true) (l : j < leng
   better t = both_ways (is_better f j i) not_better (and_from (are_alike (bid_at f j) (bid_at f i)) _ (alike_from (bid_at f j) (bid_at f i) h) t)
 
   pub best_is_greatest : (bid_at f j).price ≤ (bid_at f i).price
-  best_is_greatest =
-      ⊎_elim (λ (m : (bid_at f i).price < (bid_at f j).price). absurd (better (or_left (ltb (bid_at f i).price (bid_at f j).price) _ (lt-ltb _ _ m))))
-      (λ (m : (bid_at f j).price ≤ (bid_at f i).price). m) (cases_lt (bid_at f i).price (bid_at f j).price)
+  best_is_greatest = search (rules, better, or_left, lt-ltb)
 
   pub best_is_first : (bid_at f j).price ≡ (bid_at f i).price → i ≤ j
-  best_is_first e =
-      ⊎_elim
-      (λ (m : j < i). absurd (better (or_right (ltb (bid_at f i).price (bid_at f j).price) _
-      (and_from (eqb (bid_at f j).price (bid_at f i).price) (ltb j i) (eq-eqb _ _ e) (lt-ltb j i m)))))
-      (λ (m : i ≤ j). m) (cases_lt j i)
+  best_is_first e = search (rules, better, or_right, and_from, eq-eqb, lt-ltb)
 
 -- of the bids of a bidder on a bundle one is the best
 pub best-once : (f : PlainFile) (i j : ℕ) → i < length f.bids → j < length f.bids → is_best f i ≡ true → is_best f j ≡ true
     → are_alike (bid_at f i) (bid_at f j) ≡ true → i ≡ j
-best-once f i j l m b c alike =
-    let h = one_key (bid_at f i) (bid_at f j) alike in
-    let back = one_key_sym (bid_at f i) (bid_at f j) h in
-    let e = le_antisymm (best_is_greatest f j i c l h) (best_is_greatest f i j b m back) in
-    le_antisymm (best_is_first f i j b m back (sym e)) (best_is_first f j i c l h e)
+best-once f i j l m b c alike = search (rules, one_key, one_key_sym, le_antisymm, best_is_greatest, best_is_first)
 
 -- ---- a bid that no bid of its bidder on its goods exceeds is among the best
 
@@ -83,7 +59,7 @@ pub record IsBestOf (f : PlainFile) (b : PlainBid) (j : ℕ) : Type 0 where
 pub best_of : (f : PlainFile) (b : PlainBid) (k : ℕ) → k < length f.bids → bid_at f k ≡ b
     → ((j : ℕ) → j < length f.bids → HaveOneKey (bid_at f j) b → (bid_at f j).price ≤ b.price) → (j : ℕ) × IsBestOf f b j
 best_of f b k l e greatest =
-    let r = first_place (is_same b) f.bids (record { price = 0; goods = []; dummy = None }) k l
+    let r = first_index (is_same b) f.bids (record { price = 0; goods = []; dummy = None }) k l
     (and_from (are_alike (bid_at f k) b) (eqb (bid_at f k).price b.price) (alike_from (bid_at f k) b (one_key_same (bid_at f k) b e))
     (eq-eqb (bid_at f k).price b.price (ap (λ (c : PlainBid). c.price) e))) in
     let there = same (bid_at f r.0) r.1.passes in (
@@ -132,9 +108,9 @@ atom_from p f a c =
     let at : r.0 ≡ bid_at f s.0.0 = sym s.0.2 ∙ get_or_default f.bids s.0.0 r.0 _ s.0.1 in
     (s.0.0, record { within = s.0.1; passes = sym (ap p at) ∙ s.1; is = r.2 ∙ ap atom_of at })
 
-pub none_is : (o : Option ℕ) → is_none o ≡ true → o ≡ None
+pub none_is : {X : Type 0} (o : Option X) → is_none o ≡ true → o ≡ None
 none_is None e = refl
-none_is (Some d) e = absurd (cc)
+none_is (Some x) e = absurd (cc)
 
 pub some_is : (d : ℕ) (o : Option ℕ) → is_dummy d o ≡ true → o ≡ Some d
 some_is d None e = absurd (cc)
@@ -159,6 +135,26 @@ of_it (Some d) b t = some_is d b.dummy t
 pub its_own : (dummy : Option ℕ) (b : PlainBid) → b.dummy ≡ dummy → is_of dummy b ≡ true
 its_own None b e = ap is_none e
 its_own (Some d) b e = is_dummy-same d b.dummy e
+
+-- what the bidder offers on these goods
+abbrev pub greatest_bid : PlainFile → Option ℕ → List ℕ → PlainBid
+greatest_bid f dummy goods = record { price = greatest_price (atoms_of_bidder f dummy) goods; goods = goods; dummy = dummy }
+
+pub best_of_greatest : (f : PlainFile) (dummy : Option ℕ) (goods : List ℕ) → 0 < greatest_price (atoms_of_bidder f dummy) goods
+    → (j : ℕ) × IsBestOf f (greatest_bid f dummy goods) j
+best_of_greatest f dummy goods some =
+    let r = greatest_price-reached (atoms_of_bidder f dummy) goods some in
+    let k = atom_from (is_of dummy) f r.0 r.1 in
+    let key : HaveOneKey (bid_at f k.0) (greatest_bid f dummy goods) = record {
+      bidder = ap bidder_of (of_it dummy (bid_at f k.0) k.1.passes);
+      goods = ap (λ (a : Atom (List ℕ)). a.bundle) (sym k.1.is) ∙ r.2;
+    } in
+    best_of f (greatest_bid f dummy goods) k.0 k.1.within
+    (same_bid (bid_at f k.0) (greatest_bid f dummy goods) key (ap (λ (a : Atom (List ℕ)). a.price) (sym k.1.is) ∙ r.3)) (λ i l h.
+    let low = greatest_price-member (atoms_of_bidder f dummy) (atom_of (bid_at f i))
+    (atom_there (is_of dummy) f i l (its_own dummy (bid_at f i) (same_bidder (bid_at f i).dummy dummy h.bidder))) in
+    let same = ap (greatest_price (atoms_of_bidder f dummy)) h.goods in
+    omega arith)
 
 -- ---- the price of a best bid is the greatest on its goods
 

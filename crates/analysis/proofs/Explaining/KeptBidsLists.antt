@@ -1,15 +1,9 @@
 -- Lists: the one element that passes a test, the first that does, lists one after another, and elements that differ.
-use Rattle.std.proofs.Common.{◌≡◌, ℕ, zero, suc, ◌<◌, ◌≤◌, Bool, true, false, ⊎_elim, List, [], ◌∷◌, ◌++◌, length, get_or}
-use Rattle.std.proofs.Common.{refl, sym, ap, ◌∙◌, subst, arith}
-use Rattle.std.specs.Prelude.{All, AllPairs, Contains, slice_get}
-use Rattle.std.specs.List.{AllByRecursion, filter, flat_map, range_with_len}
-use Rattle.std.proofs.lemmas.Bool.{cases_Bool, cases_lt, false_from_ne_true}
-use Rattle.std.proofs.lemmas.List.Concat.{flat_map-cons}
-use Rattle.std.proofs.lemmas.List.Elements.{recursion_from_All, Contains-append_left, Contains-append_right, Contains-append_cases}
-use Rattle.std.proofs.lemmas.List.FromFn.{length-range_with_len, get_or-range_with_len}
-use Rattle.std.proofs.lemmas.Option.{slice_get-get_or}
-use Rattle.valuation.specs.Lemmas.Lists.{Contains-cons_cases, AllPairs-nil, AllPairs-head, AllPairs-tail, AllPairs-append}
-use Rattle.prune.specs.Lemmas.Lists.{Contains-nil, Contains-head, Contains-tail, All-from_Contains, filter-kept, filter-lost}
+use Rattle.analysis.proofs.Common.{◌≡◌, ℕ, zero, suc, ◌<◌, ◌≤◌, Bool, true, false, ⊎_elim, List, [], ◌∷◌, ◌++◌, length, get_or, refl, sym, ap, ◌∙◌, subst}
+use Rattle.analysis.proofs.Common.{arith, All, AllPairs, Contains, slice_get, AllByRecursion, filter, flat_map, range_with_len, cases_Bool, cases_lt}
+use Rattle.analysis.proofs.Common.{false_from_ne_true, flat_map-cons, recursion_from_All, Contains-append_left, Contains-append_right, Contains-append_cases}
+use Rattle.analysis.proofs.Common.{length-range_with_len, get_or-range_with_len, slice_get-get_or, Contains-cons_cases, AllPairs-nil, AllPairs-head}
+use Rattle.analysis.proofs.Common.{AllPairs-tail, AllPairs-append, Contains-nil, Contains-head, Contains-tail, All-from_Contains, filter-kept, filter-lost}
 
 -- ---- numbers
 
@@ -20,13 +14,7 @@ in_numbers n j l =
     (j, omega arith, omega arith)
 
 pub below_numbers : (n j : ℕ) → Contains (range_with_len 0 n) j → j < n
-below_numbers n j c =
-    let long = length-range_with_len 0 n in
-    let m = c.1 in
-    let l : c.0 < n = omega arith in
-    let at = get_or-range_with_len 0 n c.0 j l in
-    let e = c.2 in
-    omega arith
+below_numbers n j c = omega (arith, length-range_with_len, get_or-range_with_len)
 
 pub all_numbers : (P : ℕ → Type 0) (n : ℕ) → ((j : ℕ) → j < n → P j) → AllByRecursion P (range_with_len 0 n)
 all_numbers P n h = recursion_from_All P (range_with_len 0 n) (All-from_Contains P (range_with_len 0 n) (λ j c. h j (below_numbers n j c)))
@@ -54,11 +42,11 @@ pub record IsFirst {X : Type 0} (p : X → Bool) (xs : List X) (d : X) (j : ℕ)
   pub passes : p (get_or xs j d) ≡ true
   pub none : (i : ℕ) → i < j → p (get_or xs i d) ≡ false
 
-pub first_place : {X : Type 0} (p : X → Bool) (xs : List X) (d : X) (k : ℕ) → k < length xs → p (get_or xs k d) ≡ true → (j : ℕ) × IsFirst p xs d j
-first_place p [] d k l t = absurd (omega arith)
-first_place {X} p (x ∷ xs) d k l t =
+pub first_index : {X : Type 0} (p : X → Bool) (xs : List X) (d : X) (k : ℕ) → k < length xs → p (get_or xs k d) ≡ true → (j : ℕ) × IsFirst p xs d j
+first_index p [] d k l t = absurd (omega arith)
+first_index {X} p (x ∷ xs) d k l t =
     ⊎_elim (λ (e : p x ≡ true). (0, record { within = omega arith; passes = e; none = λ i m. absurd (omega arith) }))
-    (λ (e : p x ≡ false). behind e (first_place p xs d) k l t) (cases_Bool (p x))
+    (λ (e : p x ≡ false). behind e (first_index p xs d) k l t) (cases_Bool (p x))
   where
     before : p x ≡ false → (j : ℕ) → ((i : ℕ) → i < j → p (get_or xs i d) ≡ false) → (i : ℕ) → i < suc j → p (get_or (x ∷ xs) i d) ≡ false
     before e j h zero m = e
@@ -93,9 +81,9 @@ from_flat_map {X} {Y} g (x ∷ xs) y c =
 abbrev pub AreDifferent : {X : Type 0} → List X → Type 0
 AreDifferent xs = AllPairs (λ x y. x ≡ y → ⊥) xs
 
-pub different_places : {X : Type 0} (xs : List X) → AreDifferent xs → (k l : ℕ) → k < length xs → l < length xs → slice_get xs k ≡ slice_get xs l → k ≡ l
-different_places {X} [] h k l m n e = absurd (omega arith)
-different_places {X} (x ∷ xs) h k l m n e =
+pub different_indices : {X : Type 0} (xs : List X) → AreDifferent xs → (k l : ℕ) → k < length xs → l < length xs → slice_get xs k ≡ slice_get xs l → k ≡ l
+different_indices {X} [] h k l m n e = absurd (omega arith)
+different_indices {X} (x ∷ xs) h k l m n e =
     let same = sym (slice_get-get_or (x ∷ xs) k x m) ∙ e ∙ slice_get-get_or (x ∷ xs) l x n in
     let one : get_or (x ∷ xs) k x ≡ get_or (x ∷ xs) l x = cc in
     ⊎_elim (λ (o : k < l). absurd (h k l x o n one))

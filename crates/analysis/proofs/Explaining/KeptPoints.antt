@@ -1,38 +1,19 @@
 -- A bidder's points are its bids in the canonical file. So a best bid is there exactly if it is kept.
-use Rattle.std.proofs.Common.{◌≡◌, ℕ, ◌<◌, true, ⊎_elim, List, [], length, map, get_or, Option, Some, None, sym, ap, ◌∙◌, subst, arith}
-use Rattle.std.specs.Prelude.{Contains, slice_get}
-use Rattle.std.specs.List.{filter, flat_map, range_with_len}
-use Rattle.std.specs.Option.{unwrap_or}
-use Rattle.std.proofs.lemmas.Bool.{false_from_ne_true}
-use Rattle.std.proofs.lemmas.List.Elements.{Contains-append_cases, Contains-get_or}
-use Rattle.std.proofs.lemmas.Option.{slice_get_within, slice_get-get_or, get_or_from_slice_get}
-use Rattle.bid_file.specs.Files.{PlainBid, PlainFile, IsDummyBelow, IsPlainFile}
-use Rattle.valuation.specs.declared.atom.Atom.{Atom}
-use Rattle.valuation.specs.declared.search_kind.SearchKind.TheVariants.{Bounded}
-use Rattle.valuation.specs.Auctions.{atom_of, or_atoms_of, xor_atoms_of}
-use Rattle.valuation.specs.Lemmas.Lists.{Contains-unmap}
-use Rattle.prune.specs.Fates.{best_bids}
-use Rattle.prune.specs.Lemmas.Lists.{Contains-filter, Contains-filter_parts, find_first}
-use Rattle.canon.specs.Canonical.{bid_from}
-use Rattle.canon.specs.Renaming.{kept_bids, kept_dummies, points_of_dummy}
-use Rattle.analysis.specs.Bids.{bid_at, are_alike, is_best, best_number}
-use Rattle.analysis.specs.Reasons.{IsKeptAs, kept_bid, kept_number, points_of, point_number}
-use Rattle.analysis.specs.Internal.Walks.{is_kept_atom}
+use Rattle.analysis.proofs.Common.{rules, ◌≡◌, ℕ, ◌<◌, true, List, [], length, get_or, Option, Some, None, sym, ap, ◌∙◌, subst, arith, Contains, slice_get}
+use Rattle.analysis.proofs.Common.{filter, range_with_len, unwrap_or, false_from_ne_true, Contains-get_or, slice_get_within, slice_get-get_or}
+use Rattle.analysis.proofs.Common.{get_or_from_slice_get, PlainBid, PlainFile, IsDummyBelow, IsPlainFile, Atom, Bounded, atom_of, or_atoms_of, xor_atoms_of}
+use Rattle.analysis.proofs.Common.{best_bids, Contains-filter, Contains-filter_parts, find_first, bid_from, kept_bids, kept_dummies, bid_at, are_alike, is_best}
+use Rattle.analysis.proofs.Common.{best_number, IsKeptAs, kept_bid, kept_number, points_of, point_number, is_kept_atom, same_Some}
 use Rattle.analysis.proofs.Explaining.BestBids.{alike_from}
 use Rattle.analysis.proofs.Explaining.BestNumbers.{best_number_is, numbers_rise}
 use Rattle.analysis.proofs.Explaining.Deciding.{priced_within}
-use Rattle.analysis.proofs.Explaining.KeptBids.{bids_of_dummy, kept_bids_are, kept-is-best, kept-once, or-points-are-kept, or_on, or_points_of}
-use Rattle.analysis.proofs.Explaining.KeptBids.{xor-points-are-kept, xor_on}
-use Rattle.analysis.proofs.Explaining.KeptBids.{bundle_here, dummy-is-kept}
+use Rattle.analysis.proofs.Explaining.KeptBids.{kept-is-best, kept-once, or-points-are-kept, or_on, xor-points-are-kept, xor_on, bundle_here, dummy-is-kept}
 use Rattle.analysis.proofs.Explaining.KeptBidsBest.{atoms_of_bidder, best-once, greatest-is-best, one_key_same}
-use Rattle.analysis.proofs.Explaining.KeptBidsLists.{from_flat_map, in_numbers}
+use Rattle.analysis.proofs.Explaining.KeptBidsLists.{in_numbers}
 use Rattle.analysis.proofs.Explaining.Packings.{IsPointOf}
 use Rattle.analysis.proofs.Explaining.PointFates.{best_bids-has, or_kept_are_points, xor_kept_are_points}
 
 -- ---- bids of the canonical file
-
-pub same_some : (a b : PlainBid) → ◌≡◌ {A = Option PlainBid} (Some a) (Some b) → a ≡ b
-same_some a b e = cc
 
 -- the bid of the file that a bid of the canonical file is
 pub record IsBidOf (f : PlainFile) (k : ℕ) (target : PlainBid) (number : ℕ) : Type 0 where
@@ -43,22 +24,7 @@ pub record IsBidOf (f : PlainFile) (k : ℕ) (target : PlainBid) (number : ℕ) 
 pub bid_of : (f : PlainFile) → IsPlainFile f → (k : ℕ) (target : PlainBid) → slice_get (kept_bids f) k ≡ Some target → (j : ℕ) × IsBidOf f k target j
 bid_of f is k target e =
     let r = kept-is-best f is k (slice_get_within (kept_bids f) k target e) in
-    (r.0, record { within = r.1; is = same_some (bid_at f r.0) target (sym r.2.is ∙ e); kept = r.2 })
-
--- it is a point of its bidder
-pub kept_is_point : (f : PlainFile) (k : ℕ) (b : PlainBid) → slice_get (kept_bids f) k ≡ Some b → Contains (points_of f b.dummy) (atom_of b)
-kept_is_point f k b e =
-    let there : Contains (kept_bids f) b = (k, slice_get_within (kept_bids f) k b e, get_or_from_slice_get (kept_bids f) k b b e) in
-    ⊎_elim
-    (λ (c : Contains (map (bid_from None) (or_points_of f)) b).
-    let r = Contains-unmap (bid_from None) (or_points_of f) b c in
-    subst (λ (z : PlainBid). Contains (points_of f z.dummy) (atom_of z)) (sym r.2) r.1)
-    (λ (c : Contains (flat_map (bids_of_dummy f) (kept_dummies f)) b).
-    let s = from_flat_map (bids_of_dummy f) (kept_dummies f) b c in
-    let r = Contains-unmap (bid_from (Some s.0)) (points_of_dummy f s.0) b s.2 in
-    subst (λ (z : PlainBid). Contains (points_of f z.dummy) (atom_of z)) (sym r.2) r.1)
-    (Contains-append_cases (map (bid_from None) (or_points_of f)) (flat_map (bids_of_dummy f) (kept_dummies f)) b
-    (subst (λ (bs : List PlainBid). Contains bs b) (kept_bids_are f) there))
+    (r.0, record { within = r.1; is = same_Some (bid_at f r.0) target (sym r.2.is ∙ e); kept = r.2 })
 
 -- the bidder is in the canonical file
 abbrev pub IsKeptBidder : PlainFile → Option ℕ → Type 0
@@ -113,12 +79,7 @@ kept_points f is (Some d) below = xor_kept_are_points f.goods (xor_atoms_of f.bi
 
 pub best_is_there : (f : PlainFile) → IsPlainFile f → (i : ℕ) → i < length f.bids → 0 < (bid_at f i).price → is_best f i ≡ true
     → Contains (best_bids f.goods (atoms_of_bidder f (bid_at f i).dummy)) (atom_of (bid_at f i))
-best_is_there f is i l positive best =
-    best_bids-has f.goods (atoms_of_bidder f (bid_at f i).dummy) (atom_of (bid_at f i)) (record {
-      bundle = bundle_here f is i l;
-      positive = positive;
-      greatest = sym (greatest-is-best f i l best);
-    })
+best_is_there f is i l positive best = search (rules, best_bids-has, atoms_of_bidder, bundle_here, greatest-is-best)
 
 pub kept_if_point : (f : PlainFile) → IsPlainFile f → (dummy : Option ℕ) → IsDummyBelow f.dummy dummy → (a : Atom (List ℕ)) → Contains (points_of f dummy) a
     → is_kept_atom f dummy a ≡ true

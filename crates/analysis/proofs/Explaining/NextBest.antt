@@ -1,64 +1,33 @@
 -- The reason of the next best bid of a bidder, from its fate and the points so far.
-use Rattle.std.proofs.Common.{◌≡◌, ℕ, ◌+◌, ◌<◌, ◌≤◌, Bool, true, false, List, [], ◌∷◌, ◌++◌, length, map, get_or, take, Option, Some, None}
-use Rattle.std.proofs.Common.{is_none, refl, sym, ap, ◌∙◌, subst, arith, nat_cmp}
-use Rattle.std.specs.Global.{Global}
-use Rattle.std.specs.Prelude.{All, Vec, slice_get}
-use Rattle.std.specs.List.{filter}
-use Rattle.std.proofs.lemmas.List.{append-nil, get_or-map, get_or_at, length-append, length-map, length-take-le, map-append}
-use Rattle.std.proofs.lemmas.List.Elements.{filter-append}
-use Rattle.std.proofs.lemmas.List.FromFn.{get_or-map-range_with_len, length-map-range_with_len}
-use Rattle.std.proofs.lemmas.List.Sums.{count_by-le-length, length-filter}
-use Rattle.std.proofs.lemmas.Option.{slice_get_within}
-use Rattle.std.proofs.lemmas.Bool.{and_parts}
-use Rattle.goods_set.specs.Bundles.{IsInside, is_inside}
-use Rattle.bid_file.specs.Files.{PlainBid, PlainFile, IsDummyBelow}
-use Rattle.bid_file.specs.Views.{seen_bid}
-use Rattle.bid_file.specs.declared.limits.TheConstants.{MAX_BIDS}
-use Rattle.valuation.specs.declared.atom.Atom.{Atom}
-use Rattle.valuation.specs.declared.search_kind.SearchKind.TheVariants.{Bounded}
-use Rattle.valuation.specs.Auctions.{atom_of, xor_atoms_of}
-use Rattle.valuation.specs.Packings.{atom_at}
-use Rattle.valuation.specs.Sorting.{sort_by}
-use Rattle.prune.specs.Fates.{best_bids, numbers_at, or_fate, plain_fate, xor_fate, xor_fates}
-use Rattle.prune.specs.Lemmas.Lists.{filter-kept, filter-lost, map_same_on}
-use Rattle.canon.specs.Canonical.{bid_from}
-use Rattle.canon.specs.Renaming.{kept_bids}
-use Rattle.analysis.specs.Bids.{bid_at}
-use Rattle.analysis.specs.Reasons.{Keep, Inside, Packing, IsKeptAs, best_reason, kept_number, or_reason, point_number, points_of, reason_of, xor_reason}
-use Rattle.analysis.specs.Internal.Walks.{HasPassed, IsKnown, IsNextBest, is_best_of, is_kept_atom, is_kept_bid, passed_bids}
-use Rattle.analysis.specs.declared.reasons.best.NumberedBid.{NumberedBid}
-use Rattle.analysis.specs.declared.reasons.walk.Known.{Known}
-use Rattle.analysis.specs.declared.reasons.walk.Walk.{Walk}
+use Rattle.analysis.proofs.Common.{common_steps, rules, ◌≡◌, ℕ, ◌+◌, ◌<◌, ◌≤◌, Bool, true, false, List, [], ◌∷◌, ◌++◌, length, map, get_or, take, Option, Some}
+use Rattle.analysis.proofs.Common.{None, is_none, refl, sym, ap, ◌∙◌, subst, arith, nat_cmp, Global, All, Vec, filter, append-nil, get_or-map, get_or_default}
+use Rattle.analysis.proofs.Common.{get_or_at, length-append, length-map, length-take-le, map-append, filter-append, get_or-map-range_with_len}
+use Rattle.analysis.proofs.Common.{length-map-range_with_len, length-filter, slice_get_within, and_parts, IsInside, is_inside, PlainBid, PlainFile}
+use Rattle.analysis.proofs.Common.{IsDummyBelow, seen_bid, MAX_BIDS, Atom, Bounded, atom_of, xor_atoms_of, atom_at, sort_by, best_bids, numbers_at, filter-kept}
+use Rattle.analysis.proofs.Common.{filter-lost, bid_at, Keep, Inside, Packing, IsKeptAs, best_reason, kept_number, or_reason, point_number, points_of}
+use Rattle.analysis.proofs.Common.{xor_reason, HasPassed, IsNextBest, is_best_of, is_kept_atom, is_kept_bid, passed_bids, NumberedBid, Known, Walk, plain_fate}
+use Rattle.analysis.proofs.Common.{xor_fates, count_by-le-length, map_same_on, IsKnown}
+use Rattle.prune.specs.Fates.{or_fate, xor_fate}
+use Rattle.analysis.specs.Reasons.{reason_of}
 use Rattle.analysis.proofs.Explaining.BestBids.{alike_from, length_of}
-use Rattle.analysis.proofs.Explaining.KeptBidsBest.{atoms_of_bidder, one_key_same}
+use Rattle.analysis.proofs.Explaining.KeptBidsBest.{none_is, atoms_of_bidder, one_key_same}
 use Rattle.analysis.proofs.Explaining.KeptPoints.{bidder_is_kept, kept_number_is}
 use Rattle.analysis.proofs.Explaining.KeptStarts.{kept_count, point_there, start_of}
 use Rattle.analysis.proofs.Explaining.Passed.{inside_is_kept, best_split, done, kept, next_below, next_is, next_number, next_point, next_within}
-use Rattle.analysis.proofs.Explaining.Passed.{number_of_point, offer}
-use Rattle.analysis.proofs.Explaining.Passed.{passed_more}
+use Rattle.analysis.proofs.Explaining.Passed.{number_of_point, offer, passed_more}
 use Rattle.analysis.proofs.Explaining.TrueReasons.{inside_from, packing_from, reason_best}
 use Rattle.analysis.proofs.Explaining.Packings.{all_unmap}
 
 at_seam : {B C : Type 0} (xs : List B) (g : C → B) (before : List C) (c : C) (after : List C) (i : ℕ) → xs ≡ map g (before ++ c ∷ after) → length before ≡ i
     → (i < length xs) × ((d : B) → get_or xs i d ≡ g c)
-at_seam {B} xs g before c after i e long =
-    let mapped = length-map (before ++ c ∷ after) g in
-    let both = length-append before (c ∷ after) in
-    let same = ap (length {A = B}) e in (
-      omega arith,
-      λ d. ap (λ (ys : List B). get_or ys i d) e ∙ get_or-map g (before ++ c ∷ after) i c d (omega arith) ∙ ap g (get_or_at before c after c i long),
-    )
-
-none_from : {X : Type 0} (o : Option X) → is_none o ≡ true → o ≡ None
-none_from None e = refl
-none_from (Some x) e = absurd (cc)
+at_seam {B} xs g before c after i e long = grind (arith, common_steps, length-map, length-append, get_or-map, get_or_at)
 
 kept_reason : (f : PlainFile) (i : ℕ) (o : Option ℕ) → is_kept_atom f o (atom_of (bid_at f i)) ≡ true → best_reason f i o ≡ Keep (kept_number f i)
-kept_reason f i None t = ap (or_reason f i) (none_from (or_fate Bounded (points_of f None) (atom_of (bid_at f i))) t)
-kept_reason f i (Some d) t = ap (xor_reason f d i) (none_from (xor_fate (points_of f (Some d)) (atom_of (bid_at f i))) t)
+kept_reason f i None t = ap (or_reason f i) (none_is (or_fate Bounded (points_of f None) (atom_of (bid_at f i))) t)
+kept_reason f i (Some d) t = ap (xor_reason f d i) (none_is (xor_fate (points_of f (Some d)) (atom_of (bid_at f i))) t)
 
-module _ (known : Known) (place : ℕ) (n : NumberedBid) (walk : Walk) (is : IsKnown known) (next : IsNextBest known.file.now known.bids.items place n)
-    (has : HasPassed known.file.now known.bids.items n.bid.dummy place walk) where
+module _ {known : Known} {index : ℕ} {n : NumberedBid} {walk : Walk} (best : IsNextBest known index n)
+    (has : HasPassed known.file.now known.bids.items n.bid.dummy index walk) where
   abbrev f : PlainFile
   f = known.file.now
 
@@ -68,20 +37,23 @@ module _ (known : Known) (place : ℕ) (n : NumberedBid) (walk : Walk) (is : IsK
   abbrev starts : List ℕ
   starts = known.starts.items
 
+  is : IsKnown known
+  is = best.next.is
+
   abbrev dummy : Option ℕ
   dummy = n.bid.dummy
 
   abbrev own_done : List NumberedBid
-  own_done = done f is.plain bids is.order place n next
+  own_done = done best
 
   abbrev own_kept : List NumberedBid
-  own_kept = kept f is.plain bids is.order place n next
+  own_kept = kept best
 
   within : n.number < length f.bids
-  within = next_number f is.plain bids is.order place n next
+  within = next_number best
 
   seen : seen_bid n.bid ≡ bid_at f n.number
-  seen = next_is f is.plain bids is.order place n next
+  seen = next_is best
 
   offered : offer n ≡ atom_of (bid_at f n.number)
   offered = ap atom_of seen
@@ -90,7 +62,7 @@ module _ (known : Known) (place : ℕ) (n : NumberedBid) (walk : Walk) (is : IsK
   bidder = ap (λ (b : PlainBid). b.dummy) (sym seen)
 
   positive : 0 < (bid_at f n.number).price
-  positive = let some = next.positive in let same = ap (λ (b : PlainBid). b.price) seen in omega arith
+  positive = let some = best.positive in let same = ap (λ (b : PlainBid). b.price) seen in omega arith
 
   long_points : length walk.points.items ≡ length own_kept
   long_points = ap (length {A = ℕ}) has.points ∙ length-map own_kept (λ (m : NumberedBid). m.number)
@@ -99,17 +71,17 @@ module _ (known : Known) (place : ℕ) (n : NumberedBid) (walk : Walk) (is : IsK
 
   best_from : (o : Option ℕ) → dummy ≡ o → (rest : List (Atom (List ℕ)))
       × (best_bids f.goods (atoms_of_bidder f o) ≡ map offer own_done ++ offer n ∷ rest)
-  best_from o e = (_, ap (λ (p : Option ℕ). best_bids f.goods (atoms_of_bidder f p)) (sym e) ∙ best_split f is.plain bids is.order place n next)
+  best_from o e = (_, ap (λ (p : Option ℕ). best_bids f.goods (atoms_of_bidder f p)) (sym e) ∙ best_split best)
 
   long_done : length (map offer own_done) ≡ walk.passed
   long_done = length-map own_done offer ∙ sym has.passed
 
   pub passed_few : walk.passed ≤ length bids
   passed_few =
-      let l = next_within f is.plain bids is.order place n next in
-      let filtered = length-filter (is_best_of f dummy) (take place bids) in
-      let least = count_by-le-length (is_best_of f dummy) (take place bids) in
-      let taken = length-take-le place bids (omega arith) in
+      let l = next_within best in
+      let filtered = length-filter (is_best_of f dummy) (take index bids) in
+      let least = count_by-le-length (is_best_of f dummy) (take index bids) in
+      let taken = length-take-le index bids (omega arith) in
       let passed = has.passed in
       omega arith
 
@@ -137,35 +109,30 @@ module _ (known : Known) (place : ℕ) (n : NumberedBid) (walk : Walk) (is : IsK
   fate_at : (o : Option ℕ) → dummy ≡ o → (b : Bool) → is_kept_atom f o (offer n) ≡ b → is_kept_bid f dummy n ≡ b
   fate_at o e b t = ap (λ (p : Option ℕ). is_kept_atom f p (offer n)) e ∙ t
 
-  module _ (or : dummy ≡ None) (r : Option (Vec ℕ Global)) (there : r ≡ get_or fates walk.passed r) where
+  module _ {r : Option (Vec ℕ Global)} (or : dummy ≡ None) (there : r ≡ get_or fates walk.passed r) where
     or_fate_is : plain_fate r ≡ or_fate Bounded (points_of f None) (offer n)
     or_fate_is = ap plain_fate there ∙ (or_here or).1 r
 
     pub or_kept : r ≡ None → is_kept_bid f dummy n ≡ true
     or_kept e = fate_at None or true (ap is_none (sym or_fate_is ∙ ap plain_fate e))
 
-    pub or_dropped : (v : Vec ℕ Global) → r ≡ Some v → or_fate Bounded (points_of f None) (offer n) ≡ Some v.items
-    or_dropped v e = sym or_fate_is ∙ ap plain_fate e
+    pub or_dropped : {v : Vec ℕ Global} → r ≡ Some v → or_fate Bounded (points_of f None) (offer n) ≡ Some v.items
+    or_dropped e = sym or_fate_is ∙ ap plain_fate e
 
-  pub or_not_kept : (places : List ℕ) → dummy ≡ None → or_fate Bounded (points_of f None) (offer n) ≡ Some places → is_kept_bid f dummy n ≡ false
-  or_not_kept places e t = fate_at None e false (ap is_none t)
+  pub or_not_kept : {indices : List ℕ} → dummy ≡ None → or_fate Bounded (points_of f None) (offer n) ≡ Some indices → is_kept_bid f dummy n ≡ false
+  or_not_kept e t = fate_at None e false (ap is_none t)
 
-  module _ (d : ℕ) (xor : dummy ≡ Some d) where
+  module _ {d : ℕ} (xor : dummy ≡ Some d) where
     abbrev lists : List (Vec (Option ℕ) Global)
     lists = known.fates.xor.items
 
     pub in_file : d < f.dummy
-    in_file = subst (IsDummyBelow f.dummy) xor (next_below f is.plain bids is.order place n next)
+    in_file = subst (IsDummyBelow f.dummy) xor (next_below best)
 
     pub xor_long : d < length lists
-    xor_long =
-        let mapped = length-map lists (λ (v : Vec (Option ℕ) Global). v.items) in
-        let all = length-map-range_with_len (λ d. xor_fates f.goods (xor_atoms_of f.bids d)) 0 f.dummy in
-        let same = ap (length {A = List (Option ℕ)}) is.xor in
-        let l = in_file in
-        omega arith
+    xor_long = search (rules, length-map, length-map-range_with_len, is, in_file)
 
-    module _ (r : Vec (Option ℕ) Global) (there : r ≡ get_or lists d r) where
+    module _ {r : Vec (Option ℕ) Global} (there : r ≡ get_or lists d r) where
       pub xor_list : r.items ≡ xor_fates f.goods (xor_atoms_of f.bids d)
       xor_list =
           ap (λ (v : Vec (Option ℕ) Global). v.items) there ∙ sym (get_or-map (λ (v : Vec (Option ℕ) Global). v.items) lists d r [] xor_long)
@@ -175,91 +142,73 @@ module _ (known : Known) (place : ℕ) (n : NumberedBid) (walk : Walk) (is : IsK
       pub xor_within : walk.passed < length r.items
       xor_within = (xor_here r.items d xor xor_list).0
 
-      pub xor_fate_is : (o : Option ℕ) → o ≡ get_or r.items walk.passed o → o ≡ xor_fate (points_of f (Some d)) (offer n)
-      xor_fate_is o e = e ∙ (xor_here r.items d xor xor_list).1 o
+      pub xor_fate_is : {o p : Option ℕ} → o ≡ get_or r.items walk.passed o → o ≡ p → xor_fate (points_of f (Some d)) (offer n) ≡ p
+      xor_fate_is {o} at e = sym (at ∙ (xor_here r.items d xor xor_list).1 o) ∙ e
 
-  pub xor_kept : (d : ℕ) → dummy ≡ Some d → xor_fate (points_of f (Some d)) (offer n) ≡ None → is_kept_bid f dummy n ≡ true
-  xor_kept d e t = fate_at (Some d) e true (ap is_none t)
+  pub xor_kept : {d : ℕ} → dummy ≡ Some d → xor_fate (points_of f (Some d)) (offer n) ≡ None → is_kept_bid f dummy n ≡ true
+  xor_kept {d} e t = fate_at (Some d) e true (ap is_none t)
 
-  pub xor_not_kept : (d p : ℕ) → dummy ≡ Some d → xor_fate (points_of f (Some d)) (offer n) ≡ Some p → is_kept_bid f dummy n ≡ false
-  xor_not_kept d p e t = fate_at (Some d) e false (ap is_none t)
+  pub xor_not_kept : {d p : ℕ} → dummy ≡ Some d → xor_fate (points_of f (Some d)) (offer n) ≡ Some p → is_kept_bid f dummy n ≡ false
+  xor_not_kept {d} e t = fate_at (Some d) e false (ap is_none t)
 
   -- ---- its reason
 
   reason : (o : Option ℕ) → dummy ≡ o → reason_of f n.number ≡ best_reason f n.number o
-  reason o e =
-      reason_best f n.number positive
-      (record { within = within; alike = alike_from (bid_at f n.number) (bid_at f n.number) (one_key_same _ _ refl); best = next.best })
-      ∙ ap (best_reason f n.number) (bidder ∙ e)
+  reason o e = search (rules, reason_best, positive, within, alike_from, one_key_same, bidder)
 
   kept_as : is_kept_bid f dummy n ≡ true
       → IsKeptAs f n.number (start_of starts dummy + length walk.points.items)
-  kept_as t =
-      let point = next_point f is.plain bids is.order place n next t in
-      let there = point_there f starts is.starts dummy (bidder_is_kept f is.plain n.number within positive dummy bidder) (length own_kept) point.0 in
-      record {
-        bid = record { positive = positive; best = next.best };
-        is = ap (λ (p : ℕ). slice_get (kept_bids f) (start_of starts dummy + p)) long_points ∙ there
-            ∙ ap (λ (a : Atom (List ℕ)). Some (bid_from dummy a)) point.1 ∙ ap Some seen;
-      }
+  kept_as t = search (rules, next_point, point_there, is, bidder_is_kept, within, positive, bidder, start_of, long_points, seen)
 
   pub passed_fits : walk.passed ≤ MAX_BIDS
-  passed_fits =
-      let few = passed_few in
-      let long = length_of f bids is.order in
-      let count = is.plain.count in
-      omega arith
+  passed_fits = omega (arith, passed_few, length_of, is)
 
-  pub start_there : (d : ℕ) → dummy ≡ Some d → d < length starts
-  start_there d e = let l = in_file d e in let long = is.starts.long in omega arith
+  pub start_there : {d : ℕ} → dummy ≡ Some d → d < length starts
+  start_there e = let l = in_file e in let long = is.starts.long in omega arith
 
-  pub keep_fits : is_kept_bid f dummy n ≡ true → start_of starts dummy + length walk.points.items < MAX_BIDS
-  keep_fits t =
-      let k = kept_as t in
-      let l = slice_get_within (kept_bids f) (start_of starts dummy + length walk.points.items) (bid_at f n.number) k.is in
-      let few = kept_count f is.plain in
-      omega arith
+  pub or_start : dummy ≡ None → start_of starts dummy ≡ 0
+  or_start e = ap (start_of starts) e
 
-  pub keep_reason : is_kept_bid f dummy n ≡ true
-      → Keep (start_of starts dummy + length walk.points.items) ≡ reason_of f n.number
-  keep_reason t =
-      sym (reason dummy refl ∙ kept_reason f n.number dummy (ap (is_kept_atom f dummy) (sym offered) ∙ t)
+  pub xor_start : {d start : ℕ} → dummy ≡ Some d → start ≡ get_or starts d start → start_of starts dummy ≡ start
+  xor_start {d} {start} e at = ap (start_of starts) e ∙ get_or_default starts d 0 start (start_there e) ∙ sym at
+
+  pub keep_fits : {start : ℕ} → is_kept_bid f dummy n ≡ true → start_of starts dummy ≡ start → start + length walk.points.items < MAX_BIDS
+  keep_fits t e = search (rules, kept_as, slice_get_within, start_of, is, kept_count)
+
+  pub keep_reason : {start : ℕ} → is_kept_bid f dummy n ≡ true → start_of starts dummy ≡ start
+      → Keep (start + length walk.points.items) ≡ reason_of f n.number
+  keep_reason t e =
+      ap (λ (k : ℕ). Keep (k + length walk.points.items)) (sym e)
+      ∙ sym (reason dummy refl ∙ kept_reason f n.number dummy (ap (is_kept_atom f dummy) (sym offered) ∙ t)
       ∙ ap Keep (kept_number_is f is.plain n.number (start_of starts dummy + length walk.points.items) (kept_as t)))
 
   -- the number of a point inside its goods
   point_before : (o : Option ℕ) → dummy ≡ o → is_kept_bid f dummy n ≡ false → (p : ℕ) → p < length (points_of f o)
       → IsInside (atom_at (points_of f o) p).bundle (offer n).bundle → (p < length walk.points.items) × (get_or walk.points.items p 0 ≡ point_number f o p)
-  point_before o e dropped p l i =
-      let m = inside_is_kept f is.plain bids is.order place n next dropped p (subst (λ (q : Option ℕ). p < length (points_of f q)) (sym e) l)
-      (subst (λ (q : Option ℕ). IsInside (atom_at (points_of f q) p).bundle (offer n).bundle) (sym e) i) in
-      let long = long_points in (
-        omega arith,
-        ap (λ (xs : List ℕ). get_or xs p 0) has.points ∙ number_of_point f is.plain bids is.order place n next p m
-            ∙ ap (λ (q : Option ℕ). point_number f q p) e,
-      )
+  point_before o e dropped p l i = search (rules, inside_is_kept, offer, long_points, number_of_point)
 
-  module _ (places : List ℕ) (or : dummy ≡ None) (fate : or_fate Bounded (points_of f None) (offer n) ≡ Some places) where
-    each_before : All (λ p. (p < length walk.points.items) × (get_or walk.points.items p 0 ≡ point_number f None p)) places
+  module _ {indices : List ℕ} (or : dummy ≡ None) (fate : or_fate Bounded (points_of f None) (offer n) ≡ Some indices) where
+    each_before : All (λ p. (p < length walk.points.items) × (get_or walk.points.items p 0 ≡ point_number f None p)) indices
     each_before k d l =
-        let packing = (packing_from (points_of f None) (offer n) places fate).packing in
-        point_before None or (or_not_kept places or fate) (get_or places k d) (packing.within k d l)
-        (all_unmap (λ a. IsInside a.bundle (offer n).bundle) (atom_at (points_of f None)) places packing.inside k d l)
+        let packing = (packing_from (points_of f None) (offer n) indices fate).packing in
+        point_before None or (or_not_kept or fate) (get_or indices k d) (packing.within k d l)
+        (all_unmap (λ a. IsInside a.bundle (offer n).bundle) (atom_at (points_of f None)) indices packing.inside k d l)
 
-    pub packing_within : All (λ p. p < length walk.points.items) places
+    pub packing_within : All (λ p. p < length walk.points.items) indices
     packing_within k d l = (each_before k d l).0
 
-    pub packing_reason : Packing (sort_by nat_cmp (numbers_at walk.points.items places)) ≡ reason_of f n.number
+    pub packing_reason : Packing (sort_by nat_cmp (numbers_at walk.points.items indices)) ≡ reason_of f n.number
     packing_reason =
-        let numbers : numbers_at walk.points.items places ≡ map (point_number f None) places =
-        map_same_on (λ p. get_or walk.points.items p 0) (point_number f None) places (λ k d l. (each_before k d l).1) in
+        let numbers : numbers_at walk.points.items indices ≡ map (point_number f None) indices =
+        map_same_on (λ p. get_or walk.points.items p 0) (point_number f None) indices (λ k d l. (each_before k d l).1) in
         ap (λ (ns : List ℕ). Packing (sort_by nat_cmp ns)) numbers
         ∙ sym (reason None or ∙ ap (or_reason f n.number) (ap (or_fate Bounded (points_of f None)) (sym offered) ∙ fate))
 
-  module _ (d p : ℕ) (xor : dummy ≡ Some d) (fate : xor_fate (points_of f (Some d)) (offer n) ≡ Some p) where
+  module _ {d p : ℕ} (xor : dummy ≡ Some d) (fate : xor_fate (points_of f (Some d)) (offer n) ≡ Some p) where
     own_point : (p < length walk.points.items) × (get_or walk.points.items p 0 ≡ point_number f (Some d) p)
     own_point =
         let point = inside_from (points_of f (Some d)) (offer n) p fate in
-        point_before (Some d) xor (xor_not_kept d p xor fate) p point.within
+        point_before (Some d) xor (xor_not_kept xor fate) p point.within
         (and_parts (is_inside (atom_at (points_of f (Some d)) p).bundle (offer n).bundle) _ point.below).0
 
     pub inside_within : p < length walk.points.items
@@ -272,29 +221,25 @@ module _ (known : Known) (place : ℕ) (n : NumberedBid) (walk : Walk) (is : IsK
 
   -- ---- the walk has passed it
 
-  one_passed : (after : Walk) → after.passed ≡ walk.passed + 1 → after.passed ≡ length (passed_bids f bids dummy (place + 1))
-  one_passed after e =
-      let more = ap (length {A = NumberedBid}) (passed_more f is.plain bids is.order place n next) in
-      let both = length-append own_done (n ∷ []) in
-      let passed = has.passed in
-      omega arith
+  one_passed : (after : Walk) → after.passed ≡ walk.passed + 1 → after.passed ≡ length (passed_bids f bids dummy (index + 1))
+  one_passed after e = search (rules, passed_more, length-append)
 
-  filtered : filter (is_kept_bid f dummy) (passed_bids f bids dummy (place + 1)) ≡ own_kept ++ filter (is_kept_bid f dummy) (n ∷ [])
+  filtered : filter (is_kept_bid f dummy) (passed_bids f bids dummy (index + 1)) ≡ own_kept ++ filter (is_kept_bid f dummy) (n ∷ [])
   filtered =
-      ap (filter (is_kept_bid f dummy)) (passed_more f is.plain bids is.order place n next) ∙ filter-append (is_kept_bid f dummy) own_done (n ∷ [])
+      ap (filter (is_kept_bid f dummy)) (passed_more best) ∙ filter-append (is_kept_bid f dummy) own_done (n ∷ [])
 
-  pub passed_kept : (after : Walk) → is_kept_bid f dummy n ≡ true → after.passed ≡ walk.passed + 1 → after.points.items ≡ walk.points.items ++ n.number ∷ []
-      → HasPassed f bids dummy (place + 1) after
-  passed_kept after t e points = record {
+  pub passed_kept : {after : Walk} → is_kept_bid f dummy n ≡ true → after.passed ≡ walk.passed + 1 → after.points.items ≡ walk.points.items ++ n.number ∷ []
+      → HasPassed f bids dummy (index + 1) after
+  passed_kept {after} t e points = record {
     passed = one_passed after e;
     points = points ∙ ap (λ (xs : List ℕ). xs ++ n.number ∷ []) has.points
         ∙ sym (ap (map (λ (m : NumberedBid). m.number)) (filtered ∙ ap (λ (xs : List NumberedBid). own_kept ++ xs) (filter-kept (is_kept_bid f dummy) n [] t))
         ∙ map-append (λ (m : NumberedBid). m.number) own_kept (n ∷ []));
   }
 
-  pub passed_dropped : (after : Walk) → is_kept_bid f dummy n ≡ false → after.passed ≡ walk.passed + 1 → after.points.items ≡ walk.points.items
-      → HasPassed f bids dummy (place + 1) after
-  passed_dropped after t e points = record {
+  pub passed_dropped : {after : Walk} → is_kept_bid f dummy n ≡ false → after.passed ≡ walk.passed + 1 → after.points.items ≡ walk.points.items
+      → HasPassed f bids dummy (index + 1) after
+  passed_dropped {after} t e points = record {
     passed = one_passed after e;
     points = points ∙ has.points
         ∙ sym (ap (map (λ (m : NumberedBid). m.number)) (filtered ∙ ap (λ (xs : List NumberedBid). own_kept ++ xs) (filter-lost (is_kept_bid f dummy) n [] t))

@@ -1,47 +1,20 @@
 -- The best bids that a walk over the bids in order passes are a bidder's best bids, in order: of each bundle one alone is the best.
-use Rattle.std.proofs.Common.{◌≡◌, ◌≢◌, ℕ, ◌+◌, ◌-◌, ◌<◌, ◌≤◌, Bool, true, false, ◌&&◌, eqb, ltb, cond, ⊎_elim, List, [], ◌∷◌, ◌++◌, length, map, get_or}
-use Rattle.std.proofs.Common.{take, drop}
-use Rattle.std.proofs.Common.{Option, None, refl, sym, ap, ap₂, ◌∙◌, subst, arith, Ordering, Less, Equal, Greater, is_lt, nat_cmp}
-use Rattle.std.specs.Prelude.{AllPairs, Contains}
-use Rattle.std.specs.List.{filter}
-use Rattle.std.specs.Option.{unwrap_or}
-use Rattle.std.specs.Ordering.{ordering_reverse, ordering_then}
-use Rattle.std.proofs.lemmas.Bool.{and_from, and_parts, both_ways, cases_lt, eq-eqb, eqb-true, lt-ltb, ltb-true}
-use Rattle.std.proofs.lemmas.Bool.Decides.{Decides-eqb}
-use Rattle.std.proofs.lemmas.List.{drop_more, get_or-append_right, get_or-map, get_or_append_left, get_or_at, length-append, length-map, map-append}
-use Rattle.std.proofs.lemmas.List.{take-append-drop}
-use Rattle.std.proofs.lemmas.List.Elements.{All-contains, Contains-append_left, Contains-append_right, Contains-get_or, filter-append, filter_more}
-use Rattle.std.proofs.lemmas.List.Kept.{AllPairs-filter}
-use Rattle.std.proofs.lemmas.List.Sorted.{IsPermutation-map, ranks_by, sorted_far}
-use Rattle.std.proofs.lemmas.Map.Keys.{IsDistinct-IsPermutation}
-use Rattle.std.proofs.lemmas.Map.Made.{AllPairs-from_IsDistinct, IsDistinct-from_AllPairs}
-use Rattle.std.proofs.lemmas.Option.{get_or_from_slice_get, slice_get_within}
-use Rattle.goods_set.specs.Bundles.{IsInside, IsRising}
-use Rattle.goods_set.specs.Orders.{bundle_cmp}
-use Rattle.goods_set.specs.Lemmas.Orders.{bundle_cmp_equal, bundle_cmp_total, nat_cmp-refl}
-use Rattle.bid_file.specs.Files.{PlainBid, PlainFile, IsDummyBelow, IsPlainFile}
-use Rattle.bid_file.specs.Views.{seen_bid}
-use Rattle.valuation.specs.declared.atom.Atom.{Atom}
-use Rattle.valuation.specs.Auctions.{atom_of}
-use Rattle.valuation.specs.Packings.{atom_at}
-use Rattle.valuation.specs.Lemmas.Lists.{AllPairs-map, Contains-cons_cases, Contains-map, Contains-unmap}
-use Rattle.prune.specs.Fates.{best_bids}
-use Rattle.prune.specs.InOrder.{IsBefore, IsInOrder}
-use Rattle.prune.specs.SearchSteps.{greatest_price}
-use Rattle.prune.specs.Lemmas.InOrder.{before_not_inside, same_in_order}
-use Rattle.prune.specs.Lemmas.Lists.{Contains-filter, Contains-filter_parts, Contains-head, filter-kept}
-use Rattle.prune.specs.Lemmas.SearchSteps.{greatest_price-member, greatest_price-reached}
-use Rattle.prune.proofs.Pruning.{behind_next}
-use Rattle.canon.specs.Lemmas.Renaming.{filter-map}
-use Rattle.analysis.specs.declared.reasons.best.NumberedBid.{NumberedBid}
-use Rattle.analysis.specs.Bids.{bid_at, bidder_of, is_best}
-use Rattle.analysis.specs.Reasons.{point_number, points_of}
-use Rattle.analysis.specs.BidOrders.{AreInOrder, numbered_cmp}
-use Rattle.analysis.specs.Internal.Walks.{IsNextBest, is_best_of, is_kept_atom, is_kept_bid, passed_bids}
+use Rattle.analysis.proofs.Common.{rules, ◌≡◌, ◌≢◌, ℕ, ◌+◌, ◌-◌, ◌<◌, ◌≤◌, Bool, true, false, ◌&&◌, eqb, ltb, cond, ⊎_elim, List, [], ◌∷◌, ◌++◌, length, map}
+use Rattle.analysis.proofs.Common.{get_or, take, drop, Option, None, refl, sym, ap, ap₂, ◌∙◌, subst, arith, Ordering, Less, Equal, Greater, is_lt, nat_cmp}
+use Rattle.analysis.proofs.Common.{AllPairs, Contains, filter, unwrap_or, ordering_reverse, ordering_then, and_from, and_parts, both_ways, cases_lt, eq-eqb}
+use Rattle.analysis.proofs.Common.{eqb-true, lt-ltb, ltb-true, Decides-eqb, drop_more, get_or-map, get_or_append_left, get_or_at, length-append, length-map}
+use Rattle.analysis.proofs.Common.{map-append, All-contains, Contains-append_left, Contains-append_right, Contains-get_or, filter-append, filter_more}
+use Rattle.analysis.proofs.Common.{AllPairs-filter, IsPermutation-map, ranks_by, sorted_far, IsDistinct-IsPermutation, IsDistinct-from_AllPairs}
+use Rattle.analysis.proofs.Common.{get_or_from_slice_get, slice_get_within, IsInside, IsRising, bundle_cmp, bundle_cmp_equal, bundle_cmp_total, nat_cmp-refl}
+use Rattle.analysis.proofs.Common.{PlainBid, PlainFile, IsDummyBelow, IsPlainFile, seen_bid, Atom, atom_of, atom_at, AllPairs-map, Contains-cons_cases}
+use Rattle.analysis.proofs.Common.{Contains-map, Contains-unmap, best_bids, IsBefore, IsInOrder, same_in_order, Contains-filter, Contains-filter_parts}
+use Rattle.analysis.proofs.Common.{Contains-head, filter-kept, bid_from, NumberedBid, bid_at, bidder_of, is_best, point_number, points_of, AreInOrder}
+use Rattle.analysis.proofs.Common.{numbered_cmp, Known, IsNextBest, is_best_of, is_kept_atom, is_kept_bid, passed_bids, get_or-append_right, take-append-drop}
+use Rattle.analysis.proofs.Common.{AllPairs-from_IsDistinct, before_not_inside, behind_next, filter-map}
 use Rattle.analysis.proofs.Explaining.BestBids.{alike_from, at_number, numbered, numbered_cmp_total}
 use Rattle.analysis.proofs.Explaining.BestNumbers.{best_number_is}
 use Rattle.analysis.proofs.Explaining.KeptBids.{bid_here}
-use Rattle.analysis.proofs.Explaining.KeptBidsBest.{atom_from, atom_there, atoms_of_bidder, best-once, best_of, is_of, its_own, of_it, same_bidder}
+use Rattle.analysis.proofs.Explaining.KeptBidsBest.{atoms_of_bidder, best-once, best_of_greatest, same_bidder}
 use Rattle.analysis.proofs.Explaining.KeptPoints.{best_is_there, kept_points}
 use Rattle.analysis.proofs.Explaining.Packings.{eqb_flips, pairs_unmap}
 use Rattle.analysis.proofs.Explaining.PointFates.{best_bids-are, best_bids-in_order}
@@ -152,22 +125,13 @@ module _ (f : PlainFile) (is : IsPlainFile f) (bids : List NumberedBid) (order :
       let h = best_bids-are f.goods (atoms_of_bidder f dummy) a c in
       let greatest = h.greatest in
       let positive = h.positive in
-      let r = greatest_price-reached (atoms_of_bidder f dummy) a.bundle (omega arith) in
-      let k = atom_from (is_of dummy) f r.0 r.1 in
-      let bidder = of_it dummy (bid_at f k.0) k.1.passes in
-      let goods : (bid_at f k.0).goods ≡ a.bundle = ap (λ (z : Atom (List ℕ)). z.bundle) (sym k.1.is) ∙ r.2 in
-      let price : (bid_at f k.0).price ≡ a.price = ap (λ (z : Atom (List ℕ)). z.price) (sym k.1.is) ∙ r.3 ∙ sym h.greatest in
-      let j = best_of f (bid_at f k.0) k.0 k.1.within refl (λ i l own.
-      let low = greatest_price-member (atoms_of_bidder f dummy) (atom_of (bid_at f i)) (atom_there (is_of dummy) f i l
-      (its_own dummy (bid_at f i) (same_bidder (bid_at f i).dummy dummy (own.bidder ∙ ap bidder_of bidder)))) in
-      let there : (bid_at f i).goods ≡ a.bundle = own.goods ∙ goods in
-      let same = ap (greatest_price (atoms_of_bidder f dummy)) there in
-      omega arith) in
+      let j = best_of_greatest f dummy a.bundle (omega arith) in
       let n = at_number f bids order (bid_at f j.0) j.0 j.1.within in
-      let seen : seen_bid n.0.bid ≡ bid_at f k.0 = n.3 ∙ j.1.is in
-      let is_it : offer n.0 ≡ a = ap atom_of seen ∙ ap₂ (λ (xs : List ℕ) (p : ℕ). record { bundle = xs; price = p }) goods price in
-      let own_price : n.0.bid.price ≡ a.price = ap (λ (z : PlainBid). z.price) seen ∙ price in
-      let own_bidder : n.0.bid.dummy ≡ dummy = ap (λ (z : PlainBid). z.dummy) seen ∙ bidder in
+      let seen : seen_bid n.0.bid ≡ bid_from dummy a =
+      n.3 ∙ j.1.is ∙ ap (λ (k : ℕ). bid_from dummy (record { bundle = a.bundle; price = k })) (sym h.greatest) in
+      let is_it : offer n.0 ≡ a = ap atom_of seen in
+      let own_price : n.0.bid.price ≡ a.price = ap (λ (z : PlainBid). z.price) seen in
+      let own_bidder : n.0.bid.dummy ≡ dummy = ap (λ (z : PlainBid). z.dummy) seen in
       let best : is_best f n.0.number ≡ true = ap (is_best f) n.2 ∙ j.1.best in
       subst (λ (z : Atom (List ℕ)). Contains (map offer all) z) is_it
       (Contains-map offer all n.0 (Contains-filter (is_best_of f dummy) bids n.0 n.1
@@ -175,25 +139,34 @@ module _ (f : PlainFile) (is : IsPlainFile f) (bids : List NumberedBid) (order :
       (and_from (ltb 0 n.0.bid.price) (is_best f n.0.number) (lt-ltb 0 n.0.bid.price (omega arith)) best))))
 
   pub all_passed : map offer all ≡ best_bids f.goods (atoms_of_bidder f dummy)
-  all_passed =
-      same_in_order (map offer all) (best_bids f.goods (atoms_of_bidder f dummy)) all_in_order (best_bids-in_order f.goods (atoms_of_bidder f dummy)) its_best
-      best_is_listed
+  all_passed = search (rules, same_in_order, atoms_of_bidder, all_in_order, best_bids-in_order, its_best, best_is_listed)
 
 -- ---- the next best bid
 
-module _ (f : PlainFile) (is : IsPlainFile f) (bids : List NumberedBid) (order : AreInOrder f bids) (place : ℕ) (n : NumberedBid)
-    (next : IsNextBest f bids place n) where
+module _ {known : Known} {index : ℕ} {n : NumberedBid} (best : IsNextBest known index n) where
+  abbrev f : PlainFile
+  f = known.file.now
+
+  abbrev bids : List NumberedBid
+  bids = known.bids.items
+
+  is : IsPlainFile f
+  is = best.next.is.plain
+
+  order : AreInOrder f bids
+  order = best.next.is.order
+
   abbrev dummy : Option ℕ
   dummy = n.bid.dummy
 
-  pub next_within : place < length bids
-  next_within = slice_get_within bids place n next.there
+  pub next_within : index < length bids
+  next_within = slice_get_within bids index n best.next.there
 
-  at : (d : NumberedBid) → get_or bids place d ≡ n
-  at d = get_or_from_slice_get bids place n d next.there
+  at : (d : NumberedBid) → get_or bids index d ≡ n
+  at d = get_or_from_slice_get bids index n d best.next.there
 
   there : Contains bids n
-  there = (place, next_within, at n)
+  there = (index, next_within, at n)
 
   here : (n.number < length f.bids) × (seen_bid n.bid ≡ bid_at f n.number)
   here = numbered f bids order (bid_at f 0) n there
@@ -209,24 +182,24 @@ module _ (f : PlainFile) (is : IsPlainFile f) (bids : List NumberedBid) (order :
 
   passes : is_best_of f dummy n ≡ true
   passes = and_from (eqb (bidder_of dummy) (bidder_of dummy)) (ltb 0 n.bid.price && is_best f n.number) (eq-eqb _ _ refl)
-      (and_from (ltb 0 n.bid.price) (is_best f n.number) (lt-ltb 0 n.bid.price next.positive) next.best)
+      (and_from (ltb 0 n.bid.price) (is_best f n.number) (lt-ltb 0 n.bid.price best.positive) best.best)
 
   abbrev pub done : List NumberedBid
-  done = passed_bids f bids dummy place
+  done = passed_bids f bids dummy index
 
   abbrev more : List NumberedBid
-  more = filter (is_best_of f dummy) (drop (place + 1) bids)
+  more = filter (is_best_of f dummy) (drop (index + 1) bids)
 
   split : filter (is_best_of f dummy) bids ≡ done ++ n ∷ more
   split =
-      ap (filter (is_best_of f dummy)) (sym (take-append-drop place bids)) ∙ filter-append (is_best_of f dummy) (take place bids) (drop place bids)
+      ap (filter (is_best_of f dummy)) (sym (take-append-drop index bids)) ∙ filter-append (is_best_of f dummy) (take index bids) (drop index bids)
       ∙ ap (λ (xs : List NumberedBid). done ++ xs)
-      (ap (filter (is_best_of f dummy)) (drop_more bids place n next_within ∙ ap (λ (m : NumberedBid). m ∷ drop (place + 1) bids) (at n))
-      ∙ filter-kept (is_best_of f dummy) n (drop (place + 1) bids) passes)
+      (ap (filter (is_best_of f dummy)) (drop_more bids index n next_within ∙ ap (λ (m : NumberedBid). m ∷ drop (index + 1) bids) (at n))
+      ∙ filter-kept (is_best_of f dummy) n (drop (index + 1) bids) passes)
 
-  pub passed_more : passed_bids f bids dummy (place + 1) ≡ done ++ n ∷ []
+  pub passed_more : passed_bids f bids dummy (index + 1) ≡ done ++ n ∷ []
   passed_more =
-      filter_more (is_best_of f dummy) bids place n next_within
+      filter_more (is_best_of f dummy) bids index n next_within
       ∙ ap (λ (m : NumberedBid). done ++ cond (is_best_of f dummy m) (m ∷ []) []) (at n)
       ∙ ap (λ (b : Bool). done ++ cond b (n ∷ []) []) passes
 
@@ -242,10 +215,7 @@ module _ (f : PlainFile) (is : IsPlainFile f) (bids : List NumberedBid) (order :
   kept = filter (is_kept_bid f dummy) done
 
   points_split : points_of f dummy ≡ map offer kept ++ filter (is_kept_atom f dummy) rest
-  points_split =
-      sym (kept_points f is dummy next_below) ∙ ap (filter (is_kept_atom f dummy)) best_split
-      ∙ filter-append (is_kept_atom f dummy) (map offer done) rest
-      ∙ ap (λ (xs : List (Atom (List ℕ))). xs ++ filter (is_kept_atom f dummy) rest) (filter-map (is_kept_atom f dummy) offer done)
+  points_split = search (rules, kept_points, is, next_below, best_split, filter-append, filter-map)
 
   blank : Atom (List ℕ)
   blank = record { bundle = []; price = 0 }
@@ -256,9 +226,9 @@ module _ (f : PlainFile) (is : IsPlainFile f) (bids : List NumberedBid) (order :
       let m : NumberedBid = get_or kept p n in
       let in_done = (Contains-filter_parts (is_kept_bid f dummy) done m (Contains-get_or kept p n l)).0 in
       let in_all = Contains-filter (is_best_of f dummy) bids m
-      (subst (λ (xs : List NumberedBid). Contains xs m) (take-append-drop place bids) (Contains-append_left
-      (take place bids) (drop place bids) m (Contains-filter_parts (is_best_of f dummy) (take place bids) m in_done).0))
-      (Contains-filter_parts (is_best_of f dummy) (take place bids) m in_done).1 in
+      (subst (λ (xs : List NumberedBid). Contains xs m) (take-append-drop index bids) (Contains-append_left
+      (take index bids) (drop index bids) m (Contains-filter_parts (is_best_of f dummy) (take index bids) m in_done).0))
+      (Contains-filter_parts (is_best_of f dummy) (take index bids) m in_done).1 in
       let one = one_of_all f is bids order dummy next_below m in_all in
       let long = length-map kept offer in
       let is_point : atom_at (points_of f dummy) p ≡ offer m =
@@ -308,14 +278,4 @@ module _ (f : PlainFile) (is : IsPlainFile f) (bids : List NumberedBid) (order :
 
   -- if it is kept itself, it is the next point
   pub next_point : is_kept_bid f dummy n ≡ true → (length kept < length (points_of f dummy)) × (atom_at (points_of f dummy) (length kept) ≡ offer n)
-  next_point t =
-      let tail = filter (is_kept_atom f dummy) (map offer more) in
-      let long = length-map kept offer in
-      let are : points_of f dummy ≡ map offer kept ++ offer n ∷ tail =
-      points_split ∙ ap (λ (xs : List (Atom (List ℕ))). map offer kept ++ xs) (filter-kept (is_kept_atom f dummy) (offer n) (map offer more) t) in
-      let same_long = ap (length {A = Atom (List ℕ)}) are in
-      let both = length-append (map offer kept) (offer n ∷ tail) in (
-        omega arith,
-        ap (λ (xs : List (Atom (List ℕ))). get_or xs (length kept) (record { bundle = []; price = 0 })) are
-            ∙ get_or_at (map offer kept) (offer n) tail (record { bundle = []; price = 0 }) (length kept) long,
-      )
+  next_point t = search (rules, length-map, points_split, filter-kept, length-append, get_or_at)

@@ -1,33 +1,16 @@
 -- The reason of each bid is true. A best bid is kept as a point, or what the points below its goods have reaches its price.
-use Rattle.std.proofs.Common.{◌≡◌, ℕ, ◌<◌, Bool, true, false, ⊎_elim, List, length, map, Option, Some, None, refl, sym, ap, ◌∙◌, subst}
-use Rattle.std.proofs.Common.{arith, ◌≤◌, eqb, is_none, leb, nat_cmp}
-use Rattle.std.specs.Prelude.{Contains, IfSome, is_some}
-use Rattle.std.specs.Option.{unwrap_or}
-use Rattle.std.proofs.lemmas.Bool.{both_ways, cases_Bool, eq-eqb, eqb-true, leb-true, ne_eqb}
-use Rattle.std.proofs.lemmas.Cmp.{nat_cmp_total}
-use Rattle.std.proofs.lemmas.List.FromFn.{get_or-map-range_with_len, length-map-range_with_len}
-use Rattle.bid_file.specs.Files.{PlainBid, PlainFile, IsDummyBelow, IsPlainFile}
-use Rattle.valuation.specs.declared.atom.Atom.{Atom}
-use Rattle.valuation.specs.declared.search_kind.SearchKind.TheVariants.{Bounded}
-use Rattle.valuation.specs.Auctions.{atom_of}
-use Rattle.valuation.specs.Packings.{atom_at}
-use Rattle.valuation.specs.Sorting.{sort_by}
-use Rattle.valuation.specs.Lemmas.Sorting.{permutation-sort_by, sorted-sort_by}
-use Rattle.valuation.specs.Packings.{IsPackingFor}
-use Rattle.prune.specs.Fates.{or_fate, places_below, xor_fate}
-use Rattle.prune.specs.Lemmas.Fates.{or_fate-reaches, places_below-within}
-use Rattle.prune.specs.Lemmas.Lists.{found_some, zero_or_more}
-use Rattle.prune.specs.SearchSteps.{is_below}
-use Rattle.analysis.specs.Bids.{bid_at, IsBestFor}
-use Rattle.analysis.specs.Reasons.{Zero, Same, Explains, IsBestBid, IsKeptAs, best_alike, best_reason, kept_number, or_reason}
-use Rattle.analysis.specs.Reasons.{point_number, points_of, reason_of, reasons_of, xor_reason}
-use Rattle.analysis.specs.Internal.Deciding.{IsDecided, IsNoPoint}
-use Rattle.analysis.specs.Internal.Walks.{is_kept_atom}
+use Rattle.analysis.proofs.Common.{rules, ◌≡◌, ℕ, ◌<◌, Bool, true, false, List, length, map, Option, Some, None, refl, sym, ap, ◌∙◌, subst, arith, ◌≤◌, eqb}
+use Rattle.analysis.proofs.Common.{is_none, leb, nat_cmp, Contains, IfSome, is_some, unwrap_or, both_ways, eq-eqb, eqb-true, leb-true, ne_eqb, nat_cmp_total}
+use Rattle.analysis.proofs.Common.{get_or-map-range_with_len, length-map-range_with_len, PlainBid, PlainFile, IsDummyBelow, IsPlainFile, Atom, Bounded, atom_of}
+use Rattle.analysis.proofs.Common.{atom_at, sort_by, permutation-sort_by, sorted-sort_by, IsPackingFor, indices_below, found_some, is_below, bid_at, IsBestFor}
+use Rattle.analysis.proofs.Common.{Zero, Same, Explains, IsKeptAs, best_reason, kept_number, or_reason, point_number, points_of, reasons_of, xor_reason}
+use Rattle.analysis.proofs.Common.{IsDecided, is_kept_atom, IsBestBid, best_alike, or_fate-reaches, indices_below-within, IsNoPoint}
+use Rattle.prune.specs.Fates.{or_fate, xor_fate}
+use Rattle.analysis.specs.Reasons.{reason_of}
 use Rattle.analysis.proofs.Explaining.BestNumbers.{best_number_for, best_there}
 use Rattle.analysis.proofs.Explaining.Deciding.{explained, priced_within}
-use Rattle.analysis.proofs.Explaining.KeptBids.{bid_here}
-use Rattle.analysis.proofs.Explaining.KeptPoints.{best_is_there, bidder_is_kept, kept_if_point, kept_is_point, kept_number_is, point_if_kept, point_is_kept}
-use Rattle.analysis.proofs.Explaining.KeptPoints.{point_number_is}
+use Rattle.analysis.proofs.Explaining.KeptBids.{bid_here, kept_is_point}
+use Rattle.analysis.proofs.Explaining.KeptPoints.{best_is_there, bidder_is_kept, kept_if_point, kept_number_is, point_if_kept, point_is_kept, point_number_is}
 use Rattle.analysis.proofs.Explaining.Packings.{IsPointOf, of_packing}
 
 -- ---- by cases
@@ -41,40 +24,33 @@ best_alike_is f i j h = ap (λ (o : Option ℕ). unwrap_or o i) (best_number_for
 
 pub reason_same : (f : PlainFile) (i j : ℕ) → 0 < (bid_at f i).price → IsBestFor f i j → eqb j i ≡ false → reason_of f i ≡ Same j
 unfolding reason_of
-reason_same f i j positive h differ =
-    let t : eqb (bid_at f i).price 0 ≡ false = ne_eqb (bid_at f i).price 0 (λ e. omega arith) in
-    let best = best_alike_is f i j h in
-    let u : eqb (best_alike f i) i ≡ false = ap (λ (k : ℕ). eqb k i) best ∙ differ in
-    simp (t, u) (ap Same best)
+reason_same f i j positive h differ = search (rules, ne_eqb, best_alike_is)
 
 pub reason_best : (f : PlainFile) (i : ℕ) → 0 < (bid_at f i).price → IsBestFor f i i → reason_of f i ≡ best_reason f i (bid_at f i).dummy
 unfolding reason_of
-reason_best f i positive h =
-    let t : eqb (bid_at f i).price 0 ≡ false = ne_eqb (bid_at f i).price 0 (λ e. omega arith) in
-    let u : eqb (best_alike f i) i ≡ true = eq-eqb (best_alike f i) i (best_alike_is f i i h) in
-    simp (t, u)
+reason_best f i positive h = search (rules, ne_eqb, eq-eqb, best_alike_is)
 
 -- ---- what makes a best bid superfluous
 
-pub packing_from : (points : List (Atom (List ℕ))) (a : Atom (List ℕ)) (places : List ℕ) → or_fate Bounded points a ≡ Some places
-    → IsPackingFor points a.bundle a.price places
-packing_from points a places e =
+pub packing_from : (points : List (Atom (List ℕ))) (a : Atom (List ℕ)) (indices : List ℕ) → or_fate Bounded points a ≡ Some indices
+    → IsPackingFor points a.bundle a.price indices
+packing_from points a indices e =
     subst (λ (fate : Option (List ℕ)). IfSome fate (λ ps. IsPackingFor points a.bundle a.price ps)) e (or_fate-reaches Bounded points a)
 
 -- a point below the bundle, whose price is as high
-pub record IsPointBelow (points : List (Atom (List ℕ))) (a : Atom (List ℕ)) (place : ℕ) : Type 0 where
-  pub within : place < length points
-  pub below : is_below (atom_at points place).bundle a.bundle ≡ true
-  pub enough : a.price ≤ (atom_at points place).price
+pub record IsPointBelow (points : List (Atom (List ℕ))) (a : Atom (List ℕ)) (index : ℕ) : Type 0 where
+  pub within : index < length points
+  pub below : is_below (atom_at points index).bundle a.bundle ≡ true
+  pub enough : a.price ≤ (atom_at points index).price
 
-pub inside_from : (points : List (Atom (List ℕ))) (a : Atom (List ℕ)) (place : ℕ) → xor_fate points a ≡ Some place → IsPointBelow points a place
+pub inside_from : (points : List (Atom (List ℕ))) (a : Atom (List ℕ)) (index : ℕ) → xor_fate points a ≡ Some index → IsPointBelow points a index
 unfolding xor_fate
-inside_from points a place e =
+inside_from points a index e =
     let test : ℕ → Bool = λ p. leb a.price (atom_at points p).price in
-    let found = subst (λ (fate : Option ℕ). IfSome fate (λ p. Contains (places_below points a.bundle) p × (test p ≡ true))) e
-    (found_some test (places_below points a.bundle)) in
-    let there = places_below-within points a.bundle place found.0 in
-    record { within = there.0; below = there.1; enough = leb-true a.price (atom_at points place).price found.1 }
+    let found = subst (λ (fate : Option ℕ). IfSome fate (λ p. Contains (indices_below points a.bundle) p × (test p ≡ true))) e
+    (found_some test (indices_below points a.bundle)) in
+    let there = indices_below-within points a.bundle index found.0 in
+    record { within = there.0; below = there.1; enough = leb-true a.price (atom_at points index).price found.1 }
 
 -- ---- a best bid
 
@@ -98,7 +74,7 @@ module _ (f : PlainFile) (is : IsPlainFile f) (i : ℕ) (within : i < length f.b
   no_point : is_kept_atom f own.dummy (atom_of own) ≡ false → IsNoPoint f i
   no_point t k e =
       both_ways (is_kept_atom f own.dummy (atom_of own)) t
-      (kept_if_point f is own.dummy (below own.dummy refl) (atom_of own) (kept_is_point f k own e))
+      (kept_if_point f is own.dummy (below own.dummy refl) (atom_of own) (kept_is_point f k own e).1)
 
   fate_at : (o : Option ℕ) → own.dummy ≡ o → (b : Bool) → is_kept_atom f o (atom_of own) ≡ b → is_kept_atom f own.dummy (atom_of own) ≡ b
   fate_at o e b t = ap (λ (p : Option ℕ). is_kept_atom f p (atom_of own)) e ∙ t
@@ -114,13 +90,13 @@ module _ (f : PlainFile) (is : IsPlainFile f) (i : ℕ) (within : i < length f.b
 
   or_decided : own.dummy ≡ None → (r : Option (List ℕ)) → or_fate Bounded (points_of f None) (atom_of own) ≡ r → IsDecided f i (or_reason f i r)
   or_decided none None e = keep (fate_at None none true (ap is_none e))
-  or_decided none (Some places) e =
+  or_decided none (Some indices) e =
       let points = points_of f None in
-      let packing = packing_from points (atom_of own) places e in
+      let packing = packing_from points (atom_of own) indices e in
       let number : ℕ → ℕ = point_number f None in
-      let js = sort_by nat_cmp (map number places) in
-      let r = of_packing f own.goods own.price points number places js (point_at None none) (some_good None none) packing
-      (permutation-sort_by nat_cmp (map number places)) (sorted-sort_by nat_cmp nat_cmp_total (map number places)) in
+      let js = sort_by nat_cmp (map number indices) in
+      let r = of_packing f own.goods own.price points number indices js (point_at None none) (some_good None none) packing
+      (permutation-sort_by nat_cmp (map number indices)) (sorted-sort_by nat_cmp nat_cmp_total (map number indices)) in
       record {
         bid = bid;
         no_point = no_point (fate_at None none false (ap is_none e));
@@ -133,12 +109,12 @@ module _ (f : PlainFile) (is : IsPlainFile f) (i : ℕ) (within : i < length f.b
 
   xor_decided : (d : ℕ) → own.dummy ≡ Some d → (r : Option ℕ) → xor_fate (points_of f (Some d)) (atom_of own) ≡ r → IsDecided f i (xor_reason f d i r)
   xor_decided d some None e = keep (fate_at (Some d) some true (ap is_none e))
-  xor_decided d some (Some place) e =
+  xor_decided d some (Some index) e =
       let points = points_of f (Some d) in
-      let found = inside_from points (atom_of own) place e in
-      let at = point_at (Some d) some place found.within in
-      let j = point_number f (Some d) place in
-      let price : (bid_at f j).price ≡ (atom_at points place).price = ap (λ (b : PlainBid). b.price) at.is in
+      let found = inside_from points (atom_of own) index e in
+      let at = point_at (Some d) some index found.within in
+      let j = point_number f (Some d) index in
+      let price : (bid_at f j).price ≡ (atom_at points index).price = ap (λ (b : PlainBid). b.price) at.is in
       let enough = found.enough in
       record {
         bid = bid;
@@ -157,19 +133,7 @@ module _ (f : PlainFile) (is : IsPlainFile f) (i : ℕ) (within : i < length f.b
 -- ---- each bid
 
 pub reason_is_decided : (f : PlainFile) → IsPlainFile f → (i : ℕ) → i < length f.bids → IsDecided f i (reason_of f i)
-reason_is_decided f is i l =
-    ⊎_elim (λ (none : (bid_at f i).price ≡ 0). subst (IsDecided f i) (sym (reason_zero f i none)) none)
-    (λ (some : 0 < (bid_at f i).price).
-    let j = best_there f i l in
-    ⊎_elim
-    (λ (t : eqb j.0 i ≡ true).
-    let itself : IsBestFor f i i = subst (IsBestFor f i) (eqb-true j.0 i t) j.1 in
-    subst (IsDecided f i) (sym (reason_best f i some itself))
-    (best_decided f is i l (record { positive = some; best = itself.best }) (bid_at f i).dummy refl))
-    (λ (n : eqb j.0 i ≡ false).
-    subst (IsDecided f i) (sym (reason_same f i j.0 some j.1 n)) (record { positive = some; another = n; best = j.1 }))
-    (cases_Bool (eqb j.0 i)))
-    (zero_or_more (bid_at f i).price)
+reason_is_decided f is i l = search (rules, reason_zero, best_there, eqb-true, reason_best, best_decided, reason_same)
 
 pub reasons_explain : (f : PlainFile) → IsPlainFile f → Explains f (reasons_of f)
 reasons_explain f is =

@@ -27,6 +27,11 @@ pub record IsKnown (known : Known) : Type 0 where
       (range_with_len 0 known.file.now.dummy)
   pub starts : AreStarts known.file.now 0 known.starts.items
 
+-- this bid is next in order
+pub record IsNext (known : Known) (index : ℕ) (bid : NumberedBid) : Type 0 where
+  pub is : IsKnown known
+  pub there : slice_get known.bids.items index ≡ Some bid
+
 -- ---- the best bids
 
 -- the next bid's, if the last one was on the same goods of the same bidder
@@ -77,7 +82,7 @@ pub record IsAt (f : PlainFile) (bids : List NumberedBid) (count : ℕ) (walk : 
   pub best : IsBestAt f bids count walk.best
 
 -- the next bid is a best bid with a price above 0
-pub record IsNextBest (f : PlainFile) (bids : List NumberedBid) (place : ℕ) (bid : NumberedBid) : Type 0 where
-  pub there : slice_get bids place ≡ Some bid
+pub record IsNextBest (known : Known) (index : ℕ) (bid : NumberedBid) : Type 0 where
+  pub next : IsNext known index bid
   pub positive : 0 < bid.bid.price
-  pub best : is_best f bid.number ≡ true
+  pub best : is_best known.file.now bid.number ≡ true

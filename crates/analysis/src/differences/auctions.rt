@@ -10,7 +10,7 @@ ghost use Rattle.analysis.specs.Views.{plain_differences};
 use crate::differences::bidder_changes::bidder_changes;
 use crate::differences::change::Differences;
 use bid_file::Bids;
-use canon::{bidders_of, price_changes};
+use canon::{FileBidders, price_changes};
 use std::alloc::{AllocError, Global};
 
 /// All differences of the auctions of two canonical files, of bids that lie in memory in any way. No bid is copied: the
@@ -27,8 +27,8 @@ pub fn all_differences<'a, B: Bids>(
     ensures { IfOk result (λ differences. AreAllDifferences (auction_from (B.file left.now))
         (auction_from (B.file right.now)) (plain_differences differences)) }
 {
-    let own = bidders_of(alloc, left)?;
-    let others = bidders_of(alloc, right)?;
+    let own = FileBidders::of(alloc, left)?;
+    let others = FileBidders::of(alloc, right)?;
     Ok(Differences {
         goods: goods_change(left.goods(), right.goods()),
         bundles: price_changes(alloc, &own.or_bids, &others.or_bids)?,

@@ -9,7 +9,7 @@ ghost use Rattle.analysis.specs.BidderChanges.{bidder_at, excess_bidders};
 ghost use Rattle.analysis.specs.Internal.Orders.{NeverFall};
 
 use bid_file::Bids;
-use canon::{BidRun, order_of_bidders};
+use canon::BidRun;
 use std::alloc::{AllocError, Global};
 
 /// The indices of the bidders that are more often among these than among the others. Of equal bidders the first ones are
@@ -29,7 +29,7 @@ pub(crate) fn excess_bidders<B: Bids>(
     for index in (0..bidders.len()).rev() {
         let bidder = &bidders[index];
         end = skip_greater(bidder, others, end);
-        if end > 0 && order_of_bidders(bidder, &others[end - 1]).is_eq() {
+        if end > 0 && bidder.order(&others[end - 1]).is_eq() {
             end -= 1;
         } else {
             excess.push(index as u32)?;
@@ -48,7 +48,7 @@ fn skip_greater<B: Bids>(bidder: &BidRun<'_, B>, others: &[BidRun<'_, B>], mut e
     ensures stopped { (index : ℕ) → index + 1 ≡ result
         → is_lt (bidder_cmp (offers bidder.now) (bidder_at (map offers others.now) index)) ≡ false }
 {
-    while end > 0 && order_of_bidders(bidder, &others[end - 1]).is_lt() {
+    while end > 0 && bidder.order(&others[end - 1]).is_lt() {
         end -= 1;
     }
     end

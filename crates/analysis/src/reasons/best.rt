@@ -78,6 +78,6 @@ pub fn number_of(bids: &[NumberedBid<'_>], bid: &BidRef<'_>) -> u32
     ensures { (f : PlainFile) → AreInOrder f bids.now → (i : ℕ) → i < length f.bids
         → bid_at f i ≡ seen_bid bid.now → IsBestFor f i result }
 {
-    let place = bids.partition_point(|other| order_of_keys(&other.bid, bid).is_lt());
-    bids[place].number
+    let index = bids.partition_point(|other| order_of_keys(&other.bid, bid).is_lt());
+    bids[index].number
 }

@@ -34,7 +34,7 @@ pub fn explain(
     ensures refused { IfErr result (λ fault. RefusesAuction (bounded_options limit total) (auction_from file.now) fault) }
 {
     let explained = explained_normal_file(alloc, file, SearchOptions::bounded(limit, total))?;
-    let starts = starts_of(alloc, file, &explained.named)?;
+    let starts = starts_of(alloc, file, &explained)?;
     let known = Known {
         file,
         bids: bids_in_order(alloc, file)?,

@@ -1,11 +1,11 @@
 //! The reasons of all bids, by one walk over them in order: bidder by bidder, and of one bidder bundle by bundle.
 
-ghost use Rattle.std.specs.Prelude.{◌≡◌, ◌≢◌, ◌+◌, ◌++◌, ◌<◌, All, IfOk, OnOk, Some, [], ◌∷◌, length, map, slice_get};
+ghost use Rattle.std.specs.Prelude.{◌≡◌, ◌≢◌, ◌+◌, ◌++◌, ◌<◌, All, IfOk, OnOk, Some, [], ◌∷◌, length, map};
 ghost use Rattle.std.specs.Ordering.{nat_cmp};
 ghost use Rattle.prune.specs.Fates.{numbers_at};
 ghost use Rattle.valuation.specs.Sorting.{sort_by};
 ghost use Rattle.analysis.specs.Reasons.{Keep, plain_reason, reason_of, reasons_of};
-ghost use Rattle.analysis.specs.Internal.Walks.{HasPassed, IsAt, IsKnown, IsNextBest, best_after, dummy_of};
+ghost use Rattle.analysis.specs.Internal.Walks.{HasPassed, IsAt, IsKnown, IsNext, IsNextBest, best_after, dummy_of};
 ghost use Rattle.analysis.specs.declared.reasons.best.NumberedBid.{NumberedBid};
 
 use crate::reasons::best::{NumberedBid, order_of_keys};
@@ -90,9 +90,9 @@ impl<'a> Walk<'a> {
         ensures passed { self.new.passed ≡ self.old.passed }
         ensures best { self.new.best ≡ self.old.best }
     {
-        let place = start + self.points.len() as u32;
+        let index = start + self.points.len() as u32;
         self.points.push(number)?;
-        Ok(Reason::Keep(place))
+        Ok(Reason::Keep(index))
     }
 
     /// The reason of a best bid with a price above 0, the next of its bidder's.
@@ -100,15 +100,14 @@ impl<'a> Walk<'a> {
         &mut self,
         alloc: Global,
         known: &Known<'a>,
-        place: usize,
+        index: usize,
         bid: &NumberedBid<'a>,
     ) -> Result<Reason, AllocError>
-        requires known { IsKnown known.now }
-        requires best { IsNextBest known.now.file.now known.now.bids.items place bid.now }
-        requires passed { HasPassed known.now.file.now known.now.bids.items bid.now.bid.dummy place self.old }
+        requires best { IsNextBest known.now index bid.now }
+        requires passed { HasPassed known.now.file.now known.now.bids.items bid.now.bid.dummy index self.old }
         ensures reason { IfOk result (λ reason. plain_reason reason ≡ reason_of known.now.file.now bid.now.number) }
         ensures passed { OnOk result
-            (HasPassed known.now.file.now known.now.bids.items bid.now.bid.dummy (place + 1) self.new) }
+            (HasPassed known.now.file.now known.now.bids.items bid.now.bid.dummy (index + 1) self.new) }
         ensures best { self.new.best ≡ self.old.best }
     {
         let passed = self.passed;
@@ -116,11 +115,11 @@ impl<'a> Walk<'a> {
         match bid.bid.dummy {
             None => match &known.fates.or[passed] {
                 None => self.keep(0, bid.number),
-                Some(places) => Ok(Reason::Packing(numbers_at(alloc, &self.points, places)?)),
+                Some(indices) => Ok(Reason::Packing(numbers_at(alloc, &self.points, indices)?)),
             },
             Some(dummy) => match known.fates.xor[dummy as usize][passed] {
                 None => self.keep(known.starts[dummy as usize], bid.number),
-                Some(place) => Ok(Reason::Inside(self.points[place])),
+                Some(index) => Ok(Reason::Inside(self.points[index])),
             },
         }
     }
@@ -130,14 +129,13 @@ impl<'a> Walk<'a> {
         &mut self,
         alloc: Global,
         known: &Known<'a>,
-        place: usize,
+        index: usize,
         bid: &NumberedBid<'a>,
     ) -> Result<Reason, AllocError>
-        requires known { IsKnown known.now }
-        requires there { slice_get known.now.bids.items place ≡ Some bid.now }
-        requires at { IsAt known.now.file.now known.now.bids.items place self.old }
+        requires next { IsNext known.now index bid.now }
+        requires at { IsAt known.now.file.now known.now.bids.items index self.old }
         ensures reason { IfOk result (λ reason. plain_reason reason ≡ reason_of known.now.file.now bid.now.number) }
-        ensures at { OnOk result (IsAt known.now.file.now known.now.bids.items (place + 1) self.new) }
+        ensures at { OnOk result (IsAt known.now.file.now known.now.bids.items (index + 1) self.new) }
     {
         let best = self.turn_to(bid);
         if bid.bid.price == 0 {
@@ -146,32 +144,21 @@ impl<'a> Walk<'a> {
         if best.number != bid.number {
             return Ok(Reason::Same(best.number));
         }
-        self.reason_of_best(alloc, known, place, bid)
+        self.reason_of_best(alloc, known, index, bid)
     }
 }
 
-/// The numbers at these places, rising.
-fn numbers_at(alloc: Global, numbers: &[u32], places: &[usize]) -> Result<Vec<u32>, AllocError>
-    requires { All (λ place. place < length numbers.now) places.now }
-    ensures { IfOk result (λ found. found.items ≡ sort_by nat_cmp (numbers_at numbers.now places.now)) }
+/// The numbers at these indices, rising.
+fn numbers_at(alloc: Global, numbers: &[u32], indices: &[usize]) -> Result<Vec<u32>, AllocError>
+    requires { All (λ index. index < length numbers.now) indices.now }
+    ensures { IfOk result (λ found. found.items ≡ sort_by nat_cmp (numbers_at numbers.now indices.now)) }
 {
-    let mut found = Vec::with_capacity(alloc, places.len())?;
-    for place in places {
-        found.push(numbers[*place])?;
+    let mut found = Vec::with_capacity(alloc, indices.len())?;
+    for index in indices {
+        found.push(numbers[*index])?;
     }
     found.sort_unstable();
     Ok(found)
-}
-
-/// So many times the reason `Zero`.
-fn zeros(alloc: Global, count: usize) -> Result<Vec<Reason>, AllocError>
-    ensures { IfOk result (λ reasons. length reasons.items ≡ count) }
-{
-    let mut reasons = Vec::with_capacity(alloc, count)?;
-    for _ in 0..count {
-        reasons.push(Reason::Zero)?;
-    }
-    Ok(reasons)
 }
 
 /// The reason of each bid.
@@ -179,15 +166,16 @@ pub(crate) fn all_reasons(alloc: Global, known: &Known<'_>) -> Result<Vec<Reason
     requires { IsKnown known.now }
     ensures { IfOk result (λ reasons. map plain_reason reasons.items ≡ reasons_of known.now.file.now) }
 {
-    let mut reasons = zeros(alloc, Bids::len(known.file))?;
+    let mut reasons = Vec::new(alloc);
+    reasons.resize_with(Bids::len(known.file), || Reason::Zero)?;
     let mut walk = Walk {
         best: None,
         passed: 0,
         points: Vec::new(alloc),
     };
-    for place in 0..known.bids.len() {
-        let bid = &known.bids[place];
-        let reason = walk.reason_at(alloc, known, place, bid)?;
+    for index in 0..known.bids.len() {
+        let bid = &known.bids[index];
+        let reason = walk.reason_at(alloc, known, index, bid)?;
         reasons[bid.number as usize] = reason;
     }
     Ok(reasons)

@@ -25,8 +25,8 @@ pub(crate) fn first_clash(
     let count = usize::from(goods) + file.dummy() as usize;
     let mut holders: Vec<Option<u32>> = vec![in alloc; None; count]?;
     let mut clash = None;
-    for place in (0..winners.len()).rev() {
-        let number = winners[place];
+    for index in (0..winners.len()).rev() {
+        let number = winners[index];
         let bid = file.at(number as usize);
         if let Some(rival) = least_holder(&holders, goods, &bid) {
             clash = Some((number, rival));

@@ -76,7 +76,7 @@ pub fn xor_bids()
 
 /// The reason of each bid. A packing is the one that the bounded search finds: it visits the points from the last
 /// to the first.
-#[tactic(auto, unfolding(prune::specs::Points::points_where, prune::specs::Points::is_xor_point, prune::specs::Points::is_or_point, valuation::specs::Values::xor_value, valuation::specs::Values::or_value, valuation::specs::SearchSteps::found_indices, prune::specs::Fates::found_places, prune::specs::Fates::or_fate, prune::specs::Fates::xor_fate, crate::specs::Reasons::reason_of))]
+#[tactic(auto, unfolding(prune::specs::Points::points_where, prune::specs::Points::is_xor_point, prune::specs::Points::is_or_point, valuation::specs::Values::xor_value, valuation::specs::Values::or_value, valuation::specs::SearchSteps::found_indices, prune::specs::Fates::found_points, prune::specs::Fates::or_fate, prune::specs::Fates::xor_fate, crate::specs::Reasons::reason_of))]
 pub fn reasons()
     ensures of_or_bids { reasons_of (file 2 0
         (or_bid (0 ∷ 1 ∷ []) 7 ∷ or_bid (1 ∷ []) 4 ∷ or_bid (0 ∷ []) 3 ∷ or_bid (1 ∷ []) 4 ∷ or_bid (0 ∷ []) 0 ∷ []))

@@ -43,7 +43,7 @@ pub fn greatest_revenues()
 {}
 
 /// Kept bids in the place of others, and by their numbers in the other file.
-#[tactic(auto, unfolding(prune::specs::Points::points_where, prune::specs::Points::is_xor_point, prune::specs::Points::is_or_point, valuation::specs::Values::xor_value, valuation::specs::Values::or_value, valuation::specs::SearchSteps::found_indices, prune::specs::Fates::found_places, prune::specs::Fates::or_fate, prune::specs::Fates::xor_fate, crate::specs::Reasons::reason_of))]
+#[tactic(auto, unfolding(prune::specs::Points::points_where, prune::specs::Points::is_xor_point, prune::specs::Points::is_or_point, valuation::specs::Values::xor_value, valuation::specs::Values::or_value, valuation::specs::SearchSteps::found_indices, prune::specs::Fates::found_points, prune::specs::Fates::or_fate, prune::specs::Fates::xor_fate, crate::specs::Reasons::reason_of))]
 pub fn kept_winners()
     ensures packing { in_place_of (file 2 0 (or_bid (0 ∷ 1 ∷ []) 7 ∷ or_bid (1 ∷ []) 4 ∷ or_bid (0 ∷ []) 3 ∷ [])) 0
         ≡ 1 ∷ 2 ∷ [] }

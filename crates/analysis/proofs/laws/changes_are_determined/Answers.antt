@@ -1,8 +1,5 @@
 -- `changes_are_determined`: each part of the differences is determined.
-use Rattle.std.proofs.Common.{◌≡◌, ℕ, List, Option, ap, ap₂, sym, ◌∙◌}
-use Rattle.valuation.specs.declared.atom.Atom.{Atom}
-use Rattle.analysis.specs.BidderChanges.{PlainBidderChange, AreBidderChanges}
-use Rattle.canon.specs.PriceChanges.{PlainChange}
+use Rattle.analysis.proofs.Common.{◌≡◌, ℕ, List, Option, ap, ap₂, sym, ◌∙◌, Atom, PlainBidderChange, AreBidderChanges, PlainChange}
 use Rattle.analysis.proofs.Comparing.ExchangedChanges.{one_list_of_changes}
 use Rattle.analysis.proofs.Comparing.SamePartners.{one_with_partners}
 use Rattle.analysis.proofs.laws.changes_are_determined.Goals as goal

@@ -1,8 +1,6 @@
 -- `differences_exchanged`
-use Rattle.std.proofs.Common.{◌≡◌, refl, Bool, true, false, cond, eqb, ⊎_elim, Option, Some, None, ap, sym, ◌∙◌, List, ℕ, nat_cmp}
-use Rattle.std.proofs.lemmas.Bool.{cases_Bool, eqb-true, eqb-false, eq-eqb, ne_eqb}
-use Rattle.valuation.specs.Sorting.{count_of}
-use Rattle.analysis.specs.Differences.{exchanged_goods, goods_change}
+use Rattle.analysis.proofs.Common.{◌≡◌, refl, Bool, true, false, cond, eqb, ⊎_elim, Option, Some, None, ap, sym, ◌∙◌, List, ℕ, nat_cmp, cases_Bool, eqb-true}
+use Rattle.analysis.proofs.Common.{eqb-false, eq-eqb, ne_eqb, count_of, exchanged_goods, goods_change}
 use Rattle.analysis.proofs.Comparing.ExchangedChanges.{bundles_exchanged}
 use Rattle.analysis.proofs.laws.differences_exchanged.Goals as goal
 

@@ -1,5 +1,5 @@
 -- `each_change_has_a_bid`
-use Rattle.canon.proofs.CanonicalAuctions.Sames.{HasAtoms-auction}
+use Rattle.analysis.proofs.Common.{HasAtoms-auction}
 use Rattle.analysis.proofs.Comparing.ChangesWithBids.{each_has_a_bid}
 use Rattle.analysis.proofs.laws.each_change_has_a_bid.Goals as goal
 

@@ -1,9 +1,5 @@
 -- `kept_bids_suffice`
-use Rattle.std.proofs.Common.{◌≡◌}
-use Rattle.std.proofs.lemmas.List.Elements.{All-weaker}
-use Rattle.goods_set.specs.Bundles.{IsInside}
-use Rattle.analysis.specs.Bids.{bid_at}
-use Rattle.analysis.specs.KeptWinners.{in_place_of}
+use Rattle.analysis.proofs.Common.{◌≡◌, All-weaker, IsInside, bid_at, in_place_of}
 use Rattle.analysis.proofs.Allocating.Replacing.{StandsFor, are_for}
 use Rattle.analysis.proofs.Allocating.Winning.{kept_allocation, kept_each, kept_revenue, kept_winners}
 use Rattle.analysis.proofs.laws.kept_bids_suffice.Goals as goal

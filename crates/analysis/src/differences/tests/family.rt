@@ -97,9 +97,9 @@ fn prices_of(file: &PackedFile, dummy: Option<u32>) -> Prices {
     let mut prices = [None; 7];
     for number in 0..Bids::len(file) {
         let bid = file.at(number);
-        for (place, bundle) in BUNDLES.iter().enumerate() {
+        for (index, bundle) in BUNDLES.iter().enumerate() {
             if bid.dummy == dummy && bid.goods == *bundle {
-                prices[place] = Some(bid.price);
+                prices[index] = Some(bid.price);
             }
         }
     }
@@ -129,12 +129,12 @@ fn price_changes(
     right: &Prices,
 ) -> Result<Vec<PriceChange<'static>>, AllocError> {
     let mut changes = Vec::new(alloc);
-    for (place, goods) in BUNDLES.iter().enumerate() {
-        if left[place] != right[place] {
+    for (index, goods) in BUNDLES.iter().enumerate() {
+        if left[index] != right[index] {
             changes.push(PriceChange {
                 goods,
-                left: left[place],
-                right: right[place],
+                left: left[index],
+                right: right[index],
             })?;
         }
     }
@@ -156,9 +156,9 @@ fn excess_of(
     others: &[XorBidder],
 ) -> Result<Vec<XorBidder>, AllocError> {
     let mut excess = Vec::new(alloc);
-    for (place, bidder) in bidders.iter().enumerate() {
+    for (index, bidder) in bidders.iter().enumerate() {
         let prices = &bidder.prices;
-        if count_equal(&bidders[place..], prices) > count_equal(others, prices) {
+        if count_equal(&bidders[index..], prices) > count_equal(others, prices) {
             excess.push(*bidder)?;
         }
     }
@@ -189,9 +189,9 @@ fn take_partner(
         }
     }
     let bundle = rarest?;
-    for place in 0..waiting.len() {
-        if count_on(&waiting[place..place + 1], bundle) > 0 {
-            return Some(waiting.remove(place));
+    for index in 0..waiting.len() {
+        if count_on(&waiting[index..index + 1], bundle) > 0 {
+            return Some(waiting.remove(index));
         }
     }
     None

@@ -149,12 +149,12 @@ fn is_apart(all: Explained<'_>, number: u32, bid: &BidRef<'_>, before: &[u32]) -
 /// Whether the bids of these numbers are a packing of the bid's bundle that reaches its price.
 fn is_packing(all: Explained<'_>, bid: &BidRef<'_>, numbers: &[u32]) -> bool {
     let mut sum: u64 = 0;
-    for (place, number) in numbers.iter().enumerate() {
+    for (index, number) in numbers.iter().enumerate() {
         let Some(other) = kept(all, *number) else {
             return false;
         };
         let is_member = other.dummy.is_none() && is_subset(other.goods, bid.goods);
-        if !is_member || !is_apart(all, *number, other, &numbers[..place]) {
+        if !is_member || !is_apart(all, *number, other, &numbers[..index]) {
             return false;
         }
         sum = sum.saturating_add(other.price);

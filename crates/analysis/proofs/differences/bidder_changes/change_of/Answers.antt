@@ -1,10 +1,9 @@
 -- `change_of`: each of the two has the bids of the bidder at its index, or none.
-use Rattle.std.proofs.Common.{map, length, ap}
-use Rattle.canon.specs.PriceChanges.{plain_change}
+use Rattle.analysis.proofs.Common.{map, length, ap, plain_change}
 use Rattle.analysis.proofs.Comparing.BidsOfBidders.{within, bids_in_order, bids_at_are, none_at, changes_at, none_of_both}
-use Rattle.analysis.proofs.differences.bidder_changes.change_of.Goals as goal
 use Rattle.analysis.proofs.differences.bidder_changes.change_of.Goals.{in-Some-Some+in_ok-bids-in-Some-Some, in-Some-None+in_ok-bids-in-Some-None}
 use Rattle.analysis.proofs.differences.bidder_changes.change_of.Goals.{in-None-Some+in_ok-bids-in-None-Some, in-None-None}
+use Rattle.analysis.proofs.differences.bidder_changes.change_of.Goals as goal
 
 pub price_changes-requires-clause-left_in_order : goal.price_changes-requires-clause-left_in_order
 price_changes-requires-clause-left_in_order g c =

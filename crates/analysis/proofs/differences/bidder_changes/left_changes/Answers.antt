@@ -1,15 +1,7 @@
 -- `left_changes`: one more left bidder has its change, and its partner waits no more.
-use Rattle.std.proofs.Common.{◌≡◌, ◌∙◌, ◌<◌, ℕ, List, length, map, take, get_or, sym, ap, ap₂, subst, refl, Option}
-use Rattle.std.specs.Prelude.{All, IfSome, Vec}
-use Rattle.std.specs.Global.{Global}
-use Rattle.std.proofs.lemmas.List.{length-map, map_push, take_more}
-use Rattle.std.proofs.lemmas.List.Elements.{All-filter}
-use Rattle.valuation.specs.declared.atom.Atom.{Atom}
-use Rattle.canon.specs.Bidders.{offers}
-use Rattle.analysis.specs.BidderChanges.{bidder_at, partner_of, waiting_after, without_partner}
-use Rattle.analysis.specs.Internal.Holders.{waits_at}
-use Rattle.analysis.specs.Internal.Partners.{ArePartners}
-use Rattle.analysis.specs.Views.{plain_bidder_change}
+use Rattle.analysis.proofs.Common.{◌≡◌, ◌∙◌, ◌<◌, ℕ, List, length, map, take, get_or, sym, ap, ap₂, subst, refl, Option, All, IfSome, Vec, Global, length-map}
+use Rattle.analysis.proofs.Common.{map_push, take_more, All-filter, Atom, offers, bidder_at, partner_of, waiting_after, without_partner, waits_at, ArePartners}
+use Rattle.analysis.proofs.Common.{plain_bidder_change}
 use Rattle.analysis.proofs.Comparing.BidsOfBidders.{bids_are, bids_in_order}
 use Rattle.analysis.proofs.Comparing.Changes.{no_lefts, one_more_left}
 use Rattle.analysis.proofs.Comparing.Waiting.{taken, taken_has, waiting_more}

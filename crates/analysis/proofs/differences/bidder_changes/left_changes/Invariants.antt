@@ -1,10 +1,5 @@
 -- `left_changes`
-use Rattle.std.proofs.Common.{◌≡◌, map, take}
-use Rattle.canon.specs.Bidders.{offers}
-use Rattle.analysis.specs.BidderChanges.{bidder_at, waiting_after}
-use Rattle.analysis.specs.Internal.Changes.{AreLefts}
-use Rattle.analysis.specs.Internal.Partners.{ArePartners}
-use Rattle.analysis.specs.Views.{plain_bidder_change}
+use Rattle.analysis.proofs.Common.{◌≡◌, map, take, offers, bidder_at, waiting_after, AreLefts, ArePartners, plain_bidder_change}
 use Rattle.analysis.proofs.differences.bidder_changes.left_changes.Given as goal
 
 -- the changes of the left bidders so far, whose partners wait no more

@@ -1,8 +1,5 @@
 -- `push_rest`: one more right bidder is added, alone.
-use Rattle.std.proofs.Common.{map, take, get_or}
-use Rattle.std.proofs.lemmas.List.{take_more, map_push}
-use Rattle.canon.specs.Bidders.{offers}
-use Rattle.analysis.specs.Views.{plain_bidder_change}
+use Rattle.analysis.proofs.Common.{map, take, get_or, take_more, map_push, offers, plain_bidder_change}
 use Rattle.analysis.proofs.Comparing.Changes.{one_more_alone}
 use Rattle.analysis.proofs.differences.bidder_changes.push_rest.Goals as goal
 

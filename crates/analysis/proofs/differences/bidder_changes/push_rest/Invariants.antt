@@ -1,8 +1,5 @@
 -- `push_rest`
-use Rattle.std.proofs.Common.{map, take}
-use Rattle.canon.specs.Bidders.{offers}
-use Rattle.analysis.specs.Internal.Changes.{AreRest}
-use Rattle.analysis.specs.Views.{plain_bidder_change}
+use Rattle.analysis.proofs.Common.{map, take, offers, AreRest, plain_bidder_change}
 use Rattle.analysis.proofs.differences.bidder_changes.push_rest.Given as goal
 
 -- the right bidders so far are added

@@ -1,10 +1,5 @@
 -- `skip_greater`
-use Rattle.std.proofs.Common.{◌≡◌, ◌-◌, ◌<◌, ◌≤◌, ⊎_elim, map, sym, ap, ◌∙◌, subst, arith, true, length}
-use Rattle.std.specs.Ordering.{is_lt}
-use Rattle.valuation.specs.Orders.{bidder_cmp}
-use Rattle.valuation.specs.Lemmas.Lists.{le_or_lt}
-use Rattle.canon.specs.Bidders.{offers}
-use Rattle.analysis.specs.BidderChanges.{bidder_at}
+use Rattle.analysis.proofs.Common.{◌≡◌, ◌-◌, ◌<◌, ◌≤◌, ⊎_elim, map, sym, ap, ◌∙◌, subst, arith, true, length, is_lt, bidder_cmp, le_or_lt, offers, bidder_at}
 use Rattle.analysis.proofs.Comparing.ExcessBidders.{bidder_at_index}
 use Rattle.analysis.proofs.differences.excess.skip_greater.Goals as goal
 
@@ -16,7 +11,7 @@ loop-end-preserved g c =
     let below : last < length others = omega (arith, c.loop-end.invariant.within) in
     let at = bidder_at_index others last c.index-others-end.result below c.index-others-end.is in
     let here : is_lt (bidder_cmp bidder (bidder_at (map offers others) last)) ≡ true =
-    ap (λ x. is_lt (bidder_cmp bidder x)) at ∙ sym (c.is_lt.ensures ∙ ap is_lt c.order_of_bidders.ensures) ∙ c.if-is_lt.true in
+    ap (λ x. is_lt (bidder_cmp bidder x)) at ∙ sym (c.is_lt.ensures ∙ ap is_lt c.order.ensures) ∙ c.if-is_lt.true in
     record {
       within = omega (arith, c.loop-end.invariant.within);
       skipped = λ index l m.

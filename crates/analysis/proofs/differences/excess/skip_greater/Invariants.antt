@@ -1,9 +1,5 @@
 -- `skip_greater`
-use Rattle.std.proofs.Common.{◌≡◌, ℕ, true, ◌<◌, ◌≤◌, map}
-use Rattle.std.specs.Ordering.{is_lt}
-use Rattle.valuation.specs.Orders.{bidder_cmp}
-use Rattle.canon.specs.Bidders.{offers}
-use Rattle.analysis.specs.BidderChanges.{bidder_at}
+use Rattle.analysis.proofs.Common.{◌≡◌, ℕ, true, ◌<◌, ◌≤◌, map, is_lt, bidder_cmp, offers, bidder_at}
 use Rattle.analysis.proofs.differences.excess.skip_greater.Given as goal
 
 -- the others behind are greater

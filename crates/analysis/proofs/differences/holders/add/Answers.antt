@@ -1,10 +1,7 @@
 -- `add`
-use Rattle.std.proofs.Common.{◌≡◌, ◌∙◌, ◌++◌, ◌∷◌, [], List, ℕ, ap, cond, sym, subst, refl}
-use Rattle.std.specs.Ordering.{is_eq}
-use Rattle.std.specs.Prelude.{IsSome, Option}
-use Rattle.goods_set.specs.Orders.{bundle_cmp}
-use Rattle.analysis.specs.declared.differences.holders.Holders.{Holders}
-use Rattle.analysis.specs.Internal.Holders.{found_at, indices_in, passed_in}
+use Rattle.analysis.proofs.Common.{◌≡◌, ◌∙◌, ◌++◌, ◌∷◌, [], List, ℕ, ap, cond, sym, subst, refl, is_eq, IsSome, Option, bundle_cmp, Holders, indices_in}
+use Rattle.analysis.proofs.Common.{passed_in}
+use Rattle.analysis.specs.Internal.Holders.{found_at}
 use Rattle.analysis.proofs.Comparing.HoldersFound.{added, still_passed}
 use Rattle.analysis.proofs.differences.holders.add.Goals as goal
 

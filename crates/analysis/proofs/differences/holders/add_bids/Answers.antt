@@ -1,6 +1,5 @@
 -- `add_bids`
-use Rattle.std.proofs.Common.{◌∙◌}
-use Rattle.bid_file.specs.Views.{seen_bid}
+use Rattle.analysis.proofs.Common.{◌∙◌, seen_bid}
 use Rattle.analysis.proofs.Comparing.BidsOnBundles.{one_more_bid}
 use Rattle.analysis.proofs.differences.holders.add_bids.Goals as goal
 

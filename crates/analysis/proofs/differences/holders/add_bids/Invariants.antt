@@ -1,8 +1,6 @@
 -- `add_bids`
-use Rattle.std.proofs.Common.{◌≡◌, ◌++◌, ℕ, List, map, take}
-use Rattle.std.specs.Prelude.{filter}
-use Rattle.canon.specs.Bidders.{offers}
-use Rattle.analysis.specs.Internal.Holders.{found_at, holders_at, is_on, passed_in}
+use Rattle.analysis.proofs.Common.{◌≡◌, ◌++◌, ℕ, List, map, take, filter, offers, holders_at, is_on, passed_in}
+use Rattle.analysis.specs.Internal.Holders.{found_at}
 use Rattle.analysis.proofs.differences.holders.add_bids.Given as goal
 
 -- the bidder is added for each bid so far

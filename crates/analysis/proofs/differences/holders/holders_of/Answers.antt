@@ -1,5 +1,5 @@
 -- `holders_of`
-use Rattle.std.proofs.Common.{◌∙◌, ◌<◌, ℕ, get_or, length, refl}
+use Rattle.analysis.proofs.Common.{◌∙◌, ◌<◌, ℕ, get_or, length, refl}
 use Rattle.analysis.proofs.Comparing.BidsOfBidders.{bids_are, bids_in_order}
 use Rattle.analysis.proofs.Comparing.BidsOnBundles.{one_more_bidder}
 use Rattle.analysis.proofs.differences.holders.holders_of.Goals as goal

@@ -1,8 +1,6 @@
 -- `holders_of`
-use Rattle.std.proofs.Common.{◌≡◌, ℕ, List, map, take}
-use Rattle.canon.specs.Bidders.{offers}
-use Rattle.analysis.specs.BidderChanges.{bidders_on}
-use Rattle.analysis.specs.Internal.Holders.{found_at, holders_at, passed_in}
+use Rattle.analysis.proofs.Common.{◌≡◌, ℕ, List, map, take, offers, bidders_on, holders_at, passed_in}
+use Rattle.analysis.specs.Internal.Holders.{found_at}
 use Rattle.analysis.proofs.differences.holders.holders_of.Given as goal
 
 -- the bidders so far are listed

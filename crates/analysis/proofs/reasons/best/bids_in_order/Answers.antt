@@ -1,9 +1,5 @@
 -- `bids_in_order`
-use Rattle.std.proofs.Common.{rules, is_lt}
-use Rattle.std.proofs.lemmas.Fn.{always_returns_same}
-use Rattle.std.proofs.lemmas.List.Sorted.{ranks_by}
-use Rattle.analysis.specs.declared.reasons.best.NumberedBid.{NumberedBid}
-use Rattle.analysis.specs.BidOrders.{numbered_cmp}
+use Rattle.analysis.proofs.Common.{rules, is_lt, ranks_by, NumberedBid, numbered_cmp, always_returns_same}
 use Rattle.analysis.proofs.Explaining.BestBids.{numbered_cmp_total}
 use Rattle.analysis.proofs.reasons.best.bids_in_order.Goals as goal
 

@@ -1,8 +1,5 @@
 -- `numbered_bids`: the first bids are numbered.
-use Rattle.std.proofs.Common.{◌≡◌, ◌<◌, ℕ, length, get_or}
-use Rattle.bid_file.specs.Views.{seen_bid}
-use Rattle.analysis.specs.declared.reasons.best.NumberedBid.{NumberedBid}
-use Rattle.analysis.specs.Bids.{bid_at}
+use Rattle.analysis.proofs.Common.{◌≡◌, ◌<◌, ℕ, length, get_or, seen_bid, NumberedBid, bid_at}
 use Rattle.analysis.proofs.reasons.best.numbered_bids.Given as goal
 
 abbrev pub invariant-loop-number : goal.invariant-loop-number

@@ -1,13 +1,8 @@
 -- `starts_of`: the bidder of the bid in front of them begins there, or still further in front (proofs/KeptStarts).
-use Rattle.std.proofs.Common.{arith, ◌≡◌, ◌+◌, ◌-◌, ℕ, sym, subst}
-use Rattle.std.specs.Global.{Global}
-use Rattle.std.specs.Prelude.{Vec}
-use Rattle.bid_file.specs.Files.{PlainFile}
-use Rattle.bid_file.specs.Views.{seen_bid}
-use Rattle.analysis.specs.Internal.Starts.{AreStarts}
+use Rattle.analysis.proofs.Common.{arith, ◌≡◌, ◌+◌, ◌-◌, ℕ, sym, subst, Global, Vec, PlainFile, AreStarts}
 use Rattle.analysis.proofs.Explaining.KeptStarts.{in_file, kept_count, more_starts, name_there, named_count, or_bidder, same_starts, xor_bidder}
-use Rattle.analysis.proofs.reasons.starts.starts_of.Goals as goal
 use Rattle.analysis.proofs.reasons.starts.starts_of.Goals.{in-Some, in_default}
+use Rattle.analysis.proofs.reasons.starts.starts_of.Goals as goal
 
 pub overflow_cast-k : goal.overflow_cast-k
 overflow_cast-k c =
@@ -17,14 +12,12 @@ overflow_cast-k c =
 
 pub index-requires : goal.index-requires
 index-requires c =
-    let l = name_there c.args.file.now c.args.named.now c.requires (c.len-count.result - 1 - c.loop-behind.behind) (seen_bid c.at.result) c.at.ensures
-    c.in-Some.dummy c.in-Some.is in
+    let l = name_there c.requires (c.len-count.result - 1 - c.loop-behind.behind) c.at.ensures c.in-Some.is in
     omega (arith, l, c.args.named.now.dummies.ok.0)
 
 pub index_mut-requires : goal.index_mut-requires
 index_mut-requires c =
-    let l = in_file c.args.file.now c.args.named.now c.requires (c.len-count.result - 1 - c.loop-behind.behind) (seen_bid c.at.result) c.at.ensures
-    c.in-Some.dummy c.index.result.now c.in-Some.is c.index.ensures in
+    let l = in_file c.requires (c.len-count.result - 1 - c.loop-behind.behind) c.at.ensures c.in-Some.is c.index.ensures in
     omega (arith, l, c.loop-behind.invariant.long, c.loop-behind.starts.ok.0)
 
 pub loop-behind-preserved : goal.loop-behind-preserved
@@ -34,18 +27,15 @@ loop-behind-preserved c =
     let from : ℕ = c.len-count.result - c.loop-behind.behind in
     let next : k + 1 ≡ from = omega (arith, c.loop-behind-test.true) in
     let before : k ≡ c.len-count.result - (c.loop-behind.behind + 1) = omega (arith, c.loop-behind-test.true) in
-    let bid = seen_bid c.at.result in
     subst (λ (n : ℕ). AreStarts f n c.match-at.starts.items) before
     (elim c.match-at.branch as (λ _. AreStarts f k c.match-at.starts.items) [
       | in-Some w ↦
           subst (λ (v : Vec ℕ Global). AreStarts f k v.items) (sym w.starts-is)
           (more_starts f k from c.loop-behind.starts.items w.index.result.now next c.loop-behind.invariant
-          (xor_bidder f c.args.named.now c.requires k bid c.at.ensures w.in-Some.dummy w.index.result.now w.in-Some.is w.index.ensures)
-          (in_file f c.args.named.now c.requires k bid c.at.ensures w.in-Some.dummy w.index.result.now w.in-Some.is w.index.ensures))
+          (xor_bidder c.requires k c.at.ensures w.in-Some.is w.index.ensures) (in_file c.requires k c.at.ensures w.in-Some.is w.index.ensures))
       | in_default w ↦
           subst (λ (v : Vec ℕ Global). AreStarts f k v.items) (sym w.starts-is)
-          (same_starts f k from c.loop-behind.starts.items next c.loop-behind.invariant
-          (or_bidder f c.args.named.now c.requires k bid c.at.ensures w.in_default.is))
+          (same_starts f k from c.loop-behind.starts.items next c.loop-behind.invariant (or_bidder c.requires k c.at.ensures w.in_default.is))
     ])
 
 pub returns : goal.returns

@@ -1,6 +1,5 @@
 -- `starts_of`: the starts are found among the last bids.
-use Rattle.std.proofs.Common.{◌-◌}
-use Rattle.analysis.specs.Internal.Starts.{AreStarts}
+use Rattle.analysis.proofs.Common.{◌-◌, AreStarts}
 use Rattle.analysis.proofs.reasons.starts.starts_of.Given as goal
 
 abbrev pub invariant-loop-behind : goal.invariant-loop-behind

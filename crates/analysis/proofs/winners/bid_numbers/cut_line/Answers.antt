@@ -1,7 +1,5 @@
 -- `cut_line`
-use Rattle.std.proofs.Common.{◌+◌, ◌∷◌, List, ℕ, take, ap, sym, ◌∙◌}
-use Rattle.std.proofs.lemmas.List.{take_rest}
-use Rattle.analysis.specs.BidNumbers.{lines_in}
+use Rattle.analysis.proofs.Common.{◌+◌, ◌∷◌, List, ℕ, take, ap, sym, ◌∙◌, lines_in, take_rest}
 use Rattle.analysis.proofs.Allocating.NumberLines.{cut, last}
 use Rattle.analysis.proofs.winners.bid_numbers.cut_line.Goals as goal
 

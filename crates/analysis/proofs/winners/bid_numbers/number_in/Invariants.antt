@@ -1,6 +1,5 @@
 -- `number_in`
-use Rattle.std.proofs.Common.{◌≡◌, min, take, true}
-use Rattle.cats_text.specs.Numbers.{digits_alone, number_of}
+use Rattle.analysis.proofs.Common.{◌≡◌, min, take, true, number_of, digits_alone}
 use Rattle.analysis.proofs.winners.bid_numbers.number_in.Given as goal
 
 -- the bytes so far are digits, and their number is held at the bound

@@ -1,12 +1,6 @@
 -- `push_numbers`
-use Rattle.std.proofs.Common.{◌≡◌, ◌+◌, ◌++◌, List, map, length, rules, tests, true, ap, arith, sym, subst, ◌∙◌}
-use Rattle.std.specs.List.{list_all}
-use Rattle.std.proofs.lemmas.Iterator.Consumers.{YieldsList-end, YieldsList-so_far, YieldsList-turn}
-use Rattle.cats_text.specs.Lines.{Word}
-use Rattle.cats_text.specs.Numbers.{number_of}
-use Rattle.analysis.specs.BidNumbers.{is_bid_number, words_in}
-use Rattle.analysis.specs.Internal.NumberLines.{RefusesLine}
-use Rattle.analysis.specs.declared.winners.bid_numbers.BidNumbersFault.TheVariants.{Memory}
+use Rattle.analysis.proofs.Common.{◌≡◌, ◌+◌, ◌++◌, List, map, length, rules, true, ap, arith, sym, subst, ◌∙◌, list_all, Word, number_of, is_bid_number}
+use Rattle.analysis.proofs.Common.{words_in, RefusesLine, Memory, tests, YieldsList-end, YieldsList-so_far, YieldsList-turn}
 use Rattle.analysis.proofs.Allocating.NumberLines.{begins_at, came_through, fails_at, no_number, number_found}
 use Rattle.analysis.proofs.Allocating.YieldedWords.{words_yielded}
 use Rattle.analysis.proofs.winners.bid_numbers.push_numbers.Goals as goal

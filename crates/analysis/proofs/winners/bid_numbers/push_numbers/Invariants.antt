@@ -1,8 +1,5 @@
 -- `push_numbers`
-use Rattle.std.proofs.Common.{◌≡◌, ◌++◌, map, true}
-use Rattle.std.specs.List.{list_all}
-use Rattle.cats_text.specs.Numbers.{number_of}
-use Rattle.analysis.specs.BidNumbers.{is_bid_number}
+use Rattle.analysis.proofs.Common.{◌≡◌, ◌++◌, map, true, list_all, number_of, is_bid_number}
 use Rattle.analysis.proofs.winners.bid_numbers.push_numbers.Given as goal
 
 -- the words so far are numbers, which are appended

@@ -1,6 +1,5 @@
 -- `read_bid_numbers`
-use Rattle.std.proofs.Common.{[]}
-use Rattle.analysis.specs.BidNumbers.{RefusesNumbers}
+use Rattle.analysis.proofs.Common.{[], RefusesNumbers}
 use Rattle.analysis.proofs.Allocating.NumberLines.{all_read, came_through, one_more, refused}
 use Rattle.analysis.proofs.winners.bid_numbers.read_bid_numbers.Goals as goal
 

@@ -1,5 +1,5 @@
 -- `read_bid_numbers`
-use Rattle.std.proofs.Common.{length}
+use Rattle.analysis.proofs.Common.{length}
 use Rattle.analysis.proofs.Allocating.NumberLines.{IsRead}
 use Rattle.analysis.proofs.winners.bid_numbers.read_bid_numbers.Given as goal
 

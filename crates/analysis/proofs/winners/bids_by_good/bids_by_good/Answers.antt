@@ -1,10 +1,5 @@
 -- `bids_by_good`
-use Rattle.std.proofs.Common.{[], None, ℕ, ap, sym, ◌∙◌}
-use Rattle.std.proofs.lemmas.Option.{get_or_from_slice_get}
-use Rattle.bid_file.specs.Files.{PlainFile, goods_of}
-use Rattle.bid_file.specs.Views.{seen_bid}
-use Rattle.valuation.specs.Lemmas.AuctionsOfFiles.{IsBid-there}
-use Rattle.analysis.specs.Internal.BidsByGood.{lists_of, with_bid}
+use Rattle.analysis.proofs.Common.{[], None, ℕ, ap, sym, ◌∙◌, get_or_from_slice_get, PlainFile, goods_of, seen_bid, lists_of, with_bid, IsBid-there}
 use Rattle.analysis.proofs.Allocating.ByGood.{bid_put}
 use Rattle.analysis.proofs.winners.bids_by_good.bids_by_good.Goals as goal
 

@@ -1,5 +1,5 @@
 -- `bids_by_good`
-use Rattle.analysis.specs.Internal.BidsByGood.{AreByGood, lists_of}
+use Rattle.analysis.proofs.Common.{AreByGood, lists_of}
 use Rattle.analysis.proofs.winners.bids_by_good.bids_by_good.Given as goal
 
 -- the numbers of the bids so far are there

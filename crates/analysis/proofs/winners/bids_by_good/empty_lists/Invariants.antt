@@ -1,6 +1,5 @@
 -- `empty_lists`
-use Rattle.std.proofs.Common.{◌≡◌, [], replicate}
-use Rattle.analysis.specs.Internal.BidsByGood.{lists_of}
+use Rattle.analysis.proofs.Common.{◌≡◌, [], replicate, lists_of}
 use Rattle.analysis.proofs.winners.bids_by_good.empty_lists.Given as goal
 
 -- so many lists are made

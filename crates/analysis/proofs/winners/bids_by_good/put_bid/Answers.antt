@@ -1,6 +1,5 @@
 -- `put_bid`
-use Rattle.std.proofs.Common.{arith, length, take}
-use Rattle.bid_file.specs.Views.{seen_bid}
+use Rattle.analysis.proofs.Common.{arith, length, take, seen_bid}
 use Rattle.analysis.proofs.Allocating.ByGood.{dummy_within, good_within, same_length}
 use Rattle.analysis.proofs.winners.bids_by_good.put_bid.Goals as goal
 

@@ -1,6 +1,5 @@
 -- `put_bid`
-use Rattle.std.proofs.Common.{◌≡◌, take}
-use Rattle.analysis.specs.Internal.BidsByGood.{lists_of, with_bid}
+use Rattle.analysis.proofs.Common.{◌≡◌, take, lists_of, with_bid}
 use Rattle.analysis.proofs.winners.bids_by_good.put_bid.Given as goal
 
 -- the number is in the lists of the goods so far

@@ -1,6 +1,5 @@
 -- `hold`
-use Rattle.std.proofs.Common.{◌≡◌, take}
-use Rattle.analysis.specs.Internal.FirstHolders.{held_by}
+use Rattle.analysis.proofs.Common.{◌≡◌, take, held_by}
 use Rattle.analysis.proofs.winners.clashes.hold.Given as goal
 
 -- the number is at the goods so far

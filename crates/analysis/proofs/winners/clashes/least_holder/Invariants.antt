@@ -1,6 +1,5 @@
 -- `least_holder`
-use Rattle.std.proofs.Common.{◌≡◌, take, None}
-use Rattle.analysis.specs.Internal.FirstHolders.{least_holder}
+use Rattle.analysis.proofs.Common.{◌≡◌, take, None, least_holder}
 use Rattle.analysis.proofs.winners.clashes.least_holder.Given as goal
 
 -- the least number at the goods so far

@@ -1,7 +1,5 @@
 -- `judge_allocation`
-use Rattle.std.proofs.Common.{ℕ, Some, None, Ok, ap, sym, subst, ◌∙◌}
-use Rattle.analysis.specs.declared.winners.allocation_verdict.AllocationVerdict.TheVariants.{Revenue}
-use Rattle.analysis.specs.Internal.FirstHolders.{IsRisingOf}
+use Rattle.analysis.proofs.Common.{ℕ, Some, None, Ok, ap, sym, subst, ◌∙◌, Revenue, IsRisingOf}
 use Rattle.analysis.proofs.Allocating.FirstPairs.{first_pair}
 use Rattle.analysis.proofs.Allocating.NamedBids.{all_within, are_numbers, number_within, verdict_is}
 use Rattle.analysis.proofs.winners.judging.judge_allocation.Goals as goal

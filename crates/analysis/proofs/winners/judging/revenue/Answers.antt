@@ -1,14 +1,7 @@
 -- `revenue`
-use Rattle.std.proofs.Common.{◌≡◌, ◌+◌, ◌<◌, ◌≤◌, [], None, ap, arith, get_or, length, take, ◌∙◌}
-use Rattle.std.proofs.lemmas.List.{take_more}
-use Rattle.std.proofs.lemmas.List.Sums.{sum_by_push}
-use Rattle.std.proofs.lemmas.Option.{get_or_from_slice_get}
-use Rattle.bid_file.specs.Files.{PlainBid, PlainFile}
-use Rattle.bid_file.specs.Views.{seen_bid}
-use Rattle.bid_file.specs.declared.limits.TheConstants.{MAX_PRICE}
-use Rattle.analysis.specs.Bids.{bid_at}
+use Rattle.analysis.proofs.Common.{◌≡◌, ◌+◌, ◌<◌, ◌≤◌, [], None, ap, arith, get_or, length, take, ◌∙◌, take_more, get_or_from_slice_get, PlainBid, PlainFile}
+use Rattle.analysis.proofs.Common.{seen_bid, MAX_PRICE, bid_at, revenue, sum_by_push}
 use Rattle.analysis.proofs.Explaining.KeptBids.{bid_here}
-use Rattle.analysis.specs.Allocations.{revenue}
 use Rattle.analysis.proofs.winners.judging.revenue.Goals as goal
 
 pub loop-number-preserved : goal.loop-number-preserved

@@ -1,7 +1,5 @@
 -- `revenue`
-use Rattle.std.proofs.Common.{◌≡◌, ◌≤◌, ◌*◌, take}
-use Rattle.bid_file.specs.declared.limits.TheConstants.{MAX_PRICE}
-use Rattle.analysis.specs.Allocations.{revenue}
+use Rattle.analysis.proofs.Common.{◌≡◌, ◌≤◌, ◌*◌, take, MAX_PRICE, revenue}
 use Rattle.analysis.proofs.winners.judging.revenue.Given as goal
 
 -- the sum of the prices so far

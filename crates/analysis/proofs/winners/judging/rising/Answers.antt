@@ -1,7 +1,5 @@
 -- `rising`
-use Rattle.std.proofs.Common.{ℕ, List, eqb, subst}
-use Rattle.std.specs.Prelude.{IsPermutation}
-use Rattle.std.proofs.lemmas.List.Filters.{dedup_is}
+use Rattle.analysis.proofs.Common.{ℕ, List, eqb, subst, IsPermutation, dedup_is}
 use Rattle.analysis.proofs.Allocating.NamedBids.{rising_of}
 use Rattle.analysis.proofs.winners.judging.rising.Goals as goal
 

@@ -1,7 +1,5 @@
 -- `lp_text`
-use Rattle.std.proofs.Common.{◌≡◌, ◌++◌, ℕ, List, ap, ◌∙◌}
-use Rattle.std.specs.List.{flat_map}
-use Rattle.analysis.specs.LpTexts.{lp_rows, row_text}
+use Rattle.analysis.proofs.Common.{◌≡◌, ◌++◌, ℕ, List, ap, ◌∙◌, flat_map, lp_rows, row_text}
 use Rattle.analysis.proofs.Allocating.RowTexts.{behind, behind_if_none}
 use Rattle.analysis.proofs.winners.lp.lp_text.Goals as goal
 

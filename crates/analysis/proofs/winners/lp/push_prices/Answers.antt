@@ -1,10 +1,5 @@
 -- `push_prices`
-use Rattle.std.proofs.Common.{◌++◌, [], None, ap, sym, ◌∙◌}
-use Rattle.std.proofs.lemmas.Option.{get_or_from_slice_get}
-use Rattle.bid_file.specs.Files.{PlainBid, PlainFile}
-use Rattle.bid_file.specs.Views.{seen_bid}
-use Rattle.analysis.specs.Bids.{bid_at}
-use Rattle.analysis.specs.LpTexts.{price_term}
+use Rattle.analysis.proofs.Common.{◌++◌, [], None, ap, sym, ◌∙◌, get_or_from_slice_get, PlainBid, PlainFile, seen_bid, bid_at, price_term}
 use Rattle.analysis.proofs.Allocating.RowTexts.{line_behind}
 use Rattle.analysis.proofs.winners.lp.push_prices.Goals as goal
 

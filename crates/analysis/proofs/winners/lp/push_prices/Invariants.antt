@@ -1,8 +1,5 @@
 -- `push_prices`
-use Rattle.std.proofs.Common.{◌≡◌, ◌++◌}
-use Rattle.std.specs.List.{flat_map, range_with_len}
-use Rattle.analysis.specs.Bids.{bid_at}
-use Rattle.analysis.specs.LpTexts.{price_term}
+use Rattle.analysis.proofs.Common.{◌≡◌, ◌++◌, flat_map, range_with_len, bid_at, price_term}
 use Rattle.analysis.proofs.winners.lp.push_prices.Given as goal
 
 -- the terms of the bids so far are appended

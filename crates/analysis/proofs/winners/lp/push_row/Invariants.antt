@@ -1,7 +1,5 @@
 -- `push_row`
-use Rattle.std.proofs.Common.{◌≡◌, ◌++◌, take}
-use Rattle.std.specs.List.{flat_map}
-use Rattle.analysis.specs.LpTexts.{row_term}
+use Rattle.analysis.proofs.Common.{◌≡◌, ◌++◌, take, flat_map, row_term}
 use Rattle.analysis.proofs.winners.lp.push_row.Given as goal
 
 -- the terms of the bids so far are appended

@@ -1,5 +1,5 @@
 -- `push_variables`
-use Rattle.analysis.specs.LpTexts.{binary_line}
+use Rattle.analysis.proofs.Common.{binary_line}
 use Rattle.analysis.proofs.Allocating.RowTexts.{line_behind}
 use Rattle.analysis.proofs.winners.lp.push_variables.Goals as goal
 

@@ -1,7 +1,5 @@
 -- `push_variables`
-use Rattle.std.proofs.Common.{◌≡◌, ◌++◌}
-use Rattle.std.specs.List.{flat_map, range_with_len}
-use Rattle.analysis.specs.LpTexts.{binary_line}
+use Rattle.analysis.proofs.Common.{◌≡◌, ◌++◌, flat_map, range_with_len, binary_line}
 use Rattle.analysis.proofs.winners.lp.push_variables.Given as goal
 
 -- the variables of the bids so far are appended

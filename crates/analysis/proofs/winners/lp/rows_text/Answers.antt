@@ -1,12 +1,10 @@
 -- `rows_text`
-use Rattle.std.proofs.Common.{true, false, ◌≡◌, ◌<◌, ◌++◌, ℕ, List, ap, ap₂, arith, length, sym, ◌∙◌}
-use Rattle.std.proofs.lemmas.Bool.{le-ltb, lt-ltb}
-use Rattle.bid_file.specs.Files.{PlainFile}
-use Rattle.analysis.specs.LpTexts.{bids_with, is_shared, row_name, row_of, row_text}
+use Rattle.analysis.proofs.Common.{true, false, ◌≡◌, ◌<◌, ◌++◌, ℕ, List, ap, ap₂, arith, length, sym, ◌∙◌, le-ltb, lt-ltb, PlainFile, bids_with, is_shared}
+use Rattle.analysis.proofs.Common.{row_of, row_text, row_name}
 use Rattle.analysis.proofs.Allocating.ByGood.{bids_found}
 use Rattle.analysis.proofs.Allocating.RowTexts.{row_kept, row_left_out}
-use Rattle.analysis.proofs.winners.lp.rows_text.Goals as goal
 use Rattle.analysis.proofs.winners.lp.rows_text.Goals.{then-shared+in_ok-push_row, else-shared}
+use Rattle.analysis.proofs.winners.lp.rows_text.Goals as goal
 
 pub loop-good-preserved : goal.loop-good-preserved
 loop-good-preserved c =

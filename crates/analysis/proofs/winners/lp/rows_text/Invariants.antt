@@ -1,5 +1,5 @@
 -- `rows_text`
-use Rattle.std.proofs.Common.{◌≡◌}
+use Rattle.analysis.proofs.Common.{◌≡◌}
 use Rattle.analysis.proofs.Allocating.RowTexts.{first_rows}
 use Rattle.analysis.proofs.winners.lp.rows_text.Given as goal
 

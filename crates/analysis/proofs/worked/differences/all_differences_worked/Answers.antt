@@ -1,8 +1,5 @@
 -- `all_differences_worked`
-use Rattle.std.proofs.Common.{[], ◌∷◌, refl, sym}
-use Rattle.std.proofs.lemmas.Option.{none-some}
-use Rattle.prune.specs.Lemmas.Lists.{Contains-nil}
-use Rattle.analysis.specs.Examples.{atom}
+use Rattle.analysis.proofs.Common.{[], ◌∷◌, refl, sym, none-some, Contains-nil, atom}
 use Rattle.analysis.proofs.Comparing.SameLists.{no_bidder_changes, no_price_changes}
 use Rattle.analysis.proofs.Comparing.WorkedRows.{two_prices}
 use Rattle.analysis.proofs.worked.differences.all_differences_worked.Goals as goal

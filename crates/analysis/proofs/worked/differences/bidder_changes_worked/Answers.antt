@@ -1,11 +1,6 @@
 -- `bidder_changes_worked`
-use Rattle.std.proofs.Common.{◌≡◌, ℕ, ◌<◌, Bool, false, List, [], ◌∷◌, refl, ap, arith, Option, Some, None}
-use Rattle.std.specs.Prelude.{All, is_some}
-use Rattle.std.proofs.lemmas.Bool.{both_ways}
-use Rattle.std.proofs.lemmas.List.Elements.{All-nil, All-cons}
-use Rattle.valuation.specs.declared.atom.Atom.{Atom}
-use Rattle.analysis.specs.BidderChanges.{IsBidderChange, PlainBidderChange}
-use Rattle.analysis.specs.Examples.{atom, bidder_change, change}
+use Rattle.analysis.proofs.Common.{◌≡◌, ℕ, ◌<◌, Bool, false, List, [], ◌∷◌, refl, ap, arith, Option, Some, None, All, is_some, both_ways, All-nil, All-cons}
+use Rattle.analysis.proofs.Common.{Atom, IsBidderChange, PlainBidderChange, atom, change, bidder_change}
 use Rattle.analysis.proofs.Comparing.SameLists.{no_bidder_changes}
 use Rattle.analysis.proofs.Comparing.WorkedRows.{left_alone, right_alone, right_alone_behind, two_prices}
 use Rattle.analysis.proofs.worked.differences.bidder_changes_worked.Goals as goal

@@ -1,10 +1,6 @@
 -- `price_changes_worked`
-use Rattle.std.proofs.Common.{◌≡◌, ℕ, [], ◌∷◌, refl, sym, arith, Some, None}
-use Rattle.std.proofs.lemmas.List.Elements.{All-head}
-use Rattle.std.proofs.lemmas.Option.{none-some, same_Some}
-use Rattle.prune.specs.Lemmas.Lists.{Contains-nil}
-use Rattle.analysis.specs.Examples.{atom, change}
-use Rattle.canon.specs.PriceChanges.{IsPriceChange, ArePriceChanges}
+use Rattle.analysis.proofs.Common.{◌≡◌, ℕ, [], ◌∷◌, refl, sym, arith, Some, None, All-head, none-some, same_Some, Contains-nil, atom, change, IsPriceChange}
+use Rattle.analysis.proofs.Common.{ArePriceChanges}
 use Rattle.analysis.proofs.Comparing.SameLists.{no_price_changes}
 use Rattle.analysis.proofs.Comparing.WorkedRows.{left_alone, right_alone, two_prices}
 use Rattle.analysis.proofs.worked.differences.price_changes_worked.Goals as goal

@@ -1,5 +1,5 @@
 -- `allocation_texts`
-use Rattle.std.proofs.Common.{refl}
+use Rattle.analysis.proofs.Common.{refl}
 use Rattle.std.specs.Fmt.{digits}
 use Rattle.analysis.proofs.worked.winners.allocation_texts.Goals as goal
 

@@ -1,5 +1,5 @@
 -- `rows`
-use Rattle.std.proofs.Common.{refl}
+use Rattle.analysis.proofs.Common.{refl}
 use Rattle.std.specs.Fmt.{digits}
 use Rattle.analysis.proofs.worked.winners.rows.Goals as goal
 

@@ -1,11 +1,8 @@
 -- `Holders::first_waiting`
-use Rattle.std.proofs.Common.{◌∙◌, ◌≡◌, ◌<◌, ◌≤◌, ℕ, get_or, length, sym, ap, arith, subst, List}
-use Rattle.std.specs.List.{filter}
-use Rattle.std.proofs.lemmas.Grind.{get_or_default_zero}
-use Rattle.std.specs.Prelude.{slice_get, Some, Vec}
-use Rattle.std.specs.Global.{Global}
-use Rattle.analysis.proofs.Comparing.HoldersFound.{first_passes, none_passes}
-use Rattle.analysis.specs.Internal.Holders.{waits_at}
+use Rattle.analysis.proofs.Common.{◌∙◌, ◌≡◌, ◌<◌, ◌≤◌, ℕ, get_or, length, sym, ap, arith, subst, List, filter, slice_get, Some, Vec, Global, waits_at}
+use Rattle.analysis.proofs.Common.{get_or_default_zero}
+use Rattle.analysis.proofs.Comparing.HoldersFound.{first_passes}
+use Rattle.analysis.proofs.Explaining.KeptBidsLists.{filter_none}
 use Rattle.analysis.proofs.differences.holders.Holders.first_waiting.Goals as goal
 
 pub returns-then-waits-clause-first : goal.returns-then-waits-clause-first
@@ -28,5 +25,5 @@ returns-clause-first c = λ passed.
     let same = ap (λ (v : Vec ℕ Global). v.items) c.loop-self.invariant.indices in
     let past : length c.args.self.now.indices.items ≤ c.loop-self.self.passed =
     omega (arith, c.loop-self-test.false, c.len.ensures, c.loop-self.self.indices.ok.0, ap length same) in
-    none_passes (waits_at c.args.waiting.now) c.args.self.now.indices.items
+    filter_none (waits_at c.args.waiting.now) c.args.self.now.indices.items 0
     (λ j l. ap (λ zs. waits_at c.args.waiting.now (get_or zs j 0)) (sym same) ∙ c.loop-self.invariant.passed passed j (omega (arith, past, l)))

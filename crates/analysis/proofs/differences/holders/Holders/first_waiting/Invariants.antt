@@ -1,7 +1,5 @@
 -- `Holders::first_waiting`
-use Rattle.std.proofs.Common.{◌≡◌, ◌-◌, length}
-use Rattle.std.specs.Prelude.{Some}
-use Rattle.analysis.specs.Internal.Holders.{ArePassed}
+use Rattle.analysis.proofs.Common.{◌≡◌, ◌-◌, length, Some, ArePassed}
 use Rattle.analysis.proofs.differences.holders.Holders.first_waiting.Given as goal
 
 -- those that are passed wait no more

@@ -1,10 +1,6 @@
 -- `Partners::candidate`
-use Rattle.std.proofs.Common.{◌≡◌, List, Bool, [], length, refl, sym, subst}
-use Rattle.std.specs.Prelude.{IsSome, MatchOption, Some, slice_get}
-use Rattle.std.specs.List.{filter}
-use Rattle.analysis.specs.BidderChanges.{bidders_on}
-use Rattle.analysis.specs.Internal.Holders.{ArePassed, waits_at}
-use Rattle.analysis.specs.Internal.Partners.{IsCandidate}
+use Rattle.analysis.proofs.Common.{◌≡◌, List, Bool, [], length, refl, sym, subst, IsSome, MatchOption, Some, slice_get, filter, bidders_on, ArePassed, waits_at}
+use Rattle.analysis.proofs.Common.{IsCandidate}
 use Rattle.analysis.proofs.Comparing.Partnering.{candidate_found, none_found, passed_more}
 use Rattle.analysis.proofs.differences.partners.Partners.candidate.Goals as goal
 

@@ -1,11 +1,6 @@
 -- `Partners::of`
-use Rattle.std.proofs.Common.{◌≡◌, ◌∙◌, ◌<◌, ℕ, List, Bool, true, false, get_or, length, map, ap, sym, subst, arith}
-use Rattle.std.specs.Prelude.{All}
-use Rattle.std.proofs.lemmas.List.{get_or-replicate, length-map}
-use Rattle.std.proofs.lemmas.List.Elements.{All-weaker}
-use Rattle.canon.specs.Bidders.{offers}
-use Rattle.analysis.specs.BidderChanges.{bidders_on}
-use Rattle.analysis.specs.Internal.Holders.{waits_at}
+use Rattle.analysis.proofs.Common.{◌≡◌, ◌∙◌, ◌<◌, ℕ, List, Bool, true, false, get_or, length, map, ap, sym, subst, arith, All, get_or-replicate, length-map}
+use Rattle.analysis.proofs.Common.{All-weaker, offers, bidders_on, waits_at}
 use Rattle.analysis.proofs.Comparing.LawsLists.{all_pass}
 use Rattle.analysis.proofs.differences.partners.Partners.of.Goals as goal
 

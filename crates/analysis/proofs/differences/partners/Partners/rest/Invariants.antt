@@ -1,7 +1,5 @@
 -- `Partners::rest`
-use Rattle.std.proofs.Common.{◌≡◌, take}
-use Rattle.std.specs.Prelude.{filter}
-use Rattle.analysis.specs.Internal.Holders.{waits_at}
+use Rattle.analysis.proofs.Common.{◌≡◌, take, filter, waits_at}
 use Rattle.analysis.proofs.differences.partners.Partners.rest.Given as goal
 
 -- those so far that wait

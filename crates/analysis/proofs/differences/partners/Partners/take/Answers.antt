@@ -1,5 +1,5 @@
 -- `Partners::take`
-use Rattle.std.proofs.Common.{refl}
+use Rattle.analysis.proofs.Common.{refl}
 use Rattle.analysis.proofs.Comparing.Partnering.{one_waits_less, set_waits, unset_waits}
 use Rattle.analysis.proofs.differences.partners.Partners.take.Goals as goal
 

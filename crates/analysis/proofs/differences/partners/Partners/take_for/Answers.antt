@@ -1,14 +1,6 @@
 -- `Partners::take_for`
-use Rattle.std.proofs.Common.{◌≡◌, ◌∙◌, ◌+◌, ℕ, List, [], map, take, sym, subst, arith, Option, Some, None}
-use Rattle.std.specs.Prelude.{MatchOption, Vec}
-use Rattle.std.specs.Global.{Global}
-use Rattle.std.proofs.lemmas.List.{take_all}
-use Rattle.bid_file.specs.Files.{PlainBid}
-use Rattle.bid_file.specs.Views.{seen_bid}
-use Rattle.valuation.specs.declared.atom.Atom.{Atom}
-use Rattle.canon.specs.Bidders.{offers}
-use Rattle.analysis.specs.BidderChanges.{bidders_on, without_partner}
-use Rattle.analysis.specs.Internal.Partners.{ArePartners, IsCandidate, IsRarestIfAny, rarer_candidate}
+use Rattle.analysis.proofs.Common.{◌≡◌, ◌∙◌, ◌+◌, ℕ, List, [], map, take, sym, subst, arith, Option, Some, None, MatchOption, Vec, Global, take_all, PlainBid}
+use Rattle.analysis.proofs.Common.{seen_bid, Atom, offers, bidders_on, without_partner, ArePartners, IsCandidate, IsRarestIfAny, rarer_candidate}
 use Rattle.analysis.proofs.Comparing.BidsOnBundles.{bundles_before, one_more_bundle_of}
 use Rattle.analysis.proofs.Comparing.RarestBundle.{no_partner, one_more_bundle, rarest_is_partner}
 use Rattle.analysis.proofs.differences.partners.Partners.take_for.Goals as goal

@@ -1,8 +1,5 @@
 -- `Partners::take_for`
-use Rattle.std.proofs.Common.{◌≡◌, ℕ, List, map, take}
-use Rattle.valuation.specs.declared.atom.Atom.{Atom}
-use Rattle.canon.specs.Bidders.{offers}
-use Rattle.analysis.specs.Internal.Partners.{ArePartners, IsRarestIfAny}
+use Rattle.analysis.proofs.Common.{◌≡◌, ℕ, List, map, take, Atom, offers, ArePartners, IsRarestIfAny}
 use Rattle.analysis.proofs.differences.partners.Partners.take_for.Given as goal
 
 -- the candidate is that on the rarest of the bundles so far, if a bidder waits on one of them
