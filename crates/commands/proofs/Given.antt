@@ -1,5 +1,5 @@
 -- What a command answered of a text is given: a text with its status, or a fault.
-use Rattle.std.proofs.Common.{◌≡◌, ◌≢◌, inl, inr, ℕ, true, List, [], take, Option, Some, Result, Ok, Err, IfSome, refl, sym, ap, subst}
+use Rattle.std.proofs.Common.{◌≡◌, ◌≢◌, inl, inr, ℕ, List, [], Option, Some, Result, Ok, Err, IfSome, refl, sym, ap, subst}
 use Rattle.bid_file.specs.Files.{PlainFile}
 use Rattle.cats_text.specs.Faults.{fault_at}
 use Rattle.cats_text.specs.Grammar.{Spells}
@@ -20,7 +20,7 @@ use Rattle.commands.specs.declared.run_fault.RunFault.TheVariants.{Refused, TooH
 use Rattle.rounding.specs.declared.replacement.FinePrices.{FinePrices}
 use Rattle.commands.specs.Commands.{Commands, GivesWithin, IsRefused, Makes, text_of}
 use Rattle.commands.specs.Outcomes.{Outcome, Prints, naming_outcome, normalise_outcome}
-use Rattle.commands.specs.Pairs.{CommandsBoth, Compares, Diffs}
+use Rattle.commands.specs.Pairs.{CommandsBoth, CommandsOnBoth, Compares, Diffs}
 use Rattle.commands.specs.SizesRows.{AnswersRow}
 use Rattle.commands.specs.declared.answer.Answer.{Answer}
 use Rattle.commands.specs.declared.answer.Output.{Output}
@@ -31,7 +31,9 @@ use Rattle.commands.specs.OneText.{CallsOn, IsRefusedText, IsUnmade, MakesOf, Of
 use Rattle.commands.specs.Refusals.{MayWantMemory, RefusesText, TextGives, TextRefuses, text_fault, text_read}
 use Rattle.commands.specs.Roundings.{AnswersRounding, GivesReport, GivesRounded, RoundCalls, whole_status}
 use Rattle.commands.specs.SizesCalls.{SaysRow, SizesCalls, WantsMemoryForRow}
-use Rattle.commands.specs.TwoTexts.{CompareCalls, ComparesTexts, DiffCalls, DiffsTexts, IsRefusedOfTwo}
+use Rattle.commands.specs.TwoTexts.{CallsOnBoth, CompareCalls, ComparesTexts, DiffCalls, DiffsTexts, IsRefusedOfTwo}
+use Rattle.commands.specs.declared.command.Comparison.{Comparison}
+use Rattle.commands.specs.declared.command.Comparison.TheVariants.{Compare, Diff}
 use Rattle.commands.specs.declared.calls.rounded_text.RoundAnswer.{RoundAnswer}
 use Rattle.commands.specs.declared.calls.text.Text.{Text}
 use Rattle.commands.proofs.Refusing.{text_fault-of_bytes}
@@ -193,7 +195,7 @@ module _ (options : SearchOptions) (fine : Option FinePrices) (first first_after
       given_both (Err fault) is old new needed answer g =
           given_fault Says (IsRefusedOfTwo options fine first.bytes.now second.bytes.now refusal) old new needed answer fault (refused_of fault is) g
 
-  pub given_compare : (r : Result Answer RunFault)
+  given_compare : (r : Result Answer RunFault)
       → Compares TextGives TextRefuses TextGives TextRefuses options first first_after second second_after r
       → (old new : List ℕ) (needed answer : ℕ) → Gives r old new needed answer
       → CompareCalls options fine first.bytes.now second.bytes.now old new needed answer
@@ -205,7 +207,7 @@ module _ (options : SearchOptions) (fine : Option FinePrices) (first first_after
         made = made;
       })
 
-  pub given_diff : (r : Result Answer RunFault)
+  given_diff : (r : Result Answer RunFault)
       → Diffs TextGives TextRefuses TextGives TextRefuses options first first_after second second_after r
       → (old new : List ℕ) (needed answer : ℕ) → Gives r old new needed answer
       → DiffCalls options fine first.bytes.now second.bytes.now old new needed answer
@@ -218,6 +220,14 @@ module _ (options : SearchOptions) (fine : Option FinePrices) (first first_after
         all = g.all;
         made = made;
       })
+
+pub given_comparison : (comparison : Comparison) (fine : Option FinePrices) (first first_after second second_after : Text) → first.fine ≡ fine
+    → second.fine ≡ fine → (r : Result Answer RunFault)
+    → CommandsOnBoth TextGives TextRefuses TextGives TextRefuses comparison first first_after second second_after r
+    → (old new : List ℕ) (needed answer : ℕ) → Gives r old new needed answer
+    → CallsOnBoth comparison fine first.bytes.now second.bytes.now old new needed answer
+given_comparison (Compare options) = given_compare options
+given_comparison (Diff options) = given_diff options
 
 -- ---- a rounded text
 

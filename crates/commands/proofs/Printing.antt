@@ -11,8 +11,8 @@ use Rattle.cats_text.specs.Layout.{price_text}
 use Rattle.valuation.specs.declared.atom.Atom.{Atom}
 use Rattle.valuation.specs.Auctions.{or_atoms_of, xor_atoms_of}
 use Rattle.valuation.specs.Bidders.{bidders_of}
-use Rattle.valuation.specs.Values.{atoms_of, chosen_places, xor_value}
-use Rattle.valuation.specs.Lemmas.Packings.{chosen_places-packing}
+use Rattle.valuation.specs.Values.{atoms_of, chosen_indices, xor_value}
+use Rattle.valuation.specs.Lemmas.Packings.{chosen_indices-packing}
 use Rattle.valuation.proofs.Placing.{length-bidders_of}
 use Rattle.commands.proofs.Lines.{lines_more}
 use Rattle.commands.specs.ValueTexts.{best_place, dummy_line, numbers_text, option_places, or_numbers, xor_line, xor_numbers}
@@ -62,8 +62,8 @@ xor_line_made good value place atoms numbers bundle old keyword named spaced pri
 
 -- the chosen places are those of bids
 pub places_within : (atoms : List (Atom (List ℕ))) (bids : List PlainBid) (bundle places numbers : List ℕ)
-    → places ≡ chosen_places atoms bundle → atoms ≡ or_atoms_of bids → numbers ≡ or_numbers bids → All (λ place. place < length numbers) places
+    → places ≡ chosen_indices atoms bundle → atoms ≡ or_atoms_of bids → numbers ≡ or_numbers bids → All (λ place. place < length numbers) places
 places_within atoms bids bundle places numbers p a n =
     let long : length numbers ≡ length atoms = ap (length {A = ℕ}) n ∙ length-or_numbers bids ∙ ap (length {A = Atom (List ℕ)}) (sym a) in
-    rw p (All-weaker (λ i. i < length atoms) (λ i. i < length numbers) (λ i below. omega arith) (chosen_places atoms bundle)
-    (chosen_places-packing atoms bundle).within)
+    rw p (All-weaker (λ i. i < length atoms) (λ i. i < length numbers) (λ i below. omega arith) (chosen_indices atoms bundle)
+    (chosen_indices-packing atoms bundle).within)

@@ -7,7 +7,7 @@ use Rattle.bid_file.specs.Files.{PlainBid, PlainFile}
 use Rattle.cats_text.specs.Layout.{layout}
 use Rattle.valuation.specs.Auctions.{or_atoms_of, auction_from}
 use Rattle.valuation.specs.Packings.{count_packings}
-use Rattle.valuation.specs.SearchLimits.{is_one_over}
+use Rattle.valuation.specs.SearchLimits.{bounded_options, is_one_over}
 use Rattle.valuation.specs.ValueSearches.{value_steps}
 use Rattle.valuation.specs.declared.search_options.SearchOptions.{SearchOptions}
 use Rattle.prune.specs.SearchSteps.{first_refused}
@@ -24,6 +24,8 @@ use Rattle.analysis.specs.AllocationVerdicts.{allocation_status, allocation_text
 use Rattle.analysis.specs.LpTexts.{lp_text}
 use Rattle.analysis.specs.declared.winners.allocation_verdict.AllocationVerdict.{AllocationVerdict}
 use Rattle.commands.specs.ValueTexts.{bundle_from, value_text}
+use Rattle.commands.specs.declared.command.Command.{Command}
+use Rattle.commands.specs.declared.command.Command.TheVariants.{Check, Show, Value, Revenue, Normalise, Explain, Lp}
 
 pub data Outcome : Type 0 where
   -- this status, and this text on the output
@@ -126,6 +128,16 @@ naming_outcome options file =
 abbrev pub explain_outcome : SearchOptions → PlainFile → Outcome
 explain_outcome options file = text_unless_heavy options (explanation_text file (reasons_of file)) file
     (first_refused options file.goods (or_atoms_of file.bids))
+
+-- what a command on one file makes of it
+abbrev pub outcome_of : Command → PlainFile → Outcome
+outcome_of Check = check_outcome
+outcome_of Show = show_outcome
+outcome_of (Value goods options) = value_outcome_by goods.now options
+outcome_of (Revenue bids) = revenue_outcome bids.now
+outcome_of (Normalise options) = normalise_outcome options
+outcome_of (Explain steps total) = explain_outcome (bounded_options steps total)
+outcome_of Lp = lp_outcome
 
 abbrev pub outcome_of_difference : Difference → Outcome
 outcome_of_difference difference = Prints (status_of_difference difference) (difference_text difference)

@@ -10,6 +10,8 @@ use Rattle.canon.specs.declared.canon_fault.CanonFault.TheVariants.{Memory}
 use Rattle.canon.specs.declared.which.Which.TheVariants.{First, Second, Both}
 use Rattle.rounding.specs.declared.replacement.FinePrices.{FinePrices}
 use Rattle.analysis.specs.Differences.{AreAllDifferences, PlainDifferences}
+use Rattle.commands.specs.declared.command.Comparison.{Comparison}
+use Rattle.commands.specs.declared.command.Comparison.TheVariants.{Compare, Diff}
 use Rattle.commands.specs.declared.run_fault.RunFault.{RunFault}
 use Rattle.commands.specs.declared.run_fault.RunFault.TheVariants.{Refused, TooHeavy}
 use Rattle.commands.specs.Commands.{outcome_of_heavy_bid}
@@ -60,3 +62,8 @@ module _ (options : SearchOptions) (fine : Option FinePrices) (left right : List
   abbrev pub DiffCalls : List ℕ → List ℕ → ℕ → ℕ → Type 0
   DiffCalls old new needed answer = Calls (DiffsTexts options (text_read fine left) (text_read fine right))
       (IsRefusedOfTwo naming_outcome) old new needed answer
+
+-- what the call of each command does with its buffer
+abbrev pub CallsOnBoth : Comparison → Option FinePrices → List ℕ → List ℕ → List ℕ → List ℕ → ℕ → ℕ → Type 0
+CallsOnBoth (Compare options) = CompareCalls options
+CallsOnBoth (Diff options) = DiffCalls options

@@ -8,7 +8,7 @@ use Rattle.bid_file.specs.Files.{PlainBid, PlainFile}
 use Rattle.cats_text.specs.Layout.{price_text}
 use Rattle.valuation.specs.declared.atom.Atom.{Atom}
 use Rattle.valuation.specs.Auctions.{is_dummy, or_atoms_of, xor_atoms_of}
-use Rattle.valuation.specs.Values.{xor_value, or_value, chosen_places}
+use Rattle.valuation.specs.Values.{xor_value, or_value, chosen_indices}
 
 -- the bundle of these goods, in any order and with any of them repeated
 abbrev pub bundle_from : List ℕ → List ℕ
@@ -46,7 +46,7 @@ option_places (Some place) = place ∷ []
 -- the OR value, and the numbers of the bids of one best packing
 abbrev pub or_line : List (Atom (List ℕ)) → List ℕ → List ℕ → List ℕ
 or_line atoms numbers bundle = codes "or " ++ price_text (or_value atoms bundle) ++ numbers_text numbers
-    (chosen_places atoms bundle) ++ codes "\n"
+    (chosen_indices atoms bundle) ++ codes "\n"
 
 -- a dummy good, the value of its XOR bidder, and the number of the first bid that gives it
 abbrev pub xor_line : ℕ → List (Atom (List ℕ)) → List ℕ → List ℕ → List ℕ

@@ -12,7 +12,11 @@ use std::alloc::Global;
 
 /// The revenue of the bids of these numbers if they can all win together, and else the first two that cannot. A number that
 /// the file does not have is refused once the file was read.
-pub fn revenue<I: Input>(alloc: Global, input: &mut I, bids: &[u32]) -> Result<Answer, RunFault>
+pub(crate) fn revenue<I: Input>(
+    alloc: Global,
+    input: &mut I,
+    bids: &[u32],
+) -> Result<Answer, RunFault>
     requires { I.is_ready input.old }
     ensures { Commands I.gives I.refuses (revenue_outcome bids.now) input.old input.new result }
 {

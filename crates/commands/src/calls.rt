@@ -1,6 +1,7 @@
 //! The calls of the C library, over values: a text as the input of a command, and an answer in a caller's buffer.
 
 mod buffer;
+mod command_calls;
 mod fault_place;
 mod pieces;
 mod rounded_text;
@@ -9,6 +10,7 @@ mod tests;
 mod text;
 
 pub use buffer::{TOO_SMALL, give};
+pub use command_calls::{TextPair, call, call_on_both};
 pub use fault_place::find_fault;
 pub use rounded_text::{RoundAnswer, give_report, give_rounded, round_text};
 pub use text::Text;

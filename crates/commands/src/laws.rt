@@ -11,14 +11,15 @@ ghost use Rattle.rounding.specs.declared.replacement.FinePrices.{FinePrices};
 ghost use Rattle.analysis.specs.Bids.{bid_at};
 ghost use Rattle.analysis.specs.Reasons.{Explains, PlainReason};
 ghost use Rattle.commands.specs.ExplanationTexts.{explanation_text};
-ghost use Rattle.commands.specs.Outcomes.{Outcome, Prints, check_outcome, compare_outcome, explain_outcome, first_bid_on};
-ghost use Rattle.commands.specs.Outcomes.{is_on, lp_outcome, normalise_outcome, revenue_outcome, show_outcome};
-ghost use Rattle.commands.specs.Outcomes.{value_outcome_by};
+ghost use Rattle.commands.specs.Outcomes.{Outcome, Prints, compare_outcome, explain_outcome, first_bid_on, is_on};
+ghost use Rattle.commands.specs.Outcomes.{outcome_of};
 ghost use Rattle.commands.specs.FaultCalls.{FaultCalls};
-ghost use Rattle.commands.specs.OneText.{CallsOn, PrintsOf};
+ghost use Rattle.commands.specs.OneText.{CallsOn, PrintsOf, statuses_of};
 ghost use Rattle.commands.specs.Roundings.{RoundCalls};
 ghost use Rattle.commands.specs.SizesCalls.{SizesCalls};
-ghost use Rattle.commands.specs.TwoTexts.{CompareCalls, ComparesTexts, DiffCalls, DiffsTexts};
+ghost use Rattle.commands.specs.TwoTexts.{CallsOnBoth, ComparesTexts, DiffsTexts};
+ghost use Rattle.commands.specs.declared.command.Command.{Command};
+ghost use Rattle.commands.specs.declared.command.Comparison.{Comparison};
 
 /// The reasons that `cats explain` prints are true.
 pub fn printed_reasons_are_true()
@@ -37,30 +38,16 @@ pub fn named_bids_are_refused()
 
 /// The statuses of each call, as `cats.h` lists them. None is 5, that of a file that cannot be opened, read or written.
 pub fn statuses_of_calls()
-    ensures check { (fine : Option FinePrices) (text old new : List ℕ) (needed status : ℕ)
-        → CallsOn check_outcome fine text old new needed status
-        → Contains (0 ∷ 2 ∷ 4 ∷ 6 ∷ []) status }
-    ensures show { (fine : Option FinePrices) (text old new : List ℕ) (needed status : ℕ)
-        → CallsOn show_outcome fine text old new needed status
-        → Contains (0 ∷ 2 ∷ 4 ∷ 6 ∷ []) status }
-    ensures lp { (fine : Option FinePrices) (text old new : List ℕ) (needed status : ℕ)
-        → CallsOn lp_outcome fine text old new needed status
-        → Contains (0 ∷ 2 ∷ 4 ∷ 6 ∷ []) status }
-    ensures fault { (text old new : List ℕ) (needed status : ℕ) → FaultCalls text old new needed status
-        → Contains (0 ∷ 2 ∷ 4 ∷ 6 ∷ []) status }
-    ensures revenue { (bids : List ℕ) (fine : Option FinePrices) (text old new : List ℕ) (needed status : ℕ)
-        → CallsOn (revenue_outcome bids) fine text old new needed status → Contains (0 ∷ 1 ∷ 2 ∷ 4 ∷ 6 ∷ 64 ∷ []) status }
-    ensures normalise { (options : SearchOptions) (fine : Option FinePrices) (text old new : List ℕ) (needed status : ℕ)
-        → CallsOn (normalise_outcome options) fine text old new needed status → Contains (0 ∷ 2 ∷ 3 ∷ 4 ∷ 6 ∷ []) status }
+    ensures one_text { (command : Command) (fine : Option FinePrices) (text old new : List ℕ) (needed status : ℕ)
+        → CallsOn (outcome_of command) fine text old new needed status → Contains (statuses_of command) status }
+    ensures two_texts { (comparison : Comparison) (fine : Option FinePrices) (left right old new : List ℕ)
+        (needed status : ℕ) → CallsOnBoth comparison fine left right old new needed status
+        → Contains (0 ∷ 1 ∷ 2 ∷ 3 ∷ 4 ∷ 6 ∷ []) status }
+    // By searches of either kind, of which the call has one.
     ensures explain { (options : SearchOptions) (fine : Option FinePrices) (text old new : List ℕ) (needed status : ℕ)
         → CallsOn (explain_outcome options) fine text old new needed status → Contains (0 ∷ 2 ∷ 3 ∷ 4 ∷ 6 ∷ []) status }
-    ensures value { (goods : List ℕ) (options : SearchOptions) (fine : Option FinePrices) (text old new : List ℕ)
-        (needed status : ℕ) → CallsOn (value_outcome_by goods options) fine text old new needed status
-        → Contains (0 ∷ 2 ∷ 3 ∷ 4 ∷ 6 ∷ 64 ∷ []) status }
-    ensures compare { (options : SearchOptions) (fine : Option FinePrices) (left right old new : List ℕ) (needed status : ℕ)
-        → CompareCalls options fine left right old new needed status → Contains (0 ∷ 1 ∷ 2 ∷ 3 ∷ 4 ∷ 6 ∷ []) status }
-    ensures diff { (options : SearchOptions) (fine : Option FinePrices) (left right old new : List ℕ) (needed status : ℕ)
-        → DiffCalls options fine left right old new needed status → Contains (0 ∷ 1 ∷ 2 ∷ 3 ∷ 4 ∷ 6 ∷ []) status }
+    ensures fault { (text old new : List ℕ) (needed status : ℕ) → FaultCalls text old new needed status
+        → Contains (0 ∷ 2 ∷ 4 ∷ 6 ∷ []) status }
     ensures sizes { (options : SearchOptions) (fine : Option FinePrices) (text old new : List ℕ) (needed status : ℕ)
         → SizesCalls options fine text old new needed status → Contains (0 ∷ 2 ∷ 3 ∷ 4 ∷ 6 ∷ []) status }
     ensures round { (fine : FinePrices) (text old new report_old report_new : List ℕ) (needed report_needed status : ℕ)

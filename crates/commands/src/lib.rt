@@ -6,6 +6,7 @@ mod allocation;
 mod answer;
 mod bundle_value;
 mod calls;
+mod command;
 mod heavy_bid;
 mod input;
 pub mod laws;
@@ -18,19 +19,17 @@ mod tests;
 mod two_files;
 pub mod worked;
 
-pub use allocation::revenue;
 pub use answer::{Answer, Output};
-pub use bundle_value::value;
 pub use calls::{
-    RoundAnswer, TOO_SMALL, Text, find_fault, give, give_report, give_rounded, round_text,
+    RoundAnswer, TOO_SMALL, Text, TextPair, call, call_on_both, find_fault, give, give_report,
+    give_rounded, round_text,
 };
+pub use command::{Command, Comparison};
 pub use heavy_bid::name_bid;
 pub use input::Input;
-pub use one_file::{check, explain, lp, normalise, show};
 pub use printed::{
     DEVICE_FAILED, DONE, FILE_REFUSED, NO_MEMORY, Piece, WRONG_USAGE, fault_line, fault_pieces,
     fault_place_text, price_pieces, shown_word, status,
 };
 pub use run_fault::{HeavyBid, RunFault};
 pub use sizes_row::{NO_NUMBERS, push_numbers, sizes};
-pub use two_files::{compare, diff};

@@ -20,7 +20,7 @@ use std::alloc::Global;
 use valuation::SearchOptions;
 
 /// The sizes of a bid file: how many goods, bids and dummy goods it has. No bid is kept.
-pub fn check<I: Input>(alloc: Global, input: &mut I) -> Result<Answer, RunFault>
+pub(crate) fn check<I: Input>(alloc: Global, input: &mut I) -> Result<Answer, RunFault>
     requires { I.is_ready input.old }
     ensures { Commands I.gives I.refuses check_outcome input.old input.new result }
 {
@@ -30,7 +30,7 @@ pub fn check<I: Input>(alloc: Global, input: &mut I) -> Result<Answer, RunFault>
 }
 
 /// A bid file in its one layout.
-pub fn show<I: Input>(alloc: Global, input: &mut I) -> Result<Answer, RunFault>
+pub(crate) fn show<I: Input>(alloc: Global, input: &mut I) -> Result<Answer, RunFault>
     requires { I.is_ready input.old }
     ensures { Commands I.gives I.refuses show_outcome input.old input.new result }
 {
@@ -39,7 +39,7 @@ pub fn show<I: Input>(alloc: Global, input: &mut I) -> Result<Answer, RunFault>
 }
 
 /// The winner determination problem of a bid file in CPLEX's LP format.
-pub fn lp<I: Input>(alloc: Global, input: &mut I) -> Result<Answer, RunFault>
+pub(crate) fn lp<I: Input>(alloc: Global, input: &mut I) -> Result<Answer, RunFault>
     requires { I.is_ready input.old }
     ensures { Commands I.gives I.refuses lp_outcome input.old input.new result }
 {
@@ -48,7 +48,7 @@ pub fn lp<I: Input>(alloc: Global, input: &mut I) -> Result<Answer, RunFault>
 }
 
 /// The canonical text of a bid file's auction.
-pub fn normalise<I: Input>(
+pub(crate) fn normalise<I: Input>(
     alloc: Global,
     input: &mut I,
     options: SearchOptions,
@@ -61,7 +61,7 @@ pub fn normalise<I: Input>(
 
 /// A table with a row for each bid of a file: why it is in the canonical file or is not. `steps` bounds each search that
 /// decides on a bundle of the OR bidder, and `total` all of them together.
-pub fn explain<I: Input>(
+pub(crate) fn explain<I: Input>(
     alloc: Global,
     input: &mut I,
     steps: u64,

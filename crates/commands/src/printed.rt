@@ -11,6 +11,7 @@ mod rounded;
 mod sides;
 mod sizes;
 
+pub(crate) use cells::push_number;
 pub(crate) use comparison::{verdict_status, verdict_text};
 pub(crate) use diff::differences_text;
 pub(crate) use explanation::explanation_text;

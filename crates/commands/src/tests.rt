@@ -1,9 +1,6 @@
 //! Each command on files whose answer is known.
 
-use crate::{
-    Answer, Output, RunFault, check, compare, diff, explain, fault_line, lp, normalise, revenue,
-    show, sizes, value,
-};
+use crate::{Answer, Command, Comparison, Output, RunFault, fault_line, sizes};
 use cats_text::{Watched, write};
 use std::alloc::{AllocError, Global};
 use std::process::Abort;
@@ -34,7 +31,7 @@ fn text_of(alloc: Global, output: Output) -> Result<Vec<u8>, AllocError> {
     }
 }
 
-/// What a command answers.
+/// What is answered: a status and a text.
 fn expect(
     rt: &impl Abort,
     alloc: Global,
@@ -49,25 +46,54 @@ fn expect(
     Ok(())
 }
 
+/// What a command makes of a file.
+fn expect_of(
+    rt: &impl Abort,
+    alloc: Global,
+    command: Command<'_>,
+    file: &[u8],
+    text: &[u8],
+) -> Result<(), Fail> {
+    let answer = command.answer(alloc, &mut Watched::new(file));
+    expect(rt, alloc, answer, 0, text)
+}
+
 #[test]
 fn one_file(rt: HostRuntime) -> Result<(), Fail> {
     let alloc = rt.alloc();
     let options = SearchOptions::plain(STEPS);
-    let sizes = check(alloc, &mut Watched::new(LADDER));
-    expect(&rt, alloc, sizes, 0, b"goods 2 bids 3 dummy 1\n")?;
-    let shown = show(alloc, &mut Watched::new(LADDER));
+    let goods = &[1, 0];
+    let reasons = Command::Explain {
+        steps: STEPS,
+        total: None,
+    };
+    let sizes = b"goods 2 bids 3 dummy 1\n";
     let layout = b"goods 2\nbids 3\ndummy 1\n0\t5\t0\t2\t#\n1\t1.5\t1\t#\n2\t6\t0\t1\t2\t#\n";
-    expect(&rt, alloc, shown, 0, layout)?;
-    let normal = normalise(alloc, &mut Watched::new(LADDER), options);
-    expect(&rt, alloc, normal, 0, CANONICAL)?;
-    let values = value(alloc, &mut Watched::new(LADDER), &[1, 0], options);
-    expect(&rt, alloc, values, 0, b"or 1.5 1\nxor 2 6 2\n")?;
-    let winners = revenue(alloc, &mut Watched::new(LADDER), &[1, 0]);
-    expect(&rt, alloc, winners, 0, b"revenue 6.5\n")?;
-    let reasons = explain(alloc, &mut Watched::new(LADDER), STEPS, None);
+    let values = b"or 1.5 1\nxor 2 6 2\n";
     let table = b"bid\tdummy\tprice\tgoods\treason\tkept\tby\n0\t0\t5\t0\tkeep\t1\t\n\
         1\t\t1.5\t1\tkeep\t0\t\n2\t0\t6\t0,1\tkeep\t2\t\n";
-    expect(&rt, alloc, reasons, 0, table)
+    let problem =
+        b"Maximize\n revenue:\n + 5 x0\n + 1.5 x1\n + 6 x2\nSubject To\n g0:\n + x0\n + x2\n <= 1\n\
+        \x20g1:\n + x1\n + x2\n <= 1\n d0:\n + x0\n + x2\n <= 1\nBinary\n x0\n x1\n x2\nEnd\n";
+    expect_of(&rt, alloc, Command::Check, LADDER, sizes)?;
+    expect_of(&rt, alloc, Command::Show, LADDER, layout)?;
+    expect_of(&rt, alloc, Command::Normalise(options), LADDER, CANONICAL)?;
+    expect_of(
+        &rt,
+        alloc,
+        Command::Value { goods, options },
+        LADDER,
+        values,
+    )?;
+    expect_of(
+        &rt,
+        alloc,
+        Command::Revenue(&[1, 0]),
+        LADDER,
+        b"revenue 6.5\n",
+    )?;
+    expect_of(&rt, alloc, reasons, LADDER, table)?;
+    expect_of(&rt, alloc, Command::Lp, LADDER, problem)
 }
 
 #[test]
@@ -84,43 +110,28 @@ fn rows_of_sizes(rt: HostRuntime) -> Result<(), Fail> {
     expect(&rt, alloc, refused, 2, b"\t\t\t\t\t\t\t\tline 1: Header\n")
 }
 
-#[test]
-fn problem(rt: HostRuntime) -> Result<(), Fail> {
-    let alloc = rt.alloc();
-    let text =
-        b"Maximize\n revenue:\n + 5 x0\n + 1.5 x1\n + 6 x2\nSubject To\n g0:\n + x0\n + x2\n <= 1\n\
-        \x20g1:\n + x1\n + x2\n <= 1\n d0:\n + x0\n + x2\n <= 1\nBinary\n x0\n x1\n x2\nEnd\n";
-    let answer = lp(alloc, &mut Watched::new(LADDER));
-    expect(&rt, alloc, answer, 0, text)
+/// What a command answers of two files.
+fn answer_of(
+    alloc: Global,
+    comparison: Comparison,
+    left: &[u8],
+    right: &[u8],
+) -> Result<Answer, RunFault> {
+    comparison.answer(alloc, &mut Watched::new(left), &mut Watched::new(right))
 }
 
 #[test]
 fn two_files(rt: HostRuntime) -> Result<(), Fail> {
     let alloc = rt.alloc();
     let options = SearchOptions::plain(STEPS);
-    let same = compare(
-        alloc,
-        &mut Watched::new(LADDER),
-        &mut Watched::new(CANONICAL),
-        options,
-    );
-    expect(&rt, alloc, same, 0, b"same\n")?;
-    let other = compare(
-        alloc,
-        &mut Watched::new(LADDER),
-        &mut Watched::new(CHEAPER),
-        options,
-    );
     let verdict = b"different\nor 1\nleft 1.5\nright below 1.5\n";
-    expect(&rt, alloc, other, 1, verdict)?;
-    let all = diff(
-        alloc,
-        &mut Watched::new(LADDER),
-        &mut Watched::new(CHEAPER),
-        options,
-    );
     let table = b"kind\tgoods\tleft\tright\tleft_dummy\tright_dummy\tleft_bid\tright_bid\n\
         or\t1\t1.5\t\t\t\t1\t\n";
+    let same = answer_of(alloc, Comparison::Compare(options), LADDER, CANONICAL);
+    expect(&rt, alloc, same, 0, b"same\n")?;
+    let other = answer_of(alloc, Comparison::Compare(options), LADDER, CHEAPER);
+    expect(&rt, alloc, other, 1, verdict)?;
+    let all = answer_of(alloc, Comparison::Diff(options), LADDER, CHEAPER);
     expect(&rt, alloc, all, 1, table)
 }
 
@@ -145,24 +156,18 @@ fn expect_fault(
 fn heavy_bid(rt: HostRuntime) -> Result<(), Fail> {
     let alloc = rt.alloc();
     let options = SearchOptions::bounded(1, Some(5));
-    let first = diff(
-        alloc,
-        &mut Watched::new(LARGER),
-        &mut Watched::new(LADDER),
-        options,
-    );
-    let second = diff(
-        alloc,
-        &mut Watched::new(LADDER),
-        &mut Watched::new(LARGER),
-        options,
-    );
-    let reasons = explain(alloc, &mut Watched::new(LARGER), 1, None);
-    let normal = normalise(alloc, &mut Watched::new(LARGER), options);
+    let reasons = Command::Explain {
+        steps: 1,
+        total: None,
+    };
+    let first = answer_of(alloc, Comparison::Diff(options), LARGER, LADDER);
     let line = b"first: step limit of 1 (5 in all) at bid 2: 0,1\n";
     expect_fault(&rt, alloc, first, line)?;
+    let second = answer_of(alloc, Comparison::Diff(options), LADDER, LARGER);
     let line = b"second: step limit of 1 (5 in all) at bid 2: 0,1\n";
     expect_fault(&rt, alloc, second, line)?;
-    expect_fault(&rt, alloc, reasons, b"step limit of 1 at bid 2: 0,1\n")?;
+    let unexplained = reasons.answer(alloc, &mut Watched::new(LARGER));
+    expect_fault(&rt, alloc, unexplained, b"step limit of 1 at bid 2: 0,1\n")?;
+    let normal = Command::Normalise(options).answer(alloc, &mut Watched::new(LARGER));
     expect_fault(&rt, alloc, normal, b"step limit at 0,1\n")
 }

@@ -22,7 +22,7 @@ use valuation::SearchOptions;
 
 /// Whether two files are the same auction, or their first difference. Each file has a total of steps of its own. Memory that
 /// is refused while the two are compared belongs to both.
-pub fn compare<I: Input, J: Input>(
+pub(crate) fn compare<I: Input, J: Input>(
     alloc: Global,
     first: &mut I,
     second: &mut J,
@@ -38,7 +38,7 @@ pub fn compare<I: Input, J: Input>(
 }
 
 /// All differences of two files, as a table.
-pub fn diff<I: Input, J: Input>(
+pub(crate) fn diff<I: Input, J: Input>(
     alloc: Global,
     first: &mut I,
     second: &mut J,

@@ -5,7 +5,7 @@ use Rattle.valuation.specs.declared.packing.Packing.{Packing}
 use Rattle.valuation.specs.declared.search_options.SearchOptions.{SearchOptions}
 use Rattle.valuation.specs.SearchLimits.{is_one_over}
 use Rattle.valuation.specs.ValueSearches.{value_steps}
-use Rattle.valuation.specs.Values.{or_value, chosen_places}
+use Rattle.valuation.specs.Values.{or_value, chosen_indices}
 use Rattle.canon.specs.declared.canon_fault.CanonFault.{CanonFault}
 use Rattle.canon.specs.declared.canon_fault.CanonFault.TheVariants.{Read, StepLimit, Memory}
 
@@ -17,7 +17,7 @@ is_refused options atoms bundle = is_one_over options (value_steps options.kind 
 pub record IsChosen (atoms : List (Atom (List ℕ))) (bundle : List ℕ) (options : SearchOptions)
     (packing : Packing) : Type 0 where
   pub value : packing.value ≡ or_value atoms bundle
-  pub members : packing.members.items ≡ chosen_places atoms bundle
+  pub members : packing.members.items ≡ chosen_indices atoms bundle
   pub within : is_refused options atoms bundle ≡ false
 
 abbrev pub SearchesAs : List (Atom (List ℕ)) → List ℕ → SearchOptions → Result Packing CanonFault → Type 0

@@ -8,10 +8,11 @@ ghost use Rattle.valuation.specs.Bidders.{bidders_of};
 ghost use Rattle.valuation.specs.Values.{atoms_of};
 ghost use Rattle.commands.specs.ValueTexts.{dummy_line, lists_of, numbers_text, option_places, xor_line, xor_numbers};
 
+use crate::printed::push_number;
 use bid_file::PackedFile;
 use cats_text::push_price;
 use goods_set::GoodsSet;
-use itoa::{Buffer, Integer};
+use itoa::Integer;
 use std::alloc::AllocError;
 use valuation::{Atom, Packing, xor_value};
 
@@ -70,7 +71,7 @@ fn push_xor_line<S: GoodsSet>(
 {
     let (value, place) = xor_value(atoms, bundle);
     text.extend_from_slice(b"xor")?;
-    push_number(text, good)?;
+    push_spaced(text, good)?;
     text.extend_from_slice(b" ")?;
     push_price(text, u128::from(value))?;
     push_bid(text, numbers, place)?;
@@ -94,15 +95,15 @@ fn push_bids(text: &mut Vec<u8>, numbers: &[usize], places: &[usize]) -> Result<
     ensures { OnOk result (text.new.items ≡ text.old.items ++ numbers_text numbers.now places.now) }
 {
     for place in places {
-        push_number(text, numbers[*place])?;
+        push_spaced(text, numbers[*place])?;
     }
     Ok(())
 }
 
 /// Appends a space and the number.
-fn push_number<I: Integer>(text: &mut Vec<u8>, number: I) -> Result<(), AllocError>
+fn push_spaced<I: Integer>(text: &mut Vec<u8>, number: I) -> Result<(), AllocError>
     ensures { OnOk result (text.new.items ≡ text.old.items ++ 32 ∷ I.text number) }
 {
     text.extend_from_slice(b" ")?;
-    text.extend_from_slice(Buffer::new().format(number).as_bytes())
+    push_number(text, number)
 }

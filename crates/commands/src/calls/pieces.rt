@@ -1,17 +1,14 @@
 //! Lines in pieces, put into a buffer. This needs no memory. What does not fit is counted all the same.
 
-ghost use Rattle.std.specs.Prelude.{◌≡◌, ◌∷◌, ◌<◌, ◌≤◌, decimal};
+ghost use Rattle.std.specs.Prelude.{◌∷◌, decimal};
 ghost use Rattle.commands.specs.Outputs.{after_commas, bundle_text};
 ghost use Rattle.commands.specs.Pieces.{text_of_piece, text_of_pieces};
-ghost use Rattle.cats_text.specs.Layout.{places_text, price_text, without_zeros};
+ghost use Rattle.cats_text.specs.Layout.{price_text};
 ghost use Rattle.commands.specs.Internal.Putting.{PutsFrom};
-ghost use Rattle.commands.specs.declared.calls.pieces.TheConstants.{MILLION};
 
 use crate::printed::Piece;
+use cats_text::{PRICE_SIZE, write_price};
 use itoa::Buffer;
-
-/// Millionths in a whole unit.
-const MILLION: u64 = 1_000_000;
 
 /// Puts pieces into a buffer from a place on, if they fit, and answers where they end.
 pub(crate) fn put_pieces(pieces: &[Piece<'_>], out: &mut [u8], at: usize) -> usize
@@ -83,36 +80,7 @@ fn put_after_comma(good: u16, out: &mut [u8], at: usize) -> usize
 fn put_price(millionths: u64, out: &mut [u8], at: usize) -> usize
     ensures { PutsFrom at (price_text millionths) out.old out.new result }
 {
-    let point = put_number(millionths / MILLION, out, at);
-    put_places(millionths % MILLION, out, point)
-}
-
-/// Puts the point and the digits behind it, if there are any.
-fn put_places(millionths: u64, out: &mut [u8], at: usize) -> usize
-    requires { millionths < MILLION }
-    ensures { PutsFrom at (places_text millionths) out.old out.new result }
-{
-    if millionths == 0 {
-        return put_text(b"", out, at);
-    }
-    let mut buffer = Buffer::new();
-    let digits = buffer
-        .format(without_zeros(MILLION + millionths))
-        .as_bytes();
-    let (_, places) = digits.split_at(1);
-    let point = put_text(b".", out, at);
-    put_text(places, out, point)
-}
-
-/// The number whose digits are those of this one without the zeros at their end.
-fn without_zeros(number: u64) -> u64
-    requires { 0 < number }
-    ensures digits { decimal result ≡ without_zeros (decimal number) }
-    ensures size { (0 < result) × (result ≤ number) }
-{
-    let mut left = number;
-    while left % 10 == 0 {
-        left /= 10;
-    }
-    left
+    let mut text = [0; PRICE_SIZE];
+    let start = write_price(millionths, &mut text, PRICE_SIZE);
+    put_text(&text[start..], out, at)
 }

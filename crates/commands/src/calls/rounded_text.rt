@@ -11,11 +11,10 @@ ghost use Rattle.rounding.specs.Views.{plain_changes};
 ghost use Rattle.commands.specs.Roundings.{AnswersRounding, GivesReport, GivesRounded, IsUnrounded, lines_of};
 
 use crate::calls::buffer::{give_fault, put};
-use crate::calls::text::whole_fault;
 use crate::printed::{DONE, price_line};
 use crate::run_fault::RunFault;
 use canon::CanonFault;
-use cats_text::{Kind, MAX_STREAM};
+use cats_text::{Kind, MAX_STREAM, ReadFault};
 use rounding::{FinePrices, RoundedPrice, RoundedText, round};
 use std::alloc::{AllocError, Global};
 
@@ -45,7 +44,7 @@ pub fn round_text(alloc: Global, text: &[u8], fine: FinePrices) -> Result<RoundA
 pub(crate) fn too_long() -> RunFault
     ensures { result ≡ Refused Only (Read (fault_at 0 TooLong)) }
 {
-    RunFault::from(CanonFault::Read(whole_fault(Kind::TooLong)))
+    RunFault::from(CanonFault::Read(ReadFault::whole(Kind::TooLong)))
 }
 
 /// The text with its prices rounded.

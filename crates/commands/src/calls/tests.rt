@@ -1,11 +1,11 @@
 //! Commands on texts whose answer is known, and what is given of it.
 
 use crate::{
-    Answer, RunFault, TOO_SMALL, Text, check, compare, diff, explain, find_fault, give,
-    give_report, give_rounded, lp, normalise, revenue, round_text, show, sizes, value,
+    Answer, Command, Comparison, RunFault, TOO_SMALL, Text, TextPair, call, call_on_both,
+    find_fault, give, give_report, give_rounded, round_text, sizes,
 };
 use rounding::FinePrices;
-use std::alloc::Global;
+use std::alloc::{AllocGlobal, Global};
 use std::process::Abort;
 use std::test::Fail;
 use valuation::SearchOptions;
@@ -42,12 +42,41 @@ fn text(bytes: &[u8]) -> Text<'_> {
     Text { bytes, fine: None }
 }
 
+/// One whose prices are rounded.
+fn as_round(bytes: &[u8], fine: FinePrices) -> Text<'_> {
+    Text {
+        bytes,
+        fine: Some(fine),
+    }
+}
+
 /// Searches of a step each, within a total.
 fn total(total: u64) -> SearchOptions {
     SearchOptions::bounded(1, Some(total))
 }
 
-/// What a call gives.
+/// The value of a bundle, by searches of so many steps.
+fn value_within(steps: u64, goods: &[u16]) -> Command<'_> {
+    let options = SearchOptions::bounded(steps, None);
+    Command::Value { goods, options }
+}
+
+/// The reasons, by searches of a step each, within a total.
+fn explain_within(total: u64) -> Command<'static> {
+    Command::Explain {
+        steps: 1,
+        total: Some(total),
+    }
+}
+
+/// What is in a buffer, and how long it is.
+fn expect_given<R: Abort>(rt: &R, given: (u8, usize), buffer: &[u8], status: u8, out: &[u8]) {
+    assert_eq!(rt; given.0, status);
+    assert_eq!(rt; given.1, out.len());
+    assert!(rt; buffer.starts_with(out));
+}
+
+/// What is given of an answer.
 fn expect<R: Abort>(
     rt: &R,
     alloc: Global,
@@ -58,85 +87,84 @@ fn expect<R: Abort>(
     let mut buffer = [0; 192];
     let mut needed = 0;
     let given = give(alloc, answer, &mut buffer, &mut needed);
-    assert_eq!(rt; given, status);
-    assert_eq!(rt; needed, out.len());
-    assert!(rt; buffer.starts_with(out));
+    expect_given(rt, (given, needed), &buffer, status, out);
+}
+
+/// What the call of a command on a text gives.
+fn expect_call<R: Abort + AllocGlobal>(
+    rt: &R,
+    command: Command<'_>,
+    text: Text<'_>,
+    expected: (u8, &[u8]),
+) {
+    let mut buffer = [0; 192];
+    let mut needed = 0;
+    let given = call(rt.alloc(), &command, text, &mut buffer, &mut needed);
+    expect_given(rt, (given, needed), &buffer, expected.0, expected.1);
+}
+
+/// What the call of a command on two texts gives.
+fn expect_comparison<R: Abort + AllocGlobal>(
+    rt: &R,
+    comparison: Comparison,
+    texts: (&[u8], &[u8]),
+    expected: (u8, &[u8]),
+) {
+    let mut buffer = [0; 192];
+    let mut needed = 0;
+    let texts = TextPair {
+        left: texts.0,
+        right: texts.1,
+        fine: None,
+    };
+    let given = call_on_both(rt.alloc(), &comparison, texts, &mut buffer, &mut needed);
+    expect_given(rt, (given, needed), &buffer, expected.0, expected.1);
 }
 
 #[test]
 fn one_text(rt: HostRuntime) -> Result<(), Fail> {
-    let alloc = rt.alloc();
-    let refused = b"line 4: GoodRange\n";
-    let reasons =
-        b"bid\tdummy\tprice\tgoods\treason\tkept\tby\n0\t\t3\t0\tkeep\t0\t\n1\t\t4\t1\tkeep\t1\t\n\
-        2\t\t7\t0,1\tpacking\t\t0,1\n";
-    let options = SearchOptions::bounded(STEPS, None);
-    let sizes = check(alloc, &mut text(SINGLES));
-    expect(&rt, alloc, &sizes, 0, b"goods 2 bids 2 dummy 0\n");
-    expect(&rt, alloc, &check(alloc, &mut text(BEYOND)), 2, refused);
-    let canonical = normalise(alloc, &mut text(PAIR_AT_7), options);
-    expect(&rt, alloc, &canonical, 0, SINGLES);
-    let fault = normalise(alloc, &mut text(BEYOND), options);
-    expect(&rt, alloc, &fault, 2, refused);
-    let explained = explain(alloc, &mut text(PAIR_AT_7), STEPS, None);
-    expect(&rt, alloc, &explained, 0, reasons);
-    Ok(())
-}
-
-#[test]
-fn texts_of_the_file(rt: HostRuntime) -> Result<(), Fail> {
-    let alloc = rt.alloc();
+    let refused: (u8, &[u8]) = (2, b"line 4: GoodRange\n");
+    let normal = Command::Normalise(SearchOptions::bounded(STEPS, None));
+    let sizes: (u8, &[u8]) = (0, b"goods 2 bids 2 dummy 0\n");
     let spaced = b"goods 1\nbids 1\ndummy 0\n0 1.50 0 #\n";
-    let problem = b"Maximize\n revenue:\n + 1.5 x0\n + 0 none\nSubject To\n none:\n + none\n <= 1\n\
-        Binary\n x0\n none\nEnd\n";
-    let shown = show(alloc, &mut text(spaced));
-    expect(
-        &rt,
-        alloc,
-        &shown,
+    let layout: (u8, &[u8]) = (0, b"goods 1\nbids 1\ndummy 0\n0\t1.5\t0\t#\n");
+    let problem: (u8, &[u8]) = (
         0,
-        b"goods 1\nbids 1\ndummy 0\n0\t1.5\t0\t#\n",
+        b"Maximize\n revenue:\n + 1.5 x0\n + 0 none\nSubject To\n none:\n + none\n <= 1\n\
+        Binary\n x0\n none\nEnd\n",
     );
-    expect(&rt, alloc, &lp(alloc, &mut text(spaced)), 0, problem);
-    expect(
-        &rt,
-        alloc,
-        &lp(alloc, &mut text(BEYOND)),
-        2,
-        b"line 4: GoodRange\n",
-    );
+    expect_call(&rt, Command::Check, text(SINGLES), sizes);
+    expect_call(&rt, Command::Check, text(BEYOND), refused);
+    expect_call(&rt, Command::Show, text(spaced), layout);
+    expect_call(&rt, Command::Lp, text(spaced), problem);
+    expect_call(&rt, Command::Lp, text(BEYOND), refused);
+    expect_call(&rt, normal, text(PAIR_AT_7), (0, SINGLES));
+    expect_call(&rt, normal, text(BEYOND), refused);
     Ok(())
 }
 
 #[test]
 fn values_of_a_bundle(rt: HostRuntime) -> Result<(), Fail> {
-    let alloc = rt.alloc();
-    let options = SearchOptions::bounded(STEPS, None);
-    let whole = value(alloc, &mut text(PAIR_AT_8), &[1, 0, 1], options);
-    expect(&rt, alloc, &whole, 0, b"or 8 2\n");
-    let missing = value(alloc, &mut text(PAIR_AT_8), &[0, 3, 2], options);
-    expect(&rt, alloc, &missing, 64, b"good 3 out of range\n");
-    let over = value(
-        alloc,
-        &mut text(PAIR_AT_8),
-        &[0, 1],
-        SearchOptions::bounded(0, None),
-    );
-    expect(&rt, alloc, &over, 3, b"step limit at 0,1\n");
+    let whole = value_within(STEPS, &[1, 0, 1]);
+    let missing = value_within(STEPS, &[0, 3, 2]);
+    let lacks: (u8, &[u8]) = (64, b"good 3 out of range\n");
+    let over: (u8, &[u8]) = (3, b"step limit at 0,1\n");
+    expect_call(&rt, whole, text(PAIR_AT_8), (0, b"or 8 2\n"));
+    expect_call(&rt, missing, text(PAIR_AT_8), lacks);
+    expect_call(&rt, value_within(0, &[0, 1]), text(PAIR_AT_8), over);
     Ok(())
 }
 
 #[test]
 fn named_winners(rt: HostRuntime) -> Result<(), Fail> {
-    let alloc = rt.alloc();
-    let sum = revenue(alloc, &mut text(PAIR_AT_7), &[1, 0, 1]);
-    expect(&rt, alloc, &sum, 0, b"revenue 7\n");
-    let clash = revenue(alloc, &mut text(PAIR_AT_7), &[2, 1]);
-    expect(&rt, alloc, &clash, 1, b"bids 1 and 2 share good 1\n");
-    let missing = revenue(alloc, &mut text(PAIR_AT_7), &[0, 4, 3]);
-    expect(&rt, alloc, &missing, 64, b"bid 4 out of range\n");
-    let refused = revenue(alloc, &mut text(BEYOND), &[0]);
-    expect(&rt, alloc, &refused, 2, b"line 4: GoodRange\n");
+    let sum: (u8, &[u8]) = (0, b"revenue 7\n");
+    let clash: (u8, &[u8]) = (1, b"bids 1 and 2 share good 1\n");
+    let none: (u8, &[u8]) = (64, b"bid 4 out of range\n");
+    let refused: (u8, &[u8]) = (2, b"line 4: GoodRange\n");
+    expect_call(&rt, Command::Revenue(&[1, 0, 1]), text(PAIR_AT_7), sum);
+    expect_call(&rt, Command::Revenue(&[2, 1]), text(PAIR_AT_7), clash);
+    expect_call(&rt, Command::Revenue(&[0, 4, 3]), text(PAIR_AT_7), none);
+    expect_call(&rt, Command::Revenue(&[0]), text(BEYOND), refused);
     Ok(())
 }
 
@@ -175,89 +203,65 @@ fn rows_of_sizes(rt: HostRuntime) -> Result<(), Fail> {
 
 #[test]
 fn limits_of_steps(rt: HostRuntime) -> Result<(), Fail> {
-    let alloc = rt.alloc();
-    let over = b"step limit at 0,1,2\n";
-    let reasons =
+    let normal = Command::Normalise(total(3));
+    let over: (u8, &[u8]) = (3, b"step limit at 0,1,2\n");
+    let named: (u8, &[u8]) = (3, b"step limit of 1 (2 in all) at bid 2: 0,1,2\n");
+    let packed: (u8, &[u8]) = (
+        0,
+        b"bid\tdummy\tprice\tgoods\treason\tkept\tby\n0\t\t3\t0\tkeep\t0\t\n1\t\t4\t1\tkeep\t1\t\n\
+        2\t\t7\t0,1\tpacking\t\t0,1\n",
+    );
+    let kept: (u8, &[u8]) = (
+        0,
         b"bid\tdummy\tprice\tgoods\treason\tkept\tby\n0\t\t4\t0,1\tkeep\t0\t\n1\t\t4\t1,2\tkeep\t1\t\n\
-        2\t\t7\t0,1,2\tkeep\t2\t\n";
-    let canonical = normalise(alloc, &mut text(CROSSING), total(3));
-    expect(&rt, alloc, &canonical, 0, CROSSING);
-    let refused = normalise(alloc, &mut text(CROSSING), total(2));
-    expect(&rt, alloc, &refused, 3, over);
-    let explained = explain(alloc, &mut text(CROSSING), 1, Some(3));
-    expect(&rt, alloc, &explained, 0, reasons);
-    let refused = explain(alloc, &mut text(CROSSING), 1, Some(2));
-    let named = b"step limit of 1 (2 in all) at bid 2: 0,1,2\n";
-    expect(&rt, alloc, &refused, 3, named);
+        2\t\t7\t0,1,2\tkeep\t2\t\n",
+    );
+    expect_call(&rt, normal, text(CROSSING), (0, CROSSING));
+    expect_call(&rt, Command::Normalise(total(2)), text(CROSSING), over);
+    let enough = Command::Explain {
+        steps: STEPS,
+        total: None,
+    };
+    expect_call(&rt, enough, text(PAIR_AT_7), packed);
+    expect_call(&rt, explain_within(3), text(CROSSING), kept);
+    expect_call(&rt, explain_within(2), text(CROSSING), named);
     Ok(())
-}
-
-/// What `compare` gives of two texts.
-fn expect_comparison<R: Abort>(
-    rt: &R,
-    alloc: Global,
-    texts: (&[u8], &[u8]),
-    options: SearchOptions,
-    given: (u8, &[u8]),
-) {
-    let (mut left, mut right) = (text(texts.0), text(texts.1));
-    let answer = compare(alloc, &mut left, &mut right, options);
-    expect(rt, alloc, &answer, given.0, given.1);
 }
 
 #[test]
 fn first_differences(rt: HostRuntime) -> Result<(), Fail> {
-    let alloc = rt.alloc();
-    let enough = SearchOptions::bounded(STEPS, None);
-    let different = b"different\nor 0,1\nleft below 8\nright 8\n";
-    let refused = b"second: line 4: GoodRange\n";
-    let over = b"second: step limit at 0,1,2\n";
-    expect_comparison(&rt, alloc, (SINGLES, PAIR_AT_7), enough, (0, b"same\n"));
-    expect_comparison(&rt, alloc, (SINGLES, PAIR_AT_8), enough, (1, different));
-    expect_comparison(&rt, alloc, (SINGLES, BEYOND), enough, (2, refused));
-    expect_comparison(&rt, alloc, (CROSSING, CROSSING), total(3), (0, b"same\n"));
-    expect_comparison(&rt, alloc, (SINGLES, CROSSING), total(2), (3, over));
+    let enough = Comparison::Compare(SearchOptions::bounded(STEPS, None));
+    let within = Comparison::Compare(total(3));
+    let short = Comparison::Compare(total(2));
+    let over: (u8, &[u8]) = (3, b"second: step limit at 0,1,2\n");
+    let different: (u8, &[u8]) = (1, b"different\nor 0,1\nleft below 8\nright 8\n");
+    let refused: (u8, &[u8]) = (2, b"second: line 4: GoodRange\n");
+    expect_comparison(&rt, enough, (SINGLES, PAIR_AT_7), (0, b"same\n"));
+    expect_comparison(&rt, enough, (SINGLES, PAIR_AT_8), different);
+    expect_comparison(&rt, enough, (SINGLES, BEYOND), refused);
+    expect_comparison(&rt, within, (CROSSING, CROSSING), (0, b"same\n"));
+    expect_comparison(&rt, short, (SINGLES, CROSSING), over);
     Ok(())
-}
-
-/// What `diff` gives of two texts.
-fn expect_differences<R: Abort>(
-    rt: &R,
-    alloc: Global,
-    texts: (&[u8], &[u8]),
-    options: SearchOptions,
-    given: (u8, &[u8]),
-) {
-    let (mut left, mut right) = (text(texts.0), text(texts.1));
-    let answer = diff(alloc, &mut left, &mut right, options);
-    expect(rt, alloc, &answer, given.0, given.1);
 }
 
 #[test]
 fn all_differences(rt: HostRuntime) -> Result<(), Fail> {
-    let alloc = rt.alloc();
-    let enough = SearchOptions::bounded(STEPS, None);
-    let refused = b"first: line 4: GoodRange\n";
-    let over = b"second: step limit of 1 (2 in all) at bid 2: 0,1,2\n";
-    let table = b"kind\tgoods\tleft\tright\tleft_dummy\tright_dummy\tleft_bid\tright_bid\n\
-        or\t0,1\t\t8\t\t\t\t2\n";
-    expect_differences(
-        &rt,
-        alloc,
-        (SINGLES, PAIR_AT_7),
-        enough,
-        (0, NO_DIFFERENCES),
+    let enough = Comparison::Diff(SearchOptions::bounded(STEPS, None));
+    let within = Comparison::Diff(total(3));
+    let short = Comparison::Diff(total(2));
+    let none: (u8, &[u8]) = (0, NO_DIFFERENCES);
+    let refused: (u8, &[u8]) = (2, b"first: line 4: GoodRange\n");
+    let over: (u8, &[u8]) = (3, b"second: step limit of 1 (2 in all) at bid 2: 0,1,2\n");
+    let table: (u8, &[u8]) = (
+        1,
+        b"kind\tgoods\tleft\tright\tleft_dummy\tright_dummy\tleft_bid\tright_bid\n\
+        or\t0,1\t\t8\t\t\t\t2\n",
     );
-    expect_differences(&rt, alloc, (SINGLES, PAIR_AT_8), enough, (1, table));
-    expect_differences(&rt, alloc, (BEYOND, BEYOND), enough, (2, refused));
-    expect_differences(
-        &rt,
-        alloc,
-        (CROSSING, CROSSING),
-        total(3),
-        (0, NO_DIFFERENCES),
-    );
-    expect_differences(&rt, alloc, (SINGLES, CROSSING), total(2), (3, over));
+    expect_comparison(&rt, enough, (SINGLES, PAIR_AT_7), none);
+    expect_comparison(&rt, enough, (SINGLES, PAIR_AT_8), table);
+    expect_comparison(&rt, enough, (BEYOND, BEYOND), refused);
+    expect_comparison(&rt, within, (CROSSING, CROSSING), none);
+    expect_comparison(&rt, short, (SINGLES, CROSSING), over);
     Ok(())
 }
 
@@ -280,78 +284,63 @@ fn rounded_text(rt: HostRuntime) -> Result<(), Fail> {
 #[test]
 fn texts_read_rounded(rt: HostRuntime) -> Result<(), Fail> {
     let alloc = rt.alloc();
-    let options = SearchOptions::bounded(STEPS, None);
-    let rounded = Some(FinePrices::Round);
-    let exact = Some(FinePrices::Refuse);
     let exponent = b"goods 1\nbids 1\ndummy 0\n0 12346e-6 0 #\n";
-    let fine = show(
-        alloc,
-        &mut Text {
-            bytes: FINE,
-            fine: rounded,
-        },
-    );
-    expect(
-        &rt,
-        alloc,
-        &fine,
-        0,
-        b"goods 1\nbids 1\ndummy 0\n0\t0.012346\t0\t#\n",
-    );
-    let refused = check(
-        alloc,
-        &mut Text {
-            bytes: FINE,
-            fine: exact,
-        },
-    );
-    expect(&rt, alloc, &refused, 2, b"line 4: TooFine\n");
-    let kept = check(
-        alloc,
-        &mut Text {
-            bytes: exponent,
-            fine: exact,
-        },
-    );
-    expect(&rt, alloc, &kept, 0, b"goods 1 bids 1 dummy 0\n");
-    let (mut left, mut right) = (
-        Text {
-            bytes: exponent,
-            fine: rounded,
-        },
-        Text {
-            bytes: FINE,
-            fine: rounded,
-        },
-    );
-    let same = compare(alloc, &mut left, &mut right, options);
-    expect(&rt, alloc, &same, 0, b"same\n");
+    let layout: (u8, &[u8]) = (0, b"goods 1\nbids 1\ndummy 0\n0\t0.012346\t0\t#\n");
+    let rounded = as_round(FINE, FinePrices::Round);
+    let refused = as_round(FINE, FinePrices::Refuse);
+    let exact = as_round(exponent, FinePrices::Refuse);
+    let too_fine: (u8, &[u8]) = (2, b"line 4: TooFine\n");
+    let sizes: (u8, &[u8]) = (0, b"goods 1 bids 1 dummy 0\n");
+    expect_call(&rt, Command::Show, rounded, layout);
+    expect_call(&rt, Command::Check, refused, too_fine);
+    expect_call(&rt, Command::Check, exact, sizes);
+    let texts = TextPair {
+        left: exponent,
+        right: FINE,
+        fine: Some(FinePrices::Round),
+    };
+    let same = Comparison::Compare(SearchOptions::bounded(STEPS, None));
+    let mut out = [0; 5];
+    let mut needed = 0;
+    assert_eq!(rt; call_on_both(alloc, &same, texts, &mut out, &mut needed), 0);
+    assert!(rt; out == *b"same\n");
     Ok(())
 }
 
 #[test]
 fn buffers(rt: HostRuntime) -> Result<(), Fail> {
     let alloc = rt.alloc();
-    let answer = compare(
-        alloc,
-        &mut text(SINGLES),
-        &mut text(SINGLES),
-        SearchOptions::bounded(STEPS, None),
-    );
+    let command = Command::Check;
     let mut needed = 0;
     let mut short = *b"....";
-    assert_eq!(rt; give(alloc, &answer, &mut short, &mut needed), TOO_SMALL);
-    assert_eq!(rt; needed, 5);
+    assert_eq!(rt;
+        call(alloc, &command, text(SINGLES), &mut short, &mut needed),
+        TOO_SMALL
+    );
+    assert_eq!(rt; needed, 23);
     assert!(rt; short == *b"....");
-    let mut enough = *b".....";
-    assert_eq!(rt; give(alloc, &answer, &mut enough, &mut needed), 0);
-    assert_eq!(rt; needed, 5);
-    assert!(rt; enough == *b"same\n");
-    let refused = check(alloc, &mut text(BEYOND));
-    assert_eq!(rt; give(alloc, &refused, &mut short, &mut needed), TOO_SMALL);
+    let mut enough = [0; 23];
+    assert_eq!(rt;
+        call(alloc, &command, text(SINGLES), &mut enough, &mut needed),
+        0
+    );
+    assert_eq!(rt; needed, 23);
+    assert!(rt; enough == *b"goods 2 bids 2 dummy 0\n");
+    assert_eq!(rt;
+        call(alloc, &command, text(BEYOND), &mut short, &mut needed),
+        TOO_SMALL
+    );
     assert_eq!(rt; needed, 18);
-    let file = show(alloc, &mut text(SINGLES));
-    assert_eq!(rt; give(alloc, &file, &mut short, &mut needed), TOO_SMALL);
+    assert_eq!(rt;
+        call(
+            alloc,
+            &Command::Show,
+            text(SINGLES),
+            &mut short,
+            &mut needed
+        ),
+        TOO_SMALL
+    );
     assert_eq!(rt; needed, SINGLES.len());
     assert!(rt; short == *b"....");
     Ok(())

@@ -2,7 +2,6 @@
 //! of a stream.
 
 ghost use Rattle.std.specs.Prelude.{◌≡◌, ◌<◌, ◌≤◌, length, IfErr, IfOk, Some};
-ghost use Rattle.cats_text.specs.Faults.{fault_at};
 ghost use Rattle.cats_text.specs.Grammar.{Spells};
 ghost use Rattle.cats_text.specs.Views.{HasSizes};
 ghost use Rattle.cats_text.specs.declared.limits.TheConstants.{MAX_STREAM};
@@ -56,7 +55,7 @@ fn read_rounded(alloc: Global, text: &[u8], fine: FinePrices) -> Result<PackedFi
 {
     match round_prices(alloc, text, fine) {
         Ok(rounded) => read_packed(alloc, rounded.text.as_slice()),
-        Err(AllocError) => Err(whole_fault(Kind::Memory)),
+        Err(AllocError) => Err(ReadFault::whole(Kind::Memory)),
     }
 }
 
@@ -66,20 +65,13 @@ fn long_fault(alloc: Global, text: &[u8], fine: Option<FinePrices>) -> ReadFault
     ensures { RefusesText fine text.now result }
 {
     if fine.is_some() {
-        return whole_fault(Kind::TooLong);
+        return ReadFault::whole(Kind::TooLong);
     }
     let mut reader = Reader::new(alloc, MAX_STREAM);
     match reader.feed(text) {
-        Ok(()) => whole_fault(Kind::TooLong),
+        Ok(()) => ReadFault::whole(Kind::TooLong),
         Err(fault) => fault,
     }
-}
-
-/// A fault of a text as a whole.
-pub(crate) fn whole_fault(kind: Kind) -> ReadFault
-    ensures { result ≡ fault_at 0 kind }
-{
-    ReadFault { line: 0, kind }
 }
 
 /// What the header lines of a file say.

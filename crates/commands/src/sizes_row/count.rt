@@ -5,6 +5,7 @@ ghost use Rattle.std.specs.List.{range_with_len};
 ghost use Rattle.bid_file.specs.Files.{IsPlainFile};
 ghost use Rattle.commands.specs.SizesRows.{count_or, count_xor, counts_of, has_dummy, sizes_of, with_tabs};
 
+use crate::printed::push_number;
 use bid_file::PackedFile;
 use std::alloc::{AllocError, Global};
 
@@ -18,11 +19,11 @@ pub(super) fn push_sizes(
 {
     let or_bids = count_or(file);
     let xor_bidders = count_xor(alloc, file)?;
-    push_number(alloc, text, usize::from(file.goods()))?;
-    push_number(alloc, text, file.bids().len())?;
-    push_number(alloc, text, or_bids)?;
-    push_number(alloc, text, xor_bidders)?;
-    push_number(alloc, text, file.dummy() as usize)
+    push_tabbed(text, usize::from(file.goods()))?;
+    push_tabbed(text, file.bids().len())?;
+    push_tabbed(text, or_bids)?;
+    push_tabbed(text, xor_bidders)?;
+    push_tabbed(text, file.dummy() as usize)
 }
 
 /// Puts the numbers of a canonical file behind the text, each with a tab after it: bids, or, xor.
@@ -35,18 +36,17 @@ pub(super) fn push_counts(
 {
     let or_bids = count_or(file);
     let xor_bidders = count_xor(alloc, file)?;
-    push_number(alloc, text, file.bids().len())?;
-    push_number(alloc, text, or_bids)?;
-    push_number(alloc, text, xor_bidders)
+    push_tabbed(text, file.bids().len())?;
+    push_tabbed(text, or_bids)?;
+    push_tabbed(text, xor_bidders)
 }
 
-fn push_number(alloc: Global, text: &mut Vec<u8>, number: usize) -> Result<(), AllocError>
+fn push_tabbed(text: &mut Vec<u8>, number: usize) -> Result<(), AllocError>
     ensures { let more : List ℕ = decimal number ++ codes "\t" in
         OnOk result (text.new.items ≡ text.old.items ++ more) }
 {
-    let word = format!(in alloc; "{number}\t")?;
-    text.extend_from_slice(word.as_bytes())?;
-    Ok(())
+    push_number(text, number)?;
+    text.extend_from_slice(b"\t")
 }
 
 /// How many bids have no dummy good.

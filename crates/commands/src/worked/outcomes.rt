@@ -7,26 +7,27 @@ ghost use Rattle.canon.specs.declared.canon_fault.CanonFault.TheVariants.{Memory
 ghost use Rattle.valuation.specs.SearchLimits.{bounded_options, plain_options};
 ghost use Rattle.valuation.specs.declared.search_kind.SearchKind.TheVariants.{Bounded};
 ghost use Rattle.commands.specs.Examples.{larger_bid, repeated_bundle, xor_ladder};
-ghost use Rattle.commands.specs.Outcomes.{ExceedsAtBid, ExceedsSteps, LacksBid, LacksGood, Prints, check_outcome};
-ghost use Rattle.commands.specs.Outcomes.{compare_outcome, exceeds_at, explain_outcome, first_bid_on, lp_outcome};
-ghost use Rattle.commands.specs.Outcomes.{naming_outcome, normalise_outcome, revenue_outcome, show_outcome, value_outcome};
+ghost use Rattle.commands.specs.Outcomes.{ExceedsAtBid, ExceedsSteps, LacksBid, LacksGood, Prints, compare_outcome};
+ghost use Rattle.commands.specs.Outcomes.{exceeds_at, first_bid_on, naming_outcome, outcome_of, revenue_outcome};
+ghost use Rattle.commands.specs.Outcomes.{value_outcome};
 ghost use Rattle.commands.specs.SizesRows.{IsSized, IsTooHeavy, IsUnsized, fault_sized, sizes_row, status_unless};
 ghost use Rattle.commands.specs.ValueTexts.{bundle_from};
+ghost use Rattle.commands.specs.declared.command.Command.TheVariants.{Check, Explain, Lp, Normalise, Show};
 
 /// What `cats check` and `cats show` make of files.
 pub fn sizes_and_layouts()
-    ensures check { check_outcome xor_ladder ≡ Prints 0 (codes "goods 2 bids 3 dummy 1\n") }
-    ensures show { show_outcome xor_ladder
+    ensures check { outcome_of Check xor_ladder ≡ Prints 0 (codes "goods 2 bids 3 dummy 1\n") }
+    ensures show { outcome_of Show xor_ladder
         ≡ Prints 0 (codes "goods 2\nbids 3\ndummy 1\n0\t5\t0\t2\t#\n1\t1.5\t1\t#\n2\t6\t0\t1\t2\t#\n") }
 {}
 
 /// What `cats lp` makes of two files, of which the second has no bids.
 pub fn lp_texts()
-    ensures shared { lp_outcome xor_ladder
+    ensures shared { outcome_of Lp xor_ladder
         ≡ Prints 0 (codes "Maximize\n revenue:\n + 5 x0\n + 1.5 x1\n + 6 x2\nSubject To\n"
         ++ codes " g0:\n + x0\n + x2\n <= 1\n g1:\n + x1\n + x2\n <= 1\n d0:\n + x0\n + x2\n <= 1\n"
         ++ codes "Binary\n x0\n x1\n x2\nEnd\n") }
-    ensures empty { lp_outcome (record { goods = 2; dummy = 1; bids = [] })
+    ensures empty { outcome_of Lp (record { goods = 2; dummy = 1; bids = [] })
         ≡ Prints 0 (codes "Maximize\n revenue:\n + 0 none\nSubject To\n none:\n + none\n <= 1\nBinary\n none\nEnd\n") }
 {}
 
@@ -64,13 +65,13 @@ pub fn sizes_rows()
 
 /// What `cats normalise` and `cats explain` make of a file: the same limits refuse it.
 pub fn canonical_files()
-    ensures text { normalise_outcome (plain_options 3) larger_bid
+    ensures text { outcome_of (Normalise (plain_options 3)) larger_bid
         ≡ Prints 0 (codes "goods 2\nbids 2\ndummy 0\n0\t3\t0\t#\n1\t4\t1\t#\n") }
-    ensures refused { normalise_outcome (plain_options 1) larger_bid ≡ ExceedsSteps (0 ∷ 1 ∷ []) }
-    ensures reasons { explain_outcome (plain_options 3) larger_bid
+    ensures refused { outcome_of (Normalise (plain_options 1)) larger_bid ≡ ExceedsSteps (0 ∷ 1 ∷ []) }
+    ensures reasons { outcome_of (Explain 3 None) larger_bid
         ≡ Prints 0 (codes "bid\tdummy\tprice\tgoods\treason\tkept\tby\n0\t\t3\t0\tkeep\t0\t\n1\t\t4\t1\tkeep\t1\t\n"
         ++ codes "2\t\t7\t0,1\tpacking\t\t0,1\n") }
-    ensures unexplained { explain_outcome (plain_options 1) larger_bid ≡ ExceedsAtBid 1 None 2 (0 ∷ 1 ∷ []) }
+    ensures unexplained { outcome_of (Explain 1 None) larger_bid ≡ ExceedsAtBid 1 None 2 (0 ∷ 1 ∷ []) }
 {}
 
 /// The bid that is named: not that of an XOR bidder, and the first of two.

@@ -11,6 +11,7 @@ use Rattle.cats_text.specs.declared.read_fault.ReadFault.{ReadFault}
 use Rattle.cats_text.proofs.Texts.FaultKinds.{IsFaultOfBytes, first_fault-of_bytes}
 use Rattle.valuation.specs.Auctions.{auction_from, or_atoms_of}
 use Rattle.valuation.specs.Lemmas.Lists.{le_or_lt}
+use Rattle.valuation.specs.SearchLimits.{bounded_options}
 use Rattle.valuation.specs.declared.search_options.SearchOptions.{SearchOptions}
 use Rattle.prune.specs.SearchSteps.{first_refused}
 use Rattle.canon.specs.Difference.{Difference, NoDifference, first_difference}
@@ -28,18 +29,22 @@ use Rattle.commands.specs.declared.run_fault.RunFault.{RunFault}
 use Rattle.commands.specs.declared.run_fault.RunFault.TheVariants.{Refused, TooHeavy, GoodRange, BidRange, Sent}
 use Rattle.commands.specs.Commands.{outcome_of_heavy_bid}
 use Rattle.commands.specs.Outcomes.{Outcome, Prints, LacksGood, LacksBid, ExceedsSteps, ExceedsAtBid, exceeds_limits, explain_outcome}
-use Rattle.commands.specs.Outcomes.{missing_good, naming_outcome}
-use Rattle.commands.specs.Outcomes.{normalise_outcome, outcome_unless, text_unless_heavy, text_unless_refused, value_outcome_by, values_unless}
-use Rattle.commands.specs.Outcomes.{check_outcome, lp_outcome, outcome_of_verdict, revenue_outcome, show_outcome}
+use Rattle.commands.specs.Outcomes.{missing_good}
+use Rattle.commands.specs.Outcomes.{naming_outcome, normalise_outcome, outcome_of, outcome_of_verdict, outcome_unless, text_unless_heavy}
+use Rattle.commands.specs.Outcomes.{text_unless_refused, value_outcome_by, values_unless}
 use Rattle.commands.specs.SizesRows.{Sized, IsSized, IsTooHeavy, IsUnsized, Sizes, fault_sized, status_unless}
 use Rattle.commands.specs.ValueTexts.{bundle_from}
 use Rattle.commands.specs.Buffers.{Calls, PutsInto, RefusesBy}
 use Rattle.commands.specs.FaultCalls.{FaultCalls, IsUnplaced, SaysPlace, outcome_of_place}
-use Rattle.commands.specs.OneText.{CallsOn, IsRefusedText, IsUnmade, MakesOf, OfOnly, PrintsOf}
+use Rattle.commands.specs.OneText.{CallsOn, IsRefusedText, IsUnmade, MakesOf, OfOnly, PrintsOf, own_statuses}
 use Rattle.commands.specs.Refusals.{RefusesText, text_fault, text_read}
 use Rattle.commands.specs.Roundings.{IsUnrounded, RoundCalls, RoundsText}
 use Rattle.commands.specs.SizesCalls.{SaysRow, SizesCalls, WantsMemoryForRow}
-use Rattle.commands.specs.TwoTexts.{CompareCalls, ComparesTexts, DiffCalls, DiffsTexts, IsRefusedOfTwo}
+use Rattle.commands.specs.TwoTexts.{CallsOnBoth, ComparesTexts, DiffsTexts, IsRefusedOfTwo}
+use Rattle.commands.specs.declared.command.Command.{Command}
+use Rattle.commands.specs.declared.command.Command.TheVariants.{Value, Revenue, Normalise, Explain}
+use Rattle.commands.specs.declared.command.Comparison.{Comparison}
+use Rattle.commands.specs.declared.command.Comparison.TheVariants.{Compare, Diff}
 use Rattle.commands.specs.declared.calls.buffer.TheConstants.{TOO_SMALL}
 use Rattle.commands.proofs.Refusing.{text_fault-of_bytes}
 use Rattle.commands.proofs.laws.statuses_of_calls.Goals as goal
@@ -60,11 +65,49 @@ status_in (LacksBid bid) = 64
 status_in (ExceedsSteps goods) = 3
 status_in (ExceedsAtBid steps total number goods) = 3
 
-module _ (P : ℕ → Type 0) (zero : P 0) (two : P 2) (four : P 4) (six : P 6) where
-  by_test : (test : Bool) (a b : ℕ) → P a → P b → P (if test then a else b)
-  by_test true a b p q = p
-  by_test false a b p q = q
+by_test : (P : ℕ → Type 0) (test : Bool) (a b : ℕ) → P a → P b → P (if test then a else b)
+by_test P true a b p q = p
+by_test P false a b p q = q
 
+-- ---- what holds of the statuses of outcomes
+
+module _ (P : ℕ → Type 0) (zero : P 0) (three : P 3) (options : SearchOptions) where
+  of_normalised : (file : PlainFile) → P (status_in (normalise_outcome options file))
+  of_normalised file = by (first_refused options file.goods (or_atoms_of file.bids))
+    where
+      by : (over : Option (List ℕ)) → P (status_in (text_unless_refused file over))
+      by None = zero
+      by (Some goods) = three
+
+  unless_heavy : (text : List ℕ) (file : PlainFile) (over : Option (List ℕ)) → P (status_in (text_unless_heavy options text file over))
+  unless_heavy text file None = zero
+  unless_heavy text file (Some goods) = three
+
+  of_named : (file : PlainFile) → P (status_in (naming_outcome options file))
+  of_named file = unless_heavy _ file (first_refused options file.goods (or_atoms_of file.bids))
+
+  of_values : P 64 → (goods : List ℕ) (file : PlainFile) → P (status_in (value_outcome_by goods options file))
+  of_values last goods file = by (missing_good file.goods goods) (exceeds_limits (bundle_from goods) options file)
+    where
+      by : (missing : Option ℕ) (over : Bool) → P (status_in (outcome_unless missing (values_unless over (bundle_from goods) file)))
+      by (Some good) over = last
+      by None true = three
+      by None false = zero
+
+module _ (P : ℕ → Type 0) (zero : P 0) (one : P 1) where
+  of_verdict : P 64 → (verdict : Result AllocationVerdict ℕ) → P (status_in (outcome_of_verdict verdict))
+  of_verdict last (Err bid) = last
+  of_verdict last (Ok (Revenue millionths)) = zero
+  of_verdict last (Ok (SharedGood i j good)) = one
+  of_verdict last (Ok (SharedBidder i j dummy)) = one
+
+  of_difference : (d : Difference) → P (status_of_difference d)
+  of_difference NoDifference = zero
+  of_difference d = one
+
+-- ---- what holds of the statuses of calls
+
+module _ (P : ℕ → Type 0) (zero : P 0) (two : P 2) (four : P 4) (six : P 6) where
   put : (status : ℕ) (text old new : List ℕ) (answer : ℕ) → P status → PutsInto status text old new answer → P answer
   put status text old new answer p puts =
       ⊎_elim (λ (h : length text ≤ length old). subst P (sym (puts.fits h).0) p) (λ (h : length old < length text). subst P (sym (puts.small h).0) six)
@@ -110,15 +153,6 @@ module _ (P : ℕ → Type 0) (zero : P 0) (two : P 2) (four : P 4) (six : P 6) 
     on_text : (old new : List ℕ) (needed status : ℕ) → CallsOn outcome fine text old new needed status → P status
     on_text = called (PrintsOf outcome (text_read fine text)) (IsRefusedText outcome fine text) (λ status out says. made (Prints status out) says) refused
 
-  -- ---- bids that are named as winners
-
-  module _ (one : P 1) (last : P 64) where
-    of_verdict : (verdict : Result AllocationVerdict ℕ) → P (status_in (outcome_of_verdict verdict))
-    of_verdict (Err bid) = last
-    of_verdict (Ok (Revenue millionths)) = zero
-    of_verdict (Ok (SharedGood i j good)) = one
-    of_verdict (Ok (SharedBidder i j dummy)) = one
-
   -- ---- the first fault of a text
 
   module _ (text : List ℕ) where
@@ -136,77 +170,48 @@ module _ (P : ℕ → Type 0) (zero : P 0) (two : P 2) (four : P 4) (six : P 6) 
         (λ status out says. subst (λ (o : Outcome). P (status_in o)) says.1 (of_place (first_place text)))
         (of_only (IsUnplaced text) unplaced)
 
-  -- ---- searches
+  -- ---- the sizes of a text
 
-  module _ (three : P 3) (options : SearchOptions) where
-    of_normalised : (file : PlainFile) → P (status_in (normalise_outcome options file))
-    of_normalised file = by (first_refused options file.goods (or_atoms_of file.bids))
+  module _ (three : P 3) (options : SearchOptions) (fine : Option FinePrices) (text : List ℕ) where
+    of_sized : (sized : Sized) → Sizes (Spells (text_read fine text)) (RefusesText fine text) options sized → P (status_unless (fault_sized sized))
+    of_sized (IsSized file) h = zero
+    of_sized (IsTooHeavy file heavy) h = three
+    of_sized (IsUnsized (Read why)) h = by h.1
       where
-        by : (over : Option (List ℕ)) → P (status_in (text_unless_refused file over))
-        by None = zero
-        by (Some goods) = three
+        by : RefusesText fine text why → P (status_of_read_fault why.kind)
+        by (inl found) = subst P (sym (found_status (text_fault fine text) why (text_fault-of_bytes fine text) found)) two
+        by (inr wants) = absurd (h.0 (ap (λ (fault : ReadFault). fault.kind) wants.0))
+    of_sized (IsUnsized (StepLimit goods)) h = absurd h
+    of_sized (IsUnsized Memory) h = four
 
-    module _ (fine : Option FinePrices) (text : List ℕ) where
-      of_sized : (sized : Sized) → Sizes (Spells (text_read fine text)) (RefusesText fine text) options sized → P (status_unless (fault_sized sized))
-      of_sized (IsSized file) h = zero
-      of_sized (IsTooHeavy file heavy) h = three
-      of_sized (IsUnsized (Read why)) h = by h.1
-        where
-          by : RefusesText fine text why → P (status_of_read_fault why.kind)
-          by (inl found) = subst P (sym (found_status (text_fault fine text) why (text_fault-of_bytes fine text) found)) two
-          by (inr wants) = absurd (h.0 (ap (λ (fault : ReadFault). fault.kind) wants.0))
-      of_sized (IsUnsized (StepLimit goods)) h = absurd h
-      of_sized (IsUnsized Memory) h = four
+    sized_called : (old new : List ℕ) (needed status : ℕ) → SizesCalls options fine text old new needed status → P status
+    sized_called = called (SaysRow options fine text) WantsMemoryForRow
+        (λ status out says. subst P (sym says.is_status) (of_sized says.sized says.sizes))
+        (λ fault wants. subst P (sym (ap status_of_fault wants)) four)
 
-      sized_called : (old new : List ℕ) (needed status : ℕ) → SizesCalls options fine text old new needed status → P status
-      sized_called = called (SaysRow options fine text) WantsMemoryForRow
-          (λ status out says. subst P (sym says.is_status) (of_sized says.sized says.sizes))
-          (λ fault wants. subst P (sym (ap status_of_fault wants)) four)
+  -- ---- two texts
 
-    unless_heavy : (text : List ℕ) (file : PlainFile) (over : Option (List ℕ)) → P (status_in (text_unless_heavy options text file over))
-    unless_heavy text file None = zero
-    unless_heavy text file (Some goods) = three
+  module _ (fine : Option FinePrices) (left right : List ℕ) where
+    of_two : (options : SearchOptions) (refusal : SearchOptions → PlainFile → Outcome) → ((file : PlainFile) → P (status_in (refusal options file)))
+        → (fault : RunFault) → IsRefusedOfTwo options fine left right refusal fault → P (status_of_fault fault)
+    of_two options refusal of_file (Refused First fault) r = unmade (refusal options) of_file fine left fault r
+    of_two options refusal of_file (Refused Second fault) r = unmade (refusal options) of_file fine right fault r.1
+    of_two options refusal of_file (Refused Both fault) r = subst P (sym (ap status_of_canon_fault r.2)) four
+    of_two options refusal of_file (TooHeavy First heavy) r = made (refusal options) of_file fine left (outcome_of_heavy_bid heavy) r
+    of_two options refusal of_file (TooHeavy Second heavy) r = made (refusal options) of_file fine right (outcome_of_heavy_bid heavy) r.1
+    of_two options refusal of_file fault r = absurd r
 
-    of_explained : (file : PlainFile) → P (status_in (explain_outcome options file))
-    of_explained file = unless_heavy _ file (first_refused options file.goods (or_atoms_of file.bids))
-
-    of_named : (file : PlainFile) → P (status_in (naming_outcome options file))
-    of_named file = unless_heavy _ file (first_refused options file.goods (or_atoms_of file.bids))
-
-    of_values : P 64 → (goods : List ℕ) (file : PlainFile) → P (status_in (value_outcome_by goods options file))
-    of_values last goods file = by (missing_good file.goods goods) (exceeds_limits (bundle_from goods) options file)
-      where
-        by : (missing : Option ℕ) (over : Bool) → P (status_in (outcome_unless missing (values_unless over (bundle_from goods) file)))
-        by (Some good) over = last
-        by None true = three
-        by None false = zero
-
-    module _ (refusal : SearchOptions → PlainFile → Outcome) (of_file : (file : PlainFile) → P (status_in (refusal options file)))
-        (fine : Option FinePrices) (left right : List ℕ) where
-      of_two : (fault : RunFault) → IsRefusedOfTwo options fine left right refusal fault → P (status_of_fault fault)
-      of_two (Refused First fault) r = unmade (refusal options) of_file fine left fault r
-      of_two (Refused Second fault) r = unmade (refusal options) of_file fine right fault r.1
-      of_two (Refused Both fault) r = subst P (sym (ap status_of_canon_fault r.2)) four
-      of_two (TooHeavy First heavy) r = made (refusal options) of_file fine left (outcome_of_heavy_bid heavy) r
-      of_two (TooHeavy Second heavy) r = made (refusal options) of_file fine right (outcome_of_heavy_bid heavy) r.1
-      of_two fault r = absurd r
-
-    module _ (one : P 1) (fine : Option FinePrices) (left right : List ℕ) where
-      of_difference : (d : Difference) → P (status_of_difference d)
-      of_difference NoDifference = zero
-      of_difference d = one
-
-      compared : (old new : List ℕ) (needed status : ℕ) → CompareCalls options fine left right old new needed status → P status
-      compared =
-          called (ComparesTexts options (text_read fine left) (text_read fine right)) (IsRefusedOfTwo options fine left right normalise_outcome)
-          (λ status out says. subst (λ (o : Outcome). P (status_in o)) says.made
-          (of_difference (first_difference (auction_from says.first.file) (auction_from says.second.file))))
-          (of_two normalise_outcome of_normalised fine left right)
-
-      diffed : (old new : List ℕ) (needed status : ℕ) → DiffCalls options fine left right old new needed status → P status
-      diffed = called (DiffsTexts options (text_read fine left) (text_read fine right)) (IsRefusedOfTwo options fine left right naming_outcome)
-          (λ status out says. subst (λ (o : Outcome). P (status_in o)) says.made (by_test (is_none_at_all says.differences) 0 1 zero one))
-          (of_two naming_outcome of_named fine left right)
+    on_both : P 1 → P 3 → (comparison : Comparison) (old new : List ℕ) (needed status : ℕ) → CallsOnBoth comparison fine left right old new needed status
+        → P status
+    on_both one three (Compare options) =
+        called (ComparesTexts options (text_read fine left) (text_read fine right)) (IsRefusedOfTwo options fine left right normalise_outcome)
+        (λ status out says. subst (λ (o : Outcome). P (status_in o)) says.made
+        (of_difference P zero one (first_difference (auction_from says.first.file) (auction_from says.second.file))))
+        (of_two options normalise_outcome (of_normalised P zero three options))
+    on_both one three (Diff options) =
+        called (DiffsTexts options (text_read fine left) (text_read fine right)) (IsRefusedOfTwo options fine left right naming_outcome)
+        (λ status out says. subst (λ (o : Outcome). P (status_in o)) says.made (by_test P (is_none_at_all says.differences) 0 1 zero one))
+        (of_two options naming_outcome (of_named P zero three options))
 
   -- ---- a text is rounded
 
@@ -221,7 +226,7 @@ module _ (P : ℕ → Type 0) (zero : P 0) (two : P 2) (four : P 4) (six : P 6) 
     rounded : (old new report_old report_new : List ℕ) (needed report_needed status : ℕ)
         → RoundCalls fine text old new needed report_old report_new report_needed status → P status
     rounded old new report_old report_new needed report_needed status c =
-        subst P (sym c.is_answer) (by_test (c.reported == TOO_SMALL) TOO_SMALL c.given six (put c.status c.text old new c.given (by c.is) c.puts))
+        subst P (sym c.is_answer) (by_test P (c.reported == TOO_SMALL) TOO_SMALL c.given six (put c.status c.text old new c.given (by c.is) c.puts))
       where
         by : ((c.status ≡ 0) × RoundsText fine text c.text c.report × (needed ≡ length c.text))
             ⊎ (RefusesBy (OfOnly (IsUnrounded fine text)) c.status c.text needed × (c.report ≡ [])) → P c.status
@@ -230,54 +235,45 @@ module _ (P : ℕ → Type 0) (zero : P 0) (two : P 2) (four : P 4) (six : P 6) 
 
 -- ---- the clauses
 
--- of calls that do not search, of those that do, of those of a bundle, of those of bids, and of those on two texts
-abbrev Plain : ℕ → Type 0
-Plain = Contains (0 ∷ 2 ∷ 4 ∷ 6 ∷ [])
+-- 0, 2, 4 and 6 are of every call
+module _ (own : List ℕ) where
+  abbrev Has : ℕ → Type 0
+  Has = Contains (0 ∷ 2 ∷ 4 ∷ 6 ∷ own)
 
-abbrev Searched : ℕ → Type 0
-Searched = Contains (0 ∷ 2 ∷ 3 ∷ 4 ∷ 6 ∷ [])
+  zero : Has 0
+  zero = (0, omega arith, refl)
 
-abbrev Valued : ℕ → Type 0
-Valued = Contains (0 ∷ 2 ∷ 3 ∷ 4 ∷ 6 ∷ 64 ∷ [])
+  two : Has 2
+  two = (1, omega arith, refl)
 
-abbrev OfBids : ℕ → Type 0
-OfBids = Contains (0 ∷ 1 ∷ 2 ∷ 4 ∷ 6 ∷ 64 ∷ [])
+  four : Has 4
+  four = (2, omega arith, refl)
 
-abbrev OfTwo : ℕ → Type 0
-OfTwo = Contains (0 ∷ 1 ∷ 2 ∷ 3 ∷ 4 ∷ 6 ∷ [])
+  six : Has 6
+  six = (3, omega arith, refl)
 
-plainly : (outcome : PlainFile → Outcome) → ((file : PlainFile) → status_in (outcome file) ≡ 0)
-    → (fine : Option FinePrices) (text old new : List ℕ) (needed status : ℕ) → CallsOn outcome fine text old new needed status → Plain status
-plainly outcome zero =
-    on_text Plain (0, omega arith, refl) (1, omega arith, refl) (2, omega arith, refl) (3, omega arith, refl) outcome
-    (λ file. subst Plain (sym (zero file)) (0, omega arith, refl))
-
-searched : (outcome : PlainFile → Outcome) → ((file : PlainFile) → Searched (status_in (outcome file)))
-    → (fine : Option FinePrices) (text old new : List ℕ) (needed status : ℕ) → CallsOn outcome fine text old new needed status → Searched status
-searched = on_text Searched (0, omega arith, refl) (1, omega arith, refl) (3, omega arith, refl) (4, omega arith, refl)
+of_command : (command : Command) (file : PlainFile) → Has (own_statuses command) (status_in (outcome_of command file))
+of_command (Value goods options) file =
+    let own : List ℕ = 3 ∷ 64 ∷ [] in of_values (Has own) (zero own) (4, omega arith, refl) options (5, omega arith, refl) goods.now file
+of_command (Revenue bids) file =
+    let own : List ℕ = 1 ∷ 64 ∷ [] in of_verdict (Has own) (zero own) (4, omega arith, refl) (5, omega arith, refl) (allocation_verdict file bids.now)
+of_command (Normalise options) file = of_normalised (Has (3 ∷ [])) (zero (3 ∷ [])) (4, omega arith, refl) options file
+of_command (Explain steps total) file =
+    let options = bounded_options steps total in
+    unless_heavy (Has (3 ∷ [])) (zero (3 ∷ [])) (4, omega arith, refl) options _ file (first_refused options file.goods (or_atoms_of file.bids))
+of_command command file = zero []
 
 pub returns : goal.returns
 returns c = record {
-  check = plainly check_outcome (λ file. refl);
-  show = plainly show_outcome (λ file. refl);
-  lp = plainly lp_outcome (λ file. refl);
-  fault = placed Plain (0, omega arith, refl) (1, omega arith, refl) (2, omega arith, refl) (3, omega arith, refl);
-  revenue = λ bids. on_text OfBids (0, omega arith, refl) (2, omega arith, refl) (3, omega arith, refl) (4, omega arith, refl) (revenue_outcome bids)
-      (λ file. of_verdict OfBids (0, omega arith, refl) (2, omega arith, refl) (3, omega arith, refl) (4, omega arith, refl) (1, omega arith, refl)
-      (5, omega arith, refl) (allocation_verdict file bids));
-  normalise = λ options. searched (normalise_outcome options) (of_normalised Searched (0, omega arith, refl) (1, omega arith, refl)
-      (3, omega arith, refl) (4, omega arith, refl) (2, omega arith, refl) options);
-  explain = λ options. searched (explain_outcome options) (of_explained Searched (0, omega arith, refl) (1, omega arith, refl)
-      (3, omega arith, refl) (4, omega arith, refl) (2, omega arith, refl) options);
-  value = λ goods options.
-      on_text Valued (0, omega arith, refl) (1, omega arith, refl) (3, omega arith, refl) (4, omega arith, refl) (value_outcome_by goods options)
-      (of_values Valued (0, omega arith, refl) (1, omega arith, refl) (3, omega arith, refl) (4, omega arith, refl) (2, omega arith, refl) options
-      (5, omega arith, refl) goods);
-  compare = λ options. compared OfTwo (0, omega arith, refl) (2, omega arith, refl) (4, omega arith, refl) (5, omega arith, refl)
-      (3, omega arith, refl) options (1, omega arith, refl);
-  diff = λ options. diffed OfTwo (0, omega arith, refl) (2, omega arith, refl) (4, omega arith, refl) (5, omega arith, refl)
-      (3, omega arith, refl) options (1, omega arith, refl);
-  sizes = λ options. sized_called Searched (0, omega arith, refl) (1, omega arith, refl) (3, omega arith, refl) (4, omega arith, refl)
-      (2, omega arith, refl) options;
-  round = rounded Plain (0, omega arith, refl) (1, omega arith, refl) (2, omega arith, refl) (3, omega arith, refl);
+  one_text = λ command.
+      let own = own_statuses command in on_text (Has own) (zero own) (two own) (four own) (six own) (outcome_of command) (of_command command);
+  two_texts = λ comparison fine left right. on_both (Contains (0 ∷ 1 ∷ 2 ∷ 3 ∷ 4 ∷ 6 ∷ [])) (0, omega arith, refl) (2, omega arith, refl)
+      (4, omega arith, refl) (5, omega arith, refl) fine left right (1, omega arith, refl) (3, omega arith, refl) comparison;
+  explain = λ options. on_text (Contains (0 ∷ 2 ∷ 3 ∷ 4 ∷ 6 ∷ [])) (0, omega arith, refl) (1, omega arith, refl) (3, omega arith, refl)
+      (4, omega arith, refl) (explain_outcome options) (λ file. unless_heavy (Contains (0 ∷ 2 ∷ 3 ∷ 4 ∷ 6 ∷ [])) (0, omega arith, refl)
+      (2, omega arith, refl) options _ file (first_refused options file.goods (or_atoms_of file.bids)));
+  fault = placed (Has []) (zero []) (two []) (four []) (six []);
+  sizes = λ options. sized_called (Contains (0 ∷ 2 ∷ 3 ∷ 4 ∷ 6 ∷ [])) (0, omega arith, refl) (1, omega arith, refl) (3, omega arith, refl)
+      (4, omega arith, refl) (2, omega arith, refl) options;
+  round = rounded (Has []) (zero []) (two []) (four []) (six []);
 }

@@ -1,14 +1,11 @@
 -- `rows_said`
-use Rattle.std.proofs.Common.{◌≡◌, ℕ, List, None, Some, Option, inl, inr, refl, sym, ap, ◌∙◌, subst, codes}
+use Rattle.std.proofs.Common.{Some, inl, inr, refl, codes}
 use Rattle.std.specs.Fmt.{digits}
-use Rattle.bid_file.specs.Files.{PlainFile}
-use Rattle.cats_text.specs.Faults.{fault_at, first_fault}
+use Rattle.cats_text.specs.Faults.{fault_at}
 use Rattle.cats_text.specs.FileLines.{spelled_file}
 use Rattle.cats_text.specs.declared.read_fault.Kind.TheVariants.{Header}
-use Rattle.cats_text.specs.declared.read_fault.ReadFault.{ReadFault}
 use Rattle.cats_text.proofs.Spelling.Files.{spells_from_no_fault}
 use Rattle.rounding.specs.declared.replacement.FinePrices.TheVariants.{Round}
-use Rattle.valuation.specs.SearchLimits.{bounded_options}
 use Rattle.valuation.specs.SearchSteps.{cut_steps}
 use Rattle.valuation.specs.Values.{or_value, xor_value}
 use Rattle.prune.specs.Points.{points_where, is_or_point, is_xor_point}

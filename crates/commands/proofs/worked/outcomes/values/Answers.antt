@@ -2,11 +2,11 @@
 use Rattle.std.proofs.Common.{refl}
 use Rattle.std.specs.Fmt.{digits}
 use Rattle.valuation.specs.Packings.{count_packings}
-use Rattle.valuation.specs.Values.{or_value, xor_value, chosen_places}
+use Rattle.valuation.specs.Values.{or_value, xor_value, chosen_indices}
 use Rattle.commands.proofs.worked.outcomes.values.Goals as goal
 
 pub returns : goal.returns
-unfolding digits count_packings or_value xor_value chosen_places
+unfolding digits count_packings or_value xor_value chosen_indices
 returns c = record {
   best_packing = refl;
   one_good = refl;
