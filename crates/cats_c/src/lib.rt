@@ -19,8 +19,8 @@ ghost use Rattle.cats_c.specs.Totals.{total_of};
 pub mod worked;
 
 use commands::{
-    RoundAnswer, RunFault, TOO_SMALL, Text, check, compare, diff, explain, find_fault, give,
-    give_report, give_rounded, lp, normalise, revenue, round_text, show, sizes, value,
+    Command, Comparison, RoundAnswer, RunFault, TOO_SMALL, Text, TextPair, call, call_on_both,
+    find_fault, give, give_report, give_rounded, round_text, sizes,
 };
 use rounding::FinePrices;
 use std::alloc::Global;
@@ -56,9 +56,8 @@ pub extern "C" fn cats_check(
 ) -> u8
     ensures { CallsOn check_outcome (fine_of prices) text.now out.old out.new needed.new result }
 {
-    let fine = fine_of(prices);
-    let answer = check(alloc, &mut Text { bytes: text, fine });
-    give(alloc, &answer, out, needed)
+    let text = read_as(text, prices);
+    call(alloc, &Command::Check, text, out, needed)
 }
 
 /// `cats fault`: where the first fault of the text is, and what helps. The name `text` is there in place of a path. The
@@ -82,9 +81,8 @@ pub extern "C" fn cats_show(
 ) -> u8
     ensures { CallsOn show_outcome (fine_of prices) text.now out.old out.new needed.new result }
 {
-    let fine = fine_of(prices);
-    let answer = show(alloc, &mut Text { bytes: text, fine });
-    give(alloc, &answer, out, needed)
+    let text = read_as(text, prices);
+    call(alloc, &Command::Show, text, out, needed)
 }
 
 /// `cats lp`: the winner determination problem of the file, for a solver.
@@ -98,9 +96,8 @@ pub extern "C" fn cats_lp(
 ) -> u8
     ensures { CallsOn lp_outcome (fine_of prices) text.now out.old out.new needed.new result }
 {
-    let fine = fine_of(prices);
-    let answer = lp(alloc, &mut Text { bytes: text, fine });
-    give(alloc, &answer, out, needed)
+    let text = read_as(text, prices);
+    call(alloc, &Command::Lp, text, out, needed)
 }
 
 /// `cats revenue`: what the bids of these numbers bring as winners, or the first two of them that cannot both win.
@@ -115,9 +112,8 @@ pub extern "C" fn cats_revenue(
 ) -> u8
     ensures { CallsOn (revenue_outcome bids.now) (fine_of prices) text.now out.old out.new needed.new result }
 {
-    let fine = fine_of(prices);
-    let answer = revenue(alloc, &mut Text { bytes: text, fine }, bids);
-    give(alloc, &answer, out, needed)
+    let text = read_as(text, prices);
+    call(alloc, &Command::Revenue(bids), text, out, needed)
 }
 
 /// `cats value`: what the file's bidders offer for the bundle of these goods. C fixes the parameters.
@@ -136,9 +132,8 @@ pub extern "C" fn cats_value(
         CallsOn (value_outcome_by goods.now options) (fine_of prices) text.now out.old out.new needed.new result }
 {
     let options = options_of(steps, total);
-    let fine = fine_of(prices);
-    let answer = value(alloc, &mut Text { bytes: text, fine }, goods, options);
-    give(alloc, &answer, out, needed)
+    let text = read_as(text, prices);
+    call(alloc, &Command::Value { goods, options }, text, out, needed)
 }
 
 /// `cats normalise`: the canonical text of the file's auction.
@@ -156,9 +151,8 @@ pub extern "C" fn cats_normalise(
         CallsOn (normalise_outcome options) (fine_of prices) text.now out.old out.new needed.new result }
 {
     let options = options_of(steps, total);
-    let fine = fine_of(prices);
-    let answer = normalise(alloc, &mut Text { bytes: text, fine }, options);
-    give(alloc, &answer, out, needed)
+    let text = read_as(text, prices);
+    call(alloc, &Command::Normalise(options), text, out, needed)
 }
 
 /// `cats explain`: why each bid of the file is in its canonical file, or is not.
@@ -175,10 +169,9 @@ pub extern "C" fn cats_explain(
     ensures { let options = bounded_options steps (total_of total) in
         CallsOn (explain_outcome options) (fine_of prices) text.now out.old out.new needed.new result }
 {
-    let fine = fine_of(prices);
-    let mut input = Text { bytes: text, fine };
-    let answer = explain(alloc, &mut input, steps, total_of(total));
-    give(alloc, &answer, out, needed)
+    let total = total_of(total);
+    let text = read_as(text, prices);
+    call(alloc, &Command::Explain { steps, total }, text, out, needed)
 }
 
 /// `cats sizes`: the row of the file in its table, without the path.
@@ -218,9 +211,8 @@ pub extern "C" fn cats_compare(
 {
     let options = options_of(steps, total);
     let fine = fine_of(prices);
-    let (mut first, mut second) = (Text { bytes: left, fine }, Text { bytes: right, fine });
-    let answer = compare(alloc, &mut first, &mut second, options);
-    give(alloc, &answer, out, needed)
+    let texts = TextPair { left, right, fine };
+    call_on_both(alloc, &Comparison::Compare(options), texts, out, needed)
 }
 
 /// `cats diff`: all differences of two files.
@@ -240,9 +232,8 @@ pub extern "C" fn cats_diff(
 {
     let options = options_of(steps, total);
     let fine = fine_of(prices);
-    let (mut first, mut second) = (Text { bytes: left, fine }, Text { bytes: right, fine });
-    let answer = diff(alloc, &mut first, &mut second, options);
-    give(alloc, &answer, out, needed)
+    let texts = TextPair { left, right, fine };
+    call_on_both(alloc, &Comparison::Diff(options), texts, out, needed)
 }
 
 /// `cats round`: the text with every price made valid, and a line for each price whose value changed. A price that is finer
@@ -264,6 +255,17 @@ pub extern "C" fn cats_round(
     let reported = give_report(&rounded, report, report_needed);
     let given = give_rounded(&rounded, out, needed);
     whole_status(given, reported)
+}
+
+/// A text with its prices as a caller writes.
+fn read_as(text: &[u8], prices: u8) -> Text<'_>
+    ensures bytes { result.bytes.now ≡ text.now }
+    ensures fine { result.fine ≡ fine_of prices }
+{
+    Text {
+        bytes: text,
+        fine: fine_of(prices),
+    }
 }
 
 /// What becomes of fine prices by what a caller writes, if prices are rounded.
