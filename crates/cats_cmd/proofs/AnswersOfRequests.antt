@@ -1,40 +1,26 @@
 -- What holds of each answer to a request: the statuses of a run that answered, what a request that failed has written, and that only
 -- `round`, `duplicates`, `sizes` and rounded prices are reported on before they end, or a list of bids that is refused.
-use Rattle.std.proofs.Common.{◌≡◌, ◌≢◌, ℕ, List, Option, None, Some, Result, Ok, Err, Bool, true, false, cond, ◌∙◌, subst, arith, ◌≤◌}
+use Rattle.std.proofs.Common.{◌≡◌, ◌≢◌, ℕ, List, [], Option, None, Some, Result, Ok, Err, Bool, false, ◌∙◌, subst, arith, ◌≤◌}
 use Rattle.std.proofs.Common.{refl, sym, ⊎_elim, ◌⊎◌, inl, inr, ◌==◌}
 use Rattle.std.proofs.lemmas.Bool.{both_ways, eq-eqb}
 use Rattle.bid_file.specs.Files.{PlainFile}
-use Rattle.valuation.specs.declared.search_options.SearchOptions.{SearchOptions}
 use Rattle.cats_text.specs.FaultPlaces.{PlainPlace, first_place}
 use Rattle.cats_text.specs.declared.read_fault.Kind.{Kind}
 use Rattle.cats_text.specs.declared.read_fault.Kind.TheVariants.{Device, Memory as NoMemory}
 use Rattle.cats_text.specs.declared.stream.Watched.{Watched}
-use Rattle.valuation.specs.Auctions.{or_atoms_of, auction_from}
-use Rattle.prune.specs.SearchSteps.{first_refused}
-use Rattle.canon.specs.Difference.{Difference, NoDifference, InGoods, InOr, InXor, first_difference}
 use Rattle.canon.specs.declared.canon_fault.CanonFault.{CanonFault}
 use Rattle.canon.specs.declared.canon_fault.CanonFault.TheVariants.{Read, StepLimit, Memory}
-use Rattle.analysis.specs.Differences.{PlainDifferences, is_none_at_all}
 use Rattle.commands.specs.Commands.{Commands}
-use Rattle.commands.specs.Outcomes.{Outcome, Prints, ExceedsSteps, check_outcome, show_outcome, lp_outcome, normalise_outcome, exceeds_limits}
-use Rattle.commands.specs.Outcomes.{explain_outcome, text_unless_heavy, value_outcome_by, value_outcome_if, values_unless}
-use Rattle.commands.specs.Outcomes.{diff_outcome, missing_good, outcome_unless, text_unless_refused, outcome_of_difference, outcome_of_verdict}
-use Rattle.commands.specs.Outcomes.{revenue_outcome}
-use Rattle.commands.specs.ExplanationTexts.{explanation_text}
-use Rattle.analysis.specs.Reasons.{reasons_of}
-use Rattle.commands.specs.Pairs.{Compares as ComparesFiles, Diffs}
-use Rattle.commands.specs.ValueTexts.{bundle_from, value_text}
+use Rattle.commands.specs.Outcomes.{Outcome, Prints}
+use Rattle.commands.specs.Pairs.{CommandsOnBoth}
 use Rattle.commands.specs.declared.answer.Answer.{Answer}
-use Rattle.analysis.specs.AllocationVerdicts.{allocation_verdict}
-use Rattle.analysis.specs.declared.winners.allocation_verdict.AllocationVerdict.{AllocationVerdict}
-use Rattle.analysis.specs.declared.winners.allocation_verdict.AllocationVerdict.TheVariants.{Revenue as Revenue_is, SharedGood, SharedBidder}
 use Rattle.cats_cmd.specs.FindingFaults.{outcome_of_place}
 use Rattle.cats_cmd.specs.PricedInputs.{PricedGives, PricedRefuses, fine_prices}
-use Rattle.cats_cmd.specs.Requests.{AnswersRequest, CarriesOut, RunsAt, RunsFor, RunsOfCommand, RunsOfPair, FailsRequest, bounded_by}
-use Rattle.cats_cmd.specs.Requests.{fine_of, options_of}
+use Rattle.cats_cmd.specs.BidLists.{RunsOnBids, named_bids}
+use Rattle.cats_cmd.specs.Requests.{AnswersRequest, CarriesOut, RunsAt, RunsFor, FailsRequest, comparison_of, fine_of, outcome_for}
 use Rattle.rounding.specs.declared.replacement.FinePrices.{FinePrices}
 use Rattle.cats_cmd.specs.Runs.{RunsCommand}
-use Rattle.commands.specs.Statuses.{status_of_canon_fault, status_of_differences, status_of_read_fault}
+use Rattle.commands.specs.Statuses.{status_of_canon_fault, status_of_read_fault}
 use Rattle.cats_cmd.specs.Rounding.{Rounds}
 use Rattle.cats_cmd.specs.RequestErrors.{Reports, line_of_request_error, has_found, is_for_many_files, is_reporting, is_rounding}
 use Rattle.cats_cmd.specs.RequestErrors.{names_found, names_many_files, names_reporting}
@@ -44,82 +30,24 @@ use Rattle.cats_cmd.specs.declared.errors.RequestError.TheVariants.{CannotOpen, 
 use Rattle.commands.specs.declared.run_fault.RunFault.{RunFault}
 use Rattle.commands.specs.declared.run_fault.RunFault.TheVariants.{Refused, TooHeavy, GoodRange, BidRange, Sent}
 use Rattle.command_line.specs.PlainRequests.{PlainRequest, OnFile, OnPair, OnFiles, Fault, Round, GivenBids, BidsIn}
-use Rattle.command_line.specs.PlainRequests.{PlainCommand, Check, Show, Value, Revenue, Normalise, Explain, Lp}
-use Rattle.command_line.specs.declared.request.Limits.{Limits}
-use Rattle.command_line.specs.declared.request.PairCommand.{PairCommand}
-use Rattle.command_line.specs.declared.request.PairCommand.TheVariants.{Compare, Diff}
+use Rattle.command_line.specs.PlainRequests.{PlainBids, PlainCommand}
+use Rattle.commands.specs.declared.command.Comparison.{Comparison}
+use Rattle.commands.specs.declared.command.Comparison.TheVariants.{Compare, Diff}
 use Rattle.command_line.specs.declared.request.Prices.{Prices}
 use Rattle.command_line.specs.declared.request.Prices.TheVariants.{AsWritten}
 use Rattle.command_line.specs.Requests.{request_of}
 use Rattle.cats_cmd.specs.declared.priced_input.PricedInput.{PricedInput}
 use Rattle.cats_cmd.specs.declared.source.Unopened.{Unopened}
+use Rattle.cats_cmd.proofs.AnswersShown.{IsPrinted, command_printed, pair_printed}
 use Rattle.cats_cmd.proofs.PricedInputs.{none_given}
 
--- ---- the outcomes that have a text
-
-within_prints : (exceeds : Bool) (bundle reported : List ℕ) (status : ℕ) (text : List ℕ)
-    → cond exceeds (ExceedsSteps bundle) (Prints 0 reported) ≡ Prints status text
-    → status ≡ 0
-within_prints true bundle reported status text is = cc
-within_prints false bundle reported status text is = cc
-
-unless_prints : (missing : Option ℕ) (outcome : Outcome) (status : ℕ) (text : List ℕ) → (outcome ≡ Prints status text → status ≡ 0)
-    → outcome_unless missing outcome ≡ Prints status text → status ≡ 0
-unless_prints None outcome status text only is = only is
-unless_prints (Some good) outcome status text only is = cc
-
-normal_prints : (heavy : Option (List ℕ)) (file : PlainFile) (status : ℕ) (text : List ℕ) → text_unless_refused file heavy ≡ Prints status text → status ≡ 0
-normal_prints None file status text is = cc
-normal_prints (Some goods) file status text is = cc
-
-pub normalise_prints : (options : SearchOptions) (file : PlainFile) (status : ℕ) (text : List ℕ) → normalise_outcome options file ≡ Prints status text
-    → status ≡ 0
-normalise_prints options file status text is = normal_prints (first_refused options file.goods (or_atoms_of file.bids)) file status text is
-
-explained_prints : (heavy : Option (List ℕ)) (options : SearchOptions) (made : List ℕ) (file : PlainFile) (status : ℕ) (text : List ℕ)
-    → text_unless_heavy options made file heavy ≡ Prints status text → status ≡ 0
-explained_prints None options made file status text is = cc
-explained_prints (Some goods) options made file status text is = cc
-
-pub explain_prints : (options : SearchOptions) (file : PlainFile) (status : ℕ) (text : List ℕ) → explain_outcome options file ≡ Prints status text
-    → status ≡ 0
-explain_prints options file status text is =
-    explained_prints (first_refused options file.goods (or_atoms_of file.bids)) options (explanation_text file (reasons_of file)) file status text is
-
-pub value_prints : (goods : List ℕ) (refuses : PlainFile → Bool) (file : PlainFile) (status : ℕ) (text : List ℕ)
-    → value_outcome_if refuses goods file ≡ Prints status text → status ≡ 0
-value_prints goods refuses file status text is =
-    unless_prints (missing_good file.goods goods) (values_unless (refuses file) (bundle_from goods) file) status text
-    (λ e. within_prints (refuses file) (bundle_from goods) (value_text file (bundle_from goods)) status text e) is
-
--- ---- winners, faults and two files
-
-revenue_prints : (verdict : Result AllocationVerdict ℕ) (status : ℕ) (text : List ℕ) → outcome_of_verdict verdict ≡ Prints status text → status ≤ 1
-revenue_prints (Err bid) status text is = cc
-revenue_prints (Ok (Revenue_is millionths)) status text is = let same : 0 ≡ status = cc in omega (arith, same)
-revenue_prints (Ok (SharedGood i j good)) status text is = let same : 1 ≡ status = cc in omega (arith, same)
-revenue_prints (Ok (SharedBidder i j dummy)) status text is = let same : 1 ≡ status = cc in omega (arith, same)
+-- ---- a request
 
 -- no fault was found, if the status is not that of one
 none_printed : (path : List ℕ) (place : Option PlainPlace) (status : ℕ) (text : List ℕ) → outcome_of_place path place ≡ Prints status text
     → (status == 2) ≡ false → status ≤ 1
 none_printed path None status text is none = let same : 0 ≡ status = cc in omega (arith, same)
 none_printed path (Some place) status text is none = let same : 2 ≡ status = cc in absurd (both_ways (status == 2) none (eq-eqb status 2 (sym same)))
-
-differs_or_same : (difference : Difference) (status : ℕ) (text : List ℕ) → outcome_of_difference difference ≡ Prints status text → status ≤ 1
-differs_or_same NoDifference status text is = let same : 0 ≡ status = cc in omega arith
-differs_or_same (InGoods left right) status text is = let same : 1 ≡ status = cc in omega arith
-differs_or_same (InOr bundle left right) status text is = let same : 1 ≡ status = cc in omega arith
-differs_or_same (InXor bidder left right) status text is = let same : 1 ≡ status = cc in omega arith
-
-any_differences : (compared : PlainFile × PlainFile × PlainDifferences) (status : ℕ) (text : List ℕ) → diff_outcome compared ≡ Prints status text → status ≤ 1
-any_differences compared status text is =
-    let same : status_of_differences compared.2 ≡ status = cc in
-    subst (λ (s : ℕ). s ≤ 1) same (none_or_some (is_none_at_all compared.2))
-  where
-    none_or_some : (none : Bool) → cond none 0 1 ≤ 1
-    none_or_some true = omega arith
-    none_or_some false = omega arith
 
 -- what is known of a line's request is known of the request
 pub few_files : (words : List (List ℕ)) (request : PlainRequest) → request_of words ≡ Some request → names_many_files words ≡ false
@@ -207,17 +135,11 @@ module _ {F W E : Type 0} (may_open : List ℕ → F → Type 0) (may_refuse : L
     (contents : W → Option (List ℕ)) (messages : E → Option (List ℕ)) (terminal : Bool)
     (may_find : List ℕ → Option (List (List ℕ)) → Type 0) (out out_after : Watched W) (err : Watched E) where
   -- a run of one file that answered has the status of its outcome
-  printed_at : (path : List ℕ) (prices : Prices) (outcome : PlainFile → Outcome)
-      → ((file : PlainFile) (status : ℕ) (text : List ℕ) → outcome file ≡ Prints status text → status ≡ 0) → (err_after : Watched E) (status : ℕ)
-      → RunsAt may_open remaining contents messages path prices outcome out out_after err err_after (Ok status) → status ≤ 1
-  printed_at path prices outcome only err_after status ran =
-      let r = ran.runs in let none = only r.answers.file r.answer.status _ r.answers.made in let is = r.is_status in omega (arith, none, is)
-
-  winners_printed : (path : List ℕ) (prices : Prices) (bids : List ℕ) (err_after : Watched E) (status : ℕ)
-      → RunsAt may_open remaining contents messages path prices (revenue_outcome bids) out out_after err err_after (Ok status) → status ≤ 1
-  winners_printed path prices bids err_after status ran =
+  printed_at : (path : List ℕ) (prices : Prices) (command : PlainCommand) (numbers : List ℕ) (err_after : Watched E) (status : ℕ)
+      → RunsAt may_open remaining contents messages path prices (outcome_for command numbers) out out_after err err_after (Ok status) → status ≤ 1
+  printed_at path prices command numbers err_after status ran =
       let r = ran.runs in
-      let most = revenue_prints (allocation_verdict r.answers.file bids) r.answer.status _ r.answers.made in
+      let most = (subst IsPrinted r.answers.made (command_printed command numbers r.answers.file)).0 in
       let is = r.is_status in
       omega (arith, most, is)
 
@@ -237,92 +159,48 @@ module _ {F W E : Type 0} (may_open : List ℕ → F → Type 0) (may_refuse : L
 
   -- ---- a command on one file
 
-  -- it has the status 0 or 1, or has written nothing
-  command_answered : (path : List ℕ) (prices : Prices) (command : PlainCommand) (err_after : Watched E) (status : ℕ)
-      → RunsOfCommand may_open may_refuse remaining contents messages terminal path prices command out out_after err err_after (Ok status)
-      → (status ≤ 1) ⊎ (out_after ≡ out)
-  command_answered path prices Check err_after status ran = inl (printed_at path prices check_outcome (λ file s text is. cc) err_after status ran)
-  command_answered path prices Show err_after status ran = inl (printed_at path prices show_outcome (λ file s text is. cc) err_after status ran)
-  command_answered path prices (Value goods limits) err_after status ran =
-      inl (printed_at path prices (value_outcome_by goods (options_of limits)) (value_prints goods (exceeds_limits (bundle_from goods) (options_of limits)))
-      err_after status ran)
-  command_answered path prices (Revenue (GivenBids bids)) err_after status ran = inl (winners_printed path prices bids err_after status ran)
-  command_answered path prices (Revenue (BidsIn list)) err_after status ran =
-      ⊎_elim (λ listed. inl (winners_printed path prices listed.bids err_after status listed.runs)) (λ refused. inr refused.silent) ran
-  command_answered path prices (Normalise limits) err_after status ran =
-      inl (printed_at path prices (normalise_outcome (options_of limits)) (normalise_prints (options_of limits)) err_after status ran)
-  command_answered path prices (Explain limits) err_after status ran =
-      inl (printed_at path prices (explain_outcome (bounded_by limits)) (explain_prints (bounded_by limits)) err_after status ran)
-  command_answered path prices Lp err_after status ran = inl (printed_at path prices lp_outcome (λ file s text is. cc) err_after status ran)
+  module _ (path : List ℕ) (prices : Prices) (command : PlainCommand) (err_after : Watched E) where
+    -- it runs on the bids that are named, or on none
+    abbrev RunsOn : Option PlainBids → Result ℕ RunFault → Type 0
+    RunsOn named answer =
+        RunsOnBids may_open may_refuse remaining messages
+        (λ numbers. RunsAt may_open remaining contents messages path prices (outcome_for command numbers)) named out out_after err err_after answer
 
-  command_quiet : (path : List ℕ) (prices : Prices) (command : PlainCommand) (err_after : Watched E) (status : ℕ) → is_rounding prices ≡ false
-      → RunsOfCommand may_open may_refuse remaining contents messages terminal path prices command out out_after err err_after (Ok status) → status ≤ 1
-      → err_after ≡ err
-  command_quiet path prices Check err_after status plain ran most = quiet_at path prices check_outcome err_after status plain ran
-  command_quiet path prices Show err_after status plain ran most = quiet_at path prices show_outcome err_after status plain ran
-  command_quiet path prices (Value goods limits) err_after status plain ran most =
-      quiet_at path prices (value_outcome_by goods (options_of limits)) err_after status plain ran
-  command_quiet path prices (Revenue (GivenBids bids)) err_after status plain ran most =
-      quiet_at path prices (revenue_outcome bids) err_after status plain ran
-  command_quiet path prices (Revenue (BidsIn list)) err_after status plain ran most =
-      ⊎_elim (λ listed. quiet_at path prices (revenue_outcome listed.bids) err_after status plain listed.runs)
-      (λ refused. let least = error_status_above refused.error in let is = refused.is_status in absurd (omega (arith, least, is, most))) ran
-  command_quiet path prices (Normalise limits) err_after status plain ran most =
-      quiet_at path prices (normalise_outcome (options_of limits)) err_after status plain ran
-  command_quiet path prices (Explain limits) err_after status plain ran most =
-      quiet_at path prices (explain_outcome (bounded_by limits)) err_after status plain ran
-  command_quiet path prices Lp err_after status plain ran most = quiet_at path prices lp_outcome err_after status plain ran
+    -- it has the status 0 or 1, or has written nothing
+    command_answered : (named : Option PlainBids) (status : ℕ) → RunsOn named (Ok status) → (status ≤ 1) ⊎ (out_after ≡ out)
+    command_answered None status ran = inl (printed_at path prices command [] err_after status ran)
+    command_answered (Some (GivenBids bids)) status ran = inl (printed_at path prices command bids err_after status ran)
+    command_answered (Some (BidsIn list)) status ran =
+        ⊎_elim (λ listed. inl (printed_at path prices command listed.bids err_after status listed.runs)) (λ refused. inr refused.silent) ran
 
-  command_silent : (path : List ℕ) (prices : Prices) (command : PlainCommand) (err_after : Watched E) (fault : RunFault)
-      → RunsOfCommand may_open may_refuse remaining contents messages terminal path prices command out out_after err err_after (Err fault)
-      → IsSilent (Run fault) out out_after
-  command_silent path prices Check err_after fault ran = silent_at path prices check_outcome err_after fault ran
-  command_silent path prices Show err_after fault ran = silent_at path prices show_outcome err_after fault ran
-  command_silent path prices (Value goods limits) err_after fault ran =
-      silent_at path prices (value_outcome_by goods (options_of limits)) err_after fault ran
-  command_silent path prices (Revenue (GivenBids bids)) err_after fault ran = silent_at path prices (revenue_outcome bids) err_after fault ran
-  command_silent path prices (Revenue (BidsIn list)) err_after fault ran = silent_at path prices (revenue_outcome ran.bids) err_after fault ran.runs
-  command_silent path prices (Normalise limits) err_after fault ran =
-      silent_at path prices (normalise_outcome (options_of limits)) err_after fault ran
-  command_silent path prices (Explain limits) err_after fault ran = silent_at path prices (explain_outcome (bounded_by limits)) err_after fault ran
-  command_silent path prices Lp err_after fault ran = silent_at path prices lp_outcome err_after fault ran
+    command_quiet : (named : Option PlainBids) (status : ℕ) → is_rounding prices ≡ false → RunsOn named (Ok status) → status ≤ 1 → err_after ≡ err
+    command_quiet None status plain ran most = quiet_at path prices (outcome_for command []) err_after status plain ran
+    command_quiet (Some (GivenBids bids)) status plain ran most = quiet_at path prices (outcome_for command bids) err_after status plain ran
+    command_quiet (Some (BidsIn list)) status plain ran most =
+        ⊎_elim (λ listed. quiet_at path prices (outcome_for command listed.bids) err_after status plain listed.runs)
+        (λ refused. let least = error_status_above refused.error in let is = refused.is_status in absurd (omega (arith, least, is, most))) ran
+
+    command_silent : (named : Option PlainBids) (fault : RunFault) → RunsOn named (Err fault) → IsSilent (Run fault) out out_after
+    command_silent None fault ran = silent_at path prices (outcome_for command []) err_after fault ran
+    command_silent (Some (GivenBids bids)) fault ran = silent_at path prices (outcome_for command bids) err_after fault ran
+    command_silent (Some (BidsIn list)) fault ran = silent_at path prices (outcome_for command ran.bids) err_after fault ran.runs
 
   -- ---- a command on two files
 
-  module _ (limits : Limits) (left left_after right right_after : PricedInput F) where
-    pair_answered : (command : PairCommand) (status : ℕ)
-        → RunsOfPair may_open may_refuse remaining contents messages terminal command limits out out_after (Ok status) left left_after right right_after
-        → status ≤ 1
-    pair_answered Compare status ran =
-        let given = ran.answers.given in
-        let most = differs_or_same (first_difference (auction_from given.0) (auction_from given.1)) ran.answer.status _ ran.answers.made in
-        let is = ran.is_status in
-        omega (arith, most, is)
-    pair_answered Diff status ran =
-        let most = any_differences ran.answers.given ran.answer.status _ ran.answers.made in
-        let is = ran.is_status in
-        omega (arith, most, is)
+  module _ (left left_after right right_after : PricedInput F) where
+    abbrev AnswersBoth : Comparison → Result Answer RunFault → Type 0
+    AnswersBoth comparison answer =
+        CommandsOnBoth (PricedGives remaining) (PricedRefuses remaining) (PricedGives remaining) (PricedRefuses remaining) comparison left left_after right
+        right_after answer
 
     -- no price is rounded of files whose prices are read as they are written
-    pair_unrounded : (command : PairCommand) (status : ℕ)
-        → RunsOfPair may_open may_refuse remaining contents messages terminal command limits out out_after (Ok status) left left_after right right_after
-        → left.fine ≡ None → right.fine ≡ None → (left_after.rounded ≡ 0) × (right_after.rounded ≡ 0)
-    pair_unrounded Compare status ran first second =
-        let given = ran.answers.gives in
+    pair_unrounded : (comparison : Comparison) (answer : Answer) → AnswersBoth comparison (Ok answer) → left.fine ≡ None → right.fine ≡ None
+        → (left_after.rounded ≡ 0) × (right_after.rounded ≡ 0)
+    pair_unrounded (Compare options) answer made first second =
+        (none_given remaining left left_after first _ made.gives.0.given, none_given remaining right right_after second _ made.gives.1.given)
+    pair_unrounded (Diff options) answer made first second =
+        let given = made.gives.given in
         (none_given remaining left left_after first _ given.0.given, none_given remaining right right_after second _ given.1.given)
-    pair_unrounded Diff status ran first second =
-        let given = ran.answers.gives.given in
-        (none_given remaining left left_after first _ given.0.given, none_given remaining right right_after second _ given.1.given)
-
-    pair_silent : (command : PairCommand) (fault : RunFault)
-        → RunsOfPair may_open may_refuse remaining contents messages terminal command limits out out_after (Err fault) left left_after right right_after
-        → IsSilent (Run fault) out out_after
-    pair_silent Compare fault ran =
-        silent_run contents (ComparesFiles (PricedGives remaining) (PricedRefuses remaining) (PricedGives remaining) (PricedRefuses remaining)
-        (options_of limits) left left_after right right_after) out out_after fault ran
-    pair_silent Diff fault ran =
-        silent_run contents (Diffs (PricedGives remaining) (PricedRefuses remaining) (PricedGives remaining) (PricedRefuses remaining) (bounded_by limits)
-        left left_after right right_after) out out_after fault ran
 
   -- ---- any request
 
@@ -331,9 +209,13 @@ module _ {F W E : Type 0} (may_open : List ℕ → F → Type 0) (may_refuse : L
       → RunsFor may_open may_refuse remaining contents messages terminal may_find request out out_after err err_after (Ok status) → is_for_many_files request ≡
       false
       → has_found status request ≡ false → (status ≤ 1) ⊎ (out_after ≡ out)
-  answered (OnFile path prices command) err_after status ran few none = command_answered path prices command err_after status ran
+  answered (OnFile path prices command) err_after status ran few none =
+      command_answered path prices command err_after (named_bids command) status ran
   answered (OnPair first second prices command limits) err_after status ran few none =
-      inl (pair_answered limits ran.left ran.left_after ran.right ran.right_after command status ran.runs)
+      let most = (pair_printed (PricedGives remaining) (PricedRefuses remaining) (PricedGives remaining) (PricedRefuses remaining)
+      (comparison_of command limits) ran.left ran.left_after ran.right ran.right_after ran.runs.answer ran.runs.answers).0 in
+      let is = ran.runs.is_status in
+      inl (omega (arith, most, is))
   answered (OnFiles files) err_after status ran few none = absurd (cc)
   answered (Fault file) err_after status ran few none =
       let made = ran.0.runs in inl (none_printed file (first_place made.given) status made.text made.made none)
@@ -343,11 +225,12 @@ module _ {F W E : Type 0} (may_open : List ℕ → F → Type 0) (may_refuse : L
   quiet : (request : PlainRequest) (err_after : Watched E) (status : ℕ)
       → RunsFor may_open may_refuse remaining contents messages terminal may_find request out out_after err err_after (Ok status) → is_reporting request ≡ false
       → status ≤ 1 → err_after ≡ err
-  quiet (OnFile path prices command) err_after status ran plain most = command_quiet path prices command err_after status plain ran most
+  quiet (OnFile path prices command) err_after status ran plain most =
+      command_quiet path prices command err_after (named_bids command) status plain ran most
   quiet (OnPair first second prices command limits) err_after status ran plain most =
       let written = none_rounded prices plain in
-      let none = pair_unrounded limits ran.left ran.left_after ran.right ran.right_after command status ran.runs (ran.left_opened.fine ∙ written)
-      (ran.right_opened.fine ∙ written) in
+      let none = pair_unrounded ran.left ran.left_after ran.right ran.right_after (comparison_of command limits) ran.runs.answer ran.runs.answers
+      (ran.left_opened.fine ∙ written) (ran.right_opened.fine ∙ written) in
       rw none.1 at (rw none.0 at ran.reports)
   quiet (OnFiles files) err_after status ran plain most = absurd (cc)
   quiet (Fault file) err_after status ran plain most = ran.1
@@ -358,9 +241,9 @@ module _ {F W E : Type 0} (may_open : List ℕ → F → Type 0) (may_refuse : L
       → RunsFor may_open may_refuse remaining contents messages terminal may_find request out out_after err err_after (Err fault) → is_for_many_files request ≡
       false
       → IsSilent (Run fault) out out_after
-  silent_fault (OnFile path prices command) err_after fault ran few = command_silent path prices command err_after fault ran
+  silent_fault (OnFile path prices command) err_after fault ran few = command_silent path prices command err_after (named_bids command) fault ran
   silent_fault (OnPair first second prices command limits) err_after fault ran few =
-      pair_silent limits ran.left ran.left_after ran.right ran.right_after command fault ran.runs
+      silent_run contents (AnswersBoth ran.left ran.left_after ran.right ran.right_after (comparison_of command limits)) out out_after fault ran.runs
   silent_fault (OnFiles files) err_after fault ran few = absurd (cc)
   silent_fault (Fault file) err_after (Refused which fault) ran few = ran.0.runs.2
   silent_fault (Fault file) err_after (TooHeavy which heavy) ran few = absurd ran.0.runs

@@ -1,5 +1,6 @@
--- What the commands on one or two files print beside bid files: numbers, prices, and words of ours.
-use Rattle.std.proofs.Common.{◌≡◌, ℕ, ◌+◌, ◌-◌, ◌/◌, ◌%◌, ◌<◌, ◌==◌, ◌++◌, Bool, true, false, List, [], ◌∷◌, cond, filter, length, map, refl, arith}
+-- What the commands on one or two files print: numbers, prices, and words of ours. Its status is 0 or 1.
+use Rattle.std.proofs.Common.{◌≡◌, ℕ, suc, ◌+◌, ◌-◌, ◌/◌, ◌%◌, ◌<◌, ◌≤◌, ◌==◌, ◌++◌, Bool, true, false, List, [], ◌∷◌, cond, filter, length, map, refl}
+use Rattle.std.proofs.Common.{Ok, Err, Result, arith, subst}
 use Rattle.std.specs.Prelude.{codes, decimal, nat_lt, slice_index, Option, Some, None}
 use Rattle.std.specs.List.{AllByRecursion, flat_map, range_with_len}
 use Rattle.std.proofs.lemmas.Bool.{cond_both}
@@ -11,28 +12,42 @@ use Rattle.commands.specs.FaultHints.{hint_of_kind}
 use Rattle.commands.specs.FaultPlaceTexts.{before_word, behind_word, shown_bytes}
 use Rattle.commands.specs.KindNames.{name_of_kind}
 use Rattle.commands.specs.Outputs.{check_text, number_cell, price_cell}
-use Rattle.bid_file.specs.Files.{PlainBid, PlainFile}
-use Rattle.canon.specs.Difference.{Difference, NoDifference, InGoods, InOr, InXor}
+use Rattle.bid_file.specs.Files.{PlainBid, PlainFile, goods_of}
+use Rattle.canon.specs.Canonical.{canonical_file}
+use Rattle.canon.specs.Difference.{Difference, NoDifference, InGoods, InOr, InXor, first_difference}
 use Rattle.canon.specs.Renaming.{kept_dummies, named_dummy}
 use Rattle.canon.specs.declared.verdict.Side.{Side}
 use Rattle.canon.specs.declared.verdict.Side.TheVariants.{Exactly, Below}
 use Rattle.cats_text.specs.FaultPlaces.{PlainPlace}
-use Rattle.cats_text.specs.Layout.{behind_point, digit_at, places_text, price_text, six_digits, with_place, without_zeros}
+use Rattle.cats_text.specs.Layout.{behind_point, bids_text, digit_at, header_text, layout, places_text, price_text, six_digits, with_place, without_zeros}
 use Rattle.cats_text.specs.declared.read_fault.Kind.{Kind}
 use Rattle.cats_text.specs.declared.read_fault.Kind.TheVariants as kinds
+use Rattle.cats_text.specs.declared.read_fault.ReadFault.{ReadFault}
 use Rattle.analysis.specs.BidderChanges.{PlainBidderChange}
-use Rattle.analysis.specs.Differences.{PlainDifferences}
+use Rattle.analysis.specs.Differences.{PlainDifferences, is_none_at_all}
 use Rattle.canon.specs.PriceChanges.{PlainChange}
 use Rattle.analysis.specs.Bids.{bid_at, numbers_of}
-use Rattle.analysis.specs.Reasons.{PlainReason, Keep, Zero, Same, Inside, Packing, reason_at}
+use Rattle.analysis.specs.Reasons.{PlainReason, Keep, Zero, Same, Inside, Packing, reason_at, reasons_of}
+use Rattle.valuation.specs.Auctions.{auction_from, or_atoms_of}
+use Rattle.prune.specs.SearchSteps.{first_refused}
 use Rattle.valuation.specs.declared.atom.Atom.{Atom}
-use Rattle.analysis.specs.AllocationVerdicts.{allocation_text, pair_text}
+use Rattle.valuation.specs.declared.search_options.SearchOptions.{SearchOptions}
+use Rattle.analysis.specs.AllocationVerdicts.{allocation_text, allocation_verdict, pair_text}
 use Rattle.analysis.specs.declared.winners.allocation_verdict.AllocationVerdict.{AllocationVerdict}
 use Rattle.analysis.specs.declared.winners.allocation_verdict.AllocationVerdict.TheVariants.{Revenue, SharedGood, SharedBidder}
 use Rattle.analysis.specs.LpTexts.{PlainRow, binary_line, bids_with, if_none, lp_rows, lp_text, row_of, row_term, row_text}
 use Rattle.cats_cmd.specs.Escaping.{AreBytes, is_shown}
 use Rattle.cats_cmd.specs.FindingFaults.{text_of_place}
-use Rattle.commands.specs.ValueTexts.{numbers_text, value_text}
+use Rattle.cats_cmd.specs.Requests.{bounded_by, options_of, outcome_for}
+use Rattle.command_line.specs.PlainRequests.{PlainCommand, Check, Show, Value, Revenue as RevenueOf, Normalise, Explain, Lp}
+use Rattle.commands.specs.Commands.{text_of}
+use Rattle.commands.specs.Outcomes.{Outcome, Prints, exceeds_limits, missing_good, outcome_of_difference, outcome_of_verdict, outcome_unless, text_unless_heavy}
+use Rattle.commands.specs.Outcomes.{text_unless_refused, values_unless}
+use Rattle.commands.specs.Pairs.{CommandsOnBoth}
+use Rattle.commands.specs.ValueTexts.{bundle_from, numbers_text, value_text}
+use Rattle.commands.specs.declared.answer.Answer.{Answer}
+use Rattle.commands.specs.declared.command.Comparison.{Comparison}
+use Rattle.commands.specs.declared.command.Comparison.TheVariants.{Compare, Diff}
 use Rattle.cats_cmd.proofs.PrintableTexts.{ascii_text, no_text}
 use Rattle.cats_cmd.proofs.FaultTexts.{name as kind_name}
 use Rattle.cats_cmd.proofs.ShownTexts.{Shown, bundle, number, ours, path_shown, plain_shown, then}
@@ -71,9 +86,28 @@ places n =
 price : (n : ℕ) → Shown (price_text n)
 price n = then (number (n / 1000000)) (places (n % 1000000))
 
+-- ---- `cats show` and `cats normalise`
+
+tab : Shown (codes "\t")
+tab = ours (codes "\t") refl
+
+header : (keyword : List ℕ) → Shown keyword → (n : ℕ) → Shown (header_text keyword n)
+header keyword is n = then (then is (then (ours (codes " ") refl) (number n))) (ours (codes "\n") refl)
+
+bid_lines : (goods n : ℕ) (bids : List PlainBid) → Shown (bids_text goods n bids)
+bid_lines goods n [] = no_text is_shown
+bid_lines goods n (b ∷ bids) =
+    then (then (then (then (number n) (then tab (price b.price))) (flat _ (λ g. then tab (number g)) (goods_of goods b))) (ours (codes "\t#\n") refl))
+    (bid_lines goods (suc n) bids)
+
+layout_shown : (file : PlainFile) → Shown (layout file)
+layout_shown file =
+    then (then (then (header _ (ours (codes "goods") refl) file.goods) (header _ (ours (codes "bids") refl) (length file.bids)))
+    (header _ (ours (codes "dummy") refl) file.dummy)) (bid_lines file.goods 0 file.bids)
+
 -- ---- `cats check` and `cats value`
 
-pub check_shown : (file : PlainFile) → Shown (check_text file)
+check_shown : (file : PlainFile) → Shown (check_text file)
 check_shown file =
     then (then (then (then (then (then (ours (codes "goods ") refl) (number file.goods)) (ours (codes " bids ") refl)) (number (length file.bids)))
     (ours (codes " dummy ") refl)) (number file.dummy)) (ours (codes "\n") refl)
@@ -181,7 +215,7 @@ text_if_none : (rows : List PlainRow) (text : List ℕ) → Shown text → Shown
 text_if_none [] text is = is
 text_if_none (row ∷ rows) text is = no_text is_shown
 
-pub lp_shown : (f : PlainFile) → Shown (lp_text f)
+lp_shown : (f : PlainFile) → Shown (lp_text f)
 lp_shown f =
     then (then (then (then (then (then (then (then (then
     (ours (codes "Maximize\n revenue:\n") refl)
@@ -195,9 +229,6 @@ lp_shown f =
     (ours (codes "End\n") refl)
 
 -- ---- cells
-
-tab : Shown (codes "\t")
-tab = ours (codes "\t") refl
 
 number_if_any : (n : Option ℕ) → Shown (number_cell n)
 number_if_any None = no_text is_shown
@@ -249,3 +280,69 @@ pub diff_shown : (f g : PlainFile) (d : PlainDifferences) → Shown (diff_text f
 diff_shown f g d =
     then (then (then (ours diff_header refl) (goods d.goods)) (flat _ (change (ours (codes "or") refl) f g None None) d.bundles))
     (flat (bidder_rows f g) (bidders f g) d.bidders)
+
+-- ---- all that is printed
+
+-- what is printed can be shown, with the status 0 or 1
+abbrev pub IsPrinted : Outcome → Type 0
+IsPrinted (Prints status text) = (status ≤ 1) × Shown text
+IsPrinted outcome = Unit {0}
+
+success : {text : List ℕ} → Shown text → IsPrinted (Prints 0 text)
+success shown = (omega arith, shown)
+
+unless_missing : (missing : Option ℕ) (outcome : Outcome) → IsPrinted outcome → IsPrinted (outcome_unless missing outcome)
+unless_missing None outcome is = is
+unless_missing (Some good) outcome is = tt
+
+values_printed : (refused : Bool) (bundle : List ℕ) (file : PlainFile) → IsPrinted (values_unless refused bundle file)
+values_printed true bundle file = tt
+values_printed false bundle file = success (value_shown file bundle)
+
+verdict_printed : (verdict : Result AllocationVerdict ℕ) → IsPrinted (outcome_of_verdict verdict)
+verdict_printed (Err bid) = tt
+verdict_printed (Ok (Revenue millionths)) = (omega arith, revenue_shown (Revenue millionths))
+verdict_printed (Ok (SharedGood i j good)) = (omega arith, revenue_shown (SharedGood i j good))
+verdict_printed (Ok (SharedBidder i j dummy)) = (omega arith, revenue_shown (SharedBidder i j dummy))
+
+normal_printed : (file : PlainFile) (heavy : Option (List ℕ)) → IsPrinted (text_unless_refused file heavy)
+normal_printed file None = success (layout_shown (canonical_file file))
+normal_printed file (Some goods) = tt
+
+unless_heavy : (options : SearchOptions) (text : List ℕ) (file : PlainFile) (heavy : Option (List ℕ)) → Shown text
+    → IsPrinted (text_unless_heavy options text file heavy)
+unless_heavy options text file None is = success is
+unless_heavy options text file (Some goods) is = tt
+
+pub command_printed : (command : PlainCommand) (numbers : List ℕ) (file : PlainFile) → IsPrinted (outcome_for command numbers file)
+command_printed Check numbers file = success (check_shown file)
+command_printed Show numbers file = success (layout_shown file)
+command_printed (Value goods limits) numbers file =
+    let refused = exceeds_limits (bundle_from goods) (options_of limits) file in
+    unless_missing (missing_good file.goods goods) (values_unless refused (bundle_from goods) file) (values_printed refused (bundle_from goods) file)
+command_printed (RevenueOf bids) numbers file = verdict_printed (allocation_verdict file numbers)
+command_printed (Normalise limits) numbers file = normal_printed file (first_refused (options_of limits) file.goods (or_atoms_of file.bids))
+command_printed (Explain limits) numbers file =
+    unless_heavy (bounded_by limits) (explanation_text file (reasons_of file)) file
+    (first_refused (bounded_by limits) file.goods (or_atoms_of file.bids)) (explanation_shown file (reasons_of file))
+command_printed Lp numbers file = success (lp_shown file)
+
+difference_printed : (d : Difference) → IsPrinted (outcome_of_difference d)
+difference_printed NoDifference = (omega arith, difference_shown NoDifference)
+difference_printed (InGoods left right) = (omega arith, difference_shown (InGoods left right))
+difference_printed (InOr b left right) = (omega arith, difference_shown (InOr b left right))
+difference_printed (InXor atoms left right) = (omega arith, difference_shown (InXor atoms left right))
+
+one_at_most : (none : Bool) → cond none 0 1 ≤ 1
+one_at_most true = omega arith
+one_at_most false = omega arith
+
+pub pair_printed : {I J : Type 0} (gives_first : I → I → PlainFile → Type 0) (refuses_first : I → I → ReadFault → Type 0)
+    (gives_second : J → J → PlainFile → Type 0) (refuses_second : J → J → ReadFault → Type 0) (comparison : Comparison) (first first_after : I)
+    (second second_after : J) (answer : Answer)
+    → CommandsOnBoth gives_first refuses_first gives_second refuses_second comparison first first_after second second_after (Ok answer)
+    → (answer.status ≤ 1) × Shown (text_of answer.output)
+pair_printed gives_first refuses_first gives_second refuses_second (Compare options) first first_after second second_after answer made =
+    subst IsPrinted made.made (difference_printed (first_difference (auction_from made.given.0) (auction_from made.given.1)))
+pair_printed gives_first refuses_first gives_second refuses_second (Diff options) first first_after second second_after answer made =
+    subst IsPrinted made.made (one_at_most (is_none_at_all made.given.2), diff_shown made.given.0 made.given.1 made.given.2)

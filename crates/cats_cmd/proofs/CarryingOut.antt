@@ -19,9 +19,9 @@ use Rattle.cats_cmd.specs.Duplicates.{MakesGroups}
 use Rattle.cats_cmd.specs.Paths.{with_refusals}
 use Rattle.cats_cmd.specs.PricedInputs.{IsPriced, PricedGives, PricedRefuses, fine_prices, rounding_lines}
 use Rattle.cats_cmd.specs.RequestErrors.{ReportsAll}
-use Rattle.cats_cmd.specs.Requests.{CarriesOut, FindsFaultAt, RoundsAt, RunsAt, RunsFor, RunsOfFiles, RunsOfPair, RunsOnMany, fine_of}
+use Rattle.cats_cmd.specs.Requests.{CarriesOut, FindsFaultAt, RoundsAt, RunsAt, RunsFor, RunsOfFiles, RunsOnMany, comparison_of, fine_of}
 use Rattle.cats_cmd.specs.Rounding.{Rounds}
-use Rattle.cats_cmd.specs.Runs.{RunsOnFile}
+use Rattle.cats_cmd.specs.Runs.{RunsOnFile, RunsOnPair}
 use Rattle.cats_cmd.specs.declared.priced_input.PricedInput.{PricedInput}
 use Rattle.cats_cmd.specs.declared.source.Unopened.{Unopened}
 use Rattle.cats_cmd.proofs.JudgingPaths.{reports_more}
@@ -80,7 +80,8 @@ module _ {F W E : Type 0} (may_open : List ℕ → F → Type 0) (may_refuse : L
   pub both_at : (first second : List ℕ) (prices : Prices) (command : PairCommand) (limits : Limits) (between : Watched E)
       (left left_after right right_after : PricedInput F) (answer : Result ℕ RunFault) → IsPriced may_open prices first left
       → IsPriced may_open prices second right
-      → RunsOfPair may_open may_refuse remaining contents messages terminal command limits out out_after answer left left_after right right_after
+      → RunsOnPair (PricedGives remaining) (PricedRefuses remaining) (PricedGives remaining) (PricedRefuses remaining) contents
+      (comparison_of command limits) left left_after right right_after out out_after answer
       → ReportsAll messages (rounding_lines first left_after.rounded) err between
       → ReportsAll messages (rounding_lines second right_after.rounded) between err_after
       → CarriesOut may_open may_refuse remaining contents messages terminal may_find (OnPair first second prices command limits) out out_after err err_after

@@ -10,10 +10,10 @@ use Rattle.std.proofs.lemmas.List.Elements.{All-from_recursion}
 use Rattle.std.proofs.lemmas.Option.{slice_get_within}
 use Rattle.bid_file.specs.Files.{PlainFile, IsPlainFile}
 use Rattle.canon.specs.Canonical.{canonical_text}
-use Rattle.canon.specs.FirstPlaces.{AddsText, IsEmptyIndex, IsFirstPlace, TextIndex}
+use Rattle.canon.specs.FirstNumbers.{AddsText, IsEmptyIndex, IsFirstNumber, TextIndex}
 use Rattle.canon.specs.Sameness.{AreSameFiles}
 use Rattle.canon.specs.Unsearched.{AreAlike, unsearched_text}
-use Rattle.canon.proofs.Comparing.Indexing.{TellsRelated, first_place_stays, index_of_none, index_of_more, place_of_more}
+use Rattle.canon.proofs.Comparing.Indexing.{TellsRelated, first_number_stays, index_of_none, index_of_more, number_of_more}
 use Rattle.cats_cmd.specs.DuplicateTexts.{found_paths}
 use Rattle.cats_cmd.specs.Duplicates.{files_if_heavy, files_if_judged, heavy_files, heavy_paths, judged_files, judged_paths, paths_if_heavy, paths_if_judged}
 use Rattle.cats_cmd.specs.Internal.Judging.{KeepsHeavy, KeepsJudged, KeepsPlaces}
@@ -48,9 +48,9 @@ module _ (text_of : PlainFile → List ℕ) (Related : PlainFile → PlainFile �
           of_paths = map-append (λ (f : List ℕ × ℕ). f.0) (found_paths found) ((path, place) ∷ [])
               ∙ ap (λ (ps : List (List ℕ)). ps ++ path ∷ []) h.finds.of_paths;
           places =
-              zip_push (λ f g. IsFirstPlace Related files g f.1) (λ f g. IsFirstPlace Related (files ++ file ∷ []) g f.1)
-              (found_paths found) files (path, place) file (λ f g is. first_place_stays Related files file g f.1 is) h.finds.places
-              (place_of_more text_of old new place files file facts h.is_index added Related tells);
+              zip_push (λ f g. IsFirstNumber Related files g f.1) (λ f g. IsFirstNumber Related (files ++ file ∷ []) g f.1)
+              (found_paths found) files (path, place) file (λ f g is. first_number_stays Related files file g f.1 is) h.finds.places
+              (number_of_more text_of old new place files file facts h.is_index added Related tells);
         };
       })
 
@@ -109,20 +109,20 @@ module _ (js : List (List ℕ × Judgement)) (path : List ℕ) where
 -- ---- what was found
 
 zip_within : (Related : PlainFile → PlainFile → Type 0) (all : List PlainFile) (found : List (Vec ℕ Global × ℕ)) (files : List PlainFile)
-    → AllZip (λ f file. IsFirstPlace Related all file f.1) (found_paths found) files → AllByRecursion (λ f. f.1 < length all) found
+    → AllZip (λ f file. IsFirstNumber Related all file f.1) (found_paths found) files → AllByRecursion (λ f. f.1 < length all) found
 zip_within Related all [] files h = tt
 zip_within Related all (f ∷ found) [] h = absurd h
 zip_within Related all (f ∷ found) (file ∷ files) h = (slice_get_within all f.1 h.0.file h.0.there, zip_within Related all found files h.1)
 
 zip_length : (Related : PlainFile → PlainFile → Type 0) (all : List PlainFile) (found : List (Vec ℕ Global × ℕ)) (files : List PlainFile)
-    → AllZip (λ f file. IsFirstPlace Related all file f.1) (found_paths found) files → length found ≡ length files
+    → AllZip (λ f file. IsFirstNumber Related all file f.1) (found_paths found) files → length found ≡ length files
 zip_length Related all [] [] h = refl
 zip_length Related all [] (file ∷ files) h = absurd h
 zip_length Related all (f ∷ found) [] h = absurd h
 zip_length Related all (f ∷ found) (file ∷ files) h = ap suc (zip_length Related all found files h.1)
 
 -- each place is that of a file that was judged
-pub places_within : (Related : PlainFile → PlainFile → Type 0) (files : List PlainFile) (found : List (Vec ℕ Global × ℕ)) → AllZip (λ f file. IsFirstPlace
+pub places_within : (Related : PlainFile → PlainFile → Type 0) (files : List PlainFile) (found : List (Vec ℕ Global × ℕ)) → AllZip (λ f file. IsFirstNumber
     Related files file f.1) (found_paths found) files
     → All (λ f. f.1 < length found) found
 places_within Related files found zipped =

@@ -14,7 +14,7 @@ use Rattle.valuation.specs.Auctions.{or_atoms_of}
 use Rattle.prune.specs.SearchSteps.{first_refused}
 use Rattle.canon.specs.Answers.{RefusesAs}
 use Rattle.canon.specs.Canonical.{canonical_text}
-use Rattle.canon.specs.FirstPlaces.{AddsText}
+use Rattle.canon.specs.FirstNumbers.{AddsText}
 use Rattle.canon.specs.Normalising.{IsText, ExceedsSteps as Exceeds, IsNoFile, normalised_file, unless_refused}
 use Rattle.canon.specs.Refusals.{refusal_by_kind, refusal_of}
 use Rattle.canon.specs.declared.canon_fault.CanonFault.{CanonFault}

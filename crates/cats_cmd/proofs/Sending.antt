@@ -1,6 +1,5 @@
 -- A run sends what its command answers: by the command's contract, what was sent is what the run promises.
 use Rattle.std.proofs.Common.{◌≡◌, ℕ, List, Option, Result, Ok, Err, refl, sym, subst, inr}
-use Rattle.valuation.specs.declared.search_options.SearchOptions.{SearchOptions}
 use Rattle.bid_file.specs.Files.{PlainFile}
 use Rattle.cats_text.specs.declared.read_fault.ReadFault.{ReadFault}
 use Rattle.cats_text.specs.declared.read_fault.SendFault.{SendFault}
@@ -13,9 +12,11 @@ use Rattle.commands.specs.declared.run_fault.RunFault.{RunFault}
 use Rattle.commands.specs.declared.run_fault.RunFault.TheVariants.{Refused, TooHeavy, GoodRange, BidRange, Sent}
 use Rattle.commands.specs.Commands.{Commands, text_of}
 use Rattle.commands.specs.Outcomes.{Outcome, Prints}
-use Rattle.commands.specs.Pairs.{Compares as ComparesFiles, Diffs}
+use Rattle.commands.specs.Pairs.{CommandsOnBoth}
 use Rattle.commands.specs.declared.answer.Answer.{Answer}
-use Rattle.cats_cmd.specs.Runs.{Compares, DiffsFiles, RunsCommand, RunsOnFile, SendsAnswer, SendsAs, SendsMadeAs, WritesText}
+use Rattle.commands.specs.declared.command.Comparison.{Comparison}
+use Rattle.commands.specs.declared.command.Comparison.TheVariants.{Compare, Diff}
+use Rattle.cats_cmd.specs.Runs.{RunsCommand, RunsOnFile, RunsOnPair, SendsAnswer, SendsAs, SendsMadeAs, WritesText}
 
 -- the status that was answered is that of the text
 pub wrote : {A W : Type 0} (contents : W → Option (List ℕ)) (Reads : A → Type 0) (outcome : A → Outcome) (old new : Watched W) (given : A) → Reads given
@@ -64,20 +65,24 @@ file_run gives refuses contents outcome before after old new answer given result
     command_run contents (Commands gives refuses outcome before after) Only (λ fault none. none)
     (λ a made. (refl, inr (record { file = made.file; given = made.given }))) old new answer given result sends
 
-module _ {I J W : Type 0} (gives_first : I → I → PlainFile → Type 0) (refuses_first : I → I → ReadFault → Type 0)
-    (gives_second : J → J → PlainFile → Type 0) (refuses_second : J → J → ReadFault → Type 0) (contents : W → Option (List ℕ))
-    (options : SearchOptions) (first first_after : I) (second second_after : J) (old new : Watched W) (answer : Result Answer RunFault) where
-  pub compare_run : ComparesFiles gives_first refuses_first gives_second refuses_second options first first_after second second_after answer
-      → (result : Result ℕ RunFault) → SendsAnswer contents Both answer old new result
-      → Compares gives_first refuses_first gives_second refuses_second contents options first first_after second second_after old new result
-  compare_run given result sends =
-      command_run contents (ComparesFiles gives_first refuses_first gives_second refuses_second options first first_after second second_after) Both
-      (λ fault none. none) (λ a made. record { files = made.given; given = made.gives; memory = refl }) old new answer given result sends
+module _ {I J : Type 0} (gives_first : I → I → PlainFile → Type 0) (refuses_first : I → I → ReadFault → Type 0)
+    (gives_second : J → J → PlainFile → Type 0) (refuses_second : J → J → ReadFault → Type 0) (first first_after : I) (second second_after : J) where
+  abbrev Answers : Comparison → Result Answer RunFault → Type 0
+  Answers comparison answer =
+      CommandsOnBoth gives_first refuses_first gives_second refuses_second comparison first first_after second second_after answer
 
-  pub diff_run : Diffs gives_first refuses_first gives_second refuses_second options first first_after second second_after answer
-      → (result : Result ℕ RunFault) → SendsAnswer contents Both answer old new result
-      → DiffsFiles gives_first refuses_first gives_second refuses_second contents options first first_after second second_after old new result
-  diff_run given result sends =
-      command_run contents (Diffs gives_first refuses_first gives_second refuses_second options first first_after second second_after) Both
-      (λ fault none. none) (λ a made. record { files = (made.given.0, made.given.1); given = made.gives.given; memory = refl }) old new answer given result
-      sends
+  -- a command answers no fault of the output
+  unsent : (comparison : Comparison) (fault : SendFault) → Answers comparison (Err (Sent fault)) → ⊥
+  unsent (Compare options) fault none = none
+  unsent (Diff options) fault none = none
+
+  -- memory may be refused to what is made of both files
+  memory_of_both : (comparison : Comparison) (answer : Answer) → Answers comparison (Ok answer) → Answers comparison (Err (Refused Both Memory))
+  memory_of_both (Compare options) answer made = record { files = made.given; given = made.gives; memory = refl }
+  memory_of_both (Diff options) answer made = record { files = (made.given.0, made.given.1); given = made.gives.given; memory = refl }
+
+  pub pair_run : {W : Type 0} (contents : W → Option (List ℕ)) (comparison : Comparison) (old new : Watched W) (answer : Result Answer RunFault)
+      → Answers comparison answer → (result : Result ℕ RunFault) → SendsAnswer contents Both answer old new result
+      → RunsOnPair gives_first refuses_first gives_second refuses_second contents comparison first first_after second second_after old new result
+  pair_run contents comparison old new answer given result sends =
+      command_run contents (Answers comparison) Both (unsent comparison) (memory_of_both comparison) old new answer given result sends

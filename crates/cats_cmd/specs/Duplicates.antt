@@ -2,7 +2,7 @@
 use Rattle.std.specs.Prelude.{◌≡◌, ℕ, Bool, List, [], ◌∷◌, map}
 use Rattle.std.specs.List.{AllZip, flat_map}
 use Rattle.bid_file.specs.Files.{PlainFile}
-use Rattle.canon.specs.FirstPlaces.{IsFirstPlace}
+use Rattle.canon.specs.FirstNumbers.{IsFirstNumber}
 use Rattle.canon.specs.Sameness.{AreSameFiles}
 use Rattle.canon.specs.Unsearched.{AreAlike}
 use Rattle.cats_cmd.specs.DuplicateTexts.{duplicates_text}
@@ -47,7 +47,7 @@ heavy_paths judgements = flat_map (λ j. paths_if_heavy j.0 j.1) judgements
 pub record FindsPlaces (Related : PlainFile → PlainFile → Type 0) (paths : List (List ℕ)) (files : List PlainFile)
     (found : List (List ℕ × ℕ)) : Type 0 where
   pub of_paths : map (λ p. p.0) found ≡ paths
-  pub places : AllZip (λ p file. IsFirstPlace Related files file p.1) found files
+  pub places : AllZip (λ p file. IsFirstNumber Related files file p.1) found files
 
 -- The text is that of the groups of paths whose files are one auction: of the files that were judged, and of those that
 -- a

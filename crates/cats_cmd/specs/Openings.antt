@@ -2,10 +2,11 @@
 use Rattle.std.specs.Prelude.{◌≡◌, ◌≤◌, ◌⊎◌, ℕ, List, [], ◌∷◌, Option, Some, Result, Ok, Err}
 use Rattle.commands.specs.Statuses.{status_of_fault}
 use Rattle.commands.specs.declared.run_fault.RunFault.{RunFault}
-use Rattle.command_line.specs.PlainRequests.{PlainRequest, OnFile, OnPair, OnFiles, Fault, Round, PlainCommand, Revenue}
-use Rattle.command_line.specs.PlainRequests.{PlainPaths, Given, ListedIn, PlainBids, GivenBids, BidsIn}
+use Rattle.command_line.specs.PlainRequests.{PlainRequest, OnFile, OnPair, OnFiles, Fault, Round}
+use Rattle.command_line.specs.PlainRequests.{PlainPaths, Given, ListedIn, PlainBids, BidsIn}
 use Rattle.command_line.specs.Requests.{IsNoRequestOf, request_of}
 use Rattle.command_line.specs.declared.request.NoRequest.{NoRequest}
+use Rattle.cats_cmd.specs.BidLists.{named_bids}
 use Rattle.cats_cmd.specs.FileLists.{ReadsList}
 use Rattle.cats_cmd.specs.Opening.{Opens, OpensAtPaths}
 use Rattle.cats_cmd.specs.PathLists.{paths_in}
@@ -32,16 +33,11 @@ module _ {S H F : Type 0} (content_of : S → H) (opened : S → Option (List (L
       ⊎ ((status ≡ 5) × Opens content_of opened old new (first ∷ []))
 
   -- the list of the bids, if they are in one, and then the file, unless the list is refused
-  abbrev pub OpensForBids : List ℕ → PlainBids → S → S → ℕ → Type 0
-  OpensForBids file (GivenBids bids) old new status = Opens content_of opened old new (file ∷ [])
-  OpensForBids file (BidsIn list) old new status =
+  abbrev pub OpensForBids : List ℕ → Option PlainBids → S → S → ℕ → Type 0
+  OpensForBids file (Some (BidsIn list)) old new status =
       Opens content_of opened old new (list ∷ file ∷ [])
       ⊎ ((2 ≤ status) × Opens content_of opened old new (list ∷ []))
-
-  -- the paths of a command on one file, which ends with this status
-  abbrev pub OpensForCommand : List ℕ → PlainCommand → S → S → ℕ → Type 0
-  OpensForCommand file (Revenue bids) old new status = OpensForBids file bids old new status
-  OpensForCommand file command old new status = Opens content_of opened old new (file ∷ [])
+  OpensForBids file bids old new status = Opens content_of opened old new (file ∷ [])
 
   -- the line is no request, or memory was refused, and nothing is opened
   pub record OpensNothing (words : List (List ℕ)) (old new : S) : Type 0 where
@@ -69,7 +65,7 @@ module _ {S H F : Type 0} (content_of : S → H) (opened : S → Option (List (L
 
     -- the paths of a request, which ends with this status
     abbrev pub OpensFor : PlainRequest → S → S → ℕ → Type 0
-    OpensFor (OnFile file prices command) old new status = OpensForCommand file command old new status
+    OpensFor (OnFile file prices command) old new status = OpensForBids file (named_bids command) old new status
     OpensFor (OnPair first second prices command limits) old new status = OpensPair first second old new status
     OpensFor (OnFiles files) old new status = OpensFiles files.paths old new status
     OpensFor (Fault file) old new status = Opens content_of opened old new (file ∷ [])

@@ -10,7 +10,7 @@ use Rattle.cats_text.specs.declared.stream.Watched.{Watched}
 use Rattle.canon.specs.declared.which.Which.{Which}
 use Rattle.canon.specs.declared.which.Which.TheVariants.{Only, First, Second}
 use Rattle.cats_cmd.specs.Duplicates.{MakesGroups}
-use Rattle.cats_cmd.specs.BidLists.{RunsOnBids}
+use Rattle.cats_cmd.specs.BidLists.{RunsOnBids, named_bids}
 use Rattle.cats_cmd.specs.FileLists.{RunsAtPaths, RunsOnFiles}
 use Rattle.cats_cmd.specs.FindingFaults.{FindsFault}
 use Rattle.cats_cmd.specs.Inputs.{IsOpened, MayRefuse}
@@ -18,10 +18,12 @@ use Rattle.cats_cmd.specs.PricedInputs.{IsPriced, PricedGives, PricedRefuses, ro
 use Rattle.cats_cmd.specs.declared.priced_input.PricedInput.{PricedInput}
 use Rattle.cats_cmd.specs.Paths.{Judgement, Reporting, RunsOnPaths, with_refusals, without_refusals}
 use Rattle.cats_cmd.specs.Rounding.{Rounds}
-use Rattle.cats_cmd.specs.Runs.{Compares, DiffsFiles, RunsOnFile}
+use Rattle.cats_cmd.specs.Runs.{RunsOnFile, RunsOnPair}
 use Rattle.cats_cmd.specs.SizesTables.{MakesTable}
 use Rattle.commands.specs.Outcomes.{Outcome, check_outcome, explain_outcome, lp_outcome, normalise_outcome}
 use Rattle.commands.specs.Outcomes.{revenue_outcome, show_outcome, value_outcome_by}
+use Rattle.commands.specs.declared.command.Comparison.{Comparison}
+use Rattle.commands.specs.declared.command.Comparison.TheVariants as comparisons
 use Rattle.rounding.specs.declared.replacement.FinePrices.{FinePrices}
 use Rattle.rounding.specs.declared.replacement.FinePrices.TheVariants.{Round as RoundFine, Refuse}
 use Rattle.cats_cmd.specs.RequestErrors.{Reports, ReportsAll, SendsText, line_of_request_error, status_of_request_error}
@@ -118,17 +120,17 @@ module _ {F W E : Type 0} (may_open : List ℕ → F → Type 0) (remaining : F 
         answer
     pub reports : ReportsAll messages (rounding_lines path after.rounded) err err_after
 
-  -- a run on the streams that were opened at the two paths, where `Runs` is its contract
-  pub record RunsAtBoth (first second : List ℕ) (prices : Prices)
-      (Runs : PricedInput F → PricedInput F → PricedInput F → PricedInput F → Type 0) (err err_after : Watched E)
-      : Type 0 where
+  -- a run on the streams that were opened at the two paths
+  pub record RunsAtBoth (first second : List ℕ) (prices : Prices) (comparison : Comparison) (out out_after : Watched W)
+      (err err_after : Watched E) (answer : Result ℕ RunFault) : Type 0 where
     pub left : PricedInput F
     pub left_after : PricedInput F
     pub right : PricedInput F
     pub right_after : PricedInput F
     pub left_opened : IsPriced may_open prices first left
     pub right_opened : IsPriced may_open prices second right
-    pub runs : Runs left left_after right right_after
+    pub runs : RunsOnPair (PricedGives remaining) (PricedRefuses remaining) (PricedGives remaining)
+        (PricedRefuses remaining) contents comparison left left_after right right_after out out_after answer
     pub reports : ReportsAll messages
         (rounding_lines first left_after.rounded ++ rounding_lines second right_after.rounded) err err_after
 
@@ -157,6 +159,21 @@ bounded_by limits = bounded_options limits.steps limits.total
 abbrev pub options_of : Limits → SearchOptions
 options_of limits = if limits.bound then bounded_by limits else plain_options limits.steps
 
+-- what a command makes of a file, on the bids of these numbers if it names some
+abbrev pub outcome_for : PlainCommand → List ℕ → PlainFile → Outcome
+outcome_for Check numbers = check_outcome
+outcome_for Show numbers = show_outcome
+outcome_for (Value goods limits) numbers = value_outcome_by goods (options_of limits)
+outcome_for (Revenue bids) numbers = revenue_outcome numbers
+outcome_for (Normalise limits) numbers = normalise_outcome (options_of limits)
+outcome_for (Explain limits) numbers = explain_outcome (bounded_by limits)
+outcome_for Lp numbers = lp_outcome
+
+-- a command on two files, with its searches
+abbrev pub comparison_of : PairCommand → Limits → Comparison
+comparison_of Compare limits = comparisons.Compare (options_of limits)
+comparison_of Diff limits = comparisons.Diff (bounded_by limits)
+
 module _ (may_refuse : List ℕ → Unopened → Type 0) where
   -- the one of two files that cannot be opened
   abbrev pub CannotOpenPair : List ℕ → List ℕ → Which → Type 0
@@ -178,35 +195,10 @@ module _ {F W E : Type 0} (may_open : List ℕ → F → Type 0) (may_refuse : L
   -- the run of a command on one file
   abbrev pub RunsOfCommand : List ℕ → Prices → PlainCommand → Watched W → Watched W → Watched E → Watched E
       → Result ℕ RunFault → Type 0
-  RunsOfCommand path prices Check out out_after err err_after answer =
-      RunsAt may_open remaining contents messages path prices check_outcome out out_after err err_after answer
-  RunsOfCommand path prices Show out out_after err err_after answer =
-      RunsAt may_open remaining contents messages path prices show_outcome out out_after err err_after answer
-  RunsOfCommand path prices (Value goods limits) out out_after err err_after answer =
-      RunsAt may_open remaining contents messages path prices (value_outcome_by goods (options_of limits)) out out_after
-      err err_after answer
-  RunsOfCommand path prices (Revenue bids) out out_after err err_after answer =
-      RunsOnBids may_open may_refuse remaining messages (λ numbers.
-      RunsAt may_open remaining contents messages path prices (revenue_outcome numbers))
-      bids out out_after err err_after answer
-  RunsOfCommand path prices (Normalise limits) out out_after err err_after answer =
-      RunsAt may_open remaining contents messages path prices (normalise_outcome (options_of limits)) out out_after err
-      err_after answer
-  RunsOfCommand path prices (Explain limits) out out_after err err_after answer =
-      RunsAt may_open remaining contents messages path prices (explain_outcome (bounded_by limits)) out out_after err
-      err_after answer
-  RunsOfCommand path prices Lp out out_after err err_after answer =
-      RunsAt may_open remaining contents messages path prices lp_outcome out out_after err err_after answer
-
-  -- the run of a command on two files
-  abbrev pub RunsOfPair : PairCommand → Limits → Watched W → Watched W → Result ℕ RunFault → PricedInput F
-      → PricedInput F → PricedInput F → PricedInput F → Type 0
-  RunsOfPair Compare limits out out_after answer left left_after right right_after =
-      Compares (PricedGives remaining) (PricedRefuses remaining) (PricedGives remaining) (PricedRefuses remaining)
-      contents (options_of limits) left left_after right right_after out out_after answer
-  RunsOfPair Diff limits out out_after answer left left_after right right_after =
-      DiffsFiles (PricedGives remaining) (PricedRefuses remaining) (PricedGives remaining) (PricedRefuses remaining)
-      contents (bounded_by limits) left left_after right right_after out out_after answer
+  RunsOfCommand path prices command out out_after err err_after answer =
+      RunsOnBids may_open may_refuse remaining messages
+      (λ numbers. RunsAt may_open remaining contents messages path prices (outcome_for command numbers))
+      (named_bids command) out out_after err err_after answer
 
   module _ (may_find : List ℕ → Option (List (List ℕ)) → Type 0) where
     -- the run on many files, where `Makes` says which text is made of what became of them
@@ -232,8 +224,8 @@ module _ {F W E : Type 0} (may_open : List ℕ → F → Type 0) (may_refuse : L
     RunsFor (OnFile file prices command) out out_after err err_after answer =
         RunsOfCommand file prices command out out_after err err_after answer
     RunsFor (OnPair first second prices command limits) out out_after err err_after answer =
-        RunsAtBoth may_open remaining contents messages first second prices
-        (RunsOfPair command limits out out_after answer) err err_after
+        RunsAtBoth may_open remaining contents messages first second prices (comparison_of command limits) out out_after
+        err err_after answer
     RunsFor (OnFiles files) out out_after err err_after answer =
         RunsOfFiles files.command files out out_after err err_after answer
     RunsFor (Fault file) out out_after err err_after answer =

@@ -9,8 +9,10 @@ use Rattle.canon.specs.declared.which.Which.{Which}
 use Rattle.commands.specs.Commands.{Commands, text_of}
 use Rattle.cats_text.specs.declared.read_fault.ReadFault.{ReadFault}
 use Rattle.commands.specs.Outcomes.{Outcome, Prints}
-use Rattle.commands.specs.Pairs.{Compares as ComparesFiles, Diffs}
+use Rattle.commands.specs.Pairs.{CommandsOnBoth}
 use Rattle.commands.specs.declared.answer.Answer.{Answer}
+use Rattle.commands.specs.declared.command.Comparison.{Comparison}
+use Rattle.commands.specs.declared.command.Comparison.TheVariants.{Compare}
 use Rattle.commands.specs.declared.run_fault.RunFault.{RunFault}
 use Rattle.commands.specs.declared.run_fault.RunFault.TheVariants.{Refused, TooHeavy, GoodRange, BidRange, Sent}
 
@@ -95,15 +97,13 @@ module _ {I W : Type 0} (gives : I → I → PlainFile → Type 0) (refuses : I 
 
 module _ {I J W : Type 0} (gives_first : I → I → PlainFile → Type 0) (refuses_first : I → I → ReadFault → Type 0)
     (gives_second : J → J → PlainFile → Type 0) (refuses_second : J → J → ReadFault → Type 0)
-    (contents : W → Option (List ℕ)) (options : SearchOptions) (first first_after : I) (second second_after : J) where
-  -- a comparison
-  abbrev pub Compares : Watched W → Watched W → Result ℕ RunFault → Type 0
-  Compares old new answer =
-      RunsCommand contents (ComparesFiles gives_first refuses_first gives_second refuses_second options first
+    (contents : W → Option (List ℕ)) where
+  -- each run
+  abbrev pub RunsOnPair : Comparison → I → I → J → J → Watched W → Watched W → Result ℕ RunFault → Type 0
+  RunsOnPair comparison first first_after second second_after old new answer =
+      RunsCommand contents (CommandsOnBoth gives_first refuses_first gives_second refuses_second comparison first
       first_after second second_after) old new answer
 
-  -- all differences
-  abbrev pub DiffsFiles : Watched W → Watched W → Result ℕ RunFault → Type 0
-  DiffsFiles old new answer =
-      RunsCommand contents (Diffs gives_first refuses_first gives_second refuses_second options first first_after second
-      second_after) old new answer
+  -- a comparison
+  abbrev pub Compares : SearchOptions → I → I → J → J → Watched W → Watched W → Result ℕ RunFault → Type 0
+  Compares options = RunsOnPair (Compare options)

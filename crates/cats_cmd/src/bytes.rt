@@ -28,20 +28,13 @@ pub(crate) fn read_bytes<R: Read>(
             Ok(0) => return Ok(text),
             Ok(count) => {
                 if count as u64 > MAX_STREAM - text.len() as u64 {
-                    return Err(whole_fault(Kind::TooLong));
+                    return Err(ReadFault::whole(Kind::TooLong));
                 }
                 if text.extend_from_slice(&piece[..count]).is_err() {
-                    return Err(whole_fault(Kind::Memory));
+                    return Err(ReadFault::whole(Kind::Memory));
                 }
             }
-            Err(_) => return Err(whole_fault(Kind::Device)),
+            Err(_) => return Err(ReadFault::whole(Kind::Device)),
         }
     }
-}
-
-/// A fault of the whole stream.
-pub(crate) fn whole_fault(kind: Kind) -> ReadFault
-    ensures { result ≡ fault_at 0 kind }
-{
-    ReadFault { line: 0, kind }
 }

@@ -1,20 +1,24 @@
 //! Laws of what the runs read and print.
 
 ghost use Rattle.std.specs.List.{All, flat_map};
-ghost use Rattle.std.specs.Prelude.{◌≡◌, ◌==◌, ℕ, Bool, List, filter, map, false};
-ghost use Rattle.commands.specs.DiffTexts.{diff_text};
-ghost use Rattle.commands.specs.ComparisonTexts.{difference_text};
-ghost use Rattle.commands.specs.ExplanationTexts.{explanation_text};
-ghost use Rattle.commands.specs.Outputs.{check_text};
+ghost use Rattle.std.specs.Prelude.{◌≡◌, ◌==◌, ℕ, Bool, List, Ok, filter, map, false};
 ghost use Rattle.bid_file.specs.Files.{PlainFile};
-ghost use Rattle.canon.specs.Difference.{Difference};
+ghost use Rattle.cats_text.specs.FaultPlaces.{PlainPlace};
+ghost use Rattle.command_line.specs.PlainRequests.{PlainCommand};
+ghost use Rattle.analysis.specs.AllocationVerdicts.{allocation_text};
 ghost use Rattle.analysis.specs.Differences.{PlainDifferences};
 ghost use Rattle.analysis.specs.Reasons.{PlainReason};
-ghost use Rattle.cats_text.specs.FaultPlaces.{PlainPlace};
-ghost use Rattle.analysis.specs.AllocationVerdicts.{allocation_text};
-ghost use Rattle.analysis.specs.LpTexts.{lp_text};
 ghost use Rattle.analysis.specs.declared.winners.allocation_verdict.AllocationVerdict.{AllocationVerdict};
+ghost use Rattle.canon.specs.Difference.{Difference};
+ghost use Rattle.commands.specs.Commands.{text_of};
+ghost use Rattle.commands.specs.ComparisonTexts.{difference_text};
+ghost use Rattle.commands.specs.DiffTexts.{diff_text};
+ghost use Rattle.commands.specs.ExplanationTexts.{explanation_text};
 ghost use Rattle.commands.specs.ValueTexts.{value_text};
+ghost use Rattle.commands.specs.Outcomes.{Prints};
+ghost use Rattle.commands.specs.Pairs.{CommandsOnBoth};
+ghost use Rattle.commands.specs.declared.answer.Answer.{Answer};
+ghost use Rattle.commands.specs.declared.command.Comparison.{Comparison};
 ghost use Rattle.cats_cmd.specs.Escaping.{AreBytes, IsTextOf, escaped, is_control_byte, is_printable, is_shown, unescaped};
 ghost use Rattle.cats_cmd.specs.DuplicateTexts.{duplicates_text, printed_groups};
 ghost use Rattle.cats_cmd.specs.FindingFaults.{text_of_place};
@@ -25,6 +29,7 @@ ghost use Rattle.cats_cmd.specs.Paths.{without_refusals};
 ghost use Rattle.cats_cmd.specs.PricedInputs.{PricedGives, PricedRefuses, fine_prices, rounding_lines};
 ghost use Rattle.cats_cmd.specs.declared.priced_input.PricedInput.{PricedInput};
 ghost use Rattle.cats_cmd.specs.RequestErrors.{line_of_request_error};
+ghost use Rattle.cats_cmd.specs.Requests.{outcome_for};
 ghost use Rattle.cats_cmd.specs.SizesTables.{MakesTable};
 ghost use Rattle.cats_cmd.specs.declared.paths.Ending.{Ending};
 ghost use Rattle.cats_cmd.specs.declared.paths.Ending.TheVariants.{Line};
@@ -33,6 +38,7 @@ ghost use Rattle.cats_cmd.specs.declared.errors.RequestError.{RequestError};
 ghost use Rattle.command_line.specs.declared.request.Prices.TheVariants.{AsWritten};
 ghost use Rattle.valuation.specs.declared.search_options.SearchOptions.{SearchOptions};
 
+use commands::Input;
 use std::io::Read;
 
 /// The paths in a text that lists some paths are these: any paths without NUL can be listed.
@@ -62,15 +68,21 @@ pub fn printed_lines_are_shown()
         → MakesTable Line judgements text → IsTextOf is_shown text }
 {}
 
-/// So is what the commands on one or two files print, but for `cats show`, `cats normalise` and `cats round`, which
-/// print a bid file.
-pub fn printed_answers_are_shown()
-    ensures check { (file : PlainFile) → IsTextOf is_shown (check_text file) }
-    ensures value { (file : PlainFile) (goods : List ℕ) → IsTextOf is_shown (value_text file goods) }
-    ensures lp { (file : PlainFile) → IsTextOf is_shown (lp_text file) }
-    ensures revenue { (verdict : AllocationVerdict) → IsTextOf is_shown (allocation_text verdict) }
+/// So is what the commands on one or two files print, and `cats fault`.
+pub fn printed_answers_are_shown<I: Input, J: Input>()
+    ensures commands { (command : PlainCommand) (numbers : List ℕ) (file : PlainFile) (status : ℕ) (text : List ℕ)
+        → outcome_for command numbers file ≡ Prints status text → IsTextOf is_shown text }
+    ensures comparisons { (comparison : Comparison) (first first_after : I) (second second_after : J) (answer : Answer)
+        → CommandsOnBoth I.gives I.refuses J.gives J.refuses comparison first first_after second second_after (Ok answer)
+        → IsTextOf is_shown (text_of answer.output) }
     ensures fault { (path : List ℕ) (place : PlainPlace) → AreBytes path → AreBytes place.text
         → IsTextOf is_shown (text_of_place path place) }
+{}
+
+/// So are these texts of any bundle, verdict, difference, reasons and differences.
+pub fn printed_texts_are_shown()
+    ensures value { (file : PlainFile) (goods : List ℕ) → IsTextOf is_shown (value_text file goods) }
+    ensures revenue { (verdict : AllocationVerdict) → IsTextOf is_shown (allocation_text verdict) }
     ensures compare { (difference : Difference) → IsTextOf is_shown (difference_text difference) }
     ensures explain { (file : PlainFile) (reasons : List PlainReason) → IsTextOf is_shown (explanation_text file reasons) }
     ensures diff { (left right : PlainFile) (differences : PlainDifferences)

@@ -12,6 +12,7 @@ mod folders;
 pub mod laws;
 mod lines;
 mod many_files;
+mod mapping;
 mod one_file;
 mod path_list;
 mod paths;
@@ -20,7 +21,6 @@ mod program;
 mod requests;
 mod round;
 mod run;
-mod searches;
 mod sizes;
 mod source;
 #[cfg(test)]

@@ -4,18 +4,15 @@
 ghost use Rattle.std.specs.Prelude.{◌≡◌, ◌∷◌, ◌++◌, ◌<◌, ℕ, List, decimal, length};
 ghost use Rattle.commands.specs.Outputs.{after_commas, bundle_text};
 ghost use Rattle.commands.specs.Pieces.{text_of_piece, text_of_pieces};
-ghost use Rattle.cats_text.specs.Layout.{behind_point, digit_at, price_text, six_digits, without_zeros};
+ghost use Rattle.cats_text.specs.Layout.{price_text};
 ghost use Rattle.cats_cmd.specs.Escaping.{escaped, escaped_byte};
 ghost use Rattle.cats_cmd.specs.RequestErrors.{Reports};
 
 use crate::escaping::{hex_escape, plain_run};
-use cats_text::{Watched, send};
+use cats_text::{PRICE_SIZE, Watched, send, write_price};
 use commands::Piece;
 use itoa::Buffer;
 use std::io::Write;
-
-/// Millionths in a whole unit.
-const MILLION: u64 = 1_000_000;
 
 /// Sends a text, unless the stream has failed.
 pub(crate) fn report<E: Write>(err: &mut Watched<E>, text: &[u8])
@@ -83,56 +80,9 @@ fn report_after_comma<E: Write>(err: &mut Watched<E>, good: u16)
 fn report_price<E: Write>(err: &mut Watched<E>, millionths: u64)
     ensures { Reports E.contents (price_text millionths) err.old err.new }
 {
-    report_number(err, millionths / MILLION);
-    report_behind_point(err, without_zeros(&six_digits(millionths % MILLION)));
-}
-
-/// Reports a point and the digits behind it, if there are any.
-fn report_behind_point<E: Write>(err: &mut Watched<E>, digits: &[u8])
-    ensures { Reports E.contents (behind_point digits.now) err.old err.new }
-{
-    if let [_, ..] = digits {
-        report(err, b".");
-        report(err, digits);
-    } else {
-        report(err, b"");
-    }
-}
-
-/// The last six digits of a number, with zeros before them if it has fewer.
-fn six_digits(number: u64) -> [u8; 6]
-    ensures { result ≡ six_digits number }
-{
-    [
-        digit_at(number, 100_000),
-        digit_at(number, 10_000),
-        digit_at(number, 1_000),
-        digit_at(number, 100),
-        digit_at(number, 10),
-        digit_at(number, 1),
-    ]
-}
-
-/// The digit of a number at the place that counts so much.
-fn digit_at(number: u64, place: u64) -> u8
-    requires { 0 < place }
-    ensures { result ≡ digit_at number place }
-{
-    48 + (number / place % 10) as u8
-}
-
-/// The digits without the zeros at their end.
-fn without_zeros(digits: &[u8]) -> &[u8]
-    ensures { result.now ≡ without_zeros digits.now }
-{
-    let mut kept = digits;
-    while let [before @ .., last] = kept {
-        if *last != b'0' {
-            return kept;
-        }
-        kept = before;
-    }
-    kept
+    let mut text = [0; PRICE_SIZE];
+    let start = write_price(millionths, &mut text, PRICE_SIZE);
+    report(err, &text[start..]);
 }
 
 /// Reports a path as it is printed on a line.

@@ -14,11 +14,11 @@ ghost use Rattle.cats_cmd.specs.RequestErrors.{Reports, status_of_request_error}
 use crate::bytes::read_bytes;
 use crate::errors::{RequestError, status_of};
 use crate::folders::{files_at, slices};
+use crate::mapping::bounded_search;
 use crate::path_list::split_paths;
 use crate::paths::{
     Collection, Ending, ManyFiles, Progress, open_file, report_refusal, run_on_paths,
 };
-use crate::searches::bounded_search;
 use crate::source::Source;
 use canon::CanonFault;
 use cats_text::Watched;

@@ -6,7 +6,7 @@ ghost use Rattle.cats_cmd.specs.Internal.Roundings.{ReadsRounded};
 ghost use Rattle.cats_cmd.specs.PricedInputs.{fine_prices, rounding_line, rounding_lines};
 ghost use Rattle.cats_cmd.specs.RequestErrors.{Reports, ReportsAll};
 
-use crate::bytes::{read_bytes, whole_fault};
+use crate::bytes::read_bytes;
 use crate::lines::{report, report_escaped, report_number};
 use bid_file::PackedFile;
 use cats_text::{Header, Kind, ReadFault, Watched, check, read_packed};
@@ -105,7 +105,7 @@ fn read_rounded<R: Read>(
     let bytes = read_bytes(alloc, stream)?;
     match round_prices(alloc, bytes.as_slice(), fine) {
         Ok(rounded) => Ok((rounded.text, rounded.prices.len())),
-        Err(AllocError) => Err(whole_fault(Kind::Memory)),
+        Err(AllocError) => Err(ReadFault::whole(Kind::Memory)),
     }
 }
 

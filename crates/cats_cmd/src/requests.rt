@@ -1,57 +1,38 @@
 //! Requests: each opens its files, runs on them, and reports how many prices were rounded.
 
-ghost use Rattle.std.specs.Prelude.{◌≡◌, ◌∷◌, [], Bool, IfErr, IfOk, false};
+ghost use Rattle.std.specs.Prelude.{◌≡◌, ◌∷◌, [], Bool, IfErr, IfOk, false, option_map};
 ghost use Rattle.canon.specs.declared.which.Which.TheVariants.{Only};
 ghost use Rattle.cats_text.specs.Streams.{has_failed};
 ghost use Rattle.cats_cmd.specs.Inputs.{IsOpened, MayRefuse};
-ghost use Rattle.cats_cmd.specs.Internal.Carrying.{FailsToOpenPair, RunsAtOrNot, answer_of_run, outcome_of_run};
+ghost use Rattle.cats_cmd.specs.BidLists.{named_bids};
+ghost use Rattle.cats_cmd.specs.Internal.Carrying.{FailsToOpenPair, RunsAtOrNot, answer_of_run};
 ghost use Rattle.cats_cmd.specs.Opening.{Opens};
-ghost use Rattle.cats_cmd.specs.Openings.{OpensFiles, OpensFor, OpensForCommand, OpensPair, status_of_answer};
+ghost use Rattle.cats_cmd.specs.Openings.{OpensFiles, OpensFor, OpensForBids, OpensPair, status_of_answer};
 ghost use Rattle.cats_cmd.specs.Openings.{status_of_run};
-ghost use Rattle.cats_cmd.specs.Requests.{CarriesOut, RunsOfFiles, fine_of};
-ghost use Rattle.cats_cmd.specs.Runs.{RunsOnFile};
-ghost use Rattle.command_line.specs.PlainRequests.{OnFile, OnPair, plain_command, plain_files, plain_request};
+ghost use Rattle.cats_cmd.specs.Requests.{CarriesOut, RunsOfFiles, fine_of, outcome_for};
+ghost use Rattle.command_line.specs.PlainRequests.{OnFile, OnPair, plain_bids, plain_command, plain_files, plain_request};
 
 use crate::bid_list::read_bids;
 use crate::duplicates::Groups;
 use crate::errors::RequestError;
 use crate::fault::run_fault;
 use crate::many_files::{refuse_list, run_on_files};
-use crate::one_file::{
-    run_check, run_explain, run_lp, run_normalise_by, run_revenue, run_show, run_value_by,
-};
+use crate::mapping::{command_of, comparison_of};
+use crate::one_file::run_on_file;
 use crate::priced_input::{PricedInput, report_rounded};
 use crate::round::run_round;
-use crate::searches::{bounded_search, search_options};
 use crate::sizes::Table;
 use crate::source::Source;
-use crate::two_files::{run_compare_by, run_diff};
+use crate::two_files::run_on_pair;
 use canon::Which;
 use cats_text::Watched;
 use command_line::{
-    FileCommand, FileRequest, FilesCommand, FilesRequest, Limits, NamedBids, PairCommand,
-    PairRequest, Request,
+    FileCommand, FileRequest, FilesCommand, FilesRequest, NamedBids, PairRequest, Request,
 };
-use commands::{Input, RunFault};
+use commands::RunFault;
 use rounding::FinePrices;
-use std::alloc::{AllocGlobal, Global};
+use std::alloc::AllocGlobal;
 use std::io::Write;
-use valuation::SearchOptions;
-
-/// A command on one file, with what it needs beside the file.
-#[derive(Clone, Copy)]
-enum FileRun<'a> {
-    Check,
-    Show,
-    Value {
-        goods: &'a [u16],
-        options: SearchOptions,
-    },
-    Revenue(&'a [u32]),
-    Normalise(SearchOptions),
-    Explain(&'a Limits),
-    Lp,
-}
 
 /// `err` is for requests that report faults and go on, or that report how many prices were rounded.
 pub(crate) fn carry_out<S: Source + AllocGlobal, W: Write, E: Write>(
@@ -96,77 +77,50 @@ fn carry_out_on_file<S: Source + AllocGlobal, W: Write, E: Write>(
         (S.may_find (S.content_of source.old)) (OnFile request.now.file.now request.now.prices (plain_command
         request.now.command)) out.old out.new err.old err.new
         result }
-    ensures opens { OpensForCommand S.content_of S.opened S.may_open S.may_refuse S.Stream.remaining request.now.file.now
-        (plain_command request.now.command) source.old source.new (status_of_answer result) }
+    ensures opens { OpensForBids S.content_of S.opened S.may_open S.may_refuse S.Stream.remaining request.now.file.now
+        (named_bids (plain_command request.now.command)) source.old source.new (status_of_answer result) }
 {
-    let run = match &request.command {
-        FileCommand::Check => FileRun::Check,
-        FileCommand::Show => FileRun::Show,
-        FileCommand::Value { goods, limits } => FileRun::Value {
-            goods: goods.as_slice(),
-            options: search_options(limits),
+    match named_bids(&request.command) {
+        None => run_at(source, request, &[], out, err),
+        Some(NamedBids::Given(bids)) => run_at(source, request, bids.as_slice(), out, err),
+        Some(NamedBids::ListedIn(list)) => match read_bids(source, list) {
+            Ok(bids) => run_at(source, request, bids.as_slice(), out, err),
+            Err(error) => Ok(refuse_list(list, &error, err)),
         },
-        FileCommand::Revenue(NamedBids::Given(bids)) => FileRun::Revenue(bids.as_slice()),
-        FileCommand::Revenue(NamedBids::ListedIn(list)) => {
-            return match read_bids(source, list) {
-                Ok(bids) => run_at(
-                    source,
-                    request,
-                    &FileRun::Revenue(bids.as_slice()),
-                    out,
-                    err,
-                ),
-                Err(error) => Ok(refuse_list(list, &error, err)),
-            };
-        }
-        FileCommand::Normalise(limits) => FileRun::Normalise(search_options(limits)),
-        FileCommand::Explain(limits) => FileRun::Explain(limits),
-        FileCommand::Lp => FileRun::Lp,
-    };
-    run_at(source, request, &run, out, err)
+    }
 }
 
-/// Opens the file of a request, runs on it, and reports how many of its prices were rounded.
+/// The bids that a command names, if it names some.
+fn named_bids<'a>(command: &'a FileCommand<'a>) -> Option<&'a NamedBids<'a>>
+    ensures { option_map (λ bids. plain_bids bids.now) result ≡ named_bids (plain_command command.now) }
+{
+    match command {
+        FileCommand::Revenue(bids) => Some(bids),
+        _ => None,
+    }
+}
+
+/// Opens the file of a request, runs its command on it and on the bids of these numbers, if it names some, and reports how
+/// many of the prices were rounded.
 fn run_at<S: Source + AllocGlobal, W: Write, E: Write>(
     source: &mut S,
     request: &FileRequest<'_>,
-    run: &FileRun<'_>,
+    bids: &[u32],
     out: &mut Watched<W>,
     err: &mut Watched<E>,
 ) -> Result<u8, RequestError>
     requires { has_failed out.old ≡ false }
     ensures runs { RunsAtOrNot (S.may_open (S.content_of source.old)) (S.may_refuse (S.content_of source.old))
-        S.Stream.remaining W.contents E.contents request.now.file.now request.now.prices (outcome_of_run run.now) out.old
-        out.new err.old err.new result }
+        S.Stream.remaining W.contents E.contents request.now.file.now request.now.prices (outcome_for (plain_command
+        request.now.command) bids.now) out.old out.new err.old err.new result }
     ensures opens { Opens S.content_of S.opened source.old source.new (request.now.file.now ∷ []) }
 {
     let stream = open_only(source, request.file)?;
     let mut input = PricedInput::new(stream, request.prices);
-    let answer = run_on_file(source.alloc(), &mut input, run, out);
+    let command = command_of(&request.command, bids);
+    let answer = run_on_file(source.alloc(), &mut input, &command, out);
     report_rounded(request.file.as_bytes(), input.rounded(), err);
     ran(answer)
-}
-
-/// The run of a command on a file.
-fn run_on_file<I: Input, W: Write>(
-    alloc: Global,
-    input: &mut I,
-    run: &FileRun<'_>,
-    out: &mut Watched<W>,
-) -> Result<u8, RunFault>
-    requires input { I.is_ready input.old }
-    requires out_works { has_failed out.old ≡ false }
-    ensures { RunsOnFile I.gives I.refuses W.contents (outcome_of_run run.now) input.old input.new out.old out.new result }
-{
-    match run {
-        FileRun::Check => run_check(alloc, input, out),
-        FileRun::Show => run_show(alloc, input, out),
-        FileRun::Value { goods, options } => run_value_by(alloc, input, goods, *options, out),
-        FileRun::Revenue(bids) => run_revenue(alloc, input, bids, out),
-        FileRun::Normalise(options) => run_normalise_by(alloc, input, *options, out),
-        FileRun::Explain(limits) => run_explain(alloc, input, limits.steps, limits.total, out),
-        FileRun::Lp => run_lp(alloc, input, out),
-    }
 }
 
 /// Opens the files of a request for two, runs on them, and reports how many of their prices were rounded.
@@ -187,14 +141,8 @@ fn carry_out_on_pair<S: Source + AllocGlobal, W: Write, E: Write>(
     let (left, right) = open_both(source, request)?;
     let mut left = PricedInput::new(left, request.prices);
     let mut right = PricedInput::new(right, request.prices);
-    let limits = &request.limits;
-    let alloc = source.alloc();
-    let answer = match request.command {
-        PairCommand::Compare => {
-            run_compare_by(alloc, &mut left, &mut right, search_options(limits), out)
-        }
-        PairCommand::Diff => run_diff(alloc, &mut left, &mut right, bounded_search(limits), out),
-    };
+    let comparison = comparison_of(request.command, &request.limits);
+    let answer = run_on_pair(source.alloc(), &mut left, &mut right, &comparison, out);
     report_rounded(request.first.as_bytes(), left.rounded(), err);
     report_rounded(request.second.as_bytes(), right.rounded(), err);
     ran(answer)

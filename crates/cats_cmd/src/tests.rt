@@ -5,6 +5,7 @@ mod compare;
 mod devices;
 mod diff;
 mod duplicates;
+mod each_command;
 mod explanations;
 mod fault;
 mod few_files;

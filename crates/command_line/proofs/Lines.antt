@@ -1,7 +1,8 @@
 -- What the words of a line request. A word that does not begin with a hyphen is taken as it is after `--` (`PlainWords`), and after `--` the walk of
 -- `clap` is computed with paths that are not known.
-use Rattle.std.proofs.Common.{◌≡◌, ◌∙◌, ◌++◌, ℕ, Bool, List, [], ◌∷◌, Option, None, Some, true, false, ap, ap₂, refl, sym}
-use Rattle.std.specs.Prelude.{◌||◌, find, fold, unwrap_or, if◌then◌else◌, option_and_then, option_map}
+use Rattle.std.proofs.Common.{◌≡◌, ◌∙◌, ◌++◌, ℕ, Bool, List, [], ◌∷◌, Option, None, Some, true, false, ap, ap₂, get_or, map, refl, sym}
+use Rattle.std.specs.Prelude.{◌||◌, All, find, fold, unwrap_or, if◌then◌else◌, option_and_then, option_map}
+use Rattle.std.proofs.lemmas.List.Elements.{All-cons, All-nil}
 use Rattle.std.specs.Option.{option_map_or}
 use Rattle.clap.specs.Faults.{check_fault, defaults_fault, level_fault, settle_fault}
 use Rattle.clap.specs.Kinds.{Kinds, or_else}
@@ -9,8 +10,8 @@ use Rattle.clap.specs.Simple.{Shape, built, label_of, new_shape, rows_at}
 use Rattle.clap.specs.Walk.{Held, Text, answers_to, finished, nothing_held, settled, walk_from, walked}
 use Rattle.clap.specs.declared.error.kind.ErrorKind.TheVariants.{ValueValidation}
 use Rattle.command_line.specs.PlainRequests.{OnFile, PlainCommand, PlainRequest}
-use Rattle.command_line.specs.Subcommands.{cats}
-use Rattle.command_line.specs.Requests.{if_taken, request_from}
+use Rattle.command_line.specs.Subcommands.{Subcommand, cats}
+use Rattle.command_line.specs.Requests.{if_taken, request_from, request_of, request_with}
 use Rattle.command_line.specs.declared.request.Limits.{Limits}
 use Rattle.command_line.specs.declared.request.Prices.TheVariants.{AsWritten}
 use Rattle.command_line.proofs.PlainWords.{ArePlain, IsIdle, hyphens, same_after}
@@ -43,6 +44,37 @@ module _ (name : Text) (firsts paths : List Text) (plain : ArePlain paths)
       ap (λ (o : Option Shape). request_by o (firsts ++ paths)) found
       ∙ ap₂ (request_at (shape_named name)) same.1 same.0
       ∙ sym (ap (λ (o : Option Shape). request_by o (firsts ++ hyphens ∷ paths)) found)
+
+-- ---- lines of each row of a list
+
+each : {X Y : Type 0} (f g : X → Y) (xs : List X) → map f xs ≡ map g xs → All (λ x. f x ≡ g x) xs
+each f g [] same = All-nil (λ x. f x ≡ g x)
+each f g (x ∷ xs) same =
+    let first : f x ≡ g x = cc in
+    let others : map f xs ≡ map g xs = cc in
+    All-cons (λ x. f x ≡ g x) x xs first (each f g xs others)
+
+-- the lines of rows of the table with just these paths. With `--` before the paths, they are computed for all rows at once
+module _ (program : Text) (paths : List Text) (plain : ArePlain paths) (given : List (Text × List Text)) where
+  abbrev Computed : Type 0
+  Computed = Option Shape × Option PlainRequest × Option PlainRequest
+
+  abbrev computed : Subcommand → Computed
+  computed s = (
+    find (λ shape. answers_to s.name (label_of shape)) (built cats).subs,
+    request_of (program ∷ s.name ∷ paths),
+    request_after s.name (hyphens ∷ paths),
+  )
+
+  abbrev expected : Subcommand → Computed
+  expected s = (Some (shape_named s.name), request_after s.name paths, request_with s given)
+
+  pub lines : (rows : List Subcommand) → map computed rows ≡ map expected rows
+      → All (λ s. request_of (program ∷ s.name ∷ paths) ≡ request_with s given) rows
+  lines rows same k d lt =
+      let s = get_or rows k d in
+      let is = each computed expected rows same k d lt in
+      ap (λ (c : Computed). c.1) is ∙ line s.name [] paths plain (ap (λ (c : Computed). c.0) is) refl ∙ ap (λ (c : Computed). c.2) is
 
 -- ---- limits, whose text is not known
 

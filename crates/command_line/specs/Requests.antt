@@ -1,19 +1,19 @@
 -- What a command line requests, and what it is if it requests nothing.
-use Rattle.std.specs.Prelude.{◌≡◌, ◌==◌, ◌||◌, ℕ, Bool, true, false, not, List, [], ◌∷◌, map, find, Option, None}
-use Rattle.std.specs.Prelude.{option_and_then, if◌then◌else◌, is_none, is_some}
+use Rattle.std.specs.Prelude.{◌≡◌, ◌==◌, ◌||◌, ℕ, Bool, true, false, not, List, [], ◌∷◌, map, find, filter, fold}
+use Rattle.std.specs.Prelude.{Option, None, codes, option_and_then, if◌then◌else◌, is_none, is_some}
 use Rattle.std.specs.Option.{option_map_or}
 use Rattle.std.specs.Borrow.{Bor}
 use Rattle.std.specs.List.{list_any, slice_split}
 use Rattle.std.specs.Str.{bytes_eq}
 use Rattle.clap.specs.Faults.{fault_of}
 use Rattle.clap.specs.Kinds.{Kinds}
-use Rattle.clap.specs.Simple.{subcommand_of}
-use Rattle.clap.specs.Walk.{Row}
+use Rattle.clap.specs.Simple.{built_leaf, subcommand_of}
+use Rattle.clap.specs.Walk.{Row, Rule, arg_by_id, finished, nothing_held, used_by_id}
 use Rattle.clap.specs.declared.error.kind.ErrorKind.{ErrorKind}
 use Rattle.clap.specs.declared.error.kind.ErrorKind.TheVariants.{DisplayHelp, DisplayVersion}
 use Rattle.command_line.specs.PlainRequests.{PlainRequest}
-use Rattle.command_line.specs.Subcommands.{cats, has_both_bids, has_more_files, has_signed_number}
-use Rattle.command_line.specs.Subcommands.{goods_in, has_unbounded_total, second_in, subcommands}
+use Rattle.command_line.specs.Subcommands.{Subcommand, cats, goods_in, has_both_bids, has_more_files, has_signed_number}
+use Rattle.command_line.specs.Subcommands.{has_unbounded_total, second_in, shape_of_subcommand, subcommands}
 use Rattle.command_line.specs.declared.request.Misuse.{Misuse}
 use Rattle.command_line.specs.declared.request.Misuse.TheVariants.{SignedNumber, MoreThanOneFile, MoreThanTwoFiles}
 use Rattle.command_line.specs.declared.request.Misuse.TheVariants.{BidsTwice, UnboundedTotal}
@@ -80,3 +80,28 @@ begins_with_hyphen (b ∷ rest) = b == 45
 abbrev pub is_no_memory : NoRequest → Bool
 is_no_memory (NoMemory text) = true
 is_no_memory answer = false
+
+-- ---- what a subcommand requests by its arguments
+
+-- the rows of these arguments, each with its values, and of all others by default
+abbrev pub rows_with : List Rule → List (List ℕ × List (List ℕ)) → List Row
+rows_with rules given = finished rules (record nothing_held {
+  rows = fold (λ rows argument. used_by_id (arg_by_id rules argument.0) argument.1 rows) [] given;
+})
+
+-- what is requested if just these arguments are given. A flag has no value
+abbrev pub request_with : Subcommand → List (List ℕ × List (List ℕ)) → Option PlainRequest
+request_with s given = s.request (rows_with (built_leaf (shape_of_subcommand s)).rules given)
+
+abbrev pub one_file : List ℕ → List (List ℕ × List (List ℕ))
+one_file path = (codes "FILE", path ∷ []) ∷ []
+
+abbrev pub two_files : List ℕ → List ℕ → List (List ℕ × List (List ℕ))
+two_files first second = (codes "FILE", first ∷ []) ∷ (codes "SECOND_FILE", second ∷ []) ∷ []
+
+-- the subcommands that need one file or two, and those that need two
+abbrev pub on_one_or_two : List Subcommand
+on_one_or_two = filter (λ s. list_any (λ rule. rule.required) s.rules) subcommands
+
+abbrev pub on_two : List Subcommand
+on_two = filter (λ s. is_some (arg_by_id s.rules (codes "SECOND_FILE"))) subcommands

@@ -1,16 +1,24 @@
-//! The commands as `clap` takes them. They have arguments and options. The subcommands are a table.
+//! The commands: what each requests, and how `clap` takes it. They have arguments and options. The subcommands are a table.
 
-ghost use Rattle.std.specs.Prelude.{◌≡◌, IfOk, false, fold};
+ghost use Rattle.std.specs.Prelude.{◌≡◌, IfOk, false, fold, option_map};
 ghost use Rattle.clap.specs.Words.{app_of, rule_of};
 ghost use Rattle.command_line.specs.Internal.Commands.{has_globals, rule_for, shape_for, with_row};
-ghost use Rattle.command_line.specs.Subcommands.{cats, flag, option};
+ghost use Rattle.command_line.specs.Internal.Matches.{rows_in};
+ghost use Rattle.command_line.specs.PlainRequests.{Explain, Normalise, plain_command, plain_request};
+ghost use Rattle.command_line.specs.Requests.{request_from};
+ghost use Rattle.command_line.specs.Subcommands.{cats, flag, limited, option};
 
 use crate::help::{CommandHelp, argument_text, find_help};
+use crate::parser::{
+    find_bids, find_files_request, find_limits, find_pair_request, find_text, find_value,
+    has_both_bids, has_more_files, has_signed_number, is_set, on_file,
+};
+use crate::request::{FileCommand, FilesCommand, PairCommand, Request};
 use Argument::{
     All, BidList, Bids, Bound, Exact, File, Files, Goods, List, MoreFiles, Null, Progress, Round,
     RoundExact, SecondFile, Steps, TotalSteps,
 };
-use clap::{Arg, ArgAction, Command, value_parser};
+use clap::{Arg, ArgAction, ArgMatches, Command, value_parser};
 use std::alloc::{AllocError, Global};
 
 /// The one file, or the first of two, or many.
@@ -151,6 +159,53 @@ static SUBCOMMANDS: [Subcommand; 13] = [
     },
 ];
 
+/// What the subcommand of a name requests, by the matches of its own arguments.
+pub(crate) fn find_named_request<'a>(
+    alloc: Global,
+    name: &str,
+    given: &ArgMatches<'a>,
+) -> Result<Option<Request<'a>>, AllocError>
+    ensures { IfOk result (λ found. option_map plain_request found ≡ request_from name.now (rows_in given.now)) }
+{
+    if has_signed_number(given) || has_more_files(given) || has_both_bids(given) {
+        return Ok(None);
+    }
+    match name {
+        "check" => Ok(on_file(given, Some(FileCommand::Check))),
+        "fault" => Ok(find_text(given, FILE).map(|file| Request::Fault { file })),
+        "show" => Ok(on_file(given, Some(FileCommand::Show))),
+        "value" => Ok(on_file(given, find_value(alloc, given)?)),
+        "revenue" => Ok(on_file(given, find_bids(alloc, given)?.map(FileCommand::Revenue))),
+        "normalise" => Ok(on_file(given, find_normalise(given))),
+        "explain" => Ok(on_file(given, find_explain(given))),
+        "round" => {
+            let exact = is_set(given, EXACT);
+            Ok(find_text(given, FILE).map(|file| Request::Round { file, exact }))
+        }
+        "lp" => Ok(on_file(given, Some(FileCommand::Lp))),
+        "compare" => Ok(find_pair_request(given, PairCommand::Compare)),
+        "diff" => Ok(find_pair_request(given, PairCommand::Diff)),
+        "duplicates" => {
+            let all = is_set(given, ALL);
+            find_files_request(alloc, given, FilesCommand::Duplicates { all })
+        }
+        "sizes" => find_files_request(alloc, given, FilesCommand::Sizes),
+        _ => Ok(None),
+    }
+}
+
+fn find_normalise<'a>(given: &ArgMatches<'a>) -> Option<FileCommand<'a>>
+    ensures { option_map plain_command result ≡ limited Normalise (rows_in given.now) }
+{
+    Some(FileCommand::Normalise(find_limits(given)?))
+}
+
+fn find_explain<'a>(given: &ArgMatches<'a>) -> Option<FileCommand<'a>>
+    ensures { option_map plain_command result ≡ limited Explain (rows_in given.now) }
+{
+    Some(FileCommand::Explain(find_limits(given)?))
+}
+
 /// The command of the program. `--version` prints this version after the program's name, and `--help` these texts.
 pub(crate) fn cats_command<'a>(
     alloc: Global,
@@ -197,7 +252,7 @@ impl Subcommand {
             .after_help(texts.map_or("", |texts| texts.after));
         for argument in self.arguments {
             let arg = argument.arg(alloc);
-            let text = argument_text(texts, arg.get_id());
+            let text = argument_text(help, self.name, arg.get_id());
             command = command.arg(arg.help(text))?;
         }
         Ok(command)

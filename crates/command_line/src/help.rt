@@ -7,7 +7,8 @@ pub struct CommandHelp<'a> {
     pub name: &'a str,
     /// What it is for, in a line.
     pub about: &'a str,
-    /// The texts of its arguments, each behind the argument's name.
+    /// The texts of arguments, each behind the argument's name. Those of the program are of each subcommand that has no
+    /// other.
     pub arguments: &'a [(&'a str, &'a str)],
     /// What comes after its arguments.
     pub after: &'a str,
@@ -18,9 +19,14 @@ pub(crate) fn find_help<'a>(help: &[CommandHelp<'a>], name: &str) -> Option<Comm
     help.iter().find(|command| command.name == name).copied()
 }
 
-/// The text of an argument, which is empty if it is not there.
-pub(crate) fn argument_text<'a>(help: Option<CommandHelp<'a>>, name: &str) -> &'a str {
-    let Some(help) = help else { return "" };
-    let found = help.arguments.iter().find(|argument| argument.0 == name);
-    found.map_or("", |argument| argument.1)
+/// The text of an argument of a command: its own, or else the program's. It is empty if neither is there.
+pub(crate) fn argument_text<'a>(help: &[CommandHelp<'a>], command: &str, name: &str) -> &'a str {
+    let own = own_text(help, command, name);
+    own.or(own_text(help, "cats", name)).unwrap_or("")
+}
+
+fn own_text<'a>(help: &[CommandHelp<'a>], command: &str, name: &str) -> Option<&'a str> {
+    let texts = find_help(help, command)?.arguments;
+    let found = texts.iter().find(|argument| argument.0 == name)?;
+    Some(found.1)
 }

@@ -1,42 +1,24 @@
 //! Laws of the definitions: what the forms of each subcommand request. A path here does not begin with a hyphen; after
 //! `--` any path may.
 
-ghost use Rattle.std.specs.Prelude.{◌≡◌, ◌++◌, ℕ, List, [], ◌∷◌, None, Some, codes, false, if◌then◌else◌, option_map};
+ghost use Rattle.std.specs.Prelude.{◌≡◌, ◌++◌, ℕ, All, List, [], ◌∷◌, None, Some, codes, false, if◌then◌else◌, option_map};
 ghost use Rattle.std.specs.Prelude.{true};
-ghost use Rattle.command_line.specs.PlainRequests.{BidsIn, Check, Explain, Fault, GivenBids, Lp, Normalise, OnFile};
-ghost use Rattle.command_line.specs.PlainRequests.{OnPair, PlainRequest, Revenue, Round, Show, Value};
+ghost use Rattle.command_line.specs.PlainRequests.{BidsIn, Check, Explain, Normalise, OnFile, OnPair, PlainRequest};
+ghost use Rattle.command_line.specs.PlainRequests.{Revenue, Round, Value};
 ghost use Rattle.clap.specs.ValueTests.{is_unsigned_in};
 ghost use Rattle.command_line.specs.Subcommands.{begins_with_sign, number_up_to, usual_limits};
-ghost use Rattle.command_line.specs.Requests.{IsNoRequestOf, begins_with_hyphen, is_no_memory, request_of};
+ghost use Rattle.command_line.specs.Requests.{IsNoRequestOf, begins_with_hyphen, is_no_memory, on_one_or_two, on_two};
+ghost use Rattle.command_line.specs.Requests.{one_file, request_of, request_with, two_files};
 ghost use Rattle.command_line.specs.declared.request.NoRequest.{NoRequest};
-ghost use Rattle.command_line.specs.declared.request.PairCommand.TheVariants.{Compare, Diff};
+ghost use Rattle.command_line.specs.declared.request.PairCommand.TheVariants.{Compare};
 ghost use Rattle.command_line.specs.declared.request.Prices.TheVariants.{AsWritten, Rounded, RoundedExactly};
 
-/// A subcommand with one path.
+/// Each subcommand that needs a file, with one path. `--exact` is the flag of `round` alone.
 pub fn one_path()
-    ensures check { (program path : List ℕ) → begins_with_hyphen path ≡ false
-        → request_of (program ∷ codes "check" ∷ path ∷ []) ≡ Some (OnFile path AsWritten Check) }
-    ensures fault { (program path : List ℕ) → begins_with_hyphen path ≡ false
-        → request_of (program ∷ codes "fault" ∷ path ∷ []) ≡ Some (Fault path) }
-    ensures show { (program path : List ℕ) → begins_with_hyphen path ≡ false
-        → request_of (program ∷ codes "show" ∷ path ∷ []) ≡ Some (OnFile path AsWritten Show) }
-    ensures normalise { (program path : List ℕ) → begins_with_hyphen path ≡ false
-        → request_of (program ∷ codes "normalise" ∷ path ∷ [])
-        ≡ Some (OnFile path AsWritten (Normalise (usual_limits false))) }
-    ensures explain { (program path : List ℕ) → begins_with_hyphen path ≡ false
-        → request_of (program ∷ codes "explain" ∷ path ∷ [])
-        ≡ Some (OnFile path AsWritten (Explain (usual_limits true))) }
-    ensures value { (program path : List ℕ) → begins_with_hyphen path ≡ false
-        → request_of (program ∷ codes "value" ∷ path ∷ [])
-        ≡ Some (OnFile path AsWritten (Value [] (usual_limits false))) }
-    ensures round { (program path : List ℕ) → begins_with_hyphen path ≡ false
-        → request_of (program ∷ codes "round" ∷ path ∷ []) ≡ Some (Round path false) }
+    ensures each { (program path : List ℕ) → begins_with_hyphen path ≡ false
+        → All (λ s. request_of (program ∷ s.name ∷ path ∷ []) ≡ request_with s (one_file path)) on_one_or_two }
     ensures exact { (program path : List ℕ) → begins_with_hyphen path ≡ false
         → request_of (program ∷ codes "round" ∷ codes "--exact" ∷ path ∷ []) ≡ Some (Round path true) }
-    ensures revenue { (program path : List ℕ) → begins_with_hyphen path ≡ false
-        → request_of (program ∷ codes "revenue" ∷ path ∷ []) ≡ Some (OnFile path AsWritten (Revenue (GivenBids []))) }
-    ensures lp { (program path : List ℕ) → begins_with_hyphen path ≡ false
-        → request_of (program ∷ codes "lp" ∷ path ∷ []) ≡ Some (OnFile path AsWritten Lp) }
 {}
 
 /// Any path, after `--`.
@@ -47,14 +29,10 @@ pub fn path_after_hyphens()
         ≡ Some (OnFile path AsWritten Check) }
 {}
 
-/// A subcommand with two paths, in their order.
+/// Each subcommand with two paths, in their order.
 pub fn two_paths()
-    ensures compare { (program first second : List ℕ) → begins_with_hyphen first ≡ false → begins_with_hyphen second ≡ false
-        → request_of (program ∷ codes "compare" ∷ first ∷ second ∷ [])
-        ≡ Some (OnPair first second AsWritten Compare (usual_limits false)) }
-    ensures diff { (program first second : List ℕ) → begins_with_hyphen first ≡ false → begins_with_hyphen second ≡ false
-        → request_of (program ∷ codes "diff" ∷ first ∷ second ∷ [])
-        ≡ Some (OnPair first second AsWritten Diff (usual_limits true)) }
+    ensures { (program first second : List ℕ) → begins_with_hyphen first ≡ false → begins_with_hyphen second ≡ false
+        → All (λ s. request_of (program ∷ s.name ∷ first ∷ second ∷ []) ≡ request_with s (two_files first second)) on_two }
 {}
 
 /// The numbers of bids are in the file at any path that follows `--bids=`.

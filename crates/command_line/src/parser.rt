@@ -6,19 +6,18 @@ ghost use Rattle.std.specs.Result.{result_ok};
 ghost use Rattle.clap.specs.Faults.{fault_of};
 ghost use Rattle.clap.specs.Words.{HasKind, all_of, first_of, kind_of};
 ghost use Rattle.command_line.specs.Internal.Matches.{IsAnswerTo, rows_in};
-ghost use Rattle.command_line.specs.PlainRequests.{Explain, Normalise, plain_bids, plain_command};
-ghost use Rattle.command_line.specs.PlainRequests.{plain_paths, plain_request};
+ghost use Rattle.command_line.specs.PlainRequests.{plain_bids, plain_command, plain_paths, plain_request};
 ghost use Rattle.command_line.specs.Requests.{IsNoRequestOf, misuse_in, misuse_of, request_from};
 ghost use Rattle.command_line.specs.Requests.{request_of, texts_of};
 ghost use Rattle.command_line.specs.Subcommands.{begins_with_sign, bid_numbers_in, bids_in, cats, goods_in};
 ghost use Rattle.command_line.specs.Subcommands.{has_both_bids, has_more_files, has_signed_number};
-ghost use Rattle.command_line.specs.Subcommands.{has_unbounded_total, is_bounded, is_set, is_signed, limited};
+ghost use Rattle.command_line.specs.Subcommands.{has_unbounded_total, is_bounded, is_set, is_signed};
 ghost use Rattle.command_line.specs.Subcommands.{limits_in, number_in, on_file, on_files, on_pair, paths_in, prices_in};
 ghost use Rattle.command_line.specs.Subcommands.{valued};
 
 use crate::commands::{
-    ALL, BID, BIDS, BOUND, EXACT, FILE, FILES0_FROM, GOOD, MORE_FILES, NULL, PROGRESS, ROUND,
-    ROUND_EXACT, SECOND_FILE, STEPS, TOTAL_STEPS, cats_command,
+    BID, BIDS, BOUND, FILE, FILES0_FROM, GOOD, MORE_FILES, NULL, PROGRESS, ROUND, ROUND_EXACT,
+    SECOND_FILE, STEPS, TOTAL_STEPS, cats_command, find_named_request,
 };
 use crate::goods::goods_of_words;
 use crate::help::CommandHelp;
@@ -125,43 +124,11 @@ fn misuse(alloc: Global, given: &ArgMatches<'_>) -> Result<Misuse, AllocError>
     })
 }
 
-/// The request of a subcommand, by the matches of its own arguments.
-fn find_named_request<'a>(
-    alloc: Global,
-    name: &str,
-    given: &ArgMatches<'a>,
-) -> Result<Option<Request<'a>>, AllocError>
-    ensures { IfOk result (λ found. option_map plain_request found ≡ request_from name.now (rows_in given.now)) }
-{
-    if has_signed_number(given) || has_more_files(given) || has_both_bids(given) {
-        return Ok(None);
-    }
-    match name {
-        "check" => Ok(on_file(given, Some(FileCommand::Check))),
-        "fault" => Ok(find_text(given, FILE).map(|file| Request::Fault { file })),
-        "show" => Ok(on_file(given, Some(FileCommand::Show))),
-        "value" => Ok(on_file(given, find_value(alloc, given)?)),
-        "revenue" => Ok(on_file(given, find_bids(alloc, given)?.map(FileCommand::Revenue))),
-        "normalise" => Ok(on_file(given, find_normalise(given))),
-        "explain" => Ok(on_file(given, find_explain(given))),
-        "round" => {
-            let exact = is_set(given, EXACT);
-            Ok(find_text(given, FILE).map(|file| Request::Round { file, exact }))
-        }
-        "lp" => Ok(on_file(given, Some(FileCommand::Lp))),
-        "compare" => Ok(find_pair_request(given, PairCommand::Compare)),
-        "diff" => Ok(find_pair_request(given, PairCommand::Diff)),
-        "duplicates" => {
-            let all = is_set(given, ALL);
-            find_files_request(alloc, given, FilesCommand::Duplicates { all })
-        }
-        "sizes" => find_files_request(alloc, given, FilesCommand::Sizes),
-        _ => Ok(None),
-    }
-}
-
 /// The request of a command on one file. There is no command if its own arguments are wrong.
-fn on_file<'a>(given: &ArgMatches<'a>, command: Option<FileCommand<'a>>) -> Option<Request<'a>>
+pub(crate) fn on_file<'a>(
+    given: &ArgMatches<'a>,
+    command: Option<FileCommand<'a>>,
+) -> Option<Request<'a>>
     ensures { option_map plain_request result
         ≡ on_file (λ rows. option_map plain_command command.entry) (rows_in given.now) }
 {
@@ -187,7 +154,7 @@ fn find_prices(given: &ArgMatches<'_>) -> Prices
     }
 }
 
-fn find_value<'a>(
+pub(crate) fn find_value<'a>(
     alloc: Global,
     given: &ArgMatches<'a>,
 ) -> Result<Option<FileCommand<'a>>, AllocError>
@@ -209,7 +176,10 @@ fn find_goods(alloc: Global, given: &ArgMatches<'_>) -> Result<Option<Vec<u16>>,
 }
 
 /// The bids of a list, or else those that words name.
-fn find_bids<'a>(alloc: Global, given: &ArgMatches<'a>) -> Result<Option<NamedBids<'a>>, AllocError>
+pub(crate) fn find_bids<'a>(
+    alloc: Global,
+    given: &ArgMatches<'a>,
+) -> Result<Option<NamedBids<'a>>, AllocError>
     ensures { IfOk result (λ found. option_map plain_bids found ≡ bids_in (rows_in given.now)) }
 {
     if let Some(list) = find_text(given, BIDS) {
@@ -235,19 +205,10 @@ fn find_numbers(alloc: Global, given: &ArgMatches<'_>) -> Result<Option<Vec<u32>
     Ok(Some(numbers))
 }
 
-fn find_normalise<'a>(given: &ArgMatches<'a>) -> Option<FileCommand<'a>>
-    ensures { option_map plain_command result ≡ limited Normalise (rows_in given.now) }
-{
-    Some(FileCommand::Normalise(find_limits(given)?))
-}
-
-fn find_explain<'a>(given: &ArgMatches<'a>) -> Option<FileCommand<'a>>
-    ensures { option_map plain_command result ≡ limited Explain (rows_in given.now) }
-{
-    Some(FileCommand::Explain(find_limits(given)?))
-}
-
-fn find_pair_request<'a>(given: &ArgMatches<'a>, command: PairCommand) -> Option<Request<'a>>
+pub(crate) fn find_pair_request<'a>(
+    given: &ArgMatches<'a>,
+    command: PairCommand,
+) -> Option<Request<'a>>
     ensures { option_map plain_request result ≡ on_pair command (rows_in given.now) }
 {
     let first = find_text(given, FILE)?;
@@ -262,7 +223,7 @@ fn find_pair_request<'a>(given: &ArgMatches<'a>, command: PairCommand) -> Option
     }))
 }
 
-fn find_files_request<'a>(
+pub(crate) fn find_files_request<'a>(
     alloc: Global,
     given: &ArgMatches<'a>,
     command: FilesCommand,
@@ -315,13 +276,13 @@ fn find_texts<'b, 'a>(given: &'b ArgMatches<'a>, id: &str) -> Option<&'b [&'a st
 }
 
 /// The value of an option, or the path of a file.
-fn find_text<'a>(given: &ArgMatches<'a>, id: &str) -> Option<&'a str>
+pub(crate) fn find_text<'a>(given: &ArgMatches<'a>, id: &str) -> Option<&'a str>
     ensures { option_map (λ text. text.now) result ≡ first_of id.now (rows_in given.now) }
 {
     given.get_str(id)
 }
 
-fn find_limits(given: &ArgMatches<'_>) -> Option<Limits>
+pub(crate) fn find_limits(given: &ArgMatches<'_>) -> Option<Limits>
     ensures { result ≡ limits_in (rows_in given.now) }
 {
     if has_unbounded_total(given) {
@@ -336,7 +297,7 @@ fn find_limits(given: &ArgMatches<'_>) -> Option<Limits>
 }
 
 /// Whether the line has both a list of bids and words that name bids.
-fn has_both_bids(given: &ArgMatches<'_>) -> bool
+pub(crate) fn has_both_bids(given: &ArgMatches<'_>) -> bool
     ensures { result ≡ has_both_bids (rows_in given.now) }
 {
     find_text(given, BIDS).is_some() && find_texts(given, BID).is_some()
@@ -367,14 +328,14 @@ fn find_number(given: &ArgMatches<'_>, id: &str) -> Option<u64>
 }
 
 /// Whether the line has more files than its subcommand takes.
-fn has_more_files(given: &ArgMatches<'_>) -> bool
+pub(crate) fn has_more_files(given: &ArgMatches<'_>) -> bool
     ensures { result ≡ has_more_files (rows_in given.now) }
 {
     find_text(given, MORE_FILES).is_some()
 }
 
 /// Whether a number of the line begins with a sign. `clap` takes `+5`, and `-0`.
-fn has_signed_number(given: &ArgMatches<'_>) -> bool
+pub(crate) fn has_signed_number(given: &ArgMatches<'_>) -> bool
     ensures { result ≡ has_signed_number (rows_in given.now) }
 {
     is_signed(given, STEPS)
@@ -406,7 +367,7 @@ pub(crate) fn begins_with_sign(text: &str) -> bool
 }
 
 /// Whether a flag was given.
-fn is_set(given: &ArgMatches<'_>, flag: &str) -> bool
+pub(crate) fn is_set(given: &ArgMatches<'_>, flag: &str) -> bool
     ensures { result ≡ is_set flag.now (rows_in given.now) }
 {
     match find_text(given, flag) {

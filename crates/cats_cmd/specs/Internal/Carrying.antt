@@ -4,11 +4,8 @@ use Rattle.bid_file.specs.Files.{PlainFile}
 use Rattle.cats_text.specs.declared.stream.Watched.{Watched}
 use Rattle.canon.specs.declared.which.Which.{Which}
 use Rattle.canon.specs.declared.which.Which.TheVariants.{Only}
-use Rattle.commands.specs.Outcomes.{Outcome, check_outcome, explain_outcome, lp_outcome, normalise_outcome}
-use Rattle.commands.specs.Outcomes.{revenue_outcome, show_outcome, value_outcome_by}
+use Rattle.commands.specs.Outcomes.{Outcome}
 use Rattle.command_line.specs.declared.request.Prices.{Prices}
-use Rattle.cats_cmd.specs.declared.requests.FileRun.{FileRun}
-use Rattle.cats_cmd.specs.declared.requests.FileRun.TheVariants as run
 use Rattle.command_line.specs.PlainRequests.{PlainFiles}
 use Rattle.command_line.specs.declared.request.FilesCommand.{FilesCommand}
 use Rattle.command_line.specs.declared.request.FilesCommand.TheVariants.{Duplicates, Sizes}
@@ -49,16 +46,6 @@ pub record FailsToOpenPair {S H : Type 0} (content_of : S → H) (opened : S →
   pub is : error ≡ CannotOpen which
   pub refused : CannotOpenPair may_refuse first second which
   pub opens : Opens content_of opened old new (first ∷ second ∷ []) ⊎ Opens content_of opened old new (first ∷ [])
-
--- what a run makes of its file
-abbrev pub outcome_of_run : FileRun → PlainFile → Outcome
-outcome_of_run run.Check = check_outcome
-outcome_of_run run.Show = show_outcome
-outcome_of_run (run.Value goods options) = value_outcome_by goods.now options
-outcome_of_run (run.Revenue bids) = revenue_outcome bids.now
-outcome_of_run (run.Normalise options) = normalise_outcome options
-outcome_of_run (run.Explain limits) = explain_outcome (bounded_by limits.now)
-outcome_of_run run.Lp = lp_outcome
 
 -- the run on a stream that was opened at the path, or none was
 abbrev pub RunsAtOrNot : {F W E : Type 0} → (List ℕ → F → Type 0) → (List ℕ → Unopened → Type 0)

@@ -6,7 +6,7 @@ use Rattle.cats_text.specs.declared.read_fault.ReadFault.{ReadFault}
 use Rattle.bid_file.specs.Files.{PlainFile}
 use Rattle.command_line.specs.declared.request.Prices.{Prices}
 use Rattle.valuation.specs.declared.search_options.SearchOptions.{SearchOptions}
-use Rattle.canon.specs.FirstPlaces.{IsIndexOf, TextIndex}
+use Rattle.canon.specs.FirstNumbers.{IsIndexOf, TextIndex}
 use Rattle.canon.specs.Canonical.{canonical_text}
 use Rattle.canon.specs.Sameness.{AreSameFiles}
 use Rattle.canon.specs.Unsearched.{AreAlike, unsearched_text}

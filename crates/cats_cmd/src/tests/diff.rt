@@ -4,7 +4,8 @@ use super::compare::{
     APART, EQUAL_BIDDERS, FIVE, FOUR, HEAVY, LARGER_BID, NOTHING, REFUSALS, SINGLES, TOGETHER,
 };
 use super::streams::{RunAnswer, answer_of, expect, expect_cut_off, reader, writer};
-use crate::two_files::run_diff;
+use crate::two_files::run_on_pair;
+use commands::Comparison;
 use std::alloc::Global;
 use std::process::Abort;
 use std::test::Fail;
@@ -25,8 +26,8 @@ fn differed(
     let mut left = reader(first.as_bytes(), false);
     let mut right = reader(second.as_bytes(), false);
     let mut out = writer(alloc, 4096, capacity);
-    let options = SearchOptions::bounded(limit, None);
-    let answer = run_diff(alloc, &mut left, &mut right, options, &mut out);
+    let comparison = Comparison::Diff(SearchOptions::bounded(limit, None));
+    let answer = run_on_pair(alloc, &mut left, &mut right, &comparison, &mut out);
     answer_of(alloc, answer, out)
 }
 

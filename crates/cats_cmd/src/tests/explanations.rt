@@ -2,7 +2,8 @@
 
 use super::normalise::bids_on_one_good;
 use super::streams::{RunAnswer, answer_of, expect, reader, writer};
-use crate::one_file::run_explain;
+use crate::one_file::run_on_file;
+use commands::Command;
 use std::alloc::Global;
 use std::process::Abort;
 use std::test::Fail;
@@ -15,7 +16,11 @@ const CAPACITY: usize = 8_388_608;
 fn explained(alloc: Global, text: &[u8], fails: bool, limit: u64) -> Result<RunAnswer, Fail> {
     let mut input = reader(text, fails);
     let mut out = writer(alloc, 4096, CAPACITY);
-    let answer = run_explain(alloc, &mut input, limit, None, &mut out);
+    let command = Command::Explain {
+        steps: limit,
+        total: None,
+    };
+    let answer = run_on_file(alloc, &mut input, &command, &mut out);
     answer_of(alloc, answer, out)
 }
 

@@ -1,7 +1,8 @@
 //! Command lines on new files.
 
+use super::each_command::{CANONICAL, COMMANDS, prefixes};
 use super::program::{CAPACITY, run};
-use super::streams::expect;
+use super::streams::{expect, expect_cut_off};
 use std::process::Abort;
 use std::test::Fail;
 use std::{fs, process};
@@ -84,67 +85,7 @@ static SHOWN_ROWS: [Row<'static>; 2] = [
 
 const MISSING: &str = "goods 2\nbids 0\n";
 
-static MISSING_ROWS: [Row<'static>; 15] = [
-    (
-        "cats check FILE",
-        CAPACITY,
-        CAPACITY,
-        2,
-        "",
-        "line 3: Missing\n",
-    ),
-    ("cats check FILE", CAPACITY, 0, 2, "", ""),
-    (
-        "cats show FILE",
-        CAPACITY,
-        CAPACITY,
-        2,
-        "",
-        "line 3: Missing\n",
-    ),
-    ("cats show FILE", CAPACITY, 0, 2, "", ""),
-    (
-        "cats value FILE",
-        CAPACITY,
-        CAPACITY,
-        2,
-        "",
-        "line 3: Missing\n",
-    ),
-    ("cats value FILE", CAPACITY, 0, 2, "", ""),
-    (
-        "cats normalise FILE",
-        CAPACITY,
-        CAPACITY,
-        2,
-        "",
-        "line 3: Missing\n",
-    ),
-    ("cats normalise FILE", CAPACITY, 0, 2, "", ""),
-    (
-        "cats explain FILE",
-        CAPACITY,
-        CAPACITY,
-        2,
-        "",
-        "line 3: Missing\n",
-    ),
-    (
-        "cats lp FILE",
-        CAPACITY,
-        CAPACITY,
-        2,
-        "",
-        "line 3: Missing\n",
-    ),
-    (
-        "cats compare FILE FILE",
-        CAPACITY,
-        CAPACITY,
-        2,
-        "",
-        "first: line 3: Missing\n",
-    ),
+static MISSING_ROWS: [Row<'static>; 3] = [
     // both files are opened before either is read
     (
         "cats compare FILE /tmp/cats_cmd_no_such_folder/a.cats",
@@ -161,14 +102,6 @@ static MISSING_ROWS: [Row<'static>; 15] = [
         5,
         "",
         "first: cannot open\n",
-    ),
-    (
-        "cats diff FILE FILE",
-        CAPACITY,
-        CAPACITY,
-        2,
-        "",
-        "first: line 3: Missing\n",
     ),
     (
         "cats diff FILE /tmp/cats_cmd_no_such_folder/a.cats",
@@ -299,26 +232,7 @@ static VALUED_ROWS: [Row<'static>; 14] = [
 
 const LARGER_BID: &str = "goods 2\nbids 3\ndummy 0\n0 3 0 #\n1 4 1 #\n2 7 0 1 #\n";
 
-const LARGER_BID_TEXT: &str = "goods 2\nbids 2\ndummy 0\n0\t3\t0\t#\n1\t4\t1\t#\n";
-
-static LARGER_BID_ROWS: [Row<'static>; 18] = [
-    (
-        "cats normalise FILE",
-        CAPACITY,
-        CAPACITY,
-        0,
-        LARGER_BID_TEXT,
-        "",
-    ),
-    (
-        "cats explain FILE",
-        CAPACITY,
-        CAPACITY,
-        0,
-        "bid\tdummy\tprice\tgoods\treason\tkept\tby\n\
-        0\t\t3\t0\tkeep\t0\t\n1\t\t4\t1\tkeep\t1\t\n2\t\t7\t0,1\tpacking\t\t0,1\n",
-        "",
-    ),
+static LARGER_BID_ROWS: [Row<'static>; 10] = [
     (
         "cats explain FILE --steps=2",
         CAPACITY,
@@ -326,39 +240,6 @@ static LARGER_BID_ROWS: [Row<'static>; 18] = [
         3,
         "",
         "step limit of 2 at bid 2: 0,1\n",
-    ),
-    (
-        "cats explain FILE",
-        8,
-        CAPACITY,
-        5,
-        "bid\tdumm",
-        "output failed after 8 bytes\n",
-    ),
-    (
-        "cats lp FILE",
-        CAPACITY,
-        CAPACITY,
-        0,
-        "Maximize\n revenue:\n + 3 x0\n + 4 x1\n + 7 x2\nSubject To\n g0:\n + x0\n + x2\n <= 1\n\
-        \x20g1:\n + x1\n + x2\n <= 1\nBinary\n x0\n x1\n x2\nEnd\n",
-        "",
-    ),
-    (
-        "cats lp FILE",
-        9,
-        CAPACITY,
-        5,
-        "Maximize\n",
-        "output failed after 9 bytes\n",
-    ),
-    (
-        "cats compare FILE FILE",
-        CAPACITY,
-        CAPACITY,
-        0,
-        "same\n",
-        "",
     ),
     (
         "cats compare FILE OTHER",
@@ -393,14 +274,6 @@ static LARGER_BID_ROWS: [Row<'static>; 18] = [
         "first: step limit at 0,1\n",
     ),
     (
-        "cats diff FILE FILE",
-        CAPACITY,
-        CAPACITY,
-        0,
-        "kind\tgoods\tleft\tright\tleft_dummy\tright_dummy\tleft_bid\tright_bid\n",
-        "",
-    ),
-    (
         "cats diff FILE OTHER",
         CAPACITY,
         CAPACITY,
@@ -431,7 +304,7 @@ static LARGER_BID_ROWS: [Row<'static>; 18] = [
         CAPACITY,
         CAPACITY,
         0,
-        LARGER_BID_TEXT,
+        CANONICAL,
         "",
     ),
     (
@@ -441,14 +314,6 @@ static LARGER_BID_ROWS: [Row<'static>; 18] = [
         3,
         "",
         "step limit at 0,1\n",
-    ),
-    (
-        "cats normalise FILE",
-        8,
-        CAPACITY,
-        5,
-        "goods 2\n",
-        "output failed after 8 bytes\n",
     ),
 ];
 
@@ -477,6 +342,45 @@ static SINGLES_ROWS: [Row<'static>; 2] = [
         "step limit at 0,1,2,3,4,5,6,7,8,9,10,11,12,13,14,15,16,17,18,19\n",
     ),
 ];
+
+/// What a command answers of a file as `TEXT` is, with much capacity and with little, and of one that ends too soon.
+fn answers_of_each(
+    rt: &HostRuntime,
+    abort: &(impl Abort + AllocGlobal),
+    (name, words, sent, _): (&str, &str, &str, &str),
+    path: &str,
+    missing: &str,
+) -> Result<(), Fail> {
+    let line = format!(in rt.alloc(); "cats {name} {words}")?;
+    let line = line.as_str();
+    let whole = run(rt, line, path, path, CAPACITY, CAPACITY)?;
+    expect(abort, &whole, 0, sent, "");
+    for capacity in [0, 4, 8, 9] {
+        if capacity < sent.len() {
+            let answer = run(rt, line, path, path, capacity, CAPACITY)?;
+            expect_cut_off(abort, &answer, sent, capacity)?;
+        }
+    }
+    let prefix = prefixes(words).first().copied().unwrap_or("");
+    let fault = format!(in rt.alloc(); "{prefix}line 3: Missing\n")?;
+    for (err_capacity, reported) in [(CAPACITY, fault.as_str()), (0, "")] {
+        let refused = run(rt, line, missing, missing, CAPACITY, err_capacity)?;
+        expect(abort, &refused, 2, "", reported);
+    }
+    Ok(())
+}
+
+#[test]
+fn each_command(rt: HostRuntime) -> Result<(), Fail> {
+    let path = new_file(&rt, "each", LARGER_BID)?;
+    let missing = new_file(&rt, "missing", MISSING)?;
+    for command in &COMMANDS {
+        answers_of_each(&rt, &rt, *command, path.as_str(), missing.as_str())?;
+    }
+    fs::remove_file(&rt, path.as_str())?;
+    fs::remove_file(&rt, missing.as_str())?;
+    Ok(())
+}
 
 #[test]
 fn files(rt: HostRuntime) -> Result<(), Fail> {

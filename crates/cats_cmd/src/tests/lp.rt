@@ -1,7 +1,8 @@
 //! `cats lp`: the winner determination problems of files.
 
 use super::streams::{RunAnswer, answer_of, expect, reader, writer};
-use crate::one_file::run_lp;
+use crate::one_file::run_on_file;
+use commands::Command;
 use std::alloc::Global;
 use std::test::Fail;
 
@@ -9,7 +10,7 @@ use std::test::Fail;
 fn printed(alloc: Global, text: &[u8], fails: bool) -> Result<RunAnswer, Fail> {
     let mut input = reader(text, fails);
     let mut out = writer(alloc, 7, 65_536);
-    let answer = run_lp(alloc, &mut input, &mut out);
+    let answer = run_on_file(alloc, &mut input, &Command::Lp, &mut out);
     answer_of(alloc, answer, out)
 }
 

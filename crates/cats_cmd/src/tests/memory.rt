@@ -2,13 +2,15 @@
 
 ghost use Rattle.std.specs.Borrow.{Bor};
 ghost use Rattle.std.specs.List.{Any};
-ghost use Rattle.std.specs.Prelude.{◌≡◌, ◌⊎◌, ℕ, List, None};
+ghost use Rattle.std.specs.Prelude.{◌≡◌, ◌⊎◌, ℕ, List, None, false};
+ghost use Rattle.cats_text.specs.Streams.{has_failed};
 ghost use Rattle.cats_cmd.specs.declared.source.Unopened.{Unopened};
 ghost use Rattle.cats_cmd.specs.declared.source.Unopened.TheVariants.{NoSuchFile};
 
-use super::streams::{RunAnswer, expect, text_taken, writer};
+use super::streams::{RunAnswer, StepWriter, expect, text_taken, writer};
 use crate::source::{Source, Unopened};
 use crate::{Process, run_program};
+use cats_text::Watched;
 use std::alloc::{Alloc, AllocError, AllocGlobal, Global};
 use std::process::Abort;
 use std::test::Fail;
@@ -143,20 +145,31 @@ pub(super) fn judge_rows(
     let alloc = rt.alloc();
     let mut source = FilesInMemory::new(alloc, files);
     for (words, status, sent, reported) in rows {
-        let mut out = writer(alloc, 4096, 4096);
-        let mut err = writer(alloc, 4096, 4096);
-        let process = Process {
-            version: "1.2 (test)",
-            help: &[],
-            terminal,
-        };
-        let status_answered = run_program(&mut source, words, &mut out, &mut err, &process);
-        let answer = RunAnswer {
-            status: status_answered,
-            sent: text_taken(out)?,
-            line: text_taken(err)?,
-        };
+        let answer = answer_on(&mut source, words, writer(alloc, 4096, 4096), terminal)?;
         expect(rt, &answer, *status, sent, reported);
     }
     Ok(())
+}
+
+/// What a command line of these words answers on the files of a source.
+pub(super) fn answer_on<S: Source + AllocGlobal>(
+    source: &mut S,
+    words: &[&str],
+    mut out: Watched<StepWriter>,
+    terminal: bool,
+) -> Result<RunAnswer, Fail>
+    requires { has_failed out ≡ false }
+{
+    let mut err = writer(source.alloc(), 4096, 4096);
+    let process = Process {
+        version: "1.2 (test)",
+        help: &[],
+        terminal,
+    };
+    let status = run_program(source, words, &mut out, &mut err, &process);
+    Ok(RunAnswer {
+        status,
+        sent: text_taken(out)?,
+        line: text_taken(err)?,
+    })
 }

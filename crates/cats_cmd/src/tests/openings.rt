@@ -1,8 +1,8 @@
 //! Each path of a command line is opened once.
 
-use super::memory::{FILES, FilesInMemory};
+use super::each_command::{COMMANDS, prefixes, words_of};
+use super::memory::{FILES, FilesInMemory, answer_on};
 use super::streams::writer;
-use crate::{Process, run_program};
 use std::process::Abort;
 use std::test::Fail;
 
@@ -17,21 +17,25 @@ static OPENINGS: [(&[&str], usize); 7] = [
     (&["cats", "duplicates", "--files0-from", "list"], 4),
 ];
 
+/// That a command line makes so many openings.
+fn opens(rt: &(impl Abort + AllocGlobal), words: &[&str], openings: usize) -> Result<(), Fail> {
+    let alloc = rt.alloc();
+    let mut source = FilesInMemory::new(alloc, &FILES);
+    let _ = answer_on(&mut source, words, writer(alloc, 4096, 4096), false)?;
+    let made = source.openings;
+    assert!(rt; made == openings, "of {words:?}: {made}");
+    Ok(())
+}
+
 #[test]
 fn each_path_is_opened_once(rt: HostRuntime) -> Result<(), Fail> {
-    let alloc = rt.alloc();
-    let process = Process {
-        version: "",
-        help: &[],
-        terminal: false,
-    };
     for (words, openings) in &OPENINGS {
-        let mut source = FilesInMemory::new(alloc, &FILES);
-        let mut out = writer(alloc, 4096, 4096);
-        let mut err = writer(alloc, 4096, 4096);
-        let _ = run_program(&mut source, words, &mut out, &mut err, &process);
-        let made = source.openings;
-        assert!(rt; made == *openings, "of {words:?}: {made}");
+        opens(&rt, words, *openings)?;
+    }
+    for (name, words, _, _) in &COMMANDS {
+        let line = format!(in rt.alloc(); "cats {name} {words}")?;
+        let line = words_of(rt.alloc(), line.as_str(), "sum", "one")?;
+        opens(&rt, line.as_slice(), prefixes(words).len())?;
     }
     Ok(())
 }

@@ -1,5 +1,6 @@
 //! The program on files of the system, by command lines.
 
+use super::each_command::{COMMANDS, words_of};
 use super::streams::{RunAnswer, expect, text_taken, writer};
 use crate::run_cats;
 use std::process::Abort;
@@ -33,32 +34,20 @@ pub(super) fn run(
     out_capacity: usize,
     err_capacity: usize,
 ) -> Result<RunAnswer, Fail> {
-    let mut words = Vec::new(rt.alloc());
-    for word in line.split(' ') {
-        words.push(match word {
-            "FILE" => path,
-            "OTHER" => other,
-            _ => word,
-        })?;
-    }
+    let words = words_of(rt.alloc(), line, path, other)?;
     run_words(rt, words.as_slice(), out_capacity, err_capacity)
 }
 
 pub(super) const CAPACITY: usize = 65_536;
 
 /// Command lines that are no request.
-static WRONG_LINES: [&str; 41] = [
+static WRONG_LINES: [&str; 22] = [
     "cats",
-    "cats check",
-    "cats show",
-    "cats check a b",
-    "cats show a b",
     "cats Check a",
     "cats chek a",
     "cats check --steps 5 a",
     "cats show --steps 5 a",
     "cats check --all a",
-    "cats value",
     "cats value --steps 0 a",
     "cats value --steps 1000000001 a",
     "cats value --steps -1 a",
@@ -68,23 +57,9 @@ static WRONG_LINES: [&str; 41] = [
     "cats value a 65536",
     "cats value a -1",
     "cats value a 0 b",
-    "cats normalise",
-    "cats normalise --steps 0 a",
-    "cats normalise a b",
-    "cats explain",
-    "cats explain --steps 0 a",
-    "cats explain a b",
-    "cats lp",
     "cats lp --steps 5 a",
-    "cats lp a b",
-    "cats compare",
     "cats compare a",
-    "cats compare a b c",
-    "cats compare --steps 0 a b",
-    "cats diff",
     "cats diff a",
-    "cats diff a b c",
-    "cats diff --steps 0 a b",
     "cats duplicates",
     "cats sizes",
     "cats duplicates --steps 0 a b",
@@ -99,13 +74,28 @@ fn expect_reported(rt: &impl Abort, line: &str, answer: &RunAnswer, status: u8, 
     );
 }
 
+/// That a command line is wrong, and that it is reported why.
+fn expect_wrong(rt: &HostRuntime, abort: &impl Abort, line: &str) -> Result<(), Fail> {
+    for err_capacity in [CAPACITY, 3] {
+        let answer = run(rt, line, "a", "b", CAPACITY, err_capacity)?;
+        let reported = answer.sent.is_empty() && !answer.line.is_empty();
+        expect_reported(abort, line, &answer, 64, reported);
+    }
+    Ok(())
+}
+
 #[test]
 fn usage_faults(rt: HostRuntime) -> Result<(), Fail> {
     for line in &WRONG_LINES {
-        for err_capacity in [CAPACITY, 3] {
-            let answer = run(&rt, line, "", "", CAPACITY, err_capacity)?;
-            let reported = answer.sent.is_empty() && !answer.line.is_empty();
-            expect_reported(&rt, line, &answer, 64, reported);
+        expect_wrong(&rt, &rt, line)?;
+    }
+    for (name, words, _, _) in &COMMANDS {
+        for line in &[
+            format!(in rt.alloc(); "cats {name}")?,
+            format!(in rt.alloc(); "cats {name} --steps 0 {words}")?,
+            format!(in rt.alloc(); "cats {name} {words} c")?,
+        ] {
+            expect_wrong(&rt, &rt, line.as_str())?;
         }
     }
     assert!(rt; run_words(&rt, &[], CAPACITY, CAPACITY)?.status == 64);
@@ -113,33 +103,33 @@ fn usage_faults(rt: HostRuntime) -> Result<(), Fail> {
 }
 
 /// Command lines that name help.
-static HELP_LINES: [&str; 15] = [
+static HELP_LINES: [&str; 6] = [
     "cats --help",
     "cats -h",
     "cats help",
     "cats help check",
-    "cats check --help",
     "cats fault --help",
-    "cats show --help",
-    "cats value --help",
-    "cats revenue --help",
-    "cats normalise --help",
-    "cats explain --help",
-    "cats lp --help",
-    "cats compare --help",
-    "cats diff --help",
     "cats duplicates --help",
 ];
+
+/// That a command line prints help.
+fn expect_help(rt: &HostRuntime, abort: &impl Abort, line: &str) -> Result<(), Fail> {
+    let answer = run(rt, line, "", "", CAPACITY, CAPACITY)?;
+    let printed = answer.sent.as_str().contains("Usage: cats") && answer.line.is_empty();
+    expect_reported(abort, line, &answer, 0, printed);
+    let cut_off = run(rt, line, "", "", 3, CAPACITY)?;
+    expect_reported(abort, line, &cut_off, 5, true);
+    Ok(())
+}
 
 #[test]
 fn help(rt: HostRuntime) -> Result<(), Fail> {
     for line in &HELP_LINES {
-        let answer = run(&rt, line, "", "", CAPACITY, CAPACITY)?;
-        let text = answer.sent.as_str();
-        let reported = text.contains("Usage: cats");
-        expect_reported(&rt, line, &answer, 0, reported && answer.line.is_empty());
-        let cut_off = run(&rt, line, "", "", 3, CAPACITY)?;
-        expect_reported(&rt, line, &cut_off, 5, true);
+        expect_help(&rt, &rt, line)?;
+    }
+    for (name, _, _, _) in &COMMANDS {
+        let line = format!(in rt.alloc(); "cats {name} --help")?;
+        expect_help(&rt, &rt, line.as_str())?;
     }
     Ok(())
 }

@@ -1,7 +1,8 @@
 //! `cats revenue`: what bids bring as winners.
 
 use super::streams::{RunAnswer, answer_of, expect, reader, writer};
-use crate::one_file::run_revenue;
+use crate::one_file::run_on_file;
+use commands::Command;
 use std::alloc::Global;
 use std::test::Fail;
 
@@ -9,7 +10,7 @@ use std::test::Fail;
 fn judged(alloc: Global, text: &[u8], fails: bool, bids: &[u32]) -> Result<RunAnswer, Fail> {
     let mut input = reader(text, fails);
     let mut out = writer(alloc, 7, 4096);
-    let answer = run_revenue(alloc, &mut input, bids, &mut out);
+    let answer = run_on_file(alloc, &mut input, &Command::Revenue(bids), &mut out);
     answer_of(alloc, answer, out)
 }
 

@@ -1,17 +1,15 @@
 //! Commands on files whose prices are rounded.
 
-use super::memory::{Row, judge_rows};
+use super::each_command::{COMMANDS, FINE, prefixes, words_of};
+use super::memory::{FilesInMemory, Row, answer_on, judge_rows};
 use super::program::{CAPACITY, run};
-use super::streams::expect;
+use super::streams::{expect, writer};
+use std::process::Abort;
 use std::test::Fail;
 use std::{fs, process};
 
 static FILES: [(&str, &[u8]); 9] = [
-    // two prices are finer than a millionth, one of them halfway between two
-    (
-        "fine",
-        b"goods 2\nbids 3\ndummy 1\n0 0.0123456 0 #\n1 1e3 1 #\n2 2.0000005 0 1 2 #\n",
-    ),
+    ("fine", FINE),
     // the same auction, once both are rounded
     (
         "twin",
@@ -30,71 +28,7 @@ static FILES: [(&str, &[u8]); 9] = [
     ("words", b"0\nx\n"),
 ];
 
-/// What `show` and `normalise` print of `fine`, rounded.
-const SHOWN: &str =
-    "goods 2\nbids 3\ndummy 1\n0\t0.012346\t0\t#\n1\t1000\t1\t#\n2\t2\t0\t1\t2\t#\n";
-
-const DIFF_HEADER: &str =
-    "kind\tgoods\tleft\tright\tleft_dummy\tright_dummy\tleft_bid\tright_bid\n";
-
-static ROWS: [Row<'static>; 37] = [
-    (
-        &["cats", "check", "--round", "fine"],
-        0,
-        "goods 2 bids 3 dummy 1\n",
-        "fine: 2 prices rounded\n",
-    ),
-    (
-        &["cats", "show", "--round", "fine"],
-        0,
-        SHOWN,
-        "fine: 2 prices rounded\n",
-    ),
-    (
-        &["cats", "value", "--round", "fine", "0-1"],
-        0,
-        "or 1000.012346 0 1\nxor 2 2 2\n",
-        "fine: 2 prices rounded\n",
-    ),
-    (
-        &["cats", "revenue", "--round", "fine", "0", "1"],
-        0,
-        "revenue 1000.012346\n",
-        "fine: 2 prices rounded\n",
-    ),
-    (
-        &["cats", "normalise", "--round", "fine"],
-        0,
-        SHOWN,
-        "fine: 2 prices rounded\n",
-    ),
-    (
-        &["cats", "explain", "--round", "fine"],
-        0,
-        "bid\tdummy\tprice\tgoods\treason\tkept\tby\n\
-        0\t\t0.012346\t0\tkeep\t0\t\n1\t\t1000\t1\tkeep\t1\t\n2\t0\t2\t0,1\tkeep\t2\t\n",
-        "fine: 2 prices rounded\n",
-    ),
-    (
-        &["cats", "lp", "--round", "fine"],
-        0,
-        "Maximize\n revenue:\n + 0.012346 x0\n + 1000 x1\n + 2 x2\n\
-        Subject To\n g0:\n + x0\n + x2\n <= 1\n g1:\n + x1\n + x2\n <= 1\n\
-        Binary\n x0\n x1\n x2\nEnd\n",
-        "fine: 2 prices rounded\n",
-    ),
-    (
-        &["cats", "compare", "--round", "fine", "twin"],
-        0,
-        "same\n",
-        "fine: 2 prices rounded\ntwin: 1 price rounded\n",
-    ),
-    (
-        &["cats", "diff", "--round", "twin", "fine"],
-        0,
-        DIFF_HEADER,
-        "twin: 1 price rounded\nfine: 2 prices rounded\n",
-    ),
+static ROWS: [Row<'static>; 28] = [
     (
         &["cats", "duplicates", "--round", "fine", "sum", "twin"],
         0,
@@ -307,6 +241,41 @@ static TERMINAL_ROWS: [Row<'static>; 1] = [(
     "fine\ntwin\n",
     "fine: 2 prices rounded\n1 of 2\n\x1b[A\x1b[Ktwin: 1 price rounded\n2 of 2\n",
 )];
+
+/// What a command prints of rounded prices, and that it reports how many there were.
+fn rounds(
+    rt: &(impl Abort + AllocGlobal),
+    words: &[&str],
+    printed: &str,
+    reported: &str,
+) -> Result<(), Fail> {
+    let alloc = rt.alloc();
+    let mut source = FilesInMemory::new(alloc, &FILES);
+    let answer = answer_on(&mut source, words, writer(alloc, 4096, 4096), false)?;
+    expect(rt, &answer, 0, printed, reported);
+    Ok(())
+}
+
+#[test]
+fn each_command(rt: HostRuntime) -> Result<(), Fail> {
+    let alloc = rt.alloc();
+    let fine = "fine: 2 prices rounded\n";
+    let twin = "twin: 1 price rounded\n";
+    for (name, words, _, printed) in &COMMANDS {
+        let line = format!(in alloc; "cats {name} --round {words}")?;
+        let there = words_of(alloc, line.as_str(), "fine", "twin")?;
+        if prefixes(words).len() == 1 {
+            rounds(&rt, there.as_slice(), printed, fine)?;
+        } else {
+            let both = format!(in alloc; "{fine}{twin}")?;
+            rounds(&rt, there.as_slice(), printed, both.as_str())?;
+            let back = words_of(alloc, line.as_str(), "twin", "fine")?;
+            let both = format!(in alloc; "{twin}{fine}")?;
+            rounds(&rt, back.as_slice(), printed, both.as_str())?;
+        }
+    }
+    Ok(())
+}
 
 #[test]
 fn files_with_rounded_prices(rt: HostRuntime) -> Result<(), Fail> {

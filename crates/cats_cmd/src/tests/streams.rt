@@ -12,11 +12,21 @@ use std::process::Abort;
 use std::test::Fail;
 
 /// Gives at most `step` bytes of its text a call, and in place of its end it fails, if it is to.
-#[derive(Drop)]
+#[derive(Clone, Copy)]
 pub struct StepReader<'a> {
     text: &'a [u8],
     step: usize,
     failure: Option<ErrorKind>,
+}
+
+impl<'a> StepReader<'a> {
+    pub fn new(text: &'a [u8], step: usize, failure: Option<ErrorKind>) -> StepReader<'a> {
+        StepReader {
+            text,
+            step,
+            failure,
+        }
+    }
 }
 
 impl Read for StepReader<'_> {
@@ -36,25 +46,10 @@ pub fn reader(text: &[u8], fails: bool) -> Watched<StepReader<'_>>
     ensures works { has_failed result ≡ false }
     ensures fresh { has_ended result ≡ false }
 {
-    if fails {
-        return byte_reader(text, Some(ErrorKind::BrokenPipe));
-    }
-    Watched::new(StepReader {
-        text,
-        step: 4096,
-        failure: None,
-    })
-}
-
-/// Gives the text byte by byte, and then fails, or ends.
-pub fn byte_reader(text: &[u8], failure: Option<ErrorKind>) -> Watched<StepReader<'_>>
-    ensures works { has_failed result ≡ false }
-    ensures fresh { has_ended result ≡ false }
-{
-    Watched::new(StepReader {
-        text,
-        step: 1,
-        failure,
+    Watched::new(if fails {
+        StepReader::new(text, 1, Some(ErrorKind::BrokenPipe))
+    } else {
+        StepReader::new(text, 4096, None)
     })
 }
 

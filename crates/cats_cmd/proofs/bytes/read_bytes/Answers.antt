@@ -19,18 +19,18 @@ returns-in-Ok-eq0 g c =
 
 pub returns-then-count-len : goal.returns-then-count-len
 returns-then-count-len g c =
-    rw c.whole_fault.ensures
+    rw c.whole.ensures
     (inl (too_many g.R.Read.remaining c.args.input.now c.loop-text.input c.read.new.self c.loop-text.text.items _ c.in-Ok.count c.loop-text.invariant.came
     c.in-Ok.ensures.bytes.0 c.in-Ok.ensures.bound.1
     (omega (arith, c.if-count-len.true, c.len.ensures, c.loop-text.invariant.within))))
 
 pub returns-in-Err : goal.returns-in-Err
-returns-in-Err g c = rw c.whole_fault-in-Err.ensures (inl (refl, c.in-Err.ensures.failed))
+returns-in-Err g c = rw c.whole-in-Err.ensures (inl (refl, c.in-Err.ensures.failed))
 
 pub returns-then-is_err : goal.returns-then-is_err
 returns-then-is_err g c =
     inr (
-      c.whole_fault-then-is_err.ensures,
+      c.whole-then-is_err.ensures,
       bytes_wanted g.R.Read.remaining c.args.input.now c.loop-text.input c.read.new.self c.loop-text.text.items _ c.in-Ok.count
           c.loop-text.invariant.came c.in-Ok.ensures.bytes.0 c.in-Ok.ensures.bound.1 c.in-Ok.count-test.1
           (omega (arith, c.if-count-len.false, c.len.ensures, c.loop-text.invariant.within)) c.in-Ok.ensures.failed

@@ -1,27 +1,14 @@
 -- `printed_answers_are_shown`
-use Rattle.cats_cmd.proofs.AnswersShown.{check_shown, diff_shown, difference_shown, explanation_shown, lp_shown, place_shown, revenue_shown, value_shown}
+use Rattle.std.proofs.Common.{subst}
+use Rattle.cats_cmd.proofs.AnswersShown.{IsPrinted, command_printed, pair_printed, place_shown}
 use Rattle.cats_cmd.proofs.laws.printed_answers_are_shown.Goals as goal
 
-pub returns-clause-check : goal.returns-clause-check
-returns-clause-check c = check_shown
+pub returns-clause-commands : goal.returns-clause-commands
+returns-clause-commands g c = λ command numbers file status text is. (subst IsPrinted is (command_printed command numbers file)).1
 
-pub returns-clause-value : goal.returns-clause-value
-returns-clause-value c = value_shown
-
-pub returns-clause-lp : goal.returns-clause-lp
-returns-clause-lp c = lp_shown
-
-pub returns-clause-revenue : goal.returns-clause-revenue
-returns-clause-revenue c = revenue_shown
+pub returns-clause-comparisons : goal.returns-clause-comparisons
+returns-clause-comparisons g c = λ comparison first first_after second second_after answer given.
+    (pair_printed g.I.Input.gives g.I.Input.refuses g.J.Input.gives g.J.Input.refuses comparison first first_after second second_after answer given).1
 
 pub returns-clause-fault : goal.returns-clause-fault
-returns-clause-fault c = place_shown
-
-pub returns-clause-compare : goal.returns-clause-compare
-returns-clause-compare c = difference_shown
-
-pub returns-clause-explain : goal.returns-clause-explain
-returns-clause-explain c = explanation_shown
-
-pub returns-clause-diff : goal.returns-clause-diff
-returns-clause-diff c = diff_shown
+returns-clause-fault g c = place_shown

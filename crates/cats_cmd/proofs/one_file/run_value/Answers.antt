@@ -13,8 +13,8 @@ use Rattle.cats_cmd.proofs.one_file.run_value.Goals as goal
 pub returns : goal.returns
 returns g c =
     let goods = c.args.goods.now in
-    let same : exceeds_limits (bundle_from goods) c.plain.result ≡ exceeds_packings (bundle_from goods) c.args.limit =
-    ap (λ (o : SearchOptions). exceeds_limits (bundle_from goods) o) c.plain.ensures
+    let same : exceeds_limits (bundle_from goods) c.plain-options.result ≡ exceeds_packings (bundle_from goods) c.args.limit =
+    ap (λ (o : SearchOptions). exceeds_limits (bundle_from goods) o) c.plain-options.ensures
     ∙ fun_ext (λ (file : PlainFile). plain-value_steps c.args.limit (or_atoms_of file.bids) (bundle_from goods)) in
     subst (λ (refuses : PlainFile → Bool). RunsOnFile g.I.Input.gives g.I.Input.refuses g.W.Write.contents (value_outcome_if refuses goods) c.args.input.now
-    c.run_value_by.new.input c.args.out.now c.run_value_by.new.out c.run_value_by.result) same c.run_value_by.ensures
+    c.run_on_file.new.input c.args.out.now c.run_on_file.new.out c.run_on_file.result) same c.run_on_file.ensures
