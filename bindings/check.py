@@ -23,7 +23,7 @@ PROGRAM, LIBRARY, REFUSING, *FILES = sys.argv[1:]
 sys.path[:0] = [os.path.dirname(os.path.abspath(LIBRARY)), os.path.join(os.path.dirname(os.path.abspath(__file__)), "tests")]
 from beside import CALLS, Answer, cases_of  # noqa: E402: they are in these folders
 from cats import _library  # noqa: E402
-from cats._library import LINE, Status  # noqa: E402
+from cats._library import FUNCTIONS, ROOM, Status  # noqa: E402
 from texts import BIDS, made_texts  # noqa: E402
 
 THREADS = 8
@@ -36,14 +36,6 @@ FEW = 40
 
 # The most bytes of a text.
 MAX_STREAM = 2_147_483_648
-
-# Of each call, how many bytes of each output there are at most for each byte of the texts, beside a constant, which is mostly 64.
-TIMES = {
-    "check": [0], "fault": [0], "show": [1], "value": [1], "normalise": [1.5], "explain": [4], "sizes": [0], "revenue": [0], "lp": [5], "compare": [1],
-    "diff": [2], "round": [2, 5],
-}
-
-ROOM = {"fault": 512, "sizes": 512, "value": 800_000, "revenue": 128, "compare": 128, "diff": 128}
 
 # What is behind a buffer, and in it before a call.
 GUARD, MARK = 64, 0xA5
@@ -92,13 +84,14 @@ def call_library(library, call, texts, sizes):
     buffers = [buffer_of(size) for size in sizes]
     words = [word for text in texts for word in (text if isinstance(text, tuple) else (text, len(text)))]
     arguments = [word for buffer in buffers for word in (buffer.bytes, buffer.size, ctypes.byref(buffer.needed))]
-    return getattr(library, call.function)(*words, *call.words_of_library(), *arguments), buffers
+    return getattr(library, f"cats_{call.name}")(*words, *call.words_of_library(), *arguments), buffers
 
 
 def ample_sizes(call, texts):
     """The sizes that cats.h says always suffice. A text whose prices are rounded counts with the size that rounding it needs."""
-    length = sum(2 * len(text) + 64 if call.words_of_prices() else len(text) for text in texts)
-    return [int(factor * length) + ROOM.get(call.name(), 64) for factor in TIMES[call.name()]]
+    rounded = FUNCTIONS["round"].sizes[0]
+    length = sum(rounded.ample(len(text)) if call.words_of_prices() else len(text) for text in texts)
+    return [size.ample(length) for size in FUNCTIONS[call.name].sizes]
 
 
 def answer_of_library(library, call, texts):
@@ -148,8 +141,8 @@ def check_sizes(cases):
 
 def lacks_memory(one, answer):
     """Whether a call answers that memory was refused. No line of a fault or of a changed price is replaced."""
-    prefixes = (b"", b"first: ", b"second: ") if one.call.texts == 2 else (b"",)
-    lines = [prefix + b"want of memory\n" for prefix in (*prefixes, *([b"\t" * 8] if one.call.name() == "sizes" else []))]
+    prefixes = (b"", b"first: ", b"second: ") if one.call.texts() == 2 else (b"",)
+    lines = [prefix + b"want of memory\n" for prefix in (*prefixes, *([b"\t" * 8] if one.call.name == "sizes" else []))]
     return answer.status == Status.WANT_OF_MEMORY and answer.out in lines and answer.report == b""
 
 
@@ -196,10 +189,10 @@ def check_long_texts():
     zeros = ctypes.cast((ctypes.c_char * len(pages)).from_buffer(pages), ctypes.c_char_p)
     tried = [(call, MAX_STREAM + 1, b"TooLong\n") for call in CALLS if not call.words] + [(CALLS[0], MAX_STREAM, b"line 1: Header\n")]
     for call, length, line in tried:
-        before = [BIDS] * (call.texts - 1)
-        status, buffers = call_library(TESTED, call, [*before, (zeros, length)], [LINE] * call.outputs())
+        before = [BIDS] * (call.texts() - 1)
+        status, buffers = call_library(TESTED, call, [*before, (zeros, length)], [ROOM] * call.outputs())
         out = buffers[0].bytes.raw[: buffers[0].needed.value]
-        prefix = b"second: " if before else b"\t" * 8 if call.name() == "sizes" else b""
+        prefix = b"second: " if before else b"\t" * 8 if call.name == "sizes" else b""
         TALLY.judge((status, out) == (Status.REFUSED, prefix + line), f"{call} on {length} bytes", (status, out))
 
 

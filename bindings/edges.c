@@ -1,5 +1,5 @@
 // Calls each function on each file, and on each two files that follow one another, with every text and every buffer in a block of exactly
-// its size, so that valgrind sees a byte that is read or written beyond it. Prints what is wrong.
+// its size, so that valgrind sees a byte that is read or written beyond it. Prints what is wrong. tests/edges.py makes calls.h.
 //     edges FILE..
 #include <stdio.h>
 #include <stdlib.h>
@@ -17,6 +17,10 @@ struct block {
 struct edge {
     struct block left, right, out, report;
     uint8_t prices;
+    uint64_t steps, total;
+    uint16_t *goods;
+    uint32_t *bids;
+    size_t count;
     size_t needed, report_needed;
 };
 
@@ -44,85 +48,31 @@ static struct block read_file(const char *path) {
     return text;
 }
 
-static uint8_t check(struct edge *it) {
-    return cats_check(it->left.bytes, it->left.size, it->prices, it->out.bytes, it->out.size, &it->needed);
-}
-
-static uint8_t fault(struct edge *it) {
-    return cats_fault(it->left.bytes, it->left.size, it->out.bytes, it->out.size, &it->needed);
-}
-
-static uint8_t show(struct edge *it) {
-    return cats_show(it->left.bytes, it->left.size, it->prices, it->out.bytes, it->out.size, &it->needed);
-}
-
-// Of the good 0, which the files have, and of none. The goods are in a block of their size too.
-static uint8_t value_of(struct edge *it, size_t count) {
-    uint16_t *goods = calloc(count ? count : 1, sizeof *goods);
-    if (!goods)
+// Zeros, which are numbers of goods and bids that most files have.
+static void *new_zeros(size_t count, size_t size) {
+    void *zeros = calloc(count ? count : 1, size);
+    if (!zeros)
         exit(70);
-    uint8_t status = cats_value(it->left.bytes, it->left.size, it->prices, goods, count, CATS_STEPS, CATS_NO_TOTAL, it->out.bytes,
-                                it->out.size, &it->needed);
-    free(goods);
-    return status;
+    return zeros;
 }
 
-static uint8_t value(struct edge *it) {
-    return value_of(it, 1);
-}
+// The arguments for what a function takes.
+#define TEXT it->left.bytes, it->left.size
+#define SECOND it->right.bytes, it->right.size
+#define PRICES it->prices
+#define EXACT false
+#define GOODS it->goods, it->count
+#define BIDS it->bids, it->count
+#define LIMITS it->steps, it->total
+#define OUT it->out.bytes, it->out.size, &it->needed
+#define REPORT it->report.bytes, it->report.size, &it->report_needed
 
-static uint8_t value_of_none(struct edge *it) {
-    return value_of(it, 0);
-}
-
-// Of the bid 0, which most files have, and of none. The bids are in a block of their size too.
-static uint8_t revenue_of(struct edge *it, size_t count) {
-    uint32_t *bids = calloc(count ? count : 1, sizeof *bids);
-    if (!bids)
-        exit(70);
-    uint8_t status = cats_revenue(it->left.bytes, it->left.size, it->prices, bids, count, it->out.bytes, it->out.size, &it->needed);
-    free(bids);
-    return status;
-}
-
-static uint8_t revenue(struct edge *it) {
-    return revenue_of(it, 1);
-}
-
-static uint8_t revenue_of_none(struct edge *it) {
-    return revenue_of(it, 0);
-}
-
-static uint8_t lp(struct edge *it) {
-    return cats_lp(it->left.bytes, it->left.size, it->prices, it->out.bytes, it->out.size, &it->needed);
-}
-
-static uint8_t normalise(struct edge *it) {
-    return cats_normalise(it->left.bytes, it->left.size, it->prices, CATS_STEPS, CATS_NO_TOTAL, it->out.bytes, it->out.size, &it->needed);
-}
-
-static uint8_t explain(struct edge *it) {
-    return cats_explain(it->left.bytes, it->left.size, it->prices, FEW_STEPS, CATS_NO_TOTAL, it->out.bytes, it->out.size, &it->needed);
-}
-
-static uint8_t sizes(struct edge *it) {
-    return cats_sizes(it->left.bytes, it->left.size, it->prices, CATS_STEPS, FEW_STEPS, it->out.bytes, it->out.size, &it->needed);
-}
-
-static uint8_t compare(struct edge *it) {
-    return cats_compare(it->left.bytes, it->left.size, it->right.bytes, it->right.size, it->prices, CATS_STEPS, CATS_NO_TOTAL,
-                        it->out.bytes, it->out.size, &it->needed);
-}
-
-static uint8_t diff(struct edge *it) {
-    return cats_diff(it->left.bytes, it->left.size, it->right.bytes, it->right.size, it->prices, CATS_STEPS, FEW_STEPS, it->out.bytes,
-                     it->out.size, &it->needed);
-}
-
-static uint8_t round_prices(struct edge *it) {
-    return cats_round(it->left.bytes, it->left.size, false, it->out.bytes, it->out.size, &it->needed, it->report.bytes, it->report.size,
-                      &it->report_needed);
-}
+#define CALL(name, most, ...)                                                                                                              \
+    static uint8_t call_##name(struct edge *it) {                                                                                          \
+        return cats_##name(__VA_ARGS__);                                                                                                   \
+    }
+#include "calls.h"
+#undef CALL
 
 // Branches on each byte: valgrind reports one that was not written.
 static void read_all(const uint8_t *bytes, size_t length) {
@@ -163,32 +113,33 @@ static void try_sizes(const char *name, call *made, struct edge *edge, size_t mo
     wrong += is_wrong;
 }
 
-// The calls that read a text as `prices` says. A text whose prices are rounded counts with the size that rounding it needs.
-static void try_calls(struct block left, struct block right, uint8_t prices) {
-    struct edge edge = {.left = left, .right = right, .prices = prices};
-    size_t length = prices == CATS_AS_WRITTEN ? left.size : CATS_ROUND_SIZE(left.size);
-    size_t second = prices == CATS_AS_WRITTEN ? right.size : CATS_ROUND_SIZE(right.size);
-    try_sizes("cats_check", check, &edge, CATS_CHECK_SIZE);
-    try_sizes("cats_show", show, &edge, CATS_SHOW_SIZE(length));
-    try_sizes("cats_value", value, &edge, CATS_VALUE_SIZE(length));
-    try_sizes("cats_value of no good", value_of_none, &edge, CATS_VALUE_SIZE(length));
-    try_sizes("cats_revenue", revenue, &edge, CATS_REVENUE_SIZE);
-    try_sizes("cats_revenue of no bid", revenue_of_none, &edge, CATS_REVENUE_SIZE);
-    try_sizes("cats_lp", lp, &edge, CATS_LP_SIZE(length));
-    try_sizes("cats_normalise", normalise, &edge, CATS_NORMALISE_SIZE(length));
-    try_sizes("cats_explain", explain, &edge, CATS_EXPLAIN_SIZE(length));
-    try_sizes("cats_sizes", sizes, &edge, CATS_SIZES_SIZE);
-    try_sizes("cats_compare", compare, &edge, CATS_COMPARE_SIZE(length, second));
-    try_sizes("cats_diff", diff, &edge, CATS_DIFF_SIZE(length, second));
+// Each function. A text whose prices are rounded counts with the size that rounding it needs.
+static void try_calls(struct edge edge) {
+    size_t length = edge.prices == CATS_AS_WRITTEN ? edge.left.size : CATS_ROUND_SIZE(edge.left.size);
+    size_t second = edge.prices == CATS_AS_WRITTEN ? edge.right.size : CATS_ROUND_SIZE(edge.right.size);
+#define CALL(name, most, ...) try_sizes("cats_" #name, call_##name, &edge, most);
+#include "calls.h"
+#undef CALL
+}
+
+// The calls with these limits, and so many goods and bids, which are in blocks of their size too.
+static void try_with(struct edge edge, uint64_t steps, uint64_t total, size_t count) {
+    edge.steps = steps;
+    edge.total = total;
+    edge.count = count;
+    edge.goods = new_zeros(count, sizeof *edge.goods);
+    edge.bids = new_zeros(count, sizeof *edge.bids);
+    for (edge.prices = CATS_AS_WRITTEN; edge.prices <= CATS_ROUNDED_EXACTLY; edge.prices++)
+        try_calls(edge);
+    free(edge.goods);
+    free(edge.bids);
 }
 
 static void try_all_calls(struct block left, struct block right) {
     struct edge edge = {.left = left, .right = right};
-    try_sizes("cats_fault", fault, &edge, CATS_FAULT_SIZE);
-    try_sizes("cats_round", round_prices, &edge, CATS_ROUND_SIZE(left.size));
-    try_calls(left, right, CATS_AS_WRITTEN);
-    try_calls(left, right, CATS_ROUNDED);
-    try_calls(left, right, CATS_ROUNDED_EXACTLY);
+    try_with(edge, CATS_STEPS, CATS_NO_TOTAL, 1);
+    try_with(edge, FEW_STEPS, CATS_NO_TOTAL, 0);
+    try_with(edge, CATS_STEPS, FEW_STEPS, 1);
 }
 
 int main(int count, char **paths) {

@@ -1,16 +1,13 @@
 """The functions of the library, each a call with what it prints as Python data; and `duplicates`, which is made of such calls."""
 from __future__ import annotations
 
-from typing import Dict, Iterable, List, Optional, Sequence, Tuple, TypeVar
+from typing import Dict, Iterable, List, Optional, Tuple, TypeVar
 
-from cats._library import LINE, STEPS
+from cats._library import STEPS
 from cats._tables import Allocation, Difference, Reason, Rounded, Rows, Sizes, SizesRow, Value, Verdict
-from cats._tables import allocation_of, changes_of, differences_of, reasons_of, row_of_sizes, sizes_of, value_of, verdict_of
-from cats._texts import Rounding, TextOrPath, answer_on, bids_of, bytes_of, goods_of, limits_of, prices_of, rounded
+from cats._tables import allocation_of, changes_of, difference_of, reason_of, row_of_sizes, rows_of, sizes_of, value_of, verdict_of
+from cats._texts import Rounding, TextOrPath, answer_on, bids_of, bytes_of, goods_of, limits_of, rounded
 from cats.errors import CatsError, NoSuchBid, NoSuchGood, RefusedText, StepLimit  # noqa: F401: for the examples
-
-# How many bytes an output mostly takes for each byte of the texts. One that takes more is asked for again.
-SHOW, VALUE, NORMALISE, EXPLAIN, LP, COMPARE, DIFF = 1, 1, 2, 4, 4, 1, 2
 
 # A text as the caller has it.
 Given = TypeVar("Given", bound=TextOrPath)
@@ -30,7 +27,7 @@ def check(text: TextOrPath, *, round: Rounding = False) -> Sizes:
     ...     print(fault.line, fault.word, fault.kind, fault.text)
     4 2 NotANumber b'1e3'
     """
-    return sizes_of(answer_on_texts("cats_check", [text], round, [], 0))
+    return sizes_of(answer_on("check", [text], round))
 
 
 def show(text: TextOrPath, *, round: Rounding = False) -> bytes:
@@ -39,7 +36,7 @@ def show(text: TextOrPath, *, round: Rounding = False) -> bytes:
     >>> show(b"goods 2\\nbids 2\\ndummy 0\\n% two\\n1 4.50 1 0 #\\n0 03 0 #\\n")
     b'goods 2\\nbids 2\\ndummy 0\\n0\\t3\\t0\\t#\\n1\\t4.5\\t0\\t1\\t#\\n'
     """
-    return answer_on_texts("cats_show", [text], round, [], SHOW)
+    return answer_on("show", [text], round)
 
 
 def value(text: TextOrPath, goods: Iterable[int], steps: int = STEPS, *, total: Optional[int] = None, round: Rounding = False) -> Value:
@@ -54,7 +51,7 @@ def value(text: TextOrPath, goods: Iterable[int], steps: int = STEPS, *, total: 
     ...     print(fault.good)
     2
     """
-    return value_of(answer_on_texts("cats_value", [text], round, [*goods_of(goods), *limits_of(steps, total)], VALUE))
+    return value_of(answer_on("value", [text], round, [*goods_of(goods), *limits_of(steps, total)]))
 
 
 def revenue(text: TextOrPath, bids: Iterable[int], *, round: Rounding = False) -> Allocation:
@@ -71,7 +68,7 @@ def revenue(text: TextOrPath, bids: Iterable[int], *, round: Rounding = False) -
     ...     print(fault.bid)
     3
     """
-    return allocation_of(answer_on_texts("cats_revenue", [text], round, bids_of(bids), 0))
+    return allocation_of(answer_on("revenue", [text], round, bids_of(bids)))
 
 
 def normalise(text: TextOrPath, steps: int = STEPS, *, total: Optional[int] = None, round: Rounding = False) -> bytes:
@@ -93,7 +90,7 @@ def normalise(text: TextOrPath, steps: int = STEPS, *, total: Optional[int] = No
     >>> normalise(b"goods 1\\nbids 1\\ndummy 0\\n0 1e3 0 #\\n", round="exact")
     b'goods 1\\nbids 1\\ndummy 0\\n0\\t1000\\t0\\t#\\n'
     """
-    return answer_on_texts("cats_normalise", [text], round, limits_of(steps, total), NORMALISE)
+    return answer_on("normalise", [text], round, limits_of(steps, total))
 
 
 def explain(text: TextOrPath, steps: int = STEPS, *, total: Optional[int] = None, round: Rounding = False) -> Rows[Reason]:
@@ -105,7 +102,7 @@ def explain(text: TextOrPath, steps: int = STEPS, *, total: Optional[int] = None
     1 keep 1 ()
     2 packing None (0, 1)
     """
-    return reasons_of(answer_on_texts("cats_explain", [text], round, limits_of(steps, total), EXPLAIN))
+    return rows_of(answer_on("explain", [text], round, limits_of(steps, total)), reason_of)
 
 
 def lp(text: TextOrPath, *, round: Rounding = False) -> bytes:
@@ -126,7 +123,7 @@ def lp(text: TextOrPath, *, round: Rounding = False) -> bytes:
      x1
     End
     """
-    return answer_on_texts("cats_lp", [text], round, [], LP)
+    return answer_on("lp", [text], round)
 
 
 def sizes(text: TextOrPath, steps: int = STEPS, *, total: Optional[int] = None, round: Rounding = False) -> SizesRow:
@@ -135,7 +132,7 @@ def sizes(text: TextOrPath, steps: int = STEPS, *, total: Optional[int] = None, 
     >>> sizes(b"goods 2\\nbids 3\\ndummy 1\\n0 3 0 #\\n1 2 0 #\\n2 4 1 2 #\\n")
     SizesRow(goods=2, bids=3, or_bids=2, xor_bidders=1, dummies=1, kept=2, kept_or_bids=1, kept_xor_bidders=1)
     """
-    return row_of_sizes(answer_on_texts("cats_sizes", [text], round, limits_of(steps, total), 0))
+    return row_of_sizes(answer_on("sizes", [text], round, limits_of(steps, total)))
 
 
 def round_prices(text: TextOrPath, exact: bool = False) -> Rounded:
@@ -163,7 +160,7 @@ def compare(
     >>> compare(one, b"goods 2\\nbids 3\\ndummy 0\\n0 3 0 #\\n1 4 1 #\\n2 7.5 0 1 #\\n")
     Verdict(same=False, kind='or', where='0,1', left='below 7.5', right='7.5')
     """
-    return verdict_of(answer_on_texts("cats_compare", [left, right], round, limits_of(steps, total), COMPARE))
+    return verdict_of(answer_on("compare", [left, right], round, limits_of(steps, total)))
 
 
 def diff(
@@ -177,7 +174,7 @@ def diff(
     or (1,) 4 5 1 1
     or (0, 1) None 8.5 None 2
     """
-    return differences_of(answer_on_texts("cats_diff", [left, right], round, limits_of(steps, total), DIFF))
+    return rows_of(answer_on("diff", [left, right], round, limits_of(steps, total)), difference_of)
 
 
 def duplicates(
@@ -199,10 +196,3 @@ def duplicates(
             raise
         groups.setdefault(canonical, []).append(text)
     return [tuple(group) for group in groups.values() if all or len(group) > 1]
-
-
-def answer_on_texts(name: str, texts: Sequence[TextOrPath], round: Rounding, words: Sequence[object], times: int) -> bytes:
-    """The output of a call on texts and these words, which mostly takes at most so many times the length of the texts, and a line."""
-    prices = prices_of(round)
-    read = [bytes_of(text) for text in texts]
-    return answer_on(name, read, prices, words, times * sum(map(len, read)) + LINE)

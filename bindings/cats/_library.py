@@ -5,9 +5,7 @@ import ctypes
 import enum
 import os
 from ctypes import POINTER, byref, c_bool, c_char_p, c_size_t, c_uint8, c_uint16, c_uint32, c_uint64, c_void_p
-from typing import Any, Dict, List, Sequence, Tuple
-
-from cats.errors import error_of
+from typing import Any, Dict, List, NamedTuple, Optional, Sequence, Tuple
 
 # The limit on the steps of each search, if none is given: CATS_STEPS.
 STEPS = 1_000_000
@@ -15,8 +13,8 @@ STEPS = 1_000_000
 # What the library takes for no limit on the steps of all searches of a text: CATS_NO_TOTAL.
 NO_TOTAL = 0
 
-# Room for any line on a fault, beside what an output takes for each byte of a text.
-LINE = 128
+# The most bytes that are tried first beside those for each byte of the texts: room for any line on a fault, and what helps.
+ROOM = 512
 
 
 class Status(enum.IntEnum):
@@ -39,39 +37,71 @@ class Prices(enum.IntEnum):
     ROUNDED_EXACTLY = 2
 
 
-TEXT: List[Any] = [c_char_p, c_size_t]
-PRICES: List[Any] = [c_uint8]
-GOODS: List[Any] = [POINTER(c_uint16), c_size_t]
-BIDS: List[Any] = [POINTER(c_uint32), c_size_t]
-LIMITS: List[Any] = [c_uint64, c_uint64]
-OUT: List[Any] = [c_void_p, c_size_t, POINTER(c_size_t)]
-
+# What stands in C for what a function takes. A second text is one that is compared with the first.
 ARGUMENTS: Dict[str, List[Any]] = {
-    "cats_version": [],
-    "cats_check": [*TEXT, *PRICES, *OUT],
-    "cats_fault": [*TEXT, *OUT],
-    "cats_show": [*TEXT, *PRICES, *OUT],
-    "cats_value": [*TEXT, *PRICES, *GOODS, *LIMITS, *OUT],
-    "cats_normalise": [*TEXT, *PRICES, *LIMITS, *OUT],
-    "cats_explain": [*TEXT, *PRICES, *LIMITS, *OUT],
-    "cats_sizes": [*TEXT, *PRICES, *LIMITS, *OUT],
-    "cats_revenue": [*TEXT, *PRICES, *BIDS, *OUT],
-    "cats_lp": [*TEXT, *PRICES, *OUT],
-    "cats_compare": [*TEXT, *TEXT, *PRICES, *LIMITS, *OUT],
-    "cats_diff": [*TEXT, *TEXT, *PRICES, *LIMITS, *OUT],
-    "cats_round": [*TEXT, c_bool, *OUT, *OUT],
+    "text": [c_char_p, c_size_t],
+    "second": [c_char_p, c_size_t],
+    "prices": [c_uint8],
+    "exact": [c_bool],
+    "goods": [POINTER(c_uint16), c_size_t],
+    "bids": [POINTER(c_uint32), c_size_t],
+    "limits": [c_uint64, c_uint64],
+    "out": [c_void_p, c_size_t, POINTER(c_size_t)],
+}
+
+
+class Size(NamedTuple):
+    """The size of a buffer that always suffices: so many bytes for each byte of the texts, and so many more. `usual` is the number for each byte
+    that mostly suffices, if it is another one."""
+
+    times: float
+    more: int
+    usual: Optional[float] = None
+
+    def ample(self, length: int) -> int:
+        return int(self.times * length) + self.more
+
+    def first(self, length: int) -> int:
+        """What is tried first."""
+        return int((self.times if self.usual is None else self.usual) * length) + min(self.more, ROOM)
+
+
+class Function(NamedTuple):
+    """A function of the library: what it takes before its buffers, in order, and the size of each of these."""
+
+    takes: List[str]
+    sizes: List[Size]
+
+    def arguments(self) -> List[Any]:
+        return [it for name in [*self.takes, *["out"] * len(self.sizes)] for it in ARGUMENTS[name]]
+
+
+# Those of cats.h, by their names without `cats_`.
+FUNCTIONS: Dict[str, Function] = {
+    "check": Function(["text", "prices"], [Size(0, 64)]),
+    "fault": Function(["text"], [Size(0, 512)]),
+    "show": Function(["text", "prices"], [Size(1, 64)]),
+    "revenue": Function(["text", "prices", "bids"], [Size(0, 128)]),
+    "lp": Function(["text", "prices"], [Size(5, 64)]),
+    "value": Function(["text", "prices", "goods", "limits"], [Size(1, 800_000)]),
+    "normalise": Function(["text", "prices", "limits"], [Size(1.5, 64)]),
+    "explain": Function(["text", "prices", "limits"], [Size(4, 64)]),
+    "sizes": Function(["text", "prices", "limits"], [Size(0, 512)]),
+    "compare": Function(["text", "second", "prices", "limits"], [Size(1, 128)]),
+    "diff": Function(["text", "second", "prices", "limits"], [Size(2, 128)]),
+    "round": Function(["text", "exact"], [Size(2, 64, 1), Size(5, 64, 0)]),
 }
 
 
 def load(path: str) -> ctypes.CDLL:
     """The library at a path, with its functions declared. OSError: there is none."""
     library = ctypes.CDLL(path)
-    for name, arguments in ARGUMENTS.items():
+    for name, it in {"version": Function([], []), **FUNCTIONS}.items():
         try:
-            function = getattr(library, name)
+            function = getattr(library, f"cats_{name}")
         except AttributeError as error:
-            raise ImportError(f"the library {path} has no function {name}: it is of another version than this package") from error
-        function.argtypes, function.restype = arguments, c_uint32 if name == "cats_version" else c_uint8
+            raise ImportError(f"the library {path} has no function cats_{name}: it is of another version than this package") from error
+        function.argtypes, function.restype = it.arguments(), c_uint32 if name == "version" else c_uint8
     return library
 
 
@@ -123,20 +153,13 @@ class Buffer:
         return self.needed.value > self.size
 
 
-def call(name: str, arguments: Sequence[object], *sizes: int) -> Tuple[int, List[bytes]]:
-    """The status of a call and its outputs. A buffer that is too small is replaced by one of the length that is needed."""
-    buffers = [Buffer(size) for size in sizes]
-    function = getattr(LIBRARY, name)
+def call(name: str, texts: Sequence[bytes], words: Sequence[object] = ()) -> Tuple[int, List[bytes]]:
+    """The status of a call on texts and these words, and its outputs. A buffer that is too small is replaced by one of the length that is needed."""
+    function = getattr(LIBRARY, f"cats_{name}")
+    buffers = [Buffer(size.first(sum(map(len, texts)))) for size in FUNCTIONS[name].sizes]
+    arguments = [*(word for text in texts for word in (text, len(text))), *words]
     while True:
         status = function(*arguments, *(word for buffer in buffers for word in buffer.arguments()))
         if status != Status.BUFFER_TOO_SMALL:
             return status, [buffer.output() for buffer in buffers]
         buffers = [Buffer(it.needed.value) if it.is_too_small() else it for it in buffers]
-
-
-def answer(name: str, arguments: Sequence[object], *sizes: int) -> List[bytes]:
-    """The outputs of a call. Raises an exception for what is refused, whose line may be behind cells."""
-    status, outputs = call(name, arguments, *sizes)
-    if status not in (Status.DONE, Status.DIFFERENT):
-        raise error_of(status, outputs[0].rpartition(b"\t")[2])
-    return outputs

@@ -5,11 +5,11 @@ import re
 from typing import List
 
 from cats._bids import HEADER_LINES, is_significant
-from cats._library import LINE, Status, call
+from cats._library import Status, call
 from cats.errors import NO_PLACE, Place, error_of
 
-# The lines of cats_fault, and room for them: CATS_FAULT_SIZE.
-PLACE, PLACE_SIZE = re.compile(r"text:(\d+):(\d+): \w+\n(.*)\n"), 512
+# The lines of cats_fault.
+PLACE = re.compile(r"text:(\d+):(\d+): \w+\n(.*)\n")
 
 # The words that are read in the place of a price that cannot be rounded, by the kind of its fault.
 FAULTY = {b"TooLarge": b"1000000000001", b"TooFine": b"0.0000001"}
@@ -17,7 +17,7 @@ FAULTY = {b"TooLarge": b"1000000000001", b"TooFine": b"0.0000001"}
 
 def place_in(text: bytes) -> Place:
     """The place of the first fault of a text. One that is longer than is read has none."""
-    found = PLACE.fullmatch(first_output("cats_fault", [text, len(text)], PLACE_SIZE).decode("ascii"))
+    found = PLACE.fullmatch(first_output("fault", text).decode("ascii"))
     return Place(int(found[2]), word_at(text, int(found[1]), int(found[2])), found[3]) if found else NO_PLACE
 
 
@@ -36,13 +36,13 @@ def place_in_rounded(text: bytes, line: int, exact: bool) -> Place:
 def judged_price(price: bytes, exact: bool) -> bytes:
     """A price that is judged as this one is once it is rounded."""
     text = b"goods 1\nbids 1\ndummy 0\n0 %b 0 #\n" % price
-    out = first_output("cats_round", [text, len(text), exact], len(text) + LINE, LINE)
+    out = first_output("round", text, exact)
     return b"0" if out.startswith(b"goods ") else FAULTY.get(out.split()[-1], price)
 
 
-def first_output(name: str, arguments: List[object], *sizes: int) -> bytes:
+def first_output(name: str, text: bytes, *words: object) -> bytes:
     """The output of a call, or the line of its refusal. WantOfMemory: memory was refused."""
-    status, outputs = call(name, arguments, *sizes)
+    status, outputs = call(name, [text], words)
     if status == Status.WANT_OF_MEMORY:
         raise error_of(status, outputs[0])
     return outputs[0]

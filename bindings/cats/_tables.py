@@ -178,9 +178,9 @@ def xor_value_of(words: List[bytes]) -> XorValue:
     return XorValue(int(good), price_of(price), int(bid[0]) if bid else None)
 
 
-def reasons_of(printed: bytes) -> Rows[Reason]:
-    """A header, and a line for each bid."""
-    return Rows(printed.splitlines()[1:], reason_of)
+def rows_of(printed: bytes, row_of: Callable[[bytes], Row]) -> Rows[Row]:
+    """A header, and a line for each row."""
+    return Rows(printed.splitlines()[1:], row_of)
 
 
 def reason_of(line: bytes) -> Reason:
@@ -216,11 +216,6 @@ def verdict_of(printed: bytes) -> Verdict:
         return Verdict(True)
     difference, left, right = (line.partition(" ") for line in lines)
     return Verdict(False, difference[0], difference[2] or None, left[2], right[2])
-
-
-def differences_of(printed: bytes) -> Rows[Difference]:
-    """A header, and a line for each difference."""
-    return Rows(printed.splitlines()[1:], difference_of)
 
 
 def difference_of(line: bytes) -> Difference:

@@ -8,9 +8,9 @@ from functools import partial
 from operator import index
 from typing import Callable, Iterable, List, Literal, Optional, Sequence, Union
 
-from cats._library import LINE, NO_TOTAL, Prices, answer
+from cats._library import NO_TOTAL, Prices, Status, call
 from cats._places import place_in, place_in_rounded
-from cats.errors import NoSuchBid, NoSuchGood, Place, RefusedText
+from cats.errors import NoSuchBid, NoSuchGood, Place, RefusedText, error_of
 
 # The bytes of a file, or its path.
 TextOrPath = Union[bytes, bytearray, memoryview, mmap.mmap, "os.PathLike[str]", "os.PathLike[bytes]"]
@@ -45,22 +45,24 @@ def prices_of(round: Rounding) -> Prices:
 
 def rounded(text: bytes, exact: bool) -> List[bytes]:
     """A text with its prices rounded, and the lines on those that changed."""
-    try:
-        return answer("cats_round", [text, len(text), exact], len(text) + LINE, LINE)
-    except RefusedText as fault:
-        fault._find = finder(text, fault.line, Prices.ROUNDED_EXACTLY if exact else Prices.ROUNDED)
-        raise
+    return outputs_on("round", [text], Prices.ROUNDED_EXACTLY if exact else Prices.ROUNDED, [exact])
 
 
-def answer_on(name: str, texts: Sequence[bytes], prices: Prices, words: Sequence[object], size: int) -> bytes:
+def answer_on(name: str, texts: Sequence[TextOrPath], round: Rounding, words: Sequence[object] = ()) -> bytes:
     """The output of a call on texts, which are read so, and these words."""
-    arguments = [word for text in texts for word in (text, len(text))]
-    try:
-        (out,) = answer(name, [*arguments, prices, *words], size)
-    except RefusedText as fault:
+    prices = prices_of(round)
+    return outputs_on(name, list(map(bytes_of, texts)), prices, [prices, *words])[0]
+
+
+def outputs_on(name: str, texts: Sequence[bytes], prices: Prices, words: Sequence[object]) -> List[bytes]:
+    """The outputs of a call on texts, which are read so. Raises an exception for what is refused, whose line may be behind cells."""
+    status, outputs = call(name, texts, words)
+    if status in (Status.DONE, Status.DIFFERENT):
+        return outputs
+    fault = error_of(status, outputs[0].rpartition(b"\t")[2])
+    if isinstance(fault, RefusedText):
         fault._find = finder(texts[fault.which == "second"], fault.line, prices)
-        raise
-    return out
+    raise fault
 
 
 def finder(text: bytes, line: Optional[int], prices: Prices) -> Optional[Callable[[], Place]]:

@@ -4,9 +4,10 @@ import pathlib
 import re
 import subprocess
 from concurrent.futures import ThreadPoolExecutor
+from functools import lru_cache
 from typing import NamedTuple, Optional
 
-from cats._library import NO_TOTAL, STEPS, Prices, Status
+from cats._library import FUNCTIONS, NO_TOTAL, STEPS, Prices, Status
 from cats._texts import bids_of, goods_of
 
 SECONDS = 60
@@ -27,88 +28,86 @@ class Answer(NamedTuple):
 
 
 class Call(NamedTuple):
-    """A function of the library, and the same as words of the program. `goods` are those of `value`, and `bids` those of `revenue`. `prices` says
-    what becomes of those of the texts. Two functions do not take it."""
+    """A function of the library, and the same as words of the program, by options of it and by arguments behind the texts. `named` are the goods
+    of `value` or the bids of `revenue`. `prices` says what becomes of those of the texts. Two functions do not take it."""
 
-    function: str
+    name: str
     words: tuple = ()
-    arguments: tuple = (STEPS, NO_TOTAL)
-    texts: int = 1
-    goods: Optional[tuple] = None
-    bids: Optional[tuple] = None
+    arguments: tuple = ()
+    named: Optional[tuple] = None
     prices: Optional[int] = Prices.AS_WRITTEN
 
     def __str__(self):
-        return " ".join([self.name(), *self.words_of_prices(), *self.words, *self.words_behind()])
+        return " ".join([self.name, *self.words_of_prices(), *self.words, *self.words_behind()])
 
-    def name(self):
-        return self.function.partition("_")[2]
+    def takes(self, kind):
+        return kind in FUNCTIONS[self.name].takes
 
-    def words_of_program(self):
-        """The subcommand and its options. The library always uses the bounded search, which three subcommands have an option for."""
-        bound = ["--bound"] if self.name() in ("value", "normalise", "compare") else []
-        return [self.name(), *bound, *self.words_of_prices(), *self.words]
+    def texts(self):
+        """How many texts it reads."""
+        return 2 if self.takes("second") else 1
+
+    def words_of_program(self, program):
+        """The subcommand and its options. The library always uses the bounded search, which some subcommands have an option for."""
+        bound = ["--bound"] if "--bound" in options_of(program, self.name) else []
+        return [self.name, *bound, *self.words_of_prices(), *self.words]
 
     def words_of_prices(self):
         return {None: [], Prices.AS_WRITTEN: [], Prices.ROUNDED: ["--round"]}.get(self.prices, ["--round-exact"])
 
     def words_behind(self):
         """The words of the program behind the files."""
-        return list(map(str, self.goods or self.bids or ()))
+        return list(map(str, self.named or ()))
 
     def words_of_library(self):
         """The arguments behind the texts."""
-        named = goods_of(self.goods) if self.goods is not None else bids_of(self.bids) if self.bids is not None else []
+        named = [] if self.named is None else goods_of(self.named) if self.takes("goods") else bids_of(self.named)
         return [*([] if self.prices is None else [self.prices]), *named, *self.arguments]
 
     def words_of_package(self):
         """The arguments behind the texts, by the names that the package has for them. What is no limit is left out."""
-        names = ("exact",) if self.name() == "round" else ("steps", "total")
+        names = ("exact",) if self.takes("exact") else ("steps", "total")
         words = {name: value for name, value in zip(names, self.arguments) if (name, value) != ("total", NO_TOTAL)}
-        named = {name: numbers for name, numbers in (("goods", self.goods), ("bids", self.bids)) if numbers is not None}
+        named = {kind: self.named for kind in NAMED if self.takes(kind)}
         rounding = {"--round": {"round": True}, "--round-exact": {"round": "exact"}}
         return {**named, **words, **rounding.get("".join(self.words_of_prices()), {})}
 
     def outputs(self):
         """How many buffers it writes to."""
-        return 2 if self.name() == "round" else 1
+        return len(FUNCTIONS[self.name].sizes)
 
     def statuses(self):
         """Those that some random text has."""
-        differs = {Status.DIFFERENT} if self.texts == 2 or self.bids else set()
+        differs = {Status.DIFFERENT} if self.takes("second") or self.takes("bids") and self.named else set()
         limits = {Status.STEP_LIMIT} if self.words in (FEW_STEPS, FEW_IN_ALL) else set()
-        lacks = {Status.WRONG_USAGE} if self.goods or self.bids else set()
+        lacks = {Status.WRONG_USAGE} if self.named else set()
         return {Status.DONE, Status.REFUSED} | differs | limits | lacks
 
 
 FEW_STEPS, FEW_IN_ALL = ("--steps", "3"), ("--total-steps", "3")
-LIMITS = {(): (STEPS, NO_TOTAL), FEW_STEPS: (3, NO_TOTAL), FEW_IN_ALL: (STEPS, 3)}
-AS_WRITTEN = [
-    Call("cats_check", arguments=()),
-    Call("cats_fault", arguments=(), prices=None),
-    Call("cats_show", arguments=()),
-    Call("cats_revenue", arguments=(), bids=(1, 0, 1)),
-    Call("cats_revenue", arguments=(), bids=()),
-    Call("cats_lp", arguments=()),
-    *(Call("cats_value", *limits, goods=(2, 0, 1, 0)) for limits in LIMITS.items()),
-    Call("cats_value", goods=()),
-    *(Call("cats_normalise", *limits) for limits in LIMITS.items()),
-    *(Call("cats_explain", *limits) for limits in LIMITS.items()),
-    *(Call("cats_sizes", *limits) for limits in LIMITS.items()),
-    Call("cats_round", arguments=(False,), prices=None),
-    Call("cats_round", ("--exact",), (True,), prices=None),
-    *(Call("cats_compare", *limits, texts=2) for limits in LIMITS.items()),
-    *(Call("cats_diff", *limits, texts=2) for limits in LIMITS.items()),
-]
+
+# The options that are tried of a function, with the arguments that are the same, by what it takes; and the goods or bids that are named.
+OPTIONS = {"limits": {(): (STEPS, NO_TOTAL), FEW_STEPS: (3, NO_TOTAL), FEW_IN_ALL: (STEPS, 3)}, "exact": {(): (False,), ("--exact",): (True,)}}
+NAMED = {"goods": (2, 0, 1, 0), "bids": (1, 0, 1)}
 
 # A number of no name is as Prices.ROUNDED_EXACTLY.
 OTHER_PRICES = 255
 
-WITHOUT_LIMITS = [it for it in AS_WRITTEN if it.prices is not None and not it.words and () not in (it.goods, it.bids)]
+
+def calls_of(name, takes):
+    """The calls of a function that are tried on texts as they are: with each of its options, and of no good or bid."""
+    prices = Prices.AS_WRITTEN if "prices" in takes else None
+    options = next((OPTIONS[kind] for kind in takes if kind in OPTIONS), {(): ()})
+    named = next((NAMED[kind] for kind in takes if kind in NAMED), None)
+    return [*(Call(name, *it, named, prices) for it in options.items()), *([Call(name, (), options[()], (), prices)] if named else [])]
+
+
+AS_WRITTEN = [call for name, function in FUNCTIONS.items() for call in calls_of(name, function.takes)]
+WITHOUT_LIMITS = [it for it in AS_WRITTEN if it.prices is not None and not it.words and it.named != ()]
 CALLS = [
     *AS_WRITTEN,
     *(it._replace(prices=Prices.ROUNDED) for it in WITHOUT_LIMITS),
-    *(it._replace(prices=Prices.ROUNDED_EXACTLY) for it in WITHOUT_LIMITS if it.name() in ("show", "compare", "diff")),
+    *(it._replace(prices=Prices.ROUNDED_EXACTLY) for it in WITHOUT_LIMITS if it.name in ("show", "compare", "diff")),
     AS_WRITTEN[0]._replace(prices=OTHER_PRICES),
 ]
 
@@ -123,6 +122,13 @@ class Case(NamedTuple):
 
     def __str__(self):
         return " ".join([str(self.call), *self.names])
+
+
+@lru_cache(maxsize=None)
+def options_of(program, name):
+    """The options of a subcommand, by its help."""
+    shown = subprocess.run([program, name, "--help"], stdout=subprocess.PIPE, timeout=SECONDS, check=True).stdout.decode()
+    return re.findall(r"^ +(--[\w-]+)", shown, re.M)
 
 
 def answer_of_program(program, words, paths):
@@ -161,8 +167,8 @@ def cases_of(program, folder, texts):
     paths = write_texts(folder, texts)
 
     def case(number, call):
-        which = [number] if call.texts == 1 else [max(number - 1, 0), number]
-        own = answer_of_program(program, call.words_of_program(), [*(paths[at] for at in which), *call.words_behind()])
+        which = [max(number - 1, 0), number][-call.texts() :]
+        own = answer_of_program(program, call.words_of_program(program), [*(paths[at] for at in which), *call.words_behind()])
         return Case(call, tuple(map(str, which)), tuple(texts[at] for at in which), own)
 
     return in_parallel(case, [(number, call) for number in range(len(texts)) for call in CALLS])

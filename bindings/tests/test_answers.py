@@ -20,12 +20,12 @@ def answer_of_package(call, texts):
         found = function(*texts, **call.words_of_package())
     except cats.CatsError as error:
         return Answer(STATUSES[type(error)], f"{error}\n".encode())
-    return PRINTED[call.name()](found)
+    return PRINTED[call.name](found)
 
 
 def function_of(call):
     """That of the package, in which `fault` is a field of an exception."""
-    return fault if call.name() == "fault" else getattr(cats, "round_prices" if call.name() == "round" else call.name())
+    return fault if call.name == "fault" else getattr(cats, call.name)
 
 
 def fault(text):
@@ -105,7 +105,7 @@ PRINTED = {
 def fault_alone(case):
     """What the program answers. Of a refused row of `sizes` that is its fault, which the exception has."""
     own = case.own
-    return own._replace(out=own.out.rpartition(b"\t")[2]) if case.call.name() == "sizes" and own.status else own
+    return own._replace(out=own.out.rpartition(b"\t")[2]) if case.call.name == "sizes" and own.status else own
 
 
 @pytest.mark.parametrize("call", CALLS, ids=str)
@@ -126,6 +126,7 @@ def test_errors_have_their_fields(cases):
         except cats.RefusedText as error:
             assert printed.decode() == prefix_of(error) + (f"line {error.line}: " if error.line else "") + error.kind + "\n"
         except cats.StepLimit as error:
+            assert (error.bid is None) == (b" at bid " not in printed)
             assert printed.decode() == prefix_of(error) + printed_limit(case.call, error)
         except cats.NoSuchGood as error:
             assert printed.decode() == f"good {error.good} out of range\n"
@@ -134,9 +135,8 @@ def test_errors_have_their_fields(cases):
 
 
 def printed_limit(call, error):
-    """The line of a step limit. Three calls name the bid."""
+    """The line of a step limit. Some calls name the bid."""
     goods = ",".join(map(str, error.bundle))
-    assert (error.bid is None) == (call.name() not in ("explain", "sizes", "diff"))
     if error.bid is None:
         return f"step limit at {goods}\n"
     steps, total = call.arguments

@@ -4,6 +4,7 @@ import pathlib
 import pickle
 import random
 from decimal import Decimal
+from functools import partial
 
 import pytest
 from beside import answer_of_program, in_parallel, write_texts
@@ -11,6 +12,10 @@ from texts import BIDS, made_texts, spelled_texts
 
 import cats
 import cats._auction
+from cats._library import FUNCTIONS
+
+# The functions of one text that are methods.
+METHODS = [name for name, it in FUNCTIONS.items() if "second" not in it.takes and callable(getattr(cats.Auction, name, None))]
 
 TWO = [cats.Bid(0, Decimal("7.5"), (0, 1)), cats.Bid(1, Decimal(3), (0,), 2)]
 
@@ -70,14 +75,19 @@ def test_only_what_is_used_is_read(monkeypatch):
     assert auction.bids[1] == cats.Bid(1, Decimal(4), (1,)) and read == ["lines", "bid"]
 
 
+def words_of(name, auction):
+    """The goods or bids that a function of the library takes: as many as there are goods."""
+    return [range(auction.goods) for kind in ("goods", "bids") if kind in FUNCTIONS[name].takes]
+
+
 def test_methods_answer_as_the_functions(root, tmp_path):
     paths = [root / "examples" / name for name in ("ladder.cats", "ladder_with_synergy.cats", "ladder_rewritten.cats")]
     one, other, same = map(cats.read, paths)
     assert one.text == paths[0].read_bytes()
-    assert one.normalise().text == cats.normalise(paths[0]) == same.normalise().text
-    assert one.explain() == cats.explain(paths[0]) and one.value([0]) == cats.value(paths[0], [0])
-    assert one.lp() == cats.lp(paths[0]) and one.sizes() == cats.sizes(paths[0])
-    assert one.revenue([0, 1]) == cats.revenue(paths[0], [0, 1])
+    assert one.normalise().text == same.normalise().text
+    for name in METHODS:
+        found = getattr(one, name)(*words_of(name, one))
+        assert getattr(found, "text", found) == getattr(cats, name)(paths[0], *words_of(name, one))
     for right in (other, other.text, paths[1]):
         assert one.diff(right) == cats.diff(paths[0], paths[1]) and len(one.diff(right)) == 1 and not one.same_as(right)
     for right in (same, same.text, paths[2]):
@@ -87,11 +97,16 @@ def test_methods_answer_as_the_functions(root, tmp_path):
         assert cats.read(pathlib.Path(path)).text == one.text
 
 
+def test_each_function_is_a_method():
+    """Or an auction has something else of its name, or does what these do in other ways."""
+    assert {name for name in FUNCTIONS if not hasattr(cats.Auction, name)} == {"check", "fault", "show", "round", "compare"}
+
+
 def test_methods_keep_the_limits(root):
     auction = cats.read(root / "examples/three_reach.cats")
-    for limits in ({"steps": 3}, {"total": 2}):
-        calls = [auction.normalise, auction.explain, auction.sizes, lambda **it: auction.value(range(auction.goods), **it)]
-        for call in (*calls, lambda **it: auction.same_as(auction, **it), lambda **it: auction.diff(auction, **it)):
+    calls = [partial(getattr(auction, name), *words_of(name, auction)) for name in METHODS if "limits" in FUNCTIONS[name].takes]
+    for call in (*calls, partial(auction.same_as, auction), partial(auction.diff, auction)):
+        for limits in ({"steps": 3}, {"total": 2}):
             with pytest.raises(cats.StepLimit):
                 call(**limits)
     for other in (BIDS.decode(), "examples/ladder.cats"):

@@ -5,6 +5,7 @@ import pickle
 from concurrent.futures import ProcessPoolExecutor
 
 import pytest
+from functions import OF_TEXT
 from texts import BIDS
 
 import cats
@@ -61,12 +62,9 @@ def test_copies_have_the_place():
 ])
 def test_places(text, line, word, found):
     """The word is one between spaces and tabs, or the end of a line or of the text."""
-    for call in (cats.check, cats.read, cats.normalise, cats.explain, cats.lp, cats.show, lambda it: cats.revenue(it, [0]), cats.round_prices):
-        refused = refusal_of(call, text)
-        assert (refused.line, refused.word, refused.text) == (line, word, found)
-    refused = refusal_of(cats.compare, BIDS, text)
-    assert (refused.which, refused.line, refused.word, refused.text) == ("second", line, word, found)
-    assert refusal_of(cats.compare, text, BIDS).text == found
+    for name, call in {**OF_TEXT, "round_prices": cats.round_prices}.items():
+        refused, which = refusal_of(call, text), {"left": "first", "right": "second"}.get(name.split(" ")[-1])
+        assert (refused.which, refused.line, refused.word, refused.text) == (which, line, word, found)
 
 
 @pytest.mark.parametrize("price, good, exact, word, kind", [

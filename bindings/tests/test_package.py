@@ -16,6 +16,7 @@ import typing
 from decimal import Decimal
 
 import pytest
+from functions import OF_TEXT
 from texts import BIDS
 
 import cats
@@ -24,24 +25,7 @@ from cats import _library
 MODULES = ["cats", *(f"cats.{it.name}" for it in pkgutil.iter_modules(cats.__path__))]
 
 # Each function of a text, with that text in each place.
-CALLS = {
-    "check": cats.check,
-    "show": cats.show,
-    "value": lambda text: cats.value(text, [0]),
-    "normalise": cats.normalise,
-    "normalise, rounded": lambda text: cats.normalise(text, round=True),
-    "explain": cats.explain,
-    "lp": cats.lp,
-    "revenue": lambda text: cats.revenue(text, [0]),
-    "sizes": cats.sizes,
-    "duplicates": lambda text: len(cats.duplicates([BIDS, text])),
-    "round_prices": cats.round_prices,
-    "read": lambda text: cats.read(text).text,
-    "compare, left": lambda text: cats.compare(text, BIDS),
-    "compare, right": lambda text: cats.compare(BIDS, text),
-    "diff, left": lambda text: cats.diff(text, BIDS),
-    "diff, right": lambda text: cats.diff(BIDS, text),
-}
+CALLS = {**OF_TEXT, "normalise, rounded": lambda text: cats.normalise(text, round=True), "round_prices": cats.round_prices}
 
 
 @pytest.mark.parametrize("name", MODULES)
@@ -61,6 +45,12 @@ def test_no_name_hides_one_of_python():
     star = {}
     exec("from cats import *", star)
     assert "round" not in star and star["Auction"] is cats.Auction
+
+
+def test_each_function_of_the_library_has_one_of_its_name(root):
+    """But `fault`, which the fields of a RefusedText are made of, and `round`, whose name is one of Python's."""
+    declared = re.findall(r"^uint8_t cats_(\w+)\(", (root / "bindings/cats.h").read_text(), re.M)
+    assert sorted(declared) == sorted(_library.FUNCTIONS) and {*declared} - {*cats.__all__} == {"fault", "round"}
 
 
 def test_version(root):

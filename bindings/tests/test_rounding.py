@@ -1,25 +1,9 @@
 """With `round` a call is that on the text that `round_prices` answers."""
 import pytest
+from functions import OF_PAIRS, OF_TEXT
 from texts import BIDS, made_texts
 
 import cats
-
-CALLS = {
-    "read": lambda text, **words: cats.read(text, **words).text,
-    "check": cats.check,
-    "show": cats.show,
-    "value": lambda text, **words: cats.value(text, [0], **words),
-    "normalise": cats.normalise,
-    "explain": cats.explain,
-    "lp": cats.lp,
-    "revenue": lambda text, **words: cats.revenue(text, [0], **words),
-    "sizes": cats.sizes,
-    "compare, left": lambda text, **words: cats.compare(text, BIDS, **words),
-    "compare, right": lambda text, **words: cats.compare(BIDS, text, **words),
-    "diff, left": lambda text, **words: cats.diff(text, BIDS, **words),
-    "diff, right": lambda text, **words: cats.diff(BIDS, text, **words),
-    "duplicates": lambda text, **words: list(map(len, cats.duplicates([text, BIDS], all=True, **words))),
-}
 
 # Its prices are valid once they are rounded, and the value of one changes.
 FINE = BIDS.replace(b" 3 ", b" 3e0 ").replace(b" 4 ", b" 4.0000004 ")
@@ -36,7 +20,7 @@ def is_refused(answer):
     return answer[:1] == (cats.RefusedText,)
 
 
-@pytest.mark.parametrize("call", CALLS.values(), ids=CALLS)
+@pytest.mark.parametrize("call", OF_TEXT.values(), ids=OF_TEXT)
 @pytest.mark.parametrize("round", [True, "exact"])
 def test_calls_on_rounded_texts(call, round):
     refused = refused_rounded = 0
@@ -48,7 +32,7 @@ def test_calls_on_rounded_texts(call, round):
     assert refused_rounded < refused
 
 
-@pytest.mark.parametrize("call", CALLS.values(), ids=CALLS)
+@pytest.mark.parametrize("call", OF_TEXT.values(), ids=OF_TEXT)
 def test_fine_prices(call):
     """The value of one changes, which `exact` refuses."""
     assert call(FINE, round=True) == call(BIDS)
@@ -59,14 +43,14 @@ def test_fine_prices(call):
 
 
 def test_which_text_is_refused():
-    for call in (cats.compare, cats.diff):
+    for call in OF_PAIRS:
         for texts, which in (((FINE, BIDS), "first"), ((BIDS, FINE), "second"), ((FINE, FINE), "first")):
             with pytest.raises(cats.RefusedText) as refused:
                 call(*texts, round="exact")
             assert (refused.value.which, str(refused.value)) == (which, f"{which}: line 5: TooFine")
 
 
-@pytest.mark.parametrize("call", CALLS.values(), ids=CALLS)
+@pytest.mark.parametrize("call", OF_TEXT.values(), ids=OF_TEXT)
 def test_other_words(call):
     """They are no way to round, and are not taken for one."""
     for round in ("Exact", "", None, 2, b"exact"):
@@ -75,6 +59,6 @@ def test_other_words(call):
 
 
 def test_the_first_text_is_searched_before_the_second_is_rounded():
-    for call in (cats.compare, cats.diff):
+    for call in OF_PAIRS:
         with pytest.raises(cats.StepLimit):
             call(BIDS, b"no file", 0, round=True)

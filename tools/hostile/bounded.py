@@ -11,13 +11,12 @@ import random
 import subprocess
 import sys
 import tempfile
-from collections import Counter
 from concurrent.futures import ThreadPoolExecutor
 from functools import partial
-from threading import Lock
 from typing import NamedTuple
 
 from steps import Bid, bounded, bounded_quickly, first_refused, or_value, plain, searches, value_searches
+from tally import KINDS, TALLY
 
 PROGRAM, GENERATE = sys.argv[1:]
 SECONDS = 120
@@ -26,8 +25,6 @@ STEPS, STEP_LIMIT, WRONG_USAGE = 1_000_000, 3, 64
 MILLION = 1_000_000
 
 DIFF_HEADER = "kind\tgoods\tleft\tright\tleft_dummy\tright_dummy\tleft_bid\tright_bid\n"
-
-KINDS = ("l1", "l2", "l3", "l4", "l5", "l6", "l7", "arbitrary", "regions", "paths", "matching", "scheduling")
 
 # kind, goods, bids, and more words
 FILES = (
@@ -46,9 +43,8 @@ SMALL_GOODS, SMALL_BIDS = 6, 14
 SMALL_FILES = tuple((kind, SMALL_GOODS, SMALL_BIDS, "--seed", seed) for kind in KINDS for seed in (1, 2))
 FINE_FILES = 24
 
-# How many runs there were, how many were wrong, and how many files the plain search answers.
-tally = Counter()
-lock = Lock()
+# The files that the plain search answers.
+plainly_answered = []
 
 
 class Answer(NamedTuple):
@@ -57,22 +53,14 @@ class Answer(NamedTuple):
     err: str
 
 
-def count(what):
-    with lock:
-        tally[what] += 1
-
-
 def run(*words):
-    count("runs")
+    TALLY.count_run()
     ran = subprocess.run([PROGRAM, *map(str, words)], stdin=subprocess.DEVNULL, capture_output=True, text=True, timeout=SECONDS)
     return Answer(ran.returncode, ran.stdout, ran.stderr)
 
 
 def judge(is_right, what, answer):
-    if not is_right:
-        count("wrong")
-        shown = [text[:200] for text in answer[1:]]
-        print(f"wrong: {what}: status {answer[0]}, {shown}", flush=True)
+    TALLY.judge(is_right, what, f"status {answer[0]}, {[text[:200] for text in answer[1:]]}")
 
 
 def judge_run(wanted, *words):
@@ -143,7 +131,7 @@ def judge_file(folder, given):
     judge(found[::2] == (0, ""), f"{path} by --bound", found)
     plainly = run("normalise", path)
     if plainly.status == 0:
-        count("plain")
+        plainly_answered.append(path)
         judge(found == plainly, f"{path} by --bound differs", found)
     else:
         judge(plainly[:2] == (STEP_LIMIT, "") and plainly.err.startswith("step limit at "), path, plainly)
@@ -241,9 +229,8 @@ def main():
         for one in work:
             one.result()
         judge_lines(folder)
-    print(f"{len(FILES)} files, of which the plain search answers {tally['plain']}")
-    print(f"{tally['runs']} runs, {tally['wrong']} wrong")
-    return 1 if tally["wrong"] else 0
+    print(f"{len(FILES)} files, of which the plain search answers {len(plainly_answered)}")
+    return TALLY.status()
 
 
 if __name__ == "__main__":

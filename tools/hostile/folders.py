@@ -15,7 +15,8 @@ import tty
 from concurrent.futures import ThreadPoolExecutor
 from itertools import count
 
-from runs import BIDDERS, DEVICE_FAILED, LADDER, LARGER_BID, NO_MEMORY, PIECE, PIPE, SINGLES, TALLY, Answer, Case, case, ended, full, header, reads_of, run, start, write_file
+from runs import BIDDERS, DEVICE_FAILED, LADDER, LARGER_BID, NO_MEMORY, PIECE, PIPE, SINGLES, Answer, Case, case, ended, full, header, reads_of, run, start, write_file
+from tally import TALLY
 
 STEP_LIMIT, WRONG_USAGE = 3, 64
 
@@ -443,8 +444,7 @@ def main():
     resource.setrlimit(resource.RLIMIT_CORE, (0, 0))
     with tempfile.TemporaryDirectory() as folder:
         work(folder)
-    print(f"{TALLY.runs} runs, {TALLY.wrong} wrong")
-    return 1 if TALLY.wrong else 0
+    return TALLY.status()
 
 
 if __name__ == "__main__":

@@ -17,9 +17,10 @@ import tempfile
 from concurrent.futures import ThreadPoolExecutor
 from decimal import Decimal
 from functools import lru_cache
-from typing import NamedTuple
 
-from rounding import MIXED, OTHER_TEXTS, PLAIN, RETURNS, ROWS, TALLY, Answer, latin, price_of, run, text_of
+from commands import LINES
+from rounding import MIXED, OTHER_TEXTS, PLAIN, RETURNS, ROWS, Answer, judge, latin, price_of, run, text_of
+from tally import KINDS, TALLY
 
 GENERATE = sys.argv[2]
 
@@ -33,49 +34,12 @@ FLAGS = {
     ("--round-exact", "--round"): ("--exact",),
 }
 
-KINDS = ("l1", "l2", "l3", "l4", "l5", "l6", "l7", "arbitrary", "regions", "paths", "matching", "scheduling")
 FILES, GOODS, BIDS = 300, 8, 20
 
 
-class Command(NamedTuple):
-    """The words before the files, and those behind them."""
-
-    words: tuple
-    behind: tuple = ()
-
-    def line(self, files, flags=()):
-        """A command line with its flags, the last of two behind the files."""
-        name, *options = self.words
-        return [name, *flags[:1], *options, *files, *self.behind, *flags[1:]]
-
-
-ON_FILE = (
-    Command(("check",)),
-    Command(("show",)),
-    Command(("lp",)),
-    Command(("explain",)),
-    Command(("explain", "--steps", "1")),
-    Command(("normalise",)),
-    Command(("normalise", "--bound")),
-    Command(("normalise", "--bound", "--total-steps", "2")),
-    Command(("value", "--bound"), ("0-1",)),
-    Command(("value", "--steps", "1"), ("0", "1")),
-    Command(("value",), ("0", "65535")),
-    Command(("revenue",), ("0",)),
-    Command(("revenue",), ("1", "0")),
-    Command(("revenue",), ("70000",)),
-)
-ON_PAIR = (Command(("compare", "--bound")), Command(("compare", "--steps", "1")), Command(("diff",)), Command(("diff", "--steps", "1")))
-ON_FILES = (
-    ("duplicates",),
-    ("duplicates", "--all"),
-    ("duplicates", "-0"),
-    ("duplicates", "--progress"),
-    ("duplicates", "--steps", "2"),
-    ("sizes",),
-    ("sizes", "-0"),
-    ("sizes", "--progress", "--steps", "2"),
-)
+# The commands that read a file as it is, and those on one file, on two, and on many that may round its prices.
+UNROUNDED = ("fault", "round")
+ON_FILE, ON_PAIR, ON_FILES = ([it for it in LINES if it.files == many and it.words[0] not in UNROUNDED] for many in (1, 2, 0))
 
 
 @lru_cache(maxsize=None)
@@ -98,7 +62,7 @@ def judge_text(command, flags, text):
     if not rounding.status:
         own = run(command.line(["/dev/stdin"]), rounding.out)
         wanted = own._replace(err=report(b"/dev/stdin", rounding) + own.err)
-    TALLY.judge(f"{command.line(['FILE'], flags)} of {text!r}", wanted, run(command.line(["/dev/stdin"], flags), text))
+    judge(f"{command.line(['FILE'], flags)} of {text!r}", wanted, run(command.line(["/dev/stdin"], flags), text))
 
 
 def texts():
@@ -156,7 +120,7 @@ def judge_pair(folder, number, pair):
         copies = [write_file(path + b" copy", rounding.out) for path, rounding in zip(paths, roundings)]
         for command in ON_PAIR:
             wanted = wanted_of_pair(command, paths, roundings, copies)
-            TALLY.judge(f"{command.line(['FILE', 'FILE'], flags)} of {pair!r}", wanted, run(command.line(paths, flags)))
+            judge(f"{command.line(['FILE', 'FILE'], flags)} of {pair!r}", wanted, run(command.line(paths, flags)))
 
 
 def pairs(some):
@@ -255,9 +219,9 @@ def check_files(folder):
         with tempfile.TemporaryDirectory() as copies:
             for path, rounding in roundings.items():
                 write_file(path.replace(folder, os.fsencode(copies)), rounding.out)
-            for command in ON_FILES:
+            for command in (it.words for it in ON_FILES):
                 wanted = wanted_of_files(command, roundings, folder, os.fsencode(copies))
-                TALLY.judge(f"{command} {flags}", wanted, run([*command, *flags, "--files0-from", "/dev/stdin"], listed))
+                judge(f"{command} {flags}", wanted, run([*command, *flags, "--files0-from", "/dev/stdin"], listed))
     groups = run(["duplicates", "--round", "--files0-from", "/dev/stdin"], listed)
     shown = (groups.out.count(b"\n\n") >= FILES // 4, groups.err.count(b" rounded\n") >= FILES // 4, groups.err.count(b": line ") >= FILES // 20)
     if not all(shown):
@@ -282,22 +246,20 @@ def check_names(folder):
             (["duplicates", "-0", "--round", path, one], b"", line + one + b": 1 price rounded\n"),
         )
         for words, out, err in rows:
-            TALLY.judge(f"{words}", Answer(0, out, err), run(words))
+            judge(f"{words}", Answer(0, out, err), run(words))
 
 
 def check_lines(folder):
     """Each command has both flags, once each and without a value, and `fault` and `round` have neither."""
     path = write_file(folder + b"/file", ONE_FINE)
-    named = {command.words[0]: command.line([path]) for command in ON_FILE}
-    named.update({command.words[0]: command.line([path, path]) for command in ON_PAIR})
-    named.update({command[0]: [*command, path] for command in ON_FILES})
-    wrong = [[name, flag, path] for name in ("fault", "round") for flag in ("--round", "--round-exact")]
+    named = {it.words[0]: it.line([path] * max(1, it.files)) for it in (*ON_FILE, *ON_PAIR, *ON_FILES)}
+    wrong = [[name, flag, path] for name in UNROUNDED for flag in ("--round", "--round-exact")]
     wrong += [[*line, flag, flag] for line in named.values() for flag in ("--round", "--round-exact")]
     wrong += [[*line, flag] for line in named.values() for flag in ("--round=yes", "--round-exact=1", "--exact", "--rounded")]
     for words in wrong:
         answer = run(words)
         is_refused = answer.err.startswith(b"error: ")
-        TALLY.judge(f"{words}", Answer(WRONG_USAGE, b"", answer.err if is_refused else b"error: .."), answer)
+        judge(f"{words}", Answer(WRONG_USAGE, b"", answer.err if is_refused else b"error: .."), answer)
 
 
 def main():
@@ -306,8 +268,7 @@ def main():
     for check in (check_names, check_lines, check_files, lambda folder: check_pairs(folder, some)):
         with tempfile.TemporaryDirectory() as folder:
             check(os.fsencode(folder))
-    print(f"{TALLY.runs} runs, {TALLY.wrong} wrong")
-    return 1 if TALLY.wrong else 0
+    return TALLY.status()
 
 
 if __name__ == "__main__":

@@ -11,10 +11,11 @@ import random
 import re
 import subprocess
 import sys
-import threading
 from concurrent.futures import ThreadPoolExecutor
 from decimal import Decimal
 from typing import NamedTuple
+
+from tally import TALLY
 
 PROGRAM = sys.argv[1]
 SECONDS = 120
@@ -86,22 +87,10 @@ def price_of(word, exact):
     return Price(price_text(nearest), nearest != value)
 
 
-class Tally:
-    """How many runs there were, and what was wrong."""
-
-    def __init__(self):
-        self.lock = threading.Lock()
-        self.runs, self.wrong = 0, 0
-
-    def judge(self, what, wanted, answer):
-        with self.lock:
-            self.runs += 1
-            if answer != wanted:
-                self.wrong += 1
-                print(f"wrong: {what[:200]}\n    wanted {short(wanted)}\n    got    {short(answer)}", flush=True)
-
-
-TALLY = Tally()
+def judge(what, wanted, answer):
+    """Whether a run answered what is wanted."""
+    TALLY.count_run()
+    TALLY.judge(answer == wanted, what[:200], f"\n    wanted {short(wanted)}\n    got    {short(answer)}")
 
 
 def short(answer):
@@ -214,7 +203,7 @@ def text_of(words, form, exact, choose, end=None):
 def compare(what, text):
     options = ["--exact"] if text.exact else []
     answer = run(["round", *options, "/dev/stdin"], latin("".join(text.source)))
-    TALLY.judge(" ".join(["round", *options, what]), text.wanted(), answer)
+    judge(" ".join(["round", *options, what]), text.wanted(), answer)
     return answer
 
 
@@ -315,7 +304,7 @@ def many_words(words, exact, form, seed):
     for at in range(0, len(taken), MOST_BIDS):
         answer = compare(f"{len(taken)} words", text_of(taken[at : at + MOST_BIDS], form, exact, choose))
         twice = run(["round", *(["--exact"] if exact else []), "/dev/stdin"], answer.out)
-        TALLY.judge("its output once more", Answer(0, answer.out, b""), twice)
+        judge("its output once more", Answer(0, answer.out, b""), twice)
     texts = []
     for word in refused:
         some = choose.sample(taken, min(len(taken), choose.randrange(3)))
@@ -398,7 +387,7 @@ def check_other_texts():
         is_line = printed.startswith("line ")
         wanted = Answer(2, b"", latin(printed + "\n")) if is_line else Answer(0, latin(printed), b"")
         for options in ([], ["--exact"]):
-            TALLY.judge(f"round {options} {text!r}", wanted, run(["round", *options, "/dev/stdin"], latin(text)))
+            judge(f"round {options} {text!r}", wanted, run(["round", *options, "/dev/stdin"], latin(text)))
 
 
 def main():
@@ -410,8 +399,7 @@ def main():
     words = [random_word(choose) for _ in range(RANDOM_WORDS)] + [aimed_word(choose) for _ in range(AIMED_WORDS)]
     for exact, form in ((False, MIXED), (True, PLAIN)):
         many_words(words, exact, form, 5)
-    print(f"{TALLY.runs} runs, {TALLY.wrong} wrong")
-    return 1 if TALLY.wrong else 0
+    return TALLY.status()
 
 
 if __name__ == "__main__":

@@ -17,6 +17,9 @@ from concurrent.futures import ThreadPoolExecutor
 from itertools import count
 from typing import NamedTuple
 
+from commands import NAMES
+from tally import TALLY
+
 PROGRAM, CALLS, GENERATED, LARGE = sys.argv[1:]
 SECONDS = 60
 
@@ -60,29 +63,6 @@ class Case(NamedTuple):
 
     def __str__(self):
         return " ".join([*self.command, *map(os.path.basename, self.files), *self.goods])
-
-
-class Tally:
-    """How many runs there were, and what was wrong."""
-
-    def __init__(self):
-        self.lock = threading.Lock()
-        self.runs, self.wrong = 0, 0
-
-    def count_run(self):
-        with self.lock:
-            self.runs += 1
-
-    def judge(self, is_right, what, answer):
-        """Prints what was answered where it is not right."""
-        if is_right:
-            return
-        with self.lock:
-            self.wrong += 1
-            print(f"wrong: {what}: {str(answer)[:400]}", flush=True)
-
-
-TALLY = Tally()
 
 
 def environment(fault, report):
@@ -171,20 +151,8 @@ def write_file(folder, name, text):
 
 
 def cases_of(path, other, goods):
-    """Each subcommand on a file."""
-    return [
-        case(("check",), (path,)),
-        case(("fault",), (path,)),
-        case(("show",), (path,)),
-        case(("value",), (path,), goods),
-        case(("revenue",), (path,)),
-        case(("normalise",), (path,)),
-        case(("explain",), (path,)),
-        case(("round",), (path,)),
-        case(("lp",), (path,)),
-        case(("compare",), (path, other)),
-        case(("diff",), (path, other)),
-    ]
+    """Each subcommand on a file, or on it and another."""
+    return [case((name,), (path, other)[:many], goods if name == "value" else ()) for name, many in NAMES.items() if many]
 
 
 def small_cases(folder):
@@ -392,9 +360,9 @@ def refused_cases(folder):
     nothing = write_file(folder, "nothing", header(0, 0, 0))
     fine = write_file(folder, "fine", SIX_DIGITS)
     ended = os.path.getsize(nothing) + 1
-    one_file = [case((command,), (faulty,)) for command in ("check", "show", "value", "normalise", "explain", "lp")]
+    one_file = [case((name,), (faulty,)) for name, many in NAMES.items() if many == 1 and name not in ("fault", "round")]
     pairs = {(faulty, nothing): (FAULT_AT, 0), (nothing, faulty): (ended, FAULT_AT)}
-    compared = {case((command,), pair): counts for command in ("compare", "diff") for pair, counts in pairs.items()}
+    compared = {case((name,), pair): counts for name, many in NAMES.items() if many == 2 for pair, counts in pairs.items()}
     # to round prices the whole file is read
     rounded = {case(words, (faulty,)): (len(FAULTY) + 1,) for words in (("round",), ("check", "--round"))}
     rounded.update({case(words, (fine,)): (len(SIX_DIGITS) + 1,) for words in (("round", "--exact"), ("check", "--round-exact"))})
@@ -404,7 +372,7 @@ def refused_cases(folder):
 def large_cases(folder):
     """Runs whose text does not fit into a pipe."""
     bidders = write_file(folder, "many_bidders", header(1, 0, 65_536))
-    return [*(case((command,), (LARGE,)) for command in ("show", "normalise", "explain", "round", "lp")), case(("value",), (bidders,))]
+    return [one for one in (*cases_of(LARGE, LARGE, ()), case(("value",), (bidders,))) if len(one.own.out) > PIPE]
 
 
 def side_by_side(one, piece):
@@ -453,8 +421,7 @@ def main():
     resource.setrlimit(resource.RLIMIT_CORE, (0, 0))
     with tempfile.TemporaryDirectory() as folder:
         work(folder)
-    print(f"{TALLY.runs} runs, {TALLY.wrong} wrong")
-    return 1 if TALLY.wrong else 0
+    return TALLY.status()
 
 
 if __name__ == "__main__":

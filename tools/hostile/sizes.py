@@ -14,6 +14,8 @@ import sys
 import tempfile
 from typing import NamedTuple
 
+from tally import TALLY
+
 PROGRAM = os.path.abspath(sys.argv[1])
 SECONDS = 120
 
@@ -28,7 +30,6 @@ SIZES_HEADER = "goods\tbids\tor\txor\tdummy\tkept\tkept_or\tkept_xor\tfault\tfil
 OR, ONE_XOR, MANY_XOR = "OR bids", "bids of one XOR bidder", "XOR bidders of one bid"
 
 chosen = random.Random(1)
-tally = {"runs": 0, "wrong": 0}
 
 
 class Bid(NamedTuple):
@@ -126,11 +127,10 @@ def run(words, wanted, folder):
     """Runs the program in the folder, and compares its status, its output and its standard error with what is wanted."""
     ran = subprocess.run([PROGRAM, *words], cwd=folder, stdin=subprocess.DEVNULL, capture_output=True, timeout=SECONDS)
     status, out, err = wanted
-    tally["runs"] += 1
-    if (ran.returncode, ran.stdout, ran.stderr) != (status, out.encode(), err.encode()):
-        tally["wrong"] += 1
-        command = " ".join([*words[:4], *[".."] * (len(words) > 4)])
-        print(f"wrong: {command}: status {ran.returncode}, {ran.stdout[:100]}, on standard error {ran.stderr[:300]}", flush=True)
+    TALLY.count_run()
+    is_right = (ran.returncode, ran.stdout, ran.stderr) == (status, out.encode(), err.encode())
+    command = " ".join([*words[:4], *[".."] * (len(words) > 4)])
+    TALLY.judge(is_right, command, f"status {ran.returncode}, {ran.stdout[:100]}, on standard error {ran.stderr[:300]}")
 
 
 def write(folder, name, text):
@@ -200,8 +200,7 @@ def main():
             judge_file(folder, bids_on(4000, 512), whose)
             judge_file(folder, bids_on(BIDS, 31), whose)
         run(["check", "/dev/zero"], (2, "", "TooLong\n"), folder)
-    print(f"{tally['runs']} runs, {tally['wrong']} wrong")
-    return 1 if tally["wrong"] else 0
+    return TALLY.status()
 
 
 if __name__ == "__main__":
