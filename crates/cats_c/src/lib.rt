@@ -18,10 +18,12 @@ ghost use Rattle.cats_c.specs.Totals.{total_of};
 
 pub mod worked;
 
-use commands::{
-    Command, Comparison, RoundAnswer, RunFault, TOO_SMALL, Text, TextPair, call, call_on_both,
-    find_fault, give, give_report, give_rounded, round_text, sizes,
+use commands::calls::{
+    RoundAnswer, Text, TextPair, call, call_on_both, find_fault, give, give_report, give_rounded,
+    round_text,
 };
+use commands::statuses::TOO_SMALL;
+use commands::{Command, Comparison, RunFault, sizes};
 use rounding::FinePrices;
 use std::alloc::Global;
 use valuation::SearchOptions;

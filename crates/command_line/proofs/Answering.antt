@@ -1,23 +1,21 @@
 -- What `clap` answers to the program's command line, and what the program makes of it.
 use Rattle.std.proofs.Common.{◌≡◌, ◌∙◌, ℕ, Bool, true, false, List, [], ◌∷◌, Option, Some, None, Result, ap, sym, subst, refl, inl, inr}
-use Rattle.std.specs.Prelude.{◌||◌, Box, IfErr, not, option_map, option_and_then}
-use Rattle.std.specs.Option.{option_map_or}
+use Rattle.std.specs.Prelude.{IfErr, not, option_map}
 use Rattle.std.specs.List.{list_any}
+use Rattle.std.proofs.Math.Bool.{or-true}
 use Rattle.clap.specs.Faults.{fault_of, is_simple_and_free}
 use Rattle.clap.specs.Kinds.{FailsBy, HasKind, IsAmong, Kinds}
-use Rattle.clap.specs.Simple.{App, HasMatchesOf, is_simple, subcommand_of, subcommand_rows, subcommand_rows_of}
+use Rattle.clap.specs.Simple.{App, HasMatchesOf, is_simple, subcommand_of, subcommand_rows_of}
 use Rattle.clap.specs.Walk.{Row}
 use Rattle.clap.specs.declared.error.Error.{Error}
 use Rattle.clap.specs.declared.error.kind.ErrorKind.{ErrorKind}
 use Rattle.clap.specs.declared.parser.matches.ArgMatches.{ArgMatches}
-use Rattle.clap.specs.declared.parser.matches.SubCommand.{SubCommand}
 use Rattle.clap.proofs.OnLiterals.{clap_on_literals}
 use Rattle.command_line.specs.Internal.Matches.{IsAnswerTo}
 use Rattle.command_line.specs.PlainRequests.{PlainRequest}
 use Rattle.command_line.specs.Requests.{IsNoRequestOf, if_taken, is_no_memory, is_shown, misuse_in, misuse_of, request_from, request_of}
 use Rattle.command_line.specs.Subcommands.{cats}
 use Rattle.command_line.specs.declared.request.Misuse.{Misuse}
-use Rattle.command_line.specs.declared.request.Misuse.TheVariants.{WrongFiles}
 use Rattle.command_line.specs.declared.request.NoRequest.{NoRequest}
 use Rattle.command_line.specs.declared.request.Request.{Request}
 use Rattle.command_line.specs.declared.request.NoRequest.TheVariants.{Help, WrongUsage, Misused, NoMemory}
@@ -39,37 +37,30 @@ module _ (app : App) (is : app ≡ cats) (words : List (List ℕ)) where
   fails_by answer fails = subst (λ (a : App). FailsBy (fault_of a words) answer) is (fails (ap is_simple_and_free is ∙ is_plain))
 
   -- its subcommand is that of the words
-  pub entered : (m : ArgMatches) → HasMatchesOf app words m → subcommand_rows_of m ≡ subcommand_of cats words
-  entered m has = (has (ap is_simple is ∙ is_without_settings)).1 ∙ ap (λ a. subcommand_of a words) is
+  pub entered : (m : ArgMatches) → HasMatchesOf app words m → (name : List ℕ) (rows : List Row)
+      → option_map (λ p. p.0) (subcommand_rows_of m) ≡ Some name → option_map (λ p. p.1) (subcommand_rows_of m) ≡ Some rows
+      → subcommand_of cats words ≡ Some (name, rows)
+  entered m has name rows named given =
+      sym ((has (ap is_simple is ∙ is_without_settings)).1 ∙ ap (λ a. subcommand_of a words) is) ∙ both (subcommand_rows_of m) named given
+    where
+      both : (met : Option (List ℕ × List Row)) → option_map (λ p. p.0) met ≡ Some name → option_map (λ p. p.1) met ≡ Some rows → met ≡ Some (name, rows)
+      both None named given = cc
+      both (Some (n, r)) named given = cc
 
--- ---- what is requested
+-- what is requested, and why nothing is
+module _ (words : List (List ℕ)) (name : List ℕ) (rows : List Row) (met : subcommand_of cats words ≡ Some (name, rows)) where
+  pub requested : fault_of cats words ≡ [] → request_from name rows ≡ request_of words
+  requested none = rw (none, met) refl
 
-pub requested : (words : List (List ℕ)) (met : Option (List ℕ × List Row)) → fault_of cats words ≡ [] → met ≡ subcommand_of cats words
-    → option_and_then (λ p. request_from p.0 p.1) met ≡ request_of words
-requested words met none is = rw (none, ← is) refl
-
-pub both_are : {Z : Type 0} (met : Option (Box SubCommand Z)) (name : List ℕ) (rows : List Row)
-    → option_map (λ p. p.0) (subcommand_rows met) ≡ Some name → option_map (λ p. p.1) (subcommand_rows met) ≡ Some rows
-    → subcommand_rows met ≡ Some (name, rows)
-both_are None name rows named given = cc
-both_are (Some b) name rows named given = cc
-
--- and why it requests nothing, by the rows of its subcommand
-pub misused : (words : List (List ℕ)) (met : Option (List ℕ × List Row)) (answer : Result Request Misuse) → met ≡ subcommand_of cats words
-    → IfErr answer (λ misuse. misuse ≡ option_map_or (λ p. misuse_in p.1) met WrongFiles) → IfErr answer (λ misuse. misuse ≡ misuse_of words)
-misused words met answer is given =
-    subst (λ (met : Option (List ℕ × List Row)). IfErr answer (λ misuse. misuse ≡ option_map_or (λ p. misuse_in p.1) met WrongFiles)) is given
+  pub misused : (answer : Result Request Misuse) → IfErr answer (λ misuse. misuse ≡ misuse_in rows) → IfErr answer (λ misuse. misuse ≡ misuse_of words)
+  misused answer is = rw met is
 
 -- ---- why a line requests nothing
 
 among_shown : (kind : ErrorKind) (kinds : Kinds) (test : ErrorKind → Bool) → test kind ≡ true → IsAmong kind kinds → list_any test kinds ≡ true
 among_shown kind [] test passes among = absurd among
 among_shown kind (first ∷ rest) test passes (inl is) = rw (← is, passes) refl
-among_shown kind (first ∷ rest) test passes (inr later) = rw (among_shown kind rest test passes later) (or_true (test first))
-  where
-    or_true : (b : Bool) → (b || true) ≡ true
-    or_true true = refl
-    or_true false = refl
+among_shown kind (first ∷ rest) test passes (inr later) = rw (among_shown kind rest test passes later) (or-true (test first))
 
 pub answered : (words : List (List ℕ)) (error : Error) (answer : NoRequest) → HasKind (fault_of cats words) error → IsAnswerTo error.kind answer
     → IsNoRequestOf words answer
@@ -82,21 +73,19 @@ answered words error (NoMemory text) kind is = tt
 
 -- ---- a line with a request
 
-none_asked : (kinds : Kinds) (found : Option PlainRequest) (request : PlainRequest) (test : ErrorKind → Bool)
-    → if_taken kinds found ≡ Some request → list_any test kinds ≡ true → ⊥
-none_asked [] found request test asked some = cc
-none_asked (kind ∷ kinds) found request test asked some = cc
+no_fault : (kinds : Kinds) (found : Option PlainRequest) (request : PlainRequest) → if_taken kinds found ≡ Some request → kinds ≡ []
+no_fault [] found request asked = refl
+no_fault (kind ∷ kinds) found request asked = cc
 
-module _ (words : List (List ℕ)) (request : PlainRequest) (asked : request_of words ≡ Some request) where
-  no_kind : (test : ErrorKind → Bool) → list_any test (fault_of cats words) ≡ true → ⊥
-  no_kind test some =
-      none_asked (fault_of cats words) (option_and_then (λ p. request_from p.0 p.1) (subcommand_of cats words)) request test asked some
-
-  pub only_memory : (answer : NoRequest) → IsNoRequestOf words answer → is_no_memory answer ≡ true
-  only_memory (Help text) is = absurd (no_kind is_shown is)
-  only_memory (WrongUsage text) is = absurd (no_kind (λ kind. not (is_shown kind)) is)
-  only_memory (Misused misuse) is = none_found (sym is.1 ∙ asked)
-    where
-      none_found : None ≡ Some request → is_no_memory (Misused misuse) ≡ true
-      none_found none = cc
-  only_memory (NoMemory text) is = refl
+pub only_memory : (words : List (List ℕ)) (request : PlainRequest) (answer : NoRequest) → request_of words ≡ Some request → IsNoRequestOf words answer
+    → is_no_memory answer ≡ true
+only_memory words request (Help text) asked is =
+    let none : fault_of cats words ≡ [] = no_fault _ _ request asked in
+    let some : false ≡ true = rw none at is in
+    cc
+only_memory words request (WrongUsage text) asked is =
+    let none : fault_of cats words ≡ [] = no_fault _ _ request asked in
+    let some : false ≡ true = rw none at is in
+    cc
+only_memory words request (Misused misuse) asked is = let none : None ≡ Some request = sym is.1 ∙ asked in cc
+only_memory words request (NoMemory text) asked is = refl

@@ -2,7 +2,7 @@
 -- `clap` is computed with paths that are not known.
 use Rattle.std.proofs.Common.{◌≡◌, ◌∙◌, ◌++◌, ℕ, Bool, List, [], ◌∷◌, Option, None, Some, true, false, ap, ap₂, get_or, map, refl, sym}
 use Rattle.std.specs.Prelude.{◌||◌, All, find, fold, unwrap_or, if◌then◌else◌, option_and_then, option_map}
-use Rattle.std.proofs.lemmas.List.Elements.{All-cons, All-nil}
+use Rattle.std.proofs.lemmas.List.{get_or-map}
 use Rattle.std.specs.Option.{option_map_or}
 use Rattle.clap.specs.Faults.{check_fault, defaults_fault, level_fault, settle_fault}
 use Rattle.clap.specs.Kinds.{Kinds, or_else}
@@ -41,18 +41,9 @@ module _ (name : Text) (firsts paths : List Text) (plain : ArePlain paths)
   pub line : request_after name (firsts ++ paths) ≡ request_after name (firsts ++ hyphens ∷ paths)
   line =
       let same = same_after (shape_named name) paths plain firsts (walk_from nothing_held) idle in
-      ap (λ (o : Option Shape). request_by o (firsts ++ paths)) found
-      ∙ ap₂ (request_at (shape_named name)) same.1 same.0
-      ∙ sym (ap (λ (o : Option Shape). request_by o (firsts ++ hyphens ∷ paths)) found)
+      rw found (ap₂ (request_at (shape_named name)) same.1 same.0)
 
 -- ---- lines of each row of a list
-
-each : {X Y : Type 0} (f g : X → Y) (xs : List X) → map f xs ≡ map g xs → All (λ x. f x ≡ g x) xs
-each f g [] same = All-nil (λ x. f x ≡ g x)
-each f g (x ∷ xs) same =
-    let first : f x ≡ g x = cc in
-    let others : map f xs ≡ map g xs = cc in
-    All-cons (λ x. f x ≡ g x) x xs first (each f g xs others)
 
 -- the lines of rows of the table with just these paths. With `--` before the paths, they are computed for all rows at once
 module _ (program : Text) (paths : List Text) (plain : ArePlain paths) (given : List (Text × List Text)) where
@@ -73,7 +64,9 @@ module _ (program : Text) (paths : List Text) (plain : ArePlain paths) (given : 
       → All (λ s. request_of (program ∷ s.name ∷ paths) ≡ request_with s given) rows
   lines rows same k d lt =
       let s = get_or rows k d in
-      let is = each computed expected rows same k d lt in
+      let is : computed s ≡ expected s =
+      sym (get_or-map computed rows k d (computed d) lt) ∙ ap (λ (xs : List Computed). get_or xs k (computed d)) same
+      ∙ get_or-map expected rows k d (computed d) lt in
       ap (λ (c : Computed). c.1) is ∙ line s.name [] paths plain (ap (λ (c : Computed). c.0) is) refl ∙ ap (λ (c : Computed). c.2) is
 
 -- ---- limits, whose text is not known

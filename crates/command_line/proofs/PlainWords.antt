@@ -1,8 +1,7 @@
 -- Words that do not begin with a hyphen are taken as they are after `--`: the walk over a line without `--` before its last words goes in step
 -- with the walk over the line that has it.
-use Rattle.std.proofs.Common.{◌≡◌, ◌∙◌, ◌++◌, ℕ, Bool, List, [], ◌∷◌, Option, None, Some, true, false, ap, ap₂, refl, sym}
+use Rattle.std.proofs.Common.{◌≡◌, ◌∙◌, ◌++◌, ℕ, Bool, List, [], ◌∷◌, Option, None, Some, true, false, ap, ap₂, refl, subst, sym}
 use Rattle.std.specs.Prelude.{◌||◌, fold, if◌then◌else◌}
-use Rattle.std.specs.Option.{option_map_or}
 use Rattle.std.specs.Str.{bytes_eq}
 use Rattle.clap.specs.Faults.{step_fault, turn_fault, walk_fault, word_fault}
 use Rattle.clap.specs.Kinds.{Kinds, or_else}
@@ -40,87 +39,55 @@ at held waiting position trailing = record { held = held; waiting = waiting; pos
 
 -- ---- one word
 
-met : (rules : List Rule) (trailing : Bool) (waiting : Waiting) (position : ℕ) (word : Text) (held : Held) → Ready waiting → NoFlag word
-    → word_met rules [] trailing waiting position word held ≡ (held, value)
-met rules true waiting position word held ready plain = refl
-met rules false idle position word held ready plain = rw (plain.other, plain.long, plain.short) refl
-met rules false positional position word held ready plain = rw (plain.other, plain.long, plain.short) refl
-met rules false (option _) position word held ready plain = elim ready [ ]
-
-no_fault : (s : Shape) (trailing : Bool) (waiting : Waiting) (word : Text) (held : Held) → Ready waiting → NoFlag word
-    → word_fault s [] trailing waiting word held ≡ []
-no_fault s true waiting word held ready plain = refl
-no_fault s false idle word held ready plain = rw (plain.other, plain.long, plain.short) refl
-no_fault s false positional word held ready plain = rw (plain.other, plain.long, plain.short) refl
-no_fault s false (option _) word held ready plain = elim ready [ ]
+met : (s : Shape) (trailing : Bool) (waiting : Waiting) (position : ℕ) (word : Text) (held : Held) → Ready waiting → NoFlag word
+    → (word_met s.rules [] trailing waiting position word held ≡ (held, value)) × (word_fault s [] trailing waiting word held ≡ [])
+met s true waiting position word held ready plain = (refl, refl)
+met s false idle position word held ready plain = (rw (plain.other, plain.long, plain.short) refl, rw (plain.other, plain.long, plain.short) refl)
+met s false positional position word held ready plain = (rw (plain.other, plain.long, plain.short) refl, rw (plain.other, plain.long, plain.short) refl)
+met s false (option _) position word held ready plain = elim ready [ ]
 
 turn : (s : Shape) (trailing : Bool) (waiting : Waiting) (position : ℕ) (word : Text) (held : Held) → Ready waiting → NoFlag word
     → turn_fault s [] (at held waiting position trailing) word ≡ step_fault s position held value
 turn s trailing waiting position word held ready plain =
-    ap₂ (λ (kinds : Kinds) (met : Held × _). or_else kinds (step_fault s position met.0 met.1)) (no_fault s trailing waiting word held ready plain)
-    (met s.rules trailing waiting position word held ready plain)
+    let is = met s trailing waiting position word held ready plain in
+    ap₂ (λ (kinds : Kinds) (met : Held × _). or_else kinds (step_fault s position met.0 met.1)) is.1 is.0
 
--- what a walk has after a value, by the positional that takes it
-module _ (rules : List Rule) (word : Text) where
-  abbrev pub held_by : Option Rule → Held → Held
-  held_by taker held = option_map_or (λ rule. positional_held rules rule word held) taker held
+step : (s : Shape) (trailing : Bool) (waiting : Waiting) (position : ℕ) (word : Text) (held : Held) → Ready waiting → NoFlag word
+    → walked s.rules [] (at held waiting position trailing) word
+    ≡ to_positional s.rules (arg_by_index s.rules position) word (at held waiting position trailing) held
+unfolding walked
+step s trailing waiting position word held ready plain = let is = (met s trailing waiting position word held ready plain).0 in rw is refl
 
-  abbrev pub waiting_by : Option Rule → Waiting → Waiting
-  waiting_by taker waiting = option_map_or (λ rule. if is_multiple rule then positional else idle) taker waiting
-
-  abbrev pub position_by : Option Rule → ℕ → ℕ
-  position_by taker position = option_map_or (λ rule. next_position rule position) taker position
-
-  abbrev pub trailing_by : Option Rule → Bool → Bool
-  trailing_by taker trailing = option_map_or (λ rule. trailing || rule.trailing_var_arg) taker trailing
-
-  still_trailing : (taker : Option Rule) → trailing_by taker true ≡ true
-  still_trailing None = refl
-  still_trailing (Some rule) = refl
-
-  still_ready : (taker : Option Rule) (waiting : Waiting) → Ready waiting → Ready (waiting_by taker waiting)
-  still_ready None waiting ready = ready
-  still_ready (Some rule) waiting ready = either (is_multiple rule)
-    where
-      either : (several : Bool) → Ready (if several then positional else idle)
-      either true = in_positional
-      either false = at_start
-
-  taken_by : (taker : Option Rule) (held : Held) (waiting : Waiting) (position : ℕ) (trailing : Bool)
-      → to_positional rules taker word (at held waiting position trailing) held
-      ≡ at (held_by taker held) (waiting_by taker waiting) (position_by taker position) (trailing_by taker trailing)
-  taken_by None held waiting position trailing = refl
-  taken_by (Some rule) held waiting position trailing = refl
-
-  step : (held : Held) (waiting : Waiting) (position : ℕ) (trailing : Bool) → Ready waiting → NoFlag word
-      → walked rules [] (at held waiting position trailing) word
-      ≡ at (held_by (arg_by_index rules position) held) (waiting_by (arg_by_index rules position) waiting)
-      (position_by (arg_by_index rules position) position) (trailing_by (arg_by_index rules position) trailing)
-  unfolding walked
-  step held waiting position trailing ready plain =
-      rw (met rules trailing waiting position word held ready plain) (taken_by (arg_by_index rules position) held waiting position trailing)
+after_positional : (several : Bool) → Ready (if several then positional else idle)
+after_positional true = in_positional
+after_positional false = at_start
 
 -- ---- all words
 
-pub same_walk : (s : Shape) (words : List Text) → ArePlain words → (held : Held) (waiting : Waiting) (position : ℕ) (trailing : Bool) → Ready waiting
-    → ((fold (walked s.rules []) (at held waiting position trailing) words).held ≡ (fold (walked s.rules []) (at held waiting position true) words).held)
-    × (walk_fault s [] (at held waiting position trailing) words ≡ walk_fault s [] (at held waiting position true) words)
+-- two walks over such words hold the same at the end, and find the same faults
+abbrev pub EndAlike : Shape → Walk → List Text → Walk → List Text → Type 0
+EndAlike s one words other others =
+    ((fold (walked s.rules []) one words).held ≡ (fold (walked s.rules []) other others).held) × (walk_fault s [] one words ≡ walk_fault s [] other others)
+
+same_walk : (s : Shape) (words : List Text) → ArePlain words → (held : Held) (waiting : Waiting) (position : ℕ) (trailing : Bool) → Ready waiting
+    → EndAlike s (at held waiting position trailing) words (at held waiting position true) words
 unfolding walk_fault
 same_walk s [] plain held waiting position trailing ready = (refl, refl)
 same_walk s (word ∷ words) plain held waiting position trailing ready =
-    let rules = s.rules in
-    let taker = arg_by_index rules position in
     let word_plain = no_flag word plain.0 in
-    let one = step rules word held waiting position trailing ready word_plain in
-    let other = step rules word held waiting position true ready word_plain
-    ∙ ap (at (held_by rules word taker held) (waiting_by rules word taker waiting) (position_by rules word taker position))
-    (still_trailing rules word taker) in
-    let later = same_walk s words plain.1 (held_by rules word taker held) (waiting_by rules word taker waiting) (position_by rules word taker position)
-    (trailing_by rules word taker trailing) (still_ready rules word taker waiting ready) in (
-      ap (λ (w : Walk). (fold (walked rules []) w words).held) one ∙ later.0 ∙ sym (ap (λ (w : Walk). (fold (walked rules []) w words).held) other),
-      ap₂ or_else (turn s trailing waiting position word held ready word_plain ∙ sym (turn s true waiting position word held ready word_plain))
-          (ap (λ (w : Walk). walk_fault s [] w words) one ∙ later.1 ∙ sym (ap (λ (w : Walk). walk_fault s [] w words) other)),
-    )
+    let later : EndAlike s (walked s.rules [] (at held waiting position trailing) word) words (walked s.rules [] (at held waiting position true) word) words =
+    rw (step s trailing waiting position word held ready word_plain, step s true waiting position word held ready word_plain)
+    (go (arg_by_index s.rules position) (same_walk s words plain.1)) in
+    (later.0, ap₂ or_else (turn s trailing waiting position word held ready word_plain ∙ sym (turn s true waiting position word held ready word_plain)) later.1)
+  where
+    go : (taker : Option Rule)
+        → ((h : Held) (w : Waiting) (p : ℕ) (t : Bool) → Ready w → EndAlike s (at h w p t) words (at h w p true) words)
+        → EndAlike s (to_positional s.rules taker word (at held waiting position trailing) held) words
+        (to_positional s.rules taker word (at held waiting position true) held) words
+    go None later = later held waiting position trailing ready
+    go (Some rule) later =
+        later (positional_held s.rules rule word held) (if is_multiple rule then positional else idle) (next_position rule position)
+        (trailing || rule.trailing_var_arg) (after_positional (is_multiple rule))
 
 -- no option waits for a value, and `--` was not met
 abbrev pub IsIdle : Walk → Type 0
@@ -128,15 +95,10 @@ IsIdle walk = walk ≡ at walk.held idle walk.position false
 
 -- these words behind others, which may be options with their values
 pub same_after : (s : Shape) (words : List Text) → ArePlain words → (firsts : List Text) (walk : Walk) → IsIdle (fold (walked s.rules []) walk firsts)
-    → ((fold (walked s.rules []) walk (firsts ++ words)).held ≡ (fold (walked s.rules []) walk (firsts ++ hyphens ∷ words)).held)
-    × (walk_fault s [] walk (firsts ++ words) ≡ walk_fault s [] walk (firsts ++ hyphens ∷ words))
+    → EndAlike s walk (firsts ++ words) walk (firsts ++ hyphens ∷ words)
 unfolding walked walk_fault
 same_after s words plain [] walk is =
-    let same = same_walk s words plain walk.held idle walk.position false at_start in (
-      ap (λ (w : Walk). (fold (walked s.rules []) w words).held) is ∙ same.0
-          ∙ sym (ap (λ (w : Walk). (fold (walked s.rules []) w (hyphens ∷ words)).held) is),
-      ap (λ (w : Walk). walk_fault s [] w words) is ∙ same.1 ∙ sym (ap (λ (w : Walk). walk_fault s [] w (hyphens ∷ words)) is),
-    )
+    subst (λ (w : Walk). EndAlike s w words w (hyphens ∷ words)) (sym is) (same_walk s words plain walk.held idle walk.position false at_start)
 same_after s words plain (first ∷ firsts) walk is =
     let later = same_after s words plain firsts (walked s.rules [] walk first) is in
     (later.0, ap (or_else (turn_fault s [] walk first)) later.1)

@@ -5,7 +5,8 @@ use Rattle.std.specs.List.{list_any}
 use Rattle.std.specs.Prelude.{◌||◌, option_and_then, option_map}
 use Rattle.std.specs.Option.{option_map_or}
 use Rattle.std.specs.Result.{result_ok}
-use Rattle.std.specs.Str.Parse.{ParsesUnsigned}
+use Rattle.std.specs.Str.Parse.{ParsesUnsigned, ExplainsUnsignedError, HasUnsignedDigitsIfOk}
+use Rattle.std.specs.declared.num.ParseIntError.{ParseIntError}
 use Rattle.clap.specs.Matches.{ReadsOne, StepsValues}
 use Rattle.clap.specs.ValueTests.{is_unsigned_in}
 use Rattle.clap.specs.declared.builder.value_parser.ValueParser.TheVariants.{Unsigned}
@@ -13,6 +14,7 @@ use Rattle.clap.proofs.ValueTestLemmas.{accepts-Accepts, Accepts-accepts}
 use Rattle.command_line.specs.Requests.{texts_of}
 use Rattle.command_line.specs.Goods.{good_of}
 use Rattle.command_line.specs.Numbers.{begins_with_sign, number_up_to, numbers_up_to}
+use Rattle.std.proofs.lemmas.Iterator.Adapters.{option_map_id}
 use Rattle.std.proofs.lemmas.List.{append_assoc}
 
 -- a number below 2 ^ bits that is read from a text is the text's
@@ -31,15 +33,18 @@ module _ (bits most : ℕ) (is : 2 ^ bits ≡ most + 1) (small : most < 2 ^ 64) 
           absurd (h (numeral.0, omega (arith, within, is)))
       go false accepts = rw accepts refl
 
-pub limit_read : (E : Type 0) (G : List ℕ → Result ℕ E → Type 0) → ((text : List ℕ) (answer : Result ℕ E) → G text answer → ParsesUnsigned 64 10 text answer)
-    → (found : Option (List ℕ)) (answer : Option ℕ) → (found ≡ None → answer ≡ None)
-    → ((text : List ℕ) → found ≡ Some text → ReadsOne G text answer) → answer ≡ option_and_then (number_up_to 18446744073709551615) found
-limit_read E G only None answer none value = none refl
-limit_read E G only (Some text) answer none value = read answer (value text refl)
+-- what `from_str` answers for a number below 2 ^ bits
+abbrev pub Reads : ℕ → List ℕ → Result ℕ ParseIntError → Type 0
+Reads bits text answer = ParsesUnsigned bits 10 text answer × ExplainsUnsignedError 10 text answer × HasUnsignedDigitsIfOk text answer
+
+pub limit_read : (found : Option (List ℕ)) (answer : Option ℕ) → (found ≡ None → answer ≡ None)
+    → ((text : List ℕ) → found ≡ Some text → ReadsOne (Reads 64) text answer) → answer ≡ option_and_then (number_up_to 18446744073709551615) found
+limit_read None answer none value = none refl
+limit_read (Some text) answer none value = read answer (value text refl)
   where
-    read : (answer : Option ℕ) → ReadsOne G text answer → answer ≡ number_up_to 18446744073709551615 text
-    read (Some n) h = number_read 64 18446744073709551615 refl (omega arith) E text (Ok n) (only text (Ok n) h)
-    read None h = number_read 64 18446744073709551615 refl (omega arith) E text (Err h.0) (only text (Err h.0) h.1)
+    read : (answer : Option ℕ) → ReadsOne (Reads 64) text answer → answer ≡ number_up_to 18446744073709551615 text
+    read (Some n) h = number_read 64 18446744073709551615 refl (omega arith) ParseIntError text (Ok n) h.0
+    read None h = number_read 64 18446744073709551615 refl (omega arith) ParseIntError text (Err h.0) h.1.0
 
 pub good_read : (E : Type 0) (text : List ℕ) (answer : Result ℕ E) → begins_with_sign text ≡ false → ParsesUnsigned 16 10 text answer
     → result_ok answer ≡ good_of text
@@ -57,31 +62,22 @@ any_of_texts test (word ∷ words) = ap (λ b. test word.now || b) (any_of_texts
 abbrev pub numbers_after : List ℕ → List (List ℕ) → Option (List ℕ)
 numbers_after so_far texts = option_map (λ ns. so_far ++ ns) (numbers_up_to 4294967295 texts)
 
-module _ (E : Type 0) (G : List ℕ → Result ℕ E → Type 0) (only : (text : List ℕ) (answer : Result ℕ E) → G text answer → ParsesUnsigned 32 10 text answer)
-    (so_far : List ℕ) where
-  small_read : (text : List ℕ) (answer : Result ℕ E) → G text answer → result_ok answer ≡ number_up_to 4294967295 text
-  small_read text answer gives = number_read 32 4294967295 refl (omega arith) E text answer (only text answer gives)
-
-  pub one_more : (texts rest : List (List ℕ)) (n : ℕ) → StepsValues G texts rest (Some (Ok n))
-      → numbers_after so_far texts ≡ numbers_after (so_far ++ n ∷ []) rest
-  one_more [] rest n steps = absurd steps
-  one_more (text ∷ texts) rest n steps = rw (steps.1, ← small_read text (Ok n) steps.0) (go (numbers_up_to 4294967295 texts))
-    where
-      go : (o : Option (List ℕ)) → option_map (λ ns. so_far ++ ns) (option_map (λ ns. n ∷ ns) o) ≡ option_map (λ ns. (so_far ++ n ∷ []) ++ ns) o
-      go None = refl
-      go (Some ns) = ap Some (sym (append_assoc so_far (n ∷ []) ns))
-
-  pub not_read : (texts rest : List (List ℕ)) (error : E) → StepsValues G texts rest (Some (Err error)) → numbers_after so_far texts ≡ None
-  not_read [] rest error steps = absurd steps
-  not_read (text ∷ texts) rest error steps = rw (← small_read text (Err error) steps.0) refl
+pub one_more : (so_far : List ℕ) (texts rest : List (List ℕ)) (answer : Result ℕ ParseIntError) → StepsValues (Reads 32) texts rest (Some answer)
+    → numbers_after so_far texts ≡ option_and_then (λ n. numbers_after (so_far ++ n ∷ []) rest) (result_ok answer)
+one_more so_far [] rest answer steps = absurd steps
+one_more so_far (text ∷ texts) rest answer steps =
+    rw (steps.1, number_read 32 4294967295 refl (omega arith) ParseIntError text answer steps.0.0)
+    (go (number_up_to 4294967295 text) (numbers_up_to 4294967295 texts))
+  where
+    go : (first : Option ℕ) (others : Option (List ℕ)) → option_map (λ ns. so_far ++ ns) (option_and_then (λ n. option_map (λ ns. n ∷ ns) others) first)
+        ≡ option_and_then (λ n. option_map (λ ns. (so_far ++ n ∷ []) ++ ns) others) first
+    go None others = refl
+    go (Some n) None = refl
+    go (Some n) (Some ns) = ap Some (sym (append_assoc so_far (n ∷ []) ns))
 
 pub numbers_given : (found : Option (List (List ℕ))) (texts : List (List ℕ)) (so_far : List ℕ) → so_far ≡ [] → found ≡ Some texts
     → option_map_or (numbers_up_to 4294967295) found (Some []) ≡ numbers_after so_far texts
-numbers_given found texts so_far none is = rw (is, none) (go (numbers_up_to 4294967295 texts))
-  where
-    go : (o : Option (List ℕ)) → o ≡ option_map (λ ns. [] ++ ns) o
-    go None = refl
-    go (Some ns) = refl
+numbers_given found texts so_far none is = rw (is, none) (sym (option_map_id (numbers_up_to 4294967295 texts)))
 
 pub no_numbers : (found : Option (List (List ℕ))) (so_far : List ℕ) → so_far ≡ [] → found ≡ None
     → Some so_far ≡ option_map_or (numbers_up_to 4294967295) found (Some [])

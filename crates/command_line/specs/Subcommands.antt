@@ -81,10 +81,20 @@ bound = flag (codes "bound")
 abbrev pub with_rounding : List Rule → List Rule
 with_rounding rules = flag (codes "round") ∷ flag (codes "round-exact") ∷ rules
 
--- the rules of many files, with these behind the flags
+-- the limits of searches, before these rules
+abbrev pub with_limits : List Rule → List Rule
+with_limits rules = steps ∷ total_steps ∷ rules
+
+-- the rules of one file, of two, and of many, with these behind the flags
+abbrev pub one : List Rule
+one = file ∷ more_files ∷ []
+
+abbrev pub two : List Rule
+two = file ∷ second_file ∷ more_files ∷ []
+
 abbrev pub many : List Rule → List Rule
-many more = with_rounding (steps ∷ total_steps ∷ flag (codes "progress") ∷ null ∷ more
-    ++ option (codes "files0-from") ∷ files ∷ [])
+many more = with_rounding (with_limits (flag (codes "progress") ∷ null ∷ more
+    ++ option (codes "files0-from") ∷ files ∷ []))
 
 -- ---- what was given, by the rows of the arguments
 
@@ -211,68 +221,37 @@ on_files command rows = option_and_then (λ limits. option_map (λ paths. OnFile
 abbrev pub limited : (Limits → PlainCommand) → List Row → Option PlainCommand
 limited make rows = option_map make (limits_in rows)
 
+abbrev pub awarded : List Row → Option PlainCommand
+awarded rows = option_map Revenue (bids_in rows)
+
 abbrev pub valued : List Row → Option PlainCommand
 valued rows = option_and_then (λ limits. option_map (λ given. Value given limits) (goods_in rows)) (limits_in rows)
 
+-- for a rounded text
+abbrev pub round_in : List Row → Option PlainRequest
+round_in rows = option_map (λ path. Round path (is_set (codes "exact") rows)) (file_in rows)
+
+abbrev pub duplicates_in : List Row → Option PlainRequest
+duplicates_in rows = on_files (Duplicates (is_set (codes "all") rows)) rows
+
+abbrev pub named : List ℕ → List Rule → (List Row → Option PlainRequest) → Subcommand
+named name rules request = record { name = name; rules = rules; request = request }
+
 abbrev pub subcommands : List Subcommand
 subcommands =
-    record {
-      name = codes "check";
-      rules = with_rounding (file ∷ more_files ∷ []);
-      request = on_file (λ rows. Some Check);
-    }
-    ∷ record { name = codes "fault"; rules = file ∷ more_files ∷ []; request = λ rows. option_map Fault (file_in rows) }
-    ∷ record {
-      name = codes "show";
-      rules = with_rounding (file ∷ more_files ∷ []);
-      request = on_file (λ rows. Some Show);
-    }
-    ∷ record {
-      name = codes "value";
-      rules = with_rounding (bound ∷ steps ∷ total_steps ∷ file ∷ goods ∷ []);
-      request = on_file valued;
-    }
-    ∷ record {
-      name = codes "revenue";
-      rules = with_rounding (option (codes "bids") ∷ file ∷ bids ∷ []);
-      request = on_file (λ rows. option_map Revenue (bids_in rows));
-    }
-    ∷ record {
-      name = codes "normalise";
-      rules = with_rounding (bound ∷ steps ∷ total_steps ∷ file ∷ more_files ∷ []);
-      request = on_file (limited Normalise);
-    }
-    ∷ record {
-      name = codes "explain";
-      rules = with_rounding (steps ∷ total_steps ∷ file ∷ more_files ∷ []);
-      request = on_file (limited Explain);
-    }
-    ∷ record {
-      name = codes "round";
-      rules = flag (codes "exact") ∷ file ∷ more_files ∷ [];
-      request = λ rows. option_map (λ path. Round path (is_set (codes "exact") rows)) (file_in rows);
-    }
-    ∷ record {
-      name = codes "lp";
-      rules = with_rounding (file ∷ more_files ∷ []);
-      request = on_file (λ rows. Some Lp);
-    }
-    ∷ record {
-      name = codes "compare";
-      rules = with_rounding (bound ∷ steps ∷ total_steps ∷ file ∷ second_file ∷ more_files ∷ []);
-      request = on_pair Compare;
-    }
-    ∷ record {
-      name = codes "diff";
-      rules = with_rounding (steps ∷ total_steps ∷ file ∷ second_file ∷ more_files ∷ []);
-      request = on_pair Diff;
-    }
-    ∷ record {
-      name = codes "duplicates";
-      rules = many (flag (codes "all") ∷ []);
-      request = λ rows. on_files (Duplicates (is_set (codes "all") rows)) rows;
-    }
-    ∷ record { name = codes "sizes"; rules = many []; request = on_files Sizes }
+    named (codes "check") (with_rounding one) (on_file (λ rows. Some Check))
+    ∷ named (codes "fault") one (λ rows. option_map Fault (file_in rows))
+    ∷ named (codes "show") (with_rounding one) (on_file (λ rows. Some Show))
+    ∷ named (codes "value") (with_rounding (bound ∷ with_limits (file ∷ goods ∷ []))) (on_file valued)
+    ∷ named (codes "revenue") (with_rounding (option (codes "bids") ∷ file ∷ bids ∷ [])) (on_file awarded)
+    ∷ named (codes "normalise") (with_rounding (bound ∷ with_limits one)) (on_file (limited Normalise))
+    ∷ named (codes "explain") (with_rounding (with_limits one)) (on_file (limited Explain))
+    ∷ named (codes "round") (flag (codes "exact") ∷ one) round_in
+    ∷ named (codes "lp") (with_rounding one) (on_file (λ rows. Some Lp))
+    ∷ named (codes "compare") (with_rounding (bound ∷ with_limits two)) (on_pair Compare)
+    ∷ named (codes "diff") (with_rounding (with_limits two)) (on_pair Diff)
+    ∷ named (codes "duplicates") (many (flag (codes "all") ∷ [])) duplicates_in
+    ∷ named (codes "sizes") (many []) (on_files Sizes)
     ∷ []
 
 abbrev pub shape_of_subcommand : Subcommand → Shape

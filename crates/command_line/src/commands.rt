@@ -4,9 +4,9 @@ ghost use Rattle.std.specs.Prelude.{◌≡◌, IfOk, false, fold, option_map};
 ghost use Rattle.clap.specs.Words.{app_of, rule_of};
 ghost use Rattle.command_line.specs.Internal.Commands.{has_globals, rule_for, shape_for, with_row};
 ghost use Rattle.command_line.specs.Internal.Matches.{rows_in};
-ghost use Rattle.command_line.specs.PlainRequests.{Explain, Normalise, plain_command, plain_request};
+ghost use Rattle.command_line.specs.PlainRequests.{plain_request};
 ghost use Rattle.command_line.specs.Requests.{request_from};
-ghost use Rattle.command_line.specs.Subcommands.{cats, flag, limited, option};
+ghost use Rattle.command_line.specs.Subcommands.{cats, flag, option};
 
 use crate::help::{CommandHelp, argument_text, find_help};
 use crate::parser::{
@@ -96,7 +96,7 @@ struct Subcommand {
 }
 
 /// The subcommands, as the help lists them.
-static SUBCOMMANDS: [Subcommand; 13] = [
+static SUBCOMMANDS: &[Subcommand] = &[
     Subcommand {
         name: "check",
         arguments: &[Round, RoundExact, File, MoreFiles],
@@ -176,8 +176,14 @@ pub(crate) fn find_named_request<'a>(
         "show" => Ok(on_file(given, Some(FileCommand::Show))),
         "value" => Ok(on_file(given, find_value(alloc, given)?)),
         "revenue" => Ok(on_file(given, find_bids(alloc, given)?.map(FileCommand::Revenue))),
-        "normalise" => Ok(on_file(given, find_normalise(given))),
-        "explain" => Ok(on_file(given, find_explain(given))),
+        "normalise" => match find_limits(given) {
+            Some(limits) => Ok(on_file(given, Some(FileCommand::Normalise(limits)))),
+            None => Ok(None),
+        },
+        "explain" => match find_limits(given) {
+            Some(limits) => Ok(on_file(given, Some(FileCommand::Explain(limits)))),
+            None => Ok(None),
+        },
         "round" => {
             let exact = is_set(given, EXACT);
             Ok(find_text(given, FILE).map(|file| Request::Round { file, exact }))
@@ -194,18 +200,6 @@ pub(crate) fn find_named_request<'a>(
     }
 }
 
-fn find_normalise<'a>(given: &ArgMatches<'a>) -> Option<FileCommand<'a>>
-    ensures { option_map plain_command result ≡ limited Normalise (rows_in given.now) }
-{
-    Some(FileCommand::Normalise(find_limits(given)?))
-}
-
-fn find_explain<'a>(given: &ArgMatches<'a>) -> Option<FileCommand<'a>>
-    ensures { option_map plain_command result ≡ limited Explain (rows_in given.now) }
-{
-    Some(FileCommand::Explain(find_limits(given)?))
-}
-
 /// The command of the program. `--version` prints this version after the program's name, and `--help` these texts.
 pub(crate) fn cats_command<'a>(
     alloc: Global,
@@ -220,7 +214,7 @@ pub(crate) fn cats_command<'a>(
         .version(version)
         .after_help(texts.map_or("", |texts| texts.after))
         .subcommand_required(true);
-    with_subcommands(alloc, cats, &SUBCOMMANDS, help)
+    with_subcommands(alloc, cats, SUBCOMMANDS, help)
 }
 
 fn with_subcommands<'a>(

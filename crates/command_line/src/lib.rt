@@ -6,7 +6,7 @@ mod goods;
 mod help;
 pub mod laws;
 mod parser;
-mod request;
+pub mod request;
 #[cfg(test)]
 mod tests;
 mod version;
@@ -14,8 +14,4 @@ pub mod worked;
 
 pub use help::CommandHelp;
 pub use parser::parse;
-pub use request::{
-    FileCommand, FilePaths, FileRequest, FilesCommand, FilesRequest, Limits, Misuse, NamedBids,
-    NoRequest, PairCommand, PairRequest, Prices, Request,
-};
 pub use version::VERSION;

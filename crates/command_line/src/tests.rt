@@ -1,11 +1,12 @@
 //! What no clause says of command lines. It is the files, goods and limits that they name, and what `clap` prints.
 
-use crate::{Misuse, NoRequest, Request, VERSION, parse};
+use crate::request::{Misuse, NoRequest, Request};
+use crate::{VERSION, parse};
 use std::process::Abort;
 use std::test::Fail;
 
 /// Command lines, and their requests.
-static REQUESTS: [(&[&str], &str); 30] = [
+static REQUESTS: &[(&[&str], &str)] = &[
     (
         &["cats", "check", "a"],
         "OnFile(FileRequest { file: \"a\", prices: AsWritten, command: Check })",
@@ -148,7 +149,7 @@ fn expect_request(
 
 #[test]
 fn requests(rt: HostRuntime) -> Result<(), Fail> {
-    for (words, asked) in &REQUESTS {
+    for (words, asked) in REQUESTS {
         let request = parse(rt.alloc(), VERSION, &[], words)?;
         expect_request(&rt, words, &request, asked)?;
     }
@@ -168,7 +169,7 @@ fn help_and_version(rt: HostRuntime) {
 }
 
 /// Command lines that are no request.
-static WRONG_LINES: [&[&str]; 20] = [
+static WRONG_LINES: &[&[&str]] = &[
     &[],
     &["cats"],
     &["cats", "check"],
@@ -194,7 +195,7 @@ static WRONG_LINES: [&[&str]; 20] = [
 
 #[test]
 fn wrong_usage(rt: HostRuntime) {
-    for words in &WRONG_LINES {
+    for words in WRONG_LINES {
         let answer = parse(rt.alloc(), VERSION, &[], words);
         let is_wrong = matches!(&answer, Err(NoRequest::WrongUsage(text)) if !text.is_empty());
         assert!(rt; is_wrong, "of {words:?}: {answer:?}");
@@ -202,7 +203,7 @@ fn wrong_usage(rt: HostRuntime) {
 }
 
 /// Command lines that `clap` takes and that are wrong, and why.
-static MISUSES: [(&[&str], Misuse); 22] = [
+static MISUSES: &[(&[&str], Misuse)] = &[
     (&["cats", "duplicates"], Misuse::WrongFiles),
     (&["cats", "sizes", "--total-steps=5"], Misuse::WrongFiles),
     (
@@ -262,7 +263,7 @@ static MISUSES: [(&[&str], Misuse); 22] = [
 
 #[test]
 fn misuses(rt: HostRuntime) {
-    for (words, misuse) in &MISUSES {
+    for (words, misuse) in MISUSES {
         let answer = parse(rt.alloc(), VERSION, &[], words);
         assert!(rt;
             matches!(&answer, Err(NoRequest::Misused(why)) if why == misuse),

@@ -1,12 +1,14 @@
 -- The number of a bid. The best of a bidder's bids on a bundle is the only one there that is found.
-use Rattle.std.proofs.Common.{◌≡◌, ℕ, ◌<◌, Bool, true, false, ◌&&◌, cond, ⊎_elim, List, [], ◌∷◌, length, sym, ap, ◌∙◌, subst, Option, Some}
+use Rattle.std.proofs.Common.{◌≡◌, ℕ, ◌<◌, ◌≤◌, Bool, true, ◌&&◌, ⊎_elim, List, length, get_or, sym, ap, ◌∙◌, subst, arith, Option, Some}
 use Rattle.std.specs.Prelude.{Contains}
-use Rattle.std.specs.List.{find}
-use Rattle.std.proofs.lemmas.Bool.{and_from, and_parts, both_ways, cases_Bool}
+use Rattle.std.specs.List.{find, position_or_len}
+use Rattle.std.proofs.lemmas.Bool.{and_from, and_parts, both_ways, cases_lt}
 use Rattle.std.proofs.lemmas.List.{get_or_default}
+use Rattle.std.proofs.lemmas.List.Elements.{Contains-get_or}
+use Rattle.std.proofs.lemmas.List.Folds.{find_at}
+use Rattle.std.proofs.lemmas.List.Sums.{fails_before_first, passes_at_first}
+use Rattle.std.proofs.lemmas.Option.{slice_get-get_or}
 use Rattle.bid_file.specs.Files.{PlainBid, PlainFile}
-use Rattle.valuation.specs.Lemmas.Lists.{Contains-cons_cases}
-use Rattle.prune.specs.Lemmas.Lists.{Contains-head, Contains-nil, Contains-tail}
 use Rattle.analysis.specs.Bids.{bid_at, are_alike, is_best, numbers_of, best_number, IsBestFor}
 use Rattle.analysis.specs.BidOrders.{AreInOrder, HasBid}
 use Rattle.analysis.specs.declared.reasons.best.NumberedBid.{NumberedBid}
@@ -16,17 +18,21 @@ use Rattle.analysis.proofs.Explaining.BestBids.{alike_from, one_key}
 use Rattle.analysis.proofs.Explaining.KeptBidsBest.{best-once, one_key_sym}
 use Rattle.analysis.proofs.Explaining.KeptBidsLists.{below_numbers, in_numbers}
 
+-- the first element that passes is there if another one passes
+pub first_within : {X : Type 0} (p : X → Bool) (xs : List X) (x : X) → Contains xs x → p x ≡ true → position_or_len p xs < length xs
+first_within p xs x c t =
+    ⊎_elim (λ (l : position_or_len p xs < length xs). l)
+    (λ (l : length xs ≤ position_or_len p xs).
+    let off = fails_before_first p xs c.0 x (omega (arith, c.1)) in absurd (both_ways (p x) (sym (ap p c.2) ∙ off) t))
+    (cases_lt (position_or_len p xs) (length xs))
+
 find_only : {X : Type 0} (p : X → Bool) (xs : List X) (x : X) → Contains xs x → p x ≡ true → ((y : X) → Contains xs y → p y ≡ true → y ≡ x)
     → find p xs ≡ Some x
-find_only p [] x c t only = absurd (Contains-nil x c)
-find_only {X} p (y ∷ ys) x c t only =
-    ⊎_elim
-    (λ (here : p y ≡ true). ap (λ (b : Bool). cond {A = Option X} b (Some y) (find p ys)) here ∙ ap Some (only y (Contains-head y ys) here))
-    (λ (past : p y ≡ false). ap (λ (b : Bool). cond {A = Option X} b (Some y) (find p ys)) past
-    ∙ ⊎_elim (λ (e : y ≡ x). absurd (both_ways (p y) past (ap p e ∙ t)))
-    (λ (d : Contains ys x). find_only p ys x d t (λ z there. only z (Contains-tail y ys z there)))
-    (Contains-cons_cases y ys x c))
-    (cases_Bool (p y))
+find_only p xs x c t only =
+    let first = position_or_len p xs in
+    let within = first_within p xs x c t in
+    find_at p xs ∙ slice_get-get_or xs first x within
+    ∙ ap Some (only (get_or xs first x) (Contains-get_or xs first x within) (passes_at_first p xs x within))
 
 pub number_is_best : (f : PlainFile) (i j : ℕ) → IsBestFor f i j → best_number f (bid_at f i).dummy (bid_at f i).goods ≡ Some j
 number_is_best f i j h =

@@ -12,7 +12,7 @@ use Rattle.valuation.specs.Auctions.{IsAtom, PlainAuction, atom_of, auction_from
 use Rattle.valuation.specs.Lemmas.Lists.{Contains-unmap}
 use Rattle.prune.specs.Lemmas.KeptBids.{just_bundles, on_bundles, or_points_are_atoms, xor_points_are_atoms}
 use Rattle.prune.specs.Lemmas.Lists.{Contains-filter_parts}
-use Rattle.prune.specs.Points.{or_points, xor_points}
+use Rattle.prune.specs.Points.{or_points}
 use Rattle.canon.proofs.CanonicalAuctions.Atoms.{HasAtoms}
 use Rattle.canon.proofs.CanonicalFiles.Files.{auction_from-file_from}
 use Rattle.canon.proofs.CanonicalFiles.Texts.{HasAtoms-file}
@@ -26,15 +26,17 @@ use Rattle.analysis.proofs.Explaining.KeptBidsBest.{none_is, some_is}
 use Rattle.commands.specs.Internal.Sides.{IsBidOf, IsOfBidders, IsOfBids}
 use Rattle.commands.proofs.ComparedFiles.{lefts_below, rights_below}
 
--- an atom of the bids that pass a test is a bid
-bid_of_atom : (bids : List PlainBid) (p : PlainBid → Bool) (dummy : Option ℕ) → ((b : PlainBid) → p b ≡ true → b.dummy ≡ dummy) → (a : Atom (List ℕ))
-    → Contains (map atom_of (filter p bids)) a → Contains bids (record { price = a.price; goods = a.bundle; dummy = dummy })
-bid_of_atom bids p dummy same a c =
-    let r = Contains-unmap atom_of (filter p bids) a c in
+-- each point is an atom of the bids that pass a test, so its price is that of a bid
+bid_of_point : (bids : List PlainBid) (p : PlainBid → Bool) (dummy : Option ℕ) → ((b : PlainBid) → p b ≡ true → b.dummy ≡ dummy)
+    → (points : List (Atom (List ℕ))) → All (Contains (map atom_of (filter p bids))) points → (bundle : List ℕ) (price : ℕ)
+    → price_on points bundle ≡ Some price → Contains bids (record { price = price; goods = bundle; dummy = dummy })
+bid_of_point bids p dummy same points are bundle price e =
+    let atoms = map atom_of (filter p bids) in
+    let r = Contains-unmap atom_of (filter p bids) _ (All-contains (Contains atoms) points _ are (bid_of_price points bundle price e)) in
     let s = Contains-filter_parts p bids r.0 r.1 in
     subst (λ (b : PlainBid). Contains bids b)
     (ap (λ (x : Atom (List ℕ)). record { price = x.price; goods = x.bundle; dummy = r.0.dummy }) (sym r.2)
-    ∙ ap (λ (o : Option ℕ). record { price = a.price; goods = a.bundle; dummy = o }) (same r.0 s.1)) s.0
+    ∙ ap (λ (o : Option ℕ). record { price = price; goods = bundle; dummy = o }) (same r.0 s.1)) s.0
 
 module _ (f : PlainFile) (plain : IsPlainFile f) where
   atoms : HasAtoms (auction_from f)
@@ -43,15 +45,6 @@ module _ (f : PlainFile) (plain : IsPlainFile f) where
   canonical_is : auction_from (canonical_file f) ≡ canonical_auction (auction_from f)
   canonical_is = auction_from-file_from (canonical_auction (auction_from f))
 
-  or_bid : (bundle : List ℕ) (price : ℕ) → price_on (auction_from (canonical_file f)).or_atoms bundle ≡ Some price
-      → Contains f.bids (record { price = price; goods = bundle; dummy = None })
-  or_bid bundle price e =
-      let bids = or_atoms_of f.bids in
-      let point = bid_of_price (or_points f.goods bids) bundle price (sym (ap (λ (a : PlainAuction). price_on a.or_atoms bundle) canonical_is) ∙ e) in
-      bid_of_atom f.bids (λ b. is_none b.dummy) None (λ b t. none_is b.dummy t) (record { bundle = bundle; price = price })
-      (All-contains (Contains bids) (or_points f.goods bids) (record { bundle = bundle; price = price })
-      (or_points_are_atoms f.goods bids (on_bundles f.goods bids atoms.or_atoms)) point)
-
   atoms_of_dummy : (d : ℕ) → d < f.dummy → All (IsAtom f.goods) (xor_atoms_of f.bids d)
   atoms_of_dummy d l =
       let bidders = map (xor_atoms_of f.bids) (range_with_len 0 f.dummy) in
@@ -59,10 +52,20 @@ module _ (f : PlainFile) (plain : IsPlainFile f) where
       subst (All (IsAtom f.goods)) (get_or-map-range_with_len (xor_atoms_of f.bids) 0 f.dummy d d [] l (omega arith))
       (All-get_or (All (IsAtom f.goods)) bidders d [] (omega arith) atoms.xor_atoms)
 
-  xor_bid : (index : ℕ) → index < length (kept_dummies f) → (bundle : List ℕ) (price : ℕ)
-      → price_on (bidder_at (auction_from (canonical_file f)).xor_bidders index) bundle ≡ Some price
-      → Contains f.bids (record { price = price; goods = bundle; dummy = Some (get_or (kept_dummies f) index 0) })
-  xor_bid index l bundle price e =
+  -- ---- a price on one side
+
+  or_bid_of : (bundle : List ℕ) (o : Option ℕ) → o ≡ price_on (auction_from (canonical_file f)).or_atoms bundle → IsBidOf f None bundle o
+  or_bid_of bundle None e = tt
+  or_bid_of bundle (Some price) e =
+      bid_of_point f.bids (λ b. is_none b.dummy) None (λ b t. none_is b.dummy t) (or_points f.goods (or_atoms_of f.bids))
+      (or_points_are_atoms f.goods (or_atoms_of f.bids) (on_bundles f.goods (or_atoms_of f.bids) atoms.or_atoms)) bundle price
+      (sym (e ∙ ap (λ (a : PlainAuction). price_on a.or_atoms bundle) canonical_is))
+
+  xor_bid_of : (o : Option ℕ) → IsDummyBelow (length (kept_dummies f)) o → (bundle : List ℕ) (p : Option ℕ)
+      → p ≡ price_on (bids_at (auction_from (canonical_file f)).xor_bidders o) bundle → IsBidOf f (named_dummy (kept_dummies f) o) bundle p
+  xor_bid_of o l bundle None e = tt
+  xor_bid_of None l bundle (Some price) e = absurd (cc)
+  xor_bid_of (Some index) l bundle (Some price) e =
       let d = get_or (kept_dummies f) index 0 in
       let bids = xor_atoms_of f.bids d in
       let below = (kept_dummies-below f d (Contains-get_or (kept_dummies f) index 0 l)).0 in
@@ -70,22 +73,9 @@ module _ (f : PlainFile) (plain : IsPlainFile f) where
       ap (λ (a : PlainAuction). bidder_at a.xor_bidders index) canonical_is
       ∙ sym (ap (λ (bs : List (List (Atom (List ℕ)))). bidder_at bs index) (points_of_kept_dummies f))
       ∙ get_or-map (points_of_dummy f) (kept_dummies f) index 0 [] l in
-      let point = bid_of_price (points_of_dummy f d) bundle price (sym (ap (λ (bs : List (Atom (List ℕ))). price_on bs bundle) bidder) ∙ e) in
-      let on = just_bundles f.goods bids (on_bundles f.goods bids (atoms_of_dummy d below)) in
-      bid_of_atom f.bids (λ b. is_dummy d b.dummy) (Some d) (λ b t. some_is d b.dummy t) (record { bundle = bundle; price = price })
-      (All-contains (Contains bids) (xor_points f.goods bids) (record { bundle = bundle; price = price }) (xor_points_are_atoms f.goods bids on) point)
-
-  -- ---- a price on one side
-
-  or_bid_of : (bundle : List ℕ) (o : Option ℕ) → o ≡ price_on (auction_from (canonical_file f)).or_atoms bundle → IsBidOf f None bundle o
-  or_bid_of bundle None e = tt
-  or_bid_of bundle (Some price) e = or_bid bundle price (sym e)
-
-  xor_bid_of : (o : Option ℕ) → IsDummyBelow (length (kept_dummies f)) o → (bundle : List ℕ) (p : Option ℕ)
-      → p ≡ price_on (bids_at (auction_from (canonical_file f)).xor_bidders o) bundle → IsBidOf f (named_dummy (kept_dummies f) o) bundle p
-  xor_bid_of o l bundle None e = tt
-  xor_bid_of None l bundle (Some price) e = absurd (cc)
-  xor_bid_of (Some index) l bundle (Some price) e = xor_bid index l bundle price (sym e)
+      bid_of_point f.bids (λ b. is_dummy d b.dummy) (Some d) (λ b t. some_is d b.dummy t) (points_of_dummy f d)
+      (xor_points_are_atoms f.goods bids (just_bundles f.goods bids (on_bundles f.goods bids (atoms_of_dummy d below)))) bundle price
+      (sym (e ∙ ap (λ (bs : List (Atom (List ℕ))). price_on bs bundle) bidder))
 
 module _ (f g : PlainFile) (plain : IsPlainFile f) (also : IsPlainFile g) where
   pub or_changes_of : (changes : List PlainChange)

@@ -1,27 +1,18 @@
--- If a file misses none of the goods of a request, all are below its count of goods, by induction on them.
-use Rattle.std.proofs.Common.{◌≡◌, ℕ, ◌<◌, Bool, true, false, cond, List, [], ◌∷◌, Some, None, sym, ap, ◌∙◌, ⊎_elim}
+-- If a file misses none of the goods of a request, all are below its count of goods.
+use Rattle.std.proofs.Common.{◌≡◌, ℕ, ◌<◌, ◌≤◌, List, length, get_or, Some, None, sym, ◌∙◌, ⊎_elim, arith}
 use Rattle.std.specs.Prelude.{All, nat_le}
-use Rattle.std.specs.List.{AllByRecursion}
-use Rattle.std.proofs.lemmas.Bool.{leb-false, cases_Bool}
-use Rattle.std.proofs.lemmas.List.Elements.{All-from_recursion}
+use Rattle.std.specs.List.{position_or_len}
+use Rattle.std.proofs.lemmas.Bool.{cases_lt, leb-false}
+use Rattle.std.proofs.lemmas.List.Folds.{find_at}
+use Rattle.std.proofs.lemmas.List.Sums.{fails_before_first}
+use Rattle.std.proofs.lemmas.Option.{slice_get-get_or}
 use Rattle.commands.specs.Outcomes.{missing_good}
 
--- if a file misses none of the goods, all are below its count
-below_by_recursion : (count : ℕ) (goods : List ℕ) → missing_good count goods ≡ None → AllByRecursion (λ g. g < count) goods
-below_by_recursion count [] h = tt
-below_by_recursion count (g ∷ goods) h =
-    ⊎_elim
-    (λ (t : nat_le count g ≡ true). let some : Some g ≡ None = ap (λ (b : Bool). cond b (Some g) (missing_good count goods)) (sym t) ∙ h in
-    absurd (none_is_some g some))
-    (λ (t : nat_le count g ≡ false). (
-      leb-false count g t,
-      below_by_recursion count goods (ap (λ (b : Bool). cond b (Some g) (missing_good count goods)) (sym t)
-          ∙ h),
-    ))
-    (cases_Bool (nat_le count g))
-  where
-    none_is_some : (g : ℕ) → Some g ≡ None → ⊥
-    none_is_some g e = cc
-
 pub below_none_missing : (count : ℕ) (goods : List ℕ) → missing_good count goods ≡ None → All (λ g. g < count) goods
-below_none_missing count goods h = All-from_recursion (λ g. g < count) goods (below_by_recursion count goods h)
+below_none_missing count goods h = λ k d l.
+    let first = position_or_len (λ g. nat_le count g) goods in
+    ⊎_elim
+    (λ (m : first < length goods).
+    let some : None ≡ Some (get_or goods first d) = sym h ∙ find_at (λ g. nat_le count g) goods ∙ slice_get-get_or goods first d m in absurd cc)
+    (λ (m : length goods ≤ first). leb-false count (get_or goods k d) (fails_before_first (λ g. nat_le count g) goods k d (omega arith)))
+    (cases_lt first (length goods))

@@ -1,20 +1,17 @@
 -- A file that is compared, and its canonical file with dummy goods: each bidder of a change is one of its canonical file, so it has such
 -- a dummy good.
-use Rattle.std.proofs.Common.{◌≡◌, ◌<◌, ℕ, suc, List, [], ◌∷◌, length, get_or, Option, Some, None, true, append-nil, sym, ap, ◌∙◌, subst, arith}
-use Rattle.std.specs.Prelude.{All}
-use Rattle.std.specs.List.{cons_option, filter_map, range_with_len}
-use Rattle.std.specs.Ordering.{is_eq, nat_cmp}
+use Rattle.std.proofs.Common.{◌≡◌, ◌<◌, ℕ, List, length, Option, Some, None, true, append-nil, refl, sym, ap, ◌∙◌, subst, arith}
+use Rattle.std.specs.Prelude.{All, Contains}
+use Rattle.std.specs.List.{filter_map, range_with_len}
+use Rattle.std.specs.Ordering.{nat_cmp}
 use Rattle.std.specs.FinMap.{nat_cmp-IsAntisymmetric}
-use Rattle.std.proofs.Common.{cond}
-use Rattle.std.proofs.lemmas.Cmp.{nat_cmp_total, tied_itself}
+use Rattle.std.proofs.lemmas.Cmp.{nat_cmp_total}
 use Rattle.std.proofs.lemmas.List.{length-map}
-use Rattle.std.proofs.lemmas.List.Elements.{All-nil, All-cons, All-contains, All-filter}
 use Rattle.std.proofs.lemmas.List.FromFn.{get_or-range_with_len, length-range_with_len}
-use Rattle.std.proofs.lemmas.List.Sums.{get_or-le-sum_by}
 use Rattle.bid_file.specs.Files.{PlainFile, IsPlainFile, IsDummyBelow}
 use Rattle.valuation.specs.declared.atom.Atom.{Atom}
 use Rattle.valuation.specs.Auctions.{PlainAuction, auction_from}
-use Rattle.valuation.specs.Sorting.{count_of}
+use Rattle.prune.specs.Lemmas.Lists.{All-from_Contains, Contains-filter_parts}
 use Rattle.canon.proofs.CanonicalFiles.Files.{auction_from-file_from}
 use Rattle.canon.proofs.CanonicalFiles.Texts.{canonical_file_is_fixed, IsPlainFile-canonical}
 use Rattle.canon.specs.Canonical.{IsCanonicalFile, canonical_auction, canonical_file}
@@ -24,6 +21,7 @@ use Rattle.canon.specs.Renaming.{kept_dummies, points_of_dummy}
 use Rattle.analysis.specs.BidderChanges.{PlainBidderChange, AreBidderChanges, excess_bidders, is_excess, rights_of}
 use Rattle.analysis.specs.Differences.{PlainDifferences, AreAllDifferences, is_none_at_all}
 use Rattle.analysis.proofs.Comparing.BeginAuctions.{empty_from_test}
+use Rattle.analysis.proofs.Comparing.LawsLists.{Contains-filter_map, there_is_counted}
 use Rattle.commands.specs.Internal.ComparedFiles.{IsComparedFile}
 use Rattle.commands.specs.DiffTexts.{diff_header, diff_text}
 use Rattle.commands.specs.declared.printed.sides.ComparedFile.{ComparedFile}
@@ -58,62 +56,37 @@ header_alone f g d none = sym (ap (diff_text f g) (empty_from_test d none) ∙ a
 
 -- ---- the bidders of the changes
 
-numbers_below : (n : ℕ) → All (λ i. i < n) (range_with_len 0 n)
-numbers_below n = λ k d l.
-    let long = length-range_with_len 0 n in
-    let below : k < n = omega arith in
-    let is = get_or-range_with_len 0 n k d below in
-    omega arith
+below_excess : (bidders others : List (List (Atom (List ℕ)))) (i : ℕ) → Contains (excess_bidders bidders others) i → i < length bidders
+below_excess bidders others i c =
+    let there = (Contains-filter_parts (is_excess bidders others) (range_with_len 0 (length bidders)) i c).0 in
+    let long = length-range_with_len 0 (length bidders) in
+    let is = get_or-range_with_len 0 (length bidders) there.0 i (omega (arith, there.1)) in
+    omega (arith, there.1, there.2)
 
-excess_below : (bidders others : List (List (Atom (List ℕ)))) → All (λ i. i < length bidders) (excess_bidders bidders others)
-excess_below bidders others = All-filter (is_excess bidders others) (λ i. i < length bidders) (range_with_len 0 (length bidders))
-    (numbers_below (length bidders))
-
--- a number in a list is counted there
-counted_once : (xs : List ℕ) (k d : ℕ) → k < length xs → 0 < count_of nat_cmp (get_or xs k d) xs
-counted_once xs k d l =
-    let x = get_or xs k d in
-    let itself : cond {A = ℕ} (is_eq (nat_cmp x x)) 1 0 ≡ 1 = ap (λ o. cond {A = ℕ} (is_eq o) 1 0) (tied_itself nat_cmp_total x) in
-    let least = get_or-le-sum_by (λ (y : ℕ). cond {A = ℕ} (is_eq (nat_cmp x y)) 1 0) xs k d l in
-    omega (arith, itself, least)
-
--- numbers that are counted as in another list are of that list
-counted_below : (n : ℕ) (xs ys : List ℕ) → ((i : ℕ) → count_of nat_cmp i xs ≡ count_of nat_cmp i ys) → All (λ i. i < n) ys → All (λ i. i < n) xs
-counted_below n xs ys same all = λ k d l.
-    let x = get_or xs k d in
-    let once = counted_once xs k d l in
-    let also = same x in
-    All-contains (λ i. i < n) ys x all (counted_is_there nat_cmp nat_cmp_total nat_cmp-IsAntisymmetric x ys (omega (arith, once, also)))
-
--- what is below a bound of those that are there
-named_below : (n : ℕ) (named : PlainBidderChange → Option ℕ) (changes : List PlainBidderChange) → All (λ i. i < n) (filter_map named changes)
-    → All (λ c. IsDummyBelow n (named c)) changes
-named_below n named [] all = All-nil (λ c. IsDummyBelow n (named c))
-named_below n named (c ∷ rest) all =
-    All-cons (λ b. IsDummyBelow n (named b)) c rest (here (named c) all) (named_below n named rest (behind (named c) all))
+-- of the bidders in excess, those that are named have dummy goods in the file
+all_below : (f : PlainFile) (others : List (List (Atom (List ℕ)))) (named : PlainBidderChange → Option ℕ) (changes : List PlainBidderChange)
+    → ((i : ℕ) → Contains (filter_map named changes) i → Contains (excess_bidders (auction_from (canonical_file f)).xor_bidders others) i)
+    → All (λ c. IsDummyBelow (length (kept_dummies f)) (named c)) changes
+all_below f others named changes excess =
+    All-from_Contains (λ c. IsDummyBelow (length (kept_dummies f)) (named c)) changes (λ c there. by (named c) (λ i e.
+    let below = below_excess (auction_from (canonical_file f)).xor_bidders others i (excess i (Contains-filter_map named changes c i there e)) in
+    omega (arith, kept_count f)))
   where
-    here : (o : Option ℕ) → All (λ i. i < n) (cons_option o (filter_map named rest)) → IsDummyBelow n o
-    here None every = tt
-    here (Some i) every = every 0 i (omega arith)
-
-    behind : (o : Option ℕ) → All (λ i. i < n) (cons_option o (filter_map named rest)) → All (λ i. i < n) (filter_map named rest)
-    behind None every = every
-    behind (Some i) every = λ k d l. every (suc k) d (omega arith)
+    by : (o : Option ℕ) → ((i : ℕ) → o ≡ Some i → i < length (kept_dummies f)) → IsDummyBelow (length (kept_dummies f)) o
+    by None below = tt
+    by (Some i) below = below i refl
 
 module _ (f g : PlainFile) (changes : List PlainBidderChange)
     (are : AreBidderChanges (auction_from (canonical_file f)).xor_bidders (auction_from (canonical_file g)).xor_bidders changes) where
   pub lefts_below : All (λ c. IsDummyBelow (length (kept_dummies f)) c.left) changes
   lefts_below =
-      let own = (auction_from (canonical_file f)).xor_bidders in
-      let others = (auction_from (canonical_file g)).xor_bidders in
-      named_below (length (kept_dummies f)) (λ c. c.left) changes
-      (subst (λ (xs : List ℕ). All (λ i. i < length (kept_dummies f)) xs) (sym are.lefts)
-      (subst (λ (n : ℕ). All (λ i. i < n) (excess_bidders own others)) (kept_count f) (excess_below own others)))
+      all_below f (auction_from (canonical_file g)).xor_bidders (λ c. c.left) changes
+      (λ i there. subst (λ (indices : List ℕ). Contains indices i) are.lefts there)
 
   pub rights_below : All (λ c. IsDummyBelow (length (kept_dummies g)) c.right) changes
   rights_below =
-      let own = (auction_from (canonical_file g)).xor_bidders in
-      let others = (auction_from (canonical_file f)).xor_bidders in
-      named_below (length (kept_dummies g)) (λ c. c.right) changes
-      (counted_below (length (kept_dummies g)) (rights_of changes) (excess_bidders own others) are.rights
-      (subst (λ (n : ℕ). All (λ i. i < n) (excess_bidders own others)) (kept_count g) (excess_below own others)))
+      let others = excess_bidders (auction_from (canonical_file g)).xor_bidders (auction_from (canonical_file f)).xor_bidders in
+      all_below g (auction_from (canonical_file f)).xor_bidders (λ c. c.right) changes (λ i there.
+      let same = are.rights i in
+      let some = there_is_counted nat_cmp nat_cmp_total i (rights_of changes) there in
+      counted_is_there nat_cmp nat_cmp_total nat_cmp-IsAntisymmetric i others (omega arith))

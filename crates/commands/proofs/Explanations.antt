@@ -1,5 +1,5 @@
 -- The rows of bids, one by one, as `cats explain` prints them.
-use Rattle.std.proofs.Common.{◌≡◌, ◌<◌, ◌+◌, ◌++◌, ℕ, List, length, map, get_or, sym, ap, ap₂, ◌∙◌, append_assoc}
+use Rattle.std.proofs.Common.{◌≡◌, ◌<◌, ◌+◌, ◌++◌, ℕ, List, length, map, get_or, sym, ap, ap₂, ◌∙◌}
 use Rattle.std.specs.List.{flat_map, range_with_len}
 use Rattle.std.proofs.lemmas.List.{get_or-map}
 use Rattle.bid_file.specs.Files.{PlainBid, PlainFile}
@@ -20,6 +20,4 @@ row_of_bid file reasons i bid reason within is_reason is_bid header before after
     let own : plain_reason reason ≡ reason_at (map plain_reason reasons) i =
     ap plain_reason is_reason ∙ sym (get_or-map plain_reason reasons i reason Zero within) in
     more ∙ ap₂ (λ (b : PlainBid) (r : PlainReason). before ++ explanation_row i b r) is_bid own
-    ∙ ap (λ (xs : List ℕ). xs ++ row i) so_far
-    ∙ append_assoc header (flat_map row (range_with_len 0 i)) (row i)
-    ∙ ap (λ (xs : List ℕ). header ++ xs) (lines_more row i)
+    ∙ ap (λ (xs : List ℕ). xs ++ row i) so_far ∙ lines_more row header i

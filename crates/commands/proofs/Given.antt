@@ -67,7 +67,7 @@ module _ (Says : ℕ → List ℕ → Type 0) (Refuses : RunFault → Type 0) (o
 -- ---- one text
 
 -- why reading a text gives no file, but for want of memory
-found_fault : (fine : Option FinePrices) (text : List ℕ) (why : ReadFault) → why.kind ≢ NoMemory → RefusesText fine text why
+pub found_fault : (fine : Option FinePrices) (text : List ℕ) (why : ReadFault) → why.kind ≢ NoMemory → RefusesText fine text why
     → text_fault fine text ≡ Some why
 found_fault fine text why other (inl found) = found
 found_fault fine text why other (inr wants) = absurd (other (ap (λ (fault : ReadFault). fault.kind) wants.0))
@@ -101,21 +101,20 @@ module _ (fine : Option FinePrices) (text after : Text) (is_fine : text.fine ≡
     unmade_of Memory (inl why) = inl (wanted_memory fine text.bytes.now (refused_by _ why))
     unmade_of Memory (inr given) = inr (record { file = given.file; spelled = spelled_by given.file given.given })
 
+    refused_call : (fault : RunFault) → Commands TextGives TextRefuses outcome text after (Err fault) → Refuses fault
+    refused_call (Refused which fault) is = subst (λ (w : Which). Refuses (Refused w fault)) (sym is.0) (unmade_of fault is.1)
+    refused_call (TooHeavy which heavy) is = (is.0, made_of _ is.1)
+    refused_call (GoodRange good) is = made_of _ is
+    refused_call (BidRange bid) is = made_of _ is
+    refused_call (Sent fault) is = absurd is
+
     pub given_call : (r : Result Answer RunFault) → Commands TextGives TextRefuses outcome text after r
         → (old new : List ℕ) (needed answer : ℕ) → Gives r old new needed answer → CallsOn outcome fine text.bytes.now old new needed answer
     given_call (Ok a) is old new needed answer g =
         given_output (PrintsOf outcome read) Refuses old new needed answer (Refused Only Memory)
         (inr (record { file = is.file; spelled = spelled_by is.file is.given })) refl refl a.status a.output (made_of _ is) g
-    given_call (Err (Refused which fault)) is old new needed answer g =
-        given_fault (PrintsOf outcome read) Refuses old new needed answer (Refused which fault)
-        (subst (λ (w : Which). Refuses (Refused w fault)) (sym is.0) (unmade_of fault is.1)) g
-    given_call (Err (TooHeavy which heavy)) is old new needed answer g =
-        given_fault (PrintsOf outcome read) Refuses old new needed answer (TooHeavy which heavy) (is.0, made_of _ is.1) g
-    given_call (Err (GoodRange good)) is old new needed answer g =
-        given_fault (PrintsOf outcome read) Refuses old new needed answer (GoodRange good) (made_of _ is) g
-    given_call (Err (BidRange bid)) is old new needed answer g =
-        given_fault (PrintsOf outcome read) Refuses old new needed answer (BidRange bid) (made_of _ is) g
-    given_call (Err (Sent fault)) is old new needed answer g = absurd is
+    given_call (Err fault) is old new needed answer g =
+        given_fault (PrintsOf outcome read) Refuses old new needed answer fault (refused_call fault is) g
 
 -- ---- the row of a text
 
@@ -144,8 +143,7 @@ module _ (text : List ℕ) where
   pub given_place : (r : Result Answer RunFault) → AnswersPlace text r
       → (old new : List ℕ) (needed answer : ℕ) → Gives r old new needed answer → FaultCalls text old new needed answer
   given_place (Ok a) is old new needed answer g = place_by a.status a.output is old new needed answer g
-  given_place (Err fault) is old new needed answer g =
-      given_fault (SaysPlace text) (OfOnly (IsUnplaced text)) old new needed answer fault is g
+  given_place (Err fault) is old new needed answer g = given_fault (SaysPlace text) (OfOnly (IsUnplaced text)) old new needed answer fault is g
 
 -- ---- two texts
 
@@ -168,13 +166,11 @@ module _ (options : SearchOptions) (fine : Option FinePrices) (first first_after
         → CommandsBoth TextGives TextRefuses TextGives TextRefuses options (refusal options) Given outcome first first_after second second_after (Err fault)
         → IsRefusedOfTwo options fine first.bytes.now second.bytes.now refusal fault
     refused_of (Refused First fault) h = unmade_of fine first first_after is_first (refusal options) fault h.why
-    refused_of (Refused Second fault) h =
-        (within_first h.left h.given, unmade_of fine second second_after is_second (refusal options) fault h.why)
+    refused_of (Refused Second fault) h = (within_first h.left h.given, unmade_of fine second second_after is_second (refusal options) fault h.why)
     refused_of (Refused Both fault) h = (within_first h.files.0 h.given.0, within_second h.files.1 h.given.1, h.memory)
     refused_of (Refused Only fault) h = absurd h
     refused_of (TooHeavy First heavy) h = made_of fine first first_after is_first (refusal options) _ h.why
-    refused_of (TooHeavy Second heavy) h =
-        (within_first h.left h.given, made_of fine second second_after is_second (refusal options) _ h.why)
+    refused_of (TooHeavy Second heavy) h = (within_first h.left h.given, made_of fine second second_after is_second (refusal options) _ h.why)
     refused_of (TooHeavy Only heavy) h = absurd h
     refused_of (TooHeavy Both heavy) h = absurd h
     refused_of (GoodRange good) h = absurd h
@@ -201,11 +197,7 @@ module _ (options : SearchOptions) (fine : Option FinePrices) (first first_after
       → CompareCalls options fine first.bytes.now second.bytes.now old new needed answer
   given_compare = given_both normalise_outcome _ _ (ComparesTexts options left right)
       (λ files given. (within_first files.0 given.0, within_second files.1 given.1))
-      (λ files given status out made. record {
-        first = within_first files.0 given.0;
-        second = within_second files.1 given.1;
-        made = made;
-      })
+      (λ files given status out made. record { first = within_first files.0 given.0; second = within_second files.1 given.1; made = made })
 
   given_diff : (r : Result Answer RunFault)
       → Diffs TextGives TextRefuses TextGives TextRefuses options first first_after second second_after r

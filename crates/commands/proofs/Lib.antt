@@ -5,6 +5,7 @@ pub mod ComparedFiles
 pub mod BidNumbers
 pub mod BidsOfFiles
 pub mod Unrounded
+pub mod ByNumber
 mod Numbering
 mod Bundling
 mod BestPlaces

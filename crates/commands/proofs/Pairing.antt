@@ -4,7 +4,6 @@ use Rattle.std.proofs.lemmas.Result.{IfOk-weaker}
 use Rattle.std.specs.Prelude.{ℕ, List}
 use Rattle.bid_file.specs.Files.{PlainFile, IsPlainFile}
 use Rattle.cats_text.specs.declared.read_fault.ReadFault.{ReadFault}
-use Rattle.valuation.specs.Auctions.{auction_from}
 use Rattle.valuation.specs.declared.search_options.SearchOptions.{SearchOptions}
 use Rattle.canon.proofs.Comparing.SameDifferences.{difference_of_same_files}
 use Rattle.canon.proofs.CanonicalAuctions.Sames.{same_sym}
@@ -17,26 +16,23 @@ use Rattle.canon.specs.declared.which.Which.TheVariants.{First, Second, Both}
 use Rattle.commands.specs.Internal.ComparedFiles.{PrintsDifferences}
 use Rattle.commands.specs.declared.run_fault.RunFault.{RunFault}
 use Rattle.commands.specs.declared.printed.sides.ComparedFile.{ComparedFile}
-use Rattle.commands.specs.Commands.{GivesCanonical, GivesWithin, ReadsCanonical, text_of}
+use Rattle.commands.specs.Commands.{GivesWithin, ReadsCanonical, text_of}
 use Rattle.commands.specs.Internal.Pairs.{of_file}
 use Rattle.commands.specs.Outcomes.{Outcome, Prints, compare_outcome, diff_outcome, naming_outcome, normalise_outcome, outcome_of_difference}
-use Rattle.commands.specs.Pairs.{CommandsBoth, Compares, Diffs, GivesBoth, GivesDifferences, MakesOfBoth, outcome_of_both}
+use Rattle.commands.specs.Pairs.{CommandsBoth, Compares, Diffs, GivesBoth, MakesOfBoth, outcome_of_both}
 use Rattle.commands.specs.declared.answer.Answer.{Answer}
 
 -- what was given, if there is no fault
 given_of : {T : Type 0} (P : Result T CanonFault → Type 0) (which : Which) (answer : Result T CanonFault) (given : T)
     → P answer → Ok given ≡ of_file which answer → P (Ok given)
-given_of {T} P which (Ok other) given holds is =
-    let same : other ≡ given = cc in
-    subst (λ (x : T). P (Ok x)) same holds
+given_of {T} P which (Ok other) given holds is = let same : other ≡ given = cc in subst (λ (x : T). P (Ok x)) same holds
 given_of P which (Err fault) given holds is = absurd cc
 
 -- the canonical files have the first difference of the files
 canonical_outcome : (f g : PlainFile) → IsPlainFile f → IsPlainFile g → compare_outcome (canonical_file f) (canonical_file g) ≡ compare_outcome f g
 canonical_outcome f g h k =
     ap outcome_of_difference (difference_of_same_files (canonical_file f) f (canonical_file g) g (IsPlainFile-canonical f h) h (IsPlainFile-canonical g k) k
-    (same_sym (auction_from f) (auction_from (canonical_file f)) (canonical_file_is_same f h))
-    (same_sym (auction_from g) (auction_from (canonical_file g)) (canonical_file_is_same g k)))
+    (same_sym _ _ (canonical_file_is_same f h)) (same_sym _ _ (canonical_file_is_same g k)))
 
 module _ {I J : Type 0} (gives_first : I → I → PlainFile → Type 0) (refuses_first : I → I → ReadFault → Type 0)
     (gives_second : J → J → PlainFile → Type 0) (refuses_second : J → J → ReadFault → Type 0)
@@ -60,18 +56,15 @@ module _ {I J : Type 0} (gives_first : I → I → PlainFile → Type 0) (refuse
       → IfErr answer (λ fault. fault ≡ Memory) → (told : Result Answer RunFault) → told ≡ of_file Both answer
       → Compares gives_first refuses_first gives_second refuses_second options first first_after second second_after told
   files_compared left right read_left read_right reads_left is_left reads_right is_right answer made memory told is =
-      let one : GivesCanonical gives_first refuses_first options first first_after left =
-      given_of (ReadsCanonical gives_first refuses_first options first first_after) First read_left left reads_left is_left in
-      let other : GivesCanonical gives_second refuses_second options second second_after right =
-      given_of (ReadsCanonical gives_second refuses_second options second second_after) Second read_right right reads_right is_right in
+      let one = given_of (ReadsCanonical gives_first refuses_first options first first_after) First read_left left reads_left is_left in
+      let other = given_of (ReadsCanonical gives_second refuses_second options second second_after) Second read_right right reads_right is_right in
       let files : PlainFile × PlainFile = (one.file, other.file) in
       let given : GivesBoth gives_first refuses_first gives_second refuses_second options first first_after second second_after files =
       (one.given, other.given) in
       let same : compare_outcome one.file other.file ≡ compare_outcome left right =
       sym (canonical_outcome one.file other.file one.plain other.plain) ∙ ap₂ compare_outcome (sym one.is) (sym other.is) in
-      rw is (made_of_both (normalise_outcome options)
-      (GivesBoth gives_first refuses_first gives_second refuses_second options first first_after second second_after) outcome_of_both
-      files given answer (IfOk-weaker answer _ _ (λ a h. record { given = files; gives = given; made = same ∙ h }) made) memory)
+      rw is (made_of_both (normalise_outcome options) _ outcome_of_both files given answer
+      (IfOk-weaker answer _ _ (λ a h. record { given = files; gives = given; made = same ∙ h }) made) memory)
 
   -- all differences of the canonical files were found
   pub files_differed : (left right : ComparedFile) → GivesWithin gives_first refuses_first options first first_after left.file
@@ -80,9 +73,7 @@ module _ {I J : Type 0} (gives_first : I → I → PlainFile → Type 0) (refuse
       → IfErr answer (λ fault. fault ≡ Memory) → (told : Result Answer RunFault) → told ≡ of_file Both answer
       → Diffs gives_first refuses_first gives_second refuses_second options first first_after second second_after told
   files_differed left right one other answer made memory told is =
-      rw is (made_of_both (naming_outcome options)
-      (GivesDifferences gives_first refuses_first gives_second refuses_second options first first_after second second_after) diff_outcome
-      (left.file, right.file) (one, other) answer
+      rw is (made_of_both (naming_outcome options) _ diff_outcome (left.file, right.file) (one, other) answer
       (IfOk-weaker answer _ _ (λ a h. record {
         given = (left.file, right.file, h.differences);
         gives = record { given = (one, other); all = h.all };

@@ -1,11 +1,8 @@
 -- The lines of the XOR bidders, one by one: one more bidder's line, made piece by piece, is put behind those of the bidders before it.
-use Rattle.std.proofs.Common.{◌≡◌, ℕ, ◌+◌, ◌<◌, List, [], ◌∷◌, ◌++◌, length, map, get_or, Global, sym, ap, ap₂, ◌∙◌, arith, append_assoc}
-use Rattle.std.proofs.Common.{zero-add}
+use Rattle.std.proofs.Common.{◌≡◌, ℕ, ◌+◌, ◌<◌, List, ◌∷◌, ◌++◌, length, map, get_or, Global, sym, ap, ap₂, ◌∙◌, arith, append_assoc}
 use Rattle.std.specs.Prelude.{Vec, Option, Result, Ok, Err, OnOk, is_ok, if◌then◌else◌, All, codes, decimal}
 use Rattle.std.specs.List.{flat_map, range_with_len}
-use Rattle.std.proofs.lemmas.List.{get_or-map}
 use Rattle.std.proofs.lemmas.List.Elements.{All-weaker}
-use Rattle.std.proofs.lemmas.List.FromFn.{get_or-map-range_with_len}
 use Rattle.bid_file.specs.Files.{PlainBid, PlainFile}
 use Rattle.cats_text.specs.Layout.{price_text}
 use Rattle.valuation.specs.declared.atom.Atom.{Atom}
@@ -13,7 +10,7 @@ use Rattle.valuation.specs.Auctions.{or_atoms_of, xor_atoms_of}
 use Rattle.valuation.specs.Bidders.{bidders_of}
 use Rattle.valuation.specs.Values.{atoms_of, chosen_indices, xor_value}
 use Rattle.valuation.specs.Lemmas.Packings.{chosen_indices-packing}
-use Rattle.valuation.proofs.Placing.{length-bidders_of}
+use Rattle.commands.proofs.ByNumber.{seen_by_number-at}
 use Rattle.commands.proofs.Lines.{lines_more}
 use Rattle.commands.specs.ValueTexts.{best_place, dummy_line, numbers_text, option_places, or_numbers, xor_line, xor_numbers}
 use Rattle.commands.proofs.Numbering.{length-or_numbers}
@@ -21,11 +18,7 @@ use Rattle.commands.proofs.Numbering.{length-or_numbers}
 -- the atoms of a bidder
 pub bidder_at : {S : Type 0} (goods : S → List ℕ) (bidders : List (Vec (Atom S) Global)) (bids : List PlainBid) (n d : ℕ) (v : Vec (Atom S) Global)
     → bidders_of goods bidders ≡ map (xor_atoms_of bids) (range_with_len 0 n) → d < n → v ≡ get_or bidders d v → atoms_of goods v.items ≡ xor_atoms_of bids d
-bidder_at {S} goods bidders bids n d v h m is =
-    let listed : Vec (Atom S) Global → List (Atom (List ℕ)) = λ w. atoms_of goods w.items in
-    let long = length-bidders_of goods bidders bids n h in
-    ap listed is ∙ sym (get_or-map listed bidders d v [] (omega arith)) ∙ ap (λ (xs : List (List (Atom (List ℕ)))). get_or xs d []) h
-    ∙ get_or-map-range_with_len (xor_atoms_of bids) 0 n d d [] m (zero-add d)
+bidder_at {S} goods bidders bids n d v h m is = seen_by_number-at (λ (w : Vec (Atom S) Global). atoms_of goods w.items) bidders (xor_atoms_of bids) n h d v m is
 
 -- the line of a bidder is added
 pub line_added : (file : PlainFile) (bundle old before after : List ℕ) (d good : ℕ) (atoms : List (Atom (List ℕ))) (numbers : List ℕ)
@@ -35,8 +28,7 @@ pub line_added : (file : PlainFile) (bundle old before after : List ℕ) (d good
 line_added file bundle old before after d good atoms numbers b a g seen listed =
     let line : xor_line good atoms numbers bundle ≡ dummy_line file bundle d =
     ap (λ (m : ℕ). xor_line m atoms numbers bundle) g ∙ ap₂ (λ (xs : List (Atom (List ℕ))) (ms : List ℕ). xor_line (file.goods + d) xs ms bundle) seen listed in
-    a ∙ ap₂ (λ (xs ys : List ℕ). xs ++ ys) b line ∙ append_assoc old (flat_map (dummy_line file bundle) (range_with_len 0 d)) (dummy_line file bundle d)
-    ∙ ap (λ (xs : List ℕ). old ++ xs) (lines_more (dummy_line file bundle) d)
+    a ∙ ap₂ (λ (xs ys : List ℕ). xs ++ ys) b line ∙ lines_more (dummy_line file bundle) old d
 
 -- if it succeeded, this was appended
 pub appended : {T E : Type 0} (r : Result T E) (new longer old : List ℕ) → new ≡ (if is_ok r then longer else old) → OnOk r (new ≡ longer)

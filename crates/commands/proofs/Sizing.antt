@@ -1,16 +1,15 @@
 -- The numbers in a row of `cats sizes`: how many bids have no dummy good, and which dummy goods the bids so far have.
-use Rattle.std.proofs.Common.{◌≡◌, ℕ, suc, zero, ◌+◌, ◌<◌, Bool, true, false, cond, List, [], ◌∷◌, ◌++◌, length, map, get_or, set, take, refl, sym}
-use Rattle.std.proofs.Common.{ap, ap₂, ◌∙◌, arith, inl, inr, subst, Option, Some, None, ⊎_elim, zero-add, replicate}
+use Rattle.std.proofs.Common.{◌≡◌, ℕ, suc, ◌+◌, ◌<◌, Bool, true, false, cond, List, [], ◌∷◌, ◌++◌, length, map, set, take, refl, sym}
+use Rattle.std.proofs.Common.{ap, ap₂, ◌∙◌, arith, inl, inr, subst, Option, Some, None, ⊎_elim}
 use Rattle.std.proofs.Common.{Global}
 use Rattle.std.specs.Prelude.{codes, decimal, filter, is_none, is_some, ◌||◌, Vec}
 use Rattle.std.specs.List.{range_with_len, slice_get}
 use Rattle.std.proofs.lemmas.Grind.{flat_map-append}
 use Rattle.std.proofs.Math.Bool.{or-false, or-true}
-use Rattle.std.proofs.lemmas.Bool.{cases_Bool, cases_eq, ne_eqb, eq-eqb}
-use Rattle.std.proofs.lemmas.List.{append_assoc, length-set, get_or-set_same, get_or-set_other, take_more}
+use Rattle.std.proofs.lemmas.Bool.{cases_Bool, ne_eqb, eq-eqb}
+use Rattle.std.proofs.lemmas.List.{append_assoc}
 use Rattle.std.proofs.lemmas.List.Filters.{length-filter_more}
-use Rattle.std.proofs.lemmas.List.Folds.{list_any-append}
-use Rattle.std.proofs.lemmas.List.FromFn.{fill_by_all, length-map-range_with_len, get_or-map-range_with_len}
+use Rattle.std.proofs.lemmas.List.Folds.{list_any_more}
 use Rattle.std.proofs.lemmas.Option.{get_or_from_slice_get, slice_get_within}
 use Rattle.bid_file.specs.Files.{PlainBid, PlainFile}
 use Rattle.cats_text.specs.Faults.{fault_at}
@@ -28,7 +27,8 @@ use Rattle.commands.specs.declared.run_fault.HeavyBid.{HeavyBid}
 use Rattle.commands.specs.declared.run_fault.RunFault.{RunFault}
 use Rattle.commands.specs.declared.run_fault.RunFault.TheVariants.{Refused}
 use Rattle.commands.specs.Naming.{with_bid}
-use Rattle.commands.specs.Outcomes.{first_bid_on, text_unless_heavy}
+use Rattle.commands.specs.Outcomes.{exceeds_at, first_bid_on, text_unless_refused}
+use Rattle.commands.proofs.ByNumber.{by_number-same, by_number-set}
 use Rattle.commands.specs.SizesRows.{Sizes, IsSized, IsTooHeavy, IsUnsized, PutsNumbers, counts_of, has_dummy, numbers_sized, sizes_of, with_tabs}
 
 -- ---- cells
@@ -53,12 +53,7 @@ sizes_put none sizes given text longer numbers empty is same put =
 
 -- the bid that is named for the bundle of these goods
 abbrev heavy_bid : SearchOptions → PlainFile → Vec ℕ Global → HeavyBid
-heavy_bid options file goods = record {
-  number = first_bid_on file goods.items;
-  goods = goods;
-  steps = options.each;
-  total = options.total;
-}
+heavy_bid options file goods = record { number = first_bid_on file goods.items; goods = goods; steps = options.each; total = options.total }
 
 module _ (Gives : PlainFile → Type 0) (Refuses : ReadFault → Type 0) (options : SearchOptions) (text longer : List ℕ) where
   abbrev Puts : Option RunFault → Type 0
@@ -66,8 +61,7 @@ module _ (Gives : PlainFile → Type 0) (Refuses : ReadFault → Type 0) (option
 
   unread_by_kind : (why : ReadFault) (kind : Kind) → why.kind ≡ kind → (why.kind ≡ NoMemory → why.line ≡ 0) → Refuses why
       → Sizes Gives Refuses options (IsUnsized (refusal_by_kind why kind))
-  unread_by_kind why NoMemory is no_line refused =
-      inl (subst Refuses (ap₂ (λ (line : ℕ) (kind : Kind). fault_at line kind) (no_line is) is) refused)
+  unread_by_kind why NoMemory is no_line refused = inl (subst Refuses (ap₂ (λ (line : ℕ) (kind : Kind). fault_at line kind) (no_line is) is) refused)
   unread_by_kind why kind is no_line refused = ((λ memory. cc), refused)
 
   -- no file was given. Want of memory is on no line
@@ -96,7 +90,7 @@ module _ (Gives : PlainFile → Type 0) (Refuses : ReadFault → Type 0) (option
         → why ≡ with_bid Only file options (StepLimit goods) → Puts (Some why)
     numbers_heavy goods heavy put why is = record {
       sized = IsTooHeavy file (heavy_bid options file goods);
-      sizes = (given, ap (text_unless_heavy options (canonical_text file) file) heavy);
+      sizes = (given, ap (text_unless_refused (exceeds_at options file) (canonical_text file)) heavy);
       puts = put ∙ append_assoc text (with_tabs (sizes_of file)) (codes "\t\t\t")
           ∙ ap (λ (more : List ℕ). text ++ more) (heavy_numbers file (heavy_bid options file goods));
       is_fault = ap (λ (f : RunFault). Some f) is;
@@ -117,11 +111,6 @@ pub dummies_counted : (count : ℕ) (marks : List Bool) (dummy : ℕ) (bids : Li
 dummies_counted count marks dummy bids c m =
     c ∙ ap (λ (ms : List Bool). length (filter (λ m. m) ms)) m ∙ marks_counted (has_dummy bids) (range_with_len 0 dummy)
 
--- no dummy good is marked before the first bid
-pub no_marks : (low n : ℕ) → replicate n false ≡ map (has_dummy []) (range_with_len low n)
-no_marks low zero = refl
-no_marks low (suc n) = ap (λ (ms : List Bool). false ∷ ms) (no_marks (low + 1) n)
-
 none_there : (dummy : Option ℕ) → is_some dummy ≡ false → is_none dummy ≡ true
 none_there None e = refl
 none_there (Some d) e = cc
@@ -132,14 +121,9 @@ some_there (Some d) e = refl
 
 -- one more bid
 module _ (bids : List PlainBid) (i : ℕ) (b : PlainBid) (there : slice_get bids i ≡ Some b) where
-  next_bid : take (i + 1) bids ≡ take i bids ++ b ∷ []
-  next_bid = take_more bids i b (slice_get_within bids i b there)
-      ∙ ap (λ (c : PlainBid). take i bids ++ c ∷ []) (get_or_from_slice_get bids i b b there)
-
-  has_more : (d : ℕ) → has_dummy (take (i + 1) bids) d ≡ (has_dummy (take i bids) d || is_dummy d b.dummy)
-  has_more d = ap (λ (bs : List PlainBid). has_dummy bs d) next_bid
-      ∙ list_any-append (λ (c : PlainBid). is_dummy d c.dummy) (take i bids) (b ∷ [])
-      ∙ ap (λ (m : Bool). has_dummy (take i bids) d || m) (or-false (is_dummy d b.dummy))
+  has_more : (dummy : Option ℕ) → b.dummy ≡ dummy → (d : ℕ) → has_dummy (take (i + 1) bids) d ≡ (has_dummy (take i bids) d || is_dummy d dummy)
+  has_more dummy is d = list_any_more (λ (c : PlainBid). is_dummy d c.dummy) bids i b (slice_get_within bids i b there)
+      ∙ ap (λ (o : Option ℕ). has_dummy (take i bids) d || is_dummy d o) (ap (λ (c : PlainBid). c.dummy) (get_or_from_slice_get bids i b b there) ∙ is)
 
   or_more : (count : ℕ) → count ≡ length (filter (λ c. is_none c.dummy) (take i bids))
       → count + cond (is_none b.dummy) 1 0 ≡ length (filter (λ c. is_none c.dummy) (take (i + 1) bids))
@@ -159,27 +143,14 @@ module _ (bids : List PlainBid) (i : ℕ) (b : PlainBid) (there : slice_get bids
       let same : count ≡ count + 0 = omega arith in same ∙ ap (λ (m : Bool). count + cond m 1 0) (sym (some_there b.dummy some)) ∙ or_more count e
 
   module _ (n : ℕ) (marks : List Bool) (h : marks ≡ map (has_dummy (take i bids)) (range_with_len 0 n)) where
-    long : length marks ≡ n
-    long = ap (length {A = Bool}) h ∙ length-map-range_with_len (has_dummy (take i bids)) 0 n
-
-    was : (k : ℕ) → k < n → get_or marks k false ≡ has_dummy (take i bids) k
-    was k l = ap (λ (ms : List Bool). get_or ms k false) h ∙ get_or-map-range_with_len (has_dummy (take i bids)) 0 n k k false l (zero-add k)
-
     pub marks_same : b.dummy ≡ None → marks ≡ map (has_dummy (take (i + 1) bids)) (range_with_len 0 n)
     marks_same none =
-        fill_by_all (has_dummy (take (i + 1) bids)) marks n false long
-        (λ k l. was k l ∙ sym (has_more k ∙ ap (λ (d : Option ℕ). has_dummy (take i bids) k || is_dummy k d) none ∙ or-false (has_dummy (take i bids) k)))
+        by_number-same (has_dummy (take i bids)) marks n h (has_dummy (take (i + 1) bids)) false
+        (λ k. has_more None none k ∙ or-false (has_dummy (take i bids) k))
 
     pub marks_put : (e : ℕ) → b.dummy ≡ Some e → e < n → set marks e true ≡ map (has_dummy (take (i + 1) bids)) (range_with_len 0 n)
     marks_put e some below =
-        fill_by_all (has_dummy (take (i + 1) bids)) (set marks e true) n false (length-set marks e true ∙ long)
-        (λ k l. ⊎_elim
-        (λ (same : k ≡ e).
-        rw same (get_or-set_same marks e true false (omega (arith, long, below)))
-        ∙ sym (has_more k ∙ ap (λ (d : Option ℕ). has_dummy (take i bids) k || is_dummy k d) some
-        ∙ ap (λ (m : Bool). has_dummy (take i bids) k || m) (eq-eqb e k (sym same)) ∙ or-true (has_dummy (take i bids) k)))
-        (λ (differ : k ≡ e → ⊥).
-        get_or-set_other marks e k true false differ ∙ was k l
-        ∙ sym (has_more k ∙ ap (λ (d : Option ℕ). has_dummy (take i bids) k || is_dummy k d) some
-        ∙ ap (λ (m : Bool). has_dummy (take i bids) k || m) (ne_eqb e k (λ f. differ (sym f))) ∙ or-false (has_dummy (take i bids) k)))
-        (cases_eq k e))
+        by_number-set (has_dummy (take i bids)) marks n h (has_dummy (take (i + 1) bids)) false e below true
+        (has_more (Some e) some e ∙ ap (λ (m : Bool). has_dummy (take i bids) e || m) (eq-eqb e e refl) ∙ or-true (has_dummy (take i bids) e))
+        (λ k differ. has_more (Some e) some k ∙ ap (λ (m : Bool). has_dummy (take i bids) k || m) (ne_eqb e k (λ f. differ (sym f)))
+        ∙ or-false (has_dummy (take i bids) k))

@@ -88,10 +88,7 @@ module _ (options : SearchOptions) (left right : List ℕ) (status : ℕ) (out :
 
 pub puts_whole : (status : ℕ) (text old : List ℕ) → nat_le (length text) (length old) ≡ true
     → PutsInto status text old (text ++ drop (length text) old) status
-puts_whole status text old fit = record {
-  fits = λ h. (refl, refl);
-  small = λ h. absurd (omega (leb-true (length text) (length old) fit, h, arith));
-}
+puts_whole status text old fit = record { fits = λ h. (refl, refl); small = λ h. absurd (omega (leb-true (length text) (length old) fit, h, arith)) }
 
 pub puts_none : (status : ℕ) (text old : List ℕ) → nat_lt (length old) (length text) ≡ true → PutsInto status text old old 6
 puts_none status text old small = record {

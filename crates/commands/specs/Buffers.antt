@@ -10,7 +10,7 @@ use Rattle.commands.specs.declared.run_fault.RunFault.TheVariants.{Refused}
 use Rattle.commands.specs.declared.answer.Answer.{Answer}
 use Rattle.commands.specs.declared.answer.Output.{Output}
 use Rattle.commands.specs.declared.answer.Output.TheVariants.{Text, File}
-use Rattle.commands.specs.declared.calls.buffer.TheConstants.{TOO_SMALL}
+use Rattle.commands.specs.declared.statuses.TheConstants.{TOO_SMALL}
 
 -- The text is at the front of the buffer, and the rest of the buffer is as it was; if it does not fit, so is all of it,
 -- and the status is another.

@@ -16,6 +16,7 @@ use Rattle.commands.specs.declared.run_fault.HeavyBid.{HeavyBid}
 use Rattle.commands.specs.declared.run_fault.RunFault.{RunFault}
 use Rattle.commands.specs.declared.run_fault.RunFault.TheVariants.{Refused, TooHeavy, GoodRange, BidRange, Sent}
 use Rattle.commands.specs.Outcomes.{Outcome, Prints, LacksGood, LacksBid, ExceedsSteps, ExceedsAtBid, normalise_outcome}
+use Rattle.commands.specs.Outcomes.{outcome_within}
 use Rattle.commands.specs.declared.answer.Answer.{Answer}
 use Rattle.commands.specs.declared.answer.Output.{Output}
 use Rattle.commands.specs.declared.answer.Output.TheVariants.{Text, File}
@@ -78,3 +79,8 @@ module _ {I : Type 0} (gives : I → I → PlainFile → Type 0) (refuses : I �
   abbrev pub ReadsCanonical : I → I → Result PlainFile CanonFault → Type 0
   ReadsCanonical old new (Ok canonical) = GivesCanonical old new canonical
   ReadsCanonical old new (Err fault) = IsRefused gives refuses (normalise_outcome options) old new fault
+
+  -- what refuses a file refuses it for each command that prints a text of its canonical file
+  abbrev pub IsRefusedAlike : I → I → CanonFault → Type 0
+  IsRefusedAlike old new fault = (text : PlainFile → List ℕ)
+      → IsRefused gives refuses (λ file. outcome_within options ExceedsSteps (text file) file) old new fault

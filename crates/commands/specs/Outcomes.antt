@@ -94,13 +94,19 @@ outcome_of_verdict (Ok verdict) = Prints (allocation_status verdict) (allocation
 abbrev pub revenue_outcome : List ℕ → PlainFile → Outcome
 revenue_outcome bids file = outcome_of_verdict (allocation_verdict file bids)
 
-abbrev pub text_unless_refused : PlainFile → Option (List ℕ) → Outcome
-text_unless_refused file None = Prints 0 (canonical_text file)
-text_unless_refused file (Some goods) = ExceedsSteps goods
+-- a text, unless this bundle of the OR bidder is refused, of which `refusal` is made
+abbrev pub text_unless_refused : (List ℕ → Outcome) → List ℕ → Option (List ℕ) → Outcome
+text_unless_refused refusal text None = Prints 0 text
+text_unless_refused refusal text (Some goods) = refusal goods
+
+-- of a command that searches the bundles of the OR bidder within limits, as one on the canonical file does
+abbrev pub outcome_within : SearchOptions → (List ℕ → Outcome) → List ℕ → PlainFile → Outcome
+outcome_within options refusal text file =
+    text_unless_refused refusal text (first_refused options file.goods (or_atoms_of file.bids))
 
 -- of `cats normalise`: the canonical text, unless a bundle of the OR bidder is refused
 abbrev pub normalise_outcome : SearchOptions → PlainFile → Outcome
-normalise_outcome options file = text_unless_refused file (first_refused options file.goods (or_atoms_of file.bids))
+normalise_outcome options file = outcome_within options ExceedsSteps (canonical_text file) file
 
 -- a bid of the OR bidder on the bundle of these goods
 abbrev pub is_on : List ℕ → PlainBid → Bool
@@ -114,20 +120,14 @@ first_bid_on file goods = position_or_len (is_on goods) file.bids
 abbrev pub exceeds_at : SearchOptions → PlainFile → List ℕ → Outcome
 exceeds_at options file goods = ExceedsAtBid options.each options.total (first_bid_on file goods) goods
 
--- a text, unless a bundle of the OR bidder is refused
-abbrev pub text_unless_heavy : SearchOptions → List ℕ → PlainFile → Option (List ℕ) → Outcome
-text_unless_heavy options text file None = Prints 0 text
-text_unless_heavy options text file (Some goods) = exceeds_at options file goods
-
 -- the canonical text, by a command that names the bid whose bundle is refused
 abbrev pub naming_outcome : SearchOptions → PlainFile → Outcome
-naming_outcome options file =
-    text_unless_heavy options (canonical_text file) file (first_refused options file.goods (or_atoms_of file.bids))
+naming_outcome options file = outcome_within options (exceeds_at options file) (canonical_text file) file
 
 -- of `cats explain`: the table of the bids with their reasons. It refuses what `cats normalise` refuses
 abbrev pub explain_outcome : SearchOptions → PlainFile → Outcome
-explain_outcome options file = text_unless_heavy options (explanation_text file (reasons_of file)) file
-    (first_refused options file.goods (or_atoms_of file.bids))
+explain_outcome options file =
+    outcome_within options (exceeds_at options file) (explanation_text file (reasons_of file)) file
 
 -- what a command on one file makes of it
 abbrev pub outcome_of : Command → PlainFile → Outcome

@@ -15,7 +15,7 @@ use Rattle.commands.specs.RoundedLines.{rounded_line}
 use Rattle.commands.specs.declared.run_fault.RunFault.{RunFault}
 use Rattle.commands.specs.Buffers.{GivesFault, GivesText, PutsInto, RefusesBy}
 use Rattle.commands.specs.OneText.{OfOnly}
-use Rattle.commands.specs.declared.calls.buffer.TheConstants.{TOO_SMALL}
+use Rattle.commands.specs.declared.statuses.TheConstants.{TOO_SMALL}
 use Rattle.commands.specs.declared.calls.rounded_text.RoundAnswer.{RoundAnswer}
 
 -- the lines of prices whose values changed

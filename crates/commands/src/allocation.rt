@@ -6,7 +6,7 @@ ghost use Rattle.commands.specs.Outcomes.{revenue_outcome};
 use crate::answer::{Answer, Output};
 use crate::input::Input;
 use crate::run_fault::RunFault;
-use analysis::{allocation_status, allocation_text, judge_allocation};
+use analysis::winners::{allocation_status, allocation_text, judge_allocation};
 use canon::CanonFault;
 use std::alloc::Global;
 

@@ -2,7 +2,7 @@
 
 ghost use Rattle.std.specs.Prelude.{◌≡◌};
 
-use crate::printed::DONE;
+use crate::statuses::DONE;
 use bid_file::PackedFile;
 
 /// What is to be printed.

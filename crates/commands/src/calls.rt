@@ -9,7 +9,7 @@ mod rounded_text;
 mod tests;
 mod text;
 
-pub use buffer::{TOO_SMALL, give};
+pub use buffer::give;
 pub use command_calls::{TextPair, call, call_on_both};
 pub use fault_place::find_fault;
 pub use rounded_text::{RoundAnswer, give_report, give_rounded, round_text};

@@ -1,8 +1,8 @@
 //! The commands on one file.
 
-ghost use Rattle.std.specs.Prelude.{IfOk};
+ghost use Rattle.std.specs.Prelude.{IfErr, IfOk};
 ghost use Rattle.canon.specs.Canonical.{IsCanonicalFile};
-ghost use Rattle.commands.specs.Commands.{Commands, IsRefused, ReadsCanonical};
+ghost use Rattle.commands.specs.Commands.{Commands, IsRefused, IsRefusedAlike, ReadsCanonical};
 ghost use Rattle.commands.specs.Inputs.{GivesSizes};
 ghost use Rattle.commands.specs.Outcomes.{check_outcome, explain_outcome, lp_outcome, normalise_outcome, show_outcome};
 ghost use Rattle.valuation.specs.SearchLimits.{bounded_options};
@@ -12,7 +12,7 @@ use crate::heavy_bid::name_bid;
 use crate::input::Input;
 use crate::printed::{explanation_text, sizes_line};
 use crate::run_fault::RunFault;
-use analysis::lp_text;
+use analysis::winners::lp_text;
 use bid_file::PackedFile;
 use canon::{CanonFault, Which, normal_packed_file};
 use cats_text::Header;
@@ -71,7 +71,7 @@ pub(crate) fn explain<I: Input>(
     ensures { Commands I.gives I.refuses (explain_outcome (bounded_options steps total)) input.old input.new result }
 {
     let file = input.read_file(alloc).map_err(CanonFault::from)?;
-    let reasons = match analysis::explain(alloc, &file, steps, total) {
+    let reasons = match analysis::reasons::explain(alloc, &file, steps, total) {
         Ok(reasons) => reasons,
         Err(fault) => {
             let options = SearchOptions::bounded(steps, total);
@@ -90,6 +90,7 @@ pub(crate) fn read_canonical<I: Input>(
 ) -> Result<PackedFile, CanonFault>
     requires { I.is_ready input.old }
     ensures answer { ReadsCanonical I.gives I.refuses options input.old input.new result }
+    ensures alike { IfErr result (IsRefusedAlike I.gives I.refuses options input.old input.new) }
     ensures canonical { IfOk result IsCanonicalFile }
 {
     let file = input.read_file(alloc)?;

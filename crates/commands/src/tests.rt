@@ -1,4 +1,4 @@
-//! Each command on files whose answer is known.
+//! Answers of `sizes` and of the commands on two files, and the bid that a fault names. Each command has runs in `cats_cmd`.
 
 use crate::{Answer, Command, Comparison, Output, RunFault, fault_line, sizes};
 use cats_text::{Watched, write};
@@ -44,56 +44,6 @@ fn expect(
     let printed = text_of(alloc, answer.output)?;
     assert_eq!(rt; printed.as_slice(), text);
     Ok(())
-}
-
-/// What a command makes of a file.
-fn expect_of(
-    rt: &impl Abort,
-    alloc: Global,
-    command: Command<'_>,
-    file: &[u8],
-    text: &[u8],
-) -> Result<(), Fail> {
-    let answer = command.answer(alloc, &mut Watched::new(file));
-    expect(rt, alloc, answer, 0, text)
-}
-
-#[test]
-fn one_file(rt: HostRuntime) -> Result<(), Fail> {
-    let alloc = rt.alloc();
-    let options = SearchOptions::plain(STEPS);
-    let goods = &[1, 0];
-    let reasons = Command::Explain {
-        steps: STEPS,
-        total: None,
-    };
-    let sizes = b"goods 2 bids 3 dummy 1\n";
-    let layout = b"goods 2\nbids 3\ndummy 1\n0\t5\t0\t2\t#\n1\t1.5\t1\t#\n2\t6\t0\t1\t2\t#\n";
-    let values = b"or 1.5 1\nxor 2 6 2\n";
-    let table = b"bid\tdummy\tprice\tgoods\treason\tkept\tby\n0\t0\t5\t0\tkeep\t1\t\n\
-        1\t\t1.5\t1\tkeep\t0\t\n2\t0\t6\t0,1\tkeep\t2\t\n";
-    let problem =
-        b"Maximize\n revenue:\n + 5 x0\n + 1.5 x1\n + 6 x2\nSubject To\n g0:\n + x0\n + x2\n <= 1\n\
-        \x20g1:\n + x1\n + x2\n <= 1\n d0:\n + x0\n + x2\n <= 1\nBinary\n x0\n x1\n x2\nEnd\n";
-    expect_of(&rt, alloc, Command::Check, LADDER, sizes)?;
-    expect_of(&rt, alloc, Command::Show, LADDER, layout)?;
-    expect_of(&rt, alloc, Command::Normalise(options), LADDER, CANONICAL)?;
-    expect_of(
-        &rt,
-        alloc,
-        Command::Value { goods, options },
-        LADDER,
-        values,
-    )?;
-    expect_of(
-        &rt,
-        alloc,
-        Command::Revenue(&[1, 0]),
-        LADDER,
-        b"revenue 6.5\n",
-    )?;
-    expect_of(&rt, alloc, reasons, LADDER, table)?;
-    expect_of(&rt, alloc, Command::Lp, LADDER, problem)
 }
 
 #[test]

@@ -8,7 +8,7 @@ mod large;
 mod many;
 mod rows;
 
-use crate::{BidderChange, Differences, all_differences};
+use crate::differences::{BidderChange, Differences, all_differences};
 use bid_file::PackedFile;
 use canon::{PriceChange, normal_packed_file};
 use cats_text::read_packed;

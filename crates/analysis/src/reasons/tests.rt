@@ -2,7 +2,7 @@
 
 mod family;
 
-use crate::{Reason, explain};
+use crate::reasons::{Reason, explain};
 use canon::{CanonFault, normal_packed_file};
 use cats_text::read_packed;
 use std::alloc::Global;

@@ -1,7 +1,8 @@
 //! The texts of `--help`.
 
 use crate::help::all_help;
-use command_line::{CommandHelp, NoRequest, VERSION, parse};
+use command_line::request::NoRequest;
+use command_line::{CommandHelp, VERSION, parse};
 use std::alloc::{AllocError, Global};
 use std::process::Abort;
 use std::test::Fail;

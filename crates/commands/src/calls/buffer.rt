@@ -7,11 +7,9 @@ use crate::answer::{Answer, Output};
 use crate::calls::pieces::put_pieces;
 use crate::printed::{fault_pieces, status};
 use crate::run_fault::RunFault;
+use crate::statuses::TOO_SMALL;
 use cats_text::write;
 use std::alloc::{AllocError, Global};
-
-/// The buffer is too small.
-pub const TOO_SMALL: u8 = 6;
 
 /// Puts what a command answered into a buffer, or the line of its fault, and answers the status. `needed` becomes the length
 /// of that text, whether it fits or not.

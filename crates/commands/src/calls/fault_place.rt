@@ -8,8 +8,9 @@ ghost use Rattle.commands.specs.FaultCalls.{AnswersPlace, placed_text};
 
 use crate::answer::{Answer, Output};
 use crate::calls::rounded_text::too_long;
-use crate::printed::{DONE, FILE_REFUSED, fault_place_text};
+use crate::printed::fault_place_text;
 use crate::run_fault::RunFault;
+use crate::statuses::{DONE, FILE_REFUSED};
 use cats_text::{FaultPlace, MAX_STREAM, place_of_fault};
 use std::alloc::{AllocError, Global};
 

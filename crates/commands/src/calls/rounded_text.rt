@@ -11,8 +11,9 @@ ghost use Rattle.rounding.specs.Views.{plain_changes};
 ghost use Rattle.commands.specs.Roundings.{AnswersRounding, GivesReport, GivesRounded, IsUnrounded, lines_of};
 
 use crate::calls::buffer::{give_fault, put};
-use crate::printed::{DONE, price_line};
+use crate::printed::price_line;
 use crate::run_fault::RunFault;
+use crate::statuses::DONE;
 use canon::CanonFault;
 use cats_text::{Kind, MAX_STREAM, ReadFault};
 use rounding::{FinePrices, RoundedPrice, RoundedText, round};

@@ -1,9 +1,10 @@
 //! Commands on texts whose answer is known, and what is given of it.
 
-use crate::{
-    Answer, Command, Comparison, RunFault, TOO_SMALL, Text, TextPair, call, call_on_both,
-    find_fault, give, give_report, give_rounded, round_text, sizes,
+use crate::calls::{
+    Text, TextPair, call, call_on_both, find_fault, give, give_report, give_rounded, round_text,
 };
+use crate::statuses::TOO_SMALL;
+use crate::{Answer, Command, Comparison, RunFault, sizes};
 use rounding::FinePrices;
 use std::alloc::{AllocGlobal, Global};
 use std::process::Abort;

@@ -6,7 +6,7 @@ ghost use Rattle.commands.specs.ComparisonTexts.{bidder_text, difference_text, d
 ghost use Rattle.commands.specs.Statuses.{status_of_difference};
 
 use crate::printed::cells::push_list;
-use crate::printed::report::{DIFFERENT, DONE};
+use crate::statuses::{DIFFERENT, DONE};
 use canon::{Side, Verdict};
 use cats_text::push_price;
 use std::alloc::{AllocError, Global};

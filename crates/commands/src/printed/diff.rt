@@ -12,9 +12,9 @@ ghost use Rattle.commands.specs.DiffTexts.{bidder_rows, change_row, diff_text, g
 ghost use Rattle.commands.specs.Internal.Sides.{AreSides, IsOfBidders, IsOfBids, file_of};
 
 use crate::printed::cells::{push_list, push_number, push_number_cell, push_price_cell};
-use crate::printed::report::{DIFFERENT, DONE};
 use crate::printed::sides::{ComparedFile, Side, Sides};
-use analysis::{BidderChange, Differences, all_differences};
+use crate::statuses::{DIFFERENT, DONE};
+use analysis::differences::{BidderChange, Differences, all_differences};
 use canon::PriceChange;
 use std::alloc::{AllocError, Global};
 

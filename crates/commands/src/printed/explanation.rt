@@ -7,7 +7,7 @@ ghost use Rattle.commands.specs.ExplanationTexts.{bid_cells, explanation_row, ex
 ghost use Rattle.commands.specs.Outputs.{bundle_text};
 
 use crate::printed::cells::{push_list, push_number, push_number_cell};
-use analysis::Reason;
+use analysis::reasons::Reason;
 use bid_file::{BidRef, Bids, PackedFile};
 use cats_text::push_price;
 use std::alloc::{AllocError, Global};

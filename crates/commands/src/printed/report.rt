@@ -9,30 +9,10 @@ ghost use Rattle.commands.specs.Statuses.{status_of_fault, status_of_canon_fault
 
 use crate::printed::pieces::{NOTHING, Piece, line_pieces, text_of};
 use crate::run_fault::{HeavyBid, RunFault};
+use crate::statuses::{DEVICE_FAILED, FILE_REFUSED, NO_MEMORY, STEPS_EXCEEDED, WRONG_USAGE};
 use canon::{CanonFault, Which};
 use cats_text::{Kind, ReadFault};
 use std::alloc::{AllocError, Global};
-
-/// A run did what its request says.
-pub const DONE: u8 = 0;
-
-/// Two files are different auctions.
-pub const DIFFERENT: u8 = 1;
-
-/// A file is not a bid file.
-pub const FILE_REFUSED: u8 = 2;
-
-/// A search took more steps than its limit.
-pub const STEPS_EXCEEDED: u8 = 3;
-
-/// Memory was refused.
-pub const NO_MEMORY: u8 = 4;
-
-/// A file could not be opened, read or written.
-pub const DEVICE_FAILED: u8 = 5;
-
-/// The command line names nothing that the program does.
-pub const WRONG_USAGE: u8 = 64;
 
 /// So many goods of the bundle of a heavy bid are reported.
 const SHOWN_GOODS: usize = 20;

@@ -1,6 +1,6 @@
 //! The two files that `cats diff` compares. In each the number of a bid is found among its bids in order.
 
-use analysis::{NumberedBid, bids_in_order, number_of};
+use analysis::reasons::{NumberedBid, bids_in_order, number_of};
 use bid_file::{BidRef, PackedFile};
 use canon::NamedFile;
 use std::alloc::{AllocError, Global};

@@ -49,6 +49,7 @@ pub fn revenues()
     ensures sum { revenue_outcome (1 ∷ 0 ∷ 1 ∷ []) larger_bid ≡ Prints 0 (codes "revenue 7\n") }
     ensures clash { revenue_outcome (2 ∷ 0 ∷ []) larger_bid ≡ Prints 1 (codes "bids 0 and 2 share good 0\n") }
     ensures missing { revenue_outcome (2 ∷ 4 ∷ 0 ∷ 3 ∷ []) larger_bid ≡ LacksBid 4 }
+    ensures both { revenue_outcome (1 ∷ 0 ∷ []) xor_ladder ≡ Prints 0 (codes "revenue 6.5\n") }
 {}
 
 /// Rows of `cats sizes`: of a file that was judged, of one with a heavy bundle, and of none.
@@ -63,7 +64,7 @@ pub fn sizes_rows()
         ≡ 0 ∷ 4 ∷ [] }
 {}
 
-/// What `cats normalise` and `cats explain` make of a file: the same limits refuse it.
+/// What `cats normalise` and `cats explain` make of two files: the same limits refuse one of them.
 pub fn canonical_files()
     ensures text { outcome_of (Normalise (plain_options 3)) larger_bid
         ≡ Prints 0 (codes "goods 2\nbids 2\ndummy 0\n0\t3\t0\t#\n1\t4\t1\t#\n") }
@@ -72,6 +73,11 @@ pub fn canonical_files()
         ≡ Prints 0 (codes "bid\tdummy\tprice\tgoods\treason\tkept\tby\n0\t\t3\t0\tkeep\t0\t\n1\t\t4\t1\tkeep\t1\t\n"
         ++ codes "2\t\t7\t0,1\tpacking\t\t0,1\n") }
     ensures unexplained { outcome_of (Explain 1 None) larger_bid ≡ ExceedsAtBid 1 None 2 (0 ∷ 1 ∷ []) }
+    ensures text_of_both { outcome_of (Normalise (plain_options 1000)) xor_ladder
+        ≡ Prints 0 (codes "goods 2\nbids 3\ndummy 1\n0\t1.5\t1\t#\n1\t5\t0\t2\t#\n2\t6\t0\t1\t2\t#\n") }
+    ensures reasons_of_both { outcome_of (Explain 1000 None) xor_ladder
+        ≡ Prints 0 (codes "bid\tdummy\tprice\tgoods\treason\tkept\tby\n0\t0\t5\t0\tkeep\t1\t\n"
+        ++ codes "1\t\t1.5\t1\tkeep\t0\t\n2\t0\t6\t0,1\tkeep\t2\t\n") }
 {}
 
 /// The bid that is named: not that of an XOR bidder, and the first of two.

@@ -1,5 +1,5 @@
 -- `goods_of_words`
-use Rattle.std.proofs.Common.{◌∙◌, rules, tests}
+use Rattle.std.proofs.Common.{◌∙◌, Some, rules, tests}
 use Rattle.command_line.specs.Goods.{goods_of_word}
 use Rattle.command_line.proofs.GoodsSoFar.{one_more, right_word}
 use Rattle.command_line.proofs.goods.goods_of_words.Goals as goal
@@ -7,5 +7,5 @@ use Rattle.command_line.proofs.goods.goods_of_words.Goals as goal
 pub loop-word-preserved : goal.loop-word-preserved
 loop-word-preserved c =
     c.loop-word.invariant
-    ∙ one_more goods_of_word c.loop-word.goods.items c.push_word.new.goods.items c.args.words.now c.loop-word.word-index _ c.loop-word-test.true
+    ∙ one_more goods_of_word c.loop-word.goods.items (Some c.push_word.new.goods.items) c.args.words.now c.loop-word.word-index _ c.loop-word-test.true
     (right_word _ _ _ (search (rules, tests)) c.in_ok-push_word.ensures)

@@ -1,7 +1,6 @@
 -- `find_number`
 use Rattle.std.proofs.Common.{◌∙◌, ap}
 use Rattle.std.specs.Prelude.{option_and_then}
-use Rattle.std.specs.Str.Parse.{ParsesUnsigned, ExplainsUnsignedError, HasUnsignedDigitsIfOk}
 use Rattle.clap.specs.Matches.{found_of, one_text}
 use Rattle.clap.proofs.WalkLemmas.{one_text-rows}
 use Rattle.command_line.specs.Subcommands.{number_up_to}
@@ -10,6 +9,5 @@ use Rattle.command_line.proofs.parser.find_number.Goals as goal
 
 pub returns : goal.returns
 returns c =
-    limit_read _ (λ bs r. ParsesUnsigned 64 10 bs r × ExplainsUnsignedError 10 bs r × HasUnsignedDigitsIfOk bs r) (λ text answer gives. gives.0)
-    (one_text (found_of c.args.given.now) c.args.id.now) _ c.get_one.ensures.none c.get_one.ensures.value
+    limit_read (one_text (found_of c.args.given.now) c.args.id.now) _ c.get_one.ensures.none c.get_one.ensures.value
     ∙ ap (option_and_then (number_up_to 18446744073709551615)) (one_text-rows (found_of c.args.given.now) c.args.id.now)

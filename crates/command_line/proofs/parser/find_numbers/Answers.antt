@@ -1,11 +1,10 @@
 -- `find_numbers`
-use Rattle.std.proofs.Common.{◌∙◌, codes, sym, rules}
-use Rattle.std.specs.Str.Parse.{ParsesUnsigned, ExplainsUnsignedError, HasUnsignedDigitsIfOk}
+use Rattle.std.proofs.Common.{◌∙◌, Err, Ok, codes, sym, rules}
 use Rattle.clap.specs.Matches.{found_of, values_left}
 use Rattle.clap.specs.Walk.{many_of}
 use Rattle.clap.proofs.WalkLemmas.{typed_values-rows}
 use Rattle.command_line.specs.Internal.Matches.{rows_in}
-use Rattle.command_line.proofs.Reading.{numbers_given, no_numbers, one_more, not_read}
+use Rattle.command_line.proofs.Reading.{numbers_given, no_numbers, one_more}
 use Rattle.command_line.proofs.parser.find_numbers.Goals as goal
 
 pub loop-number-init : goal.loop-number-init
@@ -19,17 +18,12 @@ loop-number-init c = (
 pub returns-in_default-number : goal.returns-in_default-number
 returns-in_default-number c =
     let steps = rw c.in_default-number.is at c.in-Some-number.ensures.steps in
-    sym (c.loop-number.invariant.2 ∙ not_read _ (λ bs r. ParsesUnsigned 32 10 bs r × ExplainsUnsignedError 10 bs r × HasUnsignedDigitsIfOk bs r)
-    (λ text answer gives. gives.0) c.loop-number.numbers.items _ _ c.in_default-number.field-0 steps)
+    sym (c.loop-number.invariant.2 ∙ one_more c.loop-number.numbers.items _ _ (Err c.in_default-number.field-0) steps)
 
 pub loop-number-preserved : goal.loop-number-preserved
 loop-number-preserved c =
-    let steps = rw c.in-Ok.is at c.in-Some-number.ensures.steps in (
-      tt,
-      tt,
-      c.loop-number.invariant.2 ∙ one_more _ (λ bs r. ParsesUnsigned 32 10 bs r × ExplainsUnsignedError 10 bs r × HasUnsignedDigitsIfOk bs r)
-          (λ text answer gives. gives.0) c.loop-number.numbers.items _ _ c.in-Ok.number steps ∙ search rules,
-    )
+    let steps = rw c.in-Ok.is at c.in-Some-number.ensures.steps in
+    (tt, tt, c.loop-number.invariant.2 ∙ one_more c.loop-number.numbers.items _ _ (Ok c.in-Ok.number) steps ∙ search rules)
 
 pub returns-in_default : goal.returns-in_default
 returns-in_default c =

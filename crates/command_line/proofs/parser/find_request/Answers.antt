@@ -1,8 +1,8 @@
 -- `find_request`
-use Rattle.std.proofs.Common.{◌∙◌, sym, rules}
+use Rattle.std.proofs.Common.{◌∙◌, rules}
 use Rattle.command_line.specs.Internal.Matches.{rows_in}
 use Rattle.command_line.specs.Requests.{texts_of}
-use Rattle.command_line.proofs.Answering.{fails_by, entered, requested, both_are, misused}
+use Rattle.command_line.proofs.Answering.{fails_by, entered, requested, misused}
 use Rattle.command_line.proofs.parser.find_request.Goals as goal
 
 pub returns-in_err-matches-clause-refused : goal.returns-in_err-matches-clause-refused
@@ -17,12 +17,12 @@ returns-in-Some-clause-taken c =
 pub returns-in-Some-clause-found : goal.returns-in-Some-clause-found
 returns-in-Some-clause-found c =
     let none = rw c.in_ok-matches.was at (fails_by _ c.in_ok-cats_command.ensures (texts_of c.args.words.now) _ c.try_get_matches_from.ensures.kinds) in
-    let met = entered _ c.in_ok-cats_command.ensures (texts_of c.args.words.now) c.in_ok-matches.matches c.in_ok-matches.ensures.matches in
-    c.in_ok-judge_subcommand-in-Some.ensures.found ∙ requested (texts_of c.args.words.now) _ none
-    (sym (both_are _ c.in-Some.name.now (rows_in c.in-Some.given.now) (search rules) (search rules)) ∙ met)
+    let met = entered _ c.in_ok-cats_command.ensures (texts_of c.args.words.now) c.in_ok-matches.matches c.in_ok-matches.ensures.matches
+    c.in-Some.name.now (rows_in c.in-Some.given.now) (search rules) (search rules) in
+    c.in_ok-judge_subcommand-in-Some.ensures.found ∙ requested (texts_of c.args.words.now) _ _ met none
 
 pub returns-in-Some-clause-misused : goal.returns-in-Some-clause-misused
 returns-in-Some-clause-misused c =
-    let met = entered _ c.in_ok-cats_command.ensures (texts_of c.args.words.now) c.in_ok-matches.matches c.in_ok-matches.ensures.matches in
-    misused (texts_of c.args.words.now) _ _ (sym (both_are _ c.in-Some.name.now (rows_in c.in-Some.given.now) (search rules) (search rules)) ∙ met)
-    c.in_ok-judge_subcommand-in-Some.ensures.misused
+    let met = entered _ c.in_ok-cats_command.ensures (texts_of c.args.words.now) c.in_ok-matches.matches c.in_ok-matches.ensures.matches
+    c.in-Some.name.now (rows_in c.in-Some.given.now) (search rules) (search rules) in
+    misused (texts_of c.args.words.now) _ _ met _ c.in_ok-judge_subcommand-in-Some.ensures.misused

@@ -7,16 +7,13 @@ use Rattle.valuation.specs.Auctions.{or_atoms_of}
 use Rattle.valuation.specs.declared.search_options.SearchOptions.{SearchOptions}
 use Rattle.prune.specs.SearchSteps.{first_refused}
 use Rattle.commands.specs.ExplanationTexts.{explanation_text}
-use Rattle.commands.specs.Outcomes.{Outcome, Prints, text_unless_heavy}
+use Rattle.commands.specs.Outcomes.{Prints, exceeds_at, text_unless_refused}
 use Rattle.commands.proofs.laws.printed_reasons_are_true.Goals as goal
 
-same_text : (one other : List ℕ) → ◌≡◌ {A = Outcome} (Prints 0 one) (Prints 0 other) → other ≡ one
-same_text one other e = cc
-
 printed : (options : SearchOptions) (made : List ℕ) (file : PlainFile) (refused : Option (List ℕ)) (text : List ℕ)
-    → text_unless_heavy options made file refused ≡ Prints 0 text → text ≡ made
-printed options made file None text e = same_text made text e
-printed options made file (Some goods) text e = absurd cc
+    → text_unless_refused (exceeds_at options file) made refused ≡ Prints 0 text → text ≡ made
+printed options made file None text e = cc
+printed options made file (Some goods) text e = cc
 
 pub returns : goal.returns
 returns c = λ options file text is e. (

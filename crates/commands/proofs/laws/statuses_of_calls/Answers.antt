@@ -3,7 +3,6 @@ use Rattle.std.proofs.Common.{◌≡◌, ◌≢◌, ◌<◌, ◌≤◌, ◌==◌
 use Rattle.std.proofs.Common.{Option, Some, None, IfSome, Result, Ok, Err, refl, sym, ap, subst, arith}
 use Rattle.bid_file.specs.Files.{PlainFile}
 use Rattle.cats_text.specs.FaultPlaces.{PlainPlace, first_place}
-use Rattle.cats_text.specs.Faults.{first_fault}
 use Rattle.cats_text.specs.Grammar.{Spells}
 use Rattle.cats_text.specs.declared.read_fault.Kind.{Kind}
 use Rattle.cats_text.specs.declared.read_fault.Kind.TheVariants.{Device, Memory as NoMemory}
@@ -28,35 +27,26 @@ use Rattle.commands.specs.Statuses.{status_of_canon_fault, status_of_difference,
 use Rattle.commands.specs.declared.run_fault.RunFault.{RunFault}
 use Rattle.commands.specs.declared.run_fault.RunFault.TheVariants.{Refused, TooHeavy, GoodRange, BidRange, Sent}
 use Rattle.commands.specs.Commands.{outcome_of_heavy_bid}
-use Rattle.commands.specs.Outcomes.{Outcome, Prints, LacksGood, LacksBid, ExceedsSteps, ExceedsAtBid, exceeds_limits, explain_outcome}
-use Rattle.commands.specs.Outcomes.{missing_good}
-use Rattle.commands.specs.Outcomes.{naming_outcome, normalise_outcome, outcome_of, outcome_of_verdict, outcome_unless, text_unless_heavy}
-use Rattle.commands.specs.Outcomes.{text_unless_refused, value_outcome_by, values_unless}
+use Rattle.commands.specs.Outcomes.{Outcome, Prints, LacksGood, LacksBid, ExceedsSteps, ExceedsAtBid, exceeds_at, exceeds_limits, explain_outcome}
+use Rattle.commands.specs.Outcomes.{missing_good, naming_outcome, normalise_outcome, outcome_of, outcome_of_verdict, outcome_unless, outcome_within}
+use Rattle.commands.specs.Outcomes.{text_unless_refused, values_unless}
 use Rattle.commands.specs.SizesRows.{Sized, IsSized, IsTooHeavy, IsUnsized, Sizes, fault_sized, status_unless}
 use Rattle.commands.specs.ValueTexts.{bundle_from}
 use Rattle.commands.specs.Buffers.{Calls, PutsInto, RefusesBy}
-use Rattle.commands.specs.FaultCalls.{FaultCalls, IsUnplaced, SaysPlace, outcome_of_place}
-use Rattle.commands.specs.OneText.{CallsOn, IsRefusedText, IsUnmade, MakesOf, OfOnly, PrintsOf, own_statuses}
-use Rattle.commands.specs.Refusals.{RefusesText, text_fault, text_read}
+use Rattle.commands.specs.FaultCalls.{FaultCalls, IsUnplaced, outcome_of_place}
+use Rattle.commands.specs.OneText.{CallsOn, IsRefusedText, IsUnmade, MakesOf, OfOnly, own_statuses}
+use Rattle.commands.specs.Refusals.{RefusesText, text_read}
 use Rattle.commands.specs.Roundings.{IsUnrounded, RoundCalls, RoundsText}
-use Rattle.commands.specs.SizesCalls.{SaysRow, SizesCalls, WantsMemoryForRow}
-use Rattle.commands.specs.TwoTexts.{CallsOnBoth, ComparesTexts, DiffsTexts, IsRefusedOfTwo}
+use Rattle.commands.specs.SizesCalls.{SizesCalls}
+use Rattle.commands.specs.TwoTexts.{CallsOnBoth, IsRefusedOfTwo}
 use Rattle.commands.specs.declared.command.Command.{Command}
 use Rattle.commands.specs.declared.command.Command.TheVariants.{Value, Revenue, Normalise, Explain}
 use Rattle.commands.specs.declared.command.Comparison.{Comparison}
 use Rattle.commands.specs.declared.command.Comparison.TheVariants.{Compare, Diff}
-use Rattle.commands.specs.declared.calls.buffer.TheConstants.{TOO_SMALL}
+use Rattle.commands.specs.declared.statuses.TheConstants.{TOO_SMALL}
+use Rattle.commands.proofs.Given.{found_fault}
 use Rattle.commands.proofs.Refusing.{text_fault-of_bytes}
 use Rattle.commands.proofs.laws.statuses_of_calls.Goals as goal
-
--- a fault that is found in a text is neither of a device nor of memory
-found_status : (found : Option ReadFault) (why : ReadFault) → IfSome found IsFaultOfBytes → found ≡ Some why → status_of_read_fault why.kind ≡ 2
-found_status found why of_bytes is = by why.kind (subst (λ (fault : Option ReadFault). IfSome fault IsFaultOfBytes) is of_bytes)
-  where
-    by : (kind : Kind) → (kind ≢ Device) × (kind ≢ NoMemory) → status_of_read_fault kind ≡ 2
-    by Device h = absurd (h.0 refl)
-    by NoMemory h = absurd (h.1 refl)
-    by kind h = refl
 
 abbrev status_in : Outcome → ℕ
 status_in (Prints status text) = status
@@ -71,39 +61,32 @@ by_test P false a b p q = q
 
 -- ---- what holds of the statuses of outcomes
 
-module _ (P : ℕ → Type 0) (zero : P 0) (three : P 3) (options : SearchOptions) where
-  of_normalised : (file : PlainFile) → P (status_in (normalise_outcome options file))
-  of_normalised file = by (first_refused options file.goods (or_atoms_of file.bids))
-    where
-      by : (over : Option (List ℕ)) → P (status_in (text_unless_refused file over))
-      by None = zero
-      by (Some goods) = three
+module _ (P : ℕ → Type 0) (zero : P 0) where
+  -- a text, unless a bundle is refused
+  unless : (refusal : List ℕ → Outcome) → ((goods : List ℕ) → P (status_in (refusal goods))) → (text : List ℕ) (over : Option (List ℕ))
+      → P (status_in (text_unless_refused refusal text over))
+  unless refusal refused text None = zero
+  unless refusal refused text (Some goods) = refused goods
 
-  unless_heavy : (text : List ℕ) (file : PlainFile) (over : Option (List ℕ)) → P (status_in (text_unless_heavy options text file over))
-  unless_heavy text file None = zero
-  unless_heavy text file (Some goods) = three
+  limited : (options : SearchOptions) (refusal : List ℕ → Outcome) → ((goods : List ℕ) → P (status_in (refusal goods))) → (text : List ℕ) (file : PlainFile)
+      → P (status_in (outcome_within options refusal text file))
+  limited options refusal refused text file = unless refusal refused text (first_refused options file.goods (or_atoms_of file.bids))
 
-  of_named : (file : PlainFile) → P (status_in (naming_outcome options file))
-  of_named file = unless_heavy _ file (first_refused options file.goods (or_atoms_of file.bids))
+  of_values : P 3 → P 64 → (missing : Option ℕ) (over : Bool) (bundle : List ℕ) (file : PlainFile)
+      → P (status_in (outcome_unless missing (values_unless over bundle file)))
+  of_values three last (Some good) over bundle file = last
+  of_values three last None true bundle file = three
+  of_values three last None false bundle file = zero
 
-  of_values : P 64 → (goods : List ℕ) (file : PlainFile) → P (status_in (value_outcome_by goods options file))
-  of_values last goods file = by (missing_good file.goods goods) (exceeds_limits (bundle_from goods) options file)
-    where
-      by : (missing : Option ℕ) (over : Bool) → P (status_in (outcome_unless missing (values_unless over (bundle_from goods) file)))
-      by (Some good) over = last
-      by None true = three
-      by None false = zero
+  of_verdict : P 1 → P 64 → (verdict : Result AllocationVerdict ℕ) → P (status_in (outcome_of_verdict verdict))
+  of_verdict one last (Err bid) = last
+  of_verdict one last (Ok (Revenue millionths)) = zero
+  of_verdict one last (Ok (SharedGood i j good)) = one
+  of_verdict one last (Ok (SharedBidder i j dummy)) = one
 
-module _ (P : ℕ → Type 0) (zero : P 0) (one : P 1) where
-  of_verdict : P 64 → (verdict : Result AllocationVerdict ℕ) → P (status_in (outcome_of_verdict verdict))
-  of_verdict last (Err bid) = last
-  of_verdict last (Ok (Revenue millionths)) = zero
-  of_verdict last (Ok (SharedGood i j good)) = one
-  of_verdict last (Ok (SharedBidder i j dummy)) = one
-
-  of_difference : (d : Difference) → P (status_of_difference d)
-  of_difference NoDifference = zero
-  of_difference d = one
+  of_difference : P 1 → (d : Difference) → P (status_of_difference d)
+  of_difference one NoDifference = zero
+  of_difference one d = one
 
 -- ---- what holds of the statuses of calls
 
@@ -126,6 +109,15 @@ module _ (P : ℕ → Type 0) (zero : P 0) (two : P 2) (four : P 4) (six : P 6) 
       by (inl says) = said c.status c.text says.0
       by (inr r) = refused_by Refuses refused c.status c.text needed r
 
+  -- a fault that is found in a text is neither of a device nor of memory
+  found : (fault : Option ReadFault) → IfSome fault IsFaultOfBytes → (why : ReadFault) → fault ≡ Some why → P (status_of_read_fault why.kind)
+  found fault of_bytes why is = by why.kind (subst (λ (f : Option ReadFault). IfSome f IsFaultOfBytes) is of_bytes)
+    where
+      by : (kind : Kind) → (kind ≢ Device) × (kind ≢ NoMemory) → P (status_of_read_fault kind)
+      by Device h = absurd (h.0 refl)
+      by NoMemory h = absurd (h.1 refl)
+      by kind h = two
+
   of_only : (Refuses : CanonFault → Type 0) → ((fault : CanonFault) → Refuses fault → P (status_of_canon_fault fault))
       → (fault : RunFault) → OfOnly Refuses fault → P (status_of_fault fault)
   of_only Refuses h (Refused Only fault) r = h fault r
@@ -139,7 +131,7 @@ module _ (P : ℕ → Type 0) (zero : P 0) (two : P 2) (four : P 4) (six : P 6) 
     made expected m = subst (λ (o : Outcome). P (status_in o)) m.made (of_file m.file)
 
     unmade : (fault : CanonFault) → IsUnmade outcome fine text fault → P (status_of_canon_fault fault)
-    unmade (Read why) h = subst P (sym (found_status (text_fault fine text) why (text_fault-of_bytes fine text) h)) two
+    unmade (Read why) h = found _ (text_fault-of_bytes fine text) why h
     unmade (StepLimit goods) h = made (ExceedsSteps goods.items) h
     unmade Memory h = four
 
@@ -151,7 +143,7 @@ module _ (P : ℕ → Type 0) (zero : P 0) (two : P 2) (four : P 4) (six : P 6) 
     refused (Sent fault) h = absurd h
 
     on_text : (old new : List ℕ) (needed status : ℕ) → CallsOn outcome fine text old new needed status → P status
-    on_text = called (PrintsOf outcome (text_read fine text)) (IsRefusedText outcome fine text) (λ status out says. made (Prints status out) says) refused
+    on_text = called _ _ (λ status out says. made (Prints status out) says) refused
 
   -- ---- the first fault of a text
 
@@ -166,8 +158,7 @@ module _ (P : ℕ → Type 0) (zero : P 0) (two : P 2) (four : P 4) (six : P 6) 
     unplaced Memory h = four
 
     placed : (old new : List ℕ) (needed status : ℕ) → FaultCalls text old new needed status → P status
-    placed = called (SaysPlace text) (OfOnly (IsUnplaced text))
-        (λ status out says. subst (λ (o : Outcome). P (status_in o)) says.1 (of_place (first_place text)))
+    placed = called _ _ (λ status out says. subst (λ (o : Outcome). P (status_in o)) says.1 (of_place (first_place text)))
         (of_only (IsUnplaced text) unplaced)
 
   -- ---- the sizes of a text
@@ -176,17 +167,12 @@ module _ (P : ℕ → Type 0) (zero : P 0) (two : P 2) (four : P 4) (six : P 6) 
     of_sized : (sized : Sized) → Sizes (Spells (text_read fine text)) (RefusesText fine text) options sized → P (status_unless (fault_sized sized))
     of_sized (IsSized file) h = zero
     of_sized (IsTooHeavy file heavy) h = three
-    of_sized (IsUnsized (Read why)) h = by h.1
-      where
-        by : RefusesText fine text why → P (status_of_read_fault why.kind)
-        by (inl found) = subst P (sym (found_status (text_fault fine text) why (text_fault-of_bytes fine text) found)) two
-        by (inr wants) = absurd (h.0 (ap (λ (fault : ReadFault). fault.kind) wants.0))
+    of_sized (IsUnsized (Read why)) h = found _ (text_fault-of_bytes fine text) why (found_fault fine text why h.0 h.1)
     of_sized (IsUnsized (StepLimit goods)) h = absurd h
     of_sized (IsUnsized Memory) h = four
 
     sized_called : (old new : List ℕ) (needed status : ℕ) → SizesCalls options fine text old new needed status → P status
-    sized_called = called (SaysRow options fine text) WantsMemoryForRow
-        (λ status out says. subst P (sym says.is_status) (of_sized says.sized says.sizes))
+    sized_called = called _ _ (λ status out says. subst P (sym says.is_status) (of_sized says.sized says.sizes))
         (λ fault wants. subst P (sym (ap status_of_fault wants)) four)
 
   -- ---- two texts
@@ -204,22 +190,19 @@ module _ (P : ℕ → Type 0) (zero : P 0) (two : P 2) (four : P 4) (six : P 6) 
     on_both : P 1 → P 3 → (comparison : Comparison) (old new : List ℕ) (needed status : ℕ) → CallsOnBoth comparison fine left right old new needed status
         → P status
     on_both one three (Compare options) =
-        called (ComparesTexts options (text_read fine left) (text_read fine right)) (IsRefusedOfTwo options fine left right normalise_outcome)
-        (λ status out says. subst (λ (o : Outcome). P (status_in o)) says.made
+        called _ _ (λ status out says. subst (λ (o : Outcome). P (status_in o)) says.made
         (of_difference P zero one (first_difference (auction_from says.first.file) (auction_from says.second.file))))
-        (of_two options normalise_outcome (of_normalised P zero three options))
+        (of_two options normalise_outcome (λ file. limited P zero options ExceedsSteps (λ goods. three) _ file))
     on_both one three (Diff options) =
-        called (DiffsTexts options (text_read fine left) (text_read fine right)) (IsRefusedOfTwo options fine left right naming_outcome)
-        (λ status out says. subst (λ (o : Outcome). P (status_in o)) says.made (by_test P (is_none_at_all says.differences) 0 1 zero one))
-        (of_two options naming_outcome (of_named P zero three options))
+        called _ _ (λ status out says. subst (λ (o : Outcome). P (status_in o)) says.made (by_test P (is_none_at_all says.differences) 0 1 zero one))
+        (of_two options naming_outcome (λ file. limited P zero options (exceeds_at options file) (λ goods. three) _ file))
 
   -- ---- a text is rounded
 
   module _ (fine : FinePrices) (text : List ℕ) where
     unrounded : (fault : CanonFault) → IsUnrounded fine text fault → P (status_of_canon_fault fault)
     unrounded (Read why) (inl long) = subst P (sym (ap (λ (e : ReadFault). status_of_read_fault e.kind) long.1)) two
-    unrounded (Read why) (inr found) =
-        subst P (sym (found_status (first_fault (rounded_text fine text)) why (first_fault-of_bytes (rounded_text fine text)) found)) two
+    unrounded (Read why) (inr first) = found _ (first_fault-of_bytes (rounded_text fine text)) why first
     unrounded (StepLimit goods) h = absurd h
     unrounded Memory h = four
 
@@ -254,26 +237,27 @@ module _ (own : List ℕ) where
 
 of_command : (command : Command) (file : PlainFile) → Has (own_statuses command) (status_in (outcome_of command file))
 of_command (Value goods options) file =
-    let own : List ℕ = 3 ∷ 64 ∷ [] in of_values (Has own) (zero own) (4, omega arith, refl) options (5, omega arith, refl) goods.now file
+    of_values (Has (3 ∷ 64 ∷ [])) (zero (3 ∷ 64 ∷ [])) (4, omega arith, refl) (5, omega arith, refl) (missing_good file.goods goods.now)
+    (exceeds_limits (bundle_from goods.now) options file) _ file
 of_command (Revenue bids) file =
-    let own : List ℕ = 1 ∷ 64 ∷ [] in of_verdict (Has own) (zero own) (4, omega arith, refl) (5, omega arith, refl) (allocation_verdict file bids.now)
-of_command (Normalise options) file = of_normalised (Has (3 ∷ [])) (zero (3 ∷ [])) (4, omega arith, refl) options file
-of_command (Explain steps total) file =
-    let options = bounded_options steps total in
-    unless_heavy (Has (3 ∷ [])) (zero (3 ∷ [])) (4, omega arith, refl) options _ file (first_refused options file.goods (or_atoms_of file.bids))
+    of_verdict (Has (1 ∷ 64 ∷ [])) (zero (1 ∷ 64 ∷ [])) (4, omega arith, refl) (5, omega arith, refl) (allocation_verdict file bids.now)
+of_command (Normalise options) file = limited (Has (3 ∷ [])) (zero (3 ∷ [])) options _ (λ goods. (4, omega arith, refl)) _ file
+of_command (Explain steps total) file = limited (Has (3 ∷ [])) (zero (3 ∷ [])) (bounded_options steps total) _ (λ goods. (4, omega arith, refl)) _ file
 of_command command file = zero []
 
 pub returns : goal.returns
-returns c = record {
-  one_text = λ command.
-      let own = own_statuses command in on_text (Has own) (zero own) (two own) (four own) (six own) (outcome_of command) (of_command command);
-  two_texts = λ comparison fine left right. on_both (Contains (0 ∷ 1 ∷ 2 ∷ 3 ∷ 4 ∷ 6 ∷ [])) (0, omega arith, refl) (2, omega arith, refl)
-      (4, omega arith, refl) (5, omega arith, refl) fine left right (1, omega arith, refl) (3, omega arith, refl) comparison;
-  explain = λ options. on_text (Contains (0 ∷ 2 ∷ 3 ∷ 4 ∷ 6 ∷ [])) (0, omega arith, refl) (1, omega arith, refl) (3, omega arith, refl)
-      (4, omega arith, refl) (explain_outcome options) (λ file. unless_heavy (Contains (0 ∷ 2 ∷ 3 ∷ 4 ∷ 6 ∷ [])) (0, omega arith, refl)
-      (2, omega arith, refl) options _ file (first_refused options file.goods (or_atoms_of file.bids)));
-  fault = placed (Has []) (zero []) (two []) (four []) (six []);
-  sizes = λ options. sized_called (Contains (0 ∷ 2 ∷ 3 ∷ 4 ∷ 6 ∷ [])) (0, omega arith, refl) (1, omega arith, refl) (3, omega arith, refl)
-      (4, omega arith, refl) (2, omega arith, refl) options;
-  round = rounded (Has []) (zero []) (two []) (four []) (six []);
-}
+returns c =
+    let all : List ℕ = 0 ∷ 1 ∷ 2 ∷ 3 ∷ 4 ∷ 6 ∷ [] in
+    let Most : ℕ → Type 0 = Contains (0 ∷ 2 ∷ 3 ∷ 4 ∷ 6 ∷ []) in
+    record {
+      one_text = λ command.
+          let own = own_statuses command in on_text (Has own) (zero own) (two own) (four own) (six own) (outcome_of command) (of_command command);
+      two_texts = λ comparison fine left right. on_both (Contains all) (0, omega arith, refl) (2, omega arith, refl) (4, omega arith, refl)
+          (5, omega arith, refl) fine left right (1, omega arith, refl) (3, omega arith, refl) comparison;
+      explain = λ options. on_text Most (0, omega arith, refl) (1, omega arith, refl) (3, omega arith, refl) (4, omega arith, refl)
+          (explain_outcome options) (λ file. limited Most (0, omega arith, refl) options (exceeds_at options file) (λ goods. (2, omega arith, refl)) _ file);
+      fault = placed (Has []) (zero []) (two []) (four []) (six []);
+      sizes = λ options. sized_called Most (0, omega arith, refl) (1, omega arith, refl) (3, omega arith, refl) (4, omega arith, refl)
+          (2, omega arith, refl) options;
+      round = rounded (Has []) (zero []) (two []) (four []) (six []);
+    }

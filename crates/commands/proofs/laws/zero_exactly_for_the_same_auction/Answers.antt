@@ -7,7 +7,7 @@ use Rattle.cats_text.specs.Grammar.{Spells}
 use Rattle.cats_text.proofs.Spelling.Files.{spells_one}
 use Rattle.valuation.specs.Auctions.{auction_from}
 use Rattle.canon.specs.Canonical.{IsCanonical, canonical_auction, canonical_file}
-use Rattle.canon.specs.Difference.{Difference, NoDifference, InGoods, InOr, InXor, first_difference}
+use Rattle.canon.specs.Difference.{Difference, NoDifference, first_difference}
 use Rattle.canon.specs.Sameness.{AreSameFiles, AreSameTexts, IsSameAuction}
 use Rattle.canon.proofs.CanonicalAuctions.Sames.{same_sym, same_trans}
 use Rattle.canon.proofs.CanonicalFiles.Files.{auction_from-file_from}
@@ -25,18 +25,15 @@ printed_status outcome = 0
 
 none_from_zero : (d : Difference) → status_of_difference d ≡ 0 → d ≡ NoDifference
 none_from_zero NoDifference e = refl
-none_from_zero (InGoods left right) e = absurd (cc)
-none_from_zero (InOr bundle left right) e = absurd (cc)
-none_from_zero (InXor bidder left right) e = absurd (cc)
+none_from_zero d e = cc
 
 zero_by_test : (none : Bool) → cond {A = ℕ} none 0 1 ≡ 0 → none ≡ true
 zero_by_test true e = refl
-zero_by_test false e = absurd (cc)
+zero_by_test false e = cc
 
 canonical_again : (f : PlainFile) → IsPlainFile f → IsCanonical (auction_from (canonical_file f))
 canonical_again f facts =
-    let h = canonical_file f in
-    sym (sym (ap auction_from (canonical_file_is_fixed f facts)) ∙ auction_from-file_from (canonical_auction (auction_from h)))
+    sym (sym (ap auction_from (canonical_file_is_fixed f facts)) ∙ auction_from-file_from (canonical_auction (auction_from (canonical_file f))))
 
 -- two texts, and the files that they spell
 module _ (left right : List ℕ) (f g : PlainFile) (s : Spells left f) (t : Spells right g) where
@@ -54,35 +51,25 @@ module _ (left right : List ℕ) (f g : PlainFile) (s : Spells left f) (t : Spel
       → (status ≡ 0 ↔ AreSameTexts left right)
   of_first status is =
       let d = first_difference (auction_from f) (auction_from g) in (
-        λ zero. same_texts (same_from_no_difference (auction_from f) (auction_from g) (HasAtoms-file f s.facts) (HasAtoms-file g t.facts)
-            (none_from_zero d (sym is ∙ zero))),
-        λ a. is ∙ ap status_of_difference
-            (no_difference_from_same (auction_from f) (auction_from g) (HasAtoms-file f s.facts) (HasAtoms-file g t.facts) (same_files a)),
+        λ zero. same_texts (same_from_no_difference _ _ (HasAtoms-file f s.facts) (HasAtoms-file g t.facts) (none_from_zero d (sym is ∙ zero))),
+        λ a. is ∙ ap status_of_difference (no_difference_from_same _ _ (HasAtoms-file f s.facts) (HasAtoms-file g t.facts) (same_files a)),
       )
 
   -- ---- all differences
 
   same_canonical : AreSameFiles f g → AreSameFiles (canonical_file f) (canonical_file g)
-  same_canonical same =
-      same_trans (auction_from (canonical_file f)) (auction_from f) (auction_from (canonical_file g))
-      (same_sym (auction_from f) (auction_from (canonical_file f)) (canonical_file_is_same f s.facts))
-      (same_trans (auction_from f) (auction_from g) (auction_from (canonical_file g)) same (canonical_file_is_same g t.facts))
+  same_canonical same = same_trans _ _ _ (same_sym _ _ (canonical_file_is_same f s.facts)) (same_trans _ _ _ same (canonical_file_is_same g t.facts))
 
   same_from_canonical : AreSameFiles (canonical_file f) (canonical_file g) → AreSameFiles f g
   same_from_canonical same =
-      same_trans (auction_from f) (auction_from (canonical_file f)) (auction_from g) (canonical_file_is_same f s.facts)
-      (same_trans (auction_from (canonical_file f)) (auction_from (canonical_file g)) (auction_from g) same
-      (same_sym (auction_from g) (auction_from (canonical_file g)) (canonical_file_is_same g t.facts)))
+      same_trans _ _ _ (canonical_file_is_same f s.facts) (same_trans _ _ _ same (same_sym _ _ (canonical_file_is_same g t.facts)))
 
   module _ (d : PlainDifferences) (all : AreAllDifferences (auction_from (canonical_file f)) (auction_from (canonical_file g)) d) where
     none_exactly : is_none_at_all d ≡ true ↔ IsSameAuction (auction_from (canonical_file f)) (auction_from (canonical_file g))
     none_exactly =
-        let a = auction_from (canonical_file f) in
-        let b = auction_from (canonical_file g) in
         let first = HasAtoms-file (canonical_file f) (IsPlainFile-canonical f s.facts) in
         let second = HasAtoms-file (canonical_file g) (IsPlainFile-canonical g t.facts) in
-        none_exactly_for_same a b first second d
-        (begins_with_first a b first second (canonical_again f s.facts) (canonical_again g t.facts) d all)
+        none_exactly_for_same _ _ first second d (begins_with_first _ _ first second (canonical_again f s.facts) (canonical_again g t.facts) d all)
 
     of_all : (status : ℕ) → status ≡ status_of_differences d → (status ≡ 0 ↔ AreSameTexts left right)
     of_all status is = (

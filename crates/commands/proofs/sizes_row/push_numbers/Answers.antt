@@ -8,16 +8,14 @@ use Rattle.commands.proofs.sizes_row.push_numbers.Goals as goal
 pub returns-in-Err : goal.returns-in-Err
 returns-in-Err g c =
     rw (c.from-in-Err.ensures, c.from.ensures)
-    (numbers_unread (g.I.Input.gives c.args.input.now c.read_file.new.self) (g.I.Input.refuses c.args.input.now c.read_file.new.self)
-    c.args.options c.args.text.now.items _
+    (numbers_unread _ _ _ _ _
     (c.in_ok-extend_from_slice-in-Err.ensures.items ∙ ap (λ bytes. c.args.text.now.items ++ bytes) c.as_bytes.ensures.value) c.in-Err.fault
     c.in-Err.ensures.memory c.in-Err.ensures.answer)
 
 pub returns-in-Ok-named_normal_file : goal.returns-in-Ok-named_normal_file
 returns-in-Ok-named_normal_file g c =
     let normal = c.in-Ok-named_normal_file.ensures.answer in
-    numbers_judged (g.I.Input.gives c.args.input.now c.read_file.new.self) (g.I.Input.refuses c.args.input.now c.read_file.new.self)
-    c.args.options c.args.text.now.items _
+    numbers_judged _ _ _ _ _
     c.in-Ok.file c.in-Ok.ensures.answer normal.within_limit
     (c.in_ok-push_counts-in-Ok-named_normal_file.ensures
     ∙ ap (λ f. c.extend_from_slice-in-Ok-named_normal_file.new.self.items ++ with_tabs (counts_of f)) normal.canonical
@@ -27,8 +25,7 @@ returns-in-Ok-named_normal_file g c =
 
 pub returns-in-Err-StepLimit : goal.returns-in-Err-StepLimit
 returns-in-Err-StepLimit g c =
-    numbers_heavy (g.I.Input.gives c.args.input.now c.read_file.new.self) (g.I.Input.refuses c.args.input.now c.read_file.new.self)
-    c.args.options c.args.text.now.items _
+    numbers_heavy _ _ _ _ _
     c.in-Ok.file c.in-Ok.ensures.answer c.in-Err-StepLimit.goods
     (rw c.in-Err-StepLimit.field-0-is at c.in-Err-StepLimit.ensures.answer)
     (c.in_ok-extend_from_slice-in-Err-StepLimit-2.ensures.items
@@ -41,8 +38,7 @@ returns-in-Err-StepLimit g c =
 pub returns : goal.returns
 returns g c =
     rw c.from-in-Err-named_normal_file.ensures
-    (numbers_unmade (g.I.Input.gives c.args.input.now c.read_file.new.self) (g.I.Input.refuses c.args.input.now c.read_file.new.self)
-    c.args.options c.args.text.now.items _
+    (numbers_unmade _ _ _ _ _
     c.in-Ok.file c.in-Ok.ensures.answer
     (c.in_ok-extend_from_slice-in-Err-named_normal_file.ensures.items
     ∙ ap (λ bytes. c.args.text.now.items ++ bytes) c.as_bytes-in-Err-named_normal_file.ensures.value))

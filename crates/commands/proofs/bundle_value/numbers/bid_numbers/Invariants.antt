@@ -8,7 +8,4 @@ use Rattle.commands.proofs.bundle_value.numbers.bid_numbers.Given as goal
 abbrev pub invariant-loop-number : goal.invariant-loop-number
 invariant-loop-number l =
     let bids = take l.number l.file.bids in
-    record {
-      or : l.or_bids.items ≡ or_numbers bids;
-      xor : lists_of l.xor_bids.items ≡ map (xor_numbers bids) (range_with_len 0 l.file.dummy);
-    }
+    record { or : l.or_bids.items ≡ or_numbers bids; xor : lists_of l.xor_bids.items ≡ map (xor_numbers bids) (range_with_len 0 l.file.dummy) }

@@ -1,16 +1,19 @@
 -- `mark_dummies`
-use Rattle.std.proofs.Common.{◌≡◌, ◌<◌, Some, ap, ◌∙◌, arith, length, take}
+use Rattle.std.proofs.Common.{◌≡◌, ◌<◌, false, [], refl, Some, ap, ◌∙◌, arith, length, take}
 use Rattle.std.specs.List.{slice_get}
 use Rattle.std.proofs.lemmas.List.FromFn.{length-map-range_with_len}
 use Rattle.bid_file.specs.Files.{PlainBid, PlainFile}
 use Rattle.valuation.specs.Lemmas.AuctionsOfFiles.{IsBid-there}
 use Rattle.commands.specs.SizesRows.{has_dummy}
-use Rattle.commands.proofs.Sizing.{no_marks, marks_put, marks_same}
+use Rattle.commands.proofs.ByNumber.{by_number-replicate}
+use Rattle.commands.proofs.Sizing.{marks_put, marks_same}
 use Rattle.commands.proofs.sizes_row.count.mark_dummies.Goals as goal
 use Rattle.commands.proofs.sizes_row.count.mark_dummies.Goals.{in-Some, in_default}
 
 pub loop-number-init : goal.loop-number-init
-loop-number-init c = rw (← c.dummy.ensures) (c.in_ok-marks.ensures.items_if_clones_equal (λ y e. e) ∙ no_marks 0 c.dummy.result)
+loop-number-init c =
+    rw (← c.dummy.ensures)
+    (c.in_ok-marks.ensures.items_if_clones_equal (λ y e. e) ∙ by_number-replicate (has_dummy []) false c.dummy.result (λ k. refl))
 
 pub index_mut-requires : goal.index_mut-requires
 index_mut-requires c =

@@ -43,14 +43,7 @@ returns-clause-fault c =
     record {
       status = 2;
       text = codes "line 1: Header\n";
-      is = inr (record {
-        fault = Refused Only (Read (fault_at 1 Header));
-        refused = refl;
-        is_status =
-            refl;
-        is_line = refl;
-        is_needed = refl;
-      });
+      is = inr (record { fault = Refused Only (Read (fault_at 1 Header)); refused = refl; is_status = refl; is_line = refl; is_needed = refl });
       puts = puts_whole 2 (codes "line 1: Header\n") (codes "................") refl;
     }
 
@@ -60,13 +53,6 @@ returns-clause-memory c =
     record {
       status = 4;
       text = codes "want of memory\n";
-      is = inr (record {
-        fault = Refused Only Memory;
-        refused = inl refl;
-        is_status = refl;
-        is_line =
-            refl;
-        is_needed = refl;
-      });
+      is = inr (record { fault = Refused Only Memory; refused = inl refl; is_status = refl; is_line = refl; is_needed = refl });
       puts = puts_whole 4 (codes "want of memory\n") (codes "................") refl;
     }

@@ -12,8 +12,7 @@ use Rattle.commands.proofs.worked.calls.one_of_two_refused.Goals as goal
 
 pub returns-clause-second : goal.returns-clause-second
 unfolding digits first_refused first_over search_steps_by cut_steps points_where is_or_point is_xor_point or_value xor_value
-returns-clause-second c =
-    (within (bounded_options 1 None) (codes "goods 0\nbids 0\ndummy 0\n") refl refl, refl)
+returns-clause-second c = (within (bounded_options 1 None) (codes "goods 0\nbids 0\ndummy 0\n") refl refl, refl)
 
 pub returns-clause-both : goal.returns-clause-both
 unfolding digits first_refused first_over search_steps_by cut_steps points_where is_or_point is_xor_point or_value xor_value

@@ -81,5 +81,4 @@ returns-clause-refused c =
 
 pub returns-clause-report : goal.returns-clause-report
 unfolding digits
-returns-clause-report c =
-    refl
+returns-clause-report c = refl

@@ -15,8 +15,7 @@ use Rattle.commands.proofs.worked.calls.texts_printed.Goals as goal
 
 pub returns-clause-sizes : goal.returns-clause-sizes
 unfolding digits
-returns-clause-sizes c =
-    makes check_outcome (codes "goods 2\nbids 1\ndummy 0\n0 3 0 #\n") (Prints 0 (codes "goods 2 bids 1 dummy 0\n")) refl refl
+returns-clause-sizes c = makes check_outcome (codes "goods 2\nbids 1\ndummy 0\n0 3 0 #\n") (Prints 0 (codes "goods 2 bids 1 dummy 0\n")) refl refl
 
 pub returns-clause-other_sizes : goal.returns-clause-other_sizes
 unfolding digits

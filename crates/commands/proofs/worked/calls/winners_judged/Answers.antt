@@ -25,8 +25,7 @@ returns-clause-clash c =
 
 pub returns-clause-missing : goal.returns-clause-missing
 unfolding digits
-returns-clause-missing c =
-    makes (revenue_outcome (1 ∷ 3 ∷ 2 ∷ [])) (codes "goods 1\nbids 2\ndummy 0\n0 3 0 #\n1 4.5 0 #\n") (LacksBid 3) refl refl
+returns-clause-missing c = makes (revenue_outcome (1 ∷ 3 ∷ 2 ∷ [])) (codes "goods 1\nbids 2\ndummy 0\n0 3 0 #\n1 4.5 0 #\n") (LacksBid 3) refl refl
 
 pub returns-clause-other_missing : goal.returns-clause-other_missing
 unfolding digits

@@ -5,4 +5,4 @@ use Rattle.commands.proofs.worked.outcomes.revenues.Goals as goal
 
 pub returns : goal.returns
 unfolding digits
-returns c = record { sum = refl; clash = refl; missing = refl }
+returns c = record { sum = refl; clash = refl; missing = refl; both = refl }

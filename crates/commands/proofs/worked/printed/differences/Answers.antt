@@ -5,11 +5,4 @@ use Rattle.commands.proofs.worked.printed.differences.Goals as goal
 
 pub returns : goal.returns
 unfolding digits
-returns c = record {
-  same = refl;
-  goods = refl;
-  below = refl;
-  pair = refl;
-  bidder = refl;
-  statuses = refl;
-}
+returns c = record { same = refl; goods = refl; below = refl; pair = refl; bidder = refl; statuses = refl }

@@ -4,8 +4,7 @@ use Rattle.commands.proofs.Refusing.{memory_line, read_memory, short_answer, sho
 use Rattle.commands.proofs.calls.text.TextInput.read_file.Goals as goal
 
 pub returns-then-self-gt-MAX_STREAM-clause-memory : goal.returns-then-self-gt-MAX_STREAM-clause-memory
-returns-then-self-gt-MAX_STREAM-clause-memory c =
-    memory_line c.args.self.now.fine c.args.self.now.bytes.now c.long_fault.result c.long_fault.ensures
+returns-then-self-gt-MAX_STREAM-clause-memory c = memory_line c.args.self.now.fine c.args.self.now.bytes.now c.long_fault.result c.long_fault.ensures
 
 pub returns-in-None-clause-answer : goal.returns-in-None-clause-answer
 returns-in-None-clause-answer c =
@@ -17,5 +16,4 @@ returns-in-None-clause-memory c =
     (short_refused c.args.self.now.bytes.now (omega (arith, c.if-self-gt-MAX_STREAM.false)) None c.read_packed.result c.read_packed.ensures)
 
 pub returns-in-Some-clause-memory : goal.returns-in-Some-clause-memory
-returns-in-Some-clause-memory c =
-    read_memory (Some c.in-Some.fine) c.args.self.now.bytes.now c.read_rounded.result c.read_rounded.ensures.refused
+returns-in-Some-clause-memory c = read_memory (Some c.in-Some.fine) c.args.self.now.bytes.now c.read_rounded.result c.read_rounded.ensures.refused
