@@ -22,23 +22,21 @@ use Rattle.rounding.specs.declared.replacement.FinePrices.{FinePrices}
 use Rattle.cats_cmd.specs.Runs.{RunsCommand}
 use Rattle.commands.specs.Statuses.{status_of_canon_fault, status_of_read_fault}
 use Rattle.cats_cmd.specs.Rounding.{Rounds}
-use Rattle.cats_cmd.specs.RequestErrors.{Reports, line_of_request_error, has_found, is_for_many_files, is_reporting, is_rounding}
-use Rattle.cats_cmd.specs.RequestErrors.{names_found, names_many_files, names_reporting}
-use Rattle.cats_cmd.specs.RequestErrors.{status_of_request_error}
+use Rattle.cats_cmd.specs.RequestErrors.{Reports, line_of_request_error, has_found, is_for_many_files, is_reporting, is_rounding, names_found, names_many_files}
+use Rattle.cats_cmd.specs.RequestErrors.{names_reporting, status_of_request_error}
 use Rattle.cats_cmd.specs.declared.errors.RequestError.{RequestError}
 use Rattle.cats_cmd.specs.declared.errors.RequestError.TheVariants.{CannotOpen, NotOpened, Run}
 use Rattle.commands.specs.declared.run_fault.RunFault.{RunFault}
-use Rattle.commands.specs.declared.run_fault.RunFault.TheVariants.{Refused, TooHeavy, GoodRange, BidRange, Sent}
-use Rattle.command_line.specs.PlainRequests.{PlainRequest, OnFile, OnPair, OnFiles, Fault, Round, GivenBids, BidsIn}
-use Rattle.command_line.specs.PlainRequests.{PlainBids, PlainCommand}
+use Rattle.commands.specs.declared.run_fault.RunFault.TheVariants.{Refused, Sent}
+use Rattle.command_line.specs.PlainRequests.{PlainRequest, OnFile, OnPair, OnFiles, Fault, Round, GivenBids, BidsIn, PlainBids, PlainCommand}
 use Rattle.commands.specs.declared.command.Comparison.{Comparison}
-use Rattle.commands.specs.declared.command.Comparison.TheVariants.{Compare, Diff}
 use Rattle.command_line.specs.declared.request.Prices.{Prices}
 use Rattle.command_line.specs.declared.request.Prices.TheVariants.{AsWritten}
 use Rattle.command_line.specs.Requests.{request_of}
 use Rattle.cats_cmd.specs.declared.priced_input.PricedInput.{PricedInput}
 use Rattle.cats_cmd.specs.declared.source.Unopened.{Unopened}
-use Rattle.cats_cmd.proofs.AnswersShown.{IsPrinted, command_printed, pair_printed}
+use Rattle.cats_cmd.proofs.AnswersShown.{IsPrinted, command_printed}
+use Rattle.cats_cmd.proofs.Sending.{PairFacts, pair_facts}
 use Rattle.cats_cmd.proofs.PricedInputs.{none_given}
 
 -- ---- a request
@@ -66,32 +64,22 @@ quiet_request words request asked quiet = rw asked at quiet
 
 -- nothing was written, unless it is the output that failed
 abbrev IsSilent : {W : Type 0} → RequestError → Watched W → Watched W → Type 0
-IsSilent (CannotOpen which) old new = new ≡ old
-IsSilent (NotOpened why) old new = new ≡ old
-IsSilent (Run (Refused which fault)) old new = new ≡ old
-IsSilent (Run (TooHeavy which heavy)) old new = new ≡ old
-IsSilent (Run (GoodRange good)) old new = new ≡ old
-IsSilent (Run (BidRange bid)) old new = new ≡ old
 IsSilent (Run (Sent fault)) old new = Unit {0}
+IsSilent error old new = new ≡ old
 
 -- a run that failed has written nothing, unless its output failed
 silent_run : {W : Type 0} (contents : W → Option (List ℕ)) (Answers : Result Answer RunFault → Type 0) (old new : Watched W) (fault : RunFault)
     → RunsCommand contents Answers old new (Err fault) → IsSilent (Run fault) old new
-silent_run contents Answers old new (Refused which fault) ran = ran.1
-silent_run contents Answers old new (TooHeavy which heavy) ran = ran.1
-silent_run contents Answers old new (GoodRange good) ran = ran.1
-silent_run contents Answers old new (BidRange bid) ran = ran.1
 silent_run contents Answers old new (Sent fault) ran = tt
+silent_run contents Answers old new fault ran = ran.1
 
 -- a rounding that failed has written nothing, unless its output failed
 silent_rounding : {R W E : Type 0} (remaining : R → Option (List ℕ)) (contents : W → Option (List ℕ)) (messages : E → Option (List ℕ)) (fine : FinePrices)
     (before after : Watched R) (out out_after : Watched W) (err err_after : Watched E) (fault : RunFault)
     → Rounds remaining contents messages fine before after out out_after err err_after (Err fault) → IsSilent (Run fault) out out_after
 silent_rounding remaining contents messages fine before after out out_after err err_after (Refused which fault) ran = ran.silent
-silent_rounding remaining contents messages fine before after out out_after err err_after (TooHeavy which heavy) ran = absurd ran
-silent_rounding remaining contents messages fine before after out out_after err err_after (GoodRange good) ran = absurd ran
-silent_rounding remaining contents messages fine before after out out_after err err_after (BidRange bid) ran = absurd ran
 silent_rounding remaining contents messages fine before after out out_after err err_after (Sent fault) ran = tt
+silent_rounding remaining contents messages fine before after out out_after err err_after fault ran = absurd ran
 
 -- ---- errors
 
@@ -107,22 +95,12 @@ canon_status_above Memory = omega arith
 
 -- no error has the status of an answer
 error_status_above : (error : RequestError) → 2 ≤ status_of_request_error error
-error_status_above (CannotOpen which) = omega arith
-error_status_above (NotOpened why) = omega arith
 error_status_above (Run (Refused which fault)) = canon_status_above fault
-error_status_above (Run (TooHeavy which heavy)) = omega arith
-error_status_above (Run (GoodRange good)) = omega arith
-error_status_above (Run (BidRange bid)) = omega arith
-error_status_above (Run (Sent fault)) = omega arith
+error_status_above error = omega arith
 
 silent_unless_failed : {W : Type 0} (error : RequestError) (old new : Watched W) → IsSilent error old new → (status_of_request_error error ≡ 5 → ⊥) → new ≡ old
-silent_unless_failed (CannotOpen which) old new silent failed = silent
-silent_unless_failed (NotOpened why) old new silent failed = silent
-silent_unless_failed (Run (Refused which fault)) old new silent failed = silent
-silent_unless_failed (Run (TooHeavy which heavy)) old new silent failed = silent
-silent_unless_failed (Run (GoodRange good)) old new silent failed = silent
-silent_unless_failed (Run (BidRange bid)) old new silent failed = silent
 silent_unless_failed (Run (Sent fault)) old new silent failed = absurd (failed refl)
+silent_unless_failed error old new silent failed = silent
 
 -- prices that are not rounded are read as they are written
 none_rounded : (prices : Prices) → is_rounding prices ≡ false → fine_prices prices ≡ None
@@ -185,35 +163,34 @@ module _ {F W E : Type 0} (may_open : List ℕ → F → Type 0) (may_refuse : L
     command_silent (Some (GivenBids bids)) fault ran = silent_at path prices (outcome_for command bids) err_after fault ran
     command_silent (Some (BidsIn list)) fault ran = silent_at path prices (outcome_for command ran.bids) err_after fault ran.runs
 
-  -- ---- a command on two files
-
-  module _ (left left_after right right_after : PricedInput F) where
-    abbrev AnswersBoth : Comparison → Result Answer RunFault → Type 0
-    AnswersBoth comparison answer =
-        CommandsOnBoth (PricedGives remaining) (PricedRefuses remaining) (PricedGives remaining) (PricedRefuses remaining) comparison left left_after right
-        right_after answer
-
-    -- no price is rounded of files whose prices are read as they are written
-    pair_unrounded : (comparison : Comparison) (answer : Answer) → AnswersBoth comparison (Ok answer) → left.fine ≡ None → right.fine ≡ None
-        → (left_after.rounded ≡ 0) × (right_after.rounded ≡ 0)
-    pair_unrounded (Compare options) answer made first second =
-        (none_given remaining left left_after first _ made.gives.0.given, none_given remaining right right_after second _ made.gives.1.given)
-    pair_unrounded (Diff options) answer made first second =
-        let given = made.gives.given in
-        (none_given remaining left left_after first _ given.0.given, none_given remaining right right_after second _ given.1.given)
-
   -- ---- any request
 
+  abbrev Ran : PlainRequest → Watched E → Result ℕ RunFault → Type 0
+  Ran request err_after answer = RunsFor may_open may_refuse remaining contents messages terminal may_find request out out_after err err_after answer
+
+  abbrev Carried : PlainRequest → Watched E → Result ℕ RequestError → Type 0
+  Carried request err_after answer = CarriesOut may_open may_refuse remaining contents messages terminal may_find request out out_after err err_after answer
+
+  abbrev Answered : PlainRequest → Watched E → ℕ → Type 0
+  Answered request err_after status =
+      AnswersRequest may_open may_refuse remaining contents messages terminal may_find request out out_after err err_after status
+
+  abbrev Failed : PlainRequest → Watched E → ℕ → Type 0
+  Failed request err_after status = FailsRequest may_open may_refuse remaining contents messages terminal may_find request out out_after err err_after status
+
+  abbrev both : (left left_after right right_after : PricedInput F) (comparison : Comparison)
+      → PairFacts (PricedGives remaining) (PricedRefuses remaining) (PricedGives remaining) (PricedRefuses remaining) left left_after right right_after
+      (CommandsOnBoth (PricedGives remaining) (PricedRefuses remaining) (PricedGives remaining) (PricedRefuses remaining) comparison left left_after right
+      right_after)
+  both left left_after right right_after comparison = pair_facts _ _ _ _ left left_after right right_after comparison
+
   -- a request for one or two files that answered has the status 0 or 1, or has written nothing, unless it has found a fault
-  answered : (request : PlainRequest) (err_after : Watched E) (status : ℕ)
-      → RunsFor may_open may_refuse remaining contents messages terminal may_find request out out_after err err_after (Ok status) → is_for_many_files request ≡
-      false
+  answered : (request : PlainRequest) (err_after : Watched E) (status : ℕ) → Ran request err_after (Ok status) → is_for_many_files request ≡ false
       → has_found status request ≡ false → (status ≤ 1) ⊎ (out_after ≡ out)
   answered (OnFile path prices command) err_after status ran few none =
       command_answered path prices command err_after (named_bids command) status ran
   answered (OnPair first second prices command limits) err_after status ran few none =
-      let most = (pair_printed (PricedGives remaining) (PricedRefuses remaining) (PricedGives remaining) (PricedRefuses remaining)
-      (comparison_of command limits) ran.left ran.left_after ran.right ran.right_after ran.runs.answer ran.runs.answers).0 in
+      let most = ((both ran.left ran.left_after ran.right ran.right_after (comparison_of command limits)).made ran.runs.answer ran.runs.answers).printed.0 in
       let is = ran.runs.is_status in
       inl (omega (arith, most, is))
   answered (OnFiles files) err_after status ran few none = absurd (cc)
@@ -222,75 +199,60 @@ module _ {F W E : Type 0} (may_open : List ℕ → F → Type 0) (may_refuse : L
   answered (Round file exact) err_after status ran few none = let made = ran.runs.made in let is : 0 ≡ status = cc in inl (omega (arith, is))
 
   -- a request that answered has reported nothing, unless it is one that reports
-  quiet : (request : PlainRequest) (err_after : Watched E) (status : ℕ)
-      → RunsFor may_open may_refuse remaining contents messages terminal may_find request out out_after err err_after (Ok status) → is_reporting request ≡ false
+  quiet : (request : PlainRequest) (err_after : Watched E) (status : ℕ) → Ran request err_after (Ok status) → is_reporting request ≡ false
       → status ≤ 1 → err_after ≡ err
   quiet (OnFile path prices command) err_after status ran plain most =
       command_quiet path prices command err_after (named_bids command) status plain ran most
   quiet (OnPair first second prices command limits) err_after status ran plain most =
       let written = none_rounded prices plain in
-      let none = pair_unrounded ran.left ran.left_after ran.right ran.right_after (comparison_of command limits) ran.runs.answer ran.runs.answers
-      (ran.left_opened.fine ∙ written) (ran.right_opened.fine ∙ written) in
-      rw none.1 at (rw none.0 at ran.reports)
-  quiet (OnFiles files) err_after status ran plain most = absurd (cc)
+      let made = (both ran.left ran.left_after ran.right ran.right_after (comparison_of command limits)).made ran.runs.answer ran.runs.answers in
+      let one = none_given remaining ran.left ran.left_after (ran.left_opened.fine ∙ written) made.files.0 made.given.0.given in
+      let other = none_given remaining ran.right ran.right_after (ran.right_opened.fine ∙ written) made.files.1 made.given.1.given in
+      rw other at (rw one at ran.reports)
   quiet (Fault file) err_after status ran plain most = ran.1
-  quiet (Round file exact) err_after status ran plain most = absurd (cc)
+  quiet request err_after status ran plain most = absurd (cc)
 
   -- a request that failed has written nothing, unless its output failed
-  silent_fault : (request : PlainRequest) (err_after : Watched E) (fault : RunFault)
-      → RunsFor may_open may_refuse remaining contents messages terminal may_find request out out_after err err_after (Err fault) → is_for_many_files request ≡
-      false
-      → IsSilent (Run fault) out out_after
+  silent_fault : (request : PlainRequest) (err_after : Watched E) (fault : RunFault) → Ran request err_after (Err fault)
+      → is_for_many_files request ≡ false → IsSilent (Run fault) out out_after
   silent_fault (OnFile path prices command) err_after fault ran few = command_silent path prices command err_after (named_bids command) fault ran
   silent_fault (OnPair first second prices command limits) err_after fault ran few =
-      silent_run contents (AnswersBoth ran.left ran.left_after ran.right ran.right_after (comparison_of command limits)) out out_after fault ran.runs
+      silent_run contents (CommandsOnBoth (PricedGives remaining) (PricedRefuses remaining) (PricedGives remaining) (PricedRefuses remaining)
+      (comparison_of command limits) ran.left ran.left_after ran.right ran.right_after) out out_after fault ran.runs
   silent_fault (OnFiles files) err_after fault ran few = absurd (cc)
   silent_fault (Fault file) err_after (Refused which fault) ran few = ran.0.runs.2
-  silent_fault (Fault file) err_after (TooHeavy which heavy) ran few = absurd ran.0.runs
-  silent_fault (Fault file) err_after (GoodRange good) ran few = absurd ran.0.runs
-  silent_fault (Fault file) err_after (BidRange bid) ran few = absurd ran.0.runs
   silent_fault (Fault file) err_after (Sent fault) ran few = tt
+  silent_fault (Fault file) err_after fault ran few = absurd ran.0.runs
   silent_fault (Round file exact) err_after fault ran few =
       silent_rounding remaining contents messages (fine_of exact) ran.before ran.after out out_after err err_after fault ran.runs
 
-  silent_request : (request : PlainRequest) (err_after : Watched E) (error : RequestError)
-      → CarriesOut may_open may_refuse remaining contents messages terminal may_find request out out_after err err_after (Err error) → is_for_many_files request
-      ≡ false
-      → IsSilent error out out_after
+  silent_request : (request : PlainRequest) (err_after : Watched E) (error : RequestError) → Carried request err_after (Err error)
+      → is_for_many_files request ≡ false → IsSilent error out out_after
   silent_request request err_after (CannotOpen which) ran few = ran.1
   silent_request request err_after (NotOpened why) ran few = absurd ran
   silent_request request err_after (Run fault) ran few = silent_fault request err_after fault ran few
 
   -- a status but 0, 1 and 5 says that nothing was written, unless a fault was found
-  pub silent_answer : (request : PlainRequest) (err_after : Watched E) (status : ℕ)
-      → AnswersRequest may_open may_refuse remaining contents messages terminal may_find request out out_after err err_after status → is_for_many_files request
-      ≡ false
+  pub silent_answer : (request : PlainRequest) (err_after : Watched E) (status : ℕ) → Answered request err_after status → is_for_many_files request ≡ false
       → has_found status request ≡ false → status ≢ 0 → status ≢ 1 → status ≢ 5 → out_after ≡ out
   silent_answer request err_after status answers few none a b c =
       ⊎_elim
-      (λ (ran : CarriesOut may_open may_refuse remaining contents messages terminal may_find request out out_after err err_after (Ok status)).
+      (λ (ran : Carried request err_after (Ok status)).
       ⊎_elim (λ (most : status ≤ 1). absurd (omega (arith, most, a, b))) (λ (silent : out_after ≡ out). silent)
       (answered request err_after status ran few none))
-      (λ (s : FailsRequest may_open may_refuse remaining contents messages terminal may_find request out out_after err err_after status).
+      (λ (s : Failed request err_after status).
       silent_unless_failed s.error out out_after (silent_request request s.between s.error s.carries few) (λ five. c (s.is_status ∙ five)))
       answers
 
   -- the statuses 0 and 1 say that nothing was reported
-  pub done_answer : (request : PlainRequest) (err_after : Watched E) (status : ℕ)
-      → AnswersRequest may_open may_refuse remaining contents messages terminal may_find request out out_after err err_after status → is_reporting request ≡
-      false
+  pub done_answer : (request : PlainRequest) (err_after : Watched E) (status : ℕ) → Answered request err_after status → is_reporting request ≡ false
       → status ≤ 1 → err_after ≡ err
   done_answer request err_after status answers few most =
-      ⊎_elim
-      (λ (ran : CarriesOut may_open may_refuse remaining contents messages terminal may_find request out out_after err err_after (Ok status)).
-      quiet request err_after status ran few most)
-      (λ (s : FailsRequest may_open may_refuse remaining contents messages terminal may_find request out out_after err err_after status).
-      let least = error_status_above s.error in let is = s.is_status in absurd (omega (arith, least, is, most)))
+      ⊎_elim (λ (ran : Carried request err_after (Ok status)). quiet request err_after status ran few most)
+      (λ (s : Failed request err_after status). let least = error_status_above s.error in let is = s.is_status in absurd (omega (arith, least, is, most)))
       answers
 
-  pub failed_request : (request : PlainRequest) (error : RequestError) (between err_after : Watched E) (status : ℕ)
-      → CarriesOut may_open may_refuse remaining contents messages terminal may_find request out out_after err between (Err error)
-      → Reports messages (line_of_request_error error) between err_after → status ≡ status_of_request_error error
-      → FailsRequest may_open may_refuse remaining contents messages terminal may_find request out out_after err err_after status
+  pub failed_request : (request : PlainRequest) (error : RequestError) (between err_after : Watched E) (status : ℕ) → Carried request between (Err error)
+      → Reports messages (line_of_request_error error) between err_after → status ≡ status_of_request_error error → Failed request err_after status
   failed_request request error between err_after status carries reports is =
       record { error = error; between = between; carries = carries; reports = reports; is_status = is }

@@ -1,6 +1,6 @@
 -- What the commands on one or two files print: numbers, prices, and words of ours. Its status is 0 or 1.
-use Rattle.std.proofs.Common.{◌≡◌, ℕ, suc, ◌+◌, ◌-◌, ◌/◌, ◌%◌, ◌<◌, ◌≤◌, ◌==◌, ◌++◌, Bool, true, false, List, [], ◌∷◌, cond, filter, length, map, refl}
-use Rattle.std.proofs.Common.{Ok, Err, Result, arith, subst}
+use Rattle.std.proofs.Common.{ℕ, suc, ◌+◌, ◌-◌, ◌/◌, ◌%◌, ◌<◌, ◌≤◌, ◌==◌, ◌++◌, Bool, true, false, List, [], ◌∷◌, cond, filter, length, map, refl}
+use Rattle.std.proofs.Common.{Ok, Err, Result, arith}
 use Rattle.std.specs.Prelude.{codes, decimal, nat_lt, slice_index, Option, Some, None}
 use Rattle.std.specs.List.{AllByRecursion, flat_map, range_with_len}
 use Rattle.std.proofs.lemmas.Bool.{cond_both}
@@ -13,8 +13,8 @@ use Rattle.commands.specs.FaultPlaceTexts.{before_word, behind_word, shown_bytes
 use Rattle.commands.specs.KindNames.{name_of_kind}
 use Rattle.commands.specs.Outputs.{check_text, number_cell, price_cell}
 use Rattle.bid_file.specs.Files.{PlainBid, PlainFile, goods_of}
-use Rattle.canon.specs.Canonical.{canonical_file}
-use Rattle.canon.specs.Difference.{Difference, NoDifference, InGoods, InOr, InXor, first_difference}
+use Rattle.canon.specs.Canonical.{canonical_file, canonical_text}
+use Rattle.canon.specs.Difference.{Difference, NoDifference, InGoods, InOr, InXor}
 use Rattle.canon.specs.Renaming.{kept_dummies, named_dummy}
 use Rattle.canon.specs.declared.verdict.Side.{Side}
 use Rattle.canon.specs.declared.verdict.Side.TheVariants.{Exactly, Below}
@@ -22,16 +22,14 @@ use Rattle.cats_text.specs.FaultPlaces.{PlainPlace}
 use Rattle.cats_text.specs.Layout.{behind_point, bids_text, digit_at, header_text, layout, places_text, price_text, six_digits, with_place, without_zeros}
 use Rattle.cats_text.specs.declared.read_fault.Kind.{Kind}
 use Rattle.cats_text.specs.declared.read_fault.Kind.TheVariants as kinds
-use Rattle.cats_text.specs.declared.read_fault.ReadFault.{ReadFault}
 use Rattle.analysis.specs.BidderChanges.{PlainBidderChange}
 use Rattle.analysis.specs.Differences.{PlainDifferences, is_none_at_all}
 use Rattle.canon.specs.PriceChanges.{PlainChange}
 use Rattle.analysis.specs.Bids.{bid_at, numbers_of}
 use Rattle.analysis.specs.Reasons.{PlainReason, Keep, Zero, Same, Inside, Packing, reason_at, reasons_of}
-use Rattle.valuation.specs.Auctions.{auction_from, or_atoms_of}
+use Rattle.valuation.specs.Auctions.{or_atoms_of}
 use Rattle.prune.specs.SearchSteps.{first_refused}
 use Rattle.valuation.specs.declared.atom.Atom.{Atom}
-use Rattle.valuation.specs.declared.search_options.SearchOptions.{SearchOptions}
 use Rattle.analysis.specs.AllocationVerdicts.{allocation_text, allocation_verdict, pair_text}
 use Rattle.analysis.specs.declared.winners.allocation_verdict.AllocationVerdict.{AllocationVerdict}
 use Rattle.analysis.specs.declared.winners.allocation_verdict.AllocationVerdict.TheVariants.{Revenue, SharedGood, SharedBidder}
@@ -40,17 +38,12 @@ use Rattle.cats_cmd.specs.Escaping.{AreBytes, is_shown}
 use Rattle.cats_cmd.specs.FindingFaults.{text_of_place}
 use Rattle.cats_cmd.specs.Requests.{bounded_by, options_of, outcome_for}
 use Rattle.command_line.specs.PlainRequests.{PlainCommand, Check, Show, Value, Revenue as RevenueOf, Normalise, Explain, Lp}
-use Rattle.commands.specs.Commands.{text_of}
-use Rattle.commands.specs.Outcomes.{Outcome, Prints, exceeds_limits, missing_good, outcome_of_difference, outcome_of_verdict, outcome_unless, text_unless_heavy}
-use Rattle.commands.specs.Outcomes.{text_unless_refused, values_unless}
-use Rattle.commands.specs.Pairs.{CommandsOnBoth}
+use Rattle.commands.specs.Outcomes.{Outcome, Prints, diff_outcome, exceeds_limits, missing_good, outcome_of_difference, outcome_of_verdict, outcome_unless}
+use Rattle.commands.specs.Outcomes.{ExceedsSteps, exceeds_at, text_unless_refused, values_unless}
 use Rattle.commands.specs.ValueTexts.{bundle_from, numbers_text, value_text}
-use Rattle.commands.specs.declared.answer.Answer.{Answer}
-use Rattle.commands.specs.declared.command.Comparison.{Comparison}
-use Rattle.commands.specs.declared.command.Comparison.TheVariants.{Compare, Diff}
 use Rattle.cats_cmd.proofs.PrintableTexts.{ascii_text, no_text}
 use Rattle.cats_cmd.proofs.FaultTexts.{name as kind_name}
-use Rattle.cats_cmd.proofs.ShownTexts.{Shown, bundle, number, ours, path_shown, plain_shown, then}
+use Rattle.cats_cmd.proofs.ShownTexts.{IsOurs, Shown, bundle, number, ours, path_shown, plain_shown, then}
 
 -- what is shown of each is shown of all
 flat : {X : Type 0} (f : X → List ℕ) → ((x : X) → Shown (f x)) → (xs : List X) → Shown (flat_map f xs)
@@ -58,9 +51,6 @@ flat f each [] = no_text is_shown
 flat f each (x ∷ xs) = then (each x) (flat f each xs)
 
 -- ---- prices
-
-abbrev IsOurs : ℕ → Type 0
-IsOurs b = (b < 128) × (is_shown b ≡ true)
 
 digit : (d : ℕ) → d < 10 → IsOurs (48 + d)
 digit d l = (omega arith, grind (arith, l))
@@ -156,22 +146,7 @@ revenue_shown (SharedBidder i j dummy) =
 
 hint : (kind : Kind) → Shown (hint_of_kind kind)
 hint kinds.Header = ours (hint_of_kind kinds.Header) refl
-hint kinds.NotANumber = ours (hint_of_kind kinds.NotANumber) refl
-hint kinds.TooLarge = ours (hint_of_kind kinds.TooLarge) refl
-hint kinds.ExtraBid = ours (hint_of_kind kinds.ExtraBid) refl
-hint kinds.BidNumber = ours (hint_of_kind kinds.BidNumber) refl
-hint kinds.RepeatedNumber = ours (hint_of_kind kinds.RepeatedNumber) refl
-hint kinds.TooFine = ours (hint_of_kind kinds.TooFine) refl
-hint kinds.GoodRange = ours (hint_of_kind kinds.GoodRange) refl
-hint kinds.RepeatedGood = ours (hint_of_kind kinds.RepeatedGood) refl
-hint kinds.TwoDummies = ours (hint_of_kind kinds.TwoDummies) refl
-hint kinds.EmptyBundle = ours (hint_of_kind kinds.EmptyBundle) refl
-hint kinds.NoEnd = ours (hint_of_kind kinds.NoEnd) refl
-hint kinds.AfterEnd = ours (hint_of_kind kinds.AfterEnd) refl
-hint kinds.Missing = ours (hint_of_kind kinds.Missing) refl
-hint kinds.TooLong = ours (hint_of_kind kinds.TooLong) refl
-hint kinds.Device = ours (hint_of_kind kinds.Device) refl
-hint kinds.Memory = ours (hint_of_kind kinds.Memory) refl
+hint kind = ours (hint_of_kind kind) refl
 
 before : (word : List ℕ) → Shown (before_word word)
 before [] = no_text is_shown
@@ -291,58 +266,40 @@ IsPrinted outcome = Unit {0}
 success : {text : List ℕ} → Shown text → IsPrinted (Prints 0 text)
 success shown = (omega arith, shown)
 
-unless_missing : (missing : Option ℕ) (outcome : Outcome) → IsPrinted outcome → IsPrinted (outcome_unless missing outcome)
-unless_missing None outcome is = is
-unless_missing (Some good) outcome is = tt
-
-values_printed : (refused : Bool) (bundle : List ℕ) (file : PlainFile) → IsPrinted (values_unless refused bundle file)
-values_printed true bundle file = tt
-values_printed false bundle file = success (value_shown file bundle)
+-- a refusal prints nothing
+unless_some : {A : Type 0} (outcome : Option A → Outcome) (refused : Option A) → ((a : A) → IsPrinted (outcome (Some a))) → IsPrinted (outcome None)
+    → IsPrinted (outcome refused)
+unless_some outcome None some none = none
+unless_some outcome (Some a) some none = some a
 
 verdict_printed : (verdict : Result AllocationVerdict ℕ) → IsPrinted (outcome_of_verdict verdict)
 verdict_printed (Err bid) = tt
 verdict_printed (Ok (Revenue millionths)) = (omega arith, revenue_shown (Revenue millionths))
-verdict_printed (Ok (SharedGood i j good)) = (omega arith, revenue_shown (SharedGood i j good))
-verdict_printed (Ok (SharedBidder i j dummy)) = (omega arith, revenue_shown (SharedBidder i j dummy))
-
-normal_printed : (file : PlainFile) (heavy : Option (List ℕ)) → IsPrinted (text_unless_refused file heavy)
-normal_printed file None = success (layout_shown (canonical_file file))
-normal_printed file (Some goods) = tt
-
-unless_heavy : (options : SearchOptions) (text : List ℕ) (file : PlainFile) (heavy : Option (List ℕ)) → Shown text
-    → IsPrinted (text_unless_heavy options text file heavy)
-unless_heavy options text file None is = success is
-unless_heavy options text file (Some goods) is = tt
+verdict_printed (Ok verdict) = (omega arith, revenue_shown verdict)
 
 pub command_printed : (command : PlainCommand) (numbers : List ℕ) (file : PlainFile) → IsPrinted (outcome_for command numbers file)
 command_printed Check numbers file = success (check_shown file)
 command_printed Show numbers file = success (layout_shown file)
 command_printed (Value goods limits) numbers file =
     let refused = exceeds_limits (bundle_from goods) (options_of limits) file in
-    unless_missing (missing_good file.goods goods) (values_unless refused (bundle_from goods) file) (values_printed refused (bundle_from goods) file)
+    unless_some (λ missing. outcome_unless missing (values_unless refused (bundle_from goods) file)) (missing_good file.goods goods) (λ good. tt)
+    (cond_both refused _ _ IsPrinted (λ e. tt) (λ e. success (value_shown file (bundle_from goods))))
 command_printed (RevenueOf bids) numbers file = verdict_printed (allocation_verdict file numbers)
-command_printed (Normalise limits) numbers file = normal_printed file (first_refused (options_of limits) file.goods (or_atoms_of file.bids))
+command_printed (Normalise limits) numbers file =
+    unless_some (text_unless_refused ExceedsSteps (canonical_text file)) (first_refused (options_of limits) file.goods (or_atoms_of file.bids)) (λ goods. tt)
+    (success (layout_shown (canonical_file file)))
 command_printed (Explain limits) numbers file =
-    unless_heavy (bounded_by limits) (explanation_text file (reasons_of file)) file
-    (first_refused (bounded_by limits) file.goods (or_atoms_of file.bids)) (explanation_shown file (reasons_of file))
+    unless_some (text_unless_refused (exceeds_at (bounded_by limits) file) (explanation_text file (reasons_of file)))
+    (first_refused (bounded_by limits) file.goods (or_atoms_of file.bids)) (λ goods. tt) (success (explanation_shown file (reasons_of file)))
 command_printed Lp numbers file = success (lp_shown file)
 
-difference_printed : (d : Difference) → IsPrinted (outcome_of_difference d)
+pub difference_printed : (d : Difference) → IsPrinted (outcome_of_difference d)
 difference_printed NoDifference = (omega arith, difference_shown NoDifference)
-difference_printed (InGoods left right) = (omega arith, difference_shown (InGoods left right))
-difference_printed (InOr b left right) = (omega arith, difference_shown (InOr b left right))
-difference_printed (InXor atoms left right) = (omega arith, difference_shown (InXor atoms left right))
+difference_printed difference = (omega arith, difference_shown difference)
 
 one_at_most : (none : Bool) → cond none 0 1 ≤ 1
 one_at_most true = omega arith
 one_at_most false = omega arith
 
-pub pair_printed : {I J : Type 0} (gives_first : I → I → PlainFile → Type 0) (refuses_first : I → I → ReadFault → Type 0)
-    (gives_second : J → J → PlainFile → Type 0) (refuses_second : J → J → ReadFault → Type 0) (comparison : Comparison) (first first_after : I)
-    (second second_after : J) (answer : Answer)
-    → CommandsOnBoth gives_first refuses_first gives_second refuses_second comparison first first_after second second_after (Ok answer)
-    → (answer.status ≤ 1) × Shown (text_of answer.output)
-pair_printed gives_first refuses_first gives_second refuses_second (Compare options) first first_after second second_after answer made =
-    subst IsPrinted made.made (difference_printed (first_difference (auction_from made.given.0) (auction_from made.given.1)))
-pair_printed gives_first refuses_first gives_second refuses_second (Diff options) first first_after second second_after answer made =
-    subst IsPrinted made.made (one_at_most (is_none_at_all made.given.2), diff_shown made.given.0 made.given.1 made.given.2)
+pub differences_printed : (left right : PlainFile) (d : PlainDifferences) → IsPrinted (diff_outcome (left, right, d))
+differences_printed left right d = (one_at_most (is_none_at_all d), diff_shown left right d)

@@ -1,11 +1,11 @@
 -- What is reported of a fault is a line of printable ASCII.
-use Rattle.std.proofs.Common.{◌≡◌, ℕ, ◌-◌, ◌<◌, ◌==◌, ◌&&◌, Bool, true, false, not, List, [], ◌∷◌, ◌++◌, length, take, ltb, refl, sym, ap, ◌∙◌, arith}
+use Rattle.std.proofs.Common.{◌≡◌, ℕ, ◌-◌, ◌<◌, ◌==◌, ◌&&◌, Bool, false, not, List, [], ◌∷◌, ◌++◌, length, take, ltb, refl, sym, ap, ◌∙◌, arith}
 use Rattle.std.specs.Prelude.{codes, decimal, nat_lt, Option, Some, None}
 use Rattle.std.specs.List.{All, list_any}
 use Rattle.std.proofs.Math.Seq.{take-append_seam}
-use Rattle.std.proofs.lemmas.Bool.{and_parts, cond_both, ltb-true, ne_eqb, or_parts}
+use Rattle.std.proofs.lemmas.Bool.{and_parts, cond_both, ltb-true, ne_eqb}
 use Rattle.std.proofs.lemmas.List.{append_assoc, length-append}
-use Rattle.std.proofs.lemmas.List.Elements.{All-append, All-cons, All-from_recursion, All-nil, All-weaker}
+use Rattle.std.proofs.lemmas.List.Elements.{All-append, All-from_recursion, All-nil, All-weaker}
 use Rattle.commands.specs.FaultLines.{line_of_fault, prefix_of, rest_text, text_of_canon_fault, text_of_heavy_bid, text_of_kind, total_text}
 use Rattle.commands.specs.declared.run_fault.HeavyBid.{HeavyBid}
 use Rattle.commands.specs.KindNames.{name_of_kind}
@@ -24,7 +24,7 @@ use Rattle.cats_cmd.specs.declared.errors.RequestError.{RequestError}
 use Rattle.cats_cmd.specs.declared.errors.RequestError.TheVariants.{CannotOpen, NotOpened, Run}
 use Rattle.cats_cmd.specs.declared.source.Unopened.{Unopened}
 use Rattle.cats_cmd.specs.declared.source.Unopened.TheVariants as unopened
-use Rattle.cats_cmd.proofs.PrintableTexts.{decimal_all}
+use Rattle.cats_cmd.proofs.PrintableTexts.{decimal_all, not_false, tested}
 
 -- ---- printable ASCII
 
@@ -40,16 +40,11 @@ none = record { all = All-nil IsPlain }
 abbrev is_plain : ℕ → Bool
 is_plain b = ltb 31 b && ltb b 127
 
-not_false : (t : Bool) → not t ≡ false → t ≡ true
-not_false true e = refl
-not_false false e = absurd (cc)
-
 ours : (text : List ℕ) → list_any (λ b. not (is_plain b)) text ≡ false → Plain text
-ours [] e = none
-ours (b ∷ text) e =
-    let parts = or_parts (not (is_plain b)) (list_any (λ c. not (is_plain c)) text) e in
-    let is = and_parts (ltb 31 b) (ltb b 127) (not_false (is_plain b) parts.0) in
-    record { all = All-cons IsPlain b text (ltb-true 31 b is.0, ltb-true b 127 is.1) (ours text parts.1).all }
+ours text e = record { all = tested IsPlain (λ b. not (is_plain b)) passed text e }
+  where
+    passed : (b : ℕ) → not (is_plain b) ≡ false → IsPlain b
+    passed b e = let is = and_parts (ltb 31 b) (ltb b 127) (not_false (is_plain b) e) in (ltb-true 31 b is.0, ltb-true b 127 is.1)
 
 -- one text behind another
 then : {xs ys : List ℕ} → Plain xs → Plain ys → Plain (xs ++ ys)
@@ -75,50 +70,21 @@ bundle_plain (g ∷ goods) = then (number g) (commas goods)
 
 pub name : (kind : Kind) → Plain (name_of_kind kind)
 name kinds.Header = ours (codes "Header") refl
-name kinds.NotANumber = ours (codes "NotANumber") refl
-name kinds.TooLarge = ours (codes "TooLarge") refl
-name kinds.ExtraBid = ours (codes "ExtraBid") refl
-name kinds.BidNumber = ours (codes "BidNumber") refl
-name kinds.RepeatedNumber = ours (codes "RepeatedNumber") refl
-name kinds.TooFine = ours (codes "TooFine") refl
-name kinds.GoodRange = ours (codes "GoodRange") refl
-name kinds.RepeatedGood = ours (codes "RepeatedGood") refl
-name kinds.TwoDummies = ours (codes "TwoDummies") refl
-name kinds.EmptyBundle = ours (codes "EmptyBundle") refl
-name kinds.NoEnd = ours (codes "NoEnd") refl
-name kinds.AfterEnd = ours (codes "AfterEnd") refl
-name kinds.Missing = ours (codes "Missing") refl
-name kinds.TooLong = ours (codes "TooLong") refl
-name kinds.Device = ours (codes "Device") refl
-name kinds.Memory = ours (codes "Memory") refl
+name kind = ours (name_of_kind kind) refl
 
 at_line : (line : ℕ) (kind : Kind) → Plain (codes "line " ++ decimal line ++ codes ": " ++ name_of_kind kind)
 at_line line kind = then (then (then (ours (codes "line ") refl) (number line)) (ours (codes ": ") refl)) (name kind)
 
 kind_text : (line : ℕ) (kind : Kind) → Plain (text_of_kind line kind)
-kind_text line kinds.Header = at_line line kinds.Header
-kind_text line kinds.NotANumber = at_line line kinds.NotANumber
-kind_text line kinds.TooLarge = at_line line kinds.TooLarge
-kind_text line kinds.ExtraBid = at_line line kinds.ExtraBid
-kind_text line kinds.BidNumber = at_line line kinds.BidNumber
-kind_text line kinds.RepeatedNumber = at_line line kinds.RepeatedNumber
-kind_text line kinds.TooFine = at_line line kinds.TooFine
-kind_text line kinds.GoodRange = at_line line kinds.GoodRange
-kind_text line kinds.RepeatedGood = at_line line kinds.RepeatedGood
-kind_text line kinds.TwoDummies = at_line line kinds.TwoDummies
-kind_text line kinds.EmptyBundle = at_line line kinds.EmptyBundle
-kind_text line kinds.NoEnd = at_line line kinds.NoEnd
-kind_text line kinds.AfterEnd = at_line line kinds.AfterEnd
-kind_text line kinds.Missing = at_line line kinds.Missing
 kind_text line kinds.TooLong = name kinds.TooLong
 kind_text line kinds.Device = name kinds.Device
 kind_text line kinds.Memory = ours (codes "want of memory") refl
+kind_text line kind = at_line line kind
 
 prefix : (w : Which) → Plain (prefix_of w)
-prefix which.Only = none
 prefix which.First = ours (codes "first: ") refl
 prefix which.Second = ours (codes "second: ") refl
-prefix which.Both = none
+prefix which = none
 
 canon_text : (fault : CanonFault) → Plain (text_of_canon_fault fault)
 canon_text (Read fault) = kind_text fault.line fault.kind
@@ -146,41 +112,28 @@ pub record IsLine (line : List ℕ) : Type 0 where
   pub is : line ≡ text ++ 10 ∷ []
   pub plain : Plain text
 
-fault_line : (why : RunFault) → IsLine (line_of_fault why)
-fault_line (Refused w why) = record { text = prefix_of w ++ text_of_canon_fault why; is = refl; plain = then (prefix w) (canon_text why) }
-fault_line (TooHeavy w heavy) = record { text = prefix_of w ++ text_of_heavy_bid heavy; is = refl; plain = then (prefix w) (heavy_text heavy) }
-fault_line (GoodRange good) = record {
-  text = codes "good " ++ decimal good ++ codes " out of range";
-  is = sym (append_assoc (codes "good " ++ decimal good) (codes " out of range") (10 ∷ []));
-  plain = then (then (ours (codes "good ") refl) (number good)) (ours (codes " out of range") refl);
-}
-fault_line (BidRange bid) = record {
-  text = codes "bid " ++ decimal bid ++ codes " out of range";
-  is = sym (append_assoc (codes "bid " ++ decimal bid) (codes " out of range") (10 ∷ []));
-  plain = then (then (ours (codes "bid ") refl) (number bid)) (ours (codes " out of range") refl);
-}
-fault_line (Sent why) = record {
-  text = codes "output failed after " ++ decimal why.written ++ codes " bytes";
-  is = sym (append_assoc (codes "output failed after " ++ decimal why.written) (codes " bytes") (10 ∷ []));
-  plain = then (then (ours (codes "output failed after ") refl) (number why.written)) (ours (codes " bytes") refl);
-}
+ended : {text : List ℕ} → Plain text → IsLine (text ++ 10 ∷ [])
+ended {text} plain = record { text = text; is = refl; plain = plain }
 
-of_text : (text : List ℕ) → list_any (λ b. not (is_plain b)) text ≡ false → IsLine (text ++ 10 ∷ [])
-of_text text e = record { text = text; is = refl; plain = ours text e }
+ended_behind : {xs ys : List ℕ} → Plain xs → Plain ys → IsLine (xs ++ (ys ++ 10 ∷ []))
+ended_behind {xs} {ys} x y = record { text = xs ++ ys; is = sym (append_assoc xs ys (10 ∷ [])); plain = then x y }
+
+fault_line : (why : RunFault) → IsLine (line_of_fault why)
+fault_line (Refused w why) = ended (then (prefix w) (canon_text why))
+fault_line (TooHeavy w heavy) = ended (then (prefix w) (heavy_text heavy))
+fault_line (GoodRange good) = ended_behind (then (ours (codes "good ") refl) (number good)) (ours (codes " out of range") refl)
+fault_line (BidRange bid) = ended_behind (then (ours (codes "bid ") refl) (number bid)) (ours (codes " out of range") refl)
+fault_line (Sent why) = ended_behind (then (ours (codes "output failed after ") refl) (number why.written)) (ours (codes " bytes") refl)
 
 unopened_line : (why : Unopened) → IsLine (line_of_unopened why)
-unopened_line unopened.NoSuchFile = of_text (codes "cannot open: no such file") refl
-unopened_line unopened.PermissionDenied = of_text (codes "cannot open: permission denied") refl
-unopened_line unopened.IsFolder = of_text (codes "cannot open: is a folder") refl
-unopened_line unopened.NotAFile = of_text (codes "cannot open: not a file") refl
-unopened_line unopened.Other = of_text (codes "cannot open") refl
+unopened_line unopened.NoSuchFile = ended (ours (codes "cannot open: no such file") refl)
+unopened_line unopened.PermissionDenied = ended (ours (codes "cannot open: permission denied") refl)
+unopened_line unopened.IsFolder = ended (ours (codes "cannot open: is a folder") refl)
+unopened_line unopened.NotAFile = ended (ours (codes "cannot open: not a file") refl)
+unopened_line unopened.Other = ended (ours (codes "cannot open") refl)
 
 pub error_line : (error : RequestError) → IsLine (line_of_request_error error)
-error_line (CannotOpen w) = record {
-  text = prefix_of w ++ codes "cannot open";
-  is = sym (append_assoc (prefix_of w) (codes "cannot open") (10 ∷ []));
-  plain = then (prefix w) (ours (codes "cannot open") refl);
-}
+error_line (CannotOpen w) = ended_behind (prefix w) (ours (codes "cannot open") refl)
 error_line (NotOpened why) = unopened_line why
 error_line (Run why) = fault_line why
 

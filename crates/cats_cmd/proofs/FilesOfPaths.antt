@@ -1,6 +1,6 @@
 -- The files at paths: each path adds its own behind those of the paths before it.
-use Rattle.std.proofs.Common.{◌≡◌, inl, inr, ℕ, ◌+◌, ◌<◌, length, get_or, take, List, [], ◌∷◌, ◌++◌, map, refl, sym, ap, ◌∙◌, subst, true, false, Option}
-use Rattle.std.proofs.Common.{Some, None, Result, Ok, Err, Vec, append-nil}
+use Rattle.std.proofs.Common.{◌≡◌, inl, inr, ℕ, ◌+◌, ◌<◌, length, get_or, take, List, [], ◌∷◌, ◌++◌, map, refl, sym, ap, ◌∙◌, subst, true, false, Option, Some}
+use Rattle.std.proofs.Common.{None, Result, Ok, Err, Vec, append-nil, ⊎_elim}
 use Rattle.std.specs.Borrow.{Bor}
 use Rattle.std.specs.Global.{Global}
 use Rattle.std.specs.Prelude.{IfOk}
@@ -8,7 +8,6 @@ use Rattle.std.specs.declared.alloc.AllocError.{AllocError}
 use Rattle.std.specs.List.{flat_map}
 use Rattle.std.specs.Str.{IsUtf8, is_utf8}
 use Rattle.std.proofs.lemmas.Bool.{cases_Bool}
-use Rattle.std.proofs.Common.{⊎_elim}
 use Rattle.std.proofs.lemmas.List.{map-append, map_push}
 use Rattle.std.proofs.lemmas.List.Elements.{All-nil, All-push}
 use Rattle.std.proofs.lemmas.Grind.{flat_map-append}
@@ -50,30 +49,10 @@ module _ (may_find : List ℕ → Option (List (List ℕ)) → Type 0) where
       }
 
   -- the files of one more path are kept behind those of the paths before it
-  next_files : (paths : List (Bor (List ℕ))) (i : ℕ) (d : Bor (List ℕ)) → i < length paths → (files mine all : List (Vec ℕ Global))
+  pub next_files : (paths : List (Bor (List ℕ))) (i : ℕ) (d : Bor (List ℕ)) → i < length paths → (files mine all : List (Vec ℕ Global))
       → AreFilesAt may_find (map (λ p. p.now) (take i paths)) (paths_of files) → (found : Option (List (List ℕ)))
       → FindsAt may_find (get_or paths i d).now found → paths_of mine ≡ files_of (get_or paths i d).now found → all ≡ files ++ mine
       → AreFilesAt may_find (map (λ p. p.now) (take (i + 1) paths)) (paths_of all)
   next_files paths i d l files mine all so_far found finds same is =
-      rw (one_more_path paths i d l)
-      (subst (λ (fs : List (List ℕ)). AreFilesAt may_find (map (λ (p : Bor (List ℕ)). p.now) (take i paths) ++ (get_or paths i d).now ∷ []) fs)
-      (ap (λ (fs : List (List ℕ)). paths_of files ++ fs) (sym same)
-      ∙ sym (ap paths_of is ∙ map-append (λ (f : Vec ℕ Global). f.items) files mine))
-      (one_more (map (λ (p : Bor (List ℕ)). p.now) (take i paths)) (paths_of files) (get_or paths i d).now found so_far finds))
-
-  pub next_below : (paths : List (Bor (List ℕ))) (i : ℕ) (d : Bor (List ℕ)) → i < length paths → (files all : List (Vec ℕ Global))
-      → AreFilesAt may_find (map (λ p. p.now) (take i paths)) (paths_of files) → (found : Option (Vec (Vec ℕ Global) Global))
-      → FindsAt may_find (get_or paths i d).now (found_of found) → (below : Vec (Vec ℕ Global) Global) → found ≡ Some below → all ≡ files ++ below.items
-      → AreFilesAt may_find (map (λ p. p.now) (take (i + 1) paths)) (paths_of all)
-  next_below paths i d l files all so_far found finds below some is =
-      next_files paths i d l files below.items all so_far (found_of found) finds
-      (ap (λ (f : Option (Vec (Vec ℕ Global) Global)). files_of (get_or paths i d).now (found_of f)) (sym some)) is
-
-  pub next_itself : (paths : List (Bor (List ℕ))) (i : ℕ) (d : Bor (List ℕ)) → i < length paths → (files all : List (Vec ℕ Global))
-      → AreFilesAt may_find (map (λ p. p.now) (take i paths)) (paths_of files) → (found : Option (Vec (Vec ℕ Global) Global))
-      → FindsAt may_find (get_or paths i d).now (found_of found) → found ≡ None → (itself : Vec ℕ Global) → itself.items ≡ (get_or paths i d).now
-      → all ≡ files ++ itself ∷ [] → AreFilesAt may_find (map (λ p. p.now) (take (i + 1) paths)) (paths_of all)
-  next_itself paths i d l files all so_far found finds none itself same is =
-      next_files paths i d l files (itself ∷ []) all so_far (found_of found) finds
-      (ap (λ (p : List ℕ). p ∷ []) same
-      ∙ ap (λ (f : Option (Vec (Vec ℕ Global) Global)). files_of (get_or paths i d).now (found_of f)) (sym none)) is
+      rw (one_more_path paths i d l, is, map-append (λ (f : Vec ℕ Global). f.items) files mine, same)
+      (one_more (map (λ (p : Bor (List ℕ)). p.now) (take i paths)) (paths_of files) (get_or paths i d).now found so_far finds)

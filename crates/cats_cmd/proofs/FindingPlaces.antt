@@ -3,22 +3,17 @@
 use Rattle.std.proofs.Common.{◌≡◌, ℕ, suc, All, ◌<◌, List, [], ◌∷◌, ◌++◌, length, refl, sym, ap, ◌∙◌, subst, append-nil}
 use Rattle.std.specs.Global.{Global}
 use Rattle.std.specs.Prelude.{Vec}
-use Rattle.std.specs.List.{AllByRecursion, AllZip}
+use Rattle.std.specs.List.{AllByRecursion, AllZip, flat_map}
 use Rattle.std.proofs.lemmas.Grind.{flat_map-append}
 use Rattle.std.proofs.lemmas.List.{map-append}
 use Rattle.std.proofs.lemmas.List.Elements.{All-from_recursion}
 use Rattle.std.proofs.lemmas.Option.{slice_get_within}
 use Rattle.bid_file.specs.Files.{PlainFile, IsPlainFile}
-use Rattle.canon.specs.Canonical.{canonical_text}
 use Rattle.canon.specs.FirstNumbers.{AddsText, IsEmptyIndex, IsFirstNumber, TextIndex}
-use Rattle.canon.specs.Sameness.{AreSameFiles}
-use Rattle.canon.specs.Unsearched.{AreAlike, unsearched_text}
 use Rattle.canon.proofs.Comparing.Indexing.{TellsRelated, first_number_stays, index_of_none, index_of_more, number_of_more}
 use Rattle.cats_cmd.specs.DuplicateTexts.{found_paths}
-use Rattle.cats_cmd.specs.Duplicates.{files_if_heavy, files_if_judged, heavy_files, heavy_paths, judged_files, judged_paths, paths_if_heavy, paths_if_judged}
-use Rattle.cats_cmd.specs.Internal.Judging.{KeepsHeavy, KeepsJudged, KeepsPlaces}
-use Rattle.cats_cmd.specs.Paths.{Judgement, IsHeavy, IsJudged}
-use Rattle.commands.specs.declared.run_fault.HeavyBid.{HeavyBid}
+use Rattle.cats_cmd.specs.Internal.Judging.{KeepsPlaces}
+use Rattle.cats_cmd.specs.Paths.{Judgement}
 
 -- two lists that are as long, with one element more each
 zip_push : {X Y : Type 0} (R S : X → Y → Type 0) (xs : List X) (ys : List Y) (x : X) (y : Y) → ((a : X) (b : Y) → R a b → S a b) → AllZip R xs ys → S x y
@@ -54,57 +49,32 @@ module _ (text_of : PlainFile → List ℕ) (Related : PlainFile → PlainFile �
         };
       })
 
-  pub places_same : (paths more : List (List ℕ)) (files others : List PlainFile) (index : TextIndex) (found : List (List ℕ × ℕ)) → more ≡ paths → others ≡ files
-      → KeepsPlaces text_of Related paths files index found → KeepsPlaces text_of Related more others index found
-  places_same paths more files others index found e f h =
-      subst (λ (ps : List (List ℕ)). KeepsPlaces text_of Related ps others index found) (sym e)
-      (subst (λ (fs : List PlainFile). KeepsPlaces text_of Related paths fs index found) (sym f) h)
+  -- ---- one more judgement
 
--- ---- one more judgement
+  -- it has these files and paths
+  module _ (files_if : Judgement → List PlainFile) (paths_if : List ℕ → Judgement → List (List ℕ)) (js : List (List ℕ × Judgement)) (path : List ℕ)
+      (j : Judgement) (index : TextIndex) (found : List (List ℕ × ℕ)) where
+    abbrev files_of : List (List ℕ × Judgement) → List PlainFile
+    files_of judgements = flat_map (λ x. files_if x.1) judgements
 
-module _ (js : List (List ℕ × Judgement)) (path : List ℕ) where
-  abbrev with_judgement : Judgement → List (List ℕ × Judgement)
-  with_judgement j = js ++ (path, j) ∷ []
+    abbrev paths_of : List (List ℕ × Judgement) → List (List ℕ)
+    paths_of judgements = flat_map (λ x. paths_if x.0 x.1) judgements
 
-  -- a file that was judged, and one that was not
-  pub judged_more : (file : PlainFile) (index : TextIndex) (found : List (List ℕ × ℕ))
-      → KeepsPlaces canonical_text AreSameFiles (judged_paths js ++ path ∷ []) (judged_files js ++ file ∷ []) index found
-      → KeepsJudged (with_judgement (IsJudged file)) index found
-  judged_more file index found h =
-      places_same canonical_text AreSameFiles (judged_paths js ++ path ∷ []) (judged_paths (with_judgement (IsJudged file))) (judged_files js ++ file ∷ [])
-      (judged_files (with_judgement (IsJudged file))) index found
-      (flat_map-append (λ (j : List ℕ × Judgement). paths_if_judged j.0 j.1) js ((path, IsJudged file) ∷ []))
-      (flat_map-append (λ (j : List ℕ × Judgement). files_if_judged j.1) js ((path, IsJudged file) ∷ [])) h
+    abbrev Keeps : List (List ℕ × Judgement) → Type 0
+    Keeps judgements = KeepsPlaces text_of Related (paths_of judgements) (files_of judgements) index found
 
-  pub judged_stay : (j : Judgement) → files_if_judged j ≡ [] → paths_if_judged path j ≡ [] → (index : TextIndex) (found : List (List ℕ × ℕ))
-      → KeepsJudged js index found → KeepsJudged (with_judgement j) index found
-  judged_stay j no_file no_path index found h =
-      places_same canonical_text AreSameFiles (judged_paths js) (judged_paths (with_judgement j)) (judged_files js) (judged_files (with_judgement j)) index
-      found
-      (flat_map-append (λ (x : List ℕ × Judgement). paths_if_judged x.0 x.1) js ((path, j) ∷ [])
-      ∙ ap (λ (ps : List (List ℕ)). judged_paths js ++ (ps ++ [])) no_path ∙ append-nil (judged_paths js))
-      (flat_map-append (λ (x : List ℕ × Judgement). files_if_judged x.1) js ((path, j) ∷ [])
-      ∙ ap (λ (fs : List PlainFile). judged_files js ++ (fs ++ [])) no_file ∙ append-nil (judged_files js)) h
+    pub judgement_more : KeepsPlaces text_of Related (paths_of js ++ (paths_if path j ++ [])) (files_of js ++ (files_if j ++ [])) index found
+        → Keeps (js ++ (path, j) ∷ [])
+    judgement_more h =
+        rw (
+          flat_map-append (λ (x : List ℕ × Judgement). paths_if x.0 x.1) js ((path, j) ∷ []),
+          flat_map-append (λ (x : List ℕ × Judgement). files_if x.1) js ((path, j) ∷ []),
+        ) h
 
-  -- a file that a step limit refused, and another one
-  pub heavy_more : (file : PlainFile) (heavy : HeavyBid) (index : TextIndex) (found : List (List ℕ × ℕ))
-      → KeepsPlaces unsearched_text AreAlike (heavy_paths js ++ path ∷ []) (heavy_files js ++ file ∷ []) index found
-      → KeepsHeavy (with_judgement (IsHeavy file heavy)) index found
-  heavy_more file heavy index found h =
-      let j = IsHeavy file heavy in
-      places_same unsearched_text AreAlike (heavy_paths js ++ path ∷ []) (heavy_paths (with_judgement j)) (heavy_files js ++ file ∷ [])
-      (heavy_files (with_judgement j)) index found
-      (flat_map-append (λ (x : List ℕ × Judgement). paths_if_heavy x.0 x.1) js ((path, j) ∷ []))
-      (flat_map-append (λ (x : List ℕ × Judgement). files_if_heavy x.1) js ((path, j) ∷ [])) h
-
-  pub heavy_stay : (j : Judgement) → files_if_heavy j ≡ [] → paths_if_heavy path j ≡ [] → (index : TextIndex) (found : List (List ℕ × ℕ))
-      → KeepsHeavy js index found → KeepsHeavy (with_judgement j) index found
-  heavy_stay j no_file no_path index found h =
-      places_same unsearched_text AreAlike (heavy_paths js) (heavy_paths (with_judgement j)) (heavy_files js) (heavy_files (with_judgement j)) index found
-      (flat_map-append (λ (x : List ℕ × Judgement). paths_if_heavy x.0 x.1) js ((path, j) ∷ [])
-      ∙ ap (λ (ps : List (List ℕ)). heavy_paths js ++ (ps ++ [])) no_path ∙ append-nil (heavy_paths js))
-      (flat_map-append (λ (x : List ℕ × Judgement). files_if_heavy x.1) js ((path, j) ∷ [])
-      ∙ ap (λ (fs : List PlainFile). heavy_files js ++ (fs ++ [])) no_file ∙ append-nil (heavy_files js)) h
+    -- it has none
+    pub judgement_skipped : files_if j ≡ [] → paths_if path j ≡ [] → Keeps js → Keeps (js ++ (path, j) ∷ [])
+    judgement_skipped no_file no_path h =
+        judgement_more (rw (no_path, no_file, append-nil (paths_of js), append-nil (files_of js)) h)
 
 -- ---- what was found
 

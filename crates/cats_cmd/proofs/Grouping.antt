@@ -1,12 +1,12 @@
 -- The paths of the files for each place: each is put after those of its place. And the text of the groups: a group that is printed has
 -- lines, so the next group comes after an empty line.
-use Rattle.std.proofs.Common.{append_assoc, fold, length-append, ◌≡◌, ℕ, zero, suc, ◌+◌, ◌<◌, ◌≤◌, ◌==◌, Bool, true, false, cond, ⊎_elim, List, [], ◌∷◌}
+use Rattle.std.proofs.Common.{append_assoc, fold, length-append, ◌≡◌, ℕ, zero, suc, ◌+◌, ◌<◌, ◌==◌, Bool, true, false, cond, ⊎_elim, List, [], ◌∷◌}
 use Rattle.std.proofs.Common.{◌++◌, length, map, get_or, set, take, replicate, Global, refl, sym, ap, ap₂, ◌∙◌, arith, append-nil, zero-add}
 use Rattle.std.specs.Borrow.{Bor}
 use Rattle.std.specs.Prelude.{All, Vec, filter}
 use Rattle.std.specs.List.{AllByRecursion, range_with_len}
 use Rattle.std.proofs.lemmas.Bool.{cases_Bool, cond-true, cond-false, cases_eq, ltb-true, ne_eqb, eq-eqb}
-use Rattle.std.proofs.lemmas.List.{length-set, get_or-set_same, get_or-set_other, length-map, get_or-map, map-set, map-append, take_all, take_more}
+use Rattle.std.proofs.lemmas.List.{length-set, get_or-set_same, get_or-set_other, length-map, get_or-map, map-set, map-append, take_more}
 use Rattle.std.proofs.lemmas.List.Concat.{flat_map-append}
 use Rattle.std.proofs.lemmas.List.Elements.{All-append, All-from_recursion, All-weaker, filter_more, filter_passes, recursion_from_All}
 use Rattle.std.proofs.lemmas.List.FromFn.{fill_by_all, length-map-range_with_len, get_or-map-range_with_len}
@@ -169,13 +169,6 @@ module _ (ending : Ending) (all : Bool) where
       ∙ ap (λ (g : Group). take i groups ++ g ∷ []) (sym e))
       ∙ ap (fold (with_group ending all) start) (map-append plain_group (take i groups) (group ∷ []))
       ∙ fold_push (with_group ending all) start (plain_groups (take i groups)) (plain_group group))
-
-  -- all groups
-  pub all_groups_printed : (start : List ℕ) (groups : List Group) (i : ℕ) (text : List ℕ)
-      → text ≡ fold (with_group ending all) start (plain_groups (take i groups)) → length groups ≤ i
-      → text ≡ fold (with_group ending all) start (plain_groups groups)
-  all_groups_printed start groups i text printed l =
-      printed ∙ ap (λ (gs : List Group). fold (with_group ending all) start (plain_groups gs)) (take_all i groups l)
 
 -- the groups of the judged files, and behind them those of the others
 pub both_printed : (ending : Ending) (all : Bool) (judged heavy : List Found) (first both : List ℕ)

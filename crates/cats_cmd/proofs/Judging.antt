@@ -1,5 +1,5 @@
 -- The file at one path: what reading its input says of it, in the words of the run.
-use Rattle.std.proofs.Common.{◌≡◌, ℕ, List, [], ◌∷◌, ◌++◌, Option, None, Some, refl, sym, ap, ap₂, ◌∙◌, subst, inl, inr}
+use Rattle.std.proofs.Common.{◌≡◌, ℕ, List, [], ◌∷◌, ◌++◌, Option, None, Some, refl, ap, ap₂, ◌∙◌, subst, inl, inr}
 use Rattle.std.specs.Global.{Global}
 use Rattle.std.specs.Prelude.{Vec}
 use Rattle.bid_file.specs.Files.{PlainFile, IsPlainFile}
@@ -23,9 +23,9 @@ use Rattle.canon.specs.declared.which.Which.TheVariants.{Only}
 use Rattle.cats_cmd.specs.DuplicateTexts.{found_paths}
 use Rattle.commands.specs.declared.run_fault.HeavyBid.{HeavyBid}
 use Rattle.commands.specs.Naming.{with_bid}
-use Rattle.commands.specs.Outcomes.{first_bid_on, text_unless_heavy}
+use Rattle.commands.specs.Outcomes.{exceeds_at, first_bid_on, text_unless_refused}
 use Rattle.cats_cmd.specs.PricedInputs.{IsPriced, PricedGives, PricedRefuses}
-use Rattle.cats_cmd.specs.Internal.Judging.{AddsFile, AddsJudgement, AddsOpened, AddsPath, AddsRefused, KeepsGroups, KeepsHeavy, KeepsJudged}
+use Rattle.cats_cmd.specs.Internal.Judging.{AddsFile, AddsJudgement, AddsOpened, AddsPath, AddsRefused, KeepsGroups}
 use Rattle.cats_cmd.specs.Paths.{IsUnopened, Judgement, IsHeavy, IsJudged, IsUnjudged, JudgesAs, JudgesInput, Reporting, lines_on, status_if}
 use Rattle.cats_cmd.proofs.Skipping.{groups_skip}
 use Rattle.cats_cmd.specs.RequestErrors.{ReportsAll}
@@ -33,10 +33,9 @@ use Rattle.cats_cmd.specs.declared.errors.RequestError.{RequestError}
 use Rattle.cats_cmd.specs.declared.errors.RequestError.TheVariants.{CannotOpen, NotOpened, Run}
 use Rattle.cats_cmd.specs.declared.priced_input.PricedInput.{PricedInput}
 use Rattle.commands.specs.declared.run_fault.RunFault.TheVariants.{Refused}
-use Rattle.cats_cmd.proofs.FindingPlaces.{heavy_more, heavy_stay, judged_more, judged_stay, places_more}
-use Rattle.cats_cmd.specs.Duplicates.{heavy_files, heavy_paths, judged_files, judged_paths}
+use Rattle.cats_cmd.proofs.FindingPlaces.{judgement_more, judgement_skipped, places_more}
+use Rattle.cats_cmd.specs.Duplicates.{files_if_heavy, files_if_judged, heavy_files, heavy_paths, judged_files, judged_paths, paths_if_heavy, paths_if_judged}
 use Rattle.cats_cmd.specs.declared.duplicates.Groups.{Groups}
-use Rattle.cats_cmd.specs.declared.duplicates.PlacedFiles.{PlacedFiles}
 use Rattle.canon.specs.Sameness.{AreSameFiles}
 use Rattle.canon.specs.Unsearched.{AreAlike, unsearched_text}
 use Rattle.canon.proofs.Comparing.Alike.{unsearched_texts_tell}
@@ -86,7 +85,7 @@ module _ {I : Type 0} (gives : I → I → PlainFile → Type 0) (refuses : I �
   module _ (file : PlainFile) (given : gives old new file) where
     pub judged_heavy : (goods : Vec ℕ Global) → first_refused options file.goods (or_atoms_of file.bids) ≡ Some goods.items
         → Judged (IsHeavy file (heavy_bid options file goods))
-    judged_heavy goods heavy = (given, ap (text_unless_heavy options (canonical_text file) file) heavy)
+    judged_heavy goods heavy = (given, ap (text_unless_refused (exceeds_at options file) (canonical_text file)) heavy)
 
     pub judged_unmade : Judged (IsUnjudged (Run (Refused Only Memory)))
     judged_unmade = (refl, inr (record { file = file; given = given }))
@@ -105,11 +104,12 @@ module _ {I : Type 0} (gives : I → I → PlainFile → Type 0) (refuses : I �
       within = text_within_limit file (first_refused options file.goods (or_atoms_of file.bids)) (canonical_text file) within;
     };
     adds = λ js h. record {
-      judged = judged_more js path file after.judged.index (found_paths after.judged.found.items)
+      judged = judgement_more canonical_text AreSameFiles files_if_judged paths_if_judged js path (IsJudged file) after.judged.index
+          (found_paths after.judged.found.items)
           (places_more canonical_text AreSameFiles canonical_texts_tell before.judged.index after.judged.index before.judged.found.items
           after.judged.found.items path copy file place is facts added put (judged_paths js) (judged_files js) h.judged);
-      heavy = subst (λ (p : PlacedFiles). KeepsHeavy (js ++ (path, IsJudged file) ∷ []) p.index (found_paths p.found.items)) (sym kept)
-          (heavy_stay js path (IsJudged file) refl refl before.heavy.index (found_paths before.heavy.found.items) h.heavy);
+      heavy = rw kept (judgement_skipped unsearched_text AreAlike files_if_heavy paths_if_heavy js path (IsJudged file) before.heavy.index
+          (found_paths before.heavy.found.items) refl refl h.heavy);
     };
     is_error = refl;
   }
@@ -133,13 +133,13 @@ module _ {I : Type 0} (gives : I → I → PlainFile → Type 0) (refuses : I �
   groups_unmade before tried after path same file given (StepLimit goods) refused adds = record {
     judgement = IsHeavy file (heavy_bid options file goods);
     judges = judged_heavy file given goods (refused_bundle file (first_refused options file.goods (or_atoms_of file.bids)) goods.items refused);
-    adds = λ js h. adds (heavy_bid options file goods) js (subst (λ (g : Groups). KeepsGroups g js) (sym same) h);
+    adds = λ js h. adds (heavy_bid options file goods) js (rw same h);
     is_error = refl;
   }
   groups_unmade before tried after path same file given Memory refused adds = record {
     judgement = IsUnjudged (Run (Refused Only Memory));
     judges = judged_unmade file given;
-    adds = λ js h. adds (Run (Refused Only Memory)) js (subst (λ (g : Groups). KeepsGroups g js) (sym same) h);
+    adds = λ js h. adds (Run (Refused Only Memory)) js (rw same h);
     is_error = refl;
   }
 
@@ -149,9 +149,10 @@ pub groups_heavy : (before after : Groups) (path : List ℕ) (copy : Vec ℕ Glo
     → after.heavy.found.items ≡ before.heavy.found.items ++ (copy, place) ∷ []
     → (heavy : HeavyBid) → AddsJudgement KeepsGroups path (IsHeavy file heavy) before after
 groups_heavy before after path copy place is kept file facts added put heavy js h = record {
-  judged = subst (λ (p : PlacedFiles). KeepsJudged (js ++ (path, IsHeavy file heavy) ∷ []) p.index (found_paths p.found.items)) (sym kept)
-      (judged_stay js path (IsHeavy file heavy) refl refl before.judged.index (found_paths before.judged.found.items) h.judged);
-  heavy = heavy_more js path file heavy after.heavy.index (found_paths after.heavy.found.items)
+  judged = rw kept (judgement_skipped canonical_text AreSameFiles files_if_judged paths_if_judged js path (IsHeavy file heavy) before.judged.index
+      (found_paths before.judged.found.items) refl refl h.judged);
+  heavy = judgement_more unsearched_text AreAlike files_if_heavy paths_if_heavy js path (IsHeavy file heavy) after.heavy.index
+      (found_paths after.heavy.found.items)
       (places_more unsearched_text AreAlike unsearched_texts_tell before.heavy.index after.heavy.index before.heavy.found.items
       after.heavy.found.items path copy file place is facts added put (heavy_paths js) (heavy_files js) h.heavy);
 }
@@ -163,14 +164,9 @@ module _ {C F : Type 0} (Has : C → List (List ℕ × Judgement) → Type 0) (m
   opened_judges : (before after : PricedInput F) → IsPriced may_open prices path before → (j : Judgement)
       → JudgesInput (PricedGives remaining) (PricedRefuses remaining) options before after j
       → JudgesAs may_open may_refuse remaining options prices path after.rounded j
-  opened_judges before after opened (IsJudged file) judges =
-      record { before = before; after = after; opened = opened; judges = judges; count = refl }
-  opened_judges before after opened (IsHeavy file heavy) judges =
-      record { before = before; after = after; opened = opened; judges = judges; count = refl }
   opened_judges before after opened (IsUnjudged (CannotOpen which)) judges = absurd judges
   opened_judges before after opened (IsUnjudged (NotOpened why)) judges = absurd judges
-  opened_judges before after opened (IsUnjudged (Run fault)) judges =
-      record { before = before; after = after; opened = opened; judges = judges; count = refl }
+  opened_judges before after opened judgement judges = record { before = before; after = after; opened = opened; judges = judges; count = refl }
 
   -- the file of a stream that was opened at the path was judged
   pub file_added : (before after : PricedInput F) → IsPriced may_open prices path before → (error : Option RequestError)
@@ -178,8 +174,7 @@ module _ {C F : Type 0} (Has : C → List (List ℕ × Judgement) → Type 0) (m
       → rounded ≡ after.rounded → AddsFile Has may_open may_refuse remaining options prices path kept more rounded error
   file_added before after opened error a rounded count = record {
     judgement = a.judgement;
-    judges = subst (λ (n : ℕ). JudgesAs may_open may_refuse remaining options prices path n a.judgement) (sym count)
-        (opened_judges before after opened a.judgement a.judges);
+    judges = rw count (opened_judges before after opened a.judgement a.judges);
     adds = a.adds;
     is_error = a.is_error;
   }
@@ -204,6 +199,6 @@ module _ {C F : Type 0} (Has : C → List (List ℕ × Judgement) → Type 0) (m
     rounded = rounded;
     judges = a.judges;
     adds = a.adds;
-    reports = subst (λ (s : Option RequestError). ReportsAll messages (lines_on reporting count number path rounded s) err err_after) a.is_error reports;
+    reports = rw a.is_error at reports;
     is_status = is ∙ ap status_if a.is_error;
   }

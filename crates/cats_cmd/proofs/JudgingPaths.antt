@@ -13,7 +13,7 @@ use Rattle.cats_text.specs.declared.stream.Watched.{Watched}
 use Rattle.command_line.specs.declared.request.Prices.{Prices}
 use Rattle.valuation.specs.declared.search_options.SearchOptions.{SearchOptions}
 use Rattle.cats_cmd.specs.Internal.Judging.{AddsPath, HasJudged, JudgesAllAs}
-use Rattle.cats_cmd.specs.Paths.{is_counted, JudgedPath, Judgement, Judges, JudgesPaths, Reporting, greatest_status, judgement_at, lines_from, lines_of_path}
+use Rattle.cats_cmd.specs.Paths.{is_counted, JudgedPath, Judgement, Judges, Reporting, greatest_status, judgement_at, lines_from, lines_of_path}
 use Rattle.cats_cmd.specs.Paths.{line_removal, progress_line, progress_lines, removal_lines, report_lines, status_of_judgement, without_refusals}
 use Rattle.cats_cmd.specs.PricedInputs.{rounding_lines}
 use Rattle.cats_cmd.specs.declared.paths.Progress.{Progress}
@@ -50,9 +50,8 @@ pub roundings_reported : (count number : ℕ) (js : List JudgedPath)
     → lines_from (without_refusals Silent) count number js ≡ flat_map (λ j. rounding_lines j.path j.rounded) js
 roundings_reported count number [] = refl
 roundings_reported count number (j ∷ js) =
-    ap (λ (lines : List (List ℕ)). lines ++ lines_from (without_refusals Silent) count (suc number) js) (append-nil (rounding_lines j.path j.rounded ++ []))
-    ∙ ap (λ (lines : List (List ℕ)). lines ++ lines_from (without_refusals Silent) count (suc number) js) (append-nil (rounding_lines j.path j.rounded))
-    ∙ ap (λ (rest : List (List ℕ)). rounding_lines j.path j.rounded ++ rest) (roundings_reported count (suc number) js)
+    rw (append-nil (rounding_lines j.path j.rounded ++ []), append-nil (rounding_lines j.path j.rounded))
+    (ap (λ (rest : List (List ℕ)). rounding_lines j.path j.rounded ++ rest) (roundings_reported count (suc number) js))
 
 -- what is reported of one path
 pub path_reported : {E : Type 0} (messages : E → Option (List ℕ)) (first then more last : List (List ℕ)) (a b c d e : Watched E)
@@ -111,17 +110,6 @@ module _ {C F E : Type 0} (Has : C → List (List ℕ × Judgement) → Type 0) 
             ∙ fold_push (λ (g : ℕ) (x : List ℕ × Judgement). max g (status_of_judgement x.1)) 0 (map judgement_at js) (judgement_at j));
       }
 
--- a file that was judged later is judged by what the source held at first
-pub path_in : {C F E H : Type 0} (Has : C → List (List ℕ × Judgement) → Type 0) (may_open : H → List ℕ → F → Type 0)
-    (may_refuse : H → List ℕ → Unopened → Type 0) (remaining : F → Option (List ℕ)) (options : SearchOptions) (prices : Prices) (messages : E → Option (List ℕ))
-    (reporting : Reporting)
-    (count number : ℕ) (path : List ℕ) (old new : C) (err err_after : Watched E) (status : ℕ) (later first : H) → later ≡ first
-    → AddsPath Has (may_open later) (may_refuse later) remaining options prices messages reporting count number path old new err err_after status
-    → AddsPath Has (may_open first) (may_refuse first) remaining options prices messages reporting count number path old new err err_after status
-path_in {H = H} Has may_open may_refuse remaining options prices messages reporting count number path old new err err_after status later first stays adds =
-    subst
-    (λ (h : H). AddsPath Has (may_open h) (may_refuse h) remaining options prices messages reporting count number path old new err err_after status) stays adds
-
 -- ---- as the code has them
 
 -- the paths up to the next one
@@ -146,30 +134,12 @@ module _ {C F E : Type 0} (Has : C → List (List ℕ × Judgement) → Type 0) 
   path_more d l more status last after a is =
       rw is (rw (one_more_path paths i d l) (judged_more Has may_open may_refuse remaining options prices messages reporting (length paths) err
       (map (λ (p : Bor (List ℕ)). p.now) (take i paths)) kept more greatest status before after (get_or paths i d).now h
-      (subst
-      (λ (n : ℕ).
-      AddsPath Has may_open may_refuse remaining options prices messages reporting (length paths) (n + 1) (get_or paths i d).now kept more before after status)
-      (sym (so_many paths i l)) a)))
-
-  counted : (ps : List (List ℕ)) (js : List JudgedPath)
-      → JudgesPaths may_open may_refuse remaining messages options prices reporting (length paths) ps err before js
-      → JudgesPaths may_open may_refuse remaining messages options prices reporting (length (map (λ (p : Bor (List ℕ)). p.now) paths)) ps err before js
-  counted ps js j = subst (λ (n : ℕ). JudgesPaths may_open may_refuse remaining messages options prices reporting n ps err before js)
-      (sym (length-map paths (λ (p : Bor (List ℕ)). p.now))) j
+      (rw (so_many paths i l) a)))
 
   -- all paths were judged
   pub all_judged : length paths ≤ i → JudgesAllAs Has may_open may_refuse remaining options prices messages (map (λ p. p.now) paths) reporting kept err before
       (Ok greatest)
-  all_judged l = record {
-    judged = h.judged;
-    judges = counted (map (λ p. p.now) paths) h.judged
-        (subst
-        (λ (ps : List (Bor (List ℕ))).
-        JudgesPaths may_open may_refuse remaining messages options prices reporting (length paths) (map (λ p. p.now) ps) err before h.judged)
-        (take_all i paths l) h.judges);
-    has = h.has;
-    is_greatest = h.is_greatest;
-  }
+  all_judged l = rw (length-map paths (λ (p : Bor (List ℕ)). p.now)) (rw (take_all i paths l) at h)
 
   -- the others were not opened
   pub first_judged : (other : C) (after : Watched E) → after ≡ before → (answer : Result ℕ AllocError) → IsErr answer
@@ -178,9 +148,5 @@ module _ {C F E : Type 0} (Has : C → List (List ℕ × Judgement) → Type 0) 
   first_judged other after same (Err e) is = rw same (record {
     count = i;
     judged = h.judged;
-    judges = counted (take i (map (λ p. p.now) paths)) h.judged
-        (subst
-        (λ (ps : List (List ℕ)).
-        JudgesPaths may_open may_refuse remaining messages options prices reporting (length paths) ps err before h.judged)
-        (sym (take-map (λ (p : Bor (List ℕ)). p.now) i paths)) h.judges);
+    judges = rw (length-map paths (λ (p : Bor (List ℕ)). p.now), take-map (λ (p : Bor (List ℕ)). p.now) i paths) h.judges;
   })

@@ -1,5 +1,5 @@
 -- The parts of a list of paths: what is behind its last NUL is a path only if it is not empty.
-use Rattle.std.proofs.Common.{◌≡◌, ◌≢◌, ℕ, List, [], ◌∷◌, ◌++◌, length, refl, sym, ap, ◌∙◌, subst, arith, map, ◌<◌, false, Bor, Option, Err, inl, inr}
+use Rattle.std.proofs.Common.{◌≡◌, ◌≢◌, ℕ, List, [], ◌∷◌, ◌++◌, length, refl, sym, ap, ◌∙◌, subst, arith, map, ◌<◌, false, Bor, Option, Err}
 use Rattle.std.specs.List.{All, slice_split}
 use Rattle.std.specs.Prelude.{◌==◌}
 use Rattle.std.proofs.lemmas.Bool.{eq-eqb}
@@ -7,29 +7,26 @@ use Rattle.std.proofs.lemmas.List.{append_assoc, length-map, map-append}
 use Rattle.std.proofs.lemmas.List.Splits.{length-slice_split, slice_split_at}
 use Rattle.std.proofs.lemmas.List.Elements.{All-head, All-tail}
 use Rattle.cats_text.specs.declared.stream.Watched.{Watched}
-use Rattle.cats_text.specs.declared.read_fault.Kind.{Kind}
-use Rattle.cats_text.specs.declared.read_fault.Kind.TheVariants.{Memory as NoMemory}
 use Rattle.cats_text.specs.declared.read_fault.ReadFault.{ReadFault}
-use Rattle.canon.specs.Refusals.{refusal_by_kind, refusal_of}
+use Rattle.canon.specs.Refusals.{refusal_of}
 use Rattle.canon.specs.declared.which.Which.TheVariants.{Only}
 use Rattle.cats_cmd.specs.FileLists.{IsUnread}
-use Rattle.cats_cmd.specs.Inputs.{IsOpened, ReadsBytes, StopsReading}
+use Rattle.cats_cmd.specs.Inputs.{IsOpened, ReadsBytes}
 use Rattle.cats_cmd.specs.declared.errors.RequestError.TheVariants.{Run}
 use Rattle.commands.specs.declared.run_fault.RunFault.TheVariants.{Refused}
 use Rattle.cats_cmd.specs.PathLists.{ended, parts_in, paths_in, without_empty_end}
 use Rattle.cats_cmd.specs.declared.source.Unopened.{Unopened}
+use Rattle.cats_cmd.proofs.ReadingBytes.{unread_stream}
 
 end_dropped : (parts : List (List ℕ)) → without_empty_end (parts ++ [] ∷ []) ≡ parts
-end_dropped [] = refl
-end_dropped ([] ∷ []) = refl
-end_dropped ((b ∷ bs) ∷ []) = refl
 end_dropped (part ∷ next ∷ more) = ap (λ (rest : List (List ℕ)). part ∷ rest) (end_dropped (next ∷ more))
+end_dropped ([] ∷ []) = refl
+end_dropped parts = refl
 
 end_kept : (parts : List (List ℕ)) (b : ℕ) (bs : List ℕ) → without_empty_end (parts ++ (b ∷ bs) ∷ []) ≡ parts ++ (b ∷ bs) ∷ []
-end_kept [] b bs = refl
-end_kept ([] ∷ []) b bs = refl
-end_kept ((x ∷ xs) ∷ []) b bs = refl
 end_kept (part ∷ next ∷ more) b bs = ap (λ (rest : List (List ℕ)). part ∷ rest) (end_kept (next ∷ more) b bs)
+end_kept ([] ∷ []) b bs = refl
+end_kept parts b bs = refl
 
 any_end_dropped : (parts : List (List ℕ)) (end : List ℕ) → length end ≡ 0 → without_empty_end (parts ++ end ∷ []) ≡ parts
 any_end_dropped parts [] none = end_dropped parts
@@ -89,14 +86,9 @@ parts_back end (part ∷ parts) plain =
 -- why the bytes of the list were not read
 module _ {F : Type 0} (may_open : List ℕ → F → Type 0) (may_refuse : List ℕ → Unopened → Type 0) (remaining : F → Option (List ℕ)) (list : List ℕ)
     (before after : Watched F) (opened : IsOpened may_open list before) where
-  stopped : (fault : ReadFault) (kind : Kind) → fault.kind ≡ kind → StopsReading remaining before after fault.line fault.kind
-      → IsUnread may_open may_refuse remaining list (Run (Refused Only (refusal_by_kind fault kind)))
-  stopped fault NoMemory is stops = absurd (subst (λ (k : Kind). StopsReading remaining before after fault.line k) is stops)
-  stopped fault kind is stops = (refl, record { before = before; after = after; opened = opened; stops = stops })
-
   pub list_unread : (fault : ReadFault) → ReadsBytes remaining before after (Err fault)
       → IsUnread may_open may_refuse remaining list (Run (Refused Only (refusal_of fault)))
-  list_unread fault (inl stops) = stopped fault fault.kind refl stops
-  list_unread fault (inr wants) =
-      subst (λ (f : ReadFault). IsUnread may_open may_refuse remaining list (Run (Refused Only (refusal_of f)))) (sym wants.0)
-      (refl, record { before = before; after = after; opened = opened; wants = wants.1 })
+  list_unread fault unread =
+      unread_stream remaining before after (λ why. IsUnread may_open may_refuse remaining list (Run (Refused Only why)))
+      (λ f stops. (refl, record { before = before; after = after; opened = opened; stops = stops }))
+      (λ wants. (refl, record { before = before; after = after; opened = opened; wants = wants })) fault unread

@@ -1,14 +1,14 @@
 -- The paths are read back from the whole output. A text is its lines with a byte behind each, which no line has: a printed path has no
 -- control byte, or, with NUL at its end, no NUL. The lines of groups are cut at the empty ones, and the rows of a table behind nine tabs.
 use Rattle.std.proofs.Common.{◌≡◌, ℕ, suc, ◌<◌, ◌==◌, Bool, true, false, List, [], ◌∷◌, ◌++◌, length, map, refl, sym, ap, ap₂, ◌∙◌, subst}
-use Rattle.std.proofs.Common.{arith, append-nil}
+use Rattle.std.proofs.Common.{arith, append-nil, get_or}
 use Rattle.std.specs.Prelude.{codes, filter, drop, Option}
 use Rattle.std.specs.Option.{option_map}
 use Rattle.std.specs.List.{All, flat_map, list_any, range_with_len, slice_split}
-use Rattle.std.proofs.lemmas.Bool.{lt-ltb, ne_eqb, or_parts}
+use Rattle.std.proofs.lemmas.Bool.{lt-ltb, ne_eqb}
 use Rattle.std.proofs.lemmas.Grind.{flat_map-append}
 use Rattle.std.proofs.lemmas.List.{append_assoc, length-map}
-use Rattle.std.proofs.lemmas.List.Elements.{All-append, All-cons, All-filter, All-head, All-map, All-nil, All-tail, All-weaker}
+use Rattle.std.proofs.lemmas.List.Elements.{All-append, All-cons, All-filter, All-head, All-map, All-nil, All-push, All-tail, All-weaker}
 use Rattle.std.proofs.lemmas.List.Splits.{slice_split_at, slice_split_none}
 use Rattle.commands.specs.Outputs.{number_cell}
 use Rattle.bid_file.specs.Files.{PlainFile}
@@ -18,13 +18,13 @@ use Rattle.cats_cmd.specs.OutputPaths.{IsPath, behind_tabs, end_byte, groups_in,
 use Rattle.cats_cmd.specs.PathLists.{ended, parts_in}
 use Rattle.cats_cmd.specs.Paths.{Judgement, request_error_of}
 use Rattle.commands.specs.SizesRows.{Number, canonical_numbers, cells, file_numbers}
-use Rattle.cats_cmd.specs.SizesTables.{MakesTable, canonical_known, columns, fault_cell, file_read}
-use Rattle.cats_cmd.specs.SizesTables.{number_columns, row, rows_of_table, sizes_header}
+use Rattle.cats_cmd.specs.SizesTables.{MakesTable, canonical_known, columns, fault_cell, file_read, number_columns, row, rows_of_table, sizes_header}
 use Rattle.cats_cmd.specs.declared.paths.Ending.{Ending}
 use Rattle.cats_cmd.specs.declared.paths.Ending.TheVariants.{Line, Null}
 use Rattle.cats_cmd.proofs.FaultTexts.{Plain, fault_plain, number_plain, plain_lacks}
 use Rattle.cats_cmd.proofs.Grouping.{printed_have_paths}
 use Rattle.cats_cmd.proofs.ListingPaths.{parts_back}
+use Rattle.cats_cmd.proofs.PrintableTexts.{flat_all, map_all, tested}
 use Rattle.cats_cmd.proofs.ReadingBack.{harmless, read_back}
 
 -- ---- a printed path
@@ -65,11 +65,8 @@ printed_some Null [] path back some = let none = ap (length {A = ℕ}) back in a
 
 -- what holds of each path holds of the paths of each auction
 pub paths_all : (P : List ℕ → Type 0) (found : List (List ℕ × ℕ)) → All (λ f. P f.0) found → (places : List ℕ) → All (All P) (map (paths_at found) places)
-paths_all P found are [] = All-nil (All P)
-paths_all P found are (place ∷ places) =
-    All-cons (All P) (paths_at found place) (map (paths_at found) places)
-    (All-map P (λ (f : List ℕ × ℕ). f.0) (filter (λ f. f.1 == place) found) (All-filter (λ (f : List ℕ × ℕ). f.1 == place) (λ f. P f.0) found are))
-    (paths_all P found are places)
+paths_all P found are places = All-map (All P) (paths_at found) places (λ k d l. let place = get_or places k d in
+    All-map P (λ (f : List ℕ × ℕ). f.0) (filter (λ f. f.1 == place) found) (All-filter (λ (f : List ℕ × ℕ). f.1 == place) (λ f. P f.0) found are))
 
 module _ (ending : Ending) where
   abbrev line : List ℕ → List ℕ
@@ -105,16 +102,11 @@ module _ (ending : Ending) where
   IsGroup paths = All IsPath paths
 
   group_lacks : (paths : List (List ℕ)) → IsGroup paths → All (Lacks (end_byte ending)) (map line paths)
-  group_lacks paths are = All-map (Lacks (end_byte ending)) line paths
-      (All-weaker IsPath (λ path. Lacks (end_byte ending) (line path)) (λ path is. printed_lacks ending path is.plain) paths are)
+  group_lacks paths are = map_all (Lacks (end_byte ending)) IsPath line (λ path is. printed_lacks ending path is.plain) paths are
 
   after_lacks : (groups : List (List (List ℕ))) → All IsGroup groups → All (Lacks (end_byte ending)) (lines_after groups)
-  after_lacks [] are = All-nil (Lacks (end_byte ending))
-  after_lacks (paths ∷ groups) are =
-      All-append (Lacks (end_byte ending)) ([] ∷ map line paths) (lines_after groups)
-      (All-cons (Lacks (end_byte ending)) [] (map line paths) (All-nil (λ b. (b == end_byte ending) ≡ false))
-      (group_lacks paths (All-head IsGroup paths groups are)))
-      (after_lacks groups (All-tail IsGroup paths groups are))
+  after_lacks groups are = flat_all (Lacks (end_byte ending)) IsGroup (λ paths. [] ∷ map line paths)
+      (λ paths is. All-cons (Lacks (end_byte ending)) [] (map line paths) (All-nil (λ b. (b == end_byte ending) ≡ false)) (group_lacks paths is)) groups are
 
   groups_lack : (groups : List (List (List ℕ))) → All IsGroup groups → All (Lacks (end_byte ending)) (lines_of_groups groups)
   groups_lack [] are = All-nil (Lacks (end_byte ending))
@@ -123,8 +115,8 @@ module _ (ending : Ending) where
       (after_lacks groups (All-tail IsGroup paths groups are))
 
   group_some : (paths : List (List ℕ)) → IsGroup paths → All (λ l. is_empty l ≡ false) (map line paths)
-  group_some paths are = All-map (λ l. is_empty l ≡ false) line paths
-      (All-weaker IsPath (λ path. is_empty (line path) ≡ false) (λ path is. printed_some ending (line path) path (printed_back ending path) is.some) paths are)
+  group_some paths are =
+      map_all (λ l. is_empty l ≡ false) IsPath line (λ path is. printed_some ending (line path) path (printed_back ending path) is.some) paths are
 
   -- the lines are cut at the empty ones
   lines_cut : (paths : List (List ℕ)) (groups : List (List (List ℕ))) → IsGroup paths → All IsGroup groups
@@ -176,10 +168,8 @@ module _ (ending : Ending) where
 -- ---- the cells of a row
 
 numbers_plain : (file : Option PlainFile) (numbers : List Number) → All Plain (map (λ n. number_cell (option_map n.1 file)) numbers)
-numbers_plain file [] = All-nil Plain
-numbers_plain file (n ∷ numbers) =
-    All-cons Plain (number_cell (option_map n.1 file)) (map (λ n. number_cell (option_map n.1 file)) numbers) (number_plain (option_map n.1 file))
-    (numbers_plain file numbers)
+numbers_plain file numbers =
+    All-map Plain (λ (n : Number). number_cell (option_map n.1 file)) numbers (λ k d l. number_plain (option_map (get_or numbers k d).1 file))
 
 abbrev words_of : Judgement → List (List ℕ)
 words_of j = map (λ c. c.1 j) columns
@@ -193,12 +183,9 @@ words_plain j =
     (All-cons Plain (fault_cell (request_error_of j)) [] (fault_plain (request_error_of j)) (All-nil Plain))
 
 cells_lack : (end : ℕ) → end < 32 → (9 == end) ≡ false → (words : List (List ℕ)) → All Plain words → Lacks end (cells words)
-cells_lack end low tab [] are = All-nil (λ b. (b == end) ≡ false)
-cells_lack end low tab (word ∷ words) are =
-    All-append (λ b. (b == end) ≡ false) (word ++ 9 ∷ []) (cells words)
-    (All-append (λ b. (b == end) ≡ false) word (9 ∷ []) (plain_lacks end low word (All-head Plain word words are))
-    (All-cons (λ b. (b == end) ≡ false) 9 [] tab (All-nil (λ b. (b == end) ≡ false))))
-    (cells_lack end low tab words (All-tail Plain word words are))
+cells_lack end low tab words are =
+    flat_all (λ b. (b == end) ≡ false) Plain (λ word. word ++ 9 ∷ [])
+    (λ word plain. All-push (λ b. (b == end) ≡ false) word 9 (plain_lacks end low word plain) tab) words are
 
 words_lack : (ending : Ending) (j : Judgement) → Lacks (end_byte ending) (cells (words_of j))
 words_lack Line j = cells_lack 10 (omega arith) refl (words_of j) (words_plain j)
@@ -234,12 +221,10 @@ module _ (ending : Ending) where
   table_ended (j ∷ js) = ap₂ (λ (xs ys : List ℕ). xs ++ ys) (row_ended j.0 j.1) (table_ended js)
 
   table_lacks : (js : List (List ℕ × Judgement)) → All (λ j. Lacks 0 j.0) js → All (Lacks (end_byte ending)) (row_lines js)
-  table_lacks [] plain = All-nil (Lacks (end_byte ending))
-  table_lacks (j ∷ js) plain =
-      All-cons (Lacks (end_byte ending)) (cells (words_of j.1) ++ printed ending j.0) (row_lines js)
-      (All-append (λ b. (b == end_byte ending) ≡ false) (cells (words_of j.1)) (printed ending j.0) (words_lack ending j.1)
-      (printed_lacks ending j.0 (All-head (λ (i : List ℕ × Judgement). Lacks 0 i.0) j js plain)))
-      (table_lacks js (All-tail (λ (i : List ℕ × Judgement). Lacks 0 i.0) j js plain))
+  table_lacks js plain =
+      map_all (Lacks (end_byte ending)) (λ (j : List ℕ × Judgement). Lacks 0 j.0) (λ j. cells (words_of j.1) ++ printed ending j.0)
+      (λ j is. All-append (λ b. (b == end_byte ending) ≡ false) (cells (words_of j.1)) (printed ending j.0) (words_lack ending j.1)
+      (printed_lacks ending j.0 is)) js plain
 
   abbrev path_of : List ℕ → List ℕ
   path_of line = read_path ending (behind_tabs line (length columns))
@@ -256,10 +241,7 @@ abbrev titles : List ℕ
 titles = cells (map (λ c. c.0) columns) ++ codes "file"
 
 tested_lacks : (end : ℕ) (text : List ℕ) → list_any (λ b. b == end) text ≡ false → Lacks end text
-tested_lacks end [] e = All-nil (λ b. (b == end) ≡ false)
-tested_lacks end (b ∷ text) e =
-    let parts = or_parts (b == end) (list_any (λ c. c == end) text) e in
-    All-cons (λ c. (c == end) ≡ false) b text parts.0 (tested_lacks end text parts.1)
+tested_lacks end text e = tested (λ b. (b == end) ≡ false) (λ b. b == end) (λ b e. e) text e
 
 titles_lack : (ending : Ending) → Lacks (end_byte ending) titles
 titles_lack Line = tested_lacks 10 titles refl

@@ -1,18 +1,38 @@
 -- Texts of characters of a kind: ASCII, one text behind another, and a path as it is printed on a line.
 use Rattle.std.proofs.Common.{◌≡◌, ℕ, ◌+◌, ◌-◌, ◌/◌, ◌%◌, ◌<◌, ◌==◌, ◌&&◌, zero, suc, ltb, subst, Bool, true, false, List, [], ◌∷◌, ◌++◌, take, refl, sym, ap}
-use Rattle.std.proofs.Common.{ap₂, ◌∙◌, arith}
-use Rattle.std.proofs.Common.{⊎_elim, append-nil}
+use Rattle.std.proofs.Common.{ap₂, ◌∙◌, arith, ⊎_elim, append-nil, get_or, map, not}
 use Rattle.std.specs.Prelude.{decimal, nat_lt}
 use Rattle.std.specs.Fmt.{digit_glyph, digits, digits_onto}
 use Rattle.std.specs.Char.{digit_char, encode_utf8}
-use Rattle.std.specs.List.{AllByRecursion}
+use Rattle.std.specs.List.{All, AllByRecursion, flat_map, list_any}
 use Rattle.std.specs.Str.{all_scalars}
 use Rattle.std.proofs.Math.Utf8.{low_scalar, scalar}
-use Rattle.std.proofs.lemmas.Bool.{cases_Bool, and_parts, eqb-true, lt-ltb, ltb-true}
-use Rattle.std.proofs.lemmas.List.Elements.{All-append, All-cons, All-head, All-nil, All-tail}
+use Rattle.std.proofs.lemmas.Bool.{cases_Bool, and_parts, cond_both, eqb-true, lt-ltb, ltb-true, or_parts}
+use Rattle.std.proofs.lemmas.List.Elements.{All-append, All-cons, All-head, All-map, All-nil, All-tail}
 use Rattle.std.proofs.lemmas.Str.{encode_ascii, encodes-append}
 use Rattle.cats_cmd.specs.Escaping.{AreBytes, IsTextOf, code_at, escaped, escaped_behind, escaped_byte, is_printable, plain_length}
 use Rattle.cats_cmd.proofs.ReadingBack.{plain_taken, plainly, taken_more}
+
+-- ---- lists
+
+-- what holds of each of some things holds of what is made of them
+pub map_all : {X Y : Type 0} (P : Y → Type 0) (Q : X → Type 0) (f : X → Y) → ((x : X) → Q x → P (f x)) → (xs : List X) → All Q xs → All P (map f xs)
+map_all P Q f each xs are = All-map P f xs (λ k d l. each (get_or xs k d) (are k d l))
+
+pub flat_all : {X Y : Type 0} (P : Y → Type 0) (Q : X → Type 0) (f : X → List Y) → ((x : X) → Q x → All P (f x)) → (xs : List X) → All Q xs
+    → All P (flat_map f xs)
+flat_all P Q f each [] are = All-nil P
+flat_all P Q f each (x ∷ xs) are = All-append P (f x) (flat_map f xs) (each x (All-head Q x xs are)) (flat_all P Q f each xs (All-tail Q x xs are))
+
+-- a test that computes
+pub tested : (P : ℕ → Type 0) (fails : ℕ → Bool) → ((b : ℕ) → fails b ≡ false → P b) → (text : List ℕ) → list_any fails text ≡ false → All P text
+tested P fails passed [] e = All-nil P
+tested P fails passed (b ∷ text) e =
+    let parts = or_parts (fails b) (list_any fails text) e in All-cons P b text (passed b parts.0) (tested P fails passed text parts.1)
+
+pub not_false : (t : Bool) → not t ≡ false → t ≡ true
+not_false true e = refl
+not_false false e = absurd (cc)
 
 -- ---- texts
 
@@ -79,26 +99,18 @@ between b low high = (omega (arith, high), grind (arith, low, high))
 
 digit_printable : (d : ℕ) → d < 16 → IsAsciiPrintable (digit_char d)
 digit_printable d l =
-    ⊎_elim
-    (λ (e : nat_lt d 10 ≡ true). rw e (between (48 + d) (omega arith) (omega (arith, l))))
-    (λ (e : nat_lt d 10 ≡ false). rw e (between (87 + d) (omega arith) (omega (arith, l))))
-    (cases_Bool (nat_lt d 10))
+    cond_both (nat_lt d 10) _ _ IsAsciiPrintable (λ e. between (48 + d) (omega arith) (omega (arith, l)))
+    (λ e. between (87 + d) (omega arith) (omega (arith, l)))
 
 abbrev here : (b : ℕ) → ltb 31 b ≡ true → ltb b 127 ≡ true → IsAsciiPrintable b
 here b low high = between b (ltb-true 31 b low) (ltb-true b 127 high)
 
 byte_printable : (b : ℕ) → b < 256 → AllByRecursion IsAsciiPrintable (escaped_byte b)
 byte_printable b l =
-    ⊎_elim (λ (e : (b == 92) ≡ true). rw e (here 92 refl refl, (here 92 refl refl, tt)))
-    (λ (slash : (b == 92) ≡ false). rw slash
-    (⊎_elim (λ (e : (b == 10) ≡ true). rw e (here 92 refl refl, (here 110 refl refl, tt)))
-    (λ (lf : (b == 10) ≡ false). rw lf
-    (⊎_elim (λ (e : (b == 9) ≡ true). rw e (here 92 refl refl, (here 116 refl refl, tt)))
-    (λ (tab : (b == 9) ≡ false). rw (tab, lt-ltb b 256 l)
-    (here 92 refl refl, (here 120 refl refl, (digit_printable (b / 16) (omega (arith, l)), (digit_printable (b % 16) (omega arith), tt)))))
-    (cases_Bool (b == 9))))
-    (cases_Bool (b == 10))))
-    (cases_Bool (b == 92))
+    cond_both (b == 92) _ _ (AllByRecursion IsAsciiPrintable) (λ e. (here 92 refl refl, (here 92 refl refl, tt))) (λ slash.
+    cond_both (b == 10) _ _ (AllByRecursion IsAsciiPrintable) (λ e. (here 92 refl refl, (here 110 refl refl, tt))) (λ lf.
+    cond_both (b == 9) _ _ (AllByRecursion IsAsciiPrintable) (λ e. (here 92 refl refl, (here 116 refl refl, tt))) (λ tab. rw (lt-ltb b 256 l)
+    (here 92 refl refl, (here 120 refl refl, (digit_printable (b / 16) (omega (arith, l)), (digit_printable (b % 16) (omega arith), tt)))))))
 
 -- what is printed from here on is the rest of a character that is not escaped, and then a text
 record Splits (left : ℕ) (bytes : List ℕ) : Type 0 where
@@ -108,7 +120,7 @@ record Splits (left : ℕ) (bytes : List ℕ) : Type 0 where
 
 splits : (left : ℕ) (bytes : List ℕ) → AreBytes bytes → Splits left bytes
 splits zero [] bytes = record { text = []; is = refl; printable = no_text is_printable }
-splits (suc left) [] bytes = record { text = []; is = refl; printable = no_text is_printable }
+splits left [] bytes = record { text = []; is = refl; printable = no_text is_printable }
 splits left (b ∷ bs) bytes =
     ⊎_elim
     (λ (none : (left == 0) ≡ true).

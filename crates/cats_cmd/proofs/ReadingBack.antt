@@ -14,8 +14,7 @@ use Rattle.std.proofs.lemmas.List.Elements.{All-append, All-cons, All-from_recur
 use Rattle.std.proofs.lemmas.List.Sums.{fold-append}
 use Rattle.std.proofs.lemmas.Str.{digit_value-digit_char}
 use Rattle.cats_cmd.specs.Escaping.{Plain, Reading, code_at, escaped, escaped_behind, escaped_byte, hex_escape, is_control_byte, is_plain, is_printable}
-use Rattle.cats_cmd.specs.Escaping.{plain_length}
-use Rattle.cats_cmd.specs.Escaping.{reads_byte, unescaped}
+use Rattle.cats_cmd.specs.Escaping.{plain_length, reads_byte, unescaped}
 
 -- ---- the bytes of a character that is not escaped
 
@@ -121,33 +120,24 @@ next left b bs h =
 above : (b : ℕ) → 31 < b → b < 127 → is_control_byte b ≡ false
 above b l h = rw (le-ltb b 32 (omega (arith, l))) (ne_eqb b 127 (λ e. absurd (omega (arith, h, e))))
 
+abbrev IsHarmless : ℕ → Type 0
+IsHarmless b = is_control_byte b ≡ false
+
 digit_harmless : (d : ℕ) → d < 16 → is_control_byte (digit_char d) ≡ false
 digit_harmless d l =
-    ⊎_elim
-    (λ (e : nat_lt d 10 ≡ true). rw e (above (48 + d) (omega arith) (omega (arith, l))))
-    (λ (e : nat_lt d 10 ≡ false). rw e (above (87 + d) (omega arith) (omega (arith, l))))
-    (cases_Bool (nat_lt d 10))
+    cond_both (nat_lt d 10) _ _ IsHarmless (λ e. above (48 + d) (omega arith) (omega (arith, l))) (λ e. above (87 + d) (omega arith) (omega (arith, l)))
 
 abbrev Harmless : List ℕ → Type 0
-Harmless text = AllByRecursion (λ b. is_control_byte b ≡ false) text
+Harmless text = AllByRecursion IsHarmless text
 
 byte_harmless : (b : ℕ) → Harmless (escaped_byte b)
 byte_harmless b =
-    ⊎_elim (λ (e : (b == 92) ≡ true). rw e (refl, (refl, tt)))
-    (λ (slash : (b == 92) ≡ false). rw slash
-    (⊎_elim (λ (e : (b == 10) ≡ true). rw e (refl, (refl, tt)))
-    (λ (lf : (b == 10) ≡ false). rw lf
-    (⊎_elim (λ (e : (b == 9) ≡ true). rw e (refl, (refl, tt)))
-    (λ (tab : (b == 9) ≡ false). rw tab
-    (⊎_elim (λ (e : nat_lt b 256 ≡ true). rw e
-    (let l = ltb-true b 256 e in (refl, (refl, (digit_harmless (b / 16) (omega (arith, l)), (digit_harmless (b % 16) (omega arith), tt))))))
-    (λ (e : nat_lt b 256 ≡ false). let l = ltb-false b 256 e in rw e ((high b (omega arith)).1, tt)) (cases_Bool (nat_lt b 256))))
-    (cases_Bool (b == 9))))
-    (cases_Bool (b == 10))))
-    (cases_Bool (b == 92))
-
-abbrev IsHarmless : ℕ → Type 0
-IsHarmless b = is_control_byte b ≡ false
+    cond_both (b == 92) _ _ Harmless (λ e. (refl, (refl, tt))) (λ slash.
+    cond_both (b == 10) _ _ Harmless (λ e. (refl, (refl, tt))) (λ lf.
+    cond_both (b == 9) _ _ Harmless (λ e. (refl, (refl, tt))) (λ tab.
+    cond_both (nat_lt b 256) _ _ Harmless
+    (λ e. let l = ltb-true b 256 e in (refl, (refl, (digit_harmless (b / 16) (omega (arith, l)), (digit_harmless (b % 16) (omega arith), tt)))))
+    (λ e. let l = ltb-false b 256 e in ((high b (omega arith)).1, tt)))))
 
 harmless_behind : (left : ℕ) (bytes : List ℕ) → AreKept (take left bytes) → All IsHarmless (escaped_behind left bytes)
 harmless_behind left [] h = All-nil IsHarmless
@@ -163,26 +153,25 @@ harmless path = harmless_behind 0 path tt
 
 -- ---- read back
 
-hex_back : (path : List ℕ) (b : ℕ) → b < 256 → fold reads_byte (Plain, path) (hex_escape b) ≡ (Plain, path ++ b ∷ [])
+abbrev whole : List ℕ → Reading × List ℕ
+whole path = (Plain, path)
+
+abbrev IsReadAs : List ℕ → ℕ → List ℕ → Type 0
+IsReadAs path b text = fold reads_byte (whole path) text ≡ whole (path ++ b ∷ [])
+
+hex_back : (path : List ℕ) (b : ℕ) → b < 256 → IsReadAs path b (hex_escape b)
 hex_back path b l =
     let high : digit_value (digit_char (b / 16)) ≡ b / 16 = digit_value-digit_char (b / 16) (omega (arith, l)) in
     let lower : digit_value (digit_char (b % 16)) ≡ b % 16 = digit_value-digit_char (b % 16) (omega arith) in
     let whole : b / 16 * 16 + b % 16 ≡ b = omega arith in
     ap₂ (λ (h k : ℕ). (Plain, path ++ (h * 16 + k) ∷ [])) high lower ∙ ap (λ (c : ℕ). (Plain, path ++ c ∷ [])) whole
 
-byte_back : (path : List ℕ) (b : ℕ) → fold reads_byte (Plain, path) (escaped_byte b) ≡ (Plain, path ++ b ∷ [])
+byte_back : (path : List ℕ) (b : ℕ) → IsReadAs path b (escaped_byte b)
 byte_back path b =
-    ⊎_elim (λ (e : (b == 92) ≡ true). rw e (ap (λ (c : ℕ). (Plain, path ++ c ∷ [])) (sym (eqb-true b 92 e))))
-    (λ (slash : (b == 92) ≡ false). rw slash
-    (⊎_elim (λ (e : (b == 10) ≡ true). rw e (ap (λ (c : ℕ). (Plain, path ++ c ∷ [])) (sym (eqb-true b 10 e))))
-    (λ (lf : (b == 10) ≡ false). rw lf
-    (⊎_elim (λ (e : (b == 9) ≡ true). rw e (ap (λ (c : ℕ). (Plain, path ++ c ∷ [])) (sym (eqb-true b 9 e))))
-    (λ (tab : (b == 9) ≡ false). rw tab
-    (⊎_elim (λ (e : nat_lt b 256 ≡ true). rw e (hex_back path b (ltb-true b 256 e)))
-    (λ (e : nat_lt b 256 ≡ false). rw e (rw slash refl)) (cases_Bool (nat_lt b 256))))
-    (cases_Bool (b == 9))))
-    (cases_Bool (b == 10))))
-    (cases_Bool (b == 92))
+    let back = λ (c : ℕ) (e : (b == c) ≡ true). ap (λ (x : ℕ). whole (path ++ x ∷ [])) (sym (eqb-true b c e)) in
+    cond_both (b == 92) _ _ (IsReadAs path b) (back 92) (λ slash. cond_both (b == 10) _ _ (IsReadAs path b) (back 10) (λ lf.
+    cond_both (b == 9) _ _ (IsReadAs path b) (back 9) (λ tab. cond_both (nat_lt b 256) _ _ (IsReadAs path b)
+    (λ e. hex_back path b (ltb-true b 256 e)) (λ e. rw slash refl))))
 
 path_back : (left : ℕ) (front bytes : List ℕ) → AreKept (take left bytes) → fold reads_byte (Plain, front) (escaped_behind left bytes) ≡ (Plain, front ++ bytes)
 path_back left front [] h = ap (λ (p : List ℕ). (Plain, p)) (sym (append-nil front))

@@ -1,6 +1,6 @@
 -- The bytes of a stream: those that came so far, and why they were not all read.
 use Rattle.std.proofs.Common.{◌≡◌, ◌<◌, ◌≤◌, ◌+◌, ℕ, Bool, true, false, ◌||◌, List, [], ◌∷◌, ◌++◌, length, take, refl, sym, ap, ◌∙◌, subst, arith}
-use Rattle.std.proofs.Common.{append-nil, length-append, Option, Ok, ⊎_elim}
+use Rattle.std.proofs.Common.{append-nil, length-append, Option, Ok, ⊎_elim, inl, inr}
 use Rattle.std.specs.Io.KnownBytes.{Consumes}
 use Rattle.std.proofs.KnownBytes.{Consumes-trans}
 use Rattle.std.proofs.lemmas.Bool.{cases_lt, ne_eqb}
@@ -74,8 +74,5 @@ module _ {R : Type 0} (remaining : R → Option (List ℕ)) where
     stopped_by fault kind is stops = absurd stops
 
     pub unread_stream : (fault : ReadFault) → IsUnreadStream remaining old new fault → P (refusal_of fault)
-    unread_stream fault unread =
-        ⊎_elim
-        (λ (stops : StopsReading remaining old new fault.line fault.kind). stopped_by fault fault.kind refl stops)
-        (λ wants. subst (λ (f : ReadFault). P (refusal_of f)) (sym wants.0) (memory wants.1))
-        unread
+    unread_stream fault (inl stops) = stopped_by fault fault.kind refl stops
+    unread_stream fault (inr wants) = rw wants.0 (memory wants.1)

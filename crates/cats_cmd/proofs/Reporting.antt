@@ -61,7 +61,7 @@ module _ {E : Type 0} (messages : E → Option (List ℕ)) where
   sent_then text more old mid new works (Ok u) whole (inl failed) = absurd (both_ways (has_failed mid) whole.works failed.0)
   sent_then text more old mid new works (Ok u) whole (inr sent) = inr (works, more_sent text more old mid new whole sent.1.answer sent.1.sends)
   sent_then text more old mid new works (Err fault) part (inl failed) =
-      inr (works, subst (λ (w : Watched E). SendsText messages (text ++ more) old w) (sym failed.1) (part_sent text more old mid fault part))
+      inr (works, rw failed.1 (part_sent text more old mid fault part))
   sent_then text more old mid new works (Err fault) part (inr sent) = absurd (both_ways (has_failed mid) sent.0 part.failed)
 
   pub reports_then : (text more : List ℕ) (old mid new : Watched E) → Reports messages text old mid → Reports messages more mid new
@@ -81,9 +81,6 @@ module _ {E : Type 0} (messages : E → Option (List ℕ)) where
   pub reports_next : {X : Type 0} (f : X → List ℕ) (xs : List X) (i : ℕ) (d : X) → i < length xs → (a b c : Watched E)
       → Reports messages (flat_map f (take i xs)) a b → Reports messages (f (get_or xs i d)) b c
       → Reports messages (flat_map f (take (i + 1) xs)) a c
-  reports_next {X = X} f xs i d l a b c before now =
-      let more : flat_map f (take (i + 1) xs) ≡ flat_map f (take i xs) ++ f (get_or xs i d) =
-      ap (flat_map f) (take_more xs i d l) ∙ flat_map-append f (take i xs) (get_or xs i d ∷ [])
-      ∙ ap (λ (t : List ℕ). flat_map f (take i xs) ++ t) (append-nil (f (get_or xs i d))) in
-      subst (λ (t : List ℕ). Reports messages t a c) (sym more)
+  reports_next f xs i d l a b c before now =
+      rw (take_more xs i d l, flat_map-append f (take i xs) (get_or xs i d ∷ []), append-nil (f (get_or xs i d)))
       (reports_then (flat_map f (take i xs)) (f (get_or xs i d)) a b c before now)

@@ -1,9 +1,7 @@
 -- `cats round`: the prices that were reported so far, and the ways in which the run ends.
-use Rattle.std.proofs.Common.{◌≡◌, ◌<◌, ◌≤◌, ◌+◌, ℕ, List, [], ◌∷◌, ◌++◌, length, take, map, get_or, refl, sym, ap, ◌∙◌, subst}
-use Rattle.std.proofs.Common.{Option, Result, Ok, Err, inl, inr}
+use Rattle.std.proofs.Common.{◌≡◌, ◌<◌, ◌+◌, ℕ, List, [], ◌∷◌, length, take, map, get_or, refl, Option, Result, Ok, Err, inl, inr}
 use Rattle.std.specs.Prelude.{IsErrAnd}
-use Rattle.std.proofs.lemmas.List.{map-append, take_more, take_all}
-use Rattle.std.proofs.lemmas.Result.{err_from_is_err_and}
+use Rattle.std.proofs.lemmas.List.{map-append, take_more}
 use Rattle.cats_text.specs.declared.stream.Watched.{Watched}
 use Rattle.cats_text.specs.declared.read_fault.ReadFault.{ReadFault}
 use Rattle.canon.specs.Refusals.{refusal_of}
@@ -23,7 +21,7 @@ use Rattle.cats_cmd.specs.Rounding.{IsUnrounded, Rounds, round_outcome}
 use Rattle.cats_cmd.specs.Runs.{SendsAs}
 use Rattle.cats_cmd.specs.RequestErrors.{Reports, ReportsAll}
 use Rattle.commands.specs.declared.run_fault.RunFault.{RunFault}
-use Rattle.commands.specs.declared.run_fault.RunFault.TheVariants.{Refused, TooHeavy, GoodRange, BidRange, Sent}
+use Rattle.commands.specs.declared.run_fault.RunFault.TheVariants.{Refused, Sent}
 use Rattle.cats_cmd.proofs.JudgingPaths.{reports_more}
 use Rattle.cats_cmd.proofs.ReadingBytes.{unread_stream}
 use Rattle.cats_cmd.proofs.Sending.{wrote}
@@ -34,20 +32,14 @@ pub reported_more : {E : Type 0} (messages : E → Option (List ℕ)) (prices : 
     → (a b c : Watched E) → ReportsAll messages (map rounded_line (plain_changes (take i prices))) a b
     → Reports messages (rounded_line (plain_change (get_or prices i d))) b c
     → ReportsAll messages (map rounded_line (plain_changes (take (i + 1) prices))) a c
-reported_more {E = E} messages prices i d l a b c before now =
+reported_more messages prices i d l a b c before now =
     let last = rounded_line (plain_change (get_or prices i d)) in
-    let all : map rounded_line (plain_changes (take (i + 1) prices)) ≡ map rounded_line (plain_changes (take i prices)) ++ last ∷ [] =
-    ap (λ (ps : List RoundedPrice). map rounded_line (plain_changes ps)) (take_more prices i d l)
-    ∙ ap (map rounded_line) (map-append plain_change (take i prices) (get_or prices i d ∷ []))
-    ∙ map-append rounded_line (plain_changes (take i prices)) (plain_change (get_or prices i d) ∷ []) in
-    subst (λ (lines : List (List ℕ)). ReportsAll messages lines a c) (sym all)
+    rw (
+      take_more prices i d l,
+      map-append plain_change (take i prices) (get_or prices i d ∷ []),
+      map-append rounded_line (plain_changes (take i prices)) (plain_change (get_or prices i d) ∷ []),
+    )
     (reports_more messages (map rounded_line (plain_changes (take i prices))) (last ∷ []) a b c before (c, now, refl))
-
-pub reported_all : {E : Type 0} (messages : E → Option (List ℕ)) (prices : List RoundedPrice) (i : ℕ) → length prices ≤ i
-    → (a b : Watched E) → ReportsAll messages (map rounded_line (plain_changes (take i prices))) a b
-    → ReportsAll messages (map rounded_line (plain_changes prices)) a b
-reported_all messages prices i l a b reports =
-    subst (λ (ps : List RoundedPrice). ReportsAll messages (map rounded_line (plain_changes ps)) a b) (take_all i prices l) reports
 
 -- ---- the run
 
@@ -56,11 +48,8 @@ module _ {R W E : Type 0} (remaining : R → Option (List ℕ)) (contents : W �
   run_refused : (out : Watched W) (err : Watched E) (fault : CanonFault) → IsUnrounded remaining contents messages fine old new fault
       → (answer : Result ℕ RunFault) → IsErrAnd answer (λ reported. reported ≡ Refused Only fault)
       → Rounds remaining contents messages fine old new out out err err answer
-  run_refused out err fault refused answer is =
-      let reported = err_from_is_err_and answer is in
-      let only : answer ≡ Err (Refused Only fault) = reported.1 ∙ ap (λ (f : RunFault). Err f) reported.2 in
-      subst (λ (r : Result ℕ RunFault). Rounds remaining contents messages fine old new out out err err r) (sym only)
-      (record { only = refl; refused = refused; silent = refl; quiet = refl })
+  run_refused out err fault refused (Ok status) is = absurd is
+  run_refused out err fault refused (Err reported) is = rw is (record { only = refl; refused = refused; silent = refl; quiet = refl })
 
   unmade : (bytes : List ℕ) → ReadsAll remaining old new bytes → (fault : CanonFault) → RoundsText fine bytes (Err fault)
       → IsUnrounded remaining contents messages fine old new fault
@@ -84,24 +73,19 @@ module _ {R W E : Type 0} (remaining : R → Option (List ℕ)) (contents : W �
       → IsRounded fine bytes rounded → (fault : RunFault) → SendsAs contents 0 (rounded_text fine bytes) out out_after (Err fault)
       → (answer : Result ℕ RunFault) → IsErrAnd answer (λ reported. reported ≡ fault)
       → Rounds remaining contents messages fine old new out out_after err err answer
-  round_unsent out out_after err bytes all rounded r (Refused which fault) sends answer is = absurd sends
-  round_unsent out out_after err bytes all rounded r (TooHeavy which heavy) sends answer is = absurd sends
-  round_unsent out out_after err bytes all rounded r (GoodRange good) sends answer is = absurd sends
-  round_unsent out out_after err bytes all rounded r (BidRange bid) sends answer is = absurd sends
-  round_unsent out out_after err bytes all rounded r (Sent fault) sends answer is =
-      let reported = err_from_is_err_and answer is in
-      let only : answer ≡ Err (Sent fault) = reported.1 ∙ ap (λ (f : RunFault). Err f) reported.2 in
-      subst (λ (a : Result ℕ RunFault). Rounds remaining contents messages fine old new out out_after err err a) (sym only) (record {
-        fails = record {
-          given = bytes;
-          reads = record { all = all; file = r.file; spells = rw r.text_is at r.spells };
-          status = 0;
-          text = rounded_text fine bytes;
-          made = refl;
-          sent = sends;
-        };
-        quiet = refl;
-      })
+  round_unsent out out_after err bytes all rounded r (Sent fault) sends (Ok status) is = absurd is
+  round_unsent out out_after err bytes all rounded r (Sent fault) sends (Err reported) is = rw is (record {
+    fails = record {
+      given = bytes;
+      reads = record { all = all; file = r.file; spells = rw r.text_is at r.spells };
+      status = 0;
+      text = rounded_text fine bytes;
+      made = refl;
+      sent = sends;
+    };
+    quiet = refl;
+  })
+  round_unsent out out_after err bytes all rounded r fault sends answer is = absurd sends
 
   -- the text was sent, and the prices whose values changed were reported
   pub round_printed : (out out_after : Watched W) (err err_after : Watched E) (bytes : List ℕ) → ReadsAll remaining old new bytes → (rounded : RoundedText)

@@ -1,8 +1,7 @@
 -- The run of many files: the text that is made of them is sent, or memory was refused to all of them together.
-use Rattle.std.proofs.Common.{◌≡◌, ℕ, List, Option, Result, Ok, Err, length, map, refl, sym, ap, ◌∙◌, subst, arith}
+use Rattle.std.proofs.Common.{◌≡◌, ℕ, List, Option, Result, Ok, Err, length, map, refl, sym, ap, arith}
 use Rattle.std.specs.Prelude.{IsErrAnd}
 use Rattle.std.proofs.lemmas.List.{take_all}
-use Rattle.std.proofs.lemmas.Result.{err_from_is_err_and}
 use Rattle.cats_text.specs.declared.stream.Watched.{Watched}
 use Rattle.command_line.specs.declared.request.Prices.{Prices}
 use Rattle.valuation.specs.declared.search_options.SearchOptions.{SearchOptions}
@@ -10,10 +9,10 @@ use Rattle.canon.specs.declared.canon_fault.CanonFault.TheVariants.{Memory}
 use Rattle.canon.specs.declared.which.Which.TheVariants.{Only}
 use Rattle.cats_cmd.specs.Internal.Judging.{HasJudged}
 use Rattle.commands.specs.Outcomes.{Prints}
-use Rattle.cats_cmd.specs.Paths.{BeginsPaths, Judgement, JudgesPaths, MakesOfPaths, Reporting, RunsOnPaths, judgement_at, outcome_of_paths}
+use Rattle.cats_cmd.specs.Paths.{BeginsPaths, Judgement, MakesOfPaths, Reporting, RunsOnPaths, judgement_at, outcome_of_paths}
 use Rattle.cats_cmd.specs.Runs.{SendsAs}
 use Rattle.commands.specs.declared.run_fault.RunFault.{RunFault}
-use Rattle.commands.specs.declared.run_fault.RunFault.TheVariants.{Refused, TooHeavy, GoodRange, BidRange, Sent}
+use Rattle.commands.specs.declared.run_fault.RunFault.TheVariants.{Refused, Sent}
 use Rattle.cats_cmd.proofs.Sending.{wrote}
 use Rattle.cats_cmd.specs.declared.source.Unopened.{Unopened}
 
@@ -25,12 +24,8 @@ module _ {F W E : Type 0} (may_open : List ℕ → F → Type 0) (may_refuse : L
   pub paths_refused : (out : Watched W) → BeginsPaths may_open may_refuse remaining messages options prices reporting paths err err_after
       → (answer : Result ℕ RunFault) → IsErrAnd answer (λ reported. reported ≡ Refused Only Memory)
       → RunsOnPaths may_open may_refuse remaining contents messages options prices Makes paths reporting out out err err_after answer
-  paths_refused out begins answer is =
-      let reported = err_from_is_err_and answer is in
-      let only : answer ≡ Err (Refused Only Memory) = reported.1 ∙ ap (λ (f : RunFault). Err f) reported.2 in
-      subst
-      (λ (r : Result ℕ RunFault). RunsOnPaths may_open may_refuse remaining contents messages options prices Makes paths reporting out out err err_after r)
-      (sym only) (record { only = refl; memory = refl; silent = refl; begins = begins })
+  paths_refused out begins (Ok status) is = absurd is
+  paths_refused out begins (Err fault) is = rw is (record { only = refl; memory = refl; silent = refl; begins = begins })
 
   module _ {C : Type 0} (Has : C → List (List ℕ × Judgement) → Type 0) (kept : C) (greatest : ℕ)
       (h : HasJudged Has may_open may_refuse remaining options prices messages reporting (length paths) paths kept err err_after greatest) where
@@ -41,10 +36,7 @@ module _ {F W E : Type 0} (may_open : List ℕ → F → Type 0) (may_refuse : L
         paths_refused out (record {
           count = length paths;
           judged = h.judged;
-          judges = subst
-              (λ (ps : List (List ℕ)).
-              JudgesPaths may_open may_refuse remaining messages options prices reporting (length paths) ps err err_after h.judged)
-              (sym (take_all (length paths) paths (omega arith))) h.judges;
+          judges = rw (take_all (length paths) paths (omega arith)) h.judges;
         }) answer is
 
     -- the text is sent
@@ -56,10 +48,6 @@ module _ {F W E : Type 0} (may_open : List ℕ → F → Type 0) (may_refuse : L
         outcome_of_paths out out_after
         (record { judged = h.judged; text = text }) (record { judges = h.judges; makes = made }) greatest text
         (ap (λ (s : ℕ). Prints s text) (sym h.is_greatest)) reported sends
-    paths_printed out out_after text made (Err (Refused which fault)) sends = absurd sends
-    paths_printed out out_after text made (Err (TooHeavy which heavy)) sends = absurd sends
-    paths_printed out out_after text made (Err (GoodRange good)) sends = absurd sends
-    paths_printed out out_after text made (Err (BidRange bid)) sends = absurd sends
     paths_printed out out_after text made (Err (Sent fault)) sends = record {
       given = record { judged = h.judged; text = text };
       reads = record { judges = h.judges; makes = made };
@@ -68,3 +56,4 @@ module _ {F W E : Type 0} (may_open : List ℕ → F → Type 0) (may_refuse : L
       made = ap (λ (s : ℕ). Prints s text) (sym h.is_greatest);
       sent = sends;
     }
+    paths_printed out out_after text made (Err fault) sends = absurd sends

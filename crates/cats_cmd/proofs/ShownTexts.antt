@@ -1,50 +1,50 @@
 -- The lines that name paths, and the texts of `cats duplicates` and `cats sizes`: what is printed there beside paths is ASCII of ours.
 use Rattle.std.proofs.Common.{◌≡◌, ℕ, ◌<◌, ◌&&◌, Bool, true, false, not, List, [], ◌∷◌, ◌++◌, length, map, refl, sym, subst, arith}
 use Rattle.std.specs.Prelude.{codes, decimal, filter, nat_lt}
-use Rattle.std.specs.List.{All, AllByRecursion, list_any, range_with_len}
-use Rattle.std.proofs.lemmas.Bool.{and_parts, ltb-true, or_parts}
+use Rattle.std.specs.List.{All, flat_map, list_any, range_with_len}
+use Rattle.std.proofs.lemmas.Bool.{and_parts, ltb-true}
 use Rattle.std.proofs.lemmas.List.Elements.{All-append, All-filter, All-head, All-tail, All-weaker, recursion_from_All}
 use Rattle.commands.specs.Outputs.{bundle_text}
 use Rattle.cats_cmd.specs.DuplicateTexts.{after_empty_lines, duplicates_text, groups_of, groups_text, is_printed, lines_of, printed_groups}
-use Rattle.cats_cmd.specs.Escaping.{AreBytes, IsTextOf, escaped, is_printable, is_shown, path_text}
+use Rattle.cats_cmd.specs.Escaping.{AreBytes, IsTextOf, end_of, escaped, is_printable, is_shown, path_text}
 use Rattle.cats_cmd.specs.Paths.{Judgement, progress_line, refusal_line}
 use Rattle.cats_cmd.specs.RequestErrors.{line_of_request_error}
 use Rattle.commands.specs.SizesRows.{cells}
-use Rattle.cats_cmd.specs.SizesTables.{MakesTable, columns, rows_of_table, sizes_header}
+use Rattle.cats_cmd.specs.SizesTables.{MakesTable, columns, row, rows_of_table, sizes_header}
 use Rattle.cats_cmd.specs.declared.paths.Ending.TheVariants.{Line}
 use Rattle.cats_cmd.specs.declared.errors.RequestError.{RequestError}
 use Rattle.cats_cmd.proofs.FaultTexts.{IsPlain, Plain, bundle_plain, error_line}
 use Rattle.cats_cmd.proofs.OutputPaths.{paths_all, words_plain}
-use Rattle.cats_cmd.proofs.PrintableTexts.{ascii_text, decimal_all, no_text, printable, text_behind}
+use Rattle.cats_cmd.proofs.PrintableTexts.{ascii_text, decimal_all, no_text, not_false, printable, tested, text_behind}
 
 abbrev pub Shown : List ℕ → Type 0
 Shown text = IsTextOf is_shown text
 
 -- ---- texts of ours
 
+abbrev pub IsOurs : ℕ → Type 0
+IsOurs b = (b < 128) × (is_shown b ≡ true)
+
 abbrev is_ours : ℕ → Bool
 is_ours b = nat_lt b 128 && is_shown b
 
-not_false : (t : Bool) → not t ≡ false → t ≡ true
-not_false true e = refl
-not_false false e = absurd (cc)
-
-tested : (text : List ℕ) → list_any (λ b. not (is_ours b)) text ≡ false → AllByRecursion (λ b. (b < 128) × (is_shown b ≡ true)) text
-tested [] e = tt
-tested (b ∷ text) e =
-    let parts = or_parts (not (is_ours b)) (list_any (λ c. not (is_ours c)) text) e in
-    let is = and_parts (nat_lt b 128) (is_shown b) (not_false (is_ours b) parts.0) in
-    ((ltb-true b 128 is.0, is.1), tested text parts.1)
-
 pub ours : (text : List ℕ) → list_any (λ b. not (is_ours b)) text ≡ false → Shown text
-ours text e = ascii_text is_shown text (tested text e)
+ours text e = ascii_text is_shown text (recursion_from_All IsOurs text (tested IsOurs (λ b. not (is_ours b)) passed text e))
+  where
+    passed : (b : ℕ) → not (is_ours b) ≡ false → IsOurs b
+    passed b e = let is = and_parts (nat_lt b 128) (is_shown b) (not_false (is_ours b) e) in (ltb-true b 128 is.0, is.1)
 
 -- one text behind another
 pub then : {xs ys : List ℕ} → Shown xs → Shown ys → Shown (xs ++ ys)
 then {xs} {ys} x y = text_behind is_shown xs ys x y
 
+-- what is shown of each of some things is shown of all
+pub flat_shown : {X : Type 0} (Q : X → Type 0) (f : X → List ℕ) → ((x : X) → Q x → Shown (f x)) → (xs : List X) → All Q xs → Shown (flat_map f xs)
+flat_shown Q f each [] are = no_text is_shown
+flat_shown Q f each (x ∷ xs) are = then (each x (All-head Q x xs are)) (flat_shown Q f each xs (All-tail Q x xs are))
+
 pub number : (n : ℕ) → Shown (decimal n)
-number n = ascii_text is_shown (decimal n) (decimal_all (λ b. (b < 128) × (is_shown b ≡ true)) (λ d l. (omega arith, grind (arith, l))) n)
+number n = ascii_text is_shown (decimal n) (decimal_all IsOurs (λ d l. (omega arith, grind (arith, l))) n)
 
 pub path_shown : (path : List ℕ) → AreBytes path → Shown (escaped path)
 path_shown path bytes =
@@ -60,8 +60,8 @@ path_shown path bytes =
 
 pub plain_shown : (text : List ℕ) → Plain text → Shown text
 plain_shown text plain =
-    ascii_text is_shown text (recursion_from_All (λ b. (b < 128) × (is_shown b ≡ true)) text
-    (All-weaker IsPlain (λ b. (b < 128) × (is_shown b ≡ true)) (λ b is. (omega (arith, is.1), grind (arith, is.0, is.1))) text plain.all))
+    ascii_text is_shown text (recursion_from_All IsOurs text
+    (All-weaker IsPlain IsOurs (λ b is. (omega (arith, is.1), grind (arith, is.0, is.1))) text plain.all))
 
 pub bundle : (goods : List ℕ) → Shown (bundle_text goods)
 bundle goods = plain_shown (bundle_text goods) (bundle_plain goods)
@@ -85,13 +85,11 @@ line path bytes = then (path_shown path bytes) (ours (codes "\n") refl)
 -- ---- groups
 
 lines : (paths : List (List ℕ)) → All AreBytes paths → Shown (lines_of Line paths)
-lines [] are = no_text is_shown
-lines (path ∷ paths) are = then (line path (All-head AreBytes path paths are)) (lines paths (All-tail AreBytes path paths are))
+lines paths are = flat_shown AreBytes (path_text Line) line paths are
 
 after : (groups : List (List (List ℕ))) → All (All AreBytes) groups → Shown (after_empty_lines Line groups)
-after [] are = no_text is_shown
-after (paths ∷ groups) are =
-    then (then (ours (codes "\n") refl) (lines paths (All-head (All AreBytes) paths groups are))) (after groups (All-tail (All AreBytes) paths groups are))
+after groups are =
+    flat_shown (All AreBytes) (λ paths. end_of Line ++ lines_of Line paths) (λ paths is. then (ours (codes "\n") refl) (lines paths is)) groups are
 
 groups_shown : (groups : List (List (List ℕ))) → All (All AreBytes) groups → Shown (groups_text Line groups)
 groups_shown [] are = no_text is_shown
@@ -111,15 +109,11 @@ duplicates_shown all judged heavy are others =
 -- ---- tables
 
 cells_shown : (words : List (List ℕ)) → All Plain words → Shown (cells words)
-cells_shown [] are = no_text is_shown
-cells_shown (word ∷ words) are =
-    then (then (plain_shown word (All-head Plain word words are)) (ours (codes "\t") refl)) (cells_shown words (All-tail Plain word words are))
+cells_shown words are = flat_shown Plain (λ word. word ++ codes "\t") (λ word plain. then (plain_shown word plain) (ours (codes "\t") refl)) words are
 
 rows_shown : (js : List (List ℕ × Judgement)) → All (λ j. AreBytes j.0) js → Shown (rows_of_table Line js)
-rows_shown [] are = no_text is_shown
-rows_shown (j ∷ js) are =
-    then (then (cells_shown (map (λ c. c.1 j.1) columns) (words_plain j.1)) (line j.0 (All-head (λ (i : List ℕ × Judgement). AreBytes i.0) j js are)))
-    (rows_shown js (All-tail (λ (i : List ℕ × Judgement). AreBytes i.0) j js are))
+rows_shown js are = flat_shown (λ (j : List ℕ × Judgement). AreBytes j.0) (λ j. row Line j.0 j.1)
+    (λ j is. then (cells_shown (map (λ c. c.1 j.1) columns) (words_plain j.1)) (line j.0 is)) js are
 
 pub table_shown : (js : List (List ℕ × Judgement)) (text : List ℕ) → All (λ j. AreBytes j.0) js → MakesTable Line js text → Shown text
 table_shown js text are makes = subst Shown (sym makes) (then (ours (sizes_header Line) refl) (rows_shown js are))

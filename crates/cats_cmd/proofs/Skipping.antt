@@ -1,15 +1,21 @@
 -- A file that was not read adds nothing to the groups of `cats duplicates`.
 use Rattle.std.proofs.Common.{ℕ, List, [], ◌∷◌, ◌++◌, refl}
 use Rattle.cats_cmd.specs.DuplicateTexts.{found_paths}
+use Rattle.cats_cmd.specs.Duplicates.{files_if_heavy, files_if_judged, paths_if_heavy, paths_if_judged}
+use Rattle.canon.specs.Canonical.{canonical_text}
+use Rattle.canon.specs.Sameness.{AreSameFiles}
+use Rattle.canon.specs.Unsearched.{AreAlike, unsearched_text}
 use Rattle.cats_cmd.specs.Internal.Judging.{KeepsGroups}
 use Rattle.cats_cmd.specs.Paths.{Judgement, IsUnjudged}
 use Rattle.cats_cmd.specs.declared.duplicates.Groups.{Groups}
 use Rattle.cats_cmd.specs.declared.errors.RequestError.{RequestError}
-use Rattle.cats_cmd.proofs.FindingPlaces.{heavy_stay, judged_stay}
+use Rattle.cats_cmd.proofs.FindingPlaces.{judgement_skipped}
 
 pub groups_skip : (groups : Groups) (js : List (List ℕ × Judgement)) (path : List ℕ) (error : RequestError)
     → KeepsGroups groups js → KeepsGroups groups (js ++ (path, IsUnjudged error) ∷ [])
 groups_skip groups js path error h = record {
-  judged = judged_stay js path (IsUnjudged error) refl refl groups.judged.index (found_paths groups.judged.found.items) h.judged;
-  heavy = heavy_stay js path (IsUnjudged error) refl refl groups.heavy.index (found_paths groups.heavy.found.items) h.heavy;
+  judged = judgement_skipped canonical_text AreSameFiles files_if_judged paths_if_judged js path (IsUnjudged error) groups.judged.index
+      (found_paths groups.judged.found.items) refl refl h.judged;
+  heavy = judgement_skipped unsearched_text AreAlike files_if_heavy paths_if_heavy js path (IsUnjudged error) groups.heavy.index
+      (found_paths groups.heavy.found.items) refl refl h.heavy;
 }

@@ -1,12 +1,7 @@
 -- The rows of `cats sizes`: what a row of a file says is what became of the file at its path.
-use Rattle.std.proofs.Common.{◌≡◌, ℕ, ◌-◌, List, [], ◌∷◌, ◌++◌, length, map, take, refl, sym}
-use Rattle.std.proofs.Common.{append-nil, inl, inr}
-use Rattle.std.proofs.Common.{ap, ◌∙◌, Option, Some, None, Result, Ok, Err}
-use Rattle.std.specs.Prelude.{codes}
+use Rattle.std.proofs.Common.{◌≡◌, ℕ, ◌-◌, List, [], ◌∷◌, ◌++◌, length, map, take, refl, sym, append-nil, inl, inr, ap, ◌∙◌, Option, Some, None}
+use Rattle.std.specs.Prelude.{codes, IsSomeAnd}
 use Rattle.std.specs.Option.{MatchOption, option_map}
-use Rattle.std.specs.Prelude.{IsSomeAnd}
-use Rattle.std.specs.Result.{OnOk}
-use Rattle.std.specs.declared.alloc.AllocError.{AllocError}
 use Rattle.std.proofs.lemmas.Grind.{flat_map-append}
 use Rattle.bid_file.specs.Files.{PlainFile}
 use Rattle.valuation.specs.declared.search_options.SearchOptions.{SearchOptions}
@@ -43,8 +38,7 @@ judges_sized gives refuses options before after (IsUnsized Memory) (inr made) = 
 
 pub error_sized : (sized : Sized) → option_map Run (fault_sized sized) ≡ request_error_of (judgement_of sized)
 error_sized (IsSized file) = refl
-error_sized (IsTooHeavy file heavy) = refl
-error_sized (IsUnsized fault) = refl
+error_sized sized = refl
 
 -- the fault of a run, as why a request has no answer
 pub fault_mapped : (fault : Option RunFault) (error : Option RequestError) → MatchOption fault (error ≡ None) (λ f. IsSomeAnd error (λ e. e ≡ Run f))
@@ -55,8 +49,7 @@ fault_mapped (Some fault) (Some error) some = ap (λ (e : RequestError). Some e)
 
 pub cells_sized : (sized : Sized) → numbers_sized sized ≡ cells (map (λ c. c.1 (judgement_of sized)) number_columns)
 cells_sized (IsSized file) = refl
-cells_sized (IsTooHeavy file heavy) = refl
-cells_sized (IsUnsized fault) = refl
+cells_sized sized = refl
 
 -- ---- rows
 
@@ -86,15 +79,6 @@ row_put ending rows longer path numbers all given j error is whole why same put 
     ∙ ap (λ (text : List ℕ). text ++ (fault_cell (request_error_of j) ++ codes "\t")) is ∙ sym (row_cells j))
     ∙ ap (λ (text : List ℕ). text ++ row ending path j) h
     ∙ sym (row_more ending js path j)
-
-pub row_if_put : (answer : Result (Unit {0}) AllocError) (ending : Ending) (rows longer path numbers all given : List ℕ) (j : Judgement)
-    (error : Option RequestError)
-    → numbers ≡ cells (map (λ c. c.1 j) number_columns) → all ≡ numbers ++ (fault_cell error ++ codes "\t") → error ≡ request_error_of j
-    → given ≡ all → OnOk answer (longer ≡ rows ++ (given ++ path_text ending path))
-    → OnOk answer ((js : List (List ℕ × Judgement)) → rows ≡ rows_of_table ending js → longer ≡ rows_of_table ending (js ++ (path, j) ∷ []))
-row_if_put (Ok u) ending rows longer path numbers all given j error is whole why same put =
-    row_put ending rows longer path numbers all given j error is whole why same put
-row_if_put (Err e) ending rows longer path numbers all given j error is whole why same put = tt
 
 -- the cell of the fault
 pub fault_put : (text longer line : List ℕ) (error : Option RequestError) (why : RequestError) (size end : ℕ) → error ≡ Some why

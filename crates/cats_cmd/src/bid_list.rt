@@ -7,7 +7,7 @@ ghost use Rattle.cats_cmd.specs.Opening.{Opens};
 use crate::errors::RequestError;
 use crate::many_files::read_list;
 use crate::source::Source;
-use analysis::{BidNumbersFault, read_bid_numbers};
+use analysis::winners::{BidNumbersFault, read_bid_numbers};
 use canon::CanonFault;
 use cats_text::{Kind, ReadFault};
 use commands::RunFault;

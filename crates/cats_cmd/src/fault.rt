@@ -11,7 +11,9 @@ use crate::escaping::escaped;
 use crate::run::send_text;
 use canon::CanonFault;
 use cats_text::{FaultPlace, Watched, place_of_fault};
-use commands::{DONE, FILE_REFUSED, RunFault, fault_place_text, shown_word};
+use commands::RunFault;
+use commands::printed::{fault_place_text, shown_word};
+use commands::statuses::{DONE, FILE_REFUSED};
 use std::alloc::{AllocError, Global};
 use std::io::{Read, Write};
 

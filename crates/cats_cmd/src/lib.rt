@@ -30,7 +30,8 @@ mod usage;
 pub mod worked;
 
 pub use canon::{CanonFault, Which};
-pub use commands::{NO_MEMORY, RunFault, WRONG_USAGE, fault_line, status};
+pub use commands::statuses::{NO_MEMORY, WRONG_USAGE};
+pub use commands::{RunFault, fault_line, status};
 pub use one_file::{run_check, run_normalise, run_show, run_value};
 pub use program::{Process, run_cats, run_program};
 pub use source::{Source, SystemFiles, Unopened};

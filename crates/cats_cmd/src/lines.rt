@@ -10,7 +10,7 @@ ghost use Rattle.cats_cmd.specs.RequestErrors.{Reports};
 
 use crate::escaping::{hex_escape, plain_run};
 use cats_text::{PRICE_SIZE, Watched, send, write_price};
-use commands::Piece;
+use commands::printed::Piece;
 use itoa::Buffer;
 use std::io::Write;
 

@@ -22,7 +22,7 @@ use crate::paths::{
 use crate::source::Source;
 use canon::CanonFault;
 use cats_text::Watched;
-use command_line::{FilePaths, FilesCommand, FilesRequest};
+use command_line::request::{FilePaths, FilesCommand, FilesRequest};
 use commands::RunFault;
 use std::alloc::AllocGlobal;
 use std::io::Write;

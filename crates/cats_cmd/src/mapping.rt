@@ -5,7 +5,7 @@ ghost use Rattle.cats_cmd.specs.Requests.{bounded_by, comparison_of, options_of,
 ghost use Rattle.command_line.specs.PlainRequests.{plain_command};
 ghost use Rattle.commands.specs.Outcomes.{outcome_of};
 
-use command_line::{FileCommand, Limits, PairCommand};
+use command_line::request::{FileCommand, Limits, PairCommand};
 use commands::{Command, Comparison};
 use valuation::SearchOptions;
 

@@ -10,7 +10,7 @@ use crate::bytes::read_bytes;
 use crate::lines::{report, report_escaped, report_number};
 use bid_file::PackedFile;
 use cats_text::{Header, Kind, ReadFault, Watched, check, read_packed};
-use command_line::Prices;
+use command_line::request::Prices;
 use commands::Input;
 use rounding::{FinePrices, round_prices};
 use std::alloc::{AllocError, Global};

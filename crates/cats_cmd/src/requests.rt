@@ -26,7 +26,7 @@ use crate::source::Source;
 use crate::two_files::run_on_pair;
 use canon::Which;
 use cats_text::Watched;
-use command_line::{
+use command_line::request::{
     FileCommand, FileRequest, FilesCommand, FilesRequest, NamedBids, PairRequest, Request,
 };
 use commands::RunFault;

@@ -6,7 +6,8 @@ ghost use Rattle.command_line.specs.Requests.{IsNoRequestOf, texts_of};
 ghost use Rattle.cats_cmd.specs.Requests.{misuse_text};
 
 use crate::escaping::escaped;
-use command_line::{Misuse, NoRequest, parse};
+use command_line::parse;
+use command_line::request::{Misuse, NoRequest};
 use std::alloc::{AllocError, Global};
 
 /// What is answered in place of this answer to words that are no request: the same, but what `clap` prints of them is

@@ -1,8 +1,9 @@
 -- `files_at`
-use Rattle.std.proofs.Common.{ℕ, List, [], ◌∙◌, ap, Vec}
+use Rattle.std.proofs.Common.{ℕ, List, [], ◌∷◌, ◌∙◌, ap, refl, Vec}
 use Rattle.std.specs.Borrow.{Bor}
 use Rattle.std.specs.Global.{Global}
-use Rattle.cats_cmd.proofs.FilesOfPaths.{next_below, next_itself}
+use Rattle.cats_cmd.specs.Folders.{found_of}
+use Rattle.cats_cmd.proofs.FilesOfPaths.{next_files}
 use Rattle.cats_cmd.proofs.folders.files_at.Goals as goal
 use Rattle.cats_cmd.proofs.folders.files_at.Goals.{in-Some+in_ok-append-in-Some, in-None+in_ok-from_slice-in-None+in_ok-push-in-None}
 
@@ -17,11 +18,12 @@ loop-path-preserved g c =
     let finds = g.S.Source.may_find (g.S.Source.content_of c.args.source.now) in
     elim c.match-branch-2.branch [
       | in-Some+in_ok-append-in-Some w ↦
-          next_below finds c.args.paths.now c.loop-path.path-index nowhere c.loop-path-test.true c.loop-path.files.items c.match-branch-2.files.items
-          c.loop-path.invariant c.in_ok-below.field-0 c.in_ok-below.ensures w.in-Some.below w.in-Some.is
+          next_files finds c.args.paths.now c.loop-path.path-index nowhere c.loop-path-test.true c.loop-path.files.items w.in-Some.below.items
+          c.match-branch-2.files.items c.loop-path.invariant (found_of c.in_ok-below.field-0) c.in_ok-below.ensures (rw w.in-Some.is refl)
           (ap items_of w.files-is ∙ w.in_ok-append-in-Some.ensures.items)
       | in-None+in_ok-from_slice-in-None+in_ok-push-in-None w ↦
-          next_itself finds c.args.paths.now c.loop-path.path-index nowhere c.loop-path-test.true c.loop-path.files.items c.match-branch-2.files.items
-          c.loop-path.invariant c.in_ok-below.field-0 c.in_ok-below.ensures w.in-None.is w.in_ok-from_slice-in-None.field-0
-          w.in_ok-from_slice-in-None.ensures.items (ap items_of w.files-is ∙ w.in_ok-push-in-None.ensures.items)
+          next_files finds c.args.paths.now c.loop-path.path-index nowhere c.loop-path-test.true c.loop-path.files.items
+          (w.in_ok-from_slice-in-None.field-0 ∷ []) c.match-branch-2.files.items c.loop-path.invariant (found_of c.in_ok-below.field-0)
+          c.in_ok-below.ensures (rw w.in-None.is (ap (λ (p : List ℕ). p ∷ []) w.in_ok-from_slice-in-None.ensures.items))
+          (ap items_of w.files-is ∙ w.in_ok-push-in-None.ensures.items)
     ]

@@ -1,6 +1,7 @@
 -- `printed_answers_are_shown`
 use Rattle.std.proofs.Common.{subst}
-use Rattle.cats_cmd.proofs.AnswersShown.{IsPrinted, command_printed, pair_printed, place_shown}
+use Rattle.cats_cmd.proofs.AnswersShown.{IsPrinted, command_printed, place_shown}
+use Rattle.cats_cmd.proofs.Sending.{pair_facts}
 use Rattle.cats_cmd.proofs.laws.printed_answers_are_shown.Goals as goal
 
 pub returns-clause-commands : goal.returns-clause-commands
@@ -8,7 +9,8 @@ returns-clause-commands g c = λ command numbers file status text is. (subst IsP
 
 pub returns-clause-comparisons : goal.returns-clause-comparisons
 returns-clause-comparisons g c = λ comparison first first_after second second_after answer given.
-    (pair_printed g.I.Input.gives g.I.Input.refuses g.J.Input.gives g.J.Input.refuses comparison first first_after second second_after answer given).1
+    ((pair_facts g.I.Input.gives g.I.Input.refuses g.J.Input.gives g.J.Input.refuses first first_after second second_after comparison).made answer
+    given).printed.1
 
 pub returns-clause-fault : goal.returns-clause-fault
 returns-clause-fault g c = place_shown

@@ -1,7 +1,6 @@
 -- `report_goods`
-use Rattle.std.proofs.Common.{rules, ◌≡◌, ◌∷◌, ℕ, decimal, subst}
+use Rattle.std.proofs.Common.{rules, ◌≡◌, ◌∷◌, decimal}
 use Rattle.commands.specs.Outputs.{after_commas}
-use Rattle.cats_cmd.specs.RequestErrors.{Reports}
 use Rattle.cats_cmd.proofs.Reporting.{reports_then}
 use Rattle.cats_cmd.proofs.lines.report_goods.Goals as goal
 
@@ -10,7 +9,5 @@ returns g c =
     let first = c.in-Some.first.now in
     let rest = c.in-Some.rest.now in
     let split : c.args.goods.now ≡ first ∷ rest = search rules in
-    rw split
-    (reports_then g.E.Write.contents (decimal first) (after_commas rest) _ _ _
-    (subst (λ (n : ℕ). Reports g.E.Write.contents (decimal n) c.args.err.now c.report_number.new.err) c.from.ensures c.report_number.ensures)
+    rw split (reports_then g.E.Write.contents (decimal first) (after_commas rest) _ _ _ (rw c.from.ensures at c.report_number.ensures)
     c.report_after_commas.ensures)

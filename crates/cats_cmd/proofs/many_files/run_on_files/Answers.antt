@@ -1,8 +1,7 @@
 -- `run_on_files`
-use Rattle.std.proofs.Common.{◌∙◌, ap, inr, map, refl}
+use Rattle.std.proofs.Common.{◌∙◌, ap, inl, inr, map, refl}
 use Rattle.cats_cmd.specs.PathLists.{paths_in}
-use Rattle.cats_cmd.proofs.Opening.{opens_listed}
-use Rattle.cats_cmd.proofs.RunsOfLists.{list_refused, list_run_at}
+use Rattle.cats_cmd.proofs.RunsOfLists.{list_refused, list_run}
 use Rattle.cats_cmd.proofs.many_files.run_on_files.Goals as goal
 
 pub returns-in_err-paths-in-Ok-clause-runs : goal.returns-in_err-paths-in-Ok-clause-runs
@@ -14,14 +13,16 @@ returns-in_err-paths-in-Ok-clause-opens g c = rw c.in-ListedIn.is (record { betw
 
 pub returns-in_ok-paths-in-Ok-clause-runs : goal.returns-in_ok-paths-in-Ok-clause-runs
 returns-in_ok-paths-in-Ok-clause-runs g c =
-    rw c.in-ListedIn.is (list_run_at g.S.Source.may_open g.S.Source.may_refuse g.S.Source.may_find _ _ _ g.C.Collection.Makes _ _ _
-    c.in-Ok.ensures.opens.stays _ _ c.many_files-many.ensures c.in-ListedIn.list.now c.in-Ok.text.items c.in-Ok.ensures.read _
+    rw c.in-ListedIn.is (list_run _ _ _ _ _ _ c.in-ListedIn.list.now c.in-Ok.text.items c.in-Ok.ensures.read _
     (ap (map (λ path. path.now)) c.as_slice-in-Ok-2.ensures.value ∙ c.in_ok-paths-in-Ok.ensures ∙ ap paths_in c.as_slice-in-Ok.ensures.value)
-    _ _ _ _ _ c.run_at_paths-in-Ok.ensures.runs)
+    _ _ _ _ _ (rw (c.in-Ok.ensures.opens.stays, c.many_files-many.ensures) at c.run_at_paths-in-Ok.ensures.runs))
 
 pub returns-in_ok-paths-in-Ok-clause-opens : goal.returns-in_ok-paths-in-Ok-clause-opens
 returns-in_ok-paths-in-Ok-clause-opens g c =
-    rw c.in-ListedIn.is (opens_listed _ _ g.S.Source.may_open g.S.Source.may_refuse _ g.S.Source.may_find c.in-ListedIn.list.now c.in-Ok.text.items _ _ _ _ _
-    c.in-Ok.ensures.opens c.in-Ok.ensures.read
-    (ap (map (λ path. path.now)) c.as_slice-in-Ok-2.ensures.value ∙ c.in_ok-paths-in-Ok.ensures ∙ ap paths_in c.as_slice-in-Ok.ensures.value)
-    c.run_at_paths-in-Ok.ensures.opens)
+    let opens = rw (ap (map (λ path. path.now)) c.as_slice-in-Ok-2.ensures.value ∙ c.in_ok-paths-in-Ok.ensures ∙ ap paths_in c.as_slice-in-Ok.ensures.value)
+    at c.run_at_paths-in-Ok.ensures.opens in
+    rw c.in-ListedIn.is (record {
+      between = _;
+      opens = c.in-Ok.ensures.opens;
+      rest = inl (record { bytes = c.in-Ok.text.items; reads = c.in-Ok.ensures.read; opens = opens });
+    })

@@ -1,8 +1,9 @@
 -- `judge_all`
 use Rattle.std.proofs.Common.{ℕ, List, [], arith}
 use Rattle.std.specs.Borrow.{Bor}
-use Rattle.cats_cmd.proofs.JudgingPaths.{all_judged, first_judged, none_judged, path_in, path_more}
-use Rattle.cats_cmd.proofs.Opening.{opens_all, opens_next, opens_none, opens_some}
+use Rattle.std.proofs.lemmas.List.{take_all}
+use Rattle.cats_cmd.proofs.JudgingPaths.{all_judged, first_judged, none_judged, path_more}
+use Rattle.cats_cmd.proofs.Opening.{opens_next, opens_none, opens_some}
 use Rattle.cats_cmd.proofs.paths.judge_all.Goals as goal
 
 abbrev nowhere : Bor (List ℕ)
@@ -14,9 +15,7 @@ loop-number-init g c = record { judged = none_judged _ _ _ _ _ _ _ _ _ _ _ c.req
 pub loop-number-preserved : goal.loop-number-preserved
 loop-number-preserved g c = record {
   judged = path_more _ _ _ _ _ _ _ _ c.args.paths.now _ c.loop-number.number _ _ _ c.loop-number.invariant.judged nowhere c.loop-number-test.true _
-      c.in_ok-status.status _ _
-      (path_in _ g.S.Source.may_open g.S.Source.may_refuse _ _ _ _ _ _ _ _ _ _ _ _ _ _ _ c.loop-number.invariant.opens.stays
-      c.in_ok-status.ensures.adds) c.max-greatest.ensures;
+      c.in_ok-status.status _ _ (rw c.loop-number.invariant.opens.stays at c.in_ok-status.ensures.adds) c.max-greatest.ensures;
   opens = opens_next _ _ _ _ _ c.args.paths.now c.loop-number.number nowhere c.loop-number-test.true c.loop-number.invariant.opens c.judge_path.ensures.opens;
 }
 
@@ -36,4 +35,4 @@ returns-clause-judges g c =
 
 pub returns-clause-opens : goal.returns-clause-opens
 returns-clause-opens g c =
-    opens_all _ _ _ _ c.args.paths.now c.loop-number.number (omega (arith, c.loop-number-test.false)) c.loop-number.invariant.opens
+    rw (take_all c.loop-number.number c.args.paths.now (omega (arith, c.loop-number-test.false))) at c.loop-number.invariant.opens

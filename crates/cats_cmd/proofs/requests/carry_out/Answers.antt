@@ -1,7 +1,7 @@
 -- `carry_out`
 use Rattle.std.proofs.Common.{refl}
 use Rattle.command_line.specs.PlainRequests.{plain_request}
-use Rattle.cats_cmd.proofs.CarryingOut.{carried, found_at, rounded_at}
+use Rattle.cats_cmd.proofs.CarryingOut.{carried}
 use Rattle.cats_cmd.proofs.requests.carry_out.Goals as goal
 
 pub returns-in-OnFile-clause-carries : goal.returns-in-OnFile-clause-carries
@@ -12,11 +12,21 @@ returns-in-OnPair-clause-carries g c = rw c.in-OnPair.is (c.carry_out_on_pair.en
 
 pub returns-in_ok-input-in-Fault-clause-carries : goal.returns-in_ok-input-in-Fault-clause-carries
 returns-in_ok-input-in-Fault-clause-carries g c =
-    rw c.ran-in-Fault.ensures (carried _ _ _ _ _ _ _ _ _ _ _ (plain_request c.args.request.now) _ (rw c.in-Fault.is
-    (found_at _ _ _ _ c.in-Fault.file.now _ c.as_bytes.ensures.value _ _ _ _ _ c.in_ok-input-in-Fault.ensures.opened c.run_fault.ensures, refl)))
+    rw c.ran-in-Fault.ensures (carried _ _ _ _ _ _ _ _ _ _ _ (plain_request c.args.request.now) _ (rw c.in-Fault.is (
+      record {
+        before = c.in_ok-input-in-Fault.input;
+        after = c.run_fault.new.input;
+        opened = c.in_ok-input-in-Fault.ensures.opened;
+        runs = rw c.as_bytes.ensures.value at c.run_fault.ensures;
+      },
+      refl,
+    )))
 
 pub returns-in_ok-input-in-Round-clause-carries : goal.returns-in_ok-input-in-Round-clause-carries
 returns-in_ok-input-in-Round-clause-carries g c =
-    rw c.ran-in-Round.ensures (carried _ _ _ _ _ _ _ _ _ _ _ (plain_request c.args.request.now) _ (rw c.in-Round.is
-    (rounded_at _ _ _ _ _ c.in-Round.file.now c.in-Round.exact _ c.fine_of.ensures _ _ _ _ _ _ _
-    c.in_ok-input-in-Round.ensures.opened c.run_round.ensures)))
+    rw c.ran-in-Round.ensures (carried _ _ _ _ _ _ _ _ _ _ _ (plain_request c.args.request.now) _ (rw c.in-Round.is (record {
+      before = c.in_ok-input-in-Round.input;
+      after = c.run_round.new.input;
+      opened = c.in_ok-input-in-Round.ensures.opened;
+      runs = rw c.fine_of.ensures at c.run_round.ensures;
+    })))

@@ -1,7 +1,8 @@
 -- `push_groups`
 use Rattle.std.proofs.Common.{map, ap, ◌∙◌}
 use Rattle.cats_cmd.specs.DuplicateTexts.{with_group}
-use Rattle.cats_cmd.proofs.Grouping.{group_printed, all_groups_printed}
+use Rattle.std.proofs.lemmas.List.{take_all}
+use Rattle.cats_cmd.proofs.Grouping.{group_printed}
 use Rattle.cats_cmd.proofs.duplicates.lines.push_groups.Goals as goal
 
 pub loop-group-preserved : goal.loop-group-preserved
@@ -12,6 +13,4 @@ loop-group-preserved c =
     c.as_slice.ensures.value)
 
 pub returns : goal.returns
-returns c =
-    all_groups_printed c.args.ending c.args.all c.args.text.now.items c.args.groups.now c.loop-group.group-index c.loop-group.text.items
-    c.loop-group.invariant c.loop-group-test.false
+returns c = rw (take_all c.loop-group.group-index c.args.groups.now c.loop-group-test.false) at c.loop-group.invariant
