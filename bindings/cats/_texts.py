@@ -3,14 +3,14 @@ from __future__ import annotations
 
 import mmap
 import os
-from ctypes import c_uint16, c_uint32
+from ctypes import c_uint16, c_uint32, sizeof
 from functools import partial
 from operator import index
-from typing import Callable, Iterable, List, Literal, Optional, Sequence, Union
+from typing import Any, Callable, Iterable, List, Literal, Optional, Sequence, Union
 
 from cats._library import NO_TOTAL, Prices, Status, call
 from cats._places import place_in, place_in_rounded
-from cats.errors import NoSuchBid, NoSuchGood, Place, RefusedText, error_of
+from cats.errors import CatsError, NoSuchBid, NoSuchGood, Place, RefusedText, error_of
 
 # The bytes of a file, or its path.
 TextOrPath = Union[bytes, bytearray, memoryview, mmap.mmap, "os.PathLike[str]", "os.PathLike[bytes]"]
@@ -18,8 +18,8 @@ TextOrPath = Union[bytes, bytearray, memoryview, mmap.mmap, "os.PathLike[str]", 
 # Whether a text is read with its prices rounded: no, yes, or yes and the text is refused if a price's value would change.
 Rounding = Union[bool, Literal["exact"]]
 
-# One more than the greatest limit, and than the greatest number of a good and of a bid that the library takes. No file has a greater one.
-LIMIT_END, GOOD_END, BID_END = 2**64, 2**16, 2**32
+# One more than the greatest limit that the library takes.
+LIMIT_END = 2**64
 
 
 def bytes_of(text: TextOrPath) -> bytes:
@@ -74,22 +74,18 @@ def finder(text: bytes, line: Optional[int], prices: Prices) -> Optional[Callabl
     return partial(place_in_rounded, text, line, prices == Prices.ROUNDED_EXACTLY)
 
 
-def goods_of(goods: Iterable[int]) -> List[object]:
-    """Goods as the library takes them: an array and its length."""
-    numbers = list(map(index, goods))
-    for good in numbers:
-        if not 0 <= good < GOOD_END:
-            raise NoSuchGood(good)
-    return [(c_uint16 * len(numbers))(*numbers), len(numbers)]
+def array_of(kind: Any, lacking: Callable[[int], CatsError], numbers: Iterable[int]) -> List[object]:
+    """An array of numbers of this kind, and its length. No file has a number that the kind does not have."""
+    listed = list(map(index, numbers))
+    for number in listed:
+        if not 0 <= number < 2 ** (8 * sizeof(kind)):
+            raise lacking(number)
+    return [(kind * len(listed))(*listed), len(listed)]
 
 
-def bids_of(bids: Iterable[int]) -> List[object]:
-    """The numbers of bids as the library takes them: an array and its length."""
-    numbers = list(map(index, bids))
-    for bid in numbers:
-        if not 0 <= bid < BID_END:
-            raise NoSuchBid(bid)
-    return [(c_uint32 * len(numbers))(*numbers), len(numbers)]
+# Goods, and the numbers of bids, as the library takes them.
+goods_of = partial(array_of, c_uint16, NoSuchGood)
+bids_of = partial(array_of, c_uint32, NoSuchBid)
 
 
 def limits_of(steps: int, total: Optional[int]) -> List[int]:
