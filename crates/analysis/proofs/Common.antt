@@ -102,7 +102,7 @@ pub use Rattle.canon.proofs.CanonicalAuctions.Atoms.{HasAtoms}
 pub use Rattle.canon.proofs.CanonicalAuctions.Sames.{same_canonical, HasAtoms-auction}
 pub use Rattle.canon.proofs.CanonicalFiles.Files.{auction_from-file_from}
 pub use Rattle.canon.proofs.CanonicalFiles.Texts.{HasAtoms-file, IsPlainFile-canonical}
-pub use Rattle.canon.proofs.Comparing.Differences.{at_same_goods, at_other_goods, same_from_no_difference, no_difference_from_same}
+pub use Rattle.canon.proofs.TwoFiles.Differences.{at_same_goods, at_other_goods, same_from_no_difference, no_difference_from_same}
 pub use Rattle.canon.proofs.Walks.PriceWalks.{are_all}
 pub use Rattle.canon.specs.Bidders.{AreBidders, offers}
 pub use Rattle.canon.specs.Canonical.{file_from, points_of_bidders, IsCanonicalFile, canonical_file, IsCanonical, canonical_auction, bid_from, dummy_bids}
@@ -117,7 +117,7 @@ pub use Rattle.canon.specs.Lemmas.Renaming.{kept_dummies-has, filter-map, kept_d
 pub use Rattle.canon.specs.PriceChanges.{plain_change, PlainChange, ArePriceChanges, price_on, IsPriceChange}
 pub use Rattle.canon.specs.Renaming.{kept_bids, kept_dummies, named_bid, named_dummy, points_of_dummy}
 pub use Rattle.canon.specs.Sameness.{AreSameFiles, IsSameAuction}
-pub use Rattle.canon.specs.declared.named.NamedFile.{NamedFile}
+pub use Rattle.canon.specs.declared.normal.named.NamedFile.{NamedFile}
 pub use Rattle.cats_text.specs.Lines.{Word}
 pub use Rattle.cats_text.specs.Numbers.{digits_alone, number_of}
 pub use Rattle.goods_set.specs.Bundles.{without, AreAbove, AreBelow, IsBundle, IsRising, all_bundles, are_apart, has_good, IsInside, is_inside}
@@ -161,6 +161,6 @@ pub use Rattle.valuation.specs.Sorting.{insert_by, sort_by, count_of}
 pub use Rattle.valuation.specs.Tables.{is_nonzero, xor_table}
 pub use Rattle.valuation.specs.Values.{or_value, xor_value}
 pub use Rattle.valuation.specs.declared.atom.Atom.{Atom}
-pub use Rattle.valuation.specs.declared.search_kind.SearchKind.{SearchKind}
-pub use Rattle.valuation.specs.declared.search_kind.SearchKind.TheVariants.{Bounded}
+pub use Rattle.valuation.specs.declared.search.kind.SearchKind.{SearchKind}
+pub use Rattle.valuation.specs.declared.search.kind.SearchKind.TheVariants.{Bounded}
 pub use denote.Param.Members.{Mut}

@@ -7,7 +7,7 @@ use Rattle.std.specs.Ordering.{nat_cmp}
 use Rattle.goods_set.specs.Bundles.{IsInside, IsRising, are_apart}
 use Rattle.bid_file.specs.Files.{PlainBid, PlainFile}
 use Rattle.valuation.specs.declared.atom.Atom.{Atom}
-use Rattle.valuation.specs.declared.search_kind.SearchKind.TheVariants.{Bounded}
+use Rattle.valuation.specs.declared.search.kind.SearchKind.TheVariants.{Bounded}
 use Rattle.valuation.specs.Auctions.{atom_of, or_atoms_of}
 use Rattle.valuation.specs.Packings.{atom_at}
 use Rattle.valuation.specs.Sorting.{sort_by}

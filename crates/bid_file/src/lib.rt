@@ -3,13 +3,12 @@
 
 mod bid;
 mod bids;
-mod limits;
+pub mod limits;
 mod packed;
 mod packing;
 pub mod worked;
 
 pub use bid::{Bid, BidFile};
 pub use bids::{BidRef, Bids};
-pub use limits::{MAX_BIDS, MAX_DUMMY, MAX_GOODS, MAX_PRICE};
 pub use packed::{PackedBids, PackedFile};
 pub use packing::pack;

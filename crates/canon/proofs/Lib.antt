@@ -2,4 +2,4 @@
 pub mod CanonicalAuctions
 pub mod CanonicalFiles
 pub mod Walks
-pub mod Comparing
+pub mod TwoFiles

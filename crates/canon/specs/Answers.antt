@@ -9,11 +9,11 @@ use Rattle.cats_text.specs.Faults.{has_bid_line}
 use Rattle.cats_text.specs.Grammar.{Spells}
 use Rattle.valuation.specs.Auctions.{PlainAuction, auction_from}
 use Rattle.prune.specs.SearchSteps.{first_refused}
-use Rattle.valuation.specs.declared.search_options.SearchOptions.{SearchOptions}
+use Rattle.valuation.specs.declared.search.options.SearchOptions.{SearchOptions}
 use Rattle.canon.specs.Canonical.{canonical_auction, file_from}
 use Rattle.canon.specs.Normalising.{Normalised, IsNoFile, ExceedsSteps, IsText, Normalises}
 use Rattle.canon.specs.declared.canon_fault.CanonFault.{CanonFault}
-use Rattle.canon.specs.declared.named.NamedFile.{NamedFile}
+use Rattle.canon.specs.declared.normal.named.NamedFile.{NamedFile}
 use Rattle.canon.specs.declared.canon_fault.CanonFault.TheVariants.{Read, StepLimit, Memory}
 
 -- why there is no text

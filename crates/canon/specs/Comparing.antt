@@ -5,7 +5,7 @@ use Rattle.bid_file.specs.Files.{PlainFile}
 use Rattle.cats_text.specs.Grammar.{Spells}
 use Rattle.valuation.specs.Auctions.{auction_from, or_atoms_of}
 use Rattle.prune.specs.SearchSteps.{first_refused}
-use Rattle.valuation.specs.declared.search_options.SearchOptions.{SearchOptions}
+use Rattle.valuation.specs.declared.search.options.SearchOptions.{SearchOptions}
 use Rattle.canon.specs.Answers.{IsNormalFile, RefusesText}
 use Rattle.canon.specs.Difference.{Difference, first_difference}
 use Rattle.canon.specs.Verdicts.{NamesGoods, plain_verdict}

@@ -16,7 +16,7 @@ use Rattle.canon.specs.Canonical.{canonical_text}
 use Rattle.canon.specs.Normalising.{IsText, normalised_file}
 use Rattle.canon.specs.Refusals.{refusal_of}
 use Rattle.canon.specs.declared.canon_fault.CanonFault.{CanonFault}
-use Rattle.valuation.specs.declared.search_options.SearchOptions.{SearchOptions}
+use Rattle.valuation.specs.declared.search.options.SearchOptions.{SearchOptions}
 
 -- the number, counted from 0, of the first of the files that is in the relation to the given one
 pub record IsFirstNumber (Related : PlainFile → PlainFile → Type 0) (files : List PlainFile) (given : PlainFile)

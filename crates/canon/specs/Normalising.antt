@@ -6,7 +6,7 @@ use Rattle.cats_text.specs.Grammar.{Spells}
 use Rattle.cats_text.specs.declared.read_fault.ReadFault.{ReadFault}
 use Rattle.valuation.specs.Auctions.{or_atoms_of}
 use Rattle.prune.specs.SearchSteps.{first_refused}
-use Rattle.valuation.specs.declared.search_options.SearchOptions.{SearchOptions}
+use Rattle.valuation.specs.declared.search.options.SearchOptions.{SearchOptions}
 use Rattle.canon.specs.Canonical.{canonical_file, canonical_text}
 use Rattle.canon.specs.Sameness.{AreSameFiles}
 

@@ -5,7 +5,7 @@ use Rattle.std.specs.Ordering.{is_eq}
 use Rattle.std.specs.declared.cmp.Ordering.TheVariants.{Less}
 use Rattle.goods_set.specs.Orders.{bundle_cmp}
 use Rattle.valuation.specs.declared.atom.Atom.{Atom}
-use Rattle.canon.specs.declared.price_walk.PriceChange.{PriceChange}
+use Rattle.canon.specs.declared.comparing.price_walk.PriceChange.{PriceChange}
 
 -- a bundle, and the price on it on the left and on the right, if there is a bid
 pub record PlainChange : Type 0 where

@@ -1,5 +1,7 @@
 //! `AuctionIndex`: the first file of each auction, among added files.
 
+mod unsearched;
+
 ghost use Rattle.std.specs.Prelude.{◌≡◌, ℕ, List, cond, unwrap_or, bytes_eq, Some, IfOk, IfErr, OnOk, OnErr, false};
 ghost use Rattle.cats_text.specs.Streams.{has_ended, has_failed};
 ghost use Rattle.canon.specs.Answers.{RefusesAs};
@@ -9,16 +11,17 @@ ghost use Rattle.canon.specs.Normalising.{IsText, normalised_file};
 ghost use Rattle.canon.specs.Unsearched.{unsearched_text};
 ghost use Rattle.canon.specs.Internal.TextNumbers.{number_of};
 
+use crate::auction_index::unsearched::unsearched_file;
 use crate::canon_fault::CanonFault;
-use crate::named::named_normal_file;
-use crate::unsearched::unsearched_file;
+use crate::normal::named_normal_file;
 use bid_file::PackedFile;
-use cats_text::{Watched, read_packed_from, write};
+use cats_text::packed::read_packed_from;
+use cats_text::{Watched, write};
 use std::alloc::{AllocError, Global};
 use std::collections::BTreeMap;
 use std::io::Read;
 use std::marker::Model;
-use valuation::SearchOptions;
+use valuation::search::SearchOptions;
 
 /// The auctions of the files that were added. It keeps one text for each auction, in order, so no texts can be made that
 /// take long to find. It keeps no file.

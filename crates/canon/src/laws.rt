@@ -4,8 +4,8 @@ ghost use Rattle.std.specs.Prelude.{◌≡◌, ◌↔◌, ℕ, List, [], ◌∷�
 ghost use Rattle.bid_file.specs.Files.{PlainBid, PlainFile, IsPlainFile};
 ghost use Rattle.valuation.specs.Auctions.{PlainAuction, IsAuction, auction_from};
 ghost use Rattle.prune.specs.SearchSteps.{first_heavy, first_refused, greatest_price, is_heavy, search_steps_by};
-ghost use Rattle.valuation.specs.declared.search_kind.SearchKind.{SearchKind};
-ghost use Rattle.valuation.specs.declared.search_options.SearchOptions.{SearchOptions};
+ghost use Rattle.valuation.specs.declared.search.kind.SearchKind.{SearchKind};
+ghost use Rattle.valuation.specs.declared.search.options.SearchOptions.{SearchOptions};
 ghost use Rattle.canon.specs.Canonical.{IsCanonical, IsCanonicalFile, canonical_auction, canonical_text, file_from};
 ghost use Rattle.canon.specs.FirstNumbers.{AddsText, IsEmptyIndex, IsFirstNumber, IsIndexOf, TextIndex, first_number};
 ghost use Rattle.canon.specs.Normalising.{IsNormalised, IsText, Normalised, Normalises, SpellsCanonicalFile};

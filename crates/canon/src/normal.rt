@@ -1,5 +1,13 @@
 //! The canonical file of a file.
 
+mod atom_order;
+pub(crate) mod auction;
+mod explained;
+pub(crate) mod file;
+mod keyed_bidder;
+mod named;
+pub(crate) mod text;
+
 ghost use Rattle.std.specs.Prelude.{◌≡◌, ◌≤◌, true, None, IfOk, IfErr, OnOk};
 ghost use Rattle.bid_file.specs.Views.{plain_file};
 ghost use Rattle.valuation.specs.SearchLimits.{plain_options};
@@ -13,16 +21,19 @@ ghost use Rattle.canon.specs.Internal.KeyedBidders.{kept_numbers};
 ghost use Rattle.canon.specs.Least.{IsLeastFor};
 ghost use Rattle.canon.specs.Sameness.{AreSameFiles};
 
-use crate::auction::{NamedAuction, named_canonical};
 use crate::canon_fault::CanonFault;
-use crate::file::packed_file_of;
-use crate::named::NamedFile;
+use crate::normal::auction::{NamedAuction, named_canonical};
+use crate::normal::file::packed_file_of;
 use bid_file::{BidFile, PackedFile, pack};
-use goods_set::{GoodsSet, goods_of};
+pub use explained::{BidderFates, explained_normal_file};
+use goods_set::GoodsSet;
+use goods_set::listing::goods_of;
+pub use named::{NamedFile, named_normal_file};
 use prune::PruneFault;
 use std::alloc::Global;
 use std::mem;
-use valuation::{Auction, SearchOptions, auction_of, on_set_for};
+use valuation::search::SearchOptions;
+use valuation::{Auction, auction_of, on_set_for};
 
 /// The canonical file of a file: the file of its canonical auction. `limit` bounds each plain search that decides on a
 /// bundle of the OR bidder.

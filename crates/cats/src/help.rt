@@ -1,7 +1,7 @@
 //! What `--help` prints: of the program and of each command a line and a text, which says what is printed, and has an
 //! example and the statuses. The texts of arguments are the program's, but for those in which a command differs.
 
-use command_line::CommandHelp;
+use command_line::help::CommandHelp;
 
 /// What the option says of a subcommand that always uses the bounded search.
 const TOTAL_STEPS: &str =

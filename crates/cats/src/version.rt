@@ -1,6 +1,6 @@
 //! What `cats --version` prints after the program's name.
 
-use command_line::VERSION;
+use command_line::help::VERSION;
 use std::alloc::{AllocError, Global};
 
 /// The logic of the toolchain that proved the program, as `rt version` prints it.

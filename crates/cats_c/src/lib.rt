@@ -22,11 +22,13 @@ use commands::calls::{
     RoundAnswer, Text, TextPair, call, call_on_both, find_fault, give, give_report, give_rounded,
     round_text,
 };
+use commands::command::{Command, Comparison};
+use commands::faults::RunFault;
+use commands::sizes_row::sizes;
 use commands::statuses::TOO_SMALL;
-use commands::{Command, Comparison, RunFault, sizes};
-use rounding::FinePrices;
+use rounding::replacement::FinePrices;
 use std::alloc::Global;
-use valuation::SearchOptions;
+use valuation::search::SearchOptions;
 
 /// The values of `prices`: `CATS_AS_WRITTEN` and `CATS_ROUNDED` of cats.h. Any other one is `CATS_ROUNDED_EXACTLY`.
 const AS_WRITTEN: u8 = 0;

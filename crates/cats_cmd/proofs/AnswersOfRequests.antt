@@ -26,8 +26,8 @@ use Rattle.cats_cmd.specs.RequestErrors.{Reports, line_of_request_error, has_fou
 use Rattle.cats_cmd.specs.RequestErrors.{names_reporting, status_of_request_error}
 use Rattle.cats_cmd.specs.declared.errors.RequestError.{RequestError}
 use Rattle.cats_cmd.specs.declared.errors.RequestError.TheVariants.{CannotOpen, NotOpened, Run}
-use Rattle.commands.specs.declared.run_fault.RunFault.{RunFault}
-use Rattle.commands.specs.declared.run_fault.RunFault.TheVariants.{Refused, Sent}
+use Rattle.commands.specs.declared.faults.RunFault.{RunFault}
+use Rattle.commands.specs.declared.faults.RunFault.TheVariants.{Refused, Sent}
 use Rattle.command_line.specs.PlainRequests.{PlainRequest, OnFile, OnPair, OnFiles, Fault, Round, GivenBids, BidsIn, PlainBids, PlainCommand}
 use Rattle.commands.specs.declared.command.Comparison.{Comparison}
 use Rattle.command_line.specs.declared.request.Prices.{Prices}

@@ -6,7 +6,7 @@ use Rattle.cats_text.specs.declared.stream.Watched.{Watched}
 use Rattle.command_line.specs.PlainRequests.{PlainRequest}
 use Rattle.command_line.specs.declared.request.Prices.{Prices}
 use Rattle.commands.specs.Outcomes.{Outcome}
-use Rattle.commands.specs.declared.run_fault.RunFault.{RunFault}
+use Rattle.commands.specs.declared.faults.RunFault.{RunFault}
 use Rattle.cats_cmd.specs.Inputs.{IsOpened}
 use Rattle.cats_cmd.specs.Internal.Carrying.{RunsAtOrNot, answer_of_run}
 use Rattle.cats_cmd.specs.PricedInputs.{IsPriced, fine_prices}

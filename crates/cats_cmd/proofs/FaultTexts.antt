@@ -7,11 +7,11 @@ use Rattle.std.proofs.lemmas.Bool.{and_parts, cond_both, ltb-true, ne_eqb}
 use Rattle.std.proofs.lemmas.List.{append_assoc, length-append}
 use Rattle.std.proofs.lemmas.List.Elements.{All-append, All-from_recursion, All-nil, All-weaker}
 use Rattle.commands.specs.FaultLines.{line_of_fault, prefix_of, rest_text, text_of_canon_fault, text_of_heavy_bid, text_of_kind, total_text}
-use Rattle.commands.specs.declared.run_fault.HeavyBid.{HeavyBid}
+use Rattle.commands.specs.declared.faults.HeavyBid.{HeavyBid}
 use Rattle.commands.specs.KindNames.{name_of_kind}
 use Rattle.commands.specs.Outputs.{after_commas, bundle_text, number_cell}
-use Rattle.commands.specs.declared.run_fault.RunFault.{RunFault}
-use Rattle.commands.specs.declared.run_fault.RunFault.TheVariants.{Refused, TooHeavy, GoodRange, BidRange, Sent}
+use Rattle.commands.specs.declared.faults.RunFault.{RunFault}
+use Rattle.commands.specs.declared.faults.RunFault.TheVariants.{Refused, TooHeavy, GoodRange, BidRange, Sent}
 use Rattle.canon.specs.declared.canon_fault.CanonFault.{CanonFault}
 use Rattle.canon.specs.declared.canon_fault.CanonFault.TheVariants.{Read, StepLimit, Memory}
 use Rattle.canon.specs.declared.which.Which.{Which}

@@ -10,7 +10,7 @@ use Rattle.std.proofs.lemmas.List.Elements.{All-from_recursion}
 use Rattle.std.proofs.lemmas.Option.{slice_get_within}
 use Rattle.bid_file.specs.Files.{PlainFile, IsPlainFile}
 use Rattle.canon.specs.FirstNumbers.{AddsText, IsEmptyIndex, IsFirstNumber, TextIndex}
-use Rattle.canon.proofs.Comparing.Indexing.{TellsRelated, first_number_stays, index_of_none, index_of_more, number_of_more}
+use Rattle.canon.proofs.TwoFiles.Indexing.{TellsRelated, first_number_stays, index_of_none, index_of_more, number_of_more}
 use Rattle.cats_cmd.specs.DuplicateTexts.{found_paths}
 use Rattle.cats_cmd.specs.Internal.Judging.{KeepsPlaces}
 use Rattle.cats_cmd.specs.Paths.{Judgement}

@@ -4,7 +4,7 @@ use Rattle.std.specs.Global.{Global}
 use Rattle.std.specs.Prelude.{Vec}
 use Rattle.bid_file.specs.Files.{PlainFile, IsPlainFile}
 use Rattle.command_line.specs.declared.request.Prices.{Prices}
-use Rattle.valuation.specs.declared.search_options.SearchOptions.{SearchOptions}
+use Rattle.valuation.specs.declared.search.options.SearchOptions.{SearchOptions}
 use Rattle.cats_text.specs.Faults.{fault_at}
 use Rattle.cats_text.specs.declared.read_fault.Kind.{Kind}
 use Rattle.cats_text.specs.declared.read_fault.Kind.TheVariants.{Memory as NoMemory}
@@ -21,7 +21,7 @@ use Rattle.canon.specs.declared.canon_fault.CanonFault.{CanonFault}
 use Rattle.canon.specs.declared.canon_fault.CanonFault.TheVariants.{Read, StepLimit, Memory}
 use Rattle.canon.specs.declared.which.Which.TheVariants.{Only}
 use Rattle.cats_cmd.specs.DuplicateTexts.{found_paths}
-use Rattle.commands.specs.declared.run_fault.HeavyBid.{HeavyBid}
+use Rattle.commands.specs.declared.faults.HeavyBid.{HeavyBid}
 use Rattle.commands.specs.Naming.{with_bid}
 use Rattle.commands.specs.Outcomes.{exceeds_at, first_bid_on, text_unless_refused}
 use Rattle.cats_cmd.specs.PricedInputs.{IsPriced, PricedGives, PricedRefuses}
@@ -32,14 +32,14 @@ use Rattle.cats_cmd.specs.RequestErrors.{ReportsAll}
 use Rattle.cats_cmd.specs.declared.errors.RequestError.{RequestError}
 use Rattle.cats_cmd.specs.declared.errors.RequestError.TheVariants.{CannotOpen, NotOpened, Run}
 use Rattle.cats_cmd.specs.declared.priced_input.PricedInput.{PricedInput}
-use Rattle.commands.specs.declared.run_fault.RunFault.TheVariants.{Refused}
+use Rattle.commands.specs.declared.faults.RunFault.TheVariants.{Refused}
 use Rattle.cats_cmd.proofs.FindingPlaces.{judgement_more, judgement_skipped, places_more}
 use Rattle.cats_cmd.specs.Duplicates.{files_if_heavy, files_if_judged, heavy_files, heavy_paths, judged_files, judged_paths, paths_if_heavy, paths_if_judged}
 use Rattle.cats_cmd.specs.declared.duplicates.Groups.{Groups}
 use Rattle.canon.specs.Sameness.{AreSameFiles}
 use Rattle.canon.specs.Unsearched.{AreAlike, unsearched_text}
-use Rattle.canon.proofs.Comparing.Alike.{unsearched_texts_tell}
-use Rattle.canon.proofs.Comparing.Indexing.{canonical_texts_tell}
+use Rattle.canon.proofs.TwoFiles.Alike.{unsearched_texts_tell}
+use Rattle.canon.proofs.TwoFiles.Indexing.{canonical_texts_tell}
 use Rattle.cats_cmd.specs.declared.source.Unopened.{Unopened}
 
 -- ---- refused bundles

@@ -11,7 +11,7 @@ use Rattle.std.proofs.lemmas.List.{map-append, take_more, take_all, append_assoc
 use Rattle.std.proofs.lemmas.List.Sums.{fold_push}
 use Rattle.cats_text.specs.declared.stream.Watched.{Watched}
 use Rattle.command_line.specs.declared.request.Prices.{Prices}
-use Rattle.valuation.specs.declared.search_options.SearchOptions.{SearchOptions}
+use Rattle.valuation.specs.declared.search.options.SearchOptions.{SearchOptions}
 use Rattle.cats_cmd.specs.Internal.Judging.{AddsPath, HasJudged, JudgesAllAs}
 use Rattle.cats_cmd.specs.Paths.{is_counted, JudgedPath, Judgement, Judges, Reporting, greatest_status, judgement_at, lines_from, lines_of_path}
 use Rattle.cats_cmd.specs.Paths.{line_removal, progress_line, progress_lines, removal_lines, report_lines, status_of_judgement, without_refusals}

@@ -13,7 +13,7 @@ use Rattle.canon.specs.declared.which.Which.TheVariants.{Only}
 use Rattle.cats_cmd.specs.FileLists.{IsUnread}
 use Rattle.cats_cmd.specs.Inputs.{IsOpened, ReadsBytes}
 use Rattle.cats_cmd.specs.declared.errors.RequestError.TheVariants.{Run}
-use Rattle.commands.specs.declared.run_fault.RunFault.TheVariants.{Refused}
+use Rattle.commands.specs.declared.faults.RunFault.TheVariants.{Refused}
 use Rattle.cats_cmd.specs.PathLists.{ended, parts_in, paths_in, without_empty_end}
 use Rattle.cats_cmd.specs.declared.source.Unopened.{Unopened}
 use Rattle.cats_cmd.proofs.ReadingBytes.{unread_stream}

@@ -12,16 +12,16 @@ use Rattle.rounding.specs.Answers.{IsRounded}
 use Rattle.rounding.specs.Texts.{rounded_text}
 use Rattle.rounding.specs.Views.{plain_change, plain_changes}
 use Rattle.rounding.specs.declared.replacement.FinePrices.{FinePrices}
-use Rattle.rounding.specs.declared.round_text.RoundedPrice.{RoundedPrice}
-use Rattle.rounding.specs.declared.round_text.RoundedText.{RoundedText}
+use Rattle.rounding.specs.declared.text.RoundedPrice.{RoundedPrice}
+use Rattle.rounding.specs.declared.text.RoundedText.{RoundedText}
 use Rattle.cats_cmd.specs.Internal.Roundings.{RoundsText}
 use Rattle.cats_cmd.specs.Inputs.{IsUnreadStream, ReadsAll}
 use Rattle.commands.specs.RoundedLines.{rounded_line}
 use Rattle.cats_cmd.specs.Rounding.{IsUnrounded, Rounds, round_outcome}
 use Rattle.cats_cmd.specs.Runs.{SendsAs}
 use Rattle.cats_cmd.specs.RequestErrors.{Reports, ReportsAll}
-use Rattle.commands.specs.declared.run_fault.RunFault.{RunFault}
-use Rattle.commands.specs.declared.run_fault.RunFault.TheVariants.{Refused, Sent}
+use Rattle.commands.specs.declared.faults.RunFault.{RunFault}
+use Rattle.commands.specs.declared.faults.RunFault.TheVariants.{Refused, Sent}
 use Rattle.cats_cmd.proofs.JudgingPaths.{reports_more}
 use Rattle.cats_cmd.proofs.ReadingBytes.{unread_stream}
 use Rattle.cats_cmd.proofs.Sending.{wrote}

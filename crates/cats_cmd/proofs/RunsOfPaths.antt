@@ -4,15 +4,15 @@ use Rattle.std.specs.Prelude.{IsErrAnd}
 use Rattle.std.proofs.lemmas.List.{take_all}
 use Rattle.cats_text.specs.declared.stream.Watched.{Watched}
 use Rattle.command_line.specs.declared.request.Prices.{Prices}
-use Rattle.valuation.specs.declared.search_options.SearchOptions.{SearchOptions}
+use Rattle.valuation.specs.declared.search.options.SearchOptions.{SearchOptions}
 use Rattle.canon.specs.declared.canon_fault.CanonFault.TheVariants.{Memory}
 use Rattle.canon.specs.declared.which.Which.TheVariants.{Only}
 use Rattle.cats_cmd.specs.Internal.Judging.{HasJudged}
 use Rattle.commands.specs.Outcomes.{Prints}
 use Rattle.cats_cmd.specs.Paths.{BeginsPaths, Judgement, MakesOfPaths, Reporting, RunsOnPaths, judgement_at, outcome_of_paths}
 use Rattle.cats_cmd.specs.Runs.{SendsAs}
-use Rattle.commands.specs.declared.run_fault.RunFault.{RunFault}
-use Rattle.commands.specs.declared.run_fault.RunFault.TheVariants.{Refused, Sent}
+use Rattle.commands.specs.declared.faults.RunFault.{RunFault}
+use Rattle.commands.specs.declared.faults.RunFault.TheVariants.{Refused, Sent}
 use Rattle.cats_cmd.proofs.Sending.{wrote}
 use Rattle.cats_cmd.specs.declared.source.Unopened.{Unopened}
 

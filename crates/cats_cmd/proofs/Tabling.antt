@@ -4,12 +4,12 @@ use Rattle.std.specs.Prelude.{codes, IsSomeAnd}
 use Rattle.std.specs.Option.{MatchOption, option_map}
 use Rattle.std.proofs.lemmas.Grind.{flat_map-append}
 use Rattle.bid_file.specs.Files.{PlainFile}
-use Rattle.valuation.specs.declared.search_options.SearchOptions.{SearchOptions}
+use Rattle.valuation.specs.declared.search.options.SearchOptions.{SearchOptions}
 use Rattle.canon.specs.declared.canon_fault.CanonFault.TheVariants.{Read, StepLimit, Memory}
 use Rattle.canon.specs.declared.which.Which.TheVariants.{Only}
 use Rattle.cats_text.specs.declared.read_fault.ReadFault.{ReadFault}
-use Rattle.commands.specs.declared.run_fault.RunFault.{RunFault}
-use Rattle.commands.specs.declared.run_fault.RunFault.TheVariants.{Refused}
+use Rattle.commands.specs.declared.faults.RunFault.{RunFault}
+use Rattle.commands.specs.declared.faults.RunFault.TheVariants.{Refused}
 use Rattle.commands.specs.SizesRows.{Sized, IsSized, IsTooHeavy, IsUnsized, Sizes, cells, fault_sized, numbers_sized}
 use Rattle.cats_cmd.specs.Paths.{Judgement, IsHeavy, IsJudged, IsUnjudged, JudgesInput, request_error_of}
 use Rattle.cats_cmd.specs.RequestErrors.{line_of_request_error}

@@ -1,10 +1,10 @@
 -- Where prices are read as they are written, none is counted as rounded: neither of a file that was given, nor of one that was refused.
 use Rattle.std.proofs.Common.{◌≡◌, ℕ, List, Option, None, ⊎_elim}
-use Rattle.valuation.specs.declared.search_options.SearchOptions.{SearchOptions}
+use Rattle.valuation.specs.declared.search.options.SearchOptions.{SearchOptions}
 use Rattle.canon.specs.declared.canon_fault.CanonFault.TheVariants.{Read, Memory}
 use Rattle.commands.specs.Commands.{GivesSome}
 use Rattle.commands.specs.Outcomes.{normalise_outcome}
-use Rattle.commands.specs.declared.run_fault.RunFault.TheVariants.{Refused, GoodRange, BidRange}
+use Rattle.commands.specs.declared.faults.RunFault.TheVariants.{Refused, GoodRange, BidRange}
 use Rattle.cats_cmd.specs.Paths.{Judgement, IsHeavy, IsJudged, IsUnjudged, JudgesInput}
 use Rattle.cats_cmd.specs.PricedInputs.{PricedGives, PricedRefuses}
 use Rattle.cats_cmd.specs.declared.errors.RequestError.TheVariants.{Run}

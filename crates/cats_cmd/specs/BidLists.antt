@@ -10,8 +10,8 @@ use Rattle.command_line.specs.PlainRequests.{PlainBids, GivenBids, BidsIn, Plain
 use Rattle.analysis.specs.BidNumbers.{RefusesNumbers, bid_numbers, faulty_line, lines_in}
 use Rattle.analysis.specs.declared.winners.bid_numbers.BidNumbersFault.{BidNumbersFault}
 use Rattle.analysis.specs.declared.winners.bid_numbers.BidNumbersFault.TheVariants.{NotANumber, Memory}
-use Rattle.commands.specs.declared.run_fault.RunFault.{RunFault}
-use Rattle.commands.specs.declared.run_fault.RunFault.TheVariants.{Refused}
+use Rattle.commands.specs.declared.faults.RunFault.{RunFault}
+use Rattle.commands.specs.declared.faults.RunFault.TheVariants.{Refused}
 use Rattle.cats_cmd.specs.FileLists.{IsUnread, ReadsList, RefusesList}
 use Rattle.cats_cmd.specs.declared.errors.RequestError.{RequestError}
 use Rattle.cats_cmd.specs.declared.errors.RequestError.TheVariants.{Run}

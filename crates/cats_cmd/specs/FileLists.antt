@@ -13,8 +13,8 @@ use Rattle.cats_cmd.specs.RequestErrors.{Reports, status_of_request_error}
 use Rattle.cats_cmd.specs.declared.errors.RequestError.{RequestError}
 use Rattle.cats_cmd.specs.declared.errors.RequestError.TheVariants.{CannotOpen, NotOpened, Run}
 use Rattle.cats_cmd.specs.declared.source.Unopened.{Unopened}
-use Rattle.commands.specs.declared.run_fault.RunFault.{RunFault}
-use Rattle.commands.specs.declared.run_fault.RunFault.TheVariants.{Refused, TooHeavy, GoodRange, BidRange, Sent}
+use Rattle.commands.specs.declared.faults.RunFault.{RunFault}
+use Rattle.commands.specs.declared.faults.RunFault.TheVariants.{Refused, TooHeavy, GoodRange, BidRange, Sent}
 
 module _ {F : Type 0} (may_open : List ℕ → F → Type 0) (may_refuse : List ℕ → Unopened → Type 0)
     (remaining : F → Option (List ℕ)) (list : List ℕ) where

@@ -7,8 +7,8 @@ use Rattle.canon.specs.declared.canon_fault.CanonFault.{CanonFault}
 use Rattle.canon.specs.declared.canon_fault.CanonFault.TheVariants.{Read, StepLimit, Memory}
 use Rattle.canon.specs.declared.which.Which.TheVariants.{Only}
 use Rattle.commands.specs.FaultPlaceTexts.{place_text, shown_bytes}
-use Rattle.commands.specs.declared.run_fault.RunFault.{RunFault}
-use Rattle.commands.specs.declared.run_fault.RunFault.TheVariants.{Refused, TooHeavy, GoodRange, BidRange, Sent}
+use Rattle.commands.specs.declared.faults.RunFault.{RunFault}
+use Rattle.commands.specs.declared.faults.RunFault.TheVariants.{Refused, TooHeavy, GoodRange, BidRange, Sent}
 use Rattle.commands.specs.Outcomes.{Outcome, Prints}
 use Rattle.cats_cmd.specs.Escaping.{escaped}
 use Rattle.cats_cmd.specs.Inputs.{ReadsAll, StopsReading, WantsMemoryForBytes}

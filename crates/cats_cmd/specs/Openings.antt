@@ -1,7 +1,7 @@
 -- Which paths a command line opens, each once, and in which order.
 use Rattle.std.specs.Prelude.{◌≡◌, ◌≤◌, ◌⊎◌, ℕ, List, [], ◌∷◌, Option, Some, Result, Ok, Err}
 use Rattle.commands.specs.Statuses.{status_of_fault}
-use Rattle.commands.specs.declared.run_fault.RunFault.{RunFault}
+use Rattle.commands.specs.declared.faults.RunFault.{RunFault}
 use Rattle.command_line.specs.PlainRequests.{PlainRequest, OnFile, OnPair, OnFiles, Fault, Round}
 use Rattle.command_line.specs.PlainRequests.{PlainPaths, Given, ListedIn, PlainBids, BidsIn}
 use Rattle.command_line.specs.Requests.{IsNoRequestOf, request_of}

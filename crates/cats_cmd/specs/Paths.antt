@@ -5,7 +5,7 @@ use Rattle.std.specs.Prelude.{Option, Some, None, Result, Ok, Err, codes, decima
 use Rattle.std.specs.List.{AllByRecursion}
 use Rattle.std.specs.Str.{IsUtf8}
 use Rattle.bid_file.specs.Files.{PlainFile}
-use Rattle.valuation.specs.declared.search_options.SearchOptions.{SearchOptions}
+use Rattle.valuation.specs.declared.search.options.SearchOptions.{SearchOptions}
 use Rattle.cats_text.specs.declared.stream.Watched.{Watched}
 use Rattle.canon.specs.declared.canon_fault.CanonFault.{CanonFault}
 use Rattle.canon.specs.declared.canon_fault.CanonFault.TheVariants.{StepLimit, Memory}
@@ -26,9 +26,9 @@ use Rattle.cats_cmd.specs.declared.errors.RequestError.{RequestError}
 use Rattle.cats_cmd.specs.declared.errors.RequestError.TheVariants.{CannotOpen, NotOpened, Run}
 use Rattle.cats_cmd.specs.declared.source.Unopened.{Unopened}
 use Rattle.cats_cmd.specs.declared.source.Unopened.TheVariants.{Other}
-use Rattle.commands.specs.declared.run_fault.HeavyBid.{HeavyBid}
-use Rattle.commands.specs.declared.run_fault.RunFault.{RunFault}
-use Rattle.commands.specs.declared.run_fault.RunFault.TheVariants.{Refused, TooHeavy, GoodRange, BidRange, Sent}
+use Rattle.commands.specs.declared.faults.HeavyBid.{HeavyBid}
+use Rattle.commands.specs.declared.faults.RunFault.{RunFault}
+use Rattle.commands.specs.declared.faults.RunFault.TheVariants.{Refused, TooHeavy, GoodRange, BidRange, Sent}
 
 -- what became of the file at a path
 pub data Judgement : Type 0 where

@@ -10,7 +10,7 @@ use crate::source::Source;
 use analysis::winners::{BidNumbersFault, read_bid_numbers};
 use canon::CanonFault;
 use cats_text::{Kind, ReadFault};
-use commands::RunFault;
+use commands::faults::RunFault;
 use std::alloc::AllocGlobal;
 
 /// Reads the numbers of bids in the file at this path.

@@ -8,9 +8,9 @@ use crate::lines::{report, report_pieces};
 use crate::source::Unopened;
 use canon::Which;
 use cats_text::Watched;
-use commands::printed::fault_pieces;
+use commands::faults::RunFault;
+use commands::printed::{fault_line, fault_pieces, status};
 use commands::statuses::DEVICE_FAILED;
-use commands::{RunFault, fault_line, status};
 use std::alloc::{AllocError, Global};
 use std::io::Write;
 

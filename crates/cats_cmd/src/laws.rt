@@ -36,7 +36,7 @@ ghost use Rattle.cats_cmd.specs.declared.paths.Ending.TheVariants.{Line};
 ghost use Rattle.cats_cmd.specs.declared.paths.Progress.TheVariants.{Silent};
 ghost use Rattle.cats_cmd.specs.declared.errors.RequestError.{RequestError};
 ghost use Rattle.command_line.specs.declared.request.Prices.TheVariants.{AsWritten};
-ghost use Rattle.valuation.specs.declared.search_options.SearchOptions.{SearchOptions};
+ghost use Rattle.valuation.specs.declared.search.options.SearchOptions.{SearchOptions};
 
 use commands::Input;
 use std::io::Read;

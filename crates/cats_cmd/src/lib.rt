@@ -17,12 +17,12 @@ mod one_file;
 mod path_list;
 mod paths;
 mod priced_input;
-mod program;
+pub mod program;
 mod requests;
 mod round;
 mod run;
 mod sizes;
-mod source;
+pub mod source;
 #[cfg(test)]
 mod tests;
 mod two_files;
@@ -30,9 +30,8 @@ mod usage;
 pub mod worked;
 
 pub use canon::{CanonFault, Which};
-pub use commands::statuses::{NO_MEMORY, WRONG_USAGE};
-pub use commands::{RunFault, fault_line, status};
+pub use commands::faults::RunFault;
+pub use commands::printed::{fault_line, status};
 pub use one_file::{run_check, run_normalise, run_show, run_value};
-pub use program::{Process, run_cats, run_program};
-pub use source::{Source, SystemFiles, Unopened};
+pub use program::run_cats;
 pub use two_files::run_compare;

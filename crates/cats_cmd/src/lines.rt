@@ -9,7 +9,8 @@ ghost use Rattle.cats_cmd.specs.Escaping.{escaped, escaped_byte};
 ghost use Rattle.cats_cmd.specs.RequestErrors.{Reports};
 
 use crate::escaping::{hex_escape, plain_run};
-use cats_text::{PRICE_SIZE, Watched, send, write_price};
+use cats_text::price::{PRICE_SIZE, write_price};
+use cats_text::{Watched, send};
 use commands::printed::Piece;
 use itoa::Buffer;
 use std::io::Write;

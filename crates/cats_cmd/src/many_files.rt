@@ -23,7 +23,7 @@ use crate::source::Source;
 use canon::CanonFault;
 use cats_text::Watched;
 use command_line::request::{FilePaths, FilesCommand, FilesRequest};
-use commands::RunFault;
+use commands::faults::RunFault;
 use std::alloc::AllocGlobal;
 use std::io::Write;
 

@@ -6,8 +6,8 @@ ghost use Rattle.command_line.specs.PlainRequests.{plain_command};
 ghost use Rattle.commands.specs.Outcomes.{outcome_of};
 
 use command_line::request::{FileCommand, Limits, PairCommand};
-use commands::{Command, Comparison};
-use valuation::SearchOptions;
+use commands::command::{Command, Comparison};
+use valuation::search::SearchOptions;
 
 /// A command on one file, on the bids of these numbers if it names some.
 pub(crate) fn command_of<'a>(command: &'a FileCommand<'_>, bids: &'a [u32]) -> Command<'a>

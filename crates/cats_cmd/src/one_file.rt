@@ -9,10 +9,12 @@ ghost use Rattle.valuation.specs.SearchLimits.{plain_options};
 use crate::run::send_answer;
 use canon::Which;
 use cats_text::Watched;
-use commands::{Command, Input, RunFault};
+use commands::Input;
+use commands::command::Command;
+use commands::faults::RunFault;
 use std::alloc::Global;
 use std::io::Write;
-use valuation::SearchOptions;
+use valuation::search::SearchOptions;
 
 /// Judges a bid file, and sends how many goods, bids and dummy goods it has. No bid is kept.
 pub fn run_check<I: Input, W: Write>(

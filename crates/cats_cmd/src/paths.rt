@@ -23,11 +23,12 @@ use crate::run::send_text;
 use crate::source::{Source, Unopened};
 use cats_text::Watched;
 use command_line::request::Prices;
+use commands::Input;
+use commands::faults::RunFault;
 use commands::statuses::DONE;
-use commands::{Input, RunFault};
 use std::alloc::{AllocError, AllocGlobal, Global};
 use std::io::Write;
-use valuation::SearchOptions;
+use valuation::search::SearchOptions;
 
 /// How a run on many files reads them, reports and prints.
 #[derive(Clone, Copy)]

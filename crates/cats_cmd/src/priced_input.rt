@@ -9,10 +9,12 @@ ghost use Rattle.cats_cmd.specs.RequestErrors.{Reports, ReportsAll};
 use crate::bytes::read_bytes;
 use crate::lines::{report, report_escaped, report_number};
 use bid_file::PackedFile;
-use cats_text::{Header, Kind, ReadFault, Watched, check, read_packed};
+use cats_text::packed::{Header, check, read_packed};
+use cats_text::{Kind, ReadFault, Watched};
 use command_line::request::Prices;
 use commands::Input;
-use rounding::{FinePrices, round_prices};
+use rounding::replacement::FinePrices;
+use rounding::text::round_prices;
 use std::alloc::{AllocError, Global};
 use std::io::{Read, Write};
 

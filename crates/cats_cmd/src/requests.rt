@@ -29,8 +29,8 @@ use cats_text::Watched;
 use command_line::request::{
     FileCommand, FileRequest, FilesCommand, FilesRequest, NamedBids, PairRequest, Request,
 };
-use commands::RunFault;
-use rounding::FinePrices;
+use commands::faults::RunFault;
+use rounding::replacement::FinePrices;
 use std::alloc::AllocGlobal;
 use std::io::Write;
 

@@ -13,10 +13,11 @@ use crate::lines::report_pieces;
 use crate::run::send_text;
 use canon::CanonFault;
 use cats_text::Watched;
-use commands::RunFault;
+use commands::faults::RunFault;
 use commands::printed::price_pieces;
 use commands::statuses::DONE;
-use rounding::{FinePrices, RoundedPrice, RoundedText, round};
+use rounding::replacement::FinePrices;
+use rounding::text::{RoundedPrice, RoundedText, round};
 use std::alloc::Global;
 use std::io::{Read, Write};
 

@@ -5,8 +5,10 @@ ghost use Rattle.cats_text.specs.Streams.{has_failed};
 ghost use Rattle.cats_cmd.specs.Runs.{SendsAnswer, SendsAs};
 
 use canon::{CanonFault, Which};
-use cats_text::{Watched, send, send_file};
-use commands::{Answer, Output, RunFault};
+use cats_text::packed::send_file;
+use cats_text::{Watched, send};
+use commands::answer::{Answer, Output};
+use commands::faults::RunFault;
 use std::alloc::{AllocError, Global};
 use std::io::Write;
 

@@ -10,7 +10,8 @@ use crate::escaping::{push_end, push_path};
 use crate::paths::{Collection, Ending, ManyFiles};
 use crate::source::Unopened;
 use cats_text::Watched;
-use commands::{Input, NO_NUMBERS, push_numbers};
+use commands::Input;
+use commands::sizes_row::{NO_NUMBERS, push_numbers};
 use std::alloc::{AllocError, Global};
 use std::io::Write;
 

@@ -8,10 +8,12 @@ ghost use Rattle.valuation.specs.SearchLimits.{plain_options};
 use crate::run::send_answer;
 use canon::Which;
 use cats_text::Watched;
-use commands::{Comparison, Input, RunFault};
+use commands::Input;
+use commands::command::Comparison;
+use commands::faults::RunFault;
 use std::alloc::Global;
 use std::io::Write;
-use valuation::SearchOptions;
+use valuation::search::SearchOptions;
 
 /// Reads and normalises the first file, and then the second, and sends whether they are the same auction, or their
 /// first difference. `limit` bounds the steps of each plain search that decides on a bundle of an OR bidder.

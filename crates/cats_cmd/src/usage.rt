@@ -6,8 +6,7 @@ ghost use Rattle.command_line.specs.Requests.{IsNoRequestOf, texts_of};
 ghost use Rattle.cats_cmd.specs.Requests.{misuse_text};
 
 use crate::escaping::escaped;
-use command_line::parse;
-use command_line::request::{Misuse, NoRequest};
+use command_line::request::{Misuse, NoRequest, parse};
 use std::alloc::{AllocError, Global};
 
 /// What is answered in place of this answer to words that are no request: the same, but what `clap` prints of them is

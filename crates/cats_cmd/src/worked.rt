@@ -30,7 +30,7 @@ ghost use Rattle.cats_cmd.specs.declared.source.Unopened.TheVariants.{NoSuchFile
 ghost use Rattle.cats_cmd.specs.declared.source.Unopened.TheVariants.{Other};
 ghost use Rattle.canon.specs.declared.which.Which.TheVariants.{Only, First};
 ghost use Rattle.canon.specs.declared.canon_fault.CanonFault.TheVariants.{Read, Memory};
-ghost use Rattle.commands.specs.declared.run_fault.RunFault.TheVariants.{Refused, Sent};
+ghost use Rattle.commands.specs.declared.faults.RunFault.TheVariants.{Refused, Sent};
 
 /// The line of a file that cannot be opened: of the only one, of the first of two, and of one of many.
 pub fn unopened_lines()

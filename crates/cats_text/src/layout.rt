@@ -24,7 +24,8 @@ ghost use Rattle.cats_text.specs.Layout.{layout, header_text, headers_text, bid_
 ghost use Rattle.cats_text.specs.declared.layout.TheConstants.{NUMBER_AND_PRICE, GOOD, DUMMY, LONGEST_LINE};
 
 use crate::price::write_price;
-use bid_file::{Bids, MAX_GOODS};
+use bid_file::Bids;
+use bid_file::limits::MAX_GOODS;
 use itoa::{Buffer, write_digits};
 use std::alloc::{AllocError, Global};
 

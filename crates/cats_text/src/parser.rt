@@ -28,7 +28,7 @@ use crate::keep::Keep;
 use crate::price::price_of;
 use crate::read_fault::Kind;
 use crate::word::{Keyword, Word};
-use bid_file::{MAX_BIDS, MAX_DUMMY, MAX_GOODS};
+use bid_file::limits::{MAX_BIDS, MAX_DUMMY, MAX_GOODS};
 use std::alloc::{AllocError, Global};
 
 /// Which significant line it is.

@@ -7,7 +7,7 @@ ghost use Rattle.cats_text.specs.Internal.Keywords.{place_value_of};
 ghost use Rattle.cats_text.specs.Internal.Parsing.{price_parts};
 
 use crate::read_fault::Kind;
-use bid_file::MAX_PRICE;
+use bid_file::limits::MAX_PRICE;
 use itoa::{Buffer, write_digits};
 use std::alloc::AllocError;
 
@@ -16,7 +16,7 @@ const MILLION: u64 = 1_000_000;
 
 /// Digits, a point, and perhaps digits.
 #[derive(Clone, Copy, PartialEq, Eq)]
-pub struct Decimal {
+pub(crate) struct Decimal {
     /// The digits before the point, held like any number.
     pub whole: u64,
     /// The first six digits behind it, in millionths.
@@ -47,7 +47,7 @@ impl Decimal {
     ghost use Rattle.cats_text.specs.Internal.Machine.{decimal_with};
 
     /// The decimal with one more digit.
-    pub fn with(self, digit: u8) -> Decimal
+    pub(crate) fn with(self, digit: u8) -> Decimal
         requires { digit ≤ 9 }
         ensures { result ≡ decimal_with self digit }
     {
@@ -69,7 +69,7 @@ impl Decimal {
 }
 
 /// A price of so many whole units and millionths, and perhaps finer places.
-pub fn price_of(whole: u64, millionths: u64, fine: bool) -> Result<u64, Kind>
+pub(crate) fn price_of(whole: u64, millionths: u64, fine: bool) -> Result<u64, Kind>
     ensures { result ≡ price_parts whole millionths fine }
 {
     let greatest = MAX_PRICE / MILLION;

@@ -1,4 +1,8 @@
-//! What `--help` prints of a command beside what `clap` makes of its arguments. The texts themselves come from the caller.
+//! The version, and what `--help` prints of a command beside what `clap` makes of its arguments. The texts themselves come
+//! from the caller.
+
+/// The version of the program.
+pub const VERSION: &str = "0.1.0";
 
 /// The help of the program, or of a subcommand.
 #[derive(Clone, Copy)]

@@ -3,15 +3,10 @@
 
 mod commands;
 mod goods;
-mod help;
+pub mod help;
 pub mod laws;
 mod parser;
 pub mod request;
 #[cfg(test)]
 mod tests;
-mod version;
 pub mod worked;
-
-pub use help::CommandHelp;
-pub use parser::parse;
-pub use version::VERSION;

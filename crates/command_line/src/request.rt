@@ -1,5 +1,7 @@
 //! `Request` and `NoRequest`: what a command line means.
 
+pub use crate::parser::parse;
+
 /// What the program has to do: the subcommand of a command line, with the words and numbers after it.
 #[derive(Debug, Drop)]
 pub enum Request<'a> {

@@ -8,7 +8,7 @@ use Rattle.std.proofs.lemmas.List.Sums.{passes_at_first}
 use Rattle.std.specs.Cmp.Lexicographic.{pointwise}
 use Rattle.bid_file.specs.Files.{PlainBid, PlainFile}
 use Rattle.valuation.specs.declared.atom.Atom.{Atom}
-use Rattle.valuation.specs.declared.search_options.SearchOptions.{SearchOptions}
+use Rattle.valuation.specs.declared.search.options.SearchOptions.{SearchOptions}
 use Rattle.valuation.specs.Auctions.{atom_of, or_atoms_of}
 use Rattle.valuation.specs.Lemmas.Lists.{Contains-unmap}
 use Rattle.valuation.specs.SearchLimits.{next_steps, options_after}

@@ -4,8 +4,8 @@ use Rattle.std.proofs.lemmas.Result.{IfOk-weaker}
 use Rattle.std.specs.Prelude.{ℕ, List}
 use Rattle.bid_file.specs.Files.{PlainFile, IsPlainFile}
 use Rattle.cats_text.specs.declared.read_fault.ReadFault.{ReadFault}
-use Rattle.valuation.specs.declared.search_options.SearchOptions.{SearchOptions}
-use Rattle.canon.proofs.Comparing.SameDifferences.{difference_of_same_files}
+use Rattle.valuation.specs.declared.search.options.SearchOptions.{SearchOptions}
+use Rattle.canon.proofs.TwoFiles.SameDifferences.{difference_of_same_files}
 use Rattle.canon.proofs.CanonicalAuctions.Sames.{same_sym}
 use Rattle.canon.proofs.CanonicalFiles.Texts.{canonical_file_is_same, IsPlainFile-canonical}
 use Rattle.canon.specs.Canonical.{canonical_file}
@@ -14,7 +14,7 @@ use Rattle.canon.specs.declared.canon_fault.CanonFault.TheVariants.{Memory}
 use Rattle.canon.specs.declared.which.Which.{Which}
 use Rattle.canon.specs.declared.which.Which.TheVariants.{First, Second, Both}
 use Rattle.commands.specs.Internal.ComparedFiles.{PrintsDifferences}
-use Rattle.commands.specs.declared.run_fault.RunFault.{RunFault}
+use Rattle.commands.specs.declared.faults.RunFault.{RunFault}
 use Rattle.commands.specs.declared.printed.sides.ComparedFile.{ComparedFile}
 use Rattle.commands.specs.Commands.{GivesWithin, ReadsCanonical, text_of}
 use Rattle.commands.specs.Internal.Pairs.{of_file}

@@ -17,15 +17,15 @@ use Rattle.cats_text.specs.declared.read_fault.Kind.{Kind}
 use Rattle.cats_text.specs.declared.read_fault.Kind.TheVariants.{Memory as NoMemory}
 use Rattle.cats_text.specs.declared.read_fault.ReadFault.{ReadFault}
 use Rattle.valuation.specs.Auctions.{is_dummy, or_atoms_of}
-use Rattle.valuation.specs.declared.search_options.SearchOptions.{SearchOptions}
+use Rattle.valuation.specs.declared.search.options.SearchOptions.{SearchOptions}
 use Rattle.prune.specs.SearchSteps.{first_refused}
 use Rattle.canon.specs.Canonical.{canonical_file, canonical_text}
 use Rattle.canon.specs.Refusals.{refusal_by_kind, refusal_of}
 use Rattle.canon.specs.declared.canon_fault.CanonFault.TheVariants.{StepLimit, Memory}
 use Rattle.canon.specs.declared.which.Which.TheVariants.{Only}
-use Rattle.commands.specs.declared.run_fault.HeavyBid.{HeavyBid}
-use Rattle.commands.specs.declared.run_fault.RunFault.{RunFault}
-use Rattle.commands.specs.declared.run_fault.RunFault.TheVariants.{Refused}
+use Rattle.commands.specs.declared.faults.HeavyBid.{HeavyBid}
+use Rattle.commands.specs.declared.faults.RunFault.{RunFault}
+use Rattle.commands.specs.declared.faults.RunFault.TheVariants.{Refused}
 use Rattle.commands.specs.Naming.{with_bid}
 use Rattle.commands.specs.Outcomes.{exceeds_at, first_bid_on, text_unless_refused}
 use Rattle.commands.proofs.ByNumber.{by_number-same, by_number-set}

@@ -8,7 +8,7 @@ use Rattle.cats_text.specs.Faults.{first_fault}
 use Rattle.cats_text.specs.FileLines.{spelled_file}
 use Rattle.cats_text.proofs.Spelling.Files.{spells_from_no_fault, says_spelled}
 use Rattle.valuation.specs.Auctions.{auction_from, or_atoms_of}
-use Rattle.valuation.specs.declared.search_options.SearchOptions.{SearchOptions}
+use Rattle.valuation.specs.declared.search.options.SearchOptions.{SearchOptions}
 use Rattle.prune.specs.SearchSteps.{first_refused}
 use Rattle.canon.specs.Canonical.{canonical_file}
 use Rattle.canon.specs.Comparing.{SpellsWithinLimit}

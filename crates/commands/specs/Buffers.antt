@@ -5,8 +5,8 @@ use Rattle.canon.specs.declared.canon_fault.CanonFault.TheVariants.{Memory}
 use Rattle.canon.specs.declared.which.Which.TheVariants.{Only}
 use Rattle.commands.specs.FaultLines.{line_of_fault}
 use Rattle.commands.specs.Statuses.{status_of_fault}
-use Rattle.commands.specs.declared.run_fault.RunFault.{RunFault}
-use Rattle.commands.specs.declared.run_fault.RunFault.TheVariants.{Refused}
+use Rattle.commands.specs.declared.faults.RunFault.{RunFault}
+use Rattle.commands.specs.declared.faults.RunFault.TheVariants.{Refused}
 use Rattle.commands.specs.declared.answer.Answer.{Answer}
 use Rattle.commands.specs.declared.answer.Output.{Output}
 use Rattle.commands.specs.declared.answer.Output.TheVariants.{Text, File}

@@ -3,9 +3,9 @@ use Rattle.bid_file.specs.Files.{PlainFile}
 use Rattle.canon.specs.declared.canon_fault.CanonFault.{CanonFault}
 use Rattle.canon.specs.declared.canon_fault.CanonFault.TheVariants.{StepLimit}
 use Rattle.canon.specs.declared.which.Which.{Which}
-use Rattle.valuation.specs.declared.search_options.SearchOptions.{SearchOptions}
-use Rattle.commands.specs.declared.run_fault.RunFault.{RunFault}
-use Rattle.commands.specs.declared.run_fault.RunFault.TheVariants.{Refused, TooHeavy}
+use Rattle.valuation.specs.declared.search.options.SearchOptions.{SearchOptions}
+use Rattle.commands.specs.declared.faults.RunFault.{RunFault}
+use Rattle.commands.specs.declared.faults.RunFault.TheVariants.{Refused, TooHeavy}
 use Rattle.commands.specs.Outcomes.{first_bid_on}
 
 abbrev pub with_bid : Which → PlainFile → SearchOptions → CanonFault → RunFault

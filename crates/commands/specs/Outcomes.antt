@@ -9,7 +9,7 @@ use Rattle.valuation.specs.Auctions.{or_atoms_of, auction_from}
 use Rattle.valuation.specs.Packings.{count_packings}
 use Rattle.valuation.specs.SearchLimits.{bounded_options, is_one_over}
 use Rattle.valuation.specs.ValueSearches.{value_steps}
-use Rattle.valuation.specs.declared.search_options.SearchOptions.{SearchOptions}
+use Rattle.valuation.specs.declared.search.options.SearchOptions.{SearchOptions}
 use Rattle.prune.specs.SearchSteps.{first_refused}
 use Rattle.canon.specs.Canonical.{canonical_text}
 use Rattle.canon.specs.Difference.{Difference, first_difference}

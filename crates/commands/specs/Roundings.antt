@@ -12,7 +12,7 @@ use Rattle.rounding.specs.Answers.{WantsMemoryToRound}
 use Rattle.rounding.specs.Texts.{PlainChange, rounded_prices, rounded_text}
 use Rattle.rounding.specs.declared.replacement.FinePrices.{FinePrices}
 use Rattle.commands.specs.RoundedLines.{rounded_line}
-use Rattle.commands.specs.declared.run_fault.RunFault.{RunFault}
+use Rattle.commands.specs.declared.faults.RunFault.{RunFault}
 use Rattle.commands.specs.Buffers.{GivesFault, GivesText, PutsInto, RefusesBy}
 use Rattle.commands.specs.OneText.{OfOnly}
 use Rattle.commands.specs.declared.statuses.TheConstants.{TOO_SMALL}

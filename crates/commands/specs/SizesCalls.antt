@@ -1,12 +1,12 @@
 -- What the call on the sizes of a text answers. It is the row of its file in the table of `cats sizes`.
 use Rattle.std.specs.Prelude.{◌≡◌, ℕ, List, Option}
 use Rattle.cats_text.specs.Grammar.{Spells}
-use Rattle.valuation.specs.declared.search_options.SearchOptions.{SearchOptions}
+use Rattle.valuation.specs.declared.search.options.SearchOptions.{SearchOptions}
 use Rattle.canon.specs.declared.canon_fault.CanonFault.TheVariants.{Memory}
 use Rattle.canon.specs.declared.which.Which.TheVariants.{Only}
 use Rattle.rounding.specs.declared.replacement.FinePrices.{FinePrices}
-use Rattle.commands.specs.declared.run_fault.RunFault.{RunFault}
-use Rattle.commands.specs.declared.run_fault.RunFault.TheVariants.{Refused}
+use Rattle.commands.specs.declared.faults.RunFault.{RunFault}
+use Rattle.commands.specs.declared.faults.RunFault.TheVariants.{Refused}
 use Rattle.commands.specs.SizesRows.{PrintsRow}
 use Rattle.commands.specs.Buffers.{Calls}
 use Rattle.commands.specs.Refusals.{RefusesText, text_read}

@@ -9,7 +9,7 @@ use Rattle.cats_text.specs.Faults.{fault_at}
 use Rattle.cats_text.specs.declared.read_fault.Kind.TheVariants.{Memory as NoMemory}
 use Rattle.cats_text.specs.declared.read_fault.ReadFault.{ReadFault}
 use Rattle.valuation.specs.Auctions.{is_dummy, or_atoms_of}
-use Rattle.valuation.specs.declared.search_options.SearchOptions.{SearchOptions}
+use Rattle.valuation.specs.declared.search.options.SearchOptions.{SearchOptions}
 use Rattle.prune.specs.SearchSteps.{first_refused}
 use Rattle.canon.specs.Canonical.{canonical_file}
 use Rattle.canon.specs.declared.canon_fault.CanonFault.{CanonFault}
@@ -18,9 +18,9 @@ use Rattle.canon.specs.declared.which.Which.TheVariants.{Only}
 use Rattle.commands.specs.FaultLines.{line_of_fault}
 use Rattle.commands.specs.Outputs.{number_cell}
 use Rattle.commands.specs.Statuses.{status_of_fault}
-use Rattle.commands.specs.declared.run_fault.HeavyBid.{HeavyBid}
-use Rattle.commands.specs.declared.run_fault.RunFault.{RunFault}
-use Rattle.commands.specs.declared.run_fault.RunFault.TheVariants.{Refused, TooHeavy}
+use Rattle.commands.specs.declared.faults.HeavyBid.{HeavyBid}
+use Rattle.commands.specs.declared.faults.RunFault.{RunFault}
+use Rattle.commands.specs.declared.faults.RunFault.TheVariants.{Refused, TooHeavy}
 use Rattle.commands.specs.Commands.{outcome_of_heavy_bid, text_of}
 use Rattle.commands.specs.Outcomes.{naming_outcome}
 use Rattle.commands.specs.declared.answer.Answer.{Answer}

@@ -3,7 +3,7 @@
 use Rattle.std.specs.Prelude.{◌≡◌, ℕ, List, Option}
 use Rattle.bid_file.specs.Files.{PlainFile}
 use Rattle.valuation.specs.Auctions.{auction_from}
-use Rattle.valuation.specs.declared.search_options.SearchOptions.{SearchOptions}
+use Rattle.valuation.specs.declared.search.options.SearchOptions.{SearchOptions}
 use Rattle.canon.specs.Canonical.{canonical_file}
 use Rattle.canon.specs.Comparing.{SpellsWithinLimit}
 use Rattle.canon.specs.declared.canon_fault.CanonFault.TheVariants.{Memory}
@@ -12,8 +12,8 @@ use Rattle.rounding.specs.declared.replacement.FinePrices.{FinePrices}
 use Rattle.analysis.specs.Differences.{AreAllDifferences, PlainDifferences}
 use Rattle.commands.specs.declared.command.Comparison.{Comparison}
 use Rattle.commands.specs.declared.command.Comparison.TheVariants.{Compare, Diff}
-use Rattle.commands.specs.declared.run_fault.RunFault.{RunFault}
-use Rattle.commands.specs.declared.run_fault.RunFault.TheVariants.{Refused, TooHeavy}
+use Rattle.commands.specs.declared.faults.RunFault.{RunFault}
+use Rattle.commands.specs.declared.faults.RunFault.TheVariants.{Refused, TooHeavy}
 use Rattle.commands.specs.Commands.{outcome_of_heavy_bid}
 use Rattle.commands.specs.Outcomes.{Outcome, Prints, compare_outcome, diff_outcome, naming_outcome, normalise_outcome}
 use Rattle.commands.specs.Buffers.{Calls}

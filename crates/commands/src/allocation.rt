@@ -4,8 +4,8 @@ ghost use Rattle.commands.specs.Commands.{Commands};
 ghost use Rattle.commands.specs.Outcomes.{revenue_outcome};
 
 use crate::answer::{Answer, Output};
+use crate::faults::RunFault;
 use crate::input::Input;
-use crate::run_fault::RunFault;
 use analysis::winners::{allocation_status, allocation_text, judge_allocation};
 use canon::CanonFault;
 use std::alloc::Global;

@@ -14,16 +14,18 @@ ghost use Rattle.commands.specs.Internal.Values.{MakesAs};
 ghost use Rattle.commands.specs.ValueTexts.{bundle_from};
 
 use crate::answer::{Answer, Output, done};
+use crate::faults::RunFault;
 use crate::input::Input;
-use crate::run_fault::RunFault;
 use bid_file::PackedFile;
 use bundles::bundle_of;
 use canon::CanonFault;
-use goods_set::{GoodsSet, goods_of};
+use goods_set::GoodsSet;
+use goods_set::listing::goods_of;
 use lines::{push_or_line, push_xor_lines};
 use numbers::bid_numbers;
 use std::alloc::Global;
-use valuation::{Auction, Packing, SearchOptions, ValueFault, auction_of, on_set_for, or_value_by};
+use valuation::search::{SearchOptions, or_value_by};
+use valuation::{Auction, Packing, ValueFault, auction_of, on_set_for};
 
 /// What the bidders of a file offer for the bundle of these goods: the OR value with the bids of one best packing, and each
 /// XOR bidder's value with the bid that gives it. The first of the goods that the file does not have is refused once the

@@ -7,12 +7,12 @@ ghost use Rattle.commands.specs.Pairs.{CommandsOnBoth};
 use crate::allocation::revenue;
 use crate::answer::Answer;
 use crate::bundle_value::value;
+use crate::faults::RunFault;
 use crate::input::Input;
 use crate::one_file::{check, explain, lp, normalise, show};
-use crate::run_fault::RunFault;
 use crate::two_files::{compare, diff};
 use std::alloc::Global;
-use valuation::SearchOptions;
+use valuation::search::SearchOptions;
 
 /// A command on one bid file, with what it needs beside the file.
 #[derive(Clone, Copy)]

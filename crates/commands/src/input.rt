@@ -6,7 +6,8 @@ ghost use Rattle.cats_text.specs.declared.read_fault.Kind.TheVariants.{Memory};
 ghost use Rattle.commands.specs.Inputs.{ChecksAs, ReadsAs, StreamGives, StreamRefuses};
 
 use bid_file::PackedFile;
-use cats_text::{Header, ReadFault, Watched, check_from, read_packed_from};
+use cats_text::packed::{Header, check_from, read_packed_from};
+use cats_text::{ReadFault, Watched};
 use std::alloc::Global;
 use std::io::Read;
 

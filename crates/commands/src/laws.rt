@@ -4,7 +4,7 @@ ghost use Rattle.std.specs.Prelude.{◌≡◌, ◌<◌, ℕ, List, Some, length,
 ghost use Rattle.bid_file.specs.Files.{IsPlainFile, PlainFile};
 ghost use Rattle.cats_text.specs.Grammar.{Spells};
 ghost use Rattle.valuation.specs.Auctions.{or_atoms_of};
-ghost use Rattle.valuation.specs.declared.search_options.SearchOptions.{SearchOptions};
+ghost use Rattle.valuation.specs.declared.search.options.SearchOptions.{SearchOptions};
 ghost use Rattle.prune.specs.SearchSteps.{first_refused};
 ghost use Rattle.canon.specs.Sameness.{AreSameTexts};
 ghost use Rattle.rounding.specs.declared.replacement.FinePrices.{FinePrices};

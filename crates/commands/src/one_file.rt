@@ -8,16 +8,16 @@ ghost use Rattle.commands.specs.Outcomes.{check_outcome, explain_outcome, lp_out
 ghost use Rattle.valuation.specs.SearchLimits.{bounded_options};
 
 use crate::answer::{Answer, Output, done};
-use crate::heavy_bid::name_bid;
+use crate::faults::{RunFault, name_bid};
 use crate::input::Input;
 use crate::printed::{explanation_text, sizes_line};
-use crate::run_fault::RunFault;
 use analysis::winners::lp_text;
 use bid_file::PackedFile;
-use canon::{CanonFault, Which, normal_packed_file};
-use cats_text::Header;
+use canon::normal::normal_packed_file;
+use canon::{CanonFault, Which};
+use cats_text::packed::Header;
 use std::alloc::Global;
-use valuation::SearchOptions;
+use valuation::search::SearchOptions;
 
 /// The sizes of a bid file: how many goods, bids and dummy goods it has. No bid is kept.
 pub(crate) fn check<I: Input>(alloc: Global, input: &mut I) -> Result<Answer, RunFault>

@@ -6,14 +6,14 @@ ghost use Rattle.std.specs.Prelude.{IfOk};
 ghost use Rattle.commands.specs.SizesRows.{AnswersRow, PutsNumbers};
 
 use crate::answer::{Answer, Output, done};
-use crate::heavy_bid::name_bid;
+use crate::faults::{RunFault, name_bid};
 use crate::input::Input;
 use crate::printed::{fault_line, status};
-use crate::run_fault::RunFault;
-use canon::{CanonFault, Which, named_normal_file};
+use canon::normal::named_normal_file;
+use canon::{CanonFault, Which};
 use count::{push_counts, push_sizes};
 use std::alloc::{AllocError, Global};
-use valuation::SearchOptions;
+use valuation::search::SearchOptions;
 
 /// The empty cells of the numbers of a file that was not read.
 pub const NO_NUMBERS: &str = "\t\t\t\t\t\t\t\t";

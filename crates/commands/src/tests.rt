@@ -1,11 +1,15 @@
 //! Answers of `sizes` and of the commands on two files, and the bid that a fault names. Each command has runs in `cats_cmd`.
 
-use crate::{Answer, Command, Comparison, Output, RunFault, fault_line, sizes};
+use crate::answer::{Answer, Output};
+use crate::command::{Command, Comparison};
+use crate::faults::RunFault;
+use crate::printed::fault_line;
+use crate::sizes_row::sizes;
 use cats_text::{Watched, write};
 use std::alloc::{AllocError, Global};
 use std::process::Abort;
 use std::test::Fail;
-use valuation::SearchOptions;
+use valuation::search::SearchOptions;
 
 /// A bid of the OR bidder, and two of an XOR bidder.
 static LADDER: &[u8] = b"goods 2\nbids 3\ndummy 1\n1 1.50 1 #\n0 5 0 2 #\n2 6 1 0 2 #\n";

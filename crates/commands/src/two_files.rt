@@ -10,15 +10,15 @@ ghost use Rattle.commands.specs.Outcomes.{Prints, compare_outcome};
 ghost use Rattle.commands.specs.Pairs.{Compares, Diffs};
 
 use crate::answer::{Answer, Output};
-use crate::heavy_bid::name_bid;
+use crate::faults::{RunFault, name_bid};
 use crate::input::Input;
 use crate::one_file::read_canonical;
 use crate::printed::{ComparedFile, differences_text, verdict_status, verdict_text};
-use crate::run_fault::RunFault;
 use bid_file::PackedFile;
-use canon::{CanonFault, Which, compare_files, named_normal_file};
+use canon::normal::named_normal_file;
+use canon::{CanonFault, Which, compare_files};
 use std::alloc::{AllocError, Global};
-use valuation::SearchOptions;
+use valuation::search::SearchOptions;
 
 /// Whether two files are the same auction, or their first difference. Each file has a total of steps of its own. Memory that
 /// is refused while the two are compared belongs to both.

@@ -1,7 +1,7 @@
 -- The goods of sets, and the indices of masks.
 use Rattle.std.specs.Prelude.{ℕ, ◌*◌, List, length}
 use Rattle.goods_set.specs.declared.list_set.ListSet.{ListSet}
-use Rattle.goods_set.specs.declared.long_mask.LongMask.{LongMask}
+use Rattle.goods_set.specs.declared.mask.long.LongMask.{LongMask}
 use Rattle.goods_set.specs.declared.word_set.WordSet.{WordSet}
 use Rattle.goods_set.specs.Words.{word_goods, word_cap}
 

@@ -11,7 +11,7 @@ macro_rules! on_least_mask {
             257..=512 => $call::<$first, $crate::WordSet<8>>($($argument),*),
             513..=1024 => $call::<$first, $crate::WordSet<16>>($($argument),*),
             1025..=4096 => $call::<$first, $crate::WordSet<64>>($($argument),*),
-            _ => $call::<$first, $crate::LongMask>($($argument),*),
+            _ => $call::<$first, $crate::mask::LongMask>($($argument),*),
         }
     };
     ($count:expr, $call:ident($($argument:expr),*)) => {
@@ -22,7 +22,7 @@ macro_rules! on_least_mask {
             257..=512 => $call::<$crate::WordSet<8>>($($argument),*),
             513..=1024 => $call::<$crate::WordSet<16>>($($argument),*),
             1025..=4096 => $call::<$crate::WordSet<64>>($($argument),*),
-            _ => $call::<$crate::LongMask>($($argument),*),
+            _ => $call::<$crate::mask::LongMask>($($argument),*),
         }
     };
 }

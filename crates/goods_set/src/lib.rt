@@ -5,18 +5,14 @@
 pub mod laws;
 mod least;
 mod list_set;
-mod listing;
-mod long_mask;
-mod mask;
+pub mod listing;
+pub mod mask;
 mod set;
 mod sort_keys;
 mod word_set;
 pub mod worked;
 
 pub use list_set::ListSet;
-pub use listing::{goods_of, rising_goods};
-pub use long_mask::LongMask;
-pub use mask::Mask;
 pub use set::GoodsSet;
 pub use sort_keys::sort_key;
 pub use word_set::WordSet;

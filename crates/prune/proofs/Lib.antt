@@ -9,6 +9,6 @@ pub mod Results
 pub mod Refusals
 pub mod Prefixes
 pub mod PruningLoop
-pub mod Fates
+pub mod NotedFates
 pub mod WorkedPostings
 pub mod SearchedIndices

@@ -13,8 +13,8 @@ use Rattle.goods_set.specs.Lemmas.Orders.{bundle_cmp_strict}
 use Rattle.goods_set.specs.Lemmas.AllBundles.{all_bundles_has, all_bundles_sorted}
 use Rattle.goods_set.specs.Lemmas.Sorted.{same_from_contains}
 use Rattle.valuation.specs.declared.atom.Atom.{Atom}
-use Rattle.valuation.specs.declared.search_kind.SearchKind.{SearchKind}
-use Rattle.valuation.specs.declared.search_options.SearchOptions.{SearchOptions}
+use Rattle.valuation.specs.declared.search.kind.SearchKind.{SearchKind}
+use Rattle.valuation.specs.declared.search.options.SearchOptions.{SearchOptions}
 use Rattle.valuation.specs.Auctions.{IsAtom}
 use Rattle.valuation.specs.Values.{or_value}
 use Rattle.valuation.specs.Searches.{bound_of}

@@ -5,8 +5,8 @@ use Rattle.std.specs.Prelude.{ℕ, nat_le, if◌then◌else◌, Option, Some, No
 use Rattle.std.specs.Global.{Vec}
 use Rattle.std.specs.List.{filter, find, range_with_len}
 use Rattle.valuation.specs.declared.atom.Atom.{Atom}
-use Rattle.valuation.specs.declared.search_kind.SearchKind.{SearchKind}
-use Rattle.valuation.specs.declared.search_kind.SearchKind.TheVariants.{Plain, Bounded}
+use Rattle.valuation.specs.declared.search.kind.SearchKind.{SearchKind}
+use Rattle.valuation.specs.declared.search.kind.SearchKind.TheVariants.{Plain, Bounded}
 use Rattle.valuation.specs.Packings.{atom_at}
 use Rattle.valuation.specs.SearchSteps.{found_indices}
 use Rattle.valuation.specs.Values.{or_value}

@@ -3,7 +3,8 @@
 ghost use Rattle.std.specs.Prelude.{◌≡◌, ◌<◌, true, length};
 ghost use Rattle.goods_set.specs.Bundles.{has_good};
 
-use goods_set::{GoodsSet, rising_goods};
+use goods_set::GoodsSet;
+use goods_set::listing::rising_goods;
 use std::alloc::{AllocError, Global};
 use valuation::Atom;
 

@@ -3,8 +3,8 @@ ghost use Rattle.std.specs.Prelude.{◌≡◌, ℕ, ◌<◌, ◌≤◌, ◌↔�
 ghost use Rattle.goods_set.specs.Bundles.{IsBundle};
 ghost use Rattle.valuation.specs.Auctions.{IsAtom};
 ghost use Rattle.valuation.specs.declared.atom.Atom.{Atom};
-ghost use Rattle.valuation.specs.declared.search_kind.SearchKind.{SearchKind};
-ghost use Rattle.valuation.specs.declared.search_options.SearchOptions.{SearchOptions};
+ghost use Rattle.valuation.specs.declared.search.kind.SearchKind.{SearchKind};
+ghost use Rattle.valuation.specs.declared.search.options.SearchOptions.{SearchOptions};
 ghost use Rattle.valuation.specs.SearchLimits.{plain_options};
 ghost use Rattle.valuation.specs.Packings.{IsPackingFor, count_packings};
 ghost use Rattle.valuation.specs.Tables.{xor_table, or_table, is_nonzero};

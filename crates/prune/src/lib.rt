@@ -3,7 +3,7 @@
 
 mod best;
 mod commonness;
-mod fate_log;
+pub mod fates;
 mod fingerprints;
 pub mod laws;
 mod or;
@@ -15,7 +15,6 @@ mod subset_index;
 pub mod worked;
 mod xor;
 
-pub use fate_log::FateLog;
-pub use or::{prune_or, prune_or_by};
+pub use or::prune_or;
 pub use prune_fault::PruneFault;
-pub use xor::{prune_xor, prune_xor_noting};
+pub use xor::prune_xor;

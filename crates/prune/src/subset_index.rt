@@ -27,7 +27,8 @@ ghost use Rattle.valuation.specs.Packings.{atom_at};
 
 use crate::commonness::{goods_counts, rarest};
 use crate::fingerprints::{fingerprint, may_be_subset};
-use goods_set::{GoodsSet, rising_goods};
+use goods_set::GoodsSet;
+use goods_set::listing::rising_goods;
 use std::alloc::{AllocError, Global};
 use valuation::Atom;
 

@@ -1,6 +1,6 @@
 //! Worked examples of the definitions, which the check computes.
 ghost use Rattle.std.specs.Prelude.{◌≡◌, ◌+◌, ◌^◌, [], ◌∷◌, length, true, false, Some, None, Ok};
-ghost use Rattle.valuation.specs.declared.search_kind.SearchKind.TheVariants.{Plain, Bounded};
+ghost use Rattle.valuation.specs.declared.search.kind.SearchKind.TheVariants.{Plain, Bounded};
 ghost use Rattle.valuation.specs.Examples.{atom};
 ghost use Rattle.valuation.specs.SearchLimits.{plain_options};
 ghost use Rattle.prune.specs.declared.subset_index.Posting.{Posting};

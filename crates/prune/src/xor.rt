@@ -26,7 +26,7 @@ ghost use Rattle.prune.specs.Internal.Listings.{dominates, first_dominating_inde
 ghost use Rattle.prune.specs.Points.{xor_points};
 
 use crate::best::keep_best_bids;
-use crate::fate_log::FateLog;
+use crate::fates::FateLog;
 use crate::prefix::move_to_prefix;
 use crate::subset_index::SubsetIndex;
 use goods_set::GoodsSet;

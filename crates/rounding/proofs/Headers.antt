@@ -10,8 +10,8 @@ use Rattle.cats_text.specs.declared.read_fault.ReadFault.{ReadFault}
 use Rattle.rounding.specs.Answers.{IsRounded, RoundAnswer, SpellsRounded}
 use Rattle.rounding.specs.Views.{plain_changes}
 use Rattle.rounding.specs.declared.replacement.FinePrices.{FinePrices}
-use Rattle.rounding.specs.declared.round_text.RoundedPrice.{RoundedPrice}
-use Rattle.rounding.specs.declared.round_text.RoundedText.{RoundedText}
+use Rattle.rounding.specs.declared.text.RoundedPrice.{RoundedPrice}
+use Rattle.rounding.specs.declared.text.RoundedText.{RoundedText}
 use Rattle.rounding.proofs.FileLines.{header_stays, header_unchanged}
 
 module _ (fine : FinePrices) (text : List ℕ) (none : has_bid_line text ≡ false) where

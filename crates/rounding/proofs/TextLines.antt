@@ -13,7 +13,7 @@ use Rattle.rounding.specs.Texts.{rounded_lines}
 use Rattle.rounding.specs.Texts.{rounded_line, lines_text, line_text, lines_changes, line_changes, change_by, PlainChange, is_bid_line, before_next}
 use Rattle.rounding.specs.Texts.{is_significant_line}
 use Rattle.rounding.specs.Views.{plain_change, plain_changes}
-use Rattle.rounding.specs.declared.round_text.RoundedPrice.{RoundedPrice}
+use Rattle.rounding.specs.declared.text.RoundedPrice.{RoundedPrice}
 use Rattle.rounding.specs.Internal.RawTexts.{first_line, behind_line, has_line_end}
 use Rattle.rounding.specs.declared.replacement.FinePrices.{FinePrices}
 use Rattle.rounding.specs.declared.replacement.Replacement.{Replacement}

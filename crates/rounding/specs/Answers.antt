@@ -8,7 +8,7 @@ use Rattle.cats_text.specs.declared.read_fault.Kind.TheVariants.{Memory as NoMem
 use Rattle.rounding.specs.Texts.{rounded_text, rounded_prices}
 use Rattle.rounding.specs.Views.{plain_changes}
 use Rattle.rounding.specs.declared.replacement.FinePrices.{FinePrices}
-use Rattle.rounding.specs.declared.round_text.RoundedText.{RoundedText}
+use Rattle.rounding.specs.declared.text.RoundedText.{RoundedText}
 
 -- the rounded text, which spells a file, and the prices that were rounded
 pub record IsRounded (fine : FinePrices) (text : List ℕ) (r : RoundedText) : Type 0 where

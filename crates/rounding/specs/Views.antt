@@ -1,7 +1,7 @@
 -- Rounded prices, wherever their words lie in memory.
 use Rattle.std.specs.Prelude.{List, map}
 use Rattle.rounding.specs.Texts.{PlainChange}
-use Rattle.rounding.specs.declared.round_text.RoundedPrice.{RoundedPrice}
+use Rattle.rounding.specs.declared.text.RoundedPrice.{RoundedPrice}
 
 abbrev pub plain_change : RoundedPrice → PlainChange
 plain_change p = record { line = p.line; word = p.word.items; price = p.price }

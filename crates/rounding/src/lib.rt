@@ -6,10 +6,7 @@ mod decimal;
 mod digits;
 pub mod laws;
 mod line;
-mod replacement;
-mod round_text;
+pub mod replacement;
+pub mod text;
 mod value;
 pub mod worked;
-
-pub use replacement::{FinePrices, Replacement, replacement_of};
-pub use round_text::{RoundedPrice, RoundedText, round, round_prices};

@@ -8,7 +8,7 @@ ghost use Rattle.rounding.specs.Replacements.{replacement};
 use crate::decimal::{is_decimal, places, whole_part};
 use crate::digits::{has_place, held_number, is_number};
 use crate::value::value_of;
-use bid_file::MAX_PRICE;
+use bid_file::limits::MAX_PRICE;
 
 /// What becomes of a decimal that is no whole number of millionths.
 #[derive(Clone, Copy, PartialEq, Eq, Debug, Drop)]

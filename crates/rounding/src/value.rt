@@ -11,7 +11,7 @@ ghost use Rattle.rounding.specs.declared.replacement.FinePrices.TheVariants.{Rou
 use crate::decimal::{exponent, has_minus, places, significand, whole_part, without_sign};
 use crate::digits::{Rest, held_number, rest_after};
 use crate::replacement::Replacement;
-use bid_file::MAX_PRICE;
+use bid_file::limits::MAX_PRICE;
 
 /// The bound at which whole millionths are held.
 const HELD: u64 = MAX_PRICE + 1;

@@ -11,7 +11,8 @@ mod streams;
 mod whole_files;
 
 use bid_file::BidFile;
-use cats_text::{Kind, MAX_STREAM, ReadFault, Reader, read, read_packed, write};
+use cats_text::packed::read_packed;
+use cats_text::{Kind, MAX_STREAM, ReadFault, Reader, read, write};
 use std::alloc::{AllocError, Global};
 use std::process::Abort;
 use std::test::Fail;

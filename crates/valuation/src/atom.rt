@@ -3,7 +3,7 @@ ghost use Rattle.std.specs.Prelude.{◌↔◌, IsTrue};
 ghost use Rattle.valuation.specs.Auctions.{IsAtom};
 ghost use Rattle.valuation.specs.Values.{plain_atom};
 
-use bid_file::MAX_PRICE;
+use bid_file::limits::MAX_PRICE;
 use goods_set::GoodsSet;
 
 /// An atomic bid: it offers its price for every bundle that contains its own.

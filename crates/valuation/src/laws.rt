@@ -10,7 +10,7 @@ ghost use Rattle.valuation.specs.Packings.{atoms_at, price_sum, count_packings, 
 ghost use Rattle.valuation.specs.Bounds.{price_bound, rate_bound, IsOnGoods};
 ghost use Rattle.valuation.specs.SearchSteps.{cut_steps, found_indices};
 ghost use Rattle.valuation.specs.ValueSearches.{value_steps};
-ghost use Rattle.valuation.specs.declared.search_kind.SearchKind.{SearchKind};
+ghost use Rattle.valuation.specs.declared.search.kind.SearchKind.{SearchKind};
 ghost use Rattle.valuation.specs.Orders.{atom_cmp, bidder_cmp};
 ghost use Rattle.valuation.specs.Sorting.{sort_by};
 ghost use Rattle.valuation.specs.Auctions.{IsAuction, auction_from};

@@ -1,7 +1,7 @@
 //! Worked examples of the definitions, which the check computes.
 ghost use Rattle.std.specs.Prelude.{◌≡◌, [], ◌∷◌, true, false, Ok, Some};
 ghost use Rattle.std.specs.declared.cmp.Ordering.TheVariants.{Less, Equal, Greater};
-ghost use Rattle.valuation.specs.declared.search_kind.SearchKind.TheVariants.{Plain, Bounded};
+ghost use Rattle.valuation.specs.declared.search.kind.SearchKind.TheVariants.{Plain, Bounded};
 ghost use Rattle.valuation.specs.Examples.{atom};
 ghost use Rattle.valuation.specs.Values.{xor_value, or_value, chosen_indices};
 ghost use Rattle.valuation.specs.Internal.BestSearch.{numbers_at};

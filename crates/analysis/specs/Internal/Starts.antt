@@ -3,7 +3,7 @@ use Rattle.std.specs.Prelude.{◌≡◌, ℕ, ◌≤◌, List, length, slice_ind
 use Rattle.bid_file.specs.Files.{PlainFile, IsPlainFile}
 use Rattle.canon.specs.Canonical.{canonical_file}
 use Rattle.canon.specs.Renaming.{kept_dummies}
-use Rattle.canon.specs.declared.named.NamedFile.{NamedFile}
+use Rattle.canon.specs.declared.normal.named.NamedFile.{NamedFile}
 use Rattle.analysis.specs.Reasons.{kept_bid}
 
 -- the canonical file of the file, and for each of its dummy goods that of the same bidder in the file

@@ -6,7 +6,7 @@ use Rattle.std.specs.Ordering.{is_eq}
 use Rattle.bid_file.specs.Files.{PlainFile, IsPlainFile}
 use Rattle.bid_file.specs.Views.{seen_bid}
 use Rattle.valuation.specs.declared.atom.Atom.{Atom}
-use Rattle.valuation.specs.declared.search_kind.SearchKind.TheVariants.{Bounded}
+use Rattle.valuation.specs.declared.search.kind.SearchKind.TheVariants.{Bounded}
 use Rattle.valuation.specs.Auctions.{atom_of, or_atoms_of, xor_atoms_of}
 use Rattle.prune.specs.Fates.{or_fate, or_fates, plain_fate, xor_fate, xor_fates}
 use Rattle.analysis.specs.Bids.{bid_at, bidder_of, is_best, IsBestFor}

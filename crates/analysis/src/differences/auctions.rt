@@ -10,7 +10,7 @@ ghost use Rattle.analysis.specs.Views.{plain_differences};
 use crate::differences::bidder_changes::bidder_changes;
 use crate::differences::change::Differences;
 use bid_file::Bids;
-use canon::{FileBidders, price_changes};
+use canon::comparing::{FileBidders, price_changes};
 use std::alloc::{AllocError, Global};
 
 /// All differences of the auctions of two canonical files, of bids that lie in memory in any way. No bid is copied: the

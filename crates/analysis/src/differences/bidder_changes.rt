@@ -14,7 +14,7 @@ use crate::differences::change::BidderChange;
 use crate::differences::excess::excess_bidders;
 use crate::differences::partners::Partners;
 use bid_file::Bids;
-use canon::{BidRun, price_changes};
+use canon::comparing::{BidRun, price_changes};
 use std::alloc::{AllocError, Global};
 
 /// The bidders that one list has more often than the other.

@@ -1,6 +1,6 @@
 //! What differs between two auctions.
 
-use canon::PriceChange;
+use canon::comparing::PriceChange;
 
 /// An XOR bidder that one canonical file has more often than the other, or two such bidders, one of each file, that are
 /// shown beside each other.

@@ -9,7 +9,7 @@ ghost use Rattle.analysis.specs.BidderChanges.{bidder_at, excess_bidders};
 ghost use Rattle.analysis.specs.Internal.Orders.{NeverFall};
 
 use bid_file::Bids;
-use canon::BidRun;
+use canon::comparing::BidRun;
 use std::alloc::{AllocError, Global};
 
 /// The indices of the bidders that are more often among these than among the others. Of equal bidders the first ones are

@@ -9,7 +9,7 @@ ghost use Rattle.analysis.specs.BidderChanges.{bidders_on};
 ghost use Rattle.analysis.specs.Internal.Holders.{found_at, holders_at, is_on, passed_in, waits_at};
 
 use bid_file::Bids;
-use canon::BidRun;
+use canon::comparing::BidRun;
 use std::alloc::{AllocError, Global};
 use std::collections::BTreeMap;
 

@@ -6,7 +6,7 @@ ghost use Rattle.analysis.specs.Internal.Partners.{rarer_candidate};
 
 use crate::differences::holders::{Candidate, Holders, holders_of, waits};
 use bid_file::Bids;
-use canon::BidRun;
+use canon::comparing::BidRun;
 use std::alloc::{AllocError, Global};
 use std::collections::BTreeMap;
 

@@ -10,12 +10,13 @@ mod rows;
 
 use crate::differences::{BidderChange, Differences, all_differences};
 use bid_file::PackedFile;
-use canon::{PriceChange, normal_packed_file};
-use cats_text::read_packed;
+use canon::comparing::PriceChange;
+use canon::normal::normal_packed_file;
+use cats_text::packed::read_packed;
 use std::alloc::{AllocError, Global};
 use std::process::Abort;
 use std::test::Fail;
-use valuation::SearchOptions;
+use valuation::search::SearchOptions;
 
 /// A step limit that no search of these files reaches.
 const AMPLE: u64 = 1_000_000;

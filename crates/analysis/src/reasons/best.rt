@@ -7,7 +7,7 @@ ghost use Rattle.analysis.specs.Bids.{IsBestFor, bid_at, bidder_of};
 ghost use Rattle.analysis.specs.BidOrders.{AreInOrder, AreNumbered, HasBid, key_cmp, numbered_cmp};
 
 use bid_file::{BidRef, Bids, PackedFile};
-use canon::order_of_bundles;
+use canon::comparing::order_of_bundles;
 use std::alloc::{AllocError, Global};
 use std::cmp::Ordering;
 

@@ -13,9 +13,10 @@ use crate::reasons::reason::Reason;
 use crate::reasons::starts::starts_of;
 use crate::reasons::walk::{Known, all_reasons};
 use bid_file::PackedFile;
-use canon::{CanonFault, explained_normal_file};
+use canon::CanonFault;
+use canon::normal::explained_normal_file;
 use std::alloc::Global;
-use valuation::SearchOptions;
+use valuation::search::SearchOptions;
 
 /// For each bid of a file, in the order of numbers, why it is in the canonical file or is not, by bounded searches.
 /// `limit` bounds the steps of each search that decides on a bundle of the OR bidder, and `total` those of all together,

@@ -4,7 +4,7 @@ ghost use Rattle.std.specs.Prelude.{IfOk};
 ghost use Rattle.analysis.specs.Internal.Starts.{AreStarts, IsNamed};
 
 use bid_file::{Bids, PackedFile};
-use canon::NamedFile;
+use canon::normal::NamedFile;
 use std::alloc::{AllocError, Global};
 
 /// Of each dummy good of a file, where the bids of its bidder begin in the canonical file, and 0 if it has none there.

@@ -3,12 +3,13 @@
 mod family;
 
 use crate::reasons::{Reason, explain};
-use canon::{CanonFault, normal_packed_file};
-use cats_text::read_packed;
+use canon::CanonFault;
+use canon::normal::normal_packed_file;
+use cats_text::packed::read_packed;
 use std::alloc::Global;
 use std::process::Abort;
 use std::test::Fail;
-use valuation::SearchOptions;
+use valuation::search::SearchOptions;
 
 /// Steps enough for these files.
 const LIMIT: u64 = 1_000;

@@ -11,7 +11,7 @@ ghost use Rattle.analysis.specs.declared.reasons.best.NumberedBid.{NumberedBid};
 use crate::reasons::best::{NumberedBid, order_of_keys};
 use crate::reasons::reason::Reason;
 use bid_file::{Bids, PackedFile};
-use canon::BidderFates;
+use canon::normal::BidderFates;
 use std::alloc::{AllocError, Global};
 
 /// What is known of a file's bids.

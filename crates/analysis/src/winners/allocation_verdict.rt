@@ -4,7 +4,7 @@ ghost use Rattle.std.specs.Prelude.{◌≡◌, ◌++◌, IfOk, OnOk, decimal};
 ghost use Rattle.analysis.specs.AllocationVerdicts.{allocation_status, allocation_text, pair_text};
 
 use crate::winners::lp::push_numbered;
-use cats_text::push_price;
+use cats_text::price::push_price;
 use std::alloc::{AllocError, Global};
 
 /// The bids are an allocation.

@@ -9,7 +9,7 @@ ghost use Rattle.analysis.specs.LpTexts.{binary_line, lp_rows, lp_text, price_te
 
 use crate::winners::bids_by_good::bids_by_good;
 use bid_file::{Bids, PackedFile};
-use cats_text::push_price;
+use cats_text::price::push_price;
 use itoa::Buffer;
 use std::alloc::{AllocError, Global};
 

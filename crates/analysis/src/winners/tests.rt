@@ -4,7 +4,7 @@ use crate::winners::{
     BidNumbersFault, allocation_status, allocation_text, judge_allocation, lp_text,
     read_bid_numbers,
 };
-use cats_text::read_packed;
+use cats_text::packed::read_packed;
 use std::process::Abort;
 use std::test::Fail;
 

@@ -5,8 +5,9 @@ ghost use Rattle.valuation.specs.Auctions.{IsAtom};
 ghost use Rattle.valuation.specs.Values.{plain_atom, atoms_of};
 
 use crate::auction::{Bidder, ListAtom};
-use bid_file::MAX_GOODS;
-use goods_set::{GoodsSet, goods_of};
+use bid_file::limits::MAX_GOODS;
+use goods_set::GoodsSet;
+use goods_set::listing::goods_of;
 use std::alloc::{AllocError, Global};
 use std::process::Abort;
 use valuation::Atom;

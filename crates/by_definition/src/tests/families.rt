@@ -8,11 +8,12 @@ use crate::tests::bids::AMPLE;
 use crate::tests::random::up_to;
 use bid_file::BidFile;
 use canon::{AuctionIndex, CanonFault, Verdict, Which, compare, normalise};
-use cats_text::{read, read_packed};
+use cats_text::packed::read_packed;
+use cats_text::read;
 use std::alloc::{AllocError, Global};
 use std::process::Abort;
 use std::test::Fail;
-use valuation::SearchOptions;
+use valuation::search::SearchOptions;
 
 /// How large the auctions of a family are.
 #[derive(Clone, Copy)]

@@ -3,11 +3,11 @@
 use crate::auction::ListAtom;
 use crate::tests::bids::{AMPLE, PricedGoods, atoms_on, bids_of, push_bid, row_on, singles};
 use goods_set::{GoodsSet, ListSet, WordSet};
-use prune::{FateLog, prune_or_by, prune_xor_noting};
+use prune::fates::{FateLog, prune_or_by, prune_xor_noting};
 use std::alloc::Global;
 use std::process::Abort;
 use std::test::Fail;
-use valuation::SearchOptions;
+use valuation::search::SearchOptions;
 
 // The best bids are on {0}, {1}, {2}, {0, 1}, {1, 2} and {0, 1, 2}. All but the last two are kept.
 const OR_BIDS: &[PricedGoods] = &[

@@ -6,12 +6,13 @@ use crate::tests::bids::{
 };
 use crate::tests::random::next_number;
 use crate::values as slow;
-use bid_file::MAX_PRICE;
+use bid_file::limits::MAX_PRICE;
 use goods_set::{GoodsSet, ListSet, WordSet};
 use std::alloc::{AllocError, Global};
 use std::process::Abort;
 use std::test::Fail;
-use valuation::{Packing, SearchOptions, ValueFault, or_value, or_value_by, xor_value};
+use valuation::search::{SearchOptions, or_value_by};
+use valuation::{Packing, ValueFault, or_value, xor_value};
 
 // Bids and a bundle, and what is found: the value, and the index of the atom that bids it.
 type XorRow = (&'static [PricedGoods], &'static [u16], (u64, Option<usize>));

@@ -11,8 +11,8 @@ use Rattle.std.proofs.lemmas.List.Sorted.{IsPermutation-map}
 use Rattle.bid_file.specs.declared.limits.TheConstants.{MAX_GOODS, MAX_DUMMY}
 use Rattle.goods_set.specs.Lemmas.Members.{AreBelow-higher}
 use Rattle.valuation.specs.declared.atom.Atom.{Atom}
-use Rattle.valuation.specs.declared.search_kind.SearchKind.{SearchKind}
-use Rattle.valuation.specs.declared.search_options.SearchOptions.{SearchOptions}
+use Rattle.valuation.specs.declared.search.kind.SearchKind.{SearchKind}
+use Rattle.valuation.specs.declared.search.options.SearchOptions.{SearchOptions}
 use Rattle.valuation.specs.Auctions.{PlainAuction, IsAtom, IsAuction}
 use Rattle.valuation.specs.Lemmas.Atoms.{length-atoms_of}
 use Rattle.valuation.specs.Bidders.{bidders_of}
@@ -25,7 +25,7 @@ use Rattle.prune.specs.Points.{xor_points, or_points}
 use Rattle.prune.specs.SearchSteps.{first_refused}
 use Rattle.canon.specs.Canonical.{canonical_auction, canonical_bidders}
 use Rattle.canon.specs.Unsearched.{unsearched_auction}
-use Rattle.canon.specs.declared.explained.BidderFates.{BidderFates}
+use Rattle.canon.specs.declared.normal.explained.BidderFates.{BidderFates}
 use Rattle.canon.specs.Internal.Fates.{AreFates}
 use Rattle.canon.specs.Internal.KeyedBidders.{NumberedBidder, numbered_points, numbered_cmp, kept_numbers}
 use Rattle.canon.specs.Lemmas.Renaming.{map-sorted}

@@ -10,7 +10,7 @@ use Rattle.cats_text.specs.declared.read_fault.ReadFault.{ReadFault}
 use Rattle.cats_text.proofs.Writing.Spells as laid_out
 use Rattle.cats_text.proofs.Spelling.Files.{spells_from_no_fault, no_fault_from_spells, spells_one}
 use Rattle.valuation.specs.Auctions.{PlainAuction, IsAuction, or_atoms_of, auction_from}
-use Rattle.valuation.specs.declared.search_options.SearchOptions.{SearchOptions}
+use Rattle.valuation.specs.declared.search.options.SearchOptions.{SearchOptions}
 use Rattle.valuation.specs.Lemmas.AuctionsOfFiles.{IsAuction-auction_from}
 use Rattle.prune.specs.Points.{or_points}
 use Rattle.prune.specs.SearchSteps.{first_refused}

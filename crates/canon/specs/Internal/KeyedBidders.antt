@@ -10,7 +10,7 @@ use Rattle.valuation.specs.Sorting.{sort_by}
 use Rattle.valuation.specs.Tables.{xor_table, is_nonzero}
 use Rattle.valuation.specs.Values.{atoms_of}
 use Rattle.prune.specs.Points.{xor_points}
-use Rattle.canon.specs.declared.keyed_bidder.KeyedBidder.{KeyedBidder}
+use Rattle.canon.specs.declared.normal.keyed_bidder.KeyedBidder.{KeyedBidder}
 
 -- a bidder with its number
 pub record NumberedBidder : Type 0 where

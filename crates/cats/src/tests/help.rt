@@ -1,8 +1,8 @@
 //! The texts of `--help`.
 
 use crate::help::all_help;
-use command_line::request::NoRequest;
-use command_line::{CommandHelp, VERSION, parse};
+use command_line::help::{CommandHelp, VERSION};
+use command_line::request::{NoRequest, parse};
 use std::alloc::{AllocError, Global};
 use std::process::Abort;
 use std::test::Fail;

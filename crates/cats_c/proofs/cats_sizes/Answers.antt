@@ -1,6 +1,6 @@
 -- `cats_sizes`
 use Rattle.std.proofs.Common.{subst}
-use Rattle.valuation.specs.declared.search_options.SearchOptions.{SearchOptions}
+use Rattle.valuation.specs.declared.search.options.SearchOptions.{SearchOptions}
 use Rattle.commands.specs.SizesCalls.{SizesCalls}
 use Rattle.commands.proofs.Given.{given_sizes}
 use Rattle.cats_c.specs.Prices.{fine_of}

@@ -9,7 +9,7 @@ use Rattle.command_line.specs.declared.request.Prices.{Prices}
 use Rattle.command_line.specs.PlainRequests.{PlainFiles}
 use Rattle.command_line.specs.declared.request.FilesCommand.{FilesCommand}
 use Rattle.command_line.specs.declared.request.FilesCommand.TheVariants.{Duplicates, Sizes}
-use Rattle.commands.specs.declared.run_fault.RunFault.{RunFault}
+use Rattle.commands.specs.declared.faults.RunFault.{RunFault}
 use Rattle.cats_cmd.specs.Inputs.{MayRefuse}
 use Rattle.cats_cmd.specs.Opening.{Opens}
 use Rattle.cats_cmd.specs.Requests.{CannotOpenPair, RunsAt, bounded_by, ending_of, progress_of}

@@ -5,7 +5,7 @@ use Rattle.cats_text.specs.declared.stream.Watched.{Watched}
 use Rattle.cats_text.specs.declared.read_fault.ReadFault.{ReadFault}
 use Rattle.bid_file.specs.Files.{PlainFile}
 use Rattle.command_line.specs.declared.request.Prices.{Prices}
-use Rattle.valuation.specs.declared.search_options.SearchOptions.{SearchOptions}
+use Rattle.valuation.specs.declared.search.options.SearchOptions.{SearchOptions}
 use Rattle.canon.specs.FirstNumbers.{IsIndexOf, TextIndex}
 use Rattle.canon.specs.Canonical.{canonical_text}
 use Rattle.canon.specs.Sameness.{AreSameFiles}
@@ -14,7 +14,7 @@ use Rattle.cats_cmd.specs.DuplicateTexts.{found_paths}
 use Rattle.cats_cmd.specs.Duplicates.{FindsPlaces, heavy_files, heavy_paths, judged_files, judged_paths}
 use Rattle.cats_cmd.specs.declared.duplicates.Groups.{Groups}
 use Rattle.cats_cmd.specs.Opening.{Opens, OpensFirst, openable}
-use Rattle.commands.specs.declared.run_fault.HeavyBid.{HeavyBid}
+use Rattle.commands.specs.declared.faults.HeavyBid.{HeavyBid}
 use Rattle.canon.specs.declared.canon_fault.CanonFault.{CanonFault}
 use Rattle.canon.specs.declared.canon_fault.CanonFault.TheVariants.{StepLimit}
 use Rattle.cats_cmd.specs.Paths.{BeginsPaths, IsHeavy, IsUnjudged, JudgedPath, Judgement, JudgesAs, JudgesInput}

@@ -11,7 +11,7 @@ use Rattle.canon.specs.declared.canon_fault.CanonFault.TheVariants.{Read, StepLi
 use Rattle.rounding.specs.Answers.{IsRounded, WantsMemoryToRound}
 use Rattle.rounding.specs.Texts.{rounded_prices, rounded_text}
 use Rattle.rounding.specs.declared.replacement.FinePrices.{FinePrices}
-use Rattle.rounding.specs.declared.round_text.RoundedText.{RoundedText}
+use Rattle.rounding.specs.declared.text.RoundedText.{RoundedText}
 
 abbrev pub RoundsText : FinePrices → List ℕ → Result RoundedText CanonFault → Type 0
 RoundsText fine text (Ok rounded) = IsRounded fine text rounded

@@ -5,11 +5,11 @@ use super::compare::{
 };
 use super::streams::{RunAnswer, answer_of, expect, expect_cut_off, reader, writer};
 use crate::two_files::run_on_pair;
-use commands::Comparison;
+use commands::command::Comparison;
 use std::alloc::Global;
 use std::process::Abort;
 use std::test::Fail;
-use valuation::SearchOptions;
+use valuation::search::SearchOptions;
 
 const STEPS: u64 = 1_000_000;
 

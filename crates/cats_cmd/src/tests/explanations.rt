@@ -3,7 +3,7 @@
 use super::normalise::bids_on_one_good;
 use super::streams::{RunAnswer, answer_of, expect, reader, writer};
 use crate::one_file::run_on_file;
-use commands::Command;
+use commands::command::Command;
 use std::alloc::Global;
 use std::process::Abort;
 use std::test::Fail;

@@ -2,7 +2,7 @@
 
 use super::streams::{RunAnswer, answer_of, expect, reader, writer};
 use crate::one_file::run_on_file;
-use commands::Command;
+use commands::command::Command;
 use std::alloc::Global;
 use std::test::Fail;
 

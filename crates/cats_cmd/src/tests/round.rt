@@ -2,7 +2,7 @@
 
 use super::streams::{RunAnswer, answer_of, expect, reader, text_taken, writer};
 use crate::round::run_round;
-use rounding::FinePrices;
+use rounding::replacement::FinePrices;
 use std::alloc::Global;
 use std::test::Fail;
 

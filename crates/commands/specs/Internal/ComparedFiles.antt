@@ -5,7 +5,7 @@ use Rattle.bid_file.specs.Files.{PlainFile, IsPlainFile}
 use Rattle.valuation.specs.Auctions.{auction_from}
 use Rattle.canon.specs.Canonical.{canonical_file}
 use Rattle.canon.specs.Renaming.{kept_dummies}
-use Rattle.canon.specs.declared.named.NamedFile.{NamedFile}
+use Rattle.canon.specs.declared.normal.named.NamedFile.{NamedFile}
 use Rattle.analysis.specs.Differences.{PlainDifferences, AreAllDifferences}
 use Rattle.commands.specs.DiffTexts.{diff_text}
 use Rattle.commands.specs.Statuses.{status_of_differences}

@@ -2,7 +2,7 @@
 use Rattle.std.specs.Prelude.{◌≡◌, Bool, false, true, ℕ, List, Result, Ok, Err}
 use Rattle.valuation.specs.declared.atom.Atom.{Atom}
 use Rattle.valuation.specs.declared.packing.Packing.{Packing}
-use Rattle.valuation.specs.declared.search_options.SearchOptions.{SearchOptions}
+use Rattle.valuation.specs.declared.search.options.SearchOptions.{SearchOptions}
 use Rattle.valuation.specs.SearchLimits.{is_one_over}
 use Rattle.valuation.specs.ValueSearches.{value_steps}
 use Rattle.valuation.specs.Values.{or_value, chosen_indices}

@@ -10,7 +10,7 @@ ghost use Rattle.commands.specs.ValueTexts.{dummy_line, lists_of, numbers_text, 
 
 use crate::printed::push_number;
 use bid_file::PackedFile;
-use cats_text::push_price;
+use cats_text::price::push_price;
 use goods_set::GoodsSet;
 use itoa::Integer;
 use std::alloc::AllocError;

@@ -5,8 +5,8 @@ ghost use Rattle.commands.specs.Buffers.{Gives, GivesFault, GivesOutput, PutsInt
 
 use crate::answer::{Answer, Output};
 use crate::calls::pieces::put_pieces;
+use crate::faults::RunFault;
 use crate::printed::{fault_pieces, status};
-use crate::run_fault::RunFault;
 use crate::statuses::TOO_SMALL;
 use cats_text::write;
 use std::alloc::{AllocError, Global};

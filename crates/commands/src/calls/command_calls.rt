@@ -7,7 +7,7 @@ ghost use Rattle.commands.specs.TwoTexts.{CallsOnBoth};
 use crate::calls::buffer::give;
 use crate::calls::text::Text;
 use crate::command::{Command, Comparison};
-use rounding::FinePrices;
+use rounding::replacement::FinePrices;
 use std::alloc::Global;
 
 /// Two texts in memory, whose prices are read alike.

@@ -8,10 +8,11 @@ ghost use Rattle.commands.specs.FaultCalls.{AnswersPlace, placed_text};
 
 use crate::answer::{Answer, Output};
 use crate::calls::rounded_text::too_long;
+use crate::faults::RunFault;
 use crate::printed::fault_place_text;
-use crate::run_fault::RunFault;
 use crate::statuses::{DONE, FILE_REFUSED};
-use cats_text::{FaultPlace, MAX_STREAM, place_of_fault};
+use cats_text::MAX_STREAM;
+use cats_text::fault_place::{FaultPlace, place_of_fault};
 use std::alloc::{AllocError, Global};
 
 /// `cats fault` on a text, which has the name `text` there. Of a bid file nothing is printed.

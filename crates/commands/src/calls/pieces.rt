@@ -7,7 +7,7 @@ ghost use Rattle.cats_text.specs.Layout.{price_text};
 ghost use Rattle.commands.specs.Internal.Putting.{PutsFrom};
 
 use crate::printed::Piece;
-use cats_text::{PRICE_SIZE, write_price};
+use cats_text::price::{PRICE_SIZE, write_price};
 use itoa::Buffer;
 
 /// Puts pieces into a buffer from a place on, if they fit, and answers where they end.

@@ -5,18 +5,19 @@ ghost use Rattle.cats_text.specs.Faults.{fault_at};
 ghost use Rattle.cats_text.specs.declared.read_fault.Kind.TheVariants.{TooLong};
 ghost use Rattle.canon.specs.declared.canon_fault.CanonFault.TheVariants.{Read};
 ghost use Rattle.canon.specs.declared.which.Which.TheVariants.{Only};
-ghost use Rattle.commands.specs.declared.run_fault.RunFault.TheVariants.{Refused};
+ghost use Rattle.commands.specs.declared.faults.RunFault.TheVariants.{Refused};
 ghost use Rattle.rounding.specs.Answers.{IsRounded};
 ghost use Rattle.rounding.specs.Views.{plain_changes};
 ghost use Rattle.commands.specs.Roundings.{AnswersRounding, GivesReport, GivesRounded, IsUnrounded, lines_of};
 
 use crate::calls::buffer::{give_fault, put};
+use crate::faults::RunFault;
 use crate::printed::price_line;
-use crate::run_fault::RunFault;
 use crate::statuses::DONE;
 use canon::CanonFault;
 use cats_text::{Kind, MAX_STREAM, ReadFault};
-use rounding::{FinePrices, RoundedPrice, RoundedText, round};
+use rounding::replacement::FinePrices;
+use rounding::text::{RoundedPrice, RoundedText, round};
 use std::alloc::{AllocError, Global};
 
 /// A text with its prices rounded, and a line for each price whose value changed.

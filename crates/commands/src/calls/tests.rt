@@ -1,15 +1,18 @@
 //! Commands on texts whose answer is known, and what is given of it.
 
+use crate::answer::Answer;
 use crate::calls::{
     Text, TextPair, call, call_on_both, find_fault, give, give_report, give_rounded, round_text,
 };
+use crate::command::{Command, Comparison};
+use crate::faults::RunFault;
+use crate::sizes_row::sizes;
 use crate::statuses::TOO_SMALL;
-use crate::{Answer, Command, Comparison, RunFault, sizes};
-use rounding::FinePrices;
+use rounding::replacement::FinePrices;
 use std::alloc::{AllocGlobal, Global};
 use std::process::Abort;
 use std::test::Fail;
-use valuation::SearchOptions;
+use valuation::search::SearchOptions;
 
 /// A bid of 3 for the good 0, and one of 4 for the good 1.
 static SINGLES: &[u8] = b"goods 2\nbids 2\ndummy 0\n0\t3\t0\t#\n1\t4\t1\t#\n";

@@ -10,8 +10,10 @@ ghost use Rattle.commands.specs.Refusals.{RefusesText};
 
 use crate::input::Input;
 use bid_file::{Bids, PackedFile};
-use cats_text::{Header, Kind, MAX_STREAM, ReadFault, Reader, read_packed};
-use rounding::{FinePrices, round_prices};
+use cats_text::packed::{Header, read_packed};
+use cats_text::{Kind, MAX_STREAM, ReadFault, Reader};
+use rounding::replacement::FinePrices;
+use rounding::text::round_prices;
 use std::alloc::{AllocError, Global};
 
 /// A text in memory.

@@ -3,7 +3,7 @@
 ghost use Rattle.std.specs.Prelude.{◌≡◌, ◌++◌, OnOk};
 ghost use Rattle.commands.specs.Outputs.{list_text, number_cell, price_cell};
 
-use cats_text::push_price;
+use cats_text::price::push_price;
 use itoa::{Buffer, Integer};
 use std::alloc::AllocError;
 

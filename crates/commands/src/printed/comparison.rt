@@ -8,7 +8,7 @@ ghost use Rattle.commands.specs.Statuses.{status_of_difference};
 use crate::printed::cells::push_list;
 use crate::statuses::{DIFFERENT, DONE};
 use canon::{Side, Verdict};
-use cats_text::push_price;
+use cats_text::price::push_price;
 use std::alloc::{AllocError, Global};
 
 /// The status of a comparison.

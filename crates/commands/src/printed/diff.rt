@@ -15,7 +15,7 @@ use crate::printed::cells::{push_list, push_number, push_number_cell, push_price
 use crate::printed::sides::{ComparedFile, Side, Sides};
 use crate::statuses::{DIFFERENT, DONE};
 use analysis::differences::{BidderChange, Differences, all_differences};
-use canon::PriceChange;
+use canon::comparing::PriceChange;
 use std::alloc::{AllocError, Global};
 
 /// The names of the columns.

@@ -9,7 +9,7 @@ ghost use Rattle.commands.specs.Outputs.{bundle_text};
 use crate::printed::cells::{push_list, push_number, push_number_cell};
 use analysis::reasons::Reason;
 use bid_file::{BidRef, Bids, PackedFile};
-use cats_text::push_price;
+use cats_text::price::push_price;
 use std::alloc::{AllocError, Global};
 
 /// The names of the columns.

@@ -8,7 +8,8 @@ ghost use Rattle.commands.specs.Pieces.{text_of_pieces};
 
 use crate::printed::pieces::{Piece, text_of};
 use crate::printed::report::kind_name;
-use cats_text::{FaultPlace, Kind};
+use cats_text::Kind;
+use cats_text::fault_place::FaultPlace;
 use std::alloc::{AllocError, Global};
 
 /// So many bytes of a word are printed.

@@ -4,7 +4,7 @@ ghost use Rattle.std.specs.Prelude.{◌≡◌, ◌++◌, IfOk, OnOk, codes};
 ghost use Rattle.commands.specs.Pieces.{text_of_piece, text_of_pieces};
 
 use crate::printed::cells::{push_list, push_number};
-use cats_text::push_price;
+use cats_text::price::push_price;
 use std::alloc::{AllocError, Global};
 
 /// A piece of a line.

@@ -7,8 +7,8 @@ ghost use Rattle.commands.specs.FaultLines.{line_of_fault, prefix_of, rest_text,
 ghost use Rattle.commands.specs.FaultLines.{text_of_read_fault, total_text};
 ghost use Rattle.commands.specs.Statuses.{status_of_fault, status_of_canon_fault, status_of_read_fault};
 
+use crate::faults::{HeavyBid, RunFault};
 use crate::printed::pieces::{NOTHING, Piece, line_pieces, text_of};
-use crate::run_fault::{HeavyBid, RunFault};
 use crate::statuses::{DEVICE_FAILED, FILE_REFUSED, NO_MEMORY, STEPS_EXCEEDED, WRONG_USAGE};
 use canon::{CanonFault, Which};
 use cats_text::{Kind, ReadFault};

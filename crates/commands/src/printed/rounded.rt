@@ -6,7 +6,7 @@ ghost use Rattle.commands.specs.Pieces.{text_of_pieces};
 ghost use Rattle.commands.specs.RoundedLines.{rounded_line};
 
 use crate::printed::pieces::{Piece, text_of};
-use rounding::RoundedPrice;
+use rounding::text::RoundedPrice;
 use std::alloc::{AllocError, Global};
 
 /// The line in which the price is, as it is written there, and its new value.

@@ -2,7 +2,7 @@
 
 use analysis::reasons::{NumberedBid, bids_in_order, number_of};
 use bid_file::{BidRef, PackedFile};
-use canon::NamedFile;
+use canon::normal::NamedFile;
 use std::alloc::{AllocError, Global};
 
 /// A bid file, and its canonical file with the dummy goods that the bidders have in the bid file.

@@ -3,7 +3,7 @@
 ghost use Rattle.std.specs.Prelude.{◌≡◌, IfOk, string_bytes};
 ghost use Rattle.commands.specs.Outputs.{sizes_text};
 
-use cats_text::Header;
+use cats_text::packed::Header;
 use std::alloc::{AllocError, Global};
 
 /// How many goods, bids and dummy goods a file has.

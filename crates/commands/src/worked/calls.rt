@@ -11,8 +11,8 @@ ghost use Rattle.canon.specs.declared.canon_fault.CanonFault.TheVariants.{Read, 
 ghost use Rattle.canon.specs.declared.which.Which.TheVariants.{Only, First, Second, Both};
 ghost use Rattle.rounding.specs.declared.replacement.FinePrices.TheVariants.{Round, Refuse};
 ghost use Rattle.commands.specs.DiffTexts.{diff_header};
-ghost use Rattle.commands.specs.declared.run_fault.HeavyBid.{HeavyBid};
-ghost use Rattle.commands.specs.declared.run_fault.RunFault.TheVariants.{Refused, TooHeavy, GoodRange, BidRange};
+ghost use Rattle.commands.specs.declared.faults.HeavyBid.{HeavyBid};
+ghost use Rattle.commands.specs.declared.faults.RunFault.TheVariants.{Refused, TooHeavy, GoodRange, BidRange};
 ghost use Rattle.commands.specs.Outcomes.{check_outcome, explain_outcome, naming_outcome, normalise_outcome};
 ghost use Rattle.commands.specs.Outcomes.{revenue_outcome, show_outcome, value_outcome_by};
 ghost use Rattle.commands.specs.declared.answer.Output.TheVariants.{Text};

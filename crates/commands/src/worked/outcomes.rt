@@ -5,7 +5,7 @@ ghost use Rattle.std.specs.Global.{Global};
 ghost use Rattle.cats_text.specs.declared.read_fault.Kind.TheVariants.{TwoDummies};
 ghost use Rattle.canon.specs.declared.canon_fault.CanonFault.TheVariants.{Memory, Read};
 ghost use Rattle.valuation.specs.SearchLimits.{bounded_options, plain_options};
-ghost use Rattle.valuation.specs.declared.search_kind.SearchKind.TheVariants.{Bounded};
+ghost use Rattle.valuation.specs.declared.search.kind.SearchKind.TheVariants.{Bounded};
 ghost use Rattle.commands.specs.Examples.{larger_bid, repeated_bundle, xor_ladder};
 ghost use Rattle.commands.specs.Outcomes.{ExceedsAtBid, ExceedsSteps, LacksBid, LacksGood, Prints, compare_outcome};
 ghost use Rattle.commands.specs.Outcomes.{exceeds_at, first_bid_on, naming_outcome, outcome_of, revenue_outcome};

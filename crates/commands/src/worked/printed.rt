@@ -39,7 +39,7 @@ ghost use Rattle.commands.specs.FaultPlaceTexts.{place_text, shown_bytes};
 ghost use Rattle.commands.specs.Outputs.{bundle_text, sizes_text};
 ghost use Rattle.commands.specs.RoundedLines.{rounded_line};
 ghost use Rattle.commands.specs.Statuses.{status_of_difference, status_of_differences, status_of_fault};
-ghost use Rattle.commands.specs.declared.run_fault.RunFault.TheVariants.{Refused, TooHeavy, GoodRange, BidRange, Sent};
+ghost use Rattle.commands.specs.declared.faults.RunFault.TheVariants.{Refused, TooHeavy, GoodRange, BidRange, Sent};
 
 /// The place of a fault and what helps: of a word, of a word that is printed in part, and of a line's end.
 pub fn places_of_faults()

@@ -10,8 +10,8 @@ use Rattle.std.proofs.lemmas.List.FromFn.{fill_by_all}
 use Rattle.std.proofs.lemmas.List.Kept.{AllPairs-filter}
 use Rattle.goods_set.specs.Bundles.{is_inside}
 use Rattle.valuation.specs.declared.atom.Atom.{Atom}
-use Rattle.valuation.specs.declared.search_kind.SearchKind.{SearchKind}
-use Rattle.valuation.specs.declared.search_kind.SearchKind.TheVariants.{Plain, Bounded}
+use Rattle.valuation.specs.declared.search.kind.SearchKind.{SearchKind}
+use Rattle.valuation.specs.declared.search.kind.SearchKind.TheVariants.{Plain, Bounded}
 use Rattle.valuation.specs.Packings.{atom_at}
 use Rattle.valuation.specs.Lemmas.SearchSteps.{found_indices-packing}
 use Rattle.valuation.specs.Packings.{IsPackingFor, atoms_at}

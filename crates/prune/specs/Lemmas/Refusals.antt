@@ -14,8 +14,8 @@ use Rattle.goods_set.specs.Lemmas.Orders.{bundle_cmp_strict}
 use Rattle.goods_set.specs.Lemmas.AllBundles.{all_bundles_has, all_bundles_sorted}
 use Rattle.goods_set.specs.Lemmas.Sorted.{same_from_contains}
 use Rattle.valuation.specs.declared.atom.Atom.{Atom}
-use Rattle.valuation.specs.declared.search_kind.SearchKind.TheVariants.{Plain}
-use Rattle.valuation.specs.declared.search_options.SearchOptions.{SearchOptions}
+use Rattle.valuation.specs.declared.search.kind.SearchKind.TheVariants.{Plain}
+use Rattle.valuation.specs.declared.search.options.SearchOptions.{SearchOptions}
 use Rattle.valuation.specs.SearchLimits.{plain_options, least_of, next_steps, total_after, options_after}
 use Rattle.prune.specs.Faults.{IfStepLimit}
 use Rattle.prune.specs.declared.prune_fault.PruneFault.{PruneFault}

@@ -2,16 +2,16 @@
 
 use super::refusals::{expect_line, refusal_text};
 use bid_file::{BidFile, Bids, PackedFile};
-use canon::{
-    CanonFault, NamedFile, canonical, file_of, named_normal_file, normal_file, normal_packed_file,
-    normalise,
-};
-use cats_text::{read, read_packed, write};
+use canon::normal::{NamedFile, named_normal_file, normal_packed_file};
+use canon::{CanonFault, canonical, file_of, normal_file, normalise};
+use cats_text::packed::read_packed;
+use cats_text::{read, write};
 use goods_set::{GoodsSet, ListSet, WordSet};
 use std::alloc::Global;
 use std::process::Abort;
 use std::test::Fail;
-use valuation::{Auction, SearchOptions, auction_of};
+use valuation::search::SearchOptions;
+use valuation::{Auction, auction_of};
 
 const EQUAL_BIDDERS: &str =
     "goods 2\nbids 5\ndummy 2\n0\t1\t0\t2\t#\n1\t2\t0\t1\t2\t#\n2\t1\t0\t3\t#\n3\t1\t0\t1\t3\t#\n4\t2\t0\t1\t3\t#\n";

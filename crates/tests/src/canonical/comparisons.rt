@@ -7,15 +7,15 @@ ghost use Rattle.canon.specs.Canonical.{IsCanonicalFile};
 use super::refusals::{expect_line, refusal_text};
 use bid_file::BidFile;
 use canon::laws::canonical_auctions_have_canonical_files;
-use canon::{
-    CanonFault, Verdict, Which, canonical, compare, compare_files, file_of, normal_file,
-    normal_packed_file,
-};
-use cats_text::{read, read_packed};
+use canon::normal::normal_packed_file;
+use canon::{CanonFault, Verdict, Which, canonical, compare, compare_files, file_of, normal_file};
+use cats_text::packed::read_packed;
+use cats_text::read;
 use goods_set::ListSet;
 use std::alloc::{AllocError, Global};
 use std::test::Fail;
-use valuation::{Auction, SearchOptions, auction_of};
+use valuation::search::SearchOptions;
+use valuation::{Auction, auction_of};
 
 const TWICE: &str =
     "goods 2\nbids 4\ndummy 2\n0\t1\t0\t2\t#\n1\t2\t0\t1\t2\t#\n2\t1\t0\t3\t#\n3\t2\t0\t1\t3\t#\n";

@@ -2,11 +2,12 @@
 
 use super::refusals::refusal_text;
 use canon::{AuctionIndex, CanonFault};
-use cats_text::{Watched, read_packed};
+use cats_text::Watched;
+use cats_text::packed::read_packed;
 use std::alloc::{AllocError, Global};
 use std::process::Abort;
 use std::test::Fail;
-use valuation::SearchOptions;
+use valuation::search::SearchOptions;
 
 /// Texts that are added in this order, the steps that a search may take, and what is printed: a number, or why there is
 /// none.

@@ -1,7 +1,8 @@
 //! Whole texts.
 
 use cats_text::Kind;
-use rounding::{FinePrices, round, round_prices};
+use rounding::replacement::FinePrices;
+use rounding::text::{round, round_prices};
 use std::test::Fail;
 
 /// A text with CR and LF, comments, tabs, and no LF at its end, and what it becomes.

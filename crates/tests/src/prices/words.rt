@@ -1,6 +1,6 @@
 //! Words in place of a price.
 
-use rounding::{FinePrices, Replacement, replacement_of};
+use rounding::replacement::{FinePrices, Replacement, replacement_of};
 use std::alloc::{AllocError, Global};
 use std::test::Fail;
 

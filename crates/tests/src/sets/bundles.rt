@@ -1,6 +1,7 @@
 //! Sets of both kinds, on worked examples. Each call is made with ample memory, so
 //! that it has to succeed.
-use goods_set::{GoodsSet, ListSet, WordSet, goods_of, rising_goods, sort_key};
+use goods_set::listing::{goods_of, rising_goods};
+use goods_set::{GoodsSet, ListSet, WordSet, sort_key};
 use std::alloc::Global;
 use std::cmp::Ordering;
 use std::process::Abort;

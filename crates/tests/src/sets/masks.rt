@@ -2,7 +2,8 @@
 //! that it has to succeed.
 ghost use Rattle.std.specs.Prelude.{◌≤◌};
 
-use goods_set::{LongMask, Mask, WordSet};
+use goods_set::WordSet;
+use goods_set::mask::{LongMask, Mask};
 use std::alloc::Global;
 use std::process::Abort;
 use std::test::Fail;

@@ -5,7 +5,9 @@ ghost use Rattle.bid_file.specs.Files.{plain_bid};
 
 use super::assert_bytes;
 use bid_file::{Bid, BidFile};
-use cats_text::{push_price, read_packed, write};
+use cats_text::packed::read_packed;
+use cats_text::price::push_price;
+use cats_text::write;
 use std::alloc::{AllocError, Global};
 use std::test::Fail;
 

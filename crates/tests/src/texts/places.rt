@@ -1,6 +1,7 @@
 //! Where the first fault of a text is.
 
-use cats_text::{Kind, place_of_fault};
+use cats_text::Kind;
+use cats_text::fault_place::place_of_fault;
 use std::alloc::{AllocError, Global};
 use std::process::Abort;
 use std::test::Fail;

@@ -2,9 +2,8 @@
 
 use super::{assert_bytes, assert_written, sizes};
 use bid_file::{Bid, PackedBids, PackedFile};
-use cats_text::{
-    Kind, MAX_STREAM, ReadFault, Reader, Watched, check, read, read_from, send, write,
-};
+use cats_text::packed::check;
+use cats_text::{Kind, MAX_STREAM, ReadFault, Reader, Watched, read, read_from, send, write};
 use std::alloc::Global;
 use std::process::Abort;
 use std::test::Fail;

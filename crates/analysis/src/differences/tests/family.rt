@@ -4,7 +4,7 @@
 use super::{canonical_file, expect, lines_of};
 use crate::differences::{BidderChange, Differences};
 use bid_file::{Bids, PackedFile};
-use canon::PriceChange;
+use canon::comparing::PriceChange;
 use std::alloc::{AllocError, Global};
 use std::process::Abort;
 use std::test::Fail;

@@ -3,12 +3,12 @@
 
 use crate::reasons::{Reason, explain};
 use bid_file::{BidRef, Bids, PackedFile};
-use canon::normal_packed_file;
-use cats_text::read_packed;
+use canon::normal::normal_packed_file;
+use cats_text::packed::read_packed;
 use std::alloc::{AllocError, Global};
 use std::process::Abort;
 use std::test::Fail;
-use valuation::SearchOptions;
+use valuation::search::SearchOptions;
 
 const FILES: usize = 500;
 

@@ -1,7 +1,7 @@
 -- `number_text`
 use Rattle.std.proofs.Common.{rules, ◌≡◌, ℕ, List, cond, bytes_eq, Some, subst}
 use Rattle.canon.specs.Internal.TextNumbers.{number_of}
-use Rattle.canon.proofs.Comparing.Indexing.{updated}
+use Rattle.canon.proofs.TwoFiles.Indexing.{updated}
 use Rattle.canon.proofs.auction_index.number_text.Goals as goal
 
 pub returns-clause-placed : goal.returns-clause-placed

@@ -2,8 +2,8 @@
 use Rattle.canon.specs.Canonical.{canonical_text}
 use Rattle.canon.specs.Sameness.{AreSameFiles}
 use Rattle.canon.specs.Unsearched.{AreAlike, unsearched_text}
-use Rattle.canon.proofs.Comparing.Indexing.{index_of_none, index_of_more, number_of_more, canonical_texts_tell}
-use Rattle.canon.proofs.Comparing.Alike.{unsearched_texts_tell}
+use Rattle.canon.proofs.TwoFiles.Indexing.{index_of_none, index_of_more, number_of_more, canonical_texts_tell}
+use Rattle.canon.proofs.TwoFiles.Alike.{unsearched_texts_tell}
 use Rattle.canon.proofs.laws.added_files_have_first_numbers.Goals as goal
 
 pub returns : goal.returns

@@ -1,5 +1,5 @@
 -- `alike_files_are_the_same_auction`
-use Rattle.canon.proofs.Comparing.Alike.{same_from_alike}
+use Rattle.canon.proofs.TwoFiles.Alike.{same_from_alike}
 use Rattle.canon.proofs.laws.alike_files_are_the_same_auction.Goals as goal
 
 pub returns : goal.returns

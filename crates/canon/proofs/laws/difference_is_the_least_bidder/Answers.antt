@@ -1,5 +1,5 @@
 -- `difference_is_the_least_bidder`
-use Rattle.canon.proofs.Comparing.Differences.{unequal_bidder_is, numbers_by_table}
+use Rattle.canon.proofs.TwoFiles.Differences.{unequal_bidder_is, numbers_by_table}
 use Rattle.canon.proofs.CanonicalAuctions.Sames.{HasAtoms-auction}
 use Rattle.canon.proofs.laws.difference_is_the_least_bidder.Goals as goal
 

@@ -1,5 +1,5 @@
 -- `differences_exchanged`
-use Rattle.canon.proofs.Comparing.Differences.{differences_swap}
+use Rattle.canon.proofs.TwoFiles.Differences.{differences_swap}
 use Rattle.canon.proofs.laws.differences_exchanged.Goals as goal
 
 pub returns : goal.returns

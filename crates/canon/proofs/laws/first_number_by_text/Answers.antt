@@ -1,5 +1,5 @@
 -- `first_number_by_text`
-use Rattle.canon.proofs.Comparing.Indexing.{first_number_is}
+use Rattle.canon.proofs.TwoFiles.Indexing.{first_number_is}
 use Rattle.canon.proofs.laws.first_number_by_text.Goals as goal
 
 pub returns : goal.returns

@@ -1,5 +1,5 @@
 -- `no_difference_of_the_same`
-use Rattle.canon.proofs.Comparing.Differences.{no_difference_same}
+use Rattle.canon.proofs.TwoFiles.Differences.{no_difference_same}
 use Rattle.canon.proofs.CanonicalAuctions.Sames.{HasAtoms-auction}
 use Rattle.canon.proofs.laws.no_difference_of_the_same.Goals as goal
 

@@ -1,6 +1,6 @@
 -- `same_auctions_have_one_difference`
 use Rattle.canon.proofs.CanonicalAuctions.Sames.{HasAtoms-auction}
-use Rattle.canon.proofs.Comparing.SameDifferences.{difference_same, difference_of_same_files}
+use Rattle.canon.proofs.TwoFiles.SameDifferences.{difference_same, difference_of_same_files}
 use Rattle.canon.proofs.laws.same_auctions_have_one_difference.Goals as goal
 
 pub returns : goal.returns

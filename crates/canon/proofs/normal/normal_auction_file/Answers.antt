@@ -1,5 +1,5 @@
 -- `normal_auction_file`
-use Rattle.canon.proofs.Comparing.Answering.{canonical_file_is}
+use Rattle.canon.proofs.TwoFiles.Answering.{canonical_file_is}
 use Rattle.canon.proofs.normal.normal_auction_file.Goals as goal
 
 pub returns-clause-canonical : goal.returns-clause-canonical

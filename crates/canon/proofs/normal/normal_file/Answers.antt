@@ -6,7 +6,7 @@ use Rattle.valuation.specs.Auctions.{auction_from}
 use Rattle.canon.specs.Answers.{IsNormalFile}
 use Rattle.canon.specs.Least.{IsLeastFor}
 use Rattle.canon.specs.Sameness.{AreSameFiles}
-use Rattle.canon.proofs.Comparing.Answering.{same_of_normal, least_of_normal}
+use Rattle.canon.proofs.TwoFiles.Answering.{same_of_normal, least_of_normal}
 use Rattle.canon.proofs.normal.normal_file.Goals as goal
 
 pub returns-clause-same : goal.returns-clause-same

@@ -2,7 +2,7 @@
 use Rattle.std.proofs.Common.{◌≡◌, [], ℕ, cond, Option, Some, None, refl, ap, arith}
 use Rattle.std.specs.Prelude.{codes}
 use Rattle.canon.specs.Canonical.{canonical_text}
-use Rattle.canon.proofs.Comparing.Indexing.{index_of_none, bytes_eq_sym}
+use Rattle.canon.proofs.TwoFiles.Indexing.{index_of_none, bytes_eq_sym}
 use Rattle.canon.proofs.worked.added_texts.Goals as goal
 
 pub returns : goal.returns

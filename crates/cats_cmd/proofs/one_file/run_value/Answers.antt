@@ -2,7 +2,7 @@
 use Rattle.std.proofs.Common.{◌≡◌, Bool, ap, ◌∙◌, subst}
 use Rattle.std.proofs.Math.Path.{fun_ext}
 use Rattle.bid_file.specs.Files.{PlainFile}
-use Rattle.valuation.specs.declared.search_options.SearchOptions.{SearchOptions}
+use Rattle.valuation.specs.declared.search.options.SearchOptions.{SearchOptions}
 use Rattle.valuation.specs.Lemmas.SearchLimits.{plain-value_steps}
 use Rattle.valuation.specs.Auctions.{or_atoms_of}
 use Rattle.commands.specs.Outcomes.{exceeds_limits, exceeds_packings, value_outcome_if}

@@ -4,7 +4,7 @@ use Rattle.bid_file.specs.Files.{PlainFile}
 use Rattle.analysis.specs.Reasons.{reasons_of}
 use Rattle.analysis.proofs.Explaining.TrueReasons.{reasons_explain}
 use Rattle.valuation.specs.Auctions.{or_atoms_of}
-use Rattle.valuation.specs.declared.search_options.SearchOptions.{SearchOptions}
+use Rattle.valuation.specs.declared.search.options.SearchOptions.{SearchOptions}
 use Rattle.prune.specs.SearchSteps.{first_refused}
 use Rattle.commands.specs.ExplanationTexts.{explanation_text}
 use Rattle.commands.specs.Outcomes.{Prints, exceeds_at, text_unless_refused}

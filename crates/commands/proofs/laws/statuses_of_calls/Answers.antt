@@ -11,7 +11,7 @@ use Rattle.cats_text.proofs.Texts.FaultKinds.{IsFaultOfBytes, first_fault-of_byt
 use Rattle.valuation.specs.Auctions.{auction_from, or_atoms_of}
 use Rattle.valuation.specs.Lemmas.Lists.{le_or_lt}
 use Rattle.valuation.specs.SearchLimits.{bounded_options}
-use Rattle.valuation.specs.declared.search_options.SearchOptions.{SearchOptions}
+use Rattle.valuation.specs.declared.search.options.SearchOptions.{SearchOptions}
 use Rattle.prune.specs.SearchSteps.{first_refused}
 use Rattle.canon.specs.Difference.{Difference, NoDifference, first_difference}
 use Rattle.canon.specs.declared.canon_fault.CanonFault.{CanonFault}
@@ -24,8 +24,8 @@ use Rattle.analysis.specs.AllocationVerdicts.{allocation_verdict}
 use Rattle.analysis.specs.declared.winners.allocation_verdict.AllocationVerdict.{AllocationVerdict}
 use Rattle.analysis.specs.declared.winners.allocation_verdict.AllocationVerdict.TheVariants.{Revenue, SharedGood, SharedBidder}
 use Rattle.commands.specs.Statuses.{status_of_canon_fault, status_of_difference, status_of_fault, status_of_read_fault}
-use Rattle.commands.specs.declared.run_fault.RunFault.{RunFault}
-use Rattle.commands.specs.declared.run_fault.RunFault.TheVariants.{Refused, TooHeavy, GoodRange, BidRange, Sent}
+use Rattle.commands.specs.declared.faults.RunFault.{RunFault}
+use Rattle.commands.specs.declared.faults.RunFault.TheVariants.{Refused, TooHeavy, GoodRange, BidRange, Sent}
 use Rattle.commands.specs.Commands.{outcome_of_heavy_bid}
 use Rattle.commands.specs.Outcomes.{Outcome, Prints, LacksGood, LacksBid, ExceedsSteps, ExceedsAtBid, exceeds_at, exceeds_limits, explain_outcome}
 use Rattle.commands.specs.Outcomes.{missing_good, naming_outcome, normalise_outcome, outcome_of, outcome_of_verdict, outcome_unless, outcome_within}

@@ -12,7 +12,7 @@ use Rattle.canon.specs.Sameness.{AreSameFiles, AreSameTexts, IsSameAuction}
 use Rattle.canon.proofs.CanonicalAuctions.Sames.{same_sym, same_trans}
 use Rattle.canon.proofs.CanonicalFiles.Files.{auction_from-file_from}
 use Rattle.canon.proofs.CanonicalFiles.Texts.{HasAtoms-file, IsPlainFile-canonical, canonical_file_is_fixed, canonical_file_is_same}
-use Rattle.canon.proofs.Comparing.Differences.{same_from_no_difference, no_difference_from_same}
+use Rattle.canon.proofs.TwoFiles.Differences.{same_from_no_difference, no_difference_from_same}
 use Rattle.analysis.specs.Differences.{AreAllDifferences, PlainDifferences, is_none_at_all}
 use Rattle.analysis.proofs.Comparing.BeginAuctions.{begins_with_first, none_exactly_for_same}
 use Rattle.commands.specs.Statuses.{status_of_difference, status_of_differences}

@@ -5,7 +5,7 @@ use Rattle.std.proofs.lemmas.Result.{IfOk-weaker, IfErr-weaker}
 use Rattle.bid_file.specs.declared.limits.TheConstants.{MAX_GOODS}
 use Rattle.valuation.specs.Auctions.{IsAtom}
 use Rattle.valuation.specs.SearchLimits.{plain_options}
-use Rattle.valuation.specs.declared.search_options.SearchOptions.{SearchOptions}
+use Rattle.valuation.specs.declared.search.options.SearchOptions.{SearchOptions}
 use Rattle.valuation.specs.Values.{atoms_of}
 use Rattle.prune.specs.Faults.{IfStepLimit}
 use Rattle.prune.specs.SearchSteps.{first_heavy, first_refused, steps_at_most}

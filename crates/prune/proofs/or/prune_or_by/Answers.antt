@@ -3,14 +3,14 @@
 use Rattle.std.proofs.Common.{Err, ◌≡◌, ◌<◌, ◌≤◌, length, refl, sym, ap, ◌∙◌, subst, take, drop, cond, [], ◌∷◌, ◌++◌, ◌+◌, arith, append-nil, map, rules}
 use Rattle.std.proofs.lemmas.List.{get_or_read}
 use Rattle.bid_file.specs.declared.limits.TheConstants.{MAX_GOODS}
-use Rattle.valuation.specs.declared.search_options.SearchOptions.{SearchOptions}
+use Rattle.valuation.specs.declared.search.options.SearchOptions.{SearchOptions}
 use Rattle.valuation.specs.Values.{atoms_of, or_value, plain_atom}
 use Rattle.valuation.specs.Lemmas.OrValues.{or_value-price, or_value-filter_le}
 use Rattle.prune.specs.Fates.{or_fate, plain_fate}
 use Rattle.prune.specs.Internal.Reaching.{IsFinderOf}
 use Rattle.prune.specs.Lemmas.KeptBids.{on_bundles}
 use Rattle.prune.specs.Points.{or_points}
-use Rattle.prune.proofs.Fates.{noted_all, or_noted_dropped, or_noted_kept}
+use Rattle.prune.proofs.NotedFates.{noted_all, or_noted_dropped, or_noted_kept}
 use Rattle.prune.proofs.Prefixes.{next_left}
 use Rattle.prune.proofs.Pruning.{IsKept-none}
 use Rattle.prune.proofs.PruningLoop.{next_turn, one_done, one_kept, one_left, none_left, or_end, all_some}

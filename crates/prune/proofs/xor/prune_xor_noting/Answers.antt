@@ -10,7 +10,7 @@ use Rattle.prune.proofs.Prefixes.{next_left}
 use Rattle.std.specs.Prelude.{is_some, IfSome}
 use Rattle.prune.specs.Points.{xor_points}
 use Rattle.prune.specs.Fates.{xor_fate}
-use Rattle.prune.proofs.Fates.{noted_all, xor_noted_dropped, xor_noted_kept}
+use Rattle.prune.proofs.NotedFates.{noted_all, xor_noted_dropped, xor_noted_kept}
 use Rattle.prune.proofs.FirstDominating.{is_some-first_dominating}
 use Rattle.prune.proofs.PruningLoop.{next_turn, one_done, one_kept, xor_end, dominates_is}
 use Rattle.prune.proofs.Results.{turn_positive, turn_next, xor_reached, xor_missed}

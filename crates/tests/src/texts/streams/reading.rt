@@ -5,9 +5,8 @@ ghost use Rattle.cats_text.specs.Streams.{has_ended, has_failed};
 
 use super::{ByteReader, reader};
 use bid_file::BidFile;
-use cats_text::{
-    Header, Kind, MAX_STREAM, ReadFault, Watched, check_from, read_from, read_packed_from,
-};
+use cats_text::packed::{Header, check_from, read_packed_from};
+use cats_text::{Kind, MAX_STREAM, ReadFault, Watched, read_from};
 use std::io;
 use std::io::{ErrorKind, Read};
 use std::process::Abort;

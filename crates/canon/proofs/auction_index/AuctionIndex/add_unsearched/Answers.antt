@@ -3,7 +3,7 @@ use Rattle.std.proofs.Common.{◌≡◌, ◌+◌, arith, subst, ap, ◌∙◌}
 use Rattle.cats_text.specs.Layout.{layout}
 use Rattle.canon.specs.FirstNumbers.{AddsText, TextIndex}
 use Rattle.canon.specs.Unsearched.{unsearched_text}
-use Rattle.canon.proofs.Comparing.Indexing.{added_text, seen_texts}
+use Rattle.canon.proofs.TwoFiles.Indexing.{added_text, seen_texts}
 use Rattle.canon.proofs.auction_index.AuctionIndex.add_unsearched.Goals as goal
 
 pub returns-clause-added : goal.returns-clause-added

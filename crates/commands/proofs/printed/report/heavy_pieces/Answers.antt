@@ -5,7 +5,7 @@ use Rattle.commands.specs.Outputs.{bundle_text}
 use Rattle.commands.specs.FaultLines.{rest_text, text_of_heavy_bid, total_text}
 use Rattle.commands.specs.Pieces.{text_of_piece}
 use Rattle.commands.specs.declared.printed.pieces.Piece.{Piece}
-use Rattle.commands.specs.declared.run_fault.HeavyBid.{HeavyBid}
+use Rattle.commands.specs.declared.faults.HeavyBid.{HeavyBid}
 use Rattle.commands.proofs.printed.report.heavy_pieces.Goals as goal
 
 joined : (prefix limit steps a b c bid number colon goods d e f end : List ℕ)

@@ -5,7 +5,7 @@ use Rattle.cats_text.specs.Faults.{fault_at}
 use Rattle.cats_text.specs.declared.read_fault.Kind.TheVariants.{Header}
 use Rattle.canon.specs.declared.canon_fault.CanonFault.TheVariants.{Read, Memory}
 use Rattle.canon.specs.declared.which.Which.TheVariants.{Only}
-use Rattle.commands.specs.declared.run_fault.RunFault.TheVariants.{Refused}
+use Rattle.commands.specs.declared.faults.RunFault.TheVariants.{Refused}
 use Rattle.commands.specs.Outcomes.{Prints, check_outcome}
 use Rattle.commands.proofs.SmallTexts.{makes, puts_none, puts_whole}
 use Rattle.commands.proofs.worked.calls.calls_made.Goals as goal

@@ -7,7 +7,7 @@ use Rattle.cats_text.specs.Faults.{fault_at}
 use Rattle.cats_text.specs.declared.read_fault.Kind.TheVariants.{TooFine}
 use Rattle.canon.specs.declared.canon_fault.CanonFault.TheVariants.{Read}
 use Rattle.canon.specs.declared.which.Which.TheVariants.{Only}
-use Rattle.commands.specs.declared.run_fault.RunFault.TheVariants.{Refused}
+use Rattle.commands.specs.declared.faults.RunFault.TheVariants.{Refused}
 use Rattle.commands.proofs.SmallTexts.{puts_none, puts_whole}
 use Rattle.commands.proofs.worked.calls.roundings_called.Goals as goal
 

@@ -12,7 +12,7 @@ use Rattle.prune.specs.Points.{points_where, is_or_point, is_xor_point}
 use Rattle.prune.specs.SearchSteps.{search_steps_by, first_over, first_refused}
 use Rattle.canon.specs.declared.canon_fault.CanonFault.TheVariants.{Read, Memory}
 use Rattle.canon.specs.declared.which.Which.TheVariants.{Only}
-use Rattle.commands.specs.declared.run_fault.RunFault.TheVariants.{Refused}
+use Rattle.commands.specs.declared.faults.RunFault.TheVariants.{Refused}
 use Rattle.commands.specs.SizesRows.{IsSized, IsUnsized}
 use Rattle.commands.specs.Refusals.{text_read}
 use Rattle.commands.proofs.SmallTexts.{puts_whole}

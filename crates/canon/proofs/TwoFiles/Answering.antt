@@ -1,0 +1,102 @@
+-- What the calls answer, from what the calls below them answered: each kind of answer of one is, by the definitions, one of the other.
+use Rattle.std.proofs.Common.{◌≡◌, ℕ, ◌⊎◌, inl, inr, true, List, Option, Some, None, refl, sym, ap, ◌∙◌, subst, IfSome}
+use Rattle.std.specs.Prelude.{◌↔◌}
+use Rattle.bid_file.specs.Files.{PlainFile, IsPlainFile}
+use Rattle.cats_text.specs.Grammar.{Spells}
+use Rattle.cats_text.specs.Layout.{layout}
+use Rattle.cats_text.specs.Faults.{first_fault, is_text_kind}
+use Rattle.cats_text.specs.Reading.{WantsMemory}
+use Rattle.cats_text.specs.declared.read_fault.Kind.{Kind}
+use Rattle.cats_text.specs.declared.read_fault.Kind.TheVariants.{Memory as NoMemory}
+use Rattle.cats_text.specs.declared.read_fault.ReadFault.{ReadFault}
+use Rattle.cats_text.proofs.Texts.FaultKinds.{IsFound, first_fault-found}
+use Rattle.cats_text.proofs.Spelling.Files.{spells_one}
+use Rattle.valuation.specs.Auctions.{PlainAuction, auction_from, or_atoms_of}
+use Rattle.valuation.specs.declared.search.options.SearchOptions.{SearchOptions}
+use Rattle.canon.specs.Answers.{RefusesAs, RefusesText, RefusesAuction, IsNormalFile}
+use Rattle.canon.specs.Canonical.{IsCanonical, IsCanonicalFile, canonical_auction, canonical_text, file_from}
+use Rattle.canon.specs.Least.{IsLeastFor}
+use Rattle.canon.specs.Normalising.{IsNoFile, IsText, Normalises, unless_refused, normalised_file}
+use Rattle.canon.specs.Refusals.{refusal_by_kind, refusal_of}
+use Rattle.canon.specs.Sameness.{AreSameFiles}
+use Rattle.canon.specs.declared.canon_fault.CanonFault.{CanonFault}
+use Rattle.canon.specs.declared.canon_fault.CanonFault.TheVariants.{Read, StepLimit, Memory}
+use Rattle.prune.specs.SearchSteps.{first_refused}
+use Rattle.canon.proofs.CanonicalFiles.Files.{auction_from-file_from}
+use Rattle.canon.proofs.CanonicalAuctions.Least.{canonical_is_least}
+use Rattle.canon.proofs.CanonicalFiles.Texts.{text_from_normalised, normalised_from_text, normalised_again, same_text, same_from_text}
+use Rattle.canon.proofs.CanonicalFiles.Texts.{canonical_file_is_same}
+
+-- ---- a search that takes too many steps
+
+pub refused_file : (options : SearchOptions) (f : PlainFile) (fault : CanonFault) → RefusesAuction options (auction_from f) fault
+    → RefusesAs (normalised_file options f) fault
+refused_file options f (Read fault) r = absurd r
+refused_file options f (StepLimit goods) r = ap (unless_refused f) r
+refused_file options f Memory r = tt
+
+-- ---- the text
+
+-- a text that cannot be read
+pub unread_text : (options : SearchOptions) (text : List ℕ) (why : ReadFault) → (first_fault text ≡ Some why) ⊎ WantsMemory text why
+    → RefusesText options text (refusal_of why)
+unread_text options text why h = by why.kind refl h
+  where
+    of_text : first_fault text ≡ Some why → is_text_kind why.kind ≡ true
+    of_text e = let found = subst (λ fault. IfSome fault (IsFound true)) e (first_fault-found text) in found.0.kind
+
+    by : (kind : Kind) → why.kind ≡ kind → (first_fault text ≡ Some why) ⊎ WantsMemory text why → RefusesText options text (refusal_by_kind why kind)
+    by NoMemory e (inl first) = let none = subst (λ (k : Kind). is_text_kind k ≡ true) e (of_text first) in absurd (cc)
+    by NoMemory e (inr wants) = inl wants.1
+    by kind e (inl first) = first
+    by kind e (inr wants) = let none = sym e ∙ ap (λ (w : ReadFault). w.kind) wants.0 in absurd (cc)
+
+-- a text that spells a file is answered as the file is
+module _ (options : SearchOptions) (text : List ℕ) (f : PlainFile) (s : Spells text f) where
+  no_read_fault : (why : ReadFault) (o : Option (List ℕ)) → unless_refused f o ≡ IsNoFile why → ⊥
+  no_read_fault why None e = absurd (cc)
+  no_read_fault why (Some goods) e = absurd (cc)
+
+  pub refused_text : (fault : CanonFault) → RefusesAs (normalised_file options f) fault → RefusesText options text fault
+  refused_text (Read why) r = absurd (no_read_fault why (first_refused options f.goods (or_atoms_of f.bids)) r)
+  refused_text (StepLimit goods) r = record { file = f; spelled = s; is = r }
+  refused_text Memory r = inr (record { file = f; spelled = s })
+
+-- equal texts come of files of the same auction, and of these alone
+pub same_exactly : (options : SearchOptions) (text out : List ℕ) → Normalises options text (IsText out) → (f g : PlainFile) → Spells text f → IsPlainFile g
+    → (out ≡ canonical_text g ↔ AreSameFiles f g)
+same_exactly options text out e f g s facts =
+    let n = text_from_normalised options text out e in
+    let d : n.file ≡ f = spells_one text n.file f n.spelled s in
+    let is : out ≡ canonical_text f = n.is ∙ ap canonical_text d in
+    (λ q. same_from_text f g s.facts facts (sym is ∙ q), λ q. is ∙ same_text f g s.facts facts q)
+
+-- and are normalised to themselves
+pub normal_again : (options : SearchOptions) (text out : List ℕ) → Normalises options text (IsText out) → Normalises options out (IsText out)
+normal_again options text out h = normalised_from_text options out out (normalised_again options text out (text_from_normalised options text out h))
+
+-- ---- the file
+
+-- of a file, and the canonical file that was made of it
+module _ (options : SearchOptions) (f h : PlainFile) (facts : IsPlainFile f) (n : IsNormalFile options (auction_from f) h) where
+  pub same_of_normal : AreSameFiles f h
+  same_of_normal = subst (λ (x : PlainFile). AreSameFiles f x) (sym n.canonical) (canonical_file_is_same f facts)
+
+  pub least_of_normal : IsLeastFor f h
+  least_of_normal = subst (λ (x : PlainFile). IsLeastFor f x) (sym n.canonical) (canonical_is_least f facts)
+
+-- its text is the canonical text
+pub text_of_normal : (options : SearchOptions) (f h : PlainFile) → IsNormalFile options (auction_from f) h → (out : List ℕ) → out ≡ layout h
+    → normalised_file options f ≡ IsText out
+text_of_normal options f h n out is = ap (unless_refused f) n.within_limit ∙ ap IsText (sym (is ∙ ap layout n.canonical))
+
+-- ---- the file of a canonical auction
+
+pub canonical_file_is : (c : PlainAuction) (h : PlainFile) → h ≡ file_from c → IsCanonical c → IsCanonicalFile h
+canonical_file_is c h is fixed =
+    subst IsCanonicalFile (sym is) (ap (λ (a : PlainAuction). file_from (canonical_auction a)) (auction_from-file_from c) ∙ ap file_from fixed)
+
+pub canonical_auction_is : (a : PlainAuction) → IsCanonicalFile (file_from a) → IsCanonical a
+canonical_auction_is a h =
+    ap canonical_auction (sym (auction_from-file_from a))
+    ∙ sym (auction_from-file_from (canonical_auction (auction_from (file_from a)))) ∙ ap auction_from h ∙ auction_from-file_from a

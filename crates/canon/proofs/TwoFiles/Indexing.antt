@@ -1,0 +1,295 @@
+-- One more file in an index. Files have one text exactly where they are related, as those of one auction are, so the first file with a
+-- text, which is the one that the map has for it, is the first of those.
+use Rattle.std.proofs.Common.{◌≡◌, ◌⊎◌, ℕ, zero, suc, ◌+◌, ◌<◌, Bool, true, false, cond, unwrap_or, bytes_eq, List, [], ◌∷◌, ◌++◌, length, get_or, map, All}
+use Rattle.std.proofs.Common.{Option}
+use Rattle.std.proofs.Common.{Some, None, slice_get, refl, sym, ap, ◌∙◌, subst, inl, inr, ⊎_elim, arith, length-append, Global}
+use Rattle.std.specs.Prelude.{◌↔◌, Vec, Result, Ok, Err, IfOk, IfErr, OnOk, OnErr, IsErrAnd}
+use Rattle.std.specs.Io.KnownBytes.{Consumes}
+use Rattle.std.specs.BTreeMap.{BTreeMap, UpdatesBy}
+use Rattle.std.specs.Cmp.Lexicographic.{bytes_decides, slice_cmp}
+use Rattle.std.specs.Ordering.{is_eq, nat_cmp}
+use Rattle.std.specs.declared.cmp.Ordering.{Ordering}
+use Rattle.std.specs.Map.{IsKeyTest, AreApart, KeepsOthers, lookup}
+use Rattle.std.proofs.lemmas.Bool.{cases_Bool, cond-true, cond-false}
+use Rattle.std.proofs.lemmas.Cmp.{nat_list_eq_equiv}
+use Rattle.std.proofs.lemmas.List.Quantifiers.{position-Some}
+use Rattle.std.proofs.lemmas.Map.Text.{is_eq-slice_cmp}
+use Rattle.std.proofs.lemmas.Option.{none-some, same_Some, slice_get_within, slice_get-get_or, get_or_from_slice_get}
+use Rattle.bid_file.specs.Files.{PlainFile, IsPlainFile}
+use Rattle.cats_text.specs.Streams.{inner_of, ReadsFile, ReadsAs}
+use Rattle.valuation.specs.declared.search.options.SearchOptions.{SearchOptions}
+use Rattle.cats_text.specs.declared.stream.Watched.{Watched}
+use Rattle.canon.specs.Answers.{RefusesAs}
+use Rattle.canon.specs.Canonical.{canonical_text}
+use Rattle.canon.specs.FirstNumbers.{AddsStream, AddsText, IsEmptyIndex, IsFirstNumber, IsFirstText, IsIndexOf, LacksText, NumbersText, TextIndex, first_number}
+use Rattle.canon.specs.FirstNumbers.{text_number}
+use Rattle.canon.specs.Normalising.{IsText, normalised_file}
+use Rattle.canon.specs.Sameness.{AreSameFiles}
+use Rattle.canon.specs.declared.canon_fault.CanonFault.{CanonFault}
+use Rattle.canon.specs.Internal.TextNumbers.{number_of}
+use Rattle.canon.proofs.CanonicalFiles.Texts.{same_text, same_from_text}
+use Rattle.cats_text.specs.declared.read_fault.ReadFault.{ReadFault}
+use Rattle.canon.specs.Refusals.{refusal_of}
+
+-- ---- a list with one more element
+
+pushed_before : {X : Type 0} (xs : List X) (y x : X) (k : ℕ) → slice_get xs k ≡ Some x → slice_get (xs ++ y ∷ []) k ≡ Some x
+pushed_before [] y x k e = absurd (none-some x e)
+pushed_before (z ∷ xs) y x zero e = e
+pushed_before (z ∷ xs) y x (suc k) e = pushed_before xs y x k e
+
+pushed_last : {X : Type 0} (xs : List X) (y : X) → slice_get (xs ++ y ∷ []) (length xs) ≡ Some y
+pushed_last [] y = refl
+pushed_last (z ∷ xs) y = pushed_last xs y
+
+-- an element is one of those before, or the last
+pushed : {X : Type 0} (xs : List X) (y x : X) (k : ℕ) → slice_get (xs ++ y ∷ []) k ≡ Some x → (slice_get xs k ≡ Some x) ⊎ ((k ≡ length xs) × (x ≡ y))
+pushed [] y x zero e = inr (refl, sym (same_Some y x e))
+pushed [] y x (suc k) e = absurd (none-some x e)
+pushed (z ∷ xs) y x zero e = inl e
+pushed (z ∷ xs) y x (suc k) e = ⊎_elim (λ (f : slice_get xs k ≡ Some x). inl f) (λ (f : (k ≡ length xs) × (x ≡ y)). inr (ap suc f.0, f.1)) (pushed xs y x k e)
+
+-- one that is before the last was there before
+pushed_earlier : {X : Type 0} (xs : List X) (y x : X) (k : ℕ) → k < length xs → slice_get (xs ++ y ∷ []) k ≡ Some x → slice_get xs k ≡ Some x
+pushed_earlier xs y x k l at =
+    ⊎_elim (λ (e : slice_get xs k ≡ Some x). e) (λ (e : (k ≡ length xs) × (x ≡ y)). let last = e.0 in absurd (omega arith)) (pushed xs y x k at)
+
+-- ---- texts
+
+module _ (text_of : PlainFile → List ℕ) (files : List PlainFile) (f : PlainFile) where
+  abbrev more : List PlainFile
+  more = files ++ f ∷ []
+
+  -- the file that was first stays it
+  stays_first : (text : List ℕ) (number : ℕ) → IsFirstText text_of files text number → IsFirstText text_of more text number
+  stays_first text number h = record {
+    file = h.file;
+    there = pushed_before files f h.file number h.there;
+    has = h.has;
+    first = λ k other l at is.
+        let within = slice_get_within files number h.file h.there in
+        h.first k other l (pushed_earlier files f other k (omega arith) at) is;
+  }
+
+  -- a text that no file had has its first file now
+  comes_first : LacksText text_of files (text_of f) → IsFirstText text_of more (text_of f) (length files)
+  comes_first h = record {
+    file = f;
+    there = pushed_last files f;
+    has = refl;
+    first = λ k other l at is. h k other (pushed_earlier files f other k l at) is;
+  }
+
+  -- another text has the number that it had
+  stays_placed : (text : List ℕ) → bytes_eq (text_of f) text ≡ false → (o : Option ℕ) → NumbersText text_of files text o → NumbersText text_of more text o
+  stays_placed text apart None h = λ k other at is.
+      ⊎_elim
+      (λ (e : slice_get files k ≡ Some other). h k other e is)
+      (λ (e : (k ≡ length files) × (other ≡ f)).
+      let same : text_of f ≡ text = ap text_of (sym e.1) ∙ is in
+      let equal : bytes_eq (text_of f) text ≡ true = (bytes_decides (text_of f) text).1 same in
+      absurd (cc))
+      (pushed files f other k at)
+  stays_placed text apart (Some number) h = stays_first text number h
+
+  -- the number that is answered
+  first_text : (o : Option ℕ) (count number : ℕ) → count ≡ length files → number ≡ unwrap_or o count → NumbersText text_of files (text_of f) o
+      → IsFirstText text_of more (text_of f) number
+  first_text None count number c e h = subst (λ (p : ℕ). IsFirstText text_of more (text_of f) p) (sym (e ∙ c)) (comes_first h)
+  first_text (Some first) count number c e h = subst (λ (p : ℕ). IsFirstText text_of more (text_of f) p) (sym e) (stays_first (text_of f) first h)
+
+  all_plain : IsPlainFile f → ((k : ℕ) (g : PlainFile) → slice_get files k ≡ Some g → IsPlainFile g) → (k : ℕ) (g : PlainFile) → slice_get more k ≡ Some g
+      → IsPlainFile g
+  all_plain facts each k g at =
+      ⊎_elim (λ (e : slice_get files k ≡ Some g). each k g e) (λ (e : (k ≡ length files) × (g ≡ f)). subst IsPlainFile (sym e.1) facts) (pushed files f g k at)
+
+-- files have one text exactly where they are related
+abbrev pub TellsRelated : (PlainFile → List ℕ) → (PlainFile → PlainFile → Type 0) → Type 0
+TellsRelated text_of Related = (f g : PlainFile) → IsPlainFile f → IsPlainFile g → (text_of f ≡ text_of g ↔ Related f g)
+
+pub canonical_texts_tell : TellsRelated canonical_text AreSameFiles
+canonical_texts_tell f g h k = (same_from_text f g h k, same_text f g h k)
+
+-- ---- the index
+
+-- an index without a text is that of no files
+pub index_of_none : (text_of : PlainFile → List ℕ) (index : TextIndex) → IsEmptyIndex index → IsIndexOf text_of index []
+index_of_none text_of index h = record {
+  facts = λ k file at. absurd (none-some file at);
+  texts = λ text. subst (λ (o : Option ℕ). NumbersText text_of [] text o) (sym (ap (lookup (bytes_eq text)) h.texts))
+      (λ k other at is. absurd (none-some other at));
+  count = h.count;
+}
+
+module _ (text_of : PlainFile → List ℕ) (old new : TextIndex) (number : ℕ) (files : List PlainFile) (f : PlainFile) (facts : IsPlainFile f)
+    (h : IsIndexOf text_of old files) (added : AddsText old new (text_of f) number) where
+  first : IsFirstText text_of (files ++ f ∷ []) (text_of f) number
+  first = first_text text_of files f (text_number old (text_of f)) old.count number h.count added.found (h.texts (text_of f))
+
+  put : (text : List ℕ) → bytes_eq (text_of f) text ≡ true → NumbersText text_of (files ++ f ∷ []) text (text_number new text)
+  put text equal =
+      let at : text_number new text ≡ Some number = added.numbers text ∙ cond-true (bytes_eq (text_of f) text) (Some number) (text_number old text) equal in
+      subst (λ (o : Option ℕ). NumbersText text_of (files ++ f ∷ []) text o) (sym at)
+      (subst (λ (t : List ℕ). IsFirstText text_of (files ++ f ∷ []) t number) ((bytes_decides (text_of f) text).0 equal) first)
+
+  kept : (text : List ℕ) → bytes_eq (text_of f) text ≡ false → NumbersText text_of (files ++ f ∷ []) text (text_number new text)
+  kept text apart =
+      let at : text_number new text ≡ text_number old text = added.numbers text
+      ∙ cond-false (bytes_eq (text_of f) text) (Some number) (text_number old text) apart in
+      subst (λ (o : Option ℕ). NumbersText text_of (files ++ f ∷ []) text o) (sym at)
+      (stays_placed text_of files f text apart (text_number old text) (h.texts text))
+
+  -- one more file
+  pub index_of_more : IsIndexOf text_of new (files ++ f ∷ [])
+  index_of_more = record {
+    facts = all_plain text_of files f facts h.facts;
+    texts = λ text. ⊎_elim (put text) (kept text) (cases_Bool (bytes_eq (text_of f) text));
+    count = omega (arith, length-append files (f ∷ []), h.count, added.count);
+  }
+
+  -- the first file with the text is the first that is related
+  pub number_of_more : (Related : PlainFile → PlainFile → Type 0) → TellsRelated text_of Related → IsFirstNumber Related (files ++ f ∷ []) f number
+  number_of_more Related tells =
+      let each = all_plain text_of files f facts h.facts in
+      record {
+        file = first.file;
+        there = first.there;
+        related = (tells first.file f (each number first.file first.there) facts).0 first.has;
+        first = λ k other l at related. first.first k other l at ((tells other f (each k other at) facts).1 related);
+      }
+
+-- ---- the map
+
+-- whether two texts are equal, by their order
+abbrev same_order : List ℕ → List ℕ → Bool
+same_order one other = is_eq (slice_cmp nat_cmp one other)
+
+abbrev key_cmp : Vec ℕ Global → Vec ℕ Global → Ordering
+key_cmp one other = slice_cmp nat_cmp one.items other.items
+
+abbrev key_eq : Vec ℕ Global → Vec ℕ Global → Bool
+key_eq one other = same_order one.items other.items
+
+other_entries : {X : Type 0} (test : Vec ℕ Global → Bool) (old new : List (Vec ℕ Global × X)) → KeepsOthers key_eq test old new → (other : Vec ℕ Global → Bool)
+    → IsKeyTest key_eq other → AreApart test other
+    → lookup other new ≡ lookup other old
+unfolding KeepsOthers
+other_entries test old new h = h
+
+same_test : (text one other : List ℕ) → same_order text one ≡ true → same_order text other ≡ same_order one other
+same_test text one other e =
+    is_eq-slice_cmp text other ∙ nat_list_eq_equiv.congr text one other (sym (is_eq-slice_cmp text one) ∙ e) ∙ sym (is_eq-slice_cmp one other)
+
+apart_texts : (one other key : List ℕ) → bytes_eq one other ≡ false → same_order one key ≡ true → same_order other key ≡ false
+apart_texts one other key n e =
+    let y : bytes_eq one key ≡ true = sym (is_eq-slice_cmp one key) ∙ e in
+    is_eq-slice_cmp other key ∙ nat_list_eq_equiv.symm other key ∙ sym (nat_list_eq_equiv.congr one key other y) ∙ n
+
+pub bytes_eq_sym : (one other : List ℕ) → bytes_eq one other ≡ bytes_eq other one
+bytes_eq_sym one other = nat_list_eq_equiv.symm one other
+
+-- the number that is seen of a map
+pub number_seen : (entries : List (Vec ℕ Global × ℕ)) (text : List ℕ)
+    → lookup (bytes_eq text) (map (λ e. (e.0.items, e.1)) entries) ≡ lookup (λ key. same_order text key.items) entries
+number_seen [] text = refl
+number_seen (e ∷ entries) text =
+    ap (λ (o : Option ℕ). cond (bytes_eq text e.0.items) (Some e.1) o) (number_seen entries text)
+    ∙ ap (λ (b : Bool). cond b (Some e.1) (lookup (λ key. same_order text key.items) entries)) (sym (is_eq-slice_cmp text e.0.items))
+
+-- what is seen of a map
+abbrev pub seen_texts : List (Vec ℕ Global × ℕ) → List (List ℕ × ℕ)
+seen_texts entries = map (λ e. (e.0.items, e.1)) entries
+
+-- the text of one more file was put into a map
+pub added_text : (old new : List (Vec ℕ Global × ℕ)) (m k : ℕ) (text canonical : List ℕ) (number : ℕ) → text ≡ canonical
+    → number ≡ unwrap_or (lookup (λ key. same_order text key.items) old) m
+    → ((other : List ℕ) → lookup (λ key. same_order other key.items) new
+    ≡ cond (bytes_eq text other) (Some number) (lookup (λ key. same_order other key.items) old))
+    → k ≡ m + 1 → AddsText (record { texts = seen_texts old; count = m }) (record { texts = seen_texts new; count = k }) canonical number
+added_text old new m k text canonical number is answer placed more =
+    subst (λ (t : List ℕ). AddsText (record { texts = seen_texts old; count = m }) (record { texts = seen_texts new; count = k }) t number) is
+    (record {
+      found = answer ∙ ap (λ (o : Option ℕ). unwrap_or o m) (sym (number_seen old text));
+      numbers = λ other. number_seen new other ∙ placed other
+          ∙ ap (λ (o : Option ℕ). cond (bytes_eq text other) (Some number) o) (sym (number_seen old other));
+      count = more;
+    })
+
+-- what a map has for a text, after one was put there
+pub updated : (old new : BTreeMap (Vec ℕ Global) ℕ) (text : List ℕ) (number : ℕ)
+    → UpdatesBy key_cmp (λ key. slice_cmp nat_cmp text key.items) old new (Some number)
+    → (other : List ℕ) → number_of new other ≡ cond (bytes_eq text other) (Some number) (number_of old other)
+updated old new text number h other =
+    ⊎_elim
+    (λ (y : bytes_eq text other ≡ true). subst (λ (t : List ℕ). number_of new t ≡ Some number) ((bytes_decides text other).0 y) h.1
+    ∙ sym (cond-true (bytes_eq text other) (Some number) (number_of old other) y))
+    (λ (n : bytes_eq text other ≡ false).
+    other_entries (λ key. same_order text key.items) old.entries new.entries h.3 (λ key. same_order other key.items)
+    (λ x y. same_test other x.items y.items) (λ key. apart_texts text other key.items n)
+    ∙ sym (cond-false (bytes_eq text other) (Some number) (number_of old other) n))
+    (cases_Bool (bytes_eq text other))
+
+-- ---- a file that was read first
+
+pub stream_added : {R : Type 0} (remaining : R → Option (List ℕ)) (options : SearchOptions) (old new : TextIndex) (before after : Watched R) (bytes : List ℕ)
+    (file : PlainFile)
+    → Consumes (remaining (inner_of before)) (remaining (inner_of after)) bytes → ReadsFile remaining bytes after file
+    → (answer : Result ℕ CanonFault) → IfOk answer (AddsText old new (canonical_text file))
+    → OnOk answer (normalised_file options file ≡ IsText (canonical_text file))
+    → IfErr answer (RefusesAs (normalised_file options file)) → OnErr answer (new ≡ old) → AddsStream remaining options old new before after answer
+stream_added remaining options old new before after bytes file consumes reads (Ok number) added within_limit refused unchanged = record {
+  bytes = bytes;
+  consumes = consumes;
+  adds = record { file = file; reads = reads; within_limit = within_limit; added = added };
+}
+stream_added remaining options old new before after bytes file consumes reads (Err fault) added within_limit refused unchanged = record {
+  bytes = bytes;
+  consumes = consumes;
+  adds = (unchanged, inr (record { file = file; reads = reads; refused = refused }));
+}
+
+-- nothing is added of a file that was not read
+pub stream_unread : {R : Type 0} (remaining : R → Option (List ℕ)) (options : SearchOptions) (index : TextIndex) (before after : Watched R) (bytes : List ℕ)
+    (why : ReadFault) → Consumes (remaining (inner_of before)) (remaining (inner_of after)) bytes → ReadsAs remaining bytes after (Err why)
+    → (answer : Result ℕ CanonFault) → IsErrAnd answer (λ fault. fault ≡ refusal_of why) → AddsStream remaining options index index before after answer
+stream_unread remaining options index before after bytes why consumes reads (Ok number) is = absurd is
+stream_unread remaining options index before after bytes why consumes reads (Err fault) is = record {
+  bytes = bytes;
+  consumes = consumes;
+  adds = (refl, inl (record { why = why; reads = reads; is = is }));
+}
+
+-- ---- later files
+
+-- the first file of an auction stays it
+pub first_number_stays : (Related : PlainFile → PlainFile → Type 0) (files : List PlainFile) (more given : PlainFile) (number : ℕ)
+    → IsFirstNumber Related files given number → IsFirstNumber Related (files ++ more ∷ []) given number
+first_number_stays Related files more given number h = record {
+  file = h.file;
+  there = pushed_before files more h.file number h.there;
+  related = h.related;
+  first = λ k other l at related.
+      let within = slice_get_within files number h.file h.there in
+      h.first k other l (pushed_earlier files more other k (omega arith) at) related;
+}
+
+-- the first file with the text of a file
+pub first_number_is : (files : List PlainFile) (given : PlainFile) (number : ℕ) → All IsPlainFile files → IsPlainFile given
+    → first_number files given ≡ Some number
+    → IsFirstNumber AreSameFiles files given number
+first_number_is files given number each facts e =
+    let found = position-Some (λ file. bytes_eq (canonical_text file) (canonical_text given)) files number given e in
+    record {
+      file = get_or files number given;
+      there = slice_get-get_or files number given found.0;
+      related = same_from_text (get_or files number given) given (each number given found.0) facts
+          ((bytes_decides (canonical_text (get_or files number given)) (canonical_text given)).0 found.1);
+      first = λ k other l at same.
+          let is : get_or files k given ≡ other = get_or_from_slice_get files k other given at in
+          let plain : IsPlainFile other = subst IsPlainFile is (each k given (slice_get_within files k other at)) in
+          let equal : bytes_eq (canonical_text other) (canonical_text given) ≡ true =
+          (bytes_decides (canonical_text other) (canonical_text given)).1 (same_text other given plain facts same) in
+          let apart : bytes_eq (canonical_text other) (canonical_text given) ≡ false =
+          subst (λ (file : PlainFile). bytes_eq (canonical_text file) (canonical_text given) ≡ false) is (found.2 k l) in
+          absurd (cc);
+    }

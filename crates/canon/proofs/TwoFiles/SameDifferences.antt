@@ -1,0 +1,160 @@
+-- The first difference depends on the values of the auctions alone, so it is the same of canonical files.
+use Rattle.std.proofs.Common.{◌≡◌, ℕ, Bool, true, false, not, eqb, cond, ⊎_elim, List, refl, sym, ap, ap₂, ◌∙◌, subst, Option, Some, None}
+use Rattle.std.specs.Prelude.{All, Contains}
+use Rattle.std.specs.Cmp.{both_ways as same_test}
+use Rattle.std.specs.List.{find}
+use Rattle.std.proofs.lemmas.Bool.{cases_Bool, eqb-true, eqb-false}
+use Rattle.goods_set.specs.Bundles.{IsBundle, all_bundles}
+use Rattle.goods_set.specs.Lemmas.AllBundles.{all_bundles_has}
+use Rattle.bid_file.specs.Files.{PlainFile, IsPlainFile}
+use Rattle.valuation.specs.declared.atom.Atom.{Atom}
+use Rattle.valuation.specs.Auctions.{PlainAuction, IsAtom, auction_from}
+use Rattle.valuation.specs.Orders.{bidder_cmp}
+use Rattle.valuation.specs.Lemmas.Orders.{bidder_cmp_total, bidder_cmp_equal}
+use Rattle.valuation.specs.Sorting.{count_of}
+use Rattle.valuation.specs.Tables.{or_table}
+use Rattle.valuation.specs.Values.{or_value}
+use Rattle.prune.specs.Lemmas.Lists.{filter_same_on, find_alike, All-from_Contains, map_same_at}
+use Rattle.prune.specs.Lemmas.Points.{IsOrPoint-from_test, is_or_point-true, or_points_are}
+use Rattle.prune.specs.Points.{is_or_point, or_points}
+use Rattle.prune.specs.Lemmas.Tables.{same_or_points}
+use Rattle.prune.specs.Lemmas.KeptBids.{on_bundles}
+use Rattle.canon.specs.Canonical.{canonical_auction}
+use Rattle.canon.specs.Difference.{Difference, NoDifference, InGoods, InOr, InXor, first_difference, first_unequal_bundle, least_unequal_bidder, or_difference}
+use Rattle.canon.specs.Difference.{xor_difference}
+use Rattle.canon.specs.Sameness.{IsSameAuction, AreSameFiles}
+use Rattle.canon.specs.declared.verdict.Side.{Side}
+use Rattle.canon.specs.declared.verdict.Side.TheVariants.{Exactly, Below}
+use Rattle.canon.proofs.CanonicalAuctions.Atoms.{HasAtoms}
+use Rattle.canon.specs.Lemmas.BidderDifferences.{least_uneven}
+use Rattle.canon.proofs.TwoFiles.Differences.{at_same_goods, at_other_goods, unequal_bundle_is}
+use Rattle.canon.specs.Lemmas.OrDifferences.{are_unequal}
+use Rattle.canon.proofs.CanonicalAuctions.Sames.{same_canonical}
+use Rattle.canon.proofs.CanonicalFiles.Texts.{HasAtoms-file}
+
+-- ---- the XOR bidders
+
+-- by the canonical bidders of both alone
+abbrev from_counts : List (List (Atom (List ℕ))) → List (List (Atom (List ℕ))) → Option (List (Atom (List ℕ))) → Difference
+from_counts one other None = NoDifference
+from_counts one other (Some bidder) = InXor bidder (count_of bidder_cmp bidder one) (count_of bidder_cmp bidder other)
+
+abbrev from_bidders : List (List (Atom (List ℕ))) → List (List (Atom (List ℕ))) → Difference
+from_bidders one other = from_counts one other (least_uneven bidder_cmp bidder_cmp_total bidder_cmp_equal one other)
+
+is_from_counts : (a b : PlainAuction) (o : Option (List (Atom (List ℕ))))
+    → xor_difference a b o ≡ from_counts (canonical_auction a).xor_bidders (canonical_auction b).xor_bidders o
+is_from_counts a b None = refl
+is_from_counts a b (Some bidder) = refl
+
+xor_difference_same : (a a2 b b2 : PlainAuction) → canonical_auction a ≡ canonical_auction a2 → canonical_auction b ≡ canonical_auction b2
+    → xor_difference a b (least_unequal_bidder a b) ≡ xor_difference a2 b2 (least_unequal_bidder a2 b2)
+xor_difference_same a a2 b b2 e f =
+    is_from_counts a b (least_unequal_bidder a b)
+    ∙ ap₂ (λ (c d : PlainAuction). from_bidders c.xor_bidders d.xor_bidders) e f
+    ∙ sym (is_from_counts a2 b2 (least_unequal_bidder a2 b2))
+
+-- ---- the OR bidder, over the same goods
+
+module _ (goods : ℕ) where
+  -- two lists of atoms with the same values
+  record AreAlike (one other : List (Atom (List ℕ))) : Type 0 where
+    table : or_table one goods ≡ or_table other goods
+    points : or_points goods one ≡ or_points goods other
+
+  value_alike : (one other : List (Atom (List ℕ))) → AreAlike one other → (bundle : List ℕ) → IsBundle goods bundle
+      → or_value one bundle ≡ or_value other bundle
+  value_alike one other k bundle b = map_same_at (or_value one) (or_value other) (all_bundles goods) k.table bundle (all_bundles_has goods bundle b)
+
+  point_alike : (one other : List (Atom (List ℕ))) → or_points goods one ≡ or_points goods other → (bundle : List ℕ) → IsBundle goods bundle
+      → is_or_point goods one bundle ≡ true → is_or_point goods other bundle ≡ true
+  point_alike one other e bundle b t =
+      let point : Atom (List ℕ) = record { bundle = bundle; price = or_value one bundle } in
+      let there = (or_points_are goods one point).1 (b, IsOrPoint-from_test goods one bundle b t, refl) in
+      is_or_point-true goods other bundle ((or_points_are goods other point).0 (subst (λ (zs : List (Atom (List ℕ))). Contains zs point) e there)).1
+
+  is_point_alike : (one other : List (Atom (List ℕ))) → AreAlike one other → (bundle : List ℕ) → IsBundle goods bundle
+      → is_or_point goods one bundle ≡ is_or_point goods other bundle
+  is_point_alike one other k bundle b =
+      same_test (is_or_point goods one bundle) (is_or_point goods other bundle) (point_alike one other k.points bundle b)
+      (point_alike other one (sym k.points) bundle b)
+
+  found_alike : (one one2 other other2 : List (Atom (List ℕ))) → AreAlike one one2 → AreAlike other other2 → find (are_unequal one other) (all_bundles goods)
+      ≡ find (are_unequal one2 other2) (all_bundles goods)
+  found_alike one one2 other other2 k m =
+      find_alike (are_unequal one other) (are_unequal one2 other2) (all_bundles goods) (all_bundles goods)
+      (filter_same_on (are_unequal one other) (are_unequal one2 other2) (all_bundles goods)
+      (All-from_Contains (λ bundle. are_unequal one other bundle ≡ are_unequal one2 other2 bundle) (all_bundles goods) (λ bundle c.
+      ap₂ (λ (m n : ℕ). not (eqb m n))
+      (map_same_at (or_value one) (or_value one2) (all_bundles goods) k.table bundle c)
+      (map_same_at (or_value other) (or_value other2) (all_bundles goods) m.table bundle c))))
+
+-- the auctions' own statements of it
+alike_from_same : (goods : ℕ) (a a2 : PlainAuction) → HasAtoms a → HasAtoms a2 → IsSameAuction a a2 → a.goods ≡ goods → AreAlike goods a.or_atoms a2.or_atoms
+alike_from_same goods a a2 h h2 s e =
+    let e2 : a2.goods ≡ goods = sym s.goods ∙ e in
+    let atoms : All (IsAtom goods) a.or_atoms = subst (λ n. All (IsAtom n) a.or_atoms) e h.or_atoms in
+    let atoms2 : All (IsAtom goods) a2.or_atoms = subst (λ n. All (IsAtom n) a2.or_atoms) e2 h2.or_atoms in
+    let tables : or_table a.or_atoms goods ≡ or_table a2.or_atoms goods = sym (ap (or_table a.or_atoms) e) ∙ s.or_values ∙ ap (or_table a2.or_atoms) e2 in
+    record {
+      table = tables;
+      points = (same_or_points goods a.or_atoms a2.or_atoms (on_bundles goods a.or_atoms atoms) (on_bundles goods a2.or_atoms atoms2)).0 tables;
+    }
+
+-- ---- both
+
+module _ (a a2 b b2 : PlainAuction) (h : HasAtoms a) (h2 : HasAtoms a2) (k : HasAtoms b) (k2 : HasAtoms b2) (s : IsSameAuction a a2)
+    (t : IsSameAuction b b2) where
+  module _ (e : a.goods ≡ b.goods) where
+    e2 : a2.goods ≡ b2.goods
+    e2 = sym s.goods ∙ e ∙ t.goods
+
+    left : AreAlike a.goods a.or_atoms a2.or_atoms
+    left = alike_from_same a.goods a a2 h h2 s refl
+
+    right : AreAlike a.goods b.or_atoms b2.or_atoms
+    right = alike_from_same a.goods b b2 k k2 t (sym e)
+
+    bundle_same : first_unequal_bundle a b ≡ first_unequal_bundle a2 b2
+    bundle_same =
+        found_alike a.goods a.or_atoms a2.or_atoms b.or_atoms b2.or_atoms left right
+        ∙ ap (λ (n : ℕ). find (are_unequal a2.or_atoms b2.or_atoms) (all_bundles n)) s.goods
+
+    abbrev side_by : Bool → ℕ → ℕ → Side
+    side_by point own others = cond point (Exactly own) (Below others)
+
+    or_difference_same : (o : Option (List ℕ)) → first_unequal_bundle a b ≡ o → or_difference a b o ≡ or_difference a2 b2 o
+    or_difference_same None f = xor_difference_same a a2 b b2 (same_canonical a a2 h h2 s) (same_canonical b b2 k k2 t)
+    or_difference_same (Some bundle) f =
+        let within = (unequal_bundle_is a b bundle f).within in
+        let lv = value_alike a.goods a.or_atoms a2.or_atoms left bundle within in
+        let rv = value_alike a.goods b.or_atoms b2.or_atoms right bundle within in
+        let lp : is_or_point a.goods a.or_atoms bundle ≡ is_or_point a2.goods a2.or_atoms bundle =
+        is_point_alike a.goods a.or_atoms a2.or_atoms left bundle within ∙ ap (λ n. is_or_point n a2.or_atoms bundle) s.goods in
+        let rp : is_or_point b.goods b.or_atoms bundle ≡ is_or_point b2.goods b2.or_atoms bundle =
+        ap (λ n. is_or_point n b.or_atoms bundle) (sym e) ∙ is_point_alike a.goods b.or_atoms b2.or_atoms right bundle within
+        ∙ ap (λ n. is_or_point n b2.or_atoms bundle) (e ∙ t.goods) in
+        ap₂ (λ (one other : Side). InOr bundle one other)
+        (ap (λ (p : Bool). side_by p (or_value a.or_atoms bundle) (or_value b.or_atoms bundle)) lp
+        ∙ ap₂ (λ (m n : ℕ). side_by (is_or_point a2.goods a2.or_atoms bundle) m n) lv rv)
+        (ap (λ (p : Bool). side_by p (or_value b.or_atoms bundle) (or_value a.or_atoms bundle)) rp
+        ∙ ap₂ (λ (m n : ℕ). side_by (is_or_point b2.goods b2.or_atoms bundle) m n) rv lv)
+
+    same_goods_difference : first_difference a b ≡ first_difference a2 b2
+    same_goods_difference =
+        at_same_goods a b e ∙ or_difference_same (first_unequal_bundle a b) refl ∙ ap (or_difference a2 b2) bundle_same ∙ sym (at_same_goods a2 b2 e2)
+
+  pub difference_same : first_difference a b ≡ first_difference a2 b2
+  difference_same =
+      ⊎_elim (λ (p : eqb a.goods b.goods ≡ true). same_goods_difference (eqb-true a.goods b.goods p))
+      (λ (p : eqb a.goods b.goods ≡ false).
+      let n = eqb-false a.goods b.goods p in
+      at_other_goods a b n ∙ ap₂ InGoods s.goods t.goods ∙ sym (at_other_goods a2 b2 (λ d. n (s.goods ∙ d ∙ sym t.goods))))
+      (cases_Bool (eqb a.goods b.goods))
+
+-- so files of the same auctions have it
+pub difference_of_same_files : (f f2 g g2 : PlainFile) → IsPlainFile f → IsPlainFile f2 → IsPlainFile g → IsPlainFile g2 → AreSameFiles f f2 → AreSameFiles g g2
+    → first_difference (auction_from f) (auction_from g) ≡ first_difference (auction_from f2) (auction_from g2)
+difference_of_same_files f f2 g g2 h h2 k k2 s t =
+    difference_same (auction_from f) (auction_from f2) (auction_from g) (auction_from g2) (HasAtoms-file f h) (HasAtoms-file f2 h2) (HasAtoms-file g k)
+    (HasAtoms-file g2 k2) s t

@@ -1,9 +1,0 @@
--- `BidRun::order`
-use Rattle.std.proofs.Common.{◌≡◌, drop}
-use Rattle.valuation.specs.Orders.{bidder_cmp}
-use Rattle.canon.specs.Bidders.{offers}
-use Rattle.canon.proofs.bid_run.BidRun.order.Given as goal
-
--- the bids from here on decide
-abbrev pub invariant-loop-i : goal.invariant-loop-i
-invariant-loop-i g l = bidder_cmp (drop l.i (offers l.self)) (drop l.i (offers l.other)) ≡ bidder_cmp (offers l.self) (offers l.other)

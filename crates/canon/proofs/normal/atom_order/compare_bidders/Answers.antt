@@ -1,0 +1,38 @@
+-- `compare_bidders`
+use Rattle.std.proofs.Common.{◌+◌, drop, sym, ◌∙◌, arith}
+use Rattle.valuation.specs.Values.{atoms_of}
+use Rattle.valuation.specs.Orders.{atom_cmp, bidder_cmp}
+use Rattle.valuation.specs.Lemmas.Atoms.{length-atoms_of}
+use Rattle.valuation.specs.Lemmas.Orders.{then-decided, then-left, slice_cmp-ended}
+use Rattle.valuation.specs.Lemmas.Comparing.{bidder_cmp-drop}
+use Rattle.canon.proofs.normal.atom_order.compare_bidders.Goals as goal
+
+pub returns-then-is_ne : goal.returns-then-is_ne
+returns-then-is_ne g c =
+    let goods = g.S.GoodsSet.goods in
+    let some = c.args.one.now in
+    let other = c.args.other.now in
+    let i = c.loop-i.i in
+    let later = bidder_cmp (drop (i + 1) (atoms_of goods some)) (drop (i + 1) (atoms_of goods other)) in
+    let turn = bidder_cmp-drop goods some other i c.index-one-i.result c.index-other-i.result (omega arith) (omega arith) c.index-one-i.is c.index-other-i.is in
+    let differ = rw c.compare_atoms-atoms.ensures at (sym c.is_ne.ensures ∙ c.if-is_ne.true) in
+    c.compare_atoms-atoms.ensures ∙ sym (then-decided _ later differ) ∙ sym turn ∙ c.loop-i.invariant
+
+pub loop-i-preserved : goal.loop-i-preserved
+loop-i-preserved g c =
+    let goods = g.S.GoodsSet.goods in
+    let some = c.args.one.now in
+    let other = c.args.other.now in
+    let i = c.loop-i.i in
+    let later = bidder_cmp (drop (i + 1) (atoms_of goods some)) (drop (i + 1) (atoms_of goods other)) in
+    let turn = bidder_cmp-drop goods some other i c.index-one-i.result c.index-other-i.result (omega arith) (omega arith) c.index-one-i.is c.index-other-i.is in
+    let same = rw c.compare_atoms-atoms.ensures at (sym c.is_ne.ensures ∙ c.if-is_ne.false) in
+    sym (then-left _ later same) ∙ sym turn ∙ c.loop-i.invariant
+
+pub returns : goal.returns
+returns g c =
+    let goods = g.S.GoodsSet.goods in
+    let some = length-atoms_of goods c.args.one.now in
+    let other = length-atoms_of goods c.args.other.now in
+    c.cmp.ensures ∙ sym (rw (some, other) at (slice_cmp-ended atom_cmp c.loop-i.i (atoms_of goods c.args.one.now) (atoms_of goods c.args.other.now)
+    (omega arith))) ∙ c.loop-i.invariant

@@ -1,0 +1,107 @@
+-- `points_of_each`: the points so far are those of the bidders that are done: the next bidder adds its points, or nothing where it has none.
+use Rattle.std.proofs.Common.{arith, ◌≡◌, ℕ, ◌+◌, ◌<◌, [], length, map, refl, sym, ap, ap₂, ◌∙◌, Global}
+use Rattle.std.specs.Prelude.{All, Option, Vec}
+use Rattle.std.specs.Iterator.Adapters.{enumerate_count, enumerate_source}
+use Rattle.std.specs.Vec.Iter.{into_iter_items}
+use Rattle.std.proofs.lemmas.Bool.{eqb-true, eqb-false}
+use Rattle.std.proofs.lemmas.List.{nil_from_length, length-map, length_push, map_push}
+use Rattle.bid_file.specs.declared.limits.TheConstants.{MAX_GOODS}
+use Rattle.valuation.specs.declared.atom.Atom.{Atom}
+use Rattle.valuation.specs.Auctions.{IsAtom}
+use Rattle.valuation.specs.Values.{atoms_of}
+use Rattle.canon.specs.Internal.KeyedBidders.{keyed_bidder}
+use Rattle.canon.proofs.CanonicalFiles.Bidders.{positive, fewer_done, bidder_next, bidder_taken, points_pushed, points_skipped}
+use Rattle.canon.proofs.CanonicalFiles.Bidders.{points_done, fates_pushed, fates_done}
+use Rattle.canon.proofs.normal.auction.points_of_each.Goals as goal
+
+pub loop-dummy-init : goal.loop-dummy-init
+loop-dummy-init g c =
+    let inner = c.into_iter-dummy-iterator.ensures.into_iter_gives in
+    record {
+      all = sym (ap (λ it. into_iter_items (enumerate_source it)) inner ∙ ap into_iter_items c.enumerate-dummy-items.ensures.source ∙ c.into_iter.ensures.rest);
+      count = ap enumerate_count inner ∙ c.enumerate-dummy-items.ensures.count;
+      points = λ n atoms. ap (map keyed_bidder) c.in_ok-points.ensures.items;
+      wanted = refl;
+      fates = λ w n atoms. ap (map (λ (v : Vec (Option ℕ) Global). v.items)) c.requires.empty;
+    }
+
+pub prune_xor_noting-requires-clause-atoms : goal.prune_xor_noting-requires-clause-atoms
+prune_xor_noting-requires-clause-atoms g c =
+    bidder_next g.S.GoodsSet.goods c.args.bidders.items (map (λ p. p.1) c.loop-dummy.yielded) _ _ _ c.in-Some.bidder c.loop-dummy.invariant.all
+    refl c.in-Some.ensures.steps.0.0 (All (IsAtom MAX_GOODS)) c.requires.atoms
+
+pub overflow_cast-dummy : goal.overflow_cast-dummy
+overflow_cast-dummy g c =
+    let few : length (map (λ p. p.1) c.loop-dummy.yielded) < length c.args.bidders.items =
+    fewer_done c.args.bidders.items _ _ _ c.in-Some.bidder c.loop-dummy.invariant.all c.in-Some.ensures.steps.0.0 in
+    let done = length-map c.loop-dummy.yielded (λ p. p.1) in
+    record { fits = omega (arith, few, done, c.in-Some.ensures.steps.1, c.loop-dummy.invariant.count, c.requires.few) }
+
+pub loop-dummy-preserved : goal.loop-dummy-preserved
+loop-dummy-preserved g c =
+    let step = c.in-Some.ensures.steps in
+    let h = c.loop-dummy.invariant in
+    let grown = map_push (λ (p : ℕ × Vec (Atom _) Global). p.1) c.loop-dummy.yielded (c.in-Some.dummy, c.in-Some.bidder) in
+    let one_more = length_push c.loop-dummy.yielded (c.in-Some.dummy, c.in-Some.bidder) in
+    record {
+      all = bidder_taken g.S.GoodsSet.goods c.args.bidders.items (map (λ p. p.1) c.loop-dummy.yielded) _ _ _ c.in-Some.bidder h.all grown step.0.0;
+      count = step.2 ∙ ap (λ n. n + 1) h.count ∙ sym one_more;
+      points = λ n atoms.
+          points_skipped g.S.GoodsSet.goods c.args.bidders.items (map (λ p. p.1) c.loop-dummy.yielded) _ _ _ c.in-Some.bidder h.all grown step.0.0
+          keyed_bidder n atoms c.loop-dummy.points.items
+          c.in_ok-own.own
+          (c.in_ok-own.ensures.points n) (h.points n atoms)
+          (omega (arith, eqb-true _ 0 (sym c.is_empty.ensures ∙ c.if-not-is_empty.false), c.in_ok-own.own.ok.0));
+      wanted = c.note.ensures.wanted ∙ h.wanted;
+      fates = λ w n atoms.
+          let on = c.new-own_log.ensures.wanted ∙ c.is_wanted.ensures ∙ h.wanted ∙ w in
+          fates_pushed g.S.GoodsSet.goods c.args.bidders.items (map (λ p. p.1) c.loop-dummy.yielded) _ _ _ c.in-Some.bidder h.all grown step.0.0
+          n atoms _ _ c.into_fates.result (c.in_ok-note.ensures.noted (h.wanted ∙ w))
+          (λ are. ap (λ (v : Vec (Option ℕ) Global). v.items) c.into_fates.ensures ∙ c.in_ok-own.ensures.fates on n are) (h.fates w n atoms);
+    }
+
+pub returns-clause-points : goal.returns-clause-points
+returns-clause-points g c = λ n atoms.
+    let none : into_iter_items (enumerate_source c.loop-dummy.dummy-iterator) ≡ [] =
+    nil_from_length (into_iter_items (enumerate_source c.loop-dummy.dummy-iterator))
+    (omega (arith, c.in-None.ensures.steps.0.0, (enumerate_source c.loop-dummy.dummy-iterator).rest.ok.0)) in
+    points_done g.S.GoodsSet.goods keyed_bidder n c.args.bidders.items (map (λ p. p.1) c.loop-dummy.yielded) _ c.loop-dummy.points.items
+    c.loop-dummy.invariant.all none (c.loop-dummy.invariant.points n atoms)
+
+pub returns-clause-fates : goal.returns-clause-fates
+returns-clause-fates g c = λ w n atoms.
+    let none : into_iter_items (enumerate_source c.loop-dummy.dummy-iterator) ≡ [] =
+    nil_from_length (into_iter_items (enumerate_source c.loop-dummy.dummy-iterator))
+    (omega (arith, c.in-None.ensures.steps.0.0, (enumerate_source c.loop-dummy.dummy-iterator).rest.ok.0)) in
+    fates_done g.S.GoodsSet.goods n c.args.bidders.items (map (λ p. p.1) c.loop-dummy.yielded) _ _ c.loop-dummy.invariant.all none
+    (c.loop-dummy.invariant.fates w n atoms)
+
+pub loop-dummy-preserved-in-Continue-branch-4 : goal.loop-dummy-preserved-in-Continue-branch-4
+loop-dummy-preserved-in-Continue-branch-4 g c =
+    let step = c.in-Some.ensures.steps in
+    let h = c.loop-dummy.invariant in
+    let some = eqb-false _ 0 (sym c.is_empty.ensures ∙ c.if-not-is_empty.true) in
+    let grown = map_push (λ (p : ℕ × Vec (Atom _) Global). p.1) c.loop-dummy.yielded (c.in-Some.dummy, c.in-Some.bidder) in
+    let one_more = length_push c.loop-dummy.yielded (c.in-Some.dummy, c.in-Some.bidder) in
+    let number = step.1 ∙ h.count ∙ sym (length-map c.loop-dummy.yielded (λ (p : ℕ × Vec (Atom _) Global). p.1)) in
+    record {
+      all = bidder_taken g.S.GoodsSet.goods c.args.bidders.items (map (λ p. p.1) c.loop-dummy.yielded) _ _ _ c.in-Some.bidder h.all grown step.0.0;
+      count = step.2 ∙ ap (λ n. n + 1) h.count ∙ sym one_more;
+      points = λ n atoms.
+          points_pushed g.S.GoodsSet.goods c.args.bidders.items (map (λ p. p.1) c.loop-dummy.yielded) _ _ _ c.in-Some.bidder h.all grown step.0.0
+          keyed_bidder n atoms c.loop-dummy.points.items
+          c.in_ok-own.own
+          (c.in_ok-own.ensures.points n) (h.points n atoms) c.push.new.self.items c.new.result c.in-Some.dummy c.in_ok-push.ensures.items number
+          (ap₂ (λ (d : ℕ) (v : Vec (Atom _) Global). record {
+            number = d;
+            atoms =
+                atoms_of g.S.GoodsSet.goods v.items;
+          }) c.new.ensures.dummy c.new.ensures.atoms)
+          (positive (length c.in_ok-own.own.items) (λ e. some (omega (arith, e, c.in_ok-own.own.ok.0))));
+      wanted = c.note.ensures.wanted ∙ h.wanted;
+      fates = λ w n atoms.
+          let on = c.new-own_log.ensures.wanted ∙ c.is_wanted.ensures ∙ h.wanted ∙ w in
+          fates_pushed g.S.GoodsSet.goods c.args.bidders.items (map (λ p. p.1) c.loop-dummy.yielded) _ _ _ c.in-Some.bidder h.all grown step.0.0
+          n atoms _ _ c.into_fates.result (c.in_ok-note.ensures.noted (h.wanted ∙ w))
+          (λ are. ap (λ (v : Vec (Option ℕ) Global). v.items) c.into_fates.ensures ∙ c.in_ok-own.ensures.fates on n are) (h.fates w n atoms);
+    }

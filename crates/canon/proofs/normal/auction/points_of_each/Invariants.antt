@@ -1,0 +1,24 @@
+-- `points_of_each`: the bidders that are done and those still to come are all bidders; of those done the points are there, with their numbers,
+-- and what became of their best bids is noted.
+use Rattle.std.proofs.Common.{◌≡◌, ℕ, ◌++◌, true, length, map}
+use Rattle.std.specs.Prelude.{All}
+use Rattle.std.specs.Iterator.Adapters.{enumerate_count, enumerate_source}
+use Rattle.std.specs.Vec.Iter.{into_iter_items}
+use Rattle.valuation.specs.Auctions.{IsAtom}
+use Rattle.valuation.specs.Bidders.{bidders_of}
+use Rattle.prune.specs.Fates.{xor_fates}
+use Rattle.canon.specs.Internal.KeyedBidders.{keyed_bidders, numbered_points}
+use Rattle.canon.proofs.normal.auction.points_of_each.Given as goal
+
+abbrev pub invariant-loop-dummy : goal.invariant-loop-dummy
+invariant-loop-dummy g l =
+    let goods = g.S.GoodsSet.goods in
+    record {
+      all : l.fn.bidders.items ≡ map (λ p. p.1) l.yielded ++ into_iter_items (enumerate_source l.dummy-iterator);
+      count : enumerate_count l.dummy-iterator ≡ length l.yielded;
+      points : (n : ℕ) → All (All (IsAtom n)) (bidders_of goods l.fn.bidders.items)
+          → keyed_bidders l.points.items ≡ numbered_points n (bidders_of goods (map (λ p. p.1) l.yielded));
+      wanted : l.log.wanted ≡ l.fn.log.wanted;
+      fates : l.fn.log.wanted ≡ true → (n : ℕ) → All (All (IsAtom n)) (bidders_of goods l.fn.bidders.items)
+          → map (λ own. own.items) l.log.fates.items ≡ map (xor_fates n) (bidders_of goods (map (λ p. p.1) l.yielded));
+    }

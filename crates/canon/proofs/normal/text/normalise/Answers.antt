@@ -1,0 +1,31 @@
+-- `normalise`
+use Rattle.std.proofs.Common.{◌≡◌, rules, subst}
+use Rattle.valuation.specs.SearchLimits.{plain_options}
+use Rattle.valuation.specs.declared.search.options.SearchOptions.{SearchOptions}
+use Rattle.canon.specs.Normalising.{IsText, Normalises, normalised_file}
+use Rattle.canon.proofs.TwoFiles.Answering.{text_of_normal, same_exactly, normal_again}
+use Rattle.canon.proofs.normal.text.normalise.Goals as goal
+
+pub returns-in_err-normal-clause-answer : goal.returns-in_err-normal-clause-answer
+returns-in_err-normal-clause-answer c =
+    let o = c.plain.ensures in
+    search rules
+
+made : (c : goal.After-drop-normal-inside-3) → Normalises (plain_options c.args.limit) c.args.text.now (IsText c.in_ok-write.field-0.items)
+made c =
+    let n = c.in_ok-normal.ensures in
+    record {
+      file = n.file;
+      spelled = n.spelled;
+      is = subst (λ (o : SearchOptions). normalised_file o n.file ≡ IsText c.in_ok-write.field-0.items) c.plain.ensures
+          (text_of_normal c.plain.result n.file c.in_ok-normal.normal n.normal _ c.in_ok-write.ensures.layout);
+    }
+
+pub returns-clause-answer : goal.returns-clause-answer
+returns-clause-answer c = made c
+
+pub returns-clause-same : goal.returns-clause-same
+returns-clause-same c = same_exactly (plain_options c.args.limit) c.args.text.now c.in_ok-write.field-0.items (made c)
+
+pub returns-clause-again : goal.returns-clause-again
+returns-clause-again c = normal_again (plain_options c.args.limit) c.args.text.now c.in_ok-write.field-0.items (made c)

@@ -1,9 +1,0 @@
--- `named_bids`
-use Rattle.std.proofs.Common.{◌≡◌, take}
-use Rattle.canon.specs.Bidders.{offers}
-use Rattle.canon.specs.Verdicts.{printed_atoms}
-use Rattle.canon.proofs.xor_bidders.named_bids.Given as goal
-
--- the bids so far are named
-abbrev pub invariant-loop-i : goal.invariant-loop-i
-invariant-loop-i g l = printed_atoms l.named.items ≡ offers (take l.i l.bids)

@@ -1,0 +1,46 @@
+-- `first_bid_on`
+use Rattle.std.proofs.Common.{◌≡◌, ◌<◌, ◌≤◌, ◌+◌, ℕ, Bool, true, false, List, [], length, get_or, None, Some, sym, ap, ◌∙◌, subst, ⊎_elim, arith}
+use Rattle.std.specs.List.{slice_get}
+use Rattle.std.proofs.lemmas.Bool.{cases_lt}
+use Rattle.std.proofs.lemmas.List.Sums.{position_or_len_is}
+use Rattle.std.proofs.lemmas.Option.{get_or_from_slice_get, slice_get_within}
+use Rattle.bid_file.specs.Files.{PlainBid}
+use Rattle.bid_file.specs.Views.{seen_bid}
+use Rattle.commands.specs.Outcomes.{is_on}
+use Rattle.commands.proofs.faults.heavy_bid.first_bid_on.Goals as goal
+
+module _ (p : PlainBid → Bool) (bids : List PlainBid) (i : ℕ) (seen : PlainBid) (is : slice_get bids i ≡ Some seen) where
+  passes_there : (answer : Bool) → p seen ≡ answer → (d : PlainBid) → p (get_or bids i d) ≡ answer
+  passes_there answer e d = ap p (get_or_from_slice_get bids i seen d is) ∙ e
+
+  none_through : ((k : ℕ) (d : PlainBid) → k < i → p (get_or bids k d) ≡ false) → p seen ≡ false
+      → (k : ℕ) (d : PlainBid) → k < i + 1 → p (get_or bids k d) ≡ false
+  none_through before e k d below =
+      ⊎_elim (λ (l : k < i). before k d l)
+      (λ (l : i ≤ k). let same : i ≡ k = omega arith in subst (λ (n : ℕ). p (get_or bids n d) ≡ false) same (passes_there false e d))
+      (cases_lt k i)
+
+pub loop-number-init : goal.loop-number-init
+loop-number-init c = λ k d below. absurd (omega arith)
+
+pub loop-number-preserved : goal.loop-number-preserved
+loop-number-preserved c =
+    none_through (is_on c.args.goods.now) c.args.file.now.bids c.loop-number.number (seen_bid c.at.result) c.at.ensures c.loop-number.invariant
+    (sym c.is_on.ensures ∙ c.if-is_on.false)
+
+pub returns-then-is_on : goal.returns-then-is_on
+returns-then-is_on c =
+    let bids : List PlainBid = c.args.file.now.bids in
+    let seen : PlainBid = seen_bid c.at.result in
+    let below : c.loop-number.number < length bids = slice_get_within bids c.loop-number.number seen c.at.ensures in
+    let found : is_on c.args.goods.now seen ≡ true = sym c.is_on.ensures ∙ c.if-is_on.true in
+    sym (position_or_len_is (is_on c.args.goods.now) bids c.loop-number.number seen (omega arith) (λ k. c.loop-number.invariant k seen)
+    (λ l. passes_there (is_on c.args.goods.now) bids c.loop-number.number seen c.at.ensures true found seen))
+
+pub returns : goal.returns
+returns c =
+    let end : c.loop-number.number ≡ length c.args.file.now.bids =
+    omega (arith, c.len-count.ensures, c.loop-number-test.false, c.loop-number.auto.number-end) in
+    let none : PlainBid = record { price = 0; goods = []; dummy = None } in
+    sym (position_or_len_is (is_on c.args.goods.now) c.args.file.now.bids c.len-count.result none (omega (arith, c.len-count.ensures))
+    (λ k below. c.loop-number.invariant k none (omega (arith, end, c.len-count.ensures))) (λ l. absurd (omega (arith, c.len-count.ensures))))

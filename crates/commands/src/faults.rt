@@ -1,0 +1,62 @@
+//! `RunFault`: why a command has no answer.
+
+mod heavy_bid;
+
+use canon::{CanonFault, Which};
+use cats_text::SendFault;
+pub use heavy_bid::name_bid;
+use std::alloc::AllocError;
+
+/// The bundle of a bid on which a search takes more steps than its limits leave.
+#[derive(PartialEq, Eq, Debug, Drop)]
+pub struct HeavyBid {
+    /// The number of the first bid of the OR bidder on this bundle.
+    pub number: u64,
+    pub goods: Vec<u16>,
+    /// The most steps of each search.
+    pub steps: u64,
+    /// The most steps of all searches together, if they have such a limit.
+    pub total: Option<u64>,
+}
+
+/// Why a run failed.
+#[derive(PartialEq, Eq, Debug, Drop)]
+pub enum RunFault {
+    /// A file was refused.
+    Refused(Which, CanonFault),
+    /// A file was refused for a step limit, by a command that names the bid.
+    TooHeavy(Which, HeavyBid),
+    /// The bundle names a good that the file does not have.
+    GoodRange(u16),
+    /// A bid was named that the file does not have.
+    BidRange(u32),
+    /// The output failed.
+    Sent(SendFault),
+}
+
+/// The fault of a run of one file.
+impl From<CanonFault> for RunFault {
+    ghost use Rattle.std.specs.Prelude.{◌≡◌};
+    ghost use Rattle.commands.specs.declared.faults.RunFault.TheVariants.{Refused};
+    ghost use Rattle.canon.specs.declared.which.Which.TheVariants.{Only};
+
+    ghost from_gives = { λ why fault. fault ≡ Refused Only why };
+
+    fn from(why: CanonFault) -> RunFault {
+        RunFault::Refused(Which::Only, why)
+    }
+}
+
+/// Want of memory in a run of one file.
+impl From<AllocError> for RunFault {
+    ghost use Rattle.std.specs.Prelude.{◌≡◌};
+    ghost use Rattle.commands.specs.declared.faults.RunFault.TheVariants.{Refused};
+    ghost use Rattle.canon.specs.declared.which.Which.TheVariants.{Only};
+    ghost use Rattle.canon.specs.declared.canon_fault.CanonFault.TheVariants.{Memory};
+
+    ghost from_gives = { λ _ fault. fault ≡ Refused Only Memory };
+
+    fn from(_refused: AllocError) -> RunFault {
+        RunFault::Refused(Which::Only, CanonFault::Memory)
+    }
+}
