@@ -15,7 +15,7 @@ pub struct Bid {
     pub dummy: Option<u32>,
 }
 
-/// A bid file: so many goods, so many dummy goods, and bids, of which the one at place i has the number i.
+/// A bid file: so many goods, so many dummy goods, and bids, of which the one at index i has the number i.
 #[derive(Debug, Drop)]
 pub struct BidFile {
     goods: u16,

@@ -59,8 +59,8 @@ impl Model for PackedBids {
 fn append(all: &mut Vec<u16>, goods: &[u16]) -> Result<(u32, u32), AllocError>
     ensures goods { OnOk result (all.new.items ≡ all.old.items ++ goods.now) }
     ensures same { OnErr result (all.new.items ≡ all.old.items) }
-    ensures start { IfOk result (λ places. places.0 ≡ length all.old.items) }
-    ensures end { IfOk result (λ places. places.1 ≡ length all.new.items) }
+    ensures start { IfOk result (λ span. span.0 ≡ length all.old.items) }
+    ensures end { IfOk result (λ span. span.1 ≡ length all.new.items) }
 {
     let start = all.len();
     let end = start + goods.len();
@@ -116,20 +116,20 @@ impl PackedBids {
         Ok(())
     }
 
-    /// The price, the goods and the dummy good of the bid at this place.
+    /// The price, the goods and the dummy good of the bid at this index.
     #[inline(always)]
-    pub fn at(&self, place: usize) -> (u64, &[u16], Option<u32>)
-        requires { place < length self.now }
+    pub fn at(&self, index: usize) -> (u64, &[u16], Option<u32>)
+        requires { index < length self.now }
         ensures { let bid : PlainBid = record { price = result.0; goods = result.1.now; dummy = result.2 } in
-            slice_get self.now place ≡ Some bid }
+            slice_get self.now index ≡ Some bid }
     {
-        let span = self.spans[place];
+        let span = self.spans[index];
         let goods = &self.goods[span.start as usize..span.end as usize];
         (span.price, goods, span.dummy)
     }
 }
 
-/// A bid file in little memory: the goods of all bids are in one vector. The bid at place i has the number i.
+/// A bid file in little memory: the goods of all bids are in one vector. The bid at index i has the number i.
 #[derive(Drop)]
 pub struct PackedFile {
     goods: u16,
