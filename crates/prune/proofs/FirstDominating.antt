@@ -66,14 +66,6 @@ pub record IsFirstSoFar (lists : List (List Posting)) (atoms : List (Atom (List 
   pub none : (good index : ℕ) → has_good bundle good ≡ true → good < from → Contains (indices_at lists good) index → index < first
       → dominates_at atoms bundle price index ≡ false
 
-pub IsFirstSoFar-none : (lists : List (List Posting)) (atoms : List (Atom (List ℕ))) (bundle : List ℕ) (price : ℕ)
-    → IsFirstSoFar lists atoms bundle price 0 (length atoms)
-IsFirstSoFar-none lists atoms bundle price = record {
-  within = omega arith;
-  found = λ l. absurd (omega arith);
-  none = λ good index has l c m. absurd (omega arith);
-}
-
 -- the index found at one more good, among the atoms before the first so far
 pub IsFirstSoFar-more : (lists : List (List Posting)) (atoms : List (Atom (List ℕ))) (bundle : List ℕ) (price from good first next : ℕ) → IsRising bundle
     → good_from bundle from ≡ Some good → next ≤ first

@@ -1,7 +1,7 @@
 -- Atoms are found through the goods of a bundle: each atom inside it is listed at one of its goods, which is a good of the bundle.
 -- The indices found, sorted, are those of the atoms inside the bundle, since no index is listed twice.
 use Rattle.std.proofs.Common.{◌≡◌, ◌≢◌, ℕ, zero, suc, ◌+◌, ◌<◌, ◌≤◌, Bool, true, false, cond, leb, take, append_assoc}
-use Rattle.std.proofs.Common.{Bor, eqb, ◌⊎◌, inl, inr, ⊎_elim, List, [], ◌∷◌, ◌++◌, length, map, get_or, refl, sym, ap, ◌∙◌, subst, subst₂, arith, Some, None}
+use Rattle.std.proofs.Common.{eqb, ◌⊎◌, inl, inr, ⊎_elim, List, [], ◌∷◌, ◌++◌, length, map, get_or, refl, sym, ap, ◌∙◌, subst, subst₂, arith, Some, None}
 use Rattle.std.proofs.Common.{nat_cmp, Less, Greater}
 use Rattle.std.specs.Prelude.{All, AllPairs, Contains, IsPermutation}
 use Rattle.std.specs.List.{filter, range_with_len, slice_get}
@@ -10,7 +10,7 @@ use Rattle.std.proofs.lemmas.Bool.{cases_lt, cases_eq, both_ways, and_parts, and
 use Rattle.std.proofs.lemmas.Bool.{eqb-true, eq-eqb, le-leb, lt-leb}
 use Rattle.std.specs.Cmp.{both_ways as same_test}
 use Rattle.std.proofs.lemmas.Bool.Decides.{Decides-eqb}
-use Rattle.std.proofs.lemmas.List.{map_push, take_more, get_or-map, get_or_append_left, get_or_push, length-map, length_push}
+use Rattle.std.proofs.lemmas.List.{map_push, get_or-map, get_or_append_left, get_or_push, length-map, length_push}
 use Rattle.std.proofs.lemmas.List.Elements.{filter_more, Contains-get_or, All-append, All-contains, All-filter, All-weaker, Contains-append_left}
 use Rattle.std.proofs.lemmas.List.Elements.{Contains-append_right, Contains-push_cases, Contains-push}
 use Rattle.std.proofs.lemmas.Option.{slice_get-get_or, slice_get_past}
@@ -28,8 +28,6 @@ use Rattle.goods_set.specs.Lemmas.Orders.{larger_last}
 use Rattle.goods_set.specs.Lemmas.Sizes.{IsNextGood, good_from-Some, good_from-None, length_inside, same_from_length}
 use Rattle.goods_set.specs.Lemmas.Words.{range_has, range_rises}
 use Rattle.valuation.specs.declared.atom.Atom.{Atom}
-use Rattle.valuation.specs.Values.{atoms_of}
-use Rattle.valuation.specs.Lemmas.Atoms.{get_or-atoms_of}
 use Rattle.valuation.specs.Lemmas.Lists.{AllPairs-head, AllPairs-tail, AllPairs-append, Contains-map, Contains-unmap}
 use Rattle.prune.specs.declared.subset_index.Posting.{Posting}
 use Rattle.prune.specs.InOrder.{IsInOrder}
@@ -423,23 +421,3 @@ postings_right lists count atoms good postings a e =
 pub not_inside : (atoms : List (Atom (List ℕ))) (bundle : List ℕ) (price : ℕ) (posting : Posting) → is_inside_at atoms bundle posting.index ≡ false
     → dominates_at atoms bundle price posting.index ≡ false
 not_inside atoms bundle price posting t = and_right (leb price (atom_at atoms posting.index).price) (is_inside_at atoms bundle posting.index) t
-
--- ---- the atoms at the indices found so far
-
-pub seen_more : {S : Type 0} (goods : S → List ℕ) (atoms : List (Atom S)) (inside more : List (Bor (Atom S))) (indices : List ℕ) (i : ℕ) (a : Bor (Atom S))
-    → i < length indices → get_or indices i 0 < length atoms → a.now ≡ get_or atoms (get_or indices i 0) a.now
-    → atoms_of goods (map (λ a. a.now) inside) ≡ map (atom_at (atoms_of goods atoms)) (take i indices) → more ≡ inside ++ a ∷ []
-    → atoms_of goods (map (λ a. a.now) more) ≡ map (atom_at (atoms_of goods atoms)) (take (i + 1) indices)
-seen_more {S} goods atoms inside more indices i a l m e h f =
-    let seen : Bor (Atom S) → Atom (List ℕ) = λ a. record { bundle = goods a.now.bundle; price = a.now.price } in
-    let all : Atom S → Atom (List ℕ) = λ a. record { bundle = goods a.bundle; price = a.price } in
-    let pushed : atoms_of goods (map (λ a. a.now) more) ≡ atoms_of goods (map (λ a. a.now) inside) ++ seen a ∷ [] =
-    ap (λ (zs : List (Bor (Atom S))). atoms_of goods (map (λ a. a.now) zs)) f ∙ ap (map all) (map_push (λ (a : Bor (Atom S)). a.now) inside a)
-    ∙ map_push all (map (λ (a : Bor (Atom S)). a.now) inside) a.now in
-    let taken : map (atom_at (atoms_of goods atoms)) (take (i + 1) indices) ≡ map (atom_at (atoms_of goods atoms)) (take i indices)
-    ++ atom_at (atoms_of goods atoms) (get_or indices i 0) ∷ [] =
-    ap (map (atom_at (atoms_of goods atoms))) (take_more indices i 0 l) ∙ map_push (atom_at (atoms_of goods atoms)) (take i indices) (get_or indices i 0) in
-    let here : atom_at (atoms_of goods atoms) (get_or indices i 0) ≡ seen a =
-    get_or-atoms_of goods atoms (get_or indices i 0) a.now (record { bundle = []; price = 0 }) m e in
-    pushed ∙ ap (λ (zs : List (Atom (List ℕ))). zs ++ seen a ∷ []) h
-    ∙ sym (taken ∙ ap (λ (b : Atom (List ℕ)). map (atom_at (atoms_of goods atoms)) (take i indices) ++ b ∷ []) here)

@@ -1,6 +1,6 @@
 -- `prune_or_by`: A turn of the loop keeps a bid exactly if the search does not reach its price, which is a turn of proofs/Results; a search that
 -- gives up has found a heavy bundle; and at the end the kept bids are the points.
-use Rattle.std.proofs.Common.{Err, ◌≡◌, ◌<◌, ◌≤◌, length, refl, sym, ap, ◌∙◌, subst, take, drop, cond, [], ◌∷◌, ◌++◌, ◌+◌, arith, append-nil, map, rules}
+use Rattle.std.proofs.Common.{Err, ◌≡◌, ◌<◌, ◌≤◌, length, refl, sym, ap, ◌∙◌, subst, take, cond, [], ◌∷◌, ◌++◌, ◌+◌, arith, append-nil, map, rules}
 use Rattle.std.proofs.lemmas.List.{get_or_read}
 use Rattle.bid_file.specs.declared.limits.TheConstants.{MAX_GOODS}
 use Rattle.valuation.specs.declared.search.options.SearchOptions.{SearchOptions}
@@ -22,16 +22,12 @@ pub decide-requires-clause-next : goal.decide-requires-clause-next
 decide-requires-clause-next g c =
     let goods = g.S.GoodsSet.goods in
     let h = c.loop-next.invariant in
-    let bids = atoms_of goods c.args.atoms.items in
-    let best = c.keep_best_bids.new.bids in
     let now = c.loop-next.atoms in
-    let next = c.loop-next.next in
-    let bid = c.index.result.now in
-    let kept = atoms_of goods (take c.loop-next.kept now.items) in
-    let there : next < length now.items = omega (arith, c.loop-next-test.true, c.len-next-end.ensures, best.ok.0, h.left.long) in
-    let turn = next_turn goods (λ s. (g.met.S.GoodsSet.is_bundle s).0) bids best.items now.items next bid
+    let there : c.loop-next.next < length now.items =
+    omega (arith, c.loop-next-test.true, c.len-next-end.ensures, c.keep_best_bids.new.bids.ok.0, h.left.long) in
+    let turn = next_turn goods (λ s. (g.met.S.GoodsSet.is_bundle s).0) _ _ now.items c.loop-next.next c.index.result.now
     c.in_ok-keep_best_bids.ensures.best h.left there c.index.ensures in
-    rw c.deref-in-loop-next.ensures.value (turn_next MAX_GOODS _ _ _ _ kept turn c.requires.atoms h.kept.in_order h.kept.among)
+    rw c.deref-in-loop-next.ensures.value (turn_next MAX_GOODS _ _ _ _ _ turn c.requires.atoms h.kept.in_order h.kept.among)
 
 pub decide-requires-clause-finder : goal.decide-requires-clause-finder
 decide-requires-clause-finder g c = rw c.deref-in-loop-next.ensures.value c.loop-next.invariant.finder
@@ -55,33 +51,27 @@ pub loop-next-preserved-then-is_dropped : goal.loop-next-preserved-then-is_dropp
 loop-next-preserved-then-is_dropped g c =
     let goods = g.S.GoodsSet.goods in
     let h = c.loop-next.invariant in
-    let bids = atoms_of goods c.args.atoms.items in
-    let best = c.keep_best_bids.new.bids in
     let now = c.loop-next.atoms in
-    let next = c.loop-next.next in
-    let bid = c.index.result.now in
-    let kept = atoms_of goods (take c.loop-next.kept now.items) in
-    let there : next < length now.items = omega (arith, c.loop-next-test.true, c.len-next-end.ensures, best.ok.0, h.left.long) in
-    let turn = next_turn goods (λ s. (g.met.S.GoodsSet.is_bundle s).0) bids best.items now.items next bid
+    let there : c.loop-next.next < length now.items =
+    omega (arith, c.loop-next-test.true, c.len-next-end.ensures, c.keep_best_bids.new.bids.ok.0, h.left.long) in
+    let turn = next_turn goods (λ s. (g.met.S.GoodsSet.is_bundle s).0) _ _ now.items c.loop-next.next c.index.result.now
     c.in_ok-keep_best_bids.ensures.best h.left there c.index.ensures in
-    let options = c.loop-next.finder.search.options in
-    let within : IsWithin c.args.options options bids (plain_atom goods bid ∷ atoms_of goods (drop (next + 1) best.items)) =
-    subst (IsWithin c.args.options options bids) (one_left goods best.items now.items next bid h.left there c.index.ensures) h.within in
-    let done = one_done goods best.items now.items next bid h.left there c.index.ensures in
-    let found = c.in-Ok.found in
+    let kept = atoms_of goods (take c.loop-next.kept now.items) in
+    let within = subst (IsWithin _ _ _) (one_left goods _ _ _ _ h.left there c.index.ensures) h.within in
+    let done = one_done goods _ _ _ _ h.left there c.index.ensures in
     let decided = rw c.deref-in-loop-next.ensures.value at c.in-Ok.ensures.decided in
     let ready = rw c.deref-in-loop-next.ensures.value at c.in-Ok.ensures.finder in
     let dropped = sym c.is_some-is_dropped.ensures ∙ c.if-is_dropped.true in
     record {
-      left = next_left best.items now.items next bid h.left there c.index.ensures now.items refl refl;
+      left = next_left _ _ _ _ h.left there c.index.ensures now.items refl refl;
       finder = subst (λ zs. IsFinderOf zs c.decide.new.self) (append-nil kept)
-          (subst (λ b. IsFinderOf (kept ++ cond b [] (plain_atom goods bid ∷ [])) c.decide.new.self) dropped ready);
+          (subst (λ b. IsFinderOf (kept ++ cond b [] (plain_atom goods c.index.result.now ∷ [])) c.decide.new.self) dropped ready);
       kept = rw done (or_reached _ _ _ _ kept turn h.kept (sym dropped ∙ decided.answer.answer));
-      within = IsWithin-next c.args.options options bids _ _ _ kept turn h.kept within _ decided.within decided.left;
+      within = IsWithin-next _ _ _ _ _ _ kept turn h.kept within _ decided.within decided.left;
       fewer = omega (arith, h.fewer);
       wanted = c.note.ensures.wanted ∙ h.wanted;
       noted = λ w.
-          rw done (or_noted_dropped _ _ _ _ kept turn h.kept.among c.args.options.kind _ h.within.kind _ _ found
+          rw done (or_noted_dropped _ _ _ _ kept turn h.kept.among c.args.options.kind _ h.within.kind _ _ c.in-Ok.found
           (c.in_ok-note.ensures.noted (h.wanted ∙ w)) decided.answer.answer decided.answer.indices (h.noted w));
     }
 
@@ -89,36 +79,30 @@ pub loop-next-preserved : goal.loop-next-preserved
 loop-next-preserved g c =
     let goods = g.S.GoodsSet.goods in
     let h = c.loop-next.invariant in
-    let bids = atoms_of goods c.args.atoms.items in
-    let best = c.keep_best_bids.new.bids in
     let now = c.loop-next.atoms in
-    let next = c.loop-next.next in
-    let bid = c.index.result.now in
-    let kept = atoms_of goods (take c.loop-next.kept now.items) in
-    let there : next < length now.items = omega (arith, c.loop-next-test.true, c.len-next-end.ensures, best.ok.0, h.left.long) in
-    let turn = next_turn goods (λ s. (g.met.S.GoodsSet.is_bundle s).0) bids best.items now.items next bid
+    let there : c.loop-next.next < length now.items =
+    omega (arith, c.loop-next-test.true, c.len-next-end.ensures, c.keep_best_bids.new.bids.ok.0, h.left.long) in
+    let turn = next_turn goods (λ s. (g.met.S.GoodsSet.is_bundle s).0) _ _ now.items c.loop-next.next c.index.result.now
     c.in_ok-keep_best_bids.ensures.best h.left there c.index.ensures in
-    let options = c.loop-next.finder.search.options in
-    let within : IsWithin c.args.options options bids (plain_atom goods bid ∷ atoms_of goods (drop (next + 1) best.items)) =
-    subst (IsWithin c.args.options options bids) (one_left goods best.items now.items next bid h.left there c.index.ensures) h.within in
-    let done = one_done goods best.items now.items next bid h.left there c.index.ensures in
-    let found = c.in-Ok.found in
+    let kept = atoms_of goods (take c.loop-next.kept now.items) in
+    let within = subst (IsWithin _ _ _) (one_left goods _ _ _ _ h.left there c.index.ensures) h.within in
+    let done = one_done goods _ _ _ _ h.left there c.index.ensures in
     let decided = rw c.deref-in-loop-next.ensures.value at c.in-Ok.ensures.decided in
     let ready = rw c.deref-in-loop-next.ensures.value at c.in-Ok.ensures.finder in
     let missed = sym c.is_some-is_dropped.ensures ∙ c.if-is_dropped.false in
     let after = c.move_to_prefix.new.elements in
     let moved = c.move_to_prefix.ensures in
-    let more = one_kept goods now.items after.items c.loop-next.kept next bid c.index.ensures moved.prefix in
+    let more = one_kept goods now.items after.items c.loop-next.kept _ _ c.index.ensures moved.prefix in
     record {
-      left = next_left best.items now.items next bid h.left there c.index.ensures after.items (omega (arith, moved.len, after.ok.0, now.ok.0))
+      left = next_left _ _ _ _ h.left there c.index.ensures after.items (omega (arith, moved.len, after.ok.0, now.ok.0))
           moved.rest;
-      finder = rw more (subst (λ b. IsFinderOf (kept ++ cond b [] (plain_atom goods bid ∷ [])) c.decide.new.self) missed ready);
+      finder = rw more (subst (λ b. IsFinderOf (kept ++ cond b [] (plain_atom goods c.index.result.now ∷ [])) c.decide.new.self) missed ready);
       kept = rw (done, more) (or_missed _ _ _ _ kept turn h.kept (sym missed ∙ decided.answer.answer));
-      within = IsWithin-next c.args.options options bids _ _ _ kept turn h.kept within _ decided.within decided.left;
+      within = IsWithin-next _ _ _ _ _ _ kept turn h.kept within _ decided.within decided.left;
       fewer = omega (arith, h.fewer);
       wanted = c.note.ensures.wanted ∙ h.wanted;
       noted = λ w.
-          rw (done, more) (or_noted_kept _ _ _ _ kept turn h.kept.among c.args.options.kind _ h.within.kind _ _ found
+          rw (done, more) (or_noted_kept _ _ _ _ kept turn h.kept.among c.args.options.kind _ h.within.kind _ _ c.in-Ok.found
           (c.in_ok-note.ensures.noted (h.wanted ∙ w)) decided.answer.answer decided.answer.indices (h.noted w));
     }
 
@@ -126,23 +110,18 @@ pub returns-in-Err-StepLimit-clause-refused : goal.returns-in-Err-StepLimit-clau
 returns-in-Err-StepLimit-clause-refused g c =
     let goods = g.S.GoodsSet.goods in
     let h = c.loop-next.invariant in
-    let bids = atoms_of goods c.args.atoms.items in
-    let best = c.keep_best_bids.new.bids in
     let now = c.loop-next.atoms in
-    let next = c.loop-next.next in
-    let bid = c.index.result.now in
-    let kept = atoms_of goods (take c.loop-next.kept now.items) in
-    let there : next < length now.items = omega (arith, c.loop-next-test.true, c.len-next-end.ensures, best.ok.0, h.left.long) in
-    let turn = next_turn goods (λ s. (g.met.S.GoodsSet.is_bundle s).0) bids best.items now.items next bid
+    let there : c.loop-next.next < length now.items =
+    omega (arith, c.loop-next-test.true, c.len-next-end.ensures, c.keep_best_bids.new.bids.ok.0, h.left.long) in
+    let turn = next_turn goods (λ s. (g.met.S.GoodsSet.is_bundle s).0) _ _ now.items c.loop-next.next c.index.result.now
     c.in_ok-keep_best_bids.ensures.best h.left there c.index.ensures in
-    let options = c.loop-next.finder.search.options in
-    let within : IsWithin c.args.options options bids (plain_atom goods bid ∷ atoms_of goods (drop (next + 1) best.items)) =
-    subst (IsWithin c.args.options options bids) (one_left goods best.items now.items next bid h.left there c.index.ensures) h.within in
+    let within = subst (IsWithin _ _ _) (one_left goods _ _ _ _ h.left there c.index.ensures) h.within in
     let decided = rw c.deref-in-loop-next.ensures.value at c.in-Err-StepLimit.ensures.decided in
     let over = decided.step_limit (ap Err c.in-Err-StepLimit.field-0-is) in
     let removed = c.swap_remove-bundle.result in
-    let read : bid ≡ removed = get_or_read now.items next bid there c.index.ensures removed ∙ sym c.swap_remove-bundle.ensures.value in
-    rw (sym read) (IsWithin-refused c.args.options options bids _ _ _ kept turn h.kept within over)
+    let read : c.index.result.now ≡ removed =
+    get_or_read now.items _ c.index.result.now there c.index.ensures removed ∙ sym c.swap_remove-bundle.ensures.value in
+    rw (sym read) (IsWithin-refused _ _ _ _ _ _ _ turn h.kept within over)
 
 pub returns : goal.returns
 returns g c =
