@@ -6,8 +6,6 @@ mod change;
 mod excess;
 mod holders;
 mod partners;
-#[cfg(test)]
-mod tests;
 
 pub use auctions::all_differences;
 pub use change::{BidderChange, Differences};

@@ -4,8 +4,6 @@ mod best;
 mod explanation;
 mod reason;
 mod starts;
-#[cfg(test)]
-mod tests;
 mod walk;
 
 pub use best::{NumberedBid, bids_in_order, number_of};

@@ -7,8 +7,6 @@ mod bids_by_good;
 mod clashes;
 mod judging;
 mod lp;
-#[cfg(test)]
-mod tests;
 
 pub use allocation_verdict::{AllocationVerdict, allocation_status, allocation_text};
 pub use bid_numbers::{BidNumbersFault, read_bid_numbers};

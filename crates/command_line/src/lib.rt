@@ -7,6 +7,4 @@ pub mod help;
 pub mod laws;
 mod parser;
 pub mod request;
-#[cfg(test)]
-mod tests;
 pub mod worked;

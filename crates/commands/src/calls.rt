@@ -5,8 +5,6 @@ mod command_calls;
 mod fault_place;
 mod pieces;
 mod rounded_text;
-#[cfg(test)]
-mod tests;
 mod text;
 
 pub use buffer::give;

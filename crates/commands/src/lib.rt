@@ -14,8 +14,6 @@ mod one_file;
 pub mod printed;
 pub mod sizes_row;
 pub mod statuses;
-#[cfg(test)]
-mod tests;
 mod two_files;
 pub mod worked;
 

@@ -8,7 +8,7 @@ mod large;
 mod many;
 mod rows;
 
-use crate::differences::{BidderChange, Differences, all_differences};
+use analysis::differences::{BidderChange, Differences, all_differences};
 use bid_file::PackedFile;
 use canon::comparing::PriceChange;
 use canon::normal::normal_packed_file;

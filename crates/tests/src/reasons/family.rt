@@ -1,7 +1,7 @@
 //! The reasons of the bids of many small files. Each is checked by reading all bids of the file and of its canonical
 //! file.
 
-use crate::reasons::{Reason, explain};
+use analysis::reasons::{Reason, explain};
 use bid_file::{BidRef, Bids, PackedFile};
 use canon::normal::normal_packed_file;
 use cats_text::packed::read_packed;

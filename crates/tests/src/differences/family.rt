@@ -2,7 +2,7 @@
 //! bidder's price on each bundle, and compares each bidder with each other one.
 
 use super::{canonical_file, expect, lines_of};
-use crate::differences::{BidderChange, Differences};
+use analysis::differences::{BidderChange, Differences};
 use bid_file::{Bids, PackedFile};
 use canon::comparing::PriceChange;
 use std::alloc::{AllocError, Global};

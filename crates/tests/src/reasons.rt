@@ -2,7 +2,7 @@
 
 mod family;
 
-use crate::reasons::{Reason, explain};
+use analysis::reasons::{Reason, explain};
 use canon::CanonFault;
 use canon::normal::normal_packed_file;
 use cats_text::packed::read_packed;

@@ -1,13 +1,13 @@
 //! Commands on texts whose answer is known, and what is given of it.
 
-use crate::answer::Answer;
-use crate::calls::{
+use commands::answer::Answer;
+use commands::calls::{
     Text, TextPair, call, call_on_both, find_fault, give, give_report, give_rounded, round_text,
 };
-use crate::command::{Command, Comparison};
-use crate::faults::RunFault;
-use crate::sizes_row::sizes;
-use crate::statuses::TOO_SMALL;
+use commands::command::{Command, Comparison};
+use commands::faults::RunFault;
+use commands::sizes_row::sizes;
+use commands::statuses::TOO_SMALL;
 use rounding::replacement::FinePrices;
 use std::alloc::{AllocGlobal, Global};
 use std::process::Abort;
@@ -81,7 +81,7 @@ fn expect_given<R: Abort>(rt: &R, given: (u8, usize), buffer: &[u8], status: u8,
 }
 
 /// What is given of an answer.
-fn expect<R: Abort>(
+pub(crate) fn expect<R: Abort>(
     rt: &R,
     alloc: Global,
     answer: &Result<Answer, RunFault>,

@@ -1,7 +1,7 @@
 //! What no clause says of command lines. It is the files, goods and limits that they name, and what `clap` prints.
 
-use crate::help::VERSION;
-use crate::request::{Misuse, NoRequest, Request, parse};
+use command_line::help::VERSION;
+use command_line::request::{Misuse, NoRequest, Request, parse};
 use std::process::Abort;
 use std::test::Fail;
 

@@ -1,6 +1,6 @@
 //! What is said of bids that are named in a text, by files that are read from their texts.
 
-use crate::winners::{
+use analysis::winners::{
     BidNumbersFault, allocation_status, allocation_text, judge_allocation, lp_text,
     read_bid_numbers,
 };

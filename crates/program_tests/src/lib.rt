@@ -1,0 +1,9 @@
+//! Tests of `commands`, `command_line` and `cats_cmd`.
+#![tactic(auto)]
+
+#[cfg(test)]
+mod answers;
+#[cfg(test)]
+mod calls;
+#[cfg(test)]
+mod command_lines;
