@@ -23,8 +23,6 @@ mod round;
 mod run;
 mod sizes;
 pub mod source;
-#[cfg(test)]
-mod tests;
 mod two_files;
 mod usage;
 pub mod worked;

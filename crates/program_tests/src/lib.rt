@@ -7,3 +7,5 @@ mod answers;
 mod calls;
 #[cfg(test)]
 mod command_lines;
+#[cfg(test)]
+mod runs;

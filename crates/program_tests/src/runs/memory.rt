@@ -8,8 +8,8 @@ ghost use Rattle.cats_cmd.specs.declared.source.Unopened.{Unopened};
 ghost use Rattle.cats_cmd.specs.declared.source.Unopened.TheVariants.{NoSuchFile};
 
 use super::streams::{RunAnswer, StepWriter, expect, text_taken, writer};
-use crate::program::{Process, run_program};
-use crate::source::{Source, Unopened};
+use cats_cmd::program::{Process, run_program};
+use cats_cmd::source::{Source, Unopened};
 use cats_text::Watched;
 use std::alloc::{Alloc, AllocError, AllocGlobal, Global};
 use std::process::Abort;

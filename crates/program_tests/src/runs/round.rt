@@ -1,22 +1,19 @@
 //! `cats round`: rounded texts, reports and refusals.
 
-use super::streams::{RunAnswer, answer_of, expect, reader, text_taken, writer};
-use crate::round::run_round;
-use rounding::replacement::FinePrices;
+use super::inputs::answer_on_input;
+use super::streams::{RunAnswer, expect, input, writer};
 use std::alloc::Global;
 use std::test::Fail;
 
-/// What rounding a text answers, with a writer that takes 7 bytes a call.
-fn rounded(alloc: Global, text: &[u8], fine: FinePrices, fails: bool) -> Result<RunAnswer, Fail> {
-    let mut input = reader(text, fails);
-    let mut out = writer(alloc, 7, 65_536);
-    let mut err = writer(alloc, 4096, 65_536);
-    let answer = run_round(alloc, &mut input, fine, &mut out, &mut err);
-    let RunAnswer { status, sent, line } = answer_of(alloc, answer, out)?;
-    let reported = text_taken(err)?;
-    let line = if reported.is_empty() { line } else { reported };
-    Ok(RunAnswer { status, sent, line })
+/// What a command line answers of a text, with a writer that takes 7 bytes a call.
+fn rounded(alloc: Global, line: &str, text: &[u8], fails: bool) -> Result<RunAnswer, Fail> {
+    let out = writer(alloc, 7, 65_536);
+    answer_on_input(alloc, line, input(text, fails), out)
 }
+
+const ROUND: &str = "cats round FILE";
+
+const EXACTLY: &str = "cats round --exact FILE";
 
 /// A text, what is printed of it, and what is reported.
 type Row<'a> = (&'a [u8], &'a str, &'a str);
@@ -51,7 +48,7 @@ static ROUNDED: [Row<'static>; 4] = [
 #[test]
 fn prices_are_rounded(rt: HostRuntime) -> Result<(), Fail> {
     for (text, sent, reported) in &ROUNDED {
-        let answer = rounded(rt.alloc(), text, FinePrices::Round, false)?;
+        let answer = rounded(rt.alloc(), ROUND, text, false)?;
         expect(&rt, &answer, 0, sent, reported);
     }
     Ok(())
@@ -88,10 +85,10 @@ static REFUSED: [Refusal<'static>; 6] = [
 #[test]
 fn refusals(rt: HostRuntime) -> Result<(), Fail> {
     for (text, line) in &REFUSED {
-        let answer = rounded(rt.alloc(), text, FinePrices::Round, false)?;
+        let answer = rounded(rt.alloc(), ROUND, text, false)?;
         expect(&rt, &answer, 2, "", line);
     }
-    let failed = rounded(rt.alloc(), b"goods 1\n", FinePrices::Round, true)?;
+    let failed = rounded(rt.alloc(), ROUND, b"goods 1\n", true)?;
     expect(&rt, &failed, 5, "", "Device\n");
     Ok(())
 }
@@ -114,11 +111,11 @@ static REFUSED_EXACTLY: [Refusal<'static>; 3] = [
 #[test]
 fn fine_prices_are_refused(rt: HostRuntime) -> Result<(), Fail> {
     for (text, line) in &REFUSED_EXACTLY {
-        let answer = rounded(rt.alloc(), text, FinePrices::Refuse, false)?;
+        let answer = rounded(rt.alloc(), EXACTLY, text, false)?;
         expect(&rt, &answer, 2, "", line);
     }
     let text = b"goods 1\nbids 1\ndummy 0\n0 1.5e1 0 #\n";
-    let exact = rounded(rt.alloc(), text, FinePrices::Refuse, false)?;
+    let exact = rounded(rt.alloc(), EXACTLY, text, false)?;
     expect(&rt, &exact, 0, "goods 1\nbids 1\ndummy 0\n0 15 0 #\n", "");
     Ok(())
 }

@@ -1,44 +1,43 @@
 //! `cats fault`: where the first fault of a text is.
 
-use super::streams::{RunAnswer, answer_of, expect, reader, writer};
-use crate::fault::run_fault;
+use super::inputs::answer_on_input;
+use super::streams::{RunAnswer, expect, input, writer};
 use std::alloc::Global;
 use std::test::Fail;
 
 /// What `fault` answers of a text at this path, with a writer that takes 7 bytes a call.
-fn found(alloc: Global, path: &[u8], text: &[u8], fails: bool) -> Result<RunAnswer, Fail> {
-    let mut input = reader(text, fails);
-    let mut out = writer(alloc, 7, 4096);
-    let answer = run_fault(alloc, &mut input, path, &mut out);
-    answer_of(alloc, answer, out)
+fn found(alloc: Global, path: &str, text: &[u8], fails: bool) -> Result<RunAnswer, Fail> {
+    let line = format!(in alloc; "cats fault {path}")?;
+    let out = writer(alloc, 7, 4096);
+    answer_on_input(alloc, line.as_str(), input(text, fails), out)
 }
 
 /// A path with its text, and what is printed.
-type Row<'a> = (&'a [u8], &'a [u8], &'a str);
+type Row<'a> = (&'a str, &'a [u8], &'a str);
 
 static ROWS: [Row<'static>; 4] = [
     (
-        b"a",
+        "a",
         b"goods 1\nbids 1\ndummy 0\n0 1e-7 0 #\n",
         "a:4:2: NotANumber: 1e-7\n\
         a number has digits alone, a price digits around its point; `cats round` rewrites exponents\n",
     ),
     // behind the last word
     (
-        b"a",
+        "a",
         b"% a\ngoods 1\nbids 1\ndummy 0\n0 1 0\n",
         "a:5:4: NoEnd\na bid line ends with the word `#`; write a space and `#` behind its last good\n",
     ),
     // behind the last line
     (
-        b"a",
+        "a",
         b"goods 1\n",
         "a:2:1: Missing\n\
         there are three header lines, and as many bid lines as `bids` says; add lines, or correct `bids`\n",
     ),
     // the path and the word have control characters
     (
-        b"a\nb",
+        "a\nb",
         b"\x1b[2J\n",
         "a\\nb:1:1: Header: \\x1b[2J\n\
         header lines are `goods N`, `bids N` and `dummy N`, in this order; write `dummy 0` if there are none\n",
@@ -52,9 +51,9 @@ fn faults(rt: HostRuntime) -> Result<(), Fail> {
         expect(&rt, &answer, 2, printed, "");
     }
     let faultless = b"goods 1\nbids 1\ndummy 0\n0 1 0 #\n";
-    let nothing = found(rt.alloc(), b"a", faultless, false)?;
+    let nothing = found(rt.alloc(), "a", faultless, false)?;
     expect(&rt, &nothing, 0, "", "");
-    let failed = found(rt.alloc(), b"a", faultless, true)?;
+    let failed = found(rt.alloc(), "a", faultless, true)?;
     expect(&rt, &failed, 5, "", "Device\n");
     Ok(())
 }

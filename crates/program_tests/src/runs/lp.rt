@@ -1,17 +1,14 @@
 //! `cats lp`: the winner determination problems of files.
 
-use super::streams::{RunAnswer, answer_of, expect, reader, writer};
-use crate::one_file::run_on_file;
-use commands::command::Command;
+use super::inputs::answer_on_input;
+use super::streams::{RunAnswer, expect, input, writer};
 use std::alloc::Global;
 use std::test::Fail;
 
 /// What `lp` answers of a text, with a writer that takes 7 bytes a call.
 fn printed(alloc: Global, text: &[u8], fails: bool) -> Result<RunAnswer, Fail> {
-    let mut input = reader(text, fails);
-    let mut out = writer(alloc, 7, 65_536);
-    let answer = run_on_file(alloc, &mut input, &Command::Lp, &mut out);
-    answer_of(alloc, answer, out)
+    let out = writer(alloc, 7, 65_536);
+    answer_on_input(alloc, "cats lp FILE", input(text, fails), out)
 }
 
 /// Texts, and what `lp` prints of them.

@@ -1,70 +1,18 @@
 //! Every command with an input or an output that fails at each place.
 
-ghost use Rattle.std.specs.Prelude.{◌≡◌, None, false};
+ghost use Rattle.std.specs.Prelude.{◌≡◌, false};
 ghost use Rattle.cats_text.specs.Streams.{has_failed};
 
-use super::each_command::{CANONICAL, COMMANDS, TEXT, prefixes, words_of};
-use super::memory::answer_on;
+use super::each_command::{CANONICAL, COMMANDS, TEXT, prefixes};
+use super::inputs::answer_on_inputs;
 use super::streams::{
     RunAnswer, StepReader, StepWriter, expect, expect_cut_off, stalling_writer, writer,
 };
-use crate::source::{Source, Unopened};
 use cats_text::Watched;
-use std::alloc::{Alloc, AllocError, Global};
+use std::alloc::Global;
 use std::io::ErrorKind;
 use std::process::Abort;
 use std::test::Fail;
-
-/// The streams at the paths FILE and OTHER.
-#[derive(Drop)]
-struct TwoStreams<'a> {
-    file: StepReader<'a>,
-    other: StepReader<'a>,
-    alloc: Global,
-}
-
-impl<'a> Source for TwoStreams<'a> {
-    type Stream = StepReader<'a>;
-
-    ghost Content = { Unit {0} };
-
-    ghost content_of = { λ _. tt };
-
-    ghost may_open = { λ _ _ _. Unit {0} };
-
-    ghost may_refuse = { λ _ _ _. Unit {0} };
-
-    ghost may_find = { λ _ _ _. Unit {0} };
-
-    ghost opened = { λ _. None };
-
-    fn open(&mut self, path: &str) -> Result<StepReader<'a>, Unopened> {
-        match path {
-            "FILE" => Ok(self.file),
-            _ => Ok(self.other),
-        }
-    }
-
-    fn open_file(&mut self, path: &str) -> Result<StepReader<'a>, Unopened> {
-        self.open(path)
-    }
-
-    fn open_regular(&mut self, path: &str) -> Result<StepReader<'a>, Unopened> {
-        self.open(path)
-    }
-
-    fn find(&self, _alloc: Global, _path: &str) -> Result<Option<Vec<Vec<u8>>>, AllocError> {
-        Ok(None)
-    }
-}
-
-impl Alloc for TwoStreams<'_> {
-    type A = Global;
-
-    fn alloc(&self) -> Global {
-        self.alloc
-    }
-}
 
 /// What a command answers of an input: its second file, if its faults begin with this prefix, and else its first. Its other
 /// file is `CANONICAL`.
@@ -78,14 +26,12 @@ fn answer(
 {
     let (name, words, prefix) = command;
     let line = format!(in alloc; "cats {name} {words}")?;
-    let line = words_of(alloc, line.as_str(), "FILE", "OTHER")?;
     let canonical = StepReader::new(CANONICAL.as_bytes(), 4096, None);
     let (file, other) = match prefix {
         "second: " => (canonical, input),
         _ => (input, canonical),
     };
-    let mut source = TwoStreams { file, other, alloc };
-    answer_on(&mut source, line.as_slice(), out, false)
+    answer_on_inputs(alloc, line.as_str(), file, other, out)
 }
 
 const CAPACITY: usize = 4096;

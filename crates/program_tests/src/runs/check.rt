@@ -1,7 +1,7 @@
 //! `cats check`: sizes, faults, and comments between lines.
 
 use super::streams::{Comments, RunAnswer, answer_of, expect, reader, writer};
-use crate::run_check;
+use cats_cmd::run_check;
 use cats_text::Watched;
 use std::alloc::Global;
 use std::process::Abort;

@@ -3,13 +3,11 @@
 use super::compare::{
     APART, EQUAL_BIDDERS, FIVE, FOUR, HEAVY, LARGER_BID, NOTHING, REFUSALS, SINGLES, TOGETHER,
 };
-use super::streams::{RunAnswer, answer_of, expect, expect_cut_off, reader, writer};
-use crate::two_files::run_on_pair;
-use commands::command::Comparison;
+use super::inputs::answer_on_inputs;
+use super::streams::{RunAnswer, expect, expect_cut_off, input, writer};
 use std::alloc::Global;
 use std::process::Abort;
 use std::test::Fail;
-use valuation::search::SearchOptions;
 
 const STEPS: u64 = 1_000_000;
 
@@ -23,12 +21,11 @@ fn differed(
     limit: u64,
     capacity: usize,
 ) -> Result<RunAnswer, Fail> {
-    let mut left = reader(first.as_bytes(), false);
-    let mut right = reader(second.as_bytes(), false);
-    let mut out = writer(alloc, 4096, capacity);
-    let comparison = Comparison::Diff(SearchOptions::bounded(limit, None));
-    let answer = run_on_pair(alloc, &mut left, &mut right, &comparison, &mut out);
-    answer_of(alloc, answer, out)
+    let line = format!(in alloc; "cats diff --steps {limit} FILE OTHER")?;
+    let left = input(first.as_bytes(), false);
+    let right = input(second.as_bytes(), false);
+    let out = writer(alloc, 4096, capacity);
+    answer_on_inputs(alloc, line.as_str(), left, right, out)
 }
 
 /// The names of the columns.

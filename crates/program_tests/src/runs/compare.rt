@@ -1,7 +1,7 @@
 //! `cats compare`: verdicts and first differences.
 
 use super::streams::{RunAnswer, answer_of, expect, reader, writer};
-use crate::run_compare;
+use cats_cmd::run_compare;
 use std::alloc::Global;
 use std::process::Abort;
 use std::test::Fail;

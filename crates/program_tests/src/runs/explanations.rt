@@ -1,9 +1,8 @@
 //! `cats explain`: the reasons, as they are printed.
 
+use super::inputs::answer_on_input;
 use super::normalise::bids_on_one_good;
-use super::streams::{RunAnswer, answer_of, expect, reader, writer};
-use crate::one_file::run_on_file;
-use commands::command::Command;
+use super::streams::{RunAnswer, expect, input, writer};
 use std::alloc::Global;
 use std::process::Abort;
 use std::test::Fail;
@@ -14,14 +13,9 @@ const CAPACITY: usize = 8_388_608;
 
 /// What `explain` answers of a text under a step limit.
 fn explained(alloc: Global, text: &[u8], fails: bool, limit: u64) -> Result<RunAnswer, Fail> {
-    let mut input = reader(text, fails);
-    let mut out = writer(alloc, 4096, CAPACITY);
-    let command = Command::Explain {
-        steps: limit,
-        total: None,
-    };
-    let answer = run_on_file(alloc, &mut input, &command, &mut out);
-    answer_of(alloc, answer, out)
+    let line = format!(in alloc; "cats explain --steps {limit} FILE")?;
+    let out = writer(alloc, 4096, CAPACITY);
+    answer_on_input(alloc, line.as_str(), input(text, fails), out)
 }
 
 /// Each text under its limit, and the rows of its bids.

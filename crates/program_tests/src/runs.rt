@@ -1,4 +1,4 @@
-//! Worked rows of the runs and of the program. Each is by the call that it shows.
+//! Worked rows of the runs and of the program `cats`.
 
 mod check;
 mod compare;
@@ -11,6 +11,7 @@ mod fault;
 mod few_files;
 mod files;
 mod folders;
+mod inputs;
 mod lp;
 mod many_files;
 mod memory;

@@ -1,7 +1,7 @@
 //! `cats normalise`: canonical texts, and files that are refused.
 
 use super::streams::{RunAnswer, answer_of, expect, reader, writer};
-use crate::run_normalise;
+use cats_cmd::run_normalise;
 use std::alloc::{AllocError, Global};
 use std::ops::Range;
 use std::process::Abort;

@@ -3,8 +3,9 @@
 ghost use Rattle.std.specs.Prelude.{◌≡◌, false};
 ghost use Rattle.cats_text.specs.Streams.{has_ended, has_failed};
 
-use crate::{RunFault, fault_line, status};
 use cats_text::Watched;
+use commands::faults::RunFault;
+use commands::printed::{fault_line, status};
 use std::alloc::{AllocError, Global};
 use std::io;
 use std::io::{ErrorKind, Read, Write};
@@ -42,15 +43,20 @@ impl Read for StepReader<'_> {
 }
 
 /// Gives the whole text, or, if it fails, gives it byte by byte and then fails.
+pub fn input(text: &[u8], fails: bool) -> StepReader<'_> {
+    if fails {
+        StepReader::new(text, 1, Some(ErrorKind::BrokenPipe))
+    } else {
+        StepReader::new(text, 4096, None)
+    }
+}
+
+/// The same, watched.
 pub fn reader(text: &[u8], fails: bool) -> Watched<StepReader<'_>>
     ensures works { has_failed result ≡ false }
     ensures fresh { has_ended result ≡ false }
 {
-    Watched::new(if fails {
-        StepReader::new(text, 1, Some(ErrorKind::BrokenPipe))
-    } else {
-        StepReader::new(text, 4096, None)
-    })
+    Watched::new(input(text, fails))
 }
 
 /// Gives comment lines and never ends.

@@ -1,7 +1,7 @@
 //! `cats value`: values and the bids that give them.
 
 use super::streams::{RunAnswer, answer_of, expect, reader, writer};
-use crate::run_value;
+use cats_cmd::run_value;
 use std::alloc::Global;
 use std::process::Abort;
 use std::test::Fail;

@@ -1,7 +1,7 @@
 //! `cats show`: files in their layout.
 
 use super::streams::{RunAnswer, answer_of, expect, reader, writer};
-use crate::run_show;
+use cats_cmd::run_show;
 use std::alloc::Global;
 use std::process::Abort;
 use std::test::Fail;

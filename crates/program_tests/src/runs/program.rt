@@ -2,7 +2,7 @@
 
 use super::each_command::{COMMANDS, words_of};
 use super::streams::{RunAnswer, expect, text_taken, writer};
-use crate::run_cats;
+use cats_cmd::run_cats;
 use std::process::Abort;
 use std::test::Fail;
 
