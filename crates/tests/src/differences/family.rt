@@ -2,6 +2,7 @@
 //! bidder's price on each bundle, and compares each bidder with each other one.
 
 use super::{canonical_file, expect, lines_of};
+use crate::random::up_to;
 use analysis::differences::{BidderChange, Differences};
 use bid_file::{Bids, PackedFile};
 use canon::comparing::PriceChange;
@@ -42,14 +43,6 @@ static BUNDLES: [&[u16]; 7] = [&[0], &[1], &[2], &[0, 1], &[0, 2], &[1, 2], &[0,
 
 /// The price of a bidder on each bundle, if it bids on it.
 type Prices = [Option<u64>; 7];
-
-/// The next of a fixed sequence of numbers, from 0 to `most`.
-fn up_to(state: &mut u64, most: u64) -> u64 {
-    *state = state
-        .wrapping_mul(6_364_136_223_846_793_005)
-        .wrapping_add(1_442_695_040_888_963_407);
-    (*state >> 33) % most.saturating_add(1).max(1)
-}
 
 /// The goods of a bid, mostly one, and a dummy good or, in one of ten bids, none. So many bidders have a bundle in common.
 fn push_goods(

@@ -1,6 +1,7 @@
 //! The reasons of the bids of many small files. Each is checked by reading all bids of the file and of its canonical
 //! file.
 
+use crate::random::{Sizes, next_text, up_to};
 use analysis::reasons::{Reason, explain};
 use bid_file::{BidRef, Bids, PackedFile};
 use canon::normal::normal_packed_file;
@@ -17,50 +18,18 @@ const AMPLE: u64 = 1_000_000;
 
 const GOODS: u64 = 3;
 
+/// The most bids of a file.
 const BIDS: u64 = 7;
 
-const DUMMIES: u64 = 2;
-
-const PRICE: u64 = 4;
-
-/// The next of a fixed sequence of numbers, from 0 to `most`.
-fn up_to(state: &mut u64, most: u64) -> u64 {
-    *state = state
-        .wrapping_mul(6_364_136_223_846_793_005)
-        .wrapping_add(1_442_695_040_888_963_407);
-    (*state >> 33) % most.saturating_add(1).max(1)
-}
-
-/// The goods of a bid, at least one, and a dummy good or none.
-fn push_goods(alloc: Global, text: &mut String, state: &mut u64) -> Result<(), AllocError> {
-    let surely = up_to(state, GOODS - 1);
-    for good in 0..GOODS {
-        if good == surely || up_to(state, 1) == 0 {
-            let word = format!(in alloc; "\t{good}")?;
-            text.push_str(word.as_str())?;
-        }
-    }
-    let dummy = up_to(state, DUMMIES);
-    if dummy < DUMMIES {
-        let number = GOODS.saturating_add(dummy);
-        let word = format!(in alloc; "\t{number}")?;
-        text.push_str(word.as_str())?;
-    }
-    Ok(())
-}
-
 /// The next file, as a text.
-fn next_text(alloc: Global, state: &mut u64) -> Result<String, AllocError> {
-    let bids = up_to(state, BIDS);
-    let mut text = format!(in alloc; "goods {GOODS}\nbids {bids}\ndummy {DUMMIES}\n")?;
-    for number in 0..bids {
-        let price = up_to(state, PRICE);
-        let bid = format!(in alloc; "{number}\t{price}")?;
-        text.push_str(bid.as_str())?;
-        push_goods(alloc, &mut text, state)?;
-        text.push_str("\t#\n")?;
-    }
-    Ok(text)
+fn small_text(alloc: Global, state: &mut u64) -> Result<String, AllocError> {
+    let sizes = Sizes {
+        goods: GOODS,
+        bids: up_to(state, BIDS),
+        dummies: 2,
+        price: 4,
+    };
+    next_text(alloc, state, sizes)
 }
 
 /// The bids of a file, those of its canonical file, and the reasons of the first.
@@ -257,7 +226,7 @@ fn check_text(rt: &impl Abort, alloc: Global, text: &str) -> Result<(), Fail> {
 fn many_small_files(rt: HostRuntime) -> Result<(), Fail> {
     let mut state = 1;
     for _ in 0..FILES {
-        let text = next_text(rt.alloc(), &mut state)?;
+        let text = small_text(rt.alloc(), &mut state)?;
         check_text(&rt, rt.alloc(), text.as_str())?;
     }
     Ok(())
