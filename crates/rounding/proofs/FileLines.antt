@@ -22,7 +22,8 @@ use Rattle.rounding.specs.Texts.{rounded_line, rounded_lines, lines_text, line_c
 use Rattle.rounding.specs.declared.replacement.FinePrices.{FinePrices}
 use Rattle.rounding.specs.Internal.RawTexts.{behind_line}
 use Rattle.rounding.proofs.TextLines.{first_of_lines, first_raw}
-use Rattle.rounding.proofs.Words.{byte_stays, word_both, second_both}
+use Rattle.rounding.proofs.Spans.{word_both}
+use Rattle.rounding.proofs.Words.{byte_stays, second_both}
 
 -- ---- the words of a line
 

@@ -1,202 +1,120 @@
 -- Runs of bytes up to the first one of a kind: their lengths, one byte further, and what is behind them.
 use Rattle.std.specs.Prelude.{if◌then◌else◌}
-use Rattle.std.proofs.Common.{◌≡◌, ℕ, suc, ◌+◌, ◌<◌, ◌≤◌, true, false, ◌||◌, eqb, [], ◌∷◌, length, take, drop, get_or, refl, sym, ap, ◌∙◌}
-use Rattle.std.proofs.Common.{arith, drop-cons, add-one, ◌-◌}
+use Rattle.std.proofs.Common.{◌≡◌, ℕ, suc, ◌+◌, ◌-◌, ◌<◌, ◌≤◌, Bool, true, false, not, ◌||◌, eqb, List, [], ◌∷◌, ◌++◌, length, take, drop, get_or, refl, sym, ap, ◌∙◌}
+use Rattle.std.proofs.Common.{arith, drop-cons, add-one, length-append}
 use Rattle.std.proofs.lemmas.List.{take_rest, drop_all}
+use Rattle.std.proofs.lemmas.List.Prefix.{front_rest}
+use Rattle.std.proofs.lemmas.Grind.{common_steps}
+use Rattle.std.proofs.Math.Seq.{take-append_seam}
 use Rattle.cats_text.specs.Lines.{Word, is_blank, line_byte}
 use Rattle.cats_text.specs.Numbers.{whole_part, places, has_point}
 use Rattle.rounding.specs.Decimals.{significand, exponent, has_exponent}
 use Rattle.rounding.specs.Texts.{blanks, behind_blanks, leading_word, behind_word}
 use Rattle.rounding.specs.Internal.RawTexts.{first_line, behind_line, has_line_end}
 
--- ---- whole_part
+-- ---- a loop that counts the bytes of a run
 
-pub point_further : (w : Word) (i : ℕ) → i < length w → (eqb (get_or w i 0) 46) ≡ false
-    → length (whole_part (drop i w)) ≡ suc (length (whole_part (drop (suc i) w)))
-point_further w i h e = rw (drop-cons w i 0) (rw e refl)
+-- what is the run at the beginning of bytes, by whether it ends before a byte and those behind it
+module _ (run : List ℕ → List ℕ) (ends : ℕ → List ℕ → Bool) (step : (b : ℕ) (bs : List ℕ) → run (b ∷ bs) ≡ (if ends b bs then [] else b ∷ run bs)) where
+  pub further : (w : List ℕ) (i n : ℕ) → i < length w → ends (get_or w i 0) (drop (suc i) w) ≡ false → i + length (run (drop i w)) ≡ n
+      → (i + 1) + length (run (drop (i + 1) w)) ≡ n
+  further w i n l e h =
+      let more : length (run (drop i w)) ≡ suc (length (run (drop (suc i) w))) =
+      rw (drop-cons w i 0) (ap length (step (get_or w i 0) (drop (suc i) w)) ∙ rw e refl) in
+      rw add-one (omega arith)
 
-pub point_found : (w : Word) (i : ℕ) → i < length w → (eqb (get_or w i 0) 46) ≡ true → length (whole_part (drop i w)) ≡ 0
-point_found w i h e = rw (drop-cons w i 0) (rw e refl)
+  pub found : (w : List ℕ) (i n : ℕ) → i < length w → ends (get_or w i 0) (drop (suc i) w) ≡ true → i + length (run (drop i w)) ≡ n → i ≡ n
+  found w i n l e h =
+      let none : length (run (drop i w)) ≡ 0 = rw (drop-cons w i 0) (ap length (step (get_or w i 0) (drop (suc i) w)) ∙ rw e refl) in omega arith
 
-pub point_taken : (w : Word) → take (length (whole_part w)) w ≡ whole_part w
-point_taken [] = refl
-point_taken (b ∷ bs) = elim (eqb b 46) as (λ v. take (length (if v then [] else (b ∷ whole_part bs))) (b ∷ bs) ≡ (if v then [] else (b ∷ whole_part bs)))
-    [ true ↦ refl | false ↦ ap (λ (ws : Word). b ∷ ws) (point_taken bs) ]
+pub blanks_step : (b : ℕ) (bs : List ℕ) → blanks (b ∷ bs) ≡ (if not (is_blank (line_byte b bs)) then [] else b ∷ blanks bs)
+blanks_step b bs = elim (is_blank (line_byte b bs)) as (λ v. (if v then b ∷ blanks bs else []) ≡ (if not v then [] else b ∷ blanks bs))
+    [ true ↦ refl | false ↦ refl ]
 
-pub point_within : (w : Word) → length (whole_part w) ≤ length w
-point_within [] = omega arith
-point_within (b ∷ bs) = elim (eqb b 46) as (λ v. length (if v then [] else (b ∷ whole_part bs)) ≤ suc (length bs))
-    [ true ↦ omega arith | false ↦ omega (arith, point_within bs) ]
+-- ---- bytes that are cut in two
 
-pub point_dropped : (w : Word) → length (whole_part w) < length w → drop (suc (length (whole_part w))) w ≡ places w
-point_dropped [] = λ (h : 0 < 0). absurd (omega arith)
-point_dropped (b ∷ bs) = elim (eqb b 46) as (λ v. length (if v then [] else (b ∷ whole_part bs)) < length (b ∷ bs)
-    → drop (suc (length (if v then [] else (b ∷ whole_part bs)))) (b ∷ bs) ≡ (if v then bs else places bs))
-    [ true ↦ λ h. refl | false ↦ λ (h : suc (length (whole_part bs)) < length (b ∷ bs)). point_dropped bs (omega arith) ]
+pub blanks_both : (l : List ℕ) → blanks l ++ behind_blanks l ≡ l
+blanks_both [] = refl
+blanks_both (b ∷ bs) = elim (is_blank (line_byte b bs)) as (λ v. (if v then b ∷ blanks bs else []) ++ (if v then behind_blanks bs else b ∷ bs) ≡ b ∷ bs)
+    [ true ↦ ap (λ (ws : Word). b ∷ ws) (blanks_both bs) | false ↦ refl ]
 
-pub point_none : (w : Word) → length w ≤ length (whole_part w) → places w ≡ []
-point_none [] = λ (h : 0 ≤ 0). refl
-point_none (b ∷ bs) = elim (eqb b 46) as (λ v. length (b ∷ bs) ≤ length (if v then [] else (b ∷ whole_part bs)) → (if v then bs else places bs) ≡ [])
-    [ true ↦ λ (h : suc (length bs) ≤ 0). absurd (omega arith) | false ↦ λ (h : suc (length bs) ≤ suc (length (whole_part bs))). point_none bs (omega arith) ]
+pub word_both : (l : List ℕ) → leading_word l ++ behind_word l ≡ l
+word_both [] = refl
+word_both (b ∷ bs) = elim (is_blank (line_byte b bs)) as (λ v. (if v then [] else b ∷ leading_word bs) ++ (if v then b ∷ bs else behind_word bs) ≡ b ∷ bs)
+    [ true ↦ refl | false ↦ ap (λ (ws : Word). b ∷ ws) (word_both bs) ]
 
-pub point_has : (w : Word) → length (whole_part w) < length w → has_point w ≡ true
-point_has [] = λ (h : 0 < 0). absurd (omega arith)
-point_has (b ∷ bs) = elim (eqb b 46) as (λ v. length (if v then [] else (b ∷ whole_part bs)) < length (b ∷ bs) → (v || has_point bs) ≡ true)
-    [ true ↦ λ h. refl | false ↦ λ (h : suc (length (whole_part bs)) < length (b ∷ bs)). point_has bs (omega arith) ]
+pub blanks_dropped : (l : List ℕ) → drop (length (blanks l)) l ≡ behind_blanks l
+blanks_dropped l = front_rest l (blanks l) (behind_blanks l) (sym (blanks_both l))
 
-pub point_has_none : (w : Word) → length w ≤ length (whole_part w) → has_point w ≡ false
-point_has_none [] = λ (h : 0 ≤ 0). refl
-point_has_none (b ∷ bs) = elim (eqb b 46) as (λ v. length (b ∷ bs) ≤ length (if v then [] else (b ∷ whole_part bs)) → (v || has_point bs) ≡ false) [
-  | true ↦ λ (h : suc (length bs) ≤ 0). absurd (omega arith)
-  | false ↦
-      λ (h : suc (length bs) ≤ suc (length (whole_part bs))). point_has_none bs (omega arith)
-]
+pub word_dropped : (l : List ℕ) → drop (length (leading_word l)) l ≡ behind_word l
+word_dropped l = front_rest l (leading_word l) (behind_word l) (sym (word_both l))
 
-pub point_cut : (w : Word) (k : ℕ) → k ≡ length (whole_part w) → k < length w → take (length w - (k + 1)) (drop (k + 1) w) ≡ places w
-point_cut w k e h = take_rest w (k + 1) ∙ rw add-one (point_at w k e h)
-  where
-    point_at : (w : Word) (k : ℕ) → k ≡ length (whole_part w) → k < length w → drop (suc k) w ≡ places w
-    point_at w k e h = let l : length (whole_part w) < length w = omega arith in rw e (point_dropped w l)
+pub word_taken : (l : List ℕ) → take (length (leading_word l)) l ≡ leading_word l
+word_taken l = sym (ap (take (length (leading_word l))) (word_both l)) ∙ take-append_seam (leading_word l) (behind_word l)
 
-pub point_past : (w : Word) (k : ℕ) → k ≡ length (whole_part w) → length w ≤ k → take (length w - k) (drop k w) ≡ places w
-point_past w k e h = take_rest w k ∙ drop_all k w h ∙ sym (point_none w (omega arith))
+-- ---- the bytes before the first of a kind, those behind it, and whether there is one
 
--- ---- significand
+pub record IsCutIn (w front back : List ℕ) (some : Bool) : Type 0 where
+  pub taken : take (length front) w ≡ front
+  pub within : length front ≤ length w
+  pub dropped : length front < length w → drop (suc (length front)) w ≡ back
+  pub none : length w ≤ length front → back ≡ []
+  pub has : length front < length w → some ≡ true
+  pub has_none : length w ≤ length front → some ≡ false
 
-pub mark_further : (w : Word) (i : ℕ) → i < length w → (eqb (get_or w i 0) 101 || eqb (get_or w i 0) 69) ≡ false
-    → length (significand (drop i w)) ≡ suc (length (significand (drop (suc i) w)))
-mark_further w i h e = rw (drop-cons w i 0) (rw e refl)
+nothing_cut : IsCutIn [] [] [] false
+nothing_cut = record {
+  taken = refl;
+  within = omega arith;
+  dropped = λ (h : 0 < 0). absurd (omega arith);
+  none = λ h. refl;
+  has = λ (h : 0 < 0). absurd (omega arith);
+  has_none = λ h. refl;
+}
 
-pub mark_found : (w : Word) (i : ℕ) → i < length w → (eqb (get_or w i 0) 101 || eqb (get_or w i 0) 69) ≡ true → length (significand (drop i w)) ≡ 0
-mark_found w i h e = rw (drop-cons w i 0) (rw e refl)
+cut_here : (b : ℕ) (bs : List ℕ) → IsCutIn (b ∷ bs) [] bs true
+cut_here b bs = record {
+  taken = refl;
+  within = omega arith;
+  dropped = λ h. refl;
+  none = λ (h : suc (length bs) ≤ 0). absurd (omega arith);
+  has = λ h. refl;
+  has_none = λ (h : suc (length bs) ≤ 0). absurd (omega arith);
+}
 
-pub mark_taken : (w : Word) → take (length (significand w)) w ≡ significand w
-mark_taken [] = refl
-mark_taken (b ∷ bs) = elim (eqb b 101 || eqb b 69) as (λ v. take (length (if v then [] else (b ∷ significand bs))) (b ∷ bs) ≡
-    (if v then [] else (b ∷ significand bs)))
-    [ true ↦ refl | false ↦ ap (λ (ws : Word). b ∷ ws) (mark_taken bs) ]
+cut_later : (b : ℕ) (bs front back : List ℕ) (some : Bool) → IsCutIn bs front back some → IsCutIn (b ∷ bs) (b ∷ front) back some
+cut_later b bs front back some c = record {
+  taken = ap (λ (ws : Word). b ∷ ws) c.taken;
+  within = omega (arith, c.within);
+  dropped = λ (h : suc (length front) < suc (length bs)). c.dropped (omega arith);
+  none = λ (h : suc (length bs) ≤ suc (length front)). c.none (omega arith);
+  has = λ (h : suc (length front) < suc (length bs)). c.has (omega arith);
+  has_none = λ (h : suc (length bs) ≤ suc (length front)). c.has_none (omega arith);
+}
 
-pub mark_within : (w : Word) → length (significand w) ≤ length w
-mark_within [] = omega arith
-mark_within (b ∷ bs) = elim (eqb b 101 || eqb b 69) as (λ v. length (if v then [] else (b ∷ significand bs)) ≤ suc (length bs))
-    [ true ↦ omega arith | false ↦ omega (arith, mark_within bs) ]
+cut_by : (b : ℕ) (bs front back : List ℕ) (some here : Bool) → IsCutIn bs front back some
+    → IsCutIn (b ∷ bs) (if here then [] else b ∷ front) (if here then bs else back) (here || some)
+cut_by b bs front back some true c = cut_here b bs
+cut_by b bs front back some false c = cut_later b bs front back some c
 
-pub mark_dropped : (w : Word) → length (significand w) < length w → drop (suc (length (significand w))) w ≡ exponent w
-mark_dropped [] = λ (h : 0 < 0). absurd (omega arith)
-mark_dropped (b ∷ bs) = elim (eqb b 101 || eqb b 69) as (λ v. length (if v then [] else (b ∷ significand bs)) < length (b ∷ bs)
-    → drop (suc (length (if v then [] else (b ∷ significand bs)))) (b ∷ bs) ≡ (if v then bs else exponent bs))
-    [ true ↦ λ h. refl | false ↦ λ (h : suc (length (significand bs)) < length (b ∷ bs)). mark_dropped bs (omega arith) ]
+pub point_cut : (w : Word) → IsCutIn w (whole_part w) (places w) (has_point w)
+point_cut [] = nothing_cut
+point_cut (b ∷ bs) = cut_by b bs (whole_part bs) (places bs) (has_point bs) (eqb b 46) (point_cut bs)
 
-pub mark_none : (w : Word) → length w ≤ length (significand w) → exponent w ≡ []
-mark_none [] = λ (h : 0 ≤ 0). refl
-mark_none (b ∷ bs) = elim (eqb b 101 || eqb b 69) as (λ v. length (b ∷ bs) ≤ length (if v then [] else (b ∷ significand bs))
-    → (if v then bs else exponent bs) ≡ [])
-    [ true ↦ λ (h : suc (length bs) ≤ 0). absurd (omega arith) | false ↦ λ (h : suc (length bs) ≤ suc (length (significand bs))). mark_none bs (omega arith) ]
+pub mark_cut : (w : Word) → IsCutIn w (significand w) (exponent w) (has_exponent w)
+mark_cut [] = nothing_cut
+mark_cut (b ∷ bs) = cut_by b bs (significand bs) (exponent bs) (has_exponent bs) (eqb b 101 || eqb b 69) (mark_cut bs)
 
-pub mark_has : (w : Word) → length (significand w) < length w → has_exponent w ≡ true
-mark_has [] = λ (h : 0 < 0). absurd (omega arith)
-mark_has (b ∷ bs) = elim (eqb b 101 || eqb b 69) as (λ v. length (if v then [] else (b ∷ significand bs)) < length (b ∷ bs) → (v || has_exponent bs) ≡ true)
-    [ true ↦ λ h. refl | false ↦ λ (h : suc (length (significand bs)) < length (b ∷ bs)). mark_has bs (omega arith) ]
+pub line_cut : (t : List ℕ) → IsCutIn t (first_line t) (behind_line t) (has_line_end t)
+line_cut [] = nothing_cut
+line_cut (b ∷ bs) = cut_by b bs (first_line bs) (behind_line bs) (has_line_end bs) (eqb b 10) (line_cut bs)
 
-pub mark_has_none : (w : Word) → length w ≤ length (significand w) → has_exponent w ≡ false
-mark_has_none [] = λ (h : 0 ≤ 0). refl
-mark_has_none (b ∷ bs) = elim (eqb b 101 || eqb b 69) as (λ v. length (b ∷ bs) ≤ length (if v then [] else (b ∷ significand bs))
-    → (v || has_exponent bs) ≡ false) [
-      | true ↦ λ (h : suc (length bs) ≤ 0). absurd (omega arith)
-      | false ↦
-          λ (h : suc (length bs) ≤ suc (length (significand bs))). mark_has_none bs (omega arith)
-    ]
+-- what is behind, as slices
+pub behind_cut : (w front back : List ℕ) (some : Bool) (k : ℕ) → IsCutIn w front back some → k ≡ length front → k < length w
+    → take (length w - (k + 1)) (drop (k + 1) w) ≡ back
+behind_cut w front back some k c e h =
+    take_rest w (k + 1) ∙ rw add-one (ap (λ n. drop (suc n) w) e ∙ c.dropped (omega arith))
 
-pub mark_cut : (w : Word) (k : ℕ) → k ≡ length (significand w) → k < length w → take (length w - (k + 1)) (drop (k + 1) w) ≡ exponent w
-mark_cut w k e h = take_rest w (k + 1) ∙ rw add-one (mark_at w k e h)
-  where
-    mark_at : (w : Word) (k : ℕ) → k ≡ length (significand w) → k < length w → drop (suc k) w ≡ exponent w
-    mark_at w k e h = let l : length (significand w) < length w = omega arith in rw e (mark_dropped w l)
-
-pub mark_past : (w : Word) (k : ℕ) → k ≡ length (significand w) → length w ≤ k → take (length w - k) (drop k w) ≡ exponent w
-mark_past w k e h = take_rest w k ∙ drop_all k w h ∙ sym (mark_none w (omega arith))
-
--- ---- blanks
-
-pub blanks_further : (w : Word) (i : ℕ) → i < length w → (is_blank (line_byte (get_or w i 0) (drop (suc i) w))) ≡ true
-    → length (blanks (drop i w)) ≡ suc (length (blanks (drop (suc i) w)))
-blanks_further w i h e = rw (drop-cons w i 0) (rw e refl)
-
-pub blanks_found : (w : Word) (i : ℕ) → i < length w → (is_blank (line_byte (get_or w i 0) (drop (suc i) w))) ≡ false → length (blanks (drop i w)) ≡ 0
-blanks_found w i h e = rw (drop-cons w i 0) (rw e refl)
-
-pub blanks_taken : (w : Word) → take (length (blanks w)) w ≡ blanks w
-blanks_taken [] = refl
-blanks_taken (b ∷ bs) = elim (is_blank (line_byte b bs)) as
-    (λ v. take (length (if v then (b ∷ blanks bs) else [])) (b ∷ bs) ≡ (if v then (b ∷ blanks bs) else []))
-    [ true ↦ ap (λ (ws : Word). b ∷ ws) (blanks_taken bs) | false ↦ refl ]
-
-pub blanks_dropped : (w : Word) → drop (length (blanks w)) w ≡ behind_blanks w
-blanks_dropped [] = refl
-blanks_dropped (b ∷ bs) = elim (is_blank (line_byte b bs)) as
-    (λ v. drop (length (if v then (b ∷ blanks bs) else [])) (b ∷ bs) ≡ (if v then behind_blanks bs else (b ∷ bs)))
-    [ true ↦ blanks_dropped bs | false ↦ refl ]
-
--- ---- leading_word
-
-pub word_further : (w : Word) (i : ℕ) → i < length w → (is_blank (line_byte (get_or w i 0) (drop (suc i) w))) ≡ false
-    → length (leading_word (drop i w)) ≡ suc (length (leading_word (drop (suc i) w)))
-word_further w i h e = rw (drop-cons w i 0) (rw e refl)
-
-pub word_found : (w : Word) (i : ℕ) → i < length w → (is_blank (line_byte (get_or w i 0) (drop (suc i) w))) ≡ true → length (leading_word (drop i w)) ≡ 0
-word_found w i h e = rw (drop-cons w i 0) (rw e refl)
-
-pub word_taken : (w : Word) → take (length (leading_word w)) w ≡ leading_word w
-word_taken [] = refl
-word_taken (b ∷ bs) = elim (is_blank (line_byte b bs)) as
-    (λ v. take (length (if v then [] else (b ∷ leading_word bs))) (b ∷ bs) ≡ (if v then [] else (b ∷ leading_word bs)))
-    [ true ↦ refl | false ↦ ap (λ (ws : Word). b ∷ ws) (word_taken bs) ]
-
-pub word_dropped : (w : Word) → drop (length (leading_word w)) w ≡ behind_word w
-word_dropped [] = refl
-word_dropped (b ∷ bs) = elim (is_blank (line_byte b bs)) as
-    (λ v. drop (length (if v then [] else (b ∷ leading_word bs))) (b ∷ bs) ≡ (if v then (b ∷ bs) else behind_word bs))
-    [ true ↦ refl | false ↦ word_dropped bs ]
-
--- ---- first_line
-
-pub line_further : (w : Word) (i : ℕ) → i < length w → (eqb (get_or w i 0) 10) ≡ false
-    → length (first_line (drop i w)) ≡ suc (length (first_line (drop (suc i) w)))
-line_further w i h e = rw (drop-cons w i 0) (rw e refl)
-
-pub line_found : (w : Word) (i : ℕ) → i < length w → (eqb (get_or w i 0) 10) ≡ true → length (first_line (drop i w)) ≡ 0
-line_found w i h e = rw (drop-cons w i 0) (rw e refl)
-
-pub line_taken : (w : Word) → take (length (first_line w)) w ≡ first_line w
-line_taken [] = refl
-line_taken (b ∷ bs) = elim (eqb b 10) as (λ v. take (length (if v then [] else (b ∷ first_line bs))) (b ∷ bs) ≡ (if v then [] else (b ∷ first_line bs)))
-    [ true ↦ refl | false ↦ ap (λ (ws : Word). b ∷ ws) (line_taken bs) ]
-
-pub line_within : (w : Word) → length (first_line w) ≤ length w
-line_within [] = omega arith
-line_within (b ∷ bs) = elim (eqb b 10) as (λ v. length (if v then [] else (b ∷ first_line bs)) ≤ suc (length bs))
-    [ true ↦ omega arith | false ↦ omega (arith, line_within bs) ]
-
-pub line_dropped : (w : Word) → length (first_line w) < length w → drop (suc (length (first_line w))) w ≡ behind_line w
-line_dropped [] = λ (h : 0 < 0). absurd (omega arith)
-line_dropped (b ∷ bs) = elim (eqb b 10) as (λ v. length (if v then [] else (b ∷ first_line bs)) < length (b ∷ bs)
-    → drop (suc (length (if v then [] else (b ∷ first_line bs)))) (b ∷ bs) ≡ (if v then bs else behind_line bs))
-    [ true ↦ λ h. refl | false ↦ λ (h : suc (length (first_line bs)) < length (b ∷ bs)). line_dropped bs (omega arith) ]
-
-pub line_none : (w : Word) → length w ≤ length (first_line w) → behind_line w ≡ []
-line_none [] = λ (h : 0 ≤ 0). refl
-line_none (b ∷ bs) = elim (eqb b 10) as (λ v. length (b ∷ bs) ≤ length (if v then [] else (b ∷ first_line bs)) → (if v then bs else behind_line bs) ≡ [])
-    [ true ↦ λ (h : suc (length bs) ≤ 0). absurd (omega arith) | false ↦ λ (h : suc (length bs) ≤ suc (length (first_line bs))). line_none bs (omega arith) ]
-
-pub line_has : (w : Word) → length (first_line w) < length w → has_line_end w ≡ true
-line_has [] = λ (h : 0 < 0). absurd (omega arith)
-line_has (b ∷ bs) = elim (eqb b 10) as (λ v. length (if v then [] else (b ∷ first_line bs)) < length (b ∷ bs) → (v || has_line_end bs) ≡ true)
-    [ true ↦ λ h. refl | false ↦ λ (h : suc (length (first_line bs)) < length (b ∷ bs)). line_has bs (omega arith) ]
-
-pub line_has_none : (w : Word) → length w ≤ length (first_line w) → has_line_end w ≡ false
-line_has_none [] = λ (h : 0 ≤ 0). refl
-line_has_none (b ∷ bs) = elim (eqb b 10) as (λ v. length (b ∷ bs) ≤ length (if v then [] else (b ∷ first_line bs)) → (v || has_line_end bs) ≡ false) [
-  | true ↦ λ (h : suc (length bs) ≤ 0). absurd (omega arith)
-  | false ↦
-      λ (h : suc (length bs) ≤ suc (length (first_line bs))). line_has_none bs (omega arith)
-]
+pub behind_end : (w front back : List ℕ) (some : Bool) (k : ℕ) → IsCutIn w front back some → k ≡ length front → length w ≤ k
+    → take (length w - k) (drop k w) ≡ back
+behind_end w front back some k c e h = take_rest w k ∙ drop_all k w h ∙ sym (c.none (omega arith))

@@ -19,7 +19,7 @@ use Rattle.rounding.specs.declared.replacement.FinePrices.{FinePrices}
 use Rattle.rounding.specs.declared.replacement.Replacement.{Replacement}
 use Rattle.rounding.specs.declared.replacement.Replacement.TheVariants.{Itself, Exact, Rounded, TooLarge, TooFine}
 use Rattle.rounding.proofs.Words.{second_both, second_taken, drop_more}
-use Rattle.rounding.proofs.Spans.{line_taken, line_dropped, line_none, line_has, line_has_none, line_within}
+use Rattle.rounding.proofs.Spans.{IsCutIn, line_cut}
 
 -- ---- a bid line
 
@@ -50,11 +50,8 @@ bid_line_change fine l word k number r ek ew er =
     ap (change_by number word) er ∙ ap (λ (v : Word). change_by number v (replacement fine v)) word_is
 
 pub no_change : (number : ℕ) (word : Word) (r : Replacement) → ((price : ℕ) → r ≡ Rounded price → ⊥) → change_by number word r ≡ []
-no_change number word Itself h = refl
-no_change number word (Exact p) h = refl
 no_change number word (Rounded p) h = absurd (h p refl)
-no_change number word TooLarge h = refl
-no_change number word TooFine h = refl
+no_change number word _ h = refl
 
 pub change_pushed : (number price : ℕ) (word : Word) (r : Replacement) (p : RoundedPrice) (ps qs : List RoundedPrice) → qs ≡ ps ++ p ∷ []
     → p.line ≡ number → p.word.items ≡ word → p.price ≡ price → r ≡ Rounded price → plain_changes qs ≡ plain_changes ps ++ change_by number word r
@@ -95,24 +92,26 @@ pub cut_line : (text line : List ℕ) (start count next : ℕ) → start < lengt
     → line ≡ take (start + count - start) (drop start text) → next ≡ min (length text) (start + count + 1)
     → IsCut text line start (start + count) next (ltb (start + count) (length text))
 cut_line text line start count next l ec el en =
-    let rest : take (length text - start) (drop start text) ≡ drop start text = take_rest text start in
-    let count_is : count ≡ length (first_line (drop start text)) = ec ∙ ap (λ (t : List ℕ). length (first_line t)) rest in
+    let cut : IsCutIn (drop start text) (first_line (drop start text)) (behind_line (drop start text)) (has_line_end (drop start text)) = line_cut (drop start text) in
+    let count_is : count ≡ length (first_line (drop start text)) = ec ∙ ap (λ (t : List ℕ). length (first_line t)) (take_rest text start) in
     let size : length (drop start text) ≡ length text - start = length-drop start text in
-    let width : start + count - start ≡ count = omega arith in
-    let inside : length (first_line (drop start text)) ≤ length (drop start text) = line_within (drop start text) in
+    let inside : length (first_line (drop start text)) ≤ length (drop start text) = cut.within in
+    let width : start + count - start ≡ length (first_line (drop start text)) = omega arith in
+    let line_is : line ≡ first_line (drop start text) = el ∙ ap (λ n. take n (drop start text)) width ∙ cut.taken in
+    ⊎_elim
+    (λ (s : start + count < length text).
+    let is : next ≡ start + suc (length (first_line (drop start text))) = omega arith in
     record {
-      line_is = el ∙ ap (λ n. take n (drop start text)) (width ∙ count_is) ∙ line_taken (drop start text);
-      ended_is = ⊎_elim
-          (λ (s : start + count < length text). lt-ltb (start + count) (length text) s ∙ sym (line_has (drop start text) (omega arith)))
-          (λ (s : length text ≤ start + count). le-ltb (start + count) (length text) s ∙ sym (line_has_none (drop start text) (omega arith)))
-          (cases_lt (start + count) (length text));
-      next_is = ⊎_elim
-          (λ (s : start + count < length text). let is : next ≡ start + suc (length (first_line (drop start text))) = omega arith in
-          ap (λ n. drop n text) is ∙ drop_more text start (suc (length (first_line (drop start text)))) ∙ line_dropped (drop start text) (omega arith))
-          (λ (s : length text ≤ start + count). let is : length text ≤ next = omega arith in
-          drop_all next text is ∙ sym (line_none (drop start text) (omega arith)))
-          (cases_lt (start + count) (length text));
-    }
+      line_is = line_is;
+      ended_is = lt-ltb (start + count) (length text) s ∙ sym (cut.has (omega arith));
+      next_is = ap (λ n. drop n text) is ∙ drop_more text start (suc (length (first_line (drop start text)))) ∙ cut.dropped (omega arith);
+    })
+    (λ (s : length text ≤ start + count). record {
+      line_is = line_is;
+      ended_is = le-ltb (start + count) (length text) s ∙ sym (cut.has_none (omega arith));
+      next_is = drop_all next text (omega arith) ∙ sym (cut.none (omega arith));
+    })
+    (cases_lt (start + count) (length text))
 
 -- what is written of the first line of a text
 pub record IsFirstLine (fine : FinePrices) (t : List ℕ) (before number : ℕ) (t0 t2 : List ℕ) (p0 p1 : List PlainChange) : Type 0 where

@@ -11,7 +11,7 @@ use Rattle.cats_text.specs.Lines.{Word, is_blank, line_byte, line_ends, blank_re
 use Rattle.cats_text.specs.Numbers.{is_number, digits_alone, is_digit, whole_part, places, has_point, is_price}
 use Rattle.rounding.specs.Decimals.{significand, exponent, has_exponent, without_sign, is_decimal, digits}
 use Rattle.rounding.specs.Texts.{blanks, behind_blanks, leading_word, behind_word, from_second, before_second}
-use Rattle.rounding.proofs.Spans.{blanks_taken, blanks_dropped, word_taken, word_dropped, mark_has, mark_has_none, point_has, point_has_none, point_within}
+use Rattle.rounding.proofs.Spans.{blanks_both, word_both, blanks_dropped, word_dropped, mark_cut, point_cut}
 
 -- ---- digits in two runs
 
@@ -33,13 +33,13 @@ digits_known w s a b r es ea eb er e =
 pub decimal_without : (w : Word) (k : ℕ) → is_number (digits w) ≡ true → k ≡ length (significand w) → k ≡ length w → eqb k (length w) ≡ is_decimal w
 decimal_without w k d e h =
     eq-eqb k (length w) h ∙ sym (and_from (is_number (digits w)) (not (has_exponent w) || is_number (without_sign (exponent w))) d
-    (ap (λ v. not v || is_number (without_sign (exponent w))) (mark_has_none w (omega arith))))
+    (ap (λ v. not v || is_number (without_sign (exponent w))) ((mark_cut w).has_none (omega arith))))
 
 pub decimal_with : (w : Word) (k : ℕ) (r : Bool) → is_number (digits w) ≡ true → k ≡ length (significand w) → k ≤ length w → (k ≡ length w → ⊥)
     → r ≡ is_number (without_sign (exponent w)) → r ≡ is_decimal w
 decimal_with w k r d e le ne er =
     er ∙ sym (ap (λ v. v && (not (has_exponent w) || is_number (without_sign (exponent w)))) d
-    ∙ ap (λ v. not v || is_number (without_sign (exponent w))) (mark_has w (omega arith)))
+    ∙ ap (λ v. not v || is_number (without_sign (exponent w))) ((mark_cut w).has (omega arith)))
 
 -- ---- prices
 
@@ -47,23 +47,15 @@ pub price_without : (w : Word) (k : ℕ) (r : Bool) → k ≡ length (whole_part
     → eqb k (length w) ≡ is_price w
 price_without w k r e er t h =
     eq-eqb k (length w) h ∙ sym (and_from (is_number (whole_part w)) (not (has_point w) || is_number (places w)) (sym er ∙ t)
-    (ap (λ v. not v || is_number (places w)) (point_has_none w (omega arith))))
+    (ap (λ v. not v || is_number (places w)) ((point_cut w).has_none (omega arith))))
 
 pub price_with : (w : Word) (k : ℕ) (r s : Bool) → k ≡ length (whole_part w) → r ≡ is_number (whole_part w) → r ≡ true → (k ≡ length w → ⊥)
     → s ≡ is_number (places w) → s ≡ is_price w
 price_with w k r s e er t ne es =
     es ∙ sym (ap (λ v. v && (not (has_point w) || is_number (places w))) (sym er ∙ t)
-    ∙ ap (λ v. not v || is_number (places w)) (point_has w (omega (arith, point_within w))))
+    ∙ ap (λ v. not v || is_number (places w)) ((point_cut w).has (omega (arith, (point_cut w).within))))
 
 -- ---- a line is its parts
-
-pub blanks_both : (l : List ℕ) → blanks l ++ behind_blanks l ≡ l
-blanks_both l = sym (ap (λ (t : List ℕ). t ++ behind_blanks l) (blanks_taken l)) ∙ ap (λ (t : List ℕ). take (length (blanks l)) l ++ t) (sym (blanks_dropped l))
-    ∙ take-append-drop (length (blanks l)) l
-
-pub word_both : (l : List ℕ) → leading_word l ++ behind_word l ≡ l
-word_both l = sym (ap (λ (t : List ℕ). t ++ behind_word l) (word_taken l)) ∙ ap (λ (t : List ℕ). take (length (leading_word l)) l ++ t) (sym (word_dropped l))
-    ∙ take-append-drop (length (leading_word l)) l
 
 pub second_both : (l : List ℕ) → before_second l ++ from_second l ≡ l
 second_both l =

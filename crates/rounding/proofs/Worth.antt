@@ -13,7 +13,7 @@ use Rattle.std.proofs.Math.Nat.{mul-le-mul_left, pow-succ', one-le-pow, pow-suc}
 use Rattle.cats_text.specs.Lines.{Word}
 use Rattle.cats_text.specs.Numbers.{is_digit, digits_alone, number_of, is_number, whole_part, places}
 use Rattle.rounding.specs.Decimals.{significand, exponent, has_exponent, without_sign, has_minus, digits, is_decimal, mantissa, top, bottom}
-use Rattle.rounding.proofs.Spans.{mark_within}
+use Rattle.rounding.proofs.Spans.{mark_cut}
 use Rattle.bid_file.specs.declared.limits.TheConstants.{MAX_PRICE}
 use Rattle.rounding.specs.Internal.Rests.{rest_with}
 use Rattle.rounding.specs.Internal.Values.{IsRest, Holds, shift_up, shift_down}
@@ -277,7 +277,7 @@ sizes (b ∷ bs) = elim (eqb b 46) as (λ v. length (if v then [] else (b ∷ wh
     [ true ↦ omega arith | false ↦ omega (arith, sizes bs) ]
 
 pub sizes_in : (w s a b : Word) → s ≡ significand w → a ≡ whole_part s → b ≡ places s → length a + length b ≤ length w
-sizes_in w s a b es ea eb = omega (arith, ap length ea, ap length eb, sizes s, ap length es, mark_within w)
+sizes_in w s a b es ea eb = omega (arith, ap length ea, ap length eb, sizes s, ap length es, (mark_cut w).within)
 
 digits_are : (w s a b : Word) → s ≡ significand w → a ≡ whole_part s → b ≡ places s → a ++ b ≡ digits w
 digits_are w s a b es ea eb = ap (λ (t : Word). t ++ b) (ea ∙ ap whole_part es) ∙ ap (λ (t : Word). whole_part (significand w) ++ t) (eb ∙ ap places es)
