@@ -30,40 +30,24 @@ word_keeps p (Ok q) h = h.keeping q refl
 word_keeps p (Err kind) h = tt
 
 line_keeps : (column : Column) (stage : Stage) (p : Progress) → ReadKeeps p.keep (line_at column stage p)
-line_keeps First Goods p = tt
-line_keeps Second Goods p = tt
-line_keeps Later Goods p = refl
-line_keeps Ended Goods p = tt
-line_keeps First Bids p = tt
-line_keeps Second Bids p = tt
-line_keeps Later Bids p = refl
-line_keeps Ended Bids p = tt
-line_keeps First Dummy p = tt
-line_keeps Second Dummy p = tt
-line_keeps Later Dummy p = refl
-line_keeps Ended Dummy p = tt
 line_keeps First Bid p = tt
 line_keeps Second Bid p = tt
 line_keeps Later Bid p = tt
+line_keeps Later _ p = refl
 line_keeps Ended Bid p = refl
+line_keeps _ _ p = tt
 
 reading_keeps : (s : State) (m : Mode) (r : Reading) → ReadKeeps s.progress.keep r → ScanKeeps s.progress.keep (with_reading s m r)
 reading_keeps s m (Ok p) h = h
 reading_keeps s m (Err kind) h = tt
 
 blank_keeps : (m : Mode) (s : State) → ScanKeeps s.progress.keep (blank_step_at m s)
-blank_keeps Start s = refl
-blank_keeps Blank s = refl
-blank_keeps Comment s = refl
-blank_keeps Between s = refl
 blank_keeps (Inside w) s = reading_keeps s Between (word_read s.progress w) (word_keeps s.progress (word_read s.progress w) (keeps_word s.progress w))
+blank_keeps _ s = refl
 
 words_keep : (m : Mode) (s : State) → ScanKeeps s.progress.keep (words_step_at m s)
-words_keep Start s = refl
-words_keep Blank s = refl
-words_keep Comment s = refl
 words_keep Between s = reading_keeps s Between (line_read s.progress) (line_keeps s.progress.column s.progress.stage s.progress)
-words_keep (Inside w) s = refl
+words_keep _ s = refl
 
 either_keeps : (k : PlainBid → PlainBid) (test : Bool) (a b : Scan) → ScanKeeps k a → ScanKeeps k b → ScanKeeps k (if test then a else b)
 either_keeps k true a b h g = h

@@ -85,10 +85,7 @@ number_follows g b d lines w v p t at =
 pub bid_first : (g b d : List (List ℕ)) (lines : List (List (List ℕ))) (w : List ℕ) (s : Word) (p : Progress) → IsTested w s → Summarises w s
     → IsAt (g ∷ b ∷ d ∷ lines) [] p → WordFollows (g ∷ b ∷ d ∷ lines) [] w (number_read p s)
 bid_first g b d lines w (Number v) p tested t at = number_follows g b d lines w v p t at
-bid_first g b d lines w (Keyword j n) p tested t at = fault_named (g ∷ b ∷ d ∷ lines) [] w _ _ _ refl (ap not tested.number)
-bid_first g b d lines w (Fraction e) p tested t at = fault_named (g ∷ b ∷ d ∷ lines) [] w _ _ _ refl (ap not tested.number)
-bid_first g b d lines w End p tested t at = fault_named (g ∷ b ∷ d ∷ lines) [] w _ _ _ refl (ap not tested.number)
-bid_first g b d lines w Other p tested t at = fault_named (g ∷ b ∷ d ∷ lines) [] w _ _ _ refl (ap not tested.number)
+bid_first g b d lines w _ p tested t at = fault_named (g ∷ b ∷ d ∷ lines) [] w _ _ _ refl (ap not tested.number)
 
 -- ---- the price
 

@@ -71,8 +71,7 @@ listed came (p ∷ places) some = refl
 
 listed_set : (came : List PlainBid) (places : List ℕ) (n k : ℕ) → n < length places → slot_list came (set places n k) ≡ placed came (set places n k)
 listed_set came [] n k l = absurd (let no : n < 0 = l in omega arith)
-listed_set came (p ∷ places) zero k l = refl
-listed_set came (p ∷ places) (suc n) k l = refl
+listed_set came (p ∷ places) _ k l = refl
 
 pub within_at : (n : ℕ) (places : List ℕ) (i p : ℕ) → AreWithin n places → slice_get places i ≡ Some p → p ≤ n
 within_at n [] i p all e = cc
@@ -82,10 +81,9 @@ within_at n (q ∷ places) (suc i) p all e = within_at n places i p all.1 e
 -- ---- one more bid behind the others
 
 slot_stays : (came : List PlainBid) (b : PlainBid) (p : ℕ) → p ≤ length came → slot_at (came ++ b ∷ []) p ≡ slot_at came p
-slot_stays came b zero l = refl
 slot_stays [] b (suc i) l = absurd (let no : suc i ≤ 0 = l in omega arith)
-slot_stays (c ∷ came) b (suc zero) l = refl
 slot_stays (c ∷ came) b (suc (suc i)) l = slot_stays came b (suc i) (omega arith)
+slot_stays _ b _ l = refl
 
 placed_stay : (came : List PlainBid) (b : PlainBid) (places : List ℕ) → AreWithin (length came) places → placed (came ++ b ∷ []) places ≡ placed came places
 placed_stay came b [] all = refl

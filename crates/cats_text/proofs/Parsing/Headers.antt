@@ -54,17 +54,11 @@ holds_same v n small h = ⊎_elim (λ (e : v ≡ n). e) (λ (above : (HELD ≤ v
 
 pub keyword_good : (p : Progress) (k : Key) (s : Word) → is_keyword_by k s ≡ true → keyword_read p k s ≡ Ok (record p { column = Second })
 keyword_good p k (Keyword j n) h = rw h refl
-keyword_good p k (Number v) h = absurd (both_ways false refl h)
-keyword_good p k (Fraction d) h = absurd (both_ways false refl h)
-keyword_good p k End h = absurd (both_ways false refl h)
-keyword_good p k Other h = absurd (both_ways false refl h)
+keyword_good p k _ h = absurd (both_ways false refl h)
 
 pub keyword_bad : (p : Progress) (k : Key) (s : Word) → is_keyword_by k s ≡ false → keyword_read p k s ≡ Err kinds.Header
 keyword_bad p k (Keyword j n) h = rw h refl
-keyword_bad p k (Number v) h = refl
-keyword_bad p k (Fraction d) h = refl
-keyword_bad p k End h = refl
-keyword_bad p k Other h = refl
+keyword_bad p k _ h = refl
 
 first_word : (lines : List (List (List ℕ))) (k : Key) (limit : ℕ) (p : Progress) (s : Word) (w : List ℕ) → IsTested w s
     → word_read p s ≡ keyword_read p k s → word_fault lines [] w ≡ header_word (keyword_text k) limit [] w
@@ -100,10 +94,7 @@ second_word : (lines : List (List (List ℕ))) (k : List ℕ) (limit : ℕ) (p :
     → word_fault lines (k ∷ []) w ≡ when (not (is_number w)) kinds.NotANumber (when (ltb limit (number_of w)) kinds.TooLarge None)
     → ((v : ℕ) → v ≡ header_value (k ∷ w ∷ []) → v ≤ limit → IsAt lines (k ∷ w ∷ []) (q v)) → WordFollows lines (k ∷ []) w (word_read p s)
 second_word lines k limit p (Number v) w small tested t q number other fault next = grind (arith, common_steps, header_value_of, second_number)
-second_word lines k limit p (Keyword j n) w small tested t q number other fault next = grind (arith, common_steps, no_number)
-second_word lines k limit p (Fraction d) w small tested t q number other fault next = grind (arith, common_steps, no_number)
-second_word lines k limit p End w small tested t q number other fault next = grind (arith, common_steps, no_number)
-second_word lines k limit p Other w small tested t q number other fault next = grind (arith, common_steps, no_number)
+second_word lines k limit p _ w small tested t q number other fault next = grind (arith, common_steps, no_number)
 
 -- ---- a header line, whichever it is
 
@@ -113,10 +104,7 @@ read_there column stage p s e f = ap₂ (λ (x : Column) (y : Stage). read_at x 
 
 not_number_read : (p : Progress) (x : Word) → is_number_by x ≡ false → header_number_read p x ≡ Err kinds.NotANumber
 not_number_read p (Number v) h = absurd (both_ways true h refl)
-not_number_read p (Keyword j n) h = refl
-not_number_read p (Fraction d) h = refl
-not_number_read p End h = refl
-not_number_read p Other h = refl
+not_number_read p _ h = refl
 
 abbrev numbers_at : Stage → Progress → ℕ → Reading
 numbers_at stage p v = elim stage [

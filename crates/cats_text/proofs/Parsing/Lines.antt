@@ -88,12 +88,10 @@ pub line_step : (lines : List (List (List ℕ))) (words : List (List ℕ)) (p : 
     → LineFollows lines words (line_read p)
 line_step lines [] p l at = absurd (let no : 0 < 0 = l in omega arith)
 line_step [] (k ∷ []) p l at = subst (LineFollows [] (k ∷ [])) (sym (line_there Second Goods p at.column at.stage)) refl
-line_step [] (k ∷ v ∷ ws) p l at = grind (arith, common_steps, line_there)
 line_step (g ∷ []) (k ∷ []) p l at = subst (LineFollows (g ∷ []) (k ∷ [])) (sym (line_there Second Bids p at.column at.stage)) refl
-line_step (g ∷ []) (k ∷ v ∷ ws) p l at = grind (arith, common_steps, line_there)
 line_step (g ∷ b ∷ []) (k ∷ []) p l at = subst (LineFollows (g ∷ b ∷ []) (k ∷ [])) (sym (line_there Second Dummy p at.column at.stage)) refl
-line_step (g ∷ b ∷ []) (k ∷ v ∷ ws) p l at = grind (arith, common_steps, line_there)
 line_step (g ∷ b ∷ d ∷ lines) (k ∷ ws) p l at = bid_line_step g b d lines (k ∷ ws) p l at
+line_step _ (k ∷ v ∷ ws) p l at = grind (arith, common_steps, line_there)
 
 -- ---- what is due
 
@@ -104,7 +102,5 @@ abbrev due_at : Stage → ℕ → Bool
 due_at stage due = elim stage [ Goods ↦ true | Bids ↦ true | Dummy ↦ true | Bid ↦ ltb 0 due ]
 
 pub due_step : (lines : List (List (List ℕ))) (p : Progress) → IsAt lines [] p → is_due p ≡ is_line_due lines
-due_step [] p at = ap (λ (x : Stage). due_at x p.due) at.stage
-due_step (g ∷ []) p at = ap (λ (x : Stage). due_at x p.due) at.stage
-due_step (g ∷ b ∷ []) p at = ap (λ (x : Stage). due_at x p.due) at.stage
 due_step (g ∷ b ∷ d ∷ lines) p at = grind (arith, common_steps, left_over)
+due_step _ p at = ap (λ (x : Stage). due_at x p.due) at.stage

@@ -20,9 +20,8 @@ taken_set (x ∷ xs) (suc n) b zero l = sym (ap (λ t. t || is_some_bid (Some x)
 taken_set (x ∷ xs) (suc n) b (suc k) l = grind (arith, common_steps, eq-eqb, eqb-false, eqb-true, ne_eqb, (taken_set xs n b k))
 
 taken_none : (count k : ℕ) → is_some_bid (slice_get (replicate count None) k) ≡ false
-taken_none zero k = refl
-taken_none (suc count) zero = refl
 taken_none (suc count) (suc k) = taken_none count k
+taken_none _ _ = refl
 
 taken_padded : (xs : List (Option PlainBid)) (count k : ℕ) → is_some_bid (slice_get (xs ++ replicate count None) k) ≡ is_some_bid (slice_get xs k)
 taken_padded [] count k = taken_none count k

@@ -37,10 +37,8 @@ bid_column (_ ∷ []) = Second
 bid_column (_ ∷ _ ∷ gs) = ended_column (has_end gs)
 
 abbrev pub column_of : List (List Word) → List Word → Column
-column_of [] words = header_column words
-column_of (_ ∷ []) words = header_column words
-column_of (_ ∷ _ ∷ []) words = header_column words
 column_of (_ ∷ _ ∷ _ ∷ _) words = bid_column words
+column_of _ words = header_column words
 
 abbrev pub values_of : List (List Word) → List Word → Header
 values_of [] words = record { goods = header_value words; bids = 0; dummy = 0 }
@@ -65,10 +63,8 @@ BidDraft G (n ∷ []) p = (p.draft.number ≡ number_of n) × (p.draft.dummy ≡
 BidDraft G (n ∷ w ∷ gs) p = IsDraft G n w gs p
 
 abbrev pub DraftAt : List (List Word) → List Word → Progress → Type 0
-DraftAt [] words p = p.goods ≡ []
-DraftAt (_ ∷ []) words p = p.goods ≡ []
-DraftAt (_ ∷ _ ∷ []) words p = p.goods ≡ []
 DraftAt (_ ∷ _ ∷ _ ∷ _) words p = BidDraft p.header.goods words p
+DraftAt _ words p = p.goods ≡ []
 
 -- what is kept of the bids of lines, each at its number
 abbrev pub kept_slots : (PlainBid → PlainBid) → ℕ → List (List Word) → List (Option PlainBid)

@@ -86,9 +86,8 @@ lines_scan whole count (l ∷ ls) p = cond (l.ended || whole) (scanned_then (who
 
 -- only the last may lack its LF
 abbrev pub AreEndedButLast : List Line → Type 0
-AreEndedButLast [] = Unit {0}
-AreEndedButLast (l ∷ []) = Unit {0}
 AreEndedButLast (l ∷ m ∷ ls) = (l.ended ≡ true) × AreEndedButLast (m ∷ ls)
+AreEndedButLast _ = Unit {0}
 
 abbrev pub LinesAre : Bool → ℕ → List (List Word) → List Line → Scanned → Type 0
 LinesAre whole count lines ls (Ok q) = (lines_fault whole count lines ls ≡ None)

@@ -134,9 +134,7 @@ begun_blank (Inside w) n p t e = begun_reading (standing (Inside w) n p) t _ e
 begun_letter : (m : Mode) (n : ℕ) (p : Progress) (b : ℕ) → line_behind (standing (letter_mode m b) n p) ≡ suc n
 begun_letter Start n p b = elim (eqb b 37) as (λ t. line_behind (standing (cond t Comment (Inside (word_from b))) n p) ≡ suc n) [ true ↦ refl | false ↦ refl ]
 begun_letter Blank n p b = elim (eqb b 37) as (λ t. line_behind (standing (cond t Comment (Inside (word_from b))) n p) ≡ suc n) [ true ↦ refl | false ↦ refl ]
-begun_letter Comment n p b = refl
-begun_letter Between n p b = refl
-begun_letter (Inside w) n p b = refl
+begun_letter _ n p b = refl
 
 pub begun_byte : (s t : State) (b : ℕ) → eqb b 10 ≡ false → byte_step s b ≡ Ok t → HasBegun s t
 begun_byte s t b h e = elim (is_blank b) as (λ q. is_blank b ≡ q → HasBegun s t) [

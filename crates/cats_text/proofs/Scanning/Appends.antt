@@ -34,18 +34,12 @@ reading-line s m (Ok p) = refl
 reading-line s m (Err kind) = tt
 
 blank-line : (m : Mode) (s : State) → IfOk (blank_step_at m s) (λ t. t.line ≡ s.line)
-blank-line Start s = refl
-blank-line Blank s = refl
-blank-line Comment s = refl
-blank-line Between s = refl
 blank-line (Inside w) s = reading-line s Between (word_read s.progress w)
+blank-line _ s = refl
 
 words-line : (m : Mode) (s : State) → IfOk (words_step_at m s) (λ t. t.line ≡ s.line)
-words-line Start s = refl
-words-line Blank s = refl
-words-line Comment s = refl
 words-line Between s = reading-line s Between (line_read s.progress)
-words-line (Inside w) s = refl
+words-line _ s = refl
 
 then-line : (r : Scan) (f : State → Scan) (n m : ℕ) → IfOk r (λ t. t.line ≤ n) → ((t : State) → t.line ≤ n → IfOk (f t) (λ u. u.line ≤ m))
     → IfOk (and_then r f) (λ u. u.line ≤ m)

@@ -148,10 +148,7 @@ keeps_cond p false x y h k = k
 
 keeps_keyword : (p : Progress) (k : Key) (w : Kept) → Keeps p (keyword_read p k w)
 keeps_keyword p k (Keyword j n) = keeps_cond p _ _ _ (keeps_ok p _ refl refl) (keeps_err p _)
-keeps_keyword p k (Number v) = keeps_err p _
-keeps_keyword p k (Fraction d) = keeps_err p _
-keeps_keyword p k End = keeps_err p _
-keeps_keyword p k Other = keeps_err p _
+keeps_keyword p k _ = keeps_err p _
 
 keeps_header_number : (p : Progress) (stage : Stage) (v : ℕ) → Keeps p (elim stage [
   | Goods ↦ cond (ltb MAX_GOODS v) (Err kinds.TooLarge) (Ok (record p { column = Later; header = record p.header { goods = v } }))
@@ -165,58 +162,40 @@ keeps_header_number p Dummy v = keeps_cond p _ _ _ (keeps_err p _) (keeps_ok p _
 keeps_header_number p Bid v = keeps_err p _
 
 keeps_second : (p : Progress) (w : Kept) → Keeps p (header_number_read p w)
-keeps_second p (Keyword j n) = keeps_err p _
 keeps_second p (Number v) = keeps_header_number p p.stage v
-keeps_second p (Fraction d) = keeps_err p _
-keeps_second p End = keeps_err p _
-keeps_second p Other = keeps_err p _
+keeps_second p _ = keeps_err p _
 
 keeps_number : (p : Progress) (w : Kept) → Keeps p (number_read p w)
-keeps_number p (Keyword j n) = keeps_err p _
 keeps_number p (Number v) = grind (arith, common_steps, keeps_cond, keeps_err, keeps_ok)
-keeps_number p (Fraction d) = keeps_err p _
-keeps_number p End = keeps_err p _
-keeps_number p Other = keeps_err p _
+keeps_number p _ = keeps_err p _
 
 keeps_with_price : (p : Progress) (r : Result ℕ Kind) → Keeps p (with_price p r)
 keeps_with_price p (Ok m) = keeps_ok p _ refl refl
 keeps_with_price p (Err kind) = keeps_err p _
 
 keeps_price : (p : Progress) (w : Kept) → Keeps p (price_read p w)
-keeps_price p (Keyword j n) = keeps_err p _
 keeps_price p (Number v) = keeps_with_price p (price_parts v 0 false)
 keeps_price p (Fraction d) = keeps_cond p _ _ _ (keeps_err p _) (keeps_with_price p (price_parts d.whole d.millionths d.fine))
-keeps_price p End = keeps_err p _
-keeps_price p Other = keeps_err p _
+keeps_price p _ = keeps_err p _
 
 keeps_dummy : (p : Progress) (o : Option ℕ) (d : ℕ) → Keeps p (dummy_read p o d)
 keeps_dummy p None d = keeps_ok p _ refl refl
 keeps_dummy p (Some e) d = keeps_cond p _ _ _ (keeps_err p _) (keeps_err p _)
 
 keeps_good : (p : Progress) (w : Kept) → Keeps p (good_or_end_read p w)
-keeps_good p (Keyword j n) = keeps_err p _
 keeps_good p (Number v) = grind (arith, common_steps, keeps_cond, keeps_dummy, keeps_err, keeps_ok)
-keeps_good p (Fraction d) = keeps_err p _
 keeps_good p End = keeps_cond p _ _ _ (keeps_err p _) (keeps_ok p _ refl refl)
-keeps_good p Other = keeps_err p _
+keeps_good p _ = keeps_err p _
 
 keeps_at : (column : Column) (stage : Stage) (p : Progress) (w : Kept) → Keeps p (read_at column stage p w)
 keeps_at First Goods p w = keeps_keyword p keywords.Goods w
 keeps_at First Bids p w = keeps_keyword p keywords.Bids w
 keeps_at First Dummy p w = keeps_keyword p keywords.Dummy w
 keeps_at First Bid p w = keeps_number p w
-keeps_at Second Goods p w = keeps_second p w
-keeps_at Second Bids p w = keeps_second p w
-keeps_at Second Dummy p w = keeps_second p w
 keeps_at Second Bid p w = keeps_price p w
-keeps_at Later Goods p w = keeps_err p _
-keeps_at Later Bids p w = keeps_err p _
-keeps_at Later Dummy p w = keeps_err p _
+keeps_at Second _ p w = keeps_second p w
 keeps_at Later Bid p w = keeps_good p w
-keeps_at Ended Goods p w = keeps_err p _
-keeps_at Ended Bids p w = keeps_err p _
-keeps_at Ended Dummy p w = keeps_err p _
-keeps_at Ended Bid p w = keeps_err p _
+keeps_at _ _ p w = keeps_err p _
 
 -- a word keeps the line
 pub keeps_word : (p : Progress) (w : Kept) → Keeps p (word_read p w)
@@ -228,22 +207,12 @@ ranked k (Err kind) = Unit {0}
 
 -- a line's end goes on by one line at most
 ranked_at : (column : Column) (stage : Stage) (p : Progress) → p.stage ≡ stage → ranked (rank stage) (line_at column stage p)
-ranked_at First Goods p e = tt
-ranked_at Second Goods p e = tt
-ranked_at Later Goods p e = omega arith
-ranked_at Ended Goods p e = tt
-ranked_at First Bids p e = tt
-ranked_at Second Bids p e = tt
-ranked_at Later Bids p e = omega arith
-ranked_at Ended Bids p e = tt
-ranked_at First Dummy p e = tt
-ranked_at Second Dummy p e = tt
-ranked_at Later Dummy p e = omega arith
-ranked_at Ended Dummy p e = tt
 ranked_at First Bid p e = tt
 ranked_at Second Bid p e = tt
 ranked_at Later Bid p e = tt
+ranked_at Later _ p e = omega arith
 ranked_at Ended Bid p e = subst (λ (s : Stage). rank s ≤ 4) (sym e) (omega arith)
+ranked_at _ _ p e = tt
 
 ranked_line : (p : Progress) → ranked (rank p.stage) (line_read p)
 ranked_line p = ranked_at p.column p.stage p refl
@@ -253,17 +222,13 @@ ranked_line p = ranked_at p.column p.stage p refl
 abbrev decided_in : Mode → Bool
 decided_in Start = false
 decided_in Blank = false
-decided_in Comment = true
-decided_in Between = true
-decided_in (Inside w) = true
+decided_in _ = true
 
 -- c lines have begun
 abbrev Begun : Mode → Stage → ℕ → Type 0
-Begun Start stage c = rank stage ≤ c
-Begun Blank stage c = rank stage ≤ c
-Begun Comment stage c = rank stage ≤ c
 Begun Between stage c = suc (rank stage) ≤ c
 Begun (Inside w) stage c = suc (rank stage) ≤ c
+Begun _ stage c = rank stage ≤ c
 
 -- a step keeps the count of the lines that begin from here on
 record KeepsLineCount (c total : ℕ) (bs : List ℕ) (t : State) : Type 0 where
@@ -282,11 +247,8 @@ continues_reading c bs s (Err kind) k l = tt
 
 continues_blank : (c : ℕ) (bs : List ℕ) (m : Mode) (n : ℕ) (p : Progress) → Begun m p.stage c
     → Continues c (begins_after (decided_in m) bs) bs (blank_step (standing m n p))
-continues_blank c bs Start n p l = record { count = c; begun = l; fewer = omega arith }
-continues_blank c bs Blank n p l = record { count = c; begun = l; fewer = omega arith }
-continues_blank c bs Comment n p l = record { count = c; begun = l; fewer = omega arith }
-continues_blank c bs Between n p l = record { count = c; begun = l; fewer = omega arith }
 continues_blank c bs (Inside w) n p l = continues_reading c bs (standing (Inside w) n p) (word_read p w) (keeps_word p w) l
+continues_blank c bs _ n p l = record { count = c; begun = l; fewer = omega arith }
 
 continues_line_read : (c : ℕ) (bs : List ℕ) (n : ℕ) (p : Progress) (r : Reading) → ranked (rank p.stage) r → suc (rank p.stage) ≤ c
     → Continues c (begins_after false bs) bs (and_then (with_reading (standing Between n p) Between r) next_line)
@@ -301,11 +263,9 @@ continues_word_line c bs n w p (Err kind) k l = tt
 
 continues_line : (c : ℕ) (bs : List ℕ) (m : Mode) (n : ℕ) (p : Progress) → Begun m p.stage c
     → Continues c (begins_after false bs) bs (line_step (standing m n p))
-continues_line c bs Start n p l = record { count = c; begun = l; fewer = omega arith }
-continues_line c bs Blank n p l = record { count = c; begun = l; fewer = omega arith }
-continues_line c bs Comment n p l = record { count = c; begun = l; fewer = omega arith }
 continues_line c bs Between n p l = continues_line_read c bs n p (line_read p) (ranked_line p) l
 continues_line c bs (Inside w) n p l = continues_word_line c bs n w p (word_read p w) (keeps_word p w) l
+continues_line c bs _ n p l = record { count = c; begun = l; fewer = omega arith }
 
 continues_first : (c b : ℕ) (bs : List ℕ) (p : Progress) → rank p.stage ≤ c → (t : Bool) → (n : ℕ)
     → KeepsLineCount c (cond t (begins_after true bs) (suc (begins_after true bs))) bs (standing (cond t Comment (Inside (word_from b))) n p)
@@ -319,9 +279,7 @@ continues_letter : (c b : ℕ) (bs : List ℕ) (m : Mode) (n : ℕ) (p : Progres
     → KeepsLineCount c (letter_begins (decided_in m) b (begins_after true bs)) bs (standing (letter_mode m b) n p)
 continues_letter c b bs Start n p l = continues_first c b bs p l (eqb b 37) n
 continues_letter c b bs Blank n p l = continues_first c b bs p l (eqb b 37) n
-continues_letter c b bs Comment n p l = record { count = c; begun = l; fewer = omega arith }
-continues_letter c b bs Between n p l = record { count = c; begun = l; fewer = omega arith }
-continues_letter c b bs (Inside w) n p l = record { count = c; begun = l; fewer = omega arith }
+continues_letter c b bs _ n p l = record { count = c; begun = l; fewer = omega arith }
 
 continues_byte : (c b : ℕ) (bs : List ℕ) (s : State) → Begun s.mode s.progress.stage c
     → Continues c (begins_after (decided_in s.mode) (b ∷ bs)) bs (byte_step s b)
@@ -346,11 +304,9 @@ continues_byte c b bs s l = subst (λ k. Continues c k bs (byte_step s b)) (sym 
     by_decided false = refl
 
 here_counts : (m : Mode) (stage : Stage) (c : ℕ) → stage ≡ Bid → IsInLine m → Begun m stage c → 4 ≤ c
-here_counts Start stage c e i l = absurd i
-here_counts Blank stage c e i l = absurd i
-here_counts Comment stage c e i l = absurd i
 here_counts Between stage c e i l = subst (λ (s : Stage). suc (rank s) ≤ c) e l
 here_counts (Inside w) stage c e i l = subst (λ (s : Stage). suc (rank s) ≤ c) e l
+here_counts _ stage c e i l = absurd i
 
 four_begin : (bytes : List ℕ) (s : State) (c : ℕ) → Begun s.mode s.progress.stage c → MeetsBidLine s bytes → 4 ≤ c + begins_after (decided_in s.mode) bytes
 four_begin [] s c l m = let here : 4 ≤ c = here_counts s.mode s.progress.stage c m.0 m.1 l in omega arith

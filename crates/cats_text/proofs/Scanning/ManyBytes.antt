@@ -58,10 +58,9 @@ decimal_more first bytes i sum next l d so e = grind (arith, common_steps, decim
 -- ---- over several bytes at once
 
 waits_behind : (prefix back : List ℕ) → 0 < length back → waits (prefix ++ back) ≡ waits back
-waits_behind [] back l = refl
 waits_behind (a ∷ []) [] l = absurd (let no : 0 < 0 = l in omega arith)
-waits_behind (a ∷ []) (c ∷ cs) l = refl
 waits_behind (a ∷ b ∷ prefix) back l = waits_behind (b ∷ prefix) back l
+waits_behind _ _ l = refl
 
 waits_last : (xs : List ℕ) → 0 < length xs → waits xs ≡ eqb (get_or xs (length xs - 1) 0) 13
 waits_last [] l = absurd (let no : 0 < 0 = l in omega arith)
@@ -193,11 +192,10 @@ plain_scan w n p [] h = refl
 plain_scan w n p (b ∷ ds) h = grind (arith, common_steps, byte_letter, plain_letter, standing, (plain_scan (word_with w b) n p ds h.1))
 
 plain_begins : (m : Mode) (b : ℕ) → is_before_word m ≡ true → IsPlain b → letter_mode m b ≡ Inside (word_from b)
-plain_begins Start b e h = ap (λ t. cond t Comment (Inside (word_from b))) h.1
-plain_begins Blank b e h = ap (λ t. cond t Comment (Inside (word_from b))) h.1
 plain_begins Comment b e h = cc
 plain_begins Between b e h = refl
 plain_begins (Inside w) b e h = cc
+plain_begins _ b e h = ap (λ t. cond t Comment (Inside (word_from b))) h.1
 
 word_scan : (m : Mode) (n : ℕ) (p : Progress) (ds : List ℕ) → is_before_word m ≡ true → 0 < length ds → AllByRecursion IsPlain ds
     → scan (standing m n p) ds ≡ Ok (standing (Inside (summary ds)) n p)

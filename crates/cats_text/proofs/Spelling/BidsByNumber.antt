@@ -26,9 +26,8 @@ filled_padded (None ∷ xs) k = filled_padded xs k
 filled_padded (Some b ∷ xs) k = ap (λ bs. b ∷ bs) (filled_padded xs k)
 
 at_none : (k i : ℕ) → get_or {A = Option PlainBid} (replicate k None) i None ≡ None
-at_none zero i = refl
-at_none (suc k) zero = refl
 at_none (suc k) (suc i) = at_none k i
+at_none _ _ = refl
 
 at_padded : (xs : BidsByNumber) (k i : ℕ) → get_or (xs ++ replicate k None) i None ≡ get_or xs i None
 at_padded [] k i = at_none k i
@@ -85,9 +84,8 @@ all_filled (None ∷ xs) l = absurd (let le : length (filled xs) ≤ length xs =
 all_filled (Some b ∷ xs) l = ap (λ ys. Some b ∷ ys) (all_filled xs (omega arith))
 
 at_full : (bs : List PlainBid) (k : ℕ) → get_or (map Some bs) k None ≡ slice_get bs k
-at_full [] k = refl
-at_full (b ∷ bs) zero = refl
 at_full (b ∷ bs) (suc k) = at_full bs k
+at_full _ _ = refl
 
 -- ---- lines
 

@@ -48,19 +48,7 @@ end_tests h before = when (not (list_any (λ g. ltb (number_of g) h.goods) befor
 good_from : (h : Bounds) (before : List Word) (w : Word) → good_tests h before w ≡ None → (is_number w ≡ true)
     × MayFollow h.goods h.dummy (numbers before) (number_of w)
 good_from h before w f =
-    let number : (not (is_number w) ≡ false)
-    × (when (leb (h.goods + h.dummy) (number_of w)) GoodRange (when (list_any (λ g. eqb (number_of g) (number_of w)) before) RepeatedGood
-    (when (high_test h before w) TwoDummies None)) ≡ None)
-    = when_none (not (is_number w)) NotANumber
-    (when (leb (h.goods + h.dummy) (number_of w)) GoodRange (when (list_any (λ g. eqb (number_of g) (number_of w)) before) RepeatedGood
-    (when (high_test h before w) TwoDummies None))) f in
-    let range : (leb (h.goods + h.dummy) (number_of w) ≡ false)
-    × (when (list_any (λ g. eqb (number_of g) (number_of w)) before) RepeatedGood (when (high_test h before w) TwoDummies None) ≡ None)
-    = when_none (leb (h.goods + h.dummy) (number_of w)) GoodRange (when (list_any (λ g. eqb (number_of g) (number_of w)) before) RepeatedGood
-    (when (high_test h before w) TwoDummies None)) number.1 in
-    let new : (list_any (λ g. eqb (number_of g) (number_of w)) before ≡ false) × (when (high_test h before w) TwoDummies None ≡ None)
-    = when_none (list_any (λ g. eqb (number_of g) (number_of w)) before) RepeatedGood (when (high_test h before w) TwoDummies None) range.1 in
-    let one : (high_test h before w ≡ false) × (None ≡ None) = when_none (high_test h before w) TwoDummies None new.1 in (
+    let number = when_none _ _ _ f in let range = when_none _ _ _ number.1 in let new = when_none _ _ _ range.1 in let one = when_none _ _ _ new.1 in (
       not-false (is_number w) number.0,
       record {
         range = range.0;
@@ -72,17 +60,8 @@ good_from h before w f =
 good_none : (h : Bounds) (before : List Word) (w : Word) → is_number w ≡ true → MayFollow h.goods h.dummy (numbers before) (number_of w)
     → good_tests h before w ≡ None
 good_none h before w n m =
-    none_when (not (is_number w)) NotANumber
-    (when (leb (h.goods + h.dummy) (number_of w)) GoodRange (when (list_any (λ g. eqb (number_of g) (number_of w)) before) RepeatedGood
-    (when (high_test h before w) TwoDummies None)))
-    (not_from_true (is_number w) n)
-    (none_when (leb (h.goods + h.dummy) (number_of w)) GoodRange (when (list_any (λ g. eqb (number_of g) (number_of w)) before) RepeatedGood
-    (when (high_test h before w) TwoDummies None))
-    m.range
-    (none_when (list_any (λ g. eqb (number_of g) (number_of w)) before) RepeatedGood (when (high_test h before w) TwoDummies None)
-    (sym (any_numbers (λ v. eqb v (number_of w)) before) ∙ m.new)
-    (none_when (high_test h before w) TwoDummies None
-    (ap (λ b. leb h.goods (number_of w) && b) (sym (any_numbers (λ v. leb h.goods v) before)) ∙ m.one) refl)))
+    none_when _ _ _ (not_from_true (is_number w) n) (none_when _ _ _ m.range (none_when _ _ _ (sym (any_numbers (λ v. eqb v (number_of w)) before) ∙ m.new)
+    (none_when _ _ _ (ap (λ b. leb h.goods (number_of w) && b) (sym (any_numbers (λ v. leb h.goods v) before)) ∙ m.one) refl)))
 
 -- ---- the goods up to `#`
 
@@ -129,27 +108,19 @@ module _ (g b d : List Word) (lines : List (List Word)) where
 
   nothing_after : (n p : Word) (before ws : List Word) → goods_fault n p before ws ≡ None → has_end before ≡ true → ws ≡ []
   nothing_after n p before [] f e = refl
-  nothing_after n p before (w ∷ ws) f e =
-      let first : (good_word bounds before w ≡ None) × (goods_fault n p (before ++ w ∷ []) ws ≡ None) =
-      or_none (good_word bounds before w) (goods_fault n p (before ++ w ∷ []) ws) f in
-      let no_end : (has_end before ≡ false) × (cond (is_end w) (end_tests bounds before) (good_tests bounds before w) ≡ None)
-      = when_none (has_end before) AfterEnd (cond (is_end w) (end_tests bounds before) (good_tests bounds before w)) first.0 in
-      absurd (both_ways (has_end before) no_end.0 e)
+  nothing_after n p before (w ∷ ws) f e = absurd (both_ways (has_end before) (when_none _ _ _ (or_none _ _ f).0).0 e)
 
   goods_from : (n p : Word) (before ws : List Word) → AreGoods bounds.goods bounds.dummy (numbers before) → has_end before ≡ false
       → goods_fault n p before ws ≡ None → has_end (before ++ ws) ≡ true
       → EndsGoods bounds before ws
   goods_from n p before [] a e f t = absurd (both_ways (has_end before) e (sym (ap has_end (append-nil before)) ∙ t))
   goods_from n p before (w ∷ ws) a e f t =
-      let first : (good_word bounds before w ≡ None) × (goods_fault n p (before ++ w ∷ []) ws ≡ None) =
-      or_none (good_word bounds before w) (goods_fault n p (before ++ w ∷ []) ws) f in
-      let tests : (has_end before ≡ false) × (cond (is_end w) (end_tests bounds before) (good_tests bounds before w) ≡ None)
-      = when_none (has_end before) AfterEnd (cond (is_end w) (end_tests bounds before) (good_tests bounds before w)) first.0 in
+      let first = or_none _ _ f in
+      let tests = when_none _ _ _ first.0 in
       ⊎_elim
       (λ (q : is_end w ≡ true).
       let last : end_tests bounds before ≡ None = sym (ap (λ x. cond x (end_tests bounds before) (good_tests bounds before w)) q) ∙ tests.1 in
-      let some : (not (list_any (λ v. ltb (number_of v) bounds.goods) before) ≡ false) × (None ≡ None) =
-      when_none (not (list_any (λ v. ltb (number_of v) bounds.goods) before)) EmptyBundle None last in
+      let some = when_none _ _ _ last in
       let nothing : ws ≡ [] =
       nothing_after n p (before ++ w ∷ []) ws first.1 (end_push before w ∙ or_right (has_end before) (is_end w || false) (or_left (is_end w) false q)) in
       record {
@@ -182,19 +153,15 @@ module _ (g b d : List Word) (lines : List (List Word)) where
       → AreGoods bounds.goods bounds.dummy (numbers (before ++ goods)) → has_end before ≡ false
       → any_real bounds (before ++ goods) → goods_fault n p before (goods ++ codes "#" ∷ []) ≡ None
   goods_none n p before [] s a e r =
-      none_or (good_word bounds before (codes "#")) None
-      (none_when (has_end before) AfterEnd (end_tests bounds before) e
-      (none_when (not (list_any (λ v. ltb (number_of v) bounds.goods) before)) EmptyBundle None
-      (not_from_true (list_any (λ v. ltb (number_of v) bounds.goods) before) (subst (any_real bounds) (append-nil before) r)) refl))
-      refl
+      none_or _ _ (none_when _ _ _ e (none_when _ _ _ (not_from_true (list_any (λ v. ltb (number_of v) bounds.goods) before)
+      (subst (any_real bounds) (append-nil before) r)) refl)) refl
   goods_none n p before (w ∷ ws) s a e r =
       let q : is_end w ≡ false = number_no_end w s.0 in
       let may : MayFollow bounds.goods bounds.dummy (numbers before) (number_of w)
       = may_follow bounds.goods bounds.dummy (numbers before) (number_of w) (numbers ws)
       (subst (AreGoods bounds.goods bounds.dummy) (map-append number_of before (w ∷ ws)) a) in
       let all : before ++ w ∷ ws ≡ (before ++ w ∷ []) ++ ws = sym (append_assoc before (w ∷ []) ws) in
-      none_or (good_word bounds before w) (goods_fault n p (before ++ w ∷ []) (ws ++ codes "#" ∷ []))
-      (none_when (has_end before) AfterEnd (cond (is_end w) (end_tests bounds before) (good_tests bounds before w)) e
+      none_or _ _ (none_when _ _ _ e
       (ap (λ x. cond x (end_tests bounds before) (good_tests bounds before w)) q ∙ good_none bounds before w s.0 may))
       (goods_none n p (before ++ w ∷ []) ws s.1 (subst (λ vs. AreGoods bounds.goods bounds.dummy (numbers vs)) all a)
       (end_push before w ∙ or_from (has_end before) (is_end w || false) e (or_from (is_end w) false q refl)) (subst (any_real bounds) all r))
@@ -207,16 +174,7 @@ module _ (g b d : List Word) (lines : List (List Word)) where
   number_from : (w : Word) → number_word bounds lines w ≡ None → (is_number w ≡ true) × (length lines < bounds.bids) × (number_of w < bounds.bids)
       × (has_number (map line_number lines) (number_of w) ≡ false)
   number_from w f =
-      let number : (not (is_number w) ≡ false)
-      × (when (leb bounds.bids (length lines)) ExtraBid (when (leb bounds.bids (number_of w)) BidNumber (when (number_test w) RepeatedNumber None)) ≡ None)
-      = when_none (not (is_number w)) NotANumber
-      (when (leb bounds.bids (length lines)) ExtraBid (when (leb bounds.bids (number_of w)) BidNumber (when (number_test w) RepeatedNumber None))) f in
-      let extra : (leb bounds.bids (length lines) ≡ false) × (when (leb bounds.bids (number_of w)) BidNumber (when (number_test w) RepeatedNumber None) ≡ None)
-      = when_none (leb bounds.bids (length lines)) ExtraBid (when (leb bounds.bids (number_of w)) BidNumber (when (number_test w) RepeatedNumber None))
-      number.1 in
-      let below : (leb bounds.bids (number_of w) ≡ false) × (when (number_test w) RepeatedNumber None ≡ None)
-      = when_none (leb bounds.bids (number_of w)) BidNumber (when (number_test w) RepeatedNumber None) extra.1 in
-      let new : (number_test w ≡ false) × (None ≡ None) = when_none (number_test w) RepeatedNumber None below.1 in (
+      let number = when_none _ _ _ f in let extra = when_none _ _ _ number.1 in let below = when_none _ _ _ extra.1 in let new = when_none _ _ _ below.1 in (
         not-false (is_number w) number.0,
         leb-false bounds.bids (length lines) extra.0,
         leb-false bounds.bids (number_of w) below.0,
@@ -226,42 +184,27 @@ module _ (g b d : List Word) (lines : List (List Word)) where
   number_none : (w : Word) → is_number w ≡ true → length lines < bounds.bids → number_of w < bounds.bids → has_number (map line_number lines) (number_of w)
       ≡ false → number_word bounds lines w ≡ None
   number_none w n l k h =
-      none_when (not (is_number w)) NotANumber
-      (when (leb bounds.bids (length lines)) ExtraBid (when (leb bounds.bids (number_of w)) BidNumber (when (number_test w) RepeatedNumber None)))
-      (not_from_true (is_number w) n)
-      (none_when (leb bounds.bids (length lines)) ExtraBid (when (leb bounds.bids (number_of w)) BidNumber (when (number_test w) RepeatedNumber None))
-      (lt-leb bounds.bids (length lines) l)
-      (none_when (leb bounds.bids (number_of w)) BidNumber (when (number_test w) RepeatedNumber None)
-      (lt-leb bounds.bids (number_of w) k)
-      (none_when (number_test w) RepeatedNumber None (sym (any_lines (number_of w) lines) ∙ h) refl)))
+      none_when _ _ _ (not_from_true (is_number w) n) (none_when _ _ _ (lt-leb bounds.bids (length lines) l)
+      (none_when _ _ _ (lt-leb bounds.bids (number_of w) k) (none_when _ _ _ (sym (any_lines (number_of w) lines) ∙ h) refl)))
 
   price_from : (w : Word) → price_word w ≡ None → (is_price w ≡ true) × (is_too_large w ≡ false) × (is_too_fine w ≡ false)
   price_from w f =
-      let price : (not (is_price w) ≡ false) × (when (is_too_large w) TooLarge (when (is_too_fine w) TooFine None) ≡ None) =
-      when_none (not (is_price w)) NotANumber (when (is_too_large w) TooLarge (when (is_too_fine w) TooFine None)) f in
-      let large : (is_too_large w ≡ false) × (when (is_too_fine w) TooFine None ≡ None) =
-      when_none (is_too_large w) TooLarge (when (is_too_fine w) TooFine None) price.1 in
-      let fine : (is_too_fine w ≡ false) × (None ≡ None) = when_none (is_too_fine w) TooFine None large.1 in
+      let price = when_none _ _ _ f in let large = when_none _ _ _ price.1 in let fine = when_none _ _ _ large.1 in
       (not-false (is_price w) price.0, large.0, fine.0)
 
   price_none : (w : Word) → is_price w ≡ true → is_too_large w ≡ false → is_too_fine w ≡ false → price_word w ≡ None
-  price_none w p l f =
-      none_when (not (is_price w)) NotANumber (when (is_too_large w) TooLarge (when (is_too_fine w) TooFine None)) (not_from_true (is_price w) p)
-      (none_when (is_too_large w) TooLarge (when (is_too_fine w) TooFine None) l (none_when (is_too_fine w) TooFine None f refl))
+  price_none w p l f = none_when _ _ _ (not_from_true (is_price w) p) (none_when _ _ _ l (none_when _ _ _ f refl))
 
   pub bid_line_from : (words : List Word) → words_fault (g ∷ b ∷ d ∷ lines) [] words ≡ None → bid_end words ≡ None → IsBidLine bounds words
       × IsNewLine bounds lines words
   bid_line_from [] f e = absurd (cc)
   bid_line_from (n ∷ []) f e = absurd (cc)
   bid_line_from (n ∷ p ∷ ws) f e =
-      let first : (number_word bounds lines n ≡ None) × (words_fault (g ∷ b ∷ d ∷ lines) (n ∷ []) (p ∷ ws) ≡ None) =
-      or_none (number_word bounds lines n) (words_fault (g ∷ b ∷ d ∷ lines) (n ∷ []) (p ∷ ws)) f in
-      let second : (price_word p ≡ None) × (goods_fault n p [] ws ≡ None) = or_none (price_word p) (goods_fault n p [] ws) first.1 in
-      let ended : (not (has_end ws) ≡ false) × (None ≡ None) = when_none (not (has_end ws)) NoEnd None e in
-      let number : (is_number n ≡ true) × (length lines < bounds.bids) × (number_of n < bounds.bids)
-      × (has_number (map line_number lines) (number_of n) ≡ false) = number_from n first.0 in
-      let price : (is_price p ≡ true) × (is_too_large p ≡ false) × (is_too_fine p ≡ false) = price_from p second.0 in
-      let goods : EndsGoods bounds [] ws = goods_from n p [] ws (no_goods bounds.goods bounds.dummy) refl second.1 (not-false (has_end ws) ended.0) in (
+      let first = or_none _ _ f in
+      let second = or_none _ _ first.1 in
+      let number = number_from n first.0 in
+      let price = price_from p second.0 in
+      let goods = goods_from n p [] ws (no_goods bounds.goods bounds.dummy) refl second.1 (not-false (has_end ws) (when_none _ _ _ e).0) in (
         record {
           number = n;
           price = p;
@@ -287,10 +230,7 @@ module _ (g b d : List Word) (lines : List (List Word)) where
   bid_line_none words q new =
       let same : line_number words ≡ number_of q.number = ap line_number q.words_are in
       subst (λ ws. (words_fault (g ∷ b ∷ d ∷ lines) [] ws ≡ None) × (bid_end ws ≡ None)) (sym q.words_are) (
-        none_or (number_word bounds lines q.number) (words_fault (g ∷ b ∷ d ∷ lines) (q.number ∷ []) (q.price ∷ (q.goods ++ codes "#" ∷ [])))
-            (number_none q.number q.number_spelled new.due q.number_below (ap (has_number (map line_number lines)) (sym same) ∙ new.new))
-            (none_or (price_word q.price) (goods_fault q.number q.price [] (q.goods ++ codes "#" ∷ []))
-            (price_none q.price q.price_spelled q.not_large q.exact)
-            (goods_none q.number q.price [] q.goods q.goods_spelled q.goods_are refl q.real)),
-        none_when (not (has_end (q.goods ++ codes "#" ∷ []))) NoEnd None (not_from_true (has_end (q.goods ++ codes "#" ∷ [])) (has_end_end q.goods)) refl,
+        none_or _ _ (number_none q.number q.number_spelled new.due q.number_below (ap (has_number (map line_number lines)) (sym same) ∙ new.new))
+            (none_or _ _ (price_none q.price q.price_spelled q.not_large q.exact) (goods_none q.number q.price [] q.goods q.goods_spelled q.goods_are refl q.real)),
+        none_when _ _ _ (not_from_true (has_end (q.goods ++ codes "#" ∷ [])) (has_end_end q.goods)) refl,
       )

@@ -55,19 +55,16 @@ abbrev zeros : Word
 zeros = 48 ∷ 48 ∷ 48 ∷ 48 ∷ 48 ∷ 48 ∷ []
 
 all_take : (p : ℕ → Bool) (k : ℕ) (xs : List ℕ) → list_all p xs ≡ true → list_all p (take k xs) ≡ true
-all_take p zero xs h = refl
-all_take p (suc k) [] h = refl
 all_take p (suc k) (x ∷ xs) h = grind (arith, common_steps, and_from, and_parts, (all_take p k xs))
+all_take p _ _ h = refl
 
 none_take : (p : ℕ → Bool) (k : ℕ) (xs : List ℕ) → list_any p xs ≡ false → list_any p (take k xs) ≡ false
-none_take p zero xs h = refl
-none_take p (suc k) [] h = refl
 none_take p (suc k) (x ∷ xs) h = grind (arith, common_steps, or_from, or_parts, (none_take p k xs))
+none_take p _ _ h = refl
 
 none_in_prefix : (p : ℕ → Bool) (k : ℕ) (xs ys : List ℕ) → list_any p (take k (xs ++ ys)) ≡ false → list_any p (take k xs) ≡ false
-none_in_prefix p zero xs ys h = refl
-none_in_prefix p (suc k) [] ys h = refl
 none_in_prefix p (suc k) (x ∷ xs) ys h = grind (arith, common_steps, or_from, or_parts, (none_in_prefix p k xs ys))
+none_in_prefix p _ _ ys h = refl
 
 six_digits_alone : (ds : Word) → digits_alone ds ≡ true → digits_alone (six_places ds) ≡ true
 six_digits_alone ds h = all_take is_digit 6 (ds ++ zeros) (list_all-append is_digit ds zeros ∙ and_from (digits_alone ds) true h refl)

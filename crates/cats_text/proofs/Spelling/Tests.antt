@@ -62,39 +62,23 @@ module _ (keyword : Word) (limit : ℕ) (lines : List (List Word))
   header_from [] f e = absurd (cc)
   header_from (k ∷ []) f e = absurd (cc)
   header_from (k ∷ w ∷ []) f e =
-      let first : (word_fault lines [] k ≡ None) × (words_fault lines (k ∷ []) (w ∷ []) ≡ None) =
-      or_none (word_fault lines [] k) (words_fault lines (k ∷ []) (w ∷ [])) f in
-      let second : (word_fault lines (k ∷ []) w ≡ None) × (words_fault lines (k ∷ w ∷ []) [] ≡ None) =
-      or_none (word_fault lines (k ∷ []) w) (words_fault lines (k ∷ w ∷ []) []) first.1 in
-      let same : (not (bytes_eq k keyword) ≡ false) × (None ≡ None) = when_none (not (bytes_eq k keyword)) Header None (sym (is_header [] k) ∙ first.0) in
-      let number : (not (is_number w) ≡ false) × (when (ltb limit (number_of w)) TooLarge None ≡ None)
-      = when_none (not (is_number w)) NotANumber (when (ltb limit (number_of w)) TooLarge None) (sym (is_header (k ∷ []) w) ∙ second.0) in
-      let small : (ltb limit (number_of w) ≡ false) × (None ≡ None) = when_none (ltb limit (number_of w)) TooLarge None number.1 in
+      let first = or_none _ _ f in
+      let second = or_none _ _ first.1 in
+      let number = when_none _ _ _ (sym (is_header (k ∷ []) w) ∙ second.0) in
       record {
         number = w;
-        words_are = ap (λ v. v ∷ w ∷ []) (equal_words k keyword (not-false (bytes_eq k keyword) same.0));
+        words_are = ap (λ v. v ∷ w ∷ []) (equal_words k keyword (not-false (bytes_eq k keyword) (when_none _ _ _ (sym (is_header [] k) ∙ first.0)).0));
         spelled = not-false (is_number w) number.0;
-        within = ltb-false limit (number_of w) small.0;
+        within = ltb-false limit (number_of w) (when_none _ _ _ number.1).0;
       }
   header_from (k ∷ w ∷ x ∷ xs) f e =
-      let first : (word_fault lines [] k ≡ None) × (words_fault lines (k ∷ []) (w ∷ x ∷ xs) ≡ None) =
-      or_none (word_fault lines [] k) (words_fault lines (k ∷ []) (w ∷ x ∷ xs)) f in
-      let second : (word_fault lines (k ∷ []) w ≡ None) × (words_fault lines (k ∷ w ∷ []) (x ∷ xs) ≡ None) =
-      or_none (word_fault lines (k ∷ []) w) (words_fault lines (k ∷ w ∷ []) (x ∷ xs)) first.1 in
-      let third : (word_fault lines (k ∷ w ∷ []) x ≡ None) × (words_fault lines (k ∷ w ∷ x ∷ []) xs ≡ None) =
-      or_none (word_fault lines (k ∷ w ∷ []) x) (words_fault lines (k ∷ w ∷ x ∷ []) xs) second.1 in
-      let fault : Some Header ≡ None = sym (is_header (k ∷ w ∷ []) x) ∙ third.0 in
-      absurd (cc)
+      let fault : Some Header ≡ None = sym (is_header (k ∷ w ∷ []) x) ∙ (or_none _ _ (or_none _ _ (or_none _ _ f).1).1).0 in absurd (cc)
 
   header_words_none : (number : Word) → is_number number ≡ true → number_of number ≤ limit → words_fault lines [] (keyword ∷ number ∷ []) ≡ None
-  header_words_none number spelled small =
-      none_or (word_fault lines [] keyword) (words_fault lines (keyword ∷ []) (number ∷ []))
-      (is_header [] keyword ∙ none_when (not (bytes_eq keyword keyword)) Header None (not_from_true (bytes_eq keyword keyword) (same_word keyword)) refl)
-      (none_or (word_fault lines (keyword ∷ []) number) None
-      (is_header (keyword ∷ []) number ∙ none_when (not (is_number number)) NotANumber (when (ltb limit (number_of number)) TooLarge None)
-      (not_from_true (is_number number) spelled)
-      (none_when (ltb limit (number_of number)) TooLarge None (le-ltb limit (number_of number) small) refl))
-      refl)
+  header_words_none number spelled small = none_or _ _
+      (is_header [] keyword ∙ none_when _ _ _ (not_from_true (bytes_eq keyword keyword) (same_word keyword)) refl)
+      (none_or _ _ (is_header (keyword ∷ []) number ∙ none_when _ _ _ (not_from_true (is_number number) spelled)
+      (none_when _ _ _ (le-ltb limit (number_of number) small) refl)) refl)
 
   pub header_none : (words : List Word) → IsHeader keyword limit words → (words_fault lines [] words ≡ None) × (header_end words ≡ None)
   header_none words p = subst (λ ws. (words_fault lines [] ws ≡ None) × (header_end ws ≡ None)) (sym p.words_are)

@@ -35,14 +35,12 @@ if-kind false first later h rest = rest
 ruleset chain = (when-kind, if-kind, or-kind)
 
 header_word-kind : (keyword : Word) (limit : ℕ) (before : List Word) (w : Word) → OfLine (header_word keyword limit before w)
-header_word-kind keyword limit [] w = search chain
-header_word-kind keyword limit (_ ∷ []) w = search chain
 header_word-kind keyword limit (_ ∷ _ ∷ _) w = refl
+header_word-kind keyword limit _ w = search chain
 
 header_end-kind : (words : List Word) → OfLine (header_end words)
-header_end-kind [] = refl
-header_end-kind (_ ∷ []) = refl
 header_end-kind (_ ∷ _ ∷ _) = tt
+header_end-kind _ = refl
 
 number_word-kind : (h : Bounds) (lines : List (List Word)) (w : Word) → OfLine (number_word h lines w)
 number_word-kind h lines w = search chain
@@ -62,16 +60,12 @@ bid_end-kind : (words : List Word) → OfLine (bid_end words)
 bid_end-kind words = search chain
 
 word_fault-kind : (lines : List (List Word)) (before : List Word) (w : Word) → OfLine (word_fault lines before w)
-word_fault-kind [] before w = header_word-kind _ _ before w
-word_fault-kind (_ ∷ []) before w = header_word-kind _ _ before w
-word_fault-kind (_ ∷ _ ∷ []) before w = header_word-kind _ _ before w
 word_fault-kind (g ∷ b ∷ d ∷ lines) before w = bid_word-kind _ lines before w
+word_fault-kind _ before w = header_word-kind _ _ before w
 
 end_fault-kind : (lines : List (List Word)) (words : List Word) → OfLine (end_fault lines words)
-end_fault-kind [] words = header_end-kind words
-end_fault-kind (_ ∷ []) words = header_end-kind words
-end_fault-kind (_ ∷ _ ∷ []) words = header_end-kind words
 end_fault-kind (g ∷ b ∷ d ∷ lines) words = bid_end-kind words
+end_fault-kind _ words = header_end-kind words
 
 words_fault-kind : (lines : List (List Word)) (before words : List Word) → OfLine (words_fault lines before words)
 words_fault-kind lines before [] = tt
@@ -101,8 +95,7 @@ or-found whole (Some fault) later h rest = h
 
 missing-found : (whole due : Bool) (line : ℕ) → Found whole (if whole && due then Some (fault_at (suc line) Missing) else None)
 missing-found true true line = (record { kind = refl; line = omega arith }, λ e. cc)
-missing-found true false line = tt
-missing-found false due line = tt
+missing-found _ _ line = tt
 
 lines_fault-found : (whole : Bool) (count : ℕ) (lines : List (List Word)) (ls : List Line) → AllByRecursion (λ l. 0 < l.number) ls
     → Found whole (lines_fault whole count lines ls)
@@ -126,10 +119,9 @@ abbrev pub IsFaultOfBytes : ReadFault → Type 0
 IsFaultOfBytes e = (e.kind ≢ Device) × (e.kind ≢ Memory)
 
 of_text-of_bytes : (kind : Kind) → is_text_kind kind ≡ true → (kind ≢ Device) × (kind ≢ Memory)
-of_text-of_bytes TooLong h = (λ e. cc, λ e. cc)
 of_text-of_bytes Device h = cc
 of_text-of_bytes Memory h = cc
-of_text-of_bytes kind h = (λ e. cc, λ e. cc)
+of_text-of_bytes _ h = (λ e. cc, λ e. cc)
 
 or_too_long-kind : (whole : Bool) (fault : Option ReadFault) → Found whole fault → IfSome (option_or fault (Some (fault_at 0 TooLong))) IsFaultOfBytes
 or_too_long-kind whole None h = (λ e. cc, λ e. cc)

@@ -58,9 +58,8 @@ not_false false h = absurd (both_ways true h refl)
 
 -- blanks at the start are no words
 behind_blanks : (n : ℕ) (xs : List ℕ) → AllByRecursion (λ b. not (is_blank b) ≡ false) (take n xs) → line_words xs ≡ line_words (drop n xs)
-behind_blanks zero xs h = refl
-behind_blanks (suc n) [] h = refl
 behind_blanks (suc n) (x ∷ xs) h = words_blank x xs (not_false (is_blank x) h.0) ∙ behind_blanks n xs h.1
+behind_blanks _ _ h = refl
 
 pub no_word : (xs : List ℕ) (n : ℕ) → IsFound (λ b. not (is_blank b)) xs n → n ≡ length xs → line_words xs ≡ []
 no_word xs n found e = behind_blanks n xs found.before ∙ ap line_words (drop_all n xs (omega arith))
@@ -98,9 +97,8 @@ first_word line start end blanks some letters = grind (arith, common_steps, behi
 -- ---- the first line
 
 returns_cut : (xs bs : List ℕ) → blank_returns (xs ++ 10 ∷ bs) ≡ blank_returns xs ++ 10 ∷ blank_returns bs
-returns_cut [] bs = refl
-returns_cut (a ∷ []) bs = refl
 returns_cut (a ∷ b ∷ xs) bs = ap (λ ds. line_byte a (b ∷ xs) ∷ ds) (returns_cut (b ∷ xs) bs)
+returns_cut _ bs = refl
 
 byte_no_end : (b : ℕ) (bs : List ℕ) → eqb b 10 ≡ false → eqb (line_byte b bs) 10 ≡ false
 byte_no_end b bs h = elim (eqb b 13 && line_ends bs) as (λ t. eqb (cond t 32 b) 10 ≡ false) [ true ↦ refl | false ↦ h ]
@@ -133,9 +131,8 @@ words_of_line : (xs : List ℕ) → AllByRecursion IsNoEnd xs → line_words (bl
 words_of_line xs h = grind (arith, common_steps, returns_of_line, words_trailing)
 
 pub without_last : (xs : List ℕ) → without_return (xs ++ 13 ∷ []) ≡ xs
-without_last [] = refl
-without_last (x ∷ []) = refl
 without_last (x ∷ y ∷ ys) = ap (λ ds. x ∷ ds) (without_last (y ∷ ys))
+without_last _ = refl
 
 pub with_last : (xs : List ℕ) (b : ℕ) → eqb b 13 ≡ false → without_return (xs ++ b ∷ []) ≡ xs ++ b ∷ []
 with_last [] b e = ap (λ t. cond t [] (b ∷ [])) e

@@ -91,12 +91,10 @@ ends_at_first_fault k bytes s e h end = whole_at_end k bytes s (err e) h end
 -- what the parser keeps behind all lines, if it keeps each bid whole, is the bids that they say
 bids_are_said : (lines : List (List Word)) (p : Progress) → p.keep ≡ whole → IsAt lines [] p → is_line_due lines ≡ false
     → filled p.slots ≡ (file_of_lines lines).bids
-bids_are_said [] p kept at due = absurd (both_ways true due refl)
-bids_are_said (g ∷ []) p kept at due = absurd (both_ways true due refl)
-bids_are_said (g ∷ b ∷ []) p kept at due = absurd (both_ways true due refl)
 bids_are_said (g ∷ b ∷ d ∷ lines) p kept at due =
     ap filled at.slots ∙ ap (λ (k : PlainBid → PlainBid). filled (kept_slots k p.header.goods lines)) kept
     ∙ ap (λ (h : Header). filled (slots_of h.goods lines)) at.header
+bids_are_said _ p kept at due = absurd (both_ways true due refl)
 
 -- or has the sizes, and if each bid is kept whole the bids, of the file that the bytes spell
 pub ends_at_parts : (k : PlainBid → PlainBid) (bytes : List ℕ) (s t : State) → scan (first_state k) (settled bytes) ≡ ok s → end_of (waits bytes) s ≡ ok t
@@ -138,11 +136,8 @@ met_at_end s t (b ∷ bs) h i = inr (step (byte_step s b) h (λ u e. met_at_end 
 
 -- there are bids only behind a bid line
 bids_behind : (lines : List (List Word)) (p : Progress) → IsAt lines [] p → 0 < length p.slots → 3 < length lines
-bids_behind [] p at l = absurd (let none : length p.slots ≡ 0 = ap length at.slots in omega arith)
-bids_behind (g ∷ []) p at l = absurd (let none : length p.slots ≡ 0 = ap length at.slots in omega arith)
-bids_behind (g ∷ b ∷ []) p at l = absurd (let none : length p.slots ≡ 0 = ap length at.slots in omega arith)
-bids_behind (g ∷ b ∷ d ∷ []) p at l = absurd (let none : length p.slots ≡ 0 = ap length at.slots in omega arith)
 bids_behind (g ∷ b ∷ d ∷ m ∷ lines) p at l = omega arith
+bids_behind _ p at l = absurd (let none : length p.slots ≡ 0 = ap length at.slots in omega arith)
 
 pub ends_in_bid_line : (k : PlainBid → PlainBid) (bytes : List ℕ) (s : State) → scan (first_state k) (settled bytes) ≡ ok s
     → IsInBidLine s ⊎ HasBids (end_of (waits bytes) s) → has_bid_line bytes ≡ true

@@ -34,12 +34,8 @@ places-push n (a ∷ bs) b =
 -- the first six places as a number of six digits
 pub places-six : (bs : List ℕ) → number_of (six_places bs) ≡ places_from 0 bs
 places-six [] = refl
-places-six (a ∷ []) = omega arith
-places-six (a ∷ b ∷ []) = omega arith
-places-six (a ∷ b ∷ c ∷ []) = omega arith
-places-six (a ∷ b ∷ c ∷ d ∷ []) = omega arith
-places-six (a ∷ b ∷ c ∷ d ∷ e ∷ []) = omega arith
 places-six (a ∷ b ∷ c ∷ d ∷ e ∷ f ∷ bs) = let none : places_from 6 bs ≡ 0 = places_late 6 bs (omega arith) in omega arith
+places-six _ = omega arith
 
 digit_le : (b : ℕ) (bs : List ℕ) → digits_alone (b ∷ bs) ≡ true → (b - 48 ≤ 9) × (digits_alone bs ≡ true)
 digit_le b bs h = let both = and_parts (is_digit b) (digits_alone bs) h in let top : b ≤ 57 = (digit_bounds b both.0).1 in (omega arith, both.1)
@@ -71,13 +67,8 @@ places_below_one bs h = at 6 0 bs h refl
 -- ---- places that are not 0
 
 place_value_pos : (n : ℕ) → n < 6 → 0 < place_value_of n
-place_value_pos zero l = omega arith
-place_value_pos (suc zero) l = omega arith
-place_value_pos (suc (suc zero)) l = omega arith
-place_value_pos (suc (suc (suc zero))) l = omega arith
-place_value_pos (suc (suc (suc (suc zero)))) l = omega arith
-place_value_pos (suc (suc (suc (suc (suc zero))))) l = omega arith
 place_value_pos (suc (suc (suc (suc (suc (suc k)))))) l = absurd (omega arith)
+place_value_pos _ l = omega arith
 
 -- some digit is not 0: one behind the first six places, or one that counts
 pub place_not_zero : (bs : List ℕ) → digits_alone bs ≡ true → has_place_from 0 bs ≡ (has_place_from 6 bs || ltb 0 (places_from 0 bs))
