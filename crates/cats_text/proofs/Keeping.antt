@@ -16,6 +16,8 @@ use Rattle.cats_text.specs.declared.scanner.Mode.{Mode}
 use Rattle.cats_text.specs.declared.scanner.Mode.TheVariants.{Start, Blank, Comment, Between, Inside}
 use Rattle.cats_text.proofs.Parsing.Lines.{line_at}
 use Rattle.cats_text.proofs.Scanning.BidLines.{Keeps, keeps_word}
+use Rattle.std.proofs.Common.{arith}
+use Rattle.std.proofs.lemmas.Grind.{common_steps}
 
 abbrev ReadKeeps : (PlainBid → PlainBid) → Reading → Type 0
 ReadKeeps k (Ok p) = p.keep ≡ k
@@ -62,22 +64,17 @@ then_keeps k (Ok s) f h g = subst (λ (j : PlainBid → PlainBid). ScanKeeps j (
 then_keeps k (Err e) f h g = tt
 
 line_step_keeps : (s : State) → ScanKeeps s.progress.keep (line_step s)
-line_step_keeps s =
-    then_keeps s.progress.keep (and_then (blank_step s) words_step) _
-    (then_keeps s.progress.keep (blank_step s) words_step (blank_keeps s.mode s) (λ t. words_keep t.mode t)) (λ t. refl)
+line_step_keeps s = grind (arith, common_steps, blank_keeps, then_keeps, words_keep)
 
 byte_keeps : (s : State) (b : ℕ) → ScanKeeps s.progress.keep (byte_step s b)
-byte_keeps s b = either_keeps s.progress.keep (b == 10) (line_step s) _ (line_step_keeps s)
-    (either_keeps s.progress.keep (is_blank b) (blank_step s) _ (blank_keeps s.mode s) refl)
+byte_keeps s b = grind (arith, common_steps, blank_keeps, either_keeps, line_step_keeps)
 
 scan_keeps : (s : State) (bytes : List ℕ) → ScanKeeps s.progress.keep (scan s bytes)
 scan_keeps s [] = refl
 scan_keeps s (b ∷ bytes) = then_keeps s.progress.keep (byte_step s b) (λ t. scan t bytes) (byte_keeps s b) (λ t. scan_keeps t bytes)
 
 end_step_keeps : (s : State) → ScanKeeps s.progress.keep (end_step s)
-end_step_keeps s =
-    then_keeps s.progress.keep (and_then (blank_step s) words_step) (missing_step (line_behind s))
-    (then_keeps s.progress.keep (blank_step s) words_step (blank_keeps s.mode s) (λ t. words_keep t.mode t)) (missing_keeps (line_behind s))
+end_step_keeps s = grind (arith, common_steps, blank_keeps, missing_keeps, then_keeps, words_keep)
 
 end_keeps : (waiting : Bool) (s : State) → ScanKeeps s.progress.keep (end_of waiting s)
 end_keeps true s = then_keeps s.progress.keep (byte_step s 32) end_step (byte_keeps s 32) end_step_keeps

@@ -15,6 +15,8 @@ use Rattle.cats_text.specs.declared.parser.Header.{Header}
 use Rattle.cats_text.specs.declared.limits.TheConstants.{MAX_STREAM}
 use Rattle.cats_text.specs.declared.stream.Watched.{Watched}
 use Rattle.cats_text.proofs.Texts.FaultKinds.{IsFaultOfBytes, first_fault-of_bytes, fed_fault-of_bytes, fed_within}
+use Rattle.std.proofs.Common.{arith}
+use Rattle.std.proofs.lemmas.Grind.{common_steps}
 
 found : (fault : Option ReadFault) (e : ReadFault) → IfSome fault IsFaultOfBytes → fault ≡ Some e → IsFaultOfBytes e
 found fault e h is = rw is at h
@@ -58,5 +60,4 @@ module _ {R : Type 0} (remaining : R → Option (List ℕ)) where
 
   pub checked_reported : (keep : PlainBid → PlainBid) (bytes : List ℕ) (input : Watched R) (header : Header) (bids : List PlainBid) → has_failed input ≡ false
       → IsWhole remaining bytes input → SpellsParts keep bytes header bids → ChecksAs remaining bytes input (Ok header)
-  checked_reported keep bytes input header bids works whole says =
-      record { file = says.file; reads = record { spelled = says.spelled; whole = whole; works = works }; sizes = says.sizes }
+  checked_reported keep bytes input header bids works whole says = grind (arith, common_steps)

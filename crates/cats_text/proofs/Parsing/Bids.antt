@@ -17,12 +17,12 @@ use Rattle.cats_text.specs.declared.word.Word.{Word}
 use Rattle.cats_text.specs.declared.price.Decimal.{Decimal}
 use Rattle.cats_text.specs.declared.word.Word.TheVariants.{Keyword, Number, Decimal as Fraction, End, Other}
 use Rattle.cats_text.specs.declared.parser.Header.{Header}
-use Rattle.cats_text.specs.declared.parser.Column.TheVariants.{Later}
+use Rattle.cats_text.specs.declared.parser.Column.TheVariants.{Second, Later}
 use Rattle.bid_file.specs.declared.limits.TheConstants.{MAX_BIDS}
 use Rattle.cats_text.proofs.Words.Places.{digit_bounds, places_from, places-six, places_below_one, place_not_zero}
 use Rattle.cats_text.proofs.Words.Kept.{Summarises, Holds, whole-digits, whole-point, places-point}
 use Rattle.cats_text.proofs.Words.Tests.{IsTested}
-use Rattle.cats_text.proofs.Parsing.States.{IsAt, WordFollows}
+use Rattle.cats_text.proofs.Parsing.States.{IsAt, WordFollows, with_words}
 use Rattle.cats_text.proofs.Parsing.Headers.{holds_le, holds_same}
 use Rattle.cats_text.proofs.Parsing.NumbersTaken.{taken}
 use Rattle.std.proofs.lemmas.Grind.{common_steps}
@@ -67,20 +67,8 @@ number_follows g b d lines w v p t at =
     (λ below is. let l : v < p.header.bids = leb-false p.header.bids v below in let same : v ≡ number_of w = holds_same v (number_of w) (omega arith) t.1 in
     follow_test (g ∷ b ∷ d ∷ lines) [] w _ _ kinds.RepeatedNumber _ _ is (ap (λ s. is_some_bid (slice_get s v)) at.slots
     ∙ taken (λ l. p.keep (bid_of p.header.goods l)) lines v ∙ ap (λ x. list_any (λ l. eqb (line_number l) x) lines) same)
-    (λ _ is. (
-      is,
-      record {
-        stage = at.stage;
-        column = refl;
-        header = at.header;
-        due = at.due;
-        slots = at.slots;
-        draft = (same, refl, at.draft);
-        goods = at.goods;
-        bids = at.bids;
-        dummy = at.dummy;
-      },
-    ))))
+    (λ _ is. (is, with_words (g ∷ b ∷ d ∷ lines) [] (w ∷ []) p Second (record { number = v; price = 0; dummy = None }) p.goods at refl refl
+    (same, refl, at.draft)))))
 
 pub bid_first : (g b d : List (List ℕ)) (lines : List (List (List ℕ))) (w : List ℕ) (s : Word) (p : Progress) → IsTested w s → Summarises w s
     → IsAt (g ∷ b ∷ d ∷ lines) [] p → WordFollows (g ∷ b ∷ d ∷ lines) [] w (number_read p s)

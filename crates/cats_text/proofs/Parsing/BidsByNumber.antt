@@ -71,7 +71,8 @@ listed came (p ∷ places) some = refl
 
 listed_set : (came : List PlainBid) (places : List ℕ) (n k : ℕ) → n < length places → slot_list came (set places n k) ≡ placed came (set places n k)
 listed_set came [] n k l = absurd (let no : n < 0 = l in omega arith)
-listed_set came (p ∷ places) _ k l = refl
+listed_set came (p ∷ places) zero k l = refl
+listed_set came (p ∷ places) (suc n) k l = refl
 
 pub within_at : (n : ℕ) (places : List ℕ) (i p : ℕ) → AreWithin n places → slice_get places i ≡ Some p → p ≤ n
 within_at n [] i p all e = cc

@@ -14,11 +14,12 @@ use Rattle.cats_text.specs.declared.read_fault.Kind.{Kind}
 use Rattle.cats_text.specs.declared.read_fault.Kind.TheVariants as kinds
 use Rattle.cats_text.specs.declared.word.Word.{Word}
 use Rattle.cats_text.specs.declared.word.Word.TheVariants.{Keyword, Number, Decimal as Fraction, End, Other}
+use Rattle.cats_text.specs.declared.parser.Column.TheVariants.{Ended}
 use Rattle.cats_text.specs.declared.parser.Header.{Header}
 use Rattle.bid_file.specs.declared.limits.TheConstants.{MAX_GOODS, MAX_DUMMY}
 use Rattle.cats_text.proofs.Words.Kept.{Summarises}
 use Rattle.cats_text.proofs.Words.Tests.{IsTested, is_number_by, ends_by}
-use Rattle.cats_text.proofs.Parsing.States.{IsAt, WordFollows, HasOneDummy, ended_column}
+use Rattle.cats_text.proofs.Parsing.States.{IsAt, WordFollows, HasOneDummy, ended_column, with_words}
 use Rattle.cats_text.proofs.Parsing.Headers.{holds_le, holds_same}
 use Rattle.cats_text.proofs.Parsing.Bids.{follow_test, fault_named, passes}
 use Rattle.cats_text.proofs.Parsing.GoodsSoFar.{values, before_end-all, before_end-ended, before_end-push, has_end-push, values-push, any_find, any_values}
@@ -74,23 +75,15 @@ end_follows g b d lines n x gs w p o e fault =
     ∙ ap not (any_values (λ v. ltb v p.header.goods) gs ∙ ap (λ G. list_any (λ v. ltb (number_of v) G) gs) goods))
     (λ _ is. (
       is,
-      record {
-        stage = o.at.stage;
-        column = sym (ap ended_column (has_end-push gs w o.on ∙ e));
-        header = o.at.header;
-        due = o.at.due;
-        slots = o.at.slots;
-        draft = (let same : before_end (gs ++ w ∷ []) ≡ gs = before_end-ended gs w o.on e in record {
-          number = o.at.draft.number;
-          price = o.at.draft.price;
-          dummy = dummy_is g b d lines n x gs p o ∙ ap (dummy_in p.header.goods) (sym same);
-          goods = goods_are g b d lines n x gs p o ∙ ap (real_goods p.header.goods) (sym same);
-          one = subst (λ ws. HasOneDummy p.header.goods (values ws)) (sym same) (one_dummy g b d lines n x gs p o);
-        });
-        goods = o.at.goods;
-        bids = o.at.bids;
-        dummy = o.at.dummy;
-      },
+      with_words (g ∷ b ∷ d ∷ lines) (n ∷ x ∷ gs) (n ∷ x ∷ (gs ++ w ∷ [])) p Ended p.draft p.goods o.at
+      (sym (ap ended_column (has_end-push gs w o.on ∙ e))) refl
+      (let same : before_end (gs ++ w ∷ []) ≡ gs = before_end-ended gs w o.on e in record {
+      number = o.at.draft.number;
+      price = o.at.draft.price;
+      dummy = dummy_is g b d lines n x gs p o ∙ ap (dummy_in p.header.goods) (sym same);
+      goods = goods_are g b d lines n x gs p o ∙ ap (real_goods p.header.goods) (sym same);
+      one = subst (λ ws. HasOneDummy p.header.goods (values ws)) (sym same) (one_dummy g b d lines n x gs p o);
+    }),
     ))
 
 -- ---- a real good
@@ -108,25 +101,17 @@ real_follows g b d lines n x gs w v p o e same l fault =
     ∙ ap (λ k. list_any (λ y. eqb (number_of y) k) gs) same)
     (λ _ is. (
       is ∙ ap (λ t. when (t && list_any (λ y. leb p.header.goods (number_of y)) gs) kinds.TwoDummies None) (lt-leb p.header.goods (number_of w) lw),
-      record {
-        stage = o.at.stage;
-        column = o.at.column ∙ ap ended_column (o.on ∙ sym (has_end-push gs w o.on ∙ e));
-        header = o.at.header;
-        due = o.at.due;
-        slots = o.at.slots;
-        draft = (let all : before_end (gs ++ w ∷ []) ≡ gs ++ w ∷ [] = before_end-push gs w o.on e in record {
-          number = o.at.draft.number;
-          price = o.at.draft.price;
-          dummy = dummy_is g b d lines n x gs p o ∙ sym (dummy_in-real p.header.goods gs w lw) ∙ ap (dummy_in p.header.goods) (sym all);
-          goods = ap₂ (λ (vs : List ℕ) (k : ℕ). vs ++ k ∷ []) (goods_are g b d lines n x gs p o) same ∙ sym (real_goods-real p.header.goods gs w lw)
-              ∙ ap (real_goods p.header.goods) (sym all);
-          one = subst (HasOneDummy p.header.goods) (sym (ap values all ∙ values-push gs w))
-              (one_more_real p.header.goods (values gs) (number_of w) lw (one_dummy g b d lines n x gs p o));
-        });
-        goods = o.at.goods;
-        bids = o.at.bids;
-        dummy = o.at.dummy;
-      },
+      with_words (g ∷ b ∷ d ∷ lines) (n ∷ x ∷ gs) (n ∷ x ∷ (gs ++ w ∷ [])) p p.column p.draft (p.goods ++ v ∷ []) o.at
+      (o.at.column ∙ ap ended_column (o.on ∙ sym (has_end-push gs w o.on ∙ e))) refl
+      (let all : before_end (gs ++ w ∷ []) ≡ gs ++ w ∷ [] = before_end-push gs w o.on e in record {
+      number = o.at.draft.number;
+      price = o.at.draft.price;
+      dummy = dummy_is g b d lines n x gs p o ∙ sym (dummy_in-real p.header.goods gs w lw) ∙ ap (dummy_in p.header.goods) (sym all);
+      goods = ap₂ (λ (vs : List ℕ) (k : ℕ). vs ++ k ∷ []) (goods_are g b d lines n x gs p o) same ∙ sym (real_goods-real p.header.goods gs w lw)
+          ∙ ap (real_goods p.header.goods) (sym all);
+      one = subst (HasOneDummy p.header.goods) (sym (ap values all ∙ values-push gs w))
+          (one_more_real p.header.goods (values gs) (number_of w) lw (one_dummy g b d lines n x gs p o));
+    }),
     ))
 
 -- ---- a dummy good
@@ -149,24 +134,17 @@ dummy_follows g b d lines n x gs w p o e le fault None none =
     let first : list_any (λ y. leb p.header.goods (number_of y)) gs ≡ false = sym (any_values (λ y. leb p.header.goods y) gs)
     ∙ any_find (λ y. leb p.header.goods y) (values gs) ∙ ap is_some none in (
       passes (g ∷ b ∷ d ∷ lines) (n ∷ x ∷ gs) w _ _ _ fault new ∙ ap₂ (λ (s t : Bool). when (s && t) kinds.TwoDummies None) is_dummy first,
-      record {
-        stage = o.at.stage;
-        column = o.at.column ∙ ap ended_column (o.on ∙ sym (has_end-push gs w o.on ∙ e));
-        header = o.at.header;
-        due = o.at.due;
-        slots = o.at.slots;
-        draft = (let all : before_end (gs ++ w ∷ []) ≡ gs ++ w ∷ [] = before_end-push gs w o.on e in record {
-          number = o.at.draft.number;
-          price = o.at.draft.price;
-          dummy = sym (dummy_in-dummy p.header.goods gs w le none) ∙ ap (dummy_in p.header.goods) (sym all);
-          goods = goods_are g b d lines n x gs p o ∙ sym (real_goods-dummy p.header.goods gs w le) ∙ ap (real_goods p.header.goods) (sym all);
-          one = subst (HasOneDummy p.header.goods) (sym (ap values all ∙ values-push gs w))
-              (first_dummy p.header.goods (values gs) (number_of w) is_dummy none one);
-        });
-        goods = o.at.goods;
-        bids = o.at.bids;
-        dummy = o.at.dummy;
-      },
+      with_words (g ∷ b ∷ d ∷ lines) (n ∷ x ∷ gs) (n ∷ x ∷ (gs ++ w ∷ [])) p p.column
+      (record p.draft { dummy = Some (number_of w - p.header.goods) }) p.goods o.at
+      (o.at.column ∙ ap ended_column (o.on ∙ sym (has_end-push gs w o.on ∙ e))) refl
+      (let all : before_end (gs ++ w ∷ []) ≡ gs ++ w ∷ [] = before_end-push gs w o.on e in record {
+      number = o.at.draft.number;
+      price = o.at.draft.price;
+      dummy = sym (dummy_in-dummy p.header.goods gs w le none) ∙ ap (dummy_in p.header.goods) (sym all);
+      goods = goods_are g b d lines n x gs p o ∙ sym (real_goods-dummy p.header.goods gs w le) ∙ ap (real_goods p.header.goods) (sym all);
+      one = subst (HasOneDummy p.header.goods) (sym (ap values all ∙ values-push gs w))
+          (first_dummy p.header.goods (values gs) (number_of w) is_dummy none one);
+    }),
     )
 dummy_follows g b d lines n x gs w p o e le fault (Some f) found =
     let one : HasOneDummy p.header.goods (values gs) = one_dummy g b d lines n x gs p o in

@@ -21,7 +21,7 @@ use Rattle.cats_text.specs.declared.parser.Column.TheVariants.{First, Second, La
 use Rattle.bid_file.specs.declared.limits.TheConstants.{MAX_GOODS, MAX_BIDS, MAX_DUMMY}
 use Rattle.cats_text.proofs.Words.Kept.{Summarises, Holds}
 use Rattle.cats_text.proofs.Words.Tests.{IsTested, is_number_by, is_keyword_by}
-use Rattle.cats_text.proofs.Parsing.States.{IsAt, WordFollows}
+use Rattle.cats_text.proofs.Parsing.States.{IsAt, WordFollows, with_words}
 use Rattle.std.proofs.lemmas.Grind.{common_steps}
 
 -- ---- a word by its column, the column and the line given
@@ -120,34 +120,14 @@ number_there stage p v e = ap (λ (x : Stage). numbers_at x p v) e
 pub goods_word : (words : List (List ℕ)) (w : List ℕ) (s : Word) (p : Progress) → IsTested w s → Summarises w s → IsAt [] words p
     → WordFollows [] words w (word_read p s)
 goods_word [] w s p tested t at = first_word [] keywords.Goods MAX_GOODS p s w tested (read_there First Goods p s at.column at.stage) refl
-    (record {
-      stage = at.stage;
-      column = refl;
-      header = at.header;
-      due = at.due;
-      slots = at.slots;
-      draft = at.draft;
-      goods = at.goods;
-      bids = at.bids;
-      dummy = at.dummy;
-    })
+    (with_words [] [] (w ∷ []) p Second p.draft p.goods at refl refl at.draft)
 goods_word (k ∷ []) w s p tested t at = grind (arith, common_steps, not_number_read, number_there, read_there, second_word)
 goods_word (k ∷ v ∷ words) w s p tested t at = subst (WordFollows [] (k ∷ v ∷ words) w) (sym (read_there Later Goods p s at.column at.stage)) refl
 
 pub bids_word : (g : List (List ℕ)) (words : List (List ℕ)) (w : List ℕ) (s : Word) (p : Progress) → IsTested w s → Summarises w s → IsAt (g ∷ []) words p
     → WordFollows (g ∷ []) words w (word_read p s)
 bids_word g [] w s p tested t at = first_word (g ∷ []) keywords.Bids MAX_BIDS p s w tested (read_there First Bids p s at.column at.stage) refl
-    (record {
-      stage = at.stage;
-      column = refl;
-      header = at.header;
-      due = at.due;
-      slots = at.slots;
-      draft = at.draft;
-      goods = at.goods;
-      bids = at.bids;
-      dummy = at.dummy;
-    })
+    (with_words (g ∷ []) [] (w ∷ []) p Second p.draft p.goods at refl refl at.draft)
 bids_word g (k ∷ []) w s p tested t at = grind (arith, common_steps, not_number_read, number_there, read_there, second_word)
 bids_word g (k ∷ v ∷ words) w s p tested t at = subst (WordFollows (g ∷ []) (k ∷ v ∷ words) w) (sym (read_there Later Bids p s at.column at.stage)) refl
 
@@ -155,16 +135,6 @@ pub dummy_word : (g b : List (List ℕ)) (words : List (List ℕ)) (w : List ℕ
     → IsAt (g ∷ b ∷ []) words p
     → WordFollows (g ∷ b ∷ []) words w (word_read p s)
 dummy_word g b [] w s p tested t at = first_word (g ∷ b ∷ []) keywords.Dummy MAX_DUMMY p s w tested (read_there First Dummy p s at.column at.stage) refl
-    (record {
-      stage = at.stage;
-      column = refl;
-      header = at.header;
-      due = at.due;
-      slots = at.slots;
-      draft = at.draft;
-      goods = at.goods;
-      bids = at.bids;
-      dummy = at.dummy;
-    })
+    (with_words (g ∷ b ∷ []) [] (w ∷ []) p Second p.draft p.goods at refl refl at.draft)
 dummy_word g b (k ∷ []) w s p tested t at = grind (arith, common_steps, not_number_read, number_there, read_there, second_word)
 dummy_word g b (k ∷ v ∷ words) w s p tested t at = subst (WordFollows (g ∷ b ∷ []) (k ∷ v ∷ words) w) (sym (read_there Later Dummy p s at.column at.stage)) refl

@@ -1,5 +1,5 @@
 -- What the parser keeps, as a function of the lines before and the words before in a line.
-use Rattle.std.proofs.Common.{◌≡◌, ℕ, ◌-◌, ◌≤◌, Bool, true, false, leb, List, [], ◌∷◌, ◌++◌, length, drop, map, fold, Option, Some, None, Ok, Err}
+use Rattle.std.proofs.Common.{◌≡◌, ℕ, ◌-◌, ◌≤◌, Bool, true, false, leb, List, [], ◌∷◌, ◌++◌, length, drop, map, fold, Option, Some, None, Ok, Err, ◌∙◌}
 use Rattle.std.specs.List.{find}
 use Rattle.cats_text.specs.Lines.{Word}
 use Rattle.cats_text.specs.Numbers.{number_of, price_of}
@@ -13,8 +13,11 @@ use Rattle.cats_text.specs.declared.parser.Stage.{Stage}
 use Rattle.cats_text.specs.declared.parser.Stage.TheVariants.{Goods, Bids, Dummy, Bid}
 use Rattle.cats_text.specs.declared.parser.Column.{Column}
 use Rattle.cats_text.specs.declared.parser.Column.TheVariants.{First, Second, Later, Ended}
+use Rattle.cats_text.specs.declared.parser.Draft.{Draft}
 use Rattle.cats_text.specs.declared.parser.Header.{Header}
 use Rattle.bid_file.specs.declared.limits.TheConstants.{MAX_GOODS, MAX_BIDS, MAX_DUMMY}
+use Rattle.std.proofs.Common.{arith}
+use Rattle.std.proofs.lemmas.Grind.{common_steps}
 
 abbrev pub stage_of : List (List Word) → Stage
 stage_of [] = Goods
@@ -81,6 +84,13 @@ pub record IsAt (lines : List (List Word)) (words : List Word) (p : Progress) : 
   pub goods : p.header.goods ≤ MAX_GOODS
   pub bids : p.header.bids ≤ MAX_BIDS
   pub dummy : p.header.dummy ≤ MAX_DUMMY
+
+-- the same line, with other words and another draft
+pub with_words : (lines : List (List Word)) (words more : List Word) (p : Progress) (column : Column) (draft : Draft) (goods : List ℕ) → IsAt lines words p
+    → column ≡ column_of lines more → values_of lines words ≡ values_of lines more
+    → DraftAt lines more (record p { column = column; draft = draft; goods = goods })
+    → IsAt lines more (record p { column = column; draft = draft; goods = goods })
+with_words lines words more p column draft goods at c v d = grind (arith, common_steps)
 
 -- what a word does: it is a fault, or it is behind the words
 abbrev pub WordFollows : List (List Word) → List Word → Word → Reading → Type 0

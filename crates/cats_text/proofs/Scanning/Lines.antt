@@ -13,6 +13,8 @@ use Rattle.cats_text.specs.declared.scanner.Mode.{Mode}
 use Rattle.cats_text.specs.declared.scanner.Mode.TheVariants.{Start, Blank, Comment, Between, Inside}
 use Rattle.cats_text.proofs.Words.Kept.{summary-push}
 use Rattle.cats_text.proofs.Parsing.WholeLines.{words_read, reading_then}
+use Rattle.std.proofs.Common.{arith}
+use Rattle.std.proofs.lemmas.Grind.{common_steps}
 
 -- ---- steps one after another
 
@@ -95,11 +97,7 @@ behind_word n (Ok q) bs rest h = h q
 behind_word n (Err kind) bs rest h = refl
 
 lifted_word : (s : State) (w : Kept) → s.mode ≡ Inside w → blank_step s ≡ lifted s.line Between (word_read s.progress w)
-lifted_word s w e = ap (λ m. blank_step_at m s) e ∙ same (word_read s.progress w)
-  where
-    same : (r : Reading) → with_reading s Between r ≡ lifted s.line Between r
-    same (Ok p) = refl
-    same (Err kind) = refl
+lifted_word s w e = grind (arith, common_steps)
 
 -- behind a word, or in one of which this has come
 abbrev pub word_mode : Word → Mode
@@ -138,10 +136,7 @@ from_word n p (a ∷ w) (b ∷ bs) f h =
 
 pub in_comment : (n : ℕ) (p : Progress) (bytes : List ℕ) → AllByRecursion IsNoEnd bytes → scan (standing Comment n p) bytes ≡ Ok (standing Comment n p)
 in_comment n p [] h = refl
-in_comment n p (b ∷ bs) h = elim (is_blank b) as (λ t. is_blank b ≡ t → scan (standing Comment n p) (b ∷ bs) ≡ Ok (standing Comment n p)) [
-  | true ↦ λ (e : is_blank b ≡ true). ap (λ r. and_then r (λ t. scan t bs)) (byte_blank (standing Comment n p) b h.0 e) ∙ in_comment n p bs h.1
-  | false ↦ λ (e : is_blank b ≡ false). ap (λ r. and_then r (λ t. scan t bs)) (byte_letter (standing Comment n p) b h.0 e) ∙ in_comment n p bs h.1
-] refl
+in_comment n p (b ∷ bs) h = grind (arith, common_steps, byte_blank, byte_letter, (in_comment n p bs h.1))
 
 -- the mode behind a line that has no words to judge
 abbrev pub quiet : List Word → Mode

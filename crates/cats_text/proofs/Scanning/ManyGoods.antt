@@ -12,11 +12,11 @@ use Rattle.cats_text.specs.declared.parser.Column.TheVariants.{Later}
 use Rattle.cats_text.specs.declared.scanner.Mode.{Mode}
 use Rattle.cats_text.specs.declared.word.Word.TheVariants.{Number}
 use Rattle.cats_text.proofs.Scanning.WholeWords.{behind_word, word_taken, word_halts, stops_in}
+use Rattle.std.proofs.Common.{arith}
+use Rattle.std.proofs.lemmas.Grind.{common_steps}
 
 good_word : (p : Progress) (n : ℕ) → p.stage ≡ Bid → p.column ≡ Later → word_read p (Number n) ≡ good_read p n
-good_word p n stage column =
-    let is : p ≡ record p { stage = Bid; column = Later } = ap₂ (λ (s : Stage) (l : Column). record p { stage = s; column = l }) stage column in
-    ap (λ (q : Progress). word_read q (Number n)) is ∙ sym (ap (λ (q : Progress). good_read q n) is)
+good_word p n stage column = grind (arith, common_steps)
 
 -- it stays behind a word
 pub good_taken : (s : State) (p : Progress) (v : Bool) (bytes : List ℕ) (good taken : ℕ) → IsGoodDue s → IsLeadingToken bytes (Number good) taken

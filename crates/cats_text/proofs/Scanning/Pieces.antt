@@ -11,19 +11,14 @@ use Rattle.cats_text.proofs.Scanning.Lines.{scan-append, byte_letter}
 use Rattle.cats_text.proofs.Parsing.WholeLines.{Scanned}
 use Rattle.cats_text.proofs.Scanning.AllBytes.{outcome}
 use Rattle.cats_text.proofs.Texts.FirstFaults.{EndsFinal, OpenIs, open_fault}
+use Rattle.std.proofs.Common.{arith}
+use Rattle.std.proofs.lemmas.Grind.{common_steps}
 
 -- ---- one piece behind another
 
 pub settled-append : (x p : List ℕ) → settled (x ++ p) ≡ settled x ++ settled (carried (waits x) p)
 settled-append [] p = refl
-settled-append (b ∷ []) p = elim (eqb b 13) as (λ t. eqb b 13 ≡ t → settled (b ∷ p) ≡ cond t [] (b ∷ []) ++ settled (carried t p)) [
-  | true ↦ λ (e : eqb b 13 ≡ true). ap (λ c. settled (c ∷ p)) (eqb-true b 13 e)
-  | false ↦ λ (e : eqb b 13 ≡ false). other p e
-] refl
-  where
-    other : (p : List ℕ) → eqb b 13 ≡ false → settled (b ∷ p) ≡ b ∷ settled p
-    other [] e = rw e refl
-    other (c ∷ cs) e = ap (λ t. cond t (return_byte c) b ∷ settled (c ∷ cs)) e
+settled-append (b ∷ []) p = grind (arith, common_steps, eqb-true)
 settled-append (b ∷ c ∷ cs) p = ap (λ ds. cond (eqb b 13) (return_byte c) b ∷ ds) (settled-append (c ∷ cs) p)
 
 pub waits-append : (x p : List ℕ) → waits (x ++ p) ≡ waits (carried (waits x) p)
@@ -39,10 +34,7 @@ waiting true = 32 ∷ []
 waiting false = []
 
 line_byte-settle : (b c : ℕ) → line_byte b (c ∷ []) ≡ cond (eqb b 13) (return_byte c) b
-line_byte-settle b c = elim (eqb b 13) as (λ t. eqb b 13 ≡ t → cond (t && eqb c 10) 32 b ≡ cond t (cond (eqb c 10) 32 13) b) [
-  | true ↦ λ (e : eqb b 13 ≡ true). ap (λ k. cond (eqb c 10) 32 k) (eqb-true b 13 e)
-  | false ↦ λ (e : eqb b 13 ≡ false). refl
-] refl
+line_byte-settle b c = grind (arith, common_steps, eqb-true)
 
 pub blank_returns-settled : (x : List ℕ) → blank_returns x ≡ settled x ++ waiting (waits x)
 blank_returns-settled [] = refl
@@ -50,20 +42,13 @@ blank_returns-settled (b ∷ []) = elim (eqb b 13) as (λ t. cond (t && true) 32
 blank_returns-settled (b ∷ c ∷ cs) = ap₂ (λ (k : ℕ) (ds : List ℕ). k ∷ ds) (line_byte-settle b c) (blank_returns-settled (c ∷ cs))
 
 end_waiting : (w : Bool) (s : State) → end_of w s ≡ and_then (scan s (waiting w)) end_step
-end_waiting true s = ap (λ r. and_then r end_step) (sym (and_then_ok (byte_step s 32)))
-  where
-    and_then_ok : (r : Scan) → and_then r (λ t. Ok t) ≡ r
-    and_then_ok (Ok t) = refl
-    and_then_ok (Err e) = refl
+end_waiting true s = grind (arith, common_steps)
 end_waiting false s = refl
 
 -- the end of the input behind the bytes that are decided
 pub end_of_text : (k : PlainBid → PlainBid) (text : List ℕ) (s : State) → scan (first_state k) (settled text) ≡ Ok s
     → end_of (waits text) s ≡ and_then (scan (first_state k) (blank_returns text)) end_step
-end_of_text k text s e = end_waiting (waits text) s
-    ∙ ap (λ (r : Scan). and_then (and_then r (λ t. scan t (waiting (waits text)))) end_step) (sym e)
-    ∙ ap (λ (r : Scan). and_then r end_step) (sym (ap (scan (first_state k)) (blank_returns-settled text)
-    ∙ scan-append (first_state k) (settled text) (waiting (waits text))))
+end_of_text k text s e = grind (arith, common_steps, blank_returns-settled, end_waiting, scan-append)
 
 -- ---- what is complete
 
@@ -121,36 +106,21 @@ ends_returns (b ∷ c ∷ cs) f = ends_returns (c ∷ cs) f
 -- nothing behind a final byte changes what is before
 settled-final : (y t : List ℕ) → EndsFinal y → settled (y ++ t) ≡ blank_returns y ++ settled t
 settled-final [] t f = refl
-settled-final (b ∷ []) t f = last t
-  where
-    no : eqb b 13 ≡ false
-    no = final_no_return b f
-
-    last : (t : List ℕ) → settled (b ∷ t) ≡ blank_returns (b ∷ []) ++ settled t
-    last [] = rw no refl
-    last (c ∷ cs) = rw no refl
+settled-final (b ∷ []) t f = grind (arith, common_steps, final_no_return)
 settled-final (b ∷ c ∷ cs) t f = ap₂ (λ (k : ℕ) (ds : List ℕ). k ∷ ds) (sym (line_byte-settle b c)) (settled-final (c ∷ cs) t f)
 
 open_byte : (b : ℕ) → is_final b ≡ false → (eqb b 10 ≡ false) × (is_blank b ≡ false)
-open_byte b f = parts (is_blank b) (eqb b 10) f
-  where
-    parts : (x y : Bool) → (x || y) ≡ false → (y ≡ false) × (x ≡ false)
-    parts true y h = absurd (both_ways true h refl)
-    parts false y h = (h, refl)
+open_byte b f = grind (arith, common_steps)
 
 open_settled : (t : List ℕ) → AreOpen t → AreOpen (settled t)
 open_settled [] h = tt
 open_settled (b ∷ []) h = elim (eqb b 13) as (λ q. AreOpen (cond q [] (b ∷ []))) [ true ↦ tt | false ↦ h ]
-open_settled (b ∷ c ∷ cs) h = (
-  elim (eqb b 13) as (λ q. is_final (cond q (return_byte c) b) ≡ false) [ true ↦ ap (λ q. is_final (cond q 32 13)) (open_byte c h.1.0).0 | false ↦ h.0 ],
-  open_settled (c ∷ cs) h.1,
-)
+open_settled (b ∷ c ∷ cs) h = grind (arith, common_steps, open_byte, (open_settled (c ∷ cs) h.1))
 
 -- bytes of a word are no fault yet
 open_scan : (s : State) (t : List ℕ) → AreOpen t → outcome (scan s t) ≡ Ok s.progress
 open_scan s [] h = refl
-open_scan s (b ∷ bs) h = let p = open_byte b h.0 in ap (λ r. outcome (and_then r (λ u. scan u bs))) (byte_letter s b p.0 p.1)
-    ∙ open_scan (record s { mode = letter_mode s.mode b }) bs h.1
+open_scan s (b ∷ bs) h = grind (arith, common_steps, byte_letter, open_byte, outcome, (open_scan (record s { mode = letter_mode s.mode b }) bs h.1))
 
 open_behind : (r : Scan) (t : List ℕ) → AreOpen t → outcome (and_then r (λ s. scan s t)) ≡ outcome r
 open_behind (Ok s) t h = open_scan s t h

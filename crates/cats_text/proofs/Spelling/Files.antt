@@ -15,6 +15,8 @@ use Rattle.cats_text.proofs.Spelling.Tests.{IsHeader, header_number}
 use Rattle.cats_text.proofs.Spelling.Goods.{IsBidLine}
 use Rattle.cats_text.proofs.Spelling.Lines.{words_from, words_none, AreBidLines, AreFileLines, lines_from, lines_none, fill_places}
 use Rattle.cats_text.proofs.Spelling.Bids.{line_is_bid, line_spells, file_bounds, spelled_line, spelled_bid}
+use Rattle.std.proofs.Common.{arith}
+use Rattle.std.proofs.lemmas.Grind.{common_steps}
 
 all_same : (P Q : List Word → Type 0) → ((x : List Word) → P x → Q x) → (xs : List (List Word)) → AllByRecursion P xs → AllByRecursion Q xs
 all_same P Q h [] a = tt
@@ -85,10 +87,7 @@ file_bid_lines text f s = record { each = each_line f s.bid_lines s.facts s.each
 
 same_bounds : (goods bids dummy : ℕ) (f : PlainFile) → goods ≡ f.goods → bids ≡ length f.bids → dummy ≡ f.dummy
     → file_bounds f ≡ record { goods = goods; bids = bids; dummy = dummy }
-same_bounds goods bids dummy f p q r =
-    ap (λ n. record { goods = n; bids = length f.bids; dummy = f.dummy }) (sym p)
-    ∙ ap (λ n. record { goods = goods; bids = n; dummy = f.dummy }) (sym q)
-    ∙ ap (λ n. record { goods = goods; bids = bids; dummy = n }) (sym r)
+same_bounds goods bids dummy f p q r = grind (arith, common_steps)
 
 file_lines : (text : List ℕ) (f : PlainFile) → Spells text f → AreFileLines (significant_words text)
 file_lines text f s = record {

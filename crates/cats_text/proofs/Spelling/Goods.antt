@@ -15,6 +15,8 @@ use Rattle.cats_text.specs.declared.read_fault.Kind.TheVariants.{NotANumber, Too
 use Rattle.cats_text.specs.declared.read_fault.Kind.TheVariants.{TwoDummies, EmptyBundle, NoEnd, AfterEnd}
 use Rattle.cats_text.proofs.Spelling.Members.{AreGoods, MayFollow, no_goods, push_goods, may_follow}
 use Rattle.cats_text.proofs.Spelling.Tests.{when_none, none_when, or_none, none_or, equal_words}
+use Rattle.std.proofs.Common.{arith}
+use Rattle.std.proofs.lemmas.Grind.{common_steps}
 
 abbrev numbers : List Word → List ℕ
 numbers ws = map number_of ws
@@ -24,8 +26,7 @@ any_numbers p [] = refl
 any_numbers p (w ∷ ws) = ap (λ b. p (number_of w) || b) (any_numbers p ws)
 
 pub number_no_end : (w : Word) → is_number w ≡ true → is_end w ≡ false
-number_no_end w h = false_from_ne_true (is_end w)
-    (λ e. both_ways (is_number (codes "#")) refl (subst (λ v. is_number v ≡ true) (equal_words w (codes "#") e) h))
+number_no_end w h = grind (arith, common_steps, equal_words, false_from_ne_true)
 
 end_push : (before : List Word) (w : Word) → has_end (before ++ w ∷ []) ≡ (has_end before || (is_end w || false))
 end_push before w = list_any-append is_end before (w ∷ [])
@@ -47,21 +48,11 @@ end_tests h before = when (not (list_any (λ g. ltb (number_of g) h.goods) befor
 
 good_from : (h : Bounds) (before : List Word) (w : Word) → good_tests h before w ≡ None → (is_number w ≡ true)
     × MayFollow h.goods h.dummy (numbers before) (number_of w)
-good_from h before w f =
-    let number = when_none _ _ _ f in let range = when_none _ _ _ number.1 in let new = when_none _ _ _ range.1 in let one = when_none _ _ _ new.1 in (
-      not-false (is_number w) number.0,
-      record {
-        range = range.0;
-        new = any_numbers (λ v. eqb v (number_of w)) before ∙ new.0;
-        one = ap (λ b. leb h.goods (number_of w) && b) (any_numbers (λ v. leb h.goods v) before) ∙ one.0;
-      },
-    )
+good_from h before w f = grind (arith, common_steps, any_numbers, not-false, when_none)
 
 good_none : (h : Bounds) (before : List Word) (w : Word) → is_number w ≡ true → MayFollow h.goods h.dummy (numbers before) (number_of w)
     → good_tests h before w ≡ None
-good_none h before w n m =
-    none_when _ _ _ (not_from_true (is_number w) n) (none_when _ _ _ m.range (none_when _ _ _ (sym (any_numbers (λ v. eqb v (number_of w)) before) ∙ m.new)
-    (none_when _ _ _ (ap (λ b. leb h.goods (number_of w) && b) (sym (any_numbers (λ v. leb h.goods v) before)) ∙ m.one) refl)))
+good_none h before w n m = grind (arith, common_steps, any_numbers, none_when, not_from_true)
 
 -- ---- the goods up to `#`
 
@@ -173,24 +164,14 @@ module _ (g b d : List Word) (lines : List (List Word)) where
 
   number_from : (w : Word) → number_word bounds lines w ≡ None → (is_number w ≡ true) × (length lines < bounds.bids) × (number_of w < bounds.bids)
       × (has_number (map line_number lines) (number_of w) ≡ false)
-  number_from w f =
-      let number = when_none _ _ _ f in let extra = when_none _ _ _ number.1 in let below = when_none _ _ _ extra.1 in let new = when_none _ _ _ below.1 in (
-        not-false (is_number w) number.0,
-        leb-false bounds.bids (length lines) extra.0,
-        leb-false bounds.bids (number_of w) below.0,
-        any_lines (number_of w) lines ∙ new.0,
-      )
+  number_from w f = grind (arith, common_steps, any_lines, leb-false, not-false, when_none)
 
   number_none : (w : Word) → is_number w ≡ true → length lines < bounds.bids → number_of w < bounds.bids → has_number (map line_number lines) (number_of w)
       ≡ false → number_word bounds lines w ≡ None
-  number_none w n l k h =
-      none_when _ _ _ (not_from_true (is_number w) n) (none_when _ _ _ (lt-leb bounds.bids (length lines) l)
-      (none_when _ _ _ (lt-leb bounds.bids (number_of w) k) (none_when _ _ _ (sym (any_lines (number_of w) lines) ∙ h) refl)))
+  number_none w n l k h = grind (arith, common_steps, any_lines, lt-leb, none_when, not_from_true)
 
   price_from : (w : Word) → price_word w ≡ None → (is_price w ≡ true) × (is_too_large w ≡ false) × (is_too_fine w ≡ false)
-  price_from w f =
-      let price = when_none _ _ _ f in let large = when_none _ _ _ price.1 in let fine = when_none _ _ _ large.1 in
-      (not-false (is_price w) price.0, large.0, fine.0)
+  price_from w f = grind (arith, common_steps, not-false, when_none)
 
   price_none : (w : Word) → is_price w ≡ true → is_too_large w ≡ false → is_too_fine w ≡ false → price_word w ≡ None
   price_none w p l f = none_when _ _ _ (not_from_true (is_price w) p) (none_when _ _ _ l (none_when _ _ _ f refl))
@@ -231,6 +212,7 @@ module _ (g b d : List Word) (lines : List (List Word)) where
       let same : line_number words ≡ number_of q.number = ap line_number q.words_are in
       subst (λ ws. (words_fault (g ∷ b ∷ d ∷ lines) [] ws ≡ None) × (bid_end ws ≡ None)) (sym q.words_are) (
         none_or _ _ (number_none q.number q.number_spelled new.due q.number_below (ap (has_number (map line_number lines)) (sym same) ∙ new.new))
-            (none_or _ _ (price_none q.price q.price_spelled q.not_large q.exact) (goods_none q.number q.price [] q.goods q.goods_spelled q.goods_are refl q.real)),
+            (none_or _ _ (price_none q.price q.price_spelled q.not_large q.exact)
+            (goods_none q.number q.price [] q.goods q.goods_spelled q.goods_are refl q.real)),
         none_when _ _ _ (not_from_true (has_end (q.goods ++ codes "#" ∷ [])) (has_end_end q.goods)) refl,
       )

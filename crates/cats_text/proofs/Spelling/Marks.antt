@@ -27,8 +27,7 @@ has_number-push (x ∷ xs) g k = grind (arith, common_steps, (has_number-push xs
 
 marked_push : (goods marks : List ℕ) (m g k : ℕ) → IsMarked goods marks m → g < length marks
     → eqb (get_or (set marks g m) k 0) m ≡ has_number (goods ++ g ∷ []) k
-marked_push goods marks m g k old there =
-    grind (arith, common_steps, eq-eqb, eqb-false, eqb-true, get_or-set_other, get_or-set_same, has_number-push, or_right)
+marked_push goods marks m g k old there = grind (arith, common_steps, eq-eqb, eqb-false, eqb-true, get_or-set_other, get_or-set_same, has_number-push, or_right)
 
 older_push : (goods marks : List ℕ) (m g k : ℕ) → IsMarked goods marks m → g < length marks → get_or (set marks g m) k 0 ≤ m
 older_push goods marks m g k old there = grind (arith, common_steps, eqb-false, eqb-true, get_or-set_other, get_or-set_same)

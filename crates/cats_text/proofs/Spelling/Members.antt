@@ -61,14 +61,7 @@ has_real G (v ∷ vs) g h l = grind (arith, common_steps, has_cases, has_head, h
 
 real_has : (G : ℕ) (ns : List ℕ) (g : ℕ) → Has (real G ns) g → (g < G) × Has ns g
 real_has G [] g = λ h. absurd (has_nothing g h)
-real_has G (v ∷ vs) g = elim (ltb v G) as (λ b. ltb v G ≡ b → Has (cond b (v ∷ real G vs) (real G vs)) g → (g < G) × Has (v ∷ vs) g) [
-  | true ↦ λ (e : ltb v G ≡ true) (h : Has (v ∷ real G vs) g). ⊎_elim (λ (q : v ≡ g). (
-    subst (λ n. n < G) q (ltb-true v G e),
-    subst (λ n. Has (v ∷ vs) n) q (has_head v vs),
-  ))
-      (λ (k : Has (real G vs) g). let p : (g < G) × Has vs g = real_has G vs g k in (p.0, has_tail v vs g p.1)) (has_cases v (real G vs) g h)
-  | false ↦ λ (e : ltb v G ≡ false) (h : Has (real G vs) g). let p : (g < G) × Has vs g = real_has G vs g h in (p.0, has_tail v vs g p.1)
-] refl
+real_has G (v ∷ vs) g = grind (arith, common_steps, has_cases, has_head, has_tail, ltb-true, (real_has G vs g))
 
 -- ---- the first one from G on
 
@@ -86,23 +79,7 @@ record NoneHigh (G : ℕ) (ns : List ℕ) : Type 0 where
 
 high_cases : (G : ℕ) (ns : List ℕ) → NoneHigh G ns ⊎ ((v : ℕ) × IsHigh G ns v)
 high_cases G [] = inl (record { first = refl; low = λ g h. absurd (has_nothing g h) })
-high_cases G (v ∷ vs) = ⊎_elim
-    (λ (h : leb G v ≡ true). inr (v, record { first = ap (λ b. cond b (Some v) (first_high G vs)) h; has = has_head v vs; high = leb-true G v h }))
-    (λ (l : leb G v ≡ false). ⊎_elim
-    (λ (n : NoneHigh G vs). inl (record {
-      first = ap (λ b. cond b (Some v) (first_high G vs)) l ∙ n.first;
-      low = λ g k. ⊎_elim (λ (q : v ≡ g). let lt : v < G = leb-false G v l in subst (λ m. m < G) q lt) (λ (m : Has vs g). n.low g m) (has_cases v vs g k);
-    }))
-    (λ (p : (w : ℕ) × IsHigh G vs w). inr (
-      p.0,
-      record {
-        first = ap (λ b. cond b (Some v) (first_high G vs)) l ∙ p.1.first;
-        has = has_tail v vs p.0 p.1.has;
-        high = p.1.high;
-      },
-    ))
-    (high_cases G vs))
-    (cases_Bool (leb G v))
+high_cases G (v ∷ vs) = grind (arith, common_steps, has_cases, has_head, has_tail, leb-false, leb-true, (high_cases G vs))
 
 -- ---- the numbers of a bid's goods
 

@@ -9,6 +9,8 @@ use Rattle.cats_text.specs.Numbers.{is_number, number_of}
 use Rattle.cats_text.specs.Faults.{when, header_word, header_end, header_value, word_fault, words_fault}
 use Rattle.cats_text.specs.declared.read_fault.Kind.{Kind}
 use Rattle.cats_text.specs.declared.read_fault.Kind.TheVariants.{Header, NotANumber, TooLarge}
+use Rattle.std.proofs.Common.{arith}
+use Rattle.std.proofs.lemmas.Grind.{common_steps}
 
 -- ---- tests
 
@@ -71,14 +73,10 @@ module _ (keyword : Word) (limit : ℕ) (lines : List (List Word))
         spelled = not-false (is_number w) number.0;
         within = ltb-false limit (number_of w) (when_none _ _ _ number.1).0;
       }
-  header_from (k ∷ w ∷ x ∷ xs) f e =
-      let fault : Some Header ≡ None = sym (is_header (k ∷ w ∷ []) x) ∙ (or_none _ _ (or_none _ _ (or_none _ _ f).1).1).0 in absurd (cc)
+  header_from (k ∷ w ∷ x ∷ xs) f e = grind (arith, common_steps, or_none)
 
   header_words_none : (number : Word) → is_number number ≡ true → number_of number ≤ limit → words_fault lines [] (keyword ∷ number ∷ []) ≡ None
-  header_words_none number spelled small = none_or _ _
-      (is_header [] keyword ∙ none_when _ _ _ (not_from_true (bytes_eq keyword keyword) (same_word keyword)) refl)
-      (none_or _ _ (is_header (keyword ∷ []) number ∙ none_when _ _ _ (not_from_true (is_number number) spelled)
-      (none_when _ _ _ (le-ltb limit (number_of number) small) refl)) refl)
+  header_words_none number spelled small = grind (arith, common_steps, le-ltb, none_or, none_when, not_from_true, number, same_word, spelled)
 
   pub header_none : (words : List Word) → IsHeader keyword limit words → (words_fault lines [] words ≡ None) × (header_end words ≡ None)
   header_none words p = subst (λ ws. (words_fault lines [] ws ≡ None) × (header_end ws ≡ None)) (sym p.words_are)

@@ -119,13 +119,7 @@ lines_last x (y ∷ ys) h = rw h.0 (ap (with_byte x) (lines_last y ys h.1))
 returns_of_line : (xs : List ℕ) → AllByRecursion IsNoEnd xs → (blank_returns xs ≡ without_return xs) ⊎ (blank_returns xs ≡ without_return xs ++ 32 ∷ [])
 returns_of_line [] h = inl refl
 returns_of_line (b ∷ []) h = grind (arith, common_steps)
-returns_of_line (b ∷ c ∷ cs) h = ⊎_elim
-    (λ (e : blank_returns (c ∷ cs) ≡ without_return (c ∷ cs)). inl (ap₂ (λ (k : ℕ) (ds : List ℕ). k ∷ ds) stays e))
-    (λ (e : blank_returns (c ∷ cs) ≡ without_return (c ∷ cs) ++ 32 ∷ []). inr (ap₂ (λ (k : ℕ) (ds : List ℕ). k ∷ ds) stays e))
-    (returns_of_line (c ∷ cs) h.1)
-  where
-    stays : line_byte b (c ∷ cs) ≡ b
-    stays = ap (λ t. cond (eqb b 13 && t) 32 b) h.1.0 ∙ elim (eqb b 13) as (λ t. cond (t && false) 32 b ≡ b) [ true ↦ refl | false ↦ refl ]
+returns_of_line (b ∷ c ∷ cs) h = grind (arith, common_steps, (returns_of_line (c ∷ cs) h.1))
 
 words_of_line : (xs : List ℕ) → AllByRecursion IsNoEnd xs → line_words (blank_returns xs) ≡ line_words (without_return xs)
 words_of_line xs h = grind (arith, common_steps, returns_of_line, words_trailing)

@@ -24,6 +24,7 @@ use Rattle.cats_text.proofs.Parsing.States.{IsAt, kept_slots}
 use Rattle.cats_text.proofs.Keeping.{scan_keeping, end_keeping}
 use Rattle.cats_text.proofs.Spelling.Files.{spells_from_no_fault, spelled_value}
 use Rattle.cats_text.proofs.Scanning.Lines.{scan-append}
+use Rattle.std.proofs.lemmas.Grind.{common_steps}
 
 abbrev ok : State → Scan
 ok s = Ok s
@@ -91,9 +92,7 @@ ends_at_first_fault k bytes s e h end = whole_at_end k bytes s (err e) h end
 -- what the parser keeps behind all lines, if it keeps each bid whole, is the bids that they say
 bids_are_said : (lines : List (List Word)) (p : Progress) → p.keep ≡ whole → IsAt lines [] p → is_line_due lines ≡ false
     → filled p.slots ≡ (file_of_lines lines).bids
-bids_are_said (g ∷ b ∷ d ∷ lines) p kept at due =
-    ap filled at.slots ∙ ap (λ (k : PlainBid → PlainBid). filled (kept_slots k p.header.goods lines)) kept
-    ∙ ap (λ (h : Header). filled (slots_of h.goods lines)) at.header
+bids_are_said (g ∷ b ∷ d ∷ lines) p kept at due = grind (arith, common_steps, kept_slots)
 bids_are_said _ p kept at due = absurd (both_ways true due refl)
 
 -- or has the sizes, and if each bid is kept whole the bids, of the file that the bytes spell
@@ -121,10 +120,7 @@ pub meets_bid_line : (k : PlainBid → PlainBid) (bytes : List ℕ) → MeetsBid
 meets_bid_line k bytes m = bid_line_met k bytes (settled bytes) (waiting (waits bytes)) (blank_returns-settled bytes) m
 
 met_at_end : (s t : State) (bytes : List ℕ) → scan s bytes ≡ ok t → IsInBidLine t → MeetsBidLine s bytes
-met_at_end s t [] h i = subst IsInBidLine (sym (same s t h)) i
-  where
-    same : (x y : State) → ok x ≡ ok y → x ≡ y
-    same x y q = cc
+met_at_end s t [] h i = grind (arith, common_steps)
 met_at_end s t (b ∷ bs) h i = inr (step (byte_step s b) h (λ u e. met_at_end u t bs e i))
   where
     no : (e : ReadFault) → err e ≡ ok t → ⊥

@@ -48,14 +48,7 @@ same_prefix : (s : List ℕ) (n : ℕ) → n ≤ length s → bytes_eq (take n s
 same_prefix [] zero l = refl
 same_prefix [] (suc n) l = absurd (let no : suc n ≤ 0 = l in omega arith)
 same_prefix (x ∷ xs) zero l = sym (ne_eqb 0 (length (x ∷ xs)) (λ e. absurd (omega arith)))
-same_prefix (x ∷ xs) (suc n) l = rw (eq-eqb x x refl) (same_prefix xs n (omega arith) ∙ shift)
-  where
-    shift : eqb n (length xs) ≡ eqb (suc n) (length (x ∷ xs))
-    shift = elim (eqb n (length xs)) as (λ t. eqb n (length xs) ≡ t → t ≡ eqb (suc n) (length (x ∷ xs))) [
-      | true ↦ λ (e : eqb n (length xs) ≡ true). let same : n ≡ length xs = eqb-true n (length xs) e in sym (eq-eqb (suc n) (length (x ∷ xs)) (omega arith))
-      | false ↦ λ (e : eqb n (length xs) ≡ false). let ne : n ≢ length xs = eqb-false n (length xs) e in
-          sym (ne_eqb (suc n) (length (x ∷ xs)) (λ q. ne (omega arith)))
-    ] refl
+same_prefix (x ∷ xs) (suc n) l = grind (arith, common_steps, eq-eqb, eqb-false, eqb-true, ne_eqb, (same_prefix xs n (omega arith)))
 
 tested_keyword : (j : Key) (a : ℕ) (w : List ℕ) (n : ℕ) → Summarises (a ∷ w) (Keyword j n) → IsTested (a ∷ w) (Keyword j n)
 tested_keyword Goods a w n h = let first : a ≡ 103 = first_of_take a w 103 _ n h.0 in record {

@@ -4,12 +4,13 @@ use Rattle.std.proofs.lemmas.List.{drop_all, append-nil}
 use Rattle.std.specs.List.{AllByRecursion, slice_get}
 use Rattle.bid_file.specs.Files.{PlainBid}
 use Rattle.cats_text.specs.Layout.{bid_text, bids_text}
+use Rattle.std.proofs.Common.{arith}
+use Rattle.std.proofs.lemmas.Grind.{common_steps}
 
 -- all are written
 pub bids_text_all : (goods : ℕ) (bids : List PlainBid) (i : ℕ) (out text : List ℕ) → length bids ≤ i → out ++ bids_text goods i (drop i bids) ≡ text
     → out ≡ text
-bids_text_all goods bids i out text all written =
-    sym (append-nil out) ∙ ap (λ bs. out ++ bids_text goods i bs) (sym (drop_all i bids all)) ∙ written
+bids_text_all goods bids i out text all written = grind (arith, common_steps, append-nil, drop_all)
 
 some_same : {X : Type 0} (x y : X) → Some x ≡ Some y → x ≡ y
 some_same x y e = cc
@@ -29,9 +30,4 @@ bid_at P (b ∷ bs) (suc i) bid all is = bid_at P bs i bid all.1 is
 -- one more is written
 pub bids_text_on : (goods : ℕ) (bids : List PlainBid) (i : ℕ) (bid : PlainBid) (out new text : List ℕ) → slice_get bids i ≡ Some bid
     → out ++ bids_text goods i (drop i bids) ≡ text → new ≡ out ++ bid_text goods i bid → new ++ bids_text goods (i + 1) (drop (i + 1) bids) ≡ text
-bids_text_on goods bids i bid out new text is before more =
-    ap (λ (xs : List ℕ). xs ++ bids_text goods (i + 1) (drop (i + 1) bids)) more
-    ∙ append_assoc out (bid_text goods i bid) (bids_text goods (i + 1) (drop (i + 1) bids))
-    ∙ ap (λ (k : ℕ). out ++ (bid_text goods i bid ++ bids_text goods k (drop k bids))) (add-one i)
-    ∙ ap (λ (bs : List PlainBid). out ++ bids_text goods i bs) (sym (drop_at bids i bid is))
-    ∙ before
+bids_text_on goods bids i bid out new text is before more = grind (arith, common_steps, add-one, append_assoc, drop_at)
