@@ -67,8 +67,11 @@ number_follows g b d lines w v p t at =
     (λ below is. let l : v < p.header.bids = leb-false p.header.bids v below in let same : v ≡ number_of w = holds_same v (number_of w) (omega arith) t.1 in
     follow_test (g ∷ b ∷ d ∷ lines) [] w _ _ kinds.RepeatedNumber _ _ is (ap (λ s. is_some_bid (slice_get s v)) at.slots
     ∙ taken (λ l. p.keep (bid_of p.header.goods l)) lines v ∙ ap (λ x. list_any (λ l. eqb (line_number l) x) lines) same)
-    (λ _ is. (is, with_words (g ∷ b ∷ d ∷ lines) [] (w ∷ []) p Second (record { number = v; price = 0; dummy = None }) p.goods at refl refl
-    (same, refl, at.draft)))))
+    (λ _ is. (
+      is,
+      with_words (g ∷ b ∷ d ∷ lines) [] (w ∷ []) p Second (record { number = v; price = 0; dummy = None }) p.goods at refl refl
+          (same, refl, at.draft),
+    ))))
 
 pub bid_first : (g b d : List (List ℕ)) (lines : List (List (List ℕ))) (w : List ℕ) (s : Word) (p : Progress) → IsTested w s → Summarises w s
     → IsAt (g ∷ b ∷ d ∷ lines) [] p → WordFollows (g ∷ b ∷ d ∷ lines) [] w (number_read p s)

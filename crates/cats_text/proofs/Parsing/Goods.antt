@@ -76,14 +76,14 @@ end_follows g b d lines n x gs w p o e fault =
     (λ _ is. (
       is,
       with_words (g ∷ b ∷ d ∷ lines) (n ∷ x ∷ gs) (n ∷ x ∷ (gs ++ w ∷ [])) p Ended p.draft p.goods o.at
-      (sym (ap ended_column (has_end-push gs w o.on ∙ e))) refl
-      (let same : before_end (gs ++ w ∷ []) ≡ gs = before_end-ended gs w o.on e in record {
-      number = o.at.draft.number;
-      price = o.at.draft.price;
-      dummy = dummy_is g b d lines n x gs p o ∙ ap (dummy_in p.header.goods) (sym same);
-      goods = goods_are g b d lines n x gs p o ∙ ap (real_goods p.header.goods) (sym same);
-      one = subst (λ ws. HasOneDummy p.header.goods (values ws)) (sym same) (one_dummy g b d lines n x gs p o);
-    }),
+          (sym (ap ended_column (has_end-push gs w o.on ∙ e))) refl
+          (let same : before_end (gs ++ w ∷ []) ≡ gs = before_end-ended gs w o.on e in record {
+            number = o.at.draft.number;
+            price = o.at.draft.price;
+            dummy = dummy_is g b d lines n x gs p o ∙ ap (dummy_in p.header.goods) (sym same);
+            goods = goods_are g b d lines n x gs p o ∙ ap (real_goods p.header.goods) (sym same);
+            one = subst (λ ws. HasOneDummy p.header.goods (values ws)) (sym same) (one_dummy g b d lines n x gs p o);
+          }),
     ))
 
 -- ---- a real good
@@ -102,16 +102,16 @@ real_follows g b d lines n x gs w v p o e same l fault =
     (λ _ is. (
       is ∙ ap (λ t. when (t && list_any (λ y. leb p.header.goods (number_of y)) gs) kinds.TwoDummies None) (lt-leb p.header.goods (number_of w) lw),
       with_words (g ∷ b ∷ d ∷ lines) (n ∷ x ∷ gs) (n ∷ x ∷ (gs ++ w ∷ [])) p p.column p.draft (p.goods ++ v ∷ []) o.at
-      (o.at.column ∙ ap ended_column (o.on ∙ sym (has_end-push gs w o.on ∙ e))) refl
-      (let all : before_end (gs ++ w ∷ []) ≡ gs ++ w ∷ [] = before_end-push gs w o.on e in record {
-      number = o.at.draft.number;
-      price = o.at.draft.price;
-      dummy = dummy_is g b d lines n x gs p o ∙ sym (dummy_in-real p.header.goods gs w lw) ∙ ap (dummy_in p.header.goods) (sym all);
-      goods = ap₂ (λ (vs : List ℕ) (k : ℕ). vs ++ k ∷ []) (goods_are g b d lines n x gs p o) same ∙ sym (real_goods-real p.header.goods gs w lw)
-          ∙ ap (real_goods p.header.goods) (sym all);
-      one = subst (HasOneDummy p.header.goods) (sym (ap values all ∙ values-push gs w))
-          (one_more_real p.header.goods (values gs) (number_of w) lw (one_dummy g b d lines n x gs p o));
-    }),
+          (o.at.column ∙ ap ended_column (o.on ∙ sym (has_end-push gs w o.on ∙ e))) refl
+          (let all : before_end (gs ++ w ∷ []) ≡ gs ++ w ∷ [] = before_end-push gs w o.on e in record {
+            number = o.at.draft.number;
+            price = o.at.draft.price;
+            dummy = dummy_is g b d lines n x gs p o ∙ sym (dummy_in-real p.header.goods gs w lw) ∙ ap (dummy_in p.header.goods) (sym all);
+            goods = ap₂ (λ (vs : List ℕ) (k : ℕ). vs ++ k ∷ []) (goods_are g b d lines n x gs p o) same ∙ sym (real_goods-real p.header.goods gs w lw)
+                ∙ ap (real_goods p.header.goods) (sym all);
+            one = subst (HasOneDummy p.header.goods) (sym (ap values all ∙ values-push gs w))
+                (one_more_real p.header.goods (values gs) (number_of w) lw (one_dummy g b d lines n x gs p o));
+          }),
     ))
 
 -- ---- a dummy good
@@ -135,16 +135,16 @@ dummy_follows g b d lines n x gs w p o e le fault None none =
     ∙ any_find (λ y. leb p.header.goods y) (values gs) ∙ ap is_some none in (
       passes (g ∷ b ∷ d ∷ lines) (n ∷ x ∷ gs) w _ _ _ fault new ∙ ap₂ (λ (s t : Bool). when (s && t) kinds.TwoDummies None) is_dummy first,
       with_words (g ∷ b ∷ d ∷ lines) (n ∷ x ∷ gs) (n ∷ x ∷ (gs ++ w ∷ [])) p p.column
-      (record p.draft { dummy = Some (number_of w - p.header.goods) }) p.goods o.at
-      (o.at.column ∙ ap ended_column (o.on ∙ sym (has_end-push gs w o.on ∙ e))) refl
-      (let all : before_end (gs ++ w ∷ []) ≡ gs ++ w ∷ [] = before_end-push gs w o.on e in record {
-      number = o.at.draft.number;
-      price = o.at.draft.price;
-      dummy = sym (dummy_in-dummy p.header.goods gs w le none) ∙ ap (dummy_in p.header.goods) (sym all);
-      goods = goods_are g b d lines n x gs p o ∙ sym (real_goods-dummy p.header.goods gs w le) ∙ ap (real_goods p.header.goods) (sym all);
-      one = subst (HasOneDummy p.header.goods) (sym (ap values all ∙ values-push gs w))
-          (first_dummy p.header.goods (values gs) (number_of w) is_dummy none one);
-    }),
+          (record p.draft { dummy = Some (number_of w - p.header.goods) }) p.goods o.at
+          (o.at.column ∙ ap ended_column (o.on ∙ sym (has_end-push gs w o.on ∙ e))) refl
+          (let all : before_end (gs ++ w ∷ []) ≡ gs ++ w ∷ [] = before_end-push gs w o.on e in record {
+            number = o.at.draft.number;
+            price = o.at.draft.price;
+            dummy = sym (dummy_in-dummy p.header.goods gs w le none) ∙ ap (dummy_in p.header.goods) (sym all);
+            goods = goods_are g b d lines n x gs p o ∙ sym (real_goods-dummy p.header.goods gs w le) ∙ ap (real_goods p.header.goods) (sym all);
+            one = subst (HasOneDummy p.header.goods) (sym (ap values all ∙ values-push gs w))
+                (first_dummy p.header.goods (values gs) (number_of w) is_dummy none one);
+          }),
     )
 dummy_follows g b d lines n x gs w p o e le fault (Some f) found =
     let one : HasOneDummy p.header.goods (values gs) = one_dummy g b d lines n x gs p o in

@@ -5,7 +5,7 @@ use Rattle.cats_text.specs.Lines.{is_blank}
 use Rattle.cats_text.specs.Internal.Returns.{settled, settle}
 use Rattle.cats_text.specs.declared.read_fault.ReadFault.{ReadFault}
 use Rattle.cats_text.specs.declared.scanner.Mode.{Mode}
-use Rattle.cats_text.specs.declared.scanner.Mode.TheVariants.{Start, Blank, Comment, Between, Inside}
+use Rattle.cats_text.specs.declared.scanner.Mode.TheVariants.{Between, Inside}
 use Rattle.cats_text.specs.Internal.Parsing.{Reading, word_read, line_read}
 use Rattle.cats_text.specs.Internal.Scanning.{State, Scan, and_then, with_reading, blank_step_at, blank_step, words_step_at, line_step, byte_step}
 use Rattle.cats_text.specs.Internal.Scanning.{scan, MeetsBidLine}

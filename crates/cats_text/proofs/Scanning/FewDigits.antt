@@ -29,8 +29,8 @@ few_spell : (ds : List ℕ) (v k : ℕ) → v < 10 ^ k → k + length ds ≤ 13 
     → (Number (digits_value_after 10 v ds) ≡ fold word_with (Number v) ds) × (digits_value_after 10 v ds < 10 ^ 13)
 few_spell [] v k small few h = grind (arith, common_steps, lt_of_lt_of_le, pow-le-pow_right)
 few_spell (b ∷ ds) v k small few h =
-    grind (arith, common_steps, and_parts, digit_bounds, digit_worth, lt-ltb, number_with, pow-le-pow_right, pow-suc,
-    (few_spell ds (v * 10 + digit_value b) (suc k)))
+    let rest = few_spell ds (v * 10 + digit_value b) (suc k) in
+    grind (arith, common_steps, and_parts, digit_bounds, digit_worth, lt-ltb, number_with, pow-le-pow_right, pow-suc, rest)
 
 -- few digits at the start and what they are worth
 few_spelt : (bytes : List ℕ) (count value : ℕ) → digits_len bytes ≡ count → count ≤ 13 → value ≡ digits_value 10 (take count bytes)

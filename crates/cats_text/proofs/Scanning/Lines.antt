@@ -7,7 +7,7 @@ use Rattle.cats_text.specs.Faults.{fault_at}
 use Rattle.cats_text.specs.Internal.Progress.{Progress}
 use Rattle.cats_text.specs.Internal.Parsing.{Reading, word_read}
 use Rattle.cats_text.specs.Internal.Machine.{word_from, summary}
-use Rattle.cats_text.specs.Internal.Scanning.{State, Scan, and_then, scan, byte_step, blank_step, with_reading, letter_mode, blank_step_at}
+use Rattle.cats_text.specs.Internal.Scanning.{State, Scan, and_then, scan, byte_step, blank_step, letter_mode}
 use Rattle.cats_text.specs.declared.word.Word.{Word as Kept}
 use Rattle.cats_text.specs.declared.scanner.Mode.{Mode}
 use Rattle.cats_text.specs.declared.scanner.Mode.TheVariants.{Start, Blank, Comment, Between, Inside}

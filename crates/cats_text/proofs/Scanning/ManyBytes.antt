@@ -13,7 +13,7 @@ use Rattle.cats_text.specs.Internal.Returns.{settled, waits, return_byte}
 use Rattle.cats_text.specs.Internal.Progress.{Progress}
 use Rattle.cats_text.specs.Internal.Scanning.{State, scan, and_then, letter_mode, is_before_word, MeetsBidLine, IsScanned}
 use Rattle.cats_text.specs.declared.scanner.Mode.{Mode}
-use Rattle.cats_text.specs.declared.scanner.Mode.TheVariants.{Start, Blank, Comment, Between, Inside}
+use Rattle.cats_text.specs.declared.scanner.Mode.TheVariants.{Comment, Between, Inside}
 use Rattle.cats_text.proofs.Words.Places.{digit_bounds}
 use Rattle.cats_text.proofs.Scanning.Rests.{settled-other}
 use Rattle.cats_text.proofs.Scanning.Appends.{meets_behind}

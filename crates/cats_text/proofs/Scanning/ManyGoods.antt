@@ -1,11 +1,9 @@
 -- A good that is due is read as any word in its column is.
-use Rattle.std.proofs.Common.{◌≡◌, ℕ, Bool, true, List, sym, ap, ap₂, ◌∙◌, subst, false, Ok, Err}
+use Rattle.std.proofs.Common.{◌≡◌, ℕ, Bool, true, List, sym, ap, ◌∙◌, subst, false, Ok, Err}
 use Rattle.cats_text.specs.Internal.LeadingToken.{IsLeadingToken}
 use Rattle.cats_text.specs.Internal.Progress.{Progress, Gives}
 use Rattle.cats_text.specs.Internal.Parsing.{good_read, word_read}
 use Rattle.cats_text.specs.Internal.Scanning.{State, IsGoodDue, ScansTo, is_before_word}
-use Rattle.cats_text.specs.declared.parser.Stage.{Stage}
-use Rattle.cats_text.specs.declared.parser.Column.{Column}
 use Rattle.cats_text.specs.declared.read_fault.Kind.{Kind}
 use Rattle.cats_text.specs.declared.parser.Stage.TheVariants.{Bid}
 use Rattle.cats_text.specs.declared.parser.Column.TheVariants.{Later}

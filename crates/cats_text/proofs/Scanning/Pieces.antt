@@ -1,11 +1,11 @@
 -- Pieces of a text: what is decided of a CR, what is complete, and what waits.
-use Rattle.std.proofs.Common.{◌≡◌, ℕ, Bool, true, false, ◌&&◌, ◌||◌, cond, eqb, List, [], ◌∷◌, ◌++◌, refl, sym, ap, ap₂, ◌∙◌, subst, Some, None, Ok, Err}
+use Rattle.std.proofs.Common.{◌≡◌, ℕ, Bool, true, false, ◌&&◌, cond, eqb, List, [], ◌∷◌, ◌++◌, refl, sym, ap, ap₂, ◌∙◌, subst, Some, None, Ok, Err}
 use Rattle.std.proofs.lemmas.Bool.{both_ways, eqb-true, ne_eqb}
 use Rattle.std.specs.List.{AllByRecursion}
 use Rattle.cats_text.specs.Lines.{is_blank, line_byte, blank_returns}
 use Rattle.cats_text.specs.Faults.{is_final, keep_final, up_to_final, complete_fault}
 use Rattle.cats_text.specs.Internal.Returns.{return_byte, settled, waits, carried}
-use Rattle.cats_text.specs.Internal.Scanning.{State, Scan, first_state, and_then, scan, byte_step, end_step, end_of, letter_mode}
+use Rattle.cats_text.specs.Internal.Scanning.{State, Scan, first_state, and_then, scan, end_step, end_of, letter_mode}
 use Rattle.bid_file.specs.Files.{PlainBid}
 use Rattle.cats_text.proofs.Scanning.Lines.{scan-append, byte_letter}
 use Rattle.cats_text.proofs.Parsing.WholeLines.{Scanned}

@@ -9,10 +9,10 @@ use Rattle.std.specs.Prelude.{codes}
 use Rattle.cats_text.specs.Lines.{Word}
 use Rattle.cats_text.specs.Numbers.{is_number, number_of, is_price, is_too_large, is_too_fine}
 use Rattle.cats_text.specs.Grammar.{has_number, line_number}
-use Rattle.cats_text.specs.Faults.{when, Bounds, number_word, price_word, is_end, has_end, good_word, bid_end, bounds_of, words_fault}
+use Rattle.cats_text.specs.Faults.{when, Bounds, number_word, price_word, is_end, has_end, bid_end, bounds_of, words_fault}
 use Rattle.cats_text.specs.declared.read_fault.Kind.{Kind}
-use Rattle.cats_text.specs.declared.read_fault.Kind.TheVariants.{NotANumber, TooLarge, ExtraBid, BidNumber, RepeatedNumber, TooFine, GoodRange, RepeatedGood}
-use Rattle.cats_text.specs.declared.read_fault.Kind.TheVariants.{TwoDummies, EmptyBundle, NoEnd, AfterEnd}
+use Rattle.cats_text.specs.declared.read_fault.Kind.TheVariants.{NotANumber, GoodRange, RepeatedGood}
+use Rattle.cats_text.specs.declared.read_fault.Kind.TheVariants.{TwoDummies, EmptyBundle}
 use Rattle.cats_text.proofs.Spelling.Members.{AreGoods, MayFollow, no_goods, push_goods, may_follow}
 use Rattle.cats_text.proofs.Spelling.Tests.{when_none, none_when, or_none, none_or, equal_words}
 use Rattle.std.proofs.Common.{arith}

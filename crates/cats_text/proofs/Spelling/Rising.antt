@@ -102,8 +102,8 @@ has_rising_with g (x ∷ xs) n = grind (arith, common_steps, eqb-true, or_swap, 
 pub IsRising-with : (g : ℕ) (xs : List ℕ) → IsRising xs → IsRising (rising_with g xs)
 IsRising-with g [] r = (tt, tt)
 IsRising-with g (x ∷ xs) r =
-    grind (arith, common_steps, above_from_has, above_has, eqb-false, eqb-true, has_cases, has_rising_with, ltb-false, ltb-true, or_cases,
-    (IsRising-with g xs r.1))
+    let rest = IsRising-with g xs r.1 in
+    grind (arith, common_steps, above_from_has, above_has, eqb-false, eqb-true, has_cases, has_rising_with, ltb-false, ltb-true, or_cases, rest)
 
 pub has_rising_of : (xs : List ℕ) (n : ℕ) → has_number (rising_of xs) n ≡ has_number xs n
 has_rising_of [] n = refl

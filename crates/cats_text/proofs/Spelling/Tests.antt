@@ -8,7 +8,7 @@ use Rattle.cats_text.specs.Lines.{Word}
 use Rattle.cats_text.specs.Numbers.{is_number, number_of}
 use Rattle.cats_text.specs.Faults.{when, header_word, header_end, header_value, word_fault, words_fault}
 use Rattle.cats_text.specs.declared.read_fault.Kind.{Kind}
-use Rattle.cats_text.specs.declared.read_fault.Kind.TheVariants.{Header, NotANumber, TooLarge}
+use Rattle.cats_text.specs.declared.read_fault.Kind.TheVariants.{Header}
 use Rattle.std.proofs.Common.{arith}
 use Rattle.std.proofs.lemmas.Grind.{common_steps}
 

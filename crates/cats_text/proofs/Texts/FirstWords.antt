@@ -1,7 +1,7 @@
 -- The first word of a line and the first line of a text, each cut where a search for a byte says. The idea: the bytes before
 -- the first one that passes a test are all of one sort, and the definitions go over such bytes at one go.
 use Rattle.std.proofs.Common.{◌≡◌, ℕ, zero, suc, ◌+◌, ◌<◌, ◌≤◌, min, Bool, true, false, not, ◌&&◌, cond, eqb, ltb, List, [], ◌∷◌, ◌++◌, length, take, drop}
-use Rattle.std.proofs.Common.{get_or, refl, sym, ap, ap₂, ◌∙◌, subst, arith, Some, None, ◌⊎◌, ⊎_elim, inl, inr, drop-cons, append-nil, length-append}
+use Rattle.std.proofs.Common.{get_or, refl, sym, ap, ap₂, ◌∙◌, subst, arith, Some, None, ◌⊎◌, ⊎_elim, inl, drop-cons, append-nil, length-append}
 use Rattle.std.proofs.lemmas.Bool.{both_ways, eqb-true, ltb-true, ltb-false, cases_lt}
 use Rattle.std.proofs.lemmas.List.{take-append-drop, drop_all, take_all, length-drop, length-take}
 use Rattle.std.proofs.lemmas.List.Sums.{fails_before_first, passes_at_first}

@@ -11,7 +11,7 @@ use Rattle.std.specs.Prelude.{codes}
 use Rattle.cats_text.specs.Internal.Reading.{SpellsParts}
 use Rattle.cats_text.specs.Internal.Returns.{settled, waits, carried}
 use Rattle.cats_text.specs.Internal.Progress.{Progress}
-use Rattle.cats_text.specs.FileLines.{filled, file_of_lines, slots_of}
+use Rattle.cats_text.specs.FileLines.{filled, file_of_lines}
 use Rattle.cats_text.specs.Internal.Scanning.{State, Scan, first_state, and_then, scan, byte_step, end_step, end_of, MeetsBidLine, IsInBidLine, HasBids}
 use Rattle.cats_text.specs.Internal.Kept.{whole}
 use Rattle.cats_text.specs.declared.read_fault.ReadFault.{ReadFault}

@@ -81,8 +81,8 @@ spells_bids : (f : PlainFile) (prefix bs : List PlainBid) → f.bids ≡ prefix 
     → AllByRecursion (SpellsBid f) (bids_words f.goods (length prefix) bs)
 spells_bids f prefix [] split bids = tt
 spells_bids f prefix (b ∷ bs) split bids =
-    grind (arith, common_steps, append_assoc, behind_first, bids_words, length-append, spells_bid,
-    (spells_bids f (prefix ++ b ∷ []) bs (split ∙ sym (append_assoc prefix (b ∷ []) bs))))
+    let rest = spells_bids f (prefix ++ b ∷ []) bs (split ∙ sym (append_assoc prefix (b ∷ []) bs)) in
+    grind (arith, common_steps, append_assoc, behind_first, bids_words, length-append, spells_bid, rest)
 
 -- ---- the lines
 
