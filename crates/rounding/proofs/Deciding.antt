@@ -1,12 +1,13 @@
 -- From a value that is held to its replacement.
 use Rattle.std.proofs.Common.{◌≡◌, ℕ, suc, ◌+◌, ◌*◌, ◌/◌, ◌%◌, ◌<◌, ◌≤◌, min, true, false, not, eqb, ltb, refl, sym, ap, ◌∙◌, arith, ⊎_elim}
-use Rattle.std.proofs.lemmas.Bool.{lt-ltb, le-ltb, ltb-false, cases_lt, eqb-true, eqb-false, cases_Bool}
+use Rattle.std.proofs.lemmas.Bool.{lt-ltb, le-ltb, ltb-false, cases_lt, eqb-true, eqb-false}
 use Rattle.std.proofs.lemmas.Nat.{mul-le, div-add-mod', mod_below}
 use Rattle.bid_file.specs.declared.limits.TheConstants.{MAX_PRICE}
-use Rattle.rounding.specs.Nearest.{nearest, step_up}
+use Rattle.rounding.specs.Nearest.{nearest}
 use Rattle.rounding.specs.Replacements.{replacement_of}
 use Rattle.rounding.specs.declared.replacement.FinePrices.TheVariants.{Round, Refuse}
 use Rattle.rounding.specs.declared.replacement.Replacement.TheVariants.{Exact, Rounded, TooLarge, TooFine}
+use Rattle.std.proofs.lemmas.Grind.{common_steps}
 
 abbrev held : ℕ → ℕ
 held n = min (suc MAX_PRICE) n
@@ -19,35 +20,15 @@ nearest_small n d r e l = omega arith
 
 pub round_whole : (n d r v : ℕ) → held r ≡ held (nearest n d) → r ≤ MAX_PRICE → v ≡ held (n / d) → eqb (n % d) 0 ≡ true
     → Exact v ≡ replacement_of Round n d
-round_whole n d r v e l ev w =
-    let is : r ≡ nearest n d = nearest_small n d r e l in
-    let within : ltb MAX_PRICE (nearest n d) ≡ false = le-ltb MAX_PRICE (nearest n d) (omega arith) in
-    let least : n / d ≤ nearest n d = at_least (n / d) (step_up (n / d) (2 * (n % d)) d) in
-    let whole : v ≡ n / d = omega arith in
-    rw within (rw w (ap Exact whole))
-  where
-    at_least : (a b : ℕ) → a ≤ a + b
-    at_least a b = omega arith
+round_whole n d r v e l ev w = grind (arith, common_steps, le-ltb, nearest_small)
 
 pub round_fine : (n d r : ℕ) → held r ≡ held (nearest n d) → r ≤ MAX_PRICE → eqb (n % d) 0 ≡ false → Rounded r ≡ replacement_of Round n d
-round_fine n d r e l w =
-    let is : r ≡ nearest n d = nearest_small n d r e l in
-    let within : ltb MAX_PRICE (nearest n d) ≡ false = le-ltb MAX_PRICE (nearest n d) (omega arith) in
-    rw within (rw w (ap Rounded is))
+round_fine n d r e l w = grind (arith, common_steps, le-ltb, nearest_small)
 
 -- ---- above the greatest price
 
 pub above_equal : (n d v : ℕ) → 0 < d → v ≡ held (n / d) → v ≡ MAX_PRICE → not (eqb (n % d) 0) ≡ ltb (MAX_PRICE * d) n
-above_equal n d v some ev e =
-    let q : n / d ≡ MAX_PRICE = omega arith in
-    let all : n / d * d + n % d ≡ n = div-add-mod' n d in
-    let times : n / d * d ≡ MAX_PRICE * d = ap (λ k. k * d) q in
-    ⊎_elim
-    (λ (z : eqb (n % d) 0 ≡ true). let none : n % d ≡ 0 = eqb-true (n % d) 0 z in
-    ap not z ∙ sym (le-ltb (MAX_PRICE * d) n (omega arith)))
-    (λ (z : eqb (n % d) 0 ≡ false). let more : n % d ≡ 0 → ⊥ = eqb-false (n % d) 0 z in
-    ap not z ∙ sym (lt-ltb (MAX_PRICE * d) n (omega arith)))
-    (cases_Bool (eqb (n % d) 0))
+above_equal n d v some ev e = grind (arith, common_steps, div-add-mod', eqb-false, eqb-true, le-ltb, lt-ltb)
 
 pub above_other : (n d v : ℕ) → 0 < d → v ≡ held (n / d) → (v ≡ MAX_PRICE → ⊥) → ltb MAX_PRICE v ≡ ltb (MAX_PRICE * d) n
 above_other n d v some ev ne =

@@ -2,10 +2,10 @@
 use Rattle.std.specs.Prelude.{if◌then◌else◌}
 use Rattle.std.proofs.Common.{◌≡◌, ℕ, zero, suc, ◌-◌, ◌<◌, ◌≤◌, true, false, ◌&&◌, eqb, leb, List, [], ◌∷◌, ◌++◌, map, filter, drop, refl, sym, ap, ◌∙◌, arith}
 use Rattle.std.proofs.Common.{◌+◌, length, Bool, ⊎_elim, Some, None, append_assoc, subst, slice_get, codes}
-use Rattle.std.proofs.lemmas.Bool.{cases_Bool, both_ways, and_parts, eqb-true, cases_lt, lt-leb, ltb-false}
+use Rattle.std.proofs.lemmas.Bool.{cases_Bool, and_parts, eqb-true, lt-leb, ltb-false, both_ways}
 use Rattle.std.proofs.lemmas.List.{drop_all, length-drop, length-map}
 use Rattle.std.specs.List.{AllByRecursion}
-use Rattle.cats_text.specs.Lines.{Word, RawLine, Line, is_blank, line_byte, line_ends, blank_returns, raw_lines, lines_with, with_byte, line_words, words_with}
+use Rattle.cats_text.specs.Lines.{Word, RawLine, Line, is_blank, line_byte, line_ends, blank_returns, raw_lines, with_byte, line_words, words_with}
 use Rattle.cats_text.specs.Lines.{with_letter, is_significant, numbered, significant_lines}
 use Rattle.cats_text.specs.Faults.{price_word, has_bid_line}
 use Rattle.cats_text.specs.Grammar.{Spells, SpellsPrice, SpellsBid, significant_words}
@@ -18,12 +18,13 @@ use Rattle.bid_file.specs.Files.{PlainFile, PlainBid, IsPlainFile, IsBid}
 use Rattle.rounding.specs.Replacements.{replacement, rounded_word}
 use Rattle.rounding.specs.Texts.{behind_blanks, leading_word, behind_word, from_second, before_second, second_word, behind_second, with_rounded}
 use Rattle.rounding.specs.Texts.{is_significant_line, is_bid_line, before_next}
-use Rattle.rounding.specs.Texts.{rounded_line, rounded_lines, lines_text, line_changes, lines_changes, rounded_text, rounded_prices, change_by, PlainChange}
+use Rattle.rounding.specs.Texts.{rounded_line, rounded_lines, lines_text, line_changes, lines_changes, rounded_text, rounded_prices, change_by}
 use Rattle.rounding.specs.declared.replacement.FinePrices.{FinePrices}
 use Rattle.rounding.specs.Internal.RawTexts.{behind_line}
 use Rattle.rounding.proofs.TextLines.{first_of_lines, first_raw}
 use Rattle.rounding.proofs.Spans.{word_both}
 use Rattle.rounding.proofs.Words.{byte_stays, second_both}
+use Rattle.std.proofs.lemmas.Grind.{common_steps}
 
 -- ---- the words of a line
 
@@ -67,8 +68,7 @@ blank_passed : (b : ℕ) (bs : List ℕ) → is_blank (line_byte b bs) ≡ true 
 blank_passed b bs e = rw e refl
 
 split_letter : (b : ℕ) (xs : List ℕ) → is_blank (line_byte b xs) ≡ false → (b ∷ leading_word xs) ∷ line_of (behind_word xs) ≡ split_first (b ∷ xs)
-split_letter b xs e = sym (ap (λ (w : Word). w ∷ line_of (behind_word (b ∷ xs))) (leading_letter b xs e)
-    ∙ ap (λ (t : List ℕ). (b ∷ leading_word xs) ∷ line_of t) (behind_letter b xs e))
+split_letter b xs e = grind (arith, common_steps, behind_letter, leading_letter)
 
 first_word : (b : ℕ) (bs : List ℕ) → is_blank (line_byte b bs) ≡ false → line_of (b ∷ bs) ≡ split_first (b ∷ bs)
 first_word b [] e = letter_last (line_byte b []) e ∙ ap (λ x. (x ∷ []) ∷ []) (byte_stays b [] e) ∙ split_letter b [] e
@@ -87,11 +87,7 @@ first_word b (c ∷ cs) e = ⊎_elim
 
 pub words_split : (l : List ℕ) → line_of l ≡ split_first (behind_blanks l)
 words_split [] = refl
-words_split (b ∷ bs) = ⊎_elim
-    (λ (e : is_blank (line_byte b bs) ≡ true). blank_skips (line_byte b bs) (blank_returns bs) (line_of bs) e ∙ words_split bs
-    ∙ ap split_first (sym (blank_passed b bs e)))
-    (λ (e : is_blank (line_byte b bs) ≡ false). first_word b bs e ∙ ap split_first (sym (letter_stays b bs e)))
-    (cases_Bool (is_blank (line_byte b bs)))
+words_split (b ∷ bs) = grind (arith, common_steps, blank_passed, blank_skips, first_word, letter_stays, (words_split bs))
 
 heads : (x : List ℕ) (n : Word) (ws : List Word) → split_first x ≡ n ∷ ws → line_of (behind_word x) ≡ ws
 heads [] n ws e = absurd (cc)
@@ -107,9 +103,7 @@ second_is l n p ws e =
     head_word (from_second l) p ws (sym (words_split (behind_word (behind_blanks l))) ∙ rest)
 
 pub line_parts : (l : List ℕ) → before_second l ++ second_word l ++ behind_second l ≡ l
-line_parts l = append_assoc (before_second l) (second_word l) (behind_second l)
-    ∙ ap (λ (t : List ℕ). before_second l ++ t) (word_both (from_second l))
-    ∙ second_both l
+line_parts l = grind (arith, common_steps, append_assoc, second_both, word_both)
 
 -- ---- lines with their returns as blanks
 
@@ -122,14 +116,7 @@ first_bytes (l ∷ ls) = l.bytes
 
 ends_same : (bs : List ℕ) → line_ends bs ≡ line_ends (first_bytes (raw_lines bs))
 ends_same [] = refl
-ends_same (c ∷ cs) = ⊎_elim
-    (λ (e : eqb c 10 ≡ true). rw e refl)
-    (λ (e : eqb c 10 ≡ false). rw e (byte_first e (raw_lines cs)))
-    (cases_Bool (eqb c 10))
-  where
-    byte_first : eqb c 10 ≡ false → (ls : List RawLine) → false ≡ line_ends (first_bytes (with_byte c ls))
-    byte_first e [] = sym e
-    byte_first e (l ∷ ls) = sym e
+ends_same (c ∷ cs) = grind (arith, common_steps)
 
 feed_stays : (bs : List ℕ) (b : ℕ) → eqb b 10 ≡ true → line_byte b bs ≡ 10
 feed_stays bs b e = let is : b ≡ 10 = eqb-true b 10 e in rw is refl
@@ -143,14 +130,7 @@ with_blanked b (l ∷ ls) = refl
 
 pub lines_blanked : (t : List ℕ) → raw_lines (blank_returns t) ≡ map blanked (raw_lines t)
 lines_blanked [] = refl
-lines_blanked (b ∷ bs) = ⊎_elim
-    (λ (e : eqb b 10 ≡ true). ap (λ x. lines_with x (raw_lines (blank_returns bs))) (feed_stays bs b e)
-    ∙ rw e (ap (λ (ls : List RawLine). record { bytes = []; ended = true } ∷ ls) (lines_blanked bs)))
-    (λ (e : eqb b 10 ≡ false). rw e (rw (other_stays bs b e)
-    (ap (with_byte (line_byte b bs)) (lines_blanked bs)
-    ∙ ap (λ v. with_byte (if (eqb b 13) && v then 32 else b) (map blanked (raw_lines bs))) (ends_same bs)
-    ∙ with_blanked b (raw_lines bs))))
-    (cases_Bool (eqb b 10))
+lines_blanked (b ∷ bs) = grind (arith, common_steps, ends_same, feed_stays, other_stays, with_blanked, (lines_blanked bs))
 
 -- ---- the words of significant lines
 
@@ -161,14 +141,10 @@ words_from (l ∷ ls) = if is_significant_line l then line_of l.bytes ∷ words_
 kept_words : (n : ℕ) (ls : List RawLine) → map (λ (l : Line). l.words) (filter (λ (l : Line). is_significant l.words) (numbered n (map blanked ls)))
     ≡ words_from ls
 kept_words n [] = refl
-kept_words n (l ∷ ls) = ⊎_elim
-    (λ (e : is_significant_line l ≡ true). rw e (ap (λ (ws : List (List Word)). line_of l.bytes ∷ ws) (kept_words (suc n) ls)))
-    (λ (e : is_significant_line l ≡ false). rw e (kept_words (suc n) ls))
-    (cases_Bool (is_significant_line l))
+kept_words n (l ∷ ls) = grind (arith, common_steps, (kept_words (suc n) ls))
 
 pub significant_from : (t : List ℕ) → significant_words t ≡ words_from (raw_lines t)
-significant_from t = ap (λ (ls : List RawLine). map (λ (l : Line). l.words) (filter (λ (l : Line). is_significant l.words) (numbered 1 ls))) (lines_blanked t)
-    ∙ kept_words 1 (raw_lines t)
+significant_from t = grind (arith, common_steps, kept_words, lines_blanked)
 
 -- ---- a text is its lines
 
@@ -178,10 +154,7 @@ lines_joined b (l ∷ ls) = refl
 
 pub text_of_lines : (t : List ℕ) → lines_text (raw_lines t) ≡ t
 text_of_lines [] = refl
-text_of_lines (b ∷ bs) = ⊎_elim
-    (λ (e : eqb b 10 ≡ true). let is : b ≡ 10 = eqb-true b 10 e in rw e (ap (λ (u : List ℕ). 10 ∷ u) (text_of_lines bs) ∙ ap (λ x. x ∷ bs) (sym is)))
-    (λ (e : eqb b 10 ≡ false). rw e (lines_joined b (raw_lines bs) ∙ ap (λ (u : List ℕ). b ∷ u) (text_of_lines bs)))
-    (cases_Bool (eqb b 10))
+text_of_lines (b ∷ bs) = grind (arith, common_steps, eqb-true, lines_joined, (text_of_lines bs))
 
 -- ---- lines whose prices are valid
 
@@ -200,33 +173,23 @@ change_none : (fine : FinePrices) (number : ℕ) (w : Word) → price_word w ≡
 change_none fine number w e = rw e refl
 
 bytes_stay : (fine : FinePrices) (l : List ℕ) → price_word (second_word l) ≡ None → with_rounded fine l ≡ l
-bytes_stay fine l e =
-    ap (λ (w : Word). before_second l ++ w ++ behind_second l) (word_stays fine (second_word l) e) ∙ line_parts l
+bytes_stay fine l e = grind (arith, common_steps, line_parts, word_stays)
 
 pub line_stays : (fine : FinePrices) (before : ℕ) (l : RawLine) → (is_bid_line before l ≡ true → price_word (second_word l.bytes) ≡ None)
     → rounded_line fine before l ≡ l
-line_stays fine before l h = ⊎_elim
-    (λ (e : is_bid_line before l ≡ true). rw e (ap (λ (bs : List ℕ). record { bytes = bs; ended = l.ended }) (bytes_stay fine l.bytes (h e))))
-    (λ (e : is_bid_line before l ≡ false). rw e refl)
-    (cases_Bool (is_bid_line before l))
+line_stays fine before l h = grind (arith, common_steps, bytes_stay)
 
 line_unchanged : (fine : FinePrices) (number before : ℕ) (l : RawLine) → (is_bid_line before l ≡ true → price_word (second_word l.bytes) ≡ None)
     → line_changes fine number before l ≡ []
-line_unchanged fine number before l h = ⊎_elim
-    (λ (e : is_bid_line before l ≡ true). rw e (change_none fine number (second_word l.bytes) (h e)))
-    (λ (e : is_bid_line before l ≡ false). rw e refl)
-    (cases_Bool (is_bid_line before l))
+line_unchanged fine number before l h = grind (arith, common_steps, change_none)
 
 pub lines_stay : (fine : FinePrices) (before : ℕ) (ls : List RawLine) → Valid before ls → rounded_lines fine before ls ≡ ls
 lines_stay fine before [] h = refl
-lines_stay fine before (l ∷ ls) h = ap (λ (m : RawLine). m ∷ rounded_lines fine (before_next before l) ls) (line_stays fine before l h.0)
-    ∙ ap (λ (ms : List RawLine). l ∷ ms) (lines_stay fine (before_next before l) ls h.1)
+lines_stay fine before (l ∷ ls) h = grind (arith, common_steps, line_stays, (lines_stay fine (before_next before l) ls h.1))
 
 pub lines_unchanged : (fine : FinePrices) (number before : ℕ) (ls : List RawLine) → Valid before ls → lines_changes fine number before ls ≡ []
 lines_unchanged fine number before [] h = refl
-lines_unchanged fine number before (l ∷ ls) h = ap (λ (cs : List PlainChange). cs ++ lines_changes fine (suc number) (before_next before l) ls)
-    (line_unchanged fine number before l h.0)
-    ∙ lines_unchanged fine (suc number) (before_next before l) ls h.1
+lines_unchanged fine number before (l ∷ ls) h = grind (arith, common_steps, line_unchanged, (lines_unchanged fine (suc number) (before_next before l) ls h.1))
 
 -- ---- the bid lines of a file
 
@@ -243,22 +206,7 @@ words_same l ls e = rw e refl
 -- one significant line, from what holds of the lines behind it
 valid_more : (before : ℕ) (l : RawLine) (ls : List RawLine) → ((n : ℕ) → AllByRecursion HasPrice (drop (3 - n) (words_from ls)) → Valid n ls)
     → is_significant_line l ≡ true → AllByRecursion HasPrice (drop (3 - before) (line_of l.bytes ∷ words_from ls)) → Valid before (l ∷ ls)
-valid_more before l ls rest e g =
-    let next : before_next before l ≡ suc before = ap (λ v. if v then suc before else before) e in
-    ⊎_elim
-    (λ (s : before < 3). let left : 3 - before ≡ suc (3 - suc before) = omega arith in
-    let low : leb 3 before ≡ false = lt-leb 3 before s in (
-      λ (b : is_bid_line before l ≡ true). absurd (both_ways (leb 3 before) low (and_parts (leb 3 before) (is_significant_line l) b).0),
-      subst (λ n. Valid n ls) (sym next) (rest (suc before) (subst (λ n. AllByRecursion HasPrice (drop n (line_of l.bytes ∷ words_from ls))) left g)),
-    ))
-    (λ (s : 3 ≤ before). let none : 3 - before ≡ 0 = omega arith in
-    let still : 0 ≡ 3 - suc before = omega arith in
-    let all : AllByRecursion HasPrice (line_of l.bytes ∷ words_from ls) =
-    subst (λ n. AllByRecursion HasPrice (drop n (line_of l.bytes ∷ words_from ls))) none g in (
-      λ (b : is_bid_line before l ≡ true). price_of_line l.bytes all.0,
-      subst (λ n. Valid n ls) (sym next) (rest (suc before) (subst (λ n. AllByRecursion HasPrice (drop n (words_from ls))) still all.1)),
-    ))
-    (cases_lt before 3)
+valid_more before l ls rest e g = grind (arith, common_steps, and_parts, lt-leb, price_of_line)
 
 -- after so many significant lines, all further ones have prices, but for the headers that are still to come
 valid_from : (before : ℕ) (ls : List RawLine) → AllByRecursion HasPrice (drop (3 - before) (words_from ls)) → Valid before ls
@@ -299,11 +247,7 @@ spelled_prices f [] facts h = tt
 spelled_prices f (l ∷ ls) facts h = (spelled_price f l facts h.0, spelled_prices f ls facts h.1)
 
 valid_file : (text : List ℕ) (f : PlainFile) → Spells text f → Valid 0 (raw_lines text)
-valid_file text f s =
-    let words : words_from (raw_lines text) ≡ (codes "goods" ∷ s.goods ∷ []) ∷ (codes "bids" ∷ s.bids ∷ []) ∷ (codes "dummy" ∷ s.dummy ∷ []) ∷ s.bid_lines =
-    sym (significant_from text) ∙ s.lines_are in
-    valid_from 0 (raw_lines text) (subst (λ (ws : List (List Word)). AllByRecursion HasPrice (drop 3 ws)) (sym words)
-    (spelled_prices f s.bid_lines s.facts s.each))
+valid_file text f s = grind (arith, common_steps, significant_from, spelled_prices, valid_from)
 
 pub file_stays : (fine : FinePrices) (text : List ℕ) (f : PlainFile) → Spells text f → rounded_text fine text ≡ text
 file_stays fine text f s = ap lines_text (lines_stay fine 0 (raw_lines text) (valid_file text f s)) ∙ text_of_lines text
@@ -319,10 +263,7 @@ count_words text =
     ap (λ (ws : List (List Word)). length ws) (sym (significant_from text)) ∙ length-map (significant_lines text) (λ (l : Line). l.words)
 
 header_valid : (text : List ℕ) → has_bid_line text ≡ false → Valid 0 (raw_lines text)
-header_valid text none =
-    let few : length (significant_lines text) ≤ 3 = ltb-false 3 (length (significant_lines text)) none in
-    let no_more : drop 3 (words_from (raw_lines text)) ≡ [] = drop_all 3 (words_from (raw_lines text)) (omega (arith, count_words text, few)) in
-    valid_from 0 (raw_lines text) (subst (λ (ws : List (List Word)). AllByRecursion HasPrice ws) (sym no_more) tt)
+header_valid text none = grind (arith, common_steps, count_words, drop_all, ltb-false, valid_from)
 
 pub header_stays : (fine : FinePrices) (text : List ℕ) → has_bid_line text ≡ false → rounded_text fine text ≡ text
 header_stays fine text none = ap lines_text (lines_stay fine 0 (raw_lines text) (header_valid text none)) ∙ text_of_lines text
@@ -345,14 +286,7 @@ none_counted text = omega (arith, count_words text)
 pub line_counted : (text : List ℕ) (start next count more : ℕ) (significant : Bool) → start < length text
     → drop next text ≡ behind_line (drop start text) → significant ≡ is_significant_line (first_raw (drop start text))
     → more ≡ (if significant then 1 else 0) → IsCounted text start count → IsCounted text next (count + more)
-line_counted text start next count more significant l en es em before =
-    let some : 0 < length (drop start text) = omega (arith, length-drop start text) in
-    let first : length (words_from (raw_lines (drop start text))) ≡ more + length (words_from (raw_lines (behind_line (drop start text)))) =
-    ap (λ (ls : List RawLine). length (words_from ls)) (first_of_lines (drop start text) some)
-    ∙ count_first (first_raw (drop start text)) (raw_lines (behind_line (drop start text))) significant more es em in
-    let behind : length (words_from (raw_lines (drop next text))) ≡ length (words_from (raw_lines (behind_line (drop start text)))) =
-    ap (λ (t : List ℕ). length (words_from (raw_lines t))) en in
-    omega (arith, first, behind, before)
+line_counted text start next count more significant l en es em before = grind (arith, common_steps, count_first, first_of_lines, first_raw, length-drop)
 
 -- ---- prices that are written
 
@@ -360,7 +294,4 @@ pub written_spells : (p : ℕ) → p ≤ MAX_PRICE → SpellsPrice (price_text p
 written_spells p l = price_text_spells p (omega arith)
 
 pub written_faultless : (p : ℕ) → p ≤ MAX_PRICE → price_word (price_text p) ≡ None
-written_faultless p l =
-    let s : SpellsPrice (price_text p) p = written_spells p l in
-    let within : price_of (price_text p) ≤ MAX_PRICE = omega (arith, s.value) in
-    valid_word (price_text p) s.price (price_small (price_text p) s.price s.exact within) s.exact
+written_faultless p l = grind (arith, common_steps, price_small, valid_word, written_spells)

@@ -1,7 +1,7 @@
 -- Runs of bytes up to the first one of a kind: their lengths, one byte further, and what is behind them.
 use Rattle.std.specs.Prelude.{if◌then◌else◌}
-use Rattle.std.proofs.Common.{◌≡◌, ℕ, suc, ◌+◌, ◌-◌, ◌<◌, ◌≤◌, Bool, true, false, not, ◌||◌, eqb, List, [], ◌∷◌, ◌++◌, length, take, drop, get_or, refl, sym, ap, ◌∙◌}
-use Rattle.std.proofs.Common.{arith, drop-cons, add-one, length-append}
+use Rattle.std.proofs.Common.{◌≡◌, ℕ, suc, ◌+◌, ◌-◌, ◌<◌, ◌≤◌, Bool, true, false, not, ◌||◌, eqb, List, [], ◌∷◌, ◌++◌}
+use Rattle.std.proofs.Common.{length, take, drop, get_or, refl, sym, ap, ◌∙◌, arith, drop-cons, add-one}
 use Rattle.std.proofs.lemmas.List.{take_rest, drop_all}
 use Rattle.std.proofs.lemmas.List.Prefix.{front_rest}
 use Rattle.std.proofs.lemmas.Grind.{common_steps}
@@ -18,30 +18,23 @@ use Rattle.rounding.specs.Internal.RawTexts.{first_line, behind_line, has_line_e
 module _ (run : List ℕ → List ℕ) (ends : ℕ → List ℕ → Bool) (step : (b : ℕ) (bs : List ℕ) → run (b ∷ bs) ≡ (if ends b bs then [] else b ∷ run bs)) where
   pub further : (w : List ℕ) (i n : ℕ) → i < length w → ends (get_or w i 0) (drop (suc i) w) ≡ false → i + length (run (drop i w)) ≡ n
       → (i + 1) + length (run (drop (i + 1) w)) ≡ n
-  further w i n l e h =
-      let more : length (run (drop i w)) ≡ suc (length (run (drop (suc i) w))) =
-      rw (drop-cons w i 0) (ap length (step (get_or w i 0) (drop (suc i) w)) ∙ rw e refl) in
-      rw add-one (omega arith)
+  further w i n l e h = grind (arith, common_steps, add-one, drop-cons)
 
   pub found : (w : List ℕ) (i n : ℕ) → i < length w → ends (get_or w i 0) (drop (suc i) w) ≡ true → i + length (run (drop i w)) ≡ n → i ≡ n
-  found w i n l e h =
-      let none : length (run (drop i w)) ≡ 0 = rw (drop-cons w i 0) (ap length (step (get_or w i 0) (drop (suc i) w)) ∙ rw e refl) in omega arith
+  found w i n l e h = grind (arith, common_steps, drop-cons)
 
 pub blanks_step : (b : ℕ) (bs : List ℕ) → blanks (b ∷ bs) ≡ (if not (is_blank (line_byte b bs)) then [] else b ∷ blanks bs)
-blanks_step b bs = elim (is_blank (line_byte b bs)) as (λ v. (if v then b ∷ blanks bs else []) ≡ (if not v then [] else b ∷ blanks bs))
-    [ true ↦ refl | false ↦ refl ]
+blanks_step b bs = grind (arith, common_steps)
 
 -- ---- bytes that are cut in two
 
 pub blanks_both : (l : List ℕ) → blanks l ++ behind_blanks l ≡ l
 blanks_both [] = refl
-blanks_both (b ∷ bs) = elim (is_blank (line_byte b bs)) as (λ v. (if v then b ∷ blanks bs else []) ++ (if v then behind_blanks bs else b ∷ bs) ≡ b ∷ bs)
-    [ true ↦ ap (λ (ws : Word). b ∷ ws) (blanks_both bs) | false ↦ refl ]
+blanks_both (b ∷ bs) = grind (arith, common_steps, (blanks_both bs))
 
 pub word_both : (l : List ℕ) → leading_word l ++ behind_word l ≡ l
 word_both [] = refl
-word_both (b ∷ bs) = elim (is_blank (line_byte b bs)) as (λ v. (if v then [] else b ∷ leading_word bs) ++ (if v then b ∷ bs else behind_word bs) ≡ b ∷ bs)
-    [ true ↦ refl | false ↦ ap (λ (ws : Word). b ∷ ws) (word_both bs) ]
+word_both (b ∷ bs) = grind (arith, common_steps, (word_both bs))
 
 pub blanks_dropped : (l : List ℕ) → drop (length (blanks l)) l ≡ behind_blanks l
 blanks_dropped l = front_rest l (blanks l) (behind_blanks l) (sym (blanks_both l))
@@ -63,34 +56,13 @@ pub record IsCutIn (w front back : List ℕ) (some : Bool) : Type 0 where
   pub has_none : length w ≤ length front → some ≡ false
 
 nothing_cut : IsCutIn [] [] [] false
-nothing_cut = record {
-  taken = refl;
-  within = omega arith;
-  dropped = λ (h : 0 < 0). absurd (omega arith);
-  none = λ h. refl;
-  has = λ (h : 0 < 0). absurd (omega arith);
-  has_none = λ h. refl;
-}
+nothing_cut = grind (arith, common_steps)
 
 cut_here : (b : ℕ) (bs : List ℕ) → IsCutIn (b ∷ bs) [] bs true
-cut_here b bs = record {
-  taken = refl;
-  within = omega arith;
-  dropped = λ h. refl;
-  none = λ (h : suc (length bs) ≤ 0). absurd (omega arith);
-  has = λ h. refl;
-  has_none = λ (h : suc (length bs) ≤ 0). absurd (omega arith);
-}
+cut_here b bs = grind (arith, common_steps)
 
 cut_later : (b : ℕ) (bs front back : List ℕ) (some : Bool) → IsCutIn bs front back some → IsCutIn (b ∷ bs) (b ∷ front) back some
-cut_later b bs front back some c = record {
-  taken = ap (λ (ws : Word). b ∷ ws) c.taken;
-  within = omega (arith, c.within);
-  dropped = λ (h : suc (length front) < suc (length bs)). c.dropped (omega arith);
-  none = λ (h : suc (length bs) ≤ suc (length front)). c.none (omega arith);
-  has = λ (h : suc (length front) < suc (length bs)). c.has (omega arith);
-  has_none = λ (h : suc (length bs) ≤ suc (length front)). c.has_none (omega arith);
-}
+cut_later b bs front back some c = grind (arith, common_steps)
 
 cut_by : (b : ℕ) (bs front back : List ℕ) (some here : Bool) → IsCutIn bs front back some
     → IsCutIn (b ∷ bs) (if here then [] else b ∷ front) (if here then bs else back) (here || some)

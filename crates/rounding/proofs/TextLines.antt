@@ -1,25 +1,26 @@
 -- Texts line by line: the first line and what is behind it, and one more line that is rounded.
 use Rattle.std.specs.Prelude.{if◌then◌else◌}
-use Rattle.std.proofs.Common.{◌≡◌, ℕ, suc, ◌+◌, ◌-◌, ◌<◌, ◌≤◌, min, Bool, true, false, ◌&&◌, ◌||◌, eqb, leb, ltb, List, [], ◌∷◌, ◌++◌, length, take, drop, refl}
+use Rattle.std.proofs.Common.{◌≡◌, ℕ, suc, ◌+◌, ◌-◌, ◌<◌, ◌≤◌, min, Bool, true, false, ◌&&◌, leb, ltb, List, [], ◌∷◌, ◌++◌, length, take, drop, refl}
 use Rattle.std.proofs.Common.{sym, ap, ◌∙◌, ⊎_elim, arith, append_assoc}
 use Rattle.std.proofs.lemmas.Bool.{lt-ltb, le-ltb, cases_lt}
 use Rattle.std.proofs.lemmas.List.{map-append, length-drop, take_rest, drop_all}
 use Rattle.std.proofs.lemmas.List.Prefix.{front_rest}
 use mir.Val.{bool_byte}
-use Rattle.cats_text.specs.Lines.{Word, RawLine, raw_lines, lines_with, with_byte, blank_returns, line_words, is_significant}
-use Rattle.rounding.specs.Replacements.{replacement, replacement_text, rounded_word}
-use Rattle.rounding.specs.Texts.{from_second, before_second, second_word, behind_second, leading_word, behind_word, with_rounded, rounded_text, rounded_prices}
+use Rattle.cats_text.specs.Lines.{Word, RawLine, raw_lines, blank_returns, line_words, is_significant}
+use Rattle.rounding.specs.Replacements.{replacement, replacement_text}
+use Rattle.rounding.specs.Texts.{from_second, before_second, second_word, leading_word, behind_word, with_rounded, rounded_text, rounded_prices}
 use Rattle.rounding.specs.Texts.{rounded_lines}
-use Rattle.rounding.specs.Texts.{rounded_line, lines_text, line_text, lines_changes, line_changes, change_by, PlainChange, is_bid_line, before_next}
+use Rattle.rounding.specs.Texts.{rounded_line, lines_text, line_text, lines_changes, line_changes, change_by, PlainChange, before_next}
 use Rattle.rounding.specs.Texts.{is_significant_line}
 use Rattle.rounding.specs.Views.{plain_change, plain_changes}
 use Rattle.rounding.specs.declared.text.RoundedPrice.{RoundedPrice}
 use Rattle.rounding.specs.Internal.RawTexts.{first_line, behind_line, has_line_end}
 use Rattle.rounding.specs.declared.replacement.FinePrices.{FinePrices}
 use Rattle.rounding.specs.declared.replacement.Replacement.{Replacement}
-use Rattle.rounding.specs.declared.replacement.Replacement.TheVariants.{Itself, Exact, Rounded, TooLarge, TooFine}
+use Rattle.rounding.specs.declared.replacement.Replacement.TheVariants.{Rounded}
 use Rattle.rounding.proofs.Words.{second_both, second_taken, drop_more}
 use Rattle.rounding.proofs.Spans.{IsCutIn, line_cut}
+use Rattle.std.proofs.lemmas.Grind.{common_steps}
 
 -- ---- a bid line
 
@@ -29,25 +30,12 @@ second_from l k e = take_rest l k ∙ ap (λ n. drop n l) e ∙ front_rest l (be
 pub bid_line_text : (fine : FinePrices) (l word behind t0 t1 t2 t3 : List ℕ) (k : ℕ) (r : Replacement) → k ≡ length (before_second l)
     → word ≡ leading_word (take (length l - k) (drop k l)) → behind ≡ behind_word (take (length l - k) (drop k l)) → r ≡ replacement fine word
     → t1 ≡ t0 ++ take k l → t2 ≡ t1 ++ replacement_text word r → t3 ≡ t2 ++ behind → t3 ≡ t0 ++ with_rounded fine l
-bid_line_text fine l word behind t0 t1 t2 t3 k r ek ew eb er e1 e2 e3 =
-    let from : take (length l - k) (drop k l) ≡ from_second l = second_from l k ek in
-    let word_is : word ≡ second_word l = ew ∙ ap leading_word from in
-    let behind_is : behind ≡ behind_second l = eb ∙ ap behind_word from in
-    let leading_is : take k l ≡ before_second l = ap (λ n. take n l) ek ∙ second_taken l in
-    let text_is : replacement_text word r ≡ rounded_word fine (second_word l) =
-    ap (replacement_text word) er ∙ ap (λ (v : Word). replacement_text v (replacement fine v)) word_is in
-    e3 ∙ ap (λ (t : List ℕ). t ++ behind) (e2 ∙ ap (λ (t : List ℕ). t ++ replacement_text word r) (e1 ∙ ap (λ (t : List ℕ). t0 ++ t) leading_is)
-    ∙ ap (λ (t : List ℕ). (t0 ++ before_second l) ++ t) text_is)
-    ∙ ap (λ (t : List ℕ). ((t0 ++ before_second l) ++ rounded_word fine (second_word l)) ++ t) behind_is
-    ∙ ap (λ (t : List ℕ). t ++ behind_second l) (append_assoc t0 (before_second l) (rounded_word fine (second_word l)))
-    ∙ append_assoc t0 (before_second l ++ rounded_word fine (second_word l)) (behind_second l)
+bid_line_text fine l word behind t0 t1 t2 t3 k r ek ew eb er e1 e2 e3 = grind (arith, common_steps, append_assoc, second_from, second_taken)
 
 pub bid_line_change : (fine : FinePrices) (l word : List ℕ) (k number : ℕ) (r : Replacement) → k ≡ length (before_second l)
     → word ≡ leading_word (take (length l - k) (drop k l)) → r ≡ replacement fine word
     → change_by number word r ≡ change_by number (second_word l) (replacement fine (second_word l))
-bid_line_change fine l word k number r ek ew er =
-    let word_is : word ≡ second_word l = ew ∙ ap leading_word (second_from l k ek) in
-    ap (change_by number word) er ∙ ap (λ (v : Word). change_by number v (replacement fine v)) word_is
+bid_line_change fine l word k number r ek ew er = grind (arith, common_steps, second_from)
 
 pub no_change : (number : ℕ) (word : Word) (r : Replacement) → ((price : ℕ) → r ≡ Rounded price → ⊥) → change_by number word r ≡ []
 no_change number word (Rounded p) h = absurd (h p refl)
@@ -55,13 +43,7 @@ no_change number word _ h = refl
 
 pub change_pushed : (number price : ℕ) (word : Word) (r : Replacement) (p : RoundedPrice) (ps qs : List RoundedPrice) → qs ≡ ps ++ p ∷ []
     → p.line ≡ number → p.word.items ≡ word → p.price ≡ price → r ≡ Rounded price → plain_changes qs ≡ plain_changes ps ++ change_by number word r
-change_pushed number price word r p ps qs eq el ew ep er =
-    let same : plain_change p ≡ record { line = number; word = word; price = price } =
-    ap (λ n. record { line = n; word = p.word.items; price = p.price }) el ∙ ap (λ (w : Word). record { line = number; word = w; price = p.price }) ew
-    ∙ ap (λ n. record { line = number; word = word; price = n }) ep in
-    ap plain_changes eq ∙ map-append plain_change ps (p ∷ [])
-    ∙ ap (λ (c : PlainChange). plain_changes ps ++ c ∷ []) same
-    ∙ ap (λ (q : Replacement). plain_changes ps ++ change_by number word q) (sym er)
+change_pushed number price word r p ps qs eq el ew ep er = grind (arith, common_steps, map-append)
 
 -- ---- the first line of a text
 
@@ -70,15 +52,8 @@ first_raw t = record { bytes = first_line t; ended = has_line_end t }
 
 pub first_of_lines : (t : List ℕ) → 0 < length t → raw_lines t ≡ first_raw t ∷ raw_lines (behind_line t)
 first_of_lines [] = λ (h : 0 < 0). absurd (omega arith)
-first_of_lines (b ∷ []) = λ h. elim (eqb b 10) as (λ v. (if v then record { bytes = []; ended = true } ∷ [] else record { bytes = b ∷ []; ended = false } ∷ [])
-    ≡ record { bytes = if v then [] else b ∷ []; ended = v || false } ∷ raw_lines (if v then [] else [])) [ true ↦ refl | false ↦ refl ]
-first_of_lines (b ∷ c ∷ cs) = λ h.
-    let rec : raw_lines (c ∷ cs) ≡ first_raw (c ∷ cs) ∷ raw_lines (behind_line (c ∷ cs)) = first_of_lines (c ∷ cs) (omega arith) in
-    ap (lines_with b) rec ∙ elim (eqb b 10) as (λ v. (if v then record { bytes = []; ended = true } ∷ (first_raw (c ∷ cs) ∷ raw_lines (behind_line (c ∷ cs)))
-    else with_byte b (first_raw (c ∷ cs) ∷ raw_lines (behind_line (c ∷ cs))))
-    ≡ record { bytes = if v then [] else b ∷ first_line (c ∷ cs); ended = v || has_line_end (c ∷ cs) } ∷ raw_lines
-    (if v then (c ∷ cs) else behind_line (c ∷ cs)))
-    [ true ↦ ap (λ (ls : List RawLine). record { bytes = []; ended = true } ∷ ls) (sym rec) | false ↦ refl ]
+first_of_lines (b ∷ []) = grind (arith, common_steps)
+first_of_lines (b ∷ c ∷ cs) = grind (arith, common_steps, (first_of_lines (c ∷ cs)))
 
 -- ---- one more line
 
@@ -92,7 +67,8 @@ pub cut_line : (text line : List ℕ) (start count next : ℕ) → start < lengt
     → line ≡ take (start + count - start) (drop start text) → next ≡ min (length text) (start + count + 1)
     → IsCut text line start (start + count) next (ltb (start + count) (length text))
 cut_line text line start count next l ec el en =
-    let cut : IsCutIn (drop start text) (first_line (drop start text)) (behind_line (drop start text)) (has_line_end (drop start text)) = line_cut (drop start text) in
+    let cut : IsCutIn (drop start text) (first_line (drop start text)) (behind_line (drop start text)) (has_line_end (drop start text)) =
+    line_cut (drop start text) in
     let count_is : count ≡ length (first_line (drop start text)) = ec ∙ ap (λ (t : List ℕ). length (first_line t)) (take_rest text start) in
     let size : length (drop start text) ≡ length text - start = length-drop start text in
     let inside : length (first_line (drop start text)) ≤ length (drop start text) = cut.within in
@@ -123,20 +99,7 @@ pub first_written : (fine : FinePrices) (t line t0 t1 t2 : List ℕ) (p0 p1 : Li
     → t1 ≡ t0 ++ (if is_bid then with_rounded fine line else line) → t2 ≡ t1 ++ (if ended then 10 ∷ [] else [])
     → p1 ≡ p0 ++ (if is_bid then change_by number (second_word line) (replacement fine (second_word line)) else [])
     → IsFirstLine fine t before number t0 t2 p0 p1
-first_written fine t line t0 t1 t2 p0 p1 before number significant is_bid ended el ee es ei e1 e2 ep =
-    let bid : is_bid ≡ is_bid_line before (first_raw t) = ei
-    ∙ ap (λ v. leb 3 before && v) (es ∙ ap (λ (l : List ℕ). is_significant (line_words (blank_returns l))) el) in
-    record {
-      text_is = e2 ∙ ap (λ (u : List ℕ). u ++ (if ended then 10 ∷ [] else [])) e1
-          ∙ append_assoc t0 (if is_bid then with_rounded fine line else line) (if ended then 10 ∷ [] else [])
-          ∙ ap (λ v. t0 ++ ((if is_bid then with_rounded fine line else line) ++ (if v then 10 ∷ [] else []))) ee
-          ∙ ap (λ v. t0 ++ ((if v then with_rounded fine line else line) ++ (if has_line_end t then 10 ∷ [] else []))) bid
-          ∙ ap (λ (l : List ℕ). t0 ++ ((if is_bid_line before (first_raw t) then with_rounded fine l else l) ++ (if has_line_end t then 10 ∷ [] else []))) el;
-      prices_are = ep
-          ∙ ap (λ v. p0 ++ (if v then change_by number (second_word line) (replacement fine (second_word line)) else [])) bid
-          ∙ ap (λ (l : List ℕ). p0 ++ (if is_bid_line before (first_raw t) then change_by number (second_word l) (replacement fine (second_word l))
-          else [])) el;
-    }
+first_written fine t line t0 t1 t2 p0 p1 before number significant is_bid ended el ee es ei e1 e2 ep = grind (arith, common_steps, append_assoc)
 
 -- so much is written, and the rest of the text is still to come
 pub record IsWritten (fine : FinePrices) (text : List ℕ) (start number before : ℕ) (written : List ℕ) (prices : List PlainChange) : Type 0 where
@@ -145,11 +108,7 @@ pub record IsWritten (fine : FinePrices) (text : List ℕ) (start number before 
 
 next_before : (before : ℕ) (l : RawLine) (significant : Bool) (more : ℕ) → significant ≡ is_significant_line l → more ≡ (if significant then 1 else 0)
     → before + more ≡ before_next before l
-next_before before l significant more es em =
-    let added : before + more ≡ (if significant then suc before else before) =
-    elim significant as (λ v. more ≡ (if v then 1 else 0) → before + more ≡ (if v then suc before else before))
-    [ true ↦ λ (h : more ≡ 1). omega arith | false ↦ λ (h : more ≡ 0). omega arith ] em in
-    added ∙ ap (λ v. if v then suc before else before) es
+next_before before l significant more es em = grind (arith, common_steps)
 
 pub line_more : (fine : FinePrices) (text t0 t2 : List ℕ) (p0 p1 : List PlainChange) (start next number before more : ℕ) (significant : Bool)
     → start < length text → drop next text ≡ behind_line (drop start text) → IsFirstLine fine (drop start text) before number t0 t2 p0 p1

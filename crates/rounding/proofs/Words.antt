@@ -1,17 +1,18 @@
 -- Words and lines: digits in two runs, blanks, the first word and the second.
 use Rattle.std.specs.Prelude.{if◌then◌else◌}
 use Rattle.std.proofs.Common.{◌≡◌, ℕ, zero, suc, ◌+◌, ◌-◌, ◌<◌, ◌≤◌, Bool, true, false, not, ◌&&◌, ◌||◌, eqb, List, [], ◌∷◌, ◌++◌, length, take, drop, get_or}
-use Rattle.std.proofs.Common.{refl, sym, ap, ◌∙◌, ⊎_elim}
+use Rattle.std.proofs.Common.{refl, sym, ap, ◌∙◌}
 use Rattle.std.proofs.Common.{arith, drop-cons, length-append, append_assoc}
-use Rattle.std.proofs.lemmas.Bool.{both_ways, cases_Bool, and_from, eq-eqb}
-use Rattle.std.proofs.lemmas.List.{take-append-drop, drop_all, take_rest}
+use Rattle.std.proofs.lemmas.Bool.{both_ways, and_from, eq-eqb}
+use Rattle.std.proofs.lemmas.List.{drop_all, take_rest}
 use Rattle.std.proofs.lemmas.List.Folds.{list_all-append}
 use Rattle.std.proofs.Math.Seq.{take-append_seam, drop-nil}
-use Rattle.cats_text.specs.Lines.{Word, is_blank, line_byte, line_ends, blank_returns, line_words, with_letter, begins_word, is_significant}
+use Rattle.cats_text.specs.Lines.{Word, is_blank, line_byte, line_ends, blank_returns, line_words, with_letter, is_significant}
 use Rattle.cats_text.specs.Numbers.{is_number, digits_alone, is_digit, whole_part, places, has_point, is_price}
 use Rattle.rounding.specs.Decimals.{significand, exponent, has_exponent, without_sign, is_decimal, digits}
-use Rattle.rounding.specs.Texts.{blanks, behind_blanks, leading_word, behind_word, from_second, before_second}
+use Rattle.rounding.specs.Texts.{blanks, behind_blanks, leading_word, from_second, before_second}
 use Rattle.rounding.proofs.Spans.{blanks_both, word_both, blanks_dropped, word_dropped, mark_cut, point_cut}
+use Rattle.std.proofs.lemmas.Grind.{common_steps}
 
 -- ---- digits in two runs
 
@@ -26,9 +27,7 @@ digits_both (x ∷ xs) b h = number_leading x xs b
 
 pub digits_known : (w s a b : Word) (r : Bool) → s ≡ significand w → a ≡ whole_part s → b ≡ places s → r ≡ is_number (a ++ b) → r ≡ true
     → is_number (digits w) ≡ true
-digits_known w s a b r es ea eb er e =
-    sym (ap is_number (ap (λ (t : Word). t ++ b) (ea ∙ ap whole_part es) ∙ ap (λ (t : Word). whole_part (significand w) ++ t) (eb ∙ ap places es)))
-    ∙ sym er ∙ e
+digits_known w s a b r es ea eb er e = grind (arith, common_steps)
 
 pub decimal_without : (w : Word) (k : ℕ) → is_number (digits w) ≡ true → k ≡ length (significand w) → k ≡ length w → eqb k (length w) ≡ is_decimal w
 decimal_without w k d e h =
@@ -58,12 +57,7 @@ price_with w k r s e er t ne es =
 -- ---- a line is its parts
 
 pub second_both : (l : List ℕ) → before_second l ++ from_second l ≡ l
-second_both l =
-    append_assoc (blanks l ++ leading_word (behind_blanks l)) (blanks (behind_word (behind_blanks l))) (from_second l)
-    ∙ ap (λ (t : List ℕ). (blanks l ++ leading_word (behind_blanks l)) ++ t) (blanks_both (behind_word (behind_blanks l)))
-    ∙ append_assoc (blanks l) (leading_word (behind_blanks l)) (behind_word (behind_blanks l))
-    ∙ ap (λ (t : List ℕ). blanks l ++ t) (word_both (behind_blanks l))
-    ∙ blanks_both l
+second_both l = grind (arith, common_steps, append_assoc, blanks_both, word_both)
 
 pub second_taken : (l : List ℕ) → take (length (before_second l)) l ≡ before_second l
 second_taken l = sym (ap (take (length (before_second l))) (second_both l)) ∙ take-append_seam (before_second l) (from_second l)
@@ -74,8 +68,7 @@ pub return_blank : (bs : List ℕ) → is_blank (line_byte 13 bs) ≡ line_ends 
 return_blank bs = elim (line_ends bs) as (λ v. is_blank (if v then 32 else 13) ≡ v) [ true ↦ refl | false ↦ refl ]
 
 pub byte_stays : (b : ℕ) (bs : List ℕ) → is_blank (line_byte b bs) ≡ false → line_byte b bs ≡ b
-byte_stays b bs = elim ((eqb b 13) && line_ends bs) as (λ v. is_blank (if v then 32 else b) ≡ false → (if v then 32 else b) ≡ b)
-    [ true ↦ λ (h : true ≡ false). absurd (both_ways true h refl) | false ↦ λ h. refl ]
+byte_stays b bs = grind (arith, common_steps)
 
 pub blank_if_return : (l : List ℕ) (i : ℕ) (r : Bool) → get_or l i 0 ≡ 13 → r ≡ line_ends (take (length l - (i + 1)) (drop (i + 1) l))
     → r ≡ is_blank (line_byte (get_or l i 0) (drop (suc i) l))
@@ -93,17 +86,7 @@ drop_more (x ∷ xs) (suc a) b = let same : suc a + b ≡ suc (a + b) = omega ar
 
 pub second_count : (l : List ℕ) (a b c : ℕ) → a ≡ length (blanks l) → b ≡ length (leading_word (take (length l - a) (drop a l)))
     → c ≡ length (blanks (take (length l - (a + b)) (drop (a + b) l))) → a + b + c ≡ length (before_second l)
-second_count l a b c ea eb ec =
-    let first : drop a l ≡ behind_blanks l = ap (λ n. drop n l) ea ∙ blanks_dropped l in
-    let word : b ≡ length (leading_word (behind_blanks l)) = eb ∙ ap (λ (t : List ℕ). length (leading_word t)) (take_rest l a ∙ first) in
-    let rest : drop (a + b) l ≡ behind_word (behind_blanks l) =
-    drop_more l a b ∙ ap (drop b) first ∙ ap (λ n. drop n (behind_blanks l)) word ∙ word_dropped (behind_blanks l) in
-    let last : c ≡ length (blanks (behind_word (behind_blanks l))) = ec ∙ ap (λ (t : List ℕ). length (blanks t)) (take_rest l (a + b) ∙ rest) in
-    omega (
-      arith,
-      length-append (blanks l ++ leading_word (behind_blanks l)) (blanks (behind_word (behind_blanks l))),
-      length-append (blanks l) (leading_word (behind_blanks l)),
-    )
+second_count l a b c ea eb ec = grind (arith, common_steps, blanks_dropped, drop_more, length-append, take_rest, word_dropped)
 
 -- ---- significant lines
 
@@ -116,22 +99,14 @@ significant_letter x [] = refl
 significant_letter x (w ∷ ws) = refl
 
 pub significant_byte : (x : ℕ) (xs : List ℕ) → is_blank x ≡ false → is_significant (line_words (x ∷ xs)) ≡ not (eqb x 37)
-significant_byte x xs e = rw e (elim (begins_word xs) as
-    (λ v. is_significant (if v then with_letter x (line_words xs) else ((x ∷ []) ∷ line_words xs)) ≡ not (eqb x 37))
-    [ true ↦ significant_letter x (line_words xs) | false ↦ refl ])
+significant_byte x xs e = grind (arith, common_steps, significant_letter)
 
 pub significant_line : (l : List ℕ) → is_significant (line_words (blank_returns l)) ≡ begins (behind_blanks l)
 significant_line [] = refl
-significant_line (b ∷ bs) = ⊎_elim
-    (λ (e : is_blank (line_byte b bs) ≡ true). rw e (significant_line bs))
-    (λ (e : is_blank (line_byte b bs) ≡ false). significant_byte (line_byte b bs) (blank_returns bs) e ∙ ap (λ n. not (eqb n 37)) (byte_stays b bs e)
-    ∙ rw e refl)
-    (cases_Bool (is_blank (line_byte b bs)))
+significant_line (b ∷ bs) = grind (arith, common_steps, byte_stays, significant_byte, (significant_line bs))
 
 pub significant_at : (l : List ℕ) (k : ℕ) → k ≡ length (blanks l) → k < length l → not (eqb (get_or l k 0) 37) ≡ is_significant (line_words (blank_returns l))
-significant_at l k e h =
-    let is : behind_blanks l ≡ get_or l k 0 ∷ drop (suc k) l = sym (blanks_dropped l) ∙ ap (λ n. drop n l) (sym e) ∙ drop-cons l k 0 h in
-    sym (significant_line l ∙ ap begins is)
+significant_at l k e h = grind (arith, common_steps, blanks_dropped, drop-cons, significant_line)
 
 pub significant_none : (l : List ℕ) (k : ℕ) → k ≡ length (blanks l) → length l ≤ k → is_significant (line_words (blank_returns l)) ≡ false
 significant_none l k e h = significant_line l ∙ ap begins (sym (blanks_dropped l) ∙ ap (λ n. drop n l) (sym e) ∙ drop_all k l h)

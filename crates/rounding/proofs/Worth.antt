@@ -1,9 +1,9 @@
 -- What digits are worth: numbers that are held, cut and raised.
 use Rattle.std.specs.Prelude.{if◌then◌else◌}
-use Rattle.std.proofs.Common.{◌≡◌, ℕ, suc, ◌+◌, ◌-◌, ◌*◌, ◌/◌, ◌%◌, ◌^◌, ◌<◌, ◌≤◌, min, true, false, not, ◌||◌, eqb, leb, [], ◌∷◌, ◌++◌, length, take, drop}
-use Rattle.std.proofs.Common.{refl, sym, ap, ◌∙◌, subst, ◌⊎◌, inl, inr, ⊎_elim}
+use Rattle.std.proofs.Common.{◌≡◌, ℕ, suc, ◌+◌, ◌-◌, ◌*◌, ◌/◌, ◌%◌, ◌^◌, ◌<◌, ◌≤◌, min, true, false, eqb, leb, [], ◌∷◌, ◌++◌, length, take, drop, ⊎_elim}
+use Rattle.std.proofs.Common.{refl, sym, ap, ◌∙◌, subst, ◌⊎◌, inl, inr}
 use Rattle.std.proofs.Common.{arith, length-append, append_assoc, fold}
-use Rattle.std.proofs.lemmas.Bool.{cases_lt, and_parts, cases_Bool, eqb-true, eqb-false, leb-true, leb-false}
+use Rattle.std.proofs.lemmas.Bool.{and_parts, eqb-true, eqb-false, leb-true, leb-false, cases_lt}
 use Rattle.std.proofs.lemmas.List.{take-append-drop, take_rest, length-drop, append-nil}
 use Rattle.std.proofs.lemmas.List.Sums.{fold-append}
 use Rattle.std.proofs.lemmas.List.Folds.{list_all-append}
@@ -11,8 +11,8 @@ use Rattle.std.proofs.lemmas.Nat.{mul-le, div-mul-add, mod-mul-add}
 use Rattle.std.proofs.Math.Seq.{take-length, drop-length}
 use Rattle.std.proofs.Math.Nat.{mul-le-mul_left, pow-succ', one-le-pow, pow-suc}
 use Rattle.cats_text.specs.Lines.{Word}
-use Rattle.cats_text.specs.Numbers.{is_digit, digits_alone, number_of, is_number, whole_part, places}
-use Rattle.rounding.specs.Decimals.{significand, exponent, has_exponent, without_sign, has_minus, digits, is_decimal, mantissa, top, bottom}
+use Rattle.cats_text.specs.Numbers.{is_digit, digits_alone, number_of, whole_part, places}
+use Rattle.rounding.specs.Decimals.{significand, exponent, without_sign, has_minus, digits, is_decimal, mantissa, top, bottom}
 use Rattle.rounding.proofs.Spans.{mark_cut}
 use Rattle.bid_file.specs.declared.limits.TheConstants.{MAX_PRICE}
 use Rattle.rounding.specs.Internal.Rests.{rest_with}
@@ -20,6 +20,7 @@ use Rattle.rounding.specs.Internal.Values.{IsRest, Holds, shift_up, shift_down}
 use Rattle.rounding.specs.declared.value.Value.{Value}
 use Rattle.rounding.specs.declared.digits.Rest.{Rest}
 use Rattle.rounding.specs.declared.digits.Rest.TheVariants.{Nothing, Zeros, BelowHalf, Half, AboveHalf}
+use Rattle.std.proofs.lemmas.Grind.{common_steps}
 
 -- ---- what digits are worth
 
@@ -67,8 +68,7 @@ hold_same bound u v [] h = h
 hold_same bound u v (b ∷ bs) h = hold_same bound (10 * u + (b - 48)) (10 * v + (b - 48)) bs (omega arith)
 
 pub held_two : (bound m k : ℕ) (xs ys : Word) → m ≡ min bound (value 0 xs) → k ≡ min bound (value m ys) → k ≡ min bound (value 0 (xs ++ ys))
-held_two bound m k xs ys em ek =
-    ek ∙ hold_same bound m (value 0 xs) ys (omega arith) ∙ ap (min bound) (sym (fold-append (λ n b. 10 * n + (b - 48)) 0 xs ys))
+held_two bound m k xs ys em ek = grind (arith, common_steps, fold-append, hold_same)
 
 -- ---- what is behind a cut
 
@@ -76,49 +76,10 @@ even_ten : (p : ℕ) → (10 * p) % 2 ≡ 0
 even_ten p = omega arith
 
 rest_step : (s : Rest) (x p b : ℕ) → is_digit b ≡ true → x < p → IsRest s x p → IsRest (rest_with s b) (10 * x + (b - 48)) (10 * p)
-rest_step Nothing x p b h l r =
-    let range : (48 ≤ b) × (b ≤ 57) = digit_range b h in
-    let low : 48 ≤ b = range.0 in
-    let high : b ≤ 57 = range.1 in
-    let none : x ≡ 0 = r.0 in
-    let one : p ≡ 1 = r.1 in
-    ⊎_elim
-    (λ (e : eqb b 48 ≡ true). let is : b ≡ 48 = eqb-true b 48 e in rw e (omega arith, even_ten p))
-    (λ (e : eqb b 48 ≡ false). let ne : b ≡ 48 → ⊥ = eqb-false b 48 e in rw e (⊎_elim
-    (λ (f : eqb b 53 ≡ true). let is : b ≡ 53 = eqb-true b 53 f in rw f (omega arith, omega arith))
-    (λ (f : eqb b 53 ≡ false). let nf : b ≡ 53 → ⊥ = eqb-false b 53 f in rw f (⊎_elim
-    (λ (g : leb b 52 ≡ true). let is : b ≤ 52 = leb-true b 52 g in rw g (omega arith, omega arith, even_ten p))
-    (λ (g : leb b 52 ≡ false). let is : 52 < b = leb-false b 52 g in rw g (omega arith))
-    (cases_Bool (leb b 52))))
-    (cases_Bool (eqb b 53))))
-    (cases_Bool (eqb b 48))
-rest_step Zeros x p b h l r =
-    let range : (48 ≤ b) × (b ≤ 57) = digit_range b h in
-    let low : 48 ≤ b = range.0 in
-    let high : b ≤ 57 = range.1 in
-    let none : x ≡ 0 = r.0 in
-    let even : p % 2 ≡ 0 = r.1 in
-    ⊎_elim
-    (λ (e : eqb b 48 ≡ true). let is : b ≡ 48 = eqb-true b 48 e in rw e (omega arith, even_ten p))
-    (λ (e : eqb b 48 ≡ false). let ne : b ≡ 48 → ⊥ = eqb-false b 48 e in rw e (omega arith, omega arith, even_ten p))
-    (cases_Bool (eqb b 48))
-rest_step BelowHalf x p b h l r =
-    let range : (48 ≤ b) × (b ≤ 57) = digit_range b h in
-    let low : 48 ≤ b = range.0 in
-    let high : b ≤ 57 = range.1 in
-    let some : 0 < x = r.0 in
-    let small : 2 * x < p = r.1 in
-    let even : p % 2 ≡ 0 = r.2 in
-    (omega arith, omega arith, even_ten p)
-rest_step Half x p b h l r =
-    let range : (48 ≤ b) × (b ≤ 57) = digit_range b h in
-    let low : 48 ≤ b = range.0 in
-    let some : 0 < x = r.0 in
-    let half : 2 * x ≡ p = r.1 in
-    ⊎_elim
-    (λ (e : eqb b 48 ≡ true). let is : b ≡ 48 = eqb-true b 48 e in rw e (omega arith, omega arith))
-    (λ (e : eqb b 48 ≡ false). let ne : b ≡ 48 → ⊥ = eqb-false b 48 e in rw e (omega arith))
-    (cases_Bool (eqb b 48))
+rest_step Nothing x p b h l r = grind (arith, common_steps, digit_range, eqb-false, eqb-true, even_ten, leb-false, leb-true)
+rest_step Zeros x p b h l r = grind (arith, common_steps, digit_range, eqb-false, eqb-true, even_ten)
+rest_step BelowHalf x p b h l r = grind (arith, common_steps, digit_range, even_ten)
+rest_step Half x p b h l r = grind (arith, common_steps, digit_range, eqb-false, eqb-true)
 rest_step AboveHalf x p b h l r = omega arith
 
 pub rest_all : (s : Rest) (x p : ℕ) (w : Word) → digits_alone w ≡ true → x < p → IsRest s x p
@@ -139,9 +100,7 @@ rest_all s x p (b ∷ bs) h l r =
 -- ---- a number that is cut
 
 digits_behind : (xs ys : Word) → digits_alone (xs ++ ys) ≡ true → digits_alone ys ≡ true
-digits_behind xs ys h =
-    let p : (digits_alone xs ≡ true) × (digits_alone ys ≡ true) = and_parts (digits_alone xs) (digits_alone ys) (sym (list_all-append is_digit xs ys) ∙ h) in
-    p.1
+digits_behind xs ys h = grind (arith, common_steps, and_parts, list_all-append)
 
 pub cut_leading : (xs ys : Word) (m : ℕ) (r : Rest) → digits_alone (xs ++ ys) ≡ true → m ≡ min (suc MAX_PRICE) (value 0 xs)
     → r ≡ fold rest_with Nothing ys → Holds (record { whole = m; rest = r }) (number_of (xs ++ ys)) (10 ^ length ys)
@@ -225,16 +184,7 @@ cut_none a b power behind rest h lt le eb er =
 -- ---- a number that is raised
 
 held_times : (bound m q : ℕ) → 1 ≤ q → min bound (min bound m * q) ≡ min bound (m * q)
-held_times bound m q h = ⊎_elim
-    (λ (l : m < bound). let is : min bound m ≡ m = omega arith in ap (λ k. min bound (k * q)) is)
-    (λ (l : bound ≤ m). let is : min bound m ≡ bound = omega arith in
-    let some : bound * 1 ≤ bound * q = mul-le bound 1 bound q (omega arith) h in
-    let more : bound * 1 ≤ m * q = mul-le bound 1 m q l h in
-    ap (λ k. min bound (k * q)) is ∙ least bound (bound * q) (omega arith) ∙ sym (least bound (m * q) (omega arith)))
-    (cases_lt m bound)
-  where
-    least : (b k : ℕ) → b ≤ k → min b k ≡ b
-    least b k l = omega arith
+held_times bound m q h = grind (arith, common_steps, mul-le)
 
 pub raised_once : (m k held : ℕ) → held ≡ min (suc MAX_PRICE) (m * 10 ^ k) → min (suc MAX_PRICE) (held * 10) ≡ min (suc MAX_PRICE) (m * 10 ^ (k + 1))
 raised_once m k held e =
@@ -273,8 +223,7 @@ held_of v n m d e p q h = subst (λ k. Holds v m k) q (subst (λ k. Holds v k d)
 
 pub sizes : (w : Word) → length (whole_part w) + length (places w) ≤ length w
 sizes [] = omega arith
-sizes (b ∷ bs) = elim (eqb b 46) as (λ v. length (if v then [] else (b ∷ whole_part bs)) + length (if v then bs else places bs) ≤ suc (length bs))
-    [ true ↦ omega arith | false ↦ omega (arith, sizes bs) ]
+sizes (b ∷ bs) = grind (arith, common_steps, (sizes bs))
 
 pub sizes_in : (w s a b : Word) → s ≡ significand w → a ≡ whole_part s → b ≡ places s → length a + length b ≤ length w
 sizes_in w s a b es ea eb = omega (arith, ap length ea, ap length eb, sizes s, ap length es, (mark_cut w).within)
@@ -283,14 +232,7 @@ digits_are : (w s a b : Word) → s ≡ significand w → a ≡ whole_part s →
 digits_are w s a b es ea eb = ap (λ (t : Word). t ++ b) (ea ∙ ap whole_part es) ∙ ap (λ (t : Word). whole_part (significand w) ++ t) (eb ∙ ap places es)
 
 pub decimal_digits : (w s a b : Word) → is_decimal w ≡ true → s ≡ significand w → a ≡ whole_part s → b ≡ places s → digits_alone (a ++ b) ≡ true
-decimal_digits w s a b h es ea eb =
-    let p : (is_number (digits w) ≡ true) × ((not (has_exponent w) || is_number (without_sign (exponent w))) ≡ true) =
-    and_parts (is_number (digits w)) (not (has_exponent w) || is_number (without_sign (exponent w))) h in
-    ap digits_alone (digits_are w s a b es ea eb) ∙ number_digits (digits w) p.0
-  where
-    number_digits : (w : Word) → is_number w ≡ true → digits_alone w ≡ true
-    number_digits [] h = refl
-    number_digits (b ∷ bs) h = h
+decimal_digits w s a b h es ea eb = grind (arith, common_steps, and_parts, digits_are)
 
 -- the parts of a word and its powers of ten, as the code has them
 pub record IsSplit (w s a b x : Word) (up down : ℕ) : Type 0 where
@@ -335,8 +277,4 @@ cut_in w s a b x up down v h some held =
 pub raised_in : (w s a b x : Word) (up down leading number whole : ℕ) → IsSplit w s a b x up down → down ≤ 0
     → leading ≡ min (suc MAX_PRICE) (value 0 a) → number ≡ min (suc MAX_PRICE) (value leading b) → whole ≡ min (suc MAX_PRICE) (number * 10 ^ up)
     → Holds (record { whole = whole; rest = Nothing }) (top w) (bottom w)
-raised_in w s a b x up down leading number whole h none ef en ew =
-    let zero_down : down ≡ 0 = omega arith in
-    let one : 1 ≡ bottom w = sym (ap (λ k. 10 ^ k) zero_down) ∙ bottom_is w s a b x up down h in
-    held_of (record { whole = whole; rest = Nothing }) (number_of (a ++ b) * 10 ^ up) (top w) 1 (bottom w) (top_is w s a b x up down h) one
-    (raised_value a b up leading number whole ef en ew)
+raised_in w s a b x up down leading number whole h none ef en ew = grind (arith, common_steps, bottom_is, held_of, raised_value, top_is)

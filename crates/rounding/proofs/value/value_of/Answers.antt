@@ -1,16 +1,14 @@
 -- `value_of`
 use Rattle.rounding.proofs.Worth.{sizes_in, decimal_digits, cut_in, raised_in}
 use Rattle.rounding.proofs.value.value_of.Goals as goal
+use Rattle.std.proofs.Common.{arith}
+use Rattle.std.proofs.lemmas.Grind.{common_steps}
 
 pub shift_of-shift-requires-clause-size : goal.shift_of-shift-requires-clause-size
-shift_of-shift-requires-clause-size c =
-    sizes_in c.args.word.now c.significand-significand.result.now c.whole_part-whole.result.now c.places-places.result.now c.significand-significand.ensures
-    c.whole_part-whole.ensures c.places-places.ensures
+shift_of-shift-requires-clause-size c = grind (arith, common_steps, sizes_in)
 
 pub cut_value-requires-clause-digits : goal.cut_value-requires-clause-digits
-cut_value-requires-clause-digits c =
-    decimal_digits c.args.word.now c.significand-significand.result.now c.whole_part-whole.result.now c.places-places.result.now c.requires
-    c.significand-significand.ensures c.whole_part-whole.ensures c.places-places.ensures
+cut_value-requires-clause-digits c = grind (arith, common_steps, decimal_digits)
 
 pub returns-then-shift-gt0-clause-value : goal.returns-then-shift-gt0-clause-value
 returns-then-shift-gt0-clause-value c =
@@ -27,15 +25,4 @@ returns-then-shift-gt0-clause-value c =
     c.if-shift-gt0.true c.cut_value.ensures
 
 pub returns-clause-value : goal.returns-clause-value
-returns-clause-value c =
-    raised_in c.args.word.now c.significand-significand.result.now c.whole_part-whole.result.now c.places-places.result.now c.exponent.result.now
-    c.shift_of-shift.result.up c.shift_of-shift.result.down c.held_number.result c.held_number-number.result c.raised_number.result
-    (record {
-      significand_is = c.significand-significand.ensures;
-      whole_is = c.whole_part-whole.ensures;
-      places_are = c.places-places.ensures;
-      exponent_is = c.exponent.ensures;
-      up_is = c.shift_of-shift.ensures.up;
-      down_is = c.shift_of-shift.ensures.down;
-    })
-    c.if-shift-gt0.false c.held_number.ensures c.held_number-number.ensures c.raised_number.ensures
+returns-clause-value c = grind (arith, common_steps, raised_in)

@@ -3,10 +3,11 @@ use Rattle.std.proofs.Common.{sym, ◌∙◌, ℕ}
 use Rattle.rounding.specs.Internal.Values.{Holds}
 use Rattle.rounding.proofs.Deciding.{round_large, round_whole, round_fine}
 use Rattle.rounding.proofs.value.Value.rounded.Goals as goal
+use Rattle.std.proofs.Common.{arith}
+use Rattle.std.proofs.lemmas.Grind.{common_steps}
 
 pub returns-then-nearest-gt-MAX_PRICE : goal.returns-then-nearest-gt-MAX_PRICE
-returns-then-nearest-gt-MAX_PRICE c = λ (n d : ℕ) (h : Holds c.args.self n d).
-    round_large n d c.nearest-nearest.result (c.nearest-nearest.ensures.near n d h) c.if-nearest-gt-MAX_PRICE.true
+returns-then-nearest-gt-MAX_PRICE c = grind (arith, common_steps, round_large)
 
 pub returns-then-is_whole : goal.returns-then-is_whole
 returns-then-is_whole c = λ (n d : ℕ) (h : Holds c.args.self n d).
