@@ -1,7 +1,7 @@
 -- Bidders are counted alike by their tables and by their points. A bidder of value zero has neither, and of the others each has
 -- the points that its table says.
 use Rattle.std.proofs.Common.{◌≡◌, ℕ, ◌+◌, ◌<◌, ◌≤◌, Bool, true, false, cond, ⊎_elim, List, [], ◌∷◌, map, refl, sym, ap, ◌∙◌, subst, arith, le_antisymm}
-use Rattle.std.proofs.Common.{Ordering, Less, Equal, Greater, nat_cmp}
+use Rattle.std.proofs.Common.{nat_cmp}
 use Rattle.std.specs.Prelude.{All}
 use Rattle.std.specs.List.{filter, count_by}
 use Rattle.std.specs.Ordering.{is_eq}
@@ -25,17 +25,13 @@ use Rattle.prune.specs.Lemmas.KeptBids.{on_bundles}
 use Rattle.canon.specs.Sameness.{has_table}
 use Rattle.canon.specs.Canonical.{points_of_bidders}
 use Rattle.canon.proofs.CanonicalAuctions.Atoms.{xor_points_table}
+use Rattle.canon.specs.Lemmas.Finding.{equal_from}
 
 -- ---- tests by an order
 
-equal_from_test : (o : Ordering) → is_eq o ≡ true → o ≡ Equal
-equal_from_test Less e = absurd (cc)
-equal_from_test Equal e = refl
-equal_from_test Greater e = absurd (cc)
-
 pub same_table : (goods : ℕ) (table : List ℕ) (bidder : List (Atom (List ℕ))) → has_table goods table bidder ≡ true → xor_table bidder goods ≡ table
 same_table goods table bidder e =
-    slice_cmp-IsAntisymmetric nat_cmp-IsAntisymmetric (xor_table bidder goods) table (equal_from_test (slice_cmp nat_cmp (xor_table bidder goods) table) e)
+    slice_cmp-IsAntisymmetric nat_cmp-IsAntisymmetric (xor_table bidder goods) table (equal_from (slice_cmp nat_cmp (xor_table bidder goods) table) e)
 
 pub its_table : (goods : ℕ) (table : List ℕ) (bidder : List (Atom (List ℕ))) → xor_table bidder goods ≡ table → has_table goods table bidder ≡ true
 its_table goods table bidder e =
@@ -104,7 +100,7 @@ module _ (goods : ℕ) where
         same_test (is_eq (bidder_cmp (xor_points goods model) (xor_points goods bidder))) (has_table goods (xor_table model goods) bidder)
         (λ e. its_table goods (xor_table model goods) bidder
         (sym (law.1 (bidder_cmp_equal (xor_points goods model) (xor_points goods bidder)
-        (equal_from_test (bidder_cmp (xor_points goods model) (xor_points goods bidder)) e)))))
+        (equal_from (bidder_cmp (xor_points goods model) (xor_points goods bidder)) e)))))
         (λ e. ap (λ (p : List (Atom (List ℕ))). is_eq (bidder_cmp p (xor_points goods bidder)))
         (law.0 (sym (same_table goods (xor_table model goods) bidder e))) ∙ ap is_eq (tied_itself bidder_cmp_total (xor_points goods bidder)))
 
@@ -144,7 +140,7 @@ module _ (goods : ℕ) where
         record {
           atoms = All-head (All (IsAtom goods)) bidder bidders h;
           nonzero = e;
-          are = bidder_cmp_equal points (xor_points goods bidder) (equal_from_test (bidder_cmp points (xor_points goods bidder)) t);
+          are = bidder_cmp_equal points (xor_points goods bidder) (equal_from (bidder_cmp points (xor_points goods bidder)) t);
         },
       ))
       (λ (t : is_eq (bidder_cmp points (xor_points goods bidder)) ≡ false).

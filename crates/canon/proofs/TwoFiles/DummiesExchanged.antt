@@ -19,12 +19,13 @@ use Rattle.valuation.specs.Auctions.{IsAtom, atom_of, auction_from, is_dummy, or
 use Rattle.prune.specs.Lemmas.Lists.{All-from_Contains, filter_same_on, map-filter, map_same_on}
 use Rattle.prune.specs.Lemmas.Ranges.{in_range}
 use Rattle.prune.specs.Points.{xor_points}
-use Rattle.canon.specs.Lemmas.Renaming.{eqb_flips, range_differs}
+use Rattle.canon.specs.Lemmas.Renaming.{range_differs}
 use Rattle.canon.specs.Renaming.{named_bid, named_dummy, with_dummies}
 use Rattle.canon.specs.Sameness.{has_table}
 use Rattle.canon.specs.Unsearched.{AreAlike}
 use Rattle.canon.proofs.CanonicalAuctions.Sames.{same_bidders}
 use Rattle.canon.proofs.CanonicalFiles.Texts.{HasAtoms-file}
+use Rattle.canon.specs.Lemmas.OrDifferences.{eqb_swap}
 
 -- the bids that pass a test after the exchange offer what those offer that pass another one before it
 offers_named : (dummies : List ℕ) (p q : PlainBid → Bool) (bids : List PlainBid) → All (λ b. p (named_bid dummies b) ≡ q b) bids
@@ -52,7 +53,7 @@ module _ (f : PlainFile) (dummies : List ℕ) (facts : IsPlainFile f) (moved : I
   differ : AllPairs (λ d e. d ≢ e) dummies
   differ =
       AllPairs-from_IsDistinct Decides-eqb dummies
-      (IsDistinct-IsPermutation eqb eqb_flips (range_with_len 0 f.dummy) dummies moved
+      (IsDistinct-IsPermutation eqb eqb_swap (range_with_len 0 f.dummy) dummies moved
       (IsDistinct-from_AllPairs Decides-eqb (range_with_len 0 f.dummy) (range_differs f.dummy)))
 
   one_number : (d e : ℕ) → d < f.dummy → e < f.dummy → named d ≡ named e → d ≡ e

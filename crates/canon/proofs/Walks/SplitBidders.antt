@@ -1,5 +1,5 @@
 -- The bids of XOR bidders, split bidder by bidder: those that are split, with the bidders of the rest behind them, are all bidders.
-use Rattle.std.proofs.Common.{◌≡◌, ℕ, ◌+◌, List, [], ◌∷◌, ◌++◌, length, map, drop, append_assoc, refl, sym, ap, ◌∙◌}
+use Rattle.std.proofs.Common.{◌≡◌, ℕ, ◌+◌, List, [], ◌∷◌, ◌++◌, length, map, drop, append_assoc, sym, ap, ◌∙◌}
 use Rattle.std.proofs.lemmas.List.{append-nil, map-append}
 use Rattle.bid_file.specs.Files.{PlainBid}
 use Rattle.valuation.specs.declared.atom.Atom.{Atom}
@@ -12,9 +12,6 @@ pub record AreSplit (bidders : List (List (Atom (List ℕ)))) (split : List (Lis
   pub later : List (List (Atom (List ℕ)))
   pub rest : AreBidsOf dummy later bids
   pub all : map offers split ++ later ≡ bidders
-
-pub none_split : (bidders : List (List (Atom (List ℕ)))) (bids : List PlainBid) → AreBidsOf 0 bidders bids → AreSplit bidders [] bids
-none_split bidders bids h = record { dummy = 0; later = bidders; rest = h; all = refl }
 
 pub one_more_split : (bidders : List (List (Atom (List ℕ)))) (split : List (List PlainBid)) (bids first : List PlainBid) → IsFirstBidder bids first
     → AreSplit bidders split bids → AreSplit bidders (split ++ first ∷ []) (drop (length first) bids)

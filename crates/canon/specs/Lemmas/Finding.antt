@@ -4,7 +4,7 @@ use Rattle.std.proofs.Common.{Greater}
 use Rattle.std.specs.Prelude.{AllPairs, Contains}
 use Rattle.std.specs.List.{find, AllByRecursion}
 use Rattle.std.specs.Ordering.{is_eq, is_gt, ordering_reverse}
-use Rattle.std.specs.Cmp.{IsTotalOrder}
+use Rattle.std.specs.Cmp.{IsTotalOrder, Equal-is}
 use Rattle.std.proofs.lemmas.Bool.{cases_Bool, both_ways}
 use Rattle.std.proofs.lemmas.Cmp.{tied_itself}
 use Rattle.std.proofs.lemmas.List.Elements.{All-contains}
@@ -13,6 +13,9 @@ use Rattle.valuation.specs.Lemmas.Lists.{Contains-cons_cases, AllPairs-head, All
 use Rattle.valuation.specs.Lemmas.Sorting.{IsOrdered}
 use Rattle.valuation.specs.Sorting.{count_of}
 use Rattle.prune.specs.Lemmas.Lists.{Contains-nil, Contains-head, Contains-tail}
+
+pub equal_from : (o : Ordering) → is_eq o ≡ true → o ≡ Equal
+equal_from o e = (Equal-is o).0 e
 
 -- what is found passes, and nothing before it does
 pub record IsFirst {X : Type 0} (R : X → X → Type 0) (p : X → Bool) (xs : List X) (x : X) : Type 0 where
@@ -115,13 +118,8 @@ module _ {X : Type 0} (cmp : X → X → Ordering) (total : IsTotalOrder cmp) (e
   pub counted_is_there : (x : X) (xs : List X) → 0 < count_of cmp x xs → Contains xs x
   counted_is_there x [] l = let none : count_of cmp x [] ≡ 0 = refl in absurd (omega arith)
   counted_is_there x (y ∷ ys) l =
-      ⊎_elim (λ (t : is_eq (cmp x y) ≡ true). subst (λ z. Contains (y ∷ ys) z) (sym (exact x y (equal (cmp x y) t))) (Contains-head y ys))
+      ⊎_elim (λ (t : is_eq (cmp x y) ≡ true). subst (λ z. Contains (y ∷ ys) z) (sym (exact x y (equal_from (cmp x y) t))) (Contains-head y ys))
       (λ (t : is_eq (cmp x y) ≡ false).
       let first : cond {A = ℕ} (is_eq (cmp x y)) 1 0 ≡ 0 = ap (λ b. cond {A = ℕ} b 1 0) t in
       Contains-tail y ys x (counted_is_there x ys (omega (arith, sum_by-cons (λ z. cond (is_eq (cmp x z)) 1 0) y ys))))
       (cases_Bool (is_eq (cmp x y)))
-    where
-      equal : (o : Ordering) → is_eq o ≡ true → o ≡ Equal
-      equal Less e = absurd (cc)
-      equal Equal e = refl
-      equal Greater e = absurd (cc)

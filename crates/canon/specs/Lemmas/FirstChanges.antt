@@ -60,7 +60,7 @@ bid_of_price (x ∷ xs) bundle price e =
     (bid_of_price xs bundle price (sym (ap (λ (t : Bool). cond {A = Option ℕ} t (Some x.price) (price_on xs bundle)) behind.1) ∙ e)))
     (same_cases x.bundle bundle)
 
-same_price_cases : (p q : Option ℕ) → (p ≡ q) ⊎ (p ≡ q → ⊥)
+pub same_price_cases : (p q : Option ℕ) → (p ≡ q) ⊎ (p ≡ q → ⊥)
 same_price_cases None None = inl refl
 same_price_cases None (Some n) = inr (λ e. cc)
 same_price_cases (Some m) None = inr (λ e. cc)

@@ -1,8 +1,8 @@
 -- The first bundle on which the OR values of two OR bidders differ.
-use Rattle.std.proofs.Common.{◌≡◌, ℕ, ◌+◌, ◌<◌, ◌≤◌, Bool, true, false, not, eqb, ⊎_elim, List, refl, sym, ap, ◌∙◌, subst, arith, Some, Less}
+use Rattle.std.proofs.Common.{◌≡◌, ℕ, ◌+◌, ◌<◌, ◌≤◌, Bool, true, false, not, eqb, ⊎_elim, List, refl, sym, ap, subst, arith, Some, Less}
 use Rattle.std.specs.Prelude.{All, Contains}
 use Rattle.std.specs.List.{find}
-use Rattle.std.proofs.lemmas.Bool.{cases_Bool, both_ways, eqb-true, eqb-false, eq-eqb, ne_eqb, not_from_true, not_from_false}
+use Rattle.std.proofs.lemmas.Bool.{cases_Bool, both_ways, eqb-true, eq-eqb, ne_eqb, not_from_true, not_from_false}
 use Rattle.std.proofs.lemmas.List.Elements.{All-contains}
 use Rattle.goods_set.specs.Bundles.{IsBundle, is_inside, without, all_bundles}
 use Rattle.goods_set.specs.Lemmas.Members.{inside_refl, without_inside, IsBundle-without}
@@ -20,6 +20,7 @@ use Rattle.prune.specs.Lemmas.OnBundles.{IsOnBundle}
 use Rattle.prune.specs.Points.{is_or_point, or_points, IsPart, IsOrPoint}
 use Rattle.prune.specs.Lemmas.Points.{IsOrPoint-from_test, no_or_point, inside_below, points_where-in_order, or_points_are}
 use Rattle.canon.specs.Lemmas.Finding.{found_first, find_it}
+use Rattle.std.specs.Cmp.{both_ways as same_test}
 
 -- whether the values on the bundle differ
 abbrev pub are_unequal : List (Atom (List ℕ)) → List (Atom (List ℕ)) → List ℕ → Bool
@@ -39,9 +40,7 @@ equal_from_test one other bundle e =
     (cases_Bool (eqb (or_value one bundle) (or_value other bundle)))
 
 pub eqb_swap : (m n : ℕ) → eqb m n ≡ eqb n m
-eqb_swap m n =
-    ⊎_elim (λ (t : eqb m n ≡ true). t ∙ sym (eq-eqb n m (sym (eqb-true m n t)))) (λ (t : eqb m n ≡ false). t ∙ sym (ne_eqb n m (λ e. eqb-false m n t (sym e))))
-    (cases_Bool (eqb m n))
+eqb_swap m n = same_test (eqb m n) (eqb n m) (λ t. eq-eqb n m (sym (eqb-true m n t))) (λ t. eq-eqb m n (sym (eqb-true n m t)))
 
 -- it does not matter which bidder comes first
 pub unequal_swap : (one other : List (Atom (List ℕ))) (bundles : List (List ℕ)) → find (are_unequal one other) bundles ≡ find (are_unequal other one) bundles

@@ -3,11 +3,10 @@
 use Rattle.std.proofs.Common.{◌≡◌, ◌≢◌, ℕ, ◌+◌, ◌<◌, Bool, true, false, cond, List, [], ◌∷◌, length, map, get_or, eqb, refl, sym, ap, ◌∙◌, subst, arith}
 use Rattle.std.proofs.Common.{Ordering, Less, Equal, Greater}
 use Rattle.std.specs.Prelude.{AllPairs, Contains}
-use Rattle.std.specs.Cmp.{IsTotalOrder, both_ways}
+use Rattle.std.specs.Cmp.{IsTotalOrder}
 use Rattle.std.specs.List.{filter, range_with_len}
 use Rattle.std.specs.List.Sorted.{IsSortedBy}
 use Rattle.std.specs.Ordering.{is_lt, ordering_then}
-use Rattle.std.proofs.lemmas.Bool.{eq-eqb, eqb-true}
 use Rattle.std.proofs.lemmas.Bool.Decides.{Decides-eqb}
 use Rattle.std.proofs.lemmas.Cmp.{nat_cmp_total, on_total, then_total}
 use Rattle.std.proofs.lemmas.List.{length-map, get_or-map}
@@ -29,6 +28,7 @@ use Rattle.prune.specs.Lemmas.Ranges.{in_range, range_contains}
 use Rattle.prune.specs.Points.{xor_points}
 use Rattle.canon.specs.Canonical.{canonical_auction, points_of_bidders}
 use Rattle.canon.specs.Renaming.{points_of_dummy, dummy_cmp, kept_dummies}
+use Rattle.canon.specs.Lemmas.OrDifferences.{eqb_swap}
 
 -- ---- lists that are seen as others
 
@@ -119,12 +119,9 @@ range_differs n i j d l m e =
     let same : get_or (range_with_len 0 n) i d ≡ get_or (range_with_len 0 n) j d = e in
     absurd (omega arith)
 
-pub eqb_flips : (x y : ℕ) → eqb x y ≡ eqb y x
-eqb_flips x y = both_ways (eqb x y) (eqb y x) (λ t. eq-eqb y x (sym (eqb-true x y t))) (λ t. eq-eqb x y (sym (eqb-true y x t)))
-
 pub kept_dummies-differ : (f : PlainFile) → AllPairs (λ d e. d ≢ e) (kept_dummies f)
 kept_dummies-differ f =
     AllPairs-from_IsDistinct Decides-eqb (kept_dummies f)
-    (IsDistinct-IsPermutation eqb eqb_flips (nonzero_dummies f) (kept_dummies f) (permutation-sort_by (dummy_cmp f) (nonzero_dummies f))
+    (IsDistinct-IsPermutation eqb eqb_swap (nonzero_dummies f) (kept_dummies f) (permutation-sort_by (dummy_cmp f) (nonzero_dummies f))
     (IsDistinct-from_AllPairs Decides-eqb (nonzero_dummies f)
     (AllPairs-filter (λ d e. d ≢ e) (has_value f) (range_with_len 0 f.dummy) (range_differs f.dummy))))
