@@ -6,3 +6,4 @@ pub mod PriceChanges
 pub mod FirstChanges
 pub mod BidderDifferences
 pub mod CanonicalOrders
+pub mod TextMaps

@@ -1,11 +1,10 @@
 -- Bidders are counted alike by their tables and by their points. A bidder of value zero has neither, and of the others each has
 -- the points that its table says.
-use Rattle.std.proofs.Common.{◌≡◌, ℕ, ◌+◌, ◌<◌, ◌≤◌, Bool, true, false, cond, ⊎_elim, List, [], ◌∷◌, map, refl, sym, ap, ◌∙◌, subst, arith, le_antisymm}
+use Rattle.std.proofs.Common.{◌≡◌, ℕ, ◌+◌, ◌<◌, ◌≤◌, Bool, true, false, cond, ⊎_elim, List, [], ◌∷◌, refl, sym, ap, ◌∙◌, subst, arith, le_antisymm}
 use Rattle.std.proofs.Common.{nat_cmp}
 use Rattle.std.specs.Prelude.{All}
-use Rattle.std.specs.List.{filter, count_by}
+use Rattle.std.specs.List.{count_by}
 use Rattle.std.specs.Ordering.{is_eq}
-use Rattle.std.specs.Cmp.{both_ways as same_test}
 use Rattle.std.specs.Cmp.Lexicographic.{slice_cmp}
 use Rattle.std.specs.FinMap.{slice_cmp-IsAntisymmetric, nat_cmp-IsAntisymmetric}
 use Rattle.std.proofs.lemmas.Bool.{cases_Bool, both_ways, false_from_ne_true, cond-true, cond-false}
@@ -26,6 +25,7 @@ use Rattle.canon.specs.Sameness.{has_table}
 use Rattle.canon.specs.Canonical.{points_of_bidders}
 use Rattle.canon.proofs.CanonicalAuctions.Atoms.{xor_points_table}
 use Rattle.canon.specs.Lemmas.Finding.{equal_from}
+use Rattle.std.proofs.Common.{rules}
 
 -- ---- tests by an order
 
@@ -62,15 +62,11 @@ module _ (goods : ℕ) where
   -- the points of one more bidder
   pub points_more : (bidder : List (Atom (List ℕ))) (bidders : List (List (Atom (List ℕ)))) → is_nonzero (xor_table bidder goods) ≡ true
       → points_of_bidders goods (bidder ∷ bidders) ≡ xor_points goods bidder ∷ points_of_bidders goods bidders
-  points_more bidder bidders e =
-      ap (map (xor_points goods)) (cond-true (is_nonzero (xor_table bidder goods)) (bidder ∷ filter (λ b. is_nonzero (xor_table b goods)) bidders)
-      (filter (λ b. is_nonzero (xor_table b goods)) bidders) e)
+  points_more bidder bidders e = search (rules, cond-true)
 
   pub points_without : (bidder : List (Atom (List ℕ))) (bidders : List (List (Atom (List ℕ)))) → is_nonzero (xor_table bidder goods) ≡ false
       → points_of_bidders goods (bidder ∷ bidders) ≡ points_of_bidders goods bidders
-  points_without bidder bidders e =
-      ap (map (xor_points goods)) (cond-false (is_nonzero (xor_table bidder goods)) (bidder ∷ filter (λ b. is_nonzero (xor_table b goods)) bidders)
-      (filter (λ b. is_nonzero (xor_table b goods)) bidders) e)
+  points_without bidder bidders e = search (rules, cond-false)
 
   -- ---- by table, the points of bidders are counted as the bidders are
 
@@ -95,14 +91,7 @@ module _ (goods : ℕ) where
   module _ (model : List (Atom (List ℕ))) (atoms_of_model : All (IsAtom goods) model) (nonzero : is_nonzero (xor_table model goods) ≡ true) where
     same_as_model : (bidder : List (Atom (List ℕ))) → All (IsAtom goods) bidder → is_eq (bidder_cmp (xor_points goods model) (xor_points goods bidder))
         ≡ has_table goods (xor_table model goods) bidder
-    same_as_model bidder h =
-        let law = same_xor_points goods model bidder (on_bundles goods model atoms_of_model) (on_bundles goods bidder h) in
-        same_test (is_eq (bidder_cmp (xor_points goods model) (xor_points goods bidder))) (has_table goods (xor_table model goods) bidder)
-        (λ e. its_table goods (xor_table model goods) bidder
-        (sym (law.1 (bidder_cmp_equal (xor_points goods model) (xor_points goods bidder)
-        (equal_from (bidder_cmp (xor_points goods model) (xor_points goods bidder)) e)))))
-        (λ e. ap (λ (p : List (Atom (List ℕ))). is_eq (bidder_cmp p (xor_points goods bidder)))
-        (law.0 (sym (same_table goods (xor_table model goods) bidder e))) ∙ ap is_eq (tied_itself bidder_cmp_total (xor_points goods bidder)))
+    same_as_model bidder h = search (rules, same_xor_points, on_bundles, its_table, bidder_cmp_equal, equal_from, same_table, tied_itself, bidder_cmp_total)
 
     pub points_as_tables : (bidders : List (List (Atom (List ℕ)))) → All (All (IsAtom goods)) bidders
         → count_of bidder_cmp (xor_points goods model) (points_of_bidders goods bidders) ≡ count_by (has_table goods (xor_table model goods)) bidders

@@ -17,6 +17,7 @@ use Rattle.canon.specs.Sameness.{has_table, IsSameAuction}
 use Rattle.canon.specs.Canonical.{points_of_bidders, canonical_auction}
 use Rattle.canon.proofs.CanonicalAuctions.Atoms.{HasAtoms, or_points_atoms, xor_points_atoms, or_points_table}
 use Rattle.canon.proofs.CanonicalAuctions.Counting.{tables_of_points, points_counted}
+use Rattle.std.proofs.Common.{rules}
 
 -- ---- the same auction is an equivalence
 
@@ -61,9 +62,7 @@ canonical_is_same a h = record {
 pub same_bidders : (goods : ℕ) (one other : List (List (Atom (List ℕ)))) → All (All (IsAtom goods)) one → All (All (IsAtom goods)) other
     → ((table : List ℕ) → is_nonzero table ≡ true → count_by (has_table goods table) one ≡ count_by (has_table goods table) other)
     → sort_by bidder_cmp (points_of_bidders goods one) ≡ sort_by bidder_cmp (points_of_bidders goods other)
-same_bidders goods one other h k same =
-    sort_by-same bidder_cmp bidder_cmp_total bidder_cmp_equal (points_of_bidders goods one) (points_of_bidders goods other)
-    (points_counted goods one other h k same)
+same_bidders goods one other h k same = search (rules, sort_by-same, bidder_cmp_total, bidder_cmp_equal, points_counted)
 
 pub same_canonical : (a b : PlainAuction) → HasAtoms a → HasAtoms b → IsSameAuction a b → canonical_auction a ≡ canonical_auction b
 same_canonical a b h k s =

@@ -18,13 +18,14 @@ use Rattle.prune.specs.Lemmas.InOrder.{before_itself}
 use Rattle.prune.specs.Lemmas.Lists.{All-from_Contains, Contains-tail}
 use Rattle.prune.specs.Lemmas.KeptBids.{just_bundles, or_points_are_atoms, xor_points_are_atoms, on_bundles}
 use Rattle.prune.specs.Lemmas.Points.{points_where-in_order}
-use Rattle.prune.specs.Points.{or_points, xor_points, is_or_point, is_xor_point}
-use Rattle.valuation.specs.Values.{or_value, xor_value}
+use Rattle.prune.specs.Points.{or_points, xor_points}
 use Rattle.canon.specs.Canonical.{canonical_auction, points_of_bidders}
 use Rattle.canon.specs.Unsearched.{unsearched_auction}
 use Rattle.canon.proofs.CanonicalAuctions.Atoms.{HasAtoms, xor_points_atoms}
 use Rattle.canon.proofs.CanonicalAuctions.Counting.{points_more, points_without}
 use Rattle.canon.proofs.CanonicalAuctions.Sames.{HasAtoms-auction, HasAtoms-canonical}
+use Rattle.std.proofs.lemmas.Grind.{common_steps}
+use Rattle.std.proofs.Common.{rules}
 
 -- atoms in order, each in a list, are no more than the list has
 no_more : (points atoms : List (Atom (List ℕ))) → IsInOrder points → All (Contains atoms) points → length points ≤ length atoms
@@ -44,14 +45,10 @@ no_more (x ∷ rest) atoms s h =
     omega arith
 
 pub length-or_points : (goods : ℕ) (atoms : List (Atom (List ℕ))) → All (IsAtom goods) atoms → length (or_points goods atoms) ≤ length atoms
-length-or_points goods atoms h =
-    no_more (or_points goods atoms) atoms (points_where-in_order (is_or_point goods atoms) (or_value atoms) goods)
-    (or_points_are_atoms goods atoms (on_bundles goods atoms h))
+length-or_points goods atoms h = search (rules, no_more, points_where-in_order, or_points_are_atoms, on_bundles)
 
 pub length-xor_points : (goods : ℕ) (atoms : List (Atom (List ℕ))) → All (IsAtom goods) atoms → length (xor_points goods atoms) ≤ length atoms
-length-xor_points goods atoms h =
-    no_more (xor_points goods atoms) atoms (points_where-in_order (is_xor_point atoms) (xor_value atoms) goods)
-    (xor_points_are_atoms goods atoms (just_bundles goods atoms (on_bundles goods atoms h)))
+length-xor_points goods atoms h = search (rules, no_more, points_where-in_order, xor_points_are_atoms, just_bundles, on_bundles)
 
 -- so many in all, by what each counts
 no_more_bidders : (goods : ℕ) (f : List (Atom (List ℕ)) → ℕ) → ((b : List (Atom (List ℕ))) → All (IsAtom goods) b → f (xor_points goods b) ≤ f b)
@@ -87,10 +84,7 @@ no_more_canonical_bidders a h =
 
 -- no more atoms of them
 no_more_xor_atoms : (a : PlainAuction) → HasAtoms a → sum_by length (canonical_auction a).xor_bidders ≤ sum_by length a.xor_bidders
-no_more_xor_atoms a h =
-    let same = sum_by-sort_by bidder_cmp (length {A = Atom (List ℕ)}) (points_of_bidders a.goods a.xor_bidders) in
-    let fewer = no_more_bidders a.goods length (λ b k. length-xor_points a.goods b k) a.xor_bidders h.xor_atoms in
-    omega arith
+no_more_xor_atoms a h = grind (arith, common_steps, sum_by-sort_by, no_more_bidders, length-xor_points)
 
 -- and no more atoms
 pub no_more_canonical_atoms : (a : PlainAuction) → HasAtoms a → length (canonical_auction a).or_atoms + sum_by length (canonical_auction a).xor_bidders

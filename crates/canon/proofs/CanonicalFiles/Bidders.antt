@@ -30,15 +30,12 @@ use Rattle.canon.specs.Internal.Fates.{AreFates}
 use Rattle.canon.specs.Internal.KeyedBidders.{NumberedBidder, numbered_points, numbered_cmp, kept_numbers}
 use Rattle.canon.specs.Lemmas.Renaming.{map-sorted}
 use Rattle.canon.proofs.CanonicalFiles.Numbering.{numbered_cmp_total, numbered_cmp_equal, points_push, points_skip}
+use Rattle.std.proofs.lemmas.Grind.{common_steps}
+use Rattle.std.proofs.Common.{rules}
 
 -- atoms over fewer goods are atoms over more
 pub atoms_within : (fewer more : ℕ) (atoms : List (Atom (List ℕ))) → fewer ≤ more → All (IsAtom fewer) atoms → All (IsAtom more) atoms
-atoms_within fewer more atoms l h =
-    All-weaker (IsAtom fewer) (IsAtom more) (λ a p. record {
-      nonempty = p.nonempty;
-      bundle = (p.bundle.0, AreBelow-higher fewer more a.bundle l p.bundle.1);
-      price = p.price;
-    }) atoms h
+atoms_within fewer more atoms l h = search (rules, All-weaker, AreBelow-higher)
 
 pub bidders_within : (fewer more : ℕ) (bidders : List (List (Atom (List ℕ)))) → fewer ≤ more → All (All (IsAtom fewer)) bidders
     → All (All (IsAtom more)) bidders
@@ -58,18 +55,13 @@ all_middle {X} {Y} seen P all done rest x e h =
 
 pub bidders_sorted : {X : Type 0} (seen : X → NumberedBidder) (old new : List X) → IsPermutation old new
     → IsSortedBy (λ a b. is_lt (numbered_cmp (seen a) (seen b))) new → map seen new ≡ sort_by numbered_cmp (map seen old)
-bidders_sorted seen old new p up =
-    sorted_is_sort_by numbered_cmp numbered_cmp_total numbered_cmp_equal (map seen old) (map seen new) (IsPermutation-map seen old new p)
-    (map-sorted seen (λ a b. is_lt (numbered_cmp a b)) new up)
+bidders_sorted seen old new p up = search (rules, sorted_is_sort_by, numbered_cmp_total, numbered_cmp_equal, IsPermutation-map, map-sorted)
 
 -- ---- the loop over the bidders
 
 -- the bidders that are done are fewer, where one is still to come
 pub fewer_done : {X : Type 0} (all done left rest : List X) (b : X) → all ≡ done ++ left → left ≡ b ∷ rest → length done < length all
-fewer_done all done left rest b parts next =
-    let long = ap length parts ∙ length-append done left in
-    let some : length left ≡ length (b ∷ rest) = ap length next in
-    omega arith
+fewer_done all done left rest b parts next = grind (arith, common_steps, length-append)
 
 module _ {S : Type 0} (goods : S → List ℕ) (all done more left rest : List (Vec (Atom S) Global)) (b : Vec (Atom S) Global) (parts : all ≡ done ++ left)
     (grown : more ≡ done ++ b ∷ []) (next : left ≡ b ∷ rest) where
@@ -78,9 +70,7 @@ module _ {S : Type 0} (goods : S → List ℕ) (all done more left rest : List (
       ∙ ap (λ (zs : List (Vec (Atom S) Global)). done ++ zs) next) h
 
   pub bidder_taken : all ≡ more ++ rest
-  bidder_taken =
-      parts ∙ ap (λ (zs : List (Vec (Atom S) Global)). done ++ zs) next ∙ sym (append_assoc done (b ∷ []) rest)
-      ∙ ap (λ (zs : List (Vec (Atom S) Global)). zs ++ rest) (sym grown)
+  bidder_taken = search (rules, append_assoc)
 
   one_more : bidders_of goods more ≡ bidders_of goods done ++ atoms_of goods b.items ∷ []
   one_more = ap (bidders_of goods) grown ∙ map_push (λ (v : Vec (Atom S) Global). atoms_of goods v.items) done b
@@ -89,10 +79,7 @@ module _ {S : Type 0} (goods : S → List ℕ) (all done more left rest : List (
   pub fates_pushed : (n : ℕ) → All (All (IsAtom n)) (bidders_of goods all) → (noted all_noted : List (Vec (Option ℕ) Global)) (own : Vec (Option ℕ) Global)
       → all_noted ≡ noted ++ own ∷ [] → (All (IsAtom n) (atoms_of goods b.items) → own.items ≡ xor_fates n (atoms_of goods b.items))
       → map (λ v. v.items) noted ≡ map (xor_fates n) (bidders_of goods done) → map (λ v. v.items) all_noted ≡ map (xor_fates n) (bidders_of goods more)
-  fates_pushed n atoms noted all_noted own e are so_far =
-      ap (map (λ (v : Vec (Option ℕ) Global). v.items)) e ∙ map_push (λ (v : Vec (Option ℕ) Global). v.items) noted own
-      ∙ ap₂ (λ (zs : List (List (Option ℕ))) (fates : List (Option ℕ)). zs ++ fates ∷ []) so_far (are (bidder_next (All (IsAtom n)) atoms))
-      ∙ sym (ap (map (xor_fates n)) one_more ∙ map_push (xor_fates n) (bidders_of goods done) (atoms_of goods b.items))
+  fates_pushed n atoms noted all_noted own e are so_far = search (rules, map_push, bidder_next, one_more)
 
   -- the points so far, each bidder seen with its number
   module _ {X : Type 0} (seen : X → NumberedBidder) (n : ℕ) (atoms : All (All (IsAtom n)) (bidders_of goods all)) (points : List X)
@@ -130,9 +117,7 @@ points_done {S} goods seen n all done left points parts none h =
 
 pub fates_done : {S : Type 0} (goods : S → List ℕ) (n : ℕ) (all done left : List (Vec (Atom S) Global)) (noted : List (List (Option ℕ)))
     → all ≡ done ++ left → left ≡ [] → noted ≡ map (xor_fates n) (bidders_of goods done) → noted ≡ map (xor_fates n) (bidders_of goods all)
-fates_done {S} goods n all done left noted parts none h =
-    h ∙ ap (λ (zs : List (Vec (Atom S) Global)). map (xor_fates n) (bidders_of goods zs))
-    (sym (parts ∙ ap (λ (zs : List (Vec (Atom S) Global)). done ++ zs) none ∙ append-nil done))
+fates_done {S} goods n all done left noted parts none h = search (rules, append-nil)
 
 -- ---- bidders with more beside them, of which `bare` is the bidder: what is taken out of them one by one
 
@@ -146,9 +131,7 @@ module _ {S X : Type 0} (goods : S → List ℕ) (bare : X → Vec (Atom S) Glob
   )
 
   pub bare_done : left ≡ [] → bidders_of goods bidders ≡ map (λ x. atoms_of goods (bare x).items) all
-  bare_done none =
-      let whole : done ≡ all = sym (parts ∙ ap (λ (zs : List X). done ++ zs) none ∙ append-nil done) in
-      ap (bidders_of goods) (so_far ∙ ap (map bare) whole) ∙ map-map (λ (v : Vec (Atom S) Global). atoms_of goods v.items) bare all
+  bare_done none = search (rules, append-nil, map-map)
 
 -- ---- the parts of an auction
 

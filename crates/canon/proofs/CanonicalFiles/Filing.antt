@@ -11,17 +11,13 @@ use Rattle.valuation.specs.Bidders.{bidders_of}
 use Rattle.valuation.specs.Values.{atoms_of}
 use Rattle.canon.specs.Canonical.{bid_from, dummy_bids, file_from}
 use Rattle.canon.proofs.CanonicalFiles.Files.{IsPlainFile-file_from}
+use Rattle.std.proofs.Common.{rules}
 
 -- one more bid, and one atom less to come
 pub one_more_bid : {S : Type 0} (goods : S → List ℕ) (dummy : Option ℕ) (old new : List PlainBid) (bundle : List ℕ) (atoms : List (Atom S)) (i : ℕ) (a : Atom S)
     → i < length atoms → a ≡ get_or atoms i a → bundle ≡ goods a.bundle → new ≡ old ++ bid_from dummy (record { bundle = bundle; price = a.price }) ∷ []
     → new ++ map (bid_from dummy) (drop (i + 1) (atoms_of goods atoms)) ≡ old ++ map (bid_from dummy) (drop i (atoms_of goods atoms))
-one_more_bid goods dummy old new bundle atoms i a l e its more =
-    let rest : List PlainBid = map (bid_from dummy) (drop (i + 1) (atoms_of goods atoms)) in
-    ap (λ (zs : List PlainBid). zs ++ rest) more
-    ∙ append_assoc old (bid_from dummy (record { bundle = bundle; price = a.price }) ∷ []) rest
-    ∙ ap (λ (gs : List ℕ). old ++ bid_from dummy (record { bundle = gs; price = a.price }) ∷ rest) its
-    ∙ ap (λ (zs : List (Atom (List ℕ))). old ++ map (bid_from dummy) zs) (sym (drop-atoms_of goods atoms i a l e))
+one_more_bid goods dummy old new bundle atoms i a l e its more = search (rules, append_assoc, drop-atoms_of)
 
 -- none is to come
 pub all_bids : {X Y : Type 0} (done : List Y) (f : X → Y) (xs : List X) (i : ℕ) (all : List Y) → length xs ≤ i → done ++ map f (drop i xs) ≡ all → done ≡ all
@@ -31,20 +27,13 @@ all_bids {X} {Y} done f xs i all l h =
 -- the bidder at an index, and those behind it
 pub next_bidder : {S : Type 0} (goods : S → List ℕ) (bidders : List (Vec (Atom S) Global)) (i : ℕ) (b : Vec (Atom S) Global)
     → i < length bidders → b ≡ get_or bidders i b → drop i (bidders_of goods bidders) ≡ atoms_of goods b.items ∷ drop (i + 1) (bidders_of goods bidders)
-next_bidder {S} goods bidders i b l e =
-    let seen : Vec (Atom S) Global → List (Atom (List ℕ)) = λ v. atoms_of goods v.items in
-    drop-map seen i bidders ∙ ap (map seen) (drop_more bidders i b l ∙ ap (λ (x : Vec (Atom S) Global). x ∷ drop (i + 1) bidders) (sym e))
-    ∙ ap (λ (zs : List (List (Atom (List ℕ)))). seen b ∷ zs) (sym (drop-map seen (i + 1) bidders))
+next_bidder {S} goods bidders i b l e = search (rules, drop-map, drop_more)
 
 -- one more bidder, and one less to come
 pub one_more_bidder : {S : Type 0} (goods : S → List ℕ) (old new : List PlainBid) (bidders : List (Vec (Atom S) Global)) (i : ℕ) (b : Vec (Atom S) Global)
     → i < length bidders → b ≡ get_or bidders i b → new ≡ old ++ map (bid_from (Some i)) (atoms_of goods b.items)
     → new ++ dummy_bids (i + 1) (drop (i + 1) (bidders_of goods bidders)) ≡ old ++ dummy_bids i (drop i (bidders_of goods bidders))
-one_more_bidder {S} goods old new bidders i b l e more =
-    let rest = dummy_bids (i + 1) (drop (i + 1) (bidders_of goods bidders)) in
-    ap (λ (zs : List PlainBid). zs ++ rest) more
-    ∙ append_assoc old (map (bid_from (Some i)) (atoms_of goods b.items)) rest
-    ∙ ap (λ (zs : List (List (Atom (List ℕ)))). old ++ dummy_bids i zs) (sym (next_bidder goods bidders i b l e))
+one_more_bidder {S} goods old new bidders i b l e more = search (rules, append_assoc, next_bidder)
 
 pub all_bidders : (done all : List PlainBid) (i : ℕ) (bidders : List (List (Atom (List ℕ)))) → length bidders ≤ i → done ++ dummy_bids i (drop i bidders) ≡ all
     → done ≡ all

@@ -1,12 +1,11 @@
 -- Bidders with their numbers: one more at the end, what is left without the numbers, and the numbers of those that are in the canonical auction.
-use Rattle.std.proofs.Common.{◌≡◌, ℕ, zero, suc, ◌+◌, ◌<◌, ◌≤◌, Bool, true, false, ⊎_elim, List, [], ◌∷◌, ◌++◌, length, map, take, get_or, refl, sym, ap, ap₂}
+use Rattle.std.proofs.Common.{◌≡◌, ℕ, zero, suc, ◌+◌, ◌<◌, ◌≤◌, Bool, List, [], ◌∷◌, ◌++◌, length, map, take, get_or, refl, sym, ap, ap₂}
 use Rattle.std.proofs.Common.{◌∙◌}
 use Rattle.std.proofs.Common.{arith, Equal}
 use Rattle.std.specs.Cmp.{IsTotalOrder}
 use Rattle.std.specs.FinMap.{nat_cmp-IsAntisymmetric}
 use Rattle.std.specs.List.{filter, range_with_len}
 use Rattle.std.specs.Ordering.{nat_cmp}
-use Rattle.std.proofs.lemmas.Bool.{cases_Bool}
 use Rattle.std.proofs.lemmas.Cmp.{nat_cmp_total, on_total, then_total}
 use Rattle.std.proofs.lemmas.List.{append-nil, map-append, map-id, map_push, take_all, take_more}
 use Rattle.std.proofs.lemmas.List.Elements.{filter-append}
@@ -27,6 +26,8 @@ use Rattle.canon.specs.Canonical.{points_of_bidders}
 use Rattle.canon.specs.Renaming.{points_of_dummy, dummy_cmp, kept_dummies}
 use Rattle.canon.specs.Internal.KeyedBidders.{NumberedBidder, numbered_from, points_of_numbered, numbered_points, numbered_cmp, kept_numbers}
 use Rattle.canon.specs.Lemmas.Renaming.{filter-map, sort_by-map, then_not_less, then_equal, dummy_cmp_total, nonzero_dummies}
+use Rattle.std.proofs.lemmas.Grind.{common_steps}
+use Rattle.std.proofs.Common.{rules}
 
 -- ---- the order
 
@@ -68,23 +69,11 @@ module _ (goods : ℕ) (done : List (List (Atom (List ℕ)))) (bidder points : L
   -- a bidder with points adds them
   pub points_push : (points ≡ [] → ⊥) → numbered_points goods (done ++ bidder ∷ [])
       ≡ numbered_points goods done ++ record { number = length done; atoms = points } ∷ []
-  points_push some =
-      parts
-      ∙ ap (λ (zs : List NumberedBidder). numbered_points goods done ++ zs)
-      (⊎_elim
-      (λ (t : is_nonzero (xor_table bidder goods) ≡ true).
-      ap (map (points_of_numbered goods)) (filter-kept (asks goods) (with_number (length done) bidder) [] t)
-      ∙ ap (λ (p : List (Atom (List ℕ))). with_number (length done) p ∷ []) (sym are))
-      (λ (t : is_nonzero (xor_table bidder goods) ≡ false). absurd (some (are ∙ (no_xor_points goods bidder (on_bundles goods bidder atoms)).1 t)))
-      (cases_Bool (is_nonzero (xor_table bidder goods))))
+  points_push some = grind (arith, common_steps, parts, filter-kept, no_xor_points, on_bundles)
 
   -- one without points adds nothing
   pub points_skip : points ≡ [] → numbered_points goods (done ++ bidder ∷ []) ≡ numbered_points goods done
-  points_skip none =
-      parts
-      ∙ ap (λ (zs : List NumberedBidder). numbered_points goods done ++ map (points_of_numbered goods) zs)
-      (filter-lost (asks goods) (with_number (length done) bidder) [] ((no_xor_points goods bidder (on_bundles goods bidder atoms)).0 (sym are ∙ none)))
-      ∙ append-nil (numbered_points goods done)
+  points_skip none = search (rules, parts, filter-lost, no_xor_points, on_bundles, append-nil)
 
 -- ---- without the numbers
 
@@ -103,10 +92,7 @@ atoms_of_points goods bidders =
 
 pub atoms_in_order : (goods : ℕ) (bidders : List (List (Atom (List ℕ))))
     → map (λ b. b.atoms) (sort_by numbered_cmp (numbered_points goods bidders)) ≡ sort_by bidder_cmp (points_of_bidders goods bidders)
-atoms_in_order goods bidders =
-    sort_by-map numbered_cmp bidder_cmp (λ (b : NumberedBidder). b.atoms) numbered_cmp_total bidder_cmp_total bidder_cmp_equal
-    (λ a b h. then_not_less (bidder_cmp a.atoms b.atoms) (nat_cmp a.number b.number) h) (numbered_points goods bidders)
-    ∙ ap (sort_by bidder_cmp) (atoms_of_points goods bidders)
+atoms_in_order goods bidders = search (rules, sort_by-map, numbered_cmp_total, bidder_cmp_total, bidder_cmp_equal, then_not_less, atoms_of_points)
 
 -- ---- the numbers alone, one by one
 
@@ -131,11 +117,7 @@ numbered-range f n zero = refl
 numbered-range f n (suc count) = ap (λ (bs : List NumberedBidder). with_number n (xor_atoms_of f.bids n) ∷ bs) (numbered-range f (n + 1) count)
 
 numbered_points_are : (f : PlainFile) → numbered_points f.goods (auction_from f).xor_bidders ≡ map (named f) (nonzero_dummies f)
-numbered_points_are f =
-    let numbered : ℕ → NumberedBidder = λ d. with_number d (xor_atoms_of f.bids d) in
-    ap (λ (bs : List NumberedBidder). map (points_of_numbered f.goods) (filter (asks f.goods) bs)) (numbered-range f 0 f.dummy)
-    ∙ ap (map (points_of_numbered f.goods)) (filter-map (asks f.goods) numbered (range_with_len 0 f.dummy))
-    ∙ map-map (points_of_numbered f.goods) numbered (nonzero_dummies f)
+numbered_points_are f = search (rules, numbered-range, filter-map, map-map)
 
 pub kept_numbers_are : (f : PlainFile) → kept_numbers (auction_from f) ≡ kept_dummies f
 kept_numbers_are f =

@@ -16,7 +16,7 @@ use Rattle.prune.specs.Points.{or_points}
 use Rattle.prune.specs.SearchSteps.{first_refused}
 use Rattle.prune.specs.Lemmas.Refusals.{no_refused_point}
 use Rattle.prune.specs.Lemmas.KeptBids.{on_bundles}
-use Rattle.canon.specs.Sameness.{IsSameAuction, AreSameFiles, AreSameTexts}
+use Rattle.canon.specs.Sameness.{AreSameFiles, AreSameTexts}
 use Rattle.canon.specs.Canonical.{canonical_auction, file_from, canonical_file, canonical_text}
 use Rattle.canon.specs.Normalising.{Normalised, IsNoFile, ExceedsSteps, IsText, HasOutcome, IsNormalised, Normalises, SpellsCanonicalFile, unless_refused}
 use Rattle.canon.specs.Normalising.{normalised_file}
@@ -24,6 +24,7 @@ use Rattle.canon.proofs.CanonicalAuctions.Atoms.{HasAtoms}
 use Rattle.canon.proofs.CanonicalAuctions.Sames.{HasAtoms-auction, canonical_is_same, same_canonical, same_from_canonical, canonical_is_fixed}
 use Rattle.canon.proofs.CanonicalFiles.Files.{auction_from-file_from, IsPlainFile-file_from}
 use Rattle.canon.proofs.CanonicalAuctions.Smaller.{IsAuction-canonical}
+use Rattle.std.proofs.Common.{rules}
 
 -- ---- the auction and the canonical file of a file
 
@@ -38,9 +39,7 @@ IsPlainFile-canonical f h =
     IsPlainFile-file_from f.goods (canonical_auction (auction_from f)) (IsAuction-canonical f.goods (auction_from f) (IsAuction-file f h))
 
 pub canonical_file_is_same : (f : PlainFile) → IsPlainFile f → AreSameFiles f (canonical_file f)
-canonical_file_is_same f h =
-    subst (λ (a : PlainAuction). IsSameAuction (auction_from f) a) (sym (auction_from-file_from (canonical_auction (auction_from f))))
-    (canonical_is_same (auction_from f) (HasAtoms-file f h))
+canonical_file_is_same f h = search (rules, auction_from-file_from, canonical_is_same, HasAtoms-file)
 
 pub canonical_file_is_fixed : (f : PlainFile) → IsPlainFile f → canonical_file (canonical_file f) ≡ canonical_file f
 canonical_file_is_fixed f h =
@@ -82,12 +81,7 @@ text_of_file options f out = by (first_refused options f.goods (or_atoms_of f.bi
     by (Some goods) e q = absurd (cc)
 
 pub text_from_normalised : (options : SearchOptions) (text out : List ℕ) → Normalises options text (IsText out) → IsNormalText options text out
-text_from_normalised options text out n = let r = text_of_file options n.file out n.is in record {
-  file = n.file;
-  spelled = n.spelled;
-  within_limit = r.0;
-  is = r.1;
-}
+text_from_normalised options text out n = search (rules, text_of_file)
 
 pub normalised_from_text : (options : SearchOptions) (text out : List ℕ) → IsNormalText options text out → Normalises options text (IsText out)
 normalised_from_text options text out n = record {
@@ -138,9 +132,7 @@ normalised_again options text out n =
     record {
       file = canonical_file f;
       spelled = subst (λ (t : List ℕ). Spells t (canonical_file f)) (sym n.is) (laid_out.layout_spells (canonical_file f) (IsPlainFile-canonical f facts));
-      within_limit = ap (first_refused options f.goods) ors ∙ no_refused_point options f.goods (or_atoms_of f.bids)
-          (on_bundles f.goods (or_atoms_of f.bids) atoms.or_atoms)
-          n.within_limit;
+      within_limit = search (rules, no_refused_point, on_bundles);
       is = n.is ∙ ap layout (sym (canonical_file_is_fixed f facts));
     }
 

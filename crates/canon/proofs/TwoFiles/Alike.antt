@@ -35,6 +35,7 @@ use Rattle.canon.proofs.CanonicalAuctions.Sames.{canonical_is_same, same_sym, sa
 use Rattle.canon.proofs.CanonicalAuctions.Smaller.{IsAuction-unsearched}
 use Rattle.canon.proofs.CanonicalFiles.Files.{auction_from-file_from, IsPlainFile-file_from}
 use Rattle.canon.proofs.CanonicalFiles.Texts.{HasAtoms-file}
+use Rattle.std.proofs.Common.{rules}
 
 -- ---- OR values without the bids that single bids replace
 
@@ -43,9 +44,7 @@ some_goods goods atoms h = All-weaker (IsAtom goods) (λ a. 0 < length a.bundle)
 
 -- a packing reaches what one bid reaches
 xor_below_or : (atoms : List (Atom (List ℕ))) (bundle : List ℕ) → xor_value atoms bundle ≤ or_value atoms bundle
-xor_below_or atoms bundle =
-    xor_value-bound atoms bundle (or_value atoms bundle) (All-from_Contains (λ a. IsInside a.bundle bundle → a.price ≤ or_value atoms bundle) atoms
-    (λ a c i. or_value-price atoms a c bundle i))
+xor_below_or atoms bundle = search (rules, xor_value-bound, All-from_Contains, or_value-price)
 
 module _ (goods : ℕ) (atoms : List (Atom (List ℕ))) (h : All (IsAtom goods) atoms) where
   abbrev points : List (Atom (List ℕ))
@@ -157,10 +156,7 @@ module _ (goods dummy : ℕ) (one other : List PlainBid) (same : (bid : PlainBid
   points_alike p = xor_points_same goods (map atom_of (filter p one)) (map atom_of (filter p other)) (λ bundle b. values_alike p bundle)
 
   table_alike : (d : ℕ) → xor_table (xor_atoms_of one d) goods ≡ xor_table (xor_atoms_of other d) goods
-  table_alike d =
-      map_same_on (xor_value (xor_atoms_of one d)) (xor_value (xor_atoms_of other d)) (all_bundles goods)
-      (All-from_Contains (λ bundle. xor_value (xor_atoms_of one d) bundle ≡ xor_value (xor_atoms_of other d) bundle) (all_bundles goods)
-      (λ bundle c. values_alike (λ b. is_dummy d b.dummy) bundle))
+  table_alike d = search (rules, map_same_on, All-from_Contains, values_alike)
 
   bidders_alike : points_of_bidders goods (auction_from f).xor_bidders ≡ points_of_bidders goods (auction_from g).xor_bidders
   bidders_alike =

@@ -40,6 +40,7 @@ use Rattle.canon.proofs.CanonicalFiles.Files.{auction_from-file_from}
 use Rattle.canon.proofs.TwoFiles.SameDifferences.{difference_of_same_files}
 use Rattle.canon.proofs.CanonicalAuctions.Sames.{same_sym, same_trans}
 use Rattle.canon.proofs.CanonicalFiles.Texts.{HasAtoms-file, IsPlainFile-canonical, canonical_file_is_same, canonical_file_is_fixed}
+use Rattle.std.proofs.Common.{rules}
 
 -- ---- the bids of a canonical file
 
@@ -149,9 +150,7 @@ module _ (options : SearchOptions) (text : List ℕ) (h : PlainFile) (n : IsNorm
 
 module _ (options : SearchOptions) (one other : List ℕ) (h k : PlainFile) (n : IsNormalFileOf options one h) (m : IsNormalFileOf options other k) where
   same_difference : first_difference (auction_from n.file) (auction_from m.file) ≡ first_difference (auction_from h) (auction_from k)
-  same_difference =
-      difference_of_same_files n.file h m.file k n.spelled.facts (plain_of_text options one h n) m.spelled.facts (plain_of_text options other k m)
-      (same_of_text options one h n) (same_of_text options other k m)
+  same_difference = search (rules, difference_of_same_files, plain_of_text, same_of_text)
 
   differ_by : (difference : Difference) → difference ≡ first_difference (auction_from h) (auction_from k) → Differ options one other difference
   unfolding text_within_limit
@@ -201,18 +200,13 @@ module _ (a b : PlainAuction) (e : a.goods ≡ b.goods) where
   pub or_found : (found : Option Verdict) (v : Verdict) → found ≡ Some v
       → MatchOption found (first_unequal_bundle a b ≡ None) (λ verdict. plain_verdict verdict ≡ or_difference a b (first_unequal_bundle a b))
       → plain_verdict v ≡ first_difference a b
-  or_found found v is h = MatchOption-at_some (first_unequal_bundle a b ≡ None)
-      (λ verdict. plain_verdict verdict ≡ or_difference a b (first_unequal_bundle a b))
-      v is h ∙ sym (at_same_goods a b e)
+  or_found found v is h = search (rules, MatchOption-at_some, at_same_goods)
 
   pub xor_found : {E : Type 0} (found : Option Verdict) → found ≡ None
       → MatchOption found (first_unequal_bundle a b ≡ None) (λ verdict. plain_verdict verdict ≡ or_difference a b (first_unequal_bundle a b))
       → (r : Result Verdict E) → IfOk r (λ verdict. plain_verdict verdict ≡ xor_difference a b (least_unequal_bidder a b))
       → IfOk r (λ verdict. plain_verdict verdict ≡ first_difference a b)
-  xor_found found is h r k =
-      let none = MatchOption-at_none (first_unequal_bundle a b ≡ None) (λ verdict. plain_verdict verdict ≡ or_difference a b (first_unequal_bundle a b)) is h in
-      IfOk-weaker r (λ verdict. plain_verdict verdict ≡ xor_difference a b (least_unequal_bidder a b)) (λ verdict. plain_verdict verdict ≡ first_difference a b)
-      (λ verdict d. d ∙ sym (ap (or_difference a b) none) ∙ sym (at_same_goods a b e)) k
+  xor_found found is h r k = search (rules, MatchOption-at_none, IfOk-weaker, at_same_goods)
 
   -- memory is needed for the goods of the difference alone
   pub or_named : NamesGoods (or_difference a b (first_unequal_bundle a b)) → NamesGoods (first_difference a b)
@@ -221,6 +215,4 @@ module _ (a b : PlainAuction) (e : a.goods ≡ b.goods) where
   pub xor_named : {E : Type 0} (found : Option Verdict) → found ≡ None
       → MatchOption found (first_unequal_bundle a b ≡ None) (λ verdict. plain_verdict verdict ≡ or_difference a b (first_unequal_bundle a b))
       → (r : Result Verdict E) → OnErr r (NamesGoods (xor_difference a b (least_unequal_bidder a b))) → OnErr r (NamesGoods (first_difference a b))
-  xor_named found is h r k =
-      let none = MatchOption-at_none (first_unequal_bundle a b ≡ None) (λ verdict. plain_verdict verdict ≡ or_difference a b (first_unequal_bundle a b)) is h in
-      subst (λ (d : Difference). OnErr r (NamesGoods d)) (sym (at_same_goods a b e ∙ ap (or_difference a b) none)) k
+  xor_named found is h r k = search (rules, MatchOption-at_none, at_same_goods)

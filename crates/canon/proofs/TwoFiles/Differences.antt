@@ -1,10 +1,10 @@
 -- Laws of the first difference. Exchanging the auctions exchanges its sides; there is none exactly between auctions that are the same;
 -- and where it is a bundle or a bidder, it is a point of one of them, or counted unequally by tables: each case by case over its parts.
-use Rattle.std.proofs.Common.{◌≡◌, ℕ, ◌<◌, true, false, eqb, cond, ⊎_elim, List, refl, sym, ap, ap₂, ◌∙◌, subst, arith, Option, Some, None}
+use Rattle.std.proofs.Common.{◌≡◌, ℕ, ◌<◌, true, eqb, cond, ⊎_elim, List, refl, sym, ap, ap₂, ◌∙◌, subst, arith, Option, Some, None}
 use Rattle.std.specs.Prelude.{All, ◌↔◌}
 use Rattle.std.specs.List.{find, count_by}
 use Rattle.std.specs.Ordering.{is_eq}
-use Rattle.std.proofs.lemmas.Bool.{cases_Bool, eqb-true, eq-eqb, ne_eqb, eqb-false, not_from_true, cond-true, cond-false}
+use Rattle.std.proofs.lemmas.Bool.{eqb-true, eq-eqb, ne_eqb, eqb-false, not_from_true, cond-true, cond-false}
 use Rattle.goods_set.specs.Bundles.{all_bundles}
 use Rattle.valuation.specs.declared.atom.Atom.{Atom}
 use Rattle.valuation.specs.Auctions.{PlainAuction, IsAtom}
@@ -27,6 +27,8 @@ use Rattle.canon.proofs.CanonicalAuctions.Counting.{IsPointsOf, occurring, point
 use Rattle.canon.proofs.CanonicalAuctions.Sames.{same_canonical, same_from_canonical}
 use Rattle.canon.specs.Lemmas.OrDifferences.{are_unequal, equal_from_test, unequal_swap, IsFirstUnequal, first_unequal, greater_is_point}
 use Rattle.canon.specs.Lemmas.BidderDifferences.{least_uneven, least_uneven_swap, all_even, none_of_same, IsLeastUneven, least_uneven_is}
+use Rattle.std.proofs.lemmas.Grind.{common_steps}
+use Rattle.std.proofs.Common.{rules}
 
 -- ---- exchanging
 
@@ -52,16 +54,7 @@ pub at_other_goods : (a b : PlainAuction) → (a.goods ≡ b.goods → ⊥) → 
 at_other_goods a b n = cond-false (eqb a.goods b.goods) (or_difference a b (first_unequal_bundle a b)) (InGoods a.goods b.goods) (ne_eqb a.goods b.goods n)
 
 pub differences_swap : (a b : PlainAuction) → first_difference b a ≡ exchanged (first_difference a b)
-differences_swap a b =
-    ⊎_elim
-    (λ (t : eqb a.goods b.goods ≡ true).
-    let e = eqb-true a.goods b.goods t in
-    at_same_goods b a (sym e) ∙ ap (or_difference b a) (unequal_bundle_swap a b e) ∙ or_swap a b (first_unequal_bundle a b)
-    ∙ sym (ap exchanged (at_same_goods a b e)))
-    (λ (t : eqb a.goods b.goods ≡ false).
-    let n = eqb-false a.goods b.goods t in
-    at_other_goods b a (λ d. n (sym d)) ∙ sym (ap exchanged (at_other_goods a b n)))
-    (cases_Bool (eqb a.goods b.goods))
+differences_swap a b = grind (arith, common_steps, eqb-true, at_same_goods, unequal_bundle_swap, or_swap, eqb-false, at_other_goods)
 
 -- ---- the same auction
 
@@ -87,16 +80,10 @@ same_from_none a b h k e values counts =
         (λ bundle c. equal_from_test a.or_atoms b.or_atoms bundle (found_none (are_unequal a.or_atoms b.or_atoms) (all_bundles a.goods) values bundle c)))
 
     points : or_points a.goods a.or_atoms ≡ or_points b.goods b.or_atoms
-    points =
-        let there : All (IsAtom a.goods) b.or_atoms = subst (λ n. All (IsAtom n) b.or_atoms) (sym e) k.or_atoms in
-        (same_or_points a.goods a.or_atoms b.or_atoms (on_bundles a.goods a.or_atoms h.or_atoms) (on_bundles a.goods b.or_atoms there)).0 tables
-        ∙ ap (λ (n : ℕ). or_points n b.or_atoms) e
+    points = search (rules, same_or_points, on_bundles, tables)
 
     all : (canonical_auction a).xor_bidders ≡ (canonical_auction b).xor_bidders
-    all = ordered_from_counts bidder_cmp bidder_cmp_total bidder_cmp_equal (canonical_auction a).xor_bidders (canonical_auction b).xor_bidders
-        (ordered-sort_by bidder_cmp bidder_cmp_total (points_of_bidders a.goods a.xor_bidders))
-        (ordered-sort_by bidder_cmp bidder_cmp_total (points_of_bidders b.goods b.xor_bidders))
-        (all_even bidder_cmp bidder_cmp_total bidder_cmp_equal (canonical_auction a).xor_bidders (canonical_auction b).xor_bidders counts)
+    all = search (rules, ordered_from_counts, bidder_cmp_total, bidder_cmp_equal, ordered-sort_by, all_even)
 
 same_from_bidder : (a b : PlainAuction) → HasAtoms a → HasAtoms b → a.goods ≡ b.goods → first_unequal_bundle a b ≡ None → (o : Option (List (Atom (List ℕ))))
     → least_unequal_bidder a b ≡ o → xor_difference a b o ≡ NoDifference → IsSameAuction a b
@@ -109,15 +96,7 @@ same_from_bundle a b h k e None f d = same_from_bidder a b h k e f (least_unequa
 same_from_bundle a b h k e (Some bundle) f d = absurd (cc)
 
 pub same_from_no_difference : (a b : PlainAuction) → HasAtoms a → HasAtoms b → first_difference a b ≡ NoDifference → IsSameAuction a b
-same_from_no_difference a b h k d =
-    ⊎_elim
-    (λ (t : eqb a.goods b.goods ≡ true).
-    let e = eqb-true a.goods b.goods t in
-    same_from_bundle a b h k e (first_unequal_bundle a b) refl (sym (at_same_goods a b e) ∙ d))
-    (λ (t : eqb a.goods b.goods ≡ false).
-    let f : InGoods a.goods b.goods ≡ NoDifference = sym (at_other_goods a b (eqb-false a.goods b.goods t)) ∙ d in
-    absurd (cc))
-    (cases_Bool (eqb a.goods b.goods))
+same_from_no_difference a b h k d = grind (arith, common_steps, eqb-true, same_from_bundle, at_same_goods, at_other_goods, eqb-false)
 
 pub no_difference_from_same : (a b : PlainAuction) → HasAtoms a → HasAtoms b → IsSameAuction a b → first_difference a b ≡ NoDifference
 no_difference_from_same a b h k s =

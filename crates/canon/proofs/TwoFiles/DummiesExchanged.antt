@@ -13,7 +13,7 @@ use Rattle.std.proofs.lemmas.List.Sorted.{All-permutation, IsPermutation-map, Is
 use Rattle.std.proofs.lemmas.Map.Keys.{IsDistinct-IsPermutation}
 use Rattle.std.proofs.lemmas.Map.Made.{AllPairs-from_IsDistinct, IsDistinct-from_AllPairs}
 use Rattle.std.proofs.lemmas.Simd.{map-map}
-use Rattle.bid_file.specs.Files.{IsBid, IsDummyBelow, IsPlainFile, PlainBid, PlainFile}
+use Rattle.bid_file.specs.Files.{IsDummyBelow, IsPlainFile, PlainBid, PlainFile}
 use Rattle.valuation.specs.declared.atom.Atom.{Atom}
 use Rattle.valuation.specs.Auctions.{IsAtom, atom_of, auction_from, is_dummy, or_atoms_of, xor_atoms_of}
 use Rattle.prune.specs.Lemmas.Lists.{All-from_Contains, filter_same_on, map-filter, map_same_on}
@@ -26,6 +26,7 @@ use Rattle.canon.specs.Unsearched.{AreAlike}
 use Rattle.canon.proofs.CanonicalAuctions.Sames.{same_bidders}
 use Rattle.canon.proofs.CanonicalFiles.Texts.{HasAtoms-file}
 use Rattle.canon.specs.Lemmas.OrDifferences.{eqb_swap}
+use Rattle.std.proofs.Common.{rules}
 
 -- the bids that pass a test after the exchange offer what those offer that pass another one before it
 offers_named : (dummies : List ℕ) (p q : PlainBid → Bool) (bids : List PlainBid) → All (λ b. p (named_bid dummies b) ≡ q b) bids
@@ -75,14 +76,10 @@ module _ (f : PlainFile) (dummies : List ℕ) (facts : IsPlainFile f) (moved : I
       (λ t. eq-eqb (named e) (named d) (ap named (eqb-true e d t)))
 
   dummies_below : All (λ b. IsDummyBelow f.dummy b.dummy) f.bids
-  dummies_below =
-      let each : All (IsBid f.goods f.dummy) f.bids = All-from_recursion (IsBid f.goods f.dummy) f.bids facts.each in
-      λ k b m. (each k b m).dummy
+  dummies_below = search (rules, All-from_recursion)
 
   bidder_named : (d : ℕ) → d < f.dummy → xor_atoms_of new (named d) ≡ xor_atoms_of f.bids d
-  bidder_named d l =
-      offers_named dummies (λ b. is_dummy (named d) b.dummy) (λ b. is_dummy d b.dummy) f.bids
-      (λ k b m. still_dummy d l _ (dummies_below k b m))
+  bidder_named d l = search (rules, offers_named, still_dummy, dummies_below)
 
   or_atoms_named : or_atoms_of new ≡ or_atoms_of f.bids
   or_atoms_named = offers_named dummies (λ b. is_none b.dummy) (λ b. is_none b.dummy) f.bids (λ k b m. still_none dummies _)

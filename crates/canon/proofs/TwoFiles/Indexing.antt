@@ -5,11 +5,8 @@ use Rattle.std.proofs.Common.{Option}
 use Rattle.std.proofs.Common.{Some, None, slice_get, refl, sym, ap, ◌∙◌, subst, inl, inr, ⊎_elim, arith, length-append, Global}
 use Rattle.std.specs.Prelude.{◌↔◌, Vec, Result, Ok, Err, IfOk, IfErr, OnOk, OnErr, IsErrAnd}
 use Rattle.std.specs.Io.KnownBytes.{Consumes}
-use Rattle.std.specs.BTreeMap.{BTreeMap, UpdatesBy}
-use Rattle.std.specs.Cmp.Lexicographic.{bytes_decides, slice_cmp}
-use Rattle.std.specs.Ordering.{is_eq, nat_cmp}
-use Rattle.std.specs.declared.cmp.Ordering.{Ordering}
-use Rattle.std.specs.Map.{IsKeyTest, AreApart, KeepsOthers, lookup}
+use Rattle.std.specs.Cmp.Lexicographic.{bytes_decides}
+use Rattle.std.specs.Map.{lookup}
 use Rattle.std.proofs.lemmas.Bool.{cases_Bool, cond-true, cond-false}
 use Rattle.std.proofs.lemmas.Cmp.{nat_list_eq_equiv}
 use Rattle.std.proofs.lemmas.List.Quantifiers.{position-Some}
@@ -26,10 +23,11 @@ use Rattle.canon.specs.FirstNumbers.{text_number}
 use Rattle.canon.specs.Normalising.{IsText, normalised_file}
 use Rattle.canon.specs.Sameness.{AreSameFiles}
 use Rattle.canon.specs.declared.canon_fault.CanonFault.{CanonFault}
-use Rattle.canon.specs.Internal.TextNumbers.{number_of}
 use Rattle.canon.proofs.CanonicalFiles.Texts.{same_text, same_from_text}
 use Rattle.cats_text.specs.declared.read_fault.ReadFault.{ReadFault}
 use Rattle.canon.specs.Refusals.{refusal_of}
+use Rattle.canon.specs.Lemmas.TextMaps.{same_order}
+use Rattle.std.proofs.Common.{rules}
 
 -- ---- a list with one more element
 
@@ -127,17 +125,10 @@ module _ (text_of : PlainFile → List ℕ) (old new : TextIndex) (number : ℕ)
   first = first_text text_of files f (text_number old (text_of f)) old.count number h.count added.found (h.texts (text_of f))
 
   put : (text : List ℕ) → bytes_eq (text_of f) text ≡ true → NumbersText text_of (files ++ f ∷ []) text (text_number new text)
-  put text equal =
-      let at : text_number new text ≡ Some number = added.numbers text ∙ cond-true (bytes_eq (text_of f) text) (Some number) (text_number old text) equal in
-      subst (λ (o : Option ℕ). NumbersText text_of (files ++ f ∷ []) text o) (sym at)
-      (subst (λ (t : List ℕ). IsFirstText text_of (files ++ f ∷ []) t number) ((bytes_decides (text_of f) text).0 equal) first)
+  put text equal = search (rules, cond-true, first)
 
   kept : (text : List ℕ) → bytes_eq (text_of f) text ≡ false → NumbersText text_of (files ++ f ∷ []) text (text_number new text)
-  kept text apart =
-      let at : text_number new text ≡ text_number old text = added.numbers text
-      ∙ cond-false (bytes_eq (text_of f) text) (Some number) (text_number old text) apart in
-      subst (λ (o : Option ℕ). NumbersText text_of (files ++ f ∷ []) text o) (sym at)
-      (stays_placed text_of files f text apart (text_number old text) (h.texts text))
+  kept text apart = search (rules, cond-false, stays_placed)
 
   -- one more file
   pub index_of_more : IsIndexOf text_of new (files ++ f ∷ [])
@@ -160,31 +151,6 @@ module _ (text_of : PlainFile → List ℕ) (old new : TextIndex) (number : ℕ)
 
 -- ---- the map
 
--- whether two texts are equal, by their order
-abbrev same_order : List ℕ → List ℕ → Bool
-same_order one other = is_eq (slice_cmp nat_cmp one other)
-
-abbrev key_cmp : Vec ℕ Global → Vec ℕ Global → Ordering
-key_cmp one other = slice_cmp nat_cmp one.items other.items
-
-abbrev key_eq : Vec ℕ Global → Vec ℕ Global → Bool
-key_eq one other = same_order one.items other.items
-
-other_entries : {X : Type 0} (test : Vec ℕ Global → Bool) (old new : List (Vec ℕ Global × X)) → KeepsOthers key_eq test old new → (other : Vec ℕ Global → Bool)
-    → IsKeyTest key_eq other → AreApart test other
-    → lookup other new ≡ lookup other old
-unfolding KeepsOthers
-other_entries test old new h = h
-
-same_test : (text one other : List ℕ) → same_order text one ≡ true → same_order text other ≡ same_order one other
-same_test text one other e =
-    is_eq-slice_cmp text other ∙ nat_list_eq_equiv.congr text one other (sym (is_eq-slice_cmp text one) ∙ e) ∙ sym (is_eq-slice_cmp one other)
-
-apart_texts : (one other key : List ℕ) → bytes_eq one other ≡ false → same_order one key ≡ true → same_order other key ≡ false
-apart_texts one other key n e =
-    let y : bytes_eq one key ≡ true = sym (is_eq-slice_cmp one key) ∙ e in
-    is_eq-slice_cmp other key ∙ nat_list_eq_equiv.symm other key ∙ sym (nat_list_eq_equiv.congr one key other y) ∙ n
-
 pub bytes_eq_sym : (one other : List ℕ) → bytes_eq one other ≡ bytes_eq other one
 bytes_eq_sym one other = nat_list_eq_equiv.symm one other
 
@@ -206,28 +172,7 @@ pub added_text : (old new : List (Vec ℕ Global × ℕ)) (m k : ℕ) (text cano
     → ((other : List ℕ) → lookup (λ key. same_order other key.items) new
     ≡ cond (bytes_eq text other) (Some number) (lookup (λ key. same_order other key.items) old))
     → k ≡ m + 1 → AddsText (record { texts = seen_texts old; count = m }) (record { texts = seen_texts new; count = k }) canonical number
-added_text old new m k text canonical number is answer placed more =
-    subst (λ (t : List ℕ). AddsText (record { texts = seen_texts old; count = m }) (record { texts = seen_texts new; count = k }) t number) is
-    (record {
-      found = answer ∙ ap (λ (o : Option ℕ). unwrap_or o m) (sym (number_seen old text));
-      numbers = λ other. number_seen new other ∙ placed other
-          ∙ ap (λ (o : Option ℕ). cond (bytes_eq text other) (Some number) o) (sym (number_seen old other));
-      count = more;
-    })
-
--- what a map has for a text, after one was put there
-pub updated : (old new : BTreeMap (Vec ℕ Global) ℕ) (text : List ℕ) (number : ℕ)
-    → UpdatesBy key_cmp (λ key. slice_cmp nat_cmp text key.items) old new (Some number)
-    → (other : List ℕ) → number_of new other ≡ cond (bytes_eq text other) (Some number) (number_of old other)
-updated old new text number h other =
-    ⊎_elim
-    (λ (y : bytes_eq text other ≡ true). subst (λ (t : List ℕ). number_of new t ≡ Some number) ((bytes_decides text other).0 y) h.1
-    ∙ sym (cond-true (bytes_eq text other) (Some number) (number_of old other) y))
-    (λ (n : bytes_eq text other ≡ false).
-    other_entries (λ key. same_order text key.items) old.entries new.entries h.3 (λ key. same_order other key.items)
-    (λ x y. same_test other x.items y.items) (λ key. apart_texts text other key.items n)
-    ∙ sym (cond-false (bytes_eq text other) (Some number) (number_of old other) n))
-    (cases_Bool (bytes_eq text other))
+added_text old new m k text canonical number is answer placed more = search (rules, seen_texts, number_seen)
 
 -- ---- a file that was read first
 

@@ -1,14 +1,13 @@
 -- The first difference depends on the values of the auctions alone, so it is the same of canonical files.
-use Rattle.std.proofs.Common.{◌≡◌, ℕ, Bool, true, false, not, eqb, cond, ⊎_elim, List, refl, sym, ap, ap₂, ◌∙◌, subst, Option, Some, None}
-use Rattle.std.specs.Prelude.{All, Contains}
-use Rattle.std.specs.Cmp.{both_ways as same_test}
+use Rattle.std.proofs.Common.{◌≡◌, ℕ, Bool, true, not, eqb, cond, List, refl, sym, ap, ap₂, ◌∙◌, subst, Option, Some, None}
+use Rattle.std.specs.Prelude.{Contains}
 use Rattle.std.specs.List.{find}
-use Rattle.std.proofs.lemmas.Bool.{cases_Bool, eqb-true, eqb-false}
+use Rattle.std.proofs.lemmas.Bool.{eqb-true, eqb-false}
 use Rattle.goods_set.specs.Bundles.{IsBundle, all_bundles}
 use Rattle.goods_set.specs.Lemmas.AllBundles.{all_bundles_has}
 use Rattle.bid_file.specs.Files.{PlainFile, IsPlainFile}
 use Rattle.valuation.specs.declared.atom.Atom.{Atom}
-use Rattle.valuation.specs.Auctions.{PlainAuction, IsAtom, auction_from}
+use Rattle.valuation.specs.Auctions.{PlainAuction, auction_from}
 use Rattle.valuation.specs.Orders.{bidder_cmp}
 use Rattle.valuation.specs.Lemmas.Orders.{bidder_cmp_total, bidder_cmp_equal}
 use Rattle.valuation.specs.Sorting.{count_of}
@@ -20,7 +19,7 @@ use Rattle.prune.specs.Points.{is_or_point, or_points}
 use Rattle.prune.specs.Lemmas.Tables.{same_or_points}
 use Rattle.prune.specs.Lemmas.KeptBids.{on_bundles}
 use Rattle.canon.specs.Canonical.{canonical_auction}
-use Rattle.canon.specs.Difference.{Difference, NoDifference, InGoods, InOr, InXor, first_difference, first_unequal_bundle, least_unequal_bidder, or_difference}
+use Rattle.canon.specs.Difference.{Difference, NoDifference, InOr, InXor, first_difference, first_unequal_bundle, least_unequal_bidder, or_difference}
 use Rattle.canon.specs.Difference.{xor_difference}
 use Rattle.canon.specs.Sameness.{IsSameAuction, AreSameFiles}
 use Rattle.canon.specs.declared.verdict.Side.{Side}
@@ -31,6 +30,9 @@ use Rattle.canon.proofs.TwoFiles.Differences.{at_same_goods, at_other_goods, une
 use Rattle.canon.specs.Lemmas.OrDifferences.{are_unequal}
 use Rattle.canon.proofs.CanonicalAuctions.Sames.{same_canonical}
 use Rattle.canon.proofs.CanonicalFiles.Texts.{HasAtoms-file}
+use Rattle.std.proofs.lemmas.Grind.{common_steps}
+use Rattle.std.proofs.Common.{arith}
+use Rattle.std.proofs.Common.{rules}
 
 -- ---- the XOR bidders
 
@@ -49,10 +51,7 @@ is_from_counts a b (Some bidder) = refl
 
 xor_difference_same : (a a2 b b2 : PlainAuction) → canonical_auction a ≡ canonical_auction a2 → canonical_auction b ≡ canonical_auction b2
     → xor_difference a b (least_unequal_bidder a b) ≡ xor_difference a2 b2 (least_unequal_bidder a2 b2)
-xor_difference_same a a2 b b2 e f =
-    is_from_counts a b (least_unequal_bidder a b)
-    ∙ ap₂ (λ (c d : PlainAuction). from_bidders c.xor_bidders d.xor_bidders) e f
-    ∙ sym (is_from_counts a2 b2 (least_unequal_bidder a2 b2))
+xor_difference_same a a2 b b2 e f = search (rules, is_from_counts)
 
 -- ---- the OR bidder, over the same goods
 
@@ -75,9 +74,7 @@ module _ (goods : ℕ) where
 
   is_point_alike : (one other : List (Atom (List ℕ))) → AreAlike one other → (bundle : List ℕ) → IsBundle goods bundle
       → is_or_point goods one bundle ≡ is_or_point goods other bundle
-  is_point_alike one other k bundle b =
-      same_test (is_or_point goods one bundle) (is_or_point goods other bundle) (point_alike one other k.points bundle b)
-      (point_alike other one (sym k.points) bundle b)
+  is_point_alike one other k bundle b = search (rules, point_alike)
 
   found_alike : (one one2 other other2 : List (Atom (List ℕ))) → AreAlike one one2 → AreAlike other other2 → find (are_unequal one other) (all_bundles goods)
       ≡ find (are_unequal one2 other2) (all_bundles goods)
@@ -91,15 +88,7 @@ module _ (goods : ℕ) where
 
 -- the auctions' own statements of it
 alike_from_same : (goods : ℕ) (a a2 : PlainAuction) → HasAtoms a → HasAtoms a2 → IsSameAuction a a2 → a.goods ≡ goods → AreAlike goods a.or_atoms a2.or_atoms
-alike_from_same goods a a2 h h2 s e =
-    let e2 : a2.goods ≡ goods = sym s.goods ∙ e in
-    let atoms : All (IsAtom goods) a.or_atoms = subst (λ n. All (IsAtom n) a.or_atoms) e h.or_atoms in
-    let atoms2 : All (IsAtom goods) a2.or_atoms = subst (λ n. All (IsAtom n) a2.or_atoms) e2 h2.or_atoms in
-    let tables : or_table a.or_atoms goods ≡ or_table a2.or_atoms goods = sym (ap (or_table a.or_atoms) e) ∙ s.or_values ∙ ap (or_table a2.or_atoms) e2 in
-    record {
-      table = tables;
-      points = (same_or_points goods a.or_atoms a2.or_atoms (on_bundles goods a.or_atoms atoms) (on_bundles goods a2.or_atoms atoms2)).0 tables;
-    }
+alike_from_same goods a a2 h h2 s e = search (rules, same_or_points, on_bundles)
 
 -- ---- both
 
@@ -145,16 +134,9 @@ module _ (a a2 b b2 : PlainAuction) (h : HasAtoms a) (h2 : HasAtoms a2) (k : Has
         at_same_goods a b e ∙ or_difference_same (first_unequal_bundle a b) refl ∙ ap (or_difference a2 b2) bundle_same ∙ sym (at_same_goods a2 b2 e2)
 
   pub difference_same : first_difference a b ≡ first_difference a2 b2
-  difference_same =
-      ⊎_elim (λ (p : eqb a.goods b.goods ≡ true). same_goods_difference (eqb-true a.goods b.goods p))
-      (λ (p : eqb a.goods b.goods ≡ false).
-      let n = eqb-false a.goods b.goods p in
-      at_other_goods a b n ∙ ap₂ InGoods s.goods t.goods ∙ sym (at_other_goods a2 b2 (λ d. n (s.goods ∙ d ∙ sym t.goods))))
-      (cases_Bool (eqb a.goods b.goods))
+  difference_same = grind (arith, common_steps, same_goods_difference, eqb-true, eqb-false, at_other_goods)
 
 -- so files of the same auctions have it
 pub difference_of_same_files : (f f2 g g2 : PlainFile) → IsPlainFile f → IsPlainFile f2 → IsPlainFile g → IsPlainFile g2 → AreSameFiles f f2 → AreSameFiles g g2
     → first_difference (auction_from f) (auction_from g) ≡ first_difference (auction_from f2) (auction_from g2)
-difference_of_same_files f f2 g g2 h h2 k k2 s t =
-    difference_same (auction_from f) (auction_from f2) (auction_from g) (auction_from g2) (HasAtoms-file f h) (HasAtoms-file f2 h2) (HasAtoms-file g k)
-    (HasAtoms-file g2 k2) s t
+difference_of_same_files f f2 g g2 h h2 k k2 s t = search (rules, difference_same, HasAtoms-file)

@@ -13,15 +13,14 @@ use Rattle.valuation.specs.Orders.{atom_cmp, bidder_cmp}
 use Rattle.canon.specs.Bidders.{offers}
 use Rattle.canon.specs.Verdicts.{printed_atoms}
 use Rattle.canon.proofs.Walks.BidRuns.{drop_at}
+use Rattle.std.proofs.Common.{rules}
 
 pub length-offers : (bids : List PlainBid) → length (offers bids) ≡ length bids
 length-offers bids = length-map bids atom_of
 
 -- what the bid at an index offers, and those behind it
 offers-drop : (bids : List PlainBid) (i : ℕ) (b : PlainBid) → slice_get bids i ≡ Some b → drop i (offers bids) ≡ atom_of b ∷ drop (i + 1) (offers bids)
-offers-drop bids i b e =
-    drop-map atom_of i bids ∙ ap offers (drop_at bids i b e)
-    ∙ ap (λ (zs : List (Atom (List ℕ))). atom_of b ∷ zs) (sym (drop-map atom_of (i + 1) bids))
+offers-drop bids i b e = search (rules, drop-map, drop_at)
 
 -- what the bids from an index on answer, by the two at it
 pub bidder_cmp-drop : (one other : List PlainBid) (i : ℕ) (x y : PlainBid) → slice_get one i ≡ Some x → slice_get other i ≡ Some y

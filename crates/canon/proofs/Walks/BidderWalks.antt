@@ -28,6 +28,8 @@ use Rattle.canon.specs.Canonical.{bid_from, dummy_bids, canonical_auction, point
 use Rattle.canon.specs.Difference.{InXor, least_unequal_bidder, xor_difference}
 use Rattle.canon.specs.Lemmas.BidderDifferences.{least_uneven, least_uneven_swap, none_of_same, behind, parts_at_left}
 use Rattle.canon.proofs.CanonicalAuctions.Counting.{points_more, points_without}
+use Rattle.std.proofs.lemmas.Grind.{common_steps}
+use Rattle.std.proofs.Common.{rules}
 
 -- ---- the first bidder
 
@@ -146,17 +148,12 @@ one_more_counted bidder bidders copies more bids first f e h =
       dummy = h.dummy + 1;
       later = next.later;
       rest = next.rest;
-      counted =
-          let all = ap (count_of bidder_cmp bidder) next.are in
-          let here = sum_by-cons (λ b. cond {A = ℕ} (is_eq (bidder_cmp bidder b)) 1 0) (offers first) next.later in
-          omega (arith, h.counted);
+      counted = grind (arith, common_steps, sum_by-cons);
     }
 
 pub all_counted : (bidder : List (Atom (List ℕ))) (bidders : List (List (Atom (List ℕ)))) (copies : ℕ) (bids : List PlainBid) → length bids ≡ 0
     → IsCounted bidder bidders copies bids → copies ≡ count_of bidder_cmp bidder bidders
-all_counted bidder bidders copies bids e h =
-    let none : count_of bidder_cmp bidder h.later ≡ 0 = ap (count_of bidder_cmp bidder) (no_bidder h.dummy h.later bids h.rest e) in
-    omega (arith, h.counted)
+all_counted bidder bidders copies bids e h = grind (arith, common_steps, no_bidder)
 
 -- ---- two walks side by side
 
@@ -216,10 +213,7 @@ module _ (xs ys : List (List (Atom (List ℕ)))) where
     over : (shared one other : List (List (Atom (List ℕ)))) → xs ≡ shared ++ one → ys ≡ shared ++ other → (found : Option (List (Atom (List ℕ))))
         → (IsOrdered bidder_cmp one → IsOrdered bidder_cmp other → least_uneven bidder_cmp bidder_cmp_total bidder_cmp_equal (shared ++ one) (shared ++ other)
         ≡ found) → least_of_both ≡ found
-    over shared one other e f found h =
-        ap₂ (least_uneven bidder_cmp bidder_cmp_total bidder_cmp_equal) e f
-        ∙ h (ordered_behind shared one (subst (IsOrdered bidder_cmp) e left_ordered))
-        (ordered_behind shared other (subst (IsOrdered bidder_cmp) f right_ordered))
+    over shared one other e f found h = search (rules, bidder_cmp_total, bidder_cmp_equal, ordered_behind)
 
     -- the left one has the lesser bidder next
     pub parts_left : (left right one other : List PlainBid) → AreAlike left right → IsFirstBidder left one → IsFirstBidder right other
@@ -245,11 +239,7 @@ module _ (xs ys : List (List (Atom (List ℕ)))) where
 
     -- neither goes on
     pub neither : (left right : List PlainBid) → AreAlike left right → length left ≡ 0 → length right ≡ 0 → least_of_both ≡ None
-    neither left right h e f =
-        over h.shared [] []
-        (h.left_all ∙ ap (λ (zs : List (List (Atom (List ℕ)))). h.shared ++ zs) (no_bidder h.dummy h.left_later left h.left_rest e)) (h.right_all
-        ∙ ap (λ (zs : List (List (Atom (List ℕ)))). h.shared ++ zs) (no_bidder h.dummy h.right_later right h.right_rest f)) None
-        (λ s t. none_of_same bidder_cmp bidder_cmp_total bidder_cmp_equal (h.shared ++ []))
+    neither left right h e f = search (rules, over, no_bidder, none_of_same, bidder_cmp_total, bidder_cmp_equal)
 
 -- the same walks with the sides exchanged
 alike_swap : (xs ys : List (List (Atom (List ℕ)))) (left right : List PlainBid) → AreAlike xs ys left right → AreAlike ys xs right left
@@ -324,18 +314,14 @@ module _ (a b : PlainAuction) (all others : List PlainBid) (h : HasBidders a all
 
     pub least_right : (one other : List PlainBid) → IsFirstBidder left one → IsFirstBidder right other → bidder_cmp (offers one) (offers other) ≡ Greater
         → least_unequal_bidder a b ≡ Some (offers other)
-    least_right one other f g l =
-        swapped ∙ parts_left b.xor_bidders a.xor_bidders (ordered_of_canonical b others k) (ordered_of_canonical a all h) right left other one
-        (alike_swap a.xor_bidders b.xor_bidders left right w) g f (reversed (offers one) (offers other) l)
+    least_right one other f g l = search (rules, swapped, parts_left, ordered_of_canonical, alike_swap, reversed)
 
     pub least_only_left : (one : List PlainBid) → IsFirstBidder left one → length right ≡ 0 → least_unequal_bidder a b ≡ Some (offers one)
     least_only_left one f e = least_in_canonical ∙ only_left a.xor_bidders b.xor_bidders (ordered_of_canonical a all h)
         (ordered_of_canonical b others k) left right one w f e
 
     pub least_only_right : (other : List PlainBid) → length left ≡ 0 → IsFirstBidder right other → least_unequal_bidder a b ≡ Some (offers other)
-    least_only_right other e g =
-        swapped ∙ only_left b.xor_bidders a.xor_bidders (ordered_of_canonical b others k) (ordered_of_canonical a all h) right left other
-        (alike_swap a.xor_bidders b.xor_bidders left right w) g e
+    least_only_right other e g = search (rules, swapped, only_left, ordered_of_canonical, alike_swap)
 
     pub no_least : length left ≡ 0 → length right ≡ 0 → least_unequal_bidder a b ≡ None
     no_least e f = least_in_canonical ∙ neither a.xor_bidders b.xor_bidders (ordered_of_canonical a all h) (ordered_of_canonical b others k) left right
@@ -356,7 +342,4 @@ module _ (a b : PlainAuction) (all others : List PlainBid) (h : HasBidders a all
   pub numbers_named : (named bidder : List (Atom (List ℕ))) (one other : ℕ) → named ≡ bidder → one ≡ count_of bidder_cmp bidder a.xor_bidders
       → other ≡ count_of bidder_cmp bidder b.xor_bidders → least_unequal_bidder a b ≡ Some bidder
       → InXor named one other ≡ xor_difference a b (least_unequal_bidder a b)
-  numbers_named named bidder one other e f g least =
-      ap (λ (x : List (Atom (List ℕ))). InXor x one other) e
-      ∙ ap₂ (λ (m n : ℕ). InXor bidder m n) (f ∙ copies_in_canonical a all h bidder) (g ∙ copies_in_canonical b others k bidder)
-      ∙ sym (ap (xor_difference a b) least)
+  numbers_named named bidder one other e f g least = search (rules, copies_in_canonical)

@@ -1,11 +1,12 @@
 -- The bids of XOR bidders, split bidder by bidder: those that are split, with the bidders of the rest behind them, are all bidders.
-use Rattle.std.proofs.Common.{◌≡◌, ℕ, ◌+◌, List, [], ◌∷◌, ◌++◌, length, map, drop, append_assoc, sym, ap, ◌∙◌}
+use Rattle.std.proofs.Common.{◌≡◌, ℕ, ◌+◌, List, [], ◌∷◌, ◌++◌, length, map, drop, append_assoc}
 use Rattle.std.proofs.lemmas.List.{append-nil, map-append}
 use Rattle.bid_file.specs.Files.{PlainBid}
 use Rattle.valuation.specs.declared.atom.Atom.{Atom}
 use Rattle.canon.specs.Bidders.{offers}
 use Rattle.canon.specs.Internal.BidderBids.{AreBidsOf, IsFirstBidder}
 use Rattle.canon.proofs.Walks.BidderWalks.{next_bidder, no_bidder}
+use Rattle.std.proofs.Common.{rules}
 
 pub record AreSplit (bidders : List (List (Atom (List ℕ)))) (split : List (List PlainBid)) (bids : List PlainBid) : Type 0 where
   pub dummy : ℕ
@@ -21,13 +22,9 @@ one_more_split bidders split bids first f h =
       dummy = h.dummy + 1;
       later = next.later;
       rest = next.rest;
-      all = ap (λ (xs : List (List (Atom (List ℕ)))). xs ++ next.later) (map-append offers split (first ∷ []))
-          ∙ append_assoc (map offers split) (offers first ∷ []) next.later
-          ∙ ap (λ (xs : List (List (Atom (List ℕ)))). map offers split ++ xs) (sym next.are) ∙ h.all;
+      all = search (rules, map-append, append_assoc);
     }
 
 pub all_split : (bidders : List (List (Atom (List ℕ)))) (split : List (List PlainBid)) (bids : List PlainBid) → length bids ≡ 0
     → AreSplit bidders split bids → map offers split ≡ bidders
-all_split bidders split bids e h =
-    sym (append-nil (map offers split))
-    ∙ ap (λ (xs : List (List (Atom (List ℕ)))). map offers split ++ xs) (sym (no_bidder h.dummy h.later bids h.rest e)) ∙ h.all
+all_split bidders split bids e h = search (rules, append-nil, no_bidder)

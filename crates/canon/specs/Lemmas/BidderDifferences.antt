@@ -6,7 +6,7 @@ use Rattle.std.specs.Prelude.{Contains}
 use Rattle.std.specs.List.{find, AllByRecursion}
 use Rattle.std.specs.Ordering.{is_eq, is_gt}
 use Rattle.std.specs.Cmp.{IsTotalOrder}
-use Rattle.std.proofs.lemmas.Bool.{cases_Bool, both_ways, eqb-true, eq-eqb, ne_eqb, not_from_true, not_from_false}
+use Rattle.std.proofs.lemmas.Bool.{both_ways, eqb-true, eq-eqb, ne_eqb, not_from_true, not_from_false}
 use Rattle.std.proofs.lemmas.Cmp.{tied_itself}
 use Rattle.std.proofs.lemmas.List.Sums.{sum_by-cons, sum_by-append}
 use Rattle.valuation.specs.Sorting.{sort_by, count_of}
@@ -14,6 +14,7 @@ use Rattle.valuation.specs.Lemmas.Sorting.{sum_by-sort_by, ordered-sort_by, sort
 use Rattle.prune.specs.Lemmas.Lists.{zero_or_more, filter_same_on, find_alike, All-from_Contains, found_none}
 use Rattle.canon.specs.Lemmas.Finding.{find_least, found_least, counted_is_there}
 use Rattle.canon.specs.Lemmas.OrDifferences.{eqb_swap}
+use Rattle.std.proofs.lemmas.Grind.{common_steps}
 
 module _ {X : Type 0} (cmp : X → X → Ordering) where
   -- whether the lists do not have it equally often
@@ -27,11 +28,7 @@ module _ {X : Type 0} (cmp : X → X → Ordering) where
   even_test one other x e = not_from_true (eqb (count_of cmp x one) (count_of cmp x other)) (eq-eqb (count_of cmp x one) (count_of cmp x other) e)
 
   even_from_test : (one other : List X) (x : X) → is_uneven one other x ≡ false → count_of cmp x one ≡ count_of cmp x other
-  even_from_test one other x e =
-      ⊎_elim (λ (t : eqb (count_of cmp x one) (count_of cmp x other) ≡ true). eqb-true (count_of cmp x one) (count_of cmp x other) t)
-      (λ (t : eqb (count_of cmp x one) (count_of cmp x other) ≡ false). absurd
-      (both_ways (is_uneven one other x) e (not_from_false (eqb (count_of cmp x one) (count_of cmp x other)) t)))
-      (cases_Bool (eqb (count_of cmp x one) (count_of cmp x other)))
+  even_from_test one other x e = grind (arith, common_steps, eqb-true, not_from_false)
 
   pub count_of-append : (x : X) (xs ys : List X) → count_of cmp x (xs ++ ys) ≡ count_of cmp x xs + count_of cmp x ys
   count_of-append x xs ys = sum_by-append (λ y. cond {A = ℕ} (is_eq (cmp x y)) 1 0) xs ys
@@ -49,15 +46,7 @@ module _ {X : Type 0} (cmp : X → X → Ordering) (total : IsTotalOrder cmp) (e
 
   -- it does not matter which list comes first
   pub least_uneven_swap : (one other : List X) → least_uneven one other ≡ least_uneven other one
-  least_uneven_swap one other =
-      let lists : both_in_order one other ≡ both_in_order other one =
-      sort_by-same cmp total exact (one ++ other) (other ++ one) (λ x. let a = count_of-append cmp x one other in let b = count_of-append cmp x other one in
-      omega arith) in
-      find_alike (is_uneven cmp one other) (is_uneven cmp other one) (both_in_order one other) (both_in_order one other)
-      (filter_same_on (is_uneven cmp one other) (is_uneven cmp other one) (both_in_order one other)
-      (All-from_Contains (λ x. is_uneven cmp one other x ≡ is_uneven cmp other one x) (both_in_order one other)
-      (λ x c. ap not (eqb_swap (count_of cmp x one) (count_of cmp x other)))))
-      ∙ ap (find (is_uneven cmp other one)) lists
+  least_uneven_swap one other = grind (arith, common_steps, sort_by-same, count_of-append, find_alike, filter_same_on, All-from_Contains, eqb_swap)
 
   -- an element that either list has is among both
   there_in_both : (one other : List X) (x : X) → 0 < count_of cmp x one + count_of cmp x other → Contains (both_in_order one other) x

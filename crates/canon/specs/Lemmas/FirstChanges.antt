@@ -5,7 +5,7 @@ use Rattle.std.proofs.Common.{Some, None, Less, Bool}
 use Rattle.std.specs.Prelude.{All, Contains}
 use Rattle.std.specs.List.{filter, find}
 use Rattle.std.specs.Ordering.{is_eq}
-use Rattle.std.proofs.lemmas.Bool.{cases_Bool, cond-true, cond-false, eqb-true, eqb-false, false_from_ne_true}
+use Rattle.std.proofs.lemmas.Bool.{cases_Bool, cond-true, cond-false, eqb-true, eqb-false}
 use Rattle.std.proofs.lemmas.List.Elements.{All-contains, All-head}
 use Rattle.std.proofs.lemmas.List.Kept.{AllPairs-filter}
 use Rattle.goods_set.specs.Bundles.{IsRising, IsBundle, is_inside, all_bundles}
@@ -28,6 +28,8 @@ use Rattle.canon.specs.Lemmas.PriceChanges.{IsEarlier}
 use Rattle.canon.specs.PriceChanges.{PlainChange, price_on, IsPriceChange, ArePriceChanges}
 use Rattle.canon.specs.declared.verdict.Side.{Side}
 use Rattle.canon.specs.declared.verdict.Side.TheVariants.{Exactly, Below}
+use Rattle.std.proofs.lemmas.Grind.{common_steps}
+use Rattle.std.proofs.Common.{rules}
 
 -- ---- the price on a bundle
 
@@ -72,10 +74,7 @@ same_price_cases (Some m) (Some n) =
 module _ (one other : List (Atom (List ℕ))) (changes : List PlainChange) (are : ArePriceChanges one other changes) where
   -- a bundle without a change has one price
   same_price : (bundle : List ℕ) → (Contains (map (λ (c : PlainChange). c.bundle) changes) bundle → ⊥) → price_on one bundle ≡ price_on other bundle
-  same_price bundle none =
-      ⊎_elim (λ (e : price_on one bundle ≡ price_on other bundle). e)
-      (λ (n : price_on one bundle ≡ price_on other bundle → ⊥). absurd (none (are.all bundle n)))
-      (same_price_cases (price_on one bundle) (price_on other bundle))
+  same_price bundle none = grind (arith, common_steps, same_price_cases)
 
 pub same_bids : (one other : List (Atom (List ℕ))) → IsInOrder one → IsInOrder other → ArePriceChanges one other [] → one ≡ other
 same_bids one other s t are =
@@ -141,13 +140,7 @@ module _ (goods : ℕ) where
 
   no_point : (atoms : List (Atom (List ℕ))) → ArePoints goods atoms → (bundle : List ℕ) → IsBundle goods bundle → price_on atoms bundle ≡ None
       → is_or_point goods atoms bundle ≡ false
-  no_point atoms points bundle b none =
-      false_from_ne_true (is_or_point goods atoms bundle)
-      (λ t.
-      let some : price_on atoms bundle ≡ Some (or_value atoms bundle) =
-      price_of_bid atoms (in_order goods atoms points) _ (point_of goods atoms points bundle b t) in
-      let d : None ≡ Some (or_value atoms bundle) = sym none ∙ some in
-      cc)
+  no_point atoms points bundle b none = search (rules, price_of_bid, in_order, point_of)
 
   -- a bid on the bundle is a point, at its price
   point_on : (atoms : List (Atom (List ℕ))) → ArePoints goods atoms → (bundle : List ℕ) (price : ℕ) → price_on atoms bundle ≡ Some price

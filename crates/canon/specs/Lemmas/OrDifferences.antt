@@ -1,8 +1,8 @@
 -- The first bundle on which the OR values of two OR bidders differ.
-use Rattle.std.proofs.Common.{◌≡◌, ℕ, ◌+◌, ◌<◌, ◌≤◌, Bool, true, false, not, eqb, ⊎_elim, List, refl, sym, ap, subst, arith, Some, Less}
+use Rattle.std.proofs.Common.{◌≡◌, ℕ, ◌<◌, Bool, true, false, not, eqb, List, refl, sym, subst, arith, Some, Less}
 use Rattle.std.specs.Prelude.{All, Contains}
 use Rattle.std.specs.List.{find}
-use Rattle.std.proofs.lemmas.Bool.{cases_Bool, both_ways, eqb-true, eq-eqb, ne_eqb, not_from_true, not_from_false}
+use Rattle.std.proofs.lemmas.Bool.{both_ways, eqb-true, eq-eqb, ne_eqb, not_from_true, not_from_false}
 use Rattle.std.proofs.lemmas.List.Elements.{All-contains}
 use Rattle.goods_set.specs.Bundles.{IsBundle, is_inside, without, all_bundles}
 use Rattle.goods_set.specs.Lemmas.Members.{inside_refl, without_inside, IsBundle-without}
@@ -21,6 +21,8 @@ use Rattle.prune.specs.Points.{is_or_point, or_points, IsPart, IsOrPoint}
 use Rattle.prune.specs.Lemmas.Points.{IsOrPoint-from_test, no_or_point, inside_below, points_where-in_order, or_points_are}
 use Rattle.canon.specs.Lemmas.Finding.{found_first, find_it}
 use Rattle.std.specs.Cmp.{both_ways as same_test}
+use Rattle.std.proofs.lemmas.Grind.{common_steps}
+use Rattle.std.proofs.Common.{rules}
 
 -- whether the values on the bundle differ
 abbrev pub are_unequal : List (Atom (List ℕ)) → List (Atom (List ℕ)) → List ℕ → Bool
@@ -33,22 +35,14 @@ pub equal_test : (one other : List (Atom (List ℕ))) (bundle : List ℕ) → or
 equal_test one other bundle e = not_from_true (eqb (or_value one bundle) (or_value other bundle)) (eq-eqb (or_value one bundle) (or_value other bundle) e)
 
 pub equal_from_test : (one other : List (Atom (List ℕ))) (bundle : List ℕ) → are_unequal one other bundle ≡ false → or_value one bundle ≡ or_value other bundle
-equal_from_test one other bundle e =
-    ⊎_elim (λ (t : eqb (or_value one bundle) (or_value other bundle) ≡ true). eqb-true (or_value one bundle) (or_value other bundle) t)
-    (λ (t : eqb (or_value one bundle) (or_value other bundle) ≡ false). absurd
-    (both_ways (are_unequal one other bundle) e (not_from_false (eqb (or_value one bundle) (or_value other bundle)) t)))
-    (cases_Bool (eqb (or_value one bundle) (or_value other bundle)))
+equal_from_test one other bundle e = grind (arith, common_steps, eqb-true, not_from_false)
 
 pub eqb_swap : (m n : ℕ) → eqb m n ≡ eqb n m
 eqb_swap m n = same_test (eqb m n) (eqb n m) (λ t. eq-eqb n m (sym (eqb-true m n t))) (λ t. eq-eqb m n (sym (eqb-true n m t)))
 
 -- it does not matter which bidder comes first
 pub unequal_swap : (one other : List (Atom (List ℕ))) (bundles : List (List ℕ)) → find (are_unequal one other) bundles ≡ find (are_unequal other one) bundles
-unequal_swap one other bundles =
-    find_alike (are_unequal one other) (are_unequal other one) bundles bundles
-    (filter_same_on (are_unequal one other) (are_unequal other one) bundles
-    (All-from_Contains (λ bundle. are_unequal one other bundle ≡ are_unequal other one bundle) bundles
-    (λ bundle c. ap not (eqb_swap (or_value one bundle) (or_value other bundle)))))
+unequal_swap one other bundles = search (rules, find_alike, filter_same_on, All-from_Contains, eqb_swap)
 
 module _ (goods : ℕ) where
   -- the values agree on the bundles before this one
@@ -92,46 +86,17 @@ module _ (goods : ℕ) where
 
   rest_first : (part bundle : List ℕ) → IsBundle goods bundle → IsPart part bundle → IsBundle goods (without bundle part)
       × (bundle_cmp (without bundle part) bundle ≡ Less)
-  rest_first part bundle b p =
-      let rest = IsBundle-without goods bundle part b in (
-        rest,
-        inside_before (without bundle part) bundle rest.0 b.0 (without_inside bundle part)
-            (λ e. both_ways (is_inside bundle (without bundle part)) (left_is_proper part bundle p.nonempty p.inside)
-            (subst (λ (xs : List ℕ). is_inside bundle xs ≡ true) (sym e) (inside_refl bundle))),
-      )
+  rest_first part bundle b p = search (rules, IsBundle-without, inside_before, without_inside, left_is_proper, inside_refl)
 
   -- the bidder with the greater value has a point there
   pub greater_is_point : (one other : List (Atom (List ℕ))) → All (IsOnBundle goods) other → (bundle : List ℕ) → IsBundle goods bundle
       → AgreeBefore one other bundle → or_value other bundle < or_value one bundle → is_or_point goods one bundle ≡ true
-  greater_is_point one other on bundle b h l =
-      ⊎_elim (λ (t : is_or_point goods one bundle ≡ true). t)
-      (λ (t : is_or_point goods one bundle ≡ false).
-      ⊎_elim (λ (z : or_value one bundle ≡ 0). absurd (omega arith))
-      (λ (s : (part : List ℕ) × IsPart part bundle × (or_value one bundle ≤ or_value one part + or_value one (without bundle part))).
-      let first = part_first s.0 bundle b s.1 in
-      let rest = rest_first s.0 bundle b s.1 in
-      let same = h.agree s.0 first.0 first.1 in
-      let left = h.agree (without bundle s.0) rest.0 rest.1 in
-      let both = or_value-split other (all_nonempty goods other on) s.0 bundle s.1.inside in
-      let short = s.2 in
-      absurd (omega arith))
-      (no_or_point goods one bundle t))
-      (cases_Bool (is_or_point goods one bundle))
+  greater_is_point one other on bundle b h l = grind (arith, common_steps, part_first, rest_first, or_value-split, all_nonempty, on, no_or_point)
 
   -- and one without a point there has less than one with a point
   pub less_without_point : (one other : List (Atom (List ℕ))) (bundle : List ℕ) → IsBundle goods bundle → AgreeBefore one other bundle → IsOrPoint one bundle
       → is_or_point goods other bundle ≡ false → or_value other bundle < or_value one bundle
-  less_without_point one other bundle b h point t =
-      ⊎_elim (λ (z : or_value other bundle ≡ 0). let l = point.positive in omega arith)
-      (λ (s : (part : List ℕ) × IsPart part bundle × (or_value other bundle ≤ or_value other part + or_value other (without bundle part))).
-      let first = part_first s.0 bundle b s.1 in
-      let rest = rest_first s.0 bundle b s.1 in
-      let same = h.agree s.0 first.0 first.1 in
-      let left = h.agree (without bundle s.0) rest.0 rest.1 in
-      let more = point.split s.0 s.1 in
-      let short = s.2 in
-      omega arith)
-      (no_or_point goods other bundle t)
+  less_without_point one other bundle b h point t = grind (arith, common_steps, part_first, rest_first, no_or_point)
 
   -- ---- lists of points
 

@@ -1,6 +1,6 @@
 -- Two lists of atoms in order are walked side by side, bundle by bundle. What is still to be found are the changes of the two
 -- rests: where the changes of the rests are given, the bundle that was walked past is put in front of them if its prices differ.
-use Rattle.std.proofs.Common.{◌≡◌, ℕ, true, false, cond, ◌⊎◌, inl, inr, ⊎_elim, List, [], ◌∷◌, map, refl, sym, ap, ◌∙◌, subst, Option, Some, None, Less}
+use Rattle.std.proofs.Common.{◌≡◌, ℕ, true, false, ◌⊎◌, inl, inr, ⊎_elim, List, [], ◌∷◌, map, refl, sym, ◌∙◌, subst, Some, None, Less}
 use Rattle.std.specs.Prelude.{◌≢◌, All, Contains}
 use Rattle.std.specs.Ordering.{is_eq}
 use Rattle.std.proofs.lemmas.List.Elements.{All-cons, All-head, All-tail, All-weaker}
@@ -10,6 +10,9 @@ use Rattle.valuation.specs.Lemmas.Lists.{AllPairs-cons}
 use Rattle.prune.specs.Lemmas.InOrder.{before_itself, same_cases}
 use Rattle.prune.specs.Lemmas.Lists.{Contains-head, Contains-tail}
 use Rattle.canon.specs.PriceChanges.{PlainChange, price_on, IsPriceChange, ArePriceChanges}
+use Rattle.std.proofs.lemmas.Grind.{common_steps}
+use Rattle.std.proofs.Common.{arith}
+use Rattle.std.proofs.Common.{rules}
 
 -- ---- the price on a bundle
 
@@ -18,19 +21,11 @@ abbrev pub AreLater : List ℕ → List (Atom (List ℕ)) → Type 0
 AreLater bundle atoms = All (λ (a : Atom (List ℕ)). bundle_cmp bundle a.bundle ≡ Less) atoms
 
 pub price_here : (a : Atom (List ℕ)) (rest : List (Atom (List ℕ))) (bundle : List ℕ) → a.bundle ≡ bundle → price_on (a ∷ rest) bundle ≡ Some a.price
-price_here a rest bundle e =
-    ⊎_elim (λ (h : (a.bundle ≡ bundle) × (is_eq (bundle_cmp a.bundle bundle) ≡ true)).
-    ap (λ t. cond {A = Option ℕ} t (Some a.price) (price_on rest bundle)) h.1)
-    (λ (h : (a.bundle ≡ bundle → ⊥) × (is_eq (bundle_cmp a.bundle bundle) ≡ false)). absurd (h.0 e))
-    (same_cases a.bundle bundle)
+price_here a rest bundle e = grind (arith, common_steps, same_cases)
 
 pub price_behind : (a : Atom (List ℕ)) (rest : List (Atom (List ℕ))) (bundle : List ℕ) → (a.bundle ≡ bundle → ⊥)
     → price_on (a ∷ rest) bundle ≡ price_on rest bundle
-price_behind a rest bundle n =
-    ⊎_elim (λ (h : (a.bundle ≡ bundle) × (is_eq (bundle_cmp a.bundle bundle) ≡ true)). absurd (n h.0))
-    (λ (h : (a.bundle ≡ bundle → ⊥) × (is_eq (bundle_cmp a.bundle bundle) ≡ false)).
-    ap (λ t. cond {A = Option ℕ} t (Some a.price) (price_on rest bundle)) h.1)
-    (same_cases a.bundle bundle)
+price_behind a rest bundle n = grind (arith, common_steps, same_cases)
 
 -- a bundle that has a price comes after what all atoms come after
 priced_later : (first bundle : List ℕ) (atoms : List (Atom (List ℕ))) → AreLater first atoms → (bundle_cmp first bundle ≡ Less) ⊎ (price_on atoms bundle ≡ None)
@@ -64,20 +59,12 @@ pub record IsBehind (bundle : List ℕ) (atoms rest : List (Atom (List ℕ))) : 
 -- each bundle whose prices in the rests differ comes later
 changes_later : (bundle : List ℕ) (left right : List (Atom (List ℕ))) → AreLater bundle left → AreLater bundle right → (c : PlainChange)
     → IsPriceChange left right c → bundle_cmp bundle c.bundle ≡ Less
-changes_later bundle left right l r c h =
-    ⊎_elim (λ (e : bundle_cmp bundle c.bundle ≡ Less). e)
-    (λ (e : price_on left c.bundle ≡ None).
-    ⊎_elim (λ (f : bundle_cmp bundle c.bundle ≡ Less). f)
-    (λ (f : price_on right c.bundle ≡ None). absurd (h.differ (h.on_left ∙ e ∙ sym (h.on_right ∙ f))))
-    (priced_later bundle c.bundle right r))
-    (priced_later bundle c.bundle left l)
+changes_later bundle left right l r c h = grind (arith, common_steps, priced_later)
 
 module _ (bundle : List ℕ) (left left_rest right right_rest : List (Atom (List ℕ))) (behind_left : IsBehind bundle left left_rest)
     (behind_right : IsBehind bundle right right_rest) (changes : List PlainChange) (found : ArePriceChanges left_rest right_rest changes) where
   later_changes : All (λ (d : PlainChange). bundle_cmp bundle d.bundle ≡ Less) changes
-  later_changes =
-      All-weaker (IsPriceChange left_rest right_rest) (λ (d : PlainChange). bundle_cmp bundle d.bundle ≡ Less)
-      (changes_later bundle left_rest right_rest behind_left.later behind_right.later) changes found.each
+  later_changes = search (rules, All-weaker, changes_later)
 
   -- a change of the rests is one of the whole lists
   still_changes : All (IsPriceChange left right) changes

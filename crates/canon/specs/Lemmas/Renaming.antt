@@ -1,6 +1,6 @@
 -- The dummy goods of the bidders that are in the canonical file. They are put in order by the points of their bidders first, so these
 -- points are the bidders of the canonical auction; none is there twice, and each is that of a bidder whose value is not zero.
-use Rattle.std.proofs.Common.{◌≡◌, ◌≢◌, ℕ, ◌+◌, ◌<◌, Bool, true, false, cond, List, [], ◌∷◌, length, map, get_or, eqb, refl, sym, ap, ◌∙◌, subst, arith}
+use Rattle.std.proofs.Common.{◌≡◌, ◌≢◌, ℕ, ◌+◌, ◌<◌, Bool, true, false, cond, List, [], ◌∷◌, length, map, get_or, eqb, refl, sym, ap, subst, arith}
 use Rattle.std.proofs.Common.{Ordering, Less, Equal, Greater}
 use Rattle.std.specs.Prelude.{AllPairs, Contains}
 use Rattle.std.specs.Cmp.{IsTotalOrder}
@@ -20,15 +20,15 @@ use Rattle.bid_file.specs.Files.{PlainFile}
 use Rattle.valuation.specs.Auctions.{auction_from, xor_atoms_of}
 use Rattle.valuation.specs.Lemmas.Orders.{bidder_cmp_total, bidder_cmp_equal}
 use Rattle.valuation.specs.Lemmas.Sorting.{permutation-sort_by, sorted-sort_by, sorted_is_sort_by}
-use Rattle.valuation.specs.Orders.{bidder_cmp}
 use Rattle.valuation.specs.Sorting.{sort_by}
 use Rattle.valuation.specs.Tables.{xor_table, is_nonzero}
 use Rattle.prune.specs.Lemmas.Lists.{Contains-filter, Contains-filter_parts}
 use Rattle.prune.specs.Lemmas.Ranges.{in_range, range_contains}
-use Rattle.prune.specs.Points.{xor_points}
 use Rattle.canon.specs.Canonical.{canonical_auction, points_of_bidders}
 use Rattle.canon.specs.Renaming.{points_of_dummy, dummy_cmp, kept_dummies}
 use Rattle.canon.specs.Lemmas.OrDifferences.{eqb_swap}
+use Rattle.std.proofs.lemmas.Grind.{common_steps}
+use Rattle.std.proofs.Common.{rules}
 
 -- ---- lists that are seen as others
 
@@ -85,15 +85,10 @@ abbrev pub nonzero_dummies : PlainFile → List ℕ
 nonzero_dummies f = filter (has_value f) (range_with_len 0 f.dummy)
 
 pub points_of_nonzero : (f : PlainFile) → points_of_bidders f.goods (auction_from f).xor_bidders ≡ map (points_of_dummy f) (nonzero_dummies f)
-points_of_nonzero f =
-    ap (map (xor_points f.goods)) (filter-map (λ bidder. is_nonzero (xor_table bidder f.goods)) (xor_atoms_of f.bids) (range_with_len 0 f.dummy))
-    ∙ map-map (xor_points f.goods) (xor_atoms_of f.bids) (nonzero_dummies f)
+points_of_nonzero f = search (rules, filter-map, map-map)
 
 pub points_of_kept_dummies : (f : PlainFile) → map (points_of_dummy f) (kept_dummies f) ≡ (canonical_auction (auction_from f)).xor_bidders
-points_of_kept_dummies f =
-    sort_by-map (dummy_cmp f) bidder_cmp (points_of_dummy f) (dummy_cmp_total f) bidder_cmp_total bidder_cmp_equal
-    (λ d e h. then_not_less (bidder_cmp (points_of_dummy f d) (points_of_dummy f e)) _ h) (nonzero_dummies f)
-    ∙ ap (sort_by bidder_cmp) (sym (points_of_nonzero f))
+points_of_kept_dummies f = search (rules, sort_by-map, dummy_cmp_total, bidder_cmp_total, bidder_cmp_equal, then_not_less, points_of_nonzero)
 
 -- ---- which they are
 
@@ -112,12 +107,7 @@ kept_dummies-has f d l e =
 -- ---- none is there twice
 
 pub range_differs : (n : ℕ) → AllPairs (λ d e. d ≢ e) (range_with_len 0 n)
-range_differs n i j d l m e =
-    let within : j < n = subst (λ k. j < k) (length-range_with_len 0 n) m in
-    let one : get_or (range_with_len 0 n) i d ≡ 0 + i = get_or-range_with_len 0 n i d (omega arith) in
-    let other : get_or (range_with_len 0 n) j d ≡ 0 + j = get_or-range_with_len 0 n j d within in
-    let same : get_or (range_with_len 0 n) i d ≡ get_or (range_with_len 0 n) j d = e in
-    absurd (omega arith)
+range_differs n i j d l m e = grind (arith, common_steps, length-range_with_len, get_or-range_with_len)
 
 pub kept_dummies-differ : (f : PlainFile) → AllPairs (λ d e. d ≢ e) (kept_dummies f)
 kept_dummies-differ f =

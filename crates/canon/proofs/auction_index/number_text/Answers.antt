@@ -1,14 +1,16 @@
 -- `number_text`
 use Rattle.std.proofs.Common.{rules, ◌≡◌, ℕ, List, cond, bytes_eq, Some, subst}
 use Rattle.canon.specs.Internal.TextNumbers.{number_of}
-use Rattle.canon.proofs.TwoFiles.Indexing.{updated}
+use Rattle.canon.specs.Lemmas.TextMaps.{updated}
+use Rattle.std.specs.Prelude.{Vec}
+use Rattle.std.specs.Global.{Global}
 use Rattle.canon.proofs.auction_index.number_text.Goals as goal
 
 pub returns-clause-placed : goal.returns-clause-placed
 returns-clause-placed c =
     subst (λ (text : List ℕ). (other : List ℕ) → number_of c.insert.new.self other ≡ cond (bytes_eq text other) (Some c.args.number)
     (number_of c.args.numbers.now other)) c.shrink_to_fit.ensures.items
-    (updated c.args.numbers.now c.insert.new.self c.shrink_to_fit.new.self.items c.args.number c.in_ok-insert.ensures.updates)
+    (updated (λ (key : Vec ℕ Global). key.items) c.args.numbers.now c.insert.new.self c.shrink_to_fit.new.self.items c.args.number c.in_ok-insert.ensures.updates)
 
 pub returns-in-Some-clause-answer : goal.returns-in-Some-clause-answer
 returns-in-Some-clause-answer c = search rules
