@@ -9,7 +9,8 @@ use Rattle.analysis.proofs.Common.{permutation-sort_by, sorted-sort_by, sort_by,
 use Rattle.analysis.proofs.Common.{Contains-tail, list_all_at, list_all_from, bid_at, AreWinners, IsAllocation, can_all_win, can_both_win, greatest_revenue}
 use Rattle.analysis.proofs.Common.{revenue, share_dummy, max, all_bundles_are, allocations, greatest}
 use Rattle.analysis.proofs.Explaining.KeptBids.{bid_here}
-use Rattle.analysis.proofs.Explaining.Packings.{eqb_flips, increasing, pairs_sorted, rising_from_pairs}
+use Rattle.analysis.proofs.Explaining.Packings.{increasing, pairs_sorted, rising_from_pairs}
+use Rattle.canon.specs.Lemmas.OrDifferences.{eqb_swap}
 
 -- ---- two bids
 
@@ -20,7 +21,7 @@ share_flips : (o p : Option ℕ) → share_dummy o p ≡ share_dummy p o
 share_flips None None = refl
 share_flips None (Some e) = refl
 share_flips (Some d) None = refl
-share_flips (Some d) (Some e) = eqb_flips e d
+share_flips (Some d) (Some e) = eqb_swap e d
 
 pub both_flip : (a b : PlainBid) → IsTrue (can_both_win a b) → IsTrue (can_both_win b a)
 both_flip a b h = search (rules, and_parts, and_from, apart_sym, share_flips)

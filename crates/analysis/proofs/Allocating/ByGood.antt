@@ -7,6 +7,7 @@ use Rattle.analysis.proofs.Common.{map-set, All-from_recursion, filter-append, A
 use Rattle.analysis.proofs.Common.{goods_of, below-from, rising-from, filter-kept, filter-lost, bid_at, AreByGood, lists_of, with_bid, bids_with, has_not_head}
 use Rattle.analysis.proofs.Common.{list_at, with_number}
 use Rattle.analysis.proofs.Allocating.RowTexts.{range_next}
+use Rattle.goods_set.specs.Lemmas.Members.{AreBelow-higher}
 
 -- ---- the goods of a bid
 
@@ -17,10 +18,6 @@ above_push x (g ∷ gs) y a l = (a.0, above_push x gs y a.1 l)
 rising_push : (gs : List ℕ) (y : ℕ) → IsRising gs → AreBelow y gs → IsRising (gs ++ y ∷ [])
 rising_push [] y r b = (tt, tt)
 rising_push (g ∷ gs) y r b = (above_push g gs y r.0 b.0, rising_push gs y r.1 b.1)
-
-below_more : (n m : ℕ) (gs : List ℕ) → n ≤ m → AreBelow n gs → AreBelow m gs
-below_more n m [] l b = tt
-below_more n m (g ∷ gs) l b = let h : g < n = b.0 in (omega arith, below_more n m gs l b.1)
 
 below_push : (m : ℕ) (gs : List ℕ) (y : ℕ) → AreBelow m gs → y < m → AreBelow m (gs ++ y ∷ [])
 below_push m [] y b l = (l, tt)
@@ -34,10 +31,10 @@ module _ (G D : ℕ) (b : PlainBid) (is : IsBid G D b) where
   below = below-from G b.goods is.below
 
   pub goods_rising : IsRising (goods_of G b)
-  goods_rising = search (rules, append-nil, rising, rising_push, below_more, below)
+  goods_rising = search (rules, append-nil, rising, rising_push, AreBelow-higher, below)
 
   pub goods_below : AreBelow (G + D) (goods_of G b)
-  goods_below = search (rules, below_more, below, append-nil, below_push)
+  goods_below = search (rules, AreBelow-higher, below, append-nil, below_push)
 
 -- ---- one more number
 

@@ -14,17 +14,9 @@ use Rattle.analysis.proofs.Explaining.TrueReasons.{reason_is_decided}
 use Rattle.analysis.proofs.Allocating.Allocations.{winners_within}
 use Rattle.analysis.proofs.Allocating.Reasons.{kept_reason, number_kept_is}
 use Rattle.analysis.proofs.Allocating.Renumbering.{IsCounterpart, IsMoved, counterpart, length-kept_bids, renumbered, win_here, win_there}
+use Rattle.analysis.proofs.Comparing.LawsLists.{sort_rising}
 
 -- ---- numbers there and back
-
-first_stays : (x : ℕ) (xs : List ℕ) → AreAbove x xs → insert_by nat_cmp x xs ≡ x ∷ xs
-first_stays x [] h = refl
-first_stays x (y ∷ ys) h =
-    ap (λ (o : Ordering). cond (is_gt o) (y ∷ insert_by nat_cmp x ys) (x ∷ (y ∷ ys))) (nat_cmp-lt x y h.0)
-
-sort_rising : (xs : List ℕ) → IsRising xs → sort_by nat_cmp xs ≡ xs
-sort_rising [] h = refl
-sort_rising (x ∷ xs) h = ap (insert_by nat_cmp x) (sort_rising xs h.1) ∙ first_stays x xs h.0
 
 given_back : (m n : ℕ → ℕ) (xs : List ℕ) → All (λ x. m (n x) ≡ x) xs → map m (map n xs) ≡ xs
 given_back m n [] h = refl

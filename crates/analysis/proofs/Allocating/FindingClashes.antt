@@ -147,9 +147,6 @@ pub record IsWalked (f : PlainFile) (winners : List ℕ) (index : ℕ) (holders 
   pub held : AreHolders f (drop index winners) holders
   pub is_clash : clash ≡ first_clash f (drop index winners)
 
-abbrev nobody : Option ℕ
-nobody = None
-
 IsBundle-drop : (n k : ℕ) (xs : List ℕ) → IsBundle n xs → IsBundle n (drop k xs)
 IsBundle-drop n zero xs b = b
 IsBundle-drop n (suc k) [] b = (tt, tt)

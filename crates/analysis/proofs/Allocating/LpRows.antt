@@ -12,6 +12,7 @@ use Rattle.analysis.proofs.Common.{is_shared, lp_rows, row_of, apart_at, has_hea
 use Rattle.analysis.proofs.Explaining.KeptBids.{bid_here}
 use Rattle.analysis.proofs.Allocating.Allocations.{CanWin, both_flip, pairs_from_test}
 use Rattle.analysis.proofs.Explaining.Packings.{pairs_at, rising_from_pairs}
+use Rattle.std.proofs.lemmas.Grind.{common_steps}
 
 -- ---- members
 
@@ -121,9 +122,7 @@ has_right : (xs ys : List ℕ) (g : ℕ) → has_good ys g ≡ true → has_good
 has_right xs ys g h = has_from (xs ++ ys) g (Contains-append_right xs ys g (contains_from ys g h))
 
 has_either : (xs ys : List ℕ) (g : ℕ) → has_good (xs ++ ys) g ≡ true → (has_good xs g ≡ true) ⊎ (has_good ys g ≡ true)
-has_either xs ys g h =
-    ⊎_elim (λ (c : Contains xs g). inl (has_from xs g c)) (λ (c : Contains ys g). inr (has_from ys g c))
-    (Contains-append_cases xs ys g (contains_from (xs ++ ys) g h))
+has_either xs ys g h = grind (arith, common_steps, has_from, Contains-append_cases, contains_from)
 
 in_dummy : (G : ℕ) (o : Option ℕ) (g : ℕ) → has_good (dummy_good G o) g ≡ true → (d : ℕ) × (o ≡ Some d) × (G + d ≡ g)
 in_dummy G None g h = absurd (both_ways false refl h)

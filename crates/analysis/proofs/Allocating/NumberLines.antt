@@ -70,9 +70,7 @@ module _ (text rest : List ℕ) (ends : ℕ) (numbers : List ℕ) (read : IsRead
       let within = read.within in
       record {
         within = omega arith;
-        all = ap (λ (x : List ℕ). x ++ behind) is_more ∙ append_assoc numbers here behind
-            ∙ ap (λ (x : List ℕ). numbers ++ x) (sym (map-append number_of (words_in line) (all_words lines)))
-            ∙ ap (λ (ls : List (List ℕ)). numbers ++ map number_of (all_words ls)) (sym is) ∙ read.all;
+        all = search (rules, append_assoc, map-append);
         faults = sym (cond-true (list_all is_bid_number (words_in line)) (faulty_line (ends + 1 + 1) lines) (Some (ends + 1)) faultless)
             ∙ ap (faulty_line (ends + 1)) (sym is) ∙ read.faults;
         begins = λ h. read.begins (ap (λ (ls : List (List ℕ)). begins_with_number (all_words ls)) is

@@ -4,8 +4,8 @@ use Rattle.analysis.proofs.Common.{PlainFile, IsPlainFile, found_none, found_som
 use Rattle.analysis.specs.Reasons.{reason_of}
 use Rattle.analysis.proofs.Explaining.Deciding.{kept_decided, kept_from, priced_within}
 use Rattle.analysis.proofs.Explaining.KeptBids.{kept-is-best}
-use Rattle.analysis.proofs.Explaining.KeptBidsLists.{below_numbers, in_numbers}
 use Rattle.analysis.proofs.Explaining.TrueReasons.{reason_is_decided}
+use Rattle.analysis.proofs.Common.{range_contains, in_range}
 
 pub kept_reason : (f : PlainFile) → IsPlainFile f → (j k : ℕ) → IsKeptAs f j k → reason_of f j ≡ Keep k
 kept_reason f is j k kept = kept_decided f j k kept (reason_of f j) (reason_is_decided f is j (priced_within f j kept.bid.positive))
@@ -19,5 +19,5 @@ number_kept_is f is k l = by (find (λ i. is_kept_as k (reason_of f i)) (numbers
         let j = kept-is-best f is k l in
         let t : is_kept_as k (reason_of f j.0) ≡ true = ap (is_kept_as k) (kept_reason f is j.0 k j.2) ∙ eq-eqb k k refl in
         absurd (both_ways (is_kept_as k (reason_of f j.0)) (found_none (λ i. is_kept_as k (reason_of f i)) (numbers_of f) e j.0
-        (in_numbers (length f.bids) j.0 j.1)) t)
-    by (Some i) e h = kept_from f i k (reason_of f i) (reason_is_decided f is i (below_numbers (length f.bids) i h.0)) h.1
+        (range_contains (length f.bids) j.0 j.1)) t)
+    by (Some i) e h = kept_from f i k (reason_of f i) (reason_is_decided f is i (in_range (length f.bids) i h.0)) h.1

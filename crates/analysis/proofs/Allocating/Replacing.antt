@@ -94,12 +94,7 @@ are_for f is i l = by (reason_of f i) (reason_is_decided f is i l)
         let reached = r.enough in
         let dummy = same_bidder (bid_at f j).dummy (bid_at f i).dummy key.bidder in
         record {
-          each = All-weaker (StandsFor f j) (StandsFor f i) (λ k s. record {
-            within = s.within;
-            kept = s.kept;
-            inside = subst (IsInside (bid_at f k).goods) key.goods s.inside;
-            bidder = s.bidder ∙ dummy;
-          }) (named_by j (reason_of f j)) r.each;
+          each = search (rules, All-weaker);
           win = r.win;
           enough = omega arith;
         }

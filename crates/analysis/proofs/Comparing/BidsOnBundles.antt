@@ -5,7 +5,7 @@ use Rattle.analysis.proofs.Common.{false_from_ne_true, get_or-map, length-map, m
 use Rattle.analysis.proofs.Common.{get_or_from_slice_get, slice_get_within, bundle_cmp, bundle_cmp_equal, bundle_cmp_refl, PlainBid, Atom, atom_of}
 use Rattle.analysis.proofs.Common.{AllPairs-head, AllPairs-tail, IsBefore, IsInOrder, offers, bidder_at, bidders_on, price_on, is_on}
 use Rattle.analysis.proofs.Comparing.LawsLists.{none_pass}
-use Rattle.analysis.proofs.Explaining.BestBids.{equal_from}
+use Rattle.canon.specs.Lemmas.Finding.{equal_from}
 
 -- the bidder, once for each bid on the bundle
 abbrev pub once_each : ℕ → List ℕ → List (Atom (List ℕ)) → List ℕ

@@ -5,7 +5,7 @@ use Rattle.analysis.proofs.Common.{common_steps, rules, ◌≡◌, ℕ, zero, su
 use Rattle.analysis.proofs.Common.{get_or, refl, sym, ap, ◌∙◌, subst, arith, Ordering, Less, Equal, Greater, AllPairs, filter, range_with_len, is_eq, is_gt}
 use Rattle.analysis.proofs.Common.{is_lt, ordering_reverse, IsTotalOrder, lt-ltb, le-ltb, tied_itself, sum_by-drop_more, sum_by-take-drop, count_of, le_or_lt}
 use Rattle.analysis.proofs.Common.{reverse, nat_lt, reverse-append}
-use Rattle.analysis.proofs.Explaining.BestBids.{equal_from}
+use Rattle.canon.specs.Lemmas.Finding.{equal_from}
 
 -- ---- tests of an order
 

@@ -1,8 +1,20 @@
 -- Exchanging the auctions. The idea: the changes of two lists of bids are determined by the prices, since they are in order and on exactly
 -- the bundles on which the prices differ.
 use Rattle.analysis.proofs.Common.{rules, ◌≡◌, ℕ, List, map, sym, ◌∙◌, subst, Contains, All-contains, All-map, All-weaker, Atom, AllPairs-map, Contains-map}
-use Rattle.analysis.proofs.Common.{Contains-unmap, PlainChange, IsPriceChange, ArePriceChanges, before_both, exchanged_change, IsEarlier}
-use Rattle.analysis.proofs.Comparing.LawsLists.{same_in_strict_order}
+use Rattle.analysis.proofs.Common.{Contains-unmap, PlainChange, IsPriceChange, ArePriceChanges, exchanged_change, IsEarlier}
+use Rattle.analysis.proofs.Common.{[], ◌∷◌, Ordering, Less, AllPairs, AllPairs-head, AllPairs-tail, recursion_from_All, bundle_cmp}
+use Rattle.std.specs.List.Sorted.{IsStrictlySortedBy}
+use Rattle.goods_set.specs.Lemmas.Orders.{bundle_cmp_strict}
+use Rattle.goods_set.specs.Lemmas.Sorted.{same_from_contains}
+
+abbrev by_bundle : PlainChange → PlainChange → Ordering
+by_bundle c d = bundle_cmp c.bundle d.bundle
+
+strictly : (changes : List PlainChange) → AllPairs IsEarlier changes → IsStrictlySortedBy by_bundle changes
+unfolding IsStrictlySortedBy
+strictly [] s = tt
+strictly (c ∷ cs) s =
+    (recursion_from_All (λ d. by_bundle c d ≡ Less) cs (AllPairs-head IsEarlier c cs s), strictly cs (AllPairs-tail IsEarlier c cs s))
 
 module _ (left right : List (Atom (List ℕ))) where
   -- two changes on one bundle are one
@@ -20,7 +32,10 @@ module _ (left right : List (Atom (List ℕ))) where
 
   pub one_list_of_changes : (changes others : List PlainChange) → ArePriceChanges left right changes → ArePriceChanges left right others → changes ≡ others
   one_list_of_changes changes others are also =
-      same_in_strict_order IsEarlier (λ c d. before_both c.bundle d.bundle) changes others are.in_order also.in_order
+      same_from_contains by_bundle (record {
+        irreflexive = λ c. bundle_cmp_strict.irreflexive c.bundle;
+        transitive = λ c d e. bundle_cmp_strict.transitive c.bundle d.bundle e.bundle;
+      }) changes others (strictly changes are.in_order) (strictly others also.in_order)
       (λ c there. change_is_there others also c (All-contains (IsPriceChange left right) changes c are.each there))
       (λ c there. change_is_there changes are c (All-contains (IsPriceChange left right) others c also.each there))
 

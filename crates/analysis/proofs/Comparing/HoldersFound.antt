@@ -4,8 +4,11 @@ use Rattle.analysis.proofs.Common.{◌∙◌, subst, arith, ⊎_elim, append-nil
 use Rattle.analysis.proofs.Common.{cond-false, both_ways, false_from_ne_true, bundle_cmp, bundle_cmp_equal, bundle_cmp_refl, Holders, holders_at, indices_in}
 use Rattle.analysis.proofs.Common.{passed_in, bytes_decides, IsKeyTest, lookup, nat_list_eq_equiv, is_eq-slice_cmp}
 use Rattle.std.specs.Map.{AreApart, KeepsOthers}
-use Rattle.analysis.proofs.Explaining.BestBids.{equal_from}
 use Rattle.analysis.specs.Internal.Holders.{found_at}
+use Rattle.canon.specs.Lemmas.Finding.{equal_from}
+use Rattle.std.specs.Bool.{one_answer}
+use Rattle.std.proofs.Common.{bytes_eq}
+use Rattle.canon.specs.Lemmas.TextMaps.{updated as text_updated}
 
 -- ---- the first that passes a test
 
@@ -19,48 +22,21 @@ first_passes p (y ∷ ys) (suc k) l t before =
 
 -- ---- the map
 
-abbrev same_order : List ℕ → List ℕ → Bool
-same_order one other = is_eq (slice_cmp nat_cmp one other)
-
 abbrev pub key_cmp : Bor (List ℕ) → Bor (List ℕ) → Ordering
 key_cmp one other = slice_cmp nat_cmp one.now other.now
 
-abbrev key_eq : Bor (List ℕ) → Bor (List ℕ) → Bool
-key_eq one other = same_order one.now other.now
-
-other_entries : {X : Type 0} (test : Bor (List ℕ) → Bool) (old new : List (Bor (List ℕ) × X)) → KeepsOthers key_eq test old new → (other : Bor (List ℕ) → Bool)
-    → IsKeyTest key_eq other → AreApart test other
-    → lookup other new ≡ lookup other old
-unfolding KeepsOthers
-other_entries test old new h = h
-
-same_test : (text one other : List ℕ) → same_order text one ≡ true → same_order text other ≡ same_order one other
-same_test text one other e =
-    is_eq-slice_cmp text other ∙ nat_list_eq_equiv.congr text one other (sym (is_eq-slice_cmp text one) ∙ e) ∙ sym (is_eq-slice_cmp one other)
-
-same_list : (one other : List ℕ) → same_order one other ≡ true → one ≡ other
-same_list one other e = (bytes_decides one other).0 (sym (is_eq-slice_cmp one other) ∙ e)
-
-apart : (goods bundle key : List ℕ) → is_eq (bundle_cmp goods bundle) ≡ false → same_order goods key ≡ true → same_order bundle key ≡ false
-apart goods bundle key n e =
-    false_from_ne_true (same_order bundle key) (λ t.
-    both_ways (is_eq (bundle_cmp goods bundle)) n
-    (ap is_eq (ap (λ (xs : List ℕ). bundle_cmp xs bundle) (same_list goods key e ∙ sym (same_list bundle key t)) ∙ bundle_cmp_refl bundle)))
+same_test : (goods bundle : List ℕ) → bytes_eq goods bundle ≡ is_eq (bundle_cmp goods bundle)
+same_test goods bundle =
+    one_answer (bytes_eq goods bundle) (is_eq (bundle_cmp goods bundle)) (bytes_decides goods bundle)
+    (λ e. bundle_cmp_equal goods bundle (equal_from _ e), λ e. ap is_eq (ap (bundle_cmp goods) (sym e) ∙ bundle_cmp_refl goods))
 
 -- what a map has for a bundle, after holders were put there
 pub updated : (old new : BTreeMap (Bor (List ℕ)) Holders) (goods : List ℕ) (holders : Holders)
     → UpdatesBy key_cmp (λ key. slice_cmp nat_cmp goods key.now) old new (Some holders)
     → (bundle : List ℕ) → found_at new bundle ≡ cond (is_eq (bundle_cmp goods bundle)) (Some holders) (found_at old bundle)
 updated old new goods holders h bundle =
-    ⊎_elim
-    (λ (y : is_eq (bundle_cmp goods bundle) ≡ true).
-    subst (λ (b : List ℕ). found_at new b ≡ Some holders) (bundle_cmp_equal goods bundle (equal_from _ y)) h.1
-    ∙ sym (cond-true (is_eq (bundle_cmp goods bundle)) (Some holders) (found_at old bundle) y))
-    (λ (n : is_eq (bundle_cmp goods bundle) ≡ false).
-    other_entries (λ key. same_order goods key.now) old.entries new.entries h.3 (λ key. same_order bundle key.now)
-    (λ x y. same_test bundle x.now y.now) (λ key. apart goods bundle key.now n)
-    ∙ sym (cond-false (is_eq (bundle_cmp goods bundle)) (Some holders) (found_at old bundle) n))
-    (cases_Bool (is_eq (bundle_cmp goods bundle)))
+    text_updated (λ (key : Bor (List ℕ)). key.now) old new goods holders h bundle
+    ∙ ap (λ b. cond b (Some holders) (found_at old bundle)) (same_test goods bundle)
 
 -- one more bidder has a bid on the bundle
 pub added : (old new : BTreeMap (Bor (List ℕ)) Holders) (goods : List ℕ) (holders : Holders) (index : ℕ)

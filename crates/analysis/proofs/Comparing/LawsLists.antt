@@ -1,9 +1,10 @@
--- Lists: what is there behind a partial map or a test, how often, and that a list in a strict order is what it contains.
+-- Lists: what is there behind a partial map or a test, and how often; numbers that rise are in order.
 use Rattle.analysis.proofs.Common.{◌≡◌, ℕ, zero, suc, ◌<◌, Bool, true, false, cond, ◌⊎◌, inl, inr, ⊎_elim, List, [], ◌∷◌, map, refl, sym, ap, ap₂, ◌∙◌, subst}
 use Rattle.analysis.proofs.Common.{arith, Option, Some, None, Ordering, nat_cmp, All, AllPairs, Contains, IsTotalOrder, nat_cmp-IsAntisymmetric, filter}
 use Rattle.analysis.proofs.Common.{filter_map, cons_option, sum_by, is_eq, tied_itself, nat_cmp_total, All-contains, All-head, All-tail, sum_by-cons, AreAbove}
 use Rattle.analysis.proofs.Common.{count_of, Contains-cons_cases, AllPairs-head, AllPairs-tail, Contains-nil, Contains-head, Contains-tail, sum_by-sort_by}
 use Rattle.analysis.proofs.Common.{sort_by-same}
+use Rattle.analysis.proofs.Common.{insert_by, is_gt, nat_cmp-lt, IsRising, sort_by}
 
 pub Contains-filter_map : {X Y : Type 0} (h : X → Option Y) (xs : List X) (x : X) (y : Y) → Contains xs x → h x ≡ Some y → Contains (filter_map h xs) y
 Contains-filter_map h [] x y c e = absurd (Contains-nil x c)
@@ -42,6 +43,15 @@ above_all x [] a k d l = absurd (omega arith)
 above_all x (y ∷ ys) a zero d l = a.0
 above_all x (y ∷ ys) a (suc k) d l = above_all x ys a.1 k d (omega arith)
 
+first_stays : (x : ℕ) (xs : List ℕ) → AreAbove x xs → insert_by nat_cmp x xs ≡ x ∷ xs
+first_stays x [] h = refl
+first_stays x (y ∷ ys) h =
+    ap (λ (o : Ordering). cond (is_gt o) (y ∷ insert_by nat_cmp x ys) (x ∷ (y ∷ ys))) (nat_cmp-lt x y h.0)
+
+pub sort_rising : (xs : List ℕ) → IsRising xs → sort_by nat_cmp xs ≡ xs
+sort_rising [] h = refl
+sort_rising (x ∷ xs) h = ap (insert_by nat_cmp x) (sort_rising xs h.1) ∙ first_stays x xs h.0
+
 -- ---- how often
 
 -- an element that is there is counted
@@ -61,32 +71,3 @@ there_is_counted cmp total x (y ∷ ys) c =
 pub sum_of_same_counts : (f : ℕ → ℕ) (xs ys : List ℕ) → ((n : ℕ) → count_of nat_cmp n xs ≡ count_of nat_cmp n ys) → sum_by f xs ≡ sum_by f ys
 sum_of_same_counts f xs ys e =
     sym (sum_by-sort_by nat_cmp f xs) ∙ ap (sum_by f) (sort_by-same nat_cmp nat_cmp_total nat_cmp-IsAntisymmetric xs ys e) ∙ sum_by-sort_by nat_cmp f ys
-
--- ---- a strict order
-
-pub same_in_strict_order : {X : Type 0} (R : X → X → Type 0) → ((x y : X) → R x y → R y x → ⊥) → (xs ys : List X) → AllPairs R xs → AllPairs R ys
-    → ((x : X) → Contains xs x → Contains ys x) → ((x : X) → Contains ys x → Contains xs x) → xs ≡ ys
-same_in_strict_order R apart [] [] s t h k = refl
-same_in_strict_order R apart [] (y ∷ ys) s t h k = absurd (Contains-nil y (k y (Contains-head y ys)))
-same_in_strict_order R apart (x ∷ xs) [] s t h k = absurd (Contains-nil x (h x (Contains-head x xs)))
-same_in_strict_order {X} R apart (x ∷ xs) (y ∷ ys) s t h k =
-    let e : x ≡ y = heads (Contains-cons_cases y ys x (h x (Contains-head x xs))) (Contains-cons_cases x xs y (k y (Contains-head y ys))) in
-    ap₂ (λ (z : X) (zs : List X). z ∷ zs) e
-    (same_in_strict_order R apart xs ys (AllPairs-tail R x xs s) (AllPairs-tail R y ys t) (λ a c. later a c e) (λ a c. back a c e))
-  where
-    heads : (y ≡ x) ⊎ Contains ys x → (x ≡ y) ⊎ Contains xs y → x ≡ y
-    heads (inl e) q = sym e
-    heads (inr a) (inl e) = e
-    heads (inr a) (inr b) =
-        absurd (apart x y (All-contains (R x) xs y (AllPairs-head R x xs s) b) (All-contains (R y) ys x (AllPairs-head R y ys t) a))
-
-    itself : (z : X) → R z z → ⊥
-    itself z r = apart z z r r
-
-    later : (a : X) → Contains xs a → x ≡ y → Contains ys a
-    later a c e = ⊎_elim (λ (d : y ≡ a). absurd (itself x (subst (λ z. R x z) (sym d ∙ sym e) (All-contains (R x) xs a (AllPairs-head R x xs s) c))))
-        (λ (d : Contains ys a). d) (Contains-cons_cases y ys a (h a (Contains-tail x xs a c)))
-
-    back : (a : X) → Contains ys a → x ≡ y → Contains xs a
-    back a c e = ⊎_elim (λ (d : x ≡ a). absurd (itself y (subst (λ z. R y z) (sym d ∙ e) (All-contains (R y) ys a (AllPairs-head R y ys t) c))))
-        (λ (d : Contains xs a). d) (Contains-cons_cases x xs a (k a (Contains-tail y ys a c)))

@@ -6,7 +6,7 @@ use Rattle.analysis.proofs.Common.{cases_Bool, ltb-true, nat_cmp_total, sum_by-c
 use Rattle.analysis.proofs.Common.{bidder_cmp_equal, Contains-filter_parts, All-from_Contains, counted_is_there, PlainBidderChange, AreBidderChanges, bidder_at}
 use Rattle.analysis.proofs.Common.{is_excess, excess_bidders, lefts_of, rights_of, drop-length, ltb-false}
 use Rattle.analysis.proofs.Comparing.LawsLists.{Contains-filter_map, sum_by-map, there_is_counted, sum_of_same_counts}
-use Rattle.analysis.proofs.Explaining.BestBids.{equal_from}
+use Rattle.canon.specs.Lemmas.Finding.{equal_from}
 
 -- ---- how often a bidder is in excess
 

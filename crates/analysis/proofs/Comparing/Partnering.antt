@@ -4,9 +4,9 @@ use Rattle.analysis.proofs.Common.{refl, sym, ap, ap₂, ◌∙◌, subst, ⊎_e
 use Rattle.analysis.proofs.Common.{nat_cmp, cases_Bool, eq-eqb, ne_eqb, get_or-set_other, get_or_past, Atom, bundle_cmp, bundle_cmp_equal, bidders_on}
 use Rattle.analysis.proofs.Common.{Candidate, Holders, ArePassed, holders_at, indices_in, waits_at, ArePartners, IsCandidate, and_right, and_comm}
 use Rattle.analysis.proofs.Common.{get_or-set_at, Partners}
-use Rattle.analysis.proofs.Explaining.BestBids.{equal_from}
 use Rattle.analysis.proofs.Comparing.HoldersFound.{key_cmp, updated}
 use Rattle.analysis.specs.Internal.Holders.{found_at}
+use Rattle.canon.specs.Lemmas.Finding.{equal_from}
 
 -- ---- one that waits no more
 

@@ -7,8 +7,9 @@ use Rattle.analysis.proofs.Common.{IsBidderChange, AreBidderChanges, bids_at, le
 use Rattle.analysis.specs.BidderChanges.{right_alone}
 use Rattle.analysis.proofs.Comparing.Changes.{count-append, lefts-append, no_lefts_alone, rights-append}
 use Rattle.analysis.proofs.Comparing.ExchangedChanges.{one_list_of_changes}
-use Rattle.analysis.proofs.Comparing.LawsLists.{above_all, same_in_strict_order, there_is_counted}
 use Rattle.analysis.proofs.Explaining.KeptBidsBest.{none_is}
+use Rattle.analysis.proofs.Comparing.LawsLists.{sort_rising}
+use Rattle.analysis.proofs.Common.{sort_by-same}
 
 -- ---- lists
 
@@ -31,17 +32,9 @@ map_of_none (c ∷ xs) all =
     ap₂ (λ (o : Option ℕ) (os : List (Option ℕ)). o ∷ os) (All-head (λ (d : PlainBidderChange). d.left ≡ None) c xs all)
     (map_of_none xs (All-tail (λ (d : PlainBidderChange). d.left ≡ None) c xs all))
 
-pairs_rise : (xs : List ℕ) → IsRising xs → AllPairs (λ x y. x < y) xs
-pairs_rise [] r = AllPairs-nil (λ x y. x < y)
-pairs_rise (x ∷ xs) r = AllPairs-cons (λ x y. x < y) x xs (above_all x xs r.0) (pairs_rise xs r.1)
-
 same_rising : (xs ys : List ℕ) → IsRising xs → IsRising ys → ((i : ℕ) → count_of nat_cmp i xs ≡ count_of nat_cmp i ys) → xs ≡ ys
 same_rising xs ys r s same =
-    same_in_strict_order (λ x y. x < y) (λ x y l m. omega arith) xs ys (pairs_rise xs r) (pairs_rise ys s)
-    (λ x c. let some = there_is_counted nat_cmp nat_cmp_total x xs c in let e = same x in
-    counted_is_there nat_cmp nat_cmp_total nat_cmp-IsAntisymmetric x ys (omega arith))
-    (λ x c. let some = there_is_counted nat_cmp nat_cmp_total x ys c in let e = same x in
-    counted_is_there nat_cmp nat_cmp_total nat_cmp-IsAntisymmetric x xs (omega arith))
+    sym (sort_rising xs r) ∙ sort_by-same nat_cmp nat_cmp_total nat_cmp-IsAntisymmetric xs ys same ∙ sort_rising ys s
 
 same_head : (o p : Option ℕ) (os ps : List (Option ℕ)) → o ∷ os ≡ p ∷ ps → o ≡ p
 same_head o p os ps e = cc

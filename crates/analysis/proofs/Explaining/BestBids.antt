@@ -9,6 +9,7 @@ use Rattle.analysis.proofs.Common.{bundle_cmp_equal, bundle_cmp_refl, nat_cmp-lt
 use Rattle.analysis.proofs.Common.{are_alike, is_better, numbers_of, IsBestFor, numbered_cmp, AreInOrder, IsSortedBy, IsPartitionedBy, IsPartitionPoint}
 use Rattle.analysis.proofs.Common.{ordering_index, back_total, length_permutation, searchable_from_sorted}
 use Rattle.analysis.specs.BidOrders.{key_cmp}
+use Rattle.canon.specs.Lemmas.Finding.{equal_from}
 
 -- ---- lists
 
@@ -32,11 +33,6 @@ pub key_first : (o p q : Ordering) → is_lt (ordering_then (ordering_then o p) 
 key_first Less p q e = e
 key_first Equal p q e = refl
 key_first Greater p q e = refl
-
-pub equal_from : (o : Ordering) → is_eq o ≡ true → o ≡ Equal
-equal_from Less e = absurd (cc)
-equal_from Equal e = refl
-equal_from Greater e = absurd (cc)
 
 both_not_less : (o p : Ordering) → o ≡ ordering_reverse p → is_lt o ≡ false → is_lt p ≡ false → o ≡ Equal
 both_not_less Less p e f g = absurd (cc)

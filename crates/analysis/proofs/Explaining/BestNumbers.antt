@@ -3,8 +3,8 @@ use Rattle.analysis.proofs.Common.{rules, ◌≡◌, ℕ, ◌<◌, true, ◌&&�
 use Rattle.analysis.proofs.Common.{and_parts, false_from_ne_true, get_or-range_with_len, length-range_with_len, PlainBid, PlainFile, atom_of, find_first}
 use Rattle.analysis.proofs.Common.{greatest_price-member, bid_at, bidder_of, numbers_of, are_alike, is_best, best_number, IsBestFor}
 use Rattle.analysis.proofs.Explaining.BestBids.{HaveOneKey, one_key, alike_from}
-use Rattle.analysis.proofs.Explaining.KeptBidsLists.{in_numbers}
 use Rattle.analysis.proofs.Explaining.KeptBidsBest.{atom_there, atoms_of_bidder, best-once, best_of_greatest, is_of, its_own}
+use Rattle.analysis.proofs.Common.{range_contains}
 
 pub numbers_rise : (n : ℕ) → AllPairs (λ i j. i < j) (range_with_len 0 n)
 numbers_rise n i j d l within = omega (arith, length-range_with_len, get_or-range_with_len)
@@ -16,7 +16,7 @@ pub best_number_is : (f : PlainFile) (dummy : Option ℕ) (goods : List ℕ) (j 
     → HaveOneKey (bid_at f j) (bid_on dummy goods) → best_number f dummy goods ≡ Some j
 best_number_is f dummy goods j l best own =
     find_first (λ x y. x < y) (λ i. are_alike (bid_at f i) (bid_on dummy goods) && is_best f i) (numbers_of f) (numbers_rise (length f.bids)) j
-    (in_numbers (length f.bids) j l)
+    (range_contains (length f.bids) j l)
     (and_from (are_alike (bid_at f j) (bid_on dummy goods)) (is_best f j) (alike_from (bid_at f j) (bid_on dummy goods) own) best)
     (λ y less. false_from_ne_true (are_alike (bid_at f y) (bid_on dummy goods) && is_best f y) (λ t.
     let parts = and_parts (are_alike (bid_at f y) (bid_on dummy goods)) (is_best f y) t in

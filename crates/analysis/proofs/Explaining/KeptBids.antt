@@ -11,10 +11,11 @@ use Rattle.analysis.proofs.Common.{is_xor_point, on_bundles, list_any_has, IsOnB
 use Rattle.analysis.proofs.Common.{dummy_bids, points_of_kept_dummies, kept_dummies-differ, kept_dummies-below, kept_bids, kept_dummies, named_bid}
 use Rattle.analysis.proofs.Common.{points_of_dummy, bid_at, bidder_of, IsKeptAs, points_of, IsAuction, before_itself, kept_dummies-has}
 use Rattle.analysis.proofs.Explaining.BestBids.{element_at}
-use Rattle.analysis.proofs.Explaining.KeptBidsLists.{in_numbers, in_flat_map, from_flat_map, AreDifferent, different_indices, different_append}
+use Rattle.analysis.proofs.Explaining.KeptBidsLists.{in_flat_map, from_flat_map, AreDifferent, different_indices, different_append}
 use Rattle.analysis.proofs.Explaining.KeptBidsLists.{different_flat_map}
 use Rattle.analysis.proofs.Explaining.KeptBidsBest.{atom_there, atoms_of_bidder, best_of_greatest, is_dummy-same}
 use Rattle.analysis.proofs.Explaining.PointFates.{IsGreatest, or_is_greatest, xor_is_greatest}
+use Rattle.analysis.proofs.Common.{range_contains}
 
 -- ---- the bids, bidder by bidder
 
@@ -110,7 +111,7 @@ pub xor_on : (f : PlainFile) → IsPlainFile f → (d : ℕ) → d < f.dummy →
 xor_on f is d l =
     on_bundles f.goods (xor_atoms_of f.bids d) (All-contains (All (IsAtom f.goods)) (map (xor_atoms_of f.bids) (range_with_len 0 f.dummy))
     (xor_atoms_of f.bids d)
-    (auction f is).xor_atoms (Contains-map (xor_atoms_of f.bids) (range_with_len 0 f.dummy) d (in_numbers f.dummy d l)))
+    (auction f is).xor_atoms (Contains-map (xor_atoms_of f.bids) (range_with_len 0 f.dummy) d (range_contains f.dummy d l)))
 
 -- a point of a bidder that the file has
 abbrev IsPoint : PlainFile → PlainBid → Type 0

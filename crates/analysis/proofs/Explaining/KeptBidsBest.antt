@@ -7,7 +7,9 @@ use Rattle.analysis.proofs.Common.{PlainBid, PlainFile, Atom, atom_of, is_dummy,
 use Rattle.analysis.proofs.Common.{Contains-filter, Contains-filter_parts, list_any_fails, greatest_price-member, greatest_price-bound, greatest_price-reached}
 use Rattle.analysis.proofs.Common.{bid_at, bidder_of, are_alike, is_better, is_best, numbers_of, or_right}
 use Rattle.analysis.proofs.Explaining.BestBids.{HaveOneKey, one_key, alike_from}
-use Rattle.analysis.proofs.Explaining.KeptBidsLists.{in_numbers, below_numbers, first_index}
+use Rattle.analysis.proofs.Explaining.KeptBidsLists.{first_index}
+use Rattle.analysis.proofs.Common.{range_contains, in_range}
+use Rattle.std.proofs.lemmas.Grind.{common_steps}
 
 -- ---- bids
 
@@ -30,7 +32,7 @@ one_key_same a b e = record { bidder = ap (λ (c : PlainBid). bidder_of c.dummy)
 
 module _ (f : PlainFile) (i j : ℕ) (best : is_best f i ≡ true) (l : j < length f.bids) (h : HaveOneKey (bid_at f j) (bid_at f i)) where
   not_better : is_better f j i ≡ false
-  not_better = list_any_fails (λ k. is_better f k i) (numbers_of f) (not-true _ best) j (in_numbers (length f.bids) j l)
+  not_better = list_any_fails (λ k. is_better f k i) (numbers_of f) (not-true _ best) j (range_contains (length f.bids) j l)
 
   better : (ltb (bid_at f i).price (bid_at f j).price || (eqb (bid_at f j).price (bid_at f i).price && ltb j i)) ≡ true → ⊥
   better t = both_ways (is_better f j i) not_better (and_from (are_alike (bid_at f j) (bid_at f i)) _ (alike_from (bid_at f j) (bid_at f i) h) t)
@@ -69,7 +71,7 @@ best_of f b k l e greatest =
         is = there;
         best = not_from_false _ (list_any_none (λ i. is_better f i r.0) (numbers_of f)
             (All-from_Contains (λ i. is_better f i r.0 ≡ false) (numbers_of f) (λ i c. false_from_ne_true (is_better f i r.0)
-            (none r.0 there r.1.none i (below_numbers (length f.bids) i c)))));
+            (none r.0 there r.1.none i (in_range (length f.bids) i c)))));
       },
     )
   where
@@ -77,17 +79,7 @@ best_of f b k l e greatest =
     same c t = let parts = and_parts (are_alike c b) (eqb c.price b.price) t in same_bid c b (one_key c b parts.0) (eqb-true _ _ parts.1)
 
     none : (j : ℕ) → bid_at f j ≡ b → ((i : ℕ) → i < j → is_same b (bid_at f i) ≡ false) → (i : ℕ) → i < length f.bids → is_better f i j ≡ true → ⊥
-    none j is before i m t =
-        let parts = and_parts (are_alike (bid_at f i) (bid_at f j)) _ t in
-        let alike : are_alike (bid_at f i) b ≡ true = subst (λ (c : PlainBid). are_alike (bid_at f i) c ≡ true) is parts.0 in
-        let low = greatest i m (one_key (bid_at f i) b alike) in
-        let price : (bid_at f j).price ≡ b.price = ap (λ (c : PlainBid). c.price) is in
-        ⊎_elim (λ (s : ltb (bid_at f j).price (bid_at f i).price ≡ true). let o = ltb-true _ _ s in absurd (omega arith))
-        (λ (s : (eqb (bid_at f i).price (bid_at f j).price && ltb i j) ≡ true).
-        let both = and_parts (eqb (bid_at f i).price (bid_at f j).price) (ltb i j) s in
-        both_ways (is_same b (bid_at f i)) (before i (ltb-true _ _ both.1))
-        (and_from (are_alike (bid_at f i) b) (eqb (bid_at f i).price b.price) alike (eq-eqb (bid_at f i).price b.price (eqb-true _ _ both.0 ∙ price))))
-        (or_cases (ltb (bid_at f j).price (bid_at f i).price) _ parts.1)
+    none j is before i m t = grind (arith, common_steps, and_parts, is, one_key, ltb-true, and_from, eq-eqb, eqb-true, or_cases)
 
 -- ---- the atoms of a bidder are its bids
 

@@ -4,20 +4,12 @@ use Rattle.analysis.proofs.Common.{arith, All, AllPairs, Contains, slice_get, Al
 use Rattle.analysis.proofs.Common.{false_from_ne_true, flat_map-cons, recursion_from_All, Contains-append_left, Contains-append_right, Contains-append_cases}
 use Rattle.analysis.proofs.Common.{length-range_with_len, get_or-range_with_len, slice_get-get_or, Contains-cons_cases, AllPairs-nil, AllPairs-head}
 use Rattle.analysis.proofs.Common.{AllPairs-tail, AllPairs-append, Contains-nil, Contains-head, Contains-tail, All-from_Contains, filter-kept, filter-lost}
+use Rattle.analysis.proofs.Common.{in_range}
 
 -- ---- numbers
 
-pub in_numbers : (n j : ℕ) → j < n → Contains (range_with_len 0 n) j
-in_numbers n j l =
-    let long = length-range_with_len 0 n in
-    let at = get_or-range_with_len 0 n j j l in
-    (j, omega arith, omega arith)
-
-pub below_numbers : (n j : ℕ) → Contains (range_with_len 0 n) j → j < n
-below_numbers n j c = omega (arith, length-range_with_len, get_or-range_with_len)
-
 pub all_numbers : (P : ℕ → Type 0) (n : ℕ) → ((j : ℕ) → j < n → P j) → AllByRecursion P (range_with_len 0 n)
-all_numbers P n h = recursion_from_All P (range_with_len 0 n) (All-from_Contains P (range_with_len 0 n) (λ j c. h j (below_numbers n j c)))
+all_numbers P n h = recursion_from_All P (range_with_len 0 n) (All-from_Contains P (range_with_len 0 n) (λ j c. h j (in_range n j c)))
 
 -- ---- a test that one element passes
 

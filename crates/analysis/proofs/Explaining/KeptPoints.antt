@@ -9,9 +9,9 @@ use Rattle.analysis.proofs.Explaining.BestNumbers.{best_number_is, numbers_rise}
 use Rattle.analysis.proofs.Explaining.Deciding.{priced_within}
 use Rattle.analysis.proofs.Explaining.KeptBids.{kept-is-best, kept-once, or-points-are-kept, or_on, xor-points-are-kept, xor_on, bundle_here, dummy-is-kept}
 use Rattle.analysis.proofs.Explaining.KeptBidsBest.{atoms_of_bidder, best-once, greatest-is-best, one_key_same}
-use Rattle.analysis.proofs.Explaining.KeptBidsLists.{in_numbers}
 use Rattle.analysis.proofs.Explaining.Packings.{IsPointOf}
 use Rattle.analysis.proofs.Explaining.PointFates.{best_bids-has, or_kept_are_points, xor_kept_are_points}
+use Rattle.analysis.proofs.Common.{range_contains}
 
 -- ---- bids of the canonical file
 
@@ -60,7 +60,7 @@ kept_number_is f is i k kept =
     let within = slice_get_within (kept_bids f) k (bid_at f i) kept.is in
     let here : kept_bid f k ≡ bid_at f i = get_or_from_slice_get (kept_bids f) k (bid_at f i) _ kept.is in
     ap (λ (o : Option ℕ). unwrap_or o 0)
-    (find_first (λ x y. x < y) (λ k. are_alike (kept_bid f k) (bid_at f i)) (range_with_len 0 count) (numbers_rise count) k (in_numbers count k within)
+    (find_first (λ x y. x < y) (λ k. are_alike (kept_bid f k) (bid_at f i)) (range_with_len 0 count) (numbers_rise count) k (range_contains count k within)
     (alike_from (kept_bid f k) (bid_at f i) (one_key_same (kept_bid f k) (bid_at f i) here))
     (λ y less. false_from_ne_true (are_alike (kept_bid f y) (bid_at f i)) (λ t.
     let there : slice_get (kept_bids f) y ≡ Some (kept_bid f y) = slice_get-get_or (kept_bids f) y _ (omega arith) in

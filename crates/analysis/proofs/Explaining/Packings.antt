@@ -10,6 +10,8 @@ use Rattle.analysis.proofs.Common.{apart_inside_none, inside_refl, PlainBid, Pla
 use Rattle.analysis.proofs.Common.{IsPackingFor, bid_at, all_apart, goods_at, IsPointBid, IsPointInside}
 use Rattle.std.specs.Cmp.{both_ways as same_test}
 use Rattle.goods_set.specs.Bundles.{AreApart}
+use Rattle.canon.specs.Lemmas.OrDifferences.{eqb_swap}
+use Rattle.std.proofs.Common.{rules}
 
 -- ---- lists
 
@@ -46,16 +48,11 @@ pub rising_from_pairs : (xs : List ℕ) → AllPairs (λ x y. x < y) xs → IsRi
 rising_from_pairs [] h = tt
 rising_from_pairs (x ∷ xs) h = (above_from_all x xs (AllPairs-head (λ y z. y < z) x xs h), rising_from_pairs xs (AllPairs-tail (λ y z. y < z) x xs h))
 
-pub eqb_flips : (x y : ℕ) → eqb x y ≡ eqb y x
-eqb_flips x y = same_test (eqb x y) (eqb y x) (λ t. eq-eqb y x (sym (eqb-true x y t))) (λ t. eq-eqb x y (sym (eqb-true y x t)))
-
 -- ---- numbers that differ, sorted
 
 module _ (xs js : List ℕ) (same : IsPermutation xs js) (sorted : IsSorted nat_cmp js) (differ : AllPairs (λ i j. i ≡ j → ⊥) xs) where
   pub increasing : AllPairs (λ i j. i < j) js
-  increasing =
-      let distinct = IsDistinct-IsPermutation eqb eqb_flips xs js same (IsDistinct-from_AllPairs Decides-eqb xs differ) in
-      AllPairs-from_increasing js (IsStrictlyIncreasing-from_distinct js (IsNonDecreasingBy-from_sort (λ n. n) js sorted) distinct)
+  increasing = search (rules, IsDistinct-IsPermutation, eqb_swap, IsDistinct-from_AllPairs, Decides-eqb, differ, AllPairs-from_increasing, IsStrictlyIncreasing-from_distinct, IsNonDecreasingBy-from_sort)
 
   pub pairs_sorted : (R : ℕ → ℕ → Type 0) → ((x y : ℕ) → R x y → R y x) → AllPairs R xs → AllPairs R js
   pairs_sorted R flips pairs i j d m l =

@@ -16,8 +16,9 @@ use Rattle.analysis.proofs.Explaining.BestNumbers.{best_number_is}
 use Rattle.analysis.proofs.Explaining.KeptBids.{bid_here}
 use Rattle.analysis.proofs.Explaining.KeptBidsBest.{atoms_of_bidder, best-once, best_of_greatest, same_bidder}
 use Rattle.analysis.proofs.Explaining.KeptPoints.{best_is_there, kept_points}
-use Rattle.analysis.proofs.Explaining.Packings.{eqb_flips, pairs_unmap}
+use Rattle.analysis.proofs.Explaining.Packings.{pairs_unmap}
 use Rattle.analysis.proofs.Explaining.PointFates.{best_bids-are, best_bids-in_order}
+use Rattle.canon.specs.Lemmas.OrDifferences.{eqb_swap}
 
 -- what a bid of the list offers
 abbrev pub offer : NumberedBid → Atom (List ℕ)
@@ -46,7 +47,7 @@ module _ (f : PlainFile) (bids : List NumberedBid) (order : AreInOrder f bids) w
   numbers_differ =
       pairs_unmap (λ i j. i ≢ j) number bids
       (AllPairs-from_IsDistinct Decides-eqb (map number bids)
-      (IsDistinct-IsPermutation eqb eqb_flips (map number order.numbered) (map number bids) (IsPermutation-map number order.numbered bids order.same)
+      (IsDistinct-IsPermutation eqb eqb_swap (map number order.numbered) (map number bids) (IsPermutation-map number order.numbered bids order.same)
       (IsDistinct-from_AllPairs Decides-eqb (map number order.numbered) first_numbers)))
 
   none_after : AllPairs (λ m n. is_lt (numbered_cmp n m) ≡ false) bids

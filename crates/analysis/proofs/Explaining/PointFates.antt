@@ -13,8 +13,8 @@ use Rattle.analysis.proofs.Common.{or_points_on_bundles, xor_points_keep_values,
 use Rattle.analysis.proofs.Common.{xor_value-reached}
 use Rattle.prune.specs.Fates.{or_fate, xor_fate}
 use Rattle.prune.specs.Points.{points_where}
-use Rattle.analysis.proofs.Explaining.KeptBidsLists.{below_numbers, in_numbers}
 use Rattle.analysis.proofs.Explaining.KeptBidsBest.{none_is}
+use Rattle.analysis.proofs.Common.{range_contains, in_range}
 
 same_atom : (a b : Atom (List ℕ)) → a.bundle ≡ b.bundle → a.price ≡ b.price → a ≡ b
 same_atom a b e f = ap₂ (λ (xs : List ℕ) (n : ℕ). record { bundle = xs; price = n }) e f
@@ -176,7 +176,7 @@ module _ (goods : ℕ) (atoms : List (Atom (List ℕ))) (on : All (IsOnBundle go
       → Contains xor_all (atom_at xor_all index) × (is_below (atom_at xor_all index).bundle bundle ≡ true)
   index_is_below bundle index c =
       let parts = Contains-filter_parts (λ index. is_below (atom_at xor_all index).bundle bundle) (range_with_len 0 (length xor_all)) index c in
-      (Contains-get_or xor_all index (record { bundle = []; price = 0 }) (below_numbers (length xor_all) index parts.0), parts.1)
+      (Contains-get_or xor_all index (record { bundle = []; price = 0 }) (in_range (length xor_all) index parts.0), parts.1)
 
   -- no point below a point has its price
   xor_short : (a : Atom (List ℕ)) → Contains xor_all a → xor_fate xor_all a ≡ None
@@ -215,7 +215,7 @@ module _ (goods : ℕ) (atoms : List (Atom (List ℕ))) (on : All (IsOnBundle go
       let on_whole : is_inside a.bundle q.0.bundle ≡ true = ⊎_elim (λ (t : is_inside a.bundle q.0.bundle ≡ true). t)
       (λ (n : is_inside a.bundle q.0.bundle ≡ false).
       let there = Contains-filter (λ index. is_below (atom_at xor_all index).bundle a.bundle) (range_with_len 0 (length xor_all)) q.1.0
-      (in_numbers (length xor_all) q.1.0 q.1.1) (ap (λ (z : Atom (List ℕ)). is_below z.bundle a.bundle) at ∙ below_from q.0.bundle a.bundle q.2 n) in
+      (range_contains (length xor_all) q.1.0 q.1.1) (ap (λ (z : Atom (List ℕ)). is_below z.bundle a.bundle) at ∙ below_from q.0.bundle a.bundle q.2 n) in
       let missed = found_none (λ index. leb a.price (atom_at xor_all index).price) (indices_below xor_all a.bundle) none q.1.0 there in
       absurd (both_ways (leb a.price q.0.price) (ap (λ (z : Atom (List ℕ)). leb a.price z.price) (sym at) ∙ missed) (le-leb a.price q.0.price (omega arith))))
       (cases_Bool (is_inside a.bundle q.0.bundle)) in

@@ -9,15 +9,11 @@ use Rattle.analysis.proofs.Common.{bid_at, bidder_of, is_best, IsBestFor, AreInO
 use Rattle.analysis.proofs.Common.{same_Some, get_or-take, IsBestAt, IsLastBest, IsNext, best_after, dummy_of}
 use Rattle.analysis.specs.BidOrders.{key_cmp}
 use Rattle.analysis.proofs.Explaining.BestBids.{HaveOneKey, alike_from, first_is_best, from_equal, key_cmp_total, key_first, key_same, numbered}
-use Rattle.analysis.proofs.Explaining.BestBids.{numbered_cmp_total, one_key, equal_from, partitioned}
+use Rattle.analysis.proofs.Explaining.BestBids.{numbered_cmp_total, one_key, partitioned}
 use Rattle.analysis.proofs.Explaining.KeptBidsBest.{best-once, same_bidder}
 use Rattle.analysis.proofs.Explaining.KeptBidsLists.{filter_none}
-
-same_or_other : (o p : Option ℕ) → (o ≡ p) ⊎ (o ≡ p → ⊥)
-same_or_other None None = inl refl
-same_or_other None (Some d) = inr (λ e. absurd (cc))
-same_or_other (Some c) None = inr (λ e. absurd (cc))
-same_or_other (Some c) (Some d) = ⊎_elim (λ (e : c ≡ d). inl (ap Some e)) (λ (n : c ≡ d → ⊥). inr (λ e. n (same_Some c d e))) (cases_eq c d)
+use Rattle.canon.specs.Lemmas.Finding.{equal_from}
+use Rattle.canon.specs.Lemmas.FirstChanges.{same_price_cases}
 
 less_from : (o p : Ordering) → p ≡ ordering_reverse o → is_lt p ≡ false → is_eq o ≡ false → is_lt o ≡ true
 less_from Less p e l n = refl
@@ -155,7 +151,7 @@ module _ {known : Known} {index : ℕ} {n : NumberedBid} (next : IsNext known in
       → (dummy_of walk.best ≡ n.bid.dummy → (after.passed ≡ walk.passed) × (after.points.items ≡ walk.points.items))
       → ((dummy_of walk.best ≡ n.bid.dummy → ⊥) → (after.passed ≡ 0) × (after.points.items ≡ []))
       → HasPassed f bids n.bid.dummy index after
-  turned {walk} {after} is same other = search (rules, none_passed, same_or_other)
+  turned {walk} {after} is same other = search (rules, none_passed, same_price_cases)
 
   -- ---- a bid that is not a best bid with a price above 0
 
