@@ -8,6 +8,7 @@ mod large;
 mod many;
 mod rows;
 
+use crate::bidders::bids::AMPLE;
 use analysis::differences::{BidderChange, Differences, all_differences};
 use bid_file::PackedFile;
 use canon::comparing::PriceChange;
@@ -18,21 +19,28 @@ use std::process::Abort;
 use std::test::Fail;
 use valuation::search::SearchOptions;
 
-/// A step limit that no search of these files reaches.
-const AMPLE: u64 = 1_000_000;
-
 /// The line of a bid, which is given without its number and its mark.
-fn push_bid(alloc: Global, number: usize, bid: &str, text: &mut String) -> Result<(), AllocError> {
+fn push_bid_line(
+    alloc: Global,
+    number: usize,
+    bid: &str,
+    text: &mut String,
+) -> Result<(), AllocError> {
     let line = format!(in alloc; "{number} {bid} #\n")?;
     text.push_str(&line)
 }
 
 /// The text of a file with these bids.
-fn text_of(alloc: Global, goods: u16, dummy: u32, bids: &[&str]) -> Result<String, AllocError> {
+fn text_of_bids(
+    alloc: Global,
+    goods: u16,
+    dummy: u32,
+    bids: &[&str],
+) -> Result<String, AllocError> {
     let count = bids.len();
     let mut text = format!(in alloc; "goods {goods}\nbids {count}\ndummy {dummy}\n")?;
     for (number, bid) in bids.iter().enumerate() {
-        push_bid(alloc, number, bid, &mut text)?;
+        push_bid_line(alloc, number, bid, &mut text)?;
     }
     Ok(text)
 }

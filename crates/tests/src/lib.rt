@@ -4,7 +4,7 @@
 
 #[cfg(test)]
 mod bidders;
-pub mod by_definition;
+mod by_definition;
 #[cfg(test)]
 mod canonical;
 #[cfg(test)]

@@ -1,6 +1,6 @@
 //! One change in a file of 1,000 bids.
 
-use super::{expect, push_bid};
+use super::{expect, push_bid_line};
 use std::alloc::{AllocError, Global};
 use std::test::Fail;
 
@@ -42,8 +42,8 @@ fn large_text(alloc: Global, changed: &[Changed]) -> Result<String, AllocError> 
     let mut text = format!(in alloc; "goods {GOODS}\nbids {BIDS}\ndummy {XOR_BIDDERS}\n")?;
     for number in 0..BIDS {
         match changed.iter().find(|other| other.number == number) {
-            Some(other) => push_bid(alloc, number, other.bid, &mut text)?,
-            None => push_bid(alloc, number, &bid_of(alloc, number)?, &mut text)?,
+            Some(other) => push_bid_line(alloc, number, other.bid, &mut text)?,
+            None => push_bid_line(alloc, number, &bid_of(alloc, number)?, &mut text)?,
         }
     }
     Ok(text)

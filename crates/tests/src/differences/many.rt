@@ -2,7 +2,7 @@
 
 ghost use Rattle.std.specs.Prelude.{◌<◌, ◌≤◌};
 
-use super::{expect, push_bid};
+use super::{expect, push_bid_line};
 use std::alloc::{AllocError, Global};
 use std::test::Fail;
 
@@ -25,7 +25,7 @@ fn text_at(alloc: Global, price: u64) -> Result<String, AllocError> {
             1 => format!(in alloc; "{price} {second} {dummy}")?,
             _ => format!(in alloc; "4 {last} {dummy}")?,
         };
-        push_bid(alloc, number, &bid, &mut text)?;
+        push_bid_line(alloc, number, &bid, &mut text)?;
     }
     Ok(text)
 }
@@ -77,7 +77,7 @@ fn text_of_pairs(
             let good = own + bidder;
             format!(in alloc; "1 {good} {dummy}")?
         };
-        push_bid(alloc, number, &bid, &mut text)?;
+        push_bid_line(alloc, number, &bid, &mut text)?;
     }
     Ok(text)
 }
@@ -121,7 +121,7 @@ fn text_of_both(alloc: Global) -> Result<String, AllocError> {
             _ => (1, 3 * PAIRS + bidder),
         };
         let bid = format!(in alloc; "{price} {good} {dummy}")?;
-        push_bid(alloc, number, &bid, &mut text)?;
+        push_bid_line(alloc, number, &bid, &mut text)?;
     }
     Ok(text)
 }
@@ -140,7 +140,7 @@ fn text_of_one(alloc: Global) -> Result<String, AllocError> {
         } else {
             format!(in alloc; "1 {bidder} {dummy}")?
         };
-        push_bid(alloc, number, &bid, &mut text)?;
+        push_bid_line(alloc, number, &bid, &mut text)?;
     }
     Ok(text)
 }

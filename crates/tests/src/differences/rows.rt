@@ -1,6 +1,6 @@
 //! Differences that are worked out by hand. Texts have prices in units, the lines in millionths.
 
-use super::{expect, text_of};
+use super::{expect, text_of_bids};
 use std::process::Abort;
 use std::test::Fail;
 
@@ -163,8 +163,8 @@ bidder None Some(0)\n[0] None Some(2000000)\nbidder None Some(2)\n[2] None Some(
 /// Each row, and that its files have no difference from themselves.
 fn expect_rows(rt: &(impl Abort + AllocGlobal), rows: &[Row]) -> Result<(), Fail> {
     for row in rows {
-        let left = text_of(rt.alloc(), 3, 3, row.left)?;
-        let right = text_of(rt.alloc(), 3, 3, row.right)?;
+        let left = text_of_bids(rt.alloc(), 3, 3, row.left)?;
+        let right = text_of_bids(rt.alloc(), 3, 3, row.right)?;
         expect(rt, &left, &right, row.lines)?;
         expect(rt, &left, &left, "")?;
         expect(rt, &right, &right, "")?;
@@ -182,8 +182,8 @@ fn rows_by_hand(rt: HostRuntime) -> Result<(), Fail> {
 /// The bids are compared too.
 #[test]
 fn numbers_of_goods(rt: HostRuntime) -> Result<(), Fail> {
-    let one = text_of(rt.alloc(), 1, 0, &["3 0"])?;
-    let two = text_of(rt.alloc(), 2, 1, &["4 0", "5 1 2"])?;
+    let one = text_of_bids(rt.alloc(), 1, 0, &["3 0"])?;
+    let two = text_of_bids(rt.alloc(), 2, 1, &["4 0", "5 1 2"])?;
     expect(
         &rt,
         &one,
@@ -201,7 +201,7 @@ fn numbers_of_goods(rt: HostRuntime) -> Result<(), Fail> {
 /// Files without bids differ in their numbers of goods alone.
 #[test]
 fn numbers_of_goods_alone(rt: HostRuntime) -> Result<(), Fail> {
-    let one = text_of(rt.alloc(), 1, 0, &[])?;
-    let two = text_of(rt.alloc(), 2, 0, &[])?;
+    let one = text_of_bids(rt.alloc(), 1, 0, &[])?;
+    let two = text_of_bids(rt.alloc(), 2, 0, &[])?;
     expect(&rt, &one, &two, "goods 1 2\n")
 }

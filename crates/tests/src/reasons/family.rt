@@ -1,6 +1,7 @@
 //! The reasons of the bids of many small files. Each is checked by reading all bids of the file and of its canonical
 //! file.
 
+use crate::bidders::bids::AMPLE;
 use crate::random::{Sizes, next_text, up_to};
 use analysis::reasons::{Reason, explain};
 use bid_file::{BidRef, Bids, PackedFile};
@@ -12,9 +13,6 @@ use std::test::Fail;
 use valuation::search::SearchOptions;
 
 const FILES: usize = 500;
-
-/// A limit that no search of these files reaches.
-const AMPLE: u64 = 1_000_000;
 
 const GOODS: u64 = 3;
 
