@@ -1,6 +1,6 @@
 -- The numbers of the bids that have a good, bid by bid. The goods of a bid rise, with its dummy good behind them, so its number is put once
 -- in the list of each.
-use Rattle.analysis.proofs.Common.{rules, ◌≡◌, ℕ, ◌+◌, ◌<◌, ◌≤◌, Bool, ◌||◌, eqb, ⊎_elim, List, [], ◌∷◌, ◌++◌, length, set, get_or, refl, sym, ap, ap₂, ◌∙◌}
+use Rattle.analysis.proofs.Common.{rules, ◌≡◌, ℕ, ◌+◌, ◌<◌, Bool, ◌||◌, eqb, ⊎_elim, List, [], ◌∷◌, ◌++◌, length, set, get_or, refl, sym, ap, ap₂, ◌∙◌}
 use Rattle.analysis.proofs.Common.{subst, arith, Option, Some, Global, append-nil, get_or-set_same, get_or-set_other, All, Vec, filter, range_with_len}
 use Rattle.analysis.proofs.Common.{cases_eq, eq-eqb, ne_eqb, or_left, get_or-append_seam, get_or_append_left, get_or-map, length-append, length-map, length-set}
 use Rattle.analysis.proofs.Common.{map-set, All-from_recursion, filter-append, AreAbove, AreBelow, IsRising, has_good, IsBid, PlainBid, PlainFile, dummy_good}

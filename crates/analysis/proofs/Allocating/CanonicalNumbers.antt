@@ -1,11 +1,11 @@
 -- Numbers of kept bids and numbers of the canonical file. Each gives back the other, so a list of either that rises does too, once what it
 -- gives is sorted.
-use Rattle.analysis.proofs.Common.{◌≡◌, ℕ, ◌<◌, true, cond, List, [], ◌∷◌, length, map, refl, sym, ap, ap₂, ◌∙◌, subst, nat_cmp, Ordering}
-use Rattle.analysis.proofs.Common.{nat_cmp-IsAntisymmetric, is_gt, All, IsPermutation, nat_cmp_total, All-head, All-map, All-tail, All-weaker}
-use Rattle.analysis.proofs.Common.{IsPermutation-map, IsPermutation-sym, AreAbove, IsRising, nat_cmp-lt, PlainBid, PlainFile, IsPlainFile, All-sort_by}
+use Rattle.analysis.proofs.Common.{◌≡◌, ℕ, ◌<◌, true, List, [], ◌∷◌, length, map, refl, sym, ap, ap₂, ◌∙◌, subst, nat_cmp}
+use Rattle.analysis.proofs.Common.{nat_cmp-IsAntisymmetric, All, IsPermutation, nat_cmp_total, All-head, All-map, All-tail, All-weaker}
+use Rattle.analysis.proofs.Common.{IsPermutation-map, IsPermutation-sym, IsRising, PlainBid, PlainFile, IsPlainFile, All-sort_by}
 use Rattle.analysis.proofs.Common.{permutation-sort_by, sorted-sort_by, sorted_is_sort_by, sort_by, canonical_file, IsPlainFile-canonical, bid_at, PlainReason}
 use Rattle.analysis.proofs.Common.{Keep, Zero, Same, Inside, Packing, IsKeptAs, is_kept, kept_number, IsDecided, IsAllocation, AreKept, in_canonical_file}
-use Rattle.analysis.proofs.Common.{kept_as, number_kept_as, same_Some, IsPermutation-trans, insert_by}
+use Rattle.analysis.proofs.Common.{kept_as, number_kept_as, same_Some, IsPermutation-trans}
 use Rattle.analysis.specs.Reasons.{reason_of}
 use Rattle.analysis.proofs.Explaining.BestBids.{alike_from}
 use Rattle.analysis.proofs.Explaining.KeptBidsBest.{best-once, one_key_same}

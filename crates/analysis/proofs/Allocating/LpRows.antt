@@ -1,6 +1,6 @@
 -- The rows are met exactly by allocations: two winners that share a good, or a dummy good, are both in its row, and other winners are not.
 -- A row's bids are those of all numbers that pass a test, so they rise; and so are the winners, whose prices the objective adds up.
-use Rattle.analysis.proofs.Common.{rules, ◌≡◌, ℕ, ◌+◌, ◌*◌, ◌<◌, ◌≤◌, Bool, true, false, not, eqb, ⊎_elim, ◌⊎◌, inl, inr, List, [], ◌∷◌, ◌++◌, length, map}
+use Rattle.analysis.proofs.Common.{rules, ◌≡◌, ℕ, ◌+◌, ◌*◌, ◌<◌, ◌≤◌, Bool, true, false, not, eqb, ⊎_elim, ◌⊎◌, List, [], ◌∷◌, ◌++◌, length, map}
 use Rattle.analysis.proofs.Common.{refl, sym, ap, ◌∙◌, subst, Option, Some, None, arith, Contains, IsTrue, if◌then◌else◌, sum_by, filter, list_all}
 use Rattle.analysis.proofs.Common.{range_with_len, and_from, and_parts, both_ways, cases_Bool, eq-eqb, eqb-true, lt-ltb, not_from_false, false_from_ne_true}
 use Rattle.analysis.proofs.Common.{not-true, All-contains, Contains-append_cases, Contains-append_left, Contains-append_right, AllPairs-filter, sum_by-cons}

@@ -1,9 +1,8 @@
 -- The bidders that have a bid on a bundle, as a map has them, and the first of them that waits.
 use Rattle.analysis.proofs.Common.{◌≡◌, ◌<◌, ℕ, zero, suc, Bool, true, false, cond, List, [], ◌∷◌, ◌++◌, length, get_or, Some, Ordering, slice_get, sym, ap}
-use Rattle.analysis.proofs.Common.{◌∙◌, subst, arith, ⊎_elim, append-nil, filter, Bor, BTreeMap, UpdatesBy, slice_cmp, is_eq, nat_cmp, cases_Bool, cond-true}
-use Rattle.analysis.proofs.Common.{cond-false, both_ways, false_from_ne_true, bundle_cmp, bundle_cmp_equal, bundle_cmp_refl, Holders, holders_at, indices_in}
-use Rattle.analysis.proofs.Common.{passed_in, bytes_decides, IsKeyTest, lookup, nat_list_eq_equiv, is_eq-slice_cmp}
-use Rattle.std.specs.Map.{AreApart, KeepsOthers}
+use Rattle.analysis.proofs.Common.{◌∙◌, arith, ⊎_elim, append-nil, filter, Bor, BTreeMap, UpdatesBy, slice_cmp, is_eq, nat_cmp, cases_Bool}
+use Rattle.analysis.proofs.Common.{bundle_cmp, bundle_cmp_equal, bundle_cmp_refl, Holders, holders_at, indices_in}
+use Rattle.analysis.proofs.Common.{passed_in, bytes_decides}
 use Rattle.analysis.specs.Internal.Holders.{found_at}
 use Rattle.canon.specs.Lemmas.Finding.{equal_from}
 use Rattle.std.specs.Bool.{one_answer}

@@ -1,8 +1,8 @@
 -- Lists: what is there behind a partial map or a test, and how often; numbers that rise are in order.
-use Rattle.analysis.proofs.Common.{◌≡◌, ℕ, zero, suc, ◌<◌, Bool, true, false, cond, ◌⊎◌, inl, inr, ⊎_elim, List, [], ◌∷◌, map, refl, sym, ap, ap₂, ◌∙◌, subst}
-use Rattle.analysis.proofs.Common.{arith, Option, Some, None, Ordering, nat_cmp, All, AllPairs, Contains, IsTotalOrder, nat_cmp-IsAntisymmetric, filter}
-use Rattle.analysis.proofs.Common.{filter_map, cons_option, sum_by, is_eq, tied_itself, nat_cmp_total, All-contains, All-head, All-tail, sum_by-cons, AreAbove}
-use Rattle.analysis.proofs.Common.{count_of, Contains-cons_cases, AllPairs-head, AllPairs-tail, Contains-nil, Contains-head, Contains-tail, sum_by-sort_by}
+use Rattle.analysis.proofs.Common.{◌≡◌, ℕ, zero, suc, ◌<◌, Bool, true, false, cond, ⊎_elim, List, [], ◌∷◌, map, refl, sym, ap, ◌∙◌, subst}
+use Rattle.analysis.proofs.Common.{arith, Option, Some, None, Ordering, nat_cmp, All, Contains, IsTotalOrder, nat_cmp-IsAntisymmetric, filter}
+use Rattle.analysis.proofs.Common.{filter_map, cons_option, sum_by, is_eq, tied_itself, nat_cmp_total, All-head, All-tail, sum_by-cons, AreAbove}
+use Rattle.analysis.proofs.Common.{count_of, Contains-cons_cases, Contains-nil, Contains-head, Contains-tail, sum_by-sort_by}
 use Rattle.analysis.proofs.Common.{sort_by-same}
 use Rattle.analysis.proofs.Common.{insert_by, is_gt, nat_cmp-lt, IsRising, sort_by}
 

@@ -1,8 +1,8 @@
 -- With the same partners there is one list of changes. The idea: the left bidders and their partners are given, and so is which
 -- right bidders are alone, in which order; and a change is determined by its bidders.
-use Rattle.analysis.proofs.Common.{rules, ◌≡◌, ℕ, ◌+◌, ◌<◌, true, List, [], ◌∷◌, ◌++◌, map, get_or, refl, sym, ap, ap₂, ◌∙◌, subst, arith, Option, Some, None}
-use Rattle.analysis.proofs.Common.{All, AllPairs, is_some, ◌||◌, nat_cmp-IsAntisymmetric, cons_option, filter_map, is_none, nat_cmp, nat_cmp_total, append-nil}
-use Rattle.analysis.proofs.Common.{All-filter, All-head, All-tail, IsRising, Atom, AllPairs-cons, AllPairs-nil, count_of, counted_is_there, PlainBidderChange}
+use Rattle.analysis.proofs.Common.{rules, ◌≡◌, ℕ, ◌+◌, true, List, [], ◌∷◌, ◌++◌, map, get_or, refl, sym, ap, ap₂, ◌∙◌, subst, arith, Option, Some, None}
+use Rattle.analysis.proofs.Common.{All, is_some, ◌||◌, nat_cmp-IsAntisymmetric, cons_option, filter_map, is_none, nat_cmp, nat_cmp_total, append-nil}
+use Rattle.analysis.proofs.Common.{All-filter, All-head, All-tail, IsRising, Atom, count_of, PlainBidderChange}
 use Rattle.analysis.proofs.Common.{IsBidderChange, AreBidderChanges, bids_at, lefts_of, rights_of, with_left, PlainChange, ArePriceChanges, filter_passes}
 use Rattle.analysis.specs.BidderChanges.{right_alone}
 use Rattle.analysis.proofs.Comparing.Changes.{count-append, lefts-append, no_lefts_alone, rights-append}

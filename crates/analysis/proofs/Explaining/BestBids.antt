@@ -1,7 +1,7 @@
 -- In a list of all bids in order, the first bid that does not come before a bidder and a bundle is the best of that bidder's bids
 -- on that bundle, if there are any: each of them is there or after it.
 use Rattle.analysis.proofs.Common.{rules, ◌≡◌, ℕ, zero, suc, ◌<◌, ◌≤◌, true, false, ◌&&◌, ltb, eqb, ⊎_elim, List, [], ◌∷◌, length, get_or, refl, sym, ap, ap₂}
-use Rattle.analysis.proofs.Common.{◌∙◌, subst, arith, Ordering, Less, Equal, Greater, is_lt, nat_cmp, Contains, IsTotalOrder, is_eq, ordering_then}
+use Rattle.analysis.proofs.Common.{◌∙◌, subst, arith, Ordering, Less, Equal, Greater, is_lt, nat_cmp, Contains, IsTotalOrder, ordering_then}
 use Rattle.analysis.proofs.Common.{ordering_reverse, and_parts, and_from, cases_lt, both_ways, false_from_ne_true, eqb-true, eq-eqb, ltb-true, or_cases}
 use Rattle.analysis.proofs.Common.{not_from_false, on_total, then_total, nat_cmp_total, get_or_default, list_any_none, length-range_with_len}
 use Rattle.analysis.proofs.Common.{get_or-range_with_len, sorted_far, ranks_by, Contains-permutation, IsPermutation-sym, bundle_cmp, bundle_cmp_total}

@@ -1,7 +1,7 @@
 -- The best bids of a file. The idea: a best bid has the greatest price of its bidder's bids on its goods, and of a
 -- bidder's bids on a bundle one alone is the best, the first of those with the greatest price.
-use Rattle.analysis.proofs.Common.{rules, ◌≡◌, ℕ, ◌<◌, ◌≤◌, Bool, true, false, ◌&&◌, ◌||◌, ltb, eqb, ⊎_elim, List, [], length, map, Option, Some, None, is_none}
-use Rattle.analysis.proofs.Common.{refl, sym, ap, ◌∙◌, subst, arith, le_antisymm, Contains, filter, and_parts, and_from, or_left, or_cases, both_ways, eqb-true}
+use Rattle.analysis.proofs.Common.{rules, ◌≡◌, ℕ, ◌<◌, ◌≤◌, Bool, true, false, ◌&&◌, ◌||◌, ltb, eqb, List, [], length, map, Option, Some, None, is_none}
+use Rattle.analysis.proofs.Common.{refl, sym, ap, ◌∙◌, arith, le_antisymm, Contains, filter, and_parts, and_from, or_left, or_cases, both_ways, eqb-true}
 use Rattle.analysis.proofs.Common.{eq-eqb, ltb-true, lt-ltb, not_from_false, not-true, false_from_ne_true, get_or_default, Contains-get_or, list_any_none}
 use Rattle.analysis.proofs.Common.{PlainBid, PlainFile, Atom, atom_of, is_dummy, Contains-map, Contains-unmap, greatest_price, All-from_Contains}
 use Rattle.analysis.proofs.Common.{Contains-filter, Contains-filter_parts, list_any_fails, greatest_price-member, greatest_price-bound, greatest_price-reached}

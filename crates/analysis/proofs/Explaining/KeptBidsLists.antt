@@ -2,7 +2,7 @@
 use Rattle.analysis.proofs.Common.{◌≡◌, ℕ, zero, suc, ◌<◌, ◌≤◌, Bool, true, false, ⊎_elim, List, [], ◌∷◌, ◌++◌, length, get_or, refl, sym, ap, ◌∙◌, subst}
 use Rattle.analysis.proofs.Common.{arith, All, AllPairs, Contains, slice_get, AllByRecursion, filter, flat_map, range_with_len, cases_Bool, cases_lt}
 use Rattle.analysis.proofs.Common.{false_from_ne_true, flat_map-cons, recursion_from_All, Contains-append_left, Contains-append_right, Contains-append_cases}
-use Rattle.analysis.proofs.Common.{length-range_with_len, get_or-range_with_len, slice_get-get_or, Contains-cons_cases, AllPairs-nil, AllPairs-head}
+use Rattle.analysis.proofs.Common.{slice_get-get_or, Contains-cons_cases, AllPairs-nil, AllPairs-head}
 use Rattle.analysis.proofs.Common.{AllPairs-tail, AllPairs-append, Contains-nil, Contains-head, Contains-tail, All-from_Contains, filter-kept, filter-lost}
 use Rattle.analysis.proofs.Common.{in_range}
 

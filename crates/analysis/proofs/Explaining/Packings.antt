@@ -2,16 +2,14 @@
 -- rise once they are sorted; what holds of each two of them does not depend on their order.
 use Rattle.analysis.proofs.Common.{Contains-cons_cases, All-contains, Contains-nil, ◌≡◌, ℕ, ◌<◌, ◌≤◌, true, ⊎_elim, List, [], ◌∷◌, length, map, get_or, Option}
 use Rattle.analysis.proofs.Common.{None, refl, sym, ap, ◌∙◌, subst, subst₂, arith, eqb, nat_cmp, All, AllPairs, Contains, IsPermutation, sum_by, AllByRecursion}
-use Rattle.analysis.proofs.Common.{list_all, IsSorted, and_from, eqb-true, eq-eqb, Decides-eqb, length-map, get_or-map, All-map, All-head, All-tail}
+use Rattle.analysis.proofs.Common.{list_all, IsSorted, and_from, Decides-eqb, length-map, get_or-map, All-map, All-head, All-tail}
 use Rattle.analysis.proofs.Common.{recursion_from_All, Contains-get_or, AllPairs-from_increasing, sum_by-cons, All-permutation, Contains-permutation}
 use Rattle.analysis.proofs.Common.{IsPermutation-sym, IsNonDecreasingBy-from_sort, sum_by-IsPermutation, IsDistinct-IsPermutation}
 use Rattle.analysis.proofs.Common.{IsStrictlyIncreasing-from_distinct, IsDistinct-from_AllPairs, AreAbove, IsRising, IsInside, are_apart, apart_sym}
 use Rattle.analysis.proofs.Common.{apart_inside_none, inside_refl, PlainBid, PlainFile, Atom, atom_at, bid_from, AllPairs-head, AllPairs-tail, AllPairs-map}
 use Rattle.analysis.proofs.Common.{IsPackingFor, bid_at, all_apart, goods_at, IsPointBid, IsPointInside}
-use Rattle.std.specs.Cmp.{both_ways as same_test}
 use Rattle.goods_set.specs.Bundles.{AreApart}
 use Rattle.canon.specs.Lemmas.OrDifferences.{eqb_swap}
-use Rattle.std.proofs.Common.{rules}
 
 -- ---- lists
 
@@ -52,7 +50,9 @@ rising_from_pairs (x ∷ xs) h = (above_from_all x xs (AllPairs-head (λ y z. y 
 
 module _ (xs js : List ℕ) (same : IsPermutation xs js) (sorted : IsSorted nat_cmp js) (differ : AllPairs (λ i j. i ≡ j → ⊥) xs) where
   pub increasing : AllPairs (λ i j. i < j) js
-  increasing = search (rules, IsDistinct-IsPermutation, eqb_swap, IsDistinct-from_AllPairs, Decides-eqb, differ, AllPairs-from_increasing, IsStrictlyIncreasing-from_distinct, IsNonDecreasingBy-from_sort)
+  increasing =
+      let distinct = IsDistinct-IsPermutation eqb eqb_swap xs js same (IsDistinct-from_AllPairs Decides-eqb xs differ) in
+      AllPairs-from_increasing js (IsStrictlyIncreasing-from_distinct js (IsNonDecreasingBy-from_sort (λ n. n) js sorted) distinct)
 
   pub pairs_sorted : (R : ℕ → ℕ → Type 0) → ((x y : ℕ) → R x y → R y x) → AllPairs R xs → AllPairs R js
   pairs_sorted R flips pairs i j d m l =

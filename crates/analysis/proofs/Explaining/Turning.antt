@@ -1,12 +1,12 @@
 -- The walk takes the next bid in. It is the best of its bidder's on its goods if the bid before it is not on the same goods of that bidder;
 -- and at the first bid of a bidder the walk has passed none of it.
-use Rattle.analysis.proofs.Common.{rules, ◌≡◌, ℕ, ◌+◌, ◌-◌, ◌<◌, ◌≤◌, Bool, true, false, ◌&&◌, ◌⊎◌, inl, inr, eqb, ltb, cond, ⊎_elim, List, [], ◌∷◌, ◌++◌}
+use Rattle.analysis.proofs.Common.{rules, ◌≡◌, ℕ, ◌+◌, ◌-◌, ◌<◌, ◌≤◌, Bool, true, false, ◌&&◌, eqb, ltb, cond, ⊎_elim, List, [], ◌∷◌, ◌++◌}
 use Rattle.analysis.proofs.Common.{length, map, get_or, take, Option, Some, None, refl, sym, ap, ◌∙◌, subst, arith, Ordering, Less, Equal, Greater, is_lt}
-use Rattle.analysis.proofs.Common.{nat_cmp, filter, is_eq, ordering_reverse, ordering_then, and_parts, both_ways, cases_eq, cases_lt, eqb-true}
+use Rattle.analysis.proofs.Common.{nat_cmp, filter, is_eq, ordering_reverse, ordering_then, and_parts, both_ways, cases_lt, eqb-true}
 use Rattle.analysis.proofs.Common.{false_from_ne_true, ltb-true, append-nil, get_or_default, length-take-le, Contains-get_or, filter_more, ranks_by, sorted_far}
 use Rattle.analysis.proofs.Common.{get_or_from_slice_get, slice_get_within, bundle_cmp, nat_cmp-lt, PlainBid, PlainFile, seen_bid, NumberedBid, Known, Walk}
 use Rattle.analysis.proofs.Common.{bid_at, bidder_of, is_best, IsBestFor, AreInOrder, numbered_cmp, HasPassed, IsAt, is_best_of, is_kept_bid, passed_bids}
-use Rattle.analysis.proofs.Common.{same_Some, get_or-take, IsBestAt, IsLastBest, IsNext, best_after, dummy_of}
+use Rattle.analysis.proofs.Common.{get_or-take, IsBestAt, IsLastBest, IsNext, best_after, dummy_of}
 use Rattle.analysis.specs.BidOrders.{key_cmp}
 use Rattle.analysis.proofs.Explaining.BestBids.{HaveOneKey, alike_from, first_is_best, from_equal, key_cmp_total, key_first, key_same, numbered}
 use Rattle.analysis.proofs.Explaining.BestBids.{numbered_cmp_total, one_key, partitioned}
