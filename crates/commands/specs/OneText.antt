@@ -1,5 +1,5 @@
 -- What a call on one text answers. It is by what its command makes of the file that the text spells.
-use Rattle.std.specs.Prelude.{◌≡◌, ◌⊎◌, ℕ, List, [], ◌∷◌, Option, Some}
+use Rattle.std.specs.Prelude.{◌≡◌, ◌⊎◌, ℕ, List, Option, Some}
 use Rattle.bid_file.specs.Files.{PlainFile}
 use Rattle.cats_text.specs.Grammar.{Spells}
 use Rattle.canon.specs.Answers.{SpellsFile}
@@ -7,8 +7,6 @@ use Rattle.canon.specs.declared.canon_fault.CanonFault.{CanonFault}
 use Rattle.canon.specs.declared.canon_fault.CanonFault.TheVariants.{Read, StepLimit, Memory}
 use Rattle.canon.specs.declared.which.Which.TheVariants.{Only}
 use Rattle.rounding.specs.declared.replacement.FinePrices.{FinePrices}
-use Rattle.commands.specs.declared.command.Command.{Command}
-use Rattle.commands.specs.declared.command.Command.TheVariants.{Value, Revenue, Normalise, Explain}
 use Rattle.commands.specs.declared.faults.RunFault.{RunFault}
 use Rattle.commands.specs.declared.faults.RunFault.TheVariants.{Refused, TooHeavy, GoodRange, BidRange}
 use Rattle.commands.specs.Commands.{outcome_of_heavy_bid}
@@ -52,17 +50,3 @@ module _ (outcome : PlainFile → Outcome) (fine : Option FinePrices) (text : Li
   abbrev pub CallsOn : List ℕ → List ℕ → ℕ → ℕ → Type 0
   CallsOn old new needed answer =
       Calls (PrintsOf outcome (text_read fine text)) IsRefusedText old new needed answer
-
--- ---- statuses
-
--- the statuses that only some calls have
-abbrev pub own_statuses : Command → List ℕ
-own_statuses (Value goods options) = 3 ∷ 64 ∷ []
-own_statuses (Revenue bids) = 1 ∷ 64 ∷ []
-own_statuses (Normalise options) = 3 ∷ []
-own_statuses (Explain steps total) = 3 ∷ []
-own_statuses command = []
-
--- the statuses of the call of a command, as cats.h lists them
-abbrev pub statuses_of : Command → List ℕ
-statuses_of command = 0 ∷ 2 ∷ 4 ∷ 6 ∷ own_statuses command

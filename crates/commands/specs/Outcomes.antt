@@ -1,6 +1,6 @@
 -- What a command makes of its files. It is a text with a status, or why there is none.
-use Rattle.std.specs.Prelude.{ℕ, Bool, ◌&&◌, List, Option, Some, None, find, is_none, nat_eq, nat_le, nat_lt, Result}
-use Rattle.std.specs.Prelude.{Ok, Err, if◌then◌else◌}
+use Rattle.std.specs.Prelude.{ℕ, Bool, ◌&&◌, List, [], ◌∷◌, Option, Some, None, find, is_none, nat_eq, nat_le, nat_lt}
+use Rattle.std.specs.Prelude.{Result, Ok, Err, if◌then◌else◌}
 use Rattle.std.specs.Cmp.Lexicographic.{pointwise}
 use Rattle.std.specs.List.{position_or_len}
 use Rattle.bid_file.specs.Files.{PlainBid, PlainFile}
@@ -138,6 +138,18 @@ outcome_of (Revenue bids) = revenue_outcome bids.now
 outcome_of (Normalise options) = normalise_outcome options
 outcome_of (Explain steps total) = explain_outcome (bounded_options steps total)
 outcome_of Lp = lp_outcome
+
+-- the statuses that only some of its calls have
+abbrev pub own_statuses : Command → List ℕ
+own_statuses (Value goods options) = 3 ∷ 64 ∷ []
+own_statuses (Revenue bids) = 1 ∷ 64 ∷ []
+own_statuses (Normalise options) = 3 ∷ []
+own_statuses (Explain steps total) = 3 ∷ []
+own_statuses command = []
+
+-- the statuses of its calls, as cats.h lists them
+abbrev pub statuses_of : Command → List ℕ
+statuses_of command = 0 ∷ 2 ∷ 4 ∷ 6 ∷ own_statuses command
 
 abbrev pub outcome_of_difference : Difference → Outcome
 outcome_of_difference difference = Prints (status_of_difference difference) (difference_text difference)

@@ -15,6 +15,25 @@ use std::alloc::{AllocError, Global};
 /// So many bytes of a word are printed.
 const SHOWN_BYTES: usize = 60;
 
+// Hints about the header and the file as a whole.
+const HEADER: &str =
+    "header lines are `goods N`, `bids N` and `dummy N`, in this order; write `dummy 0` if there are none";
+
+const EXTRA_BID: &str =
+    "the line `bids N` says how many bid lines there are; correct it, or remove the line";
+
+const MISSING: &str =
+    "there are three header lines, and as many bid lines as `bids` says; add lines, or correct `bids`";
+
+const TOO_LONG: &str =
+    "a file has at most 2147483648 bytes; remove comments, or bids that are not needed";
+
+const DEVICE: &str =
+    "a file is read to its end, and this read failed; give a file that can be read";
+
+const MEMORY: &str =
+    "reading a file takes memory, which was refused; free some, or raise its limit, as by `ulimit -v`";
+
 /// The bytes of the word that are printed.
 pub fn shown_word<'a>(place: &FaultPlace<'a>) -> &'a [u8]
     ensures { result.now ≡ shown_bytes (plain_place place.now).text }
@@ -74,18 +93,14 @@ fn hint(kind: Kind) -> &'static str
     ensures { result.now ≡ hint_of_kind kind }
 {
     match kind {
-        Kind::Header => {
-            "header lines are `goods N`, `bids N` and `dummy N`, in this order; write `dummy 0` if there are none"
-        }
+        Kind::Header => HEADER,
         Kind::NotANumber => {
             "a number has digits alone, a price digits around its point; `cats round` rewrites exponents"
         }
         Kind::TooLarge => {
             "at most 4096 goods, 65536 bids, 65536 dummy goods, prices up to 10^12; divide all prices"
         }
-        Kind::ExtraBid => {
-            "the line `bids N` says how many bid lines there are; correct it, or remove the line"
-        }
+        Kind::ExtraBid => EXTRA_BID,
         Kind::BidNumber => {
             "bids are numbered from 0, below the number that `bids` says; number the bids anew"
         }
@@ -109,17 +124,9 @@ fn hint(kind: Kind) -> &'static str
         Kind::AfterEnd => {
             "nothing is behind the `#` of a bid line; remove it, or write a line of its own for it"
         }
-        Kind::Missing => {
-            "there are three header lines, and as many bid lines as `bids` says; add lines, or correct `bids`"
-        }
-        Kind::TooLong => {
-            "a file has at most 2147483648 bytes; remove comments, or bids that are not needed"
-        }
-        Kind::Device => {
-            "a file is read to its end, and this read failed; give a file that can be read"
-        }
-        Kind::Memory => {
-            "reading a file takes memory, which was refused; free some, or raise its limit, as by `ulimit -v`"
-        }
+        Kind::Missing => MISSING,
+        Kind::TooLong => TOO_LONG,
+        Kind::Device => DEVICE,
+        Kind::Memory => MEMORY,
     }
 }

@@ -29,12 +29,12 @@ use Rattle.commands.specs.declared.faults.RunFault.TheVariants.{Refused, TooHeav
 use Rattle.commands.specs.Commands.{outcome_of_heavy_bid}
 use Rattle.commands.specs.Outcomes.{Outcome, Prints, LacksGood, LacksBid, ExceedsSteps, ExceedsAtBid, exceeds_at, exceeds_limits, explain_outcome}
 use Rattle.commands.specs.Outcomes.{missing_good, naming_outcome, normalise_outcome, outcome_of, outcome_of_verdict, outcome_unless, outcome_within}
-use Rattle.commands.specs.Outcomes.{text_unless_refused, values_unless}
+use Rattle.commands.specs.Outcomes.{own_statuses, text_unless_refused, values_unless}
 use Rattle.commands.specs.SizesRows.{Sized, IsSized, IsTooHeavy, IsUnsized, Sizes, fault_sized, status_unless}
 use Rattle.commands.specs.ValueTexts.{bundle_from}
 use Rattle.commands.specs.Buffers.{Calls, PutsInto, RefusesBy}
 use Rattle.commands.specs.FaultCalls.{FaultCalls, IsUnplaced, outcome_of_place}
-use Rattle.commands.specs.OneText.{CallsOn, IsRefusedText, IsUnmade, MakesOf, OfOnly, own_statuses}
+use Rattle.commands.specs.OneText.{CallsOn, IsRefusedText, IsUnmade, MakesOf, OfOnly}
 use Rattle.commands.specs.Refusals.{RefusesText, text_read}
 use Rattle.commands.specs.Roundings.{IsUnrounded, RoundCalls, RoundsText}
 use Rattle.commands.specs.SizesCalls.{SizesCalls}
