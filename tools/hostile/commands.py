@@ -1,4 +1,6 @@
 """The commands of the program, and the words with which runs.py and rounded.py try each."""
+import pathlib
+import runpy
 from typing import NamedTuple
 
 
@@ -15,44 +17,23 @@ class Command(NamedTuple):
         return [name, *flags[:1], *options, *files, *self.behind, *flags[1:]]
 
 
-def command(line):
-    """The command of a line, with FILE for each file, or FILES."""
-    before, file, behind = line.partition(" FILE")
-    files = 0 if behind == "S" else line.count(file)
-    return Command(tuple(before.split()), files, tuple(behind.replace(file, "").split()) if files else ())
+# Options for arguments of commands, and words that are behind the files.
+OPTIONS = {"Bound": "--bound", "Steps": "--steps 1", "TotalSteps": "--bound --total-steps 2", "Progress": "--progress", "Null": "-0", "All": "--all"}
+BEHIND = {"Goods": ("0 1", "0 65535"), "Bids": ("1 0", "70000")}
 
 
-# Command lines of each command, with and without options.
-LINES = [command(line) for line in (
-    "check FILE",
-    "fault FILE",
-    "show FILE",
-    "lp FILE",
-    "round FILE",
-    "explain FILE",
-    "explain --steps 1 FILE",
-    "normalise FILE",
-    "normalise --bound FILE",
-    "normalise --bound --total-steps 2 FILE",
-    "value --bound FILE 0-1",
-    "value --steps 1 FILE 0 1",
-    "value FILE 0 65535",
-    "revenue FILE 0",
-    "revenue FILE 1 0",
-    "revenue FILE 70000",
-    "compare --bound FILE FILE",
-    "compare --steps 1 FILE FILE",
-    "diff FILE FILE",
-    "diff --steps 1 FILE FILE",
-    "duplicates FILES",
-    "duplicates --all FILES",
-    "duplicates -0 FILES",
-    "duplicates --progress FILES",
-    "duplicates --steps 2 FILES",
-    "sizes FILES",
-    "sizes -0 FILES",
-    "sizes --progress --steps 2 FILES",
-)]
+def lines():
+    """Command lines of each command of the program: without options, with each that has a row above, and with each word behind the files."""
+    for name, arguments, _ in runpy.run_path(str(pathlib.Path(__file__).resolve().parents[2] / "docs/tables"))["commands"]():
+        named = arguments.split(", ")
+        files = 0 if "Files" in named else named.count("File") + named.count("SecondFile")
+        behind = next((BEHIND[it] for it in named if it in BEHIND), ("",))
+        options = [OPTIONS[it] if "Bound" in named else OPTIONS[it].removeprefix("--bound ") for it in named if it in OPTIONS]
+        for option, words in [*(("", words) for words in behind), *((option, behind[0]) for option in options)]:
+            yield Command((name, *option.split()), files, tuple(words.split()))
+
+
+LINES = list(lines())
 
 # How many files each command takes.
 NAMES = {it.words[0]: it.files for it in LINES}
