@@ -1,4 +1,4 @@
--- The paths of the files for each place: each is put after those of its place. And the text of the groups: a group that is printed has
+-- The paths of the files for each number: each is put after those of its number. And the text of the groups: a group that is printed has
 -- lines, so the next group comes after an empty line.
 use Rattle.std.proofs.Common.{append_assoc, fold, length-append, ◌≡◌, ℕ, zero, suc, ◌+◌, ◌<◌, ◌==◌, Bool, true, false, cond, ⊎_elim, List, [], ◌∷◌}
 use Rattle.std.proofs.Common.{◌++◌, length, map, get_or, set, take, replicate, Global, refl, sym, ap, ap₂, ◌∙◌, arith, append-nil, zero-add}

@@ -33,7 +33,7 @@ use Rattle.cats_cmd.specs.declared.errors.RequestError.{RequestError}
 use Rattle.cats_cmd.specs.declared.errors.RequestError.TheVariants.{CannotOpen, NotOpened, Run}
 use Rattle.cats_cmd.specs.declared.priced_input.PricedInput.{PricedInput}
 use Rattle.commands.specs.declared.faults.RunFault.TheVariants.{Refused}
-use Rattle.cats_cmd.proofs.FindingPlaces.{judgement_more, judgement_skipped, places_more}
+use Rattle.cats_cmd.proofs.FindingNumbers.{judgement_more, judgement_skipped, numbers_more}
 use Rattle.cats_cmd.specs.Duplicates.{files_if_heavy, files_if_judged, heavy_files, heavy_paths, judged_files, judged_paths, paths_if_heavy, paths_if_judged}
 use Rattle.cats_cmd.specs.declared.duplicates.Groups.{Groups}
 use Rattle.canon.specs.Sameness.{AreSameFiles}
@@ -93,11 +93,11 @@ module _ {I : Type 0} (gives : I → I → PlainFile → Type 0) (refuses : I �
   -- ---- the groups of `cats duplicates`
 
   -- the file was judged
-  pub groups_judged : (before after : Groups) (path : List ℕ) (copy : Vec ℕ Global) (place : ℕ) → copy.items ≡ path → after.heavy ≡ before.heavy
-      → (file : PlainFile) → IsPlainFile file → gives old new file → AddsText before.judged.index after.judged.index (canonical_text file) place
-      → normalised_file options file ≡ IsText (canonical_text file) → after.judged.found.items ≡ before.judged.found.items ++ (copy, place) ∷ []
+  pub groups_judged : (before after : Groups) (path : List ℕ) (copy : Vec ℕ Global) (number : ℕ) → copy.items ≡ path → after.heavy ≡ before.heavy
+      → (file : PlainFile) → IsPlainFile file → gives old new file → AddsText before.judged.index after.judged.index (canonical_text file) number
+      → normalised_file options file ≡ IsText (canonical_text file) → after.judged.found.items ≡ before.judged.found.items ++ (copy, number) ∷ []
       → AddsOpened KeepsGroups gives refuses options path before after old new None
-  groups_judged before after path copy place is kept file facts given added within put = record {
+  groups_judged before after path copy number is kept file facts given added within put = record {
     judgement = IsJudged file;
     judges = record {
       given = given;
@@ -106,8 +106,8 @@ module _ {I : Type 0} (gives : I → I → PlainFile → Type 0) (refuses : I �
     adds = λ js h. record {
       judged = judgement_more canonical_text AreSameFiles files_if_judged paths_if_judged js path (IsJudged file) after.judged.index
           (found_paths after.judged.found.items)
-          (places_more canonical_text AreSameFiles canonical_texts_tell before.judged.index after.judged.index before.judged.found.items
-          after.judged.found.items path copy file place is facts added put (judged_paths js) (judged_files js) h.judged);
+          (numbers_more canonical_text AreSameFiles canonical_texts_tell before.judged.index after.judged.index before.judged.found.items
+          after.judged.found.items path copy file number is facts added put (judged_paths js) (judged_files js) h.judged);
       heavy = rw kept (judgement_skipped unsearched_text AreAlike files_if_heavy paths_if_heavy js path (IsJudged file) before.heavy.index
           (found_paths before.heavy.found.items) refl refl h.heavy);
     };
@@ -144,17 +144,17 @@ module _ {I : Type 0} (gives : I → I → PlainFile → Type 0) (refuses : I �
   }
 
 -- a file that a step limit refused is with those that are alike
-pub groups_heavy : (before after : Groups) (path : List ℕ) (copy : Vec ℕ Global) (place : ℕ) → copy.items ≡ path → after.judged ≡ before.judged
-    → (file : PlainFile) → IsPlainFile file → AddsText before.heavy.index after.heavy.index (unsearched_text file) place
-    → after.heavy.found.items ≡ before.heavy.found.items ++ (copy, place) ∷ []
+pub groups_heavy : (before after : Groups) (path : List ℕ) (copy : Vec ℕ Global) (number : ℕ) → copy.items ≡ path → after.judged ≡ before.judged
+    → (file : PlainFile) → IsPlainFile file → AddsText before.heavy.index after.heavy.index (unsearched_text file) number
+    → after.heavy.found.items ≡ before.heavy.found.items ++ (copy, number) ∷ []
     → (heavy : HeavyBid) → AddsJudgement KeepsGroups path (IsHeavy file heavy) before after
-groups_heavy before after path copy place is kept file facts added put heavy js h = record {
+groups_heavy before after path copy number is kept file facts added put heavy js h = record {
   judged = rw kept (judgement_skipped canonical_text AreSameFiles files_if_judged paths_if_judged js path (IsHeavy file heavy) before.judged.index
       (found_paths before.judged.found.items) refl refl h.judged);
   heavy = judgement_more unsearched_text AreAlike files_if_heavy paths_if_heavy js path (IsHeavy file heavy) after.heavy.index
       (found_paths after.heavy.found.items)
-      (places_more unsearched_text AreAlike unsearched_texts_tell before.heavy.index after.heavy.index before.heavy.found.items
-      after.heavy.found.items path copy file place is facts added put (heavy_paths js) (heavy_files js) h.heavy);
+      (numbers_more unsearched_text AreAlike unsearched_texts_tell before.heavy.index after.heavy.index before.heavy.found.items
+      after.heavy.found.items path copy file number is facts added put (heavy_paths js) (heavy_files js) h.heavy);
 }
 
 -- ---- the file at a path

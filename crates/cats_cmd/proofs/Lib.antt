@@ -22,7 +22,7 @@ mod Opening
 mod ListingPaths
 mod OutputPaths
 mod Skipping
-mod FindingPlaces
+mod FindingNumbers
 mod Tabling
 mod RunsOfLists
 mod RunsOfPaths

@@ -9,7 +9,7 @@ use Rattle.cats_cmd.specs.Internal.Judging.{KeepsGroups}
 use Rattle.cats_cmd.specs.Paths.{Judgement, IsUnjudged}
 use Rattle.cats_cmd.specs.declared.duplicates.Groups.{Groups}
 use Rattle.cats_cmd.specs.declared.errors.RequestError.{RequestError}
-use Rattle.cats_cmd.proofs.FindingPlaces.{judgement_skipped}
+use Rattle.cats_cmd.proofs.FindingNumbers.{judgement_skipped}
 
 pub groups_skip : (groups : Groups) (js : List (List ℕ × Judgement)) (path : List ℕ) (error : RequestError)
     → KeepsGroups groups js → KeepsGroups groups (js ++ (path, IsUnjudged error) ∷ [])

@@ -9,15 +9,15 @@ use Rattle.std.specs.List.{flat_map, range_with_len}
 use Rattle.cats_cmd.specs.Escaping.{end_of, path_text}
 use Rattle.cats_cmd.specs.declared.paths.Ending.{Ending}
 
--- each path, and the place of the first file that its file is grouped with
+-- each path, and the number of the first file that its file is grouped with
 abbrev pub found_paths : List (Vec ℕ Global × ℕ) → List (List ℕ × ℕ)
 found_paths found = map (λ f. (f.0.items, f.1)) found
 
--- the paths of the files of which this is the place
+-- the paths of the files of which this is the number
 abbrev pub paths_at : List (List ℕ × ℕ) → ℕ → List (List ℕ)
-paths_at found place = map (λ f. f.0) (filter (λ f. f.1 == place) found)
+paths_at found number = map (λ f. f.0) (filter (λ f. f.1 == number) found)
 
--- the paths for each place
+-- the paths for each number
 abbrev pub groups_of : List (List ℕ × ℕ) → List (List (List ℕ))
 groups_of found = map (paths_at found) (range_with_len 0 (length found))
 

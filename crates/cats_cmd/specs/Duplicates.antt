@@ -43,11 +43,11 @@ heavy_files judgements = flat_map (λ j. files_if_heavy j.1) judgements
 abbrev pub heavy_paths : List (List ℕ × Judgement) → List (List ℕ)
 heavy_paths judgements = flat_map (λ j. paths_if_heavy j.0 j.1) judgements
 
--- the paths of files, each with the place of the first of these files that is related to its file
-pub record FindsPlaces (Related : PlainFile → PlainFile → Type 0) (paths : List (List ℕ)) (files : List PlainFile)
+-- the paths of files, each with the number of the first of these files that is related to its file
+pub record FindsNumbers (Related : PlainFile → PlainFile → Type 0) (paths : List (List ℕ)) (files : List PlainFile)
     (found : List (List ℕ × ℕ)) : Type 0 where
   pub of_paths : map (λ p. p.0) found ≡ paths
-  pub places : AllZip (λ p file. IsFirstNumber Related files file p.1) found files
+  pub numbers : AllZip (λ p file. IsFirstNumber Related files file p.1) found files
 
 -- The text is that of the groups of paths whose files are one auction: of the files that were judged, and of those that
 -- a
@@ -55,7 +55,7 @@ pub record FindsPlaces (Related : PlainFile → PlainFile → Type 0) (paths : L
 pub record MakesGroups (ending : Ending) (all : Bool) (judgements : List (List ℕ × Judgement)) (text : List ℕ)
     : Type 0 where
   pub judged : List (List ℕ × ℕ)
-  pub finds_judged : FindsPlaces AreSameFiles (judged_paths judgements) (judged_files judgements) judged
+  pub finds_judged : FindsNumbers AreSameFiles (judged_paths judgements) (judged_files judgements) judged
   pub heavy : List (List ℕ × ℕ)
-  pub finds_heavy : FindsPlaces AreAlike (heavy_paths judgements) (heavy_files judgements) heavy
+  pub finds_heavy : FindsNumbers AreAlike (heavy_paths judgements) (heavy_files judgements) heavy
   pub is_text : text ≡ duplicates_text ending all judged heavy

@@ -20,9 +20,9 @@ use std::io::Write;
 
 /// Files in groups.
 #[derive(Drop)]
-pub(crate) struct PlacedFiles {
+pub(crate) struct NumberedFiles {
     index: AuctionIndex,
-    /// The path of each file, with the place of the first file of its group.
+    /// The path of each file, with the number of the first file of its group.
     found: Vec<(Vec<u8>, usize)>,
 }
 
@@ -30,8 +30,8 @@ pub(crate) struct PlacedFiles {
 /// alike.
 #[derive(Drop)]
 pub(crate) struct Groups {
-    judged: PlacedFiles,
-    heavy: PlacedFiles,
+    judged: NumberedFiles,
+    heavy: NumberedFiles,
 }
 
 impl Groups {
@@ -51,9 +51,9 @@ impl Groups {
     {
         match fault {
             CanonFault::StepLimit { goods: _ } => {
-                let place = self.heavy.index.add_unsearched(alloc, file)?;
+                let number = self.heavy.index.add_unsearched(alloc, file)?;
                 let path = Vec::from_slice(alloc, path)?;
-                self.heavy.found.push((path, place))?;
+                self.heavy.found.push((path, number))?;
                 Ok(())
             }
             CanonFault::Read(_) => Ok(()),
@@ -75,11 +75,11 @@ impl Collection for Groups {
 
     fn none(alloc: Global) -> Groups {
         Groups {
-            judged: PlacedFiles {
+            judged: NumberedFiles {
                 index: AuctionIndex::new(alloc),
                 found: Vec::new(alloc),
             },
-            heavy: PlacedFiles {
+            heavy: NumberedFiles {
                 index: AuctionIndex::new(alloc),
                 found: Vec::new(alloc),
             },
@@ -100,9 +100,9 @@ impl Collection for Groups {
             }
         };
         match self.judged.index.add(alloc, &file, many.options) {
-            Ok(place) => {
+            Ok(number) => {
                 let path = Vec::from_slice(alloc, path)?;
-                self.judged.found.push((path, place))?;
+                self.judged.found.push((path, number))?;
                 Ok(None)
             }
             Err(fault) => {

@@ -10,7 +10,7 @@ use Rattle.std.proofs.lemmas.List.Sums.{fails_before_first, passes_at_first}
 use Rattle.std.proofs.lemmas.Option.{slice_get-get_or}
 use Rattle.bid_file.specs.Files.{PlainBid, PlainFile}
 use Rattle.analysis.specs.Bids.{bid_at, are_alike, is_best, numbers_of, best_number, IsBestFor}
-use Rattle.analysis.specs.BidOrders.{AreInOrder, HasBid}
+use Rattle.analysis.specs.BidOrders.{AreInOrder}
 use Rattle.analysis.specs.declared.reasons.best.NumberedBid.{NumberedBid}
 use Rattle.commands.specs.DiffTexts.{bid_number}
 use Rattle.commands.specs.Internal.Sides.{IsBidOf}
@@ -48,10 +48,6 @@ number_is_best f i j h =
 module _ (f : PlainFile) (bids : List NumberedBid) (order : AreInOrder f bids) (bid : PlainBid) (there : Contains f.bids bid) where
   is_at : bid_at f there.0 ≡ bid
   is_at = sym (get_or_default f.bids there.0 bid _ there.1) ∙ there.2
-
-  -- a bid of the file is in the list of all its bids
-  pub has_bid : HasBid bids bid
-  has_bid = record { file = f; order = order; number = there.0; within = there.1; is = is_at }
 
   -- what is found in the list is the number of the best bid
   pub found_number : (number : ℕ) → ((g : PlainFile) → AreInOrder g bids → (i : ℕ) → i < length g.bids → bid_at g i ≡ bid → IsBestFor g i number)

@@ -1,6 +1,6 @@
 -- A file that is compared, and its canonical file with dummy goods: each bidder of a change is one of its canonical file, so it has such
 -- a dummy good.
-use Rattle.std.proofs.Common.{◌≡◌, ◌<◌, ℕ, List, length, Option, Some, None, true, append-nil, refl, sym, ap, ◌∙◌, subst, arith}
+use Rattle.std.proofs.Common.{◌≡◌, ◌<◌, ℕ, List, length, Option, Some, None, refl, sym, ap, ◌∙◌, subst, arith}
 use Rattle.std.specs.Prelude.{All, Contains}
 use Rattle.std.specs.List.{filter_map, range_with_len}
 use Rattle.std.specs.Ordering.{nat_cmp}
@@ -19,11 +19,8 @@ use Rattle.canon.specs.Lemmas.Finding.{counted_is_there}
 use Rattle.canon.specs.Lemmas.Renaming.{points_of_kept_dummies}
 use Rattle.canon.specs.Renaming.{kept_dummies, points_of_dummy}
 use Rattle.analysis.specs.BidderChanges.{PlainBidderChange, AreBidderChanges, excess_bidders, is_excess, rights_of}
-use Rattle.analysis.specs.Differences.{PlainDifferences, AreAllDifferences, is_none_at_all}
-use Rattle.analysis.proofs.Comparing.BeginAuctions.{empty_from_test}
 use Rattle.analysis.proofs.Comparing.LawsLists.{Contains-filter_map, there_is_counted}
 use Rattle.commands.specs.Internal.ComparedFiles.{IsComparedFile}
-use Rattle.commands.specs.DiffTexts.{diff_header, diff_text}
 use Rattle.commands.specs.declared.printed.sides.ComparedFile.{ComparedFile}
 
 -- ---- a canonical file with its names
@@ -40,19 +37,6 @@ compared_plain c is = subst (λ (h : PlainFile). IsPlainFile h) (sym is.named.ca
 
 pub compared_canonical : (c : ComparedFile) → IsComparedFile c → IsCanonicalFile c.named.file
 compared_canonical c is = subst (λ (h : PlainFile). IsCanonicalFile h) (sym is.named.canonical) (canonical_file_is_fixed c.file is.plain)
-
--- ---- all differences
-
-pub of_files : (left right : ComparedFile) → IsComparedFile left → IsComparedFile right → (d : PlainDifferences)
-    → AreAllDifferences (auction_from left.named.file) (auction_from right.named.file) d
-    → AreAllDifferences (auction_from (canonical_file left.file)) (auction_from (canonical_file right.file)) d
-of_files left right one other d are =
-    subst (λ (h : PlainFile). AreAllDifferences (auction_from (canonical_file left.file)) (auction_from h) d) other.named.canonical
-    (subst (λ (h : PlainFile). AreAllDifferences (auction_from h) (auction_from right.named.file) d) one.named.canonical are)
-
--- without a difference the table is its header
-pub header_alone : (f g : PlainFile) (d : PlainDifferences) → is_none_at_all d ≡ true → diff_header ≡ diff_text f g d
-header_alone f g d none = sym (ap (diff_text f g) (empty_from_test d none) ∙ append-nil diff_header)
 
 -- ---- the bidders of the changes
 

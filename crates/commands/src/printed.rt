@@ -17,7 +17,7 @@ pub(crate) use diff::differences_text;
 pub(crate) use explanation::explanation_text;
 pub use fault_hint::{fault_place_text, shown_word};
 pub use pieces::Piece;
-pub use report::{fault_line, fault_pieces, status};
+pub use report::{WANT_OF_MEMORY, fault_line, fault_pieces, status};
 pub(crate) use rounded::price_line;
 pub use rounded::price_pieces;
 pub(crate) use sides::ComparedFile;

@@ -12,8 +12,8 @@ struct Words<'a> {
 }
 
 impl Env for Words<'_> {
-    fn arg(&self, place: usize, buffer: &mut [u8]) -> Result<usize, FillError> {
-        let Some(word) = self.words.get(place) else {
+    fn arg(&self, number: usize, buffer: &mut [u8]) -> Result<usize, FillError> {
+        let Some(word) = self.words.get(number) else {
             return Err(FillError::NotPresent);
         };
         let Some(start) = buffer.get_mut(..word.len()) else {
@@ -35,7 +35,7 @@ impl Env for Words<'_> {
 /// A word that is longer than the first buffer.
 const LONG: &[u8] = &[b'a'; 10_000];
 
-/// Words, and the place of the first that is not UTF-8.
+/// Words, and the number of the first that is not UTF-8.
 static ROWS: [(&[&[u8]], Option<usize>); 7] = [
     (&[], None),
     (&[b"cats"], None),
@@ -48,9 +48,9 @@ static ROWS: [(&[&[u8]], Option<usize>); 7] = [
 
 #[test]
 fn broken_words(rt: HostRuntime) -> Result<(), Fail> {
-    for (words, place) in &ROWS {
+    for (words, number) in &ROWS {
         let found = first_broken_word(&Words { words }, rt.alloc())?;
-        assert!(rt; found == *place, "of {words:?}: {found:?}");
+        assert!(rt; found == *number, "of {words:?}: {found:?}");
     }
     Ok(())
 }

@@ -11,7 +11,7 @@ use Rattle.canon.specs.Canonical.{canonical_text}
 use Rattle.canon.specs.Sameness.{AreSameFiles}
 use Rattle.canon.specs.Unsearched.{AreAlike, unsearched_text}
 use Rattle.cats_cmd.specs.DuplicateTexts.{found_paths}
-use Rattle.cats_cmd.specs.Duplicates.{FindsPlaces, heavy_files, heavy_paths, judged_files, judged_paths}
+use Rattle.cats_cmd.specs.Duplicates.{FindsNumbers, heavy_files, heavy_paths, judged_files, judged_paths}
 use Rattle.cats_cmd.specs.declared.duplicates.Groups.{Groups}
 use Rattle.cats_cmd.specs.Opening.{Opens, OpensFirst, openable}
 use Rattle.commands.specs.declared.faults.HeavyBid.{HeavyBid}
@@ -26,18 +26,18 @@ use Rattle.cats_cmd.specs.declared.errors.RequestError.{RequestError}
 use Rattle.cats_cmd.specs.declared.source.Unopened.{Unopened}
 
 -- an index of files at some paths by a text of each, and what was found of them
-pub record KeepsPlaces (text_of : PlainFile → List ℕ) (Related : PlainFile → PlainFile → Type 0) (paths : List (List ℕ))
-    (files : List PlainFile) (index : TextIndex) (found : List (List ℕ × ℕ)) : Type 0 where
+pub record KeepsNumbers (text_of : PlainFile → List ℕ) (Related : PlainFile → PlainFile → Type 0)
+    (paths : List (List ℕ)) (files : List PlainFile) (index : TextIndex) (found : List (List ℕ × ℕ)) : Type 0 where
   pub is_index : IsIndexOf text_of index files
-  pub finds : FindsPlaces Related paths files found
+  pub finds : FindsNumbers Related paths files found
 
 abbrev pub KeepsJudged : List (List ℕ × Judgement) → TextIndex → List (List ℕ × ℕ) → Type 0
 KeepsJudged judgements index found =
-    KeepsPlaces canonical_text AreSameFiles (judged_paths judgements) (judged_files judgements) index found
+    KeepsNumbers canonical_text AreSameFiles (judged_paths judgements) (judged_files judgements) index found
 
 abbrev pub KeepsHeavy : List (List ℕ × Judgement) → TextIndex → List (List ℕ × ℕ) → Type 0
 KeepsHeavy judgements index found =
-    KeepsPlaces unsearched_text AreAlike (heavy_paths judgements) (heavy_files judgements) index found
+    KeepsNumbers unsearched_text AreAlike (heavy_paths judgements) (heavy_files judgements) index found
 
 -- what `cats duplicates` keeps
 pub record KeepsGroups (groups : Groups) (judgements : List (List ℕ × Judgement)) : Type 0 where

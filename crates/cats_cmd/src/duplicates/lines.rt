@@ -16,7 +16,7 @@ use std::alloc::{AllocError, Global};
 
 /// For each auction that two or more of the judged files are, or with `all` for each auction, their paths, each on a line,
 /// and an empty line between two auctions. Then the same of the heavy files, but never of one alone. If each path ends with
-/// NUL, one more NUL is in the place of the empty line. With each path is given the place of the first file of its group.
+/// NUL, one more NUL is in the place of the empty line. With each path is given the number of the first file of its group.
 pub(super) fn duplicates_text(
     alloc: Global,
     judged: &[(Vec<u8>, usize)],
@@ -29,8 +29,8 @@ pub(super) fn duplicates_text(
     ensures { IfOk result (λ text. text.items
         ≡ duplicates_text ending all (found_paths judged.now) (found_paths heavy.now)) }
 {
-    let judged = group_by_place(alloc, judged)?;
-    let heavy = group_by_place(alloc, heavy)?;
+    let judged = group_by_number(alloc, judged)?;
+    let heavy = group_by_number(alloc, heavy)?;
     let mut text = Vec::new(alloc);
     push_groups(&mut text, judged.as_slice(), ending, all)?;
     push_groups(&mut text, heavy.as_slice(), ending, false)?;
@@ -71,8 +71,8 @@ fn push_group(
     push_lines(text, paths, ending)
 }
 
-/// The paths of the files for each place.
-fn group_by_place<'a>(
+/// The paths of the files for each number.
+fn group_by_number<'a>(
     alloc: Global,
     found: &'a [(Vec<u8>, usize)],
 ) -> Result<Vec<Vec<&'a [u8]>>, AllocError>
@@ -80,8 +80,8 @@ fn group_by_place<'a>(
     ensures { IfOk result (λ groups. plain_groups groups.items ≡ groups_of (found_paths found.now)) }
 {
     let mut groups = empty_groups(alloc, found.len())?;
-    for (path, place) in found {
-        let group = &mut groups[*place];
+    for (path, number) in found {
+        let group = &mut groups[*number];
         group.push(path.as_slice())?;
     }
     Ok(groups)

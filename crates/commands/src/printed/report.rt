@@ -14,6 +14,9 @@ use canon::{CanonFault, Which};
 use cats_text::{Kind, ReadFault};
 use std::alloc::{AllocError, Global};
 
+/// What is reported if memory was refused.
+pub const WANT_OF_MEMORY: &str = "want of memory";
+
 /// So many goods of the bundle of a heavy bid are reported.
 const SHOWN_GOODS: usize = 20;
 
@@ -97,7 +100,7 @@ fn canon_pieces<'a>(prefix: &'static str, fault: &'a CanonFault) -> [Piece<'a>; 
             let bundle = Piece::Goods(goods.as_slice());
             line_pieces(prefix, "step limit at ", bundle, "", "")
         }
-        CanonFault::Memory => text_pieces(prefix, "want of memory"),
+        CanonFault::Memory => text_pieces(prefix, WANT_OF_MEMORY),
     }
 }
 
@@ -159,7 +162,7 @@ fn read_pieces<'a>(prefix: &'static str, fault: &ReadFault) -> [Piece<'a>; 14]
     let name = kind_name(fault.kind);
     let line = Piece::Number(fault.line);
     match fault.kind {
-        Kind::Memory => text_pieces(prefix, "want of memory"),
+        Kind::Memory => text_pieces(prefix, WANT_OF_MEMORY),
         Kind::TooLong | Kind::Device => text_pieces(prefix, name),
         _ => line_pieces(prefix, "line ", line, ": ", name),
     }

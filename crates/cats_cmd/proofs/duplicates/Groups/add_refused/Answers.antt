@@ -6,9 +6,9 @@ use Rattle.cats_cmd.proofs.duplicates.Groups.add_refused.Goals as goal
 
 pub returns-in_ok-push-in-StepLimit : goal.returns-in_ok-push-in-StepLimit
 returns-in_ok-push-in-StepLimit c =
-    rw c.in-StepLimit.is (groups_heavy c.args.self.now _ c.args.path.now c.in_ok-path-in-StepLimit.path c.in_ok-place-in-StepLimit.place
+    rw c.in-StepLimit.is (groups_heavy c.args.self.now _ c.args.path.now c.in_ok-path-in-StepLimit.path c.in_ok-number-in-StepLimit.number
     c.in_ok-path-in-StepLimit.ensures.items refl
-    c.args.file.now c.requires c.in_ok-place-in-StepLimit.ensures.added c.in_ok-push-in-StepLimit.ensures.items)
+    c.args.file.now c.requires c.in_ok-number-in-StepLimit.ensures.added c.in_ok-push-in-StepLimit.ensures.items)
 
 pub returns-in-Read : goal.returns-in-Read
 returns-in-Read c = rw c.in-Read.is (λ error js h. groups_skip c.args.self.now js c.args.path.now error h)

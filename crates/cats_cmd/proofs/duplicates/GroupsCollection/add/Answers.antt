@@ -7,7 +7,7 @@ use Rattle.cats_cmd.proofs.duplicates.GroupsCollection.add.Goals as goal
 pub returns-in-Ok-add : goal.returns-in-Ok-add
 returns-in-Ok-add g c =
     groups_judged g.I.Input.gives g.I.Input.refuses c.args.many.options c.args.input.now c.read_file.new.self c.args.self.now _ c.args.path.now
-    c.in_ok-path-in-Ok-add.path c.in-Ok-add.place c.in_ok-path-in-Ok-add.ensures.items refl c.in-Ok.file (search rules) c.in-Ok.ensures.answer
+    c.in_ok-path-in-Ok-add.path c.in-Ok-add.number c.in_ok-path-in-Ok-add.ensures.items refl c.in-Ok.file (search rules) c.in-Ok.ensures.answer
     c.in-Ok-add.ensures.added c.in-Ok-add.ensures.within_limits c.in_ok-push-in-Ok-add.ensures.items
 
 pub returns : goal.returns

@@ -1,8 +1,8 @@
--- `group_by_place`
+-- `group_by_number`
 use Rattle.std.proofs.Common.{◌≡◌, length, map, take}
 use Rattle.std.specs.List.{range_with_len}
 use Rattle.cats_cmd.specs.DuplicateTexts.{found_paths, paths_at, plain_groups}
-use Rattle.cats_cmd.proofs.duplicates.lines.group_by_place.Given as goal
+use Rattle.cats_cmd.proofs.duplicates.lines.group_by_number.Given as goal
 
 -- the paths of the files so far are there
 abbrev pub invariant-loop-path : goal.invariant-loop-path

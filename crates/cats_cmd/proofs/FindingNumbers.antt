@@ -1,4 +1,4 @@
--- The groups of `cats duplicates`: one more file has its place behind the others, among those that were judged or among those that a step
+-- The groups of `cats duplicates`: one more file has its number behind the others, among those that were judged or among those that a step
 -- limit refused.
 use Rattle.std.proofs.Common.{◌≡◌, ℕ, suc, All, ◌<◌, List, [], ◌∷◌, ◌++◌, length, refl, sym, ap, ◌∙◌, subst, append-nil}
 use Rattle.std.specs.Global.{Global}
@@ -12,7 +12,7 @@ use Rattle.bid_file.specs.Files.{PlainFile, IsPlainFile}
 use Rattle.canon.specs.FirstNumbers.{AddsText, IsEmptyIndex, IsFirstNumber, TextIndex}
 use Rattle.canon.proofs.TwoFiles.Indexing.{TellsRelated, first_number_stays, index_of_none, index_of_more, number_of_more}
 use Rattle.cats_cmd.specs.DuplicateTexts.{found_paths}
-use Rattle.cats_cmd.specs.Internal.Judging.{KeepsPlaces}
+use Rattle.cats_cmd.specs.Internal.Judging.{KeepsNumbers}
 use Rattle.cats_cmd.specs.Paths.{Judgement}
 
 -- two lists that are as long, with one element more each
@@ -25,27 +25,27 @@ zip_push R S (a ∷ xs) (b ∷ ys) x y weaker h s = (weaker a b h.0, zip_push R 
 
 -- files, of which those are related that have one text
 module _ (text_of : PlainFile → List ℕ) (Related : PlainFile → PlainFile → Type 0) where
-  pub no_places : (index : TextIndex) → IsEmptyIndex index → KeepsPlaces text_of Related [] [] index []
-  no_places index none = record { is_index = index_of_none text_of index none; finds = record { of_paths = refl; places = tt } }
+  pub no_numbers : (index : TextIndex) → IsEmptyIndex index → KeepsNumbers text_of Related [] [] index []
+  no_numbers index none = record { is_index = index_of_none text_of index none; finds = record { of_paths = refl; numbers = tt } }
 
   -- one more file
-  pub places_more : TellsRelated text_of Related → (old new : TextIndex) (found longer : List (Vec ℕ Global × ℕ)) (path : List ℕ) (copy : Vec ℕ Global)
-      (file : PlainFile) (place : ℕ) → copy.items ≡ path → IsPlainFile file → AddsText old new (text_of file) place → longer ≡ found ++ (copy, place) ∷ []
-      → (paths : List (List ℕ)) (files : List PlainFile) → KeepsPlaces text_of Related paths files old (found_paths found)
-      → KeepsPlaces text_of Related (paths ++ path ∷ []) (files ++ file ∷ []) new (found_paths longer)
-  places_more tells old new found longer path copy file place is facts added put paths files h =
-      let more_paths : found_paths longer ≡ found_paths found ++ (path, place) ∷ [] = ap found_paths put
-      ∙ map-append (λ (f : Vec ℕ Global × ℕ). (f.0.items, f.1)) found ((copy, place) ∷ [])
-      ∙ ap (λ (p : List ℕ). found_paths found ++ (p, place) ∷ []) is in
+  pub numbers_more : TellsRelated text_of Related → (old new : TextIndex) (found longer : List (Vec ℕ Global × ℕ)) (path : List ℕ) (copy : Vec ℕ Global)
+      (file : PlainFile) (number : ℕ) → copy.items ≡ path → IsPlainFile file → AddsText old new (text_of file) number → longer ≡ found ++ (copy, number) ∷ []
+      → (paths : List (List ℕ)) (files : List PlainFile) → KeepsNumbers text_of Related paths files old (found_paths found)
+      → KeepsNumbers text_of Related (paths ++ path ∷ []) (files ++ file ∷ []) new (found_paths longer)
+  numbers_more tells old new found longer path copy file number is facts added put paths files h =
+      let more_paths : found_paths longer ≡ found_paths found ++ (path, number) ∷ [] = ap found_paths put
+      ∙ map-append (λ (f : Vec ℕ Global × ℕ). (f.0.items, f.1)) found ((copy, number) ∷ [])
+      ∙ ap (λ (p : List ℕ). found_paths found ++ (p, number) ∷ []) is in
       rw more_paths (record {
-        is_index = index_of_more text_of old new place files file facts h.is_index added;
+        is_index = index_of_more text_of old new number files file facts h.is_index added;
         finds = record {
-          of_paths = map-append (λ (f : List ℕ × ℕ). f.0) (found_paths found) ((path, place) ∷ [])
+          of_paths = map-append (λ (f : List ℕ × ℕ). f.0) (found_paths found) ((path, number) ∷ [])
               ∙ ap (λ (ps : List (List ℕ)). ps ++ path ∷ []) h.finds.of_paths;
-          places =
+          numbers =
               zip_push (λ f g. IsFirstNumber Related files g f.1) (λ f g. IsFirstNumber Related (files ++ file ∷ []) g f.1)
-              (found_paths found) files (path, place) file (λ f g is. first_number_stays Related files file g f.1 is) h.finds.places
-              (number_of_more text_of old new place files file facts h.is_index added Related tells);
+              (found_paths found) files (path, number) file (λ f g is. first_number_stays Related files file g f.1 is) h.finds.numbers
+              (number_of_more text_of old new number files file facts h.is_index added Related tells);
         };
       })
 
@@ -61,9 +61,9 @@ module _ (text_of : PlainFile → List ℕ) (Related : PlainFile → PlainFile �
     paths_of judgements = flat_map (λ x. paths_if x.0 x.1) judgements
 
     abbrev Keeps : List (List ℕ × Judgement) → Type 0
-    Keeps judgements = KeepsPlaces text_of Related (paths_of judgements) (files_of judgements) index found
+    Keeps judgements = KeepsNumbers text_of Related (paths_of judgements) (files_of judgements) index found
 
-    pub judgement_more : KeepsPlaces text_of Related (paths_of js ++ (paths_if path j ++ [])) (files_of js ++ (files_if j ++ [])) index found
+    pub judgement_more : KeepsNumbers text_of Related (paths_of js ++ (paths_if path j ++ [])) (files_of js ++ (files_if j ++ [])) index found
         → Keeps (js ++ (path, j) ∷ [])
     judgement_more h =
         rw (
@@ -91,10 +91,10 @@ zip_length Related all [] (file ∷ files) h = absurd h
 zip_length Related all (f ∷ found) [] h = absurd h
 zip_length Related all (f ∷ found) (file ∷ files) h = ap suc (zip_length Related all found files h.1)
 
--- each place is that of a file that was judged
-pub places_within : (Related : PlainFile → PlainFile → Type 0) (files : List PlainFile) (found : List (Vec ℕ Global × ℕ)) → AllZip (λ f file. IsFirstNumber
+-- each number is that of a file that was judged
+pub numbers_within : (Related : PlainFile → PlainFile → Type 0) (files : List PlainFile) (found : List (Vec ℕ Global × ℕ)) → AllZip (λ f file. IsFirstNumber
     Related files file f.1) (found_paths found) files
     → All (λ f. f.1 < length found) found
-places_within Related files found zipped =
+numbers_within Related files found zipped =
     All-from_recursion (λ f. f.1 < length found) found
     (subst (λ (n : ℕ). AllByRecursion (λ f. f.1 < n) found) (sym (zip_length Related files found files zipped)) (zip_within Related files found files zipped))
