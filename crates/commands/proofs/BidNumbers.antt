@@ -9,6 +9,7 @@ use Rattle.std.proofs.lemmas.List.Folds.{find_at}
 use Rattle.std.proofs.lemmas.List.Sums.{fails_before_first, passes_at_first}
 use Rattle.std.proofs.lemmas.Option.{slice_get-get_or}
 use Rattle.bid_file.specs.Files.{PlainBid, PlainFile}
+use Rattle.prune.specs.Lemmas.Ranges.{in_range, range_contains}
 use Rattle.analysis.specs.Bids.{bid_at, are_alike, is_best, numbers_of, best_number, IsBestFor}
 use Rattle.analysis.specs.BidOrders.{AreInOrder}
 use Rattle.analysis.specs.declared.reasons.best.NumberedBid.{NumberedBid}
@@ -16,7 +17,6 @@ use Rattle.commands.specs.DiffTexts.{bid_number}
 use Rattle.commands.specs.Internal.Sides.{IsBidOf}
 use Rattle.analysis.proofs.Explaining.BestBids.{alike_from, one_key}
 use Rattle.analysis.proofs.Explaining.KeptBidsBest.{best-once, one_key_sym}
-use Rattle.analysis.proofs.Explaining.KeptBidsLists.{below_numbers, in_numbers}
 
 -- the first element that passes is there if another one passes
 pub first_within : {X : Type 0} (p : X → Bool) (xs : List X) (x : X) → Contains xs x → p x ≡ true → position_or_len p xs < length xs
@@ -36,13 +36,13 @@ find_only p xs x c t only =
 
 pub number_is_best : (f : PlainFile) (i j : ℕ) → IsBestFor f i j → best_number f (bid_at f i).dummy (bid_at f i).goods ≡ Some j
 number_is_best f i j h =
-    find_only (λ k. are_alike (bid_at f k) (bid_at f i) && is_best f k) (numbers_of f) j (in_numbers (length f.bids) j h.within)
+    find_only (λ k. are_alike (bid_at f k) (bid_at f i) && is_best f k) (numbers_of f) j (range_contains (length f.bids) j h.within)
     (and_from (are_alike (bid_at f j) (bid_at f i)) (is_best f j) h.alike h.best)
     (λ k there t.
     let parts = and_parts (are_alike (bid_at f k) (bid_at f i)) (is_best f k) t in
     let one = one_key (bid_at f k) (bid_at f i) parts.0 in
     let other = one_key_sym (bid_at f j) (bid_at f i) (one_key (bid_at f j) (bid_at f i) h.alike) in
-    best-once f k j (below_numbers (length f.bids) k there) h.within parts.1 h.best
+    best-once f k j (in_range (length f.bids) k there) h.within parts.1 h.best
     (alike_from (bid_at f k) (bid_at f j) (record { bidder = one.bidder ∙ other.bidder; goods = one.goods ∙ other.goods })))
 
 module _ (f : PlainFile) (bids : List NumberedBid) (order : AreInOrder f bids) (bid : PlainBid) (there : Contains f.bids bid) where
