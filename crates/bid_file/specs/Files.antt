@@ -2,6 +2,7 @@
 -- 0, and with G goods and D dummies the real goods are 0 to G - 1 and the dummy goods G to G + D - 1.
 use Rattle.std.specs.Prelude.{ℕ, ◌+◌, ◌<◌, ◌≤◌, List, [], ◌∷◌, ◌++◌, map, length, Option, Some, None}
 use Rattle.std.specs.List.{AllByRecursion}
+use Rattle.goods_set.specs.Bundles.{AreBelow, IsRising}
 use Rattle.bid_file.specs.declared.bid.Bid.{Bid}
 use Rattle.bid_file.specs.declared.limits.TheConstants.{MAX_GOODS, MAX_BIDS, MAX_DUMMY, MAX_PRICE}
 
@@ -23,15 +24,6 @@ plain_bid b = record { price = b.price; goods = b.goods.items; dummy = b.dummy }
 abbrev pub plain_bids : List Bid → List PlainBid
 plain_bids bids = map plain_bid bids
 
--- each number of the list is above g
-abbrev pub AreAbove : ℕ → List ℕ → Type 0
-AreAbove g xs = AllByRecursion (λ x. g < x) xs
-
--- the numbers rise
-abbrev pub IsRising : List ℕ → Type 0
-IsRising [] = Unit {0}
-IsRising (x ∷ xs) = AreAbove x xs × IsRising xs
-
 -- the dummy good, if there is one, is below D
 abbrev pub IsDummyBelow : ℕ → Option ℕ → Type 0
 IsDummyBelow D None = Unit {0}
@@ -42,7 +34,7 @@ pub record IsBid (G D : ℕ) (b : PlainBid) : Type 0 where
   pub price : b.price ≤ MAX_PRICE
   pub goods : 0 < length b.goods
   pub rising : IsRising b.goods
-  pub below : AllByRecursion (λ g. g < G) b.goods
+  pub below : AreBelow G b.goods
   pub dummy : IsDummyBelow D b.dummy
 
 -- a file of G goods, D dummies and these bids

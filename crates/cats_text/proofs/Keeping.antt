@@ -3,7 +3,7 @@ use Rattle.std.proofs.Common.{◌≡◌, ℕ, Bool, true, false, List, [], ◌�
 use Rattle.cats_text.specs.Faults.{fault_at}
 use Rattle.cats_text.specs.Internal.Progress.{Progress}
 use Rattle.cats_text.specs.Internal.Parsing.{Reading, word_read, line_read, is_due}
-use Rattle.cats_text.specs.Internal.Scanning.{State, Scan, and_then, with_reading, blank_step_at, blank_step, words_step_at, words_step, missing_step}
+use Rattle.cats_text.specs.Internal.Scanning.{State, Scan, and_then, with_reading, blank_step_at, words_step_at, missing_step}
 use Rattle.cats_text.specs.Internal.Scanning.{line_step, byte_step, scan, end_step, end_of}
 use Rattle.cats_text.specs.declared.read_fault.Kind.TheVariants.{Missing}
 use Rattle.bid_file.specs.Files.{PlainBid}

@@ -1,7 +1,8 @@
 -- The file that lines without a fault spell.
-use Rattle.std.specs.Prelude.{ℕ, ◌+◌, ◌-◌, ◌==◌, nat_lt, nat_le, not, if◌then◌else◌, List, [], ◌∷◌, ◌++◌, length, map}
+use Rattle.std.specs.Prelude.{ℕ, ◌+◌, ◌-◌, nat_lt, nat_le, not, List, [], ◌∷◌, ◌++◌, length, map}
 use Rattle.std.specs.Prelude.{filter, filter_map, find, fold, take_while, set, replicate, Option, Some, None}
 use Rattle.std.specs.Prelude.{option_map}
+use Rattle.goods_set.specs.Bundles.{with_good}
 use Rattle.cats_text.specs.Lines.{Word}
 use Rattle.cats_text.specs.Numbers.{number_of, price_of}
 use Rattle.cats_text.specs.Grammar.{line_number, significant_words}
@@ -11,13 +12,9 @@ use Rattle.bid_file.specs.Files.{PlainBid, PlainFile}
 -- ---- a bid
 
 -- the numbers in rising order
-abbrev pub rising_with : ℕ → List ℕ → List ℕ
-rising_with g [] = g ∷ []
-rising_with g (x ∷ xs) = if nat_lt g x then g ∷ x ∷ xs else if g == x then x ∷ xs else x ∷ rising_with g xs
-
 abbrev pub rising_of : List ℕ → List ℕ
 rising_of [] = []
-rising_of (x ∷ xs) = rising_with x (rising_of xs)
+rising_of (x ∷ xs) = with_good x (rising_of xs)
 
 -- the words before the first `#`
 abbrev pub before_end : List Word → List Word

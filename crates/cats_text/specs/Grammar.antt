@@ -1,8 +1,9 @@
 -- When a text spells a bid file. (README of CATS 2.0: three header lines, then one line for each bid, "its number, its
 -- price, the numbers of its goods, then `#`"; this project's profile says which spellings of them are taken).
-use Rattle.std.specs.Prelude.{◌≡◌, ◌≢◌, ℕ, ◌==◌, Bool, true, false, List, [], ◌∷◌, ◌++◌, map, length, slice_get, Some}
+use Rattle.std.specs.Prelude.{◌≡◌, ◌≢◌, ℕ, true, false, List, [], ◌∷◌, ◌++◌, map, length, slice_get, Some}
 use Rattle.std.specs.Prelude.{codes}
-use Rattle.std.specs.List.{AllByRecursion, list_any}
+use Rattle.std.specs.List.{AllByRecursion}
+use Rattle.goods_set.specs.Bundles.{has_good}
 use Rattle.cats_text.specs.Lines.{Word, significant_lines}
 use Rattle.cats_text.specs.Numbers.{is_number, number_of, is_price, is_too_fine, price_of}
 use Rattle.bid_file.specs.Files.{PlainBid, PlainFile, IsPlainFile, goods_of}
@@ -23,9 +24,6 @@ abbrev pub AreDistinct : List ℕ → Type 0
 AreDistinct [] = Unit {0}
 AreDistinct (x ∷ xs) = AllByRecursion (λ y. x ≢ y) xs × AreDistinct xs
 
-abbrev pub has_number : List ℕ → ℕ → Bool
-has_number xs n = list_any (λ x. x == n) xs
-
 -- the words of a line spell a bid of the file: the one with the number that is first
 pub record SpellsBid (f : PlainFile) (words : List Word) : Type 0 where
   pub number : Word
@@ -39,7 +37,7 @@ pub record SpellsBid (f : PlainFile) (words : List Word) : Type 0 where
   pub goods_spelled : AllByRecursion (λ w. is_number w ≡ true) goods
   -- in any order, none twice
   pub distinct : AreDistinct (map number_of goods)
-  pub same_goods : (g : ℕ) → has_number (map number_of goods) g ≡ has_number (goods_of f.goods bid) g
+  pub same_goods : (g : ℕ) → has_good (map number_of goods) g ≡ has_good (goods_of f.goods bid) g
 
 -- the value of a line's first word
 abbrev pub line_number : List Word → ℕ

@@ -19,8 +19,7 @@ ghost use Rattle.std.specs.Prelude.{
   slice_index,
   vec_len,
 };
-ghost use Rattle.bid_file.specs.Files.{IsRising};
-ghost use Rattle.cats_text.specs.Grammar.{has_number};
+ghost use Rattle.goods_set.specs.Bundles.{IsRising, has_good};
 ghost use Rattle.cats_text.specs.Internal.Marks.{IsMarked};
 
 use std::alloc::{AllocError, Global};
@@ -90,7 +89,7 @@ fn put_marked(
     good: u16,
 ) -> Result<bool, AllocError>
     requires { IsMarked goods.old.items marks.old.items bid_mark }
-    ensures new { IfOk result (λ is_new. is_new ≡ not (has_number goods.old.items good)) }
+    ensures new { IfOk result (λ is_new. is_new ≡ not (has_good goods.old.items good)) }
     ensures goods { IfOk result (λ is_new. goods.new.items
         ≡ (if is_new then goods.old.items ++ good ∷ [] else goods.old.items)) }
     ensures same { OnErr result (goods.new.items ≡ goods.old.items) }
@@ -130,7 +129,7 @@ impl GoodList {
     /// Puts a good behind the others where they rise and it is above them, and says whether it did.
     #[inline(always)]
     pub fn put_next(&mut self, good: u16) -> Result<bool, AllocError>
-        ensures new { IfOk result (λ is_put. is_put ≡ true → has_number self.old good ≡ false) }
+        ensures new { IfOk result (λ is_put. is_put ≡ true → has_good self.old good ≡ false) }
         ensures goods { IfOk result (λ is_put. self.new ≡ (if is_put then self.old ++ good ∷ [] else self.old)) }
     {
         if u32::from(good) < self.least {
@@ -143,7 +142,7 @@ impl GoodList {
 
     /// Puts a good behind the others unless it has come, and says whether it was new.
     pub fn put(&mut self, good: u16) -> Result<bool, AllocError>
-        ensures new { IfOk result (λ is_new. is_new ≡ not (has_number self.old good)) }
+        ensures new { IfOk result (λ is_new. is_new ≡ not (has_good self.old good)) }
         ensures goods { IfOk result (λ is_new. self.new ≡ (if is_new then self.old ++ good ∷ [] else self.old)) }
     {
         if self.rises {
@@ -166,7 +165,7 @@ impl GoodList {
     #[inline(always)]
     pub fn sort(&mut self)
         ensures rising { IsRising self.new }
-        ensures same { (g : ℕ) → has_number self.new g ≡ has_number self.old g }
+        ensures same { (g : ℕ) → has_good self.new g ≡ has_good self.old g }
     {
         if !self.rises {
             self.goods.sort_unstable();

@@ -9,7 +9,7 @@ use Rattle.cats_text.specs.declared.limits.TheConstants.{MAX_STREAM}
 use Rattle.canon.specs.declared.canon_fault.CanonFault.{CanonFault}
 use Rattle.canon.specs.declared.canon_fault.CanonFault.TheVariants.{Read, StepLimit, Memory}
 use Rattle.rounding.specs.Answers.{WantsMemoryToRound}
-use Rattle.rounding.specs.Texts.{PlainChange, rounded_prices, rounded_text}
+use Rattle.rounding.specs.Texts.{PlainRoundedPrice, rounded_prices, rounded_text}
 use Rattle.rounding.specs.declared.replacement.FinePrices.{FinePrices}
 use Rattle.commands.specs.RoundedLines.{rounded_line}
 use Rattle.commands.specs.declared.faults.RunFault.{RunFault}
@@ -19,7 +19,7 @@ use Rattle.commands.specs.declared.statuses.TheConstants.{TOO_SMALL}
 use Rattle.commands.specs.declared.calls.rounded_text.RoundAnswer.{RoundAnswer}
 
 -- the lines of prices whose values changed
-abbrev pub lines_of : List PlainChange → List ℕ
+abbrev pub lines_of : List PlainRoundedPrice → List ℕ
 lines_of changes = flat_map rounded_line changes
 
 -- what is reported of a text

@@ -2,17 +2,15 @@
 -- strictly rising list of numbers below G. Inside, apart and without are those of sets.
 use Rattle.std.specs.Prelude.{ℕ, ◌<◌, zero, suc, ◌+◌, ◌==◌, nat_lt, nat_le, Bool, not, IsTrue, cond, List, [], ◌∷◌}
 use Rattle.std.specs.Prelude.{◌++◌, map, Option}
-use Rattle.std.specs.List.{list_any, list_all, filter, find, flat_map, range_with_len}
+use Rattle.std.specs.List.{AllByRecursion, list_any, list_all, filter, find, flat_map, range_with_len}
 
 -- each member of the list is above g
 abbrev pub AreAbove : ℕ → List ℕ → Type 0
-AreAbove g [] = Unit {0}
-AreAbove g (x ∷ xs) = (g < x) × AreAbove g xs
+AreAbove g xs = AllByRecursion (λ x. g < x) xs
 
 -- each member of the list is below g
 abbrev pub AreBelow : ℕ → List ℕ → Type 0
-AreBelow g [] = Unit {0}
-AreBelow g (x ∷ xs) = (x < g) × AreBelow g xs
+AreBelow g xs = AllByRecursion (λ x. x < g) xs
 
 -- the list rises strictly
 abbrev pub IsRising : List ℕ → Type 0

@@ -14,8 +14,8 @@ use Rattle.valuation.specs.Values.{or_value, atoms_of}
 use Rattle.prune.specs.Fates.{best_bids, found_points, or_fate, indices_below, plain_fate, xor_fate}
 use Rattle.prune.specs.Internal.BestBids.{AreBestBids}
 use Rattle.prune.specs.Internal.Listings.{is_inside_at, first_dominating_index}
-use Rattle.valuation.specs.Packings.{atom_at}
-use Rattle.prune.specs.Internal.Reaching.{atoms_inside, found_inside, indices_inside}
+use Rattle.valuation.specs.Packings.{atom_at, atoms_inside}
+use Rattle.prune.specs.Internal.Reaching.{found_inside, indices_inside}
 use Rattle.prune.specs.Lemmas.Fates.{or_fate-push, xor_fate-push}
 use Rattle.prune.specs.Lemmas.Lists.{All-from_Contains, filter_same_on, find_filter, map_same_on, Contains-head}
 use Rattle.prune.specs.Lemmas.OnBundles.{IsOnBundle}

@@ -19,7 +19,7 @@ use Rattle.prune.proofs.Pruning.{HasRisingBundle}
 use Rattle.prune.proofs.Results.{IsTurn, IsXorKept, IsOrKept, AreXorPoints, AreOrPoints, xor_done}
 use Rattle.prune.proofs.Results.{or_done}
 use Rattle.prune.proofs.Prefixes.{IsLeft, next_parts, next_taken, next_drop}
-use Rattle.prune.specs.Internal.Reaching.{atoms_inside}
+use Rattle.valuation.specs.Packings.{atoms_inside}
 
 -- ---- atoms of the code
 

@@ -34,7 +34,8 @@ use Rattle.prune.specs.Lemmas.KeptBids.{all_nonempty, on_bundles}
 use Rattle.prune.specs.Lemmas.Refusals.{first_over-refused, first_over-within}
 use Rattle.prune.proofs.Pruning.{HasRisingBundle, completion, later_not_below, not_below_itself, behind_next}
 use Rattle.prune.proofs.Results.{IsTurn, IsOrKept, turn_below, or_more, or_done, best_on, best_price}
-use Rattle.prune.specs.Internal.Reaching.{atoms_inside, steps_for}
+use Rattle.valuation.specs.Packings.{atoms_inside}
+use Rattle.prune.specs.Internal.Reaching.{steps_for}
 
 -- ---- the best bids are on the searched bundles
 

@@ -1,13 +1,13 @@
 -- What becomes of a bidder's best bids: one on each bundle with a price above 0, in order, at the greatest price there.
 -- A best bid is kept as a point, or the points below its bundle reach its price. Points are named by their indices
 -- among the bidder's points, which are in order.
-use Rattle.std.specs.Prelude.{ℕ, nat_le, if◌then◌else◌, Option, Some, None, List, map, length, reverse, slice_index_or}
+use Rattle.std.specs.Prelude.{ℕ, nat_le, if◌then◌else◌, Option, Some, None, List, map, length, reverse}
 use Rattle.std.specs.Global.{Vec}
 use Rattle.std.specs.List.{filter, find, range_with_len}
 use Rattle.valuation.specs.declared.atom.Atom.{Atom}
 use Rattle.valuation.specs.declared.search.kind.SearchKind.{SearchKind}
 use Rattle.valuation.specs.declared.search.kind.SearchKind.TheVariants.{Plain, Bounded}
-use Rattle.valuation.specs.Packings.{atom_at}
+use Rattle.valuation.specs.Packings.{atom_at, numbers_at}
 use Rattle.valuation.specs.SearchSteps.{found_indices}
 use Rattle.valuation.specs.Values.{or_value}
 use Rattle.prune.specs.Points.{or_points, xor_points}
@@ -29,10 +29,6 @@ indices_below points bundle =
 abbrev pub ordered : {X : Type 0} → SearchKind → List X → List X
 ordered Plain xs = xs
 ordered Bounded xs = reverse xs
-
--- the numbers at these indices of a list
-abbrev pub numbers_at : List ℕ → List ℕ → List ℕ
-numbers_at numbers indices = map (λ index. slice_index_or numbers index 0) indices
 
 -- the indices, rising, of the packing that the search of a kind finds among the points below a bundle, if there is one
 -- that reaches the price

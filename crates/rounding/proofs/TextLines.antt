@@ -10,7 +10,7 @@ use Rattle.cats_text.specs.Lines.{Word, RawLine, raw_lines, blank_returns, line_
 use Rattle.rounding.specs.Replacements.{replacement, replacement_text}
 use Rattle.rounding.specs.Texts.{from_second, before_second, second_word, leading_word, behind_word, with_rounded, rounded_text, rounded_prices}
 use Rattle.rounding.specs.Texts.{rounded_lines}
-use Rattle.rounding.specs.Texts.{rounded_line, lines_text, line_text, lines_changes, line_changes, change_by, PlainChange, before_next}
+use Rattle.rounding.specs.Texts.{rounded_line, lines_text, line_text, lines_changes, line_changes, change_by, PlainRoundedPrice, before_next}
 use Rattle.rounding.specs.Texts.{is_significant_line}
 use Rattle.rounding.specs.Views.{plain_change, plain_changes}
 use Rattle.rounding.specs.declared.text.RoundedPrice.{RoundedPrice}
@@ -90,11 +90,11 @@ cut_line text line start count next l ec el en =
     (cases_lt (start + count) (length text))
 
 -- what is written of the first line of a text
-pub record IsFirstLine (fine : FinePrices) (t : List ℕ) (before number : ℕ) (t0 t2 : List ℕ) (p0 p1 : List PlainChange) : Type 0 where
+pub record IsFirstLine (fine : FinePrices) (t : List ℕ) (before number : ℕ) (t0 t2 : List ℕ) (p0 p1 : List PlainRoundedPrice) : Type 0 where
   pub text_is : t2 ≡ t0 ++ line_text (rounded_line fine before (first_raw t))
   pub prices_are : p1 ≡ p0 ++ line_changes fine number before (first_raw t)
 
-pub first_written : (fine : FinePrices) (t line t0 t1 t2 : List ℕ) (p0 p1 : List PlainChange) (before number : ℕ) (significant is_bid ended : Bool)
+pub first_written : (fine : FinePrices) (t line t0 t1 t2 : List ℕ) (p0 p1 : List PlainRoundedPrice) (before number : ℕ) (significant is_bid ended : Bool)
     → line ≡ first_line t → ended ≡ has_line_end t → significant ≡ is_significant (line_words (blank_returns line)) → is_bid ≡ (leb 3 before && significant)
     → t1 ≡ t0 ++ (if is_bid then with_rounded fine line else line) → t2 ≡ t1 ++ (if ended then 10 ∷ [] else [])
     → p1 ≡ p0 ++ (if is_bid then change_by number (second_word line) (replacement fine (second_word line)) else [])
@@ -102,7 +102,7 @@ pub first_written : (fine : FinePrices) (t line t0 t1 t2 : List ℕ) (p0 p1 : Li
 first_written fine t line t0 t1 t2 p0 p1 before number significant is_bid ended el ee es ei e1 e2 ep = grind (arith, common_steps, append_assoc)
 
 -- so much is written, and the rest of the text is still to come
-pub record IsWritten (fine : FinePrices) (text : List ℕ) (start number before : ℕ) (written : List ℕ) (prices : List PlainChange) : Type 0 where
+pub record IsWritten (fine : FinePrices) (text : List ℕ) (start number before : ℕ) (written : List ℕ) (prices : List PlainRoundedPrice) : Type 0 where
   pub text_is : written ++ lines_text (rounded_lines fine before (raw_lines (drop start text))) ≡ rounded_text fine text
   pub prices_are : prices ++ lines_changes fine number before (raw_lines (drop start text)) ≡ rounded_prices fine text
 
@@ -110,7 +110,7 @@ next_before : (before : ℕ) (l : RawLine) (significant : Bool) (more : ℕ) →
     → before + more ≡ before_next before l
 next_before before l significant more es em = grind (arith, common_steps)
 
-pub line_more : (fine : FinePrices) (text t0 t2 : List ℕ) (p0 p1 : List PlainChange) (start next number before more : ℕ) (significant : Bool)
+pub line_more : (fine : FinePrices) (text t0 t2 : List ℕ) (p0 p1 : List PlainRoundedPrice) (start next number before more : ℕ) (significant : Bool)
     → start < length text → drop next text ≡ behind_line (drop start text) → IsFirstLine fine (drop start text) before number t0 t2 p0 p1
     → significant ≡ is_significant_line (first_raw (drop start text)) → more ≡ (if significant then 1 else 0)
     → IsWritten fine text start number before t0 p0 → IsWritten fine text next (number + 1) (before + more) t2 p1
@@ -131,7 +131,7 @@ line_more fine text t0 t2 p0 p1 start next number before more significant l en f
       prices_are = ap (λ (t : List ℕ). p1 ++ lines_changes fine (number + 1) (before + more) (raw_lines t)) en
           ∙ ap (λ n. p1 ++ lines_changes fine (number + 1) n (raw_lines (behind_line (drop start text)))) after
           ∙ ap (λ n. p1 ++ lines_changes fine n (before_next before (first_raw (drop start text))) (raw_lines (behind_line (drop start text)))) one
-          ∙ ap (λ (ps : List PlainChange). ps ++ lines_changes fine (suc number) (before_next before (first_raw (drop start text)))
+          ∙ ap (λ (ps : List PlainRoundedPrice). ps ++ lines_changes fine (suc number) (before_next before (first_raw (drop start text)))
           (raw_lines (behind_line (drop start text)))) f.prices_are
           ∙ append_assoc p0 (line_changes fine number before (first_raw (drop start text)))
           (lines_changes fine (suc number) (before_next before (first_raw (drop start text))) (raw_lines (behind_line (drop start text))))

@@ -83,12 +83,12 @@ rounded_text fine text = lines_text (rounded_lines fine 0 (raw_lines text))
 -- ---- rounded prices
 
 -- a price whose value is another one: its line, counted from 1, the word, and its new value in millionths
-pub record PlainChange : Type 0 where
+pub record PlainRoundedPrice : Type 0 where
   pub line : ℕ
   pub word : Word
   pub price : ℕ
 
-abbrev pub change_by : ℕ → Word → Replacement → List PlainChange
+abbrev pub change_by : ℕ → Word → Replacement → List PlainRoundedPrice
 change_by line w (Rounded millionths) = record { line = line; word = w; price = millionths } ∷ []
 change_by line w Itself = []
 change_by line w (Exact millionths) = []
@@ -96,15 +96,15 @@ change_by line w TooLarge = []
 change_by line w TooFine = []
 
 -- of the line with this number, before which there are so many significant lines
-abbrev pub line_changes : FinePrices → ℕ → ℕ → RawLine → List PlainChange
+abbrev pub line_changes : FinePrices → ℕ → ℕ → RawLine → List PlainRoundedPrice
 line_changes fine number before l = if is_bid_line before l
     then change_by number (second_word l.bytes) (replacement fine (second_word l.bytes)) else []
 
-abbrev pub lines_changes : FinePrices → ℕ → ℕ → List RawLine → List PlainChange
+abbrev pub lines_changes : FinePrices → ℕ → ℕ → List RawLine → List PlainRoundedPrice
 lines_changes fine number before [] = []
 lines_changes fine number before (l ∷ ls) =
     line_changes fine number before l ++ lines_changes fine (suc number) (before_next before l) ls
 
 -- the prices of a text that are rounded, in order
-abbrev pub rounded_prices : FinePrices → List ℕ → List PlainChange
+abbrev pub rounded_prices : FinePrices → List ℕ → List PlainRoundedPrice
 rounded_prices fine text = lines_changes fine 1 0 (raw_lines text)

@@ -8,6 +8,7 @@ pub mod Lists
 pub mod OrValues
 pub mod Orders
 pub mod PackingCounts
+pub mod PackingIndices
 pub mod Packings
 pub mod Permutations
 pub mod SearchLimits

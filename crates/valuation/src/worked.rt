@@ -4,9 +4,8 @@ ghost use Rattle.std.specs.declared.cmp.Ordering.TheVariants.{Less, Equal, Great
 ghost use Rattle.valuation.specs.declared.search.kind.SearchKind.TheVariants.{Plain, Bounded};
 ghost use Rattle.valuation.specs.Examples.{atom};
 ghost use Rattle.valuation.specs.Values.{xor_value, or_value, chosen_indices};
-ghost use Rattle.valuation.specs.Internal.BestSearch.{numbers_at};
 ghost use Rattle.valuation.specs.Internal.Reaching.{ArePricesLeft, IsReachedBy};
-ghost use Rattle.valuation.specs.Packings.{count_packings, IsPackingFor};
+ghost use Rattle.valuation.specs.Packings.{count_packings, IsPackingFor, numbers_at};
 ghost use Rattle.valuation.specs.Bounds.{price_bound, rate, greatest_rate, rate_bound};
 ghost use Rattle.valuation.specs.SearchSteps.{cut_steps, found_indices};
 ghost use Rattle.valuation.specs.SearchLimits.{plain_options, bounded_options, next_steps, options_after, is_one_over};

@@ -1,20 +1,14 @@
 -- The facts of a file hold in one way at most, so that a struct may keep them.
-use Rattle.std.specs.Prelude.{ℕ, ◌<◌, List, [], ◌∷◌, Option, Some, None}
-use Rattle.std.specs.List.{AllByRecursion, AllByRecursion-prop}
-use Rattle.std.specs.Coded.{×_prop, Unit-prop, le_prop}
-use Rattle.bid_file.specs.Files.{PlainBid, IsRising, IsDummyBelow, IsBid, IsBidFile}
+use Rattle.std.specs.Prelude.{ℕ, List, Option, Some, None}
+use Rattle.std.specs.List.{AllByRecursion-prop}
+use Rattle.std.specs.Coded.{Unit-prop, le_prop}
+use Rattle.goods_set.specs.Lemmas.BundleFacts.{AreBelow-prop, IsRising-prop}
+use Rattle.bid_file.specs.Files.{PlainBid, IsDummyBelow, IsBid, IsBidFile}
 
 -- these facts have one proof at most, as a fact that a struct keeps has to
-pub IsRising-prop : (xs : List ℕ) → IsProp (IsRising xs)
-IsRising-prop [] = Unit-prop
-IsRising-prop (x ∷ xs) = ×_prop (AllByRecursion-prop (λ y. x < y) (λ y. le_prop) xs) (IsRising-prop xs)
-
 pub IsDummyBelow-prop : (D : ℕ) (d : Option ℕ) → IsProp (IsDummyBelow D d)
 IsDummyBelow-prop D None = Unit-prop
 IsDummyBelow-prop D (Some d) = le_prop
-
-pub AreBelow-prop : (G : ℕ) (xs : List ℕ) → IsProp (AllByRecursion (λ g. g < G) xs)
-AreBelow-prop G xs = AllByRecursion-prop (λ g. g < G) (λ g. le_prop) xs
 
 pub IsBid-prop : (G D : ℕ) (b : PlainBid) → IsProp (IsBid G D b)
 IsBid-prop G D b = hlevel (le_prop, IsRising-prop b.goods, AreBelow-prop G b.goods, IsDummyBelow-prop D b.dummy)

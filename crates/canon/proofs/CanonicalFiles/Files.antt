@@ -1,4 +1,4 @@
--- The file of an auction represents that auction, and keeps the limits of files.
+-- The file of an auction represents that auction, and keeps the limits of 
 use Rattle.std.proofs.Common.{◌≡◌, ℕ, zero, suc, ◌+◌, ◌<◌, ◌≤◌, List, [], ◌∷◌, ◌++◌, length, map, Option, Some, None, is_none, refl, ap, ap₂, ◌∙◌, arith}
 use Rattle.std.specs.Prelude.{All, filter, sum_by}
 use Rattle.std.specs.List.{range_with_len, AllByRecursion}
@@ -6,9 +6,7 @@ use Rattle.std.proofs.lemmas.Bool.{eq-eqb, ne_eqb}
 use Rattle.std.proofs.lemmas.List.{map-append, append-nil, length-append, length-map}
 use Rattle.std.proofs.lemmas.List.Elements.{All-head, All-tail, filter-append}
 use Rattle.std.proofs.lemmas.List.Sums.{sum_by-cons}
-use Rattle.goods_set.specs.Bundles.{IsRising, AreAbove, AreBelow}
-use Rattle.bid_file.specs.Files as files
-use Rattle.bid_file.specs.Files.{PlainBid, PlainFile, IsBid, IsPlainFile}
+use Rattle.bid_file.specs.Files.{PlainBid, PlainFile, IsDummyBelow, IsBid, IsPlainFile}
 use Rattle.valuation.specs.declared.atom.Atom.{Atom}
 use Rattle.valuation.specs.Auctions.{PlainAuction, IsAtom, IsAuction, atom_of, is_dummy, or_atoms_of, xor_atoms_of, auction_from}
 use Rattle.prune.specs.Lemmas.Lists.{filter-kept, filter-lost}
@@ -95,24 +93,12 @@ auction_from-file_from a =
 
 -- ---- the limits of files
 
-above-into : (g : ℕ) (xs : List ℕ) → AreAbove g xs → files.AreAbove g xs
-above-into g [] h = tt
-above-into g (x ∷ xs) h = (h.0, above-into g xs h.1)
-
-rising-into : (xs : List ℕ) → IsRising xs → files.IsRising xs
-rising-into [] h = tt
-rising-into (x ∷ xs) h = (above-into x xs h.0, rising-into xs h.1)
-
-below-into : (G : ℕ) (xs : List ℕ) → AreBelow G xs → AllByRecursion (λ g. g < G) xs
-below-into G [] h = tt
-below-into G (x ∷ xs) h = (h.0, below-into G xs h.1)
-
-IsBid-from : (G D : ℕ) (dummy : Option ℕ) (a : Atom (List ℕ)) → files.IsDummyBelow D dummy → IsAtom G a → IsBid G D (bid_from dummy a)
+IsBid-from : (G D : ℕ) (dummy : Option ℕ) (a : Atom (List ℕ)) → IsDummyBelow D dummy → IsAtom G a → IsBid G D (bid_from dummy a)
 IsBid-from G D dummy a d h = record {
   price = h.price;
   goods = h.nonempty;
-  rising = rising-into a.bundle h.bundle.0;
-  below = below-into G a.bundle h.bundle.1;
+  rising = h.bundle.0;
+  below = h.bundle.1;
   dummy = d;
 }
 
@@ -120,7 +106,7 @@ each_append : (P : PlainBid → Type 0) (xs ys : List PlainBid) → AllByRecursi
 each_append P [] ys h k = k
 each_append P (x ∷ xs) ys h k = (h.0, each_append P xs ys h.1 k)
 
-each_from : (G D : ℕ) (dummy : Option ℕ) → files.IsDummyBelow D dummy → (atoms : List (Atom (List ℕ))) → All (IsAtom G) atoms
+each_from : (G D : ℕ) (dummy : Option ℕ) → IsDummyBelow D dummy → (atoms : List (Atom (List ℕ))) → All (IsAtom G) atoms
     → AllByRecursion (IsBid G D) (map (bid_from dummy) atoms)
 each_from G D dummy d [] h = tt
 each_from G D dummy d (a ∷ rest) h = (IsBid-from G D dummy a d (All-head (IsAtom G) a rest h), each_from G D dummy d rest (All-tail (IsAtom G) a rest h))

@@ -5,7 +5,7 @@ use Rattle.std.proofs.lemmas.Bool.{ltb-true, ltb-false, le-leb, lt-leb, leb-true
 use Rattle.std.specs.List.{list_any, find}
 use Rattle.std.specs.Option.{option_map, is_some}
 use Rattle.cats_text.specs.Numbers.{is_number, number_of}
-use Rattle.cats_text.specs.Grammar.{has_number}
+use Rattle.goods_set.specs.Bundles.{has_good}
 use Rattle.cats_text.specs.Faults.{header_value, word_fault, when, has_end, is_end}
 use Rattle.cats_text.specs.FileLines.{before_end, real_goods, dummy_in}
 use Rattle.cats_text.specs.Internal.Progress.{Progress}
@@ -93,11 +93,11 @@ real_follows : (g b d : List (List ℕ)) (lines : List (List (List ℕ))) (n x :
     → v ≡ number_of w → v < p.header.goods
     → word_fault (g ∷ b ∷ d ∷ lines) (n ∷ x ∷ gs) w ≡ when (list_any (λ y. eqb (number_of y) (number_of w)) gs) kinds.RepeatedGood
     (when (leb p.header.goods (number_of w) && list_any (λ y. leb p.header.goods (number_of y)) gs) kinds.TwoDummies None)
-    → WordFollows (g ∷ b ∷ d ∷ lines) (n ∷ x ∷ gs) w (cond (has_number p.goods v) (Err kinds.RepeatedGood) (Ok (record p { goods = p.goods ++ v ∷ [] })))
+    → WordFollows (g ∷ b ∷ d ∷ lines) (n ∷ x ∷ gs) w (cond (has_good p.goods v) (Err kinds.RepeatedGood) (Ok (record p { goods = p.goods ++ v ∷ [] })))
 real_follows g b d lines n x gs w v p o e same l fault =
     let lw : number_of w < p.header.goods = omega arith in
     follow_test (g ∷ b ∷ d ∷ lines) (n ∷ x ∷ gs) w _ _ kinds.RepeatedGood _ _ fault
-    (ap (λ vs. has_number vs v) (goods_are g b d lines n x gs p o) ∙ has_filtered p.header.goods (values gs) v l ∙ any_values (λ y. eqb y v) gs
+    (ap (λ vs. has_good vs v) (goods_are g b d lines n x gs p o) ∙ has_filtered p.header.goods (values gs) v l ∙ any_values (λ y. eqb y v) gs
     ∙ ap (λ k. list_any (λ y. eqb (number_of y) k) gs) same)
     (λ _ is. (
       is ∙ ap (λ t. when (t && list_any (λ y. leb p.header.goods (number_of y)) gs) kinds.TwoDummies None) (lt-leb p.header.goods (number_of w) lw),
@@ -156,7 +156,7 @@ dummy_follows g b d lines n x gs w p o e le fault (Some f) found =
     (elim (eqb f (number_of w)) as (λ t. eqb f (number_of w) ≡ t
     → WordFollows (g ∷ b ∷ d ∷ lines) (n ∷ x ∷ gs) w (cond t (Err kinds.RepeatedGood) (Err kinds.TwoDummies))) [
       | true ↦ λ (q : eqb f (number_of w) ≡ true). fault_named (g ∷ b ∷ d ∷ lines) (n ∷ x ∷ gs) w _ _ _ fault
-          (sym (any_values (λ y. eqb y (number_of w)) gs) ∙ subst (λ k. has_number (values gs) k ≡ true) (eqb-true f (number_of w) q) there.1)
+          (sym (any_values (λ y. eqb y (number_of w)) gs) ∙ subst (λ k. has_good (values gs) k ≡ true) (eqb-true f (number_of w) q) there.1)
       | false ↦ λ (q : eqb f (number_of w) ≡ false).
           let new : list_any (λ y. eqb (number_of y) (number_of w)) gs ≡ false = sym (any_values (λ y. eqb y (number_of w)) gs)
           ∙ other_dummy_has_not p.header.goods (values gs) (number_of w) f one is_dummy found (eqb-false f (number_of w) q) in
@@ -178,7 +178,7 @@ good_follows g b d lines n x gs w v p o e t fault =
     (λ below is. let l : v < p.header.goods + p.header.dummy = leb-false (p.header.goods + p.header.dummy) v below in
     let same : v ≡ number_of w = holds_same v (number_of w) (omega arith) t.1 in
     elim (ltb v p.header.goods) as (λ q. ltb v p.header.goods ≡ q → WordFollows (g ∷ b ∷ d ∷ lines) (n ∷ x ∷ gs) w
-    (cond q (cond (has_number p.goods v) (Err kinds.RepeatedGood) (Ok (record p { goods = p.goods ++ v ∷ [] })))
+    (cond q (cond (has_good p.goods v) (Err kinds.RepeatedGood) (Ok (record p { goods = p.goods ++ v ∷ [] })))
     (dummy_read p p.draft.dummy (v - p.header.goods)))) [
       | true ↦ λ (q : ltb v p.header.goods ≡ true). real_follows g b d lines n x gs w v p o e same (ltb-true v p.header.goods q) is
       | false ↦ λ (q : ltb v p.header.goods ≡ false). let above : p.header.goods ≤ v = ltb-false v p.header.goods q in

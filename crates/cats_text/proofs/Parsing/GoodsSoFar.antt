@@ -10,7 +10,7 @@ use Rattle.std.specs.List.{find, filter, list_any}
 use Rattle.std.specs.Option.{is_some}
 use Rattle.cats_text.specs.Lines.{Word}
 use Rattle.cats_text.specs.Numbers.{number_of}
-use Rattle.cats_text.specs.Grammar.{has_number}
+use Rattle.goods_set.specs.Bundles.{has_good}
 use Rattle.cats_text.specs.Faults.{has_end, is_end}
 use Rattle.cats_text.specs.FileLines.{before_end, real_goods, dummy_in}
 use Rattle.cats_text.proofs.Parsing.States.{HasOneDummy}
@@ -50,12 +50,12 @@ any_find p [] = refl
 any_find p (x ∷ xs) = elim (p x) as (λ b. (b || list_any p xs) ≡ is_some (cond b (Some x) (find p xs))) [ true ↦ refl | false ↦ any_find p xs ]
 
 -- what is found passes, and is there
-pub find_passes : (p : ℕ → Bool) (xs : List ℕ) (e : ℕ) → find p xs ≡ Some e → (p e ≡ true) × (has_number xs e ≡ true)
+pub find_passes : (p : ℕ → Bool) (xs : List ℕ) (e : ℕ) → find p xs ≡ Some e → (p e ≡ true) × (has_good xs e ≡ true)
 find_passes p [] e h = grind (arith, common_steps)
 find_passes p (x ∷ xs) e h = grind (arith, common_steps, eq-eqb, or_right, (find_passes p xs e))
 
 -- the real goods are those below G
-pub has_filtered : (G : ℕ) (vs : List ℕ) (v : ℕ) → v < G → has_number (filter (λ x. ltb x G) vs) v ≡ has_number vs v
+pub has_filtered : (G : ℕ) (vs : List ℕ) (v : ℕ) → v < G → has_good (filter (λ x. ltb x G) vs) v ≡ has_good vs v
 has_filtered G [] v l = refl
 has_filtered G (x ∷ xs) v l = grind (arith, common_steps, ltb-false, ne_eqb, (has_filtered G xs v l))
 
@@ -70,14 +70,14 @@ any_values p (g ∷ gs) = ap (λ b. p (number_of g) || b) (any_values p gs)
 
 -- ---- one dummy at most
 
-pub no_dummy_has_not : (G : ℕ) (vs : List ℕ) (v : ℕ) → HasOneDummy G vs → leb G v ≡ true → find (λ x. leb G x) vs ≡ None → has_number vs v ≡ false
+pub no_dummy_has_not : (G : ℕ) (vs : List ℕ) (v : ℕ) → HasOneDummy G vs → leb G v ≡ true → find (λ x. leb G x) vs ≡ None → has_good vs v ≡ false
 no_dummy_has_not G vs v one d none = grind (arith, common_steps, false_from_ne_true)
 
 pub other_dummy_has_not : (G : ℕ) (vs : List ℕ) (v e : ℕ) → HasOneDummy G vs → leb G v ≡ true → find (λ x. leb G x) vs ≡ Some e → e ≢ v
-    → has_number vs v ≡ false
+    → has_good vs v ≡ false
 other_dummy_has_not G vs v e one d found ne = grind (arith, common_steps, false_from_ne_true)
 
-has_push_cases : (vs : List ℕ) (x v : ℕ) → has_number (vs ++ x ∷ []) v ≡ true → (has_number vs v ≡ true) ⊎ (x ≡ v)
+has_push_cases : (vs : List ℕ) (x v : ℕ) → has_good (vs ++ x ∷ []) v ≡ true → (has_good vs v ≡ true) ⊎ (x ≡ v)
 has_push_cases vs x v h = grind (arith, common_steps, both_ways, eqb-true, list_any-append, or_cases)
 
 pub one_more_real : (G : ℕ) (vs : List ℕ) (x : ℕ) → x < G → HasOneDummy G vs → HasOneDummy G (vs ++ x ∷ [])

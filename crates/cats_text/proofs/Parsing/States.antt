@@ -3,7 +3,8 @@ use Rattle.std.proofs.Common.{◌≡◌, ℕ, ◌-◌, ◌≤◌, Bool, true, fa
 use Rattle.std.specs.List.{find}
 use Rattle.cats_text.specs.Lines.{Word}
 use Rattle.cats_text.specs.Numbers.{number_of, price_of}
-use Rattle.cats_text.specs.Grammar.{has_number, line_number}
+use Rattle.goods_set.specs.Bundles.{has_good}
+use Rattle.cats_text.specs.Grammar.{line_number}
 use Rattle.cats_text.specs.Faults.{header_value, has_end, word_fault, end_fault}
 use Rattle.cats_text.specs.FileLines.{before_end, real_goods, dummy_in, bid_of, put_slot}
 use Rattle.bid_file.specs.Files.{PlainBid}
@@ -51,7 +52,7 @@ values_of (g ∷ b ∷ d ∷ _) words = record { goods = header_value g; bids = 
 
 -- no two of the values are dummies, unless they are equal
 abbrev pub HasOneDummy : ℕ → List ℕ → Type 0
-HasOneDummy G vs = (v : ℕ) → leb G v ≡ true → has_number vs v ≡ true → find (λ x. leb G x) vs ≡ Some v
+HasOneDummy G vs = (v : ℕ) → leb G v ≡ true → has_good vs v ≡ true → find (λ x. leb G x) vs ≡ Some v
 
 pub record IsDraft (G : ℕ) (n w : Word) (gs : List Word) (p : Progress) : Type 0 where
   pub number : p.draft.number ≡ number_of n

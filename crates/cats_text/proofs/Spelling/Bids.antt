@@ -9,11 +9,13 @@ use Rattle.std.specs.Prelude.{codes}
 use Rattle.cats_text.specs.Lines.{Word}
 use Rattle.cats_text.specs.Numbers.{is_number, number_of, price_of}
 use Rattle.bid_file.specs.Files.{PlainBid, PlainFile, IsBid, IsPlainFile, goods_of}
-use Rattle.cats_text.specs.Grammar.{SpellsBid, has_number, line_number}
+use Rattle.goods_set.specs.Bundles.{has_good}
+use Rattle.cats_text.specs.Grammar.{SpellsBid, line_number}
 use Rattle.cats_text.specs.Faults.{Bounds, is_end}
 use Rattle.cats_text.specs.FileLines.{before_end, bid_of}
 use Rattle.bid_file.specs.declared.limits.TheConstants.{MAX_PRICE}
-use Rattle.cats_text.proofs.Spelling.Rising.{has_head, has_tail, has_cases, IsRising-of}
+use Rattle.goods_set.specs.Lemmas.Members.{has_head, has_tail, has_cases}
+use Rattle.cats_text.proofs.Spelling.Rising.{IsRising-of}
 use Rattle.cats_text.proofs.Spelling.Members.{bid_on, bid_on_same, bid_on_below, bid_on_real, bid_on_dummy, goods_are, rising_goods, same_dummy, has_real_good}
 use Rattle.cats_text.proofs.Spelling.Members.{real, dummy_of}
 use Rattle.cats_text.proofs.Spelling.Prices.{price_below, price_small}
@@ -32,19 +34,19 @@ bid_of_words : (G : ℕ) (number price : Word) (goods : List Word) → AllByRecu
     → bid_of G (number ∷ price ∷ (goods ++ codes "#" ∷ [])) ≡ bid_on G (price_of price) (map number_of goods)
 bid_of_words G number price goods a = ap (λ ws. bid_on G (price_of price) (map number_of ws)) (before_end_is goods a)
 
-real_any : (G : ℕ) (ws : List Word) → list_any (λ g. ltb (number_of g) G) ws ≡ true → (g : ℕ) × (g < G) × (has_number (map number_of ws) g ≡ true)
+real_any : (G : ℕ) (ws : List Word) → list_any (λ g. ltb (number_of g) G) ws ≡ true → (g : ℕ) × (g < G) × (has_good (map number_of ws) g ≡ true)
 real_any G [] h = absurd (both_ways false refl h)
 real_any G (w ∷ ws) h = ⊎_elim
     (λ (e : ltb (number_of w) G ≡ true). (number_of w, ltb-true (number_of w) G e, has_head (number_of w) (map number_of ws)))
-    (λ (k : list_any (λ g. ltb (number_of g) G) ws ≡ true). let p : (g : ℕ) × (g < G) × (has_number (map number_of ws) g ≡ true) = real_any G ws k in
+    (λ (k : list_any (λ g. ltb (number_of g) G) ws ≡ true). let p : (g : ℕ) × (g < G) × (has_good (map number_of ws) g ≡ true) = real_any G ws k in
     (p.0, p.1, has_tail (number_of w) (map number_of ws) p.0 p.2))
     (or_cases (ltb (number_of w) G) (list_any (λ g. ltb (number_of g) G) ws) h)
 
-any_real_from : (G : ℕ) (ws : List Word) (g : ℕ) → g < G → has_number (map number_of ws) g ≡ true → list_any (λ v. ltb (number_of v) G) ws ≡ true
+any_real_from : (G : ℕ) (ws : List Word) (g : ℕ) → g < G → has_good (map number_of ws) g ≡ true → list_any (λ v. ltb (number_of v) G) ws ≡ true
 any_real_from G [] g l h = absurd (both_ways false refl h)
 any_real_from G (w ∷ ws) g l h = ⊎_elim
     (λ (e : number_of w ≡ g). or_left (ltb (number_of w) G) (list_any (λ v. ltb (number_of v) G) ws) (lt-ltb (number_of w) G (subst (λ n. n < G) (sym e) l)))
-    (λ (k : has_number (map number_of ws) g ≡ true). or_right (ltb (number_of w) G) (list_any (λ v. ltb (number_of v) G) ws) (any_real_from G ws g l k))
+    (λ (k : has_good (map number_of ws) g ≡ true). or_right (ltb (number_of w) G) (list_any (λ v. ltb (number_of v) G) ws) (any_real_from G ws g l k))
     (has_cases (number_of w) (map number_of ws) g h)
 
 -- the bid of a line without a fault
@@ -53,7 +55,7 @@ line_bid h words q = ap (bid_of h.goods) q.words_are ∙ bid_of_words h.goods q.
 
 pub line_is_bid : (h : Bounds) (words : List Word) → IsBidLine h words → IsBid h.goods h.dummy (bid_of h.goods words)
 line_is_bid h words q =
-    let some : (g : ℕ) × (g < h.goods) × (has_number (map number_of q.goods) g ≡ true) = real_any h.goods q.goods q.real in
+    let some : (g : ℕ) × (g < h.goods) × (has_good (map number_of q.goods) g ≡ true) = real_any h.goods q.goods q.real in
     subst (IsBid h.goods h.dummy) (sym (line_bid h words q)) (record {
       price = price_below q.price q.price_spelled q.not_large;
       goods = bid_on_real h.goods (map number_of q.goods) some.0 some.2 some.1;
@@ -75,7 +77,7 @@ line_spells h f words same q stands = record {
   price_spelled = record { price = q.price_spelled; exact = q.exact; value = refl };
   goods_spelled = q.goods_spelled;
   distinct = q.goods_are.distinct;
-  same_goods = λ g. subst (λ G. has_number (map number_of q.goods) g ≡ has_number (goods_of G (bid_on h.goods (price_of q.price) (map number_of q.goods))) g)
+  same_goods = λ g. subst (λ G. has_good (map number_of q.goods) g ≡ has_good (goods_of G (bid_on h.goods (price_of q.price) (map number_of q.goods))) g)
       (sym same)
       (bid_on_same h.goods h.dummy (price_of q.price) (map number_of q.goods) q.goods_are g);
 }
@@ -96,7 +98,7 @@ spelled_is_bid f words p s = all_at (IsBid f.goods f.dummy) f.bids (number_of s.
 pub spelled_line : (f : PlainFile) (words : List Word) → IsPlainFile f → SpellsBid f words → IsBidLine (file_bounds f) words
 spelled_line f words p s =
     let is : IsBid f.goods f.dummy s.bid = spelled_is_bid f words p s in
-    let some : (g : ℕ) × (g < f.goods) × (has_number (map number_of s.goods) g ≡ true) =
+    let some : (g : ℕ) × (g < f.goods) × (has_good (map number_of s.goods) g ≡ true) =
     has_real_good f.goods f.dummy s.bid.goods s.bid.dummy (map number_of s.goods) is.rising is.below is.dummy s.same_goods is.goods in
     record {
       number = s.number;

@@ -6,7 +6,7 @@ use Rattle.std.proofs.lemmas.List.Sorted.{sum_by-IsPermutation}
 use Rattle.std.proofs.lemmas.List.Sums.{sum_by-cons}
 use Rattle.std.specs.List.{sum_by, AllByRecursion}
 use Rattle.std.specs.List.Sorted.{IsPermutation, IsNonDecreasing}
-use Rattle.bid_file.specs.Files.{IsRising, AreAbove}
+use Rattle.goods_set.specs.Bundles.{AreAbove, IsRising}
 use Rattle.cats_text.specs.Grammar.{AreDistinct}
 use Rattle.std.proofs.lemmas.Grind.{common_steps}
 

@@ -8,7 +8,8 @@ use Rattle.std.specs.List.{AllByRecursion, list_any}
 use Rattle.std.specs.Prelude.{codes}
 use Rattle.cats_text.specs.Lines.{Word}
 use Rattle.cats_text.specs.Numbers.{is_number, number_of, is_price, is_too_large, is_too_fine}
-use Rattle.cats_text.specs.Grammar.{has_number, line_number}
+use Rattle.goods_set.specs.Bundles.{has_good}
+use Rattle.cats_text.specs.Grammar.{line_number}
 use Rattle.cats_text.specs.Faults.{when, Bounds, number_word, price_word, is_end, has_end, bid_end, bounds_of, words_fault}
 use Rattle.cats_text.specs.declared.read_fault.Kind.{Kind}
 use Rattle.cats_text.specs.declared.read_fault.Kind.TheVariants.{NotANumber, GoodRange, RepeatedGood}
@@ -81,12 +82,16 @@ pub record IsBidLine (h : Bounds) (words : List Word) : Type 0 where
   pub goods_are : AreGoods h.goods h.dummy (map number_of goods)
   pub real : list_any (λ g. ltb (number_of g) h.goods) goods ≡ true
 
+-- whether one of the lines has this number
+abbrev pub has_line : List (List Word) → ℕ → Bool
+has_line lines n = has_good (map line_number lines) n
+
 -- the line has a number of its own, and is not one too many
 pub record IsNewLine (h : Bounds) (lines : List (List Word)) (words : List Word) : Type 0 where
   pub due : length lines < h.bids
-  pub new : has_number (map line_number lines) (line_number words) ≡ false
+  pub new : has_line lines (line_number words) ≡ false
 
-any_lines : (n : ℕ) (lines : List (List Word)) → has_number (map line_number lines) n ≡ list_any (λ l. eqb (line_number l) n) lines
+any_lines : (n : ℕ) (lines : List (List Word)) → has_line lines n ≡ list_any (λ l. eqb (line_number l) n) lines
 any_lines n [] = refl
 any_lines n (l ∷ ls) = ap (λ b. eqb (line_number l) n || b) (any_lines n ls)
 
@@ -163,10 +168,10 @@ module _ (g b d : List Word) (lines : List (List Word)) where
   number_test w = list_any (λ l. eqb (line_number l) (number_of w)) lines
 
   number_from : (w : Word) → number_word bounds lines w ≡ None → (is_number w ≡ true) × (length lines < bounds.bids) × (number_of w < bounds.bids)
-      × (has_number (map line_number lines) (number_of w) ≡ false)
+      × (has_line lines (number_of w) ≡ false)
   number_from w f = grind (arith, common_steps, any_lines, leb-false, not-false, when_none)
 
-  number_none : (w : Word) → is_number w ≡ true → length lines < bounds.bids → number_of w < bounds.bids → has_number (map line_number lines) (number_of w)
+  number_none : (w : Word) → is_number w ≡ true → length lines < bounds.bids → number_of w < bounds.bids → has_line lines (number_of w)
       ≡ false → number_word bounds lines w ≡ None
   number_none w n l k h = grind (arith, common_steps, any_lines, lt-leb, none_when, not_from_true)
 
@@ -211,7 +216,7 @@ module _ (g b d : List Word) (lines : List (List Word)) where
   bid_line_none words q new =
       let same : line_number words ≡ number_of q.number = ap line_number q.words_are in
       subst (λ ws. (words_fault (g ∷ b ∷ d ∷ lines) [] ws ≡ None) × (bid_end ws ≡ None)) (sym q.words_are) (
-        none_or _ _ (number_none q.number q.number_spelled new.due q.number_below (ap (has_number (map line_number lines)) (sym same) ∙ new.new))
+        none_or _ _ (number_none q.number q.number_spelled new.due q.number_below (ap (has_line lines) (sym same) ∙ new.new))
             (none_or _ _ (price_none q.price q.price_spelled q.not_large q.exact)
             (goods_none q.number q.price [] q.goods q.goods_spelled q.goods_are refl q.real)),
         none_when _ _ _ (not_from_true (has_end (q.goods ++ codes "#" ∷ [])) (has_end_end q.goods)) refl,

@@ -5,8 +5,8 @@ use Rattle.std.proofs.lemmas.Bool.{eqb-true, eq-eqb, eqb-false, both_ways, or_le
 use Rattle.std.proofs.lemmas.List.Sorted.{list_any-IsPermutation}
 use Rattle.std.specs.List.{AllByRecursion}
 use Rattle.std.specs.List.Sorted.{IsPermutation}
-use Rattle.bid_file.specs.Files.{IsRising}
-use Rattle.cats_text.specs.Grammar.{AreDistinct, has_number}
+use Rattle.goods_set.specs.Bundles.{IsRising, has_good}
+use Rattle.cats_text.specs.Grammar.{AreDistinct}
 use Rattle.cats_text.specs.Internal.Marks.{IsMarked, IsListed}
 use Rattle.cats_text.proofs.Spelling.Distinct.{distinct_from_rising}
 use Rattle.cats_text.proofs.Spelling.Rising.{IsRising-push}
@@ -17,23 +17,23 @@ apart_more : (x : ℕ) (xs : List ℕ) (g : ℕ) → AllByRecursion (λ y. x ≢
 apart_more x [] g h ne = (ne, tt)
 apart_more x (y ∷ ys) g h ne = (h.0, apart_more x ys g h.1 ne)
 
-pub AreDistinct-push : (xs : List ℕ) (g : ℕ) → AreDistinct xs → has_number xs g ≡ false → AreDistinct (xs ++ g ∷ [])
+pub AreDistinct-push : (xs : List ℕ) (g : ℕ) → AreDistinct xs → has_good xs g ≡ false → AreDistinct (xs ++ g ∷ [])
 AreDistinct-push [] g d h = (tt, tt)
 AreDistinct-push (x ∷ xs) g d h = grind (arith, common_steps, apart_more, both_ways, eq-eqb, or_left, (AreDistinct-push xs g d.1))
 
-has_number-push : (xs : List ℕ) (g k : ℕ) → has_number (xs ++ g ∷ []) k ≡ (has_number xs k || eqb g k)
-has_number-push [] g k = elim (eqb g k) as (λ b. (b || false) ≡ b) [ true ↦ refl | false ↦ refl ]
-has_number-push (x ∷ xs) g k = grind (arith, common_steps, (has_number-push xs g k))
+has_good-push : (xs : List ℕ) (g k : ℕ) → has_good (xs ++ g ∷ []) k ≡ (has_good xs k || eqb g k)
+has_good-push [] g k = elim (eqb g k) as (λ b. (b || false) ≡ b) [ true ↦ refl | false ↦ refl ]
+has_good-push (x ∷ xs) g k = grind (arith, common_steps, (has_good-push xs g k))
 
 marked_push : (goods marks : List ℕ) (m g k : ℕ) → IsMarked goods marks m → g < length marks
-    → eqb (get_or (set marks g m) k 0) m ≡ has_number (goods ++ g ∷ []) k
-marked_push goods marks m g k old there = grind (arith, common_steps, eq-eqb, eqb-false, eqb-true, get_or-set_other, get_or-set_same, has_number-push, or_right)
+    → eqb (get_or (set marks g m) k 0) m ≡ has_good (goods ++ g ∷ []) k
+marked_push goods marks m g k old there = grind (arith, common_steps, eq-eqb, eqb-false, eqb-true, get_or-set_other, get_or-set_same, has_good-push, or_right)
 
 older_push : (goods marks : List ℕ) (m g k : ℕ) → IsMarked goods marks m → g < length marks → get_or (set marks g m) k 0 ≤ m
 older_push goods marks m g k old there = grind (arith, common_steps, eqb-false, eqb-true, get_or-set_other, get_or-set_same)
 
 -- one more good, marked
-pub IsMarked-push : (goods marks : List ℕ) (m g : ℕ) → IsMarked goods marks m → has_number goods g ≡ false → g < length marks
+pub IsMarked-push : (goods marks : List ℕ) (m g : ℕ) → IsMarked goods marks m → has_good goods g ≡ false → g < length marks
     → IsMarked (goods ++ g ∷ []) (set marks g m) m
 IsMarked-push goods marks m g old new there = grind (arith, common_steps, AreDistinct-push, marked_push, older_push)
 
@@ -47,9 +47,9 @@ pub IsMarked-sorted : (goods sorted marks : List ℕ) (m : ℕ) → IsMarked goo
 IsMarked-sorted goods sorted marks m old moved rises = grind (arith, common_steps, distinct_from_rising, list_any-IsPermutation)
 
 -- one more good from the least on that is above those that rise
-behind_all : (goods : List ℕ) (g k least : ℕ) → ((j : ℕ) → has_number goods j ≡ true → j < least) → least ≤ g → has_number (goods ++ g ∷ []) k ≡ true
+behind_all : (goods : List ℕ) (g k least : ℕ) → ((j : ℕ) → has_good goods j ≡ true → j < least) → least ≤ g → has_good (goods ++ g ∷ []) k ≡ true
     → k < g + 1
-behind_all goods g k least below le h = grind (arith, common_steps, eqb-true, has_number-push)
+behind_all goods g k least below le h = grind (arith, common_steps, eqb-true, has_good-push)
 
 pub IsListed-push : (goods marks : List ℕ) (m : ℕ) (rises : Bool) (least g : ℕ) → IsListed goods marks m rises least → least ≤ g → g < 65536
     → IsListed (goods ++ g ∷ []) marks m rises (g + 1)

@@ -1,16 +1,18 @@
 -- The numbers of a bid's goods: its real goods are those below G, and of those from G on it has one at most. Lists of numbers
 -- that are in the same lists of goods are the same, however they are ordered.
-use Rattle.std.proofs.Common.{◌≡◌, ◌≢◌, ℕ, ◌+◌, ◌-◌, ◌<◌, ◌≤◌, Bool, true, false, cond, eqb, ltb, leb, ◌||◌, ◌&&◌, ◌⊎◌, inl, ⊎_elim, List, [], ◌∷◌, ◌++◌}
+use Rattle.std.proofs.Common.{◌≡◌, ◌≢◌, ℕ, ◌+◌, ◌-◌, ◌<◌, ◌≤◌, Bool, true, false, eqb, ltb, leb, ◌||◌, ◌&&◌, ◌⊎◌, inl, ⊎_elim, List, [], ◌∷◌, ◌++◌}
 use Rattle.std.proofs.Common.{length, Option, Some, None, refl, sym, ap, ◌∙◌, subst, arith}
 use Rattle.std.proofs.lemmas.Bool.{both_ways, eqb-true, ltb-true, ltb-false, leb-true, leb-false, or_cases, or_left, or_right, and_parts, false_from_ne_true}
 use Rattle.std.proofs.lemmas.Bool.{cases_lt}
 use Rattle.std.proofs.lemmas.List.Folds.{list_any-append}
 use Rattle.std.specs.List.{AllByRecursion, list_any, filter, find}
 use Rattle.std.specs.Option.{option_map}
-use Rattle.bid_file.specs.Files.{PlainBid, IsRising, IsDummyBelow, dummy_good, goods_of}
-use Rattle.cats_text.specs.Grammar.{AreDistinct, has_number}
+use Rattle.goods_set.specs.Bundles.{AreBelow, IsRising, has_good}
+use Rattle.bid_file.specs.Files.{PlainBid, IsDummyBelow, dummy_good, goods_of}
+use Rattle.cats_text.specs.Grammar.{AreDistinct}
 use Rattle.cats_text.specs.FileLines.{rising_of}
-use Rattle.cats_text.proofs.Spelling.Rising.{has_head, has_tail, has_cases, has_rising_of, rising_of_is}
+use Rattle.goods_set.specs.Lemmas.Members.{has_head, has_tail, has_cases}
+use Rattle.cats_text.proofs.Spelling.Rising.{has_rising_of, rising_of_is}
 use Rattle.cats_text.proofs.Spelling.Marks.{AreDistinct-push}
 use Rattle.std.proofs.lemmas.Grind.{common_steps}
 
@@ -21,19 +23,19 @@ same_test true b f g = sym (f refl)
 same_test false b f g = sym (false_from_ne_true b (λ e. both_ways false refl (g e)))
 
 abbrev Has : List ℕ → ℕ → Type 0
-Has xs g = has_number xs g ≡ true
+Has xs g = has_good xs g ≡ true
 
 has_nothing : (g : ℕ) → Has [] g → ⊥
 has_nothing g h = both_ways false refl h
 
 pub has_append : (xs ys : List ℕ) (g : ℕ) → Has (xs ++ ys) g → Has xs g ⊎ Has ys g
-has_append xs ys g h = or_cases (has_number xs g) (has_number ys g) (sym (list_any-append (λ x. eqb x g) xs ys) ∙ h)
+has_append xs ys g h = or_cases (has_good xs g) (has_good ys g) (sym (list_any-append (λ x. eqb x g) xs ys) ∙ h)
 
 pub has_before : (xs ys : List ℕ) (g : ℕ) → Has xs g → Has (xs ++ ys) g
-has_before xs ys g h = list_any-append (λ x. eqb x g) xs ys ∙ or_left (has_number xs g) (has_number ys g) h
+has_before xs ys g h = list_any-append (λ x. eqb x g) xs ys ∙ or_left (has_good xs g) (has_good ys g) h
 
 pub has_behind : (xs ys : List ℕ) (g : ℕ) → Has ys g → Has (xs ++ ys) g
-has_behind xs ys g h = list_any-append (λ x. eqb x g) xs ys ∙ or_right (has_number xs g) (has_number ys g) h
+has_behind xs ys g h = list_any-append (λ x. eqb x g) xs ys ∙ or_right (has_good xs g) (has_good ys g) h
 
 pub has_one : (x g : ℕ) → Has (x ∷ []) g → x ≡ g
 has_one x g h = ⊎_elim (λ (e : x ≡ g). e) (λ (k : Has [] g). absurd (has_nothing g k)) (has_cases x [] g h)
@@ -70,12 +72,12 @@ first_high G ns = find (λ v. leb G v) ns
 
 record IsHigh (G : ℕ) (ns : List ℕ) (v : ℕ) : Type 0 where
   first : first_high G ns ≡ Some v
-  has : has_number ns v ≡ true
+  has : has_good ns v ≡ true
   high : G ≤ v
 
 record NoneHigh (G : ℕ) (ns : List ℕ) : Type 0 where
   first : first_high G ns ≡ None
-  low : (g : ℕ) → has_number ns g ≡ true → g < G
+  low : (g : ℕ) → has_good ns g ≡ true → g < G
 
 high_cases : (G : ℕ) (ns : List ℕ) → NoneHigh G ns ⊎ ((v : ℕ) × IsHigh G ns v)
 high_cases G [] = inl (record { first = refl; low = λ g h. absurd (has_nothing g h) })
@@ -86,8 +88,8 @@ high_cases G (v ∷ vs) = grind (arith, common_steps, has_cases, has_head, has_t
 -- none twice, each of a file of G goods and D dummies, and of those from G on one at most
 pub record AreGoods (G D : ℕ) (ns : List ℕ) : Type 0 where
   pub distinct : AreDistinct ns
-  pub below : (g : ℕ) → has_number ns g ≡ true → g < G + D
-  pub one_dummy : (x y : ℕ) → has_number ns x ≡ true → has_number ns y ≡ true → G ≤ x → G ≤ y → x ≡ y
+  pub below : (g : ℕ) → has_good ns g ≡ true → g < G + D
+  pub one_dummy : (x y : ℕ) → has_good ns x ≡ true → has_good ns y ≡ true → G ≤ x → G ≤ y → x ≡ y
 
 abbrev pub dummy_of : ℕ → List ℕ → Option ℕ
 dummy_of G ns = option_map (λ v. v - G) (first_high G ns)
@@ -108,14 +110,14 @@ rising_has G ns g h = real_has G ns g (sym (has_rising_of (real G ns) g) ∙ h)
 has_rising : (G : ℕ) (ns : List ℕ) (g : ℕ) → Has ns g → g < G → Has (rising_of (real G ns)) g
 has_rising G ns g h l = has_rising_of (real G ns) g ∙ has_real G ns g h l
 
-pub bid_on_same : (G D price : ℕ) (ns : List ℕ) → AreGoods G D ns → (g : ℕ) → has_number ns g ≡ has_number (goods_of G (bid_on G price ns)) g
-bid_on_same G D price ns p g = same_test (has_number ns g) (has_number (goods_of G (bid_on G price ns)) g)
+pub bid_on_same : (G D price : ℕ) (ns : List ℕ) → AreGoods G D ns → (g : ℕ) → has_good ns g ≡ has_good (goods_of G (bid_on G price ns)) g
+bid_on_same G D price ns p g = same_test (has_good ns g) (has_good (goods_of G (bid_on G price ns)) g)
     (λ h. ⊎_elim (λ (l : g < G). has_before (rising_of (real G ns)) (dummy_good G (dummy_of G ns)) g (has_rising G ns g h l))
     (λ (l : G ≤ g). has_behind (rising_of (real G ns)) (dummy_good G (dummy_of G ns)) g (has_dummy G D ns p g h l)) (cases_lt g G))
     (λ h. ⊎_elim (λ (k : Has (rising_of (real G ns)) g). (rising_has G ns g k).1) (λ (k : Has (dummy_good G (dummy_of G ns)) g). (dummy_has G ns g k).1)
     (has_append (rising_of (real G ns)) (dummy_good G (dummy_of G ns)) g h))
 
-pub bid_on_below : (G : ℕ) (ns : List ℕ) → AllByRecursion (λ g. g < G) (rising_of (real G ns))
+pub bid_on_below : (G : ℕ) (ns : List ℕ) → AreBelow G (rising_of (real G ns))
 bid_on_below G ns = all_from_has (λ g. g < G) (rising_of (real G ns)) (λ g h. (rising_has G ns g h).0)
 
 pub bid_on_real : (G : ℕ) (ns : List ℕ) (g : ℕ) → Has ns g → g < G → 0 < length (rising_of (real G ns))
@@ -139,8 +141,8 @@ dummy_low G D None l g h = absurd (has_nothing g h)
 dummy_low G D (Some d) l g h = let e : G + d ≡ g = has_one (G + d) g h in let lt : d < D = l in omega arith
 
 module _ (G D : ℕ) (goods : List ℕ) (dummy : Option ℕ) (ns : List ℕ)
-    (rising : IsRising goods) (below : AllByRecursion (λ g. g < G) goods) (low : IsDummyBelow D dummy)
-    (same : (g : ℕ) → has_number ns g ≡ has_number (goods ++ dummy_good G dummy) g) where
+    (rising : IsRising goods) (below : AreBelow G goods) (low : IsDummyBelow D dummy)
+    (same : (g : ℕ) → has_good ns g ≡ has_good (goods ++ dummy_good G dummy) g) where
   good_low : (g : ℕ) → Has goods g → g < G
   good_low g h = has_from_all (λ n. n < G) goods below g h
 
@@ -174,10 +176,10 @@ module _ (G D : ℕ) (goods : List ℕ) (dummy : Option ℕ) (ns : List ℕ)
   pub same_dummy : dummy ≡ dummy_of G ns
   same_dummy = dummy_from dummy refl
 
-  pub has_real_good : 0 < length goods → (g : ℕ) × (g < G) × (has_number ns g ≡ true)
+  pub has_real_good : 0 < length goods → (g : ℕ) × (g < G) × (has_good ns g ≡ true)
   has_real_good l = first goods below (λ g h. same g ∙ has_before goods (dummy_good G dummy) g h) l
     where
-      first : (xs : List ℕ) → AllByRecursion (λ g. g < G) xs → ((g : ℕ) → Has xs g → Has ns g) → 0 < length xs → (g : ℕ) × (g < G) × (has_number ns g ≡ true)
+      first : (xs : List ℕ) → AreBelow G xs → ((g : ℕ) → Has xs g → Has ns g) → 0 < length xs → (g : ℕ) × (g < G) × (has_good ns g ≡ true)
       first [] a h l = absurd (omega arith)
       first (x ∷ xs) a h l = (x, a.0, h x (has_head x xs))
 
@@ -200,7 +202,7 @@ high_any G (v ∷ vs) h = ⊎_elim
 -- the tests of one more number
 pub record MayFollow (G D : ℕ) (ns : List ℕ) (v : ℕ) : Type 0 where
   pub range : leb (G + D) v ≡ false
-  pub new : has_number ns v ≡ false
+  pub new : has_good ns v ≡ false
   pub one : (leb G v && list_any (λ w. leb G w) ns) ≡ false
 
 no_second : (G D : ℕ) (ns : List ℕ) (v : ℕ) → MayFollow G D ns v → G ≤ v → (g : ℕ) → Has ns g → G ≤ g → ⊥
@@ -210,9 +212,9 @@ pub push_goods : (G D : ℕ) (ns : List ℕ) (v : ℕ) → AreGoods G D ns → M
 push_goods G D ns v p m = grind (arith, common_steps, AreDistinct-push, has_append, has_one, leb-false, no_second)
 
 -- a number of a list without repeats is not before its place
-pub new_at : (before : List ℕ) (v : ℕ) (rest : List ℕ) → AreDistinct (before ++ v ∷ rest) → has_number before v ≡ false
+pub new_at : (before : List ℕ) (v : ℕ) (rest : List ℕ) → AreDistinct (before ++ v ∷ rest) → has_good before v ≡ false
 new_at [] v rest d = refl
-new_at (x ∷ xs) v rest d = or_false (eqb x v) (has_number xs v)
+new_at (x ∷ xs) v rest d = or_false (eqb x v) (has_good xs v)
     (false_from_ne_true (eqb x v) (λ e. has_from_all (λ y. x ≢ y) (xs ++ v ∷ rest) d.0 v (has_behind xs (v ∷ rest) v (has_head v rest)) (eqb-true x v e)))
     (new_at xs v rest d.1)
   where
@@ -231,5 +233,5 @@ may_follow G D before v rest p =
           let both : (leb G v ≡ true) × (list_any (λ w. leb G w) before ≡ true) = and_parts (leb G v) (list_any (λ w. leb G w) before) e in
           let other : (g : ℕ) × (G ≤ g) × Has before g = high_any G before both.1 in
           let same : v ≡ other.0 = p.one_dummy v other.0 there (has_before before (v ∷ rest) other.0 other.2) (leb-true G v both.0) other.1 in
-          both_ways (has_number before v) (new_at before v rest p.distinct) (subst (λ n. Has before n) (sym same) other.2));
+          both_ways (has_good before v) (new_at before v rest p.distinct) (subst (λ n. Has before n) (sym same) other.2));
     }

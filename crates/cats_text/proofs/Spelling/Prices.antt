@@ -1,5 +1,5 @@
 -- Prices: a price that is neither too large nor too fine is at most the greatest one in millionths, and the other way round.
-use Rattle.std.proofs.Common.{◌≡◌, ℕ, zero, suc, ◌+◌, ◌-◌, ◌*◌, ◌^◌, ◌<◌, ◌≤◌, Bool, true, false, not, eqb, ltb, leb, ◌&&◌, List, [], ◌∷◌, ◌++◌}
+use Rattle.std.proofs.Common.{◌≡◌, ℕ, suc, ◌+◌, ◌-◌, ◌*◌, ◌^◌, ◌<◌, ◌≤◌, Bool, true, false, not, eqb, ltb, leb, ◌&&◌, List, [], ◌∷◌, ◌++◌}
 use Rattle.std.proofs.Common.{length, take, refl, sym, ◌∙◌, subst, arith, length-append, length-take}
 use Rattle.std.proofs.lemmas.Bool.{both_ways, eqb-true, eq-eqb, ltb-false, le-ltb, leb-true, or_cases, or_parts, or_from, and_parts, and_from}
 use Rattle.std.proofs.lemmas.Bool.{false_from_ne_true, not-true, not-false, cases_Bool}

@@ -7,6 +7,7 @@ use Rattle.std.proofs.lemmas.List.{append-nil}
 use Rattle.cats_text.specs.Lines.{Word, line_words, is_significant}
 use Rattle.cats_text.specs.Numbers.{is_number}
 use Rattle.cats_text.specs.Grammar.{significant_words}
+use Rattle.goods_set.specs.Bundles.{AreBelow}
 use Rattle.bid_file.specs.Files.{PlainBid, PlainFile, IsBid, IsDummyBelow, dummy_good, goods_of}
 use Rattle.cats_text.specs.Layout.{price_text, header_text, tabbed, bid_text, bids_text, layout}
 use Rattle.cats_text.proofs.Words.Places.{digit_bounds}
@@ -38,7 +39,7 @@ number_is_significant (b ∷ bs) ws number = grind (arith, common_steps, and_par
 abbrev pub AreShort : List ℕ → Type 0
 AreShort ns = AllByRecursion (λ n. n < 2 ^ 64) ns
 
-goods_short : (goods dummy : ℕ) (gs : List ℕ) (d : Option ℕ) → goods + dummy < 2 ^ 64 → AllByRecursion (λ g. g < goods) gs → IsDummyBelow dummy d
+goods_short : (goods dummy : ℕ) (gs : List ℕ) (d : Option ℕ) → goods + dummy < 2 ^ 64 → AreBelow goods gs → IsDummyBelow dummy d
     → AreShort (gs ++ dummy_good goods d)
 goods_short goods dummy [] None fits below within = tt
 goods_short goods dummy [] (Some d) fits below within = (omega arith, tt)

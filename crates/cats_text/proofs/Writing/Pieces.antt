@@ -8,8 +8,9 @@ use Rattle.std.proofs.lemmas.Fmt.{length-decimal-le}
 use Rattle.std.proofs.lemmas.List.{drop-drop, take-append-le, drop-append-le, length-drop, length-append}
 use Rattle.std.proofs.lemmas.Result.{err_from_is_err_and}
 use Rattle.std.specs.Io.KnownBytes.{Appends}
-use Rattle.std.specs.List.{AllByRecursion, slice_get}
-use Rattle.bid_file.specs.Files.{PlainBid, PlainFile, IsRising, AreAbove, IsPlainFile}
+use Rattle.std.specs.List.{slice_get}
+use Rattle.goods_set.specs.Bundles.{AreAbove, AreBelow, IsRising}
+use Rattle.bid_file.specs.Files.{PlainBid, PlainFile, IsPlainFile}
 use Rattle.cats_text.specs.Layout.{bid_text, bids_text, header_text, headers_text}
 use Rattle.cats_text.specs.Streams.{inner_of, Sends, SendsPart}
 use Rattle.cats_text.specs.declared.read_fault.SendFault.{SendFault}
@@ -70,12 +71,12 @@ failed_in_piece contents a b c before page piece rest whole fault same next insi
 -- ---- how long lines are
 
 -- numbers that rise above k and stay below G
-rising_within : (G k : ℕ) (xs : List ℕ) → AreAbove k xs → IsRising xs → AllByRecursion (λ x. x < G) xs → k < G → length xs + k < G
+rising_within : (G k : ℕ) (xs : List ℕ) → AreAbove k xs → IsRising xs → AreBelow G xs → k < G → length xs + k < G
 rising_within G k [] above rising below start = omega arith
 rising_within G k (x ∷ xs) above rising below start = grind (arith, common_steps, (rising_within G x xs rising.0 rising.1 below.1 below.0))
 
 -- a bundle has at most as many goods as the file
-pub goods_within : (G : ℕ) (xs : List ℕ) → IsRising xs → AllByRecursion (λ x. x < G) xs → length xs ≤ G
+pub goods_within : (G : ℕ) (xs : List ℕ) → IsRising xs → AreBelow G xs → length xs ≤ G
 goods_within G [] rising below = omega arith
 goods_within G (x ∷ xs) rising below = grind (arith, common_steps, rising_within)
 

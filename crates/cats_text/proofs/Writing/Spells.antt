@@ -1,43 +1,27 @@
 -- The layout of a file spells it: its lines are the bids by number, so each number comes once, and the goods of a bid rise.
-use Rattle.std.proofs.Common.{◌≡◌, ◌≢◌, ℕ, suc, ◌+◌, ◌^◌, ◌<◌, ◌≤◌, true, List, [], ◌∷◌, ◌++◌, length, map, decimal, Option, Some, None, refl, sym, ap, subst}
+use Rattle.std.proofs.Common.{◌≡◌, ℕ, suc, ◌+◌, ◌^◌, ◌<◌, true, List, [], ◌∷◌, ◌++◌, length, map, decimal, Option, Some, None, refl, sym, ap, subst}
 use Rattle.std.proofs.Common.{◌∙◌, arith, append_assoc, length-append}
 use Rattle.std.specs.List.{AllByRecursion, slice_get}
 use Rattle.std.proofs.lemmas.List.{append-nil}
 use Rattle.cats_text.specs.Numbers.{is_number, number_of}
-use Rattle.cats_text.specs.Grammar.{SpellsBid, Spells, AreDistinct, has_number, line_number}
-use Rattle.bid_file.specs.Files.{PlainBid, PlainFile, IsPlainFile, AreAbove, IsRising, dummy_good, goods_of}
+use Rattle.goods_set.specs.Bundles.{AreAbove, AreBelow, IsRising, has_good}
+use Rattle.goods_set.specs.Lemmas.Members.{has_below}
+use Rattle.cats_text.specs.Grammar.{SpellsBid, Spells, AreDistinct, line_number}
+use Rattle.bid_file.specs.Files.{PlainBid, PlainFile, IsPlainFile, dummy_good, goods_of}
 use Rattle.cats_text.specs.Layout.{price_text, layout}
+use Rattle.cats_text.proofs.Spelling.Distinct.{distinct_from_rising}
+use Rattle.cats_text.proofs.Spelling.Rising.{IsRising-push}
 use Rattle.cats_text.proofs.Writing.Numerals.{decimal_spells}
 use Rattle.cats_text.proofs.Writing.Prices.{price_text_spells}
 use Rattle.cats_text.proofs.Writing.Lines.{AreShort, AreBids, bid_words, bids_words, bid_goods_short, behind_first, layout_words}
 use Rattle.std.proofs.lemmas.Grind.{common_steps}
 
--- ---- numbers that rise are distinct
-
-apart_from_above : (x : ℕ) (ys : List ℕ) → AreAbove x ys → AllByRecursion (λ y. x ≢ y) ys
-apart_from_above x [] above = tt
-apart_from_above x (y ∷ ys) above = ((λ e. omega (arith, above.0)), apart_from_above x ys above.1)
-
-rising_distinct : (xs : List ℕ) → IsRising xs → AreDistinct xs
-rising_distinct [] rising = tt
-rising_distinct (x ∷ xs) rising = (apart_from_above x xs rising.0, rising_distinct xs rising.1)
-
-above_push : (x y : ℕ) (ys : List ℕ) → AreAbove x ys → x < y → AreAbove x (ys ++ y ∷ [])
-above_push x y [] above here = (here, tt)
-above_push x y (z ∷ zs) above here = (above.0, above_push x y zs above.1 here)
-
-rising_push : (y : ℕ) (xs : List ℕ) → IsRising xs → AllByRecursion (λ x. x < y) xs → IsRising (xs ++ y ∷ [])
-rising_push y [] rising below = (tt, tt)
-rising_push y (x ∷ xs) rising below = (above_push x y xs rising.0 below.0, rising_push y xs rising.1 below.1)
-
-all_below : (m n : ℕ) (xs : List ℕ) → m ≤ n → AllByRecursion (λ x. x < m) xs → AllByRecursion (λ x. x < n) xs
-all_below m n [] more below = tt
-all_below m n (x ∷ xs) more below = (omega (arith, below.0), all_below m n xs more below.1)
+-- ---- the goods of a bid rise
 
 -- the dummy good is behind the real goods
-goods_rising : (goods : ℕ) (gs : List ℕ) (d : Option ℕ) → IsRising gs → AllByRecursion (λ g. g < goods) gs → IsRising (gs ++ dummy_good goods d)
+goods_rising : (goods : ℕ) (gs : List ℕ) (d : Option ℕ) → IsRising gs → AreBelow goods gs → IsRising (gs ++ dummy_good goods d)
 goods_rising goods gs None rising below = subst IsRising (sym (append-nil gs)) rising
-goods_rising goods gs (Some d) rising below = rising_push (goods + d) gs rising (all_below goods (goods + d) gs (omega arith) below)
+goods_rising goods gs (Some d) rising below = IsRising-push gs (goods + d) rising (λ k there. let low : k < goods = has_below goods gs k below there in omega arith)
 
 -- ---- the goods of a line
 
@@ -73,8 +57,8 @@ spells_bid f prefix b bs split bids =
       stands = ap (λ k. slice_get f.bids k) number.value ∙ ap (λ cs. slice_get cs n) split ∙ standing prefix b bs;
       price_spelled = price_text_spells b.price (let greatest = bid.price in omega arith);
       goods_spelled = numbers (goods_of f.goods b) short;
-      distinct = subst AreDistinct (sym same) (rising_distinct (goods_of f.goods b) (goods_rising f.goods b.goods b.dummy bid.rising bid.below));
-      same_goods = λ g. ap (λ gs. has_number gs g) same;
+      distinct = subst AreDistinct (sym same) (distinct_from_rising (goods_of f.goods b) (goods_rising f.goods b.goods b.dummy bid.rising bid.below));
+      same_goods = λ g. ap (λ gs. has_good gs g) same;
     }
 
 spells_bids : (f : PlainFile) (prefix bs : List PlainBid) → f.bids ≡ prefix ++ bs → AreBids f.goods f.dummy (length prefix) bs
@@ -118,7 +102,7 @@ layout_spells f facts =
       bids_spelled = decimal_spells (length f.bids) (omega arith);
       dummy_spelled = decimal_spells f.dummy (omega arith);
       count = lines_count f.goods 0 f.bids;
-      distinct = rising_distinct (map line_number (bids_words f.goods 0 f.bids)) (lines_rising f.goods 0 f.bids (omega arith));
+      distinct = distinct_from_rising (map line_number (bids_words f.goods 0 f.bids)) (lines_rising f.goods 0 f.bids (omega arith));
       each = spells_bids f [] f.bids refl bids;
       facts = facts;
     }

@@ -1,12 +1,12 @@
 -- The marks of a bid's goods so far.
 use Rattle.std.specs.Prelude.{◌≡◌, ℕ, ◌<◌, ◌≤◌, ◌==◌, Bool, true, false, if◌then◌else◌, List, [], slice_index}
-use Rattle.bid_file.specs.Files.{IsRising}
-use Rattle.cats_text.specs.Grammar.{has_number, AreDistinct}
+use Rattle.goods_set.specs.Bundles.{IsRising, has_good}
+use Rattle.cats_text.specs.Grammar.{AreDistinct}
 
 -- those marked as this bid's are the goods, none of which is twice, and no mark is of a later bid
 pub record IsMarked (goods marks : List ℕ) (bid_mark : ℕ) : Type 0 where
   pub begun : 0 < bid_mark
-  pub marked : (g : ℕ) → (slice_index marks g == bid_mark) ≡ has_number goods g
+  pub marked : (g : ℕ) → (slice_index marks g == bid_mark) ≡ has_good goods g
   pub older : (g : ℕ) → slice_index marks g ≤ bid_mark
   pub distinct : AreDistinct goods
 
@@ -14,5 +14,5 @@ pub record IsMarked (goods marks : List ℕ) (bid_mark : ℕ) : Type 0 where
 pub record IsListed (goods marks : List ℕ) (bid_mark : ℕ) (rises : Bool) (least : ℕ) : Type 0 where
   pub marked : IsMarked (if rises then [] else goods) marks bid_mark
   pub rising : rises ≡ true → IsRising goods
-  pub above : rises ≡ true → (g : ℕ) → has_number goods g ≡ true → g < least
+  pub above : rises ≡ true → (g : ℕ) → has_good goods g ≡ true → g < least
   pub none : rises ≡ false → 65536 ≤ least

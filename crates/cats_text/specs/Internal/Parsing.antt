@@ -2,7 +2,7 @@
 use Rattle.std.specs.Prelude.{ℕ, ◌+◌, ◌-◌, ◌*◌, ◌^◌, ◌==◌, nat_lt, nat_le, min, Bool, true, false, ◌&&◌, ◌||◌}
 use Rattle.std.specs.Prelude.{if◌then◌else◌, [], ◌∷◌, ◌++◌, length, slice_get, Option, Some, None, Result, Ok, Err}
 use Rattle.cats_text.specs.Numbers.{GREATEST_PRICE}
-use Rattle.cats_text.specs.Grammar.{has_number}
+use Rattle.goods_set.specs.Bundles.{has_good}
 use Rattle.bid_file.specs.Files.{PlainBid}
 use Rattle.cats_text.specs.FileLines.{rising_of, put_slot}
 use Rattle.cats_text.specs.Internal.Keywords.{keyword_text}
@@ -95,7 +95,7 @@ dummy_read p (Some e) d = if e == d then Err kinds.RepeatedGood else Err kinds.T
 abbrev pub good_read : Progress → ℕ → Reading
 good_read p n =
     if nat_le (p.header.goods + p.header.dummy) n then Err kinds.GoodRange
-    else if nat_lt n p.header.goods then (if has_number p.goods n then Err kinds.RepeatedGood
+    else if nat_lt n p.header.goods then (if has_good p.goods n then Err kinds.RepeatedGood
     else Ok (record p { goods = p.goods ++ n ∷ [] }))
     else dummy_read p p.draft.dummy (n - p.header.goods)
 

@@ -21,7 +21,8 @@ use Rattle.prune.specs.Fates.{indices_below, found_points, or_fate, xor_fate}
 use Rattle.prune.specs.Reached.{IsPointFor}
 use Rattle.prune.specs.SearchSteps.{is_below, atoms_below, in_search_order}
 use Rattle.prune.specs.Lemmas.Lists.{All-from_Contains, Contains-filter_parts, filter-lost, filter_same_on, find_same_on, found_some, map-filter}
-use Rattle.prune.specs.Lemmas.PackingIndices.{map-reverse, packing_falling, packing_rising, reversed_falling, reversed_within}
+use Rattle.valuation.specs.Lemmas.PackingIndices.{packing_rising}
+use Rattle.prune.specs.Lemmas.PackingIndices.{map-reverse, packing_falling, reversed_falling, reversed_within}
 use Rattle.prune.specs.Lemmas.Ranges.{in_range, range_more, range_rising}
 use Rattle.prune.specs.Lemmas.SearchSteps.{ordered_value}
 

@@ -10,25 +10,9 @@ use Rattle.std.proofs.lemmas.List.Elements.{All-map, All-filter, All-from_recurs
 use Rattle.std.proofs.lemmas.List.Sums.{sum_by-cons}
 use Rattle.std.proofs.lemmas.Option.{get_or_from_slice_get, slice_get_within}
 use Rattle.std.proofs.lemmas.List.FromFn.{fill_by_all, length-map-range_with_len, get_or-map-range_with_len}
-use Rattle.goods_set.specs.Bundles.{IsRising, AreAbove, AreBelow}
-use Rattle.bid_file.specs.Files as files
-use Rattle.bid_file.specs.Files.{plain_bid, plain_bids, PlainBid, PlainFile, IsBid, IsBidFile, IsPlainFile}
+use Rattle.bid_file.specs.Files.{PlainBid, PlainFile, IsBid, IsPlainFile}
 use Rattle.valuation.specs.declared.atom.Atom.{Atom}
 use Rattle.valuation.specs.Auctions.{IsAtom, IsAuction, atom_of, is_dummy, or_atoms_of, xor_atoms_of, auction_from}
-
--- ---- the goods of a bid are a bundle
-
-above-from : (g : ℕ) (xs : List ℕ) → files.AreAbove g xs → AreAbove g xs
-above-from g [] h = tt
-above-from g (x ∷ xs) h = (h.0, above-from g xs h.1)
-
-pub rising-from : (xs : List ℕ) → files.IsRising xs → IsRising xs
-rising-from [] h = tt
-rising-from (x ∷ xs) h = (above-from x xs h.0, rising-from xs h.1)
-
-pub below-from : (G : ℕ) (xs : List ℕ) → AllByRecursion (λ g. g < G) xs → AreBelow G xs
-below-from G [] h = tt
-below-from G (x ∷ xs) h = (h.0, below-from G xs h.1)
 
 -- ---- one more bid
 
@@ -86,7 +70,7 @@ module _ (bids : List PlainBid) (i : ℕ) (b : PlainBid) (l : i < length bids) (
 -- ---- the auction of a file keeps the limits
 
 IsAtom-bid : (G D : ℕ) (b : PlainBid) → IsBid G D b → IsAtom G (atom_of b)
-IsAtom-bid G D b h = record { nonempty = h.goods; bundle = (rising-from b.goods h.rising, below-from G b.goods h.below); price = h.price }
+IsAtom-bid G D b h = record { nonempty = h.goods; bundle = (h.rising, h.below); price = h.price }
 
 IsAtom-bids : (G D : ℕ) (bids : List PlainBid) (p : PlainBid → Bool) → AllByRecursion (IsBid G D) bids → All (IsAtom G) (map atom_of (filter p bids))
 IsAtom-bids G D bids p h =

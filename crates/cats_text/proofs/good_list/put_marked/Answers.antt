@@ -2,7 +2,7 @@
 use Rattle.std.proofs.Common.{◌≡◌, ◌≢◌, ◌<◌, false, eqb, get_or, length, rules, sym, ap, ◌∙◌, arith}
 use Rattle.std.proofs.lemmas.Bool.{ne_eqb}
 use Rattle.std.proofs.lemmas.Grind.{common_steps}
-use Rattle.cats_text.specs.Grammar.{has_number}
+use Rattle.goods_set.specs.Bundles.{has_good}
 use Rattle.cats_text.proofs.Spelling.Marks.{IsMarked-push, IsMarked-covered}
 use Rattle.cats_text.proofs.good_list.put_marked.Goals as goal
 
@@ -12,7 +12,7 @@ returns-clause-marked c =
     let mark = c.args.bid_mark in
     let index : c.from-index.result ≡ c.args.good = search rules in
     let other : get_or c.cover.new.marks.items c.args.good 0 ≢ mark = first_of (search rules, grind (arith, common_steps)) in
-    let new : has_number goods c.args.good ≡ false = sym (c.requires.marked c.args.good)
+    let new : has_good goods c.args.good ≡ false = sym (c.requires.marked c.args.good)
     ∙ ap (λ n. eqb n mark) (sym (c.cover.ensures.same c.args.good)) ∙ ne_eqb _ _ other in
     let there : c.args.good < length c.cover.new.marks.items = search rules in
     rw (c.in_ok-push.ensures.items, index)

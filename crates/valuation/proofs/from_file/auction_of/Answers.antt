@@ -7,7 +7,7 @@ use Rattle.bid_file.specs.Files.{PlainBid, PlainFile}
 use Rattle.bid_file.specs.Views.{seen_bid}
 use Rattle.valuation.specs.declared.atom.Atom.{Atom}
 use Rattle.valuation.specs.Values.{atoms_of}
-use Rattle.valuation.specs.Lemmas.AuctionsOfFiles.{rising-from, below-from, IsBid-there, or_atoms_of-same, xor_bidders-same, IsAuction-auction_from}
+use Rattle.valuation.specs.Lemmas.AuctionsOfFiles.{IsBid-there, or_atoms_of-same, xor_bidders-same, IsAuction-auction_from}
 use Rattle.valuation.proofs.Placing.{place-or, place-xor, placed, no_bids, length-bidders_of}
 use Rattle.valuation.proofs.from_file.auction_of.Goals as goal
 use Rattle.valuation.proofs.from_file.auction_of.Goals.{in-None+in_ok-push-in-None, in-Some+in_ok-push-in-Some}
@@ -31,14 +31,14 @@ from_slice-requires-clause-rising g c =
     let file : PlainFile = g.B.Bids.file c.args.file.now in
     let bid : PlainBid = seen_bid c.at-bid.result in
     let facts = IsBid-there file.goods file.dummy file.bids c.loop-number.number bid c.goods-goods.ensures.file.each c.at-bid.ensures in
-    rising-from bid.goods facts.rising
+    facts.rising
 
 pub from_slice-requires-clause-below : goal.from_slice-requires-clause-below
 from_slice-requires-clause-below g c =
     let file : PlainFile = g.B.Bids.file c.args.file.now in
     let bid : PlainBid = seen_bid c.at-bid.result in
     let facts = IsBid-there file.goods file.dummy file.bids c.loop-number.number bid c.goods-goods.ensures.file.each c.at-bid.ensures in
-    AreBelow-higher _ _ bid.goods c.requires (below-from _ bid.goods facts.below)
+    AreBelow-higher _ _ bid.goods c.requires facts.below
 
 pub index_mut-bidder-requires : goal.index_mut-bidder-requires
 index_mut-bidder-requires g c =

@@ -2,8 +2,7 @@
 use Rattle.std.proofs.Common.{◌≡◌, true, sym, ap, ◌∙◌, List, ℕ}
 use Rattle.std.proofs.lemmas.Bool.{both_ways}
 use Rattle.std.proofs.lemmas.List.Sorted.{list_any-IsPermutation, IsNonDecreasingBy-from_sort}
-use Rattle.bid_file.specs.Files.{IsRising}
-use Rattle.cats_text.specs.Grammar.{has_number}
+use Rattle.goods_set.specs.Bundles.{IsRising, has_good}
 use Rattle.cats_text.specs.Internal.Marks.{IsMarked}
 use Rattle.cats_text.proofs.Spelling.Distinct.{rising_from_sort}
 use Rattle.cats_text.proofs.Spelling.Marks.{IsMarked-sorted}
@@ -30,4 +29,4 @@ returns-then-not-self-clause-rising c =
 
 pub returns-then-not-self-clause-same : goal.returns-then-not-self-clause-same
 returns-then-not-self-clause-same c = λ g.
-    sym (list_any-IsPermutation _ _ _ c.sort_unstable.ensures.permutation) ∙ ap (λ (xs : List ℕ). has_number xs g) c.self.view_is
+    sym (list_any-IsPermutation _ _ _ c.sort_unstable.ensures.permutation) ∙ ap (λ (xs : List ℕ). has_good xs g) c.self.view_is
