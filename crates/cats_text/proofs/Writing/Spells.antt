@@ -21,7 +21,8 @@ use Rattle.std.proofs.lemmas.Grind.{common_steps}
 -- the dummy good is behind the real goods
 goods_rising : (goods : ℕ) (gs : List ℕ) (d : Option ℕ) → IsRising gs → AreBelow goods gs → IsRising (gs ++ dummy_good goods d)
 goods_rising goods gs None rising below = subst IsRising (sym (append-nil gs)) rising
-goods_rising goods gs (Some d) rising below = IsRising-push gs (goods + d) rising (λ k there. let low : k < goods = has_below goods gs k below there in omega arith)
+goods_rising goods gs (Some d) rising below =
+    IsRising-push gs (goods + d) rising (λ k there. let low : k < goods = has_below goods gs k below there in omega arith)
 
 -- ---- the goods of a line
 
