@@ -3,7 +3,7 @@
 ghost use Rattle.std.specs.Prelude.{◌≡◌, ◌<◌, ℕ, [], List, length, slice_get, Some, IfOk, OnOk, OnErr};
 ghost use Rattle.bid_file.specs.Files.{PlainBid};
 ghost use Rattle.cats_text.specs.FileLines.{put_slot, filled};
-ghost use Rattle.cats_text.specs.Internal.Kept.{is_some_bid, with_goods, placed, slot_list, AreWithin, IsPadded};
+ghost use Rattle.cats_text.specs.Internal.Kept.{is_some_bid, with_goods, arrived, slot_list, AreWithin, IsPadded};
 
 use crate::keep::Keep;
 use crate::parser::Draft;
@@ -15,8 +15,8 @@ use std::marker::Model;
 pub struct BidsByNumber<K: Keep> {
     came: K,
     /// Empty as long as the bids come in the order of their numbers, from 0 on. Then, at each number, how many had come
-    /// with its bid, or 0 if it has not come.
-    places: Vec<usize>,
+    /// with its bid, or 0 if it has not come: its arrival.
+    arrivals: Vec<usize>,
 }
 
 impl<K: Keep> Model for BidsByNumber<K> {
@@ -26,43 +26,43 @@ impl<K: Keep> Model for BidsByNumber<K> {
 
     ghost Value = { List (Option PlainBid) };
 
-    ghost view = { λ s. slot_list (K.bids s.came) s.places.items };
+    ghost view = { λ s. slot_list (K.bids s.came) s.arrivals.items };
 
-    ghost invariant = { λ s. AreWithin (length (K.bids s.came)) s.places.items };
+    ghost invariant = { λ s. AreWithin (length (K.bids s.came)) s.arrivals.items };
 }
 
-/// Whether a bid is at this place.
-fn has_at(places: &[usize], number: usize) -> bool
-    ensures { (came : List PlainBid) → AreWithin (length came) places.now
-        → result ≡ is_some_bid (slice_get (placed came places.now) number) }
+/// Whether the bid of this number has come.
+fn has_at(arrivals: &[usize], number: usize) -> bool
+    ensures { (came : List PlainBid) → AreWithin (length came) arrivals.now
+        → result ≡ is_some_bid (slice_get (arrived came arrivals.now) number) }
 {
-    matches!(places.get(number), Some(place) if *place > 0)
+    matches!(arrivals.get(number), Some(arrival) if *arrival > 0)
 }
 
-/// Lists the places of so many bids that came in the order of their numbers, if no places are listed.
-fn list_places(places: &mut Vec<usize>, count: usize) -> Result<(), AllocError>
-    ensures within { AreWithin count places.old.items → AreWithin count places.new.items }
+/// Lists the arrivals of so many bids, which came in the order of their numbers, unless arrivals are listed already.
+fn list_arrivals(arrivals: &mut Vec<usize>, count: usize) -> Result<(), AllocError>
+    ensures within { AreWithin count arrivals.old.items → AreWithin count arrivals.new.items }
     ensures listed { (came : List PlainBid) → length came ≡ count
-        → OnOk result (placed came places.new.items ≡ slot_list came places.old.items) }
+        → OnOk result (arrived came arrivals.new.items ≡ slot_list came arrivals.old.items) }
 {
-    if !places.is_empty() {
+    if !arrivals.is_empty() {
         return Ok(());
     }
-    while places.len() < count {
-        let place = places.len() + 1;
-        places.push(place)?;
+    while arrivals.len() < count {
+        let arrival = arrivals.len() + 1;
+        arrivals.push(arrival)?;
     }
     Ok(())
 }
 
-/// Puts a 0 at each number that has no place, up to this one.
-fn pad(places: &mut Vec<usize>, number: usize) -> Result<(), AllocError>
-    ensures within { (n : ℕ) → AreWithin n places.old.items → AreWithin n places.new.items }
-    ensures padded { OnOk result (IsPadded places.old.items places.new.items number) }
-    ensures there { OnOk result (number < length places.new.items) }
+/// Puts a 0 at each number up to this one that has no arrival.
+fn pad(arrivals: &mut Vec<usize>, number: usize) -> Result<(), AllocError>
+    ensures within { (n : ℕ) → AreWithin n arrivals.old.items → AreWithin n arrivals.new.items }
+    ensures padded { OnOk result (IsPadded arrivals.old.items arrivals.new.items number) }
+    ensures there { OnOk result (number < length arrivals.new.items) }
 {
-    while places.len() <= number {
-        places.push(0)?;
+    while arrivals.len() <= number {
+        arrivals.push(0)?;
     }
     Ok(())
 }
@@ -74,7 +74,7 @@ impl<K: Keep> BidsByNumber<K> {
     {
         BidsByNumber {
             came: K::empty(alloc),
-            places: Vec::new(alloc),
+            arrivals: Vec::new(alloc),
         }
     }
 
@@ -82,10 +82,10 @@ impl<K: Keep> BidsByNumber<K> {
     pub fn has(&self, number: u32) -> bool
         ensures { result ≡ is_some_bid (slice_get self.now number) }
     {
-        if self.places.is_empty() {
+        if self.arrivals.is_empty() {
             return (number as usize) < self.came.count();
         }
-        has_at(self.places.as_slice(), number as usize)
+        has_at(self.arrivals.as_slice(), number as usize)
     }
 
     /// Puts what is kept of a bid of a file with so many at its number.
@@ -95,7 +95,7 @@ impl<K: Keep> BidsByNumber<K> {
             OnOk result (self.new ≡ put_slot self.old draft.now.number bid) }
     {
         let number = draft.number as usize;
-        if self.places.is_empty() && number == self.came.count() {
+        if self.arrivals.is_empty() && number == self.came.count() {
             return self.came.add(draft, goods, count);
         }
         self.put_out_of_order(draft, goods, count)
@@ -112,10 +112,10 @@ impl<K: Keep> BidsByNumber<K> {
             OnOk result (self.new ≡ put_slot self.old draft.now.number bid) }
     {
         let number = draft.number as usize;
-        list_places(&mut self.places, self.came.count())?;
-        pad(&mut self.places, number)?;
+        list_arrivals(&mut self.arrivals, self.came.count())?;
+        pad(&mut self.arrivals, number)?;
         self.came.add(draft, goods, count)?;
-        self.places[number] = self.came.count();
+        self.arrivals[number] = self.came.count();
         Ok(())
     }
 
@@ -124,14 +124,14 @@ impl<K: Keep> BidsByNumber<K> {
         ensures bids { IfOk result (λ kept. K.bids kept ≡ filled self) }
         ensures memory { OnErr result (0 < length self) }
     {
-        let BidsByNumber { came, places } = self;
-        if places.is_empty() {
+        let BidsByNumber { came, arrivals } = self;
+        if arrivals.is_empty() {
             return Ok(came);
         }
         let mut kept = K::empty(alloc);
-        for place in places.iter() {
-            if *place > 0 {
-                kept.add_from(&came, *place - 1)?;
+        for arrival in arrivals.iter() {
+            if *arrival > 0 {
+                kept.add_from(&came, *arrival - 1)?;
             }
         }
         Ok(kept)

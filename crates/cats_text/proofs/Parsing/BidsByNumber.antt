@@ -1,5 +1,5 @@
--- The places of the bids by number. The idea: the bids stay in the order in which they came, and a place is a number in
--- that order, which one more bid behind the others does not change.
+-- The arrivals of the bids by number. The idea: the bids stay in the order in which they came, and an arrival is a number
+-- in that order, which one more bid behind the others does not change.
 use Rattle.std.proofs.Common.{◌≡◌, ℕ, zero, suc, ◌+◌, ◌-◌, ◌<◌, ◌≤◌, List, [], ◌∷◌, ◌++◌, length, replicate, set, take, get_or, subst, add-one}
 use Rattle.std.proofs.Common.{Option, Some, None, Result, Ok, Err, OnOk}
 use Rattle.std.proofs.Common.{true, false, nat_lt, inl, inr, ◌⊎◌, map, append-nil, refl, sym, ap, ap₂, ◌∙◌, arith, append_assoc, length-append}
@@ -10,7 +10,7 @@ use Rattle.std.proofs.lemmas.Bool.{lt-ltb, le-ltb}
 use Rattle.std.specs.List.{slice_get}
 use Rattle.std.specs.Option.{option_to_list}
 use Rattle.bid_file.specs.Files.{PlainBid}
-use Rattle.cats_text.specs.Internal.Kept.{is_some_bid, number_alone, slot_at, placed, AreWithin, IsPadded, slot_list}
+use Rattle.cats_text.specs.Internal.Kept.{is_some_bid, number_alone, slot_at, arrived, AreWithin, IsPadded, slot_list}
 use Rattle.cats_text.specs.FileLines.{put_slot, filled}
 use Rattle.std.proofs.lemmas.Grind.{common_steps}
 
@@ -37,10 +37,10 @@ by_count : (came : List PlainBid) (n count : ℕ) → count ≡ length came
 by_count came n count e (inl h) = grind (arith, common_steps, has_first, length-map, lt-ltb)
 by_count came n count e (inr h) = grind (arith, common_steps, has_no_more, le-ltb, length-map)
 
-pub has_in_order : (came : List PlainBid) (places : List ℕ) (n count : ℕ) → length places ≡ 0 → count ≡ length came
-    → nat_lt n count ≡ is_some_bid (slice_get (slot_list came places) n)
+pub has_in_order : (came : List PlainBid) (arrivals : List ℕ) (n count : ℕ) → length arrivals ≡ 0 → count ≡ length came
+    → nat_lt n count ≡ is_some_bid (slice_get (slot_list came arrivals) n)
 has_in_order came [] n count none e = by_count came n count e (slice_get_cases (all_of came) n).1
-has_in_order came (p ∷ places) n count none e = absurd (let no : suc (length places) ≡ 0 = none in omega arith)
+has_in_order came (p ∷ arrivals) n count none e = absurd (let no : suc (length arrivals) ≡ 0 = none in omega arith)
 
 -- the next one
 put_next : (came next : List PlainBid) (n : ℕ) (b : PlainBid) → n ≡ length came → next ≡ came ++ b ∷ [] → all_of next ≡ put_slot (all_of came) n b
@@ -58,26 +58,26 @@ put_next came next n b at e =
     set_last (y ∷ xs) zero x e = absurd (let no : 0 ≡ suc (length xs) = e in omega arith)
     set_last (y ∷ xs) (suc n) x e = let same : suc n ≡ suc (length xs) = e in ap (λ ys. y ∷ ys) (set_last xs n x (omega arith))
 
-pub put_in_order : (came next : List PlainBid) (places : List ℕ) (n : ℕ) (b : PlainBid) → n ≡ length came → length places ≡ 0 → next ≡ came ++ b ∷ []
-    → slot_list next places ≡ put_slot (slot_list came places) n b
+pub put_in_order : (came next : List PlainBid) (arrivals : List ℕ) (n : ℕ) (b : PlainBid) → n ≡ length came → length arrivals ≡ 0 → next ≡ came ++ b ∷ []
+    → slot_list next arrivals ≡ put_slot (slot_list came arrivals) n b
 put_in_order came next [] n b at none e = put_next came next n b at e
-put_in_order came next (p ∷ places) n b at none e = absurd (let no : suc (length places) ≡ 0 = none in omega arith)
+put_in_order came next (p ∷ arrivals) n b at none e = absurd (let no : suc (length arrivals) ≡ 0 = none in omega arith)
 
--- ---- bids at places
+-- ---- bids with their arrivals
 
-pub listed : (came : List PlainBid) (places : List ℕ) → (length places ≡ 0 → ⊥) → slot_list came places ≡ placed came places
+pub listed : (came : List PlainBid) (arrivals : List ℕ) → (length arrivals ≡ 0 → ⊥) → slot_list came arrivals ≡ arrived came arrivals
 listed came [] some = absurd (some refl)
-listed came (p ∷ places) some = refl
+listed came (p ∷ arrivals) some = refl
 
-listed_set : (came : List PlainBid) (places : List ℕ) (n k : ℕ) → n < length places → slot_list came (set places n k) ≡ placed came (set places n k)
+listed_set : (came : List PlainBid) (arrivals : List ℕ) (n k : ℕ) → n < length arrivals → slot_list came (set arrivals n k) ≡ arrived came (set arrivals n k)
 listed_set came [] n k l = absurd (let no : n < 0 = l in omega arith)
-listed_set came (p ∷ places) zero k l = refl
-listed_set came (p ∷ places) (suc n) k l = refl
+listed_set came (p ∷ arrivals) zero k l = refl
+listed_set came (p ∷ arrivals) (suc n) k l = refl
 
-pub within_at : (n : ℕ) (places : List ℕ) (i p : ℕ) → AreWithin n places → slice_get places i ≡ Some p → p ≤ n
+pub within_at : (n : ℕ) (arrivals : List ℕ) (i p : ℕ) → AreWithin n arrivals → slice_get arrivals i ≡ Some p → p ≤ n
 within_at n [] i p all e = cc
-within_at n (q ∷ places) zero p all e = subst (λ (k : ℕ). k ≤ n) (some_same q p e) all.0
-within_at n (q ∷ places) (suc i) p all e = within_at n places i p all.1 e
+within_at n (q ∷ arrivals) zero p all e = subst (λ (k : ℕ). k ≤ n) (some_same q p e) all.0
+within_at n (q ∷ arrivals) (suc i) p all e = within_at n arrivals i p all.1 e
 
 -- ---- one more bid behind the others
 
@@ -86,9 +86,10 @@ slot_stays [] b (suc i) l = absurd (let no : suc i ≤ 0 = l in omega arith)
 slot_stays (c ∷ came) b (suc (suc i)) l = slot_stays came b (suc i) (omega arith)
 slot_stays _ b _ l = refl
 
-placed_stay : (came : List PlainBid) (b : PlainBid) (places : List ℕ) → AreWithin (length came) places → placed (came ++ b ∷ []) places ≡ placed came places
-placed_stay came b [] all = refl
-placed_stay came b (p ∷ places) all = grind (arith, common_steps, slot_stays, (placed_stay came b places all.1))
+arrived_stay : (came : List PlainBid) (b : PlainBid) (arrivals : List ℕ) → AreWithin (length came) arrivals
+    → arrived (came ++ b ∷ []) arrivals ≡ arrived came arrivals
+arrived_stay came b [] all = refl
+arrived_stay came b (p ∷ arrivals) all = grind (arith, common_steps, slot_stays, (arrived_stay came b arrivals all.1))
 
 slot_last : (came : List PlainBid) (b : PlainBid) → slot_at (came ++ b ∷ []) (suc (length came)) ≡ Some b
 slot_last [] b = refl
@@ -105,108 +106,108 @@ padded_more old padded next n p space e = record {
   few = let len = length-padded old padded n p in let few = p.few in omega arith;
 }
 
-placed_zeros : (came : List PlainBid) (k : ℕ) → placed came (replicate k 0) ≡ replicate k None
-placed_zeros came zero = refl
-placed_zeros came (suc k) = ap (λ ys. None ∷ ys) (placed_zeros came k)
+arrived_zeros : (came : List PlainBid) (k : ℕ) → arrived came (replicate k 0) ≡ replicate k None
+arrived_zeros came zero = refl
+arrived_zeros came (suc k) = ap (λ ys. None ∷ ys) (arrived_zeros came k)
 
--- a bid put at its place
-put_placed : (came next : List PlainBid) (b : PlainBid) (old padded : List ℕ) (n k : ℕ) → AreWithin (length came) padded → next ≡ came ++ b ∷ []
-    → k ≡ length next → IsPadded old padded n → n < length padded → placed next (set padded n k) ≡ put_slot (placed came old) n b
-put_placed came next b old padded n k all e at p there =
+-- a bid put with its arrival
+put_arrived : (came next : List PlainBid) (b : PlainBid) (old padded : List ℕ) (n k : ℕ) → AreWithin (length came) padded → next ≡ came ++ b ∷ []
+    → k ≡ length next → IsPadded old padded n → n < length padded → arrived next (set padded n k) ≡ put_slot (arrived came old) n b
+put_arrived came next b old padded n k all e at p there =
     let len = length-padded old padded n p in
     let few = p.few in
-    let same : length (placed came old) ≡ length old = length-map old (slot_at came) in
-    let zeros : p.count ≡ n + 1 - length (placed came old) = omega arith in
+    let same : length (arrived came old) ≡ length old = length-map old (slot_at came) in
+    let zeros : p.count ≡ n + 1 - length (arrived came old) = omega arith in
     let last : slot_at next k ≡ Some b = ap₂ slot_at e (at ∙ ap length e ∙ length-append came (b ∷ []) ∙ add-one (length came)) ∙ slot_last came b in
     map-set (slot_at next) padded n k
     ∙ ap₂ (λ (xs : List (Option PlainBid)) (x : Option PlainBid). set xs n x)
-    (ap (λ (c : List PlainBid). placed c padded) e ∙ placed_stay came b padded all
-    ∙ ap (placed came) p.is ∙ map-append (slot_at came) old (replicate p.count 0) ∙ ap (λ ys. placed came old ++ ys) (placed_zeros came p.count)
-    ∙ ap (λ (c : ℕ). placed came old ++ replicate c None) zeros) last
+    (ap (λ (c : List PlainBid). arrived c padded) e ∙ arrived_stay came b padded all
+    ∙ ap (arrived came) p.is ∙ map-append (slot_at came) old (replicate p.count 0) ∙ ap (λ ys. arrived came old ++ ys) (arrived_zeros came p.count)
+    ∙ ap (λ (c : ℕ). arrived came old ++ replicate c None) zeros) last
 
 pub put_listed : (came next : List PlainBid) (b : PlainBid) (before old padded : List ℕ) (n k : ℕ) → AreWithin (length came) padded → next ≡ came ++ b ∷ []
-    → k ≡ length next → IsPadded old padded n → n < length padded → placed came old ≡ slot_list came before
+    → k ≡ length next → IsPadded old padded n → n < length padded → arrived came old ≡ slot_list came before
     → slot_list next (set padded n k) ≡ put_slot (slot_list came before) n b
 put_listed came next b before old padded n k all e at p there same =
-    listed_set next padded n k there ∙ put_placed came next b old padded n k all e at p there ∙ ap (λ ss. put_slot ss n b) same
+    listed_set next padded n k there ∙ put_arrived came next b old padded n k all e at p there ∙ ap (λ ss. put_slot ss n b) same
 
--- ---- the places of bids that came in the order of their numbers
+-- ---- the arrivals of bids that came in the order of their numbers
 
 abbrev pub numbered : ℕ → List ℕ
 numbered zero = []
 numbered (suc k) = numbered k ++ suc k ∷ []
 
-pub within_push : (n : ℕ) (places : List ℕ) (p : ℕ) → AreWithin n places → p ≤ n → AreWithin n (places ++ p ∷ [])
+pub within_push : (n : ℕ) (arrivals : List ℕ) (p : ℕ) → AreWithin n arrivals → p ≤ n → AreWithin n (arrivals ++ p ∷ [])
 within_push n [] p all l = (l, tt)
-within_push n (q ∷ places) p all l = (all.0, within_push n places p all.1 l)
+within_push n (q ∷ arrivals) p all l = (all.0, within_push n arrivals p all.1 l)
 
 pub within_numbered : (n k : ℕ) → k ≤ n → AreWithin n (numbered k)
 within_numbered n zero l = tt
 within_numbered n (suc k) l = within_push n (numbered k) (suc k) (within_numbered n k (omega arith)) l
 
-pub placed_numbered : (came : List PlainBid) (k : ℕ) → k ≤ length came → placed came (numbered k) ≡ all_of (take k came)
-placed_numbered came zero l = refl
-placed_numbered came (suc k) l =
+pub arrived_numbered : (came : List PlainBid) (k : ℕ) → k ≤ length came → arrived came (numbered k) ≡ all_of (take k came)
+arrived_numbered came zero l = refl
+arrived_numbered came (suc k) l =
     map-append (slot_at came) (numbered k) (suc k ∷ [])
-    ∙ ap₂ (λ (xs : List (Option PlainBid)) (x : Option PlainBid). xs ++ x ∷ []) (placed_numbered came k (omega arith))
+    ∙ ap₂ (λ (xs : List (Option PlainBid)) (x : Option PlainBid). xs ++ x ∷ []) (arrived_numbered came k (omega arith))
     (slice_get-get_or came k number_alone (omega arith))
     ∙ sym (map-append (λ b. Some b) (take k came) (get_or came k number_alone ∷ []))
     ∙ ap all_of (sym (take_more came k number_alone (omega arith)) ∙ ap (λ n. take n came) (add-one k))
 
-pub none_numbered : (places : List ℕ) → length places ≡ 0 → places ≡ numbered (length places)
+pub none_numbered : (arrivals : List ℕ) → length arrivals ≡ 0 → arrivals ≡ numbered (length arrivals)
 none_numbered [] none = refl
-none_numbered (p ∷ places) none = absurd (let no : suc (length places) ≡ 0 = none in omega arith)
+none_numbered (p ∷ arrivals) none = absurd (let no : suc (length arrivals) ≡ 0 = none in omega arith)
 
-pub next_numbered : (places next : List ℕ) (p : ℕ) → places ≡ numbered (length places) → p ≡ length places + 1 → next ≡ places ++ p ∷ []
+pub next_numbered : (arrivals next : List ℕ) (p : ℕ) → arrivals ≡ numbered (length arrivals) → p ≡ length arrivals + 1 → next ≡ arrivals ++ p ∷ []
     → next ≡ numbered (length next)
-next_numbered places next p e at is = grind (arith, common_steps, length-append)
+next_numbered arrivals next p e at is = grind (arith, common_steps, length-append)
 
-pub all_listed : (came : List PlainBid) (before places : List ℕ) (count : ℕ) → length before ≡ 0 → length came ≡ count → places ≡ numbered (length places)
-    → length places ≡ count → placed came places ≡ slot_list came before
-all_listed came [] places count none long e all =
-    ap (placed came) e ∙ placed_numbered came (length places) (omega arith)
-    ∙ ap all_of (take_all (length places) came (omega arith))
-all_listed came (p ∷ before) places count none long e all = absurd (let no : suc (length before) ≡ 0 = none in omega arith)
+pub all_listed : (came : List PlainBid) (before arrivals : List ℕ) (count : ℕ) → length before ≡ 0 → length came ≡ count → arrivals ≡ numbered (length arrivals)
+    → length arrivals ≡ count → arrived came arrivals ≡ slot_list came before
+all_listed came [] arrivals count none long e all =
+    ap (arrived came) e ∙ arrived_numbered came (length arrivals) (omega arith)
+    ∙ ap all_of (take_all (length arrivals) came (omega arith))
+all_listed came (p ∷ before) arrivals count none long e all = absurd (let no : suc (length before) ≡ 0 = none in omega arith)
 
--- more places within reach
-pub within_more : (n m : ℕ) (places : List ℕ) → AreWithin n places → n ≤ m → AreWithin m places
+-- more arrivals within reach
+pub within_more : (n m : ℕ) (arrivals : List ℕ) → AreWithin n arrivals → n ≤ m → AreWithin m arrivals
 within_more n m [] all l = tt
-within_more n m (p ∷ places) all l = let here : p ≤ n = all.0 in (omega arith, within_more n m places all.1 l)
+within_more n m (p ∷ arrivals) all l = let here : p ≤ n = all.0 in (omega arith, within_more n m arrivals all.1 l)
 
-pub within_set : (n : ℕ) (places : List ℕ) (i p : ℕ) → AreWithin n places → p ≤ n → AreWithin n (set places i p)
+pub within_set : (n : ℕ) (arrivals : List ℕ) (i p : ℕ) → AreWithin n arrivals → p ≤ n → AreWithin n (set arrivals i p)
 within_set n [] i p all l = tt
-within_set n (q ∷ places) zero p all l = (l, all.1)
-within_set n (q ∷ places) (suc i) p all l = (all.0, within_set n places i p all.1 l)
+within_set n (q ∷ arrivals) zero p all l = (l, all.1)
+within_set n (q ∷ arrivals) (suc i) p all l = (all.0, within_set n arrivals i p all.1 l)
 
 -- ---- the bids that are there
 
-pub filled_all : (came : List PlainBid) (places : List ℕ) → length places ≡ 0 → came ≡ filled (slot_list came places)
+pub filled_all : (came : List PlainBid) (arrivals : List ℕ) → length arrivals ≡ 0 → came ≡ filled (slot_list came arrivals)
 filled_all [] [] none = refl
 filled_all (b ∷ came) [] none = ap (λ bs. b ∷ bs) (filled_all came [] none)
-filled_all came (p ∷ places) none = absurd (let no : suc (length places) ≡ 0 = none in omega arith)
+filled_all came (p ∷ arrivals) none = absurd (let no : suc (length arrivals) ≡ 0 = none in omega arith)
 
-filled_more : (came : List PlainBid) (places : List ℕ) (p : ℕ)
-    → filled (placed came (places ++ p ∷ [])) ≡ filled (placed came places) ++ option_to_list (slot_at came p)
-filled_more came places p = grind (arith, common_steps, filter_map-append, map-append)
+filled_more : (came : List PlainBid) (arrivals : List ℕ) (p : ℕ)
+    → filled (arrived came (arrivals ++ p ∷ [])) ≡ filled (arrived came arrivals) ++ option_to_list (slot_at came p)
+filled_more came arrivals p = grind (arith, common_steps, filter_map-append, map-append)
 
--- no bid is at a place that is 0
-pub kept_none : (came kept : List PlainBid) (places : List ℕ) (p : ℕ) → kept ≡ filled (placed came places) → p ≡ 0
-    → kept ≡ filled (placed came (places ++ p ∷ []))
-kept_none came kept places p e none =
-    e ∙ sym (append-nil (filled (placed came places))) ∙ ap (λ (k : ℕ). filled (placed came places) ++ option_to_list (slot_at came k)) (sym none)
-    ∙ sym (filled_more came places p)
+-- no bid has the arrival 0
+pub kept_none : (came kept : List PlainBid) (arrivals : List ℕ) (p : ℕ) → kept ≡ filled (arrived came arrivals) → p ≡ 0
+    → kept ≡ filled (arrived came (arrivals ++ p ∷ []))
+kept_none came kept arrivals p e none =
+    e ∙ sym (append-nil (filled (arrived came arrivals))) ∙ ap (λ (k : ℕ). filled (arrived came arrivals) ++ option_to_list (slot_at came k)) (sym none)
+    ∙ sym (filled_more came arrivals p)
 
--- the bid at a place is kept
-pub kept_more : (came kept next : List PlainBid) (places : List ℕ) (p j : ℕ) → kept ≡ filled (placed came places) → 0 < p → j ≡ p - 1 → j < length came
-    → ((bid : PlainBid) → slice_get came j ≡ Some bid → next ≡ kept ++ bid ∷ []) → next ≡ filled (placed came (places ++ p ∷ []))
-kept_more came kept next places zero j e some at l more = absurd (let no : 0 < 0 = some in omega arith)
-kept_more came kept next places (suc i) j e some at l more =
+-- the bid of an arrival is kept
+pub kept_more : (came kept next : List PlainBid) (arrivals : List ℕ) (p j : ℕ) → kept ≡ filled (arrived came arrivals) → 0 < p → j ≡ p - 1 → j < length came
+    → ((bid : PlainBid) → slice_get came j ≡ Some bid → next ≡ kept ++ bid ∷ []) → next ≡ filled (arrived came (arrivals ++ p ∷ []))
+kept_more came kept next arrivals zero j e some at l more = absurd (let no : 0 < 0 = some in omega arith)
+kept_more came kept next arrivals (suc i) j e some at l more =
     let b = get_or came j number_alone in
     let here : slice_get came j ≡ Some b = slice_get-get_or came j number_alone l in
     let same : j ≡ i = omega arith in
     more b here ∙ ap (λ ks. ks ++ b ∷ []) e
-    ∙ ap (λ o. filled (placed came places) ++ option_to_list o) (sym here ∙ ap (slice_get came) same)
-    ∙ sym (filled_more came places (suc i))
+    ∙ ap (λ o. filled (arrived came arrivals) ++ option_to_list o) (sym here ∙ ap (slice_get came) same)
+    ∙ sym (filled_more came arrivals (suc i))
 
 pub on_ok : {A E : Type 0} (r : Result A E) (P Q : Type 0) → (P → Q) → OnOk r P → OnOk r Q
 on_ok (Ok x) P Q f h = f h

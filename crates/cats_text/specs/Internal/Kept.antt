@@ -26,20 +26,20 @@ abbrev pub slot_at : List PlainBid → ℕ → Option PlainBid
 slot_at came zero = None
 slot_at came (suc i) = slice_get came i
 
--- the bids at these places
-abbrev pub placed : List PlainBid → List ℕ → List (Option PlainBid)
-placed came places = map (slot_at came) places
+-- the bids with these arrivals, each by its number
+abbrev pub arrived : List PlainBid → List ℕ → List (Option PlainBid)
+arrived came arrivals = map (slot_at came) arrivals
 
 abbrev pub AreWithin : ℕ → List ℕ → Type 0
-AreWithin n places = AllByRecursion (λ p. p ≤ n) places
+AreWithin n arrivals = AllByRecursion (λ p. p ≤ n) arrivals
 
--- the places that were there, and zeros behind them: at most as many as the number n needs
+-- the arrivals that were there, and zeros behind them: at most as many as the number n needs
 pub record IsPadded (old padded : List ℕ) (n : ℕ) : Type 0 where
   pub count : ℕ
   pub is : padded ≡ old ++ replicate count 0
   pub few : count ≤ n + 1 - length old
 
--- bids by number: those that came, in their order or at these places
+-- bids by number: those that came, in their order or with these arrivals
 abbrev pub slot_list : List PlainBid → List ℕ → List (Option PlainBid)
 slot_list came [] = map (λ b. Some b) came
-slot_list came (p ∷ places) = placed came (p ∷ places)
+slot_list came (p ∷ arrivals) = arrived came (p ∷ arrivals)

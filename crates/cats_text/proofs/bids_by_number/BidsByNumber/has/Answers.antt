@@ -10,13 +10,13 @@ use Rattle.cats_text.proofs.bids_by_number.BidsByNumber.has.Goals as goal
 
 pub returns-then-is_empty : goal.returns-then-is_empty
 returns-then-is_empty g c =
-    let none : length c.self.inside.places.items ≡ 0 = first_of (search rules, grind (arith, common_steps)) in
-    rw (← c.self.view_is) (has_in_order (g.K.Keep.bids c.self.inside.came) c.self.inside.places.items c.args.number c.count.result none c.count.ensures)
+    let none : length c.self.inside.arrivals.items ≡ 0 = first_of (search rules, grind (arith, common_steps)) in
+    rw (← c.self.view_is) (has_in_order (g.K.Keep.bids c.self.inside.came) c.self.inside.arrivals.items c.args.number c.count.result none c.count.ensures)
 
 pub returns : goal.returns
 returns g c =
     let came = g.K.Keep.bids c.self.inside.came in
-    let some : length c.self.inside.places.items ≡ 0 → ⊥ = λ none. first_of (search rules, grind (arith, common_steps)) in
+    let some : length c.self.inside.arrivals.items ≡ 0 → ⊥ = λ none. first_of (search rules, grind (arith, common_steps)) in
     rw (← c.self.view_is)
     ((rw c.as_slice.ensures.value at c.has_at.ensures came) c.self.invariant
-    ∙ ap (λ (ss : List (Option PlainBid)). is_some_bid (slice_get ss c.args.number)) (sym (listed came c.self.inside.places.items some)))
+    ∙ ap (λ (ss : List (Option PlainBid)). is_some_bid (slice_get ss c.args.number)) (sym (listed came c.self.inside.arrivals.items some)))

@@ -4,44 +4,45 @@ use Rattle.std.proofs.lemmas.Grind.{common_steps}
 use Rattle.std.proofs.lemmas.List.{take_all, take_more}
 use Rattle.std.proofs.lemmas.Option.{slice_get-get_or}
 use Rattle.cats_text.specs.FileLines.{filled}
-use Rattle.cats_text.specs.Internal.Kept.{AreWithin, placed}
+use Rattle.cats_text.specs.Internal.Kept.{AreWithin, arrived}
 use Rattle.cats_text.proofs.Parsing.BidsByNumber.{filled_all, kept_none, kept_more, listed, within_at}
-use Rattle.cats_text.proofs.bids_by_number.BidsByNumber.into_kept.Goals.{then-place-gt0+in_ok-add_from, else-place-gt0}
+use Rattle.cats_text.proofs.bids_by_number.BidsByNumber.into_kept.Goals.{then-arrival-gt0+in_ok-add_from, else-arrival-gt0}
 use Rattle.cats_text.proofs.bids_by_number.BidsByNumber.into_kept.Goals as goal
 
 pub returns-then-is_empty-clause-bids : goal.returns-then-is_empty-clause-bids
 returns-then-is_empty-clause-bids g c =
-    let none : length c.self.inside.places.items ≡ 0 = first_of (search rules, grind (arith, common_steps)) in
-    rw (← c.self.view_is) (filled_all (g.K.Keep.bids c.self.inside.came) c.self.inside.places.items none)
+    let none : length c.self.inside.arrivals.items ≡ 0 = first_of (search rules, grind (arith, common_steps)) in
+    rw (← c.self.view_is) (filled_all (g.K.Keep.bids c.self.inside.came) c.self.inside.arrivals.items none)
 
-pub loop-place-preserved : goal.loop-place-preserved
-loop-place-preserved g c =
+pub loop-arrival-preserved : goal.loop-arrival-preserved
+loop-arrival-preserved g c =
     let came = g.K.Keep.bids c.self.inside.came in
-    let places : List ℕ = c.deref-place-items.result.now in
-    let i : ℕ = c.loop-place.place-index in
-    let p : ℕ = get_or places i 0 in
-    let all : AreWithin (length came) places = rw c.deref-place-items.ensures.value c.self.invariant in
-    let most : p ≤ length came = within_at (length came) places i p all (slice_get-get_or places i 0 c.loop-place-test.true) in
-    let next : take (i + 1) places ≡ take i places ++ p ∷ [] = take_more places i 0 c.loop-place-test.true in
+    let arrivals : List ℕ = c.deref-arrival-items.result.now in
+    let i : ℕ = c.loop-arrival.arrival-index in
+    let p : ℕ = get_or arrivals i 0 in
+    let all : AreWithin (length came) arrivals = rw c.deref-arrival-items.ensures.value c.self.invariant in
+    let most : p ≤ length came = within_at (length came) arrivals i p all (slice_get-get_or arrivals i 0 c.loop-arrival-test.true) in
+    let next : take (i + 1) arrivals ≡ take i arrivals ++ p ∷ [] = take_more arrivals i 0 c.loop-arrival-test.true in
     rw next
-    (elim c.if-place-gt0.branch [
-      | then-place-gt0+in_ok-add_from w ↦
-          let some : 0 < p = w.if-place-gt0.true in
+    (elim c.if-arrival-gt0.branch [
+      | then-arrival-gt0+in_ok-add_from w ↦
+          let some : 0 < p = w.if-arrival-gt0.true in
           let there : p - 1 < length came = omega arith in
           ap g.K.Keep.bids w.kept-is
-          ∙ kept_more came (g.K.Keep.bids c.loop-place.kept) (g.K.Keep.bids w.add_from.new.self) (take i places) p
-          (p - 1) c.loop-place.invariant some refl there
+          ∙ kept_more came (g.K.Keep.bids c.loop-arrival.kept) (g.K.Keep.bids w.add_from.new.self) (take i arrivals) p
+          (p - 1) c.loop-arrival.invariant some refl there
           w.in_ok-add_from.ensures
-      | else-place-gt0 w ↦
-          let none : p ≤ 0 = w.if-place-gt0.false in
-          ap g.K.Keep.bids w.kept-is ∙ kept_none came (g.K.Keep.bids c.loop-place.kept) (take i places) p c.loop-place.invariant (omega arith)
+      | else-arrival-gt0 w ↦
+          let none : p ≤ 0 = w.if-arrival-gt0.false in
+          ap g.K.Keep.bids w.kept-is ∙ kept_none came (g.K.Keep.bids c.loop-arrival.kept) (take i arrivals) p c.loop-arrival.invariant (omega arith)
     ])
 
 pub returns-clause-bids : goal.returns-clause-bids
 returns-clause-bids g c =
     let came = g.K.Keep.bids c.self.inside.came in
-    let places : List ℕ = c.deref-place-items.result.now in
-    let some : length c.self.inside.places.items ≡ 0 → ⊥ = λ none. first_of (search rules, grind (arith, common_steps)) in
-    c.loop-place.invariant
-    ∙ ap (λ (ps : List ℕ). filled (placed came ps)) (take_all c.loop-place.place-index places c.loop-place-test.false ∙ c.deref-place-items.ensures.value)
-    ∙ ap filled (sym (listed came c.self.inside.places.items some) ∙ c.self.view_is)
+    let arrivals : List ℕ = c.deref-arrival-items.result.now in
+    let some : length c.self.inside.arrivals.items ≡ 0 → ⊥ = λ none. first_of (search rules, grind (arith, common_steps)) in
+    c.loop-arrival.invariant
+    ∙ ap (λ (ps : List ℕ). filled (arrived came ps))
+        (take_all c.loop-arrival.arrival-index arrivals c.loop-arrival-test.false ∙ c.deref-arrival-items.ensures.value)
+    ∙ ap filled (sym (listed came c.self.inside.arrivals.items some) ∙ c.self.view_is)

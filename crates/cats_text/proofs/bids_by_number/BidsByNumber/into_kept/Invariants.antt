@@ -1,8 +1,8 @@
 -- `BidsByNumber::into_kept`
 use Rattle.std.proofs.Common.{◌≡◌, take}
 use Rattle.cats_text.specs.FileLines.{filled}
-use Rattle.cats_text.specs.Internal.Kept.{placed}
+use Rattle.cats_text.specs.Internal.Kept.{arrived}
 use Rattle.cats_text.proofs.bids_by_number.BidsByNumber.into_kept.Given as goal
 
-abbrev pub invariant-loop-place : goal.invariant-loop-place
-invariant-loop-place g l = g.K.Keep.bids l.kept ≡ filled (placed (g.K.Keep.bids l.came) (take l.place-index l.place-items))
+abbrev pub invariant-loop-arrival : goal.invariant-loop-arrival
+invariant-loop-arrival g l = g.K.Keep.bids l.kept ≡ filled (arrived (g.K.Keep.bids l.came) (take l.arrival-index l.arrival-items))

@@ -6,30 +6,30 @@ use Rattle.cats_text.proofs.bids_by_number.BidsByNumber.put_out_of_order.Goals a
 
 pub invariant_of-self-in_err-pad : goal.invariant_of-self-in_err-pad
 invariant_of-self-in_err-pad g c =
-    c.pad.ensures.within (length (g.K.Keep.bids c.self.inside.came)) ((rw c.count.ensures at c.list_places.ensures.within) c.self.invariant)
+    c.pad.ensures.within (length (g.K.Keep.bids c.self.inside.came)) ((rw c.count.ensures at c.list_arrivals.ensures.within) c.self.invariant)
 
 pub invariant_of-self-in_err-add : goal.invariant_of-self-in_err-add
 invariant_of-self-in_err-add g c =
     rw c.in_err-add.ensures.same
-    (c.pad.ensures.within (length (g.K.Keep.bids c.self.inside.came)) ((rw c.count.ensures at c.list_places.ensures.within) c.self.invariant))
+    (c.pad.ensures.within (length (g.K.Keep.bids c.self.inside.came)) ((rw c.count.ensures at c.list_arrivals.ensures.within) c.self.invariant))
 
 pub invariant_of-self-2 : goal.invariant_of-self-2
 invariant_of-self-2 g c =
     let came = g.K.Keep.bids c.self.inside.came in
     let next = g.K.Keep.bids c.add.new.self in
-    let all : AreWithin (length came) c.pad.new.places.items =
-    c.pad.ensures.within (length came) ((rw c.count.ensures at c.list_places.ensures.within) c.self.invariant) in
+    let all : AreWithin (length came) c.pad.new.arrivals.items =
+    c.pad.ensures.within (length came) ((rw c.count.ensures at c.list_arrivals.ensures.within) c.self.invariant) in
     let long : length next ≡ length came + 1 = ap length c.in_ok-add.ensures.kept
     ∙ length-append came (g.K.Keep.keep (with_goods c.args.draft.now c.args.goods.now) ∷ []) in
-    within_set (length next) c.pad.new.places.items c.args.draft.now.number c.count-2.result
-    (within_more (length came) (length next) c.pad.new.places.items all (omega arith)) (omega (arith, c.count-2.ensures))
+    within_set (length next) c.pad.new.arrivals.items c.args.draft.now.number c.count-2.result
+    (within_more (length came) (length next) c.pad.new.arrivals.items all (omega arith)) (omega (arith, c.count-2.ensures))
 
 pub returns : goal.returns
 returns g c =
     let came = g.K.Keep.bids c.self.inside.came in
-    let all : AreWithin (length came) c.pad.new.places.items =
-    c.pad.ensures.within (length came) ((rw c.count.ensures at c.list_places.ensures.within) c.self.invariant) in
+    let all : AreWithin (length came) c.pad.new.arrivals.items =
+    c.pad.ensures.within (length came) ((rw c.count.ensures at c.list_arrivals.ensures.within) c.self.invariant) in
     rw (← c.self.view_is)
-    (put_listed came (g.K.Keep.bids c.add.new.self) (g.K.Keep.keep (with_goods c.args.draft.now c.args.goods.now)) c.self.inside.places.items
-    c.list_places.new.places.items c.pad.new.places.items c.args.draft.now.number c.count-2.result all c.in_ok-add.ensures.kept c.count-2.ensures
-    c.in_ok-pad.ensures.padded c.in_ok-pad.ensures.there (c.in_ok-list_places.ensures.listed came (sym c.count.ensures)))
+    (put_listed came (g.K.Keep.bids c.add.new.self) (g.K.Keep.keep (with_goods c.args.draft.now c.args.goods.now)) c.self.inside.arrivals.items
+    c.list_arrivals.new.arrivals.items c.pad.new.arrivals.items c.args.draft.now.number c.count-2.result all c.in_ok-add.ensures.kept c.count-2.ensures
+    c.in_ok-pad.ensures.padded c.in_ok-pad.ensures.there (c.in_ok-list_arrivals.ensures.listed came (sym c.count.ensures)))
