@@ -1,6 +1,6 @@
 -- `prune_or_by`: A turn of the loop keeps a bid exactly if the search does not reach its price, which is a turn of proofs/Results; a search that
 -- gives up has found a heavy bundle; and at the end the kept bids are the points.
-use Rattle.std.proofs.Common.{Err, ◌≡◌, ◌<◌, ◌≤◌, length, refl, sym, ap, ◌∙◌, subst, take, cond, [], ◌∷◌, ◌++◌, ◌+◌, arith, append-nil, map, rules}
+use Rattle.std.proofs.Common.{Err, ◌≡◌, ◌<◌, ◌≤◌, length, refl, sym, ap, ◌∙◌, subst, take, cond, [], ◌∷◌, ◌++◌, arith, append-nil, map, rules}
 use Rattle.std.proofs.lemmas.List.{get_or_read}
 use Rattle.bid_file.specs.declared.limits.TheConstants.{MAX_GOODS}
 use Rattle.valuation.specs.declared.search.options.SearchOptions.{SearchOptions}
