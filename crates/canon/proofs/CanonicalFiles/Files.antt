@@ -1,4 +1,4 @@
--- The file of an auction represents that auction, and keeps the limits of 
+-- The file of an auction represents that auction, and keeps the limits of
 use Rattle.std.proofs.Common.{◌≡◌, ℕ, zero, suc, ◌+◌, ◌<◌, ◌≤◌, List, [], ◌∷◌, ◌++◌, length, map, Option, Some, None, is_none, refl, ap, ap₂, ◌∙◌, arith}
 use Rattle.std.specs.Prelude.{All, filter, sum_by}
 use Rattle.std.specs.List.{range_with_len, AllByRecursion}

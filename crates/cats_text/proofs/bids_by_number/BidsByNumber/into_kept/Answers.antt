@@ -44,5 +44,5 @@ returns-clause-bids g c =
     let some : length c.self.inside.arrivals.items ≡ 0 → ⊥ = λ none. first_of (search rules, grind (arith, common_steps)) in
     c.loop-arrival.invariant
     ∙ ap (λ (ps : List ℕ). filled (arrived came ps))
-        (take_all c.loop-arrival.arrival-index arrivals c.loop-arrival-test.false ∙ c.deref-arrival-items.ensures.value)
+    (take_all c.loop-arrival.arrival-index arrivals c.loop-arrival-test.false ∙ c.deref-arrival-items.ensures.value)
     ∙ ap filled (sym (listed came c.self.inside.arrivals.items some) ∙ c.self.view_is)
