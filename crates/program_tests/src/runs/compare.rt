@@ -64,36 +64,35 @@ fn prints_both_ways(
     Ok(())
 }
 
+static SAME_AUCTIONS: &[(&str, &str, u8, &str, &str)] = &[
+    (NOTHING, NOTHING, 0, "same\n", "same\n"),
+    (LARGER_BID, SINGLES, 0, "same\n", "same\n"),
+    (
+        EQUAL_BIDDERS,
+        "goods 2\nbids 4\ndummy 2\n0\t1\t0\t2\t#\n1\t2\t0\t1\t2\t#\n2\t1\t0\t3\t#\n3\t2\t0\t1\t3\t#\n",
+        0,
+        "same\n",
+        "same\n",
+    ),
+    (
+        "goods 2\nbids 4\ndummy 2\n0\t2\t0\t2\t#\n1\t1\t1\t2\t#\n2\t1\t0\t3\t#\n3\t2\t1\t3\t#\n",
+        APART,
+        0,
+        "same\n",
+        "same\n",
+    ),
+    (
+        "goods 1\nbids 1\ndummy 0\n0\t1.5\t0\t#\n",
+        "goods 1\nbids 1\ndummy 0\n0\t1.50\t0\t#\n",
+        0,
+        "same\n",
+        "same\n",
+    ),
+];
+
 #[test]
 fn same_auctions(rt: HostRuntime) -> Result<(), Fail> {
-    prints_both_ways(
-        &rt,
-        &[
-            (NOTHING, NOTHING, 0, "same\n", "same\n"),
-            (LARGER_BID, SINGLES, 0, "same\n", "same\n"),
-            (
-                EQUAL_BIDDERS,
-                "goods 2\nbids 4\ndummy 2\n0\t1\t0\t2\t#\n1\t2\t0\t1\t2\t#\n2\t1\t0\t3\t#\n3\t2\t0\t1\t3\t#\n",
-                0,
-                "same\n",
-                "same\n",
-            ),
-            (
-                "goods 2\nbids 4\ndummy 2\n0\t2\t0\t2\t#\n1\t1\t1\t2\t#\n2\t1\t0\t3\t#\n3\t2\t1\t3\t#\n",
-                APART,
-                0,
-                "same\n",
-                "same\n",
-            ),
-            (
-                "goods 1\nbids 1\ndummy 0\n0\t1.5\t0\t#\n",
-                "goods 1\nbids 1\ndummy 0\n0\t1.50\t0\t#\n",
-                0,
-                "same\n",
-                "same\n",
-            ),
-        ],
-    )
+    prints_both_ways(&rt, SAME_AUCTIONS)
 }
 
 /// Two bidders on two goods each, whose bids differ.
@@ -108,86 +107,85 @@ pub(super) const FIVE: &str = "goods 1\nbids 1\ndummy 0\n0\t5\t0\t#\n";
 
 pub(super) const FOUR: &str = "goods 1\nbids 1\ndummy 0\n0\t4\t0\t#\n";
 
+static DIFFERENCES: &[(&str, &str, u8, &str, &str)] = &[
+    // goods
+    (
+        "goods 1\nbids 0\ndummy 0\n",
+        "goods 2\nbids 0\ndummy 0\n",
+        1,
+        "different\ngoods\nleft 1\nright 2\n",
+        "different\ngoods\nleft 2\nright 1\n",
+    ),
+    (
+        "goods 1024\nbids 0\ndummy 0\n",
+        "goods 4096\nbids 0\ndummy 0\n",
+        1,
+        "different\ngoods\nleft 1024\nright 4096\n",
+        "different\ngoods\nleft 4096\nright 1024\n",
+    ),
+    // OR values
+    (
+        FOUR,
+        FIVE,
+        1,
+        "different\nor 0\nleft 4\nright 5\n",
+        "different\nor 0\nleft 5\nright 4\n",
+    ),
+    (
+        "goods 1\nbids 2\ndummy 1\n0\t4\t0\t#\n1\t1\t0\t1\t#\n",
+        FIVE,
+        1,
+        "different\nor 0\nleft 4\nright 5\n",
+        "different\nor 0\nleft 5\nright 4\n",
+    ),
+    (
+        FOUR,
+        "goods 1\nbids 1\ndummy 1\n0\t4\t0\t1\t#\n",
+        1,
+        "different\nor 0\nleft 4\nright below 4\n",
+        "different\nor 0\nleft below 4\nright 4\n",
+    ),
+    (
+        "goods 2\nbids 3\ndummy 0\n0\t3\t0\t#\n1\t4\t1\t#\n2\t8\t0\t1\t#\n",
+        SINGLES,
+        1,
+        "different\nor 0,1\nleft 8\nright below 8\n",
+        "different\nor 0,1\nleft below 8\nright 8\n",
+    ),
+    (
+        "goods 1\nbids 1\ndummy 0\n0\t1.5\t0\t#\n",
+        "goods 1\nbids 1\ndummy 0\n0\t1.25\t0\t#\n",
+        1,
+        "different\nor 0\nleft 1.5\nright 1.25\n",
+        "different\nor 0\nleft 1.25\nright 1.5\n",
+    ),
+    (
+        "goods 2\nbids 2\ndummy 0\n0\t1\t0\t#\n1\t1\t1\t#\n",
+        "goods 2\nbids 2\ndummy 0\n0\t1\t0\t#\n1\t9\t0\t1\t#\n",
+        1,
+        "different\nor 1\nleft 1\nright below 1\n",
+        "different\nor 1\nleft below 1\nright 1\n",
+    ),
+    // XOR bidders
+    (
+        EQUAL_BIDDERS,
+        "goods 2\nbids 2\ndummy 1\n0\t1\t0\t2\t#\n1\t2\t0\t1\t2\t#\n",
+        1,
+        "different\nxor 0:1 0,1:2\nleft 2\nright 1\n",
+        "different\nxor 0:1 0,1:2\nleft 1\nright 2\n",
+    ),
+    (
+        APART,
+        TOGETHER,
+        1,
+        "different\nxor 0:1 1:1 0,1:2\nleft 0\nright 1\n",
+        "different\nxor 0:1 1:1 0,1:2\nleft 1\nright 0\n",
+    ),
+];
+
 #[test]
 fn differences(rt: HostRuntime) -> Result<(), Fail> {
-    prints_both_ways(
-        &rt,
-        &[
-            // goods
-            (
-                "goods 1\nbids 0\ndummy 0\n",
-                "goods 2\nbids 0\ndummy 0\n",
-                1,
-                "different\ngoods\nleft 1\nright 2\n",
-                "different\ngoods\nleft 2\nright 1\n",
-            ),
-            (
-                "goods 1024\nbids 0\ndummy 0\n",
-                "goods 4096\nbids 0\ndummy 0\n",
-                1,
-                "different\ngoods\nleft 1024\nright 4096\n",
-                "different\ngoods\nleft 4096\nright 1024\n",
-            ),
-            // OR values
-            (
-                FOUR,
-                FIVE,
-                1,
-                "different\nor 0\nleft 4\nright 5\n",
-                "different\nor 0\nleft 5\nright 4\n",
-            ),
-            (
-                "goods 1\nbids 2\ndummy 1\n0\t4\t0\t#\n1\t1\t0\t1\t#\n",
-                FIVE,
-                1,
-                "different\nor 0\nleft 4\nright 5\n",
-                "different\nor 0\nleft 5\nright 4\n",
-            ),
-            (
-                FOUR,
-                "goods 1\nbids 1\ndummy 1\n0\t4\t0\t1\t#\n",
-                1,
-                "different\nor 0\nleft 4\nright below 4\n",
-                "different\nor 0\nleft below 4\nright 4\n",
-            ),
-            (
-                "goods 2\nbids 3\ndummy 0\n0\t3\t0\t#\n1\t4\t1\t#\n2\t8\t0\t1\t#\n",
-                SINGLES,
-                1,
-                "different\nor 0,1\nleft 8\nright below 8\n",
-                "different\nor 0,1\nleft below 8\nright 8\n",
-            ),
-            (
-                "goods 1\nbids 1\ndummy 0\n0\t1.5\t0\t#\n",
-                "goods 1\nbids 1\ndummy 0\n0\t1.25\t0\t#\n",
-                1,
-                "different\nor 0\nleft 1.5\nright 1.25\n",
-                "different\nor 0\nleft 1.25\nright 1.5\n",
-            ),
-            (
-                "goods 2\nbids 2\ndummy 0\n0\t1\t0\t#\n1\t1\t1\t#\n",
-                "goods 2\nbids 2\ndummy 0\n0\t1\t0\t#\n1\t9\t0\t1\t#\n",
-                1,
-                "different\nor 1\nleft 1\nright below 1\n",
-                "different\nor 1\nleft below 1\nright 1\n",
-            ),
-            // XOR bidders
-            (
-                EQUAL_BIDDERS,
-                "goods 2\nbids 2\ndummy 1\n0\t1\t0\t2\t#\n1\t2\t0\t1\t2\t#\n",
-                1,
-                "different\nxor 0:1 0,1:2\nleft 2\nright 1\n",
-                "different\nxor 0:1 0,1:2\nleft 1\nright 2\n",
-            ),
-            (
-                APART,
-                TOGETHER,
-                1,
-                "different\nxor 0:1 1:1 0,1:2\nleft 0\nright 1\n",
-                "different\nxor 0:1 1:1 0,1:2\nleft 1\nright 0\n",
-            ),
-        ],
-    )
+    prints_both_ways(&rt, DIFFERENCES)
 }
 
 /// Texts under a limit, and the status and the line of the one that is refused first.

@@ -58,18 +58,20 @@ fn lp_texts(rt: HostRuntime) -> Result<(), Fail> {
     Ok(())
 }
 
+static REFUSALS: &[(&str, bool, u8, &str)] = &[
+    ("", false, 2, "line 1: Missing\n"),
+    (
+        "goods 1\nbids 1\ndummy 0\n0 1 0\n",
+        false,
+        2,
+        "line 4: NoEnd\n",
+    ),
+    ("goods 0\nbids 0\ndummy 0\n", true, 5, "Device\n"),
+];
+
 #[test]
 fn refusals(rt: HostRuntime) -> Result<(), Fail> {
-    for (text, fails, status, line) in &[
-        ("", false, 2, "line 1: Missing\n"),
-        (
-            "goods 1\nbids 1\ndummy 0\n0 1 0\n",
-            false,
-            2,
-            "line 4: NoEnd\n",
-        ),
-        ("goods 0\nbids 0\ndummy 0\n", true, 5, "Device\n"),
-    ] {
+    for (text, fails, status, line) in REFUSALS {
         let answer = printed(rt.alloc(), text.as_bytes(), *fails)?;
         expect(&rt, &answer, *status, "", line);
     }

@@ -1,5 +1,6 @@
 //! `cats normalise`: canonical texts, and files that are refused.
 
+use super::compare::LARGER_BID;
 use super::streams::{RunAnswer, answer_of, expect, reader, writer};
 use cats_cmd::run_normalise;
 use std::alloc::{AllocError, Global};
@@ -30,150 +31,147 @@ fn gives(rt: &(impl Abort + AllocGlobal), rows: &[(&str, u64, &str)]) -> Result<
     Ok(())
 }
 
-const LARGER_BID: &str = "goods 2\nbids 3\ndummy 0\n0\t3\t0\t#\n1\t4\t1\t#\n2\t7\t0\t1\t#\n";
-
-const SINGLES_BELOW_TRIPLE: &str =
+pub(super) const SINGLES_BELOW_TRIPLE: &str =
     "goods 3\nbids 4\ndummy 0\n0\t1\t0\t#\n1\t1\t1\t#\n2\t1\t2\t#\n3\t4\t0\t1\t2\t#\n";
 
-const TRIPLE_REACHED: &str =
+pub(super) const TRIPLE_REACHED: &str =
     "goods 3\nbids 4\ndummy 0\n0\t2\t0\t#\n1\t2\t1\t#\n2\t2\t2\t#\n3\t5\t0\t1\t2\t#\n";
+
+static OR_BIDS: &[(&str, u64, &str)] = &[
+    (
+        "goods 0\nbids 0\ndummy 0\n",
+        STEPS,
+        "goods 0\nbids 0\ndummy 0\n",
+    ),
+    (
+        LARGER_BID,
+        STEPS,
+        "goods 2\nbids 2\ndummy 0\n0\t3\t0\t#\n1\t4\t1\t#\n",
+    ),
+    (
+        "goods 2\nbids 4\ndummy 0\n0\t8\t0\t1\t#\n1\t3\t0\t#\n2\t4\t1\t#\n3\t8\t0\t1\t#\n",
+        STEPS,
+        "goods 2\nbids 3\ndummy 0\n0\t3\t0\t#\n1\t4\t1\t#\n2\t8\t0\t1\t#\n",
+    ),
+    (SINGLES_BELOW_TRIPLE, 1, SINGLES_BELOW_TRIPLE),
+    (SINGLES_BELOW_TRIPLE, 8, SINGLES_BELOW_TRIPLE),
+    (
+        TRIPLE_REACHED,
+        4,
+        "goods 3\nbids 3\ndummy 0\n0\t2\t0\t#\n1\t2\t1\t#\n2\t2\t2\t#\n",
+    ),
+    (
+        "goods 2\nbids 4\ndummy 0\n0\t1\t0\t#\n1\t1\t0\t#\n2\t1\t1\t#\n3\t3\t0\t1\t#\n",
+        4,
+        "goods 2\nbids 3\ndummy 0\n0\t1\t0\t#\n1\t1\t1\t#\n2\t3\t0\t1\t#\n",
+    ),
+    (
+        "goods 1\nbids 3\ndummy 0\n2\t1\t0\t#\n0\t3\t0\t#\n1\t2\t0\t#\n",
+        STEPS,
+        "goods 1\nbids 1\ndummy 0\n0\t3\t0\t#\n",
+    ),
+];
 
 #[test]
 fn or_bids(rt: HostRuntime) -> Result<(), Fail> {
-    gives(
-        &rt,
-        &[
-            (
-                "goods 0\nbids 0\ndummy 0\n",
-                STEPS,
-                "goods 0\nbids 0\ndummy 0\n",
-            ),
-            (
-                LARGER_BID,
-                STEPS,
-                "goods 2\nbids 2\ndummy 0\n0\t3\t0\t#\n1\t4\t1\t#\n",
-            ),
-            (
-                "goods 2\nbids 4\ndummy 0\n0\t8\t0\t1\t#\n1\t3\t0\t#\n2\t4\t1\t#\n3\t8\t0\t1\t#\n",
-                STEPS,
-                "goods 2\nbids 3\ndummy 0\n0\t3\t0\t#\n1\t4\t1\t#\n2\t8\t0\t1\t#\n",
-            ),
-            (SINGLES_BELOW_TRIPLE, 1, SINGLES_BELOW_TRIPLE),
-            (SINGLES_BELOW_TRIPLE, 8, SINGLES_BELOW_TRIPLE),
-            (
-                TRIPLE_REACHED,
-                4,
-                "goods 3\nbids 3\ndummy 0\n0\t2\t0\t#\n1\t2\t1\t#\n2\t2\t2\t#\n",
-            ),
-            (
-                "goods 2\nbids 4\ndummy 0\n0\t1\t0\t#\n1\t1\t0\t#\n2\t1\t1\t#\n3\t3\t0\t1\t#\n",
-                4,
-                "goods 2\nbids 3\ndummy 0\n0\t1\t0\t#\n1\t1\t1\t#\n2\t3\t0\t1\t#\n",
-            ),
-            (
-                "goods 1\nbids 3\ndummy 0\n2\t1\t0\t#\n0\t3\t0\t#\n1\t2\t0\t#\n",
-                STEPS,
-                "goods 1\nbids 1\ndummy 0\n0\t3\t0\t#\n",
-            ),
-        ],
-    )
+    gives(&rt, OR_BIDS)
 }
+
+static XOR_BIDDERS: &[(&str, u64, &str)] = &[
+    (
+        "goods 2\nbids 3\ndummy 1\n0\t5\t0\t2\t#\n1\t5\t0\t1\t2\t#\n2\t6\t0\t1\t2\t#\n",
+        STEPS,
+        "goods 2\nbids 2\ndummy 1\n0\t5\t0\t2\t#\n1\t6\t0\t1\t2\t#\n",
+    ),
+    (
+        "goods 2\nbids 2\ndummy 2\n0\t0\t0\t2\t#\n1\t2\t1\t3\t#\n",
+        STEPS,
+        "goods 2\nbids 1\ndummy 1\n0\t2\t1\t2\t#\n",
+    ),
+    (
+        "goods 2\nbids 0\ndummy 3\n",
+        STEPS,
+        "goods 2\nbids 0\ndummy 0\n",
+    ),
+    (
+        "goods 2\nbids 5\ndummy 2\n0\t1\t0\t2\t#\n1\t2\t0\t1\t2\t#\n2\t1\t0\t3\t#\n3\t1\t0\t1\t3\t#\n\
+        4\t2\t0\t1\t3\t#\n",
+        STEPS,
+        "goods 2\nbids 4\ndummy 2\n0\t1\t0\t2\t#\n1\t2\t0\t1\t2\t#\n2\t1\t0\t3\t#\n3\t2\t0\t1\t3\t#\n",
+    ),
+    (
+        "goods 2\nbids 4\ndummy 2\n0\t2\t0\t2\t#\n1\t1\t1\t2\t#\n2\t1\t0\t3\t#\n3\t2\t1\t3\t#\n",
+        STEPS,
+        "goods 2\nbids 4\ndummy 2\n0\t1\t0\t2\t#\n1\t2\t1\t2\t#\n2\t2\t0\t3\t#\n3\t1\t1\t3\t#\n",
+    ),
+    (
+        "%% a comment\n\ngoods 3\nbids 2\ndummy 1\n\n0\t20\t0\t2\t3\t#\n1\t7\t1\t#\n",
+        STEPS,
+        "goods 3\nbids 2\ndummy 1\n0\t7\t1\t#\n1\t20\t0\t2\t3\t#\n",
+    ),
+];
 
 #[test]
 fn xor_bidders(rt: HostRuntime) -> Result<(), Fail> {
-    gives(
-        &rt,
-        &[
-            (
-                "goods 2\nbids 3\ndummy 1\n0\t5\t0\t2\t#\n1\t5\t0\t1\t2\t#\n2\t6\t0\t1\t2\t#\n",
-                STEPS,
-                "goods 2\nbids 2\ndummy 1\n0\t5\t0\t2\t#\n1\t6\t0\t1\t2\t#\n",
-            ),
-            (
-                "goods 2\nbids 2\ndummy 2\n0\t0\t0\t2\t#\n1\t2\t1\t3\t#\n",
-                STEPS,
-                "goods 2\nbids 1\ndummy 1\n0\t2\t1\t2\t#\n",
-            ),
-            (
-                "goods 2\nbids 0\ndummy 3\n",
-                STEPS,
-                "goods 2\nbids 0\ndummy 0\n",
-            ),
-            (
-                "goods 2\nbids 5\ndummy 2\n0\t1\t0\t2\t#\n1\t2\t0\t1\t2\t#\n2\t1\t0\t3\t#\n3\t1\t0\t1\t3\t#\n\
-                4\t2\t0\t1\t3\t#\n",
-                STEPS,
-                "goods 2\nbids 4\ndummy 2\n0\t1\t0\t2\t#\n1\t2\t0\t1\t2\t#\n2\t1\t0\t3\t#\n3\t2\t0\t1\t3\t#\n",
-            ),
-            (
-                "goods 2\nbids 4\ndummy 2\n0\t2\t0\t2\t#\n1\t1\t1\t2\t#\n2\t1\t0\t3\t#\n3\t2\t1\t3\t#\n",
-                STEPS,
-                "goods 2\nbids 4\ndummy 2\n0\t1\t0\t2\t#\n1\t2\t1\t2\t#\n2\t2\t0\t3\t#\n3\t1\t1\t3\t#\n",
-            ),
-            (
-                "%% a comment\n\ngoods 3\nbids 2\ndummy 1\n\n0\t20\t0\t2\t3\t#\n1\t7\t1\t#\n",
-                STEPS,
-                "goods 3\nbids 2\ndummy 1\n0\t7\t1\t#\n1\t20\t0\t2\t3\t#\n",
-            ),
-        ],
-    )
+    gives(&rt, XOR_BIDDERS)
 }
+
+static DECIMALS_AND_MANY_GOODS: &[(&str, u64, &str)] = &[
+    (
+        "goods 2\nbids 3\ndummy 0\n0 1.50 0 #\n1 02.25 1 #\n2 3.75 0 1 #\n",
+        STEPS,
+        "goods 2\nbids 2\ndummy 0\n0\t1.5\t0\t#\n1\t2.25\t1\t#\n",
+    ),
+    (
+        "goods 2\nbids 3\ndummy 0\n0 1.50 0 #\n1 02.25 1 #\n2 3.750001 0 1 #\n",
+        STEPS,
+        "goods 2\nbids 3\ndummy 0\n0\t1.5\t0\t#\n1\t2.25\t1\t#\n2\t3.750001\t0\t1\t#\n",
+    ),
+    (
+        "goods 4096\nbids 1\ndummy 0\n0\t1\t4095\t#\n",
+        STEPS,
+        "goods 4096\nbids 1\ndummy 0\n0\t1\t4095\t#\n",
+    ),
+    (
+        "goods 4096\nbids 1\ndummy 65536\n0\t1\t4095\t69631\t#\n",
+        STEPS,
+        "goods 4096\nbids 1\ndummy 1\n0\t1\t4095\t4096\t#\n",
+    ),
+    (
+        "goods 65\nbids 2\ndummy 1\n0 1 64 65 #\n1 2 63 64 #\n",
+        STEPS,
+        "goods 65\nbids 2\ndummy 1\n0\t2\t63\t64\t#\n1\t1\t64\t65\t#\n",
+    ),
+    (
+        "goods 257\nbids 1\ndummy 0\n0 1 256 #\n",
+        STEPS,
+        "goods 257\nbids 1\ndummy 0\n0\t1\t256\t#\n",
+    ),
+];
 
 #[test]
 fn decimals_and_many_goods(rt: HostRuntime) -> Result<(), Fail> {
-    gives(
-        &rt,
-        &[
-            (
-                "goods 2\nbids 3\ndummy 0\n0 1.50 0 #\n1 02.25 1 #\n2 3.75 0 1 #\n",
-                STEPS,
-                "goods 2\nbids 2\ndummy 0\n0\t1.5\t0\t#\n1\t2.25\t1\t#\n",
-            ),
-            (
-                "goods 2\nbids 3\ndummy 0\n0 1.50 0 #\n1 02.25 1 #\n2 3.750001 0 1 #\n",
-                STEPS,
-                "goods 2\nbids 3\ndummy 0\n0\t1.5\t0\t#\n1\t2.25\t1\t#\n2\t3.750001\t0\t1\t#\n",
-            ),
-            (
-                "goods 4096\nbids 1\ndummy 0\n0\t1\t4095\t#\n",
-                STEPS,
-                "goods 4096\nbids 1\ndummy 0\n0\t1\t4095\t#\n",
-            ),
-            (
-                "goods 4096\nbids 1\ndummy 65536\n0\t1\t4095\t69631\t#\n",
-                STEPS,
-                "goods 4096\nbids 1\ndummy 1\n0\t1\t4095\t4096\t#\n",
-            ),
-            (
-                "goods 65\nbids 2\ndummy 1\n0 1 64 65 #\n1 2 63 64 #\n",
-                STEPS,
-                "goods 65\nbids 2\ndummy 1\n0\t2\t63\t64\t#\n1\t1\t64\t65\t#\n",
-            ),
-            (
-                "goods 257\nbids 1\ndummy 0\n0 1 256 #\n",
-                STEPS,
-                "goods 257\nbids 1\ndummy 0\n0\t1\t256\t#\n",
-            ),
-        ],
-    )
+    gives(&rt, DECIMALS_AND_MANY_GOODS)
 }
+
+static REFUSALS: &[(&str, bool, u64, u8, &str)] = &[
+    (TRIPLE_REACHED, false, 3, 3, "step limit at 0,1,2\n"),
+    (LARGER_BID, false, 2, 3, "step limit at 0,1\n"),
+    (
+        "goods 2\nbids 2\ndummy 2\n0 1 0 2 #\n1 1 1 2 3 #\n",
+        false,
+        1,
+        2,
+        "line 5: TwoDummies\n",
+    ),
+    ("goods 0\n", true, 1, 5, "Device\n"),
+    ("Goods 0\n", true, 1, 2, "line 1: Header\n"),
+    ("", false, 1, 2, "line 1: Missing\n"),
+];
 
 #[test]
 fn refusals(rt: HostRuntime) -> Result<(), Fail> {
-    for (text, fails, limit, status, line) in &[
-        (TRIPLE_REACHED, false, 3, 3, "step limit at 0,1,2\n"),
-        (LARGER_BID, false, 2, 3, "step limit at 0,1\n"),
-        (
-            "goods 2\nbids 2\ndummy 2\n0 1 0 2 #\n1 1 1 2 3 #\n",
-            false,
-            1,
-            2,
-            "line 5: TwoDummies\n",
-        ),
-        ("goods 0\n", true, 1, 5, "Device\n"),
-        ("Goods 0\n", true, 1, 2, "line 1: Header\n"),
-        ("", false, 1, 2, "line 1: Missing\n"),
-    ] {
+    for (text, fails, limit, status, line) in REFUSALS {
         let answer = normal(rt.alloc(), text.as_bytes(), *fails, *limit)?;
         expect(&rt, &answer, *status, "", line);
     }
