@@ -1,8 +1,8 @@
 -- The place that `xor_value` answers is the least of a best atom: no atom before it is one, so the search for the first passes them.
-use Rattle.std.proofs.Common.{◌≡◌, ◌≢◌, ℕ, ◌<◌, Bool, true, false, cond, ◌&&◌, ◌==◌, List, [], length, get_or, Option, Some, None, refl, ap, ◌∙◌, arith, ⊎_elim}
-use Rattle.std.specs.Prelude.{All, IfSome, IsNone, nat_lt}
+use Rattle.std.proofs.Common.{◌≡◌, ◌≢◌, ℕ, ◌<◌, Bool, true, false, ◌&&◌, ◌==◌, List, [], length, get_or, Option, Some, None, refl, arith}
+use Rattle.std.specs.Prelude.{All, IfSome, IsNone}
 use Rattle.std.specs.List.{position_or_len}
-use Rattle.std.proofs.lemmas.Bool.{and_from, and_left, and_right, cases_Bool, eq-eqb, ne_eqb, lt-ltb, le-ltb}
+use Rattle.std.proofs.lemmas.Bool.{eqb-true, and_from, and_left, eq-eqb, lt-ltb, le-ltb}
 use Rattle.std.proofs.lemmas.List.Sums.{position_or_len_is}
 use Rattle.goods_set.specs.Bundles.{is_inside}
 use Rattle.valuation.specs.declared.atom.Atom.{Atom}
@@ -14,11 +14,7 @@ abbrev is_best : ℕ → List ℕ → Atom (List ℕ) → Bool
 is_best value bundle a = is_inside a.bundle bundle && (a.price == value)
 
 not_best : (value : ℕ) (bundle : List ℕ) (a : Atom (List ℕ)) → (is_inside a.bundle bundle ≡ true → a.price ≢ value) → is_best value bundle a ≡ false
-not_best value bundle a h =
-    ⊎_elim
-    (λ (t : is_inside a.bundle bundle ≡ true). and_right (is_inside a.bundle bundle) (a.price == value) (ne_eqb a.price value (h t)))
-    (λ (t : is_inside a.bundle bundle ≡ false). and_left (is_inside a.bundle bundle) (a.price == value) t)
-    (cases_Bool (is_inside a.bundle bundle))
+not_best value bundle a h = grind (arith, eqb-true)
 
 at_first : (atoms : List (Atom (List ℕ))) (bundle : List ℕ) (i : ℕ) → IsFirstBest atoms bundle i → best_place atoms bundle ≡ Some i
 at_first atoms bundle i h =
@@ -29,7 +25,7 @@ at_first atoms bundle i h =
     let here : is_best value bundle (get_or atoms i d) ≡ true = and_from _ _ best.0 (eq-eqb _ _ best.1) in
     let e : position_or_len (is_best value bundle) atoms ≡ i =
     position_or_len_is (is_best value bundle) atoms i d (omega arith) (λ k l. not_best value bundle (get_or atoms k d) (h.first k l d)) (λ l. here) in
-    ap (λ (n : ℕ). cond (nat_lt n (length atoms)) (Some n) None) e ∙ ap (λ (b : Bool). cond b (Some i) None) (lt-ltb i (length atoms) within)
+    rw (e, lt-ltb i (length atoms) within)
 
 nowhere : (atoms : List (Atom (List ℕ))) (bundle : List ℕ) → All (λ a. is_inside a.bundle bundle ≡ false) atoms → best_place atoms bundle ≡ None
 nowhere atoms bundle none =
@@ -37,8 +33,7 @@ nowhere atoms bundle none =
     let d : Atom (List ℕ) = record { bundle = []; price = 0 } in
     let e : position_or_len (is_best value bundle) atoms ≡ length atoms =
     position_or_len_is (is_best value bundle) atoms (length atoms) d (omega arith) (λ k l. and_left _ _ (none k d l)) (λ l. absurd (omega arith)) in
-    ap (λ (n : ℕ). cond (nat_lt n (length atoms)) (Some n) None) e
-    ∙ ap (λ (b : Bool). cond b (Some (length atoms)) None) (le-ltb (length atoms) (length atoms) (omega arith))
+    rw (e, le-ltb (length atoms) (length atoms) (omega arith))
 
 pub place_of_best : (atoms : List (Atom (List ℕ))) (bundle : List ℕ) (place : Option ℕ) → IfSome place (λ i. IsFirstBest atoms bundle i)
     → (IsNone place → All (λ a. is_inside a.bundle bundle ≡ false) atoms) → best_place atoms bundle ≡ place

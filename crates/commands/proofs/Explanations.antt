@@ -1,10 +1,10 @@
 -- The rows of bids, one by one, as `cats explain` prints them.
-use Rattle.std.proofs.Common.{◌≡◌, ◌<◌, ◌+◌, ◌++◌, ℕ, List, length, map, get_or, sym, ap, ap₂, ◌∙◌}
+use Rattle.std.proofs.Common.{◌≡◌, ◌<◌, ◌+◌, ◌++◌, ℕ, List, length, map, get_or, sym, ap, ◌∙◌}
 use Rattle.std.specs.List.{flat_map, range_with_len}
 use Rattle.std.proofs.lemmas.List.{get_or-map}
 use Rattle.bid_file.specs.Files.{PlainBid, PlainFile}
 use Rattle.analysis.specs.Bids.{bid_at}
-use Rattle.analysis.specs.Reasons.{PlainReason, Zero, plain_reason, reason_at}
+use Rattle.analysis.specs.Reasons.{Zero, plain_reason, reason_at}
 use Rattle.analysis.specs.declared.reasons.reason.Reason.{Reason}
 use Rattle.commands.specs.ExplanationTexts.{explanation_row}
 use Rattle.commands.proofs.Lines.{lines_more}
@@ -16,8 +16,6 @@ pub row_of_bid : (file : PlainFile) (reasons : List Reason) (i : ℕ) (bid : Pla
     → after ≡ before ++ explanation_row i bid (plain_reason reason)
     → after ≡ header ++ flat_map (λ j. explanation_row j (bid_at file j) (reason_at (map plain_reason reasons) j)) (range_with_len 0 (i + 1))
 row_of_bid file reasons i bid reason within is_reason is_bid header before after so_far more =
-    let row : ℕ → List ℕ = λ j. explanation_row j (bid_at file j) (reason_at (map plain_reason reasons) j) in
     let own : plain_reason reason ≡ reason_at (map plain_reason reasons) i =
     ap plain_reason is_reason ∙ sym (get_or-map plain_reason reasons i reason Zero within) in
-    more ∙ ap₂ (λ (b : PlainBid) (r : PlainReason). before ++ explanation_row i b r) is_bid own
-    ∙ ap (λ (xs : List ℕ). xs ++ row i) so_far ∙ lines_more row header i
+    rw (more, so_far, is_bid, own) (lines_more (λ j. explanation_row j (bid_at file j) (reason_at (map plain_reason reasons) j)) header i)

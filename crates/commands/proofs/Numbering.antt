@@ -1,7 +1,7 @@
 -- The numbers of the bids behind an auction's atoms, bid by bid: each number is put at the end of the OR bidder's list, or of the list
 -- of one XOR bidder. There are as many numbers as atoms.
 use Rattle.std.proofs.Common.{◌≡◌, ℕ, suc, ◌+◌, ◌<◌, Bool, true, false, cond, List, [], ◌∷◌, ◌++◌, length, map, get_or, set, take, Some, None, is_none}
-use Rattle.std.proofs.Common.{Global, refl, sym, ap, ◌∙◌, arith, append_assoc, append-nil, add-zero, zero-add}
+use Rattle.std.proofs.Common.{Global, refl, sym, ap, ◌∙◌, arith, append_assoc, append-nil, zero-add}
 use Rattle.std.specs.Prelude.{Vec, filter}
 use Rattle.std.specs.List.{range_with_len}
 use Rattle.std.proofs.lemmas.Bool.{ne_eqb, eq-eqb}
@@ -15,11 +15,7 @@ use Rattle.commands.proofs.ByNumber.{by_number-same, by_number-set, seen_by_numb
 
 length-numbers_from : (p : PlainBid → Bool) (n : ℕ) (bids : List PlainBid) → length (numbers_from p n bids) ≡ length (filter p bids)
 length-numbers_from p n [] = refl
-length-numbers_from p n (b ∷ bids) =
-    elim (p b) as (λ (t : Bool). length (cond t (n ∷ []) [] ++ numbers_from p (suc n) bids) ≡ length (cond t (b ∷ filter p bids) (filter p bids))) [
-      | true ↦ ap suc (length-numbers_from p (suc n) bids)
-      | false ↦ length-numbers_from p (suc n) bids
-    ]
+length-numbers_from p n (b ∷ bids) = grind (arith, length-numbers_from p (suc n) bids)
 
 pub length-or_numbers : (bids : List PlainBid) → length (or_numbers bids) ≡ length (or_atoms_of bids)
 length-or_numbers bids = length-numbers_from (λ b. is_none b.dummy) 0 bids ∙ sym (length-map (filter (λ b. is_none b.dummy) bids) atom_of)
@@ -31,11 +27,9 @@ length-xor_numbers bids d = length-numbers_from (λ b. is_dummy d b.dummy) 0 bid
 
 numbers_from-push : (p : PlainBid → Bool) (n : ℕ) (bids : List PlainBid) (b : PlainBid) → numbers_from p n (bids ++ b ∷ []) ≡ numbers_from p n bids
     ++ cond (p b) ((n + length bids) ∷ []) []
-numbers_from-push p n [] b = append-nil (cond (p b) (n ∷ []) []) ∙ ap (λ (m : ℕ). cond (p b) (m ∷ []) []) (sym (add-zero n))
+numbers_from-push p n [] b = grind arith
 numbers_from-push p n (x ∷ xs) b =
-    let e : suc n + length xs ≡ n + length (x ∷ xs) = omega arith in
-    ap (λ (r : List ℕ). cond (p x) (n ∷ []) [] ++ r) (numbers_from-push p (suc n) xs b ∙ ap (λ (m : ℕ). numbers_from p (suc n) xs ++ cond (p b) (m ∷ []) []) e)
-    ∙ sym (append_assoc (cond (p x) (n ∷ []) []) (numbers_from p (suc n) xs) (cond (p b) ((n + length (x ∷ xs)) ∷ []) []))
+    let e : suc n + length xs ≡ n + length (x ∷ xs) = omega arith in rw (numbers_from-push p (suc n) xs b, e, append_assoc)
 
 abbrev items : Vec ℕ Global → List ℕ
 items v = v.items
@@ -54,19 +48,18 @@ module _ (bids : List PlainBid) (i : ℕ) (b : PlainBid) (l : i < length bids) (
   more : (p : PlainBid → Bool) → numbers_from p 0 (take (i + 1) bids) ≡ numbers_from p 0 (take i bids) ++ cond (p b) (i ∷ []) []
   more p =
       let long : 0 + length (take i bids) ≡ i = zero-add (length (take i bids)) ∙ length-take-le i bids (omega arith) in
-      ap (numbers_from p 0) (take_more bids i b l ∙ ap (λ (c : PlainBid). take i bids ++ c ∷ []) here) ∙ numbers_from-push p 0 (take i bids) b
-      ∙ ap (λ (m : ℕ). numbers_from p 0 (take i bids) ++ cond (p b) (m ∷ []) []) long
+      rw (take_more bids i b l, here, numbers_from-push, long)
 
   kept : (p : PlainBid → Bool) → p b ≡ true → numbers_from p 0 (take (i + 1) bids) ≡ numbers_from p 0 (take i bids) ++ i ∷ []
-  kept p t = more p ∙ ap (λ (c : Bool). numbers_from p 0 (take i bids) ++ cond c (i ∷ []) []) t
+  kept p t = rw (more p, t)
 
   left_out : (p : PlainBid → Bool) → p b ≡ false → numbers_from p 0 (take (i + 1) bids) ≡ numbers_from p 0 (take i bids)
-  left_out p t = more p ∙ ap (λ (c : Bool). numbers_from p 0 (take i bids) ++ cond c (i ∷ []) []) t ∙ append-nil (numbers_from p 0 (take i bids))
+  left_out p t = rw (more p, t, append-nil)
 
   -- a bid without a dummy good is the OR bidder's
   pub number-or : (numbers longer : List ℕ) → b.dummy ≡ None → numbers ≡ or_numbers (take i bids) → longer ≡ numbers ++ i ∷ []
       → longer ≡ or_numbers (take (i + 1) bids)
-  number-or numbers longer n h e = e ∙ ap (λ (xs : List ℕ). xs ++ i ∷ []) h ∙ sym (kept (λ b. is_none b.dummy) (ap is_none n))
+  number-or numbers longer n h e = rw (e, h, kept (λ b. is_none b.dummy) (ap is_none n))
 
   pub xor_numbers-same : b.dummy ≡ None → (n : ℕ) → map (xor_numbers (take (i + 1) bids)) (range_with_len 0 n)
       ≡ map (xor_numbers (take i bids)) (range_with_len 0 n)

@@ -1,5 +1,5 @@
 -- The lines of the XOR bidders, one by one: one more bidder's line, made piece by piece, is put behind those of the bidders before it.
-use Rattle.std.proofs.Common.{◌≡◌, ℕ, ◌+◌, ◌<◌, List, ◌∷◌, ◌++◌, length, map, get_or, Global, sym, ap, ap₂, ◌∙◌, arith, append_assoc}
+use Rattle.std.proofs.Common.{◌≡◌, ℕ, ◌+◌, ◌<◌, List, ◌∷◌, ◌++◌, length, map, get_or, Global, sym, ap, ◌∙◌, arith, append_assoc}
 use Rattle.std.specs.Prelude.{Vec, Option, Result, Ok, Err, OnOk, is_ok, if◌then◌else◌, All, codes, decimal}
 use Rattle.std.specs.List.{flat_map, range_with_len}
 use Rattle.std.proofs.lemmas.List.Elements.{All-weaker}
@@ -26,9 +26,7 @@ pub line_added : (file : PlainFile) (bundle old before after : List ℕ) (d good
     → good ≡ file.goods + d → atoms ≡ xor_atoms_of file.bids d → numbers ≡ xor_numbers file.bids d
     → after ≡ old ++ flat_map (dummy_line file bundle) (range_with_len 0 (d + 1))
 line_added file bundle old before after d good atoms numbers b a g seen listed =
-    let line : xor_line good atoms numbers bundle ≡ dummy_line file bundle d =
-    ap (λ (m : ℕ). xor_line m atoms numbers bundle) g ∙ ap₂ (λ (xs : List (Atom (List ℕ))) (ms : List ℕ). xor_line (file.goods + d) xs ms bundle) seen listed in
-    a ∙ ap₂ (λ (xs ys : List ℕ). xs ++ ys) b line ∙ lines_more (dummy_line file bundle) old d
+    rw (a, b, g, seen, listed) (lines_more (dummy_line file bundle) old d)
 
 -- if it succeeded, this was appended
 pub appended : {T E : Type 0} (r : Result T E) (new longer old : List ℕ) → new ≡ (if is_ok r then longer else old) → OnOk r (new ≡ longer)
@@ -41,13 +39,9 @@ pub xor_line_made : (good value : ℕ) (place : Option ℕ) (atoms : List (Atom 
     → keyword ≡ old ++ codes "xor" → named ≡ keyword ++ 32 ∷ decimal good → spaced ≡ named ++ codes " " → priced ≡ spaced ++ price_text value
     → printed ≡ priced ++ numbers_text numbers (option_places place) → after ≡ printed ++ codes "\n" → after ≡ old ++ xor_line good atoms numbers bundle
 xor_line_made good value place atoms numbers bundle old keyword named spaced priced printed after v p k n s c t a =
-    let rest : List ℕ = numbers_text numbers (option_places (best_place atoms bundle)) in
-    let printed_best : printed ≡ priced ++ rest = t ∙ ap (λ (o : Option ℕ). priced ++ numbers_text numbers (option_places o)) (sym p) in
-    let priced_value : priced ≡ spaced ++ price_text (xor_value atoms bundle) = c ∙ ap (λ (m : ℕ). spaced ++ price_text m) v in
-    a ∙ ap (λ (xs : List ℕ). xs ++ codes "\n") (printed_best ∙ ap (λ (xs : List ℕ). xs ++ rest) (priced_value
-    ∙ ap (λ (xs : List ℕ). xs ++ price_text (xor_value atoms bundle)) (s
-    ∙ ap (λ (xs : List ℕ). xs ++ codes " ") (n ∙ ap (λ (xs : List ℕ). xs ++ 32 ∷ decimal good) k))))
-    ∙ joined old (codes "xor") (32 ∷ decimal good) (codes " ") (price_text (xor_value atoms bundle)) rest (codes "\n")
+    rw (a, t, c, s, n, k, v, ← p)
+    (joined old (codes "xor") (32 ∷ decimal good) (codes " ") (price_text (xor_value atoms bundle))
+    (numbers_text numbers (option_places (best_place atoms bundle))) (codes "\n"))
   where
     joined : (a b c d e f g : List ℕ) → a ++ b ++ c ++ d ++ e ++ f ++ g ≡ a ++ (b ++ c ++ d ++ e ++ f ++ g)
     joined a b c d e f g = simp append_assoc

@@ -30,8 +30,7 @@ text_fault-of_bytes fine text = elim (nat_le (length text) MAX_STREAM)
 
 -- want of memory is on no line
 pub memory_line : (fine : Option FinePrices) (text : List ℕ) (why : ReadFault) → RefusesText fine text why → why.kind ≡ NoMemory → why.line ≡ 0
-memory_line fine text why (inl found) is =
-    absurd ((subst (λ (fault : Option ReadFault). IfSome fault IsFaultOfBytes) found (text_fault-of_bytes fine text)).1 is)
+memory_line fine text why (inl found) is = absurd ((rw found at (text_fault-of_bytes fine text)).1 is)
 memory_line fine text why (inr wants) is = ap (λ (fault : ReadFault). fault.line) wants.0
 
 -- a text that may be as long as it is
@@ -71,7 +70,7 @@ module _ (text : List ℕ) (long : MAX_STREAM < length text) (why : ReadFault) w
 
   pub long_fed : (old new : Fed) → old ≡ record { limit = MAX_STREAM; bytes = []; failed = None } → FeedsAs old text new (Err why)
       → RefusesText None text why
-  long_fed old new is fed = long_refused new (subst (λ (o : Fed). FeedsAs o text new (Err why)) is fed)
+  long_fed old new is fed = long_refused new (rw is at fed)
 
   -- no prices are rounded
   pub long_written : (fine : Option FinePrices) → is_some fine ≡ false → RefusesText None text why → RefusesText fine text why

@@ -1,12 +1,10 @@
 -- The numbers in a row of `cats sizes`: how many bids have no dummy good, and which dummy goods the bids so far have.
-use Rattle.std.proofs.Common.{◌≡◌, ℕ, suc, ◌+◌, ◌<◌, Bool, true, false, cond, List, [], ◌∷◌, ◌++◌, length, map, set, take, refl, sym}
-use Rattle.std.proofs.Common.{ap, ap₂, ◌∙◌, arith, inl, inr, subst, Option, Some, None, ⊎_elim}
+use Rattle.std.proofs.Common.{◌≡◌, ℕ, ◌+◌, ◌<◌, Bool, true, false, cond, List, [], ◌∷◌, ◌++◌, length, map, set, take, refl, sym}
+use Rattle.std.proofs.Common.{ap, ap₂, ◌∙◌, arith, inl, inr, subst, Option, Some, None}
 use Rattle.std.proofs.Common.{Global}
 use Rattle.std.specs.Prelude.{codes, decimal, filter, is_none, is_some, ◌||◌, Vec}
 use Rattle.std.specs.List.{range_with_len, slice_get}
 use Rattle.std.proofs.lemmas.Grind.{flat_map-append}
-use Rattle.std.proofs.Math.Bool.{or-false, or-true}
-use Rattle.std.proofs.lemmas.Bool.{cases_Bool, ne_eqb, eq-eqb}
 use Rattle.std.proofs.lemmas.List.{append_assoc}
 use Rattle.std.proofs.lemmas.List.Filters.{length-filter_more}
 use Rattle.std.proofs.lemmas.List.Folds.{list_any_more}
@@ -46,8 +44,7 @@ heavy_numbers file heavy = sym (flat_map-append tabbed (map decimal (sizes_of fi
 -- the numbers of a bid file, put behind a text
 pub sizes_put : (none sizes given text longer numbers : List ℕ) → none ≡ [] → sizes ≡ none ++ numbers → given ≡ sizes → longer ≡ text ++ given
     → longer ≡ text ++ numbers
-sizes_put none sizes given text longer numbers empty is same put =
-    put ∙ ap (λ (ns : List ℕ). text ++ ns) (same ∙ is ∙ ap (λ (ns : List ℕ). ns ++ numbers) empty)
+sizes_put none sizes given text longer numbers empty is same put = rw (put, same, is, empty)
 
 -- ---- the numbers of the file that an input gives
 
@@ -103,54 +100,37 @@ module _ (Gives : PlainFile → Type 0) (Refuses : ReadFault → Type 0) (option
 
 marks_counted : (p : ℕ → Bool) (xs : List ℕ) → length (filter (λ m. m) (map p xs)) ≡ length (filter p xs)
 marks_counted p [] = refl
-marks_counted p (x ∷ xs) =
-    ⊎_elim (λ (e : p x ≡ true). rw e (ap suc (marks_counted p xs))) (λ (e : p x ≡ false). rw e (marks_counted p xs)) (cases_Bool (p x))
+marks_counted p (x ∷ xs) = grind (arith, marks_counted p xs)
 
 pub dummies_counted : (count : ℕ) (marks : List Bool) (dummy : ℕ) (bids : List PlainBid) → count ≡ length (filter (λ m. m) marks)
     → marks ≡ map (has_dummy bids) (range_with_len 0 dummy) → count ≡ length (filter (has_dummy bids) (range_with_len 0 dummy))
-dummies_counted count marks dummy bids c m =
-    c ∙ ap (λ (ms : List Bool). length (filter (λ m. m) ms)) m ∙ marks_counted (has_dummy bids) (range_with_len 0 dummy)
-
-none_there : (dummy : Option ℕ) → is_some dummy ≡ false → is_none dummy ≡ true
-none_there None e = refl
-none_there (Some d) e = cc
-
-some_there : (dummy : Option ℕ) → is_some dummy ≡ true → is_none dummy ≡ false
-some_there None e = cc
-some_there (Some d) e = refl
+dummies_counted count marks dummy bids c m = rw (c, m) (marks_counted (has_dummy bids) (range_with_len 0 dummy))
 
 -- one more bid
 module _ (bids : List PlainBid) (i : ℕ) (b : PlainBid) (there : slice_get bids i ≡ Some b) where
-  has_more : (dummy : Option ℕ) → b.dummy ≡ dummy → (d : ℕ) → has_dummy (take (i + 1) bids) d ≡ (has_dummy (take i bids) d || is_dummy d dummy)
-  has_more dummy is d = list_any_more (λ (c : PlainBid). is_dummy d c.dummy) bids i b (slice_get_within bids i b there)
-      ∙ ap (λ (o : Option ℕ). has_dummy (take i bids) d || is_dummy d o) (ap (λ (c : PlainBid). c.dummy) (get_or_from_slice_get bids i b b there) ∙ is)
+  has_more : (d : ℕ) → has_dummy (take (i + 1) bids) d ≡ (has_dummy (take i bids) d || is_dummy d b.dummy)
+  has_more d = list_any_more (λ (c : PlainBid). is_dummy d c.dummy) bids i b (slice_get_within bids i b there)
+      ∙ ap (λ (c : PlainBid). has_dummy (take i bids) d || is_dummy d c.dummy) (get_or_from_slice_get bids i b b there)
 
-  or_more : (count : ℕ) → count ≡ length (filter (λ c. is_none c.dummy) (take i bids))
-      → count + cond (is_none b.dummy) 1 0 ≡ length (filter (λ c. is_none c.dummy) (take (i + 1) bids))
-  or_more count e =
-      ap (λ (n : ℕ). n + cond (is_none b.dummy) 1 0) e
-      ∙ ap (λ (c : PlainBid). length (filter (λ c. is_none c.dummy) (take i bids)) + cond (is_none c.dummy) 1 0)
-      (sym (get_or_from_slice_get bids i b b there))
-      ∙ sym (length-filter_more (λ (c : PlainBid). is_none c.dummy) bids i b (slice_get_within bids i b there))
+  or_more : length (filter (λ c. is_none c.dummy) (take (i + 1) bids))
+      ≡ length (filter (λ c. is_none c.dummy) (take i bids)) + cond (is_none b.dummy) 1 0
+  or_more = length-filter_more (λ (c : PlainBid). is_none c.dummy) bids i b (slice_get_within bids i b there)
+      ∙ ap (λ (c : PlainBid). length (filter (λ c. is_none c.dummy) (take i bids)) + cond (is_none c.dummy) 1 0) (get_or_from_slice_get bids i b b there)
 
   pub or_counted : (count : ℕ) → count ≡ length (filter (λ c. is_none c.dummy) (take i bids)) → is_some b.dummy ≡ false
       → count + 1 ≡ length (filter (λ c. is_none c.dummy) (take (i + 1) bids))
-  or_counted count e none = ap (λ (m : Bool). count + cond m 1 0) (sym (none_there b.dummy none)) ∙ or_more count e
+  or_counted count e none = grind (arith, or_more)
 
   pub xor_passed : (count : ℕ) → count ≡ length (filter (λ c. is_none c.dummy) (take i bids)) → is_some b.dummy ≡ true
       → count ≡ length (filter (λ c. is_none c.dummy) (take (i + 1) bids))
-  xor_passed count e some =
-      let same : count ≡ count + 0 = omega arith in same ∙ ap (λ (m : Bool). count + cond m 1 0) (sym (some_there b.dummy some)) ∙ or_more count e
+  xor_passed count e some = grind (arith, or_more)
 
   module _ (n : ℕ) (marks : List Bool) (h : marks ≡ map (has_dummy (take i bids)) (range_with_len 0 n)) where
     pub marks_same : b.dummy ≡ None → marks ≡ map (has_dummy (take (i + 1) bids)) (range_with_len 0 n)
     marks_same none =
-        by_number-same (has_dummy (take i bids)) marks n h (has_dummy (take (i + 1) bids)) false
-        (λ k. has_more None none k ∙ or-false (has_dummy (take i bids) k))
+        by_number-same (has_dummy (take i bids)) marks n h (has_dummy (take (i + 1) bids)) false (λ k. grind (arith, has_more k))
 
     pub marks_put : (e : ℕ) → b.dummy ≡ Some e → e < n → set marks e true ≡ map (has_dummy (take (i + 1) bids)) (range_with_len 0 n)
     marks_put e some below =
-        by_number-set (has_dummy (take i bids)) marks n h (has_dummy (take (i + 1) bids)) false e below true
-        (has_more (Some e) some e ∙ ap (λ (m : Bool). has_dummy (take i bids) e || m) (eq-eqb e e refl) ∙ or-true (has_dummy (take i bids) e))
-        (λ k differ. has_more (Some e) some k ∙ ap (λ (m : Bool). has_dummy (take i bids) k || m) (ne_eqb e k (λ f. differ (sym f)))
-        ∙ or-false (has_dummy (take i bids) k))
+        by_number-set (has_dummy (take i bids)) marks n h (has_dummy (take (i + 1) bids)) false e below true (grind (arith, has_more e))
+        (λ k differ. grind (arith, has_more k))

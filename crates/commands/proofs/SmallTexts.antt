@@ -12,11 +12,14 @@ use Rattle.valuation.specs.declared.search.options.SearchOptions.{SearchOptions}
 use Rattle.prune.specs.SearchSteps.{first_refused}
 use Rattle.canon.specs.Canonical.{canonical_file}
 use Rattle.canon.specs.Comparing.{SpellsWithinLimit}
+use Rattle.rounding.specs.Texts.{rounded_text}
+use Rattle.rounding.specs.declared.replacement.FinePrices.{FinePrices}
 use Rattle.analysis.specs.Differences.{AreAllDifferences, PlainDifferences}
 use Rattle.commands.specs.DiffTexts.{bidder_rows, change_row, diff_header, diff_text, goods_row, goods_rows}
 use Rattle.commands.specs.Outcomes.{Outcome, Prints, LacksGood, LacksBid, ExceedsSteps, ExceedsAtBid, compare_outcome}
 use Rattle.commands.specs.Buffers.{PutsInto}
 use Rattle.commands.specs.OneText.{MakesOf}
+use Rattle.commands.specs.Roundings.{RoundsText, report_of}
 use Rattle.commands.specs.TwoTexts.{ComparesTexts, DiffsTexts}
 
 -- texts that have other bytes at an index are not equal
@@ -36,6 +39,11 @@ makes outcome text expected none is = record { file = spelled_file text; spelled
 pub makes_only : (outcome : PlainFile → Outcome) (text : List ℕ) (expected : Outcome) → MakesOf outcome text expected
     → outcome (spelled_file text) ≡ expected
 makes_only outcome text expected m = ap outcome (sym (says_spelled text m.file m.spelled)) ∙ m.made
+
+pub rounds : (fine : FinePrices) (text out report : List ℕ) → first_fault out ≡ None → out ≡ rounded_text fine text → report ≡ report_of fine text
+    → RoundsText fine text out report
+rounds fine text out report none is reports =
+    record { file = spelled_file out; spelled = spells_from_no_fault out none; is_text = is; is_report = reports }
 
 -- what is printed, if anything is
 abbrev pub text_in : Outcome → List ℕ

@@ -1,8 +1,7 @@
 -- Why a text is not rounded.
-use Rattle.std.proofs.Common.{◌≡◌, List, ℕ, Option, Some, Err, refl, sym, ⊎_elim, subst}
-use Rattle.std.specs.Prelude.{IfSome}
-use Rattle.cats_text.proofs.Texts.FaultKinds.{IsFaultOfBytes, first_fault-of_bytes}
-use Rattle.cats_text.specs.Faults.{first_fault, fault_at}
+use Rattle.std.proofs.Common.{◌≡◌, List, ℕ, Some, Err, refl, inl, inr}
+use Rattle.cats_text.proofs.Texts.FaultKinds.{first_fault-of_bytes}
+use Rattle.cats_text.specs.Faults.{first_fault}
 use Rattle.cats_text.specs.declared.read_fault.Kind.{Kind}
 use Rattle.cats_text.specs.declared.read_fault.Kind.TheVariants.{Memory as NoMemory}
 use Rattle.cats_text.specs.declared.read_fault.ReadFault.{ReadFault}
@@ -17,15 +16,10 @@ module _ (P : CanonFault → Type 0) (fine : FinePrices) (text : List ℕ)
     (first : (fault : ReadFault) → first_fault (rounded_text fine text) ≡ Some fault → P (Read fault)) (memory : WantsMemoryToRound fine text → P Memory)
   where
     by_kind : (why : ReadFault) (kind : Kind) → why.kind ≡ kind → first_fault (rounded_text fine text) ≡ Some why → P (refusal_by_kind why kind)
-    by_kind why NoMemory is found =
-        absurd ((subst (λ (fault : Option ReadFault). IfSome fault IsFaultOfBytes) found (first_fault-of_bytes (rounded_text fine text))).1 is)
+    by_kind why NoMemory is found = absurd ((rw found at (first_fault-of_bytes (rounded_text fine text))).1 is)
     by_kind why kind is found = first why found
 
     -- the rounded text has a fault, or memory is refused
     pub rounding_refused : (why : ReadFault) → RoundAnswer fine text (Err why) → P (refusal_of why)
-    rounding_refused why answer =
-        ⊎_elim
-        (λ (found : first_fault (rounded_text fine text) ≡ Some why). by_kind why why.kind refl found)
-        (λ (wants : (why ≡ fault_at 0 NoMemory) × WantsMemoryToRound fine text).
-        subst (λ (w : ReadFault). P (refusal_of w)) (sym wants.0) (memory wants.1))
-        answer
+    rounding_refused why (inl found) = by_kind why why.kind refl found
+    rounding_refused why (inr wants) = rw wants.0 (memory wants.1)

@@ -1,86 +1,70 @@
 -- `zero_exactly_for_the_same_auction`
 -- What is said of canonical files is said of the files that the texts spell, since each is the same auction as its canonical file.
-use Rattle.std.proofs.Common.{◌≡◌, ℕ, Bool, true, false, cond, List, refl, sym, ap, ◌∙◌, subst}
+use Rattle.std.proofs.Common.{◌≡◌, ℕ, true, List, arith}
 use Rattle.std.specs.Prelude.{◌↔◌}
-use Rattle.bid_file.specs.Files.{PlainFile, IsPlainFile}
+use Rattle.bid_file.specs.Files.{PlainFile}
 use Rattle.cats_text.specs.Grammar.{Spells}
 use Rattle.cats_text.proofs.Spelling.Files.{spells_one}
 use Rattle.valuation.specs.Auctions.{auction_from}
-use Rattle.canon.specs.Canonical.{IsCanonical, canonical_auction, canonical_file}
-use Rattle.canon.specs.Difference.{Difference, NoDifference, first_difference}
-use Rattle.canon.specs.Sameness.{AreSameFiles, AreSameTexts, IsSameAuction}
+use Rattle.canon.specs.Canonical.{canonical_file}
+use Rattle.canon.specs.Difference.{Difference, NoDifference}
+use Rattle.canon.specs.Sameness.{AreSameFiles, AreSameTexts}
 use Rattle.canon.proofs.CanonicalAuctions.Sames.{same_sym, same_trans}
-use Rattle.canon.proofs.CanonicalFiles.Files.{auction_from-file_from}
 use Rattle.canon.proofs.CanonicalFiles.Texts.{HasAtoms-file, IsPlainFile-canonical, canonical_file_is_fixed, canonical_file_is_same}
-use Rattle.canon.proofs.TwoFiles.Differences.{same_from_no_difference, no_difference_from_same}
+use Rattle.canon.proofs.TwoFiles.Differences.{no_difference_same}
 use Rattle.analysis.specs.Differences.{AreAllDifferences, PlainDifferences, is_none_at_all}
 use Rattle.analysis.proofs.Comparing.BeginAuctions.{begins_with_first, none_exactly_for_same}
-use Rattle.commands.specs.Statuses.{status_of_difference, status_of_differences}
-use Rattle.commands.specs.Outcomes.{Outcome, Prints}
+use Rattle.analysis.proofs.Comparing.Indices.{canonical_from_file}
+use Rattle.commands.specs.Outcomes.{Prints, diff_outcome, outcome_of_difference}
 use Rattle.commands.proofs.laws.zero_exactly_for_the_same_auction.Goals as goal
 
-abbrev printed_status : Outcome → ℕ
-printed_status (Prints status text) = status
-printed_status outcome = 0
+through : {A B C : Type 0} → (A ↔ B) → (B ↔ C) → (A ↔ C)
+through p q = (λ a. q.0 (p.0 a), λ c. p.1 (q.1 c))
 
-none_from_zero : (d : Difference) → status_of_difference d ≡ 0 → d ≡ NoDifference
-none_from_zero NoDifference e = refl
-none_from_zero d e = cc
+-- ---- the statuses
 
-zero_by_test : (none : Bool) → cond {A = ℕ} none 0 1 ≡ 0 → none ≡ true
-zero_by_test true e = refl
-zero_by_test false e = cc
+zero_by_first : (d : Difference) (status : ℕ) (out : List ℕ) → outcome_of_difference d ≡ Prints status out → (status ≡ 0 ↔ d ≡ NoDifference)
+zero_by_first d status out made = (λ zero. grind arith, λ none. grind arith)
 
-canonical_again : (f : PlainFile) → IsPlainFile f → IsCanonical (auction_from (canonical_file f))
-canonical_again f facts =
-    sym (sym (ap auction_from (canonical_file_is_fixed f facts)) ∙ auction_from-file_from (canonical_auction (auction_from (canonical_file f))))
+zero_by_all : (compared : PlainFile × PlainFile × PlainDifferences) (status : ℕ) (out : List ℕ) → diff_outcome compared ≡ Prints status out
+    → (status ≡ 0 ↔ is_none_at_all compared.2 ≡ true)
+zero_by_all compared status out made = (λ zero. grind arith, λ none. grind arith)
 
--- two texts, and the files that they spell
+-- ---- two texts, and the files that they spell
+
 module _ (left right : List ℕ) (f g : PlainFile) (s : Spells left f) (t : Spells right g) where
-  same_texts : AreSameFiles f g → AreSameTexts left right
-  same_texts same = record { first = f; second = g; first_spelled = s; second_spelled = t; same = same }
+  same_texts : AreSameFiles f g ↔ AreSameTexts left right
+  same_texts = (
+    λ same. record { first = f; second = g; first_spelled = s; second_spelled = t; same = same },
+    λ a. rw (spells_one left f a.first s a.first_spelled, spells_one right g a.second t a.second_spelled) a.same,
+  )
 
-  same_files : AreSameTexts left right → AreSameFiles f g
-  same_files a =
-      subst (λ (x : PlainFile). AreSameFiles x g) (spells_one left a.first f a.first_spelled s)
-      (subst (λ (x : PlainFile). AreSameFiles a.first x) (spells_one right a.second g a.second_spelled t) a.same)
-
-  -- ---- the first difference
-
-  of_first : (status : ℕ) → status ≡ status_of_difference (first_difference (auction_from f) (auction_from g))
-      → (status ≡ 0 ↔ AreSameTexts left right)
-  of_first status is =
-      let d = first_difference (auction_from f) (auction_from g) in (
-        λ zero. same_texts (same_from_no_difference _ _ (HasAtoms-file f s.facts) (HasAtoms-file g t.facts) (none_from_zero d (sym is ∙ zero))),
-        λ a. is ∙ ap status_of_difference (no_difference_from_same _ _ (HasAtoms-file f s.facts) (HasAtoms-file g t.facts) (same_files a)),
+  same_canonical : AreSameFiles (canonical_file f) (canonical_file g) ↔ AreSameFiles f g
+  same_canonical =
+      let first = canonical_file_is_same f s.facts in
+      let second = canonical_file_is_same g t.facts in (
+        λ same. same_trans _ _ _ first (same_trans _ _ _ same (same_sym _ _ second)),
+        λ same. same_trans _ _ _ (same_sym _ _ first) (same_trans _ _ _ same second),
       )
 
-  -- ---- all differences
-
-  same_canonical : AreSameFiles f g → AreSameFiles (canonical_file f) (canonical_file g)
-  same_canonical same = same_trans _ _ _ (same_sym _ _ (canonical_file_is_same f s.facts)) (same_trans _ _ _ same (canonical_file_is_same g t.facts))
-
-  same_from_canonical : AreSameFiles (canonical_file f) (canonical_file g) → AreSameFiles f g
-  same_from_canonical same =
-      same_trans _ _ _ (canonical_file_is_same f s.facts) (same_trans _ _ _ same (same_sym _ _ (canonical_file_is_same g t.facts)))
-
-  module _ (d : PlainDifferences) (all : AreAllDifferences (auction_from (canonical_file f)) (auction_from (canonical_file g)) d) where
-    none_exactly : is_none_at_all d ≡ true ↔ IsSameAuction (auction_from (canonical_file f)) (auction_from (canonical_file g))
-    none_exactly =
-        let first = HasAtoms-file (canonical_file f) (IsPlainFile-canonical f s.facts) in
-        let second = HasAtoms-file (canonical_file g) (IsPlainFile-canonical g t.facts) in
-        none_exactly_for_same _ _ first second d (begins_with_first _ _ first second (canonical_again f s.facts) (canonical_again g t.facts) d all)
-
-    of_all : (status : ℕ) → status ≡ status_of_differences d → (status ≡ 0 ↔ AreSameTexts left right)
-    of_all status is = (
-      λ zero. same_texts (same_from_canonical (none_exactly.0 (zero_by_test (is_none_at_all d) (sym is ∙ zero)))),
-      λ a. is ∙ ap (λ (b : Bool). cond {A = ℕ} b 0 1) (none_exactly.1 (same_canonical (same_files a))),
-    )
+  none_exactly : (d : PlainDifferences) → AreAllDifferences (auction_from (canonical_file f)) (auction_from (canonical_file g)) d
+      → (is_none_at_all d ≡ true ↔ AreSameFiles (canonical_file f) (canonical_file g))
+  none_exactly d all =
+      let first = HasAtoms-file (canonical_file f) (IsPlainFile-canonical f s.facts) in
+      let second = HasAtoms-file (canonical_file g) (IsPlainFile-canonical g t.facts) in
+      none_exactly_for_same _ _ first second d (begins_with_first _ _ first second (canonical_from_file _ (canonical_file_is_fixed f s.facts))
+      (canonical_from_file _ (canonical_file_is_fixed g t.facts)) d all)
 
 pub returns : goal.returns
 returns c = record {
   compare = λ options left right out status h.
-      of_first left right h.first.file h.second.file h.first.spelled h.second.spelled status (sym (ap printed_status h.made));
+      let f = h.first in
+      let g = h.second in
+      through (zero_by_first _ status out h.made) (through (no_difference_same _ _ (HasAtoms-file f.file f.spelled.facts) (HasAtoms-file g.file g.spelled.facts))
+      (same_texts left right f.file g.file f.spelled g.spelled));
   diff = λ options left right out status h.
-      of_all left right h.first.file h.second.file h.first.spelled h.second.spelled h.differences h.all status (sym (ap printed_status h.made));
+      let f = h.first in
+      let g = h.second in
+      through (zero_by_all (f.file, g.file, h.differences) status out h.made) (through (none_exactly left right f.file g.file f.spelled g.spelled h.differences h.all)
+      (through (same_canonical left right f.file g.file f.spelled g.spelled) (same_texts left right f.file g.file f.spelled g.spelled)));
 }

@@ -1,5 +1,5 @@
 -- `heavy_pieces`
-use Rattle.std.proofs.Common.{◌≡◌, ◌++◌, ℕ, List, length, take, min, append_assoc, ◌∙◌, ap, ap₂, codes, decimal, refl, arith}
+use Rattle.std.proofs.Common.{◌≡◌, ◌++◌, ℕ, List, length, take, min, append_assoc, ◌∙◌, ap, codes, decimal, refl, arith}
 use Rattle.std.proofs.lemmas.List.{take_min}
 use Rattle.commands.specs.Outputs.{bundle_text}
 use Rattle.commands.specs.FaultLines.{rest_text, text_of_heavy_bid, total_text}
@@ -25,15 +25,10 @@ line_joined : (heavy : HeavyBid) (prefix text goods : List ℕ) (shown : ℕ) (a
     ≡ prefix ++ text_of_heavy_bid heavy ++ codes "\n"
 line_joined heavy prefix text goods shown a b t g s total rest =
     let least : shown ≡ min 20 (length goods) = omega (arith, s) in
-    let first : take shown goods ≡ take 20 heavy.goods.items =
-    ap (λ (n : ℕ). take n goods) least ∙ take_min 20 goods ∙ ap (take 20) g in
-    let known : rest_text (length goods) ≡ rest_text (length heavy.goods.items) = ap (λ (xs : List ℕ). rest_text (length xs)) g in
-    let line : List ℕ → List ℕ → List ℕ → List ℕ → List ℕ = λ before all goods behind. before ++ (codes "step limit of " ++ decimal heavy.steps
-    ++ all ++ codes " at bid " ++ decimal heavy.number ++ codes ": " ++ bundle_text goods ++ behind) ++ codes "\n" in
-    joined text (codes "step limit of ") (decimal heavy.steps) (text_of_piece a.0) (text_of_piece a.1) (text_of_piece a.2) (codes " at bid ")
-    (decimal heavy.number) (codes ": ") (bundle_text (take shown goods)) (text_of_piece b.0) (text_of_piece b.1) (text_of_piece b.2) (codes "\n")
-    ∙ ap₂ (λ (before goods : List ℕ). line before (text_of_three a) goods (text_of_three b)) t first
-    ∙ ap₂ (λ (all behind : List ℕ). line prefix all (take 20 heavy.goods.items) behind) total (rest ∙ known)
+    let first : take shown goods ≡ take 20 goods = ap (λ (n : ℕ). take n goods) least ∙ take_min 20 goods in
+    rw (t, first, ← g, ← total, ← rest)
+    (joined prefix (codes "step limit of ") (decimal heavy.steps) (text_of_piece a.0) (text_of_piece a.1) (text_of_piece a.2) (codes " at bid ")
+    (decimal heavy.number) (codes ": ") (bundle_text (take 20 goods)) (text_of_piece b.0) (text_of_piece b.1) (text_of_piece b.2) (codes "\n"))
 
 pub returns : goal.returns
 returns c =

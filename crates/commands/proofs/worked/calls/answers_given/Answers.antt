@@ -1,23 +1,21 @@
 -- `answers_given`
-use Rattle.std.proofs.Common.{refl, codes}
+use Rattle.std.proofs.Common.{refl}
 use Rattle.std.specs.Fmt.{digits}
 use Rattle.commands.proofs.SmallTexts.{puts_none, puts_whole}
 use Rattle.commands.proofs.worked.calls.answers_given.Goals as goal
 
 pub returns-clause-fault : goal.returns-clause-fault
 unfolding digits
-returns-clause-fault c =
-    record { is_needed = refl; puts = puts_whole 2 (codes "first: line 1: Header\n") (codes "........................") refl }
+returns-clause-fault c = record { is_needed = refl; puts = puts_whole _ _ _ refl }
 
 pub returns-clause-fault_too_small : goal.returns-clause-fault_too_small
 unfolding digits
-returns-clause-fault_too_small c = record { is_needed = refl; puts = puts_none 2 (codes "first: line 1: Header\n") (codes "....") refl }
+returns-clause-fault_too_small c = record { is_needed = refl; puts = puts_none _ _ _ refl }
 
 pub returns-clause-memory : goal.returns-clause-memory
 unfolding digits
-returns-clause-memory c =
-    record { is_needed = refl; puts = puts_whole 4 (codes "want of memory\n") (codes "................") refl }
+returns-clause-memory c = record { is_needed = refl; puts = puts_whole _ _ _ refl }
 
 pub returns-clause-good : goal.returns-clause-good
 unfolding digits
-returns-clause-good c = record { is_needed = refl; puts = puts_whole 64 (codes "good 7 out of range\n") (codes "....................") refl }
+returns-clause-good c = record { is_needed = refl; puts = puts_whole _ _ _ refl }

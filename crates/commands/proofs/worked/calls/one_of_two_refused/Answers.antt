@@ -1,32 +1,26 @@
 -- `one_of_two_refused`
-use Rattle.std.proofs.Common.{◌≡◌, ◌+◌, None, Some, refl, sym, ap, codes, arith}
+use Rattle.std.proofs.Common.{◌≡◌, ◌+◌, Some, refl, sym, ap, arith}
 use Rattle.std.specs.Fmt.{digits}
-use Rattle.valuation.specs.SearchLimits.{bounded_options}
 use Rattle.valuation.specs.Values.{or_value, xor_value}
 use Rattle.prune.specs.Points.{points_where, is_or_point, is_xor_point}
 use Rattle.prune.specs.SearchSteps.{search_steps_by, first_over, first_refused}
 use Rattle.valuation.specs.SearchSteps.{cut_steps}
-use Rattle.commands.specs.Outcomes.{ExceedsAtBid, naming_outcome, normalise_outcome}
+use Rattle.commands.specs.Outcomes.{ExceedsAtBid}
 use Rattle.commands.proofs.SmallTexts.{makes, makes_only, number_in, within}
 use Rattle.commands.proofs.worked.calls.one_of_two_refused.Goals as goal
 
 pub returns-clause-second : goal.returns-clause-second
 unfolding digits first_refused first_over search_steps_by cut_steps points_where is_or_point is_xor_point or_value xor_value
-returns-clause-second c = (within (bounded_options 1 None) (codes "goods 0\nbids 0\ndummy 0\n") refl refl, refl)
+returns-clause-second c = (within _ _ refl refl, refl)
 
 pub returns-clause-both : goal.returns-clause-both
 unfolding digits first_refused first_over search_steps_by cut_steps points_where is_or_point is_xor_point or_value xor_value
-returns-clause-both c =
-    (within (bounded_options 1 None) (codes "goods 0\nbids 0\ndummy 0\n") refl refl, within (bounded_options 1 None) (codes "goods 0\nbids 0\ndummy 0\n") refl refl, refl)
+returns-clause-both c = (within _ _ refl refl, within _ _ refl refl, refl)
 
 pub returns-clause-named : goal.returns-clause-named
 unfolding digits first_refused first_over search_steps_by cut_steps points_where is_or_point is_xor_point or_value xor_value
-returns-clause-named c =
-    λ goods e. makes (naming_outcome (bounded_options 0 (Some 9))) (codes "goods 1\nbids 1\ndummy 0\n0 3 0 #\n") (ExceedsAtBid 0 (Some 9) 0 goods.items)
-    refl (ap (ExceedsAtBid 0 (Some 9) 0) (sym e))
+returns-clause-named c = λ goods e. makes _ _ _ refl (ap (ExceedsAtBid 0 (Some 9) 0) (sym e))
 
 pub returns-clause-unnamed : goal.returns-clause-unnamed
 unfolding digits first_refused first_over search_steps_by cut_steps points_where is_or_point is_xor_point or_value xor_value
-returns-clause-unnamed c =
-    λ heavy h. let e : 2 ≡ 10 + heavy.number = ap number_in (makes_only (normalise_outcome (bounded_options 0 None))
-    (codes "goods 1\nbids 1\ndummy 0\n0 3 0 #\n") (ExceedsAtBid heavy.steps heavy.total heavy.number heavy.goods.items) h) in absurd (omega arith)
+returns-clause-unnamed c = λ heavy h. let e : 2 ≡ 10 + heavy.number = ap number_in (makes_only _ _ _ h) in absurd (omega arith)

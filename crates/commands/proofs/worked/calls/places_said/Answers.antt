@@ -29,4 +29,4 @@ returns-clause-memory c = (omega arith, inr refl)
 
 pub returns-clause-call : goal.returns-clause-call
 unfolding digits
-returns-clause-call c = record { status = 0; text = []; is = inl ((omega arith, refl), refl); puts = puts_whole 0 [] (codes "..") refl }
+returns-clause-call c = record { status = 0; text = []; is = inl ((omega arith, refl), refl); puts = puts_whole _ _ _ refl }

@@ -42,5 +42,5 @@ returns-clause-memory c = record {
   status = 4;
   text = codes "want of memory\n";
   is = inr (record { fault = Refused Only Memory; refused = refl; is_status = refl; is_line = refl; is_needed = refl });
-  puts = puts_whole 4 (codes "want of memory\n") (codes "................") refl;
+  puts = puts_whole _ _ _ refl;
 }

@@ -1,8 +1,7 @@
 -- `texts_compared`
-use Rattle.std.proofs.Common.{None, refl, ap, codes}
+use Rattle.std.proofs.Common.{refl, ap, codes}
 use Rattle.std.proofs.lemmas.Bool.{eqb-false}
 use Rattle.std.specs.Fmt.{digits}
-use Rattle.valuation.specs.SearchLimits.{bounded_options}
 use Rattle.valuation.specs.SearchSteps.{cut_steps}
 use Rattle.valuation.specs.Values.{or_value, xor_value}
 use Rattle.prune.specs.Points.{points_where, is_or_point, is_xor_point}
@@ -12,20 +11,17 @@ use Rattle.commands.proofs.worked.calls.texts_compared.Goals as goal
 
 pub returns-clause-same : goal.returns-clause-same
 unfolding digits first_refused first_over search_steps_by cut_steps points_where is_or_point is_xor_point or_value xor_value
-returns-clause-same c =
-    record { first = within (bounded_options 1 None) (codes "goods 1\nbids 2\ndummy 0\n0 2 0 #\n1 3 0 #\n") refl refl; second = within (bounded_options 1 None) (codes "goods 1\nbids 1\ndummy 0\n0 3 0 #\n") refl refl; made = refl }
+returns-clause-same c = record { first = within _ _ refl refl; second = within _ _ refl refl; made = refl }
 
 pub returns-clause-different : goal.returns-clause-different
 unfolding digits first_refused first_over search_steps_by cut_steps points_where is_or_point is_xor_point or_value xor_value
-returns-clause-different c =
-    record { first = within (bounded_options 1 None) (codes "goods 1\nbids 1\ndummy 0\n0 2 0 #\n") refl refl; second = within (bounded_options 1 None) (codes "goods 1\nbids 1\ndummy 0\n0 3 0 #\n") refl refl; made = refl }
+returns-clause-different c = record { first = within _ _ refl refl; second = within _ _ refl refl; made = refl }
 
 pub returns-clause-not_same : goal.returns-clause-not_same
 unfolding digits first_refused first_over search_steps_by cut_steps points_where is_or_point is_xor_point or_value xor_value
-returns-clause-not_same c =
-    λ out h. eqb-false 1 0 refl (ap number_in (compared (bounded_options 1 None) (codes "goods 1\nbids 1\ndummy 0\n0 2 0 #\n") (codes "goods 1\nbids 1\ndummy 0\n0 3 0 #\n") 0 out h))
+returns-clause-not_same c = λ out h. eqb-false 1 0 refl (ap number_in (compared _ _ _ _ _ h))
 
 pub returns-clause-not_exchanged : goal.returns-clause-not_exchanged
 unfolding digits first_refused first_over search_steps_by cut_steps points_where is_or_point is_xor_point or_value xor_value
 returns-clause-not_exchanged c =
-    λ h. other_byte 20 (codes "different\nor 0\nleft 2\nright 3\n") (codes "different\nor 0\nleft 3\nright 2\n") refl (ap text_in (compared (bounded_options 1 None) (codes "goods 1\nbids 1\ndummy 0\n0 2 0 #\n") (codes "goods 1\nbids 1\ndummy 0\n0 3 0 #\n") 1 (codes "different\nor 0\nleft 3\nright 2\n") h))
+    λ h. other_byte 20 (codes "different\nor 0\nleft 2\nright 3\n") (codes "different\nor 0\nleft 3\nright 2\n") refl (ap text_in (compared _ _ _ _ _ h))

@@ -17,12 +17,12 @@ use Rattle.commands.proofs.worked.calls.texts_diffed.Goals as goal
 pub returns-clause-same : goal.returns-clause-same
 unfolding digits first_refused first_over search_steps_by cut_steps points_where is_or_point is_xor_point or_value xor_value
 returns-clause-same c =
-    record { first = within (bounded_options 1 None) (codes "goods 1\nbids 2\ndummy 0\n0 2 0 #\n1 3 0 #\n") refl refl; second = within (bounded_options 1 None) (codes "goods 1\nbids 1\ndummy 0\n0 3 0 #\n") refl refl; differences = no_differences; all = record { goods = refl; bundles = no_price_changes (atom (0 ∷ []) 3000000 ∷ []); bidders = no_bidder_changes [] }; made = refl }
+    record { first = within _ _ refl refl; second = within _ _ refl refl; differences = no_differences; all = record { goods = refl; bundles = no_price_changes (atom (0 ∷ []) 3000000 ∷ []); bidders = no_bidder_changes [] }; made = refl }
 
 pub returns-clause-goods : goal.returns-clause-goods
 unfolding digits first_refused first_over search_steps_by cut_steps points_where is_or_point is_xor_point or_value xor_value
 returns-clause-goods c =
-    record { first = within (bounded_options 1 None) (codes "goods 1\nbids 0\ndummy 0\n") refl refl; second = within (bounded_options 1 None) (codes "goods 2\nbids 0\ndummy 0\n") refl refl; differences = differences (Some (1, 2)) [] []; all = record { goods = refl; bundles = no_price_changes []; bidders = no_bidder_changes [] }; made = refl }
+    record { first = within _ _ refl refl; second = within _ _ refl refl; differences = differences (Some (1, 2)) [] []; all = record { goods = refl; bundles = no_price_changes []; bidders = no_bidder_changes [] }; made = refl }
 
 pub returns-clause-not_exchanged : goal.returns-clause-not_exchanged
 unfolding digits first_refused first_over search_steps_by cut_steps points_where is_or_point is_xor_point or_value xor_value

@@ -1,14 +1,10 @@
 -- `texts_read_rounded`
 use Rattle.std.proofs.Common.{◌≡◌, None, Some, inl, refl, codes, arith}
 use Rattle.std.specs.Fmt.{digits}
-use Rattle.rounding.specs.declared.replacement.FinePrices.TheVariants.{Refuse, Round}
-use Rattle.valuation.specs.SearchLimits.{bounded_options}
 use Rattle.valuation.specs.SearchSteps.{cut_steps}
 use Rattle.valuation.specs.Values.{or_value, xor_value}
 use Rattle.prune.specs.Points.{points_where, is_or_point, is_xor_point}
 use Rattle.prune.specs.SearchSteps.{search_steps_by, first_over, first_refused}
-use Rattle.commands.specs.Outcomes.{Prints, show_outcome}
-use Rattle.commands.specs.Refusals.{text_read}
 use Rattle.commands.proofs.SmallTexts.{makes, puts_whole, within}
 use Rattle.commands.proofs.worked.calls.texts_read_rounded.Goals as goal
 
@@ -17,12 +13,8 @@ unfolding digits
 returns-clause-rounded c = record {
   status = 0;
   text = codes "goods 1\nbids 1\ndummy 0\n0\t0\t0\t#\n";
-  is = inl (
-    makes show_outcome (text_read (Some Round) (codes "goods 1\nbids 1\ndummy 0\n0 1e-7 0 #\n"))
-        (Prints 0 (codes "goods 1\nbids 1\ndummy 0\n0\t0\t0\t#\n")) refl refl,
-    refl,
-  );
-  puts = puts_whole 0 (codes "goods 1\nbids 1\ndummy 0\n0\t0\t0\t#\n") (codes ".................................") refl;
+  is = inl (makes _ _ _ refl refl, refl);
+  puts = puts_whole _ _ _ refl;
 }
 
 pub returns-clause-not_refused : goal.returns-clause-not_refused
@@ -31,9 +23,7 @@ returns-clause-not_refused c = λ fault h. let e : None ≡ Some fault = h in ab
 
 pub returns-clause-exact : goal.returns-clause-exact
 unfolding digits
-returns-clause-exact c =
-    makes show_outcome (text_read (Some Refuse) (codes "goods 1\nbids 1\ndummy 0\n0 1e3 0 #\n"))
-    (Prints 0 (codes "goods 1\nbids 1\ndummy 0\n0\t1000\t0\t#\n")) refl refl
+returns-clause-exact c = makes _ _ _ refl refl
 
 pub returns-clause-memory : goal.returns-clause-memory
 returns-clause-memory c = inl (omega arith)
@@ -43,18 +33,10 @@ unfolding digits first_refused first_over search_steps_by cut_steps points_where
 returns-clause-both c = record {
   status = 0;
   text = codes "same\n";
-  is = inl (
-    record {
-      first = within (bounded_options 1 None) (text_read (Some Round) (codes "goods 1\nbids 1\ndummy 0\n0 3e0 0 #\n")) refl refl;
-      second = within (bounded_options 1 None) (text_read (Some Round) (codes "goods 1\nbids 1\ndummy 0\n0 2.9999999 0 #\n")) refl refl;
-      made = refl;
-    },
-    refl,
-  );
-  puts = puts_whole 0 (codes "same\n") (codes "......") refl;
+  is = inl (record { first = within _ _ refl refl; second = within _ _ refl refl; made = refl }, refl);
+  puts = puts_whole _ _ _ refl;
 }
 
 pub returns-clause-second_too_fine : goal.returns-clause-second_too_fine
 unfolding digits first_refused first_over search_steps_by cut_steps points_where is_or_point is_xor_point or_value xor_value
-returns-clause-second_too_fine c =
-    (within (bounded_options 1 None) (text_read (Some Refuse) (codes "goods 1\nbids 1\ndummy 0\n0 3e0 0 #\n")) refl refl, refl)
+returns-clause-second_too_fine c = (within _ _ refl refl, refl)

@@ -1,15 +1,14 @@
 -- `texts_refused`
-use Rattle.std.proofs.Common.{None, [], ◌∷◌, inr, refl, sym, ap, codes}
+use Rattle.std.proofs.Common.{None, inr, refl, sym, ap, codes}
 use Rattle.std.proofs.lemmas.Bool.{eqb-false}
 use Rattle.std.specs.Fmt.{digits}
-use Rattle.valuation.specs.SearchLimits.{bounded_options}
 use Rattle.valuation.specs.SearchSteps.{cut_steps}
 use Rattle.valuation.specs.Values.{or_value, xor_value}
 use Rattle.prune.specs.Points.{points_where, is_or_point, is_xor_point}
 use Rattle.prune.specs.SearchSteps.{search_steps_by, first_over, first_refused}
 use Rattle.cats_text.specs.FileLines.{spelled_file}
 use Rattle.cats_text.proofs.Spelling.Files.{spells_from_no_fault}
-use Rattle.commands.specs.Outcomes.{ExceedsAtBid, ExceedsSteps, LacksGood, explain_outcome, normalise_outcome, value_outcome_by}
+use Rattle.commands.specs.Outcomes.{ExceedsAtBid, ExceedsSteps}
 use Rattle.commands.proofs.SmallTexts.{makes, makes_only, number_in}
 use Rattle.commands.proofs.worked.calls.texts_refused.Goals as goal
 
@@ -20,30 +19,24 @@ returns-clause-memory c =
 
 pub returns-clause-over_limit : goal.returns-clause-over_limit
 unfolding digits first_refused first_over search_steps_by cut_steps points_where is_or_point is_xor_point or_value xor_value
-returns-clause-over_limit c =
-    λ goods e. makes (normalise_outcome (bounded_options 0 None)) (codes "goods 1\nbids 1\ndummy 0\n0 3 0 #\n") (ExceedsSteps goods.items) refl (ap ExceedsSteps (sym e))
+returns-clause-over_limit c = λ goods e. makes _ _ _ refl (ap ExceedsSteps (sym e))
 
 pub returns-clause-heavy_bid : goal.returns-clause-heavy_bid
 unfolding digits first_refused first_over search_steps_by cut_steps points_where is_or_point is_xor_point or_value xor_value
 returns-clause-heavy_bid c =
     λ goods e. (
       refl,
-      makes (explain_outcome (bounded_options 0 None)) (codes "goods 1\nbids 1\ndummy 0\n0 3 0 #\n") (ExceedsAtBid 0 None 0 goods.items)
-          refl (ap (ExceedsAtBid 0 None 0) (sym e)),
+      makes _ _ _ refl (ap (ExceedsAtBid 0 None 0) (sym e)),
     )
 
 pub returns-clause-other_bid : goal.returns-clause-other_bid
 unfolding digits first_refused first_over search_steps_by cut_steps points_where is_or_point is_xor_point or_value xor_value
-returns-clause-other_bid c =
-    λ goods h. eqb-false 10 11 refl (ap number_in (makes_only (explain_outcome (bounded_options 0 None)) (codes "goods 1\nbids 1\ndummy 0\n0 3 0 #\n")
-    (ExceedsAtBid 0 None 1 goods.items) h.1))
+returns-clause-other_bid c = λ goods h. eqb-false 10 11 refl (ap number_in (makes_only _ _ _ h.1))
 
 pub returns-clause-good : goal.returns-clause-good
 unfolding digits
-returns-clause-good c =
-    makes (value_outcome_by (0 ∷ 2 ∷ 1 ∷ []) (bounded_options 1 None)) (codes "goods 1\nbids 1\ndummy 0\n0 3 0 #\n") (LacksGood 2) refl refl
+returns-clause-good c = makes _ _ _ refl refl
 
 pub returns-clause-other_good : goal.returns-clause-other_good
 unfolding digits
-returns-clause-other_good c =
-    λ h. eqb-false 12 11 refl (ap number_in (makes_only (value_outcome_by (0 ∷ 2 ∷ 1 ∷ []) (bounded_options 1 None)) (codes "goods 1\nbids 1\ndummy 0\n0 3 0 #\n") (LacksGood 1) h))
+returns-clause-other_good c = λ h. eqb-false 12 11 refl (ap number_in (makes_only _ _ _ h))

@@ -1,34 +1,26 @@
 -- `winners_judged`
-use Rattle.std.proofs.Common.{[], ◌∷◌, refl, ap, codes}
+use Rattle.std.proofs.Common.{refl, ap, codes}
 use Rattle.std.proofs.lemmas.Bool.{eqb-false}
 use Rattle.std.specs.Fmt.{digits}
-use Rattle.commands.specs.Outcomes.{LacksBid, Prints, revenue_outcome}
 use Rattle.commands.proofs.SmallTexts.{makes, makes_only, number_in, other_byte, text_in}
 use Rattle.commands.proofs.worked.calls.winners_judged.Goals as goal
 
 pub returns-clause-sum : goal.returns-clause-sum
 unfolding digits
-returns-clause-sum c =
-    makes (revenue_outcome (1 ∷ 0 ∷ 1 ∷ [])) (codes "goods 2\nbids 2\ndummy 0\n0 3 0 #\n1 4.5 1 #\n") (Prints 0 (codes "revenue 7.5\n")) refl refl
+returns-clause-sum c = makes _ _ _ refl refl
 
 pub returns-clause-left_out : goal.returns-clause-left_out
 unfolding digits
-returns-clause-left_out c =
-    λ h. other_byte 8 (codes "revenue 7.5\n") (codes "revenue 4.5\n") refl (ap text_in (makes_only (revenue_outcome (1 ∷ 0 ∷ 1 ∷ []))
-    (codes "goods 2\nbids 2\ndummy 0\n0 3 0 #\n1 4.5 1 #\n") (Prints 0 (codes "revenue 4.5\n")) h))
+returns-clause-left_out c = λ h. other_byte 8 (codes "revenue 7.5\n") (codes "revenue 4.5\n") refl (ap text_in (makes_only _ _ _ h))
 
 pub returns-clause-clash : goal.returns-clause-clash
 unfolding digits
-returns-clause-clash c =
-    makes (revenue_outcome (1 ∷ 0 ∷ [])) (codes "goods 1\nbids 2\ndummy 0\n0 3 0 #\n1 4.5 0 #\n") (Prints 1 (codes "bids 0 and 1 share good 0\n"))
-    refl refl
+returns-clause-clash c = makes _ _ _ refl refl
 
 pub returns-clause-missing : goal.returns-clause-missing
 unfolding digits
-returns-clause-missing c = makes (revenue_outcome (1 ∷ 3 ∷ 2 ∷ [])) (codes "goods 1\nbids 2\ndummy 0\n0 3 0 #\n1 4.5 0 #\n") (LacksBid 3) refl refl
+returns-clause-missing c = makes _ _ _ refl refl
 
 pub returns-clause-other_missing : goal.returns-clause-other_missing
 unfolding digits
-returns-clause-other_missing c =
-    λ h. eqb-false 13 12 refl (ap number_in (makes_only (revenue_outcome (1 ∷ 3 ∷ 2 ∷ []))
-    (codes "goods 1\nbids 2\ndummy 0\n0 3 0 #\n1 4.5 0 #\n") (LacksBid 2) h))
+returns-clause-other_missing c = λ h. eqb-false 13 12 refl (ap number_in (makes_only _ _ _ h))
