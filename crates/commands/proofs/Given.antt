@@ -89,7 +89,8 @@ abbrev read : Text → List ℕ
 read text = text_read text.fine text.bytes.now
 
 module _ (text after : Text) where
-  abbrev within : (options : SearchOptions) (file : PlainFile) → GivesWithin TextGives TextRefuses options text after file → SpellsWithinLimit options (read text)
+  abbrev within : (options : SearchOptions) (file : PlainFile) → GivesWithin TextGives TextRefuses options text after file
+      → SpellsWithinLimit options (read text)
   within options file g = record { file = file; spelled = g.given; within_limit = g.within }
 
   module _ (outcome : PlainFile → Outcome) where

@@ -60,11 +60,13 @@ returns c = record {
   compare = λ options left right out status h.
       let f = h.first in
       let g = h.second in
-      through (zero_by_first _ status out h.made) (through (no_difference_same _ _ (HasAtoms-file f.file f.spelled.facts) (HasAtoms-file g.file g.spelled.facts))
+      through (zero_by_first _ status out h.made)
+      (through (no_difference_same _ _ (HasAtoms-file f.file f.spelled.facts) (HasAtoms-file g.file g.spelled.facts))
       (same_texts left right f.file g.file f.spelled g.spelled));
   diff = λ options left right out status h.
       let f = h.first in
       let g = h.second in
-      through (zero_by_all (f.file, g.file, h.differences) status out h.made) (through (none_exactly left right f.file g.file f.spelled g.spelled h.differences h.all)
+      through (zero_by_all (f.file, g.file, h.differences) status out h.made)
+      (through (none_exactly left right f.file g.file f.spelled g.spelled h.differences h.all)
       (through (same_canonical left right f.file g.file f.spelled g.spelled) (same_texts left right f.file g.file f.spelled g.spelled)));
 }

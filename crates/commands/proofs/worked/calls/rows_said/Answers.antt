@@ -1,5 +1,5 @@
 -- `rows_said`
-use Rattle.std.proofs.Common.{Some, inl, inr, refl, codes}
+use Rattle.std.proofs.Common.{rules, Some, inl, inr, refl, codes}
 use Rattle.std.specs.Fmt.{digits}
 use Rattle.cats_text.specs.Faults.{fault_at}
 use Rattle.cats_text.specs.FileLines.{spelled_file}
@@ -18,29 +18,21 @@ use Rattle.commands.specs.Refusals.{text_read}
 use Rattle.commands.proofs.SmallTexts.{puts_whole}
 use Rattle.commands.proofs.worked.calls.rows_said.Goals as goal
 
-pub returns-clause-judged : goal.returns-clause-judged
+pub returns : goal.returns
 unfolding digits first_refused first_over search_steps_by cut_steps points_where is_or_point is_xor_point or_value xor_value
-returns-clause-judged c = record {
-  sized = IsSized (spelled_file (text_read (Some Round) (codes "goods 1\nbids 2\ndummy 0\n0 2 0 #\n1 3e0 0 #\n")));
-  sizes = (spells_from_no_fault (text_read (Some Round) (codes "goods 1\nbids 2\ndummy 0\n0 2 0 #\n1 3e0 0 #\n")) refl, refl);
-  is_status = refl;
-  is_row = refl;
-}
-
-pub returns-clause-refused : goal.returns-clause-refused
-unfolding digits
-returns-clause-refused c = record {
-  sized = IsUnsized (Read (fault_at 1 Header));
-  sizes = ((λ e. absurd (cc)), inl refl);
-  is_status = refl;
-  is_row = refl;
-}
-
-pub returns-clause-memory : goal.returns-clause-memory
-unfolding digits
-returns-clause-memory c = record {
-  status = 4;
-  text = codes "want of memory\n";
-  is = inr (record { fault = Refused Only Memory; refused = refl; is_status = refl; is_line = refl; is_needed = refl });
-  puts = puts_whole _ _ _ refl;
+returns c = record {
+  judged = record {
+    sized = IsSized (spelled_file (text_read (Some Round) (codes "goods 1\nbids 2\ndummy 0\n0 2 0 #\n1 3e0 0 #\n")));
+    sizes = (spells_from_no_fault (text_read (Some Round) (codes "goods 1\nbids 2\ndummy 0\n0 2 0 #\n1 3e0 0 #\n")) refl, refl);
+    is_status = refl;
+    is_row = refl;
+  };
+  refused = record { sized = IsUnsized (Read (fault_at 1 Header)); sizes = ((λ e. absurd (cc)), inl refl); is_status = refl; is_row = refl };
+  success = search rules;
+  memory = record {
+    status = 4;
+    text = codes "want of memory\n";
+    is = inr (record { fault = Refused Only Memory; refused = refl; is_status = refl; is_line = refl; is_needed = refl });
+    puts = puts_whole _ _ _ refl;
+  };
 }

@@ -11,26 +11,13 @@ use Rattle.commands.specs.Outcomes.{ExceedsSteps}
 use Rattle.commands.proofs.SmallTexts.{makes, makes_only, number_in, within}
 use Rattle.commands.proofs.worked.calls.texts_within_limits.Goals as goal
 
-pub returns-clause-within_limit : goal.returns-clause-within_limit
+pub returns : goal.returns
 unfolding digits first_refused first_over search_steps_by cut_steps points_where is_or_point is_xor_point or_value xor_value greatest_rate rate_bound
-returns-clause-within_limit c = λ goods h. eqb-false 0 2 refl (ap number_in (makes_only _ _ _ h))
-
-pub returns-clause-bounded : goal.returns-clause-bounded
-unfolding digits first_refused first_over search_steps_by cut_steps points_where is_or_point is_xor_point or_value xor_value greatest_rate rate_bound
-returns-clause-bounded c = λ goods h. eqb-false 0 2 refl (ap number_in (makes_only _ _ _ h))
-
-pub returns-clause-plain : goal.returns-clause-plain
-unfolding digits first_refused first_over search_steps_by cut_steps points_where is_or_point is_xor_point or_value xor_value greatest_rate rate_bound
-returns-clause-plain c = λ goods e. makes _ _ _ refl (ap ExceedsSteps (sym e))
-
-pub returns-clause-over_total : goal.returns-clause-over_total
-unfolding digits first_refused first_over search_steps_by cut_steps points_where is_or_point is_xor_point or_value xor_value greatest_rate rate_bound
-returns-clause-over_total c = λ goods e. makes _ _ _ refl (ap ExceedsSteps (sym e))
-
-pub returns-clause-within_total : goal.returns-clause-within_total
-unfolding digits first_refused first_over search_steps_by cut_steps points_where is_or_point is_xor_point or_value xor_value greatest_rate rate_bound
-returns-clause-within_total c = λ goods h. eqb-false 0 2 refl (ap number_in (makes_only _ _ _ h))
-
-pub returns-clause-one_total_each : goal.returns-clause-one_total_each
-unfolding digits first_refused first_over search_steps_by cut_steps points_where is_or_point is_xor_point or_value xor_value greatest_rate rate_bound
-returns-clause-one_total_each c = record { first = within _ _ refl refl; second = within _ _ refl refl; made = refl }
+returns c = record {
+  within_limit = λ goods h. eqb-false 0 2 refl (ap number_in (makes_only _ _ _ h));
+  bounded = λ goods h. eqb-false 0 2 refl (ap number_in (makes_only _ _ _ h));
+  plain = λ goods e. makes _ _ _ refl (ap ExceedsSteps (sym e));
+  over_total = λ goods e. makes _ _ _ refl (ap ExceedsSteps (sym e));
+  within_total = λ goods h. eqb-false 0 2 refl (ap number_in (makes_only _ _ _ h));
+  one_total_each = record { first = within _ _ refl refl; second = within _ _ refl refl; made = refl };
+}
