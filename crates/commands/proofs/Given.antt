@@ -17,7 +17,7 @@ use Rattle.commands.specs.FaultLines.{line_of_fault, prefix_of}
 use Rattle.commands.specs.Statuses.{status_of_fault}
 use Rattle.commands.specs.declared.faults.RunFault.{RunFault}
 use Rattle.commands.specs.declared.faults.RunFault.TheVariants.{Refused, TooHeavy, GoodRange, BidRange, Sent}
-use Rattle.commands.specs.Commands.{Commands, GivesWithin, IsRefused, Makes, text_of}
+use Rattle.commands.specs.Commands.{AnswersBy, Commands, GivesWithin, IsRefused, IsWantOfMemory, Makes, text_of}
 use Rattle.commands.specs.Outcomes.{Outcome, Prints, naming_outcome, normalise_outcome}
 use Rattle.commands.specs.Pairs.{CommandsBoth, CommandsOnBoth}
 use Rattle.commands.specs.SizesRows.{AnswersRow}
@@ -25,11 +25,12 @@ use Rattle.commands.specs.declared.answer.Answer.{Answer}
 use Rattle.commands.specs.declared.answer.Output.{Output}
 use Rattle.commands.specs.declared.answer.Output.TheVariants as output
 use Rattle.commands.specs.Buffers.{Calls, Gives, GivesFault, GivesOutput, GivesText, RefusesBy}
+use Rattle.commands.specs.DuplicatesCalls.{AnswersFirsts, DuplicatesCalls, SaysFirsts}
 use Rattle.commands.specs.FaultCalls.{AnswersPlace, AnswersPlaceBy, FaultCalls, IsUnplaced, SaysPlace}
 use Rattle.commands.specs.OneText.{CallsOn, IsRefusedText, IsUnmade, MakesOf, OfOnly, PrintsOf}
 use Rattle.commands.specs.Refusals.{MayWantMemory, RefusesText, TextGives, TextRefuses, text_fault, text_read}
 use Rattle.commands.specs.Roundings.{AnswersRounding, GivesReport, GivesRounded, RoundCalls, whole_status}
-use Rattle.commands.specs.SizesCalls.{SaysRow, SizesCalls, WantsMemoryForRow}
+use Rattle.commands.specs.SizesCalls.{SaysRow, SizesCalls}
 use Rattle.commands.specs.TwoTexts.{CallsOnBoth, ComparesTexts, DiffsTexts, IsRefusedOfTwo}
 use Rattle.commands.specs.declared.command.Comparison.{Comparison}
 use Rattle.commands.specs.declared.command.Comparison.TheVariants.{Compare, Diff}
@@ -71,6 +72,15 @@ module _ (Says : ℕ → List ℕ → Type 0) (Refuses : RunFault → Type 0) wh
         → Calls Says Refuses old new needed answer
     given which alone (Ok a) is g = given_output which alone is.1 a.status a.output is.0 g
     given which alone (Err fault) is g = given_fault fault is g
+
+-- what is said of an answer, unless memory is refused for it
+given_by : (Says : ℕ → List ℕ → Type 0) (r : Result Answer RunFault) → AnswersBy Says r → (old new : List ℕ) (needed answer : ℕ)
+    → Gives r old new needed answer → Calls Says IsWantOfMemory old new needed answer
+given_by Says r is old new needed answer g = given Says IsWantOfMemory old new needed answer Only refl r (by r is) g
+  where
+    by : (r : Result Answer RunFault) → AnswersBy Says r → IsSaid Says IsWantOfMemory Only r
+    by (Ok a) is = (is, refl)
+    by (Err fault) is = is
 
 -- ---- one text
 
@@ -124,12 +134,17 @@ pub given_sizes : (options : SearchOptions) (fine read : Option FinePrices) (tex
     → (r : Result Answer RunFault) → AnswersRow (Spells (text_read read text)) (RefusesText read text) options r
     → (old new : List ℕ) (needed answer : ℕ) → Gives r old new needed answer → SizesCalls options fine text old new needed answer
 given_sizes options fine read text is_fine r is old new needed answer g =
-    subst (λ (f : Option FinePrices). SizesCalls options f text old new needed answer) is_fine (given _ _ old new needed answer Only refl r (by r is) g)
-  where
-    by : (r : Result Answer RunFault) → AnswersRow (Spells (text_read read text)) (RefusesText read text) options r
-        → IsSaid (SaysRow options read text) WantsMemoryForRow Only r
-    by (Ok a) is = (is, refl)
-    by (Err fault) is = is
+    subst (λ (f : Option FinePrices). SizesCalls options f text old new needed answer) is_fine
+    (given_by (SaysRow options read text) r is old new needed answer g)
+
+-- ---- many texts
+
+-- of these options and prices, as the caller writes them
+pub given_duplicates : (options chosen : SearchOptions) → chosen ≡ options → (fine read : Option FinePrices) → read ≡ fine → (texts : List (List ℕ))
+    → (r : Result Answer RunFault) → AnswersFirsts chosen read texts r → (old new : List ℕ) (needed answer : ℕ) → Gives r old new needed answer
+    → DuplicatesCalls options fine texts old new needed answer
+given_duplicates options chosen is_chosen fine read is_fine texts r is old new needed answer g =
+    rw (← is_chosen, ← is_fine) (given_by (SaysFirsts chosen read texts) r is old new needed answer g)
 
 -- ---- the first fault of a text
 

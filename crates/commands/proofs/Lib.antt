@@ -13,6 +13,7 @@ mod Printing
 mod Pairing
 mod NamedBids
 pub mod Sizing
+pub mod JudgingTexts
 pub mod Refusing
 pub mod Given
 pub mod SmallTexts

@@ -49,24 +49,33 @@ sizes_put none sizes given text longer numbers empty is same put = rw (put, same
 -- ---- the numbers of the file that an input gives
 
 -- the bid that is named for the bundle of these goods
-abbrev heavy_bid : SearchOptions → PlainFile → Vec ℕ Global → HeavyBid
+abbrev pub heavy_bid : SearchOptions → PlainFile → Vec ℕ Global → HeavyBid
 heavy_bid options file goods = record { number = first_bid_on file goods.items; goods = goods; steps = options.each; total = options.total }
 
-module _ (Gives : PlainFile → Type 0) (Refuses : ReadFault → Type 0) (options : SearchOptions) (text longer : List ℕ) where
-  abbrev Puts : Option RunFault → Type 0
-  Puts fault = PutsNumbers Gives Refuses options text longer fault
-
+module _ (Gives : PlainFile → Type 0) (Refuses : ReadFault → Type 0) (options : SearchOptions) where
   unread_by_kind : (why : ReadFault) (kind : Kind) → why.kind ≡ kind → (why.kind ≡ NoMemory → why.line ≡ 0) → Refuses why
       → Sizes Gives Refuses options (IsUnsized (refusal_by_kind why kind))
   unread_by_kind why NoMemory is no_line refused = inl (subst Refuses (ap₂ (λ (line : ℕ) (kind : Kind). fault_at line kind) (no_line is) is) refused)
   unread_by_kind why kind is no_line refused = ((λ memory. cc), refused)
 
   -- no file was given. Want of memory is on no line
+  pub sizes_unread : (why : ReadFault) → (why.kind ≡ NoMemory → why.line ≡ 0) → Refuses why → Sizes Gives Refuses options (IsUnsized (refusal_of why))
+  sizes_unread why no_line refused = unread_by_kind why why.kind refl no_line refused
+
+  pub sizes_heavy : (file : PlainFile) → Gives file → (goods : Vec ℕ Global) → first_refused options file.goods (or_atoms_of file.bids) ≡ Some goods.items
+      → Sizes Gives Refuses options (IsTooHeavy file (heavy_bid options file goods))
+  sizes_heavy file given goods heavy = (given, ap (text_unless_refused (exceeds_at options file) (canonical_text file)) heavy)
+
+module _ (Gives : PlainFile → Type 0) (Refuses : ReadFault → Type 0) (options : SearchOptions) (text longer : List ℕ) where
+  abbrev Puts : Option RunFault → Type 0
+  Puts fault = PutsNumbers Gives Refuses options text longer fault
+
+  -- no file was given
   pub numbers_unread : longer ≡ text ++ codes "\t\t\t\t\t\t\t\t" → (why : ReadFault) → (why.kind ≡ NoMemory → why.line ≡ 0) → Refuses why
       → Puts (Some (Refused Only (refusal_of why)))
   numbers_unread put why no_line refused = record {
     sized = IsUnsized (refusal_of why);
-    sizes = unread_by_kind why why.kind refl no_line refused;
+    sizes = sizes_unread Gives Refuses options why no_line refused;
     puts = put;
     is_fault = refl;
   }
@@ -87,7 +96,7 @@ module _ (Gives : PlainFile → Type 0) (Refuses : ReadFault → Type 0) (option
         → why ≡ with_bid Only file options (StepLimit goods) → Puts (Some why)
     numbers_heavy goods heavy put why is = record {
       sized = IsTooHeavy file (heavy_bid options file goods);
-      sizes = (given, ap (text_unless_refused (exceeds_at options file) (canonical_text file)) heavy);
+      sizes = sizes_heavy Gives Refuses options file given goods heavy;
       puts = put ∙ append_assoc text (with_tabs (sizes_of file)) (codes "\t\t\t")
           ∙ ap (λ (more : List ℕ). text ++ more) (heavy_numbers file (heavy_bid options file goods));
       is_fault = ap (λ (f : RunFault). Some f) is;

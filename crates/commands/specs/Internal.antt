@@ -5,3 +5,4 @@ pub mod Pairs
 pub mod Searches
 pub mod Values
 pub mod Putting
+pub mod Duplicates

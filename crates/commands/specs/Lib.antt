@@ -23,6 +23,7 @@ pub mod Buffers
 pub mod OneText
 pub mod TwoTexts
 pub mod SizesCalls
+pub mod DuplicatesCalls
 pub mod Roundings
 pub mod FaultCalls
 pub mod Internal

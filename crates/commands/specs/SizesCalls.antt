@@ -1,19 +1,12 @@
 -- What the call on the sizes of a text answers. It is the row of its file in the table of `cats sizes`.
-use Rattle.std.specs.Prelude.{◌≡◌, ℕ, List, Option}
+use Rattle.std.specs.Prelude.{ℕ, List, Option}
 use Rattle.cats_text.specs.Grammar.{Spells}
 use Rattle.valuation.specs.declared.search.options.SearchOptions.{SearchOptions}
-use Rattle.canon.specs.declared.canon_fault.CanonFault.TheVariants.{Memory}
-use Rattle.canon.specs.declared.which.Which.TheVariants.{Only}
 use Rattle.rounding.specs.declared.replacement.FinePrices.{FinePrices}
-use Rattle.commands.specs.declared.faults.RunFault.{RunFault}
-use Rattle.commands.specs.declared.faults.RunFault.TheVariants.{Refused}
 use Rattle.commands.specs.SizesRows.{PrintsRow}
+use Rattle.commands.specs.Commands.{IsWantOfMemory}
 use Rattle.commands.specs.Buffers.{Calls}
 use Rattle.commands.specs.Refusals.{RefusesText, text_read}
-
--- memory is refused for the row
-abbrev pub WantsMemoryForRow : RunFault → Type 0
-WantsMemoryForRow fault = fault ≡ Refused Only Memory
 
 module _ (options : SearchOptions) (fine : Option FinePrices) (text : List ℕ) where
   -- the status and the row of the text that is read
@@ -22,4 +15,4 @@ module _ (options : SearchOptions) (fine : Option FinePrices) (text : List ℕ) 
 
   -- what the call does with its buffer
   abbrev pub SizesCalls : List ℕ → List ℕ → ℕ → ℕ → Type 0
-  SizesCalls old new needed answer = Calls SaysRow WantsMemoryForRow old new needed answer
+  SizesCalls old new needed answer = Calls SaysRow IsWantOfMemory old new needed answer

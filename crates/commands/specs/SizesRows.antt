@@ -1,7 +1,7 @@
 -- The row of a file in the table of `cats sizes`. It has the numbers of the file, those of its canonical file, and why
 -- they are not known.
 use Rattle.std.specs.Prelude.{◌≡◌, ◌≢◌, ◌⊎◌, ℕ, Bool, List, [], ◌∷◌, ◌++◌, length, map, filter, is_none, codes, decimal}
-use Rattle.std.specs.Prelude.{Option, Some, None, Result, Ok, Err}
+use Rattle.std.specs.Prelude.{Option, Some, None, Result}
 use Rattle.std.specs.List.{flat_map, list_any, range_with_len}
 use Rattle.std.specs.Option.{option_map}
 use Rattle.bid_file.specs.Files.{PlainBid, PlainFile}
@@ -21,7 +21,7 @@ use Rattle.commands.specs.Statuses.{status_of_fault}
 use Rattle.commands.specs.declared.faults.HeavyBid.{HeavyBid}
 use Rattle.commands.specs.declared.faults.RunFault.{RunFault}
 use Rattle.commands.specs.declared.faults.RunFault.TheVariants.{Refused, TooHeavy}
-use Rattle.commands.specs.Commands.{outcome_of_heavy_bid, text_of}
+use Rattle.commands.specs.Commands.{AnswersBy, outcome_of_heavy_bid}
 use Rattle.commands.specs.Outcomes.{naming_outcome}
 use Rattle.commands.specs.declared.answer.Answer.{Answer}
 
@@ -140,5 +140,4 @@ module _ (Gives : PlainFile → Type 0) (Refuses : ReadFault → Type 0) (option
 
   -- a row is answered, unless memory is refused for it
   abbrev pub AnswersRow : Result Answer RunFault → Type 0
-  AnswersRow (Ok answer) = PrintsRow answer.status (text_of answer.output)
-  AnswersRow (Err fault) = fault ≡ Refused Only Memory
+  AnswersRow answer = AnswersBy PrintsRow answer

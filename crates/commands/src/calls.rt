@@ -2,6 +2,7 @@
 
 mod buffer;
 mod command_calls;
+mod duplicates;
 mod fault_place;
 mod pieces;
 mod rounded_text;
@@ -9,6 +10,7 @@ mod text;
 
 pub use buffer::give;
 pub use command_calls::{TextPair, call, call_on_both};
+pub use duplicates::{Texts, find_duplicates};
 pub use fault_place::find_fault;
 pub use rounded_text::{RoundAnswer, give_report, give_rounded, round_text};
 pub use text::Text;

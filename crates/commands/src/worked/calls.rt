@@ -1,7 +1,8 @@
 //! Worked rows of what the calls answer, on small texts. The prover computes them.
 
-ghost use Rattle.std.specs.Prelude.{◌≡◌, ℕ, [], ◌∷◌, ◌++◌, codes, Err, Some, None, Vec, List};
+ghost use Rattle.std.specs.Prelude.{◌≡◌, ℕ, [], ◌∷◌, ◌++◌, codes, Ok, Err, Some, None, Vec, List};
 ghost use Rattle.std.specs.Global.{Global};
+ghost use Rattle.bid_file.specs.Files.{PlainFile};
 ghost use Rattle.cats_text.specs.Faults.{fault_at};
 ghost use Rattle.cats_text.specs.declared.read_fault.Kind.TheVariants.{Header, Missing, NotANumber, TooFine, TooLong};
 ghost use Rattle.cats_text.specs.declared.read_fault.Kind.TheVariants.{Memory as NoMemory};
@@ -17,11 +18,15 @@ ghost use Rattle.commands.specs.Outcomes.{check_outcome, explain_outcome, naming
 ghost use Rattle.commands.specs.Outcomes.{revenue_outcome, show_outcome, value_outcome_by};
 ghost use Rattle.commands.specs.declared.answer.Output.TheVariants.{Text};
 ghost use Rattle.commands.specs.Buffers.{Gives, GivesOutput, PutsInto};
+ghost use Rattle.commands.specs.DuplicatesCalls.{AnswersFirst, DuplicatesCalls, IsFirstSame, SaysFirsts};
+ghost use Rattle.commands.specs.DuplicatesCalls.{greatest_status, texts_of};
+ghost use Rattle.commands.specs.Examples.{larger_bid};
 ghost use Rattle.commands.specs.FaultCalls.{FaultCalls, IsUnplaced, SaysPlace};
 ghost use Rattle.commands.specs.OneText.{CallsOn, IsRefusedText, IsUnmade, PrintsOf};
 ghost use Rattle.commands.specs.Refusals.{RefusesText, text_read};
 ghost use Rattle.commands.specs.Roundings.{GivesReport, IsUnrounded, RoundCalls, RoundsText, report_of, whole_status};
 ghost use Rattle.commands.specs.SizesCalls.{SaysRow, SizesCalls};
+ghost use Rattle.commands.specs.SizesRows.{IsSized, IsUnsized};
 ghost use Rattle.commands.specs.TwoTexts.{CompareCalls, ComparesTexts, DiffsTexts, IsRefusedOfTwo};
 
 /// What a call prints of a text: what its command makes of the file, with its status. It prints nothing of a text that is
@@ -54,6 +59,25 @@ pub fn rows_said()
     ensures success { (out : List ℕ) → SaysRow (bounded_options 1 None) None (codes "bids 0\n") 0 out → ⊥ }
     ensures memory { SizesCalls (bounded_options 1 None) None (codes "goods 0\nbids 0\ndummy 0\n")
         (codes "................") (codes "want of memory\n.") 15 4 }
+{}
+
+/// Which of many texts are the same auction: the lines, and the numbers that are right of texts of which that is known. A
+/// text that is refused is not the same auction as another.
+pub fn duplicates_said()
+    ensures texts { texts_of (codes "abcde") (2 ∷ 0 ∷ 9 ∷ 1 ∷ []) ≡ codes "ab" ∷ [] ∷ codes "cde" ∷ [] ∷ [] }
+    ensures lines { SaysFirsts (bounded_options 1 None) (Some Round)
+        (codes "goods 1\nbids 2\ndummy 0\n0 2 0 #\n1 3e0 0 #\n" ∷ codes "bids 0\n"
+        ∷ codes "goods 1\nbids 1\ndummy 0\n0 3 0 #\n" ∷ codes "goods 0\nbids 0\ndummy 0\n" ∷ []) 2
+        (codes "0\nline 1: Header\n0\n3\n") }
+    ensures own_number { IsFirstSame (IsSized larger_bid ∷ IsSized larger_bid ∷ []) larger_bid 1 → ⊥ }
+    ensures other_goods { let no_goods : PlainFile = record { goods = 0; dummy = 0; bids = [] } in
+        IsFirstSame (IsSized larger_bid ∷ IsSized no_goods ∷ []) no_goods 0 → ⊥ }
+    ensures refused { IsFirstSame (IsUnsized Memory ∷ IsSized larger_bid ∷ []) larger_bid 0 → ⊥ }
+    ensures number_of_refused { AnswersFirst (IsUnsized Memory ∷ []) (IsUnsized Memory) (Ok 0) → ⊥ }
+    ensures statuses { greatest_status (Ok 0 ∷ Err (Refused Only Memory) ∷ Err (Refused Only (Read (fault_at 1 Header)))
+        ∷ Ok 0 ∷ []) ≡ 4 }
+    ensures memory { DuplicatesCalls (bounded_options 1 None) None [] (codes "................") (codes "want of memory\n.")
+        15 4 }
 {}
 
 /// What bids bring as winners: a sum, or the two that cannot both win. A bid that is named twice counts once.
