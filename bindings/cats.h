@@ -1,18 +1,19 @@
-// The proved library libcats: bid files of combinatorial auctions, checked, shown, valued, normalised, explained, rounded and compared, and
-// their winner determination problems, with what bids bring as winners. docs/C.md shows how it is used, and docs/FORMAT.md has the texts.
+// The proved library libcats: bid files of combinatorial auctions, checked, shown, valued, normalised, explained, rounded, compared and grouped,
+// and their winner determination problems, with what bids bring as winners. docs/C.md shows how it is used, and docs/FORMAT.md has the texts.
 //
 // What all functions have in common:
 //
 // - A text is a pointer and a length in bytes. Only these bytes are read. It needs no NUL at its end.
 // - An output buffer is a pointer and its size in bytes. `needed` gets the length of the output, whatever the status.
 // - With every status but CATS_BUFFER_TOO_SMALL, the first `*needed` bytes of the buffer are the output: what the program `cats` prints
-//   on standard output, or, if the text is refused, the line that it prints on standard error; of cats_sizes a row. There is no NUL behind it.
+//   on standard output, or, if the text is refused, the line that it prints on standard error; of cats_sizes a row, and of cats_duplicates a
+//   line for each text. There is no NUL behind it.
 // - With CATS_BUFFER_TOO_SMALL the buffer that is too small is as it was, and a call with a buffer of `*needed` bytes gives the output.
 // - For each function the macro CATS_.._SIZE is a buffer size that always suffices, for the output and for the line of a fault. If the prices
 //   of a text are rounded, CATS_ROUND_SIZE(length) counts in the place of its length, as in CATS_SHOW_SIZE(CATS_ROUND_SIZE(length)).
 //
-// The caller has to guarantee that each pointer is valid for its length or size and not null (for 0 bytes too), that the buffers, `needed`
-// and the texts do not overlap, but that the two texts may be the same, and that nothing else changes a text or uses a buffer during
+// The caller has to guarantee that each pointer is valid for its length or size and not null (for 0 bytes too), that the buffers, `needed`,
+// the texts and what else is read do not overlap, but that the two texts may be the same, and that nothing else changes a text or uses a buffer during
 // the call. A call needs some 180 KiB of stack. It is not made from a signal handler, or in the forked child of a process with threads.
 // `malloc`, `realloc` and `free` are those of one allocator, which aligns a block as the C library's does.
 //
@@ -46,7 +47,7 @@ enum cats_status {
     CATS_WRONG_USAGE = 64      // of cats_value: the text has no such good; of cats_revenue: it has no such bid
 };
 
-// How `prices` says that a text is read, or each of two texts. Any other number is as CATS_ROUNDED_EXACTLY.
+// How `prices` says that a text is read, or each of several. Any other number is as CATS_ROUNDED_EXACTLY.
 enum cats_prices {
     CATS_AS_WRITTEN = 0,     // as it is: a price such as 1e3 is a fault
     CATS_ROUNDED = 1,        // as cats_round writes it, which the program does with `--round`
@@ -57,7 +58,7 @@ enum cats_prices {
 //
 // - `steps`: the most steps of one search, of which a file may need as many as it has bids. Any number is a limit; CATS_STEPS is what the
 //   program has without `--steps`.
-// - `total`: the most steps of all searches of one text together, or CATS_NO_TOTAL. Each of two texts has a total of its own.
+// - `total`: the most steps of all searches of one text together, or CATS_NO_TOTAL. Each of several texts has a total of its own.
 #define CATS_STEPS 1000000
 #define CATS_NO_TOTAL 0
 
@@ -120,6 +121,16 @@ uint8_t cats_explain(const uint8_t *text, size_t length, uint8_t prices, uint64_
 uint8_t cats_sizes(const uint8_t *text, size_t length, uint8_t prices, uint64_t steps, uint64_t total, uint8_t *out, size_t size,
                    size_t *needed);
 #define CATS_SIZES_SIZE ((size_t)512)
+
+// Reads `count` texts, which lie one behind the other, and writes for each a line with the number, counted from 0, of the first text that is the
+// same auction: its own number if no text before it is. The text of number N is the next `lengths[N]` bytes, as far as there are bytes. If a text
+// is refused, its line is that of its fault, as cats_sizes has it, and it is the same auction as no other; the others are judged all the
+// same. What is returned is the greatest status of a text. Only if memory is refused for the lines, the line `want of memory` is written in
+// their place.
+// Returns CATS_DONE, CATS_REFUSED, CATS_STEP_LIMIT, CATS_WANT_OF_MEMORY or CATS_BUFFER_TOO_SMALL.
+uint8_t cats_duplicates(const uint8_t *texts, size_t length, const size_t *lengths, size_t count, uint8_t prices, uint64_t steps,
+                        uint64_t total, uint8_t *out, size_t size, size_t *needed);
+#define CATS_DUPLICATES_SIZE(count) (256 * (size_t)(count) + 64)
 
 // Reads two texts and writes `same` and LF, or four lines: `different`, and where the two auctions first differ.
 // The line of a refused text begins with `first: ` or `second: `.

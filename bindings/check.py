@@ -82,16 +82,24 @@ def buffer_of(size):
 def call_library(library, call, texts, sizes):
     """The status of a call with buffers of these sizes, and the buffers. A text is its bytes, or a pointer and a length."""
     buffers = [buffer_of(size) for size in sizes]
-    words = [word for text in texts for word in (text if isinstance(text, tuple) else (text, len(text)))]
+    words = words_of_texts(call, texts)
     arguments = [word for buffer in buffers for word in (buffer.bytes, buffer.size, ctypes.byref(buffer.needed))]
     return getattr(library, f"cats_{call.name}")(*words, *call.words_of_library(), *arguments), buffers
+
+
+def words_of_texts(call, texts):
+    """The texts as a function takes them. Of many one alone may be a pointer and a length."""
+    if not any(isinstance(text, tuple) for text in texts):
+        return _library.arguments_of(call.name, texts)
+    words = [word for text in texts for word in (text if isinstance(text, tuple) else (text, len(text)))]
+    return [*words, (ctypes.c_size_t * 1)(words[1]), 1] if call.takes("texts") else words
 
 
 def ample_sizes(call, texts):
     """The sizes that cats.h says always suffice. A text whose prices are rounded counts with the size that rounding it needs."""
     rounded = FUNCTIONS["round"].sizes[0]
-    length = sum(rounded.ample(len(text)) if call.words_of_prices() else len(text) for text in texts)
-    return [size.ample(length) for size in FUNCTIONS[call.name].sizes]
+    length = sum(rounded.ample(len(text), 1) if call.words_of_prices() else len(text) for text in texts)
+    return [size.ample(length, len(texts)) for size in FUNCTIONS[call.name].sizes]
 
 
 def answer_of_library(library, call, texts):
@@ -139,10 +147,16 @@ def check_sizes(cases):
             TALLY.judge(is_right_with(one, sizes), f"{one}: buffers of {sizes} bytes", one.texts)
 
 
+WANT = b"want of memory\n"
+
+
 def lacks_memory(one, answer):
     """Whether a call answers that memory was refused. No line of a fault or of a changed price is replaced."""
-    prefixes = (b"", b"first: ", b"second: ") if one.call.texts() == 2 else (b"",)
-    lines = [prefix + b"want of memory\n" for prefix in (*prefixes, *([b"\t" * 8] if one.call.name == "sizes" else []))]
+    prefixes = (b"", b"first: ", b"second: ") if one.call.takes("second") else (b"",)
+    lines = [prefix + WANT for prefix in (*prefixes, *([b"\t" * 8] if one.call.name == "sizes" else []))]
+    if one.call.takes("texts"):
+        first, second = one.own.out.splitlines(True)
+        lines += [first + WANT, WANT + (b"1\n" if second == b"0\n" else second), WANT + WANT]
     return answer.status == Status.WANT_OF_MEMORY and answer.out in lines and answer.report == b""
 
 
@@ -189,7 +203,7 @@ def check_long_texts():
     zeros = ctypes.cast((ctypes.c_char * len(pages)).from_buffer(pages), ctypes.c_char_p)
     tried = [(call, MAX_STREAM + 1, b"TooLong\n") for call in CALLS if not call.words] + [(CALLS[0], MAX_STREAM, b"line 1: Header\n")]
     for call, length, line in tried:
-        before = [BIDS] * (call.texts() - 1)
+        before = [BIDS] if call.takes("second") else []
         status, buffers = call_library(TESTED, call, [*before, (zeros, length)], [ROOM] * call.outputs())
         out = buffers[0].bytes.raw[: buffers[0].needed.value]
         prefix = b"second: " if before else b"\t" * 8 if call.name == "sizes" else b""

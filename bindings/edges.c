@@ -3,6 +3,7 @@
 //     edges FILE..
 #include <stdio.h>
 #include <stdlib.h>
+#include <string.h>
 
 #include "cats.h"
 
@@ -16,6 +17,8 @@ struct block {
 // What a call reads and writes. The report is of cats_round alone.
 struct edge {
     struct block left, right, out, report;
+    struct block both; // the two texts, one behind the other
+    size_t *lengths;
     uint8_t prices;
     uint64_t steps, total;
     uint16_t *goods;
@@ -59,6 +62,7 @@ static void *new_zeros(size_t count, size_t size) {
 // The arguments for what a function takes.
 #define TEXT it->left.bytes, it->left.size
 #define SECOND it->right.bytes, it->right.size
+#define TEXTS it->both.bytes, it->both.size, it->lengths, 2
 #define PRICES it->prices
 #define EXACT false
 #define GOODS it->goods, it->count
@@ -136,10 +140,16 @@ static void try_with(struct edge edge, uint64_t steps, uint64_t total, size_t co
 }
 
 static void try_all_calls(struct block left, struct block right) {
-    struct edge edge = {.left = left, .right = right};
+    struct edge edge = {.left = left, .right = right, .both = new_block(left.size + right.size), .lengths = new_zeros(2, sizeof(size_t))};
+    memcpy(edge.both.bytes, left.bytes, left.size);
+    memcpy(edge.both.bytes + left.size, right.bytes, right.size);
+    edge.lengths[0] = left.size;
+    edge.lengths[1] = right.size;
     try_with(edge, CATS_STEPS, CATS_NO_TOTAL, 1);
     try_with(edge, FEW_STEPS, CATS_NO_TOTAL, 0);
     try_with(edge, CATS_STEPS, FEW_STEPS, 1);
+    free(edge.both.bytes);
+    free(edge.lengths);
 }
 
 int main(int count, char **paths) {

@@ -37,9 +37,10 @@ class Prices(enum.IntEnum):
     ROUNDED_EXACTLY = 2
 
 
-# What stands in C for what a function takes. A second text is one that is compared with the first.
+# What stands in C for what a function takes. A second text is one that is compared with the first. Texts are many, one behind the other.
 ARGUMENTS: Dict[str, List[Any]] = {
     "text": [c_char_p, c_size_t],
+    "texts": [c_char_p, c_size_t, POINTER(c_size_t), c_size_t],
     "second": [c_char_p, c_size_t],
     "prices": [c_uint8],
     "exact": [c_bool],
@@ -52,18 +53,19 @@ ARGUMENTS: Dict[str, List[Any]] = {
 
 class Size(NamedTuple):
     """The size of a buffer that always suffices: so many bytes for each byte of the texts, and so many more. `usual` is the number for each byte
-    that mostly suffices, if it is another one."""
+    that mostly suffices, if it is another one. `each` is the number for each of many texts."""
 
     times: float
     more: int
     usual: Optional[float] = None
+    each: int = 0
 
-    def ample(self, length: int) -> int:
-        return int(self.times * length) + self.more
+    def ample(self, length: int, count: int) -> int:
+        return int(self.times * length) + self.each * count + self.more
 
-    def first(self, length: int) -> int:
+    def first(self, length: int, count: int) -> int:
         """What is tried first."""
-        return int((self.times if self.usual is None else self.usual) * length) + min(self.more, ROOM)
+        return int((self.times if self.usual is None else self.usual) * length) + self.each * count + min(self.more, ROOM)
 
 
 class Function(NamedTuple):
@@ -87,6 +89,7 @@ FUNCTIONS: Dict[str, Function] = {
     "normalise": Function(["text", "prices", "limits"], [Size(1.5, 64)]),
     "explain": Function(["text", "prices", "limits"], [Size(4, 64)]),
     "sizes": Function(["text", "prices", "limits"], [Size(0, 512)]),
+    "duplicates": Function(["texts", "prices", "limits"], [Size(0, 64, each=256)]),
     "compare": Function(["text", "second", "prices", "limits"], [Size(1, 128)]),
     "diff": Function(["text", "second", "prices", "limits"], [Size(2, 128)]),
     "round": Function(["text", "exact"], [Size(2, 64, 1), Size(5, 64, 0)]),
@@ -153,11 +156,19 @@ class Buffer:
         return self.needed.value > self.size
 
 
+def arguments_of(name: str, texts: Sequence[bytes]) -> List[object]:
+    """The texts as a function takes them."""
+    if "texts" not in FUNCTIONS[name].takes:
+        return [word for text in texts for word in (text, len(text))]
+    joined = b"".join(texts)
+    return [joined, len(joined), (c_size_t * len(texts))(*map(len, texts)), len(texts)]
+
+
 def call(name: str, texts: Sequence[bytes], words: Sequence[object] = ()) -> Tuple[int, List[bytes]]:
     """The status of a call on texts and these words, and its outputs. A buffer that is too small is replaced by one of the length that is needed."""
     function = getattr(LIBRARY, f"cats_{name}")
-    buffers = [Buffer(size.first(sum(map(len, texts)))) for size in FUNCTIONS[name].sizes]
-    arguments = [*(word for text in texts for word in (text, len(text))), *words]
+    buffers = [Buffer(size.first(sum(map(len, texts)), len(texts))) for size in FUNCTIONS[name].sizes]
+    arguments = [*arguments_of(name, texts), *words]
     while True:
         status = function(*arguments, *(word for buffer in buffers for word in buffer.arguments()))
         if status != Status.BUFFER_TOO_SMALL:

@@ -44,13 +44,14 @@ class Call(NamedTuple):
         return kind in FUNCTIONS[self.name].takes
 
     def texts(self):
-        """How many texts it reads."""
-        return 2 if self.takes("second") else 1
+        """How many texts it reads. Of those that take many, two are tried."""
+        return 2 if self.takes("second") or self.takes("texts") else 1
 
     def words_of_program(self, program):
-        """The subcommand and its options. The library always uses the bounded search, which some subcommands have an option for."""
-        bound = ["--bound"] if "--bound" in options_of(program, self.name) else []
-        return [self.name, *bound, *self.words_of_prices(), *self.words]
+        """The subcommand and its options. The library always uses the bounded search, which some subcommands have an option for, and it writes a
+        line of each of many texts."""
+        always = [option for option in ("--bound", "--all") if option in options_of(program, self.name)]
+        return [self.name, *always, *self.words_of_prices(), *self.words]
 
     def words_of_prices(self):
         return {None: [], Prices.AS_WRITTEN: [], Prices.ROUNDED: ["--round"]}.get(self.prices, ["--round-exact"])
@@ -136,6 +137,8 @@ def answer_of_program(program, words, paths):
     reported = ran.stderr if words[0] == "round" else OF_PRICES.sub(b"", ran.stderr)
     if words[0] == "sizes":
         return Answer(ran.returncode, row_in(ran.stdout), reported)
+    if words[0] == "duplicates":
+        return Answer(ran.returncode, lines_of(paths, ran.stdout, reported))
     if ran.returncode <= Status.DIFFERENT:
         return Answer(ran.returncode, ran.stdout, reported)
     if words[0] == "fault" and ran.stdout:
@@ -147,6 +150,14 @@ def row_in(table):
     """The only row of a table of sizes, without its path."""
     _, row, _ = table.split(b"\n")
     return row.rpartition(b"\t")[0] + b"\n"
+
+
+def lines_of(paths, printed, reported):
+    """Of each path the number of the first one of its group, or why its file is refused. Refused files that are alike are in a group too."""
+    refused = dict(line.split(": ", 1) for line in reported.decode().splitlines())
+    groups = [group.splitlines() for group in printed.decode().split("\n\n")]
+    firsts = {path: str(paths.index(group[0])) for group in groups for path in group}
+    return "".join(f"{refused.get(path) or firsts[path]}\n" for path in paths).encode()
 
 
 def write_texts(folder, texts):

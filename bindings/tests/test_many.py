@@ -7,6 +7,8 @@ from beside import SECONDS, write_texts
 from texts import BIDS, made_texts
 
 import cats
+from cats._library import Prices, Status, call
+from cats._texts import limits_of
 
 COLUMNS = ["goods", "bids", "or", "xor", "dummy", "kept", "kept_or", "kept_xor", "fault", "file"]
 
@@ -51,6 +53,16 @@ def test_duplicates(program, paths):
     assert [group for group in groups if len(group) > 1] == found
     assert sorted(path for group in groups for path in group) == sorted(judged) and len(groups) > len(found)
     assert cats.duplicates([]) == cats.duplicates([BIDS]) == [] and cats.duplicates([BIDS], all=True) == [(BIDS,)]
+
+
+def test_call_on_many_texts(paths):
+    """The library says of texts in memory what the package says of files. A text that is refused has the line of its fault, and is in no group."""
+    status, (out,) = call("duplicates", [path.read_bytes() for path in paths], [Prices.AS_WRITTEN, *limits_of(3, None)])
+    faults = {path: cells_of_package(path)[-1] for path in paths}
+    groups = cats.duplicates([path for path in paths if not faults[path]], 3, all=True)
+    firsts = {path: str(paths.index(group[0])) for group in groups for path in group}
+    assert out.decode().splitlines() == [faults[path] or firsts[path] for path in paths]
+    assert status == Status.STEP_LIMIT and len(groups) < len(firsts) < len(paths)
 
 
 def test_duplicates_raise_what_is_refused(tmp_path):

@@ -7,6 +7,7 @@ ghost use Rattle.rounding.specs.declared.replacement.FinePrices.TheVariants.{Ref
 ghost use Rattle.std.specs.Prelude.{◌≡◌, if◌then◌else◌};
 ghost use Rattle.commands.specs.Outcomes.{check_outcome, explain_outcome, lp_outcome};
 ghost use Rattle.commands.specs.Outcomes.{normalise_outcome, revenue_outcome, show_outcome, value_outcome_by};
+ghost use Rattle.commands.specs.DuplicatesCalls.{DuplicatesCalls, texts_of};
 ghost use Rattle.commands.specs.FaultCalls.{FaultCalls};
 ghost use Rattle.commands.specs.OneText.{CallsOn};
 ghost use Rattle.commands.specs.Roundings.{AnswersRounding, RoundCalls, whole_status};
@@ -19,8 +20,8 @@ ghost use Rattle.cats_c.specs.Totals.{total_of};
 pub mod worked;
 
 use commands::calls::{
-    RoundAnswer, Text, TextPair, call, call_on_both, find_fault, give, give_report, give_rounded,
-    round_text,
+    RoundAnswer, Text, TextPair, Texts, call, call_on_both, find_duplicates, find_fault, give,
+    give_report, give_rounded, round_text,
 };
 use commands::command::{Command, Comparison};
 use commands::faults::RunFault;
@@ -195,6 +196,29 @@ pub extern "C" fn cats_sizes(
     let options = options_of(steps, total);
     let fine = fine_of(prices);
     let answer = sizes(alloc, &mut Text { bytes: text, fine }, options);
+    give(alloc, &answer, out, needed)
+}
+
+/// `cats duplicates`: of each of many texts, which are one behind the other, the number of the first one that is the same
+/// auction, or why it is refused. C fixes the parameters.
+#[unsafe(no_mangle)]
+pub extern "C" fn cats_duplicates(
+    alloc: Global,
+    texts: &[u8],
+    lengths: &[usize],
+    prices: u8,
+    steps: u64,
+    total: u64,
+    out: &mut [u8],
+    needed: &mut usize,
+) -> u8
+    ensures { let options = bounded_options steps (total_of total) in
+        DuplicatesCalls options (fine_of prices) (texts_of texts.now lengths.now) out.old out.new needed.new result }
+{
+    let options = options_of(steps, total);
+    let fine = fine_of(prices);
+    let bytes = texts;
+    let answer = find_duplicates(alloc, Texts { bytes, lengths, fine }, options);
     give(alloc, &answer, out, needed)
 }
 

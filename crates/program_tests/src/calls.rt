@@ -2,7 +2,8 @@
 
 use commands::answer::Answer;
 use commands::calls::{
-    Text, TextPair, call, call_on_both, find_fault, give, give_report, give_rounded, round_text,
+    Text, TextPair, Texts, call, call_on_both, find_duplicates, find_fault, give, give_report,
+    give_rounded, round_text,
 };
 use commands::command::{Command, Comparison};
 use commands::faults::RunFault;
@@ -125,6 +126,30 @@ fn expect_comparison<R: Abort + AllocGlobal>(
     expect_given(rt, (given, needed), &buffer, expected.0, expected.1);
 }
 
+/// What is given of many texts, whose prices are rounded.
+fn expect_firsts<R: Abort + AllocGlobal>(
+    rt: &R,
+    options: SearchOptions,
+    texts: &[&[u8]],
+    expected: (u8, &[u8]),
+) -> Result<(), Fail> {
+    let alloc = rt.alloc();
+    let mut bytes = Vec::new(alloc);
+    let mut lengths = Vec::new(alloc);
+    for text in texts {
+        bytes.extend_from_slice(text)?;
+        lengths.push(text.len())?;
+    }
+    let texts = Texts {
+        bytes: bytes.as_slice(),
+        lengths: lengths.as_slice(),
+        fine: Some(FinePrices::Round),
+    };
+    let answer = find_duplicates(alloc, texts, options);
+    expect(rt, alloc, &answer, expected.0, expected.1);
+    Ok(())
+}
+
 #[test]
 fn one_text(rt: HostRuntime) -> Result<(), Fail> {
     let refused: (u8, &[u8]) = (2, b"line 4: GoodRange\n");
@@ -202,6 +227,49 @@ fn rows_of_sizes(rt: HostRuntime) -> Result<(), Fail> {
         2,
         b"\t\t\t\t\t\t\t\tline 4: GoodRange\n",
     );
+    Ok(())
+}
+
+#[test]
+fn many_texts(rt: HostRuntime) -> Result<(), Fail> {
+    let enough = SearchOptions::bounded(STEPS, None);
+    let exponents = b"goods 2\nbids 2\ndummy 0\n0\t3e0\t0\t#\n1\t0.4e1\t1\t#\n";
+    let five: [&[u8]; 5] = [SINGLES, BEYOND, PAIR_AT_8, PAIR_AT_7, PAIR_AT_8];
+    let firsts: (u8, &[u8]) = (2, b"0\nline 4: GoodRange\n2\n0\n2\n");
+    let named: (u8, &[u8]) = (3, b"step limit of 1 (2 in all) at bid 2: 0,1,2\n1\n1\n");
+    let both: (u8, &[u8]) = (
+        3,
+        b"line 4: GoodRange\nstep limit of 1 (2 in all) at bid 2: 0,1,2\nline 4: GoodRange\n",
+    );
+    expect_firsts(&rt, enough, &five, firsts)?;
+    expect_firsts(&rt, total(2), &[CROSSING, SINGLES, exponents], named)?;
+    expect_firsts(&rt, total(2), &[BEYOND, CROSSING, BEYOND], both)?;
+    expect_firsts(&rt, enough, &[], (0, b""))
+}
+
+#[test]
+fn lengths_of_texts(rt: HostRuntime) -> Result<(), Fail> {
+    let alloc = rt.alloc();
+    let lengths = [
+        SINGLES.len() - 1,
+        1,
+        SINGLES.len(),
+        0,
+        usize::MAX,
+        usize::MAX,
+    ];
+    let mut bytes = Vec::from_slice(alloc, SINGLES)?;
+    bytes.extend_from_slice(SINGLES)?;
+    bytes.extend_from_slice(PAIR_AT_7)?;
+    let texts = Texts {
+        bytes: bytes.as_slice(),
+        lengths: &lengths,
+        fine: None,
+    };
+    let answer = find_duplicates(alloc, texts, SearchOptions::bounded(STEPS, None));
+    let lines =
+        b"0\nline 2: Missing\n0\nline 1: Missing\n0\nline 1: Missing\n";
+    expect(&rt, alloc, &answer, 2, lines);
     Ok(())
 }
 
