@@ -1,9 +1,8 @@
 -- What holds of each answer to a request: the statuses of a run that answered, what a request that failed has written, and that only
 -- `round`, `duplicates`, `sizes` and rounded prices are reported on before they end, or a list of bids that is refused.
-use Rattle.std.proofs.Common.{◌≡◌, ◌≢◌, ℕ, List, [], Option, None, Some, Result, Ok, Err, Bool, false, ◌∙◌, subst, arith, ◌≤◌}
+use Rattle.std.proofs.Common.{◌≡◌, ◌≢◌, ℕ, List, [], Option, None, Some, Result, Ok, Err, Bool, false, ◌∙◌, arith, ◌≤◌}
 use Rattle.std.proofs.Common.{refl, sym, ⊎_elim, ◌⊎◌, inl, inr, ◌==◌}
 use Rattle.std.proofs.lemmas.Bool.{both_ways, eq-eqb}
-use Rattle.bid_file.specs.Files.{PlainFile}
 use Rattle.cats_text.specs.FaultPlaces.{PlainPlace, first_place}
 use Rattle.cats_text.specs.declared.read_fault.Kind.{Kind}
 use Rattle.cats_text.specs.declared.read_fault.Kind.TheVariants.{Device, Memory as NoMemory}
@@ -11,17 +10,15 @@ use Rattle.cats_text.specs.declared.stream.Watched.{Watched}
 use Rattle.canon.specs.declared.canon_fault.CanonFault.{CanonFault}
 use Rattle.canon.specs.declared.canon_fault.CanonFault.TheVariants.{Read, StepLimit, Memory}
 use Rattle.commands.specs.Commands.{Commands}
-use Rattle.commands.specs.Outcomes.{Outcome, Prints}
+use Rattle.commands.specs.Outcomes.{Prints}
 use Rattle.commands.specs.Pairs.{CommandsOnBoth}
 use Rattle.commands.specs.declared.answer.Answer.{Answer}
 use Rattle.cats_cmd.specs.FindingFaults.{outcome_of_place}
 use Rattle.cats_cmd.specs.PricedInputs.{PricedGives, PricedRefuses, fine_prices}
 use Rattle.cats_cmd.specs.BidLists.{RunsOnBids, named_bids}
-use Rattle.cats_cmd.specs.Requests.{AnswersRequest, CarriesOut, RunsAt, RunsFor, FailsRequest, comparison_of, fine_of, outcome_for}
-use Rattle.rounding.specs.declared.replacement.FinePrices.{FinePrices}
+use Rattle.cats_cmd.specs.Requests.{AnswersRequest, CarriesOut, RunsAt, RunsAtBoth, RunsFor, FailsRequest, comparison_of, outcome_for}
 use Rattle.cats_cmd.specs.Runs.{RunsCommand}
 use Rattle.commands.specs.Statuses.{status_of_canon_fault, status_of_read_fault}
-use Rattle.cats_cmd.specs.Rounding.{Rounds}
 use Rattle.cats_cmd.specs.RequestErrors.{Reports, line_of_request_error, has_found, is_for_many_files, is_reporting, is_rounding, names_found, names_many_files}
 use Rattle.cats_cmd.specs.RequestErrors.{names_reporting, status_of_request_error}
 use Rattle.cats_cmd.specs.declared.errors.RequestError.{RequestError}
@@ -33,10 +30,9 @@ use Rattle.commands.specs.declared.command.Comparison.{Comparison}
 use Rattle.command_line.specs.declared.request.Prices.{Prices}
 use Rattle.command_line.specs.declared.request.Prices.TheVariants.{AsWritten}
 use Rattle.command_line.specs.Requests.{request_of}
-use Rattle.cats_cmd.specs.declared.priced_input.PricedInput.{PricedInput}
 use Rattle.cats_cmd.specs.declared.source.Unopened.{Unopened}
-use Rattle.cats_cmd.proofs.AnswersShown.{IsPrinted, command_printed}
-use Rattle.cats_cmd.proofs.Sending.{PairFacts, pair_facts}
+use Rattle.cats_cmd.proofs.AnswersShown.{command_printed, printed}
+use Rattle.cats_cmd.proofs.Sending.{pair_facts}
 use Rattle.cats_cmd.proofs.PricedInputs.{none_given}
 
 -- ---- a request
@@ -73,14 +69,6 @@ silent_run : {W : Type 0} (contents : W → Option (List ℕ)) (Answers : Result
 silent_run contents Answers old new (Sent fault) ran = tt
 silent_run contents Answers old new fault ran = ran.1
 
--- a rounding that failed has written nothing, unless its output failed
-silent_rounding : {R W E : Type 0} (remaining : R → Option (List ℕ)) (contents : W → Option (List ℕ)) (messages : E → Option (List ℕ)) (fine : FinePrices)
-    (before after : Watched R) (out out_after : Watched W) (err err_after : Watched E) (fault : RunFault)
-    → Rounds remaining contents messages fine before after out out_after err err_after (Err fault) → IsSilent (Run fault) out out_after
-silent_rounding remaining contents messages fine before after out out_after err err_after (Refused which fault) ran = ran.silent
-silent_rounding remaining contents messages fine before after out out_after err err_after (Sent fault) ran = tt
-silent_rounding remaining contents messages fine before after out out_after err err_after fault ran = absurd ran
-
 -- ---- errors
 
 read_status_above : (kind : Kind) → 2 ≤ status_of_read_fault kind
@@ -112,56 +100,45 @@ none_rounded prices plain = cc
 module _ {F W E : Type 0} (may_open : List ℕ → F → Type 0) (may_refuse : List ℕ → Unopened → Type 0) (remaining : F → Option (List ℕ))
     (contents : W → Option (List ℕ)) (messages : E → Option (List ℕ)) (terminal : Bool)
     (may_find : List ℕ → Option (List (List ℕ)) → Type 0) (out out_after : Watched W) (err : Watched E) where
-  -- a run of one file that answered has the status of its outcome
-  printed_at : (path : List ℕ) (prices : Prices) (command : PlainCommand) (numbers : List ℕ) (err_after : Watched E) (status : ℕ)
-      → RunsAt may_open remaining contents messages path prices (outcome_for command numbers) out out_after err err_after (Ok status) → status ≤ 1
-  printed_at path prices command numbers err_after status ran =
-      let r = ran.runs in
-      let most = (subst IsPrinted r.answers.made (command_printed command numbers r.answers.file)).0 in
-      let is = r.is_status in
-      omega (arith, most, is)
-
-  -- one that answered has reported nothing, if prices are not rounded
-  quiet_at : (path : List ℕ) (prices : Prices) (outcome : PlainFile → Outcome) (err_after : Watched E) (status : ℕ) → is_rounding prices ≡ false
-      → RunsAt may_open remaining contents messages path prices outcome out out_after err err_after (Ok status) → err_after ≡ err
-  quiet_at path prices outcome err_after status plain ran =
-      let made = ran.runs.answers in
-      let none = none_given remaining ran.before ran.after (ran.opened.fine ∙ none_rounded prices plain) made.file made.given in
-      rw none at ran.reports
-
-  -- one that failed has written nothing, unless its output failed
-  silent_at : (path : List ℕ) (prices : Prices) (outcome : PlainFile → Outcome) (err_after : Watched E) (fault : RunFault)
-      → RunsAt may_open remaining contents messages path prices outcome out out_after err err_after (Err fault) → IsSilent (Run fault) out out_after
-  silent_at path prices outcome err_after fault ran =
-      silent_run contents (Commands (PricedGives remaining) (PricedRefuses remaining) outcome ran.before ran.after) out out_after fault ran.runs
+  -- A run on one or two files that answered has the status 0 or 1, or has written nothing, and has reported nothing if prices are not rounded.
+  -- One that failed has written nothing, unless its output failed.
+  abbrev Kept : Prices → Watched E → Result ℕ RunFault → Type 0
+  Kept prices err_after (Ok status) = ((status ≤ 1) ⊎ (out_after ≡ out)) × (is_rounding prices ≡ false → status ≤ 1 → err_after ≡ err)
+  Kept prices err_after (Err fault) = IsSilent (Run fault) out out_after
 
   -- ---- a command on one file
 
   module _ (path : List ℕ) (prices : Prices) (command : PlainCommand) (err_after : Watched E) where
+    abbrev RunsOnNumbers : List ℕ → Result ℕ RunFault → Type 0
+    RunsOnNumbers numbers answer =
+        RunsAt may_open remaining contents messages path prices (outcome_for command numbers) out out_after err err_after answer
+
+    kept_at : (numbers : List ℕ) (answer : Result ℕ RunFault) → RunsOnNumbers numbers answer → Kept prices err_after answer
+    kept_at numbers (Err fault) ran =
+        silent_run contents (Commands (PricedGives remaining) (PricedRefuses remaining) (outcome_for command numbers) ran.before ran.after) out out_after fault
+        ran.runs
+    kept_at numbers (Ok status) ran =
+        let r = ran.runs in
+        let made = r.answers in
+        let most = (printed _ _ _ (command_printed command numbers made.file) made.made).0 in
+        let is = r.is_status in (
+          inl (omega (arith, most, is)),
+          λ plain few. rw (none_given remaining ran.before ran.after (ran.opened.fine ∙ none_rounded prices plain) made.file made.given) at ran.reports,
+        )
+
     -- it runs on the bids that are named, or on none
-    abbrev RunsOn : Option PlainBids → Result ℕ RunFault → Type 0
-    RunsOn named answer =
-        RunsOnBids may_open may_refuse remaining messages
-        (λ numbers. RunsAt may_open remaining contents messages path prices (outcome_for command numbers)) named out out_after err err_after answer
-
-    -- it has the status 0 or 1, or has written nothing
-    command_answered : (named : Option PlainBids) (status : ℕ) → RunsOn named (Ok status) → (status ≤ 1) ⊎ (out_after ≡ out)
-    command_answered None status ran = inl (printed_at path prices command [] err_after status ran)
-    command_answered (Some (GivenBids bids)) status ran = inl (printed_at path prices command bids err_after status ran)
-    command_answered (Some (BidsIn list)) status ran =
-        ⊎_elim (λ listed. inl (printed_at path prices command listed.bids err_after status listed.runs)) (λ refused. inr refused.silent) ran
-
-    command_quiet : (named : Option PlainBids) (status : ℕ) → is_rounding prices ≡ false → RunsOn named (Ok status) → status ≤ 1 → err_after ≡ err
-    command_quiet None status plain ran most = quiet_at path prices (outcome_for command []) err_after status plain ran
-    command_quiet (Some (GivenBids bids)) status plain ran most = quiet_at path prices (outcome_for command bids) err_after status plain ran
-    command_quiet (Some (BidsIn list)) status plain ran most =
-        ⊎_elim (λ listed. quiet_at path prices (outcome_for command listed.bids) err_after status plain listed.runs)
-        (λ refused. let least = error_status_above refused.error in let is = refused.is_status in absurd (omega (arith, least, is, most))) ran
-
-    command_silent : (named : Option PlainBids) (fault : RunFault) → RunsOn named (Err fault) → IsSilent (Run fault) out out_after
-    command_silent None fault ran = silent_at path prices (outcome_for command []) err_after fault ran
-    command_silent (Some (GivenBids bids)) fault ran = silent_at path prices (outcome_for command bids) err_after fault ran
-    command_silent (Some (BidsIn list)) fault ran = silent_at path prices (outcome_for command ran.bids) err_after fault ran.runs
+    kept_on : (named : Option PlainBids) (answer : Result ℕ RunFault)
+        → RunsOnBids may_open may_refuse remaining messages
+        (λ numbers out out_after err err_after answer. RunsAt may_open remaining contents messages path prices (outcome_for command numbers) out out_after err
+        err_after answer) named out out_after err err_after answer → Kept prices err_after answer
+    kept_on None answer ran = kept_at [] answer ran
+    kept_on (Some (GivenBids bids)) answer ran = kept_at bids answer ran
+    kept_on (Some (BidsIn list)) (Err fault) ran = kept_at ran.bids (Err fault) ran.runs
+    kept_on (Some (BidsIn list)) (Ok status) (inl listed) = kept_at listed.bids (Ok status) listed.runs
+    kept_on (Some (BidsIn list)) (Ok status) (inr refused) =
+        let least = error_status_above refused.error in
+        let is = refused.is_status in
+        (inr refused.silent, λ plain most. absurd (omega (arith, least, is, most)))
 
   -- ---- any request
 
@@ -171,28 +148,34 @@ module _ {F W E : Type 0} (may_open : List ℕ → F → Type 0) (may_refuse : L
   abbrev Carried : PlainRequest → Watched E → Result ℕ RequestError → Type 0
   Carried request err_after answer = CarriesOut may_open may_refuse remaining contents messages terminal may_find request out out_after err err_after answer
 
-  abbrev Answered : PlainRequest → Watched E → ℕ → Type 0
-  Answered request err_after status =
-      AnswersRequest may_open may_refuse remaining contents messages terminal may_find request out out_after err err_after status
-
   abbrev Failed : PlainRequest → Watched E → ℕ → Type 0
   Failed request err_after status = FailsRequest may_open may_refuse remaining contents messages terminal may_find request out out_after err err_after status
 
-  abbrev both : (left left_after right right_after : PricedInput F) (comparison : Comparison)
-      → PairFacts (PricedGives remaining) (PricedRefuses remaining) (PricedGives remaining) (PricedRefuses remaining) left left_after right right_after
-      (CommandsOnBoth (PricedGives remaining) (PricedRefuses remaining) (PricedGives remaining) (PricedRefuses remaining) comparison left left_after right
-      right_after)
-  both left left_after right right_after comparison = pair_facts _ _ _ _ left left_after right right_after comparison
+  kept_both : (first second : List ℕ) (prices : Prices) (comparison : Comparison) (err_after : Watched E) (answer : Result ℕ RunFault)
+      → RunsAtBoth may_open remaining contents messages first second prices comparison out out_after err err_after answer → Kept prices err_after answer
+  kept_both first second prices comparison err_after (Err fault) ran =
+      silent_run contents (CommandsOnBoth (PricedGives remaining) (PricedRefuses remaining) (PricedGives remaining) (PricedRefuses remaining)
+      comparison ran.left ran.left_after ran.right ran.right_after) out out_after fault ran.runs
+  kept_both first second prices comparison err_after (Ok status) ran =
+      let facts = pair_facts (PricedGives remaining) (PricedRefuses remaining) (PricedGives remaining) (PricedRefuses remaining) ran.left ran.left_after
+      ran.right ran.right_after comparison in
+      let made = facts.made ran.runs.answer ran.runs.answers in
+      let most = made.printed.0 in
+      let is = ran.runs.is_status in (
+        inl (omega (arith, most, is)),
+        λ plain few.
+            let written = none_rounded prices plain in
+            let one = none_given remaining ran.left ran.left_after (ran.left_opened.fine ∙ written) made.files.0 made.given.0.given in
+            let other = none_given remaining ran.right ran.right_after (ran.right_opened.fine ∙ written) made.files.1 made.given.1.given in
+            rw other at (rw one at ran.reports),
+      )
 
   -- a request for one or two files that answered has the status 0 or 1, or has written nothing, unless it has found a fault
   answered : (request : PlainRequest) (err_after : Watched E) (status : ℕ) → Ran request err_after (Ok status) → is_for_many_files request ≡ false
       → has_found status request ≡ false → (status ≤ 1) ⊎ (out_after ≡ out)
-  answered (OnFile path prices command) err_after status ran few none =
-      command_answered path prices command err_after (named_bids command) status ran
+  answered (OnFile path prices command) err_after status ran few none = (kept_on path prices command err_after (named_bids command) (Ok status) ran).0
   answered (OnPair first second prices command limits) err_after status ran few none =
-      let most = ((both ran.left ran.left_after ran.right ran.right_after (comparison_of command limits)).made ran.runs.answer ran.runs.answers).printed.0 in
-      let is = ran.runs.is_status in
-      inl (omega (arith, most, is))
+      (kept_both first second prices (comparison_of command limits) err_after (Ok status) ran).0
   answered (OnFiles files) err_after status ran few none = absurd (cc)
   answered (Fault file) err_after status ran few none =
       let made = ran.0.runs in inl (none_printed file (first_place made.given) status made.text made.made none)
@@ -201,30 +184,25 @@ module _ {F W E : Type 0} (may_open : List ℕ → F → Type 0) (may_refuse : L
   -- a request that answered has reported nothing, unless it is one that reports
   quiet : (request : PlainRequest) (err_after : Watched E) (status : ℕ) → Ran request err_after (Ok status) → is_reporting request ≡ false
       → status ≤ 1 → err_after ≡ err
-  quiet (OnFile path prices command) err_after status ran plain most =
-      command_quiet path prices command err_after (named_bids command) status plain ran most
+  quiet (OnFile path prices command) err_after status ran plain most = (kept_on path prices command err_after (named_bids command) (Ok status) ran).1 plain most
   quiet (OnPair first second prices command limits) err_after status ran plain most =
-      let written = none_rounded prices plain in
-      let made = (both ran.left ran.left_after ran.right ran.right_after (comparison_of command limits)).made ran.runs.answer ran.runs.answers in
-      let one = none_given remaining ran.left ran.left_after (ran.left_opened.fine ∙ written) made.files.0 made.given.0.given in
-      let other = none_given remaining ran.right ran.right_after (ran.right_opened.fine ∙ written) made.files.1 made.given.1.given in
-      rw other at (rw one at ran.reports)
+      (kept_both first second prices (comparison_of command limits) err_after (Ok status) ran).1 plain most
   quiet (Fault file) err_after status ran plain most = ran.1
   quiet request err_after status ran plain most = absurd (cc)
 
   -- a request that failed has written nothing, unless its output failed
   silent_fault : (request : PlainRequest) (err_after : Watched E) (fault : RunFault) → Ran request err_after (Err fault)
       → is_for_many_files request ≡ false → IsSilent (Run fault) out out_after
-  silent_fault (OnFile path prices command) err_after fault ran few = command_silent path prices command err_after (named_bids command) fault ran
+  silent_fault (OnFile path prices command) err_after fault ran few = kept_on path prices command err_after (named_bids command) (Err fault) ran
   silent_fault (OnPair first second prices command limits) err_after fault ran few =
-      silent_run contents (CommandsOnBoth (PricedGives remaining) (PricedRefuses remaining) (PricedGives remaining) (PricedRefuses remaining)
-      (comparison_of command limits) ran.left ran.left_after ran.right ran.right_after) out out_after fault ran.runs
+      kept_both first second prices (comparison_of command limits) err_after (Err fault) ran
   silent_fault (OnFiles files) err_after fault ran few = absurd (cc)
   silent_fault (Fault file) err_after (Refused which fault) ran few = ran.0.runs.2
   silent_fault (Fault file) err_after (Sent fault) ran few = tt
   silent_fault (Fault file) err_after fault ran few = absurd ran.0.runs
-  silent_fault (Round file exact) err_after fault ran few =
-      silent_rounding remaining contents messages (fine_of exact) ran.before ran.after out out_after err err_after fault ran.runs
+  silent_fault (Round file exact) err_after (Refused which fault) ran few = ran.runs.silent
+  silent_fault (Round file exact) err_after (Sent fault) ran few = tt
+  silent_fault (Round file exact) err_after fault ran few = absurd ran.runs
 
   silent_request : (request : PlainRequest) (err_after : Watched E) (error : RequestError) → Carried request err_after (Err error)
       → is_for_many_files request ≡ false → IsSilent error out out_after
@@ -232,25 +210,23 @@ module _ {F W E : Type 0} (may_open : List ℕ → F → Type 0) (may_refuse : L
   silent_request request err_after (NotOpened why) ran few = absurd ran
   silent_request request err_after (Run fault) ran few = silent_fault request err_after fault ran few
 
-  -- a status but 0, 1 and 5 says that nothing was written, unless a fault was found
-  pub silent_answer : (request : PlainRequest) (err_after : Watched E) (status : ℕ) → Answered request err_after status → is_for_many_files request ≡ false
-      → has_found status request ≡ false → status ≢ 0 → status ≢ 1 → status ≢ 5 → out_after ≡ out
-  silent_answer request err_after status answers few none a b c =
-      ⊎_elim
-      (λ (ran : Carried request err_after (Ok status)).
-      ⊎_elim (λ (most : status ≤ 1). absurd (omega (arith, most, a, b))) (λ (silent : out_after ≡ out). silent)
-      (answered request err_after status ran few none))
-      (λ (s : Failed request err_after status).
-      silent_unless_failed s.error out out_after (silent_request request s.between s.error s.carries few) (λ five. c (s.is_status ∙ five)))
-      answers
+  module _ (request : PlainRequest) (err_after : Watched E) (status : ℕ) where
+    abbrev Answered : Type 0
+    Answered = AnswersRequest may_open may_refuse remaining contents messages terminal may_find request out out_after err err_after status
 
-  -- the statuses 0 and 1 say that nothing was reported
-  pub done_answer : (request : PlainRequest) (err_after : Watched E) (status : ℕ) → Answered request err_after status → is_reporting request ≡ false
-      → status ≤ 1 → err_after ≡ err
-  done_answer request err_after status answers few most =
-      ⊎_elim (λ (ran : Carried request err_after (Ok status)). quiet request err_after status ran few most)
-      (λ (s : Failed request err_after status). let least = error_status_above s.error in let is = s.is_status in absurd (omega (arith, least, is, most)))
-      answers
+    -- a status but 0, 1 and 5 says that nothing was written, unless a fault was found
+    pub silent_answer : Answered → is_for_many_files request ≡ false → has_found status request ≡ false → status ≢ 0 → status ≢ 1 → status ≢ 5
+        → out_after ≡ out
+    silent_answer (inl ran) few none a b c =
+        ⊎_elim (λ (most : status ≤ 1). absurd (omega (arith, most, a, b))) (λ (silent : out_after ≡ out). silent)
+        (answered request err_after status ran few none)
+    silent_answer (inr s) few none a b c =
+        silent_unless_failed s.error out out_after (silent_request request s.between s.error s.carries few) (λ five. c (s.is_status ∙ five))
+
+    -- the statuses 0 and 1 say that nothing was reported
+    pub done_answer : Answered → is_reporting request ≡ false → status ≤ 1 → err_after ≡ err
+    done_answer (inl ran) few most = quiet request err_after status ran few most
+    done_answer (inr s) few most = let least = error_status_above s.error in let is = s.is_status in absurd (omega (arith, least, is, most))
 
   pub failed_request : (request : PlainRequest) (error : RequestError) (between err_after : Watched E) (status : ℕ) → Carried request between (Err error)
       → Reports messages (line_of_request_error error) between err_after → status ≡ status_of_request_error error → Failed request err_after status

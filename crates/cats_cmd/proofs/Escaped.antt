@@ -1,31 +1,57 @@
 -- A path that is printed on a line by runs of characters that are not escaped.
-use Rattle.std.proofs.Common.{◌≡◌, ℕ, zero, suc, ◌+◌, ◌-◌, ◌≤◌, ◌<◌, ◌==◌, ◌&&◌, Bool, true, false, cond, List, [], ◌∷◌, ◌++◌, length, take, drop, refl}
-use Rattle.std.proofs.Common.{sym, ap, ap₂, ◌∙◌, arith, eqb, length-append, length-drop}
+use Rattle.std.proofs.Common.{◌≡◌, ℕ, zero, suc, ◌+◌, ◌-◌, ◌≤◌, ◌<◌, ◌==◌, ◌&&◌, Bool, true, false, List, [], ◌∷◌, ◌++◌, length, take, drop, refl}
+use Rattle.std.proofs.Common.{sym, ap, ap₂, not, subst, ⊎_elim, ◌∙◌, arith, eqb, length-append, length-drop}
 use Rattle.std.specs.Char.{encode_utf8}
 use Rattle.std.specs.List.{starts_with}
-use Rattle.std.proofs.Math.Seq.{take-add}
-use Rattle.std.proofs.lemmas.Bool.{and_parts, ne_eqb}
-use Rattle.std.proofs.lemmas.Bool.Decides.{Decides-eqb}
+use Rattle.std.specs.Str.{all_scalars}
+use Rattle.std.proofs.Math.Seq.{take-add, take-append_seam}
+use Rattle.std.proofs.lemmas.Bool.{and_parts, both_ways, cases_Bool, eqb-true, ne_eqb}
+use Rattle.std.proofs.lemmas.Bool.Decides.{Decides-eqb, nat_tests}
 use Rattle.std.proofs.lemmas.List.{append_assoc, drop-drop, take_all}
 use Rattle.std.proofs.lemmas.Slice.Eq.{starts_is}
-use Rattle.cats_cmd.specs.Escaping.{code_at, escaped, escaped_behind, is_plain, plain_length}
+use Rattle.cats_cmd.specs.Escaping.{code_at, escaped, escaped_behind, escaped_byte, is_plain, is_printable, plain_length}
 
--- a character that is not escaped is there as a whole
-pub plain_within : (bytes : List ℕ) → plain_length bytes ≤ length bytes
-plain_within bytes = by (is_plain c && starts_with eqb bytes (encode_utf8 c)) refl
+pub not_true : (b : Bool) → not b ≡ true → b ≡ false
+not_true true e = absurd (cc)
+not_true false e = refl
+
+pub record Plainly (c : ℕ) : Type 0 where
+  pub scalar : all_scalars (c ∷ []) ≡ true
+  pub printable : is_printable c ≡ true
+  pub no_backslash : (c == 92) ≡ false
+
+pub plainly : (c : ℕ) → is_plain c ≡ true → Plainly c
+plainly c p =
+    let outer = and_parts (all_scalars (c ∷ [])) (is_printable c && not (c == 92)) p in
+    let inner = and_parts (is_printable c) (not (c == 92)) outer.1 in
+    record { scalar = outer.0; printable = inner.0; no_backslash = not_true (c == 92) inner.1 }
+
+-- a character that is not escaped, and behind it these bytes
+pub record Begins (bytes : List ℕ) : Type 0 where
+  pub plain : is_plain (code_at bytes) ≡ true
+  pub long : plain_length bytes ≡ length (encode_utf8 (code_at bytes))
+  pub whole : bytes ≡ encode_utf8 (code_at bytes) ++ drop (plain_length bytes) bytes
+
+-- the bytes begin with such a character, if it has bytes
+pub begins_plain : (bytes : List ℕ) → (plain_length bytes == 0) ≡ false → Begins bytes
+begins_plain bytes some = by (is_plain c && starts_with eqb bytes (encode_utf8 c)) refl
   where
     c : ℕ
     c = code_at bytes
 
-    n : ℕ
-    n = length (encode_utf8 c)
-
-    by : (t : Bool) → (is_plain c && starts_with eqb bytes (encode_utf8 c)) ≡ t → cond t n 0 ≤ length bytes
+    by : (t : Bool) → (is_plain c && starts_with eqb bytes (encode_utf8 c)) ≡ t → Begins bytes
     by true e =
         let parts = and_parts (is_plain c) (starts_with eqb bytes (encode_utf8 c)) e in
-        let whole : bytes ≡ encode_utf8 c ++ drop n bytes = (starts_is Decides-eqb bytes (encode_utf8 c) true (sym parts.1)).0 refl in
-        omega (arith, ap (length {A = ℕ}) whole ∙ length-append (encode_utf8 c) (drop n bytes))
-    by false e = omega arith
+        record { plain = parts.0; long = rw e refl; whole = rw e ((starts_is Decides-eqb bytes (encode_utf8 c) true (sym parts.1)).0 refl) }
+    by false e = absurd (both_ways (plain_length bytes == 0) some (rw e refl))
+
+-- it is there as a whole
+plain_within : (bytes : List ℕ) → plain_length bytes ≤ length bytes
+plain_within bytes =
+    ⊎_elim (λ (e : (plain_length bytes == 0) ≡ true). omega (arith, eqb-true (plain_length bytes) 0 e))
+    (λ (some : (plain_length bytes == 0) ≡ false). let begins = begins_plain bytes some in
+    omega (arith, begins.long, simp length-append at (ap (length {A = ℕ}) begins.whole)))
+    (cases_Bool (plain_length bytes == 0))
 
 -- so many bytes of a character are not escaped
 behind_splits : (left : ℕ) (bytes : List ℕ) → left ≤ length bytes → escaped_behind left bytes ≡ take left bytes ++ escaped (drop left bytes)
@@ -61,3 +87,31 @@ run_within bytes run l = omega (arith, plain_within (drop run bytes), length-dro
 -- the bytes behind a run, as the code has them
 pub behind_run : (bytes : List ℕ) (run : ℕ) → run ≤ length bytes → take (length bytes - run) (drop run bytes) ≡ drop run bytes
 behind_run bytes run l = take_all (length bytes - run) (drop run bytes) (omega (arith, length-drop run bytes, l))
+
+-- ---- a path by its parts
+
+fewer : (n b : ℕ) (bs : List ℕ) (k : ℕ) → (n == 0) ≡ false → length (b ∷ bs) ≤ suc k → length (drop n (b ∷ bs)) ≤ k
+fewer n b bs k some l = grind (arith, nat_tests, length-drop)
+
+-- A path is bytes that are escaped and characters that are not: what each of them keeps holds of the whole.
+module _ (P : List ℕ → List ℕ → Type 0) (none : P [] []) (byte : (b : ℕ) (bs text : List ℕ) → P bs text → P (b ∷ bs) (escaped_byte b ++ text))
+    (character : (c : ℕ) (bs text : List ℕ) → is_plain c ≡ true → P bs text → P (encode_utf8 c ++ bs) (encode_utf8 c ++ text)) where
+  by_parts : (k : ℕ) (path : List ℕ) → length path ≤ k → P path (escaped path)
+  by_parts k [] l = none
+  by_parts zero (b ∷ bs) l = absurd (omega (arith, l))
+  by_parts (suc k) (b ∷ bs) l =
+      ⊎_elim (λ (e : (plain_length (b ∷ bs) == 0) ≡ true). rw e (byte b bs (escaped bs) (by_parts k bs (omega (arith, l)))))
+      (λ (some : (plain_length (b ∷ bs) == 0) ≡ false).
+      let path = b ∷ bs in
+      let c = code_at path in
+      let n = plain_length path in
+      let begins = begins_plain path some in
+      let first : take n path ≡ encode_utf8 c =
+      ap (take n) begins.whole ∙ ap (λ (k : ℕ). take k (encode_utf8 c ++ drop n path)) begins.long ∙ take-append_seam (encode_utf8 c) (drop n path) in
+      subst (λ (T : Type 0). T)
+      (ap₂ P (sym begins.whole) (sym (plain_first path (omega arith) some ∙ ap (λ (t : List ℕ). t ++ escaped (drop n path)) first)))
+      (character c (drop n path) (escaped (drop n path)) begins.plain (by_parts k (drop n path) (fewer n b bs k some l))))
+      (cases_Bool (plain_length (b ∷ bs) == 0))
+
+  pub escaped_by_parts : (path : List ℕ) → P path (escaped path)
+  escaped_by_parts path = by_parts (length path) path (omega arith)

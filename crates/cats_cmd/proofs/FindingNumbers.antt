@@ -1,16 +1,17 @@
 -- The groups of `cats duplicates`: one more file has its number behind the others, among those that were judged or among those that a step
 -- limit refused.
-use Rattle.std.proofs.Common.{◌≡◌, ℕ, suc, All, ◌<◌, List, [], ◌∷◌, ◌++◌, length, refl, sym, ap, ◌∙◌, subst, append-nil}
+use Rattle.std.proofs.Common.{◌≡◌, ℕ, All, ◌<◌, List, [], ◌∷◌, ◌++◌, length, ap, ◌∙◌, subst, append-nil}
 use Rattle.std.specs.Global.{Global}
 use Rattle.std.specs.Prelude.{Vec}
 use Rattle.std.specs.List.{AllByRecursion, AllZip, flat_map}
 use Rattle.std.proofs.lemmas.Grind.{flat_map-append}
-use Rattle.std.proofs.lemmas.List.{map-append}
+use Rattle.std.proofs.lemmas.List.{length-map, map-append}
+use Rattle.std.proofs.lemmas.Slice.Zip.{AllZip-long}
 use Rattle.std.proofs.lemmas.List.Elements.{All-from_recursion}
 use Rattle.std.proofs.lemmas.Option.{slice_get_within}
 use Rattle.bid_file.specs.Files.{PlainFile, IsPlainFile}
-use Rattle.canon.specs.FirstNumbers.{AddsText, IsEmptyIndex, IsFirstNumber, TextIndex}
-use Rattle.canon.proofs.TwoFiles.Indexing.{TellsRelated, first_number_stays, index_of_none, index_of_more, number_of_more}
+use Rattle.canon.specs.FirstNumbers.{AddsText, IsFirstNumber, TextIndex}
+use Rattle.canon.proofs.TwoFiles.Indexing.{TellsRelated, first_number_stays, index_of_more, number_of_more}
 use Rattle.cats_cmd.specs.DuplicateTexts.{found_paths}
 use Rattle.cats_cmd.specs.Internal.Judging.{KeepsNumbers}
 use Rattle.cats_cmd.specs.Paths.{Judgement}
@@ -25,9 +26,6 @@ zip_push R S (a ∷ xs) (b ∷ ys) x y weaker h s = (weaker a b h.0, zip_push R 
 
 -- files, of which those are related that have one text
 module _ (text_of : PlainFile → List ℕ) (Related : PlainFile → PlainFile → Type 0) where
-  pub no_numbers : (index : TextIndex) → IsEmptyIndex index → KeepsNumbers text_of Related [] [] index []
-  no_numbers index none = record { is_index = index_of_none text_of index none; finds = record { of_paths = refl; numbers = tt } }
-
   -- one more file
   pub numbers_more : TellsRelated text_of Related → (old new : TextIndex) (found longer : List (Vec ℕ Global × ℕ)) (path : List ℕ) (copy : Vec ℕ Global)
       (file : PlainFile) (number : ℕ) → copy.items ≡ path → IsPlainFile file → AddsText old new (text_of file) number → longer ≡ found ++ (copy, number) ∷ []
@@ -84,17 +82,12 @@ zip_within Related all [] files h = tt
 zip_within Related all (f ∷ found) [] h = absurd h
 zip_within Related all (f ∷ found) (file ∷ files) h = (slice_get_within all f.1 h.0.file h.0.there, zip_within Related all found files h.1)
 
-zip_length : (Related : PlainFile → PlainFile → Type 0) (all : List PlainFile) (found : List (Vec ℕ Global × ℕ)) (files : List PlainFile)
-    → AllZip (λ f file. IsFirstNumber Related all file f.1) (found_paths found) files → length found ≡ length files
-zip_length Related all [] [] h = refl
-zip_length Related all [] (file ∷ files) h = absurd h
-zip_length Related all (f ∷ found) [] h = absurd h
-zip_length Related all (f ∷ found) (file ∷ files) h = ap suc (zip_length Related all found files h.1)
-
 -- each number is that of a file that was judged
 pub numbers_within : (Related : PlainFile → PlainFile → Type 0) (files : List PlainFile) (found : List (Vec ℕ Global × ℕ)) → AllZip (λ f file. IsFirstNumber
     Related files file f.1) (found_paths found) files
     → All (λ f. f.1 < length found) found
 numbers_within Related files found zipped =
     All-from_recursion (λ f. f.1 < length found) found
-    (subst (λ (n : ℕ). AllByRecursion (λ f. f.1 < n) found) (sym (zip_length Related files found files zipped)) (zip_within Related files found files zipped))
+    (subst (λ (n : ℕ). AllByRecursion (λ f. f.1 < n) found)
+    (AllZip-long (λ f file. IsFirstNumber Related files file f.1) (found_paths found) files zipped
+    ∙ length-map found (λ (f : Vec ℕ Global × ℕ). (f.0.items, f.1))) (zip_within Related files found files zipped))

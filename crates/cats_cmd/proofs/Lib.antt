@@ -12,7 +12,6 @@ mod ReadingBytes
 mod Rounding
 mod Reporting
 mod Escaped
-mod Zeros
 mod Judging
 mod JudgingPaths
 mod WrittenPrices

@@ -1,10 +1,10 @@
 -- The paths are read back from the whole output. A text is its lines with a byte behind each, which no line has: a printed path has no
 -- control byte, or, with NUL at its end, no NUL. The lines of groups are cut at the empty ones, and the rows of a table behind nine tabs.
 use Rattle.std.proofs.Common.{◌≡◌, ℕ, suc, ◌<◌, ◌==◌, Bool, true, false, List, [], ◌∷◌, ◌++◌, length, map, refl, sym, ap, ap₂, ◌∙◌, subst}
-use Rattle.std.proofs.Common.{arith, append-nil, get_or}
+use Rattle.std.proofs.Common.{arith, append-nil, get_or, not}
 use Rattle.std.specs.Prelude.{codes, filter, drop, Option}
 use Rattle.std.specs.Option.{option_map}
-use Rattle.std.specs.List.{All, flat_map, list_any, range_with_len, slice_split}
+use Rattle.std.specs.List.{All, flat_map, list_all, range_with_len, slice_split}
 use Rattle.std.proofs.lemmas.Bool.{lt-ltb, ne_eqb}
 use Rattle.std.proofs.lemmas.Grind.{flat_map-append}
 use Rattle.std.proofs.lemmas.List.{append_assoc, length-map}
@@ -24,7 +24,9 @@ use Rattle.cats_cmd.specs.declared.paths.Ending.TheVariants.{Line, Null}
 use Rattle.cats_cmd.proofs.FaultTexts.{Plain, fault_plain, number_plain, plain_lacks}
 use Rattle.cats_cmd.proofs.Grouping.{printed_have_paths}
 use Rattle.cats_cmd.proofs.ListingPaths.{parts_back}
-use Rattle.cats_cmd.proofs.PrintableTexts.{flat_all, map_all, tested}
+use Rattle.cats_cmd.proofs.PrintableTexts.{flat_all, map_all}
+use Rattle.cats_cmd.proofs.Escaped.{not_true}
+use Rattle.std.proofs.lemmas.List.Sums.{AllPass-from_list_all}
 use Rattle.cats_cmd.proofs.ReadingBack.{harmless, read_back}
 
 -- ---- a printed path
@@ -240,8 +242,9 @@ module _ (ending : Ending) where
 abbrev titles : List ℕ
 titles = cells (map (λ c. c.0) columns) ++ codes "file"
 
-tested_lacks : (end : ℕ) (text : List ℕ) → list_any (λ b. b == end) text ≡ false → Lacks end text
-tested_lacks end text e = tested (λ b. (b == end) ≡ false) (λ b. b == end) (λ b e. e) text e
+tested_lacks : (end : ℕ) (text : List ℕ) → list_all (λ b. not (b == end)) text ≡ true → Lacks end text
+tested_lacks end text e = All-weaker (λ b. not (b == end) ≡ true) (λ b. (b == end) ≡ false) (λ b. not_true (b == end)) text
+    (AllPass-from_list_all (λ b. not (b == end)) text e)
 
 titles_lack : (ending : Ending) → Lacks (end_byte ending) titles
 titles_lack Line = tested_lacks 10 titles refl

@@ -1,17 +1,19 @@
 -- Texts of characters of a kind: ASCII, one text behind another, and a path as it is printed on a line.
-use Rattle.std.proofs.Common.{◌≡◌, ℕ, ◌+◌, ◌-◌, ◌/◌, ◌%◌, ◌<◌, ◌==◌, ◌&&◌, zero, suc, ltb, subst, Bool, true, false, List, [], ◌∷◌, ◌++◌, take, refl, sym, ap}
-use Rattle.std.proofs.Common.{ap₂, ◌∙◌, arith, ⊎_elim, append-nil, get_or, map, not}
-use Rattle.std.specs.Prelude.{decimal, nat_lt}
+use Rattle.std.proofs.Common.{◌≡◌, ℕ, zero, suc, ◌+◌, ◌/◌, ◌%◌, ◌<◌, ◌==◌, ◌&&◌, ltb, subst, Bool, true, false, cond, List, [], ◌∷◌, ◌++◌, refl}
+use Rattle.std.proofs.Common.{ap₂, ◌∙◌, arith, append-nil, get_or, map}
+use Rattle.std.specs.Prelude.{decimal, filter}
 use Rattle.std.specs.Fmt.{digit_glyph, digits, digits_onto}
 use Rattle.std.specs.Char.{digit_char, encode_utf8}
-use Rattle.std.specs.List.{All, AllByRecursion, flat_map, list_any}
+use Rattle.std.specs.List.{All, flat_map, list_all}
 use Rattle.std.specs.Str.{all_scalars}
 use Rattle.std.proofs.Math.Utf8.{low_scalar, scalar}
-use Rattle.std.proofs.lemmas.Bool.{cases_Bool, and_parts, cond_both, eqb-true, lt-ltb, ltb-true, or_parts}
+use Rattle.std.proofs.lemmas.Bool.{and_parts, cond_both, lt-ltb, ltb-true}
+use Rattle.std.proofs.lemmas.Bool.Decides.{nat_tests}
 use Rattle.std.proofs.lemmas.List.Elements.{All-append, All-cons, All-head, All-map, All-nil, All-tail}
+use Rattle.std.proofs.lemmas.List.Folds.{list_all-append, list_all-map}
 use Rattle.std.proofs.lemmas.Str.{encode_ascii, encodes-append}
-use Rattle.cats_cmd.specs.Escaping.{AreBytes, IsTextOf, code_at, escaped, escaped_behind, escaped_byte, is_printable, plain_length}
-use Rattle.cats_cmd.proofs.ReadingBack.{plain_taken, plainly, taken_more}
+use Rattle.cats_cmd.specs.Escaping.{AreBytes, IsTextOf, escaped, escaped_byte, is_printable}
+use Rattle.cats_cmd.proofs.Escaped.{escaped_by_parts, plainly}
 
 -- ---- lists
 
@@ -24,15 +26,46 @@ pub flat_all : {X Y : Type 0} (P : Y → Type 0) (Q : X → Type 0) (f : X → L
 flat_all P Q f each [] are = All-nil P
 flat_all P Q f each (x ∷ xs) are = All-append P (f x) (flat_map f xs) (each x (All-head Q x xs are)) (flat_all P Q f each xs (All-tail Q x xs are))
 
--- a test that computes
-pub tested : (P : ℕ → Type 0) (fails : ℕ → Bool) → ((b : ℕ) → fails b ≡ false → P b) → (text : List ℕ) → list_any fails text ≡ false → All P text
-tested P fails passed [] e = All-nil P
-tested P fails passed (b ∷ text) e =
-    let parts = or_parts (fails b) (list_any fails text) e in All-cons P b text (passed b parts.0) (tested P fails passed text parts.1)
+-- ---- a test of each element, which `simp` computes of a text
 
-pub not_false : (t : Bool) → not t ≡ false → t ≡ true
-not_false true e = refl
-not_false false e = absurd (cc)
+pub list_all-flat_map : {X : Type 0} (p : ℕ → Bool) (f : X → List ℕ) (xs : List X) → list_all p (flat_map f xs) ≡ list_all (λ x. list_all p (f x)) xs
+list_all-flat_map p f [] = refl
+list_all-flat_map p f (x ∷ xs) = simp (list_all-append, list_all-flat_map p f xs)
+
+pub list_all-true : {X : Type 0} (xs : List X) → list_all (λ x. true) xs ≡ true
+list_all-true [] = refl
+list_all-true (x ∷ xs) = list_all-true xs
+
+pub list_all-cond : (p : ℕ → Bool) (t : Bool) (xs ys : List ℕ) → list_all p (cond t xs ys) ≡ cond t (list_all p xs) (list_all p ys)
+list_all-cond p true xs ys = refl
+list_all-cond p false xs ys = refl
+
+pub cond-same : (t x : Bool) → cond t x x ≡ x
+cond-same true x = refl
+cond-same false x = refl
+
+pub list_all-filter : {X : Type 0} (p test : X → Bool) (xs : List X) → list_all p xs ≡ true → list_all p (filter test xs) ≡ true
+list_all-filter p test [] e = refl
+list_all-filter p test (x ∷ xs) e =
+    let both = and_parts (p x) (list_all p xs) e in
+    let rest = list_all-filter p test xs both.1 in
+    cond_both (test x) (x ∷ filter test xs) (filter test xs) (λ ys. list_all p ys ≡ true) (λ t. rw both.0 rest) (λ t. rest)
+
+pub ruleset of_each = (list_all-append, list_all-flat_map, list_all-map, list_all-filter, list_all-cond, cond-same, list_all-true)
+
+module _ (p : ℕ → Bool) (of_digits : (d : ℕ) → d < 10 → p (48 + d) ≡ true) where
+  glyph : (d : ℕ) → d < 10 → p (digit_glyph false d) ≡ true
+  glyph d l = rw (lt-ltb d 10 l) (of_digits d l)
+
+  onto : (k n : ℕ) (acc : List ℕ) → list_all p acc ≡ true → list_all p (digits_onto k 10 false n acc) ≡ true
+  onto zero n acc h = h
+  onto (suc k) n acc h =
+      let more : list_all p (digit_glyph false (n % 10) ∷ acc) ≡ true = rw (glyph (n % 10) (omega arith)) h in
+      cond_both (n / 10 == 0) _ _ (λ text. list_all p text ≡ true) (λ e. more) (λ e. onto k (n / 10) (digit_glyph false (n % 10) ∷ acc) more)
+
+  pub list_all-decimal : (n : ℕ) → list_all p (decimal n) ≡ true
+  unfolding digits
+  list_all-decimal n = onto 64 n [] refl
 
 -- ---- texts
 
@@ -45,9 +78,7 @@ module _ (kind : ℕ → Bool) where
 
   scalars_behind : (cs ds : List ℕ) → all_scalars cs ≡ true → all_scalars ds ≡ true → all_scalars (cs ++ ds) ≡ true
   scalars_behind [] ds e f = f
-  scalars_behind (c ∷ cs) ds e f =
-      let parts = and_parts (scalar c) (all_scalars cs) e in
-      ap₂ (λ (x y : Bool). x && y) parts.0 (scalars_behind cs ds parts.1 f)
+  scalars_behind (c ∷ cs) ds e f = let parts = and_parts (scalar c) (all_scalars cs) e in rw parts.0 (scalars_behind cs ds parts.1 f)
 
   pub text_behind : (xs ys : List ℕ) → IsTextOf kind xs → IsTextOf kind ys → IsTextOf kind (xs ++ ys)
   text_behind xs ys x y = record {
@@ -57,7 +88,7 @@ module _ (kind : ℕ → Bool) where
     spelt = encodes-append x.characters y.characters ∙ ap₂ (λ (s t : List ℕ). s ++ t) x.spelt y.spelt;
   }
 
-  pub character_text : (c : ℕ) → all_scalars (c ∷ []) ≡ true → kind c ≡ true → IsTextOf kind (encode_utf8 c)
+  character_text : (c : ℕ) → all_scalars (c ∷ []) ≡ true → kind c ≡ true → IsTextOf kind (encode_utf8 c)
   character_text c scalar of = record {
     characters = c ∷ [];
     scalars = scalar;
@@ -66,96 +97,44 @@ module _ (kind : ℕ → Bool) where
   }
 
   -- an ASCII text
-  pub ascii_text : (text : List ℕ) → AllByRecursion (λ b. (b < 128) × IsOfKind b) text → IsTextOf kind text
-  ascii_text [] h = no_text
-  ascii_text (b ∷ bs) h =
-      let first : IsTextOf kind (encode_utf8 b) = character_text b (rw (low_scalar b (omega (arith, h.0.0))) refl) h.0.1 in
-      text_behind (b ∷ []) bs (subst (IsTextOf kind) (encode_ascii b h.0.0) first) (ascii_text bs h.1)
+  module _ (test : ℕ → Bool) (sound : (b : ℕ) → test b ≡ true → (b < 128) × IsOfKind b) where
+    pub ascii_text : (text : List ℕ) → list_all test text ≡ true → IsTextOf kind text
+    ascii_text [] e = no_text
+    ascii_text (b ∷ bs) e =
+        let parts = and_parts (test b) (list_all test bs) e in
+        let is = sound b parts.0 in
+        let first : IsTextOf kind (encode_utf8 b) = character_text b (rw (low_scalar b (omega (arith, is.0))) refl) is.1 in
+        text_behind (b ∷ []) bs (subst (IsTextOf kind) (encode_ascii b is.0) first) (ascii_text bs parts.1)
 
--- ---- the digits of a number
+-- ---- printable ASCII
 
-module _ (P : ℕ → Type 0) (of_digits : (d : ℕ) → d < 10 → P (48 + d)) where
-  glyph : (d : ℕ) → d < 10 → P (digit_glyph false d)
-  glyph d l = rw (lt-ltb d 10 l) (of_digits d l)
+abbrev pub is_ascii : ℕ → Bool
+is_ascii b = ltb 31 b && ltb b 127
 
-  onto : (k n : ℕ) (acc : List ℕ) → AllByRecursion P acc → AllByRecursion P (digits_onto k 10 false n acc)
-  onto zero n acc h = h
-  onto (suc k) n acc h =
-      let more : AllByRecursion P (digit_glyph false (n % 10) ∷ acc) = (glyph (n % 10) (omega arith), h) in
-      ⊎_elim (λ (e : (n / 10 == 0) ≡ true). rw e more) (λ (e : (n / 10 == 0) ≡ false). rw e (onto k (n / 10) (digit_glyph false (n % 10) ∷ acc) more))
-      (cases_Bool (n / 10 == 0))
+pub ascii_between : (b : ℕ) → is_ascii b ≡ true → (31 < b) × (b < 127)
+ascii_between b e = let parts = and_parts (ltb 31 b) (ltb b 127) e in (ltb-true 31 b parts.0, ltb-true b 127 parts.1)
 
-  pub decimal_all : (n : ℕ) → AllByRecursion P (decimal n)
-  unfolding digits
-  decimal_all n = onto 64 n [] tt
+ascii_printable : (b : ℕ) → is_ascii b ≡ true → (b < 128) × (is_printable b ≡ true)
+ascii_printable b e = let is = ascii_between b e in (omega (arith, is.1), grind (arith, is.0, is.1))
 
--- ---- a path as it is printed
+digit_ascii : (d : ℕ) → d < 16 → is_ascii (digit_char d) ≡ true
+digit_ascii d l = grind (arith, nat_tests)
 
-abbrev IsAsciiPrintable : ℕ → Type 0
-IsAsciiPrintable b = (b < 128) × (is_printable b ≡ true)
+pub byte_ascii : (b : ℕ) → b < 256 → list_all is_ascii (escaped_byte b) ≡ true
+byte_ascii b l =
+    let high : b / 16 < 16 = omega (arith, l) in
+    let low : b % 16 < 16 = omega arith in
+    simp (list_all-cond, cond-same, lt-ltb b 256 l, digit_ascii)
 
-between : (b : ℕ) → 31 < b → b < 127 → IsAsciiPrintable b
-between b low high = (omega (arith, high), grind (arith, low, high))
-
-digit_printable : (d : ℕ) → d < 16 → IsAsciiPrintable (digit_char d)
-digit_printable d l =
-    cond_both (nat_lt d 10) _ _ IsAsciiPrintable (λ e. between (48 + d) (omega arith) (omega (arith, l)))
-    (λ e. between (87 + d) (omega arith) (omega (arith, l)))
-
-abbrev here : (b : ℕ) → ltb 31 b ≡ true → ltb b 127 ≡ true → IsAsciiPrintable b
-here b low high = between b (ltb-true 31 b low) (ltb-true b 127 high)
-
-byte_printable : (b : ℕ) → b < 256 → AllByRecursion IsAsciiPrintable (escaped_byte b)
-byte_printable b l =
-    cond_both (b == 92) _ _ (AllByRecursion IsAsciiPrintable) (λ e. (here 92 refl refl, (here 92 refl refl, tt))) (λ slash.
-    cond_both (b == 10) _ _ (AllByRecursion IsAsciiPrintable) (λ e. (here 92 refl refl, (here 110 refl refl, tt))) (λ lf.
-    cond_both (b == 9) _ _ (AllByRecursion IsAsciiPrintable) (λ e. (here 92 refl refl, (here 116 refl refl, tt))) (λ tab. rw (lt-ltb b 256 l)
-    (here 92 refl refl, (here 120 refl refl, (digit_printable (b / 16) (omega (arith, l)), (digit_printable (b % 16) (omega arith), tt)))))))
-
--- what is printed from here on is the rest of a character that is not escaped, and then a text
-record Splits (left : ℕ) (bytes : List ℕ) : Type 0 where
-  text : List ℕ
-  is : escaped_behind left bytes ≡ take left bytes ++ text
-  printable : IsTextOf is_printable text
-
-splits : (left : ℕ) (bytes : List ℕ) → AreBytes bytes → Splits left bytes
-splits zero [] bytes = record { text = []; is = refl; printable = no_text is_printable }
-splits left [] bytes = record { text = []; is = refl; printable = no_text is_printable }
-splits left (b ∷ bs) bytes =
-    ⊎_elim
-    (λ (none : (left == 0) ≡ true).
-    ⊎_elim
-    (λ (e : (plain_length (b ∷ bs) == 0) ≡ true).
-    let behind = splits 0 bs (All-tail (λ c. c < 256) b bs bytes) in
-    record {
-      text = escaped_byte b ++ behind.text;
-      is = rw (none, e) (ap (λ (t : List ℕ). escaped_byte b ++ t) behind.is
-          ∙ ap (λ (n : ℕ). take n (b ∷ bs) ++ (escaped_byte b ++ behind.text)) (sym (eqb-true left 0 none)));
-      printable = text_behind is_printable (escaped_byte b) behind.text
-          (ascii_text is_printable (escaped_byte b) (byte_printable b (All-head (λ c. c < 256) b bs bytes))) behind.printable;
-    })
-    (λ (some : (plain_length (b ∷ bs) == 0) ≡ false).
-    let n = plain_length (b ∷ bs) in
-    let c = code_at (b ∷ bs) in
-    let behind = splits (n - 1) bs (All-tail (λ c. c < 256) b bs bytes) in
-    let begins = plain_taken (b ∷ bs) some in
-    let says = plainly c begins.0 in
-    record {
-      text = encode_utf8 c ++ behind.text;
-      is = rw (none, some) (ap (λ (t : List ℕ). b ∷ t) behind.is
-          ∙ ap (λ (t : List ℕ). t ++ behind.text) (sym (taken_more n b bs some) ∙ begins.1)
-          ∙ ap (λ (n : ℕ). take n (b ∷ bs) ++ (encode_utf8 c ++ behind.text)) (sym (eqb-true left 0 none)));
-      printable = text_behind is_printable (encode_utf8 c) behind.text (character_text is_printable c says.scalar says.printable) behind.printable;
-    })
-    (cases_Bool (plain_length (b ∷ bs) == 0)))
-    (λ (some : (left == 0) ≡ false).
-    let behind = splits (left - 1) bs (All-tail (λ c. c < 256) b bs bytes) in
-    record {
-      text = behind.text;
-      is = rw (some, some) (ap (λ (t : List ℕ). b ∷ t) behind.is ∙ ap (λ (t : List ℕ). t ++ behind.text) (sym (taken_more left b bs some)));
-      printable = behind.printable;
-    })
-    (cases_Bool (left == 0))
-
+-- a path as it is printed
 pub printable : (path : List ℕ) → AreBytes path → IsTextOf is_printable (escaped path)
-printable path bytes = let whole = splits 0 path bytes in subst (IsTextOf is_printable) (sym whole.is) whole.printable
+printable = escaped_by_parts (λ path text. AreBytes path → IsTextOf is_printable text) (λ bytes. no_text is_printable)
+    (λ b bs text is bytes. text_behind is_printable (escaped_byte b) text
+    (ascii_text is_printable is_ascii ascii_printable (escaped_byte b) (byte_ascii b (All-head (λ c. c < 256) b bs bytes)))
+    (is (All-tail (λ c. c < 256) b bs bytes)))
+    (λ c bs text p is bytes. let says = plainly c p in text_behind is_printable (encode_utf8 c) text (character_text is_printable c says.scalar says.printable)
+    (is (All-behind (λ c. c < 256) (encode_utf8 c) bs bytes)))
+  where
+    All-behind : (P : ℕ → Type 0) (xs ys : List ℕ) → All P (xs ++ ys) → All P ys
+    All-behind P [] ys are = are
+    All-behind P (x ∷ xs) ys are = All-behind P xs ys (All-tail P x (xs ++ ys) are)

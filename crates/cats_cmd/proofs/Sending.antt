@@ -1,5 +1,5 @@
 -- A run sends what its command answers: by the command's contract, what was sent is what the run promises.
-use Rattle.std.proofs.Common.{◌≡◌, ◌≤◌, ℕ, List, Option, Result, Ok, Err, refl, subst, inr}
+use Rattle.std.proofs.Common.{◌≡◌, ◌≤◌, ℕ, List, Option, Result, Ok, Err, true, refl, inr}
 use Rattle.bid_file.specs.Files.{PlainFile}
 use Rattle.cats_text.specs.declared.read_fault.ReadFault.{ReadFault}
 use Rattle.cats_text.specs.declared.read_fault.SendFault.{SendFault}
@@ -18,7 +18,7 @@ use Rattle.valuation.specs.declared.search.options.SearchOptions.{SearchOptions}
 use Rattle.commands.specs.declared.answer.Answer.{Answer}
 use Rattle.commands.specs.declared.command.Comparison.{Comparison}
 use Rattle.commands.specs.declared.command.Comparison.TheVariants.{Compare, Diff}
-use Rattle.cats_cmd.proofs.AnswersShown.{IsPrinted, difference_printed, differences_printed}
+use Rattle.cats_cmd.proofs.AnswersShown.{difference_printed, differences_printed, is_printed, printed}
 use Rattle.cats_cmd.proofs.ShownTexts.{Shown}
 use Rattle.cats_cmd.specs.Runs.{RunsCommand, RunsOnFile, RunsOnPair, SendsAnswer, SendsAs, SendsMadeAs, WritesText}
 
@@ -76,16 +76,16 @@ module _ {I J : Type 0} (gives_first : I → I → PlainFile → Type 0) (refuse
   both_made : {A : Type 0} (options : SearchOptions) (refusal : PlainFile → Outcome) (Gives : A → Type 0) (outcome : A → Outcome)
       (files : A → PlainFile × PlainFile)
       → ((a : A) → Gives a → GivesBoth gives_first refuses_first gives_second refuses_second options first first_after second second_after (files a))
-      → ((a : A) → IsPrinted (outcome a))
+      → ((a : A) → is_printed (outcome a) ≡ true)
       → PairFacts (CommandsBoth gives_first refuses_first gives_second refuses_second options refusal Gives outcome first first_after second second_after)
-  both_made options refusal Gives outcome files given printed = record {
+  both_made options refusal Gives outcome files given are_printed = record {
     unsent = λ fault none. none;
     memory = λ answer made. record { files = files made.given; given = given made.given made.gives; memory = refl };
     made = λ answer made. record {
       options = options;
       files = files made.given;
       given = given made.given made.gives;
-      printed = subst IsPrinted made.made (printed made.given);
+      printed = printed (outcome made.given) answer.status (text_of answer.output) (are_printed made.given) made.made;
     };
   }
 

@@ -1,10 +1,9 @@
 -- The lines that name paths, and the texts of `cats duplicates` and `cats sizes`: what is printed there beside paths is ASCII of ours.
-use Rattle.std.proofs.Common.{◌≡◌, ℕ, ◌<◌, ◌&&◌, Bool, true, false, not, List, [], ◌∷◌, ◌++◌, length, map, refl, sym, subst, arith}
-use Rattle.std.specs.Prelude.{codes, decimal, filter, nat_lt}
-use Rattle.std.specs.List.{All, flat_map, list_any, range_with_len}
-use Rattle.std.proofs.lemmas.Bool.{and_parts, ltb-true}
-use Rattle.std.proofs.lemmas.List.Elements.{All-append, All-filter, All-head, All-tail, All-weaker, recursion_from_All}
-use Rattle.commands.specs.Outputs.{bundle_text}
+use Rattle.std.proofs.Common.{◌≡◌, ℕ, ◌<◌, ◌==◌, ◌||◌, Bool, true, false, List, [], ◌∷◌, ◌++◌, length, map, refl, sym, subst, arith}
+use Rattle.std.specs.Prelude.{codes, decimal, filter}
+use Rattle.std.specs.List.{All, flat_map, list_all, range_with_len}
+use Rattle.std.proofs.lemmas.Bool.Decides.{nat_tests}
+use Rattle.std.proofs.lemmas.List.Elements.{All-append, All-filter, All-head, All-tail, All-weaker}
 use Rattle.cats_cmd.specs.DuplicateTexts.{after_empty_lines, duplicates_text, groups_of, groups_text, is_printed, lines_of, printed_groups}
 use Rattle.cats_cmd.specs.Escaping.{AreBytes, IsTextOf, end_of, escaped, is_printable, is_shown, path_text}
 use Rattle.cats_cmd.specs.Paths.{Judgement, progress_line, refusal_line}
@@ -13,38 +12,41 @@ use Rattle.commands.specs.SizesRows.{cells}
 use Rattle.cats_cmd.specs.SizesTables.{MakesTable, columns, row, rows_of_table, sizes_header}
 use Rattle.cats_cmd.specs.declared.paths.Ending.TheVariants.{Line}
 use Rattle.cats_cmd.specs.declared.errors.RequestError.{RequestError}
-use Rattle.cats_cmd.proofs.FaultTexts.{IsPlain, Plain, bundle_plain, error_line}
+use Rattle.cats_cmd.proofs.FaultTexts.{Plain, error_line}
 use Rattle.cats_cmd.proofs.OutputPaths.{paths_all, words_plain}
-use Rattle.cats_cmd.proofs.PrintableTexts.{ascii_text, decimal_all, no_text, not_false, printable, tested, text_behind}
+use Rattle.cats_cmd.proofs.PrintableTexts.{ascii_text, is_ascii, list_all-decimal, no_text, printable, text_behind}
 
 abbrev pub Shown : List ℕ → Type 0
 Shown text = IsTextOf is_shown text
 
 -- ---- texts of ours
 
-abbrev pub IsOurs : ℕ → Type 0
-IsOurs b = (b < 128) × (is_shown b ≡ true)
+abbrev pub is_ours : ℕ → Bool
+is_ours b = is_ascii b || (b == 9) || (b == 10)
 
-abbrev is_ours : ℕ → Bool
-is_ours b = nat_lt b 128 && is_shown b
+abbrev pub Ours : List ℕ → Type 0
+Ours text = list_all is_ours text ≡ true
 
-pub ours : (text : List ℕ) → list_any (λ b. not (is_ours b)) text ≡ false → Shown text
-ours text e = ascii_text is_shown text (recursion_from_All IsOurs text (tested IsOurs (λ b. not (is_ours b)) passed text e))
-  where
-    passed : (b : ℕ) → not (is_ours b) ≡ false → IsOurs b
-    passed b e = let is = and_parts (nat_lt b 128) (is_shown b) (not_false (is_ours b) e) in (ltb-true b 128 is.0, is.1)
+ours_shown : (b : ℕ) → is_ours b ≡ true → (b < 128) × (is_shown b ≡ true)
+ours_shown b e = (grind (arith, nat_tests), grind (arith, nat_tests))
+
+pub ours : (text : List ℕ) → Ours text → Shown text
+ours = ascii_text is_shown is_ours ours_shown
+
+pub number_ours : (n : ℕ) → Ours (decimal n)
+number_ours n = list_all-decimal is_ours (λ d l. grind (arith, nat_tests)) n
 
 -- one text behind another
 pub then : {xs ys : List ℕ} → Shown xs → Shown ys → Shown (xs ++ ys)
 then {xs} {ys} x y = text_behind is_shown xs ys x y
 
 -- what is shown of each of some things is shown of all
-pub flat_shown : {X : Type 0} (Q : X → Type 0) (f : X → List ℕ) → ((x : X) → Q x → Shown (f x)) → (xs : List X) → All Q xs → Shown (flat_map f xs)
+flat_shown : {X : Type 0} (Q : X → Type 0) (f : X → List ℕ) → ((x : X) → Q x → Shown (f x)) → (xs : List X) → All Q xs → Shown (flat_map f xs)
 flat_shown Q f each [] are = no_text is_shown
 flat_shown Q f each (x ∷ xs) are = then (each x (All-head Q x xs are)) (flat_shown Q f each xs (All-tail Q x xs are))
 
-pub number : (n : ℕ) → Shown (decimal n)
-number n = ascii_text is_shown (decimal n) (decimal_all IsOurs (λ d l. (omega arith, grind (arith, l))) n)
+number : (n : ℕ) → Shown (decimal n)
+number n = ours (decimal n) (number_ours n)
 
 pub path_shown : (path : List ℕ) → AreBytes path → Shown (escaped path)
 path_shown path bytes =
@@ -58,13 +60,8 @@ path_shown path bytes =
 
 -- ---- faults
 
-pub plain_shown : (text : List ℕ) → Plain text → Shown text
-plain_shown text plain =
-    ascii_text is_shown text (recursion_from_All IsOurs text
-    (All-weaker IsPlain IsOurs (λ b is. (omega (arith, is.1), grind (arith, is.0, is.1))) text plain.all))
-
-pub bundle : (goods : List ℕ) → Shown (bundle_text goods)
-bundle goods = plain_shown (bundle_text goods) (bundle_plain goods)
+plain_shown : (text : List ℕ) → Plain text → Shown text
+plain_shown = ascii_text is_shown is_ascii (λ b e. ours_shown b (rw e refl))
 
 pub error_shown : (error : RequestError) → Shown (line_of_request_error error)
 error_shown error =

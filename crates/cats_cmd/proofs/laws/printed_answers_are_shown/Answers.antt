@@ -1,11 +1,10 @@
 -- `printed_answers_are_shown`
-use Rattle.std.proofs.Common.{subst}
-use Rattle.cats_cmd.proofs.AnswersShown.{IsPrinted, command_printed, place_shown}
+use Rattle.cats_cmd.proofs.AnswersShown.{command_printed, place_shown, printed}
 use Rattle.cats_cmd.proofs.Sending.{pair_facts}
 use Rattle.cats_cmd.proofs.laws.printed_answers_are_shown.Goals as goal
 
 pub returns-clause-commands : goal.returns-clause-commands
-returns-clause-commands g c = λ command numbers file status text is. (subst IsPrinted is (command_printed command numbers file)).1
+returns-clause-commands g c = λ command numbers file status text is. (printed _ status text (command_printed command numbers file) is).1
 
 pub returns-clause-comparisons : goal.returns-clause-comparisons
 returns-clause-comparisons g c = λ comparison first first_after second second_after answer given.
