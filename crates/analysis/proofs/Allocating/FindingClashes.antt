@@ -1,11 +1,11 @@
 -- Clashes, from the last bid to the first. Two bids cannot both win exactly if they share a good, where the dummy good is one behind the
 -- real goods. So the first later bid that clashes with a bid is the least of the first later bids that have one of its goods.
-use Rattle.analysis.proofs.Common.{◌≡◌, ℕ, ◌+◌, ◌<◌, ◌≤◌, Bool, true, false, not, cond, ◌||◌, eqb, ⊎_elim, List, [], ◌∷◌, length, drop, set, get_or, refl, sym}
-use Rattle.analysis.proofs.Common.{ap, ◌∙◌, subst, arith, Option, None, Some, get_or-set_same, get_or-set_other, zero, suc, All, IfSome, find, both_ways}
-use Rattle.analysis.proofs.Common.{cases_Bool, cases_eq, eq-eqb, false_from_ne_true, ne_eqb, not_from_false, not_from_true, or_left, drop_more, length-set}
-use Rattle.analysis.proofs.Common.{All-from_recursion, AreAbove, AreBelow, IsBundle, IsRising, has_good, has_below, IsBid, IsPlainFile, PlainBid, PlainFile}
-use Rattle.analysis.proofs.Common.{goods_of, All-from_Contains, list_any_fails, list_any_found, bid_at, first_clash, first_rival, pair_or, can_both_win}
-use Rattle.analysis.proofs.Common.{held_by, least_holder, list_any, find_same_on, AreHolders, has, holder_at, lesser}
+use Rattle.analysis.proofs.Common.{[], common_steps, rules, ◌≡◌, ℕ, ◌+◌, ◌<◌, ◌≤◌, Bool, true, false, not, cond, ◌||◌, ⊎_elim, List, ◌∷◌, length, drop, set}
+use Rattle.analysis.proofs.Common.{get_or, refl, sym, ap, ◌∙◌, subst, arith, Option, None, Some, get_or-set_same, get_or-set_other, zero, suc, All, IfSome}
+use Rattle.analysis.proofs.Common.{find, both_ways, cases_Bool, cases_eq, eq-eqb, false_from_ne_true, ne_eqb, not_from_false, not_from_true, or_left, drop_more}
+use Rattle.analysis.proofs.Common.{length-set, All-from_recursion, AreAbove, AreBelow, IsBundle, IsRising, has_good, has_below, IsBid, IsPlainFile, PlainBid}
+use Rattle.analysis.proofs.Common.{PlainFile, goods_of, All-from_Contains, list_any_fails, list_any_found, bid_at, first_clash, first_rival, pair_or}
+use Rattle.analysis.proofs.Common.{can_both_win, held_by, least_holder, list_any, find_same_on, AreHolders, has, holder_at, lesser}
 use Rattle.analysis.proofs.Explaining.KeptBids.{bid_here}
 use Rattle.analysis.proofs.Allocating.ByGood.{goods_below}
 use Rattle.analysis.proofs.Allocating.LpRows.{both_win, contains_from, has_from, share_none}
@@ -64,43 +64,37 @@ find_nothing (x ∷ xs) = find_nothing xs
 
 share_test : (G D : ℕ) (a b : PlainBid) → IsBid G D a → IsBid G D b
     → list_any (λ good. has_good (goods_of G b) good) (goods_of G a) ≡ not (can_both_win a b)
-share_test G D a b is_a is_b =
-    let shares : ℕ → Bool = has_good (goods_of G b) in
+share_test G D a b is_a is_b = let shares : ℕ → Bool = has_good (goods_of G b) in
     ⊎_elim
     (λ (win : can_both_win a b ≡ true).
-    false_from_ne_true (list_any shares (goods_of G a)) (λ t.
-    let r = list_any_found shares (goods_of G a) t in
-    share_none G D a b is_a is_b win r.0 (has_from (goods_of G a) r.0 r.1) r.2)
+    false_from_ne_true (list_any shares (goods_of G a)) (grind (arith, common_steps, list_any_found, share_none, has_from))
     ∙ sym (not_from_true (can_both_win a b) win))
     (λ (clash : can_both_win a b ≡ false).
-    ⊎_elim (λ (t : list_any shares (goods_of G a) ≡ true). t ∙ sym (not_from_false (can_both_win a b) clash))
+    ⊎_elim (search (rules, not_from_false))
     (λ (none : list_any shares (goods_of G a) ≡ false).
-    absurd (both_ways (can_both_win a b) clash (both_win G D a b is_a is_b (λ good l h k.
-    both_ways (shares good) (list_any_fails shares (goods_of G a) none good (contains_from (goods_of G a) good h)) k))))
+    absurd (both_ways (can_both_win a b) clash (both_win G D a b is_a is_b (grind (arith, common_steps, both_ways, list_any_fails, contains_from)))))
     (cases_Bool (list_any shares (goods_of G a))))
     (cases_Bool (can_both_win a b))
 
 module _ (f : PlainFile) (is : IsPlainFile f) where
   rival_is : (i : ℕ) (later : List ℕ) → i < length f.bids → AreBelow (length f.bids) later
       → find (λ j. list_any (λ good. has f good j) (goods_of f.goods (bid_at f i))) later ≡ first_rival f i later
-  rival_is i later l below =
-      let shares : ℕ → Bool = λ j. list_any (λ good. has f good j) (goods_of f.goods (bid_at f i)) in
+  rival_is i later l below = let shares : ℕ → Bool = λ j. list_any (λ good. has f good j) (goods_of f.goods (bid_at f i)) in
       let clashes : ℕ → Bool = λ j. not (can_both_win (bid_at f i) (bid_at f j)) in
       find_same_on shares clashes later
       (All-from_Contains (λ j. shares j ≡ clashes j) later (λ j c.
       share_test f.goods f.dummy (bid_at f i) (bid_at f j) (bid_here f is i l)
-      (bid_here f is j (has_below (length f.bids) later j below (has_from later j c)))))
+      (search (rules, bid_here, has_below, has_from))))
 
   least_is : (later : List ℕ) (holders : List (Option ℕ)) → IsRising later → AreHolders f later holders → (goods : List ℕ)
       → AreBelow (f.goods + f.dummy) goods → (start : Option ℕ)
       → least_holder holders start goods ≡ lesser start (find (λ j. list_any (λ good. has f good j) goods) later)
   least_is later holders rises h [] below start = sym (ap (lesser start) (find_nothing later) ∙ lesser_none start)
-  least_is later holders rises h (good ∷ goods) below start =
-      let others : Option ℕ = find (λ j. list_any (λ g. has f g j) goods) later in
+  least_is later holders rises h (good ∷ goods) below start = let others : Option ℕ = find (λ j. list_any (λ g. has f g j) goods) later in
       least_is later holders rises h goods below.1 (lesser start (holder_at holders good))
       ∙ lesser_assoc start (holder_at holders good) others
       ∙ ap (lesser start)
-      (ap (λ o. lesser o others) (h.each good below.0) ∙ find_either (has f good) (λ j. list_any (λ g. has f g j) goods) later rises)
+      (search (rules, find_either))
 
 -- ---- a bid at its goods
 
@@ -115,18 +109,12 @@ cond_same false x = refl
 at_held : (n good : ℕ) (goods : List ℕ) (holders : List (Option ℕ)) → AreBelow (length holders) goods
     → holder_at (held_by n holders goods) good ≡ cond (has_good goods good) (Some n) (holder_at holders good)
 at_held n good [] holders below = refl
-at_held n good (x ∷ xs) holders below =
-    let next : List (Option ℕ) = set holders x (Some n) in
+at_held n good (x ∷ xs) holders below = let next : List (Option ℕ) = set holders x (Some n) in
     let long = length-set holders x (Some n) in
     at_held n good xs next (subst (λ m. AreBelow m xs) (sym long) below.1)
     ∙ ⊎_elim
-    (λ (same : good ≡ x).
-    ap (λ o. cond (has_good xs good) (Some n) o) (ap (holder_at next) same ∙ get_or-set_same holders x (Some n) None below.0)
-    ∙ cond_same (has_good xs good) (Some n)
-    ∙ sym (ap (λ t. cond t (Some n) (holder_at holders good)) (or_left (eqb x good) (has_good xs good) (eq-eqb x good (sym same)))))
-    (λ (other : good ≡ x → ⊥).
-    ap (λ o. cond (has_good xs good) (Some n) o) (get_or-set_other holders x good (Some n) None other)
-    ∙ sym (ap (λ t. cond (t || has_good xs good) (Some n) (holder_at holders good)) (ne_eqb x good (λ e. other (sym e)))))
+    (search (rules, get_or-set_same, cond_same, or_left, eq-eqb))
+    (search (rules, get_or-set_other, ne_eqb))
     (cases_eq good x)
 
 one_more : (f : PlainFile) (n : ℕ) (b : PlainBid) (later : List ℕ) (holders : List (Option ℕ)) → IsBid f.goods f.dummy b → b ≡ bid_at f n
@@ -176,9 +164,7 @@ module _ (f : PlainFile) (is : IsPlainFile f) (winners : List ℕ) (numbers : Is
   goods_there = goods_below f.goods f.dummy b is_bid
 
   pub goods_held : All (λ good. good < length holders) (goods_of f.goods b)
-  goods_held =
-      subst (λ m. All (λ good. good < m) (goods_of f.goods b)) (sym w.held.long)
-      (All-from_recursion (λ good. good < f.goods + f.dummy) (goods_of f.goods b) goods_there)
+  goods_held = subst (λ m. All (λ good. good < m) (goods_of f.goods b)) (sym w.held.long) (search (rules, All-from_recursion, goods_there))
 
   rival : least_holder holders None (goods_of f.goods b) ≡ first_rival f n (drop (index + 1) winners)
   rival =
@@ -191,6 +177,5 @@ module _ (f : PlainFile) (is : IsPlainFile f) (winners : List ℕ) (numbers : Is
   one_walked changed after c e = record {
     held = subst (λ ws. AreHolders f ws changed) (sym whole)
         (subst (AreHolders f (n ∷ drop (index + 1) winners)) (sym c) (one_more f n b (drop (index + 1) winners) holders is_bid here w.held));
-    is_clash = e ∙ ap (λ (o : Option ℕ). pair_or n o clash) rival
-        ∙ ap (pair_or n (first_rival f n (drop (index + 1) winners))) w.is_clash ∙ ap (first_clash f) (sym whole);
+    is_clash = search (rules, rival, w, whole);
   }

@@ -1,14 +1,14 @@
 -- The rows are met exactly by allocations: two winners that share a good, or a dummy good, are both in its row, and other winners are not.
 -- A row's bids are those of all numbers that pass a test, so they rise; and so are the winners, whose prices the objective adds up.
-use Rattle.analysis.proofs.Common.{rules, ◌≡◌, ℕ, ◌+◌, ◌*◌, ◌<◌, ◌≤◌, Bool, true, false, not, eqb, ⊎_elim, ◌⊎◌, List, [], ◌∷◌, ◌++◌, length, map}
-use Rattle.analysis.proofs.Common.{refl, sym, ap, ◌∙◌, subst, Option, Some, None, arith, Contains, IsTrue, if◌then◌else◌, sum_by, filter, list_all}
-use Rattle.analysis.proofs.Common.{range_with_len, and_from, and_parts, both_ways, cases_Bool, eq-eqb, eqb-true, lt-ltb, not_from_false, false_from_ne_true}
-use Rattle.analysis.proofs.Common.{not-true, All-contains, Contains-append_cases, Contains-append_left, Contains-append_right, AllPairs-filter, sum_by-cons}
-use Rattle.analysis.proofs.Common.{IsBundle, IsRising, are_apart, has_good, apart_from, has-filter, has_above, has_below, has_cases, same_from_has, IsBid}
-use Rattle.analysis.proofs.Common.{IsDummyBelow, IsPlainFile, PlainBid, PlainFile, dummy_good, goods_of, below-from, Contains-map, Contains-unmap}
-use Rattle.analysis.proofs.Common.{All-from_Contains, Contains-filter, Contains-filter_parts, filter-kept, filter-lost, list_all_from, list_any_found}
-use Rattle.analysis.proofs.Common.{list_any_has, range_contains, bid_at, numbers_of, can_all_win, can_both_win, revenue, share_dummy, PlainRow, bids_with}
-use Rattle.analysis.proofs.Common.{is_shared, lp_rows, row_of, apart_at, has_head, has_tail, sum-zero, range_rising, AreRowsMet, objective, value_of}
+use Rattle.analysis.proofs.Common.{[], rules, ◌≡◌, ℕ, ◌+◌, ◌*◌, ◌<◌, ◌≤◌, Bool, true, false, not, eqb, ⊎_elim, ◌⊎◌, List, ◌∷◌, ◌++◌, length, map, refl, sym, ap}
+use Rattle.analysis.proofs.Common.{◌∙◌, subst, Option, Some, None, arith, Contains, IsTrue, if◌then◌else◌, sum_by, filter, list_all, range_with_len, and_from}
+use Rattle.analysis.proofs.Common.{and_parts, both_ways, cases_Bool, eq-eqb, eqb-true, lt-ltb, not_from_false, false_from_ne_true, not-true, All-contains}
+use Rattle.analysis.proofs.Common.{Contains-append_cases, Contains-append_left, Contains-append_right, AllPairs-filter, sum_by-cons, IsBundle, IsRising}
+use Rattle.analysis.proofs.Common.{are_apart, has_good, apart_from, has-filter, has_above, has_below, has_cases, same_from_has, IsBid, IsDummyBelow}
+use Rattle.analysis.proofs.Common.{IsPlainFile, PlainBid, PlainFile, dummy_good, goods_of, below-from, Contains-map, Contains-unmap, All-from_Contains}
+use Rattle.analysis.proofs.Common.{Contains-filter, Contains-filter_parts, filter-kept, filter-lost, list_all_from, list_any_found, list_any_has}
+use Rattle.analysis.proofs.Common.{range_contains, bid_at, numbers_of, can_all_win, can_both_win, revenue, share_dummy, PlainRow, bids_with, is_shared, lp_rows}
+use Rattle.analysis.proofs.Common.{row_of, apart_at, has_head, has_tail, sum-zero, range_rising, AreRowsMet, objective, value_of}
 use Rattle.analysis.proofs.Explaining.KeptBids.{bid_here}
 use Rattle.analysis.proofs.Allocating.Allocations.{CanWin, both_flip, pairs_from_test}
 use Rattle.analysis.proofs.Explaining.Packings.{pairs_at, rising_from_pairs}
@@ -37,12 +37,10 @@ module _ (p : ℕ → Bool) where
   at_most_one : (xs : List ℕ) → IsRising xs → ((x y : ℕ) → has_good xs x ≡ true → has_good xs y ≡ true → p x ≡ true → p y ≡ true → x < y → ⊥)
       → sum_by (one_if p) xs ≤ 1
   at_most_one [] r h = omega arith
-  at_most_one (x ∷ xs) r h =
-      let sum = sum_by-cons (one_if p) x xs in
+  at_most_one (x ∷ xs) r h = let sum = sum_by-cons (one_if p) x xs in
       ⊎_elim
       (λ (t : p x ≡ true).
-      let rest = sum-zero (one_if p) xs (λ y k. none y (false_from_ne_true (p y) (λ u. h x y (has_head x xs) (has_tail x xs y k) t u
-      (has_above x xs y r.0 k)))) in
+      let rest = sum-zero (one_if p) xs (search (rules, none, false_from_ne_true, has_head, has_tail, has_above)) in
       let first = one x t in
       omega arith)
       (λ (t : p x ≡ false).
@@ -53,47 +51,30 @@ module _ (p : ℕ → Bool) where
 
   at_least_one : (xs : List ℕ) (y : ℕ) → has_good xs y ≡ true → p y ≡ true → 1 ≤ sum_by (one_if p) xs
   at_least_one [] y h t = absurd (both_ways false refl h)
-  at_least_one (x ∷ xs) y h t =
-      let sum = sum_by-cons (one_if p) x xs in
-      ⊎_elim (λ (e : x ≡ y). let first = one x (ap p e ∙ t) in omega arith)
+  at_least_one (x ∷ xs) y h t = let sum = sum_by-cons (one_if p) x xs in
+      ⊎_elim (search (rules, one))
       (λ (k : has_good xs y ≡ true). let rest = at_least_one xs y k t in omega arith) (has_cases x xs y h)
 
   at_least_two : (xs : List ℕ) (y z : ℕ) → has_good xs y ≡ true → has_good xs z ≡ true → p y ≡ true → p z ≡ true → y < z → 2 ≤ sum_by (one_if p) xs
   at_least_two [] y z h k t u l = absurd (both_ways false refl h)
-  at_least_two (x ∷ xs) y z h k t u l =
-      let sum = sum_by-cons (one_if p) x xs in
+  at_least_two (x ∷ xs) y z h k t u l = let sum = sum_by-cons (one_if p) x xs in
       ⊎_elim
-      (λ (e : x ≡ y).
-      let first = one x (ap p e ∙ t) in
-      ⊎_elim (λ (d : x ≡ z). absurd (omega arith)) (λ (m : has_good xs z ≡ true). let rest = at_least_one xs z m u in omega arith) (has_cases x xs z k))
+      (search (rules, one, at_least_one, has_cases))
       (λ (m : has_good xs y ≡ true).
-      ⊎_elim (λ (d : x ≡ z). let first = one x (ap p d ∙ u) in let rest = at_least_one xs y m t in omega arith)
+      ⊎_elim (search (rules, one, at_least_one))
       (λ (n : has_good xs z ≡ true). let rest = at_least_two xs y z m n t u l in omega arith) (has_cases x xs z k))
       (has_cases x xs y h)
 
   at_most_all : (xs : List ℕ) → sum_by (one_if p) xs ≤ length xs
   at_most_all [] = omega arith
-  at_most_all (x ∷ xs) =
-      let sum = sum_by-cons (one_if p) x xs in
-      let rest = at_most_all xs in
-      ⊎_elim (λ (t : p x ≡ true). let first = one x t in omega arith) (λ (t : p x ≡ false). let first = none x t in omega arith) (cases_Bool (p x))
+  at_most_all (x ∷ xs) = let sum = sum_by-cons (one_if p) x xs in let rest = at_most_all xs in search (rules, one, none, cases_Bool)
 
   -- the sum over those that pass
   weighed : (weight : ℕ → ℕ) (xs : List ℕ) → sum_by (λ i. weight i * one_if p i) xs ≡ sum_by weight (filter p xs)
   weighed weight [] = refl
-  weighed weight (x ∷ xs) =
-      let sum = sum_by-cons (λ i. weight i * one_if p i) x xs in
+  weighed weight (x ∷ xs) = let sum = sum_by-cons (λ i. weight i * one_if p i) x xs in
       let rest = weighed weight xs in
-      ⊎_elim
-      (λ (t : p x ≡ true).
-      let first : weight x * one_if p x ≡ weight x * 1 = ap (λ n. weight x * n) (one x t) in
-      let kept = ap (sum_by weight) (filter-kept p x xs t) ∙ sum_by-cons weight x (filter p xs) in
-      omega arith)
-      (λ (t : p x ≡ false).
-      let first : weight x * one_if p x ≡ weight x * 0 = ap (λ n. weight x * n) (none x t) in
-      let lost = ap (sum_by weight) (filter-lost p x xs t) in
-      omega arith)
-      (cases_Bool (p x))
+      search (rules, one, filter-kept, sum_by-cons, none, filter-lost, cases_Bool)
 
 -- ---- the numbers of a file's bids that pass a test
 
@@ -105,13 +86,11 @@ module _ (f : PlainFile) where
   passing_rise p = rising_from_pairs (filter p (numbers_of f)) (AllPairs-filter (λ i j. i < j) p (numbers_of f) (range_rising 0 (length f.bids)))
 
   pub objective_is_revenue : (winners : List ℕ) → IsBundle (length f.bids) winners → objective f winners ≡ revenue f winners
-  objective_is_revenue winners h =
-      let price : ℕ → ℕ = λ i. (bid_at f i).price in
+  objective_is_revenue winners h = let price : ℕ → ℕ = λ i. (bid_at f i).price in
       weighed (has_good winners) price (numbers_of f)
       ∙ ap (sum_by price) (same_from_has (filter (has_good winners) (numbers_of f)) winners (passing_rise (has_good winners)) h.0
-      (λ i k. (and_parts (has_good winners i) (has_good (numbers_of f) i) (sym (has-filter (has_good winners) (numbers_of f) i) ∙ k)).0)
-      (λ i k. has-filter (has_good winners) (numbers_of f) i
-      ∙ and_from (has_good winners i) (has_good (numbers_of f) i) k (in_numbers i (has_below (length f.bids) winners i h.1 k))))
+      (search (rules, and_parts, has-filter))
+      (search (rules, has-filter, and_from, in_numbers, has_below)))
 
 -- ---- the goods that two bids share
 
@@ -144,8 +123,7 @@ module _ (G D : ℕ) (a b : PlainBid) (is_a : IsBid G D a) (is_b : IsBid G D b) 
   share_none win g h k = search (rules, and_parts, apart_at, in_dummy, below_a, has_either, below_b, not-true, eq-eqb)
 
   pub both_win : ((g : ℕ) → g < G + D → has_good (goods_of G a) g ≡ true → has_good (goods_of G b) g ≡ true → ⊥) → IsTrue (can_both_win a b)
-  both_win clash =
-      and_from (are_apart a.goods b.goods) (not (share_dummy a.dummy b.dummy))
+  both_win clash = and_from (are_apart a.goods b.goods) (not (share_dummy a.dummy b.dummy))
       (apart_from a.goods b.goods (λ g h. false_from_ne_true (has_good b.goods g) (λ k.
       let l = below_a g h in clash g (omega arith) (has_left a.goods (dummy_good G a.dummy) g h) (has_left b.goods (dummy_good G b.dummy) g k))))
       (not_from_false (share_dummy a.dummy b.dummy) (false_from_ne_true (share_dummy a.dummy b.dummy) (λ s.
@@ -153,19 +131,18 @@ module _ (G D : ℕ) (a b : PlainBid) (is_a : IsBid G D a) (is_b : IsBid G D b) 
       let l : d.0 < D = subst (IsDummyBelow D) d.1 is_a.dummy in
       let g : ℕ = G + d.0 in
       let here : (o : Option ℕ) → o ≡ Some d.0 → has_good (dummy_good G o) g ≡ true =
-      λ o e. ap (λ (p : Option ℕ). has_good (dummy_good G p) g) e ∙ has_head g [] in
-      clash g (omega arith) (has_right a.goods (dummy_good G a.dummy) g (here a.dummy d.1))
-      (has_right b.goods (dummy_good G b.dummy) g (here b.dummy d.2)))))
+      search (rules, has_head) in
+      clash g (omega arith) (search (rules, has_right))
+      (search (rules, has_right)))))
 
 -- ---- the rows
 
 all_win : (f : PlainFile) (xs : List ℕ) → IsRising xs → ((x y : ℕ) → has_good xs x ≡ true → has_good xs y ≡ true → x < y → CanWin f x y)
     → can_all_win f xs ≡ true
 all_win f [] r h = refl
-all_win f (x ∷ xs) r h =
-    let test = λ (j : ℕ). can_both_win (bid_at f x) (bid_at f j) in
+all_win f (x ∷ xs) r h = let test = λ (j : ℕ). can_both_win (bid_at f x) (bid_at f j) in
     and_from (list_all test xs) (can_all_win f xs)
-    (list_all_from test xs (λ j c. let k = has_from xs j c in h x j (has_head x xs) (has_tail x xs j k) (has_above x xs j r.0 k)))
+    (search (rules, list_all_from, has_from, has_head, has_tail, has_above))
     (all_win f xs r.1 (λ a b p q. h a b (has_tail x xs a p) (has_tail x xs b q)))
 
 module _ (f : PlainFile) (is : IsPlainFile f) (winners : List ℕ) (numbers : IsBundle (length f.bids) winners) where
@@ -183,7 +160,7 @@ module _ (f : PlainFile) (is : IsPlainFile f) (winners : List ℕ) (numbers : Is
       let r = Contains-unmap (row_of f) all_goods row (Contains-filter_parts is_shared (map (row_of f) all_goods) row c).0 in
       let g = r.0 in
       let with : (x : ℕ) → has_good (bids_with f g) x ≡ true → has g x ≡ true =
-      λ x h. (and_parts (has g x) (has_good (numbers_of f) x) (sym (has-filter (has g) (numbers_of f) x) ∙ h)).0 in
+      search (rules, and_parts, has-filter) in
       subst (λ (s : PlainRow). sum_by (value_of winners) s.bids ≤ 1) (sym r.2)
       (at_most_one (has_good winners) (bids_with f g) (passing_rise f (has g)) (λ x y h k t u l.
       share_none f.goods f.dummy (bid_at f x) (bid_at f y) (here x t) (here y u)
@@ -196,11 +173,9 @@ module _ (f : PlainFile) (is : IsPlainFile f) (winners : List ℕ) (numbers : Is
       both_win f.goods f.dummy (bid_at f x) (bid_at f y) (here x h) (here y k) (λ g m p q.
       let bids = bids_with f g in
       let with : (z : ℕ) → has_good winners z ≡ true → has g z ≡ true → has_good bids z ≡ true =
-      λ z a b. has-filter (has g) (numbers_of f) z
-      ∙ and_from (has g z) (has_good (numbers_of f) z) b (in_numbers f z (has_below (length f.bids) winners z numbers.1 a)) in
+      search (rules, has-filter, and_from, in_numbers, has_below) in
       let two = at_least_two (has_good winners) bids x y (with x h p) (with y k q) h k l in
       let long = at_most_all (has_good winners) bids in
       let there = Contains-filter is_shared (map (row_of f) all_goods) (row_of f g)
       (Contains-map (row_of f) all_goods g (range_contains (f.goods + f.dummy) g m)) (lt-ltb 1 (length bids) (omega arith)) in
-      let one = All-contains (λ row. sum_by (value_of winners) row.bids ≤ 1) (lp_rows f) (row_of f g) met there in
-      absurd (omega (arith, one, two))))
+      search (rules, All-contains)))

@@ -1,7 +1,7 @@
 -- What a verdict says. It has three cases: a named number that the file does not have, two bids that clash, or neither.
-use Rattle.analysis.proofs.Common.{rules, ◌≡◌, ◌↔◌, ℕ, ◌<◌, ◌≤◌, false, not, leb, ⊎_elim, List, length, refl, sym, ap, ◌∙◌, subst, Option, Some, None, All}
-use Rattle.analysis.proofs.Common.{Contains, Result, Ok, Err, unwrap_or, both_ways, cases_lt, leb-false, leb-true, lt-leb, not-false, All-contains, IsBundle}
-use Rattle.analysis.proofs.Common.{are_apart, has_good, AreBelow-from_has, apart_from, IsPlainFile, PlainFile, rising-from, All-from_Contains, Contains-filter}
+use Rattle.analysis.proofs.Common.{rules, ◌≡◌, ◌↔◌, ℕ, ◌<◌, ◌≤◌, leb, ⊎_elim, List, length, refl, sym, ap, ◌∙◌, Option, Some, None, All, Contains, Result, Ok}
+use Rattle.analysis.proofs.Common.{Err, unwrap_or, both_ways, cases_lt, leb-false, leb-true, lt-leb, not-false, All-contains, IsBundle, has_good}
+use Rattle.analysis.proofs.Common.{AreBelow-from_has, apart_from, IsPlainFile, PlainFile, rising-from, All-from_Contains, Contains-filter}
 use Rattle.analysis.proofs.Common.{Contains-filter_parts, find_none, found_none, range_contains, bid_at, numbers_of, IsFirstClash, allocation_verdict}
 use Rattle.analysis.proofs.Common.{first_clash, missing_bid, named_bids, verdict_by, verdict_unless, IsAllocation, revenue, share_dummy, Revenue, and_cases}
 use Rattle.analysis.proofs.Common.{in_range, AreOneBidders, IsLeastShared, clash_on, shared_good, AllocationVerdict, SharedBidder, SharedGood}
@@ -62,8 +62,7 @@ module _ (f : PlainFile) (named : List ℕ) where
   all_within none = All-from_Contains (λ i. i < length f.bids) named (within_if_none none)
 
   none_if_within : All (λ i. i < length f.bids) named → missing_bid f named ≡ None
-  none_if_within within =
-      find_none (leb (length f.bids)) named (λ i c. lt-leb (length f.bids) i (All-contains (λ n. n < length f.bids) named i within c))
+  none_if_within within = search (rules, find_none, lt-leb, All-contains, within)
 
   -- ---- an allocation
 
@@ -107,15 +106,12 @@ module _ (f : PlainFile) (named : List ℕ) where
 
   pub are_one_bidders : (i j : ℕ) → first_clash f bids ≡ Some (i, j) → shared_good (bid_at f i) (bid_at f j) ≡ None
       → AreOneBidders (bid_at f i) (bid_at f j) (unwrap_or (bid_at f i).dummy 0)
-  are_one_bidders i j c s =
-      let a = bid_at f i in
+  are_one_bidders i j c s = let a = bid_at f i in
       let b = bid_at f j in
       let apart = apart_from a.goods b.goods (λ g h. found_none (has_good b.goods) a.goods s g (contains_from a.goods g h)) in
       let p = first_pair f bids are_numbers.0 i j c in
       let share = not-false (share_dummy a.dummy b.dummy)
-      (⊎_elim (λ (no : are_apart a.goods b.goods ≡ false). absurd (both_ways (are_apart a.goods b.goods) no apart))
-      (λ (no : not (share_dummy a.dummy b.dummy) ≡ false). no)
-      (and_cases (are_apart a.goods b.goods) (not (share_dummy a.dummy b.dummy)) p.clash)) in
+      (search (rules, both_ways, and_cases)) in
       let d = same_dummy a.dummy b.dummy share in
       let is : unwrap_or a.dummy 0 ≡ d.0 = ap (λ (o : Option ℕ). unwrap_or o 0) d.1 in
       record { apart = apart; first = d.1 ∙ ap Some (sym is); second = d.2 ∙ ap Some (sym is) }
@@ -147,29 +143,27 @@ module _ (f : PlainFile) (named : List ℕ) where
   if_good i j good e = by (cases f named)
     where
       by : IsVerdict f named (allocation_verdict f named) → SharesGood f named i j good
-      by (Missing k m v) = let no : Err k ≡ Ok (SharedGood i j good) = sym v ∙ e in absurd (cc)
-      by (All_win m c v) = let no : Ok (Revenue (revenue f (named_bids f named))) ≡ Ok (SharedGood i j good) = sym v ∙ e in absurd (cc)
+      by (Missing k m v) = absurd (cc)
+      by (All_win m c v) = absurd (cc)
       by (Share k l g m c s v) =
-          let is : Ok (SharedGood k l g) ≡ Ok (SharedGood i j good) = sym v ∙ e in
           let clash : first_clash f (named_bids f named) ≡ Some (i, j) = cc in
           let shared : shared_good (bid_at f i) (bid_at f j) ≡ Some good = cc in
           record { first = is_first f named i j m clash; clash = clash; shared = shared }
-      by (Share_none k l m c s v) = let no : Ok (SharedBidder k l (unwrap_or (bid_at f k).dummy 0)) ≡ Ok (SharedGood i j good) = sym v ∙ e in absurd (cc)
+      by (Share_none k l m c s v) = absurd (cc)
 
   pub if_bidder : (i j dummy : ℕ) → allocation_verdict f named ≡ Ok (SharedBidder i j dummy) → SharesBidder f named i j dummy
   if_bidder i j dummy e = by (cases f named)
     where
       by : IsVerdict f named (allocation_verdict f named) → SharesBidder f named i j dummy
-      by (Missing k m v) = let no : Err k ≡ Ok (SharedBidder i j dummy) = sym v ∙ e in absurd (cc)
-      by (All_win m c v) = let no : Ok (Revenue (revenue f (named_bids f named))) ≡ Ok (SharedBidder i j dummy) = sym v ∙ e in absurd (cc)
-      by (Share k l g m c s v) = let no : Ok (SharedGood k l g) ≡ Ok (SharedBidder i j dummy) = sym v ∙ e in absurd (cc)
+      by (Missing k m v) = absurd (cc)
+      by (All_win m c v) = absurd (cc)
+      by (Share k l g m c s v) = absurd (cc)
       by (Share_none k l m c s v) =
-          let is : Ok (SharedBidder k l (unwrap_or (bid_at f k).dummy 0)) ≡ Ok (SharedBidder i j dummy) = sym v ∙ e in
           let clash : first_clash f (named_bids f named) ≡ Some (i, j) = cc in
           let none : shared_good (bid_at f i) (bid_at f j) ≡ None = cc in
           let same : unwrap_or (bid_at f i).dummy 0 ≡ dummy = cc in
           let bidders = are_one_bidders f named i j clash none in
-          record { first = is_first f named i j m clash; bidders = subst (AreOneBidders (bid_at f i) (bid_at f j)) same bidders }
+          record { first = is_first f named i j m clash; bidders = search rules }
 
   pub if_missing : (i : ℕ) → allocation_verdict f named ≡ Err i → Contains named i × (length f.bids ≤ i)
   if_missing i e = search (rules, cases, is_missing)

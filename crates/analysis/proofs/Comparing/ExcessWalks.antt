@@ -1,10 +1,10 @@
 -- Two lists in order are walked from their ends, and each element takes an equal one of the others with it, if one is left. The
 -- idea: of an element that is still to come, as many others were taken as elements were passed, up to all that there are. So
 -- an element is in excess exactly where none is left for it.
-use Rattle.analysis.proofs.Common.{common_steps, rules, ◌≡◌, ℕ, zero, suc, ◌+◌, ◌-◌, ◌<◌, ◌≤◌, Bool, true, false, cond, min, List, [], ◌∷◌, ◌++◌, length, drop}
-use Rattle.analysis.proofs.Common.{get_or, refl, sym, ap, ◌∙◌, subst, arith, Ordering, Less, Equal, Greater, AllPairs, filter, range_with_len, is_eq, is_gt}
-use Rattle.analysis.proofs.Common.{is_lt, ordering_reverse, IsTotalOrder, lt-ltb, le-ltb, tied_itself, sum_by-drop_more, sum_by-take-drop, count_of, le_or_lt}
-use Rattle.analysis.proofs.Common.{reverse, nat_lt, reverse-append}
+use Rattle.analysis.proofs.Common.{[], common_steps, rules, ◌≡◌, ℕ, zero, suc, ◌+◌, ◌-◌, ◌<◌, ◌≤◌, Bool, true, false, cond, min, List, ◌∷◌, ◌++◌, length, drop}
+use Rattle.analysis.proofs.Common.{get_or, refl, ap, ◌∙◌, arith, Ordering, Less, Equal, Greater, AllPairs, filter, range_with_len, is_eq, is_gt, is_lt}
+use Rattle.analysis.proofs.Common.{IsTotalOrder, lt-ltb, le-ltb, tied_itself, sum_by-drop_more, sum_by-take-drop, count_of, le_or_lt, reverse, nat_lt}
+use Rattle.analysis.proofs.Common.{reverse-append}
 use Rattle.canon.specs.Lemmas.Finding.{equal_from}
 
 -- ---- tests of an order
@@ -26,8 +26,7 @@ passing_from passes index number = filter passes (range_with_len index (number -
 
 passing_before : (passes : ℕ → Bool) (index number : ℕ) → index < number
     → passing_from passes index number ≡ cond (passes index) (index ∷ passing_from passes (index + 1) number) (passing_from passes (index + 1) number)
-passing_before passes index number below =
-    let one_more : number - index ≡ suc (number - (index + 1)) = omega arith in ap (λ n. filter passes (range_with_len index n)) one_more
+passing_before passes index number below = search rules
 
 one_passes : (passes : ℕ → Bool) (indices : List ℕ) (index number : ℕ) → index < number → reverse indices ≡ passing_from passes (index + 1) number
     → passes index ≡ true → reverse (indices ++ index ∷ []) ≡ passing_from passes index number
@@ -70,9 +69,8 @@ module _ {X : Type 0} (cmp : X → X → Ordering) (none : X) where
       → ((k : ℕ) → from ≤ k → k < end → is_eq (cmp x (get_or xs k none)) ≡ false)
       → count_of cmp x (drop from xs) ≡ count_of cmp x (drop end xs)
   count_past x xs zero from end e within differ = let same : from ≡ end = omega arith in ap (λ n. count_of cmp x (drop n xs)) same
-  count_past x xs (suc number) from end e within differ =
-      let first = count_from x xs from (omega arith) in
-      let other : cond {A = ℕ} (is_eq (cmp x (get_or xs from none))) 1 0 ≡ 0 = ap (λ b. cond {A = ℕ} b 1 0) (differ from (omega arith) (omega arith)) in
+  count_past x xs (suc number) from end e within differ = let first = count_from x xs from (omega arith) in
+      let other : cond {A = ℕ} (is_eq (cmp x (get_or xs from none))) 1 0 ≡ 0 = search rules in
       let later = count_past x xs number (from + 1) end (omega arith) within (λ k l m. differ k (omega arith) m) in
       omega arith
 
@@ -88,11 +86,9 @@ module _ {X : Type 0} (cmp : X → X → Ordering) (none : X) (total : IsTotalOr
 
   count_at : (xs : List X) (index : ℕ) → index < length xs
       → count_of cmp (get_or xs index none) (drop index xs) ≡ 1 + count_of cmp (get_or xs index none) (drop (index + 1) xs)
-  count_at xs index l =
-      let x = get_or xs index none in
+  count_at xs index l = let x = get_or xs index none in
       let one : cond {A = ℕ} (is_eq (cmp x x)) 1 0 ≡ 1 = ap (λ o. cond {A = ℕ} (is_eq o) 1 0) (tied_itself total x) in
-      let here = count_from cmp none x xs index l in
-      omega arith
+      search (rules, count_from)
 
   -- others that are greater than the last element are greater than all elements before it
   taken_past : (xs others : List X) (index end before : ℕ) → NeverAbove cmp none xs → index < length xs
@@ -103,9 +99,7 @@ module _ {X : Type 0} (cmp : X → X → Ordering) (none : X) (total : IsTotalOr
     within = omega (arith, w.within);
     counted = λ k m.
         count_past cmp none (get_or xs k none) others (end - before) before end (omega arith) w.within
-        (λ j from to. ap is_eq
-        (below_further (get_or xs k none) (get_or xs index none) (get_or others j none) (not_above_last xs up k index (omega arith) within)
-        (less_from_test (cmp (get_or xs index none) (get_or others j none)) (greater j from to))))
+        (search (rules, below_further, not_above_last, within, less_from_test))
         ∙ w.counted k m;
   }
 
@@ -113,8 +107,7 @@ module _ {X : Type 0} (cmp : X → X → Ordering) (none : X) (total : IsTotalOr
   module _ (xs others : List X) (index last : ℕ) (below : index < length xs) (w : AreTaken cmp none xs others (index + 1) (last + 1))
       (equal : cmp (get_or xs index none) (get_or others last none) ≡ Equal) where
     one_taken : (x : X) → IsTaken cmp none xs others (index + 1) (last + 1) x → IsTaken cmp none xs others index last x
-    one_taken x counted =
-        let same : get_or xs index none ≡ get_or others last none = exact (get_or xs index none) (get_or others last none) equal in
+    one_taken x counted = let same : get_or xs index none ≡ get_or others last none = search rules in
         let front = ap (λ (y : X). cond {A = ℕ} (is_eq (cmp x y)) 1 0) same in
         let one = count_from cmp none x xs index below in
         let other = count_from cmp none x others last (omega (arith, w.within)) in
@@ -126,25 +119,21 @@ module _ {X : Type 0} (cmp : X → X → Ordering) (none : X) (total : IsTotalOr
 
     -- it is not in excess, since its equal was left
     equal_left : is_more_often cmp none xs others index ≡ false
-    equal_left =
-        let x = get_or xs index none in
+    equal_left = let x = get_or xs index none in
         let tied : cond {A = ℕ} (is_eq (cmp x (get_or others last none))) 1 0 ≡ 1 = ap (λ o. cond {A = ℕ} (is_eq o) 1 0) equal in
         let here = count_at xs index below in
         let there = count_from cmp none x others last (omega (arith, w.within)) in
-        let taken = w.counted index (omega arith) in
         let some = count_from-le cmp none x others last in
-        le-ltb (count_of cmp x others) (count_of cmp x (drop index xs)) (omega arith)
+        search (rules, le-ltb)
 
   -- none of the others before the end is equal to an element that is greater than the last of them
   none_equal : (x : X) (others : List X) (end : ℕ) → NeverAbove cmp none others → end ≤ length others
       → ((last : ℕ) → last + 1 ≡ end → cmp x (get_or others last none) ≡ Greater)
       → (k : ℕ) → k < end → is_eq (cmp x (get_or others k none)) ≡ false
-  none_equal x others end up within greater k below =
-      let last = end - 1 in
+  none_equal x others end up within greater k below = let last = end - 1 in
       let less : cmp (get_or others last none) x ≡ Less =
-      total.antisymm (get_or others last none) x ∙ ap ordering_reverse (greater last (omega arith)) in
-      let far = below_further (get_or others k none) (get_or others last none) x (not_above_last others up k last (omega arith) (omega arith)) less in
-      ap is_eq (total.antisymm x (get_or others k none) ∙ ap ordering_reverse far)
+      search rules in
+      search (rules, below_further, not_above_last)
 
   -- no other is left for an element
   module _ (xs others : List X) (index end : ℕ) (below : index < length xs) (w : AreTaken cmp none xs others (index + 1) end)
@@ -153,18 +142,12 @@ module _ {X : Type 0} (cmp : X → X → Ordering) (none : X) (total : IsTotalOr
     all_taken = count_past cmp none (get_or xs index none) others end 0 end (omega arith) w.within (λ k l m. differ k m)
 
     other_kept : (x : X) → is_eq (cmp x (get_or xs index none)) ≡ false → IsTaken cmp none xs others (index + 1) end x → IsTaken cmp none xs others index end x
-    other_kept x e counted =
-        let here = count_from cmp none x xs index below in
-        let zero_here : cond {A = ℕ} (is_eq (cmp x (get_or xs index none))) 1 0 ≡ 0 = ap (λ b. cond {A = ℕ} b 1 0) e in
-        omega arith
+    other_kept x e counted = let here = count_from cmp none x xs index below in search rules
 
     kept : (x : X) (o : Ordering) → cmp x (get_or xs index none) ≡ o → IsTaken cmp none xs others (index + 1) end x → IsTaken cmp none xs others index end x
     kept x Less e counted = other_kept x (ap is_eq e) counted
     kept x Greater e counted = other_kept x (ap is_eq e) counted
-    kept x Equal e counted =
-        let all = subst (λ (z : X). count_of cmp z others ≡ count_of cmp z (drop end others)) (sym (exact x (get_or xs index none) e)) all_taken in
-        let here = count_from cmp none x xs index below in
-        omega arith
+    kept x Equal e counted = grind (arith, common_steps, all_taken, count_from)
 
     taken_none : AreTaken cmp none xs others index end
     taken_none = record {
@@ -200,10 +183,9 @@ module _ {X : Type 0} (cmp : X → X → Ordering) (none : X) (total : IsTotalOr
     pub walked_excess : NeverAbove cmp none others
         → ((last : ℕ) → last + 1 ≡ before → is_eq (cmp (get_or xs index none) (get_or others last none)) ≡ false)
         → IsWalked xs others index before (indices ++ index ∷ [])
-    walked_excess others_up differ =
-        let least = none_equal (get_or xs index none) others before others_up past.within
-        (λ last e. greater_from_tests (cmp (get_or xs index none) (get_or others last none)) (s.stopped last e) (differ last e)) in
+    walked_excess others_up differ = let least = none_equal (get_or xs index none) others before others_up past.within
+        (search (rules, greater_from_tests)) in
         record {
-          named = one_passes (is_more_often cmp none xs others) indices index (length xs) below w.named (none_left xs others index before below past least);
+          named = search (rules, one_passes, none_left, past);
           taken = taken_none xs others index before below past least;
         }

@@ -1,21 +1,20 @@
 -- The bids of a file's canonical file. The idea: a point's price is the value of its bundle, which no bid there exceeds, so
 -- it is the price of a best bid; and the points of a bidder are on different bundles.
-use Rattle.analysis.proofs.Common.{◌≡◌, ℕ, ◌+◌, ◌<◌, ◌≤◌, not, eqb, ⊎_elim, List, [], ◌∷◌, ◌++◌, length, map, get_or, Option, Some, None, refl, sym, ap, ap₂}
+use Rattle.analysis.proofs.Common.{[], rules, ◌≡◌, ℕ, ◌+◌, ◌<◌, ◌≤◌, not, eqb, ⊎_elim, List, ◌∷◌, ◌++◌, length, map, Option, Some, None, refl, sym, ap, ap₂}
 use Rattle.analysis.proofs.Common.{◌∙◌, subst, arith, All, Contains, slice_get, flat_map, range_with_len, unwrap_or, get_or-append_seam, not_from_false, ne_eqb}
 use Rattle.analysis.proofs.Common.{map-append, length-append, append_assoc, flat_map-cons, All-contains, All-from_recursion, Contains-append_left}
 use Rattle.analysis.proofs.Common.{Contains-append_right, Contains-append_cases, slice_get-get_or, slice_get_within, get_or_from_slice_get, IsBundle}
-use Rattle.analysis.proofs.Common.{all_bundles, all_bundles_has, inside_refl, PlainBid, PlainFile, IsBid, IsDummyBelow, IsPlainFile, Atom, IsAtom, atom_of}
-use Rattle.analysis.proofs.Common.{auction_from, is_dummy, or_atoms_of, xor_atoms_of, xor_table, or_value, xor_value, IsAuction-auction_from, rising-from}
-use Rattle.analysis.proofs.Common.{below-from, AllPairs-map, Contains-map, Contains-unmap, greatest_price, IsBefore, IsInOrder, or_points, is_or_point}
-use Rattle.analysis.proofs.Common.{is_xor_point, on_bundles, list_any_has, IsOnBundle, points_where-in_order, xor_value-member, bid_from, canonical_auction}
-use Rattle.analysis.proofs.Common.{dummy_bids, points_of_kept_dummies, kept_dummies-differ, kept_dummies-below, kept_bids, kept_dummies, named_bid}
-use Rattle.analysis.proofs.Common.{points_of_dummy, bid_at, bidder_of, IsKeptAs, points_of, IsAuction, before_itself, kept_dummies-has}
+use Rattle.analysis.proofs.Common.{all_bundles_has, inside_refl, PlainBid, PlainFile, IsBid, IsDummyBelow, IsPlainFile, Atom, IsAtom, atom_of, auction_from}
+use Rattle.analysis.proofs.Common.{is_dummy, or_atoms_of, xor_atoms_of, xor_table, xor_value, IsAuction-auction_from, rising-from, below-from, AllPairs-map}
+use Rattle.analysis.proofs.Common.{Contains-map, Contains-unmap, greatest_price, IsBefore, IsInOrder, or_points, on_bundles, list_any_has, IsOnBundle}
+use Rattle.analysis.proofs.Common.{points_where-in_order, xor_value-member, bid_from, canonical_auction, dummy_bids, points_of_kept_dummies}
+use Rattle.analysis.proofs.Common.{kept_dummies-differ, kept_dummies-below, kept_bids, kept_dummies, named_bid, points_of_dummy, bid_at, IsKeptAs, points_of}
+use Rattle.analysis.proofs.Common.{IsAuction, before_itself, kept_dummies-has, range_contains}
 use Rattle.analysis.proofs.Explaining.BestBids.{element_at}
 use Rattle.analysis.proofs.Explaining.KeptBidsLists.{in_flat_map, from_flat_map, AreDifferent, different_indices, different_append}
 use Rattle.analysis.proofs.Explaining.KeptBidsLists.{different_flat_map}
 use Rattle.analysis.proofs.Explaining.KeptBidsBest.{atom_there, atoms_of_bidder, best_of_greatest, is_dummy-same}
 use Rattle.analysis.proofs.Explaining.PointFates.{IsGreatest, or_is_greatest, xor_is_greatest}
-use Rattle.analysis.proofs.Common.{range_contains}
 
 -- ---- the bids, bidder by bidder
 
@@ -33,11 +32,9 @@ or_points_of f = or_points f.goods (or_atoms_of f.bids)
 named_bids : (points : ℕ → List (Atom (List ℕ))) (before ds : List ℕ) (n : ℕ) → length before ≡ n
     → map (named_bid (before ++ ds)) (dummy_bids n (map points ds)) ≡ flat_map (λ d. map (bid_from (Some d)) (points d)) ds
 named_bids points before [] n l = refl
-named_bids points before (d ∷ ds) n l =
-    map-append (named_bid (before ++ d ∷ ds)) (map (bid_from (Some n)) (points d)) (dummy_bids (n + 1) (map points ds))
+named_bids points before (d ∷ ds) n l = map-append (named_bid (before ++ d ∷ ds)) (map (bid_from (Some n)) (points d)) (dummy_bids (n + 1) (map points ds))
     ∙ ap₂ (λ (xs ys : List PlainBid). xs ++ ys)
-    (map_of_map (named_bid (before ++ d ∷ ds)) (bid_from (Some n)) (bid_from (Some d))
-    (λ a. ap (λ (e : ℕ). bid_from (Some e) a) (ap (λ (m : ℕ). get_or (before ++ d ∷ ds) m 0) (sym l) ∙ get_or-append_seam before d ds 0)) (points d))
+    (search (rules, map_of_map, get_or-append_seam))
     (ap (λ (es : List ℕ). map (named_bid es) (dummy_bids (n + 1) (map points ds))) (sym (append_assoc before (d ∷ []) ds))
     ∙ named_bids points (before ++ d ∷ []) ds (n + 1) (let long = length-append before (d ∷ []) in omega arith))
     ∙ sym (flat_map-cons (λ e. map (bid_from (Some e)) (points e)) d ds)
@@ -74,25 +71,19 @@ xor-points-are-kept f d e a c =
 -- ---- no two are equal
 
 same_bundles : (dummy : Option ℕ) (points : List (Atom (List ℕ))) → IsInOrder points → AreDifferent (map (bid_from dummy) points)
-same_bundles dummy points order =
-    AllPairs-map IsBefore (λ b c. b ≡ c → ⊥) (bid_from dummy)
-    (λ a b l e. before_itself a.bundle (subst (λ (xs : List ℕ). IsBefore a (record { bundle = xs; price = 0 })) (sym (ap (λ (c : PlainBid). c.goods) e)) l))
-    points order
+same_bundles dummy points order = AllPairs-map IsBefore (λ b c. b ≡ c → ⊥) (bid_from dummy) (search (rules, before_itself)) points order
 
 bids-different : (f : PlainFile) → AreDifferent (map (bid_from None) (or_points_of f) ++ flat_map (bids_of_dummy f) (kept_dummies f))
-bids-different f =
-    different_append (map (bid_from None) (or_points_of f)) (flat_map (bids_of_dummy f) (kept_dummies f))
-    (same_bundles None (or_points_of f) (points_where-in_order (is_or_point f.goods (or_atoms_of f.bids)) (or_value (or_atoms_of f.bids)) f.goods))
+bids-different f = different_append (map (bid_from None) (or_points_of f)) (flat_map (bids_of_dummy f) (kept_dummies f))
+    (search (rules, same_bundles, points_where-in_order))
     (different_flat_map (bids_of_dummy f) (λ (b : PlainBid). unwrap_or b.dummy 0) (kept_dummies f) (kept_dummies-differ f)
-    (λ d c. same_bundles (Some d) (points_of_dummy f d) (points_where-in_order (is_xor_point (xor_atoms_of f.bids d))
-    (xor_value (xor_atoms_of f.bids d)) f.goods))
+    (search (rules, same_bundles, points_where-in_order))
     (λ d b c. let r = Contains-unmap (bid_from (Some d)) (points_of_dummy f d) b c in ap (λ (z : PlainBid). unwrap_or z.dummy 0) r.2))
     (λ b c e.
     let r = Contains-unmap (bid_from None) (or_points_of f) b c in
     let s = from_flat_map (bids_of_dummy f) (kept_dummies f) b e in
     let t = Contains-unmap (bid_from (Some s.0)) (points_of_dummy f s.0) b s.2 in
-    let clash : bidder_of None ≡ bidder_of (Some s.0) = ap (λ (z : PlainBid). bidder_of z.dummy) (sym r.2 ∙ t.2) in
-    omega arith)
+    search rules)
 
 pub kept-once : (f : PlainFile) → (k l : ℕ) → k < length (kept_bids f) → l < length (kept_bids f)
     → slice_get (kept_bids f) k ≡ slice_get (kept_bids f) l → k ≡ l
@@ -138,17 +129,12 @@ point_is_greatest f is None below a c = or_is_greatest f.goods (or_atoms_of f.bi
 point_is_greatest f is (Some d) below a c = xor_is_greatest f.goods (xor_atoms_of f.bids d) (xor_on f is d below) a c
 
 pub kept-is-best : (f : PlainFile) → IsPlainFile f → (k : ℕ) → k < length (kept_bids f) → (j : ℕ) × (j < length f.bids) × IsKeptAs f j k
-kept-is-best f is k l =
-    let b = element_at (kept_bids f) k l in
+kept-is-best f is k l = let b = element_at (kept_bids f) k l in
     let at = slice_get-get_or (kept_bids f) k b.0 l ∙ ap Some (b.1 b.0) in
     let point = kept_is_point f k b.0 at in
     let g = point_is_greatest f is b.0.dummy point.0 (atom_of b.0) point.1 in
-    let positive : 0 < b.0.price = g.positive in
     let greatest : b.0.price ≡ greatest_price (atoms_of_bidder f b.0.dummy) b.0.goods = g.greatest in
-    let r = best_of_greatest f b.0.dummy b.0.goods (omega arith) in
-    let same : bid_at f r.0 ≡ b.0 = r.1.is ∙ ap (λ (n : ℕ). record { price = n; goods = b.0.goods; dummy = b.0.dummy }) (sym greatest) in
-    let price : (bid_at f r.0).price ≡ b.0.price = ap (λ (z : PlainBid). z.price) same in
-    (r.0, r.1.within, record { bid = record { positive = omega arith; best = r.1.best }; is = at ∙ ap Some (sym same) })
+    search (rules, best_of_greatest)
 
 -- ---- a bid of the file with a price above 0
 
@@ -170,10 +156,9 @@ within_value f i l d some =
 -- its bidder is in the canonical file
 pub dummy-is-kept : (f : PlainFile) → IsPlainFile f → (i : ℕ) → i < length f.bids → (d : ℕ) → (bid_at f i).dummy ≡ Some d → 0 < (bid_at f i).price
     → Contains (kept_dummies f) d
-dummy-is-kept f is i l d some positive =
-    let atoms = xor_atoms_of f.bids d in
+dummy-is-kept f is i l d some positive = let atoms = xor_atoms_of f.bids d in
     let goods = (bid_at f i).goods in
     let low = within_value f i l d some in
     kept_dummies-has f d (below_here f is i l d some) (list_any_has (λ value. not (eqb value 0)) (xor_table atoms f.goods) (xor_value atoms goods)
-    (Contains-map (xor_value atoms) (all_bundles f.goods) goods (all_bundles_has f.goods goods (bundle_here f is i l)))
-    (not_from_false (eqb (xor_value atoms goods) 0) (ne_eqb (xor_value atoms goods) 0 (λ e. omega arith))))
+    (search (rules, Contains-map, all_bundles_has, bundle_here))
+    (search (rules, not_from_false, ne_eqb)))

@@ -1,14 +1,13 @@
 -- The best bids of a file. The idea: a best bid has the greatest price of its bidder's bids on its goods, and of a
 -- bidder's bids on a bundle one alone is the best, the first of those with the greatest price.
-use Rattle.analysis.proofs.Common.{rules, ◌≡◌, ℕ, ◌<◌, ◌≤◌, Bool, true, false, ◌&&◌, ◌||◌, ltb, eqb, List, [], length, map, Option, Some, None, is_none}
-use Rattle.analysis.proofs.Common.{refl, sym, ap, ◌∙◌, arith, le_antisymm, Contains, filter, and_parts, and_from, or_left, or_cases, both_ways, eqb-true}
-use Rattle.analysis.proofs.Common.{eq-eqb, ltb-true, lt-ltb, not_from_false, not-true, false_from_ne_true, get_or_default, Contains-get_or, list_any_none}
-use Rattle.analysis.proofs.Common.{PlainBid, PlainFile, Atom, atom_of, is_dummy, Contains-map, Contains-unmap, greatest_price, All-from_Contains}
-use Rattle.analysis.proofs.Common.{Contains-filter, Contains-filter_parts, list_any_fails, greatest_price-member, greatest_price-bound, greatest_price-reached}
-use Rattle.analysis.proofs.Common.{bid_at, bidder_of, are_alike, is_better, is_best, numbers_of, or_right}
+use Rattle.analysis.proofs.Common.{[], rules, ◌≡◌, ℕ, ◌<◌, ◌≤◌, Bool, true, false, ◌&&◌, ◌||◌, ltb, eqb, List, length, map, Option, Some, None, is_none, refl}
+use Rattle.analysis.proofs.Common.{sym, ap, ◌∙◌, arith, le_antisymm, Contains, filter, and_parts, and_from, or_left, or_cases, both_ways, eqb-true, eq-eqb}
+use Rattle.analysis.proofs.Common.{ltb-true, lt-ltb, not_from_false, not-true, false_from_ne_true, get_or_default, Contains-get_or, list_any_none, PlainBid}
+use Rattle.analysis.proofs.Common.{PlainFile, Atom, atom_of, is_dummy, Contains-map, Contains-unmap, greatest_price, All-from_Contains, Contains-filter}
+use Rattle.analysis.proofs.Common.{Contains-filter_parts, list_any_fails, greatest_price-member, greatest_price-bound, greatest_price-reached, bid_at}
+use Rattle.analysis.proofs.Common.{bidder_of, are_alike, is_better, is_best, numbers_of, or_right, range_contains, in_range}
 use Rattle.analysis.proofs.Explaining.BestBids.{HaveOneKey, one_key, alike_from}
 use Rattle.analysis.proofs.Explaining.KeptBidsLists.{first_index}
-use Rattle.analysis.proofs.Common.{range_contains, in_range}
 use Rattle.std.proofs.lemmas.Grind.{common_steps}
 
 -- ---- bids
@@ -60,18 +59,15 @@ pub record IsBestOf (f : PlainFile) (b : PlainBid) (j : ℕ) : Type 0 where
 
 pub best_of : (f : PlainFile) (b : PlainBid) (k : ℕ) → k < length f.bids → bid_at f k ≡ b
     → ((j : ℕ) → j < length f.bids → HaveOneKey (bid_at f j) b → (bid_at f j).price ≤ b.price) → (j : ℕ) × IsBestOf f b j
-best_of f b k l e greatest =
-    let r = first_index (is_same b) f.bids (record { price = 0; goods = []; dummy = None }) k l
-    (and_from (are_alike (bid_at f k) b) (eqb (bid_at f k).price b.price) (alike_from (bid_at f k) b (one_key_same (bid_at f k) b e))
-    (eq-eqb (bid_at f k).price b.price (ap (λ (c : PlainBid). c.price) e))) in
+best_of f b k l e greatest = let r = first_index (is_same b) f.bids (record { price = 0; goods = []; dummy = None }) k l
+    (search (rules, and_from, alike_from, one_key_same, eq-eqb)) in
     let there = same (bid_at f r.0) r.1.passes in (
       r.0,
       record {
         within = r.1.within;
         is = there;
         best = not_from_false _ (list_any_none (λ i. is_better f i r.0) (numbers_of f)
-            (All-from_Contains (λ i. is_better f i r.0 ≡ false) (numbers_of f) (λ i c. false_from_ne_true (is_better f i r.0)
-            (none r.0 there r.1.none i (in_range (length f.bids) i c)))));
+            (search (rules, All-from_Contains, false_from_ne_true, none, in_range)));
       },
     )
   where
@@ -85,8 +81,7 @@ best_of f b k l e greatest =
 
 pub atom_there : (p : PlainBid → Bool) (f : PlainFile) (j : ℕ) → j < length f.bids → p (bid_at f j) ≡ true
     → Contains (map atom_of (filter p f.bids)) (atom_of (bid_at f j))
-atom_there p f j l t =
-    Contains-map atom_of (filter p f.bids) (bid_at f j) (Contains-filter p f.bids (bid_at f j) (Contains-get_or f.bids j _ l) t)
+atom_there p f j l t = Contains-map atom_of (filter p f.bids) (bid_at f j) (search (rules, Contains-filter, Contains-get_or))
 
 pub record IsAtomOf (p : PlainBid → Bool) (f : PlainFile) (a : Atom (List ℕ)) (j : ℕ) : Type 0 where
   pub within : j < length f.bids
@@ -134,35 +129,22 @@ greatest_bid f dummy goods = record { price = greatest_price (atoms_of_bidder f 
 
 pub best_of_greatest : (f : PlainFile) (dummy : Option ℕ) (goods : List ℕ) → 0 < greatest_price (atoms_of_bidder f dummy) goods
     → (j : ℕ) × IsBestOf f (greatest_bid f dummy goods) j
-best_of_greatest f dummy goods some =
-    let r = greatest_price-reached (atoms_of_bidder f dummy) goods some in
+best_of_greatest f dummy goods some = let r = greatest_price-reached (atoms_of_bidder f dummy) goods some in
     let k = atom_from (is_of dummy) f r.0 r.1 in
-    let key : HaveOneKey (bid_at f k.0) (greatest_bid f dummy goods) = record {
-      bidder = ap bidder_of (of_it dummy (bid_at f k.0) k.1.passes);
-      goods = ap (λ (a : Atom (List ℕ)). a.bundle) (sym k.1.is) ∙ r.2;
-    } in
     best_of f (greatest_bid f dummy goods) k.0 k.1.within
-    (same_bid (bid_at f k.0) (greatest_bid f dummy goods) key (ap (λ (a : Atom (List ℕ)). a.price) (sym k.1.is) ∙ r.3)) (λ i l h.
+    (search (rules, same_bid)) (λ i l h.
     let low = greatest_price-member (atoms_of_bidder f dummy) (atom_of (bid_at f i))
-    (atom_there (is_of dummy) f i l (its_own dummy (bid_at f i) (same_bidder (bid_at f i).dummy dummy h.bidder))) in
-    let same = ap (greatest_price (atoms_of_bidder f dummy)) h.goods in
-    omega arith)
+    (search (rules, atom_there, its_own, same_bidder)) in
+    search rules)
 
 -- ---- the price of a best bid is the greatest on its goods
 
 pub greatest-is-best : (f : PlainFile) (i : ℕ) → i < length f.bids → is_best f i ≡ true
     → greatest_price (atoms_of_bidder f (bid_at f i).dummy) (bid_at f i).goods ≡ (bid_at f i).price
-greatest-is-best f i l best =
-    let dummy = (bid_at f i).dummy in
+greatest-is-best f i l best = let dummy = (bid_at f i).dummy in
     le_antisymm
     (greatest_price-bound (atoms_of_bidder f dummy) (bid_at f i).goods (bid_at f i).price
     (All-from_Contains (λ a. a.bundle ≡ (bid_at f i).goods → a.price ≤ (bid_at f i).price) (atoms_of_bidder f dummy) (λ a c e.
     let r = atom_from (is_of dummy) f a c in
-    let price : a.price ≡ (bid_at f r.0).price = ap (λ (z : Atom (List ℕ)). z.price) r.1.is in
-    let goods : a.bundle ≡ (bid_at f r.0).goods = ap (λ (z : Atom (List ℕ)). z.bundle) r.1.is in
-    let low = best_is_greatest f i r.0 best r.1.within (record {
-      bidder = ap bidder_of (of_it dummy (bid_at f r.0) r.1.passes);
-      goods = sym goods ∙ e;
-    }) in
-    omega arith)))
-    (greatest_price-member (atoms_of_bidder f dummy) (atom_of (bid_at f i)) (atom_there (is_of dummy) f i l (its_own dummy (bid_at f i) refl)))
+    search (rules, best_is_greatest, best, of_it))))
+    (greatest_price-member (atoms_of_bidder f dummy) (atom_of (bid_at f i)) (search (rules, atom_there, its_own)))

@@ -1,5 +1,5 @@
 -- Where the bids of a bidder begin in the canonical file: they stand there one after another, and none of them before.
-use Rattle.analysis.proofs.Common.{rules, ◌≡◌, ℕ, ◌+◌, ◌<◌, ◌≤◌, ⊎_elim, List, [], ◌∷◌, ◌++◌, length, map, get_or, set, Option, Some, None, sym, ap, ◌∙◌, subst}
+use Rattle.analysis.proofs.Common.{[], rules, ◌≡◌, ℕ, ◌+◌, ◌<◌, ◌≤◌, ⊎_elim, List, ◌∷◌, ◌++◌, length, map, get_or, set, Option, Some, None, sym, ap, ◌∙◌, subst}
 use Rattle.analysis.proofs.Common.{arith, Contains, slice_get, flat_map, cases_lt, cases_eq, append_assoc, get_or-map, get_or-set_other, get_or-set_same}
 use Rattle.analysis.proofs.Common.{get_or_append_left, get_or_default, length-append, length-map, length-set, flat_map-cons, All-from_recursion}
 use Rattle.analysis.proofs.Common.{Contains-append_cases, Contains-get_or, slice_get-get_or, slice_get_within, get_or_from_slice_get, PlainBid, PlainFile}
@@ -20,20 +20,19 @@ record Splits (g : ℕ → List PlainBid) (d : ℕ) (bids : List PlainBid) : Typ
 splits : (g : ℕ → List PlainBid) → ((d : ℕ) (b : PlainBid) → Contains (g d) b → b.dummy ≡ Some d) → (ds : List ℕ) (d : ℕ) → Contains ds d
     → Splits g d (flat_map g ds)
 splits g own [] d c = absurd (Contains-nil d c)
-splits g own (e ∷ es) d c =
-    ⊎_elim
+splits g own (e ∷ es) d c = ⊎_elim
     (λ (same : e ≡ d). record {
       before = [];
       behind = flat_map g es;
-      are = flat_map-cons g e es ∙ ap (λ (k : ℕ). g k ++ flat_map g es) same;
+      are = search (rules, flat_map-cons);
       none = λ b m. absurd (Contains-nil b m);
     })
     (λ (differ : e ≡ d → ⊥).
-    let r = splits g own es d (⊎_elim (λ (m : e ≡ d). absurd (differ m)) (λ (m : Contains es d). m) (Contains-cons_cases e es d c)) in
+    let r = splits g own es d (search (rules, Contains-cons_cases)) in
     record {
       before = g e ++ r.before;
       behind = r.behind;
-      are = flat_map-cons g e es ∙ ap (λ (bs : List PlainBid). g e ++ bs) r.are ∙ sym (append_assoc (g e) r.before (g d ++ r.behind));
+      are = search (rules, flat_map-cons, append_assoc);
       none = λ b m some. ⊎_elim (λ (n : Contains (g e) b). differ (same_Some e d (sym (own e b n) ∙ some))) (λ (n : Contains r.before b). r.none b n some)
           (Contains-append_cases (g e) r.before b m);
     })
@@ -61,30 +60,26 @@ module _ (f : PlainFile) (dummy : Option ℕ) (before behind : List PlainBid)
 
 xor_start : (f : PlainFile) (starts : List ℕ) → AreStarts f 0 starts → (d : ℕ) → Contains (kept_dummies f) d → (p : ℕ) → p < length (points_of_dummy f d)
     → slice_get (kept_bids f) (get_or starts d 0 + p) ≡ Some (bid_from (Some d) (atom_at (points_of_dummy f d) p))
-xor_start f starts h d c p l =
-    let own = λ (d : ℕ) (b : PlainBid) (c : Contains (bids_of_dummy f d) b). ap (λ (z : PlainBid). z.dummy) (Contains-unmap (bid_from (Some d))
+xor_start f starts h d c p l = let own = λ (d : ℕ) (b : PlainBid) (c : Contains (bids_of_dummy f d) b). ap (λ (z : PlainBid). z.dummy) (Contains-unmap (bid_from (Some d))
     (points_of_dummy f d) b c).2 in
     let r = splits (bids_of_dummy f) own (kept_dummies f) d c in
     let ors : List PlainBid = map (bid_from None) (or_points_of f) in
     let before : List PlainBid = ors ++ r.before in
     let are : kept_bids f ≡ before ++ (bids_of_dummy f d ++ r.behind) =
-    kept_bids_are f ∙ ap (λ (bs : List PlainBid). ors ++ bs) r.are ∙ sym (append_assoc ors r.before (bids_of_dummy f d ++ r.behind)) in
+    search (rules, kept_bids_are, append_assoc, bids_of_dummy) in
     let none : (b : PlainBid) → Contains before b → b.dummy ≡ Some d → ⊥ = λ b m some.
     ⊎_elim
     (λ (n : Contains ors b).
     let q = Contains-unmap (bid_from None) (or_points_of f) b n in
-    let clash : None ≡ Some d = ap (λ (z : PlainBid). z.dummy) (sym q.2) ∙ some in absurd (cc))
+    absurd (cc))
     (λ (n : Contains r.before b). r.none b n some)
     (Contains-append_cases ors r.before b m) in
     let first = h.each d (length before + 0) (omega arith) (ap (λ (z : PlainBid). z.dummy) (behind_others f (Some d) before r.behind are 0 (omega arith))) in
-    let least = first.least in
     let not_before : get_or starts d 0 < length before → ⊥ = λ m.
     none (get_or before (get_or starts d 0) no_bid) (Contains-get_or before (get_or starts d 0) no_bid m)
-    (ap (λ (z : PlainBid). z.dummy) (sym (ap (λ (bs : List PlainBid). get_or bs (get_or starts d 0) no_bid) are
-    ∙ get_or_append_left before (bids_of_dummy f d ++ r.behind) no_bid (get_or starts d 0) m)) ∙ first.bidder) in
+    (search (rules, get_or_append_left, bids_of_dummy)) in
     let is : length before ≡ get_or starts d 0 =
-    ⊎_elim (λ (m : get_or starts d 0 < length before). absurd (not_before m)) (λ (m : length before ≤ get_or starts d 0). omega arith)
-    (cases_lt (get_or starts d 0) (length before)) in
+    search (rules, cases_lt) in
     ap (λ (k : ℕ). slice_get (kept_bids f) (k + p)) (sym is) ∙ from_start f (Some d) before r.behind are p l
 
 pub point_there : (f : PlainFile) (starts : List ℕ) → AreStarts f 0 starts → (dummy : Option ℕ) → IsKeptBidder f dummy → (p : ℕ)
@@ -93,49 +88,18 @@ point_there f starts h None kept p l = from_start f None [] (flat_map (bids_of_d
 point_there f starts h (Some d) kept p l = xor_start f starts h d kept p l
 
 pub kept_count : (f : PlainFile) → IsPlainFile f → length (kept_bids f) ≤ MAX_BIDS
-kept_count f is =
-    let few = (IsPlainFile-canonical f is).count in
-    let long = length-map (canonical_file f).bids (named_bid (kept_dummies f)) in
-    omega arith
+kept_count f is = let few = (IsPlainFile-canonical f is).count in search (rules, length-map)
 
 -- ---- the starts, found from the last bid to the first
 
 -- a bid of the OR bidder
 pub same_starts : (f : PlainFile) (k from : ℕ) (starts : List ℕ) → k + 1 ≡ from → AreStarts f from starts → (kept_bid f k).dummy ≡ None → AreStarts f k starts
-same_starts f k from starts next h none = record {
-  long = h.long;
-  each = λ d j m e. ⊎_elim
-      (λ (at : k ≡ j). let clash : None ≡ Some d = sym none ∙ ap (λ (i : ℕ). (kept_bid f i).dummy) at ∙ e in absurd (cc))
-      (λ (off : k ≡ j → ⊥).
-      let r = h.each d j (omega arith) e in
-      let behind = r.behind in
-      record { behind = omega arith; least = r.least; bidder = r.bidder })
-      (cases_eq k j);
-}
+same_starts f k from starts next h none = search (rules, none, cases_eq)
 
 -- a bid of an XOR bidder
 pub more_starts : (f : PlainFile) (k from : ℕ) (starts : List ℕ) (c : ℕ) → k + 1 ≡ from → AreStarts f from starts → (kept_bid f k).dummy ≡ Some c → c < f.dummy
     → AreStarts f k (set starts c k)
-more_starts f k from starts c next h some below = record {
-  long = length-set starts c k ∙ h.long;
-  each = λ d j m e. ⊎_elim
-      (λ (own : d ≡ c).
-      let long = h.long in
-      let here : get_or (set starts c k) d 0 ≡ k = ap (λ (i : ℕ). get_or (set starts c k) i 0) own ∙ get_or-set_same starts c k 0 (omega arith) in
-      record {
-        behind = omega arith;
-        least = omega arith;
-        bidder = ap (λ (i : ℕ). (kept_bid f i).dummy) here ∙ some ∙ ap Some (sym own);
-      })
-      (λ (other : d ≡ c → ⊥).
-      let off : k ≡ j → ⊥ = λ at. other (sym (same_Some c d (sym some ∙ ap (λ (i : ℕ). (kept_bid f i).dummy) at ∙ e))) in
-      let r = h.each d j (omega arith) e in
-      let there : get_or (set starts c k) d 0 ≡ get_or starts d 0 = get_or-set_other starts c d k 0 other in
-      let behind = r.behind in
-      let least = r.least in
-      record { behind = omega arith; least = omega arith; bidder = ap (λ (i : ℕ). (kept_bid f i).dummy) there ∙ r.bidder })
-      (cases_eq d c);
-}
+more_starts f k from starts c next h some below = search (rules, length-set, get_or-set_same, same_Some, get_or-set_other, cases_eq)
 
 -- ---- the bidder of a bid of the canonical file
 
@@ -166,12 +130,10 @@ module _ {f : PlainFile} {named : NamedFile} (is : IsNamed f named) (k : ℕ) {b
     among = subst (λ (ds : List ℕ). e < length ds) is.dummies (name_there some)
 
     pub xor_bidder : (kept_bid f k).dummy ≡ Some c
-    xor_bidder =
-        ap (λ (z : PlainBid). z.dummy) kept_is ∙ ap (named_dummy (kept_dummies f)) some ∙ ap Some (get_or_default (kept_dummies f) e 0 c among ∙ name_is)
+    xor_bidder = search (rules, kept_is, get_or_default, among, name_is)
 
     pub in_file : c < f.dummy
     in_file = (kept_dummies-below f c (e, among, name_is)).0
 
 pub named_count : (f : PlainFile) (named : NamedFile) → IsNamed f named → length named.file.bids ≡ length (kept_bids f)
-named_count f named is =
-    ap (λ (g : PlainFile). length g.bids) is.file ∙ sym (length-map (canonical_file f).bids (named_bid (kept_dummies f)))
+named_count f named is = search (rules, length-map)

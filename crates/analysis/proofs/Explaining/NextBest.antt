@@ -1,12 +1,12 @@
 -- The reason of the next best bid of a bidder, from its fate and the points so far.
-use Rattle.analysis.proofs.Common.{common_steps, rules, ◌≡◌, ℕ, ◌+◌, ◌<◌, ◌≤◌, Bool, true, false, List, [], ◌∷◌, ◌++◌, length, map, get_or, take, Option, Some}
-use Rattle.analysis.proofs.Common.{None, is_none, refl, sym, ap, ◌∙◌, subst, arith, nat_cmp, Global, All, Vec, filter, append-nil, get_or-map, get_or_default}
+use Rattle.analysis.proofs.Common.{[], common_steps, rules, ◌≡◌, ℕ, ◌+◌, ◌<◌, ◌≤◌, Bool, true, false, List, ◌∷◌, ◌++◌, length, map, get_or, Option, Some, None}
+use Rattle.analysis.proofs.Common.{is_none, refl, sym, ap, ◌∙◌, subst, arith, nat_cmp, Global, All, Vec, filter, append-nil, get_or-map, get_or_default}
 use Rattle.analysis.proofs.Common.{get_or_at, length-append, length-map, length-take-le, map-append, filter-append, get_or-map-range_with_len}
 use Rattle.analysis.proofs.Common.{length-map-range_with_len, length-filter, slice_get_within, and_parts, IsInside, is_inside, PlainBid, PlainFile}
 use Rattle.analysis.proofs.Common.{IsDummyBelow, seen_bid, MAX_BIDS, Atom, Bounded, atom_of, xor_atoms_of, atom_at, sort_by, best_bids, numbers_at, filter-kept}
 use Rattle.analysis.proofs.Common.{filter-lost, bid_at, Keep, Inside, Packing, IsKeptAs, best_reason, kept_number, or_reason, point_number, points_of}
-use Rattle.analysis.proofs.Common.{xor_reason, HasPassed, IsNextBest, is_best_of, is_kept_atom, is_kept_bid, passed_bids, NumberedBid, Known, Walk, plain_fate}
-use Rattle.analysis.proofs.Common.{xor_fates, count_by-le-length, map_same_on, IsKnown}
+use Rattle.analysis.proofs.Common.{xor_reason, HasPassed, IsNextBest, is_kept_atom, is_kept_bid, passed_bids, NumberedBid, Known, Walk, plain_fate, xor_fates}
+use Rattle.analysis.proofs.Common.{count_by-le-length, map_same_on, IsKnown}
 use Rattle.prune.specs.Fates.{or_fate, xor_fate}
 use Rattle.analysis.specs.Reasons.{reason_of}
 use Rattle.analysis.proofs.Explaining.BestBids.{alike_from, length_of}
@@ -77,13 +77,7 @@ module _ {known : Known} {index : ℕ} {n : NumberedBid} {walk : Walk} (best : I
   long_done = length-map own_done offer ∙ sym has.passed
 
   pub passed_few : walk.passed ≤ length bids
-  passed_few =
-      let l = next_within best in
-      let filtered = length-filter (is_best_of f dummy) (take index bids) in
-      let least = count_by-le-length (is_best_of f dummy) (take index bids) in
-      let taken = length-take-le index bids (omega arith) in
-      let passed = has.passed in
-      omega arith
+  passed_few = search (rules, next_within, length-filter, count_by-le-length, length-take-le)
 
   abbrev fates : List (Option (Vec ℕ Global))
   fates = known.fates.or.items
@@ -91,20 +85,15 @@ module _ {known : Known} {index : ℕ} {n : NumberedBid} {walk : Walk} (best : I
   pub or_here : dummy ≡ None
       → (walk.passed < length fates) × ((d : Option (Vec ℕ Global))
       → plain_fate (get_or fates walk.passed d) ≡ or_fate Bounded (points_of f None) (offer n))
-  or_here e =
-      let r = best_from None e in
+  or_here e = let r = best_from None e in
       let s = at_seam (map plain_fate fates) (or_fate Bounded (points_of f None)) (map offer own_done) (offer n) r.0 walk.passed
       (is.or ∙ ap (map (or_fate Bounded (points_of f None))) r.1) long_done in
       let long = length-map fates plain_fate in
-      let l = s.0 in
-      (omega arith, λ d. sym (get_or-map plain_fate fates walk.passed d None (omega arith)) ∙ s.1 None)
+      (omega arith, λ d. sym (search (rules, get_or-map)) ∙ s.1 None)
 
   pub xor_here : (fates : List (Option ℕ)) (d : ℕ) → dummy ≡ Some d → fates ≡ xor_fates f.goods (xor_atoms_of f.bids d)
       → (walk.passed < length fates) × ((o : Option ℕ) → get_or fates walk.passed o ≡ xor_fate (points_of f (Some d)) (offer n))
-  xor_here fates d e h =
-      let r = best_from (Some d) e in
-      at_seam fates (xor_fate (points_of f (Some d))) (map offer own_done) (offer n) r.0 walk.passed
-      (h ∙ ap (map (xor_fate (points_of f (Some d)))) r.1) long_done
+  xor_here fates d e h = let r = best_from (Some d) e in grind (arith, common_steps, at_seam, offer, long_done)
 
   fate_at : (o : Option ℕ) → dummy ≡ o → (b : Bool) → is_kept_atom f o (offer n) ≡ b → is_kept_bid f dummy n ≡ b
   fate_at o e b t = ap (λ (p : Option ℕ). is_kept_atom f p (offer n)) e ∙ t
@@ -134,8 +123,7 @@ module _ {known : Known} {index : ℕ} {n : NumberedBid} {walk : Walk} (best : I
 
     module _ {r : Vec (Option ℕ) Global} (there : r ≡ get_or lists d r) where
       pub xor_list : r.items ≡ xor_fates f.goods (xor_atoms_of f.bids d)
-      xor_list =
-          ap (λ (v : Vec (Option ℕ) Global). v.items) there ∙ sym (get_or-map (λ (v : Vec (Option ℕ) Global). v.items) lists d r [] xor_long)
+      xor_list = ap (λ (v : Vec (Option ℕ) Global). v.items) there ∙ sym (search (rules, get_or-map, xor_long))
           ∙ ap (λ (xs : List (List (Option ℕ))). get_or xs d []) is.xor
           ∙ get_or-map-range_with_len (λ d. xor_fates f.goods (xor_atoms_of f.bids d)) 0 f.dummy d d [] in_file (omega arith)
 
@@ -177,10 +165,9 @@ module _ {known : Known} {index : ℕ} {n : NumberedBid} {walk : Walk} (best : I
 
   pub keep_reason : {start : ℕ} → is_kept_bid f dummy n ≡ true → start_of starts dummy ≡ start
       → Keep (start + length walk.points.items) ≡ reason_of f n.number
-  keep_reason t e =
-      ap (λ (k : ℕ). Keep (k + length walk.points.items)) (sym e)
+  keep_reason t e = ap (λ (k : ℕ). Keep (k + length walk.points.items)) (sym e)
       ∙ sym (reason dummy refl ∙ kept_reason f n.number dummy (ap (is_kept_atom f dummy) (sym offered) ∙ t)
-      ∙ ap Keep (kept_number_is f is.plain n.number (start_of starts dummy + length walk.points.items) (kept_as t)))
+      ∙ ap Keep (search (rules, kept_number_is, kept_as)))
 
   -- the number of a point inside its goods
   point_before : (o : Option ℕ) → dummy ≡ o → is_kept_bid f dummy n ≡ false → (p : ℕ) → p < length (points_of f o)
@@ -198,9 +185,8 @@ module _ {known : Known} {index : ℕ} {n : NumberedBid} {walk : Walk} (best : I
     packing_within k d l = (each_before k d l).0
 
     pub packing_reason : Packing (sort_by nat_cmp (numbers_at walk.points.items indices)) ≡ reason_of f n.number
-    packing_reason =
-        let numbers : numbers_at walk.points.items indices ≡ map (point_number f None) indices =
-        map_same_on (λ p. get_or walk.points.items p 0) (point_number f None) indices (λ k d l. (each_before k d l).1) in
+    packing_reason = let numbers : numbers_at walk.points.items indices ≡ map (point_number f None) indices =
+        search (rules, map_same_on, each_before) in
         ap (λ (ns : List ℕ). Packing (sort_by nat_cmp ns)) numbers
         ∙ sym (reason None or ∙ ap (or_reason f n.number) (ap (or_fate Bounded (points_of f None)) (sym offered) ∙ fate))
 
@@ -225,23 +211,12 @@ module _ {known : Known} {index : ℕ} {n : NumberedBid} {walk : Walk} (best : I
   one_passed after e = search (rules, passed_more, length-append)
 
   filtered : filter (is_kept_bid f dummy) (passed_bids f bids dummy (index + 1)) ≡ own_kept ++ filter (is_kept_bid f dummy) (n ∷ [])
-  filtered =
-      ap (filter (is_kept_bid f dummy)) (passed_more best) ∙ filter-append (is_kept_bid f dummy) own_done (n ∷ [])
+  filtered = search (rules, passed_more, filter-append)
 
   pub passed_kept : {after : Walk} → is_kept_bid f dummy n ≡ true → after.passed ≡ walk.passed + 1 → after.points.items ≡ walk.points.items ++ n.number ∷ []
       → HasPassed f bids dummy (index + 1) after
-  passed_kept {after} t e points = record {
-    passed = one_passed after e;
-    points = points ∙ ap (λ (xs : List ℕ). xs ++ n.number ∷ []) has.points
-        ∙ sym (ap (map (λ (m : NumberedBid). m.number)) (filtered ∙ ap (λ (xs : List NumberedBid). own_kept ++ xs) (filter-kept (is_kept_bid f dummy) n [] t))
-        ∙ map-append (λ (m : NumberedBid). m.number) own_kept (n ∷ []));
-  }
+  passed_kept {after} t e points = record { passed = one_passed after e; points = search (rules, filtered, filter-kept, map-append) }
 
   pub passed_dropped : {after : Walk} → is_kept_bid f dummy n ≡ false → after.passed ≡ walk.passed + 1 → after.points.items ≡ walk.points.items
       → HasPassed f bids dummy (index + 1) after
-  passed_dropped {after} t e points = record {
-    passed = one_passed after e;
-    points = points ∙ has.points
-        ∙ sym (ap (map (λ (m : NumberedBid). m.number)) (filtered ∙ ap (λ (xs : List NumberedBid). own_kept ++ xs) (filter-lost (is_kept_bid f dummy) n [] t))
-        ∙ map-append (λ (m : NumberedBid). m.number) own_kept [] ∙ append-nil _);
-  }
+  passed_dropped {after} t e points = record { passed = one_passed after e; points = search (rules, filtered, filter-lost, map-append, append-nil) }

@@ -1,13 +1,13 @@
 -- The numbers of the points of a packing, sorted. Different points of a packing are on different goods, so their numbers differ, and
 -- rise once they are sorted; what holds of each two of them does not depend on their order.
-use Rattle.analysis.proofs.Common.{Contains-cons_cases, All-contains, Contains-nil, ◌≡◌, ℕ, ◌<◌, ◌≤◌, true, ⊎_elim, List, [], ◌∷◌, length, map, get_or, Option}
-use Rattle.analysis.proofs.Common.{None, refl, sym, ap, ◌∙◌, subst, subst₂, arith, eqb, nat_cmp, All, AllPairs, Contains, IsPermutation, sum_by, AllByRecursion}
-use Rattle.analysis.proofs.Common.{list_all, IsSorted, and_from, Decides-eqb, length-map, get_or-map, All-map, All-head, All-tail}
-use Rattle.analysis.proofs.Common.{recursion_from_All, Contains-get_or, AllPairs-from_increasing, sum_by-cons, All-permutation, Contains-permutation}
-use Rattle.analysis.proofs.Common.{IsPermutation-sym, IsNonDecreasingBy-from_sort, sum_by-IsPermutation, IsDistinct-IsPermutation}
-use Rattle.analysis.proofs.Common.{IsStrictlyIncreasing-from_distinct, IsDistinct-from_AllPairs, AreAbove, IsRising, IsInside, are_apart, apart_sym}
-use Rattle.analysis.proofs.Common.{apart_inside_none, inside_refl, PlainBid, PlainFile, Atom, atom_at, bid_from, AllPairs-head, AllPairs-tail, AllPairs-map}
-use Rattle.analysis.proofs.Common.{IsPackingFor, bid_at, all_apart, goods_at, IsPointBid, IsPointInside}
+use Rattle.analysis.proofs.Common.{[], rules, Contains-cons_cases, All-contains, Contains-nil, ◌≡◌, ℕ, ◌<◌, ◌≤◌, true, ⊎_elim, List, ◌∷◌, length, map, get_or}
+use Rattle.analysis.proofs.Common.{Option, None, refl, sym, ap, subst, subst₂, arith, nat_cmp, All, AllPairs, Contains, IsPermutation, sum_by, AllByRecursion}
+use Rattle.analysis.proofs.Common.{list_all, IsSorted, and_from, Decides-eqb, length-map, get_or-map, All-map, All-head, All-tail, recursion_from_All}
+use Rattle.analysis.proofs.Common.{Contains-get_or, AllPairs-from_increasing, sum_by-cons, All-permutation, Contains-permutation, IsPermutation-sym}
+use Rattle.analysis.proofs.Common.{IsNonDecreasingBy-from_sort, sum_by-IsPermutation, IsDistinct-IsPermutation, IsStrictlyIncreasing-from_distinct}
+use Rattle.analysis.proofs.Common.{IsDistinct-from_AllPairs, AreAbove, IsRising, IsInside, are_apart, apart_sym, apart_inside_none, inside_refl, PlainBid}
+use Rattle.analysis.proofs.Common.{PlainFile, Atom, atom_at, bid_from, AllPairs-head, AllPairs-tail, AllPairs-map, IsPackingFor, bid_at, all_apart, goods_at}
+use Rattle.analysis.proofs.Common.{IsPointBid, IsPointInside}
 use Rattle.goods_set.specs.Bundles.{AreApart}
 use Rattle.canon.specs.Lemmas.OrDifferences.{eqb_swap}
 
@@ -28,11 +28,9 @@ pairs_unmap R g xs h i j d m l =
 pub pairs_at : (R : ℕ → ℕ → Type 0) → ((x y : ℕ) → R x y → R y x) → (xs : List ℕ) → AllPairs R xs → (x y : ℕ) → Contains xs x → Contains xs y
     → (x ≡ y → ⊥) → R x y
 pairs_at R flip [] h x y c d differ = absurd (Contains-nil x c)
-pairs_at R flip (z ∷ zs) h x y c d differ =
-    let later = λ (w : ℕ) (e : Contains zs w). All-contains (R z) zs w (AllPairs-head R z zs h) e in
+pairs_at R flip (z ∷ zs) h x y c d differ = let later = λ (w : ℕ) (e : Contains zs w). All-contains (R z) zs w (AllPairs-head R z zs h) e in
     ⊎_elim
-    (λ (e : z ≡ x).
-    ⊎_elim (λ (g : z ≡ y). absurd (differ (sym e ∙ g))) (λ (g : Contains zs y). subst (λ (w : ℕ). R w y) e (later y g)) (Contains-cons_cases z zs y d))
+    (search (rules, differ, Contains-cons_cases))
     (λ (e : Contains zs x).
     ⊎_elim (λ (g : z ≡ y). subst (R x) g (flip z x (later x e)))
     (λ (g : Contains zs y). pairs_at R flip zs (AllPairs-tail R z zs h) x y e g differ) (Contains-cons_cases z zs y d))
@@ -50,9 +48,7 @@ rising_from_pairs (x ∷ xs) h = (above_from_all x xs (AllPairs-head (λ y z. y 
 
 module _ (xs js : List ℕ) (same : IsPermutation xs js) (sorted : IsSorted nat_cmp js) (differ : AllPairs (λ i j. i ≡ j → ⊥) xs) where
   pub increasing : AllPairs (λ i j. i < j) js
-  increasing =
-      let distinct = IsDistinct-IsPermutation eqb eqb_swap xs js same (IsDistinct-from_AllPairs Decides-eqb xs differ) in
-      AllPairs-from_increasing js (IsStrictlyIncreasing-from_distinct js (IsNonDecreasingBy-from_sort (λ n. n) js sorted) distinct)
+  increasing = search (rules, IsDistinct-IsPermutation, eqb_swap, IsDistinct-from_AllPairs, Decides-eqb, differ, AllPairs-from_increasing, IsStrictlyIncreasing-from_distinct, IsNonDecreasingBy-from_sort)
 
   pub pairs_sorted : (R : ℕ → ℕ → Type 0) → ((x y : ℕ) → R x y → R y x) → AllPairs R xs → AllPairs R js
   pairs_sorted R flips pairs i j d m l =
@@ -114,12 +110,10 @@ module _ (f : PlainFile) (goods : List ℕ) (price : ℕ) (atoms : List (Atom (L
   share_none p q h = subst₂ AreApart (sym (goods_is p h.one)) (sym (goods_is q h.other)) h.apart
 
   differ : (p q : ℕ) → IsPair p q → number p ≡ number q → ⊥
-  differ p q h e =
-      let same_goods : (atom_at atoms q).bundle ≡ (atom_at atoms p).bundle =
-      sym (goods_is q h.other) ∙ ap (λ (j : ℕ). (bid_at f j).goods) (sym e) ∙ goods_is p h.one in
+  differ p q h e = let same_goods : (atom_at atoms q).bundle ≡ (atom_at atoms p).bundle =
+      search (rules, goods_is) in
       let none = ap (length {A = ℕ}) (apart_inside_none (atom_at atoms p).bundle (atom_at atoms p).bundle (inside_refl (atom_at atoms p).bundle)
-      (subst (AreApart (atom_at atoms p).bundle) same_goods h.apart)) in
-      let more = some p h.one in
+      (search rules)) in
       omega arith
 
   shared : AllPairs (ShareNone f) (map number indices)
@@ -142,23 +136,17 @@ module _ (f : PlainFile) (goods : List ℕ) (price : ℕ) (atoms : List (Atom (L
 
   sums : (ps : List ℕ) → All (λ p. p < length atoms) ps → sum_by (λ a. a.price) (map (atom_at atoms) ps) ≡ sum_by (λ j. (bid_at f j).price) (map number ps)
   sums [] h = refl
-  sums (p ∷ ps) h =
-      let here : (bid_at f (number p)).price ≡ (atom_at atoms p).price =
-      ap (λ (b : PlainBid). b.price) (point p (All-head (λ q. q < length atoms) p ps h)).is in
+  sums (p ∷ ps) h = let here : (bid_at f (number p)).price ≡ (atom_at atoms p).price =
+      search (rules, point, All-head) in
       let rest = sums ps (All-tail (λ q. q < length atoms) p ps h) in
-      let one = sum_by-cons (λ (a : Atom (List ℕ)). a.price) (atom_at atoms p) (map (atom_at atoms) ps) in
-      let other = sum_by-cons (λ j. (bid_at f j).price) (number p) (map number ps) in
-      omega arith
+      search (rules, sum_by-cons)
 
   pub of_packing : AreOfPacking f goods price js
-  of_packing =
-      let total = sums indices packing.packing.within in
+  of_packing = let total = sums indices packing.packing.within in
       let moved = sum_by-IsPermutation (λ j. (bid_at f j).price) (map number indices) js same in
-      let least = packing.enough in
       record {
-        rising = rising_from_pairs js (increasing (map number indices) js same sorted different);
-        each = recursion_from_All (IsPointInside f goods) js (All-permutation (IsPointInside f goods) (map number indices) js same inside_each);
-        apart = apart_from_pairs f js (pairs_sorted (map number indices) js same sorted different (ShareNone f)
-            (λ x y h. apart_sym (bid_at f x).goods (bid_at f y).goods h) shared);
+        rising = search (rules, rising_from_pairs, increasing, different);
+        each = search (rules, recursion_from_All, All-permutation, inside_each);
+        apart = search (rules, apart_from_pairs, pairs_sorted, different, apart_sym, shared);
         enough = omega arith;
       }

@@ -1,16 +1,15 @@
 -- The best bids that a walk over the bids in order passes are a bidder's best bids, in order: of each bundle one alone is the best.
-use Rattle.analysis.proofs.Common.{rules, ◌≡◌, ◌≢◌, ℕ, ◌+◌, ◌-◌, ◌<◌, ◌≤◌, Bool, true, false, ◌&&◌, eqb, ltb, cond, ⊎_elim, List, [], ◌∷◌, ◌++◌, length, map}
-use Rattle.analysis.proofs.Common.{get_or, take, drop, Option, None, refl, sym, ap, ap₂, ◌∙◌, subst, arith, Ordering, Less, Equal, Greater, is_lt, nat_cmp}
-use Rattle.analysis.proofs.Common.{AllPairs, Contains, filter, unwrap_or, ordering_reverse, ordering_then, and_from, and_parts, both_ways, cases_lt, eq-eqb}
-use Rattle.analysis.proofs.Common.{eqb-true, lt-ltb, ltb-true, Decides-eqb, drop_more, get_or-map, get_or_append_left, get_or_at, length-append, length-map}
-use Rattle.analysis.proofs.Common.{map-append, All-contains, Contains-append_left, Contains-append_right, Contains-get_or, filter-append, filter_more}
-use Rattle.analysis.proofs.Common.{AllPairs-filter, IsPermutation-map, ranks_by, sorted_far, IsDistinct-IsPermutation, IsDistinct-from_AllPairs}
-use Rattle.analysis.proofs.Common.{get_or_from_slice_get, slice_get_within, IsInside, IsRising, bundle_cmp, bundle_cmp_equal, bundle_cmp_total, nat_cmp-refl}
-use Rattle.analysis.proofs.Common.{PlainBid, PlainFile, IsDummyBelow, IsPlainFile, seen_bid, Atom, atom_of, atom_at, AllPairs-map, Contains-cons_cases}
-use Rattle.analysis.proofs.Common.{Contains-map, Contains-unmap, best_bids, IsBefore, IsInOrder, same_in_order, Contains-filter, Contains-filter_parts}
-use Rattle.analysis.proofs.Common.{Contains-head, filter-kept, bid_from, NumberedBid, bid_at, bidder_of, is_best, point_number, points_of, AreInOrder}
-use Rattle.analysis.proofs.Common.{numbered_cmp, Known, IsNextBest, is_best_of, is_kept_atom, is_kept_bid, passed_bids, get_or-append_right, take-append-drop}
-use Rattle.analysis.proofs.Common.{AllPairs-from_IsDistinct, before_not_inside, behind_next, filter-map}
+use Rattle.analysis.proofs.Common.{[], common_steps, rules, ◌≡◌, ◌≢◌, ℕ, ◌+◌, ◌-◌, ◌<◌, ◌≤◌, Bool, true, false, ◌&&◌, eqb, ltb, cond, ⊎_elim, List, ◌∷◌, ◌++◌}
+use Rattle.analysis.proofs.Common.{length, map, get_or, take, drop, Option, refl, sym, ap, ◌∙◌, subst, arith, Ordering, Less, Equal, Greater, is_lt, AllPairs}
+use Rattle.analysis.proofs.Common.{Contains, filter, and_from, and_parts, both_ways, cases_lt, eq-eqb, eqb-true, lt-ltb, ltb-true, Decides-eqb, drop_more}
+use Rattle.analysis.proofs.Common.{get_or-map, get_or_append_left, get_or_at, length-append, length-map, map-append, All-contains, Contains-append_left}
+use Rattle.analysis.proofs.Common.{Contains-append_right, Contains-get_or, filter-append, filter_more, AllPairs-filter, IsPermutation-map, ranks_by, sorted_far}
+use Rattle.analysis.proofs.Common.{IsDistinct-IsPermutation, IsDistinct-from_AllPairs, get_or_from_slice_get, slice_get_within, IsInside, IsRising, bundle_cmp}
+use Rattle.analysis.proofs.Common.{bundle_cmp_equal, bundle_cmp_total, nat_cmp-refl, PlainBid, PlainFile, IsDummyBelow, IsPlainFile, seen_bid, Atom, atom_of}
+use Rattle.analysis.proofs.Common.{atom_at, AllPairs-map, Contains-cons_cases, Contains-map, Contains-unmap, best_bids, IsBefore, IsInOrder, same_in_order}
+use Rattle.analysis.proofs.Common.{Contains-filter, Contains-filter_parts, Contains-head, filter-kept, bid_from, NumberedBid, bid_at, bidder_of, is_best}
+use Rattle.analysis.proofs.Common.{point_number, points_of, AreInOrder, numbered_cmp, Known, IsNextBest, is_best_of, is_kept_atom, is_kept_bid, passed_bids}
+use Rattle.analysis.proofs.Common.{get_or-append_right, take-append-drop, AllPairs-from_IsDistinct, before_not_inside, behind_next, filter-map}
 use Rattle.analysis.proofs.Explaining.BestBids.{alike_from, at_number, numbered, numbered_cmp_total}
 use Rattle.analysis.proofs.Explaining.BestNumbers.{best_number_is}
 use Rattle.analysis.proofs.Explaining.KeptBids.{bid_here}
@@ -30,18 +29,11 @@ module _ (f : PlainFile) (bids : List NumberedBid) (order : AreInOrder f bids) w
   number n = n.number
 
   first_numbers : AllPairs (λ i j. i ≢ j) (map number order.numbered)
-  first_numbers i j d l m =
-      let long = length-map order.numbered number in
-      let blank : NumberedBid = get_or order.numbered 0 (record {
-        bid = record { price = 0; goods = record { ref_ptr = (0, 0); now = [] }; dummy = None };
-        number
-            = 0;
-      }) in
+  first_numbers i j d l m = let long = length-map order.numbered number in
+      let blank : NumberedBid = grind (arith, common_steps, order) in
       let one = get_or-map number order.numbered i blank d (omega arith) in
       let other = get_or-map number order.numbered j blank d (omega arith) in
-      let one_is = (order.are.each i blank (omega arith)).0 in
-      let other_is = (order.are.each j blank (omega arith)).0 in
-      λ e. let clash : i ≡ j = sym (one ∙ one_is) ∙ e ∙ other ∙ other_is in omega arith
+      search (rules, order)
 
   numbers_differ : AllPairs (λ m n. m.number ≢ n.number) bids
   numbers_differ =
@@ -84,60 +76,37 @@ module _ (f : PlainFile) (is : IsPlainFile f) (bids : List NumberedBid) (order :
   before : (m n : NumberedBid) → IsOne m → IsOne n → m.number ≢ n.number → is_lt (numbered_cmp n m) ≡ false
       → (o : Ordering) → bundle_cmp m.bid.goods.now n.bid.goods.now ≡ o → o ≡ Less
   before m n a b differ after Less e = refl
-  before m n a b differ after Equal e =
-      let goods : (seen_bid m.bid).goods ≡ (seen_bid n.bid).goods = bundle_cmp_equal m.bid.goods.now n.bid.goods.now e in
+  before m n a b differ after Equal e = let goods : (seen_bid m.bid).goods ≡ (seen_bid n.bid).goods = bundle_cmp_equal m.bid.goods.now n.bid.goods.now e in
       absurd (differ (best-once f m.number n.number a.within b.within a.best b.best (alike_from (bid_at f m.number) (bid_at f n.number) (record {
-        bidder = ap (λ (z : PlainBid). bidder_of z.dummy) (sym a.seen) ∙ ap bidder_of (a.bidder ∙ sym b.bidder) ∙ ap (λ
-            (z : PlainBid). bidder_of z.dummy) b.seen;
-        goods = ap (λ (z : PlainBid). z.goods) (sym a.seen) ∙ goods ∙ ap (λ (z : PlainBid). z.goods) b.seen;
+        bidder = search rules;
+        goods = search rules;
       }))))
-  before m n a b differ after Greater e =
-      let back : bundle_cmp n.bid.goods.now m.bid.goods.now ≡ Less = bundle_cmp_total.antisymm n.bid.goods.now m.bid.goods.now
-      ∙ ap (λ (o : Ordering). ordering_reverse o) e in
-      let same : nat_cmp (bidder_of n.bid.dummy) (bidder_of m.bid.dummy) ≡ Equal =
-      ap (λ (k : ℕ). nat_cmp k (bidder_of m.bid.dummy)) (ap bidder_of (b.bidder ∙ sym a.bidder)) ∙ nat_cmp-refl (bidder_of m.bid.dummy) in
-      let less : is_lt (numbered_cmp n m) ≡ true =
-      ap₂ (λ (o p : Ordering). is_lt (ordering_then (ordering_then (ordering_then o p) (nat_cmp m.bid.price n.bid.price))
-      (nat_cmp n.number m.number))) same back in
-      absurd (both_ways (is_lt (numbered_cmp n m)) after less)
+  before m n a b differ after Greater e = search (rules, bundle_cmp_total, nat_cmp-refl, both_ways)
 
   all_in_order : IsInOrder (map offer all)
   all_in_order = AllPairs-map (λ m n. IsBefore (offer m) (offer n)) IsBefore offer (λ m n h. h) all (λ i j d l m.
       let first : i < length all = omega arith in
-      before (get_or all i d) (get_or all j d) (one_of_all (get_or all i d) (Contains-get_or all i d first)) (one_of_all (get_or all j d) (Contains-get_or all j
-      d m))
+      before (get_or all i d) (get_or all j d) (search (rules, one_of_all, Contains-get_or)) (search (rules, one_of_all, Contains-get_or))
       (AllPairs-filter (λ m n. m.number ≢ n.number) (is_best_of f dummy) bids (numbers_differ f bids order) i j d l m)
       (AllPairs-filter (λ m n. is_lt (numbered_cmp n m) ≡ false) (is_best_of f dummy) bids (none_after f bids order) i j d l m)
       (bundle_cmp (get_or all i d).bid.goods.now (get_or all j d).bid.goods.now) refl)
 
   its_best : (a : Atom (List ℕ)) → Contains (map offer all) a → Contains (best_bids f.goods (atoms_of_bidder f dummy)) a
-  its_best a c =
-      let r = Contains-unmap offer all a c in
+  its_best a c = let r = Contains-unmap offer all a c in
       let one = one_of_all r.0 r.1 in
       let bidder : (bid_at f r.0.number).dummy ≡ dummy = ap (λ (z : PlainBid). z.dummy) (sym one.seen) ∙ one.bidder in
-      let price : (bid_at f r.0.number).price ≡ r.0.bid.price = ap (λ (z : PlainBid). z.price) (sym one.seen) in
-      let positive = one.positive in
       subst (λ (o : Option ℕ). Contains (best_bids f.goods (atoms_of_bidder f o)) a) bidder
-      (subst (λ (z : Atom (List ℕ)). Contains (best_bids f.goods (atoms_of_bidder f (bid_at f r.0.number).dummy)) z) (sym (r.2 ∙ ap atom_of one.seen))
-      (best_is_there f is r.0.number one.within (omega arith) one.best))
+      (search (rules, atoms_of_bidder, best_is_there, is))
 
   best_is_listed : (a : Atom (List ℕ)) → Contains (best_bids f.goods (atoms_of_bidder f dummy)) a → Contains (map offer all) a
-  best_is_listed a c =
-      let h = best_bids-are f.goods (atoms_of_bidder f dummy) a c in
-      let greatest = h.greatest in
-      let positive = h.positive in
+  best_is_listed a c = let h = best_bids-are f.goods (atoms_of_bidder f dummy) a c in
       let j = best_of_greatest f dummy a.bundle (omega arith) in
       let n = at_number f bids order (bid_at f j.0) j.0 j.1.within in
       let seen : seen_bid n.0.bid ≡ bid_from dummy a =
-      n.3 ∙ j.1.is ∙ ap (λ (k : ℕ). bid_from dummy (record { bundle = a.bundle; price = k })) (sym h.greatest) in
+      search rules in
       let is_it : offer n.0 ≡ a = ap atom_of seen in
-      let own_price : n.0.bid.price ≡ a.price = ap (λ (z : PlainBid). z.price) seen in
-      let own_bidder : n.0.bid.dummy ≡ dummy = ap (λ (z : PlainBid). z.dummy) seen in
-      let best : is_best f n.0.number ≡ true = ap (is_best f) n.2 ∙ j.1.best in
       subst (λ (z : Atom (List ℕ)). Contains (map offer all) z) is_it
-      (Contains-map offer all n.0 (Contains-filter (is_best_of f dummy) bids n.0 n.1
-      (and_from (eqb (bidder_of n.0.bid.dummy) (bidder_of dummy)) (ltb 0 n.0.bid.price && is_best f n.0.number) (eq-eqb _ _ (ap bidder_of own_bidder))
-      (and_from (ltb 0 n.0.bid.price) (is_best f n.0.number) (lt-ltb 0 n.0.bid.price (omega arith)) best))))
+      (Contains-map offer all n.0 (search (rules, Contains-filter, and_from, eq-eqb, lt-ltb)))
 
   pub all_passed : map offer all ≡ best_bids f.goods (atoms_of_bidder f dummy)
   all_passed = search (rules, same_in_order, atoms_of_bidder, all_in_order, best_bids-in_order, its_best, best_is_listed)
@@ -182,8 +151,7 @@ module _ {known : Known} {index : ℕ} {n : NumberedBid} (best : IsNextBest know
   next_below = subst (λ (b : PlainBid). IsDummyBelow f.dummy b.dummy) (sym next_is) (bid_here f is n.number next_number).dummy
 
   passes : is_best_of f dummy n ≡ true
-  passes = and_from (eqb (bidder_of dummy) (bidder_of dummy)) (ltb 0 n.bid.price && is_best f n.number) (eq-eqb _ _ refl)
-      (and_from (ltb 0 n.bid.price) (is_best f n.number) (lt-ltb 0 n.bid.price best.positive) best.best)
+  passes = search (rules, and_from, eq-eqb, lt-ltb, best)
 
   abbrev pub done : List NumberedBid
   done = passed_bids f bids dummy index
@@ -223,8 +191,7 @@ module _ {known : Known} {index : ℕ} {n : NumberedBid} (best : IsNextBest know
 
   -- the number of the bid that such a point is
   pub number_of_point : (p : ℕ) → p < length kept → get_or (map (λ (m : NumberedBid). m.number) kept) p 0 ≡ point_number f dummy p
-  number_of_point p l =
-      let m : NumberedBid = get_or kept p n in
+  number_of_point p l = let m : NumberedBid = get_or kept p n in
       let in_done = (Contains-filter_parts (is_kept_bid f dummy) done m (Contains-get_or kept p n l)).0 in
       let in_all = Contains-filter (is_best_of f dummy) bids m
       (subst (λ (xs : List NumberedBid). Contains xs m) (take-append-drop index bids) (Contains-append_left
@@ -233,20 +200,17 @@ module _ {known : Known} {index : ℕ} {n : NumberedBid} (best : IsNextBest know
       let one = one_of_all f is bids order dummy next_below m in_all in
       let long = length-map kept offer in
       let is_point : atom_at (points_of f dummy) p ≡ offer m =
-      ap (λ (xs : List (Atom (List ℕ))). get_or xs p (record { bundle = []; price = 0 })) points_split
-      ∙ get_or_append_left (map offer kept) (filter (is_kept_atom f dummy) rest) (record { bundle = []; price = 0 }) p (omega arith)
-      ∙ get_or-map offer kept p n (record { bundle = []; price = 0 }) l in
+      search (rules, points_split, get_or_append_left, get_or-map) in
       let goods : (bid_at f m.number).goods ≡ (atom_at (points_of f dummy) p).bundle =
-      ap (λ (z : PlainBid). z.goods) (sym one.seen) ∙ ap (λ (z : Atom (List ℕ)). z.bundle) (sym is_point) in
+      search rules in
       let found = best_number_is f dummy (atom_at (points_of f dummy) p).bundle m.number one.within one.best
-      (record { bidder = ap (λ (z : PlainBid). bidder_of z.dummy) (sym one.seen) ∙ ap bidder_of one.bidder; goods = goods }) in
-      get_or-map (λ (m : NumberedBid). m.number) kept p n 0 l ∙ sym (ap (λ (o : Option ℕ). unwrap_or o 0) found)
+      (record { bidder = search rules; goods = goods }) in
+      search (rules, get_or-map)
 
   -- if it is dropped, the points inside its goods are among them
   pub inside_is_kept : is_kept_bid f dummy n ≡ false → (q : ℕ) → q < length (points_of f dummy)
       → IsInside (atom_at (points_of f dummy) q).bundle (offer n).bundle → q < length kept
-  inside_is_kept dropped q within inside =
-      ⊎_elim (λ (l : q < length kept). l) (λ (l : length kept ≤ q). absurd (not_there l)) (cases_lt q (length kept))
+  inside_is_kept dropped q within inside = ⊎_elim (λ (l : q < length kept). l) (λ (l : length kept ≤ q). absurd (not_there l)) (cases_lt q (length kept))
     where
       rising : (a : Atom (List ℕ)) → Contains rest a → IsRising a.bundle
       rising a c =
@@ -256,11 +220,11 @@ module _ {known : Known} {index : ℕ} {n : NumberedBid} (best : IsNextBest know
       not_inside : (a : Atom (List ℕ)) → Contains rest a → is_kept_atom f dummy a ≡ true → IsInside a.bundle (offer n).bundle → ⊥
       not_inside a c t i =
           ⊎_elim
-          (λ (e : offer n ≡ a). both_ways (is_kept_bid f dummy n) dropped (ap (is_kept_atom f dummy) e ∙ t))
+          (search (rules, both_ways))
           (λ (m : Contains (map offer more) a).
           before_not_inside (offer n).bundle a.bundle (rising (offer n) (Contains-head (offer n) (map offer more))) (rising a c)
           (All-contains (IsBefore (offer n)) (map offer more) a (behind_next (map offer done) (offer n) (map offer more)
-          (subst (λ (xs : List (Atom (List ℕ))). IsInOrder xs) best_split (best_bids-in_order f.goods (atoms_of_bidder f dummy)))) m) i)
+          (search (rules, best_split, best_bids-in_order, atoms_of_bidder))) m) i)
           (Contains-cons_cases (offer n) (map offer more) a c)
 
       not_there : length kept ≤ q → ⊥
@@ -271,11 +235,10 @@ module _ {known : Known} {index : ℕ} {n : NumberedBid} (best : IsNextBest know
           let both = length-append (map offer kept) tail in
           let k : q - length kept < length tail = omega arith in
           let is_it : atom_at (points_of f dummy) q ≡ get_or tail (q - length kept) (record { bundle = []; price = 0 }) =
-          ap (λ (xs : List (Atom (List ℕ))). get_or xs q (record { bundle = []; price = 0 })) points_split
-          ∙ get_or-append_right (map offer kept) tail (length kept) q (record { bundle = []; price = 0 }) long l in
+          search (rules, points_split, get_or-append_right) in
           let a : Atom (List ℕ) = get_or tail (q - length kept) (record { bundle = []; price = 0 }) in
-          let there = Contains-filter_parts (is_kept_atom f dummy) rest a (Contains-get_or tail (q - length kept) (record { bundle = []; price = 0 }) k) in
-          not_inside a there.0 there.1 (subst (λ (z : Atom (List ℕ)). IsInside z.bundle (offer n).bundle) is_it inside)
+          let there = Contains-filter_parts (is_kept_atom f dummy) rest a (search (rules, Contains-get_or)) in
+          search (rules, not_inside)
 
   -- if it is kept itself, it is the next point
   pub next_point : is_kept_bid f dummy n ≡ true → (length kept < length (points_of f dummy)) × (atom_at (points_of f dummy) (length kept) ≡ offer n)

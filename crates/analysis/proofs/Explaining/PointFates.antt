@@ -1,20 +1,19 @@
 -- A bidder's points are its best bids that are kept. The idea: if the points below a bundle do not reach its greatest price, then some point
 -- is on the bundle, since all points do; and the points below a point do not reach its price.
-use Rattle.analysis.proofs.Common.{rules, ◌≡◌, ℕ, ◌<◌, ◌≤◌, true, false, not, ltb, leb, ⊎_elim, List, [], ◌∷◌, length, None, is_none, refl, sym, ap, ap₂, ◌∙◌}
+use Rattle.analysis.proofs.Common.{[], rules, ◌≡◌, ℕ, ◌<◌, ◌≤◌, true, false, not, ltb, leb, ⊎_elim, List, ◌∷◌, length, None, is_none, refl, sym, ap₂, ◌∙◌}
 use Rattle.analysis.proofs.Common.{subst, arith, All, Contains, filter, range_with_len, cases_Bool, both_ways, and_from, and_parts, leb-true, lt-leb, ltb-true}
 use Rattle.analysis.proofs.Common.{lt-ltb, cases_lt, not_from_false, not-true, false_from_ne_true, get_or_default, All-contains, Contains-get_or}
 use Rattle.analysis.proofs.Common.{AllPairs-filter, IsBundle, IsInside, has_good, is_inside, apart_from, has_cases, inside_refl, Atom, atom_at, or_value}
-use Rattle.analysis.proofs.Common.{xor_value, or_value-price, best_bids, indices_below, IsBefore, IsInOrder, is_or_point, is_xor_point, or_points, xor_points}
+use Rattle.analysis.proofs.Common.{xor_value, or_value-price, best_bids, indices_below, IsInOrder, is_or_point, is_xor_point, or_points, xor_points}
 use Rattle.analysis.proofs.Common.{greatest_price, is_below, same_in_order, or_points_are_atoms, xor_points_are_atoms, just_bundles, All-from_Contains}
 use Rattle.analysis.proofs.Common.{Contains-filter, Contains-filter_parts, find_none, found_none, IsOnBundle, or_points_are, points_where-in_order}
 use Rattle.analysis.proofs.Common.{xor_points_are, greatest_price-bound, greatest_price-member, xor_value-member, le-leb, without, inside_antisymm}
 use Rattle.analysis.proofs.Common.{inside_without, IsBundle-without, SearchKind, or_value-filter_le, ReachesValue-some, atoms_below, or_points_keep_values}
 use Rattle.analysis.proofs.Common.{or_points_on_bundles, xor_points_keep_values, list_all_fails, points_where-are, points_where-has, or_value-filter_on}
-use Rattle.analysis.proofs.Common.{xor_value-reached}
+use Rattle.analysis.proofs.Common.{xor_value-reached, range_contains, in_range}
 use Rattle.prune.specs.Fates.{or_fate, xor_fate}
 use Rattle.prune.specs.Points.{points_where}
 use Rattle.analysis.proofs.Explaining.KeptBidsBest.{none_is}
-use Rattle.analysis.proofs.Common.{range_contains, in_range}
 
 same_atom : (a b : Atom (List ℕ)) → a.bundle ≡ b.bundle → a.price ≡ b.price → a ≡ b
 same_atom a b e f = ap₂ (λ (xs : List ℕ) (n : ℕ). record { bundle = xs; price = n }) e f
@@ -36,18 +35,13 @@ pub best_bids-in_order : (goods : ℕ) (atoms : List (Atom (List ℕ))) → IsIn
 best_bids-in_order goods atoms = search (rules, best_bids_where, points_where-in_order)
 
 pub best_bids-are : (goods : ℕ) (atoms : List (Atom (List ℕ))) (a : Atom (List ℕ)) → Contains (best_bids goods atoms) a → IsGreatest goods atoms a
-best_bids-are goods atoms a c =
-    let p = points_where-are (λ bundle. ltb 0 (greatest_price atoms bundle)) (greatest_price atoms) goods a
+best_bids-are goods atoms a c = let p = points_where-are (λ bundle. ltb 0 (greatest_price atoms bundle)) (greatest_price atoms) goods a
     (subst (λ (xs : List (Atom (List ℕ))). Contains xs a) (best_bids_where goods atoms) c) in
     let some = ltb-true 0 (greatest_price atoms a.bundle) p.chosen in
-    let price = p.price in
     record { bundle = p.bundle; positive = omega arith; greatest = p.price }
 
 pub best_bids-has : (goods : ℕ) (atoms : List (Atom (List ℕ))) (a : Atom (List ℕ)) → IsGreatest goods atoms a → Contains (best_bids goods atoms) a
-best_bids-has goods atoms a h =
-    let some = h.positive in
-    let price = h.greatest in
-    subst (λ (xs : List (Atom (List ℕ))). Contains xs a) (sym (best_bids_where goods atoms))
+best_bids-has goods atoms a h = subst (λ (xs : List (Atom (List ℕ))). Contains xs a) (sym (best_bids_where goods atoms))
     (points_where-has (λ bundle. ltb 0 (greatest_price atoms bundle)) (greatest_price atoms) goods a
     (record { bundle = h.bundle; chosen = lt-ltb 0 (greatest_price atoms a.bundle) (omega arith); price = h.greatest }))
 
@@ -65,17 +59,12 @@ module _ (goods : ℕ) (atoms : List (Atom (List ℕ))) (on : All (IsOnBundle go
   -- a point on the bundle of a best bid, whose price is not below it, is that bid
   point_is_best : (points : List (Atom (List ℕ))) → All (Contains atoms) points → (a p : Atom (List ℕ)) → IsGreatest goods atoms a → Contains points p
       → p.bundle ≡ a.bundle → a.price ≤ p.price → Contains points a
-  point_is_best points are a p h c e l =
-      let low = greatest_price-member atoms p (All-contains (Contains atoms) points p are c) in
-      let same : greatest_price atoms p.bundle ≡ greatest_price atoms a.bundle = ap (greatest_price atoms) e in
-      let greatest = h.greatest in
-      subst (λ (z : Atom (List ℕ)). Contains points z) (same_atom p a e (omega arith)) c
+  point_is_best points are a p h c e l = let low = greatest_price-member atoms p (All-contains (Contains atoms) points p are c) in search (rules, same_atom)
 
   -- a bundle's value, which the price of no bid there exceeds
   module _ (value : List ℕ → ℕ) (most : (b : Atom (List ℕ)) → Contains atoms b → b.price ≤ value b.bundle) where
     greatest_most : (bundle : List ℕ) → greatest_price atoms bundle ≤ value bundle
-    greatest_most bundle = greatest_price-bound atoms bundle (value bundle) (All-from_Contains (λ b. b.bundle ≡ bundle → b.price ≤ value bundle) atoms
-        (λ b c e. subst (λ (xs : List ℕ). b.price ≤ value xs) e (most b c)))
+    greatest_most bundle = search (rules, greatest_price-bound, bundle, All-from_Contains)
 
     is_greatest : (a : Atom (List ℕ)) → Contains atoms a → IsBundle goods a.bundle → 0 < value a.bundle → a.price ≡ value a.bundle → IsGreatest goods atoms a
     is_greatest a there bundle positive price = search (rules, greatest_price-member, greatest_most)
@@ -98,31 +87,20 @@ module _ (goods : ℕ) (atoms : List (Atom (List ℕ))) (on : All (IsOnBundle go
 
   -- the points below a point do not reach its price
   or_short : (a : Atom (List ℕ)) → Contains or_all a → or_value (atoms_below or_all a.bundle) a.bundle < a.price
-  or_short a c =
-      let point = (or_points_are goods atoms a).0 c in
-      let positive = point.1.positive in
-      let price : a.price ≡ or_value atoms a.bundle = point.2 in
+  or_short a c = let point = (or_points_are goods atoms a).0 c in
       ⊎_elim (λ (l : or_value (atoms_below or_all a.bundle) a.bundle < a.price). l)
       (λ (l : a.price ≤ or_value (atoms_below or_all a.bundle) a.bundle).
       let r = ReachesValue-some (atoms_below or_all a.bundle) a.bundle (omega arith) in
       let parts = Contains-filter_parts (λ b. is_below b.bundle a.bundle) or_all r.0 r.1.member in
       let proper = below_parts r.0.bundle a.bundle parts.1 in
       let here = All-contains (IsOnBundle goods) or_all r.0 or_bundles parts.0 in
-      let split = point.1.split r.0.bundle (record { rising = here.bundle.0; nonempty = here.nonempty; inside = proper.0; proper = proper.1 }) in
       let own = or_most r.0 (All-contains (Contains atoms) or_all r.0 (or_points_are_atoms goods atoms on) parts.0) in
-      let rest = without a.bundle r.0.bundle in
-      let fewer = or_value-filter_le (λ b. is_below b.bundle a.bundle) or_all rest in
-      let same = or_points_keep_values goods atoms on rest (IsBundle-without goods a.bundle r.0.bundle point.0) in
-      let reaches = r.1.reaches in
-      absurd (omega arith))
+      search (rules, or_value-filter_le, or_points_keep_values, IsBundle-without))
       (cases_lt (or_value (atoms_below or_all a.bundle) a.bundle) a.price)
 
   -- a best bid whose price they do not reach is one
   or_missed : (a : Atom (List ℕ)) → IsGreatest goods atoms a → or_value (atoms_below or_all a.bundle) a.bundle < a.price → Contains or_all a
-  or_missed a h short =
-      let positive = h.positive in
-      let greatest = h.greatest in
-      let high = greatest_most (or_value atoms) or_most a.bundle in
+  or_missed a h short = let high = greatest_most (or_value atoms) or_most a.bundle in
       let same = or_points_keep_values goods atoms on a.bundle h.bundle in
       ⊎_elim
       (λ (t : is_or_point goods atoms a.bundle ≡ true).
@@ -133,8 +111,7 @@ module _ (goods : ℕ) (atoms : List (Atom (List ℕ))) (on : All (IsOnBundle go
       let all = or_value-filter_on (λ b. is_below b.bundle a.bundle) or_all a.bundle (All-from_Contains (λ b. IsInside b.bundle a.bundle → is_below b.bundle
       a.bundle ≡ true) or_all (λ b c i. below_from b.bundle a.bundle i (false_from_ne_true (is_inside a.bundle b.bundle) (λ back.
       let p = points_where-are (is_or_point goods atoms) (or_value atoms) goods b c in
-      let e : b.bundle ≡ a.bundle = inside_antisymm b.bundle a.bundle p.bundle.0 h.bundle.0 i back in
-      both_ways (is_or_point goods atoms a.bundle) n (ap (is_or_point goods atoms) (sym e) ∙ p.chosen))))) in
+      search (rules, inside_antisymm, both_ways))))) in
       absurd (omega arith))
       (cases_Bool (is_or_point goods atoms a.bundle))
 
@@ -147,14 +124,12 @@ module _ (goods : ℕ) (atoms : List (Atom (List ℕ))) (on : All (IsOnBundle go
   or_fate_short kind a e = search (rules, le-leb)
 
   pub or_kept_are_points : (kind : SearchKind) → filter (λ a. is_none (or_fate kind or_all a)) (best_bids goods atoms) ≡ or_all
-  or_kept_are_points kind =
-      same_in_order (filter (λ a. is_none (or_fate kind or_all a)) (best_bids goods atoms)) or_all
-      (AllPairs-filter IsBefore (λ a. is_none (or_fate kind or_all a)) (best_bids goods atoms) (best_bids-in_order goods atoms))
+  or_kept_are_points kind = same_in_order (filter (λ a. is_none (or_fate kind or_all a)) (best_bids goods atoms)) or_all
+      (search (rules, AllPairs-filter, best_bids-in_order))
       (points_where-in_order (is_or_point goods atoms) (or_value atoms) goods)
       (λ a c. let r = Contains-filter_parts (λ a. is_none (or_fate kind or_all a)) (best_bids goods atoms) a c in
       or_missed a (best_bids-are goods atoms a r.0) (or_fate_short kind a r.1))
-      (λ a c. Contains-filter (λ a. is_none (or_fate kind or_all a)) (best_bids goods atoms) a (best_bids-has goods atoms a (or_is_greatest a c))
-      (or_fate_none kind a (or_short a c)))
+      (search (rules, Contains-filter, best_bids-has, or_is_greatest, or_fate_none, or_short))
 
   -- ---- an XOR bidder
 
@@ -174,9 +149,8 @@ module _ (goods : ℕ) (atoms : List (Atom (List ℕ))) (on : All (IsOnBundle go
 
   index_is_below : (bundle : List ℕ) (index : ℕ) → Contains (indices_below xor_all bundle) index
       → Contains xor_all (atom_at xor_all index) × (is_below (atom_at xor_all index).bundle bundle ≡ true)
-  index_is_below bundle index c =
-      let parts = Contains-filter_parts (λ index. is_below (atom_at xor_all index).bundle bundle) (range_with_len 0 (length xor_all)) index c in
-      (Contains-get_or xor_all index (record { bundle = []; price = 0 }) (in_range (length xor_all) index parts.0), parts.1)
+  index_is_below bundle index c = let parts = Contains-filter_parts (λ index. is_below (atom_at xor_all index).bundle bundle) (range_with_len 0 (length xor_all)) index c in
+      (search (rules, Contains-get_or, in_range))
 
   -- no point below a point has its price
   xor_short : (a : Atom (List ℕ)) → Contains xor_all a → xor_fate xor_all a ≡ None
@@ -187,9 +161,7 @@ module _ (goods : ℕ) (atoms : List (Atom (List ℕ))) (on : All (IsOnBundle go
       let parts = below_parts p.bundle a.bundle r.1 in
       false_from_ne_true (leb a.price p.price) (λ t.
       let point = (xor_points_are goods atoms a).0 c in
-      let price : a.price ≡ xor_value atoms a.bundle = point.2 in
       let g = list_all_fails (λ good. has_good p.bundle good) a.bundle parts.1 in
-      let less = point.1.less g.0 g.1 in
       let own = xor_value-member atoms p (All-contains (Contains atoms) xor_all p xor_atoms r.0) (without a.bundle (g.0 ∷ []))
       (good_less p.bundle a.bundle g.0 parts.0 g.2) in
       let enough = leb-true a.price p.price t in
@@ -197,37 +169,29 @@ module _ (goods : ℕ) (atoms : List (Atom (List ℕ))) (on : All (IsOnBundle go
     where
       good_less : (xs bundle : List ℕ) (good : ℕ) → IsInside xs bundle → has_good xs good ≡ false → IsInside xs (without bundle (good ∷ []))
       good_less xs bundle good i n =
-          inside_without xs bundle (good ∷ []) i (apart_from xs (good ∷ []) (λ g h. false_from_ne_true (has_good (good ∷ []) g) (λ k.
-          ⊎_elim (λ (e : good ≡ g). both_ways (has_good xs good) n (subst (λ m. has_good xs m ≡ true) (sym e) h))
-          (λ (m : has_good [] g ≡ true). both_ways false refl m) (has_cases good [] g k))))
+          inside_without xs bundle (good ∷ []) i (search (rules, apart_from, false_from_ne_true, both_ways, has_cases))
 
   -- a best bid whose price none of them has is one
   xor_missed : (a : Atom (List ℕ)) → IsGreatest goods atoms a → xor_fate xor_all a ≡ None → Contains xor_all a
   unfolding xor_fate
-  xor_missed a h none =
-      let positive = h.positive in
-      let greatest = h.greatest in
-      let high = greatest_most (xor_value atoms) xor_most a.bundle in
+  xor_missed a h none = let high = greatest_most (xor_value atoms) xor_most a.bundle in
       let same = xor_points_keep_values goods atoms (just_bundles goods atoms on) a.bundle h.bundle in
       let q = xor_value-reached xor_all a.bundle (omega arith) in
-      let value : q.0.price ≡ xor_value xor_all a.bundle = q.3 in
       let at : atom_at xor_all q.1.0 ≡ q.0 = get_or_default xor_all q.1.0 (record { bundle = []; price = 0 }) q.0 q.1.1 ∙ q.1.2 in
       let on_whole : is_inside a.bundle q.0.bundle ≡ true = ⊎_elim (λ (t : is_inside a.bundle q.0.bundle ≡ true). t)
       (λ (n : is_inside a.bundle q.0.bundle ≡ false).
       let there = Contains-filter (λ index. is_below (atom_at xor_all index).bundle a.bundle) (range_with_len 0 (length xor_all)) q.1.0
-      (range_contains (length xor_all) q.1.0 q.1.1) (ap (λ (z : Atom (List ℕ)). is_below z.bundle a.bundle) at ∙ below_from q.0.bundle a.bundle q.2 n) in
+      (range_contains (length xor_all) q.1.0 q.1.1) (search (rules, below_from)) in
       let missed = found_none (λ index. leb a.price (atom_at xor_all index).price) (indices_below xor_all a.bundle) none q.1.0 there in
-      absurd (both_ways (leb a.price q.0.price) (ap (λ (z : Atom (List ℕ)). leb a.price z.price) (sym at) ∙ missed) (le-leb a.price q.0.price (omega arith))))
+      search (rules, both_ways, le-leb))
       (cases_Bool (is_inside a.bundle q.0.bundle)) in
       let bundle = (xor_points_are goods atoms q.0).0 q.1 in
       point_is_best xor_all xor_atoms a q.0 h q.1 (inside_antisymm q.0.bundle a.bundle bundle.0.0 h.bundle.0 q.2 on_whole) (omega arith)
 
   pub xor_kept_are_points : filter (λ a. is_none (xor_fate xor_all a)) (best_bids goods atoms) ≡ xor_all
-  xor_kept_are_points =
-      same_in_order (filter (λ a. is_none (xor_fate xor_all a)) (best_bids goods atoms)) xor_all
-      (AllPairs-filter IsBefore (λ a. is_none (xor_fate xor_all a)) (best_bids goods atoms) (best_bids-in_order goods atoms))
+  xor_kept_are_points = same_in_order (filter (λ a. is_none (xor_fate xor_all a)) (best_bids goods atoms)) xor_all
+      (search (rules, AllPairs-filter, best_bids-in_order))
       (points_where-in_order (is_xor_point atoms) (xor_value atoms) goods)
       (λ a c. let r = Contains-filter_parts (λ a. is_none (xor_fate xor_all a)) (best_bids goods atoms) a c in
       xor_missed a (best_bids-are goods atoms a r.0) (none_is (xor_fate xor_all a) r.1))
-      (λ a c. Contains-filter (λ a. is_none (xor_fate xor_all a)) (best_bids goods atoms) a (best_bids-has goods atoms a (xor_is_greatest a c))
-      (ap is_none (xor_short a c)))
+      (search (rules, Contains-filter, best_bids-has, xor_is_greatest, xor_short))

@@ -1,12 +1,11 @@
 -- The walk takes the next bid in. It is the best of its bidder's on its goods if the bid before it is not on the same goods of that bidder;
 -- and at the first bid of a bidder the walk has passed none of it.
-use Rattle.analysis.proofs.Common.{rules, ◌≡◌, ℕ, ◌+◌, ◌-◌, ◌<◌, ◌≤◌, Bool, true, false, ◌&&◌, eqb, ltb, cond, ⊎_elim, List, [], ◌∷◌, ◌++◌}
-use Rattle.analysis.proofs.Common.{length, map, get_or, take, Option, Some, None, refl, sym, ap, ◌∙◌, subst, arith, Ordering, Less, Equal, Greater, is_lt}
-use Rattle.analysis.proofs.Common.{nat_cmp, filter, is_eq, ordering_reverse, ordering_then, and_parts, both_ways, cases_lt, eqb-true}
-use Rattle.analysis.proofs.Common.{false_from_ne_true, ltb-true, append-nil, get_or_default, length-take-le, Contains-get_or, filter_more, ranks_by, sorted_far}
-use Rattle.analysis.proofs.Common.{get_or_from_slice_get, slice_get_within, bundle_cmp, nat_cmp-lt, PlainBid, PlainFile, seen_bid, NumberedBid, Known, Walk}
-use Rattle.analysis.proofs.Common.{bid_at, bidder_of, is_best, IsBestFor, AreInOrder, numbered_cmp, HasPassed, IsAt, is_best_of, is_kept_bid, passed_bids}
-use Rattle.analysis.proofs.Common.{get_or-take, IsBestAt, IsLastBest, IsNext, best_after, dummy_of}
+use Rattle.analysis.proofs.Common.{[], rules, ◌≡◌, ℕ, ◌+◌, ◌-◌, ◌<◌, ◌≤◌, Bool, true, false, cond, ⊎_elim, List, ◌∷◌, ◌++◌, length, get_or, take, Option, Some}
+use Rattle.analysis.proofs.Common.{None, refl, sym, ap, ◌∙◌, subst, arith, Ordering, Less, Equal, Greater, is_lt, nat_cmp, is_eq, ordering_reverse, and_parts}
+use Rattle.analysis.proofs.Common.{both_ways, cases_lt, false_from_ne_true, ltb-true, append-nil, get_or_default, length-take-le, Contains-get_or, filter_more}
+use Rattle.analysis.proofs.Common.{ranks_by, sorted_far, get_or_from_slice_get, slice_get_within, nat_cmp-lt, PlainBid, PlainFile, seen_bid, NumberedBid, Known}
+use Rattle.analysis.proofs.Common.{Walk, bid_at, bidder_of, IsBestFor, AreInOrder, numbered_cmp, HasPassed, IsAt, is_best_of, passed_bids, get_or-take}
+use Rattle.analysis.proofs.Common.{IsBestAt, IsLastBest, IsNext, best_after, dummy_of}
 use Rattle.analysis.specs.BidOrders.{key_cmp}
 use Rattle.analysis.proofs.Explaining.BestBids.{HaveOneKey, alike_from, first_is_best, from_equal, key_cmp_total, key_first, key_same, numbered}
 use Rattle.analysis.proofs.Explaining.BestBids.{numbered_cmp_total, one_key, partitioned}
@@ -49,14 +48,12 @@ module _ {known : Known} {index : ℕ} {n : NumberedBid} (next : IsNext known in
       (sorted_far (λ (a b : NumberedBid). is_lt (numbered_cmp a b)) (ranks_by numbered_cmp_total (λ (n : NumberedBid). n)) bids order.sorted i j d l m)
 
   bidders_rise : (i j : ℕ) (d : NumberedBid) → i ≤ j → j < length bids → bidder_of (get_or bids i d).bid.dummy ≤ bidder_of (get_or bids j d).bid.dummy
-  bidders_rise i j d l m =
-      let one : PlainBid = seen_bid (get_or bids i d).bid in
+  bidders_rise i j d l m = let one : PlainBid = seen_bid (get_or bids i d).bid in
       let other : PlainBid = seen_bid (get_or bids j d).bid in
       ⊎_elim
       (λ (k : bidder_of other.dummy < bidder_of one.dummy).
       absurd (both_ways (is_lt (key_cmp other one)) (key_after i j d l m)
-      (ap (λ (o : Ordering). is_lt (ordering_then o (bundle_cmp other.goods one.goods)))
-      (nat_cmp-lt (bidder_of other.dummy) (bidder_of one.dummy) k))))
+      (search (rules, nat_cmp-lt))))
       (λ (k : bidder_of one.dummy ≤ bidder_of other.dummy). k) (cases_lt (bidder_of other.dummy) (bidder_of one.dummy))
 
   -- ---- the best bid
@@ -77,9 +74,7 @@ module _ {known : Known} {index : ℕ} {n : NumberedBid} (next : IsNext known in
     before = get_or bids (index - 1) last
 
     before_is : seen_bid before.bid ≡ bid_at f before.number
-    before_is =
-        let some = best.some in
-        (numbered f bids order (bid_at f 0) before (Contains-get_or bids (index - 1) last (omega (arith, within)))).1
+    before_is = (numbered f bids order (bid_at f 0) before (Contains-get_or bids (index - 1) last (omega (arith, within)))).1
 
     last_key : HaveOneKey (seen_bid last.bid) (seen_bid before.bid)
     last_key = search (rules, one_key, before_is)
@@ -108,14 +103,10 @@ module _ {known : Known} {index : ℕ} {n : NumberedBid} (next : IsNext known in
         let m : NumberedBid = get_or bids i last in
         ap (is_best_of f n.bid.dummy) there
         ∙ false_from_ne_true (is_best_of f n.bid.dummy m) (λ t.
-        let same = eqb-true (bidder_of m.bid.dummy) (bidder_of n.bid.dummy) (and_parts (eqb (bidder_of m.bid.dummy) (bidder_of n.bid.dummy))
-        (ltb 0 m.bid.price && is_best f m.number) t).0 in
-        let some = best.some in
         let low = bidders_rise i (index - 1) last (omega arith) (omega (arith, within)) in
         let high = bidders_rise (index - 1) index last (omega arith) within in
         let next : bidder_of (get_or bids index last).bid.dummy ≡ bidder_of n.bid.dummy = ap (λ (k : NumberedBid). bidder_of k.bid.dummy) (at last) in
-        let own = last_key.bidder in
-        differ (same_bidder last.bid.dummy n.bid.dummy (omega arith))))
+        search (rules, last_key, same_bidder)))
 
   -- ---- after the next bid
 
@@ -135,13 +126,8 @@ module _ {known : Known} {index : ℕ} {n : NumberedBid} (next : IsNext known in
   best_is {walk} at e = subst best_then (sym e) (best_after_is walk.best at.best)
 
   last_best : (b : NumberedBid) → best_then b → IsLastBest f bids (index + 1) b
-  last_best b h =
-      let same : get_or bids (index + 1 - 1) b ≡ n = let e : index + 1 - 1 ≡ index = omega arith in ap (λ (k : ℕ). get_or bids k b) e ∙ at b in
-      record {
-        some = omega arith;
-        number = subst (λ (m : NumberedBid). IsBestFor f m.number b.number) (sym same) h.0;
-        is = h.1;
-      }
+  last_best b h = let same : get_or bids (index + 1 - 1) b ≡ n = let e : index + 1 - 1 ≡ index = omega arith in ap (λ (k : ℕ). get_or bids k b) e ∙ at b in
+      search rules
 
   none_passed : (o : Option NumberedBid) → IsBestAt f bids index o → (dummy_of o ≡ n.bid.dummy → ⊥) → passed_bids f bids n.bid.dummy index ≡ []
   none_passed None none differ = ap (λ (k : ℕ). passed_bids f bids n.bid.dummy k) none
@@ -156,28 +142,18 @@ module _ {known : Known} {index : ℕ} {n : NumberedBid} (next : IsNext known in
   -- ---- a bid that is not a best bid with a price above 0
 
   skipped : {walk : Walk} → is_best_of f n.bid.dummy n ≡ false → HasPassed f bids n.bid.dummy index walk → HasPassed f bids n.bid.dummy (index + 1) walk
-  skipped t h =
-      let same : passed_bids f bids n.bid.dummy (index + 1) ≡ passed_bids f bids n.bid.dummy index =
+  skipped t h = let same : passed_bids f bids n.bid.dummy (index + 1) ≡ passed_bids f bids n.bid.dummy index =
       filter_more (is_best_of f n.bid.dummy) bids index n within
       ∙ ap (λ (m : NumberedBid). passed_bids f bids n.bid.dummy index ++ cond (is_best_of f n.bid.dummy m) (m ∷ []) []) (at n)
       ∙ ap (λ (b : Bool). passed_bids f bids n.bid.dummy index ++ cond b (n ∷ []) []) t ∙ append-nil (passed_bids f bids n.bid.dummy index) in
-      record {
-        passed = h.passed ∙ sym (ap (length {A = NumberedBid}) same);
-        points = h.points ∙ sym (ap (λ (xs : List NumberedBid). map (λ (m : NumberedBid). m.number) (filter (is_kept_bid f n.bid.dummy) xs)) same);
-      }
+      search rules
 
   pub passed_zero : {walk : Walk} → n.bid.price ≡ 0 → HasPassed f bids n.bid.dummy index walk → HasPassed f bids n.bid.dummy (index + 1) walk
-  passed_zero none h = skipped (false_from_ne_true (is_best_of f n.bid.dummy n) (λ t.
-      let parts = and_parts (eqb (bidder_of n.bid.dummy) (bidder_of n.bid.dummy)) (ltb 0 n.bid.price && is_best f n.number) t in
-      let some = ltb-true 0 n.bid.price (and_parts (ltb 0 n.bid.price) (is_best f n.number) parts.1).0 in
-      omega arith)) h
+  passed_zero none h = skipped (search (rules, false_from_ne_true, and_parts, ltb-true)) h
 
   pub passed_same : {walk : Walk} (b : NumberedBid) → best_then b → (b.number ≡ n.number → ⊥) → HasPassed f bids n.bid.dummy index walk
       → HasPassed f bids n.bid.dummy (index + 1) walk
-  passed_same b best differ h = skipped (false_from_ne_true (is_best_of f n.bid.dummy n) (λ t.
-      let parts = and_parts (eqb (bidder_of n.bid.dummy) (bidder_of n.bid.dummy)) (ltb 0 n.bid.price && is_best f n.number) t in
-      let own = (and_parts (ltb 0 n.bid.price) (is_best f n.number) parts.1).1 in
-      differ (best-once f b.number n.number best.0.within here.0 best.0.best own best.0.alike))) h
+  passed_same b best differ h = skipped (search (rules, false_from_ne_true, and_parts, best-once, here)) h
 
   -- the walk is behind it
   pub at_next : {after : Walk} {b : NumberedBid} → best_then b → after.best ≡ Some b → HasPassed f bids n.bid.dummy (index + 1) after
