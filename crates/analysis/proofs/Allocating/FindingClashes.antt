@@ -1,10 +1,10 @@
 -- Clashes, from the last bid to the first. Two bids cannot both win exactly if they share a good, where the dummy good is one behind the
 -- real goods. So the first later bid that clashes with a bid is the least of the first later bids that have one of its goods.
-use Rattle.analysis.proofs.Common.{[], common_steps, rules, ◌≡◌, ℕ, ◌+◌, ◌<◌, ◌≤◌, Bool, true, false, not, cond, ◌||◌, ⊎_elim, List, ◌∷◌, length, drop, set}
-use Rattle.analysis.proofs.Common.{get_or, refl, sym, ap, ◌∙◌, subst, arith, Option, None, Some, get_or-set_same, get_or-set_other, zero, suc, All, IfSome}
-use Rattle.analysis.proofs.Common.{find, both_ways, cases_Bool, cases_eq, eq-eqb, false_from_ne_true, ne_eqb, not_from_false, not_from_true, or_left, drop_more}
-use Rattle.analysis.proofs.Common.{length-set, All-from_recursion, AreAbove, AreBelow, IsBundle, IsRising, has_good, has_below, IsBid, IsPlainFile, PlainBid}
-use Rattle.analysis.proofs.Common.{PlainFile, goods_of, All-from_Contains, list_any_fails, list_any_found, bid_at, first_clash, first_rival, pair_or}
+use Rattle.analysis.proofs.Common.{find_none, [], common_steps, rules, ◌≡◌, ℕ, ◌+◌, ◌<◌, ◌≤◌, Bool, true, false, not, cond, ◌||◌, ⊎_elim, List, ◌∷◌, length}
+use Rattle.analysis.proofs.Common.{drop, set, get_or, refl, sym, ap, ◌∙◌, subst, arith, Option, None, Some, get_or-set_same, get_or-set_other, zero, suc, All}
+use Rattle.analysis.proofs.Common.{IfSome, find, both_ways, cases_Bool, cases_eq, eq-eqb, false_from_ne_true, ne_eqb, not_from_false, not_from_true, or_left}
+use Rattle.analysis.proofs.Common.{drop_more, length-set, All-from_recursion, AreAbove, AreBelow, IsBundle, IsRising, has_good, has_below, IsBid, IsPlainFile}
+use Rattle.analysis.proofs.Common.{PlainBid, PlainFile, goods_of, All-from_Contains, list_any_fails, list_any_found, bid_at, first_clash, first_rival, pair_or}
 use Rattle.analysis.proofs.Common.{can_both_win, held_by, least_holder, list_any, find_same_on, AreHolders, has, holder_at, lesser}
 use Rattle.analysis.proofs.Explaining.KeptBids.{bid_here}
 use Rattle.analysis.proofs.Allocating.ByGood.{goods_below}
@@ -40,25 +40,13 @@ found_above p x (y ∷ ys) a =
       | false ↦ found_above p x ys a.1
     ]
 
+one_found : (p q : ℕ → Bool) (x : ℕ) (xs : List ℕ) → AreAbove x xs → lesser (find p xs) (find q xs) ≡ find (λ x. p x || q x) xs
+    → lesser (find p (x ∷ xs)) (find q (x ∷ xs)) ≡ find (λ x. p x || q x) (x ∷ xs)
+one_found p q x xs a h = grind (arith, common_steps, found_above, lesser_left, lesser_right)
+
 find_either : (p q : ℕ → Bool) (xs : List ℕ) → IsRising xs → lesser (find p xs) (find q xs) ≡ find (λ x. p x || q x) xs
 find_either p q [] r = refl
-find_either p q (x ∷ xs) r =
-    let either : Option ℕ = find (λ y. p y || q y) xs in
-    let same : lesser (Some x) (Some x) ≡ Some x = ap Some (omega arith) in
-    elim (p x) as (λ b. lesser (cond b (Some x) (find p xs)) (cond (q x) (Some x) (find q xs)) ≡ cond (b || q x) (Some x) either) [
-      | true ↦ elim (q x) as (λ b. lesser (Some x) (cond b (Some x) (find q xs)) ≡ Some x) [
-        | true ↦ same
-        | false ↦ lesser_left x (find q xs) (found_above q x xs r.0)
-      ]
-      | false ↦ elim (q x) as (λ b. lesser (find p xs) (cond b (Some x) (find q xs)) ≡ cond b (Some x) either) [
-        | true ↦ lesser_right (find p xs) x (found_above p x xs r.0)
-        | false ↦ find_either p q xs r.1
-      ]
-    ]
-
-find_nothing : (xs : List ℕ) → find (λ x. false) xs ≡ None
-find_nothing [] = refl
-find_nothing (x ∷ xs) = find_nothing xs
+find_either p q (x ∷ xs) r = one_found p q x xs r.0 (find_either p q xs r.1)
 
 -- ---- bids that share a good
 
@@ -89,7 +77,7 @@ module _ (f : PlainFile) (is : IsPlainFile f) where
   least_is : (later : List ℕ) (holders : List (Option ℕ)) → IsRising later → AreHolders f later holders → (goods : List ℕ)
       → AreBelow (f.goods + f.dummy) goods → (start : Option ℕ)
       → least_holder holders start goods ≡ lesser start (find (λ j. list_any (λ good. has f good j) goods) later)
-  least_is later holders rises h [] below start = sym (ap (lesser start) (find_nothing later) ∙ lesser_none start)
+  least_is later holders rises h [] below start = sym (ap (lesser start) (find_none (λ j. false) later (λ j c. refl)) ∙ lesser_none start)
   least_is later holders rises h (good ∷ goods) below start = let others : Option ℕ = find (λ j. list_any (λ g. has f g j) goods) later in
       least_is later holders rises h goods below.1 (lesser start (holder_at holders good))
       ∙ lesser_assoc start (holder_at holders good) others

@@ -1,17 +1,17 @@
 -- The rows are met exactly by allocations: two winners that share a good, or a dummy good, are both in its row, and other winners are not.
 -- A row's bids are those of all numbers that pass a test, so they rise; and so are the winners, whose prices the objective adds up.
-use Rattle.analysis.proofs.Common.{[], rules, ◌≡◌, ℕ, ◌+◌, ◌*◌, ◌<◌, ◌≤◌, Bool, true, false, not, eqb, ⊎_elim, ◌⊎◌, List, ◌∷◌, ◌++◌, length, map, refl, sym, ap}
-use Rattle.analysis.proofs.Common.{◌∙◌, subst, Option, Some, None, arith, Contains, IsTrue, if◌then◌else◌, sum_by, filter, list_all, range_with_len, and_from}
-use Rattle.analysis.proofs.Common.{and_parts, both_ways, cases_Bool, eq-eqb, eqb-true, lt-ltb, not_from_false, false_from_ne_true, not-true, All-contains}
-use Rattle.analysis.proofs.Common.{Contains-append_cases, Contains-append_left, Contains-append_right, AllPairs-filter, sum_by-cons, IsBundle, IsRising}
-use Rattle.analysis.proofs.Common.{are_apart, has_good, apart_from, has-filter, has_above, has_below, has_cases, same_from_has, IsBid, IsDummyBelow}
-use Rattle.analysis.proofs.Common.{IsPlainFile, PlainBid, PlainFile, dummy_good, goods_of, below-from, Contains-map, Contains-unmap, All-from_Contains}
-use Rattle.analysis.proofs.Common.{Contains-filter, Contains-filter_parts, filter-kept, filter-lost, list_all_from, list_any_found, list_any_has}
-use Rattle.analysis.proofs.Common.{range_contains, bid_at, numbers_of, can_all_win, can_both_win, revenue, share_dummy, PlainRow, bids_with, is_shared, lp_rows}
-use Rattle.analysis.proofs.Common.{row_of, apart_at, has_head, has_tail, sum-zero, range_rising, AreRowsMet, objective, value_of}
+use Rattle.analysis.proofs.Common.{count_by-le-length, range_rises, IsRising-filter, length-filter, [], rules, ◌≡◌, ℕ, ◌+◌, ◌*◌, ◌<◌, ◌≤◌, Bool, true, false}
+use Rattle.analysis.proofs.Common.{not, eqb, ⊎_elim, ◌⊎◌, List, ◌∷◌, ◌++◌, length, map, refl, sym, ap, ◌∙◌, subst, Option, Some, None, arith, Contains, IsTrue}
+use Rattle.analysis.proofs.Common.{if◌then◌else◌, sum_by, filter, list_all, range_with_len, and_from, and_parts, both_ways, cases_Bool, eq-eqb, eqb-true}
+use Rattle.analysis.proofs.Common.{lt-ltb, not_from_false, false_from_ne_true, not-true, All-contains, Contains-append_cases, Contains-append_left}
+use Rattle.analysis.proofs.Common.{Contains-append_right, sum_by-cons, IsBundle, IsRising, are_apart, has_good, apart_from, has-filter, has_above, has_below}
+use Rattle.analysis.proofs.Common.{has_cases, same_from_has, IsBid, IsDummyBelow, IsPlainFile, PlainBid, PlainFile, dummy_good, goods_of, below-from}
+use Rattle.analysis.proofs.Common.{Contains-map, Contains-unmap, All-from_Contains, Contains-filter, Contains-filter_parts, filter-kept, filter-lost}
+use Rattle.analysis.proofs.Common.{list_all_from, list_any_found, list_any_has, range_contains, bid_at, numbers_of, can_all_win, can_both_win, revenue}
+use Rattle.analysis.proofs.Common.{share_dummy, PlainRow, bids_with, is_shared, lp_rows, row_of, apart_at, has_head, has_tail, AreRowsMet, objective, value_of}
 use Rattle.analysis.proofs.Explaining.KeptBids.{bid_here}
 use Rattle.analysis.proofs.Allocating.Allocations.{CanWin, both_flip, pairs_from_test}
-use Rattle.analysis.proofs.Explaining.Packings.{pairs_at, rising_from_pairs}
+use Rattle.analysis.proofs.Explaining.Packings.{pairs_at}
 use Rattle.std.proofs.lemmas.Grind.{common_steps}
 
 -- ---- members
@@ -22,59 +22,24 @@ has_from xs x c = list_any_has (λ y. eqb y x) xs x c (eq-eqb x x refl)
 pub contains_from : (xs : List ℕ) (x : ℕ) → has_good xs x ≡ true → Contains xs x
 contains_from xs x h = search (rules, list_any_found, eqb-true)
 
--- ---- how many of a list pass a test
+-- ---- how many a list has
 
-abbrev one_if : (ℕ → Bool) → ℕ → ℕ
-one_if p i = if p i then 1 else 0
+one_at_most : (xs : List ℕ) → IsRising xs → ((x y : ℕ) → has_good xs x ≡ true → has_good xs y ≡ true → x < y → ⊥) → length xs ≤ 1
+one_at_most [] r h = omega arith
+one_at_most (x ∷ []) r h = omega arith
+one_at_most (x ∷ (y ∷ ys)) r h = absurd (h x y (has_head x (y ∷ ys)) (has_tail x (y ∷ ys) y (has_head y ys)) r.0.0)
 
-module _ (p : ℕ → Bool) where
-  one : (x : ℕ) → p x ≡ true → one_if p x ≡ 1
-  one x t = ap (λ b. if b then 1 else 0) t
+two_at_least : (xs : List ℕ) (y z : ℕ) → has_good xs y ≡ true → has_good xs z ≡ true → y < z → 2 ≤ length xs
+two_at_least [] y z h k l = absurd (both_ways false refl h)
+two_at_least (x ∷ []) y z h k l = search (rules, has_cases, both_ways)
+two_at_least (x ∷ (w ∷ ws)) y z h k l = omega arith
 
-  none : (x : ℕ) → p x ≡ false → one_if p x ≡ 0
-  none x t = ap (λ b. if b then 1 else 0) t
-
-  at_most_one : (xs : List ℕ) → IsRising xs → ((x y : ℕ) → has_good xs x ≡ true → has_good xs y ≡ true → p x ≡ true → p y ≡ true → x < y → ⊥)
-      → sum_by (one_if p) xs ≤ 1
-  at_most_one [] r h = omega arith
-  at_most_one (x ∷ xs) r h = let sum = sum_by-cons (one_if p) x xs in
-      ⊎_elim
-      (λ (t : p x ≡ true).
-      let rest = sum-zero (one_if p) xs (search (rules, none, false_from_ne_true, has_head, has_tail, has_above)) in
-      let first = one x t in
-      omega arith)
-      (λ (t : p x ≡ false).
-      let rest = at_most_one xs r.1 (λ y z a b. h y z (has_tail x xs y a) (has_tail x xs z b)) in
-      let first = none x t in
-      omega arith)
-      (cases_Bool (p x))
-
-  at_least_one : (xs : List ℕ) (y : ℕ) → has_good xs y ≡ true → p y ≡ true → 1 ≤ sum_by (one_if p) xs
-  at_least_one [] y h t = absurd (both_ways false refl h)
-  at_least_one (x ∷ xs) y h t = let sum = sum_by-cons (one_if p) x xs in
-      ⊎_elim (search (rules, one))
-      (λ (k : has_good xs y ≡ true). let rest = at_least_one xs y k t in omega arith) (has_cases x xs y h)
-
-  at_least_two : (xs : List ℕ) (y z : ℕ) → has_good xs y ≡ true → has_good xs z ≡ true → p y ≡ true → p z ≡ true → y < z → 2 ≤ sum_by (one_if p) xs
-  at_least_two [] y z h k t u l = absurd (both_ways false refl h)
-  at_least_two (x ∷ xs) y z h k t u l = let sum = sum_by-cons (one_if p) x xs in
-      ⊎_elim
-      (search (rules, one, at_least_one, has_cases))
-      (λ (m : has_good xs y ≡ true).
-      ⊎_elim (search (rules, one, at_least_one))
-      (λ (n : has_good xs z ≡ true). let rest = at_least_two xs y z m n t u l in omega arith) (has_cases x xs z k))
-      (has_cases x xs y h)
-
-  at_most_all : (xs : List ℕ) → sum_by (one_if p) xs ≤ length xs
-  at_most_all [] = omega arith
-  at_most_all (x ∷ xs) = let sum = sum_by-cons (one_if p) x xs in let rest = at_most_all xs in search (rules, one, none, cases_Bool)
-
-  -- the sum over those that pass
-  weighed : (weight : ℕ → ℕ) (xs : List ℕ) → sum_by (λ i. weight i * one_if p i) xs ≡ sum_by weight (filter p xs)
-  weighed weight [] = refl
-  weighed weight (x ∷ xs) = let sum = sum_by-cons (λ i. weight i * one_if p i) x xs in
-      let rest = weighed weight xs in
-      search (rules, one, filter-kept, sum_by-cons, none, filter-lost, cases_Bool)
+-- a sum over those that pass a test
+weighed : (p : ℕ → Bool) (weight : ℕ → ℕ) (xs : List ℕ) → sum_by (λ i. weight i * (if p i then 1 else 0)) xs ≡ sum_by weight (filter p xs)
+weighed p weight [] = refl
+weighed p weight (x ∷ xs) = let sum = sum_by-cons (λ i. weight i * (if p i then 1 else 0)) x xs in
+    let rest = weighed p weight xs in
+    search (rules, filter-kept, sum_by-cons, filter-lost, cases_Bool)
 
 -- ---- the numbers of a file's bids that pass a test
 
@@ -83,7 +48,7 @@ module _ (f : PlainFile) where
   in_numbers i l = has_from (numbers_of f) i (range_contains (length f.bids) i l)
 
   pub passing_rise : (p : ℕ → Bool) → IsRising (filter p (numbers_of f))
-  passing_rise p = rising_from_pairs (filter p (numbers_of f)) (AllPairs-filter (λ i j. i < j) p (numbers_of f) (range_rising 0 (length f.bids)))
+  passing_rise p = IsRising-filter p (numbers_of f) (range_rises 0 (length f.bids))
 
   pub objective_is_revenue : (winners : List ℕ) → IsBundle (length f.bids) winners → objective f winners ≡ revenue f winners
   objective_is_revenue winners h = let price : ℕ → ℕ = λ i. (bid_at f i).price in
@@ -130,8 +95,6 @@ module _ (G D : ℕ) (a b : PlainBid) (is_a : IsBid G D a) (is_b : IsBid G D b) 
       let d = same_dummy a.dummy b.dummy s in
       let l : d.0 < D = subst (IsDummyBelow D) d.1 is_a.dummy in
       let g : ℕ = G + d.0 in
-      let here : (o : Option ℕ) → o ≡ Some d.0 → has_good (dummy_good G o) g ≡ true =
-      search (rules, has_head) in
       clash g (omega arith) (search (rules, has_right))
       (search (rules, has_right)))))
 
@@ -159,23 +122,27 @@ module _ (f : PlainFile) (is : IsPlainFile f) (winners : List ℕ) (numbers : Is
   rows_met win = All-from_Contains (λ row. sum_by (value_of winners) row.bids ≤ 1) (lp_rows f) (λ row c.
       let r = Contains-unmap (row_of f) all_goods row (Contains-filter_parts is_shared (map (row_of f) all_goods) row c).0 in
       let g = r.0 in
-      let with : (x : ℕ) → has_good (bids_with f g) x ≡ true → has g x ≡ true =
-      search (rules, and_parts, has-filter) in
-      subst (λ (s : PlainRow). sum_by (value_of winners) s.bids ≤ 1) (sym r.2)
-      (at_most_one (has_good winners) (bids_with f g) (passing_rise f (has g)) (λ x y h k t u l.
-      share_none f.goods f.dummy (bid_at f x) (bid_at f y) (here x t) (here y u)
-      (pairs_at (CanWin f) (λ i j q. both_flip (bid_at f i) (bid_at f j) q) winners (pairs_from_test f winners win) x y (contains_from winners x t)
-      (contains_from winners y u) (λ e. omega arith))
-      g (with x h) (with y k))))
+      let bids = bids_with f g in
+      let both : (x : ℕ) → has_good (filter (has_good winners) bids) x ≡ true → (has_good winners x ≡ true) × (has g x ≡ true) =
+      λ x h. let of = and_parts (has_good winners x) (has_good bids x) (sym (has-filter (has_good winners) bids x) ∙ h) in
+      (of.0, (and_parts (has g x) (has_good (numbers_of f) x) (sym (has-filter (has g) (numbers_of f) x) ∙ of.1)).0) in
+      let few = one_at_most (filter (has_good winners) bids) (IsRising-filter (has_good winners) bids (passing_rise f (has g))) (λ x y h k l.
+      share_none f.goods f.dummy (bid_at f x) (bid_at f y) (here x (both x h).0) (here y (both y k).0)
+      (pairs_at (CanWin f) (λ i j q. both_flip (bid_at f i) (bid_at f j) q) winners (pairs_from_test f winners win) x y
+      (contains_from winners x (both x h).0) (contains_from winners y (both y k).0) (λ e. omega arith))
+      g (both x h).1 (both y k).1) in
+      subst (λ (s : PlainRow). sum_by (value_of winners) s.bids ≤ 1) (sym r.2) (subst (λ n. n ≤ 1) (length-filter (has_good winners) bids) few))
 
   pub all_win_from_rows : AreRowsMet f winners → can_all_win f winners ≡ true
   all_win_from_rows met = all_win f winners numbers.0 (λ x y h k l.
       both_win f.goods f.dummy (bid_at f x) (bid_at f y) (here x h) (here y k) (λ g m p q.
       let bids = bids_with f g in
-      let with : (z : ℕ) → has_good winners z ≡ true → has g z ≡ true → has_good bids z ≡ true =
+      let with : (z : ℕ) → has_good winners z ≡ true → has g z ≡ true → has_good (filter (has_good winners) bids) z ≡ true =
       search (rules, has-filter, and_from, in_numbers, has_below) in
-      let two = at_least_two (has_good winners) bids x y (with x h p) (with y k q) h k l in
-      let long = at_most_all (has_good winners) bids in
+      let two = two_at_least (filter (has_good winners) bids) x y (with x h p) (with y k q) l in
+      let counted = length-filter (has_good winners) bids in
+      let long = count_by-le-length (has_good winners) bids in
       let there = Contains-filter is_shared (map (row_of f) all_goods) (row_of f g)
       (Contains-map (row_of f) all_goods g (range_contains (f.goods + f.dummy) g m)) (lt-ltb 1 (length bids) (omega arith)) in
-      search (rules, All-contains)))
+      let one = All-contains (λ row. sum_by (value_of winners) row.bids ≤ 1) (lp_rows f) (row_of f g) met there in
+      absurd (omega (arith, one, two))))

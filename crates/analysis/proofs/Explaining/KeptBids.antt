@@ -1,15 +1,15 @@
 -- The bids of a file's canonical file. The idea: a point's price is the value of its bundle, which no bid there exceeds, so
 -- it is the price of a best bid; and the points of a bidder are on different bundles.
-use Rattle.analysis.proofs.Common.{[], rules, ◌≡◌, ℕ, ◌+◌, ◌<◌, ◌≤◌, not, eqb, ⊎_elim, List, ◌∷◌, ◌++◌, length, map, Option, Some, None, refl, sym, ap, ap₂}
-use Rattle.analysis.proofs.Common.{◌∙◌, subst, arith, All, Contains, slice_get, flat_map, range_with_len, unwrap_or, get_or-append_seam, not_from_false, ne_eqb}
-use Rattle.analysis.proofs.Common.{map-append, length-append, append_assoc, flat_map-cons, All-contains, All-from_recursion, Contains-append_left}
-use Rattle.analysis.proofs.Common.{Contains-append_right, Contains-append_cases, slice_get-get_or, slice_get_within, get_or_from_slice_get, IsBundle}
-use Rattle.analysis.proofs.Common.{all_bundles_has, inside_refl, PlainBid, PlainFile, IsBid, IsDummyBelow, IsPlainFile, Atom, IsAtom, atom_of, auction_from}
-use Rattle.analysis.proofs.Common.{is_dummy, or_atoms_of, xor_atoms_of, xor_table, xor_value, IsAuction-auction_from, rising-from, below-from, AllPairs-map}
-use Rattle.analysis.proofs.Common.{Contains-map, Contains-unmap, greatest_price, IsBefore, IsInOrder, or_points, on_bundles, list_any_has, IsOnBundle}
-use Rattle.analysis.proofs.Common.{points_where-in_order, xor_value-member, bid_from, canonical_auction, dummy_bids, points_of_kept_dummies}
-use Rattle.analysis.proofs.Common.{kept_dummies-differ, kept_dummies-below, kept_bids, kept_dummies, named_bid, points_of_dummy, bid_at, IsKeptAs, points_of}
-use Rattle.analysis.proofs.Common.{IsAuction, before_itself, kept_dummies-has, range_contains}
+use Rattle.analysis.proofs.Common.{common_steps, [], rules, ◌≡◌, ℕ, ◌+◌, ◌<◌, ◌≤◌, not, eqb, ⊎_elim, List, ◌∷◌, ◌++◌, length, map, Option, Some, None, refl}
+use Rattle.analysis.proofs.Common.{sym, ap, ap₂, ◌∙◌, subst, arith, All, Contains, slice_get, flat_map, range_with_len, unwrap_or, get_or-append_seam}
+use Rattle.analysis.proofs.Common.{not_from_false, ne_eqb, map-append, length-append, append_assoc, flat_map-cons, All-contains, All-from_recursion}
+use Rattle.analysis.proofs.Common.{Contains-append_left, Contains-append_right, Contains-append_cases, slice_get-get_or, slice_get_within}
+use Rattle.analysis.proofs.Common.{get_or_from_slice_get, IsBundle, all_bundles_has, inside_refl, PlainBid, PlainFile, IsBid, IsDummyBelow, IsPlainFile, Atom}
+use Rattle.analysis.proofs.Common.{IsAtom, atom_of, auction_from, or_atoms_of, xor_atoms_of, xor_table, xor_value, IsAuction-auction_from, rising-from}
+use Rattle.analysis.proofs.Common.{below-from, AllPairs-map, Contains-map, Contains-unmap, greatest_price, IsBefore, IsInOrder, or_points, on_bundles}
+use Rattle.analysis.proofs.Common.{list_any_has, IsOnBundle, points_where-in_order, xor_value-member, bid_from, canonical_auction, dummy_bids}
+use Rattle.analysis.proofs.Common.{points_of_kept_dummies, kept_dummies-differ, kept_dummies-below, kept_bids, kept_dummies, named_bid, points_of_dummy, bid_at}
+use Rattle.analysis.proofs.Common.{IsKeptAs, points_of, IsAuction, before_itself, kept_dummies-has, range_contains}
 use Rattle.analysis.proofs.Explaining.BestBids.{element_at}
 use Rattle.analysis.proofs.Explaining.KeptBidsLists.{in_flat_map, from_flat_map, AreDifferent, different_indices, different_append}
 use Rattle.analysis.proofs.Explaining.KeptBidsLists.{different_flat_map}
@@ -41,10 +41,9 @@ named_bids points before (d ∷ ds) n l = map-append (named_bid (before ++ d ∷
 
 -- the OR bidder's, and then each XOR bidder's
 pub kept_bids_are : (f : PlainFile) → kept_bids f ≡ map (bid_from None) (or_points_of f) ++ flat_map (bids_of_dummy f) (kept_dummies f)
-kept_bids_are f =
-    let names = named_bid (kept_dummies f) in
+kept_bids_are f = let names = named_bid (kept_dummies f) in
     map-append names (map (bid_from None) (or_points_of f)) (dummy_bids 0 (canonical_auction (auction_from f)).xor_bidders)
-    ∙ ap₂ (λ (xs ys : List PlainBid). xs ++ ys) (map_of_map names (bid_from None) (bid_from None) (λ a. refl) (or_points_of f))
+    ∙ ap₂ (λ (xs ys : List PlainBid). xs ++ ys) (search (rules, map_of_map))
     (ap (λ (bidders : List (List (Atom (List ℕ)))). map names (dummy_bids 0 bidders)) (sym (points_of_kept_dummies f))
     ∙ named_bids (points_of_dummy f) [] (kept_dummies f) 0 refl)
 
@@ -55,18 +54,14 @@ listed xs b c = (c.0, slice_get-get_or xs c.0 b c.1 ∙ ap Some c.2)
 
 pub or-points-are-kept : (f : PlainFile) → (a : Atom (List ℕ)) → Contains (or_points_of f) a
     → (k : ℕ) × (slice_get (kept_bids f) k ≡ Some (bid_from None a))
-or-points-are-kept f a c =
-    subst (λ (bs : List PlainBid). (k : ℕ) × (slice_get bs k ≡ Some (bid_from None a))) (sym (kept_bids_are f))
-    (listed _ (bid_from None a) (Contains-append_left (map (bid_from None) (or_points_of f)) (flat_map (bids_of_dummy f) (kept_dummies f)) (bid_from None a)
-    (Contains-map (bid_from None) (or_points_of f) a c)))
+or-points-are-kept f a c = grind (arith, common_steps, kept_bids_are, listed, Contains-append_left, Contains-map)
 
 pub xor-points-are-kept : (f : PlainFile) → (d : ℕ) → Contains (kept_dummies f) d → (a : Atom (List ℕ)) → Contains (points_of_dummy f d) a
     → (k : ℕ) × (slice_get (kept_bids f) k ≡ Some (bid_from (Some d) a))
-xor-points-are-kept f d e a c =
-    subst (λ (bs : List PlainBid). (k : ℕ) × (slice_get bs k ≡ Some (bid_from (Some d) a))) (sym (kept_bids_are f))
+xor-points-are-kept f d e a c = subst (λ (bs : List PlainBid). (k : ℕ) × (slice_get bs k ≡ Some (bid_from (Some d) a))) (sym (kept_bids_are f))
     (listed _ (bid_from (Some d) a) (Contains-append_right (map (bid_from None) (or_points_of f)) (flat_map (bids_of_dummy f) (kept_dummies f))
     (bid_from (Some d) a) (in_flat_map (bids_of_dummy f) (kept_dummies f) d (bid_from (Some d) a) e
-    (Contains-map (bid_from (Some d)) (points_of_dummy f d) a c))))
+    (grind (arith, common_steps, Contains-map)))))
 
 -- ---- no two are equal
 
@@ -110,8 +105,7 @@ IsPoint f b = IsDummyBelow f.dummy b.dummy × Contains (points_of f b.dummy) (at
 
 pub kept_is_point : (f : PlainFile) (k : ℕ) (b : PlainBid) → slice_get (kept_bids f) k ≡ Some b
     → IsDummyBelow f.dummy b.dummy × Contains (points_of f b.dummy) (atom_of b)
-kept_is_point f k b e =
-    let there : Contains (kept_bids f) b = (k, slice_get_within (kept_bids f) k b e, get_or_from_slice_get (kept_bids f) k b b e) in
+kept_is_point f k b e = let there : Contains (kept_bids f) b = search (rules, slice_get_within, get_or_from_slice_get) in
     ⊎_elim
     (λ (c : Contains (map (bid_from None) (or_points_of f)) b).
     let r = Contains-unmap (bid_from None) (or_points_of f) b c in
@@ -121,7 +115,7 @@ kept_is_point f k b e =
     let r = Contains-unmap (bid_from (Some s.0)) (points_of_dummy f s.0) b s.2 in
     subst (IsPoint f) (sym r.2) ((kept_dummies-below f s.0 s.1).0, r.1))
     (Contains-append_cases (map (bid_from None) (or_points_of f)) (flat_map (bids_of_dummy f) (kept_dummies f)) b
-    (subst (λ (bs : List PlainBid). Contains bs b) (kept_bids_are f) there))
+    (search (rules, kept_bids_are)))
 
 point_is_greatest : (f : PlainFile) → IsPlainFile f → (dummy : Option ℕ) → IsDummyBelow f.dummy dummy → (a : Atom (List ℕ)) → Contains (points_of f dummy) a
     → IsGreatest f.goods (atoms_of_bidder f dummy) a
@@ -149,8 +143,7 @@ below_here f is i l d some = subst (λ (o : Option ℕ). IsDummyBelow f.dummy o)
 
 within_value : (f : PlainFile) (i : ℕ) → i < length f.bids → (d : ℕ) → (bid_at f i).dummy ≡ Some d
     → (bid_at f i).price ≤ xor_value (xor_atoms_of f.bids d) (bid_at f i).goods
-within_value f i l d some =
-    xor_value-member (xor_atoms_of f.bids d) (atom_of (bid_at f i)) (atom_there (λ b. is_dummy d b.dummy) f i l (is_dummy-same d (bid_at f i).dummy some))
+within_value f i l d some = xor_value-member (xor_atoms_of f.bids d) (atom_of (bid_at f i)) (search (rules, atom_there, is_dummy-same))
     (bid_at f i).goods (inside_refl (bid_at f i).goods)
 
 -- its bidder is in the canonical file

@@ -1,14 +1,14 @@
 -- A bidder's points are its best bids that are kept. The idea: if the points below a bundle do not reach its greatest price, then some point
 -- is on the bundle, since all points do; and the points below a point do not reach its price.
-use Rattle.analysis.proofs.Common.{[], rules, ◌≡◌, ℕ, ◌<◌, ◌≤◌, true, false, not, ltb, leb, ⊎_elim, List, ◌∷◌, length, None, is_none, refl, sym, ap₂, ◌∙◌}
-use Rattle.analysis.proofs.Common.{subst, arith, All, Contains, filter, range_with_len, cases_Bool, both_ways, and_from, and_parts, leb-true, lt-leb, ltb-true}
-use Rattle.analysis.proofs.Common.{lt-ltb, cases_lt, not_from_false, not-true, false_from_ne_true, get_or_default, All-contains, Contains-get_or}
-use Rattle.analysis.proofs.Common.{AllPairs-filter, IsBundle, IsInside, has_good, is_inside, apart_from, has_cases, inside_refl, Atom, atom_at, or_value}
-use Rattle.analysis.proofs.Common.{xor_value, or_value-price, best_bids, indices_below, IsInOrder, is_or_point, is_xor_point, or_points, xor_points}
-use Rattle.analysis.proofs.Common.{greatest_price, is_below, same_in_order, or_points_are_atoms, xor_points_are_atoms, just_bundles, All-from_Contains}
-use Rattle.analysis.proofs.Common.{Contains-filter, Contains-filter_parts, find_none, found_none, IsOnBundle, or_points_are, points_where-in_order}
-use Rattle.analysis.proofs.Common.{xor_points_are, greatest_price-bound, greatest_price-member, xor_value-member, le-leb, without, inside_antisymm}
-use Rattle.analysis.proofs.Common.{inside_without, IsBundle-without, SearchKind, or_value-filter_le, ReachesValue-some, atoms_below, or_points_keep_values}
+use Rattle.analysis.proofs.Common.{[], rules, ◌≡◌, ℕ, ◌<◌, ◌≤◌, true, false, not, ltb, leb, ⊎_elim, List, ◌∷◌, length, None, is_none, refl, sym, ap₂, subst}
+use Rattle.analysis.proofs.Common.{arith, All, Contains, filter, range_with_len, cases_Bool, both_ways, and_from, and_parts, leb-true, lt-leb, ltb-true, lt-ltb}
+use Rattle.analysis.proofs.Common.{cases_lt, not_from_false, not-true, false_from_ne_true, get_or_default, All-contains, Contains-get_or, AllPairs-filter}
+use Rattle.analysis.proofs.Common.{IsBundle, IsInside, has_good, is_inside, apart_from, has_cases, inside_refl, Atom, atom_at, or_value, xor_value}
+use Rattle.analysis.proofs.Common.{or_value-price, best_bids, indices_below, IsInOrder, is_or_point, or_points, xor_points, greatest_price, is_below}
+use Rattle.analysis.proofs.Common.{same_in_order, or_points_are_atoms, xor_points_are_atoms, just_bundles, All-from_Contains, Contains-filter}
+use Rattle.analysis.proofs.Common.{Contains-filter_parts, find_none, found_none, IsOnBundle, or_points_are, points_where-in_order, xor_points_are}
+use Rattle.analysis.proofs.Common.{greatest_price-bound, greatest_price-member, xor_value-member, le-leb, without, inside_antisymm, inside_without}
+use Rattle.analysis.proofs.Common.{IsBundle-without, SearchKind, or_value-filter_le, ReachesValue-some, atoms_below, or_points_keep_values}
 use Rattle.analysis.proofs.Common.{or_points_on_bundles, xor_points_keep_values, list_all_fails, points_where-are, points_where-has, or_value-filter_on}
 use Rattle.analysis.proofs.Common.{xor_value-reached, range_contains, in_range}
 use Rattle.prune.specs.Fates.{or_fate, xor_fate}
@@ -36,7 +36,7 @@ best_bids-in_order goods atoms = search (rules, best_bids_where, points_where-in
 
 pub best_bids-are : (goods : ℕ) (atoms : List (Atom (List ℕ))) (a : Atom (List ℕ)) → Contains (best_bids goods atoms) a → IsGreatest goods atoms a
 best_bids-are goods atoms a c = let p = points_where-are (λ bundle. ltb 0 (greatest_price atoms bundle)) (greatest_price atoms) goods a
-    (subst (λ (xs : List (Atom (List ℕ))). Contains xs a) (best_bids_where goods atoms) c) in
+    (search (rules, best_bids_where)) in
     let some = ltb-true 0 (greatest_price atoms a.bundle) p.chosen in
     record { bundle = p.bundle; positive = omega arith; greatest = p.price }
 
@@ -88,11 +88,10 @@ module _ (goods : ℕ) (atoms : List (Atom (List ℕ))) (on : All (IsOnBundle go
   -- the points below a point do not reach its price
   or_short : (a : Atom (List ℕ)) → Contains or_all a → or_value (atoms_below or_all a.bundle) a.bundle < a.price
   or_short a c = let point = (or_points_are goods atoms a).0 c in
-      ⊎_elim (λ (l : or_value (atoms_below or_all a.bundle) a.bundle < a.price). l)
+      ⊎_elim (search rules)
       (λ (l : a.price ≤ or_value (atoms_below or_all a.bundle) a.bundle).
       let r = ReachesValue-some (atoms_below or_all a.bundle) a.bundle (omega arith) in
       let parts = Contains-filter_parts (λ b. is_below b.bundle a.bundle) or_all r.0 r.1.member in
-      let proper = below_parts r.0.bundle a.bundle parts.1 in
       let here = All-contains (IsOnBundle goods) or_all r.0 or_bundles parts.0 in
       let own = or_most r.0 (All-contains (Contains atoms) or_all r.0 (or_points_are_atoms goods atoms on) parts.0) in
       search (rules, or_value-filter_le, or_points_keep_values, IsBundle-without))
@@ -126,9 +125,9 @@ module _ (goods : ℕ) (atoms : List (Atom (List ℕ))) (on : All (IsOnBundle go
   pub or_kept_are_points : (kind : SearchKind) → filter (λ a. is_none (or_fate kind or_all a)) (best_bids goods atoms) ≡ or_all
   or_kept_are_points kind = same_in_order (filter (λ a. is_none (or_fate kind or_all a)) (best_bids goods atoms)) or_all
       (search (rules, AllPairs-filter, best_bids-in_order))
-      (points_where-in_order (is_or_point goods atoms) (or_value atoms) goods)
+      (search (rules, points_where-in_order))
       (λ a c. let r = Contains-filter_parts (λ a. is_none (or_fate kind or_all a)) (best_bids goods atoms) a c in
-      or_missed a (best_bids-are goods atoms a r.0) (or_fate_short kind a r.1))
+      search (rules, or_missed, best_bids-are, or_fate_short))
       (search (rules, Contains-filter, best_bids-has, or_is_greatest, or_fate_none, or_short))
 
   -- ---- an XOR bidder
@@ -164,12 +163,10 @@ module _ (goods : ℕ) (atoms : List (Atom (List ℕ))) (on : All (IsOnBundle go
       let g = list_all_fails (λ good. has_good p.bundle good) a.bundle parts.1 in
       let own = xor_value-member atoms p (All-contains (Contains atoms) xor_all p xor_atoms r.0) (without a.bundle (g.0 ∷ []))
       (good_less p.bundle a.bundle g.0 parts.0 g.2) in
-      let enough = leb-true a.price p.price t in
-      omega arith))
+      search (rules, leb-true)))
     where
       good_less : (xs bundle : List ℕ) (good : ℕ) → IsInside xs bundle → has_good xs good ≡ false → IsInside xs (without bundle (good ∷ []))
-      good_less xs bundle good i n =
-          inside_without xs bundle (good ∷ []) i (search (rules, apart_from, false_from_ne_true, both_ways, has_cases))
+      good_less xs bundle good i n = inside_without xs bundle (good ∷ []) i (search (rules, apart_from, false_from_ne_true, both_ways, has_cases))
 
   -- a best bid whose price none of them has is one
   xor_missed : (a : Atom (List ℕ)) → IsGreatest goods atoms a → xor_fate xor_all a ≡ None → Contains xor_all a
@@ -177,7 +174,7 @@ module _ (goods : ℕ) (atoms : List (Atom (List ℕ))) (on : All (IsOnBundle go
   xor_missed a h none = let high = greatest_most (xor_value atoms) xor_most a.bundle in
       let same = xor_points_keep_values goods atoms (just_bundles goods atoms on) a.bundle h.bundle in
       let q = xor_value-reached xor_all a.bundle (omega arith) in
-      let at : atom_at xor_all q.1.0 ≡ q.0 = get_or_default xor_all q.1.0 (record { bundle = []; price = 0 }) q.0 q.1.1 ∙ q.1.2 in
+      let at : atom_at xor_all q.1.0 ≡ q.0 = search (rules, get_or_default) in
       let on_whole : is_inside a.bundle q.0.bundle ≡ true = ⊎_elim (λ (t : is_inside a.bundle q.0.bundle ≡ true). t)
       (λ (n : is_inside a.bundle q.0.bundle ≡ false).
       let there = Contains-filter (λ index. is_below (atom_at xor_all index).bundle a.bundle) (range_with_len 0 (length xor_all)) q.1.0
@@ -186,12 +183,12 @@ module _ (goods : ℕ) (atoms : List (Atom (List ℕ))) (on : All (IsOnBundle go
       search (rules, both_ways, le-leb))
       (cases_Bool (is_inside a.bundle q.0.bundle)) in
       let bundle = (xor_points_are goods atoms q.0).0 q.1 in
-      point_is_best xor_all xor_atoms a q.0 h q.1 (inside_antisymm q.0.bundle a.bundle bundle.0.0 h.bundle.0 q.2 on_whole) (omega arith)
+      point_is_best xor_all xor_atoms a q.0 h q.1 (search (rules, inside_antisymm)) (omega arith)
 
   pub xor_kept_are_points : filter (λ a. is_none (xor_fate xor_all a)) (best_bids goods atoms) ≡ xor_all
   xor_kept_are_points = same_in_order (filter (λ a. is_none (xor_fate xor_all a)) (best_bids goods atoms)) xor_all
       (search (rules, AllPairs-filter, best_bids-in_order))
-      (points_where-in_order (is_xor_point atoms) (xor_value atoms) goods)
+      (search (rules, points_where-in_order))
       (λ a c. let r = Contains-filter_parts (λ a. is_none (xor_fate xor_all a)) (best_bids goods atoms) a c in
-      xor_missed a (best_bids-are goods atoms a r.0) (none_is (xor_fate xor_all a) r.1))
+      search (rules, xor_missed, best_bids-are, none_is))
       (search (rules, Contains-filter, best_bids-has, xor_is_greatest, xor_short))
