@@ -129,7 +129,7 @@ pub use Rattle.goods_set.specs.Lemmas.Orders.{nat_cmp-gt, nat_cmp-lt, bundle_cmp
 pub use Rattle.goods_set.specs.Lemmas.Words.{range_rises}
 pub use Rattle.goods_set.specs.Orders.{bundle_cmp}
 pub use Rattle.prune.proofs.Pruning.{behind_next}
-pub use Rattle.prune.specs.Fates.{plain_fate, xor_fates, best_bids, numbers_at, indices_below}
+pub use Rattle.prune.specs.Fates.{plain_fate, xor_fates, best_bids, indices_below}
 pub use Rattle.prune.specs.InOrder.{IsInOrder, IsBefore}
 pub use Rattle.prune.specs.Lemmas.Fates.{or_fate-reaches, indices_below-within}
 pub use Rattle.prune.specs.Lemmas.InOrder.{before_both, before_itself, before_not_inside, same_in_order}
@@ -147,7 +147,7 @@ pub use Rattle.prune.specs.Lemmas.Values.{or_value-filter_on, xor_value-reached,
 pub use Rattle.prune.specs.Points.{xor_points, or_points, is_or_point, is_xor_point}
 pub use Rattle.prune.specs.SearchSteps.{atoms_below, greatest_price, is_below}
 pub use Rattle.valuation.specs.Auctions.{IsAuction, auction_from, PlainAuction, atom_of, IsAtom, is_dummy, or_atoms_of, xor_atoms_of}
-pub use Rattle.valuation.specs.Lemmas.AuctionsOfFiles.{IsBid-there, below-from, rising-from, IsAuction-auction_from}
+pub use Rattle.valuation.specs.Lemmas.AuctionsOfFiles.{IsBid-there, IsAuction-auction_from}
 pub use Rattle.valuation.specs.Lemmas.Bounds.{sum-zero}
 pub use Rattle.valuation.specs.Lemmas.Lists.{AllPairs-nil, AllPairs-cons, AllPairs-head, AllPairs-tail, Contains-cons_cases, Contains-map, Contains-unmap}
 pub use Rattle.valuation.specs.Lemmas.Lists.{le_or_lt, AllPairs-map, AllPairs-append}
@@ -156,7 +156,7 @@ pub use Rattle.valuation.specs.Lemmas.Orders.{bidder_cmp_total, bidder_cmp_equal
 pub use Rattle.valuation.specs.Lemmas.Sorting.{sum_by-sort_by, sort_by-same, ordered-sort_by, permutation-sort_by, sorted-sort_by, All-sort_by}
 pub use Rattle.valuation.specs.Lemmas.Sorting.{sorted_is_sort_by, IsOrdered}
 pub use Rattle.valuation.specs.Orders.{bidder_cmp}
-pub use Rattle.valuation.specs.Packings.{atom_at, IsPackingFor}
+pub use Rattle.valuation.specs.Packings.{numbers_at, atom_at, IsPackingFor}
 pub use Rattle.valuation.specs.Sorting.{insert_by, sort_by, count_of}
 pub use Rattle.valuation.specs.Tables.{is_nonzero, xor_table}
 pub use Rattle.valuation.specs.Values.{or_value, xor_value}

@@ -4,7 +4,7 @@ use Rattle.analysis.proofs.Common.{rules, ◌≡◌, ℕ, ◌+◌, ◌<◌, Bool
 use Rattle.analysis.proofs.Common.{subst, arith, Option, Some, Global, append-nil, get_or-set_same, get_or-set_other, All, Vec, filter, range_with_len}
 use Rattle.analysis.proofs.Common.{cases_eq, eq-eqb, ne_eqb, or_left, get_or-append_seam, get_or_append_left, get_or-map, length-append, length-map, length-set}
 use Rattle.analysis.proofs.Common.{map-set, All-from_recursion, filter-append, AreAbove, AreBelow, IsRising, has_good, IsBid, PlainBid, PlainFile, dummy_good}
-use Rattle.analysis.proofs.Common.{goods_of, below-from, rising-from, filter-kept, filter-lost, bid_at, AreByGood, lists_of, with_bid, bids_with, has_not_head}
+use Rattle.analysis.proofs.Common.{goods_of, filter-kept, filter-lost, bid_at, AreByGood, lists_of, with_bid, bids_with, has_not_head}
 use Rattle.analysis.proofs.Common.{list_at, with_number}
 use Rattle.analysis.proofs.Allocating.RowTexts.{range_next}
 use Rattle.goods_set.specs.Lemmas.Members.{AreBelow-higher}
@@ -25,10 +25,10 @@ below_push m (g ∷ gs) y b l = (b.0, below_push m gs y b.1 l)
 
 module _ (G D : ℕ) (b : PlainBid) (is : IsBid G D b) where
   rising : IsRising b.goods
-  rising = rising-from b.goods is.rising
+  rising = is.rising
 
   below : AreBelow G b.goods
-  below = below-from G b.goods is.below
+  below = is.below
 
   pub goods_rising : IsRising (goods_of G b)
   goods_rising = search (rules, append-nil, rising, rising_push, AreBelow-higher, below)

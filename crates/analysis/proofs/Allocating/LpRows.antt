@@ -5,7 +5,7 @@ use Rattle.analysis.proofs.Common.{not, eqb, ⊎_elim, ◌⊎◌, List, ◌∷�
 use Rattle.analysis.proofs.Common.{if◌then◌else◌, sum_by, filter, list_all, range_with_len, and_from, and_parts, both_ways, cases_Bool, eq-eqb, eqb-true}
 use Rattle.analysis.proofs.Common.{lt-ltb, not_from_false, false_from_ne_true, not-true, All-contains, Contains-append_cases, Contains-append_left}
 use Rattle.analysis.proofs.Common.{Contains-append_right, sum_by-cons, IsBundle, IsRising, are_apart, has_good, apart_from, has-filter, has_above, has_below}
-use Rattle.analysis.proofs.Common.{has_cases, same_from_has, IsBid, IsDummyBelow, IsPlainFile, PlainBid, PlainFile, dummy_good, goods_of, below-from}
+use Rattle.analysis.proofs.Common.{has_cases, same_from_has, IsBid, IsDummyBelow, IsPlainFile, PlainBid, PlainFile, dummy_good, goods_of}
 use Rattle.analysis.proofs.Common.{Contains-map, Contains-unmap, All-from_Contains, Contains-filter, Contains-filter_parts, filter-kept, filter-lost}
 use Rattle.analysis.proofs.Common.{list_all_from, list_any_found, list_any_has, range_contains, bid_at, numbers_of, can_all_win, can_both_win, revenue}
 use Rattle.analysis.proofs.Common.{share_dummy, PlainRow, bids_with, is_shared, lp_rows, row_of, apart_at, has_head, has_tail, AreRowsMet, objective, value_of}
@@ -79,10 +79,10 @@ same_dummy (Some d) (Some e) s = (d, refl, ap Some (eqb-true e d s))
 
 module _ (G D : ℕ) (a b : PlainBid) (is_a : IsBid G D a) (is_b : IsBid G D b) where
   below_a : (g : ℕ) → has_good a.goods g ≡ true → g < G
-  below_a g h = has_below G a.goods g (below-from G a.goods is_a.below) h
+  below_a g h = has_below G a.goods g is_a.below h
 
   below_b : (g : ℕ) → has_good b.goods g ≡ true → g < G
-  below_b g h = has_below G b.goods g (below-from G b.goods is_b.below) h
+  below_b g h = has_below G b.goods g is_b.below h
 
   pub share_none : IsTrue (can_both_win a b) → (g : ℕ) → has_good (goods_of G a) g ≡ true → has_good (goods_of G b) g ≡ true → ⊥
   share_none win g h k = search (rules, and_parts, apart_at, in_dummy, below_a, has_either, below_b, not-true, eq-eqb)

@@ -1,7 +1,7 @@
 -- What a verdict says. It has three cases: a named number that the file does not have, two bids that clash, or neither.
 use Rattle.analysis.proofs.Common.{rules, ◌≡◌, ◌↔◌, ℕ, ◌<◌, ◌≤◌, leb, ⊎_elim, List, length, refl, sym, ap, ◌∙◌, Option, Some, None, All, Contains, Result, Ok}
 use Rattle.analysis.proofs.Common.{Err, unwrap_or, both_ways, cases_lt, leb-false, leb-true, lt-leb, not-false, All-contains, IsBundle, has_good}
-use Rattle.analysis.proofs.Common.{AreBelow-from_has, apart_from, IsPlainFile, PlainFile, rising-from, All-from_Contains, Contains-filter}
+use Rattle.analysis.proofs.Common.{AreBelow-from_has, apart_from, IsPlainFile, PlainFile, All-from_Contains, Contains-filter}
 use Rattle.analysis.proofs.Common.{Contains-filter_parts, find_none, found_none, range_contains, bid_at, numbers_of, IsFirstClash, allocation_verdict}
 use Rattle.analysis.proofs.Common.{first_clash, missing_bid, named_bids, verdict_by, verdict_unless, IsAllocation, revenue, share_dummy, Revenue, and_cases}
 use Rattle.analysis.proofs.Common.{in_range, AreOneBidders, IsLeastShared, clash_on, shared_good, AllocationVerdict, SharedBidder, SharedGood}
@@ -93,7 +93,7 @@ module _ (f : PlainFile) (named : List ℕ) where
       let there = found_at (has_good b.goods) a.goods good s in
       let p = first_pair f bids are_numbers.0 i j c in
       let within = in_range (length f.bids) i (Contains-filter_parts (has_good named) (numbers_of f) i p.first).0 in
-      let rises = rising-from a.goods (bid_here f plain i within).rising in
+      let rises = (bid_here f plain i within).rising in
       record {
         first = has_from a.goods good there.0;
         second = there.1;

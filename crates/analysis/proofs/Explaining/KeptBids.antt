@@ -5,8 +5,8 @@ use Rattle.analysis.proofs.Common.{sym, ap, ap₂, ◌∙◌, subst, arith, All,
 use Rattle.analysis.proofs.Common.{not_from_false, ne_eqb, map-append, length-append, append_assoc, flat_map-cons, All-contains, All-from_recursion}
 use Rattle.analysis.proofs.Common.{Contains-append_left, Contains-append_right, Contains-append_cases, slice_get-get_or, slice_get_within}
 use Rattle.analysis.proofs.Common.{get_or_from_slice_get, IsBundle, all_bundles_has, inside_refl, PlainBid, PlainFile, IsBid, IsDummyBelow, IsPlainFile, Atom}
-use Rattle.analysis.proofs.Common.{IsAtom, atom_of, auction_from, or_atoms_of, xor_atoms_of, xor_table, xor_value, IsAuction-auction_from, rising-from}
-use Rattle.analysis.proofs.Common.{below-from, AllPairs-map, Contains-map, Contains-unmap, greatest_price, IsBefore, IsInOrder, or_points, on_bundles}
+use Rattle.analysis.proofs.Common.{IsAtom, atom_of, auction_from, or_atoms_of, xor_atoms_of, xor_table, xor_value, IsAuction-auction_from}
+use Rattle.analysis.proofs.Common.{AllPairs-map, Contains-map, Contains-unmap, greatest_price, IsBefore, IsInOrder, or_points, on_bundles}
 use Rattle.analysis.proofs.Common.{list_any_has, IsOnBundle, points_where-in_order, xor_value-member, bid_from, canonical_auction, dummy_bids}
 use Rattle.analysis.proofs.Common.{points_of_kept_dummies, kept_dummies-differ, kept_dummies-below, kept_bids, kept_dummies, named_bid, points_of_dummy, bid_at}
 use Rattle.analysis.proofs.Common.{IsKeptAs, points_of, IsAuction, before_itself, kept_dummies-has, range_contains}
@@ -136,7 +136,7 @@ pub bid_here : (f : PlainFile) → IsPlainFile f → (i : ℕ) → i < length f.
 bid_here f is i l = All-from_recursion (IsBid f.goods f.dummy) f.bids is.each i _ l
 
 pub bundle_here : (f : PlainFile) → IsPlainFile f → (i : ℕ) → i < length f.bids → IsBundle f.goods (bid_at f i).goods
-bundle_here f is i l = let b = bid_here f is i l in (rising-from (bid_at f i).goods b.rising, below-from f.goods (bid_at f i).goods b.below)
+bundle_here f is i l = let b = bid_here f is i l in (b.rising, b.below)
 
 below_here : (f : PlainFile) → IsPlainFile f → (i : ℕ) → i < length f.bids → (d : ℕ) → (bid_at f i).dummy ≡ Some d → d < f.dummy
 below_here f is i l d some = subst (λ (o : Option ℕ). IsDummyBelow f.dummy o) some (bid_here f is i l).dummy

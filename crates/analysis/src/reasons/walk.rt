@@ -2,7 +2,7 @@
 
 ghost use Rattle.std.specs.Prelude.{◌≡◌, ◌≢◌, ◌+◌, ◌++◌, ◌<◌, All, IfOk, OnOk, Some, [], ◌∷◌, length, map};
 ghost use Rattle.std.specs.Ordering.{nat_cmp};
-ghost use Rattle.prune.specs.Fates.{numbers_at};
+ghost use Rattle.valuation.specs.Packings.{numbers_at};
 ghost use Rattle.valuation.specs.Sorting.{sort_by};
 ghost use Rattle.analysis.specs.Reasons.{Keep, plain_reason, reason_of, reasons_of};
 ghost use Rattle.analysis.specs.Internal.Walks.{HasPassed, IsAt, IsKnown, IsNext, IsNextBest, best_after, dummy_of};

@@ -6,7 +6,7 @@ use Rattle.std.proofs.lemmas.Bool.{eq-eqb, ne_eqb}
 use Rattle.std.proofs.lemmas.List.{map-append, append-nil, length-append, length-map}
 use Rattle.std.proofs.lemmas.List.Elements.{All-head, All-tail, filter-append}
 use Rattle.std.proofs.lemmas.List.Sums.{sum_by-cons}
-use Rattle.bid_file.specs.Files.{PlainBid, PlainFile, IsDummyBelow, IsBid, IsPlainFile}
+use Rattle.bid_file.specs.Files.{PlainBid, IsDummyBelow, IsBid, IsPlainFile}
 use Rattle.valuation.specs.declared.atom.Atom.{Atom}
 use Rattle.valuation.specs.Auctions.{PlainAuction, IsAtom, IsAuction, atom_of, is_dummy, or_atoms_of, xor_atoms_of, auction_from}
 use Rattle.prune.specs.Lemmas.Lists.{filter-kept, filter-lost}
