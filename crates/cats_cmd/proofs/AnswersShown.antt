@@ -34,7 +34,7 @@ use Rattle.cats_cmd.specs.Escaping.{AreBytes, escaped}
 use Rattle.cats_cmd.specs.FindingFaults.{text_of_place}
 use Rattle.cats_cmd.specs.Requests.{outcome_for}
 use Rattle.command_line.specs.PlainRequests.{PlainCommand, Check}
-use Rattle.cats_cmd.proofs.PrintableTexts.{of_each}
+use Rattle.cats_cmd.proofs.PrintableTexts.{bytes_from, of_each}
 use Rattle.cats_cmd.proofs.ShownTexts.{Ours, Shown, is_ours, number_ours, ours, path_shown, then}
 
 -- ---- prices
@@ -115,41 +115,6 @@ before : (word : List ℕ) → Ours (before_word word)
 before [] = refl
 before (b ∷ bs) = refl
 
--- ---- any verdict, difference, reasons and differences
-
-pub value_shown : (file : PlainFile) (goods : List ℕ) → Shown (value_text file goods)
-value_shown file goods = ours (value_text file goods) (simp texts)
-
-verdict_ours : (verdict : AllocationVerdict) → Ours (allocation_text verdict)
-verdict_ours (Revenue millionths) = simp texts
-verdict_ours verdict = simp texts
-
-pub revenue_shown : (verdict : AllocationVerdict) → Shown (allocation_text verdict)
-revenue_shown verdict = ours (allocation_text verdict) (verdict_ours verdict)
-
-difference_ours : (d : Difference) → Ours (difference_text d)
-difference_ours NoDifference = refl
-difference_ours d = simp texts
-
-pub difference_shown : (d : Difference) → Shown (difference_text d)
-difference_shown d = ours (difference_text d) (difference_ours d)
-
-pub explanation_shown : (file : PlainFile) (reasons : List PlainReason) → Shown (explanation_text file reasons)
-explanation_shown file reasons = ours (explanation_text file reasons) (simp texts)
-
-pub diff_shown : (f g : PlainFile) (d : PlainDifferences) → Shown (diff_text f g d)
-diff_shown f g d = ours (diff_text f g d) (simp texts)
-
-pub place_shown : (path : List ℕ) (place : PlainPlace) → AreBytes path → AreBytes place.text → Shown (text_of_place path place)
-place_shown path place bytes word =
-    let shown = shown_bytes place.text in
-    let front : List ℕ = codes ":" ++ decimal place.line ++ codes ":" ++ decimal place.word ++ codes ": " ++ name_of_kind place.kind
-    ++ before_word place.text in
-    let back : List ℕ = behind_word place.text ++ codes "\n" ++ hint_of_kind place.kind ++ codes "\n" in
-    let same : ((escaped path ++ front) ++ escaped shown) ++ back ≡ text_of_place path place = simp append_assoc in
-    subst Shown same (then (then (then (path_shown path bytes) (ours front (simp (pieces, name, before))))
-    (path_shown shown (All-take (λ b. b < 256) 60 place.text word))) (ours back (simp (pieces, hint))))
-
 -- ---- all that is printed
 
 -- what is printed can be shown, with the status 0 or 1
@@ -196,3 +161,30 @@ ruleset outcomes = (texts, is_printed-cond, is_printed-unless, is_printed-unless
 pub command_printed : (command : PlainCommand) (numbers : List ℕ) (file : PlainFile) → is_printed (outcome_for command numbers file) ≡ true
 command_printed Check numbers file = simp texts
 command_printed command numbers file = simp outcomes
+
+-- ---- any verdict, difference, reasons and differences
+
+pub value_shown : (file : PlainFile) (goods : List ℕ) → Shown (value_text file goods)
+value_shown file goods = ours (value_text file goods) (simp texts)
+
+pub revenue_shown : (verdict : AllocationVerdict) → Shown (allocation_text verdict)
+revenue_shown verdict = (printed _ _ _ (verdict_printed (Ok verdict)) refl).1
+
+pub difference_shown : (d : Difference) → Shown (difference_text d)
+difference_shown d = (printed _ _ _ (difference_printed d) refl).1
+
+pub explanation_shown : (file : PlainFile) (reasons : List PlainReason) → Shown (explanation_text file reasons)
+explanation_shown file reasons = ours (explanation_text file reasons) (simp texts)
+
+pub diff_shown : (f g : PlainFile) (d : PlainDifferences) → Shown (diff_text f g d)
+diff_shown f g d = (printed _ _ _ (differences_printed f g d) refl).1
+
+pub place_shown : (path : List ℕ) (place : PlainPlace) → AreBytes path → AreBytes place.text → Shown (text_of_place path place)
+place_shown path place bytes word =
+    let shown = shown_bytes place.text in
+    let front : List ℕ = codes ":" ++ decimal place.line ++ codes ":" ++ decimal place.word ++ codes ": " ++ name_of_kind place.kind
+    ++ before_word place.text in
+    let back : List ℕ = behind_word place.text ++ codes "\n" ++ hint_of_kind place.kind ++ codes "\n" in
+    let same : ((escaped path ++ front) ++ escaped shown) ++ back ≡ text_of_place path place = simp append_assoc in
+    subst Shown same (then (then (then (path_shown path (bytes_from path bytes)) (ours front (simp (pieces, name, before))))
+    (path_shown shown (bytes_from shown (All-take (λ b. b < 256) 60 place.text word)))) (ours back (simp (pieces, hint))))

@@ -5,15 +5,11 @@ use Rattle.std.specs.Char.{encode_utf8}
 use Rattle.std.specs.List.{starts_with}
 use Rattle.std.specs.Str.{all_scalars}
 use Rattle.std.proofs.Math.Seq.{take-add, take-append_seam}
-use Rattle.std.proofs.lemmas.Bool.{and_parts, both_ways, cases_Bool, eqb-true, ne_eqb}
+use Rattle.std.proofs.lemmas.Bool.{not-true, and_parts, both_ways, cases_Bool, eqb-true, ne_eqb}
 use Rattle.std.proofs.lemmas.Bool.Decides.{Decides-eqb, nat_tests}
 use Rattle.std.proofs.lemmas.List.{append_assoc, drop-drop, take_all}
 use Rattle.std.proofs.lemmas.Slice.Eq.{starts_is}
 use Rattle.cats_cmd.specs.Escaping.{code_at, escaped, escaped_behind, escaped_byte, is_plain, is_printable, plain_length}
-
-pub not_true : (b : Bool) → not b ≡ true → b ≡ false
-not_true true e = absurd (cc)
-not_true false e = refl
 
 pub record Plainly (c : ℕ) : Type 0 where
   pub scalar : all_scalars (c ∷ []) ≡ true
@@ -24,7 +20,7 @@ pub plainly : (c : ℕ) → is_plain c ≡ true → Plainly c
 plainly c p =
     let outer = and_parts (all_scalars (c ∷ [])) (is_printable c && not (c == 92)) p in
     let inner = and_parts (is_printable c) (not (c == 92)) outer.1 in
-    record { scalar = outer.0; printable = inner.0; no_backslash = not_true (c == 92) inner.1 }
+    record { scalar = outer.0; printable = inner.0; no_backslash = not-true (c == 92) inner.1 }
 
 -- a character that is not escaped, and behind it these bytes
 pub record Begins (bytes : List ℕ) : Type 0 where

@@ -1,13 +1,10 @@
 -- What is reported of a fault is a line of printable ASCII.
-use Rattle.std.proofs.Common.{◌≡◌, ℕ, ◌-◌, ◌<◌, ◌==◌, true, false, List, [], ◌∷◌, ◌++◌, length, take, refl, sym, ap, ◌∙◌, arith}
+use Rattle.std.proofs.Common.{not, ◌≡◌, ℕ, ◌-◌, ◌<◌, ◌==◌, true, List, [], ◌∷◌, ◌++◌, length, take, refl, sym, ap, ◌∙◌, arith}
 use Rattle.std.specs.Prelude.{codes, decimal, Option, Some, None}
-use Rattle.std.specs.List.{All, list_all}
+use Rattle.std.specs.List.{list_all}
 use Rattle.std.proofs.Math.Seq.{take-append_seam}
-use Rattle.std.proofs.lemmas.Bool.{ne_eqb}
 use Rattle.std.proofs.lemmas.Bool.Decides.{nat_tests}
 use Rattle.std.proofs.lemmas.List.{append_assoc, length-append}
-use Rattle.std.proofs.lemmas.List.Elements.{All-weaker}
-use Rattle.std.proofs.lemmas.List.Sums.{AllPass-from_list_all}
 use Rattle.commands.specs.FaultLines.{line_of_fault, prefix_of, text_of_canon_fault, text_of_heavy_bid, text_of_kind, total_text}
 use Rattle.commands.specs.declared.faults.HeavyBid.{HeavyBid}
 use Rattle.commands.specs.Outputs.{bundle_text, number_cell}
@@ -25,16 +22,14 @@ use Rattle.cats_cmd.specs.declared.errors.RequestError.{RequestError}
 use Rattle.cats_cmd.specs.declared.errors.RequestError.TheVariants.{CannotOpen, NotOpened, Run}
 use Rattle.cats_cmd.specs.declared.source.Unopened.{Unopened}
 use Rattle.cats_cmd.specs.declared.source.Unopened.TheVariants as unopened
-use Rattle.cats_cmd.proofs.PrintableTexts.{ascii_between, is_ascii, list_all-decimal, of_each}
+use Rattle.cats_cmd.proofs.PrintableTexts.{lacks, list_all-weaker, is_ascii, list_all-decimal, of_each}
 
 abbrev pub Plain : List ℕ → Type 0
 Plain text = list_all is_ascii text ≡ true
 
 -- no tab, no line feed, no NUL
-pub plain_lacks : (end : ℕ) → end < 32 → (text : List ℕ) → Plain text → All (λ b. (b == end) ≡ false) text
-plain_lacks end low text plain =
-    All-weaker (λ b. is_ascii b ≡ true) (λ b. (b == end) ≡ false) (λ b is. ne_eqb b end (λ e. absurd (omega (arith, (ascii_between b is).0, e, low)))) text
-    (AllPass-from_list_all is_ascii text plain)
+pub plain_lacks : (end : ℕ) → end < 32 → (text : List ℕ) → Plain text → lacks end text ≡ true
+plain_lacks end low = list_all-weaker is_ascii (λ b. not (b == end)) (λ b is. grind (arith, nat_tests))
 
 -- ---- texts of faults
 

@@ -1,11 +1,10 @@
 -- The parts of a list of paths: what is behind its last NUL is a path only if it is not empty.
-use Rattle.std.proofs.Common.{◌≡◌, ◌≢◌, ℕ, List, [], ◌∷◌, ◌++◌, length, refl, sym, ap, ◌∙◌, subst, arith, map, ◌<◌, false, Bor, Option, Err}
-use Rattle.std.specs.List.{All, slice_split}
+use Rattle.std.proofs.Common.{◌≡◌, ◌≢◌, ℕ, List, [], ◌∷◌, ◌++◌, length, refl, sym, ap, ◌∙◌, subst, arith, map, ◌<◌, true, Bor, Option, Err}
+use Rattle.std.specs.List.{list_all, slice_split}
 use Rattle.std.specs.Prelude.{◌==◌}
-use Rattle.std.proofs.lemmas.Bool.{eq-eqb}
+use Rattle.std.proofs.lemmas.Bool.{and_parts, eq-eqb}
 use Rattle.std.proofs.lemmas.List.{append_assoc, length-map, map-append}
 use Rattle.std.proofs.lemmas.List.Splits.{length-slice_split, slice_split_at}
-use Rattle.std.proofs.lemmas.List.Elements.{All-head, All-tail}
 use Rattle.cats_text.specs.declared.stream.Watched.{Watched}
 use Rattle.cats_text.specs.declared.read_fault.ReadFault.{ReadFault}
 use Rattle.canon.specs.Refusals.{refusal_of}
@@ -16,6 +15,7 @@ use Rattle.cats_cmd.specs.declared.errors.RequestError.TheVariants.{Run}
 use Rattle.commands.specs.declared.faults.RunFault.TheVariants.{Refused}
 use Rattle.cats_cmd.specs.PathLists.{ended, parts_in, paths_in, without_empty_end}
 use Rattle.cats_cmd.specs.declared.source.Unopened.{Unopened}
+use Rattle.cats_cmd.proofs.PrintableTexts.{lacks, none_passes}
 use Rattle.cats_cmd.proofs.ReadingBytes.{unread_stream}
 
 end_dropped : (parts : List (List ℕ)) → without_empty_end (parts ++ [] ∷ []) ≡ parts
@@ -71,15 +71,15 @@ first_of_more : (path : List ℕ) (parts : List (List ℕ)) → 0 < length parts
 first_of_more path [] some = absurd (omega (arith, some))
 first_of_more path (next ∷ more) some = first_whole path next more
 
-pub parts_back : (end : ℕ) (parts : List (List ℕ)) → All (λ part. All (λ b. (b == end) ≡ false) part) parts → parts_in end (ended end parts) ≡ parts
+pub parts_back : (end : ℕ) (parts : List (List ℕ)) → list_all (lacks end) parts ≡ true → parts_in end (ended end parts) ≡ parts
 parts_back end [] plain = refl
 parts_back end (part ∷ parts) plain =
+    let both = and_parts (lacks end part) (list_all (lacks end) parts) plain in
     let cut : slice_split (λ b. b == end) (ended end (part ∷ parts)) ≡ part ∷ slice_split (λ b. b == end) (ended end parts) =
     ap (slice_split (λ b. b == end)) (append_assoc part (end ∷ []) (ended end parts))
-    ∙ slice_split_at (λ b. b == end) part end (ended end parts) (All-head (λ part. All (λ b. (b == end) ≡ false) part) part parts plain)
-    (eq-eqb end end refl) in
+    ∙ slice_split_at (λ b. b == end) part end (ended end parts) (none_passes (λ b. b == end) part both.0) (eq-eqb end end refl) in
     ap without_empty_end cut ∙ first_of_more part (slice_split (λ b. b == end) (ended end parts)) (some_part end (ended end parts))
-    ∙ ap (λ (rest : List (List ℕ)). part ∷ rest) (parts_back end parts (All-tail (λ part. All (λ b. (b == end) ≡ false) part) part parts plain))
+    ∙ ap (λ (rest : List (List ℕ)). part ∷ rest) (parts_back end parts both.1)
 
 -- ---- the stream of a list
 

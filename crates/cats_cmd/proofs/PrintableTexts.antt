@@ -1,34 +1,24 @@
 -- Texts of characters of a kind: ASCII, one text behind another, and a path as it is printed on a line.
-use Rattle.std.proofs.Common.{◌≡◌, ℕ, zero, suc, ◌+◌, ◌/◌, ◌%◌, ◌<◌, ◌==◌, ◌&&◌, ltb, subst, Bool, true, false, cond, List, [], ◌∷◌, ◌++◌, refl}
-use Rattle.std.proofs.Common.{ap₂, ◌∙◌, arith, append-nil, get_or, map}
+use Rattle.std.proofs.Common.{not, ◌≡◌, ℕ, zero, suc, ◌+◌, ◌/◌, ◌%◌, ◌<◌, ◌==◌, ◌&&◌, ltb, subst, Bool, true, false, cond, List, [], ◌∷◌, ◌++◌, refl}
+use Rattle.std.proofs.Common.{ap₂, ◌∙◌, arith, append-nil}
 use Rattle.std.specs.Prelude.{decimal, filter}
 use Rattle.std.specs.Fmt.{digit_glyph, digits, digits_onto}
 use Rattle.std.specs.Char.{digit_char, encode_utf8}
 use Rattle.std.specs.List.{All, flat_map, list_all}
 use Rattle.std.specs.Str.{all_scalars}
 use Rattle.std.proofs.Math.Utf8.{low_scalar, scalar}
-use Rattle.std.proofs.lemmas.Bool.{and_parts, cond_both, lt-ltb, ltb-true}
+use Rattle.std.proofs.lemmas.Bool.{and_from, not-true, not_from_false, and_parts, cond_both, lt-ltb, ltb-true}
 use Rattle.std.proofs.lemmas.Bool.Decides.{nat_tests}
-use Rattle.std.proofs.lemmas.List.Elements.{All-append, All-cons, All-head, All-map, All-nil, All-tail}
+use Rattle.std.proofs.lemmas.List.Elements.{All-weaker, All-append, All-cons, All-nil}
 use Rattle.std.proofs.lemmas.List.Folds.{list_all-append, list_all-map}
+use Rattle.std.proofs.lemmas.List.Sums.{AllPass-from_list_all, list_all-from_AllPass}
 use Rattle.std.proofs.lemmas.Str.{encode_ascii, encodes-append}
 use Rattle.cats_cmd.specs.Escaping.{AreBytes, IsTextOf, escaped, escaped_byte, is_printable}
 use Rattle.cats_cmd.proofs.Escaped.{escaped_by_parts, plainly}
 
--- ---- lists
-
--- what holds of each of some things holds of what is made of them
-pub map_all : {X Y : Type 0} (P : Y → Type 0) (Q : X → Type 0) (f : X → Y) → ((x : X) → Q x → P (f x)) → (xs : List X) → All Q xs → All P (map f xs)
-map_all P Q f each xs are = All-map P f xs (λ k d l. each (get_or xs k d) (are k d l))
-
-pub flat_all : {X Y : Type 0} (P : Y → Type 0) (Q : X → Type 0) (f : X → List Y) → ((x : X) → Q x → All P (f x)) → (xs : List X) → All Q xs
-    → All P (flat_map f xs)
-flat_all P Q f each [] are = All-nil P
-flat_all P Q f each (x ∷ xs) are = All-append P (f x) (flat_map f xs) (each x (All-head Q x xs are)) (flat_all P Q f each xs (All-tail Q x xs are))
-
 -- ---- a test of each element, which `simp` computes of a text
 
-pub list_all-flat_map : {X : Type 0} (p : ℕ → Bool) (f : X → List ℕ) (xs : List X) → list_all p (flat_map f xs) ≡ list_all (λ x. list_all p (f x)) xs
+pub list_all-flat_map : {X Y : Type 0} (p : Y → Bool) (f : X → List Y) (xs : List X) → list_all p (flat_map f xs) ≡ list_all (λ x. list_all p (f x)) xs
 list_all-flat_map p f [] = refl
 list_all-flat_map p f (x ∷ xs) = simp (list_all-append, list_all-flat_map p f xs)
 
@@ -50,6 +40,35 @@ list_all-filter p test (x ∷ xs) e =
     let both = and_parts (p x) (list_all p xs) e in
     let rest = list_all-filter p test xs both.1 in
     cond_both (test x) (x ∷ filter test xs) (filter test xs) (λ ys. list_all p ys ≡ true) (λ t. rw both.0 rest) (λ t. rest)
+
+pub list_all-weaker : {X : Type 0} (p q : X → Bool) → ((x : X) → p x ≡ true → q x ≡ true) → (xs : List X) → list_all p xs ≡ true → list_all q xs ≡ true
+list_all-weaker p q weaker [] e = refl
+list_all-weaker p q weaker (x ∷ xs) e =
+    let both = and_parts (p x) (list_all p xs) e in and_from (q x) (list_all q xs) (weaker x both.0) (list_all-weaker p q weaker xs both.1)
+
+pub list_all-both : {X : Type 0} (p : X → Bool) (xs ys : List X) → list_all p xs ≡ true → list_all p ys ≡ true → list_all p (xs ++ ys) ≡ true
+list_all-both p xs ys e f = rw list_all-append (and_from (list_all p xs) (list_all p ys) e f)
+
+-- what holds of each of some things, as a test of each
+pub list_all-from_All : {X : Type 0} (P : X → Type 0) (p : X → Bool) → ((x : X) → P x → p x ≡ true) → (xs : List X) → All P xs → list_all p xs ≡ true
+list_all-from_All P p passes xs are = list_all-from_AllPass p xs (All-weaker P (λ x. p x ≡ true) passes xs are)
+
+-- no element passes
+pub none_passes : {X : Type 0} (p : X → Bool) (xs : List X) → list_all (λ x. not (p x)) xs ≡ true → All (λ x. p x ≡ false) xs
+none_passes p xs e = All-weaker (λ x. not (p x) ≡ true) (λ x. p x ≡ false) (λ x. not-true (p x)) xs (AllPass-from_list_all (λ x. not (p x)) xs e)
+
+-- the text does not have this byte
+abbrev pub lacks : ℕ → List ℕ → Bool
+lacks end text = list_all (λ b. not (b == end)) text
+
+pub lacks_from : (end : ℕ) (text : List ℕ) → All (λ b. (b == end) ≡ false) text → lacks end text ≡ true
+lacks_from end = list_all-from_All (λ b. (b == end) ≡ false) (λ b. not (b == end)) (λ b. not_from_false (b == end))
+
+abbrev pub are_bytes : List ℕ → Bool
+are_bytes text = list_all (λ b. ltb b 256) text
+
+pub bytes_from : (text : List ℕ) → AreBytes text → are_bytes text ≡ true
+bytes_from = list_all-from_All (λ b. b < 256) (λ b. ltb b 256) (λ b. lt-ltb b 256)
 
 pub ruleset of_each = (list_all-append, list_all-flat_map, list_all-map, list_all-filter, list_all-cond, cond-same, list_all-true)
 
@@ -127,14 +146,13 @@ byte_ascii b l =
     simp (list_all-cond, cond-same, lt-ltb b 256 l, digit_ascii)
 
 -- a path as it is printed
-pub printable : (path : List ℕ) → AreBytes path → IsTextOf is_printable (escaped path)
-printable = escaped_by_parts (λ path text. AreBytes path → IsTextOf is_printable text) (λ bytes. no_text is_printable)
-    (λ b bs text is bytes. text_behind is_printable (escaped_byte b) text
-    (ascii_text is_printable is_ascii ascii_printable (escaped_byte b) (byte_ascii b (All-head (λ c. c < 256) b bs bytes)))
-    (is (All-tail (λ c. c < 256) b bs bytes)))
-    (λ c bs text p is bytes. let says = plainly c p in text_behind is_printable (encode_utf8 c) text (character_text is_printable c says.scalar says.printable)
-    (is (All-behind (λ c. c < 256) (encode_utf8 c) bs bytes)))
-  where
-    All-behind : (P : ℕ → Type 0) (xs ys : List ℕ) → All P (xs ++ ys) → All P ys
-    All-behind P [] ys are = are
-    All-behind P (x ∷ xs) ys are = All-behind P xs ys (All-tail P x (xs ++ ys) are)
+pub printable : (path : List ℕ) → are_bytes path ≡ true → IsTextOf is_printable (escaped path)
+printable = escaped_by_parts (λ path text. are_bytes path ≡ true → IsTextOf is_printable text) (λ bytes. no_text is_printable)
+    (λ b bs text is bytes.
+    let parts = and_parts (ltb b 256) (are_bytes bs) bytes in
+    text_behind is_printable (escaped_byte b) text
+    (ascii_text is_printable is_ascii ascii_printable (escaped_byte b) (byte_ascii b (ltb-true b 256 parts.0))) (is parts.1))
+    (λ c bs text p is bytes.
+    let says = plainly c p in
+    text_behind is_printable (encode_utf8 c) text (character_text is_printable c says.scalar says.printable)
+    (is (and_parts (are_bytes (encode_utf8 c)) (are_bytes bs) (rw list_all-append at bytes)).1))

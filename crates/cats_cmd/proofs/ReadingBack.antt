@@ -5,20 +5,19 @@ use Rattle.std.proofs.Common.{arith, append-nil, not, ltb}
 use Rattle.std.specs.Prelude.{nat_lt}
 use Rattle.std.specs.Char.{encode_utf8}
 use Rattle.std.specs.List.{All, list_all}
-use Rattle.std.proofs.lemmas.Bool.{cond_both, eqb-true, ltb-true, and_parts}
+use Rattle.std.proofs.lemmas.Bool.{not-true, cond_both, eqb-true, ltb-true, and_parts}
 use Rattle.std.proofs.lemmas.Bool.Decides.{nat_tests}
 use Rattle.std.proofs.lemmas.List.{append_assoc}
-use Rattle.std.proofs.lemmas.List.Elements.{All-append, All-nil, All-weaker}
-use Rattle.std.proofs.lemmas.List.Sums.{AllPass-from_list_all, fold-append}
+use Rattle.std.proofs.lemmas.List.Sums.{fold-append}
 use Rattle.std.proofs.lemmas.Str.{digit_value-digit_char}
 use Rattle.cats_cmd.specs.Escaping.{Plain, Reading, escaped, escaped_byte, hex_escape, is_control_byte, is_plain}
 use Rattle.cats_cmd.specs.Escaping.{reads_byte, unescaped}
-use Rattle.cats_cmd.proofs.Escaped.{escaped_by_parts, not_true, plainly}
-use Rattle.cats_cmd.proofs.PrintableTexts.{cond-same, list_all-cond}
+use Rattle.cats_cmd.proofs.Escaped.{escaped_by_parts, plainly}
+use Rattle.cats_cmd.proofs.PrintableTexts.{list_all-both, list_all-weaker, none_passes, cond-same, list_all-cond}
 
 -- ---- no control bytes
 
-abbrev is_harmless : ℕ → Bool
+abbrev pub is_harmless : ℕ → Bool
 is_harmless b = not (is_control_byte b)
 
 -- nor a backslash
@@ -41,17 +40,13 @@ byte_harmless b = grind (arith, nat_tests)
 kept_harmless : (b : ℕ) → is_kept b ≡ true → is_harmless b ≡ true
 kept_harmless b e = (and_parts (not (b == 92)) (is_harmless b) e).1
 
-abbrev IsHarmless : ℕ → Type 0
-IsHarmless b = is_control_byte b ≡ false
+pub harmless_all : (path : List ℕ) → list_all is_harmless (escaped path) ≡ true
+harmless_all = escaped_by_parts (λ path text. list_all is_harmless text ≡ true) refl
+    (λ b bs text is. list_all-both is_harmless (escaped_byte b) text (byte_harmless b) is)
+    (λ c bs text p is. list_all-both is_harmless (encode_utf8 c) text (list_all-weaker is_kept is_harmless kept_harmless (encode_utf8 c) (plain_kept c p)) is)
 
-all_harmless : (test : ℕ → Bool) → ((b : ℕ) → test b ≡ true → is_harmless b ≡ true) → (text : List ℕ) → list_all test text ≡ true → All IsHarmless text
-all_harmless test sound text e =
-    All-weaker (λ b. test b ≡ true) IsHarmless (λ b is. not_true (is_control_byte b) (sound b is)) text (AllPass-from_list_all test text e)
-
-pub harmless : (path : List ℕ) → All IsHarmless (escaped path)
-harmless = escaped_by_parts (λ path text. All IsHarmless text) (All-nil IsHarmless)
-    (λ b bs text is. All-append IsHarmless (escaped_byte b) text (all_harmless is_harmless (λ b e. e) (escaped_byte b) (byte_harmless b)) is)
-    (λ c bs text p is. All-append IsHarmless (encode_utf8 c) text (all_harmless is_kept kept_harmless (encode_utf8 c) (plain_kept c p)) is)
+pub harmless : (path : List ℕ) → All (λ b. is_control_byte b ≡ false) (escaped path)
+harmless path = none_passes is_control_byte (escaped path) (harmless_all path)
 
 -- ---- read back
 
@@ -80,7 +75,7 @@ kept_back : (bytes : List ℕ) → list_all is_kept bytes ≡ true → IsReadAs 
 kept_back [] e front = ap whole (sym (append-nil front))
 kept_back (b ∷ bytes) e front =
     let parts = and_parts (is_kept b) (list_all is_kept bytes) e in
-    let no_backslash = not_true (b == 92) (and_parts (not (b == 92)) (is_harmless b) parts.0).0 in
+    let no_backslash = not-true (b == 92) (and_parts (not (b == 92)) (is_harmless b) parts.0).0 in
     rw no_backslash (kept_back bytes parts.1 (front ++ b ∷ []) ∙ ap whole (append_assoc front (b ∷ []) bytes))
 
 read_then : (text bytes more rest : List ℕ) → IsReadAs text bytes → IsReadAs more rest → IsReadAs (text ++ more) (bytes ++ rest)

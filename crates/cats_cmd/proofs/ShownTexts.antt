@@ -1,20 +1,20 @@
 -- The lines that name paths, and the texts of `cats duplicates` and `cats sizes`: what is printed there beside paths is ASCII of ours.
-use Rattle.std.proofs.Common.{◌≡◌, ℕ, ◌<◌, ◌==◌, ◌||◌, Bool, true, false, List, [], ◌∷◌, ◌++◌, length, map, refl, sym, subst, arith}
-use Rattle.std.specs.Prelude.{codes, decimal, filter}
-use Rattle.std.specs.List.{All, flat_map, list_all, range_with_len}
+use Rattle.std.proofs.Common.{◌≡◌, ℕ, ◌<◌, ◌==◌, ◌||◌, Bool, true, List, [], ◌∷◌, ◌++◌, refl, sym, subst, arith}
+use Rattle.std.specs.Prelude.{codes, decimal}
+use Rattle.std.specs.List.{All, flat_map, list_all}
+use Rattle.std.proofs.lemmas.Bool.{and_parts}
 use Rattle.std.proofs.lemmas.Bool.Decides.{nat_tests}
-use Rattle.std.proofs.lemmas.List.Elements.{All-append, All-filter, All-head, All-tail, All-weaker}
-use Rattle.cats_cmd.specs.DuplicateTexts.{after_empty_lines, duplicates_text, groups_of, groups_text, is_printed, lines_of, printed_groups}
+use Rattle.std.proofs.lemmas.List.Elements.{All-weaker}
+use Rattle.cats_cmd.specs.DuplicateTexts.{duplicates_text, groups_text, lines_of, printed_groups}
 use Rattle.cats_cmd.specs.Escaping.{AreBytes, IsTextOf, end_of, escaped, is_printable, is_shown, path_text}
 use Rattle.cats_cmd.specs.Paths.{Judgement, progress_line, refusal_line}
 use Rattle.cats_cmd.specs.RequestErrors.{line_of_request_error}
-use Rattle.commands.specs.SizesRows.{cells}
-use Rattle.cats_cmd.specs.SizesTables.{MakesTable, columns, row, rows_of_table, sizes_header}
+use Rattle.cats_cmd.specs.SizesTables.{MakesTable, row, sizes_header}
 use Rattle.cats_cmd.specs.declared.paths.Ending.TheVariants.{Line}
 use Rattle.cats_cmd.specs.declared.errors.RequestError.{RequestError}
 use Rattle.cats_cmd.proofs.FaultTexts.{Plain, error_line}
-use Rattle.cats_cmd.proofs.OutputPaths.{paths_all, words_plain}
-use Rattle.cats_cmd.proofs.PrintableTexts.{ascii_text, is_ascii, list_all-decimal, no_text, printable, text_behind}
+use Rattle.cats_cmd.proofs.OutputPaths.{printed_all, words_of, words_plain}
+use Rattle.cats_cmd.proofs.PrintableTexts.{are_bytes, bytes_from, list_all-from_All, ascii_text, is_ascii, list_all-decimal, no_text, printable, text_behind}
 
 abbrev pub Shown : List ℕ → Type 0
 Shown text = IsTextOf is_shown text
@@ -41,14 +41,15 @@ pub then : {xs ys : List ℕ} → Shown xs → Shown ys → Shown (xs ++ ys)
 then {xs} {ys} x y = text_behind is_shown xs ys x y
 
 -- what is shown of each of some things is shown of all
-flat_shown : {X : Type 0} (Q : X → Type 0) (f : X → List ℕ) → ((x : X) → Q x → Shown (f x)) → (xs : List X) → All Q xs → Shown (flat_map f xs)
-flat_shown Q f each [] are = no_text is_shown
-flat_shown Q f each (x ∷ xs) are = then (each x (All-head Q x xs are)) (flat_shown Q f each xs (All-tail Q x xs are))
+flat_shown : {X : Type 0} (q : X → Bool) (f : X → List ℕ) → ((x : X) → q x ≡ true → Shown (f x)) → (xs : List X) → list_all q xs ≡ true
+    → Shown (flat_map f xs)
+flat_shown q f each [] are = no_text is_shown
+flat_shown q f each (x ∷ xs) are = let both = and_parts (q x) (list_all q xs) are in then (each x both.0) (flat_shown q f each xs both.1)
 
 number : (n : ℕ) → Shown (decimal n)
 number n = ours (decimal n) (number_ours n)
 
-pub path_shown : (path : List ℕ) → AreBytes path → Shown (escaped path)
+pub path_shown : (path : List ℕ) → are_bytes path ≡ true → Shown (escaped path)
 path_shown path bytes =
     let text = printable path bytes in
     record {
@@ -70,47 +71,43 @@ error_shown error =
 -- ---- lines that name a path
 
 pub refusal_shown : (path : List ℕ) (error : RequestError) → AreBytes path → Shown (refusal_line path error)
-refusal_shown path error bytes = then (then (path_shown path bytes) (ours (codes ": ") refl)) (error_shown error)
+refusal_shown path error bytes = then (then (path_shown path (bytes_from path bytes)) (ours (codes ": ") refl)) (error_shown error)
 
 pub progress_shown : (k n : ℕ) (path : List ℕ) → AreBytes path → Shown (progress_line k n path)
 progress_shown k n path bytes =
-    then (then (then (then (then (number k) (ours (codes " of ") refl)) (number n)) (ours (codes " ") refl)) (path_shown path bytes)) (ours (codes "\n") refl)
+    then (then (then (then (then (number k) (ours (codes " of ") refl)) (number n)) (ours (codes " ") refl)) (path_shown path (bytes_from path bytes)))
+    (ours (codes "\n") refl)
 
-line : (path : List ℕ) → AreBytes path → Shown (path_text Line path)
+line : (path : List ℕ) → are_bytes path ≡ true → Shown (path_text Line path)
 line path bytes = then (path_shown path bytes) (ours (codes "\n") refl)
 
 -- ---- groups
 
-lines : (paths : List (List ℕ)) → All AreBytes paths → Shown (lines_of Line paths)
-lines paths are = flat_shown AreBytes (path_text Line) line paths are
+lines : (paths : List (List ℕ)) → list_all are_bytes paths ≡ true → Shown (lines_of Line paths)
+lines = flat_shown are_bytes (path_text Line) line
 
-after : (groups : List (List (List ℕ))) → All (All AreBytes) groups → Shown (after_empty_lines Line groups)
-after groups are =
-    flat_shown (All AreBytes) (λ paths. end_of Line ++ lines_of Line paths) (λ paths is. then (ours (codes "\n") refl) (lines paths is)) groups are
-
-groups_shown : (groups : List (List (List ℕ))) → All (All AreBytes) groups → Shown (groups_text Line groups)
+groups_shown : (groups : List (List (List ℕ))) → list_all (list_all are_bytes) groups ≡ true → Shown (groups_text Line groups)
 groups_shown [] are = no_text is_shown
-groups_shown (paths ∷ groups) are = then (lines paths (All-head (All AreBytes) paths groups are)) (after groups (All-tail (All AreBytes) paths groups are))
-
-printed_shown : (all : Bool) (found : List (List ℕ × ℕ)) → All (λ f. AreBytes f.0) found → All (All AreBytes) (filter (is_printed all) (groups_of found))
-printed_shown all found are =
-    All-filter (is_printed all) (All AreBytes) (groups_of found) (paths_all AreBytes found are (range_with_len 0 (length found)))
+groups_shown (paths ∷ groups) are =
+    let both = and_parts (list_all are_bytes paths) (list_all (list_all are_bytes) groups) are in
+    then (lines paths both.0) (flat_shown (list_all are_bytes) (λ paths. end_of Line ++ lines_of Line paths)
+    (λ paths is. then (ours (codes "\n") refl) (lines paths is)) groups both.1)
 
 pub duplicates_shown : (all : Bool) (judged heavy : List (List ℕ × ℕ)) → All (λ f. AreBytes f.0) judged → All (λ f. AreBytes f.0) heavy
     → Shown (duplicates_text Line all judged heavy)
 duplicates_shown all judged heavy are others =
-    groups_shown (printed_groups all judged heavy)
-    (All-append (All AreBytes) (filter (is_printed all) (groups_of judged)) (filter (is_printed false) (groups_of heavy)) (printed_shown all judged are)
-    (printed_shown false heavy others))
+    let of = list_all-from_All (λ (f : List ℕ × ℕ). AreBytes f.0) (λ f. are_bytes f.0) (λ f. bytes_from f.0) in
+    groups_shown (printed_groups all judged heavy) (printed_all are_bytes all judged heavy (of judged are) (of heavy others))
 
 -- ---- tables
 
-cells_shown : (words : List (List ℕ)) → All Plain words → Shown (cells words)
-cells_shown words are = flat_shown Plain (λ word. word ++ codes "\t") (λ word plain. then (plain_shown word plain) (ours (codes "\t") refl)) words are
-
-rows_shown : (js : List (List ℕ × Judgement)) → All (λ j. AreBytes j.0) js → Shown (rows_of_table Line js)
-rows_shown js are = flat_shown (λ (j : List ℕ × Judgement). AreBytes j.0) (λ j. row Line j.0 j.1)
-    (λ j is. then (cells_shown (map (λ c. c.1 j.1) columns) (words_plain j.1)) (line j.0 is)) js are
+row_shown : (path : List ℕ) (j : Judgement) → are_bytes path ≡ true → Shown (row Line path j)
+row_shown path j bytes =
+    then (flat_shown (list_all is_ascii) (λ word. word ++ codes "\t") (λ word plain. then (plain_shown word plain) (ours (codes "\t") refl)) (words_of j)
+    (words_plain j)) (line path bytes)
 
 pub table_shown : (js : List (List ℕ × Judgement)) (text : List ℕ) → All (λ j. AreBytes j.0) js → MakesTable Line js text → Shown text
-table_shown js text are makes = subst Shown (sym makes) (then (ours (sizes_header Line) refl) (rows_shown js are))
+table_shown js text are makes =
+    subst Shown (sym makes) (then (ours (sizes_header Line) refl)
+    (flat_shown (λ (j : List ℕ × Judgement). are_bytes j.0) (λ j. row Line j.0 j.1) (λ j. row_shown j.0 j.1) js
+    (list_all-from_All (λ (j : List ℕ × Judgement). AreBytes j.0) (λ j. are_bytes j.0) (λ j. bytes_from j.0) js are)))
