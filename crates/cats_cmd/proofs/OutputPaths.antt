@@ -8,7 +8,6 @@ use Rattle.std.proofs.lemmas.Bool.{and_from, and_parts, lt-ltb, ltb-true, ne_eqb
 use Rattle.std.proofs.lemmas.Bool.Decides.{nat_tests}
 use Rattle.std.proofs.lemmas.Grind.{flat_map-append}
 use Rattle.std.proofs.lemmas.List.{append_assoc, length-map}
-use Rattle.std.proofs.lemmas.List.Elements.{All-head, All-tail}
 use Rattle.std.proofs.lemmas.List.Folds.{list_all-map}
 use Rattle.std.proofs.lemmas.List.Splits.{slice_split_at, slice_split_none}
 use Rattle.cats_cmd.specs.DuplicateTexts.{after_empty_lines, duplicates_text, groups_text, lines_of, printed_groups}
@@ -23,7 +22,8 @@ use Rattle.cats_cmd.specs.declared.paths.Ending.TheVariants.{Line, Null}
 use Rattle.cats_cmd.proofs.FaultTexts.{fault_plain, number_plain, plain_lacks}
 use Rattle.cats_cmd.proofs.Grouping.{printed_have_paths}
 use Rattle.cats_cmd.proofs.ListingPaths.{parts_back}
-use Rattle.cats_cmd.proofs.PrintableTexts.{is_ascii, lacks, lacks_from, list_all-both, list_all-flat_map, list_all-from_All, list_all-weaker, none_passes, of_each}
+use Rattle.cats_cmd.proofs.PrintableTexts.{is_ascii, lacks, lacks_from, list_all-both, list_all-flat_map, list_all-from_All, list_all-weaker}
+use Rattle.cats_cmd.proofs.PrintableTexts.{none_passes, of_each}
 use Rattle.cats_cmd.proofs.ReadingBack.{harmless_all, is_harmless, read_back}
 
 -- ---- a printed path
@@ -127,17 +127,13 @@ module _ (ending : Ending) where
   group_back [] = refl
   group_back (path ∷ paths) = simp (printed_back, group_back paths)
 
-  groups_back : (groups : List (List (List ℕ))) → All (λ paths. 0 < length paths) groups
+  groups_back : (groups : List (List (List ℕ))) → list_all has_lines groups ≡ true
       → map (map (read_path ending)) (filter has_lines (map (map line) groups)) ≡ groups
   groups_back [] some = refl
   groups_back (paths ∷ groups) some =
-      let more = All-head (λ ps. 0 < length ps) paths groups some in
-      let long = length-map paths line in
-      let has : has_lines (map line paths) ≡ true = lt-ltb 0 (length (map line paths)) (omega (arith, more, long)) in
-      rw has (ap₂ (λ (g : List (List ℕ)) (gs : List (List (List ℕ))). g ∷ gs) (group_back paths)
-      (groups_back groups (All-tail (λ ps. 0 < length ps) paths groups some)))
+      let both = and_parts (has_lines paths) (list_all has_lines groups) some in simp (length-map, both.0, group_back paths, groups_back groups both.1)
 
-  all_back : (groups : List (List (List ℕ))) → list_all (list_all is_path) groups ≡ true → All (λ paths. 0 < length paths) groups
+  all_back : (groups : List (List (List ℕ))) → list_all (list_all is_path) groups ≡ true → list_all has_lines groups ≡ true
       → groups_in ending (groups_text ending groups) ≡ groups
   all_back [] are some = refl
   all_back (paths ∷ groups) are some =
