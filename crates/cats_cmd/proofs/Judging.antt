@@ -159,46 +159,11 @@ groups_heavy before after path copy number is kept file facts added put heavy js
 
 -- ---- the file at a path
 
-module _ {C F : Type 0} (Has : C → List (List ℕ × Judgement) → Type 0) (may_open : List ℕ → F → Type 0) (may_refuse : List ℕ → Unopened → Type 0)
-    (remaining : F → Option (List ℕ)) (options : SearchOptions) (prices : Prices) (path : List ℕ) (kept more : C) where
-  opened_judges : (before after : PricedInput F) → IsPriced may_open prices path before → (j : Judgement)
+module _ {F : Type 0} (may_open : List ℕ → F → Type 0) (may_refuse : List ℕ → Unopened → Type 0) (remaining : F → Option (List ℕ))
+    (options : SearchOptions) (prices : Prices) (path : List ℕ) where
+  pub opened_judges : (before after : PricedInput F) → IsPriced may_open prices path before → (j : Judgement)
       → JudgesInput (PricedGives remaining) (PricedRefuses remaining) options before after j
       → JudgesAs may_open may_refuse remaining options prices path after.rounded j
   opened_judges before after opened (IsUnjudged (CannotOpen which)) judges = absurd judges
   opened_judges before after opened (IsUnjudged (NotOpened why)) judges = absurd judges
   opened_judges before after opened judgement judges = record { before = before; after = after; opened = opened; judges = judges; count = refl }
-
-  -- the file of a stream that was opened at the path was judged
-  pub file_added : (before after : PricedInput F) → IsPriced may_open prices path before → (error : Option RequestError)
-      → AddsOpened Has (PricedGives remaining) (PricedRefuses remaining) options path kept more before after error → (rounded : ℕ)
-      → rounded ≡ after.rounded → AddsFile Has may_open may_refuse remaining options prices path kept more rounded error
-  file_added before after opened error a rounded count = record {
-    judgement = a.judgement;
-    judges = rw count (opened_judges before after opened a.judgement a.judges);
-    adds = a.adds;
-    is_error = a.is_error;
-  }
-
-  -- no stream was opened at the path
-  pub file_unopened : (why : Unopened) → AddsJudgement Has path (IsUnjudged (NotOpened why)) kept more → IsUnopened may_refuse path why
-      → AddsFile Has may_open may_refuse remaining options prices path kept more 0 (Some (NotOpened why))
-  file_unopened why adds refuses = record {
-    judgement = IsUnjudged (NotOpened why);
-    judges = (refuses, refl);
-    adds = adds;
-    is_error = refl;
-  }
-
-  -- the file was judged, and reported
-  pub path_judged : {E : Type 0} (messages : E → Option (List ℕ)) (reporting : Reporting) (count number rounded : ℕ) (err err_after : Watched E)
-      (error : Option RequestError) (status : ℕ) → AddsFile Has may_open may_refuse remaining options prices path kept more rounded error
-      → ReportsAll messages (lines_on reporting count number path rounded error) err err_after → status ≡ status_if error
-      → AddsPath Has may_open may_refuse remaining options prices messages reporting count number path kept more err err_after status
-  path_judged messages reporting count number rounded err err_after error status a reports is = record {
-    judgement = a.judgement;
-    rounded = rounded;
-    judges = a.judges;
-    adds = a.adds;
-    reports = rw a.is_error at reports;
-    is_status = is ∙ ap status_if a.is_error;
-  }

@@ -34,24 +34,18 @@ reports_more messages (line ∷ lines) more a b c first then = (first.0, first.1
 
 lines_push : (reporting : Reporting) (count number : ℕ) (js : List JudgedPath) (j : JudgedPath)
     → lines_from reporting count number (js ++ j ∷ []) ≡ lines_from reporting count number js ++ lines_of_path reporting count (number + length js) j
-lines_push reporting count number [] j =
-    let same : number ≡ number + 0 = omega arith in
-    append-nil (lines_of_path reporting count number j) ∙ ap (λ (n : ℕ). lines_of_path reporting count n j) same
+lines_push reporting count number [] j = let same : number + 0 ≡ number = omega arith in rw same (append-nil (lines_of_path reporting count number j))
 lines_push reporting count number (i ∷ js) j =
     let same : suc number + length js ≡ number + suc (length js) = omega arith in
-    ap (λ (rest : List (List ℕ)). lines_of_path reporting count number i ++ rest)
-    (lines_push reporting count (suc number) js j
-    ∙ ap (λ (n : ℕ). lines_from reporting count (suc number) js ++ lines_of_path reporting count n j) same)
-    ∙ sym (append_assoc (lines_of_path reporting count number i) (lines_from reporting count (suc number) js)
-    (lines_of_path reporting count (number + suc (length js)) j))
+    rw (lines_push reporting count (suc number) js j, same)
+    (sym (append_assoc (lines_of_path reporting count number i) (lines_from reporting count (suc number) js)
+    (lines_of_path reporting count (number + suc (length js)) j)))
 
 -- only how many prices of each file were rounded, if refusals are not reported, nor how many files were read
 pub roundings_reported : (count number : ℕ) (js : List JudgedPath)
     → lines_from (without_refusals Silent) count number js ≡ flat_map (λ j. rounding_lines j.path j.rounded) js
 roundings_reported count number [] = refl
-roundings_reported count number (j ∷ js) =
-    rw (append-nil (rounding_lines j.path j.rounded ++ []), append-nil (rounding_lines j.path j.rounded))
-    (ap (λ (rest : List (List ℕ)). rounding_lines j.path j.rounded ++ rest) (roundings_reported count (suc number) js))
+roundings_reported count number (j ∷ js) = simp (append-nil, roundings_reported count (suc number) js)
 
 -- what is reported of one path
 pub path_reported : {E : Type 0} (messages : E → Option (List ℕ)) (first then more last : List (List ℕ)) (a b c d e : Watched E)
@@ -60,16 +54,6 @@ pub path_reported : {E : Type 0} (messages : E → Option (List ℕ)) (first the
 path_reported messages first then more last a b c d e one two three four =
     reports_more messages (first ++ then ++ more) last a d e
     (reports_more messages (first ++ then) more a c d (reports_more messages first then a b c one two) three) four
-
-module _ {E : Type 0} (messages : E → Option (List ℕ)) (number : ℕ) (old new : Watched E) where
-  pub hundreds_reported : (count : ℕ) (path : List ℕ) → is_counted number count ≡ true → Reports messages (progress_line number count path) old new
-      → ReportsAll messages (progress_lines Lines number count path) old new
-  hundreds_reported count path is reports = rw is (new, reports, refl)
-
-  pub removal_reported : (progress : Progress) (text : List ℕ) → progress ≡ Terminal → 1 < number → text ≡ line_removal → Reports messages text old new
-      → ReportsAll messages (removal_lines progress number) old new
-  removal_reported progress text is more same reports =
-      rw is (rw (lt-ltb 1 number more) (new, subst (λ (line : List ℕ). Reports messages line old new) same reports, refl))
 
 -- ---- the paths so far
 

@@ -73,21 +73,13 @@ pub row_put : (ending : Ending) (rows longer path numbers all given : List ℕ) 
     → given ≡ all → longer ≡ rows ++ (given ++ path_text ending path)
     → (js : List (List ℕ × Judgement)) → rows ≡ rows_of_table ending js → longer ≡ rows_of_table ending (js ++ (path, j) ∷ [])
 row_put ending rows longer path numbers all given j error is whole why same put js h =
-    put
-    ∙ ap (λ (text : List ℕ). rows ++ (text ++ path_text ending path))
-    (same ∙ whole ∙ ap (λ (e : Option RequestError). numbers ++ (fault_cell e ++ codes "\t")) why
-    ∙ ap (λ (text : List ℕ). text ++ (fault_cell (request_error_of j) ++ codes "\t")) is ∙ sym (row_cells j))
-    ∙ ap (λ (text : List ℕ). text ++ row ending path j) h
-    ∙ sym (row_more ending js path j)
+    rw (put, same, whole, why, is, h, row_more ending js path j)
+    (ap (λ (text : List ℕ). rows_of_table ending js ++ (text ++ path_text ending path)) (sym (row_cells j)))
 
 -- the cell of the fault
 pub fault_put : (text longer line : List ℕ) (error : Option RequestError) (why : RequestError) (size end : ℕ) → error ≡ Some why
     → line ≡ line_of_request_error why → size ≡ length line → end ≡ size - 1 → longer ≡ text ++ take end line → longer ≡ text ++ fault_cell error
-fault_put text longer line error why size end some is long before put =
-    put
-    ∙ ap (λ (n : ℕ). text ++ take n line) (before ∙ ap (λ (n : ℕ). n - 1) long)
-    ∙ ap (λ (l : List ℕ). text ++ without_end l) is
-    ∙ ap (λ (e : Option RequestError). text ++ fault_cell e) (sym some)
+fault_put text longer line error why size end some is long before put = rw (put, before, long, is, some) refl
 
 pub no_fault_put : (text : List ℕ) (error : Option RequestError) → error ≡ None → text ≡ text ++ fault_cell error
-no_fault_put text error none = sym (ap (λ (e : Option RequestError). text ++ fault_cell e) none ∙ append-nil text)
+no_fault_put text error none = rw none (sym (append-nil text))

@@ -1,14 +1,27 @@
 -- `judge`
+use Rattle.std.proofs.Common.{refl}
+use Rattle.cats_cmd.specs.Paths.{IsUnjudged}
+use Rattle.cats_cmd.specs.declared.errors.RequestError.TheVariants.{NotOpened}
 use Rattle.cats_cmd.proofs.CarryingOut.{is_priced}
-use Rattle.cats_cmd.proofs.Judging.{file_added, file_unopened}
+use Rattle.cats_cmd.proofs.Judging.{opened_judges}
 use Rattle.cats_cmd.proofs.paths.judge.Goals as goal
 
 pub returns-in_ok-error-in-Ok-clause-adds : goal.returns-in_ok-error-in-Ok-clause-adds
 returns-in_ok-error-in-Ok-clause-adds g c =
-    file_added _ _ _ _ _ _ _ _ _ _ _
-    (is_priced _ _ _ c.in-Ok.stream _ c.new-input.ensures.stream c.new-input.ensures.fine c.new-input.ensures.unread c.in-Ok.ensures.opened) _
-    c.in_ok-error-in-Ok.ensures _ c.rounded.ensures
+    let a = c.in_ok-error-in-Ok.ensures in
+    record {
+      judgement = a.judgement;
+      judges = rw c.rounded.ensures (opened_judges _ _ _ _ _ _ _ _
+          (is_priced _ _ _ c.in-Ok.stream _ c.new-input.ensures.stream c.new-input.ensures.fine c.new-input.ensures.unread c.in-Ok.ensures.opened)
+          a.judgement a.judges);
+      adds = a.adds;
+      is_error = a.is_error;
+    }
 
 pub returns-in_ok-add_unopened-in-Err-clause-adds : goal.returns-in_ok-add_unopened-in-Err-clause-adds
-returns-in_ok-add_unopened-in-Err-clause-adds g c =
-    file_unopened _ _ _ _ _ _ _ _ _ c.in-Err.why c.in_ok-add_unopened-in-Err.ensures c.in-Err.ensures.refused
+returns-in_ok-add_unopened-in-Err-clause-adds g c = record {
+  judgement = IsUnjudged (NotOpened c.in-Err.why);
+  judges = (c.in-Err.ensures.refused, refl);
+  adds = c.in_ok-add_unopened-in-Err.ensures;
+  is_error = refl;
+}

@@ -1,8 +1,8 @@
 -- `report_hundreds`
-use Rattle.std.proofs.Common.{rules, tests}
-use Rattle.cats_cmd.proofs.JudgingPaths.{hundreds_reported}
+use Rattle.std.proofs.Common.{◌≡◌, true, refl, rules, tests}
+use Rattle.cats_cmd.specs.Paths.{is_counted}
 use Rattle.cats_cmd.proofs.paths.report_hundreds.Goals as goal
 
 pub returns-then-turn-eq0 : goal.returns-then-turn-eq0
 returns-then-turn-eq0 g c =
-    hundreds_reported _ c.args.turn.now.number _ _ c.args.turn.now.count c.args.turn.now.path.now (search (rules, tests)) c.report_last.ensures
+    let counted : is_counted c.args.turn.now.number c.args.turn.now.count ≡ true = search (rules, tests) in rw counted (_, c.report_last.ensures, refl)
