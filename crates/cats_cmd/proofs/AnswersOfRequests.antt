@@ -170,45 +170,41 @@ module _ {F W E : Type 0} (may_open : List ℕ → F → Type 0) (may_refuse : L
             rw other at (rw one at ran.reports),
       )
 
-  -- a request for one or two files that answered has the status 0 or 1, or has written nothing, unless it has found a fault
-  answered : (request : PlainRequest) (err_after : Watched E) (status : ℕ) → Ran request err_after (Ok status) → is_for_many_files request ≡ false
-      → has_found status request ≡ false → (status ≤ 1) ⊎ (out_after ≡ out)
-  answered (OnFile path prices command) err_after status ran few none = (kept_on path prices command err_after (named_bids command) (Ok status) ran).0
-  answered (OnPair first second prices command limits) err_after status ran few none =
-      (kept_both first second prices (comparison_of command limits) err_after (Ok status) ran).0
-  answered (OnFiles files) err_after status ran few none = absurd (cc)
-  answered (Fault file) err_after status ran few none =
-      let made = ran.0.runs in inl (none_printed file (first_place made.given) status made.text made.made none)
-  answered (Round file exact) err_after status ran few none = let made = ran.runs.made in let is : 0 ≡ status = cc in inl (omega (arith, is))
+  -- A request for one or two files that answered has the status 0 or 1, or has written nothing, unless it has found a fault. It has reported
+  -- nothing, unless it is one that reports. One that failed has written nothing, unless its output failed.
+  abbrev KeptFor : PlainRequest → Watched E → Result ℕ RunFault → Type 0
+  KeptFor request err_after (Ok status) =
+      (is_for_many_files request ≡ false → has_found status request ≡ false → (status ≤ 1) ⊎ (out_after ≡ out))
+      × (is_reporting request ≡ false → status ≤ 1 → err_after ≡ err)
+  KeptFor request err_after (Err fault) = is_for_many_files request ≡ false → IsSilent (Run fault) out out_after
 
-  -- a request that answered has reported nothing, unless it is one that reports
-  quiet : (request : PlainRequest) (err_after : Watched E) (status : ℕ) → Ran request err_after (Ok status) → is_reporting request ≡ false
-      → status ≤ 1 → err_after ≡ err
-  quiet (OnFile path prices command) err_after status ran plain most = (kept_on path prices command err_after (named_bids command) (Ok status) ran).1 plain most
-  quiet (OnPair first second prices command limits) err_after status ran plain most =
-      (kept_both first second prices (comparison_of command limits) err_after (Ok status) ran).1 plain most
-  quiet (Fault file) err_after status ran plain most = ran.1
-  quiet request err_after status ran plain most = absurd (cc)
-
-  -- a request that failed has written nothing, unless its output failed
-  silent_fault : (request : PlainRequest) (err_after : Watched E) (fault : RunFault) → Ran request err_after (Err fault)
-      → is_for_many_files request ≡ false → IsSilent (Run fault) out out_after
-  silent_fault (OnFile path prices command) err_after fault ran few = kept_on path prices command err_after (named_bids command) (Err fault) ran
-  silent_fault (OnPair first second prices command limits) err_after fault ran few =
-      kept_both first second prices (comparison_of command limits) err_after (Err fault) ran
-  silent_fault (OnFiles files) err_after fault ran few = absurd (cc)
-  silent_fault (Fault file) err_after (Refused which fault) ran few = ran.0.runs.2
-  silent_fault (Fault file) err_after (Sent fault) ran few = tt
-  silent_fault (Fault file) err_after fault ran few = absurd ran.0.runs
-  silent_fault (Round file exact) err_after (Refused which fault) ran few = ran.runs.silent
-  silent_fault (Round file exact) err_after (Sent fault) ran few = tt
-  silent_fault (Round file exact) err_after fault ran few = absurd ran.runs
+  kept_for : (request : PlainRequest) (err_after : Watched E) (answer : Result ℕ RunFault) → Ran request err_after answer → KeptFor request err_after answer
+  kept_for (OnFile path prices command) err_after (Ok status) ran =
+      let kept = kept_on path prices command err_after (named_bids command) (Ok status) ran in ((λ few none. kept.0), kept.1)
+  kept_for (OnFile path prices command) err_after (Err fault) ran = λ few. kept_on path prices command err_after (named_bids command) (Err fault) ran
+  kept_for (OnPair first second prices command limits) err_after (Ok status) ran =
+      let kept = kept_both first second prices (comparison_of command limits) err_after (Ok status) ran in ((λ few none. kept.0), kept.1)
+  kept_for (OnPair first second prices command limits) err_after (Err fault) ran =
+      λ few. kept_both first second prices (comparison_of command limits) err_after (Err fault) ran
+  kept_for (OnFiles files) err_after (Ok status) ran = ((λ few none. absurd (cc)), (λ plain most. absurd (cc)))
+  kept_for (OnFiles files) err_after (Err fault) ran = λ few. absurd (cc)
+  kept_for (Fault file) err_after (Ok status) ran =
+      let made = ran.0.runs in
+      ((λ few none. inl (none_printed file (first_place made.given) status made.text made.made none)), (λ plain most. ran.1))
+  kept_for (Fault file) err_after (Err (Refused which fault)) ran = λ few. ran.0.runs.2
+  kept_for (Fault file) err_after (Err (Sent fault)) ran = λ few. tt
+  kept_for (Fault file) err_after (Err fault) ran = absurd ran.0.runs
+  kept_for (Round file exact) err_after (Ok status) ran =
+      let made = ran.runs.made in let is : 0 ≡ status = cc in ((λ few none. inl (omega (arith, is))), (λ plain most. absurd (cc)))
+  kept_for (Round file exact) err_after (Err (Refused which fault)) ran = λ few. ran.runs.silent
+  kept_for (Round file exact) err_after (Err (Sent fault)) ran = λ few. tt
+  kept_for (Round file exact) err_after (Err fault) ran = absurd ran.runs
 
   silent_request : (request : PlainRequest) (err_after : Watched E) (error : RequestError) → Carried request err_after (Err error)
       → is_for_many_files request ≡ false → IsSilent error out out_after
   silent_request request err_after (CannotOpen which) ran few = ran.1
   silent_request request err_after (NotOpened why) ran few = absurd ran
-  silent_request request err_after (Run fault) ran few = silent_fault request err_after fault ran few
+  silent_request request err_after (Run fault) ran few = kept_for request err_after (Err fault) ran few
 
   module _ (request : PlainRequest) (err_after : Watched E) (status : ℕ) where
     abbrev Answered : Type 0
@@ -219,13 +215,13 @@ module _ {F W E : Type 0} (may_open : List ℕ → F → Type 0) (may_refuse : L
         → out_after ≡ out
     silent_answer (inl ran) few none a b c =
         ⊎_elim (λ (most : status ≤ 1). absurd (omega (arith, most, a, b))) (λ (silent : out_after ≡ out). silent)
-        (answered request err_after status ran few none)
+        ((kept_for request err_after (Ok status) ran).0 few none)
     silent_answer (inr s) few none a b c =
         silent_unless_failed s.error out out_after (silent_request request s.between s.error s.carries few) (λ five. c (s.is_status ∙ five))
 
     -- the statuses 0 and 1 say that nothing was reported
     pub done_answer : Answered → is_reporting request ≡ false → status ≤ 1 → err_after ≡ err
-    done_answer (inl ran) few most = quiet request err_after status ran few most
+    done_answer (inl ran) few most = (kept_for request err_after (Ok status) ran).1 few most
     done_answer (inr s) few most = let least = error_status_above s.error in let is = s.is_status in absurd (omega (arith, least, is, most))
 
   pub failed_request : (request : PlainRequest) (error : RequestError) (between err_after : Watched E) (status : ℕ) → Carried request between (Err error)

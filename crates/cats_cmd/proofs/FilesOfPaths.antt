@@ -1,13 +1,13 @@
 -- The files at paths: each path adds its own behind those of the paths before it.
-use Rattle.std.proofs.Common.{◌≡◌, inl, inr, ℕ, ◌+◌, ◌<◌, length, get_or, take, List, [], ◌∷◌, ◌++◌, map, refl, sym, ap, ◌∙◌, subst, true, false, Option, Some}
-use Rattle.std.proofs.Common.{None, Result, Ok, Err, Vec, append-nil, ⊎_elim}
+use Rattle.std.proofs.Common.{◌≡◌, inl, inr, ℕ, ◌+◌, ◌<◌, length, get_or, take, List, [], ◌∷◌, ◌++◌, map, refl, sym, ap, ◌∙◌, subst, Option, Some}
+use Rattle.std.proofs.Common.{None, Result, Ok, Err, Vec, append-nil}
 use Rattle.std.specs.Borrow.{Bor}
 use Rattle.std.specs.Global.{Global}
 use Rattle.std.specs.Prelude.{IfOk}
 use Rattle.std.specs.declared.alloc.AllocError.{AllocError}
 use Rattle.std.specs.List.{flat_map}
 use Rattle.std.specs.Str.{IsUtf8, is_utf8}
-use Rattle.std.proofs.lemmas.Bool.{cases_Bool}
+use Rattle.std.proofs.lemmas.Bool.{false_from_ne_true}
 use Rattle.std.proofs.lemmas.List.{map-append, map_push}
 use Rattle.std.proofs.lemmas.List.Elements.{All-nil, All-push}
 use Rattle.std.proofs.lemmas.Grind.{flat_map-append}
@@ -27,10 +27,7 @@ module _ (may_find : List ℕ → Option (List (List ℕ)) → Type 0) where
 
   -- nothing is looked for at another
   pub found_at_none : (path : List ℕ) → (IsUtf8 path → ⊥) → FindsAt may_find path None
-  found_at_none path broken = ⊎_elim
-      (λ (e : is_utf8 path ≡ true). absurd (broken (IsUtf8-from_is_utf8 path e)))
-      (λ (e : is_utf8 path ≡ false). inr e)
-      (cases_Bool (is_utf8 path))
+  found_at_none path broken = inr (false_from_ne_true (is_utf8 path) (λ e. broken (IsUtf8-from_is_utf8 path e)))
 
   pub no_paths : AreFilesAt may_find [] []
   no_paths = record { found = []; of_paths = refl; finds = All-nil (λ (f : FoundAt). FindsAt may_find f.path f.found); is = refl }

@@ -1,5 +1,5 @@
 -- The file at one path: what reading its input says of it, in the words of the run.
-use Rattle.std.proofs.Common.{◌≡◌, ℕ, List, [], ◌∷◌, ◌++◌, Option, None, Some, refl, ap, ap₂, ◌∙◌, subst, inl, inr}
+use Rattle.std.proofs.Common.{◌≡◌, ℕ, List, [], ◌∷◌, ◌++◌, Option, None, Some, refl, ap, ap₂, subst, inl, inr}
 use Rattle.std.specs.Global.{Global}
 use Rattle.std.specs.Prelude.{Vec}
 use Rattle.bid_file.specs.Files.{PlainFile, IsPlainFile}
@@ -9,7 +9,6 @@ use Rattle.cats_text.specs.Faults.{fault_at}
 use Rattle.cats_text.specs.declared.read_fault.Kind.{Kind}
 use Rattle.cats_text.specs.declared.read_fault.Kind.TheVariants.{Memory as NoMemory}
 use Rattle.cats_text.specs.declared.read_fault.ReadFault.{ReadFault}
-use Rattle.cats_text.specs.declared.stream.Watched.{Watched}
 use Rattle.valuation.specs.Auctions.{or_atoms_of}
 use Rattle.prune.specs.SearchSteps.{first_refused}
 use Rattle.canon.specs.Answers.{RefusesAs}
@@ -25,11 +24,9 @@ use Rattle.commands.specs.declared.faults.HeavyBid.{HeavyBid}
 use Rattle.commands.specs.Naming.{with_bid}
 use Rattle.commands.specs.Outcomes.{exceeds_at, first_bid_on, text_unless_refused}
 use Rattle.cats_cmd.specs.PricedInputs.{IsPriced, PricedGives, PricedRefuses}
-use Rattle.cats_cmd.specs.Internal.Judging.{AddsFile, AddsJudgement, AddsOpened, AddsPath, AddsRefused, KeepsGroups}
-use Rattle.cats_cmd.specs.Paths.{IsUnopened, Judgement, IsHeavy, IsJudged, IsUnjudged, JudgesAs, JudgesInput, Reporting, lines_on, status_if}
+use Rattle.cats_cmd.specs.Internal.Judging.{AddsJudgement, AddsOpened, AddsRefused, KeepsGroups}
+use Rattle.cats_cmd.specs.Paths.{Judgement, IsHeavy, IsJudged, IsUnjudged, JudgesAs, JudgesInput}
 use Rattle.cats_cmd.proofs.Skipping.{groups_skip}
-use Rattle.cats_cmd.specs.RequestErrors.{ReportsAll}
-use Rattle.cats_cmd.specs.declared.errors.RequestError.{RequestError}
 use Rattle.cats_cmd.specs.declared.errors.RequestError.TheVariants.{CannotOpen, NotOpened, Run}
 use Rattle.cats_cmd.specs.declared.priced_input.PricedInput.{PricedInput}
 use Rattle.commands.specs.declared.faults.RunFault.TheVariants.{Refused}

@@ -1,12 +1,12 @@
 -- Paths that were opened, and more of them behind these.
 use Rattle.std.proofs.Common.{◌≡◌, inr, ℕ, ◌+◌, ◌<◌, List, [], ◌∷◌, ◌++◌, length, map, get_or, take, refl, sym, ap, ◌∙◌, arith}
-use Rattle.std.proofs.Common.{append-nil, ⊎_elim, true, false, Option, Some, None, Result, Ok, Err, Bor}
+use Rattle.std.proofs.Common.{append-nil, Option, Some, None, Result, Ok, Err, Bor}
 use Rattle.std.specs.Prelude.{IsErr, IsErrAnd}
 use Rattle.std.specs.Str.{IsUtf8, is_utf8}
 use Rattle.std.specs.declared.alloc.AllocError.{AllocError}
 use Rattle.std.proofs.lemmas.List.{append_assoc, take_all, take-map}
 use Rattle.std.proofs.lemmas.List.Elements.{filter-append}
-use Rattle.std.proofs.lemmas.Bool.{cases_Bool}
+use Rattle.std.proofs.lemmas.Bool.{false_from_ne_true}
 use Rattle.std.proofs.lemmas.Str.{IsUtf8-from_is_utf8}
 use Rattle.canon.specs.declared.canon_fault.CanonFault.TheVariants.{Memory}
 use Rattle.canon.specs.declared.which.Which.TheVariants.{Only}
@@ -71,13 +71,7 @@ module _ {S H : Type 0} (content_of : S → H) (opened : S → Option (List (Lis
 
 -- ---- the path of one file
 
-not_openable : (path : List ℕ) → (IsUtf8 path → ⊥) → [] ≡ openable (path ∷ [])
-not_openable path broken = ⊎_elim
-    (λ (e : is_utf8 path ≡ true). absurd (broken (IsUtf8-from_is_utf8 path e)))
-    (λ (e : is_utf8 path ≡ false). rw e refl)
-    (cases_Bool (is_utf8 path))
-
 module _ {S H : Type 0} (content_of : S → H) (opened : S → Option (List (List ℕ))) where
   pub opens_broken : (source : S) (path : List ℕ) → (IsUtf8 path → ⊥) → Opens content_of opened source source (openable (path ∷ []))
   opens_broken source path broken =
-      rw (← not_openable path broken) (opens_none content_of opened source)
+      rw (false_from_ne_true (is_utf8 path) (λ e. broken (IsUtf8-from_is_utf8 path e))) (opens_none content_of opened source)

@@ -1,9 +1,9 @@
 -- The bytes of a stream: those that came so far, and why they were not all read.
 use Rattle.std.proofs.Common.{◌≡◌, ◌<◌, ◌≤◌, ◌+◌, ℕ, Bool, true, false, ◌||◌, List, [], ◌∷◌, ◌++◌, length, take, refl, sym, ap, ◌∙◌, subst, arith}
-use Rattle.std.proofs.Common.{append-nil, length-append, Option, Ok, ⊎_elim, inl, inr}
+use Rattle.std.proofs.Common.{append-nil, length-append, Option, Ok, inl, inr}
 use Rattle.std.specs.Io.KnownBytes.{Consumes}
 use Rattle.std.proofs.KnownBytes.{Consumes-trans}
-use Rattle.std.proofs.lemmas.Bool.{cases_lt, ne_eqb}
+use Rattle.std.proofs.lemmas.Bool.{ne_eqb}
 use Rattle.cats_text.specs.Streams.{inner_of, has_ended, has_failed, moved_nothing}
 use Rattle.cats_text.specs.declared.read_fault.Kind.{Kind}
 use Rattle.cats_text.specs.declared.read_fault.Kind.TheVariants.{Device, TooLong}
@@ -55,10 +55,7 @@ module _ {R : Type 0} (remaining : R → Option (List ℕ)) where
       record {
         bytes = bytes ++ piece;
         consumes = Consumes-trans (remaining (inner_of old)) (remaining (inner_of between)) (remaining (inner_of new)) bytes piece came gave;
-        some = ⊎_elim
-            (λ (p : 0 < n). omega (arith, all, p))
-            (λ (q : n ≤ 0). absurd (some (omega (arith, q))))
-            (cases_lt 0 n);
+        some = omega (arith, all, some);
         within = omega (arith, all, within);
         works = works;
         unended = unended;

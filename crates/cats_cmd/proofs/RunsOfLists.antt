@@ -1,5 +1,5 @@
 -- A run on the files of a list that was read: it is the run on the paths in it, or memory was refused for these and no file was opened.
-use Rattle.std.proofs.Common.{◌≡◌, inl, inr, ℕ, List, Option, Result, Ok, Err, refl, subst}
+use Rattle.std.proofs.Common.{◌≡◌, inl, inr, ℕ, List, Option, Result, Ok, Err, refl}
 use Rattle.std.specs.Prelude.{IsErrAnd}
 use Rattle.cats_text.specs.declared.stream.Watched.{Watched}
 use Rattle.canon.specs.declared.canon_fault.CanonFault.TheVariants.{Memory}
@@ -22,13 +22,5 @@ module _ {F W E : Type 0} (may_open : List ℕ → F → Type 0) (may_refuse : L
   pub list_run : (paths : List (List ℕ)) → paths ≡ paths_in bytes → (out out_after : Watched W) (err err_after : Watched E) (answer : Result ℕ RunFault)
       → RunsAtPaths may_find Runs paths out out_after err err_after answer
       → RunsOnList may_open may_refuse remaining messages (RunsAtPaths may_find Runs) list out out_after err err_after answer
-  list_run paths same out out_after err err_after (Ok status) runs = inl (record {
-    bytes = bytes;
-    reads = reads;
-    runs = subst (λ (ps : List (List ℕ)). RunsAtPaths may_find Runs ps out out_after err err_after (Ok status)) same runs;
-  })
-  list_run paths same out out_after err err_after (Err fault) runs = record {
-    bytes = bytes;
-    reads = reads;
-    runs = subst (λ (ps : List (List ℕ)). RunsAtPaths may_find Runs ps out out_after err err_after (Err fault)) same runs;
-  }
+  list_run paths same out out_after err err_after (Ok status) runs = inl (record { bytes = bytes; reads = reads; runs = rw same at runs })
+  list_run paths same out out_after err err_after (Err fault) runs = record { bytes = bytes; reads = reads; runs = rw same at runs }

@@ -13,7 +13,7 @@ use Rattle.commands.specs.declared.faults.RunFault.TheVariants.{Refused}
 use Rattle.commands.specs.SizesRows.{Sized, IsSized, IsTooHeavy, IsUnsized, Sizes, cells, fault_sized, numbers_sized}
 use Rattle.cats_cmd.specs.Paths.{Judgement, IsHeavy, IsJudged, IsUnjudged, JudgesInput, request_error_of}
 use Rattle.cats_cmd.specs.RequestErrors.{line_of_request_error}
-use Rattle.cats_cmd.specs.SizesTables.{columns, fault_cell, number_columns, row, rows_of_table, without_end}
+use Rattle.cats_cmd.specs.SizesTables.{columns, fault_cell, number_columns, row, rows_of_table}
 use Rattle.cats_cmd.specs.Escaping.{path_text}
 use Rattle.cats_cmd.specs.declared.paths.Ending.{Ending}
 use Rattle.cats_cmd.specs.declared.errors.RequestError.{RequestError}
