@@ -1,9 +1,8 @@
 -- What a command answered of a text is given: a text with its status, or a fault.
-use Rattle.std.proofs.Common.{◌≡◌, ◌≢◌, inl, inr, ℕ, List, [], Option, Some, Result, Ok, Err, refl, sym, ap, subst}
+use Rattle.std.proofs.Common.{rules, arith, ◌≡◌, ◌≢◌, inl, inr, ℕ, List, [], Option, Some, Result, Ok, Err, refl, sym, subst}
 use Rattle.bid_file.specs.Files.{PlainFile}
 use Rattle.cats_text.specs.Faults.{fault_at}
 use Rattle.cats_text.specs.Grammar.{Spells}
-use Rattle.cats_text.specs.Layout.{layout}
 use Rattle.cats_text.specs.declared.read_fault.Kind.TheVariants.{Memory as NoMemory}
 use Rattle.cats_text.specs.declared.read_fault.ReadFault.{ReadFault}
 use Rattle.valuation.specs.declared.search.options.SearchOptions.{SearchOptions}
@@ -13,21 +12,20 @@ use Rattle.canon.specs.declared.canon_fault.CanonFault.TheVariants.{Read, StepLi
 use Rattle.canon.specs.declared.which.Which.{Which}
 use Rattle.canon.specs.declared.which.Which.TheVariants.{Only, First, Second, Both}
 use Rattle.rounding.specs.declared.replacement.FinePrices.{FinePrices}
-use Rattle.commands.specs.FaultLines.{line_of_fault, prefix_of}
-use Rattle.commands.specs.Statuses.{status_of_fault}
+use Rattle.commands.specs.FaultLines.{prefix_of}
 use Rattle.commands.specs.declared.faults.RunFault.{RunFault}
-use Rattle.commands.specs.declared.faults.RunFault.TheVariants.{Refused, TooHeavy, GoodRange, BidRange, Sent}
-use Rattle.commands.specs.Commands.{AnswersBy, Commands, GivesWithin, IsRefused, IsWantOfMemory, Makes, text_of}
+use Rattle.commands.specs.declared.faults.RunFault.TheVariants.{Refused, TooHeavy}
+use Rattle.commands.specs.Commands.{AnswersBy, Commands, IsRefused, IsWantOfMemory, text_of}
 use Rattle.commands.specs.Outcomes.{Outcome, Prints, naming_outcome, normalise_outcome}
 use Rattle.commands.specs.Pairs.{CommandsBoth, CommandsOnBoth}
 use Rattle.commands.specs.SizesRows.{AnswersRow}
 use Rattle.commands.specs.declared.answer.Answer.{Answer}
 use Rattle.commands.specs.declared.answer.Output.{Output}
 use Rattle.commands.specs.declared.answer.Output.TheVariants as output
-use Rattle.commands.specs.Buffers.{Calls, Gives, GivesFault, GivesOutput, GivesText, RefusesBy}
+use Rattle.commands.specs.Buffers.{Calls, Gives, GivesFault, GivesOutput}
 use Rattle.commands.specs.DuplicatesCalls.{AnswersFirsts, DuplicatesCalls, SaysFirsts}
 use Rattle.commands.specs.FaultCalls.{AnswersPlace, AnswersPlaceBy, FaultCalls, IsUnplaced, SaysPlace}
-use Rattle.commands.specs.OneText.{CallsOn, IsRefusedText, IsUnmade, MakesOf, OfOnly, PrintsOf}
+use Rattle.commands.specs.OneText.{CallsOn, IsRefusedText, IsUnmade, OfOnly, PrintsOf}
 use Rattle.commands.specs.Refusals.{MayWantMemory, RefusesText, TextGives, TextRefuses, text_fault, text_read}
 use Rattle.commands.specs.Roundings.{AnswersRounding, GivesReport, GivesRounded, RoundCalls, whole_status}
 use Rattle.commands.specs.SizesCalls.{SaysRow, SizesCalls}
@@ -40,11 +38,6 @@ use Rattle.commands.proofs.Refusing.{text_fault-of_bytes}
 
 -- ---- an answer of which this is said
 
-refused_by : (Refuses : RunFault → Type 0) (fault : RunFault) → Refuses fault → (old new : List ℕ) (needed answer : ℕ)
-    → GivesFault fault old new needed answer → RefusesBy Refuses (status_of_fault fault) (line_of_fault fault) needed
-refused_by Refuses fault refused old new needed answer g =
-    record { fault = fault; refused = refused; is_status = refl; is_line = refl; is_needed = g.is_needed }
-
 module _ (Says : ℕ → List ℕ → Type 0) (Refuses : RunFault → Type 0) where
   -- a text and its status, or a fault. Memory may be wanted for the text of a file
   abbrev IsSaid : Which → Result Answer RunFault → Type 0
@@ -52,19 +45,14 @@ module _ (Says : ℕ → List ℕ → Type 0) (Refuses : RunFault → Type 0) wh
   IsSaid which (Err fault) = Refuses fault
 
   module _ (old new : List ℕ) (needed answer : ℕ) where
-    given_text : (status : ℕ) (text : List ℕ) → Says status text → GivesText status text old new needed answer → Calls Says Refuses old new needed answer
-    given_text status text says g = record { status = status; text = text; is = inl (says, g.is_needed); puts = g.puts }
-
     given_fault : (fault : RunFault) → Refuses fault → GivesFault fault old new needed answer → Calls Says Refuses old new needed answer
-    given_fault fault refused g = record {
-      status = status_of_fault fault; text = line_of_fault fault; is = inr (refused_by Refuses fault refused old new needed answer g); puts = g.puts;
-    }
+    given_fault fault refused g = search rules
 
     -- want of memory is reported of no file alone
     given_output : (which : Which) → prefix_of which ≡ [] → Refuses (Refused which Memory) → (status : ℕ) (o : Output) → Says status (text_of o)
         → GivesOutput status o old new needed answer → Calls Says Refuses old new needed answer
-    given_output which alone refused status (output.Text text) says g = given_text status text.items says g
-    given_output which alone refused status (output.File file) says (inl g) = given_text status (layout file) says g
+    given_output which alone refused status (output.Text text) says g = search rules
+    given_output which alone refused status (output.File file) says (inl g) = search rules
     given_output which alone refused status (output.File file) says (inr g) =
         given_fault (Refused which Memory) refused (record { is_needed = rw alone g.is_needed; puts = rw alone g.puts })
 
@@ -85,10 +73,9 @@ given_by Says r is old new needed answer g = given Says IsWantOfMemory old new n
 -- ---- one text
 
 -- why reading a text gives no file, but for want of memory
-pub found_fault : (fine : Option FinePrices) (text : List ℕ) (why : ReadFault) → why.kind ≢ NoMemory → RefusesText fine text why
+found_fault : (fine : Option FinePrices) (text : List ℕ) (why : ReadFault) → why.kind ≢ NoMemory → RefusesText fine text why
     → text_fault fine text ≡ Some why
-found_fault fine text why other (inl found) = found
-found_fault fine text why other (inr wants) = absurd (other (ap (λ (fault : ReadFault). fault.kind) wants.0))
+found_fault fine text why other refused = grind arith
 
 wanted_memory : (fine : Option FinePrices) (text : List ℕ) → RefusesText fine text (fault_at 0 NoMemory) → MayWantMemory fine text
 wanted_memory fine text (inl found) = absurd ((rw found at (text_fault-of_bytes fine text)).1 refl)
@@ -99,29 +86,19 @@ abbrev read : Text → List ℕ
 read text = text_read text.fine text.bytes.now
 
 module _ (text after : Text) where
-  abbrev within : (options : SearchOptions) (file : PlainFile) → GivesWithin TextGives TextRefuses options text after file
-      → SpellsWithinLimit options (read text)
-  within options file g = record { file = file; spelled = g.given; within_limit = g.within }
-
   module _ (outcome : PlainFile → Outcome) where
-    made_of : (expected : Outcome) → Makes TextGives TextRefuses outcome text after expected → MakesOf outcome (read text) expected
-    made_of expected m = record { file = m.file; spelled = m.given; made = m.made }
-
     unmade_of : (fault : CanonFault) → IsRefused TextGives TextRefuses outcome text after fault → IsUnmade outcome text.fine text.bytes.now fault
     unmade_of (Read why) h = found_fault text.fine text.bytes.now why h.0 h.1
-    unmade_of (StepLimit goods) h = made_of _ h
+    unmade_of (StepLimit goods) h = search rules
     unmade_of Memory (inl why) = inl (wanted_memory text.fine text.bytes.now why)
-    unmade_of Memory (inr given) = inr (record { file = given.file; spelled = given.given })
+    unmade_of Memory (inr given) = search rules
 
     said : (r : Result Answer RunFault) → Commands TextGives TextRefuses outcome text after r
         → IsSaid (PrintsOf outcome (read text)) (IsRefusedText outcome text.fine text.bytes.now) Only r
-    said (Ok a) is = (made_of _ is, inr (record { file = is.file; spelled = is.given }))
+    said (Ok a) is = search rules
     said (Err (Refused which fault)) is =
         subst (λ (w : Which). IsRefusedText outcome text.fine text.bytes.now (Refused w fault)) (sym is.0) (unmade_of fault is.1)
-    said (Err (TooHeavy which heavy)) is = (is.0, made_of _ is.1)
-    said (Err (GoodRange good)) is = made_of _ is
-    said (Err (BidRange bid)) is = made_of _ is
-    said (Err (Sent fault)) is = absurd is
+    said (Err fault) is = search rules
 
     pub given_call : (r : Result Answer RunFault) → Commands TextGives TextRefuses outcome text after r
         → (old new : List ℕ) (needed answer : ℕ) → Gives r old new needed answer → CallsOn outcome text.fine text.bytes.now old new needed answer
@@ -151,7 +128,7 @@ given_duplicates options chosen is_chosen fine read is_fine texts r is old new n
 module _ (text : List ℕ) where
   place_by : (status : ℕ) (o : Output) → AnswersPlaceBy text status o → (old new : List ℕ) (needed answer : ℕ)
       → GivesOutput status o old new needed answer → FaultCalls text old new needed answer
-  place_by status (output.Text out) says old new needed answer g = given_text _ _ old new needed answer status out.items says g
+  place_by status (output.Text out) says old new needed answer g = search rules
   place_by status (output.File file) says old new needed answer g = absurd says
 
   pub given_place : (r : Result Answer RunFault) → AnswersPlace text r
@@ -177,15 +154,10 @@ module _ (options : SearchOptions) (first first_after second second_after : Text
       let said = says h.given h.gives a.status (text_of a.output) h.made in
       let texts = both a.status (text_of a.output) said in
       (said, (texts.0, texts.1, refl))
-  said_of_both (Err (Refused First fault)) h = unmade_of first first_after (refusal options) fault h.why
-  said_of_both (Err (Refused Second fault)) h =
-      (within first first_after options h.left h.given, unmade_of other second_after (refusal options) fault h.why)
-  said_of_both (Err (Refused Both fault)) h =
-      (within first first_after options h.files.0 h.given.0, within other second_after options h.files.1 h.given.1, h.memory)
-  said_of_both (Err (TooHeavy First heavy)) h = made_of first first_after (refusal options) _ h.why
-  said_of_both (Err (TooHeavy Second heavy)) h =
-      (within first first_after options h.left h.given, made_of other second_after (refusal options) _ h.why)
-  said_of_both (Err fault) h = absurd h
+  said_of_both (Err (Refused First fault)) h = search (rules, unmade_of first first_after (refusal options) fault h.why)
+  said_of_both (Err (Refused Second fault)) h = search (rules, unmade_of other second_after (refusal options) fault h.why)
+  said_of_both (Err (TooHeavy First heavy)) h = search rules
+  said_of_both (Err fault) h = search rules
 
 module _ (first first_after second second_after : Text) (r : Result Answer RunFault) (old new : List ℕ) (needed answer : ℕ) where
   pub given_comparison : (comparison : Comparison)
@@ -194,17 +166,14 @@ module _ (first first_after second second_after : Text) (r : Result Answer RunFa
   given_comparison (Compare options) is =
       given _ _ old new needed answer Both refl r (said_of_both options first first_after second second_after normalise_outcome _ _
       (ComparesTexts options (read first) (text_read first.fine second.bytes.now))
-      (λ files given status out made. record {
-        first = within first first_after options files.0 given.0;
-        second = within (record second { fine = first.fine }) second_after options files.1 given.1;
-        made = made;
-      }) (λ status out said. (said.first, said.second)) r is)
+      (λ files given status out made. record { first = search rules; second = search rules; made = made })
+      (λ status out said. (said.first, said.second)) r is)
   given_comparison (Diff options) is =
       given _ _ old new needed answer Both refl r (said_of_both options first first_after second second_after naming_outcome _ _
       (DiffsTexts options (read first) (text_read first.fine second.bytes.now))
       (λ compared g status out made. record {
-        first = within first first_after options compared.0 g.given.0;
-        second = within (record second { fine = first.fine }) second_after options compared.1 g.given.1;
+        first = search rules;
+        second = search rules;
         differences = compared.2;
         all = g.all;
         made = made;
@@ -218,27 +187,5 @@ module _ (fine : FinePrices) (bytes : List ℕ) where
       → (report_old report_new : List ℕ) (report_needed reported : ℕ) → GivesReport r report_old report_new report_needed reported
       → (answer : ℕ) → answer ≡ whole_status given reported
       → RoundCalls fine bytes old new needed report_old report_new report_needed answer
-  given_rounding (Ok a) is old new needed given g report_old report_new report_needed reported r answer whole = record {
-    status = 0;
-    text = a.text.items;
-    report = a.report.items;
-    is = inl (refl, is, g.is_needed);
-    is_report_needed = r.is_needed;
-    given = given;
-    puts = g.puts;
-    reported = reported;
-    puts_report = r.puts;
-    is_answer = whole;
-  }
-  given_rounding (Err fault) is old new needed given g report_old report_new report_needed reported r answer whole = record {
-    status = status_of_fault fault;
-    text = line_of_fault fault;
-    report = [];
-    is = inr (record { fault = fault; refused = is; is_status = refl; is_line = refl; is_needed = g.is_needed }, refl);
-    is_report_needed = r.is_needed;
-    given = given;
-    puts = g.puts;
-    reported = reported;
-    puts_report = r.puts;
-    is_answer = whole;
-  }
+  given_rounding (Ok a) is old new needed given g report_old report_new report_needed reported r answer whole = search rules
+  given_rounding (Err fault) is old new needed given g report_old report_new report_needed reported r answer whole = search rules
