@@ -1,8 +1,8 @@
 -- The number of a bid. The best of a bidder's bids on a bundle is the only one there that is found.
-use Rattle.std.proofs.Common.{◌≡◌, ℕ, ◌<◌, ◌≤◌, Bool, true, ◌&&◌, ⊎_elim, List, length, get_or, sym, ap, ◌∙◌, subst, arith, Option, Some}
+use Rattle.std.proofs.Common.{◌≡◌, ℕ, ◌<◌, Bool, true, ◌&&◌, List, length, get_or, sym, ap, ◌∙◌, subst, arith, Option, Some}
 use Rattle.std.specs.Prelude.{Contains}
 use Rattle.std.specs.List.{find, position_or_len}
-use Rattle.std.proofs.lemmas.Bool.{and_from, and_parts, both_ways, cases_lt}
+use Rattle.std.proofs.lemmas.Bool.{and_from, and_parts}
 use Rattle.std.proofs.lemmas.List.{get_or_default}
 use Rattle.std.proofs.lemmas.List.Elements.{Contains-get_or}
 use Rattle.std.proofs.lemmas.List.Folds.{find_at}
@@ -20,11 +20,7 @@ use Rattle.analysis.proofs.Explaining.KeptBidsBest.{best-once, one_key_sym}
 
 -- the first element that passes is there if another one passes
 pub first_within : {X : Type 0} (p : X → Bool) (xs : List X) (x : X) → Contains xs x → p x ≡ true → position_or_len p xs < length xs
-first_within p xs x c t =
-    ⊎_elim (λ (l : position_or_len p xs < length xs). l)
-    (λ (l : length xs ≤ position_or_len p xs).
-    let off = fails_before_first p xs c.0 x (omega (arith, c.1)) in absurd (both_ways (p x) (sym (ap p c.2) ∙ off) t))
-    (cases_lt (position_or_len p xs) (length xs))
+first_within p xs x c t = grind (arith, fails_before_first p xs c.0 x)
 
 find_only : {X : Type 0} (p : X → Bool) (xs : List X) (x : X) → Contains xs x → p x ≡ true → ((y : X) → Contains xs y → p y ≡ true → y ≡ x)
     → find p xs ≡ Some x

@@ -3,6 +3,7 @@ use Rattle.std.proofs.Common.{◌≡◌, ◌<◌, ◌≤◌, ◌⊎◌, inl, inr
 use Rattle.std.proofs.Common.{take, Option, None, Some, is_some, Result, Ok, Err, IfErr, IfSome, sym, ap, ◌∙◌, subst, refl}
 use Rattle.std.proofs.lemmas.Bool.{le-leb, lt-leb}
 use Rattle.std.proofs.lemmas.List.{take_all}
+use Rattle.std.proofs.lemmas.Result.{IfErr-weaker}
 use Rattle.cats_text.specs.Faults.{first_fault, has_bid_line}
 use Rattle.cats_text.specs.Fed.{Fed, fed_fault}
 use Rattle.cats_text.specs.Reading.{FeedsAs, FeedsOn, PackedAnswer, WantsMemory}
@@ -52,8 +53,7 @@ short_answer text written short (Err why) h = rw written (short_refused text.byt
 
 pub read_memory : (fine : Option FinePrices) (text : List ℕ) (r : Result PlainFile ReadFault) → IfErr r (RefusesText fine text)
     → IfErr r (λ fault. fault.kind ≡ NoMemory → fault.line ≡ 0)
-read_memory fine text (Ok file) h = tt
-read_memory fine text (Err why) h = memory_line fine text why h
+read_memory fine text r h = IfErr-weaker r _ _ (memory_line fine text) h
 
 -- what a reader that was fed a text that is too long answers
 module _ (text : List ℕ) (long : MAX_STREAM < length text) (why : ReadFault) where

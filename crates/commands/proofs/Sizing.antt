@@ -1,10 +1,9 @@
 -- The numbers in a row of `cats sizes`: how many bids have no dummy good, and which dummy goods the bids so far have.
-use Rattle.std.proofs.Common.{◌≡◌, ℕ, ◌+◌, ◌<◌, Bool, true, false, cond, List, [], ◌∷◌, ◌++◌, length, map, set, take, refl, sym}
+use Rattle.std.proofs.Common.{◌≡◌, ℕ, ◌+◌, ◌<◌, Bool, true, false, cond, List, [], ◌∷◌, ◌++◌, length, map, set, take, refl}
 use Rattle.std.proofs.Common.{ap, ap₂, ◌∙◌, arith, inl, inr, subst, Option, Some, None}
 use Rattle.std.proofs.Common.{Global}
-use Rattle.std.specs.Prelude.{codes, decimal, filter, is_none, is_some, ◌||◌, Vec}
+use Rattle.std.specs.Prelude.{codes, filter, is_none, is_some, ◌||◌, Vec}
 use Rattle.std.specs.List.{range_with_len, slice_get}
-use Rattle.std.proofs.lemmas.Grind.{flat_map-append}
 use Rattle.std.proofs.lemmas.List.{append_assoc}
 use Rattle.std.proofs.lemmas.List.Filters.{length-filter_more}
 use Rattle.std.proofs.lemmas.List.Folds.{list_any_more}
@@ -27,19 +26,9 @@ use Rattle.commands.specs.declared.faults.RunFault.TheVariants.{Refused}
 use Rattle.commands.specs.Naming.{with_bid}
 use Rattle.commands.specs.Outcomes.{exceeds_at, first_bid_on, text_unless_refused}
 use Rattle.commands.proofs.ByNumber.{by_number-same, by_number-set}
-use Rattle.commands.specs.SizesRows.{Sizes, IsSized, IsTooHeavy, IsUnsized, PutsNumbers, counts_of, has_dummy, numbers_sized, sizes_of, with_tabs}
+use Rattle.commands.specs.SizesRows.{Sizes, IsSized, IsTooHeavy, IsUnsized, PutsNumbers, counts_of, has_dummy, sizes_of, with_tabs}
 
 -- ---- cells
-
-abbrev tabbed : List ℕ → List ℕ
-tabbed word = word ++ codes "\t"
-
--- the cells of the numbers of a file
-sized_numbers : (file : PlainFile) → with_tabs (sizes_of file) ++ with_tabs (counts_of (canonical_file file)) ≡ numbers_sized (IsSized file)
-sized_numbers file = sym (flat_map-append tabbed (map decimal (sizes_of file)) (map decimal (counts_of (canonical_file file))))
-
-heavy_numbers : (file : PlainFile) (heavy : HeavyBid) → with_tabs (sizes_of file) ++ codes "\t\t\t" ≡ numbers_sized (IsTooHeavy file heavy)
-heavy_numbers file heavy = sym (flat_map-append tabbed (map decimal (sizes_of file)) ([] ∷ [] ∷ [] ∷ []))
 
 -- the numbers of a bid file, put behind a text
 pub sizes_put : (none sizes given text longer numbers : List ℕ) → none ≡ [] → sizes ≡ none ++ numbers → given ≡ sizes → longer ≡ text ++ given
@@ -86,8 +75,7 @@ module _ (Gives : PlainFile → Type 0) (Refuses : ReadFault → Type 0) (option
     numbers_judged within put = record {
       sized = IsSized file;
       sizes = (given, within);
-      puts = put ∙ append_assoc text (with_tabs (sizes_of file)) (with_tabs (counts_of (canonical_file file)))
-          ∙ ap (λ (more : List ℕ). text ++ more) (sized_numbers file);
+      puts = rw put (simp append_assoc);
       is_fault = refl;
     }
 
@@ -97,8 +85,7 @@ module _ (Gives : PlainFile → Type 0) (Refuses : ReadFault → Type 0) (option
     numbers_heavy goods heavy put why is = record {
       sized = IsTooHeavy file (heavy_bid options file goods);
       sizes = sizes_heavy Gives Refuses options file given goods heavy;
-      puts = put ∙ append_assoc text (with_tabs (sizes_of file)) (codes "\t\t\t")
-          ∙ ap (λ (more : List ℕ). text ++ more) (heavy_numbers file (heavy_bid options file goods));
+      puts = rw put (simp append_assoc);
       is_fault = ap (λ (f : RunFault). Some f) is;
     }
 
@@ -121,7 +108,7 @@ module _ (bids : List PlainBid) (i : ℕ) (b : PlainBid) (there : slice_get bids
   has_more d = list_any_more (λ (c : PlainBid). is_dummy d c.dummy) bids i b (slice_get_within bids i b there)
       ∙ ap (λ (c : PlainBid). has_dummy (take i bids) d || is_dummy d c.dummy) (get_or_from_slice_get bids i b b there)
 
-  or_more : length (filter (λ c. is_none c.dummy) (take (i + 1) bids))
+  pub or_more : length (filter (λ c. is_none c.dummy) (take (i + 1) bids))
       ≡ length (filter (λ c. is_none c.dummy) (take i bids)) + cond (is_none b.dummy) 1 0
   or_more = length-filter_more (λ (c : PlainBid). is_none c.dummy) bids i b (slice_get_within bids i b there)
       ∙ ap (λ (c : PlainBid). length (filter (λ c. is_none c.dummy) (take i bids)) + cond (is_none c.dummy) 1 0) (get_or_from_slice_get bids i b b there)

@@ -1,7 +1,6 @@
 -- `put_goods`
-use Rattle.std.proofs.Common.{rules, ◌≡◌, ◌∷◌, ℕ, decimal, subst, arith}
+use Rattle.std.proofs.Common.{rules, ◌≡◌, ◌∷◌, decimal, arith}
 use Rattle.commands.specs.Outputs.{after_commas}
-use Rattle.commands.specs.Internal.Putting.{PutsFrom}
 use Rattle.commands.proofs.Putting.{puts_then}
 use Rattle.commands.proofs.calls.pieces.put_goods.Goals as goal
 
@@ -12,5 +11,4 @@ returns c =
     let split : c.args.goods.now ≡ first ∷ rest = search rules in
     rw split
     (puts_then (decimal first) (after_commas rest) _ _ _ _ _ _ (omega arith)
-    (subst (λ (n : ℕ). PutsFrom c.args.at (decimal n) c.args.out.now c.put_number-end.new.out c.put_number-end.result) c.from.ensures c.put_number-end.ensures)
-    c.put_after_commas.ensures)
+    (rw c.from.ensures at c.put_number-end.ensures) c.put_after_commas.ensures)

@@ -1,12 +1,9 @@
 -- `round_bytes`
-use Rattle.std.proofs.Common.{inr, sym, subst}
-use Rattle.canon.specs.declared.canon_fault.CanonFault.{CanonFault}
+use Rattle.std.proofs.Common.{inr}
 use Rattle.commands.proofs.Unrounded.{rounding_refused}
 use Rattle.commands.specs.Roundings.{IsUnrounded}
 use Rattle.commands.proofs.calls.rounded_text.round_bytes.Goals as goal
 
 pub returns-in-Err-clause-refused : goal.returns-in-Err-clause-refused
 returns-in-Err-clause-refused c =
-    let Refuses : CanonFault → Type 0 = IsUnrounded c.args.fine c.args.text.now in
-    subst Refuses (sym c.from.ensures)
-    (rounding_refused Refuses c.args.fine c.args.text.now (λ fault first. inr first) (λ wants. wants) c.in-Err.fault c.in-Err.ensures)
+    rw c.from.ensures (rounding_refused (IsUnrounded c.args.fine c.args.text.now) c.args.fine c.args.text.now (λ fault first. inr first) (λ wants. wants) c.in-Err.fault c.in-Err.ensures)

@@ -1,7 +1,6 @@
 -- `first_bid_on`
-use Rattle.std.proofs.Common.{◌≡◌, ◌<◌, ◌≤◌, ◌+◌, ℕ, Bool, true, false, List, [], length, get_or, None, Some, sym, ap, ◌∙◌, subst, ⊎_elim, arith}
+use Rattle.std.proofs.Common.{◌≡◌, ◌<◌, ◌+◌, ℕ, Bool, true, false, List, [], length, get_or, None, Some, sym, ap, ◌∙◌, arith}
 use Rattle.std.specs.List.{slice_get}
-use Rattle.std.proofs.lemmas.Bool.{cases_lt}
 use Rattle.std.proofs.lemmas.List.Sums.{position_or_len_is}
 use Rattle.std.proofs.lemmas.Option.{get_or_from_slice_get, slice_get_within}
 use Rattle.bid_file.specs.Files.{PlainBid}
@@ -15,10 +14,7 @@ module _ (p : PlainBid → Bool) (bids : List PlainBid) (i : ℕ) (seen : PlainB
 
   none_through : ((k : ℕ) (d : PlainBid) → k < i → p (get_or bids k d) ≡ false) → p seen ≡ false
       → (k : ℕ) (d : PlainBid) → k < i + 1 → p (get_or bids k d) ≡ false
-  none_through before e k d below =
-      ⊎_elim (λ (l : k < i). before k d l)
-      (λ (l : i ≤ k). let same : i ≡ k = omega arith in subst (λ (n : ℕ). p (get_or bids n d) ≡ false) same (passes_there false e d))
-      (cases_lt k i)
+  none_through before e k d below = grind (arith, before k d, passes_there false e d)
 
 pub loop-number-init : goal.loop-number-init
 loop-number-init c = λ k d below. absurd (omega arith)

@@ -1,7 +1,5 @@
 -- `push_bidders`
-use Rattle.std.proofs.Common.{sym, subst}
 use Rattle.analysis.specs.Views.{plain_bidder_change}
-use Rattle.analysis.specs.declared.differences.change.BidderChange.{BidderChange}
 use Rattle.commands.specs.Internal.Sides.{IsOfBidders, file_of}
 use Rattle.commands.proofs.BidsOfFiles.{seen_at}
 use Rattle.commands.proofs.printed.diff.push_bidders.Goals as goal
@@ -9,5 +7,4 @@ use Rattle.commands.proofs.printed.diff.push_bidders.Goals as goal
 pub push_bidder-requires-clause-bidder : goal.push_bidder-requires-clause-bidder
 push_bidder-requires-clause-bidder c =
     let is = IsOfBidders (file_of c.args.sides.now.left) (file_of c.args.sides.now.right) in
-    subst (λ (b : BidderChange). is (plain_bidder_change b)) (sym c.bidder-item.is)
-    (seen_at is plain_bidder_change c.args.bidders.now c.loop-bidder.bidder-index c.bidder-item.result c.loop-bidder-test.true c.requires.bidders)
+    rw c.bidder-item.is (seen_at is plain_bidder_change c.args.bidders.now c.loop-bidder.bidder-index c.bidder-item.result c.loop-bidder-test.true c.requires.bidders)

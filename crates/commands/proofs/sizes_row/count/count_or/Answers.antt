@@ -2,7 +2,7 @@
 use Rattle.std.proofs.Common.{◌≡◌, Some, ◌∙◌, arith}
 use Rattle.std.specs.List.{slice_get}
 use Rattle.bid_file.specs.Files.{PlainBid}
-use Rattle.commands.proofs.Sizing.{or_counted, xor_passed}
+use Rattle.commands.proofs.Sizing.{or_more}
 use Rattle.commands.proofs.sizes_row.count.count_or.Goals as goal
 use Rattle.commands.proofs.sizes_row.count.count_or.Goals.{then-is_none, else-is_none}
 
@@ -11,14 +11,7 @@ loop-number-preserved c =
     let i = c.loop-number.number in
     let b : PlainBid = record { price = c.at-dummy.result.0; goods = c.at-dummy.result.1.now; dummy = c.at-dummy.result.2 } in
     let stands : slice_get c.args.file.now.bids i ≡ Some b = rw (← c.bids-bids.ensures) c.at-dummy.ensures in
-    let few = c.loop-number.invariant.1 in
     elim c.if-is_none.branch [
-      | then-is_none w ↦ (
-        w.count-is ∙ or_counted c.args.file.now.bids i b stands c.loop-number.count c.loop-number.invariant.0 w.if-is_none.ensures,
-        omega (arith, w.count-is, few),
-      )
-      | else-is_none w ↦ (
-        w.count-is ∙ xor_passed c.args.file.now.bids i b stands c.loop-number.count c.loop-number.invariant.0 w.if-is_none.ensures,
-        omega (arith, w.count-is, few),
-      )
+      | then-is_none w ↦ grind (arith, or_more c.args.file.now.bids i b stands)
+      | else-is_none w ↦ grind (arith, or_more c.args.file.now.bids i b stands)
     ]
