@@ -34,9 +34,8 @@ bid_of_point bids p dummy same points are bundle price e =
     let atoms = map atom_of (filter p bids) in
     let r = Contains-unmap atom_of (filter p bids) _ (All-contains (Contains atoms) points _ are (bid_of_price points bundle price e)) in
     let s = Contains-filter_parts p bids r.0 r.1 in
-    subst (λ (b : PlainBid). Contains bids b)
-    (ap (λ (x : Atom (List ℕ)). record { price = x.price; goods = x.bundle; dummy = r.0.dummy }) (sym r.2)
-    ∙ ap (λ (o : Option ℕ). record { price = price; goods = bundle; dummy = o }) (same r.0 s.1)) s.0
+    let is : r.0 ≡ record { price = price; goods = bundle; dummy = dummy } = grind (arith, same r.0 s.1) in
+    subst (Contains bids) is s.0
 
 module _ (f : PlainFile) (plain : IsPlainFile f) where
   atoms : HasAtoms (auction_from f)

@@ -1,6 +1,6 @@
 -- The bid that is named for a refused bundle. A bundle is searched only if an OR bid is on it, so the first such bid is found.
-use Rattle.std.proofs.Common.{◌≡◌, ℕ, ◌<◌, Bool, true, false, cond, ltb, List, [], ◌∷◌, length, get_or, sym, ap, ◌∙◌, subst, Some}
-use Rattle.std.specs.Prelude.{Contains, Option, is_none, nat_eq}
+use Rattle.std.proofs.Common.{arith, ◌≡◌, ℕ, ◌<◌, true, ltb, List, [], ◌∷◌, length, get_or, sym, ap, ◌∙◌, Some}
+use Rattle.std.specs.Prelude.{Contains, is_none, nat_eq}
 use Rattle.std.specs.List.{filter}
 use Rattle.std.proofs.lemmas.Bool.{and_from, ltb-true}
 use Rattle.std.proofs.lemmas.Cmp.{nat_list_eq_equiv}
@@ -11,7 +11,7 @@ use Rattle.valuation.specs.declared.atom.Atom.{Atom}
 use Rattle.valuation.specs.declared.search.options.SearchOptions.{SearchOptions}
 use Rattle.valuation.specs.Auctions.{atom_of, or_atoms_of}
 use Rattle.valuation.specs.Lemmas.Lists.{Contains-unmap}
-use Rattle.valuation.specs.SearchLimits.{next_steps, options_after}
+use Rattle.valuation.specs.SearchLimits.{options_after}
 use Rattle.prune.specs.Lemmas.Lists.{Contains-head, Contains-tail, Contains-filter_parts}
 use Rattle.prune.specs.Lemmas.SearchSteps.{greatest_price-reached}
 use Rattle.prune.specs.SearchSteps.{first_over, first_refused, greatest_price, search_steps_by, searched_bundles}
@@ -23,14 +23,7 @@ over_is_searched : (steps : List ℕ → ℕ) (options : SearchOptions) (bundles
 unfolding first_over
 over_is_searched steps options [] bundle e = absurd cc
 over_is_searched steps options (x ∷ rest) bundle e =
-    at (ltb (next_steps options) (steps x)) (over_is_searched steps (options_after options (steps x)) rest bundle) e
-  where
-    later : Option (List ℕ)
-    later = first_over steps (options_after options (steps x)) rest
-
-    at : (over : Bool) → (later ≡ Some bundle → Contains rest bundle) → cond over (Some x) later ≡ Some bundle → Contains (x ∷ rest) bundle
-    at true behind e = let same : x ≡ bundle = cc in subst (Contains (x ∷ rest)) same (Contains-head x rest)
-    at false behind e = Contains-tail x rest bundle (behind e)
+    grind (arith, Contains-head x rest, Contains-tail x rest bundle, over_is_searched steps (options_after options (steps x)) rest bundle)
 
 -- an OR bid is on the bundle
 refused_is_on : (options : SearchOptions) (goods : ℕ) (atoms : List (Atom (List ℕ))) (bundle : List ℕ)

@@ -2,7 +2,7 @@
 use Rattle.std.proofs.Common.{◌≡◌, ℕ, ◌+◌, ◌<◌, Bool, true, false, cond, List, [], ◌∷◌, ◌++◌, length, map, set, take, refl}
 use Rattle.std.proofs.Common.{ap, ap₂, ◌∙◌, arith, inl, inr, subst, Option, Some, None}
 use Rattle.std.proofs.Common.{Global}
-use Rattle.std.specs.Prelude.{codes, filter, is_none, is_some, ◌||◌, Vec}
+use Rattle.std.specs.Prelude.{codes, filter, is_none, ◌||◌, Vec}
 use Rattle.std.specs.List.{range_with_len, slice_get}
 use Rattle.std.proofs.lemmas.List.{append_assoc}
 use Rattle.std.proofs.lemmas.List.Filters.{length-filter_more}
@@ -112,14 +112,6 @@ module _ (bids : List PlainBid) (i : ℕ) (b : PlainBid) (there : slice_get bids
       ≡ length (filter (λ c. is_none c.dummy) (take i bids)) + cond (is_none b.dummy) 1 0
   or_more = length-filter_more (λ (c : PlainBid). is_none c.dummy) bids i b (slice_get_within bids i b there)
       ∙ ap (λ (c : PlainBid). length (filter (λ c. is_none c.dummy) (take i bids)) + cond (is_none c.dummy) 1 0) (get_or_from_slice_get bids i b b there)
-
-  pub or_counted : (count : ℕ) → count ≡ length (filter (λ c. is_none c.dummy) (take i bids)) → is_some b.dummy ≡ false
-      → count + 1 ≡ length (filter (λ c. is_none c.dummy) (take (i + 1) bids))
-  or_counted count e none = grind (arith, or_more)
-
-  pub xor_passed : (count : ℕ) → count ≡ length (filter (λ c. is_none c.dummy) (take i bids)) → is_some b.dummy ≡ true
-      → count ≡ length (filter (λ c. is_none c.dummy) (take (i + 1) bids))
-  xor_passed count e some = grind (arith, or_more)
 
   module _ (n : ℕ) (marks : List Bool) (h : marks ≡ map (has_dummy (take i bids)) (range_with_len 0 n)) where
     pub marks_same : b.dummy ≡ None → marks ≡ map (has_dummy (take (i + 1) bids)) (range_with_len 0 n)

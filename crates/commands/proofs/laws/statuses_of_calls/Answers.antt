@@ -26,8 +26,7 @@ use Rattle.commands.specs.OneText.{CallsOn, IsRefusedText, IsUnmade, MakesOf, Of
 use Rattle.commands.specs.Refusals.{RefusesText, text_fault, text_read}
 use Rattle.commands.specs.Roundings.{IsUnrounded, RoundCalls}
 use Rattle.commands.specs.SizesCalls.{SaysRow, SizesCalls}
-use Rattle.commands.specs.TwoTexts.{CallsOnBoth, ComparesTexts, DiffsTexts, IsRefusedOfTwo}
-use Rattle.commands.specs.declared.command.Command.{Command}
+use Rattle.commands.specs.TwoTexts.{CallsOnBoth, IsRefusedOfTwo}
 use Rattle.commands.specs.declared.command.Comparison.{Comparison}
 use Rattle.commands.specs.declared.command.Comparison.TheVariants.{Compare, Diff}
 use Rattle.commands.proofs.Refusing.{text_fault-of_bytes}
@@ -52,21 +51,6 @@ most = 0 ∷ 2 ∷ 3 ∷ 4 ∷ 6 ∷ []
 
 abbrev all : List ℕ
 all = 0 ∷ 1 ∷ 2 ∷ 3 ∷ 4 ∷ 6 ∷ []
-
--- ---- the statuses of outcomes
-
-of_command : (command : Command) (file : PlainFile) → Has (statuses_of command) (status_in (outcome_of command file))
-of_command command file = grind arith
-
-module _ (options : SearchOptions) (file : PlainFile) where
-  of_explain : Has most (status_in (explain_outcome options file))
-  of_explain = grind arith
-
-  of_normalise : Has all (status_in (normalise_outcome options file))
-  of_normalise = grind arith
-
-  of_naming : Has all (status_in (naming_outcome options file))
-  of_naming = grind arith
 
 -- ---- the statuses of calls
 
@@ -154,24 +138,18 @@ module _ (options : SearchOptions) (fine : Option FinePrices) (left right : List
   of_two refusal of_file fault r =
       grind (arith, unmade all refl refl refl refl (refusal options) of_file fine left, unmade all refl refl refl refl (refusal options) of_file fine right)
 
-  of_comparison : (status : ℕ) (out : List ℕ) → ComparesTexts options (text_read fine left) (text_read fine right) status out → Has all status
-  of_comparison status out says = grind arith
-
-  of_differences : (status : ℕ) (out : List ℕ) → DiffsTexts options (text_read fine left) (text_read fine right) status out → Has all status
-  of_differences status out says = grind arith
-
 on_both : (comparison : Comparison) (fine : Option FinePrices) (left right old new : List ℕ) (needed status : ℕ)
     → CallsOnBoth comparison fine left right old new needed status → Contains all status
-on_both (Compare options) fine left right = called all refl refl refl refl _ _ (of_comparison options fine left right)
-    (of_two options fine left right normalise_outcome (of_normalise options))
-on_both (Diff options) fine left right = called all refl refl refl refl _ _ (of_differences options fine left right)
-    (of_two options fine left right naming_outcome (of_naming options))
+on_both (Compare options) fine left right = called all refl refl refl refl _ _ (λ status out says. grind arith)
+    (of_two options fine left right normalise_outcome (λ file. grind arith))
+on_both (Diff options) fine left right = called all refl refl refl refl _ _ (λ status out says. grind arith)
+    (of_two options fine left right naming_outcome (λ file. grind arith))
 
 pub returns : goal.returns
 returns c = record {
-  one_text = λ command. on_text (statuses_of command) refl refl refl refl (outcome_of command) (of_command command);
+  one_text = λ command. on_text (statuses_of command) refl refl refl refl (outcome_of command) (λ file. grind arith);
   two_texts = on_both;
-  explain = λ options. on_text most refl refl refl refl (explain_outcome options) (of_explain options);
+  explain = λ options. on_text most refl refl refl refl (explain_outcome options) (λ file. grind arith);
   fault = placed usual refl refl refl refl;
   sizes = sized most refl refl refl refl refl;
   round = rounded usual refl refl refl refl;

@@ -1,5 +1,5 @@
 -- `count_or`
-use Rattle.std.proofs.Common.{◌≡◌, Some, ◌∙◌, arith}
+use Rattle.std.proofs.Common.{◌≡◌, Some, arith}
 use Rattle.std.specs.List.{slice_get}
 use Rattle.bid_file.specs.Files.{PlainBid}
 use Rattle.commands.proofs.Sizing.{or_more}
