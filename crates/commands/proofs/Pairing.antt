@@ -1,5 +1,5 @@
 -- What is made of two files that were given: an answer, or memory is refused for it.
-use Rattle.std.proofs.Common.{◌≡◌, Result, Ok, Err, sym, ap, ap₂, ◌∙◌, subst, IfOk, IfErr}
+use Rattle.std.proofs.Common.{rules, ◌≡◌, Result, Ok, Err, sym, ap, ap₂, ◌∙◌, subst, IfOk, IfErr}
 use Rattle.std.proofs.lemmas.Result.{IfOk-weaker}
 use Rattle.std.specs.Prelude.{ℕ, List}
 use Rattle.bid_file.specs.Files.{PlainFile, IsPlainFile}
@@ -46,7 +46,7 @@ module _ {I J : Type 0} (gives_first : I → I → PlainFile → Type 0) (refuse
       → CommandsBoth gives_first refuses_first gives_second refuses_second options refusal Gives outcome first first_after second second_after
       (of_file Both answer)
   made_of_both refusal Gives outcome files given (Ok answer) made memory = made
-  made_of_both refusal Gives outcome files given (Err fault) made memory = record { files = files; given = given; memory = memory }
+  made_of_both refusal Gives outcome files given (Err fault) made memory = search rules
 
   -- the canonical files were compared
   pub files_compared : (left right : PlainFile) (read_left read_right : Result PlainFile CanonFault)

@@ -16,16 +16,15 @@ use Rattle.rounding.specs.declared.replacement.FinePrices.{FinePrices}
 use Rattle.commands.specs.Statuses.{status_of_canon_fault, status_of_fault, status_of_read_fault}
 use Rattle.commands.specs.declared.faults.RunFault.{RunFault}
 use Rattle.commands.specs.declared.faults.RunFault.TheVariants.{Refused, TooHeavy, GoodRange, BidRange}
-use Rattle.commands.specs.Commands.{outcome_of_heavy_bid}
 use Rattle.commands.specs.Outcomes.{Outcome, Prints, LacksGood, LacksBid, ExceedsSteps, ExceedsAtBid, explain_outcome}
 use Rattle.commands.specs.Outcomes.{naming_outcome, normalise_outcome, outcome_of, statuses_of}
 use Rattle.commands.specs.SizesRows.{Sized, Sizes, fault_sized, status_unless}
 use Rattle.commands.specs.Buffers.{Calls, PutsInto}
-use Rattle.commands.specs.FaultCalls.{FaultCalls, IsUnplaced, SaysPlace}
-use Rattle.commands.specs.OneText.{CallsOn, IsRefusedText, IsUnmade, MakesOf, OfOnly}
+use Rattle.commands.specs.FaultCalls.{IsUnplaced, SaysPlace}
+use Rattle.commands.specs.OneText.{CallsOn, IsRefusedText, IsUnmade, OfOnly}
 use Rattle.commands.specs.Refusals.{RefusesText, text_fault, text_read}
 use Rattle.commands.specs.Roundings.{IsUnrounded, RoundCalls}
-use Rattle.commands.specs.SizesCalls.{SaysRow, SizesCalls}
+use Rattle.commands.specs.SizesCalls.{SizesCalls}
 use Rattle.commands.specs.TwoTexts.{CallsOnBoth, IsRefusedOfTwo}
 use Rattle.commands.specs.declared.command.Comparison.{Comparison}
 use Rattle.commands.specs.declared.command.Comparison.TheVariants.{Compare, Diff}
@@ -76,35 +75,20 @@ module _ (statuses : List ℕ) (zero : Has statuses 0) (two : Has statuses 2) (f
 
   module _ (outcome : PlainFile → Outcome) (of_file : (file : PlainFile) → Has statuses (status_in (outcome file))) (fine : Option FinePrices)
       (text : List ℕ) where
-    made : (expected : Outcome) → MakesOf outcome (text_read fine text) expected → Has statuses (status_in expected)
-    made expected m = grind (arith, of_file m.file)
-
     unmade : (fault : CanonFault) → IsUnmade outcome fine text fault → Has statuses (status_of_canon_fault fault)
     unmade (Read why) h = of_text fine text why h
-    unmade (StepLimit goods) h = made (ExceedsSteps goods.items) h
+    unmade (StepLimit goods) h = grind (arith, of_file h.file)
     unmade Memory h = four
 
     refused : (fault : RunFault) → IsRefusedText outcome fine text fault → Has statuses (status_of_fault fault)
-    refused (GoodRange good) h = made (LacksGood good) h
-    refused (BidRange bid) h = made (LacksBid bid) h
-    refused (TooHeavy which heavy) h = made (outcome_of_heavy_bid heavy) h.1
+    refused (GoodRange good) h = grind (arith, of_file h.file)
+    refused (BidRange bid) h = grind (arith, of_file h.file)
+    refused (TooHeavy which heavy) h = grind (arith, of_file h.1.file)
     refused (Refused Only fault) h = unmade fault h
     refused fault h = absurd h
 
     on_text : (old new : List ℕ) (needed status : ℕ) → CallsOn outcome fine text old new needed status → Contains statuses status
-    on_text = called _ _ (λ status out says. made (Prints status out) says) refused
-
-  -- ---- the first fault of a text
-
-  module _ (text : List ℕ) where
-    of_place : (status : ℕ) (out : List ℕ) → SaysPlace text status out → Has statuses status
-    of_place status out says = grind arith
-
-    unplaced : (fault : RunFault) → OfOnly (IsUnplaced text) fault → Has statuses (status_of_fault fault)
-    unplaced fault h = grind arith
-
-    placed : (old new : List ℕ) (needed status : ℕ) → FaultCalls text old new needed status → Contains statuses status
-    placed = called _ _ of_place unplaced
+    on_text = called _ _ (λ status out says. grind (arith, of_file says.file)) refused
 
   -- ---- the sizes of a text
 
@@ -113,11 +97,8 @@ module _ (statuses : List ℕ) (zero : Has statuses 0) (two : Has statuses 2) (f
         → Has statuses (status_unless (fault_sized sized))
     of_sized sized h = grind (arith, of_text fine text)
 
-    of_row : (status : ℕ) (out : List ℕ) → SaysRow options fine text status out → Has statuses status
-    of_row status out says = grind (arith, of_sized)
-
     sized : (old new : List ℕ) (needed status : ℕ) → SizesCalls options fine text old new needed status → Contains statuses status
-    sized = called _ _ of_row (λ fault wants. rw wants four)
+    sized = called _ _ (λ status out says. grind (arith, of_sized)) (λ fault wants. rw wants four)
 
   -- ---- a text is rounded
 
@@ -150,7 +131,7 @@ returns c = record {
   one_text = λ command. on_text (statuses_of command) refl refl refl refl (outcome_of command) (λ file. grind arith);
   two_texts = on_both;
   explain = λ options. on_text most refl refl refl refl (explain_outcome options) (λ file. grind arith);
-  fault = placed usual refl refl refl refl;
+  fault = λ text. called usual refl refl refl refl (SaysPlace text) (OfOnly (IsUnplaced text)) (λ status out says. grind arith) (λ fault h. grind arith);
   sizes = sized most refl refl refl refl refl;
   round = rounded usual refl refl refl refl;
 }
