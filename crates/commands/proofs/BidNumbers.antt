@@ -27,7 +27,8 @@ find_only : {X : Type 0} (p : X → Bool) (xs : List X) (x : X) → Contains xs 
 find_only p xs x c t only =
     let first = position_or_len p xs in
     let within = first_within p xs x c t in
-    grind (arith, find_at p xs, slice_get-get_or xs first x within, only (get_or xs first x) (Contains-get_or xs first x within) (passes_at_first p xs x within))
+    let same = only (get_or xs first x) (Contains-get_or xs first x within) (passes_at_first p xs x within) in
+    grind (arith, find_at p xs, slice_get-get_or xs first x within)
 
 pub number_is_best : (f : PlainFile) (i j : ℕ) → IsBestFor f i j → best_number f (bid_at f i).dummy (bid_at f i).goods ≡ Some j
 number_is_best f i j h =

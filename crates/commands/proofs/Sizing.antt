@@ -1,6 +1,6 @@
 -- The numbers in a row of `cats sizes`: how many bids have no dummy good, and which dummy goods the bids so far have.
 use Rattle.std.proofs.Common.{◌≡◌, ℕ, ◌+◌, ◌<◌, Bool, true, false, cond, List, [], ◌∷◌, ◌++◌, length, map, set, take, refl}
-use Rattle.std.proofs.Common.{ap, ap₂, ◌∙◌, arith, inl, inr, subst, Option, Some, None}
+use Rattle.std.proofs.Common.{ap, ◌∙◌, arith, inl, inr, Option, Some, None}
 use Rattle.std.proofs.Common.{Global}
 use Rattle.std.specs.Prelude.{codes, filter, is_none, ◌||◌, Vec}
 use Rattle.std.specs.List.{range_with_len, slice_get}
@@ -9,14 +9,13 @@ use Rattle.std.proofs.lemmas.List.Filters.{length-filter_more}
 use Rattle.std.proofs.lemmas.List.Folds.{list_any_more}
 use Rattle.std.proofs.lemmas.Option.{get_or_from_slice_get, slice_get_within}
 use Rattle.bid_file.specs.Files.{PlainBid, PlainFile}
-use Rattle.cats_text.specs.Faults.{fault_at}
 use Rattle.cats_text.specs.declared.read_fault.Kind.{Kind}
 use Rattle.cats_text.specs.declared.read_fault.Kind.TheVariants.{Memory as NoMemory}
 use Rattle.cats_text.specs.declared.read_fault.ReadFault.{ReadFault}
 use Rattle.valuation.specs.Auctions.{is_dummy, or_atoms_of}
 use Rattle.valuation.specs.declared.search.options.SearchOptions.{SearchOptions}
 use Rattle.prune.specs.SearchSteps.{first_refused}
-use Rattle.canon.specs.Canonical.{canonical_file, canonical_text}
+use Rattle.canon.specs.Canonical.{canonical_file}
 use Rattle.canon.specs.Refusals.{refusal_by_kind, refusal_of}
 use Rattle.canon.specs.declared.canon_fault.CanonFault.TheVariants.{StepLimit, Memory}
 use Rattle.canon.specs.declared.which.Which.TheVariants.{Only}
@@ -24,7 +23,7 @@ use Rattle.commands.specs.declared.faults.HeavyBid.{HeavyBid}
 use Rattle.commands.specs.declared.faults.RunFault.{RunFault}
 use Rattle.commands.specs.declared.faults.RunFault.TheVariants.{Refused}
 use Rattle.commands.specs.Naming.{with_bid}
-use Rattle.commands.specs.Outcomes.{exceeds_at, first_bid_on, text_unless_refused}
+use Rattle.commands.specs.Outcomes.{first_bid_on}
 use Rattle.commands.proofs.ByNumber.{by_number-same, by_number-set}
 use Rattle.commands.specs.SizesRows.{Sizes, IsSized, IsTooHeavy, IsUnsized, PutsNumbers, counts_of, has_dummy, sizes_of, with_tabs}
 
@@ -44,7 +43,7 @@ heavy_bid options file goods = record { number = first_bid_on file goods.items; 
 module _ (Gives : PlainFile → Type 0) (Refuses : ReadFault → Type 0) (options : SearchOptions) where
   unread_by_kind : (why : ReadFault) (kind : Kind) → why.kind ≡ kind → (why.kind ≡ NoMemory → why.line ≡ 0) → Refuses why
       → Sizes Gives Refuses options (IsUnsized (refusal_by_kind why kind))
-  unread_by_kind why NoMemory is no_line refused = inl (subst Refuses (ap₂ (λ (line : ℕ) (kind : Kind). fault_at line kind) (no_line is) is) refused)
+  unread_by_kind why NoMemory is no_line refused = inl (rw (← no_line is, ← is) refused)
   unread_by_kind why kind is no_line refused = ((λ memory. cc), refused)
 
   -- no file was given. Want of memory is on no line
@@ -53,7 +52,7 @@ module _ (Gives : PlainFile → Type 0) (Refuses : ReadFault → Type 0) (option
 
   pub sizes_heavy : (file : PlainFile) → Gives file → (goods : Vec ℕ Global) → first_refused options file.goods (or_atoms_of file.bids) ≡ Some goods.items
       → Sizes Gives Refuses options (IsTooHeavy file (heavy_bid options file goods))
-  sizes_heavy file given goods heavy = (given, ap (text_unless_refused (exceeds_at options file) (canonical_text file)) heavy)
+  sizes_heavy file given goods heavy = (given, rw heavy)
 
 module _ (Gives : PlainFile → Type 0) (Refuses : ReadFault → Type 0) (options : SearchOptions) (text longer : List ℕ) where
   abbrev Puts : Option RunFault → Type 0
@@ -62,22 +61,13 @@ module _ (Gives : PlainFile → Type 0) (Refuses : ReadFault → Type 0) (option
   -- no file was given
   pub numbers_unread : longer ≡ text ++ codes "\t\t\t\t\t\t\t\t" → (why : ReadFault) → (why.kind ≡ NoMemory → why.line ≡ 0) → Refuses why
       → Puts (Some (Refused Only (refusal_of why)))
-  numbers_unread put why no_line refused = record {
-    sized = IsUnsized (refusal_of why);
-    sizes = sizes_unread Gives Refuses options why no_line refused;
-    puts = put;
-    is_fault = refl;
-  }
+  numbers_unread put why no_line refused =
+      record { sized = IsUnsized (refusal_of why); sizes = sizes_unread Gives Refuses options why no_line refused; puts = put; is_fault = refl }
 
   module _ (file : PlainFile) (given : Gives file) where
     pub numbers_judged : first_refused options file.goods (or_atoms_of file.bids) ≡ None
         → longer ≡ text ++ with_tabs (sizes_of file) ++ with_tabs (counts_of (canonical_file file)) → Puts None
-    numbers_judged within put = record {
-      sized = IsSized file;
-      sizes = (given, within);
-      puts = rw put (simp append_assoc);
-      is_fault = refl;
-    }
+    numbers_judged within put = record { sized = IsSized file; sizes = (given, within); puts = rw put (simp append_assoc); is_fault = refl }
 
     pub numbers_heavy : (goods : Vec ℕ Global) → first_refused options file.goods (or_atoms_of file.bids) ≡ Some goods.items
         → longer ≡ text ++ with_tabs (sizes_of file) ++ codes "\t\t\t" → (why : RunFault)
@@ -86,7 +76,7 @@ module _ (Gives : PlainFile → Type 0) (Refuses : ReadFault → Type 0) (option
       sized = IsTooHeavy file (heavy_bid options file goods);
       sizes = sizes_heavy Gives Refuses options file given goods heavy;
       puts = rw put (simp append_assoc);
-      is_fault = ap (λ (f : RunFault). Some f) is;
+      is_fault = cc;
     }
 
     pub numbers_unmade : longer ≡ text ++ codes "\t\t\t\t\t\t\t\t" → Puts (Some (Refused Only Memory))
