@@ -84,13 +84,9 @@ module _ (Gives : PlainFile → Type 0) (Refuses : ReadFault → Type 0) (option
 
 -- ---- marks
 
-marks_counted : (p : ℕ → Bool) (xs : List ℕ) → length (filter (λ m. m) (map p xs)) ≡ length (filter p xs)
+pub marks_counted : (p : ℕ → Bool) (xs : List ℕ) → length (filter (λ m. m) (map p xs)) ≡ length (filter p xs)
 marks_counted p [] = refl
 marks_counted p (x ∷ xs) = grind (arith, marks_counted p xs)
-
-pub dummies_counted : (count : ℕ) (marks : List Bool) (dummy : ℕ) (bids : List PlainBid) → count ≡ length (filter (λ m. m) marks)
-    → marks ≡ map (has_dummy bids) (range_with_len 0 dummy) → count ≡ length (filter (has_dummy bids) (range_with_len 0 dummy))
-dummies_counted count marks dummy bids c m = rw (c, m) (marks_counted (has_dummy bids) (range_with_len 0 dummy))
 
 -- one more bid
 module _ (bids : List PlainBid) (i : ℕ) (b : PlainBid) (there : slice_get bids i ≡ Some b) where

@@ -86,11 +86,10 @@ module _ (options : SearchOptions) (left right : List ℕ) (status : ℕ) (out :
   pub diffed_goods : eqb (spelled_file left).goods (spelled_file right).goods ≡ false
       → (rest : List ℕ) × (out ≡ diff_header ++ goods_row (spelled_file left).goods (spelled_file right).goods ++ rest)
   diffed_goods other =
-      let l : c.first.file.goods ≡ (spelled_file left).goods = ap (λ (f : PlainFile). f.goods) (says_spelled left c.first.file c.first.spelled) in
-      let r : c.second.file.goods ≡ (spelled_file right).goods = ap (λ (f : PlainFile). f.goods) (says_spelled right c.second.file c.second.spelled) in
-      let printed = goods_text c.first.file c.second.file c.differences c.all
-      (λ e. eqb-false (spelled_file left).goods (spelled_file right).goods other (sym l ∙ e ∙ r)) in
-      (printed.0, sym (ap text_in c.made) ∙ printed.1 ∙ ap₂ (λ (m n : ℕ). diff_header ++ goods_row m n ++ printed.0) l r)
+      let l = says_spelled left c.first.file c.first.spelled in
+      let r = says_spelled right c.second.file c.second.spelled in
+      let printed = goods_text c.first.file c.second.file c.differences c.all (eqb-false _ _ (rw (← l, ← r) at other)) in
+      rw (← l, ← r) (printed.0, sym (ap text_in c.made) ∙ printed.1)
 
 -- ---- buffers
 

@@ -1,5 +1,4 @@
 -- `best_packing`
-use Rattle.std.proofs.Common.{rules}
 use Rattle.std.proofs.lemmas.List.Elements.{All-weaker}
 use Rattle.bid_file.specs.declared.limits.TheConstants.{MAX_GOODS}
 use Rattle.goods_set.specs.Lemmas.Members.{AreBelow-higher}
@@ -15,6 +14,3 @@ or_value_by-requires g c =
       bundle = (h.bundle.0, AreBelow-higher c.args.auction.now.goods MAX_GOODS a.bundle facts.goods h.bundle.1);
       price = h.price;
     }) _ facts.or_atoms)
-
-pub returns-in-Ok : goal.returns-in-Ok
-returns-in-Ok g c = search rules

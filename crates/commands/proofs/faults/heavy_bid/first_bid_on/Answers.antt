@@ -16,9 +16,6 @@ module _ (p : PlainBid → Bool) (bids : List PlainBid) (i : ℕ) (seen : PlainB
       → (k : ℕ) (d : PlainBid) → k < i + 1 → p (get_or bids k d) ≡ false
   none_through before e k d below = grind (arith, before k d, passes_there false e d)
 
-pub loop-number-init : goal.loop-number-init
-loop-number-init c = λ k d below. absurd (omega arith)
-
 pub loop-number-preserved : goal.loop-number-preserved
 loop-number-preserved c =
     none_through (is_on c.args.goods.now) c.args.file.now.bids c.loop-number.number (seen_bid c.at.result) c.at.ensures c.loop-number.invariant
