@@ -1,5 +1,5 @@
 -- Texts that are put into a buffer, one behind the other.
-use Rattle.std.proofs.Common.{◌≡◌, ℕ, ◌+◌, ◌^◌, ◌<◌, ◌≤◌, List, [], ◌∷◌, ◌++◌, length, get_or, take, drop, refl, sym, ap, ap₂, ◌∙◌, subst, arith}
+use Rattle.std.proofs.Common.{◌≡◌, ℕ, ◌+◌, ◌^◌, ◌<◌, ◌≤◌, List, [], ◌++◌, length, get_or, take, drop, refl, sym, ap, ap₂, ◌∙◌, arith}
 use Rattle.std.proofs.Common.{append-nil, length-append}
 use Rattle.std.specs.List.{flat_map}
 use Rattle.std.proofs.lemmas.Grind.{flat_map-append}
@@ -44,10 +44,7 @@ module _ {X : Type 0} (f : X → List ℕ) (xs : List X) (at : ℕ) (old : List 
   pub puts_next : (i : ℕ) (d : X) → i < length xs → (mid new : List ℕ) (place end : ℕ) → PutsFrom at (flat_map f (take i xs)) old mid place
       → PutsFrom place (f (get_or xs i d)) mid new end → PutsFrom at (flat_map f (take (i + 1) xs)) old new end
   puts_next i d l mid new place end before now =
-      let more : flat_map f (take (i + 1) xs) ≡ flat_map f (take i xs) ++ f (get_or xs i d) =
-      ap (flat_map f) (take_more xs i d l) ∙ flat_map-append f (take i xs) (get_or xs i d ∷ [])
-      ∙ ap (λ (t : List ℕ). flat_map f (take i xs) ++ t) (append-nil (f (get_or xs i d))) in
-      subst (λ (t : List ℕ). PutsFrom at t old new end) (sym more)
+      rw (take_more xs i d l, flat_map-append, append-nil)
       (puts_then (flat_map f (take i xs)) (f (get_or xs i d)) at old mid new place end small before now)
 
 -- ---- from the front

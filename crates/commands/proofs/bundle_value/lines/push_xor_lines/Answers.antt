@@ -1,12 +1,10 @@
 -- `push_xor_lines`: the text so far has the lines of the bidders before; the next bidder's atoms and numbers are as many, and its line is put behind.
-use Rattle.std.proofs.Common.{arith, ◌≡◌, ◌<◌, ◌+◌, ◌++◌, ℕ, List, length, sym, ap, ◌∙◌}
-use Rattle.std.specs.List.{flat_map, range_with_len}
+use Rattle.std.proofs.Common.{arith, ◌≡◌, ◌<◌, ◌+◌, ℕ, List, length, sym, ap, ◌∙◌}
 use Rattle.bid_file.specs.Files.{PlainFile}
 use Rattle.valuation.specs.declared.atom.Atom.{Atom}
 use Rattle.valuation.specs.Lemmas.Atoms.{length-atoms_of}
 use Rattle.valuation.specs.Values.{atoms_of}
 use Rattle.valuation.proofs.Placing.{length-bidders_of}
-use Rattle.commands.specs.ValueTexts.{dummy_line}
 use Rattle.commands.proofs.Numbering.{length-xor_numbers, list_at}
 use Rattle.commands.proofs.Printing.{bidder_at, line_added}
 use Rattle.commands.proofs.bundle_value.lines.push_xor_lines.Goals as goal
@@ -42,4 +40,4 @@ returns g c =
     let file : PlainFile = c.args.file.now in
     let long = length-bidders_of goods c.args.bidders.now file.bids file.dummy c.requires.bidders in
     let all : c.loop-dummy.dummy ≡ c.args.file.now.dummy = omega (arith, c.loop-dummy-test.false) in
-    c.loop-dummy.invariant ∙ ap (λ (n : ℕ). c.args.text.now.items ++ flat_map (dummy_line file (goods c.args.bundle.now)) (range_with_len 0 n)) all
+    rw (← all) c.loop-dummy.invariant
