@@ -1,4 +1,5 @@
-"""The functions of the library, each a call with what it prints as Python data; and `duplicates`, which is made of such calls."""
+"""The functions of the library, each a call with what it prints as Python data; and `duplicates`, which has one text in memory at a time, and is
+made of calls of `normalise`."""
 from __future__ import annotations
 
 from typing import Dict, Iterable, List, Optional, Tuple, TypeVar

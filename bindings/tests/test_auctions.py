@@ -99,7 +99,7 @@ def test_methods_answer_as_the_functions(root, tmp_path):
 
 def test_each_function_is_a_method():
     """Or an auction has something else of its name, or does what these do in other ways."""
-    assert {name for name in FUNCTIONS if not hasattr(cats.Auction, name)} == {"check", "fault", "show", "round", "compare"}
+    assert {name for name in FUNCTIONS if not hasattr(cats.Auction, name)} == {"check", "fault", "show", "round", "compare", "duplicates"}
 
 
 def test_methods_keep_the_limits(root):
