@@ -127,15 +127,15 @@ kept_refused texts sized kept none h = record {
 }
 
 -- refused bundles, by what normalising a file gives
-text_within : (file : PlainFile) (heavy : Option (List ℕ)) (text : List ℕ) → unless_refused file heavy ≡ IsText text → heavy ≡ None
-text_within file None text is = refl
-text_within file (Some goods) text is = cc
+pub text_within_limit : (file : PlainFile) (heavy : Option (List ℕ)) (text : List ℕ) → unless_refused file heavy ≡ IsText text → heavy ≡ None
+text_within_limit file None text is = refl
+text_within_limit file (Some goods) text is = cc
 
-no_fault : (file : PlainFile) (heavy : Option (List ℕ)) (why : ReadFault) → unless_refused file heavy ≡ IsNoFile why → ⊥
-no_fault file None why is = cc
-no_fault file (Some goods) why is = cc
+pub no_fault_made : (file : PlainFile) (heavy : Option (List ℕ)) (why : ReadFault) → unless_refused file heavy ≡ IsNoFile why → ⊥
+no_fault_made file None why is = cc
+no_fault_made file (Some goods) why is = cc
 
-refused_bundle : (file : PlainFile) (heavy : Option (List ℕ)) (goods : List ℕ) → unless_refused file heavy ≡ ExceedsSteps goods → heavy ≡ Some goods
+pub refused_bundle : (file : PlainFile) (heavy : Option (List ℕ)) (goods : List ℕ) → unless_refused file heavy ≡ ExceedsSteps goods → heavy ≡ Some goods
 refused_bundle file None goods is = cc
 refused_bundle file (Some heavy) goods is = cc
 
@@ -186,7 +186,7 @@ module _ (Gives : PlainFile → Type 0) (Refuses : ReadFault → Type 0) (option
         → (first d : ℕ) → first ≡ get_or new.numbers.items found d → Judges (Ok first)
     text_judged facts found added within put first d at = record {
       sized = IsSized file;
-      sizes = (given, text_within file (first_refused options file.goods (or_atoms_of file.bids)) (canonical_text file) within);
+      sizes = (given, text_within_limit file (first_refused options file.goods (or_atoms_of file.bids)) (canonical_text file) within);
       adds = λ texts is h. (
         kept_judged old new number found file facts added put texts is h,
         first_found old new number found file facts added put texts is h first d at,
@@ -194,7 +194,7 @@ module _ (Gives : PlainFile → Type 0) (Refuses : ReadFault → Type 0) (option
     }
 
     pub text_refused : new ≡ old → (fault : CanonFault) → RefusesAs (normalised_file options file) fault → Judges (Err (with_bid Only file options fault))
-    text_refused same (Read why) refused = absurd (no_fault file (first_refused options file.goods (or_atoms_of file.bids)) why refused)
+    text_refused same (Read why) refused = absurd (no_fault_made file (first_refused options file.goods (or_atoms_of file.bids)) why refused)
     text_refused same (StepLimit goods) refused =
         let heavy = heavy_bid options file goods in
         let over = refused_bundle file (first_refused options file.goods (or_atoms_of file.bids)) goods.items refused in

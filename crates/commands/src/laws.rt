@@ -13,6 +13,7 @@ ghost use Rattle.analysis.specs.Reasons.{Explains, PlainReason};
 ghost use Rattle.commands.specs.ExplanationTexts.{explanation_text};
 ghost use Rattle.commands.specs.Outcomes.{Outcome, Prints, compare_outcome, explain_outcome, first_bid_on, is_on};
 ghost use Rattle.commands.specs.Outcomes.{outcome_of, statuses_of};
+ghost use Rattle.commands.specs.DuplicatesCalls.{DuplicatesCalls};
 ghost use Rattle.commands.specs.FaultCalls.{FaultCalls};
 ghost use Rattle.commands.specs.OneText.{CallsOn, PrintsOf};
 ghost use Rattle.commands.specs.Roundings.{RoundCalls};
@@ -50,6 +51,9 @@ pub fn statuses_of_calls()
         → Contains (0 ∷ 2 ∷ 4 ∷ 6 ∷ []) status }
     ensures sizes { (options : SearchOptions) (fine : Option FinePrices) (text old new : List ℕ) (needed status : ℕ)
         → SizesCalls options fine text old new needed status → Contains (0 ∷ 2 ∷ 3 ∷ 4 ∷ 6 ∷ []) status }
+    ensures duplicates { (options : SearchOptions) (fine : Option FinePrices) (texts : List (List ℕ)) (old new : List ℕ)
+        (needed status : ℕ) → DuplicatesCalls options fine texts old new needed status
+        → Contains (0 ∷ 2 ∷ 3 ∷ 4 ∷ 6 ∷ []) status }
     ensures round { (fine : FinePrices) (text old new report_old report_new : List ℕ) (needed report_needed status : ℕ)
         → RoundCalls fine text old new needed report_old report_new report_needed status
         → Contains (0 ∷ 2 ∷ 4 ∷ 6 ∷ []) status }

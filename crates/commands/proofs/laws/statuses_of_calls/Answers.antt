@@ -1,12 +1,13 @@
 -- `statuses_of_calls`: if the statuses of what a command makes of files are in a list, and 2, 4 and 6 are too, so are the statuses of its calls.
-use Rattle.std.proofs.Common.{◌≡◌, ℕ, true, List, [], ◌∷◌, eqb, Option, Some, IfSome, refl, arith}
-use Rattle.std.specs.List.{Contains, list_any}
+use Rattle.std.proofs.Common.{◌≡◌, ℕ, ◌<◌, ◌≤◌, ⊎_elim, true, List, [], ◌∷◌, eqb, Option, Some, IfSome, Result, Ok, Err, max, fold, refl, sym, subst, arith}
+use Rattle.std.specs.List.{AllZip, Contains, list_any}
 use Rattle.std.proofs.lemmas.Bool.{eqb-true}
 use Rattle.std.proofs.lemmas.Map.Views.{Contains-from_any}
 use Rattle.bid_file.specs.Files.{PlainFile}
 use Rattle.cats_text.specs.Grammar.{Spells}
 use Rattle.cats_text.specs.declared.read_fault.ReadFault.{ReadFault}
 use Rattle.cats_text.proofs.Texts.FaultKinds.{IsFaultOfBytes, first_fault-of_bytes}
+use Rattle.valuation.specs.Lemmas.Lists.{le_or_lt}
 use Rattle.valuation.specs.declared.search.options.SearchOptions.{SearchOptions}
 use Rattle.canon.specs.declared.canon_fault.CanonFault.{CanonFault}
 use Rattle.canon.specs.declared.canon_fault.CanonFault.TheVariants.{Read, StepLimit, Memory}
@@ -18,8 +19,9 @@ use Rattle.commands.specs.declared.faults.RunFault.{RunFault}
 use Rattle.commands.specs.declared.faults.RunFault.TheVariants.{Refused, TooHeavy, GoodRange, BidRange}
 use Rattle.commands.specs.Outcomes.{Outcome, Prints, LacksGood, LacksBid, ExceedsSteps, ExceedsAtBid, explain_outcome}
 use Rattle.commands.specs.Outcomes.{naming_outcome, normalise_outcome, outcome_of, statuses_of}
-use Rattle.commands.specs.SizesRows.{Sized, Sizes, fault_sized, status_unless}
+use Rattle.commands.specs.SizesRows.{Sized, IsSized, IsTooHeavy, IsUnsized, Sizes, fault_sized, status_unless}
 use Rattle.commands.specs.Buffers.{Calls, PutsInto}
+use Rattle.commands.specs.DuplicatesCalls.{AnswersFirst, DuplicatesCalls, SizesText, status_of_first}
 use Rattle.commands.specs.FaultCalls.{IsUnplaced, SaysPlace}
 use Rattle.commands.specs.OneText.{CallsOn, IsRefusedText, IsUnmade, OfOnly}
 use Rattle.commands.specs.Refusals.{RefusesText, text_fault, text_read}
@@ -100,6 +102,39 @@ module _ (statuses : List ℕ) (zero : Has statuses 0) (two : Has statuses 2) (f
     sized : (old new : List ℕ) (needed status : ℕ) → SizesCalls options fine text old new needed status → Contains statuses status
     sized = called _ _ (λ status out says. grind (arith, of_sized)) (λ fault wants. rw wants four)
 
+  -- ---- many texts
+
+  greater : (m n : ℕ) → Has statuses m → Has statuses n → Has statuses (max m n)
+  greater m n p q =
+      ⊎_elim (λ (h : m ≤ n). let e : max m n ≡ n = omega (arith, h) in subst (Has statuses) (sym e) q)
+      (λ (h : n < m). let e : max m n ≡ m = omega (arith, h) in subst (Has statuses) (sym e) p)
+      (le_or_lt m n)
+
+  module _ (three : Has statuses 3) (options : SearchOptions) (fine : Option FinePrices) where
+    of_first : (whole : List Sized) (text : List ℕ) (sized : Sized) (first : Result ℕ RunFault)
+        → Sizes (Spells (text_read fine text)) (RefusesText fine text) options sized → AnswersFirst whole sized first → Has statuses (status_of_first first)
+    of_first whole text (IsSized file) (Ok number) h a = zero
+    of_first whole text (IsSized file) (Err fault) h a = absurd a
+    of_first whole text (IsTooHeavy file heavy) first h a = rw a three
+    of_first whole text (IsUnsized fault) first h a = rw a (of_sized three options fine text (IsUnsized fault) h)
+
+    of_firsts : (whole : List Sized) (texts : List (List ℕ)) (sized : List Sized) (firsts : List (Result ℕ RunFault)) (status : ℕ) → Has statuses status
+        → AllZip (SizesText options fine texts) texts sized → AllZip (AnswersFirst whole) sized firsts
+        → Has statuses (fold (λ (greatest : ℕ) (first : Result ℕ RunFault). max greatest (status_of_first first)) status firsts)
+    of_firsts whole [] [] [] status p h a = p
+    of_firsts whole (text ∷ texts) (one ∷ sized) (first ∷ firsts) status p h a =
+        of_firsts whole texts sized firsts _ (greater status (status_of_first first) p (of_first whole text one first h.0 a.0)) h.1 a.1
+    of_firsts whole [] [] (first ∷ firsts) status p h a = absurd a
+    of_firsts whole [] (one ∷ sized) firsts status p h a = absurd h
+    of_firsts whole (text ∷ texts) [] firsts status p h a = absurd h
+    of_firsts whole (text ∷ texts) (one ∷ sized) [] status p h a = absurd a
+
+    firsts : (texts : List (List ℕ)) (old new : List ℕ) (needed status : ℕ) → DuplicatesCalls options fine texts old new needed status
+        → Contains statuses status
+    firsts texts = called _ _
+        (λ status out says. subst (Has statuses) (sym says.is_status) (of_firsts says.sized texts says.sized says.firsts 0 zero says.sizes says.answers))
+        (λ fault wants. rw wants four)
+
   -- ---- a text is rounded
 
   module _ (fine : FinePrices) (text : List ℕ) where
@@ -133,5 +168,6 @@ returns c = record {
   explain = λ options. on_text most refl refl refl refl (explain_outcome options) (λ file. grind arith);
   fault = λ text. called usual refl refl refl refl (SaysPlace text) (OfOnly (IsUnplaced text)) (λ status out says. grind arith) (λ fault h. grind arith);
   sizes = sized most refl refl refl refl refl;
+  duplicates = firsts most refl refl refl refl refl;
   round = rounded usual refl refl refl refl;
 }
