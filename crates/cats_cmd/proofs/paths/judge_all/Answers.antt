@@ -1,7 +1,6 @@
 -- `judge_all`
 use Rattle.std.proofs.Common.{ℕ, List, [], arith}
 use Rattle.std.specs.Borrow.{Bor}
-use Rattle.std.proofs.lemmas.List.{take_all}
 use Rattle.cats_cmd.proofs.JudgingPaths.{all_judged, first_judged, none_judged, path_more}
 use Rattle.cats_cmd.proofs.Opening.{opens_next, opens_none, opens_some}
 use Rattle.cats_cmd.proofs.paths.judge_all.Goals as goal
@@ -32,7 +31,3 @@ returns-in_err-status-clause-opens g c =
 pub returns-clause-judges : goal.returns-clause-judges
 returns-clause-judges g c =
     all_judged _ _ _ _ _ _ _ _ c.args.paths.now _ c.loop-number.number _ _ _ c.loop-number.invariant.judged (omega (arith, c.loop-number-test.false))
-
-pub returns-clause-opens : goal.returns-clause-opens
-returns-clause-opens g c =
-    rw (take_all c.loop-number.number c.args.paths.now (omega (arith, c.loop-number-test.false))) at c.loop-number.invariant.opens

@@ -1,5 +1,5 @@
 -- `run_on_paths`
-use Rattle.std.proofs.Common.{inl, map}
+use Rattle.std.proofs.Common.{map}
 use Rattle.cats_cmd.proofs.Opening.{first_of_all, opens_refused}
 use Rattle.cats_cmd.specs.Paths.{judgement_at}
 use Rattle.cats_cmd.proofs.RunsOfPaths.{text_refused, paths_printed}
@@ -21,6 +21,3 @@ returns-clause-runs g c =
     paths_printed _ _ _ _ _ _ _ _ _ _ _ _ _ _ _ c.in_ok-greatest.ensures.judges _ _ c.as_slice.result.now
     (rw c.as_slice.ensures.value (c.in_ok-text.ensures (map judgement_at c.in_ok-greatest.ensures.judges.judged) c.in_ok-greatest.ensures.judges.has))
     _ c.send_text.ensures
-
-pub returns-clause-opens : goal.returns-clause-opens
-returns-clause-opens g c = inl c.in_ok-greatest.ensures.opens

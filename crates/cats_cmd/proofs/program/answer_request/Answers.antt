@@ -26,6 +26,3 @@ returns-in-Err-clause-done g c =
     done_answer _ _ _ _ _ _ _ _ _ _ (plain_request c.args.request.now) _ _
     (inr (failed_request _ _ _ _ _ _ _ _ _ _
     (plain_request c.args.request.now) c.in-Err.error _ _ _ c.in-Err.ensures.carries c.report_request_error.ensures.line c.report_request_error.ensures.status))
-
-pub returns-in-Err-clause-opens : goal.returns-in-Err-clause-opens
-returns-in-Err-clause-opens g c = rw c.report_request_error.ensures.status c.in-Err.ensures.opens

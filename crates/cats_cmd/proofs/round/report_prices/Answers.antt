@@ -1,5 +1,4 @@
 -- `report_prices`
-use Rattle.std.proofs.lemmas.List.{take_all}
 use Rattle.cats_cmd.proofs.Rounding.{reported_more}
 use Rattle.cats_cmd.proofs.round.report_prices.Goals as goal
 
@@ -7,6 +6,3 @@ pub loop-price-preserved : goal.loop-price-preserved
 loop-price-preserved g c =
     reported_more g.E.Write.contents c.args.prices.now c.loop-price.price-index c.price-item.result c.loop-price-test.true _ _ _ c.loop-price.invariant
     (rw c.price-item.is at c.report_price.ensures)
-
-pub returns : goal.returns
-returns g c = rw (take_all c.loop-price.price-index c.args.prices.now c.loop-price-test.false) at c.loop-price.invariant

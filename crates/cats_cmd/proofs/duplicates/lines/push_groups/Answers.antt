@@ -1,7 +1,6 @@
 -- `push_groups`
 use Rattle.std.proofs.Common.{map, ap, ◌∙◌}
 use Rattle.cats_cmd.specs.DuplicateTexts.{with_group}
-use Rattle.std.proofs.lemmas.List.{take_all}
 use Rattle.cats_cmd.proofs.Grouping.{group_printed}
 use Rattle.cats_cmd.proofs.duplicates.lines.push_groups.Goals as goal
 
@@ -11,6 +10,3 @@ loop-group-preserved c =
     c.push_group.new.text.items c.loop-group-test.true c.group-item.is c.loop-group.invariant
     (c.in_ok-push_group.ensures ∙ ap (λ paths. with_group c.args.ending c.args.all c.loop-group.text.items (map (λ path. path.now) paths))
     c.as_slice.ensures.value)
-
-pub returns : goal.returns
-returns c = rw (take_all c.loop-group.group-index c.args.groups.now c.loop-group-test.false) at c.loop-group.invariant
