@@ -1,5 +1,5 @@
 -- `read_bytes`
-use Rattle.std.proofs.Common.{arith, ◌<◌, length, refl, ◌∙◌, inl, inr}
+use Rattle.std.proofs.Common.{arith, ◌<◌, length, ◌∙◌, inl, inr}
 use Rattle.cats_cmd.proofs.ReadingBytes.{bytes_wanted, no_more, not_at_the_end, at_the_end, too_many}
 use Rattle.cats_cmd.proofs.bytes.read_bytes.Goals as goal
 
@@ -23,9 +23,6 @@ returns-then-count-len g c =
     (inl (too_many g.R.Read.remaining c.args.input.now c.loop-text.input c.read.new.self c.loop-text.text.items _ c.in-Ok.count c.loop-text.invariant.came
     c.in-Ok.ensures.bytes.0 c.in-Ok.ensures.bound.1
     (omega (arith, c.if-count-len.true, c.len.ensures, c.loop-text.invariant.within))))
-
-pub returns-in-Err : goal.returns-in-Err
-returns-in-Err g c = rw c.whole-in-Err.ensures (inl (refl, c.in-Err.ensures.failed))
 
 pub returns-then-is_err : goal.returns-then-is_err
 returns-then-is_err g c =

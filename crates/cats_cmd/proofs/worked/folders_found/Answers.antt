@@ -1,5 +1,5 @@
 -- `folders_found`
-use Rattle.std.proofs.Common.{◌≡◌, ℕ, zero, suc, List, [], ◌∷◌, get_or, ap, arith, refl, true, false}
+use Rattle.std.proofs.Common.{◌≡◌, ℕ, zero, suc, List, [], ◌∷◌, arith, refl, false}
 use Rattle.std.specs.Cmp.Lexicographic.{slice_cmp}
 use Rattle.std.specs.List.Sorted.{IsSorted}
 use Rattle.std.specs.Ordering.{is_lt, nat_cmp}
@@ -19,11 +19,3 @@ returns-clause-ordered c =
       below = All-push below (codes "f/a.b" ∷ []) (codes "f/a/b") (All-push below [] (codes "f/a.b") (All-nil below) (codes "a.b", refl)) (codes "a/b", refl);
       sorted = in_order (codes "f/a.b") (codes "f/a/b") refl;
     }
-
-pub returns-clause-unordered : goal.returns-clause-unordered
-returns-clause-unordered c = λ lists. let less : true ≡ false = lists.sorted 0 [] (omega arith) (omega arith) in absurd (cc)
-
-pub returns-clause-elsewhere : goal.returns-clause-elsewhere
-returns-clause-elsewhere c = λ lists.
-    let same : 103 ≡ 102 = ap (λ (path : List ℕ). get_or path 0 0) (lists.below 0 [] (omega arith)).1 in
-    let no : ⊥ = omega (arith, same) in absurd no

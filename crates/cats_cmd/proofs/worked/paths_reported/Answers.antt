@@ -4,10 +4,6 @@ use Rattle.std.specs.Char.{encode_utf8}
 use Rattle.std.specs.Fmt.{digits}
 use Rattle.cats_cmd.proofs.worked.paths_reported.Goals as goal
 
-pub returns-clause-reason : goal.returns-clause-reason
-unfolding encode_utf8
-returns-clause-reason c = refl
-
 pub returns-clause-progress : goal.returns-clause-progress
 unfolding digits encode_utf8
 returns-clause-progress c = refl

@@ -1,7 +1,6 @@
 -- `Groups::add_refused`
 use Rattle.std.proofs.Common.{refl}
 use Rattle.cats_cmd.proofs.Judging.{groups_heavy}
-use Rattle.cats_cmd.proofs.Skipping.{groups_skip}
 use Rattle.cats_cmd.proofs.duplicates.Groups.add_refused.Goals as goal
 
 pub returns-in_ok-push-in-StepLimit : goal.returns-in_ok-push-in-StepLimit
@@ -9,9 +8,3 @@ returns-in_ok-push-in-StepLimit c =
     rw c.in-StepLimit.is (groups_heavy c.args.self.now _ c.args.path.now c.in_ok-path-in-StepLimit.path c.in_ok-number-in-StepLimit.number
     c.in_ok-path-in-StepLimit.ensures.items refl
     c.args.file.now c.requires c.in_ok-number-in-StepLimit.ensures.added c.in_ok-push-in-StepLimit.ensures.items)
-
-pub returns-in-Read : goal.returns-in-Read
-returns-in-Read c = rw c.in-Read.is (λ error js h. groups_skip c.args.self.now js c.args.path.now error h)
-
-pub returns-in-Memory : goal.returns-in-Memory
-returns-in-Memory c = rw c.in-Memory.is (λ error js h. groups_skip c.args.self.now js c.args.path.now error h)
