@@ -14,7 +14,6 @@ mod Reporting
 mod Escaped
 mod Judging
 mod JudgingPaths
-mod WrittenPrices
 mod FilesOfPaths
 mod Walking
 mod Opening

@@ -1,5 +1,5 @@
 -- The rows of `cats sizes`: what a row of a file says is what became of the file at its path.
-use Rattle.std.proofs.Common.{◌≡◌, ℕ, ◌-◌, List, [], ◌∷◌, ◌++◌, length, map, take, refl, sym, append-nil, inl, inr, ap, ◌∙◌, Option, Some, None}
+use Rattle.std.proofs.Common.{◌≡◌, ℕ, List, [], ◌∷◌, ◌++◌, map, refl, sym, append-nil, inl, inr, ap, ◌∙◌, Option, Some, None}
 use Rattle.std.specs.Prelude.{codes, IsSomeAnd}
 use Rattle.std.specs.Option.{MatchOption, option_map}
 use Rattle.std.proofs.lemmas.Grind.{flat_map-append}
@@ -12,7 +12,6 @@ use Rattle.commands.specs.declared.faults.RunFault.{RunFault}
 use Rattle.commands.specs.declared.faults.RunFault.TheVariants.{Refused}
 use Rattle.commands.specs.SizesRows.{Sized, IsSized, IsTooHeavy, IsUnsized, Sizes, cells, fault_sized, numbers_sized}
 use Rattle.cats_cmd.specs.Paths.{Judgement, IsHeavy, IsJudged, IsUnjudged, JudgesInput, request_error_of}
-use Rattle.cats_cmd.specs.RequestErrors.{line_of_request_error}
 use Rattle.cats_cmd.specs.SizesTables.{columns, fault_cell, number_columns, row, rows_of_table}
 use Rattle.cats_cmd.specs.Escaping.{path_text}
 use Rattle.cats_cmd.specs.declared.paths.Ending.{Ending}
@@ -75,11 +74,3 @@ pub row_put : (ending : Ending) (rows longer path numbers all given : List ℕ) 
 row_put ending rows longer path numbers all given j error is whole why same put js h =
     rw (put, same, whole, why, is, h, row_more ending js path j)
     (ap (λ (text : List ℕ). rows_of_table ending js ++ (text ++ path_text ending path)) (sym (row_cells j)))
-
--- the cell of the fault
-pub fault_put : (text longer line : List ℕ) (error : Option RequestError) (why : RequestError) (size end : ℕ) → error ≡ Some why
-    → line ≡ line_of_request_error why → size ≡ length line → end ≡ size - 1 → longer ≡ text ++ take end line → longer ≡ text ++ fault_cell error
-fault_put text longer line error why size end some is long before put = rw (put, before, long, is, some) refl
-
-pub no_fault_put : (text : List ℕ) (error : Option RequestError) → error ≡ None → text ≡ text ++ fault_cell error
-no_fault_put text error none = rw none (sym (append-nil text))
