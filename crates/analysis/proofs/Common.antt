@@ -11,7 +11,7 @@ pub use Rattle.std.proofs.lemmas.Bool.{and_cases, ltb-false, and_right, or_right
 pub use Rattle.std.proofs.lemmas.Bool.{cases_Bool, false_from_ne_true, not_from_false, not_from_true, not-false, not-true, eqb-true, lt-ltb, leb-false}
 pub use Rattle.std.proofs.lemmas.Bool.{cases_lt, cond-false, cond-true, le-ltb, leb-true, lt-leb, eqb-false, ltb-true, or_cases}
 pub use Rattle.std.proofs.lemmas.Bool.Decides.{Decides-eqb}
-pub use Rattle.std.proofs.lemmas.Cmp.{nat_list_eq_equiv, back_total, nat_cmp_total, tied_itself, on_total, then_total}
+pub use Rattle.std.proofs.lemmas.Cmp.{back_total, nat_cmp_total, tied_itself, on_total, then_total}
 pub use Rattle.std.proofs.lemmas.Fn.{always_returns_same}
 pub use Rattle.std.proofs.lemmas.Grind.{common_steps, get_or-set_at, get_or_default_zero}
 pub use Rattle.std.proofs.lemmas.Iterator.{YieldsList}
@@ -36,12 +36,11 @@ pub use Rattle.std.proofs.lemmas.List.Splits.{slice_split_first}
 pub use Rattle.std.proofs.lemmas.List.Sums.{count_by-le-length, sum_by_push, sum_by-cons, sum_by-append, sum_by-drop_more, sum_by-take-drop, length-filter}
 pub use Rattle.std.proofs.lemmas.Map.Keys.{IsStrictlyIncreasing-dedup, IsDistinct-IsPermutation, IsStrictlyIncreasing-from_distinct}
 pub use Rattle.std.proofs.lemmas.Map.Made.{AllPairs-from_IsDistinct, IsDistinct-from_AllPairs}
-pub use Rattle.std.proofs.lemmas.Map.Text.{is_eq-slice_cmp}
 pub use Rattle.std.proofs.lemmas.Option.{same_Some, slice_get_within, get_or_from_slice_get, slice_get-get_or, none-some}
 pub use Rattle.std.proofs.lemmas.Result.{IfOk-weaker, on_ok_weaker}
 pub use Rattle.std.specs.BTreeMap.{BTreeMap, UpdatesBy}
 pub use Rattle.std.specs.Cmp.{IsTotalOrder}
-pub use Rattle.std.specs.Cmp.Lexicographic.{bytes_decides, slice_cmp}
+pub use Rattle.std.specs.Cmp.Lexicographic.{slice_cmp}
 pub use Rattle.std.specs.FinMap.{nat_cmp-IsAntisymmetric}
 pub use Rattle.std.specs.Fn.{CalledAt}
 pub use Rattle.std.specs.Iterator.{Yields}
@@ -49,7 +48,6 @@ pub use Rattle.std.specs.Iterator.Adapters.{filter_callee, filter_source, filter
 pub use Rattle.std.specs.List.{list_any, dedup, position_or_len, onto_first, list_all, filter, range_with_len, find, AllByRecursion, flat_map, cons_option}
 pub use Rattle.std.specs.List.{filter_map}
 pub use Rattle.std.specs.List.Sorted.{IsSortedBy, IsPartitionedBy, IsPartitionPoint, IsSorted}
-pub use Rattle.std.specs.Map.{IsKeyTest, lookup}
 pub use Rattle.std.specs.Option.{unwrap_or}
 pub use Rattle.std.specs.Ordering.{ordering_index, is_gt, is_eq, ordering_reverse, ordering_then}
 pub use Rattle.std.specs.Prelude.{sum_by}
@@ -74,7 +72,7 @@ pub use Rattle.analysis.specs.Internal.NumberLines.{RefusesLine}
 pub use Rattle.analysis.specs.Internal.Orders.{NeverFall}
 pub use Rattle.analysis.specs.Internal.Partners.{IsRarest, TakesPartner, ArePartners, IsCandidate, IsRarestIfAny, rarer_candidate}
 pub use Rattle.analysis.specs.Internal.RowTexts.{instead}
-pub use Rattle.analysis.specs.Internal.Starts.{IsNamed, AreStarts}
+pub use Rattle.analysis.specs.Internal.Starts.{IsNamedCanonical, AreStarts}
 pub use Rattle.analysis.specs.Internal.Walks.{IsKnown, IsBestAt, IsLastBest, IsNext, best_after, dummy_of, is_kept_atom, HasPassed, IsNextBest, is_best_of}
 pub use Rattle.analysis.specs.Internal.Walks.{is_kept_bid, passed_bids, IsAt}
 pub use Rattle.analysis.specs.KeptWinners.{kept_by, named_by, with_kept_bids, AreKept, in_canonical_file, kept_as, number_kept_as, in_place_of}
@@ -132,7 +130,7 @@ pub use Rattle.prune.proofs.Pruning.{behind_next}
 pub use Rattle.prune.specs.Fates.{plain_fate, xor_fates, best_bids, indices_below}
 pub use Rattle.prune.specs.InOrder.{IsInOrder, IsBefore}
 pub use Rattle.prune.specs.Lemmas.Fates.{or_fate-reaches, indices_below-within}
-pub use Rattle.prune.specs.Lemmas.InOrder.{before_both, before_itself, before_not_inside, same_in_order}
+pub use Rattle.prune.specs.Lemmas.InOrder.{before_itself, before_not_inside, same_in_order}
 pub use Rattle.prune.specs.Lemmas.KeptBids.{or_points_keep_values, or_points_on_bundles, xor_points_keep_values, on_bundles, just_bundles, or_points_are_atoms}
 pub use Rattle.prune.specs.Lemmas.KeptBids.{xor_points_are_atoms}
 pub use Rattle.prune.specs.Lemmas.Lists.{find_same_on, map_same_on, list_all_fails, All-from_Contains, Contains-filter, Contains-filter_parts, Contains-nil}
@@ -140,15 +138,14 @@ pub use Rattle.prune.specs.Lemmas.Lists.{Contains-tail, list_all_at, list_all_fr
 pub use Rattle.prune.specs.Lemmas.Lists.{find_none, found_none, found_some, list_any_has, find_first}
 pub use Rattle.prune.specs.Lemmas.OnBundles.{IsOnBundle}
 pub use Rattle.prune.specs.Lemmas.Points.{points_where-are, points_where-has, or_points_are, xor_points_are, points_where-in_order}
-pub use Rattle.prune.specs.Lemmas.Ranges.{range_rising, range_more, in_range, range_contains}
+pub use Rattle.prune.specs.Lemmas.Ranges.{range_more, in_range, range_contains}
 pub use Rattle.prune.specs.Lemmas.SearchSteps.{greatest_price-member, greatest_price-bound, greatest_price-reached}
 pub use Rattle.prune.specs.Lemmas.Tables.{no_xor_points}
 pub use Rattle.prune.specs.Lemmas.Values.{or_value-filter_on, xor_value-reached, xor_value-member}
-pub use Rattle.prune.specs.Points.{xor_points, or_points, is_or_point, is_xor_point}
+pub use Rattle.prune.specs.Points.{xor_points, or_points, is_or_point}
 pub use Rattle.prune.specs.SearchSteps.{atoms_below, greatest_price, is_below}
 pub use Rattle.valuation.specs.Auctions.{IsAuction, auction_from, PlainAuction, atom_of, IsAtom, is_dummy, or_atoms_of, xor_atoms_of}
 pub use Rattle.valuation.specs.Lemmas.AuctionsOfFiles.{IsBid-there, IsAuction-auction_from}
-pub use Rattle.valuation.specs.Lemmas.Bounds.{sum-zero}
 pub use Rattle.valuation.specs.Lemmas.Lists.{AllPairs-nil, AllPairs-cons, AllPairs-head, AllPairs-tail, Contains-cons_cases, Contains-map, Contains-unmap}
 pub use Rattle.valuation.specs.Lemmas.Lists.{le_or_lt, AllPairs-map, AllPairs-append}
 pub use Rattle.valuation.specs.Lemmas.OrValues.{or_value-filter_le, ReachesValue-some, or_value-price}

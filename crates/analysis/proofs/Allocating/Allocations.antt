@@ -2,12 +2,12 @@
 -- so such numbers are an allocation once they are sorted.
 use Rattle.analysis.proofs.Common.{rules, IsSorted, ◌≡◌, ℕ, ◌<◌, ◌≤◌, true, not, ⊎_elim, ◌⊎◌, inl, inr, List, [], ◌∷◌, length, map, get_or, refl, sym, ap}
 use Rattle.analysis.proofs.Common.{subst, Option, Some, None, arith, nat_cmp, All, AllPairs, Contains, IsPermutation, IsTrue, list_all, and_parts, and_from}
-use Rattle.analysis.proofs.Common.{nat_cmp_total, All-head, All-tail, All-contains, All-permutation, sum_by-IsPermutation, AreBelow, IsBundle, all_bundles}
-use Rattle.analysis.proofs.Common.{are_apart, all_bundles_has, apart_sym, apart_inside_none, inside_refl, PlainBid, PlainFile, IsPlainFile, AllPairs-nil}
-use Rattle.analysis.proofs.Common.{AllPairs-cons, AllPairs-head, AllPairs-tail, Contains-cons_cases, Contains-map, Contains-unmap, le_or_lt}
-use Rattle.analysis.proofs.Common.{permutation-sort_by, sorted-sort_by, sort_by, All-from_Contains, Contains-filter, Contains-filter_parts, Contains-nil}
-use Rattle.analysis.proofs.Common.{Contains-tail, list_all_at, list_all_from, bid_at, AreWinners, IsAllocation, can_all_win, can_both_win, greatest_revenue}
-use Rattle.analysis.proofs.Common.{revenue, share_dummy, max, all_bundles_are, allocations, greatest}
+use Rattle.analysis.proofs.Common.{nat_cmp_total, All-head, All-tail, All-contains, All-permutation, sum_by-IsPermutation, AreBelow, all_bundles, are_apart}
+use Rattle.analysis.proofs.Common.{all_bundles_has, apart_sym, apart_inside_none, inside_refl, PlainBid, PlainFile, IsPlainFile, AllPairs-nil, AllPairs-cons}
+use Rattle.analysis.proofs.Common.{AllPairs-head, AllPairs-tail, Contains-cons_cases, Contains-map, Contains-unmap, le_or_lt, permutation-sort_by}
+use Rattle.analysis.proofs.Common.{sorted-sort_by, sort_by, All-from_Contains, Contains-filter, Contains-filter_parts, Contains-nil, Contains-tail, list_all_at}
+use Rattle.analysis.proofs.Common.{list_all_from, bid_at, AreWinners, IsAllocation, can_all_win, can_both_win, greatest_revenue, revenue, share_dummy, max}
+use Rattle.analysis.proofs.Common.{all_bundles_are, allocations, greatest}
 use Rattle.analysis.proofs.Explaining.KeptBids.{bid_here}
 use Rattle.analysis.proofs.Explaining.Packings.{increasing, pairs_sorted, rising_from_pairs}
 use Rattle.canon.specs.Lemmas.OrDifferences.{eqb_swap}
@@ -93,43 +93,32 @@ greatest_bounds (x ∷ xs) n c =
     ⊎_elim (λ (e : x ≡ n). omega arith) (λ (d : Contains xs n). let l = greatest_bounds xs n d in omega arith) (Contains-cons_cases x xs n c)
 
 pub revenue_at_most : (f : PlainFile) (winners : List ℕ) → IsAllocation f winners → revenue f winners ≤ greatest_revenue f
-revenue_at_most f winners h =
-    greatest_bounds (map (revenue f) (allocations f)) (revenue f winners) (Contains-map (revenue f) (allocations f) winners
-    (Contains-filter (can_all_win f) (all_bundles (length f.bids)) winners
-    (all_bundles_has (length f.bids) winners h.numbers) h.win))
+revenue_at_most f winners h = greatest_bounds (map (revenue f) (allocations f)) (revenue f winners) (Contains-map (revenue f) (allocations f) winners
+    (search (rules, Contains-filter, all_bundles_has)))
 
 no_winners : (f : PlainFile) → IsAllocation f []
 no_winners f = record { numbers = (tt, tt); win = refl }
 
 greatest_there : (xs : List ℕ) → (greatest xs ≡ 0) ⊎ Contains xs (greatest xs)
 greatest_there [] = inl refl
-greatest_there (x ∷ xs) =
-    ⊎_elim (λ (l : greatest xs ≤ x). let e : x ≡ max x (greatest xs) = omega arith in inr (0, omega arith, e))
+greatest_there (x ∷ xs) = ⊎_elim (λ (l : greatest xs ≤ x). let e : x ≡ max x (greatest xs) = omega arith in inr (0, omega arith, e))
     (λ (l : x < greatest xs).
     let e : max x (greatest xs) ≡ greatest xs = omega arith in
     ⊎_elim (λ (z : greatest xs ≡ 0). absurd (omega arith))
-    (λ (c : Contains xs (greatest xs)). inr (subst (Contains (x ∷ xs)) (sym e) (Contains-tail x xs (greatest xs) c)))
+    (search (rules, Contains-tail))
     (greatest_there xs))
     (le_or_lt (greatest xs) x)
 
 pub winners_there : (f : PlainFile) → (winners : List ℕ) × AreWinners f winners
-winners_there f =
-    ⊎_elim (λ (none : greatest_revenue f ≡ 0). ([], record { allocation = no_winners f; greatest = sym none }))
+winners_there f = ⊎_elim (search (rules, no_winners))
     (λ (c : Contains (map (revenue f) (allocations f)) (greatest_revenue f)).
     let r = Contains-unmap (revenue f) (allocations f) (greatest_revenue f) c in
     let parts = Contains-filter_parts (can_all_win f) (all_bundles (length f.bids)) r.0 r.1 in
-    let numbers = All-contains (IsBundle (length f.bids)) (all_bundles (length f.bids)) r.0 (all_bundles_are (length f.bids)) parts.0 in
-    (r.0, record { allocation = record { numbers = numbers; win = parts.1 }; greatest = sym r.2 }))
+    search (rules, All-contains, all_bundles_are))
     (greatest_there (map (revenue f) (allocations f)))
 
 -- a file of which each allocation has one of at least its revenue in another, has no greater revenue
 pub greatest_revenue_at_most : (f g : PlainFile)
     → ((winners : List ℕ) → IsAllocation f winners → (others : List ℕ) × IsAllocation g others × (revenue f winners ≤ revenue g others))
     → greatest_revenue f ≤ greatest_revenue g
-greatest_revenue_at_most f g exchange =
-    let best = winners_there f in
-    let r = exchange best.0 best.1.allocation in
-    let enough = r.2 in
-    let most = revenue_at_most g r.0 r.1 in
-    let here = best.1.greatest in
-    omega arith
+greatest_revenue_at_most f g exchange = let best = winners_there f in search (rules, revenue_at_most)

@@ -1,11 +1,10 @@
 -- The numbers of the bids that have a good, bid by bid. The goods of a bid rise, with its dummy good behind them, so its number is put once
 -- in the list of each.
-use Rattle.analysis.proofs.Common.{rules, ◌≡◌, ℕ, ◌+◌, ◌<◌, Bool, ◌||◌, eqb, ⊎_elim, List, [], ◌∷◌, ◌++◌, length, set, get_or, refl, sym, ap, ap₂, ◌∙◌}
-use Rattle.analysis.proofs.Common.{subst, arith, Option, Some, Global, append-nil, get_or-set_same, get_or-set_other, All, Vec, filter, range_with_len}
-use Rattle.analysis.proofs.Common.{cases_eq, eq-eqb, ne_eqb, or_left, get_or-append_seam, get_or_append_left, get_or-map, length-append, length-map, length-set}
-use Rattle.analysis.proofs.Common.{map-set, All-from_recursion, filter-append, AreAbove, AreBelow, IsRising, has_good, IsBid, PlainBid, PlainFile, dummy_good}
-use Rattle.analysis.proofs.Common.{goods_of, filter-kept, filter-lost, bid_at, AreByGood, lists_of, with_bid, bids_with, has_not_head}
-use Rattle.analysis.proofs.Common.{list_at, with_number}
+use Rattle.analysis.proofs.Common.{rules, ◌≡◌, ℕ, ◌+◌, ◌<◌, Bool, ⊎_elim, List, [], ◌∷◌, ◌++◌, length, set, get_or, refl, sym, ap, ap₂, ◌∙◌, subst, Option}
+use Rattle.analysis.proofs.Common.{Some, Global, append-nil, get_or-set_same, get_or-set_other, All, Vec, filter, range_with_len, cases_eq, eq-eqb, ne_eqb}
+use Rattle.analysis.proofs.Common.{or_left, get_or-append_seam, get_or_append_left, get_or-map, length-append, length-map, length-set, map-set, filter-append}
+use Rattle.analysis.proofs.Common.{AreAbove, AreBelow, IsRising, has_good, IsBid, PlainBid, PlainFile, dummy_good, goods_of}
+use Rattle.analysis.proofs.Common.{filter-kept, filter-lost, bid_at, AreByGood, lists_of, with_bid, bids_with, has_not_head, list_at, with_number}
 use Rattle.analysis.proofs.Allocating.RowTexts.{range_next}
 use Rattle.goods_set.specs.Lemmas.Members.{AreBelow-higher}
 
@@ -57,27 +56,18 @@ module _ (n good : ℕ) where
   at_bid : (goods : List ℕ) (lists : List (List ℕ)) → IsRising goods → AreBelow (length lists) goods
       → list_at (with_bid n lists goods) good ≡ list_at lists good ++ put goods
   at_bid [] lists r b = sym (append-nil (list_at lists good))
-  at_bid (x ∷ xs) lists r b =
-      let next : List (List ℕ) = with_number n lists x in
+  at_bid (x ∷ xs) lists r b = let next : List (List ℕ) = with_number n lists x in
       let long = length-set lists x (list_at lists x ++ n ∷ []) in
       at_bid xs next r.1 (subst (λ m. AreBelow m xs) (sym long) b.1)
       ∙ ⊎_elim
-      (λ (same : good ≡ x).
-      ap₂ (λ (ys zs : List ℕ). ys ++ zs) (ap (list_at next) same ∙ get_or-set_same lists x (list_at lists x ++ n ∷ []) [] b.0
-      ∙ ap (λ (g : ℕ). list_at lists g ++ n ∷ []) (sym same))
-      (filter-lost (λ i. has_good xs good) n [] (ap (has_good xs) same ∙ has_not_head x xs r.0))
-      ∙ append-nil (list_at lists good ++ n ∷ [])
-      ∙ ap (λ (zs : List ℕ). list_at lists good ++ zs)
-      (sym (filter-kept (λ i. has_good (x ∷ xs) good) n [] (or_left (eqb x good) (has_good xs good) (eq-eqb x good (sym same))))))
-      (λ (other : good ≡ x → ⊥).
-      ap₂ (λ (ys zs : List ℕ). ys ++ zs) (get_or-set_other lists x good (list_at lists x ++ n ∷ []) [] other)
-      (ap (λ (t : Bool). filter (λ i. t || has_good xs good) (n ∷ [])) (sym (ne_eqb x good (λ e. other (sym e))))))
+      (search (rules, get_or-set_same, filter-lost, has_not_head, append-nil, filter-kept, or_left, eq-eqb))
+      (search (rules, get_or-set_other, ne_eqb))
       (cases_eq good x)
 
 pub bid_put : (f : PlainFile) (n : ℕ) (b : PlainBid) (lists changed : List (List ℕ)) → IsBid f.goods f.dummy b → b ≡ bid_at f n
     → changed ≡ with_bid n lists (goods_of f.goods b) → AreByGood f n lists → AreByGood f (n + 1) changed
 bid_put f n b lists changed is here c h = record {
-  long = ap (length {A = List ℕ}) c ∙ length-with_bid n lists (goods_of f.goods b) ∙ h.long;
+  long = search (rules, length-with_bid);
   each = λ good l.
       let has : PlainBid → Bool = λ a. has_good (goods_of f.goods a) good in
       let test : ℕ → Bool = λ i. has (bid_at f i) in
@@ -88,27 +78,16 @@ bid_put f n b lists changed is here c h = record {
       ∙ sym (filter-append test (range_with_len 0 n) (n ∷ [])) ∙ ap (filter test) (sym (range_next n));
 }
 
-pub goods_within : (f : PlainFile) (b : PlainBid) (n : ℕ) (lists : List (Vec ℕ Global)) → IsBid f.goods f.dummy b → AreByGood f n (lists_of lists)
-    → All (λ g. g < length lists) (goods_of f.goods b)
-goods_within f b n lists is h =
-    let long : f.goods + f.dummy ≡ length lists = sym h.long ∙ length-lists_of lists in
-    subst (λ m. All (λ g. g < m) (goods_of f.goods b)) long
-    (All-from_recursion (λ g. g < f.goods + f.dummy) (goods_of f.goods b) (goods_below f.goods f.dummy b is))
-
 pub good_within : (G m i : ℕ) (b : PlainBid) → All (λ g. g < m) (goods_of G b) → i < length b.goods → get_or b.goods i 0 < m
 good_within G m i b h l = search (rules, get_or_append_left, length-append)
 
 pub dummy_within : (G m d : ℕ) (b : PlainBid) → All (λ g. g < m) (goods_of G b) → b.dummy ≡ Some d → G + d < m
-dummy_within G m d b h s =
-    let all : All (λ g. g < m) (b.goods ++ (G + d) ∷ []) = subst (λ (o : Option ℕ). All (λ g. g < m) (b.goods ++ dummy_good G o)) s h in
+dummy_within G m d b h s = let all : All (λ g. g < m) (b.goods ++ (G + d) ∷ []) = subst (λ (o : Option ℕ). All (λ g. g < m) (b.goods ++ dummy_good G o)) s h in
     let at = get_or-append_seam b.goods (G + d) [] 0 in
-    let long = length-append b.goods ((G + d) ∷ []) in
-    let one = all (length b.goods) 0 (omega arith) in
-    omega arith
+    search (rules, length-append)
 
 pub same_length : (n : ℕ) (lists now : List (Vec ℕ Global)) (goods : List ℕ) → lists_of now ≡ with_bid n (lists_of lists) goods → length now ≡ length lists
-same_length n lists now goods h =
-    sym (length-lists_of now) ∙ ap (length {A = List ℕ}) h ∙ length-with_bid n (lists_of lists) goods ∙ length-lists_of lists
+same_length n lists now goods h = search (rules, length-lists_of, length-with_bid)
 
 -- the list of a good
 pub bids_found : (f : PlainFile) (lists : List (Vec ℕ Global)) (good : ℕ) (v : Vec ℕ Global) → AreByGood f (length f.bids) (lists_of lists)

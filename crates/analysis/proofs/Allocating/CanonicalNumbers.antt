@@ -1,11 +1,10 @@
 -- Numbers of kept bids and numbers of the canonical file. Each gives back the other, so a list of either that rises does too, once what it
 -- gives is sorted.
-use Rattle.analysis.proofs.Common.{◌≡◌, ℕ, ◌<◌, true, List, [], ◌∷◌, length, map, refl, sym, ap, ap₂, ◌∙◌, subst, nat_cmp}
-use Rattle.analysis.proofs.Common.{nat_cmp-IsAntisymmetric, All, IsPermutation, nat_cmp_total, All-head, All-map, All-tail, All-weaker}
-use Rattle.analysis.proofs.Common.{IsPermutation-map, IsPermutation-sym, IsRising, PlainBid, PlainFile, IsPlainFile, All-sort_by}
-use Rattle.analysis.proofs.Common.{permutation-sort_by, sorted-sort_by, sorted_is_sort_by, sort_by, canonical_file, IsPlainFile-canonical, bid_at, PlainReason}
-use Rattle.analysis.proofs.Common.{Keep, Zero, Same, Inside, Packing, IsKeptAs, is_kept, kept_number, IsDecided, IsAllocation, AreKept, in_canonical_file}
-use Rattle.analysis.proofs.Common.{kept_as, number_kept_as, same_Some, IsPermutation-trans}
+use Rattle.analysis.proofs.Common.{rules, ◌≡◌, ℕ, ◌<◌, true, List, [], ◌∷◌, length, map, refl, sym, ap, ap₂, ◌∙◌, subst, nat_cmp, nat_cmp-IsAntisymmetric, All}
+use Rattle.analysis.proofs.Common.{IsPermutation, nat_cmp_total, All-head, All-map, All-tail, All-weaker, IsPermutation-map, IsPermutation-sym, IsRising}
+use Rattle.analysis.proofs.Common.{PlainBid, PlainFile, IsPlainFile, All-sort_by, permutation-sort_by, sorted-sort_by, sorted_is_sort_by, sort_by}
+use Rattle.analysis.proofs.Common.{canonical_file, IsPlainFile-canonical, bid_at, PlainReason, Keep, Zero, Same, Inside, Packing, IsKeptAs, is_kept}
+use Rattle.analysis.proofs.Common.{kept_number, IsDecided, IsAllocation, AreKept, in_canonical_file, kept_as, number_kept_as, same_Some, IsPermutation-trans}
 use Rattle.analysis.specs.Reasons.{reason_of}
 use Rattle.analysis.proofs.Explaining.BestBids.{alike_from}
 use Rattle.analysis.proofs.Explaining.KeptBidsBest.{best-once, one_key_same}
@@ -24,12 +23,11 @@ given_back m n (x ∷ xs) h =
     ap₂ (λ (y : ℕ) (ys : List ℕ). y ∷ ys) (All-head (λ y. m (n y) ≡ y) x xs h) (given_back m n xs (All-tail (λ y. m (n y) ≡ y) x xs h))
 
 there_and_back : (m n : ℕ → ℕ) (xs : List ℕ) → IsRising xs → All (λ x. m (n x) ≡ x) xs → sort_by nat_cmp (map m (sort_by nat_cmp (map n xs))) ≡ xs
-there_and_back m n xs rising h =
-    let there = sort_by nat_cmp (map n xs) in
+there_and_back m n xs rising h = let there = sort_by nat_cmp (map n xs) in
     let moved = IsPermutation-map m there (map n xs) (IsPermutation-sym (map n xs) there (permutation-sort_by nat_cmp (map n xs))) in
     let same = IsPermutation-trans (map m there) xs (sort_by nat_cmp xs) (subst (IsPermutation (map m there)) (given_back m n xs h) moved)
     (permutation-sort_by nat_cmp xs) in
-    sym (sorted_is_sort_by nat_cmp nat_cmp_total nat_cmp-IsAntisymmetric (map m there) (sort_by nat_cmp xs) same (sorted-sort_by nat_cmp nat_cmp_total xs))
+    sym (search (rules, sorted_is_sort_by, nat_cmp_total, nat_cmp-IsAntisymmetric, sorted-sort_by))
     ∙ sort_rising xs rising
 
 -- ---- kept bids and those of the canonical file
@@ -58,9 +56,8 @@ module _ (f : PlainFile) (is : IsPlainFile f) where
   here k l = counterpart f (number_kept_as f k) k (number_is k l)
 
   pub moved_here : (winners : List ℕ) → IsAllocation other winners → IsMoved other f winners (kept_as f winners)
-  moved_here winners h =
-      renumbered other f is (number_kept_as f) IsThere (λ k l. (here k l).within) (λ k l. ap (λ (b : PlainBid). b.price) (here k l).is)
-      (λ k l m n. win_here f is (number_kept_as f k) (number_kept_as f l) k l (here k m) (here l n)) winners (winners_within other winners h) h
+  moved_here winners h = renumbered other f is (number_kept_as f) IsThere (λ k l. (here k l).within) (λ k l. ap (λ (b : PlainBid). b.price) (here k l).is)
+      (search (rules, win_here, here)) winners (winners_within other winners h) h
 
   pub kept_here : (winners : List ℕ) → IsAllocation other winners → AreKept f (kept_as f winners)
   kept_here winners h =
@@ -84,18 +81,16 @@ module _ (f : PlainFile) (is : IsPlainFile f) where
   all_kept winners h kept i d l = (winners_within f winners h i d l, kept i d l)
 
   pub moved_there : (winners : List ℕ) → IsAllocation f winners → AreKept f winners → IsMoved f other winners (in_canonical_file f winners)
-  moved_there winners h kept =
-      renumbered f other (IsPlainFile-canonical f is) (kept_number f) IsKept (λ i p. (there i p).index)
+  moved_there winners h kept = renumbered f other (IsPlainFile-canonical f is) (kept_number f) IsKept (λ i p. (there i p).index)
       (λ i p. sym (ap (λ (b : PlainBid). b.price) (there i p).is))
-      (λ i j p q. win_there f is i j (kept_number f i) (kept_number f j) (there i p) (there j q)) winners (all_kept winners h kept) h
+      (search (rules, win_there, there)) winners (all_kept winners h kept) h
 
   -- ---- one to one
 
   one_number : (i j k : ℕ) → IsKeptAs f i k → IsKeptAs f j k → i ≡ j
-  one_number i j k one two =
-      let same = same_Some (bid_at f i) (bid_at f j) (sym one.is ∙ two.is) in
+  one_number i j k one two = let same = same_Some (bid_at f i) (bid_at f j) (sym one.is ∙ two.is) in
       best-once f i j (counterpart f i k one).within (counterpart f j k two).within one.bid.best two.bid.best
-      (alike_from (bid_at f i) (bid_at f j) (one_key_same (bid_at f i) (bid_at f j) same))
+      (search (rules, alike_from, one_key_same))
 
   pub back : (winners : List ℕ) → IsAllocation f winners → AreKept f winners → kept_as f (in_canonical_file f winners) ≡ winners
   back winners h kept =

@@ -1,17 +1,15 @@
 -- The first two bids that cannot both win. None is found exactly if all can win, and no earlier two clash.
-use Rattle.analysis.proofs.Common.{◌≡◌, ℕ, ◌<◌, Bool, true, false, not, cond, ⊎_elim, List, [], ◌∷◌, refl, sym, ap, ◌∙◌, subst, arith, Option, Some, None}
-use Rattle.analysis.proofs.Common.{Contains, IfSome, find, list_all, and_from, and_parts, cases_Bool, not-false, not-true, not_from_true, IsRising, has_above}
-use Rattle.analysis.proofs.Common.{PlainFile, Contains-cons_cases, Contains-head, Contains-nil, Contains-tail, find_none, found_none, found_some, list_all_at}
-use Rattle.analysis.proofs.Common.{list_all_from, bid_at, IsFirstClash, first_clash, first_rival, pair_or, can_all_win, can_both_win, same_Some}
+use Rattle.analysis.proofs.Common.{rules, ◌≡◌, ℕ, ◌<◌, Bool, true, false, not, cond, ⊎_elim, List, [], ◌∷◌, refl, sym, ap, ◌∙◌, subst, arith, Option, Some}
+use Rattle.analysis.proofs.Common.{None, Contains, IfSome, find, list_all, and_from, and_parts, cases_Bool, not-false, not-true, not_from_true, IsRising}
+use Rattle.analysis.proofs.Common.{has_above, PlainFile, Contains-cons_cases, Contains-head, Contains-nil, Contains-tail, find_none, found_none, found_some}
+use Rattle.analysis.proofs.Common.{list_all_at, list_all_from, bid_at, IsFirstClash, first_clash, first_rival, pair_or, can_all_win, can_both_win, same_Some}
 use Rattle.analysis.proofs.Allocating.LpRows.{has_from}
 
 -- the first of rising numbers that passes a test: no lesser one does
 pub found_least : (p : ℕ → Bool) (xs : List ℕ) → IsRising xs → (x : ℕ) → find p xs ≡ Some x → (y : ℕ) → Contains xs y → y < x → p y ≡ false
 found_least p [] r x e y c l = absurd (Contains-nil y c)
-found_least p (z ∷ zs) r x e y c l =
-    ⊎_elim
+found_least p (z ∷ zs) r x e y c l = ⊎_elim
     (λ (t : p z ≡ true).
-    let is : Some z ≡ Some x = sym (ap (λ (b : Bool). cond b (Some z) (find p zs)) t) ∙ e in
     let same : z ≡ x = cc in
     ⊎_elim (λ (h : z ≡ y). absurd (omega arith))
     (λ (d : Contains zs y). let above = has_above z zs y r.0 (has_from zs y d) in absurd (omega arith)) (Contains-cons_cases z zs y c))
@@ -36,14 +34,12 @@ module _ (f : PlainFile) where
     where
       by : (o : Option ℕ) → first_rival f i later ≡ o → (first_clash f later ≡ None → can_all_win f later ≡ true)
           → can_all_win f (i ∷ later) ≡ true
-      by None h others =
-          let rest : first_clash f later ≡ None = sym (ap (λ (o : Option ℕ). pair_or i o (first_clash f later)) h) ∙ e in
+      by None h others = let rest : first_clash f later ≡ None = sym (ap (λ (o : Option ℕ). pair_or i o (first_clash f later)) h) ∙ e in
           and_from (list_all (λ j. can_both_win (bid_at f i) (bid_at f j)) later) (can_all_win f later)
           (list_all_from (λ j. can_both_win (bid_at f i) (bid_at f j)) later
           (λ j c. not-false (can_both_win (bid_at f i) (bid_at f j)) (found_none (clash i) later h j c)))
           (others rest)
-      by (Some j) h others =
-          let found : ◌≡◌ {A = Option (ℕ × ℕ)} (Some (i, j)) None = sym (ap (λ (o : Option ℕ). pair_or i o (first_clash f later)) h) ∙ e in absurd (cc)
+      by (Some j) h others = absurd (cc)
 
   pub none_if_all_win : (bids : List ℕ) → can_all_win f bids ≡ true → first_clash f bids ≡ None
   none_if_all_win [] h = refl
@@ -59,8 +55,7 @@ module _ (f : PlainFile) where
   first_pair (w ∷ later) r i j e = by (first_rival f w later) refl (first_pair later r.1 i j)
     where
       in_later : (k l : ℕ) → k < l → Contains (w ∷ later) k → Contains (w ∷ later) l → Contains later l
-      in_later k l less c d =
-          ⊎_elim
+      in_later k l less c d = ⊎_elim
           (λ (h : w ≡ l).
           ⊎_elim (λ (g : w ≡ k). absurd (omega arith))
           (λ (g : Contains later k). let above = has_above w later k r.0 (has_from later k g) in absurd (omega arith)) (Contains-cons_cases w later k c))
@@ -68,8 +63,7 @@ module _ (f : PlainFile) where
 
       by : (o : Option ℕ) → first_rival f w later ≡ o → (first_clash f later ≡ Some (i, j) → IsFirstClash f later i j)
           → IsFirstClash f (w ∷ later) i j
-      by None h others =
-          let rest : first_clash f later ≡ Some (i, j) = sym (ap (λ (o : Option ℕ). pair_or w o (first_clash f later)) h) ∙ e in
+      by None h others = let rest : first_clash f later ≡ Some (i, j) = sym (ap (λ (o : Option ℕ). pair_or w o (first_clash f later)) h) ∙ e in
           let p = others rest in
           record {
             first = Contains-tail w later i p.first;
@@ -105,4 +99,4 @@ module _ (f : PlainFile) where
                 subst (λ (n : ℕ). Win n l) is (not-false (can_both_win (bid_at f w) (bid_at f l)) (found_least (clash w) later r.1 x h l m b.1)))
                 before;
           } in
-          subst (λ (n : ℕ). IsFirstClash f (w ∷ later) n j) same (subst (IsFirstClash f (w ∷ later) w) other here)
+          search rules

@@ -4,20 +4,20 @@ use Rattle.analysis.proofs.Common.{IsSorted, and_from, and_parts, leb-false, All
 use Rattle.analysis.proofs.Common.{IsRising, has_good, AreBelow-from_has, has-filter, same_from_has, PlainFile, All-from_Contains, found_none}
 use Rattle.analysis.proofs.Common.{allocation_verdict, first_clash, missing_bid, named_bids, verdict_by, IsRisingOf, dedup, Contains-dedup_nat}
 use Rattle.analysis.proofs.Common.{Contains-from_dedup, IsStrictlyIncreasing-dedup}
-use Rattle.std.specs.Cmp.{both_ways as same_test}
 use Rattle.analysis.proofs.Explaining.Packings.{rising_from_pairs}
 use Rattle.analysis.proofs.Allocating.LpRows.{contains_from, has_from, in_numbers, passing_rise}
+use Rattle.std.specs.Cmp.{both_ways as same_test}
 
 pub rising_of : (named sorted winners : List ℕ) → IsPermutation named sorted → IsSorted nat_cmp sorted → winners ≡ dedup eqb sorted
     → IsRisingOf named winners
 rising_of named sorted winners p s e = record {
   rises = subst IsRising (sym e)
-      (rising_from_pairs (dedup eqb sorted) (AllPairs-from_increasing (dedup eqb sorted) (IsStrictlyIncreasing-dedup sorted s)));
+      (search (rules, rising_from_pairs, AllPairs-from_increasing, IsStrictlyIncreasing-dedup));
   members = λ i. same_test (has_good winners i) (has_good named i)
       (λ h. has_from named i (Contains-permutation sorted named i (IsPermutation-sym named sorted p)
       (Contains-from_dedup eqb sorted i (subst (λ (ws : List ℕ). Contains ws i) e (contains_from winners i h)))))
       (λ h. has_from winners i (subst (λ (ws : List ℕ). Contains ws i) (sym e)
-      (Contains-dedup_nat sorted i (Contains-permutation named sorted i p (contains_from named i h)))));
+      (search (rules, Contains-dedup_nat, Contains-permutation, contains_from))));
 }
 
 module _ (f : PlainFile) (named winners : List ℕ) (r : IsRisingOf named winners) (none : missing_bid f named ≡ None) where

@@ -16,13 +16,11 @@ cut text end e = search (rules, cond-true, lt-ltb, slice_split_first, cond-false
 
 no_end : (text : List ℕ) → length text ≤ position_or_len is_end text → lines_in text ≡ text ∷ []
 no_end [] l = refl
-no_end (b ∷ bs) l =
-    ⊎_elim
+no_end (b ∷ bs) l = ⊎_elim
     (λ (t : is_end b ≡ true).
-    let none : position_or_len is_end (b ∷ bs) ≡ 0 = ap (λ (x : Bool). cond (not x) (1 + position_or_len is_end bs) 0) t in absurd (omega arith))
+    search rules)
     (λ (t : is_end b ≡ false).
-    let later : position_or_len is_end (b ∷ bs) ≡ 1 + position_or_len is_end bs =
-    ap (λ (x : Bool). cond (not x) (1 + position_or_len is_end bs) 0) t in
+    let later : position_or_len is_end (b ∷ bs) ≡ 1 + position_or_len is_end bs = ap (λ (x : Bool). cond (not x) (1 + position_or_len is_end bs) 0) t in
     ap (λ (x : Bool). cond x ([] ∷ lines_in bs) (onto_first b (lines_in bs))) t ∙ ap (onto_first b) (no_end bs (omega arith)))
     (cases_Bool (is_end b))
 
@@ -54,27 +52,17 @@ module _ (text rest : List ℕ) (ends : ℕ) (numbers : List ℕ) (read : IsRead
 
   pub refused : (line : List ℕ) (lines : List (List ℕ)) (fault : BidNumbersFault) → lines_in rest ≡ line ∷ lines
       → RefusesLine line (ends + 1) fault → RefusesNumbers text fault
-  refused line lines (NotANumber number) is h =
-      sym read.faults ∙ ap (faulty_line (ends + 1)) is
-      ∙ cond-false (list_all is_bid_number (words_in line)) (faulty_line (ends + 1 + 1) lines) (Some (ends + 1)) h.1
-      ∙ ap Some (sym h.0)
-  refused line lines Memory is h =
-      read.begins (ap (λ (ls : List (List ℕ)). begins_with_number (all_words ls)) is ∙ begins_here (words_in line) (all_words lines) h)
+  refused line lines (NotANumber number) is h = search (rules, cond-false)
+  refused line lines Memory is h = search (rules, begins_here)
 
   pub one_more : (line after more : List ℕ) → lines_in rest ≡ line ∷ lines_in after → length line + length after + 1 ≡ length rest
       → list_all is_bid_number (words_in line) ≡ true → more ≡ numbers ++ map number_of (words_in line) → IsRead text after (ends + 1) more
-  one_more line after more is long faultless is_more =
-      let lines : List (List ℕ) = lines_in after in
-      let here : List ℕ = map number_of (words_in line) in
-      let behind : List ℕ = map number_of (all_words lines) in
-      let within = read.within in
+  one_more line after more is long faultless is_more = let lines : List (List ℕ) = lines_in after in
       record {
         within = omega arith;
         all = search (rules, append_assoc, map-append);
-        faults = sym (cond-true (list_all is_bid_number (words_in line)) (faulty_line (ends + 1 + 1) lines) (Some (ends + 1)) faultless)
-            ∙ ap (faulty_line (ends + 1)) (sym is) ∙ read.faults;
-        begins = λ h. read.begins (ap (λ (ls : List (List ℕ)). begins_with_number (all_words ls)) is
-            ∙ begins_behind (words_in line) (all_words lines) faultless h);
+        faults = search (rules, cond-true);
+        begins = search (rules, begins_behind);
       }
 
   pub all_read : (more : List ℕ) → lines_in rest ≡ rest ∷ [] → list_all is_bid_number (words_in rest) ≡ true

@@ -28,12 +28,7 @@ module _ (f g : PlainFile) (facts : IsPlainFile g) (number : ℕ → ℕ) (P : �
 
   prices : (xs : List ℕ) → All P xs → revenue g (map number xs) ≡ revenue f xs
   prices [] each = refl
-  prices (x ∷ xs) each =
-      let here = price x (All-head P x xs each) in
-      let rest = prices xs (All-tail P x xs each) in
-      let one = sum_by-cons (λ i. (bid_at f i).price) x xs in
-      let other = sum_by-cons (λ i. (bid_at g i).price) (number x) (map number xs) in
-      omega arith
+  prices (x ∷ xs) each = let here = price x (All-head P x xs each) in let rest = prices xs (All-tail P x xs each) in search (rules, sum_by-cons)
 
   pub renumbered : (winners : List ℕ) → All P winners → IsAllocation f winners → IsMoved f g winners (sort_by nat_cmp (map number winners))
   renumbered winners each h = search (rules, sorted_is_allocation, All-map, All-weaker, together, pairs_from_test, revenue_of_sorted, prices)
@@ -78,10 +73,8 @@ pub length-kept_bids : (f : PlainFile) → length (kept_bids f) ≡ length (cano
 length-kept_bids f = length-map (canonical_file f).bids (named_bid (kept_dummies f))
 
 pub counterpart : (f : PlainFile) (i k : ℕ) → IsKeptAs f i k → IsCounterpart f i k
-counterpart f i k kept =
-    let none : PlainBid = record { price = 0; goods = []; dummy = None } in
-    let index : k < length (canonical_file f).bids =
-    subst (λ n. k < n) (length-kept_bids f) (slice_get_within (kept_bids f) k (bid_at f i) kept.is) in
+counterpart f i k kept = let none : PlainBid = record { price = 0; goods = []; dummy = None } in
+    let index : k < length (canonical_file f).bids = search (rules, length-kept_bids, slice_get_within) in
     record {
       within = priced_within f i kept.bid.positive;
       index = index;

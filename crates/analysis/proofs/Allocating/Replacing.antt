@@ -1,16 +1,15 @@
 -- Kept bids in the place of dropped ones. Each is inside the goods of the bid that it replaces and is of its bidder, so it can win beside
 -- whatever that bid can win beside.
-use Rattle.analysis.proofs.Common.{rules, ◌≡◌, ℕ, ◌<◌, ◌≤◌, true, not, List, [], ◌∷◌, length, refl, sym, ap, ◌∙◌, subst, Option, None, arith, eqb, All}
-use Rattle.analysis.proofs.Common.{AllPairs, Contains, AllByRecursion, flat_map, list_all, and_parts, and_from, both_ways, eq-eqb, flat_map-cons, All-nil}
-use Rattle.analysis.proofs.Common.{All-cons, All-head, All-tail, All-append, All-weaker, All-contains, All-from_recursion, sum_by-append, sum_by-cons, IsInside}
-use Rattle.analysis.proofs.Common.{are_apart, apart_sym, inside_refl, PlainFile, IsPlainFile, AllPairs-nil, AllPairs-cons, AllPairs-append, AllPairs-head}
-use Rattle.analysis.proofs.Common.{AllPairs-tail, Contains-head, Contains-tail, bid_at, is_best, PlainReason, Keep, Zero, Same, Inside, Packing, all_apart}
-use Rattle.analysis.proofs.Common.{goods_at, is_kept, IsDecided, IsPointBid, IsPointInside, can_all_win, can_both_win, revenue, share_dummy, in_place_of}
-use Rattle.analysis.proofs.Common.{apart_inside, kept_by, named_by}
+use Rattle.analysis.proofs.Common.{rules, ◌≡◌, ℕ, ◌<◌, ◌≤◌, true, List, [], ◌∷◌, length, refl, sym, ap, subst, None, arith, eqb, All, AllPairs, Contains}
+use Rattle.analysis.proofs.Common.{AllByRecursion, flat_map, list_all, and_parts, and_from, both_ways, eq-eqb, flat_map-cons, All-nil, All-cons, All-head}
+use Rattle.analysis.proofs.Common.{All-tail, All-append, All-weaker, All-contains, All-from_recursion, sum_by-append, sum_by-cons, IsInside, are_apart}
+use Rattle.analysis.proofs.Common.{apart_sym, inside_refl, PlainFile, IsPlainFile, AllPairs-nil, AllPairs-cons, AllPairs-append, AllPairs-head, AllPairs-tail}
+use Rattle.analysis.proofs.Common.{Contains-head, Contains-tail, bid_at, is_best, PlainReason, Keep, Zero, Same, Inside, Packing, all_apart, goods_at, is_kept}
+use Rattle.analysis.proofs.Common.{IsDecided, IsPointBid, IsPointInside, can_all_win, can_both_win, revenue, in_place_of, apart_inside, kept_by, named_by}
 use Rattle.analysis.specs.Reasons.{reason_of}
 use Rattle.analysis.proofs.Explaining.BestBids.{one_key}
 use Rattle.analysis.proofs.Explaining.Deciding.{priced_within}
-use Rattle.analysis.proofs.Explaining.KeptBidsBest.{best_is_greatest, best-once, one_key_sym, same_bidder}
+use Rattle.analysis.proofs.Explaining.KeptBidsBest.{best_is_greatest, best-once, one_key_sym}
 use Rattle.analysis.proofs.Explaining.TrueReasons.{reason_is_decided}
 use Rattle.analysis.proofs.Allocating.Allocations.{CanWin, pairs_from_test}
 use Rattle.analysis.proofs.Allocating.Reasons.{kept_reason}
@@ -48,12 +47,10 @@ one_bid f i j stands enough = search (rules, sum_by-cons, All-cons, All-nil, All
 packed_beside : (f : PlainFile) (i : ℕ) (js : List ℕ) → (bid_at f i).dummy ≡ None → list_all (are_apart (bid_at f i).goods) (goods_at f js) ≡ true
     → list_all (λ j. can_both_win (bid_at f i) (bid_at f j)) js ≡ true
 packed_beside f i [] none h = refl
-packed_beside f i (j ∷ js) none h =
-    let near = are_apart (bid_at f i).goods (bid_at f j).goods in
+packed_beside f i (j ∷ js) none h = let near = are_apart (bid_at f i).goods (bid_at f j).goods in
     let parts = and_parts near (list_all (are_apart (bid_at f i).goods) (goods_at f js)) h in
     and_from (can_both_win (bid_at f i) (bid_at f j)) (list_all (λ k. can_both_win (bid_at f i) (bid_at f k)) js)
-    (and_from near (not (share_dummy (bid_at f i).dummy (bid_at f j).dummy)) parts.0
-    (ap (λ (o : Option ℕ). not (share_dummy o (bid_at f j).dummy)) none))
+    (search (rules, and_from))
     (packed_beside f i js none parts.1)
 
 packed_win : (f : PlainFile) (goods : List ℕ) (js : List ℕ) → AllByRecursion (IsPointInside f goods) js → all_apart (goods_at f js) ≡ true
@@ -68,15 +65,12 @@ none_for : (f : PlainFile) (i : ℕ) → (bid_at f i).price ≡ 0 → AreFor f i
 none_for f i e = record { each = All-nil (StandsFor f i); win = AllPairs-nil (CanWin f); enough = omega arith }
 
 of_best : (f : PlainFile) → IsPlainFile f → (i : ℕ) → i < length f.bids → is_best f i ≡ true → (r : PlainReason) → IsDecided f i r → AreFor f i (named_by i r)
-of_best f is i l best (Keep k) d =
-    one_bid f i i (point_stands f is i i (record { k = k; is = d }) (inside_refl (bid_at f i).goods) refl) (omega arith)
+of_best f is i l best (Keep k) d = search (rules, one_bid, point_stands, inside_refl)
 of_best f is i l best Zero d = none_for f i d
 of_best f is i l best (Same j) d = absurd (both_ways (eqb j i) d.another (eq-eqb j i (best-once f j i d.best.within l d.best.best best d.best.alike)))
-of_best f is i l best (Inside j) d =
-    one_bid f i j (point_stands f is i j d.point (and_parts _ _ d.below).0 d.bidder) d.enough
+of_best f is i l best (Inside j) d = search (rules, one_bid, point_stands, and_parts)
 of_best f is i l best (Packing js) d = record {
-  each = All-weaker (IsPointInside f (bid_at f i).goods) (StandsFor f i) (λ j p. point_stands f is i j p.point p.inside (p.or ∙ sym d.or)) js
-      (All-from_recursion (IsPointInside f (bid_at f i).goods) js d.each);
+  each = search (rules, All-weaker, point_stands, All-from_recursion);
   win = pairs_from_test f js (packed_win f (bid_at f i).goods js d.each d.apart);
   enough = d.enough;
 }
@@ -87,12 +81,9 @@ are_for f is i l = by (reason_of f i) (reason_is_decided f is i l)
     by : (r : PlainReason) → IsDecided f i r → AreFor f i (kept_by f i r)
     by (Keep k) d = of_best f is i l d.bid.best (Keep k) d
     by Zero d = none_for f i d
-    by (Same j) d =
-        let key = one_key (bid_at f j) (bid_at f i) d.best.alike in
+    by (Same j) d = let key = one_key (bid_at f j) (bid_at f i) d.best.alike in
         let r = of_best f is j d.best.within d.best.best (reason_of f j) (reason_is_decided f is j d.best.within) in
         let most = best_is_greatest f j i d.best.best l (one_key_sym (bid_at f j) (bid_at f i) key) in
-        let reached = r.enough in
-        let dummy = same_bidder (bid_at f j).dummy (bid_at f i).dummy key.bidder in
         record {
           each = search (rules, All-weaker);
           win = r.win;
@@ -113,18 +104,15 @@ pub all_replaced : (f : PlainFile) → IsPlainFile f → (xs : List ℕ) → All
     → AreForAll f xs (flat_map (in_place_of f) xs)
 all_replaced f is [] within win =
     record { each = All-nil (λ j. (i : ℕ) × Contains [] i × StandsFor f i j); win = AllPairs-nil (CanWin f); enough = omega arith }
-all_replaced f is (x ∷ xs) within win =
-    let js = in_place_of f x in
+all_replaced f is (x ∷ xs) within win = let js = in_place_of f x in
     let ks = flat_map (in_place_of f) xs in
     let one = are_for f is x (All-head (λ i. i < length f.bids) x xs within) in
     let rest = all_replaced f is xs (All-tail (λ i. i < length f.bids) x xs within) (AllPairs-tail (CanWin f) x xs win) in
-    let prices = one.enough in
-    let others = rest.enough in
     let sum = sum_by-cons (λ i. (bid_at f i).price) x xs in
     let both = sum_by-append (λ i. (bid_at f i).price) js ks in
     subst (AreForAll f (x ∷ xs)) (sym (flat_map-cons (in_place_of f) x xs)) (record {
       each = All-append (λ j. (i : ℕ) × Contains (x ∷ xs) i × StandsFor f i j) js ks
-          (All-weaker (StandsFor f x) (λ j. (i : ℕ) × Contains (x ∷ xs) i × StandsFor f i j) (λ j s. (x, Contains-head x xs, s)) js one.each)
+          (search (rules, All-weaker, Contains-head))
           (All-weaker (λ j. (i : ℕ) × Contains xs i × StandsFor f i j) (λ j. (i : ℕ) × Contains (x ∷ xs) i × StandsFor f i j)
           (λ j s. (s.0, Contains-tail x xs s.0 s.1, s.2)) ks rest.each);
       win = AllPairs-append (CanWin f) js ks one.win rest.win

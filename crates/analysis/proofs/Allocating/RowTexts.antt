@@ -11,12 +11,7 @@ pub range_next : (n : ℕ) → range_with_len 0 (n + 1) ≡ range_with_len 0 n +
 range_next n = let e : 0 + n ≡ n = omega arith in range_more 0 n ∙ ap (λ m. range_with_len 0 n ++ m ∷ []) e
 
 one_more : (f : PlainFile) (n : ℕ) → first_rows f (n + 1) ≡ first_rows f n ++ flat_map row_text (filter is_shared (row_of f n ∷ []))
-one_more f n =
-    let before : List ℕ = range_with_len 0 n in
-    ap (λ (goods : List ℕ). flat_map row_text (filter is_shared (map (row_of f) goods))) (range_next n)
-    ∙ ap (λ (rows : List PlainRow). flat_map row_text (filter is_shared rows)) (map-append (row_of f) before (n ∷ []))
-    ∙ ap (flat_map row_text) (filter-append is_shared (map (row_of f) before) (row_of f n ∷ []))
-    ∙ flat_map-append row_text (filter is_shared (map (row_of f) before)) (filter is_shared (row_of f n ∷ []))
+one_more f n = search (rules, range_next, map-append, filter-append, flat_map-append)
 
 -- the row of the next good, shared or not
 pub row_kept : (f : PlainFile) (n : ℕ) → is_shared (row_of f n) ≡ true → first_rows f (n + 1) ≡ first_rows f n ++ row_text (row_of f n)

@@ -2,8 +2,7 @@
 -- auction have one canonical file.
 use Rattle.analysis.proofs.Common.{rules, ◌≡◌, ℕ, ◌<◌, ◌≤◌, true, List, length, sym, ap, ◌∙◌, le_antisymm, arith, nat_cmp, Contains, flat_map, All-weaker}
 use Rattle.analysis.proofs.Common.{PlainFile, IsPlainFile, auction_from, All-sort_by, canonical_file, is_kept, AreWinners, IsAllocation, greatest_revenue}
-use Rattle.analysis.proofs.Common.{revenue, AreKept, in_canonical_file, in_place_of, kept_as, file_from, AreSameFiles, same_canonical, HasAtoms-file}
-use Rattle.analysis.proofs.Common.{with_kept_bids}
+use Rattle.analysis.proofs.Common.{revenue, AreKept, in_place_of, kept_as, file_from, AreSameFiles, same_canonical, HasAtoms-file, with_kept_bids}
 use Rattle.analysis.specs.Reasons.{reason_of}
 use Rattle.analysis.proofs.Allocating.Allocations.{greatest_revenue_at_most, pairs_from_test, revenue_at_most, revenue_of_sorted, sorted_is_allocation}
 use Rattle.analysis.proofs.Allocating.Allocations.{winners_within}
@@ -40,16 +39,13 @@ module _ (f : PlainFile) (is : IsPlainFile f) (winners : List ℕ) (h : IsAlloca
 
 module _ (f : PlainFile) (is : IsPlainFile f) where
   pub greatest_is_canonical : greatest_revenue (canonical_file f) ≡ greatest_revenue f
-  greatest_is_canonical =
-      le_antisymm
+  greatest_is_canonical = le_antisymm
       (greatest_revenue_at_most (canonical_file f) f (λ winners h.
-      let moved = moved_here f is winners h in let same = moved.revenue in (kept_as f winners, moved.allocation, omega arith)))
+      let moved = moved_here f is winners h in (kept_as f winners, moved.allocation, omega arith)))
       (greatest_revenue_at_most f (canonical_file f) (λ winners h.
       let kept = with_kept_bids f winners in
       let moved = moved_there f is kept (kept_allocation f is winners h) (kept_each f is winners h) in
-      let more = kept_revenue f is winners h in
-      let same = moved.revenue in
-      (in_canonical_file f kept, moved.allocation, omega arith)))
+      search (rules, kept_revenue)))
 
   pub winners_here : (winners : List ℕ) → AreWinners (canonical_file f) winners → AreWinners f (kept_as f winners)
   winners_here winners h = search (rules, moved_here, greatest_is_canonical)

@@ -1,11 +1,11 @@
 -- All differences begin with the first difference: each of its kinds is found by what is in the lists of changes.
 use Rattle.analysis.proofs.Common.{common_steps, rules, ◌≡◌, ℕ, ◌-◌, true, List, [], ◌∷◌, refl, sym, ap, ◌∙◌, subst, arith, Option, Some, None, ◌↔◌, ◌||◌}
-use Rattle.analysis.proofs.Common.{is_some, and_parts, eqb-true, eqb-false, All-head, all_bundles, Atom, PlainAuction, bidder_cmp_total, bidder_cmp_equal}
-use Rattle.analysis.proofs.Common.{bidder_cmp, count_of, or_value, on_bundles, Contains-head, find_none, IsCanonical, or_atoms_in_order, HasAtoms}
-use Rattle.analysis.proofs.Common.{PlainBidderChange, IsBidderChange, AreBidderChanges, bidder_at, PlainChange, ArePriceChanges, same_bids, Difference}
-use Rattle.analysis.proofs.Common.{first_difference, first_unequal_bundle, least_unequal_bidder, or_difference, xor_difference, least_uneven, least_uneven_is}
-use Rattle.analysis.proofs.Common.{all_even, are_unequal, equal_test, ArePoints, IsSameAuction, at_same_goods, at_other_goods, same_from_no_difference}
-use Rattle.analysis.proofs.Common.{no_difference_from_same, AreAllDifferences, BeginsWith, PlainDifferences, is_none_at_all, no_differences, first_change_found}
+use Rattle.analysis.proofs.Common.{is_some, and_parts, eqb-true, eqb-false, All-head, Atom, PlainAuction, bidder_cmp_total, bidder_cmp_equal, bidder_cmp}
+use Rattle.analysis.proofs.Common.{count_of, on_bundles, Contains-head, find_none, IsCanonical, or_atoms_in_order, HasAtoms, PlainBidderChange, IsBidderChange}
+use Rattle.analysis.proofs.Common.{AreBidderChanges, bidder_at, PlainChange, ArePriceChanges, same_bids, Difference, first_difference, first_unequal_bundle}
+use Rattle.analysis.proofs.Common.{least_unequal_bidder, or_difference, xor_difference, least_uneven, least_uneven_is, all_even, are_unequal, equal_test}
+use Rattle.analysis.proofs.Common.{ArePoints, IsSameAuction, at_same_goods, at_other_goods, same_from_no_difference, no_difference_from_same, AreAllDifferences}
+use Rattle.analysis.proofs.Common.{BeginsWith, PlainDifferences, is_none_at_all, no_differences, first_change_found}
 use Rattle.analysis.proofs.Comparing.LeftBidders.{left_is_more, right_is_more, lefts_counted, rights_counted}
 use Rattle.canon.specs.Difference as canon
 
@@ -62,19 +62,12 @@ module _ (a b : PlainAuction) (h : HasAtoms a) (k : HasAtoms b) (canonical : IsC
   begins_in_bids : a.goods ≡ b.goods → (goods : Option (ℕ × ℕ)) → goods ≡ None → (bundles : List PlainChange)
       → ArePriceChanges a.or_atoms b.or_atoms bundles → (bidders : List PlainBidderChange) → AreBidderChanges a.xor_bidders b.xor_bidders bidders
       → BeginsWith (or_difference a b (first_unequal_bundle a b)) (record { goods = goods; bundles = bundles; bidders = bidders })
-  begins_in_bids alike goods equal [] on bidders are =
-      let same = same_bids a.or_atoms b.or_atoms (or_atoms_in_order a canonical) (or_atoms_in_order b also) on in
-      let none : first_unequal_bundle a b ≡ None =
-      find_none (are_unequal a.or_atoms b.or_atoms) (all_bundles a.goods) (λ bundle c.
-      equal_test a.or_atoms b.or_atoms bundle (ap (λ (atoms : List (Atom (List ℕ))). or_value atoms bundle) same)) in
-      subst (λ (o : Option (List ℕ)). BeginsWith (or_difference a b o) (record { goods = goods; bundles = []; bidders = bidders })) (sym none)
-      (begins_in_bidders goods equal bidders are (least_unequal_bidder a b) refl)
+  begins_in_bids alike goods equal [] on bidders are = search (rules, same_bids, or_atoms_in_order, find_none, are_unequal, equal_test, begins_in_bidders)
   begins_in_bids alike goods equal (c ∷ rest) on bidders are =
       let others = subst (λ (n : ℕ). ArePoints n b.or_atoms) (sym alike) (points_of_canonical b k also) in
       let found : first_unequal_bundle a b ≡ Some c.bundle =
       first_change_found a.goods a.or_atoms b.or_atoms (points_of_canonical a h canonical) others c rest on in
-      subst (λ (o : Option (List ℕ)). BeginsWith (or_difference a b o) (record { goods = goods; bundles = c ∷ rest; bidders = bidders })) (sym found)
-      (equal, refl)
+      search rules
 
   pub begins_with_first : (differences : PlainDifferences) → AreAllDifferences a b differences → BeginsWith (first_difference a b) differences
   begins_with_first differences are = search (rules, eqb-true, at_same_goods, begins_in_bids, at_other_goods, eqb-false)

@@ -1,6 +1,6 @@
 -- The bids of bidders on a bundle, bid by bid and bidder by bidder. A bidder has one bid on a bundle at most.
 use Rattle.analysis.proofs.Common.{common_steps, rules, ◌≡◌, ◌<◌, ◌+◌, ℕ, zero, suc, Bool, true, false, cond, List, [], ◌∷◌, ◌++◌, length, get_or, map, take}
-use Rattle.analysis.proofs.Common.{Some, Less, Equal, slice_get, refl, sym, ap, ap₂, ◌∙◌, arith, ⊎_elim, append_assoc, All, is_some, filter, is_eq, cases_Bool}
+use Rattle.analysis.proofs.Common.{Some, Less, slice_get, refl, sym, ap, ◌∙◌, arith, ⊎_elim, append_assoc, All, is_some, filter, is_eq, cases_Bool}
 use Rattle.analysis.proofs.Common.{false_from_ne_true, get_or-map, length-map, map_push, take_more, All-cons, All-nil, All-weaker, filter-append}
 use Rattle.analysis.proofs.Common.{get_or_from_slice_get, slice_get_within, bundle_cmp, bundle_cmp_equal, bundle_cmp_refl, PlainBid, Atom, atom_of}
 use Rattle.analysis.proofs.Common.{AllPairs-head, AllPairs-tail, IsBefore, IsInOrder, offers, bidder_at, bidders_on, price_on, is_on}
@@ -14,16 +14,11 @@ once_each index bundle atoms = map (λ _. index) (filter (is_on bundle) atoms)
 once_each-append : (index : ℕ) (bundle : List ℕ) (xs ys : List (Atom (List ℕ)))
     → once_each index bundle (xs ++ ys) ≡ once_each index bundle xs ++ once_each index bundle ys
 once_each-append index bundle [] ys = refl
-once_each-append index bundle (x ∷ xs) ys =
-    at (is_on bundle x) refl (once_each-append index bundle xs ys)
+once_each-append index bundle (x ∷ xs) ys = at (is_on bundle x) refl (once_each-append index bundle xs ys)
   where
     at : (b : Bool) → is_on bundle x ≡ b → once_each index bundle (xs ++ ys) ≡ once_each index bundle xs ++ once_each index bundle ys
         → once_each index bundle (x ∷ (xs ++ ys)) ≡ once_each index bundle (x ∷ xs) ++ once_each index bundle ys
-    at b t e = rw t (elim b as (λ b. map (λ _. index) (cond b (x ∷ filter (is_on bundle) (xs ++ ys)) (filter (is_on bundle) (xs ++ ys)))
-        ≡ map (λ _. index) (cond b (x ∷ filter (is_on bundle) xs) (filter (is_on bundle) xs)) ++ once_each index bundle ys) [
-          | true ↦ ap (λ (zs : List ℕ). index ∷ zs) e
-          | false ↦ e
-        ])
+    at b t e = rw t (search rules)
 
 once_each-one : (index : ℕ) (bundle : List ℕ) (x : Atom (List ℕ)) → once_each index bundle (x ∷ []) ≡ cond (is_on bundle x) (index ∷ []) []
 once_each-one index bundle x = search (rules)
@@ -33,22 +28,18 @@ pub one_more_bid : (index : ℕ) (bids : List PlainBid) (i : ℕ) (bid : PlainBi
     → before ≡ first ++ once_each index bundle (offers (take i bids))
     → after ≡ before ++ cond (is_eq (bundle_cmp bid.goods bundle)) (index ∷ []) []
     → after ≡ first ++ once_each index bundle (offers (take (i + 1) bids))
-one_more_bid index bids i bid e bundle first before after so_far more =
-    let at : get_or bids i bid ≡ bid = get_or_from_slice_get bids i bid bid e in
+one_more_bid index bids i bid e bundle first before after so_far more = let at : get_or bids i bid ≡ bid = get_or_from_slice_get bids i bid bid e in
     let list : offers (take (i + 1) bids) ≡ offers (take i bids) ++ atom_of bid ∷ [] =
-    ap offers (take_more bids i bid (slice_get_within bids i bid e) ∙ ap (λ (x : PlainBid). take i bids ++ x ∷ []) at) ∙ map_push atom_of (take i bids) bid in
-    more ∙ ap₂ (λ (xs ys : List ℕ). xs ++ ys) so_far (sym (once_each-one index bundle (atom_of bid)))
-    ∙ append_assoc first (once_each index bundle (offers (take i bids))) (once_each index bundle (atom_of bid ∷ []))
-    ∙ ap (λ (xs : List ℕ). first ++ xs) (sym (once_each-append index bundle (offers (take i bids)) (atom_of bid ∷ [])) ∙ ap (once_each index bundle) (sym list))
+    ap offers (search (rules, take_more, slice_get_within)) ∙ map_push atom_of (take i bids) bid in
+    search (rules, once_each-one, append_assoc, once_each-append)
 
 -- its bundle comes behind those before it
 pub one_more_bundle_of : (bids : List PlainBid) (i : ℕ) (bid : PlainBid) → slice_get bids i ≡ Some bid
     → map (λ a. a.bundle) (offers (take (i + 1) bids)) ≡ map (λ a. a.bundle) (offers (take i bids)) ++ bid.goods ∷ []
-one_more_bundle_of bids i bid e =
-    let at : get_or bids i bid ≡ bid = get_or_from_slice_get bids i bid bid e in
+one_more_bundle_of bids i bid e = let at : get_or bids i bid ≡ bid = get_or_from_slice_get bids i bid bid e in
     let list : offers (take (i + 1) bids) ≡ offers (take i bids) ++ atom_of bid ∷ [] =
-    ap offers (take_more bids i bid (slice_get_within bids i bid e) ∙ ap (λ (x : PlainBid). take i bids ++ x ∷ []) at) ∙ map_push atom_of (take i bids) bid in
-    ap (map (λ (a : Atom (List ℕ)). a.bundle)) list ∙ map_push (λ (a : Atom (List ℕ)). a.bundle) (offers (take i bids)) (atom_of bid)
+    ap offers (search (rules, take_more, slice_get_within)) ∙ map_push atom_of (take i bids) bid in
+    search (rules, map_push)
 
 pub bundles_before : (bids : List PlainBid) (i : ℕ) (bid : PlainBid) → slice_get bids i ≡ Some bid → IsInOrder (offers bids)
     → All (λ b. bundle_cmp b bid.goods ≡ Less) (map (λ a. a.bundle) (offers (take i bids)))
@@ -67,17 +58,11 @@ bundles_before (x ∷ bids) (suc i) bid e order =
 pub one_bid_each : (index : ℕ) (bundle : List ℕ) (atoms : List (Atom (List ℕ))) → IsInOrder atoms
     → once_each index bundle atoms ≡ cond (is_some (price_on atoms bundle)) (index ∷ []) []
 one_bid_each index bundle [] order = refl
-one_bid_each index bundle (a ∷ rest) order =
-    ⊎_elim
+one_bid_each index bundle (a ∷ rest) order = ⊎_elim
     (λ (t : is_eq (bundle_cmp a.bundle bundle) ≡ true).
     let same : a.bundle ≡ bundle = bundle_cmp_equal a.bundle bundle (equal_from _ t) in
-    let none : filter (is_on bundle) rest ≡ [] =
-    none_pass (is_on bundle) rest (All-weaker (IsBefore a) (λ r. is_on bundle r ≡ false)
-    (λ r l. false_from_ne_true (is_on bundle r) (λ u.
-    let other : r.bundle ≡ bundle = bundle_cmp_equal r.bundle bundle (equal_from _ u) in
-    let less : bundle_cmp a.bundle r.bundle ≡ Less = l in
-    let tied : bundle_cmp a.bundle r.bundle ≡ Equal = ap (bundle_cmp a.bundle) (other ∙ sym same) ∙ bundle_cmp_refl a.bundle in
-    absurd (cc))) rest (AllPairs-head IsBefore a rest order)) in
+    let none : filter (is_on bundle) rest ≡ [] = none_pass (is_on bundle) rest (All-weaker (IsBefore a) (λ r. is_on bundle r ≡ false)
+    (search (rules, false_from_ne_true, bundle_cmp_equal, equal_from, bundle_cmp_refl)) rest (AllPairs-head IsBefore a rest order)) in
     rw t (ap (λ (xs : List (Atom (List ℕ))). map (λ _. index) (a ∷ xs)) none))
     (λ (t : is_eq (bundle_cmp a.bundle bundle) ≡ false). rw t (one_bid_each index bundle rest (AllPairs-tail IsBefore a rest order)))
     (cases_Bool (is_eq (bundle_cmp a.bundle bundle)))

@@ -1,7 +1,7 @@
 -- Each change of a bidder has a bid. The idea: without one both sides have the same bids, but two equal bidders are no change, and no bidder
 -- of a canonical auction is without a bid.
 use Rattle.analysis.proofs.Common.{rules, ◌≡◌, ◌≢◌, ℕ, ◌<◌, List, [], refl, sym, ap, subst, arith, Option, Some, None, All, Contains, filter, both_ways}
-use Rattle.analysis.proofs.Common.{All-contains, All-map, Atom, IsAtom, PlainAuction, AllPairs-nil, bidder_cmp_total, bidder_cmp_equal, All-sort_by, bidder_cmp}
+use Rattle.analysis.proofs.Common.{All-contains, All-map, Atom, PlainAuction, AllPairs-nil, bidder_cmp_total, bidder_cmp_equal, All-sort_by, bidder_cmp}
 use Rattle.analysis.proofs.Common.{count_of, xor_table, IsBefore, IsInOrder, on_bundles, All-from_Contains, Contains-filter_parts, xor_points, IsCanonical}
 use Rattle.analysis.proofs.Common.{each_in_order, counted_is_there, HasAtoms, PlainBidderChange, IsBidderChange, AreBidderChanges, bidder_at, bids_at}
 use Rattle.analysis.proofs.Common.{same_bids, is_nonzero, no_xor_points, points_of_bidders}
@@ -12,13 +12,11 @@ use Rattle.analysis.proofs.Comparing.LeftBidders.{left_is_more, none_on_both, ri
 
 module _ (a : PlainAuction) (h : HasAtoms a) (canonical : IsCanonical a) where
   points_there : All (λ x. x ≢ []) (points_of_bidders a.goods a.xor_bidders)
-  points_there =
-      let nonzero = filter (λ b. is_nonzero (xor_table b a.goods)) a.xor_bidders in
+  points_there = let nonzero = filter (λ b. is_nonzero (xor_table b a.goods)) a.xor_bidders in
       All-map (λ x. x ≢ []) (xor_points a.goods) nonzero
       (All-from_Contains (λ b. xor_points a.goods b ≢ []) nonzero (λ b c e.
       let there = Contains-filter_parts (λ b. is_nonzero (xor_table b a.goods)) a.xor_bidders b c in
-      let on = on_bundles a.goods b (All-contains (All (IsAtom a.goods)) a.xor_bidders b h.xor_atoms there.0) in
-      both_ways (is_nonzero (xor_table b a.goods)) ((no_xor_points a.goods b on).0 e) there.1))
+      search (rules, on_bundles, All-contains, both_ways, no_xor_points)))
 
   bids_there : All (λ x. x ≢ []) a.xor_bidders
   bids_there = subst (All (λ x. x ≢ [])) (ap (λ (b : PlainAuction). b.xor_bidders) canonical)

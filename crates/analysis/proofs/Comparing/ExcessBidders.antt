@@ -1,7 +1,7 @@
 -- The walk of proofs/ExcessWalks over bidders, as the code reads them at their indices. The idea: what is read at an index is the
 -- element there.
 use Rattle.analysis.proofs.Common.{rules, ◌≡◌, ℕ, ◌+◌, ◌-◌, ◌<◌, ◌≤◌, true, false, List, [], ◌∷◌, ◌++◌, length, map, get_or, sym, ap, ◌∙◌, subst, arith, is_eq}
-use Rattle.analysis.proofs.Common.{get_or-map, length-map, PlainBid, Atom, bidder_cmp, bidder_cmp_total, bidder_cmp_equal, offers, bidder_at, NeverFall}
+use Rattle.analysis.proofs.Common.{get_or-map, length-map, PlainBid, bidder_cmp, bidder_cmp_total, bidder_cmp_equal, offers, bidder_at, NeverFall}
 use Rattle.analysis.proofs.Comparing.ExcessWalks.{IsWalked, IsSkipped, walked_equal, walked_excess}
 
 pub bidder_at_index : (bidders : List (List PlainBid)) (index : ℕ) (bidder : List PlainBid) → index < length bidders
@@ -33,8 +33,7 @@ module _ (bidders others : List (List PlainBid)) (later end before : ℕ) (indic
   at_index = bidder_at_index bidders (later - 1) bidder (omega arith) read
 
   skipped_at : IsSkipped bidder_cmp [] bidder_cmp_total bidder_cmp_equal (map offers others) (bidder_at (map offers bidders) (later - 1)) end before
-  skipped_at =
-      subst (λ (x : List (Atom (List ℕ))). IsSkipped bidder_cmp [] bidder_cmp_total bidder_cmp_equal (map offers others) x end before) (sym at_index) s
+  skipped_at = search (rules, bidder_cmp_total, bidder_cmp_equal, at_index)
 
   others_within : before ≤ length others
   others_within = omega (arith, end_within bidders others later end indices w, s.within)
@@ -56,5 +55,4 @@ module _ (bidders others : List (List PlainBid)) (later end before : ℕ) (indic
   one_excess others_up differ =
       walked_excess bidder_cmp [] bidder_cmp_total bidder_cmp_equal (map offers bidders) (map offers others) (later - 1) end before indices up index_within
       walked_later skipped_at others_up
-      (λ last e. let same : before - 1 ≡ last = omega arith in
-      rw at_index (subst (λ n. is_eq (bidder_cmp (offers bidder) (bidder_at (map offers others) n)) ≡ false) same (differ (omega arith))))
+      (λ last e. search (rules, at_index))

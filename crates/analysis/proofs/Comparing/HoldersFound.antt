@@ -1,11 +1,9 @@
 -- The bidders that have a bid on a bundle, as a map has them, and the first of them that waits.
-use Rattle.analysis.proofs.Common.{◌≡◌, ◌<◌, ℕ, zero, suc, Bool, true, false, cond, List, [], ◌∷◌, ◌++◌, length, get_or, Some, Ordering, slice_get, sym, ap}
-use Rattle.analysis.proofs.Common.{◌∙◌, arith, ⊎_elim, append-nil, filter, Bor, BTreeMap, UpdatesBy, slice_cmp, is_eq, nat_cmp, cases_Bool}
-use Rattle.analysis.proofs.Common.{bundle_cmp, bundle_cmp_equal, bundle_cmp_refl, Holders, holders_at, indices_in}
-use Rattle.analysis.proofs.Common.{passed_in, bytes_decides}
+use Rattle.analysis.proofs.Common.{rules, ◌≡◌, ◌<◌, ℕ, zero, suc, Bool, true, false, cond, List, [], ◌∷◌, ◌++◌, length, get_or, Some, Ordering, slice_get, ap}
+use Rattle.analysis.proofs.Common.{◌∙◌, arith, ⊎_elim, append-nil, filter, Bor, BTreeMap, UpdatesBy, slice_cmp, is_eq, nat_cmp, cases_Bool, bundle_cmp}
+use Rattle.analysis.proofs.Common.{bundle_cmp_equal, bundle_cmp_refl, Holders, holders_at, indices_in, passed_in}
 use Rattle.analysis.specs.Internal.Holders.{found_at}
 use Rattle.canon.specs.Lemmas.Finding.{equal_from}
-use Rattle.std.specs.Bool.{one_answer}
 use Rattle.std.proofs.Common.{bytes_eq}
 use Rattle.canon.specs.Lemmas.TextMaps.{updated as text_updated}
 
@@ -25,9 +23,7 @@ abbrev pub key_cmp : Bor (List ℕ) → Bor (List ℕ) → Ordering
 key_cmp one other = slice_cmp nat_cmp one.now other.now
 
 same_test : (goods bundle : List ℕ) → bytes_eq goods bundle ≡ is_eq (bundle_cmp goods bundle)
-same_test goods bundle =
-    one_answer (bytes_eq goods bundle) (is_eq (bundle_cmp goods bundle)) (bytes_decides goods bundle)
-    (λ e. bundle_cmp_equal goods bundle (equal_from _ e), λ e. ap is_eq (ap (bundle_cmp goods) (sym e) ∙ bundle_cmp_refl goods))
+same_test goods bundle = search (rules, bundle_cmp_equal, equal_from, bundle_cmp_refl)
 
 -- what a map has for a bundle, after holders were put there
 pub updated : (old new : BTreeMap (Bor (List ℕ)) Holders) (goods : List ℕ) (holders : Holders)
@@ -41,26 +37,21 @@ updated old new goods holders h bundle =
 pub added : (old new : BTreeMap (Bor (List ℕ)) Holders) (goods : List ℕ) (holders : Holders) (index : ℕ)
     → UpdatesBy key_cmp (λ key. slice_cmp nat_cmp goods key.now) old new (Some holders) → holders.indices.items ≡ holders_at old goods ++ index ∷ []
     → (bundle : List ℕ) → holders_at new bundle ≡ holders_at old bundle ++ cond (is_eq (bundle_cmp goods bundle)) (index ∷ []) []
-added old new goods holders index h more bundle =
-    ap indices_in (updated old new goods holders h bundle)
+added old new goods holders index h more bundle = ap indices_in (updated old new goods holders h bundle)
     ∙ ⊎_elim
     (λ (y : is_eq (bundle_cmp goods bundle) ≡ true).
     let same : goods ≡ bundle = bundle_cmp_equal goods bundle (equal_from _ y) in
-    ap (λ b. indices_in (cond b (Some holders) (found_at old bundle))) y ∙ more
-    ∙ ap (λ (xs : List ℕ). holders_at old xs ++ index ∷ []) same ∙ sym (ap (λ b. holders_at old bundle ++ cond {A = List ℕ} b (index ∷ []) []) y))
-    (λ (n : is_eq (bundle_cmp goods bundle) ≡ false).
-    ap (λ b. indices_in (cond b (Some holders) (found_at old bundle))) n
-    ∙ sym (append-nil (holders_at old bundle)) ∙ sym (ap (λ b. holders_at old bundle ++ cond {A = List ℕ} b (index ∷ []) []) n))
+    search rules)
+    (search (rules, append-nil))
     (cases_Bool (is_eq (bundle_cmp goods bundle)))
 
 pub still_passed : (old new : BTreeMap (Bor (List ℕ)) Holders) (goods : List ℕ) (holders : Holders)
     → UpdatesBy key_cmp (λ key. slice_cmp nat_cmp goods key.now) old new (Some holders) → holders.passed ≡ passed_in (found_at old goods)
     → (bundle : List ℕ) → passed_in (found_at new bundle) ≡ passed_in (found_at old bundle)
-still_passed old new goods holders h same bundle =
-    ap passed_in (updated old new goods holders h bundle)
+still_passed old new goods holders h same bundle = ap passed_in (updated old new goods holders h bundle)
     ∙ ⊎_elim
     (λ (y : is_eq (bundle_cmp goods bundle) ≡ true).
     ap (λ b. passed_in (cond b (Some holders) (found_at old bundle))) y ∙ same
     ∙ ap (λ (xs : List ℕ). passed_in (found_at old xs)) (bundle_cmp_equal goods bundle (equal_from _ y)))
-    (λ (n : is_eq (bundle_cmp goods bundle) ≡ false). ap (λ b. passed_in (cond b (Some holders) (found_at old bundle))) n)
+    (search rules)
     (cases_Bool (is_eq (bundle_cmp goods bundle)))

@@ -2,8 +2,8 @@
 use Rattle.analysis.proofs.Common.{rules, ◌≡◌, ℕ, ◌<◌, ◌≤◌, false, List, [], ◌∷◌, length, map, sym, ap, ◌∙◌, subst, arith, All, range_with_len, is_gt}
 use Rattle.analysis.proofs.Common.{length-map, All-filter, All-from_recursion, get_or-range_with_len, length-range_with_len, PlainBid, PlainFile, IsPlainFile}
 use Rattle.analysis.proofs.Common.{Atom, auction_from, IsAuction-auction_from, AllPairs-cons, AllPairs-nil, IsOrdered, bidder_cmp, IsInOrder, offers}
-use Rattle.analysis.proofs.Common.{IsCanonical, canonical_auction, or_atoms_in_order, each_in_order, excess_bidders, is_excess, NeverFall, All-from_get_or}
-use Rattle.analysis.proofs.Common.{MAX_DUMMY, AreBidders, IsCanonicalFile, bidders_ordered, auction_from-file_from}
+use Rattle.analysis.proofs.Common.{IsCanonical, canonical_auction, or_atoms_in_order, each_in_order, excess_bidders, NeverFall, All-from_get_or, MAX_DUMMY}
+use Rattle.analysis.proofs.Common.{AreBidders, IsCanonicalFile, bidders_ordered, auction_from-file_from}
 
 -- ---- the bidders in excess are bidders
 
@@ -12,10 +12,7 @@ below n = omega (arith, length-range_with_len, All-from_get_or, get_or-range_wit
 
 pub excess_within : (bidders : List (List PlainBid)) (others : List (List (Atom (List ℕ)))) (excess : List ℕ)
     → excess ≡ excess_bidders (map offers bidders) others → All (λ index. index < length bidders) excess
-excess_within bidders others excess e =
-    subst (All (λ index. index < length bidders)) (sym e)
-    (All-filter (is_excess (map offers bidders) others) (λ index. index < length bidders) (range_with_len 0 (length (map offers bidders)))
-    (subst (λ n. All (λ index. index < length bidders) (range_with_len 0 n)) (sym (length-map bidders offers)) (below (length bidders))))
+excess_within bidders others excess e = subst (All (λ index. index < length bidders)) (sym e) (search (rules, All-filter, length-map, below))
 
 -- ---- the bidders of a canonical file
 

@@ -1,16 +1,13 @@
 -- Lists: what is there behind a partial map or a test, and how often; numbers that rise are in order.
-use Rattle.analysis.proofs.Common.{◌≡◌, ℕ, zero, suc, ◌<◌, Bool, true, false, cond, ⊎_elim, List, [], ◌∷◌, map, refl, sym, ap, ◌∙◌, subst}
-use Rattle.analysis.proofs.Common.{arith, Option, Some, None, Ordering, nat_cmp, All, Contains, IsTotalOrder, nat_cmp-IsAntisymmetric, filter}
-use Rattle.analysis.proofs.Common.{filter_map, cons_option, sum_by, is_eq, tied_itself, nat_cmp_total, All-head, All-tail, sum_by-cons, AreAbove}
-use Rattle.analysis.proofs.Common.{count_of, Contains-cons_cases, Contains-nil, Contains-head, Contains-tail, sum_by-sort_by}
-use Rattle.analysis.proofs.Common.{sort_by-same}
-use Rattle.analysis.proofs.Common.{insert_by, is_gt, nat_cmp-lt, IsRising, sort_by}
+use Rattle.analysis.proofs.Common.{rules, ◌≡◌, ℕ, zero, suc, ◌<◌, Bool, true, false, cond, ⊎_elim, List, [], ◌∷◌, map, refl, sym, ap, ◌∙◌, arith, Option, Some}
+use Rattle.analysis.proofs.Common.{None, Ordering, nat_cmp, All, Contains, IsTotalOrder, nat_cmp-IsAntisymmetric, filter, filter_map, cons_option, sum_by}
+use Rattle.analysis.proofs.Common.{is_eq, tied_itself, nat_cmp_total, All-head, All-tail, sum_by-cons, AreAbove, count_of, Contains-cons_cases, Contains-nil}
+use Rattle.analysis.proofs.Common.{Contains-head, Contains-tail, sum_by-sort_by, sort_by-same, insert_by, nat_cmp-lt, IsRising, sort_by}
 
 pub Contains-filter_map : {X Y : Type 0} (h : X → Option Y) (xs : List X) (x : X) (y : Y) → Contains xs x → h x ≡ Some y → Contains (filter_map h xs) y
 Contains-filter_map h [] x y c e = absurd (Contains-nil x c)
-Contains-filter_map {X} {Y} h (z ∷ zs) x y c e =
-    ⊎_elim
-    (λ (d : z ≡ x). subst (λ o. Contains (cons_option o (filter_map h zs)) y) (sym (ap h d ∙ e)) (Contains-head y (filter_map h zs)))
+Contains-filter_map {X} {Y} h (z ∷ zs) x y c e = ⊎_elim
+    (search (rules, Contains-head))
     (λ (d : Contains zs x). later (h z) (Contains-filter_map h zs x y d e))
     (Contains-cons_cases z zs x c)
   where
@@ -45,8 +42,7 @@ above_all x (y ∷ ys) a (suc k) d l = above_all x ys a.1 k d (omega arith)
 
 first_stays : (x : ℕ) (xs : List ℕ) → AreAbove x xs → insert_by nat_cmp x xs ≡ x ∷ xs
 first_stays x [] h = refl
-first_stays x (y ∷ ys) h =
-    ap (λ (o : Ordering). cond (is_gt o) (y ∷ insert_by nat_cmp x ys) (x ∷ (y ∷ ys))) (nat_cmp-lt x y h.0)
+first_stays x (y ∷ ys) h = search (rules, nat_cmp-lt)
 
 pub sort_rising : (xs : List ℕ) → IsRising xs → sort_by nat_cmp xs ≡ xs
 sort_rising [] h = refl
@@ -57,13 +53,10 @@ sort_rising (x ∷ xs) h = ap (insert_by nat_cmp x) (sort_rising xs h.1) ∙ fir
 -- an element that is there is counted
 pub there_is_counted : {X : Type 0} (cmp : X → X → Ordering) → IsTotalOrder cmp → (x : X) (xs : List X) → Contains xs x → 0 < count_of cmp x xs
 there_is_counted cmp total x [] c = absurd (Contains-nil x c)
-there_is_counted cmp total x (y ∷ ys) c =
-    let front = sum_by-cons (λ z. cond {A = ℕ} (is_eq (cmp x z)) 1 0) y ys in
+there_is_counted cmp total x (y ∷ ys) c = let front = sum_by-cons (λ z. cond {A = ℕ} (is_eq (cmp x z)) 1 0) y ys in
     ⊎_elim
     (λ (d : y ≡ x).
-    let one : cond {A = ℕ} (is_eq (cmp x y)) 1 0 ≡ 1 =
-    ap (λ z. cond {A = ℕ} (is_eq (cmp x z)) 1 0) d ∙ ap (λ o. cond {A = ℕ} (is_eq o) 1 0) (tied_itself total x) in
-    omega arith)
+    search (rules, tied_itself))
     (λ (d : Contains ys x). let some = there_is_counted cmp total x ys d in omega arith)
     (Contains-cons_cases y ys x c)
 

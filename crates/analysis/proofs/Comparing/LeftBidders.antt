@@ -1,10 +1,10 @@
 -- The bidders in excess. The idea: along the bidders from their end on, those in excess have each bidder as often as these bidders
 -- have it more often than the others.
-use Rattle.analysis.proofs.Common.{◌≡◌, ℕ, zero, suc, ◌+◌, ◌-◌, ◌<◌, ◌≤◌, Bool, true, false, cond, ◌⊎◌, inl, inr, ⊎_elim, List, [], ◌∷◌, length, map, drop, sym}
-use Rattle.analysis.proofs.Common.{ap, ◌∙◌, subst, arith, Some, nat_cmp, refl, All, Contains, nat_cmp-IsAntisymmetric, filter, range_with_len, is_eq}
-use Rattle.analysis.proofs.Common.{cases_Bool, ltb-true, nat_cmp_total, sum_by-cons, sum_by-take-drop, sum_by-drop_more, Atom, bidder_cmp, count_of}
-use Rattle.analysis.proofs.Common.{bidder_cmp_equal, Contains-filter_parts, All-from_Contains, counted_is_there, PlainBidderChange, AreBidderChanges, bidder_at}
-use Rattle.analysis.proofs.Common.{is_excess, excess_bidders, lefts_of, rights_of, drop-length, ltb-false}
+use Rattle.analysis.proofs.Common.{rules, ◌≡◌, ℕ, zero, suc, ◌+◌, ◌-◌, ◌<◌, ◌≤◌, Bool, true, false, cond, ◌⊎◌, ⊎_elim, List, ◌∷◌, length, map, drop, sym, ap}
+use Rattle.analysis.proofs.Common.{◌∙◌, subst, arith, Some, nat_cmp, refl, All, Contains, nat_cmp-IsAntisymmetric, filter, range_with_len, is_eq, cases_Bool}
+use Rattle.analysis.proofs.Common.{ltb-true, nat_cmp_total, sum_by-cons, sum_by-take-drop, sum_by-drop_more, Atom, bidder_cmp, count_of, bidder_cmp_equal}
+use Rattle.analysis.proofs.Common.{Contains-filter_parts, All-from_Contains, counted_is_there, PlainBidderChange, AreBidderChanges, bidder_at, is_excess}
+use Rattle.analysis.proofs.Common.{excess_bidders, lefts_of, rights_of, drop-length, ltb-false}
 use Rattle.analysis.proofs.Comparing.LawsLists.{Contains-filter_map, sum_by-map, there_is_counted, sum_of_same_counts}
 use Rattle.canon.specs.Lemmas.Finding.{equal_from}
 
@@ -20,12 +20,11 @@ module _ (bidders others : List (List (Atom (List ℕ)))) (bidder : List (Atom (
 
   here_cases : (index : ℕ) → (is_here index ≡ 0)
       ⊎ ((is_here index ≡ 1) × ((list : List (List (Atom (List ℕ)))) → times list ≡ count_of bidder_cmp (bidder_at bidders index) list))
-  here_cases index =
-      ⊎_elim
+  here_cases index = ⊎_elim
       (λ (t : is_eq (bidder_cmp bidder (bidder_at bidders index)) ≡ true).
       let same : bidder ≡ bidder_at bidders index = bidder_cmp_equal bidder (bidder_at bidders index) (equal_from _ t) in
-      inr (ap (λ b. cond {A = ℕ} b 1 0) t, λ list. ap (λ (b : List (Atom (List ℕ))). count_of bidder_cmp b list) same))
-      (λ (t : is_eq (bidder_cmp bidder (bidder_at bidders index)) ≡ false). inl (ap (λ b. cond {A = ℕ} b 1 0) t))
+      search rules)
+      (search rules)
       (cases_Bool (is_eq (bidder_cmp bidder (bidder_at bidders index))))
 
   -- from the indices behind an index to those from it on
@@ -37,31 +36,19 @@ module _ (bidders others : List (List (Atom (List ℕ)))) (bidder : List (Atom (
       let more : count_of bidder_cmp (bidder_at bidders index) others < count_of bidder_cmp (bidder_at bidders index) (drop index bidders) = ltb-true _ _ e in
       let front = sum_by-cons (λ b. cond {A = ℕ} (is_eq (bidder_cmp bidder b)) 1 0) (bidder_at bidders index) (map (bidder_at bidders) behind) in
       ⊎_elim (λ (none : is_here index ≡ 0). omega arith)
-      (λ (one : (is_here index ≡ 1) × ((list : List (List (Atom (List ℕ)))) → times list ≡ count_of bidder_cmp (bidder_at bidders index) list)).
-      let first = one.0 in
-      let mine = one.1 (drop index bidders) in
-      let theirs = one.1 others in
-      omega arith)
+      (search rules)
       (here_cases index)
   excess_here index behind all later false e =
       let fewer : count_of bidder_cmp (bidder_at bidders index) (drop index bidders) ≤ count_of bidder_cmp (bidder_at bidders index) others = ltb-false _ _ e in
       ⊎_elim (λ (none : is_here index ≡ 0). omega arith)
-      (λ (one : (is_here index ≡ 1) × ((list : List (List (Atom (List ℕ)))) → times list ≡ count_of bidder_cmp (bidder_at bidders index) list)).
-      let first = one.0 in
-      let mine = one.1 (drop index bidders) in
-      let theirs = one.1 others in
-      omega arith)
+      (search rules)
       (here_cases index)
 
   excess_from : (n index : ℕ) → index + n ≡ length bidders
       → times (map (bidder_at bidders) (filter (is_excess bidders others) (range_with_len index n))) ≡ times (drop index bidders) - times others
-  excess_from zero index e =
-      let all : index ≡ length bidders = omega arith in
-      let none : times (drop index bidders) ≡ 0 = ap (λ i. times (drop i bidders)) all ∙ ap times (drop-length bidders) in
-      omega arith
-  excess_from (suc n) index e =
-      excess_here index (filter (is_excess bidders others) (range_with_len (index + 1) n))
-      (sum_by-drop_more (λ b. cond {A = ℕ} (is_eq (bidder_cmp bidder b)) 1 0) bidders index [] (omega arith))
+  excess_from zero index e = let all : index ≡ length bidders = omega arith in search (rules, drop-length)
+  excess_from (suc n) index e = excess_here index (filter (is_excess bidders others) (range_with_len (index + 1) n))
+      (search (rules, sum_by-drop_more))
       (excess_from n (index + 1) (omega arith)) (is_excess bidders others index) refl
 
   -- as often as these bidders have it more often than the others
@@ -84,16 +71,13 @@ excess_is_more bidders others index c =
 module _ (left right : List (List (Atom (List ℕ)))) (changes : List PlainBidderChange) (are : AreBidderChanges left right changes) where
   pub left_is_more : (c : PlainBidderChange) (index : ℕ) → Contains changes c → c.left ≡ Some index
       → count_of bidder_cmp (bidder_at left index) right < count_of bidder_cmp (bidder_at left index) left
-  left_is_more c index there e =
-      excess_is_more left right index
-      (subst (λ (indices : List ℕ). Contains indices index) are.lefts (Contains-filter_map (λ (d : PlainBidderChange). d.left) changes c index there e))
+  left_is_more c index there e = excess_is_more left right index
+      (subst (λ (indices : List ℕ). Contains indices index) are.lefts (search (rules, Contains-filter_map)))
 
   pub right_is_more : (c : PlainBidderChange) (index : ℕ) → Contains changes c → c.right ≡ Some index
       → count_of bidder_cmp (bidder_at right index) left < count_of bidder_cmp (bidder_at right index) right
-  right_is_more c index there e =
-      let some : 0 < count_of nat_cmp index (rights_of changes) =
-      there_is_counted nat_cmp nat_cmp_total index (rights_of changes) (Contains-filter_map (λ (d : PlainBidderChange). d.right) changes c index there e) in
-      let same = are.rights index in
+  right_is_more c index there e = let some : 0 < count_of nat_cmp index (rights_of changes) =
+      search (rules, there_is_counted, nat_cmp_total, Contains-filter_map) in
       excess_is_more right left index
       (counted_is_there nat_cmp nat_cmp_total nat_cmp-IsAntisymmetric index (excess_bidders right left) (omega arith))
 
@@ -104,11 +88,7 @@ module _ (left right : List (List (Atom (List ℕ)))) (changes : List PlainBidde
       (λ c there i j on_left on_right same.
       let more = left_is_more c i there on_left in
       let fewer = right_is_more c j there on_right in
-      let mine : count_of bidder_cmp (bidder_at left i) left ≡ count_of bidder_cmp (bidder_at right j) left =
-      ap (λ (b : List (Atom (List ℕ))). count_of bidder_cmp b left) same in
-      let theirs : count_of bidder_cmp (bidder_at left i) right ≡ count_of bidder_cmp (bidder_at right j) right =
-      ap (λ (b : List (Atom (List ℕ))). count_of bidder_cmp b right) same in
-      omega arith)
+      search rules)
 
   -- how often the changes have a bidder
   pub lefts_counted : (bidder : List (Atom (List ℕ))) → count_of bidder_cmp bidder (map (bidder_at left) (lefts_of changes))

@@ -1,9 +1,8 @@
 -- The partners of left bidders: what is taken waits no more, and the candidate on the rarest bundle is the partner.
 use Rattle.analysis.proofs.Common.{rules, ◌≡◌, ◌<◌, ◌≤◌, ◌==◌, ℕ, Bool, true, false, not, ◌&&◌, cond, List, [], ◌∷◌, length, set, Option, Some, None, slice_get}
-use Rattle.analysis.proofs.Common.{refl, sym, ap, ap₂, ◌∙◌, subst, ⊎_elim, MatchOption, Vec, filter, Bor, BTreeMap, UpdatesBy, slice_cmp, Global, is_eq}
-use Rattle.analysis.proofs.Common.{nat_cmp, cases_Bool, eq-eqb, ne_eqb, get_or-set_other, get_or_past, Atom, bundle_cmp, bundle_cmp_equal, bidders_on}
-use Rattle.analysis.proofs.Common.{Candidate, Holders, ArePassed, holders_at, indices_in, waits_at, ArePartners, IsCandidate, and_right, and_comm}
-use Rattle.analysis.proofs.Common.{get_or-set_at, Partners}
+use Rattle.analysis.proofs.Common.{refl, sym, ap, ◌∙◌, subst, ⊎_elim, MatchOption, filter, Bor, BTreeMap, UpdatesBy, slice_cmp, is_eq, nat_cmp, cases_Bool}
+use Rattle.analysis.proofs.Common.{eq-eqb, ne_eqb, get_or-set_other, get_or_past, Atom, bundle_cmp, bundle_cmp_equal, bidders_on, Candidate, Holders, ArePassed}
+use Rattle.analysis.proofs.Common.{holders_at, indices_in, waits_at, ArePartners, IsCandidate, and_right, and_comm, get_or-set_at, Partners}
 use Rattle.analysis.proofs.Comparing.HoldersFound.{key_cmp, updated}
 use Rattle.analysis.specs.Internal.Holders.{found_at}
 use Rattle.canon.specs.Lemmas.Finding.{equal_from}
@@ -23,8 +22,7 @@ both_tests p q (x ∷ xs) = at (p x) (q x) refl refl (both_tests p q xs)
 
 pub all_tested : (p q : ℕ → Bool) (xs : List ℕ) → ((x : ℕ) → p x ≡ q x) → filter p xs ≡ filter q xs
 all_tested p q [] same = refl
-all_tested p q (x ∷ xs) same =
-    ap₂ (λ (b : Bool) (ys : List ℕ). cond {A = List ℕ} b (x ∷ ys) ys) (same x) (all_tested p q xs same)
+all_tested p q (x ∷ xs) same = search rules
 
 waits_less : (old new : List Bool) (index : ℕ) → ((i : ℕ) → waits_at new i ≡ (not (i == index) && waits_at old i)) → (xs : List ℕ)
     → filter (waits_at new) xs ≡ filter (λ i. not (i == index)) (filter (waits_at old) xs)
@@ -40,7 +38,7 @@ one_waits_less right waiting old new index e f same are = record {
   rising = rw e are.rising;
   holders = rw (e, f) are.holders;
   passed = rw f (λ bundle k l. same _ ∙ and_right _ _ (are.passed bundle k l));
-  wait = rw e (waits_less old.waits.items new.waits.items index same old.excess.items ∙ ap (filter (λ i. not (i == index))) are.wait);
+  wait = search (rules, waits_less);
 }
 
 pub set_waits : (waits : List Bool) (index : ℕ) → index < length waits → (i : ℕ)
@@ -67,14 +65,8 @@ module _ (right : List (List (Atom (List ℕ)))) (waiting : List ℕ) (partners 
       → MatchOption found (filter (waits_at partners.waits.items) known.indices.items ≡ [])
       (λ c. (slice_get (filter (waits_at partners.waits.items) known.indices.items) 0 ≡ Some c.index) × (c.count ≡ length known.indices.items))
       → MatchOption found (bidders_on right waiting bundle ≡ []) (IsCandidate right partners.excess.items waiting bundle)
-  candidate_found bundle known None e h =
-      waiting_on bundle ∙ ap (λ (o : Option Holders). filter (waits_at partners.waits.items) (indices_in o)) (sym e) ∙ h
-  candidate_found bundle known (Some c) e h = record {
-    first = ap (λ (xs : List ℕ). slice_get xs 0)
-        (waiting_on bundle ∙ ap (λ (o : Option Holders). filter (waits_at partners.waits.items) (indices_in o)) (sym e))
-        ∙ h.0;
-    count = h.1 ∙ ap (λ (o : Option Holders). length (indices_in o)) e ∙ ap (λ (is : List ℕ). length is) (are.holders bundle);
-  }
+  candidate_found bundle known None e h = search (rules, waiting_on)
+  candidate_found bundle known (Some c) e h = search (rules, waiting_on)
 
   -- that more of them are passed changes nothing
   pub passed_more : (new : BTreeMap (Bor (List ℕ)) Holders) (goods : List ℕ) (known now : Holders) → Some known ≡ found_at partners.holders goods
@@ -86,17 +78,12 @@ module _ (right : List (List (Atom (List ℕ)))) (waiting : List ℕ) (partners 
     rising = are.rising;
     holders = λ bundle. ap indices_in (updated partners.holders new goods now h bundle)
         ∙ ⊎_elim
-        (λ (y : is_eq (bundle_cmp goods bundle) ≡ true).
-        ap (λ b. indices_in (cond b (Some now) (found_at partners.holders bundle))) y
-        ∙ ap (λ (v : Vec ℕ Global). v.items) same ∙ ap indices_in (e ∙ ap (found_at partners.holders) (same_goods bundle y)) ∙ are.holders bundle)
-        (λ (n : is_eq (bundle_cmp goods bundle) ≡ false).
-        ap (λ b. indices_in (cond b (Some now) (found_at partners.holders bundle))) n ∙ are.holders bundle)
+        (search (rules, same_goods))
+        (search rules)
         (cases_Bool (is_eq (bundle_cmp goods bundle)));
     passed = λ bundle. subst (ArePassed partners.waits.items) (sym (updated partners.holders new goods now h bundle))
         (⊎_elim
-        (λ (y : is_eq (bundle_cmp goods bundle) ≡ true).
-        subst (λ b. ArePassed partners.waits.items (cond b (Some now) (found_at partners.holders bundle))) (sym y)
-        (passed (subst (ArePassed partners.waits.items) (sym e) (are.passed goods))))
+        (search rules)
         (λ (n : is_eq (bundle_cmp goods bundle) ≡ false).
         subst (λ b. ArePassed partners.waits.items (cond b (Some now) (found_at partners.holders bundle))) (sym n) (are.passed bundle))
         (cases_Bool (is_eq (bundle_cmp goods bundle))));

@@ -1,8 +1,8 @@
 -- The rarest bundle of a left bidder on which a right bidder waits: it is found bundle by bundle, and the partner is there. The idea:
 -- of the bundles in order of rarity it is the first on which one waits.
 use Rattle.analysis.proofs.Common.{rules, ◌≡◌, ◌≢◌, ◌<◌, ◌≤◌, ℕ, false, List, [], ◌∷◌, ◌++◌, length, map, Option, Some, None, Ordering, Less, Equal, Greater}
-use Rattle.analysis.proofs.Common.{slice_get, refl, sym, ap, ap₂, ◌∙◌, subst, arith, ⊎_elim, All, Contains, MatchOption, if◌then◌else◌, IsTotalOrder, flat_map}
-use Rattle.analysis.proofs.Common.{is_gt, ordering_then, ordering_reverse, cases_lt, lt-ltb, le-ltb, nat_cmp_total, on_total, then_total, All-contains}
+use Rattle.analysis.proofs.Common.{slice_get, refl, sym, ap, ap₂, ◌∙◌, subst, ⊎_elim, All, Contains, MatchOption, if◌then◌else◌, IsTotalOrder, flat_map, is_gt}
+use Rattle.analysis.proofs.Common.{ordering_then, ordering_reverse, cases_lt, lt-ltb, le-ltb, nat_cmp_total, on_total, then_total, All-contains}
 use Rattle.analysis.proofs.Common.{All-from_recursion, All-head, All-push, All-tail, All-weaker, Contains-append_left, Contains-permutation, bundle_cmp}
 use Rattle.analysis.proofs.Common.{bundle_cmp_equal, bundle_cmp_refl, bundle_cmp_total, nat_cmp-lt, nat_cmp-refl, Atom, Contains-cons_cases, All-sort_by}
 use Rattle.analysis.proofs.Common.{IsOrdered, permutation-sort_by, sort_by, Contains-nil, bidders_on, partner_of, rarer, Candidate, IsCandidate, IsRarestIfAny}
@@ -41,8 +41,8 @@ module _ (right : List (List (Atom (List ℕ)))) (excess : List ℕ) where
       there = Contains-push bundles bundle;
       is = here;
       none_rarer = All-push (IsFirst bundle) bundles bundle
-          (All-weaker (λ b. bidders_on right waiting b ≡ []) (IsFirst bundle) (λ b e n. absurd (n e)) bundles none)
-          (λ n. first_is_rarer bundle bundle (omega arith) (ap is_gt (bundle_cmp_refl bundle)));
+          (search (rules, All-weaker))
+          (search (rules, first_is_rarer, bundle_cmp_refl));
     }
     one_more_bundle bundles bundle before (Some c) None r here = record {
       bundle = r.bundle;
@@ -50,18 +50,15 @@ module _ (right : List (List (Atom (List ℕ)))) (excess : List ℕ) where
       is = r.is;
       none_rarer = All-push (IsFirst r.bundle) bundles bundle r.none_rarer (λ n. absurd (n here));
     }
-    one_more_bundle bundles bundle before (Some c) (Some d) r here =
-        ⊎_elim
+    one_more_bundle bundles bundle before (Some c) (Some d) r here = ⊎_elim
         (λ (l : d.count < c.count). subst (IsRarestIfAny right excess waiting (bundles ++ bundle ∷ []))
         (sym (ap (λ b. if b then Some d else Some c) (lt-ltb d.count c.count l))) (record {
           bundle = bundle;
           there = Contains-push bundles bundle;
           is = here;
           none_rarer = All-push (IsFirst bundle) bundles bundle
-              (All-weaker (IsFirst r.bundle) (IsFirst bundle) (λ b h n.
-              let more = not_more r.bundle b (h n) in
-              fewer_is_rarer bundle b (omega (arith, more, l, here.count, r.is.count))) bundles r.none_rarer)
-              (λ n. first_is_rarer bundle bundle (omega arith) (ap is_gt (bundle_cmp_refl bundle)));
+              (search (rules, All-weaker, not_more, fewer_is_rarer))
+              (search (rules, first_is_rarer, bundle_cmp_refl));
         }))
         (λ (l : c.count ≤ d.count). subst (IsRarestIfAny right excess waiting (bundles ++ bundle ∷ []))
         (sym (ap (λ b. if b then Some d else Some c) (le-ltb d.count c.count l))) (record {
@@ -69,8 +66,7 @@ module _ (right : List (List (Atom (List ℕ)))) (excess : List ℕ) where
           there = Contains-append_left bundles (bundle ∷ []) r.bundle r.there;
           is = r.is;
           none_rarer = All-push (IsFirst r.bundle) bundles bundle r.none_rarer
-              (λ n. first_is_rarer r.bundle bundle (omega (arith, l, here.count, r.is.count))
-              (ap is_gt (All-contains (λ b. bundle_cmp b bundle ≡ Less) bundles r.bundle before r.there)));
+              (search (rules, first_is_rarer, All-contains));
         }))
         (cases_lt d.count c.count)
 
@@ -92,8 +88,6 @@ module _ (right : List (List (Atom (List ℕ)))) (excess : List ℕ) where
         later : bidders_on right waiting b ≡ [] → Contains sorted bundle
         later none = ⊎_elim
             (λ (same : b ≡ bundle).
-            let lost : slice_get (bidders_on right waiting bundle) 0 ≡ None =
-            ap (λ (xs : List ℕ). slice_get xs 0) (ap (bidders_on right waiting) (sym same) ∙ none) in
             absurd (cc))
             (λ (c : Contains sorted bundle). c)
             (Contains-cons_cases b sorted bundle there)
@@ -102,10 +96,9 @@ module _ (right : List (List (Atom (List ℕ)))) (excess : List ℕ) where
         same some = ⊎_elim
             (λ (e : b ≡ bundle). e)
             (λ (c : Contains sorted bundle).
-            let up : is_gt (rarer right excess b bundle) ≡ false = All-contains (λ y. is_gt (rarer right excess b y) ≡ false) sorted bundle
-            (All-from_recursion (λ y. is_gt (rarer right excess b y) ≡ false) sorted ordered.0) c in
+            let up : is_gt (rarer right excess b bundle) ≡ false = search (rules, All-contains, All-from_recursion) in
             let down : is_gt (rarer right excess bundle b) ≡ false = All-head (IsFirst bundle) b sorted first some in
-            rarer_equal b bundle (tied (rarer right excess b bundle) (rarer right excess bundle b) (rarer_total.antisymm b bundle) up down))
+            rarer_equal b bundle (search (rules, tied, rarer_total)))
             (Contains-cons_cases b sorted bundle there)
           where
             tied : (o p : Ordering) → o ≡ ordering_reverse p → is_gt o ≡ false → is_gt p ≡ false → o ≡ Equal
@@ -118,13 +111,9 @@ module _ (right : List (List (Atom (List ℕ)))) (excess : List ℕ) where
         at : (xs : List ℕ) → bidders_on right waiting b ≡ xs
             → (Contains sorted bundle → slice_get (flat_map (bidders_on right waiting) sorted) 0 ≡ Some index)
             → slice_get (flat_map (bidders_on right waiting) (b ∷ sorted)) 0 ≡ Some index
-        at [] none next =
-            ap (λ (xs : List ℕ). slice_get (xs ++ flat_map (bidders_on right waiting) sorted) 0) none ∙ next (later none)
-        at (x ∷ xs) some next =
-            let is : b ≡ bundle = same (λ none. let not : x ∷ xs ≡ [] = sym some ∙ none in absurd (cc)) in
-            let head : slice_get (x ∷ xs) 0 ≡ Some index =
-            ap (λ (ys : List ℕ). slice_get ys 0) (sym some ∙ ap (bidders_on right waiting) is) ∙ e in
-            ap (λ (ys : List ℕ). slice_get (ys ++ flat_map (bidders_on right waiting) sorted) 0) some ∙ head
+        at [] none next = ap (λ (xs : List ℕ). slice_get (xs ++ flat_map (bidders_on right waiting) sorted) 0) none ∙ next (later none)
+        at (x ∷ xs) some next = let is : b ≡ bundle = same (λ none. absurd (cc)) in
+            search rules
 
     module _ (bidder : List (Atom (List ℕ))) where
       abbrev bundles : List (List ℕ)
@@ -134,7 +123,6 @@ module _ (right : List (List (Atom (List ℕ)))) (excess : List ℕ) where
       no_partner none = search (rules, none_waits, All-sort_by)
 
       pub rarest_is_partner : (c : Candidate) → IsRarest right excess waiting bundles c → partner_of right excess waiting bidder ≡ Some c.index
-      rarest_is_partner c r =
-          first_waits (sort_by (rarer right excess) bundles) r.bundle c.index (ordered-sort_by (rarer right excess) rarer_total bundles)
-          (Contains-permutation bundles (sort_by (rarer right excess) bundles) r.bundle (permutation-sort_by (rarer right excess) bundles) r.there)
+      rarest_is_partner c r = first_waits (sort_by (rarer right excess) bundles) r.bundle c.index (ordered-sort_by (rarer right excess) rarer_total bundles)
+          (search (rules, Contains-permutation, permutation-sort_by))
           r.is.first (All-sort_by (rarer right excess) (IsFirst r.bundle) bundles r.none_rarer)

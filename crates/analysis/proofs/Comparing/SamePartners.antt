@@ -1,15 +1,14 @@
 -- With the same partners there is one list of changes. The idea: the left bidders and their partners are given, and so is which
 -- right bidders are alone, in which order; and a change is determined by its bidders.
-use Rattle.analysis.proofs.Common.{rules, ◌≡◌, ℕ, ◌+◌, true, List, [], ◌∷◌, ◌++◌, map, get_or, refl, sym, ap, ap₂, ◌∙◌, subst, arith, Option, Some, None}
-use Rattle.analysis.proofs.Common.{All, is_some, ◌||◌, nat_cmp-IsAntisymmetric, cons_option, filter_map, is_none, nat_cmp, nat_cmp_total, append-nil}
-use Rattle.analysis.proofs.Common.{All-filter, All-head, All-tail, IsRising, Atom, count_of, PlainBidderChange}
-use Rattle.analysis.proofs.Common.{IsBidderChange, AreBidderChanges, bids_at, lefts_of, rights_of, with_left, PlainChange, ArePriceChanges, filter_passes}
+use Rattle.analysis.proofs.Common.{rules, ◌≡◌, ℕ, ◌+◌, true, List, [], ◌∷◌, map, get_or, refl, sym, ap, ap₂, ◌∙◌, Option, Some, None, All, is_some, ◌||◌}
+use Rattle.analysis.proofs.Common.{nat_cmp-IsAntisymmetric, cons_option, filter_map, is_none, nat_cmp, nat_cmp_total, append-nil, All-filter, All-head}
+use Rattle.analysis.proofs.Common.{All-tail, IsRising, Atom, count_of, PlainBidderChange, IsBidderChange, AreBidderChanges, bids_at, lefts_of, rights_of}
+use Rattle.analysis.proofs.Common.{with_left, filter_passes, sort_by-same}
 use Rattle.analysis.specs.BidderChanges.{right_alone}
 use Rattle.analysis.proofs.Comparing.Changes.{count-append, lefts-append, no_lefts_alone, rights-append}
 use Rattle.analysis.proofs.Comparing.ExchangedChanges.{one_list_of_changes}
 use Rattle.analysis.proofs.Explaining.KeptBidsBest.{none_is}
 use Rattle.analysis.proofs.Comparing.LawsLists.{sort_rising}
-use Rattle.analysis.proofs.Common.{sort_by-same}
 
 -- ---- lists
 
@@ -33,8 +32,7 @@ map_of_none (c ∷ xs) all =
     (map_of_none xs (All-tail (λ (d : PlainBidderChange). d.left ≡ None) c xs all))
 
 same_rising : (xs ys : List ℕ) → IsRising xs → IsRising ys → ((i : ℕ) → count_of nat_cmp i xs ≡ count_of nat_cmp i ys) → xs ≡ ys
-same_rising xs ys r s same =
-    sym (sort_rising xs r) ∙ sort_by-same nat_cmp nat_cmp_total nat_cmp-IsAntisymmetric xs ys same ∙ sort_rising ys s
+same_rising xs ys r s same = search (rules, sort_rising, sort_by-same, nat_cmp_total, nat_cmp-IsAntisymmetric)
 
 same_head : (o p : Option ℕ) (os ps : List (Option ℕ)) → o ∷ os ≡ p ∷ ps → o ≡ p
 same_head o p os ps e = cc
@@ -46,24 +44,18 @@ same_rest o p os ps e = cc
 
 module _ (left right : List (List (Atom (List ℕ)))) where
   same_change : (c d : PlainBidderChange) → IsBidderChange left right c → IsBidderChange left right d → c.left ≡ d.left → c.right ≡ d.right → c ≡ d
-  same_change c d h k e f =
-      let bids : c.bids ≡ d.bids =
-      one_list_of_changes (bids_at left c.left) (bids_at right c.right) c.bids d.bids h.bids
-      (subst (λ (o : Option ℕ). ArePriceChanges (bids_at left c.left) (bids_at right o) d.bids) (sym f)
-      (subst (λ (o : Option ℕ). ArePriceChanges (bids_at left o) (bids_at right d.right) d.bids) (sym e) k.bids)) in
-      ap₂ (λ (o p : Option ℕ). record { left = o; right = p; bids = c.bids }) e f
-      ∙ ap (λ (changes : List PlainChange). record { left = d.left; right = d.right; bids = changes }) bids
+  same_change c d h k e f = let bids : c.bids ≡ d.bids = one_list_of_changes (bids_at left c.left) (bids_at right c.right) c.bids d.bids h.bids
+      (search rules) in
+      search rules
 
   same_changes : (xs ys : List PlainBidderChange) → All (IsBidderChange left right) xs → All (IsBidderChange left right) ys
       → map (λ c. c.left) xs ≡ map (λ c. c.left) ys → map (λ c. c.right) xs ≡ map (λ c. c.right) ys → xs ≡ ys
   same_changes [] [] h k e f = refl
   same_changes [] (d ∷ ys) h k e f = absurd (cc)
   same_changes (c ∷ xs) [] h k e f = absurd (cc)
-  same_changes (c ∷ xs) (d ∷ ys) h k e f =
-      let is = IsBidderChange left right in
+  same_changes (c ∷ xs) (d ∷ ys) h k e f = let is = IsBidderChange left right in
       ap₂ (λ (z : PlainBidderChange) (zs : List PlainBidderChange). z ∷ zs)
-      (same_change c d (All-head is c xs h) (All-head is d ys k) (same_head c.left d.left (map (λ z. z.left) xs) (map (λ z. z.left) ys) e)
-      (same_head c.right d.right (map (λ z. z.right) xs) (map (λ z. z.right) ys) f))
+      (search (rules, same_change, All-head, same_head))
       (same_changes xs ys (All-tail is c xs h) (All-tail is d ys k) (same_rest c.left d.left (map (λ z. z.left) xs) (map (λ z. z.left) ys) e)
       (same_rest c.right d.right (map (λ z. z.right) xs) (map (λ z. z.right) ys) f))
 
@@ -85,8 +77,7 @@ module _ (left right : List (List (Atom (List ℕ)))) where
     lefts_of_first = search (rules, map_of_some, filter_passes, lefts-append, no_lefts_alone, none_left, append-nil)
 
     rights_of_last : map (λ c. c.right) (right_alone changes) ≡ map (λ i. Some i) (rights_of (right_alone changes))
-    rights_of_last =
-        map_of_some (λ c. c.right) (right_alone changes) (λ k d l. is_right (get_or (right_alone changes) k d) (each_alone k d l) (none_left k d l))
+    rights_of_last = search (rules, map_of_some, is_right, each_alone, none_left)
 
     rights_counted_apart : (i : ℕ) → count_of nat_cmp i (rights_of changes)
         ≡ count_of nat_cmp i (rights_of (with_left changes)) + count_of nat_cmp i (rights_of (right_alone changes))
@@ -97,22 +88,17 @@ module _ (left right : List (List (Atom (List ℕ)))) where
 
   pub one_with_partners : (one other : List PlainBidderChange) → AreBidderChanges left right one → AreBidderChanges left right other
       → map (λ c. c.right) (with_left one) ≡ map (λ c. c.right) (with_left other) → one ≡ other
-  one_with_partners one other are also same =
-      let first : with_left one ≡ with_left other =
+  one_with_partners one other are also same = let first : with_left one ≡ with_left other =
       same_changes (with_left one) (with_left other) (each_with_left one are) (each_with_left other also)
-      (lefts_of_first one are ∙ ap (map (λ i. Some i)) (are.lefts ∙ sym also.lefts) ∙ sym (lefts_of_first other also)) same in
+      (search (rules, lefts_of_first)) same in
       let alone : rights_of (right_alone one) ≡ rights_of (right_alone other) =
       same_rising (rights_of (right_alone one)) (rights_of (right_alone other)) are.alone_in_order also.alone_in_order
       (λ i. let a = rights_counted_apart one are i in
       let b = rights_counted_apart other also i in
       let c = are.rights i in
       let d = also.rights i in
-      let e = ap (λ (xs : List PlainBidderChange). count_of nat_cmp i (rights_of xs)) first in
-      omega arith) in
-      let rights : map (λ c. c.right) (right_alone one) ≡ map (λ c. c.right) (right_alone other) =
-      rights_of_last one are ∙ ap (map (λ i. Some i)) alone ∙ sym (rights_of_last other also) in
-      let last : right_alone one ≡ right_alone other =
-      same_changes (right_alone one) (right_alone other) (each_alone one are) (each_alone other also)
-      (map_of_none (right_alone one) (none_left one are) ∙ ap (map (λ (o : Option ℕ). None)) rights
-      ∙ sym (map_of_none (right_alone other) (none_left other also))) rights in
-      are.alone_last ∙ ap₂ (λ (xs ys : List PlainBidderChange). xs ++ ys) first last ∙ sym also.alone_last
+      search rules) in
+      let rights : map (λ c. c.right) (right_alone one) ≡ map (λ c. c.right) (right_alone other) = search (rules, rights_of_last) in
+      let last : right_alone one ≡ right_alone other = same_changes (right_alone one) (right_alone other) (each_alone one are) (each_alone other also)
+      (search (rules, map_of_none, none_left)) rights in
+      search rules

@@ -1,9 +1,10 @@
 -- The bidders that wait for a partner: each is there or is taken, and what is taken is the only one that is gone.
-use Rattle.analysis.proofs.Common.{common_steps, ◌≡◌, ◌==◌, ℕ, ◌+◌, ◌<◌, ◌≤◌, Bool, true, not, cond, ⊎_elim, List, [], ◌∷◌, ◌++◌, map, slice_get, refl, sym, ap}
-use Rattle.analysis.proofs.Common.{◌∙◌, subst, arith, Option, Some, None, All, Contains, IfSome, is_some, nat_cmp-IsAntisymmetric, filter, flat_map, nat_cmp}
-use Rattle.analysis.proofs.Common.{is_eq, nat_cmp_total, eq-eqb, ne_eqb, All-cons, All-contains, All-nil, sum_by-append, sum_by-cons, AreAbove, IsRising, Atom}
-use Rattle.analysis.proofs.Common.{Contains-cons_cases, count_of, sort_by, All-from_Contains, Contains-filter_parts, Contains-head, Contains-nil}
-use Rattle.analysis.proofs.Common.{counted_is_there, bidder_at, partner_of, partners_of, rarer, waiting_after, without_partner, price_on, TakesPartner}
+use Rattle.analysis.proofs.Common.{rules, common_steps, ◌≡◌, ◌==◌, ℕ, ◌+◌, ◌<◌, ◌≤◌, Bool, true, not, cond, ⊎_elim, List, [], ◌∷◌, ◌++◌, map, slice_get, refl}
+use Rattle.analysis.proofs.Common.{sym, ap, subst, arith, Option, Some, None, All, Contains, IfSome, is_some, nat_cmp-IsAntisymmetric, filter, flat_map}
+use Rattle.analysis.proofs.Common.{nat_cmp, is_eq, nat_cmp_total, eq-eqb, ne_eqb, All-cons, All-contains, All-nil, sum_by-append, sum_by-cons, AreAbove}
+use Rattle.analysis.proofs.Common.{IsRising, Atom, Contains-cons_cases, count_of, sort_by, All-from_Contains, Contains-filter_parts, Contains-head}
+use Rattle.analysis.proofs.Common.{Contains-nil, counted_is_there, bidder_at, partner_of, partners_of, rarer, waiting_after, without_partner, price_on}
+use Rattle.analysis.proofs.Common.{TakesPartner}
 use Rattle.analysis.proofs.Comparing.LawsLists.{above_all, all_pass, there_is_counted}
 
 -- whether the index is this one
@@ -26,23 +27,15 @@ apart_above x (y ∷ ys) a = All-cons (λ y. not (y == x) ≡ true) y ys (ap not
 
 takes_one : (i : ℕ) (xs : List ℕ) → IsRising xs → Contains xs i → TakesPartner xs (filter (λ j. not (j == i)) xs) (Some i)
 takes_one i [] r c = absurd (Contains-nil i c)
-takes_one i (x ∷ xs) r c =
-    ⊎_elim
-    (λ (e : x ≡ i). (
-      [],
-      xs,
-      ap (λ (n : ℕ). n ∷ xs) e,
-      ap (λ b. cond {A = List ℕ} (not b) (x ∷ filter (λ j. not (j == i)) xs) (filter (λ j. not (j == i)) xs)) (eq-eqb x i e)
-          ∙ all_pass (λ j. not (j == i)) xs (subst (λ (n : ℕ). All (λ y. not (y == n) ≡ true) xs) e (apart_above x xs r.0)),
-    ))
+takes_one i (x ∷ xs) r c = ⊎_elim
+    (search (rules, eq-eqb, all_pass, apart_above))
     (λ (d : Contains xs i).
     let up : x < i = All-contains (λ y. x < y) xs i (above_all x xs r.0) d in
     let rest = takes_one i xs r.1 d in (
       x ∷ rest.0,
       rest.1,
       ap (λ (zs : List ℕ). x ∷ zs) rest.2,
-      ap (λ b. cond {A = List ℕ} (not b) (x ∷ filter (λ j. not (j == i)) xs) (filter (λ j. not (j == i)) xs)) (ne_eqb x i (λ e. absurd (omega arith)))
-          ∙ ap (λ (zs : List ℕ). x ∷ zs) rest.3,
+      search (rules, ne_eqb),
     ))
     (Contains-cons_cases x xs i c)
 
@@ -53,9 +46,8 @@ one_of_some has waiting (b ∷ bundles) i e = at (filter (has b) waiting) refl (
   where
     at : (xs : List ℕ) → filter (has b) waiting ≡ xs → (slice_get (flat_map (λ b. filter (has b) waiting) bundles) 0 ≡ Some i → Contains waiting i)
         → Contains waiting i
-    at [] none later = later (sym (ap (λ (xs : List ℕ). slice_get (xs ++ flat_map (λ b. filter (has b) waiting) bundles) 0) none) ∙ e)
-    at (x ∷ xs) some later =
-        let is : x ≡ i = first x i (sym (ap (λ (ys : List ℕ). slice_get (ys ++ flat_map (λ b. filter (has b) waiting) bundles) 0) some) ∙ e) in
+    at [] none later = later (search rules)
+    at (x ∷ xs) some later = let is : x ≡ i = search (rules, first) in
         subst (Contains waiting) is
         (Contains-filter_parts (has b) waiting x (subst (λ (ys : List ℕ). Contains ys x) (sym some) (Contains-head x xs))).0
       where
@@ -107,10 +99,8 @@ still_rise before after (Some index) h r = subst IsRising (sym h.3) (rising_with
 
 -- what is there no more often has what holds of all
 pub All-counted : (P : ℕ → Type 0) (xs ys : List ℕ) → ((i : ℕ) → count_of nat_cmp i ys ≤ count_of nat_cmp i xs) → All P xs → All P ys
-All-counted P xs ys less h =
-    All-from_Contains P ys (λ y c.
+All-counted P xs ys less h = All-from_Contains P ys (λ y c.
     let some = there_is_counted nat_cmp nat_cmp_total y ys c in
-    let most = less y in
     All-contains P xs y h (counted_is_there nat_cmp nat_cmp_total nat_cmp-IsAntisymmetric y xs (omega arith)))
 
 pub taken_has : (P : ℕ → Type 0) (before after : List ℕ) (taken : Option ℕ) → TakesPartner before after taken → All P before → IfSome taken P

@@ -138,7 +138,8 @@ module _ (f : PlainFile) (bids : List NumberedBid) (order : AreInOrder f bids) (
           record {
             within = facts.0;
             alike = search (rules, alike_from);
-            best = not_from_false _ (list_any_none (λ j. is_better f j x.number) (numbers_of f) (search (rules, length-range_with_len, get_or-range_with_len, false_from_ne_true, none_better)));
+            best = not_from_false _ (list_any_none (λ j. is_better f j x.number) (numbers_of f)
+                (search (rules, length-range_with_len, get_or-range_with_len, false_from_ne_true, none_better)));
           }
 
     -- there is one

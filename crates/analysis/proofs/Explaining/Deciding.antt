@@ -1,7 +1,7 @@
 -- What the code finds out for each bid explains the file. The idea: a bid of the canonical file has no other reason than that
 -- it is one, since a better bid is not its own, and the other reasons are those of bids that are none. So what is named is
 -- kept; and of each bid of the canonical file the best bid alone has its number.
-use Rattle.analysis.proofs.Common.{rules, ◌≡◌, ℕ, ◌<◌, true, List, [], ◌∷◌, length, refl, sym, ap, ◌∙◌, subst, arith, eqb, AllByRecursion, both_ways, eqb-true}
+use Rattle.analysis.proofs.Common.{rules, ◌≡◌, ℕ, ◌<◌, true, List, [], ◌∷◌, length, refl, sym, ap, ◌∙◌, subst, arith, AllByRecursion, both_ways, eqb-true}
 use Rattle.analysis.proofs.Common.{eq-eqb, get_or_past, length-filter, slice_get_within, PlainFile, IsPlainFile, kept_bids, bid_at, PlainReason, Keep, Zero}
 use Rattle.analysis.proofs.Common.{Same, Inside, Packing, is_kept, is_kept_as, reason_at, IsKeptAs, Explains, IsPointBid, IsPointInside, IsDecided, count_by}
 use Rattle.analysis.proofs.Common.{IsKeptInside, IsReason}
@@ -20,9 +20,7 @@ kept_decided f j k kept (Keep l) d =
     ap Keep (kept-once f l k (slice_get_within (kept_bids f) l (bid_at f j) d.is) (slice_get_within (kept_bids f) k (bid_at f j) kept.is)
     (d.is ∙ sym kept.is))
 kept_decided f j k kept Zero d = let positive = kept.bid.positive in absurd (omega arith)
-kept_decided f j k kept (Same i) d =
-    absurd (both_ways (eqb i j) d.another (eq-eqb i j
-    (best-once f i j d.best.within (priced_within f j kept.bid.positive) d.best.best kept.bid.best d.best.alike)))
+kept_decided f j k kept (Same i) d = search (rules, both_ways, eq-eqb, best-once, priced_within)
 kept_decided f j k kept (Inside i) d = absurd (d.no_point k kept.is)
 kept_decided f j k kept (Packing is) d = absurd (d.no_point k kept.is)
 
@@ -36,11 +34,7 @@ kept_from f i k (Packing js) d t = absurd (cc)
 
 -- no two bids are one of the canonical file
 kept_alone : (f : PlainFile) (i j k : ℕ) → IsKeptAs f i k → IsKeptAs f j k → i ≡ j
-kept_alone f i j k one other =
-    let same = sym one.is ∙ other.is in
-    let bids : bid_at f i ≡ bid_at f j = cc in
-    best-once f i j (priced_within f i one.bid.positive) (priced_within f j other.bid.positive) one.bid.best other.bid.best
-    (alike_from (bid_at f i) (bid_at f j) (one_key_same (bid_at f i) (bid_at f j) bids))
+kept_alone f i j k one other = let bids : bid_at f i ≡ bid_at f j = cc in search (rules, best-once, priced_within, alike_from, one_key_same)
 
 module _ (f : PlainFile) (reasons : List PlainReason) (is : IsPlainFile f) (long : length reasons ≡ length f.bids)
     (decided : (i : ℕ) → i < length f.bids → IsDecided f i (reason_at reasons i)) where
@@ -60,28 +54,12 @@ module _ (f : PlainFile) (reasons : List PlainReason) (is : IsPlainFile f) (long
   is_reason i (Keep k) d = d
   is_reason i Zero d = d
   is_reason i (Same j) d = d
-  is_reason i (Inside j) d = record {
-    bid = d.bid;
-    xor = d.xor;
-    bidder = d.bidder;
-    kept = point_is_kept j d.point;
-    below = d.below;
-    enough = d.enough;
-  }
-  is_reason i (Packing js) d = record {
-    bid = d.bid;
-    or = d.or;
-    rising = d.rising;
-    each = kept_inside (bid_at f i).goods js d.each;
-    apart = d.apart;
-    enough = d.enough;
-  }
+  is_reason i (Inside j) d = search (rules, point_is_kept)
+  is_reason i (Packing js) d = search (rules, kept_inside)
 
   kept_once : (k : ℕ) → k < length (kept_bids f) → count_by (is_kept_as k) reasons ≡ 1
-  kept_once k l =
-      let best = kept-is-best f is k l in
+  kept_once k l = let best = kept-is-best f is k l in
       let j = best.0 in
-      let within = best.1 in
       let kept = best.2 in
       sym (length-filter (is_kept_as k) reasons) ∙ filter_one (is_kept_as k) reasons Zero j (omega arith)
       (ap (is_kept_as k) (reason_is j k kept) ∙ eq-eqb k k refl)

@@ -1,10 +1,9 @@
 -- Lists: the one element that passes a test, the first that does, lists one after another, and elements that differ.
-use Rattle.analysis.proofs.Common.{◌≡◌, ℕ, zero, suc, ◌<◌, ◌≤◌, Bool, true, false, ⊎_elim, List, [], ◌∷◌, ◌++◌, length, get_or, refl, sym, ap, ◌∙◌, subst}
+use Rattle.analysis.proofs.Common.{rules, ◌≡◌, ℕ, zero, suc, ◌<◌, Bool, true, false, ⊎_elim, List, [], ◌∷◌, ◌++◌, length, get_or, refl, sym, ap, ◌∙◌, subst}
 use Rattle.analysis.proofs.Common.{arith, All, AllPairs, Contains, slice_get, AllByRecursion, filter, flat_map, range_with_len, cases_Bool, cases_lt}
 use Rattle.analysis.proofs.Common.{false_from_ne_true, flat_map-cons, recursion_from_All, Contains-append_left, Contains-append_right, Contains-append_cases}
-use Rattle.analysis.proofs.Common.{slice_get-get_or, Contains-cons_cases, AllPairs-nil, AllPairs-head}
-use Rattle.analysis.proofs.Common.{AllPairs-tail, AllPairs-append, Contains-nil, Contains-head, Contains-tail, All-from_Contains, filter-kept, filter-lost}
-use Rattle.analysis.proofs.Common.{in_range}
+use Rattle.analysis.proofs.Common.{slice_get-get_or, Contains-cons_cases, AllPairs-nil, AllPairs-head, AllPairs-tail, AllPairs-append, Contains-nil}
+use Rattle.analysis.proofs.Common.{Contains-head, Contains-tail, All-from_Contains, filter-kept, filter-lost, in_range}
 
 -- ---- numbers
 
@@ -36,8 +35,7 @@ pub record IsFirst {X : Type 0} (p : X → Bool) (xs : List X) (d : X) (j : ℕ)
 
 pub first_index : {X : Type 0} (p : X → Bool) (xs : List X) (d : X) (k : ℕ) → k < length xs → p (get_or xs k d) ≡ true → (j : ℕ) × IsFirst p xs d j
 first_index p [] d k l t = absurd (omega arith)
-first_index {X} p (x ∷ xs) d k l t =
-    ⊎_elim (λ (e : p x ≡ true). (0, record { within = omega arith; passes = e; none = λ i m. absurd (omega arith) }))
+first_index {X} p (x ∷ xs) d k l t = ⊎_elim (λ (e : p x ≡ true). (0, record { within = omega arith; passes = e; none = λ i m. absurd (omega arith) }))
     (λ (e : p x ≡ false). behind e (first_index p xs d) k l t) (cases_Bool (p x))
   where
     before : p x ≡ false → (j : ℕ) → ((i : ℕ) → i < j → p (get_or xs i d) ≡ false) → (i : ℕ) → i < suc j → p (get_or (x ∷ xs) i d) ≡ false
@@ -47,26 +45,22 @@ first_index {X} p (x ∷ xs) d k l t =
     behind : p x ≡ false → ((k : ℕ) → k < length xs → p (get_or xs k d) ≡ true → (j : ℕ) × IsFirst p xs d j) → (k : ℕ) → k < length (x ∷ xs)
         → p (get_or (x ∷ xs) k d) ≡ true → (j : ℕ) × IsFirst p (x ∷ xs) d j
     behind e first zero l t = absurd (cc)
-    behind e first (suc k) l t =
-        let r = first k (omega arith) t in
-        let within = r.1.within in
+    behind e first (suc k) l t = let r = first k (omega arith) t in
         (suc r.0, record { within = omega arith; passes = r.1.passes; none = before e r.0 r.1.none })
 
 -- ---- lists one after another
 
 pub in_flat_map : {X Y : Type 0} (g : X → List Y) (xs : List X) (x : X) (y : Y) → Contains xs x → Contains (g x) y → Contains (flat_map g xs) y
 in_flat_map g [] x y c e = absurd (Contains-nil x c)
-in_flat_map {X} {Y} g (z ∷ zs) x y c e =
-    subst (λ (ys : List Y). Contains ys y) (sym (flat_map-cons g z zs))
-    (⊎_elim (λ (d : z ≡ x). Contains-append_left (g z) (flat_map g zs) y (subst (λ (w : X). Contains (g w) y) (sym d) e))
+in_flat_map {X} {Y} g (z ∷ zs) x y c e = subst (λ (ys : List Y). Contains ys y) (sym (flat_map-cons g z zs))
+    (⊎_elim (search (rules, Contains-append_left))
     (λ (d : Contains zs x). Contains-append_right (g z) (flat_map g zs) y (in_flat_map g zs x y d e)) (Contains-cons_cases z zs x c))
 
 pub from_flat_map : {X Y : Type 0} (g : X → List Y) (xs : List X) (y : Y) → Contains (flat_map g xs) y → (x : X) × Contains xs x × Contains (g x) y
 from_flat_map g [] y c = absurd (Contains-nil y c)
-from_flat_map {X} {Y} g (x ∷ xs) y c =
-    ⊎_elim (λ (d : Contains (g x) y). (x, Contains-head x xs, d))
+from_flat_map {X} {Y} g (x ∷ xs) y c = ⊎_elim (λ (d : Contains (g x) y). (x, Contains-head x xs, d))
     (λ (d : Contains (flat_map g xs) y). let r = from_flat_map g xs y d in (r.0, Contains-tail x xs r.0 r.1, r.2))
-    (Contains-append_cases (g x) (flat_map g xs) y (subst (λ (ys : List Y). Contains ys y) (flat_map-cons g x xs) c))
+    (search (rules, Contains-append_cases))
 
 -- ---- elements that differ
 
@@ -75,11 +69,7 @@ AreDifferent xs = AllPairs (λ x y. x ≡ y → ⊥) xs
 
 pub different_indices : {X : Type 0} (xs : List X) → AreDifferent xs → (k l : ℕ) → k < length xs → l < length xs → slice_get xs k ≡ slice_get xs l → k ≡ l
 different_indices {X} [] h k l m n e = absurd (omega arith)
-different_indices {X} (x ∷ xs) h k l m n e =
-    let same = sym (slice_get-get_or (x ∷ xs) k x m) ∙ e ∙ slice_get-get_or (x ∷ xs) l x n in
-    let one : get_or (x ∷ xs) k x ≡ get_or (x ∷ xs) l x = cc in
-    ⊎_elim (λ (o : k < l). absurd (h k l x o n one))
-    (λ (o : l ≤ k). ⊎_elim (λ (q : l < k). absurd (h l k x q m (sym one))) (λ (q : k ≤ l). omega arith) (cases_lt l k)) (cases_lt k l)
+different_indices {X} (x ∷ xs) h k l m n e = let same = sym (slice_get-get_or (x ∷ xs) k x m) ∙ e ∙ slice_get-get_or (x ∷ xs) l x n in search (rules, cases_lt)
 
 pub different_append : {X : Type 0} (xs ys : List X) → AreDifferent xs → AreDifferent ys → ((x : X) → Contains xs x → Contains ys x → ⊥)
     → AreDifferent (xs ++ ys)

@@ -3,7 +3,7 @@ use Rattle.analysis.proofs.Common.{rules, ◌≡◌, ℕ, ◌<◌, true, List, [
 use Rattle.analysis.proofs.Common.{filter, range_with_len, unwrap_or, false_from_ne_true, Contains-get_or, slice_get_within, slice_get-get_or}
 use Rattle.analysis.proofs.Common.{get_or_from_slice_get, PlainBid, PlainFile, IsDummyBelow, IsPlainFile, Atom, Bounded, atom_of, or_atoms_of, xor_atoms_of}
 use Rattle.analysis.proofs.Common.{best_bids, Contains-filter, Contains-filter_parts, find_first, bid_from, kept_bids, kept_dummies, bid_at, are_alike, is_best}
-use Rattle.analysis.proofs.Common.{best_number, IsKeptAs, kept_bid, kept_number, points_of, point_number, is_kept_atom, same_Some}
+use Rattle.analysis.proofs.Common.{IsKeptAs, kept_bid, kept_number, points_of, point_number, is_kept_atom, same_Some, range_contains}
 use Rattle.analysis.proofs.Explaining.BestBids.{alike_from}
 use Rattle.analysis.proofs.Explaining.BestNumbers.{best_number_is, numbers_rise}
 use Rattle.analysis.proofs.Explaining.Deciding.{priced_within}
@@ -11,7 +11,6 @@ use Rattle.analysis.proofs.Explaining.KeptBids.{kept-is-best, kept-once, or-poin
 use Rattle.analysis.proofs.Explaining.KeptBidsBest.{atoms_of_bidder, best-once, greatest-is-best, one_key_same}
 use Rattle.analysis.proofs.Explaining.Packings.{IsPointOf}
 use Rattle.analysis.proofs.Explaining.PointFates.{best_bids-has, or_kept_are_points, xor_kept_are_points}
-use Rattle.analysis.proofs.Common.{range_contains}
 
 -- ---- bids of the canonical file
 
@@ -44,29 +43,24 @@ point_is_kept f (Some d) kept a c = xor-points-are-kept f d kept a c
 -- the best bid on the bundle of a point is the one that it is
 pub point_number_is : (f : PlainFile) → IsPlainFile f → (dummy : Option ℕ) → IsKeptBidder f dummy → (p : ℕ) → p < length (points_of f dummy)
     → IsPointOf f dummy (get_or (points_of f dummy) p (record { bundle = []; price = 0 })) (point_number f dummy p)
-point_number_is f is dummy kept p l =
-    let a : Atom (List ℕ) = get_or (points_of f dummy) p (record { bundle = []; price = 0 }) in
+point_number_is f is dummy kept p l = let a : Atom (List ℕ) = get_or (points_of f dummy) p (record { bundle = []; price = 0 }) in
     let k = point_is_kept f dummy kept a (Contains-get_or (points_of f dummy) p (record { bundle = []; price = 0 }) l) in
     let j = bid_of f is k.0 (bid_from dummy a) k.1 in
-    let key = one_key_same (bid_at f j.0) (bid_from dummy a) j.1.is in
-    let number : best_number f dummy a.bundle ≡ Some j.0 =
-    best_number_is f dummy a.bundle j.0 j.1.within j.1.kept.bid.best (record { bidder = key.bidder; goods = key.goods }) in
-    subst (IsPointOf f dummy a) (sym (ap (λ (o : Option ℕ). unwrap_or o 0) number)) (record { point = record { k = k.0; is = j.1.kept }; is = j.1.is })
+    search (rules, one_key_same, best_number_is, is)
 
 -- and the bid of the canonical file on the goods of a kept bid is that bid
 pub kept_number_is : (f : PlainFile) → IsPlainFile f → (i k : ℕ) → IsKeptAs f i k → kept_number f i ≡ k
-kept_number_is f is i k kept =
-    let count = length (kept_bids f) in
+kept_number_is f is i k kept = let count = length (kept_bids f) in
     let within = slice_get_within (kept_bids f) k (bid_at f i) kept.is in
     let here : kept_bid f k ≡ bid_at f i = get_or_from_slice_get (kept_bids f) k (bid_at f i) _ kept.is in
     ap (λ (o : Option ℕ). unwrap_or o 0)
     (find_first (λ x y. x < y) (λ k. are_alike (kept_bid f k) (bid_at f i)) (range_with_len 0 count) (numbers_rise count) k (range_contains count k within)
-    (alike_from (kept_bid f k) (bid_at f i) (one_key_same (kept_bid f k) (bid_at f i) here))
+    (search (rules, alike_from, one_key_same))
     (λ y less. false_from_ne_true (are_alike (kept_bid f y) (bid_at f i)) (λ t.
     let there : slice_get (kept_bids f) y ≡ Some (kept_bid f y) = slice_get-get_or (kept_bids f) y _ (omega arith) in
     let j = bid_of f is y (kept_bid f y) there in
     let alike : are_alike (bid_at f j.0) (bid_at f i) ≡ true = ap (λ (b : PlainBid). are_alike b (bid_at f i)) j.1.is ∙ t in
-    let one : j.0 ≡ i = best-once f j.0 i j.1.within (priced_within f i kept.bid.positive) j.1.kept.bid.best kept.bid.best alike in
+    let one : j.0 ≡ i = search (rules, best-once, priced_within, kept) in
     let same : y ≡ k = kept-once f y k (omega arith) within (there ∙ ap Some (sym j.1.is ∙ ap (bid_at f) one) ∙ sym kept.is) in
     omega arith)))
 
@@ -83,12 +77,9 @@ best_is_there f is i l positive best = search (rules, best_bids-has, atoms_of_bi
 
 pub kept_if_point : (f : PlainFile) → IsPlainFile f → (dummy : Option ℕ) → IsDummyBelow f.dummy dummy → (a : Atom (List ℕ)) → Contains (points_of f dummy) a
     → is_kept_atom f dummy a ≡ true
-kept_if_point f is dummy below a c =
-    (Contains-filter_parts (is_kept_atom f dummy) (best_bids f.goods (atoms_of_bidder f dummy)) a
-    (subst (λ (xs : List (Atom (List ℕ))). Contains xs a) (sym (kept_points f is dummy below)) c)).1
+kept_if_point f is dummy below a c = (Contains-filter_parts (is_kept_atom f dummy) (best_bids f.goods (atoms_of_bidder f dummy)) a
+    (search (rules, kept_points, is))).1
 
 pub point_if_kept : (f : PlainFile) → IsPlainFile f → (dummy : Option ℕ) → IsDummyBelow f.dummy dummy → (a : Atom (List ℕ))
     → Contains (best_bids f.goods (atoms_of_bidder f dummy)) a → is_kept_atom f dummy a ≡ true → Contains (points_of f dummy) a
-point_if_kept f is dummy below a c t =
-    subst (λ (xs : List (Atom (List ℕ))). Contains xs a) (kept_points f is dummy below)
-    (Contains-filter (is_kept_atom f dummy) (best_bids f.goods (atoms_of_bidder f dummy)) a c t)
+point_if_kept f is dummy below a c t = subst (λ (xs : List (Atom (List ℕ))). Contains xs a) (kept_points f is dummy below) (search (rules, Contains-filter))

@@ -5,7 +5,7 @@ use Rattle.analysis.proofs.Common.{get_or_append_left, get_or_default, length-ap
 use Rattle.analysis.proofs.Common.{Contains-append_cases, Contains-get_or, slice_get-get_or, slice_get_within, get_or_from_slice_get, PlainBid, PlainFile}
 use Rattle.analysis.proofs.Common.{IsPlainFile, MAX_BIDS, atom_at, Contains-cons_cases, Contains-unmap, Contains-nil, bid_from, canonical_file, kept_bids}
 use Rattle.analysis.proofs.Common.{kept_dummies, named_bid, named_dummy, points_of_dummy, kept_dummies-below, points_of_kept_dummies, IsPlainFile-canonical}
-use Rattle.analysis.proofs.Common.{kept_bid, points_of, AreStarts, same_Some, get_or-append-add, NamedFile, IsNamed}
+use Rattle.analysis.proofs.Common.{kept_bid, points_of, AreStarts, same_Some, get_or-append-add, NamedFile, IsNamedCanonical}
 use Rattle.analysis.proofs.Explaining.KeptBids.{bids_of_dummy, kept_bids_are, or_points_of}
 use Rattle.analysis.proofs.Explaining.KeptPoints.{IsKeptBidder}
 
@@ -60,7 +60,8 @@ module _ (f : PlainFile) (dummy : Option ℕ) (before behind : List PlainBid)
 
 xor_start : (f : PlainFile) (starts : List ℕ) → AreStarts f 0 starts → (d : ℕ) → Contains (kept_dummies f) d → (p : ℕ) → p < length (points_of_dummy f d)
     → slice_get (kept_bids f) (get_or starts d 0 + p) ≡ Some (bid_from (Some d) (atom_at (points_of_dummy f d) p))
-xor_start f starts h d c p l = let own = λ (d : ℕ) (b : PlainBid) (c : Contains (bids_of_dummy f d) b). ap (λ (z : PlainBid). z.dummy) (Contains-unmap (bid_from (Some d))
+xor_start f starts h d c p l =
+    let own = λ (d : ℕ) (b : PlainBid) (c : Contains (bids_of_dummy f d) b). ap (λ (z : PlainBid). z.dummy) (Contains-unmap (bid_from (Some d))
     (points_of_dummy f d) b c).2 in
     let r = splits (bids_of_dummy f) own (kept_dummies f) d c in
     let ors : List PlainBid = map (bid_from None) (or_points_of f) in
@@ -103,7 +104,7 @@ more_starts f k from starts c next h some below = search (rules, length-set, get
 
 -- ---- the bidder of a bid of the canonical file
 
-module _ {f : PlainFile} {named : NamedFile} (is : IsNamed f named) (k : ℕ) {b : PlainBid} (there : slice_get named.file.bids k ≡ Some b) where
+module _ {f : PlainFile} {named : NamedFile} (is : IsNamedCanonical f named) (k : ℕ) {b : PlainBid} (there : slice_get named.file.bids k ≡ Some b) where
   canonical : slice_get (canonical_file f).bids k ≡ Some b
   canonical = subst (λ (g : PlainFile). slice_get g.bids k ≡ Some b) is.file there
 
@@ -135,5 +136,5 @@ module _ {f : PlainFile} {named : NamedFile} (is : IsNamed f named) (k : ℕ) {b
     pub in_file : c < f.dummy
     in_file = (kept_dummies-below f c (e, among, name_is)).0
 
-pub named_count : (f : PlainFile) (named : NamedFile) → IsNamed f named → length named.file.bids ≡ length (kept_bids f)
+pub named_count : (f : PlainFile) (named : NamedFile) → IsNamedCanonical f named → length named.file.bids ≡ length (kept_bids f)
 named_count f named is = search (rules, length-map)

@@ -13,8 +13,9 @@ use Rattle.analysis.proofs.Explaining.BestBids.{alike_from, length_of}
 use Rattle.analysis.proofs.Explaining.KeptBidsBest.{none_is, atoms_of_bidder, one_key_same}
 use Rattle.analysis.proofs.Explaining.KeptPoints.{bidder_is_kept, kept_number_is}
 use Rattle.analysis.proofs.Explaining.KeptStarts.{kept_count, point_there, start_of}
-use Rattle.analysis.proofs.Explaining.Passed.{inside_is_kept, best_split, done, kept, next_below, next_is, next_number, next_point, next_within}
+use Rattle.analysis.proofs.Explaining.Passed.{inside_is_kept, best_split, done, kept, next_below, next_point}
 use Rattle.analysis.proofs.Explaining.Passed.{number_of_point, offer, passed_more}
+use Rattle.analysis.proofs.Explaining.Turning.{next_here, next_within}
 use Rattle.analysis.proofs.Explaining.TrueReasons.{inside_from, packing_from, reason_best}
 use Rattle.analysis.proofs.Explaining.Packings.{all_unmap}
 
@@ -50,10 +51,10 @@ module _ {known : Known} {index : ℕ} {n : NumberedBid} {walk : Walk} (best : I
   own_kept = kept best
 
   within : n.number < length f.bids
-  within = next_number best
+  within = (next_here best.next).0
 
   seen : seen_bid n.bid ≡ bid_at f n.number
-  seen = next_is best
+  seen = (next_here best.next).1
 
   offered : offer n ≡ atom_of (bid_at f n.number)
   offered = ap atom_of seen

@@ -1,13 +1,13 @@
 -- The numbers of the points of a packing, sorted. Different points of a packing are on different goods, so their numbers differ, and
 -- rise once they are sorted; what holds of each two of them does not depend on their order.
-use Rattle.analysis.proofs.Common.{[], rules, Contains-cons_cases, All-contains, Contains-nil, ◌≡◌, ℕ, ◌<◌, ◌≤◌, true, ⊎_elim, List, ◌∷◌, length, map, get_or}
-use Rattle.analysis.proofs.Common.{Option, None, refl, sym, ap, subst, subst₂, arith, nat_cmp, All, AllPairs, Contains, IsPermutation, sum_by, AllByRecursion}
-use Rattle.analysis.proofs.Common.{list_all, IsSorted, and_from, Decides-eqb, length-map, get_or-map, All-map, All-head, All-tail, recursion_from_All}
-use Rattle.analysis.proofs.Common.{Contains-get_or, AllPairs-from_increasing, sum_by-cons, All-permutation, Contains-permutation, IsPermutation-sym}
-use Rattle.analysis.proofs.Common.{IsNonDecreasingBy-from_sort, sum_by-IsPermutation, IsDistinct-IsPermutation, IsStrictlyIncreasing-from_distinct}
-use Rattle.analysis.proofs.Common.{IsDistinct-from_AllPairs, AreAbove, IsRising, IsInside, are_apart, apart_sym, apart_inside_none, inside_refl, PlainBid}
-use Rattle.analysis.proofs.Common.{PlainFile, Atom, atom_at, bid_from, AllPairs-head, AllPairs-tail, AllPairs-map, IsPackingFor, bid_at, all_apart, goods_at}
-use Rattle.analysis.proofs.Common.{IsPointBid, IsPointInside}
+use Rattle.analysis.proofs.Common.{eqb, [], rules, Contains-cons_cases, All-contains, Contains-nil, ◌≡◌, ℕ, ◌<◌, ◌≤◌, true, ⊎_elim, List, ◌∷◌, length, map}
+use Rattle.analysis.proofs.Common.{get_or, Option, None, refl, sym, ap, subst, subst₂, arith, nat_cmp, All, AllPairs, Contains, IsPermutation, sum_by}
+use Rattle.analysis.proofs.Common.{AllByRecursion, list_all, IsSorted, and_from, Decides-eqb, length-map, get_or-map, All-map, All-head, All-tail}
+use Rattle.analysis.proofs.Common.{recursion_from_All, Contains-get_or, AllPairs-from_increasing, sum_by-cons, All-permutation, Contains-permutation}
+use Rattle.analysis.proofs.Common.{IsPermutation-sym, IsNonDecreasingBy-from_sort, sum_by-IsPermutation, IsDistinct-IsPermutation}
+use Rattle.analysis.proofs.Common.{IsStrictlyIncreasing-from_distinct, IsDistinct-from_AllPairs, AreAbove, IsRising, IsInside, are_apart, apart_sym}
+use Rattle.analysis.proofs.Common.{apart_inside_none, inside_refl, PlainBid, PlainFile, Atom, atom_at, bid_from, AllPairs-head, AllPairs-tail, AllPairs-map}
+use Rattle.analysis.proofs.Common.{IsPackingFor, bid_at, all_apart, goods_at, IsPointBid, IsPointInside}
 use Rattle.goods_set.specs.Bundles.{AreApart}
 use Rattle.canon.specs.Lemmas.OrDifferences.{eqb_swap}
 
@@ -48,7 +48,9 @@ rising_from_pairs (x ∷ xs) h = (above_from_all x xs (AllPairs-head (λ y z. y 
 
 module _ (xs js : List ℕ) (same : IsPermutation xs js) (sorted : IsSorted nat_cmp js) (differ : AllPairs (λ i j. i ≡ j → ⊥) xs) where
   pub increasing : AllPairs (λ i j. i < j) js
-  increasing = search (rules, IsDistinct-IsPermutation, eqb_swap, IsDistinct-from_AllPairs, Decides-eqb, differ, AllPairs-from_increasing, IsStrictlyIncreasing-from_distinct, IsNonDecreasingBy-from_sort)
+  increasing =
+      let distinct = IsDistinct-IsPermutation eqb eqb_swap xs js same (IsDistinct-from_AllPairs Decides-eqb xs differ) in
+      search (rules, AllPairs-from_increasing, IsStrictlyIncreasing-from_distinct, IsNonDecreasingBy-from_sort)
 
   pub pairs_sorted : (R : ℕ → ℕ → Type 0) → ((x y : ℕ) → R x y → R y x) → AllPairs R xs → AllPairs R js
   pairs_sorted R flips pairs i j d m l =

@@ -1,14 +1,14 @@
 -- The best bids that a walk over the bids in order passes are a bidder's best bids, in order: of each bundle one alone is the best.
-use Rattle.analysis.proofs.Common.{[], common_steps, rules, ◌≡◌, ◌≢◌, ℕ, ◌+◌, ◌-◌, ◌<◌, ◌≤◌, Bool, true, false, ◌&&◌, eqb, ltb, cond, ⊎_elim, List, ◌∷◌, ◌++◌}
+use Rattle.analysis.proofs.Common.{◌-◌, [], common_steps, rules, ◌≡◌, ◌≢◌, ℕ, ◌+◌, ◌<◌, ◌≤◌, Bool, true, false, ◌&&◌, eqb, ltb, cond, ⊎_elim, List, ◌∷◌, ◌++◌}
 use Rattle.analysis.proofs.Common.{length, map, get_or, take, drop, Option, refl, sym, ap, ◌∙◌, subst, arith, Ordering, Less, Equal, Greater, is_lt, AllPairs}
 use Rattle.analysis.proofs.Common.{Contains, filter, and_from, and_parts, both_ways, cases_lt, eq-eqb, eqb-true, lt-ltb, ltb-true, Decides-eqb, drop_more}
 use Rattle.analysis.proofs.Common.{get_or-map, get_or_append_left, get_or_at, length-append, length-map, map-append, All-contains, Contains-append_left}
 use Rattle.analysis.proofs.Common.{Contains-append_right, Contains-get_or, filter-append, filter_more, AllPairs-filter, IsPermutation-map, ranks_by, sorted_far}
-use Rattle.analysis.proofs.Common.{IsDistinct-IsPermutation, IsDistinct-from_AllPairs, get_or_from_slice_get, slice_get_within, IsInside, IsRising, bundle_cmp}
-use Rattle.analysis.proofs.Common.{bundle_cmp_equal, bundle_cmp_total, nat_cmp-refl, PlainBid, PlainFile, IsDummyBelow, IsPlainFile, seen_bid, Atom, atom_of}
-use Rattle.analysis.proofs.Common.{atom_at, AllPairs-map, Contains-cons_cases, Contains-map, Contains-unmap, best_bids, IsBefore, IsInOrder, same_in_order}
-use Rattle.analysis.proofs.Common.{Contains-filter, Contains-filter_parts, Contains-head, filter-kept, bid_from, NumberedBid, bid_at, bidder_of, is_best}
-use Rattle.analysis.proofs.Common.{point_number, points_of, AreInOrder, numbered_cmp, Known, IsNextBest, is_best_of, is_kept_atom, is_kept_bid, passed_bids}
+use Rattle.analysis.proofs.Common.{IsDistinct-IsPermutation, IsDistinct-from_AllPairs, IsInside, IsRising, bundle_cmp, bundle_cmp_equal, bundle_cmp_total}
+use Rattle.analysis.proofs.Common.{nat_cmp-refl, PlainBid, PlainFile, IsDummyBelow, IsPlainFile, seen_bid, Atom, atom_of, atom_at, AllPairs-map}
+use Rattle.analysis.proofs.Common.{Contains-cons_cases, Contains-map, Contains-unmap, best_bids, IsBefore, IsInOrder, same_in_order, Contains-filter}
+use Rattle.analysis.proofs.Common.{Contains-filter_parts, Contains-head, filter-kept, bid_from, NumberedBid, bid_at, bidder_of, is_best, point_number}
+use Rattle.analysis.proofs.Common.{points_of, AreInOrder, numbered_cmp, Known, IsNextBest, is_best_of, is_kept_atom, is_kept_bid, passed_bids}
 use Rattle.analysis.proofs.Common.{get_or-append_right, take-append-drop, AllPairs-from_IsDistinct, before_not_inside, behind_next, filter-map}
 use Rattle.analysis.proofs.Explaining.BestBids.{alike_from, at_number, numbered, numbered_cmp_total}
 use Rattle.analysis.proofs.Explaining.BestNumbers.{best_number_is}
@@ -16,12 +16,17 @@ use Rattle.analysis.proofs.Explaining.KeptBids.{bid_here}
 use Rattle.analysis.proofs.Explaining.KeptBidsBest.{atoms_of_bidder, best-once, best_of_greatest, same_bidder}
 use Rattle.analysis.proofs.Explaining.KeptPoints.{best_is_there, kept_points}
 use Rattle.analysis.proofs.Explaining.Packings.{pairs_unmap}
+use Rattle.analysis.proofs.Explaining.Turning.{next_at, next_here, next_within}
 use Rattle.analysis.proofs.Explaining.PointFates.{best_bids-are, best_bids-in_order}
 use Rattle.canon.specs.Lemmas.OrDifferences.{eqb_swap}
 
 -- what a bid of the list offers
 abbrev pub offer : NumberedBid → Atom (List ℕ)
 offer n = atom_of (seen_bid n.bid)
+
+behind_first : {X : Type 0} (xs ys : List X) (q : ℕ) (d : X) → length xs ≤ q → q < length (xs ++ ys) → Contains ys (get_or (xs ++ ys) q d)
+behind_first xs ys q d l m = subst (Contains ys) (sym (get_or-append_right xs ys (length xs) q d refl l))
+    (Contains-get_or ys (q - length xs) d (omega (arith, length-append xs ys)))
 
 -- no two bids of the list are one
 module _ (f : PlainFile) (bids : List NumberedBid) (order : AreInOrder f bids) where
@@ -129,26 +134,8 @@ module _ {known : Known} {index : ℕ} {n : NumberedBid} (best : IsNextBest know
   abbrev dummy : Option ℕ
   dummy = n.bid.dummy
 
-  pub next_within : index < length bids
-  next_within = slice_get_within bids index n best.next.there
-
-  at : (d : NumberedBid) → get_or bids index d ≡ n
-  at d = get_or_from_slice_get bids index n d best.next.there
-
-  there : Contains bids n
-  there = (index, next_within, at n)
-
-  here : (n.number < length f.bids) × (seen_bid n.bid ≡ bid_at f n.number)
-  here = numbered f bids order (bid_at f 0) n there
-
-  pub next_number : n.number < length f.bids
-  next_number = here.0
-
-  pub next_is : seen_bid n.bid ≡ bid_at f n.number
-  next_is = here.1
-
   pub next_below : IsDummyBelow f.dummy dummy
-  next_below = subst (λ (b : PlainBid). IsDummyBelow f.dummy b.dummy) (sym next_is) (bid_here f is n.number next_number).dummy
+  next_below = subst (λ (b : PlainBid). IsDummyBelow f.dummy b.dummy) (sym (next_here best.next).1) (bid_here f is n.number (next_here best.next).0).dummy
 
   passes : is_best_of f dummy n ≡ true
   passes = search (rules, and_from, eq-eqb, lt-ltb, best)
@@ -163,13 +150,14 @@ module _ {known : Known} {index : ℕ} {n : NumberedBid} (best : IsNextBest know
   split =
       ap (filter (is_best_of f dummy)) (sym (take-append-drop index bids)) ∙ filter-append (is_best_of f dummy) (take index bids) (drop index bids)
       ∙ ap (λ (xs : List NumberedBid). done ++ xs)
-      (ap (filter (is_best_of f dummy)) (drop_more bids index n next_within ∙ ap (λ (m : NumberedBid). m ∷ drop (index + 1) bids) (at n))
+      (ap (filter (is_best_of f dummy)) (drop_more bids index n (next_within best.next) ∙ ap (λ (m : NumberedBid). m ∷ drop (index + 1) bids)
+      (next_at best.next n))
       ∙ filter-kept (is_best_of f dummy) n (drop (index + 1) bids) passes)
 
   pub passed_more : passed_bids f bids dummy (index + 1) ≡ done ++ n ∷ []
   passed_more =
-      filter_more (is_best_of f dummy) bids index n next_within
-      ∙ ap (λ (m : NumberedBid). done ++ cond (is_best_of f dummy m) (m ∷ []) []) (at n)
+      filter_more (is_best_of f dummy) bids index n (next_within best.next)
+      ∙ ap (λ (m : NumberedBid). done ++ cond (is_best_of f dummy m) (m ∷ []) []) (next_at best.next n)
       ∙ ap (λ (b : Bool). done ++ cond b (n ∷ []) []) passes
 
   abbrev rest : List (Atom (List ℕ))
@@ -186,25 +174,20 @@ module _ {known : Known} {index : ℕ} {n : NumberedBid} (best : IsNextBest know
   points_split : points_of f dummy ≡ map offer kept ++ filter (is_kept_atom f dummy) rest
   points_split = search (rules, kept_points, is, next_below, best_split, filter-append, filter-map)
 
-  blank : Atom (List ℕ)
+  abbrev blank : Atom (List ℕ)
   blank = record { bundle = []; price = 0 }
 
   -- the number of the bid that such a point is
   pub number_of_point : (p : ℕ) → p < length kept → get_or (map (λ (m : NumberedBid). m.number) kept) p 0 ≡ point_number f dummy p
   number_of_point p l = let m : NumberedBid = get_or kept p n in
       let in_done = (Contains-filter_parts (is_kept_bid f dummy) done m (Contains-get_or kept p n l)).0 in
-      let in_all = Contains-filter (is_best_of f dummy) bids m
-      (subst (λ (xs : List NumberedBid). Contains xs m) (take-append-drop index bids) (Contains-append_left
-      (take index bids) (drop index bids) m (Contains-filter_parts (is_best_of f dummy) (take index bids) m in_done).0))
-      (Contains-filter_parts (is_best_of f dummy) (take index bids) m in_done).1 in
+      let in_all = subst (λ (xs : List NumberedBid). Contains xs m) (sym split) (Contains-append_left done (n ∷ more) m in_done) in
       let one = one_of_all f is bids order dummy next_below m in_all in
       let long = length-map kept offer in
       let is_point : atom_at (points_of f dummy) p ≡ offer m =
       search (rules, points_split, get_or_append_left, get_or-map) in
-      let goods : (bid_at f m.number).goods ≡ (atom_at (points_of f dummy) p).bundle =
-      search rules in
       let found = best_number_is f dummy (atom_at (points_of f dummy) p).bundle m.number one.within one.best
-      (record { bidder = search rules; goods = goods }) in
+      (record { bidder = search rules; goods = search rules }) in
       search (rules, get_or-map)
 
   -- if it is dropped, the points inside its goods are among them
@@ -232,13 +215,10 @@ module _ {known : Known} {index : ℕ} {n : NumberedBid} (best : IsNextBest know
           let tail = filter (is_kept_atom f dummy) rest in
           let long = length-map kept offer in
           let same_long = ap (length {A = Atom (List ℕ)}) points_split in
-          let both = length-append (map offer kept) tail in
-          let k : q - length kept < length tail = omega arith in
-          let is_it : atom_at (points_of f dummy) q ≡ get_or tail (q - length kept) (record { bundle = []; price = 0 }) =
-          search (rules, points_split, get_or-append_right) in
-          let a : Atom (List ℕ) = get_or tail (q - length kept) (record { bundle = []; price = 0 }) in
-          let there = Contains-filter_parts (is_kept_atom f dummy) rest a (search (rules, Contains-get_or)) in
-          search (rules, not_inside)
+          let in_tail = subst (λ (xs : List (Atom (List ℕ))). Contains tail (get_or xs q blank)) (sym points_split)
+          (behind_first (map offer kept) tail q blank (omega arith) (omega arith)) in
+          let there = Contains-filter_parts (is_kept_atom f dummy) rest (atom_at (points_of f dummy) q) in_tail in
+          not_inside (atom_at (points_of f dummy) q) there.0 there.1 inside
 
   -- if it is kept itself, it is the next point
   pub next_point : is_kept_bid f dummy n ≡ true → (length kept < length (points_of f dummy)) × (atom_at (points_of f dummy) (length kept) ≡ offer n)

@@ -148,7 +148,8 @@ module _ (goods : ℕ) (atoms : List (Atom (List ℕ))) (on : All (IsOnBundle go
 
   index_is_below : (bundle : List ℕ) (index : ℕ) → Contains (indices_below xor_all bundle) index
       → Contains xor_all (atom_at xor_all index) × (is_below (atom_at xor_all index).bundle bundle ≡ true)
-  index_is_below bundle index c = let parts = Contains-filter_parts (λ index. is_below (atom_at xor_all index).bundle bundle) (range_with_len 0 (length xor_all)) index c in
+  index_is_below bundle index c =
+      let parts = Contains-filter_parts (λ index. is_below (atom_at xor_all index).bundle bundle) (range_with_len 0 (length xor_all)) index c in
       (search (rules, Contains-get_or, in_range))
 
   -- no point below a point has its price

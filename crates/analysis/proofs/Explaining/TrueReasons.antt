@@ -67,9 +67,7 @@ module _ (f : PlainFile) (is : IsPlainFile f) (i : ℕ) (within : i < length f.b
       (k.0, record { bid = bid; is = k.1 })
 
   keep : is_kept_atom f own.dummy (atom_of own) ≡ true → IsKeptAs f i (kept_number f i)
-  keep t =
-      let k = there (point_if_kept f is own.dummy (below own.dummy refl) (atom_of own) (best_is_there f is i within bid.positive bid.best) t) in
-      subst (IsKeptAs f i) (sym (kept_number_is f is i k.0 k.1)) k.1
+  keep t = let k = there (search (rules, point_if_kept, below, best_is_there, within)) in subst (IsKeptAs f i) (sym (kept_number_is f is i k.0 k.1)) k.1
 
   no_point : is_kept_atom f own.dummy (atom_of own) ≡ false → IsNoPoint f i
   no_point t k e =
@@ -83,10 +81,7 @@ module _ (f : PlainFile) (is : IsPlainFile f) (i : ℕ) (within : i < length f.b
   point_at o e p l = point_number_is f is o (bidder_is_kept f is i within bid.positive o e) p l
 
   some_good : (o : Option ℕ) → own.dummy ≡ o → (p : ℕ) → p < length (points_of f o) → 0 < length (atom_at (points_of f o) p).bundle
-  some_good o e p l =
-      let at = point_at o e p l in
-      let j = point_number f o p in
-      subst (λ (b : PlainBid). 0 < length b.goods) at.is (bid_here f is j (priced_within f j at.point.is.bid.positive)).goods
+  some_good o e p l = let at = point_at o e p l in search (rules, bid_here, priced_within)
 
   or_decided : own.dummy ≡ None → (r : Option (List ℕ)) → or_fate Bounded (points_of f None) (atom_of own) ≡ r → IsDecided f i (or_reason f i r)
   or_decided none None e = keep (fate_at None none true (ap is_none e))
@@ -109,13 +104,11 @@ module _ (f : PlainFile) (is : IsPlainFile f) (i : ℕ) (within : i < length f.b
 
   xor_decided : (d : ℕ) → own.dummy ≡ Some d → (r : Option ℕ) → xor_fate (points_of f (Some d)) (atom_of own) ≡ r → IsDecided f i (xor_reason f d i r)
   xor_decided d some None e = keep (fate_at (Some d) some true (ap is_none e))
-  xor_decided d some (Some index) e =
-      let points = points_of f (Some d) in
+  xor_decided d some (Some index) e = let points = points_of f (Some d) in
       let found = inside_from points (atom_of own) index e in
       let at = point_at (Some d) some index found.within in
       let j = point_number f (Some d) index in
       let price : (bid_at f j).price ≡ (atom_at points index).price = ap (λ (b : PlainBid). b.price) at.is in
-      let enough = found.enough in
       record {
         bid = bid;
         no_point = no_point (fate_at (Some d) some false (ap is_none e));
@@ -136,6 +129,5 @@ pub reason_is_decided : (f : PlainFile) → IsPlainFile f → (i : ℕ) → i < 
 reason_is_decided f is i l = search (rules, reason_zero, best_there, eqb-true, reason_best, best_decided, reason_same)
 
 pub reasons_explain : (f : PlainFile) → IsPlainFile f → Explains f (reasons_of f)
-reasons_explain f is =
-    explained f (reasons_of f) is (length-map-range_with_len (reason_of f) 0 (length f.bids))
-    (λ i l. subst (IsDecided f i) (sym (get_or-map-range_with_len (reason_of f) 0 (length f.bids) i i Zero l (omega arith))) (reason_is_decided f is i l))
+reasons_explain f is = explained f (reasons_of f) is (length-map-range_with_len (reason_of f) 0 (length f.bids))
+    (search (rules, get_or-map-range_with_len, reason_is_decided))

@@ -31,14 +31,14 @@ module _ {known : Known} {index : ℕ} {n : NumberedBid} (next : IsNext known in
   order : AreInOrder f bids
   order = next.is.order
 
-  within : index < length bids
-  within = slice_get_within bids index n next.there
+  pub next_within : index < length bids
+  next_within = slice_get_within bids index n next.there
 
-  at : (d : NumberedBid) → get_or bids index d ≡ n
-  at d = get_or_from_slice_get bids index n d next.there
+  pub next_at : (d : NumberedBid) → get_or bids index d ≡ n
+  next_at d = get_or_from_slice_get bids index n d next.there
 
-  here : (n.number < length f.bids) × (seen_bid n.bid ≡ bid_at f n.number)
-  here = numbered f bids order (bid_at f 0) n (index, within, at n)
+  pub next_here : (n.number < length f.bids) × (seen_bid n.bid ≡ bid_at f n.number)
+  next_here = numbered f bids order (bid_at f 0) n (index, next_within, next_at n)
 
   -- no bid comes before an earlier one
   key_after : (i j : ℕ) (d : NumberedBid) → i ≤ j → j < length bids
@@ -62,19 +62,19 @@ module _ {known : Known} {index : ℕ} {n : NumberedBid} (next : IsNext known in
   itself : ((d : NumberedBid) → 0 < index → is_lt (key_cmp (seen_bid (get_or bids (index - 1) d).bid) (seen_bid n.bid)) ≡ true) → IsBestFor f n.number n.number
   itself less =
       let target : PlainBid = seen_bid n.bid in
-      subst (λ (m : NumberedBid). IsBestFor f n.number m.number) (at n)
+      subst (λ (m : NumberedBid). IsBestFor f n.number m.number) (next_at n)
       (first_is_best f bids order target index (
-        λ i d lo hi. partitioned f bids order target i (index - 1) d (omega arith) (omega (arith, within)) (less d (omega arith)),
-        λ i d lo hi. ap (λ (m : NumberedBid). is_lt (key_cmp (seen_bid (get_or bids i d).bid) (seen_bid m.bid))) (sym (at d)) ∙ key_after index i d lo hi,
+        λ i d lo hi. partitioned f bids order target i (index - 1) d (omega arith) (omega (arith, next_within)) (less d (omega arith)),
+        λ i d lo hi. ap (λ (m : NumberedBid). is_lt (key_cmp (seen_bid (get_or bids i d).bid) (seen_bid m.bid))) (sym (next_at d)) ∙ key_after index i d lo hi,
       )
-      n n.number here.0 (sym here.1))
+      n n.number next_here.0 (sym next_here.1))
 
   module _ (last : NumberedBid) (best : IsLastBest f bids index last) where
     abbrev before : NumberedBid
     before = get_or bids (index - 1) last
 
     before_is : seen_bid before.bid ≡ bid_at f before.number
-    before_is = (numbered f bids order (bid_at f 0) before (Contains-get_or bids (index - 1) last (omega (arith, within)))).1
+    before_is = (numbered f bids order (bid_at f 0) before (Contains-get_or bids (index - 1) last (omega (arith, next_within)))).1
 
     last_key : HaveOneKey (seen_bid last.bid) (seen_bid before.bid)
     last_key = search (rules, one_key, before_is)
@@ -84,28 +84,29 @@ module _ {known : Known} {index : ℕ} {n : NumberedBid} (next : IsNext known in
 
     not_after : is_lt (key_cmp (seen_bid n.bid) (seen_bid before.bid)) ≡ false
     not_after =
-        ap (λ (m : NumberedBid). is_lt (key_cmp (seen_bid m.bid) (seen_bid before.bid))) (sym (at last)) ∙ key_after (index - 1) index last (omega arith) within
+        ap (λ (m : NumberedBid). is_lt (key_cmp (seen_bid m.bid) (seen_bid before.bid))) (sym (next_at last)) ∙ key_after (index - 1) index last
+        (omega arith) next_within
 
     same_key : is_eq (key_cmp (seen_bid last.bid) (seen_bid n.bid)) ≡ true → IsBestFor f n.number last.number
-    same_key t = search (rules, from_equal, equal_from, within, alike_from, here)
+    same_key t = search (rules, from_equal, equal_from, next_within, alike_from, next_here)
 
     other_key : is_eq (key_cmp (seen_bid last.bid) (seen_bid n.bid)) ≡ false → IsBestFor f n.number n.number
     other_key t = itself (λ d some.
-        ap (λ (m : NumberedBid). is_lt (key_cmp (seen_bid m.bid) (seen_bid n.bid))) (get_or_default bids (index - 1) d last (omega (arith, within)))
+        ap (λ (m : NumberedBid). is_lt (key_cmp (seen_bid m.bid) (seen_bid n.bid))) (get_or_default bids (index - 1) d last (omega (arith, next_within)))
         ∙ less_from (key_cmp (seen_bid before.bid) (seen_bid n.bid)) (key_cmp (seen_bid n.bid) (seen_bid before.bid))
         (key_cmp_total.antisymm (seen_bid n.bid) (seen_bid before.bid)) not_after (ap is_eq (sym key) ∙ t))
 
     -- the bids of another bidder come later
     none_of_other : (last.bid.dummy ≡ n.bid.dummy → ⊥) → passed_bids f bids n.bid.dummy index ≡ []
     none_of_other differ = filter_none (is_best_of f n.bid.dummy) (take index bids) last (λ i l.
-        let long = length-take-le index bids (omega (arith, within)) in
+        let long = length-take-le index bids (omega (arith, next_within)) in
         let there = get_or-take index bids i last (omega arith) in
         let m : NumberedBid = get_or bids i last in
         ap (is_best_of f n.bid.dummy) there
         ∙ false_from_ne_true (is_best_of f n.bid.dummy m) (λ t.
-        let low = bidders_rise i (index - 1) last (omega arith) (omega (arith, within)) in
-        let high = bidders_rise (index - 1) index last (omega arith) within in
-        let next : bidder_of (get_or bids index last).bid.dummy ≡ bidder_of n.bid.dummy = ap (λ (k : NumberedBid). bidder_of k.bid.dummy) (at last) in
+        let low = bidders_rise i (index - 1) last (omega arith) (omega (arith, next_within)) in
+        let high = bidders_rise (index - 1) index last (omega arith) next_within in
+        let next : bidder_of (get_or bids index last).bid.dummy ≡ bidder_of n.bid.dummy = ap (λ (k : NumberedBid). bidder_of k.bid.dummy) (next_at last) in
         search (rules, last_key, same_bidder)))
 
   -- ---- after the next bid
@@ -116,17 +117,17 @@ module _ {known : Known} {index : ℕ} {n : NumberedBid} (next : IsNext known in
   by_key : (last : NumberedBid) → IsLastBest f bids index last → (t : Bool) → is_eq (key_cmp (seen_bid last.bid) (seen_bid n.bid)) ≡ t
       → best_then (cond t last n)
   by_key last best true e = (same_key last best e, best.is)
-  by_key last best false e = (other_key last best e, here.1)
+  by_key last best false e = (other_key last best e, next_here.1)
 
   best_after_is : (o : Option NumberedBid) → IsBestAt f bids index o → best_then (best_after o n)
-  best_after_is None none = (itself (λ d some. absurd (omega arith)), here.1)
+  best_after_is None none = (itself (λ d some. absurd (omega arith)), next_here.1)
   best_after_is (Some last) best = by_key last best (is_eq (key_cmp (seen_bid last.bid) (seen_bid n.bid))) refl
 
   pub best_is : {walk : Walk} {b : NumberedBid} → IsAt f bids index walk → b ≡ best_after walk.best n → best_then b
   best_is {walk} at e = subst best_then (sym e) (best_after_is walk.best at.best)
 
   last_best : (b : NumberedBid) → best_then b → IsLastBest f bids (index + 1) b
-  last_best b h = let same : get_or bids (index + 1 - 1) b ≡ n = let e : index + 1 - 1 ≡ index = omega arith in ap (λ (k : ℕ). get_or bids k b) e ∙ at b in
+  last_best b h = let same : get_or bids (index + 1 - 1) b ≡ n = let e : index + 1 - 1 ≡ index = omega arith in ap (λ (k : ℕ). get_or bids k b) e ∙ next_at b in
       search rules
 
   none_passed : (o : Option NumberedBid) → IsBestAt f bids index o → (dummy_of o ≡ n.bid.dummy → ⊥) → passed_bids f bids n.bid.dummy index ≡ []
@@ -143,8 +144,8 @@ module _ {known : Known} {index : ℕ} {n : NumberedBid} (next : IsNext known in
 
   skipped : {walk : Walk} → is_best_of f n.bid.dummy n ≡ false → HasPassed f bids n.bid.dummy index walk → HasPassed f bids n.bid.dummy (index + 1) walk
   skipped t h = let same : passed_bids f bids n.bid.dummy (index + 1) ≡ passed_bids f bids n.bid.dummy index =
-      filter_more (is_best_of f n.bid.dummy) bids index n within
-      ∙ ap (λ (m : NumberedBid). passed_bids f bids n.bid.dummy index ++ cond (is_best_of f n.bid.dummy m) (m ∷ []) []) (at n)
+      filter_more (is_best_of f n.bid.dummy) bids index n next_within
+      ∙ ap (λ (m : NumberedBid). passed_bids f bids n.bid.dummy index ++ cond (is_best_of f n.bid.dummy m) (m ∷ []) []) (next_at n)
       ∙ ap (λ (b : Bool). passed_bids f bids n.bid.dummy index ++ cond b (n ∷ []) []) t ∙ append-nil (passed_bids f bids n.bid.dummy index) in
       search rules
 
@@ -153,12 +154,12 @@ module _ {known : Known} {index : ℕ} {n : NumberedBid} (next : IsNext known in
 
   pub passed_same : {walk : Walk} (b : NumberedBid) → best_then b → (b.number ≡ n.number → ⊥) → HasPassed f bids n.bid.dummy index walk
       → HasPassed f bids n.bid.dummy (index + 1) walk
-  passed_same b best differ h = skipped (search (rules, false_from_ne_true, and_parts, best-once, here)) h
+  passed_same b best differ h = skipped (search (rules, false_from_ne_true, and_parts, best-once, next_here)) h
 
   -- the walk is behind it
   pub at_next : {after : Walk} {b : NumberedBid} → best_then b → after.best ≡ Some b → HasPassed f bids n.bid.dummy (index + 1) after
       → IsAt f bids (index + 1) after
-  at_next {after} {b} best held h = search (rules, one_key, same_bidder, here, last_best)
+  at_next {after} {b} best held h = search (rules, one_key, same_bidder, next_here, last_best)
 
   pub own_price : (bid_at f n.number).price ≡ n.bid.price
-  own_price = ap (λ (z : PlainBid). z.price) (sym here.1)
+  own_price = ap (λ (z : PlainBid). z.price) (sym next_here.1)

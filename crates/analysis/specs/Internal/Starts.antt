@@ -7,7 +7,7 @@ use Rattle.canon.specs.declared.normal.named.NamedFile.{NamedFile}
 use Rattle.analysis.specs.Reasons.{kept_bid}
 
 -- the canonical file of the file, and for each of its dummy goods that of the same bidder in the file
-pub record IsNamed (f : PlainFile) (named : NamedFile) : Type 0 where
+pub record IsNamedCanonical (f : PlainFile) (named : NamedFile) : Type 0 where
   pub plain : IsPlainFile f
   pub file : named.file ≡ canonical_file f
   pub dummies : named.dummies.items ≡ kept_dummies f

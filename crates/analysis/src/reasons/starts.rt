@@ -1,7 +1,7 @@
 //! Where the bids of each bidder begin in the canonical file.
 
 ghost use Rattle.std.specs.Prelude.{IfOk};
-ghost use Rattle.analysis.specs.Internal.Starts.{AreStarts, IsNamed};
+ghost use Rattle.analysis.specs.Internal.Starts.{AreStarts, IsNamedCanonical};
 
 use bid_file::{Bids, PackedFile};
 use canon::normal::NamedFile;
@@ -13,7 +13,7 @@ pub(crate) fn starts_of(
     file: &PackedFile,
     named: &NamedFile,
 ) -> Result<Vec<u32>, AllocError>
-    requires { IsNamed file.now named.now }
+    requires { IsNamedCanonical file.now named.now }
     ensures { IfOk result (λ starts. AreStarts file.now 0 starts.items) }
 {
     let mut starts = vec![in alloc; 0; Bids::dummy(file) as usize]?;

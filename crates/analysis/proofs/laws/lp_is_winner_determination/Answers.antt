@@ -1,4 +1,5 @@
 -- `lp_is_winner_determination`
+use Rattle.analysis.proofs.Common.{rules}
 use Rattle.analysis.proofs.Common.{◌≤◌, ◌∙◌, subst, sym, greatest_revenue}
 use Rattle.analysis.proofs.Allocating.Allocations.{revenue_at_most, winners_there}
 use Rattle.analysis.proofs.Allocating.LpRows.{all_win_from_rows, objective_is_revenue, rows_met}
@@ -14,9 +15,7 @@ pub returns-clause-objective : goal.returns-clause-objective
 returns-clause-objective c = λ f winners numbers. objective_is_revenue f winners numbers
 
 pub returns-clause-most : goal.returns-clause-most
-returns-clause-most c = λ f is winners numbers met.
-    subst (λ n. n ≤ greatest_revenue f) (sym (objective_is_revenue f winners numbers))
-    (revenue_at_most f winners (record { numbers = numbers; win = all_win_from_rows f is winners numbers met }))
+returns-clause-most c = search (rules, objective_is_revenue, revenue_at_most, all_win_from_rows)
 
 pub returns-clause-reached : goal.returns-clause-reached
 returns-clause-reached c = λ f is.

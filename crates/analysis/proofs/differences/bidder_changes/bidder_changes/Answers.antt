@@ -1,4 +1,5 @@
 -- `bidder_changes`: the changes of the left bidders, and those of the right bidders that still wait, are all.
+use Rattle.analysis.proofs.Common.{rules}
 use Rattle.analysis.proofs.Common.{◌≡◌, ◌∙◌, ◌<◌, ℕ, length, map, sym, ap, subst, Vec, Global, IsRising, offers, bidder_at, excess_bidders, waiting_after}
 use Rattle.analysis.proofs.Common.{plain_bidder_change}
 use Rattle.analysis.proofs.Comparing.Indices.{excess_within}
@@ -12,8 +13,7 @@ pub of-requires-clause-rising : goal.of-requires-clause-rising
 of-requires-clause-rising g c = subst IsRising (sym c.in_ok-rights.ensures) (excess_rises (map offers c.args.right.now) (map offers c.args.left.now))
 
 pub left_changes-requires-clause-lefts : goal.left_changes-requires-clause-lefts
-left_changes-requires-clause-lefts g c =
-    excess_within c.args.left.now (map offers c.args.right.now) c.deref.result.now (c.deref.ensures.value ∙ c.in_ok-lefts.ensures)
+left_changes-requires-clause-lefts g c = search (rules, excess_within, c.deref.ensures.value, c.in_ok-lefts.ensures)
 
 pub push_rest-requires-clause-rest : goal.push_rest-requires-clause-rest
 push_rest-requires-clause-rest g c =

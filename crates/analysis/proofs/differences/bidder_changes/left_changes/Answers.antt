@@ -1,4 +1,5 @@
 -- `left_changes`: one more left bidder has its change, and its partner waits no more.
+use Rattle.analysis.proofs.Common.{rules}
 use Rattle.analysis.proofs.Common.{◌≡◌, ◌∙◌, ◌<◌, ℕ, List, length, map, take, get_or, sym, ap, ap₂, subst, refl, Option, All, IfSome, Vec, Global, length-map}
 use Rattle.analysis.proofs.Common.{map_push, take_more, All-filter, Atom, offers, bidder_at, partner_of, waiting_after, without_partner, waits_at, ArePartners}
 use Rattle.analysis.proofs.Common.{plain_bidder_change}
@@ -8,18 +9,10 @@ use Rattle.analysis.proofs.Comparing.Waiting.{taken, taken_has, waiting_more}
 use Rattle.analysis.proofs.differences.bidder_changes.left_changes.Goals as goal
 
 pub loop-index-init : goal.loop-index-init
-loop-index-init g c = rw c.new-changes.ensures.items (record {
-  same = refl;
-  waiting = c.requires.partners;
-  so_far = no_lefts (map offers c.args.left.now) (map offers c.args.right.now) c.args.partners.now.excess.items c.requires.partners.rising;
-})
+loop-index-init g c = search (rules, no_lefts, c.new-changes.ensures.items, c.requires.partners, c.requires.partners.rising)
 
 pub take_for-partner-requires : goal.take_for-partner-requires
-take_for-partner-requires g c =
-    let lefts = c.args.lefts.now in
-    let k = c.loop-index.index-index in
-    bids_in_order c.args.left.now (get_or lefts k 0) c.index-left-index.result (c.requires.lefts k 0 c.loop-index-test.true) c.index-left-index.is
-    c.requires.left_in_order
+take_for-partner-requires g c = search (rules, bids_in_order, c.requires.lefts, c.loop-index-test.true, c.index-left-index.is, c.requires.left_in_order)
 
 pub change_of-requires-clause-other : goal.change_of-requires-clause-other
 change_of-requires-clause-other g c =

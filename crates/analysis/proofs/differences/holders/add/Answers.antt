@@ -1,4 +1,5 @@
 -- `add`
+use Rattle.analysis.proofs.Common.{rules}
 use Rattle.analysis.proofs.Common.{◌≡◌, ◌∙◌, ◌++◌, ◌∷◌, [], List, ℕ, ap, cond, sym, subst, refl, is_eq, IsSome, Option, bundle_cmp, Holders, indices_in}
 use Rattle.analysis.proofs.Common.{passed_in}
 use Rattle.analysis.specs.Internal.Holders.{found_at}
@@ -6,11 +7,7 @@ use Rattle.analysis.proofs.Comparing.HoldersFound.{added, still_passed}
 use Rattle.analysis.proofs.differences.holders.add.Goals as goal
 
 pub returns-in-Some-clause-indices : goal.returns-in-Some-clause-indices
-returns-in-Some-clause-indices c =
-    let put : Holders = record { indices = c.push.new.self; passed = c.in-Some.known.now.passed } in
-    added c.args.holders.now (c.get_mut.follows.lender put) c.args.goods.now put c.args.index
-    ((c.get_mut.follows.holds put).3 (subst IsSome c.in-Some.ensures.value refl))
-    (c.in_ok-push.ensures.items ∙ ap (λ (o : Option Holders). indices_in o ++ c.args.index ∷ []) c.in-Some.ensures.value)
+returns-in-Some-clause-indices c = search (rules, added, c.in-Some.ensures.value, c.in_ok-push.ensures.items)
 
 pub returns-in-Some-clause-passed : goal.returns-in-Some-clause-passed
 returns-in-Some-clause-passed c =

@@ -1,24 +1,18 @@
 -- `starts_of`: the bidder of the bid in front of them begins there, or still further in front (proofs/KeptStarts).
+use Rattle.analysis.proofs.Common.{rules}
 use Rattle.analysis.proofs.Common.{arith, ◌≡◌, ◌+◌, ◌-◌, ℕ, sym, subst, Global, Vec, PlainFile, AreStarts}
 use Rattle.analysis.proofs.Explaining.KeptStarts.{in_file, kept_count, more_starts, name_there, named_count, or_bidder, same_starts, xor_bidder}
 use Rattle.analysis.proofs.reasons.starts.starts_of.Goals.{in-Some, in_default}
 use Rattle.analysis.proofs.reasons.starts.starts_of.Goals as goal
 
 pub overflow_cast-k : goal.overflow_cast-k
-overflow_cast-k c =
-    let few = kept_count c.args.file.now c.requires.plain in
-    let count = named_count c.args.file.now c.args.named.now c.requires in
-    omega (arith, c.len-count.ensures, c.loop-behind-test.true)
+overflow_cast-k c = search (rules, kept_count, named_count, c.requires.plain, c.requires, c.len-count.ensures, c.loop-behind-test.true)
 
 pub index-requires : goal.index-requires
-index-requires c =
-    let l = name_there c.requires (c.len-count.result - 1 - c.loop-behind.behind) c.at.ensures c.in-Some.is in
-    omega (arith, l, c.args.named.now.dummies.ok.0)
+index-requires c = search (rules, name_there, c.requires, c.at.ensures, c.in-Some.is, c.args.named.now.dummies.ok)
 
 pub index_mut-requires : goal.index_mut-requires
-index_mut-requires c =
-    let l = in_file c.requires (c.len-count.result - 1 - c.loop-behind.behind) c.at.ensures c.in-Some.is c.index.ensures in
-    omega (arith, l, c.loop-behind.invariant.long, c.loop-behind.starts.ok.0)
+index_mut-requires c = search (rules, in_file, c.requires, c.at.ensures, c.in-Some.is, c.index.ensures, c.loop-behind.invariant.long, c.loop-behind.starts.ok)
 
 pub loop-behind-preserved : goal.loop-behind-preserved
 loop-behind-preserved c =
@@ -39,6 +33,4 @@ loop-behind-preserved c =
     ])
 
 pub returns : goal.returns
-returns c =
-    let none : c.len-count.result - c.loop-behind.behind ≡ 0 = omega (arith, c.loop-behind-test.false) in
-    subst (λ (n : ℕ). AreStarts c.args.file.now n c.loop-behind.starts.items) none c.loop-behind.invariant
+returns c = search (rules, c.loop-behind-test.false, c.loop-behind.invariant)

@@ -1,13 +1,12 @@
 -- `judge_allocation`
-use Rattle.analysis.proofs.Common.{ℕ, Some, None, Ok, ap, sym, subst, ◌∙◌, Revenue, IsRisingOf}
+use Rattle.analysis.proofs.Common.{rules, ℕ, Some, None, Ok, ap, sym, subst, ◌∙◌, Revenue, IsRisingOf}
 use Rattle.analysis.proofs.Allocating.FirstPairs.{first_pair}
 use Rattle.analysis.proofs.Allocating.NamedBids.{all_within, are_numbers, number_within, verdict_is}
 use Rattle.analysis.proofs.winners.judging.judge_allocation.Goals as goal
 
 pub first_clash-requires-clause-numbers : goal.first_clash-requires-clause-numbers
 first_clash-requires-clause-numbers c =
-    are_numbers c.args.file.now c.args.bids.now c.as_slice-winners.result.now
-    (subst (IsRisingOf c.args.bids.now) (sym c.as_slice-winners.ensures.value) c.in_ok-winners.ensures) (sym c.first_missing.ensures ∙ c.in_default.is)
+    search (rules, are_numbers, c.as_slice-winners.ensures.value, c.in_ok-winners.ensures, c.first_missing.ensures, c.in_default.is)
 
 pub clash-requires-clause-first : goal.clash-requires-clause-first
 clash-requires-clause-first c =
@@ -34,8 +33,7 @@ returns-in-Some-2-clause-verdict c =
 
 pub revenue-requires-clause-within : goal.revenue-requires-clause-within
 revenue-requires-clause-within c =
-    all_within c.args.file.now c.args.bids.now c.as_slice-winners.result.now
-    (subst (IsRisingOf c.args.bids.now) (sym c.as_slice-winners.ensures.value) c.in_ok-winners.ensures) (sym c.first_missing.ensures ∙ c.in_default.is)
+    search (rules, all_within, c.as_slice-winners.ensures.value, c.in_ok-winners.ensures, c.first_missing.ensures, c.in_default.is)
 
 pub returns-clause-verdict : goal.returns-clause-verdict
 returns-clause-verdict c =

@@ -1,4 +1,5 @@
 -- `bidder_changes_worked`
+use Rattle.analysis.proofs.Common.{rules}
 use Rattle.analysis.proofs.Common.{◌≡◌, ℕ, ◌<◌, Bool, false, List, [], ◌∷◌, refl, ap, arith, Option, Some, None, All, is_some, both_ways, All-nil, All-cons}
 use Rattle.analysis.proofs.Common.{Atom, IsBidderChange, PlainBidderChange, atom, change, bidder_change}
 use Rattle.analysis.proofs.Comparing.SameLists.{no_bidder_changes}
@@ -26,26 +27,10 @@ pub returns-clause-equal : goal.returns-clause-equal
 returns-clause-equal c = no_bidder_changes ((atom (0 ∷ []) 3 ∷ []) ∷ [])
 
 pub returns-clause-left_only : goal.returns-clause-left_only
-returns-clause-left_only c = record {
-  each = one_each ((atom (0 ∷ []) 3 ∷ []) ∷ []) [] (bidder_change (Some 0) None (change (0 ∷ []) (Some 3) None ∷ []))
-      (record { some = refl; bids = left_alone });
-  lefts = refl;
-  rights = λ index. refl;
-  partners = refl;
-  alone_last = refl;
-  alone_in_order = tt;
-}
+returns-clause-left_only c = search (rules, one_each, left_alone)
 
 pub returns-clause-beside : goal.returns-clause-beside
-returns-clause-beside c = record {
-  each = one_each ((atom (0 ∷ []) 3 ∷ []) ∷ []) ((atom (0 ∷ []) 4 ∷ []) ∷ [])
-      (bidder_change (Some 0) (Some 0) (change (0 ∷ []) (Some 3) (Some 4) ∷ [])) (record { some = refl; bids = two_prices });
-  lefts = refl;
-  rights = λ index. refl;
-  partners = refl;
-  alone_last = refl;
-  alone_in_order = tt;
-}
+returns-clause-beside c = search (rules, one_each, two_prices)
 
 pub returns-clause-missing : goal.returns-clause-missing
 returns-clause-missing c = λ h. not_both [] refl h.lefts
@@ -54,16 +39,7 @@ pub returns-clause-right_missing : goal.returns-clause-right_missing
 returns-clause-right_missing c = λ h. not_zero_one 0 refl (h.rights 0)
 
 pub returns-clause-left_first : goal.returns-clause-left_first
-returns-clause-left_first c = record {
-  each = two_each ((atom (0 ∷ []) 3 ∷ []) ∷ []) ((atom (1 ∷ []) 4 ∷ []) ∷ []) (bidder_change (Some 0) None (change (0 ∷ []) (Some 3) None ∷ []))
-      (bidder_change None (Some 0) (change (1 ∷ []) None (Some 4) ∷ [])) (record { some = refl; bids = left_alone })
-      (record { some = refl; bids = right_alone_behind });
-  lefts = refl;
-  rights = λ index. refl;
-  partners = refl;
-  alone_last = refl;
-  alone_in_order = (tt, tt);
-}
+returns-clause-left_first c = search (rules, two_each, left_alone, right_alone_behind)
 
 not_alone : (o p : Option ℕ) → o ∷ [] ≡ p ∷ [] → o ≡ None → p ≡ Some 0 → ⊥
 not_alone o p e f g = absurd (cc)
@@ -75,16 +51,7 @@ pub returns-clause-right_first : goal.returns-clause-right_first
 returns-clause-right_first c = λ h. both_ways false refl (ap has_left_first h.alone_last)
 
 pub returns-clause-rights_rise : goal.returns-clause-rights_rise
-returns-clause-rights_rise c = record {
-  each = two_each [] ((atom (0 ∷ []) 3 ∷ []) ∷ (atom (0 ∷ []) 4 ∷ []) ∷ []) (bidder_change None (Some 0) (change (0 ∷ []) None (Some 3) ∷ []))
-      (bidder_change None (Some 1) (change (0 ∷ []) None (Some 4) ∷ [])) (record { some = refl; bids = right_alone 3 })
-      (record { some = refl; bids = right_alone 4 });
-  lefts = refl;
-  rights = λ index. refl;
-  partners = refl;
-  alone_last = refl;
-  alone_in_order = ((omega arith, tt), (tt, tt));
-}
+returns-clause-rights_rise c = search (rules, two_each, right_alone)
 
 pub returns-clause-rights_fall : goal.returns-clause-rights_fall
 returns-clause-rights_fall c = λ h. let less : 1 < 0 = h.alone_in_order.0.0 in omega arith

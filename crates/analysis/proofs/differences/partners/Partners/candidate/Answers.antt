@@ -1,14 +1,12 @@
 -- `Partners::candidate`
+use Rattle.analysis.proofs.Common.{rules}
 use Rattle.analysis.proofs.Common.{◌≡◌, List, Bool, [], length, refl, sym, subst, IsSome, MatchOption, Some, slice_get, filter, bidders_on, ArePassed, waits_at}
 use Rattle.analysis.proofs.Common.{IsCandidate}
 use Rattle.analysis.proofs.Comparing.Partnering.{candidate_found, none_found, passed_more}
 use Rattle.analysis.proofs.differences.partners.Partners.candidate.Goals as goal
 
 pub returns-in_err-get_mut-clause-candidate : goal.returns-in_err-get_mut-clause-candidate
-returns-in_err-get_mut-clause-candidate c = λ right waiting are.
-    subst (λ found. MatchOption found (bidders_on right waiting c.args.goods.now ≡ [])
-    (IsCandidate right c.args.self.now.excess.items waiting c.args.goods.now)) (sym c.from_residual.ensures)
-    (none_found right waiting c.args.self.now are c.args.goods.now c.in_err-get_mut.ensures.value)
+returns-in_err-get_mut-clause-candidate c = search (rules, none_found, c.from_residual.ensures, c.in_err-get_mut.ensures.value)
 
 pub returns-clause-partners : goal.returns-clause-partners
 returns-clause-partners c = λ right waiting are.

@@ -1,4 +1,5 @@
 -- `Partners::take_for`
+use Rattle.analysis.proofs.Common.{rules}
 use Rattle.analysis.proofs.Common.{◌≡◌, ◌∙◌, ◌+◌, ℕ, List, [], map, take, sym, subst, arith, Option, Some, None, MatchOption, Vec, Global, take_all, PlainBid}
 use Rattle.analysis.proofs.Common.{seen_bid, Atom, offers, bidders_on, without_partner, ArePartners, IsCandidate, IsRarestIfAny, rarer_candidate}
 use Rattle.analysis.proofs.Comparing.BidsOnBundles.{bundles_before, one_more_bundle_of}
@@ -39,9 +40,7 @@ returns-in_err-index-clause-partner g c = λ right waiting are.
     (c.loop-i.invariant.rarest right waiting are))))
 
 pub returns-in_err-index-clause-partners : goal.returns-in_err-index-clause-partners
-returns-in_err-index-clause-partners g c = λ right waiting are.
-    subst (λ (p : Option ℕ). ArePartners right (without_partner p waiting) c.loop-i.self) (sym c.from_residual.ensures)
-    (c.loop-i.invariant.partners right waiting are)
+returns-in_err-index-clause-partners g c = search (rules, c.from_residual.ensures, c.loop-i.invariant.partners)
 
 pub returns-clause-partner : goal.returns-clause-partner
 returns-clause-partner g c = λ right waiting are.
@@ -55,5 +54,4 @@ returns-clause-partner g c = λ right waiting are.
     (c.loop-i.invariant.rarest right waiting are))))
 
 pub returns-clause-partners : goal.returns-clause-partners
-returns-clause-partners g c = λ right waiting are.
-    c.take.ensures.partners right waiting (c.loop-i.invariant.partners right waiting are)
+returns-clause-partners g c = search (rules, c.take.ensures.partners, c.loop-i.invariant.partners)

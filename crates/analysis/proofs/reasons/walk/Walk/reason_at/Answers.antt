@@ -1,17 +1,14 @@
 -- `Walk::reason_at`: the best bid of the next bid's bidder on its goods is known (proofs/Turning).
-use Rattle.analysis.proofs.Common.{arith, ◌≡◌, ℕ, true, sym, ◌∙◌, subst, ne_eqb, on_ok_weaker, is_best}
+use Rattle.analysis.proofs.Common.{◌∙◌, rules, arith, ◌≡◌, ℕ, true, sym, subst, ne_eqb, on_ok_weaker, is_best}
 use Rattle.analysis.proofs.Explaining.TrueReasons.{reason_same, reason_zero}
 use Rattle.analysis.proofs.Explaining.Turning.{at_next, best_is, own_price, passed_same, passed_zero, turned}
 use Rattle.analysis.proofs.reasons.walk.Walk.reason_at.Goals as goal
 
 pub returns-then-bid-eq0-clause-reason : goal.returns-then-bid-eq0-clause-reason
-returns-then-bid-eq0-clause-reason c =
-    sym (reason_zero c.args.known.now.file.now c.args.bid.now.number (own_price c.requires.next ∙ c.if-bid-eq0.true))
+returns-then-bid-eq0-clause-reason c = search (rules, reason_zero, own_price, c.requires.next, c.if-bid-eq0.true)
 
 pub returns-then-bid-eq0-clause-at : goal.returns-then-bid-eq0-clause-at
-returns-then-bid-eq0-clause-at c =
-    at_next c.requires.next (best_is c.requires.next c.requires.at c.turn_to-best.ensures.best) c.turn_to-best.ensures.held
-    (passed_zero c.requires.next c.if-bid-eq0.true (turned c.requires.next c.requires.at c.turn_to-best.ensures.same c.turn_to-best.ensures.other))
+returns-then-bid-eq0-clause-at c = search (rules, at_next, best_is, passed_zero, turned)
 
 pub returns-then-best-bid-clause-reason : goal.returns-then-best-bid-clause-reason
 returns-then-best-bid-clause-reason c =

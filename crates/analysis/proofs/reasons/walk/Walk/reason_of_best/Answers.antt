@@ -1,6 +1,5 @@
 -- `Walk::reason_of_best`: the fate of the best bid is next in its bidder's list (proofs/NextBest).
-use Rattle.analysis.proofs.Common.{arith, ◌≡◌, ◌+◌, ◌<◌, ℕ, List, length, refl, sym, ap, ◌∙◌, subst, nat_cmp, All, get_or_default, on_ok_weaker, numbers_at}
-use Rattle.analysis.proofs.Common.{sort_by, Keep, Inside, Packing, plain_reason, IfOk-weaker}
+use Rattle.analysis.proofs.Common.{rules, arith, ◌≡◌, ◌+◌, length, refl, ap, ◌∙◌, get_or_default, on_ok_weaker, Keep, Inside, plain_reason, IfOk-weaker}
 use Rattle.analysis.specs.Reasons.{reason_of}
 use Rattle.analysis.proofs.Explaining.NextBest.{inside_reason, inside_within, keep_fits, keep_reason, or_dropped, or_here, or_kept, or_not_kept, or_start}
 use Rattle.analysis.proofs.Explaining.NextBest.{packing_reason, packing_within, passed_dropped, passed_fits, passed_kept, start_there, xor_fate_is, xor_kept}
@@ -14,36 +13,19 @@ pub index-requires : goal.index-requires
 index-requires c = let l = (or_here c.requires.best c.requires.passed c.in-None.is).0 in omega (arith, l, c.args.known.now.fates.or.ok.0)
 
 pub keep-requires : goal.keep-requires
-keep-requires c =
-    let t = or_kept c.requires.best c.requires.passed c.in-None.is c.index.ensures c.in-None-index.is in
-    let fits = keep_fits c.requires.best c.requires.passed t (or_start c.requires.best c.requires.passed c.in-None.is) in omega arith
+keep-requires c = search (rules, or_kept, keep_fits, or_start, c.requires.best, c.requires.passed, c.in-None.is, c.index.ensures, c.in-None-index.is)
 
 pub returns-in-None-index-clause-reason : goal.returns-in-None-index-clause-reason
-returns-in-None-index-clause-reason c =
-    let t = or_kept c.requires.best c.requires.passed c.in-None.is c.index.ensures c.in-None-index.is in
-    IfOk-weaker c.keep.result (λ reason. plain_reason reason ≡ Keep (0 + length c.args.self.now.points.items))
-    (λ reason. plain_reason reason ≡ reason_of c.args.known.now.file.now c.args.bid.now.number)
-    (λ reason e. e ∙ keep_reason c.requires.best c.requires.passed t (or_start c.requires.best c.requires.passed c.in-None.is)) c.keep.ensures.reason
+returns-in-None-index-clause-reason c = search (rules, or_kept, IfOk-weaker, keep_reason, or_start)
 
 pub returns-in-None-index-clause-passed : goal.returns-in-None-index-clause-passed
-returns-in-None-index-clause-passed c =
-    let t = or_kept c.requires.best c.requires.passed c.in-None.is c.index.ensures c.in-None-index.is in
-    on_ok_weaker c.keep.result (λ points. passed_kept c.requires.best c.requires.passed t c.keep.ensures.passed points) c.keep.ensures.points
+returns-in-None-index-clause-passed c = search (rules, or_kept, on_ok_weaker, passed_kept)
 
 pub numbers_at-requires : goal.numbers_at-requires
-numbers_at-requires c =
-    let t = or_dropped c.requires.best c.requires.passed c.in-None.is c.index.ensures c.in-Some-index.is in
-    subst (λ (n : ℕ). All (λ p. p < n) c.deref-in-Some-index.result.now) (ap (length {A = ℕ}) (sym c.deref.ensures.value))
-    (subst (λ (ps : List ℕ). All (λ p. p < length c.args.self.now.points.items) ps) (sym c.deref-in-Some-index.ensures.value)
-    (packing_within c.requires.best c.requires.passed c.in-None.is t))
+numbers_at-requires c = search (rules, or_dropped, packing_within)
 
 pub returns-in_ok-numbers_at-in-Some-index-clause-reason : goal.returns-in_ok-numbers_at-in-Some-index-clause-reason
-returns-in_ok-numbers_at-in-Some-index-clause-reason c =
-    ap Packing (c.in_ok-numbers_at-in-Some-index.ensures
-    ∙ ap (λ (ns : List ℕ). sort_by nat_cmp (numbers_at ns c.deref-in-Some-index.result.now)) c.deref.ensures.value
-    ∙ ap (λ (ps : List ℕ). sort_by nat_cmp (numbers_at c.args.self.now.points.items ps)) c.deref-in-Some-index.ensures.value)
-    ∙ packing_reason c.requires.best c.requires.passed c.in-None.is
-    (or_dropped c.requires.best c.requires.passed c.in-None.is c.index.ensures c.in-Some-index.is)
+returns-in_ok-numbers_at-in-Some-index-clause-reason c = search (rules, packing_reason, or_dropped)
 
 pub returns-in_ok-numbers_at-in-Some-index-clause-passed : goal.returns-in_ok-numbers_at-in-Some-index-clause-passed
 returns-in_ok-numbers_at-in-Some-index-clause-passed c =
@@ -79,10 +61,7 @@ returns-in-None-index-2-clause-reason c =
     (xor_start c.requires.best c.requires.passed c.in-Some.is c.index-in-None-index-2.ensures)) c.keep-in-None-index-2.ensures.reason
 
 pub returns-in-None-index-2-clause-passed : goal.returns-in-None-index-2-clause-passed
-returns-in-None-index-2-clause-passed c =
-    let fate = xor_fate_is c.requires.best c.requires.passed c.in-Some.is c.index-in-Some.ensures c.index-in-Some-2.ensures c.in-None-index-2.is in
-    on_ok_weaker c.keep-in-None-index-2.result (λ points. passed_kept c.requires.best c.requires.passed
-    (xor_kept c.requires.best c.requires.passed c.in-Some.is fate) c.keep-in-None-index-2.ensures.passed points) c.keep-in-None-index-2.ensures.points
+returns-in-None-index-2-clause-passed c = search (rules, xor_fate_is, on_ok_weaker, passed_kept, xor_kept)
 
 pub index-requires-in-Some-index-2 : goal.index-requires-in-Some-index-2
 index-requires-in-Some-index-2 c =
