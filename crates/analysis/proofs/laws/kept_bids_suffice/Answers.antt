@@ -1,7 +1,7 @@
 -- `kept_bids_suffice`
 use Rattle.analysis.proofs.Common.{rules}
-use Rattle.analysis.proofs.Common.{◌≡◌, All-weaker, IsInside, bid_at, in_place_of}
-use Rattle.analysis.proofs.Allocating.Replacing.{StandsFor, are_for}
+use Rattle.analysis.proofs.Common.{All-weaker}
+use Rattle.analysis.proofs.Allocating.Replacing.{are_for}
 use Rattle.analysis.proofs.Allocating.Winning.{kept_allocation, kept_each, kept_revenue, kept_winners}
 use Rattle.analysis.proofs.laws.kept_bids_suffice.Goals as goal
 

@@ -1,5 +1,5 @@
 -- `change_of`: each of the two has the bids of the bidder at its index, or none.
-use Rattle.analysis.proofs.Common.{◌∙◌, rules}
+use Rattle.analysis.proofs.Common.{rules}
 use Rattle.analysis.proofs.Comparing.BidsOfBidders.{within, bids_in_order, bids_at_are, none_at, changes_at, none_of_both}
 use Rattle.analysis.proofs.differences.bidder_changes.change_of.Goals as goal
 

@@ -1,6 +1,6 @@
 -- `left_changes`: one more left bidder has its change, and its partner waits no more.
 use Rattle.analysis.proofs.Common.{rules}
-use Rattle.analysis.proofs.Common.{◌≡◌, ◌∙◌, ◌<◌, ℕ, List, length, map, take, get_or, sym, ap, ap₂, subst, refl, Option, All, IfSome, Vec, Global, length-map}
+use Rattle.analysis.proofs.Common.{◌≡◌, ◌∙◌, ◌<◌, ℕ, List, length, map, take, get_or, sym, ap, ap₂, subst, Option, All, IfSome, Vec, Global, length-map}
 use Rattle.analysis.proofs.Common.{map_push, take_more, All-filter, Atom, offers, bidder_at, partner_of, waiting_after, without_partner, waits_at, ArePartners}
 use Rattle.analysis.proofs.Common.{plain_bidder_change}
 use Rattle.analysis.proofs.Comparing.BidsOfBidders.{bids_are, bids_in_order}

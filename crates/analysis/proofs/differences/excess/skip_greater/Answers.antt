@@ -1,5 +1,5 @@
 -- `skip_greater`
-use Rattle.analysis.proofs.Common.{rules, true, is_lt, le_or_lt}
+use Rattle.analysis.proofs.Common.{rules, le_or_lt}
 use Rattle.analysis.proofs.Comparing.ExcessBidders.{bidder_at_index}
 use Rattle.analysis.proofs.differences.excess.skip_greater.Goals as goal
 

@@ -1,6 +1,5 @@
 -- `explain`: the reasons are those of the file, and these are true (proofs/TrueReasons).
 use Rattle.analysis.proofs.Common.{rules}
-use Rattle.analysis.proofs.Common.{List, sym, subst, PlainReason, Explains}
 use Rattle.analysis.proofs.Explaining.TrueReasons.{reasons_explain}
 use Rattle.analysis.proofs.reasons.explanation.explain.Goals as goal
 

@@ -1,5 +1,5 @@
 -- `rows_text`
-use Rattle.analysis.proofs.Common.{rules, true, le-ltb, lt-ltb}
+use Rattle.analysis.proofs.Common.{rules, le-ltb, lt-ltb}
 use Rattle.analysis.proofs.Allocating.ByGood.{bids_found}
 use Rattle.analysis.proofs.Allocating.RowTexts.{row_kept, row_left_out}
 use Rattle.analysis.proofs.winners.lp.rows_text.Goals.{then-shared+in_ok-push_row, else-shared}
