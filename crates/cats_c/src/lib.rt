@@ -217,8 +217,12 @@ pub extern "C" fn cats_duplicates(
 {
     let options = options_of(steps, total);
     let fine = fine_of(prices);
-    let bytes = texts;
-    let answer = find_duplicates(alloc, Texts { bytes, lengths, fine }, options);
+    let texts = Texts {
+        bytes: texts,
+        lengths,
+        fine,
+    };
+    let answer = find_duplicates(alloc, texts, options);
     give(alloc, &answer, out, needed)
 }
 

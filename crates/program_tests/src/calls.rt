@@ -267,8 +267,7 @@ fn lengths_of_texts(rt: HostRuntime) -> Result<(), Fail> {
         fine: None,
     };
     let answer = find_duplicates(alloc, texts, SearchOptions::bounded(STEPS, None));
-    let lines =
-        b"0\nline 2: Missing\n0\nline 1: Missing\n0\nline 1: Missing\n";
+    let lines = b"0\nline 2: Missing\n0\nline 1: Missing\n0\nline 1: Missing\n";
     expect(&rt, alloc, &answer, 2, lines);
     Ok(())
 }
