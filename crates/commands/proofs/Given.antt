@@ -1,10 +1,7 @@
 -- What a command answered of a text is given: a text with its status, or a fault.
-use Rattle.std.proofs.Common.{rules, arith, ◌≡◌, ◌≢◌, inl, inr, ℕ, List, [], Option, Some, Result, Ok, Err, refl, sym, subst}
+use Rattle.std.proofs.Common.{rules, arith, ◌≡◌, inl, inr, ℕ, List, [], Option, Result, Ok, Err, refl, sym, subst}
 use Rattle.bid_file.specs.Files.{PlainFile}
-use Rattle.cats_text.specs.Faults.{fault_at}
 use Rattle.cats_text.specs.Grammar.{Spells}
-use Rattle.cats_text.specs.declared.read_fault.Kind.TheVariants.{Memory as NoMemory}
-use Rattle.cats_text.specs.declared.read_fault.ReadFault.{ReadFault}
 use Rattle.valuation.specs.declared.search.options.SearchOptions.{SearchOptions}
 use Rattle.canon.specs.Comparing.{SpellsWithinLimit}
 use Rattle.canon.specs.declared.canon_fault.CanonFault.{CanonFault}
@@ -26,7 +23,7 @@ use Rattle.commands.specs.Buffers.{Calls, Gives, GivesFault, GivesOutput}
 use Rattle.commands.specs.DuplicatesCalls.{AnswersFirsts, DuplicatesCalls, SaysFirsts}
 use Rattle.commands.specs.FaultCalls.{AnswersPlace, AnswersPlaceBy, FaultCalls, IsUnplaced, SaysPlace}
 use Rattle.commands.specs.OneText.{CallsOn, IsRefusedText, IsUnmade, OfOnly, PrintsOf}
-use Rattle.commands.specs.Refusals.{MayWantMemory, RefusesText, TextGives, TextRefuses, text_fault, text_read}
+use Rattle.commands.specs.Refusals.{RefusesText, TextGives, TextRefuses, text_read}
 use Rattle.commands.specs.Roundings.{AnswersRounding, GivesReport, GivesRounded, RoundCalls, whole_status}
 use Rattle.commands.specs.SizesCalls.{SaysRow, SizesCalls}
 use Rattle.commands.specs.TwoTexts.{CallsOnBoth, ComparesTexts, DiffsTexts, IsRefusedOfTwo}
@@ -72,15 +69,6 @@ given_by Says r is old new needed answer g = given Says IsWantOfMemory old new n
 
 -- ---- one text
 
--- why reading a text gives no file, but for want of memory
-found_fault : (fine : Option FinePrices) (text : List ℕ) (why : ReadFault) → why.kind ≢ NoMemory → RefusesText fine text why
-    → text_fault fine text ≡ Some why
-found_fault fine text why other refused = grind arith
-
-wanted_memory : (fine : Option FinePrices) (text : List ℕ) → RefusesText fine text (fault_at 0 NoMemory) → MayWantMemory fine text
-wanted_memory fine text (inl found) = absurd ((rw found at (text_fault-of_bytes fine text)).1 refl)
-wanted_memory fine text (inr wants) = wants.1
-
 -- the text that is read
 abbrev read : Text → List ℕ
 read text = text_read text.fine text.bytes.now
@@ -88,9 +76,10 @@ read text = text_read text.fine text.bytes.now
 module _ (text after : Text) where
   module _ (outcome : PlainFile → Outcome) where
     unmade_of : (fault : CanonFault) → IsRefused TextGives TextRefuses outcome text after fault → IsUnmade outcome text.fine text.bytes.now fault
-    unmade_of (Read why) h = found_fault text.fine text.bytes.now why h.0 h.1
+    unmade_of (Read why) h = grind arith
     unmade_of (StepLimit goods) h = search rules
-    unmade_of Memory (inl why) = inl (wanted_memory text.fine text.bytes.now why)
+    unmade_of Memory (inl (inl found)) = absurd ((rw found at (text_fault-of_bytes text.fine text.bytes.now)).1 refl)
+    unmade_of Memory (inl (inr wants)) = inl wants.1
     unmade_of Memory (inr given) = search rules
 
     said : (r : Result Answer RunFault) → Commands TextGives TextRefuses outcome text after r

@@ -58,13 +58,10 @@ module _ {I J : Type 0} (gives_first : I → I → PlainFile → Type 0) (refuse
   files_compared left right read_left read_right reads_left is_left reads_right is_right answer made memory told is =
       let one = given_of (ReadsCanonical gives_first refuses_first options first first_after) First read_left left reads_left is_left in
       let other = given_of (ReadsCanonical gives_second refuses_second options second second_after) Second read_right right reads_right is_right in
-      let files : PlainFile × PlainFile = (one.file, other.file) in
-      let given : GivesBoth gives_first refuses_first gives_second refuses_second options first first_after second second_after files =
-      (one.given, other.given) in
       let same : compare_outcome one.file other.file ≡ compare_outcome left right =
       sym (canonical_outcome one.file other.file one.plain other.plain) ∙ ap₂ compare_outcome (sym one.is) (sym other.is) in
-      rw is (made_of_both (normalise_outcome options) _ outcome_of_both files given answer
-      (IfOk-weaker answer _ _ (λ a h. record { given = files; gives = given; made = same ∙ h }) made) memory)
+      rw is (made_of_both (normalise_outcome options) _ outcome_of_both (one.file, other.file) (one.given, other.given) answer
+      (IfOk-weaker answer _ _ (λ a h. record { given = (one.file, other.file); gives = (one.given, other.given); made = same ∙ h }) made) memory)
 
   -- all differences of the canonical files were found
   pub files_differed : (left right : ComparedFile) → GivesWithin gives_first refuses_first options first first_after left.file

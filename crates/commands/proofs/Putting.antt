@@ -21,23 +21,21 @@ drop_later n more xs ys same = sym (drop-drop more n xs) ∙ ap (drop more) same
 
 pub puts_then : (text more : List ℕ) (at : ℕ) (old mid new : List ℕ) (place end : ℕ) → length old < 2 ^ 64 → PutsFrom at text old mid place
     → PutsFrom place more mid new end → PutsFrom at (text ++ more) old new end
-puts_then text more at old mid new place end small first second = record {
-  is_end = omega (arith, length-append text more, first.is_end, second.is_end);
-  is_length = second.is_length ∙ first.is_length;
-  before = λ fits.
-      let next : place ≡ at + length text = omega (arith, length-append text more, first.is_end, fits, small) in
-      let same : at + length (text ++ more) ≡ place + length more = omega (arith, length-append text more, next) in
-      let room : place + length more ≤ length mid = omega (arith, same, fits, first.is_length) in
-      ap (λ (n : ℕ). take n new) same ∙ second.before room ∙ ap (λ (n : ℕ). take n mid ++ more) next
-      ∙ ap (λ (t : List ℕ). t ++ more) (first.before (omega (arith, length-append text more, fits))) ∙ append_assoc (take at old) text more;
-  behind = λ fits.
-      let next : place ≡ at + length text = omega (arith, length-append text more, first.is_end, fits, small) in
-      let same : at + length (text ++ more) ≡ place + length more = omega (arith, length-append text more, next) in
-      let room : place + length more ≤ length mid = omega (arith, same, fits, first.is_length) in
-      let rest : drop place mid ≡ drop place old =
-      ap (λ (n : ℕ). drop n mid) next ∙ first.behind (omega (arith, length-append text more, fits)) ∙ ap (λ (n : ℕ). drop n old) (sym next) in
-      ap (λ (n : ℕ). drop n new) same ∙ second.behind room ∙ drop_later place (length more) mid old rest ∙ ap (λ (n : ℕ). drop n old) (sym same);
-}
+puts_then text more at old mid new place end small first second =
+    let next : at + length (text ++ more) ≤ length old → place ≡ at + length text =
+    λ fits. omega (arith, length-append text more, first.is_end, fits, small) in
+    let same : at + length (text ++ more) ≤ length old → at + length (text ++ more) ≡ place + length more =
+    λ fits. omega (arith, length-append text more, next fits) in
+    let room : at + length (text ++ more) ≤ length old → place + length more ≤ length mid = λ fits. omega (arith, same fits, first.is_length) in
+    record {
+      is_end = omega (arith, length-append text more, first.is_end, second.is_end);
+      is_length = second.is_length ∙ first.is_length;
+      before = λ fits.
+          rw (same fits, second.before (room fits), next fits, first.before (omega (arith, length-append text more, fits)), append_assoc);
+      behind = λ fits.
+          let rest : drop place mid ≡ drop place old = rw (next fits) (first.behind (omega (arith, length-append text more, fits))) in
+          rw (same fits) (second.behind (room fits) ∙ drop_later place (length more) mid old rest);
+    }
 
 -- one more of a list of texts
 module _ {X : Type 0} (f : X → List ℕ) (xs : List X) (at : ℕ) (old : List ℕ) (small : length old < 2 ^ 64) where

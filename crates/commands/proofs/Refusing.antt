@@ -1,10 +1,10 @@
 -- A text that is read. One that is longer than a stream may be has a fault: that of its first bytes, or its length.
-use Rattle.std.proofs.Common.{◌≡◌, ◌<◌, ◌≤◌, ◌⊎◌, inl, inr, ℕ, nat_le, if◌then◌else◌, true, false, List, [], length}
+use Rattle.std.proofs.Common.{◌≡◌, ◌<◌, ◌≤◌, ◌⊎◌, inl, inr, ℕ, nat_le, true, false, List, [], length}
 use Rattle.std.proofs.Common.{take, Option, None, Some, is_some, Result, Ok, Err, IfErr, IfSome, sym, ap, ◌∙◌, subst, refl}
-use Rattle.std.proofs.lemmas.Bool.{le-leb, lt-leb}
+use Rattle.std.proofs.lemmas.Bool.{cond_both, le-leb, lt-leb}
 use Rattle.std.proofs.lemmas.List.{take_all}
 use Rattle.std.proofs.lemmas.Result.{IfErr-weaker}
-use Rattle.cats_text.specs.Faults.{first_fault, has_bid_line}
+use Rattle.cats_text.specs.Faults.{has_bid_line}
 use Rattle.cats_text.specs.Fed.{Fed, fed_fault}
 use Rattle.cats_text.specs.Reading.{FeedsAs, FeedsOn, PackedAnswer, WantsMemory}
 use Rattle.cats_text.specs.declared.read_fault.ReadFault.{ReadFault}
@@ -23,11 +23,8 @@ long_fault-of_bytes None text = fed_fault-of_bytes MAX_STREAM text
 long_fault-of_bytes (Some fine) text = (λ e. absurd (cc), λ e. absurd (cc))
 
 pub text_fault-of_bytes : (fine : Option FinePrices) (text : List ℕ) → IfSome (text_fault fine text) IsFaultOfBytes
-text_fault-of_bytes fine text = elim (nat_le (length text) MAX_STREAM)
-    as (λ short. IfSome (if short then first_fault (text_read fine text) else long_fault fine text) IsFaultOfBytes) [
-      | true ↦ first_fault-of_bytes (text_read fine text)
-      | false ↦ long_fault-of_bytes fine text
-    ]
+text_fault-of_bytes fine text = cond_both (nat_le (length text) MAX_STREAM) _ _ (λ fault. IfSome fault IsFaultOfBytes)
+    (λ short. first_fault-of_bytes (text_read fine text)) (λ long. long_fault-of_bytes fine text)
 
 -- want of memory is on no line
 pub memory_line : (fine : Option FinePrices) (text : List ℕ) (why : ReadFault) → RefusesText fine text why → why.kind ≡ NoMemory → why.line ≡ 0

@@ -1,5 +1,5 @@
 -- The numbers in a row of `cats sizes`: how many bids have no dummy good, and which dummy goods the bids so far have.
-use Rattle.std.proofs.Common.{◌≡◌, ℕ, ◌+◌, ◌<◌, Bool, true, false, cond, List, [], ◌∷◌, ◌++◌, length, map, set, take, refl}
+use Rattle.std.proofs.Common.{◌≡◌, ℕ, ◌+◌, ◌<◌, Bool, true, false, cond, List, [], ◌++◌, length, map, set, take, refl}
 use Rattle.std.proofs.Common.{ap, ◌∙◌, arith, inl, inr, Option, Some, None}
 use Rattle.std.proofs.Common.{Global}
 use Rattle.std.specs.Prelude.{codes, filter, is_none, ◌||◌, Vec}
@@ -83,10 +83,6 @@ module _ (Gives : PlainFile → Type 0) (Refuses : ReadFault → Type 0) (option
     numbers_unmade put = record { sized = IsUnsized Memory; sizes = inr (file, given); puts = put; is_fault = refl }
 
 -- ---- marks
-
-pub marks_counted : (p : ℕ → Bool) (xs : List ℕ) → length (filter (λ m. m) (map p xs)) ≡ length (filter p xs)
-marks_counted p [] = refl
-marks_counted p (x ∷ xs) = grind (arith, marks_counted p xs)
 
 -- one more bid
 module _ (bids : List PlainBid) (i : ℕ) (b : PlainBid) (there : slice_get bids i ≡ Some b) where

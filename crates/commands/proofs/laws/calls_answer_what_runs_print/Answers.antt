@@ -1,14 +1,10 @@
 -- `calls_answer_what_runs_print`
-use Rattle.std.proofs.Common.{ap, ap₂, ◌∙◌}
-use Rattle.bid_file.specs.Files.{PlainFile}
 use Rattle.cats_text.proofs.Spelling.Files.{spells_one}
-use Rattle.commands.specs.Outcomes.{compare_outcome}
 use Rattle.commands.proofs.laws.calls_answer_what_runs_print.Goals as goal
 
 pub returns : goal.returns
 returns c = record {
-  one = λ outcome text out status file s t. ap outcome (spells_one text file t.file s t.spelled) ∙ t.made;
+  one = λ outcome text out status file s t. rw (spells_one text file t.file s t.spelled) t.made;
   compare = λ options left right out status one other s t made.
-      ap₂ (λ (f g : PlainFile). compare_outcome f g) (spells_one left one made.first.file s made.first.spelled)
-      (spells_one right other made.second.file t made.second.spelled) ∙ made.made;
+      rw (spells_one left one made.first.file s made.first.spelled, spells_one right other made.second.file t made.second.spelled) made.made;
 }
