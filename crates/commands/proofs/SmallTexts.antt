@@ -1,8 +1,8 @@
 -- What calls answer of a small text, by the file that its lines say.
 use Rattle.std.proofs.Common.{◌≡◌, ◌≢◌, ℕ, ◌+◌, nat_le, nat_lt, true, false, eqb, List, [], ◌++◌, codes, length, drop, slice_index_or}
-use Rattle.std.proofs.Common.{Option, Some, None, refl, sym, ap, ap₂, ◌∙◌, append_assoc, arith}
+use Rattle.std.proofs.Common.{None, refl, sym, ap, ap₂, ◌∙◌, append_assoc, arith}
 use Rattle.std.specs.List.{flat_map}
-use Rattle.std.proofs.lemmas.Bool.{cond-false, eqb-false, leb-true, ltb-true, ne_eqb}
+use Rattle.std.proofs.lemmas.Bool.{eqb-false, leb-true, ltb-true, ne_eqb}
 use Rattle.bid_file.specs.Files.{PlainFile}
 use Rattle.cats_text.specs.Faults.{first_fault}
 use Rattle.cats_text.specs.FileLines.{spelled_file}
@@ -15,7 +15,7 @@ use Rattle.canon.specs.Comparing.{SpellsWithinLimit}
 use Rattle.rounding.specs.Texts.{rounded_text}
 use Rattle.rounding.specs.declared.replacement.FinePrices.{FinePrices}
 use Rattle.analysis.specs.Differences.{AreAllDifferences, PlainDifferences}
-use Rattle.commands.specs.DiffTexts.{bidder_rows, change_row, diff_header, diff_text, goods_row, goods_rows}
+use Rattle.commands.specs.DiffTexts.{bidder_rows, change_row, diff_header, diff_text, goods_row}
 use Rattle.commands.specs.Outcomes.{Outcome, Prints, LacksGood, LacksBid, ExceedsSteps, ExceedsAtBid, compare_outcome}
 use Rattle.commands.specs.Buffers.{PutsInto}
 use Rattle.commands.specs.OneText.{MakesOf}
@@ -77,9 +77,7 @@ goods_text f g d all other =
     let ors = flat_map (change_row (codes "or") f g None None) d.bundles in
     let xors = flat_map (bidder_rows f g) d.bidders in (
       ors ++ xors,
-      ap (λ (numbers : Option (ℕ × ℕ)). diff_header ++ goods_rows numbers ++ ors ++ xors)
-          (all.goods ∙ cond-false (eqb f.goods g.goods) None (Some (f.goods, g.goods)) (ne_eqb f.goods g.goods other))
-          ∙ append_assoc (diff_header ++ goods_row f.goods g.goods) ors xors,
+      rw (all.goods, ne_eqb f.goods g.goods other) (append_assoc (diff_header ++ goods_row f.goods g.goods) ors xors),
     )
 
 module _ (options : SearchOptions) (left right : List ℕ) (status : ℕ) (out : List ℕ) (c : DiffsTexts options left right status out) where
