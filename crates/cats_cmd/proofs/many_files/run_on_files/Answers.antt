@@ -1,12 +1,8 @@
 -- `run_on_files`
 use Rattle.std.proofs.Common.{◌∙◌, ap, inl, map}
 use Rattle.cats_cmd.specs.PathLists.{paths_in}
-use Rattle.cats_cmd.proofs.RunsOfLists.{list_refused, list_run}
+use Rattle.cats_cmd.proofs.RunsOfLists.{list_run}
 use Rattle.cats_cmd.proofs.many_files.run_on_files.Goals as goal
-
-pub returns-in_err-paths-in-Ok-clause-runs : goal.returns-in_err-paths-in-Ok-clause-runs
-returns-in_err-paths-in-Ok-clause-runs g c =
-    rw c.in-ListedIn.is (list_refused _ _ _ _ _ _ c.in-ListedIn.list.now c.in-Ok.text.items c.in-Ok.ensures.read _ _ _ c.from_residual.ensures.1)
 
 pub returns-in_ok-paths-in-Ok-clause-runs : goal.returns-in_ok-paths-in-Ok-clause-runs
 returns-in_ok-paths-in-Ok-clause-runs g c =

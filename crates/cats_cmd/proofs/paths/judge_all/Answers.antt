@@ -1,7 +1,7 @@
 -- `judge_all`
-use Rattle.std.proofs.Common.{ℕ, List, [], arith}
+use Rattle.std.proofs.Common.{ℕ, List, []}
 use Rattle.std.specs.Borrow.{Bor}
-use Rattle.cats_cmd.proofs.JudgingPaths.{all_judged, first_judged, none_judged, path_more}
+use Rattle.cats_cmd.proofs.JudgingPaths.{first_judged, none_judged, path_more}
 use Rattle.cats_cmd.proofs.Opening.{opens_next, opens_none, opens_some}
 use Rattle.cats_cmd.proofs.paths.judge_all.Goals as goal
 
@@ -27,7 +27,3 @@ pub returns-in_err-status-clause-opens : goal.returns-in_err-status-clause-opens
 returns-in_err-status-clause-opens g c =
     opens_some _ _ _ _ _ c.args.paths.now c.loop-number.number nowhere c.loop-number-test.true c.loop-number.invariant.opens c.judge_path.ensures.opens _
     c.from_residual.ensures.0
-
-pub returns-clause-judges : goal.returns-clause-judges
-returns-clause-judges g c =
-    all_judged _ _ _ _ _ _ _ _ c.args.paths.now _ c.loop-number.number _ _ _ c.loop-number.invariant.judged (omega (arith, c.loop-number-test.false))

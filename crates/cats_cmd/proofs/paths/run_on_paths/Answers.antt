@@ -1,20 +1,12 @@
 -- `run_on_paths`
 use Rattle.std.proofs.Common.{map}
-use Rattle.cats_cmd.proofs.Opening.{first_of_all, opens_refused}
 use Rattle.cats_cmd.specs.Paths.{judgement_at}
 use Rattle.cats_cmd.proofs.RunsOfPaths.{text_refused, paths_printed}
 use Rattle.cats_cmd.proofs.paths.run_on_paths.Goals as goal
 
-pub returns-in_err-greatest-clause-opens : goal.returns-in_err-greatest-clause-opens
-returns-in_err-greatest-clause-opens g c = opens_refused _ _ _ _ _ c.in_err-greatest.ensures.opens _ c.from_residual.ensures.1
-
 pub returns-in_err-text-clause-runs : goal.returns-in_err-text-clause-runs
 returns-in_err-text-clause-runs g c =
     text_refused _ _ _ _ _ _ _ _ _ _ _ _ _ _ _ c.in_ok-greatest.ensures.judges _ _ c.from_residual-in_err-text.ensures.1
-
-pub returns-in_err-text-clause-opens : goal.returns-in_err-text-clause-opens
-returns-in_err-text-clause-opens g c =
-    opens_refused _ _ _ _ _ (first_of_all _ _ _ _ _ c.in_ok-greatest.ensures.opens) _ c.from_residual-in_err-text.ensures.1
 
 pub returns-clause-runs : goal.returns-clause-runs
 returns-clause-runs g c =

@@ -10,19 +10,14 @@ returns-in-Ok-clause-silent g c = silent_answer _ _ _ _ _ _ _ _ _ _ (plain_reque
 pub returns-in-Ok-clause-done : goal.returns-in-Ok-clause-done
 returns-in-Ok-clause-done g c = done_answer _ _ _ _ _ _ _ _ _ _ (plain_request c.args.request.now) _ _ (inl c.in-Ok.ensures.carries)
 
-pub returns-in-Err-clause-answers : goal.returns-in-Err-clause-answers
-returns-in-Err-clause-answers g c =
-    inr (failed_request _ _ _ _ _ _ _ _ _ _
-    (plain_request c.args.request.now) c.in-Err.error _ _ _ c.in-Err.ensures.carries c.report_request_error.ensures.line c.report_request_error.ensures.status)
-
-pub returns-in-Err-clause-silent : goal.returns-in-Err-clause-silent
-returns-in-Err-clause-silent g c =
-    silent_answer _ _ _ _ _ _ _ _ _ _ (plain_request c.args.request.now) _ _
-    (inr (failed_request _ _ _ _ _ _ _ _ _ _
-    (plain_request c.args.request.now) c.in-Err.error _ _ _ c.in-Err.ensures.carries c.report_request_error.ensures.line c.report_request_error.ensures.status))
-
-pub returns-in-Err-clause-done : goal.returns-in-Err-clause-done
-returns-in-Err-clause-done g c =
-    done_answer _ _ _ _ _ _ _ _ _ _ (plain_request c.args.request.now) _ _
-    (inr (failed_request _ _ _ _ _ _ _ _ _ _
-    (plain_request c.args.request.now) c.in-Err.error _ _ _ c.in-Err.ensures.carries c.report_request_error.ensures.line c.report_request_error.ensures.status))
+pub returns-in-Err : goal.returns-in-Err
+returns-in-Err g c =
+    let request = plain_request c.args.request.now in
+    let failed = failed_request _ _ _ _ _ _ _ _ _ _ request c.in-Err.error _ _ _ c.in-Err.ensures.carries c.report_request_error.ensures.line
+    c.report_request_error.ensures.status in
+    record {
+      answers = inr failed;
+      opens = rw c.report_request_error.ensures.status c.in-Err.ensures.opens;
+      silent = silent_answer _ _ _ _ _ _ _ _ _ _ request _ _ (inr failed);
+      done = done_answer _ _ _ _ _ _ _ _ _ _ request _ _ (inr failed);
+    }
