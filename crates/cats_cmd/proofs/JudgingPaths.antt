@@ -1,12 +1,12 @@
 -- One more path, whose file was judged: what became of the files before it stays, and the path adds its judgement, how many of its prices
 -- were rounded, a status that may be the greatest, and its lines.
 use Rattle.std.proofs.Common.{◌≡◌, ℕ, suc, ◌+◌, ◌<◌, max, List, [], ◌∷◌, ◌++◌, length, map, get_or, take, refl, sym}
-use Rattle.std.proofs.Common.{ap, ◌∙◌, subst, arith, append-nil, ◌≤◌, Option, Result, Ok, Err}
+use Rattle.std.proofs.Common.{ap, ◌∙◌, subst, arith, append-nil, Option, Result, Ok, Err}
 use Rattle.std.specs.Prelude.{IsErr}
 use Rattle.std.specs.Borrow.{Bor}
 use Rattle.std.specs.List.{AllByRecursion, flat_map}
 use Rattle.std.specs.declared.alloc.AllocError.{AllocError}
-use Rattle.std.proofs.lemmas.List.{map-append, take_more, take_all, append_assoc, length-map, length-take-le, take-map}
+use Rattle.std.proofs.lemmas.List.{map-append, take_more, append_assoc, length-map, length-take-le, take-map}
 use Rattle.std.proofs.lemmas.List.Sums.{fold_push}
 use Rattle.cats_text.specs.declared.stream.Watched.{Watched}
 use Rattle.command_line.specs.declared.request.Prices.{Prices}
@@ -117,11 +117,6 @@ module _ {C F E : Type 0} (Has : C → List (List ℕ × Judgement) → Type 0) 
       rw is (rw (one_more_path paths i d l) (judged_more Has may_open may_refuse remaining options prices messages reporting (length paths) err
       (map (λ (p : Bor (List ℕ)). p.now) (take i paths)) kept more greatest status before after (get_or paths i d).now h
       (rw (so_many paths i l) a)))
-
-  -- all paths were judged
-  pub all_judged : length paths ≤ i → JudgesAllAs Has may_open may_refuse remaining options prices messages (map (λ p. p.now) paths) reporting kept err before
-      (Ok greatest)
-  all_judged l = rw (length-map paths (λ (p : Bor (List ℕ)). p.now)) (rw (take_all i paths l) at h)
 
   -- the others were not opened
   pub first_judged : (other : C) (after : Watched E) → after ≡ before → (answer : Result ℕ AllocError) → IsErr answer

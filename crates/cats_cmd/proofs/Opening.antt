@@ -1,20 +1,15 @@
 -- Paths that were opened, and more of them behind these.
-use Rattle.std.proofs.Common.{◌≡◌, inr, ℕ, ◌+◌, ◌<◌, List, [], ◌∷◌, ◌++◌, length, map, get_or, take, refl, sym, ap, ◌∙◌, arith}
+use Rattle.std.proofs.Common.{◌≡◌, ℕ, ◌+◌, ◌<◌, List, [], ◌∷◌, ◌++◌, length, map, get_or, take, refl, sym, ap, ◌∙◌}
 use Rattle.std.proofs.Common.{append-nil, Option, Some, None, Result, Ok, Err, Bor}
-use Rattle.std.specs.Prelude.{IsErr, IsErrAnd}
+use Rattle.std.specs.Prelude.{IsErr}
 use Rattle.std.specs.Str.{IsUtf8, is_utf8}
 use Rattle.std.specs.declared.alloc.AllocError.{AllocError}
-use Rattle.std.proofs.lemmas.List.{append_assoc, take_all, take-map}
+use Rattle.std.proofs.lemmas.List.{append_assoc, take-map}
 use Rattle.std.proofs.lemmas.List.Elements.{filter-append}
 use Rattle.std.proofs.lemmas.Bool.{false_from_ne_true}
 use Rattle.std.proofs.lemmas.Str.{IsUtf8-from_is_utf8}
-use Rattle.canon.specs.declared.canon_fault.CanonFault.TheVariants.{Memory}
-use Rattle.canon.specs.declared.which.Which.TheVariants.{Only}
-use Rattle.commands.specs.declared.faults.RunFault.{RunFault}
-use Rattle.commands.specs.declared.faults.RunFault.TheVariants.{Refused}
 use Rattle.cats_cmd.specs.Internal.Judging.{OpensAllAs}
-use Rattle.cats_cmd.specs.Opening.{Opens, OpensEach, OpensFirst, openable, with_paths}
-use Rattle.cats_cmd.specs.Openings.{status_of_run}
+use Rattle.cats_cmd.specs.Opening.{Opens, openable, with_paths}
 use Rattle.cats_cmd.proofs.JudgingPaths.{one_more_path}
 
 with_more : (known : Option (List (List ℕ))) (paths more : List (List ℕ)) → with_paths (with_paths known paths) more ≡ with_paths known (paths ++ more)
@@ -54,19 +49,6 @@ module _ {S H : Type 0} (content_of : S → H) (opened : S → Option (List (Lis
   opens_some old between new paths i d l first later (Err e) is = record {
     count = i + 1;
     opens = rw (take-map (λ (p : Bor (List ℕ)). p.now) (i + 1) paths) (opens_next old between new paths i d l first later);
-  }
-
-  -- want of memory for all files together
-  pub opens_refused : (old new : S) (paths : List (List ℕ)) → OpensFirst content_of opened old new paths
-      → (answer : Result ℕ RunFault) → IsErrAnd answer (λ reported. reported ≡ Refused Only Memory)
-      → OpensEach content_of opened paths old new (status_of_run answer)
-  opens_refused old new paths first (Ok status) is = absurd is
-  opens_refused old new paths first (Err fault) is = rw is (inr (refl, first))
-
-  pub first_of_all : (old new : S) (paths : List (List ℕ)) → Opens content_of opened old new (openable paths) → OpensFirst content_of opened old new paths
-  first_of_all old new paths opens = record {
-    count = length paths;
-    opens = rw (take_all (length paths) paths (omega arith)) opens;
   }
 
 -- ---- the path of one file

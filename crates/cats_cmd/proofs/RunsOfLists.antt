@@ -1,24 +1,15 @@
 -- A run on the files of a list that was read: it is the run on the paths in it, or memory was refused for these and no file was opened.
-use Rattle.std.proofs.Common.{◌≡◌, inl, inr, ℕ, List, Option, Result, Ok, Err, refl}
-use Rattle.std.specs.Prelude.{IsErrAnd}
+use Rattle.std.proofs.Common.{◌≡◌, inl, ℕ, List, Option, Result, Ok, Err}
 use Rattle.cats_text.specs.declared.stream.Watched.{Watched}
-use Rattle.canon.specs.declared.canon_fault.CanonFault.TheVariants.{Memory}
-use Rattle.canon.specs.declared.which.Which.TheVariants.{Only}
 use Rattle.cats_cmd.specs.FileLists.{ReadsList, RunsAtPaths, RunsOnList}
 use Rattle.cats_cmd.specs.PathLists.{paths_in}
 use Rattle.commands.specs.declared.faults.RunFault.{RunFault}
-use Rattle.commands.specs.declared.faults.RunFault.TheVariants.{Refused}
 use Rattle.cats_cmd.specs.declared.source.Unopened.{Unopened}
 
 module _ {F W E : Type 0} (may_open : List ℕ → F → Type 0) (may_refuse : List ℕ → Unopened → Type 0) (remaining : F → Option (List ℕ))
     (messages : E → Option (List ℕ)) (may_find : List ℕ → Option (List (List ℕ)) → Type 0)
     (Runs : List (List ℕ) → Watched W → Watched W → Watched E → Watched E → Result ℕ RunFault → Type 0)
     (list bytes : List ℕ) (reads : ReadsList may_open may_refuse remaining list bytes) where
-  pub list_refused : (out : Watched W) (err : Watched E) (answer : Result ℕ RunFault) → IsErrAnd answer (λ reported. reported ≡ Refused Only Memory)
-      → RunsOnList may_open may_refuse remaining messages (RunsAtPaths may_find Runs) list out out err err answer
-  list_refused out err (Ok status) is = absurd is
-  list_refused out err (Err fault) is = rw is (record { bytes = bytes; reads = reads; runs = inr (refl, refl, refl) })
-
   pub list_run : (paths : List (List ℕ)) → paths ≡ paths_in bytes → (out out_after : Watched W) (err err_after : Watched E) (answer : Result ℕ RunFault)
       → RunsAtPaths may_find Runs paths out out_after err err_after answer
       → RunsOnList may_open may_refuse remaining messages (RunsAtPaths may_find Runs) list out out_after err err_after answer
