@@ -1,10 +1,10 @@
 -- Numbers, line by line. A line is cut off at its LF, and what is said of the whole text is what is said of the rest.
 use Rattle.analysis.proofs.Common.{rules, ◌≡◌, ℕ, ◌+◌, ◌<◌, ◌≤◌, Bool, true, false, not, cond, eqb, ⊎_elim, List, [], ◌∷◌, ◌++◌, length, map, take, drop}
-use Rattle.analysis.proofs.Common.{get_or, zero, suc, refl, sym, ap, ◌∙◌, subst, arith, None, Some, Result, Ok, Err, append_assoc, append-nil, list_all}
-use Rattle.analysis.proofs.Common.{and_parts, both_ways, cases_Bool, cond-false, cond-true, false_from_ne_true, le-ltb, lt-ltb, map-append, Word, number_of}
-use Rattle.analysis.proofs.Common.{list_all_at, RefusesNumbers, is_bid_number, lines_in, words_in, RefusesLine, Memory, IfErr, IsErrAnd, position}
-use Rattle.analysis.proofs.Common.{position_or_len, onto_first, slice_split_first, all_words, begins_with_number, bid_number, bid_numbers, faulty_line}
-use Rattle.analysis.proofs.Common.{BidNumbersFault, NotANumber}
+use Rattle.analysis.proofs.Common.{get_or, zero, suc, refl, sym, ap, ◌∙◌, subst, arith, None, Some, Result, Ok, Err, append_assoc, list_all, and_parts}
+use Rattle.analysis.proofs.Common.{both_ways, cases_Bool, cond-false, cond-true, false_from_ne_true, le-ltb, lt-ltb, map-append, Word, number_of, list_all_at}
+use Rattle.analysis.proofs.Common.{RefusesNumbers, is_bid_number, lines_in, words_in, RefusesLine, Memory, IfErr, IsErrAnd, position, position_or_len}
+use Rattle.analysis.proofs.Common.{onto_first, slice_split_first, all_words, begins_with_number, bid_number, bid_numbers, faulty_line, BidNumbersFault}
+use Rattle.analysis.proofs.Common.{NotANumber}
 
 -- ---- a line is cut off
 
@@ -64,10 +64,6 @@ module _ (text rest : List ℕ) (ends : ℕ) (numbers : List ℕ) (read : IsRead
         faults = search (rules, cond-true);
         begins = search (rules, begins_behind);
       }
-
-  pub all_read : (more : List ℕ) → lines_in rest ≡ rest ∷ [] → list_all is_bid_number (words_in rest) ≡ true
-      → more ≡ numbers ++ map number_of (words_in rest) → (more ≡ bid_numbers text) × (faulty_line 1 (lines_in text) ≡ None)
-  all_read more is faultless is_more = search (rules, append-nil, cond-true)
 
 -- a fault that is handed on
 pub came_through : {X F : Type 0} (P : F → Type 0) (answer : Result X F) (came : F) → IsErrAnd answer (λ fault. fault ≡ came) → P came → IfErr answer P

@@ -1,7 +1,7 @@
 -- Changes that are put together one by one: those of the left bidders, and then those of the right bidders that are left.
 use Rattle.analysis.proofs.Common.{rules, ◌≡◌, ℕ, ◌+◌, true, cond, List, [], ◌∷◌, ◌++◌, length, map, append_assoc, refl, sym, ap, ap₂, ◌∙◌, subst, arith}
 use Rattle.analysis.proofs.Common.{Option, Some, None, All, is_some, cons_option, range_with_len, is_none, nat_cmp, is_eq, filter-append, All-append, All-head}
-use Rattle.analysis.proofs.Common.{All-nil, All-push, All-tail, All-weaker, sum_by-append, sum_by-cons, append-nil, map_push, IsRising, Atom, count_of}
+use Rattle.analysis.proofs.Common.{All-push, All-tail, All-weaker, sum_by-append, sum_by-cons, append-nil, map_push, IsRising, Atom, count_of}
 use Rattle.analysis.proofs.Common.{PlainBidderChange, IsBidderChange, AreBidderChanges, bidder_at, excess_bidders, is_excess, lefts_of, partner_of, rights_of}
 use Rattle.analysis.proofs.Common.{waiting_after, without_partner, with_left, AreLefts, AreRest, TakesPartner, filter_map-append, IsRising-filter, range_rises}
 use Rattle.analysis.specs.BidderChanges.{right_alone}
@@ -27,9 +27,6 @@ pub excess_rises : (bidders others : List (List (Atom (List ℕ)))) → IsRising
 excess_rises bidders others = IsRising-filter (is_excess bidders others) (range_with_len 0 (length bidders)) (range_rises 0 (length bidders))
 
 module _ (left right : List (List (Atom (List ℕ)))) where
-  pub no_lefts : (excess : List ℕ) → IsRising excess → AreLefts left right [] excess []
-  no_lefts excess rising = search (rules, All-nil, taken)
-
   right_taken : (c : PlainBidderChange) (partner : Option ℕ) → c.right ≡ partner → (before after : List ℕ) → TakesPartner before after partner → (i : ℕ)
       → count_of nat_cmp i (rights_of (c ∷ [])) + count_of nat_cmp i after ≡ count_of nat_cmp i before
   right_taken c None e before after h i = search rules

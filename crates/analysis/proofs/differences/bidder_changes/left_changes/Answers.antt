@@ -1,15 +1,11 @@
 -- `left_changes`: one more left bidder has its change, and its partner waits no more.
-use Rattle.analysis.proofs.Common.{rules}
-use Rattle.analysis.proofs.Common.{◌≡◌, ◌∙◌, ◌<◌, ℕ, List, length, map, take, get_or, sym, ap, ap₂, subst, Option, All, IfSome, Vec, Global, length-map}
+use Rattle.analysis.proofs.Common.{rules, ◌≡◌, ◌∙◌, ◌<◌, ℕ, List, length, map, take, get_or, sym, ap, ap₂, subst, Option, All, IfSome, Vec, Global, length-map}
 use Rattle.analysis.proofs.Common.{map_push, take_more, All-filter, Atom, offers, bidder_at, partner_of, waiting_after, without_partner, waits_at, ArePartners}
 use Rattle.analysis.proofs.Common.{plain_bidder_change}
 use Rattle.analysis.proofs.Comparing.BidsOfBidders.{bids_are, bids_in_order}
-use Rattle.analysis.proofs.Comparing.Changes.{no_lefts, one_more_left}
+use Rattle.analysis.proofs.Comparing.Changes.{one_more_left}
 use Rattle.analysis.proofs.Comparing.Waiting.{taken, taken_has, waiting_more}
 use Rattle.analysis.proofs.differences.bidder_changes.left_changes.Goals as goal
-
-pub loop-index-init : goal.loop-index-init
-loop-index-init g c = search (rules, no_lefts, c.new-changes.ensures.items, c.requires.partners, c.requires.partners.rising)
 
 pub take_for-partner-requires : goal.take_for-partner-requires
 take_for-partner-requires g c = search (rules, bids_in_order, c.requires.lefts, c.loop-index-test.true, c.index-left-index.is, c.requires.left_in_order)
