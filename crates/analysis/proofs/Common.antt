@@ -76,7 +76,7 @@ pub use Rattle.analysis.specs.Internal.Starts.{IsNamedCanonical, AreStarts}
 pub use Rattle.analysis.specs.Internal.Walks.{IsKnown, IsBestAt, IsLastBest, IsNext, best_after, dummy_of, is_kept_atom, HasPassed, IsNextBest, is_best_of}
 pub use Rattle.analysis.specs.Internal.Walks.{is_kept_bid, passed_bids, IsAt}
 pub use Rattle.analysis.specs.KeptWinners.{kept_by, named_by, with_kept_bids, AreKept, in_canonical_file, kept_as, number_kept_as, in_place_of}
-pub use Rattle.analysis.specs.LpTexts.{AreRowsMet, objective, value_of, if_none, row_term, row_name, bids_with, PlainRow, is_shared, lp_rows, row_of, row_text}
+pub use Rattle.analysis.specs.LpTexts.{AreRowsMet, objective, value_of, if_none, row_term, bids_with, PlainRow, is_shared, lp_rows, row_of, row_text}
 pub use Rattle.analysis.specs.LpTexts.{price_term, binary_line}
 pub use Rattle.analysis.specs.Reasons.{IsKeptInside, IsReason, IsBestBid, best_alike, PlainReason, Keep, Zero, Same, Inside, Packing, IsKeptAs, is_kept}
 pub use Rattle.analysis.specs.Reasons.{kept_number, is_kept_as, all_apart, goods_at, reason_at, Explains, points_of, kept_bid, point_number, best_reason}
@@ -112,7 +112,7 @@ pub use Rattle.canon.specs.Lemmas.FirstChanges.{first_change_found, same_bids}
 pub use Rattle.canon.specs.Lemmas.OrDifferences.{are_unequal, equal_test, ArePoints}
 pub use Rattle.canon.specs.Lemmas.PriceChanges.{IsEarlier}
 pub use Rattle.canon.specs.Lemmas.Renaming.{kept_dummies-has, filter-map, kept_dummies-differ, points_of_kept_dummies, kept_dummies-below}
-pub use Rattle.canon.specs.PriceChanges.{plain_change, PlainChange, ArePriceChanges, price_on, IsPriceChange}
+pub use Rattle.canon.specs.PriceChanges.{PlainChange, ArePriceChanges, price_on, IsPriceChange}
 pub use Rattle.canon.specs.Renaming.{kept_bids, kept_dummies, named_bid, named_dummy, points_of_dummy}
 pub use Rattle.canon.specs.Sameness.{AreSameFiles, IsSameAuction}
 pub use Rattle.canon.specs.declared.normal.named.NamedFile.{NamedFile}
