@@ -131,7 +131,7 @@ module _ (options : SearchOptions) (first first_after second second_after : Text
     {A : Type 0} (Given : A → Type 0) (outcome : A → Outcome) (Says : ℕ → List ℕ → Type 0)
     (says : (a : A) → Given a → (status : ℕ) (out : List ℕ) → outcome a ≡ Prints status out → Says status out)
     (both : (status : ℕ) (out : List ℕ) → Says status out
-        → SpellsWithinLimit options (read first) × SpellsWithinLimit options (text_read first.fine second.bytes.now)) where
+    → SpellsWithinLimit options (read first) × SpellsWithinLimit options (text_read first.fine second.bytes.now)) where
   -- the prices of the second text are read as those of the first
   abbrev other : Text
   other = record second { fine = first.fine }

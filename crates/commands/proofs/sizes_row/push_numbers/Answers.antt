@@ -13,18 +13,24 @@ returns-in-Ok-named_normal_file g c =
     let normal = c.in-Ok-named_normal_file.ensures.answer in
     numbers_judged _ _ _ _ _
     c.in-Ok.file c.in-Ok.ensures.answer normal.within_limit
-    (rw (c.in_ok-push_counts-in-Ok-named_normal_file.ensures, normal.canonical,
-    sizes_put _ _ _ _ _ _ c.new-sizes.ensures.items c.in_ok-push_sizes.ensures c.as_slice.ensures.value
-    c.in_ok-extend_from_slice-in-Ok-named_normal_file.ensures.items))
+    (rw (
+      c.in_ok-push_counts-in-Ok-named_normal_file.ensures,
+      normal.canonical,
+      sizes_put _ _ _ _ _ _ c.new-sizes.ensures.items c.in_ok-push_sizes.ensures c.as_slice.ensures.value
+          c.in_ok-extend_from_slice-in-Ok-named_normal_file.ensures.items,
+    ))
 
 pub returns-in-Err-StepLimit : goal.returns-in-Err-StepLimit
 returns-in-Err-StepLimit g c =
     numbers_heavy _ _ _ _ _
     c.in-Ok.file c.in-Ok.ensures.answer c.in-Err-StepLimit.goods
     (rw c.in-Err-StepLimit.field-0-is at c.in-Err-StepLimit.ensures.answer)
-    (rw (c.in_ok-extend_from_slice-in-Err-StepLimit-2.ensures.items, c.as_bytes-in-Err-StepLimit.ensures.value,
-    sizes_put _ _ _ _ _ _ c.new-sizes.ensures.items c.in_ok-push_sizes.ensures c.as_slice-in-Err-StepLimit.ensures.value
-    c.in_ok-extend_from_slice-in-Err-StepLimit.ensures.items))
+    (rw (
+      c.in_ok-extend_from_slice-in-Err-StepLimit-2.ensures.items,
+      c.as_bytes-in-Err-StepLimit.ensures.value,
+      sizes_put _ _ _ _ _ _ c.new-sizes.ensures.items c.in_ok-push_sizes.ensures c.as_slice-in-Err-StepLimit.ensures.value
+          c.in_ok-extend_from_slice-in-Err-StepLimit.ensures.items,
+    ))
     _ (rw c.in-Err-StepLimit.field-0-is at c.name_bid.ensures)
 
 pub returns : goal.returns
