@@ -49,8 +49,7 @@ module _ (f : PlainFile) (bids : List NumberedBid) (order : AreInOrder f bids) (
   pub found_number : (number : ℕ) → ((g : PlainFile) → AreInOrder g bids → (i : ℕ) → i < length g.bids → bid_at g i ≡ bid → IsBestFor g i number)
       → Some number ≡ best_number f bid.dummy bid.goods
   found_number number found =
-      sym (number_is_best f there.0 number (found f order there.0 there.1 is_at))
-      ∙ ap (λ (b : PlainBid). best_number f b.dummy b.goods) is_at
+      rw (← is_at) (sym (number_is_best f there.0 number (found f order there.0 there.1 is_at)))
 
 -- if there is a price on the bundle, the number is found
 pub number_at_price : (f : PlainFile) (bids : List NumberedBid) → AreInOrder f bids → (dummy : Option ℕ) (goods : List ℕ) (o : Option ℕ) (price : ℕ)

@@ -1,5 +1,5 @@
 -- What a command answered of a text is given: a text with its status, or a fault.
-use Rattle.std.proofs.Common.{rules, arith, ◌≡◌, inl, inr, ℕ, List, [], Option, Result, Ok, Err, refl, sym, subst}
+use Rattle.std.proofs.Common.{rules, arith, ◌≡◌, inl, inr, ℕ, List, [], Option, Result, Ok, Err, refl, subst}
 use Rattle.bid_file.specs.Files.{PlainFile}
 use Rattle.cats_text.specs.Grammar.{Spells}
 use Rattle.valuation.specs.declared.search.options.SearchOptions.{SearchOptions}
@@ -85,8 +85,7 @@ module _ (text after : Text) where
     said : (r : Result Answer RunFault) → Commands TextGives TextRefuses outcome text after r
         → IsSaid (PrintsOf outcome (read text)) (IsRefusedText outcome text.fine text.bytes.now) Only r
     said (Ok a) is = search rules
-    said (Err (Refused which fault)) is =
-        subst (λ (w : Which). IsRefusedText outcome text.fine text.bytes.now (Refused w fault)) (sym is.0) (unmade_of fault is.1)
+    said (Err (Refused which fault)) is = rw is.0 (unmade_of fault is.1)
     said (Err fault) is = search rules
 
     pub given_call : (r : Result Answer RunFault) → Commands TextGives TextRefuses outcome text after r

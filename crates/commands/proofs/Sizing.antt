@@ -1,6 +1,6 @@
 -- The numbers in a row of `cats sizes`: how many bids have no dummy good, and which dummy goods the bids so far have.
 use Rattle.std.proofs.Common.{◌≡◌, ℕ, ◌+◌, ◌<◌, Bool, true, false, cond, List, [], ◌++◌, length, map, set, take, refl}
-use Rattle.std.proofs.Common.{ap, ◌∙◌, arith, inl, inr, Option, Some, None}
+use Rattle.std.proofs.Common.{arith, inl, inr, Option, Some, None}
 use Rattle.std.proofs.Common.{Global}
 use Rattle.std.specs.Prelude.{codes, filter, is_none, ◌||◌, Vec}
 use Rattle.std.specs.List.{range_with_len, slice_get}
@@ -87,13 +87,11 @@ module _ (Gives : PlainFile → Type 0) (Refuses : ReadFault → Type 0) (option
 -- one more bid
 module _ (bids : List PlainBid) (i : ℕ) (b : PlainBid) (there : slice_get bids i ≡ Some b) where
   has_more : (d : ℕ) → has_dummy (take (i + 1) bids) d ≡ (has_dummy (take i bids) d || is_dummy d b.dummy)
-  has_more d = list_any_more (λ (c : PlainBid). is_dummy d c.dummy) bids i b (slice_get_within bids i b there)
-      ∙ ap (λ (c : PlainBid). has_dummy (take i bids) d || is_dummy d c.dummy) (get_or_from_slice_get bids i b b there)
+  has_more d = rw (list_any_more (λ c. is_dummy d c.dummy) bids i b (slice_get_within bids i b there), get_or_from_slice_get bids i b b there)
 
   pub or_more : length (filter (λ c. is_none c.dummy) (take (i + 1) bids))
       ≡ length (filter (λ c. is_none c.dummy) (take i bids)) + cond (is_none b.dummy) 1 0
-  or_more = length-filter_more (λ (c : PlainBid). is_none c.dummy) bids i b (slice_get_within bids i b there)
-      ∙ ap (λ (c : PlainBid). length (filter (λ c. is_none c.dummy) (take i bids)) + cond (is_none c.dummy) 1 0) (get_or_from_slice_get bids i b b there)
+  or_more = rw (length-filter_more (λ c. is_none c.dummy) bids i b (slice_get_within bids i b there), get_or_from_slice_get bids i b b there)
 
   module _ (n : ℕ) (marks : List Bool) (h : marks ≡ map (has_dummy (take i bids)) (range_with_len 0 n)) where
     pub marks_same : b.dummy ≡ None → marks ≡ map (has_dummy (take (i + 1) bids)) (range_with_len 0 n)
