@@ -1,5 +1,5 @@
 -- `run_on_files`
-use Rattle.std.proofs.Common.{◌∙◌, ap, inl, map}
+use Rattle.std.proofs.Common.{◌∙◌, ap, map}
 use Rattle.cats_cmd.specs.PathLists.{paths_in}
 use Rattle.cats_cmd.proofs.RunsOfLists.{list_run}
 use Rattle.cats_cmd.proofs.many_files.run_on_files.Goals as goal
@@ -9,13 +9,3 @@ returns-in_ok-paths-in-Ok-clause-runs g c =
     rw c.in-ListedIn.is (list_run _ _ _ _ _ _ c.in-ListedIn.list.now c.in-Ok.text.items c.in-Ok.ensures.read _
     (ap (map (λ path. path.now)) c.as_slice-in-Ok-2.ensures.value ∙ c.in_ok-paths-in-Ok.ensures ∙ ap paths_in c.as_slice-in-Ok.ensures.value)
     _ _ _ _ _ (rw (c.in-Ok.ensures.opens.stays, c.many_files-many.ensures) at c.run_at_paths-in-Ok.ensures.runs))
-
-pub returns-in_ok-paths-in-Ok-clause-opens : goal.returns-in_ok-paths-in-Ok-clause-opens
-returns-in_ok-paths-in-Ok-clause-opens g c =
-    let opens = rw (ap (map (λ path. path.now)) c.as_slice-in-Ok-2.ensures.value ∙ c.in_ok-paths-in-Ok.ensures ∙ ap paths_in c.as_slice-in-Ok.ensures.value)
-    at c.run_at_paths-in-Ok.ensures.opens in
-    rw c.in-ListedIn.is (record {
-      between = _;
-      opens = c.in-Ok.ensures.opens;
-      rest = inl (record { bytes = c.in-Ok.text.items; reads = c.in-Ok.ensures.read; opens = opens });
-    })
