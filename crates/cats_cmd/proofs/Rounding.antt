@@ -1,30 +1,22 @@
 -- `cats round`: the prices that were reported so far, and the ways in which the run ends.
-use Rattle.std.proofs.Common.{◌≡◌, ◌<◌, ◌+◌, ℕ, List, [], ◌∷◌, length, take, map, get_or, refl, Option, Result, Ok, Err, inl, inr}
+use Rattle.std.proofs.Common.{◌≡◌, ◌<◌, ◌+◌, ℕ, List, [], ◌∷◌, length, take, map, get_or, refl, Option, Result, Ok, Err}
 use Rattle.std.specs.Prelude.{IsErrAnd}
 use Rattle.std.proofs.lemmas.List.{map-append, take_more}
 use Rattle.cats_text.specs.declared.stream.Watched.{Watched}
-use Rattle.cats_text.specs.declared.read_fault.ReadFault.{ReadFault}
-use Rattle.canon.specs.Refusals.{refusal_of}
-use Rattle.canon.specs.declared.canon_fault.CanonFault.{CanonFault}
-use Rattle.canon.specs.declared.canon_fault.CanonFault.TheVariants.{Read, StepLimit, Memory}
-use Rattle.canon.specs.declared.which.Which.TheVariants.{Only}
 use Rattle.rounding.specs.Answers.{IsRounded}
 use Rattle.rounding.specs.Texts.{rounded_text}
 use Rattle.rounding.specs.Views.{plain_change, plain_changes}
 use Rattle.rounding.specs.declared.replacement.FinePrices.{FinePrices}
 use Rattle.rounding.specs.declared.text.RoundedPrice.{RoundedPrice}
 use Rattle.rounding.specs.declared.text.RoundedText.{RoundedText}
-use Rattle.cats_cmd.specs.Internal.Roundings.{RoundsText}
-use Rattle.cats_cmd.specs.Inputs.{IsUnreadStream, ReadsAll}
+use Rattle.cats_cmd.specs.Inputs.{ReadsAll}
 use Rattle.commands.specs.RoundedLines.{rounded_line}
-use Rattle.cats_cmd.specs.Rounding.{IsUnrounded, Rounds, round_outcome}
+use Rattle.cats_cmd.specs.Rounding.{Rounds}
 use Rattle.cats_cmd.specs.Runs.{SendsAs}
 use Rattle.cats_cmd.specs.RequestErrors.{Reports, ReportsAll}
 use Rattle.commands.specs.declared.faults.RunFault.{RunFault}
-use Rattle.commands.specs.declared.faults.RunFault.TheVariants.{Refused, Sent}
+use Rattle.commands.specs.declared.faults.RunFault.TheVariants.{Sent}
 use Rattle.cats_cmd.proofs.JudgingPaths.{reports_more}
-use Rattle.cats_cmd.proofs.ReadingBytes.{unread_stream}
-use Rattle.cats_cmd.proofs.Sending.{wrote}
 
 -- ---- reports
 
@@ -45,29 +37,6 @@ reported_more messages prices i d l a b c before now =
 
 module _ {R W E : Type 0} (remaining : R → Option (List ℕ)) (contents : W → Option (List ℕ)) (messages : E → Option (List ℕ)) (fine : FinePrices)
     (old new : Watched R) where
-  run_refused : (out : Watched W) (err : Watched E) (fault : CanonFault) → IsUnrounded remaining contents messages fine old new fault
-      → (answer : Result ℕ RunFault) → IsErrAnd answer (λ reported. reported ≡ Refused Only fault)
-      → Rounds remaining contents messages fine old new out out err err answer
-  run_refused out err fault refused (Ok status) is = absurd is
-  run_refused out err fault refused (Err reported) is = rw is (record { only = refl; refused = refused; silent = refl; quiet = refl })
-
-  unmade : (bytes : List ℕ) → ReadsAll remaining old new bytes → (fault : CanonFault) → RoundsText fine bytes (Err fault)
-      → IsUnrounded remaining contents messages fine old new fault
-  unmade bytes all (Read fault) first = inr (record { bytes = bytes; all = all; first = first })
-  unmade bytes all (StepLimit goods) first = absurd first
-  unmade bytes all Memory first = inr (record { bytes = bytes; all = all; wants = first })
-
-  pub round_unread : (out : Watched W) (err : Watched E) (fault : ReadFault) → IsUnreadStream remaining old new fault
-      → Rounds remaining contents messages fine old new out out err err (Err (Refused Only (refusal_of fault)))
-  round_unread out err fault unread =
-      let refused = unread_stream remaining old new (IsUnrounded remaining contents messages fine old new) (λ f s. inl s) inl fault unread in
-      record { only = refl; refused = refused; silent = refl; quiet = refl }
-
-  pub round_unmade : (out : Watched W) (err : Watched E) (bytes : List ℕ) → ReadsAll remaining old new bytes → (fault : CanonFault)
-      → RoundsText fine bytes (Err fault) → (answer : Result ℕ RunFault) → IsErrAnd answer (λ reported. reported ≡ Refused Only fault)
-      → Rounds remaining contents messages fine old new out out err err answer
-  round_unmade out err bytes all fault first answer is = run_refused out err fault (unmade bytes all fault first) answer is
-
   -- the output failed in the text
   pub round_unsent : (out out_after : Watched W) (err : Watched E) (bytes : List ℕ) → ReadsAll remaining old new bytes → (rounded : RoundedText)
       → IsRounded fine bytes rounded → (fault : RunFault) → SendsAs contents 0 (rounded_text fine bytes) out out_after (Err fault)
@@ -86,16 +55,3 @@ module _ {R W E : Type 0} (remaining : R → Option (List ℕ)) (contents : W �
     quiet = refl;
   })
   round_unsent out out_after err bytes all rounded r fault sends answer is = absurd sends
-
-  -- the text was sent, and the prices whose values changed were reported
-  pub round_printed : (out out_after : Watched W) (err err_after : Watched E) (bytes : List ℕ) → ReadsAll remaining old new bytes → (rounded : RoundedText)
-      → IsRounded fine bytes rounded → (status : ℕ) → SendsAs contents 0 (rounded_text fine bytes) out out_after (Ok status)
-      → ReportsAll messages (map rounded_line (plain_changes rounded.prices.items)) err err_after
-      → Rounds remaining contents messages fine old new out out_after err err_after (Ok status)
-  round_printed out out_after err err_after bytes all rounded r status sends reports =
-      wrote contents _ (round_outcome fine) out out_after bytes
-      (record {
-        reads = record { all = all; file = r.file; spells = rw r.text_is at r.spells };
-        reports = rw r.prices_are at reports;
-      })
-      0 (rounded_text fine bytes) refl status sends
