@@ -1,22 +1,26 @@
 -- `cats round`: the prices that were reported so far, and the ways in which the run ends.
-use Rattle.std.proofs.Common.{◌≡◌, ◌<◌, ◌+◌, ℕ, List, [], ◌∷◌, length, take, map, get_or, refl, Option, Result, Ok, Err}
+use Rattle.std.proofs.Common.{◌≡◌, ◌<◌, ◌+◌, ℕ, List, [], ◌∷◌, length, take, map, get_or, refl, Option, Result, Ok, Err, inl}
 use Rattle.std.specs.Prelude.{IsErrAnd}
 use Rattle.std.proofs.lemmas.List.{map-append, take_more}
 use Rattle.cats_text.specs.declared.stream.Watched.{Watched}
+use Rattle.cats_text.specs.declared.read_fault.ReadFault.{ReadFault}
+use Rattle.canon.specs.Refusals.{refusal_of}
+use Rattle.canon.specs.declared.which.Which.TheVariants.{Only}
 use Rattle.rounding.specs.Answers.{IsRounded}
 use Rattle.rounding.specs.Texts.{rounded_text}
 use Rattle.rounding.specs.Views.{plain_change, plain_changes}
 use Rattle.rounding.specs.declared.replacement.FinePrices.{FinePrices}
 use Rattle.rounding.specs.declared.text.RoundedPrice.{RoundedPrice}
 use Rattle.rounding.specs.declared.text.RoundedText.{RoundedText}
-use Rattle.cats_cmd.specs.Inputs.{ReadsAll}
+use Rattle.cats_cmd.specs.Inputs.{IsUnreadStream, ReadsAll}
 use Rattle.commands.specs.RoundedLines.{rounded_line}
-use Rattle.cats_cmd.specs.Rounding.{Rounds}
+use Rattle.cats_cmd.specs.Rounding.{IsUnrounded, Rounds}
 use Rattle.cats_cmd.specs.Runs.{SendsAs}
 use Rattle.cats_cmd.specs.RequestErrors.{Reports, ReportsAll}
 use Rattle.commands.specs.declared.faults.RunFault.{RunFault}
-use Rattle.commands.specs.declared.faults.RunFault.TheVariants.{Sent}
+use Rattle.commands.specs.declared.faults.RunFault.TheVariants.{Refused, Sent}
 use Rattle.cats_cmd.proofs.JudgingPaths.{reports_more}
+use Rattle.cats_cmd.proofs.ReadingBytes.{unread_stream}
 
 -- ---- reports
 
@@ -37,6 +41,12 @@ reported_more messages prices i d l a b c before now =
 
 module _ {R W E : Type 0} (remaining : R → Option (List ℕ)) (contents : W → Option (List ℕ)) (messages : E → Option (List ℕ)) (fine : FinePrices)
     (old new : Watched R) where
+  pub round_unread : (out : Watched W) (err : Watched E) (fault : ReadFault) → IsUnreadStream remaining old new fault
+      → Rounds remaining contents messages fine old new out out err err (Err (Refused Only (refusal_of fault)))
+  round_unread out err fault unread =
+      let refused = unread_stream remaining old new (IsUnrounded remaining contents messages fine old new) (λ f s. inl s) inl fault unread in
+      record { only = refl; refused = refused; silent = refl; quiet = refl }
+
   -- the output failed in the text
   pub round_unsent : (out out_after : Watched W) (err : Watched E) (bytes : List ℕ) → ReadsAll remaining old new bytes → (rounded : RoundedText)
       → IsRounded fine bytes rounded → (fault : RunFault) → SendsAs contents 0 (rounded_text fine bytes) out out_after (Err fault)
