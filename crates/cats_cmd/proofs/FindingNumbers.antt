@@ -12,17 +12,10 @@ use Rattle.std.proofs.lemmas.Option.{slice_get_within}
 use Rattle.bid_file.specs.Files.{PlainFile, IsPlainFile}
 use Rattle.canon.specs.FirstNumbers.{AddsText, IsFirstNumber, TextIndex}
 use Rattle.canon.proofs.TwoFiles.Indexing.{TellsRelated, first_number_stays, index_of_more, number_of_more}
+use Rattle.commands.proofs.JudgingTexts.{zip_push}
 use Rattle.cats_cmd.specs.DuplicateTexts.{found_paths}
 use Rattle.cats_cmd.specs.Internal.Judging.{KeepsNumbers}
 use Rattle.cats_cmd.specs.Paths.{Judgement}
-
--- two lists that are as long, with one element more each
-zip_push : {X Y : Type 0} (R S : X → Y → Type 0) (xs : List X) (ys : List Y) (x : X) (y : Y) → ((a : X) (b : Y) → R a b → S a b) → AllZip R xs ys → S x y
-    → AllZip S (xs ++ x ∷ []) (ys ++ y ∷ [])
-zip_push R S [] [] x y weaker h s = (s, tt)
-zip_push R S [] (b ∷ ys) x y weaker h s = absurd h
-zip_push R S (a ∷ xs) [] x y weaker h s = absurd h
-zip_push R S (a ∷ xs) (b ∷ ys) x y weaker h s = (weaker a b h.0, zip_push R S xs ys x y weaker h.1 s)
 
 -- files, of which those are related that have one text
 module _ (text_of : PlainFile → List ℕ) (Related : PlainFile → PlainFile → Type 0) where

@@ -19,6 +19,8 @@ use Rattle.canon.specs.Refusals.{refusal_by_kind, refusal_of}
 use Rattle.canon.specs.declared.canon_fault.CanonFault.{CanonFault}
 use Rattle.canon.specs.declared.canon_fault.CanonFault.TheVariants.{Read, StepLimit, Memory}
 use Rattle.canon.specs.declared.which.Which.TheVariants.{Only}
+use Rattle.commands.proofs.JudgingTexts.{text_within_limit, no_fault_made, refused_bundle}
+use Rattle.commands.proofs.Sizing.{heavy_bid}
 use Rattle.cats_cmd.specs.DuplicateTexts.{found_paths}
 use Rattle.commands.specs.declared.faults.HeavyBid.{HeavyBid}
 use Rattle.commands.specs.Naming.{with_bid}
@@ -38,29 +40,6 @@ use Rattle.canon.specs.Unsearched.{AreAlike, unsearched_text}
 use Rattle.canon.proofs.TwoFiles.Alike.{unsearched_texts_tell}
 use Rattle.canon.proofs.TwoFiles.Indexing.{canonical_texts_tell}
 use Rattle.cats_cmd.specs.declared.source.Unopened.{Unopened}
-
--- ---- refused bundles
-
-text_within_limit : (file : PlainFile) (heavy : Option (List ℕ)) (text : List ℕ) → unless_refused file heavy ≡ IsText text → heavy ≡ None
-text_within_limit file None text is = refl
-text_within_limit file (Some goods) text is = cc
-
-no_fault_made : (file : PlainFile) (heavy : Option (List ℕ)) (why : ReadFault) → unless_refused file heavy ≡ IsNoFile why → ⊥
-no_fault_made file None why is = cc
-no_fault_made file (Some goods) why is = cc
-
-refused_bundle : (file : PlainFile) (heavy : Option (List ℕ)) (goods : List ℕ) → unless_refused file heavy ≡ Exceeds goods → heavy ≡ Some goods
-refused_bundle file None goods is = cc
-refused_bundle file (Some heavy) goods is = cc
-
--- the bid that is named for the bundle of these goods
-abbrev pub heavy_bid : SearchOptions → PlainFile → Vec ℕ Global → HeavyBid
-heavy_bid options file goods = record {
-  number = first_bid_on file goods.items;
-  goods = goods;
-  steps = options.each;
-  total = options.total;
-}
 
 -- ---- one input
 
