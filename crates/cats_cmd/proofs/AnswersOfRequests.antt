@@ -1,36 +1,14 @@
 -- What holds of each answer to a request: the statuses of a run that answered, what a request that failed has written, and that only
 -- `round`, `duplicates`, `sizes` and rounded prices are reported on before they end, or a list of bids that is refused.
-use Rattle.std.proofs.Common.{◌≡◌, ◌≢◌, ℕ, List, [], Option, None, Some, Result, Ok, Err, Bool, false, ◌∙◌, arith, ◌≤◌}
-use Rattle.std.proofs.Common.{refl, sym, ⊎_elim, ◌⊎◌, inl, inr, ◌==◌}
-use Rattle.std.proofs.lemmas.Bool.{both_ways, eq-eqb}
-use Rattle.cats_text.specs.FaultPlaces.{PlainPlace, first_place}
-use Rattle.cats_text.specs.declared.read_fault.Kind.{Kind}
-use Rattle.cats_text.specs.declared.read_fault.Kind.TheVariants.{Device, Memory as NoMemory}
-use Rattle.cats_text.specs.declared.stream.Watched.{Watched}
-use Rattle.canon.specs.declared.canon_fault.CanonFault.{CanonFault}
-use Rattle.canon.specs.declared.canon_fault.CanonFault.TheVariants.{Read, StepLimit, Memory}
-use Rattle.commands.specs.Commands.{Commands}
-use Rattle.commands.specs.Outcomes.{Prints}
-use Rattle.commands.specs.Pairs.{CommandsOnBoth}
-use Rattle.commands.specs.declared.answer.Answer.{Answer}
-use Rattle.cats_cmd.specs.FindingFaults.{outcome_of_place}
-use Rattle.cats_cmd.specs.PricedInputs.{PricedGives, PricedRefuses, fine_prices}
-use Rattle.cats_cmd.specs.BidLists.{RunsOnBids, named_bids}
-use Rattle.cats_cmd.specs.Requests.{AnswersRequest, CarriesOut, RunsAt, RunsAtBoth, RunsFor, FailsRequest, comparison_of, outcome_for}
-use Rattle.cats_cmd.specs.Runs.{RunsCommand}
-use Rattle.commands.specs.Statuses.{status_of_canon_fault, status_of_read_fault}
-use Rattle.cats_cmd.specs.RequestErrors.{Reports, line_of_request_error, has_found, is_for_many_files, is_reporting, is_rounding, names_found, names_many_files}
-use Rattle.cats_cmd.specs.RequestErrors.{names_reporting, status_of_request_error}
-use Rattle.cats_cmd.specs.declared.errors.RequestError.{RequestError}
-use Rattle.cats_cmd.specs.declared.errors.RequestError.TheVariants.{CannotOpen, NotOpened, Run}
-use Rattle.commands.specs.declared.faults.RunFault.{RunFault}
-use Rattle.commands.specs.declared.faults.RunFault.TheVariants.{Refused, Sent}
-use Rattle.command_line.specs.PlainRequests.{PlainRequest, OnFile, OnPair, OnFiles, Fault, Round, GivenBids, BidsIn, PlainBids, PlainCommand}
-use Rattle.commands.specs.declared.command.Comparison.{Comparison}
-use Rattle.command_line.specs.declared.request.Prices.{Prices}
-use Rattle.command_line.specs.declared.request.Prices.TheVariants.{AsWritten}
-use Rattle.command_line.specs.Requests.{request_of}
-use Rattle.cats_cmd.specs.declared.source.Unopened.{Unopened}
+use Rattle.cats_cmd.proofs.Common.{◌≡◌, ◌≢◌, ℕ, List, [], Option, None, Some, Result, Ok, Err, Bool, false, ◌∙◌, arith, ◌≤◌, refl, sym, ⊎_elim, ◌⊎◌, inl, inr}
+use Rattle.cats_cmd.proofs.Common.{◌==◌, both_ways, eq-eqb, PlainPlace, first_place, Kind, Device, Watched, CanonFault, Read, StepLimit, Memory, Commands}
+use Rattle.cats_cmd.proofs.Common.{Prints, CommandsOnBoth, Answer, outcome_of_place, PricedGives, PricedRefuses, fine_prices, RunsOnBids, named_bids}
+use Rattle.cats_cmd.proofs.Common.{AnswersRequest, CarriesOut, RunsAt, RunsAtBoth, RunsFor, FailsRequest, comparison_of, outcome_for, RunsCommand}
+use Rattle.cats_cmd.proofs.Common.{status_of_canon_fault, status_of_read_fault, Reports, line_of_request_error, has_found, is_for_many_files, is_reporting}
+use Rattle.cats_cmd.proofs.Common.{is_rounding, names_found, names_many_files, names_reporting, status_of_request_error, RequestError, CannotOpen, NotOpened}
+use Rattle.cats_cmd.proofs.Common.{Run, RunFault, Refused, Sent, PlainRequest, OnFile, OnPair, OnFiles, Fault, Round, GivenBids, BidsIn, PlainBids}
+use Rattle.cats_cmd.proofs.Common.{PlainCommand, Comparison, Prices, AsWritten, request_of, Unopened}
+use Rattle.cats_text.specs.declared.read_fault.Kind.TheVariants.{Memory as NoMemory}
 use Rattle.cats_cmd.proofs.AnswersShown.{command_printed, printed}
 use Rattle.cats_cmd.proofs.Sending.{pair_facts}
 use Rattle.cats_cmd.proofs.PricedInputs.{none_given}

@@ -1,39 +1,16 @@
 -- What the commands on one or two files print: numbers, prices, and words of ours. Its status is 0 or 1. `simp` computes that of each text by
 -- its pieces, so a new command needs a lemma only for a piece of a new kind.
-use Rattle.std.proofs.Common.{◌≡◌, ℕ, suc, ◌+◌, ◌/◌, ◌%◌, ◌<◌, ◌≤◌, ◌&&◌, Bool, true, false, List, [], ◌∷◌, ◌++◌, cond, arith, refl}
-use Rattle.std.proofs.Common.{Ok, Err, Result, subst, append_assoc}
-use Rattle.std.specs.Prelude.{codes, decimal, nat_le, unwrap_or, Option, Some, None}
-use Rattle.std.specs.List.{list_all}
-use Rattle.std.proofs.lemmas.Bool.{and_parts, leb-true}
-use Rattle.std.proofs.lemmas.Bool.Decides.{nat_tests}
-use Rattle.std.proofs.lemmas.List.Elements.{All-take}
-use Rattle.commands.specs.DiffTexts.{diff_text, goods_rows}
-use Rattle.commands.specs.ComparisonTexts.{difference_text, side_text}
-use Rattle.commands.specs.ExplanationTexts.{explanation_text, reason_cells}
-use Rattle.commands.specs.FaultHints.{hint_of_kind}
-use Rattle.commands.specs.FaultPlaceTexts.{before_word, behind_word, shown_bytes}
-use Rattle.commands.specs.KindNames.{name_of_kind}
-use Rattle.commands.specs.Outputs.{bundle_text, number_cell, price_cell}
-use Rattle.commands.specs.Outcomes.{Outcome, Prints, diff_outcome, outcome_of_difference, outcome_of_verdict, outcome_unless, text_unless_refused}
-use Rattle.commands.specs.ValueTexts.{value_text}
-use Rattle.bid_file.specs.Files.{PlainBid, PlainFile}
-use Rattle.canon.specs.Difference.{Difference, NoDifference}
-use Rattle.canon.specs.declared.verdict.Side.{Side}
-use Rattle.canon.specs.declared.verdict.Side.TheVariants.{Exactly}
-use Rattle.cats_text.specs.FaultPlaces.{PlainPlace}
-use Rattle.cats_text.specs.Layout.{behind_point, bids_text, digit_at, places_text, six_digits, with_place, without_zeros}
-use Rattle.cats_text.specs.declared.read_fault.Kind.{Kind}
+use Rattle.cats_cmd.proofs.Common.{◌≡◌, ℕ, suc, ◌+◌, ◌/◌, ◌%◌, ◌<◌, ◌≤◌, ◌&&◌, Bool, true, false, List, [], ◌∷◌, ◌++◌, cond, arith, refl, Ok, Err, Result}
+use Rattle.cats_cmd.proofs.Common.{subst, nat_le, unwrap_or, list_all, and_parts, leb-true, nat_tests, All-take, diff_text, goods_rows, difference_text}
+use Rattle.cats_cmd.proofs.Common.{side_text, explanation_text, reason_cells, hint_of_kind, before_word, behind_word, shown_bytes, name_of_kind, bundle_text}
+use Rattle.cats_cmd.proofs.Common.{number_cell, price_cell, Outcome, Prints, diff_outcome, outcome_of_difference, outcome_of_verdict, outcome_unless}
+use Rattle.cats_cmd.proofs.Common.{text_unless_refused, value_text, PlainBid, PlainFile, Difference, NoDifference, Side, Exactly, PlainPlace, behind_point}
+use Rattle.cats_cmd.proofs.Common.{bids_text, digit_at, places_text, six_digits, with_place, without_zeros, Kind, PlainDifferences, PlainReason, Zero}
+use Rattle.cats_cmd.proofs.Common.{allocation_text, AllocationVerdict, Revenue, PlainRow, if_none, AreBytes, escaped, text_of_place, outcome_for, PlainCommand}
+use Rattle.cats_cmd.proofs.Common.{Check}
+use Rattle.std.proofs.Common.{append_assoc}
+use Rattle.std.specs.Prelude.{codes, decimal, Option, Some, None}
 use Rattle.cats_text.specs.declared.read_fault.Kind.TheVariants as kinds
-use Rattle.analysis.specs.Differences.{PlainDifferences}
-use Rattle.analysis.specs.Reasons.{PlainReason, Zero}
-use Rattle.analysis.specs.AllocationVerdicts.{allocation_text}
-use Rattle.analysis.specs.declared.winners.allocation_verdict.AllocationVerdict.{AllocationVerdict}
-use Rattle.analysis.specs.declared.winners.allocation_verdict.AllocationVerdict.TheVariants.{Revenue}
-use Rattle.analysis.specs.LpTexts.{PlainRow, if_none}
-use Rattle.cats_cmd.specs.Escaping.{AreBytes, escaped}
-use Rattle.cats_cmd.specs.FindingFaults.{text_of_place}
-use Rattle.cats_cmd.specs.Requests.{outcome_for}
-use Rattle.command_line.specs.PlainRequests.{PlainCommand, Check}
 use Rattle.cats_cmd.proofs.PrintableTexts.{bytes_from, of_each}
 use Rattle.cats_cmd.proofs.ShownTexts.{Ours, Shown, is_ours, number_ours, ours, path_shown, then}
 

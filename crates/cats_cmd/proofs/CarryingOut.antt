@@ -1,18 +1,7 @@
 -- A request is carried out by its one run, on the streams that were opened at its paths: what the run's contract says, at the run's
 -- arguments, is what the request needs.
-use Rattle.std.proofs.Common.{◌≡◌, ℕ, Bool, List, Option, Result, Ok, Err}
-use Rattle.bid_file.specs.Files.{PlainFile}
-use Rattle.cats_text.specs.declared.stream.Watched.{Watched}
-use Rattle.command_line.specs.PlainRequests.{PlainRequest}
-use Rattle.command_line.specs.declared.request.Prices.{Prices}
-use Rattle.commands.specs.Outcomes.{Outcome}
-use Rattle.commands.specs.declared.faults.RunFault.{RunFault}
-use Rattle.cats_cmd.specs.Inputs.{IsOpened}
-use Rattle.cats_cmd.specs.Internal.Carrying.{RunsAtOrNot, answer_of_run}
-use Rattle.cats_cmd.specs.PricedInputs.{IsPriced, fine_prices}
-use Rattle.cats_cmd.specs.Requests.{CarriesOut, RunsAt, RunsFor}
-use Rattle.cats_cmd.specs.declared.priced_input.PricedInput.{PricedInput}
-use Rattle.cats_cmd.specs.declared.source.Unopened.{Unopened}
+use Rattle.cats_cmd.proofs.Common.{◌≡◌, ℕ, Bool, List, Option, Result, Ok, Err, PlainFile, Watched, PlainRequest, Prices, Outcome, RunFault, IsOpened}
+use Rattle.cats_cmd.proofs.Common.{RunsAtOrNot, answer_of_run, IsPriced, fine_prices, CarriesOut, RunsAt, RunsFor, PricedInput, Unopened}
 
 -- the input of the stream that was opened
 pub is_priced : {F : Type 0} (may_open : List ℕ → F → Type 0) (path : List ℕ) (prices : Prices) (stream : Watched F) (input : PricedInput F)

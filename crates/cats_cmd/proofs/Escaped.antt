@@ -1,15 +1,8 @@
 -- A path that is printed on a line by runs of characters that are not escaped.
-use Rattle.std.proofs.Common.{◌≡◌, ℕ, zero, suc, ◌+◌, ◌-◌, ◌≤◌, ◌<◌, ◌==◌, ◌&&◌, Bool, true, false, List, [], ◌∷◌, ◌++◌, length, take, drop, refl}
-use Rattle.std.proofs.Common.{sym, ap, ap₂, not, subst, ⊎_elim, ◌∙◌, arith, eqb, length-append, length-drop}
-use Rattle.std.specs.Char.{encode_utf8}
-use Rattle.std.specs.List.{starts_with}
-use Rattle.std.specs.Str.{all_scalars}
-use Rattle.std.proofs.Math.Seq.{take-add, take-append_seam}
-use Rattle.std.proofs.lemmas.Bool.{not-true, and_parts, both_ways, cases_Bool, eqb-true, ne_eqb}
-use Rattle.std.proofs.lemmas.Bool.Decides.{Decides-eqb, nat_tests}
-use Rattle.std.proofs.lemmas.List.{append_assoc, drop-drop, take_all}
-use Rattle.std.proofs.lemmas.Slice.Eq.{starts_is}
-use Rattle.cats_cmd.specs.Escaping.{code_at, escaped, escaped_behind, escaped_byte, is_plain, is_printable, plain_length}
+use Rattle.cats_cmd.proofs.Common.{◌≡◌, ℕ, zero, suc, ◌+◌, ◌-◌, ◌≤◌, ◌<◌, ◌==◌, ◌&&◌, Bool, true, false, List, [], ◌∷◌, ◌++◌, length, take, drop, refl, sym, ap}
+use Rattle.cats_cmd.proofs.Common.{ap₂, not, subst, ⊎_elim, ◌∙◌, arith, eqb, length-append, length-drop, encode_utf8, starts_with, all_scalars, take-add}
+use Rattle.cats_cmd.proofs.Common.{take-append_seam, not-true, and_parts, both_ways, cases_Bool, eqb-true, ne_eqb, Decides-eqb, nat_tests, append_assoc}
+use Rattle.cats_cmd.proofs.Common.{drop-drop, take_all, starts_is, code_at, escaped, escaped_behind, escaped_byte, is_plain, is_printable, plain_length}
 
 pub record Plainly (c : ℕ) : Type 0 where
   pub scalar : all_scalars (c ∷ []) ≡ true

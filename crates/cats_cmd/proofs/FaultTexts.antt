@@ -1,26 +1,13 @@
 -- What is reported of a fault is a line of printable ASCII.
-use Rattle.std.proofs.Common.{not, ◌≡◌, ℕ, ◌-◌, ◌<◌, ◌==◌, true, List, [], ◌∷◌, ◌++◌, length, take, refl, sym, ap, ◌∙◌, arith}
+use Rattle.cats_cmd.proofs.Common.{not, ◌≡◌, ℕ, ◌-◌, ◌<◌, ◌==◌, true, List, [], ◌∷◌, ◌++◌, length, take, refl, sym, ap, ◌∙◌, arith, list_all, take-append_seam}
+use Rattle.cats_cmd.proofs.Common.{nat_tests, append_assoc, line_of_fault, prefix_of, text_of_canon_fault, text_of_heavy_bid, text_of_kind, total_text}
+use Rattle.cats_cmd.proofs.Common.{HeavyBid, bundle_text, number_cell, RunFault, Refused, TooHeavy, GoodRange, BidRange, Sent, CanonFault, Read, StepLimit}
+use Rattle.cats_cmd.proofs.Common.{Memory, Which, Kind, line_of_request_error, line_of_unopened, fault_cell, without_end, RequestError, CannotOpen, NotOpened}
+use Rattle.cats_cmd.proofs.Common.{Run, Unopened}
 use Rattle.std.specs.Prelude.{codes, decimal, Option, Some, None}
-use Rattle.std.specs.List.{list_all}
-use Rattle.std.proofs.Math.Seq.{take-append_seam}
-use Rattle.std.proofs.lemmas.Bool.Decides.{nat_tests}
-use Rattle.std.proofs.lemmas.List.{append_assoc, length-append}
-use Rattle.commands.specs.FaultLines.{line_of_fault, prefix_of, text_of_canon_fault, text_of_heavy_bid, text_of_kind, total_text}
-use Rattle.commands.specs.declared.faults.HeavyBid.{HeavyBid}
-use Rattle.commands.specs.Outputs.{bundle_text, number_cell}
-use Rattle.commands.specs.declared.faults.RunFault.{RunFault}
-use Rattle.commands.specs.declared.faults.RunFault.TheVariants.{Refused, TooHeavy, GoodRange, BidRange, Sent}
-use Rattle.canon.specs.declared.canon_fault.CanonFault.{CanonFault}
-use Rattle.canon.specs.declared.canon_fault.CanonFault.TheVariants.{Read, StepLimit, Memory}
-use Rattle.canon.specs.declared.which.Which.{Which}
+use Rattle.std.proofs.lemmas.List.{length-append}
 use Rattle.canon.specs.declared.which.Which.TheVariants as which
-use Rattle.cats_text.specs.declared.read_fault.Kind.{Kind}
 use Rattle.cats_text.specs.declared.read_fault.Kind.TheVariants as kinds
-use Rattle.cats_cmd.specs.RequestErrors.{line_of_request_error, line_of_unopened}
-use Rattle.cats_cmd.specs.SizesTables.{fault_cell, without_end}
-use Rattle.cats_cmd.specs.declared.errors.RequestError.{RequestError}
-use Rattle.cats_cmd.specs.declared.errors.RequestError.TheVariants.{CannotOpen, NotOpened, Run}
-use Rattle.cats_cmd.specs.declared.source.Unopened.{Unopened}
 use Rattle.cats_cmd.specs.declared.source.Unopened.TheVariants as unopened
 use Rattle.cats_cmd.proofs.PrintableTexts.{lacks, list_all-weaker, is_ascii, list_all-decimal, of_each}
 

@@ -1,19 +1,10 @@
 -- The files at paths: each path adds its own behind those of the paths before it.
-use Rattle.std.proofs.Common.{◌≡◌, inl, inr, ℕ, ◌+◌, ◌<◌, length, get_or, take, List, [], ◌∷◌, ◌++◌, map, refl, sym, ap, ◌∙◌, subst, Option, Some}
-use Rattle.std.proofs.Common.{None, Result, Ok, Err, Vec, append-nil}
-use Rattle.std.specs.Borrow.{Bor}
-use Rattle.std.specs.Global.{Global}
-use Rattle.std.specs.Prelude.{IfOk}
-use Rattle.std.specs.declared.alloc.AllocError.{AllocError}
-use Rattle.std.specs.List.{flat_map}
-use Rattle.std.specs.Str.{IsUtf8, is_utf8}
-use Rattle.std.proofs.lemmas.Bool.{false_from_ne_true}
-use Rattle.std.proofs.lemmas.List.{map-append, map_push}
-use Rattle.std.proofs.lemmas.List.Elements.{All-nil, All-push}
-use Rattle.std.proofs.lemmas.Grind.{flat_map-append}
-use Rattle.std.proofs.lemmas.Str.{IsUtf8-from_is_utf8, is_utf8-from_IsUtf8}
+use Rattle.cats_cmd.proofs.Common.{◌≡◌, inl, inr, ℕ, ◌+◌, ◌<◌, length, get_or, take, List, [], ◌∷◌, ◌++◌, map, refl, sym, ap, ◌∙◌, subst, Option, Some, None}
+use Rattle.cats_cmd.proofs.Common.{Result, Ok, Err, append-nil, Bor, Global, IfOk, AllocError, flat_map, IsUtf8, is_utf8, false_from_ne_true, map-append}
+use Rattle.cats_cmd.proofs.Common.{map_push, All-nil, All-push, flat_map-append, IsUtf8-from_is_utf8, is_utf8-from_IsUtf8, Finds, FindsAt, FoundAt, AreFilesAt}
+use Rattle.cats_cmd.proofs.Common.{files_at, files_of, found_of, paths_of}
+use Rattle.std.proofs.Common.{Vec}
 use Rattle.cats_cmd.proofs.JudgingPaths.{one_more_path}
-use Rattle.cats_cmd.specs.Folders.{Finds, FindsAt, FoundAt, AreFilesAt, files_at, files_of, found_of, paths_of}
 
 module _ (may_find : List ℕ → Option (List (List ℕ)) → Type 0) where
   -- what is found at a path that is text

@@ -1,21 +1,10 @@
 -- The groups of `cats duplicates`: one more file has its number behind the others, among those that were judged or among those that a step
 -- limit refused.
-use Rattle.std.proofs.Common.{◌≡◌, ℕ, All, ◌<◌, List, [], ◌∷◌, ◌++◌, length, ap, ◌∙◌, subst, append-nil}
-use Rattle.std.specs.Global.{Global}
-use Rattle.std.specs.Prelude.{Vec}
-use Rattle.std.specs.List.{AllByRecursion, AllZip, flat_map}
-use Rattle.std.proofs.lemmas.Grind.{flat_map-append}
-use Rattle.std.proofs.lemmas.List.{length-map, map-append}
-use Rattle.std.proofs.lemmas.Slice.Zip.{AllZip-long}
-use Rattle.std.proofs.lemmas.List.Elements.{All-from_recursion}
-use Rattle.std.proofs.lemmas.Option.{slice_get_within}
-use Rattle.bid_file.specs.Files.{PlainFile, IsPlainFile}
-use Rattle.canon.specs.FirstNumbers.{AddsText, IsFirstNumber, TextIndex}
-use Rattle.canon.proofs.TwoFiles.Indexing.{TellsRelated, first_number_stays, index_of_more, number_of_more}
-use Rattle.commands.proofs.JudgingTexts.{zip_push}
-use Rattle.cats_cmd.specs.DuplicateTexts.{found_paths}
-use Rattle.cats_cmd.specs.Internal.Judging.{KeepsNumbers}
-use Rattle.cats_cmd.specs.Paths.{Judgement}
+use Rattle.cats_cmd.proofs.Common.{◌≡◌, ℕ, ◌<◌, List, [], ◌∷◌, ◌++◌, length, ap, ◌∙◌, subst, append-nil, Global, Vec, AllByRecursion, AllZip, flat_map}
+use Rattle.cats_cmd.proofs.Common.{flat_map-append, length-map, map-append, AllZip-long, All-from_recursion, slice_get_within, PlainFile, IsPlainFile, AddsText}
+use Rattle.cats_cmd.proofs.Common.{IsFirstNumber, TextIndex, TellsRelated, first_number_stays, index_of_more, number_of_more, zip_push, found_paths}
+use Rattle.cats_cmd.proofs.Common.{KeepsNumbers, Judgement}
+use Rattle.std.proofs.Common.{All}
 
 -- files, of which those are related that have one text
 module _ (text_of : PlainFile → List ℕ) (Related : PlainFile → PlainFile → Type 0) where

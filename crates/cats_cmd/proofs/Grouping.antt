@@ -1,25 +1,16 @@
 -- The paths of the files for each number: each is put after those of its number. And the text of the groups: a group that is printed has
 -- lines, so the next group comes after an empty line.
-use Rattle.std.proofs.Common.{append_assoc, fold, length-append, ◌≡◌, ℕ, zero, suc, ◌+◌, ◌<◌, ◌==◌, Bool, true, false, cond, ⊎_elim, List, [], ◌∷◌}
-use Rattle.std.proofs.Common.{◌++◌, length, map, get_or, set, take, replicate, Global, refl, sym, ap, ap₂, ◌∙◌, arith, append-nil, zero-add}
-use Rattle.std.specs.Borrow.{Bor}
-use Rattle.std.specs.Prelude.{Vec, filter}
-use Rattle.std.specs.List.{list_all, range_with_len}
-use Rattle.std.proofs.lemmas.Bool.{and_parts, cases_Bool, cases_eq, ne_eqb, eq-eqb}
-use Rattle.std.proofs.lemmas.List.{length-set, get_or-set_same, get_or-set_other, length-map, get_or-map, map-set, map-append, take_more}
+use Rattle.cats_cmd.proofs.Common.{fold, length-append, ◌≡◌, ℕ, zero, suc, ◌+◌, ◌<◌, ◌==◌, Bool, true, false, cond, ⊎_elim, List, [], ◌∷◌, ◌++◌, length, map}
+use Rattle.cats_cmd.proofs.Common.{get_or, set, take, replicate, refl, sym, ap, ap₂, ◌∙◌, arith, append-nil, zero-add, Bor, Vec, filter, list_all}
+use Rattle.cats_cmd.proofs.Common.{range_with_len, and_parts, cases_Bool, cases_eq, ne_eqb, eq-eqb, length-set, get_or-set_same, get_or-set_other, length-map}
+use Rattle.cats_cmd.proofs.Common.{get_or-map, map-set, map-append, take_more, filter_more, filter_passes, fill_by_all, length-map-range_with_len}
+use Rattle.cats_cmd.proofs.Common.{get_or-map-range_with_len, after_empty_lines, behind, duplicates_text, groups_of, groups_text, is_printed, lines_of}
+use Rattle.cats_cmd.proofs.Common.{paths_at, plain_group, plain_groups, printed_groups, with_group, end_of, has_lines, nat_tests, list_all-append, Ending, Line}
+use Rattle.cats_cmd.proofs.Common.{Null, fold_push, list_all-from_AllPass}
+use Rattle.std.proofs.Common.{append_assoc}
+use Rattle.std.proofs.Common.{Global}
 use Rattle.std.proofs.lemmas.List.Concat.{flat_map-append}
-use Rattle.std.proofs.lemmas.List.Elements.{filter_more, filter_passes}
-use Rattle.std.proofs.lemmas.List.FromFn.{fill_by_all, length-map-range_with_len, get_or-map-range_with_len}
-use Rattle.cats_cmd.specs.DuplicateTexts.{after_empty_lines, behind, duplicates_text, groups_of, groups_text, is_printed, lines_of, paths_at, plain_group}
-use Rattle.cats_cmd.specs.DuplicateTexts.{plain_groups, printed_groups, with_group}
-use Rattle.cats_cmd.specs.Escaping.{end_of}
-use Rattle.cats_cmd.specs.OutputPaths.{has_lines}
 use Rattle.cats_cmd.proofs.PrintableTexts.{list_all-weaker}
-use Rattle.std.proofs.lemmas.Bool.Decides.{nat_tests}
-use Rattle.std.proofs.lemmas.List.Folds.{list_all-append}
-use Rattle.cats_cmd.specs.declared.paths.Ending.{Ending}
-use Rattle.cats_cmd.specs.declared.paths.Ending.TheVariants.{Line, Null}
-use Rattle.std.proofs.lemmas.List.Sums.{fold_push, list_all-from_AllPass}
 
 abbrev Found : Type 0
 Found = List ℕ × ℕ

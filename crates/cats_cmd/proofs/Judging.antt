@@ -1,45 +1,16 @@
 -- The file at one path: what reading its input says of it, in the words of the run.
-use Rattle.std.proofs.Common.{◌≡◌, ℕ, List, [], ◌∷◌, ◌++◌, Option, None, Some, refl, ap, ap₂, subst, inl, inr}
-use Rattle.std.specs.Global.{Global}
-use Rattle.std.specs.Prelude.{Vec}
-use Rattle.bid_file.specs.Files.{PlainFile, IsPlainFile}
-use Rattle.command_line.specs.declared.request.Prices.{Prices}
-use Rattle.valuation.specs.declared.search.options.SearchOptions.{SearchOptions}
-use Rattle.cats_text.specs.Faults.{fault_at}
-use Rattle.cats_text.specs.declared.read_fault.Kind.{Kind}
+use Rattle.cats_cmd.proofs.Common.{◌≡◌, ℕ, List, [], ◌∷◌, ◌++◌, Option, None, Some, refl, ap, ap₂, subst, inl, inr, Global, Vec, PlainFile, IsPlainFile, Prices}
+use Rattle.cats_cmd.proofs.Common.{SearchOptions, fault_at, Kind, ReadFault, or_atoms_of, first_refused, RefusesAs, canonical_text, AddsText, IsText, IsNoFile}
+use Rattle.cats_cmd.proofs.Common.{normalised_file, unless_refused, refusal_by_kind, refusal_of, CanonFault, Read, StepLimit, Memory, Only, text_within_limit}
+use Rattle.cats_cmd.proofs.Common.{no_fault_made, refused_bundle, heavy_bid, found_paths, HeavyBid, with_bid, exceeds_at, first_bid_on, text_unless_refused}
+use Rattle.cats_cmd.proofs.Common.{IsPriced, PricedGives, PricedRefuses, AddsJudgement, AddsOpened, AddsRefused, KeepsGroups, Judgement, IsHeavy, IsJudged}
+use Rattle.cats_cmd.proofs.Common.{IsUnjudged, JudgesAs, JudgesInput, CannotOpen, NotOpened, Run, PricedInput, Refused, files_if_heavy, files_if_judged}
+use Rattle.cats_cmd.proofs.Common.{heavy_files, heavy_paths, judged_files, judged_paths, paths_if_heavy, paths_if_judged, Groups, AreSameFiles, AreAlike}
+use Rattle.cats_cmd.proofs.Common.{unsearched_text, unsearched_texts_tell, canonical_texts_tell, Unopened}
 use Rattle.cats_text.specs.declared.read_fault.Kind.TheVariants.{Memory as NoMemory}
-use Rattle.cats_text.specs.declared.read_fault.ReadFault.{ReadFault}
-use Rattle.valuation.specs.Auctions.{or_atoms_of}
-use Rattle.prune.specs.SearchSteps.{first_refused}
-use Rattle.canon.specs.Answers.{RefusesAs}
-use Rattle.canon.specs.Canonical.{canonical_text}
-use Rattle.canon.specs.FirstNumbers.{AddsText}
-use Rattle.canon.specs.Normalising.{IsText, ExceedsSteps as Exceeds, IsNoFile, normalised_file, unless_refused}
-use Rattle.canon.specs.Refusals.{refusal_by_kind, refusal_of}
-use Rattle.canon.specs.declared.canon_fault.CanonFault.{CanonFault}
-use Rattle.canon.specs.declared.canon_fault.CanonFault.TheVariants.{Read, StepLimit, Memory}
-use Rattle.canon.specs.declared.which.Which.TheVariants.{Only}
-use Rattle.commands.proofs.JudgingTexts.{text_within_limit, no_fault_made, refused_bundle}
-use Rattle.commands.proofs.Sizing.{heavy_bid}
-use Rattle.cats_cmd.specs.DuplicateTexts.{found_paths}
-use Rattle.commands.specs.declared.faults.HeavyBid.{HeavyBid}
-use Rattle.commands.specs.Naming.{with_bid}
-use Rattle.commands.specs.Outcomes.{exceeds_at, first_bid_on, text_unless_refused}
-use Rattle.cats_cmd.specs.PricedInputs.{IsPriced, PricedGives, PricedRefuses}
-use Rattle.cats_cmd.specs.Internal.Judging.{AddsJudgement, AddsOpened, AddsRefused, KeepsGroups}
-use Rattle.cats_cmd.specs.Paths.{Judgement, IsHeavy, IsJudged, IsUnjudged, JudgesAs, JudgesInput}
+use Rattle.canon.specs.Normalising.{ExceedsSteps as Exceeds}
 use Rattle.cats_cmd.proofs.Skipping.{groups_skip}
-use Rattle.cats_cmd.specs.declared.errors.RequestError.TheVariants.{CannotOpen, NotOpened, Run}
-use Rattle.cats_cmd.specs.declared.priced_input.PricedInput.{PricedInput}
-use Rattle.commands.specs.declared.faults.RunFault.TheVariants.{Refused}
 use Rattle.cats_cmd.proofs.FindingNumbers.{judgement_more, judgement_skipped, numbers_more}
-use Rattle.cats_cmd.specs.Duplicates.{files_if_heavy, files_if_judged, heavy_files, heavy_paths, judged_files, judged_paths, paths_if_heavy, paths_if_judged}
-use Rattle.cats_cmd.specs.declared.duplicates.Groups.{Groups}
-use Rattle.canon.specs.Sameness.{AreSameFiles}
-use Rattle.canon.specs.Unsearched.{AreAlike, unsearched_text}
-use Rattle.canon.proofs.TwoFiles.Alike.{unsearched_texts_tell}
-use Rattle.canon.proofs.TwoFiles.Indexing.{canonical_texts_tell}
-use Rattle.cats_cmd.specs.declared.source.Unopened.{Unopened}
 
 -- ---- one input
 

@@ -1,23 +1,10 @@
 -- One more path, whose file was judged: what became of the files before it stays, and the path adds its judgement, how many of its prices
 -- were rounded, a status that may be the greatest, and its lines.
-use Rattle.std.proofs.Common.{◌≡◌, ℕ, suc, ◌+◌, ◌<◌, max, List, [], ◌∷◌, ◌++◌, length, map, get_or, take, refl, sym}
-use Rattle.std.proofs.Common.{ap, ◌∙◌, subst, arith, append-nil, Option, Result, Ok, Err}
-use Rattle.std.specs.Prelude.{IsErr}
-use Rattle.std.specs.Borrow.{Bor}
-use Rattle.std.specs.List.{AllByRecursion, flat_map}
-use Rattle.std.specs.declared.alloc.AllocError.{AllocError}
-use Rattle.std.proofs.lemmas.List.{map-append, take_more, append_assoc, length-map, length-take-le, take-map}
-use Rattle.std.proofs.lemmas.List.Sums.{fold_push}
-use Rattle.cats_text.specs.declared.stream.Watched.{Watched}
-use Rattle.command_line.specs.declared.request.Prices.{Prices}
-use Rattle.valuation.specs.declared.search.options.SearchOptions.{SearchOptions}
-use Rattle.cats_cmd.specs.Internal.Judging.{AddsPath, HasJudged, JudgesAllAs}
-use Rattle.cats_cmd.specs.Paths.{JudgedPath, Judgement, Judges, Reporting, greatest_status, judgement_at, lines_from, lines_of_path}
-use Rattle.cats_cmd.specs.Paths.{report_lines, status_of_judgement, without_refusals}
-use Rattle.cats_cmd.specs.PricedInputs.{rounding_lines}
-use Rattle.cats_cmd.specs.declared.paths.Progress.TheVariants.{Silent}
-use Rattle.cats_cmd.specs.RequestErrors.{ReportsAll}
-use Rattle.cats_cmd.specs.declared.source.Unopened.{Unopened}
+use Rattle.cats_cmd.proofs.Common.{◌≡◌, ℕ, suc, ◌+◌, ◌<◌, max, List, [], ◌∷◌, ◌++◌, length, map, get_or, take, refl, sym, ap, ◌∙◌, subst, arith, append-nil}
+use Rattle.cats_cmd.proofs.Common.{Option, Result, Ok, Err, IsErr, Bor, AllByRecursion, flat_map, AllocError, map-append, take_more, append_assoc, length-map}
+use Rattle.cats_cmd.proofs.Common.{length-take-le, take-map, fold_push, Watched, Prices, SearchOptions, AddsPath, HasJudged, JudgesAllAs, JudgedPath, Judgement}
+use Rattle.cats_cmd.proofs.Common.{Judges, Reporting, greatest_status, judgement_at, lines_from, lines_of_path, report_lines, status_of_judgement}
+use Rattle.cats_cmd.proofs.Common.{without_refusals, rounding_lines, Silent, ReportsAll, Unopened}
 
 pub all_push : {X : Type 0} (P : X → Type 0) (xs : List X) (x : X) → AllByRecursion P xs → P x → AllByRecursion P (xs ++ x ∷ [])
 all_push P [] x h p = (p, tt)

@@ -24,4 +24,5 @@ mod FindingNumbers
 mod Tabling
 mod RunsOfLists
 mod RunsOfPaths
+pub mod Common
 pub mod Sending

@@ -1,20 +1,9 @@
 -- The parts of a list of paths: what is behind its last NUL is a path only if it is not empty.
-use Rattle.std.proofs.Common.{◌≡◌, ◌≢◌, ℕ, List, [], ◌∷◌, ◌++◌, length, refl, sym, ap, ◌∙◌, subst, arith, map, ◌<◌, true, Bor, Option, Err}
-use Rattle.std.specs.List.{list_all, slice_split}
+use Rattle.cats_cmd.proofs.Common.{◌≡◌, ◌≢◌, ℕ, List, [], ◌∷◌, ◌++◌, length, refl, sym, ap, ◌∙◌, subst, arith, map, ◌<◌, true, Option, Err, list_all}
+use Rattle.cats_cmd.proofs.Common.{slice_split, and_parts, eq-eqb, append_assoc, length-map, map-append, length-slice_split, slice_split_at, Watched, ReadFault}
+use Rattle.cats_cmd.proofs.Common.{refusal_of, Only, IsUnread, IsOpened, ReadsBytes, Run, Refused, ended, parts_in, paths_in, without_empty_end, Unopened}
+use Rattle.std.proofs.Common.{Bor}
 use Rattle.std.specs.Prelude.{◌==◌}
-use Rattle.std.proofs.lemmas.Bool.{and_parts, eq-eqb}
-use Rattle.std.proofs.lemmas.List.{append_assoc, length-map, map-append}
-use Rattle.std.proofs.lemmas.List.Splits.{length-slice_split, slice_split_at}
-use Rattle.cats_text.specs.declared.stream.Watched.{Watched}
-use Rattle.cats_text.specs.declared.read_fault.ReadFault.{ReadFault}
-use Rattle.canon.specs.Refusals.{refusal_of}
-use Rattle.canon.specs.declared.which.Which.TheVariants.{Only}
-use Rattle.cats_cmd.specs.FileLists.{IsUnread}
-use Rattle.cats_cmd.specs.Inputs.{IsOpened, ReadsBytes}
-use Rattle.cats_cmd.specs.declared.errors.RequestError.TheVariants.{Run}
-use Rattle.commands.specs.declared.faults.RunFault.TheVariants.{Refused}
-use Rattle.cats_cmd.specs.PathLists.{ended, parts_in, paths_in, without_empty_end}
-use Rattle.cats_cmd.specs.declared.source.Unopened.{Unopened}
 use Rattle.cats_cmd.proofs.PrintableTexts.{lacks, none_passes}
 use Rattle.cats_cmd.proofs.ReadingBytes.{unread_stream}
 

@@ -1,15 +1,8 @@
 -- Paths that were opened, and more of them behind these.
-use Rattle.std.proofs.Common.{◌≡◌, ℕ, ◌+◌, ◌<◌, List, [], ◌∷◌, ◌++◌, length, map, get_or, take, refl, sym, ap, ◌∙◌}
-use Rattle.std.proofs.Common.{append-nil, Option, Some, None, Result, Ok, Err, Bor}
-use Rattle.std.specs.Prelude.{IsErr}
-use Rattle.std.specs.Str.{IsUtf8, is_utf8}
-use Rattle.std.specs.declared.alloc.AllocError.{AllocError}
-use Rattle.std.proofs.lemmas.List.{append_assoc, take-map}
-use Rattle.std.proofs.lemmas.List.Elements.{filter-append}
-use Rattle.std.proofs.lemmas.Bool.{false_from_ne_true}
-use Rattle.std.proofs.lemmas.Str.{IsUtf8-from_is_utf8}
-use Rattle.cats_cmd.specs.Internal.Judging.{OpensAllAs}
-use Rattle.cats_cmd.specs.Opening.{Opens, openable, with_paths}
+use Rattle.cats_cmd.proofs.Common.{◌≡◌, ℕ, ◌+◌, ◌<◌, List, [], ◌∷◌, ◌++◌, length, map, get_or, take, refl, sym, ap, ◌∙◌, append-nil, Option, Some, None, Result}
+use Rattle.cats_cmd.proofs.Common.{Ok, Err, IsErr, IsUtf8, is_utf8, AllocError, append_assoc, take-map, filter-append, false_from_ne_true, IsUtf8-from_is_utf8}
+use Rattle.cats_cmd.proofs.Common.{OpensAllAs, Opens, openable, with_paths}
+use Rattle.std.proofs.Common.{Bor}
 use Rattle.cats_cmd.proofs.JudgingPaths.{one_more_path}
 
 with_more : (known : Option (List (List ℕ))) (paths more : List (List ℕ)) → with_paths (with_paths known paths) more ≡ with_paths known (paths ++ more)

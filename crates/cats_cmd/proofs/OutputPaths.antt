@@ -1,24 +1,12 @@
 -- The paths are read back from the whole output. A text is its lines with a byte behind each, which no line has: a printed path has no
 -- control byte, or, with NUL at its end, no NUL. The lines of groups are cut at the empty ones, and the rows of a table behind nine tabs.
-use Rattle.std.proofs.Common.{◌≡◌, ℕ, suc, ◌<◌, ◌==◌, ◌&&◌, Bool, true, false, List, [], ◌∷◌, ◌++◌, length, map, refl, sym, ap, ap₂, ◌∙◌, not, ltb}
-use Rattle.std.proofs.Common.{arith, append-nil}
-use Rattle.std.specs.Prelude.{codes, filter, drop}
-use Rattle.std.specs.List.{All, flat_map, list_all, slice_split}
-use Rattle.std.proofs.lemmas.Bool.{and_from, and_parts, lt-ltb, ltb-true, ne_eqb, not-true, not_from_false}
-use Rattle.std.proofs.lemmas.Bool.Decides.{nat_tests}
-use Rattle.std.proofs.lemmas.Grind.{flat_map-append}
-use Rattle.std.proofs.lemmas.List.{append_assoc, length-map}
-use Rattle.std.proofs.lemmas.List.Folds.{list_all-map}
-use Rattle.std.proofs.lemmas.List.Splits.{slice_split_at, slice_split_none}
-use Rattle.cats_cmd.specs.DuplicateTexts.{after_empty_lines, duplicates_text, groups_text, lines_of, printed_groups}
-use Rattle.cats_cmd.specs.Escaping.{end_of, escaped, path_text}
-use Rattle.cats_cmd.specs.OutputPaths.{IsPath, behind_tabs, end_byte, groups_in, has_lines, is_empty, paths_in_table, read_path}
-use Rattle.cats_cmd.specs.PathLists.{ended, parts_in}
-use Rattle.cats_cmd.specs.Paths.{Judgement}
-use Rattle.commands.specs.SizesRows.{cells}
-use Rattle.cats_cmd.specs.SizesTables.{MakesTable, columns, rows_of_table, sizes_header}
-use Rattle.cats_cmd.specs.declared.paths.Ending.{Ending}
-use Rattle.cats_cmd.specs.declared.paths.Ending.TheVariants.{Line, Null}
+use Rattle.cats_cmd.proofs.Common.{◌≡◌, ℕ, suc, ◌<◌, ◌==◌, ◌&&◌, Bool, true, false, List, [], ◌∷◌, ◌++◌, length, map, refl, sym, ap, ap₂, ◌∙◌, not, ltb, arith}
+use Rattle.cats_cmd.proofs.Common.{append-nil, filter, All, flat_map, list_all, slice_split, and_from, and_parts, lt-ltb, ltb-true, ne_eqb, not-true}
+use Rattle.cats_cmd.proofs.Common.{not_from_false, nat_tests, flat_map-append, append_assoc, length-map, list_all-map, slice_split_at, slice_split_none}
+use Rattle.cats_cmd.proofs.Common.{after_empty_lines, duplicates_text, groups_text, lines_of, printed_groups, end_of, escaped, path_text, IsPath, behind_tabs}
+use Rattle.cats_cmd.proofs.Common.{end_byte, groups_in, has_lines, is_empty, paths_in_table, read_path, ended, parts_in, Judgement, cells, MakesTable, columns}
+use Rattle.cats_cmd.proofs.Common.{rows_of_table, sizes_header, Ending, Line, Null}
+use Rattle.std.specs.Prelude.{codes, drop}
 use Rattle.cats_cmd.proofs.FaultTexts.{fault_plain, number_plain, plain_lacks}
 use Rattle.cats_cmd.proofs.Grouping.{printed_have_paths}
 use Rattle.cats_cmd.proofs.ListingPaths.{parts_back}

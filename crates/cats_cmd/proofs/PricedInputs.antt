@@ -1,16 +1,8 @@
 -- Memory that is refused in reading a text whose prices were rounded is on no line. No price of a file is rounded whose prices are read as
 -- they are written.
-use Rattle.std.proofs.Common.{◌≡◌, ◌⊎◌, ℕ, List, Option, Some, None, ap, subst, ⊎_elim}
-use Rattle.std.specs.Prelude.{IfSome}
-use Rattle.bid_file.specs.Files.{PlainFile}
-use Rattle.cats_text.proofs.Texts.FaultKinds.{IsFaultOfBytes, first_fault-of_bytes}
-use Rattle.cats_text.specs.Faults.{first_fault}
-use Rattle.cats_text.specs.Reading.{WantsMemory}
+use Rattle.cats_cmd.proofs.Common.{◌≡◌, ◌⊎◌, ℕ, List, Option, Some, None, ap, subst, ⊎_elim, IfSome, PlainFile, IsFaultOfBytes, first_fault-of_bytes}
+use Rattle.cats_cmd.proofs.Common.{first_fault, WantsMemory, ReadFault, FinePrices, PricedGives, gives_by, PricedInput}
 use Rattle.cats_text.specs.declared.read_fault.Kind.TheVariants.{Memory}
-use Rattle.cats_text.specs.declared.read_fault.ReadFault.{ReadFault}
-use Rattle.rounding.specs.declared.replacement.FinePrices.{FinePrices}
-use Rattle.cats_cmd.specs.PricedInputs.{PricedGives, gives_by}
-use Rattle.cats_cmd.specs.declared.priced_input.PricedInput.{PricedInput}
 
 pub memory_on_no_line : (text : List ℕ) (fault : ReadFault) → (first_fault text ≡ Some fault) ⊎ WantsMemory text fault → fault.kind ≡ Memory
     → fault.line ≡ 0

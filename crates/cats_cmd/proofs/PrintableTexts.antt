@@ -1,19 +1,11 @@
 -- Texts of characters of a kind: ASCII, one text behind another, and a path as it is printed on a line.
-use Rattle.std.proofs.Common.{not, ◌≡◌, ℕ, zero, suc, ◌+◌, ◌/◌, ◌%◌, ◌<◌, ◌==◌, ◌&&◌, ltb, subst, Bool, true, false, cond, List, [], ◌∷◌, ◌++◌, refl}
-use Rattle.std.proofs.Common.{ap₂, ◌∙◌, arith, append-nil}
-use Rattle.std.specs.Prelude.{decimal, filter}
-use Rattle.std.specs.Fmt.{digit_glyph, digits, digits_onto}
-use Rattle.std.specs.Char.{digit_char, encode_utf8}
-use Rattle.std.specs.List.{All, flat_map, list_all}
-use Rattle.std.specs.Str.{all_scalars}
-use Rattle.std.proofs.Math.Utf8.{low_scalar, scalar}
-use Rattle.std.proofs.lemmas.Bool.{and_from, not-true, not_from_false, and_parts, cond_both, lt-ltb, ltb-true}
-use Rattle.std.proofs.lemmas.Bool.Decides.{nat_tests}
-use Rattle.std.proofs.lemmas.List.Elements.{All-weaker, All-append, All-cons, All-nil}
-use Rattle.std.proofs.lemmas.List.Folds.{list_all-append, list_all-map}
-use Rattle.std.proofs.lemmas.List.Sums.{AllPass-from_list_all, list_all-from_AllPass}
-use Rattle.std.proofs.lemmas.Str.{encode_ascii, encodes-append}
-use Rattle.cats_cmd.specs.Escaping.{AreBytes, IsTextOf, escaped, escaped_byte, is_printable}
+use Rattle.cats_cmd.proofs.Common.{not, ◌≡◌, ℕ, zero, suc, ◌+◌, ◌/◌, ◌%◌, ◌<◌, ◌==◌, ◌&&◌, ltb, subst, Bool, true, false, cond, List, [], ◌∷◌, ◌++◌, refl, ap₂}
+use Rattle.cats_cmd.proofs.Common.{◌∙◌, arith, append-nil, filter, digit_glyph, digits_onto, digit_char, encode_utf8, All, flat_map, list_all, all_scalars}
+use Rattle.cats_cmd.proofs.Common.{low_scalar, scalar, and_from, not-true, not_from_false, and_parts, cond_both, lt-ltb, ltb-true, nat_tests, All-weaker}
+use Rattle.cats_cmd.proofs.Common.{All-append, All-cons, All-nil, list_all-append, list_all-map, AllPass-from_list_all, list_all-from_AllPass, encode_ascii}
+use Rattle.cats_cmd.proofs.Common.{encodes-append, AreBytes, IsTextOf, escaped, escaped_byte, is_printable}
+use Rattle.std.specs.Prelude.{decimal}
+use Rattle.std.specs.Fmt.{digits}
 use Rattle.cats_cmd.proofs.Escaped.{escaped_by_parts, plainly}
 
 -- ---- a test of each element, which `simp` computes of a text

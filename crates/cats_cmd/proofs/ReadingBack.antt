@@ -1,17 +1,10 @@
 -- A path as it is printed on a line is read back byte by byte, and has no control byte. The idea: the bytes of a character that is not
 -- escaped are neither control bytes nor backslashes.
-use Rattle.std.proofs.Common.{◌≡◌, ℕ, ◌+◌, ◌*◌, ◌/◌, ◌%◌, ◌<◌, ◌==◌, ◌&&◌, Bool, true, false, List, [], ◌∷◌, ◌++◌, fold, refl, sym, ap, ◌∙◌}
-use Rattle.std.proofs.Common.{arith, append-nil, not, ltb}
-use Rattle.std.specs.Prelude.{nat_lt}
+use Rattle.cats_cmd.proofs.Common.{◌≡◌, ℕ, ◌+◌, ◌*◌, ◌/◌, ◌%◌, ◌<◌, ◌==◌, ◌&&◌, Bool, true, false, List, [], ◌∷◌, ◌++◌, fold, refl, sym, ap, ◌∙◌, arith}
+use Rattle.cats_cmd.proofs.Common.{append-nil, not, ltb, nat_lt, All, list_all, not-true, cond_both, eqb-true, ltb-true, and_parts, nat_tests, append_assoc}
+use Rattle.cats_cmd.proofs.Common.{fold-append, digit_value-digit_char, Plain, Reading, escaped, escaped_byte, hex_escape, is_control_byte, is_plain}
+use Rattle.cats_cmd.proofs.Common.{reads_byte, unescaped}
 use Rattle.std.specs.Char.{encode_utf8}
-use Rattle.std.specs.List.{All, list_all}
-use Rattle.std.proofs.lemmas.Bool.{not-true, cond_both, eqb-true, ltb-true, and_parts}
-use Rattle.std.proofs.lemmas.Bool.Decides.{nat_tests}
-use Rattle.std.proofs.lemmas.List.{append_assoc}
-use Rattle.std.proofs.lemmas.List.Sums.{fold-append}
-use Rattle.std.proofs.lemmas.Str.{digit_value-digit_char}
-use Rattle.cats_cmd.specs.Escaping.{Plain, Reading, escaped, escaped_byte, hex_escape, is_control_byte, is_plain}
-use Rattle.cats_cmd.specs.Escaping.{reads_byte, unescaped}
 use Rattle.cats_cmd.proofs.Escaped.{escaped_by_parts, plainly}
 use Rattle.cats_cmd.proofs.PrintableTexts.{list_all-both, list_all-weaker, none_passes, cond-same, list_all-cond}
 

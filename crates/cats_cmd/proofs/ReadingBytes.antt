@@ -1,19 +1,8 @@
 -- The bytes of a stream: those that came so far, and why they were not all read.
-use Rattle.std.proofs.Common.{◌≡◌, ◌<◌, ◌≤◌, ◌+◌, ℕ, Bool, true, false, ◌||◌, List, [], ◌∷◌, ◌++◌, length, take, refl, sym, ap, ◌∙◌, subst, arith}
-use Rattle.std.proofs.Common.{append-nil, length-append, Option, Ok, inl, inr}
-use Rattle.std.specs.Io.KnownBytes.{Consumes}
-use Rattle.std.proofs.KnownBytes.{Consumes-trans}
-use Rattle.std.proofs.lemmas.Bool.{ne_eqb}
-use Rattle.cats_text.specs.Streams.{inner_of, has_ended, has_failed, moved_nothing}
-use Rattle.cats_text.specs.declared.read_fault.Kind.{Kind}
-use Rattle.cats_text.specs.declared.read_fault.Kind.TheVariants.{Device, TooLong}
-use Rattle.cats_text.specs.declared.read_fault.ReadFault.{ReadFault}
-use Rattle.cats_text.specs.declared.limits.TheConstants.{MAX_STREAM}
-use Rattle.cats_text.specs.declared.stream.Watched.{Watched}
-use Rattle.canon.specs.Refusals.{refusal_by_kind, refusal_of}
-use Rattle.canon.specs.declared.canon_fault.CanonFault.{CanonFault}
-use Rattle.canon.specs.declared.canon_fault.CanonFault.TheVariants.{Read, Memory}
-use Rattle.cats_cmd.specs.Inputs.{IsUnreadStream, StopsReading, WantsMemoryForBytes}
+use Rattle.cats_cmd.proofs.Common.{◌≡◌, ◌<◌, ◌≤◌, ◌+◌, ℕ, Bool, true, false, ◌||◌, List, [], ◌∷◌, ◌++◌, length, take, refl, sym, ap, ◌∙◌, subst, arith}
+use Rattle.cats_cmd.proofs.Common.{append-nil, length-append, Option, Ok, inl, inr, Consumes, Consumes-trans, ne_eqb, inner_of, has_ended, has_failed}
+use Rattle.cats_cmd.proofs.Common.{moved_nothing, Kind, Device, TooLong, ReadFault, MAX_STREAM, Watched, refusal_by_kind, refusal_of, CanonFault, Read, Memory}
+use Rattle.cats_cmd.proofs.Common.{IsUnreadStream, StopsReading, WantsMemoryForBytes}
 
 -- a read that gave nothing
 pub no_more : (a b c : Option (List ℕ)) (bytes piece : List ℕ) (n : ℕ) → n ≡ 0 → Consumes a b bytes → Consumes b c (take n piece) → Consumes a c bytes

@@ -1,17 +1,8 @@
 -- Texts that are reported one after the other.
-use Rattle.std.proofs.Common.{◌≡◌, ℕ, ◌+◌, ◌<◌, true, false, List, [], ◌∷◌, ◌++◌, length, get_or, take, refl, sym, ap, ◌∙◌, inl, inr, ⊎_elim, subst}
-use Rattle.std.proofs.Common.{arith, append-nil, length-append, Option, Result, Ok, Err}
-use Rattle.std.specs.List.{flat_map}
-use Rattle.std.proofs.KnownBytes.{Appends-nil, Appends-trans}
-use Rattle.std.specs.Io.KnownBytes.{Appends}
-use Rattle.std.proofs.Math.Seq.{take-append-add}
-use Rattle.std.proofs.lemmas.Bool.{both_ways, cases_Bool}
-use Rattle.std.proofs.lemmas.Grind.{flat_map-append}
-use Rattle.std.proofs.lemmas.List.{take_more, take-append-le}
-use Rattle.cats_text.specs.Streams.{Sends, SendsPart, SendsWhole, has_failed, inner_of}
-use Rattle.cats_text.specs.declared.read_fault.SendFault.{SendFault}
-use Rattle.cats_text.specs.declared.stream.Watched.{Watched}
-use Rattle.cats_cmd.specs.RequestErrors.{Reports, SendsText}
+use Rattle.cats_cmd.proofs.Common.{◌≡◌, ℕ, ◌+◌, ◌<◌, true, false, List, [], ◌∷◌, ◌++◌, length, get_or, take, refl, sym, ap, ◌∙◌, inl, inr, ⊎_elim, subst, arith}
+use Rattle.cats_cmd.proofs.Common.{append-nil, length-append, Option, Result, Ok, Err, flat_map, Appends-nil, Appends-trans, Appends, take-append-add}
+use Rattle.cats_cmd.proofs.Common.{both_ways, cases_Bool, flat_map-append, take_more, take-append-le, Sends, SendsPart, SendsWhole, has_failed, inner_of}
+use Rattle.cats_cmd.proofs.Common.{SendFault, Watched, Reports, SendsText}
 
 module _ {E : Type 0} (messages : E → Option (List ℕ)) where
   pub reports_nothing : (err : Watched E) → Reports messages [] err err

@@ -1,24 +1,8 @@
 -- `cats round`: the prices that were reported so far, and the ways in which the run ends.
-use Rattle.std.proofs.Common.{◌≡◌, ◌<◌, ◌+◌, ℕ, List, [], ◌∷◌, length, take, map, get_or, refl, Option, Result, Ok, Err, inl}
-use Rattle.std.specs.Prelude.{IsErrAnd}
-use Rattle.std.proofs.lemmas.List.{map-append, take_more}
-use Rattle.cats_text.specs.declared.stream.Watched.{Watched}
-use Rattle.cats_text.specs.declared.read_fault.ReadFault.{ReadFault}
-use Rattle.canon.specs.Refusals.{refusal_of}
-use Rattle.canon.specs.declared.which.Which.TheVariants.{Only}
-use Rattle.rounding.specs.Answers.{IsRounded}
-use Rattle.rounding.specs.Texts.{rounded_text}
-use Rattle.rounding.specs.Views.{plain_change, plain_changes}
-use Rattle.rounding.specs.declared.replacement.FinePrices.{FinePrices}
-use Rattle.rounding.specs.declared.text.RoundedPrice.{RoundedPrice}
-use Rattle.rounding.specs.declared.text.RoundedText.{RoundedText}
-use Rattle.cats_cmd.specs.Inputs.{IsUnreadStream, ReadsAll}
-use Rattle.commands.specs.RoundedLines.{rounded_line}
-use Rattle.cats_cmd.specs.Rounding.{IsUnrounded, Rounds}
-use Rattle.cats_cmd.specs.Runs.{SendsAs}
-use Rattle.cats_cmd.specs.RequestErrors.{Reports, ReportsAll}
-use Rattle.commands.specs.declared.faults.RunFault.{RunFault}
-use Rattle.commands.specs.declared.faults.RunFault.TheVariants.{Refused, Sent}
+use Rattle.cats_cmd.proofs.Common.{◌≡◌, ◌<◌, ◌+◌, ℕ, List, [], ◌∷◌, length, take, map, get_or, refl, Option, Result, Ok, Err, inl, IsErrAnd, map-append}
+use Rattle.cats_cmd.proofs.Common.{take_more, Watched, ReadFault, refusal_of, Only, IsRounded, rounded_text, plain_change, plain_changes, FinePrices}
+use Rattle.cats_cmd.proofs.Common.{RoundedPrice, RoundedText, IsUnreadStream, ReadsAll, rounded_line, IsUnrounded, Rounds, SendsAs, Reports, ReportsAll}
+use Rattle.cats_cmd.proofs.Common.{RunFault, Refused, Sent}
 use Rattle.cats_cmd.proofs.JudgingPaths.{reports_more}
 use Rattle.cats_cmd.proofs.ReadingBytes.{unread_stream}
 

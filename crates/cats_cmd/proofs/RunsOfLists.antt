@@ -1,10 +1,5 @@
 -- A run on the files of a list that was read: it is the run on the paths in it, or memory was refused for these and no file was opened.
-use Rattle.std.proofs.Common.{◌≡◌, inl, ℕ, List, Option, Result, Ok, Err}
-use Rattle.cats_text.specs.declared.stream.Watched.{Watched}
-use Rattle.cats_cmd.specs.FileLists.{ReadsList, RunsAtPaths, RunsOnList}
-use Rattle.cats_cmd.specs.PathLists.{paths_in}
-use Rattle.commands.specs.declared.faults.RunFault.{RunFault}
-use Rattle.cats_cmd.specs.declared.source.Unopened.{Unopened}
+use Rattle.cats_cmd.proofs.Common.{◌≡◌, inl, ℕ, List, Option, Result, Ok, Err, Watched, ReadsList, RunsAtPaths, RunsOnList, paths_in, RunFault, Unopened}
 
 module _ {F W E : Type 0} (may_open : List ℕ → F → Type 0) (may_refuse : List ℕ → Unopened → Type 0) (remaining : F → Option (List ℕ))
     (messages : E → Option (List ℕ)) (may_find : List ℕ → Option (List (List ℕ)) → Type 0)

@@ -1,20 +1,8 @@
 -- The run of many files: the text that is made of them is sent, or memory was refused to all of them together.
-use Rattle.std.proofs.Common.{◌≡◌, ℕ, List, Option, Result, Ok, Err, length, map, refl, sym, ap, arith}
-use Rattle.std.specs.Prelude.{IsErrAnd}
-use Rattle.std.proofs.lemmas.List.{take_all}
-use Rattle.cats_text.specs.declared.stream.Watched.{Watched}
-use Rattle.command_line.specs.declared.request.Prices.{Prices}
-use Rattle.valuation.specs.declared.search.options.SearchOptions.{SearchOptions}
-use Rattle.canon.specs.declared.canon_fault.CanonFault.TheVariants.{Memory}
-use Rattle.canon.specs.declared.which.Which.TheVariants.{Only}
-use Rattle.cats_cmd.specs.Internal.Judging.{HasJudged}
-use Rattle.commands.specs.Outcomes.{Prints}
-use Rattle.cats_cmd.specs.Paths.{BeginsPaths, Judgement, MakesOfPaths, Reporting, RunsOnPaths, judgement_at, outcome_of_paths}
-use Rattle.cats_cmd.specs.Runs.{SendsAs}
-use Rattle.commands.specs.declared.faults.RunFault.{RunFault}
-use Rattle.commands.specs.declared.faults.RunFault.TheVariants.{Refused, Sent}
+use Rattle.cats_cmd.proofs.Common.{◌≡◌, ℕ, List, Option, Result, Ok, Err, length, map, refl, sym, ap, arith, IsErrAnd, take_all, Watched, Prices, SearchOptions}
+use Rattle.cats_cmd.proofs.Common.{Memory, Only, HasJudged, Prints, BeginsPaths, Judgement, MakesOfPaths, Reporting, RunsOnPaths, judgement_at}
+use Rattle.cats_cmd.proofs.Common.{outcome_of_paths, SendsAs, RunFault, Refused, Sent, Unopened}
 use Rattle.cats_cmd.proofs.Sending.{wrote}
-use Rattle.cats_cmd.specs.declared.source.Unopened.{Unopened}
 
 module _ {F W E : Type 0} (may_open : List ℕ → F → Type 0) (may_refuse : List ℕ → Unopened → Type 0) (remaining : F → Option (List ℕ))
     (contents : W → Option (List ℕ)) (messages : E → Option (List ℕ)) (options : SearchOptions) (prices : Prices)

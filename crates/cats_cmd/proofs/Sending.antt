@@ -1,26 +1,10 @@
 -- A run sends what its command answers: by the command's contract, what was sent is what the run promises.
-use Rattle.std.proofs.Common.{◌≡◌, ◌≤◌, ℕ, List, Option, Result, Ok, Err, true, refl, inr}
-use Rattle.bid_file.specs.Files.{PlainFile}
-use Rattle.cats_text.specs.declared.read_fault.ReadFault.{ReadFault}
-use Rattle.cats_text.specs.declared.read_fault.SendFault.{SendFault}
-use Rattle.cats_text.specs.declared.stream.Watched.{Watched}
-use Rattle.canon.specs.declared.canon_fault.CanonFault.TheVariants.{Memory}
-use Rattle.canon.specs.declared.which.Which.{Which}
-use Rattle.canon.specs.declared.which.Which.TheVariants.{Only, Both}
-use Rattle.commands.specs.declared.faults.RunFault.{RunFault}
-use Rattle.commands.specs.declared.faults.RunFault.TheVariants.{Refused, Sent}
-use Rattle.commands.specs.Commands.{Commands, text_of}
-use Rattle.commands.specs.Outcomes.{Outcome, Prints, diff_outcome, naming_outcome, normalise_outcome}
-use Rattle.commands.specs.Pairs.{CommandsBoth, CommandsOnBoth, GivesBoth, outcome_of_both}
-use Rattle.canon.specs.Difference.{first_difference}
-use Rattle.valuation.specs.Auctions.{auction_from}
-use Rattle.valuation.specs.declared.search.options.SearchOptions.{SearchOptions}
-use Rattle.commands.specs.declared.answer.Answer.{Answer}
-use Rattle.commands.specs.declared.command.Comparison.{Comparison}
-use Rattle.commands.specs.declared.command.Comparison.TheVariants.{Compare, Diff}
+use Rattle.cats_cmd.proofs.Common.{◌≡◌, ◌≤◌, ℕ, List, Option, Result, Ok, Err, true, refl, inr, PlainFile, ReadFault, SendFault, Watched, Memory, Which, Only}
+use Rattle.cats_cmd.proofs.Common.{Both, RunFault, Refused, Sent, Commands, text_of, Outcome, Prints, diff_outcome, naming_outcome, normalise_outcome}
+use Rattle.cats_cmd.proofs.Common.{CommandsBoth, CommandsOnBoth, GivesBoth, outcome_of_both, first_difference, auction_from, SearchOptions, Answer, Comparison}
+use Rattle.cats_cmd.proofs.Common.{Compare, Diff, RunsCommand, RunsOnFile, RunsOnPair, SendsAnswer, SendsAs, SendsMadeAs, WritesText}
 use Rattle.cats_cmd.proofs.AnswersShown.{difference_printed, differences_printed, is_printed, printed}
 use Rattle.cats_cmd.proofs.ShownTexts.{Shown}
-use Rattle.cats_cmd.specs.Runs.{RunsCommand, RunsOnFile, RunsOnPair, SendsAnswer, SendsAs, SendsMadeAs, WritesText}
 
 -- the status that was answered is that of the text
 pub wrote : {A W : Type 0} (contents : W → Option (List ℕ)) (Reads : A → Type 0) (outcome : A → Outcome) (old new : Watched W) (given : A) → Reads given

@@ -1,17 +1,9 @@
 -- The lines that name paths, and the texts of `cats duplicates` and `cats sizes`: what is printed there beside paths is ASCII of ours.
-use Rattle.std.proofs.Common.{◌≡◌, ℕ, ◌<◌, ◌==◌, ◌||◌, Bool, true, List, [], ◌∷◌, ◌++◌, refl, sym, subst, arith}
+use Rattle.cats_cmd.proofs.Common.{◌≡◌, ℕ, ◌<◌, ◌==◌, ◌||◌, Bool, true, List, [], ◌∷◌, ◌++◌, refl, sym, subst, arith, All, flat_map, list_all, and_parts}
+use Rattle.cats_cmd.proofs.Common.{nat_tests, All-weaker, duplicates_text, groups_text, lines_of, printed_groups, AreBytes, IsTextOf, end_of, escaped}
+use Rattle.cats_cmd.proofs.Common.{is_printable, is_shown, path_text, Judgement, progress_line, refusal_line, line_of_request_error, MakesTable, row}
+use Rattle.cats_cmd.proofs.Common.{sizes_header, Line, RequestError}
 use Rattle.std.specs.Prelude.{codes, decimal}
-use Rattle.std.specs.List.{All, flat_map, list_all}
-use Rattle.std.proofs.lemmas.Bool.{and_parts}
-use Rattle.std.proofs.lemmas.Bool.Decides.{nat_tests}
-use Rattle.std.proofs.lemmas.List.Elements.{All-weaker}
-use Rattle.cats_cmd.specs.DuplicateTexts.{duplicates_text, groups_text, lines_of, printed_groups}
-use Rattle.cats_cmd.specs.Escaping.{AreBytes, IsTextOf, end_of, escaped, is_printable, is_shown, path_text}
-use Rattle.cats_cmd.specs.Paths.{Judgement, progress_line, refusal_line}
-use Rattle.cats_cmd.specs.RequestErrors.{line_of_request_error}
-use Rattle.cats_cmd.specs.SizesTables.{MakesTable, row, sizes_header}
-use Rattle.cats_cmd.specs.declared.paths.Ending.TheVariants.{Line}
-use Rattle.cats_cmd.specs.declared.errors.RequestError.{RequestError}
 use Rattle.cats_cmd.proofs.FaultTexts.{Plain, error_line}
 use Rattle.cats_cmd.proofs.OutputPaths.{printed_all, words_of, words_plain}
 use Rattle.cats_cmd.proofs.PrintableTexts.{are_bytes, bytes_from, list_all-from_All, ascii_text, is_ascii, list_all-decimal, no_text, printable, text_behind}

@@ -1,14 +1,6 @@
 -- A file that was not read adds nothing to the groups of `cats duplicates`.
-use Rattle.std.proofs.Common.{ℕ, List, [], ◌∷◌, ◌++◌, refl}
-use Rattle.cats_cmd.specs.DuplicateTexts.{found_paths}
-use Rattle.cats_cmd.specs.Duplicates.{files_if_heavy, files_if_judged, paths_if_heavy, paths_if_judged}
-use Rattle.canon.specs.Canonical.{canonical_text}
-use Rattle.canon.specs.Sameness.{AreSameFiles}
-use Rattle.canon.specs.Unsearched.{AreAlike, unsearched_text}
-use Rattle.cats_cmd.specs.Internal.Judging.{KeepsGroups}
-use Rattle.cats_cmd.specs.Paths.{Judgement, IsUnjudged}
-use Rattle.cats_cmd.specs.declared.duplicates.Groups.{Groups}
-use Rattle.cats_cmd.specs.declared.errors.RequestError.{RequestError}
+use Rattle.cats_cmd.proofs.Common.{ℕ, List, [], ◌∷◌, ◌++◌, refl, found_paths, files_if_heavy, files_if_judged, paths_if_heavy, paths_if_judged, canonical_text}
+use Rattle.cats_cmd.proofs.Common.{AreSameFiles, AreAlike, unsearched_text, KeepsGroups, Judgement, IsUnjudged, Groups, RequestError}
 use Rattle.cats_cmd.proofs.FindingNumbers.{judgement_skipped}
 
 pub groups_skip : (groups : Groups) (js : List (List ℕ × Judgement)) (path : List ℕ) (error : RequestError)

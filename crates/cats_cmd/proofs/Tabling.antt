@@ -1,22 +1,9 @@
 -- The rows of `cats sizes`: what a row of a file says is what became of the file at its path.
-use Rattle.std.proofs.Common.{◌≡◌, ℕ, List, [], ◌∷◌, ◌++◌, map, refl, sym, append-nil, inl, inr, ap, ◌∙◌, Option, Some, None}
-use Rattle.std.specs.Prelude.{codes, IsSomeAnd}
-use Rattle.std.specs.Option.{MatchOption, option_map}
-use Rattle.std.proofs.lemmas.Grind.{flat_map-append}
-use Rattle.bid_file.specs.Files.{PlainFile}
-use Rattle.valuation.specs.declared.search.options.SearchOptions.{SearchOptions}
-use Rattle.canon.specs.declared.canon_fault.CanonFault.TheVariants.{Read, StepLimit, Memory}
-use Rattle.canon.specs.declared.which.Which.TheVariants.{Only}
-use Rattle.cats_text.specs.declared.read_fault.ReadFault.{ReadFault}
-use Rattle.commands.specs.declared.faults.RunFault.{RunFault}
-use Rattle.commands.specs.declared.faults.RunFault.TheVariants.{Refused}
-use Rattle.commands.specs.SizesRows.{Sized, IsSized, IsTooHeavy, IsUnsized, Sizes, cells, fault_sized, numbers_sized}
-use Rattle.cats_cmd.specs.Paths.{Judgement, IsHeavy, IsJudged, IsUnjudged, JudgesInput, request_error_of}
-use Rattle.cats_cmd.specs.SizesTables.{columns, fault_cell, number_columns, row, rows_of_table}
-use Rattle.cats_cmd.specs.Escaping.{path_text}
-use Rattle.cats_cmd.specs.declared.paths.Ending.{Ending}
-use Rattle.cats_cmd.specs.declared.errors.RequestError.{RequestError}
-use Rattle.cats_cmd.specs.declared.errors.RequestError.TheVariants.{Run}
+use Rattle.cats_cmd.proofs.Common.{◌≡◌, ℕ, List, [], ◌∷◌, ◌++◌, map, refl, sym, append-nil, inl, inr, ap, ◌∙◌, Option, Some, None, IsSomeAnd, MatchOption}
+use Rattle.cats_cmd.proofs.Common.{option_map, flat_map-append, PlainFile, SearchOptions, Read, StepLimit, Memory, Only, ReadFault, RunFault, Refused, Sized}
+use Rattle.cats_cmd.proofs.Common.{IsSized, IsTooHeavy, IsUnsized, Sizes, cells, fault_sized, numbers_sized, Judgement, IsHeavy, IsJudged, IsUnjudged}
+use Rattle.cats_cmd.proofs.Common.{JudgesInput, request_error_of, columns, fault_cell, number_columns, row, rows_of_table, path_text, Ending, RequestError, Run}
+use Rattle.std.specs.Prelude.{codes}
 
 -- ---- what became of a file
 

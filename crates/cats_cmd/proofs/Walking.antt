@@ -1,19 +1,11 @@
 -- A walk through folders. What is added to it begins as the folder's path that it was found in, so all of it stays below the first folder.
-use Rattle.std.proofs.Common.{◌≡◌, ℕ, List, [], ◌∷◌, ◌++◌, refl, sym, ap, ◌∙◌, subst, true, false, cond, append-nil, Vec, length, arith}
-use Rattle.std.specs.Global.{Global}
-use Rattle.std.specs.Prelude.{All, IsPermutation, nat_eq}
-use Rattle.std.specs.List.{ends_with}
-use Rattle.std.specs.List.Sorted.{IsSorted}
-use Rattle.std.specs.Ordering.{is_lt, nat_cmp}
-use Rattle.std.specs.Cmp.Lexicographic.{slice_cmp}
-use Rattle.std.proofs.lemmas.List.{append_assoc, get_or_append_left, length-append}
-use Rattle.std.proofs.lemmas.List.Elements.{All-append, All-map, All-nil, All-push}
-use Rattle.std.proofs.lemmas.List.Sorted.{All-permutation}
-use Rattle.std.proofs.Math.Seq.{get_or-append_seam}
-use Rattle.canon.specs.Lemmas.Renaming.{map-sorted}
-use Rattle.cats_cmd.specs.Folders.{BeginsWith, IsBelow, ListsFolder, paths_of, with_slash}
-use Rattle.cats_cmd.specs.Internal.Walking.{WalksBelow}
-use Rattle.cats_cmd.specs.declared.folder.Walk.{Walk}
+use Rattle.cats_cmd.proofs.Common.{◌≡◌, ℕ, List, [], ◌∷◌, ◌++◌, refl, sym, ap, ◌∙◌, subst, true, false, cond, append-nil, length, arith, Global, IsPermutation}
+use Rattle.cats_cmd.proofs.Common.{nat_eq, ends_with, IsSorted, is_lt, nat_cmp, slice_cmp, append_assoc, get_or_append_left, All-append, All-map, All-nil}
+use Rattle.cats_cmd.proofs.Common.{All-push, All-permutation, get_or-append_seam, map-sorted, BeginsWith, IsBelow, ListsFolder, paths_of, with_slash}
+use Rattle.cats_cmd.proofs.Common.{WalksBelow, Walk}
+use Rattle.std.proofs.Common.{Vec}
+use Rattle.std.specs.Prelude.{All}
+use Rattle.std.proofs.lemmas.List.{length-append}
 
 abbrev pub Begins : List ℕ → Vec ℕ Global → Type 0
 Begins start path = BeginsWith start path.items

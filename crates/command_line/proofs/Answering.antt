@@ -1,24 +1,10 @@
 -- What `clap` answers to the program's command line, and what the program makes of it.
-use Rattle.std.proofs.Common.{◌≡◌, ◌∙◌, ℕ, Bool, true, false, List, [], ◌∷◌, Option, Some, None, Result, ap, sym, subst, refl, inl, inr}
-use Rattle.std.specs.Prelude.{IfErr, not, option_map}
-use Rattle.std.specs.List.{list_any}
-use Rattle.std.proofs.Math.Bool.{or-true}
-use Rattle.clap.specs.Faults.{fault_of, is_simple_and_free}
-use Rattle.clap.specs.Kinds.{FailsBy, HasKind, IsAmong, Kinds}
-use Rattle.clap.specs.Simple.{App, HasMatchesOf, is_simple, subcommand_of, subcommand_rows_of}
-use Rattle.clap.specs.Walk.{Row}
-use Rattle.clap.specs.declared.error.Error.{Error}
-use Rattle.clap.specs.declared.error.kind.ErrorKind.{ErrorKind}
-use Rattle.clap.specs.declared.parser.matches.ArgMatches.{ArgMatches}
+use Rattle.command_line.proofs.Common.{◌≡◌, ◌∙◌, ℕ, Bool, true, false, List, [], ◌∷◌, Option, Some, None, Result, ap, sym, subst, refl, inl, inr, IfErr, not}
+use Rattle.command_line.proofs.Common.{option_map, list_any, or-true, fault_of, is_simple_and_free, FailsBy, HasKind, IsAmong, Kinds, App, HasMatchesOf}
+use Rattle.command_line.proofs.Common.{is_simple, subcommand_of, subcommand_rows_of, Row, Error, ErrorKind, ArgMatches, IsAnswerTo, PlainRequest, IsNoRequestOf}
+use Rattle.command_line.proofs.Common.{if_taken, is_no_memory, is_shown, misuse_in, misuse_of, request_from, request_of, cats, Misuse, NoRequest, Request, Help}
+use Rattle.command_line.proofs.Common.{WrongUsage, Misused, NoMemory}
 use Rattle.clap.proofs.OnLiterals.{clap_on_literals}
-use Rattle.command_line.specs.Internal.Matches.{IsAnswerTo}
-use Rattle.command_line.specs.PlainRequests.{PlainRequest}
-use Rattle.command_line.specs.Requests.{IsNoRequestOf, if_taken, is_no_memory, is_shown, misuse_in, misuse_of, request_from, request_of}
-use Rattle.command_line.specs.Subcommands.{cats}
-use Rattle.command_line.specs.declared.request.Misuse.{Misuse}
-use Rattle.command_line.specs.declared.request.NoRequest.{NoRequest}
-use Rattle.command_line.specs.declared.request.Request.{Request}
-use Rattle.command_line.specs.declared.request.NoRequest.TheVariants.{Help, WrongUsage, Misused, NoMemory}
 
 -- ---- the command is one of which `clap` says all
 

@@ -1,13 +1,7 @@
 -- The goods of a list of texts are those of its first text and of the others.
-use Rattle.std.proofs.Common.{◌≡◌, ◌∙◌, ◌++◌, ◌+◌, ◌-◌, ◌<◌, ◌≤◌, ℕ, Bool, true, false, List, [], ◌∷◌, Option, None, Some, drop, get_or, length}
-use Rattle.std.proofs.Common.{ap, arith, le-leb, refl, suc, sym, zero}
-use Rattle.std.specs.Borrow.{Bor}
-use Rattle.std.specs.List.{range_with_len, slice_split}
-use Rattle.std.specs.Prelude.{◌==◌, if◌then◌else◌, not, option_and_then, option_map}
-use Rattle.std.proofs.lemmas.Bool.{lt-leb}
-use Rattle.std.proofs.lemmas.List.{append_assoc, at_drop_more}
-use Rattle.command_line.specs.Goods.{all_goods, ends_of, goods_of_part, joined}
-use Rattle.command_line.specs.Requests.{texts_of}
+use Rattle.command_line.proofs.Common.{◌≡◌, ◌∙◌, ◌++◌, ◌+◌, ◌-◌, ◌<◌, ◌≤◌, ℕ, Bool, true, false, List, [], ◌∷◌, Option, None, Some, drop, get_or, length, ap}
+use Rattle.command_line.proofs.Common.{arith, le-leb, refl, suc, sym, zero, Bor, range_with_len, slice_split, ◌==◌, if◌then◌else◌, not, option_and_then}
+use Rattle.command_line.proofs.Common.{option_map, lt-leb, append_assoc, at_drop_more, all_goods, ends_of, goods_of_part, joined, texts_of}
 
 -- the goods so far, and those that are found after them
 abbrev pub after : List ℕ → Option (List ℕ) → Option (List ℕ)

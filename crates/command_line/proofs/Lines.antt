@@ -1,19 +1,10 @@
 -- What the words of a line request. A word that does not begin with a hyphen is taken as it is after `--` (`PlainWords`), and after `--` the walk of
 -- `clap` is computed with paths that are not known.
-use Rattle.std.proofs.Common.{◌≡◌, ◌∙◌, ◌++◌, ℕ, Bool, List, [], ◌∷◌, Option, None, Some, true, false, ap, ap₂, get_or, map, refl, sym}
-use Rattle.std.specs.Prelude.{◌||◌, All, find, fold, unwrap_or, if◌then◌else◌, option_and_then, option_map}
-use Rattle.std.proofs.lemmas.List.{get_or-map}
-use Rattle.std.specs.Option.{option_map_or}
-use Rattle.clap.specs.Faults.{check_fault, defaults_fault, level_fault, settle_fault}
-use Rattle.clap.specs.Kinds.{Kinds, or_else}
-use Rattle.clap.specs.Simple.{Shape, built, label_of, new_shape, rows_at}
-use Rattle.clap.specs.Walk.{Held, Text, answers_to, finished, nothing_held, settled, walk_from, walked}
-use Rattle.clap.specs.declared.error.kind.ErrorKind.TheVariants.{ValueValidation}
-use Rattle.command_line.specs.PlainRequests.{OnFile, PlainCommand, PlainRequest}
-use Rattle.command_line.specs.Subcommands.{Subcommand, cats}
-use Rattle.command_line.specs.Requests.{if_taken, request_from, request_of, request_with}
-use Rattle.command_line.specs.declared.request.Limits.{Limits}
-use Rattle.command_line.specs.declared.request.Prices.TheVariants.{AsWritten}
+use Rattle.command_line.proofs.Common.{◌≡◌, ◌∙◌, ◌++◌, ℕ, Bool, List, [], ◌∷◌, Option, None, Some, true, false, ap, ap₂, get_or, map, refl, sym, ◌||◌, All}
+use Rattle.command_line.proofs.Common.{find, fold, unwrap_or, if◌then◌else◌, option_and_then, option_map, get_or-map, option_map_or, check_fault}
+use Rattle.command_line.proofs.Common.{defaults_fault, level_fault, settle_fault, Kinds, or_else, Shape, built, label_of, new_shape, rows_at, Held, Text}
+use Rattle.command_line.proofs.Common.{answers_to, finished, nothing_held, settled, walk_from, walked, ValueValidation, OnFile, PlainCommand, PlainRequest}
+use Rattle.command_line.proofs.Common.{Subcommand, cats, if_taken, request_from, request_of, request_with, Limits, AsWritten}
 use Rattle.command_line.proofs.PlainWords.{ArePlain, IsIdle, hyphens, same_after}
 
 -- a subcommand as `clap` builds it

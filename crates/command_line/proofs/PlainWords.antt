@@ -1,15 +1,11 @@
 -- Words that do not begin with a hyphen are taken as they are after `--`: the walk over a line without `--` before its last words goes in step
 -- with the walk over the line that has it.
-use Rattle.std.proofs.Common.{◌≡◌, ◌∙◌, ◌++◌, ℕ, Bool, List, [], ◌∷◌, Option, None, Some, true, false, ap, ap₂, refl, subst, sym}
-use Rattle.std.specs.Prelude.{◌||◌, fold, if◌then◌else◌}
-use Rattle.std.specs.Str.{bytes_eq}
-use Rattle.clap.specs.Faults.{step_fault, turn_fault, walk_fault, word_fault}
-use Rattle.clap.specs.Kinds.{Kinds, or_else}
-use Rattle.clap.specs.Lexer.{long_of, short_of}
-use Rattle.clap.specs.Simple.{Shape}
-use Rattle.clap.specs.Walk.{Held, Rule, Text, Waiting, Walk, idle, option, positional, value, walked}
-use Rattle.clap.specs.Walk.{arg_by_index, is_multiple, next_position, positional_held, to_positional, word_met}
-use Rattle.command_line.specs.Requests.{begins_with_hyphen}
+use Rattle.command_line.proofs.Common.{◌≡◌, ◌∙◌, ◌++◌, ℕ, Bool, List, [], ◌∷◌, Option, None, Some, true, false, ap, ap₂, refl, subst, sym, ◌||◌, fold}
+use Rattle.command_line.proofs.Common.{if◌then◌else◌, bytes_eq, step_fault, turn_fault, word_fault, Kinds, or_else, long_of, short_of, Shape, Held, Rule, Text}
+use Rattle.command_line.proofs.Common.{Waiting, Walk, idle, option, positional, value, arg_by_index, is_multiple, next_position, positional_held, to_positional}
+use Rattle.command_line.proofs.Common.{word_met, begins_with_hyphen}
+use Rattle.clap.specs.Faults.{walk_fault}
+use Rattle.clap.specs.Walk.{walked}
 
 abbrev pub hyphens : Text
 hyphens = 45 ∷ 45 ∷ []

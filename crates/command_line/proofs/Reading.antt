@@ -1,21 +1,9 @@
 -- What the getters of `clap` read is what the rows say: numbers are read exactly if they are decimal numbers in range.
-use Rattle.std.proofs.Common.{◌++◌, ◌+◌, ◌≡◌, ◌<◌, ℕ, Bool, true, false, List, [], ◌∷◌, Option, Some, None, Result, Ok, Err, sym, ap, refl, arith, ◌^◌}
-use Rattle.std.specs.Borrow.{Bor}
-use Rattle.std.specs.List.{list_any}
-use Rattle.std.specs.Prelude.{◌||◌, option_and_then, option_map}
-use Rattle.std.specs.Option.{option_map_or}
-use Rattle.std.specs.Result.{result_ok}
-use Rattle.std.specs.Str.Parse.{ParsesUnsigned, ExplainsUnsignedError, HasUnsignedDigitsIfOk}
-use Rattle.std.specs.declared.num.ParseIntError.{ParseIntError}
-use Rattle.clap.specs.Matches.{ReadsOne, StepsValues}
-use Rattle.clap.specs.ValueTests.{is_unsigned_in}
-use Rattle.clap.specs.declared.builder.value_parser.ValueParser.TheVariants.{Unsigned}
-use Rattle.clap.proofs.ValueTestLemmas.{accepts-Accepts, Accepts-accepts}
-use Rattle.command_line.specs.Requests.{texts_of}
-use Rattle.command_line.specs.Goods.{good_of}
-use Rattle.command_line.specs.Numbers.{begins_with_sign, number_up_to, numbers_up_to}
-use Rattle.std.proofs.lemmas.Iterator.Adapters.{option_map_id}
-use Rattle.std.proofs.lemmas.List.{append_assoc}
+use Rattle.command_line.proofs.Common.{◌++◌, ◌+◌, ◌≡◌, ◌<◌, ℕ, Bool, true, false, List, [], ◌∷◌, Option, Some, None, Result, Ok, Err, sym, ap, refl, arith, ◌^◌}
+use Rattle.command_line.proofs.Common.{Bor, list_any, ◌||◌, option_and_then, option_map, option_map_or, result_ok, ParsesUnsigned, ExplainsUnsignedError}
+use Rattle.command_line.proofs.Common.{HasUnsignedDigitsIfOk, ParseIntError, ReadsOne, StepsValues, is_unsigned_in, Unsigned, accepts-Accepts, Accepts-accepts}
+use Rattle.command_line.proofs.Common.{texts_of, good_of, numbers_up_to, option_map_id, append_assoc}
+use Rattle.command_line.specs.Numbers.{begins_with_sign, number_up_to}
 
 -- a number below 2 ^ bits that is read from a text is the text's
 module _ (bits most : ℕ) (is : 2 ^ bits ≡ most + 1) (small : most < 2 ^ 64) where

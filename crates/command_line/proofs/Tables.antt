@@ -1,13 +1,8 @@
 -- The table has all names.
-use Rattle.std.proofs.Common.{◌≡◌, ◌≢◌, ℕ, Bool, true, false, List, [], ◌∷◌, Option, None, ap, refl, arith}
-use Rattle.std.specs.Prelude.{◌||◌, find, if◌then◌else◌, option_and_then}
-use Rattle.std.specs.Str.{bytes_eq}
-use Rattle.std.proofs.lemmas.Slice.Eq.{bytes_eq-Decides}
-use Rattle.clap.specs.Walk.{Row}
-use Rattle.command_line.specs.PlainRequests.{PlainRequest}
-use Rattle.command_line.specs.Requests.{request_from}
+use Rattle.command_line.proofs.Common.{◌≡◌, ◌≢◌, ℕ, Bool, true, false, List, [], ◌∷◌, Option, None, ap, refl, arith, ◌||◌, find, if◌then◌else◌, option_and_then}
+use Rattle.command_line.proofs.Common.{bytes_eq, bytes_eq-Decides, Row, PlainRequest, request_from, has_both_bids, has_more_files, has_signed_number}
+use Rattle.command_line.proofs.Common.{subcommands}
 use Rattle.command_line.specs.Subcommands as table
-use Rattle.command_line.specs.Subcommands.{has_both_bids, has_more_files, has_signed_number, subcommands}
 
 -- no subcommand has this name
 abbrev pub IsNoName : List ℕ → List table.Subcommand → Type 0

@@ -1,22 +1,8 @@
 -- The number of a bid. The best of a bidder's bids on a bundle is the only one there that is found.
-use Rattle.std.proofs.Common.{◌≡◌, ℕ, ◌<◌, Bool, true, ◌&&◌, List, length, get_or, sym, ap, ◌∙◌, subst, arith, Option, Some}
-use Rattle.std.specs.Prelude.{Contains}
-use Rattle.std.specs.List.{find, position_or_len}
-use Rattle.std.proofs.lemmas.Bool.{and_from, and_parts}
-use Rattle.std.proofs.lemmas.List.{get_or_default}
-use Rattle.std.proofs.lemmas.List.Elements.{Contains-get_or}
-use Rattle.std.proofs.lemmas.List.Folds.{find_at}
-use Rattle.std.proofs.lemmas.List.Sums.{fails_before_first, passes_at_first}
-use Rattle.std.proofs.lemmas.Option.{slice_get-get_or}
-use Rattle.bid_file.specs.Files.{PlainBid, PlainFile}
-use Rattle.prune.specs.Lemmas.Ranges.{in_range, range_contains}
-use Rattle.analysis.specs.Bids.{bid_at, are_alike, is_best, numbers_of, best_number, IsBestFor}
-use Rattle.analysis.specs.BidOrders.{AreInOrder}
-use Rattle.analysis.specs.declared.reasons.best.NumberedBid.{NumberedBid}
-use Rattle.commands.specs.DiffTexts.{bid_number}
-use Rattle.commands.specs.Internal.Sides.{IsBidOf}
-use Rattle.analysis.proofs.Explaining.BestBids.{alike_from, one_key}
-use Rattle.analysis.proofs.Explaining.KeptBidsBest.{best-once, one_key_sym}
+use Rattle.commands.proofs.Common.{◌≡◌, ℕ, ◌<◌, Bool, true, ◌&&◌, List, length, get_or, sym, ap, ◌∙◌, subst, arith, Option, Some, Contains, find}
+use Rattle.commands.proofs.Common.{position_or_len, and_from, and_parts, get_or_default, Contains-get_or, find_at, fails_before_first, passes_at_first}
+use Rattle.commands.proofs.Common.{slice_get-get_or, PlainBid, PlainFile, in_range, range_contains, bid_at, are_alike, is_best, numbers_of, best_number}
+use Rattle.commands.proofs.Common.{IsBestFor, AreInOrder, NumberedBid, bid_number, IsBidOf, alike_from, one_key, best-once, one_key_sym}
 
 -- the first element that passes is there if another one passes
 pub first_within : {X : Type 0} (p : X → Bool) (xs : List X) (x : X) → Contains xs x → p x ≡ true → position_or_len p xs < length xs

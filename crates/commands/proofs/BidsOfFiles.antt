@@ -1,29 +1,15 @@
 -- The bids that differ are bids of the files. The idea: a bid of a canonical file is a point of its bidder, each point is one of the bidder's
 -- atoms, and so a bid of the file.
-use Rattle.std.proofs.Common.{◌≡◌, ◌<◌, ℕ, Bool, true, List, [], length, map, get_or, sym, ap, ◌∙◌, subst, arith, Option, Some, None, is_none}
-use Rattle.std.specs.Prelude.{All, Contains}
-use Rattle.std.specs.List.{filter, range_with_len}
-use Rattle.std.proofs.lemmas.List.{get_or-map, length-map}
-use Rattle.std.proofs.lemmas.List.Elements.{All-contains, All-get_or, All-weaker, Contains-get_or}
-use Rattle.std.proofs.lemmas.List.FromFn.{get_or-map-range_with_len, length-map-range_with_len}
-use Rattle.bid_file.specs.Files.{PlainBid, PlainFile, IsDummyBelow, IsPlainFile}
-use Rattle.valuation.specs.declared.atom.Atom.{Atom}
-use Rattle.valuation.specs.Auctions.{IsAtom, PlainAuction, atom_of, auction_from, is_dummy, or_atoms_of, xor_atoms_of}
-use Rattle.valuation.specs.Lemmas.Lists.{Contains-unmap}
-use Rattle.prune.specs.Lemmas.KeptBids.{just_bundles, on_bundles, or_points_are_atoms, xor_points_are_atoms}
-use Rattle.prune.specs.Lemmas.Lists.{Contains-filter_parts}
-use Rattle.prune.specs.Points.{or_points}
-use Rattle.canon.proofs.CanonicalAuctions.Atoms.{HasAtoms}
-use Rattle.canon.proofs.CanonicalFiles.Files.{auction_from-file_from}
-use Rattle.canon.proofs.CanonicalFiles.Texts.{HasAtoms-file}
-use Rattle.canon.specs.Canonical.{canonical_auction, canonical_file}
-use Rattle.canon.specs.Lemmas.Renaming.{kept_dummies-below, points_of_kept_dummies}
-use Rattle.canon.specs.Renaming.{kept_dummies, named_dummy, points_of_dummy}
-use Rattle.analysis.specs.BidderChanges.{PlainBidderChange, AreBidderChanges, bidder_at, bids_at}
-use Rattle.canon.specs.PriceChanges.{PlainChange, IsPriceChange, ArePriceChanges, price_on}
-use Rattle.canon.specs.Lemmas.FirstChanges.{bid_of_price}
-use Rattle.analysis.proofs.Explaining.KeptBidsBest.{none_is, some_is}
-use Rattle.commands.specs.Internal.Sides.{IsBidOf, IsOfBidders, IsOfBids}
+use Rattle.commands.proofs.Common.{◌≡◌, ◌<◌, ℕ, Bool, true, List, [], length, map, get_or, sym, ap, ◌∙◌, subst, arith, Option, Some, None, All, Contains}
+use Rattle.commands.proofs.Common.{range_with_len, get_or-map, length-map, All-contains, All-get_or, All-weaker, Contains-get_or, get_or-map-range_with_len}
+use Rattle.commands.proofs.Common.{length-map-range_with_len, PlainBid, PlainFile, IsDummyBelow, IsPlainFile, Atom, IsAtom, PlainAuction, atom_of, auction_from}
+use Rattle.commands.proofs.Common.{is_dummy, or_atoms_of, xor_atoms_of, Contains-unmap, just_bundles, on_bundles, or_points_are_atoms, xor_points_are_atoms}
+use Rattle.commands.proofs.Common.{Contains-filter_parts, or_points, HasAtoms, auction_from-file_from, HasAtoms-file, canonical_auction, canonical_file}
+use Rattle.commands.proofs.Common.{kept_dummies-below, points_of_kept_dummies, kept_dummies, named_dummy, points_of_dummy, PlainBidderChange, AreBidderChanges}
+use Rattle.commands.proofs.Common.{bidder_at, bids_at, PlainChange, IsPriceChange, ArePriceChanges, price_on, bid_of_price, none_is, some_is, IsBidOf}
+use Rattle.commands.proofs.Common.{IsOfBidders, IsOfBids}
+use Rattle.std.proofs.Common.{is_none}
+use Rattle.std.specs.List.{filter}
 use Rattle.commands.proofs.ComparedFiles.{lefts_below, rights_below}
 
 -- each point is an atom of the bids that pass a test, so its price is that of a bid

@@ -1,11 +1,6 @@
 -- If a file misses none of the goods of a request, all are below its count of goods.
-use Rattle.std.proofs.Common.{◌≡◌, ℕ, ◌<◌, List, None, arith}
-use Rattle.std.specs.Prelude.{All, nat_le}
-use Rattle.std.specs.List.{position_or_len}
-use Rattle.std.proofs.lemmas.List.Folds.{find_at}
-use Rattle.std.proofs.lemmas.List.Sums.{fails_before_first}
-use Rattle.std.proofs.lemmas.Option.{slice_get-get_or}
-use Rattle.commands.specs.Outcomes.{missing_good}
+use Rattle.commands.proofs.Common.{◌≡◌, ℕ, ◌<◌, List, None, arith, All, position_or_len, find_at, fails_before_first, slice_get-get_or, missing_good}
+use Rattle.std.specs.Prelude.{nat_le}
 
 pub below_none_missing : (count : ℕ) (goods : List ℕ) → missing_good count goods ≡ None → All (λ g. g < count) goods
 below_none_missing count goods h = λ k d l.

@@ -1,9 +1,7 @@
 -- Lists with an element for each number, of which one element is put.
-use Rattle.std.proofs.Common.{◌≡◌, ℕ, ◌<◌, ⊎_elim, List, length, map, get_or, set, replicate, sym, ap, ◌∙◌, arith, zero-add}
-use Rattle.std.specs.List.{range_with_len}
-use Rattle.std.proofs.lemmas.Bool.{cases_eq}
-use Rattle.std.proofs.lemmas.List.{length-map, length-replicate, length-set, get_or-map, get_or-replicate, get_or-set_same, get_or-set_other}
-use Rattle.std.proofs.lemmas.List.FromFn.{fill_by_all, length-map-range_with_len, get_or-map-range_with_len}
+use Rattle.commands.proofs.Common.{◌≡◌, ℕ, ◌<◌, ⊎_elim, List, length, map, get_or, set, replicate, sym, ap, ◌∙◌, arith, zero-add, range_with_len, cases_eq}
+use Rattle.commands.proofs.Common.{length-map, length-replicate, length-set, get_or-map, get_or-replicate, get_or-set_same, get_or-set_other, fill_by_all}
+use Rattle.commands.proofs.Common.{length-map-range_with_len, get_or-map-range_with_len}
 
 pub by_number-replicate : {X : Type 0} (f : ℕ → X) (x : X) (n : ℕ) → ((k : ℕ) → x ≡ f k) → replicate n x ≡ map f (range_with_len 0 n)
 by_number-replicate f x n same = fill_by_all f (replicate n x) n x (length-replicate n x) (λ k l. get_or-replicate n k x x l ∙ same k)

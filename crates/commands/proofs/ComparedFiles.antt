@@ -1,27 +1,11 @@
 -- A file that is compared, and its canonical file with dummy goods: each bidder of a change is one of its canonical file, so it has such
 -- a dummy good.
-use Rattle.std.proofs.Common.{◌≡◌, ◌<◌, ℕ, List, length, Option, Some, None, refl, sym, ap, ◌∙◌, subst, arith}
-use Rattle.std.specs.Prelude.{All, Contains}
-use Rattle.std.specs.List.{filter_map, range_with_len}
-use Rattle.std.specs.Ordering.{nat_cmp}
-use Rattle.std.specs.FinMap.{nat_cmp-IsAntisymmetric}
-use Rattle.std.proofs.lemmas.Cmp.{nat_cmp_total}
-use Rattle.std.proofs.lemmas.List.{length-map}
-use Rattle.std.proofs.lemmas.List.FromFn.{get_or-range_with_len, length-range_with_len}
-use Rattle.bid_file.specs.Files.{PlainFile, IsPlainFile, IsDummyBelow}
-use Rattle.valuation.specs.declared.atom.Atom.{Atom}
-use Rattle.valuation.specs.Auctions.{PlainAuction, auction_from}
-use Rattle.prune.specs.Lemmas.Lists.{All-from_Contains, Contains-filter_parts}
-use Rattle.canon.proofs.CanonicalFiles.Files.{auction_from-file_from}
-use Rattle.canon.proofs.CanonicalFiles.Texts.{canonical_file_is_fixed, IsPlainFile-canonical}
-use Rattle.canon.specs.Canonical.{IsCanonicalFile, canonical_auction, canonical_file}
-use Rattle.canon.specs.Lemmas.Finding.{counted_is_there}
-use Rattle.canon.specs.Lemmas.Renaming.{points_of_kept_dummies}
-use Rattle.canon.specs.Renaming.{kept_dummies, points_of_dummy}
-use Rattle.analysis.specs.BidderChanges.{PlainBidderChange, AreBidderChanges, excess_bidders, is_excess, rights_of}
-use Rattle.analysis.proofs.Comparing.LawsLists.{Contains-filter_map, there_is_counted}
-use Rattle.commands.specs.Internal.ComparedFiles.{IsComparedFile}
-use Rattle.commands.specs.declared.printed.sides.ComparedFile.{ComparedFile}
+use Rattle.commands.proofs.Common.{◌≡◌, ◌<◌, ℕ, List, length, Option, Some, None, refl, sym, ap, ◌∙◌, subst, arith, All, Contains, filter_map, range_with_len}
+use Rattle.commands.proofs.Common.{nat_cmp, nat_cmp-IsAntisymmetric, nat_cmp_total, length-map, get_or-range_with_len, length-range_with_len, PlainFile}
+use Rattle.commands.proofs.Common.{IsPlainFile, IsDummyBelow, Atom, PlainAuction, auction_from, All-from_Contains, Contains-filter_parts}
+use Rattle.commands.proofs.Common.{auction_from-file_from, canonical_file_is_fixed, IsPlainFile-canonical, IsCanonicalFile, canonical_auction, canonical_file}
+use Rattle.commands.proofs.Common.{counted_is_there, points_of_kept_dummies, kept_dummies, points_of_dummy, PlainBidderChange, AreBidderChanges, excess_bidders}
+use Rattle.commands.proofs.Common.{is_excess, rights_of, Contains-filter_map, there_is_counted, IsComparedFile, ComparedFile}
 
 -- ---- a canonical file with its names
 

@@ -1,12 +1,6 @@
 -- The rows of bids, one by one, as `cats explain` prints them.
-use Rattle.std.proofs.Common.{◌≡◌, ◌<◌, ◌+◌, ◌++◌, ℕ, List, length, map, get_or, sym, ap, ◌∙◌}
-use Rattle.std.specs.List.{flat_map, range_with_len}
-use Rattle.std.proofs.lemmas.List.{get_or-map}
-use Rattle.bid_file.specs.Files.{PlainBid, PlainFile}
-use Rattle.analysis.specs.Bids.{bid_at}
-use Rattle.analysis.specs.Reasons.{Zero, plain_reason, reason_at}
-use Rattle.analysis.specs.declared.reasons.reason.Reason.{Reason}
-use Rattle.commands.specs.ExplanationTexts.{explanation_row}
+use Rattle.commands.proofs.Common.{◌≡◌, ◌<◌, ◌+◌, ◌++◌, ℕ, List, length, map, get_or, sym, ap, ◌∙◌, flat_map, range_with_len, get_or-map, PlainBid, PlainFile}
+use Rattle.commands.proofs.Common.{bid_at, Zero, plain_reason, reason_at, Reason, explanation_row}
 use Rattle.commands.proofs.Lines.{lines_more}
 
 -- the row of one more bid is put behind those of the bids before it

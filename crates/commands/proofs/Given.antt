@@ -1,36 +1,13 @@
 -- What a command answered of a text is given: a text with its status, or a fault.
-use Rattle.std.proofs.Common.{rules, arith, ◌≡◌, inl, inr, ℕ, List, [], Option, Result, Ok, Err, refl, subst}
-use Rattle.bid_file.specs.Files.{PlainFile}
-use Rattle.cats_text.specs.Grammar.{Spells}
-use Rattle.valuation.specs.declared.search.options.SearchOptions.{SearchOptions}
-use Rattle.canon.specs.Comparing.{SpellsWithinLimit}
-use Rattle.canon.specs.declared.canon_fault.CanonFault.{CanonFault}
-use Rattle.canon.specs.declared.canon_fault.CanonFault.TheVariants.{Read, StepLimit, Memory}
-use Rattle.canon.specs.declared.which.Which.{Which}
-use Rattle.canon.specs.declared.which.Which.TheVariants.{Only, First, Second, Both}
-use Rattle.rounding.specs.declared.replacement.FinePrices.{FinePrices}
-use Rattle.commands.specs.FaultLines.{prefix_of}
-use Rattle.commands.specs.declared.faults.RunFault.{RunFault}
-use Rattle.commands.specs.declared.faults.RunFault.TheVariants.{Refused, TooHeavy}
-use Rattle.commands.specs.Commands.{AnswersBy, Commands, IsRefused, IsWantOfMemory, text_of}
-use Rattle.commands.specs.Outcomes.{Outcome, Prints, naming_outcome, normalise_outcome}
-use Rattle.commands.specs.Pairs.{CommandsBoth, CommandsOnBoth}
-use Rattle.commands.specs.SizesRows.{AnswersRow}
-use Rattle.commands.specs.declared.answer.Answer.{Answer}
-use Rattle.commands.specs.declared.answer.Output.{Output}
+use Rattle.commands.proofs.Common.{rules, arith, ◌≡◌, inl, inr, ℕ, List, [], Option, Result, Ok, Err, refl, subst, PlainFile, Spells, SearchOptions}
+use Rattle.commands.proofs.Common.{SpellsWithinLimit, CanonFault, Read, StepLimit, Memory, Which, Only, First, Second, Both, FinePrices, prefix_of, RunFault}
+use Rattle.commands.proofs.Common.{Refused, TooHeavy, AnswersBy, Commands, IsRefused, IsWantOfMemory, text_of, Outcome, Prints, naming_outcome}
+use Rattle.commands.proofs.Common.{normalise_outcome, CommandsBoth, CommandsOnBoth, AnswersRow, Answer, Output, Calls, Gives, GivesFault, GivesOutput}
+use Rattle.commands.proofs.Common.{AnswersFirsts, DuplicatesCalls, SaysFirsts, AnswersPlace, AnswersPlaceBy, FaultCalls, IsUnplaced, SaysPlace, CallsOn}
+use Rattle.commands.proofs.Common.{IsRefusedText, IsUnmade, OfOnly, PrintsOf, RefusesText, TextGives, TextRefuses, text_read, AnswersRounding, GivesReport}
+use Rattle.commands.proofs.Common.{GivesRounded, RoundCalls, whole_status, SaysRow, SizesCalls, CallsOnBoth, ComparesTexts, DiffsTexts, IsRefusedOfTwo}
+use Rattle.commands.proofs.Common.{Comparison, Compare, Diff, RoundAnswer, Text}
 use Rattle.commands.specs.declared.answer.Output.TheVariants as output
-use Rattle.commands.specs.Buffers.{Calls, Gives, GivesFault, GivesOutput}
-use Rattle.commands.specs.DuplicatesCalls.{AnswersFirsts, DuplicatesCalls, SaysFirsts}
-use Rattle.commands.specs.FaultCalls.{AnswersPlace, AnswersPlaceBy, FaultCalls, IsUnplaced, SaysPlace}
-use Rattle.commands.specs.OneText.{CallsOn, IsRefusedText, IsUnmade, OfOnly, PrintsOf}
-use Rattle.commands.specs.Refusals.{RefusesText, TextGives, TextRefuses, text_read}
-use Rattle.commands.specs.Roundings.{AnswersRounding, GivesReport, GivesRounded, RoundCalls, whole_status}
-use Rattle.commands.specs.SizesCalls.{SaysRow, SizesCalls}
-use Rattle.commands.specs.TwoTexts.{CallsOnBoth, ComparesTexts, DiffsTexts, IsRefusedOfTwo}
-use Rattle.commands.specs.declared.command.Comparison.{Comparison}
-use Rattle.commands.specs.declared.command.Comparison.TheVariants.{Compare, Diff}
-use Rattle.commands.specs.declared.calls.rounded_text.RoundAnswer.{RoundAnswer}
-use Rattle.commands.specs.declared.calls.text.Text.{Text}
 use Rattle.commands.proofs.Refusing.{text_fault-of_bytes}
 
 -- ---- an answer of which this is said

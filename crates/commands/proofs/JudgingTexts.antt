@@ -1,37 +1,16 @@
 -- One more of many texts: what is kept of those that are not refused, and the first text that is the same auction.
-use Rattle.std.proofs.Common.{◌≡◌, ℕ, zero, suc, ◌+◌, ◌<◌, List, [], ◌∷◌, ◌++◌, length, map, Option, None, Some, Result, Ok, Err, slice_get, get_or}
-use Rattle.std.proofs.Common.{refl, sym, ap, ap₂, ◌∙◌, subst, inr, arith, zero-add, add-one, drop-cons, length-append, max, take, drop, flat_map, append-nil}
-use Rattle.std.proofs.Common.{append_assoc}
-use Rattle.std.specs.List.{AllZip}
-use Rattle.std.proofs.lemmas.Grind.{flat_map-append}
-use Rattle.std.proofs.lemmas.List.Sums.{fold-append}
-use Rattle.std.proofs.lemmas.Option.{none-some, same_Some, slice_get_within, get_or_from_slice_get}
-use Rattle.bid_file.specs.Files.{PlainFile, IsPlainFile}
-use Rattle.cats_text.specs.Grammar.{Spells}
+use Rattle.commands.proofs.Common.{◌≡◌, ℕ, zero, suc, ◌+◌, ◌<◌, List, [], ◌∷◌, ◌++◌, length, map, Option, None, Some, Result, Ok, Err, get_or, refl, sym, ap}
+use Rattle.commands.proofs.Common.{ap₂, ◌∙◌, subst, inr, arith, zero-add, add-one, drop-cons, length-append, max, take, drop, append-nil, append_assoc, AllZip}
+use Rattle.commands.proofs.Common.{flat_map-append, fold-append, none-some, same_Some, slice_get_within, get_or_from_slice_get, PlainFile, IsPlainFile, Spells}
+use Rattle.commands.proofs.Common.{ReadFault, or_atoms_of, SearchOptions, first_refused, RefusesAs, canonical_text, AddsText, IsFirstNumber, IsNoFile, IsText}
+use Rattle.commands.proofs.Common.{normalised_file, unless_refused, refusal_of, AreSameFiles, CanonFault, Read, StepLimit, Memory, Only, canonical_texts_tell}
+use Rattle.commands.proofs.Common.{index_of_more, number_of_more, AnswersFirst, IsFirstSame, SizesText, line_of_first, status_of_first, texts_of, JudgesText}
+use Rattle.commands.proofs.Common.{Keeps, SaysSoFar, files_if_sized, files_sized, numbers_sized, FinePrices, with_bid, RefusesText, text_read, Sized, IsSized}
+use Rattle.commands.proofs.Common.{IsTooHeavy, IsUnsized, JudgedTexts, RunFault, Refused}
+use Rattle.std.proofs.Common.{slice_get}
+use Rattle.std.proofs.Common.{flat_map}
 use Rattle.cats_text.specs.declared.read_fault.Kind.TheVariants.{Memory as NoMemory}
-use Rattle.cats_text.specs.declared.read_fault.ReadFault.{ReadFault}
-use Rattle.valuation.specs.Auctions.{or_atoms_of}
-use Rattle.valuation.specs.declared.search.options.SearchOptions.{SearchOptions}
-use Rattle.prune.specs.SearchSteps.{first_refused}
-use Rattle.canon.specs.Answers.{RefusesAs}
-use Rattle.canon.specs.Canonical.{canonical_text}
-use Rattle.canon.specs.FirstNumbers.{AddsText, IsFirstNumber}
-use Rattle.canon.specs.Normalising.{ExceedsSteps, IsNoFile, IsText, normalised_file, unless_refused}
-use Rattle.canon.specs.Refusals.{refusal_of}
-use Rattle.canon.specs.Sameness.{AreSameFiles}
-use Rattle.canon.specs.declared.canon_fault.CanonFault.{CanonFault}
-use Rattle.canon.specs.declared.canon_fault.CanonFault.TheVariants.{Read, StepLimit, Memory}
-use Rattle.canon.specs.declared.which.Which.TheVariants.{Only}
-use Rattle.canon.proofs.TwoFiles.Indexing.{canonical_texts_tell, index_of_more, number_of_more}
-use Rattle.commands.specs.DuplicatesCalls.{AnswersFirst, IsFirstSame, SizesText, line_of_first, status_of_first, texts_of}
-use Rattle.commands.specs.Internal.Duplicates.{JudgesText, Keeps, SaysSoFar, files_if_sized, files_sized, numbers_sized}
-use Rattle.rounding.specs.declared.replacement.FinePrices.{FinePrices}
-use Rattle.commands.specs.Naming.{with_bid}
-use Rattle.commands.specs.Refusals.{RefusesText, text_read}
-use Rattle.commands.specs.SizesRows.{Sized, IsSized, IsTooHeavy, IsUnsized}
-use Rattle.commands.specs.declared.calls.duplicates.JudgedTexts.{JudgedTexts}
-use Rattle.commands.specs.declared.faults.RunFault.{RunFault}
-use Rattle.commands.specs.declared.faults.RunFault.TheVariants.{Refused}
+use Rattle.canon.specs.Normalising.{ExceedsSteps}
 use Rattle.commands.proofs.Sizing.{heavy_bid, sizes_heavy, sizes_unread}
 
 -- ---- a list with one more element

@@ -1,4 +1,5 @@
 -- Proofs that several functions cite, here and in the crates above.
+pub mod Common
 pub mod Lines
 pub mod Explanations
 pub mod ComparedFiles

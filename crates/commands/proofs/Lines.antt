@@ -1,8 +1,5 @@
 -- Lines by number: one more line is put behind those before it.
-use Rattle.std.proofs.Common.{◌≡◌, ℕ, ◌+◌, List, ◌++◌, sym, ap, ◌∙◌, zero-add}
-use Rattle.std.specs.List.{flat_map, range_with_len}
-use Rattle.std.proofs.lemmas.List.{flat_map_more, map-id}
-use Rattle.std.proofs.lemmas.List.FromFn.{map-range_with_len_more}
+use Rattle.commands.proofs.Common.{◌≡◌, ℕ, ◌+◌, List, ◌++◌, sym, ap, ◌∙◌, zero-add, flat_map, range_with_len, flat_map_more, map-id, map-range_with_len_more}
 
 -- one more line
 pub lines_more : (f : ℕ → List ℕ) (before : List ℕ) (n : ℕ)

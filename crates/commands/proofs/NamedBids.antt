@@ -1,21 +1,10 @@
 -- The bid that is named for a refused bundle. A bundle is searched only if an OR bid is on it, so the first such bid is found.
-use Rattle.std.proofs.Common.{arith, ◌≡◌, ℕ, ◌<◌, true, ltb, List, [], ◌∷◌, length, get_or, sym, ap, ◌∙◌, Some}
-use Rattle.std.specs.Prelude.{Contains, is_none, nat_eq}
+use Rattle.commands.proofs.Common.{arith, ◌≡◌, ℕ, ◌<◌, true, ltb, List, [], ◌∷◌, length, get_or, sym, ap, ◌∙◌, Some, Contains, is_none, nat_eq, and_from}
+use Rattle.commands.proofs.Common.{ltb-true, nat_list_eq_equiv, passes_at_first, pointwise, PlainBid, PlainFile, Atom, SearchOptions, atom_of, or_atoms_of}
+use Rattle.commands.proofs.Common.{Contains-unmap, options_after, Contains-head, Contains-tail, Contains-filter_parts, greatest_price-reached, greatest_price}
+use Rattle.commands.proofs.Common.{search_steps_by, searched_bundles, first_bid_on, is_on}
 use Rattle.std.specs.List.{filter}
-use Rattle.std.proofs.lemmas.Bool.{and_from, ltb-true}
-use Rattle.std.proofs.lemmas.Cmp.{nat_list_eq_equiv}
-use Rattle.std.proofs.lemmas.List.Sums.{passes_at_first}
-use Rattle.std.specs.Cmp.Lexicographic.{pointwise}
-use Rattle.bid_file.specs.Files.{PlainBid, PlainFile}
-use Rattle.valuation.specs.declared.atom.Atom.{Atom}
-use Rattle.valuation.specs.declared.search.options.SearchOptions.{SearchOptions}
-use Rattle.valuation.specs.Auctions.{atom_of, or_atoms_of}
-use Rattle.valuation.specs.Lemmas.Lists.{Contains-unmap}
-use Rattle.valuation.specs.SearchLimits.{options_after}
-use Rattle.prune.specs.Lemmas.Lists.{Contains-head, Contains-tail, Contains-filter_parts}
-use Rattle.prune.specs.Lemmas.SearchSteps.{greatest_price-reached}
-use Rattle.prune.specs.SearchSteps.{first_over, first_refused, greatest_price, search_steps_by, searched_bundles}
-use Rattle.commands.specs.Outcomes.{first_bid_on, is_on}
+use Rattle.prune.specs.SearchSteps.{first_over, first_refused}
 use Rattle.commands.proofs.BidNumbers.{first_within}
 
 over_is_searched : (steps : List ℕ → ℕ) (options : SearchOptions) (bundles : List (List ℕ)) (bundle : List ℕ)

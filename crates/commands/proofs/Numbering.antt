@@ -1,14 +1,11 @@
 -- The numbers of the bids behind an auction's atoms, bid by bid: each number is put at the end of the OR bidder's list, or of the list
 -- of one XOR bidder. There are as many numbers as atoms.
-use Rattle.std.proofs.Common.{◌≡◌, ℕ, suc, ◌+◌, ◌<◌, Bool, true, false, cond, List, [], ◌∷◌, ◌++◌, length, map, get_or, set, take, Some, None, is_none}
-use Rattle.std.proofs.Common.{Global, refl, sym, ap, ◌∙◌, arith, append_assoc, append-nil, zero-add}
-use Rattle.std.specs.Prelude.{Vec, filter}
-use Rattle.std.specs.List.{range_with_len}
-use Rattle.std.proofs.lemmas.Bool.{ne_eqb, eq-eqb}
-use Rattle.std.proofs.lemmas.List.{take_more, length-map, length-take-le, map-set}
-use Rattle.bid_file.specs.Files.{PlainBid}
-use Rattle.valuation.specs.Auctions.{atom_of, is_dummy, or_atoms_of, xor_atoms_of}
-use Rattle.commands.specs.ValueTexts.{numbers_from, or_numbers, xor_numbers, lists_of}
+use Rattle.commands.proofs.Common.{◌≡◌, ℕ, suc, ◌+◌, ◌<◌, Bool, true, false, cond, List, [], ◌∷◌, ◌++◌, length, map, get_or, set, take, Some, None, Global}
+use Rattle.commands.proofs.Common.{refl, sym, ap, ◌∙◌, arith, append_assoc, append-nil, zero-add, Vec, range_with_len, ne_eqb, eq-eqb, take_more, length-map}
+use Rattle.commands.proofs.Common.{length-take-le, map-set, PlainBid, atom_of, is_dummy, or_atoms_of, xor_atoms_of, numbers_from, or_numbers, xor_numbers}
+use Rattle.commands.proofs.Common.{lists_of}
+use Rattle.std.proofs.Common.{is_none}
+use Rattle.std.specs.Prelude.{filter}
 use Rattle.commands.proofs.ByNumber.{by_number-same, by_number-set, seen_by_number-length, seen_by_number-at}
 
 -- ---- as many as atoms

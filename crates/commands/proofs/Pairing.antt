@@ -1,26 +1,10 @@
 -- What is made of two files that were given: an answer, or memory is refused for it.
-use Rattle.std.proofs.Common.{rules, ◌≡◌, Result, Ok, Err, sym, ap, ap₂, ◌∙◌, subst, IfOk, IfErr}
-use Rattle.std.proofs.lemmas.Result.{IfOk-weaker}
+use Rattle.commands.proofs.Common.{rules, ◌≡◌, Result, Ok, Err, sym, ap, ap₂, ◌∙◌, subst, IfOk, IfErr, IfOk-weaker, PlainFile, IsPlainFile, ReadFault}
+use Rattle.commands.proofs.Common.{SearchOptions, difference_of_same_files, same_sym, canonical_file_is_same, IsPlainFile-canonical, canonical_file, CanonFault}
+use Rattle.commands.proofs.Common.{Memory, Which, First, Second, Both, PrintsDifferences, RunFault, ComparedFile, GivesWithin, ReadsCanonical, text_of, of_file}
+use Rattle.commands.proofs.Common.{Outcome, Prints, compare_outcome, diff_outcome, naming_outcome, normalise_outcome, outcome_of_difference, CommandsBoth}
+use Rattle.commands.proofs.Common.{Compares, Diffs, GivesBoth, MakesOfBoth, outcome_of_both, Answer}
 use Rattle.std.specs.Prelude.{ℕ, List}
-use Rattle.bid_file.specs.Files.{PlainFile, IsPlainFile}
-use Rattle.cats_text.specs.declared.read_fault.ReadFault.{ReadFault}
-use Rattle.valuation.specs.declared.search.options.SearchOptions.{SearchOptions}
-use Rattle.canon.proofs.TwoFiles.SameDifferences.{difference_of_same_files}
-use Rattle.canon.proofs.CanonicalAuctions.Sames.{same_sym}
-use Rattle.canon.proofs.CanonicalFiles.Texts.{canonical_file_is_same, IsPlainFile-canonical}
-use Rattle.canon.specs.Canonical.{canonical_file}
-use Rattle.canon.specs.declared.canon_fault.CanonFault.{CanonFault}
-use Rattle.canon.specs.declared.canon_fault.CanonFault.TheVariants.{Memory}
-use Rattle.canon.specs.declared.which.Which.{Which}
-use Rattle.canon.specs.declared.which.Which.TheVariants.{First, Second, Both}
-use Rattle.commands.specs.Internal.ComparedFiles.{PrintsDifferences}
-use Rattle.commands.specs.declared.faults.RunFault.{RunFault}
-use Rattle.commands.specs.declared.printed.sides.ComparedFile.{ComparedFile}
-use Rattle.commands.specs.Commands.{GivesWithin, ReadsCanonical, text_of}
-use Rattle.commands.specs.Internal.Pairs.{of_file}
-use Rattle.commands.specs.Outcomes.{Outcome, Prints, compare_outcome, diff_outcome, naming_outcome, normalise_outcome, outcome_of_difference}
-use Rattle.commands.specs.Pairs.{CommandsBoth, Compares, Diffs, GivesBoth, MakesOfBoth, outcome_of_both}
-use Rattle.commands.specs.declared.answer.Answer.{Answer}
 
 -- what was given, if there is no fault
 given_of : {T : Type 0} (P : Result T CanonFault → Type 0) (which : Which) (answer : Result T CanonFault) (given : T)

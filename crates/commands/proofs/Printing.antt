@@ -1,18 +1,11 @@
 -- The lines of the XOR bidders, one by one: one more bidder's line, made piece by piece, is put behind those of the bidders before it.
-use Rattle.std.proofs.Common.{◌≡◌, ℕ, ◌+◌, ◌<◌, List, ◌∷◌, ◌++◌, length, map, get_or, Global, sym, ap, ◌∙◌, arith, append_assoc}
-use Rattle.std.specs.Prelude.{Vec, Option, Result, Ok, Err, OnOk, is_ok, if◌then◌else◌, All, codes, decimal}
-use Rattle.std.specs.List.{flat_map, range_with_len}
-use Rattle.std.proofs.lemmas.List.Elements.{All-weaker}
-use Rattle.bid_file.specs.Files.{PlainBid, PlainFile}
-use Rattle.cats_text.specs.Layout.{price_text}
-use Rattle.valuation.specs.declared.atom.Atom.{Atom}
-use Rattle.valuation.specs.Auctions.{or_atoms_of, xor_atoms_of}
-use Rattle.valuation.specs.Bidders.{bidders_of}
-use Rattle.valuation.specs.Values.{atoms_of, chosen_indices, xor_value}
-use Rattle.valuation.specs.Lemmas.Packings.{chosen_indices-packing}
+use Rattle.commands.proofs.Common.{◌≡◌, ℕ, ◌+◌, ◌<◌, List, ◌∷◌, ◌++◌, length, map, get_or, Global, sym, ap, ◌∙◌, arith, append_assoc, Vec, OnOk, is_ok}
+use Rattle.commands.proofs.Common.{if◌then◌else◌, All, flat_map, range_with_len, All-weaker, PlainBid, PlainFile, price_text, Atom, or_atoms_of, xor_atoms_of}
+use Rattle.commands.proofs.Common.{bidders_of, atoms_of, chosen_indices, xor_value, chosen_indices-packing, best_place, dummy_line, numbers_text, option_places}
+use Rattle.commands.proofs.Common.{or_numbers, xor_line, xor_numbers}
+use Rattle.std.specs.Prelude.{Option, Result, Ok, Err, codes, decimal}
 use Rattle.commands.proofs.ByNumber.{seen_by_number-at}
 use Rattle.commands.proofs.Lines.{lines_more}
-use Rattle.commands.specs.ValueTexts.{best_place, dummy_line, numbers_text, option_places, or_numbers, xor_line, xor_numbers}
 use Rattle.commands.proofs.Numbering.{length-or_numbers}
 
 -- the atoms of a bidder

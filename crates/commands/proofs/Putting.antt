@@ -1,11 +1,7 @@
 -- Texts that are put into a buffer, one behind the other.
-use Rattle.std.proofs.Common.{◌≡◌, ℕ, ◌+◌, ◌^◌, ◌<◌, ◌≤◌, List, [], ◌++◌, length, get_or, take, drop, refl, sym, ap, ap₂, ◌∙◌, arith}
-use Rattle.std.proofs.Common.{append-nil, length-append}
-use Rattle.std.specs.List.{flat_map}
-use Rattle.std.proofs.lemmas.Grind.{flat_map-append}
-use Rattle.std.proofs.lemmas.List.{append_assoc, drop-drop, take-append-drop, take_more}
-use Rattle.commands.specs.Buffers.{PutsInto}
-use Rattle.commands.specs.Internal.Putting.{PutsFrom}
+use Rattle.commands.proofs.Common.{◌≡◌, ℕ, ◌+◌, ◌^◌, ◌<◌, ◌≤◌, List, [], ◌++◌, length, get_or, take, drop, refl, sym, ap, ap₂, ◌∙◌, arith, append-nil}
+use Rattle.commands.proofs.Common.{length-append, flat_map, flat_map-append, drop-drop, take-append-drop, take_more, PutsInto, PutsFrom}
+use Rattle.std.proofs.lemmas.List.{append_assoc}
 
 pub puts_nothing : (at : ℕ) (old : List ℕ) → at < 2 ^ 64 → PutsFrom at [] old old at
 puts_nothing at old small = record {

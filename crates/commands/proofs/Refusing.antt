@@ -1,21 +1,9 @@
 -- A text that is read. One that is longer than a stream may be has a fault: that of its first bytes, or its length.
-use Rattle.std.proofs.Common.{◌≡◌, ◌<◌, ◌≤◌, ◌⊎◌, inl, inr, ℕ, nat_le, true, false, List, [], length}
-use Rattle.std.proofs.Common.{take, Option, None, Some, is_some, Result, Ok, Err, IfErr, IfSome, sym, ap, ◌∙◌, subst, refl}
-use Rattle.std.proofs.lemmas.Bool.{cond_both, le-leb, lt-leb}
-use Rattle.std.proofs.lemmas.List.{take_all}
-use Rattle.std.proofs.lemmas.Result.{IfErr-weaker}
-use Rattle.cats_text.specs.Faults.{has_bid_line}
-use Rattle.cats_text.specs.Fed.{Fed, fed_fault}
-use Rattle.cats_text.specs.Reading.{FeedsAs, FeedsOn, PackedAnswer, WantsMemory}
-use Rattle.cats_text.specs.declared.read_fault.ReadFault.{ReadFault}
-use Rattle.cats_text.specs.declared.limits.TheConstants.{MAX_STREAM}
+use Rattle.commands.proofs.Common.{◌≡◌, ◌<◌, ◌≤◌, ◌⊎◌, inl, inr, ℕ, nat_le, true, false, List, [], length, take, Option, None, Some, is_some, Result, Ok, Err}
+use Rattle.commands.proofs.Common.{IfErr, IfSome, sym, ap, ◌∙◌, subst, refl, cond_both, le-leb, lt-leb, take_all, IfErr-weaker, has_bid_line, Fed, fed_fault}
+use Rattle.commands.proofs.Common.{FeedsAs, FeedsOn, PackedAnswer, WantsMemory, ReadFault, MAX_STREAM, IsFaultOfBytes, fed_fault-of_bytes, first_fault-of_bytes}
+use Rattle.commands.proofs.Common.{PlainFile, FinePrices, ReadsAs, MayWantMemory, RefusesText, TextGives, TextRefuses, long_fault, text_fault, text_read, Text}
 use Rattle.cats_text.specs.declared.read_fault.Kind.TheVariants.{Memory as NoMemory}
-use Rattle.cats_text.proofs.Texts.FaultKinds.{IsFaultOfBytes, fed_fault-of_bytes, first_fault-of_bytes}
-use Rattle.bid_file.specs.Files.{PlainFile}
-use Rattle.rounding.specs.declared.replacement.FinePrices.{FinePrices}
-use Rattle.commands.specs.Inputs.{ReadsAs}
-use Rattle.commands.specs.Refusals.{MayWantMemory, RefusesText, TextGives, TextRefuses, long_fault, text_fault, text_read}
-use Rattle.commands.specs.declared.calls.text.Text.{Text}
 
 -- the fault is of the bytes that are read
 long_fault-of_bytes : (fine : Option FinePrices) (text : List ℕ) → IfSome (long_fault fine text) IsFaultOfBytes

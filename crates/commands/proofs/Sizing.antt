@@ -1,31 +1,13 @@
 -- The numbers in a row of `cats sizes`: how many bids have no dummy good, and which dummy goods the bids so far have.
-use Rattle.std.proofs.Common.{◌≡◌, ℕ, ◌+◌, ◌<◌, Bool, true, false, cond, List, [], ◌++◌, length, map, set, take, refl}
-use Rattle.std.proofs.Common.{arith, inl, inr, Option, Some, None}
-use Rattle.std.proofs.Common.{Global}
-use Rattle.std.specs.Prelude.{codes, filter, is_none, ◌||◌, Vec}
-use Rattle.std.specs.List.{range_with_len, slice_get}
+use Rattle.commands.proofs.Common.{◌≡◌, ℕ, ◌+◌, ◌<◌, Bool, true, false, cond, List, [], ◌++◌, length, map, set, take, refl, arith, inl, inr, Option, Some, None}
+use Rattle.commands.proofs.Common.{Global, is_none, ◌||◌, Vec, range_with_len, slice_get, length-filter_more, list_any_more, get_or_from_slice_get}
+use Rattle.commands.proofs.Common.{slice_get_within, PlainBid, PlainFile, Kind, ReadFault, is_dummy, or_atoms_of, SearchOptions, first_refused, canonical_file}
+use Rattle.commands.proofs.Common.{refusal_by_kind, refusal_of, StepLimit, Memory, Only, HeavyBid, RunFault, Refused, with_bid, first_bid_on, Sizes, IsSized}
+use Rattle.commands.proofs.Common.{IsTooHeavy, IsUnsized, PutsNumbers, counts_of, has_dummy, sizes_of, with_tabs}
+use Rattle.std.specs.Prelude.{codes, filter}
 use Rattle.std.proofs.lemmas.List.{append_assoc}
-use Rattle.std.proofs.lemmas.List.Filters.{length-filter_more}
-use Rattle.std.proofs.lemmas.List.Folds.{list_any_more}
-use Rattle.std.proofs.lemmas.Option.{get_or_from_slice_get, slice_get_within}
-use Rattle.bid_file.specs.Files.{PlainBid, PlainFile}
-use Rattle.cats_text.specs.declared.read_fault.Kind.{Kind}
 use Rattle.cats_text.specs.declared.read_fault.Kind.TheVariants.{Memory as NoMemory}
-use Rattle.cats_text.specs.declared.read_fault.ReadFault.{ReadFault}
-use Rattle.valuation.specs.Auctions.{is_dummy, or_atoms_of}
-use Rattle.valuation.specs.declared.search.options.SearchOptions.{SearchOptions}
-use Rattle.prune.specs.SearchSteps.{first_refused}
-use Rattle.canon.specs.Canonical.{canonical_file}
-use Rattle.canon.specs.Refusals.{refusal_by_kind, refusal_of}
-use Rattle.canon.specs.declared.canon_fault.CanonFault.TheVariants.{StepLimit, Memory}
-use Rattle.canon.specs.declared.which.Which.TheVariants.{Only}
-use Rattle.commands.specs.declared.faults.HeavyBid.{HeavyBid}
-use Rattle.commands.specs.declared.faults.RunFault.{RunFault}
-use Rattle.commands.specs.declared.faults.RunFault.TheVariants.{Refused}
-use Rattle.commands.specs.Naming.{with_bid}
-use Rattle.commands.specs.Outcomes.{first_bid_on}
 use Rattle.commands.proofs.ByNumber.{by_number-same, by_number-set}
-use Rattle.commands.specs.SizesRows.{Sizes, IsSized, IsTooHeavy, IsUnsized, PutsNumbers, counts_of, has_dummy, sizes_of, with_tabs}
 
 -- ---- cells
 

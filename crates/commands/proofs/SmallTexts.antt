@@ -1,26 +1,10 @@
 -- What calls answer of a small text, by the file that its lines say.
-use Rattle.std.proofs.Common.{◌≡◌, ◌≢◌, ℕ, ◌+◌, nat_le, nat_lt, true, false, eqb, List, [], ◌++◌, codes, length, drop, slice_index_or}
-use Rattle.std.proofs.Common.{None, refl, sym, ap, ap₂, ◌∙◌, append_assoc, arith}
-use Rattle.std.specs.List.{flat_map}
-use Rattle.std.proofs.lemmas.Bool.{eqb-false, leb-true, ltb-true, ne_eqb}
-use Rattle.bid_file.specs.Files.{PlainFile}
-use Rattle.cats_text.specs.Faults.{first_fault}
-use Rattle.cats_text.specs.FileLines.{spelled_file}
-use Rattle.cats_text.proofs.Spelling.Files.{spells_from_no_fault, says_spelled}
-use Rattle.valuation.specs.Auctions.{auction_from, or_atoms_of}
-use Rattle.valuation.specs.declared.search.options.SearchOptions.{SearchOptions}
-use Rattle.prune.specs.SearchSteps.{first_refused}
-use Rattle.canon.specs.Canonical.{canonical_file}
-use Rattle.canon.specs.Comparing.{SpellsWithinLimit}
-use Rattle.rounding.specs.Texts.{rounded_text}
-use Rattle.rounding.specs.declared.replacement.FinePrices.{FinePrices}
-use Rattle.analysis.specs.Differences.{AreAllDifferences, PlainDifferences}
-use Rattle.commands.specs.DiffTexts.{bidder_rows, change_row, diff_header, diff_text, goods_row}
-use Rattle.commands.specs.Outcomes.{Outcome, Prints, LacksGood, LacksBid, ExceedsSteps, ExceedsAtBid, compare_outcome}
-use Rattle.commands.specs.Buffers.{PutsInto}
-use Rattle.commands.specs.OneText.{MakesOf}
-use Rattle.commands.specs.Roundings.{RoundsText, report_of}
-use Rattle.commands.specs.TwoTexts.{ComparesTexts, DiffsTexts}
+use Rattle.commands.proofs.Common.{◌≡◌, ◌≢◌, ℕ, ◌+◌, nat_le, nat_lt, true, false, eqb, List, [], ◌++◌, codes, length, drop, slice_index_or, None, refl, sym, ap}
+use Rattle.commands.proofs.Common.{ap₂, ◌∙◌, append_assoc, arith, flat_map, eqb-false, leb-true, ltb-true, ne_eqb, PlainFile, first_fault, spelled_file}
+use Rattle.commands.proofs.Common.{spells_from_no_fault, says_spelled, auction_from, or_atoms_of, SearchOptions, first_refused, canonical_file}
+use Rattle.commands.proofs.Common.{SpellsWithinLimit, rounded_text, FinePrices, AreAllDifferences, PlainDifferences, bidder_rows, change_row, diff_header}
+use Rattle.commands.proofs.Common.{diff_text, goods_row, Outcome, Prints, LacksGood, LacksBid, ExceedsSteps, ExceedsAtBid, compare_outcome, PutsInto, MakesOf}
+use Rattle.commands.proofs.Common.{RoundsText, report_of, ComparesTexts, DiffsTexts}
 
 -- texts that have other bytes at an index are not equal
 pub other_byte : (i : ℕ) (a b : List ℕ) → eqb (slice_index_or a i 0) (slice_index_or b i 0) ≡ false → a ≡ b → ⊥

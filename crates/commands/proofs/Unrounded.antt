@@ -1,16 +1,8 @@
 -- Why a text is not rounded.
-use Rattle.std.proofs.Common.{◌≡◌, List, ℕ, Some, Err, refl, inl, inr}
-use Rattle.cats_text.proofs.Texts.FaultKinds.{first_fault-of_bytes}
-use Rattle.cats_text.specs.Faults.{first_fault}
-use Rattle.cats_text.specs.declared.read_fault.Kind.{Kind}
+use Rattle.commands.proofs.Common.{◌≡◌, List, ℕ, Some, Err, refl, inl, inr, first_fault-of_bytes, first_fault, Kind, ReadFault, refusal_by_kind, refusal_of}
+use Rattle.commands.proofs.Common.{CanonFault, Read, Memory, WantsMemoryToRound, rounded_text, FinePrices}
 use Rattle.cats_text.specs.declared.read_fault.Kind.TheVariants.{Memory as NoMemory}
-use Rattle.cats_text.specs.declared.read_fault.ReadFault.{ReadFault}
-use Rattle.canon.specs.Refusals.{refusal_by_kind, refusal_of}
-use Rattle.canon.specs.declared.canon_fault.CanonFault.{CanonFault}
-use Rattle.canon.specs.declared.canon_fault.CanonFault.TheVariants.{Read, Memory}
-use Rattle.rounding.specs.Answers.{RoundAnswer, WantsMemoryToRound}
-use Rattle.rounding.specs.Texts.{rounded_text}
-use Rattle.rounding.specs.declared.replacement.FinePrices.{FinePrices}
+use Rattle.rounding.specs.Answers.{RoundAnswer}
 
 module _ (P : CanonFault → Type 0) (fine : FinePrices) (text : List ℕ)
     (first : (fault : ReadFault) → first_fault (rounded_text fine text) ≡ Some fault → P (Read fault)) (memory : WantsMemoryToRound fine text → P Memory)

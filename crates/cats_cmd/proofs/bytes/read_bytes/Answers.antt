@@ -1,5 +1,5 @@
 -- `read_bytes`
-use Rattle.std.proofs.Common.{arith, ◌<◌, length, ◌∙◌, inl, inr}
+use Rattle.cats_cmd.proofs.Common.{arith, ◌<◌, length, ◌∙◌, inl, inr}
 use Rattle.cats_cmd.proofs.ReadingBytes.{bytes_wanted, no_more, not_at_the_end, at_the_end, too_many}
 use Rattle.cats_cmd.proofs.bytes.read_bytes.Goals as goal
 

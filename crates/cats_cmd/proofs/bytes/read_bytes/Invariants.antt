@@ -1,8 +1,5 @@
 -- `read_bytes`
-use Rattle.std.proofs.Common.{◌≡◌, ◌<◌, ◌≤◌, ◌+◌, ◌-◌, length, false}
-use Rattle.std.specs.Io.KnownBytes.{Consumes}
-use Rattle.cats_text.specs.declared.limits.TheConstants.{MAX_STREAM}
-use Rattle.cats_text.specs.Streams.{inner_of, has_ended, has_failed}
+use Rattle.cats_cmd.proofs.Common.{◌≡◌, ◌<◌, ◌≤◌, ◌+◌, ◌-◌, length, false, Consumes, MAX_STREAM, inner_of, has_ended, has_failed}
 use Rattle.cats_cmd.proofs.bytes.read_bytes.Given as goal
 
 -- the bytes that came so far are kept

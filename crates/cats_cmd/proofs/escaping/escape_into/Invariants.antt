@@ -1,6 +1,5 @@
 -- `escape_into`: what is there and what is still to come are the whole
-use Rattle.std.proofs.Common.{◌≡◌, ◌++◌, length}
-use Rattle.cats_cmd.specs.Escaping.{escaped, escaped_behind}
+use Rattle.cats_cmd.proofs.Common.{◌≡◌, ◌++◌, length, escaped, escaped_behind}
 use Rattle.cats_cmd.proofs.escaping.escape_into.Given as goal
 
 abbrev pub invariant-loop-rest : goal.invariant-loop-rest

@@ -1,7 +1,5 @@
 -- `plain_run`
-use Rattle.std.proofs.Common.{rules, ◌≡◌, ◌==◌, ◌≤◌, ◌+◌, ℕ, false, length, drop, arith, sym, ap, ◌∙◌, length-drop}
-use Rattle.std.proofs.lemmas.Bool.{ne_eqb}
-use Rattle.cats_cmd.specs.Escaping.{plain_length}
+use Rattle.cats_cmd.proofs.Common.{rules, ◌≡◌, ◌==◌, ◌≤◌, ◌+◌, ℕ, false, length, drop, arith, sym, ap, ◌∙◌, length-drop, ne_eqb, plain_length}
 use Rattle.cats_cmd.proofs.Escaped.{behind_run, run_more, run_within}
 use Rattle.cats_cmd.proofs.escaping.plain_run.Goals as goal
 

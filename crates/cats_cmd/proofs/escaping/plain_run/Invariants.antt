@@ -1,6 +1,5 @@
 -- `plain_run`: the bytes so far are not escaped
-use Rattle.std.proofs.Common.{◌≡◌, ◌≤◌, ◌-◌, ◌++◌, length, take, drop}
-use Rattle.cats_cmd.specs.Escaping.{escaped}
+use Rattle.cats_cmd.proofs.Common.{◌≡◌, ◌≤◌, ◌-◌, ◌++◌, length, take, drop, escaped}
 use Rattle.cats_cmd.proofs.escaping.plain_run.Given as goal
 
 abbrev pub invariant-loop-run : goal.invariant-loop-run

@@ -1,6 +1,5 @@
 -- `files_below`
-use Rattle.cats_cmd.specs.Folders.{with_slash}
-use Rattle.cats_cmd.specs.Internal.Walking.{WalksBelow}
+use Rattle.cats_cmd.proofs.Common.{with_slash, WalksBelow}
 use Rattle.cats_cmd.proofs.folder.files_below.Given as goal
 
 abbrev pub invariant-loop : goal.invariant-loop

@@ -1,8 +1,6 @@
 -- `files_at`
-use Rattle.std.proofs.Common.{ℕ, List, [], ◌∷◌, ◌∙◌, ap, refl, Vec}
-use Rattle.std.specs.Borrow.{Bor}
-use Rattle.std.specs.Global.{Global}
-use Rattle.cats_cmd.specs.Folders.{found_of}
+use Rattle.cats_cmd.proofs.Common.{ℕ, List, [], ◌∷◌, ◌∙◌, ap, refl, Bor, Global, found_of}
+use Rattle.std.proofs.Common.{Vec}
 use Rattle.cats_cmd.proofs.FilesOfPaths.{next_files}
 use Rattle.cats_cmd.proofs.folders.files_at.Goals as goal
 use Rattle.cats_cmd.proofs.folders.files_at.Goals.{in-Some+in_ok-append-in-Some, in-None+in_ok-from_slice-in-None+in_ok-push-in-None}

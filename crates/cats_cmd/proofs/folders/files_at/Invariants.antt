@@ -1,6 +1,5 @@
 -- `files_at`
-use Rattle.std.proofs.Common.{map, take}
-use Rattle.cats_cmd.specs.Folders.{AreFilesAt, paths_of}
+use Rattle.cats_cmd.proofs.Common.{map, take, AreFilesAt, paths_of}
 use Rattle.cats_cmd.proofs.folders.files_at.Given as goal
 
 -- the files of the paths so far

@@ -1,6 +1,5 @@
 -- `slices`
-use Rattle.std.proofs.Common.{◌≡◌, map, take}
-use Rattle.cats_cmd.specs.Folders.{paths_of}
+use Rattle.cats_cmd.proofs.Common.{◌≡◌, map, take, paths_of}
 use Rattle.cats_cmd.proofs.folders.slices.Given as goal
 
 -- the paths so far

@@ -1,6 +1,5 @@
 -- `listed_paths_are_read_back`
-use Rattle.std.proofs.Common.{◌≡◌, ◌==◌, false}
-use Rattle.std.specs.List.{All}
+use Rattle.cats_cmd.proofs.Common.{◌≡◌, ◌==◌, false, All}
 use Rattle.cats_cmd.proofs.ListingPaths.{parts_back}
 use Rattle.cats_cmd.proofs.PrintableTexts.{lacks, lacks_from, list_all-from_All}
 use Rattle.cats_cmd.proofs.laws.listed_paths_are_read_back.Goals as goal

@@ -1,5 +1,5 @@
 -- `report_after_comma`
-use Rattle.std.proofs.Common.{[], ◌∷◌, decimal}
+use Rattle.cats_cmd.proofs.Common.{[], ◌∷◌, decimal}
 use Rattle.cats_cmd.proofs.Reporting.{reports_then}
 use Rattle.cats_cmd.proofs.lines.report_after_comma.Goals as goal
 

@@ -1,5 +1,5 @@
 -- `report_after_commas`
-use Rattle.std.proofs.Common.{◌∷◌, decimal}
+use Rattle.cats_cmd.proofs.Common.{◌∷◌, decimal}
 use Rattle.cats_cmd.proofs.Reporting.{reports_nothing, reports_next}
 use Rattle.cats_cmd.proofs.lines.report_after_commas.Goals as goal
 

@@ -1,7 +1,5 @@
 -- `report_after_commas`: the goods so far were reported
-use Rattle.std.proofs.Common.{take}
-use Rattle.commands.specs.Outputs.{after_commas}
-use Rattle.cats_cmd.specs.RequestErrors.{Reports}
+use Rattle.cats_cmd.proofs.Common.{take, after_commas, Reports}
 use Rattle.cats_cmd.proofs.lines.report_after_commas.Given as goal
 
 abbrev pub invariant-loop-good : goal.invariant-loop-good

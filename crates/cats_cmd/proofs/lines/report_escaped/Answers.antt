@@ -1,7 +1,5 @@
 -- `report_escaped`
-use Rattle.std.proofs.Common.{ℕ, List, ◌++◌, ap, ◌∙◌}
-use Rattle.std.proofs.lemmas.List.{append_assoc}
-use Rattle.cats_cmd.specs.Escaping.{escaped}
+use Rattle.cats_cmd.proofs.Common.{ℕ, List, ◌++◌, ap, ◌∙◌, append_assoc, escaped}
 use Rattle.cats_cmd.proofs.Reporting.{reports_then}
 use Rattle.cats_cmd.proofs.lines.report_escaped.Goals as goal
 

@@ -1,7 +1,5 @@
 -- `report_escaped`: a text was reported, and what is still to come completes it
-use Rattle.std.proofs.Common.{◌≡◌, ◌++◌, ℕ, List, length}
-use Rattle.cats_cmd.specs.Escaping.{escaped}
-use Rattle.cats_cmd.specs.RequestErrors.{Reports}
+use Rattle.cats_cmd.proofs.Common.{◌≡◌, ◌++◌, ℕ, List, length, escaped, Reports}
 use Rattle.cats_cmd.proofs.lines.report_escaped.Given as goal
 
 abbrev pub invariant-loop-rest : goal.invariant-loop-rest

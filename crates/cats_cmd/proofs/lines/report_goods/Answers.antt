@@ -1,6 +1,5 @@
 -- `report_goods`
-use Rattle.std.proofs.Common.{rules, ◌≡◌, ◌∷◌, decimal}
-use Rattle.commands.specs.Outputs.{after_commas}
+use Rattle.cats_cmd.proofs.Common.{rules, ◌≡◌, ◌∷◌, decimal, after_commas}
 use Rattle.cats_cmd.proofs.Reporting.{reports_then}
 use Rattle.cats_cmd.proofs.lines.report_goods.Goals as goal
 

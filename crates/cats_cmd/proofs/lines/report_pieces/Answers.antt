@@ -1,5 +1,5 @@
 -- `report_pieces`
-use Rattle.commands.specs.Pieces.{text_of_piece}
+use Rattle.cats_cmd.proofs.Common.{text_of_piece}
 use Rattle.cats_cmd.proofs.Reporting.{reports_nothing, reports_next}
 use Rattle.cats_cmd.proofs.lines.report_pieces.Goals as goal
 

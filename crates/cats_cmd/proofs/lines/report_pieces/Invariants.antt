@@ -1,7 +1,5 @@
 -- `report_pieces`: the pieces so far were reported
-use Rattle.std.proofs.Common.{take}
-use Rattle.commands.specs.Pieces.{text_of_pieces}
-use Rattle.cats_cmd.specs.RequestErrors.{Reports}
+use Rattle.cats_cmd.proofs.Common.{take, text_of_pieces, Reports}
 use Rattle.cats_cmd.proofs.lines.report_pieces.Given as goal
 
 abbrev pub invariant-loop-piece : goal.invariant-loop-piece

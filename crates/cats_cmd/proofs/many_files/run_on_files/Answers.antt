@@ -1,6 +1,5 @@
 -- `run_on_files`
-use Rattle.std.proofs.Common.{◌∙◌, ap, map}
-use Rattle.cats_cmd.specs.PathLists.{paths_in}
+use Rattle.cats_cmd.proofs.Common.{◌∙◌, ap, map, paths_in}
 use Rattle.cats_cmd.proofs.RunsOfLists.{list_run}
 use Rattle.cats_cmd.proofs.many_files.run_on_files.Goals as goal
 

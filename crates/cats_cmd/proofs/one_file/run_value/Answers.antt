@@ -1,13 +1,6 @@
 -- `run_value`: A plain search makes a step for each packing.
-use Rattle.std.proofs.Common.{◌≡◌, Bool, ap, ◌∙◌, subst}
-use Rattle.std.proofs.Math.Path.{fun_ext}
-use Rattle.bid_file.specs.Files.{PlainFile}
-use Rattle.valuation.specs.declared.search.options.SearchOptions.{SearchOptions}
-use Rattle.valuation.specs.Lemmas.SearchLimits.{plain-value_steps}
-use Rattle.valuation.specs.Auctions.{or_atoms_of}
-use Rattle.commands.specs.Outcomes.{exceeds_limits, exceeds_packings, value_outcome_if}
-use Rattle.cats_cmd.specs.Runs.{RunsOnFile}
-use Rattle.commands.specs.ValueTexts.{bundle_from}
+use Rattle.cats_cmd.proofs.Common.{◌≡◌, Bool, ap, ◌∙◌, subst, fun_ext, PlainFile, SearchOptions, plain-value_steps, or_atoms_of, exceeds_limits}
+use Rattle.cats_cmd.proofs.Common.{exceeds_packings, value_outcome_if, RunsOnFile, bundle_from}
 use Rattle.cats_cmd.proofs.one_file.run_value.Goals as goal
 
 pub returns : goal.returns

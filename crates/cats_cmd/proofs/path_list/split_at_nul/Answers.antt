@@ -1,7 +1,5 @@
 -- `split_at_nul`
-use Rattle.std.proofs.Common.{rules, tests, ap, map, ◌∙◌}
-use Rattle.std.proofs.lemmas.Iterator.Consumers.{YieldsList-at, YieldsList-end}
-use Rattle.std.proofs.lemmas.Iterator.Splits.{YieldsList-from_slice_split}
+use Rattle.cats_cmd.proofs.Common.{rules, tests, ap, map, ◌∙◌, YieldsList-at, YieldsList-end, YieldsList-from_slice_split}
 use Rattle.cats_cmd.proofs.path_list.split_at_nul.Goals as goal
 
 pub returns : goal.returns

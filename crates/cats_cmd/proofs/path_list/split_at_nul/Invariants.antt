@@ -1,5 +1,5 @@
 -- `split_at_nul`
-use Rattle.std.proofs.Common.{◌≡◌}
+use Rattle.cats_cmd.proofs.Common.{◌≡◌}
 use Rattle.cats_cmd.proofs.path_list.split_at_nul.Given as goal
 
 -- the parts so far are those that the loop has had

@@ -1,5 +1,5 @@
 -- `split_paths`
-use Rattle.std.proofs.Common.{rules, tests, arith, sym, ◌∙◌, ◌≡◌}
+use Rattle.cats_cmd.proofs.Common.{rules, tests, arith, sym, ◌∙◌, ◌≡◌}
 use Rattle.cats_cmd.proofs.ListingPaths.{no_rest, rest_dropped, rest_kept}
 use Rattle.cats_cmd.proofs.path_list.split_paths.Goals as goal
 use Rattle.cats_cmd.proofs.path_list.split_paths.Goals.{in-Some+then-not-is_empty+in_ok-push, in-Some+else-not-is_empty, in_default}

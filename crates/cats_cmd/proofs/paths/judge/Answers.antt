@@ -1,7 +1,5 @@
 -- `judge`
-use Rattle.std.proofs.Common.{refl}
-use Rattle.cats_cmd.specs.Paths.{IsUnjudged}
-use Rattle.cats_cmd.specs.declared.errors.RequestError.TheVariants.{NotOpened}
+use Rattle.cats_cmd.proofs.Common.{refl, IsUnjudged, NotOpened}
 use Rattle.cats_cmd.proofs.CarryingOut.{is_priced}
 use Rattle.cats_cmd.proofs.Judging.{opened_judges}
 use Rattle.cats_cmd.proofs.paths.judge.Goals as goal

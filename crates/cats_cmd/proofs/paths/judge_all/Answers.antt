@@ -1,6 +1,5 @@
 -- `judge_all`
-use Rattle.std.proofs.Common.{ℕ, List, []}
-use Rattle.std.specs.Borrow.{Bor}
+use Rattle.cats_cmd.proofs.Common.{ℕ, List, [], Bor}
 use Rattle.cats_cmd.proofs.JudgingPaths.{first_judged, none_judged, path_more}
 use Rattle.cats_cmd.proofs.Opening.{opens_next, opens_none, opens_some}
 use Rattle.cats_cmd.proofs.paths.judge_all.Goals as goal

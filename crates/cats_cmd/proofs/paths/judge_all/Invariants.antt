@@ -1,7 +1,5 @@
 -- `judge_all`
-use Rattle.std.proofs.Common.{map, take, length}
-use Rattle.cats_cmd.specs.Internal.Judging.{HasJudged}
-use Rattle.cats_cmd.specs.Opening.{Opens, openable}
+use Rattle.cats_cmd.proofs.Common.{map, take, length, HasJudged, Opens, openable}
 use Rattle.cats_cmd.proofs.paths.judge_all.Given as goal
 
 -- the files at the paths so far were judged, and these paths were opened

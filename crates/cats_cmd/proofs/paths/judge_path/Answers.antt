@@ -1,6 +1,5 @@
 -- `judge_path`
-use Rattle.std.proofs.Common.{◌∙◌, ap}
-use Rattle.cats_cmd.specs.Paths.{status_if}
+use Rattle.cats_cmd.proofs.Common.{◌∙◌, ap, status_if}
 use Rattle.cats_cmd.proofs.JudgingPaths.{path_reported}
 use Rattle.cats_cmd.proofs.paths.judge_path.Goals as goal
 

@@ -1,5 +1,5 @@
 -- `open_path`
-use Rattle.std.proofs.lemmas.Str.{is_utf8-from_IsUtf8}
+use Rattle.cats_cmd.proofs.Common.{is_utf8-from_IsUtf8}
 use Rattle.cats_cmd.proofs.Opening.{opens_broken}
 use Rattle.cats_cmd.proofs.paths.open_path.Goals as goal
 

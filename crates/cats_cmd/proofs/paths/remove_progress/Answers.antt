@@ -1,6 +1,5 @@
 -- `remove_progress`
-use Rattle.std.proofs.Common.{refl}
-use Rattle.std.proofs.lemmas.Bool.{lt-ltb}
+use Rattle.cats_cmd.proofs.Common.{refl, lt-ltb}
 use Rattle.cats_cmd.proofs.paths.remove_progress.Goals as goal
 
 pub returns-then-number-gt1 : goal.returns-then-number-gt1

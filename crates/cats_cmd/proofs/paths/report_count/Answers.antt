@@ -1,5 +1,5 @@
 -- `report_count`
-use Rattle.std.proofs.Common.{◌++◌, codes, decimal}
+use Rattle.cats_cmd.proofs.Common.{◌++◌, codes, decimal}
 use Rattle.cats_cmd.proofs.Reporting.{reports_then}
 use Rattle.cats_cmd.proofs.paths.report_count.Goals as goal
 

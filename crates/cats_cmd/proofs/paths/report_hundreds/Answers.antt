@@ -1,6 +1,5 @@
 -- `report_hundreds`
-use Rattle.std.proofs.Common.{◌≡◌, true, refl, rules, tests}
-use Rattle.cats_cmd.specs.Paths.{is_counted}
+use Rattle.cats_cmd.proofs.Common.{◌≡◌, true, refl, rules, tests, is_counted}
 use Rattle.cats_cmd.proofs.paths.report_hundreds.Goals as goal
 
 pub returns-then-turn-eq0 : goal.returns-then-turn-eq0

@@ -1,5 +1,5 @@
 -- `report_if_refused`
-use Rattle.std.proofs.Common.{refl}
+use Rattle.cats_cmd.proofs.Common.{refl}
 use Rattle.cats_cmd.proofs.paths.report_if_refused.Goals as goal
 
 pub returns-in-Some : goal.returns-in-Some

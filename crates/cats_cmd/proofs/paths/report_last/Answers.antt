@@ -1,6 +1,5 @@
 -- `report_last`
-use Rattle.std.proofs.Common.{◌++◌, ℕ, List, codes, decimal}
-use Rattle.cats_cmd.specs.Escaping.{escaped}
+use Rattle.cats_cmd.proofs.Common.{◌++◌, ℕ, List, codes, decimal, escaped}
 use Rattle.cats_cmd.proofs.Reporting.{reports_then, reports_three}
 use Rattle.cats_cmd.proofs.paths.report_last.Goals as goal
 

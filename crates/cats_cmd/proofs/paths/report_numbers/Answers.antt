@@ -1,5 +1,5 @@
 -- `report_numbers`
-use Rattle.std.proofs.Common.{codes, decimal}
+use Rattle.cats_cmd.proofs.Common.{codes, decimal}
 use Rattle.cats_cmd.proofs.Reporting.{reports_three}
 use Rattle.cats_cmd.proofs.paths.report_numbers.Goals as goal
 

@@ -1,5 +1,5 @@
 -- `report_progress`
-use Rattle.std.proofs.Common.{refl}
+use Rattle.cats_cmd.proofs.Common.{refl}
 use Rattle.cats_cmd.proofs.paths.report_progress.Goals as goal
 
 pub returns-in-Terminal : goal.returns-in-Terminal

@@ -1,7 +1,5 @@
 -- `report_refusal`
-use Rattle.std.proofs.Common.{codes}
-use Rattle.cats_cmd.specs.Escaping.{escaped}
-use Rattle.cats_cmd.specs.RequestErrors.{line_of_request_error}
+use Rattle.cats_cmd.proofs.Common.{codes, escaped, line_of_request_error}
 use Rattle.cats_cmd.proofs.Reporting.{reports_three}
 use Rattle.cats_cmd.proofs.paths.report_refusal.Goals as goal
 

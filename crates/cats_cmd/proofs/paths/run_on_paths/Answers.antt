@@ -1,6 +1,5 @@
 -- `run_on_paths`
-use Rattle.std.proofs.Common.{map}
-use Rattle.cats_cmd.specs.Paths.{judgement_at}
+use Rattle.cats_cmd.proofs.Common.{map, judgement_at}
 use Rattle.cats_cmd.proofs.RunsOfPaths.{text_refused, paths_printed}
 use Rattle.cats_cmd.proofs.paths.run_on_paths.Goals as goal
 

@@ -1,6 +1,5 @@
 -- `report_rounded`
-use Rattle.std.proofs.Common.{refl, arith}
-use Rattle.std.proofs.lemmas.Bool.{ne_eqb}
+use Rattle.cats_cmd.proofs.Common.{refl, arith, ne_eqb}
 use Rattle.cats_cmd.proofs.priced_input.report_rounded.Goals as goal
 
 pub returns-then-count-gt0 : goal.returns-then-count-gt0

@@ -1,7 +1,5 @@
 -- `report_rounded_count`
-use Rattle.std.proofs.Common.{◌++◌, codes, decimal}
-use Rattle.std.proofs.lemmas.Bool.{eq-eqb, ne_eqb}
-use Rattle.cats_cmd.specs.Escaping.{escaped}
+use Rattle.cats_cmd.proofs.Common.{◌++◌, codes, decimal, eq-eqb, ne_eqb, escaped}
 use Rattle.cats_cmd.proofs.Reporting.{reports_then, reports_three}
 use Rattle.cats_cmd.proofs.priced_input.report_rounded_count.Goals as goal
 

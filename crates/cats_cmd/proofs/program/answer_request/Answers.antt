@@ -1,6 +1,5 @@
 -- `answer_request`
-use Rattle.std.proofs.Common.{inl, inr}
-use Rattle.command_line.specs.PlainRequests.{plain_request}
+use Rattle.cats_cmd.proofs.Common.{inl, inr, plain_request}
 use Rattle.cats_cmd.proofs.AnswersOfRequests.{silent_answer, done_answer, failed_request}
 use Rattle.cats_cmd.proofs.program.answer_request.Goals as goal
 

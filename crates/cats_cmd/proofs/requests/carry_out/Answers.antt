@@ -1,6 +1,5 @@
 -- `carry_out`
-use Rattle.std.proofs.Common.{refl}
-use Rattle.command_line.specs.PlainRequests.{plain_request}
+use Rattle.cats_cmd.proofs.Common.{refl, plain_request}
 use Rattle.cats_cmd.proofs.CarryingOut.{carried}
 use Rattle.cats_cmd.proofs.requests.carry_out.Goals as goal
 

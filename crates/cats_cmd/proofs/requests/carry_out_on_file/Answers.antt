@@ -1,5 +1,5 @@
 -- `carry_out_on_file`
-use Rattle.std.proofs.Common.{[], ◌∷◌, inl, sym}
+use Rattle.cats_cmd.proofs.Common.{[], ◌∷◌, inl, sym}
 use Rattle.cats_cmd.proofs.Opening.{opens_then}
 use Rattle.cats_cmd.proofs.requests.carry_out_on_file.Goals as goal
 

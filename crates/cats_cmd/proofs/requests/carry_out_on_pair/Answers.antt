@@ -1,6 +1,5 @@
 -- `carry_out_on_pair`
-use Rattle.std.proofs.Common.{Bool}
-use Rattle.command_line.specs.PlainRequests.{OnPair}
+use Rattle.cats_cmd.proofs.Common.{Bool, OnPair}
 use Rattle.cats_cmd.proofs.CarryingOut.{carried, is_priced}
 use Rattle.cats_cmd.proofs.JudgingPaths.{reports_more}
 use Rattle.cats_cmd.proofs.requests.carry_out_on_pair.Goals as goal

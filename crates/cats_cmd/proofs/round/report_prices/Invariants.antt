@@ -1,8 +1,5 @@
 -- `report_prices`
-use Rattle.std.proofs.Common.{map, take}
-use Rattle.rounding.specs.Views.{plain_changes}
-use Rattle.commands.specs.RoundedLines.{rounded_line}
-use Rattle.cats_cmd.specs.RequestErrors.{ReportsAll}
+use Rattle.cats_cmd.proofs.Common.{map, take, plain_changes, rounded_line, ReportsAll}
 use Rattle.cats_cmd.proofs.round.report_prices.Given as goal
 
 -- the prices so far were reported

@@ -1,8 +1,5 @@
 -- `round_bytes`
-use Rattle.std.proofs.Common.{Err, sym, subst}
-use Rattle.canon.specs.declared.canon_fault.CanonFault.{CanonFault}
-use Rattle.commands.proofs.Unrounded.{rounding_refused}
-use Rattle.cats_cmd.specs.Internal.Roundings.{RoundsText}
+use Rattle.cats_cmd.proofs.Common.{Err, sym, subst, CanonFault, rounding_refused, RoundsText}
 use Rattle.cats_cmd.proofs.round.round_bytes.Goals as goal
 
 pub returns-in-Err : goal.returns-in-Err

@@ -1,6 +1,5 @@
 -- `run_round`
-use Rattle.std.proofs.Common.{ℕ, List, Err, ◌∙◌, subst}
-use Rattle.cats_cmd.specs.Runs.{SendsAs}
+use Rattle.cats_cmd.proofs.Common.{ℕ, List, Err, ◌∙◌, subst, SendsAs}
 use Rattle.cats_cmd.proofs.Rounding.{round_unread, round_unsent}
 use Rattle.cats_cmd.proofs.round.run_round.Goals as goal
 

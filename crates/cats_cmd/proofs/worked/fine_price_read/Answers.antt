@@ -1,7 +1,6 @@
 -- `fine_price_read`
-use Rattle.std.proofs.Common.{codes, refl, inl, inr, arith}
+use Rattle.cats_cmd.proofs.Common.{codes, refl, inl, inr, arith, spells_from_no_fault}
 use Rattle.std.specs.Fmt.{digits}
-use Rattle.cats_text.proofs.Spelling.Files.{spells_from_no_fault}
 use Rattle.cats_cmd.proofs.worked.fine_price_read.Goals as goal
 
 pub returns-clause-rounded : goal.returns-clause-rounded

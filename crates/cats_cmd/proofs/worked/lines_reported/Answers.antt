@@ -1,5 +1,5 @@
 -- `lines_reported`
-use Rattle.std.proofs.Common.{Err, Ok, refl, inr, arith}
+use Rattle.cats_cmd.proofs.Common.{Err, Ok, refl, inr, arith}
 use Rattle.cats_cmd.proofs.worked.lines_reported.Goals as goal
 
 pub returns-clause-sent : goal.returns-clause-sent

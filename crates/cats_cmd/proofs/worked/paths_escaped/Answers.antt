@@ -1,5 +1,5 @@
 -- `paths_escaped`
-use Rattle.std.proofs.Common.{refl}
+use Rattle.cats_cmd.proofs.Common.{refl}
 use Rattle.std.specs.Char.{encode_utf8}
 use Rattle.cats_cmd.proofs.worked.paths_escaped.Goals as goal
 

@@ -1,5 +1,5 @@
 -- `paths_reported`
-use Rattle.std.proofs.Common.{refl}
+use Rattle.cats_cmd.proofs.Common.{refl}
 use Rattle.std.specs.Char.{encode_utf8}
 use Rattle.std.specs.Fmt.{digits}
 use Rattle.cats_cmd.proofs.worked.paths_reported.Goals as goal

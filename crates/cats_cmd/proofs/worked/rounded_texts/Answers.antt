@@ -1,5 +1,5 @@
 -- `rounded_texts`
-use Rattle.std.proofs.Common.{refl}
+use Rattle.cats_cmd.proofs.Common.{refl}
 use Rattle.std.specs.Fmt.{digits}
 use Rattle.cats_cmd.proofs.worked.rounded_texts.Goals as goal
 

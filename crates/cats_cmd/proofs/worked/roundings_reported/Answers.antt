@@ -1,5 +1,5 @@
 -- `roundings_reported`
-use Rattle.std.proofs.Common.{refl}
+use Rattle.cats_cmd.proofs.Common.{refl}
 use Rattle.std.specs.Char.{encode_utf8}
 use Rattle.std.specs.Fmt.{digits}
 use Rattle.cats_cmd.proofs.worked.roundings_reported.Goals as goal

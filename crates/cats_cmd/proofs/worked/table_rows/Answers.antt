@@ -1,5 +1,5 @@
 -- `table_rows`
-use Rattle.std.proofs.Common.{refl}
+use Rattle.cats_cmd.proofs.Common.{refl}
 use Rattle.std.specs.Fmt.{digits}
 use Rattle.std.specs.Char.{encode_utf8}
 use Rattle.cats_cmd.proofs.worked.table_rows.Goals as goal

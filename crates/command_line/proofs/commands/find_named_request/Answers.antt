@@ -1,6 +1,5 @@
 -- `find_named_request`
-use Rattle.std.proofs.Common.{rules, sym}
-use Rattle.command_line.specs.Internal.Matches.{rows_in}
+use Rattle.command_line.proofs.Common.{rules, sym, rows_in}
 use Rattle.command_line.proofs.Tables.{no_subcommand}
 use Rattle.command_line.proofs.commands.find_named_request.Goals as goal
 

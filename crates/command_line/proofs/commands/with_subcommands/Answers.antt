@@ -1,8 +1,5 @@
 -- `with_subcommands`
-use Rattle.std.proofs.Common.{◌∙◌, ap₂, sym}
-use Rattle.std.proofs.lemmas.List.Sums.{fold_more}
-use Rattle.clap.specs.Simple.{app_of, with_subcommand}
-use Rattle.command_line.specs.Internal.Commands.{with_row}
+use Rattle.command_line.proofs.Common.{◌∙◌, ap₂, sym, fold_more, app_of, with_subcommand, with_row}
 use Rattle.command_line.proofs.commands.with_subcommands.Goals as goal
 
 pub loop-subcommand-preserved : goal.loop-subcommand-preserved

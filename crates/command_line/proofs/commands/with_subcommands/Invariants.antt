@@ -1,8 +1,5 @@
 -- `with_subcommands`
-use Rattle.std.proofs.Common.{◌≡◌, take}
-use Rattle.std.specs.Prelude.{fold}
-use Rattle.clap.specs.Simple.{app_of}
-use Rattle.command_line.specs.Internal.Commands.{with_row}
+use Rattle.command_line.proofs.Common.{◌≡◌, take, fold, app_of, with_row}
 use Rattle.command_line.proofs.commands.with_subcommands.Given as goal
 
 -- the subcommands so far were added

@@ -1,6 +1,5 @@
 -- `goods_of_words`
-use Rattle.std.proofs.Common.{◌∙◌, Some, rules, tests}
-use Rattle.command_line.specs.Goods.{goods_of_word}
+use Rattle.command_line.proofs.Common.{◌∙◌, Some, rules, tests, goods_of_word}
 use Rattle.command_line.proofs.GoodsSoFar.{one_more, right_word}
 use Rattle.command_line.proofs.goods.goods_of_words.Goals as goal
 

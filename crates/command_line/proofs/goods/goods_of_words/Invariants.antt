@@ -1,7 +1,5 @@
 -- `goods_of_words`
-use Rattle.std.proofs.Common.{◌≡◌, drop}
-use Rattle.command_line.specs.Goods.{goods_of_words}
-use Rattle.command_line.specs.Requests.{texts_of}
+use Rattle.command_line.proofs.Common.{◌≡◌, drop, goods_of_words, texts_of}
 use Rattle.command_line.proofs.GoodsSoFar.{after}
 use Rattle.command_line.proofs.goods.goods_of_words.Given as goal
 

@@ -1,5 +1,5 @@
 -- `push_range`
-use Rattle.std.proofs.Common.{arith, refl, rules}
+use Rattle.command_line.proofs.Common.{arith, refl, rules}
 use Rattle.command_line.proofs.GoodsSoFar.{pushed}
 use Rattle.command_line.proofs.goods.push_range.Goals as goal
 

@@ -1,6 +1,5 @@
 -- `push_range`
-use Rattle.std.proofs.Common.{◌≡◌, ◌++◌, ◌-◌}
-use Rattle.std.specs.List.{range_with_len}
+use Rattle.command_line.proofs.Common.{◌≡◌, ◌++◌, ◌-◌, range_with_len}
 use Rattle.command_line.proofs.goods.push_range.Given as goal
 
 -- the goods below this one are pushed

@@ -1,7 +1,5 @@
 -- `push_word`
-use Rattle.std.proofs.Common.{◌∙◌, ℕ, List, ap, sym}
-use Rattle.command_line.specs.Goods.{all_goods, ends_of, goods_of_part}
-use Rattle.command_line.specs.Requests.{texts_of}
+use Rattle.command_line.proofs.Common.{◌∙◌, ℕ, List, ap, sym, all_goods, ends_of, goods_of_part, texts_of}
 use Rattle.command_line.proofs.GoodsSoFar.{after, no_range, one_range}
 use Rattle.command_line.proofs.goods.push_word.Goals as goal
 

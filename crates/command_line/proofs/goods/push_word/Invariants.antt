@@ -1,7 +1,5 @@
 -- `push_word`
-use Rattle.std.proofs.Common.{◌≡◌, drop}
-use Rattle.command_line.specs.Goods.{all_goods, goods_of_part}
-use Rattle.command_line.specs.Requests.{texts_of}
+use Rattle.command_line.proofs.Common.{◌≡◌, drop, all_goods, goods_of_part, texts_of}
 use Rattle.command_line.proofs.GoodsSoFar.{after}
 use Rattle.command_line.proofs.goods.push_word.Given as goal
 

@@ -1,6 +1,5 @@
 -- `split`
-use Rattle.std.proofs.lemmas.Iterator.Consumers.{map_from_collect}
-use Rattle.std.proofs.lemmas.Iterator.Splits.{YieldsList-from_str_split}
+use Rattle.command_line.proofs.Common.{map_from_collect, YieldsList-from_str_split}
 use Rattle.command_line.proofs.goods.split.Goals as goal
 
 pub returns : goal.returns

@@ -1,5 +1,5 @@
 -- `bounded`
-use Rattle.std.proofs.Common.{[], ◌∷◌, codes, refl}
+use Rattle.command_line.proofs.Common.{[], ◌∷◌, codes, refl}
 use Rattle.clap.proofs.OnLiterals.{clap_on_literals}
 use Rattle.command_line.proofs.Lines.{line}
 use Rattle.command_line.proofs.laws.bounded.Goals as goal

@@ -1,9 +1,6 @@
 -- `limit`
-use Rattle.std.proofs.Common.{◌++◌, ◌∙◌, [], ◌∷◌, None, codes, false, refl}
+use Rattle.command_line.proofs.Common.{◌++◌, ◌∙◌, [], ◌∷◌, None, codes, false, refl, is_unsigned_in, Normalise, begins_with_sign, number_up_to}
 use Rattle.clap.proofs.OnLiterals.{clap_on_literals}
-use Rattle.clap.specs.ValueTests.{is_unsigned_in}
-use Rattle.command_line.specs.PlainRequests.{Normalise}
-use Rattle.command_line.specs.Subcommands.{begins_with_sign, number_up_to}
 use Rattle.command_line.proofs.Lines.{limit_taken, limited_at_once, line}
 use Rattle.command_line.proofs.laws.limit.Goals as goal
 

@@ -1,5 +1,5 @@
 -- `listed_bids`
-use Rattle.std.proofs.Common.{◌++◌, [], ◌∷◌, codes, refl}
+use Rattle.command_line.proofs.Common.{◌++◌, [], ◌∷◌, codes, refl}
 use Rattle.clap.proofs.OnLiterals.{clap_on_literals}
 use Rattle.command_line.proofs.Lines.{line}
 use Rattle.command_line.proofs.laws.listed_bids.Goals as goal

@@ -1,7 +1,6 @@
 -- `one_path`
-use Rattle.std.proofs.Common.{[], ◌∷◌, codes, refl}
+use Rattle.command_line.proofs.Common.{[], ◌∷◌, codes, refl, on_one_or_two, one_file}
 use Rattle.clap.proofs.OnLiterals.{clap_on_literals}
-use Rattle.command_line.specs.Requests.{on_one_or_two, one_file}
 use Rattle.command_line.proofs.Lines.{line, lines}
 use Rattle.command_line.proofs.laws.one_path.Goals as goal
 

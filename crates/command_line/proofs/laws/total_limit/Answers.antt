@@ -1,8 +1,6 @@
 -- `total_limit`
-use Rattle.std.proofs.Common.{◌++◌, ◌∙◌, [], ◌∷◌, codes, refl}
+use Rattle.command_line.proofs.Common.{◌++◌, ◌∙◌, [], ◌∷◌, codes, refl, is_unsigned_in, begins_with_sign}
 use Rattle.clap.proofs.OnLiterals.{clap_on_literals}
-use Rattle.clap.specs.ValueTests.{is_unsigned_in}
-use Rattle.command_line.specs.Subcommands.{begins_with_sign}
 use Rattle.command_line.proofs.Lines.{limit_taken, line}
 use Rattle.command_line.proofs.laws.total_limit.Goals as goal
 

@@ -1,7 +1,6 @@
 -- `two_paths`
-use Rattle.std.proofs.Common.{[], ◌∷◌, refl}
+use Rattle.command_line.proofs.Common.{[], ◌∷◌, refl, on_two, two_files}
 use Rattle.clap.proofs.OnLiterals.{clap_on_literals}
-use Rattle.command_line.specs.Requests.{on_two, two_files}
 use Rattle.command_line.proofs.Lines.{lines}
 use Rattle.command_line.proofs.laws.two_paths.Goals as goal
 

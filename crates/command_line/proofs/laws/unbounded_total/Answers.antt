@@ -1,7 +1,6 @@
 -- `unbounded_total`
-use Rattle.std.proofs.Common.{◌++◌, ◌∙◌, [], ◌∷◌, codes, refl}
+use Rattle.command_line.proofs.Common.{◌++◌, ◌∙◌, [], ◌∷◌, codes, refl, begins_with_sign}
 use Rattle.clap.proofs.OnLiterals.{clap_on_literals}
-use Rattle.command_line.specs.Subcommands.{begins_with_sign}
 use Rattle.command_line.proofs.Lines.{line, none_requested}
 use Rattle.command_line.proofs.laws.unbounded_total.Goals as goal
 

@@ -1,9 +1,5 @@
 -- `find_number`
-use Rattle.std.proofs.Common.{◌∙◌, ap}
-use Rattle.std.specs.Prelude.{option_and_then}
-use Rattle.clap.specs.Matches.{found_of, one_text}
-use Rattle.clap.proofs.WalkLemmas.{one_text-rows}
-use Rattle.command_line.specs.Subcommands.{number_up_to}
+use Rattle.command_line.proofs.Common.{◌∙◌, ap, option_and_then, found_of, one_text, one_text-rows, number_up_to}
 use Rattle.command_line.proofs.Reading.{limit_read}
 use Rattle.command_line.proofs.parser.find_number.Goals as goal
 

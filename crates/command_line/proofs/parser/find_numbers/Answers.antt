@@ -1,9 +1,5 @@
 -- `find_numbers`
-use Rattle.std.proofs.Common.{◌∙◌, Err, Ok, codes, sym, rules}
-use Rattle.clap.specs.Matches.{found_of, values_left}
-use Rattle.clap.specs.Walk.{many_of}
-use Rattle.clap.proofs.WalkLemmas.{typed_values-rows}
-use Rattle.command_line.specs.Internal.Matches.{rows_in}
+use Rattle.command_line.proofs.Common.{◌∙◌, Err, Ok, codes, sym, rules, found_of, values_left, many_of, typed_values-rows, rows_in}
 use Rattle.command_line.proofs.Reading.{numbers_given, no_numbers, one_more}
 use Rattle.command_line.proofs.parser.find_numbers.Goals as goal
 

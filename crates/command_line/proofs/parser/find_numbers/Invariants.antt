@@ -1,8 +1,5 @@
 -- `find_numbers`
-use Rattle.std.proofs.Common.{◌≡◌}
-use Rattle.clap.specs.Matches.{values_left}
-use Rattle.command_line.specs.Internal.Matches.{rows_in}
-use Rattle.command_line.specs.Subcommands.{bid_numbers_in}
+use Rattle.command_line.proofs.Common.{◌≡◌, values_left, rows_in, bid_numbers_in}
 use Rattle.command_line.proofs.Reading.{numbers_after}
 use Rattle.command_line.proofs.parser.find_numbers.Given as goal
 

@@ -1,7 +1,5 @@
 -- `find_request`
-use Rattle.std.proofs.Common.{◌∙◌, rules}
-use Rattle.command_line.specs.Internal.Matches.{rows_in}
-use Rattle.command_line.specs.Requests.{texts_of}
+use Rattle.command_line.proofs.Common.{◌∙◌, rules, rows_in, texts_of}
 use Rattle.command_line.proofs.Answering.{fails_by, entered, requested, misused}
 use Rattle.command_line.proofs.parser.find_request.Goals as goal
 

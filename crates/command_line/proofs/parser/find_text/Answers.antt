@@ -1,7 +1,5 @@
 -- `find_text`
-use Rattle.std.proofs.Common.{◌∙◌}
-use Rattle.clap.specs.Matches.{found_of}
-use Rattle.clap.proofs.WalkLemmas.{first_value-rows}
+use Rattle.command_line.proofs.Common.{◌∙◌, found_of, first_value-rows}
 use Rattle.command_line.proofs.parser.find_text.Goals as goal
 
 pub returns : goal.returns

@@ -1,7 +1,5 @@
 -- `find_texts`
-use Rattle.std.proofs.Common.{◌∙◌}
-use Rattle.clap.specs.Matches.{found_of}
-use Rattle.clap.proofs.WalkLemmas.{raw_values-rows}
+use Rattle.command_line.proofs.Common.{◌∙◌, found_of, raw_values-rows}
 use Rattle.command_line.proofs.parser.find_texts.Goals as goal
 
 pub returns : goal.returns

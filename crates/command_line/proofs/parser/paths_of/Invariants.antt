@@ -1,6 +1,5 @@
 -- `paths_of`
-use Rattle.std.proofs.Common.{◌≡◌, take}
-use Rattle.command_line.specs.Requests.{texts_of}
+use Rattle.command_line.proofs.Common.{◌≡◌, take, texts_of}
 use Rattle.command_line.proofs.parser.paths_of.Given as goal
 
 -- the words so far are paths

@@ -1,8 +1,5 @@
 -- `best_packing`
-use Rattle.std.proofs.lemmas.List.Elements.{All-weaker}
-use Rattle.bid_file.specs.declared.limits.TheConstants.{MAX_GOODS}
-use Rattle.goods_set.specs.Lemmas.Members.{AreBelow-higher}
-use Rattle.valuation.specs.Auctions.{IsAtom}
+use Rattle.commands.proofs.Common.{All-weaker, MAX_GOODS, AreBelow-higher, IsAtom}
 use Rattle.commands.proofs.bundle_value.best_packing.Goals as goal
 
 pub or_value_by-requires : goal.or_value_by-requires

@@ -1,7 +1,5 @@
 -- `text_of_values`
-use Rattle.std.proofs.Common.{arith, ◌<◌, ap, ◌∙◌}
-use Rattle.std.proofs.lemmas.List.Elements.{All-weaker}
-use Rattle.valuation.specs.Auctions.{PlainAuction}
+use Rattle.commands.proofs.Common.{arith, ◌<◌, ap, ◌∙◌, All-weaker, PlainAuction}
 use Rattle.commands.proofs.Bundling.{below_none_missing}
 use Rattle.commands.proofs.Printing.{places_within}
 use Rattle.commands.proofs.bundle_value.text_of_values.Goals as goal

@@ -1,5 +1,5 @@
 -- `calls_answer_what_runs_print`
-use Rattle.cats_text.proofs.Spelling.Files.{spells_one}
+use Rattle.commands.proofs.Common.{spells_one}
 use Rattle.commands.proofs.laws.calls_answer_what_runs_print.Goals as goal
 
 pub returns : goal.returns

@@ -1,7 +1,5 @@
 -- `printed_reasons_are_true`
-use Rattle.std.proofs.Common.{arith}
-use Rattle.analysis.specs.Reasons.{reasons_of}
-use Rattle.analysis.proofs.Explaining.TrueReasons.{reasons_explain}
+use Rattle.commands.proofs.Common.{arith, reasons_of, reasons_explain}
 use Rattle.commands.proofs.laws.printed_reasons_are_true.Goals as goal
 
 pub returns : goal.returns

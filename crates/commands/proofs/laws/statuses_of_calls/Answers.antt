@@ -1,35 +1,13 @@
 -- `statuses_of_calls`: if the statuses of what a command makes of files are in a list, and 2, 4 and 6 are too, so are the statuses of its calls.
-use Rattle.std.proofs.Common.{◌≡◌, ℕ, ◌<◌, ◌≤◌, ⊎_elim, true, List, [], ◌∷◌, eqb, Option, Some, IfSome, Result, Ok, Err, max, fold, refl, sym, subst, arith}
-use Rattle.std.specs.List.{AllZip, Contains, list_any}
-use Rattle.std.proofs.lemmas.Bool.{eqb-true}
-use Rattle.std.proofs.lemmas.Map.Views.{Contains-from_any}
-use Rattle.bid_file.specs.Files.{PlainFile}
-use Rattle.cats_text.specs.Grammar.{Spells}
-use Rattle.cats_text.specs.declared.read_fault.ReadFault.{ReadFault}
-use Rattle.cats_text.proofs.Texts.FaultKinds.{IsFaultOfBytes, first_fault-of_bytes}
-use Rattle.valuation.specs.Lemmas.Lists.{le_or_lt}
-use Rattle.valuation.specs.declared.search.options.SearchOptions.{SearchOptions}
-use Rattle.canon.specs.declared.canon_fault.CanonFault.{CanonFault}
-use Rattle.canon.specs.declared.canon_fault.CanonFault.TheVariants.{Read, StepLimit, Memory}
-use Rattle.canon.specs.declared.which.Which.TheVariants.{Only}
-use Rattle.rounding.specs.Texts.{rounded_text}
-use Rattle.rounding.specs.declared.replacement.FinePrices.{FinePrices}
-use Rattle.commands.specs.Statuses.{status_of_canon_fault, status_of_fault, status_of_read_fault}
-use Rattle.commands.specs.declared.faults.RunFault.{RunFault}
-use Rattle.commands.specs.declared.faults.RunFault.TheVariants.{Refused, TooHeavy, GoodRange, BidRange}
-use Rattle.commands.specs.Outcomes.{Outcome, Prints, LacksGood, LacksBid, ExceedsSteps, ExceedsAtBid, explain_outcome}
-use Rattle.commands.specs.Outcomes.{naming_outcome, normalise_outcome, outcome_of, statuses_of}
-use Rattle.commands.specs.SizesRows.{Sized, IsSized, IsTooHeavy, IsUnsized, Sizes, fault_sized, status_unless}
-use Rattle.commands.specs.Buffers.{Calls, PutsInto}
-use Rattle.commands.specs.DuplicatesCalls.{AnswersFirst, DuplicatesCalls, SizesText, status_of_first}
-use Rattle.commands.specs.FaultCalls.{IsUnplaced, SaysPlace}
-use Rattle.commands.specs.OneText.{CallsOn, IsRefusedText, IsUnmade, OfOnly}
-use Rattle.commands.specs.Refusals.{RefusesText, text_fault, text_read}
-use Rattle.commands.specs.Roundings.{IsUnrounded, RoundCalls}
-use Rattle.commands.specs.SizesCalls.{SizesCalls}
-use Rattle.commands.specs.TwoTexts.{CallsOnBoth, IsRefusedOfTwo}
-use Rattle.commands.specs.declared.command.Comparison.{Comparison}
-use Rattle.commands.specs.declared.command.Comparison.TheVariants.{Compare, Diff}
+use Rattle.commands.proofs.Common.{◌≡◌, ℕ, ◌<◌, ◌≤◌, ⊎_elim, true, List, [], ◌∷◌, eqb, Option, Some, IfSome, Result, Ok, Err, max, fold, refl, sym, subst}
+use Rattle.commands.proofs.Common.{arith, AllZip, list_any, eqb-true, Contains-from_any, PlainFile, Spells, ReadFault, IsFaultOfBytes, first_fault-of_bytes}
+use Rattle.commands.proofs.Common.{le_or_lt, SearchOptions, CanonFault, Read, StepLimit, Memory, Only, rounded_text, FinePrices, status_of_canon_fault}
+use Rattle.commands.proofs.Common.{status_of_fault, status_of_read_fault, RunFault, Refused, TooHeavy, GoodRange, BidRange, Outcome, Prints, LacksGood}
+use Rattle.commands.proofs.Common.{LacksBid, ExceedsSteps, ExceedsAtBid, explain_outcome, naming_outcome, normalise_outcome, outcome_of, statuses_of, Sized}
+use Rattle.commands.proofs.Common.{IsSized, IsTooHeavy, IsUnsized, Sizes, fault_sized, status_unless, Calls, PutsInto, AnswersFirst, DuplicatesCalls, SizesText}
+use Rattle.commands.proofs.Common.{status_of_first, IsUnplaced, SaysPlace, CallsOn, IsRefusedText, IsUnmade, OfOnly, RefusesText, text_fault, text_read}
+use Rattle.commands.proofs.Common.{IsUnrounded, RoundCalls, SizesCalls, CallsOnBoth, IsRefusedOfTwo, Comparison, Compare, Diff}
+use Rattle.std.specs.List.{Contains}
 use Rattle.commands.proofs.Refusing.{text_fault-of_bytes}
 use Rattle.commands.proofs.laws.statuses_of_calls.Goals as goal
 

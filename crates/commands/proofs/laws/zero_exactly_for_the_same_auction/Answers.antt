@@ -1,21 +1,9 @@
 -- `zero_exactly_for_the_same_auction`
 -- What is said of canonical files is said of the files that the texts spell, since each is the same auction as its canonical file.
-use Rattle.std.proofs.Common.{◌≡◌, ℕ, true, List, arith}
-use Rattle.std.specs.Prelude.{◌↔◌}
-use Rattle.bid_file.specs.Files.{PlainFile}
-use Rattle.cats_text.specs.Grammar.{Spells}
-use Rattle.cats_text.proofs.Spelling.Files.{spells_one}
-use Rattle.valuation.specs.Auctions.{auction_from}
-use Rattle.canon.specs.Canonical.{canonical_file}
-use Rattle.canon.specs.Difference.{Difference, NoDifference}
-use Rattle.canon.specs.Sameness.{AreSameFiles, AreSameTexts}
-use Rattle.canon.proofs.CanonicalAuctions.Sames.{same_sym, same_trans}
-use Rattle.canon.proofs.CanonicalFiles.Texts.{HasAtoms-file, IsPlainFile-canonical, canonical_file_is_fixed, canonical_file_is_same}
-use Rattle.canon.proofs.TwoFiles.Differences.{no_difference_same}
-use Rattle.analysis.specs.Differences.{AreAllDifferences, PlainDifferences, is_none_at_all}
-use Rattle.analysis.proofs.Comparing.BeginAuctions.{begins_with_first, none_exactly_for_same}
-use Rattle.analysis.proofs.Comparing.Indices.{canonical_from_file}
-use Rattle.commands.specs.Outcomes.{Prints, diff_outcome, outcome_of_difference}
+use Rattle.commands.proofs.Common.{◌≡◌, ℕ, true, List, arith, ◌↔◌, PlainFile, Spells, spells_one, auction_from, canonical_file, Difference, NoDifference}
+use Rattle.commands.proofs.Common.{AreSameFiles, AreSameTexts, same_sym, same_trans, HasAtoms-file, IsPlainFile-canonical, canonical_file_is_fixed}
+use Rattle.commands.proofs.Common.{canonical_file_is_same, no_difference_same, AreAllDifferences, PlainDifferences, is_none_at_all, begins_with_first}
+use Rattle.commands.proofs.Common.{none_exactly_for_same, canonical_from_file, Prints, diff_outcome, outcome_of_difference}
 use Rattle.commands.proofs.laws.zero_exactly_for_the_same_auction.Goals as goal
 
 through : {A B C : Type 0} → (A ↔ B) → (B ↔ C) → (A ↔ C)

@@ -1,5 +1,5 @@
 -- `Groups::add_refused`
-use Rattle.std.proofs.Common.{refl}
+use Rattle.cats_cmd.proofs.Common.{refl}
 use Rattle.cats_cmd.proofs.Judging.{groups_heavy}
 use Rattle.cats_cmd.proofs.duplicates.Groups.add_refused.Goals as goal
 

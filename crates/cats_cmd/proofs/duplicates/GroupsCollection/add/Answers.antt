@@ -1,6 +1,5 @@
 -- `GroupsCollection::add`
-use Rattle.std.proofs.Common.{refl, rules, ap}
-use Rattle.canon.specs.FirstNumbers.{TextIndex}
+use Rattle.cats_cmd.proofs.Common.{refl, rules, ap, TextIndex}
 use Rattle.cats_cmd.proofs.Judging.{groups_judged, groups_unmade, groups_unread}
 use Rattle.cats_cmd.proofs.duplicates.GroupsCollection.add.Goals as goal
 

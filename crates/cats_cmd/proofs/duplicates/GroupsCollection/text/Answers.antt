@@ -1,6 +1,5 @@
 -- `GroupsCollection::text`
-use Rattle.canon.specs.Sameness.{AreSameFiles}
-use Rattle.canon.specs.Unsearched.{AreAlike}
+use Rattle.cats_cmd.proofs.Common.{AreSameFiles, AreAlike}
 use Rattle.cats_cmd.proofs.FindingNumbers.{numbers_within}
 use Rattle.cats_cmd.proofs.duplicates.GroupsCollection.text.Goals as goal
 

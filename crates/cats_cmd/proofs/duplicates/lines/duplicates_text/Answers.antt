@@ -1,6 +1,5 @@
 -- `duplicates_text`
-use Rattle.std.proofs.Common.{ℕ, false, List, fold, ap, ap₂, ◌∙◌}
-use Rattle.cats_cmd.specs.DuplicateTexts.{found_paths, plain_groups, with_group}
+use Rattle.cats_cmd.proofs.Common.{ℕ, false, List, fold, ap, ap₂, ◌∙◌, found_paths, plain_groups, with_group}
 use Rattle.cats_cmd.proofs.Grouping.{both_printed}
 use Rattle.cats_cmd.proofs.duplicates.lines.duplicates_text.Goals as goal
 

@@ -1,6 +1,5 @@
 -- `empty_groups`
-use Rattle.std.proofs.Common.{◌≡◌, [], replicate}
-use Rattle.cats_cmd.specs.DuplicateTexts.{plain_groups}
+use Rattle.cats_cmd.proofs.Common.{◌≡◌, [], replicate, plain_groups}
 use Rattle.cats_cmd.proofs.duplicates.lines.empty_groups.Given as goal
 
 -- so many groups are made

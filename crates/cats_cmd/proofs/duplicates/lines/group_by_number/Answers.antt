@@ -1,9 +1,5 @@
 -- `group_by_number`
-use Rattle.std.proofs.Common.{ℕ, List, ◌<◌, length, take, refl, sym, ap, ◌∙◌, subst, arith}
-use Rattle.std.specs.Global.{Global}
-use Rattle.std.specs.Prelude.{Vec}
-use Rattle.std.proofs.lemmas.List.{get_or-map, length-map}
-use Rattle.cats_cmd.specs.DuplicateTexts.{found_paths}
+use Rattle.cats_cmd.proofs.Common.{ℕ, List, ◌<◌, length, take, refl, sym, ap, ◌∙◌, subst, arith, Global, Vec, get_or-map, length-map, found_paths}
 use Rattle.cats_cmd.proofs.Grouping.{length-plain_groups, no_paths, put_path}
 use Rattle.cats_cmd.proofs.duplicates.lines.group_by_number.Goals as goal
 

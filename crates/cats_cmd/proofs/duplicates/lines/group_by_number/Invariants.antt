@@ -1,7 +1,5 @@
 -- `group_by_number`
-use Rattle.std.proofs.Common.{◌≡◌, length, map, take}
-use Rattle.std.specs.List.{range_with_len}
-use Rattle.cats_cmd.specs.DuplicateTexts.{found_paths, paths_at, plain_groups}
+use Rattle.cats_cmd.proofs.Common.{◌≡◌, length, map, take, range_with_len, found_paths, paths_at, plain_groups}
 use Rattle.cats_cmd.proofs.duplicates.lines.group_by_number.Given as goal
 
 -- the paths of the files so far are there

@@ -1,6 +1,5 @@
 -- `push_groups`
-use Rattle.std.proofs.Common.{map, ap, ◌∙◌}
-use Rattle.cats_cmd.specs.DuplicateTexts.{with_group}
+use Rattle.cats_cmd.proofs.Common.{map, ap, ◌∙◌, with_group}
 use Rattle.cats_cmd.proofs.Grouping.{group_printed}
 use Rattle.cats_cmd.proofs.duplicates.lines.push_groups.Goals as goal
 

@@ -1,6 +1,5 @@
 -- `push_groups`
-use Rattle.std.proofs.Common.{◌≡◌, fold, take}
-use Rattle.cats_cmd.specs.DuplicateTexts.{plain_groups, with_group}
+use Rattle.cats_cmd.proofs.Common.{◌≡◌, fold, take, plain_groups, with_group}
 use Rattle.cats_cmd.proofs.duplicates.lines.push_groups.Given as goal
 
 -- the groups so far are printed

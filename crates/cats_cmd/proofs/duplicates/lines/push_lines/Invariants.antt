@@ -1,6 +1,5 @@
 -- `push_lines`
-use Rattle.std.proofs.Common.{◌≡◌, ◌++◌, map, take}
-use Rattle.cats_cmd.specs.DuplicateTexts.{lines_of}
+use Rattle.cats_cmd.proofs.Common.{◌≡◌, ◌++◌, map, take, lines_of}
 use Rattle.cats_cmd.proofs.duplicates.lines.push_lines.Given as goal
 
 -- the paths so far are printed

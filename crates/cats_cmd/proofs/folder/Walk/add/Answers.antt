@@ -1,5 +1,5 @@
 -- `Walk::add`
-use Rattle.std.proofs.Common.{ap, ◌∙◌, List, ℕ, ◌++◌}
+use Rattle.cats_cmd.proofs.Common.{ap, ◌∙◌, List, ℕ, ◌++◌}
 use Rattle.cats_cmd.proofs.Walking.{all_more, begins_more}
 use Rattle.cats_cmd.proofs.folder.Walk.add.Goals as goal
 

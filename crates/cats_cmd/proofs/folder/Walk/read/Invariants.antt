@@ -1,5 +1,5 @@
 -- `Walk::read`
-use Rattle.cats_cmd.specs.Internal.Walking.{StaysBelow}
+use Rattle.cats_cmd.proofs.Common.{StaysBelow}
 use Rattle.cats_cmd.proofs.folder.Walk.read.Given as goal
 
 abbrev pub invariant-loop-name : goal.invariant-loop-name

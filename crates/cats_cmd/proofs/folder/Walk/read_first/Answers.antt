@@ -1,6 +1,5 @@
 -- `Walk::read_first`
-use Rattle.std.proofs.Common.{ap, ◌∙◌}
-use Rattle.cats_cmd.specs.Folders.{with_slash}
+use Rattle.cats_cmd.proofs.Common.{ap, ◌∙◌, with_slash}
 use Rattle.cats_cmd.proofs.folder.Walk.read_first.Goals as goal
 
 pub returns : goal.returns

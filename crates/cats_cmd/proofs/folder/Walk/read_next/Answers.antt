@@ -1,6 +1,5 @@
 -- `Walk::read_next`
-use Rattle.std.proofs.Common.{ap, ◌∙◌}
-use Rattle.cats_cmd.specs.Folders.{with_slash}
+use Rattle.cats_cmd.proofs.Common.{ap, ◌∙◌, with_slash}
 use Rattle.cats_cmd.proofs.Walking.{all_more, slash_begins}
 use Rattle.cats_cmd.proofs.folder.Walk.read_next.Goals as goal
 

@@ -1,5 +1,5 @@
 -- `PricedInputInput::read_file`
-use Rattle.std.proofs.lemmas.Result.{err_from_is_err_and}
+use Rattle.cats_cmd.proofs.Common.{err_from_is_err_and}
 use Rattle.cats_cmd.proofs.PricedInputs.{memory_on_no_line}
 use Rattle.cats_cmd.proofs.priced_input.PricedInputInput.read_file.Goals as goal
 

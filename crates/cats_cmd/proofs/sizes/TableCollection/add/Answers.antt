@@ -1,9 +1,5 @@
 -- `TableCollection::add`
-use Rattle.std.proofs.Common.{◌≡◌, ◌++◌, ◌∙◌, ap}
-use Rattle.std.specs.Option.{option_map}
-use Rattle.commands.specs.SizesRows.{numbers_sized}
-use Rattle.cats_cmd.specs.declared.errors.RequestError.TheVariants.{Run}
-use Rattle.cats_cmd.specs.Paths.{request_error_of}
+use Rattle.cats_cmd.proofs.Common.{◌≡◌, ◌++◌, ◌∙◌, ap, option_map, numbers_sized, Run, request_error_of}
 use Rattle.cats_cmd.proofs.Tabling.{cells_sized, error_sized, fault_mapped, judgement_of, judges_sized, row_put}
 use Rattle.cats_cmd.proofs.sizes.TableCollection.add.Goals as goal
 

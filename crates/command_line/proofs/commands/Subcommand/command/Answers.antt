@@ -1,11 +1,5 @@
 -- `Subcommand::command`
-use Rattle.std.proofs.Common.{◌≡◌, ◌∙◌, List, [], ap, ap₂, get_or, rules, sym}
-use Rattle.std.proofs.lemmas.List.{map_more}
-use Rattle.clap.specs.Simple.{new_shape, with_rule}
-use Rattle.clap.specs.Walk.{Rule}
-use Rattle.clap.specs.Words.{rule_of}
-use Rattle.command_line.specs.Internal.Commands.{rule_for}
-use Rattle.command_line.specs.declared.commands.Argument.TheVariants.{File}
+use Rattle.command_line.proofs.Common.{◌≡◌, ◌∙◌, List, [], ap, ap₂, get_or, rules, sym, map_more, new_shape, with_rule, Rule, rule_of, rule_for, File}
 use Rattle.command_line.proofs.commands.Subcommand.command.Goals as goal
 
 pub loop-argument-preserved : goal.loop-argument-preserved

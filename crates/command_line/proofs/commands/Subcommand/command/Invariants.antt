@@ -1,7 +1,5 @@
 -- `Subcommand::command`
-use Rattle.std.proofs.Common.{◌≡◌, false, map, take, []}
-use Rattle.clap.specs.Simple.{app_of, new_shape}
-use Rattle.command_line.specs.Internal.Commands.{has_globals, rule_for}
+use Rattle.command_line.proofs.Common.{◌≡◌, false, map, take, [], app_of, new_shape, has_globals, rule_for}
 use Rattle.command_line.proofs.commands.Subcommand.command.Given as goal
 
 -- the arguments so far were added

@@ -1,7 +1,5 @@
 -- `bundle_of`
-use Rattle.std.proofs.Common.{ℕ, List, [], ap, sym, ◌∙◌}
-use Rattle.std.proofs.lemmas.List.Sums.{fold_more}
-use Rattle.goods_set.specs.Bundles.{with_good}
+use Rattle.commands.proofs.Common.{ℕ, List, [], ap, sym, ◌∙◌, fold_more, with_good}
 use Rattle.commands.proofs.bundle_value.bundles.bundle_of.Goals as goal
 
 pub loop-good-preserved : goal.loop-good-preserved

@@ -1,6 +1,5 @@
 -- `bundle_of`
-use Rattle.std.proofs.Common.{◌≡◌, take}
-use Rattle.commands.specs.ValueTexts.{bundle_from}
+use Rattle.commands.proofs.Common.{◌≡◌, take, bundle_from}
 use Rattle.commands.proofs.bundle_value.bundles.bundle_of.Given as goal
 
 -- the goods so far are in the bundle

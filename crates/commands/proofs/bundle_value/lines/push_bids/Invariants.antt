@@ -1,6 +1,5 @@
 -- `push_bids`
-use Rattle.std.proofs.Common.{◌≡◌, ◌++◌, take}
-use Rattle.commands.specs.ValueTexts.{numbers_text}
+use Rattle.commands.proofs.Common.{◌≡◌, ◌++◌, take, numbers_text}
 use Rattle.commands.proofs.bundle_value.lines.push_bids.Given as goal
 
 -- the numbers at the places so far are printed

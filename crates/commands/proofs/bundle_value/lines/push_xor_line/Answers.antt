@@ -1,8 +1,5 @@
 -- `push_xor_line`
-use Rattle.std.proofs.Common.{sym, ◌∙◌}
-use Rattle.std.proofs.lemmas.Result.{on_ok_weaker}
-use Rattle.valuation.specs.Lemmas.Atoms.{length-atoms_of}
-use Rattle.valuation.specs.Values.{atoms_of}
+use Rattle.commands.proofs.Common.{sym, ◌∙◌, on_ok_weaker, length-atoms_of, atoms_of}
 use Rattle.commands.proofs.BestPlaces.{place_of_best, place_within}
 use Rattle.commands.proofs.Printing.{appended, xor_line_made}
 use Rattle.commands.proofs.bundle_value.lines.push_xor_line.Goals as goal

@@ -1,10 +1,5 @@
 -- `push_xor_lines`: the text so far has the lines of the bidders before; the next bidder's atoms and numbers are as many, and its line is put behind.
-use Rattle.std.proofs.Common.{arith, ◌≡◌, ◌<◌, ◌+◌, ℕ, List, length, sym, ap, ◌∙◌}
-use Rattle.bid_file.specs.Files.{PlainFile}
-use Rattle.valuation.specs.declared.atom.Atom.{Atom}
-use Rattle.valuation.specs.Lemmas.Atoms.{length-atoms_of}
-use Rattle.valuation.specs.Values.{atoms_of}
-use Rattle.valuation.proofs.Placing.{length-bidders_of}
+use Rattle.commands.proofs.Common.{arith, ◌≡◌, ◌<◌, ◌+◌, ℕ, List, length, sym, ap, ◌∙◌, PlainFile, Atom, length-atoms_of, atoms_of, length-bidders_of}
 use Rattle.commands.proofs.Numbering.{length-xor_numbers, list_at}
 use Rattle.commands.proofs.Printing.{bidder_at, line_added}
 use Rattle.commands.proofs.bundle_value.lines.push_xor_lines.Goals as goal

@@ -1,7 +1,5 @@
 -- `push_xor_lines`
-use Rattle.std.proofs.Common.{◌≡◌, ◌++◌}
-use Rattle.std.specs.List.{flat_map, range_with_len}
-use Rattle.commands.specs.ValueTexts.{dummy_line}
+use Rattle.commands.proofs.Common.{◌≡◌, ◌++◌, flat_map, range_with_len, dummy_line}
 use Rattle.commands.proofs.bundle_value.lines.push_xor_lines.Given as goal
 
 -- the lines of the bidders so far are printed

@@ -1,13 +1,9 @@
 -- `bid_numbers`: the lists hold the numbers of the bids so far, bidder by bidder, and the next bid's number is put at the end of its bidder's list
 -- (proofs/Numbering).
-use Rattle.std.proofs.Common.{arith, ◌<◌, [], take, refl, sym, ◌∙◌}
-use Rattle.std.proofs.lemmas.Option.{get_or_from_slice_get, slice_get_within}
-use Rattle.bid_file.specs.Files.{PlainBid, PlainFile}
-use Rattle.bid_file.specs.Views.{seen_bid}
-use Rattle.valuation.specs.Lemmas.AuctionsOfFiles.{IsBid-there}
+use Rattle.commands.proofs.Common.{arith, ◌<◌, [], take, refl, sym, ◌∙◌, get_or_from_slice_get, slice_get_within, PlainBid, PlainFile, seen_bid, IsBid-there}
+use Rattle.commands.proofs.Common.{xor_numbers}
 use Rattle.commands.proofs.Numbering.{number-or, number-xor, or_numbers-same, xor_numbers-same, length-lists_of}
 use Rattle.commands.proofs.ByNumber.{by_number-replicate}
-use Rattle.commands.specs.ValueTexts.{xor_numbers}
 use Rattle.commands.proofs.bundle_value.numbers.bid_numbers.Goals as goal
 use Rattle.commands.proofs.bundle_value.numbers.bid_numbers.Goals.{in-None+in_ok-push-in-None, in-Some+in_ok-push-in-Some}
 

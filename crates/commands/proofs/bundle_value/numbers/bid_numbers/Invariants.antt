@@ -1,7 +1,5 @@
 -- `bid_numbers`
-use Rattle.std.proofs.Common.{◌≡◌, map, take}
-use Rattle.std.specs.List.{range_with_len}
-use Rattle.commands.specs.ValueTexts.{lists_of, or_numbers, xor_numbers}
+use Rattle.commands.proofs.Common.{◌≡◌, map, take, range_with_len, lists_of, or_numbers, xor_numbers}
 use Rattle.commands.proofs.bundle_value.numbers.bid_numbers.Given as goal
 
 -- the numbers of the bids so far are there

@@ -1,6 +1,5 @@
 -- `empty_lists`
-use Rattle.std.proofs.Common.{◌≡◌, [], replicate}
-use Rattle.commands.specs.ValueTexts.{lists_of}
+use Rattle.commands.proofs.Common.{◌≡◌, [], replicate, lists_of}
 use Rattle.commands.proofs.bundle_value.numbers.empty_lists.Given as goal
 
 -- so many lists are made

@@ -1,6 +1,5 @@
 -- `give_fault`
-use Rattle.std.proofs.Common.{arith}
-use Rattle.commands.specs.FaultLines.{line_of_fault}
+use Rattle.commands.proofs.Common.{arith, line_of_fault}
 use Rattle.commands.proofs.Putting.{puts_into}
 use Rattle.commands.proofs.calls.buffer.give_fault.Goals as goal
 

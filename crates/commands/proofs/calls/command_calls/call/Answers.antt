@@ -1,5 +1,5 @@
 -- `call`
-use Rattle.commands.specs.Outcomes.{outcome_of}
+use Rattle.commands.proofs.Common.{outcome_of}
 use Rattle.commands.proofs.Given.{given_call}
 use Rattle.commands.proofs.calls.command_calls.call.Goals as goal
 

@@ -1,7 +1,5 @@
 -- `find_duplicates`
-use Rattle.std.proofs.Common.{List, ℕ, ◌∷◌, ◌++◌, [], get_or, take, refl, sym, ap, ◌∙◌, arith}
-use Rattle.std.proofs.lemmas.List.{take_all}
-use Rattle.commands.specs.DuplicatesCalls.{texts_of}
+use Rattle.commands.proofs.Common.{List, ℕ, ◌∷◌, ◌++◌, [], get_or, take, refl, sym, ap, ◌∙◌, arith, take_all, texts_of}
 use Rattle.commands.proofs.JudgingTexts.{length-texts_of, said_more, said_none, text_split}
 use Rattle.commands.proofs.calls.duplicates.find_duplicates.Goals as goal
 

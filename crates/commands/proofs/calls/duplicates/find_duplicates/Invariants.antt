@@ -1,7 +1,5 @@
 -- `find_duplicates`
-use Rattle.std.proofs.Common.{◌≡◌, take, drop}
-use Rattle.commands.specs.DuplicatesCalls.{texts_of}
-use Rattle.commands.specs.Internal.Duplicates.{SaysSoFar}
+use Rattle.commands.proofs.Common.{◌≡◌, take, drop, texts_of, SaysSoFar}
 use Rattle.commands.proofs.calls.duplicates.find_duplicates.Given as goal
 
 -- what is said of the texts so far, and what is left

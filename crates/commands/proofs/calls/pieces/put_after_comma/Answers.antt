@@ -1,5 +1,5 @@
 -- `put_after_comma`
-use Rattle.std.proofs.Common.{[], ◌∷◌, decimal, arith}
+use Rattle.commands.proofs.Common.{[], ◌∷◌, decimal, arith}
 use Rattle.commands.proofs.Putting.{puts_then}
 use Rattle.commands.proofs.calls.pieces.put_after_comma.Goals as goal
 

@@ -1,5 +1,5 @@
 -- `put_after_commas`
-use Rattle.std.proofs.Common.{◌∷◌, decimal, arith}
+use Rattle.commands.proofs.Common.{◌∷◌, decimal, arith}
 use Rattle.commands.proofs.Putting.{puts_nothing, puts_next}
 use Rattle.commands.proofs.calls.pieces.put_after_commas.Goals as goal
 

@@ -1,6 +1,5 @@
 -- `put_goods`
-use Rattle.std.proofs.Common.{rules, ◌≡◌, ◌∷◌, decimal, arith}
-use Rattle.commands.specs.Outputs.{after_commas}
+use Rattle.commands.proofs.Common.{rules, ◌≡◌, ◌∷◌, decimal, arith, after_commas}
 use Rattle.commands.proofs.Putting.{puts_then}
 use Rattle.commands.proofs.calls.pieces.put_goods.Goals as goal
 

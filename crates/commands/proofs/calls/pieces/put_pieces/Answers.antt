@@ -1,6 +1,5 @@
 -- `put_pieces`
-use Rattle.std.proofs.Common.{arith}
-use Rattle.commands.specs.Pieces.{text_of_piece}
+use Rattle.commands.proofs.Common.{arith, text_of_piece}
 use Rattle.commands.proofs.Putting.{puts_nothing, puts_next}
 use Rattle.commands.proofs.calls.pieces.put_pieces.Goals as goal
 

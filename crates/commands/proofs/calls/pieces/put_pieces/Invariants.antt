@@ -1,7 +1,5 @@
 -- `put_pieces`: the pieces so far were put
-use Rattle.std.proofs.Common.{take}
-use Rattle.commands.specs.Pieces.{text_of_pieces}
-use Rattle.commands.specs.Internal.Putting.{PutsFrom}
+use Rattle.commands.proofs.Common.{take, text_of_pieces, PutsFrom}
 use Rattle.commands.proofs.calls.pieces.put_pieces.Given as goal
 
 abbrev pub invariant-loop-piece : goal.invariant-loop-piece

@@ -1,7 +1,5 @@
 -- `put_text`
-use Rattle.std.proofs.Common.{◌≡◌, ◌+◌, ◌-◌, ◌++◌, length, take, ap, ◌∙◌, arith}
-use Rattle.std.proofs.lemmas.Slice.{take-put_mid, drop-put_mid}
-use borrow.Rule.Slice.PartMut.{same_len_mid}
+use Rattle.commands.proofs.Common.{◌≡◌, ◌+◌, ◌-◌, ◌++◌, length, take, ap, ◌∙◌, arith, take-put_mid, drop-put_mid, same_len_mid}
 use Rattle.commands.proofs.calls.pieces.put_text.Goals as goal
 
 pub returns-then-end-out : goal.returns-then-end-out

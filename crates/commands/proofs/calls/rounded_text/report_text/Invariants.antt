@@ -1,7 +1,5 @@
 -- `report_text`
-use Rattle.std.proofs.Common.{◌≡◌, take}
-use Rattle.rounding.specs.Views.{plain_changes}
-use Rattle.commands.specs.Roundings.{lines_of}
+use Rattle.commands.proofs.Common.{◌≡◌, take, plain_changes, lines_of}
 use Rattle.commands.proofs.calls.rounded_text.report_text.Given as goal
 
 -- the lines of the prices so far

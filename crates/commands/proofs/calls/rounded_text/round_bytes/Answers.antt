@@ -1,7 +1,6 @@
 -- `round_bytes`
-use Rattle.std.proofs.Common.{inr}
+use Rattle.commands.proofs.Common.{inr, IsUnrounded}
 use Rattle.commands.proofs.Unrounded.{rounding_refused}
-use Rattle.commands.specs.Roundings.{IsUnrounded}
 use Rattle.commands.proofs.calls.rounded_text.round_bytes.Goals as goal
 
 pub returns-in-Err-clause-refused : goal.returns-in-Err-clause-refused

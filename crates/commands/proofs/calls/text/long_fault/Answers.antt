@@ -1,5 +1,5 @@
 -- `long_fault`
-use Rattle.std.proofs.Common.{sym, ◌∙◌}
+use Rattle.commands.proofs.Common.{sym, ◌∙◌}
 use Rattle.commands.proofs.Refusing.{long_fed, long_written}
 use Rattle.commands.proofs.calls.text.long_fault.Goals as goal
 

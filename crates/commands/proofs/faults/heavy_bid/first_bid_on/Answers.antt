@@ -1,11 +1,6 @@
 -- `first_bid_on`
-use Rattle.std.proofs.Common.{◌≡◌, ◌<◌, ◌+◌, ℕ, Bool, true, false, List, [], length, get_or, None, Some, sym, ap, ◌∙◌, arith}
-use Rattle.std.specs.List.{slice_get}
-use Rattle.std.proofs.lemmas.List.Sums.{position_or_len_is}
-use Rattle.std.proofs.lemmas.Option.{get_or_from_slice_get, slice_get_within}
-use Rattle.bid_file.specs.Files.{PlainBid}
-use Rattle.bid_file.specs.Views.{seen_bid}
-use Rattle.commands.specs.Outcomes.{is_on}
+use Rattle.commands.proofs.Common.{◌≡◌, ◌<◌, ◌+◌, ℕ, Bool, true, false, List, [], length, get_or, None, Some, sym, ap, ◌∙◌, arith, slice_get}
+use Rattle.commands.proofs.Common.{position_or_len_is, get_or_from_slice_get, slice_get_within, PlainBid, seen_bid, is_on}
 use Rattle.commands.proofs.faults.heavy_bid.first_bid_on.Goals as goal
 
 module _ (p : PlainBid → Bool) (bids : List PlainBid) (i : ℕ) (seen : PlainBid) (is : slice_get bids i ≡ Some seen) where

@@ -1,7 +1,5 @@
 -- `first_bid_on`: no bid before it is on the bundle.
-use Rattle.std.proofs.Common.{◌≡◌, ◌<◌, ℕ, false, get_or}
-use Rattle.bid_file.specs.Files.{PlainBid}
-use Rattle.commands.specs.Outcomes.{is_on}
+use Rattle.commands.proofs.Common.{◌≡◌, ◌<◌, ℕ, false, get_or, PlainBid, is_on}
 use Rattle.commands.proofs.faults.heavy_bid.first_bid_on.Given as goal
 
 abbrev pub invariant-loop-number : goal.invariant-loop-number

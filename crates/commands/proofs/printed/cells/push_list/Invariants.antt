@@ -1,6 +1,5 @@
 -- `push_list`
-use Rattle.std.proofs.Common.{◌≡◌, ◌∷◌, ◌++◌, take}
-use Rattle.std.specs.List.{flat_map}
+use Rattle.commands.proofs.Common.{◌≡◌, ◌∷◌, ◌++◌, take, flat_map}
 use Rattle.commands.proofs.printed.cells.push_list.Given as goal
 
 -- the numbers so far are appended, each after a comma

@@ -1,7 +1,5 @@
 -- `bids`
-use Rattle.std.proofs.Common.{◌≡◌, ◌++◌, codes, take}
-use Rattle.canon.specs.Verdicts.{printed_atoms}
-use Rattle.commands.specs.ComparisonTexts.{bidder_text}
+use Rattle.commands.proofs.Common.{◌≡◌, ◌++◌, codes, take, printed_atoms, bidder_text}
 use Rattle.commands.proofs.printed.comparison.bids.Given as goal
 
 -- the bids so far are printed

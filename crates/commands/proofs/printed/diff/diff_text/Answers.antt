@@ -1,6 +1,6 @@
 -- `diff_text`
+use Rattle.commands.proofs.Common.{file_of}
 use Rattle.commands.proofs.BidsOfFiles.{bidder_changes_of, or_changes_of}
-use Rattle.commands.specs.Internal.Sides.{file_of}
 use Rattle.commands.proofs.printed.diff.diff_text.Goals as goal
 
 pub push_changes-requires-clause-changes : goal.push_changes-requires-clause-changes

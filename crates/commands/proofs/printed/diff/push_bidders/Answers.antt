@@ -1,6 +1,5 @@
 -- `push_bidders`
-use Rattle.analysis.specs.Views.{plain_bidder_change}
-use Rattle.commands.specs.Internal.Sides.{IsOfBidders, file_of}
+use Rattle.commands.proofs.Common.{plain_bidder_change, IsOfBidders, file_of}
 use Rattle.commands.proofs.BidsOfFiles.{seen_at}
 use Rattle.commands.proofs.printed.diff.push_bidders.Goals as goal
 

@@ -1,9 +1,5 @@
 -- `push_bidders`
-use Rattle.std.proofs.Common.{◌≡◌, ◌++◌, map, take}
-use Rattle.std.specs.List.{flat_map}
-use Rattle.analysis.specs.Views.{plain_bidder_change}
-use Rattle.commands.specs.DiffTexts.{bidder_rows}
-use Rattle.commands.specs.Internal.Sides.{file_of}
+use Rattle.commands.proofs.Common.{◌≡◌, ◌++◌, map, take, flat_map, plain_bidder_change, bidder_rows, file_of}
 use Rattle.commands.proofs.printed.diff.push_bidders.Given as goal
 
 -- the rows of the bidders so far are appended

@@ -1,6 +1,5 @@
 -- `push_changes`
-use Rattle.canon.specs.PriceChanges.{plain_change}
-use Rattle.commands.specs.Internal.Sides.{IsOfBids, file_of}
+use Rattle.commands.proofs.Common.{plain_change, IsOfBids, file_of}
 use Rattle.commands.proofs.BidsOfFiles.{seen_at}
 use Rattle.commands.proofs.printed.diff.push_changes.Goals as goal
 

@@ -1,9 +1,5 @@
 -- `push_changes`
-use Rattle.std.proofs.Common.{◌≡◌, ◌++◌, map, take}
-use Rattle.std.specs.List.{flat_map}
-use Rattle.canon.specs.PriceChanges.{plain_change}
-use Rattle.commands.specs.DiffTexts.{change_row}
-use Rattle.commands.specs.Internal.Sides.{file_of}
+use Rattle.commands.proofs.Common.{◌≡◌, ◌++◌, map, take, flat_map, plain_change, change_row, file_of}
 use Rattle.commands.proofs.printed.diff.push_changes.Given as goal
 
 -- the rows of the changes so far are appended

@@ -1,8 +1,5 @@
 -- `explanation_text`
-use Rattle.std.proofs.Common.{[], None, sym}
-use Rattle.std.proofs.lemmas.Option.{get_or_from_slice_get}
-use Rattle.bid_file.specs.Views.{seen_bid}
-use Rattle.commands.specs.ExplanationTexts.{explanation_header}
+use Rattle.commands.proofs.Common.{[], None, sym, get_or_from_slice_get, seen_bid, explanation_header}
 use Rattle.commands.proofs.Explanations.{row_of_bid}
 use Rattle.commands.proofs.printed.explanation.explanation_text.Goals as goal
 

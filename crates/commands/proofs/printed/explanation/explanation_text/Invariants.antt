@@ -1,9 +1,5 @@
 -- `explanation_text`
-use Rattle.std.proofs.Common.{◌≡◌, ◌++◌, map}
-use Rattle.std.specs.List.{flat_map, range_with_len}
-use Rattle.analysis.specs.Bids.{bid_at}
-use Rattle.analysis.specs.Reasons.{plain_reason, reason_at}
-use Rattle.commands.specs.ExplanationTexts.{explanation_header, explanation_row}
+use Rattle.commands.proofs.Common.{◌≡◌, ◌++◌, map, flat_map, range_with_len, bid_at, plain_reason, reason_at, explanation_header, explanation_row}
 use Rattle.commands.proofs.printed.explanation.explanation_text.Given as goal
 
 -- the header and the rows of the bids so far are printed

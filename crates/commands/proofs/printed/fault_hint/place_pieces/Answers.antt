@@ -1,5 +1,5 @@
 -- `place_pieces`
-use Rattle.std.proofs.Common.{rules, append_assoc}
+use Rattle.commands.proofs.Common.{rules, append_assoc}
 use Rattle.commands.proofs.printed.fault_hint.place_pieces.Goals as goal
 
 pub returns : goal.returns

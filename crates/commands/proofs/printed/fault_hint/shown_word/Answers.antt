@@ -1,6 +1,5 @@
 -- `shown_word`
-use Rattle.std.proofs.Common.{◌≡◌, ℕ, List, length, min, arith}
-use Rattle.std.proofs.lemmas.List.{take_min}
+use Rattle.commands.proofs.Common.{◌≡◌, ℕ, List, length, min, arith, take_min}
 use Rattle.commands.proofs.printed.fault_hint.shown_word.Goals as goal
 
 pub returns : goal.returns

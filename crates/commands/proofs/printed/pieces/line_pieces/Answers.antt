@@ -1,5 +1,5 @@
 -- `line_pieces`
-use Rattle.std.proofs.Common.{rules, append_assoc}
+use Rattle.commands.proofs.Common.{rules, append_assoc}
 use Rattle.commands.proofs.printed.pieces.line_pieces.Goals as goal
 
 pub returns : goal.returns

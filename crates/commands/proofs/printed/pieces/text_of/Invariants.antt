@@ -1,6 +1,5 @@
 -- `text_of`
-use Rattle.std.proofs.Common.{◌≡◌, take}
-use Rattle.commands.specs.Pieces.{text_of_pieces}
+use Rattle.commands.proofs.Common.{◌≡◌, take, text_of_pieces}
 use Rattle.commands.proofs.printed.pieces.text_of.Given as goal
 
 abbrev pub invariant-loop-piece : goal.invariant-loop-piece

@@ -1,5 +1,5 @@
 -- `fault_pieces`
-use Rattle.std.proofs.Common.{◌≡◌, ◌++◌, ℕ, List, [], append_assoc, codes, decimal}
+use Rattle.commands.proofs.Common.{◌≡◌, ◌++◌, ℕ, List, [], append_assoc, codes, decimal}
 use Rattle.commands.proofs.printed.report.fault_pieces.Goals as goal
 
 joined : (before number : List ℕ) → before ++ number ++ codes " out of range" ++ [] ++ codes "\n" ≡ before ++ number ++ codes " out of range\n"

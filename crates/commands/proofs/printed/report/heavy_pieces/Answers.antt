@@ -1,11 +1,6 @@
 -- `heavy_pieces`
-use Rattle.std.proofs.Common.{◌≡◌, ◌++◌, ℕ, List, length, take, min, append_assoc, ◌∙◌, ap, codes, decimal, refl, arith}
-use Rattle.std.proofs.lemmas.List.{take_min}
-use Rattle.commands.specs.Outputs.{bundle_text}
-use Rattle.commands.specs.FaultLines.{rest_text, text_of_heavy_bid, total_text}
-use Rattle.commands.specs.Pieces.{text_of_piece}
-use Rattle.commands.specs.declared.printed.pieces.Piece.{Piece}
-use Rattle.commands.specs.declared.faults.HeavyBid.{HeavyBid}
+use Rattle.commands.proofs.Common.{◌≡◌, ◌++◌, ℕ, List, length, take, min, append_assoc, ◌∙◌, ap, codes, decimal, refl, arith, take_min, bundle_text, rest_text}
+use Rattle.commands.proofs.Common.{text_of_heavy_bid, total_text, text_of_piece, Piece, HeavyBid}
 use Rattle.commands.proofs.printed.report.heavy_pieces.Goals as goal
 
 joined : (prefix limit steps a b c bid number colon goods d e f end : List ℕ)

@@ -1,9 +1,6 @@
 -- `read_pieces`: A kind that belongs to a line is reported with its line.
-use Rattle.std.proofs.Common.{◌≡◌, ◌≢◌, ◌++◌, ℕ, append_assoc, arith, codes, decimal}
-use Rattle.cats_text.specs.declared.read_fault.Kind.{Kind}
-use Rattle.cats_text.specs.declared.read_fault.Kind.TheVariants.{TooLong, Device, Memory}
-use Rattle.commands.specs.KindNames.{name_of_kind}
-use Rattle.commands.specs.FaultLines.{text_of_kind}
+use Rattle.commands.proofs.Common.{◌≡◌, ◌≢◌, ◌++◌, ℕ, append_assoc, arith, codes, decimal, Kind, TooLong, Device, name_of_kind, text_of_kind}
+use Rattle.cats_text.specs.declared.read_fault.Kind.TheVariants.{Memory}
 use Rattle.commands.proofs.printed.report.read_pieces.Goals as goal
 
 text_in_a_line : (line : ℕ) (kind : Kind) → kind ≢ TooLong → kind ≢ Device → kind ≢ Memory

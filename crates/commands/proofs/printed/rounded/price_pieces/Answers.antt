@@ -1,6 +1,5 @@
 -- `price_pieces`
-use Rattle.std.proofs.Common.{◌≡◌, ◌++◌, [], ℕ, List, append_assoc, codes, decimal, refl}
-use Rattle.cats_text.specs.Layout.{price_text}
+use Rattle.commands.proofs.Common.{◌≡◌, ◌++◌, [], ℕ, List, append_assoc, codes, decimal, refl, price_text}
 use Rattle.commands.proofs.printed.rounded.price_pieces.Goals as goal
 
 joined : (line word price : List ℕ) → codes "line " ++ (line ++ (codes ": " ++ (word ++ (codes " rounded to " ++ (price ++ (codes "\n" ++ []))))))

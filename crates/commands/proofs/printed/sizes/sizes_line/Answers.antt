@@ -1,5 +1,5 @@
 -- `sizes_line`
-use Rattle.std.proofs.Common.{rules, append_assoc}
+use Rattle.commands.proofs.Common.{rules, append_assoc}
 use Rattle.commands.proofs.printed.sizes.sizes_line.Goals as goal
 
 pub returns : goal.returns

@@ -1,5 +1,5 @@
 -- `count_marks`
-use Rattle.std.proofs.Common.{◌≡◌, ◌≤◌, length, filter, take}
+use Rattle.commands.proofs.Common.{◌≡◌, ◌≤◌, length, filter, take}
 use Rattle.commands.proofs.sizes_row.count.count_marks.Given as goal
 
 -- the marks so far are counted

@@ -1,7 +1,5 @@
 -- `count_or`
-use Rattle.std.proofs.Common.{◌≡◌, Some, arith}
-use Rattle.std.specs.List.{slice_get}
-use Rattle.bid_file.specs.Files.{PlainBid}
+use Rattle.commands.proofs.Common.{◌≡◌, Some, arith, slice_get, PlainBid}
 use Rattle.commands.proofs.Sizing.{or_more}
 use Rattle.commands.proofs.sizes_row.count.count_or.Goals as goal
 use Rattle.commands.proofs.sizes_row.count.count_or.Goals.{then-is_none, else-is_none}

@@ -1,6 +1,5 @@
 -- `count_or`
-use Rattle.std.proofs.Common.{◌≡◌, ◌≤◌, length, filter, take}
-use Rattle.std.specs.Prelude.{is_none}
+use Rattle.commands.proofs.Common.{◌≡◌, ◌≤◌, length, filter, take, is_none}
 use Rattle.commands.proofs.sizes_row.count.count_or.Given as goal
 
 -- the bids so far are counted

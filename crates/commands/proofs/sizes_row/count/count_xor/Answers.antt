@@ -1,8 +1,5 @@
 -- `count_xor`
-use Rattle.std.specs.List.{range_with_len}
-use Rattle.std.proofs.lemmas.List.{length-map}
-use Rattle.canon.specs.Lemmas.Renaming.{filter-map}
-use Rattle.commands.specs.SizesRows.{has_dummy}
+use Rattle.commands.proofs.Common.{range_with_len, length-map, filter-map, has_dummy}
 use Rattle.commands.proofs.sizes_row.count.count_xor.Goals as goal
 
 pub returns : goal.returns

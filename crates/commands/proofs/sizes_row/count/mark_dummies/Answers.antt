@@ -1,10 +1,6 @@
 -- `mark_dummies`
-use Rattle.std.proofs.Common.{◌≡◌, ◌<◌, false, [], refl, Some, ap, ◌∙◌, arith, length, take}
-use Rattle.std.specs.List.{slice_get}
-use Rattle.std.proofs.lemmas.List.FromFn.{length-map-range_with_len}
-use Rattle.bid_file.specs.Files.{PlainBid, PlainFile}
-use Rattle.valuation.specs.Lemmas.AuctionsOfFiles.{IsBid-there}
-use Rattle.commands.specs.SizesRows.{has_dummy}
+use Rattle.commands.proofs.Common.{◌≡◌, ◌<◌, false, [], refl, Some, ap, ◌∙◌, arith, length, take, slice_get, length-map-range_with_len, PlainBid, PlainFile}
+use Rattle.commands.proofs.Common.{IsBid-there, has_dummy}
 use Rattle.commands.proofs.ByNumber.{by_number-replicate}
 use Rattle.commands.proofs.Sizing.{marks_put, marks_same}
 use Rattle.commands.proofs.sizes_row.count.mark_dummies.Goals as goal

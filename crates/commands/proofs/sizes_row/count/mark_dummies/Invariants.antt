@@ -1,7 +1,5 @@
 -- `mark_dummies`
-use Rattle.std.proofs.Common.{◌≡◌, map, take}
-use Rattle.std.specs.List.{range_with_len}
-use Rattle.commands.specs.SizesRows.{has_dummy}
+use Rattle.commands.proofs.Common.{◌≡◌, map, take, range_with_len, has_dummy}
 use Rattle.commands.proofs.sizes_row.count.mark_dummies.Given as goal
 
 -- the dummy goods of the bids so far are marked

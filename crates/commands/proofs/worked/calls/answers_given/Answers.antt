@@ -1,5 +1,5 @@
 -- `answers_given`
-use Rattle.std.proofs.Common.{refl}
+use Rattle.commands.proofs.Common.{refl}
 use Rattle.std.specs.Fmt.{digits}
 use Rattle.commands.proofs.SmallTexts.{puts_none, puts_whole}
 use Rattle.commands.proofs.worked.calls.answers_given.Goals as goal

@@ -1,11 +1,6 @@
 -- `calls_made`
-use Rattle.std.proofs.Common.{rules, inl, inr, refl, codes}
+use Rattle.commands.proofs.Common.{rules, inl, inr, refl, codes, fault_at, Header, Read, Memory, Only, Refused}
 use Rattle.std.specs.Fmt.{digits}
-use Rattle.cats_text.specs.Faults.{fault_at}
-use Rattle.cats_text.specs.declared.read_fault.Kind.TheVariants.{Header}
-use Rattle.canon.specs.declared.canon_fault.CanonFault.TheVariants.{Read, Memory}
-use Rattle.canon.specs.declared.which.Which.TheVariants.{Only}
-use Rattle.commands.specs.declared.faults.RunFault.TheVariants.{Refused}
 use Rattle.commands.proofs.SmallTexts.{makes, puts_none, puts_whole}
 use Rattle.commands.proofs.worked.calls.calls_made.Goals as goal
 

@@ -1,25 +1,13 @@
 -- `duplicates_said`
-use Rattle.std.proofs.Common.{◌≡◌, ◌<◌, ℕ, zero, suc, List, [], ◌∷◌, Some, Ok, Err, inl, inr, refl, ap, ◌∙◌, codes, slice_get, arith}
-use Rattle.std.proofs.lemmas.Bool.{eqb-false}
-use Rattle.std.proofs.lemmas.Option.{same_Some}
+use Rattle.commands.proofs.Common.{◌≡◌, ◌<◌, ℕ, zero, suc, List, [], ◌∷◌, Some, Ok, Err, inl, inr, refl, ap, ◌∙◌, codes, arith, eqb-false, same_Some, PlainFile}
+use Rattle.commands.proofs.Common.{fault_at, spelled_file, Header, spells_from_no_fault, Round, AreSameFiles, Read, Memory, Only, larger_bid, text_read, Sized}
+use Rattle.commands.proofs.Common.{IsSized, IsUnsized, Refused}
+use Rattle.std.proofs.Common.{slice_get}
 use Rattle.std.specs.Fmt.{digits}
-use Rattle.bid_file.specs.Files.{PlainFile}
-use Rattle.cats_text.specs.Faults.{fault_at}
-use Rattle.cats_text.specs.FileLines.{spelled_file}
-use Rattle.cats_text.specs.declared.read_fault.Kind.TheVariants.{Header}
-use Rattle.cats_text.proofs.Spelling.Files.{spells_from_no_fault}
-use Rattle.rounding.specs.declared.replacement.FinePrices.TheVariants.{Round}
 use Rattle.valuation.specs.SearchSteps.{cut_steps}
 use Rattle.valuation.specs.Values.{or_value, xor_value}
 use Rattle.prune.specs.Points.{points_where, is_or_point, is_xor_point}
 use Rattle.prune.specs.SearchSteps.{search_steps_by, first_over, first_refused}
-use Rattle.canon.specs.Sameness.{AreSameFiles}
-use Rattle.canon.specs.declared.canon_fault.CanonFault.TheVariants.{Read, Memory}
-use Rattle.canon.specs.declared.which.Which.TheVariants.{Only}
-use Rattle.commands.specs.Examples.{larger_bid}
-use Rattle.commands.specs.Refusals.{text_read}
-use Rattle.commands.specs.SizesRows.{Sized, IsSized, IsUnsized}
-use Rattle.commands.specs.declared.faults.RunFault.TheVariants.{Refused}
 use Rattle.commands.proofs.SmallTexts.{puts_whole}
 use Rattle.commands.proofs.worked.calls.duplicates_said.Goals as goal
 

@@ -1,11 +1,10 @@
 -- `one_of_two_refused`
-use Rattle.std.proofs.Common.{rules, ◌≡◌, ◌+◌, Some, refl, sym, ap, arith}
+use Rattle.commands.proofs.Common.{rules, ◌≡◌, ◌+◌, Some, refl, sym, ap, arith, ExceedsAtBid}
 use Rattle.std.specs.Fmt.{digits}
 use Rattle.valuation.specs.Values.{or_value, xor_value}
 use Rattle.prune.specs.Points.{points_where, is_or_point, is_xor_point}
 use Rattle.prune.specs.SearchSteps.{search_steps_by, first_over, first_refused}
 use Rattle.valuation.specs.SearchSteps.{cut_steps}
-use Rattle.commands.specs.Outcomes.{ExceedsAtBid}
 use Rattle.commands.proofs.SmallTexts.{makes, makes_only, number_in, within}
 use Rattle.commands.proofs.worked.calls.one_of_two_refused.Goals as goal
 

@@ -1,6 +1,5 @@
 -- `places_said`
-use Rattle.std.proofs.Common.{rules, [], inl, inr, refl, ap, arith}
-use Rattle.std.proofs.lemmas.Bool.{eqb-false}
+use Rattle.commands.proofs.Common.{rules, [], inl, inr, refl, ap, arith, eqb-false}
 use Rattle.std.specs.Fmt.{digits}
 use Rattle.commands.proofs.SmallTexts.{number_in, other_byte, puts_whole, text_in}
 use Rattle.commands.proofs.worked.calls.places_said.Goals as goal

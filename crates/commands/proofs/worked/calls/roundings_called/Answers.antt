@@ -1,11 +1,6 @@
 -- `roundings_called`
-use Rattle.std.proofs.Common.{rules, [], inl, inr, refl, codes}
+use Rattle.commands.proofs.Common.{rules, [], inl, inr, refl, codes, fault_at, TooFine, Read, Only, Refused}
 use Rattle.std.specs.Fmt.{digits}
-use Rattle.cats_text.specs.Faults.{fault_at}
-use Rattle.cats_text.specs.declared.read_fault.Kind.TheVariants.{TooFine}
-use Rattle.canon.specs.declared.canon_fault.CanonFault.TheVariants.{Read}
-use Rattle.canon.specs.declared.which.Which.TheVariants.{Only}
-use Rattle.commands.specs.declared.faults.RunFault.TheVariants.{Refused}
 use Rattle.commands.proofs.SmallTexts.{puts_none, puts_whole, rounds}
 use Rattle.commands.proofs.worked.calls.roundings_called.Goals as goal
 

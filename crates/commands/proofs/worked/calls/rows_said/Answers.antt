@@ -1,20 +1,11 @@
 -- `rows_said`
-use Rattle.std.proofs.Common.{rules, Some, inl, inr, refl, codes}
+use Rattle.commands.proofs.Common.{rules, Some, inl, inr, refl, codes, fault_at, spelled_file, Header, spells_from_no_fault, Round, Read, Memory, Only, Refused}
+use Rattle.commands.proofs.Common.{IsSized, IsUnsized, text_read}
 use Rattle.std.specs.Fmt.{digits}
-use Rattle.cats_text.specs.Faults.{fault_at}
-use Rattle.cats_text.specs.FileLines.{spelled_file}
-use Rattle.cats_text.specs.declared.read_fault.Kind.TheVariants.{Header}
-use Rattle.cats_text.proofs.Spelling.Files.{spells_from_no_fault}
-use Rattle.rounding.specs.declared.replacement.FinePrices.TheVariants.{Round}
 use Rattle.valuation.specs.SearchSteps.{cut_steps}
 use Rattle.valuation.specs.Values.{or_value, xor_value}
 use Rattle.prune.specs.Points.{points_where, is_or_point, is_xor_point}
 use Rattle.prune.specs.SearchSteps.{search_steps_by, first_over, first_refused}
-use Rattle.canon.specs.declared.canon_fault.CanonFault.TheVariants.{Read, Memory}
-use Rattle.canon.specs.declared.which.Which.TheVariants.{Only}
-use Rattle.commands.specs.declared.faults.RunFault.TheVariants.{Refused}
-use Rattle.commands.specs.SizesRows.{IsSized, IsUnsized}
-use Rattle.commands.specs.Refusals.{text_read}
 use Rattle.commands.proofs.SmallTexts.{puts_whole}
 use Rattle.commands.proofs.worked.calls.rows_said.Goals as goal
 

@@ -1,6 +1,5 @@
 -- `texts_compared`
-use Rattle.std.proofs.Common.{refl, ap}
-use Rattle.std.proofs.lemmas.Bool.{eqb-false}
+use Rattle.commands.proofs.Common.{refl, ap, eqb-false}
 use Rattle.std.specs.Fmt.{digits}
 use Rattle.valuation.specs.SearchSteps.{cut_steps}
 use Rattle.valuation.specs.Values.{or_value, xor_value}

@@ -1,14 +1,10 @@
 -- `texts_diffed`
-use Rattle.std.proofs.Common.{rules, Some, [], ◌∷◌, refl}
+use Rattle.commands.proofs.Common.{rules, Some, [], ◌∷◌, refl, atom, no_differences, differences, no_bidder_changes, no_price_changes}
 use Rattle.std.specs.Fmt.{digits}
 use Rattle.valuation.specs.SearchSteps.{cut_steps}
 use Rattle.valuation.specs.Values.{or_value, xor_value}
 use Rattle.prune.specs.Points.{points_where, is_or_point, is_xor_point}
 use Rattle.prune.specs.SearchSteps.{search_steps_by, first_over, first_refused}
-use Rattle.valuation.specs.Examples.{atom}
-use Rattle.analysis.specs.Differences.{no_differences}
-use Rattle.analysis.specs.Examples.{differences}
-use Rattle.analysis.proofs.Comparing.SameLists.{no_bidder_changes, no_price_changes}
 use Rattle.commands.proofs.SmallTexts.{diffed_goods, other_byte, within}
 use Rattle.commands.proofs.worked.calls.texts_diffed.Goals as goal
 

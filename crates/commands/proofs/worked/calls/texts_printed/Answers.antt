@@ -1,6 +1,5 @@
 -- `texts_printed`
-use Rattle.std.proofs.Common.{rules, refl, ap}
-use Rattle.std.proofs.lemmas.Bool.{eqb-false}
+use Rattle.commands.proofs.Common.{rules, refl, ap, eqb-false}
 use Rattle.std.specs.Fmt.{digits}
 use Rattle.valuation.specs.SearchSteps.{cut_steps}
 use Rattle.valuation.specs.Values.{or_value, xor_value}

@@ -1,5 +1,5 @@
 -- `texts_read_rounded`
-use Rattle.std.proofs.Common.{rules, ◌≡◌, None, Some, inl, refl, codes, arith}
+use Rattle.commands.proofs.Common.{rules, ◌≡◌, None, Some, inl, refl, codes, arith}
 use Rattle.std.specs.Fmt.{digits}
 use Rattle.valuation.specs.SearchSteps.{cut_steps}
 use Rattle.valuation.specs.Values.{or_value, xor_value}

@@ -1,14 +1,10 @@
 -- `texts_refused`
-use Rattle.std.proofs.Common.{rules, None, inr, refl, sym, ap, codes}
-use Rattle.std.proofs.lemmas.Bool.{eqb-false}
+use Rattle.commands.proofs.Common.{rules, None, inr, refl, sym, ap, codes, eqb-false, spelled_file, spells_from_no_fault, ExceedsAtBid, ExceedsSteps}
 use Rattle.std.specs.Fmt.{digits}
 use Rattle.valuation.specs.SearchSteps.{cut_steps}
 use Rattle.valuation.specs.Values.{or_value, xor_value}
 use Rattle.prune.specs.Points.{points_where, is_or_point, is_xor_point}
 use Rattle.prune.specs.SearchSteps.{search_steps_by, first_over, first_refused}
-use Rattle.cats_text.specs.FileLines.{spelled_file}
-use Rattle.cats_text.proofs.Spelling.Files.{spells_from_no_fault}
-use Rattle.commands.specs.Outcomes.{ExceedsAtBid, ExceedsSteps}
 use Rattle.commands.proofs.SmallTexts.{makes, makes_only, number_in}
 use Rattle.commands.proofs.worked.calls.texts_refused.Goals as goal
 

@@ -1,5 +1,5 @@
 -- `texts_rounded`
-use Rattle.std.proofs.Common.{refl}
+use Rattle.commands.proofs.Common.{refl}
 use Rattle.std.specs.Fmt.{digits}
 use Rattle.commands.proofs.SmallTexts.{rounds}
 use Rattle.commands.proofs.worked.calls.texts_rounded.Goals as goal

@@ -1,13 +1,11 @@
 -- `texts_within_limits`
-use Rattle.std.proofs.Common.{refl, sym, ap}
-use Rattle.std.proofs.lemmas.Bool.{eqb-false}
+use Rattle.commands.proofs.Common.{refl, sym, ap, eqb-false, ExceedsSteps}
 use Rattle.std.specs.Fmt.{digits}
 use Rattle.valuation.specs.Bounds.{greatest_rate, rate_bound}
 use Rattle.valuation.specs.SearchSteps.{cut_steps}
 use Rattle.valuation.specs.Values.{or_value, xor_value}
 use Rattle.prune.specs.Points.{points_where, is_or_point, is_xor_point}
 use Rattle.prune.specs.SearchSteps.{search_steps_by, first_over, first_refused}
-use Rattle.commands.specs.Outcomes.{ExceedsSteps}
 use Rattle.commands.proofs.SmallTexts.{makes, makes_only, number_in, within}
 use Rattle.commands.proofs.worked.calls.texts_within_limits.Goals as goal
 

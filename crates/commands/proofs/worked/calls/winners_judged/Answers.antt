@@ -1,6 +1,5 @@
 -- `winners_judged`
-use Rattle.std.proofs.Common.{refl, ap}
-use Rattle.std.proofs.lemmas.Bool.{eqb-false}
+use Rattle.commands.proofs.Common.{refl, ap, eqb-false}
 use Rattle.std.specs.Fmt.{digits}
 use Rattle.commands.proofs.SmallTexts.{makes, makes_only, number_in, other_byte, text_in}
 use Rattle.commands.proofs.worked.calls.winners_judged.Goals as goal

@@ -1,5 +1,5 @@
 -- `canonical_files`
-use Rattle.std.proofs.Common.{refl}
+use Rattle.commands.proofs.Common.{refl}
 use Rattle.std.specs.Fmt.{digits}
 use Rattle.valuation.specs.Bounds.{greatest_rate, rate_bound}
 use Rattle.valuation.specs.SearchSteps.{cut_steps, found_indices}

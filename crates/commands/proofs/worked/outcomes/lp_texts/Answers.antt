@@ -1,5 +1,5 @@
 -- `lp_texts`
-use Rattle.std.proofs.Common.{refl}
+use Rattle.commands.proofs.Common.{refl}
 use Rattle.std.specs.Fmt.{digits}
 use Rattle.commands.proofs.worked.outcomes.lp_texts.Goals as goal
 

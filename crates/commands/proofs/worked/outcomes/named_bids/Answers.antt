@@ -1,5 +1,5 @@
 -- `named_bids`
-use Rattle.std.proofs.Common.{refl}
+use Rattle.commands.proofs.Common.{refl}
 use Rattle.valuation.specs.Bounds.{greatest_rate, rate_bound}
 use Rattle.valuation.specs.SearchSteps.{cut_steps, found_indices}
 use Rattle.valuation.specs.Values.{or_value}

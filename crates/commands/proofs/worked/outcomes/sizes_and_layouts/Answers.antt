@@ -1,5 +1,5 @@
 -- `sizes_and_layouts`
-use Rattle.std.proofs.Common.{refl}
+use Rattle.commands.proofs.Common.{refl}
 use Rattle.std.specs.Fmt.{digits}
 use Rattle.commands.proofs.worked.outcomes.sizes_and_layouts.Goals as goal
 

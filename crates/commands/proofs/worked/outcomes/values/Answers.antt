@@ -1,5 +1,5 @@
 -- `values`
-use Rattle.std.proofs.Common.{refl}
+use Rattle.commands.proofs.Common.{refl}
 use Rattle.std.specs.Fmt.{digits}
 use Rattle.valuation.specs.Packings.{count_packings}
 use Rattle.valuation.specs.Values.{or_value, xor_value, chosen_indices}

@@ -1,5 +1,5 @@
 -- `all_differences`
-use Rattle.std.proofs.Common.{refl}
+use Rattle.commands.proofs.Common.{refl}
 use Rattle.std.specs.Fmt.{digits}
 use Rattle.commands.proofs.worked.printed.all_differences.Goals as goal
 

@@ -1,5 +1,5 @@
 -- `heavy_bids`
-use Rattle.std.proofs.Common.{refl}
+use Rattle.commands.proofs.Common.{refl}
 use Rattle.std.specs.Fmt.{digits}
 use Rattle.commands.proofs.worked.printed.heavy_bids.Goals as goal
 

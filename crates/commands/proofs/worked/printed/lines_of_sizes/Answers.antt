@@ -1,5 +1,5 @@
 -- `lines_of_sizes`
-use Rattle.std.proofs.Common.{refl}
+use Rattle.commands.proofs.Common.{refl}
 use Rattle.std.specs.Fmt.{digits}
 use Rattle.commands.proofs.worked.printed.lines_of_sizes.Goals as goal
 

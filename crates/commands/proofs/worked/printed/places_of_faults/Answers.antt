@@ -1,5 +1,5 @@
 -- `places_of_faults`
-use Rattle.std.proofs.Common.{rules, refl}
+use Rattle.commands.proofs.Common.{rules, refl}
 use Rattle.std.specs.Fmt.{digits}
 use Rattle.commands.proofs.worked.printed.places_of_faults.Goals as goal
 

@@ -1,5 +1,5 @@
 -- `rounded_lines`
-use Rattle.std.proofs.Common.{refl}
+use Rattle.commands.proofs.Common.{refl}
 use Rattle.std.specs.Fmt.{digits}
 use Rattle.commands.proofs.worked.printed.rounded_lines.Goals as goal
 

@@ -1,6 +1,5 @@
 -- `JudgedTexts::judge`
-use Rattle.std.proofs.Common.{refl, ap, arith, rules}
-use Rattle.canon.specs.FirstNumbers.{TextIndex}
+use Rattle.commands.proofs.Common.{refl, ap, arith, rules, TextIndex}
 use Rattle.commands.proofs.JudgingTexts.{found_within, text_judged, text_refused, text_unread}
 use Rattle.commands.proofs.calls.duplicates.JudgedTexts.judge.Goals as goal
 

@@ -1,5 +1,5 @@
 -- `TextInput::read_file`
-use Rattle.std.proofs.Common.{None, Some, arith}
+use Rattle.commands.proofs.Common.{None, Some, arith}
 use Rattle.commands.proofs.Refusing.{memory_line, read_memory, short_answer, short_refused}
 use Rattle.commands.proofs.calls.text.TextInput.read_file.Goals as goal
 

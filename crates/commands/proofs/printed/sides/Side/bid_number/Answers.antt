@@ -1,6 +1,6 @@
 -- `Side::bid_number`
+use Rattle.commands.proofs.Common.{file_of}
 use Rattle.commands.proofs.BidNumbers.{number_at_price}
-use Rattle.commands.specs.Internal.Sides.{file_of}
 use Rattle.commands.proofs.printed.sides.Side.bid_number.Goals as goal
 
 pub returns : goal.returns
