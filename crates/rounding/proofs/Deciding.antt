@@ -1,13 +1,7 @@
 -- From a value that is held to its replacement.
-use Rattle.std.proofs.Common.{◌≡◌, ℕ, suc, ◌+◌, ◌*◌, ◌/◌, ◌%◌, ◌<◌, ◌≤◌, min, true, false, not, eqb, ltb, refl, sym, ap, ◌∙◌, arith, ⊎_elim}
-use Rattle.std.proofs.lemmas.Bool.{lt-ltb, le-ltb, ltb-false, cases_lt, eqb-true, eqb-false}
-use Rattle.std.proofs.lemmas.Nat.{mul-le, div-add-mod', mod_below}
-use Rattle.bid_file.specs.declared.limits.TheConstants.{MAX_PRICE}
-use Rattle.rounding.specs.Nearest.{nearest}
-use Rattle.rounding.specs.Replacements.{replacement_of}
-use Rattle.rounding.specs.declared.replacement.FinePrices.TheVariants.{Round, Refuse}
-use Rattle.rounding.specs.declared.replacement.Replacement.TheVariants.{Exact, Rounded, TooLarge, TooFine}
-use Rattle.std.proofs.lemmas.Grind.{common_steps}
+use Rattle.rounding.proofs.Common.{◌≡◌, ℕ, suc, ◌+◌, ◌*◌, ◌/◌, ◌%◌, ◌<◌, ◌≤◌, min, true, false, not, eqb, ltb, refl, sym, ap, ◌∙◌, arith, ⊎_elim, lt-ltb, Round}
+use Rattle.rounding.proofs.Common.{le-ltb, ltb-false, cases_lt, eqb-true, eqb-false, mul-le, div-add-mod', mod_below, MAX_PRICE, nearest, replacement_of, Exact}
+use Rattle.rounding.proofs.Common.{Refuse, Rounded, TooLarge, TooFine, common_steps}
 
 abbrev held : ℕ → ℕ
 held n = min (suc MAX_PRICE) n

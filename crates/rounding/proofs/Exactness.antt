@@ -1,22 +1,11 @@
 -- Rounding over whole numbers: the nearest number, and powers of ten that are cut.
-use Rattle.std.specs.Prelude.{if◌then◌else◌}
-use Rattle.std.proofs.Common.{◌≡◌, ℕ, suc, ◌+◌, ◌-◌, ◌*◌, ◌/◌, ◌%◌, ◌^◌, ◌<◌, ◌≤◌, min, true, false, eqb, ltb, is_none, refl, sym, ap, ◌∙◌, arith, ◌⊎◌, inl}
-use Rattle.std.proofs.Common.{⊎_elim, inr}
-use Rattle.std.proofs.lemmas.Bool.{lt-ltb, le-ltb, cases_lt, cases_order, eqb-true, eqb-false, ltb-true, ltb-false, ne_eqb, cases_Bool}
-use Rattle.std.proofs.lemmas.Nat.{mul-le, div-add-mod', mod_below, le-div}
-use Rattle.std.proofs.Math.Nat.{pow-le-pow_right, pow-succ', one-le-pow, mod-eq_of_lt, div-eq_of_lt, mul-div_cancel, mul-mod_left}
-use Rattle.cats_text.specs.Lines.{Word}
-use Rattle.cats_text.specs.Faults.{price_word}
-use Rattle.bid_file.specs.declared.limits.TheConstants.{MAX_PRICE}
-use Rattle.rounding.specs.Decimals.{is_decimal, digits, top, bottom, exact_top, exact_bottom, raised, lowered}
-use Rattle.rounding.specs.Nearest.{IsNearest, nearest, step_up}
-use Rattle.rounding.specs.Replacements.{replacement, replacement_of}
+use Rattle.rounding.proofs.Common.{rules, ◌≡◌, ℕ, suc, ◌+◌, ◌-◌, ◌*◌, ◌/◌, ◌%◌, ◌^◌, ◌<◌, ◌≤◌, min, true, false, eqb, ltb, is_none, refl, sym, ap, ◌∙◌, arith}
+use Rattle.rounding.proofs.Common.{◌⊎◌, if◌then◌else◌, inl, ⊎_elim, inr, lt-ltb, le-ltb, cases_lt, cases_order, eqb-true, eqb-false, ltb-true, ltb-false, Word}
+use Rattle.rounding.proofs.Common.{ne_eqb, cases_Bool, mul-le, div-add-mod', mod_below, le-div, pow-le-pow_right, pow-succ', one-le-pow, mod-eq_of_lt, top}
+use Rattle.rounding.proofs.Common.{div-eq_of_lt, mul-div_cancel, mul-mod_left, price_word, MAX_PRICE, is_decimal, bottom, exact_top, exact_bottom, IsNearest}
+use Rattle.rounding.proofs.Common.{nearest, replacement, replacement_of, FinePrices, Round, Refuse, Replacement, Itself, Exact, Rounded, TooLarge, TooFine}
+use Rattle.rounding.proofs.Common.{common_steps}
 use Rattle.rounding.proofs.Worth.{value_below, decimal_digits}
-use Rattle.rounding.specs.declared.replacement.FinePrices.{FinePrices}
-use Rattle.rounding.specs.declared.replacement.FinePrices.TheVariants.{Round, Refuse}
-use Rattle.rounding.specs.declared.replacement.Replacement.{Replacement}
-use Rattle.rounding.specs.declared.replacement.Replacement.TheVariants.{Itself, Exact, Rounded, TooLarge, TooFine}
-use Rattle.std.proofs.lemmas.Grind.{common_steps}
 
 -- ---- the nearest number
 
@@ -58,9 +47,7 @@ at_least a b = omega arith
 above : (fine : FinePrices) (n d : ℕ) → 0 < d → suc MAX_PRICE * d ≤ n → replacement_of fine n d ≡ TooLarge
 above Round n d some l =
     let part : suc MAX_PRICE ≤ n / d = le-div (suc MAX_PRICE) n d some l in
-    let more : n / d ≤ nearest n d = at_least (n / d) (step_up (n / d) (2 * (n % d)) d) in
-    let large : ltb MAX_PRICE (nearest n d) ≡ true = lt-ltb MAX_PRICE (nearest n d) (omega arith) in
-    rw large refl
+    search (rules, at_least, lt-ltb)
 above Refuse n d some l = let large : ltb (MAX_PRICE * d) n ≡ true = lt-ltb (MAX_PRICE * d) n (omega arith) in rw large refl
 
 -- what a value below half of a millionth gives
@@ -89,32 +76,17 @@ cut_up : (fine : FinePrices) (n u : ℕ) → replacement_of fine (n * 10 ^ min 1
 cut_up fine n u = grind (arith, common_steps, above, mul-le, nothing, power_more)
 
 cut_down : (fine : FinePrices) (n size v : ℕ) → n < 10 ^ size → replacement_of fine n (10 ^ min (suc size) v) ≡ replacement_of fine n (10 ^ v)
-cut_down fine n size v small = ⊎_elim
-    (λ (l : suc size < v).
+cut_down fine n size v small = ⊎_elim (λ (l : suc size < v).
     let is : min (suc size) v ≡ suc size = omega arith in
     let power : 10 ^ suc size ≡ 10 * 10 ^ size = pow-succ' 10 size in
     let more : 10 ^ suc size ≤ 10 ^ v = power_more (suc size) v (omega arith) in
-    ap (λ k. replacement_of fine n (10 ^ k)) is ∙ tiny fine n (10 ^ suc size) (omega arith) ∙ sym (tiny fine n (10 ^ v) (omega arith)))
-    (λ (l : v ≤ suc size). let is : min (suc size) v ≡ v = omega arith in ap (λ k. replacement_of fine n (10 ^ k)) is)
+    ap (λ k. replacement_of fine n (10 ^ k)) is ∙ tiny fine n (10 ^ suc size) (omega arith) ∙ sym (tiny fine n (10 ^ v) (omega arith))) (search rules)
     (cases_lt (suc size) v)
 
 -- one of the two powers is 1
 cut_both : (fine : FinePrices) (n size a b : ℕ) → n < 10 ^ size
     → replacement_of fine (n * 10 ^ min 19 (a - b)) (10 ^ min (suc size) (b - a)) ≡ replacement_of fine (n * 10 ^ (a - b)) (10 ^ (b - a))
-cut_both fine n size a b small = ⊎_elim
-    (λ (l : a < b). let none : a - b ≡ 0 = omega arith in
-    let zero_cut : min 19 (a - b) ≡ 0 = omega arith in
-    ap (λ k. replacement_of fine (n * 10 ^ k) (10 ^ min (suc size) (b - a))) zero_cut
-    ∙ ap (λ k. replacement_of fine k (10 ^ min (suc size) (b - a))) (once n)
-    ∙ cut_down fine n size (b - a) small
-    ∙ sym (ap (λ k. replacement_of fine k (10 ^ (b - a))) (once n))
-    ∙ sym (ap (λ k. replacement_of fine (n * 10 ^ k) (10 ^ (b - a))) none))
-    (λ (l : b ≤ a). let none : b - a ≡ 0 = omega arith in
-    let zero_cut : min (suc size) (b - a) ≡ 0 = omega arith in
-    ap (λ k. replacement_of fine (n * 10 ^ min 19 (a - b)) (10 ^ k)) zero_cut
-    ∙ cut_up fine n (a - b)
-    ∙ sym (ap (λ k. replacement_of fine (n * 10 ^ (a - b)) (10 ^ k)) none))
-    (cases_lt a b)
+cut_both fine n size a b small = ⊎_elim (search (rules, once, cut_down)) (search (rules, cut_up)) (cases_lt a b)
   where
     once : (n : ℕ) → n * 10 ^ 0 ≡ n
     once n = omega arith
@@ -134,9 +106,6 @@ replaced fine w p h = rw p (rw h refl)
 pub whole_kept : (fine : FinePrices) (w : Word) (m : ℕ) → is_decimal w ≡ true → exact_top w ≡ m * exact_bottom w → m ≤ MAX_PRICE
     → (replacement fine w ≡ Itself) ⊎ (replacement fine w ≡ Exact m)
 whole_kept fine w m h e l =
-    let is : replacement_of fine (top w) (bottom w) ≡ Exact m =
-    powers_cut fine w h ∙ ap (λ k. replacement_of fine k (exact_bottom w)) e ∙ whole fine m (exact_bottom w) (power_some (lowered w - raised w)) l in
-    ⊎_elim
-    (λ (p : is_none (price_word w) ≡ true). inl (rw p refl))
-    (λ (p : is_none (price_word w) ≡ false). inr (replaced fine w p h ∙ is))
+    let is : replacement_of fine (top w) (bottom w) ≡ Exact m = search (rules, powers_cut, whole, power_some) in
+    ⊎_elim (λ (p : is_none (price_word w) ≡ true). inl (rw p refl)) (λ (p : is_none (price_word w) ≡ false). inr (replaced fine w p h ∙ is))
     (cases_Bool (is_none (price_word w)))

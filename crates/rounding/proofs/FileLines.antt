@@ -1,30 +1,16 @@
 -- The words of lines, and a bid file that is rounded.
-use Rattle.std.specs.Prelude.{if◌then◌else◌}
-use Rattle.std.proofs.Common.{◌≡◌, ℕ, zero, suc, ◌-◌, ◌<◌, ◌≤◌, true, false, ◌&&◌, eqb, leb, List, [], ◌∷◌, ◌++◌, map, filter, drop, refl, sym, ap, ◌∙◌, arith}
-use Rattle.std.proofs.Common.{◌+◌, length, Bool, ⊎_elim, Some, None, append_assoc, subst, slice_get, codes}
-use Rattle.std.proofs.lemmas.Bool.{cases_Bool, and_parts, eqb-true, lt-leb, ltb-false, both_ways}
-use Rattle.std.proofs.lemmas.List.{drop_all, length-drop, length-map}
-use Rattle.std.specs.List.{AllByRecursion}
-use Rattle.cats_text.specs.Lines.{Word, RawLine, Line, is_blank, line_byte, line_ends, blank_returns, raw_lines, with_byte, line_words, words_with}
-use Rattle.cats_text.specs.Lines.{with_letter, is_significant, numbered, significant_lines}
-use Rattle.cats_text.specs.Faults.{price_word, has_bid_line}
-use Rattle.cats_text.specs.Grammar.{Spells, SpellsPrice, SpellsBid, significant_words}
-use Rattle.cats_text.specs.Numbers.{number_of, is_price, price_of, is_too_large, is_too_fine}
-use Rattle.cats_text.specs.Layout.{price_text}
-use Rattle.cats_text.proofs.Spelling.Prices.{price_small}
-use Rattle.cats_text.proofs.Writing.Prices.{price_text_spells}
-use Rattle.bid_file.specs.declared.limits.TheConstants.{MAX_PRICE}
-use Rattle.bid_file.specs.Files.{PlainFile, PlainBid, IsPlainFile, IsBid}
-use Rattle.rounding.specs.Replacements.{replacement, rounded_word}
-use Rattle.rounding.specs.Texts.{behind_blanks, leading_word, behind_word, from_second, before_second, second_word, behind_second, with_rounded}
-use Rattle.rounding.specs.Texts.{is_significant_line, is_bid_line, before_next}
-use Rattle.rounding.specs.Texts.{rounded_line, rounded_lines, lines_text, line_changes, lines_changes, rounded_text, rounded_prices, change_by}
-use Rattle.rounding.specs.declared.replacement.FinePrices.{FinePrices}
-use Rattle.rounding.specs.Internal.RawTexts.{behind_line}
+use Rattle.rounding.proofs.Common.{rules, ◌≡◌, ℕ, zero, suc, ◌-◌, ◌<◌, ◌≤◌, true, false, ◌&&◌, eqb, leb, List, [], ◌∷◌, ◌++◌, map, filter, drop, refl, sym, ap}
+use Rattle.rounding.proofs.Common.{◌∙◌, if◌then◌else◌, arith, ◌+◌, length, Bool, ⊎_elim, Some, None, append_assoc, subst, slice_get, cases_Bool, and_parts}
+use Rattle.rounding.proofs.Common.{eqb-true, lt-leb, ltb-false, both_ways, drop_all, length-drop, length-map, AllByRecursion, Word, RawLine, Line, is_blank}
+use Rattle.rounding.proofs.Common.{line_byte, line_ends, blank_returns, raw_lines, with_byte, line_words, words_with, with_letter, is_significant, numbered}
+use Rattle.rounding.proofs.Common.{significant_lines, price_word, has_bid_line, Spells, SpellsPrice, SpellsBid, significant_words, is_price, is_too_large}
+use Rattle.rounding.proofs.Common.{is_too_fine, price_text, price_small, price_text_spells, MAX_PRICE, PlainFile, PlainBid, IsPlainFile, IsBid, replacement}
+use Rattle.rounding.proofs.Common.{rounded_word, behind_blanks, leading_word, behind_word, from_second, before_second, second_word, behind_second, with_rounded}
+use Rattle.rounding.proofs.Common.{is_bid_line, is_significant_line, before_next, rounded_line, rounded_lines, lines_text, line_changes, lines_changes}
+use Rattle.rounding.proofs.Common.{rounded_text, rounded_prices, change_by, FinePrices, behind_line, common_steps}
 use Rattle.rounding.proofs.TextLines.{first_of_lines, first_raw}
 use Rattle.rounding.proofs.Spans.{word_both}
 use Rattle.rounding.proofs.Words.{byte_stays, second_both}
-use Rattle.std.proofs.lemmas.Grind.{common_steps}
 
 -- ---- the words of a line
 
@@ -72,17 +58,10 @@ split_letter b xs e = grind (arith, common_steps, behind_letter, leading_letter)
 
 first_word : (b : ℕ) (bs : List ℕ) → is_blank (line_byte b bs) ≡ false → line_of (b ∷ bs) ≡ split_first (b ∷ bs)
 first_word b [] e = letter_last (line_byte b []) e ∙ ap (λ x. (x ∷ []) ∷ []) (byte_stays b [] e) ∙ split_letter b [] e
-first_word b (c ∷ cs) e = ⊎_elim
-    (λ (f : is_blank (line_byte c cs) ≡ true).
-    letter_alone (line_byte b (c ∷ cs)) (line_byte c cs) (blank_returns cs) (line_of (c ∷ cs)) e f
-    ∙ ap (λ x. (x ∷ []) ∷ line_of (c ∷ cs)) (byte_stays b (c ∷ cs) e)
-    ∙ sym (ap (λ (w : Word). (b ∷ w) ∷ line_of (behind_word (c ∷ cs))) (leading_blank c cs f) ∙ ap (λ (t : List ℕ). (b ∷ []) ∷ line_of t) (behind_blank c cs f))
-    ∙ split_letter b (c ∷ cs) e)
-    (λ (f : is_blank (line_byte c cs) ≡ false).
-    letter_joins (line_byte b (c ∷ cs)) (line_byte c cs) (blank_returns cs) (line_of (c ∷ cs)) e f
+first_word b (c ∷ cs) e = ⊎_elim (search (rules, letter_alone, byte_stays, leading_blank, behind_blank, split_letter))
+    (λ (f : is_blank (line_byte c cs) ≡ false). letter_joins (line_byte b (c ∷ cs)) (line_byte c cs) (blank_returns cs) (line_of (c ∷ cs)) e f
     ∙ ap (with_letter (line_byte b (c ∷ cs))) (first_word c cs f)
-    ∙ ap (λ x. (x ∷ leading_word (c ∷ cs)) ∷ line_of (behind_word (c ∷ cs))) (byte_stays b (c ∷ cs) e)
-    ∙ split_letter b (c ∷ cs) e)
+    ∙ ap (λ x. (x ∷ leading_word (c ∷ cs)) ∷ line_of (behind_word (c ∷ cs))) (byte_stays b (c ∷ cs) e) ∙ split_letter b (c ∷ cs) e)
     (cases_Bool (is_blank (line_byte c cs)))
 
 pub words_split : (l : List ℕ) → line_of l ≡ split_first (behind_blanks l)
@@ -233,14 +212,8 @@ valid_word p a b c = rw a (rw b (rw c refl))
 spelled_price : (f : PlainFile) (words : List Word) → IsPlainFile f → SpellsBid f words → HasPrice words
 unfolding HasPrice
 spelled_price f words facts s =
-    let small : s.bid.price ≤ MAX_PRICE = found_price (number_of s.number) f.bids s.bid f.goods f.dummy facts.each s.stands in
-    let within : price_of s.price ≤ MAX_PRICE = omega (arith, s.price_spelled.value) in (
-      s.number,
-      s.price,
-      s.goods ++ codes "#" ∷ [],
-      s.words_are,
-      valid_word s.price s.price_spelled.price (price_small s.price s.price_spelled.price s.price_spelled.exact within) s.price_spelled.exact,
-    )
+    let small : s.bid.price ≤ MAX_PRICE = search (rules, found_price) in
+    search (rules, valid_word, price_small)
 
 spelled_prices : (f : PlainFile) (lines : List (List Word)) → IsPlainFile f → AllByRecursion (SpellsBid f) lines → AllByRecursion HasPrice lines
 spelled_prices f [] facts h = tt

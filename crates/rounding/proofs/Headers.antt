@@ -1,17 +1,6 @@
 -- A text in which no bid line has begun: no byte of it changes, so what reading it answers is what rounding it answers.
-use Rattle.std.proofs.Common.{◌≡◌, ◌⊎◌, inl, inr, ℕ, false, List, [], Some, Result, Ok, Err, sym, ap, ◌∙◌, subst}
-use Rattle.std.specs.Prelude.{IsErrAnd}
-use Rattle.std.proofs.lemmas.Bool.{both_ways}
-use Rattle.bid_file.specs.Files.{PlainFile}
-use Rattle.cats_text.specs.Faults.{first_fault, has_bid_line}
-use Rattle.cats_text.specs.Grammar.{Spells}
-use Rattle.cats_text.specs.Reading.{WantsMemory}
-use Rattle.cats_text.specs.declared.read_fault.ReadFault.{ReadFault}
-use Rattle.rounding.specs.Answers.{IsRounded, RoundAnswer, SpellsRounded}
-use Rattle.rounding.specs.Views.{plain_changes}
-use Rattle.rounding.specs.declared.replacement.FinePrices.{FinePrices}
-use Rattle.rounding.specs.declared.text.RoundedPrice.{RoundedPrice}
-use Rattle.rounding.specs.declared.text.RoundedText.{RoundedText}
+use Rattle.rounding.proofs.Common.{rules, ◌≡◌, ◌⊎◌, inl, inr, ℕ, false, List, [], Some, Result, Ok, Err, sym, ap, ◌∙◌, subst, IsErrAnd, both_ways, PlainFile}
+use Rattle.rounding.proofs.Common.{first_fault, has_bid_line, Spells, WantsMemory, ReadFault, IsRounded, RoundAnswer, SpellsRounded, FinePrices, RoundedText}
 use Rattle.rounding.proofs.FileLines.{header_stays, header_unchanged}
 
 module _ (fine : FinePrices) (text : List ℕ) (none : has_bid_line text ≡ false) where
@@ -28,9 +17,4 @@ module _ (fine : FinePrices) (text : List ℕ) (none : has_bid_line text ≡ fal
   header_spells file spells = record { file = file; spells = subst (λ (t : List ℕ). Spells t file) (sym (header_stays fine text none)) spells }
 
   pub header_rounded : (r : RoundedText) → r.text.items ≡ text → r.prices.items ≡ [] → (file : PlainFile) → Spells text file → IsRounded fine text r
-  header_rounded r same no_prices file spells = record {
-    text_is = same ∙ sym (header_stays fine text none);
-    prices_are = ap (λ (ps : List RoundedPrice). plain_changes ps) no_prices ∙ sym (header_unchanged fine text none);
-    file = file;
-    spells = subst (λ (t : List ℕ). Spells t file) (sym same) spells;
-  }
+  header_rounded r same no_prices file spells = search (rules, header_stays, header_unchanged)

@@ -1,16 +1,8 @@
 -- Runs of bytes up to the first one of a kind: their lengths, one byte further, and what is behind them.
-use Rattle.std.specs.Prelude.{if◌then◌else◌}
-use Rattle.std.proofs.Common.{◌≡◌, ℕ, suc, ◌+◌, ◌-◌, ◌<◌, ◌≤◌, Bool, true, false, not, ◌||◌, eqb, List, [], ◌∷◌, ◌++◌}
-use Rattle.std.proofs.Common.{length, take, drop, get_or, refl, sym, ap, ◌∙◌, arith, drop-cons, add-one}
-use Rattle.std.proofs.lemmas.List.{take_rest, drop_all}
-use Rattle.std.proofs.lemmas.List.Prefix.{front_rest}
-use Rattle.std.proofs.lemmas.Grind.{common_steps}
-use Rattle.std.proofs.Math.Seq.{take-append_seam}
-use Rattle.cats_text.specs.Lines.{Word, is_blank, line_byte}
-use Rattle.cats_text.specs.Numbers.{whole_part, places, has_point}
-use Rattle.rounding.specs.Decimals.{significand, exponent, has_exponent}
-use Rattle.rounding.specs.Texts.{blanks, behind_blanks, leading_word, behind_word}
-use Rattle.rounding.specs.Internal.RawTexts.{first_line, behind_line, has_line_end}
+use Rattle.rounding.proofs.Common.{rules, ◌≡◌, ℕ, suc, ◌+◌, ◌-◌, ◌<◌, ◌≤◌, Bool, true, false, not, ◌||◌, eqb, List, [], ◌∷◌, ◌++◌, length, take, drop, get_or}
+use Rattle.rounding.proofs.Common.{refl, if◌then◌else◌, sym, ap, ◌∙◌, arith, drop-cons, add-one, take_rest, drop_all, front_rest, common_steps, Word, is_blank}
+use Rattle.rounding.proofs.Common.{take-append_seam, line_byte, whole_part, places, has_point, significand, exponent, has_exponent, blanks, behind_blanks}
+use Rattle.rounding.proofs.Common.{leading_word, behind_word, first_line, behind_line, has_line_end}
 
 -- ---- a loop that counts the bytes of a run
 
@@ -84,8 +76,7 @@ line_cut (b ∷ bs) = cut_by b bs (first_line bs) (behind_line bs) (has_line_end
 -- what is behind, as slices
 pub behind_cut : (w front back : List ℕ) (some : Bool) (k : ℕ) → IsCutIn w front back some → k ≡ length front → k < length w
     → take (length w - (k + 1)) (drop (k + 1) w) ≡ back
-behind_cut w front back some k c e h =
-    take_rest w (k + 1) ∙ rw add-one (ap (λ n. drop (suc n) w) e ∙ c.dropped (omega arith))
+behind_cut w front back some k c e h = search (rules, take_rest)
 
 pub behind_end : (w front back : List ℕ) (some : Bool) (k : ℕ) → IsCutIn w front back some → k ≡ length front → length w ≤ k
     → take (length w - k) (drop k w) ≡ back

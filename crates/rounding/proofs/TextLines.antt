@@ -1,26 +1,13 @@
 -- Texts line by line: the first line and what is behind it, and one more line that is rounded.
-use Rattle.std.specs.Prelude.{if◌then◌else◌}
-use Rattle.std.proofs.Common.{◌≡◌, ℕ, suc, ◌+◌, ◌-◌, ◌<◌, ◌≤◌, min, Bool, true, false, ◌&&◌, leb, ltb, List, [], ◌∷◌, ◌++◌, length, take, drop, refl}
-use Rattle.std.proofs.Common.{sym, ap, ◌∙◌, ⊎_elim, arith, append_assoc}
-use Rattle.std.proofs.lemmas.Bool.{lt-ltb, le-ltb, cases_lt}
-use Rattle.std.proofs.lemmas.List.{map-append, length-drop, take_rest, drop_all}
-use Rattle.std.proofs.lemmas.List.Prefix.{front_rest}
-use mir.Val.{bool_byte}
-use Rattle.cats_text.specs.Lines.{Word, RawLine, raw_lines, blank_returns, line_words, is_significant}
-use Rattle.rounding.specs.Replacements.{replacement, replacement_text}
-use Rattle.rounding.specs.Texts.{from_second, before_second, second_word, leading_word, behind_word, with_rounded, rounded_text, rounded_prices}
-use Rattle.rounding.specs.Texts.{rounded_lines}
-use Rattle.rounding.specs.Texts.{rounded_line, lines_text, line_text, lines_changes, line_changes, change_by, PlainRoundedPrice, before_next}
-use Rattle.rounding.specs.Texts.{is_significant_line}
-use Rattle.rounding.specs.Views.{plain_change, plain_changes}
-use Rattle.rounding.specs.declared.text.RoundedPrice.{RoundedPrice}
-use Rattle.rounding.specs.Internal.RawTexts.{first_line, behind_line, has_line_end}
-use Rattle.rounding.specs.declared.replacement.FinePrices.{FinePrices}
-use Rattle.rounding.specs.declared.replacement.Replacement.{Replacement}
-use Rattle.rounding.specs.declared.replacement.Replacement.TheVariants.{Rounded}
+use Rattle.rounding.proofs.Common.{if◌then◌else◌, ◌≡◌, ℕ, suc, ◌+◌, ◌-◌, ◌<◌, ◌≤◌, min, Bool, true, false, ◌&&◌, leb, ltb, List, [], ◌∷◌, ◌++◌, length, take}
+use Rattle.rounding.proofs.Common.{drop, refl, sym, ap, ◌∙◌, ⊎_elim, arith, append_assoc, lt-ltb, le-ltb, cases_lt, map-append, length-drop, take_rest, Word}
+use Rattle.rounding.proofs.Common.{drop_all, front_rest, bool_byte, RawLine, raw_lines, blank_returns, line_words, is_significant, replacement, from_second}
+use Rattle.rounding.proofs.Common.{replacement_text, before_second, second_word, leading_word, behind_word, with_rounded, rounded_text, rounded_prices, Rounded}
+use Rattle.rounding.proofs.Common.{rounded_lines, rounded_line, lines_text, line_text, lines_changes, line_changes, change_by, PlainRoundedPrice, before_next}
+use Rattle.rounding.proofs.Common.{is_significant_line, plain_changes, RoundedPrice, first_line, behind_line, has_line_end, FinePrices, Replacement}
+use Rattle.rounding.proofs.Common.{common_steps}
 use Rattle.rounding.proofs.Words.{second_both, second_taken, drop_more}
 use Rattle.rounding.proofs.Spans.{IsCutIn, line_cut}
-use Rattle.std.proofs.lemmas.Grind.{common_steps}
 
 -- ---- a bid line
 

@@ -1,18 +1,11 @@
 -- Words and lines: digits in two runs, blanks, the first word and the second.
-use Rattle.std.specs.Prelude.{if◌then◌else◌}
-use Rattle.std.proofs.Common.{◌≡◌, ℕ, zero, suc, ◌+◌, ◌-◌, ◌<◌, ◌≤◌, Bool, true, false, not, ◌&&◌, ◌||◌, eqb, List, [], ◌∷◌, ◌++◌, length, take, drop, get_or}
-use Rattle.std.proofs.Common.{refl, sym, ap, ◌∙◌}
-use Rattle.std.proofs.Common.{arith, drop-cons, length-append, append_assoc}
-use Rattle.std.proofs.lemmas.Bool.{both_ways, and_from, eq-eqb}
-use Rattle.std.proofs.lemmas.List.{drop_all, take_rest}
-use Rattle.std.proofs.lemmas.List.Folds.{list_all-append}
-use Rattle.std.proofs.Math.Seq.{take-append_seam, drop-nil}
-use Rattle.cats_text.specs.Lines.{Word, is_blank, line_byte, line_ends, blank_returns, line_words, with_letter, is_significant}
-use Rattle.cats_text.specs.Numbers.{is_number, digits_alone, is_digit, whole_part, places, has_point, is_price}
-use Rattle.rounding.specs.Decimals.{significand, exponent, has_exponent, without_sign, is_decimal, digits}
-use Rattle.rounding.specs.Texts.{blanks, behind_blanks, leading_word, from_second, before_second}
+use Rattle.rounding.proofs.Common.{rules, ◌≡◌, ℕ, zero, suc, ◌+◌, ◌-◌, ◌<◌, ◌≤◌, Bool, true, false, not, ◌&&◌, ◌||◌, eqb, List, [], ◌∷◌, ◌++◌, length, take, ap}
+use Rattle.rounding.proofs.Common.{drop, if◌then◌else◌, get_or, refl, sym, ◌∙◌, arith, drop-cons, length-append, append_assoc, both_ways, and_from, eq-eqb}
+use Rattle.rounding.proofs.Common.{drop_all, take_rest, list_all-append, take-append_seam, drop-nil, Word, is_blank, line_byte, line_ends, blank_returns}
+use Rattle.rounding.proofs.Common.{line_words, with_letter, is_significant, is_number, digits_alone, is_digit, whole_part, places, has_point, is_price, digits}
+use Rattle.rounding.proofs.Common.{significand, exponent, has_exponent, without_sign, is_decimal, blanks, behind_blanks, leading_word, from_second}
+use Rattle.rounding.proofs.Common.{before_second, common_steps}
 use Rattle.rounding.proofs.Spans.{blanks_both, word_both, blanks_dropped, word_dropped, mark_cut, point_cut}
-use Rattle.std.proofs.lemmas.Grind.{common_steps}
 
 -- ---- digits in two runs
 
@@ -72,10 +65,7 @@ byte_stays b bs = grind (arith, common_steps)
 
 pub blank_if_return : (l : List ℕ) (i : ℕ) (r : Bool) → get_or l i 0 ≡ 13 → r ≡ line_ends (take (length l - (i + 1)) (drop (i + 1) l))
     → r ≡ is_blank (line_byte (get_or l i 0) (drop (suc i) l))
-blank_if_return l i r e er =
-    let one : i + 1 ≡ suc i = omega arith in
-    er ∙ ap line_ends (take_rest l (i + 1) ∙ ap (λ n. drop n l) one)
-    ∙ sym (ap (λ b. is_blank (line_byte b (drop (suc i) l))) e ∙ return_blank (drop (suc i) l))
+blank_if_return l i r e er = search (rules, take_rest, return_blank)
 
 -- ---- where the second word begins
 

@@ -1,26 +1,11 @@
 -- What digits are worth: numbers that are held, cut and raised.
-use Rattle.std.specs.Prelude.{if◌then◌else◌}
-use Rattle.std.proofs.Common.{◌≡◌, ℕ, suc, ◌+◌, ◌-◌, ◌*◌, ◌/◌, ◌%◌, ◌^◌, ◌<◌, ◌≤◌, min, true, false, eqb, leb, [], ◌∷◌, ◌++◌, length, take, drop, ⊎_elim}
-use Rattle.std.proofs.Common.{refl, sym, ap, ◌∙◌, subst, ◌⊎◌, inl, inr}
-use Rattle.std.proofs.Common.{arith, length-append, append_assoc, fold}
-use Rattle.std.proofs.lemmas.Bool.{and_parts, eqb-true, eqb-false, leb-true, leb-false, cases_lt}
-use Rattle.std.proofs.lemmas.List.{take-append-drop, take_rest, length-drop, append-nil}
-use Rattle.std.proofs.lemmas.List.Sums.{fold-append}
-use Rattle.std.proofs.lemmas.List.Folds.{list_all-append}
-use Rattle.std.proofs.lemmas.Nat.{mul-le, div-mul-add, mod-mul-add}
-use Rattle.std.proofs.Math.Seq.{take-length, drop-length}
-use Rattle.std.proofs.Math.Nat.{mul-le-mul_left, pow-succ', one-le-pow, pow-suc}
-use Rattle.cats_text.specs.Lines.{Word}
-use Rattle.cats_text.specs.Numbers.{is_digit, digits_alone, number_of, whole_part, places}
-use Rattle.rounding.specs.Decimals.{significand, exponent, without_sign, has_minus, digits, is_decimal, mantissa, top, bottom}
+use Rattle.rounding.proofs.Common.{rules, ◌≡◌, ℕ, suc, ◌+◌, ◌-◌, ◌*◌, ◌/◌, ◌%◌, ◌^◌, ◌<◌, ◌≤◌, min, true, leb, [], ◌∷◌, ◌++◌, length, take, drop, ⊎_elim, refl}
+use Rattle.rounding.proofs.Common.{sym, ap, ◌∙◌, subst, ◌⊎◌, inl, inr, arith, length-append, append_assoc, fold, and_parts, eqb-true, eqb-false, leb-true, Word}
+use Rattle.rounding.proofs.Common.{leb-false, cases_lt, take-append-drop, take_rest, length-drop, append-nil, fold-append, list_all-append, mul-le, div-mul-add}
+use Rattle.rounding.proofs.Common.{mod-mul-add, take-length, drop-length, mul-le-mul_left, pow-succ', one-le-pow, pow-suc, is_digit, digits_alone, number_of}
+use Rattle.rounding.proofs.Common.{whole_part, places, significand, exponent, digits, is_decimal, top, bottom, MAX_PRICE, rest_with, IsRest, Holds, shift_up}
+use Rattle.rounding.proofs.Common.{shift_down, Value, Rest, Nothing, Zeros, BelowHalf, Half, AboveHalf, common_steps}
 use Rattle.rounding.proofs.Spans.{mark_cut}
-use Rattle.bid_file.specs.declared.limits.TheConstants.{MAX_PRICE}
-use Rattle.rounding.specs.Internal.Rests.{rest_with}
-use Rattle.rounding.specs.Internal.Values.{IsRest, Holds, shift_up, shift_down}
-use Rattle.rounding.specs.declared.value.Value.{Value}
-use Rattle.rounding.specs.declared.digits.Rest.{Rest}
-use Rattle.rounding.specs.declared.digits.Rest.TheVariants.{Nothing, Zeros, BelowHalf, Half, AboveHalf}
-use Rattle.std.proofs.lemmas.Grind.{common_steps}
 
 -- ---- what digits are worth
 
@@ -142,11 +127,7 @@ cut_far ds r h er =
 -- ---- two runs of digits, cut at one place
 
 split_two : (a b : Word) (i j : ℕ) → (i ≡ length a) ⊎ (j ≡ 0) → (take i a ++ take j b) ++ (drop i a ++ drop j b) ≡ a ++ b
-split_two a b i j (inl e) =
-    ap (λ (t : Word). (t ++ take j b) ++ (drop i a ++ drop j b)) (ap (λ n. take n a) e ∙ take-length a)
-    ∙ ap (λ (t : Word). (a ++ take j b) ++ (t ++ drop j b)) (ap (λ n. drop n a) e ∙ drop-length a)
-    ∙ append_assoc a (take j b) (drop j b)
-    ∙ ap (λ (t : Word). a ++ t) (take-append-drop j b)
+split_two a b i j (inl e) = search (rules, take-length, drop-length, append_assoc, take-append-drop)
 split_two a b i j (inr e) =
     ap (λ n. (take i a ++ take n b) ++ (drop i a ++ drop n b)) e
     ∙ ap (λ (t : Word). t ++ (drop i a ++ b)) (append-nil (take i a))
@@ -187,9 +168,8 @@ held_times : (bound m q : ℕ) → 1 ≤ q → min bound (min bound m * q) ≡ m
 held_times bound m q h = grind (arith, common_steps, mul-le)
 
 pub raised_once : (m k held : ℕ) → held ≡ min (suc MAX_PRICE) (m * 10 ^ k) → min (suc MAX_PRICE) (held * 10) ≡ min (suc MAX_PRICE) (m * 10 ^ (k + 1))
-raised_once m k held e =
-    ap (λ n. min (suc MAX_PRICE) (n * 10)) e ∙ held_times (suc MAX_PRICE) (m * 10 ^ k) 10 (omega arith)
-    ∙ ap (min (suc MAX_PRICE)) (grouped m (10 ^ k) ∙ ap (λ n. m * n) (sym (pow-suc 10 k)) ∙ ap (λ n. m * 10 ^ n) one)
+raised_once m k held e = ap (λ n. min (suc MAX_PRICE) (n * 10)) e ∙ held_times (suc MAX_PRICE) (m * 10 ^ k) 10 (omega arith)
+    ∙ ap (min (suc MAX_PRICE)) (search (rules, grouped, pow-suc, one))
   where
     grouped : (a b : ℕ) → a * b * 10 ≡ a * (b * 10)
     grouped a b = omega arith
@@ -201,13 +181,7 @@ pub raised_value : (a b : Word) (up leading number whole : ℕ) → leading ≡ 
     → whole ≡ min (suc MAX_PRICE) (number * 10 ^ up) → Holds (record { whole = whole; rest = Nothing }) (number_of (a ++ b) * 10 ^ up) 1
 raised_value a b up leading number whole ef en ew =
     let is : number ≡ min (suc MAX_PRICE) (value 0 (a ++ b)) = held_two (suc MAX_PRICE) leading number a b ef en in
-    let all : number_of (a ++ b) * 10 ^ up / 1 ≡ number_of (a ++ b) * 10 ^ up = div-one (number_of (a ++ b) * 10 ^ up) in
-    record {
-      whole = ew ∙ ap (λ n. min (suc MAX_PRICE) (n * 10 ^ up)) is ∙ held_times (suc MAX_PRICE) (value 0 (a ++ b)) (10 ^ up) (one-le-pow up 10 (omega arith))
-          ∙ ap (min (suc MAX_PRICE)) (sym all);
-      bottom = omega arith;
-      rest = (mod-one (number_of (a ++ b) * 10 ^ up), refl);
-    }
+    search (rules, div-one, held_times, one-le-pow, mod-one)
   where
     div-one : (n : ℕ) → n / 1 ≡ n
     div-one n = omega arith
@@ -247,26 +221,16 @@ places_in : (w s b : Word) → s ≡ significand w → b ≡ places s → length
 places_in w s b es eb = ap length (eb ∙ ap places es)
 
 bottom_is : (w s a b x : Word) (up down : ℕ) → IsSplit w s a b x up down → 10 ^ down ≡ bottom w
-bottom_is w s a b x up down h =
-    let size : length a + length b ≡ length (digits w) = sym (length-append a b) ∙ ap length (digits_are w s a b h.significand_is h.whole_is h.places_are) in
-    ap (λ k. 10 ^ k) (h.down_is ∙ ap (λ k. min (suc k) (shift_down x (length b))) size
-    ∙ ap (λ k. min (suc (length (digits w))) k) (ap (shift_down x) (places_in w s b h.significand_is h.places_are)
-    ∙ ap (λ (y : Word). shift_down y (length (places (significand w)))) h.exponent_is))
+bottom_is w s a b x up down h = grind (arith, common_steps, digits_are, places_in)
 
 top_is : (w s a b x : Word) (up down : ℕ) → IsSplit w s a b x up down → number_of (a ++ b) * 10 ^ up ≡ top w
-top_is w s a b x up down h =
-    ap (λ (t : Word). number_of t * 10 ^ up) (digits_are w s a b h.significand_is h.whole_is h.places_are)
-    ∙ ap (λ k. mantissa w * 10 ^ k) (h.up_is ∙ ap (min 19) (ap (shift_up x) (places_in w s b h.significand_is h.places_are)
-    ∙ ap (λ (y : Word). shift_up y (length (places (significand w)))) h.exponent_is))
+top_is w s a b x up down h = search (rules, digits_are, places_in)
 
 pub cut_in : (w s a b x : Word) (up down : ℕ) (v : Value) → IsSplit w s a b x up down → 0 < down → Holds v (number_of (a ++ b)) (10 ^ down)
     → Holds v (top w) (bottom w)
 cut_in w s a b x up down v h some held =
-    let none : up ≡ 0 = no_up (length a + length b) up down (shift_up x (length b)) (shift_down x (length b))
-    (6 + (if has_minus x then 0 else number_of (without_sign x)))
-    (length b + (if has_minus x then number_of (without_sign x) else 0)) refl refl h.up_is h.down_is some in
-    let one : number_of (a ++ b) ≡ number_of (a ++ b) * 10 ^ up = sym (ap (λ k. number_of (a ++ b) * 10 ^ k) none ∙ once (number_of (a ++ b))) in
-    held_of v (number_of (a ++ b)) (top w) (10 ^ down) (bottom w) (one ∙ top_is w s a b x up down h) (bottom_is w s a b x up down h) held
+    let none : up ≡ 0 = search (rules, no_up) in
+    search (rules, once, held_of, top_is, bottom_is, none)
   where
     no_up : (size up down u d p q : ℕ) → u ≡ p - q → d ≡ q - p → up ≡ min 19 u → down ≡ min (suc size) d → 0 < down → up ≡ 0
     no_up size up down u d p q eu ed e f some = omega arith

@@ -1,9 +1,7 @@
 -- `are_digits`
-use Rattle.cats_text.specs.Numbers.{digits_alone}
+use Rattle.rounding.proofs.Common.{arith, common_steps}
 use Rattle.rounding.proofs.Words.{digits_both}
 use Rattle.rounding.proofs.decimal.are_digits.Goals as goal
-use Rattle.std.proofs.Common.{arith}
-use Rattle.std.proofs.lemmas.Grind.{common_steps}
 
 pub returns-then-digits_alone : goal.returns-then-digits_alone
 returns-then-digits_alone c = grind (arith, common_steps, digits_both)

@@ -1,6 +1,5 @@
 -- `mark_in`
-use Rattle.std.proofs.Common.{◌≡◌, ◌+◌, length, drop}
-use Rattle.rounding.specs.Decimals.{significand}
+use Rattle.rounding.proofs.Common.{◌≡◌, ◌+◌, length, drop, significand}
 use Rattle.rounding.proofs.decimal.mark_in.Given as goal
 
 abbrev pub invariant-loop-offset : goal.invariant-loop-offset

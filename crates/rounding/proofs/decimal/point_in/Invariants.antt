@@ -1,6 +1,5 @@
 -- `point_in`
-use Rattle.std.proofs.Common.{◌≡◌, ◌+◌, length, drop}
-use Rattle.cats_text.specs.Numbers.{whole_part}
+use Rattle.rounding.proofs.Common.{◌≡◌, ◌+◌, length, drop, whole_part}
 use Rattle.rounding.proofs.decimal.point_in.Given as goal
 
 abbrev pub invariant-loop-offset : goal.invariant-loop-offset

@@ -1,6 +1,5 @@
 -- `digits_alone`
-use Rattle.std.proofs.Common.{◌≡◌, true, take}
-use Rattle.cats_text.specs.Numbers.{digits_alone}
+use Rattle.rounding.proofs.Common.{◌≡◌, true, take, digits_alone}
 use Rattle.rounding.proofs.digits.digits_alone.Given as goal
 
 abbrev pub invariant-loop-byte : goal.invariant-loop-byte

@@ -1,6 +1,5 @@
 -- `has_place`
-use Rattle.std.proofs.Common.{◌≡◌, false, not, eqb, take}
-use Rattle.std.specs.List.{list_any}
+use Rattle.rounding.proofs.Common.{◌≡◌, false, not, eqb, take, list_any}
 use Rattle.rounding.proofs.digits.has_place.Given as goal
 
 abbrev pub invariant-loop-digit : goal.invariant-loop-digit

@@ -1,5 +1,5 @@
 -- `held_number`
-use Rattle.std.proofs.Common.{◌≡◌, ◌+◌, ◌*◌, ◌-◌, min, take, fold}
+use Rattle.rounding.proofs.Common.{◌≡◌, ◌+◌, ◌*◌, ◌-◌, min, take, fold}
 use Rattle.rounding.proofs.digits.held_number.Given as goal
 
 abbrev pub invariant-loop-digit : goal.invariant-loop-digit

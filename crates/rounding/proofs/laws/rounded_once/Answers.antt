@@ -1,9 +1,5 @@
 -- `rounded_once`
-use Rattle.std.proofs.Common.{ℕ, List}
-use Rattle.bid_file.specs.Files.{PlainFile}
-use Rattle.cats_text.specs.Grammar.{Spells}
-use Rattle.rounding.specs.Texts.{rounded_text}
-use Rattle.rounding.specs.declared.replacement.FinePrices.{FinePrices}
+use Rattle.rounding.proofs.Common.{ℕ, List, PlainFile, Spells, rounded_text, FinePrices}
 use Rattle.rounding.proofs.FileLines.{file_stays}
 use Rattle.rounding.proofs.laws.rounded_once.Goals as goal
 

@@ -1,8 +1,5 @@
 -- `count_blanks`
-use Rattle.std.proofs.Common.{arith, length, not, sym, ap, ◌∙◌}
-use Rattle.std.proofs.lemmas.List.{at_drop_all}
-use Rattle.cats_text.specs.Lines.{is_blank, line_byte}
-use Rattle.rounding.specs.Texts.{blanks}
+use Rattle.rounding.proofs.Common.{arith, length, not, sym, ap, ◌∙◌, at_drop_all, is_blank, line_byte, blanks}
 use Rattle.rounding.proofs.Spans.{further, found, blanks_step}
 use Rattle.rounding.proofs.line.count_blanks.Goals as goal
 

@@ -1,6 +1,5 @@
 -- `count_blanks`
-use Rattle.std.proofs.Common.{◌≡◌, ◌+◌, length, drop}
-use Rattle.rounding.specs.Texts.{blanks}
+use Rattle.rounding.proofs.Common.{◌≡◌, ◌+◌, length, drop, blanks}
 use Rattle.rounding.proofs.line.count_blanks.Given as goal
 
 abbrev pub invariant-loop-offset : goal.invariant-loop-offset

@@ -1,5 +1,5 @@
 -- `split_word`
-use Rattle.std.proofs.Common.{◌∙◌, ap, take, drop}
+use Rattle.rounding.proofs.Common.{◌∙◌, ap, take, drop}
 use Rattle.rounding.proofs.Spans.{word_taken, word_dropped}
 use Rattle.rounding.proofs.line.split_word.Goals as goal
 

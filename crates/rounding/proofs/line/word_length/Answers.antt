@@ -1,8 +1,5 @@
 -- `word_length`
-use Rattle.std.proofs.Common.{arith, length, refl, sym, ◌∙◌}
-use Rattle.std.proofs.lemmas.List.{at_drop_all}
-use Rattle.cats_text.specs.Lines.{is_blank, line_byte}
-use Rattle.rounding.specs.Texts.{leading_word}
+use Rattle.rounding.proofs.Common.{arith, length, refl, sym, ◌∙◌, at_drop_all, is_blank, line_byte, leading_word}
 use Rattle.rounding.proofs.Spans.{further, found}
 use Rattle.rounding.proofs.line.word_length.Goals as goal
 

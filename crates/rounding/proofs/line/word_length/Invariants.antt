@@ -1,6 +1,5 @@
 -- `word_length`
-use Rattle.std.proofs.Common.{◌≡◌, ◌+◌, length, drop}
-use Rattle.rounding.specs.Texts.{leading_word}
+use Rattle.rounding.proofs.Common.{◌≡◌, ◌+◌, length, drop, leading_word}
 use Rattle.rounding.proofs.line.word_length.Given as goal
 
 abbrev pub invariant-loop-offset : goal.invariant-loop-offset

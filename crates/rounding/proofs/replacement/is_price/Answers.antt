@@ -1,8 +1,7 @@
 -- `is_price`
+use Rattle.rounding.proofs.Common.{arith, common_steps}
 use Rattle.rounding.proofs.Words.{price_without, price_with}
 use Rattle.rounding.proofs.replacement.is_price.Goals as goal
-use Rattle.std.proofs.Common.{arith}
-use Rattle.std.proofs.lemmas.Grind.{common_steps}
 
 pub returns-then-whole-word : goal.returns-then-whole-word
 returns-then-whole-word c = grind (arith, common_steps, price_without)

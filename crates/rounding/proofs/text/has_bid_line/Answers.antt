@@ -1,6 +1,5 @@
 -- `has_bid_line`
-use Rattle.std.proofs.Common.{ℕ, List, ◌+◌, ◌-◌, ◌≤◌, ltb, length, take, drop, refl, ap, ◌∙◌, arith}
-use Rattle.cats_text.specs.Lines.{line_words, blank_returns, is_significant}
+use Rattle.rounding.proofs.Common.{ℕ, List, ◌+◌, ◌-◌, ◌≤◌, ltb, length, take, drop, refl, ap, ◌∙◌, arith, line_words, blank_returns, is_significant}
 use Rattle.rounding.proofs.FileLines.{line_counted, none_counted}
 use Rattle.rounding.proofs.TextLines.{IsCut, at_most, cut_line, one_or_none}
 use Rattle.rounding.proofs.text.has_bid_line.Goals as goal

@@ -1,5 +1,5 @@
 -- `has_bid_line`
-use Rattle.std.proofs.Common.{◌-◌, ◌≤◌, length}
+use Rattle.rounding.proofs.Common.{◌-◌, ◌≤◌, length}
 use Rattle.rounding.proofs.FileLines.{IsCounted}
 use Rattle.rounding.proofs.text.has_bid_line.Given as goal
 

@@ -1,6 +1,5 @@
 -- `line_length`
-use Rattle.std.proofs.Common.{◌≡◌, ◌+◌, length, drop}
-use Rattle.rounding.specs.Internal.RawTexts.{first_line}
+use Rattle.rounding.proofs.Common.{◌≡◌, ◌+◌, length, drop, first_line}
 use Rattle.rounding.proofs.text.line_length.Given as goal
 
 abbrev pub invariant-loop-offset : goal.invariant-loop-offset

@@ -1,5 +1,5 @@
 -- `round_header`
-use Rattle.std.proofs.Common.{inr}
+use Rattle.rounding.proofs.Common.{inr}
 use Rattle.rounding.proofs.Headers.{header_refused, header_rounded, header_spells}
 use Rattle.rounding.proofs.text.round_header.Goals as goal
 

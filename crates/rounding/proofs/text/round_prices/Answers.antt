@@ -1,7 +1,6 @@
 -- `round_prices`
-use Rattle.std.proofs.Common.{ℕ, List, ◌+◌, ◌-◌, ltb, ◌≤◌, length, take, drop, refl, ap, ◌∙◌, arith}
-use Rattle.cats_text.specs.Lines.{line_words, blank_returns, is_significant}
-use Rattle.rounding.specs.Views.{plain_changes}
+use Rattle.rounding.proofs.Common.{ℕ, List, ◌+◌, ◌-◌, ltb, ◌≤◌, length, take, drop, refl, ap, ◌∙◌, arith, line_words, blank_returns, is_significant}
+use Rattle.rounding.proofs.Common.{plain_changes}
 use Rattle.rounding.proofs.TextLines.{IsCut, IsFirstLine, line_more, first_written, cut_line, one_or_none, at_most}
 use Rattle.rounding.proofs.text.round_prices.Goals as goal
 

@@ -1,6 +1,5 @@
 -- `round_prices`
-use Rattle.std.proofs.Common.{◌+◌, ◌-◌, ◌≤◌, length}
-use Rattle.rounding.specs.Views.{plain_changes}
+use Rattle.rounding.proofs.Common.{◌+◌, ◌-◌, ◌≤◌, length, plain_changes}
 use Rattle.rounding.proofs.TextLines.{IsWritten}
 use Rattle.rounding.proofs.text.round_prices.Given as goal
 

@@ -1,6 +1,5 @@
 -- `raised_number`
-use Rattle.std.proofs.Common.{◌≡◌, ◌*◌, suc, min, ap, ◌∙◌, arith}
-use Rattle.bid_file.specs.declared.limits.TheConstants.{MAX_PRICE}
+use Rattle.rounding.proofs.Common.{◌≡◌, ◌*◌, suc, min, ap, ◌∙◌, arith, MAX_PRICE}
 use Rattle.rounding.proofs.Worth.{raised_once}
 use Rattle.rounding.proofs.value.raised_number.Goals as goal
 

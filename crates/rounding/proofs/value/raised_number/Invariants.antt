@@ -1,6 +1,5 @@
 -- `raised_number`
-use Rattle.std.proofs.Common.{◌≡◌, ◌*◌, ◌^◌, suc, min}
-use Rattle.bid_file.specs.declared.limits.TheConstants.{MAX_PRICE}
+use Rattle.rounding.proofs.Common.{◌≡◌, ◌*◌, ◌^◌, suc, min, MAX_PRICE}
 use Rattle.rounding.proofs.value.raised_number.Given as goal
 
 abbrev pub invariant-loop : goal.invariant-loop

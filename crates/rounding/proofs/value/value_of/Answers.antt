@@ -1,8 +1,7 @@
 -- `value_of`
+use Rattle.rounding.proofs.Common.{rules, arith, common_steps}
 use Rattle.rounding.proofs.Worth.{sizes_in, decimal_digits, cut_in, raised_in}
 use Rattle.rounding.proofs.value.value_of.Goals as goal
-use Rattle.std.proofs.Common.{arith}
-use Rattle.std.proofs.lemmas.Grind.{common_steps}
 
 pub shift_of-shift-requires-clause-size : goal.shift_of-shift-requires-clause-size
 shift_of-shift-requires-clause-size c = grind (arith, common_steps, sizes_in)
@@ -13,16 +12,7 @@ cut_value-requires-clause-digits c = grind (arith, common_steps, decimal_digits)
 pub returns-then-shift-gt0-clause-value : goal.returns-then-shift-gt0-clause-value
 returns-then-shift-gt0-clause-value c =
     cut_in c.args.word.now c.significand-significand.result.now c.whole_part-whole.result.now c.places-places.result.now c.exponent.result.now
-    c.shift_of-shift.result.up c.shift_of-shift.result.down c.cut_value.result
-    (record {
-      significand_is = c.significand-significand.ensures;
-      whole_is = c.whole_part-whole.ensures;
-      places_are = c.places-places.ensures;
-      exponent_is = c.exponent.ensures;
-      up_is = c.shift_of-shift.ensures.up;
-      down_is = c.shift_of-shift.ensures.down;
-    })
-    c.if-shift-gt0.true c.cut_value.ensures
+    c.shift_of-shift.result.up c.shift_of-shift.result.down c.cut_value.result (search rules) c.if-shift-gt0.true c.cut_value.ensures
 
 pub returns-clause-value : goal.returns-clause-value
 returns-clause-value c = grind (arith, common_steps, raised_in)

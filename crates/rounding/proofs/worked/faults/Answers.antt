@@ -1,5 +1,5 @@
 -- `faults`
-use Rattle.std.proofs.Common.{refl}
+use Rattle.rounding.proofs.Common.{refl}
 use Rattle.std.specs.Fmt.{digits}
 use Rattle.rounding.proofs.worked.faults.Goals as goal
 

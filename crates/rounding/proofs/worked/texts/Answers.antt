@@ -1,5 +1,5 @@
 -- `texts`
-use Rattle.std.proofs.Common.{refl}
+use Rattle.rounding.proofs.Common.{refl}
 use Rattle.std.specs.Fmt.{digits}
 use Rattle.rounding.proofs.worked.texts.Goals as goal
 

@@ -1,8 +1,5 @@
 -- `RoundedText::push_bid_line`
-use Rattle.std.proofs.Common.{ℕ, List, ◌++◌, sym, ◌∙◌, ap, refl}
-use Rattle.std.proofs.lemmas.List.{append-nil}
-use Rattle.rounding.specs.Texts.{PlainRoundedPrice}
-use Rattle.rounding.specs.Views.{plain_changes}
+use Rattle.rounding.proofs.Common.{rules, List, ◌++◌, sym, ◌∙◌, ap, refl, append-nil, PlainRoundedPrice, plain_changes}
 use Rattle.rounding.proofs.TextLines.{bid_line_text, bid_line_change, no_change, change_pushed}
 use Rattle.rounding.proofs.text.RoundedText.push_bid_line.Goals as goal
 
@@ -17,11 +14,8 @@ returns-in_ok-push-clause-text c =
 pub returns-in_ok-push-clause-prices : goal.returns-in_ok-push-clause-prices
 returns-in_ok-push-clause-prices c =
     change_pushed c.args.number c.in-Rounded.price c.split_word.result.0.now c.replacement_of-replacement.result _ _ c.push.new.self.items
-    c.in_ok-push.ensures.items refl (c.in_ok-extend_from_slice-3.ensures.items
-    ∙ ap (λ (t : List ℕ). t ++ c.split_word.result.0.now) c.new-copy.ensures.items) refl c.in-Rounded.is
-    ∙ ap (λ (cs : List PlainRoundedPrice). plain_changes c.args.self.now.prices.items ++ cs)
-    (bid_line_change c.args.fine c.args.line.now c.split_word.result.0.now c.second_start-start.result c.args.number
-    c.replacement_of-replacement.result c.second_start-start.ensures.count c.split_word.ensures.word c.replacement_of-replacement.ensures)
+    c.in_ok-push.ensures.items refl (search rules) refl c.in-Rounded.is ∙ ap (λ (cs : List PlainRoundedPrice). plain_changes c.args.self.now.prices.items ++ cs)
+    (search (rules, bid_line_change))
 
 pub returns-in_default : goal.returns-in_default
 returns-in_default c = record {

@@ -1,10 +1,7 @@
 -- `Value::is_above`
-use Rattle.std.proofs.Common.{ℕ}
-use Rattle.rounding.specs.Internal.Values.{Holds}
+use Rattle.rounding.proofs.Common.{ℕ, Holds, arith, common_steps}
 use Rattle.rounding.proofs.Deciding.{above_equal, above_other}
 use Rattle.rounding.proofs.value.Value.is_above.Goals as goal
-use Rattle.std.proofs.Common.{arith}
-use Rattle.std.proofs.lemmas.Grind.{common_steps}
 
 pub returns-then-self-eq-MAX_PRICE : goal.returns-then-self-eq-MAX_PRICE
 returns-then-self-eq-MAX_PRICE c = grind (arith, common_steps, above_equal)

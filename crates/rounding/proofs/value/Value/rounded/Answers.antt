@@ -1,10 +1,7 @@
 -- `Value::rounded`
-use Rattle.std.proofs.Common.{sym, ◌∙◌, ℕ}
-use Rattle.rounding.specs.Internal.Values.{Holds}
+use Rattle.rounding.proofs.Common.{sym, ◌∙◌, ℕ, Holds, arith, common_steps}
 use Rattle.rounding.proofs.Deciding.{round_large, round_whole, round_fine}
 use Rattle.rounding.proofs.value.Value.rounded.Goals as goal
-use Rattle.std.proofs.Common.{arith}
-use Rattle.std.proofs.lemmas.Grind.{common_steps}
 
 pub returns-then-nearest-gt-MAX_PRICE : goal.returns-then-nearest-gt-MAX_PRICE
 returns-then-nearest-gt-MAX_PRICE c = grind (arith, common_steps, round_large)
