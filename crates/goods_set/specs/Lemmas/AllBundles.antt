@@ -1,7 +1,7 @@
 -- The list of all bundles over G goods: it holds exactly these, in strictly rising order, so none twice. The idea: the lists of
 -- one size that begin with the first good come before those that do not, and both are such lists over one good less.
-use Rattle.std.proofs.Common.{◌≡◌, ℕ, zero, suc, ◌+◌, ◌<◌, ◌≤◌, true, ◌⊎◌, inl, inr, ⊎_elim, List, [], ◌∷◌, ◌++◌, map, length, refl, sym, ap, ◌∙◌, subst, arith}
-use Rattle.std.proofs.Common.{Ordering, Less, nat_cmp}
+use Rattle.std.proofs.Common.{rules, ◌≡◌, ℕ, zero, suc, ◌+◌, ◌<◌, ◌≤◌, true, ◌⊎◌, inl, inr, ⊎_elim, List, [], ◌∷◌, ◌++◌, map, length, refl, sym, ap, ◌∙◌, subst}
+use Rattle.std.proofs.Common.{arith, Ordering, Less, nat_cmp}
 use Rattle.std.specs.List.{All, AllPairs, AllByRecursion, Contains, flat_map, range_with_len}
 use Rattle.std.specs.List.Sorted.{IsStrictlySortedBy}
 use Rattle.std.specs.Ordering.{ordering_then}
@@ -36,8 +36,7 @@ listed_map g (b ∷ bs) xs (inr h) = inr (listed_map g bs xs h)
 
 listed_flat : (f : ℕ → List (List ℕ)) (a n k : ℕ) (xs : List ℕ) → a ≤ k → k < a + n → Listed (f k) xs → Listed (flat_map f (range_with_len a n)) xs
 listed_flat f a zero k xs l m h = absurd (omega arith)
-listed_flat f a (suc n) k xs l m h =
-    ⊎_elim (λ (e : a ≡ k). listed_left (f a) (flat_map f (range_with_len (a + 1) n)) xs (subst (λ i. Listed (f i) xs) (sym e) h))
+listed_flat f a (suc n) k xs l m h = ⊎_elim (search (rules, listed_left))
     (⊎_elim (λ (o : a < k). listed_right (f a) (flat_map f (range_with_len (a + 1) n)) xs (listed_flat f (a + 1) n k xs (omega arith) (omega arith) h))
     (λ (o : k < a). absurd (omega arith))) (cases_order a k)
 
@@ -74,12 +73,7 @@ record IsChoice (g G size : ℕ) (xs : List ℕ) : Type 0 where
   many : length xs ≡ size
 
 begun : (g G size : ℕ) (xs : List ℕ) → g < G → IsChoice (g + 1) G size xs → IsChoice g G (suc size) (g ∷ xs)
-begun g G size xs l c = record {
-  rising = (AreAbove-from_has g xs (λ x h. let m : g + 1 ≤ x = c.from x h in omega arith), c.rising);
-  from = λ x h. ⊎_elim (λ (e : g ≡ x). omega arith) (λ (k : has_good xs x ≡ true). let m : g + 1 ≤ x = c.from x k in omega arith) (has_cases g xs x h);
-  below = (l, c.below);
-  many = omega (arith, c.many);
-}
+begun g G size xs l c = search (rules, AreAbove-from_has, has_cases)
 
 later : (g G size : ℕ) (xs : List ℕ) → IsChoice (g + 1) G size xs → IsChoice g G size xs
 later g G size xs c = record { rising = c.rising; from = λ x h. let m : g + 1 ≤ x = c.from x h in omega arith; below = c.below; many = c.many }
@@ -87,12 +81,9 @@ later g G size xs c = record { rising = c.rising; from = λ x h. let m : g + 1 �
 choices : (n g size G : ℕ) → g + n ≡ G → AllByRecursion (IsChoice g G size) (bundles_from n g size)
 choices n g zero G e = (record { rising = tt; from = λ x h. absurd (cc); below = tt; many = refl }, tt)
 choices zero g (suc size) G e = tt
-choices (suc n) g (suc size) G e =
-    each_append (IsChoice g G (suc size)) (map (λ ys. g ∷ ys) (bundles_from n (g + 1) size)) (bundles_from n (g + 1) (suc size))
+choices (suc n) g (suc size) G e = each_append (IsChoice g G (suc size)) (map (λ ys. g ∷ ys) (bundles_from n (g + 1) size)) (bundles_from n (g + 1) (suc size))
     (each_map (IsChoice (g + 1) G size) (IsChoice g G (suc size)) g (λ xs c. begun g G size xs (omega arith) c) (bundles_from n (g + 1) size)
-    (choices n (g + 1) size G (omega arith)))
-    (each_weaker (IsChoice (g + 1) G (suc size)) (IsChoice g G (suc size)) (λ xs c. later g G (suc size) xs c) (bundles_from n (g + 1) (suc size))
-    (choices n (g + 1) (suc size) G (omega arith)))
+    (choices n (g + 1) size G (omega arith))) (search (rules, each_weaker, later, (choices n (g + 1) (suc size) G (omega arith))))
 
 pub all_bundles_are : (G : ℕ) → All (IsBundle G) (all_bundles G)
 all_bundles_are G =
@@ -159,8 +150,7 @@ first_less g G size xs (y ∷ ys) c = let l : g + 1 ≤ y = c.from y (has_head y
 crossing : (g G size : ℕ) (bs cs : List (List ℕ)) → AllByRecursion (IsChoice (g + 1) G (suc size)) cs
     → AllByRecursion (λ b. AllByRecursion (λ d. slice_cmp nat_cmp b d ≡ Less) cs) (map (λ ys. g ∷ ys) bs)
 crossing g G size [] cs h = tt
-crossing g G size (b ∷ bs) cs h =
-    (each_weaker (IsChoice (g + 1) G (suc size)) (λ d. slice_cmp nat_cmp (g ∷ b) d ≡ Less) (λ xs c. first_less g G size b xs c) cs h, crossing g G size bs cs h)
+crossing g G size (b ∷ bs) cs h = search (rules, each_weaker, first_less, (crossing g G size bs cs h))
 
 sorted_choices : (n g size : ℕ) → IsStrictlySortedBy (slice_cmp nat_cmp) (bundles_from n g size)
 unfolding IsStrictlySortedBy
@@ -186,8 +176,7 @@ sorted_of_size size (b ∷ bs) h s = (one bs h.1 s.0, sorted_of_size size bs h.1
 larger_later : (size : ℕ) (bs cs : List (List ℕ)) → AllByRecursion (λ xs. length xs ≡ size) bs → AllByRecursion (λ xs. size < length xs) cs
     → AllByRecursion (λ b. AllByRecursion (λ d. bundle_cmp b d ≡ Less) cs) bs
 larger_later size [] cs h k = tt
-larger_later size (b ∷ bs) cs h k = let e : length b ≡ size = h.0 in
-    (each_weaker (λ xs. size < length xs) (λ d. bundle_cmp b d ≡ Less) (λ xs l. smaller_first b xs (omega arith)) cs k, larger_later size bs cs h.1 k)
+larger_later size (b ∷ bs) cs h k = search (rules, each_weaker, smaller_first, (larger_later size bs cs h.1 k))
 
 sizes : (G size : ℕ) → AllByRecursion (λ xs. length xs ≡ size) (bundles_from G 0 size)
 sizes G size = each_weaker (IsChoice 0 G size) (λ xs. length xs ≡ size) (λ xs c. c.many) (bundles_from G 0 size) (choices G 0 size G (omega arith))
@@ -209,8 +198,7 @@ all_bundles_sorted G = sorted_sizes G 0 (G + 1)
 pairs_from_sorted : (bs : List (List ℕ)) → IsStrictlySortedBy bundle_cmp bs → AllPairs (λ xs ys. bundle_cmp xs ys ≡ Less) bs
 unfolding IsStrictlySortedBy
 pairs_from_sorted [] s = λ i j d l m. absurd (omega arith)
-pairs_from_sorted (b ∷ bs) s = AllPairs-cons (λ xs ys. bundle_cmp xs ys ≡ Less) b bs (All-from_recursion (λ ys. bundle_cmp b ys ≡ Less) bs s.0)
-    (pairs_from_sorted bs s.1)
+pairs_from_sorted (b ∷ bs) s = search (rules, AllPairs-cons, All-from_recursion, (pairs_from_sorted bs s.1))
 
 -- each bundle of the list comes before all later ones, so that none is twice
 pub all_bundles_rise : (G : ℕ) → AllPairs (λ xs ys. bundle_cmp xs ys ≡ Less) (all_bundles G)

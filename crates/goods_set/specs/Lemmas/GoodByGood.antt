@@ -1,5 +1,5 @@
 -- A bundle is made of its rising list, good by good.
-use Rattle.std.proofs.Common.{◌≡◌, ℕ, zero, suc, ◌+◌, ◌<◌, false, eqb, ltb, List, [], ◌∷◌, ◌++◌, length, get_or, take, refl, sym, ◌∙◌, arith}
+use Rattle.std.proofs.Common.{rules, ◌≡◌, ℕ, zero, suc, ◌+◌, ◌<◌, false, eqb, ltb, List, [], ◌∷◌, ◌++◌, length, get_or, take, refl, sym, ◌∙◌, arith}
 use Rattle.std.proofs.lemmas.Bool.{ne_eqb, le-ltb}
 use Rattle.std.proofs.lemmas.List.{take_more}
 use Rattle.goods_set.specs.Bundles.{IsRising, AreAbove, AreBelow, with_good}
@@ -7,12 +7,7 @@ use Rattle.goods_set.specs.Bundles.{IsRising, AreAbove, AreBelow, with_good}
 -- a good above those of the bundle goes to the end
 with_good-last : (g : ℕ) (xs : List ℕ) → AreBelow g xs → with_good g xs ≡ xs ++ g ∷ []
 with_good-last g [] b = refl
-with_good-last g (x ∷ xs) b =
-    let less : x < g = b.0 in
-    let t : ltb g x ≡ false = le-ltb g x (omega arith) in
-    let e : eqb g x ≡ false = ne_eqb g x (λ e. omega arith) in
-    let rest = with_good-last g xs b.1 in
-    simp (t, e, rest)
+with_good-last g (x ∷ xs) b = search (rules, le-ltb, ne_eqb, (with_good-last g xs b.1))
 
 -- in a rising list the goods before an index are below the good there
 above_at : (x : ℕ) (xs : List ℕ) (i d : ℕ) → AreAbove x xs → i < length xs → x < get_or xs i d

@@ -1,7 +1,7 @@
 -- Lemmas on the goods of a list: what is inside, apart, left, put, and when two rising lists are equal. The idea of most of
 -- them: a rising list is what it has, so that sets are compared good by good.
-use Rattle.std.proofs.Common.{◌≡◌, ℕ, ◌<◌, ◌≤◌, Bool, true, false, not, cond, ◌&&◌, eqb, ◌⊎◌, inl, inr, ⊎_elim, List, [], ◌∷◌, refl, sym, ap, ap₂, ◌∙◌, subst}
-use Rattle.std.proofs.Common.{arith}
+use Rattle.std.proofs.Common.{rules, ◌≡◌, ℕ, ◌<◌, ◌≤◌, Bool, true, false, not, cond, ◌&&◌, eqb, ◌⊎◌, inl, inr, ⊎_elim, List, [], ◌∷◌, refl, sym, ap, ap₂, ◌∙◌}
+use Rattle.std.proofs.Common.{subst, arith}
 use Rattle.std.proofs.lemmas.Bool.{and_parts, and_from, or_cases, or_left, or_right, both_ways, not-true, not_from_false, cases_Bool, false_from_ne_true}
 use Rattle.std.proofs.lemmas.Bool.{eqb-true, eqb-false, eq-eqb, ne_eqb}
 use Rattle.std.specs.List.{filter}
@@ -102,8 +102,7 @@ apart_at (x ∷ xs) ys g i h =
 
 pub apart_from : (xs ys : List ℕ) → ((g : ℕ) → has_good xs g ≡ true → has_good ys g ≡ false) → AreApart xs ys
 apart_from [] ys h = refl
-apart_from (x ∷ xs) ys h = and_from (not (has_good ys x)) (are_apart xs ys) (not_from_false (has_good ys x) (h x (has_head x xs)))
-    (apart_from xs ys (λ g k. h g (has_tail x xs g k)))
+apart_from (x ∷ xs) ys h = search (rules, and_from, not_from_false, has_head, (apart_from xs ys (λ g k. h g (has_tail x xs g k))))
 
 pub apart_sym : (xs ys : List ℕ) → AreApart xs ys → AreApart ys xs
 apart_sym xs ys a = apart_from ys xs (λ g h. false_from_ne_true (has_good xs g) (λ k. both_ways (has_good ys g) (apart_at xs ys g a k) h))
@@ -123,17 +122,11 @@ cases_eq a b = ⊎_elim (λ (t : eqb a b ≡ true). inl (eqb-true a b t)) (λ (t
 
 has-filter_kept : (p : ℕ → Bool) (x : ℕ) (xs : List ℕ) (g : ℕ) → has_good (filter p xs) g ≡ (p g && has_good xs g) → p x ≡ true
     → has_good (filter p (x ∷ xs)) g ≡ (p g && has_good (x ∷ xs) g)
-has-filter_kept p x xs g rest e =
-    ⊎_elim (λ (d : x ≡ g). let f : eqb x g ≡ true = eq-eqb x g d in let q : p g ≡ true = ap p (sym d) ∙ e in simp (e, f, q))
-    (λ (d : x ≡ g → ⊥). let f : eqb x g ≡ false = ne_eqb x g d in simp (e, f, rest))
-    (cases_eq x g)
+has-filter_kept p x xs g rest e = search (rules, eq-eqb, ne_eqb, cases_eq)
 
 has-filter_lost : (p : ℕ → Bool) (x : ℕ) (xs : List ℕ) (g : ℕ) → has_good (filter p xs) g ≡ (p g && has_good xs g) → p x ≡ false
     → has_good (filter p (x ∷ xs)) g ≡ (p g && has_good (x ∷ xs) g)
-has-filter_lost p x xs g rest e =
-    ⊎_elim (λ (d : x ≡ g). let q : p g ≡ false = ap p (sym d) ∙ e in simp (e, rest, q))
-    (λ (d : x ≡ g → ⊥). let f : eqb x g ≡ false = ne_eqb x g d in simp (e, f, rest))
-    (cases_eq x g)
+has-filter_lost p x xs g rest e = search (rules, ne_eqb, cases_eq)
 
 pub has-filter : (p : ℕ → Bool) (xs : List ℕ) (g : ℕ) → has_good (filter p xs) g ≡ (p g && has_good xs g)
 has-filter p [] g = ⊎_elim (λ (e : p g ≡ true). sym (ap (λ b. b && false) e)) (λ (e : p g ≡ false). sym (ap (λ b. b && false) e)) (cases_Bool (p g))
@@ -147,11 +140,7 @@ AreBelow-filter p G xs a = AreBelow-from_has G (filter p xs) (λ g h. has_below 
 
 pub IsRising-filter : (p : ℕ → Bool) (xs : List ℕ) → IsRising xs → IsRising (filter p xs)
 IsRising-filter p [] r = tt
-IsRising-filter p (x ∷ xs) r =
-    elim (p x) as (λ b. IsRising (cond b (x ∷ filter p xs) (filter p xs))) [
-      | true ↦ (AreAbove-filter p x xs r.0, IsRising-filter p xs r.1)
-      | false ↦ IsRising-filter p xs r.1
-    ]
+IsRising-filter p (x ∷ xs) r = search (rules, AreAbove-filter, (IsRising-filter p xs r.1))
 
 -- ---- without
 
@@ -168,9 +157,7 @@ pub IsBundle-without : (G : ℕ) (xs ys : List ℕ) → IsBundle G xs → IsBund
 IsBundle-without G xs ys b = (IsRising-without xs ys b.0, AreBelow-without G xs ys b.1)
 
 pub has_without_parts : (xs ys : List ℕ) (g : ℕ) → has_good (without xs ys) g ≡ true → (has_good xs g ≡ true) × (has_good ys g ≡ false)
-has_without_parts xs ys g h =
-    let p : (not (has_good ys g) ≡ true) × (has_good xs g ≡ true) = and_parts (not (has_good ys g)) (has_good xs g) (sym (has-without xs ys g) ∙ h) in
-    (p.1, not-true (has_good ys g) p.0)
+has_without_parts xs ys g h = search (rules, and_parts, has-without, not-true)
 
 pub has_without_from : (xs ys : List ℕ) (g : ℕ) → has_good xs g ≡ true → has_good ys g ≡ false → has_good (without xs ys) g ≡ true
 has_without_from xs ys g h k = has-without xs ys g ∙ and_from (not (has_good ys g)) (has_good xs g) (not_from_false (has_good ys g) k) h

@@ -1,5 +1,5 @@
 -- The order of bundles is total, and answers Equal only for equal lists; which of two bundles comes first.
-use Rattle.std.proofs.Common.{◌≡◌, ℕ, ◌<◌, ◌≤◌, ◌⊎◌, inl, inr, ⊎_elim, List, length, refl, ap, subst, arith, Ordering, Less, Equal, Greater, nat_cmp}
+use Rattle.std.proofs.Common.{rules, ◌≡◌, ℕ, ◌<◌, ◌≤◌, ◌⊎◌, inl, inr, ⊎_elim, List, length, refl, ap, subst, arith, Ordering, Less, Equal, Greater, nat_cmp}
 use Rattle.std.specs.Ordering.{ordering_then}
 use Rattle.std.specs.Cmp.{IsTotalOrder}
 use Rattle.std.specs.Cmp.Lexicographic.{slice_cmp}
@@ -53,10 +53,7 @@ same_size xs ys e = ap (λ o. ordering_then o (slice_cmp nat_cmp xs ys)) (subst 
 
 -- a bundle inside another comes before it or equals it
 pub inside_ordered : (xs ys : List ℕ) → IsRising xs → IsRising ys → IsInside xs ys → (bundle_cmp xs ys ≡ Less) ⊎ (xs ≡ ys)
-inside_ordered xs ys r s i =
-    ⊎_elim (λ (e : length xs ≡ length ys). inr (same_from_length xs ys r s i e)) (⊎_elim (λ (l : length xs < length ys). inl (smaller_first xs ys l))
-    (λ (l : length ys < length xs). let k : length xs ≤ length ys = length_inside xs ys r s i in absurd (omega arith)))
-    (cases_order (length xs) (length ys))
+inside_ordered xs ys r s i = search (rules, same_from_length, smaller_first, length_inside, cases_order)
 
 -- one inside another and not equal to it comes before it
 pub inside_before : (xs ys : List ℕ) → IsRising xs → IsRising ys → IsInside xs ys → (xs ≡ ys → ⊥) → bundle_cmp xs ys ≡ Less

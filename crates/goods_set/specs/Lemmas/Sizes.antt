@@ -1,31 +1,25 @@
 -- Lemmas on what is left of a list, on how many goods a list has, on putting a good, on the next good, and on parts of a bundle.
-use Rattle.std.proofs.Common.{◌≡◌, ℕ, ◌+◌, ◌<◌, ◌≤◌, Bool, true, false, not, cond, ◌&&◌, ◌||◌, eqb, ltb, leb, ◌⊎◌, inl, inr, ⊎_elim, List, [], ◌∷◌, length}
-use Rattle.std.proofs.Common.{refl, sym, ap, ap₂, ◌∙◌, subst, arith}
-use Rattle.std.proofs.lemmas.Bool.{and_parts, and_from, or_cases, or_right, both_ways, not_from_true, false_from_ne_true}
-use Rattle.std.proofs.lemmas.Bool.{true_from_ne_false, or_from, eqb-true, eqb-false, ne_eqb, ltb-true, ltb-false, leb-true, leb-false, cases_Bool, cases_order}
+use Rattle.std.proofs.Common.{rules, ◌≡◌, ℕ, ◌+◌, ◌<◌, ◌≤◌, Bool, true, false, not, cond, ◌&&◌, ◌||◌, eqb, ltb, leb, ◌⊎◌, inl, inr, ⊎_elim, List, [], ◌∷◌, refl}
+use Rattle.std.proofs.Common.{length, sym, ap, ap₂, ◌∙◌, subst, arith}
+use Rattle.std.proofs.lemmas.Bool.{and_parts, and_from, or_cases, or_right, both_ways, not_from_true, false_from_ne_true, true_from_ne_false, or_from, eqb-true}
+use Rattle.std.proofs.lemmas.Bool.{eqb-false, ne_eqb, ltb-true, ltb-false, leb-true, leb-false, cases_Bool, cases_order}
 use Rattle.std.specs.Prelude.{Option, Some, None, Decides}
 use Rattle.std.specs.List.{filter}
 use Rattle.goods_set.specs.Bundles.{is_inside, are_apart, AreAbove, AreBelow, IsRising, IsBundle, IsInside, AreApart, has_good, without, with_good, good_from}
-use Rattle.goods_set.specs.Lemmas.Members.{has_head, has_tail, has_cases, has_above, has_below, has_not_head, AreAbove-lower, AreAbove-from_has}
-use Rattle.goods_set.specs.Lemmas.Members.{AreBelow-from_has, same_from_has, inside_at, inside_from, inside_refl, inside_antisymm}
-use Rattle.goods_set.specs.Lemmas.Members.{has_without_from, inside_without, inside_without_parts}
+use Rattle.goods_set.specs.Lemmas.Members.{has_head, has_tail, has_cases, has_above, has_below, has_not_head, AreAbove-lower, AreAbove-from_has, same_from_has}
+use Rattle.goods_set.specs.Lemmas.Members.{AreBelow-from_has, inside_at, inside_from, inside_refl, inside_antisymm, has_without_from, inside_without}
+use Rattle.goods_set.specs.Lemmas.Members.{inside_without_parts}
 
 -- ---- what is left of nothing, and of a list whose goods are all taken, or none
 
 -- a filter that passes every good of the list
 filter_all : (p : ℕ → Bool) (xs : List ℕ) → ((g : ℕ) → has_good xs g ≡ true → p g ≡ true) → filter p xs ≡ xs
 filter_all p [] h = refl
-filter_all p (x ∷ xs) h =
-    let e : p x ≡ true = h x (has_head x xs) in
-    let r : filter p xs ≡ xs = filter_all p xs (λ g k. h g (has_tail x xs g k)) in
-    simp (e, r)
+filter_all p (x ∷ xs) h = search (rules, has_head, has_tail, (filter_all p xs (λ g k. h g (has_tail x xs g k))))
 
 filter_none : (p : ℕ → Bool) (xs : List ℕ) → ((g : ℕ) → has_good xs g ≡ true → p g ≡ false) → filter p xs ≡ []
 filter_none p [] h = refl
-filter_none p (x ∷ xs) h =
-    let e : p x ≡ false = h x (has_head x xs) in
-    let r : filter p xs ≡ [] = filter_none p xs (λ g k. h g (has_tail x xs g k)) in
-    simp (e, r)
+filter_none p (x ∷ xs) h = search (rules, has_head, has_tail, (filter_none p xs (λ g k. h g (has_tail x xs g k))))
 
 -- two filters by tests that agree on the goods of the list
 pub filter_same : (p q : ℕ → Bool) (xs : List ℕ) → ((g : ℕ) → has_good xs g ≡ true → p g ≡ q g) → filter p xs ≡ filter q xs
@@ -35,14 +29,7 @@ filter_same p q (x ∷ xs) h = ap₂ (λ (b : Bool) (zs : List ℕ). cond b (x �
 -- a filter of a filter
 pub filter_twice : (p q : ℕ → Bool) (xs : List ℕ) → filter p (filter q xs) ≡ filter (λ g. p g && q g) xs
 filter_twice p q [] = refl
-filter_twice p q (x ∷ xs) = at (filter_twice p q xs) (p x) (q x) refl refl
-  where
-    at : filter p (filter q xs) ≡ filter (λ g. p g && q g) xs → (b c : Bool) → p x ≡ b → q x ≡ c → filter p (cond (q x) (x ∷ filter q xs) (filter q xs))
-        ≡ cond (p x && q x) (x ∷ filter (λ g. p g && q g) xs) (filter (λ g. p g && q g) xs)
-    at r true true e f = simp (f, e, r)
-    at r true false e f = simp (f, e, r)
-    at r false true e f = simp (f, e, r)
-    at r false false e f = simp (f, e, r)
+filter_twice p q (x ∷ xs) = search (rules, (filter_twice p q xs))
 
 pub without_all : (xs ys : List ℕ) → IsInside xs ys → without xs ys ≡ []
 without_all xs ys i = filter_none (λ g. not (has_good ys g)) xs (λ g h. not_from_true (has_good ys g) (inside_at xs ys g i h))
@@ -52,24 +39,13 @@ without-nil xs = filter_all (λ g. not (has_good [] g)) xs (λ g h. refl)
 
 -- in which order goods are taken is the same
 pub without_comm : (xs ys zs : List ℕ) → without (without xs ys) zs ≡ without (without xs zs) ys
-without_comm xs ys zs =
-    filter_twice (λ g. not (has_good zs g)) (λ g. not (has_good ys g)) xs
-    ∙ filter_same (λ g. not (has_good zs g) && not (has_good ys g)) (λ g. not (has_good ys g) && not (has_good zs g)) xs
-    (λ g _. and_swap (not (has_good zs g)) (not (has_good ys g)))
-    ∙ sym (filter_twice (λ g. not (has_good ys g)) (λ g. not (has_good zs g)) xs)
-  where
-    and_swap : (a b : Bool) → (a && b) ≡ (b && a)
-    and_swap true true = refl
-    and_swap true false = refl
-    and_swap false true = refl
-    and_swap false false = refl
+without_comm xs ys zs = search (rules, filter_twice, filter_same)
 
 -- ---- sizes
 
 -- a good less in ys is a good more in what is left, if it is the first of xs
 without_head : (x : ℕ) (xs ys : List ℕ) → AreAbove x xs → without xs (x ∷ ys) ≡ without xs ys
-without_head x xs ys a = filter_same (λ g. not (has_good (x ∷ ys) g)) (λ g. not (has_good ys g)) xs (λ g h. let l : x < g = has_above x xs g a h in
-    let f : eqb x g ≡ false = ne_eqb x g (λ e. omega arith) in simp f)
+without_head x xs ys a = search (rules, filter_same, has_above, ne_eqb)
 
 inside_tails : (x : ℕ) (xs : List ℕ) (y : ℕ) (ys : List ℕ) → x ≡ y → AreAbove y ys → IsInside (y ∷ ys) (x ∷ xs) → IsInside ys xs
 inside_tails x xs y ys e s i =
@@ -83,9 +59,7 @@ inside_tail x xs y ys l s i =
 
 -- the first good of a list inside another is not below the other's first good
 inside_heads : (x : ℕ) (xs : List ℕ) (y : ℕ) (ys : List ℕ) → AreAbove x xs → IsInside (y ∷ ys) (x ∷ xs) → x ≤ y
-inside_heads x xs y ys r i =
-    ⊎_elim (λ (e : x ≡ y). omega arith) (λ (h : has_good xs y ≡ true). let l : x < y = has_above x xs y r h in
-    omega arith) (has_cases x xs y (inside_at (y ∷ ys) (x ∷ xs) y i (has_head y ys)))
+inside_heads x xs y ys r i = search (rules, has_above, has_cases, inside_at, has_head)
 
 -- what is left and what was taken out of a bundle are the bundle
 pub length-without : (xs ys : List ℕ) → IsRising xs → IsRising ys → IsInside ys xs → length (without xs ys) + length ys ≡ length xs
@@ -125,70 +99,33 @@ same_from_length xs ys r s i e = inside_antisymm xs ys r s i (inside_from_withou
 
 -- a bundle is inside one that is not larger only where the two are the same
 pub inside_not_larger : (xs ys : List ℕ) (same : Bool) → IsRising xs → IsRising ys → length ys ≤ length xs → Decides same (xs ≡ ys) → same ≡ is_inside xs ys
-inside_not_larger xs ys same r s l d =
-    elim (cases_Bool same) [
-      | inl e ↦ e ∙ sym (subst (λ zs. IsInside xs zs) (d.0 e) (inside_refl xs))
-      | inr e ↦
-          e
-          ∙ sym (false_from_ne_true (is_inside xs ys) (λ i.
-          let sizes : length xs ≡ length ys = omega (arith, l, length_inside xs ys r s i) in
-          both_ways same e (d.1 (same_from_length xs ys r s i sizes))))
-    ]
+inside_not_larger xs ys same r s l d = search (rules, cases_Bool, inside_refl, false_from_ne_true, length_inside, both_ways, same_from_length)
 
 -- ---- put
 
 pub has-with_good : (x : ℕ) (xs : List ℕ) (g : ℕ) → has_good (with_good x xs) g ≡ (eqb x g || has_good xs g)
 has-with_good x [] g = refl
-has-with_good x (y ∷ ys) g = at (has-with_good x ys g) (ltb x y) (eqb x y) refl refl
-  where
-    or_swap : (a b c : Bool) → (a || (b || c)) ≡ (b || (a || c))
-    or_swap true true c = refl
-    or_swap true false c = refl
-    or_swap false b c = refl
-
-    or_twice : (a b : Bool) → (a || b) ≡ (a || (a || b))
-    or_twice true b = refl
-    or_twice false b = refl
-
-    at : has_good (with_good x ys) g ≡ (eqb x g || has_good ys g) → (b c : Bool) → ltb x y ≡ b → eqb x y ≡ c
-        → has_good (with_good x (y ∷ ys)) g ≡ (eqb x g || (eqb y g || has_good ys g))
-    at h true c e f = rw e refl
-    at h false true e f = let d : x ≡ y = eqb-true x y f in
-        rw (e, f) (subst (λ n. (eqb y g || has_good ys g) ≡ (eqb n g || (eqb y g || has_good ys g))) (sym d) (or_twice (eqb y g) (has_good ys g)))
-    at h false false e f = rw (e, f) (ap (λ b. eqb y g || b) h ∙ or_swap (eqb y g) (eqb x g) (has_good ys g))
+has-with_good x (y ∷ ys) g = search (rules, eqb-true, (has-with_good x ys g))
 
 pub AreAbove-with_good : (a x : ℕ) (xs : List ℕ) → a < x → AreAbove a xs → AreAbove a (with_good x xs)
-AreAbove-with_good a x xs l h =
-    AreAbove-from_has a (with_good x xs) (λ g k. ⊎_elim (λ (e : eqb x g ≡ true). subst (λ n. a < n) (eqb-true x g e) l)
-    (λ (m : has_good xs g ≡ true). has_above a xs g h m) (or_cases (eqb x g) (has_good xs g) (sym (has-with_good x xs g) ∙ k)))
+AreAbove-with_good a x xs l h = search (rules, AreAbove-from_has, eqb-true, has_above, or_cases, has-with_good)
 
 pub AreBelow-with_good : (G x : ℕ) (xs : List ℕ) → x < G → AreBelow G xs → AreBelow G (with_good x xs)
-AreBelow-with_good G x xs l h =
-    AreBelow-from_has G (with_good x xs) (λ g k. ⊎_elim (λ (e : eqb x g ≡ true). subst (λ n. n < G) (eqb-true x g e) l)
-    (λ (m : has_good xs g ≡ true). has_below G xs g h m) (or_cases (eqb x g) (has_good xs g) (sym (has-with_good x xs g) ∙ k)))
+AreBelow-with_good G x xs l h = search (rules, AreBelow-from_has, eqb-true, has_below, or_cases, has-with_good)
 
 strictly : (x y : ℕ) → y ≤ x → (x ≡ y → ⊥) → y < x
 strictly x y l n = ⊎_elim (λ (e : x ≡ y). absurd (n e)) (⊎_elim (λ (k : x < y). absurd (omega arith)) (λ (k : y < x). k)) (cases_order x y)
 
 pub IsRising-with_good : (x : ℕ) (xs : List ℕ) → IsRising xs → IsRising (with_good x xs)
 IsRising-with_good x [] r = (tt, tt)
-IsRising-with_good x (y ∷ ys) r = at (IsRising-with_good x ys r.1) (ltb x y) (eqb x y) refl refl
-  where
-    at : IsRising (with_good x ys) → (b c : Bool) → ltb x y ≡ b → eqb x y ≡ c → IsRising (with_good x (y ∷ ys))
-    at h true c e f = let l : x < y = ltb-true x y e in rw e ((l, AreAbove-lower x y ys (omega arith) r.0), r)
-    at h false true e f = rw (e, f) r
-    at h false false e f = let l : y ≤ x = ltb-false x y e in let n : x ≡ y → ⊥ = eqb-false x y f in
-        rw (e, f) (AreAbove-with_good y x ys (strictly x y l n) r.0, h)
+IsRising-with_good x (y ∷ ys) r = search (rules, ltb-true, AreAbove-lower, ltb-false, eqb-false, AreAbove-with_good, strictly, (IsRising-with_good x ys r.1))
 
 pub IsBundle-with_good : (G x : ℕ) (xs : List ℕ) → x < G → IsBundle G xs → IsBundle G (with_good x xs)
 IsBundle-with_good G x xs l b = (IsRising-with_good x xs b.0, AreBelow-with_good G x xs l b.1)
 
 -- a good that is there is not put again
 pub with_good_there : (x : ℕ) (xs : List ℕ) → IsRising xs → has_good xs x ≡ true → with_good x xs ≡ xs
-with_good_there x xs r h =
-    same_from_has (with_good x xs) xs (IsRising-with_good x xs r) r
-    (λ g k. ⊎_elim (λ (e : eqb x g ≡ true). subst (λ n. has_good xs n ≡ true) (eqb-true x g e) h) (λ (m : has_good xs g ≡ true). m)
-    (or_cases (eqb x g) (has_good xs g) (sym (has-with_good x xs g) ∙ k))) (λ g k. has-with_good x xs g ∙ or_right (eqb x g) (has_good xs g) k)
+with_good_there x xs r h = search (rules, same_from_has, IsRising-with_good, eqb-true, or_cases, has-with_good, or_right)
 
 -- ---- the next good
 
@@ -199,31 +136,7 @@ pub record IsNextGood (xs : List ℕ) (g m : ℕ) : Type 0 where
 
 pub good_from-Some : (xs : List ℕ) (g m : ℕ) → IsRising xs → good_from xs g ≡ Some m → IsNextGood xs g m
 good_from-Some [] g m r e = absurd (cc)
-good_from-Some (x ∷ xs) g m r e = at (good_from-Some xs g m r.1) (leb g x) refl
-  where
-    at : (good_from xs g ≡ Some m → IsNextGood xs g m) → (b : Bool) → leb g x ≡ b → IsNextGood (x ∷ xs) g m
-    at h true t =
-        let f : Some x ≡ Some m = rw t at e in
-        let d : x ≡ m = cc in
-        let l : g ≤ x = leb-true g x t in
-        record {
-          there = subst (λ n. has_good (x ∷ xs) n ≡ true) d (has_head x xs);
-          from = omega arith;
-          least = λ k a b. false_from_ne_true (has_good (x ∷ xs) k)
-              (λ w. ⊎_elim (λ (q : x ≡ k). absurd (omega arith)) (λ (q : has_good xs k ≡ true). let z : x < k = has_above x xs k r.0 q in absurd (omega arith))
-              (has_cases x xs k w));
-        }
-    at h false t =
-        let f : good_from xs g ≡ Some m = rw t at e in
-        let n : IsNextGood xs g m = h f in
-        let l : x < g = leb-false g x t in
-        record {
-          there = has_tail x xs m n.there;
-          from = n.from;
-          least = λ k a b. false_from_ne_true (has_good (x ∷ xs) k)
-              (λ w. ⊎_elim (λ (q : x ≡ k). absurd (omega arith)) (λ (q : has_good xs k ≡ true). both_ways (has_good xs k) (n.least k a b) q)
-              (has_cases x xs k w));
-        }
+good_from-Some (x ∷ xs) g m r e = search (rules, leb-true, has_head, false_from_ne_true, has_above, has_cases, leb-false, has_tail, both_ways, (good_from-Some xs g m r.1))
 
 pub good_from-None : (xs : List ℕ) (g k : ℕ) → good_from xs g ≡ None → g ≤ k → has_good xs k ≡ false
 good_from-None [] g k e a = refl
@@ -262,11 +175,4 @@ good_from_none xs g r h = at (good_from xs g) refl
 -- ---- parts of a bundle
 
 pub is_inside-without : (zs xs ys : List ℕ) → is_inside zs (without xs ys) ≡ (is_inside zs xs && are_apart zs ys)
-is_inside-without zs xs ys = by (is_inside zs (without xs ys)) (is_inside zs xs && are_apart zs ys) refl refl
-  where
-    by : (b c : Bool) → is_inside zs (without xs ys) ≡ b → (is_inside zs xs && are_apart zs ys) ≡ c
-        → is_inside zs (without xs ys) ≡ (is_inside zs xs && are_apart zs ys)
-    by true c e f = let p : IsInside zs xs × AreApart zs ys = inside_without_parts zs xs ys e in e ∙ sym (and_from (is_inside zs xs) (are_apart zs ys) p.0 p.1)
-    by false true e f = let p : (is_inside zs xs ≡ true) × (are_apart zs ys ≡ true) = and_parts (is_inside zs xs) (are_apart zs ys) f in
-        inside_without zs xs ys p.0 p.1 ∙ sym f
-    by false false e f = e ∙ sym f
+is_inside-without zs xs ys = search (rules, inside_without_parts, and_from, and_parts, inside_without)

@@ -1,6 +1,6 @@
 -- The goods of words, bit by bit: what is inside, apart and left, by the words' bits.
-use Rattle.std.proofs.Common.{◌≡◌, ℕ, zero, suc, ◌+◌, ◌-◌, ◌*◌, ◌/◌, ◌%◌, ◌^◌, min, ◌<◌, ◌≤◌, ◌≢◌, Bool, true, false, eqb, List, get_or, refl, sym, ap, ◌∙◌}
-use Rattle.std.proofs.Common.{arith, w64}
+use Rattle.std.proofs.Common.{rules, ◌≡◌, ℕ, zero, suc, ◌+◌, ◌-◌, ◌*◌, ◌/◌, ◌%◌, ◌^◌, min, ◌<◌, ◌≤◌, ◌≢◌, Bool, true, false, eqb, List, get_or, refl, sym, ap}
+use Rattle.std.proofs.Common.{◌∙◌, arith, w64}
 use Rattle.std.specs.List.{filter, range_with_len}
 use Rattle.std.specs.Int.{bit_at, bit_not, trailing_zeros}
 use Rattle.std.specs.Int.RustNames.{bit_and}
@@ -39,40 +39,29 @@ range_has a (suc n) g l m = at (eqb a g) refl (λ (h : a < g). range_has (a + 1)
 
 pub word_goods_bundle : (cap : ℕ) (ws : List ℕ) → IsBundle cap (word_goods cap ws)
 unfolding word_goods
-word_goods_bundle cap ws =
-    (IsRising-filter (λ g. eqb (word_bit ws g) 1) (range_with_len 0 cap) (range_rises 0 cap), below (range_below 0 cap cap (omega arith)))
-  where
-    below : AreBelow cap (range_with_len 0 cap) → AreBelow cap (filter (λ g. eqb (word_bit ws g) 1) (range_with_len 0 cap))
-    below h = AreBelow-filter (λ g. eqb (word_bit ws g) 1) cap (range_with_len 0 cap) h
+word_goods_bundle cap ws = search (rules, IsRising-filter, range_rises, range_below, AreBelow-filter)
 
 pub word_goods_rise : (cap : ℕ) (ws : List ℕ) → IsRising (word_goods cap ws)
 word_goods_rise cap ws = (word_goods_bundle cap ws).0
 
 pub word_goods_has : (cap : ℕ) (ws : List ℕ) (g : ℕ) → g < cap → word_bit ws g ≡ 1 → has_good (word_goods cap ws) g ≡ true
 unfolding word_goods
-word_goods_has cap ws g l e = has-filter (λ x. eqb (word_bit ws x) 1) (range_with_len 0 cap) g
-    ∙ and_from (eqb (word_bit ws g) 1) (has_good (range_with_len 0 cap) g) (eq-eqb (word_bit ws g) 1 e) (range_has 0 cap g (omega arith) (omega arith))
+word_goods_has cap ws g l e = search (rules, has-filter, and_from, eq-eqb, range_has)
 
 pub word_goods_parts : (cap : ℕ) (ws : List ℕ) (g : ℕ) → has_good (word_goods cap ws) g ≡ true → (g < cap) × (word_bit ws g ≡ 1)
 unfolding word_goods
-word_goods_parts cap ws g h =
-    let p : (eqb (word_bit ws g) 1 ≡ true) × (has_good (range_with_len 0 cap) g ≡ true) =
-    and_parts (eqb (word_bit ws g) 1) (has_good (range_with_len 0 cap) g) (sym (has-filter (λ x. eqb (word_bit ws x) 1) (range_with_len 0 cap) g) ∙ h) in
-    (has_below cap (range_with_len 0 cap) g (range_below 0 cap cap (omega arith)) p.1, eqb-true (word_bit ws g) 1 p.0)
+word_goods_parts cap ws g h = search (rules, and_parts, has-filter, has_below, range_below, eqb-true)
 
 pub word_goods_same : (cap : ℕ) (ws vs : List ℕ) → ((g : ℕ) → g < cap → word_bit ws g ≡ word_bit vs g) → word_goods cap ws ≡ word_goods cap vs
 unfolding word_goods
-word_goods_same cap ws vs h = filter_same (λ g. eqb (word_bit ws g) 1) (λ g. eqb (word_bit vs g) 1) (range_with_len 0 cap)
-    (λ g m. ap (λ b. eqb b 1) (h g (has_below cap (range_with_len 0 cap) g (range_below 0 cap cap (omega arith)) m)))
+word_goods_same cap ws vs h = search (rules, filter_same, has_below, range_below)
 
 -- a good that is not there has its bit clear
 pub word_goods_lacks : (cap : ℕ) (ws : List ℕ) (g : ℕ) → word_bit ws g ≡ 0 → has_good (word_goods cap ws) g ≡ false
-word_goods_lacks cap ws g e = false_from_ne_true (has_good (word_goods cap ws) g) (λ h. let p : (g < cap) × (word_bit ws g ≡ 1) = word_goods_parts cap ws g h in
-    omega arith)
+word_goods_lacks cap ws g e = search (rules, false_from_ne_true, word_goods_parts)
 
 pub word_goods_past : (cap : ℕ) (ws : List ℕ) (g : ℕ) → cap ≤ g → has_good (word_goods cap ws) g ≡ false
-word_goods_past cap ws g l = false_from_ne_true (has_good (word_goods cap ws) g) (λ h. let p : (g < cap) × (word_bit ws g ≡ 1) = word_goods_parts cap ws g h in
-    omega arith)
+word_goods_past cap ws g l = search (rules, false_from_ne_true, word_goods_parts)
 
 -- ---- one word
 
@@ -130,18 +119,11 @@ bit_shared a b l n =
 
 -- the good at bit i of word k
 pub word_bit_at : (ws : List ℕ) (k i : ℕ) → i < 64 → word_bit ws (64 * k + i) ≡ bit_at (get_or ws k 0) i
-word_bit_at ws k i l =
-    let d : (64 * k + i) / 64 ≡ k = omega arith in
-    let m : (64 * k + i) % 64 ≡ i = omega arith in
-    rw (d, m) refl
+word_bit_at ws k i l = search rules
 
 pub words_inside : (n : ℕ) (us vs : List ℕ) → ((k : ℕ) → get_or vs k 0 < 2 ^ 64) → ((k : ℕ) → k < n → bit_and (get_or us k 0) (bit_not w64 (get_or vs k 0)) ≡ 0)
     → is_inside (word_goods (64 * n) us) (word_goods (64 * n) vs) ≡ true
-words_inside n us vs f h =
-    inside_from (word_goods (64 * n) us) (word_goods (64 * n) vs) (λ g m.
-    let p : (g < 64 * n) × (word_bit us g ≡ 1) = word_goods_parts (64 * n) us g m in
-    word_goods_has (64 * n) vs g p.0 (bits_inside (get_or us (g / 64) 0) (get_or vs (g / 64) 0) (g % 64) (f (g / 64)) (h (g / 64) (omega arith))
-    (omega arith) p.1))
+words_inside n us vs f h = search (rules, inside_from, word_goods_parts, word_goods_has, bits_inside)
 
 pub words_outside : (n : ℕ) (us vs : List ℕ) (k : ℕ) → ((j : ℕ) → get_or us j 0 < 2 ^ 64) → ((j : ℕ) → get_or vs j 0 < 2 ^ 64) → k < n
     → bit_and (get_or us k 0) (bit_not w64 (get_or vs k 0)) ≢ 0 → is_inside (word_goods (64 * n) us) (word_goods (64 * n) vs) ≡ false
@@ -155,10 +137,7 @@ words_outside n us vs k e f l h =
 
 pub words_apart : (n : ℕ) (us vs : List ℕ) → ((k : ℕ) → k < n → bit_and (get_or us k 0) (get_or vs k 0) ≡ 0)
     → are_apart (word_goods (64 * n) us) (word_goods (64 * n) vs) ≡ true
-words_apart n us vs h =
-    apart_from (word_goods (64 * n) us) (word_goods (64 * n) vs) (λ g m.
-    let p : (g < 64 * n) × (word_bit us g ≡ 1) = word_goods_parts (64 * n) us g m in
-    word_goods_lacks (64 * n) vs g (bits_apart (get_or us (g / 64) 0) (get_or vs (g / 64) 0) (g % 64) (h (g / 64) (omega arith)) p.1))
+words_apart n us vs h = search (rules, apart_from, word_goods_parts, word_goods_lacks, bits_apart)
 
 pub words_sharing : (n : ℕ) (us vs : List ℕ) (k : ℕ) → ((j : ℕ) → get_or us j 0 < 2 ^ 64) → k < n → bit_and (get_or us k 0) (get_or vs k 0) ≢ 0
     → are_apart (word_goods (64 * n) us) (word_goods (64 * n) vs) ≡ false
@@ -174,18 +153,10 @@ words_sharing n us vs k e l h =
 pub words_without : (cap : ℕ) (us vs ws : List ℕ) → ((k : ℕ) → get_or vs k 0 < 2 ^ 64)
     → ((k : ℕ) → 64 * k < cap → get_or ws k 0 ≡ bit_and (get_or us k 0) (bit_not w64 (get_or vs k 0)))
     → word_goods cap ws ≡ without (word_goods cap us) (word_goods cap vs)
-words_without cap us vs ws f h =
-    same_from_has (word_goods cap ws) (without (word_goods cap us) (word_goods cap vs)) (word_goods_bundle cap ws).0
+words_without cap us vs ws f h = same_from_has (word_goods cap ws) (without (word_goods cap us) (word_goods cap vs)) (word_goods_bundle cap ws).0
     (IsRising-without (word_goods cap us) (word_goods cap vs) (word_goods_bundle cap us).0)
-    (λ g m.
-    let p : (g < cap) × (word_bit ws g ≡ 1) = word_goods_parts cap ws g m in
-    let b : (word_bit us g ≡ 1) × (word_bit vs g ≡ 0) = parts g p.0 p.1 in
-    has_without_from (word_goods cap us) (word_goods cap vs) g (word_goods_has cap us g p.0 b.0) (word_goods_lacks cap vs g b.1))
-    (λ g m.
-    let q : (has_good (word_goods cap us) g ≡ true) × (has_good (word_goods cap vs) g ≡ false) =
-    has_without_parts (word_goods cap us) (word_goods cap vs) g m in
-    let p : (g < cap) × (word_bit us g ≡ 1) = word_goods_parts cap us g q.0 in
-    word_goods_has cap ws g p.0 (left g p.0 p.1 (λ e. both_ways (has_good (word_goods cap vs) g) q.1 (word_goods_has cap vs g p.0 e))))
+    (search (rules, word_goods_parts, parts, has_without_from, word_goods_has, word_goods_lacks))
+    (search (rules, has_without_parts, word_goods_parts, word_goods_has, left, both_ways))
   where
     is : (g : ℕ) → g < cap → word_bit ws g ≡ min (word_bit us g) (1 - word_bit vs g)
     is g l = ap (λ w. bit_at w (g % 64)) (h (g / 64) (omega arith)) ∙ bit_at_and (get_or us (g / 64) 0) (bit_not w64 (get_or vs (g / 64) 0)) (g % 64)
