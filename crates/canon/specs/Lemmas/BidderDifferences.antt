@@ -1,7 +1,7 @@
 -- The least element that two lists in order do not have equally often. It is the first such one of both lists, put in order together;
 -- where two lists that never fall part, it is the lesser of the two elements there, since what is behind is no less.
-use Rattle.std.proofs.Common.{◌≡◌, ℕ, ◌+◌, ◌<◌, Bool, true, false, not, eqb, cond, ⊎_elim, List, [], ◌∷◌, ◌++◌, refl, ap, ◌∙◌, subst, arith, Option, Some, None}
-use Rattle.std.proofs.Common.{Ordering, Less, Equal, Greater}
+use Rattle.std.proofs.Common.{rules, ◌≡◌, ℕ, ◌+◌, ◌<◌, Bool, true, false, not, eqb, cond, ⊎_elim, List, [], ◌∷◌, ◌++◌, refl, ap, ◌∙◌, subst, arith, Option}
+use Rattle.std.proofs.Common.{Some, None, Ordering, Less, Equal, Greater}
 use Rattle.std.specs.Prelude.{Contains}
 use Rattle.std.specs.List.{find, AllByRecursion}
 use Rattle.std.specs.Ordering.{is_eq, is_gt}
@@ -50,9 +50,7 @@ module _ {X : Type 0} (cmp : X → X → Ordering) (total : IsTotalOrder cmp) (e
 
   -- an element that either list has is among both
   there_in_both : (one other : List X) (x : X) → 0 < count_of cmp x one + count_of cmp x other → Contains (both_in_order one other) x
-  there_in_both one other x l =
-      counted_is_there cmp total exact x (both_in_order one other) (let a = count_of-append cmp x one other in let b = count_of-sort_by cmp x (one ++ other) in
-      omega arith)
+  there_in_both one other x l = search (rules, counted_is_there, count_of-append, count_of-sort_by)
 
   -- where there is none, all are counted alike
   pub all_even : (one other : List X) → least_uneven one other ≡ None → (x : X) → count_of cmp x one ≡ count_of cmp x other
@@ -78,21 +76,11 @@ module _ {X : Type 0} (cmp : X → X → Ordering) (total : IsTotalOrder cmp) (e
   pub least_uneven_is : (one other : List X) (x : X) → least_uneven one other ≡ Some x → IsLeastUneven one other x
   least_uneven_is one other x e =
       let f = found_least cmp total exact (is_uneven cmp one other) (both_in_order one other) (ordered-sort_by cmp total (one ++ other)) x e in
-      record {
-        differ = λ d. both_ways (is_uneven cmp one other x) (even_test cmp one other x d) f.passes;
-        earlier = λ y l.
-            ⊎_elim (λ (z : count_of cmp y one + count_of cmp y other ≡ 0). omega arith)
-            (λ (p : 0 < count_of cmp y one + count_of cmp y other). even_from_test cmp one other y (f.least y (there_in_both one other y p) l))
-            (zero_or_more (count_of cmp y one + count_of cmp y other));
-      }
+      search (rules, both_ways, even_test, even_from_test, there_in_both, zero_or_more)
 
   pub least_uneven_found : (one other : List X) (x : X) → IsLeastUneven one other x → least_uneven one other ≡ Some x
-  least_uneven_found one other x h =
-      find_least cmp total exact (is_uneven cmp one other) (both_in_order one other) (ordered-sort_by cmp total (one ++ other)) x
-      (there_in_both one other x (⊎_elim (λ (z : count_of cmp x one + count_of cmp x other ≡ 0). absurd (h.differ (omega arith)))
-      (λ (p : 0 < count_of cmp x one + count_of cmp x other). p) (zero_or_more (count_of cmp x one + count_of cmp x other))))
-      (uneven_test cmp one other x h.differ)
-      (λ y l. even_test cmp one other y (h.earlier y l))
+  least_uneven_found one other x h = find_least cmp total exact (is_uneven cmp one other) (both_in_order one other) (ordered-sort_by cmp total (one ++ other)) x
+      (search (rules, there_in_both, zero_or_more)) (uneven_test cmp one other x h.differ) (λ y l. even_test cmp one other y (h.earlier y l))
 
   -- ---- lists in order that part at some index
 

@@ -1,5 +1,5 @@
 -- The bids of each bidder of a canonical auction are in the order of their bundles, and its XOR bidders never fall.
-use Rattle.std.proofs.Common.{◌≡◌, ℕ, List, ap, subst}
+use Rattle.std.proofs.Common.{rules, ◌≡◌, ℕ, List, ap, subst}
 use Rattle.std.specs.Prelude.{All}
 use Rattle.std.specs.List.{filter}
 use Rattle.std.proofs.lemmas.List.Elements.{All-map}
@@ -21,8 +21,7 @@ module _ (a : PlainAuction) (canonical : IsCanonical a) where
   bidders_again = ap (λ (b : PlainAuction). b.xor_bidders) canonical
 
   pub or_atoms_in_order : IsInOrder a.or_atoms
-  or_atoms_in_order = subst IsInOrder (ap (λ (b : PlainAuction). b.or_atoms) canonical)
-      (points_where-in_order (is_or_point a.goods a.or_atoms) (or_value a.or_atoms) a.goods)
+  or_atoms_in_order = search (rules, points_where-in_order)
 
   pub bidders_ordered : IsOrdered bidder_cmp a.xor_bidders
   bidders_ordered = subst (IsOrdered bidder_cmp) bidders_again (ordered-sort_by bidder_cmp bidder_cmp_total (points_of_bidders a.goods a.xor_bidders))

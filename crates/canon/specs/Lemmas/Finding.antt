@@ -1,5 +1,6 @@
 -- What is found first in a list in order is what passes and before which nothing passes, by induction on the list.
-use Rattle.std.proofs.Common.{◌≡◌, ℕ, ◌<◌, Bool, true, false, cond, ⊎_elim, List, [], ◌∷◌, refl, sym, ap, ◌∙◌, subst, arith, Some, Ordering, Less, Equal}
+use Rattle.std.proofs.Common.{rules, ◌≡◌, ℕ, ◌<◌, Bool, true, false, cond, ⊎_elim, List, [], ◌∷◌, refl, sym, ap, ◌∙◌, subst, arith, Some, Ordering, Less, Equal}
+use Rattle.std.proofs.lemmas.Grind.{common_steps}
 use Rattle.std.proofs.Common.{Greater}
 use Rattle.std.specs.Prelude.{AllPairs, Contains}
 use Rattle.std.specs.List.{find, AllByRecursion}
@@ -51,9 +52,7 @@ found_first {X} R apart p (z ∷ zs) s x e = ⊎_elim here (later (found_first R
 -- and an element that passes, and before which nothing does, is found
 pub find_it : {X : Type 0} (R : X → X → Type 0) (p : X → Bool) (xs : List X) → AllPairs R xs → (x : X) → IsFirst R p xs x → find p xs ≡ Some x
 find_it R p [] s x f = absurd (Contains-nil x f.there)
-find_it R p (z ∷ zs) s x f =
-    ⊎_elim (λ (d : z ≡ x). let t : p z ≡ true = ap p d ∙ f.passes in ap (λ b. cond b (Some z) (find p zs)) t ∙ ap Some d)
-    (λ (d : Contains zs x).
+find_it R p (z ∷ zs) s x f = ⊎_elim (search rules) (λ (d : Contains zs x).
     let t : p z ≡ false = f.first z (Contains-head z zs) (All-contains (R z) zs x (AllPairs-head R z zs s) d) in
     ap (λ b. cond b (Some z) (find p zs)) t
     ∙ find_it R p zs (AllPairs-tail R z zs s) x (record { there = d; passes = f.passes; first = λ y c r. f.first y (Contains-tail z zs y c) r }))
@@ -70,8 +69,7 @@ module _ {X : Type 0} (cmp : X → X → Ordering) (total : IsTotalOrder cmp) (e
   pub find_least : (p : X → Bool) (xs : List X) → IsOrdered cmp xs → (x : X) → Contains xs x → p x ≡ true → ((y : X) → cmp y x ≡ Less → p y ≡ false)
       → find p xs ≡ Some x
   find_least p [] s x c t f = absurd (Contains-nil x c)
-  find_least p (z ∷ zs) s x c t f =
-      ⊎_elim (λ (d : z ≡ x). let u : p z ≡ true = ap p d ∙ t in ap (λ b. cond b (Some z) (find p zs)) u ∙ ap Some d)
+  find_least p (z ∷ zs) s x c t f = ⊎_elim (search rules)
       (λ (d : Contains zs x). by (find_least p zs s.1 x d t f) (each_at (λ y. is_gt (cmp z y) ≡ false) zs x s.0 d) (cmp z x) refl)
       (Contains-cons_cases z zs x c)
     where
@@ -88,38 +86,11 @@ module _ {X : Type 0} (cmp : X → X → Ordering) (total : IsTotalOrder cmp) (e
 
   pub found_least : (p : X → Bool) (xs : List X) → IsOrdered cmp xs → (x : X) → find p xs ≡ Some x → IsLeast p xs x
   found_least p [] s x e = absurd (cc)
-  found_least p (z ∷ zs) s x e = ⊎_elim here (later (found_least p zs s.1 x)) (cases_Bool (p z))
-    where
-      not_less : (y : X) → is_gt (cmp z y) ≡ false → cmp y z ≡ Less → ⊥
-      not_less y n l = let back : cmp z y ≡ Greater = total.antisymm z y ∙ ap ordering_reverse l in both_ways (is_gt (cmp z y)) n (ap is_gt back)
-
-      here : p z ≡ true → IsLeast p (z ∷ zs) x
-      here t =
-          let same : z ≡ x = let d : Some z ≡ Some x = sym (ap (λ b. cond b (Some z) (find p zs)) t) ∙ e in cc in
-          record {
-            there = subst (λ y. Contains (z ∷ zs) y) same (Contains-head z zs);
-            passes = ap p (sym same) ∙ t;
-            least = λ y c l. let m : cmp y z ≡ Less = subst (λ w. cmp y w ≡ Less) (sym same) l in
-                ⊎_elim (λ (d : z ≡ y). absurd (let q : cmp z z ≡ Less = subst (λ v. cmp v z ≡ Less) (sym d) m in
-                let r : cmp z z ≡ Equal = tied_itself total z in cc))
-                (λ (d : Contains zs y). absurd (not_less y (each_at (λ w. is_gt (cmp z w) ≡ false) zs y s.0 d) m)) (Contains-cons_cases z zs y c);
-          }
-
-      later : (find p zs ≡ Some x → IsLeast p zs x) → p z ≡ false → IsLeast p (z ∷ zs) x
-      later rest t =
-          let found = rest (sym (ap (λ b. cond b (Some z) (find p zs)) t) ∙ e) in
-          record {
-            there = Contains-tail z zs x found.there;
-            passes = found.passes;
-            least = λ y c l. ⊎_elim (λ (d : z ≡ y). ap p (sym d) ∙ t) (λ (d : Contains zs y). found.least y d l) (Contains-cons_cases z zs y c);
-          }
+  found_least p (z ∷ zs) s x e = grind (arith, common_steps, cases_Bool, both_ways, Contains-head, tied_itself, each_at, Contains-cons_cases, Contains-tail, (found_least p zs s.1 x))
 
   -- an element that is counted is there
   pub counted_is_there : (x : X) (xs : List X) → 0 < count_of cmp x xs → Contains xs x
   counted_is_there x [] l = let none : count_of cmp x [] ≡ 0 = refl in absurd (omega arith)
-  counted_is_there x (y ∷ ys) l =
-      ⊎_elim (λ (t : is_eq (cmp x y) ≡ true). subst (λ z. Contains (y ∷ ys) z) (sym (exact x y (equal_from (cmp x y) t))) (Contains-head y ys))
-      (λ (t : is_eq (cmp x y) ≡ false).
+  counted_is_there x (y ∷ ys) l = ⊎_elim (search (rules, equal_from, Contains-head)) (λ (t : is_eq (cmp x y) ≡ false).
       let first : cond {A = ℕ} (is_eq (cmp x y)) 1 0 ≡ 0 = ap (λ b. cond {A = ℕ} b 1 0) t in
-      Contains-tail y ys x (counted_is_there x ys (omega (arith, sum_by-cons (λ z. cond (is_eq (cmp x z)) 1 0) y ys))))
-      (cases_Bool (is_eq (cmp x y)))
+      Contains-tail y ys x (counted_is_there x ys (omega (arith, sum_by-cons (λ z. cond (is_eq (cmp x z)) 1 0) y ys)))) (cases_Bool (is_eq (cmp x y)))

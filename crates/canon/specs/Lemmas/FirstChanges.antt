@@ -1,7 +1,7 @@
 -- The first change of two lists of points. The idea: on the bundles before it both lists have the same bids, so the OR values there are
 -- equal; and on its bundle one list has a point that the other does not have, or has at another price.
 use Rattle.std.proofs.Common.{◌≡◌, ℕ, ◌<◌, true, false, eqb, cond, ◌⊎◌, inl, inr, ⊎_elim, List, [], ◌∷◌, map, refl, sym, ap, ap₂, ◌∙◌, subst, arith, Option}
-use Rattle.std.proofs.Common.{Some, None, Less, Bool}
+use Rattle.std.proofs.Common.{Some, None, Less, Bool, rules}
 use Rattle.std.specs.Prelude.{All, Contains}
 use Rattle.std.specs.List.{filter, find}
 use Rattle.std.specs.Ordering.{is_eq}
@@ -21,28 +21,21 @@ use Rattle.prune.specs.Lemmas.Lists.{Contains-nil, Contains-head, Contains-tail,
 use Rattle.prune.specs.Lemmas.OnBundles.{IsOnBundle}
 use Rattle.prune.specs.Lemmas.Points.{is_or_point-true}
 use Rattle.prune.specs.Points.{is_or_point, IsOrPoint}
-use Rattle.canon.specs.Lemmas.OrDifferences.{are_unequal, AgreeBefore, IsFirstUnequal, first_unequal_found, less_without_point, ArePoints, in_order}
-use Rattle.canon.specs.Lemmas.OrDifferences.{point_there, point_of}
+use Rattle.canon.specs.Lemmas.OrDifferences.{are_unequal, AgreeBefore, IsFirstUnequal, first_unequal_found, less_without_point, ArePoints, in_order, point_of}
+use Rattle.canon.specs.Lemmas.OrDifferences.{point_there}
 use Rattle.canon.specs.Internal.PriceWalks.{side_at}
 use Rattle.canon.specs.Lemmas.PriceChanges.{IsEarlier}
 use Rattle.canon.specs.PriceChanges.{PlainChange, price_on, IsPriceChange, ArePriceChanges}
 use Rattle.canon.specs.declared.verdict.Side.{Side}
 use Rattle.canon.specs.declared.verdict.Side.TheVariants.{Exactly, Below}
 use Rattle.std.proofs.lemmas.Grind.{common_steps}
-use Rattle.std.proofs.Common.{rules}
 
 -- ---- the price on a bundle
 
 -- the first bid on the bundle of a bid is that bid
 pub price_of_bid : (atoms : List (Atom (List ℕ))) → IsInOrder atoms → (a : Atom (List ℕ)) → Contains atoms a → price_on atoms a.bundle ≡ Some a.price
 price_of_bid [] s a c = absurd (Contains-nil a c)
-price_of_bid (x ∷ xs) s a c =
-    ⊎_elim
-    (λ (e : x ≡ a).
-    let here : is_eq (bundle_cmp x.bundle a.bundle) ≡ true =
-    ap (λ (z : Atom (List ℕ)). is_eq (bundle_cmp x.bundle z.bundle)) (sym e) ∙ ap is_eq (bundle_cmp_refl x.bundle) in
-    ap (λ (t : Bool). cond {A = Option ℕ} t (Some x.price) (price_on xs a.bundle)) here ∙ ap (λ (z : Atom (List ℕ)). Some z.price) e)
-    (λ (d : Contains xs a).
+price_of_bid (x ∷ xs) s a c = ⊎_elim (search (rules, bundle_cmp_refl)) (λ (d : Contains xs a).
     let behind : is_eq (bundle_cmp x.bundle a.bundle) ≡ false = ap is_eq (All-contains (IsBefore x) xs a (AllPairs-head IsBefore x xs s) d) in
     ap (λ (t : Bool). cond {A = Option ℕ} t (Some x.price) (price_on xs a.bundle)) behind ∙ price_of_bid xs (AllPairs-tail IsBefore x xs s) a d)
     (Contains-cons_cases x xs a c)
@@ -50,15 +43,8 @@ price_of_bid (x ∷ xs) s a c =
 pub bid_of_price : (atoms : List (Atom (List ℕ))) (bundle : List ℕ) (price : ℕ) → price_on atoms bundle ≡ Some price
     → Contains atoms (record { bundle = bundle; price = price })
 bid_of_price [] bundle price e = absurd (cc)
-bid_of_price (x ∷ xs) bundle price e =
-    ⊎_elim
-    (λ (here : (x.bundle ≡ bundle) × (is_eq (bundle_cmp x.bundle bundle) ≡ true)).
-    let found : Some x.price ≡ Some price = sym (ap (λ (t : Bool). cond {A = Option ℕ} t (Some x.price) (price_on xs bundle)) here.1) ∙ e in
-    let same : x.price ≡ price = cc in
-    let atom : x ≡ record { bundle = bundle; price = price } = ap₂ (λ (b : List ℕ) (p : ℕ). record { bundle = b; price = p }) here.0 same in
-    subst (λ (z : Atom (List ℕ)). Contains (x ∷ xs) z) atom (Contains-head x xs))
-    (λ (behind : (x.bundle ≡ bundle → ⊥) × (is_eq (bundle_cmp x.bundle bundle) ≡ false)).
-    Contains-tail x xs (record { bundle = bundle; price = price })
+bid_of_price (x ∷ xs) bundle price e = ⊎_elim (search (rules, Contains-head))
+    (λ (behind : (x.bundle ≡ bundle → ⊥) × (is_eq (bundle_cmp x.bundle bundle) ≡ false)). Contains-tail x xs (record { bundle = bundle; price = price })
     (bid_of_price xs bundle price (sym (ap (λ (t : Bool). cond {A = Option ℕ} t (Some x.price) (price_on xs bundle)) behind.1) ∙ e)))
     (same_cases x.bundle bundle)
 
@@ -66,8 +52,7 @@ pub same_price_cases : (p q : Option ℕ) → (p ≡ q) ⊎ (p ≡ q → ⊥)
 same_price_cases None None = inl refl
 same_price_cases None (Some n) = inr (λ e. cc)
 same_price_cases (Some m) None = inr (λ e. cc)
-same_price_cases (Some m) (Some n) =
-    ⊎_elim (λ (t : eqb m n ≡ true). inl (ap Some (eqb-true m n t))) (λ (t : eqb m n ≡ false). inr (λ e. eqb-false m n t (cc))) (cases_Bool (eqb m n))
+same_price_cases (Some m) (Some n) = search (rules, eqb-true, eqb-false, cases_Bool)
 
 -- ---- no change
 
@@ -145,19 +130,14 @@ module _ (goods : ℕ) where
   -- a bid on the bundle is a point, at its price
   point_on : (atoms : List (Atom (List ℕ))) → ArePoints goods atoms → (bundle : List ℕ) (price : ℕ) → price_on atoms bundle ≡ Some price
       → IsBundle goods bundle × IsOrPoint atoms bundle × (price ≡ or_value atoms bundle)
-  point_on atoms points bundle price some =
-      point_there goods atoms points (record { bundle = bundle; price = price }) (bid_of_price atoms bundle price some)
+  point_on atoms points bundle price some = search (rules, point_there, bid_of_price)
 
   -- where only one list has a bid, that list has the greater value
   point_of_one : (one other : List (Atom (List ℕ))) → ArePoints goods one → ArePoints goods other → (bundle : List ℕ)
       → SamePricesBefore one other bundle → (price : ℕ) → price_on one bundle ≡ Some price → price_on other bundle ≡ None
       → IsBundle goods bundle × (or_value other bundle < or_value one bundle)
   point_of_one one other points also bundle h price mine theirs =
-      let point = point_on one points bundle price mine in (
-        point.0,
-        less_without_point goods one other bundle point.0 (agree_before one other points also bundle h) point.1
-            (no_point other also bundle point.0 theirs),
-      )
+      let point = point_on one points bundle price mine in search (rules, less_without_point, agree_before, no_point)
 
   -- what is reported of the first list's value on the bundle
   abbrev pub or_side : List (Atom (List ℕ)) → List (Atom (List ℕ)) → List ℕ → Side
@@ -166,15 +146,8 @@ module _ (goods : ℕ) where
   pub side_of_change : (one other : List (Atom (List ℕ))) → ArePoints goods one → ArePoints goods other → (bundle : List ℕ) (p q : Option ℕ)
       → price_on one bundle ≡ p → price_on other bundle ≡ q → (p ≡ q → ⊥) → or_side one other bundle ≡ side_at p q
   side_of_change one other points also bundle None None mine theirs n = absurd (n refl)
-  side_of_change one other points also bundle None (Some q) mine theirs n =
-      let point = point_on other also bundle q theirs in
-      cond-false (is_or_point goods one bundle) (Exactly (or_value one bundle)) (Below (or_value other bundle)) (no_point one points bundle point.0 mine)
-      ∙ ap Below (sym point.2)
-  side_of_change one other points also bundle (Some p) q mine theirs n =
-      let point = point_on one points bundle p mine in
-      cond-true (is_or_point goods one bundle) (Exactly (or_value one bundle)) (Below (or_value other bundle))
-      (is_or_point-true goods one bundle point.1)
-      ∙ ap Exactly (sym point.2)
+  side_of_change one other points also bundle None (Some q) mine theirs n = search (rules, point_on, cond-false, no_point)
+  side_of_change one other points also bundle (Some p) q mine theirs n = search (rules, point_on, cond-true, is_or_point-true)
 
   pub first_change_found : (one other : List (Atom (List ℕ))) → ArePoints goods one → ArePoints goods other → (c : PlainChange) (rest : List PlainChange)
       → ArePriceChanges one other (c ∷ rest) → find (are_unequal one other) (all_bundles goods) ≡ Some c.bundle

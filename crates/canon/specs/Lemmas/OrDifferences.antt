@@ -1,5 +1,5 @@
 -- The first bundle on which the OR values of two OR bidders differ.
-use Rattle.std.proofs.Common.{◌≡◌, ℕ, ◌<◌, Bool, true, false, not, eqb, List, refl, sym, subst, arith, Some, Less}
+use Rattle.std.proofs.Common.{◌≡◌, ℕ, ◌<◌, Bool, true, false, not, eqb, List, refl, sym, subst, arith, Some, Less, rules}
 use Rattle.std.specs.Prelude.{All, Contains}
 use Rattle.std.specs.List.{find}
 use Rattle.std.proofs.lemmas.Bool.{both_ways, eqb-true, eq-eqb, ne_eqb, not_from_true, not_from_false}
@@ -22,7 +22,6 @@ use Rattle.prune.specs.Lemmas.Points.{IsOrPoint-from_test, no_or_point, inside_b
 use Rattle.canon.specs.Lemmas.Finding.{found_first, find_it}
 use Rattle.std.specs.Cmp.{both_ways as same_test}
 use Rattle.std.proofs.lemmas.Grind.{common_steps}
-use Rattle.std.proofs.Common.{rules}
 
 -- whether the values on the bundle differ
 abbrev pub are_unequal : List (Atom (List ℕ)) → List (Atom (List ℕ)) → List ℕ → Bool
@@ -59,30 +58,17 @@ module _ (goods : ℕ) where
       → IsFirstUnequal one other bundle
   first_unequal one other bundle e =
       let f = found_first (λ xs ys. bundle_cmp xs ys ≡ Less) before_both (are_unequal one other) (all_bundles goods) (all_bundles_rise goods) bundle e in
-      record {
-        within = All-contains (IsBundle goods) (all_bundles goods) bundle (all_bundles_are goods) f.there;
-        earlier = record { agree = λ early b l. equal_from_test one other early (f.first early (all_bundles_has goods early b) l) };
-        differ = λ d. both_ways (are_unequal one other bundle) (equal_test one other bundle d) f.passes;
-      }
+      search (rules, All-contains, all_bundles_are, equal_from_test, all_bundles_has, both_ways, equal_test)
 
   pub first_unequal_found : (one other : List (Atom (List ℕ))) (bundle : List ℕ) → IsFirstUnequal one other bundle
       → find (are_unequal one other) (all_bundles goods) ≡ Some bundle
   first_unequal_found one other bundle h =
-      find_it (λ xs ys. bundle_cmp xs ys ≡ Less) (are_unequal one other) (all_bundles goods) (all_bundles_rise goods) bundle (record {
-        there = all_bundles_has goods bundle h.within;
-        passes = unequal_test one other bundle h.differ;
-        first = λ early c l. equal_test one other early
-            (h.earlier.agree early (All-contains (IsBundle goods) (all_bundles goods) early (all_bundles_are goods) c) l);
-      })
+      find_it (λ xs ys. bundle_cmp xs ys ≡ Less) (are_unequal one other) (all_bundles goods) (all_bundles_rise goods) bundle (search (rules, all_bundles_has, unequal_test, equal_test, All-contains, all_bundles_are))
 
   -- ---- the parts of a bundle come before it
 
   part_first : (part bundle : List ℕ) → IsBundle goods bundle → IsPart part bundle → IsBundle goods part × (bundle_cmp part bundle ≡ Less)
-  part_first part bundle b p = (
-    (p.rising, inside_below goods part bundle b.1 p.inside),
-    inside_before part bundle p.rising b.0 p.inside
-        (λ e. both_ways (is_inside bundle part) p.proper (subst (λ (xs : List ℕ). is_inside bundle xs ≡ true) (sym e) (inside_refl bundle))),
-  )
+  part_first part bundle b p = search (rules, inside_below, inside_before, both_ways, inside_refl)
 
   rest_first : (part bundle : List ℕ) → IsBundle goods bundle → IsPart part bundle → IsBundle goods (without bundle part)
       × (bundle_cmp (without bundle part) bundle ≡ Less)

@@ -1,6 +1,6 @@
 -- Two lists of atoms in order are walked side by side, bundle by bundle. What is still to be found are the changes of the two
 -- rests: where the changes of the rests are given, the bundle that was walked past is put in front of them if its prices differ.
-use Rattle.std.proofs.Common.{◌≡◌, ℕ, true, false, ◌⊎◌, inl, inr, ⊎_elim, List, [], ◌∷◌, map, refl, sym, ◌∙◌, subst, Some, None, Less}
+use Rattle.std.proofs.Common.{◌≡◌, ℕ, true, false, ◌⊎◌, inl, inr, ⊎_elim, List, [], ◌∷◌, map, refl, sym, ◌∙◌, subst, Some, None, Less, arith, rules}
 use Rattle.std.specs.Prelude.{◌≢◌, All, Contains}
 use Rattle.std.specs.Ordering.{is_eq}
 use Rattle.std.proofs.lemmas.List.Elements.{All-cons, All-head, All-tail, All-weaker}
@@ -11,8 +11,6 @@ use Rattle.prune.specs.Lemmas.InOrder.{before_itself, same_cases}
 use Rattle.prune.specs.Lemmas.Lists.{Contains-head, Contains-tail}
 use Rattle.canon.specs.PriceChanges.{PlainChange, price_on, IsPriceChange, ArePriceChanges}
 use Rattle.std.proofs.lemmas.Grind.{common_steps}
-use Rattle.std.proofs.Common.{arith}
-use Rattle.std.proofs.Common.{rules}
 
 -- ---- the price on a bundle
 
@@ -32,18 +30,10 @@ priced_later : (first bundle : List ℕ) (atoms : List (Atom (List ℕ))) → Ar
 priced_later first bundle [] later = inr refl
 priced_later first bundle (a ∷ rest) later =
     let P : Atom (List ℕ) → Type 0 = λ z. bundle_cmp first z.bundle ≡ Less in
-    ⊎_elim (λ (h : (a.bundle ≡ bundle) × (is_eq (bundle_cmp a.bundle bundle) ≡ true)).
-    inl (subst (λ (zs : List ℕ). bundle_cmp first zs ≡ Less) h.0 (All-head P a rest later)))
-    (λ (h : (a.bundle ≡ bundle → ⊥) × (is_eq (bundle_cmp a.bundle bundle) ≡ false)).
-    ⊎_elim (λ (l : bundle_cmp first bundle ≡ Less). inl l)
-    (λ (e : price_on rest bundle ≡ None). inr (price_behind a rest bundle h.0 ∙ e))
-    (priced_later first bundle rest (All-tail P a rest later)))
-    (same_cases a.bundle bundle)
+    search (rules, All-head, price_behind, All-tail, same_cases, (priced_later first bundle rest (All-tail P a rest later)))
 
 pub no_price : (bundle : List ℕ) (atoms : List (Atom (List ℕ))) → AreLater bundle atoms → price_on atoms bundle ≡ None
-no_price bundle atoms later =
-    ⊎_elim (λ (l : bundle_cmp bundle bundle ≡ Less). absurd (before_itself bundle l)) (λ (e : price_on atoms bundle ≡ None). e)
-    (priced_later bundle bundle atoms later)
+no_price bundle atoms later = ⊎_elim (search (rules, before_itself)) (λ (e : price_on atoms bundle ≡ None). e) (priced_later bundle bundle atoms later)
 
 -- the first change is on a bundle before that of the second
 abbrev pub IsEarlier : PlainChange → PlainChange → Type 0
@@ -82,30 +72,17 @@ module _ (bundle : List ℕ) (left left_rest right right_rest : List (Atom (List
   -- another bundle whose prices differ is among the changes of the rests
   found_behind : (other : List ℕ) → (bundle ≡ other → ⊥) → price_on left other ≢ price_on right other
       → Contains (map (λ (d : PlainChange). d.bundle) changes) other
-  found_behind other n differ =
-      found.all other (λ e. differ (behind_left.same other n ∙ e ∙ sym (behind_right.same other n)))
+  found_behind other n differ = search rules
 
   pub past_change : (c : PlainChange) → c.bundle ≡ bundle → IsPriceChange left right c → ArePriceChanges left right (c ∷ changes)
   past_change c e h = record {
-    in_order = AllPairs-cons (λ (x y : PlainChange). bundle_cmp x.bundle y.bundle ≡ Less) c changes
-        (subst (λ (zs : List ℕ). All (λ (d : PlainChange). bundle_cmp zs d.bundle ≡ Less) changes) (sym e) later_changes) found.in_order;
+    in_order = search (rules, AllPairs-cons, All, later_changes);
     each = All-cons (IsPriceChange left right) c changes h still_changes;
-    all = λ other differ.
-        ⊎_elim (λ (k : (bundle ≡ other) × (is_eq (bundle_cmp bundle other) ≡ true)).
+    all = λ other differ. ⊎_elim (λ (k : (bundle ≡ other) × (is_eq (bundle_cmp bundle other) ≡ true)).
         subst (λ (zs : List ℕ). Contains (c.bundle ∷ map (λ (d : PlainChange). d.bundle) changes) zs) (e ∙ k.0)
-        (Contains-head c.bundle (map (λ (d : PlainChange). d.bundle) changes)))
-        (λ (k : (bundle ≡ other → ⊥) × (is_eq (bundle_cmp bundle other) ≡ false)).
-        Contains-tail c.bundle (map (λ (d : PlainChange). d.bundle) changes) other (found_behind other k.0 differ))
-        (same_cases bundle other);
+        (Contains-head c.bundle (map (λ (d : PlainChange). d.bundle) changes))) (λ (k : (bundle ≡ other → ⊥) × (is_eq (bundle_cmp bundle other) ≡ false)).
+        Contains-tail c.bundle (map (λ (d : PlainChange). d.bundle) changes) other (found_behind other k.0 differ)) (same_cases bundle other);
   }
 
   pub past_same : price_on left bundle ≡ price_on right bundle → ArePriceChanges left right changes
-  past_same e = record {
-    in_order = found.in_order;
-    each = still_changes;
-    all = λ other differ.
-        ⊎_elim (λ (k : (bundle ≡ other) × (is_eq (bundle_cmp bundle other) ≡ true)).
-        absurd (differ (subst (λ (zs : List ℕ). price_on left zs ≡ price_on right zs) k.0 e)))
-        (λ (k : (bundle ≡ other → ⊥) × (is_eq (bundle_cmp bundle other) ≡ false)). found_behind other k.0 differ)
-        (same_cases bundle other);
-  }
+  past_same e = search (rules, still_changes, found_behind, same_cases)

@@ -1,7 +1,7 @@
 -- The dummy goods of the bidders that are in the canonical file. They are put in order by the points of their bidders first, so these
 -- points are the bidders of the canonical auction; none is there twice, and each is that of a bidder whose value is not zero.
-use Rattle.std.proofs.Common.{◌≡◌, ◌≢◌, ℕ, ◌+◌, ◌<◌, Bool, true, false, cond, List, [], ◌∷◌, length, map, get_or, eqb, refl, sym, ap, subst, arith}
-use Rattle.std.proofs.Common.{Ordering, Less, Equal, Greater}
+use Rattle.std.proofs.Common.{◌≡◌, ◌≢◌, ℕ, ◌+◌, ◌<◌, Bool, true, false, cond, List, [], ◌∷◌, length, map, get_or, eqb, refl, sym, ap, subst, arith, Ordering}
+use Rattle.std.proofs.Common.{Less, Equal, Greater, rules}
 use Rattle.std.specs.Prelude.{AllPairs, Contains}
 use Rattle.std.specs.Cmp.{IsTotalOrder}
 use Rattle.std.specs.List.{filter, range_with_len}
@@ -28,18 +28,12 @@ use Rattle.canon.specs.Canonical.{canonical_auction, points_of_bidders}
 use Rattle.canon.specs.Renaming.{points_of_dummy, dummy_cmp, kept_dummies}
 use Rattle.canon.specs.Lemmas.OrDifferences.{eqb_swap}
 use Rattle.std.proofs.lemmas.Grind.{common_steps}
-use Rattle.std.proofs.Common.{rules}
 
 -- ---- lists that are seen as others
 
 pub filter-map : {X Y : Type 0} (p : Y → Bool) (seen : X → Y) (xs : List X) → filter p (map seen xs) ≡ map seen (filter (λ x. p (seen x)) xs)
 filter-map p seen [] = refl
-filter-map {X} {Y} p seen (x ∷ xs) =
-    elim (p (seen x)) as (λ b. cond b (seen x ∷ filter p (map seen xs)) (filter p (map seen xs))
-    ≡ map seen (cond b (x ∷ filter (λ y. p (seen y)) xs) (filter (λ y. p (seen y)) xs))) [
-      | true ↦ ap (λ (zs : List Y). seen x ∷ zs) (filter-map p seen xs)
-      | false ↦ filter-map p seen xs
-    ]
+filter-map {X} {Y} p seen (x ∷ xs) = search (rules, (filter-map p seen xs))
 
 -- what is in order by what is seen of each element, is in order once it is seen
 pub map-sorted : {X Y : Type 0} (seen : X → Y) (lt : Y → Y → Bool) (xs : List X) → IsSortedBy (λ x y. lt (seen x) (seen y)) xs
@@ -94,15 +88,13 @@ points_of_kept_dummies f = search (rules, sort_by-map, dummy_cmp_total, bidder_c
 
 pub kept_dummies-below : (f : PlainFile) (d : ℕ) → Contains (kept_dummies f) d → (d < f.dummy) × (has_value f d ≡ true)
 kept_dummies-below f d c =
-    let there : Contains (nonzero_dummies f) d = Contains-permutation (kept_dummies f) (nonzero_dummies f) d
-    (IsPermutation-sym (nonzero_dummies f) (kept_dummies f) (permutation-sort_by (dummy_cmp f) (nonzero_dummies f))) c in
+    let there : Contains (nonzero_dummies f) d = search (rules, Contains-permutation, IsPermutation-sym, permutation-sort_by) in
     let parts = Contains-filter_parts (has_value f) (range_with_len 0 f.dummy) d there in
     (in_range f.dummy d parts.0, parts.1)
 
 pub kept_dummies-has : (f : PlainFile) (d : ℕ) → d < f.dummy → has_value f d ≡ true → Contains (kept_dummies f) d
-kept_dummies-has f d l e =
-    Contains-permutation (nonzero_dummies f) (kept_dummies f) d (permutation-sort_by (dummy_cmp f) (nonzero_dummies f))
-    (Contains-filter (has_value f) (range_with_len 0 f.dummy) d (range_contains f.dummy d l) e)
+kept_dummies-has f d l e = Contains-permutation (nonzero_dummies f) (kept_dummies f) d (permutation-sort_by (dummy_cmp f) (nonzero_dummies f))
+    (search (rules, Contains-filter, range_contains))
 
 -- ---- none is there twice
 

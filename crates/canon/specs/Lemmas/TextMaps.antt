@@ -1,5 +1,5 @@
 -- What a map from texts has, after a value was put there for a text: that value for it, and for each other text what it had.
-use Rattle.std.proofs.Common.{◌≡◌, ℕ, Bool, true, false, cond, bytes_eq, List, Some, sym, ◌∙◌, subst, ⊎_elim}
+use Rattle.std.proofs.Common.{◌≡◌, ℕ, Bool, true, false, cond, bytes_eq, List, Some, sym, ◌∙◌, subst, ⊎_elim, rules}
 use Rattle.std.specs.BTreeMap.{BTreeMap, UpdatesBy, get_by}
 use Rattle.std.specs.Cmp.Lexicographic.{bytes_decides, slice_cmp}
 use Rattle.std.specs.Map.{IsKeyTest, AreApart, KeepsOthers, lookup}
@@ -7,15 +7,13 @@ use Rattle.std.specs.Ordering.{is_eq, nat_cmp}
 use Rattle.std.proofs.lemmas.Bool.{cases_Bool, cond-true, cond-false}
 use Rattle.std.proofs.lemmas.Cmp.{nat_list_eq_equiv}
 use Rattle.std.proofs.lemmas.Map.Text.{is_eq-slice_cmp}
-use Rattle.std.proofs.Common.{rules}
 
 -- whether two texts are equal, by their order
 abbrev pub same_order : List ℕ → List ℕ → Bool
 same_order one other = is_eq (slice_cmp nat_cmp one other)
 
 same_test : (text one other : List ℕ) → same_order text one ≡ true → same_order text other ≡ same_order one other
-same_test text one other e =
-    is_eq-slice_cmp text other ∙ nat_list_eq_equiv.congr text one other (sym (is_eq-slice_cmp text one) ∙ e) ∙ sym (is_eq-slice_cmp one other)
+same_test text one other e = search (rules, is_eq-slice_cmp)
 
 apart_texts : (one other key : List ℕ) → bytes_eq one other ≡ false → same_order one key ≡ true → same_order other key ≡ false
 apart_texts one other key n e = search (rules, is_eq-slice_cmp)
@@ -34,13 +32,5 @@ module _ {K : Type 0} (seen : K → List ℕ) where
       → UpdatesBy (λ one other. slice_cmp nat_cmp (seen one) (seen other)) (λ key. slice_cmp nat_cmp text (seen key)) old new (Some value)
       → (other : List ℕ) → get_by (λ key. slice_cmp nat_cmp other (seen key)) new
       ≡ cond (bytes_eq text other) (Some value) (get_by (λ key. slice_cmp nat_cmp other (seen key)) old)
-  updated old new text value h other =
-      ⊎_elim
-      (λ (y : bytes_eq text other ≡ true).
-      subst (λ (t : List ℕ). get_by (λ key. slice_cmp nat_cmp t (seen key)) new ≡ Some value) ((bytes_decides text other).0 y) h.1
-      ∙ sym (cond-true (bytes_eq text other) (Some value) (get_by (λ key. slice_cmp nat_cmp other (seen key)) old) y))
-      (λ (n : bytes_eq text other ≡ false).
-      other_entries (λ key. same_order text (seen key)) old.entries new.entries h.3 (λ key. same_order other (seen key))
-      (λ x y. same_test other (seen x) (seen y)) (λ key. apart_texts text other (seen key) n)
-      ∙ sym (cond-false (bytes_eq text other) (Some value) (get_by (λ key. slice_cmp nat_cmp other (seen key)) old) n))
+  updated old new text value h other = ⊎_elim (search (rules, cond-true)) (search (rules, other_entries, same_test, apart_texts, cond-false))
       (cases_Bool (bytes_eq text other))
