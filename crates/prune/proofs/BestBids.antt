@@ -1,6 +1,6 @@
 -- Bids sorted by bundle and by falling price: the first on each bundle are the best.
-use Rattle.std.proofs.Common.{◌≡◌, ℕ, ◌+◌, ◌<◌, ◌≤◌, Bool, true, false, cond, ltb, ◌⊎◌, inl, inr, ⊎_elim, List, [], ◌∷◌, map, length, get_or, refl, sym, ap}
-use Rattle.std.proofs.Common.{ap₂, ◌∙◌, subst, arith, le_refl, Ordering, Less, Equal, Greater, is_lt, nat_cmp}
+use Rattle.std.proofs.Common.{rules, ◌≡◌, ℕ, ◌+◌, ◌<◌, ◌≤◌, Bool, true, false, cond, ltb, ◌⊎◌, inl, inr, ⊎_elim, List, [], ◌∷◌, map, length, get_or, refl, sym}
+use Rattle.std.proofs.Common.{ap, ap₂, ◌∙◌, subst, arith, le_refl, Ordering, Less, Equal, Greater, is_lt, nat_cmp}
 use Rattle.std.specs.Prelude.{AllPairs, Contains, IsPermutation}
 use Rattle.std.specs.Cmp.{IsTotalOrder}
 use Rattle.std.specs.List.{filter, dedup, dedup_from}
@@ -49,40 +49,16 @@ bundle_first Greater p e = refl
 
 -- of two bids on one bundle the one that does not come first has no greater price
 not_before_price : (a b : Atom (List ℕ)) → bundle_cmp a.bundle b.bundle ≡ Equal → is_bid_before a b ≡ false → a.price ≤ b.price
-not_before_price a b e n =
-    ⊎_elim (λ (l : b.price < a.price). let f : is_lt (ordering_then (bundle_cmp a.bundle b.bundle) (nat_cmp b.price a.price))
-    ≡ true = ap₂ (λ o p. is_lt (ordering_then o p)) e (nat_cmp-lt b.price a.price l) in absurd (both_ways (is_bid_before a b) n f))
-    (λ (l : a.price ≤ b.price). l) (cases_lt b.price a.price)
+not_before_price a b e n = search (rules, nat_cmp-lt, both_ways, cases_lt)
 
 equal_from_test : (a b : Atom (List ℕ)) → is_same_bundle a b ≡ true → bundle_cmp a.bundle b.bundle ≡ Equal
-equal_from_test a b t = at (bundle_cmp a.bundle b.bundle) t
-  where
-    at : (o : Ordering) → is_eq o ≡ true → o ≡ Equal
-    at Less e = absurd (cc)
-    at Equal e = refl
-    at Greater e = absurd (cc)
+equal_from_test a b t = search rules
 
 -- what does not come before a bid is inside its bundle only if the two are the same
 inside_is_same : (earlier later : Atom (List ℕ)) → (IsInside later.bundle earlier.bundle → (bundle_cmp later.bundle earlier.bundle ≡ Less)
     ⊎ (later.bundle ≡ earlier.bundle)) → is_bid_before later earlier ≡ false → is_in_bundle later earlier ≡ is_same_bundle later earlier
 inside_is_same earlier later ordered n =
-    elim (cases_Bool (is_in_bundle later earlier)) [
-      | inl i ↦
-          i
-          ∙ sym (⊎_elim
-          (λ (l : bundle_cmp later.bundle earlier.bundle ≡ Less).
-          let f : is_bid_before later earlier ≡ true = ap (λ o. is_lt (ordering_then o (nat_cmp earlier.price later.price))) l in
-          absurd (both_ways (is_bid_before later earlier) n f))
-          (λ (e : later.bundle ≡ earlier.bundle).
-          let f : is_same_bundle later earlier ≡ true = ap (λ zs. is_eq (bundle_cmp zs earlier.bundle)) e ∙ ap is_eq (bundle_cmp_refl earlier.bundle) in
-          f)
-          (ordered i))
-      | inr o ↦
-          o
-          ∙ sym (false_from_ne_true (is_same_bundle later earlier) (λ t.
-          let e : later.bundle ≡ earlier.bundle = bundle_cmp_equal later.bundle earlier.bundle (equal_from_test later earlier t) in
-          both_ways (is_in_bundle later earlier) o (subst (λ zs. IsInside zs earlier.bundle) (sym e) (inside_refl earlier.bundle))))
-    ]
+    search (rules, cases_Bool, both_ways, bundle_cmp_refl, false_from_ne_true, bundle_cmp_equal, equal_from_test, inside_refl)
 
 -- ---- what `dedup` keeps
 
@@ -185,13 +161,7 @@ module _ {X : Type 0} (seen : X → Atom (List ℕ)) where
   map-dedup_from : (same : Atom (List ℕ) → Atom (List ℕ) → Bool) (k : X) (xs : List X) → map seen (dedup_from (λ x y. same (seen x) (seen y)) k xs)
       ≡ dedup_from same (seen k) (map seen xs)
   map-dedup_from same k [] = refl
-  map-dedup_from same k (x ∷ xs) =
-      let same_seen : X → X → Bool = λ x y. same (seen x) (seen y) in
-      elim (same (seen x) (seen k)) as (λ b. map seen (cond b (dedup_from same_seen k xs) (k ∷ dedup_from same_seen x xs))
-      ≡ cond b (dedup_from same (seen k) (map seen xs)) (seen k ∷ dedup_from same (seen x) (map seen xs))) [
-        | true ↦ map-dedup_from same k xs
-        | false ↦ ap (λ (zs : List (Atom (List ℕ))). seen k ∷ zs) (map-dedup_from same x xs)
-      ]
+  map-dedup_from same k (x ∷ xs) = search (rules, (map-dedup_from same k xs), (map-dedup_from same x xs))
 
   map-dedup : (same : Atom (List ℕ) → Atom (List ℕ) → Bool) (xs : List X) → map seen (dedup (λ x y. same (seen x) (seen y)) xs) ≡ dedup same (map seen xs)
   map-dedup same [] = refl

@@ -1,18 +1,16 @@
 -- Atoms are found through the goods of a bundle: each atom inside it is listed at one of its goods, which is a good of the bundle.
 -- The indices found, sorted, are those of the atoms inside the bundle, since no index is listed twice.
-use Rattle.std.proofs.Common.{◌≡◌, ◌≢◌, ℕ, zero, suc, ◌+◌, ◌<◌, ◌≤◌, Bool, true, false, cond, leb, take, append_assoc}
-use Rattle.std.proofs.Common.{eqb, ◌⊎◌, inl, inr, ⊎_elim, List, [], ◌∷◌, ◌++◌, length, map, get_or, refl, sym, ap, ◌∙◌, subst, subst₂, arith, Some, None}
-use Rattle.std.proofs.Common.{nat_cmp, Less, Greater}
+use Rattle.std.proofs.Common.{rules, ◌≡◌, ◌≢◌, ℕ, zero, suc, ◌+◌, ◌<◌, ◌≤◌, Bool, true, false, cond, leb, take, append_assoc, eqb, ◌⊎◌, inl, inr, ⊎_elim, List}
+use Rattle.std.proofs.Common.{[], ◌∷◌, ◌++◌, length, map, get_or, refl, sym, ap, ◌∙◌, subst, subst₂, arith, Some, None, nat_cmp, Less, Greater}
 use Rattle.std.specs.Prelude.{All, AllPairs, Contains, IsPermutation}
 use Rattle.std.specs.List.{filter, range_with_len, slice_get}
 use Rattle.std.specs.List.Sorted.{IsSorted}
-use Rattle.std.proofs.lemmas.Bool.{cases_lt, cases_eq, both_ways, and_parts, and_from, and_right, false_from_ne_true}
-use Rattle.std.proofs.lemmas.Bool.{eqb-true, eq-eqb, le-leb, lt-leb}
+use Rattle.std.proofs.lemmas.Bool.{cases_lt, cases_eq, both_ways, and_parts, and_from, and_right, false_from_ne_true, eqb-true, eq-eqb, le-leb, lt-leb}
 use Rattle.std.specs.Cmp.{both_ways as same_test}
 use Rattle.std.proofs.lemmas.Bool.Decides.{Decides-eqb}
 use Rattle.std.proofs.lemmas.List.{map_push, get_or-map, get_or_append_left, get_or_push, length-map, length_push}
-use Rattle.std.proofs.lemmas.List.Elements.{filter_more, Contains-get_or, All-append, All-contains, All-filter, All-weaker, Contains-append_left}
-use Rattle.std.proofs.lemmas.List.Elements.{Contains-append_right, Contains-push_cases, Contains-push}
+use Rattle.std.proofs.lemmas.List.Elements.{filter_more, Contains-get_or, All-append, All-contains, All-filter, All-weaker, Contains-append_left, Contains-push}
+use Rattle.std.proofs.lemmas.List.Elements.{Contains-append_right, Contains-push_cases}
 use Rattle.std.proofs.lemmas.Option.{slice_get-get_or, slice_get_past}
 use Rattle.std.proofs.lemmas.List.FromFn.{fill_by_all}
 use Rattle.std.proofs.lemmas.List.Kept.{AllPairs-from_increasing, AllPairs-filter}
@@ -31,9 +29,9 @@ use Rattle.valuation.specs.declared.atom.Atom.{Atom}
 use Rattle.valuation.specs.Lemmas.Lists.{AllPairs-head, AllPairs-tail, AllPairs-append, Contains-map, Contains-unmap}
 use Rattle.prune.specs.declared.subset_index.Posting.{Posting}
 use Rattle.prune.specs.InOrder.{IsInOrder}
-use Rattle.prune.specs.Internal.Listings.{listed_at, indices_at, is_inside_at, dominates_at, IsListed, IsPosting, AreListed}
+use Rattle.prune.specs.Internal.Listings.{listed_at, indices_at, is_inside_at, dominates_at, IsListed, IsPosting, AreListed, AreGoodsOf, IsBehind}
 use Rattle.valuation.specs.Packings.{atom_at}
-use Rattle.prune.specs.Internal.Listings.{AreGoodsOf, IsBehind, NoneInsideFrom}
+use Rattle.prune.specs.Internal.Listings.{NoneInsideFrom}
 use Rattle.prune.specs.Lemmas.InOrder.{before_itself}
 use Rattle.prune.specs.Lemmas.Lists.{map-filter, Contains-head, Contains-tail, Contains-filter, Contains-filter_parts, All-from_Contains}
 use Rattle.prune.specs.Lemmas.KeptBids.{has_from_Contains}
@@ -56,8 +54,7 @@ index_within lists listed atoms good index a c = let r = posting_at lists listed
 
 pub Contains_from_has : (xs : List ℕ) (g : ℕ) → has_good xs g ≡ true → Contains xs g
 Contains_from_has [] g h = absurd (both_ways false refl h)
-Contains_from_has (x ∷ xs) g h =
-    ⊎_elim (λ (e : x ≡ g). subst (λ n. Contains (x ∷ xs) n) e (Contains-head x xs))
+Contains_from_has (x ∷ xs) g h = ⊎_elim (search (rules, Contains-head))
     (λ (k : has_good xs g ≡ true). Contains-tail x xs g (Contains_from_has xs g k)) (has_cases x xs g h)
 
 rising_from_pairs : (xs : List ℕ) → AllPairs (λ i j. i < j) xs → IsRising xs
@@ -144,35 +141,24 @@ pub next_behind : (xs : List ℕ) (i : ℕ) → IsRising xs → i ≤ length xs 
 next_behind [] i r l = refl
 next_behind (x ∷ xs) zero r l = rw (le-leb 0 x (omega arith)) refl
 next_behind (x ∷ xs) (suc zero) r l = rw (lt-leb (x + 1) x (omega arith)) (next_above x xs r.0)
-next_behind (x ∷ xs) (suc (suc i)) r l =
-    let up : x < get_or xs i 0 = above_at x xs i r.0 (omega arith) in
-    rw (lt-leb (get_or xs i 0 + 1) x (omega arith)) (next_behind xs (suc i) r.1 (omega arith))
+next_behind (x ∷ xs) (suc (suc i)) r l = search (rules, above_at, lt-leb, (next_behind xs (suc i) r.1 (omega arith)))
 
 -- the same of goods that are those of a bundle
 pub next_there : (goods bundle : List ℕ) (i : ℕ) → goods ≡ bundle → IsRising bundle → i < length goods
     → good_from bundle (behind_first bundle i) ≡ Some (get_or goods i 0)
-next_there goods bundle i e r l =
-    let long = ap length e in
-    next_behind bundle i r (omega (arith, long)) ∙ slice_get-get_or bundle i 0 (omega (arith, long)) ∙ ap (λ (xs : List ℕ). Some (get_or xs i 0)) (sym e)
+next_there goods bundle i e r l = search (rules, next_behind, slice_get-get_or)
 
 pub none_there : (goods bundle : List ℕ) (i : ℕ) → goods ≡ bundle → IsRising bundle → i ≤ length goods → length goods ≤ i
     → good_from bundle (behind_first bundle i) ≡ None
-none_there goods bundle i e r l m =
-    let long = ap length e in
-    next_behind bundle i r (omega (arith, long)) ∙ slice_get_past bundle i (omega (arith, long))
+none_there goods bundle i e r l m = search (rules, next_behind, slice_get_past)
 
 pub behind_next : (goods bundle : List ℕ) (i : ℕ) → goods ≡ bundle → get_or goods i 0 + 1 ≡ behind_first bundle (i + 1)
-behind_next goods bundle i e =
-    let next : suc i ≡ i + 1 = omega arith in
-    ap (λ (xs : List ℕ). get_or xs i 0 + 1) e ∙ ap (behind_first bundle) next
+behind_next goods bundle i e = search rules
 
 -- an atom inside the bundle is listed
 pub is_listed : (listed : ℕ) (atoms : List (Atom (List ℕ))) (bundle : List ℕ) → NoneInsideFrom listed atoms bundle → (index : ℕ) → index < length atoms
     → is_inside_at atoms bundle index ≡ true → index < listed
-is_listed listed atoms bundle unlisted index l t =
-    ⊎_elim (λ (m : index < listed). m)
-    (λ (m : listed ≤ index). absurd (both_ways (is_inside_at atoms bundle index) (unlisted index m l) t))
-    (cases_lt index listed)
+is_listed listed atoms bundle unlisted index l t = search (rules, both_ways, cases_lt)
 
 -- the good at which an atom inside the bundle is listed has been visited
 pub listed_before : (lists : List (List Posting)) (listed : ℕ) (atoms : List (Atom (List ℕ))) (bundle : List ℕ) (from index : ℕ) → AreListed lists listed atoms
@@ -265,22 +251,7 @@ AreListed-push lists listed atoms a h =
 -- of one more atom
 pub AreGoodsOf-push : (goods : List ℕ) (atoms : List (Atom (List ℕ))) (good : ℕ) (a : Atom (List ℕ)) → has_good a.bundle good ≡ true → AreGoodsOf goods atoms
     → AreGoodsOf (goods ++ good ∷ []) (atoms ++ a ∷ [])
-AreGoodsOf-push goods atoms good a has h =
-    let d : Atom (List ℕ) = record { bundle = []; price = 0 } in
-    let long = h.long in
-    let more = length_push goods good in
-    let longer = length_push atoms a in
-    record {
-      long = omega arith;
-      each = λ index l.
-          ⊎_elim
-          (λ (m : index < length atoms). subst₂ (λ (b : Atom (List ℕ)) (n : ℕ). has_good b.bundle n ≡ true) (sym (get_or_append_left atoms (a ∷ []) d index m))
-          (sym (get_or_append_left goods (good ∷ []) 0 index (omega arith))) (h.each index m))
-          (λ (m : length atoms ≤ index).
-          subst₂ (λ (b : Atom (List ℕ)) (n : ℕ). has_good b.bundle n ≡ true) (sym (get_or_push atoms a d index (omega arith)))
-          (sym (get_or_push goods good 0 index (omega arith))) has)
-          (cases_lt index (length atoms));
-    }
+AreGoodsOf-push goods atoms good a has h = search (rules, length_push, get_or_append_left, get_or_push, cases_lt)
 
 -- ---- one more atom is listed
 
@@ -370,36 +341,13 @@ pub none_inside : (from : ℕ) (atoms : List (Atom (List ℕ))) (bundle : List �
     → IsBehind bundle atoms → (from < length atoms → length bundle ≤ length (atom_at atoms from).bundle)
     → NoneInsideFrom from atoms bundle
 none_inside from atoms bundle rising r order before large index behind within =
-    let d : Atom (List ℕ) = record { bundle = []; price = 0 } in
-    let x = atom_at atoms index in
-    let y = atom_at atoms from in
-    let least : length bundle ≤ length y.bundle = large (omega arith) in
-    let larger : length y.bundle ≤ length x.bundle =
-    ⊎_elim (λ (e : from ≡ index). subst (λ n. length y.bundle ≤ length (atom_at atoms n).bundle) e (omega arith))
-    (λ (n : from ≡ index → ⊥). no_smaller y.bundle x.bundle (order from index d (apart from index behind n) within))
-    (cases_eq from index) in
-    false_from_ne_true (is_inside x.bundle bundle) (λ i.
-    let fits = length_inside x.bundle bundle (rising index d within) r i in
-    let same = same_from_length x.bundle bundle (rising index d within) r i (omega (arith, fits, larger, least)) in
-    before_itself bundle (subst (λ zs. bundle_cmp zs bundle ≡ Less) same (before index d within)))
-  where
-    apart : (m n : ℕ) → m ≤ n → (m ≡ n → ⊥) → m < n
-    apart m n l e = ⊎_elim (λ (k : m < n). k) (λ (k : n ≤ m). absurd (e (omega arith))) (cases_lt m n)
-
-    no_smaller : (xs ys : List ℕ) → bundle_cmp xs ys ≡ Less → length xs ≤ length ys
-    no_smaller xs ys l =
-        ⊎_elim (λ (k : length ys < length xs). let g = larger_last xs ys k in let e : Less ≡ Greater = sym l ∙ g in cc)
-        (λ (k : length xs ≤ length ys). k)
-        (cases_lt (length ys) (length xs))
+    search (rules, cases_eq, false_from_ne_true, length_inside, same_from_length, before_itself, cases_lt, larger_last)
 
 -- ---- the indices found so far at one good
 
 pub found_more : (p : ℕ → Bool) (old found more xs : List ℕ) (i index : ℕ) → i < length xs → get_or xs i 0 ≡ index → found ≡ old ++ filter p (take i xs)
     → more ≡ found ++ cond (p index) (index ∷ []) [] → more ≡ old ++ filter p (take (i + 1) xs)
-found_more p old found more xs i index l is e f =
-    f ∙ ap (λ n. found ++ cond (p n) (n ∷ []) []) (sym is) ∙ ap (λ (zs : List ℕ). zs ++ cond (p (get_or xs i 0)) (get_or xs i 0 ∷ []) []) e
-    ∙ append_assoc old (filter p (take i xs)) (cond (p (get_or xs i 0)) (get_or xs i 0 ∷ []) [])
-    ∙ ap (λ (zs : List ℕ). old ++ zs) (sym (filter_more p xs i 0 l))
+found_more p old found more xs i index l is e f = search (rules, append_assoc, filter_more)
 
 -- the bundle that is read at an index
 pub bundle_there : {S : Type 0} (goods : S → List ℕ) (atoms : List (Atom S)) (i : ℕ) (a : Atom S) → a ≡ get_or atoms i a

@@ -1,7 +1,7 @@
 -- The marks of goods: one more for each good, and what a mark that is missing says.
-use Rattle.std.proofs.Common.{◌≡◌, ◌≢◌, ℕ, ◌+◌, ◌*◌, ◌/◌, ◌%◌, ◌-◌, ◌^◌, ◌<◌, ◌≤◌, min, Bool, true, false, eqb, ltb, cond, ◌⊎◌, inl, inr, ⊎_elim, List, [], ◌∷◌}
-use Rattle.std.proofs.Common.{◌++◌, length, get_or, take, refl, sym, ap, ◌∙◌, subst}
-use Rattle.std.proofs.Common.{arith}
+use Rattle.std.proofs.Common.{rules, ◌≡◌, ◌≢◌, ℕ, ◌+◌, ◌*◌, ◌/◌, ◌%◌, ◌-◌, ◌^◌, ◌<◌, ◌≤◌, min, Bool, true, false, eqb, ltb, cond, ◌⊎◌, inl, inr, ⊎_elim, List}
+use Rattle.std.proofs.lemmas.Grind.{common_steps}
+use Rattle.std.proofs.Common.{[], ◌∷◌, ◌++◌, length, get_or, take, refl, sym, ap, ◌∙◌, subst, arith}
 use Rattle.std.specs.Int.{bit_at, bit_not, trailing_zeros, w128}
 use Rattle.std.specs.Int.RustNames.{bit_and, bit_or}
 use Rattle.std.proofs.lemmas.Bool.{cases_eq, eq-eqb, both_ways}
@@ -20,9 +20,7 @@ one_of false true x y z l m n = m
 one_of false false x y z l m n = n
 
 pub mark_below : (good : ℕ) → mark_of good < 128
-mark_below good =
-    let spread : ℕ = mixed good / 1024 in
-    one_of (eqb (mixed good / 16 % 64) 0) (ltb (mixed good / 16 % 64) 8) (96 + spread % 32) (64 + spread % 32) spread (omega arith) (omega arith) (omega arith)
+mark_below good = search (rules, one_of)
 
 -- ---- one good more
 
@@ -35,14 +33,12 @@ has_last (y ∷ ys) x = has_tail y (ys ++ x ∷ []) x (has_last ys x)
 
 has_before : (xs : List ℕ) (x g : ℕ) → has_good xs g ≡ true → has_good (xs ++ x ∷ []) g ≡ true
 has_before [] x g h = absurd (both_ways false refl h)
-has_before (y ∷ ys) x g h =
-    ⊎_elim (λ (e : y ≡ g). subst (λ n. has_good (y ∷ (ys ++ x ∷ [])) n ≡ true) e (has_head y (ys ++ x ∷ [])))
+has_before (y ∷ ys) x g h = ⊎_elim (search (rules, has_head))
     (λ (k : has_good ys g ≡ true). has_tail y (ys ++ x ∷ []) g (has_before ys x g k)) (has_cases y ys g h)
 
 last_cases : (xs : List ℕ) (x g : ℕ) → has_good (xs ++ x ∷ []) g ≡ true → (x ≡ g) ⊎ (has_good xs g ≡ true)
 last_cases [] x g h = has_cases x [] g h
-last_cases (y ∷ ys) x g h =
-    ⊎_elim (λ (e : y ≡ g). inr (subst (λ n. has_good (y ∷ ys) n ≡ true) e (has_head y ys)))
+last_cases (y ∷ ys) x g h = ⊎_elim (search (rules, has_head))
     (λ (k : has_good (ys ++ x ∷ []) g ≡ true). ⊎_elim (λ (e : x ≡ g). inl e) (λ (m : has_good ys g ≡ true). inr (has_tail y ys g m)) (last_cases ys x g k))
     (has_cases y (ys ++ x ∷ []) g h)
 
@@ -72,9 +68,7 @@ one_more bits x xs old = record { each = each; only = only }
 -- the turn of the loop
 pub marks_more : (bits mark : ℕ) (xs : List ℕ) (i : ℕ) → i < length xs → mark ≡ mark_of (get_or xs i 0) → AreMarks (take i xs) bits
     → AreMarks (take (i + 1) xs) (bit_or bits (1 * 2 ^ mark % 2 ^ 128))
-marks_more bits mark xs i l e old =
-    subst (λ (ys : List ℕ). AreMarks ys (bit_or bits (1 * 2 ^ mark % 2 ^ 128))) (sym (take_more xs i 0 l))
-    (subst (λ m. AreMarks (take i xs ++ get_or xs i 0 ∷ []) (bit_or bits (1 * 2 ^ m % 2 ^ 128))) (sym e) (one_more bits (get_or xs i 0) (take i xs) old))
+marks_more bits mark xs i l e old = grind (arith, common_steps, take_more, one_more)
 
 -- ---- the test `marks & !others == 0`
 

@@ -1,12 +1,11 @@
 -- What becomes of best bids along a pruning's loop. Later points are not below earlier bids, so what was noted by the points so far is right by all
 -- points; and what a turn finds is what becomes of its bid.
-use Rattle.std.proofs.Common.{◌≡◌, ℕ, true, false, leb, List, [], ◌∷◌, ◌++◌, length, map, refl, sym, ap, ◌∙◌, subst, Some, None}
+use Rattle.std.proofs.Common.{rules, ◌≡◌, ℕ, true, false, leb, List, [], ◌∷◌, ◌++◌, length, map, refl, sym, ap, ◌∙◌, subst, Some, None, ◌≤◌, take, ap₂}
 use Rattle.std.specs.Prelude.{All, Contains, Option, IfSome, is_some}
 use Rattle.std.specs.Global.{Vec}
 use Rattle.std.specs.List.{find, range_with_len}
 use Rattle.std.proofs.lemmas.List.{map_push, take_all}
 use Rattle.std.proofs.lemmas.Simd.{map-map}
-use Rattle.std.proofs.Common.{◌≤◌, take}
 use Rattle.std.proofs.lemmas.List.Elements.{All-contains, All-push}
 use Rattle.valuation.specs.declared.atom.Atom.{Atom}
 use Rattle.valuation.specs.declared.search.kind.SearchKind.{SearchKind}
@@ -17,7 +16,7 @@ use Rattle.prune.specs.Internal.Listings.{is_inside_at, first_dominating_index}
 use Rattle.valuation.specs.Packings.{atom_at, atoms_inside}
 use Rattle.prune.specs.Internal.Reaching.{found_inside, indices_inside}
 use Rattle.prune.specs.Lemmas.Fates.{or_fate-push, xor_fate-push}
-use Rattle.prune.specs.Lemmas.Lists.{All-from_Contains, filter_same_on, find_filter, map_same_on, Contains-head}
+use Rattle.prune.specs.Lemmas.Lists.{All-from_Contains, filter_same_on, find_filter, map_same_on, Contains-head, Contains-tail}
 use Rattle.prune.specs.Lemmas.OnBundles.{IsOnBundle}
 use Rattle.prune.specs.Lemmas.Ranges.{in_range}
 use Rattle.prune.specs.SearchSteps.{atoms_below, greatest_price, is_below}
@@ -25,8 +24,6 @@ use Rattle.prune.specs.InOrder.{IsBefore}
 use Rattle.prune.proofs.Pruning.{HasRisingBundle, later_not_below, not_below_itself, rising_prefix}
 use Rattle.prune.proofs.Refusals.{best_searched}
 use Rattle.prune.proofs.Results.{IsTurn, best_price, turn_before, turn_below, turn_inside, turn_rising}
-use Rattle.std.proofs.Common.{ap₂}
-use Rattle.prune.specs.Lemmas.Lists.{Contains-tail}
 
 -- ---- one bid more
 
@@ -112,9 +109,7 @@ module _ (bids done : List (Atom (List ℕ))) (x : Atom (List ℕ)) (rest kept :
 -- ---- all bids are done
 
 pub best_bids_are : (goods : ℕ) (bids best : List (Atom (List ℕ))) → All (IsOnBundle goods) bids → AreBestBids bids best → best ≡ best_bids goods bids
-best_bids_are goods bids best on b =
-    sym (map_same best (λ a c. best_price bids best b a c))
-    ∙ sym (map-map (λ (bundle : List ℕ). record { bundle = bundle; price = greatest_price bids bundle }) (λ (a : Atom (List ℕ)). a.bundle) best)
+best_bids_are goods bids best on b = sym (map_same best (λ a c. best_price bids best b a c)) ∙ sym (search (rules, map-map))
     ∙ ap (map (λ (bundle : List ℕ). record { bundle = bundle; price = greatest_price bids bundle })) (best_searched goods bids best on b)
   where
     map_same : (atoms : List (Atom (List ℕ))) → ((a : Atom (List ℕ)) → Contains atoms a → greatest_price bids a.bundle ≡ a.price)

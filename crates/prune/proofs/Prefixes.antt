@@ -1,6 +1,7 @@
 -- What is kept of a list is its prefix: an element that is kept is swapped behind those kept so far, and what is behind it
 -- is as it was.
-use Rattle.std.proofs.Common.{◌≡◌, ℕ, ◌+◌, ◌<◌, ◌≤◌, List, [], ◌∷◌, ◌++◌, length, get_or, take, drop, set, refl, sym, ap, ◌∙◌, arith}
+use Rattle.std.proofs.Common.{rules, ◌≡◌, ℕ, ◌+◌, ◌<◌, ◌≤◌, List, [], ◌∷◌, ◌++◌, length, get_or, take, drop, set, refl, sym, ap, ◌∙◌, arith}
+use Rattle.std.proofs.lemmas.Grind.{common_steps}
 use Rattle.std.specs.List.{swap}
 use Rattle.std.proofs.lemmas.List.{take-set-le, take_more, take_more_set, drop-set-lt, drop_more, take-append-drop}
 use Rattle.std.proofs.lemmas.List.Edits.{swap_is}
@@ -9,23 +10,12 @@ use Rattle.std.proofs.lemmas.List.Edits.{swap_is}
 
 pub swap-prefix : {X : Type 0} (xs : List X) (prefix index : ℕ) (d : X) → prefix ≤ index → (prefix ≡ index → ⊥) → index < length xs
     → take (prefix + 1) (swap xs prefix index) ≡ take prefix xs ++ get_or xs index d ∷ []
-swap-prefix xs prefix index d before apart there =
-    let below : prefix < index = omega arith in
-    let x = get_or xs index d in
-    sym (ap (take (prefix + 1)) (swap_is xs prefix index d (omega arith) there))
-    ∙ take-set-le (prefix + 1) (set xs prefix x) index (get_or xs prefix d) (omega arith)
-    ∙ take_more_set xs prefix x (omega arith)
+swap-prefix xs prefix index d before apart there = grind (arith, common_steps, swap_is, take-set-le, take_more_set)
 
 pub swap-rest : {X : Type 0} (xs : List X) (prefix index : ℕ) → prefix ≤ index → (prefix ≡ index → ⊥) → index < length xs
     → drop (index + 1) (swap xs prefix index) ≡ drop (index + 1) xs
 swap-rest [] prefix index before apart there = refl
-swap-rest {X} (d ∷ ys) prefix index before apart there =
-    let xs : List X = d ∷ ys in
-    let below : prefix < index = omega arith in
-    let x = get_or xs index d in
-    sym (ap (drop (index + 1)) (swap_is xs prefix index d (omega arith) there))
-    ∙ drop-set-lt (index + 1) (set xs prefix x) index (get_or xs prefix d) (omega arith)
-    ∙ drop-set-lt (index + 1) xs prefix x (omega arith)
+swap-rest {X} (d ∷ ys) prefix index before apart there = search (rules, swap_is, drop-set-lt)
 
 -- ---- a list that is visited in order
 

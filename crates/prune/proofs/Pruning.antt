@@ -1,12 +1,13 @@
 -- What a pruning keeps of bids in order of bundles: a bid is kept if the kept bids below its bundle do not reach
 -- its price. The idea: a later bid is below no earlier one, so what was decided stays right, and a pruning that is broken off
 -- could be completed without a change below the bundles that it saw.
-use Rattle.std.proofs.Common.{◌≡◌, ℕ, ◌<◌, ◌≤◌, Bool, true, false, not, ◌&&◌, ⊎_elim, List, [], ◌∷◌, ◌++◌, refl, sym, ap, ◌∙◌, subst, le_trans, append_assoc}
+use Rattle.std.proofs.Common.{rules, ◌≡◌, ℕ, ◌<◌, ◌≤◌, Bool, true, false, not, ◌&&◌, ⊎_elim, List, [], ◌∷◌, ◌++◌, refl, sym, ap, ◌∙◌, subst, le_trans}
+use Rattle.std.proofs.Common.{append_assoc}
 use Rattle.std.specs.Prelude.{All, Contains}
 use Rattle.std.specs.List.{filter}
 use Rattle.std.proofs.lemmas.Bool.{cases_lt, and_left, and_right, false_from_ne_true, not_from_true}
-use Rattle.std.proofs.lemmas.List.Elements.{All-nil, All-cons, All-head, All-tail, All-push, All-contains, All-weaker, Contains-append_left}
-use Rattle.std.proofs.lemmas.List.Elements.{Contains-append_right, Contains-push}
+use Rattle.std.proofs.lemmas.List.Elements.{All-nil, All-cons, All-head, All-tail, All-push, All-contains, All-weaker, Contains-append_left, Contains-push}
+use Rattle.std.proofs.lemmas.List.Elements.{Contains-append_right}
 use Rattle.std.proofs.lemmas.List.Quantifiers.{all_pairs_push}
 use Rattle.goods_set.specs.Bundles.{IsRising, is_inside, IsInside}
 use Rattle.goods_set.specs.Lemmas.Members.{inside_refl}
@@ -53,21 +54,12 @@ not_below_itself xs = and_right (is_inside xs xs) (not (is_inside xs xs)) (not_f
 
 pub later_not_below : (earlier later : Atom (List ℕ)) → HasRisingBundle earlier → HasRisingBundle later → IsBefore earlier later
     → is_below later.bundle earlier.bundle ≡ false
-later_not_below earlier later r s l = and_left (is_inside later.bundle earlier.bundle) (not (is_inside earlier.bundle later.bundle))
-    (false_from_ne_true (is_inside later.bundle earlier.bundle) (λ i. before_not_inside earlier.bundle later.bundle r s l i))
+later_not_below earlier later r s l = search (rules, and_left, false_from_ne_true, before_not_inside)
 
 -- earlier atoms are inside the bundle if they are below it
 pub inside_below : (kept : List (Atom (List ℕ))) (x : Atom (List ℕ)) → All HasRisingBundle kept → HasRisingBundle x → All (λ a. IsBefore a x) kept
     → All (λ a. is_inside a.bundle x.bundle ≡ is_below a.bundle x.bundle) kept
-inside_below kept x rising r before =
-    All-from_Contains (λ a. is_inside a.bundle x.bundle ≡ is_below a.bundle x.bundle) kept (λ a c.
-    same (is_inside a.bundle x.bundle) (is_inside x.bundle a.bundle)
-    (false_from_ne_true (is_inside x.bundle a.bundle) (λ i. before_not_inside a.bundle x.bundle (All-contains HasRisingBundle kept a rising c) r
-    (All-contains (λ a. IsBefore a x) kept a before c) i)))
-  where
-    same : (b c : Bool) → c ≡ false → b ≡ (b && not c)
-    same true c e = sym (simp e)
-    same false c e = refl
+inside_below kept x rising r before = search (rules, All-from_Contains, false_from_ne_true, before_not_inside, All-contains)
 
 -- ---- the pruning by a value
 

@@ -1,7 +1,7 @@
 -- The turns of a pruning's loop, by what the code knows of its variables: each is one of proofs/Results, once the code's lists are seen
 -- by the goods of their sets.
-use Rattle.std.proofs.Common.{◌≡◌, ℕ, ◌+◌, ◌<◌, ◌≤◌, ◌||◌, leb, ⊎_elim, List, [], ◌∷◌, ◌++◌, length, take, drop, max, get_or}
-use Rattle.std.proofs.Common.{sym, ap, ◌∙◌, subst, arith}
+use Rattle.std.proofs.Common.{rules, ◌≡◌, ℕ, ◌+◌, ◌<◌, ◌≤◌, ◌||◌, leb, ⊎_elim, List, [], ◌∷◌, ◌++◌, length, take, drop, max, get_or, sym, ap, ◌∙◌, subst, arith}
+use Rattle.std.proofs.lemmas.Grind.{common_steps}
 use Rattle.std.specs.Prelude.{All}
 use Rattle.std.specs.List.{list_any}
 use Rattle.std.proofs.lemmas.Bool.{cases_lt, le-leb, lt-leb}
@@ -16,8 +16,7 @@ use Rattle.prune.specs.Lemmas.Lists.{list_any_filter}
 use Rattle.prune.specs.Internal.Listings.{dominates}
 use Rattle.prune.specs.Internal.BestBids.{AreBestBids}
 use Rattle.prune.proofs.Pruning.{HasRisingBundle}
-use Rattle.prune.proofs.Results.{IsTurn, IsXorKept, IsOrKept, AreXorPoints, AreOrPoints, xor_done}
-use Rattle.prune.proofs.Results.{or_done}
+use Rattle.prune.proofs.Results.{IsTurn, IsXorKept, IsOrKept, AreXorPoints, AreOrPoints, xor_done, or_done}
 use Rattle.prune.proofs.Prefixes.{IsLeft, next_parts, next_taken, next_drop}
 use Rattle.valuation.specs.Packings.{atoms_inside}
 
@@ -35,24 +34,18 @@ module _ {S : Type 0} (goods : S → List ℕ) (rising : (s : S) → IsRising (g
   next_turn bids best now index bid b h l is =
       let parts : atoms_of goods best ≡ atoms_of goods (take index best) ++ plain_atom goods bid ∷ atoms_of goods (drop (index + 1) best) =
       ap (atoms_of goods) (next_parts best now index bid h l is) ∙ map-append (plain_atom goods) (take index best) (bid ∷ drop (index + 1) best) in
-      record {
-        best = subst (λ (zs : List (Atom (List ℕ))). AreBestBids bids zs) parts b;
-        rising = subst (λ (zs : List (Atom (List ℕ))). All HasRisingBundle zs) parts (all_rising best);
-      }
+      search (rules, All, HasRisingBundle, all_rising)
 
 -- the next bid is done
 pub one_done : {S : Type 0} (goods : S → List ℕ) (best now : List (Atom S)) (index : ℕ) (bid : Atom S) → IsLeft best now index → index < length now
     → bid ≡ get_or now index bid → atoms_of goods (take (index + 1) best) ≡ atoms_of goods (take index best) ++ plain_atom goods bid ∷ []
-one_done goods best now index bid h l is =
-    ap (atoms_of goods) (next_taken best now index bid h l is) ∙ map_push (plain_atom goods) (take index best) bid
+one_done goods best now index bid h l is = grind (arith, common_steps, next_taken, map_push)
 
 -- and it is kept
 pub one_kept : {S : Type 0} (goods : S → List ℕ) (now after : List (Atom S)) (kept index : ℕ) (bid : Atom S) → bid ≡ get_or now index bid
     → ((d : Atom S) → take (kept + 1) after ≡ take kept now ++ get_or now index d ∷ [])
     → atoms_of goods (take (kept + 1) after) ≡ atoms_of goods (take kept now) ++ plain_atom goods bid ∷ []
-one_kept {S} goods now after kept index bid is e =
-    ap (atoms_of goods) (e bid) ∙ map_push (plain_atom goods) (take kept now) (get_or now index bid)
-    ∙ ap (λ (a : Atom S). atoms_of goods (take kept now) ++ plain_atom goods a ∷ []) (sym is)
+one_kept {S} goods now after kept index bid is e = search (rules, map_push)
 
 -- ---- the loop's end
 
@@ -76,19 +69,7 @@ price_reached : (price : ℕ) → 0 < price → (bundle : List ℕ) (atoms : Lis
     → list_any (λ a. leb price a.price) atoms ≡ leb price (xor_value atoms bundle)
 price_reached price l bundle [] h = sym (ap (leb price) (xor_value-nil bundle) ∙ lt-leb price 0 l)
 price_reached price l bundle (a ∷ rest) h =
-    let e = xor_value-inside a rest bundle (All-head (λ a. IsInside a.bundle bundle) a rest h) in
-    ap (λ b. leb price a.price || b) (price_reached price l bundle rest (All-tail (λ a. IsInside a.bundle bundle) a rest h))
-    ∙ either (xor_value rest bundle) a.price ∙ sym (ap (leb price) e)
-  where
-    either : (m n : ℕ) → (leb price n || leb price m) ≡ leb price (max m n)
-    either m n =
-        ⊎_elim
-        (λ (p : n < price). ⊎_elim
-        (λ (q : m < price). let t = lt-leb price n p in let u = lt-leb price m q in let v = lt-leb price (max m n) (omega arith) in simp (t, u, v))
-        (λ (q : price ≤ m). let t = lt-leb price n p in let u = le-leb price m q in let v = le-leb price (max m n) (omega arith) in simp (t, u, v))
-        (cases_lt m price))
-        (λ (p : price ≤ n). let t = le-leb price n p in let v = le-leb price (max m n) (omega arith) in simp (t, v))
-        (cases_lt n price)
+    search (rules, xor_value-inside, All-head, All-tail, lt-leb, le-leb, cases_lt, (price_reached price l bundle rest (All-tail (λ a. IsInside a.bundle bundle) a rest h)))
 
 -- whether a kept atom inside the bundle has the price
 pub dominates_is : (price : ℕ) (bundle : List ℕ) (kept : List (Atom (List ℕ))) → 0 < price

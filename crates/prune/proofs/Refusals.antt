@@ -1,6 +1,7 @@
 -- The limits along a pruning's loop. The best bids are those of the searched bundles, one on each, in order; the search for a best bid among the points so
 -- far takes the steps that the definition says; so what is left of the limits decides on the bids that are left as the first limits do on all.
-use Rattle.std.proofs.Common.{◌≡◌, ℕ, ◌+◌, ◌<◌, false, true, ltb, ⊎_elim, List, [], ◌∷◌, ◌++◌, map, refl, sym, ap, ap₂, ◌∙◌, subst, arith, Some, None, Less}
+use Rattle.std.proofs.Common.{rules, ◌≡◌, ℕ, ◌+◌, ◌<◌, false, true, ltb, ⊎_elim, List, [], ◌∷◌, ◌++◌, map, refl, sym, ap, ap₂, ◌∙◌, subst, arith, Some, None}
+use Rattle.std.proofs.Common.{Less}
 use Rattle.std.specs.Prelude.{All, Contains}
 use Rattle.std.specs.List.{AllByRecursion}
 use Rattle.std.specs.List.Sorted.{IsStrictlySortedBy}
@@ -24,8 +25,7 @@ use Rattle.valuation.specs.SearchSteps.{cut_steps as steps_with}
 use Rattle.valuation.specs.Lemmas.Lists.{Contains-cons_cases, Contains-map, Contains-unmap, AllPairs-head, AllPairs-tail}
 use Rattle.valuation.specs.Lemmas.OrValues.{or_value-price, or_value-filter_le}
 use Rattle.prune.specs.Points.{or_points}
-use Rattle.prune.specs.SearchSteps.{is_below, atoms_below, greatest_price, in_search_order, search_steps_by}
-use Rattle.prune.specs.SearchSteps.{searched_bundles, first_over, first_refused}
+use Rattle.prune.specs.SearchSteps.{is_below, atoms_below, greatest_price, in_search_order, search_steps_by, searched_bundles, first_over, first_refused}
 use Rattle.prune.specs.InOrder.{IsBefore, IsInOrder}
 use Rattle.prune.specs.Internal.BestBids.{AreBestBids}
 use Rattle.prune.specs.Lemmas.OnBundles.{IsOnBundle}
@@ -52,19 +52,14 @@ pub best_searched : (goods : ℕ) (bids best : List (Atom (List ℕ))) → All (
     → map (λ a. a.bundle) best ≡ searched_bundles goods bids
 best_searched goods bids best on b =
     same_from_contains bundle_cmp bundle_cmp_strict (map (λ a. a.bundle) best) (searched_bundles goods bids) (bundles_sorted best b.in_order)
-    (IsStrictlySortedBy-filter bundle_cmp (λ bundle. ltb 0 (greatest_price bids bundle)) (all_bundles goods) (all_bundles_sorted goods))
-    (λ bundle c.
+    (search (rules, IsStrictlySortedBy-filter, all_bundles_sorted)) (λ bundle c.
     let r = Contains-unmap (λ (a : Atom (List ℕ)). a.bundle) best bundle c in
     let positive : 0 < r.0.price = All-contains (λ a. 0 < a.price) best r.0 b.positive r.1 in
     let price : greatest_price bids r.0.bundle ≡ r.0.price = best_price bids best b r.0 r.1 in
-    subst (Contains (searched_bundles goods bids)) (sym r.2)
-    (Contains-filter (λ bundle. ltb 0 (greatest_price bids bundle)) (all_bundles goods) r.0.bundle
-    (all_bundles_has goods r.0.bundle
-    (All-contains (IsOnBundle goods) bids r.0 on (All-contains (Contains bids) best r.0 b.among r.1)).bundle)
-    (lt-ltb 0 (greatest_price bids r.0.bundle) (omega arith))))
-    (λ bundle c.
-    let r = best_on bids best b bundle
-    (ltb-true _ _ (Contains-filter_parts (λ bundle. ltb 0 (greatest_price bids bundle)) (all_bundles goods) bundle c).1) in
+    subst (Contains (searched_bundles goods bids)) (sym r.2) (Contains-filter (λ bundle. ltb 0 (greatest_price bids bundle)) (all_bundles goods) r.0.bundle
+    (all_bundles_has goods r.0.bundle (All-contains (IsOnBundle goods) bids r.0 on (All-contains (Contains bids) best r.0 b.among r.1)).bundle)
+    (lt-ltb 0 (greatest_price bids r.0.bundle) (omega arith)))) (λ bundle c.
+    let r = best_on bids best b bundle (ltb-true _ _ (Contains-filter_parts (λ bundle. ltb 0 (greatest_price bids bundle)) (all_bundles goods) bundle c).1) in
     subst (Contains (map (λ a. a.bundle) best)) r.2 (Contains-map (λ (a : Atom (List ℕ)). a.bundle) best r.0 r.1))
 
 -- ---- the steps of a turn
@@ -102,11 +97,7 @@ pub record IsWithin (start now : SearchOptions) (bids rest : List (Atom (List �
 
 pub IsWithin-start : (start : SearchOptions) (bids best : List (Atom (List ℕ))) → AreBestBids bids best → IsWithin start start bids best
 unfolding first_refused
-IsWithin-start start bids best b = record {
-  kind = refl;
-  left = λ goods are.
-      ap (first_over (search_steps_by start.kind goods bids) start) (sym (best_searched goods bids best (on_bundles goods bids are) b));
-}
+IsWithin-start start bids best b = search (rules, best_searched, on_bundles)
 
 -- the steps of the turn by the kind that is kept
 now_steps : (start now : SearchOptions) (goods : ℕ) (bids done : List (Atom (List ℕ))) (x : Atom (List ℕ)) (rest kept : List (Atom (List ℕ)))

@@ -1,7 +1,7 @@
 -- What a pruning that is done has kept: the points, with the values of all bids. A turn on one more best bid keeps this of the bids
 -- so far, and in the end the best bids are done, which have the points and the values of all.
-use Rattle.std.proofs.Common.{◌≡◌, ℕ, ◌<◌, ◌≤◌, Bool, true, false, leb, ⊎_elim, List, [], ◌∷◌, ◌++◌, length, sym, ap, ◌∙◌, subst, arith}
-use Rattle.std.proofs.Common.{le_trans, le_antisymm}
+use Rattle.std.proofs.Common.{rules, ◌≡◌, ℕ, ◌<◌, ◌≤◌, Bool, true, false, leb, ⊎_elim, List, [], ◌∷◌, ◌++◌, length, sym, ap, ◌∙◌, subst, arith, le_trans}
+use Rattle.std.proofs.Common.{le_antisymm}
 use Rattle.std.specs.Prelude.{All, Contains}
 use Rattle.std.specs.List.{filter}
 use Rattle.std.proofs.lemmas.Bool.{leb-true, leb-false}
@@ -23,16 +23,13 @@ use Rattle.prune.specs.Lemmas.Values.{xor_value-member, xor_value-bound, xor_val
 use Rattle.prune.specs.Lemmas.KeptBids.{xor_kept_are_points, xor_points_same, or_kept_are_points, or_points_same}
 use Rattle.prune.specs.Lemmas.SearchSteps.{greatest_price-member, greatest_price-reached}
 use Rattle.prune.specs.Internal.BestBids.{AreBestBids}
-use Rattle.prune.proofs.Pruning.{HasRisingBundle, IsKept, IsKept-reached, IsKept-missed, inside_below}
-use Rattle.prune.proofs.Pruning.{before_next, rising_prefix}
+use Rattle.prune.proofs.Pruning.{HasRisingBundle, IsKept, IsKept-reached, IsKept-missed, inside_below, before_next, rising_prefix}
 
 -- ---- values grow with the list
 
 pub xor_more : (atoms : List (Atom (List ℕ))) (a : Atom (List ℕ)) (bundle : List ℕ) → xor_value atoms bundle ≤ xor_value (atoms ++ a ∷ []) bundle
 xor_more atoms a bundle =
-    xor_value-bound atoms bundle (xor_value (atoms ++ a ∷ []) bundle) (All-from_Contains (λ b. IsInside b.bundle bundle
-    → b.price ≤ xor_value (atoms ++ a ∷ []) bundle) atoms (λ b c i. xor_value-member (atoms ++ a ∷ []) b (Contains-append_left atoms (a ∷ []) b c) bundle
-    i))
+    xor_value-bound atoms bundle (xor_value (atoms ++ a ∷ []) bundle) (search (rules, All-from_Contains, xor_value-member, Contains-append_left))
 
 pub xor_fewer : (p : Atom (List ℕ) → Bool) (atoms : List (Atom (List ℕ))) (bundle : List ℕ) → xor_value (filter p atoms) bundle ≤ xor_value atoms bundle
 xor_fewer p atoms bundle =
@@ -41,10 +38,7 @@ xor_fewer p atoms bundle =
 
 pub or_more : (atoms : List (Atom (List ℕ))) (a : Atom (List ℕ)) (bundle : List ℕ) → or_value atoms bundle ≤ or_value (atoms ++ a ∷ []) bundle
 or_more [] a bundle = omega (arith, or_value-nil bundle)
-or_more (b ∷ rest) a bundle =
-    or_value-least b rest bundle (or_value (b ∷ (rest ++ a ∷ [])) bundle)
-    (le_trans (or_more rest a bundle) (or_value-rest b (rest ++ a ∷ []) bundle))
-    (λ i. let left = or_more rest a (without bundle b.bundle) in let taken = or_value-taken b (rest ++ a ∷ []) bundle i in omega arith)
+or_more (b ∷ rest) a bundle = search (rules, or_value-least, or_value-rest, or_value-taken, (or_more rest a bundle), (or_more rest a (without bundle b.bundle)))
 
 abbrev pub IsXorKept : List (Atom (List ℕ)) → List (Atom (List ℕ)) → Type 0
 IsXorKept done kept = IsKept xor_value xor_value-member xor_more xor_fewer done kept
@@ -90,8 +84,7 @@ turn_inside bids done x rest kept t among =
 
 pub turn_below : (bids done : List (Atom (List ℕ))) (x : Atom (List ℕ)) (rest kept : List (Atom (List ℕ))) → IsTurn bids done x rest → All (Contains done) kept
     → filter (λ a. is_inside a.bundle x.bundle) kept ≡ atoms_below kept x.bundle
-turn_below bids done x rest kept t among =
-    filter_same_on (λ a. is_inside a.bundle x.bundle) (λ a. is_below a.bundle x.bundle) kept (turn_inside bids done x rest kept t among)
+turn_below bids done x rest kept t among = search (rules, filter_same_on, turn_inside)
 
 -- the bid comes next
 pub turn_next : (n : ℕ) (bids done : List (Atom (List ℕ))) (x : Atom (List ℕ)) (rest kept : List (Atom (List ℕ))) → IsTurn bids done x rest
@@ -140,16 +133,7 @@ kept_among bids best kept b among = All-weaker (Contains best) (Contains bids) (
 -- each bid is dominated by what is kept
 all_dominated : (value : List ℕ → ℕ) (bids best : List (Atom (List ℕ))) → AreBestBids bids best → All (λ a. a.price ≤ value a.bundle) best
     → All (λ a. a.price ≤ value a.bundle) bids
-all_dominated value bids best b dominated =
-    All-from_Contains (λ a. a.price ≤ value a.bundle) bids (λ a c.
-    ⊎_elim (λ (z : a.price ≡ 0). omega arith)
-    (λ (l : 0 < a.price).
-    let r = All-contains (λ a. 0 < a.price → (b : Atom (List ℕ)) × Contains best b × (b.bundle ≡ a.bundle) × (a.price ≤ b.price)) bids a b.dominates c l in
-    let own : r.0.price ≤ value r.0.bundle = All-contains (λ a. a.price ≤ value a.bundle) best r.0 dominated r.1 in
-    let same : value r.0.bundle ≡ value a.bundle = ap value r.2 in
-    let price : a.price ≤ r.0.price = r.3 in
-    omega arith)
-    (zero_or_more a.price))
+all_dominated value bids best b dominated = search (rules, All-from_Contains, All-contains, zero_or_more)
 
 pub record AreXorPoints (bids kept : List (Atom (List ℕ))) : Type 0 where
   pub in_order : IsInOrder kept

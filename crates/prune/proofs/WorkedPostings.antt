@@ -1,5 +1,5 @@
 -- The atom of the worked rows is listed rightly: its one good marks bit 96.
-use Rattle.std.proofs.Common.{◌≡◌, ℕ, ◌^◌, true, false, [], ◌∷◌, ⊎_elim, refl, sym, subst, arith}
+use Rattle.std.proofs.Common.{rules, ◌≡◌, ℕ, ◌^◌, true, false, [], ◌∷◌, ⊎_elim, refl, sym, subst, arith}
 use Rattle.std.specs.Int.{bit_at}
 use Rattle.std.proofs.lemmas.Nat.Bits.{bit_at-pow_same, bit_at-pow_other}
 use Rattle.std.proofs.lemmas.Bool.{both_ways, cases_eq}
@@ -10,9 +10,7 @@ use Rattle.valuation.specs.Examples.{atom}
 use Rattle.prune.specs.Internal.Listings.{IsPosting}
 
 has_bit : (good : ℕ) → has_good (0 ∷ []) good ≡ true → bit_at (2 ^ 96) (mark_of good) ≡ 1
-has_bit good has = ⊎_elim (λ (e : 0 ≡ good). subst (λ g. bit_at (2 ^ 96) (mark_of g) ≡ 1) e (bit_at-pow_same 96))
-    (λ (none : has_good [] good ≡ true). absurd (both_ways false refl none))
-    (has_cases 0 [] good has)
+has_bit good has = search (rules, bit_at-pow_same, both_ways, has_cases)
 
 pub one_mark : AreMarks (0 ∷ []) (2 ^ 96)
 one_mark = record {

@@ -1,5 +1,5 @@
 -- What is listed at a good, in vectors of postings that are read or written.
-use Rattle.std.proofs.Common.{◌≡◌, ℕ, zero, suc, ◌<◌, set, get_or-set_same, get_or-set_other, List, [], ◌∷◌, ◌++◌, length, get_or, refl, sym, ap, ◌∙◌}
+use Rattle.std.proofs.Common.{rules, ◌≡◌, ℕ, zero, suc, ◌<◌, set, get_or-set_same, get_or-set_other, List, [], ◌∷◌, ◌++◌, length, get_or, refl, sym, ap, ◌∙◌}
 use Rattle.std.proofs.Common.{arith}
 use Rattle.std.specs.Global.{Vec}
 use Rattle.std.proofs.lemmas.List.{map-set, get_or-map, length-map}
@@ -12,11 +12,7 @@ listed_there vectors good v l e = get_or-map (λ (v : Vec Posting). v.items) vec
 
 pub listed-set_same : (vectors : List (Vec Posting)) (good : ℕ) (v : Vec Posting) → good < length vectors → listed_at (lists_of (set vectors good v)) good
     ≡ v.items
-listed-set_same vectors good v l =
-    let long = length-map vectors (λ (v : Vec Posting). v.items) in
-    let m : good < length (lists_of vectors) = omega arith in
-    ap (λ (zs : List (List Posting)). get_or zs good []) (map-set (λ (v : Vec Posting). v.items) vectors good v)
-    ∙ get_or-set_same (lists_of vectors) good v.items [] m
+listed-set_same vectors good v l = search (rules, length-map, map-set)
 
 -- a list that is added is empty
 pub listed-pushed : (vectors : List (Vec Posting)) (v : Vec Posting) (k : ℕ) → v.items ≡ [] → listed_at (lists_of (vectors ++ v ∷ [])) k
@@ -28,6 +24,4 @@ listed-pushed (x ∷ xs) v (suc k) e = listed-pushed xs v k e
 
 pub listed-set_other : (vectors : List (Vec Posting)) (good : ℕ) (v : Vec Posting) (g : ℕ) → (g ≡ good → ⊥) → listed_at (lists_of (set vectors good v)) g
     ≡ listed_at (lists_of vectors) g
-listed-set_other vectors good v g n =
-    ap (λ (zs : List (List Posting)). get_or zs g []) (map-set (λ (v : Vec Posting). v.items) vectors good v)
-    ∙ get_or-set_other (lists_of vectors) good g v.items [] n
+listed-set_other vectors good v g n = search (rules, map-set)

@@ -1,7 +1,7 @@
 -- `first_dominating_among`
 -- None of the atoms listed before dominates the bid, and the next one does not either, or it is the first that does; indices that rise
 -- are no longer among the atoms once one is not.
-use Rattle.std.proofs.Common.{length, get_or, sym, ◌∙◌, arith}
+use Rattle.std.proofs.Common.{rules, length, get_or, sym, ◌∙◌, arith}
 use Rattle.std.proofs.lemmas.List.{length-map}
 use Rattle.valuation.specs.Values.{atoms_of}
 use Rattle.prune.specs.declared.subset_index.Posting.{Posting}
@@ -11,14 +11,7 @@ use Rattle.prune.proofs.ListedAtoms.{index_of, indices_get}
 use Rattle.prune.proofs.subset_index.first_dominating_among.Goals as goal
 
 pub loop-posting-preserved : goal.loop-posting-preserved
-loop-posting-preserved g c =
-    let goods = g.S.GoodsSet.goods in
-    let d : Posting = record { index = 0; fingerprint = 0 } in
-    let listed = c.args.postings.now in
-    let i = c.loop-posting.posting-index in
-    let at = indices_get listed i d c.loop-posting-test.true in
-    NonePass-more (dominates_at (atoms_of goods c.args.kept.now) (goods c.args.bundle.now) c.args.price) (indices_of listed) (length c.args.kept.now) i
-    (get_or listed i d).index at.1 (sym c.is_dominating.ensures ∙ c.if-is_dominating.false) c.loop-posting.invariant
+loop-posting-preserved g c = search (rules, indices_get, NonePass-more)
 
 pub returns-then-is_dominating-clause-none : goal.returns-then-is_dominating-clause-none
 returns-then-is_dominating-clause-none g c =

@@ -1,5 +1,5 @@
 -- `first_dominating_listed`: the first so far is that of the goods so far: see proofs/FirstDominating.
-use Rattle.std.proofs.Common.{◌≡◌, ◌<◌, ℕ, List, get_or, length, sym, subst, take, arith, true}
+use Rattle.std.proofs.Common.{rules, ◌≡◌, ◌<◌, ℕ, List, get_or, length, sym, subst, take, arith, true, false}
 use Rattle.std.specs.Prelude.{All}
 use Rattle.std.proofs.lemmas.List.{length-take-le, take-map}
 use Rattle.valuation.specs.declared.atom.Atom.{Atom}
@@ -10,12 +10,9 @@ use Rattle.prune.specs.Internal.Listings.{lists_of, indices_of, indices_at, domi
 use Rattle.prune.proofs.ListedAtoms.{next_there, none_there, behind_next}
 use Rattle.prune.proofs.FirstDominating.{IsFirstSoFar-all, IsFirstSoFar-more, IsFirstSoFar-some, postings_before}
 use Rattle.prune.proofs.subset_index.first_dominating_listed.Goals as goal
-use Rattle.std.proofs.Common.{false}
 
 pub first_dominating_among-first-requires-clause-listed : goal.first_dominating_among-first-requires-clause-listed
-first_dominating_among-first-requires-clause-listed g c =
-    postings_before g.S.GoodsSet.goods (lists_of c.args.lists.now) c.requires.listed.count c.args.kept.now _ c.loop-good.first _
-    c.requires.listed.listed c.postings_at-postings.ensures
+first_dominating_among-first-requires-clause-listed g c = search (rules, postings_before)
 
 pub loop-good-preserved : goal.loop-good-preserved
 loop-good-preserved g c =

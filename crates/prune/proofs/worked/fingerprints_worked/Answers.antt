@@ -1,5 +1,5 @@
 -- `fingerprints_worked`: good 5 marks bit 5, which is 32.
-use Rattle.std.proofs.Common.{◌≡◌, true, false, [], ⊎_elim, refl, arith, ap, ◌∙◌}
+use Rattle.std.proofs.Common.{rules, ◌≡◌, true, false, [], ⊎_elim, refl, arith, ap, ◌∙◌}
 use Rattle.std.proofs.lemmas.Bool.{both_ways}
 use Rattle.goods_set.specs.Bundles.{has_good}
 use Rattle.prune.specs.Internal.Fingerprints.{mark_of}
@@ -19,5 +19,4 @@ returns-clause-one_lacks c h = absurd (omega (arith, h.each 65 refl))
 pub returns-clause-one_too_many : goal.returns-clause-one_too_many
 returns-clause-one_too_many c h =
     let found = h.only 0 refl in
-    ⊎_elim (λ (e : 5 ≡ found.0). let bit : mark_of 5 ≡ 0 = ap mark_of e ∙ found.2 in absurd (omega (arith, bit)))
-    (λ (none : has_good [] found.0 ≡ true). absurd (both_ways false refl none)) (has_cases 5 [] found.0 found.1)
+    search (rules, both_ways, has_cases)

@@ -1,4 +1,5 @@
 -- `first_dominating`: none of the atoms before dominates the bid: one that does is the first, and else there is none.
+use Rattle.std.proofs.lemmas.Grind.{common_steps}
 use Rattle.std.proofs.Common.{◌≡◌, ◌<◌, ◌≤◌, false, length, sym, ap, ◌∙◌, ⊎_elim, true, arith}
 use Rattle.std.proofs.lemmas.Bool.{cases_lt}
 use Rattle.valuation.specs.Lemmas.Atoms.{get_or-atoms_of, length-atoms_of}
@@ -35,8 +36,4 @@ loop-index-preserved g c = λ k l.
     (cases_lt k i)
 
 pub returns : goal.returns
-returns g c =
-    let goods = g.S.GoodsSet.goods in
-    let atoms = c.args.atoms.now in
-    sym (none_in_range (dominates_at (atoms_of goods atoms) (goods c.args.bid.now.bundle) c.args.bid.now.price) (length (atoms_of goods atoms))
-    (λ k l. c.loop-index.invariant k (omega (arith, l, c.loop-index-test.false, length-atoms_of goods atoms))))
+returns g c = grind (arith, common_steps, none_in_range, length-atoms_of)

@@ -1,5 +1,5 @@
 -- `SubsetIndex::list_next`
-use Rattle.std.proofs.Common.{arith, refl, ◌≡◌, ◌++◌, ◌<◌, ℕ, length, get_or, sym, ap, ◌∙◌, subst, set, List, [], ◌∷◌, true}
+use Rattle.std.proofs.Common.{rules, arith, refl, ◌≡◌, ◌++◌, ◌<◌, ℕ, length, get_or, sym, ap, ◌∙◌, subst, set, List, [], ◌∷◌, true}
 use Rattle.std.proofs.lemmas.Grind.{get_or_default_zero}
 use Rattle.goods_set.specs.Bundles.{has_good}
 use Rattle.prune.specs.Internal.Fingerprints.{AreMarks}
@@ -14,12 +14,7 @@ use Rattle.prune.proofs.WrittenPostings.{listed-set_same, listed-set_other, list
 use Rattle.prune.proofs.subset_index.SubsetIndex.list_next.Goals as goal
 
 pub loop-self-preserved : goal.loop-self-preserved
-loop-self-preserved g c = record {
-  goods = c.loop-self.invariant.goods;
-  listed = c.loop-self.invariant.listed;
-  lists = λ k. ap (λ vs. listed_at (lists_of vs) k) c.in_ok-push.ensures.items ∙ listed-pushed c.loop-self.self.lists.items c.new.result k c.new.ensures.items
-      ∙ c.loop-self.invariant.lists k;
-}
+loop-self-preserved g c = search (rules, listed-pushed)
 
 pub returns-clause-index : goal.returns-clause-index
 returns-clause-index g c =
