@@ -1,6 +1,6 @@
 -- Lemmas on what becomes of best bids: points that are not below a bundle do not matter there.
-use Rattle.std.proofs.Common.{◌≡◌, ℕ, ◌+◌, ◌<◌, ◌≤◌, Bool, true, false, not, cond, leb, List, [], ◌∷◌, ◌++◌, append-nil, length, reverse, refl, sym, ap, ◌∙◌}
-use Rattle.std.proofs.Common.{subst, arith, Some, None}
+use Rattle.std.proofs.Common.{rules, ◌≡◌, ℕ, ◌+◌, ◌<◌, ◌≤◌, Bool, true, false, not, cond, leb, List, [], ◌∷◌, ◌++◌, append-nil, length, reverse, refl, sym, ap}
+use Rattle.std.proofs.Common.{◌∙◌, subst, arith, Some, None}
 use Rattle.std.specs.Prelude.{All, AllPairs, Contains, IfSome, Option}
 use Rattle.std.specs.List.{filter, find, range_with_len}
 use Rattle.std.proofs.lemmas.Bool.{and_parts, leb-true}
@@ -12,9 +12,8 @@ use Rattle.goods_set.specs.Bundles.{is_inside}
 use Rattle.valuation.specs.declared.atom.Atom.{Atom}
 use Rattle.valuation.specs.declared.search.kind.SearchKind.{SearchKind}
 use Rattle.valuation.specs.declared.search.kind.SearchKind.TheVariants.{Plain, Bounded}
-use Rattle.valuation.specs.Packings.{atom_at}
+use Rattle.valuation.specs.Packings.{atom_at, IsPackingFor, atoms_at}
 use Rattle.valuation.specs.Lemmas.SearchSteps.{found_indices-packing}
-use Rattle.valuation.specs.Packings.{IsPackingFor, atoms_at}
 use Rattle.valuation.specs.SearchSteps.{found_indices}
 use Rattle.valuation.specs.Values.{or_value}
 use Rattle.prune.specs.Fates.{indices_below, found_points, or_fate, xor_fate}
@@ -30,10 +29,7 @@ use Rattle.prune.specs.Lemmas.SearchSteps.{ordered_value}
 
 pub atoms_below-push : (points : List (Atom (List ℕ))) (x : Atom (List ℕ)) (bundle : List ℕ) → is_below x.bundle bundle ≡ false
     → atoms_below (points ++ x ∷ []) bundle ≡ atoms_below points bundle
-atoms_below-push points x bundle n =
-    filter-append (λ a. is_below a.bundle bundle) points (x ∷ [])
-    ∙ ap (λ (zs : List (Atom (List ℕ))). atoms_below points bundle ++ zs) (filter-lost (λ (a : Atom (List ℕ)). is_below a.bundle bundle) x [] n)
-    ∙ append-nil (atoms_below points bundle)
+atoms_below-push points x bundle n = search (rules, filter-append, filter-lost, append-nil)
 
 atom_at-push : (points : List (Atom (List ℕ))) (x : Atom (List ℕ)) (index : ℕ) → index < length points → atom_at (points ++ x ∷ []) index ≡ atom_at points index
 atom_at-push points x index l = get_or_append_left points (x ∷ []) (record { bundle = []; price = 0 }) index l
@@ -81,8 +77,7 @@ xor_fate-push points x bid n =
 -- ---- what a fate names reaches the price
 
 indices_rising : (points : List (Atom (List ℕ))) (bundle : List ℕ) → AllPairs (λ i j. i < j) (indices_below points bundle)
-indices_rising points bundle =
-    AllPairs-filter (λ i j. i < j) (λ index. is_below (atom_at points index).bundle bundle) (range_with_len 0 (length points)) (range_rising 0 (length points))
+indices_rising points bundle = search (rules, AllPairs-filter, range_rising)
 
 all_within : (points : List (Atom (List ℕ))) (bundle : List ℕ) → All (λ index. index < length points) (indices_below points bundle)
 all_within points bundle =
@@ -123,12 +118,7 @@ found_points-packing Bounded points bundle price l =
 pub or_fate-reaches : (kind : SearchKind) (points : List (Atom (List ℕ))) (bid : Atom (List ℕ))
     → IfSome (or_fate kind points bid) (λ indices. IsPackingFor points bid.bundle bid.price indices)
 unfolding or_fate
-or_fate-reaches kind points bid = go (leb bid.price (or_value (atoms_below points bid.bundle) bid.bundle)) refl
-  where
-    go : (b : Bool) → leb bid.price (or_value (atoms_below points bid.bundle) bid.bundle) ≡ b
-        → IfSome (cond b (Some (found_points kind points bid.bundle bid.price)) None) (λ indices. IsPackingFor points bid.bundle bid.price indices)
-    go true e = found_points-packing kind points bid.bundle bid.price (leb-true _ _ e)
-    go false e = tt
+or_fate-reaches kind points bid = search (rules, found_points-packing, leb-true)
 
 pub xor_fate-reaches : (points : List (Atom (List ℕ))) (bid : Atom (List ℕ)) → IfSome (xor_fate points bid) (IsPointFor points bid.bundle bid.price)
 unfolding xor_fate

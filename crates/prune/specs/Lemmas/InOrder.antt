@@ -1,5 +1,5 @@
 -- Lists of atoms in order: each bundle is there once, so a list in order is what it contains.
-use Rattle.std.proofs.Common.{◌≡◌, ℕ, true, false, ◌⊎◌, inl, inr, ⊎_elim, List, [], ◌∷◌, refl, sym, ap, ap₂, ◌∙◌, subst, Ordering, Less, Equal, Greater}
+use Rattle.std.proofs.Common.{rules, ◌≡◌, ℕ, true, false, ◌⊎◌, inl, inr, ⊎_elim, List, [], ◌∷◌, refl, sym, ap, ap₂, ◌∙◌, subst, Ordering, Less, Equal, Greater}
 use Rattle.std.specs.Prelude.{Contains}
 use Rattle.std.specs.Ordering.{is_eq}
 use Rattle.std.proofs.lemmas.List.Elements.{All-contains}
@@ -20,15 +20,7 @@ pub before_both : (xs ys : List ℕ) → bundle_cmp xs ys ≡ Less → bundle_cm
 before_both xs ys l m = before_itself xs (bundle_cmp_total.trans xs ys xs l m)
 
 pub same_cases : (xs ys : List ℕ) → ((xs ≡ ys) × (is_eq (bundle_cmp xs ys) ≡ true)) ⊎ ((xs ≡ ys → ⊥) × (is_eq (bundle_cmp xs ys) ≡ false))
-same_cases xs ys = at (bundle_cmp xs ys) refl
-  where
-    differs : (o : Ordering) → bundle_cmp xs ys ≡ o → (o ≡ Equal → ⊥) → xs ≡ ys → ⊥
-    differs o e n d = n (sym e ∙ subst (λ (zs : List ℕ). bundle_cmp xs zs ≡ Equal) d (bundle_cmp_refl xs))
-
-    at : (o : Ordering) → bundle_cmp xs ys ≡ o → ((xs ≡ ys) × (is_eq o ≡ true)) ⊎ ((xs ≡ ys → ⊥) × (is_eq o ≡ false))
-    at Less e = inr (differs Less e (λ d. cc), refl)
-    at Equal e = inl (bundle_cmp_equal xs ys e, refl)
-    at Greater e = inr (differs Greater e (λ d. cc), refl)
+same_cases xs ys = search (rules, bundle_cmp_refl, bundle_cmp_equal)
 
 -- a bundle before another does not have it inside
 pub before_not_inside : (xs ys : List ℕ) → IsRising xs → IsRising ys → bundle_cmp xs ys ≡ Less → IsInside ys xs → ⊥

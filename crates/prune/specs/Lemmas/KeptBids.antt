@@ -1,8 +1,8 @@
 -- A list in order, of whose atoms none is reached by those below it, is the list of its points. The idea: for what is properly
 -- inside a kept atom's bundle only the atoms below it matter; and a value above 0 is reached with some atom, which is either
 -- on the whole bundle or one part of a split of it.
-use Rattle.std.proofs.Common.{◌≡◌, ℕ, zero, suc, ◌+◌, ◌<◌, ◌≤◌, true, false, not, ltb, ◌⊎◌, inl, inr, ⊎_elim, List, [], ◌∷◌, length, refl, sym, ap, ap₂, subst}
-use Rattle.std.proofs.Common.{arith, le_antisymm}
+use Rattle.std.proofs.Common.{rules, ◌≡◌, ℕ, zero, suc, ◌+◌, ◌<◌, ◌≤◌, true, false, not, ltb, ◌⊎◌, inl, inr, ⊎_elim, List, [], ◌∷◌, length, refl, sym, ap, ap₂}
+use Rattle.std.proofs.Common.{subst, arith, le_antisymm}
 use Rattle.std.specs.Prelude.{All, Contains}
 use Rattle.std.specs.List.{list_all}
 use Rattle.std.specs.Cmp.{both_ways as same_test}
@@ -43,8 +43,7 @@ just_bundles goods atoms on = All-weaker (IsOnBundle goods) (λ a. IsBundle good
 
 pub has_from_Contains : (xs : List ℕ) (g : ℕ) → Contains xs g → has_good xs g ≡ true
 has_from_Contains [] g c = absurd (Contains-nil g c)
-has_from_Contains (x ∷ xs) g c =
-    ⊎_elim (λ (e : x ≡ g). subst (λ n. has_good (x ∷ xs) n ≡ true) e (has_head x xs)) (λ (d : Contains xs g). has_tail x xs g (has_from_Contains xs g d))
+has_from_Contains (x ∷ xs) g c = ⊎_elim (search (rules, has_head)) (λ (d : Contains xs g). has_tail x xs g (has_from_Contains xs g d))
     (Contains-cons_cases x xs g c)
 
 -- what a nonempty part leaves is not the whole
@@ -58,10 +57,7 @@ left_is_proper (x ∷ xs) bundle l i =
 
 -- an atom inside what is properly inside the bundle is below the bundle
 below_from_inside : (xs proper bundle : List ℕ) → IsInside proper bundle → is_inside bundle proper ≡ false → IsInside xs proper → is_below xs bundle ≡ true
-below_from_inside xs proper bundle i n j =
-    and_from (is_inside xs bundle) (not (is_inside bundle xs)) (inside_trans xs proper bundle j i)
-    (not_from_false (is_inside bundle xs)
-    (false_from_ne_true (is_inside bundle xs) (λ k. both_ways (is_inside bundle proper) n (inside_trans bundle xs proper k j))))
+below_from_inside xs proper bundle i n j = search (rules, and_from, inside_trans, not_from_false, false_from_ne_true, both_ways)
 
 pub all_below : (atoms : List (Atom (List ℕ))) (proper bundle : List ℕ) → IsInside proper bundle → is_inside bundle proper ≡ false
     → All (λ a. IsInside a.bundle proper → is_below a.bundle bundle ≡ true) atoms
@@ -128,8 +124,7 @@ pub or_point_is_atom : (goods : ℕ) (atoms : List (Atom (List ℕ))) → All (I
     → Contains atoms (record { bundle = bundle; price = or_value atoms bundle })
 or_point_is_atom goods atoms on bundle rising point =
     let r = ReachesValue-some atoms bundle point.positive in
-    ⊎_elim (λ (i : is_inside bundle r.0.bundle ≡ true). whole r.0 r.1 i) (λ (n : is_inside bundle r.0.bundle ≡ false). absurd (one_part r.0 r.1 n))
-    (cases_Bool (is_inside bundle r.0.bundle))
+    search (rules, whole, one_part, cases_Bool)
   where
     whole : (a : Atom (List ℕ)) → ReachesValue atoms bundle a → is_inside bundle a.bundle ≡ true
         → Contains atoms (record { bundle = bundle; price = or_value atoms bundle })
@@ -176,40 +171,17 @@ or_kept_are_points goods atoms order on short =
 
 IsOrPoint-same : (goods : ℕ) (one other : List (Atom (List ℕ))) → ((bundle : List ℕ) → IsBundle goods bundle → or_value one bundle ≡ or_value other bundle)
     → (bundle : List ℕ) → IsBundle goods bundle → IsOrPoint one bundle → IsOrPoint other bundle
-IsOrPoint-same goods one other same bundle b p =
-    let e = same bundle b in
-    let positive = p.positive in
-    record {
-      positive = omega arith;
-      split = λ part q.
-          let f = same part (q.rising, inside_below goods part bundle b.1 q.inside) in
-          let g = same (without bundle part) (IsBundle-without goods bundle part b) in
-          let s = p.split part q in
-          omega arith;
-    }
+IsOrPoint-same goods one other same bundle b p = search (rules, inside_below, IsBundle-without)
 
 pub or_points_same : (goods : ℕ) (one other : List (Atom (List ℕ))) → ((bundle : List ℕ) → IsBundle goods bundle → or_value one bundle ≡ or_value other bundle)
     → or_points goods one ≡ or_points goods other
-or_points_same goods one other same =
-    points_where-same (is_or_point goods one) (is_or_point goods other) (or_value one) (or_value other) goods
-    (λ bundle b. same_test (is_or_point goods one bundle) (is_or_point goods other bundle)
-    (λ t. is_or_point-true goods other bundle (IsOrPoint-same goods one other same bundle b (IsOrPoint-from_test goods one bundle b t)))
-    (λ t. is_or_point-true goods one bundle (IsOrPoint-same goods other one (λ bundle b. sym (same bundle b)) bundle b
-    (IsOrPoint-from_test goods other bundle b t))))
-    same
+or_points_same goods one other same = search (rules, points_where-same, is_or_point-true, IsOrPoint-same, IsOrPoint-from_test)
 
 -- ---- OR points keep the values
 
 -- what a part leaves, and the part, are smaller
 part_smaller : (part bundle : List ℕ) → IsRising bundle → IsPart part bundle → (length part < length bundle) × (length (without bundle part) < length bundle)
-part_smaller part bundle r p =
-    let e = length-without bundle part r p.rising p.inside in
-    let l = p.nonempty in
-    let k : 0 < length (without bundle part) =
-    ⊎_elim (λ (z : length (without bundle part) ≡ 0). absurd
-    (both_ways (is_inside bundle part) p.proper (inside_from_without bundle part (no_goods (without bundle part) z))))
-    (λ (z : 0 < length (without bundle part)). z) (zero_or_more (length (without bundle part))) in
-    (omega arith, omega arith)
+part_smaller part bundle r p = search (rules, length-without, both_ways, inside_from_without, no_goods, zero_or_more)
 
 -- the values of the points reach those of the list, on bundles over the goods, by their size
 or_points_reach : (goods : ℕ) (atoms : List (Atom (List ℕ))) → All (IsOnBundle goods) atoms → All (λ a. 0 < length a.bundle) (or_points goods atoms)
@@ -263,19 +235,14 @@ or_points_again goods atoms on = or_points_same goods (or_points goods atoms) at
 
 -- a good less leaves a bundle that is not the whole
 pub good_inside : (good : ℕ) (bundle : List ℕ) → Contains bundle good → IsInside (good ∷ []) bundle
-good_inside good bundle c =
-    inside_from (good ∷ []) bundle (λ g h. ⊎_elim (λ (e : good ≡ g). subst (λ n. has_good bundle n ≡ true) e (has_from_Contains bundle good c))
-    (λ (k : has_good [] g ≡ true). absurd (both_ways false refl k)) (has_cases good [] g h))
+good_inside good bundle c = search (rules, inside_from, has_from_Contains, both_ways, has_cases)
 
 good_less_is_proper : (good : ℕ) (bundle : List ℕ) → Contains bundle good → is_inside bundle (without bundle (good ∷ [])) ≡ false
 good_less_is_proper good bundle c = left_is_proper (good ∷ []) bundle (omega arith) (good_inside good bundle c)
 
 -- what is inside a bundle and lacks a good is inside what is left without that good
 inside_good_less : (xs bundle : List ℕ) (good : ℕ) → IsInside xs bundle → has_good xs good ≡ false → IsInside xs (without bundle (good ∷ []))
-inside_good_less xs bundle good i n =
-    inside_without xs bundle (good ∷ []) i (apart_from xs (good ∷ []) (λ g h. false_from_ne_true (has_good (good ∷ []) g) (λ k.
-    ⊎_elim (λ (e : good ≡ g). both_ways (has_good xs good) n (subst (λ m. has_good xs m ≡ true) (sym e) h))
-    (λ (m : has_good [] g ≡ true). both_ways false refl m) (has_cases good [] g k))))
+inside_good_less xs bundle good i n = inside_without xs bundle (good ∷ []) i (search (rules, apart_from, false_from_ne_true, both_ways, has_cases))
 
 -- if the atoms below do not have the price of a kept atom, it is an XOR point
 pub xor_kept_is_point : (goods : ℕ) (atoms : List (Atom (List ℕ))) → IsInOrder atoms → All (λ a. IsBundle goods a.bundle) atoms → (b : Atom (List ℕ))
@@ -355,23 +322,12 @@ xor_kept_are_points goods atoms order on short =
 
 IsXorPoint-same : (goods : ℕ) (one other : List (Atom (List ℕ))) → ((bundle : List ℕ) → IsBundle goods bundle → xor_value one bundle ≡ xor_value other bundle)
     → (bundle : List ℕ) → IsBundle goods bundle → IsXorPoint one bundle → IsXorPoint other bundle
-IsXorPoint-same goods one other same bundle b p =
-    let e = same bundle b in
-    let positive = p.positive in
-    record {
-      positive = omega arith;
-      less = λ good c. let f = same (without bundle (good ∷ [])) (IsBundle-without goods bundle (good ∷ []) b) in let l = p.less good c in omega arith;
-    }
+IsXorPoint-same goods one other same bundle b p = search (rules, IsBundle-without)
 
 -- XOR points depend on the values on bundles over the goods alone
 pub xor_points_same : (goods : ℕ) (one other : List (Atom (List ℕ)))
     → ((bundle : List ℕ) → IsBundle goods bundle → xor_value one bundle ≡ xor_value other bundle) → xor_points goods one ≡ xor_points goods other
-xor_points_same goods one other same =
-    points_where-same (is_xor_point one) (is_xor_point other) (xor_value one) (xor_value other) goods
-    (λ bundle b. same_test (is_xor_point one bundle) (is_xor_point other bundle)
-    (λ t. is_xor_point-true other bundle (IsXorPoint-same goods one other same bundle b (IsXorPoint-from_test one bundle t)))
-    (λ t. is_xor_point-true one bundle (IsXorPoint-same goods other one (λ bundle b. sym (same bundle b)) bundle b (IsXorPoint-from_test other bundle t))))
-    same
+xor_points_same goods one other same = search (rules, points_where-same, is_xor_point-true, IsXorPoint-same, IsXorPoint-from_test)
 
 -- ---- XOR points keep the values
 
@@ -379,11 +335,7 @@ xor_points_same goods one other same =
 no_xor_point : (atoms : List (Atom (List ℕ))) (bundle : List ℕ) → is_xor_point atoms bundle ≡ false → (xor_value atoms bundle ≡ 0)
     ⊎ ((good : ℕ) × Contains bundle good × (xor_value atoms bundle ≤ xor_value atoms (without bundle (good ∷ []))))
 unfolding is_xor_point
-no_xor_point atoms bundle e =
-    let less = λ (good : ℕ). ltb (xor_value atoms (without bundle (good ∷ []))) (xor_value atoms bundle) in
-    ⊎_elim (λ (t : ltb 0 (xor_value atoms bundle) ≡ false). let z : xor_value atoms bundle ≤ 0 = ltb-false _ _ t in inl (omega arith))
-    (λ (t : list_all less bundle ≡ false). let r = list_all_fails less bundle t in inr (r.0, r.1, ltb-false _ _ r.2))
-    (and_cases (ltb 0 (xor_value atoms bundle)) (list_all less bundle) e)
+no_xor_point atoms bundle e = search (rules, ltb-false, list_all_fails, and_cases)
 
 -- the values of the points reach those of the list, on bundles over the goods, by their size
 xor_points_reach : (goods : ℕ) (atoms : List (Atom (List ℕ))) (n : ℕ) (bundle : List ℕ) → length bundle < n → IsBundle goods bundle
@@ -416,11 +368,8 @@ xor_points_reach goods atoms (suc n) bundle l b =
 -- the XOR points have the XOR value of the list on each bundle over the goods
 pub xor_points_keep_values : (goods : ℕ) (atoms : List (Atom (List ℕ))) → All (λ a. IsBundle goods a.bundle) atoms → (bundle : List ℕ) → IsBundle goods bundle
     → xor_value (xor_points goods atoms) bundle ≡ xor_value atoms bundle
-xor_points_keep_values goods atoms on bundle b =
-    le_antisymm
-    (xor_value-dominated atoms (xor_points goods atoms) (All-weaker (Contains atoms) (λ a. a.price ≤ xor_value atoms a.bundle)
-    (λ a c. xor_value-member atoms a c a.bundle (inside_refl a.bundle)) (xor_points goods atoms) (xor_points_are_atoms goods atoms on)) bundle)
-    (xor_points_reach goods atoms (suc (length bundle)) bundle (omega arith) b)
+xor_points_keep_values goods atoms on bundle b = le_antisymm
+    (search (rules, xor_value-dominated, xor_value-member, inside_refl, xor_points_are_atoms)) (search (rules, xor_points_reach))
 
 -- and have themselves as points
 pub xor_points_again : (goods : ℕ) (atoms : List (Atom (List ℕ))) → All (λ a. IsBundle goods a.bundle) atoms

@@ -1,15 +1,12 @@
 -- Lemmas on lists: which elements a list has, behind a filter too, and the first that passes a test.
-use Rattle.std.proofs.Common.{◌≡◌, ℕ, zero, suc, ◌<◌, Bool, true, false, cond, ◌&&◌, ◌||◌, ◌⊎◌, inl, inr, ⊎_elim, List, [], ◌∷◌, map, refl, sym, ap, ap₂, ◌∙◌}
-use Rattle.std.proofs.Common.{subst, arith, Some, None}
+use Rattle.std.proofs.Common.{rules, ◌≡◌, ℕ, zero, suc, ◌<◌, Bool, true, false, cond, ◌&&◌, ◌||◌, ◌⊎◌, inl, inr, ⊎_elim, List, [], ◌∷◌, map, refl, sym, ap, ap₂}
+use Rattle.std.proofs.Common.{◌∙◌, subst, arith, Some, None, Option, is_some, IfSome}
 use Rattle.std.specs.Prelude.{All, AllPairs, Contains}
 use Rattle.std.specs.List.{filter, find, list_all, list_any}
 use Rattle.std.proofs.Math.Bool.{and-true, and-false}
 use Rattle.std.proofs.lemmas.Bool.{cases_Bool, both_ways, true_from_ne_false, or_parts, and_parts, and_from, and_cases}
 use Rattle.std.proofs.lemmas.List.Elements.{All-nil, All-cons, All-head, All-tail, All-contains, Contains-append_right}
 use Rattle.valuation.specs.Lemmas.Lists.{Contains-cons_cases, AllPairs-head, AllPairs-tail}
-use Rattle.std.proofs.Common.{Option}
-use Rattle.std.proofs.Common.{is_some}
-use Rattle.std.proofs.Common.{IfSome}
 
 pub zero_or_more : (n : ℕ) → (n ≡ 0) ⊎ (0 < n)
 zero_or_more zero = inl refl
@@ -44,32 +41,18 @@ filter-lost p x xs e = simp e
 
 pub Contains-filter : {X : Type 0} (p : X → Bool) (xs : List X) (x : X) → Contains xs x → p x ≡ true → Contains (filter p xs) x
 Contains-filter p [] x c e = absurd (Contains-nil x c)
-Contains-filter p (y ∷ ys) x c e =
-    ⊎_elim (λ (d : y ≡ x). rw (filter-kept p y ys (ap p d ∙ e)) (subst (λ z. Contains (y ∷ filter p ys) z) d (Contains-head y (filter p ys))))
+Contains-filter p (y ∷ ys) x c e = ⊎_elim (search (rules, filter-kept, Contains-head))
     (λ (d : Contains ys x). ⊎_elim (λ (t : p y ≡ true). rw (filter-kept p y ys t) (Contains-tail y (filter p ys) x (Contains-filter p ys x d e)))
-    (λ (t : p y ≡ false). rw (filter-lost p y ys t) (Contains-filter p ys x d e)) (cases_Bool (p y)))
-    (Contains-cons_cases y ys x c)
+    (λ (t : p y ≡ false). rw (filter-lost p y ys t) (Contains-filter p ys x d e)) (cases_Bool (p y))) (Contains-cons_cases y ys x c)
 
 pub Contains-filter_parts : {X : Type 0} (p : X → Bool) (xs : List X) (x : X) → Contains (filter p xs) x → Contains xs x × (p x ≡ true)
 Contains-filter_parts p [] x c = absurd (Contains-nil x c)
-Contains-filter_parts {X} p (y ∷ ys) x c = ⊎_elim (kept (Contains-filter_parts p ys x)) (lost (Contains-filter_parts p ys x)) (cases_Bool (p y))
-  where
-    behind : (Contains (filter p ys) x → Contains ys x × (p x ≡ true)) → Contains (filter p ys) x → Contains (y ∷ ys) x × (p x ≡ true)
-    behind h d = let r = h d in (Contains-tail y ys x r.0, r.1)
-
-    kept : (Contains (filter p ys) x → Contains ys x × (p x ≡ true)) → p y ≡ true → Contains (y ∷ ys) x × (p x ≡ true)
-    kept h t =
-        ⊎_elim (λ (d : y ≡ x). (subst (λ z. Contains (y ∷ ys) z) d (Contains-head y ys), ap p (sym d) ∙ t)) (behind h)
-        (Contains-cons_cases y (filter p ys) x (subst (λ (l : List X). Contains l x) (filter-kept p y ys t) c))
-
-    lost : (Contains (filter p ys) x → Contains ys x × (p x ≡ true)) → p y ≡ false → Contains (y ∷ ys) x × (p x ≡ true)
-    lost h t = behind h (subst (λ (l : List X). Contains l x) (filter-lost p y ys t) c)
+Contains-filter_parts {X} p (y ∷ ys) x c = search (rules, cases_Bool, Contains-tail, Contains-head, Contains-cons_cases, filter-kept, filter-lost, (Contains-filter_parts p ys x))
 
 -- two tests that agree on the elements of the list keep the same ones
 pub filter_same_on : {X : Type 0} (p q : X → Bool) (xs : List X) → All (λ x. p x ≡ q x) xs → filter p xs ≡ filter q xs
 filter_same_on p q [] h = refl
-filter_same_on p q (x ∷ xs) h =
-    ap₂ (λ (b : Bool) (zs : List _). cond b (x ∷ zs) zs) (All-head (λ x. p x ≡ q x) x xs h) (filter_same_on p q xs (All-tail (λ x. p x ≡ q x) x xs h))
+filter_same_on p q (x ∷ xs) h = search (rules, All-head, All-tail, (filter_same_on p q xs (All-tail (λ x. p x ≡ q x) x xs h)))
 
 -- ---- a test of each element
 
@@ -94,11 +77,9 @@ list_all_fails p (y ∷ ys) e =
 pub find_first : {X : Type 0} (R : X → X → Type 0) (p : X → Bool) (xs : List X) → AllPairs R xs → (x : X) → Contains xs x → p x ≡ true
     → ((y : X) → R y x → p y ≡ false) → find p xs ≡ Some x
 find_first R p [] s x c e h = absurd (Contains-nil x c)
-find_first R p (y ∷ ys) s x c e h =
-    ⊎_elim (λ (d : y ≡ x). let t : p y ≡ true = ap p d ∙ e in simp t (ap Some d))
+find_first R p (y ∷ ys) s x c e h = ⊎_elim (search rules)
     (λ (d : Contains ys x). let t : p y ≡ false = h y (All-contains (R y) ys x (AllPairs-head R y ys s) d) in
-    simp t (find_first R p ys (AllPairs-tail R y ys s) x d e h))
-    (Contains-cons_cases y ys x c)
+    simp t (find_first R p ys (AllPairs-tail R y ys s) x d e h)) (Contains-cons_cases y ys x c)
 
 pub find_none : {X : Type 0} (p : X → Bool) (xs : List X) → ((x : X) → Contains xs x → p x ≡ false) → find p xs ≡ None
 find_none p [] h = refl
@@ -114,10 +95,7 @@ found_none p (y ∷ ys) e x c =
 -- what is found is the first of those that pass
 find_of_passing : {X : Type 0} (p : X → Bool) (xs : List X) → find p xs ≡ find (λ x. true) (filter p xs)
 find_of_passing p [] = refl
-find_of_passing p (x ∷ xs) = elim (p x) as (λ b. cond b (Some x) (find p xs) ≡ find (λ x. true) (cond b (x ∷ filter p xs) (filter p xs))) [
-  | true ↦ refl
-  | false ↦ find_of_passing p xs
-]
+find_of_passing p (x ∷ xs) = search (rules, (find_of_passing p xs))
 
 pub find_alike : {X : Type 0} (p q : X → Bool) (xs ys : List X) → filter p xs ≡ filter q ys → find p xs ≡ find q ys
 find_alike p q xs ys e = find_of_passing p xs ∙ ap (find (λ x. true)) e ∙ sym (find_of_passing q ys)
@@ -126,8 +104,7 @@ find_alike p q xs ys e = find_of_passing p xs ∙ ap (find (λ x. true)) e ∙ s
 
 pub map_same_on : {X Y : Type 0} (f g : X → Y) (xs : List X) → All (λ x. f x ≡ g x) xs → map f xs ≡ map g xs
 map_same_on f g [] h = refl
-map_same_on {X} {Y} f g (x ∷ xs) h =
-    ap₂ (λ (y : Y) (ys : List Y). y ∷ ys) (All-head (λ x. f x ≡ g x) x xs h) (map_same_on f g xs (All-tail (λ x. f x ≡ g x) x xs h))
+map_same_on {X} {Y} f g (x ∷ xs) h = search (rules, All-head, (map_same_on f g xs (All-tail (λ x. f x ≡ g x) x xs h)))
 
 pub map_same_at : {X Y : Type 0} (f g : X → Y) (xs : List X) → map f xs ≡ map g xs → (x : X) → Contains xs x → f x ≡ g x
 map_same_at f g [] e x c = absurd (Contains-nil x c)
@@ -154,58 +131,25 @@ list_any_has p xs x c t = true_from_ne_false (list_any p xs) (λ e. both_ways (p
 
 pub list_any_filter : {X : Type 0} (p q : X → Bool) (xs : List X) → list_any (λ x. p x && q x) xs ≡ list_any p (filter q xs)
 list_any_filter p q [] = refl
-list_any_filter p q (x ∷ xs) = elim (q x) as (λ b. ((p x && b) || list_any (λ x. p x && q x) xs) ≡ list_any p (cond b (x ∷ filter q xs) (filter q xs))) [
-  | true ↦ ap₂ (λ b c. b || c) (and-true (p x)) (list_any_filter p q xs)
-  | false ↦ ap (λ b. b || list_any (λ x. p x && q x) xs) (and-false (p x)) ∙ list_any_filter p q xs
-]
+list_any_filter p q (x ∷ xs) = search (rules, and-true, and-false, (list_any_filter p q xs))
 
 -- what passes once it is seen
 pub map-filter : {X Y : Type 0} (seen : X → Y) (p : Y → Bool) (xs : List X) → map seen (filter (λ x. p (seen x)) xs) ≡ filter p (map seen xs)
 map-filter seen p [] = refl
-map-filter {X} {Y} seen p (x ∷ xs) =
-    elim (p (seen x)) as (λ b. map seen (cond b (x ∷ filter (λ x. p (seen x)) xs) (filter (λ x. p (seen x)) xs)) ≡ cond b (seen x ∷ filter p (map seen xs))
-    (filter p (map seen xs))) [
-      | true ↦ ap (λ (zs : List Y). seen x ∷ zs) (map-filter seen p xs)
-      | false ↦ map-filter seen p xs
-    ]
+map-filter {X} {Y} seen p (x ∷ xs) = search (rules, (map-filter seen p xs))
 
 pub found_some : {X : Type 0} (p : X → Bool) (xs : List X) → IfSome (find p xs) (λ x. Contains xs x × (p x ≡ true))
 found_some p [] = tt
-found_some {X} p (x ∷ xs) = go (p x) refl (found_some p xs)
-  where
-    later : (found : Option X) → IfSome found (λ y. Contains xs y × (p y ≡ true)) → IfSome found (λ y. Contains (x ∷ xs) y × (p y ≡ true))
-    later None h = tt
-    later (Some y) h = (Contains-tail x xs y h.0, h.1)
-
-    go : (b : Bool) → p x ≡ b → IfSome (find p xs) (λ y. Contains xs y × (p y ≡ true))
-        → IfSome (cond b (Some x) (find p xs)) (λ y. Contains (x ∷ xs) y × (p y ≡ true))
-    go true e h = (Contains-head x xs, e)
-    go false e h = later (find p xs) h
+found_some {X} p (x ∷ xs) = search (rules, Contains-tail, Contains-head, (found_some p xs))
 
 pub find_same_on : {X : Type 0} (p q : X → Bool) (xs : List X) → All (λ x. p x ≡ q x) xs → find p xs ≡ find q xs
 find_same_on p q [] h = refl
-find_same_on {X} p q (x ∷ xs) h =
-    ap (λ b. cond b (Some x) (find p xs)) (All-head (λ x. p x ≡ q x) x xs h)
-    ∙ ap (λ (found : Option X). cond (q x) (Some x) found) (find_same_on p q xs (All-tail (λ x. p x ≡ q x) x xs h))
+find_same_on {X} p q (x ∷ xs) h = search (rules, All-head, All-tail, (find_same_on p q xs (All-tail (λ x. p x ≡ q x) x xs h)))
 
 pub find_filter : {X : Type 0} (p q : X → Bool) (xs : List X) → find p (filter q xs) ≡ find (λ x. p x && q x) xs
 find_filter p q [] = refl
-find_filter p q (x ∷ xs) =
-    elim (q x) as (λ b. find p (cond b (x ∷ filter q xs) (filter q xs)) ≡ cond (p x && b) (Some x) (find (λ x. p x && q x) xs)) [
-      | true ↦ elim (p x) as (λ b. cond b (Some x) (find p (filter q xs)) ≡ cond (b && true) (Some x) (find (λ x. p x && q x) xs)) [
-        | true ↦ refl
-        | false ↦ find_filter p q xs
-      ]
-      | false ↦ elim (p x) as (λ b. find p (filter q xs) ≡ cond (b && false) (Some x) (find (λ x. p x && q x) xs)) [
-        | true ↦ find_filter p q xs
-        | false ↦ find_filter p q xs
-      ]
-    ]
+find_filter p q (x ∷ xs) = search (rules, (find_filter p q xs))
 
 pub is_some-find_map : {X Y : Type 0} (p : Y → Bool) (f : X → Y) (xs : List X) → is_some (find (λ x. p (f x)) xs) ≡ list_any p (map f xs)
 is_some-find_map p f [] = refl
-is_some-find_map {X} p f (x ∷ xs) =
-    elim (p (f x)) as (λ b. is_some (cond b (Some x) (find (λ x. p (f x)) xs)) ≡ (b || list_any p (map f xs))) [
-      | true ↦ refl
-      | false ↦ is_some-find_map p f xs
-    ]
+is_some-find_map {X} p f (x ∷ xs) = search (rules, (is_some-find_map p f xs))

@@ -1,6 +1,7 @@
 -- What the points of a list are, good by good and split by split; and that points depend on values alone.
-use Rattle.std.proofs.Common.{◌≡◌, ℕ, ◌+◌, ◌≤◌, Bool, true, false, not, ◌&&◌, ltb, ◌⊎◌, inl, inr, ⊎_elim, List, [], ◌∷◌, length, map, refl, sym, ap, ap₂, ◌∙◌}
-use Rattle.std.proofs.Common.{subst, arith, Less}
+use Rattle.std.proofs.Common.{rules, ◌≡◌, ℕ, ◌+◌, ◌≤◌, Bool, true, false, not, ◌&&◌, ltb, ◌⊎◌, inl, inr, ⊎_elim, List, [], ◌∷◌, length, map, refl, sym, ap, ap₂}
+use Rattle.std.proofs.lemmas.Grind.{common_steps}
+use Rattle.std.proofs.Common.{◌∙◌, subst, arith, Less}
 use Rattle.std.specs.Prelude.{All, Contains, ◌↔◌}
 use Rattle.std.specs.List.{filter, list_all}
 use Rattle.std.proofs.lemmas.Bool.{and_parts, and_from, and_cases, not-true, not_from_false, ltb-true, ltb-false, lt-ltb}
@@ -13,10 +14,9 @@ use Rattle.goods_set.specs.Lemmas.AllBundles.{all_bundles_are, all_bundles_has, 
 use Rattle.valuation.specs.declared.atom.Atom.{Atom}
 use Rattle.valuation.specs.Values.{xor_value, or_value}
 use Rattle.valuation.specs.Lemmas.Lists.{AllPairs-map, Contains-map, Contains-unmap}
-use Rattle.prune.specs.Points.{points_where, is_xor_point, xor_points, is_part, is_or_point, or_points}
+use Rattle.prune.specs.Points.{points_where, is_xor_point, xor_points, is_part, is_or_point, or_points, IsXorPoint, IsPart, IsOrPoint}
 use Rattle.prune.specs.Lemmas.Lists.{Contains-filter, Contains-filter_parts, list_all_at, list_all_from, list_all_fails, All-from_Contains, filter_same_on}
 use Rattle.prune.specs.InOrder.{IsBefore, IsInOrder}
-use Rattle.prune.specs.Points.{IsXorPoint, IsPart, IsOrPoint}
 
 -- ---- the list of points
 
@@ -25,8 +25,7 @@ pub points_where-in_order : (passes : List ℕ → Bool) (value : List ℕ → �
 unfolding points_where
 points_where-in_order passes value goods =
     AllPairs-map (λ xs ys. bundle_cmp xs ys ≡ Less) IsBefore (λ bundle. record { bundle = bundle; price = value bundle }) (λ xs ys l. l)
-    (filter passes (all_bundles goods))
-    (AllPairs-filter (λ xs ys. bundle_cmp xs ys ≡ Less) passes (all_bundles goods) (all_bundles_rise goods))
+    (filter passes (all_bundles goods)) (search (rules, AllPairs-filter, all_bundles_rise))
 
 -- a point: on a bundle, which passes, at its value
 pub record IsPoint (passes : List ℕ → Bool) (value : List ℕ → ℕ) (goods : ℕ) (a : Atom (List ℕ)) : Type 0 where
@@ -78,28 +77,17 @@ points_where-same p q v w goods h k =
 
 pub IsXorPoint-from_test : (atoms : List (Atom (List ℕ))) (bundle : List ℕ) → is_xor_point atoms bundle ≡ true → IsXorPoint atoms bundle
 unfolding is_xor_point
-IsXorPoint-from_test atoms bundle e =
-    let less = λ (good : ℕ). ltb (xor_value atoms (without bundle (good ∷ []))) (xor_value atoms bundle) in
-    let parts = and_parts (ltb 0 (xor_value atoms bundle)) (list_all less bundle) e in
-    record { positive = ltb-true 0 (xor_value atoms bundle) parts.0; less = λ good c. ltb-true _ _ (list_all_at less bundle parts.1 good c) }
+IsXorPoint-from_test atoms bundle e = grind (arith, common_steps, and_parts, ltb-true, list_all_at)
 
 pub is_xor_point-true : (atoms : List (Atom (List ℕ))) (bundle : List ℕ) → IsXorPoint atoms bundle → is_xor_point atoms bundle ≡ true
 unfolding is_xor_point
-is_xor_point-true atoms bundle p =
-    let less = λ (good : ℕ). ltb (xor_value atoms (without bundle (good ∷ []))) (xor_value atoms bundle) in
-    and_from (ltb 0 (xor_value atoms bundle)) (list_all less bundle) (lt-ltb 0 (xor_value atoms bundle) p.positive)
-    (list_all_from less bundle (λ good c. lt-ltb _ _ (p.less good c)))
+is_xor_point-true atoms bundle p = search (rules, and_from, lt-ltb, list_all_from)
 
 pub is_part-true : (part bundle : List ℕ) → IsPart part bundle → is_part part bundle ≡ true
-is_part-true part bundle p =
-    and_from (ltb 0 (length part)) (is_inside part bundle && not (is_inside bundle part)) (lt-ltb 0 (length part) p.nonempty)
-    (and_from (is_inside part bundle) (not (is_inside bundle part)) p.inside (not_from_false (is_inside bundle part) p.proper))
+is_part-true part bundle p = search (rules, and_from, lt-ltb, not_from_false)
 
 pub IsPart-from_test : (part bundle : List ℕ) → IsRising part → is_part part bundle ≡ true → IsPart part bundle
-IsPart-from_test part bundle r e =
-    let a = and_parts (ltb 0 (length part)) (is_inside part bundle && not (is_inside bundle part)) e in
-    let b = and_parts (is_inside part bundle) (not (is_inside bundle part)) a.1 in
-    record { rising = r; nonempty = ltb-true 0 (length part) a.0; inside = b.0; proper = not-true (is_inside bundle part) b.1 }
+IsPart-from_test part bundle r e = search (rules, and_parts, ltb-true, not-true)
 
 -- what is inside a bundle over the goods has goods of these alone
 pub inside_below : (goods : ℕ) (part bundle : List ℕ) → AreBelow goods bundle → IsInside part bundle → AreBelow goods part
@@ -153,15 +141,9 @@ xor_points_are goods atoms a = (
 
 pub or_points_are : (goods : ℕ) (atoms : List (Atom (List ℕ))) (a : Atom (List ℕ))
     → (Contains (or_points goods atoms) a ↔ (IsBundle goods a.bundle × IsOrPoint atoms a.bundle × (a.price ≡ or_value atoms a.bundle)))
-or_points_are goods atoms a = (
-  λ c. let p = points_where-are (is_or_point goods atoms) (or_value atoms) goods a c in (
-    p.bundle,
+or_points_are goods atoms a = ( λ c. let p = points_where-are (is_or_point goods atoms) (or_value atoms) goods a c in ( p.bundle,
     IsOrPoint-from_test goods atoms a.bundle p.bundle p.chosen,
     p.price,
   ),
-  λ p. points_where-has (is_or_point goods atoms) (or_value atoms) goods a (record {
-    bundle = p.0;
-    chosen = is_or_point-true goods atoms a.bundle p.1;
-    price = p.2;
-  }),
+  search (rules, points_where-has, is_or_point-true),
 )

@@ -1,7 +1,7 @@
 -- The first bundle whose search takes more steps than it may. If all together have no limit, it is the first heavy one; fewer searches of the same steps
 -- are refused nowhere where more are not.
-use Rattle.std.proofs.Common.{◌≡◌, ℕ, ◌+◌, ◌-◌, ◌<◌, ◌≤◌, Bool, true, false, cond, ◌&&◌, ltb, ◌⊎◌, inl, inr, ⊎_elim, List, [], ◌∷◌, refl, sym, ap, ◌∙◌, arith}
-use Rattle.std.proofs.Common.{le_trans, Option, Some, None}
+use Rattle.std.proofs.Common.{rules, ◌≡◌, ℕ, ◌+◌, ◌-◌, ◌<◌, ◌≤◌, Bool, true, false, cond, ◌&&◌, ltb, ◌⊎◌, inl, inr, ⊎_elim, List, [], ◌∷◌, refl, sym, ap, ◌∙◌}
+use Rattle.std.proofs.Common.{arith, le_trans, Option, Some, None}
 use Rattle.std.specs.Prelude.{All, Contains, sum_by}
 use Rattle.std.specs.List.{filter, find}
 use Rattle.std.proofs.lemmas.Bool.{cases_Bool, cases_lt, ltb-true, lt-ltb, le-ltb}
@@ -42,10 +42,7 @@ first_over-within steps options bundle rest l = let t : ltb (next_steps options)
 
 find_filter : {X : Type 0} (p q : X → Bool) (xs : List X) → find p (filter q xs) ≡ find (λ x. q x && p x) xs
 find_filter p q [] = refl
-find_filter p q (x ∷ xs) = elim (q x) as (λ b. find p (cond b (x ∷ filter q xs) (filter q xs)) ≡ cond (b && p x) (Some x) (find (λ x. q x && p x) xs)) [
-  | true ↦ ap (cond (p x) (Some x)) (find_filter p q xs)
-  | false ↦ find_filter p q xs
-]
+find_filter p q (x ∷ xs) = search (rules, (find_filter p q xs))
 
 plain_refusals : (steps : List ℕ → ℕ) (limit : ℕ) (bundles : List (List ℕ))
     → first_over steps (plain_options limit) bundles ≡ find (λ bundle. ltb limit (steps bundle)) bundles
@@ -55,9 +52,7 @@ plain_refusals steps limit (bundle ∷ rest) = ap (cond (ltb limit (steps bundle
 
 pub first_refused-plain : (limit goods : ℕ) (atoms : List (Atom (List ℕ))) → first_refused (plain_options limit) goods atoms ≡ first_heavy goods limit atoms
 unfolding first_refused first_heavy is_heavy
-first_refused-plain limit goods atoms =
-    plain_refusals (search_steps_by Plain goods atoms) limit (searched_bundles goods atoms)
-    ∙ find_filter (λ bundle. ltb limit (search_steps_by Plain goods atoms bundle)) (λ bundle. ltb 0 (greatest_price atoms bundle)) (all_bundles goods)
+first_refused-plain limit goods atoms = search (rules, plain_refusals, find_filter)
 
 -- ---- the refused bundle does not depend on the number of goods
 
@@ -65,17 +60,12 @@ same_steps : (some other : List ℕ → ℕ) → ((bundle : List ℕ) → some b
     → first_over some options bundles ≡ first_over other options bundles
 unfolding first_over
 same_steps some other e [] options = refl
-same_steps some other e (bundle ∷ rest) options =
-    ap (λ n. cond (ltb (next_steps options) n) (Some bundle) (first_over some (options_after options n) rest)) (e bundle)
-    ∙ ap (cond (ltb (next_steps options) (other bundle)) (Some bundle)) (same_steps some other e rest (options_after options (other bundle)))
+same_steps some other e (bundle ∷ rest) options = search (rules, (same_steps some other e rest (options_after options (other bundle))))
 
 searched_any_goods : (fewer more : ℕ) (atoms : List (Atom (List ℕ))) → All (IsOnBundle fewer) atoms → All (IsOnBundle more) atoms
     → searched_bundles fewer atoms ≡ searched_bundles more atoms
-searched_any_goods fewer more atoms on there =
-    same_from_contains bundle_cmp bundle_cmp_strict (searched_bundles fewer atoms) (searched_bundles more atoms)
-    (IsStrictlySortedBy-filter bundle_cmp (λ bundle. ltb 0 (greatest_price atoms bundle)) (all_bundles fewer) (all_bundles_sorted fewer))
-    (IsStrictlySortedBy-filter bundle_cmp (λ bundle. ltb 0 (greatest_price atoms bundle)) (all_bundles more) (all_bundles_sorted more))
-    (moved fewer more there)
+searched_any_goods fewer more atoms on there = same_from_contains bundle_cmp bundle_cmp_strict (searched_bundles fewer atoms) (searched_bundles more atoms)
+    (search (rules, IsStrictlySortedBy-filter, all_bundles_sorted)) (search (rules, IsStrictlySortedBy-filter, all_bundles_sorted)) (moved fewer more there)
     (moved more fewer on)
   where
     moved : (goods others : ℕ) → All (IsOnBundle others) atoms → (bundle : List ℕ) → Contains (searched_bundles goods atoms) bundle
@@ -88,10 +78,7 @@ searched_any_goods fewer more atoms on there =
 pub first_refused_any_goods : (options : SearchOptions) (fewer more : ℕ) (atoms : List (Atom (List ℕ))) → All (IsOnBundle fewer) atoms
     → All (IsOnBundle more) atoms → first_refused options fewer atoms ≡ first_refused options more atoms
 unfolding first_refused
-first_refused_any_goods options fewer more atoms on there =
-    ap (first_over (search_steps_by options.kind fewer atoms) options) (searched_any_goods fewer more atoms on there)
-    ∙ same_steps (search_steps_by options.kind fewer atoms) (search_steps_by options.kind more atoms)
-    (search_steps_any_goods options.kind fewer more atoms on there) (searched_bundles more atoms) options
+first_refused_any_goods options fewer more atoms on there = search (rules, searched_any_goods, same_steps, search_steps_any_goods)
 
 -- ---- fewer searches
 
@@ -130,11 +117,7 @@ record HasLess (less more : SearchOptions) : Type 0 where
 
 none_over : (steps : List ℕ → ℕ) (options : SearchOptions) (bundle : List ℕ) (rest : List (List ℕ)) → first_over steps options (bundle ∷ rest) ≡ None
     → (steps bundle ≤ next_steps options) × (first_over steps (options_after options (steps bundle)) rest ≡ None)
-none_over steps options bundle rest e =
-    ⊎_elim
-    (λ (l : next_steps options < steps bundle). let f = first_over-refused steps options bundle rest l in absurd (let g : Some bundle ≡ None = sym f ∙ e in cc))
-    (λ (l : steps bundle ≤ next_steps options). (l, sym (first_over-within steps options bundle rest l) ∙ e))
-    (cases_lt (next_steps options) (steps bundle))
+none_over steps options bundle rest e = search (rules, first_over-refused, first_over-within, cases_lt)
 
 fewer_searches : (few many : List ℕ → Bool) (steps others : List ℕ → ℕ)
     → ((bundle : List ℕ) → few bundle ≡ true → (many bundle ≡ true) × (steps bundle ≡ others bundle)) → (bundles : List (List ℕ)) (less more : SearchOptions)
@@ -174,15 +157,7 @@ fewer_searches few many steps others h (bundle ∷ rest) less more k e =
 pub no_refused_point : (options : SearchOptions) (goods : ℕ) (atoms : List (Atom (List ℕ))) → All (IsOnBundle goods) atoms
     → first_refused options goods atoms ≡ None → first_refused options goods (or_points goods atoms) ≡ None
 unfolding first_refused
-no_refused_point options goods atoms on e =
-    let points = or_points goods atoms in
-    fewer_searches (λ bundle. ltb 0 (greatest_price points bundle)) (λ bundle. ltb 0 (greatest_price atoms bundle))
-    (search_steps_by options.kind goods points) (search_steps_by options.kind goods atoms)
-    (λ bundle t.
-    let l : 0 < greatest_price points bundle = ltb-true _ _ t in
-    let price = greatest_price-point goods atoms on bundle l in
-    (lt-ltb 0 (greatest_price atoms bundle) (omega arith), search_steps-point options.kind goods atoms on bundle l))
-    (all_bundles goods) options options (record { each = refl; total = at_most_itself options.total }) e
+no_refused_point options goods atoms on e = search (rules, fewer_searches, ltb-true, greatest_price-point, lt-ltb, search_steps-point, at_most_itself)
 
 -- ---- the same of heavy bundles
 
@@ -215,28 +190,18 @@ least_each (Some most) each = omega arith
 within_more : (total : Option ℕ) (each steps later : ℕ) → steps ≤ least_of total each → IsWithinTotal (total_after total steps) later
     → IsWithinTotal total (steps + later)
 within_more None each steps later l h most e = absurd (cc)
-within_more (Some total) each steps later l h most e =
-    let same : total ≡ most = cc in
-    let m : later ≤ total - steps = h (total - steps) refl in
-    omega arith
+within_more (Some total) each steps later l h most e = search rules
 
 within_later : (total : Option ℕ) (steps later : ℕ) → IsWithinTotal total (steps + later) → IsWithinTotal (total_after total steps) later
 within_later None steps later h most e = absurd (cc)
-within_later (Some total) steps later h most e =
-    let m : steps + later ≤ total = h total refl in
-    let left : total - steps ≡ most = cc in
-    omega arith
+within_later (Some total) steps later h most e = search rules
 
 each_within : (steps : List ℕ → ℕ) (bundles : List (List ℕ)) (options : SearchOptions) → first_over steps options bundles ≡ None
     → All (λ bundle. steps bundle ≤ options.each) bundles × IsWithinTotal options.total (sum_by steps bundles)
 each_within steps [] options e = (All-nil (λ (bundle : List ℕ). steps bundle ≤ options.each), λ most f. omega arith)
 each_within steps (bundle ∷ rest) options e =
     let parts = none_over steps options bundle rest e in
-    let later = each_within steps rest (options_after options (steps bundle)) parts.1 in (
-      All-cons (λ bundle. steps bundle ≤ options.each) bundle rest (le_trans parts.0 (least_each options.total options.each)) later.0,
-      rw (sum_by-cons steps bundle rest)
-          (within_more options.total options.each (steps bundle) (sum_by steps rest) parts.0 later.1),
-    )
+    search (rules, All-cons, least_each, sum_by-cons, within_more, (each_within steps rest (options_after options (steps bundle)) parts.1))
 
 none_from_within : (steps : List ℕ → ℕ) (bundles : List (List ℕ)) (options : SearchOptions) → All (λ bundle. steps bundle ≤ options.each) bundles
     → IsWithinTotal options.total (sum_by steps bundles) → first_over steps options bundles ≡ None
@@ -244,12 +209,7 @@ unfolding first_over
 none_from_within steps [] options each all = refl
 none_from_within steps (bundle ∷ rest) options each all =
     let together : IsWithinTotal options.total (steps bundle + sum_by steps rest) = rw (sum_by-cons steps bundle rest) at all in
-    let first : steps bundle ≤ least_of options.total options.each =
-    least_from options.total options.each (steps bundle) (All-head (λ bundle. steps bundle ≤ options.each) bundle rest each)
-    (λ most e. let m = together most e in omega arith) in
-    first_over-within steps options bundle rest first
-    ∙ none_from_within steps rest (options_after options (steps bundle)) (All-tail (λ bundle. steps bundle ≤ options.each) bundle rest each)
-    (within_later options.total (steps bundle) (sum_by steps rest) together)
+    search (rules, least_from, All-head, first_over-within, All-tail, within_later, (none_from_within steps rest (options_after options (steps bundle)) (All-tail (λ bundle. steps bundle ≤ options.each) bundle rest each) (within_later options.total (steps bundle) (sum_by steps rest) together)))
 
 pub none_refused : (options : SearchOptions) (goods : ℕ) (atoms : List (Atom (List ℕ))) → first_refused options goods atoms ≡ None
     → All (λ bundle. search_steps_by options.kind goods atoms bundle ≤ options.each) (searched_bundles goods atoms)
@@ -305,12 +265,7 @@ refused_over steps (first ∷ rest) options bundle e =
 pub refused_load : (options : SearchOptions) (goods : ℕ) (atoms : List (Atom (List ℕ))) (bundle : List ℕ) → All (IsOnBundle goods) atoms
     → first_refused options goods atoms ≡ Some bundle → options.total ≡ None → options.each < steps_at_most atoms bundle
 unfolding first_refused
-refused_load options goods atoms bundle on e none =
-    let bound = search_within_bound options.kind goods atoms on bundle in
-    ⊎_elim (λ (l : options.each < search_steps_by options.kind goods atoms bundle). omega arith)
-    (λ (r : (most : ℕ) × (options.total ≡ Some most) × (most < sum_by (search_steps_by options.kind goods atoms) (searched_bundles goods atoms))).
-    absurd (let d : None ≡ Some r.0 = sym none ∙ r.1 in cc))
-    (refused_over (search_steps_by options.kind goods atoms) (searched_bundles goods atoms) options bundle e)
+refused_load options goods atoms bundle on e none = search (rules, search_within_bound, refused_over)
 
 -- ---- a fault
 

@@ -1,6 +1,6 @@
 -- Points and tables of values say the same: points are empty exactly if the table is all zeros, and tables are equal exactly
 -- if the points are.
-use Rattle.std.proofs.Common.{◌≡◌, ℕ, ◌<◌, false, not, eqb, List, [], map, sym, ap, ◌∙◌, arith}
+use Rattle.std.proofs.Common.{rules, ◌≡◌, ℕ, ◌<◌, false, not, eqb, List, [], map, sym, ap, ◌∙◌, arith}
 use Rattle.std.specs.Prelude.{All, Contains, ◌↔◌}
 use Rattle.std.proofs.lemmas.Bool.{not-false, eqb-true, eq-eqb, not_from_true}
 use Rattle.std.proofs.lemmas.List.Elements.{All-map, All-contains}
@@ -24,12 +24,7 @@ use Rattle.prune.specs.Lemmas.KeptBids.{just_bundles, xor_points_same, xor_point
 -- a table without an entry above 0, and a value of 0 on each bundle over the goods
 table_zero : (value : List ℕ → ℕ) (goods : ℕ) → ((bundle : List ℕ) → IsBundle goods bundle → value bundle ≡ 0) → is_nonzero (map value (all_bundles goods))
     ≡ false
-table_zero value goods h =
-    list_any_none (λ n. not (eqb n 0)) (map value (all_bundles goods))
-    (All-map (λ n. not (eqb n 0) ≡ false) value (all_bundles goods)
-    (All-from_Contains (λ bundle. not (eqb (value bundle) 0) ≡ false) (all_bundles goods) (λ bundle c.
-    not_from_true (eqb (value bundle) 0)
-    (eq-eqb (value bundle) 0 (h bundle (All-contains (IsBundle goods) (all_bundles goods) bundle (all_bundles_are goods) c))))))
+table_zero value goods h = search (rules, list_any_none, All-map, All-from_Contains, not_from_true, eq-eqb, all_bundles_are)
 
 zero_at : (value : List ℕ → ℕ) (goods : ℕ) → is_nonzero (map value (all_bundles goods)) ≡ false → (bundle : List ℕ) → IsBundle goods bundle → value bundle ≡ 0
 zero_at value goods e bundle b =
@@ -40,9 +35,7 @@ zero_at value goods e bundle b =
 -- equal tables, and equal values on each bundle over the goods
 table_same : (one other : List ℕ → ℕ) (goods : ℕ) → ((bundle : List ℕ) → IsBundle goods bundle → one bundle ≡ other bundle)
     → map one (all_bundles goods) ≡ map other (all_bundles goods)
-table_same one other goods h =
-    map_same_on one other (all_bundles goods) (All-from_Contains (λ bundle. one bundle ≡ other bundle) (all_bundles goods)
-    (λ bundle c. h bundle (All-contains (IsBundle goods) (all_bundles goods) bundle (all_bundles_are goods) c)))
+table_same one other goods h = search (rules, map_same_on, All-from_Contains, all_bundles_are)
 
 same_at : (one other : List ℕ → ℕ) (goods : ℕ) → map one (all_bundles goods) ≡ map other (all_bundles goods) → (bundle : List ℕ) → IsBundle goods bundle
     → one bundle ≡ other bundle
@@ -56,8 +49,7 @@ module _ (value : List (Atom (List ℕ)) → List ℕ → ℕ) (goods : ℕ) whe
       → ((bundle : List ℕ) → IsBundle goods bundle → value points bundle ≡ value atoms bundle)
       → ((a : Atom (List ℕ)) → Contains points a → IsBundle goods a.bundle × (0 < value atoms a.bundle))
       → (points ≡ [] ↔ is_nonzero (map (value atoms) (all_bundles goods)) ≡ false)
-  no_points nil atoms points keep are = (
-    λ e. table_zero (value atoms) goods (λ bundle b. sym (keep bundle b) ∙ ap (λ (zs : List (Atom (List ℕ))). value zs bundle) e ∙ nil bundle),
+  no_points nil atoms points keep are = ( search (rules, table_zero),
     λ e. nil_from_none points (λ a c.
         let positive : 0 < value atoms a.bundle = (are a c).1 in
         let none : value atoms a.bundle ≡ 0 = zero_at (value atoms) goods e a.bundle (are a c).0 in
@@ -70,11 +62,7 @@ module _ (value : List (Atom (List ℕ)) → List ℕ → ℕ) (goods : ℕ) whe
       → ((bundle : List ℕ) → IsBundle goods bundle → value more bundle ≡ value other bundle)
       → (((bundle : List ℕ) → IsBundle goods bundle → value one bundle ≡ value other bundle) → points ≡ more)
       → (map (value one) (all_bundles goods) ≡ map (value other) (all_bundles goods) ↔ points ≡ more)
-  same_points one other points more keep kept depend = (
-    λ e. depend (same_at (value one) (value other) goods e),
-    λ e. table_same (value one) (value other) goods (λ bundle b. sym (keep bundle b) ∙ ap (λ (zs : List (Atom (List ℕ))). value zs bundle) e
-        ∙ kept bundle b),
-  )
+  same_points one other points more keep kept depend = search (rules, same_at, table_same)
 
 -- ---- XOR
 

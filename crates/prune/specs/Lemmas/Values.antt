@@ -1,6 +1,6 @@
 -- Lemmas on values: of lists of which one dominates the other, and of the atoms of a list that matter for a bundle.
-use Rattle.std.proofs.Common.{◌≡◌, ℕ, ◌<◌, ◌≤◌, max, Bool, true, false, cond, ◌⊎◌, inl, inr, ⊎_elim, List, [], ◌∷◌, length, sym, ◌∙◌, subst, arith, le_trans}
-use Rattle.std.proofs.Common.{le_refl, le_antisymm}
+use Rattle.std.proofs.Common.{rules, ◌≡◌, ℕ, ◌<◌, ◌≤◌, max, Bool, true, false, cond, ◌⊎◌, inl, inr, ⊎_elim, List, [], ◌∷◌, length, sym, ◌∙◌, subst, arith}
+use Rattle.std.proofs.Common.{le_trans, le_refl, le_antisymm}
 use Rattle.std.specs.Prelude.{All, Contains}
 use Rattle.std.specs.List.{filter}
 use Rattle.std.proofs.lemmas.Bool.{cases_Bool}
@@ -20,25 +20,19 @@ use Rattle.prune.specs.Lemmas.Lists.{Contains-nil, Contains-head, Contains-tail,
 pub xor_value-member : (atoms : List (Atom (List ℕ))) (a : Atom (List ℕ)) → Contains atoms a → (bundle : List ℕ) → IsInside a.bundle bundle
     → a.price ≤ xor_value atoms bundle
 xor_value-member [] a c bundle i = absurd (Contains-nil a c)
-xor_value-member (b ∷ rest) a c bundle i =
-    ⊎_elim (λ (e : b ≡ a). subst (λ (z : Atom (List ℕ)). z.price ≤ xor_value (b ∷ rest) bundle) e
-    (xor_value-price b rest bundle (subst (λ (z : Atom (List ℕ)). IsInside z.bundle bundle) (sym e) i)))
-    (λ (d : Contains rest a). le_trans (xor_value-member rest a d bundle i) (xor_value-rest b rest bundle))
-    (Contains-cons_cases b rest a c)
+xor_value-member (b ∷ rest) a c bundle i = ⊎_elim (search (rules, xor_value-price))
+    (λ (d : Contains rest a). le_trans (xor_value-member rest a d bundle i) (xor_value-rest b rest bundle)) (Contains-cons_cases b rest a c)
 
 pub xor_value-bound : (atoms : List (Atom (List ℕ))) (bundle : List ℕ) (n : ℕ) → All (λ a. IsInside a.bundle bundle → a.price ≤ n) atoms
     → xor_value atoms bundle ≤ n
 xor_value-bound [] bundle n h = omega (arith, xor_value-nil bundle)
 xor_value-bound (a ∷ rest) bundle n h =
-    xor_value-least a rest bundle n (xor_value-bound rest bundle n (All-tail (λ a. IsInside a.bundle bundle → a.price ≤ n) a rest h))
-    (All-head (λ a. IsInside a.bundle bundle → a.price ≤ n) a rest h)
+    search (rules, xor_value-least, All-tail, All-head, (xor_value-bound rest bundle n (All-tail (λ a. IsInside a.bundle bundle → a.price ≤ n) a rest h)))
 
 -- if each atom is dominated on its own bundle by another list, so is each value
 pub xor_value-dominated : (other atoms : List (Atom (List ℕ))) → All (λ a. a.price ≤ xor_value other a.bundle) atoms → (bundle : List ℕ)
     → xor_value atoms bundle ≤ xor_value other bundle
-xor_value-dominated other atoms h bundle =
-    xor_value-bound atoms bundle (xor_value other bundle) (All-from_Contains (λ a. IsInside a.bundle bundle → a.price ≤ xor_value other bundle) atoms
-    (λ a c i. le_trans (All-contains (λ a. a.price ≤ xor_value other a.bundle) atoms a h c) (xor_value-grows other a.bundle bundle i)))
+xor_value-dominated other atoms h bundle = search (rules, xor_value-bound, All-from_Contains, All-contains, xor_value-grows)
 
 -- a value above 0 is the price of an atom inside the bundle
 pub xor_value-reached : (atoms : List (Atom (List ℕ))) (bundle : List ℕ) → 0 < xor_value atoms bundle → (a : Atom (List ℕ)) × Contains atoms a
@@ -91,9 +85,7 @@ pub or_value-dominated : (other : List (Atom (List ℕ))) → All (λ a. 0 < len
 or_value-dominated other some [] h bundle = omega (arith, or_value-nil bundle)
 or_value-dominated other some (a ∷ rest) h bundle =
     let more = All-tail (λ a. a.price ≤ or_value other a.bundle) a rest h in
-    let first : a.price ≤ or_value other a.bundle = All-head (λ a. a.price ≤ or_value other a.bundle) a rest h in
-    or_value-least a rest bundle (or_value other bundle) (or_value-dominated other some rest more bundle)
-    (λ i. let left = or_value-dominated other some rest more (without bundle a.bundle) in let both = or_value-split other some a.bundle bundle i in omega arith)
+    search (rules, All-head, or_value-least, or_value-split, (or_value-dominated other some rest more bundle), (or_value-dominated other some rest more (without bundle a.bundle)))
 
 -- only the atoms inside the bundle matter
 enough_on : (p : Atom (List ℕ) → Bool) (atoms : List (Atom (List ℕ))) (bundle : List ℕ) → All (λ a. IsInside a.bundle bundle → p a ≡ true) atoms
@@ -101,19 +93,7 @@ enough_on : (p : Atom (List ℕ) → Bool) (atoms : List (Atom (List ℕ))) (bun
 enough_on p [] bundle h = le_refl _
 enough_on p (a ∷ rest) bundle h =
     let more = All-tail (λ a. IsInside a.bundle bundle → p a ≡ true) a rest h in
-    let first = All-head (λ a. IsInside a.bundle bundle → p a ≡ true) a rest h in
-    or_value-least a rest bundle _
-    (le_trans (enough_on p rest bundle more)
-    (elim (p a) as (λ b. or_value (filter p rest) bundle ≤ or_value (cond b (a ∷ filter p rest) (filter p rest)) bundle) [
-      | true ↦
-          or_value-rest a (filter p rest) bundle
-      | false ↦ le_refl _
-    ]))
-    (λ i.
-    let taken = or_value-taken a (filter p rest) bundle i in
-    let left = enough_on p rest (without bundle a.bundle)
-    (λ k d l j. more k d l (inside_trans _ (without bundle a.bundle) bundle j (without_inside bundle a.bundle))) in
-    rw (filter-kept p a rest (first i)) (omega arith))
+    search (rules, All-head, or_value-least, or_value-rest, or_value-taken, inside_trans, without_inside, filter-kept, (enough_on p rest bundle more), (enough_on p rest (without bundle a.bundle) (λ k d l j. more k d l (inside_trans _ (without bundle a.bundle) bundle j (without_inside bundle a.bundle)))))
 
 pub or_value-filter_on : (p : Atom (List ℕ) → Bool) (atoms : List (Atom (List ℕ))) (bundle : List ℕ) → All (λ a. IsInside a.bundle bundle → p a ≡ true) atoms
     → or_value (filter p atoms) bundle ≡ or_value atoms bundle
