@@ -132,6 +132,7 @@ pub use Rattle.prune.specs.InOrder.{IsInOrder, IsBefore}
 pub use Rattle.prune.specs.Lemmas.Fates.{or_fate-reaches, indices_below-within}
 pub use Rattle.prune.specs.Lemmas.InOrder.{before_itself, before_not_inside, same_in_order}
 pub use Rattle.prune.specs.Lemmas.KeptBids.{or_points_keep_values, or_points_on_bundles, xor_points_keep_values, on_bundles, just_bundles, or_points_are_atoms}
+pub use Rattle.prune.specs.Lemmas.KeptBids.{has_from_contains, contains_from_has}
 pub use Rattle.prune.specs.Lemmas.KeptBids.{xor_points_are_atoms}
 pub use Rattle.prune.specs.Lemmas.Lists.{find_same_on, map_same_on, list_all_fails, All-from_Contains, Contains-filter, Contains-filter_parts, Contains-nil}
 pub use Rattle.prune.specs.Lemmas.Lists.{Contains-tail, list_all_at, list_all_from, filter-kept, filter-lost, list_any_fails, list_any_found, Contains-head}

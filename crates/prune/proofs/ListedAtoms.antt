@@ -19,6 +19,7 @@ use Rattle.std.proofs.lemmas.List.Sorted.{Contains-permutation, IsPermutation-sy
 use Rattle.std.proofs.lemmas.Map.Keys.{IsDistinct-IsPermutation, IsStrictlyIncreasing-from_distinct}
 use Rattle.std.proofs.lemmas.Map.Made.{IsDistinct-from_AllPairs}
 use Rattle.goods_set.specs.Bundles.{AreAbove, IsRising, has_good, is_inside, good_from}
+use Rattle.prune.specs.Lemmas.KeptBids.{contains_from_has, has_from_contains}
 use Rattle.goods_set.specs.Lemmas.Members.{has_cases, has-filter, AreAbove-from_has, IsRising-filter, same_from_has, inside_at}
 use Rattle.goods_set.specs.Orders.{bundle_cmp}
 use Rattle.prune.specs.Internal.Fingerprints.{AreMarks}
@@ -34,7 +35,6 @@ use Rattle.valuation.specs.Packings.{atom_at}
 use Rattle.prune.specs.Internal.Listings.{NoneInsideFrom}
 use Rattle.prune.specs.Lemmas.InOrder.{before_itself}
 use Rattle.prune.specs.Lemmas.Lists.{map-filter, Contains-head, Contains-tail, Contains-filter, Contains-filter_parts, All-from_Contains}
-use Rattle.prune.specs.Lemmas.KeptBids.{has_from_Contains}
 
 -- ---- lists of indices
 
@@ -52,15 +52,10 @@ pub index_within : (lists : List (List Posting)) (listed : ℕ) (atoms : List (A
     → index < length atoms
 index_within lists listed atoms good index a c = let r = posting_at lists listed atoms good index a c in let l = r.1.within in omega (arith, r.2)
 
-pub Contains_from_has : (xs : List ℕ) (g : ℕ) → has_good xs g ≡ true → Contains xs g
-Contains_from_has [] g h = absurd (both_ways false refl h)
-Contains_from_has (x ∷ xs) g h = ⊎_elim (search (rules, Contains-head))
-    (λ (k : has_good xs g ≡ true). Contains-tail x xs g (Contains_from_has xs g k)) (has_cases x xs g h)
-
 rising_from_pairs : (xs : List ℕ) → AllPairs (λ i j. i < j) xs → IsRising xs
 rising_from_pairs [] s = tt
 rising_from_pairs (x ∷ xs) s = (
-  AreAbove-from_has x xs (λ g h. All-contains (λ j. x < j) xs g (AllPairs-head (λ i j. i < j) x xs s) (Contains_from_has xs g h)),
+  AreAbove-from_has x xs (λ g h. All-contains (λ j. x < j) xs g (AllPairs-head (λ i j. i < j) x xs s) (contains_from_has xs g h)),
   rising_from_pairs xs (AllPairs-tail (λ i j. i < j) x xs s),
 )
 
@@ -191,7 +186,7 @@ IsFinding-all lists listed atoms bundle from found sorted a unlisted none f p up
     (AllPairs-from_increasing sorted (IsStrictlyIncreasing-from_distinct sorted (IsNonDecreasingBy-from_sort (λ n. n) sorted up) distinct)))
     (IsRising-filter test all (range_rises 0 (length atoms)))
     (λ g h.
-    let there = Contains-permutation sorted found g (IsPermutation-sym found sorted p) (Contains_from_has sorted g h) in
+    let there = Contains-permutation sorted found g (IsPermutation-sym found sorted p) (contains_from_has sorted g h) in
     let s = All-contains (λ index. (test index ≡ true) × (index < length atoms)) found g f.sound there in
     has-filter test all g ∙ and_from (test g) (has_good all g) s.0 (range_has 0 (length atoms) g (omega arith) (omega (arith, s.1))))
     (λ g h.
@@ -199,7 +194,7 @@ IsFinding-all lists listed atoms bundle from found sorted a unlisted none f p up
     let r = has_range 0 (length atoms) g t.1 in
     let within : g < listed = is_listed listed atoms bundle unlisted g (omega (arith, r.1)) t.0 in
     let l = listed_before lists listed atoms bundle from g a none within t.0 in
-    has_from_Contains sorted g (Contains-permutation found sorted g p (f.complete l.0 g l.1 l.2 l.3 t.0)))
+    has_from_contains sorted g (Contains-permutation found sorted g p (f.complete l.0 g l.1 l.2 l.3 t.0)))
 
 -- ---- the atoms at the indices found
 
@@ -208,7 +203,7 @@ pub indices_in_list : (atoms : List (Atom (List ℕ))) (bundle indices : List �
 indices_in_list atoms bundle indices e =
     rw e (All-filter (is_inside_at atoms bundle) (λ index. index < length atoms) (range_with_len 0 (length atoms))
     (All-from_Contains (λ index. index < length atoms) (range_with_len 0 (length atoms))
-    (λ g c. let r = has_range 0 (length atoms) g (has_from_Contains (range_with_len 0 (length atoms)) g c) in omega (arith, r.1))))
+    (λ g c. let r = has_range 0 (length atoms) g (has_from_contains (range_with_len 0 (length atoms)) g c) in omega (arith, r.1))))
 
 pub atoms_at_indices : (atoms : List (Atom (List ℕ))) (bundle indices : List ℕ) → indices ≡ filter (is_inside_at atoms bundle) (range_with_len 0 (length atoms))
     → map (atom_at atoms) indices ≡ filter (λ a. is_inside a.bundle bundle) atoms

@@ -1,13 +1,13 @@
 -- Bids of which each two can win. That does not depend on their order, and no number is there twice since a bid cannot win beside itself,
 -- so such numbers are an allocation once they are sorted.
-use Rattle.analysis.proofs.Common.{rules, IsSorted, ◌≡◌, ℕ, ◌<◌, ◌≤◌, true, not, ⊎_elim, ◌⊎◌, inl, inr, List, [], ◌∷◌, length, map, get_or, refl, sym, ap}
-use Rattle.analysis.proofs.Common.{subst, Option, Some, None, arith, nat_cmp, All, AllPairs, Contains, IsPermutation, IsTrue, list_all, and_parts, and_from}
-use Rattle.analysis.proofs.Common.{nat_cmp_total, All-head, All-tail, All-contains, All-permutation, sum_by-IsPermutation, AreBelow, all_bundles, are_apart}
-use Rattle.analysis.proofs.Common.{all_bundles_has, apart_sym, apart_inside_none, inside_refl, PlainBid, PlainFile, IsPlainFile, AllPairs-nil, AllPairs-cons}
-use Rattle.analysis.proofs.Common.{AllPairs-head, AllPairs-tail, Contains-cons_cases, Contains-map, Contains-unmap, le_or_lt, permutation-sort_by}
-use Rattle.analysis.proofs.Common.{sorted-sort_by, sort_by, All-from_Contains, Contains-filter, Contains-filter_parts, Contains-nil, Contains-tail, list_all_at}
-use Rattle.analysis.proofs.Common.{list_all_from, bid_at, AreWinners, IsAllocation, can_all_win, can_both_win, greatest_revenue, revenue, share_dummy, max}
-use Rattle.analysis.proofs.Common.{all_bundles_are, allocations, greatest}
+use Rattle.analysis.proofs.Common.{rules, IsSorted, ◌≡◌, ℕ, ◌<◌, ◌≤◌, true, not, ⊎_elim, ◌⊎◌, inl, inr, List, [], ◌∷◌, length, map, get_or, refl, sym, ap, Some}
+use Rattle.analysis.proofs.Common.{subst, Option, None, arith, nat_cmp, All, AllPairs, Contains, IsPermutation, IsTrue, list_all, and_parts, and_from, All-head}
+use Rattle.analysis.proofs.Common.{nat_cmp_total, All-tail, All-contains, All-permutation, sum_by-IsPermutation, AreBelow, all_bundles, are_apart, apart_sym}
+use Rattle.analysis.proofs.Common.{all_bundles_has, apart_inside_none, inside_refl, PlainBid, PlainFile, IsPlainFile, AllPairs-nil, AllPairs-cons, Contains-map}
+use Rattle.analysis.proofs.Common.{AllPairs-head, AllPairs-tail, Contains-cons_cases, Contains-unmap, le_or_lt, permutation-sort_by, sorted-sort_by, sort_by}
+use Rattle.analysis.proofs.Common.{All-from_Contains, Contains-filter, Contains-filter_parts, Contains-nil, Contains-tail, list_all_at, list_all_from, bid_at}
+use Rattle.analysis.proofs.Common.{AreWinners, IsAllocation, can_all_win, can_both_win, greatest_revenue, revenue, share_dummy, max, all_bundles_are, greatest}
+use Rattle.analysis.proofs.Common.{allocations}
 use Rattle.analysis.proofs.Explaining.KeptBids.{bid_here}
 use Rattle.analysis.proofs.Explaining.Packings.{increasing, pairs_sorted, rising_from_pairs}
 use Rattle.canon.specs.Lemmas.OrDifferences.{eqb_swap}

@@ -1,10 +1,10 @@
 -- The numbers of the bids that have a good, bid by bid. The goods of a bid rise, with its dummy good behind them, so its number is put once
 -- in the list of each.
-use Rattle.analysis.proofs.Common.{rules, ◌≡◌, ℕ, ◌+◌, ◌<◌, Bool, ⊎_elim, List, [], ◌∷◌, ◌++◌, length, set, get_or, refl, sym, ap, ap₂, ◌∙◌, subst, Option}
-use Rattle.analysis.proofs.Common.{Some, Global, append-nil, get_or-set_same, get_or-set_other, All, Vec, filter, range_with_len, cases_eq, eq-eqb, ne_eqb}
-use Rattle.analysis.proofs.Common.{or_left, get_or-append_seam, get_or_append_left, get_or-map, length-append, length-map, length-set, map-set, filter-append}
-use Rattle.analysis.proofs.Common.{AreAbove, AreBelow, IsRising, has_good, IsBid, PlainBid, PlainFile, dummy_good, goods_of}
-use Rattle.analysis.proofs.Common.{filter-kept, filter-lost, bid_at, AreByGood, lists_of, with_bid, bids_with, has_not_head, list_at, with_number}
+use Rattle.analysis.proofs.Common.{rules, ◌≡◌, ℕ, ◌+◌, ◌<◌, Bool, ⊎_elim, List, [], ◌∷◌, ◌++◌, length, set, get_or, refl, sym, ap, ap₂, ◌∙◌, subst, Option, All}
+use Rattle.analysis.proofs.Common.{Some, Global, append-nil, get_or-set_same, get_or-set_other, Vec, filter, range_with_len, cases_eq, eq-eqb, ne_eqb, or_left}
+use Rattle.analysis.proofs.Common.{get_or-append_seam, get_or_append_left, get_or-map, length-append, length-map, length-set, map-set, filter-append, AreAbove}
+use Rattle.analysis.proofs.Common.{AreBelow, IsRising, has_good, IsBid, PlainBid, PlainFile, dummy_good, goods_of, filter-kept, filter-lost, bid_at, AreByGood}
+use Rattle.analysis.proofs.Common.{lists_of, with_bid, bids_with, has_not_head, list_at, with_number}
 use Rattle.analysis.proofs.Allocating.RowTexts.{range_next}
 use Rattle.goods_set.specs.Lemmas.Members.{AreBelow-higher}
 

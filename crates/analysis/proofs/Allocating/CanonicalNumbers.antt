@@ -1,10 +1,10 @@
 -- Numbers of kept bids and numbers of the canonical file. Each gives back the other, so a list of either that rises does too, once what it
 -- gives is sorted.
 use Rattle.analysis.proofs.Common.{rules, ◌≡◌, ℕ, ◌<◌, true, List, [], ◌∷◌, length, map, refl, sym, ap, ap₂, ◌∙◌, subst, nat_cmp, nat_cmp-IsAntisymmetric, All}
-use Rattle.analysis.proofs.Common.{IsPermutation, nat_cmp_total, All-head, All-map, All-tail, All-weaker, IsPermutation-map, IsPermutation-sym, IsRising}
-use Rattle.analysis.proofs.Common.{PlainBid, PlainFile, IsPlainFile, All-sort_by, permutation-sort_by, sorted-sort_by, sorted_is_sort_by, sort_by}
-use Rattle.analysis.proofs.Common.{canonical_file, IsPlainFile-canonical, bid_at, PlainReason, Keep, Zero, Same, Inside, Packing, IsKeptAs, is_kept}
-use Rattle.analysis.proofs.Common.{kept_number, IsDecided, IsAllocation, AreKept, in_canonical_file, kept_as, number_kept_as, same_Some, IsPermutation-trans}
+use Rattle.analysis.proofs.Common.{IsPermutation, nat_cmp_total, All-head, All-map, All-tail, All-weaker, IsPermutation-map, IsPermutation-sym, IsRising, Keep}
+use Rattle.analysis.proofs.Common.{PlainBid, PlainFile, IsPlainFile, All-sort_by, permutation-sort_by, sorted-sort_by, sorted_is_sort_by, sort_by, bid_at, Zero}
+use Rattle.analysis.proofs.Common.{canonical_file, IsPlainFile-canonical, PlainReason, Same, Inside, Packing, IsKeptAs, is_kept, kept_number, IsDecided}
+use Rattle.analysis.proofs.Common.{IsAllocation, AreKept, in_canonical_file, kept_as, number_kept_as, same_Some, IsPermutation-trans}
 use Rattle.analysis.specs.Reasons.{reason_of}
 use Rattle.analysis.proofs.Explaining.BestBids.{alike_from}
 use Rattle.analysis.proofs.Explaining.KeptBidsBest.{best-once, one_key_same}

@@ -1,14 +1,14 @@
 -- Clashes, from the last bid to the first. Two bids cannot both win exactly if they share a good, where the dummy good is one behind the
 -- real goods. So the first later bid that clashes with a bid is the least of the first later bids that have one of its goods.
-use Rattle.analysis.proofs.Common.{find_none, [], common_steps, rules, ◌≡◌, ℕ, ◌+◌, ◌<◌, ◌≤◌, Bool, true, false, not, cond, ◌||◌, ⊎_elim, List, ◌∷◌, length}
-use Rattle.analysis.proofs.Common.{drop, set, get_or, refl, sym, ap, ◌∙◌, subst, arith, Option, None, Some, get_or-set_same, get_or-set_other, zero, suc, All}
-use Rattle.analysis.proofs.Common.{IfSome, find, both_ways, cases_Bool, cases_eq, eq-eqb, false_from_ne_true, ne_eqb, not_from_false, not_from_true, or_left}
-use Rattle.analysis.proofs.Common.{drop_more, length-set, All-from_recursion, AreAbove, AreBelow, IsBundle, IsRising, has_good, has_below, IsBid, IsPlainFile}
-use Rattle.analysis.proofs.Common.{PlainBid, PlainFile, goods_of, All-from_Contains, list_any_fails, list_any_found, bid_at, first_clash, first_rival, pair_or}
-use Rattle.analysis.proofs.Common.{can_both_win, held_by, least_holder, list_any, find_same_on, AreHolders, has, holder_at, lesser}
+use Rattle.analysis.proofs.Common.{find_none, [], common_steps, rules, ◌≡◌, ℕ, ◌+◌, ◌<◌, ◌≤◌, Bool, true, false, not, cond, ◌||◌, ⊎_elim, List, ◌∷◌, length, ap}
+use Rattle.analysis.proofs.Common.{drop, set, get_or, refl, sym, ◌∙◌, subst, arith, Option, None, Some, get_or-set_same, get_or-set_other, zero, suc, All, find}
+use Rattle.analysis.proofs.Common.{IfSome, both_ways, cases_Bool, cases_eq, eq-eqb, false_from_ne_true, ne_eqb, not_from_false, not_from_true, or_left, IsBid}
+use Rattle.analysis.proofs.Common.{drop_more, length-set, All-from_recursion, AreAbove, AreBelow, IsBundle, IsRising, has_good, has_below, IsPlainFile, bid_at}
+use Rattle.analysis.proofs.Common.{PlainBid, PlainFile, goods_of, All-from_Contains, list_any_fails, list_any_found, first_clash, first_rival, pair_or, held_by}
+use Rattle.analysis.proofs.Common.{can_both_win, least_holder, list_any, find_same_on, AreHolders, has, holder_at, lesser, contains_from_has, has_from_contains}
 use Rattle.analysis.proofs.Explaining.KeptBids.{bid_here}
 use Rattle.analysis.proofs.Allocating.ByGood.{goods_below}
-use Rattle.analysis.proofs.Allocating.LpRows.{both_win, contains_from, has_from, share_none}
+use Rattle.analysis.proofs.Allocating.LpRows.{both_win, share_none}
 
 -- ---- the lesser of two numbers
 
@@ -55,12 +55,12 @@ share_test : (G D : ℕ) (a b : PlainBid) → IsBid G D a → IsBid G D b
 share_test G D a b is_a is_b = let shares : ℕ → Bool = has_good (goods_of G b) in
     ⊎_elim
     (λ (win : can_both_win a b ≡ true).
-    false_from_ne_true (list_any shares (goods_of G a)) (grind (arith, common_steps, list_any_found, share_none, has_from))
+    false_from_ne_true (list_any shares (goods_of G a)) (grind (arith, common_steps, list_any_found, share_none, has_from_contains))
     ∙ sym (not_from_true (can_both_win a b) win))
     (λ (clash : can_both_win a b ≡ false).
     ⊎_elim (search (rules, not_from_false))
     (λ (none : list_any shares (goods_of G a) ≡ false).
-    absurd (both_ways (can_both_win a b) clash (both_win G D a b is_a is_b (grind (arith, common_steps, both_ways, list_any_fails, contains_from)))))
+    absurd (both_ways (can_both_win a b) clash (both_win G D a b is_a is_b (grind (arith, common_steps, both_ways, list_any_fails, contains_from_has)))))
     (cases_Bool (list_any shares (goods_of G a))))
     (cases_Bool (can_both_win a b))
 
@@ -72,7 +72,7 @@ module _ (f : PlainFile) (is : IsPlainFile f) where
       find_same_on shares clashes later
       (All-from_Contains (λ j. shares j ≡ clashes j) later (λ j c.
       share_test f.goods f.dummy (bid_at f i) (bid_at f j) (bid_here f is i l)
-      (search (rules, bid_here, has_below, has_from))))
+      (search (rules, bid_here, has_below, has_from_contains))))
 
   least_is : (later : List ℕ) (holders : List (Option ℕ)) → IsRising later → AreHolders f later holders → (goods : List ℕ)
       → AreBelow (f.goods + f.dummy) goods → (start : Option ℕ)

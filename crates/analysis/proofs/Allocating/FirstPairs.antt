@@ -3,7 +3,7 @@ use Rattle.analysis.proofs.Common.{rules, ◌≡◌, ℕ, ◌<◌, Bool, true, f
 use Rattle.analysis.proofs.Common.{None, Contains, IfSome, find, list_all, and_from, and_parts, cases_Bool, not-false, not-true, not_from_true, IsRising}
 use Rattle.analysis.proofs.Common.{has_above, PlainFile, Contains-cons_cases, Contains-head, Contains-nil, Contains-tail, find_none, found_none, found_some}
 use Rattle.analysis.proofs.Common.{list_all_at, list_all_from, bid_at, IsFirstClash, first_clash, first_rival, pair_or, can_all_win, can_both_win, same_Some}
-use Rattle.analysis.proofs.Allocating.LpRows.{has_from}
+use Rattle.analysis.proofs.Common.{has_from_contains}
 
 -- the first of rising numbers that passes a test: no lesser one does
 pub found_least : (p : ℕ → Bool) (xs : List ℕ) → IsRising xs → (x : ℕ) → find p xs ≡ Some x → (y : ℕ) → Contains xs y → y < x → p y ≡ false
@@ -12,7 +12,7 @@ found_least p (z ∷ zs) r x e y c l = ⊎_elim
     (λ (t : p z ≡ true).
     let same : z ≡ x = cc in
     ⊎_elim (λ (h : z ≡ y). absurd (omega arith))
-    (λ (d : Contains zs y). let above = has_above z zs y r.0 (has_from zs y d) in absurd (omega arith)) (Contains-cons_cases z zs y c))
+    (λ (d : Contains zs y). let above = has_above z zs y r.0 (has_from_contains zs y d) in absurd (omega arith)) (Contains-cons_cases z zs y c))
     (λ (t : p z ≡ false).
     let is : find p zs ≡ Some x = sym (ap (λ (b : Bool). cond b (Some z) (find p zs)) t) ∙ e in
     ⊎_elim (λ (h : z ≡ y). ap p (sym h) ∙ t) (λ (d : Contains zs y). found_least p zs r.1 x is y d l) (Contains-cons_cases z zs y c))
@@ -58,7 +58,7 @@ module _ (f : PlainFile) where
       in_later k l less c d = ⊎_elim
           (λ (h : w ≡ l).
           ⊎_elim (λ (g : w ≡ k). absurd (omega arith))
-          (λ (g : Contains later k). let above = has_above w later k r.0 (has_from later k g) in absurd (omega arith)) (Contains-cons_cases w later k c))
+          (λ (g : Contains later k). let above = has_above w later k r.0 (has_from_contains later k g) in absurd (omega arith)) (Contains-cons_cases w later k c))
           (λ (h : Contains later l). h) (Contains-cons_cases w later l d)
 
       by : (o : Option ℕ) → first_rival f w later ≡ o → (first_clash f later ≡ Some (i, j) → IsFirstClash f later i j)
@@ -85,14 +85,14 @@ module _ (f : PlainFile) where
           let here : IsFirstClash f (w ∷ later) w x = record {
             first = Contains-head w later;
             second = Contains-tail w later x there.0;
-            order = has_above w later x r.0 (has_from later x there.0);
+            order = has_above w later x r.0 (has_from_contains later x there.0);
             clash = not-true (can_both_win (bid_at f w) (bid_at f x)) there.1;
             earlier = λ k l c d less before.
                 let m = in_later k l less c d in
                 ⊎_elim
                 (λ (b : k < w).
                 ⊎_elim (λ (g : w ≡ k). absurd (omega arith))
-                (λ (g : Contains later k). let above = has_above w later k r.0 (has_from later k g) in absurd (omega arith))
+                (λ (g : Contains later k). let above = has_above w later k r.0 (has_from_contains later k g) in absurd (omega arith))
                 (Contains-cons_cases w later k c))
                 (λ (b : (k ≡ w) × (l < x)).
                 let is : w ≡ k = sym b.0 in

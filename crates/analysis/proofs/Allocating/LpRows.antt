@@ -2,25 +2,17 @@
 -- A row's bids are those of all numbers that pass a test, so they rise; and so are the winners, whose prices the objective adds up.
 use Rattle.analysis.proofs.Common.{count_by-le-length, range_rises, IsRising-filter, length-filter, [], rules, ◌≡◌, ℕ, ◌+◌, ◌*◌, ◌<◌, ◌≤◌, Bool, true, false}
 use Rattle.analysis.proofs.Common.{not, eqb, ⊎_elim, ◌⊎◌, List, ◌∷◌, ◌++◌, length, map, refl, sym, ap, ◌∙◌, subst, Option, Some, None, arith, Contains, IsTrue}
-use Rattle.analysis.proofs.Common.{if◌then◌else◌, sum_by, filter, list_all, range_with_len, and_from, and_parts, both_ways, cases_Bool, eq-eqb, eqb-true}
-use Rattle.analysis.proofs.Common.{lt-ltb, not_from_false, false_from_ne_true, not-true, All-contains, Contains-append_cases, Contains-append_left}
-use Rattle.analysis.proofs.Common.{Contains-append_right, sum_by-cons, IsBundle, IsRising, are_apart, has_good, apart_from, has-filter, has_above, has_below}
-use Rattle.analysis.proofs.Common.{has_cases, same_from_has, IsBid, IsDummyBelow, IsPlainFile, PlainBid, PlainFile, dummy_good, goods_of}
-use Rattle.analysis.proofs.Common.{Contains-map, Contains-unmap, All-from_Contains, Contains-filter, Contains-filter_parts, filter-kept, filter-lost}
-use Rattle.analysis.proofs.Common.{list_all_from, list_any_found, list_any_has, range_contains, bid_at, numbers_of, can_all_win, can_both_win, revenue}
-use Rattle.analysis.proofs.Common.{share_dummy, PlainRow, bids_with, is_shared, lp_rows, row_of, apart_at, has_head, has_tail, AreRowsMet, objective, value_of}
+use Rattle.analysis.proofs.Common.{if◌then◌else◌, sum_by, filter, list_all, range_with_len, and_from, and_parts, both_ways, cases_Bool, eq-eqb, eqb-true, IsBid}
+use Rattle.analysis.proofs.Common.{lt-ltb, not_from_false, false_from_ne_true, not-true, All-contains, Contains-append_cases, Contains-append_left, sum_by-cons}
+use Rattle.analysis.proofs.Common.{Contains-append_right, IsBundle, IsRising, are_apart, has_good, apart_from, has-filter, has_above, has_below, has_cases}
+use Rattle.analysis.proofs.Common.{same_from_has, IsDummyBelow, IsPlainFile, PlainBid, PlainFile, dummy_good, goods_of, Contains-map, Contains-unmap, bid_at}
+use Rattle.analysis.proofs.Common.{All-from_Contains, Contains-filter, Contains-filter_parts, filter-kept, filter-lost, list_all_from, list_any_found, revenue}
+use Rattle.analysis.proofs.Common.{list_any_has, range_contains, numbers_of, can_all_win, can_both_win, share_dummy, PlainRow, bids_with, is_shared, lp_rows}
+use Rattle.analysis.proofs.Common.{row_of, apart_at, has_head, has_tail, AreRowsMet, objective, value_of}
 use Rattle.analysis.proofs.Explaining.KeptBids.{bid_here}
 use Rattle.analysis.proofs.Allocating.Allocations.{CanWin, both_flip, pairs_from_test}
 use Rattle.analysis.proofs.Explaining.Packings.{pairs_at}
 use Rattle.std.proofs.lemmas.Grind.{common_steps}
-
--- ---- members
-
-pub has_from : (xs : List ℕ) (x : ℕ) → Contains xs x → has_good xs x ≡ true
-has_from xs x c = list_any_has (λ y. eqb y x) xs x c (eq-eqb x x refl)
-
-pub contains_from : (xs : List ℕ) (x : ℕ) → has_good xs x ≡ true → Contains xs x
-contains_from xs x h = search (rules, list_any_found, eqb-true)
 
 -- ---- how many a list has
 
@@ -45,7 +37,7 @@ weighed p weight (x ∷ xs) = let sum = sum_by-cons (λ i. weight i * (if p i th
 
 module _ (f : PlainFile) where
   pub in_numbers : (i : ℕ) → i < length f.bids → has_good (numbers_of f) i ≡ true
-  in_numbers i l = has_from (numbers_of f) i (range_contains (length f.bids) i l)
+  in_numbers i l = has_from_contains (numbers_of f) i (range_contains (length f.bids) i l)
 
   pub passing_rise : (p : ℕ → Bool) → IsRising (filter p (numbers_of f))
   passing_rise p = IsRising-filter p (numbers_of f) (range_rises 0 (length f.bids))
@@ -60,13 +52,13 @@ module _ (f : PlainFile) where
 -- ---- the goods that two bids share
 
 has_left : (xs ys : List ℕ) (g : ℕ) → has_good xs g ≡ true → has_good (xs ++ ys) g ≡ true
-has_left xs ys g h = has_from (xs ++ ys) g (Contains-append_left xs ys g (contains_from xs g h))
+has_left xs ys g h = has_from_contains (xs ++ ys) g (Contains-append_left xs ys g (contains_from_has xs g h))
 
 has_right : (xs ys : List ℕ) (g : ℕ) → has_good ys g ≡ true → has_good (xs ++ ys) g ≡ true
-has_right xs ys g h = has_from (xs ++ ys) g (Contains-append_right xs ys g (contains_from ys g h))
+has_right xs ys g h = has_from_contains (xs ++ ys) g (Contains-append_right xs ys g (contains_from_has ys g h))
 
 has_either : (xs ys : List ℕ) (g : ℕ) → has_good (xs ++ ys) g ≡ true → (has_good xs g ≡ true) ⊎ (has_good ys g ≡ true)
-has_either xs ys g h = grind (arith, common_steps, has_from, Contains-append_cases, contains_from)
+has_either xs ys g h = grind (arith, common_steps, has_from_contains, Contains-append_cases, contains_from_has)
 
 in_dummy : (G : ℕ) (o : Option ℕ) (g : ℕ) → has_good (dummy_good G o) g ≡ true → (d : ℕ) × (o ≡ Some d) × (G + d ≡ g)
 in_dummy G None g h = absurd (both_ways false refl h)
@@ -105,7 +97,7 @@ all_win : (f : PlainFile) (xs : List ℕ) → IsRising xs → ((x y : ℕ) → h
 all_win f [] r h = refl
 all_win f (x ∷ xs) r h = let test = λ (j : ℕ). can_both_win (bid_at f x) (bid_at f j) in
     and_from (list_all test xs) (can_all_win f xs)
-    (search (rules, list_all_from, has_from, has_head, has_tail, has_above))
+    (search (rules, list_all_from, has_from_contains, has_head, has_tail, has_above))
     (all_win f xs r.1 (λ a b p q. h a b (has_tail x xs a p) (has_tail x xs b q)))
 
 module _ (f : PlainFile) (is : IsPlainFile f) (winners : List ℕ) (numbers : IsBundle (length f.bids) winners) where
@@ -129,7 +121,7 @@ module _ (f : PlainFile) (is : IsPlainFile f) (winners : List ℕ) (numbers : Is
       let few = one_at_most (filter (has_good winners) bids) (IsRising-filter (has_good winners) bids (passing_rise f (has g))) (λ x y h k l.
       share_none f.goods f.dummy (bid_at f x) (bid_at f y) (here x (both x h).0) (here y (both y k).0)
       (pairs_at (CanWin f) (λ i j q. both_flip (bid_at f i) (bid_at f j) q) winners (pairs_from_test f winners win) x y
-      (contains_from winners x (both x h).0) (contains_from winners y (both y k).0) (λ e. omega arith))
+      (contains_from_has winners x (both x h).0) (contains_from_has winners y (both y k).0) (λ e. omega arith))
       g (both x h).1 (both y k).1) in
       subst (λ (s : PlainRow). sum_by (value_of winners) s.bids ≤ 1) (sym r.2) (subst (λ n. n ≤ 1) (length-filter (has_good winners) bids) few))
 

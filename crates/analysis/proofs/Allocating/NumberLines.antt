@@ -1,10 +1,9 @@
 -- Numbers, line by line. A line is cut off at its LF, and what is said of the whole text is what is said of the rest.
-use Rattle.analysis.proofs.Common.{rules, ◌≡◌, ℕ, ◌+◌, ◌<◌, ◌≤◌, Bool, true, false, not, cond, eqb, ⊎_elim, List, [], ◌∷◌, ◌++◌, length, map, take, drop}
-use Rattle.analysis.proofs.Common.{get_or, zero, suc, refl, sym, ap, ◌∙◌, subst, arith, None, Some, Result, Ok, Err, append_assoc, list_all, and_parts}
-use Rattle.analysis.proofs.Common.{both_ways, cases_Bool, cond-false, cond-true, false_from_ne_true, le-ltb, lt-ltb, map-append, Word, number_of, list_all_at}
-use Rattle.analysis.proofs.Common.{RefusesNumbers, is_bid_number, lines_in, words_in, RefusesLine, Memory, IfErr, IsErrAnd, position, position_or_len}
-use Rattle.analysis.proofs.Common.{onto_first, slice_split_first, all_words, begins_with_number, bid_number, bid_numbers, faulty_line, BidNumbersFault}
-use Rattle.analysis.proofs.Common.{NotANumber}
+use Rattle.analysis.proofs.Common.{rules, ◌≡◌, ℕ, ◌+◌, ◌<◌, ◌≤◌, Bool, true, false, not, cond, eqb, ⊎_elim, List, [], ◌∷◌, ◌++◌, length, map, take, drop, zero}
+use Rattle.analysis.proofs.Common.{get_or, suc, refl, sym, ap, ◌∙◌, subst, arith, None, Some, Result, Ok, Err, append_assoc, list_all, and_parts, both_ways}
+use Rattle.analysis.proofs.Common.{cases_Bool, cond-false, cond-true, false_from_ne_true, le-ltb, lt-ltb, map-append, Word, number_of, list_all_at, lines_in}
+use Rattle.analysis.proofs.Common.{RefusesNumbers, is_bid_number, words_in, RefusesLine, Memory, IfErr, IsErrAnd, position, position_or_len, onto_first}
+use Rattle.analysis.proofs.Common.{slice_split_first, all_words, begins_with_number, bid_number, bid_numbers, faulty_line, BidNumbersFault, NotANumber}
 
 -- ---- a line is cut off
 

@@ -1,11 +1,11 @@
 -- What the reasons of the bids say. A bid that is bid k of the canonical file is kept as bid k, and one such bid is found.
-use Rattle.analysis.proofs.Common.{◌≡◌, ℕ, ◌<◌, true, length, Option, Some, None, refl, ap, ◌∙◌, Contains, IfSome, find, unwrap_or, both_ways, eq-eqb}
-use Rattle.analysis.proofs.Common.{PlainFile, IsPlainFile, found_none, found_some, kept_bids, numbers_of, Keep, IsKeptAs, is_kept_as, number_kept_as}
+use Rattle.analysis.proofs.Common.{◌≡◌, ℕ, ◌<◌, true, length, Option, Some, None, refl, ap, ◌∙◌, Contains, IfSome, find, unwrap_or, both_ways, eq-eqb, Keep}
+use Rattle.analysis.proofs.Common.{PlainFile, IsPlainFile, found_none, found_some, kept_bids, numbers_of, IsKeptAs, is_kept_as, number_kept_as, range_contains}
 use Rattle.analysis.specs.Reasons.{reason_of}
 use Rattle.analysis.proofs.Explaining.Deciding.{kept_decided, kept_from, priced_within}
 use Rattle.analysis.proofs.Explaining.KeptBids.{kept-is-best}
 use Rattle.analysis.proofs.Explaining.TrueReasons.{reason_is_decided}
-use Rattle.analysis.proofs.Common.{range_contains, in_range}
+use Rattle.analysis.proofs.Common.{in_range}
 
 pub kept_reason : (f : PlainFile) → IsPlainFile f → (j k : ℕ) → IsKeptAs f j k → reason_of f j ≡ Keep k
 kept_reason f is j k kept = kept_decided f j k kept (reason_of f j) (reason_is_decided f is j (priced_within f j kept.bid.positive))

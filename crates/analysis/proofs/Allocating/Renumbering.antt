@@ -1,12 +1,12 @@
 -- Kept bids and those of the canonical file. A kept bid and the bid that it is there have one price and the same goods, and two kept bids
 -- have one dummy good exactly if the two have one there, since the dummy goods of a canonical file are different ones. So bids that can win
 -- together in one of the files can win together in the other.
-use Rattle.analysis.proofs.Common.{rules, ◌≡◌, ◌≢◌, ℕ, ◌<◌, Bool, true, not, List, [], ◌∷◌, length, map, get_or, refl, sym, ap, ◌∙◌, subst, subst₂, Option}
-use Rattle.analysis.proofs.Common.{Some, None, arith, nat_cmp, All, AllPairs, and_parts, and_from, both_ways, eqb-true, eq-eqb, false_from_ne_true, not-true}
-use Rattle.analysis.proofs.Common.{not_from_false, length-map, get_or-map, All-head, All-tail, All-map, All-weaker, sum_by-cons, get_or_from_slice_get}
-use Rattle.analysis.proofs.Common.{slice_get_within, PlainBid, PlainFile, IsDummyBelow, IsPlainFile, AllPairs-map, sort_by, canonical_file, kept_dummies-differ}
-use Rattle.analysis.proofs.Common.{points_of_kept_dummies, kept_bids, kept_dummies, named_bid, named_dummy, points_of_dummy, IsPlainFile-canonical, bid_at}
-use Rattle.analysis.proofs.Common.{IsKeptAs, IsAllocation, can_both_win, revenue, share_dummy}
+use Rattle.analysis.proofs.Common.{rules, ◌≡◌, ◌≢◌, ℕ, ◌<◌, Bool, true, not, List, [], ◌∷◌, length, map, get_or, refl, sym, ap, ◌∙◌, subst, subst₂, Option, All}
+use Rattle.analysis.proofs.Common.{Some, None, arith, nat_cmp, AllPairs, and_parts, and_from, both_ways, eqb-true, eq-eqb, false_from_ne_true, not-true, bid_at}
+use Rattle.analysis.proofs.Common.{not_from_false, length-map, get_or-map, All-head, All-tail, All-map, All-weaker, sum_by-cons, get_or_from_slice_get, sort_by}
+use Rattle.analysis.proofs.Common.{slice_get_within, PlainBid, PlainFile, IsDummyBelow, IsPlainFile, AllPairs-map, canonical_file, kept_dummies-differ, revenue}
+use Rattle.analysis.proofs.Common.{points_of_kept_dummies, kept_bids, kept_dummies, named_bid, named_dummy, points_of_dummy, IsPlainFile-canonical, IsKeptAs}
+use Rattle.analysis.proofs.Common.{IsAllocation, can_both_win, share_dummy}
 use Rattle.analysis.proofs.Explaining.Deciding.{priced_within}
 use Rattle.analysis.proofs.Explaining.KeptBids.{bid_here}
 use Rattle.analysis.proofs.Allocating.Allocations.{CanWin, pairs_from_test, revenue_of_sorted, sorted_is_allocation}

@@ -1,11 +1,11 @@
 -- Kept bids in the place of dropped ones. Each is inside the goods of the bid that it replaces and is of its bidder, so it can win beside
 -- whatever that bid can win beside.
-use Rattle.analysis.proofs.Common.{rules, ◌≡◌, ℕ, ◌<◌, ◌≤◌, true, List, [], ◌∷◌, length, refl, sym, ap, subst, None, arith, eqb, All, AllPairs, Contains}
-use Rattle.analysis.proofs.Common.{AllByRecursion, flat_map, list_all, and_parts, and_from, both_ways, eq-eqb, flat_map-cons, All-nil, All-cons, All-head}
-use Rattle.analysis.proofs.Common.{All-tail, All-append, All-weaker, All-contains, All-from_recursion, sum_by-append, sum_by-cons, IsInside, are_apart}
+use Rattle.analysis.proofs.Common.{rules, ◌≡◌, ℕ, ◌<◌, ◌≤◌, true, List, [], ◌∷◌, length, refl, sym, ap, subst, None, arith, eqb, All, AllPairs, Contains, Keep}
+use Rattle.analysis.proofs.Common.{AllByRecursion, flat_map, list_all, and_parts, and_from, both_ways, eq-eqb, flat_map-cons, All-nil, All-cons, All-head, Zero}
+use Rattle.analysis.proofs.Common.{All-tail, All-append, All-weaker, All-contains, All-from_recursion, sum_by-append, sum_by-cons, IsInside, are_apart, bid_at}
 use Rattle.analysis.proofs.Common.{apart_sym, inside_refl, PlainFile, IsPlainFile, AllPairs-nil, AllPairs-cons, AllPairs-append, AllPairs-head, AllPairs-tail}
-use Rattle.analysis.proofs.Common.{Contains-head, Contains-tail, bid_at, is_best, PlainReason, Keep, Zero, Same, Inside, Packing, all_apart, goods_at, is_kept}
-use Rattle.analysis.proofs.Common.{IsDecided, IsPointBid, IsPointInside, can_all_win, can_both_win, revenue, in_place_of, apart_inside, kept_by, named_by}
+use Rattle.analysis.proofs.Common.{Contains-head, Contains-tail, is_best, PlainReason, Same, Inside, Packing, all_apart, goods_at, is_kept, IsDecided, revenue}
+use Rattle.analysis.proofs.Common.{IsPointBid, IsPointInside, can_all_win, can_both_win, in_place_of, apart_inside, kept_by, named_by}
 use Rattle.analysis.specs.Reasons.{reason_of}
 use Rattle.analysis.proofs.Explaining.BestBids.{one_key}
 use Rattle.analysis.proofs.Explaining.Deciding.{priced_within}

@@ -1,13 +1,13 @@
 -- What a verdict says. It has three cases: a named number that the file does not have, two bids that clash, or neither.
 use Rattle.analysis.proofs.Common.{rules, ◌≡◌, ◌↔◌, ℕ, ◌<◌, ◌≤◌, leb, ⊎_elim, List, length, refl, sym, ap, ◌∙◌, Option, Some, None, All, Contains, Result, Ok}
-use Rattle.analysis.proofs.Common.{Err, unwrap_or, both_ways, cases_lt, leb-false, leb-true, lt-leb, not-false, All-contains, IsBundle, has_good}
-use Rattle.analysis.proofs.Common.{AreBelow-from_has, apart_from, IsPlainFile, PlainFile, All-from_Contains, Contains-filter}
-use Rattle.analysis.proofs.Common.{Contains-filter_parts, find_none, found_none, range_contains, bid_at, numbers_of, IsFirstClash, allocation_verdict}
-use Rattle.analysis.proofs.Common.{first_clash, missing_bid, named_bids, verdict_by, verdict_unless, IsAllocation, revenue, share_dummy, Revenue, and_cases}
-use Rattle.analysis.proofs.Common.{in_range, AreOneBidders, IsLeastShared, clash_on, shared_good, AllocationVerdict, SharedBidder, SharedGood}
+use Rattle.analysis.proofs.Common.{Err, unwrap_or, both_ways, cases_lt, leb-false, leb-true, lt-leb, not-false, All-contains, IsBundle, has_good, apart_from}
+use Rattle.analysis.proofs.Common.{AreBelow-from_has, IsPlainFile, PlainFile, All-from_Contains, Contains-filter, Contains-filter_parts, find_none, found_none}
+use Rattle.analysis.proofs.Common.{range_contains, bid_at, numbers_of, IsFirstClash, allocation_verdict, first_clash, missing_bid, named_bids, verdict_by}
+use Rattle.analysis.proofs.Common.{verdict_unless, IsAllocation, revenue, share_dummy, Revenue, and_cases, in_range, AreOneBidders, IsLeastShared, clash_on}
+use Rattle.analysis.proofs.Common.{shared_good, AllocationVerdict, SharedBidder, SharedGood, contains_from_has, has_from_contains}
 use Rattle.analysis.proofs.Explaining.KeptBids.{bid_here}
 use Rattle.analysis.proofs.Allocating.FirstPairs.{all_win_if_none, first_pair, found_at, found_least, none_if_all_win}
-use Rattle.analysis.proofs.Allocating.LpRows.{contains_from, has_from, passing_rise, same_dummy}
+use Rattle.analysis.proofs.Allocating.LpRows.{passing_rise, same_dummy}
 
 -- a verdict is one of these
 pub data IsVerdict (f : PlainFile) (named : List ℕ) (verdict : Result AllocationVerdict ℕ) : Type 0 where
@@ -40,16 +40,16 @@ module _ (f : PlainFile) (named : List ℕ) where
   -- ---- the named bids
 
   in_named : (i : ℕ) → Contains bids i → Contains named i
-  in_named i c = contains_from named i (Contains-filter_parts (has_good named) (numbers_of f) i c).1
+  in_named i c = contains_from_has named i (Contains-filter_parts (has_good named) (numbers_of f) i c).1
 
   in_bids : (i : ℕ) → i < length f.bids → Contains named i → Contains bids i
-  in_bids i l c = Contains-filter (has_good named) (numbers_of f) i (range_contains (length f.bids) i l) (has_from named i c)
+  in_bids i l c = Contains-filter (has_good named) (numbers_of f) i (range_contains (length f.bids) i l) (has_from_contains named i c)
 
   pub are_numbers : IsBundle (length f.bids) bids
   are_numbers = (
     passing_rise f (has_good named),
     AreBelow-from_has (length f.bids) bids (λ i h.
-        in_range (length f.bids) i (Contains-filter_parts (has_good named) (numbers_of f) i (contains_from bids i h)).0),
+        in_range (length f.bids) i (Contains-filter_parts (has_good named) (numbers_of f) i (contains_from_has bids i h)).0),
   )
 
   pub same_members : All (λ i. i < length f.bids) named → (i : ℕ) → Contains bids i ↔ Contains named i
@@ -95,12 +95,12 @@ module _ (f : PlainFile) (named : List ℕ) where
       let within = in_range (length f.bids) i (Contains-filter_parts (has_good named) (numbers_of f) i p.first).0 in
       let rises = (bid_here f plain i within).rising in
       record {
-        first = has_from a.goods good there.0;
+        first = has_from_contains a.goods good there.0;
         second = there.1;
         least = λ g h k.
             ⊎_elim
             (λ (l : g < good).
-            absurd (both_ways (has_good b.goods g) (found_least (has_good b.goods) a.goods rises good s g (contains_from a.goods g h) l) k))
+            absurd (both_ways (has_good b.goods g) (found_least (has_good b.goods) a.goods rises good s g (contains_from_has a.goods g h) l) k))
             (λ (l : good ≤ g). l) (cases_lt g good);
       }
 
@@ -108,7 +108,7 @@ module _ (f : PlainFile) (named : List ℕ) where
       → AreOneBidders (bid_at f i) (bid_at f j) (unwrap_or (bid_at f i).dummy 0)
   are_one_bidders i j c s = let a = bid_at f i in
       let b = bid_at f j in
-      let apart = apart_from a.goods b.goods (λ g h. found_none (has_good b.goods) a.goods s g (contains_from a.goods g h)) in
+      let apart = apart_from a.goods b.goods (λ g h. found_none (has_good b.goods) a.goods s g (contains_from_has a.goods g h)) in
       let p = first_pair f bids are_numbers.0 i j c in
       let share = not-false (share_dummy a.dummy b.dummy)
       (search (rules, both_ways, and_cases)) in

@@ -1,6 +1,6 @@
 -- The words that a loop over the parts of a line has, where it leaves out the empty ones.
-use Rattle.analysis.proofs.Common.{◌≡◌, ℕ, Bool, false, List, Bor, words_in, CalledAt, Yields, filter_callee, filter_source, filter_steps, YieldsList}
-use Rattle.analysis.proofs.Common.{YieldsList-at, YieldsList-from_filter, YieldsList-from_slice_split, is_gap, is_word, Mut}
+use Rattle.analysis.proofs.Common.{◌≡◌, ℕ, Bool, false, List, Bor, words_in, CalledAt, Yields, filter_callee, filter_source, filter_steps, YieldsList, is_gap}
+use Rattle.analysis.proofs.Common.{YieldsList-at, YieldsList-from_filter, YieldsList-from_slice_split, is_word, Mut}
 use Rattle.std.specs.Slice.Iter as slice
 
 pub words_yielded : {F H : Type 0} {g : Mut F (Bor ℕ × Unit {0}) Bool} {h : Mut H (Bor (Bor (List ℕ)) × Unit {0}) Bool} {s all parts : _} {f : F} {k : H}

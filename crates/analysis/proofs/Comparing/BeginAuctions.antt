@@ -1,10 +1,10 @@
 -- All differences begin with the first difference: each of its kinds is found by what is in the lists of changes.
-use Rattle.analysis.proofs.Common.{common_steps, rules, ◌≡◌, ℕ, ◌-◌, true, List, [], ◌∷◌, refl, sym, ap, ◌∙◌, subst, arith, Option, Some, None, ◌↔◌, ◌||◌}
-use Rattle.analysis.proofs.Common.{is_some, and_parts, eqb-true, eqb-false, All-head, Atom, PlainAuction, bidder_cmp_total, bidder_cmp_equal, bidder_cmp}
-use Rattle.analysis.proofs.Common.{count_of, on_bundles, Contains-head, find_none, IsCanonical, or_atoms_in_order, HasAtoms, PlainBidderChange, IsBidderChange}
-use Rattle.analysis.proofs.Common.{AreBidderChanges, bidder_at, PlainChange, ArePriceChanges, same_bids, Difference, first_difference, first_unequal_bundle}
-use Rattle.analysis.proofs.Common.{least_unequal_bidder, or_difference, xor_difference, least_uneven, least_uneven_is, all_even, are_unequal, equal_test}
-use Rattle.analysis.proofs.Common.{ArePoints, IsSameAuction, at_same_goods, at_other_goods, same_from_no_difference, no_difference_from_same, AreAllDifferences}
+use Rattle.analysis.proofs.Common.{common_steps, rules, ◌≡◌, ℕ, ◌-◌, true, List, [], ◌∷◌, refl, sym, ap, ◌∙◌, subst, arith, Option, Some, None, ◌↔◌, ◌||◌, Atom}
+use Rattle.analysis.proofs.Common.{is_some, and_parts, eqb-true, eqb-false, All-head, PlainAuction, bidder_cmp_total, bidder_cmp_equal, bidder_cmp, count_of}
+use Rattle.analysis.proofs.Common.{on_bundles, Contains-head, find_none, IsCanonical, or_atoms_in_order, HasAtoms, PlainBidderChange, IsBidderChange, bidder_at}
+use Rattle.analysis.proofs.Common.{AreBidderChanges, PlainChange, ArePriceChanges, same_bids, Difference, first_difference, first_unequal_bundle, or_difference}
+use Rattle.analysis.proofs.Common.{least_unequal_bidder, xor_difference, least_uneven, least_uneven_is, all_even, are_unequal, equal_test, ArePoints}
+use Rattle.analysis.proofs.Common.{IsSameAuction, at_same_goods, at_other_goods, same_from_no_difference, no_difference_from_same, AreAllDifferences}
 use Rattle.analysis.proofs.Common.{BeginsWith, PlainDifferences, is_none_at_all, no_differences, first_change_found}
 use Rattle.analysis.proofs.Comparing.LeftBidders.{left_is_more, right_is_more, lefts_counted, rights_counted}
 use Rattle.canon.specs.Difference as canon

@@ -1,9 +1,9 @@
 -- The bids of bidders on a bundle, bid by bid and bidder by bidder. A bidder has one bid on a bundle at most.
 use Rattle.analysis.proofs.Common.{common_steps, rules, ◌≡◌, ◌<◌, ◌+◌, ℕ, zero, suc, Bool, true, false, cond, List, [], ◌∷◌, ◌++◌, length, get_or, map, take}
-use Rattle.analysis.proofs.Common.{Some, Less, slice_get, refl, sym, ap, ◌∙◌, arith, ⊎_elim, append_assoc, All, is_some, filter, is_eq, cases_Bool}
-use Rattle.analysis.proofs.Common.{false_from_ne_true, get_or-map, length-map, map_push, take_more, All-cons, All-nil, All-weaker, filter-append}
-use Rattle.analysis.proofs.Common.{get_or_from_slice_get, slice_get_within, bundle_cmp, bundle_cmp_equal, bundle_cmp_refl, PlainBid, Atom, atom_of}
-use Rattle.analysis.proofs.Common.{AllPairs-head, AllPairs-tail, IsBefore, IsInOrder, offers, bidder_at, bidders_on, price_on, is_on}
+use Rattle.analysis.proofs.Common.{Some, Less, slice_get, refl, sym, ap, ◌∙◌, arith, ⊎_elim, append_assoc, All, is_some, filter, is_eq, cases_Bool, get_or-map}
+use Rattle.analysis.proofs.Common.{false_from_ne_true, length-map, map_push, take_more, All-cons, All-nil, All-weaker, filter-append, get_or_from_slice_get}
+use Rattle.analysis.proofs.Common.{slice_get_within, bundle_cmp, bundle_cmp_equal, bundle_cmp_refl, PlainBid, Atom, atom_of, AllPairs-head, AllPairs-tail}
+use Rattle.analysis.proofs.Common.{IsBefore, IsInOrder, offers, bidder_at, bidders_on, price_on, is_on}
 use Rattle.analysis.proofs.Comparing.LawsLists.{none_pass}
 use Rattle.canon.specs.Lemmas.Finding.{equal_from}
 

@@ -1,9 +1,9 @@
 -- Changes that are put together one by one: those of the left bidders, and then those of the right bidders that are left.
-use Rattle.analysis.proofs.Common.{rules, ◌≡◌, ℕ, ◌+◌, true, cond, List, [], ◌∷◌, ◌++◌, length, map, append_assoc, refl, sym, ap, ap₂, ◌∙◌, subst, arith}
-use Rattle.analysis.proofs.Common.{Option, Some, None, All, is_some, cons_option, range_with_len, is_none, nat_cmp, is_eq, filter-append, All-append, All-head}
-use Rattle.analysis.proofs.Common.{All-push, All-tail, All-weaker, sum_by-append, sum_by-cons, append-nil, map_push, IsRising, Atom, count_of}
-use Rattle.analysis.proofs.Common.{PlainBidderChange, IsBidderChange, AreBidderChanges, bidder_at, excess_bidders, is_excess, lefts_of, partner_of, rights_of}
-use Rattle.analysis.proofs.Common.{waiting_after, without_partner, with_left, AreLefts, AreRest, TakesPartner, filter_map-append, IsRising-filter, range_rises}
+use Rattle.analysis.proofs.Common.{rules, ◌≡◌, ℕ, ◌+◌, true, cond, List, [], ◌∷◌, ◌++◌, length, map, append_assoc, refl, sym, ap, ap₂, ◌∙◌, subst, arith, Some}
+use Rattle.analysis.proofs.Common.{Option, None, All, is_some, cons_option, range_with_len, is_none, nat_cmp, is_eq, filter-append, All-append, All-head, Atom}
+use Rattle.analysis.proofs.Common.{All-push, All-tail, All-weaker, sum_by-append, sum_by-cons, append-nil, map_push, IsRising, count_of, PlainBidderChange}
+use Rattle.analysis.proofs.Common.{IsBidderChange, AreBidderChanges, bidder_at, excess_bidders, is_excess, lefts_of, partner_of, rights_of, waiting_after}
+use Rattle.analysis.proofs.Common.{without_partner, with_left, AreLefts, AreRest, TakesPartner, filter_map-append, IsRising-filter, range_rises}
 use Rattle.analysis.specs.BidderChanges.{right_alone}
 use Rattle.analysis.proofs.Comparing.LawsLists.{all_pass, none_pass}
 use Rattle.analysis.proofs.Comparing.Waiting.{All-counted, partners_more, still_rise, taken, taken_counted, waiting_more}

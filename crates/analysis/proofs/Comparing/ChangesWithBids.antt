@@ -1,10 +1,10 @@
 -- Each change of a bidder has a bid. The idea: without one both sides have the same bids, but two equal bidders are no change, and no bidder
 -- of a canonical auction is without a bid.
-use Rattle.analysis.proofs.Common.{rules, ◌≡◌, ◌≢◌, ℕ, ◌<◌, List, [], refl, sym, ap, subst, arith, Option, Some, None, All, Contains, filter, both_ways}
-use Rattle.analysis.proofs.Common.{All-contains, All-map, Atom, PlainAuction, AllPairs-nil, bidder_cmp_total, bidder_cmp_equal, All-sort_by, bidder_cmp}
-use Rattle.analysis.proofs.Common.{count_of, xor_table, IsBefore, IsInOrder, on_bundles, All-from_Contains, Contains-filter_parts, xor_points, IsCanonical}
-use Rattle.analysis.proofs.Common.{each_in_order, counted_is_there, HasAtoms, PlainBidderChange, IsBidderChange, AreBidderChanges, bidder_at, bids_at}
-use Rattle.analysis.proofs.Common.{same_bids, is_nonzero, no_xor_points, points_of_bidders}
+use Rattle.analysis.proofs.Common.{rules, ◌≡◌, ◌≢◌, ℕ, ◌<◌, List, [], refl, sym, ap, subst, arith, Option, Some, None, All, Contains, filter, both_ways, Atom}
+use Rattle.analysis.proofs.Common.{All-contains, All-map, PlainAuction, AllPairs-nil, bidder_cmp_total, bidder_cmp_equal, All-sort_by, bidder_cmp, count_of}
+use Rattle.analysis.proofs.Common.{xor_table, IsBefore, IsInOrder, on_bundles, All-from_Contains, Contains-filter_parts, xor_points, IsCanonical, each_in_order}
+use Rattle.analysis.proofs.Common.{counted_is_there, HasAtoms, PlainBidderChange, IsBidderChange, AreBidderChanges, bidder_at, bids_at, same_bids, is_nonzero}
+use Rattle.analysis.proofs.Common.{no_xor_points, points_of_bidders}
 use Rattle.analysis.proofs.Comparing.BidsOfBidders.{none_of_both}
 use Rattle.analysis.proofs.Comparing.LeftBidders.{left_is_more, none_on_both, right_is_more}
 

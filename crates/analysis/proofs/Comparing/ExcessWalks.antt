@@ -2,9 +2,8 @@
 -- idea: of an element that is still to come, as many others were taken as elements were passed, up to all that there are. So
 -- an element is in excess exactly where none is left for it.
 use Rattle.analysis.proofs.Common.{[], common_steps, rules, ◌≡◌, ℕ, zero, suc, ◌+◌, ◌-◌, ◌<◌, ◌≤◌, Bool, true, false, cond, min, List, ◌∷◌, ◌++◌, length, drop}
-use Rattle.analysis.proofs.Common.{get_or, refl, ap, ◌∙◌, arith, Ordering, Less, Equal, Greater, AllPairs, filter, range_with_len, is_eq, is_gt, is_lt}
-use Rattle.analysis.proofs.Common.{IsTotalOrder, lt-ltb, le-ltb, tied_itself, sum_by-drop_more, sum_by-take-drop, count_of, le_or_lt, reverse, nat_lt}
-use Rattle.analysis.proofs.Common.{reverse-append}
+use Rattle.analysis.proofs.Common.{get_or, refl, ap, ◌∙◌, arith, Ordering, Less, Equal, Greater, AllPairs, filter, range_with_len, is_eq, is_gt, is_lt, lt-ltb}
+use Rattle.analysis.proofs.Common.{IsTotalOrder, le-ltb, tied_itself, sum_by-drop_more, sum_by-take-drop, count_of, le_or_lt, reverse, nat_lt, reverse-append}
 use Rattle.canon.specs.Lemmas.Finding.{equal_from}
 
 -- ---- tests of an order

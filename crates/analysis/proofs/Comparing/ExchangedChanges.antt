@@ -1,7 +1,7 @@
 -- Exchanging the auctions. The idea: the changes of two lists of bids are determined by the prices, since they are in order and on exactly
 -- the bundles on which the prices differ.
-use Rattle.analysis.proofs.Common.{rules, ◌≡◌, ℕ, List, map, sym, ◌∙◌, subst, Contains, All-contains, All-map, All-weaker, Atom, AllPairs-map, Contains-map}
-use Rattle.analysis.proofs.Common.{Contains-unmap, PlainChange, IsPriceChange, ArePriceChanges, exchanged_change, IsEarlier, [], ◌∷◌, Ordering, Less, AllPairs}
+use Rattle.analysis.proofs.Common.{rules, ◌≡◌, ℕ, List, map, sym, ◌∙◌, subst, Contains, All-contains, All-map, All-weaker, Atom, AllPairs-map, Contains-map, []}
+use Rattle.analysis.proofs.Common.{Contains-unmap, PlainChange, IsPriceChange, ArePriceChanges, exchanged_change, IsEarlier, ◌∷◌, Ordering, Less, AllPairs}
 use Rattle.analysis.proofs.Common.{AllPairs-head, AllPairs-tail, recursion_from_All, bundle_cmp}
 use Rattle.std.specs.List.Sorted.{IsStrictlySortedBy}
 use Rattle.goods_set.specs.Lemmas.Orders.{bundle_cmp_strict}

@@ -1,9 +1,9 @@
 -- What holds of the indices of bidders in excess, and of the bidders of canonical files.
-use Rattle.analysis.proofs.Common.{rules, ◌≡◌, ℕ, ◌<◌, ◌≤◌, false, List, [], ◌∷◌, length, map, sym, ap, ◌∙◌, subst, arith, All, range_with_len, is_gt}
-use Rattle.analysis.proofs.Common.{length-map, All-filter, All-from_recursion, get_or-range_with_len, length-range_with_len, PlainBid, PlainFile, IsPlainFile}
-use Rattle.analysis.proofs.Common.{Atom, auction_from, IsAuction-auction_from, AllPairs-cons, AllPairs-nil, IsOrdered, bidder_cmp, IsInOrder, offers}
-use Rattle.analysis.proofs.Common.{IsCanonical, canonical_auction, or_atoms_in_order, each_in_order, excess_bidders, NeverFall, All-from_get_or, MAX_DUMMY}
-use Rattle.analysis.proofs.Common.{AreBidders, IsCanonicalFile, bidders_ordered, auction_from-file_from}
+use Rattle.analysis.proofs.Common.{rules, ◌≡◌, ℕ, ◌<◌, ◌≤◌, false, List, [], ◌∷◌, length, map, sym, ap, ◌∙◌, subst, arith, All, range_with_len, is_gt, PlainBid}
+use Rattle.analysis.proofs.Common.{length-map, All-filter, All-from_recursion, get_or-range_with_len, length-range_with_len, PlainFile, IsPlainFile, Atom}
+use Rattle.analysis.proofs.Common.{auction_from, IsAuction-auction_from, AllPairs-cons, AllPairs-nil, IsOrdered, bidder_cmp, IsInOrder, offers, IsCanonical}
+use Rattle.analysis.proofs.Common.{canonical_auction, or_atoms_in_order, each_in_order, excess_bidders, NeverFall, All-from_get_or, MAX_DUMMY, AreBidders}
+use Rattle.analysis.proofs.Common.{IsCanonicalFile, bidders_ordered, auction_from-file_from}
 
 -- ---- the bidders in excess are bidders
 

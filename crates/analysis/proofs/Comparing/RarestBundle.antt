@@ -2,11 +2,11 @@
 -- of the bundles in order of rarity it is the first on which one waits.
 use Rattle.analysis.proofs.Common.{rules, ◌≡◌, ◌≢◌, ◌<◌, ◌≤◌, ℕ, false, List, [], ◌∷◌, ◌++◌, length, map, Option, Some, None, Ordering, Less, Equal, Greater}
 use Rattle.analysis.proofs.Common.{slice_get, refl, sym, ap, ap₂, ◌∙◌, subst, ⊎_elim, All, Contains, MatchOption, if◌then◌else◌, IsTotalOrder, flat_map, is_gt}
-use Rattle.analysis.proofs.Common.{ordering_then, ordering_reverse, cases_lt, lt-ltb, le-ltb, nat_cmp_total, on_total, then_total, All-contains}
-use Rattle.analysis.proofs.Common.{All-from_recursion, All-head, All-push, All-tail, All-weaker, Contains-append_left, Contains-permutation, bundle_cmp}
-use Rattle.analysis.proofs.Common.{bundle_cmp_equal, bundle_cmp_refl, bundle_cmp_total, nat_cmp-lt, nat_cmp-refl, Atom, Contains-cons_cases, All-sort_by}
-use Rattle.analysis.proofs.Common.{IsOrdered, permutation-sort_by, sort_by, Contains-nil, bidders_on, partner_of, rarer, Candidate, IsCandidate, IsRarestIfAny}
-use Rattle.analysis.proofs.Common.{rarer_candidate, Contains-push, nat_cmp-gt, ordered-sort_by, IsRarest}
+use Rattle.analysis.proofs.Common.{ordering_then, ordering_reverse, cases_lt, lt-ltb, le-ltb, nat_cmp_total, on_total, then_total, All-contains, All-head, Atom}
+use Rattle.analysis.proofs.Common.{All-from_recursion, All-push, All-tail, All-weaker, Contains-append_left, Contains-permutation, bundle_cmp, bundle_cmp_equal}
+use Rattle.analysis.proofs.Common.{bundle_cmp_refl, bundle_cmp_total, nat_cmp-lt, nat_cmp-refl, Contains-cons_cases, All-sort_by, IsOrdered, sort_by, rarer}
+use Rattle.analysis.proofs.Common.{permutation-sort_by, Contains-nil, bidders_on, partner_of, Candidate, IsCandidate, IsRarestIfAny, rarer_candidate, IsRarest}
+use Rattle.analysis.proofs.Common.{Contains-push, nat_cmp-gt, ordered-sort_by}
 
 module _ (right : List (List (Atom (List ℕ)))) (excess : List ℕ) where
   abbrev count : List ℕ → ℕ

@@ -1,9 +1,9 @@
 -- With the same partners there is one list of changes. The idea: the left bidders and their partners are given, and so is which
 -- right bidders are alone, in which order; and a change is determined by its bidders.
-use Rattle.analysis.proofs.Common.{rules, ◌≡◌, ℕ, ◌+◌, true, List, [], ◌∷◌, map, get_or, refl, sym, ap, ap₂, ◌∙◌, Option, Some, None, All, is_some, ◌||◌}
-use Rattle.analysis.proofs.Common.{nat_cmp-IsAntisymmetric, cons_option, filter_map, is_none, nat_cmp, nat_cmp_total, append-nil, All-filter, All-head}
-use Rattle.analysis.proofs.Common.{All-tail, IsRising, Atom, count_of, PlainBidderChange, IsBidderChange, AreBidderChanges, bids_at, lefts_of, rights_of}
-use Rattle.analysis.proofs.Common.{with_left, filter_passes, sort_by-same}
+use Rattle.analysis.proofs.Common.{rules, ◌≡◌, ℕ, ◌+◌, true, List, [], ◌∷◌, map, get_or, refl, sym, ap, ap₂, ◌∙◌, Option, Some, None, All, is_some, ◌||◌, Atom}
+use Rattle.analysis.proofs.Common.{nat_cmp-IsAntisymmetric, cons_option, filter_map, is_none, nat_cmp, nat_cmp_total, append-nil, All-filter, All-head, bids_at}
+use Rattle.analysis.proofs.Common.{All-tail, IsRising, count_of, PlainBidderChange, IsBidderChange, AreBidderChanges, lefts_of, rights_of, with_left}
+use Rattle.analysis.proofs.Common.{filter_passes, sort_by-same}
 use Rattle.analysis.specs.BidderChanges.{right_alone}
 use Rattle.analysis.proofs.Comparing.Changes.{count-append, lefts-append, no_lefts_alone, rights-append}
 use Rattle.analysis.proofs.Comparing.ExchangedChanges.{one_list_of_changes}

@@ -1,10 +1,9 @@
 -- The bidders that wait for a partner: each is there or is taken, and what is taken is the only one that is gone.
 use Rattle.analysis.proofs.Common.{rules, common_steps, ◌≡◌, ◌==◌, ℕ, ◌+◌, ◌<◌, ◌≤◌, Bool, true, not, cond, ⊎_elim, List, [], ◌∷◌, ◌++◌, map, slice_get, refl}
-use Rattle.analysis.proofs.Common.{sym, ap, subst, arith, Option, Some, None, All, Contains, IfSome, is_some, nat_cmp-IsAntisymmetric, filter, flat_map}
-use Rattle.analysis.proofs.Common.{nat_cmp, is_eq, nat_cmp_total, eq-eqb, ne_eqb, All-cons, All-contains, All-nil, sum_by-append, sum_by-cons, AreAbove}
-use Rattle.analysis.proofs.Common.{IsRising, Atom, Contains-cons_cases, count_of, sort_by, All-from_Contains, Contains-filter_parts, Contains-head}
-use Rattle.analysis.proofs.Common.{Contains-nil, counted_is_there, bidder_at, partner_of, partners_of, rarer, waiting_after, without_partner, price_on}
-use Rattle.analysis.proofs.Common.{TakesPartner}
+use Rattle.analysis.proofs.Common.{sym, ap, subst, arith, Option, Some, None, All, Contains, IfSome, is_some, nat_cmp-IsAntisymmetric, filter, flat_map, is_eq}
+use Rattle.analysis.proofs.Common.{nat_cmp, nat_cmp_total, eq-eqb, ne_eqb, All-cons, All-contains, All-nil, sum_by-append, sum_by-cons, AreAbove, IsRising}
+use Rattle.analysis.proofs.Common.{Atom, Contains-cons_cases, count_of, sort_by, All-from_Contains, Contains-filter_parts, Contains-head, Contains-nil, rarer}
+use Rattle.analysis.proofs.Common.{counted_is_there, bidder_at, partner_of, partners_of, waiting_after, without_partner, price_on, TakesPartner}
 use Rattle.analysis.proofs.Comparing.LawsLists.{above_all, all_pass, there_is_counted}
 
 -- whether the index is this one

@@ -1,13 +1,12 @@
 -- In a list of all bids in order, the first bid that does not come before a bidder and a bundle is the best of that bidder's bids
 -- on that bundle, if there are any: each of them is there or after it.
-use Rattle.analysis.proofs.Common.{[], rules, ◌≡◌, ℕ, zero, suc, ◌<◌, ◌≤◌, true, false, List, ◌∷◌, length, get_or, refl, sym, ap, ap₂, ◌∙◌, subst, arith}
-use Rattle.analysis.proofs.Common.{Ordering, Less, Equal, Greater, is_lt, nat_cmp, Contains, IsTotalOrder, ordering_then, ordering_reverse, and_parts, and_from}
-use Rattle.analysis.proofs.Common.{cases_lt, both_ways, false_from_ne_true, eqb-true, eq-eqb, ltb-true, or_cases, not_from_false, on_total, then_total}
-use Rattle.analysis.proofs.Common.{nat_cmp_total, get_or_default, list_any_none, length-range_with_len, get_or-range_with_len, sorted_far, ranks_by}
-use Rattle.analysis.proofs.Common.{Contains-permutation, IsPermutation-sym, bundle_cmp, bundle_cmp_total, bundle_cmp_equal, bundle_cmp_refl, nat_cmp-lt}
-use Rattle.analysis.proofs.Common.{nat_cmp-refl, PlainBid, PlainFile, seen_bid, NumberedBid, bid_at, bidder_of, are_alike, is_better, numbers_of, IsBestFor}
-use Rattle.analysis.proofs.Common.{numbered_cmp, AreInOrder, IsSortedBy, IsPartitionedBy, IsPartitionPoint, ordering_index, back_total, length_permutation}
-use Rattle.analysis.proofs.Common.{searchable_from_sorted}
+use Rattle.analysis.proofs.Common.{[], rules, ◌≡◌, ℕ, zero, suc, ◌<◌, ◌≤◌, true, false, List, ◌∷◌, length, get_or, refl, sym, ap, ap₂, ◌∙◌, subst, arith, Less}
+use Rattle.analysis.proofs.Common.{Ordering, Equal, Greater, is_lt, nat_cmp, Contains, IsTotalOrder, ordering_then, ordering_reverse, and_parts, and_from}
+use Rattle.analysis.proofs.Common.{cases_lt, both_ways, false_from_ne_true, eqb-true, eq-eqb, ltb-true, or_cases, not_from_false, on_total, then_total, bid_at}
+use Rattle.analysis.proofs.Common.{nat_cmp_total, get_or_default, list_any_none, length-range_with_len, get_or-range_with_len, sorted_far, ranks_by, bundle_cmp}
+use Rattle.analysis.proofs.Common.{Contains-permutation, IsPermutation-sym, bundle_cmp_total, bundle_cmp_equal, bundle_cmp_refl, nat_cmp-lt, nat_cmp-refl}
+use Rattle.analysis.proofs.Common.{PlainBid, PlainFile, seen_bid, NumberedBid, bidder_of, are_alike, is_better, numbers_of, IsBestFor, numbered_cmp, AreInOrder}
+use Rattle.analysis.proofs.Common.{IsSortedBy, IsPartitionedBy, IsPartitionPoint, ordering_index, back_total, length_permutation, searchable_from_sorted}
 use Rattle.analysis.specs.BidOrders.{key_cmp}
 use Rattle.canon.specs.Lemmas.Finding.{equal_from}
 

@@ -1,7 +1,7 @@
 -- The number of a bidder's best bid on a bundle. One of the bids with the greatest price there is the best, and it alone.
 use Rattle.analysis.proofs.Common.{rules, ◌≡◌, ℕ, ◌<◌, true, ◌&&◌, length, List, Option, Some, refl, arith, AllPairs, range_with_len, and_from, and_parts}
-use Rattle.analysis.proofs.Common.{false_from_ne_true, get_or-range_with_len, length-range_with_len, PlainBid, PlainFile, atom_of, find_first}
-use Rattle.analysis.proofs.Common.{greatest_price-member, bid_at, numbers_of, are_alike, is_best, best_number, IsBestFor, range_contains}
+use Rattle.analysis.proofs.Common.{false_from_ne_true, get_or-range_with_len, length-range_with_len, PlainBid, PlainFile, atom_of, find_first, bid_at, is_best}
+use Rattle.analysis.proofs.Common.{greatest_price-member, numbers_of, are_alike, best_number, IsBestFor, range_contains}
 use Rattle.analysis.proofs.Explaining.BestBids.{HaveOneKey, one_key, alike_from}
 use Rattle.analysis.proofs.Explaining.KeptBidsBest.{atom_there, atoms_of_bidder, best-once, best_of_greatest, is_of, its_own}
 

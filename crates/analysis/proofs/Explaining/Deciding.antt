@@ -1,9 +1,9 @@
 -- What the code finds out for each bid explains the file. The idea: a bid of the canonical file has no other reason than that
 -- it is one, since a better bid is not its own, and the other reasons are those of bids that are none. So what is named is
 -- kept; and of each bid of the canonical file the best bid alone has its number.
-use Rattle.analysis.proofs.Common.{rules, ◌≡◌, ℕ, ◌<◌, true, List, [], ◌∷◌, length, refl, sym, ap, ◌∙◌, subst, arith, AllByRecursion, both_ways, eqb-true}
-use Rattle.analysis.proofs.Common.{eq-eqb, get_or_past, length-filter, slice_get_within, PlainFile, IsPlainFile, kept_bids, bid_at, PlainReason, Keep, Zero}
-use Rattle.analysis.proofs.Common.{Same, Inside, Packing, is_kept, is_kept_as, reason_at, IsKeptAs, Explains, IsPointBid, IsPointInside, IsDecided, count_by}
+use Rattle.analysis.proofs.Common.{rules, ◌≡◌, ℕ, ◌<◌, true, List, [], ◌∷◌, length, refl, sym, ap, ◌∙◌, subst, arith, AllByRecursion, both_ways, eqb-true, Keep}
+use Rattle.analysis.proofs.Common.{eq-eqb, get_or_past, length-filter, slice_get_within, PlainFile, IsPlainFile, kept_bids, bid_at, PlainReason, Zero, Same}
+use Rattle.analysis.proofs.Common.{Inside, Packing, is_kept, is_kept_as, reason_at, IsKeptAs, Explains, IsPointBid, IsPointInside, IsDecided, count_by}
 use Rattle.analysis.proofs.Common.{IsKeptInside, IsReason}
 use Rattle.analysis.proofs.Explaining.BestBids.{alike_from}
 use Rattle.analysis.proofs.Explaining.KeptBidsLists.{all_numbers, filter_one}

@@ -1,18 +1,16 @@
 -- The bids of a file's canonical file. The idea: a point's price is the value of its bundle, which no bid there exceeds, so
 -- it is the price of a best bid; and the points of a bidder are on different bundles.
-use Rattle.analysis.proofs.Common.{common_steps, [], rules, ◌≡◌, ℕ, ◌+◌, ◌<◌, ◌≤◌, not, eqb, ⊎_elim, List, ◌∷◌, ◌++◌, length, map, Option, Some, None, refl}
-use Rattle.analysis.proofs.Common.{sym, ap, ap₂, ◌∙◌, subst, arith, All, Contains, slice_get, flat_map, range_with_len, unwrap_or, get_or-append_seam}
-use Rattle.analysis.proofs.Common.{not_from_false, ne_eqb, map-append, length-append, append_assoc, flat_map-cons, All-contains, All-from_recursion}
-use Rattle.analysis.proofs.Common.{Contains-append_left, Contains-append_right, Contains-append_cases, slice_get-get_or, slice_get_within}
-use Rattle.analysis.proofs.Common.{get_or_from_slice_get, IsBundle, all_bundles_has, inside_refl, PlainBid, PlainFile, IsBid, IsDummyBelow, IsPlainFile, Atom}
-use Rattle.analysis.proofs.Common.{IsAtom, atom_of, auction_from, or_atoms_of, xor_atoms_of, xor_table, xor_value, IsAuction-auction_from}
-use Rattle.analysis.proofs.Common.{AllPairs-map, Contains-map, Contains-unmap, greatest_price, IsBefore, IsInOrder, or_points, on_bundles}
-use Rattle.analysis.proofs.Common.{list_any_has, IsOnBundle, points_where-in_order, xor_value-member, bid_from, canonical_auction, dummy_bids}
-use Rattle.analysis.proofs.Common.{points_of_kept_dummies, kept_dummies-differ, kept_dummies-below, kept_bids, kept_dummies, named_bid, points_of_dummy, bid_at}
-use Rattle.analysis.proofs.Common.{IsKeptAs, points_of, IsAuction, before_itself, kept_dummies-has, range_contains}
+use Rattle.analysis.proofs.Common.{common_steps, [], rules, ◌≡◌, ℕ, ◌+◌, ◌<◌, ◌≤◌, not, eqb, ⊎_elim, List, ◌∷◌, ◌++◌, length, map, Option, Some, None, refl, ap}
+use Rattle.analysis.proofs.Common.{sym, ap₂, ◌∙◌, subst, arith, All, Contains, slice_get, flat_map, range_with_len, unwrap_or, get_or-append_seam, ne_eqb, Atom}
+use Rattle.analysis.proofs.Common.{not_from_false, map-append, length-append, append_assoc, flat_map-cons, All-contains, All-from_recursion, slice_get-get_or}
+use Rattle.analysis.proofs.Common.{Contains-append_left, Contains-append_right, Contains-append_cases, slice_get_within, get_or_from_slice_get, IsBundle, IsBid}
+use Rattle.analysis.proofs.Common.{all_bundles_has, inside_refl, PlainBid, PlainFile, IsDummyBelow, IsPlainFile, IsAtom, atom_of, auction_from, or_atoms_of}
+use Rattle.analysis.proofs.Common.{xor_atoms_of, xor_table, xor_value, IsAuction-auction_from, AllPairs-map, Contains-map, Contains-unmap, greatest_price}
+use Rattle.analysis.proofs.Common.{IsBefore, IsInOrder, or_points, on_bundles, list_any_has, IsOnBundle, points_where-in_order, xor_value-member, bid_from}
+use Rattle.analysis.proofs.Common.{canonical_auction, dummy_bids, points_of_kept_dummies, kept_dummies-differ, kept_dummies-below, kept_bids, kept_dummies}
+use Rattle.analysis.proofs.Common.{named_bid, points_of_dummy, bid_at, IsKeptAs, points_of, IsAuction, before_itself, kept_dummies-has, range_contains}
 use Rattle.analysis.proofs.Explaining.BestBids.{element_at}
-use Rattle.analysis.proofs.Explaining.KeptBidsLists.{in_flat_map, from_flat_map, AreDifferent, different_indices, different_append}
-use Rattle.analysis.proofs.Explaining.KeptBidsLists.{different_flat_map}
+use Rattle.analysis.proofs.Explaining.KeptBidsLists.{in_flat_map, from_flat_map, AreDifferent, different_indices, different_append, different_flat_map}
 use Rattle.analysis.proofs.Explaining.KeptBidsBest.{atom_there, atoms_of_bidder, best_of_greatest, is_dummy-same}
 use Rattle.analysis.proofs.Explaining.PointFates.{IsGreatest, or_is_greatest, xor_is_greatest}
 

@@ -1,9 +1,9 @@
 -- Lists: the one element that passes a test, the first that does, lists one after another, and elements that differ.
 use Rattle.analysis.proofs.Common.{rules, ◌≡◌, ℕ, zero, suc, ◌<◌, Bool, true, false, ⊎_elim, List, [], ◌∷◌, ◌++◌, length, get_or, refl, sym, ap, ◌∙◌, subst}
-use Rattle.analysis.proofs.Common.{arith, All, AllPairs, Contains, slice_get, AllByRecursion, filter, flat_map, range_with_len, cases_Bool, cases_lt}
+use Rattle.analysis.proofs.Common.{arith, All, AllPairs, Contains, slice_get, AllByRecursion, filter, flat_map, range_with_len, cases_Bool, cases_lt, in_range}
 use Rattle.analysis.proofs.Common.{false_from_ne_true, flat_map-cons, recursion_from_All, Contains-append_left, Contains-append_right, Contains-append_cases}
 use Rattle.analysis.proofs.Common.{slice_get-get_or, Contains-cons_cases, AllPairs-nil, AllPairs-head, AllPairs-tail, AllPairs-append, Contains-nil}
-use Rattle.analysis.proofs.Common.{Contains-head, Contains-tail, All-from_Contains, filter-kept, filter-lost, in_range}
+use Rattle.analysis.proofs.Common.{Contains-head, Contains-tail, All-from_Contains, filter-kept, filter-lost}
 
 -- ---- numbers
 

@@ -1,9 +1,9 @@
 -- A bidder's points are its bids in the canonical file. So a best bid is there exactly if it is kept.
 use Rattle.analysis.proofs.Common.{rules, ◌≡◌, ℕ, ◌<◌, true, List, [], length, get_or, Option, Some, None, sym, ap, ◌∙◌, subst, arith, Contains, slice_get}
-use Rattle.analysis.proofs.Common.{filter, range_with_len, unwrap_or, false_from_ne_true, Contains-get_or, slice_get_within, slice_get-get_or}
-use Rattle.analysis.proofs.Common.{get_or_from_slice_get, PlainBid, PlainFile, IsDummyBelow, IsPlainFile, Atom, Bounded, atom_of, or_atoms_of, xor_atoms_of}
-use Rattle.analysis.proofs.Common.{best_bids, Contains-filter, Contains-filter_parts, find_first, bid_from, kept_bids, kept_dummies, bid_at, are_alike, is_best}
-use Rattle.analysis.proofs.Common.{IsKeptAs, kept_bid, kept_number, points_of, point_number, is_kept_atom, same_Some, range_contains}
+use Rattle.analysis.proofs.Common.{filter, range_with_len, unwrap_or, false_from_ne_true, Contains-get_or, slice_get_within, slice_get-get_or, PlainBid, Atom}
+use Rattle.analysis.proofs.Common.{get_or_from_slice_get, PlainFile, IsDummyBelow, IsPlainFile, Bounded, atom_of, or_atoms_of, xor_atoms_of, best_bids, bid_at}
+use Rattle.analysis.proofs.Common.{Contains-filter, Contains-filter_parts, find_first, bid_from, kept_bids, kept_dummies, are_alike, is_best, IsKeptAs}
+use Rattle.analysis.proofs.Common.{kept_bid, kept_number, points_of, point_number, is_kept_atom, same_Some, range_contains}
 use Rattle.analysis.proofs.Explaining.BestBids.{alike_from}
 use Rattle.analysis.proofs.Explaining.BestNumbers.{best_number_is, numbers_rise}
 use Rattle.analysis.proofs.Explaining.Deciding.{priced_within}

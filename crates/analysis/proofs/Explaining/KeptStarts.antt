@@ -1,11 +1,11 @@
 -- Where the bids of a bidder begin in the canonical file: they stand there one after another, and none of them before.
 use Rattle.analysis.proofs.Common.{[], rules, ◌≡◌, ℕ, ◌+◌, ◌<◌, ◌≤◌, ⊎_elim, List, ◌∷◌, ◌++◌, length, map, get_or, set, Option, Some, None, sym, ap, ◌∙◌, subst}
 use Rattle.analysis.proofs.Common.{arith, Contains, slice_get, flat_map, cases_lt, cases_eq, append_assoc, get_or-map, get_or-set_other, get_or-set_same}
-use Rattle.analysis.proofs.Common.{get_or_append_left, get_or_default, length-append, length-map, length-set, flat_map-cons, All-from_recursion}
-use Rattle.analysis.proofs.Common.{Contains-append_cases, Contains-get_or, slice_get-get_or, slice_get_within, get_or_from_slice_get, PlainBid, PlainFile}
-use Rattle.analysis.proofs.Common.{IsPlainFile, MAX_BIDS, atom_at, Contains-cons_cases, Contains-unmap, Contains-nil, bid_from, canonical_file, kept_bids}
-use Rattle.analysis.proofs.Common.{kept_dummies, named_bid, named_dummy, points_of_dummy, kept_dummies-below, points_of_kept_dummies, IsPlainFile-canonical}
-use Rattle.analysis.proofs.Common.{kept_bid, points_of, AreStarts, same_Some, get_or-append-add, NamedFile, IsNamedCanonical}
+use Rattle.analysis.proofs.Common.{get_or_append_left, get_or_default, length-append, length-map, length-set, flat_map-cons, All-from_recursion, PlainBid}
+use Rattle.analysis.proofs.Common.{Contains-append_cases, Contains-get_or, slice_get-get_or, slice_get_within, get_or_from_slice_get, PlainFile, IsPlainFile}
+use Rattle.analysis.proofs.Common.{MAX_BIDS, atom_at, Contains-cons_cases, Contains-unmap, Contains-nil, bid_from, canonical_file, kept_bids, kept_dummies}
+use Rattle.analysis.proofs.Common.{named_bid, named_dummy, points_of_dummy, kept_dummies-below, points_of_kept_dummies, IsPlainFile-canonical, kept_bid}
+use Rattle.analysis.proofs.Common.{points_of, AreStarts, same_Some, get_or-append-add, NamedFile, IsNamedCanonical}
 use Rattle.analysis.proofs.Explaining.KeptBids.{bids_of_dummy, kept_bids_are, or_points_of}
 use Rattle.analysis.proofs.Explaining.KeptPoints.{IsKeptBidder}
 

@@ -1,20 +1,19 @@
 -- The reason of the next best bid of a bidder, from its fate and the points so far.
 use Rattle.analysis.proofs.Common.{[], common_steps, rules, ◌≡◌, ℕ, ◌+◌, ◌<◌, ◌≤◌, Bool, true, false, List, ◌∷◌, ◌++◌, length, map, get_or, Option, Some, None}
-use Rattle.analysis.proofs.Common.{is_none, refl, sym, ap, ◌∙◌, subst, arith, nat_cmp, Global, All, Vec, filter, append-nil, get_or-map, get_or_default}
-use Rattle.analysis.proofs.Common.{get_or_at, length-append, length-map, length-take-le, map-append, filter-append, get_or-map-range_with_len}
-use Rattle.analysis.proofs.Common.{length-map-range_with_len, length-filter, slice_get_within, and_parts, IsInside, is_inside, PlainBid, PlainFile}
-use Rattle.analysis.proofs.Common.{IsDummyBelow, seen_bid, MAX_BIDS, Atom, Bounded, atom_of, xor_atoms_of, atom_at, sort_by, best_bids, numbers_at, filter-kept}
-use Rattle.analysis.proofs.Common.{filter-lost, bid_at, Keep, Inside, Packing, IsKeptAs, best_reason, kept_number, or_reason, point_number, points_of}
-use Rattle.analysis.proofs.Common.{xor_reason, HasPassed, IsNextBest, is_kept_atom, is_kept_bid, passed_bids, NumberedBid, Known, Walk, plain_fate, xor_fates}
-use Rattle.analysis.proofs.Common.{count_by-le-length, map_same_on, IsKnown}
+use Rattle.analysis.proofs.Common.{is_none, refl, sym, ap, ◌∙◌, subst, arith, nat_cmp, Global, All, Vec, filter, append-nil, get_or-map, get_or_default, Atom}
+use Rattle.analysis.proofs.Common.{get_or_at, length-append, length-map, length-take-le, map-append, filter-append, get_or-map-range_with_len, length-filter}
+use Rattle.analysis.proofs.Common.{length-map-range_with_len, slice_get_within, and_parts, IsInside, is_inside, PlainBid, PlainFile, IsDummyBelow, seen_bid}
+use Rattle.analysis.proofs.Common.{MAX_BIDS, Bounded, atom_of, xor_atoms_of, atom_at, sort_by, best_bids, numbers_at, filter-kept, filter-lost, bid_at, Keep}
+use Rattle.analysis.proofs.Common.{Inside, Packing, IsKeptAs, best_reason, kept_number, or_reason, point_number, points_of, xor_reason, HasPassed, IsNextBest}
+use Rattle.analysis.proofs.Common.{is_kept_atom, is_kept_bid, passed_bids, NumberedBid, Known, Walk, plain_fate, xor_fates, count_by-le-length, map_same_on}
+use Rattle.analysis.proofs.Common.{IsKnown}
 use Rattle.prune.specs.Fates.{or_fate, xor_fate}
 use Rattle.analysis.specs.Reasons.{reason_of}
 use Rattle.analysis.proofs.Explaining.BestBids.{alike_from, length_of}
 use Rattle.analysis.proofs.Explaining.KeptBidsBest.{none_is, atoms_of_bidder, one_key_same}
 use Rattle.analysis.proofs.Explaining.KeptPoints.{bidder_is_kept, kept_number_is}
 use Rattle.analysis.proofs.Explaining.KeptStarts.{kept_count, point_there, start_of}
-use Rattle.analysis.proofs.Explaining.Passed.{inside_is_kept, best_split, done, kept, next_below, next_point}
-use Rattle.analysis.proofs.Explaining.Passed.{number_of_point, offer, passed_more}
+use Rattle.analysis.proofs.Explaining.Passed.{inside_is_kept, best_split, done, kept, next_below, next_point, number_of_point, offer, passed_more}
 use Rattle.analysis.proofs.Explaining.Turning.{next_here, next_within}
 use Rattle.analysis.proofs.Explaining.TrueReasons.{inside_from, packing_from, reason_best}
 use Rattle.analysis.proofs.Explaining.Packings.{all_unmap}

@@ -1,13 +1,12 @@
 -- The numbers of the points of a packing, sorted. Different points of a packing are on different goods, so their numbers differ, and
 -- rise once they are sorted; what holds of each two of them does not depend on their order.
-use Rattle.analysis.proofs.Common.{eqb, [], rules, Contains-cons_cases, All-contains, Contains-nil, ◌≡◌, ℕ, ◌<◌, ◌≤◌, true, ⊎_elim, List, ◌∷◌, length, map}
-use Rattle.analysis.proofs.Common.{get_or, Option, None, refl, sym, ap, subst, subst₂, arith, nat_cmp, All, AllPairs, Contains, IsPermutation, sum_by}
-use Rattle.analysis.proofs.Common.{AllByRecursion, list_all, IsSorted, and_from, Decides-eqb, length-map, get_or-map, All-map, All-head, All-tail}
-use Rattle.analysis.proofs.Common.{recursion_from_All, Contains-get_or, AllPairs-from_increasing, sum_by-cons, All-permutation, Contains-permutation}
-use Rattle.analysis.proofs.Common.{IsPermutation-sym, IsNonDecreasingBy-from_sort, sum_by-IsPermutation, IsDistinct-IsPermutation}
-use Rattle.analysis.proofs.Common.{IsStrictlyIncreasing-from_distinct, IsDistinct-from_AllPairs, AreAbove, IsRising, IsInside, are_apart, apart_sym}
-use Rattle.analysis.proofs.Common.{apart_inside_none, inside_refl, PlainBid, PlainFile, Atom, atom_at, bid_from, AllPairs-head, AllPairs-tail, AllPairs-map}
-use Rattle.analysis.proofs.Common.{IsPackingFor, bid_at, all_apart, goods_at, IsPointBid, IsPointInside}
+use Rattle.analysis.proofs.Common.{eqb, [], rules, Contains-cons_cases, All-contains, Contains-nil, ◌≡◌, ℕ, ◌<◌, ◌≤◌, true, ⊎_elim, List, ◌∷◌, length, map, sym}
+use Rattle.analysis.proofs.Common.{get_or, Option, None, refl, ap, subst, subst₂, arith, nat_cmp, All, AllPairs, Contains, IsPermutation, sum_by, list_all}
+use Rattle.analysis.proofs.Common.{AllByRecursion, IsSorted, and_from, Decides-eqb, length-map, get_or-map, All-map, All-head, All-tail, recursion_from_All}
+use Rattle.analysis.proofs.Common.{Contains-get_or, AllPairs-from_increasing, sum_by-cons, All-permutation, Contains-permutation, IsPermutation-sym, AreAbove}
+use Rattle.analysis.proofs.Common.{IsNonDecreasingBy-from_sort, sum_by-IsPermutation, IsDistinct-IsPermutation, IsStrictlyIncreasing-from_distinct, IsRising}
+use Rattle.analysis.proofs.Common.{IsDistinct-from_AllPairs, IsInside, are_apart, apart_sym, apart_inside_none, inside_refl, PlainBid, PlainFile, Atom, atom_at}
+use Rattle.analysis.proofs.Common.{bid_from, AllPairs-head, AllPairs-tail, AllPairs-map, IsPackingFor, bid_at, all_apart, goods_at, IsPointBid, IsPointInside}
 use Rattle.goods_set.specs.Bundles.{AreApart}
 use Rattle.canon.specs.Lemmas.OrDifferences.{eqb_swap}
 

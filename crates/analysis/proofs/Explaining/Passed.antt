@@ -1,15 +1,15 @@
 -- The best bids that a walk over the bids in order passes are a bidder's best bids, in order: of each bundle one alone is the best.
 use Rattle.analysis.proofs.Common.{◌-◌, [], common_steps, rules, ◌≡◌, ◌≢◌, ℕ, ◌+◌, ◌<◌, ◌≤◌, Bool, true, false, ◌&&◌, eqb, ltb, cond, ⊎_elim, List, ◌∷◌, ◌++◌}
 use Rattle.analysis.proofs.Common.{length, map, get_or, take, drop, Option, refl, sym, ap, ◌∙◌, subst, arith, Ordering, Less, Equal, Greater, is_lt, AllPairs}
-use Rattle.analysis.proofs.Common.{Contains, filter, and_from, and_parts, both_ways, cases_lt, eq-eqb, eqb-true, lt-ltb, ltb-true, Decides-eqb, drop_more}
-use Rattle.analysis.proofs.Common.{get_or-map, get_or_append_left, get_or_at, length-append, length-map, map-append, All-contains, Contains-append_left}
+use Rattle.analysis.proofs.Common.{Contains, filter, and_from, and_parts, both_ways, cases_lt, eq-eqb, eqb-true, lt-ltb, ltb-true, Decides-eqb, drop_more, Atom}
+use Rattle.analysis.proofs.Common.{get_or-map, get_or_append_left, get_or_at, length-append, length-map, map-append, All-contains, Contains-append_left, bid_at}
 use Rattle.analysis.proofs.Common.{Contains-append_right, Contains-get_or, filter-append, filter_more, AllPairs-filter, IsPermutation-map, ranks_by, sorted_far}
 use Rattle.analysis.proofs.Common.{IsDistinct-IsPermutation, IsDistinct-from_AllPairs, IsInside, IsRising, bundle_cmp, bundle_cmp_equal, bundle_cmp_total}
-use Rattle.analysis.proofs.Common.{nat_cmp-refl, PlainBid, PlainFile, IsDummyBelow, IsPlainFile, seen_bid, Atom, atom_of, atom_at, AllPairs-map}
-use Rattle.analysis.proofs.Common.{Contains-cons_cases, Contains-map, Contains-unmap, best_bids, IsBefore, IsInOrder, same_in_order, Contains-filter}
-use Rattle.analysis.proofs.Common.{Contains-filter_parts, Contains-head, filter-kept, bid_from, NumberedBid, bid_at, bidder_of, is_best, point_number}
-use Rattle.analysis.proofs.Common.{points_of, AreInOrder, numbered_cmp, Known, IsNextBest, is_best_of, is_kept_atom, is_kept_bid, passed_bids}
-use Rattle.analysis.proofs.Common.{get_or-append_right, take-append-drop, AllPairs-from_IsDistinct, before_not_inside, behind_next, filter-map}
+use Rattle.analysis.proofs.Common.{nat_cmp-refl, PlainBid, PlainFile, IsDummyBelow, IsPlainFile, seen_bid, atom_of, atom_at, AllPairs-map, Contains-cons_cases}
+use Rattle.analysis.proofs.Common.{Contains-map, Contains-unmap, best_bids, IsBefore, IsInOrder, same_in_order, Contains-filter, Contains-filter_parts, is_best}
+use Rattle.analysis.proofs.Common.{Contains-head, filter-kept, bid_from, NumberedBid, bidder_of, point_number, points_of, AreInOrder, numbered_cmp, Known}
+use Rattle.analysis.proofs.Common.{IsNextBest, is_best_of, is_kept_atom, is_kept_bid, passed_bids, get_or-append_right, take-append-drop, before_not_inside}
+use Rattle.analysis.proofs.Common.{AllPairs-from_IsDistinct, behind_next, filter-map}
 use Rattle.analysis.proofs.Explaining.BestBids.{alike_from, at_number, numbered, numbered_cmp_total}
 use Rattle.analysis.proofs.Explaining.BestNumbers.{best_number_is}
 use Rattle.analysis.proofs.Explaining.KeptBids.{bid_here}

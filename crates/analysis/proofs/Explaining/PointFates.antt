@@ -2,15 +2,14 @@
 -- is on the bundle, since all points do; and the points below a point do not reach its price.
 use Rattle.analysis.proofs.Common.{[], rules, ◌≡◌, ℕ, ◌<◌, ◌≤◌, true, false, not, ltb, leb, ⊎_elim, List, ◌∷◌, length, None, is_none, refl, sym, ap₂, subst}
 use Rattle.analysis.proofs.Common.{arith, All, Contains, filter, range_with_len, cases_Bool, both_ways, and_from, and_parts, leb-true, lt-leb, ltb-true, lt-ltb}
-use Rattle.analysis.proofs.Common.{cases_lt, not_from_false, not-true, false_from_ne_true, get_or_default, All-contains, Contains-get_or, AllPairs-filter}
-use Rattle.analysis.proofs.Common.{IsBundle, IsInside, has_good, is_inside, apart_from, has_cases, inside_refl, Atom, atom_at, or_value, xor_value}
-use Rattle.analysis.proofs.Common.{or_value-price, best_bids, indices_below, IsInOrder, is_or_point, or_points, xor_points, greatest_price, is_below}
-use Rattle.analysis.proofs.Common.{same_in_order, or_points_are_atoms, xor_points_are_atoms, just_bundles, All-from_Contains, Contains-filter}
-use Rattle.analysis.proofs.Common.{Contains-filter_parts, find_none, found_none, IsOnBundle, or_points_are, points_where-in_order, xor_points_are}
-use Rattle.analysis.proofs.Common.{greatest_price-bound, greatest_price-member, xor_value-member, le-leb, without, inside_antisymm, inside_without}
-use Rattle.analysis.proofs.Common.{IsBundle-without, SearchKind, or_value-filter_le, ReachesValue-some, atoms_below, or_points_keep_values}
-use Rattle.analysis.proofs.Common.{or_points_on_bundles, xor_points_keep_values, list_all_fails, points_where-are, points_where-has, or_value-filter_on}
-use Rattle.analysis.proofs.Common.{xor_value-reached, range_contains, in_range}
+use Rattle.analysis.proofs.Common.{cases_lt, not_from_false, not-true, false_from_ne_true, get_or_default, All-contains, Contains-get_or, AllPairs-filter, Atom}
+use Rattle.analysis.proofs.Common.{IsBundle, IsInside, has_good, is_inside, apart_from, has_cases, inside_refl, atom_at, or_value, xor_value, or_value-price}
+use Rattle.analysis.proofs.Common.{best_bids, indices_below, IsInOrder, is_or_point, or_points, xor_points, greatest_price, is_below, same_in_order, find_none}
+use Rattle.analysis.proofs.Common.{or_points_are_atoms, xor_points_are_atoms, just_bundles, All-from_Contains, Contains-filter, Contains-filter_parts, le-leb}
+use Rattle.analysis.proofs.Common.{found_none, IsOnBundle, or_points_are, points_where-in_order, xor_points_are, greatest_price-bound, greatest_price-member}
+use Rattle.analysis.proofs.Common.{xor_value-member, without, inside_antisymm, inside_without, IsBundle-without, SearchKind, or_value-filter_le, atoms_below}
+use Rattle.analysis.proofs.Common.{ReachesValue-some, or_points_keep_values, or_points_on_bundles, xor_points_keep_values, list_all_fails, points_where-are}
+use Rattle.analysis.proofs.Common.{points_where-has, or_value-filter_on, xor_value-reached, range_contains, in_range}
 use Rattle.prune.specs.Fates.{or_fate, xor_fate}
 use Rattle.prune.specs.Points.{points_where}
 use Rattle.analysis.proofs.Explaining.KeptBidsBest.{none_is}

@@ -4,11 +4,11 @@ use Rattle.analysis.proofs.Common.{[], rules, ◌≡◌, ℕ, ◌+◌, ◌-◌, 
 use Rattle.analysis.proofs.Common.{None, refl, sym, ap, ◌∙◌, subst, arith, Ordering, Less, Equal, Greater, is_lt, nat_cmp, is_eq, ordering_reverse, and_parts}
 use Rattle.analysis.proofs.Common.{both_ways, cases_lt, false_from_ne_true, ltb-true, append-nil, get_or_default, length-take-le, Contains-get_or, filter_more}
 use Rattle.analysis.proofs.Common.{ranks_by, sorted_far, get_or_from_slice_get, slice_get_within, nat_cmp-lt, PlainBid, PlainFile, seen_bid, NumberedBid, Known}
-use Rattle.analysis.proofs.Common.{Walk, bid_at, bidder_of, IsBestFor, AreInOrder, numbered_cmp, HasPassed, IsAt, is_best_of, passed_bids, get_or-take}
-use Rattle.analysis.proofs.Common.{IsBestAt, IsLastBest, IsNext, best_after, dummy_of}
+use Rattle.analysis.proofs.Common.{Walk, bid_at, bidder_of, IsBestFor, AreInOrder, numbered_cmp, HasPassed, IsAt, is_best_of, passed_bids, get_or-take, IsNext}
+use Rattle.analysis.proofs.Common.{IsBestAt, IsLastBest, best_after, dummy_of}
 use Rattle.analysis.specs.BidOrders.{key_cmp}
-use Rattle.analysis.proofs.Explaining.BestBids.{HaveOneKey, alike_from, first_is_best, from_equal, key_cmp_total, key_first, key_same, numbered}
-use Rattle.analysis.proofs.Explaining.BestBids.{numbered_cmp_total, one_key, partitioned}
+use Rattle.analysis.proofs.Explaining.BestBids.{HaveOneKey, alike_from, first_is_best, from_equal, key_cmp_total, key_first, key_same, numbered, one_key}
+use Rattle.analysis.proofs.Explaining.BestBids.{numbered_cmp_total, partitioned}
 use Rattle.analysis.proofs.Explaining.KeptBidsBest.{best-once, same_bidder}
 use Rattle.analysis.proofs.Explaining.KeptBidsLists.{filter_none}
 use Rattle.canon.specs.Lemmas.Finding.{equal_from}

@@ -6,7 +6,7 @@ use Rattle.std.proofs.Common.{subst, arith, le_antisymm}
 use Rattle.std.specs.Prelude.{All, Contains}
 use Rattle.std.specs.List.{list_all}
 use Rattle.std.specs.Cmp.{both_ways as same_test}
-use Rattle.std.proofs.lemmas.Bool.{cases_Bool, both_ways, and_from, and_cases, ltb-false, not_from_false, false_from_ne_true}
+use Rattle.std.proofs.lemmas.Bool.{cases_Bool, eqb-true, eq-eqb, both_ways, and_from, and_cases, ltb-false, not_from_false, false_from_ne_true}
 use Rattle.std.proofs.lemmas.List.Elements.{All-contains, All-weaker, All-filter}
 use Rattle.goods_set.specs.Bundles.{IsRising, IsBundle, has_good, is_inside, IsInside, without}
 use Rattle.goods_set.specs.Lemmas.Members.{has_head, has_tail, has_cases, inside_at, inside_from, inside_refl, inside_trans, inside_antisymm, apart_from}
@@ -21,7 +21,7 @@ use Rattle.valuation.specs.Lemmas.OrValues.{or_value-split, or_value-empty, or_v
 use Rattle.prune.specs.Lemmas.OnBundles.{IsOnBundle}
 use Rattle.prune.specs.Points.{is_xor_point, xor_points, is_or_point, or_points, IsXorPoint, IsPart, IsOrPoint}
 use Rattle.prune.specs.SearchSteps.{is_below, atoms_below}
-use Rattle.prune.specs.Lemmas.Lists.{zero_or_more, list_all_fails, Contains-nil, Contains-filter, All-from_Contains}
+use Rattle.prune.specs.Lemmas.Lists.{zero_or_more, list_all_fails, list_any_found, list_any_has, Contains-nil, Contains-filter, All-from_Contains}
 use Rattle.prune.specs.InOrder.{IsInOrder}
 use Rattle.prune.specs.Lemmas.InOrder.{same_bundle_same_atom, same_in_order}
 use Rattle.prune.specs.Lemmas.Values.{xor_value-member, xor_value-bound, xor_value-dominated, xor_value-reached, xor_value-filter_on, or_value-dominated}
@@ -41,10 +41,11 @@ just_bundles goods atoms on = All-weaker (IsOnBundle goods) (λ a. IsBundle good
 
 -- ---- what is properly inside a bundle
 
-pub has_from_Contains : (xs : List ℕ) (g : ℕ) → Contains xs g → has_good xs g ≡ true
-has_from_Contains [] g c = absurd (Contains-nil g c)
-has_from_Contains (x ∷ xs) g c = ⊎_elim (search (rules, has_head)) (λ (d : Contains xs g). has_tail x xs g (has_from_Contains xs g d))
-    (Contains-cons_cases x xs g c)
+pub has_from_contains : (xs : List ℕ) (g : ℕ) → Contains xs g → has_good xs g ≡ true
+has_from_contains xs g c = list_any_has (λ x. eqb x g) xs g c (eq-eqb g g refl)
+
+pub contains_from_has : (xs : List ℕ) (g : ℕ) → has_good xs g ≡ true → Contains xs g
+contains_from_has xs g h = search (rules, list_any_found, eqb-true)
 
 -- what a nonempty part leaves is not the whole
 pub left_is_proper : (part bundle : List ℕ) → 0 < length part → IsInside part bundle → is_inside bundle (without bundle part) ≡ false
@@ -235,7 +236,7 @@ or_points_again goods atoms on = or_points_same goods (or_points goods atoms) at
 
 -- a good less leaves a bundle that is not the whole
 pub good_inside : (good : ℕ) (bundle : List ℕ) → Contains bundle good → IsInside (good ∷ []) bundle
-good_inside good bundle c = search (rules, inside_from, has_from_Contains, both_ways, has_cases)
+good_inside good bundle c = search (rules, inside_from, has_from_contains, both_ways, has_cases)
 
 good_less_is_proper : (good : ℕ) (bundle : List ℕ) → Contains bundle good → is_inside bundle (without bundle (good ∷ [])) ≡ false
 good_less_is_proper good bundle c = left_is_proper (good ∷ []) bundle (omega arith) (good_inside good bundle c)

@@ -1,6 +1,5 @@
 -- `first_difference_is_the_first`
-use Rattle.analysis.proofs.Common.{rules}
-use Rattle.analysis.proofs.Common.{HasAtoms-auction}
+use Rattle.analysis.proofs.Common.{rules, HasAtoms-auction}
 use Rattle.analysis.proofs.Comparing.BeginAuctions.{begins_with_first, none_exactly_for_same}
 use Rattle.analysis.proofs.laws.first_difference_is_the_first.Goals as goal
 

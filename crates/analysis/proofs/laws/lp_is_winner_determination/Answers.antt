@@ -1,6 +1,5 @@
 -- `lp_is_winner_determination`
-use Rattle.analysis.proofs.Common.{rules}
-use Rattle.analysis.proofs.Common.{◌∙◌}
+use Rattle.analysis.proofs.Common.{rules, ◌∙◌}
 use Rattle.analysis.proofs.Allocating.Allocations.{revenue_at_most, winners_there}
 use Rattle.analysis.proofs.Allocating.LpRows.{all_win_from_rows, objective_is_revenue, rows_met}
 use Rattle.analysis.proofs.laws.lp_is_winner_determination.Goals as goal

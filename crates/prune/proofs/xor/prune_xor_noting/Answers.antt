@@ -1,7 +1,7 @@
 -- `prune_xor_noting`
 -- A turn of the loop keeps a bid exactly if no kept bid inside its bundle dominates it, which is a turn of proofs/Results; and at the
 -- end the kept bids are the points.
-use Rattle.std.proofs.Common.{◌<◌, ◌≤◌, cond, [], ◌∷◌, ◌++◌, append-nil, length, refl, sym, ◌∙◌, subst, take, arith, rules}
+use Rattle.std.proofs.Common.{◌<◌, ◌≤◌, cond, [], ◌∷◌, ◌++◌, append-nil, length, refl, sym, ◌∙◌, subst, take, arith, rules, ap}
 use Rattle.bid_file.specs.declared.limits.TheConstants.{MAX_GOODS}
 use Rattle.valuation.specs.Values.{atoms_of, plain_atom}
 use Rattle.prune.specs.Internal.Listings.{IsIndexOf}
@@ -16,7 +16,6 @@ use Rattle.prune.proofs.PruningLoop.{next_turn, one_done, one_kept, xor_end, dom
 use Rattle.prune.proofs.Results.{turn_positive, turn_next, xor_reached, xor_missed}
 use Rattle.prune.proofs.xor.prune_xor_noting.Goals as goal
 use Rattle.prune.proofs.xor.prune_xor_noting.Goals.{then-is_none, else-is_none}
-use Rattle.std.proofs.Common.{ap}
 
 pub first_kept_dominating-requires-clause-next : goal.first_kept_dominating-requires-clause-next
 first_kept_dominating-requires-clause-next g c =

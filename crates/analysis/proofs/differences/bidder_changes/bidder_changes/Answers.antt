@@ -1,7 +1,6 @@
 -- `bidder_changes`: the changes of the left bidders, and those of the right bidders that still wait, are all.
-use Rattle.analysis.proofs.Common.{rules}
-use Rattle.analysis.proofs.Common.{◌≡◌, ◌∙◌, ◌<◌, ℕ, length, map, sym, ap, subst, Vec, Global, IsRising, offers, bidder_at, excess_bidders, waiting_after}
-use Rattle.analysis.proofs.Common.{plain_bidder_change}
+use Rattle.analysis.proofs.Common.{rules, ◌≡◌, ◌∙◌, ◌<◌, ℕ, length, map, sym, ap, subst, Vec, Global, IsRising, offers, bidder_at, excess_bidders}
+use Rattle.analysis.proofs.Common.{waiting_after, plain_bidder_change}
 use Rattle.analysis.proofs.Comparing.Indices.{excess_within}
 use Rattle.analysis.proofs.Comparing.Changes.{all_changes, excess_rises, rest_within}
 use Rattle.analysis.proofs.differences.bidder_changes.bidder_changes.Goals as goal

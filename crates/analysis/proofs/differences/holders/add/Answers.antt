@@ -1,6 +1,5 @@
 -- `add`
-use Rattle.analysis.proofs.Common.{rules}
-use Rattle.analysis.proofs.Common.{◌≡◌, ◌∙◌, ◌++◌, ◌∷◌, [], List, ℕ, ap, cond, sym, subst, refl, is_eq, IsSome, Option, bundle_cmp, Holders, indices_in}
+use Rattle.analysis.proofs.Common.{rules, ◌≡◌, ◌∙◌, ◌++◌, ◌∷◌, [], List, ℕ, ap, cond, sym, subst, refl, is_eq, IsSome, Option, bundle_cmp, Holders, indices_in}
 use Rattle.analysis.proofs.Common.{passed_in}
 use Rattle.analysis.specs.Internal.Holders.{found_at}
 use Rattle.analysis.proofs.Comparing.HoldersFound.{added, still_passed}

@@ -1,6 +1,5 @@
 -- `starts_of`: the bidder of the bid in front of them begins there, or still further in front (proofs/KeptStarts).
-use Rattle.analysis.proofs.Common.{rules}
-use Rattle.analysis.proofs.Common.{arith, ◌≡◌, ◌+◌, ◌-◌, ℕ, sym, subst, Global, Vec, PlainFile, AreStarts}
+use Rattle.analysis.proofs.Common.{rules, arith, ◌≡◌, ◌+◌, ◌-◌, ℕ, sym, subst, Global, Vec, PlainFile, AreStarts}
 use Rattle.analysis.proofs.Explaining.KeptStarts.{in_file, kept_count, more_starts, name_there, named_count, or_bidder, same_starts, xor_bidder}
 use Rattle.analysis.proofs.reasons.starts.starts_of.Goals.{in-Some, in_default}
 use Rattle.analysis.proofs.reasons.starts.starts_of.Goals as goal

@@ -1,6 +1,5 @@
 -- `cut_line`
-use Rattle.analysis.proofs.Common.{rules}
-use Rattle.analysis.proofs.Common.{sym, ◌∙◌, take_rest}
+use Rattle.analysis.proofs.Common.{rules, sym, ◌∙◌, take_rest}
 use Rattle.analysis.proofs.Allocating.NumberLines.{cut, last}
 use Rattle.analysis.proofs.winners.bid_numbers.cut_line.Goals as goal
 

@@ -1,6 +1,6 @@
 -- `push_numbers`
-use Rattle.analysis.proofs.Common.{◌≡◌, ◌+◌, ◌++◌, List, map, length, rules, true, ap, arith, sym, subst, ◌∙◌, list_all, Word, number_of, is_bid_number}
-use Rattle.analysis.proofs.Common.{words_in, RefusesLine, Memory, tests, YieldsList-end, YieldsList-so_far, YieldsList-turn}
+use Rattle.analysis.proofs.Common.{◌≡◌, ◌+◌, ◌++◌, List, map, length, rules, true, ap, arith, sym, subst, ◌∙◌, list_all, Word, number_of, is_bid_number, Memory}
+use Rattle.analysis.proofs.Common.{words_in, RefusesLine, tests, YieldsList-end, YieldsList-so_far, YieldsList-turn}
 use Rattle.analysis.proofs.Allocating.NumberLines.{begins_at, came_through, fails_at, no_number, number_found}
 use Rattle.analysis.proofs.Allocating.YieldedWords.{words_yielded}
 use Rattle.analysis.proofs.winners.bid_numbers.push_numbers.Goals as goal

@@ -1,6 +1,6 @@
 -- `first_clash`
-use Rattle.analysis.proofs.Common.{Some, ◌≡◌, ◌-◌, ◌<◌, [], None, ℕ, List, Option, All, arith, get_or, length, ap, ap₂, sym, subst, refl, ◌∙◌}
-use Rattle.analysis.proofs.Common.{get_or_from_slice_get, PlainBid, PlainFile, goods_of, seen_bid, pair_or, held_by, least_holder, take_at}
+use Rattle.analysis.proofs.Common.{Some, ◌≡◌, ◌-◌, ◌<◌, [], None, ℕ, List, Option, All, arith, get_or, length, ap, ap₂, sym, subst, refl, ◌∙◌, PlainBid}
+use Rattle.analysis.proofs.Common.{get_or_from_slice_get, PlainFile, goods_of, seen_bid, pair_or, held_by, least_holder, take_at}
 use Rattle.analysis.proofs.Allocating.FindingClashes.{goods_held, one_walked, number_there}
 use Rattle.analysis.proofs.winners.clashes.first_clash.Goals.{in-Some, in_default}
 use Rattle.analysis.proofs.winners.clashes.first_clash.Goals as goal

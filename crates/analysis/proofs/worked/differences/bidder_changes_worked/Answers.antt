@@ -1,7 +1,6 @@
 -- `bidder_changes_worked`
-use Rattle.analysis.proofs.Common.{rules}
-use Rattle.analysis.proofs.Common.{◌≡◌, ℕ, ◌<◌, Bool, false, List, [], ◌∷◌, refl, ap, arith, Option, Some, None, All, is_some, both_ways, All-nil, All-cons}
-use Rattle.analysis.proofs.Common.{Atom, IsBidderChange, PlainBidderChange, atom}
+use Rattle.analysis.proofs.Common.{rules, ◌≡◌, ℕ, ◌<◌, Bool, false, List, [], ◌∷◌, refl, ap, arith, Option, Some, None, All, is_some, both_ways, All-nil, Atom}
+use Rattle.analysis.proofs.Common.{All-cons, IsBidderChange, PlainBidderChange, atom}
 use Rattle.analysis.proofs.Comparing.SameLists.{no_bidder_changes}
 use Rattle.analysis.proofs.Comparing.WorkedRows.{left_alone, right_alone, right_alone_behind, two_prices}
 use Rattle.analysis.proofs.worked.differences.bidder_changes_worked.Goals as goal

@@ -1,6 +1,5 @@
 -- `Partners::candidate`
-use Rattle.analysis.proofs.Common.{rules}
-use Rattle.analysis.proofs.Common.{◌≡◌, List, Bool, [], length, refl, sym, subst, IsSome, MatchOption, Some, slice_get, filter, ArePassed, waits_at}
+use Rattle.analysis.proofs.Common.{rules, ◌≡◌, List, Bool, [], length, refl, sym, subst, IsSome, MatchOption, Some, slice_get, filter, ArePassed, waits_at}
 use Rattle.analysis.proofs.Comparing.Partnering.{candidate_found, none_found, passed_more}
 use Rattle.analysis.proofs.differences.partners.Partners.candidate.Goals as goal
 

@@ -1,6 +1,5 @@
 -- `Partners::take_for`
-use Rattle.analysis.proofs.Common.{rules}
-use Rattle.analysis.proofs.Common.{◌≡◌, ◌∙◌, ◌+◌, ℕ, List, [], map, take, sym, subst, arith, Some, None, MatchOption, Vec, Global, take_all, PlainBid}
+use Rattle.analysis.proofs.Common.{rules, ◌≡◌, ◌∙◌, ◌+◌, ℕ, List, [], map, take, sym, subst, arith, Some, None, MatchOption, Vec, Global, take_all, PlainBid}
 use Rattle.analysis.proofs.Common.{seen_bid, Atom, offers, bidders_on, IsCandidate, IsRarestIfAny, rarer_candidate}
 use Rattle.analysis.proofs.Comparing.BidsOnBundles.{bundles_before, one_more_bundle_of}
 use Rattle.analysis.proofs.Comparing.RarestBundle.{no_partner, one_more_bundle, rarest_is_partner}
