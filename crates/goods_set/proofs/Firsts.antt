@@ -1,7 +1,7 @@
 -- Which of two bundles of one size comes first: the one with the least good that they do not share, which is the lowest bit that
 -- differs in the first word that differs.
-use Rattle.std.proofs.Common.{◌≡◌, ℕ, ◌+◌, ◌-◌, ◌*◌, ◌/◌, ◌%◌, ◌^◌, ◌<◌, ◌≤◌, ◌≢◌, true, false, eqb, ◌||◌, ◌⊎◌, inl, inr, ⊎_elim, List, [], ◌∷◌, length, get_or}
-use Rattle.std.proofs.Common.{refl, sym, ap, ◌∙◌, subst, arith, w64, Less, Equal, Greater, nat_cmp}
+use Rattle.std.proofs.Common.{rules, ◌≡◌, ℕ, ◌+◌, ◌-◌, ◌*◌, ◌/◌, ◌%◌, ◌^◌, ◌<◌, ◌≤◌, ◌≢◌, true, false, eqb, ◌||◌, ◌⊎◌, inl, inr, ⊎_elim, List, [], ◌∷◌, length}
+use Rattle.std.proofs.Common.{get_or, refl, sym, ap, ◌∙◌, subst, arith, w64, Less, Equal, Greater, nat_cmp}
 use Rattle.std.specs.Ordering.{ordering_then, ordering_reverse}
 use Rattle.std.specs.Cmp.Lexicographic.{slice_cmp}
 use Rattle.std.specs.Int.{bit_at, trailing_zeros}
@@ -36,18 +36,7 @@ heads_in_order x xs y ys g a f = by (cases_lt y x)
 
 tails : (x : ℕ) (xs : List ℕ) (y : ℕ) (ys : List ℕ) (g : ℕ) → x ≡ y → AreAbove x xs → AreAbove y ys → IsFirstUnshared (x ∷ xs) (y ∷ ys) g
     → IsFirstUnshared xs ys g
-tails x xs y ys g e a b f =
-    let p : (eqb y g ≡ false) × (has_good ys g ≡ false) = or_parts (eqb y g) (has_good ys g) f.missing in
-    record {
-      here = ⊎_elim (λ (d : x ≡ g). absurd (eqb-false y g p.0 (sym e ∙ d))) (λ (m : has_good xs g ≡ true). m) (has_cases x xs g f.here);
-      missing = p.1;
-      alike = λ k l. ⊎_elim (λ (d : x ≡ k). subst (λ n. has_good xs n ≡ has_good ys n) d (has_not_head x xs a
-          ∙ sym (subst (λ n. has_good ys n ≡ false) (sym e) (has_not_head y ys b)))) (λ (d : x ≡ k → ⊥). without_head k d l) (cases_eq x k);
-    }
-  where
-    without_head : (k : ℕ) → (x ≡ k → ⊥) → k < g → has_good xs k ≡ has_good ys k
-    without_head k d l =
-        sym (ap (λ c. c || has_good xs k) (ne_eqb x k d)) ∙ f.alike k l ∙ ap (λ c. c || has_good ys k) (ne_eqb y k (λ q. d (e ∙ q)))
+tails x xs y ys g e a b f = search (rules, or_parts, eqb-false, has_cases, has_not_head, cases_eq, ne_eqb)
 
 pub less_from_first : (xs ys : List ℕ) (g : ℕ) → IsRising xs → IsRising ys → length xs ≡ length ys → IsFirstUnshared xs ys g → slice_cmp nat_cmp xs ys ≡ Less
 less_from_first [] ys g r s l f = absurd (both_ways false refl f.here)
@@ -55,10 +44,7 @@ less_from_first (x ∷ xs) [] g r s l f = absurd (omega arith)
 less_from_first (x ∷ xs) (y ∷ ys) g r s l f =
     ⊎_elim (λ (e : x ≡ y). subst (λ n. nat_cmp x n ≡ Equal → slice_cmp nat_cmp xs ys ≡ Less → slice_cmp nat_cmp (x ∷ xs) (n ∷ ys) ≡ Less) e
     (λ q h. ap (λ o. ordering_then o (slice_cmp nat_cmp xs ys)) q ∙ h) (subst (λ n. nat_cmp x n ≡ Equal) e (nat_cmp-refl x))
-    (less_from_first xs ys g r.1 s.1 (omega arith) (tails x xs y ys g e r.0 s.0 f)))
-    (⊎_elim (λ (m : x < y). ap (λ o. ordering_then o (slice_cmp nat_cmp xs ys)) (nat_cmp-lt x y m))
-    (λ (m : y < x). let h : x ≤ y = heads_in_order x xs y ys g r.0 f in absurd (omega arith)))
-    (cases_order x y)
+    (less_from_first xs ys g r.1 s.1 (omega arith) (tails x xs y ys g e r.0 s.0 f))) (search (rules, nat_cmp-lt, heads_in_order)) (cases_order x y)
 
 pub greater_from_first : (xs ys : List ℕ) (g : ℕ) → IsRising xs → IsRising ys → length xs ≡ length ys → IsFirstUnshared ys xs g
     → slice_cmp nat_cmp xs ys ≡ Greater
@@ -75,8 +61,7 @@ same_bits us vs k g h l = ap (λ w. bit_at w (g % 64)) (h (g / 64) (omega arith)
 
 -- all words are the same
 pub equal_words : (n : ℕ) (us vs : List ℕ) → AreSameWords us vs n → slice_cmp nat_cmp (word_goods (64 * n) us) (word_goods (64 * n) vs) ≡ Equal
-equal_words n us vs h = subst (λ xs. slice_cmp nat_cmp (word_goods (64 * n) us) xs ≡ Equal) (word_goods_same (64 * n) us vs (λ g l. same_bits us vs n g h l))
-    (tied_itself nat_list_cmp_total (word_goods (64 * n) us))
+equal_words n us vs h = search (rules, word_goods_same, same_bits, tied_itself, nat_list_cmp_total)
 
 -- what the lowest one of `x ^ y` says
 pub record DiffersFirst (x y i : ℕ) : Type 0 where
@@ -88,11 +73,7 @@ pub differs_first : (x y : ℕ) → bit_xor x y < 2 ^ 64 → bit_xor x y ≢ 0 �
 differs_first x y l n =
     let t : (trailing_zeros w64 (bit_xor x y) < 64) × (bit_at (bit_xor x y) (trailing_zeros w64 (bit_xor x y)) ≡ 1)
     × ((i : ℕ) → i < trailing_zeros w64 (bit_xor x y) → bit_at (bit_xor x y) i ≡ 0) = bit_at-trailing_zeros w64 (bit_xor x y) (omega arith) l in
-    record {
-      within = t.0;
-      differs = one (trailing_zeros w64 (bit_xor x y)) t.1;
-      alike = λ j m. none j (t.2 j m);
-    }
+    search (rules, one, none)
   where
     one : (i : ℕ) → bit_at (bit_xor x y) i ≡ 1 → bit_at x i + bit_at y i ≡ 1
     one i e =

@@ -1,6 +1,6 @@
 -- A loop that takes words eight at a time: what a fold of lanes says of each, and what the lanes are of the words.
-use Rattle.std.proofs.Common.{◌≡◌, ℕ, zero, suc, ◌+◌, ◌-◌, ◌<◌, ◌≤◌, ◌≢◌, ⊎_elim, List, [], ◌∷◌, map, length, get_or, refl, sym, ap, ap₂, ◌∙◌, subst, arith}
-use Rattle.std.proofs.Common.{w64}
+use Rattle.std.proofs.Common.{rules, ◌≡◌, ℕ, zero, suc, ◌+◌, ◌-◌, ◌<◌, ◌≤◌, ◌≢◌, ⊎_elim, List, [], ◌∷◌, map, length, get_or, refl, sym, ap, ap₂, ◌∙◌, subst}
+use Rattle.std.proofs.Common.{arith, w64}
 use Rattle.std.specs.Simd.Lanes.{zip2, chunk, fold_l, put_chunk}
 use Rattle.std.specs.Int.{bit_not}
 use Rattle.std.specs.Int.RustNames.{bit_and, bit_or}
@@ -16,17 +16,12 @@ pub fold_none : (xs : List ℕ) (a k : ℕ) → fold_l bit_or a xs ≡ 0 → k <
 fold_none [] a k e l = absurd (omega arith)
 fold_none (x ∷ xs) a zero e l =
     let z : bit_or a x ≡ 0 = start xs (bit_or a x) e in
-    let m : a ≤ bit_or a x = le_or_l a x in
-    let n : x ≤ bit_or a x = le_or_r a x in
-    (omega arith, omega arith)
+    search (rules, le_or_l, le_or_r)
   where
     start : (ys : List ℕ) (b : ℕ) → fold_l bit_or b ys ≡ 0 → b ≡ 0
     start [] b e = e
     start (y ∷ ys) b e = let z : bit_or b y ≡ 0 = start ys (bit_or b y) e in let m : b ≤ bit_or b y = le_or_l b y in omega arith
-fold_none (x ∷ xs) a (suc k) e l =
-    let r : (bit_or a x ≡ 0) × (get_or xs k 0 ≡ 0) = fold_none xs (bit_or a x) k e (omega arith) in
-    let m : a ≤ bit_or a x = le_or_l a x in
-    (omega (arith, r.0), r.1)
+fold_none (x ∷ xs) a (suc k) e l = search (rules, le_or_l, (fold_none xs (bit_or a x) k e (omega arith)))
 
 pub record Somewhere (P : ℕ → Type 0) (n : ℕ) : Type 0 where
   pub index : ℕ
@@ -35,13 +30,10 @@ pub record Somewhere (P : ℕ → Type 0) (n : ℕ) : Type 0 where
 
 pub fold_some : (xs : List ℕ) (a : ℕ) → a ≡ 0 → fold_l bit_or a xs ≢ 0 → Somewhere (λ k. get_or xs k 0 ≢ 0) (length xs)
 fold_some [] a z n = absurd (n z)
-fold_some (x ∷ xs) a z n =
-    ⊎_elim (λ (e : x ≡ 0).
+fold_some (x ∷ xs) a z n = ⊎_elim (λ (e : x ≡ 0).
     let r : Somewhere (λ k. get_or xs k 0 ≢ 0) (length xs) = fold_some xs (bit_or a x) (ap₂ (λ (b c : ℕ). bit_or b c) z e ∙ or_zero_l 0) n in
     let l : r.index < length xs = r.within in
-    record { index = suc r.index; within = omega arith; holds = r.holds })
-    (λ (d : x ≡ 0 → ⊥). record { index = 0; within = omega arith; holds = d })
-    (cases_eq x 0)
+    record { index = suc r.index; within = omega arith; holds = r.holds }) (search rules) (cases_eq x 0)
 
 -- ---- the lanes are the words
 
@@ -76,37 +68,20 @@ lanes_shared xs ys i l e =
 -- the step of a loop that has found no word at which f is not 0
 pub none_more : (f : ℕ → ℕ → ℕ) (xs ys : List ℕ) (i : ℕ) (vs : List ℕ) → AreLanes f xs ys i vs → fold_l bit_or 0 vs ≡ 0
     → ((k : ℕ) → k < i → f (get_or xs k 0) (get_or ys k 0) ≡ 0) → (k : ℕ) → k < i + 8 → f (get_or xs k 0) (get_or ys k 0) ≡ 0
-none_more f xs ys i vs v e h k l = ⊎_elim (λ (b : k < i). h k b) (λ (b : i ≤ k). here b) (cases_lt k i)
-  where
-    here : i ≤ k → f (get_or xs k 0) (get_or ys k 0) ≡ 0
-    here b =
-        let m : length vs ≡ 8 = v.many in
-        let d : i + (k - i) ≡ k = omega arith in
-        let z : get_or vs (k - i) 0 ≡ 0 = (fold_none vs 0 (k - i) e (omega arith)).1 in
-        subst (λ j. f (get_or xs j 0) (get_or ys j 0) ≡ 0) d (sym (v.lane (k - i) (omega arith)) ∙ z)
+none_more f xs ys i vs v e h k l = search (rules, cases_lt, fold_none)
 
 -- and its end where there is one
 pub some_here : (f : ℕ → ℕ → ℕ) (xs ys : List ℕ) (i : ℕ) (vs : List ℕ) → AreLanes f xs ys i vs → i + 8 ≤ length xs → fold_l bit_or 0 vs ≢ 0
     → Somewhere (λ k. f (get_or xs k 0) (get_or ys k 0) ≢ 0) (length xs)
 some_here f xs ys i vs v l n =
     let s : Somewhere (λ k. get_or vs k 0 ≢ 0) (length vs) = fold_some vs 0 refl n in
-    let m : length vs ≡ 8 = v.many in
-    let w : s.index < length vs = s.within in
-    record { index = i + s.index; within = omega arith; holds = λ e. s.holds (v.lane s.index (omega arith) ∙ e) }
+    search rules
 
 -- the step of a loop that writes f of each word: what is written, and what is not yet
 pub written_more : (f : ℕ → ℕ → ℕ) (first xs ys : List ℕ) (i : ℕ) (vs : List ℕ) → AreLanes f xs ys i vs → i + 8 ≤ length xs
     → ((k : ℕ) → k < i → get_or xs k 0 ≡ f (get_or first k 0) (get_or ys k 0)) → ((k : ℕ) → i ≤ k → get_or xs k 0 ≡ get_or first k 0) → (k : ℕ) → k < i + 8
     → get_or (put_chunk i xs vs) k 0 ≡ f (get_or first k 0) (get_or ys k 0)
-written_more f first xs ys i vs v l h r k b = ⊎_elim (λ (c : k < i). get_or-put_chunk_below i xs vs k 0 c ∙ h k c) (λ (c : i ≤ k). here c) (cases_lt k i)
-  where
-    here : i ≤ k → get_or (put_chunk i xs vs) k 0 ≡ f (get_or first k 0) (get_or ys k 0)
-    here c =
-        let m : length vs ≡ 8 = v.many in
-        let d : i + (k - i) ≡ k = omega arith in
-        let z : get_or (put_chunk i xs vs) (i + (k - i)) 0 ≡ f (get_or xs (i + (k - i)) 0) (get_or ys (i + (k - i)) 0) =
-        get_or-put_chunk_at i xs vs (k - i) 0 (omega arith) (omega arith) ∙ v.lane (k - i) (omega arith) in
-        subst (λ j. get_or (put_chunk i xs vs) j 0 ≡ f (get_or xs j 0) (get_or ys j 0)) d z ∙ ap (λ x. f x (get_or ys k 0)) (r k c)
+written_more f first xs ys i vs v l h r k b = search (rules, get_or-put_chunk_below, cases_lt, get_or-put_chunk_at)
 
 pub unwritten_more : (f : ℕ → ℕ → ℕ) (first xs ys : List ℕ) (i : ℕ) (vs : List ℕ) → AreLanes f xs ys i vs → ((k : ℕ) → i ≤ k → get_or xs k 0 ≡ get_or first k 0)
     → (k : ℕ) → i + 8 ≤ k → get_or (put_chunk i xs vs) k 0 ≡ get_or first k 0

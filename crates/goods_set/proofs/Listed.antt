@@ -1,8 +1,7 @@
 -- The goods of words, listed: those of one word after another, and in a word the index of its lowest bit that is set, and then
 -- those of the word without it.
-use Rattle.std.proofs.Common.{◌≡◌, ℕ, zero, suc, ◌+◌, ◌-◌, ◌*◌, ◌/◌, ◌%◌, ◌^◌, ◌<◌, ◌≤◌, ◌≢◌, Bool, true, false, cond, eqb, ⊎_elim, List, [], ◌∷◌, ◌++◌, map}
-use Rattle.std.proofs.Common.{length}
-use Rattle.std.proofs.Common.{get_or, refl, sym, ap, ap₂, ◌∙◌, arith, append_assoc, w64}
+use Rattle.std.proofs.Common.{rules, ◌≡◌, ℕ, zero, suc, ◌+◌, ◌-◌, ◌*◌, ◌/◌, ◌%◌, ◌^◌, ◌<◌, ◌≤◌, ◌≢◌, Bool, true, false, cond, eqb, ⊎_elim, List, [], ◌∷◌, ◌++◌}
+use Rattle.std.proofs.Common.{map, length, get_or, refl, sym, ap, ap₂, ◌∙◌, arith, append_assoc, w64}
 use Rattle.std.specs.List.{filter, range_with_len}
 use Rattle.std.specs.Int.{bit_at, trailing_zeros}
 use Rattle.std.specs.Int.RustNames.{bit_and}
@@ -19,35 +18,22 @@ use Rattle.goods_set.proofs.Bits.{no_bits}
 -- ---- one word
 
 one_word : (w i : ℕ) → i < 64 → word_bit (w ∷ []) i ≡ bit_at w i
-one_word w i l =
-    let d : i / 64 ≡ 0 = omega arith in
-    let m : i % 64 ≡ i = omega arith in
-    rw (d, m) refl
+one_word w i l = search rules
 
 one_word_has : (w i : ℕ) → i < 64 → bit_at w i ≡ 1 → has_good (word_goods 64 (w ∷ [])) i ≡ true
 one_word_has w i l e = word_goods_has 64 (w ∷ []) i l (one_word w i l ∙ e)
 
 one_word_parts : (w i : ℕ) → has_good (word_goods 64 (w ∷ [])) i ≡ true → (i < 64) × (bit_at w i ≡ 1)
-one_word_parts w i h =
-    let p : (i < 64) × (word_bit (w ∷ []) i ≡ 1) = word_goods_parts 64 (w ∷ []) i h in
-    (p.0, sym (one_word w i p.0) ∙ p.1)
+one_word_parts w i h = search (rules, word_goods_parts, one_word)
 
 -- the word without its lowest bit
 abbrev later_bits : ℕ → ℕ
 later_bits w = bit_and w (w - 1)
 
 lowest_first : (w t : ℕ) → t < 64 → bit_at w t ≡ 1 → ((i : ℕ) → i < t → bit_at w i ≡ 0) → word_goods 64 (w ∷ []) ≡ t ∷ word_goods 64 (later_bits w ∷ [])
-lowest_first w t l here low =
-    same_from_has (word_goods 64 (w ∷ [])) (t ∷ word_goods 64 (later_bits w ∷ [])) (word_goods_bundle 64 (w ∷ [])).0 (
-      above,
+lowest_first w t l here low = same_from_has (word_goods 64 (w ∷ [])) (t ∷ word_goods 64 (later_bits w ∷ [])) (word_goods_bundle 64 (w ∷ [])).0 ( above,
       (word_goods_bundle 64 (later_bits w ∷ [])).0,
-    )
-    (λ g h. let p : (g < 64) × (bit_at w g ≡ 1) = one_word_parts w g h in
-    ⊎_elim (λ (e : t ≡ g). or_left (eqb t g) (has_good (word_goods 64 (later_bits w ∷ [])) g) (eq-eqb t g e))
-    (λ (n : t ≡ g → ⊥). or_right (eqb t g) (has_good (word_goods 64 (later_bits w ∷ [])) g) (one_word_has (later_bits w) g p.0 (other g p.0 n ∙ p.1)))
-    (cases_eq t g))
-    (λ g h. ⊎_elim (λ (e : t ≡ g). one_word_has w g (omega arith) (ap (bit_at w) (sym e) ∙ here))
-    (λ (k : has_good (word_goods 64 (later_bits w ∷ [])) g ≡ true). (left g k).1) (has_cases t (word_goods 64 (later_bits w ∷ [])) g h))
+    ) (search (rules, one_word_parts, or_left, eq-eqb, or_right, one_word_has, other, cases_eq)) (search (rules, one_word_has, left, has_cases))
   where
     other : (g : ℕ) → g < 64 → (t ≡ g → ⊥) → bit_at (later_bits w) g ≡ bit_at w g
     other g m n = (without_lowest w t here low).1 g n
@@ -73,11 +59,7 @@ pub bits_more : (w t first : ℕ) (out new all : List ℕ) → w ≢ 0 → w < 2
 bits_more w t first out new all some fits is more before =
     let low : (trailing_zeros w64 w < 64) × (bit_at w (trailing_zeros w64 w) ≡ 1) × ((i : ℕ) → i < trailing_zeros w64 w → bit_at w i ≡ 0) =
     bit_at-trailing_zeros w64 w (omega arith) fits in
-    let next : word_goods 64 (w ∷ []) ≡ t ∷ word_goods 64 (later_bits w ∷ []) =
-    lowest_first w t (omega arith) (ap (bit_at w) is ∙ low.1) (λ i l. low.2 i (omega arith)) in
-    let rest : List ℕ = map (λ index. first + index) (word_goods 64 (later_bits w ∷ [])) in
-    ap (λ (xs : List ℕ). xs ++ rest) more ∙ append_assoc out ((first + t) ∷ []) rest
-    ∙ ap (λ (xs : List ℕ). out ++ map (λ index. first + index) xs) (sym next) ∙ before
+    search (rules, lowest_first, append_assoc)
 
 -- no bit is left
 pub bits_all : (first : ℕ) (out all : List ℕ) (w : ℕ) → w ≡ 0 → out ++ map (λ index. first + index) (word_goods 64 (w ∷ [])) ≡ all → out ≡ all
@@ -91,22 +73,15 @@ pub fewer_bits : (w t : ℕ) → w ≢ 0 → w < 2 ^ 64 → t ≡ trailing_zeros
 fewer_bits w t some fits is =
     let low : (trailing_zeros w64 w < 64) × (bit_at w (trailing_zeros w64 w) ≡ 1) × ((i : ℕ) → i < trailing_zeros w64 w → bit_at w i ≡ 0) =
     bit_at-trailing_zeros w64 w (omega arith) fits in
-    let next : word_goods 64 (w ∷ []) ≡ t ∷ word_goods 64 (later_bits w ∷ []) =
-    lowest_first w t (omega arith) (ap (bit_at w) is ∙ low.1) (λ i l. low.2 i (omega arith)) in
-    omega (arith, ap length next)
+    search (rules, lowest_first)
 
 -- ---- one word after another
 
 filter_split : (p : ℕ → Bool) (a m n : ℕ) → filter p (range_with_len a (m + n)) ≡ filter p (range_with_len a m) ++ filter p (range_with_len (a + m) n)
-filter_split p a zero n =
-    let z : 0 + n ≡ n = omega arith in
-    let y : a ≡ a + 0 = omega arith in
-    ap₂ (λ (k b : ℕ). filter p (range_with_len b k)) z y
+filter_split p a zero n = search rules
 filter_split p a (suc m) n =
     let z : suc m + n ≡ suc (m + n) = omega arith in
-    let y : a + suc m ≡ a + 1 + m = omega arith in
-    ap (λ k. filter p (range_with_len a k)) z ∙ one (p a) (filter_split p (a + 1) m n)
-    ∙ ap (λ b. filter p (range_with_len a (suc m)) ++ filter p (range_with_len b n)) (sym y)
+    search (rules, one, (filter_split p (a + 1) m n))
   where
     one : (c : Bool) → filter p (range_with_len (a + 1) (m + n)) ≡ filter p (range_with_len (a + 1) m) ++ filter p (range_with_len (a + 1 + m) n)
         → cond c (a ∷ filter p (range_with_len (a + 1) (m + n))) (filter p (range_with_len (a + 1) (m + n))) ≡ cond c (a ∷ filter p (range_with_len (a + 1) m))
@@ -119,18 +94,7 @@ shifted : (ws : List ℕ) (k j i n : ℕ) → j ≡ 64 * k + i → i + n ≤ 64
     → filter (λ g. eqb (word_bit ws g) 1) (range_with_len j n)
     ≡ map (λ index. 64 * k + index) (filter (λ g. eqb (word_bit (get_or ws k 0 ∷ []) g) 1) (range_with_len i n))
 shifted ws k j i zero e l = refl
-shifted ws k j i (suc n) e l =
-    let h = shifted ws k (j + 1) (i + 1) n (omega arith) (omega arith) in
-    let b : word_bit ws j ≡ word_bit (get_or ws k 0 ∷ []) i = ap (word_bit ws) e ∙ word_bit_at ws k i (omega arith)
-    ∙ sym (one_word (get_or ws k 0) i (omega arith)) in
-    one (eqb (word_bit ws j) 1) (eqb (word_bit (get_or ws k 0 ∷ []) i) 1) _ _ (ap (λ x. eqb x 1) b) h
-  where
-    one : (c d : Bool) (xs ys : List ℕ) → c ≡ d → xs ≡ map (λ index. 64 * k + index) ys
-        → cond c (j ∷ xs) xs ≡ map (λ index. 64 * k + index) (cond d (i ∷ ys) ys)
-    one true true xs ys q h = ap₂ (λ (x : ℕ) (zs : List ℕ). x ∷ zs) e h
-    one true false xs ys q h = absurd (cc)
-    one false true xs ys q h = absurd (cc)
-    one false false xs ys q h = h
+shifted ws k j i (suc n) e l = search (rules, word_bit_at, one_word, (shifted ws k (j + 1) (i + 1) n (omega arith) (omega arith)))
 
 one_word_more : (ws : List ℕ) (k : ℕ) → word_goods (64 * (k + 1)) ws ≡ word_goods (64 * k) ws ++ map (λ index. 64 * k + index)
     (word_goods 64 (get_or ws k 0 ∷ []))

@@ -1,6 +1,6 @@
 -- Where a good is in a rising list, or where it goes: what a binary search and a partition point say.
-use Rattle.std.proofs.Common.{◌≡◌, ℕ, zero, suc, ◌+◌, ◌<◌, ◌≤◌, true, false, eqb, ltb, List, [], ◌∷◌, length, get_or, refl, sym, ap, ◌∙◌}
-use Rattle.std.proofs.Common.{arith, subst, MatchResult, Bor}
+use Rattle.std.proofs.Common.{rules, ◌≡◌, ℕ, zero, suc, ◌+◌, ◌<◌, ◌≤◌, true, false, eqb, ltb, List, [], ◌∷◌, length, get_or, refl, sym, ap, ◌∙◌, arith, subst}
+use Rattle.std.proofs.Common.{MatchResult, Bor}
 use Rattle.std.specs.Prelude.{Result, Ok, Err, Option, Some, None}
 use Rattle.std.proofs.lemmas.Bool.{or_left, or_right, or_from, eq-eqb, ne_eqb, ltb-true, ltb-false, lt-ltb, le-ltb, le-leb, lt-leb}
 use Rattle.std.proofs.lemmas.List.Sorted.{searched}
@@ -36,32 +36,19 @@ missing_at [] zero g l a b = (refl, refl)
 missing_at [] (suc i) g l a b = absurd (omega arith)
 missing_at (x ∷ xs) zero g l a b =
     let h : g < x = b 0 (omega arith) (omega arith) in
-    let r : (has_good xs g ≡ false) × (insert xs 0 g ≡ with_good g xs) =
-    missing_at xs zero g (omega arith) (λ k m. absurd (omega arith)) (λ k m n. b (suc k) (omega arith) (omega arith)) in
-    (or_from (eqb x g) (has_good xs g) (ne_eqb x g (λ e. omega arith)) r.0, rw (lt-ltb g x h) refl)
+    search (rules, or_from, ne_eqb, lt-ltb, (missing_at xs zero g (omega arith) (λ k m. absurd (omega arith)) (λ k m n. b (suc k) (omega arith) (omega arith))))
 missing_at (x ∷ xs) (suc i) g l a b =
     let h : x < g = a 0 (omega arith) in
-    let r : (has_good xs g ≡ false) × (insert xs i g ≡ with_good g xs) =
-    missing_at xs i g (omega arith) (λ k m. a (suc k) (omega arith)) (λ k m n. b (suc k) (omega arith) (omega arith)) in (
-      or_from (eqb x g) (has_good xs g) (ne_eqb x g (λ e. omega arith)) r.0,
-      rw (le-ltb g x (omega arith), ne_eqb g x (λ e. omega arith)) (ap (λ (zs : List ℕ). x ∷ zs) r.1),
-    )
+    search (rules, or_from, ne_eqb, le-ltb, (missing_at xs i g (omega arith) (λ k m. a (suc k) (omega arith)) (λ k m n. b (suc k) (omega arith) (omega arith))))
 
 -- what a binary search for g answers of a rising list
 pub placed : (xs : List ℕ) (g : ℕ) (r : Result ℕ ℕ) → IsRising xs → IsBinarySearchResult (λ y. nat_cmp y g) xs r
     → MatchResult r (λ i. has_good xs g ≡ true) (λ i. (i ≤ length xs) × (has_good xs g ≡ false) × (insert xs i g ≡ with_good g xs))
-placed xs g r s h = by r (searched xs g r h (λ i j l m. rising_get_or xs i j 0 s l m))
-  where
-    by : (r : Result ℕ ℕ) → MatchResult r (λ i. (i < length xs) × (get_or xs i 0 ≡ g)) (λ i. (i ≤ length xs) × ((k : ℕ) → k < i → get_or xs k 0 < g)
-        × ((k : ℕ) → i ≤ k → k < length xs → g < get_or xs k 0)) → MatchResult r (λ i. has_good xs g ≡ true) (λ i. (i ≤ length xs) × (has_good xs g ≡ false)
-        × (insert xs i g ≡ with_good g xs))
-    by (Ok i) h = has_at xs i g h.0 h.1
-    by (Err i) h = let m : (has_good xs g ≡ false) × (insert xs i g ≡ with_good g xs) = missing_at xs i g h.0 h.1 h.2 in (h.0, m.0, m.1)
+placed xs g r s h = search (rules, searched, rising_get_or, has_at, missing_at)
 
 -- a rising list is parted by the goods below a bound
 pub parted : (xs : List ℕ) (g : ℕ) → IsRising xs → IsPartitionedBy (λ y. ltb y g) xs
-parted xs g r i j d l k h = let m : get_or xs i d ≤ get_or xs j d = rising_get_or xs i j d r l k in let n : get_or xs j d < g = ltb-true (get_or xs j d) g h in
-    lt-ltb (get_or xs i d) g (omega arith)
+parted xs g r i j d l k h = search (rules, rising_get_or, ltb-true, lt-ltb)
 
 -- the first good that is not below the bound is the next one
 pub next_at : (xs : List ℕ) (g i : ℕ) → i ≤ length xs → IsPartitionPoint (λ y. ltb y g ≡ true) (λ y. ltb y g ≡ false) xs i → slice_get xs i ≡ good_from xs g
@@ -96,12 +83,8 @@ first_good (x ∷ xs) = rw (le-leb 0 x (omega arith)) refl
 
 behind : (xs : List ℕ) (i x : ℕ) → IsRising xs → slice_get xs i ≡ Some x → good_from xs (x + 1) ≡ slice_get xs (suc i)
 behind [] i x r e = absurd (cc)
-behind (y ∷ xs) zero x r e =
-    let s : y ≡ x = cc in
-    rw (lt-leb (x + 1) y (omega arith)) (subst (λ n. good_from xs (n + 1) ≡ slice_get xs 0) s (first_above y xs r.0))
-behind (y ∷ xs) (suc i) x r e =
-    let l : y < x = AreAbove-slice_get y xs i x r.0 e in
-    rw (lt-leb (x + 1) y (omega arith)) (behind xs i x r.1 e)
+behind (y ∷ xs) zero x r e = search (rules, lt-leb, first_above)
+behind (y ∷ xs) (suc i) x r e = search (rules, AreAbove-slice_get, lt-leb, (behind xs i x r.1 e))
 
 none_behind : (xs : List ℕ) (i : ℕ) → slice_get xs i ≡ None → slice_get xs (suc i) ≡ None
 none_behind [] i e = refl

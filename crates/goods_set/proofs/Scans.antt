@@ -1,7 +1,7 @@
 -- What goes through the words of a set from the first. How many goods they hold: the ones of each word. The next good: the lowest
 -- one of the first word that has one from there on.
-use Rattle.std.proofs.Common.{◌≡◌, ℕ, zero, suc, ◌+◌, ◌-◌, ◌*◌, ◌/◌, ◌%◌, ◌^◌, ◌<◌, ◌≤◌, ◌≢◌, Bool, true, false, cond, eqb, ◌⊎◌, inl, inr, ⊎_elim, List, ◌∷◌}
-use Rattle.std.proofs.Common.{map, length, get_or, refl, sym, ap, ap₂, ◌∙◌, subst, arith, w64, min}
+use Rattle.std.proofs.Common.{rules, ◌≡◌, ℕ, zero, suc, ◌+◌, ◌-◌, ◌*◌, ◌/◌, ◌%◌, ◌^◌, ◌<◌, ◌≤◌, ◌≢◌, Bool, true, false, cond, eqb, ◌⊎◌, inl, inr, ⊎_elim, List}
+use Rattle.std.proofs.Common.{◌∷◌, map, length, get_or, refl, sym, ap, ap₂, ◌∙◌, subst, arith, w64, min}
 use Rattle.std.specs.Prelude.{Some, None}
 use Rattle.std.specs.List.{filter, range_with_len}
 use Rattle.std.specs.Int.{bit_at, trailing_zeros}
@@ -46,32 +46,14 @@ ones_are w l = length-filter (λ i. eqb (bit_at w i) 1) (range_with_len 0 64) �
 bits_of_word : (ws : List ℕ) (k j i n : ℕ) → j ≡ 64 * k + i → i + n ≤ 64 → length (filter (λ g. eqb (word_bit ws g) 1) (range_with_len j n))
     ≡ length (filter (λ b. eqb (bit_at (get_or ws k 0) b) 1) (range_with_len i n))
 bits_of_word ws k j i zero e l = refl
-bits_of_word ws k j i (suc n) e l =
-    let h : length (filter (λ g. eqb (word_bit ws g) 1) (range_with_len (j + 1) n))
-    ≡ length (filter (λ b. eqb (bit_at (get_or ws k 0) b) 1) (range_with_len (i + 1) n)) =
-    bits_of_word ws k (j + 1) (i + 1) n (omega arith) (omega arith) in
-    let b : word_bit ws j ≡ bit_at (get_or ws k 0) i = ap (word_bit ws) e ∙ word_bit_at ws k i (omega arith) in
-    one (eqb (word_bit ws j) 1) (eqb (bit_at (get_or ws k 0) i) 1) j i (filter (λ g. eqb (word_bit ws g) 1) (range_with_len (j + 1) n))
-    (filter (λ b. eqb (bit_at (get_or ws k 0) b) 1) (range_with_len (i + 1) n)) (ap (λ x. eqb x 1) b) h
-  where
-    one : (c d : Bool) (x y : ℕ) (xs ys : List ℕ) → c ≡ d → length xs ≡ length ys → length (cond c (x ∷ xs) xs) ≡ length (cond d (y ∷ ys) ys)
-    one true true x y xs ys e h = ap suc h
-    one true false x y xs ys e h = absurd (cc)
-    one false true x y xs ys e h = absurd (cc)
-    one false false x y xs ys e h = h
+bits_of_word ws k j i (suc n) e l = search (rules, word_bit_at, (bits_of_word ws k (j + 1) (i + 1) n (omega arith) (omega arith)))
 
 filter_range : (p : ℕ → Bool) (a m n : ℕ) → length (filter p (range_with_len a (m + n))) ≡ length (filter p (range_with_len a m))
     + length (filter p (range_with_len (a + m) n))
-filter_range p a zero n =
-    let z : 0 + n ≡ n = omega arith in
-    let y : a ≡ a + 0 = omega arith in
-    ap₂ (λ (k b : ℕ). length (filter p (range_with_len b k))) z y
-    ∙ (let e : length (filter p (range_with_len (a + 0) n)) ≡ 0 + length (filter p (range_with_len (a + 0) n)) = omega arith in e)
+filter_range p a zero n = search rules
 filter_range p a (suc m) n =
     let z : suc m + n ≡ suc (m + n) = omega arith in
-    let y : a + suc m ≡ a + 1 + m = omega arith in
-    ap (λ k. length (filter p (range_with_len a k))) z ∙ one (p a) (filter_range p (a + 1) m n)
-    ∙ ap (λ b. length (filter p (range_with_len a (suc m))) + length (filter p (range_with_len b n))) (sym y)
+    search (rules, one, (filter_range p (a + 1) m n))
   where
     one : (c : Bool) → length (filter p (range_with_len (a + 1) (m + n))) ≡ length (filter p (range_with_len (a + 1) m))
         + length (filter p (range_with_len (a + 1 + m) n))
@@ -98,12 +80,7 @@ count_none ws = refl
 
 length_filter : (p : ℕ → Bool) (a n : ℕ) → length (filter p (range_with_len a n)) ≤ n
 length_filter p a zero = omega arith
-length_filter p a (suc n) = one (p a) (length_filter p (a + 1) n)
-  where
-    one : (c : Bool) → length (filter p (range_with_len (a + 1) n)) ≤ n
-        → length (cond c (a ∷ filter p (range_with_len (a + 1) n)) (filter p (range_with_len (a + 1) n))) ≤ suc n
-    one true h = omega arith
-    one false h = omega arith
+length_filter p a (suc n) = search (rules, (length_filter p (a + 1) n))
 
 pub count_fits : (cap : ℕ) (ws : List ℕ) → length (word_goods cap ws) ≤ cap
 unfolding word_goods
@@ -120,8 +97,7 @@ pub record IsScan (ws : List ℕ) (from index rest : ℕ) : Type 0 where
   pub below : (i : ℕ) → i < 64 → 64 * index + i < from → bit_at rest i ≡ 0
 
 scan_masked : (w k rest i : ℕ) → k < 64 → rest ≡ bit_and w ((2 ^ 64 - 1) * 2 ^ k % 2 ^ 64) → bit_at rest i ≡ min (bit_at w i) (bit_at (2 ^ 64 - 2 ^ k) i)
-scan_masked w k rest i l is = ap (λ r. bit_at r i) is ∙ bit_at_and w ((2 ^ 64 - 1) * 2 ^ k % 2 ^ 64) i
-    ∙ ap (λ m. min (bit_at w i) (bit_at m i)) (ones_shl 64 k (omega arith))
+scan_masked w k rest i l is = search (rules, bit_at_and, ones_shl)
 
 scan_kept : (w k rest i : ℕ) → k < 64 → rest ≡ bit_and w ((2 ^ 64 - 1) * 2 ^ k % 2 ^ 64) → k ≤ i → i < 64 → bit_at rest i ≡ bit_at w i
 scan_kept w k rest i l is a b =
@@ -138,35 +114,16 @@ scan_left_out w k rest i l is a =
 
 pub scan_begun : (ws : List ℕ) (from index rest : ℕ) → index ≡ from / 64 → get_or ws index 0 < 2 ^ 64
     → rest ≡ bit_and (get_or ws index 0) ((2 ^ 64 - 1) * 2 ^ (from % 64) % 2 ^ 64) → IsScan ws from index rest
-scan_begun ws from index rest e l is =
-    let m : bit_and (get_or ws index 0) ((2 ^ 64 - 1) * 2 ^ (from % 64) % 2 ^ 64) ≤ get_or ws index 0 =
-    and_le_l (get_or ws index 0) ((2 ^ 64 - 1) * 2 ^ (from % 64) % 2 ^ 64) in
-    record {
-      reached = omega arith;
-      passed = λ g a b. absurd (omega arith);
-      fits = omega arith;
-      above = λ i k a. scan_kept (get_or ws index 0) (from % 64) rest i (omega arith) is (omega arith) k;
-      below = λ i k a. scan_left_out (get_or ws index 0) (from % 64) rest i (omega arith) is (omega arith);
-    }
+scan_begun ws from index rest e l is = search (rules, and_le_l, scan_kept, scan_left_out)
 
 -- where the rest is 0, the word has no good from `from` on
 scan_passed : (ws : List ℕ) (from index rest : ℕ) → IsScan ws from index rest → rest ≡ 0 → (g : ℕ) → from ≤ g → g < 64 * (index + 1) → word_bit ws g ≡ 0
-scan_passed ws from index rest s z g a b = ⊎_elim (λ (l : g < 64 * index). s.passed g a l) (λ (l : 64 * index ≤ g). here l) (cases_lt g (64 * index))
-  where
-    here : 64 * index ≤ g → word_bit ws g ≡ 0
-    here l =
-        let d : 64 * index + (g - 64 * index) ≡ g = omega arith in
-        let e : word_bit ws (64 * index + (g - 64 * index)) ≡ 0 = word_bit_at ws index (g - 64 * index) (omega arith)
-        ∙ sym (s.above (g - 64 * index) (omega arith) (omega arith)) ∙ ap (λ x. bit_at x (g - 64 * index)) z ∙ bit_at-zero (g - 64 * index) in
-        subst (λ x. word_bit ws x ≡ 0) d e
+scan_passed ws from index rest s z g a b = search (rules, cases_lt, word_bit_at, bit_at-zero)
 
 -- every word is passed
 pub scan_ended : (n : ℕ) (ws : List ℕ) (from index rest : ℕ) → IsScan ws from index rest → rest ≡ 0 → n ≤ index + 1
     → good_from (word_goods (64 * n) ws) from ≡ None
-scan_ended n ws from index rest s z l =
-    good_from_none (word_goods (64 * n) ws) from (word_goods_bundle (64 * n) ws).0
-    (λ g a. ⊎_elim (λ (b : g < 64 * n). word_goods_lacks (64 * n) ws g (scan_passed ws from index rest s z g a (omega arith)))
-    (λ (b : 64 * n ≤ g). word_goods_past (64 * n) ws g b) (cases_lt g (64 * n)))
+scan_ended n ws from index rest s z l = search (rules, good_from_none, word_goods_bundle, word_goods_lacks, scan_passed, word_goods_past, cases_lt)
 
 pub scan_outside : (n : ℕ) (ws : List ℕ) (from : ℕ) → n ≤ from / 64 → good_from (word_goods (64 * n) ws) from ≡ None
 scan_outside n ws from l = good_from_none (word_goods (64 * n) ws) from (word_goods_bundle (64 * n) ws).0 (λ g a. word_goods_past (64 * n) ws g (omega arith))

@@ -1,5 +1,5 @@
 -- `key_from`
-use Rattle.std.proofs.Common.{arith, sym}
+use Rattle.std.proofs.Common.{rules, arith, sym}
 use Rattle.goods_set.specs.SortKeys.{first_goods}
 use Rattle.goods_set.specs.Lemmas.SortKeys.{sort_key_of-short, sort_key_of-long}
 use Rattle.goods_set.proofs.sort_keys.key_from.Goals as goal
@@ -9,6 +9,4 @@ returns-then-size-ge65535 c goods size first second third = sym (sort_key_of-lon
 
 pub returns : goal.returns
 unfolding first_goods
-returns c goods size first second third =
-    let short = sort_key_of-short goods (omega (arith, c.if-size-ge65535.false, size)) in
-    omega (arith, short, c.if-size-ge65535.false, size, first, second, third)
+returns c goods size first second third = search (rules, sort_key_of-short)

@@ -6,8 +6,7 @@ use Rattle.goods_set.proofs.Places.{parted}
 use Rattle.goods_set.proofs.list_set.ListSet.index_from.Goals as goal
 
 pub returns-clause-fits : goal.returns-clause-fits
-returns-clause-fits c =
-    subst (λ (ys : List ℕ). c.partition_point.result ≤ length ys) c.as_slice-goods.ensures c.partition_point.ensures.bound
+returns-clause-fits c = search rules
 
 pub returns-clause-parts : goal.returns-clause-parts
 returns-clause-parts c =

@@ -12,17 +12,10 @@ either (Ok x) new old other put same before after = subst (λ (zs : List ℕ). I
 either (Err x) new old other put same before after = subst (λ (zs : List ℕ). IsBundle 65536 zs) (sym same) before
 
 pub invariant_of-self : goal.invariant_of-self
-invariant_of-self c =
-    let goods = c.args.self.now.goods in
-    let bundle = c.args.self.now.bundle in
-    record {
-      bundle = either c.insert.result _ goods _ c.insert.ensures.goods c.insert.ensures.same bundle
-          (subst (λ (zs : List ℕ). IsBundle 65536 zs) (sym c.in-Err.ensures.2) (IsBundle-with_good 65536 c.args.good goods c.ranges.good.fits bundle));
-    }
+invariant_of-self c = search (rules, either, IsBundle-with_good)
 
 pub returns-in-Ok-clause-goods : goal.returns-in-Ok-clause-goods
-returns-in-Ok-clause-goods c =
-    sym (with_good_there c.args.good c.args.self.now.goods c.args.self.now.bundle.0 c.in-Ok.ensures)
+returns-in-Ok-clause-goods c = search (rules, with_good_there)
 
 pub returns-in-Ok-clause-added : goal.returns-in-Ok-clause-added
 returns-in-Ok-clause-added c = search rules

@@ -1,5 +1,5 @@
 -- `all_apart`
-use Rattle.std.proofs.Common.{ℕ, ◌+◌, ◌≤◌, length, sym, arith}
+use Rattle.std.proofs.Common.{rules, ℕ, ◌+◌, ◌≤◌, length, sym, arith}
 use Rattle.std.specs.Int.RustNames.{bit_and}
 use Rattle.goods_set.specs.Lemmas.Words.{words_apart, words_sharing}
 use Rattle.goods_set.proofs.Lanes.{lanes_shared, none_more, some_here}
@@ -23,13 +23,7 @@ loop-i-preserved c =
     record { within = space; none = none_more (bit_and) xs ys i _ (lanes_shared xs ys i space c.requires) c.if-shared-ne0.false c.loop-i.invariant.none }
 
 pub returns-then-one-k-ne0 : goal.returns-then-one-k-ne0
-returns-then-one-k-ne0 c =
-    let xs = c.args.one.now in
-    let ys = c.args.other.now in
-    sym (words_sharing (length xs) xs ys c.loop-k.k (λ k. (c.type_inv.one k).fits) (omega arith) c.if-one-k-ne0.true)
+returns-then-one-k-ne0 c = search (rules, words_sharing)
 
 pub returns : goal.returns
-returns c =
-    let xs = c.args.one.now in
-    let ys = c.args.other.now in
-    sym (words_apart (length xs) xs ys (λ k l. c.loop-k.invariant k (omega arith)))
+returns c = search (rules, words_apart)

@@ -1,5 +1,5 @@
 -- `all_inside`
-use Rattle.std.proofs.Common.{ℕ, ◌+◌, ◌≤◌, length, sym, arith, w64}
+use Rattle.std.proofs.Common.{rules, ℕ, ◌+◌, ◌≤◌, length, sym, arith, w64}
 use Rattle.std.specs.Int.{bit_not}
 use Rattle.std.specs.Int.RustNames.{bit_and}
 use Rattle.goods_set.specs.Lemmas.Words.{words_inside, words_outside}
@@ -28,13 +28,7 @@ loop-i-preserved c =
     }
 
 pub returns-then-inner-k-ne0 : goal.returns-then-inner-k-ne0
-returns-then-inner-k-ne0 c =
-    let xs = c.args.inner.now in
-    let ys = c.args.outer.now in
-    sym (words_outside (length xs) xs ys c.loop-k.k (λ k. (c.type_inv.inner k).fits) (λ k. (c.type_inv.outer k).fits) (omega arith) c.if-inner-k-ne0.true)
+returns-then-inner-k-ne0 c = search (rules, words_outside)
 
 pub returns : goal.returns
-returns c =
-    let xs = c.args.inner.now in
-    let ys = c.args.outer.now in
-    sym (words_inside (length xs) xs ys (λ k. (c.type_inv.outer k).fits) (λ k l. c.loop-k.invariant k (omega arith)))
+returns c = search (rules, words_inside)

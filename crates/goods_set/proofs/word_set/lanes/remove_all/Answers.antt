@@ -1,5 +1,5 @@
 -- `remove_all`
-use Rattle.std.proofs.Common.{ℕ, ◌+◌, ◌≤◌, length, arith, w64}
+use Rattle.std.proofs.Common.{rules, ℕ, ◌+◌, ◌≤◌, length, arith, w64}
 use Rattle.std.specs.Int.{bit_not}
 use Rattle.std.specs.Int.RustNames.{bit_and}
 use Rattle.std.proofs.lemmas.Simd.{length-put_chunk}
@@ -21,8 +21,7 @@ loop-words-preserved c =
     }
 
 pub returns-clause-goods : goal.returns-clause-goods
-returns-clause-goods c = λ cap l. words_without cap c.args.words.now c.args.taken.now c.loop-k.words (λ k. (c.type_inv.taken k).fits)
-    (λ k m. c.loop-k.invariant.done k (omega arith))
+returns-clause-goods c = search (rules, words_without)
 
 pub returns-clause-words : goal.returns-clause-words
 returns-clause-words c = λ k l. c.loop-k.invariant.done k (omega arith)

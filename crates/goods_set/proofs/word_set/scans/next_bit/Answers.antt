@@ -1,5 +1,5 @@
 -- `next_bit`
-use Rattle.std.proofs.Common.{length, refl, sym}
+use Rattle.std.proofs.Common.{rules, length, refl, sym}
 use Rattle.goods_set.proofs.Scans.{scan_begun, scan_ended, scan_outside, scan_found}
 use Rattle.goods_set.proofs.word_set.scans.next_bit.Goals as goal
 
@@ -7,9 +7,7 @@ pub returns-then-index-words : goal.returns-then-index-words
 returns-then-index-words c = let ws = c.args.words.now in sym (scan_outside (length ws) ws c.args.from c.if-index-words.true)
 
 pub loop-rest-init : goal.loop-rest-init
-loop-rest-init c =
-    let ws = c.args.words.now in
-    record { within = c.if-index-words.false; scan = scan_begun ws c.args.from _ _ refl (c.type_inv.words _).fits refl }
+loop-rest-init c = search (rules, scan_begun)
 
 pub returns-then-index-words-2 : goal.returns-then-index-words-2
 returns-then-index-words-2 c =

@@ -1,5 +1,5 @@
 -- `order_of_one_size`
-use Rattle.std.proofs.Common.{ℕ, length, get_or, sym, arith}
+use Rattle.std.proofs.Common.{rules, ℕ, length, get_or, sym, arith}
 use Rattle.std.proofs.lemmas.Nat.{xor_lt}
 use Rattle.goods_set.proofs.Firsts.{differs_first, less_by_words, greater_by_words, equal_words}
 use Rattle.goods_set.proofs.word_set.scans.order_of_one_size.Goals as goal
@@ -31,7 +31,4 @@ returns-else-a-k-eq1 c =
     sym (greater_by_words (length us) us vs k _ (omega arith) c.loop-k.invariant d c.requires.same_size c.if-a-k-eq1.false)
 
 pub returns : goal.returns
-returns c =
-    let us = c.args.a.now in
-    let vs = c.args.b.now in
-    sym (equal_words (length us) us vs (λ j l. c.loop-k.invariant j (omega arith)))
+returns c = search (rules, equal_words)
