@@ -1,19 +1,11 @@
 -- Which of two bundles of one size comes first: the one with the least good that they do not share, which is the lowest bit that
 -- differs in the first word that differs.
-use Rattle.std.proofs.Common.{rules, ◌≡◌, ℕ, ◌+◌, ◌-◌, ◌*◌, ◌/◌, ◌%◌, ◌^◌, ◌<◌, ◌≤◌, ◌≢◌, true, false, eqb, ◌||◌, ◌⊎◌, inl, inr, ⊎_elim, List, [], ◌∷◌, length}
-use Rattle.std.proofs.Common.{get_or, refl, sym, ap, ◌∙◌, subst, arith, w64, Less, Equal, Greater, nat_cmp}
-use Rattle.std.specs.Ordering.{ordering_then, ordering_reverse}
-use Rattle.std.specs.Cmp.Lexicographic.{slice_cmp}
-use Rattle.std.specs.Int.{bit_at, trailing_zeros}
-use Rattle.std.specs.Int.RustNames.{bit_and, bit_xor}
-use Rattle.std.proofs.lemmas.Bool.{both_ways, cases_lt, cases_eq, cases_order, eqb-false, ne_eqb, or_parts}
-use Rattle.std.proofs.lemmas.Cmp.{nat_list_cmp_total, tied_itself}
-use Rattle.std.proofs.lemmas.Nat.Bits.{bit_at-lt, bit_at_xor, bit_at-trailing_zeros, shr_and_one}
-use Rattle.goods_set.specs.Bundles.{AreAbove, IsRising, has_good}
-use Rattle.goods_set.specs.Lemmas.Members.{has_head, has_cases, has_above, has_not_head}
-use Rattle.goods_set.specs.Lemmas.Orders.{nat_cmp-lt, nat_cmp-refl}
-use Rattle.goods_set.specs.Words.{word_bit, word_goods}
-use Rattle.goods_set.specs.Lemmas.Words.{word_bit_at, word_goods_bundle, word_goods_has, word_goods_lacks, word_goods_same}
+use Rattle.goods_set.proofs.Common.{rules, ◌≡◌, ℕ, ◌+◌, ◌-◌, ◌*◌, ◌/◌, ◌%◌, ◌^◌, ◌<◌, ◌≤◌, ◌≢◌, true, false, eqb, ◌||◌, ◌⊎◌, inl, inr, ⊎_elim, List, [], ◌∷◌}
+use Rattle.goods_set.proofs.Common.{length, get_or, refl, sym, ap, ◌∙◌, subst, arith, w64, Less, Equal, Greater, nat_cmp, ordering_then, ordering_reverse}
+use Rattle.goods_set.proofs.Common.{slice_cmp, bit_at, trailing_zeros, bit_and, bit_xor, both_ways, cases_lt, cases_eq, cases_order, eqb-false, ne_eqb}
+use Rattle.goods_set.proofs.Common.{or_parts, nat_list_cmp_total, tied_itself, bit_at-lt, bit_at_xor, bit_at-trailing_zeros, shr_and_one, AreAbove, IsRising}
+use Rattle.goods_set.proofs.Common.{has_good, has_head, has_cases, has_above, has_not_head, nat_cmp-lt, nat_cmp-refl, word_bit, word_goods, word_bit_at}
+use Rattle.goods_set.proofs.Common.{word_goods_bundle, word_goods_has, word_goods_lacks, word_goods_same}
 use Rattle.goods_set.proofs.Bits.{has-word_goods}
 
 -- ---- over lists

@@ -1,14 +1,8 @@
 -- A loop that takes words eight at a time: what a fold of lanes says of each, and what the lanes are of the words.
-use Rattle.std.proofs.Common.{rules, ◌≡◌, ℕ, zero, suc, ◌+◌, ◌-◌, ◌<◌, ◌≤◌, ◌≢◌, ⊎_elim, List, [], ◌∷◌, map, length, get_or, refl, sym, ap, ap₂, ◌∙◌, subst}
-use Rattle.std.proofs.Common.{arith, w64}
-use Rattle.std.specs.Simd.Lanes.{zip2, chunk, fold_l, put_chunk}
-use Rattle.std.specs.Int.{bit_not}
-use Rattle.std.specs.Int.RustNames.{bit_and, bit_or}
-use Rattle.std.specs.Int.Bits.{or_zero_l}
-use Rattle.std.proofs.lemmas.Nat.{le_or_l, le_or_r}
-use Rattle.std.proofs.lemmas.Bool.{cases_eq, cases_lt}
-use Rattle.std.proofs.lemmas.List.{get_or-map, length-map}
-use Rattle.std.proofs.lemmas.Simd.{length-chunk, get_or-chunk, length-zip2, get_or-zip2, get_or-put_chunk_below, get_or-put_chunk_at, get_or-put_chunk_above}
+use Rattle.goods_set.proofs.Common.{rules, ◌≡◌, ℕ, zero, suc, ◌+◌, ◌-◌, ◌<◌, ◌≤◌, ◌≢◌, ⊎_elim, List, [], ◌∷◌, map, length, get_or, refl, sym, ap, ap₂, ◌∙◌}
+use Rattle.goods_set.proofs.Common.{subst, arith, w64, zip2, chunk, fold_l, put_chunk, bit_not, bit_and, bit_or, or_zero_l, le_or_l, le_or_r, cases_eq}
+use Rattle.goods_set.proofs.Common.{cases_lt, get_or-map, length-map, length-chunk, get_or-chunk, length-zip2, get_or-zip2, get_or-put_chunk_below}
+use Rattle.goods_set.proofs.Common.{get_or-put_chunk_at, get_or-put_chunk_above}
 
 -- ---- an `|` of all lanes
 

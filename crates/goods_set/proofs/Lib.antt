@@ -1,4 +1,5 @@
 -- Proofs that several functions of this crate cite.
+pub mod Common
 pub mod Bits
 pub mod Firsts
 pub mod Lanes

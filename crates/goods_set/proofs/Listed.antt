@@ -1,18 +1,11 @@
 -- The goods of words, listed: those of one word after another, and in a word the index of its lowest bit that is set, and then
 -- those of the word without it.
-use Rattle.std.proofs.Common.{rules, ◌≡◌, ℕ, zero, suc, ◌+◌, ◌-◌, ◌*◌, ◌/◌, ◌%◌, ◌^◌, ◌<◌, ◌≤◌, ◌≢◌, Bool, true, false, cond, eqb, ⊎_elim, List, [], ◌∷◌, ◌++◌}
-use Rattle.std.proofs.Common.{map, length, get_or, refl, sym, ap, ap₂, ◌∙◌, arith, append_assoc, w64}
-use Rattle.std.specs.List.{filter, range_with_len}
-use Rattle.std.specs.Int.{bit_at, trailing_zeros}
-use Rattle.std.specs.Int.RustNames.{bit_and}
-use Rattle.std.proofs.lemmas.Bool.{cases_eq, cases_lt, eq-eqb, or_left, or_right}
-use Rattle.std.proofs.lemmas.List.{append-nil}
-use Rattle.std.proofs.lemmas.Nat.Bits.{bit_at-trailing_zeros}
-use Rattle.goods_set.specs.Bundles.{AreAbove, has_good}
-use Rattle.goods_set.specs.Lemmas.LowestBits.{without_lowest}
-use Rattle.goods_set.specs.Lemmas.Members.{AreAbove-from_has, has_cases, same_from_has}
-use Rattle.goods_set.specs.Words.{word_bit, word_goods}
-use Rattle.goods_set.specs.Lemmas.Words.{word_bit_at, word_goods_bundle, word_goods_has, word_goods_parts}
+use Rattle.goods_set.proofs.Common.{rules, ◌≡◌, ℕ, zero, suc, ◌+◌, ◌-◌, ◌*◌, ◌/◌, ◌%◌, ◌^◌, ◌<◌, ◌≤◌, ◌≢◌, Bool, true, false, cond, eqb, ⊎_elim, List, [], ◌∷◌}
+use Rattle.goods_set.proofs.Common.{◌++◌, map, length, get_or, refl, sym, ap, ap₂, ◌∙◌, arith, append_assoc, w64, filter, range_with_len, bit_at}
+use Rattle.goods_set.proofs.Common.{trailing_zeros, bit_and, cases_eq, cases_lt, eq-eqb, or_left, or_right, append-nil, bit_at-trailing_zeros, AreAbove}
+use Rattle.goods_set.proofs.Common.{has_good, without_lowest, AreAbove-from_has, has_cases, same_from_has, word_bit, word_bit_at, word_goods_bundle}
+use Rattle.goods_set.proofs.Common.{word_goods_has, word_goods_parts}
+use Rattle.goods_set.specs.Words.{word_goods}
 use Rattle.goods_set.proofs.Bits.{no_bits}
 
 -- ---- one word

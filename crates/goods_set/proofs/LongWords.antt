@@ -1,19 +1,10 @@
 -- Words that hold goods of any number: past the last word there is none, so what they hold is what their bits are, whatever the bound.
-use Rattle.std.proofs.Common.{rules, ◌≡◌, ℕ, ◌+◌, ◌-◌, ◌*◌, ◌/◌, ◌%◌, ◌^◌, ◌<◌, ◌≤◌, ◌⊎◌, inl, inr, ⊎_elim, min, List, length, get_or, take, ◌++◌, set, drop}
-use Rattle.std.proofs.Common.{replicate, refl, sym, ap, ap₂, ◌∙◌, subst, arith, w64}
-use Rattle.std.specs.Int.{bit_at, bit_not}
-use Rattle.std.specs.Int.RustNames.{bit_and, bit_or}
-use Rattle.std.specs.Int.Bits.{and_zero_l}
-use Rattle.std.proofs.lemmas.Bool.{cases_lt}
-use Rattle.std.proofs.lemmas.Nat.{and_mask}
-use Rattle.std.proofs.lemmas.Nat.Bits.{bit_at-zero}
-use Rattle.std.proofs.lemmas.List.{length-set, length-append, length-drop, get_or-take, get_or-drop, get_or_past, get_or_append_left, get_or-append_right}
-use Rattle.std.proofs.lemmas.List.{append-nil, drop_all, take_all}
-use Rattle.std.proofs.lemmas.Grind.{get_or_default_zero}
-use Rattle.goods_set.specs.Bundles.{with_good, without}
-use Rattle.goods_set.specs.Lemmas.Members.{same_from_has}
-use Rattle.goods_set.specs.Words.{word_bit, word_goods}
-use Rattle.goods_set.specs.Lemmas.Words.{word_goods_rise, word_goods_has, word_goods_parts, word_goods_same, words_without}
+use Rattle.goods_set.proofs.Common.{rules, ◌≡◌, ℕ, ◌+◌, ◌-◌, ◌*◌, ◌/◌, ◌%◌, ◌^◌, ◌<◌, ◌≤◌, ◌⊎◌, inl, inr, ⊎_elim, min, List, length, get_or, take, ◌++◌, set}
+use Rattle.goods_set.proofs.Common.{drop, replicate, refl, sym, ap, ap₂, ◌∙◌, subst, arith, w64, bit_at, bit_not, bit_and, bit_or, and_zero_l, cases_lt}
+use Rattle.goods_set.proofs.Common.{and_mask, bit_at-zero, length-set, length-append, length-drop, get_or-drop, get_or_past, get_or_append_left}
+use Rattle.goods_set.proofs.Common.{get_or-append_right, append-nil, drop_all, take_all, get_or_default_zero, with_good, without, same_from_has, word_bit}
+use Rattle.goods_set.proofs.Common.{word_goods, word_goods_rise, word_goods_has, word_goods_parts, word_goods_same, words_without}
+use Rattle.std.proofs.lemmas.List.{get_or-take}
 use Rattle.goods_set.proofs.Bits.{zeros, with_bit}
 
 -- a bit that is set is in a word that is there

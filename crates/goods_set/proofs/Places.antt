@@ -1,16 +1,10 @@
 -- Where a good is in a rising list, or where it goes: what a binary search and a partition point say.
-use Rattle.std.proofs.Common.{rules, ◌≡◌, ℕ, zero, suc, ◌+◌, ◌<◌, ◌≤◌, true, false, eqb, ltb, List, [], ◌∷◌, length, get_or, refl, sym, ap, ◌∙◌, arith, subst}
-use Rattle.std.proofs.Common.{MatchResult, Bor}
-use Rattle.std.specs.Prelude.{Result, Ok, Err, Option, Some, None}
-use Rattle.std.proofs.lemmas.Bool.{or_left, or_right, or_from, eq-eqb, ne_eqb, ltb-true, ltb-false, lt-ltb, le-ltb, le-leb, lt-leb}
-use Rattle.std.proofs.lemmas.List.Sorted.{searched}
-use Rattle.std.specs.List.{insert, slice_get}
-use Rattle.std.specs.List.Sorted.{IsBinarySearchResult, IsPartitionPoint, IsPartitionedBy}
+use Rattle.goods_set.proofs.Common.{rules, ◌≡◌, ℕ, zero, suc, ◌+◌, ◌<◌, ◌≤◌, true, false, eqb, ltb, List, [], ◌∷◌, length, get_or, refl, sym, ap, ◌∙◌, arith}
+use Rattle.goods_set.proofs.Common.{subst, MatchResult, Bor, Result, Ok, Err, Some, None, or_left, or_right, or_from, eq-eqb, ne_eqb, ltb-true, ltb-false}
+use Rattle.goods_set.proofs.Common.{lt-ltb, le-ltb, le-leb, lt-leb, searched, insert, slice_get, IsBinarySearchResult, IsPartitionPoint, IsPartitionedBy}
+use Rattle.goods_set.proofs.Common.{option_copied, IsItemAt, slice_get-get_or, slice_get_past, AreAbove, IsRising, has_good, with_good, good_from}
+use Rattle.std.specs.Prelude.{Option}
 use Rattle.std.specs.Ordering.{nat_cmp}
-use Rattle.std.specs.Option.{option_copied}
-use Rattle.std.specs.Slice.{IsItemAt}
-use Rattle.std.proofs.lemmas.Option.{slice_get-get_or, slice_get_past}
-use Rattle.goods_set.specs.Bundles.{AreAbove, IsRising, has_good, with_good, good_from}
 
 AreAbove-get_or : (x : ℕ) (xs : List ℕ) (k d : ℕ) → AreAbove x xs → k < length xs → x < get_or xs k d
 AreAbove-get_or x [] k d a l = absurd (omega arith)

@@ -1,24 +1,13 @@
 -- What goes through the words of a set from the first. How many goods they hold: the ones of each word. The next good: the lowest
 -- one of the first word that has one from there on.
-use Rattle.std.proofs.Common.{rules, ◌≡◌, ℕ, zero, suc, ◌+◌, ◌-◌, ◌*◌, ◌/◌, ◌%◌, ◌^◌, ◌<◌, ◌≤◌, ◌≢◌, Bool, true, false, cond, eqb, ◌⊎◌, inl, inr, ⊎_elim, List}
-use Rattle.std.proofs.Common.{◌∷◌, map, length, get_or, refl, sym, ap, ap₂, ◌∙◌, subst, arith, w64, min}
-use Rattle.std.specs.Prelude.{Some, None}
-use Rattle.std.specs.List.{filter, range_with_len}
-use Rattle.std.specs.Int.{bit_at, trailing_zeros}
-use Rattle.std.specs.Int.RustNames.{bit_and, count_ones}
-use Rattle.std.specs.Simd.Lanes.{mask_l}
-use Rattle.std.proofs.lemmas.Bool.{cases_lt, cases_eq, eq-eqb, ne_eqb}
-use Rattle.std.proofs.lemmas.List.{length-map}
-use Rattle.std.proofs.lemmas.List.Sums.{length-filter}
-use Rattle.std.proofs.lemmas.List.FromFn.{length-range_with_len, get_or-map-range_with_len}
-use Rattle.std.proofs.lemmas.Nat.Bits.{bit_at-lt, bit_at-zero, bit_at_and, bit_at-trailing_zeros, bit_at_mask_inside, bit_at_mask_below, ones_shl}
-use Rattle.std.proofs.lemmas.Nat.Bits.{same_from_bits_below}
-use Rattle.std.proofs.lemmas.Nat.{and_le_l}
-use Rattle.std.proofs.lemmas.Simd.{mask_l-lt, bit_mask_l, ones-mask_l}
-use Rattle.goods_set.specs.Bundles.{good_from}
-use Rattle.goods_set.specs.Lemmas.Sizes.{good_from-Some, good_from_next, good_from_none}
-use Rattle.goods_set.specs.Words.{word_bit, word_goods}
-use Rattle.goods_set.specs.Lemmas.Words.{word_bit_at, word_goods_bundle, word_goods_has, word_goods_parts, word_goods_lacks, word_goods_past}
+use Rattle.goods_set.proofs.Common.{rules, ◌≡◌, ℕ, zero, suc, ◌+◌, ◌-◌, ◌*◌, ◌/◌, ◌%◌, ◌^◌, ◌<◌, ◌≤◌, ◌≢◌, Bool, true, false, cond, eqb, ◌⊎◌, inl, inr, ⊎_elim}
+use Rattle.goods_set.proofs.Common.{List, ◌∷◌, map, length, get_or, refl, sym, ap, ap₂, ◌∙◌, subst, arith, w64, min, Some, None, filter, range_with_len, bit_at}
+use Rattle.goods_set.proofs.Common.{trailing_zeros, bit_and, count_ones, mask_l, cases_lt, cases_eq, eq-eqb, ne_eqb, length-map, length-filter}
+use Rattle.goods_set.proofs.Common.{length-range_with_len, get_or-map-range_with_len, bit_at-lt, bit_at-zero, bit_at_and, bit_at-trailing_zeros}
+use Rattle.goods_set.proofs.Common.{bit_at_mask_inside, bit_at_mask_below, ones_shl, same_from_bits_below, and_le_l, mask_l-lt, bit_mask_l, ones-mask_l}
+use Rattle.goods_set.proofs.Common.{good_from, good_from-Some, good_from_next, good_from_none, word_bit, word_bit_at, word_goods_bundle, word_goods_has}
+use Rattle.goods_set.proofs.Common.{word_goods_parts, word_goods_lacks, word_goods_past}
+use Rattle.goods_set.specs.Words.{word_goods}
 
 -- ---- how many
 

@@ -1,6 +1,5 @@
 -- `inside_of_bundles`
-use Rattle.goods_set.specs.Lemmas.Members.{inside_refl, inside_trans}
-use Rattle.goods_set.specs.Lemmas.Laws.{inside_antisymm_law, inside_ordered_law}
+use Rattle.goods_set.proofs.Common.{inside_refl, inside_trans, inside_antisymm_law, inside_ordered_law}
 use Rattle.goods_set.proofs.laws.inside_of_bundles.Goals as goal
 
 pub returns : goal.returns

@@ -1,6 +1,5 @@
 -- `order_of_bundles`
-use Rattle.goods_set.specs.Lemmas.Orders.{bundle_cmp_total, bundle_cmp_equal}
-use Rattle.goods_set.specs.Lemmas.SortKeys.{sort_key_less}
+use Rattle.goods_set.proofs.Common.{bundle_cmp_total, bundle_cmp_equal, sort_key_less}
 use Rattle.goods_set.proofs.laws.order_of_bundles.Goals as goal
 
 pub returns : goal.returns

@@ -1,6 +1,5 @@
 -- `is_among`
-use Rattle.std.proofs.Common.{◌≡◌, take}
-use Rattle.goods_set.specs.Bundles.{has_good}
+use Rattle.goods_set.proofs.Common.{◌≡◌, take, has_good}
 use Rattle.goods_set.proofs.list_set.is_among.Given as goal
 
 -- whether the good is one of those so far

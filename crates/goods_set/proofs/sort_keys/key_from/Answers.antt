@@ -1,7 +1,6 @@
 -- `key_from`
-use Rattle.std.proofs.Common.{rules, arith, sym}
+use Rattle.goods_set.proofs.Common.{rules, arith, sym, sort_key_of-short, sort_key_of-long}
 use Rattle.goods_set.specs.SortKeys.{first_goods}
-use Rattle.goods_set.specs.Lemmas.SortKeys.{sort_key_of-short, sort_key_of-long}
 use Rattle.goods_set.proofs.sort_keys.key_from.Goals as goal
 
 pub returns-then-size-ge65535 : goal.returns-then-size-ge65535

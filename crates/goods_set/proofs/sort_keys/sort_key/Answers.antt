@@ -1,8 +1,5 @@
 -- `sort_key`
-use Rattle.std.proofs.Common.{◌≡◌, ℕ, List, Option, ap, ◌∙◌}
-use Rattle.std.specs.Option.{unwrap_or}
-use Rattle.std.specs.List.{slice_get}
-use Rattle.std.proofs.lemmas.Option.{unwrap_or-slice_get}
+use Rattle.goods_set.proofs.Common.{◌≡◌, ℕ, List, Option, ap, ◌∙◌, unwrap_or, slice_get, unwrap_or-slice_get}
 use Rattle.goods_set.proofs.Places.{first_good}
 use Rattle.goods_set.proofs.sort_keys.sort_key.Goals as goal
 

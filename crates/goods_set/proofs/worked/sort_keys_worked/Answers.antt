@@ -1,5 +1,5 @@
 -- `sort_keys_worked`
-use Rattle.std.proofs.Common.{refl, lit<}
+use Rattle.goods_set.proofs.Common.{refl, lit<}
 use Rattle.goods_set.specs.SortKeys.{sort_key_of, first_goods}
 use Rattle.goods_set.proofs.worked.sort_keys_worked.Goals as goal
 

@@ -1,7 +1,6 @@
 -- `ListSet::index_from`
-use Rattle.std.proofs.Common.{◌≡◌, ◌≤◌, ℕ, List, true, false, rules, ltb, sym, subst, length}
-use Rattle.std.proofs.lemmas.List.Sorted.{IsPartitionPoint-from_clause}
-use Rattle.std.specs.List.Sorted.{IsPartitionedBy, IsPartitionPoint}
+use Rattle.goods_set.proofs.Common.{◌≡◌, ◌≤◌, ℕ, List, true, false, rules, ltb, sym, subst, length, IsPartitionPoint-from_clause, IsPartitionedBy}
+use Rattle.goods_set.proofs.Common.{IsPartitionPoint}
 use Rattle.goods_set.proofs.Places.{parted}
 use Rattle.goods_set.proofs.list_set.ListSet.index_from.Goals as goal
 

@@ -1,7 +1,5 @@
 -- `ListSet::leave`
-use Rattle.std.proofs.Common.{rules, not}
-use Rattle.std.proofs.lemmas.Fn.{filter_same}
-use Rattle.goods_set.specs.Bundles.{has_good}
+use Rattle.goods_set.proofs.Common.{rules, not, filter_same, has_good}
 use Rattle.goods_set.proofs.list_set.ListSet.leave.Goals.{in-Few, in-Many}
 use Rattle.goods_set.proofs.list_set.ListSet.leave.Goals as goal
 

@@ -1,6 +1,5 @@
 -- `ListSet::left_of`
-use Rattle.std.proofs.Common.{◌≡◌, ◌≤◌, length, take}
-use Rattle.goods_set.specs.Bundles.{without}
+use Rattle.goods_set.proofs.Common.{◌≡◌, ◌≤◌, length, take, without}
 use Rattle.goods_set.proofs.list_set.ListSet.left_of.Given as goal
 
 -- the goods so far that are not in the set

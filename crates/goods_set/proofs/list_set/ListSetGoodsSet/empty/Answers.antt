@@ -1,6 +1,5 @@
 -- `ListSetGoodsSet::empty`
-use Rattle.std.proofs.lemmas.Grind.{common_steps}
-use Rattle.std.proofs.Common.{arith}
+use Rattle.goods_set.proofs.Common.{common_steps, arith}
 use Rattle.goods_set.proofs.list_set.ListSetGoodsSet.empty.Goals as goal
 
 pub returns-clause-goods : goal.returns-clause-goods

@@ -1,7 +1,5 @@
 -- `ListSetGoodsSet::is_inside`
-use Rattle.std.proofs.lemmas.Bool.Decides.{Decides-eqb}
-use Rattle.std.proofs.lemmas.Slice.Eq.{slice_eq-Decides}
-use Rattle.goods_set.specs.Lemmas.Sizes.{inside_not_larger}
+use Rattle.goods_set.proofs.Common.{Decides-eqb, slice_eq-Decides, inside_not_larger}
 use Rattle.goods_set.proofs.list_set.ListSetGoodsSet.is_inside.Goals as goal
 
 pub returns-then-own-others : goal.returns-then-own-others

@@ -1,6 +1,5 @@
 -- `ListSetGoodsSet::next_from`
-use Rattle.std.proofs.Common.{rules, ◌∙◌, ℕ, List, subst}
-use Rattle.std.specs.Slice.{IsItemAt}
+use Rattle.goods_set.proofs.Common.{rules, ◌∙◌, ℕ, List, subst, IsItemAt}
 use Rattle.goods_set.proofs.Places.{next_at, got}
 use Rattle.goods_set.proofs.list_set.ListSetGoodsSet.next_from.Goals as goal
 

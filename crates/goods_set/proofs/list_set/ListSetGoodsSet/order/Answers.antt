@@ -1,7 +1,5 @@
 -- `ListSetGoodsSet::order`
-use Rattle.std.proofs.Common.{rules, ◌≡◌, ◌∙◌, nat_cmp, ap}
-use Rattle.goods_set.specs.SortKeys.{sort_key_of}
-use Rattle.goods_set.specs.Lemmas.SortKeys.{order_by_key}
+use Rattle.goods_set.proofs.Common.{rules, ◌≡◌, ◌∙◌, nat_cmp, ap, sort_key_of, order_by_key}
 use Rattle.goods_set.proofs.list_set.ListSetGoodsSet.order.Goals as goal
 
 pub returns-in_default : goal.returns-in_default

@@ -1,8 +1,5 @@
 -- `ListSetGoodsSet::put`
-use Rattle.std.proofs.Common.{◌≡◌, rules, List, ℕ, sym, subst}
-use Rattle.std.specs.Prelude.{Result, Ok, Err, OnOk, OnErr}
-use Rattle.goods_set.specs.Bundles.{IsBundle}
-use Rattle.goods_set.specs.Lemmas.Sizes.{IsBundle-with_good, with_good_there}
+use Rattle.goods_set.proofs.Common.{◌≡◌, rules, List, ℕ, sym, subst, Result, Ok, Err, OnOk, OnErr, IsBundle, IsBundle-with_good, with_good_there}
 use Rattle.goods_set.proofs.list_set.ListSetGoodsSet.put.Goals as goal
 
 -- the goods are a bundle, whether the good was put in or memory was refused

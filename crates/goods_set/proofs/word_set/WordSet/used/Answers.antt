@@ -1,5 +1,5 @@
 -- `WordSet::used`
-use Rattle.std.proofs.Common.{arith}
+use Rattle.goods_set.proofs.Common.{arith}
 use Rattle.goods_set.proofs.Bits.{used_goods}
 use Rattle.goods_set.proofs.word_set.WordSet.used.Goals as goal
 

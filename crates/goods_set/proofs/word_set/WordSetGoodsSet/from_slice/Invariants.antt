@@ -1,6 +1,5 @@
 -- `WordSetGoodsSet::from_slice`
-use Rattle.std.proofs.Common.{◌≡◌, length, take}
-use Rattle.goods_set.specs.Words.{word_cap, word_goods}
+use Rattle.goods_set.proofs.Common.{◌≡◌, length, take, word_cap, word_goods}
 use Rattle.goods_set.proofs.word_set.WordSetGoodsSet.from_slice.Given as goal
 
 -- the goods so far are in the set

@@ -1,8 +1,5 @@
 -- `WordSetGoodsSet::has`
-use Rattle.std.proofs.Common.{rules, ◌≡◌, ◌∙◌, ◌/◌, ◌<◌, ◌≤◌, sym, arith}
-use Rattle.std.proofs.lemmas.Bool.{le-ltb}
-use Rattle.goods_set.specs.Words.{word_cap}
-use Rattle.goods_set.specs.Lemmas.Words.{word_goods_past}
+use Rattle.goods_set.proofs.Common.{rules, ◌≡◌, ◌∙◌, ◌/◌, ◌<◌, ◌≤◌, sym, arith, le-ltb, word_cap, word_goods_past}
 use Rattle.goods_set.proofs.Bits.{tested_shifted}
 use Rattle.goods_set.proofs.word_set.WordSetGoodsSet.has.Goals as goal
 

@@ -1,7 +1,5 @@
 -- `all_apart`
-use Rattle.std.proofs.Common.{rules, ℕ, ◌+◌, ◌≤◌, length, sym, arith}
-use Rattle.std.specs.Int.RustNames.{bit_and}
-use Rattle.goods_set.specs.Lemmas.Words.{words_apart, words_sharing}
+use Rattle.goods_set.proofs.Common.{rules, ℕ, ◌+◌, ◌≤◌, length, sym, arith, bit_and, words_apart, words_sharing}
 use Rattle.goods_set.proofs.Lanes.{lanes_shared, none_more, some_here}
 use Rattle.goods_set.proofs.word_set.lanes.all_apart.Goals as goal
 

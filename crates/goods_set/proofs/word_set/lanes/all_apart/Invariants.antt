@@ -1,6 +1,5 @@
 -- `all_apart`
-use Rattle.std.proofs.Common.{◌≡◌, ℕ, ◌-◌, ◌<◌, ◌≤◌, length, get_or}
-use Rattle.std.specs.Int.RustNames.{bit_and}
+use Rattle.goods_set.proofs.Common.{◌≡◌, ℕ, ◌-◌, ◌<◌, ◌≤◌, length, get_or, bit_and}
 use Rattle.goods_set.proofs.word_set.lanes.all_apart.Given as goal
 
 abbrev pub invariant-loop-i : goal.invariant-loop-i

@@ -1,8 +1,5 @@
 -- `all_inside`
-use Rattle.std.proofs.Common.{rules, ℕ, ◌+◌, ◌≤◌, length, sym, arith, w64}
-use Rattle.std.specs.Int.{bit_not}
-use Rattle.std.specs.Int.RustNames.{bit_and}
-use Rattle.goods_set.specs.Lemmas.Words.{words_inside, words_outside}
+use Rattle.goods_set.proofs.Common.{rules, ℕ, ◌+◌, ◌≤◌, length, sym, arith, w64, bit_not, bit_and, words_inside, words_outside}
 use Rattle.goods_set.proofs.Lanes.{lanes_outside, none_more, some_here}
 use Rattle.goods_set.proofs.word_set.lanes.all_inside.Goals as goal
 

@@ -1,7 +1,5 @@
 -- `all_inside`
-use Rattle.std.proofs.Common.{◌≡◌, ℕ, ◌-◌, ◌<◌, ◌≤◌, length, get_or, w64}
-use Rattle.std.specs.Int.{bit_not}
-use Rattle.std.specs.Int.RustNames.{bit_and}
+use Rattle.goods_set.proofs.Common.{◌≡◌, ℕ, ◌-◌, ◌<◌, ◌≤◌, length, get_or, w64, bit_not, bit_and}
 use Rattle.goods_set.proofs.word_set.lanes.all_inside.Given as goal
 
 abbrev pub invariant-loop-i : goal.invariant-loop-i

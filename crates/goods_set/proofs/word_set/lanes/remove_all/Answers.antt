@@ -1,9 +1,5 @@
 -- `remove_all`
-use Rattle.std.proofs.Common.{rules, ℕ, ◌+◌, ◌≤◌, length, arith, w64}
-use Rattle.std.specs.Int.{bit_not}
-use Rattle.std.specs.Int.RustNames.{bit_and}
-use Rattle.std.proofs.lemmas.Simd.{length-put_chunk}
-use Rattle.goods_set.specs.Lemmas.Words.{words_without}
+use Rattle.goods_set.proofs.Common.{rules, ℕ, ◌+◌, ◌≤◌, length, arith, w64, bit_not, bit_and, length-put_chunk, words_without}
 use Rattle.goods_set.proofs.Lanes.{lanes_outside, written_more, unwritten_more}
 use Rattle.goods_set.proofs.word_set.lanes.remove_all.Goals as goal
 

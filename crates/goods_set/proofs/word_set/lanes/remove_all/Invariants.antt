@@ -1,7 +1,5 @@
 -- `remove_all`
-use Rattle.std.proofs.Common.{◌≡◌, ℕ, ◌-◌, ◌<◌, ◌≤◌, length, get_or, w64}
-use Rattle.std.specs.Int.{bit_not}
-use Rattle.std.specs.Int.RustNames.{bit_and}
+use Rattle.goods_set.proofs.Common.{◌≡◌, ℕ, ◌-◌, ◌<◌, ◌≤◌, length, get_or, w64, bit_not, bit_and}
 use Rattle.goods_set.proofs.word_set.lanes.remove_all.Given as goal
 
 abbrev pub invariant-loop-words : goal.invariant-loop-words

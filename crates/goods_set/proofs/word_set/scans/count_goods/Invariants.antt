@@ -1,6 +1,5 @@
 -- `count_goods`
-use Rattle.std.proofs.Common.{◌≡◌, ◌*◌, length}
-use Rattle.goods_set.specs.Words.{word_goods}
+use Rattle.goods_set.proofs.Common.{◌≡◌, ◌*◌, length, word_goods}
 use Rattle.goods_set.proofs.word_set.scans.count_goods.Given as goal
 
 abbrev pub invariant-loop-word : goal.invariant-loop-word

@@ -1,5 +1,5 @@
 -- `list_bits`
-use Rattle.std.proofs.Common.{refl}
+use Rattle.goods_set.proofs.Common.{refl}
 use Rattle.goods_set.proofs.Listed.{bits_more, bits_all, fewer_bits}
 use Rattle.goods_set.proofs.word_set.scans.list_bits.Goals as goal
 

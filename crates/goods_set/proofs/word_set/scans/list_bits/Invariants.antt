@@ -1,6 +1,5 @@
 -- `list_bits`: what is listed, and the bits that are left, are all bits.
-use Rattle.std.proofs.Common.{◌≡◌, ◌+◌, [], ◌∷◌, ◌++◌, map, length}
-use Rattle.goods_set.specs.Words.{word_goods}
+use Rattle.goods_set.proofs.Common.{◌≡◌, ◌+◌, [], ◌∷◌, ◌++◌, map, length, word_goods}
 use Rattle.goods_set.proofs.word_set.scans.list_bits.Given as goal
 
 abbrev pub invariant-loop-rest : goal.invariant-loop-rest

@@ -1,6 +1,5 @@
 -- `list_goods`
-use Rattle.std.proofs.Common.{◌≡◌, ◌*◌, ◌++◌}
-use Rattle.goods_set.specs.Words.{word_goods}
+use Rattle.goods_set.proofs.Common.{◌≡◌, ◌*◌, ◌++◌, word_goods}
 use Rattle.goods_set.proofs.word_set.scans.list_goods.Given as goal
 
 abbrev pub invariant-loop-k : goal.invariant-loop-k

@@ -1,5 +1,5 @@
 -- `next_bit`
-use Rattle.std.proofs.Common.{◌-◌, ◌<◌, length}
+use Rattle.goods_set.proofs.Common.{◌-◌, ◌<◌, length}
 use Rattle.goods_set.proofs.Scans.{IsScan}
 use Rattle.goods_set.proofs.word_set.scans.next_bit.Given as goal
 

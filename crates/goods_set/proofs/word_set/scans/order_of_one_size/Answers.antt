@@ -1,6 +1,5 @@
 -- `order_of_one_size`
-use Rattle.std.proofs.Common.{rules, ℕ, length, get_or, sym, arith}
-use Rattle.std.proofs.lemmas.Nat.{xor_lt}
+use Rattle.goods_set.proofs.Common.{rules, ℕ, length, get_or, sym, arith, xor_lt}
 use Rattle.goods_set.proofs.Firsts.{differs_first, less_by_words, greater_by_words, equal_words}
 use Rattle.goods_set.proofs.word_set.scans.order_of_one_size.Goals as goal
 

@@ -1,6 +1,5 @@
 -- `LongMaskMask::put`
-use Rattle.std.proofs.Common.{rules, ◌∙◌, ap}
-use Rattle.goods_set.specs.Bundles.{with_good}
+use Rattle.goods_set.proofs.Common.{rules, ◌∙◌, ap, with_good}
 use Rattle.goods_set.proofs.LongWords.{with_long_bit}
 use Rattle.goods_set.proofs.mask.long.LongMaskMask.put.Goals as goal
 

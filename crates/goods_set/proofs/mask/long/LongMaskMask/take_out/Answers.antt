@@ -1,7 +1,5 @@
 -- `LongMaskMask::take_out`: writing through the slice leaves the vector with the words of the slice.
-use Rattle.std.proofs.Common.{rules, ◌≡◌, ◌*◌, ◌∙◌, length, ap, ap₂, sym, List, ℕ}
-use Rattle.goods_set.specs.Bundles.{without}
-use Rattle.goods_set.specs.Words.{word_goods}
+use Rattle.goods_set.proofs.Common.{rules, ◌≡◌, ◌*◌, ◌∙◌, length, ap, ap₂, sym, List, ℕ, without, word_goods}
 use Rattle.goods_set.proofs.LongWords.{written_back}
 use Rattle.goods_set.proofs.mask.long.LongMaskMask.take_out.Goals as goal
 
