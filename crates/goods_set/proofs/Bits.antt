@@ -1,8 +1,8 @@
 -- One good's bit in the words of a set: read, set, and in a set with no goods. It is in the word of the good, at the good modulo
 -- 64, and setting it leaves all others as they are.
-use Rattle.goods_set.proofs.Common.{rules, ◌≡◌, ℕ, ◌*◌, ◌/◌, ◌%◌, ◌^◌, min, ◌<◌, ◌≤◌, ◌≢◌, true, false, not, eqb, ltb, ◌⊎◌, inl, inr, ⊎_elim, List, [], length}
-use Rattle.goods_set.proofs.Common.{take, common_steps, get_or, set, replicate, refl, sym, ap, ◌∙◌, subst, arith, w64, shl_exact, pow_pos, get_or-set_same}
-use Rattle.goods_set.proofs.Common.{get_or-set_other, get_or-take, length-take, bit_at, bit_and, bit_or, both_ways, cases_eq, cases_Bool, eq-eqb, ne_eqb}
+use Rattle.goods_set.proofs.Common.{rules, ◌≡◌, ℕ, ◌*◌, ◌/◌, ◌%◌, ◌^◌, min, ◌<◌, ◌≢◌, not, eqb, ⊎_elim, List, [], length}
+use Rattle.goods_set.proofs.Common.{take, common_steps, get_or, set, replicate, sym, ap, ◌∙◌, arith, w64, shl_exact, get_or-set_same}
+use Rattle.goods_set.proofs.Common.{bit_at, bit_and, bit_or, both_ways, cases_eq, cases_Bool, eq-eqb, ne_eqb}
 use Rattle.goods_set.proofs.Common.{eqb-true, ltb-true, ltb-false, false_from_ne_true, or_left, or_right, or_cases, bit_at-lt, bit_at-zero, shr_and_one}
 use Rattle.goods_set.proofs.Common.{and_pow, bit_at_set_same, bit_at_set_other, get_or-replicate, length-replicate, get_or_past, has_good, with_good}
 use Rattle.goods_set.proofs.Common.{same_from_has, has-with_good, IsRising-with_good, word_bit, word_goods, word_cap, word_goods_bundle, word_goods_has}

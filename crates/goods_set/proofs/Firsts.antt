@@ -1,6 +1,6 @@
 -- Which of two bundles of one size comes first: the one with the least good that they do not share, which is the lowest bit that
 -- differs in the first word that differs.
-use Rattle.goods_set.proofs.Common.{rules, ◌≡◌, ℕ, ◌+◌, ◌-◌, ◌*◌, ◌/◌, ◌%◌, ◌^◌, ◌<◌, ◌≤◌, ◌≢◌, true, false, eqb, ◌||◌, ◌⊎◌, inl, inr, ⊎_elim, List, [], ◌∷◌}
+use Rattle.goods_set.proofs.Common.{rules, ◌≡◌, ℕ, ◌+◌, ◌-◌, ◌*◌, ◌/◌, ◌%◌, ◌^◌, ◌<◌, ◌≤◌, ◌≢◌, true, false, eqb, ◌⊎◌, inl, inr, ⊎_elim, List, [], ◌∷◌}
 use Rattle.goods_set.proofs.Common.{length, get_or, refl, sym, ap, ◌∙◌, subst, arith, w64, Less, Equal, Greater, nat_cmp, ordering_then, ordering_reverse}
 use Rattle.goods_set.proofs.Common.{slice_cmp, bit_at, trailing_zeros, bit_and, bit_xor, both_ways, cases_lt, cases_eq, cases_order, eqb-false, ne_eqb}
 use Rattle.goods_set.proofs.Common.{or_parts, nat_list_cmp_total, tied_itself, bit_at-lt, bit_at_xor, bit_at-trailing_zeros, shr_and_one, AreAbove, IsRising}

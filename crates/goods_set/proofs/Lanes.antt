@@ -1,6 +1,6 @@
 -- A loop that takes words eight at a time: what a fold of lanes says of each, and what the lanes are of the words.
-use Rattle.goods_set.proofs.Common.{rules, ◌≡◌, ℕ, zero, suc, ◌+◌, ◌-◌, ◌<◌, ◌≤◌, ◌≢◌, ⊎_elim, List, [], ◌∷◌, map, length, get_or, refl, sym, ap, ap₂, ◌∙◌}
-use Rattle.goods_set.proofs.Common.{subst, arith, w64, zip2, chunk, fold_l, put_chunk, bit_not, bit_and, bit_or, or_zero_l, le_or_l, le_or_r, cases_eq}
+use Rattle.goods_set.proofs.Common.{rules, ◌≡◌, ℕ, zero, suc, ◌+◌, ◌<◌, ◌≤◌, ◌≢◌, ⊎_elim, List, [], ◌∷◌, map, length, get_or, refl, sym, ap, ap₂, ◌∙◌}
+use Rattle.goods_set.proofs.Common.{arith, w64, zip2, chunk, fold_l, put_chunk, bit_not, bit_and, bit_or, or_zero_l, le_or_l, le_or_r, cases_eq}
 use Rattle.goods_set.proofs.Common.{cases_lt, get_or-map, length-map, length-chunk, get_or-chunk, length-zip2, get_or-zip2, get_or-put_chunk_below}
 use Rattle.goods_set.proofs.Common.{get_or-put_chunk_at, get_or-put_chunk_above}
 

@@ -1,6 +1,6 @@
 -- The goods of words, listed: those of one word after another, and in a word the index of its lowest bit that is set, and then
 -- those of the word without it.
-use Rattle.goods_set.proofs.Common.{rules, ◌≡◌, ℕ, zero, suc, ◌+◌, ◌-◌, ◌*◌, ◌/◌, ◌%◌, ◌^◌, ◌<◌, ◌≤◌, ◌≢◌, Bool, true, false, cond, eqb, ⊎_elim, List, [], ◌∷◌}
+use Rattle.goods_set.proofs.Common.{rules, ◌≡◌, ℕ, zero, suc, ◌+◌, ◌-◌, ◌*◌, ◌^◌, ◌<◌, ◌≤◌, ◌≢◌, Bool, true, false, cond, eqb, ⊎_elim, List, [], ◌∷◌}
 use Rattle.goods_set.proofs.Common.{◌++◌, map, length, get_or, refl, sym, ap, ap₂, ◌∙◌, arith, append_assoc, w64, filter, range_with_len, bit_at}
 use Rattle.goods_set.proofs.Common.{trailing_zeros, bit_and, cases_eq, cases_lt, eq-eqb, or_left, or_right, append-nil, bit_at-trailing_zeros, AreAbove}
 use Rattle.goods_set.proofs.Common.{has_good, without_lowest, AreAbove-from_has, has_cases, same_from_has, word_bit, word_bit_at, word_goods_bundle}
@@ -47,8 +47,7 @@ lowest_first w t l here low = same_from_has (word_goods 64 (w ∷ [])) (t ∷ wo
 
 -- the step of a loop over the bits of a word
 pub bits_more : (w t first : ℕ) (out new all : List ℕ) → w ≢ 0 → w < 2 ^ 64 → t ≡ trailing_zeros w64 w → new ≡ out ++ (first + t) ∷ []
-    → out ++ map (λ index. first + index) (word_goods 64 (w ∷ [])) ≡ all
-    → new ++ map (λ index. first + index) (word_goods 64 (later_bits w ∷ [])) ≡ all
+    → out ++ map (λ index. first + index) (word_goods 64 (w ∷ [])) ≡ all → new ++ map (λ index. first + index) (word_goods 64 (later_bits w ∷ [])) ≡ all
 bits_more w t first out new all some fits is more before =
     let low : (trailing_zeros w64 w < 64) × (bit_at w (trailing_zeros w64 w) ≡ 1) × ((i : ℕ) → i < trailing_zeros w64 w → bit_at w i ≡ 0) =
     bit_at-trailing_zeros w64 w (omega arith) fits in
@@ -83,8 +82,7 @@ filter_split p a (suc m) n =
     one false h = h
 
 -- the goods from the one at bit i of word k on, by the bits of the word
-shifted : (ws : List ℕ) (k j i n : ℕ) → j ≡ 64 * k + i → i + n ≤ 64
-    → filter (λ g. eqb (word_bit ws g) 1) (range_with_len j n)
+shifted : (ws : List ℕ) (k j i n : ℕ) → j ≡ 64 * k + i → i + n ≤ 64 → filter (λ g. eqb (word_bit ws g) 1) (range_with_len j n)
     ≡ map (λ index. 64 * k + index) (filter (λ g. eqb (word_bit (get_or ws k 0 ∷ []) g) 1) (range_with_len i n))
 shifted ws k j i zero e l = refl
 shifted ws k j i (suc n) e l = search (rules, word_bit_at, one_word, (shifted ws k (j + 1) (i + 1) n (omega arith) (omega arith)))
@@ -95,8 +93,7 @@ unfolding word_goods
 one_word_more ws k =
     let d : 64 * (k + 1) ≡ 64 * k + 64 = omega arith in
     let z : 0 + 64 * k ≡ 64 * k + 0 = omega arith in
-    ap (λ n. filter (λ g. eqb (word_bit ws g) 1) (range_with_len 0 n)) d
-    ∙ filter_split (λ g. eqb (word_bit ws g) 1) 0 (64 * k) 64
+    ap (λ n. filter (λ g. eqb (word_bit ws g) 1) (range_with_len 0 n)) d ∙ filter_split (λ g. eqb (word_bit ws g) 1) 0 (64 * k) 64
     ∙ ap (λ (xs : List ℕ). filter (λ g. eqb (word_bit ws g) 1) (range_with_len 0 (64 * k)) ++ xs) (shifted ws k (0 + 64 * k) 0 64 z (omega arith))
 
 -- the step of a loop over words

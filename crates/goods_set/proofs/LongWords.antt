@@ -1,6 +1,6 @@
 -- Words that hold goods of any number: past the last word there is none, so what they hold is what their bits are, whatever the bound.
-use Rattle.goods_set.proofs.Common.{rules, ◌≡◌, ℕ, ◌+◌, ◌-◌, ◌*◌, ◌/◌, ◌%◌, ◌^◌, ◌<◌, ◌≤◌, ◌⊎◌, inl, inr, ⊎_elim, min, List, length, get_or, take, ◌++◌, set}
-use Rattle.goods_set.proofs.Common.{drop, replicate, refl, sym, ap, ap₂, ◌∙◌, subst, arith, w64, bit_at, bit_not, bit_and, bit_or, and_zero_l, cases_lt}
+use Rattle.goods_set.proofs.Common.{rules, ◌≡◌, ℕ, ◌+◌, ◌*◌, ◌/◌, ◌%◌, ◌^◌, ◌<◌, ◌≤◌, min, List, length, get_or, take, ◌++◌, set}
+use Rattle.goods_set.proofs.Common.{drop, replicate, sym, ap, ap₂, ◌∙◌, arith, w64, bit_at, bit_not, bit_and, bit_or, cases_lt}
 use Rattle.goods_set.proofs.Common.{and_mask, bit_at-zero, length-set, length-append, length-drop, get_or-drop, get_or_past, get_or_append_left}
 use Rattle.goods_set.proofs.Common.{get_or-append_right, append-nil, drop_all, take_all, get_or_default_zero, with_good, without, same_from_has, word_bit}
 use Rattle.goods_set.proofs.Common.{word_goods, word_goods_rise, word_goods_has, word_goods_parts, word_goods_same, words_without}

@@ -1,7 +1,7 @@
 -- What goes through the words of a set from the first. How many goods they hold: the ones of each word. The next good: the lowest
 -- one of the first word that has one from there on.
 use Rattle.goods_set.proofs.Common.{rules, ◌≡◌, ℕ, zero, suc, ◌+◌, ◌-◌, ◌*◌, ◌/◌, ◌%◌, ◌^◌, ◌<◌, ◌≤◌, ◌≢◌, Bool, true, false, cond, eqb, ◌⊎◌, inl, inr, ⊎_elim}
-use Rattle.goods_set.proofs.Common.{List, ◌∷◌, map, length, get_or, refl, sym, ap, ap₂, ◌∙◌, subst, arith, w64, min, Some, None, filter, range_with_len, bit_at}
+use Rattle.goods_set.proofs.Common.{List, ◌∷◌, map, length, get_or, refl, sym, ap, ◌∙◌, subst, arith, w64, min, Some, None, filter, range_with_len, bit_at}
 use Rattle.goods_set.proofs.Common.{trailing_zeros, bit_and, count_ones, mask_l, cases_lt, cases_eq, eq-eqb, ne_eqb, length-map, length-filter}
 use Rattle.goods_set.proofs.Common.{length-range_with_len, get_or-map-range_with_len, bit_at-lt, bit_at-zero, bit_at_and, bit_at-trailing_zeros}
 use Rattle.goods_set.proofs.Common.{bit_at_mask_inside, bit_at_mask_below, ones_shl, same_from_bits_below, and_le_l, mask_l-lt, bit_mask_l, ones-mask_l}
@@ -21,8 +21,7 @@ word_from_bits w l =
     subst (λ k. mask_l (map (λ i. eqb (bit_at w i) 1) (range_with_len 0 64)) < 2 ^ k) n (mask_l-lt (map (λ i. eqb (bit_at w i) 1) (range_with_len 0 64))) in
     same_from_bits_below 64 (mask_l (map (λ i. eqb (bit_at w i) 1) (range_with_len 0 64))) w m l (λ i k.
     bit_mask_l (map (λ j. eqb (bit_at w j) 1) (range_with_len 0 64)) i
-    ∙ ap (λ b. cond b 1 0) (get_or-map-range_with_len (λ j. eqb (bit_at w j) 1) 0 64 i i false k (omega arith))
-    ∙ bit (bit_at w i) (bit_at-lt w i))
+    ∙ ap (λ b. cond b 1 0) (get_or-map-range_with_len (λ j. eqb (bit_at w j) 1) 0 64 i i false k (omega arith)) ∙ bit (bit_at w i) (bit_at-lt w i))
   where
     bit : (b : ℕ) → b < 2 → cond (eqb b 1) 1 0 ≡ b
     bit b l = ⊎_elim (λ (e : b ≡ 1). rw (eq-eqb b 1 e) (sym e)) (λ (n : b ≡ 1 → ⊥). let z : b ≡ 0 = omega arith in rw (ne_eqb b 1 n) (sym z)) (cases_eq b 1)
@@ -58,8 +57,7 @@ unfolding word_goods
 count_more ws k l =
     let d : 64 * (k + 1) ≡ 64 * k + 64 = omega arith in
     let z : 0 + 64 * k ≡ 64 * k + 0 = omega arith in
-    ap (λ n. length (filter (λ g. eqb (word_bit ws g) 1) (range_with_len 0 n))) d
-    ∙ filter_range (λ g. eqb (word_bit ws g) 1) 0 (64 * k) 64
+    ap (λ n. length (filter (λ g. eqb (word_bit ws g) 1) (range_with_len 0 n))) d ∙ filter_range (λ g. eqb (word_bit ws g) 1) 0 (64 * k) 64
     ∙ ap (λ n. length (filter (λ g. eqb (word_bit ws g) 1) (range_with_len 0 (64 * k))) + n) (bits_of_word ws k (0 + 64 * k) 0 64 z (omega arith)
     ∙ ones_are (get_or ws k 0) l)
 

@@ -1,11 +1,11 @@
 -- Lemmas on what is left of a list, on how many goods a list has, on putting a good, on the next good, and on parts of a bundle.
-use Rattle.std.proofs.Common.{rules, ◌≡◌, ℕ, ◌+◌, ◌<◌, ◌≤◌, Bool, true, false, not, cond, ◌&&◌, ◌||◌, eqb, ltb, leb, ◌⊎◌, inl, inr, ⊎_elim, List, [], ◌∷◌, refl}
-use Rattle.std.proofs.Common.{length, sym, ap, ap₂, ◌∙◌, subst, arith}
+use Rattle.std.proofs.Common.{rules, ◌≡◌, ℕ, ◌+◌, ◌<◌, ◌≤◌, Bool, true, false, not, cond, ◌&&◌, ◌||◌, eqb, leb, ◌⊎◌, inl, inr, ⊎_elim, List, [], ◌∷◌, refl}
+use Rattle.std.proofs.Common.{length, ap, ap₂, ◌∙◌, subst, arith}
 use Rattle.std.proofs.lemmas.Bool.{and_parts, and_from, or_cases, or_right, both_ways, not_from_true, false_from_ne_true, true_from_ne_false, or_from, eqb-true}
 use Rattle.std.proofs.lemmas.Bool.{eqb-false, ne_eqb, ltb-true, ltb-false, leb-true, leb-false, cases_Bool, cases_order}
 use Rattle.std.specs.Prelude.{Option, Some, None, Decides}
 use Rattle.std.specs.List.{filter}
-use Rattle.goods_set.specs.Bundles.{is_inside, are_apart, AreAbove, AreBelow, IsRising, IsBundle, IsInside, AreApart, has_good, without, with_good, good_from}
+use Rattle.goods_set.specs.Bundles.{is_inside, are_apart, AreAbove, AreBelow, IsRising, IsBundle, IsInside, has_good, without, with_good, good_from}
 use Rattle.goods_set.specs.Lemmas.Members.{has_head, has_tail, has_cases, has_above, has_below, has_not_head, AreAbove-lower, AreAbove-from_has, same_from_has}
 use Rattle.goods_set.specs.Lemmas.Members.{AreBelow-from_has, inside_at, inside_from, inside_refl, inside_antisymm, has_without_from, inside_without}
 use Rattle.goods_set.specs.Lemmas.Members.{inside_without_parts}

@@ -1,6 +1,6 @@
 -- Lists are ordered by their sort keys, where these differ. Of two lists of one length the first goods are unpacked one by one: where their
 -- numbers differ, so do the goods at the first index at which the lists do.
-use Rattle.std.proofs.Common.{rules, ◌≡◌, ℕ, zero, suc, ◌+◌, ◌*◌, ◌^◌, ◌<◌, ◌≤◌, cond, ⊎_elim, List, [], ◌∷◌, length, get_or, refl, sym, ap, ◌∙◌, arith, Less}
+use Rattle.std.proofs.Common.{rules, ◌≡◌, ℕ, zero, suc, ◌+◌, ◌*◌, ◌^◌, ◌<◌, ◌≤◌, cond, ⊎_elim, List, [], ◌∷◌, length, get_or, refl, sym, ap, arith, Less}
 use Rattle.std.proofs.Common.{Equal, Greater, nat_cmp}
 use Rattle.std.specs.Ordering.{ordering_then}
 use Rattle.std.specs.Cmp.Lexicographic.{slice_cmp}
@@ -40,8 +40,7 @@ less_2 [] (y ∷ ys) e a b l = absurd (omega (arith, e))
 less_2 (x ∷ xs) [] e a b l = absurd (omega (arith, e))
 less_2 (x ∷ xs) (y ∷ ys) e a b l = search (rules, member_fits, head_same, less_1, head_less, cases_order)
 
-less_3 : (xs ys : List ℕ) → length xs ≡ length ys → AreBelow 65536 xs → AreBelow 65536 ys → first_goods xs < first_goods ys
-    → slice_cmp nat_cmp xs ys ≡ Less
+less_3 : (xs ys : List ℕ) → length xs ≡ length ys → AreBelow 65536 xs → AreBelow 65536 ys → first_goods xs < first_goods ys → slice_cmp nat_cmp xs ys ≡ Less
 unfolding first_goods
 less_3 [] [] e a b l = absurd (omega arith)
 less_3 [] (y ∷ ys) e a b l = absurd (omega (arith, e))

@@ -2,7 +2,7 @@
 -- inside a kept atom's bundle only the atoms below it matter; and a value above 0 is reached with some atom, which is either
 -- on the whole bundle or one part of a split of it.
 use Rattle.std.proofs.Common.{rules, ◌≡◌, ℕ, zero, suc, ◌+◌, ◌<◌, ◌≤◌, true, false, not, ltb, ◌⊎◌, inl, inr, ⊎_elim, List, [], ◌∷◌, length, refl, sym, ap, ap₂}
-use Rattle.std.proofs.Common.{subst, arith, le_antisymm}
+use Rattle.std.proofs.Common.{eqb, subst, arith, le_antisymm}
 use Rattle.std.specs.Prelude.{All, Contains}
 use Rattle.std.specs.List.{list_all}
 use Rattle.std.specs.Cmp.{both_ways as same_test}

@@ -1,5 +1,5 @@
 -- `good_behind`
-use Rattle.goods_set.proofs.Common.{rules, ℕ, ◌+◌, List, sym, ap, ◌∙◌, good_from}
+use Rattle.goods_set.proofs.Common.{rules, sym, ◌∙◌}
 use Rattle.goods_set.proofs.Places.{good_behind, no_good_behind}
 use Rattle.goods_set.proofs.sort_keys.good_behind.Goals as goal
 

@@ -1,5 +1,5 @@
 -- `ListSet::index_from`
-use Rattle.goods_set.proofs.Common.{◌≡◌, ◌≤◌, ℕ, List, true, false, rules, ltb, sym, subst, length, IsPartitionPoint-from_clause, IsPartitionedBy}
+use Rattle.goods_set.proofs.Common.{◌≡◌, ℕ, List, true, false, rules, ltb, sym, subst, IsPartitionPoint-from_clause, IsPartitionedBy}
 use Rattle.goods_set.proofs.Common.{IsPartitionPoint}
 use Rattle.goods_set.proofs.Places.{parted}
 use Rattle.goods_set.proofs.list_set.ListSet.index_from.Goals as goal

@@ -1,5 +1,5 @@
 -- `ListSetGoodsSet::take_out`
-use Rattle.goods_set.proofs.Common.{rules, List, ℕ, sym, subst, IsBundle, IsBundle-without}
+use Rattle.goods_set.proofs.Common.{rules, IsBundle-without}
 use Rattle.goods_set.proofs.list_set.ListSetGoodsSet.take_out.Goals as goal
 
 pub invariant_of-self : goal.invariant_of-self

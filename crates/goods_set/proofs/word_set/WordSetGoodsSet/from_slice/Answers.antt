@@ -1,5 +1,5 @@
 -- `WordSetGoodsSet::from_slice`: the set has the goods so far: one more good is below the cap, so its word is there, and its bit puts it.
-use Rattle.goods_set.proofs.Common.{rules, ◌≡◌, ◌/◌, ◌<◌, get_or, length, ap, ◌∙◌, arith, length-set, length-replicate, with_good, with_good-take, below_at}
+use Rattle.goods_set.proofs.Common.{rules, length-set, length-replicate, with_good-take, below_at}
 use Rattle.goods_set.proofs.Common.{word_cap}
 use Rattle.goods_set.proofs.Bits.{no_bits, with_bit}
 use Rattle.goods_set.proofs.word_set.WordSetGoodsSet.from_slice.Goals as goal

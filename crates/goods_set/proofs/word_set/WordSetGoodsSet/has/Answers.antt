@@ -1,5 +1,5 @@
 -- `WordSetGoodsSet::has`
-use Rattle.goods_set.proofs.Common.{rules, ◌≡◌, ◌∙◌, ◌/◌, ◌<◌, ◌≤◌, sym, arith, le-ltb, word_cap, word_goods_past}
+use Rattle.goods_set.proofs.Common.{rules, le-ltb, word_goods_past}
 use Rattle.goods_set.proofs.Bits.{tested_shifted}
 use Rattle.goods_set.proofs.word_set.WordSetGoodsSet.has.Goals as goal
 

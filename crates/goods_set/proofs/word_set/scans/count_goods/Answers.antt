@@ -1,5 +1,5 @@
 -- `count_goods`
-use Rattle.goods_set.proofs.Common.{rules, ◌≡◌, ◌∙◌, ◌+◌, ◌*◌, ◌≤◌, ℕ, sym, ap, arith, length, get_or, count_ones, word_goods}
+use Rattle.goods_set.proofs.Common.{rules, sym}
 use Rattle.goods_set.proofs.Scans.{count_none, count_more, count_fits}
 use Rattle.goods_set.proofs.word_set.scans.count_goods.Goals as goal
 

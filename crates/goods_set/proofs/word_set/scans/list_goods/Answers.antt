@@ -1,5 +1,5 @@
 -- `list_goods`
-use Rattle.goods_set.proofs.Common.{rules, refl}
+use Rattle.goods_set.proofs.Common.{rules}
 use Rattle.goods_set.proofs.Listed.{words_more, words_none}
 use Rattle.goods_set.proofs.word_set.scans.list_goods.Goals as goal
 

@@ -1,5 +1,5 @@
 -- `next_bit`
-use Rattle.goods_set.proofs.Common.{rules, length, refl, sym}
+use Rattle.goods_set.proofs.Common.{rules, length, sym}
 use Rattle.goods_set.proofs.Scans.{scan_begun, scan_ended, scan_outside, scan_found}
 use Rattle.goods_set.proofs.word_set.scans.next_bit.Goals as goal
 

@@ -1,5 +1,5 @@
 -- `next_good`: A good that is there is below 64 times the number of the words, so it fits.
-use Rattle.goods_set.proofs.Common.{rules, ◌*◌, ◌∙◌, ◌<◌, length, sym, arith}
+use Rattle.goods_set.proofs.Common.{rules}
 use Rattle.goods_set.proofs.Scans.{next_below}
 use Rattle.goods_set.proofs.word_set.scans.next_good.Goals as goal
 

@@ -1,5 +1,5 @@
 -- `LongMask::reach`
-use Rattle.goods_set.proofs.Common.{rules, ◌+◌, arith}
+use Rattle.goods_set.proofs.Common.{rules}
 use Rattle.goods_set.proofs.LongWords.{words_grown}
 use Rattle.goods_set.proofs.mask.long.LongMask.reach.Goals as goal
 

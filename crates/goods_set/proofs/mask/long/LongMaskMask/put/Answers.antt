@@ -1,5 +1,5 @@
 -- `LongMaskMask::put`
-use Rattle.goods_set.proofs.Common.{rules, ◌∙◌, ap, with_good}
+use Rattle.goods_set.proofs.Common.{rules}
 use Rattle.goods_set.proofs.LongWords.{with_long_bit}
 use Rattle.goods_set.proofs.mask.long.LongMaskMask.put.Goals as goal
 

@@ -1,5 +1,5 @@
 -- `LongMaskMask::take_out`: writing through the slice leaves the vector with the words of the slice.
-use Rattle.goods_set.proofs.Common.{rules, ◌≡◌, ◌*◌, ◌∙◌, length, ap, ap₂, sym, List, ℕ, without, word_goods}
+use Rattle.goods_set.proofs.Common.{rules}
 use Rattle.goods_set.proofs.LongWords.{written_back}
 use Rattle.goods_set.proofs.mask.long.LongMaskMask.take_out.Goals as goal
 
