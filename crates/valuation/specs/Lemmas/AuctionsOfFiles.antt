@@ -1,7 +1,8 @@
 -- The auction of a file is an auction, and it is made bid by bid: each bid adds one atom, to the OR bidder or to the bidder of its
 -- dummy good.
-use Rattle.std.proofs.Common.{◌≡◌, ℕ, zero, suc, ◌+◌, ◌<◌, ◌≤◌, Bool, true, false, ⊎_elim, List, [], ◌∷◌, ◌++◌, length, map, get_or, set, take}
-use Rattle.std.proofs.Common.{Option, Some, None, is_none, refl, sym, ap, ap₂, ◌∙◌, subst, arith}
+use Rattle.std.proofs.Common.{rules, ◌≡◌, ℕ, zero, suc, ◌+◌, ◌<◌, ◌≤◌, Bool, true, false, ⊎_elim, List, [], ◌∷◌, ◌++◌, length, map, get_or, set, take, Option}
+use Rattle.std.proofs.lemmas.Grind.{common_steps}
+use Rattle.std.proofs.Common.{Some, None, is_none, refl, sym, ap, ap₂, ◌∙◌, subst, arith}
 use Rattle.std.specs.Prelude.{All, filter, sum_by}
 use Rattle.std.specs.List.{range_with_len, AllByRecursion, slice_get}
 use Rattle.std.proofs.lemmas.Bool.{cases_eq, ne_eqb, eq-eqb}
@@ -25,18 +26,10 @@ module _ (bids : List PlainBid) (i : ℕ) (b : PlainBid) (l : i < length bids) (
   more = take_more bids i b l ∙ ap (λ (c : PlainBid). take i bids ++ c ∷ []) e
 
   kept : (p : PlainBid → Bool) → p b ≡ true → map atom_of (filter p (take (i + 1) bids)) ≡ map atom_of (filter p (take i bids)) ++ atom_of b ∷ []
-  kept p t =
-      let one : filter p (b ∷ []) ≡ b ∷ [] = simp t in
-      ap (λ (bs : List PlainBid). map atom_of (filter p bs)) more ∙ ap (map atom_of) (filter-append p (take i bids) (b ∷ []))
-      ∙ map-append atom_of (filter p (take i bids)) (filter p (b ∷ []))
-      ∙ ap (λ (bs : List PlainBid). map atom_of (filter p (take i bids)) ++ map atom_of bs) one
+  kept p t = search (rules, more, filter-append, map-append)
 
   left_out : (p : PlainBid → Bool) → p b ≡ false → map atom_of (filter p (take (i + 1) bids)) ≡ map atom_of (filter p (take i bids))
-  left_out p t =
-      let none : filter p (b ∷ []) ≡ [] = simp t in
-      ap (λ (bs : List PlainBid). map atom_of (filter p bs)) more
-      ∙ ap (map atom_of) (filter-append p (take i bids) (b ∷ []) ∙ ap (λ (bs : List PlainBid). filter p (take i bids) ++ bs) none
-      ∙ append-nil (filter p (take i bids)))
+  left_out p t = search (rules, more, filter-append, append-nil)
 
   -- a bid without a dummy good is the OR bidder's
   pub or_atoms_of-more : b.dummy ≡ None → or_atoms_of (take (i + 1) bids) ≡ or_atoms_of (take i bids) ++ atom_of b ∷ []
@@ -44,8 +37,7 @@ module _ (bids : List PlainBid) (i : ℕ) (b : PlainBid) (l : i < length bids) (
 
   pub xor_bidders-same : b.dummy ≡ None → (n : ℕ) → map (xor_atoms_of (take (i + 1) bids)) (range_with_len 0 n)
       ≡ map (xor_atoms_of (take i bids)) (range_with_len 0 n)
-  xor_bidders-same d n = map_agree (xor_atoms_of (take (i + 1) bids)) (xor_atoms_of (take i bids)) (λ k. left_out (λ b. is_dummy k b.dummy) (ap (is_dummy k) d))
-      (range_with_len 0 n)
+  xor_bidders-same d n = search (rules, map_agree, left_out)
 
   -- a bid with one is that bidder's
   pub or_atoms_of-same : (d : ℕ) → b.dummy ≡ Some d → or_atoms_of (take (i + 1) bids) ≡ or_atoms_of (take i bids)
@@ -86,36 +78,13 @@ count_xor bids low n = sum_by length (map (xor_atoms_of bids) (range_with_len lo
 count_xor-past : (b : PlainBid) (bids : List PlainBid) (low n : ℕ) → ((d : ℕ) → low ≤ d → is_dummy d b.dummy ≡ false)
     → count_xor (b ∷ bids) low n ≡ count_xor bids low n
 count_xor-past b bids low zero h = refl
-count_xor-past b bids low (suc n) h =
-    let e : xor_atoms_of (b ∷ bids) low ≡ xor_atoms_of bids low = let t = h low (omega arith) in simp t in
-    let long = ap (length {A = Atom (List ℕ)}) e in
-    let rest = count_xor-past b bids (low + 1) n (λ d l. h d (omega arith)) in
-    omega (
-      arith,
-      sum_by-cons (length {A = Atom (List ℕ)}) (xor_atoms_of (b ∷ bids) low) (map (xor_atoms_of (b ∷ bids)) (range_with_len (low + 1) n)),
-      sum_by-cons (length {A = Atom (List ℕ)}) (xor_atoms_of bids low) (map (xor_atoms_of bids) (range_with_len (low + 1) n)),
-    )
+count_xor-past b bids low (suc n) h = grind (arith, common_steps, sum_by-cons, (count_xor-past b bids (low + 1) n (λ d l. h d (omega arith))))
 
 -- and its dummy good's bidder one
 count_xor-more : (b : PlainBid) (bids : List PlainBid) (e : ℕ) → b.dummy ≡ Some e → (low n : ℕ) → count_xor (b ∷ bids) low n ≤ count_xor bids low n + 1
 count_xor-more b bids e s low zero = omega arith
 count_xor-more b bids e s low (suc n) =
-    let new = sum_by-cons (length {A = Atom (List ℕ)}) (xor_atoms_of (b ∷ bids) low) (map (xor_atoms_of (b ∷ bids)) (range_with_len (low + 1) n)) in
-    let old = sum_by-cons (length {A = Atom (List ℕ)}) (xor_atoms_of bids low) (map (xor_atoms_of bids) (range_with_len (low + 1) n)) in
-    ⊎_elim
-    (λ (same : e ≡ low).
-    let t : is_dummy low b.dummy ≡ true = ap (is_dummy low) s ∙ eq-eqb e low same in
-    let one : xor_atoms_of (b ∷ bids) low ≡ atom_of b ∷ xor_atoms_of bids low = simp t in
-    let long = ap (length {A = Atom (List ℕ)}) one in
-    let rest = count_xor-past b bids (low + 1) n (λ d l. ap (is_dummy d) s ∙ ne_eqb e d (λ f. omega arith)) in
-    omega arith)
-    (λ (differ : e ≡ low → ⊥).
-    let t : is_dummy low b.dummy ≡ false = ap (is_dummy low) s ∙ ne_eqb e low differ in
-    let one : xor_atoms_of (b ∷ bids) low ≡ xor_atoms_of bids low = simp t in
-    let long = ap (length {A = Atom (List ℕ)}) one in
-    let rest = count_xor-more b bids e s (low + 1) n in
-    omega arith)
-    (cases_eq e low)
+    grind (arith, common_steps, sum_by-cons, eq-eqb, count_xor-past, ne_eqb, cases_eq, (count_xor-more b bids e s (low + 1) n))
 
 -- each bid is one atom
 pub count_atoms : (bids : List PlainBid) (n : ℕ) → length (or_atoms_of bids) + count_xor bids 0 n ≤ length bids

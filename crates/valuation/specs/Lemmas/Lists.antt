@@ -1,7 +1,7 @@
 -- Lemmas on lists: what holds of each element, of each pair of elements, and of the indices of a list and of the list behind its
 -- first element.
-use Rattle.std.proofs.Common.{◌≡◌, ℕ, zero, suc, pred, ◌<◌, ◌≤◌, ◌≢◌, ◌⊎◌, inl, inr, ⊎_elim, List, [], ◌∷◌, ◌++◌, length, map, get_or, refl, sym, ap, ◌∙◌}
-use Rattle.std.proofs.Common.{arith}
+use Rattle.std.proofs.Common.{rules, ◌≡◌, ℕ, zero, suc, pred, ◌<◌, ◌≤◌, ◌≢◌, ◌⊎◌, inl, inr, ⊎_elim, List, [], ◌∷◌, ◌++◌, length, map, get_or, refl, sym, ap}
+use Rattle.std.proofs.Common.{◌∙◌, arith}
 use Rattle.std.specs.Prelude.{All, AllPairs, Contains}
 use Rattle.std.proofs.lemmas.Bool.{cases_lt}
 use Rattle.std.proofs.lemmas.List.Elements.{All-nil, All-cons, All-head, All-tail, All-append, All-map, All-weaker, Contains-append_right}
@@ -11,11 +11,7 @@ le_or_lt m n = ⊎_elim (λ (l : n < m). inr l) (λ (l : m ≤ n). inl l) (cases
 
 -- an element of a list is the first one or among the others
 pub Contains-cons_cases : {X : Type 0} (y : X) (xs : List X) (x : X) → Contains (y ∷ xs) x → (y ≡ x) ⊎ Contains xs x
-Contains-cons_cases {X} y xs x c = by c.0 c.1 c.2
-  where
-    by : (k : ℕ) → k < length (y ∷ xs) → get_or (y ∷ xs) k x ≡ x → (y ≡ x) ⊎ Contains xs x
-    by zero l e = inl e
-    by (suc k) l e = inr (k, omega arith, e)
+Contains-cons_cases {X} y xs x c = search rules
 
 -- ---- each pair of elements
 

@@ -1,6 +1,6 @@
 -- The orders of atoms and of bidders are total, and answer Equal only for equal ones; lists are compared element by element.
-use Rattle.std.proofs.Common.{◌≡◌, ℕ, zero, suc, ◌<◌, true, false, min, ⊎_elim, List, [], ◌∷◌, length, drop, Ordering, Less, Equal, Greater, nat_cmp, refl, sym}
-use Rattle.std.proofs.Common.{ap, ap₂, ◌∙◌, arith}
+use Rattle.std.proofs.Common.{rules, ◌≡◌, ℕ, zero, suc, ◌<◌, true, false, min, ⊎_elim, List, [], ◌∷◌, length, drop, Ordering, Less, Equal, Greater, nat_cmp, ap}
+use Rattle.std.proofs.Common.{refl, sym, ap₂, ◌∙◌, arith}
 use Rattle.std.specs.Ordering.{is_ne, ordering_then}
 use Rattle.std.specs.Cmp.{IsTotalOrder}
 use Rattle.std.specs.Cmp.Lexicographic.{slice_cmp}
@@ -47,12 +47,7 @@ then-left Equal p e = refl
 then-left Greater p e = absurd (cc)
 
 nat_cmp-suc : (m n : ℕ) → nat_cmp m n ≡ nat_cmp (suc m) (suc n)
-nat_cmp-suc m n =
-    ⊎_elim (λ (e : m ≡ n). ap (nat_cmp m) (sym e) ∙ nat_cmp-refl m ∙ sym (nat_cmp-refl (suc m)) ∙ ap (λ k. nat_cmp (suc m) (suc k)) e)
-    (⊎_elim
-    (λ (l : m < n). let k : suc m < suc n = omega arith in nat_cmp-lt m n l ∙ sym (nat_cmp-lt (suc m) (suc n) k))
-    (λ (l : n < m). let k : suc n < suc m = omega arith in nat_cmp-gt m n l ∙ sym (nat_cmp-gt (suc m) (suc n) k)))
-    (cases_order m n)
+nat_cmp-suc m n = search (rules, nat_cmp-refl, nat_cmp-lt, nat_cmp-gt, cases_order)
 
 -- where one list is at its end, their lengths decide
 pub slice_cmp-ended : {X : Type 0} (cmp : X → X → Ordering) (i : ℕ) (xs ys : List X) → i ≡ min (length xs) (length ys)

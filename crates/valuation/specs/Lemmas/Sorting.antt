@@ -1,7 +1,8 @@
 -- Lists in an order that answers Equal for equal elements alone. The idea: a list in order is determined by how often it has each
 -- element, so a list is put in order in one way only, whichever way that is done.
-use Rattle.std.proofs.Common.{◌≡◌, ℕ, zero, suc, ◌+◌, true, false, cond, ⊎_elim, List, [], ◌∷◌, get_or, refl, sym, ap, ◌∙◌, subst, arith, Ordering, Less, Equal}
-use Rattle.std.proofs.Common.{Greater}
+use Rattle.std.proofs.Common.{rules, ◌≡◌, ℕ, zero, suc, ◌+◌, true, false, cond, ⊎_elim, List, [], ◌∷◌, get_or, refl, sym, ap, ◌∙◌, subst, arith, Ordering, Less}
+use Rattle.std.proofs.lemmas.Grind.{common_steps}
+use Rattle.std.proofs.Common.{Equal, Greater}
 use Rattle.std.specs.Prelude.{All, AllPairs, IsPermutation}
 use Rattle.std.specs.List.{AllByRecursion, sum_by}
 use Rattle.std.specs.List.Sorted.{IsSortedBy, IsSorted}
@@ -25,15 +26,7 @@ IsOrdered cmp (x ∷ xs) = AllByRecursion (λ y. is_gt (cmp x y) ≡ false) xs �
 
 pub sum_by-insert_by : {X : Type 0} (cmp : X → X → Ordering) (f : X → ℕ) (x : X) (xs : List X) → sum_by f (insert_by cmp x xs) ≡ f x + sum_by f xs
 sum_by-insert_by cmp f x [] = sum_by-cons f x []
-sum_by-insert_by {X} cmp f x (y ∷ ys) =
-    let later = sum_by-insert_by cmp f x ys in
-    let prefix = sum_by-cons f y (insert_by cmp x ys) in
-    let rest = sum_by-cons f y ys in
-    let goes_on : sum_by f (y ∷ insert_by cmp x ys) ≡ f x + sum_by f (y ∷ ys) = omega arith in
-    elim (is_gt (cmp x y)) as (λ b. sum_by f (cond b (y ∷ insert_by cmp x ys) (x ∷ (y ∷ ys))) ≡ f x + sum_by f (y ∷ ys)) [
-      | true ↦ goes_on
-      | false ↦ sum_by-cons f x (y ∷ ys)
-    ]
+sum_by-insert_by {X} cmp f x (y ∷ ys) = grind (arith, common_steps, sum_by-cons, (sum_by-insert_by cmp f x ys))
 
 pub sum_by-sort_by : {X : Type 0} (cmp : X → X → Ordering) (f : X → ℕ) (xs : List X) → sum_by f (sort_by cmp xs) ≡ sum_by f xs
 sum_by-sort_by cmp f [] = refl
@@ -42,11 +35,7 @@ sum_by-sort_by cmp f (x ∷ xs) = omega (arith, sum_by-insert_by cmp f x (sort_b
 each-insert_by : {X : Type 0} (cmp : X → X → Ordering) (P : X → Type 0) (x : X) (xs : List X) → P x → AllByRecursion P xs
     → AllByRecursion P (insert_by cmp x xs)
 each-insert_by cmp P x [] p h = (p, tt)
-each-insert_by cmp P x (y ∷ ys) p h =
-    elim (is_gt (cmp x y)) as (λ b. AllByRecursion P (cond b (y ∷ insert_by cmp x ys) (x ∷ (y ∷ ys)))) [
-      | true ↦ (h.0, each-insert_by cmp P x ys p h.1)
-      | false ↦ (p, h)
-    ]
+each-insert_by cmp P x (y ∷ ys) p h = search (rules, (each-insert_by cmp P x ys p h.1))
 
 each-sort_by : {X : Type 0} (cmp : X → X → Ordering) (P : X → Type 0) (xs : List X) → AllByRecursion P xs → AllByRecursion P (sort_by cmp xs)
 each-sort_by cmp P [] h = tt
@@ -74,16 +63,7 @@ each_weaker P Q f (x ∷ xs) h = (f x h.0, each_weaker P Q f xs h.1)
 module _ {X : Type 0} (cmp : X → X → Ordering) (total : IsTotalOrder cmp) where
   ordered-insert_by : (x : X) (xs : List X) → IsOrdered cmp xs → IsOrdered cmp (insert_by cmp x xs)
   ordered-insert_by x [] h = (tt, tt)
-  ordered-insert_by x (y ∷ ys) h =
-      ⊎_elim
-      (λ (e : is_gt (cmp x y) ≡ true).
-      let back : is_gt (cmp y x) ≡ false = ap is_gt (total.antisymm y x) ∙ not_above (cmp x y) e in
-      subst (λ b. IsOrdered cmp (cond b (y ∷ insert_by cmp x ys) (x ∷ (y ∷ ys)))) (sym e)
-      (each-insert_by cmp (λ z. is_gt (cmp y z) ≡ false) x ys back h.0, ordered-insert_by x ys h.1))
-      (λ (e : is_gt (cmp x y) ≡ false).
-      subst (λ b. IsOrdered cmp (cond b (y ∷ insert_by cmp x ys) (x ∷ (y ∷ ys)))) (sym e)
-      ((e, each_weaker (λ z. is_gt (cmp y z) ≡ false) (λ z. is_gt (cmp x z) ≡ false) (λ z k. upto total x y z e k) ys h.0), h))
-      (cases_Bool (is_gt (cmp x y)))
+  ordered-insert_by x (y ∷ ys) h = search (rules, not_above, each-insert_by, each_weaker, upto, cases_Bool, (ordered-insert_by x ys h.1))
 
   pub ordered-sort_by : (xs : List X) → IsOrdered cmp (sort_by cmp xs)
   ordered-sort_by [] = tt
@@ -107,22 +87,13 @@ module _ {X : Type 0} (cmp : X → X → Ordering) (total : IsTotalOrder cmp) wh
 
   pub count_none : (x : X) (xs : List X) → AllByRecursion (λ y. cmp x y ≡ Less) xs → count_of cmp x xs ≡ 0
   count_none x [] h = refl
-  count_none x (y ∷ ys) h =
-      let other : cond {A = ℕ} (is_eq (cmp x y)) 1 0 ≡ 0 = ap (λ o. cond {A = ℕ} (is_eq o) 1 0) h.0 in
-      omega (arith, sum_by-cons (λ y. cond (is_eq (cmp x y)) 1 0) y ys, count_none x ys h.1)
+  count_none x (y ∷ ys) h = search (rules, sum_by-cons, (count_none x ys h.1))
 
   count_itself : (x : X) (xs : List X) → count_of cmp x (x ∷ xs) ≡ 1 + count_of cmp x xs
-  count_itself x xs =
-      let one : cond {A = ℕ} (is_eq (cmp x x)) 1 0 ≡ 1 = ap (λ o. cond {A = ℕ} (is_eq o) 1 0) (tied_itself total x) in
-      omega (arith, sum_by-cons (λ y. cond (is_eq (cmp x y)) 1 0) x xs)
+  count_itself x xs = grind (arith, common_steps, tied_itself, sum_by-cons)
 
   below_all : (x y : X) (ys : List X) → cmp x y ≡ Less → AllByRecursion (λ z. is_gt (cmp y z) ≡ false) ys → AllByRecursion (λ z. cmp x z ≡ Less) (y ∷ ys)
-  below_all x y ys l h = (l, each_weaker (λ z. is_gt (cmp y z) ≡ false) (λ z. cmp x z ≡ Less) (λ z k. step z (cmp y z) refl k) ys h)
-    where
-      step : (z : X) (o : Ordering) → cmp y z ≡ o → is_gt o ≡ false → cmp x z ≡ Less
-      step z Less e k = total.trans x y z l e
-      step z Equal e k = sym (alike_right total y z x e) ∙ l
-      step z Greater e k = absurd (cc)
+  below_all x y ys l h = search (rules, each_weaker, alike_right)
 
   first_differs : (x y : X) (xs ys : List X) → IsOrdered cmp (y ∷ ys) → count_of cmp x (x ∷ xs) ≡ count_of cmp x (y ∷ ys) → cmp x y ≡ Less → ⊥
   first_differs x y xs ys h e l =
@@ -133,10 +104,8 @@ module _ {X : Type 0} (cmp : X → X → Ordering) (total : IsTotalOrder cmp) wh
   pub ordered_from_counts : ((x y : X) → cmp x y ≡ Equal → x ≡ y) → (xs ys : List X) → IsOrdered cmp xs → IsOrdered cmp ys
       → ((x : X) → count_of cmp x xs ≡ count_of cmp x ys) → xs ≡ ys
   ordered_from_counts exact [] [] h k e = refl
-  ordered_from_counts exact [] (y ∷ ys) h k e = let some = count_itself y ys in let same = e y in let none : count_of cmp y [] ≡ 0 = refl in
-      absurd (omega arith)
-  ordered_from_counts exact (x ∷ xs) [] h k e = let some = count_itself x xs in let same = e x in let none : count_of cmp x [] ≡ 0 = refl in
-      absurd (omega arith)
+  ordered_from_counts exact [] (y ∷ ys) h k e = let some = count_itself y ys in search rules
+  ordered_from_counts exact (x ∷ xs) [] h k e = let some = count_itself x xs in search rules
   ordered_from_counts exact (x ∷ xs) (y ∷ ys) h k e = by (ordered_from_counts exact xs ys h.1 k.1) (cmp x y) refl
     where
       reversed : cmp x y ≡ Greater → cmp y x ≡ Less
@@ -166,16 +135,12 @@ module _ {X : Type 0} (cmp : X → X → Ordering) (total : IsTotalOrder cmp) wh
   -- a list whose elements were put in order, in whichever way
   pub sorted_is_sort_by : ((x y : X) → cmp x y ≡ Equal → x ≡ y) → (xs ys : List X) → IsPermutation xs ys → IsSortedBy (λ x y. is_lt (cmp x y)) ys
       → ys ≡ sort_by cmp xs
-  sorted_is_sort_by exact xs ys p up =
-      ordered_from_counts exact ys (sort_by cmp xs) (ordered_from_sorted ys up) (ordered-sort_by xs)
-      (λ x. sum_by-IsPermutation (λ y. cond (is_eq (cmp x y)) 1 0) xs ys p ∙ sym (sum_by-sort_by cmp (λ y. cond (is_eq (cmp x y)) 1 0) xs))
+  sorted_is_sort_by exact xs ys p up = search (rules, ordered_from_counts, ordered_from_sorted, ordered-sort_by, sum_by-IsPermutation, sum_by-sort_by)
 
   -- equal lists for permuted lists in order
   pub sorted_same : ((x y : X) → cmp x y ≡ Equal → x ≡ y) → (xs ys : List X) → IsPermutation xs ys → IsSortedBy (λ x y. is_lt (cmp x y)) xs
       → IsSortedBy (λ x y. is_lt (cmp x y)) ys → xs ≡ ys
-  sorted_same exact xs ys p up also =
-      ordered_from_counts exact xs ys (ordered_from_sorted xs up) (ordered_from_sorted ys also)
-      (λ x. sym (sum_by-IsPermutation (λ y. cond (is_eq (cmp x y)) 1 0) xs ys p))
+  sorted_same exact xs ys p up also = search (rules, ordered_from_counts, ordered_from_sorted, sum_by-IsPermutation)
 
 -- ---- what is put in order is a sorted permutation, in std's words
 
@@ -183,11 +148,7 @@ permutation-insert_by : {X : Type 0} (cmp : X → X → Ordering) (x : X) (xs : 
 permutation-insert_by cmp x [] = IsPermutation-refl (x ∷ [])
 permutation-insert_by cmp x (y ∷ ys) =
     let exchanged : IsPermutation (x ∷ (y ∷ ys)) (y ∷ (x ∷ ys)) = IsPermutation-sym (y ∷ (x ∷ ys)) (x ∷ (y ∷ ys)) (IsPermutation-middle (y ∷ []) x ys) in
-    let later : IsPermutation (y ∷ (x ∷ ys)) (y ∷ insert_by cmp x ys) = IsPermutation-cons y (x ∷ ys) (insert_by cmp x ys) (permutation-insert_by cmp x ys) in
-    elim (is_gt (cmp x y)) as (λ b. IsPermutation (x ∷ (y ∷ ys)) (cond b (y ∷ insert_by cmp x ys) (x ∷ (y ∷ ys)))) [
-      | true ↦ IsPermutation-trans (x ∷ (y ∷ ys)) (y ∷ (x ∷ ys)) (y ∷ insert_by cmp x ys) exchanged later
-      | false ↦ IsPermutation-refl (x ∷ (y ∷ ys))
-    ]
+    search (rules, IsPermutation-cons, IsPermutation-trans, IsPermutation-refl, (permutation-insert_by cmp x ys))
 
 pub permutation-sort_by : {X : Type 0} (cmp : X → X → Ordering) (xs : List X) → IsPermutation xs (sort_by cmp xs)
 permutation-sort_by cmp [] = IsPermutation-refl []
@@ -204,8 +165,7 @@ sorted_from_ordered : {X : Type 0} (cmp : X → X → Ordering) → IsTotalOrder
 sorted_from_ordered cmp total [] h k d l m = absurd (omega arith)
 sorted_from_ordered cmp total (x ∷ []) h k d l m = absurd (omega arith)
 sorted_from_ordered cmp total (x ∷ y ∷ ys) h zero d l m = ap is_lt (total.antisymm y x) ∙ not_below_back (cmp x y) h.0.0
-sorted_from_ordered cmp total (x ∷ y ∷ ys) h (suc k) d l m = let next : suc k + 1 ≡ suc (k + 1) = omega arith in
-    rw next (sorted_from_ordered cmp total (y ∷ ys) h.1 k d (omega arith) (omega arith))
+sorted_from_ordered cmp total (x ∷ y ∷ ys) h (suc k) d l m = search (rules, (sorted_from_ordered cmp total (y ∷ ys) h.1 k d (omega arith) (omega arith)))
 
 pub sorted-sort_by : {X : Type 0} (cmp : X → X → Ordering) → IsTotalOrder cmp → (xs : List X) → IsSorted cmp (sort_by cmp xs)
 sorted-sort_by cmp total xs = sorted_from_ordered cmp total (sort_by cmp xs) (ordered-sort_by cmp total xs)

@@ -1,6 +1,6 @@
 -- Lemmas on the XOR value: it is the least number that no atom inside the bundle exceeds. So it grows with the bundle, and does
 -- not depend on the order of the atoms.
-use Rattle.std.proofs.Common.{◌≡◌, ℕ, ◌≤◌, max, true, false, ⊎_elim, List, [], ◌∷◌, refl, arith, le_trans, le_refl, le_antisymm}
+use Rattle.std.proofs.Common.{rules, ◌≡◌, ℕ, ◌≤◌, max, true, false, ⊎_elim, List, [], ◌∷◌, refl, arith, le_trans, le_refl, le_antisymm}
 use Rattle.std.specs.Prelude.{IsPermutation}
 use Rattle.std.proofs.lemmas.Bool.{cases_Bool}
 use Rattle.std.proofs.lemmas.List.Sorted.{IsPermutation-sym}
@@ -27,40 +27,28 @@ xor_value-outside a rest bundle o = simp o (omega arith)
 
 -- it is at least the value by the other atoms, and at least the price of each atom inside, and no greater than either makes it
 pub xor_value-rest : (a : Atom (List ℕ)) (rest : List (Atom (List ℕ))) (bundle : List ℕ) → xor_value rest bundle ≤ xor_value (a ∷ rest) bundle
-xor_value-rest a rest bundle =
-    ⊎_elim (λ (i : is_inside a.bundle bundle ≡ true). omega (arith, xor_value-inside a rest bundle i)) (λ (o : is_inside a.bundle bundle ≡ false). omega (
-      arith,
-      xor_value-outside a rest bundle o,
-    )) (cases_Bool (is_inside a.bundle bundle))
+xor_value-rest a rest bundle = search (rules, xor_value-inside, xor_value-outside, cases_Bool)
 
 pub xor_value-price : (a : Atom (List ℕ)) (rest : List (Atom (List ℕ))) (bundle : List ℕ) → IsInside a.bundle bundle → a.price ≤ xor_value (a ∷ rest) bundle
 xor_value-price a rest bundle i = omega (arith, xor_value-inside a rest bundle i)
 
 pub xor_value-least : (a : Atom (List ℕ)) (rest : List (Atom (List ℕ))) (bundle : List ℕ) (n : ℕ) → xor_value rest bundle ≤ n
     → (IsInside a.bundle bundle → a.price ≤ n) → xor_value (a ∷ rest) bundle ≤ n
-xor_value-least a rest bundle n r p =
-    ⊎_elim (λ (i : is_inside a.bundle bundle ≡ true). let q : a.price ≤ n = p i in omega (arith, xor_value-inside a rest bundle i))
-    (λ (o : is_inside a.bundle bundle ≡ false). omega (arith, xor_value-outside a rest bundle o)) (cases_Bool (is_inside a.bundle bundle))
+xor_value-least a rest bundle n r p = search (rules, xor_value-inside, xor_value-outside, cases_Bool)
 
 -- it grows with the bundle
 pub xor_value-grows : (atoms : List (Atom (List ℕ))) (small large : List ℕ) → IsInside small large → xor_value atoms small ≤ xor_value atoms large
 xor_value-grows [] small large i = omega (arith, xor_value-nil small)
-xor_value-grows (a ∷ rest) small large i =
-    xor_value-least a rest small (xor_value (a ∷ rest) large)
-    (le_trans (xor_value-grows rest small large i) (xor_value-rest a rest large))
-    (λ j. xor_value-price a rest large (inside_trans a.bundle small large j i))
+xor_value-grows (a ∷ rest) small large i = search (rules, xor_value-least, xor_value-rest, xor_value-price, inside_trans, (xor_value-grows rest small large i))
 
 -- it does not depend on the order of the atoms
 xor_value-prefix : (a : Atom (List ℕ)) (xs ys : List (Atom (List ℕ))) → ((bundle : List ℕ) → xor_value xs bundle ≤ xor_value ys bundle) → (bundle : List ℕ)
     → xor_value (a ∷ xs) bundle ≤ xor_value (a ∷ ys) bundle
-xor_value-prefix a xs ys h bundle =
-    xor_value-least a xs bundle _ (le_trans (h bundle) (xor_value-rest a ys bundle)) (xor_value-price a ys bundle)
+xor_value-prefix a xs ys h bundle = search (rules, xor_value-least, xor_value-rest, xor_value-price)
 
 xor_value-exchange : (a b : Atom (List ℕ)) (rest : List (Atom (List ℕ))) (bundle : List ℕ) → xor_value (a ∷ b ∷ rest) bundle ≤ xor_value (b ∷ a ∷ rest) bundle
-xor_value-exchange a b rest bundle =
-    xor_value-least a (b ∷ rest) bundle _
-    (xor_value-least b rest bundle _ (le_trans (xor_value-rest a rest bundle) (xor_value-rest b (a ∷ rest) bundle)) (xor_value-price b (a ∷ rest) bundle))
-    (λ i. le_trans (xor_value-price a rest bundle i) (xor_value-rest b (a ∷ rest) bundle))
+xor_value-exchange a b rest bundle = xor_value-least a (b ∷ rest) bundle _ (search (rules, xor_value-least, xor_value-rest, xor_value-price))
+    (search (rules, xor_value-price, xor_value-rest))
 
 xor_value-at_most : (xs ys : List (Atom (List ℕ))) → IsPermutation xs ys → (bundle : List ℕ) → xor_value xs bundle ≤ xor_value ys bundle
 xor_value-at_most =
