@@ -1,26 +1,14 @@
 -- Bids sorted by bundle and by falling price: the first on each bundle are the best.
-use Rattle.std.proofs.Common.{rules, ◌≡◌, ℕ, ◌+◌, ◌<◌, ◌≤◌, Bool, true, false, cond, ltb, ◌⊎◌, inl, inr, ⊎_elim, List, [], ◌∷◌, map, length, get_or, refl, sym}
-use Rattle.std.proofs.Common.{ap, ap₂, ◌∙◌, subst, arith, le_refl, Ordering, Less, Equal, Greater, is_lt, nat_cmp}
-use Rattle.std.specs.Prelude.{AllPairs, Contains, IsPermutation}
-use Rattle.std.specs.Cmp.{IsTotalOrder}
-use Rattle.std.specs.List.{filter, dedup, dedup_from}
-use Rattle.std.specs.List.Sorted.{IsSortedBy, IsStrictlySortedBy}
-use Rattle.std.specs.Ordering.{is_eq, ordering_then}
-use Rattle.std.proofs.lemmas.Bool.{cases_Bool, cases_lt, both_ways, false_from_ne_true, ltb-true, lt-ltb, cond-true, cond-false}
-use Rattle.std.proofs.lemmas.Cmp.{on_total, then_total, back_total, nat_cmp_total}
-use Rattle.std.proofs.lemmas.List.{length-map, get_or-map}
-use Rattle.std.proofs.lemmas.List.Elements.{All-head, All-tail, All-from_recursion}
-use Rattle.std.proofs.lemmas.List.Kept.{IsStrictlySortedBy-dedup, Contains-from_dedup}
-use Rattle.std.proofs.lemmas.List.Sorted.{sorted_far, ranks_by, Contains-permutation, IsPermutation-sym, IsPermutation-map}
-use Rattle.goods_set.specs.Bundles.{IsInside, is_inside}
-use Rattle.goods_set.specs.Lemmas.Members.{inside_refl}
-use Rattle.goods_set.specs.Orders.{bundle_cmp}
-use Rattle.goods_set.specs.Lemmas.Orders.{bundle_cmp_total, bundle_cmp_refl, bundle_cmp_equal, nat_cmp-lt}
-use Rattle.valuation.specs.declared.atom.Atom.{Atom}
-use Rattle.valuation.specs.Lemmas.Lists.{Contains-cons_cases, AllPairs-nil, AllPairs-cons, AllPairs-head, AllPairs-tail, AllPairs-map}
-use Rattle.prune.specs.Lemmas.Lists.{map-filter, Contains-nil, Contains-head, Contains-tail, Contains-filter, Contains-filter_parts, All-from_Contains}
-use Rattle.prune.specs.InOrder.{IsBefore, IsInOrder}
-use Rattle.prune.specs.Internal.BestBids.{bid_cmp, AreBestBids}
+use Rattle.prune.proofs.Common.{rules, ◌≡◌, ℕ, ◌+◌, ◌<◌, ◌≤◌, Bool, true, false, cond, ltb, ◌⊎◌, inl, inr, ⊎_elim, List, [], ◌∷◌, map, length, get_or, refl}
+use Rattle.prune.proofs.Common.{sym, ap, ap₂, ◌∙◌, subst, arith, le_refl, Ordering, Less, Equal, Greater, is_lt, nat_cmp, AllPairs, Contains, IsPermutation}
+use Rattle.prune.proofs.Common.{IsTotalOrder, filter, dedup, dedup_from, IsSortedBy, is_eq, ordering_then, cases_Bool, cases_lt, both_ways, false_from_ne_true}
+use Rattle.prune.proofs.Common.{ltb-true, lt-ltb, cond-true, cond-false, on_total, then_total, back_total, nat_cmp_total, length-map, get_or-map, All-head}
+use Rattle.prune.proofs.Common.{All-tail, All-from_recursion, IsStrictlySortedBy-dedup, Contains-from_dedup, sorted_far, ranks_by, Contains-permutation}
+use Rattle.prune.proofs.Common.{IsPermutation-sym, IsPermutation-map, IsInside, is_inside, inside_refl, bundle_cmp, bundle_cmp_total, bundle_cmp_refl}
+use Rattle.prune.proofs.Common.{bundle_cmp_equal, nat_cmp-lt, Atom, Contains-cons_cases, AllPairs-nil, AllPairs-cons, AllPairs-head, AllPairs-tail}
+use Rattle.prune.proofs.Common.{AllPairs-map, map-filter, Contains-nil, Contains-head, Contains-tail, Contains-filter, Contains-filter_parts, All-from_Contains}
+use Rattle.prune.proofs.Common.{IsBefore, IsInOrder, bid_cmp, AreBestBids}
+use Rattle.std.specs.List.Sorted.{IsStrictlySortedBy}
 
 abbrev pub is_bid_before : Atom (List ℕ) → Atom (List ℕ) → Bool
 is_bid_before a b = is_lt (bid_cmp a b)

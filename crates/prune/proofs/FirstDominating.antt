@@ -1,24 +1,10 @@
 -- The first atom that dominates a bid: it has the least of the indices that are found, in a list of atoms or at the goods of the bid's bundle.
-use Rattle.std.proofs.Common.{rules, ◌≡◌, ℕ, ◌+◌, ◌<◌, ◌≤◌, Bool, true, false, leb, ⊎_elim, List, [], length, get_or, take, refl, sym, ap, ◌∙◌, subst, arith}
-use Rattle.std.proofs.lemmas.Grind.{common_steps}
-use Rattle.std.proofs.Common.{Some, None}
-use Rattle.std.specs.Prelude.{All, AllPairs, Contains, is_some}
-use Rattle.std.specs.List.{list_any, range_with_len}
-use Rattle.std.proofs.lemmas.Bool.{cases_lt, cases_eq, both_ways, and_parts, false_from_ne_true}
-use Rattle.std.proofs.lemmas.List.{get_or-take, get_or_default, length-take, take-map}
-use Rattle.std.proofs.lemmas.List.Elements.{All-contains}
-use Rattle.std.proofs.lemmas.List.FromFn.{fill_by_all}
-use Rattle.goods_set.specs.Bundles.{IsRising, has_good, good_from}
-use Rattle.goods_set.specs.Lemmas.Sizes.{IsNextGood, good_from-Some}
-use Rattle.prune.specs.Internal.Fingerprints.{AreMarks}
-use Rattle.valuation.specs.declared.atom.Atom.{Atom}
-use Rattle.valuation.specs.Values.{atoms_of, plain_atom}
-use Rattle.prune.specs.declared.subset_index.Posting.{Posting}
-use Rattle.prune.specs.Internal.Listings.{indices_at, is_inside_at, dominates, dominates_at, first_dominating_index, listed_at, AreListed, NoneInsideFrom}
-use Rattle.valuation.specs.Packings.{atom_at}
-use Rattle.prune.specs.Internal.Listings.{MayBePosting}
-use Rattle.prune.specs.Lemmas.Lists.{is_some-find_map}
-use Rattle.prune.specs.Lemmas.Ranges.{first_in_range, none_in_range}
+use Rattle.prune.proofs.Common.{rules, ◌≡◌, ℕ, ◌+◌, ◌<◌, ◌≤◌, Bool, true, false, leb, ⊎_elim, List, [], length, get_or, take, refl, sym, ap, ◌∙◌, subst, arith}
+use Rattle.prune.proofs.Common.{common_steps, Some, None, All, AllPairs, Contains, is_some, list_any, range_with_len, cases_lt, cases_eq, both_ways, and_parts}
+use Rattle.prune.proofs.Common.{false_from_ne_true, get_or-take, get_or_default, length-take, take-map, All-contains, fill_by_all, IsRising, has_good}
+use Rattle.prune.proofs.Common.{good_from, IsNextGood, good_from-Some, AreMarks, Atom, atoms_of, plain_atom, Posting, indices_at, is_inside_at, dominates}
+use Rattle.prune.proofs.Common.{dominates_at, first_dominating_index, listed_at, AreListed, NoneInsideFrom, atom_at, MayBePosting, is_some-find_map}
+use Rattle.prune.proofs.Common.{first_in_range, none_in_range}
 use Rattle.prune.proofs.ListedAtoms.{is_listed, listed_before, postings_right}
 
 -- there is one exactly if an atom dominates the bid

@@ -1,40 +1,20 @@
 -- Atoms are found through the goods of a bundle: each atom inside it is listed at one of its goods, which is a good of the bundle.
 -- The indices found, sorted, are those of the atoms inside the bundle, since no index is listed twice.
-use Rattle.std.proofs.Common.{rules, ◌≡◌, ◌≢◌, ℕ, zero, suc, ◌+◌, ◌<◌, ◌≤◌, Bool, true, false, cond, leb, take, append_assoc, eqb, ◌⊎◌, inl, inr, ⊎_elim, List}
-use Rattle.std.proofs.Common.{[], ◌∷◌, ◌++◌, length, map, get_or, refl, sym, ap, ◌∙◌, subst, subst₂, arith, Some, None, nat_cmp, Less, Greater}
-use Rattle.std.specs.Prelude.{All, AllPairs, Contains, IsPermutation}
-use Rattle.std.specs.List.{filter, range_with_len, slice_get}
-use Rattle.std.specs.List.Sorted.{IsSorted}
-use Rattle.std.proofs.lemmas.Bool.{cases_lt, cases_eq, both_ways, and_parts, and_from, and_right, false_from_ne_true, eqb-true, eq-eqb, le-leb, lt-leb}
+use Rattle.prune.proofs.Common.{rules, ◌≡◌, ◌≢◌, ℕ, zero, suc, ◌+◌, ◌<◌, ◌≤◌, Bool, true, false, cond, leb, take, append_assoc, eqb, ◌⊎◌, inl, inr, ⊎_elim}
+use Rattle.prune.proofs.Common.{List, [], ◌∷◌, ◌++◌, length, map, get_or, refl, sym, ap, ◌∙◌, subst, subst₂, arith, Some, None, nat_cmp, Less, Greater, All}
+use Rattle.prune.proofs.Common.{AllPairs, Contains, IsPermutation, filter, range_with_len, slice_get, IsSorted, cases_lt, cases_eq, both_ways, and_parts}
+use Rattle.prune.proofs.Common.{and_from, and_right, false_from_ne_true, eqb-true, eq-eqb, le-leb, lt-leb, Decides-eqb, map_push, get_or-map}
+use Rattle.prune.proofs.Common.{get_or_append_left, get_or_push, length-map, length_push, filter_more, Contains-get_or, All-append, All-contains, All-filter}
+use Rattle.prune.proofs.Common.{All-weaker, Contains-append_left, Contains-push, Contains-append_right, Contains-push_cases, slice_get-get_or, slice_get_past}
+use Rattle.prune.proofs.Common.{fill_by_all, AllPairs-from_increasing, AllPairs-filter, all_pairs_push, Contains-permutation, IsPermutation-sym}
+use Rattle.prune.proofs.Common.{IsNonDecreasingBy-from_sort, IsDistinct-IsPermutation, IsStrictlyIncreasing-from_distinct, IsDistinct-from_AllPairs, AreAbove}
+use Rattle.prune.proofs.Common.{IsRising, has_good, is_inside, good_from, contains_from_has, has_from_contains, has_cases, has-filter, AreAbove-from_has}
+use Rattle.prune.proofs.Common.{IsRising-filter, same_from_has, inside_at, bundle_cmp, AreMarks, larger_last, IsNextGood, good_from-Some, good_from-None}
+use Rattle.prune.proofs.Common.{length_inside, same_from_length, range_has, range_rises, Atom, AllPairs-head, AllPairs-tail, AllPairs-append, Contains-map}
+use Rattle.prune.proofs.Common.{Contains-unmap, Posting, IsInOrder, listed_at, indices_at, is_inside_at, dominates_at, IsListed, IsPosting, AreListed}
+use Rattle.prune.proofs.Common.{AreGoodsOf, IsBehind, atom_at, NoneInsideFrom, before_itself, map-filter, Contains-head, Contains-tail, Contains-filter}
+use Rattle.prune.proofs.Common.{Contains-filter_parts, All-from_Contains}
 use Rattle.std.specs.Cmp.{both_ways as same_test}
-use Rattle.std.proofs.lemmas.Bool.Decides.{Decides-eqb}
-use Rattle.std.proofs.lemmas.List.{map_push, get_or-map, get_or_append_left, get_or_push, length-map, length_push}
-use Rattle.std.proofs.lemmas.List.Elements.{filter_more, Contains-get_or, All-append, All-contains, All-filter, All-weaker, Contains-append_left, Contains-push}
-use Rattle.std.proofs.lemmas.List.Elements.{Contains-append_right, Contains-push_cases}
-use Rattle.std.proofs.lemmas.Option.{slice_get-get_or, slice_get_past}
-use Rattle.std.proofs.lemmas.List.FromFn.{fill_by_all}
-use Rattle.std.proofs.lemmas.List.Kept.{AllPairs-from_increasing, AllPairs-filter}
-use Rattle.std.proofs.lemmas.List.Quantifiers.{all_pairs_push}
-use Rattle.std.proofs.lemmas.List.Sorted.{Contains-permutation, IsPermutation-sym, IsNonDecreasingBy-from_sort}
-use Rattle.std.proofs.lemmas.Map.Keys.{IsDistinct-IsPermutation, IsStrictlyIncreasing-from_distinct}
-use Rattle.std.proofs.lemmas.Map.Made.{IsDistinct-from_AllPairs}
-use Rattle.goods_set.specs.Bundles.{AreAbove, IsRising, has_good, is_inside, good_from}
-use Rattle.prune.specs.Lemmas.KeptBids.{contains_from_has, has_from_contains}
-use Rattle.goods_set.specs.Lemmas.Members.{has_cases, has-filter, AreAbove-from_has, IsRising-filter, same_from_has, inside_at}
-use Rattle.goods_set.specs.Orders.{bundle_cmp}
-use Rattle.prune.specs.Internal.Fingerprints.{AreMarks}
-use Rattle.goods_set.specs.Lemmas.Orders.{larger_last}
-use Rattle.goods_set.specs.Lemmas.Sizes.{IsNextGood, good_from-Some, good_from-None, length_inside, same_from_length}
-use Rattle.goods_set.specs.Lemmas.Words.{range_has, range_rises}
-use Rattle.valuation.specs.declared.atom.Atom.{Atom}
-use Rattle.valuation.specs.Lemmas.Lists.{AllPairs-head, AllPairs-tail, AllPairs-append, Contains-map, Contains-unmap}
-use Rattle.prune.specs.declared.subset_index.Posting.{Posting}
-use Rattle.prune.specs.InOrder.{IsInOrder}
-use Rattle.prune.specs.Internal.Listings.{listed_at, indices_at, is_inside_at, dominates_at, IsListed, IsPosting, AreListed, AreGoodsOf, IsBehind}
-use Rattle.valuation.specs.Packings.{atom_at}
-use Rattle.prune.specs.Internal.Listings.{NoneInsideFrom}
-use Rattle.prune.specs.Lemmas.InOrder.{before_itself}
-use Rattle.prune.specs.Lemmas.Lists.{map-filter, Contains-head, Contains-tail, Contains-filter, Contains-filter_parts, All-from_Contains}
 
 -- ---- lists of indices
 

@@ -1,26 +1,11 @@
 -- What becomes of best bids along a pruning's loop. Later points are not below earlier bids, so what was noted by the points so far is right by all
 -- points; and what a turn finds is what becomes of its bid.
-use Rattle.std.proofs.Common.{rules, ◌≡◌, ℕ, true, false, leb, List, [], ◌∷◌, ◌++◌, length, map, refl, sym, ap, ◌∙◌, subst, Some, None, ◌≤◌, take, ap₂}
-use Rattle.std.specs.Prelude.{All, Contains, Option, IfSome, is_some}
-use Rattle.std.specs.Global.{Vec}
-use Rattle.std.specs.List.{find, range_with_len}
-use Rattle.std.proofs.lemmas.List.{map_push, take_all}
-use Rattle.std.proofs.lemmas.Simd.{map-map}
-use Rattle.std.proofs.lemmas.List.Elements.{All-contains, All-push}
-use Rattle.valuation.specs.declared.atom.Atom.{Atom}
-use Rattle.valuation.specs.declared.search.kind.SearchKind.{SearchKind}
-use Rattle.valuation.specs.Values.{or_value, atoms_of}
-use Rattle.prune.specs.Fates.{best_bids, found_points, or_fate, indices_below, plain_fate, xor_fate}
-use Rattle.prune.specs.Internal.BestBids.{AreBestBids}
-use Rattle.prune.specs.Internal.Listings.{is_inside_at, first_dominating_index}
-use Rattle.valuation.specs.Packings.{atom_at, atoms_inside}
-use Rattle.prune.specs.Internal.Reaching.{found_inside, indices_inside}
-use Rattle.prune.specs.Lemmas.Fates.{or_fate-push, xor_fate-push}
-use Rattle.prune.specs.Lemmas.Lists.{All-from_Contains, filter_same_on, find_filter, map_same_on, Contains-head, Contains-tail}
-use Rattle.prune.specs.Lemmas.OnBundles.{IsOnBundle}
-use Rattle.prune.specs.Lemmas.Ranges.{in_range}
-use Rattle.prune.specs.SearchSteps.{atoms_below, greatest_price, is_below}
-use Rattle.prune.specs.InOrder.{IsBefore}
+use Rattle.prune.proofs.Common.{rules, ◌≡◌, ℕ, true, false, leb, List, [], ◌∷◌, ◌++◌, length, map, refl, sym, ap, ◌∙◌, subst, Some, None, ◌≤◌, take, ap₂, All}
+use Rattle.prune.proofs.Common.{Contains, Option, IfSome, is_some, Vec, find, range_with_len, map_push, take_all, map-map, All-contains, All-push, Atom}
+use Rattle.prune.proofs.Common.{SearchKind, or_value, atoms_of, best_bids, indices_below, plain_fate, AreBestBids, is_inside_at, first_dominating_index}
+use Rattle.prune.proofs.Common.{atom_at, atoms_inside, found_inside, indices_inside, or_fate-push, xor_fate-push, All-from_Contains, filter_same_on}
+use Rattle.prune.proofs.Common.{find_filter, map_same_on, Contains-head, Contains-tail, IsOnBundle, in_range, atoms_below, greatest_price, is_below, IsBefore}
+use Rattle.prune.specs.Fates.{found_points, or_fate, xor_fate}
 use Rattle.prune.proofs.Pruning.{HasRisingBundle, later_not_below, not_below_itself, rising_prefix}
 use Rattle.prune.proofs.Refusals.{best_searched}
 use Rattle.prune.proofs.Results.{IsTurn, best_price, turn_before, turn_below, turn_inside, turn_rising}

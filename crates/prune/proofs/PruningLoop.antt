@@ -1,24 +1,12 @@
 -- The turns of a pruning's loop, by what the code knows of its variables: each is one of proofs/Results, once the code's lists are seen
 -- by the goods of their sets.
-use Rattle.std.proofs.Common.{rules, ◌≡◌, ℕ, ◌+◌, ◌<◌, ◌≤◌, ◌||◌, leb, ⊎_elim, List, [], ◌∷◌, ◌++◌, length, take, drop, max, get_or, sym, ap, ◌∙◌, subst, arith}
-use Rattle.std.proofs.lemmas.Grind.{common_steps}
-use Rattle.std.specs.Prelude.{All}
-use Rattle.std.specs.List.{list_any}
-use Rattle.std.proofs.lemmas.Bool.{cases_lt, le-leb, lt-leb}
-use Rattle.std.proofs.lemmas.List.{map-append, map_push, drop_all, take_all}
-use Rattle.std.proofs.lemmas.List.Elements.{All-nil, All-cons, All-head, All-tail, All-weaker, filter_passes}
-use Rattle.goods_set.specs.Bundles.{IsRising, is_inside, IsInside}
-use Rattle.valuation.specs.declared.atom.Atom.{Atom}
-use Rattle.valuation.specs.Auctions.{IsAtom}
-use Rattle.valuation.specs.Values.{atoms_of, xor_value, plain_atom}
-use Rattle.valuation.specs.Lemmas.XorValues.{xor_value-nil, xor_value-inside}
-use Rattle.prune.specs.Lemmas.Lists.{list_any_filter}
-use Rattle.prune.specs.Internal.Listings.{dominates}
-use Rattle.prune.specs.Internal.BestBids.{AreBestBids}
+use Rattle.prune.proofs.Common.{rules, ◌≡◌, ℕ, ◌+◌, ◌<◌, ◌≤◌, ◌||◌, leb, ⊎_elim, List, [], ◌∷◌, ◌++◌, length, take, drop, max, get_or, sym, ap, ◌∙◌, subst}
+use Rattle.prune.proofs.Common.{arith, common_steps, All, list_any, cases_lt, le-leb, lt-leb, map-append, map_push, drop_all, take_all, All-nil, All-cons}
+use Rattle.prune.proofs.Common.{All-head, All-tail, All-weaker, filter_passes, IsRising, is_inside, IsInside, Atom, IsAtom, atoms_of, xor_value, plain_atom}
+use Rattle.prune.proofs.Common.{xor_value-nil, xor_value-inside, list_any_filter, dominates, AreBestBids, atoms_inside}
 use Rattle.prune.proofs.Pruning.{HasRisingBundle}
 use Rattle.prune.proofs.Results.{IsTurn, IsXorKept, IsOrKept, AreXorPoints, AreOrPoints, xor_done, or_done}
 use Rattle.prune.proofs.Prefixes.{IsLeft, next_parts, next_taken, next_drop}
-use Rattle.valuation.specs.Packings.{atoms_inside}
 
 -- ---- atoms of the code
 

@@ -1,41 +1,18 @@
 -- The limits along a pruning's loop. The best bids are those of the searched bundles, one on each, in order; the search for a best bid among the points so
 -- far takes the steps that the definition says; so what is left of the limits decides on the bids that are left as the first limits do on all.
-use Rattle.std.proofs.Common.{rules, ◌≡◌, ℕ, ◌+◌, ◌<◌, false, true, ltb, ⊎_elim, List, [], ◌∷◌, ◌++◌, map, refl, sym, ap, ap₂, ◌∙◌, subst, arith, Some, None}
-use Rattle.std.proofs.Common.{Less}
-use Rattle.std.specs.Prelude.{All, Contains}
-use Rattle.std.specs.List.{AllByRecursion}
+use Rattle.prune.proofs.Common.{rules, ◌≡◌, ℕ, ◌+◌, ◌<◌, false, true, ltb, ⊎_elim, List, [], ◌∷◌, ◌++◌, map, refl, sym, ap, ap₂, ◌∙◌, subst, arith, Some, None}
+use Rattle.prune.proofs.Common.{Less, All, Contains, AllByRecursion, lt-ltb, ltb-false, ltb-true, All-head, All-tail, All-contains, Contains-append_right}
+use Rattle.prune.proofs.Common.{IsStrictlySortedBy-filter, all_bundles, bundle_cmp, bundle_cmp_strict, all_bundles_has, all_bundles_sorted, same_from_contains}
+use Rattle.prune.proofs.Common.{Atom, SearchKind, SearchOptions, IsAtom, or_value, bound_of, is_one_over, options_after, options_after_all, is_one_over-one}
+use Rattle.prune.proofs.Common.{options_after_all-one, Contains-cons_cases, Contains-map, Contains-unmap, AllPairs-head, AllPairs-tail, or_value-price}
+use Rattle.prune.proofs.Common.{or_value-filter_le, or_points, is_below, atoms_below, greatest_price, in_search_order, searched_bundles, IsBefore, IsInOrder}
+use Rattle.prune.proofs.Common.{AreBestBids, IsOnBundle, Contains-head, Contains-tail, Contains-filter, Contains-filter_parts, All-from_Contains, all_nonempty}
+use Rattle.prune.proofs.Common.{on_bundles, first_over-refused, first_over-within, atoms_inside, steps_for}
 use Rattle.std.specs.List.Sorted.{IsStrictlySortedBy}
-use Rattle.std.proofs.lemmas.Bool.{lt-ltb, ltb-false, ltb-true}
-use Rattle.std.proofs.lemmas.List.Elements.{All-head, All-tail, All-contains, Contains-append_right}
-use Rattle.std.proofs.lemmas.List.Kept.{IsStrictlySortedBy-filter}
-use Rattle.goods_set.specs.Bundles.{all_bundles}
-use Rattle.goods_set.specs.Orders.{bundle_cmp}
-use Rattle.goods_set.specs.Lemmas.Orders.{bundle_cmp_strict}
-use Rattle.goods_set.specs.Lemmas.AllBundles.{all_bundles_has, all_bundles_sorted}
-use Rattle.goods_set.specs.Lemmas.Sorted.{same_from_contains}
-use Rattle.valuation.specs.declared.atom.Atom.{Atom}
-use Rattle.valuation.specs.declared.search.kind.SearchKind.{SearchKind}
-use Rattle.valuation.specs.declared.search.options.SearchOptions.{SearchOptions}
-use Rattle.valuation.specs.Auctions.{IsAtom}
-use Rattle.valuation.specs.Values.{or_value}
-use Rattle.valuation.specs.Searches.{bound_of}
-use Rattle.valuation.specs.SearchLimits.{is_one_over, options_after, options_after_all}
-use Rattle.valuation.specs.Lemmas.SearchLimits.{is_one_over-one, options_after_all-one}
 use Rattle.valuation.specs.SearchSteps.{cut_steps as steps_with}
-use Rattle.valuation.specs.Lemmas.Lists.{Contains-cons_cases, Contains-map, Contains-unmap, AllPairs-head, AllPairs-tail}
-use Rattle.valuation.specs.Lemmas.OrValues.{or_value-price, or_value-filter_le}
-use Rattle.prune.specs.Points.{or_points}
-use Rattle.prune.specs.SearchSteps.{is_below, atoms_below, greatest_price, in_search_order, search_steps_by, searched_bundles, first_over, first_refused}
-use Rattle.prune.specs.InOrder.{IsBefore, IsInOrder}
-use Rattle.prune.specs.Internal.BestBids.{AreBestBids}
-use Rattle.prune.specs.Lemmas.OnBundles.{IsOnBundle}
-use Rattle.prune.specs.Lemmas.Lists.{Contains-head, Contains-tail, Contains-filter, Contains-filter_parts, All-from_Contains}
-use Rattle.prune.specs.Lemmas.KeptBids.{all_nonempty, on_bundles}
-use Rattle.prune.specs.Lemmas.Refusals.{first_over-refused, first_over-within}
+use Rattle.prune.specs.SearchSteps.{search_steps_by, first_over, first_refused}
 use Rattle.prune.proofs.Pruning.{HasRisingBundle, completion, later_not_below, not_below_itself, behind_next}
 use Rattle.prune.proofs.Results.{IsTurn, IsOrKept, turn_below, or_more, or_done, best_on, best_price}
-use Rattle.valuation.specs.Packings.{atoms_inside}
-use Rattle.prune.specs.Internal.Reaching.{steps_for}
 
 -- ---- the best bids are on the searched bundles
 

@@ -1,28 +1,13 @@
 -- What a pruning that is done has kept: the points, with the values of all bids. A turn on one more best bid keeps this of the bids
 -- so far, and in the end the best bids are done, which have the points and the values of all.
-use Rattle.std.proofs.Common.{rules, ◌≡◌, ℕ, ◌<◌, ◌≤◌, Bool, true, false, leb, ⊎_elim, List, [], ◌∷◌, ◌++◌, length, sym, ap, ◌∙◌, subst, arith, le_trans}
-use Rattle.std.proofs.Common.{le_antisymm}
-use Rattle.std.specs.Prelude.{All, Contains}
-use Rattle.std.specs.List.{filter}
-use Rattle.std.proofs.lemmas.Bool.{leb-true, leb-false}
-use Rattle.std.proofs.lemmas.List.Elements.{All-contains, All-weaker, Contains-append_left, Contains-append_right}
-use Rattle.goods_set.specs.Bundles.{IsBundle, is_inside, IsInside, without}
-use Rattle.goods_set.specs.Lemmas.Members.{inside_refl}
-use Rattle.valuation.specs.declared.atom.Atom.{Atom}
-use Rattle.valuation.specs.Values.{xor_value, or_value}
-use Rattle.valuation.specs.Lemmas.OrValues.{or_value-nil, or_value-rest, or_value-least, or_value-taken, or_value-price, or_value-filter_le}
-use Rattle.prune.specs.Points.{xor_points, or_points}
-use Rattle.prune.specs.Lemmas.OnBundles.{IsOnBundle}
-use Rattle.prune.specs.SearchSteps.{is_below, atoms_below, greatest_price}
-use Rattle.prune.specs.Lemmas.Lists.{zero_or_more, Contains-head, Contains-filter_parts, All-from_Contains, filter_same_on}
-use Rattle.valuation.specs.Auctions.{IsAtom}
-use Rattle.prune.specs.Internal.Listings.{ComesNext, IsBehind}
-use Rattle.prune.specs.InOrder.{IsBefore, IsInOrder}
-use Rattle.prune.specs.Lemmas.InOrder.{same_bundle_same_atom}
-use Rattle.prune.specs.Lemmas.Values.{xor_value-member, xor_value-bound, xor_value-dominated, or_value-dominated}
-use Rattle.prune.specs.Lemmas.KeptBids.{xor_kept_are_points, xor_points_same, or_kept_are_points, or_points_same}
-use Rattle.prune.specs.Lemmas.SearchSteps.{greatest_price-member, greatest_price-reached}
-use Rattle.prune.specs.Internal.BestBids.{AreBestBids}
+use Rattle.prune.proofs.Common.{rules, ◌≡◌, ℕ, ◌<◌, ◌≤◌, Bool, true, false, leb, ⊎_elim, List, [], ◌∷◌, ◌++◌, length, sym, ap, ◌∙◌, subst, arith, le_trans}
+use Rattle.prune.proofs.Common.{le_antisymm, All, Contains, filter, leb-true, leb-false, All-contains, All-weaker, Contains-append_left, Contains-append_right}
+use Rattle.prune.proofs.Common.{IsBundle, is_inside, IsInside, without, inside_refl, Atom, xor_value, or_value, or_value-nil, or_value-rest, or_value-least}
+use Rattle.prune.proofs.Common.{or_value-taken, or_value-price, or_value-filter_le, xor_points, or_points, IsOnBundle, is_below, atoms_below, greatest_price}
+use Rattle.prune.proofs.Common.{zero_or_more, Contains-head, Contains-filter_parts, All-from_Contains, filter_same_on, IsAtom, ComesNext, IsBehind, IsBefore}
+use Rattle.prune.proofs.Common.{IsInOrder, same_bundle_same_atom, xor_value-member, xor_value-bound, xor_value-dominated, or_value-dominated}
+use Rattle.prune.proofs.Common.{xor_kept_are_points, xor_points_same, or_kept_are_points, or_points_same, greatest_price-member, greatest_price-reached}
+use Rattle.prune.proofs.Common.{AreBestBids}
 use Rattle.prune.proofs.Pruning.{HasRisingBundle, IsKept, IsKept-reached, IsKept-missed, inside_below, before_next, rising_prefix}
 
 -- ---- values grow with the list

@@ -1,13 +1,6 @@
 -- The atom of the worked rows is listed rightly: its one good marks bit 96.
-use Rattle.std.proofs.Common.{rules, ◌≡◌, ℕ, ◌^◌, true, false, [], ◌∷◌, ⊎_elim, refl, sym, subst, arith}
-use Rattle.std.specs.Int.{bit_at}
-use Rattle.std.proofs.lemmas.Nat.Bits.{bit_at-pow_same, bit_at-pow_other}
-use Rattle.std.proofs.lemmas.Bool.{both_ways, cases_eq}
-use Rattle.goods_set.specs.Bundles.{has_good}
-use Rattle.prune.specs.Internal.Fingerprints.{AreMarks, mark_of}
-use Rattle.goods_set.specs.Lemmas.Members.{has_cases}
-use Rattle.valuation.specs.Examples.{atom}
-use Rattle.prune.specs.Internal.Listings.{IsPosting}
+use Rattle.prune.proofs.Common.{rules, ◌≡◌, ℕ, ◌^◌, true, false, [], ◌∷◌, ⊎_elim, refl, sym, subst, arith, bit_at, bit_at-pow_same, bit_at-pow_other, both_ways}
+use Rattle.prune.proofs.Common.{cases_eq, has_good, AreMarks, mark_of, has_cases, atom, IsPosting}
 
 has_bit : (good : ℕ) → has_good (0 ∷ []) good ≡ true → bit_at (2 ^ 96) (mark_of good) ≡ 1
 has_bit good has = search (rules, bit_at-pow_same, both_ways, has_cases)

@@ -1,10 +1,6 @@
 -- What is listed at a good, in vectors of postings that are read or written.
-use Rattle.std.proofs.Common.{rules, ◌≡◌, ℕ, zero, suc, ◌<◌, set, get_or-set_same, get_or-set_other, List, [], ◌∷◌, ◌++◌, length, get_or, refl, sym, ap, ◌∙◌}
-use Rattle.std.proofs.Common.{arith}
-use Rattle.std.specs.Global.{Vec}
-use Rattle.std.proofs.lemmas.List.{map-set, get_or-map, length-map}
-use Rattle.prune.specs.declared.subset_index.Posting.{Posting}
-use Rattle.prune.specs.Internal.Listings.{lists_of, listed_at}
+use Rattle.prune.proofs.Common.{rules, ◌≡◌, ℕ, zero, suc, ◌<◌, set, get_or-set_same, get_or-set_other, List, [], ◌∷◌, ◌++◌, length, get_or, refl, sym, ap, ◌∙◌}
+use Rattle.prune.proofs.Common.{arith, Vec, map-set, get_or-map, length-map, Posting, lists_of, listed_at}
 
 pub listed_there : (vectors : List (Vec Posting)) (good : ℕ) (v : Vec Posting) → good < length vectors → v ≡ get_or vectors good v
     → listed_at (lists_of vectors) good ≡ v.items

@@ -1,10 +1,7 @@
 -- `keep_best_bids`
-use Rattle.std.proofs.Common.{rules}
-use Rattle.std.proofs.lemmas.Fn.{filter_same, dedup_same, always_returns_same}
-use Rattle.std.proofs.lemmas.List.Sorted.{ranks_by, IsPermutation-trans}
+use Rattle.prune.proofs.Common.{rules, filter_same, dedup_same, always_returns_same, ranks_by, IsPermutation-trans, plain_atom}
 use Rattle.prune.proofs.BestBids.{is_bid_before, is_in_bundle, has_price, bid_cmp_total, best_from_steps}
 use Rattle.prune.proofs.best.keep_best_bids.Goals as goal
-use Rattle.valuation.specs.Values.{plain_atom}
 
 pub returns-clause-best : goal.returns-clause-best
 returns-clause-best g c =

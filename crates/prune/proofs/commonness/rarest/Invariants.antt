@@ -1,6 +1,5 @@
 -- `rarest`: the good chosen so far is one of them.
-use Rattle.std.proofs.Common.{◌≡◌, true}
-use Rattle.goods_set.specs.Bundles.{has_good}
+use Rattle.prune.proofs.Common.{◌≡◌, true, has_good}
 use Rattle.prune.proofs.commonness.rarest.Given as goal
 
 abbrev pub invariant-loop-good : goal.invariant-loop-good

@@ -1,5 +1,5 @@
 -- `fingerprint`
-use Rattle.std.proofs.Common.{rules}
+use Rattle.prune.proofs.Common.{rules}
 use Rattle.prune.proofs.Marks.{no_marks, marks_more}
 use Rattle.prune.proofs.fingerprints.fingerprint.Goals as goal
 

@@ -1,6 +1,5 @@
 -- `fingerprint`: the marks of the goods so far are set.
-use Rattle.std.proofs.Common.{take}
-use Rattle.prune.specs.Internal.Fingerprints.{AreMarks}
+use Rattle.prune.proofs.Common.{take, AreMarks}
 use Rattle.prune.proofs.fingerprints.fingerprint.Given as goal
 
 abbrev pub invariant-loop-good : goal.invariant-loop-good

@@ -1,5 +1,5 @@
 -- `may_be_subset`
-use Rattle.std.proofs.Common.{arith}
+use Rattle.prune.proofs.Common.{arith}
 use Rattle.prune.proofs.Marks.{may_be_subset}
 use Rattle.prune.proofs.fingerprints.may_be_subset.Goals as goal
 

@@ -1,5 +1,5 @@
 -- `fates_reach`
-use Rattle.prune.specs.Lemmas.Fates.{or_fate-reaches, xor_fate-reaches}
+use Rattle.prune.proofs.Common.{or_fate-reaches, xor_fate-reaches}
 use Rattle.prune.proofs.laws.fates_reach.Goals as goal
 
 pub returns-clause-or : goal.returns-clause-or

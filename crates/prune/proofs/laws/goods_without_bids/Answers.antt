@@ -1,7 +1,5 @@
 -- `goods_without_bids`
-use Rattle.std.proofs.Common.{rules}
-use Rattle.prune.specs.Lemmas.KeptBids.{on_bundles, xor_points_any_goods, or_points_any_goods}
-use Rattle.prune.specs.Lemmas.Refusals.{first_refused_any_goods, first_heavy_any_goods}
+use Rattle.prune.proofs.Common.{rules, on_bundles, xor_points_any_goods, or_points_any_goods, first_refused_any_goods, first_heavy_any_goods}
 use Rattle.prune.proofs.laws.goods_without_bids.Goals as goal
 
 pub returns : goal.returns

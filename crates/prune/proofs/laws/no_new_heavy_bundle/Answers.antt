@@ -1,7 +1,5 @@
 -- `no_new_heavy_bundle`
-use Rattle.std.proofs.Common.{rules}
-use Rattle.prune.specs.Lemmas.KeptBids.{on_bundles}
-use Rattle.prune.specs.Lemmas.SearchSteps.{search_steps-point, no_new_heavy}
+use Rattle.prune.proofs.Common.{rules, on_bundles, search_steps-point, no_new_heavy}
 use Rattle.prune.proofs.laws.no_new_heavy_bundle.Goals as goal
 
 pub returns : goal.returns

@@ -1,7 +1,5 @@
 -- `no_points_no_values`
-use Rattle.std.proofs.Common.{rules}
-use Rattle.prune.specs.Lemmas.KeptBids.{on_bundles}
-use Rattle.prune.specs.Lemmas.Tables.{no_xor_points, no_or_points}
+use Rattle.prune.proofs.Common.{rules, on_bundles, no_xor_points, no_or_points}
 use Rattle.prune.proofs.laws.no_points_no_values.Goals as goal
 
 pub returns : goal.returns

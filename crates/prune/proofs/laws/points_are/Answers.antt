@@ -1,5 +1,5 @@
 -- `points_are`
-use Rattle.prune.specs.Lemmas.Points.{xor_points_are, or_points_are}
+use Rattle.prune.proofs.Common.{xor_points_are, or_points_are}
 use Rattle.prune.proofs.laws.points_are.Goals as goal
 
 pub returns : goal.returns

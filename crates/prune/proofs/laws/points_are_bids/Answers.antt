@@ -1,6 +1,5 @@
 -- `points_are_bids`
-use Rattle.std.proofs.Common.{rules}
-use Rattle.prune.specs.Lemmas.KeptBids.{on_bundles, just_bundles, xor_points_are_atoms, or_points_are_atoms}
+use Rattle.prune.proofs.Common.{rules, on_bundles, just_bundles, xor_points_are_atoms, or_points_are_atoms}
 use Rattle.prune.proofs.laws.points_are_bids.Goals as goal
 
 pub returns : goal.returns

@@ -1,6 +1,5 @@
 -- `points_keep_values`
-use Rattle.std.proofs.Common.{rules}
-use Rattle.prune.specs.Lemmas.KeptBids.{on_bundles, just_bundles, xor_points_keep_values, or_points_keep_values}
+use Rattle.prune.proofs.Common.{rules, on_bundles, just_bundles, xor_points_keep_values, or_points_keep_values}
 use Rattle.prune.proofs.laws.points_keep_values.Goals as goal
 
 pub returns : goal.returns

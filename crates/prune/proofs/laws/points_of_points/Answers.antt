@@ -1,6 +1,5 @@
 -- `points_of_points`
-use Rattle.std.proofs.Common.{rules}
-use Rattle.prune.specs.Lemmas.KeptBids.{on_bundles, just_bundles, xor_points_again, or_points_again}
+use Rattle.prune.proofs.Common.{rules, on_bundles, just_bundles, xor_points_again, or_points_again}
 use Rattle.prune.proofs.laws.points_of_points.Goals as goal
 
 pub returns : goal.returns

@@ -1,5 +1,5 @@
 -- `refusals_are`
-use Rattle.prune.specs.Lemmas.Refusals.{none_refused, none_refused-from}
+use Rattle.prune.proofs.Common.{none_refused, none_refused-from}
 use Rattle.prune.proofs.laws.refusals_are.Goals as goal
 
 pub returns : goal.returns

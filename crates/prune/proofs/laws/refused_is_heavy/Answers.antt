@@ -1,5 +1,5 @@
 -- `refused_is_heavy`
-use Rattle.prune.specs.Lemmas.Refusals.{first_refused-plain}
+use Rattle.prune.proofs.Common.{first_refused-plain}
 use Rattle.prune.proofs.laws.refused_is_heavy.Goals as goal
 
 pub returns : goal.returns

@@ -1,7 +1,5 @@
 -- `same_tables_same_points`
-use Rattle.std.proofs.Common.{rules}
-use Rattle.prune.specs.Lemmas.KeptBids.{on_bundles}
-use Rattle.prune.specs.Lemmas.Tables.{same_xor_points, same_or_points}
+use Rattle.prune.proofs.Common.{rules, on_bundles, same_xor_points, same_or_points}
 use Rattle.prune.proofs.laws.same_tables_same_points.Goals as goal
 
 pub returns : goal.returns

@@ -1,5 +1,5 @@
 -- `same_values_same_points`
-use Rattle.prune.specs.Lemmas.KeptBids.{xor_points_same, or_points_same}
+use Rattle.prune.proofs.Common.{xor_points_same, or_points_same}
 use Rattle.prune.proofs.laws.same_values_same_points.Goals as goal
 
 pub returns : goal.returns

@@ -1,6 +1,5 @@
 -- `steps_are_bounded`
-use Rattle.prune.specs.Lemmas.KeptBids.{on_bundles}
-use Rattle.prune.specs.Lemmas.SearchSteps.{search_within_packings, search_within_bound}
+use Rattle.prune.proofs.Common.{on_bundles, search_within_packings, search_within_bound}
 use Rattle.prune.proofs.laws.steps_are_bounded.Goals as goal
 
 pub returns : goal.returns

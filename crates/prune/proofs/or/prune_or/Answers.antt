@@ -1,16 +1,7 @@
 -- `prune_or`: A plain pruning refuses at the first heavy bundle.
-use Rattle.std.proofs.Common.{◌≡◌, ◌<◌, ℕ, None, Some, sym, ◌∙◌, refl, subst}
-use Rattle.std.specs.Prelude.{All}
-use Rattle.std.proofs.lemmas.Result.{IfOk-weaker, IfErr-weaker}
-use Rattle.bid_file.specs.declared.limits.TheConstants.{MAX_GOODS}
-use Rattle.valuation.specs.Auctions.{IsAtom}
-use Rattle.valuation.specs.SearchLimits.{plain_options}
-use Rattle.valuation.specs.declared.search.options.SearchOptions.{SearchOptions}
-use Rattle.valuation.specs.Values.{atoms_of}
-use Rattle.prune.specs.Faults.{IfStepLimit}
-use Rattle.prune.specs.SearchSteps.{first_heavy, first_refused, steps_at_most}
-use Rattle.prune.specs.Lemmas.Refusals.{first_refused-plain, refused_load, step_limit_weaker}
-use Rattle.prune.specs.Lemmas.KeptBids.{on_bundles}
+use Rattle.prune.proofs.Common.{◌≡◌, ◌<◌, ℕ, None, Some, sym, ◌∙◌, refl, subst, All, IfOk-weaker, IfErr-weaker, MAX_GOODS, IsAtom, plain_options, SearchOptions}
+use Rattle.prune.proofs.Common.{atoms_of, IfStepLimit, first_heavy, first_refused, steps_at_most, first_refused-plain, refused_load, step_limit_weaker}
+use Rattle.prune.proofs.Common.{on_bundles}
 use Rattle.prune.proofs.or.prune_or.Goals as goal
 
 pub returns-clause-none_heavy : goal.returns-clause-none_heavy

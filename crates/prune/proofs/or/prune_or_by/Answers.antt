@@ -1,15 +1,8 @@
 -- `prune_or_by`: A turn of the loop keeps a bid exactly if the search does not reach its price, which is a turn of proofs/Results; a search that
 -- gives up has found a heavy bundle; and at the end the kept bids are the points.
-use Rattle.std.proofs.Common.{Err, ◌≡◌, ◌<◌, ◌≤◌, length, refl, sym, ap, ◌∙◌, subst, take, cond, [], ◌∷◌, ◌++◌, arith, append-nil, map, rules}
-use Rattle.std.proofs.lemmas.List.{get_or_read}
-use Rattle.bid_file.specs.declared.limits.TheConstants.{MAX_GOODS}
-use Rattle.valuation.specs.declared.search.options.SearchOptions.{SearchOptions}
-use Rattle.valuation.specs.Values.{atoms_of, or_value, plain_atom}
-use Rattle.valuation.specs.Lemmas.OrValues.{or_value-price, or_value-filter_le}
-use Rattle.prune.specs.Fates.{or_fate, plain_fate}
-use Rattle.prune.specs.Internal.Reaching.{IsFinderOf}
-use Rattle.prune.specs.Lemmas.KeptBids.{on_bundles}
-use Rattle.prune.specs.Points.{or_points}
+use Rattle.prune.proofs.Common.{Err, ◌≡◌, ◌<◌, ◌≤◌, length, refl, sym, ap, ◌∙◌, subst, take, cond, [], ◌∷◌, ◌++◌, arith, append-nil, map, rules, get_or_read}
+use Rattle.prune.proofs.Common.{MAX_GOODS, SearchOptions, atoms_of, or_value, plain_atom, or_value-price, or_value-filter_le, or_fate, plain_fate, IsFinderOf}
+use Rattle.prune.proofs.Common.{on_bundles, or_points}
 use Rattle.prune.proofs.NotedFates.{noted_all, or_noted_dropped, or_noted_kept}
 use Rattle.prune.proofs.Prefixes.{next_left}
 use Rattle.prune.proofs.Pruning.{IsKept-none}

@@ -1,9 +1,6 @@
 -- `prune_or_by`: from the next one on the best bids are as they were; what is kept of those before it, the prefix, is as it should be;
 -- what is left of the limits decides on those from it on; and what was noted is what becomes of those before it, by the prefix.
-use Rattle.std.proofs.Common.{◌≡◌, ◌≤◌, true, map, drop, take}
-use Rattle.valuation.specs.Values.{atoms_of}
-use Rattle.prune.specs.Fates.{or_fate, plain_fate}
-use Rattle.prune.specs.Internal.Reaching.{IsFinderOf}
+use Rattle.prune.proofs.Common.{◌≡◌, ◌≤◌, true, map, drop, take, atoms_of, or_fate, plain_fate, IsFinderOf}
 use Rattle.prune.proofs.Prefixes.{IsLeft}
 use Rattle.prune.proofs.Refusals.{IsWithin}
 use Rattle.prune.proofs.Results.{IsOrKept}

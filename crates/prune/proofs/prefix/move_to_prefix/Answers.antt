@@ -1,6 +1,5 @@
 -- `move_to_prefix`
-use Rattle.std.proofs.Common.{rules, ◌+◌, ◌++◌, ◌∷◌, [], get_or, take, drop, ap, ◌∙◌, arith}
-use Rattle.std.proofs.lemmas.List.{take_more}
+use Rattle.prune.proofs.Common.{rules, ◌+◌, ◌++◌, ◌∷◌, [], get_or, take, drop, ap, ◌∙◌, arith, take_more}
 use Rattle.prune.proofs.Prefixes.{swap-prefix, swap-rest}
 use Rattle.prune.proofs.prefix.move_to_prefix.Goals as goal
 

@@ -1,6 +1,5 @@
 -- `put_in_order`
-use Rattle.std.proofs.Common.{◌<◌, length, ◌∙◌, arith}
-use Rattle.std.proofs.lemmas.List.Sorted.{IsPermutation-swap, IsPermutation-trans}
+use Rattle.prune.proofs.Common.{◌<◌, length, ◌∙◌, arith, IsPermutation-swap, IsPermutation-trans}
 use Rattle.prune.proofs.sorting.put_in_order.Goals as goal
 use Rattle.prune.proofs.sorting.put_in_order.Goals.{then-to-from+then-from-len, else-to-from}
 

@@ -1,6 +1,5 @@
 -- `put_in_order`
-use Rattle.std.proofs.Common.{◌≡◌, vec_len}
-use Rattle.std.specs.Prelude.{IsPermutation}
+use Rattle.prune.proofs.Common.{◌≡◌, vec_len, IsPermutation}
 use Rattle.prune.proofs.sorting.put_in_order.Given as goal
 
 abbrev pub invariant-loop-to : goal.invariant-loop-to

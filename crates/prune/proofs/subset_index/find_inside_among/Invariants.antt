@@ -1,8 +1,5 @@
 -- `find_inside_among`
-use Rattle.std.proofs.Common.{◌≡◌, ◌++◌, take}
-use Rattle.std.specs.List.{filter}
-use Rattle.valuation.specs.Values.{atoms_of}
-use Rattle.prune.specs.Internal.Listings.{indices_of, is_inside_at}
+use Rattle.prune.proofs.Common.{◌≡◌, ◌++◌, take, filter, atoms_of, indices_of, is_inside_at}
 use Rattle.prune.proofs.subset_index.find_inside_among.Given as goal
 
 abbrev pub invariant-loop-posting : goal.invariant-loop-posting

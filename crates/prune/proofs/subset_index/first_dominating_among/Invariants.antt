@@ -1,7 +1,5 @@
 -- `first_dominating_among`
-use Rattle.std.proofs.Common.{length}
-use Rattle.valuation.specs.Values.{atoms_of}
-use Rattle.prune.specs.Internal.Listings.{indices_of, dominates_at}
+use Rattle.prune.proofs.Common.{length, atoms_of, indices_of, dominates_at}
 use Rattle.prune.proofs.FirstDominating.{NonePass}
 use Rattle.prune.proofs.subset_index.first_dominating_among.Given as goal
 

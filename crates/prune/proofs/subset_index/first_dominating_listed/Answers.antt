@@ -1,12 +1,6 @@
 -- `first_dominating_listed`: the first so far is that of the goods so far: see proofs/FirstDominating.
-use Rattle.std.proofs.Common.{rules, ◌≡◌, ◌<◌, ℕ, List, get_or, length, sym, subst, take, arith, true, false}
-use Rattle.std.specs.Prelude.{All}
-use Rattle.std.proofs.lemmas.List.{length-take-le, take-map}
-use Rattle.valuation.specs.declared.atom.Atom.{Atom}
-use Rattle.valuation.specs.Lemmas.Atoms.{length-atoms_of}
-use Rattle.valuation.specs.Values.{atoms_of, plain_atom}
-use Rattle.prune.specs.declared.subset_index.Posting.{Posting}
-use Rattle.prune.specs.Internal.Listings.{lists_of, indices_of, indices_at, dominates_at}
+use Rattle.prune.proofs.Common.{rules, ◌≡◌, ◌<◌, ℕ, List, get_or, length, sym, subst, take, arith, true, false, All, length-take-le, take-map, Atom}
+use Rattle.prune.proofs.Common.{length-atoms_of, atoms_of, plain_atom, Posting, lists_of, indices_of, indices_at, dominates_at}
 use Rattle.prune.proofs.ListedAtoms.{next_there, none_there, behind_next}
 use Rattle.prune.proofs.FirstDominating.{IsFirstSoFar-all, IsFirstSoFar-more, IsFirstSoFar-some, postings_before}
 use Rattle.prune.proofs.subset_index.first_dominating_listed.Goals as goal

@@ -1,6 +1,5 @@
 -- `first_dominating_listed`
-use Rattle.valuation.specs.Values.{atoms_of}
-use Rattle.prune.specs.Internal.Listings.{lists_of}
+use Rattle.prune.proofs.Common.{atoms_of, lists_of}
 use Rattle.prune.proofs.FirstDominating.{IsFirstSoFar}
 use Rattle.prune.proofs.ListedAtoms.{behind_first}
 use Rattle.prune.proofs.subset_index.first_dominating_listed.Given as goal

@@ -1,12 +1,6 @@
 -- `is_dominating`
-use Rattle.std.proofs.Common.{rules, ◌&&◌, ℕ, List, leb, [], sym, ap, ◌∙◌, arith}
-use Rattle.std.proofs.lemmas.Bool.{both_ways, false_from_ne_true, and_left, le-leb, lt-leb}
-use Rattle.goods_set.specs.Bundles.{is_inside}
-use Rattle.valuation.specs.declared.atom.Atom.{Atom}
-use Rattle.valuation.specs.Values.{atoms_of}
-use Rattle.valuation.specs.Lemmas.Atoms.{get_or-atoms_of, length-atoms_of}
-use Rattle.prune.specs.Internal.Listings.{is_inside_at}
-use Rattle.valuation.specs.Packings.{atom_at}
+use Rattle.prune.proofs.Common.{rules, ◌&&◌, ℕ, List, leb, [], sym, ap, ◌∙◌, arith, both_ways, false_from_ne_true, and_left, le-leb, lt-leb, is_inside, Atom}
+use Rattle.prune.proofs.Common.{atoms_of, get_or-atoms_of, length-atoms_of, is_inside_at, atom_at}
 use Rattle.prune.proofs.ListedAtoms.{not_inside}
 use Rattle.prune.proofs.subset_index.is_dominating.Goals as goal
 

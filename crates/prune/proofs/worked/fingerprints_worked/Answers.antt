@@ -1,9 +1,5 @@
 -- `fingerprints_worked`: good 5 marks bit 5, which is 32.
-use Rattle.std.proofs.Common.{rules, ◌≡◌, true, false, [], ⊎_elim, refl, arith, ap, ◌∙◌}
-use Rattle.std.proofs.lemmas.Bool.{both_ways}
-use Rattle.goods_set.specs.Bundles.{has_good}
-use Rattle.prune.specs.Internal.Fingerprints.{mark_of}
-use Rattle.goods_set.specs.Lemmas.Members.{has_cases}
+use Rattle.prune.proofs.Common.{rules, ◌≡◌, true, false, [], ⊎_elim, refl, arith, ap, ◌∙◌, both_ways, has_good, mark_of, has_cases}
 use Rattle.prune.proofs.Marks.{no_marks, one_more}
 use Rattle.prune.proofs.worked.fingerprints_worked.Goals as goal
 

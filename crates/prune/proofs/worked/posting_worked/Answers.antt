@@ -1,6 +1,5 @@
 -- `posting_worked`
-use Rattle.std.proofs.Common.{refl, arith}
-use Rattle.std.proofs.lemmas.Nat.Bits.{bit_at-zero}
+use Rattle.prune.proofs.Common.{refl, arith, bit_at-zero}
 use Rattle.prune.proofs.WorkedPostings.{listed_rightly}
 use Rattle.prune.proofs.worked.posting_worked.Goals as goal
 

@@ -1,8 +1,5 @@
 -- `postings_worked`: the atom is listed at a good at which none was before.
-use Rattle.std.proofs.Common.{rules, ◌≡◌, ℕ, ◌^◌, zero, suc, refl, arith, [], ◌∷◌}
-use Rattle.valuation.specs.Examples.{atom}
-use Rattle.prune.specs.declared.subset_index.Posting.{Posting}
-use Rattle.prune.specs.Internal.Listings.{listed_at, AreListed}
+use Rattle.prune.proofs.Common.{rules, ◌≡◌, ℕ, ◌^◌, zero, suc, refl, arith, [], ◌∷◌, atom, Posting, listed_at, AreListed}
 use Rattle.prune.proofs.ListedAtoms.{AreListed-more}
 use Rattle.prune.proofs.WorkedPostings.{listed_rightly}
 use Rattle.prune.proofs.worked.postings_worked.Goals as goal

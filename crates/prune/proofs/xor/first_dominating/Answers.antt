@@ -1,11 +1,6 @@
 -- `first_dominating`: none of the atoms before dominates the bid: one that does is the first, and else there is none.
-use Rattle.std.proofs.lemmas.Grind.{common_steps}
-use Rattle.std.proofs.Common.{◌≡◌, ◌<◌, ◌≤◌, false, length, sym, ap, ◌∙◌, ⊎_elim, true, arith}
-use Rattle.std.proofs.lemmas.Bool.{cases_lt}
-use Rattle.valuation.specs.Lemmas.Atoms.{get_or-atoms_of, length-atoms_of}
-use Rattle.valuation.specs.Values.{atoms_of}
-use Rattle.prune.specs.Internal.Listings.{dominates, dominates_at}
-use Rattle.prune.specs.Lemmas.Ranges.{first_in_range, none_in_range}
+use Rattle.prune.proofs.Common.{common_steps, ◌≡◌, ◌<◌, ◌≤◌, false, length, sym, ap, ◌∙◌, ⊎_elim, true, arith, cases_lt, get_or-atoms_of, length-atoms_of}
+use Rattle.prune.proofs.Common.{atoms_of, dominates, dominates_at, first_in_range, none_in_range}
 use Rattle.prune.proofs.xor.first_dominating.Goals as goal
 
 pub returns-then-is_dominated_by : goal.returns-then-is_dominated_by

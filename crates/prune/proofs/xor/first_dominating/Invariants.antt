@@ -1,7 +1,5 @@
 -- `first_dominating`: none of the atoms so far dominates the bid.
-use Rattle.std.proofs.Common.{◌≡◌, ℕ, ◌<◌, false}
-use Rattle.valuation.specs.Values.{atoms_of}
-use Rattle.prune.specs.Internal.Listings.{dominates_at}
+use Rattle.prune.proofs.Common.{◌≡◌, ℕ, ◌<◌, false, atoms_of, dominates_at}
 use Rattle.prune.proofs.xor.first_dominating.Given as goal
 
 abbrev pub invariant-loop-index : goal.invariant-loop-index

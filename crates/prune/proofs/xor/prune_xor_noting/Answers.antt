@@ -1,15 +1,9 @@
 -- `prune_xor_noting`
 -- A turn of the loop keeps a bid exactly if no kept bid inside its bundle dominates it, which is a turn of proofs/Results; and at the
 -- end the kept bids are the points.
-use Rattle.std.proofs.Common.{◌<◌, ◌≤◌, cond, [], ◌∷◌, ◌++◌, append-nil, length, refl, sym, ◌∙◌, subst, take, arith, rules, ap}
-use Rattle.bid_file.specs.declared.limits.TheConstants.{MAX_GOODS}
-use Rattle.valuation.specs.Values.{atoms_of, plain_atom}
-use Rattle.prune.specs.Internal.Listings.{IsIndexOf}
-use Rattle.prune.specs.Lemmas.KeptBids.{on_bundles, just_bundles}
+use Rattle.prune.proofs.Common.{◌<◌, ◌≤◌, cond, [], ◌∷◌, ◌++◌, append-nil, length, refl, sym, ◌∙◌, subst, take, arith, rules, ap, MAX_GOODS, atoms_of}
+use Rattle.prune.proofs.Common.{plain_atom, IsIndexOf, on_bundles, just_bundles, is_some, IfSome, xor_points, xor_fate}
 use Rattle.prune.proofs.Prefixes.{next_left}
-use Rattle.std.specs.Prelude.{is_some, IfSome}
-use Rattle.prune.specs.Points.{xor_points}
-use Rattle.prune.specs.Fates.{xor_fate}
 use Rattle.prune.proofs.NotedFates.{noted_all, xor_noted_dropped, xor_noted_kept}
 use Rattle.prune.proofs.FirstDominating.{is_some-first_dominating}
 use Rattle.prune.proofs.PruningLoop.{next_turn, one_done, one_kept, xor_end, dominates_is}

@@ -1,10 +1,6 @@
 -- `prune_xor_noting`: from the next one on the best bids are as they were; what is kept of those before it, the prefix, is as it should be;
 -- and what was noted is what becomes of them, by the prefix.
-use Rattle.std.proofs.Common.{◌≡◌, ◌≤◌, true, map, take}
-use Rattle.std.specs.Prelude.{IfSome}
-use Rattle.valuation.specs.Values.{atoms_of}
-use Rattle.prune.specs.Fates.{xor_fate}
-use Rattle.prune.specs.Internal.Listings.{IsIndexOf}
+use Rattle.prune.proofs.Common.{◌≡◌, ◌≤◌, true, map, take, IfSome, atoms_of, xor_fate, IsIndexOf}
 use Rattle.prune.proofs.Prefixes.{IsLeft}
 use Rattle.prune.proofs.Results.{IsXorKept}
 use Rattle.prune.proofs.xor.prune_xor_noting.Given as goal

@@ -1,8 +1,5 @@
 -- `SubsetIndex::decide`
-use Rattle.std.proofs.Common.{sym, ap, ◌∙◌}
-use Rattle.goods_set.specs.Bundles.{has_good}
-use Rattle.valuation.specs.Values.{atoms_of, plain_atom}
-use Rattle.prune.specs.Internal.Listings.{lists_of}
+use Rattle.prune.proofs.Common.{sym, ap, ◌∙◌, has_good, atoms_of, plain_atom, lists_of}
 use Rattle.prune.proofs.ListedAtoms.{AreGoodsOf-push, AreListed-push}
 use Rattle.prune.proofs.subset_index.SubsetIndex.decide.Goals as goal
 

@@ -1,12 +1,7 @@
 -- `SubsetIndex::find_inside`
-use Rattle.std.proofs.Common.{sym, ap, ◌∙◌, ◌++◌, List, get_or}
-use Rattle.std.specs.List.{filter}
-use Rattle.std.specs.Global.{Vec}
-use Rattle.valuation.specs.Values.{atoms_of}
-use Rattle.prune.specs.Internal.Listings.{lists_of, listed_at, indices_of, is_inside_at}
+use Rattle.prune.proofs.Common.{sym, ap, ◌∙◌, ◌++◌, List, get_or, filter, Vec, atoms_of, lists_of, listed_at, indices_of, is_inside_at, Posting}
 use Rattle.prune.proofs.ListedAtoms.{next_there, none_there, behind_next, postings_right, IsFinding-more, IsFinding-all}
 use Rattle.prune.proofs.subset_index.SubsetIndex.find_inside.Goals as goal
-use Rattle.prune.specs.declared.subset_index.Posting.{Posting}
 
 pub find_inside_among-requires-clause-listed : goal.find_inside_among-requires-clause-listed
 find_inside_among-requires-clause-listed g c =

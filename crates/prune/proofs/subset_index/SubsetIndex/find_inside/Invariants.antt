@@ -1,6 +1,5 @@
 -- `SubsetIndex::find_inside`
-use Rattle.valuation.specs.Values.{atoms_of}
-use Rattle.prune.specs.Internal.Listings.{lists_of}
+use Rattle.prune.proofs.Common.{atoms_of, lists_of}
 use Rattle.prune.proofs.ListedAtoms.{IsFinding, behind_first}
 use Rattle.prune.proofs.subset_index.SubsetIndex.find_inside.Given as goal
 

@@ -1,6 +1,5 @@
 -- `SubsetIndex::is_next_smaller`
-use Rattle.std.proofs.lemmas.Grind.{common_steps}
-use Rattle.std.proofs.Common.{arith}
+use Rattle.prune.proofs.Common.{common_steps, arith}
 use Rattle.prune.proofs.subset_index.SubsetIndex.is_next_smaller.Goals as goal
 
 pub returns-in-Some-clause-larger : goal.returns-in-Some-clause-larger

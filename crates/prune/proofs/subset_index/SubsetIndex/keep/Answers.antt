@@ -1,7 +1,5 @@
 -- `SubsetIndex::keep`
-use Rattle.std.proofs.Common.{ap, ◌∙◌}
-use Rattle.goods_set.specs.Bundles.{has_good}
-use Rattle.prune.specs.Internal.Listings.{lists_of}
+use Rattle.prune.proofs.Common.{ap, ◌∙◌, has_good, lists_of}
 use Rattle.prune.proofs.ListedAtoms.{AreGoodsOf-push, AreListed-push}
 use Rattle.prune.proofs.subset_index.SubsetIndex.keep.Goals as goal
 

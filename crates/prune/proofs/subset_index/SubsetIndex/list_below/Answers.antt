@@ -1,9 +1,7 @@
 -- `SubsetIndex::list_below`
-use Rattle.std.proofs.Common.{arith}
-use Rattle.valuation.specs.Values.{atoms_of}
+use Rattle.prune.proofs.Common.{arith, atoms_of, length-atoms_of}
 use Rattle.prune.proofs.ListedAtoms.{none_inside}
 use Rattle.prune.proofs.PruningLoop.{all_rising}
-use Rattle.valuation.specs.Lemmas.Atoms.{length-atoms_of}
 use Rattle.prune.proofs.subset_index.SubsetIndex.list_below.Goals as goal
 
 pub returns-clause-listed : goal.returns-clause-listed

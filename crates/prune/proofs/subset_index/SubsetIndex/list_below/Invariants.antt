@@ -1,7 +1,5 @@
 -- `SubsetIndex::list_below`: so many atoms are listed.
-use Rattle.std.proofs.Common.{◌-◌, length}
-use Rattle.valuation.specs.Values.{atoms_of}
-use Rattle.prune.specs.Internal.Listings.{IsIndexOf}
+use Rattle.prune.proofs.Common.{◌-◌, length, atoms_of, IsIndexOf}
 use Rattle.prune.proofs.subset_index.SubsetIndex.list_below.Given as goal
 
 abbrev pub invariant-loop-self : goal.invariant-loop-self

@@ -1,14 +1,6 @@
 -- `SubsetIndex::list_next`
-use Rattle.std.proofs.Common.{rules, arith, refl, ◌≡◌, ◌++◌, ◌<◌, ℕ, length, get_or, sym, ap, ◌∙◌, subst, set, List, [], ◌∷◌, true}
-use Rattle.std.proofs.lemmas.Grind.{get_or_default_zero}
-use Rattle.goods_set.specs.Bundles.{has_good}
-use Rattle.prune.specs.Internal.Fingerprints.{AreMarks}
-use Rattle.valuation.specs.Values.{atoms_of, plain_atom}
-use Rattle.valuation.specs.Lemmas.Atoms.{length-atoms_of, get_or-atoms_of}
-use Rattle.valuation.specs.declared.atom.Atom.{Atom}
-use Rattle.prune.specs.declared.subset_index.Posting.{Posting}
-use Rattle.std.specs.Global.{Vec}
-use Rattle.prune.specs.Internal.Listings.{lists_of, listed_at, AreGoodsOf}
+use Rattle.prune.proofs.Common.{rules, arith, refl, ◌≡◌, ◌++◌, ◌<◌, ℕ, length, get_or, sym, ap, ◌∙◌, subst, set, List, [], ◌∷◌, true, get_or_default_zero}
+use Rattle.prune.proofs.Common.{has_good, AreMarks, atoms_of, plain_atom, length-atoms_of, get_or-atoms_of, Atom, Posting, Vec, lists_of, listed_at, AreGoodsOf}
 use Rattle.prune.proofs.ListedAtoms.{AreListed-more, bundle_there}
 use Rattle.prune.proofs.WrittenPostings.{listed-set_same, listed-set_other, listed-pushed, listed_there}
 use Rattle.prune.proofs.subset_index.SubsetIndex.list_next.Goals as goal

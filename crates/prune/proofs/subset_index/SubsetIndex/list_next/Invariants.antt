@@ -1,6 +1,5 @@
 -- `SubsetIndex::list_next`: the lists that are added are empty.
-use Rattle.std.proofs.Common.{◌≡◌, ℕ, ◌+◌, ◌-◌, vec_len}
-use Rattle.prune.specs.Internal.Listings.{lists_of, listed_at}
+use Rattle.prune.proofs.Common.{◌≡◌, ℕ, ◌+◌, ◌-◌, vec_len, lists_of, listed_at}
 use Rattle.prune.proofs.subset_index.SubsetIndex.list_next.Given as goal
 
 abbrev pub invariant-loop-self : goal.invariant-loop-self
