@@ -88,8 +88,7 @@ module _ {F W E : Type 0} (may_open : List ℕ → F → Type 0) (may_refuse : L
 
   module _ (path : List ℕ) (prices : Prices) (command : PlainCommand) (err_after : Watched E) where
     abbrev RunsOnNumbers : List ℕ → Result ℕ RunFault → Type 0
-    RunsOnNumbers numbers answer =
-        RunsAt may_open remaining contents messages path prices (outcome_for command numbers) out out_after err err_after answer
+    RunsOnNumbers numbers answer = RunsAt may_open remaining contents messages path prices (outcome_for command numbers) out out_after err err_after answer
 
     kept_at : (numbers : List ℕ) (answer : Result ℕ RunFault) → RunsOnNumbers numbers answer → Kept prices err_after answer
     kept_at numbers (Err fault) ran =
@@ -105,8 +104,7 @@ module _ {F W E : Type 0} (may_open : List ℕ → F → Type 0) (may_refuse : L
         )
 
     -- it runs on the bids that are named, or on none
-    kept_on : (named : Option PlainBids) (answer : Result ℕ RunFault)
-        → RunsOnBids may_open may_refuse remaining messages
+    kept_on : (named : Option PlainBids) (answer : Result ℕ RunFault) → RunsOnBids may_open may_refuse remaining messages
         (λ numbers out out_after err err_after answer. RunsAt may_open remaining contents messages path prices (outcome_for command numbers) out out_after err
         err_after answer) named out out_after err err_after answer → Kept prices err_after answer
     kept_on None answer ran = kept_at [] answer ran
@@ -189,8 +187,7 @@ module _ {F W E : Type 0} (may_open : List ℕ → F → Type 0) (may_refuse : L
     Answered = AnswersRequest may_open may_refuse remaining contents messages terminal may_find request out out_after err err_after status
 
     -- a status but 0, 1 and 5 says that nothing was written, unless a fault was found
-    pub silent_answer : Answered → is_for_many_files request ≡ false → has_found status request ≡ false → status ≢ 0 → status ≢ 1 → status ≢ 5
-        → out_after ≡ out
+    pub silent_answer : Answered → is_for_many_files request ≡ false → has_found status request ≡ false → status ≢ 0 → status ≢ 1 → status ≢ 5 → out_after ≡ out
     silent_answer (inl ran) few none a b c =
         ⊎_elim (λ (most : status ≤ 1). absurd (omega (arith, most, a, b))) (λ (silent : out_after ≡ out). silent)
         ((kept_for request err_after (Ok status) ran).0 few none)

@@ -66,8 +66,7 @@ pub run_more : (bytes : List ℕ) (run : ℕ) → escaped bytes ≡ take run byt
 run_more bytes run so_far more some =
     let rest = drop run bytes in
     let n = plain_length rest in
-    so_far ∙ ap (λ (t : List ℕ). take run bytes ++ t) (plain_first rest more some)
-    ∙ sym (append_assoc (take run bytes) (take n rest) (escaped (drop n rest)))
+    so_far ∙ ap (λ (t : List ℕ). take run bytes ++ t) (plain_first rest more some) ∙ sym (append_assoc (take run bytes) (take n rest) (escaped (drop n rest)))
     ∙ ap₂ (λ (t u : List ℕ). t ++ escaped u) (sym (take-add run n bytes)) (drop-drop n run bytes)
 
 pub run_within : (bytes : List ℕ) (run : ℕ) → run ≤ length bytes → run + plain_length (drop run bytes) ≤ length bytes

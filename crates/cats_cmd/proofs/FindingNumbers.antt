@@ -15,8 +15,7 @@ module _ (text_of : PlainFile → List ℕ) (Related : PlainFile → PlainFile �
       → KeepsNumbers text_of Related (paths ++ path ∷ []) (files ++ file ∷ []) new (found_paths longer)
   numbers_more tells old new found longer path copy file number is facts added put paths files h =
       let more_paths : found_paths longer ≡ found_paths found ++ (path, number) ∷ [] = ap found_paths put
-      ∙ map-append (λ (f : Vec ℕ Global × ℕ). (f.0.items, f.1)) found ((copy, number) ∷ [])
-      ∙ ap (λ (p : List ℕ). found_paths found ++ (p, number) ∷ []) is in
+      ∙ map-append (λ (f : Vec ℕ Global × ℕ). (f.0.items, f.1)) found ((copy, number) ∷ []) ∙ ap (λ (p : List ℕ). found_paths found ++ (p, number) ∷ []) is in
       rw more_paths (record {
         is_index = index_of_more text_of old new number files file facts h.is_index added;
         finds = record {
@@ -53,8 +52,7 @@ module _ (text_of : PlainFile → List ℕ) (Related : PlainFile → PlainFile �
 
     -- it has none
     pub judgement_skipped : files_if j ≡ [] → paths_if path j ≡ [] → Keeps js → Keeps (js ++ (path, j) ∷ [])
-    judgement_skipped no_file no_path h =
-        judgement_more (rw (no_path, no_file, append-nil (paths_of js), append-nil (files_of js)) h)
+    judgement_skipped no_file no_path h = judgement_more (rw (no_path, no_file, append-nil (paths_of js), append-nil (files_of js)) h)
 
 -- ---- what was found
 

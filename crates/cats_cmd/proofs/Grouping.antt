@@ -28,8 +28,7 @@ module _ (found : List Found) (i : ℕ) (b : Found) (l : i < length found) (here
   more : (k : ℕ) → paths_at (take (i + 1) found) k ≡ paths_at (take i found) k ++ map (λ f. f.0) (cond (b.1 == k) (b ∷ []) [])
   more k =
       ap (map (λ f. f.0)) (filter_more (λ f. f.1 == k) found i b l ∙ ap (λ (c : Found). filter (λ f. f.1 == k) (take i found) ++ cond (c.1 == k) (c ∷ []) [])
-      here)
-      ∙ map-append (λ f. f.0) (filter (λ f. f.1 == k) (take i found)) (cond (b.1 == k) (b ∷ []) [])
+      here) ∙ map-append (λ f. f.0) (filter (λ f. f.1 == k) (take i found)) (cond (b.1 == k) (b ∷ []) [])
 
   put : paths_at (take (i + 1) found) b.1 ≡ paths_at (take i found) b.1 ++ b.0 ∷ []
   put = rw (more b.1, eq-eqb b.1 b.1 refl) refl
@@ -51,8 +50,7 @@ module _ (found : List Found) (i : ℕ) (b : Found) (l : i < length found) (here
 
   pub put_path : (groups changed : List Group) (old new : Group) (path : Bor (List ℕ)) (n : ℕ) → path.now ≡ b.0 → b.1 < n
       → plain_groups groups ≡ map (paths_at (take i found)) (range_with_len 0 n) → old ≡ get_or groups b.1 old → new.items ≡ old.items ++ path ∷ []
-      → changed ≡ set groups b.1 new
-      → plain_groups changed ≡ map (paths_at (take (i + 1) found)) (range_with_len 0 n)
+      → changed ≡ set groups b.1 new → plain_groups changed ≡ map (paths_at (take (i + 1) found)) (range_with_len 0 n)
   put_path groups changed old new path n p m h is e c =
       let long = length-plain_groups groups (take i found) n h in
       let before : plain_group old ≡ paths_at (take i found) b.1 =
@@ -124,15 +122,13 @@ module _ (ending : Ending) (all : Bool) where
   printed_behind printed (paths ∷ groups) h = printed_next printed paths groups h (λ more k. printed_behind more groups k)
 
   -- one more group behind a text
-  pub group_printed : (start : List ℕ) (groups : List Group) (i : ℕ) (group : Group) (before after : List ℕ) → i < length groups
-      → group ≡ get_or groups i group
+  pub group_printed : (start : List ℕ) (groups : List Group) (i : ℕ) (group : Group) (before after : List ℕ) → i < length groups → group ≡ get_or groups i group
       → before ≡ fold (with_group ending all) start (plain_groups (take i groups)) → after ≡ with_group ending all before (plain_group group)
       → after ≡ fold (with_group ending all) start (plain_groups (take (i + 1) groups))
   group_printed start groups i group before after l e b a =
       a ∙ ap (λ (text : List ℕ). with_group ending all text (plain_group group)) b
       ∙ sym (ap (λ (gs : List Group). fold (with_group ending all) start (plain_groups gs)) (take_more groups i group l
-      ∙ ap (λ (g : Group). take i groups ++ g ∷ []) (sym e))
-      ∙ ap (fold (with_group ending all) start) (map-append plain_group (take i groups) (group ∷ []))
+      ∙ ap (λ (g : Group). take i groups ++ g ∷ []) (sym e)) ∙ ap (fold (with_group ending all) start) (map-append plain_group (take i groups) (group ∷ []))
       ∙ fold_push (with_group ending all) start (plain_groups (take i groups)) (plain_group group))
 
 -- the groups of the judged files, and behind them those of the others

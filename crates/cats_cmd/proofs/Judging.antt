@@ -25,8 +25,7 @@ module _ {I : Type 0} (gives : I → I → PlainFile → Type 0) (refuses : I �
   judged_by_kind why kind is no_line refused = (refl, ((λ memory. cc), refused))
 
   -- no file was given. Want of memory is on no line
-  pub judged_unread : (why : ReadFault) → (why.kind ≡ NoMemory → why.line ≡ 0) → refuses old new why
-      → Judged (IsUnjudged (Run (Refused Only (refusal_of why))))
+  pub judged_unread : (why : ReadFault) → (why.kind ≡ NoMemory → why.line ≡ 0) → refuses old new why → Judged (IsUnjudged (Run (Refused Only (refusal_of why))))
   judged_unread why no_line refused = judged_by_kind why why.kind refl no_line refused
 
   module _ (file : PlainFile) (given : gives old new file) where

@@ -48,5 +48,4 @@ module _ {S H : Type 0} (content_of : S → H) (opened : S → Option (List (Lis
 
 module _ {S H : Type 0} (content_of : S → H) (opened : S → Option (List (List ℕ))) where
   pub opens_broken : (source : S) (path : List ℕ) → (IsUtf8 path → ⊥) → Opens content_of opened source source (openable (path ∷ []))
-  opens_broken source path broken =
-      rw (false_from_ne_true (is_utf8 path) (λ e. broken (IsUtf8-from_is_utf8 path e))) (opens_none content_of opened source)
+  opens_broken source path broken = rw (false_from_ne_true (is_utf8 path) (λ e. broken (IsUtf8-from_is_utf8 path e))) (opens_none content_of opened source)

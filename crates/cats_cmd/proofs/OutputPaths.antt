@@ -87,8 +87,7 @@ module _ (ending : Ending) where
   after_lacks groups are =
       rw list_all-flat_map (list_all-weaker (list_all is_path) (λ paths. list_all (lacks (end_byte ending)) ([] ∷ map line paths)) group_lacks groups are)
 
-  groups_lack : (groups : List (List (List ℕ))) → list_all (list_all is_path) groups ≡ true
-      → list_all (lacks (end_byte ending)) (lines_of_groups groups) ≡ true
+  groups_lack : (groups : List (List (List ℕ))) → list_all (list_all is_path) groups ≡ true → list_all (lacks (end_byte ending)) (lines_of_groups groups) ≡ true
   groups_lack [] are = refl
   groups_lack (paths ∷ groups) are =
       let both = and_parts (list_all is_path paths) (list_all (list_all is_path) groups) are in
@@ -104,8 +103,7 @@ module _ (ending : Ending) where
   -- the lines are cut at the empty ones
   lines_cut : (paths : List (List ℕ)) (groups : List (List (List ℕ))) → list_all is_path paths ≡ true → list_all (list_all is_path) groups ≡ true
       → slice_split is_empty (map line paths ++ lines_after groups) ≡ map line paths ∷ map (map line) groups
-  lines_cut paths [] are more =
-      ap (slice_split is_empty) (append-nil (map line paths)) ∙ slice_split_none is_empty (map line paths) (group_some paths are)
+  lines_cut paths [] are more = ap (slice_split is_empty) (append-nil (map line paths)) ∙ slice_split_none is_empty (map line paths) (group_some paths are)
   lines_cut paths (next ∷ groups) are more =
       let both = and_parts (list_all is_path next) (list_all (list_all is_path) groups) more in
       slice_split_at is_empty (map line paths) [] (map line next ++ lines_after groups) (group_some paths are) refl
@@ -146,8 +144,7 @@ words_of j = map (λ c. c.1 j) columns
 pub words_plain : (j : Judgement) → list_all (list_all is_ascii) (words_of j) ≡ true
 words_plain j = simp (number_plain, fault_plain)
 
-cells_lack : (end : ℕ) → end < 32 → not (9 == end) ≡ true → (words : List (List ℕ)) → list_all (list_all is_ascii) words ≡ true
-    → lacks end (cells words) ≡ true
+cells_lack : (end : ℕ) → end < 32 → not (9 == end) ≡ true → (words : List (List ℕ)) → list_all (list_all is_ascii) words ≡ true → lacks end (cells words) ≡ true
 cells_lack end low tab words are = rw list_all-flat_map (list_all-weaker (list_all is_ascii) (λ word. lacks end (word ++ 9 ∷ []))
     (λ word plain. list_all-both (λ b. not (b == end)) word (9 ∷ []) (plain_lacks end low word plain) (rw tab refl)) words are)
 

@@ -4,8 +4,7 @@ use Rattle.cats_cmd.proofs.Common.{◌≡◌, ◌⊎◌, ℕ, List, Option, Some
 use Rattle.cats_cmd.proofs.Common.{first_fault, WantsMemory, ReadFault, FinePrices, PricedGives, gives_by, PricedInput}
 use Rattle.cats_text.specs.declared.read_fault.Kind.TheVariants.{Memory}
 
-pub memory_on_no_line : (text : List ℕ) (fault : ReadFault) → (first_fault text ≡ Some fault) ⊎ WantsMemory text fault → fault.kind ≡ Memory
-    → fault.line ≡ 0
+pub memory_on_no_line : (text : List ℕ) (fault : ReadFault) → (first_fault text ≡ Some fault) ⊎ WantsMemory text fault → fault.kind ≡ Memory → fault.line ≡ 0
 memory_on_no_line text fault why is =
     ⊎_elim
     (λ (found : first_fault text ≡ Some fault).

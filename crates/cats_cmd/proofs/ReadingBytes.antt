@@ -6,8 +6,7 @@ use Rattle.cats_cmd.proofs.Common.{IsUnreadStream, StopsReading, WantsMemoryForB
 
 -- a read that gave nothing
 pub no_more : (a b c : Option (List ℕ)) (bytes piece : List ℕ) (n : ℕ) → n ≡ 0 → Consumes a b bytes → Consumes b c (take n piece) → Consumes a c bytes
-no_more a b c bytes piece n none came gave =
-    let joined = Consumes-trans a b c bytes [] came (rw none at gave) in rw append-nil at joined
+no_more a b c bytes piece n none came gave = let joined = Consumes-trans a b c bytes [] came (rw none at gave) in rw append-nil at joined
 
 -- a read that gave something
 pub not_at_the_end : (before : Bool) (n : ℕ) (piece : List ℕ) → before ≡ false → (n ≡ 0 → ⊥) → (before || moved_nothing (Ok n) piece) ≡ false

@@ -51,8 +51,7 @@ module _ {E : Type 0} (messages : E → Option (List ℕ)) where
       → Sends messages old mid text answer → Reports messages more mid new → Reports messages (text ++ more) old new
   sent_then text more old mid new works (Ok u) whole (inl failed) = absurd (both_ways (has_failed mid) whole.works failed.0)
   sent_then text more old mid new works (Ok u) whole (inr sent) = inr (works, more_sent text more old mid new whole sent.1.answer sent.1.sends)
-  sent_then text more old mid new works (Err fault) part (inl failed) =
-      inr (works, rw failed.1 (part_sent text more old mid fault part))
+  sent_then text more old mid new works (Err fault) part (inl failed) = inr (works, rw failed.1 (part_sent text more old mid fault part))
   sent_then text more old mid new works (Err fault) part (inr sent) = absurd (both_ways (has_failed mid) sent.0 part.failed)
 
   pub reports_then : (text more : List ℕ) (old mid new : Watched E) → Reports messages text old mid → Reports messages more mid new
@@ -65,13 +64,11 @@ module _ {E : Type 0} (messages : E → Option (List ℕ)) where
   -- three texts
   pub reports_three : (one two three : List ℕ) (a b c d : Watched E) → Reports messages one a b → Reports messages two b c
       → Reports messages three c d → Reports messages (one ++ two ++ three) a d
-  reports_three one two three a b c d first second third =
-      reports_then (one ++ two) three a c d (reports_then one two a b c first second) third
+  reports_three one two three a b c d first second third = reports_then (one ++ two) three a c d (reports_then one two a b c first second) third
 
   -- of a list of texts: one more
   pub reports_next : {X : Type 0} (f : X → List ℕ) (xs : List X) (i : ℕ) (d : X) → i < length xs → (a b c : Watched E)
-      → Reports messages (flat_map f (take i xs)) a b → Reports messages (f (get_or xs i d)) b c
-      → Reports messages (flat_map f (take (i + 1) xs)) a c
+      → Reports messages (flat_map f (take i xs)) a b → Reports messages (f (get_or xs i d)) b c → Reports messages (flat_map f (take (i + 1) xs)) a c
   reports_next f xs i d l a b c before now =
       rw (take_more xs i d l, flat_map-append f (take i xs) (get_or xs i d ∷ []), append-nil (f (get_or xs i d)))
       (reports_then (flat_map f (take i xs)) (f (get_or xs i d)) a b c before now)

@@ -10,8 +10,7 @@ use Rattle.cats_cmd.proofs.ReadingBytes.{unread_stream}
 
 pub reported_more : {E : Type 0} (messages : E → Option (List ℕ)) (prices : List RoundedPrice) (i : ℕ) (d : RoundedPrice) → i < length prices
     → (a b c : Watched E) → ReportsAll messages (map rounded_line (plain_changes (take i prices))) a b
-    → Reports messages (rounded_line (plain_change (get_or prices i d))) b c
-    → ReportsAll messages (map rounded_line (plain_changes (take (i + 1) prices))) a c
+    → Reports messages (rounded_line (plain_change (get_or prices i d))) b c → ReportsAll messages (map rounded_line (plain_changes (take (i + 1) prices))) a c
 reported_more messages prices i d l a b c before now =
     let last = rounded_line (plain_change (get_or prices i d)) in
     rw (

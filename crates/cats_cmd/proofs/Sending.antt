@@ -74,8 +74,7 @@ module _ {I J : Type 0} (gives_first : I → I → PlainFile → Type 0) (refuse
   }
 
   abbrev Answers : Comparison → Result Answer RunFault → Type 0
-  Answers comparison answer =
-      CommandsOnBoth gives_first refuses_first gives_second refuses_second comparison first first_after second second_after answer
+  Answers comparison answer = CommandsOnBoth gives_first refuses_first gives_second refuses_second comparison first first_after second second_after answer
 
   pub pair_facts : (comparison : Comparison) → PairFacts (Answers comparison)
   pair_facts (Compare options) = both_made options (normalise_outcome options) _ outcome_of_both (λ files. files) (λ files given. given)

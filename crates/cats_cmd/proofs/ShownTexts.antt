@@ -33,8 +33,7 @@ pub then : {xs ys : List ℕ} → Shown xs → Shown ys → Shown (xs ++ ys)
 then {xs} {ys} x y = text_behind is_shown xs ys x y
 
 -- what is shown of each of some things is shown of all
-flat_shown : {X : Type 0} (q : X → Bool) (f : X → List ℕ) → ((x : X) → q x ≡ true → Shown (f x)) → (xs : List X) → list_all q xs ≡ true
-    → Shown (flat_map f xs)
+flat_shown : {X : Type 0} (q : X → Bool) (f : X → List ℕ) → ((x : X) → q x ≡ true → Shown (f x)) → (xs : List X) → list_all q xs ≡ true → Shown (flat_map f xs)
 flat_shown q f each [] are = no_text is_shown
 flat_shown q f each (x ∷ xs) are = let both = and_parts (q x) (list_all q xs) are in then (each x both.0) (flat_shown q f each xs both.1)
 
@@ -57,8 +56,7 @@ plain_shown : (text : List ℕ) → Plain text → Shown text
 plain_shown = ascii_text is_shown is_ascii (λ b e. ours_shown b (rw e refl))
 
 pub error_shown : (error : RequestError) → Shown (line_of_request_error error)
-error_shown error =
-    let line = error_line error in subst Shown (sym line.is) (then (plain_shown line.text line.plain) (ours (codes "\n") refl))
+error_shown error = let line = error_line error in subst Shown (sym line.is) (then (plain_shown line.text line.plain) (ours (codes "\n") refl))
 
 -- ---- lines that name a path
 

@@ -11,8 +11,7 @@ abbrev pub Begins : List ℕ → Vec ℕ Global → Type 0
 Begins start path = BeginsWith start path.items
 
 pub begins_more : (start path more : List ℕ) → BeginsWith start path → (longer : List ℕ) → longer ≡ path ++ more → BeginsWith start longer
-begins_more start path more begins longer is =
-    (begins.0 ++ more, is ∙ ap (λ (p : List ℕ). p ++ more) begins.1 ∙ append_assoc start begins.0 more)
+begins_more start path more begins longer is = (begins.0 ++ more, is ∙ ap (λ (p : List ℕ). p ++ more) begins.1 ∙ append_assoc start begins.0 more)
 
 pub begins_itself : (path : List ℕ) → BeginsWith path path
 begins_itself path = ([], sym (append-nil path))

@@ -15,8 +15,7 @@ joined_after so_far (Some xs) (Some ys) = ap Some (sym (append_assoc so_far xs y
 
 -- one text more, of which these are the goods so far, or which is wrong
 pub one_more : (goods_of : List ℕ → Option (List ℕ)) (so_far : List ℕ) (now : Option (List ℕ)) (texts : List (Bor (List ℕ))) (i : ℕ) (d : Bor (List ℕ))
-    → i < length texts → now ≡ after so_far (goods_of (get_or texts i d).now)
-    → after so_far (all_goods goods_of (texts_of (drop i texts)))
+    → i < length texts → now ≡ after so_far (goods_of (get_or texts i d).now) → after so_far (all_goods goods_of (texts_of (drop i texts)))
     ≡ option_and_then (λ new. after new (all_goods goods_of (texts_of (drop (i + 1) texts)))) now
 one_more goods_of so_far now texts i d lt is =
     at_drop_more (λ ts. after so_far (all_goods goods_of (texts_of ts))) texts i d lt

@@ -51,8 +51,7 @@ module _ (program : Text) (paths : List Text) (plain : ArePlain paths) (given : 
   abbrev expected : Subcommand → Computed
   expected s = (Some (shape_named s.name), request_after s.name paths, request_with s given)
 
-  pub lines : (rows : List Subcommand) → map computed rows ≡ map expected rows
-      → All (λ s. request_of (program ∷ s.name ∷ paths) ≡ request_with s given) rows
+  pub lines : (rows : List Subcommand) → map computed rows ≡ map expected rows → All (λ s. request_of (program ∷ s.name ∷ paths) ≡ request_with s given) rows
   lines rows same k d lt =
       let s = get_or rows k d in
       let is : computed s ≡ expected s =

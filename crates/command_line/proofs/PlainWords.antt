@@ -76,8 +76,7 @@ same_walk s (word ∷ words) plain held waiting position trailing ready =
     (go (arg_by_index s.rules position) (same_walk s words plain.1)) in
     (later.0, ap₂ or_else (turn s trailing waiting position word held ready word_plain ∙ sym (turn s true waiting position word held ready word_plain)) later.1)
   where
-    go : (taker : Option Rule)
-        → ((h : Held) (w : Waiting) (p : ℕ) (t : Bool) → Ready w → EndAlike s (at h w p t) words (at h w p true) words)
+    go : (taker : Option Rule) → ((h : Held) (w : Waiting) (p : ℕ) (t : Bool) → Ready w → EndAlike s (at h w p t) words (at h w p true) words)
         → EndAlike s (to_positional s.rules taker word (at held waiting position trailing) held) words
         (to_positional s.rules taker word (at held waiting position true) held) words
     go None later = later held waiting position trailing ready

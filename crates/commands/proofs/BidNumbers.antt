@@ -8,8 +8,7 @@ use Rattle.commands.proofs.Common.{IsBestFor, AreInOrder, NumberedBid, bid_numbe
 pub first_within : {X : Type 0} (p : X → Bool) (xs : List X) (x : X) → Contains xs x → p x ≡ true → position_or_len p xs < length xs
 first_within p xs x c t = grind (arith, fails_before_first p xs c.0 x)
 
-find_only : {X : Type 0} (p : X → Bool) (xs : List X) (x : X) → Contains xs x → p x ≡ true → ((y : X) → Contains xs y → p y ≡ true → y ≡ x)
-    → find p xs ≡ Some x
+find_only : {X : Type 0} (p : X → Bool) (xs : List X) (x : X) → Contains xs x → p x ≡ true → ((y : X) → Contains xs y → p y ≡ true → y ≡ x) → find p xs ≡ Some x
 find_only p xs x c t only =
     let first = position_or_len p xs in
     let within = first_within p xs x c t in
@@ -34,8 +33,7 @@ module _ (f : PlainFile) (bids : List NumberedBid) (order : AreInOrder f bids) (
   -- what is found in the list is the number of the best bid
   pub found_number : (number : ℕ) → ((g : PlainFile) → AreInOrder g bids → (i : ℕ) → i < length g.bids → bid_at g i ≡ bid → IsBestFor g i number)
       → Some number ≡ best_number f bid.dummy bid.goods
-  found_number number found =
-      rw (← is_at) (sym (number_is_best f there.0 number (found f order there.0 there.1 is_at)))
+  found_number number found = rw (← is_at) (sym (number_is_best f there.0 number (found f order there.0 there.1 is_at)))
 
 -- if there is a price on the bundle, the number is found
 pub number_at_price : (f : PlainFile) (bids : List NumberedBid) → AreInOrder f bids → (dummy : Option ℕ) (goods : List ℕ) (o : Option ℕ) (price : ℕ)

@@ -16,8 +16,7 @@ module _ {X : Type 0} (f : ℕ → X) (xs : List X) (n : ℕ) (is : xs ≡ map f
   pub by_number-same : (g : ℕ → X) (d : X) → ((k : ℕ) → g k ≡ f k) → xs ≡ map g (range_with_len 0 n)
   by_number-same g d same = fill_by_all g xs n d by_number-length (λ k l. by_number-at k d l ∙ sym (same k))
 
-  pub by_number-set : (g : ℕ → X) (d : X) (i : ℕ) → i < n → (x : X) → g i ≡ x → ((k : ℕ) → (k ≡ i → ⊥) → g k ≡ f k)
-      → set xs i x ≡ map g (range_with_len 0 n)
+  pub by_number-set : (g : ℕ → X) (d : X) (i : ℕ) → i < n → (x : X) → g i ≡ x → ((k : ℕ) → (k ≡ i → ⊥) → g k ≡ f k) → set xs i x ≡ map g (range_with_len 0 n)
   by_number-set g d i l x is_new others =
       let long = by_number-length in
       fill_by_all g (set xs i x) n d (length-set xs i x ∙ long) (λ k m. ⊎_elim

@@ -150,7 +150,6 @@ module _ (fine : FinePrices) (bytes : List ℕ) where
   pub given_rounding : (r : Result RoundAnswer RunFault) → AnswersRounding fine bytes r
       → (old new : List ℕ) (needed given : ℕ) → GivesRounded r old new needed given
       → (report_old report_new : List ℕ) (report_needed reported : ℕ) → GivesReport r report_old report_new report_needed reported
-      → (answer : ℕ) → answer ≡ whole_status given reported
-      → RoundCalls fine bytes old new needed report_old report_new report_needed answer
+      → (answer : ℕ) → answer ≡ whole_status given reported → RoundCalls fine bytes old new needed report_old report_new report_needed answer
   given_rounding (Ok a) is old new needed given g report_old report_new report_needed reported r answer whole = search rules
   given_rounding (Err fault) is old new needed given g report_old report_new report_needed reported r answer whole = search rules

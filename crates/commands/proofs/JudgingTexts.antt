@@ -50,8 +50,7 @@ numbers_more n [] more =
     ∙ ap (λ (k : ℕ). map (λ (file : PlainFile). k) (files_if_sized more)) (let e : n ≡ n + 0 = omega arith in e)
 numbers_more n (sized ∷ texts) more =
     ap (λ (ns : List ℕ). map (λ (file : PlainFile). n) (files_if_sized sized) ++ ns)
-    (numbers_more (suc n) texts more
-    ∙ ap (λ (k : ℕ). numbers_sized (suc n) texts ++ map (λ (file : PlainFile). k) (files_if_sized more))
+    (numbers_more (suc n) texts more ∙ ap (λ (k : ℕ). numbers_sized (suc n) texts ++ map (λ (file : PlainFile). k) (files_if_sized more))
     (let e : suc n + length texts ≡ n + suc (length texts) = omega arith in e))
     ∙ sym (append_assoc (map (λ (file : PlainFile). n) (files_if_sized sized)) (numbers_sized (suc n) texts)
     (map (λ (file : PlainFile). n + suc (length texts)) (files_if_sized more)))
@@ -92,8 +91,7 @@ place (IsSized file ∷ texts) n (suc j) given h =
       related = h.related;
       first = λ k other l at. h.first (suc k) other (omega arith) at;
     }))
-place (IsTooHeavy file heavy ∷ texts) n j given h =
-    later (IsTooHeavy file heavy) texts n j given (λ other is. absurd (cc)) (place texts (suc n) j given h)
+place (IsTooHeavy file heavy ∷ texts) n j given h = later (IsTooHeavy file heavy) texts n j given (λ other is. absurd (cc)) (place texts (suc n) j given h)
 place (IsUnsized fault ∷ texts) n j given h = later (IsUnsized fault) texts n j given (λ other is. absurd (cc)) (place texts (suc n) j given h)
 
 -- ---- one more text

@@ -25,8 +25,7 @@ length-xor_numbers bids d = length-numbers_from (λ b. is_dummy d b.dummy) 0 bid
 numbers_from-push : (p : PlainBid → Bool) (n : ℕ) (bids : List PlainBid) (b : PlainBid) → numbers_from p n (bids ++ b ∷ []) ≡ numbers_from p n bids
     ++ cond (p b) ((n + length bids) ∷ []) []
 numbers_from-push p n [] b = grind arith
-numbers_from-push p n (x ∷ xs) b =
-    let e : suc n + length xs ≡ n + length (x ∷ xs) = omega arith in rw (numbers_from-push p (suc n) xs b, e, append_assoc)
+numbers_from-push p n (x ∷ xs) b = let e : suc n + length xs ≡ n + length (x ∷ xs) = omega arith in rw (numbers_from-push p (suc n) xs b, e, append_assoc)
 
 abbrev items : Vec ℕ Global → List ℕ
 items v = v.items
@@ -70,8 +69,7 @@ module _ (bids : List PlainBid) (i : ℕ) (b : PlainBid) (l : i < length bids) (
 
   pub number-xor : (lists changed : List (Vec ℕ Global)) (old new : Vec ℕ Global) (d n : ℕ) → b.dummy ≡ Some d → d < n
       → lists_of lists ≡ map (xor_numbers (take i bids)) (range_with_len 0 n) → old ≡ get_or lists d old → new.items ≡ old.items ++ i ∷ []
-      → changed ≡ set lists d new
-      → lists_of changed ≡ map (xor_numbers (take (i + 1) bids)) (range_with_len 0 n)
+      → changed ≡ set lists d new → lists_of changed ≡ map (xor_numbers (take (i + 1) bids)) (range_with_len 0 n)
   number-xor lists changed old new d n s m h is e c =
       ap lists_of c ∙ map-set items lists d new
       ∙ by_number-set (xor_numbers (take i bids)) (lists_of lists) n h (xor_numbers (take (i + 1) bids)) [] d m new.items

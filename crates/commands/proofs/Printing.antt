@@ -18,8 +18,7 @@ pub line_added : (file : PlainFile) (bundle old before after : List ℕ) (d good
     → before ≡ old ++ flat_map (dummy_line file bundle) (range_with_len 0 d) → after ≡ before ++ xor_line good atoms numbers bundle
     → good ≡ file.goods + d → atoms ≡ xor_atoms_of file.bids d → numbers ≡ xor_numbers file.bids d
     → after ≡ old ++ flat_map (dummy_line file bundle) (range_with_len 0 (d + 1))
-line_added file bundle old before after d good atoms numbers b a g seen listed =
-    rw (a, b, g, seen, listed) (lines_more (dummy_line file bundle) old d)
+line_added file bundle old before after d good atoms numbers b a g seen listed = rw (a, b, g, seen, listed) (lines_more (dummy_line file bundle) old d)
 
 -- if it succeeded, this was appended
 pub appended : {T E : Type 0} (r : Result T E) (new longer old : List ℕ) → new ≡ (if is_ok r then longer else old) → OnOk r (new ≡ longer)

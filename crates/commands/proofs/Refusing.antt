@@ -25,8 +25,7 @@ module _ (text : List ℕ) (short : length text ≤ MAX_STREAM) where
   short_wants None begun = ap has_bid_line (take_all MAX_STREAM text short) ∙ begun
   short_wants (Some fine) begun = short
 
-  pub short_refused : (fine : Option FinePrices) (r : Result PlainFile ReadFault) → PackedAnswer (text_read fine text) r
-      → IfErr r (RefusesText fine text)
+  pub short_refused : (fine : Option FinePrices) (r : Result PlainFile ReadFault) → PackedAnswer (text_read fine text) r → IfErr r (RefusesText fine text)
   short_refused fine (Ok file) spells = tt
   short_refused fine (Err why) (inl first) = inl (rw (le-leb (length text) MAX_STREAM short) first)
   short_refused fine (Err why) (inr wants) = inr (wants.0, short_wants fine wants.1)
@@ -53,8 +52,7 @@ module _ (text : List ℕ) (long : MAX_STREAM < length text) (why : ReadFault) w
       by (inr wants) = inr (subst (λ (bytes : List ℕ). WantsMemory bytes why)
           (ap (λ (limit : ℕ). take limit new.bytes) fed.limit ∙ ap (take MAX_STREAM) fed.bytes) wants)
 
-  pub long_fed : (old new : Fed) → old ≡ record { limit = MAX_STREAM; bytes = []; failed = None } → FeedsAs old text new (Err why)
-      → RefusesText None text why
+  pub long_fed : (old new : Fed) → old ≡ record { limit = MAX_STREAM; bytes = []; failed = None } → FeedsAs old text new (Err why) → RefusesText None text why
   long_fed old new is fed = long_refused new (rw is at fed)
 
   -- no prices are rounded

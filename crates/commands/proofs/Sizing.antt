@@ -52,8 +52,7 @@ module _ (Gives : PlainFile → Type 0) (Refuses : ReadFault → Type 0) (option
     numbers_judged within put = record { sized = IsSized file; sizes = (given, within); puts = rw put (simp append_assoc); is_fault = refl }
 
     pub numbers_heavy : (goods : Vec ℕ Global) → first_refused options file.goods (or_atoms_of file.bids) ≡ Some goods.items
-        → longer ≡ text ++ with_tabs (sizes_of file) ++ codes "\t\t\t" → (why : RunFault)
-        → why ≡ with_bid Only file options (StepLimit goods) → Puts (Some why)
+        → longer ≡ text ++ with_tabs (sizes_of file) ++ codes "\t\t\t" → (why : RunFault) → why ≡ with_bid Only file options (StepLimit goods) → Puts (Some why)
     numbers_heavy goods heavy put why is = record {
       sized = IsTooHeavy file (heavy_bid options file goods);
       sizes = sizes_heavy Gives Refuses options file given goods heavy;
@@ -77,8 +76,7 @@ module _ (bids : List PlainBid) (i : ℕ) (b : PlainBid) (there : slice_get bids
 
   module _ (n : ℕ) (marks : List Bool) (h : marks ≡ map (has_dummy (take i bids)) (range_with_len 0 n)) where
     pub marks_same : b.dummy ≡ None → marks ≡ map (has_dummy (take (i + 1) bids)) (range_with_len 0 n)
-    marks_same none =
-        by_number-same (has_dummy (take i bids)) marks n h (has_dummy (take (i + 1) bids)) false (λ k. grind (arith, has_more k))
+    marks_same none = by_number-same (has_dummy (take i bids)) marks n h (has_dummy (take (i + 1) bids)) false (λ k. grind (arith, has_more k))
 
     pub marks_put : (e : ℕ) → b.dummy ≡ Some e → e < n → set marks e true ≡ map (has_dummy (take (i + 1) bids)) (range_with_len 0 n)
     marks_put e some below =

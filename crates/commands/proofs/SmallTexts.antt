@@ -20,14 +20,12 @@ pub makes : (outcome : PlainFile → Outcome) (text : List ℕ) (expected : Outc
     → MakesOf outcome text expected
 makes outcome text expected none is = record { file = spelled_file text; spelled = spells_from_no_fault text none; made = is }
 
-pub makes_only : (outcome : PlainFile → Outcome) (text : List ℕ) (expected : Outcome) → MakesOf outcome text expected
-    → outcome (spelled_file text) ≡ expected
+pub makes_only : (outcome : PlainFile → Outcome) (text : List ℕ) (expected : Outcome) → MakesOf outcome text expected → outcome (spelled_file text) ≡ expected
 makes_only outcome text expected m = ap outcome (sym (says_spelled text m.file m.spelled)) ∙ m.made
 
 pub rounds : (fine : FinePrices) (text out report : List ℕ) → first_fault out ≡ None → out ≡ rounded_text fine text → report ≡ report_of fine text
     → RoundsText fine text out report
-rounds fine text out report none is reports =
-    record { file = spelled_file out; spelled = spells_from_no_fault out none; is_text = is; is_report = reports }
+rounds fine text out report none is reports = record { file = spelled_file out; spelled = spells_from_no_fault out none; is_text = is; is_report = reports }
 
 -- what is printed, if anything is
 abbrev pub text_in : Outcome → List ℕ
@@ -75,8 +73,7 @@ module _ (options : SearchOptions) (left right : List ℕ) (status : ℕ) (out :
 
 -- ---- buffers
 
-pub puts_whole : (status : ℕ) (text old : List ℕ) → nat_le (length text) (length old) ≡ true
-    → PutsInto status text old (text ++ drop (length text) old) status
+pub puts_whole : (status : ℕ) (text old : List ℕ) → nat_le (length text) (length old) ≡ true → PutsInto status text old (text ++ drop (length text) old) status
 puts_whole status text old fit = record { fits = λ h. (refl, refl); small = λ h. absurd (omega (leb-true (length text) (length old) fit, h, arith)) }
 
 pub puts_none : (status : ℕ) (text old : List ℕ) → nat_lt (length old) (length text) ≡ true → PutsInto status text old old 6

@@ -24,9 +24,10 @@ abbrev later_bits : ℕ → ℕ
 later_bits w = bit_and w (w - 1)
 
 lowest_first : (w t : ℕ) → t < 64 → bit_at w t ≡ 1 → ((i : ℕ) → i < t → bit_at w i ≡ 0) → word_goods 64 (w ∷ []) ≡ t ∷ word_goods 64 (later_bits w ∷ [])
-lowest_first w t l here low = same_from_has (word_goods 64 (w ∷ [])) (t ∷ word_goods 64 (later_bits w ∷ [])) (word_goods_bundle 64 (w ∷ [])).0 ( above,
-      (word_goods_bundle 64 (later_bits w ∷ [])).0,
-    ) (search (rules, one_word_parts, or_left, eq-eqb, or_right, one_word_has, other, cases_eq)) (search (rules, one_word_has, left, has_cases))
+lowest_first w t l here low = same_from_has (word_goods 64 (w ∷ [])) (t ∷ word_goods 64 (later_bits w ∷ [])) (word_goods_bundle 64 (w ∷ [])).0 (
+  above,
+  (word_goods_bundle 64 (later_bits w ∷ [])).0,
+) (search (rules, one_word_parts, or_left, eq-eqb, or_right, one_word_has, other, cases_eq)) (search (rules, one_word_has, left, has_cases))
   where
     other : (g : ℕ) → g < 64 → (t ≡ g → ⊥) → bit_at (later_bits w) g ≡ bit_at w g
     other g m n = (without_lowest w t here low).1 g n

@@ -40,8 +40,7 @@ pub record IsFirstSoFar (lists : List (List Posting)) (atoms : List (Atom (List 
 
 -- the index found at one more good, among the atoms before the first so far
 pub IsFirstSoFar-more : (lists : List (List Posting)) (atoms : List (Atom (List ℕ))) (bundle : List ℕ) (price from good first next : ℕ) → IsRising bundle
-    → good_from bundle from ≡ Some good → next ≤ first
-    → (next < first → dominates_at (take first atoms) bundle price next ≡ true)
+    → good_from bundle from ≡ Some good → next ≤ first → (next < first → dominates_at (take first atoms) bundle price next ≡ true)
     → All (λ index. index < next → dominates_at (take first atoms) bundle price index ≡ false) (indices_at lists good)
     → IsFirstSoFar lists atoms bundle price from first → IsFirstSoFar lists atoms bundle price (good + 1) next
 IsFirstSoFar-more lists atoms bundle price from good first next r e small found none h =
@@ -65,8 +64,7 @@ module _ (lists : List (List Posting)) (listed : ℕ) (atoms : List (Atom (List 
     IsFirstSoFar-some l = sym (first_in_range (dominates_at atoms bundle price) (length atoms) first l (h.found l) none_earlier)
 
     pub IsFirstSoFar-all : length atoms ≤ first → None ≡ first_dominating_index atoms bundle price
-    IsFirstSoFar-all l =
-        sym (none_in_range (dominates_at atoms bundle price) (length atoms) (λ index m. none_earlier index (omega (arith, l, m))))
+    IsFirstSoFar-all l = sym (none_in_range (dominates_at atoms bundle price) (length atoms) (λ index m. none_earlier index (omega (arith, l, m))))
 
 -- ---- what is listed of the first so many atoms
 

@@ -23,13 +23,11 @@ index_of posting = posting.index
 
 -- what is listed at the index is right
 pub posting_at : (lists : List (List Posting)) (listed : ℕ) (atoms : List (Atom (List ℕ))) (good index : ℕ) → AreListed lists listed atoms
-    → Contains (indices_at lists good) index
-    → (posting : Posting) × IsPosting atoms posting × (index ≡ posting.index)
+    → Contains (indices_at lists good) index → (posting : Posting) × IsPosting atoms posting × (index ≡ posting.index)
 posting_at lists listed atoms good index a c = let r = Contains-unmap index_of (listed_at lists good) index c in (r.0, a.right good r.0 r.1, r.2)
 
 pub index_within : (lists : List (List Posting)) (listed : ℕ) (atoms : List (Atom (List ℕ))) (good index : ℕ) → AreListed lists listed atoms
-    → Contains (indices_at lists good) index
-    → index < length atoms
+    → Contains (indices_at lists good) index → index < length atoms
 index_within lists listed atoms good index a c = let r = posting_at lists listed atoms good index a c in let l = r.1.within in omega (arith, r.2)
 
 rising_from_pairs : (xs : List ℕ) → AllPairs (λ i j. i < j) xs → IsRising xs
@@ -154,8 +152,7 @@ eqb_flips x y = same_test (eqb x y) (eqb y x) (λ t. eq-eqb y x (sym (eqb-true x
 
 -- all goods are done: the indices found are those of the atoms inside the bundle
 pub IsFinding-all : (lists : List (List Posting)) (listed : ℕ) (atoms : List (Atom (List ℕ))) (bundle : List ℕ) (from : ℕ) (found sorted : List ℕ)
-    → AreListed lists listed atoms
-    → NoneInsideFrom listed atoms bundle → good_from bundle from ≡ None → IsFinding lists atoms bundle from found
+    → AreListed lists listed atoms → NoneInsideFrom listed atoms bundle → good_from bundle from ≡ None → IsFinding lists atoms bundle from found
     → IsPermutation found sorted → IsSorted nat_cmp sorted → sorted ≡ filter (is_inside_at atoms bundle) (range_with_len 0 (length atoms))
 IsFinding-all lists listed atoms bundle from found sorted a unlisted none f p up =
     let test = is_inside_at atoms bundle in
@@ -313,8 +310,7 @@ module _ (lists more : List (List Posting)) (listed : ℕ) (atoms : List (Atom (
 
 -- behind an atom at least as large as a bundle that comes behind all atoms, none is inside the bundle
 pub none_inside : (from : ℕ) (atoms : List (Atom (List ℕ))) (bundle : List ℕ) → All (λ a. IsRising a.bundle) atoms → IsRising bundle → IsInOrder atoms
-    → IsBehind bundle atoms → (from < length atoms → length bundle ≤ length (atom_at atoms from).bundle)
-    → NoneInsideFrom from atoms bundle
+    → IsBehind bundle atoms → (from < length atoms → length bundle ≤ length (atom_at atoms from).bundle) → NoneInsideFrom from atoms bundle
 none_inside from atoms bundle rising r order before large index behind within =
     search (rules, cases_eq, false_from_ne_true, length_inside, same_from_length, before_itself, cases_lt, larger_last)
 

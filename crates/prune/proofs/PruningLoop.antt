@@ -73,8 +73,7 @@ all_some n bids are = All-weaker (IsAtom n) (λ a. 0 < length a.bundle) (λ a i.
 
 -- the next one is the first of them
 pub one_left : {S : Type 0} (goods : S → List ℕ) (best now : List (Atom S)) (index : ℕ) (bid : Atom S) → IsLeft best now index → index < length now
-    → bid ≡ get_or now index bid
-    → atoms_of goods (drop index best) ≡ plain_atom goods bid ∷ atoms_of goods (drop (index + 1) best)
+    → bid ≡ get_or now index bid → atoms_of goods (drop index best) ≡ plain_atom goods bid ∷ atoms_of goods (drop (index + 1) best)
 one_left {S} goods best now index bid h l is = ap (atoms_of goods) (next_drop best now index bid h l is)
 
 -- behind the last one there is none

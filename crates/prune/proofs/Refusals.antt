@@ -58,8 +58,7 @@ turn_steps kind goods bids done x rest kept on t k =
     (λ (e : x ≡ a). subst (λ (z : Atom (List ℕ)). is_below z.bundle x.bundle ≡ false) e (not_below_itself x.bundle))
     (λ (d : Contains rest a). later_not_below x a (rising x here) (rising a (Contains-append_right done (x ∷ rest) a (Contains-tail x rest a d)))
     (All-contains (IsBefore x) rest a later d))
-    (Contains-cons_cases x rest a c)))
-    ∙ sym (turn_below bids done x rest kept t k.among) in
+    (Contains-cons_cases x rest a c))) ∙ sym (turn_below bids done x rest kept t k.among) in
     let inside : atoms_inside kept x.bundle ≡ atoms_below (or_points goods bids) x.bundle =
     sym below ∙ ap (λ (zs : List (Atom (List ℕ))). atoms_below zs x.bundle) points in
     ap₂ (λ (zs : List (Atom (List ℕ))) (n : ℕ). 1 + steps_with (bound_of kind) (in_search_order kind zs) x.bundle n) inside (sym price)
@@ -81,8 +80,7 @@ now_steps : (start now : SearchOptions) (goods : ℕ) (bids done : List (Atom (L
     → All (IsAtom goods) bids → IsTurn bids done x rest → IsOrKept done kept → now.kind ≡ start.kind
     → steps_for now.kind kept x.bundle x.price ≡ search_steps_by start.kind goods bids x.bundle
 now_steps start now goods bids done x rest kept are t k e =
-    turn_steps now.kind goods bids done x rest kept (on_bundles goods bids are) t k
-    ∙ ap (λ (kind : SearchKind). search_steps_by kind goods bids x.bundle) e
+    turn_steps now.kind goods bids done x rest kept (on_bundles goods bids are) t k ∙ ap (λ (kind : SearchKind). search_steps_by kind goods bids x.bundle) e
 
 module _ (start now : SearchOptions) (bids done : List (Atom (List ℕ))) (x : Atom (List ℕ)) (rest kept : List (Atom (List ℕ)))
     (t : IsTurn bids done x rest) (k : IsOrKept done kept) (w : IsWithin start now bids (x ∷ rest))
@@ -97,8 +95,7 @@ module _ (start now : SearchOptions) (bids done : List (Atom (List ℕ))) (x : A
           kind = w.kind;
           left = λ goods are.
               let steps = now_steps start now goods bids done x rest kept are t k w.kind in
-              w.left goods are
-              ∙ first_over-within (search_steps_by start.kind goods bids) now x.bundle (map (λ a. a.bundle) rest) (omega (arith, steps, fits))
+              w.left goods are ∙ first_over-within (search_steps_by start.kind goods bids) now x.bundle (map (λ a. a.bundle) rest) (omega (arith, steps, fits))
               ∙ ap (λ n. first_over (search_steps_by start.kind goods bids) (options_after now n) (map (λ a. a.bundle) rest)) (sym steps);
         })
 
@@ -108,8 +105,7 @@ module _ (start now : SearchOptions) (bids done : List (Atom (List ℕ))) (x : A
     IsWithin-refused over goods are =
         let steps = now_steps start now goods bids done x rest kept are t k w.kind in
         let more = ltb-true _ _ (sym (is_one_over-one now (steps_for now.kind kept x.bundle x.price)) ∙ over) in
-        w.left goods are
-        ∙ first_over-refused (search_steps_by start.kind goods bids) now x.bundle (map (λ a. a.bundle) rest) (omega (arith, steps, more))
+        w.left goods are ∙ first_over-refused (search_steps_by start.kind goods bids) now x.bundle (map (λ a. a.bundle) rest) (omega (arith, steps, more))
 
 -- no bid is left
 pub IsWithin-end : (start now : SearchOptions) (bids : List (Atom (List ℕ))) → IsWithin start now bids [] → (goods : ℕ) → All (IsAtom goods) bids

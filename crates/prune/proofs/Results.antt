@@ -163,8 +163,7 @@ or_done bids best kept some b k =
       values = values;
       points = λ goods on.
           or_kept_are_points goods kept k.in_order (All-weaker (Contains bids) (IsOnBundle goods) (λ a c. All-contains (IsOnBundle goods) bids a on c) kept
-          among) k.short
-          ∙ or_points_same goods kept bids (λ bundle _. values bundle);
+          among) k.short ∙ or_points_same goods kept bids (λ bundle _. values bundle);
     }
 
 -- ---- heavy bundles

@@ -12,8 +12,7 @@ round_large n d r e l = let above : ltb MAX_PRICE (nearest n d) ≡ true = lt-lt
 nearest_small : (n d r : ℕ) → held r ≡ held (nearest n d) → r ≤ MAX_PRICE → r ≡ nearest n d
 nearest_small n d r e l = omega arith
 
-pub round_whole : (n d r v : ℕ) → held r ≡ held (nearest n d) → r ≤ MAX_PRICE → v ≡ held (n / d) → eqb (n % d) 0 ≡ true
-    → Exact v ≡ replacement_of Round n d
+pub round_whole : (n d r v : ℕ) → held r ≡ held (nearest n d) → r ≤ MAX_PRICE → v ≡ held (n / d) → eqb (n % d) 0 ≡ true → Exact v ≡ replacement_of Round n d
 round_whole n d r v e l ev w = grind (arith, common_steps, le-ltb, nearest_small)
 
 pub round_fine : (n d r : ℕ) → held r ≡ held (nearest n d) → r ≤ MAX_PRICE → eqb (n % d) 0 ≡ false → Rounded r ≡ replacement_of Round n d

@@ -232,8 +232,7 @@ file_unchanged fine text f s = lines_unchanged fine 1 0 (raw_lines text) (valid_
 
 -- how many significant lines a text has
 count_words : (text : List ℕ) → length (words_from (raw_lines text)) ≡ length (significant_lines text)
-count_words text =
-    ap (λ (ws : List (List Word)). length ws) (sym (significant_from text)) ∙ length-map (significant_lines text) (λ (l : Line). l.words)
+count_words text = ap (λ (ws : List (List Word)). length ws) (sym (significant_from text)) ∙ length-map (significant_lines text) (λ (l : Line). l.words)
 
 header_valid : (text : List ℕ) → has_bid_line text ≡ false → Valid 0 (raw_lines text)
 header_valid text none = grind (arith, common_steps, count_words, drop_all, ltb-false, valid_from)

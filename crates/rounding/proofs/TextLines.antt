@@ -110,20 +110,16 @@ line_more fine text t0 t2 p0 p1 start next number before more significant l en f
       text_is = ap (λ (t : List ℕ). t2 ++ lines_text (rounded_lines fine (before + more) (raw_lines t))) en
           ∙ ap (λ n. t2 ++ lines_text (rounded_lines fine n (raw_lines (behind_line (drop start text))))) after
           ∙ ap (λ (t : List ℕ). t ++ lines_text (rounded_lines fine (before_next before (first_raw (drop start text)))
-          (raw_lines (behind_line (drop start text))))) f.text_is
-          ∙ append_assoc t0 (line_text (rounded_line fine before (first_raw (drop start text))))
+          (raw_lines (behind_line (drop start text))))) f.text_is ∙ append_assoc t0 (line_text (rounded_line fine before (first_raw (drop start text))))
           (lines_text (rounded_lines fine (before_next before (first_raw (drop start text))) (raw_lines (behind_line (drop start text)))))
-          ∙ ap (λ (ls : List RawLine). t0 ++ lines_text (rounded_lines fine before ls)) (sym split)
-          ∙ w.text_is;
+          ∙ ap (λ (ls : List RawLine). t0 ++ lines_text (rounded_lines fine before ls)) (sym split) ∙ w.text_is;
       prices_are = ap (λ (t : List ℕ). p1 ++ lines_changes fine (number + 1) (before + more) (raw_lines t)) en
           ∙ ap (λ n. p1 ++ lines_changes fine (number + 1) n (raw_lines (behind_line (drop start text)))) after
           ∙ ap (λ n. p1 ++ lines_changes fine n (before_next before (first_raw (drop start text))) (raw_lines (behind_line (drop start text)))) one
           ∙ ap (λ (ps : List PlainRoundedPrice). ps ++ lines_changes fine (suc number) (before_next before (first_raw (drop start text)))
-          (raw_lines (behind_line (drop start text)))) f.prices_are
-          ∙ append_assoc p0 (line_changes fine number before (first_raw (drop start text)))
+          (raw_lines (behind_line (drop start text)))) f.prices_are ∙ append_assoc p0 (line_changes fine number before (first_raw (drop start text)))
           (lines_changes fine (suc number) (before_next before (first_raw (drop start text))) (raw_lines (behind_line (drop start text))))
-          ∙ ap (λ (ls : List RawLine). p0 ++ lines_changes fine number before ls) (sym split)
-          ∙ w.prices_are;
+          ∙ ap (λ (ls : List RawLine). p0 ++ lines_changes fine number before ls) (sym split) ∙ w.prices_are;
     }
 
 -- ---- one for true

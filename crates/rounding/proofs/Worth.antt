@@ -40,8 +40,7 @@ value_from n (b ∷ bs) =
     let power : 10 ^ (suc (length bs)) ≡ 10 * 10 ^ length bs = pow-succ' 10 (length bs) in
     let zero_part : (10 * 0 + (b - 48)) * 10 ^ length bs + value 0 bs ≡ value 0 (b ∷ bs) = sym (value_from (10 * 0 + (b - 48)) bs) in
     value_from (10 * n + (b - 48)) bs ∙ regroup (10 ^ length bs) n (b - 48) (value 0 bs)
-    ∙ ap (λ k. k + ((10 * 0 + (b - 48)) * 10 ^ length bs + value 0 bs)) (ap (λ k. n * k) (sym power))
-    ∙ ap (λ k. n * 10 ^ (suc (length bs)) + k) zero_part
+    ∙ ap (λ k. k + ((10 * 0 + (b - 48)) * 10 ^ length bs + value 0 bs)) (ap (λ k. n * k) (sym power)) ∙ ap (λ k. n * 10 ^ (suc (length bs)) + k) zero_part
 
 pub number_append : (xs ys : Word) → value 0 (xs ++ ys) ≡ value 0 xs * 10 ^ length ys + value 0 ys
 number_append xs ys = fold-append (λ m b. 10 * m + (b - 48)) 0 xs ys ∙ value_from (value 0 xs) ys
@@ -67,8 +66,7 @@ rest_step BelowHalf x p b h l r = grind (arith, common_steps, digit_range, even_
 rest_step Half x p b h l r = grind (arith, common_steps, digit_range, eqb-false, eqb-true)
 rest_step AboveHalf x p b h l r = omega arith
 
-pub rest_all : (s : Rest) (x p : ℕ) (w : Word) → digits_alone w ≡ true → x < p → IsRest s x p
-    → IsRest (fold rest_with s w) (value x w) (p * 10 ^ length w)
+pub rest_all : (s : Rest) (x p : ℕ) (w : Word) → digits_alone w ≡ true → x < p → IsRest s x p → IsRest (fold rest_with s w) (value x w) (p * 10 ^ length w)
 rest_all s x p [] h l r = let one : p ≡ p * 1 = omega arith in subst (IsRest s x) one r
 rest_all s x p (b ∷ bs) h l r =
     let q : (is_digit b ≡ true) × (digits_alone bs ≡ true) = and_parts (is_digit b) (digits_alone bs) h in
@@ -129,10 +127,8 @@ cut_far ds r h er =
 split_two : (a b : Word) (i j : ℕ) → (i ≡ length a) ⊎ (j ≡ 0) → (take i a ++ take j b) ++ (drop i a ++ drop j b) ≡ a ++ b
 split_two a b i j (inl e) = search (rules, take-length, drop-length, append_assoc, take-append-drop)
 split_two a b i j (inr e) =
-    ap (λ n. (take i a ++ take n b) ++ (drop i a ++ drop n b)) e
-    ∙ ap (λ (t : Word). t ++ (drop i a ++ b)) (append-nil (take i a))
-    ∙ sym (append_assoc (take i a) (drop i a) b)
-    ∙ ap (λ (t : Word). t ++ b) (take-append-drop i a)
+    ap (λ n. (take i a ++ take n b) ++ (drop i a ++ drop n b)) e ∙ ap (λ (t : Word). t ++ (drop i a ++ b)) (append-nil (take i a))
+    ∙ sym (append_assoc (take i a) (drop i a) b) ∙ ap (λ (t : Word). t ++ b) (take-append-drop i a)
 
 pub cut_two : (a b : Word) (power i j leading whole : ℕ) (behind rest : Rest) → digits_alone (a ++ b) ≡ true
     → power ≤ length a + length b → i ≡ min (length a + length b - power) (length a) → j ≡ length a + length b - power - i

@@ -58,8 +58,7 @@ module _ (n good : ℕ) where
   at_bid [] lists r b = sym (append-nil (list_at lists good))
   at_bid (x ∷ xs) lists r b = let next : List (List ℕ) = with_number n lists x in
       let long = length-set lists x (list_at lists x ++ n ∷ []) in
-      at_bid xs next r.1 (subst (λ m. AreBelow m xs) (sym long) b.1)
-      ∙ ⊎_elim
+      at_bid xs next r.1 (subst (λ m. AreBelow m xs) (sym long) b.1) ∙ ⊎_elim
       (search (rules, get_or-set_same, filter-lost, has_not_head, append-nil, filter-kept, or_left, eq-eqb))
       (search (rules, get_or-set_other, ne_eqb))
       (cases_eq good x)
@@ -71,8 +70,7 @@ bid_put f n b lists changed is here c h = record {
   each = λ good l.
       let has : PlainBid → Bool = λ a. has_good (goods_of f.goods a) good in
       let test : ℕ → Bool = λ i. has (bid_at f i) in
-      ap (λ (zs : List (List ℕ)). list_at zs good) c
-      ∙ at_bid n good (goods_of f.goods b) lists (goods_rising f.goods f.dummy b is)
+      ap (λ (zs : List (List ℕ)). list_at zs good) c ∙ at_bid n good (goods_of f.goods b) lists (goods_rising f.goods f.dummy b is)
       (subst (λ m. AreBelow m (goods_of f.goods b)) (sym h.long) (goods_below f.goods f.dummy b is))
       ∙ ap₂ (λ (ys zs : List ℕ). ys ++ zs) (h.each good l) (ap (λ (a : PlainBid). filter (λ (i : ℕ). has a) (n ∷ [])) here)
       ∙ sym (filter-append test (range_with_len 0 n) (n ∷ [])) ∙ ap (filter test) (sym (range_next n));

@@ -19,16 +19,14 @@ use Rattle.analysis.proofs.Comparing.LawsLists.{sort_rising}
 
 given_back : (m n : ℕ → ℕ) (xs : List ℕ) → All (λ x. m (n x) ≡ x) xs → map m (map n xs) ≡ xs
 given_back m n [] h = refl
-given_back m n (x ∷ xs) h =
-    ap₂ (λ (y : ℕ) (ys : List ℕ). y ∷ ys) (All-head (λ y. m (n y) ≡ y) x xs h) (given_back m n xs (All-tail (λ y. m (n y) ≡ y) x xs h))
+given_back m n (x ∷ xs) h = ap₂ (λ (y : ℕ) (ys : List ℕ). y ∷ ys) (All-head (λ y. m (n y) ≡ y) x xs h) (given_back m n xs (All-tail (λ y. m (n y) ≡ y) x xs h))
 
 there_and_back : (m n : ℕ → ℕ) (xs : List ℕ) → IsRising xs → All (λ x. m (n x) ≡ x) xs → sort_by nat_cmp (map m (sort_by nat_cmp (map n xs))) ≡ xs
 there_and_back m n xs rising h = let there = sort_by nat_cmp (map n xs) in
     let moved = IsPermutation-map m there (map n xs) (IsPermutation-sym (map n xs) there (permutation-sort_by nat_cmp (map n xs))) in
     let same = IsPermutation-trans (map m there) xs (sort_by nat_cmp xs) (subst (IsPermutation (map m there)) (given_back m n xs h) moved)
     (permutation-sort_by nat_cmp xs) in
-    sym (search (rules, sorted_is_sort_by, nat_cmp_total, nat_cmp-IsAntisymmetric, sorted-sort_by))
-    ∙ sort_rising xs rising
+    sym (search (rules, sorted_is_sort_by, nat_cmp_total, nat_cmp-IsAntisymmetric, sorted-sort_by)) ∙ sort_rising xs rising
 
 -- ---- kept bids and those of the canonical file
 

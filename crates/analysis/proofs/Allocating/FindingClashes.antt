@@ -50,8 +50,7 @@ find_either p q (x ∷ xs) r = one_found p q x xs r.0 (find_either p q xs r.1)
 
 -- ---- bids that share a good
 
-share_test : (G D : ℕ) (a b : PlainBid) → IsBid G D a → IsBid G D b
-    → list_any (λ good. has_good (goods_of G b) good) (goods_of G a) ≡ not (can_both_win a b)
+share_test : (G D : ℕ) (a b : PlainBid) → IsBid G D a → IsBid G D b → list_any (λ good. has_good (goods_of G b) good) (goods_of G a) ≡ not (can_both_win a b)
 share_test G D a b is_a is_b = let shares : ℕ → Bool = has_good (goods_of G b) in
     ⊎_elim
     (λ (win : can_both_win a b ≡ true).
@@ -79,8 +78,7 @@ module _ (f : PlainFile) (is : IsPlainFile f) where
       → least_holder holders start goods ≡ lesser start (find (λ j. list_any (λ good. has f good j) goods) later)
   least_is later holders rises h [] below start = sym (ap (lesser start) (find_none (λ j. false) later (λ j c. refl)) ∙ lesser_none start)
   least_is later holders rises h (good ∷ goods) below start = let others : Option ℕ = find (λ j. list_any (λ g. has f g j) goods) later in
-      least_is later holders rises h goods below.1 (lesser start (holder_at holders good))
-      ∙ lesser_assoc start (holder_at holders good) others
+      least_is later holders rises h goods below.1 (lesser start (holder_at holders good)) ∙ lesser_assoc start (holder_at holders good) others
       ∙ ap (lesser start)
       (search (rules, find_either))
 
@@ -99,8 +97,7 @@ at_held : (n good : ℕ) (goods : List ℕ) (holders : List (Option ℕ)) → Ar
 at_held n good [] holders below = refl
 at_held n good (x ∷ xs) holders below = let next : List (Option ℕ) = set holders x (Some n) in
     let long = length-set holders x (Some n) in
-    at_held n good xs next (subst (λ m. AreBelow m xs) (sym long) below.1)
-    ∙ ⊎_elim
+    at_held n good xs next (subst (λ m. AreBelow m xs) (sym long) below.1) ∙ ⊎_elim
     (search (rules, get_or-set_same, cond_same, or_left, eq-eqb))
     (search (rules, get_or-set_other, ne_eqb))
     (cases_eq good x)

@@ -32,8 +32,7 @@ module _ (f : PlainFile) where
   all_win_if_none [] e = refl
   all_win_if_none (i ∷ later) e = by (first_rival f i later) refl (all_win_if_none later)
     where
-      by : (o : Option ℕ) → first_rival f i later ≡ o → (first_clash f later ≡ None → can_all_win f later ≡ true)
-          → can_all_win f (i ∷ later) ≡ true
+      by : (o : Option ℕ) → first_rival f i later ≡ o → (first_clash f later ≡ None → can_all_win f later ≡ true) → can_all_win f (i ∷ later) ≡ true
       by None h others = let rest : first_clash f later ≡ None = sym (ap (λ (o : Option ℕ). pair_or i o (first_clash f later)) h) ∙ e in
           and_from (list_all (λ j. can_both_win (bid_at f i) (bid_at f j)) later) (can_all_win f later)
           (list_all_from (λ j. can_both_win (bid_at f i) (bid_at f j)) later
@@ -47,8 +46,7 @@ module _ (f : PlainFile) where
       let win : ℕ → Bool = λ j. can_both_win (bid_at f i) (bid_at f j) in
       let parts = and_parts (list_all win later) (can_all_win f later) h in
       ap (λ (o : Option ℕ). pair_or i o (first_clash f later))
-      (find_none (clash i) later (λ j c. not_from_true (win j) (list_all_at win later parts.0 j c)))
-      ∙ none_if_all_win later parts.1
+      (find_none (clash i) later (λ j c. not_from_true (win j) (list_all_at win later parts.0 j c))) ∙ none_if_all_win later parts.1
 
   pub first_pair : (bids : List ℕ) → IsRising bids → (i j : ℕ) → first_clash f bids ≡ Some (i, j) → IsFirstClash f bids i j
   first_pair [] r i j e = absurd (cc)
@@ -61,8 +59,7 @@ module _ (f : PlainFile) where
           (λ (g : Contains later k). let above = has_above w later k r.0 (has_from_contains later k g) in absurd (omega arith)) (Contains-cons_cases w later k c))
           (λ (h : Contains later l). h) (Contains-cons_cases w later l d)
 
-      by : (o : Option ℕ) → first_rival f w later ≡ o → (first_clash f later ≡ Some (i, j) → IsFirstClash f later i j)
-          → IsFirstClash f (w ∷ later) i j
+      by : (o : Option ℕ) → first_rival f w later ≡ o → (first_clash f later ≡ Some (i, j) → IsFirstClash f later i j) → IsFirstClash f (w ∷ later) i j
       by None h others = let rest : first_clash f later ≡ Some (i, j) = sym (ap (λ (o : Option ℕ). pair_or w o (first_clash f later)) h) ∙ e in
           let p = others rest in
           record {

@@ -8,8 +8,7 @@ use Rattle.analysis.proofs.Explaining.Packings.{rising_from_pairs}
 use Rattle.analysis.proofs.Allocating.LpRows.{in_numbers, passing_rise}
 use Rattle.std.specs.Cmp.{both_ways as same_test}
 
-pub rising_of : (named sorted winners : List ℕ) → IsPermutation named sorted → IsSorted nat_cmp sorted → winners ≡ dedup eqb sorted
-    → IsRisingOf named winners
+pub rising_of : (named sorted winners : List ℕ) → IsPermutation named sorted → IsSorted nat_cmp sorted → winners ≡ dedup eqb sorted → IsRisingOf named winners
 rising_of named sorted winners p s e = record {
   rises = subst IsRising (sym e)
       (search (rules, rising_from_pairs, AllPairs-from_increasing, IsStrictlyIncreasing-dedup));

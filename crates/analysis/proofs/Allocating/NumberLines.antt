@@ -78,8 +78,7 @@ pub no_number : (w : Word) → bid_number w ≡ None → is_bid_number w ≡ fal
 no_number w e = search (rules, cond-true)
 
 pub fails_at : (ws : List Word) (k : ℕ) (w : Word) → k < length ws → w ≡ get_or ws k w → is_bid_number w ≡ false → list_all is_bid_number ws ≡ false
-fails_at ws k w l is f =
-    false_from_ne_true (list_all is_bid_number ws) (λ t. both_ways (is_bid_number w) f (list_all_at is_bid_number ws t w (k, l, sym is)))
+fails_at ws k w l is f = false_from_ne_true (list_all is_bid_number ws) (λ t. both_ways (is_bid_number w) f (list_all_at is_bid_number ws t w (k, l, sym is)))
 
 pub begins_at : (ws : List Word) (k : ℕ) (w : Word) → k < length ws → w ≡ get_or ws k w → list_all is_bid_number (take k ws) ≡ true
     → is_bid_number w ≡ true → begins_with_number ws ≡ true

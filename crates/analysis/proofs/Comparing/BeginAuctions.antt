@@ -21,8 +21,7 @@ all_counted_alike left right are bidder =
 
 -- and with a change some bidder is not
 some_counted_unlike : (left right : List (List (Atom (List ℕ)))) (c : PlainBidderChange) (rest : List PlainBidderChange)
-    → AreBidderChanges left right (c ∷ rest)
-    → (bidder : List (Atom (List ℕ))) × (count_of bidder_cmp bidder left ≡ count_of bidder_cmp bidder right → ⊥)
+    → AreBidderChanges left right (c ∷ rest) → (bidder : List (Atom (List ℕ))) × (count_of bidder_cmp bidder left ≡ count_of bidder_cmp bidder right → ⊥)
 some_counted_unlike left right c rest are =
     by c.left c.right refl refl (All-head (IsBidderChange left right) c rest are.each).some
   where

@@ -25,8 +25,7 @@ once_each-one index bundle x = search (rules)
 
 -- one more bid of a bidder
 pub one_more_bid : (index : ℕ) (bids : List PlainBid) (i : ℕ) (bid : PlainBid) → slice_get bids i ≡ Some bid → (bundle first before after : List ℕ)
-    → before ≡ first ++ once_each index bundle (offers (take i bids))
-    → after ≡ before ++ cond (is_eq (bundle_cmp bid.goods bundle)) (index ∷ []) []
+    → before ≡ first ++ once_each index bundle (offers (take i bids)) → after ≡ before ++ cond (is_eq (bundle_cmp bid.goods bundle)) (index ∷ []) []
     → after ≡ first ++ once_each index bundle (offers (take (i + 1) bids))
 one_more_bid index bids i bid e bundle first before after so_far more = let at : get_or bids i bid ≡ bid = get_or_from_slice_get bids i bid bid e in
     let list : offers (take (i + 1) bids) ≡ offers (take i bids) ++ atom_of bid ∷ [] =

@@ -90,21 +90,16 @@ module _ (left right : List (List (Atom (List ℕ)))) where
   }
     where
       firsts : with_left changes ≡ some
-      firsts = ap with_left k.behind
-          ∙ filter-append (λ c. is_some c.left) some k.added
+      firsts = ap with_left k.behind ∙ filter-append (λ c. is_some c.left) some k.added
           ∙ ap₂ (λ (xs ys : List PlainBidderChange). xs ++ ys) (all_pass (λ c. is_some c.left) some h.each_left)
-          (search (rules, none_pass, All-weaker))
-          ∙ append-nil some
+          (search (rules, none_pass, All-weaker)) ∙ append-nil some
 
       lasts : right_alone changes ≡ k.added
-      lasts = ap right_alone k.behind
-          ∙ filter-append (λ c. is_none c.left) some k.added
-          ∙ ap₂ (λ (xs ys : List PlainBidderChange). xs ++ ys)
+      lasts = ap right_alone k.behind ∙ filter-append (λ c. is_none c.left) some k.added ∙ ap₂ (λ (xs ys : List PlainBidderChange). xs ++ ys)
           (none_pass (λ c. is_none c.left) some (search (rules, All-weaker)))
           (search (rules, all_pass, All-weaker))
 
 -- those that still wait are of those that waited
 pub rest_within : (P : ℕ → Type 0) (left right : List (List (Atom (List ℕ)))) (lefts excess rest : List ℕ) (changes : List PlainBidderChange)
     → AreLefts left right lefts excess changes → rest ≡ waiting_after right excess excess (map (bidder_at left) lefts) → All P excess → All P rest
-rest_within P left right lefts excess rest changes h e all =
-    subst (All P) (sym e) (All-counted P excess _ (λ i. let taken = h.taken i in omega arith) all)
+rest_within P left right lefts excess rest changes h e all = subst (All P) (sym e) (All-counted P excess _ (λ i. let taken = h.taken i in omega arith) all)

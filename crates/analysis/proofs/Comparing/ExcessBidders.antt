@@ -10,8 +10,7 @@ bidder_at_index bidders index bidder l e = get_or-map offers bidders index bidde
 
 -- the bidders from the index on that are in excess are named, last first, and the others from `end` on are taken
 abbrev pub AreWalked : List (List PlainBid) → List (List PlainBid) → ℕ → ℕ → List ℕ → Type 0
-AreWalked bidders others index end indices =
-    IsWalked bidder_cmp [] bidder_cmp_total bidder_cmp_equal (map offers bidders) (map offers others) index end indices
+AreWalked bidders others index end indices = IsWalked bidder_cmp [] bidder_cmp_total bidder_cmp_equal (map offers bidders) (map offers others) index end indices
 
 pub end_within : (bidders others : List (List PlainBid)) (index end : ℕ) (indices : List ℕ) → AreWalked bidders others index end indices → end ≤ length others
 end_within bidders others index end indices w = simp length-map at w.taken.within
@@ -49,8 +48,7 @@ module _ (bidders others : List (List PlainBid)) (later end before : ℕ) (indic
       walked_equal bidder_cmp [] bidder_cmp_total bidder_cmp_equal (map offers bidders) (map offers others) (later - 1) end before indices up index_within
       walked_later skipped_at (before - 1) (omega arith) (test_at (before - 1) other (omega arith) f ∙ tied)
 
-  pub one_excess : NeverFall (map offers others)
-      → (0 < before → is_eq (bidder_cmp (offers bidder) (bidder_at (map offers others) (before - 1))) ≡ false)
+  pub one_excess : NeverFall (map offers others) → (0 < before → is_eq (bidder_cmp (offers bidder) (bidder_at (map offers others) (before - 1))) ≡ false)
       → AreWalked bidders others (later - 1) before (indices ++ (later - 1) ∷ [])
   one_excess others_up differ =
       walked_excess bidder_cmp [] bidder_cmp_total bidder_cmp_equal (map offers bidders) (map offers others) (later - 1) end before indices up index_within

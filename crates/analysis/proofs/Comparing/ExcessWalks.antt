@@ -65,8 +65,7 @@ module _ {X : Type 0} (cmp : X → X → Ordering) (none : X) where
 
   -- the elements between two indices are none of these
   count_past : (x : X) (xs : List X) (number from end : ℕ) → from + number ≡ end → end ≤ length xs
-      → ((k : ℕ) → from ≤ k → k < end → is_eq (cmp x (get_or xs k none)) ≡ false)
-      → count_of cmp x (drop from xs) ≡ count_of cmp x (drop end xs)
+      → ((k : ℕ) → from ≤ k → k < end → is_eq (cmp x (get_or xs k none)) ≡ false) → count_of cmp x (drop from xs) ≡ count_of cmp x (drop end xs)
   count_past x xs zero from end e within differ = let same : from ≡ end = omega arith in ap (λ n. count_of cmp x (drop n xs)) same
   count_past x xs (suc number) from end e within differ = let first = count_from x xs from (omega arith) in
       let other : cond {A = ℕ} (is_eq (cmp x (get_or xs from none))) 1 0 ≡ 0 = search rules in
@@ -92,14 +91,12 @@ module _ {X : Type 0} (cmp : X → X → Ordering) (none : X) (total : IsTotalOr
   -- others that are greater than the last element are greater than all elements before it
   taken_past : (xs others : List X) (index end before : ℕ) → NeverAbove cmp none xs → index < length xs
       → AreTaken cmp none xs others (index + 1) end → before ≤ end
-      → ((k : ℕ) → before ≤ k → k < end → is_lt (cmp (get_or xs index none) (get_or others k none)) ≡ true)
-      → AreTaken cmp none xs others (index + 1) before
+      → ((k : ℕ) → before ≤ k → k < end → is_lt (cmp (get_or xs index none) (get_or others k none)) ≡ true) → AreTaken cmp none xs others (index + 1) before
   taken_past xs others index end before up within w l greater = record {
     within = omega (arith, w.within);
     counted = λ k m.
         count_past cmp none (get_or xs k none) others (end - before) before end (omega arith) w.within
-        (search (rules, below_further, not_above_last, within, less_from_test))
-        ∙ w.counted k m;
+        (search (rules, below_further, not_above_last, within, less_from_test)) ∙ w.counted k m;
   }
 
   -- an element takes its equal
@@ -127,8 +124,7 @@ module _ {X : Type 0} (cmp : X → X → Ordering) (none : X) (total : IsTotalOr
 
   -- none of the others before the end is equal to an element that is greater than the last of them
   none_equal : (x : X) (others : List X) (end : ℕ) → NeverAbove cmp none others → end ≤ length others
-      → ((last : ℕ) → last + 1 ≡ end → cmp x (get_or others last none) ≡ Greater)
-      → (k : ℕ) → k < end → is_eq (cmp x (get_or others k none)) ≡ false
+      → ((last : ℕ) → last + 1 ≡ end → cmp x (get_or others last none) ≡ Greater) → (k : ℕ) → k < end → is_eq (cmp x (get_or others k none)) ≡ false
   none_equal x others end up within greater k below = let last = end - 1 in
       let less : cmp (get_or others last none) x ≡ Less =
       search rules in
@@ -179,8 +175,7 @@ module _ {X : Type 0} (cmp : X → X → Ordering) (none : X) (total : IsTotalOr
         → IsWalked xs others index last indices
     walked_equal last e tied = grind (arith, common_steps, equal_from, past, one_fails, equal_left, taken_equal)
 
-    pub walked_excess : NeverAbove cmp none others
-        → ((last : ℕ) → last + 1 ≡ before → is_eq (cmp (get_or xs index none) (get_or others last none)) ≡ false)
+    pub walked_excess : NeverAbove cmp none others → ((last : ℕ) → last + 1 ≡ before → is_eq (cmp (get_or xs index none) (get_or others last none)) ≡ false)
         → IsWalked xs others index before (indices ++ index ∷ [])
     walked_excess others_up differ = let least = none_equal (get_or xs index none) others before others_up past.within
         (search (rules, greater_from_tests)) in

@@ -13,8 +13,7 @@ by_bundle c d = bundle_cmp c.bundle d.bundle
 strictly : (changes : List PlainChange) → AllPairs IsEarlier changes → IsStrictlySortedBy by_bundle changes
 unfolding IsStrictlySortedBy
 strictly [] s = tt
-strictly (c ∷ cs) s =
-    (recursion_from_All (λ d. by_bundle c d ≡ Less) cs (AllPairs-head IsEarlier c cs s), strictly cs (AllPairs-tail IsEarlier c cs s))
+strictly (c ∷ cs) s = (recursion_from_All (λ d. by_bundle c d ≡ Less) cs (AllPairs-head IsEarlier c cs s), strictly cs (AllPairs-tail IsEarlier c cs s))
 
 module _ (left right : List (Atom (List ℕ))) where
   -- two changes on one bundle are one
@@ -22,8 +21,7 @@ module _ (left right : List (Atom (List ℕ))) where
   same_on_bundle c d h k e = search (rules)
 
   -- a change of the bids is among all of them
-  pub change_is_there : (changes : List PlainChange) → ArePriceChanges left right changes → (c : PlainChange) → IsPriceChange left right c
-      → Contains changes c
+  pub change_is_there : (changes : List PlainChange) → ArePriceChanges left right changes → (c : PlainChange) → IsPriceChange left right c → Contains changes c
   change_is_there changes are c h = let there = are.all c.bundle (λ e. h.differ (h.on_left ∙ e ∙ sym h.on_right)) in
       let found = Contains-unmap (λ (d : PlainChange). d.bundle) changes c.bundle there in
       search (rules, same_on_bundle, All-contains)

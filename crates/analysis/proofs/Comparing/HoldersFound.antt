@@ -37,8 +37,7 @@ updated old new goods holders h bundle =
 pub added : (old new : BTreeMap (Bor (List ℕ)) Holders) (goods : List ℕ) (holders : Holders) (index : ℕ)
     → UpdatesBy key_cmp (λ key. slice_cmp nat_cmp goods key.now) old new (Some holders) → holders.indices.items ≡ holders_at old goods ++ index ∷ []
     → (bundle : List ℕ) → holders_at new bundle ≡ holders_at old bundle ++ cond (is_eq (bundle_cmp goods bundle)) (index ∷ []) []
-added old new goods holders index h more bundle = ap indices_in (updated old new goods holders h bundle)
-    ∙ ⊎_elim
+added old new goods holders index h more bundle = ap indices_in (updated old new goods holders h bundle) ∙ ⊎_elim
     (λ (y : is_eq (bundle_cmp goods bundle) ≡ true).
     let same : goods ≡ bundle = bundle_cmp_equal goods bundle (equal_from _ y) in
     search rules)
@@ -48,8 +47,7 @@ added old new goods holders index h more bundle = ap indices_in (updated old new
 pub still_passed : (old new : BTreeMap (Bor (List ℕ)) Holders) (goods : List ℕ) (holders : Holders)
     → UpdatesBy key_cmp (λ key. slice_cmp nat_cmp goods key.now) old new (Some holders) → holders.passed ≡ passed_in (found_at old goods)
     → (bundle : List ℕ) → passed_in (found_at new bundle) ≡ passed_in (found_at old bundle)
-still_passed old new goods holders h same bundle = ap passed_in (updated old new goods holders h bundle)
-    ∙ ⊎_elim
+still_passed old new goods holders h same bundle = ap passed_in (updated old new goods holders h bundle) ∙ ⊎_elim
     (λ (y : is_eq (bundle_cmp goods bundle) ≡ true).
     ap (λ b. passed_in (cond b (Some holders) (found_at old bundle))) y ∙ same
     ∙ ap (λ (xs : List ℕ). passed_in (found_at old xs)) (bundle_cmp_equal goods bundle (equal_from _ y)))

@@ -30,8 +30,7 @@ all_pass {X} p (x ∷ xs) h =
 pub none_pass : {X : Type 0} (p : X → Bool) (xs : List X) → All (λ x. p x ≡ false) xs → filter p xs ≡ []
 none_pass p [] h = refl
 none_pass {X} p (x ∷ xs) h =
-    ap (λ b. cond {A = List X} b (x ∷ filter p xs) (filter p xs)) (All-head (λ y. p y ≡ false) x xs h)
-    ∙ none_pass p xs (All-tail (λ y. p y ≡ false) x xs h)
+    ap (λ b. cond {A = List X} b (x ∷ filter p xs) (filter p xs)) (All-head (λ y. p y ≡ false) x xs h) ∙ none_pass p xs (All-tail (λ y. p y ≡ false) x xs h)
 
 -- ---- numbers that rise
 

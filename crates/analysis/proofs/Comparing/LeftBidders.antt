@@ -29,8 +29,7 @@ module _ (bidders others : List (List (Atom (List ℕ)))) (bidder : List (Atom (
 
   -- from the indices behind an index to those from it on
   excess_here : (index : ℕ) (behind : List ℕ) → times (drop index bidders) ≡ is_here index + times (drop (index + 1) bidders)
-      → times (map (bidder_at bidders) behind) ≡ times (drop (index + 1) bidders) - times others → (excess : Bool)
-      → is_excess bidders others index ≡ excess
+      → times (map (bidder_at bidders) behind) ≡ times (drop (index + 1) bidders) - times others → (excess : Bool) → is_excess bidders others index ≡ excess
       → times (map (bidder_at bidders) (cond excess (index ∷ behind) behind)) ≡ times (drop index bidders) - times others
   excess_here index behind all later true e =
       let more : count_of bidder_cmp (bidder_at bidders index) others < count_of bidder_cmp (bidder_at bidders index) (drop index bidders) = ltb-true _ _ e in
@@ -101,8 +100,7 @@ module _ (left right : List (List (Atom (List ℕ)))) (changes : List PlainBidde
       let test = λ (b : List (Atom (List ℕ))). cond {A = ℕ} (is_eq (bidder_cmp bidder b)) 1 0 in
       sum_by-map test (bidder_at right) (rights_of changes)
       ∙ sum_of_same_counts (λ i. test (bidder_at right i)) (rights_of changes) (excess_bidders right left) are.rights
-      ∙ sym (sum_by-map test (bidder_at right) (excess_bidders right left))
-      ∙ excess_counted right left bidder
+      ∙ sym (sum_by-map test (bidder_at right) (excess_bidders right left)) ∙ excess_counted right left bidder
 
   -- without them a bidder is on both sides as often as on the side that has it less often
   pub same_without_changes : (bidder : List (Atom (List ℕ)))

@@ -30,8 +30,7 @@ waits_less old new index same xs =
     all_tested (waits_at new) (λ i. not (i == index) && waits_at old i) xs same ∙ both_tests (λ i. not (i == index)) (waits_at old) xs
 
 pub one_waits_less : (right : List (List (Atom (List ℕ)))) (waiting : List ℕ) (old new : Partners) (index : ℕ) → new.excess ≡ old.excess
-    → new.holders ≡ old.holders
-    → ((i : ℕ) → waits_at new.waits.items i ≡ (not (i == index) && waits_at old.waits.items i)) → ArePartners right waiting old
+    → new.holders ≡ old.holders → ((i : ℕ) → waits_at new.waits.items i ≡ (not (i == index) && waits_at old.waits.items i)) → ArePartners right waiting old
     → ArePartners right (filter (λ i. not (i == index)) waiting) new
 one_waits_less right waiting old new index e f same are = record {
   within = rw e are.within;
@@ -41,8 +40,7 @@ one_waits_less right waiting old new index e f same are = record {
   wait = search (rules, waits_less);
 }
 
-pub set_waits : (waits : List Bool) (index : ℕ) → index < length waits → (i : ℕ)
-    → waits_at (set waits index false) i ≡ (not (i == index) && waits_at waits i)
+pub set_waits : (waits : List Bool) (index : ℕ) → index < length waits → (i : ℕ) → waits_at (set waits index false) i ≡ (not (i == index) && waits_at waits i)
 set_waits waits index l i = search (rules, get_or-set_at, eq-eqb, get_or-set_other, ne_eqb)
 
 pub unset_waits : (waits : List Bool) (index : ℕ) → length waits ≤ index → (i : ℕ) → waits_at waits i ≡ (not (i == index) && waits_at waits i)
@@ -76,8 +74,7 @@ module _ (right : List (List (Atom (List ℕ)))) (waiting : List ℕ) (partners 
   passed_more new goods known now e h same passed = record {
     within = are.within;
     rising = are.rising;
-    holders = λ bundle. ap indices_in (updated partners.holders new goods now h bundle)
-        ∙ ⊎_elim
+    holders = λ bundle. ap indices_in (updated partners.holders new goods now h bundle) ∙ ⊎_elim
         (search (rules, same_goods))
         (search rules)
         (cases_Bool (is_eq (bundle_cmp goods bundle)));

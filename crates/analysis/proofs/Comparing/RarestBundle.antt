@@ -108,8 +108,7 @@ module _ (right : List (List (Atom (List ℕ)))) (excess : List ℕ) where
             tied Equal p f u d = refl
             tied Greater p f u d = absurd (cc)
 
-        at : (xs : List ℕ) → bidders_on right waiting b ≡ xs
-            → (Contains sorted bundle → slice_get (flat_map (bidders_on right waiting) sorted) 0 ≡ Some index)
+        at : (xs : List ℕ) → bidders_on right waiting b ≡ xs → (Contains sorted bundle → slice_get (flat_map (bidders_on right waiting) sorted) 0 ≡ Some index)
             → slice_get (flat_map (bidders_on right waiting) (b ∷ sorted)) 0 ≡ Some index
         at [] none next = ap (λ (xs : List ℕ). slice_get (xs ++ flat_map (bidders_on right waiting) sorted) 0) none ∙ next (later none)
         at (x ∷ xs) some next = let is : b ≡ bundle = same (λ none. absurd (cc)) in

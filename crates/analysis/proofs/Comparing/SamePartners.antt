@@ -20,8 +20,7 @@ map_of_some h (c ∷ xs) all =
     at (h c) (All-head (λ (d : PlainBidderChange). is_some (h d) ≡ true) c xs all)
     (map_of_some h xs (All-tail (λ (d : PlainBidderChange). is_some (h d) ≡ true) c xs all))
   where
-    at : (o : Option ℕ) → is_some o ≡ true → map h xs ≡ map (λ i. Some i) (filter_map h xs)
-        → o ∷ map h xs ≡ map (λ i. Some i) (cons_option o (filter_map h xs))
+    at : (o : Option ℕ) → is_some o ≡ true → map h xs ≡ map (λ i. Some i) (filter_map h xs) → o ∷ map h xs ≡ map (λ i. Some i) (cons_option o (filter_map h xs))
     at (Some i) e same = ap (λ (os : List (Option ℕ)). Some i ∷ os) same
     at None e same = absurd (cc)
 

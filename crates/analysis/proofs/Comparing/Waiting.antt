@@ -69,8 +69,7 @@ pub waiting_more : (right : List (List (Atom (List ℕ)))) (excess waiting : Lis
     → waiting_after right excess waiting (bidders ++ bidder ∷ [])
     ≡ without_partner (partner_of right excess (waiting_after right excess waiting bidders) bidder) (waiting_after right excess waiting bidders)
 waiting_more right excess waiting [] bidder = refl
-waiting_more right excess waiting (b ∷ bidders) bidder =
-    waiting_more right excess (without_partner (partner_of right excess waiting b) waiting) bidders bidder
+waiting_more right excess waiting (b ∷ bidders) bidder = waiting_more right excess (without_partner (partner_of right excess waiting b) waiting) bidders bidder
 
 pub partners_more : (right : List (List (Atom (List ℕ)))) (excess waiting : List ℕ) (bidders : List (List (Atom (List ℕ)))) (bidder : List (Atom (List ℕ)))
     → partners_of right excess waiting (bidders ++ bidder ∷ [])

@@ -47,8 +47,7 @@ module _ (f : PlainFile) (reasons : List PlainReason) (is : IsPlainFile f) (long
 
   kept_inside : (goods : List ℕ) (js : List ℕ) → AllByRecursion (IsPointInside f goods) js → AllByRecursion (IsKeptInside f reasons goods) js
   kept_inside goods [] h = tt
-  kept_inside goods (j ∷ js) h =
-      (record { or = h.0.or; kept = point_is_kept j h.0.point; inside = h.0.inside }, kept_inside goods js h.1)
+  kept_inside goods (j ∷ js) h = (record { or = h.0.or; kept = point_is_kept j h.0.point; inside = h.0.inside }, kept_inside goods js h.1)
 
   is_reason : (i : ℕ) (r : PlainReason) → IsDecided f i r → IsReason f reasons i r
   is_reason i (Keep k) d = d

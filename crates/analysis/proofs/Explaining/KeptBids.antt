@@ -50,8 +50,7 @@ kept_bids_are f = let names = named_bid (kept_dummies f) in
 listed : (xs : List PlainBid) (b : PlainBid) → Contains xs b → (k : ℕ) × (slice_get xs k ≡ Some b)
 listed xs b c = (c.0, slice_get-get_or xs c.0 b c.1 ∙ ap Some c.2)
 
-pub or-points-are-kept : (f : PlainFile) → (a : Atom (List ℕ)) → Contains (or_points_of f) a
-    → (k : ℕ) × (slice_get (kept_bids f) k ≡ Some (bid_from None a))
+pub or-points-are-kept : (f : PlainFile) → (a : Atom (List ℕ)) → Contains (or_points_of f) a → (k : ℕ) × (slice_get (kept_bids f) k ≡ Some (bid_from None a))
 or-points-are-kept f a c = grind (arith, common_steps, kept_bids_are, listed, Contains-append_left, Contains-map)
 
 pub xor-points-are-kept : (f : PlainFile) → (d : ℕ) → Contains (kept_dummies f) d → (a : Atom (List ℕ)) → Contains (points_of_dummy f d) a
@@ -80,8 +79,7 @@ bids-different f = different_append (map (bid_from None) (or_points_of f)) (flat
 
 pub kept-once : (f : PlainFile) → (k l : ℕ) → k < length (kept_bids f) → l < length (kept_bids f)
     → slice_get (kept_bids f) k ≡ slice_get (kept_bids f) l → k ≡ l
-kept-once f =
-    different_indices (kept_bids f) (subst (λ (bs : List PlainBid). AreDifferent bs) (sym (kept_bids_are f)) (bids-different f))
+kept-once f = different_indices (kept_bids f) (subst (λ (bs : List PlainBid). AreDifferent bs) (sym (kept_bids_are f)) (bids-different f))
 
 -- ---- each is a best bid of the file
 

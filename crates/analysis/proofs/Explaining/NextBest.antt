@@ -82,8 +82,7 @@ module _ {known : Known} {index : ℕ} {n : NumberedBid} {walk : Walk} (best : I
   abbrev fates : List (Option (Vec ℕ Global))
   fates = known.fates.or.items
 
-  pub or_here : dummy ≡ None
-      → (walk.passed < length fates) × ((d : Option (Vec ℕ Global))
+  pub or_here : dummy ≡ None → (walk.passed < length fates) × ((d : Option (Vec ℕ Global))
       → plain_fate (get_or fates walk.passed d) ≡ or_fate Bounded (points_of f None) (offer n))
   or_here e = let r = best_from None e in
       let s = at_seam (map plain_fate fates) (or_fate Bounded (points_of f None)) (map offer own_done) (offer n) r.0 walk.passed
@@ -144,8 +143,7 @@ module _ {known : Known} {index : ℕ} {n : NumberedBid} {walk : Walk} (best : I
   reason : (o : Option ℕ) → dummy ≡ o → reason_of f n.number ≡ best_reason f n.number o
   reason o e = search (rules, reason_best, positive, within, alike_from, one_key_same, bidder)
 
-  kept_as : is_kept_bid f dummy n ≡ true
-      → IsKeptAs f n.number (start_of starts dummy + length walk.points.items)
+  kept_as : is_kept_bid f dummy n ≡ true → IsKeptAs f n.number (start_of starts dummy + length walk.points.items)
   kept_as t = search (rules, next_point, point_there, is, bidder_is_kept, within, positive, bidder, start_of, long_points, seen)
 
   pub passed_fits : walk.passed ≤ MAX_BIDS
@@ -163,11 +161,9 @@ module _ {known : Known} {index : ℕ} {n : NumberedBid} {walk : Walk} (best : I
   pub keep_fits : {start : ℕ} → is_kept_bid f dummy n ≡ true → start_of starts dummy ≡ start → start + length walk.points.items < MAX_BIDS
   keep_fits t e = search (rules, kept_as, slice_get_within, start_of, is, kept_count)
 
-  pub keep_reason : {start : ℕ} → is_kept_bid f dummy n ≡ true → start_of starts dummy ≡ start
-      → Keep (start + length walk.points.items) ≡ reason_of f n.number
+  pub keep_reason : {start : ℕ} → is_kept_bid f dummy n ≡ true → start_of starts dummy ≡ start → Keep (start + length walk.points.items) ≡ reason_of f n.number
   keep_reason t e = ap (λ (k : ℕ). Keep (k + length walk.points.items)) (sym e)
-      ∙ sym (reason dummy refl ∙ kept_reason f n.number dummy (ap (is_kept_atom f dummy) (sym offered) ∙ t)
-      ∙ ap Keep (search (rules, kept_number_is, kept_as)))
+      ∙ sym (reason dummy refl ∙ kept_reason f n.number dummy (ap (is_kept_atom f dummy) (sym offered) ∙ t) ∙ ap Keep (search (rules, kept_number_is, kept_as)))
 
   -- the number of a point inside its goods
   point_before : (o : Option ℕ) → dummy ≡ o → is_kept_bid f dummy n ≡ false → (p : ℕ) → p < length (points_of f o)
@@ -202,8 +198,7 @@ module _ {known : Known} {index : ℕ} {n : NumberedBid} {walk : Walk} (best : I
 
     pub inside_reason : Inside (get_or walk.points.items p 0) ≡ reason_of f n.number
     inside_reason =
-        ap Inside own_point.1
-        ∙ sym (reason (Some d) xor ∙ ap (xor_reason f d n.number) (ap (xor_fate (points_of f (Some d))) (sym offered) ∙ fate))
+        ap Inside own_point.1 ∙ sym (reason (Some d) xor ∙ ap (xor_reason f d n.number) (ap (xor_fate (points_of f (Some d))) (sym offered) ∙ fate))
 
   -- ---- the walk has passed it
 

@@ -151,21 +151,18 @@ module _ {known : Known} {index : ℕ} {n : NumberedBid} (best : IsNextBest know
       ap (filter (is_best_of f dummy)) (sym (take-append-drop index bids)) ∙ filter-append (is_best_of f dummy) (take index bids) (drop index bids)
       ∙ ap (λ (xs : List NumberedBid). done ++ xs)
       (ap (filter (is_best_of f dummy)) (drop_more bids index n (next_within best.next) ∙ ap (λ (m : NumberedBid). m ∷ drop (index + 1) bids)
-      (next_at best.next n))
-      ∙ filter-kept (is_best_of f dummy) n (drop (index + 1) bids) passes)
+      (next_at best.next n)) ∙ filter-kept (is_best_of f dummy) n (drop (index + 1) bids) passes)
 
   pub passed_more : passed_bids f bids dummy (index + 1) ≡ done ++ n ∷ []
   passed_more =
       filter_more (is_best_of f dummy) bids index n (next_within best.next)
-      ∙ ap (λ (m : NumberedBid). done ++ cond (is_best_of f dummy m) (m ∷ []) []) (next_at best.next n)
-      ∙ ap (λ (b : Bool). done ++ cond b (n ∷ []) []) passes
+      ∙ ap (λ (m : NumberedBid). done ++ cond (is_best_of f dummy m) (m ∷ []) []) (next_at best.next n) ∙ ap (λ (b : Bool). done ++ cond b (n ∷ []) []) passes
 
   abbrev rest : List (Atom (List ℕ))
   rest = offer n ∷ map offer more
 
   pub best_split : best_bids f.goods (atoms_of_bidder f dummy) ≡ map offer done ++ rest
-  best_split =
-      sym (all_passed f is bids order dummy next_below) ∙ ap (map offer) split ∙ map-append offer done (n ∷ more)
+  best_split = sym (all_passed f is bids order dummy next_below) ∙ ap (map offer) split ∙ map-append offer done (n ∷ more)
 
   -- the bidder's points so far
   abbrev pub kept : List NumberedBid

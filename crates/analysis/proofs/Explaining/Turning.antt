@@ -41,8 +41,7 @@ module _ {known : Known} {index : ℕ} {n : NumberedBid} (next : IsNext known in
   next_here = numbered f bids order (bid_at f 0) n (index, next_within, next_at n)
 
   -- no bid comes before an earlier one
-  key_after : (i j : ℕ) (d : NumberedBid) → i ≤ j → j < length bids
-      → is_lt (key_cmp (seen_bid (get_or bids j d).bid) (seen_bid (get_or bids i d).bid)) ≡ false
+  key_after : (i j : ℕ) (d : NumberedBid) → i ≤ j → j < length bids → is_lt (key_cmp (seen_bid (get_or bids j d).bid) (seen_bid (get_or bids i d).bid)) ≡ false
   key_after i j d l m = key_first (key_cmp (seen_bid (get_or bids j d).bid) (seen_bid (get_or bids i d).bid))
       (nat_cmp (get_or bids i d).bid.price (get_or bids j d).bid.price) (nat_cmp (get_or bids j d).number (get_or bids i d).number)
       (sorted_far (λ (a b : NumberedBid). is_lt (numbered_cmp a b)) (ranks_by numbered_cmp_total (λ (n : NumberedBid). n)) bids order.sorted i j d l m)
@@ -102,8 +101,7 @@ module _ {known : Known} {index : ℕ} {n : NumberedBid} (next : IsNext known in
         let long = length-take-le index bids (omega (arith, next_within)) in
         let there = get_or-take index bids i last (omega arith) in
         let m : NumberedBid = get_or bids i last in
-        ap (is_best_of f n.bid.dummy) there
-        ∙ false_from_ne_true (is_best_of f n.bid.dummy m) (λ t.
+        ap (is_best_of f n.bid.dummy) there ∙ false_from_ne_true (is_best_of f n.bid.dummy m) (λ t.
         let low = bidders_rise i (index - 1) last (omega arith) (omega (arith, next_within)) in
         let high = bidders_rise (index - 1) index last (omega arith) next_within in
         let next : bidder_of (get_or bids index last).bid.dummy ≡ bidder_of n.bid.dummy = ap (λ (k : NumberedBid). bidder_of k.bid.dummy) (next_at last) in
@@ -136,8 +134,7 @@ module _ {known : Known} {index : ℕ} {n : NumberedBid} (next : IsNext known in
 
   pub turned : {walk after : Walk} → IsAt f bids index walk
       → (dummy_of walk.best ≡ n.bid.dummy → (after.passed ≡ walk.passed) × (after.points.items ≡ walk.points.items))
-      → ((dummy_of walk.best ≡ n.bid.dummy → ⊥) → (after.passed ≡ 0) × (after.points.items ≡ []))
-      → HasPassed f bids n.bid.dummy index after
+      → ((dummy_of walk.best ≡ n.bid.dummy → ⊥) → (after.passed ≡ 0) × (after.points.items ≡ [])) → HasPassed f bids n.bid.dummy index after
   turned {walk} {after} is same other = search (rules, none_passed, same_price_cases)
 
   -- ---- a bid that is not a best bid with a price above 0

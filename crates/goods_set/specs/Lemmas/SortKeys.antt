@@ -53,9 +53,10 @@ greater_from : (xs ys : List ℕ) → slice_cmp nat_cmp ys xs ≡ Less → slice
 greater_from [] [] h = absurd (cc)
 greater_from [] (y ∷ ys) h = absurd (cc)
 greater_from (x ∷ xs) [] h = refl
-greater_from (x ∷ xs) (y ∷ ys) h = ⊎_elim (λ (s : x ≡ y). rw ( s,
-      nat_cmp-refl y,
-    ) (greater_from xs ys (search (rules, nat_cmp-refl)))) (search (rules, nat_cmp-gt)) (cases_order x y)
+greater_from (x ∷ xs) (y ∷ ys) h = ⊎_elim (λ (s : x ≡ y). rw (
+  s,
+  nat_cmp-refl y,
+) (greater_from xs ys (search (rules, nat_cmp-refl)))) (search (rules, nat_cmp-gt)) (cases_order x y)
 
 first_goods-fit : (xs : List ℕ) → AreBelow 65536 xs → first_goods xs < 2 ^ 48
 unfolding first_goods

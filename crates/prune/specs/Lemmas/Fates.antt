@@ -51,10 +51,8 @@ indices_below-push points x bundle n =
     let last : test count ≡ false =
     ap (λ (a : Atom (List ℕ)). is_below a.bundle bundle) (get_or_push points x (record { bundle = []; price = 0 }) count refl) ∙ n in
     ap (λ m. filter test (range_with_len 0 m)) (length_push points x)
-    ∙ ap (filter test) (range_more 0 count ∙ ap (λ m. range_with_len 0 count ++ m ∷ []) zero_more)
-    ∙ filter-append test (range_with_len 0 count) (count ∷ [])
-    ∙ ap (λ (zs : List ℕ). filter test (range_with_len 0 count) ++ zs) (filter-lost test count [] last)
-    ∙ append-nil (filter test (range_with_len 0 count))
+    ∙ ap (filter test) (range_more 0 count ∙ ap (λ m. range_with_len 0 count ++ m ∷ []) zero_more) ∙ filter-append test (range_with_len 0 count) (count ∷ [])
+    ∙ ap (λ (zs : List ℕ). filter test (range_with_len 0 count) ++ zs) (filter-lost test count [] last) ∙ append-nil (filter test (range_with_len 0 count))
     ∙ filter_same_on test own (range_with_len 0 count) (All-from_Contains (λ index. test index ≡ own index) (range_with_len 0 count)
     (λ index c. ap (λ (a : Atom (List ℕ)). is_below a.bundle bundle) (atom_at-push points x index (in_range count index c))))
 
@@ -85,8 +83,7 @@ all_within points bundle =
 
 atoms_at_below : (points : List (Atom (List ℕ))) (bundle : List ℕ) → atoms_at points (indices_below points bundle) ≡ atoms_below points bundle
 atoms_at_below points bundle =
-    map-filter (atom_at points) (λ a. is_below a.bundle bundle) (range_with_len 0 (length points))
-    ∙ ap (filter (λ a. is_below a.bundle bundle))
+    map-filter (atom_at points) (λ a. is_below a.bundle bundle) (range_with_len 0 (length points)) ∙ ap (filter (λ a. is_below a.bundle bundle))
     (sym (fill_by_all (atom_at points) points (length points) (record { bundle = []; price = 0 }) refl (λ k l. refl)))
 
 searched_packing : (kind : SearchKind) (points : List (Atom (List ℕ))) (bundle : List ℕ) (price : ℕ) → price ≤ or_value (atoms_below points bundle) bundle

@@ -141,7 +141,9 @@ xor_points_are goods atoms a = (
 
 pub or_points_are : (goods : ℕ) (atoms : List (Atom (List ℕ))) (a : Atom (List ℕ))
     → (Contains (or_points goods atoms) a ↔ (IsBundle goods a.bundle × IsOrPoint atoms a.bundle × (a.price ≡ or_value atoms a.bundle)))
-or_points_are goods atoms a = ( λ c. let p = points_where-are (is_or_point goods atoms) (or_value atoms) goods a c in ( p.bundle,
+or_points_are goods atoms a = (
+  λ c. let p = points_where-are (is_or_point goods atoms) (or_value atoms) goods a c in (
+    p.bundle,
     IsOrPoint-from_test goods atoms a.bundle p.bundle p.chosen,
     p.price,
   ),

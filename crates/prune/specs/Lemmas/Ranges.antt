@@ -22,8 +22,7 @@ range_contains n k l =
 
 -- the first number below n that passes
 pub first_in_range : (p : ℕ → Bool) (n first : ℕ) → first < n → p first ≡ true → ((k : ℕ) → k < first → p k ≡ false) → find p (range_with_len 0 n) ≡ Some first
-first_in_range p n first l t before =
-    find_first (λ i j. i < j) p (range_with_len 0 n) (range_rising 0 n) first (range_contains n first l) t before
+first_in_range p n first l t before = find_first (λ i j. i < j) p (range_with_len 0 n) (range_rising 0 n) first (range_contains n first l) t before
 
 pub none_in_range : (p : ℕ → Bool) (n : ℕ) → ((k : ℕ) → k < n → p k ≡ false) → find p (range_with_len 0 n) ≡ None
 none_in_range p n none = find_none p (range_with_len 0 n) (λ k c. none k (in_range n k c))

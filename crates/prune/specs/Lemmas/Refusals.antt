@@ -140,8 +140,7 @@ fewer_searches few many steps others h (bundle ∷ rest) less more k e =
     ap (first_over steps more) (filter-kept few bundle rest t) ∙ first_over-within steps more bundle (filter few rest) within
     ∙ fewer_searches few many steps others h rest (options_after less (others bundle)) (options_after more (steps bundle)) left parts.1)
     (λ (t : few bundle ≡ false).
-    ap (first_over steps more) (filter-lost few bundle rest t)
-    ∙ ⊎_elim
+    ap (first_over steps more) (filter-lost few bundle rest t) ∙ ⊎_elim
     (λ (u : many bundle ≡ true).
     let parts = none_over others less bundle (filter many rest) (sym (ap (first_over others less) (filter-kept many bundle rest u)) ∙ e) in
     fewer_searches few many steps others h rest (options_after less (others bundle)) more (record {
@@ -164,8 +163,7 @@ no_refused_point options goods atoms on e = search (rules, fewer_searches, ltb-t
 pub first_heavy_any_goods : (fewer more limit : ℕ) (atoms : List (Atom (List ℕ))) → All (IsOnBundle fewer) atoms → All (IsOnBundle more) atoms
     → first_heavy fewer limit atoms ≡ first_heavy more limit atoms
 first_heavy_any_goods fewer more limit atoms on there =
-    sym (first_refused-plain limit fewer atoms) ∙ first_refused_any_goods (plain_options limit) fewer more atoms on there
-    ∙ first_refused-plain limit more atoms
+    sym (first_refused-plain limit fewer atoms) ∙ first_refused_any_goods (plain_options limit) fewer more atoms on there ∙ first_refused-plain limit more atoms
 
 pub no_heavy_point : (goods limit : ℕ) (atoms : List (Atom (List ℕ))) → All (IsOnBundle goods) atoms → first_heavy goods limit atoms ≡ None
     → first_heavy goods limit (or_points goods atoms) ≡ None
@@ -226,19 +224,16 @@ none_refused-from options goods atoms h = none_from_within (search_steps_by opti
 
 -- ---- what a refusal says of the steps
 
-least_over : (total : Option ℕ) (each steps : ℕ) → least_of total each < steps
-    → (each < steps) ⊎ ((most : ℕ) × (total ≡ Some most) × (most < steps))
+least_over : (total : Option ℕ) (each steps : ℕ) → least_of total each < steps → (each < steps) ⊎ ((most : ℕ) × (total ≡ Some most) × (most < steps))
 least_over None each steps l = inl l
-least_over (Some most) each steps l =
-    ⊎_elim (λ (m : most < steps). inr (most, refl, m)) (λ (m : steps ≤ most). inl (omega arith)) (cases_lt most steps)
+least_over (Some most) each steps l = ⊎_elim (λ (m : most < steps). inr (most, refl, m)) (λ (m : steps ≤ most). inl (omega arith)) (cases_lt most steps)
 
 after_is : (total : Option ℕ) (steps left : ℕ) → total_after total steps ≡ Some left → (most : ℕ) × (total ≡ Some most) × (most ≤ steps + left)
 after_is None steps left e = absurd (cc)
 after_is (Some most) steps left e = let d : most - steps ≡ left = cc in (most, refl, omega arith)
 
 -- the refused bundle's search takes more steps than one may, or all searches together take more than all may
-pub refused_over : (steps : List ℕ → ℕ) (bundles : List (List ℕ)) (options : SearchOptions) (bundle : List ℕ)
-    → first_over steps options bundles ≡ Some bundle
+pub refused_over : (steps : List ℕ → ℕ) (bundles : List (List ℕ)) (options : SearchOptions) (bundle : List ℕ) → first_over steps options bundles ≡ Some bundle
     → (options.each < steps bundle) ⊎ ((most : ℕ) × (options.total ≡ Some most) × (most < sum_by steps bundles))
 unfolding first_over
 refused_over steps [] options bundle e = absurd (cc)

@@ -49,7 +49,8 @@ module _ (value : List (Atom (List ℕ)) → List ℕ → ℕ) (goods : ℕ) whe
       → ((bundle : List ℕ) → IsBundle goods bundle → value points bundle ≡ value atoms bundle)
       → ((a : Atom (List ℕ)) → Contains points a → IsBundle goods a.bundle × (0 < value atoms a.bundle))
       → (points ≡ [] ↔ is_nonzero (map (value atoms) (all_bundles goods)) ≡ false)
-  no_points nil atoms points keep are = ( search (rules, table_zero),
+  no_points nil atoms points keep are = (
+    search (rules, table_zero),
     λ e. nil_from_none points (λ a c.
         let positive : 0 < value atoms a.bundle = (are a c).1 in
         let none : value atoms a.bundle ≡ 0 = zero_at (value atoms) goods e a.bundle (are a c).0 in
@@ -57,8 +58,7 @@ module _ (value : List (Atom (List ℕ)) → List ℕ → ℕ) (goods : ℕ) whe
   )
 
   -- points that keep the values, and depend on them alone, are the same exactly if the values are
-  same_points : (one other points more : List (Atom (List ℕ)))
-      → ((bundle : List ℕ) → IsBundle goods bundle → value points bundle ≡ value one bundle)
+  same_points : (one other points more : List (Atom (List ℕ))) → ((bundle : List ℕ) → IsBundle goods bundle → value points bundle ≡ value one bundle)
       → ((bundle : List ℕ) → IsBundle goods bundle → value more bundle ≡ value other bundle)
       → (((bundle : List ℕ) → IsBundle goods bundle → value one bundle ≡ value other bundle) → points ≡ more)
       → (map (value one) (all_bundles goods) ≡ map (value other) (all_bundles goods) ↔ points ≡ more)

@@ -23,6 +23,5 @@ pub returns : goal.returns
 returns c = record {
   goods = λ a b one other are also. also.goods ∙ goods_exchanged a.goods b.goods ∙ sym (ap exchanged_goods are.goods);
   bundles = λ a b one other are also. bundles_exchanged a.or_atoms b.or_atoms one.bundles other.bundles are.bundles also.bundles;
-  bidders = λ a b one other are also index. ap (λ (indices : List ℕ). count_of nat_cmp index indices) are.bidders.lefts
-      ∙ sym (also.bidders.rights index);
+  bidders = λ a b one other are also index. ap (λ (indices : List ℕ). count_of nat_cmp index indices) are.bidders.lefts ∙ sym (also.bidders.rights index);
 }

@@ -11,5 +11,4 @@ returns-in-Ok-open_regular-clause-opens g c =
     rw (is_utf8-from_IsUtf8 c.args.path.now c.in-Ok.ensures.cases.1) (rw c.in-Ok.ensures.cases.0 at c.in-Ok-open_regular.ensures.opens)
 
 pub returns-in-Err-clause-opens : goal.returns-in-Err-clause-opens
-returns-in-Err-clause-opens g c =
-    rw (is_utf8-from_IsUtf8 c.args.path.now c.in-Ok.ensures.cases.1) (rw c.in-Ok.ensures.cases.0 at c.in-Err.ensures.opens)
+returns-in-Err-clause-opens g c = rw (is_utf8-from_IsUtf8 c.args.path.now c.in-Ok.ensures.cases.1) (rw c.in-Ok.ensures.cases.0 at c.in-Err.ensures.opens)

@@ -4,8 +4,7 @@ use Rattle.cats_cmd.proofs.Rounding.{round_unread, round_unsent}
 use Rattle.cats_cmd.proofs.round.run_round.Goals as goal
 
 pub returns-in-Err : goal.returns-in-Err
-returns-in-Err g c =
-    rw c.from-in-Err.ensures (rw c.from.ensures (round_unread _ _ _ _ _ _ _ _ c.in-Err.fault c.in-Err.ensures))
+returns-in-Err g c = rw c.from-in-Err.ensures (rw c.from.ensures (round_unread _ _ _ _ _ _ _ _ c.in-Err.fault c.in-Err.ensures))
 
 pub returns-in_err-status : goal.returns-in_err-status
 returns-in_err-status g c =

@@ -17,5 +17,4 @@ returns-clause-value c program text path plain =
 pub returns-clause-compare : goal.returns-clause-compare
 unfolding clap_on_literals
 returns-clause-compare c program text first second one other =
-    line (codes "compare") ((codes "--total-steps=" ++ text) ∷ []) (first ∷ second ∷ []) (one, (other, tt)) refl refl
-    ∙ none_requested _ (begins_with_sign text)
+    line (codes "compare") ((codes "--total-steps=" ++ text) ∷ []) (first ∷ second ∷ []) (one, (other, tt)) refl refl ∙ none_requested _ (begins_with_sign text)

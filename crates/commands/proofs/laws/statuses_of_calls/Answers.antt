@@ -73,8 +73,7 @@ module _ (statuses : List ℕ) (zero : Has statuses 0) (two : Has statuses 2) (f
   -- ---- the sizes of a text
 
   module _ (three : Has statuses 3) (options : SearchOptions) (fine : Option FinePrices) (text : List ℕ) where
-    of_sized : (sized : Sized) → Sizes (Spells (text_read fine text)) (RefusesText fine text) options sized
-        → Has statuses (status_unless (fault_sized sized))
+    of_sized : (sized : Sized) → Sizes (Spells (text_read fine text)) (RefusesText fine text) options sized → Has statuses (status_unless (fault_sized sized))
     of_sized sized h = grind (arith, of_text fine text)
 
     sized : (old new : List ℕ) (needed status : ℕ) → SizesCalls options fine text old new needed status → Contains statuses status

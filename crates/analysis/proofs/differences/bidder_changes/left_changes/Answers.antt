@@ -54,8 +54,7 @@ loop-index-preserved g c =
     rw (take_more lefts k 0 c.loop-index-test.true, c.in_ok-push.ensures.items, map_push plain_bidder_change changes change) (record {
       same = c.take_for-partner.ensures.excess ∙ h.same;
       waiting = subst (λ (xs : List ℕ). ArePartners right xs c.take_for-partner.new.self)
-          (ap (λ (p : Option ℕ). without_partner p now) is
-          ∙ sym (ap (waiting_after right excess excess) (map_push (bidder_at left) (take k lefts) index)
+          (ap (λ (p : Option ℕ). without_partner p now) is ∙ sym (ap (waiting_after right excess excess) (map_push (bidder_at left) (take k lefts) index)
           ∙ waiting_more right excess excess (map (bidder_at left) (take k lefts)) (bidder_at left index)))
           (c.take_for-partner.ensures.partners right now h.waiting);
       so_far = one_more_left left right (take k lefts) index partner excess (map plain_bidder_change changes) (plain_bidder_change change) h.so_far is

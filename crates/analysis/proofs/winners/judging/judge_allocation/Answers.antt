@@ -27,8 +27,7 @@ clash-requires-clause-second c =
 pub returns-in-Some-2-clause-verdict : goal.returns-in-Some-2-clause-verdict
 returns-in-Some-2-clause-verdict c =
     let rising = subst (IsRisingOf c.args.bids.now) (sym c.as_slice-winners.ensures.value) c.in_ok-winners.ensures in
-    ap Ok c.clash.ensures
-    ∙ verdict_is c.args.file.now c.args.bids.now c.as_slice-winners.result.now rising (sym c.first_missing.ensures ∙ c.in_default.is)
+    ap Ok c.clash.ensures ∙ verdict_is c.args.file.now c.args.bids.now c.as_slice-winners.result.now rising (sym c.first_missing.ensures ∙ c.in_default.is)
     (Some (c.in-Some-2.first, c.in-Some-2.second)) (sym c.in-Some-2.is ∙ c.in_ok-first.ensures)
 
 pub revenue-requires-clause-within : goal.revenue-requires-clause-within

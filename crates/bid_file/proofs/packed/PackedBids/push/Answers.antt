@@ -11,16 +11,14 @@ returns-clause-bids c =
     let bid : PlainBid = record { price = c.args.price; goods = c.args.goods.now; dummy = c.args.dummy } in
     spans_push c.self.inside.goods.items c.args.goods.now c.append.new.all.items c.self.inside.spans.items c.push.new.self.items o
     c.self.invariant c.in_ok-start.ensures.goods c.in_ok-start.ensures.start c.in_ok-start.ensures.end
-    c.in_ok-push.ensures.items
-    ∙ ap (λ (bs : List PlainBid). bs ++ bid ∷ []) c.self.view_is
+    c.in_ok-push.ensures.items ∙ ap (λ (bs : List PlainBid). bs ++ bid ∷ []) c.self.view_is
 
 -- where memory for the span is refused, the goods that were put behind the others belong to no bid
 pub returns-in_err-push-clause-same : goal.returns-in_err-push-clause-same
 returns-in_err-push-clause-same c =
     on_err c.from_residual-in_err-push.result
     (spans_kept c.self.inside.goods.items c.args.goods.now c.append.new.all.items c.self.inside.spans.items c.push.new.self.items
-    c.self.invariant c.in_ok-start.ensures.goods c.in_err-push.ensures.items
-    ∙ c.self.view_is)
+    c.self.invariant c.in_ok-start.ensures.goods c.in_err-push.ensures.items ∙ c.self.view_is)
 
 pub invariant_of-self-2 : goal.invariant_of-self-2
 invariant_of-self-2 c =

@@ -10,6 +10,5 @@ returns c =
     (c.in_ok-push_groups.ensures
     ∙ ap₂ (λ (text : List ℕ) (groups : List (List (List ℕ))). fold (with_group c.args.ending c.args.all) text groups) c.new-text.ensures.items
     (ap plain_groups c.as_slice.ensures.value ∙ c.in_ok-judged.ensures))
-    (c.in_ok-push_groups-2.ensures
-    ∙ ap (λ (groups : List (List (List ℕ))). fold (with_group c.args.ending false) c.push_groups.new.text.items groups)
+    (c.in_ok-push_groups-2.ensures ∙ ap (λ (groups : List (List (List ℕ))). fold (with_group c.args.ending false) c.push_groups.new.text.items groups)
     (ap plain_groups c.as_slice-2.ensures.value ∙ c.in_ok-heavy.ensures))

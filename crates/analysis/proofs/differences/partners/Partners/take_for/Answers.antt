@@ -32,8 +32,7 @@ returns-in_err-index-clause-partner g c = λ right waiting are.
     let bids : List PlainBid = c.args.bidder.now in
     let excess = c.args.self.now.excess.items in
     let all : take c.loop-i.i bids ≡ bids = take_all c.loop-i.i bids (omega (arith, c.loop-i-test.false, c.len-i-end.ensures)) in
-    c.from_residual.ensures
-    ∙ sym (no_partner right excess waiting (offers bids)
+    c.from_residual.ensures ∙ sym (no_partner right excess waiting (offers bids)
     (subst (λ (bs : List PlainBid). IsRarestIfAny right excess waiting (map (λ (a : Atom (List ℕ)). a.bundle) (offers bs)) None) all
     (subst (IsRarestIfAny right excess waiting (map (λ (a : Atom (List ℕ)). a.bundle) (offers (take c.loop-i.i bids)))) c.in_err-index.was
     (c.loop-i.invariant.rarest right waiting are))))

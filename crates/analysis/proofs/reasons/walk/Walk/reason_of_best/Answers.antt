@@ -42,8 +42,7 @@ index-requires-in-Some-2 c =
     let l = xor_within c.requires.best c.requires.passed c.in-Some.is c.index-in-Some.ensures in omega (arith, l, c.index-in-Some.result.now.ok.0)
 
 pub index-requires-in-None-index-2 : goal.index-requires-in-None-index-2
-index-requires-in-None-index-2 c =
-    let l = start_there c.requires.best c.requires.passed c.in-Some.is in omega (arith, l, c.args.known.now.starts.ok.0)
+index-requires-in-None-index-2 c = let l = start_there c.requires.best c.requires.passed c.in-Some.is in omega (arith, l, c.args.known.now.starts.ok.0)
 
 pub keep-requires-in-None-index-2 : goal.keep-requires-in-None-index-2
 keep-requires-in-None-index-2 c =
