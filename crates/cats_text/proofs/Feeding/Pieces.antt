@@ -1,6 +1,6 @@
 -- What a reader answers to one more piece.
-use Rattle.std.proofs.Common.{◌≡◌, ℕ, suc, zero, ◌+◌, ◌-◌, ◌<◌, ◌≤◌, min, Bool, false, List, [], ◌∷◌, ◌++◌, length, take, Some, None, refl, sym, ap, ◌∙◌, arith}
-use Rattle.std.proofs.Common.{inl, inr, ◌⊎◌, Result, Ok, Err, length-append, ◌^◌}
+use Rattle.std.proofs.Common.{rules, ◌≡◌, ℕ, suc, zero, ◌+◌, ◌-◌, ◌<◌, ◌≤◌, min, Bool, false, List, [], ◌∷◌, ◌++◌, length, take, Some, None, refl, sym, ap, ◌∙◌}
+use Rattle.std.proofs.Common.{arith, inl, inr, ◌⊎◌, Result, Ok, Err, length-append, ◌^◌}
 use Rattle.std.specs.Option.{option_or}
 use Rattle.std.specs.Result.{result_err}
 use Rattle.std.proofs.lemmas.Bool.{le-leb, lt-leb}
@@ -10,8 +10,7 @@ use Rattle.cats_text.specs.Fed.{Fed, fed_fault}
 use Rattle.cats_text.specs.Internal.Reading.{HasTaken, IsReading, SpellsParts, PartsAnswer, placed_fault}
 use Rattle.cats_text.specs.Reading.{WantsMemory, FeedsAs}
 use Rattle.cats_text.specs.Internal.Returns.{settled, waits, carried}
-use Rattle.cats_text.specs.Internal.Scanning.{State, state, first_state, Scan, scan, Scans, MeetsBidLine, end_of, ArePartsOf, Finishes}
-use Rattle.cats_text.specs.Internal.Scanning.{IsInBidLine, HasBids}
+use Rattle.cats_text.specs.Internal.Scanning.{State, state, first_state, Scan, scan, Scans, MeetsBidLine, end_of, ArePartsOf, Finishes, IsInBidLine, HasBids}
 use Rattle.cats_text.specs.declared.read_fault.ReadFault.{ReadFault}
 use Rattle.cats_text.specs.declared.read_fault.Kind.{Kind}
 use Rattle.cats_text.specs.declared.read_fault.Kind.TheVariants.{TooLong, Memory}
@@ -78,8 +77,7 @@ nothing_taken k limit scanner bytes first waiting none = grind (arith, common_st
 pub went_on : {K : Type 0} (k : PlainBid → PlainBid) (limit taken : ℕ) (old new : Scanner K) (bytes judged : List ℕ) → HasTaken k limit taken old bytes
     → scan (state k old) (settled (carried old.waiting judged)) ≡ Ok (state k new)
     → complete_fault (bytes ++ judged) ≡ None
-went_on k limit taken old new bytes judged kept steps =
-    continues_without_fault k (bytes ++ judged) (state k new) (scan_on k bytes judged (state k old) old.waiting kept.runs kept.waiting ∙ steps)
+went_on k limit taken old new bytes judged kept steps = continues_without_fault k (bytes ++ judged) (state k new) (search (rules, scan_on))
 
 -- and has taken them then
 pub took : {K : Type 0} (k : PlainBid → PlainBid) (limit before count : ℕ) (old new : Scanner K) (bytes judged : List ℕ) → HasTaken k limit before old bytes
@@ -93,10 +91,7 @@ pub few_lines : {K : Type 0} (k : PlainBid → PlainBid) (limit taken : ℕ) (sc
     → scanner.line ≤ suc taken
 few_lines k limit taken scanner bytes kept =
     let lines = scan-line (first_state k) (settled bytes) in
-    let line : (state k scanner).line ≤ 1 + length (settled bytes) = rw kept.runs at lines in
-    let count = kept.count in
-    let decided = settled-length bytes in
-    omega arith
+    search (rules, settled-length)
 
 -- what judging a piece answers, all bytes so far being these
 abbrev pub IsJudged : {K : Type 0} → (PlainBid → PlainBid) → ℕ → ℕ → Scanner K → List ℕ → Result (Unit {0}) ReadFault → Type 0

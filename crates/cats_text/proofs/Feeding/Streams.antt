@@ -1,5 +1,5 @@
 -- Reading a stream answers as the reader that was fed the bytes.
-use Rattle.std.proofs.Common.{◌≡◌, ℕ, false, List, take, Option, Some, IfSome, Result, Ok, Err, ◌⊎◌, inl, inr, refl}
+use Rattle.std.proofs.Common.{rules, ◌≡◌, ℕ, false, List, take, Option, Some, IfSome, Result, Ok, Err, ◌⊎◌, inl, inr, refl, arith}
 use Rattle.std.proofs.lemmas.List.{take_all}
 use Rattle.cats_text.specs.Faults.{first_fault, fault_at}
 use Rattle.cats_text.specs.Fed.{fed_fault}
@@ -15,7 +15,6 @@ use Rattle.cats_text.specs.declared.parser.Header.{Header}
 use Rattle.cats_text.specs.declared.limits.TheConstants.{MAX_STREAM}
 use Rattle.cats_text.specs.declared.stream.Watched.{Watched}
 use Rattle.cats_text.proofs.Texts.FaultKinds.{IsFaultOfBytes, first_fault-of_bytes, fed_fault-of_bytes, fed_within}
-use Rattle.std.proofs.Common.{arith}
 use Rattle.std.proofs.lemmas.Grind.{common_steps}
 
 found : (fault : Option ReadFault) (e : ReadFault) → IfSome fault IsFaultOfBytes → fault ≡ Some e → IsFaultOfBytes e
@@ -35,8 +34,7 @@ module _ {R : Type 0} (remaining : R → Option (List ℕ)) where
   -- the fault of feeding the bytes that came
   pub fed_reported : (bytes : List ℕ) (input : Watched R) (e : ReadFault) → has_failed input ≡ false
       → (fed_fault MAX_STREAM bytes ≡ Some e) ⊎ WantsMemory (take MAX_STREAM bytes) e → FaultsAt remaining bytes input e.line e.kind
-  fed_reported bytes input e works (inl is) =
-      reported_fault bytes input e.line e.kind works (found (fed_fault MAX_STREAM bytes) e (fed_fault-of_bytes MAX_STREAM bytes) is) (inl is)
+  fed_reported bytes input e works (inl is) = reported_fault bytes input e.line e.kind works (search (rules, found, fed_fault-of_bytes)) (inl is)
   fed_reported bytes input e works (inr want) = memory_reported bytes input e works want
 
   -- the fault at the end of the bytes
@@ -44,8 +42,7 @@ module _ {R : Type 0} (remaining : R → Option (List ℕ)) where
       → (first_fault bytes ≡ Some e) ⊎ WantsMemory bytes e → FaultsAt remaining bytes input e.line e.kind
   ended_reported bytes input e works whole (inl is) =
       reported_fault bytes input e.line e.kind works (found (first_fault bytes) e (first_fault-of_bytes bytes) is) (inr (whole, is))
-  ended_reported bytes input e works whole (inr want) =
-      memory_reported bytes input e works (rw (take_all MAX_STREAM bytes (fed_within MAX_STREAM bytes whole.no_fault)) want)
+  ended_reported bytes input e works whole (inr want) = search (rules, memory_reported, take_all, fed_within)
 
   -- the answers at the end of the bytes
   pub finished_reported : (bytes : List ℕ) (input : Watched R) (answer : Result BidFile ReadFault) → has_failed input ≡ false → IsWhole remaining bytes input

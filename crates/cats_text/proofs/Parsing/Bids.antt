@@ -1,10 +1,10 @@
 -- The words of a bid line: the parser and the definitions agree.
-use Rattle.std.proofs.Common.{◌≡◌, ℕ, ◌-◌, ◌<◌, ◌≤◌, Bool, true, false, not, ◌&&◌, ◌||◌, cond, eqb, ltb, leb, List, [], ◌∷◌}
-use Rattle.std.proofs.Common.{length, refl, ap, ◌∙◌, arith, Option, None, Err}
+use Rattle.std.proofs.Common.{rules, ◌≡◌, ℕ, ◌-◌, ◌<◌, ◌≤◌, Bool, true, false, not, ◌&&◌, ◌||◌, cond, eqb, ltb, leb, List, [], ◌∷◌, length, refl, ap, ◌∙◌, None}
+use Rattle.std.proofs.Common.{arith, Option, Err}
 use Rattle.std.proofs.lemmas.Bool.{ltb-false, lt-ltb, leb-true, leb-false, eq-eqb, ne_eqb, both_ways, or_left, and_parts}
 use Rattle.std.specs.List.{list_any, slice_get}
-use Rattle.cats_text.specs.Numbers.{number_of, is_too_large, is_too_fine, price_of, whole_part, places, has_place_from, six_places}
-use Rattle.cats_text.specs.Numbers.{digits_alone, GREATEST_PRICE}
+use Rattle.cats_text.specs.Numbers.{number_of, is_too_large, is_too_fine, price_of, whole_part, places, has_place_from, six_places, digits_alone}
+use Rattle.cats_text.specs.Numbers.{GREATEST_PRICE}
 use Rattle.cats_text.specs.Grammar.{line_number}
 use Rattle.cats_text.specs.Faults.{header_value, word_fault, when}
 use Rattle.cats_text.specs.FileLines.{bid_of}
@@ -120,13 +120,11 @@ behind_price g b d lines n w p at x e = grind (arith, common_steps, both_ways)
 pub bid_second : (g b d : List (List ℕ)) (lines : List (List (List ℕ))) (n w : List ℕ) (s : Word) (p : Progress) → IsTested w s → Summarises w s
     → IsAt (g ∷ b ∷ d ∷ lines) (n ∷ []) p
     → WordFollows (g ∷ b ∷ d ∷ lines) (n ∷ []) w (price_read p s)
-bid_second g b d lines n w (Number v) p tested t at =
-    price_follows (g ∷ b ∷ d ∷ lines) n w p v 0 false (priced_number w v t) (passes (g ∷ b ∷ d ∷ lines) (n ∷ []) w _ _ _ refl (ap not tested.price))
+bid_second g b d lines n w (Number v) p tested t at = price_follows (g ∷ b ∷ d ∷ lines) n w p v 0 false (priced_number w v t) (search (rules, passes))
     (behind_price g b d lines n w p at)
-bid_second g b d lines n w (Fraction e) p tested t at =
-    elim (eqb e.decimals 0) as (λ x. eqb e.decimals 0 ≡ x
+bid_second g b d lines n w (Fraction e) p tested t at = elim (eqb e.decimals 0) as (λ x. eqb e.decimals 0 ≡ x
     → WordFollows (g ∷ b ∷ d ∷ lines) (n ∷ []) w (cond x (Err kinds.NotANumber) (with_price p (price_parts e.whole e.millionths e.fine)))) [
-      | true ↦ λ (q : eqb e.decimals 0 ≡ true). fault_named (g ∷ b ∷ d ∷ lines) (n ∷ []) w _ _ _ refl (ap not (tested.price ∙ ap not q))
+      | true ↦ search (rules, fault_named)
       | false ↦ λ (q : eqb e.decimals 0 ≡ false). price_follows (g ∷ b ∷ d ∷ lines) n w p e.whole e.millionths e.fine (priced_fraction w e t)
           (passes (g ∷ b ∷ d ∷ lines) (n ∷ []) w _ _ _ refl (ap not (tested.price ∙ ap not q))) (behind_price g b d lines n w p at)
     ] refl

@@ -1,8 +1,8 @@
 -- The arrivals of the bids by number. The idea: the bids stay in the order in which they came, and an arrival is a number
 -- in that order, which one more bid behind the others does not change.
-use Rattle.std.proofs.Common.{◌≡◌, ℕ, zero, suc, ◌+◌, ◌-◌, ◌<◌, ◌≤◌, List, [], ◌∷◌, ◌++◌, length, replicate, set, take, get_or, subst, add-one}
-use Rattle.std.proofs.Common.{Option, Some, None, Result, Ok, Err, OnOk}
-use Rattle.std.proofs.Common.{true, false, nat_lt, inl, inr, ◌⊎◌, map, append-nil, refl, sym, ap, ap₂, ◌∙◌, arith, append_assoc, length-append}
+use Rattle.std.proofs.Common.{rules, ◌≡◌, ℕ, zero, suc, ◌+◌, ◌-◌, ◌<◌, ◌≤◌, List, [], ◌∷◌, ◌++◌, length, replicate, set, take, get_or, subst, add-one, Option}
+use Rattle.std.proofs.Common.{Some, None, Result, Ok, Err, OnOk, true, false, nat_lt, inl, inr, ◌⊎◌, map, append-nil, refl, sym, ap, ap₂, ◌∙◌, arith}
+use Rattle.std.proofs.Common.{append_assoc, length-append}
 use Rattle.std.proofs.lemmas.List.{length-replicate, replicate-append-replicate, map-set, map-append, length-map, take_more, take_all}
 use Rattle.std.proofs.lemmas.Option.{slice_get_past, slice_get-get_or, slice_get_cases}
 use Rattle.std.proofs.lemmas.List.Elements.{filter_map-append}
@@ -46,11 +46,7 @@ has_in_order came (p ∷ arrivals) n count none e = absurd (let no : suc (length
 put_next : (came next : List PlainBid) (n : ℕ) (b : PlainBid) → n ≡ length came → next ≡ came ++ b ∷ [] → all_of next ≡ put_slot (all_of came) n b
 put_next came next n b at e =
     let long : length (all_of came) ≡ length came = length-map came (λ b. Some b) in
-    let one : n + 1 - length (all_of came) ≡ 1 = omega arith in
-    ap all_of e
-    ∙ map-append (λ b. Some b) came (b ∷ [])
-    ∙ sym (set_last (all_of came) n (Some b) (at ∙ sym long))
-    ∙ ap (λ (k : ℕ). set (all_of came ++ replicate k None) n (Some b)) (sym one)
+    search (rules, map-append, set_last)
   where
     set_last : (xs : List (Option PlainBid)) (n : ℕ) (x : Option PlainBid) → n ≡ length xs → set (xs ++ None ∷ []) n x ≡ xs ++ x ∷ []
     set_last [] zero x e = refl
@@ -147,12 +143,10 @@ within_numbered n (suc k) l = within_push n (numbered k) (suc k) (within_numbere
 
 pub arrived_numbered : (came : List PlainBid) (k : ℕ) → k ≤ length came → arrived came (numbered k) ≡ all_of (take k came)
 arrived_numbered came zero l = refl
-arrived_numbered came (suc k) l =
-    map-append (slot_at came) (numbered k) (suc k ∷ [])
+arrived_numbered came (suc k) l = map-append (slot_at came) (numbered k) (suc k ∷ [])
     ∙ ap₂ (λ (xs : List (Option PlainBid)) (x : Option PlainBid). xs ++ x ∷ []) (arrived_numbered came k (omega arith))
-    (slice_get-get_or came k number_alone (omega arith))
-    ∙ sym (map-append (λ b. Some b) (take k came) (get_or came k number_alone ∷ []))
-    ∙ ap all_of (sym (take_more came k number_alone (omega arith)) ∙ ap (λ n. take n came) (add-one k))
+    (slice_get-get_or came k number_alone (omega arith)) ∙ sym (map-append (λ b. Some b) (take k came) (get_or came k number_alone ∷ []))
+    ∙ ap all_of (search (rules, take_more))
 
 pub none_numbered : (arrivals : List ℕ) → length arrivals ≡ 0 → arrivals ≡ numbered (length arrivals)
 none_numbered [] none = refl

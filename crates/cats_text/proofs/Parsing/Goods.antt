@@ -1,5 +1,5 @@
 -- The goods of a bid line and its `#`: the parser and the definitions agree.
-use Rattle.std.proofs.Common.{◌≡◌, ℕ, ◌+◌, ◌-◌, ◌<◌, ◌≤◌, Bool, true, false, not, ◌&&◌, cond, eqb, ltb, leb, List, [], ◌∷◌, ◌++◌, length, refl, sym, ap}
+use Rattle.std.proofs.Common.{rules, ◌≡◌, ℕ, ◌+◌, ◌-◌, ◌<◌, ◌≤◌, Bool, true, false, not, ◌&&◌, cond, eqb, ltb, leb, List, [], ◌∷◌, ◌++◌, length, refl, sym, ap}
 use Rattle.std.proofs.Common.{ap₂, ◌∙◌, subst, arith, Option, Some, None, Ok, Err}
 use Rattle.std.proofs.lemmas.Bool.{ltb-true, ltb-false, le-leb, lt-leb, leb-true, leb-false, eqb-true, eqb-false, eq-eqb, ne_eqb}
 use Rattle.std.specs.List.{list_any, find}
@@ -68,16 +68,12 @@ end_follows : (g b d : List (List ℕ)) (lines : List (List (List ℕ))) (n x : 
 end_follows g b d lines n x gs w p o e fault =
     let goods : p.header.goods ≡ header_value g = ap (λ (h : Header). h.goods) o.at.header in
     let is : word_fault (g ∷ b ∷ d ∷ lines) (n ∷ x ∷ gs) w ≡ when (not (list_any (λ v. ltb (number_of v) (header_value g)) gs)) kinds.EmptyBundle None =
-    fault ∙ ap (λ t. cond t (when (not (list_any (λ v. ltb (number_of v) (header_value g)) gs)) kinds.EmptyBundle None)
-    (tests_from_number (header_value g) (header_value d) gs w)) e in
+    search rules in
     follow_test (g ∷ b ∷ d ∷ lines) (n ∷ x ∷ gs) w _ _ kinds.EmptyBundle _ _ is
     (ap (λ (vs : List ℕ). eqb (length vs) 0) (goods_are g b d lines n x gs p o) ∙ none_real p.header.goods (values gs)
-    ∙ ap not (any_values (λ v. ltb v p.header.goods) gs ∙ ap (λ G. list_any (λ v. ltb (number_of v) G) gs) goods))
-    (λ _ is. (
-      is,
+    ∙ ap not (any_values (λ v. ltb v p.header.goods) gs ∙ ap (λ G. list_any (λ v. ltb (number_of v) G) gs) goods)) (λ _ is. ( is,
       with_words (g ∷ b ∷ d ∷ lines) (n ∷ x ∷ gs) (n ∷ x ∷ (gs ++ w ∷ [])) p Ended p.draft p.goods o.at
-          (sym (ap ended_column (has_end-push gs w o.on ∙ e))) refl
-          (let same : before_end (gs ++ w ∷ []) ≡ gs = before_end-ended gs w o.on e in record {
+          (sym (ap ended_column (has_end-push gs w o.on ∙ e))) refl (let same : before_end (gs ++ w ∷ []) ≡ gs = before_end-ended gs w o.on e in record {
             number = o.at.draft.number;
             price = o.at.draft.price;
             dummy = dummy_is g b d lines n x gs p o ∙ ap (dummy_in p.header.goods) (sym same);
@@ -193,8 +189,7 @@ good_follows g b d lines n x gs w v p o e t fault =
 tests_here : (g b d : List (List ℕ)) (lines : List (List (List ℕ))) (n x : List ℕ) (gs : List (List ℕ)) (w : List ℕ) (p : Progress)
     → Continues g b d lines n x gs p
     → word_fault (g ∷ b ∷ d ∷ lines) (n ∷ x ∷ gs) w ≡ tests_from_end p.header.goods p.header.dummy gs w
-tests_here g b d lines n x gs w p o = ap (λ t. when t kinds.AfterEnd (tests_from_end (header_value g) (header_value d) gs w)) o.on
-    ∙ sym (ap (λ (h : Header). tests_from_end h.goods h.dummy gs w) o.at.header)
+tests_here g b d lines n x gs w p o = ap (λ t. when t kinds.AfterEnd (tests_from_end (header_value g) (header_value d) gs w)) o.on ∙ sym (search rules)
 
 no_good : (g b d : List (List ℕ)) (lines : List (List (List ℕ))) (n x : List ℕ) (gs : List (List ℕ)) (w : List ℕ) (s : Word) (p : Progress)
     → Continues g b d lines n x gs p → IsTested w s

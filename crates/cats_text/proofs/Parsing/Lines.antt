@@ -1,6 +1,6 @@
 -- Words, line ends and whole lines: the parser and the definitions agree.
-use Rattle.std.proofs.Common.{◌≡◌, ℕ, ◌-◌, ◌<◌, Bool, true, false, ltb, List, [], ◌∷◌, length, refl, sym, ap, ap₂, ◌∙◌, subst, arith}
-use Rattle.std.proofs.Common.{Ok, Err, length-append}
+use Rattle.std.proofs.Common.{rules, ◌≡◌, ℕ, ◌-◌, ◌<◌, Bool, true, false, ltb, List, [], ◌∷◌, length, refl, sym, ap, ap₂, ◌∙◌, subst, arith, Ok, Err}
+use Rattle.std.proofs.Common.{length-append}
 use Rattle.std.proofs.lemmas.Bool.{ltb-true, ltb-false, lt-ltb, le-ltb}
 use Rattle.std.proofs.lemmas.List.Sums.{fold_push}
 use Rattle.cats_text.specs.Faults.{is_line_due, has_end}
@@ -30,9 +30,7 @@ bid_word_step g b d lines [] a w p at = grind (arith, common_steps, bid_first, r
 bid_word_step g b d lines (n ∷ []) a w p at = grind (arith, common_steps, bid_second, read_there, summarises, tested)
 bid_word_step g b d lines (n ∷ x ∷ gs) a w p at =
     elim (has_end gs) as (λ t. has_end gs ≡ t → WordFollows (g ∷ b ∷ d ∷ lines) (n ∷ x ∷ gs) (a ∷ w) (word_read p (summary (a ∷ w)))) [
-      | true ↦ λ (e : has_end gs ≡ true). subst (WordFollows (g ∷ b ∷ d ∷ lines) (n ∷ x ∷ gs) (a ∷ w))
-          (sym (read_there Ended Bid p (summary (a ∷ w)) (at.column ∙ ap ended_column e) at.stage))
-          (fault_named (g ∷ b ∷ d ∷ lines) (n ∷ x ∷ gs) (a ∷ w) _ _ _ refl e)
+      | true ↦ search (rules, WordFollows, read_there, ended_column, fault_named)
       | false ↦ λ (e : has_end gs ≡ false). subst (WordFollows (g ∷ b ∷ d ∷ lines) (n ∷ x ∷ gs) (a ∷ w))
           (sym (read_there Later Bid p (summary (a ∷ w)) (at.column ∙ ap ended_column e) at.stage))
           (bid_later g b d lines n x gs (a ∷ w) (summary (a ∷ w)) p (tested a w (summary (a ∷ w)) (summarises a w)) (summarises a w)

@@ -1,6 +1,6 @@
 -- From bytes to lines: the scanner over a whole text gives what the parser gives over its significant lines.
-use Rattle.std.proofs.Common.{◌≡◌, ℕ, suc, ◌<◌, Bool, true, false, ◌&&◌, ◌||◌, cond, eqb, List, [], ◌∷◌, ◌++◌, length, refl, sym, ap, ◌∙◌, subst, arith, Ok}
-use Rattle.std.proofs.Common.{Err, append-nil}
+use Rattle.std.proofs.Common.{rules, ◌≡◌, ℕ, suc, ◌<◌, Bool, true, false, ◌&&◌, ◌||◌, cond, eqb, List, [], ◌∷◌, ◌++◌, length, refl, sym, ap, ◌∙◌, subst, arith}
+use Rattle.std.proofs.Common.{Ok, Err, append-nil}
 use Rattle.std.proofs.lemmas.Bool.{both_ways, eqb-true}
 use Rattle.std.specs.List.{AllByRecursion}
 use Rattle.cats_text.specs.Lines.{Word, RawLine, raw_lines, with_byte, line_words, is_significant, is_blank}
@@ -139,9 +139,7 @@ begun_letter _ n p b = refl
 pub begun_byte : (s t : State) (b : ℕ) → eqb b 10 ≡ false → byte_step s b ≡ Ok t → HasBegun s t
 begun_byte s t b h e = elim (is_blank b) as (λ q. is_blank b ≡ q → HasBegun s t) [
   | true ↦ λ (q : is_blank b ≡ true). begun_blank s.mode s.line s.progress t (sym (byte_blank s b h q) ∙ e)
-  | false ↦ λ (q : is_blank b ≡ false). let is : record s { mode = letter_mode s.mode b } ≡ t =
-      state_ok (record s { mode = letter_mode s.mode b }) t (sym (byte_letter s b h q) ∙ e) in
-      subst (HasBegun s) is (record { line = refl; behind = begun_letter s.mode s.line s.progress b })
+  | false ↦ search (rules, state_ok, byte_letter, begun_letter)
 ] refl
 
 begun_scan : (s t : State) (bytes : List ℕ) → AllByRecursion IsNoEnd bytes → line_behind s ≡ suc s.line → scan s bytes ≡ Ok t → HasBegun s t

@@ -1,5 +1,5 @@
 -- Bytes that come in pieces: what is decided, waits and runs over an append.
-use Rattle.std.proofs.Common.{◌≡◌, ℕ, suc, ◌+◌, ◌≤◌, ◌==◌, Bool, true, false, List, [], ◌∷◌, ◌++◌, length, refl, arith, inr, Ok, Err, IfOk, IsOkAnd}
+use Rattle.std.proofs.Common.{rules, ◌≡◌, ℕ, suc, ◌+◌, ◌≤◌, ◌==◌, Bool, true, false, List, [], ◌∷◌, ◌++◌, length, refl, arith, inr, Ok, Err, IfOk, IsOkAnd}
 use Rattle.std.proofs.Common.{if◌then◌else◌}
 use Rattle.cats_text.specs.Lines.{is_blank}
 use Rattle.cats_text.specs.Internal.Returns.{settled, settle}
@@ -7,8 +7,8 @@ use Rattle.cats_text.specs.declared.read_fault.ReadFault.{ReadFault}
 use Rattle.cats_text.specs.declared.scanner.Mode.{Mode}
 use Rattle.cats_text.specs.declared.scanner.Mode.TheVariants.{Between, Inside}
 use Rattle.cats_text.specs.Internal.Parsing.{Reading, word_read, line_read}
-use Rattle.cats_text.specs.Internal.Scanning.{State, Scan, and_then, with_reading, blank_step_at, blank_step, words_step_at, line_step, byte_step}
-use Rattle.cats_text.specs.Internal.Scanning.{scan, MeetsBidLine}
+use Rattle.cats_text.specs.Internal.Scanning.{State, Scan, and_then, with_reading, blank_step_at, blank_step, words_step_at, line_step, byte_step, scan}
+use Rattle.cats_text.specs.Internal.Scanning.{MeetsBidLine}
 use Rattle.std.proofs.lemmas.Grind.{common_steps}
 
 abbrev ok : State → Scan
@@ -58,16 +58,13 @@ either-line true a b n h g = h
 either-line false a b n h g = g
 
 byte_step-line : (s : State) (b : ℕ) → IfOk (byte_step s b) (λ u. u.line ≤ suc s.line)
-byte_step-line s b =
-    either-line (b == 10) (line_step s) _ (suc s.line) (line_step-line s)
-    (either-line (is_blank b) (blank_step s) _ (suc s.line) (at_most (blank_step s) s.line (suc s.line) (blank-line s.mode s) (omega arith)) (omega arith))
+byte_step-line s b = search (rules, either-line, line_step-line, at_most, blank-line)
 
 -- no more lines than bytes come
 pub scan-line : (s : State) (bytes : List ℕ) → IfOk (scan s bytes) (λ t. t.line ≤ s.line + length bytes)
 scan-line s [] = omega arith
-scan-line s (b ∷ bytes) =
-    then-line (byte_step s b) (λ t. scan t bytes) (suc s.line) (s.line + suc (length bytes)) (byte_step-line s b)
-    (λ t h. up_to (scan t bytes) (t.line + length bytes) (s.line + suc (length bytes)) (scan-line t bytes) (omega arith))
+scan-line s (b ∷ bytes) = then-line (byte_step s b) (λ t. scan t bytes) (suc s.line) (s.line + suc (length bytes)) (byte_step-line s b)
+    (λ t h. search (rules, up_to, (scan-line t bytes)))
   where
     up_to : (r : Scan) (n m : ℕ) → IfOk r (λ t. t.line ≤ n) → n ≤ m → IfOk r (λ t. t.line ≤ m)
     up_to (Ok t) n m h le = omega arith

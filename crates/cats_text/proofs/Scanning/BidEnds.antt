@@ -1,5 +1,6 @@
 -- The `#` and the LF that end a bid line.
-use Rattle.std.proofs.Common.{◌≡◌, ◌≢◌, ℕ, ◌+◌, ◌<◌, Bool, true, false, cond, eqb, List, length, get_or, refl, sym, ap, subst, ◌∙◌, arith, Ok, Err, add-one}
+use Rattle.std.proofs.Common.{rules, ◌≡◌, ◌≢◌, ℕ, ◌+◌, ◌<◌, Bool, true, false, cond, eqb, List, length, get_or, refl, sym, ap, subst, ◌∙◌, arith, Ok, Err}
+use Rattle.std.proofs.Common.{add-one}
 use Rattle.std.proofs.lemmas.Bool.{eqb-true}
 use Rattle.cats_text.specs.Internal.LeadingToken.{IsLeadingToken}
 use Rattle.cats_text.specs.Internal.Parsing.{word_read, line_read, end_read, bid_closed, with_bid}
@@ -54,20 +55,9 @@ pub end_passed : (s : State) (p : Progress) (v w : Bool) (bytes : List ℕ) → 
 end_passed s p v w bytes due token closed e same =
     let before : is_before_word s.mode ≡ true = ap is_before_word due.mode in
     let put = put_by s.progress p (eqb (length s.progress.goods) 0) closed in
-    let read : word_read s.progress End ≡ Ok (ended s.progress) = end_word s.progress due.stage due.column ∙ put.0 in
-    let hash : ScansTo s (behind_word s (ended s.progress)) v bytes (Ok 1) = word_taken s (ended s.progress) v bytes End 1 before token read refl e in
-    let ends = token_one bytes End token in
-    let line : byte_step (behind_word s (ended s.progress)) 10 ≡ Ok (record { mode = Start; line = s.line + 1; progress = p }) =
-    rw (end_line s.progress due.stage, put.1, add-one) refl in (
-      scan_byte_at s (behind_word s (ended s.progress)) (record { mode = Start; line = s.line + 1; progress = p }) v w bytes 1 ends.0
-          (no_return (get_or bytes 1 0) ends.1) hash.0
-          (subst (λ b. byte_step (behind_word s (ended s.progress)) b ≡ Ok (record { mode = Start; line = s.line + 1; progress = p })) (sym ends.1) line) same,
-      omega (arith, ends.0),
-    )
+    search (rules, end_word, behind_word, word_taken, token_one, end_line, scan_byte_at, no_return)
 
 -- or the parser stops
 pub end_halts : (s : State) (u : Progress) (v : Bool) (bytes : List ℕ) (kind : Kind) → IsGoodDue s → IsLeadingToken bytes End 1
     → Gives bid_closed s.progress u (Err kind) → ScansTo s (record s { progress = u }) v bytes (Err kind)
-end_halts s u v bytes kind due token stop =
-    word_halts s u v bytes End 1 kind (ap is_before_word due.mode) token (stops_in kind (λ needs. needs)
-    (λ read. end_word s.progress due.stage due.column ∙ stopped_by s.progress kind (eqb (length s.progress.goods) 0) read) stop)
+end_halts s u v bytes kind due token stop = search (rules, word_halts, stops_in, end_word, stopped_by)

@@ -1,14 +1,14 @@
 -- Where the scanner is in a bid line, a fourth significant line has begun. The idea: count the lines that begin, byte by byte,
 -- and the header lines that have ended by the parser's stage.
-use Rattle.std.proofs.Common.{◌≡◌, ℕ, suc, ◌+◌, ◌≤◌, Option, Some, None, Bool, true, false, not, cond, eqb, ltb, ⊎_elim, List, [], ◌∷◌, ◌++◌, length}
-use Rattle.std.proofs.Common.{filter, refl, sym, ap, ◌∙◌, subst, arith, Result, Ok, Err, IsOkAnd}
+use Rattle.std.proofs.Common.{rules, ◌≡◌, ℕ, suc, ◌+◌, ◌≤◌, Option, Some, None, Bool, true, false, not, cond, eqb, ltb, ⊎_elim, List, [], ◌∷◌, ◌++◌, length, ap}
+use Rattle.std.proofs.Common.{filter, refl, sym, ◌∙◌, subst, arith, Result, Ok, Err, IsOkAnd}
 use Rattle.std.proofs.lemmas.Bool.{lt-ltb}
 use Rattle.cats_text.specs.Lines.{Word, RawLine, Line, raw_lines, lines_with, with_byte, line_words, words_with, with_letter, begins_word, is_significant}
 use Rattle.cats_text.specs.Lines.{is_blank, numbered, blank_returns, significant_lines}
 use Rattle.cats_text.specs.Faults.{has_bid_line}
 use Rattle.cats_text.specs.Internal.Progress.{Progress}
-use Rattle.cats_text.specs.Internal.Parsing.{Reading, keyword_read, header_number_read, number_read, price_parts, with_price, price_read}
-use Rattle.cats_text.specs.Internal.Parsing.{dummy_read, good_or_end_read, word_read, line_read}
+use Rattle.cats_text.specs.Internal.Parsing.{Reading, keyword_read, header_number_read, number_read, price_parts, with_price, price_read, dummy_read, word_read}
+use Rattle.cats_text.specs.Internal.Parsing.{good_or_end_read, line_read}
 use Rattle.cats_text.specs.declared.read_fault.Kind.{Kind}
 use Rattle.cats_text.specs.declared.read_fault.Kind.TheVariants as kinds
 use Rattle.cats_text.specs.declared.word.Keyword.{Keyword as Key}
@@ -74,15 +74,7 @@ first_bytes (l ∷ ls) = l.bytes
 
 -- the words of a line that begins with a letter are judged by that letter
 significant_letter : (b : ℕ) (bs : List ℕ) → is_blank b ≡ false → is_significant (line_words (b ∷ bs)) ≡ not (eqb b 37)
-significant_letter b bs e = joined (line_words bs)
-  where
-    token : (ws : List Word) → is_significant (with_letter b ws) ≡ not (eqb b 37)
-    token [] = refl
-    token (w ∷ ws) = refl
-
-    joined : (ws : List Word) → is_significant (words_with b bs ws) ≡ not (eqb b 37)
-    joined ws = ap (λ t. is_significant (cond t ws (cond (begins_word bs) (with_letter b ws) ((b ∷ []) ∷ ws)))) e
-        ∙ (elim (begins_word bs) as (λ t. is_significant (cond t (with_letter b ws) ((b ∷ []) ∷ ws)) ≡ not (eqb b 37)) [ true ↦ token ws | false ↦ refl ])
+significant_letter b bs e = search rules
 
 counted_first : (ls : List RawLine) → counted 1 ls ≡ one_if (is_significant (line_words (first_bytes ls))) + counted 1 (behind_first ls)
 counted_first [] = refl
@@ -310,8 +302,7 @@ here_counts _ stage c e i l = absurd i
 
 four_begin : (bytes : List ℕ) (s : State) (c : ℕ) → Begun s.mode s.progress.stage c → MeetsBidLine s bytes → 4 ≤ c + begins_after (decided_in s.mode) bytes
 four_begin [] s c l m = let here : 4 ≤ c = here_counts s.mode s.progress.stage c m.0 m.1 l in omega arith
-four_begin (b ∷ bs) s c l m = ⊎_elim
-    (λ (i : IsInBidLine s). let here : 4 ≤ c = here_counts s.mode s.progress.stage c i.0 i.1 l in omega arith)
+four_begin (b ∷ bs) s c l m = ⊎_elim (search (rules, here_counts))
     (λ (later : IsOkAnd (byte_step s b) (λ t. MeetsBidLine t bs)). step (byte_step s b) (continues_byte c b bs s l) later (λ t k g n. four_begin bs t k g n)) m
   where
     step : (r : Scan) → Continues c (begins_after (decided_in s.mode) (b ∷ bs)) bs r → IsOkAnd r (λ t. MeetsBidLine t bs)
@@ -327,6 +318,4 @@ pub bid_line_met : (k : PlainBid → PlainBid) (text token back : List ℕ) → 
 bid_line_met k text token back e m =
     let four : 4 ≤ 0 + begins_after false token = four_begin token (first_state k) 0 (omega arith) m in
     let more : begins_after false token ≤ begins_after false (token ++ back) = begins_more false token back in
-    let all : begins_after false (token ++ back) ≡ length (significant_lines text) = ap (begins_after false) (sym e)
-    ∙ (begins_are (blank_returns text)).fresh in
-    lt-ltb 3 (length (significant_lines text)) (omega arith)
+    search (rules, begins_are, lt-ltb)

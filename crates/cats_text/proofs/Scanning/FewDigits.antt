@@ -1,6 +1,6 @@
 -- The digits at the start of bytes and the number that they spell, where they are few.
-use Rattle.std.proofs.Common.{◌≡◌, ℕ, suc, ◌+◌, ◌-◌, ◌*◌, ◌%◌, ◌^◌, ◌<◌, ◌≤◌, min, true, false, cond, List, [], ◌∷◌, length, take, drop, slice_range, fold}
-use Rattle.std.proofs.Common.{Option, Some, None, IfSome, refl, sym, ap, ◌∙◌, subst, arith, lt_of_lt_of_le}
+use Rattle.std.proofs.Common.{rules, ◌≡◌, ℕ, suc, ◌+◌, ◌-◌, ◌*◌, ◌%◌, ◌^◌, ◌<◌, ◌≤◌, min, true, false, cond, List, [], ◌∷◌, length, take, drop, slice_range, ap}
+use Rattle.std.proofs.Common.{fold, Option, Some, None, IfSome, refl, sym, ◌∙◌, subst, arith, lt_of_lt_of_le}
 use Rattle.std.proofs.Math.Nat.{pow-suc, pow-le-pow_right, mod-eq_of_lt}
 use Rattle.std.proofs.lemmas.Bool.{and_parts, and_from, lt-ltb}
 use Rattle.std.proofs.lemmas.List.{length-take, take-take}
@@ -19,8 +19,7 @@ use Rattle.std.proofs.lemmas.Grind.{common_steps}
 digits_in_prefix : (bs : List ℕ) → digits_alone (take (digits_len bs) bs) ≡ true
 digits_in_prefix [] = refl
 digits_in_prefix (b ∷ bs) = elim (is_digit b) as (λ t. is_digit b ≡ t → digits_alone (take (cond t (1 + digits_len bs) 0) (b ∷ bs)) ≡ true) [
-  | true ↦ λ (d : is_digit b ≡ true). let n : 1 + digits_len bs ≡ suc (digits_len bs) = omega arith in
-      subst (λ k. digits_alone (take k (b ∷ bs)) ≡ true) (sym n) (and_from (is_digit b) (digits_alone (take (digits_len bs) bs)) d (digits_in_prefix bs))
+  | true ↦ search (rules, and_from, (digits_in_prefix bs))
   | false ↦ λ (d : is_digit b ≡ false). refl
 ] refl
 

@@ -1,6 +1,6 @@
 -- What is kept of the word at the start of bytes: of digits, of digits and a point, and of `#`.
-use Rattle.std.proofs.Common.{◌≡◌, ℕ, ◌+◌, ◌-◌, ◌<◌, ◌≤◌, min, true, false, List, [], ◌∷◌, ◌++◌, length, get_or, take, drop, fold, refl, sym, ap, ◌∙◌, subst}
-use Rattle.std.proofs.Common.{arith, zero, suc, zero-add, eqb}
+use Rattle.std.proofs.Common.{rules, ◌≡◌, ℕ, ◌+◌, ◌-◌, ◌<◌, ◌≤◌, min, true, false, List, [], ◌∷◌, ◌++◌, length, get_or, take, drop, fold, refl, sym, ap, ◌∙◌}
+use Rattle.std.proofs.Common.{subst, arith, zero, suc, zero-add, eqb}
 use Rattle.std.proofs.lemmas.Bool.{and_parts, both_ways, eqb-true, eq-eqb, or_left, or_right}
 use Rattle.std.proofs.lemmas.List.{length-take, length-drop}
 use Rattle.std.proofs.lemmas.List.Sums.{fold-append}
@@ -35,8 +35,7 @@ take_parts : (bytes : List ℕ) (i k : ℕ) → i < length bytes → take (i + 1
 take_parts [] i k l = absurd (let no : i < 0 = l in omega arith)
 take_parts (b ∷ bytes) zero k l = let e : 0 + 1 + k ≡ suc k = omega arith in ap (λ n. take n (b ∷ bytes)) e
 take_parts (b ∷ bytes) (suc i) k l = let e : suc i + 1 + k ≡ suc (i + 1 + k) = omega arith in let f : suc i + 1 ≡ suc (i + 1) = omega arith in
-    ap (λ n. take n (b ∷ bytes)) e ∙ ap (λ ds. b ∷ ds) (take_parts bytes i k (omega arith))
-    ∙ sym (ap (λ n. b ∷ (take i bytes ++ get_or bytes i 0 ∷ take k (drop n (b ∷ bytes)))) f)
+    search (rules, (take_parts bytes i k (omega arith)))
 
 pub number_kept : (bytes : List ℕ) (count v : ℕ) → 0 < count → count ≤ length bytes → digits_alone (take count bytes) ≡ true
     → Number v ≡ fold word_with (Number 0) (take count bytes) → IsKept bytes (Number v) count
@@ -52,21 +51,7 @@ pub decimal_kept : (bytes : List ℕ) (count v : ℕ) (d : Decimal) (places : �
     → Fraction d ≡ fold word_with (Fraction (record { whole = v; millionths = 0; decimals = 0; fine = false })) (take places (drop (count + 1) bytes))
     → IsKept bytes (Fraction d) (count + 1 + places)
 decimal_kept bytes count v d places some within point digits value space more fraction =
-    let rest : length (drop (count + 1) bytes) ≡ length bytes - (count + 1) = length-drop (count + 1) bytes in
-    let long : length (take count bytes) ≡ min count (length bytes) = length-take count bytes in
-    let prefix : List ℕ = take count bytes in
-    let back : List ℕ = take places (drop (count + 1) bytes) in
-    let parts : take (count + 1 + places) bytes ≡ prefix ++ 46 ∷ back = take_parts bytes count places within ∙ ap (λ c. prefix ++ c ∷ back) point in
-    record {
-      some = omega arith;
-      within = omega arith;
-      plain = subst (AllByRecursion IsPlain) (sym parts) (plain-append prefix (46 ∷ back) (digits_plain prefix digits) (
-        (omega arith, refl),
-        digits_plain back more,
-      ));
-      word = fraction ∙ sym (ap summary parts ∙ summary-append prefix (46 ∷ back) (omega arith)
-          ∙ ap (λ w. fold word_with w (46 ∷ back)) (sym (digits_summary prefix v (omega arith) digits value)));
-    }
+    search (rules, length-drop, length-take, take_parts, plain-append, digits_plain, summary-append, digits_summary)
 
 -- ---- the word and what is behind it
 

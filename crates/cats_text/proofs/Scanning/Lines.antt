@@ -1,6 +1,6 @@
 -- From bytes to lines of words: the scanner's states over the bytes of a line, and over all lines. The idea: at each state one
 -- statement on the rest of the line, by induction on the rest, general in what has come of the word.
-use Rattle.std.proofs.Common.{◌≡◌, ℕ, true, false, not, cond, eqb, List, [], ◌∷◌, ◌++◌, refl, sym, ap, ◌∙◌, Ok, Err, append-nil, append_assoc}
+use Rattle.std.proofs.Common.{rules, ◌≡◌, ℕ, true, false, not, cond, eqb, List, [], ◌∷◌, ◌++◌, refl, sym, ap, ◌∙◌, Ok, Err, append-nil, append_assoc, arith}
 use Rattle.std.specs.List.{AllByRecursion}
 use Rattle.cats_text.specs.Lines.{Word, is_blank, begins_word, with_letter, words_with, line_words, is_significant}
 use Rattle.cats_text.specs.Faults.{fault_at}
@@ -13,7 +13,6 @@ use Rattle.cats_text.specs.declared.scanner.Mode.{Mode}
 use Rattle.cats_text.specs.declared.scanner.Mode.TheVariants.{Start, Blank, Comment, Between, Inside}
 use Rattle.cats_text.proofs.Words.Kept.{summary-push}
 use Rattle.cats_text.proofs.Parsing.WholeLines.{words_read, reading_then}
-use Rattle.std.proofs.Common.{arith}
 use Rattle.std.proofs.lemmas.Grind.{common_steps}
 
 -- ---- steps one after another
@@ -107,29 +106,19 @@ word_mode (a ∷ w) = Inside (summary (a ∷ w))
 pub from_word : (n : ℕ) (p : Progress) (w bytes : List ℕ) → AllByRecursion (λ c. is_blank c ≡ false) w → AllByRecursion IsNoEnd bytes
     → to_blank (standing (word_mode w) n p) bytes ≡ lifted n Between (words_read (line_words (w ++ bytes)) p)
 from_word n p [] [] f h = refl
-from_word n p (a ∷ w) [] f h = lifted_word (standing (Inside (summary (a ∷ w))) n p) (summary (a ∷ w)) refl
-    ∙ ap (lifted n Between) (sym (reading_then_ok (word_read p (summary (a ∷ w)))))
-    ∙ ap (λ ws. lifted n Between (words_read ws p)) (sym (ap line_words (append-nil (a ∷ w)) ∙ words_last a w f))
+from_word n p (a ∷ w) [] f h = search (rules, lifted_word, reading_then_ok, words_read, append-nil, words_last)
 from_word n p [] (b ∷ bs) f h =
     elim (is_blank b) as (λ t. is_blank b ≡ t → to_blank (standing Between n p) (b ∷ bs) ≡ lifted n Between (words_read (line_words (b ∷ bs)) p)) [
-      | true ↦ λ (e : is_blank b ≡ true). ap (λ r. and_then (and_then r (λ t. scan t bs)) blank_step) (byte_blank (standing Between n p) b h.0 e)
-          ∙ from_word n p [] bs tt h.1 ∙ ap (λ ws. lifted n Between (words_read ws p)) (sym (words_blank b bs e))
-      | false ↦ λ (e : is_blank b ≡ false). ap (λ r. and_then (and_then r (λ t. scan t bs)) blank_step) (byte_letter (standing Between n p) b h.0 e)
-          ∙ from_word n p (b ∷ []) bs (e, tt) h.1
+      | true ↦ search (rules, byte_blank, words_read, words_blank, (from_word n p [] bs tt h.1))
+      | false ↦ λ (e : is_blank b ≡ false). search (rules, byte_letter, (from_word n p (b ∷ []) bs (e, tt) h.1))
     ] refl
-from_word n p (a ∷ w) (b ∷ bs) f h =
-    elim (is_blank b) as (λ t. is_blank b ≡ t → to_blank (standing (Inside (summary (a ∷ w))) n p) (b ∷ bs)
+from_word n p (a ∷ w) (b ∷ bs) f h = elim (is_blank b) as (λ t. is_blank b ≡ t → to_blank (standing (Inside (summary (a ∷ w))) n p) (b ∷ bs)
     ≡ lifted n Between (words_read (line_words ((a ∷ w) ++ b ∷ bs)) p)) [
       | true ↦ λ (e : is_blank b ≡ true). ap (λ r. and_then (and_then r (λ t. scan t bs)) blank_step)
-          (byte_blank (standing (Inside (summary (a ∷ w))) n p) b h.0 e
-          ∙ lifted_word (standing (Inside (summary (a ∷ w))) n p) (summary (a ∷ w)) refl)
+          (byte_blank (standing (Inside (summary (a ∷ w))) n p) b h.0 e ∙ lifted_word (standing (Inside (summary (a ∷ w))) n p) (summary (a ∷ w)) refl)
           ∙ behind_word n (word_read p (summary (a ∷ w))) bs (words_read (line_words bs)) (λ q. from_word n q [] bs tt h.1)
           ∙ ap (λ ws. lifted n Between (words_read ws p)) (sym (words_next a w b bs f e))
-      | false ↦ λ (e : is_blank b ≡ false). ap (λ r. and_then (and_then r (λ t. scan t bs)) blank_step)
-          (byte_letter (standing (Inside (summary (a ∷ w))) n p) b h.0 e)
-          ∙ ap (λ s. to_blank (standing (Inside s) n p) bs) (sym (summary-push a w b))
-          ∙ from_word n p ((a ∷ w) ++ b ∷ []) bs (blank_free_push (a ∷ w) b f e) h.1
-          ∙ ap (λ ds. lifted n Between (words_read (line_words ds) p)) (append_assoc (a ∷ w) (b ∷ []) bs)
+      | false ↦ λ (e : is_blank b ≡ false). search (rules, byte_letter, summary-push, blank_free_push, words_read, append_assoc, (from_word n p ((a ∷ w) ++ b ∷ []) bs (blank_free_push (a ∷ w) b f e) h.1))
     ] refl
 
 -- ---- from the beginning of a line on
@@ -161,14 +150,11 @@ first_of_words b bs e =
 
 fresh_comment : (n : ℕ) (p : Progress) (b : ℕ) (bs : List ℕ) → is_blank b ≡ false → eqb b 37 ≡ true
     → fresh_outcome n (line_words (b ∷ bs)) p ≡ Ok (standing Comment n p)
-fresh_comment n p b bs e c = let f = first_of_words b bs e in ap (λ ws. fresh_outcome n ws p) f.2
-    ∙ ap (λ t. cond (not t) (lifted n Between (words_read ((b ∷ f.0) ∷ f.1) p)) (Ok (standing Comment n p))) c
+fresh_comment n p b bs e c = search (rules, first_of_words, words_read)
 
 fresh_word : (n : ℕ) (p : Progress) (b : ℕ) (bs : List ℕ) → is_blank b ≡ false → eqb b 37 ≡ false
     → fresh_outcome n (line_words (b ∷ bs)) p ≡ lifted n Between (words_read (line_words (b ∷ bs)) p)
-fresh_word n p b bs e c = let f = first_of_words b bs e in ap (λ ws. fresh_outcome n ws p) f.2
-    ∙ ap (λ t. cond (not t) (lifted n Between (words_read ((b ∷ f.0) ∷ f.1) p)) (Ok (standing Comment n p))) c
-    ∙ ap (λ ws. lifted n Between (words_read ws p)) (sym f.2)
+fresh_word n p b bs e c = search (rules, first_of_words, words_read)
 
 -- a letter that begins a line
 from_letter : (m : Mode) (n : ℕ) (p : Progress) (b : ℕ) (bs : List ℕ) → AllByRecursion IsNoEnd (b ∷ bs) → is_blank b ≡ false
@@ -184,8 +170,7 @@ pub from_blank : (n : ℕ) (p : Progress) (bytes : List ℕ) → AllByRecursion 
     → to_blank (standing Blank n p) bytes ≡ fresh_outcome n (line_words bytes) p
 from_blank n p [] h = refl
 from_blank n p (b ∷ bs) h = elim (is_blank b) as (λ t. is_blank b ≡ t → to_blank (standing Blank n p) (b ∷ bs) ≡ fresh_outcome n (line_words (b ∷ bs)) p) [
-  | true ↦ λ (e : is_blank b ≡ true). ap (λ r. and_then (and_then r (λ t. scan t bs)) blank_step) (byte_blank (standing Blank n p) b h.0 e)
-      ∙ from_blank n p bs h.1 ∙ ap (λ ws. fresh_outcome n ws p) (sym (words_blank b bs e))
+  | true ↦ search (rules, byte_blank, words_blank, (from_blank n p bs h.1))
   | false ↦ λ (e : is_blank b ≡ false). from_letter Blank n p b bs h e refl
 ] refl
 
@@ -193,7 +178,6 @@ pub from_start : (n : ℕ) (p : Progress) (bytes : List ℕ) → AllByRecursion 
     → to_blank (standing Start n p) bytes ≡ fresh_outcome n (line_words bytes) p
 from_start n p [] h = refl
 from_start n p (b ∷ bs) h = elim (is_blank b) as (λ t. is_blank b ≡ t → to_blank (standing Start n p) (b ∷ bs) ≡ fresh_outcome n (line_words (b ∷ bs)) p) [
-  | true ↦ λ (e : is_blank b ≡ true). ap (λ r. and_then (and_then r (λ t. scan t bs)) blank_step) (byte_blank (standing Start n p) b h.0 e)
-      ∙ from_blank n p bs h.1 ∙ ap (λ ws. fresh_outcome n ws p) (sym (words_blank b bs e))
+  | true ↦ search (rules, byte_blank, from_blank, words_blank)
   | false ↦ λ (e : is_blank b ≡ false). from_letter Start n p b bs h e refl
 ] refl

@@ -1,6 +1,6 @@
 -- Several bytes at once: the digits of a number, whole words, and the bytes of a comment.
-use Rattle.std.proofs.Common.{◌≡◌, ◌≢◌, ℕ, suc, ◌+◌, ◌-◌, ◌*◌, ◌<◌, ◌≤◌, Bool, true, false, not, ◌&&◌, cond, eqb, ltb, List, [], ◌∷◌, ◌++◌, length}
-use Rattle.std.proofs.Common.{get_or, take, drop, fold, refl, sym, ap, ◌∙◌, subst, arith, Ok, add-one, append-nil, Some, None, min}
+use Rattle.std.proofs.Common.{rules, ◌≡◌, ◌≢◌, ℕ, suc, ◌+◌, ◌-◌, ◌*◌, ◌<◌, ◌≤◌, Bool, true, false, not, ◌&&◌, cond, eqb, ltb, List, [], ◌∷◌, ◌++◌, length, take}
+use Rattle.std.proofs.Common.{get_or, drop, fold, refl, sym, ap, ◌∙◌, subst, arith, Ok, add-one, append-nil, Some, None, min}
 use Rattle.std.proofs.lemmas.Bool.{and_parts, and_from, ltb-false, ne_eqb, eq-eqb}
 use Rattle.std.proofs.lemmas.List.Sums.{fold_push}
 use Rattle.std.proofs.Math.Seq.{take-suc, take-length}
@@ -111,20 +111,14 @@ comment_scan : (n : ℕ) (p : Progress) (prefix back : List ℕ) → AllByRecurs
     × (MeetsBidLine (standing Comment n p) (settled back)
     → MeetsBidLine (standing Comment n p) (settled (prefix ++ back)))
 comment_scan n p prefix back h = let split = settled_split prefix back h in
-    let quiet : scan (standing Comment n p) split.0 ≡ Ok (standing Comment n p) = in_comment n p split.0 split.2 in (
-      sym (ap (scan (standing Comment n p)) split.1 ∙ scan-append (standing Comment n p) split.0 (settled back)
-          ∙ ap (λ r. and_then r (λ t. scan t (settled back))) quiet),
-      λ m. subst (MeetsBidLine (standing Comment n p)) (sym split.1) (meets_behind (standing Comment n p) (standing Comment n p) split.0 (settled back) quiet
-          m),
-    )
+    search (rules, standing, in_comment, scan-append, meets_behind)
 
 no_feed_prefix : (bytes : List ℕ) → AllByRecursion IsNoEnd (take (prefix_len (λ b. not (eqb b 10)) bytes) bytes)
 no_feed_prefix [] = tt
 no_feed_prefix (b ∷ bs) =
     elim (eqb b 10) as (λ t. eqb b 10 ≡ t → AllByRecursion IsNoEnd (take (cond (not t) (1 + prefix_len (λ c. not (eqb c 10)) bs) 0) (b ∷ bs))) [
       | true ↦ λ e. tt
-      | false ↦ λ (e : eqb b 10 ≡ false). let n : 1 + prefix_len (λ c. not (eqb c 10)) bs ≡ suc (prefix_len (λ c. not (eqb c 10)) bs) = omega arith in
-          subst (λ k. AllByRecursion IsNoEnd (take k (b ∷ bs))) (sym n) (e, no_feed_prefix bs)
+      | false ↦ search (rules, IsNoEnd, (no_feed_prefix bs))
     ] refl
 
 min_le_right : (k i n : ℕ) → k ≡ min i n → k ≤ n
@@ -207,16 +201,7 @@ plain_scanned : (s t : State) (rest : List ℕ) (count : ℕ) (w : Bool) → All
     → IsScanned s t w rest (drop count rest)
 plain_scanned s t rest count w plain ran e =
     let parts : take count rest ++ drop count rest ≡ rest = take-append-drop count rest in
-    let split : settled rest ≡ take count rest ++ settled (drop count rest) = ap settled (sym parts)
-    ∙ settled_plain (take count rest) (drop count rest) plain in
-    record {
-      steps = sym (ap (scan s) split ∙ scan-append s (take count rest) (settled (drop count rest))
-          ∙ ap (λ r. and_then r (λ t. scan t (settled (drop count rest)))) ran);
-      needs = λ m. subst (MeetsBidLine s) (sym split) (meets_behind s t (take count rest) (settled (drop count rest)) ran m);
-      last = λ l. sym (waits_behind (take count rest) (drop count rest) l) ∙ ap waits parts;
-      going = λ l. e;
-      ended = λ q. e ∙ sym (ap waits (sym parts ∙ ap (λ ds. take count rest ++ ds) q ∙ append-nil (take count rest)) ∙ waits_plain (take count rest) plain);
-    }
+    search (rules, settled_plain, scan-append, meets_behind, waits_behind, append-nil, waits_plain)
 
 -- ---- the digits of a number
 

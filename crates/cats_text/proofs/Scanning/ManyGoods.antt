@@ -1,5 +1,5 @@
 -- A good that is due is read as any word in its column is.
-use Rattle.std.proofs.Common.{◌≡◌, ℕ, Bool, true, List, sym, ap, ◌∙◌, subst, false, Ok, Err}
+use Rattle.std.proofs.Common.{rules, ◌≡◌, ℕ, Bool, true, List, sym, ap, ◌∙◌, subst, false, Ok, Err, arith}
 use Rattle.cats_text.specs.Internal.LeadingToken.{IsLeadingToken}
 use Rattle.cats_text.specs.Internal.Progress.{Progress, Gives}
 use Rattle.cats_text.specs.Internal.Parsing.{good_read, word_read}
@@ -10,7 +10,6 @@ use Rattle.cats_text.specs.declared.parser.Column.TheVariants.{Later}
 use Rattle.cats_text.specs.declared.scanner.Mode.{Mode}
 use Rattle.cats_text.specs.declared.word.Word.TheVariants.{Number}
 use Rattle.cats_text.proofs.Scanning.WholeWords.{behind_word, word_taken, word_halts, stops_in}
-use Rattle.std.proofs.Common.{arith}
 use Rattle.std.proofs.lemmas.Grind.{common_steps}
 
 good_word : (p : Progress) (n : ℕ) → p.stage ≡ Bid → p.column ≡ Later → word_read p (Number n) ≡ good_read p n
@@ -29,6 +28,5 @@ good_taken s p v bytes good taken due token read stage e =
 pub good_halts : (s : State) (u : Progress) (v : Bool) (bytes : List ℕ) (good taken : ℕ) (kind : Kind) → IsGoodDue s
     → IsLeadingToken bytes (Number good) taken → Gives (λ p. good_read p good) s.progress u (Err kind)
     → ScansTo s (record s { progress = u }) v bytes (Err kind)
-good_halts s u v bytes good taken kind due token stop =
-    word_halts s u v bytes (Number good) taken kind (ap is_before_word due.mode) token
-    (stops_in kind (λ needs. needs) (λ read. good_word s.progress good due.stage due.column ∙ read) stop)
+good_halts s u v bytes good taken kind due token stop = word_halts s u v bytes (Number good) taken kind (ap is_before_word due.mode) token
+    (search (rules, stops_in, good_word))

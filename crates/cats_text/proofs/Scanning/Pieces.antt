@@ -1,5 +1,5 @@
 -- Pieces of a text: what is decided of a CR, what is complete, and what waits.
-use Rattle.std.proofs.Common.{◌≡◌, ℕ, Bool, true, false, ◌&&◌, cond, eqb, List, [], ◌∷◌, ◌++◌, refl, sym, ap, ap₂, ◌∙◌, subst, Some, None, Ok, Err}
+use Rattle.std.proofs.Common.{rules, ◌≡◌, ℕ, Bool, true, false, ◌&&◌, cond, eqb, List, [], ◌∷◌, ◌++◌, refl, sym, ap, ap₂, ◌∙◌, subst, Some, None, Ok, Err}
 use Rattle.std.proofs.lemmas.Bool.{both_ways, eqb-true, ne_eqb}
 use Rattle.std.specs.List.{AllByRecursion}
 use Rattle.cats_text.specs.Lines.{is_blank, line_byte, blank_returns}
@@ -134,11 +134,7 @@ CompleteIs bytes (Err e) = complete_fault bytes ≡ Some e
 pub complete_is : (k : PlainBid → PlainBid) (text : List ℕ) → CompleteIs text (outcome (scan (first_state k) (settled text)))
 complete_is k text =
     let cut = cut_of text in
-    subst (CompleteIs text) (sym (ap (λ bs. outcome (scan (first_state k) (settled bs))) cut.1.is
-    ∙ ap (λ bs. outcome (scan (first_state k) bs)) (settled-final (up_to_final text) cut.0 cut.1.ends)
-    ∙ ap outcome (scan-append (first_state k) (blank_returns (up_to_final text)) (settled cut.0))
-    ∙ open_behind (scan (first_state k) (blank_returns (up_to_final text))) (settled cut.0) (open_settled cut.0 cut.1.open_rest)))
-    (answer (outcome (scan (first_state k) (blank_returns (up_to_final text)))) (open_fault k (up_to_final text) (ends_returns (up_to_final text) cut.1.ends)))
+    search (rules, outcome, settled-final, scan-append, open_behind, open_settled, answer, open_fault, ends_returns)
   where
     answer : (r : Scanned) → OpenIs (up_to_final text) r → CompleteIs text r
     answer (Ok q) h = h

@@ -1,6 +1,6 @@
 -- Whole words at the start of bytes, each read before the byte that ends it.
-use Rattle.std.proofs.Common.{◌≡◌, ◌≢◌, ℕ, ◌+◌, ◌-◌, ◌<◌, ◌≤◌, Bool, true, false, ◌||◌, cond, eqb, ⊎_elim, inl, inr, List, [], ◌∷◌, length, get_or, take, drop}
-use Rattle.std.proofs.Common.{refl, sym, ap, ◌∙◌, subst, arith, Ok, Err, IsOkAnd}
+use Rattle.std.proofs.Common.{rules, ◌≡◌, ◌≢◌, ℕ, ◌+◌, ◌-◌, ◌<◌, ◌≤◌, Bool, true, false, ◌||◌, cond, eqb, ⊎_elim, inl, inr, List, [], ◌∷◌, length, get_or, take}
+use Rattle.std.proofs.Common.{drop, refl, sym, ap, ◌∙◌, subst, arith, Ok, Err, IsOkAnd}
 use Rattle.std.proofs.lemmas.Bool.{both_ways}
 use Rattle.std.proofs.lemmas.List.{length-drop, drop-drop}
 use Rattle.cats_text.specs.Lines.{is_blank}
@@ -114,8 +114,7 @@ token_faults : (s : State) (bytes : List ℕ) (w : Word) (taken : ℕ) (kind : K
     → word_read s.progress w ≡ Err kind → scan s (settled bytes) ≡ Err (fault_at s.line kind)
 token_faults s bytes w taken kind before token read =
     let come : IsScanned s (in_word s w) false bytes (drop token.count bytes) = word_scanned s bytes w token.count false before token.kept refl in
-    sym come.steps ∙ ap (scan (in_word s w)) (settled_end bytes token.count token.within token.ends)
-    ∙ ap (λ r. and_then r (λ t. scan t (settled (drop (token.count + 1) bytes)))) (byte_faults s w kind (get_or bytes token.count 0) token.ends read)
+    search (rules, settled_end, byte_faults)
 
 token_needs : (s : State) (bytes : List ℕ) (w : Word) (taken : ℕ) → is_before_word s.mode ≡ true → IsLeadingToken bytes w taken → s.progress.stage ≡ Bid
     → MeetsBidLine s (settled bytes)
@@ -129,8 +128,7 @@ token_taken : (s : State) (p : Progress) (v : Bool) (bytes : List ℕ) (count ta
     → IsScanned s (behind_word s p) v bytes (drop count bytes) → IsScanned s (behind_word s p) v bytes (drop taken bytes) × (taken ≤ length bytes)
 token_taken s p v bytes count taken within ends is so_far = elim (eqb (get_or bytes count 0) 10) as (λ t. eqb (get_or bytes count 0) 10 ≡ t
     → IsScanned s (behind_word s p) v bytes (drop taken bytes) × (taken ≤ length bytes)) [
-      | true ↦ λ (e : eqb (get_or bytes count 0) 10 ≡ true). let at : count ≡ taken = sym (is ∙ ap (λ t. count + cond t 0 1) e ∙ omega arith) in
-          (subst (λ k. IsScanned s (behind_word s p) v bytes (drop k bytes)) at so_far, omega arith)
+      | true ↦ search rules
       | false ↦ λ (e : eqb (get_or bytes count 0) 10 ≡ false). let at : count + 1 ≡ taken = sym (is ∙ ap (λ t. count + cond t 0 1) e) in (
         subst (λ k. IsScanned s (behind_word s p) v bytes (drop k bytes)) at
             (scan_byte_at s (behind_word s p) (behind_word s p) v v bytes count within (ends_no_return (get_or bytes count 0) ends) so_far
@@ -150,8 +148,7 @@ word_taken s p v bytes word taken before token read stage e =
 pub word_halts : (s : State) (u : Progress) (v : Bool) (bytes : List ℕ) (word : Word) (taken : ℕ) (kind : Kind) → is_before_word s.mode ≡ true
     → IsLeadingToken bytes word taken → Gives (λ p. word_read p word) s.progress u (Err kind)
     → ScansTo s (record s { progress = u }) v bytes (Err kind)
-word_halts s u v bytes word taken kind before token =
-    stops_in kind (token_needs s bytes word taken before token) (token_faults s bytes word taken kind before token)
+word_halts s u v bytes word taken kind before token = search (rules, stops_in, token_needs, token_faults)
 
 -- ---- a call on the rest of the bytes
 

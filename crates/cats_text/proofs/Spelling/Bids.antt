@@ -1,6 +1,6 @@
 -- The bid that a line spells, and the bid of a line's words.
-use Rattle.std.proofs.Common.{◌≡◌, ℕ, zero, suc, ◌<◌, ◌≤◌, true, false, not, cond, ltb, ⊎_elim, List, [], ◌∷◌, ◌++◌, length, map, Some, refl, sym, ap, ap₂, ◌∙◌}
-use Rattle.std.proofs.Common.{subst}
+use Rattle.std.proofs.Common.{rules, ◌≡◌, ℕ, zero, suc, ◌<◌, ◌≤◌, true, false, not, cond, ltb, ⊎_elim, List, [], ◌∷◌, ◌++◌, length, map, Some, refl, sym, ap}
+use Rattle.std.proofs.Common.{ap₂, ◌∙◌, subst}
 use Rattle.std.proofs.lemmas.Bool.{both_ways, ltb-true, lt-ltb, or_cases, or_left, or_right}
 use Rattle.std.proofs.lemmas.List.Sums.{take_while-cons}
 use Rattle.std.proofs.lemmas.Option.{slice_get_within}
@@ -36,18 +36,13 @@ bid_of_words G number price goods a = ap (λ ws. bid_on G (price_of price) (map 
 
 real_any : (G : ℕ) (ws : List Word) → list_any (λ g. ltb (number_of g) G) ws ≡ true → (g : ℕ) × (g < G) × (has_good (map number_of ws) g ≡ true)
 real_any G [] h = absurd (both_ways false refl h)
-real_any G (w ∷ ws) h = ⊎_elim
-    (λ (e : ltb (number_of w) G ≡ true). (number_of w, ltb-true (number_of w) G e, has_head (number_of w) (map number_of ws)))
-    (λ (k : list_any (λ g. ltb (number_of g) G) ws ≡ true). let p : (g : ℕ) × (g < G) × (has_good (map number_of ws) g ≡ true) = real_any G ws k in
-    (p.0, p.1, has_tail (number_of w) (map number_of ws) p.0 p.2))
-    (or_cases (ltb (number_of w) G) (list_any (λ g. ltb (number_of g) G) ws) h)
+real_any G (w ∷ ws) h = ⊎_elim (λ (e : ltb (number_of w) G ≡ true). search (rules, ltb-true, has_head))
+    (λ (k : list_any (λ g. ltb (number_of g) G) ws ≡ true). search (rules, has_tail, (real_any G ws k))) (search (rules, or_cases))
 
 any_real_from : (G : ℕ) (ws : List Word) (g : ℕ) → g < G → has_good (map number_of ws) g ≡ true → list_any (λ v. ltb (number_of v) G) ws ≡ true
 any_real_from G [] g l h = absurd (both_ways false refl h)
-any_real_from G (w ∷ ws) g l h = ⊎_elim
-    (λ (e : number_of w ≡ g). or_left (ltb (number_of w) G) (list_any (λ v. ltb (number_of v) G) ws) (lt-ltb (number_of w) G (subst (λ n. n < G) (sym e) l)))
-    (λ (k : has_good (map number_of ws) g ≡ true). or_right (ltb (number_of w) G) (list_any (λ v. ltb (number_of v) G) ws) (any_real_from G ws g l k))
-    (has_cases (number_of w) (map number_of ws) g h)
+any_real_from G (w ∷ ws) g l h = ⊎_elim (search (rules, or_left, lt-ltb))
+    (λ (k : has_good (map number_of ws) g ≡ true). search (rules, or_right, (any_real_from G ws g l k))) (has_cases (number_of w) (map number_of ws) g h)
 
 -- the bid of a line without a fault
 pub line_bid : (h : Bounds) (words : List Word) → (q : IsBidLine h words) → bid_of h.goods words ≡ bid_on h.goods (price_of q.price) (map number_of q.goods)
@@ -56,13 +51,7 @@ line_bid h words q = ap (bid_of h.goods) q.words_are ∙ bid_of_words h.goods q.
 pub line_is_bid : (h : Bounds) (words : List Word) → IsBidLine h words → IsBid h.goods h.dummy (bid_of h.goods words)
 line_is_bid h words q =
     let some : (g : ℕ) × (g < h.goods) × (has_good (map number_of q.goods) g ≡ true) = real_any h.goods q.goods q.real in
-    subst (IsBid h.goods h.dummy) (sym (line_bid h words q)) (record {
-      price = price_below q.price q.price_spelled q.not_large;
-      goods = bid_on_real h.goods (map number_of q.goods) some.0 some.2 some.1;
-      rising = IsRising-of (real h.goods (map number_of q.goods));
-      below = bid_on_below h.goods (map number_of q.goods);
-      dummy = bid_on_dummy h.goods h.dummy (map number_of q.goods) q.goods_are;
-    })
+    subst (IsBid h.goods h.dummy) (sym (line_bid h words q)) (search (rules, price_below, bid_on_real, IsRising-of, bid_on_below, bid_on_dummy))
 
 pub line_spells : (h : Bounds) (f : PlainFile) (words : List Word) → f.goods ≡ h.goods → IsBidLine h words
     → slice_get f.bids (line_number words) ≡ Some (bid_of h.goods words) → SpellsBid f words
@@ -73,13 +62,12 @@ line_spells h f words same q stands = record {
   bid = bid_on h.goods (price_of q.price) (map number_of q.goods);
   words_are = q.words_are;
   number_spelled = q.number_spelled;
-  stands = ap (λ ws. slice_get f.bids (line_number ws)) (sym q.words_are) ∙ stands ∙ ap Some (line_bid h words q);
+  stands = search (rules, line_bid);
   price_spelled = record { price = q.price_spelled; exact = q.exact; value = refl };
   goods_spelled = q.goods_spelled;
   distinct = q.goods_are.distinct;
   same_goods = λ g. subst (λ G. has_good (map number_of q.goods) g ≡ has_good (goods_of G (bid_on h.goods (price_of q.price) (map number_of q.goods))) g)
-      (sym same)
-      (bid_on_same h.goods h.dummy (price_of q.price) (map number_of q.goods) q.goods_are g);
+      (sym same) (bid_on_same h.goods h.dummy (price_of q.price) (map number_of q.goods) q.goods_are g);
 }
 
 -- ---- a bid that a line spells
@@ -118,12 +106,4 @@ spelled_line f words p s =
 pub spelled_bid : (f : PlainFile) (words : List Word) → IsPlainFile f → SpellsBid f words → slice_get f.bids (line_number words) ≡ Some (bid_of f.goods words)
 spelled_bid f words p s =
     let is : IsBid f.goods f.dummy s.bid = spelled_is_bid f words p s in
-    let goods : s.bid.goods ≡ (bid_on f.goods (price_of s.price) (map number_of s.goods)).goods
-    = rising_goods f.goods f.dummy s.bid.goods s.bid.dummy (map number_of s.goods) is.rising is.below is.dummy s.same_goods in
-    let dummy : s.bid.dummy ≡ dummy_of f.goods (map number_of s.goods)
-    = same_dummy f.goods f.dummy s.bid.goods s.bid.dummy (map number_of s.goods) is.rising is.below is.dummy s.same_goods in
-    let bid : s.bid ≡ bid_on f.goods (price_of s.price) (map number_of s.goods)
-    = ap (λ n. record { price = n; goods = s.bid.goods; dummy = s.bid.dummy }) (sym s.price_spelled.value)
-    ∙ ap₂ (λ gs o. record { price = price_of s.price; goods = gs; dummy = o }) goods dummy in
-    ap (λ ws. slice_get f.bids (line_number ws)) s.words_are ∙ s.stands
-    ∙ ap Some (bid ∙ sym (ap (bid_of f.goods) s.words_are ∙ bid_of_words f.goods s.number s.price s.goods s.goods_spelled))
+    search (rules, bid_on, rising_goods, dummy_of, same_dummy, bid_of_words)

@@ -1,6 +1,6 @@
 -- The bids of lines, each at its number. The idea: each line with a number of its own fills one more place, so as many lines
 -- as there are places fill them all.
-use Rattle.std.proofs.Common.{◌≡◌, ◌≢◌, ℕ, zero, suc, ◌+◌, ◌-◌, ◌<◌, ◌≤◌, List, [], ◌∷◌, ◌++◌, length, map, replicate, set, get_or, Option, Some, None}
+use Rattle.std.proofs.Common.{rules, ◌≡◌, ◌≢◌, ℕ, zero, suc, ◌+◌, ◌-◌, ◌<◌, ◌≤◌, List, [], ◌∷◌, ◌++◌, length, map, replicate, set, get_or, Option, Some, None}
 use Rattle.std.proofs.Common.{refl, sym, ap, ap₂, ◌∙◌, subst, arith, length-append, get_or-set_same, get_or-set_other}
 use Rattle.std.proofs.lemmas.Bool.{cases_eq}
 use Rattle.std.proofs.lemmas.List.{length-replicate, length-set}
@@ -68,8 +68,7 @@ length_filled_put : (xs : BidsByNumber) (n : ℕ) (b : PlainBid) → get_or xs n
 length_filled_put xs n b e = grind (arith, common_steps, at_padded, filled_padded, length_filled_set, length_padded)
 
 all_put : (P : PlainBid → Type 0) (xs : BidsByNumber) (n : ℕ) (b : PlainBid) → AllByRecursion P (filled xs) → P b → AllByRecursion P (filled (put_slot xs n b))
-all_put P xs n b a p = all_filled_set P (xs ++ replicate (n + 1 - length xs) None) n b (subst (AllByRecursion P) (sym (filled_padded xs (n + 1 - length xs))) a)
-    p
+all_put P xs n b a p = search (rules, all_filled_set, filled_padded)
 
 -- ---- all places filled
 
@@ -115,13 +114,7 @@ filled_count : (G : ℕ) (xs : BidsByNumber) (lines : List (List Word)) → AreD
     → length (filled (slots_from G xs lines)) ≡ length lines + length (filled xs)
 filled_count G xs [] d f = omega arith
 filled_count G xs (l ∷ ls) d f =
-    grind (
-      arith,
-      common_steps,
-      free_put,
-      length_filled_put,
-      (filled_count G (put_slot xs (line_number l) (bid_of G l)) ls d.1 (free_put xs (line_number l) (bid_of G l) (lines_numbers ls) d.0 f.1)),
-    )
+    search (rules, free_put, length_filled_put, (filled_count G (put_slot xs (line_number l) (bid_of G l)) ls d.1 (free_put xs (line_number l) (bid_of G l) (lines_numbers ls) d.0 f.1)))
 
 within : (G : ℕ) (xs : BidsByNumber) (lines : List (List Word)) (m : ℕ) → length xs ≤ m → AllByRecursion (λ n. n < m) (lines_numbers lines)
     → length (slots_from G xs lines) ≤ m
@@ -183,8 +176,7 @@ same_by_place [] (y ∷ ys) l h = absurd (omega arith)
 same_by_place (x ∷ xs) [] l h = absurd (omega arith)
 same_by_place (x ∷ xs) (y ∷ ys) l h =
     let head : Some y ≡ Some x = h 0 x refl in
-    let same : x ≡ y = cc in
-    ap₂ (λ b bs. b ∷ bs) same (same_by_place xs ys (omega arith) (λ k b e. h (suc k) b e))
+    search (rules, (same_by_place xs ys (omega arith) (λ k b e. h (suc k) b e)))
 
 put_agrees : (bids : List PlainBid) (xs : BidsByNumber) (n : ℕ) (b : PlainBid) → slice_get bids n ≡ Some b
     → ((k : ℕ) (c : PlainBid) → get_or xs k None ≡ Some c → slice_get bids k ≡ Some c)

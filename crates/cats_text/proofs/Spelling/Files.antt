@@ -1,5 +1,5 @@
 -- A text without a fault spells the file that it says, and a text that spells a file has no fault and says that file.
-use Rattle.std.proofs.Common.{◌≡◌, ℕ, ◌≤◌, cond, ◌⊎◌, inl, inr, List, [], ◌∷◌, length, Option, Some, None, refl, sym, ap, ◌∙◌, subst}
+use Rattle.std.proofs.Common.{rules, ◌≡◌, ℕ, ◌≤◌, cond, ◌⊎◌, inl, inr, List, [], ◌∷◌, length, Option, Some, None, refl, sym, ap, ◌∙◌, subst, arith}
 use Rattle.std.specs.List.{AllByRecursion, slice_get}
 use Rattle.std.specs.Prelude.{codes}
 use Rattle.cats_text.specs.Lines.{Word, significant_lines, line_count}
@@ -15,7 +15,6 @@ use Rattle.cats_text.proofs.Spelling.Tests.{IsHeader, header_number}
 use Rattle.cats_text.proofs.Spelling.Goods.{IsBidLine}
 use Rattle.cats_text.proofs.Spelling.Lines.{words_from, words_none, AreBidLines, AreFileLines, lines_from, lines_none, fill_places}
 use Rattle.cats_text.proofs.Spelling.Bids.{line_is_bid, line_spells, file_bounds, spelled_line, spelled_bid}
-use Rattle.std.proofs.Common.{arith}
 use Rattle.std.proofs.lemmas.Grind.{common_steps}
 
 all_same : (P Q : List Word → Type 0) → ((x : List Word) → P x → Q x) → (xs : List (List Word)) → AllByRecursion P xs → AllByRecursion Q xs
@@ -31,7 +30,7 @@ all_both P Q R h (x ∷ xs) a b = (h x a.0 b.0, all_both P Q R h xs a.1 b.1)
 
 pub spells_from_no_fault : (text : List ℕ) → first_fault text ≡ None → Spells text (spelled_file text)
 spells_from_no_fault text none =
-    let p : AreFileLines (significant_words text) = lines_from (significant_words text) (words_from (line_count text) [] (significant_lines text) none) in
+    let p : AreFileLines (significant_words text) = search (rules, lines_from, words_from) in
     let fill : FillPlaces (header_value p.b) p.bid_lines = fill_places (bounds_of p.g p.b p.d) p.bid_lines p.are in
     let count : length (filled (slots_of (header_value p.g) p.bid_lines)) ≡ header_value p.b =
     length_bids (header_value p.g) (header_value p.b) p.bid_lines fill in
@@ -43,8 +42,7 @@ spells_from_no_fault text none =
       bids = p.bids.number;
       dummy = p.dummy.number;
       bid_lines = p.bid_lines;
-      lines_are = p.lines_are
-          ∙ ap (λ ws. ws ∷ p.b ∷ p.d ∷ p.bid_lines) p.goods.words_are
+      lines_are = p.lines_are ∙ ap (λ ws. ws ∷ p.b ∷ p.d ∷ p.bid_lines) p.goods.words_are
           ∙ ap (λ ws. (codes "goods" ∷ p.goods.number ∷ []) ∷ ws ∷ p.d ∷ p.bid_lines) p.bids.words_are
           ∙ ap (λ ws. (codes "goods" ∷ p.goods.number ∷ []) ∷ (codes "bids" ∷ p.bids.number ∷ []) ∷ ws ∷ p.bid_lines) p.dummy.words_are;
       goods_spelled = record { number = p.goods.spelled; value = sym goods_value };
@@ -53,8 +51,7 @@ spells_from_no_fault text none =
       count = fill.count ∙ sym count;
       distinct = p.are.distinct;
       each = all_both (IsBidLine (bounds_of p.g p.b p.d)) (λ l. slice_get (filled (slots_of (header_value p.g) p.bid_lines)) (line_number l)
-          ≡ Some (bid_of (header_value p.g) l))
-          (SpellsBid (file_of_lines (p.g ∷ p.b ∷ p.d ∷ p.bid_lines)))
+          ≡ Some (bid_of (header_value p.g) l)) (SpellsBid (file_of_lines (p.g ∷ p.b ∷ p.d ∷ p.bid_lines)))
           (λ l q s. line_spells (bounds_of p.g p.b p.d) (file_of_lines (p.g ∷ p.b ∷ p.d ∷ p.bid_lines)) l refl q s)
           p.bid_lines p.are.each (bids_stand (header_value p.g) (header_value p.b) p.bid_lines fill);
       facts = record {
@@ -96,14 +93,10 @@ file_lines text f s = record {
   d = codes "dummy" ∷ s.dummy ∷ [];
   bid_lines = s.bid_lines;
   lines_are = s.lines_are;
-  goods = spelled_header (codes "goods") MAX_GOODS s.goods f.goods s.goods_spelled s.facts.goods;
-  bids = spelled_header (codes "bids") MAX_BIDS s.bids (length f.bids) s.bids_spelled s.facts.count;
-  dummy = spelled_header (codes "dummy") MAX_DUMMY s.dummy f.dummy s.dummy_spelled s.facts.dummy;
-  are = subst (λ h. AreBidLines h s.bid_lines)
-      (same_bounds (header_value (codes "goods" ∷ s.goods ∷ [])) (header_value (codes "bids" ∷ s.bids ∷ [])) (header_value (codes "dummy" ∷ s.dummy ∷ [])) f
-      (spelled_value (codes "goods") s.goods f.goods s.goods_spelled) (spelled_value (codes "bids") s.bids (length f.bids) s.bids_spelled)
-      (spelled_value (codes "dummy") s.dummy f.dummy s.dummy_spelled))
-      (file_bid_lines text f s);
+  goods = search (rules, spelled_header);
+  bids = search (rules, spelled_header);
+  dummy = search (rules, spelled_header);
+  are = subst (λ h. AreBidLines h s.bid_lines) (search (rules, same_bounds, spelled_value)) (file_bid_lines text f s);
 }
 
 pub no_fault_from_spells : (text : List ℕ) (f : PlainFile) → Spells text f → first_fault text ≡ None
@@ -114,16 +107,7 @@ pub says_spelled : (text : List ℕ) (f : PlainFile) → Spells text f → f ≡
 says_spelled text f s =
     let fill : FillPlaces (length f.bids) s.bid_lines = fill_places (file_bounds f) s.bid_lines (file_bid_lines text f s) in
     let bids : f.bids ≡ filled (slots_of f.goods s.bid_lines) = bids_are f.goods f.bids s.bid_lines fill (each_bid f s.bid_lines s.facts s.each) in
-    ap (λ bs. record { goods = f.goods; dummy = f.dummy; bids = bs }) bids
-    ∙ ap (λ n. record { goods = n; dummy = f.dummy; bids = filled (slots_of n s.bid_lines) })
-    (sym (spelled_value (codes "goods") s.goods f.goods s.goods_spelled))
-    ∙ ap (λ n. record {
-      goods = header_value (codes "goods" ∷ s.goods ∷ []);
-      dummy = n;
-      bids = filled (slots_of (header_value (codes "goods" ∷ s.goods ∷ [])) s.bid_lines);
-    })
-    (sym (spelled_value (codes "dummy") s.dummy f.dummy s.dummy_spelled))
-    ∙ sym (ap file_of_lines s.lines_are)
+    search (rules, spelled_value)
 
 pub spells_one : (text : List ℕ) (f g : PlainFile) → Spells text f → Spells text g → f ≡ g
 spells_one text f g s t = says_spelled text f s ∙ sym (says_spelled text g t)

@@ -1,6 +1,6 @@
 -- Bid lines without a fault: a number, a price, and goods up to `#`.
-use Rattle.std.proofs.Common.{◌≡◌, ℕ, ◌+◌, ◌<◌, Bool, true, false, not, cond, eqb, ltb, leb, ◌||◌, ◌&&◌, ⊎_elim, List, [], ◌∷◌, ◌++◌, length, map, Option, None}
-use Rattle.std.proofs.Common.{refl, sym, ap, ap₂, ◌∙◌, subst, append_assoc, append-nil}
+use Rattle.std.proofs.Common.{rules, ◌≡◌, ℕ, ◌+◌, ◌<◌, Bool, true, false, not, cond, eqb, ltb, leb, ◌||◌, ◌&&◌, ⊎_elim, List, [], ◌∷◌, ◌++◌, length, map, None}
+use Rattle.std.proofs.Common.{Option, refl, sym, ap, ap₂, ◌∙◌, subst, append_assoc, append-nil, arith}
 use Rattle.std.proofs.lemmas.Bool.{both_ways, leb-false, lt-leb, not-false, not_from_true, or_left, or_right, or_from, false_from_ne_true, cases_Bool}
 use Rattle.std.proofs.lemmas.List.{map-append}
 use Rattle.std.proofs.lemmas.List.Folds.{list_any-append}
@@ -12,11 +12,9 @@ use Rattle.goods_set.specs.Bundles.{has_good}
 use Rattle.cats_text.specs.Grammar.{line_number}
 use Rattle.cats_text.specs.Faults.{when, Bounds, number_word, price_word, is_end, has_end, bid_end, bounds_of, words_fault}
 use Rattle.cats_text.specs.declared.read_fault.Kind.{Kind}
-use Rattle.cats_text.specs.declared.read_fault.Kind.TheVariants.{NotANumber, GoodRange, RepeatedGood}
-use Rattle.cats_text.specs.declared.read_fault.Kind.TheVariants.{TwoDummies, EmptyBundle}
+use Rattle.cats_text.specs.declared.read_fault.Kind.TheVariants.{NotANumber, GoodRange, RepeatedGood, TwoDummies, EmptyBundle}
 use Rattle.cats_text.proofs.Spelling.Members.{AreGoods, MayFollow, no_goods, push_goods, may_follow}
 use Rattle.cats_text.proofs.Spelling.Tests.{when_none, none_when, or_none, none_or, equal_words}
-use Rattle.std.proofs.Common.{arith}
 use Rattle.std.proofs.lemmas.Grind.{common_steps}
 
 abbrev numbers : List Word → List ℕ
@@ -148,9 +146,7 @@ module _ (g b d : List Word) (lines : List (List Word)) where
   goods_none : (n p : Word) (before goods : List Word) → AllByRecursion (λ w. is_number w ≡ true) goods
       → AreGoods bounds.goods bounds.dummy (numbers (before ++ goods)) → has_end before ≡ false
       → any_real bounds (before ++ goods) → goods_fault n p before (goods ++ codes "#" ∷ []) ≡ None
-  goods_none n p before [] s a e r =
-      none_or _ _ (none_when _ _ _ e (none_when _ _ _ (not_from_true (list_any (λ v. ltb (number_of v) bounds.goods) before)
-      (subst (any_real bounds) (append-nil before) r)) refl)) refl
+  goods_none n p before [] s a e r = search (rules, none_or, none_when, not_from_true, append-nil)
   goods_none n p before (w ∷ ws) s a e r =
       let q : is_end w ≡ false = number_no_end w s.0 in
       let may : MayFollow bounds.goods bounds.dummy (numbers before) (number_of w)
@@ -185,39 +181,11 @@ module _ (g b d : List Word) (lines : List (List Word)) where
       × IsNewLine bounds lines words
   bid_line_from [] f e = absurd (cc)
   bid_line_from (n ∷ []) f e = absurd (cc)
-  bid_line_from (n ∷ p ∷ ws) f e =
-      let first = or_none _ _ f in
-      let second = or_none _ _ first.1 in
-      let number = number_from n first.0 in
-      let price = price_from p second.0 in
-      let goods = goods_from n p [] ws (no_goods bounds.goods bounds.dummy) refl second.1 (not-false (has_end ws) (when_none _ _ _ e).0) in (
-        record {
-          number = n;
-          price = p;
-          goods = goods.goods;
-          words_are = ap (λ vs. n ∷ p ∷ vs) goods.words_are;
-          number_spelled = number.0;
-          number_below = number.2;
-          price_spelled = price.0;
-          not_large = price.1;
-          exact = price.2;
-          goods_spelled = goods.spelled;
-          goods_are = goods.are;
-          real = goods.real;
-        },
-        record { due = number.1; new = number.3 },
-      )
+  bid_line_from (n ∷ p ∷ ws) f e = search (rules, or_none, number_from, price_from, goods_from, no_goods, not-false, when_none)
 
   has_end_end : (ws : List Word) → has_end (ws ++ codes "#" ∷ []) ≡ true
   has_end_end ws = list_any-append is_end ws (codes "#" ∷ []) ∙ or_right (has_end ws) true refl
 
   pub bid_line_none : (words : List Word) → IsBidLine bounds words → IsNewLine bounds lines words → (words_fault (g ∷ b ∷ d ∷ lines) [] words ≡ None)
       × (bid_end words ≡ None)
-  bid_line_none words q new =
-      let same : line_number words ≡ number_of q.number = ap line_number q.words_are in
-      subst (λ ws. (words_fault (g ∷ b ∷ d ∷ lines) [] ws ≡ None) × (bid_end ws ≡ None)) (sym q.words_are) (
-        none_or _ _ (number_none q.number q.number_spelled new.due q.number_below (ap (has_line lines) (sym same) ∙ new.new))
-            (none_or _ _ (price_none q.price q.price_spelled q.not_large q.exact)
-            (goods_none q.number q.price [] q.goods q.goods_spelled q.goods_are refl q.real)),
-        none_when _ _ _ (not_from_true (has_end (q.goods ++ codes "#" ∷ [])) (has_end_end q.goods)) refl,
-      )
+  bid_line_none words q new = search (rules, none_or, number_none, price_none, goods_none, none_when, not_from_true, has_end_end)

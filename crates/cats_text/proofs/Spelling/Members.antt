@@ -1,7 +1,7 @@
 -- The numbers of a bid's goods: its real goods are those below G, and of those from G on it has one at most. Lists of numbers
 -- that are in the same lists of goods are the same, however they are ordered.
-use Rattle.std.proofs.Common.{◌≡◌, ◌≢◌, ℕ, ◌+◌, ◌-◌, ◌<◌, ◌≤◌, Bool, true, false, eqb, ltb, leb, ◌||◌, ◌&&◌, ◌⊎◌, inl, ⊎_elim, List, [], ◌∷◌, ◌++◌}
-use Rattle.std.proofs.Common.{length, Option, Some, None, refl, sym, ap, ◌∙◌, subst, arith}
+use Rattle.std.proofs.Common.{rules, ◌≡◌, ◌≢◌, ℕ, ◌+◌, ◌-◌, ◌<◌, ◌≤◌, Bool, true, false, eqb, ltb, leb, ◌||◌, ◌&&◌, ◌⊎◌, inl, ⊎_elim, List, [], ◌∷◌, ◌++◌, Some}
+use Rattle.std.proofs.Common.{length, Option, None, refl, sym, ap, ◌∙◌, subst, arith}
 use Rattle.std.proofs.lemmas.Bool.{both_ways, eqb-true, ltb-true, ltb-false, leb-true, leb-false, or_cases, or_left, or_right, and_parts, false_from_ne_true}
 use Rattle.std.proofs.lemmas.Bool.{cases_lt}
 use Rattle.std.proofs.lemmas.List.Folds.{list_any-append}
@@ -114,8 +114,7 @@ pub bid_on_same : (G D price : ℕ) (ns : List ℕ) → AreGoods G D ns → (g :
 bid_on_same G D price ns p g = same_test (has_good ns g) (has_good (goods_of G (bid_on G price ns)) g)
     (λ h. ⊎_elim (λ (l : g < G). has_before (rising_of (real G ns)) (dummy_good G (dummy_of G ns)) g (has_rising G ns g h l))
     (λ (l : G ≤ g). has_behind (rising_of (real G ns)) (dummy_good G (dummy_of G ns)) g (has_dummy G D ns p g h l)) (cases_lt g G))
-    (λ h. ⊎_elim (λ (k : Has (rising_of (real G ns)) g). (rising_has G ns g k).1) (λ (k : Has (dummy_good G (dummy_of G ns)) g). (dummy_has G ns g k).1)
-    (has_append (rising_of (real G ns)) (dummy_good G (dummy_of G ns)) g h))
+    (search (rules, rising_has, dummy_has, has_append))
 
 pub bid_on_below : (G : ℕ) (ns : List ℕ) → AreBelow G (rising_of (real G ns))
 bid_on_below G ns = all_from_has (λ g. g < G) (rising_of (real G ns)) (λ g h. (rising_has G ns g h).0)
@@ -194,10 +193,8 @@ any_high G (v ∷ vs) g h l = grind (arith, common_steps, has_cases, leb-false, 
 
 high_any : (G : ℕ) (ns : List ℕ) → list_any (λ v. leb G v) ns ≡ true → (g : ℕ) × (G ≤ g) × Has ns g
 high_any G [] h = absurd (both_ways false refl h)
-high_any G (v ∷ vs) h = ⊎_elim
-    (λ (e : leb G v ≡ true). (v, leb-true G v e, has_head v vs))
-    (λ (k : list_any (λ w. leb G w) vs ≡ true). let p : (g : ℕ) × (G ≤ g) × Has vs g = high_any G vs k in (p.0, p.1, has_tail v vs p.0 p.2))
-    (or_cases (leb G v) (list_any (λ w. leb G w) vs) h)
+high_any G (v ∷ vs) h = ⊎_elim (λ (e : leb G v ≡ true). (v, leb-true G v e, has_head v vs))
+    (λ (k : list_any (λ w. leb G w) vs ≡ true). search (rules, has_tail, (high_any G vs k))) (or_cases (leb G v) (list_any (λ w. leb G w) vs) h)
 
 -- the tests of one more number
 pub record MayFollow (G D : ℕ) (ns : List ℕ) (v : ℕ) : Type 0 where
@@ -226,8 +223,7 @@ pub may_follow : (G D : ℕ) (before : List ℕ) (v : ℕ) (rest : List ℕ) →
 may_follow G D before v rest p =
     let there : Has (before ++ v ∷ rest) v = has_behind before (v ∷ rest) v (has_head v rest) in
     record {
-      range = false_from_ne_true (leb (G + D) v) (λ e. let le : G + D ≤ v = leb-true (G + D) v e in let lt : v < G + D = p.below v there in
-          absurd (omega arith));
+      range = search (rules, false_from_ne_true, leb-true);
       new = new_at before v rest p.distinct;
       one = false_from_ne_true (leb G v && list_any (λ w. leb G w) before) (λ e.
           let both : (leb G v ≡ true) × (list_any (λ w. leb G w) before ≡ true) = and_parts (leb G v) (list_any (λ w. leb G w) before) e in

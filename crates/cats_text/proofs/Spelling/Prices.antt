@@ -1,8 +1,8 @@
 -- Prices: a price that is neither too large nor too fine is at most the greatest one in millionths, and the other way round.
-use Rattle.std.proofs.Common.{◌≡◌, ℕ, suc, ◌+◌, ◌-◌, ◌*◌, ◌^◌, ◌<◌, ◌≤◌, Bool, true, false, not, eqb, ltb, leb, ◌&&◌, List, [], ◌∷◌, ◌++◌}
-use Rattle.std.proofs.Common.{length, take, refl, sym, ◌∙◌, subst, arith, length-append, length-take}
-use Rattle.std.proofs.lemmas.Bool.{both_ways, eqb-true, eq-eqb, ltb-false, le-ltb, leb-true, or_cases, or_parts, or_from, and_parts, and_from}
-use Rattle.std.proofs.lemmas.Bool.{false_from_ne_true, not-true, not-false, cases_Bool}
+use Rattle.std.proofs.Common.{rules, ◌≡◌, ℕ, suc, ◌+◌, ◌-◌, ◌*◌, ◌^◌, ◌<◌, ◌≤◌, Bool, true, false, not, eqb, ltb, leb, ◌&&◌, List, [], ◌∷◌, ◌++◌, length, take}
+use Rattle.std.proofs.Common.{refl, sym, ◌∙◌, subst, arith, length-append, length-take}
+use Rattle.std.proofs.lemmas.Bool.{both_ways, eqb-true, eq-eqb, ltb-false, le-ltb, leb-true, or_cases, or_parts, or_from, and_parts, and_from, not-true}
+use Rattle.std.proofs.lemmas.Bool.{false_from_ne_true, not-false, cases_Bool}
 use Rattle.std.proofs.lemmas.List.{take-append-drop}
 use Rattle.std.proofs.lemmas.List.Folds.{list_any-append, list_all-append}
 use Rattle.std.proofs.Math.Nat.{mul-le-mul_left, pow-succ'}
@@ -76,8 +76,7 @@ six_below : (ds : Word) → digits_alone ds ≡ true → number_of (six_places d
 six_below ds h = grind (arith, common_steps, length_six, six_digits_alone, value_below)
 
 six_zero : (ds : Word) → list_any is_place ds ≡ false → number_of (six_places ds) ≡ 0
-six_zero ds h = value_zero (six_places ds) (none_take is_place 6 (ds ++ zeros) (list_any-append is_place ds zeros
-    ∙ or_from (list_any is_place ds) false h refl))
+six_zero ds h = search (rules, value_zero, none_take, list_any-append, or_from)
 
 zero_six : (ds : Word) → digits_alone ds ≡ true → has_place_from 6 ds ≡ false → number_of (six_places ds) ≡ 0 → list_any is_place ds ≡ false
 zero_six ds h fine e = grind (arith, common_steps, list_any-append, none_in_prefix, or_from, six_digits_alone, take-append-drop, zero_value)

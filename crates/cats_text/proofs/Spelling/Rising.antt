@@ -1,5 +1,5 @@
 -- Rising lists: one more number behind, the numbers at places, and a list put in order, which is the one rising list of its numbers.
-use Rattle.std.proofs.Common.{◌≡◌, ℕ, ◌<◌, ◌≤◌, true, false, ◌||◌, eqb, ⊎_elim, List, [], ◌∷◌, ◌++◌, ◌-◌, zero, suc, length, take, get_or, refl, sym, ap}
+use Rattle.std.proofs.Common.{rules, ◌≡◌, ℕ, ◌<◌, ◌≤◌, true, false, ◌||◌, eqb, ⊎_elim, List, [], ◌∷◌, ◌++◌, ◌-◌, zero, suc, length, take, get_or, refl, sym, ap}
 use Rattle.std.proofs.Common.{◌∙◌, arith}
 use Rattle.std.proofs.lemmas.Bool.{both_ways, ne_eqb}
 use Rattle.goods_set.specs.Bundles.{AreAbove, IsRising, has_good}
@@ -54,5 +54,4 @@ IsRising-of (x ∷ xs) = IsRising-with_good x (rising_of xs) (IsRising-of xs)
 
 -- the one rising list of these numbers
 pub rising_of_is : (xs ys : List ℕ) → IsRising xs → ((g : ℕ) → has_good xs g ≡ has_good ys g) → xs ≡ rising_of ys
-rising_of_is xs ys r h =
-    same_from_has xs (rising_of ys) r (IsRising-of ys) (λ g k. has_rising_of ys g ∙ sym (h g) ∙ k) (λ g k. h g ∙ sym (has_rising_of ys g) ∙ k)
+rising_of_is xs ys r h = search (rules, same_from_has, IsRising-of, has_rising_of)

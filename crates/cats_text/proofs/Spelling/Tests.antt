@@ -1,5 +1,5 @@
 -- Tests one after another: no fault is that each of them is false. And header lines.
-use Rattle.std.proofs.Common.{◌≡◌, ℕ, ◌≤◌, Bool, true, false, cond, ◌||◌, List, [], ◌∷◌, Option, Some, None, refl, sym, ap, ◌∙◌, subst}
+use Rattle.std.proofs.Common.{rules, ◌≡◌, ℕ, ◌≤◌, Bool, true, false, cond, ◌||◌, List, [], ◌∷◌, Option, Some, None, refl, sym, ap, ◌∙◌, subst, arith}
 use Rattle.std.proofs.lemmas.Bool.{both_ways, ltb-false, le-ltb, not-false, not_from_true}
 use Rattle.std.proofs.lemmas.Slice.Eq.{bytes_eq-Decides}
 use Rattle.std.specs.Option.{option_or, option_map}
@@ -8,7 +8,6 @@ use Rattle.cats_text.specs.Lines.{Word}
 use Rattle.cats_text.specs.Numbers.{is_number, number_of}
 use Rattle.cats_text.specs.Faults.{when, header_word, header_end, header_value, word_fault, words_fault}
 use Rattle.cats_text.specs.declared.read_fault.Kind.{Kind}
-use Rattle.std.proofs.Common.{arith}
 use Rattle.std.proofs.lemmas.Grind.{common_steps}
 
 -- ---- tests
@@ -62,24 +61,14 @@ module _ (keyword : Word) (limit : ℕ) (lines : List (List Word))
   pub header_from : (words : List Word) → words_fault lines [] words ≡ None → header_end words ≡ None → IsHeader keyword limit words
   header_from [] f e = absurd (cc)
   header_from (k ∷ []) f e = absurd (cc)
-  header_from (k ∷ w ∷ []) f e =
-      let first = or_none _ _ f in
-      let second = or_none _ _ first.1 in
-      let number = when_none _ _ _ (sym (is_header (k ∷ []) w) ∙ second.0) in
-      record {
-        number = w;
-        words_are = ap (λ v. v ∷ w ∷ []) (equal_words k keyword (not-false (bytes_eq k keyword) (when_none _ _ _ (sym (is_header [] k) ∙ first.0)).0));
-        spelled = not-false (is_number w) number.0;
-        within = ltb-false limit (number_of w) (when_none _ _ _ number.1).0;
-      }
+  header_from (k ∷ w ∷ []) f e = search (rules, or_none, when_none, equal_words, not-false, ltb-false)
   header_from (k ∷ w ∷ x ∷ xs) f e = grind (arith, common_steps, or_none)
 
   header_words_none : (number : Word) → is_number number ≡ true → number_of number ≤ limit → words_fault lines [] (keyword ∷ number ∷ []) ≡ None
   header_words_none number spelled small = grind (arith, common_steps, le-ltb, none_or, none_when, not_from_true, number, same_word, spelled)
 
   pub header_none : (words : List Word) → IsHeader keyword limit words → (words_fault lines [] words ≡ None) × (header_end words ≡ None)
-  header_none words p = subst (λ ws. (words_fault lines [] ws ≡ None) × (header_end ws ≡ None)) (sym p.words_are)
-      (header_words_none p.number p.spelled p.within, refl)
+  header_none words p = search (rules, header_words_none)
 
 pub header_number : (keyword : Word) (limit : ℕ) (words : List Word) → (p : IsHeader keyword limit words) → header_value words ≡ number_of p.number
 header_number keyword limit words p = ap header_value p.words_are ∙ ap (λ b. cond b (number_of p.number) 0) p.spelled

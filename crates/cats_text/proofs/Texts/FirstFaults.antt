@@ -1,6 +1,6 @@
 -- The scanner's answer over a text is the definitions' first fault, and over the bytes so far the fault that is complete.
-use Rattle.std.proofs.Common.{◌≡◌, ℕ, suc, ◌+◌, ◌<◌, Bool, true, false, ◌||◌, cond, eqb, List, [], ◌∷◌, ◌++◌, length, filter, refl, sym, ap, ◌∙◌}
-use Rattle.std.proofs.Common.{subst, arith, Some, None, Ok, Err, append-nil}
+use Rattle.std.proofs.Common.{rules, ◌≡◌, ℕ, suc, ◌+◌, ◌<◌, Bool, true, false, ◌||◌, cond, eqb, List, [], ◌∷◌, ◌++◌, length, filter, refl, sym, ap, ◌∙◌, subst}
+use Rattle.std.proofs.Common.{arith, Some, None, Ok, Err, append-nil}
 use Rattle.std.proofs.lemmas.Bool.{both_ways}
 use Rattle.std.specs.List.{AllByRecursion}
 use Rattle.cats_text.specs.Lines.{Word, RawLine, Line, raw_lines, line_words, words_with, with_letter, begins_word, is_significant, is_blank, numbered}
@@ -61,20 +61,7 @@ raw_scan-lines whole n (l ∷ ls) p count r c =
 
 pub words_are : (bytes : List ℕ) → AllByRecursion IsWord (line_words bytes)
 words_are [] = tt
-words_are (b ∷ bs) = joined (line_words bs) (words_are bs)
-  where
-    prefix : (ws : List Word) → AllByRecursion IsWord ws → AllByRecursion IsWord (with_letter b ws)
-    prefix [] h = (omega arith, tt)
-    prefix (w ∷ ws) h = (omega arith, h.1)
-
-    joined : (ws : List Word) → AllByRecursion IsWord ws → AllByRecursion IsWord (words_with b bs ws)
-    joined ws h = elim (is_blank b) as (λ t. AllByRecursion IsWord (cond t ws (cond (begins_word bs) (with_letter b ws) ((b ∷ []) ∷ ws)))) [
-      | true ↦ h
-      | false ↦ elim (begins_word bs) as (λ t. AllByRecursion IsWord (cond t (with_letter b ws) ((b ∷ []) ∷ ws))) [
-        | true ↦ prefix ws h
-        | false ↦ (omega arith, h)
-      ]
-    ]
+words_are (b ∷ bs) = search (rules, IsWord, (words_are bs))
 
 pub significant_pos : (ws : List Word) → is_significant ws ≡ true → 0 < length ws
 significant_pos [] e = absurd (both_ways false refl e)
@@ -108,13 +95,10 @@ WholeIs text (Ok q) = (first_fault text ≡ None) × IsAt (significant_words tex
 WholeIs text (Err e) = first_fault text ≡ Some e
 
 pub whole_fault : (k : PlainBid → PlainBid) (text : List ℕ) → WholeIs text (outcome (and_then (scan (first_state k) (blank_returns text)) end_step))
-whole_fault k text =
-    subst (WholeIs text) (sym (ap (λ bs. outcome (and_then (scan (first_state k) bs) end_step)) (sym (text_of-lines (blank_returns text)))
+whole_fault k text = subst (WholeIs text) (sym (ap (λ bs. outcome (and_then (scan (first_state k) bs) end_step)) (sym (text_of-lines (blank_returns text)))
     ∙ whole_text 1 (start k) (raw_lines (blank_returns text)) (AreRaw-lines (blank_returns text))
     ∙ raw_scan-lines true 1 (raw_lines (blank_returns text)) (start k) (line_count text) (AreRaw-lines (blank_returns text)) (λ e. omega arith)))
-    (answer (lines_scan true (line_count text) (significant_lines text) (start k))
-    (lines_step true (line_count text) [] (significant_lines text) (start k) (kept_are 1 (raw_lines (blank_returns text)))
-    (kept_ends 1 (raw_lines (blank_returns text)) (AreRaw-lines (blank_returns text))) (at_start k)))
+    (search (rules, answer, lines_step, kept_are, kept_ends, AreRaw-lines, at_start))
   where
     answer : (r : Scanned) → LinesAre true (line_count text) [] (significant_lines text) r → WholeIs text r
     answer (Ok q) h = (h.0, (h.1 refl).0, (h.1 refl).1)
@@ -167,12 +151,7 @@ EndsBlank-lines (b ∷ []) f =
     ] refl
 EndsBlank-lines (b ∷ c ∷ cs) f =
     let some = some_line c cs in
-    let later : EndsBlank (some.0 ∷ some.1) = subst EndsBlank some.2 (EndsBlank-lines (c ∷ cs) f) in
-    subst (λ ls. EndsBlank (lines_with b ls)) (sym some.2)
-    (elim (eqb b 10) as (λ t. EndsBlank (cond t (record { bytes = []; ended = true } ∷ (some.0 ∷ some.1)) (with_byte b (some.0 ∷ some.1)))) [
-      | true ↦ blank_prefix (record { bytes = []; ended = true }) (some.0 ∷ some.1) refl later
-      | false ↦ blank_with b some.0 some.1 later
-    ])
+    search (rules, blank_prefix, blank_with, (EndsBlank-lines (c ∷ cs) f))
 
 pub words_trailing : (bs : List ℕ) (b : ℕ) → is_blank b ≡ true → line_words (bs ++ b ∷ []) ≡ line_words bs
 words_trailing [] b e = words_blank b [] e
@@ -191,8 +170,7 @@ open_line_end : (n : ℕ) (p : Progress) (bs : List ℕ) (b : ℕ) → AllByRecu
     → outcome (scan (standing Start n p) (bs ++ b ∷ [])) ≡ open_outcome n (line_words (bs ++ b ∷ [])) p
 open_line_end n p bs b h e =
     let parts = all_parts bs h in
-    ap outcome (scan-append (standing Start n p) bs (b ∷ []) ∙ at_blank (scan (standing Start n p) bs) parts.1 ∙ from_start n p bs parts.0)
-    ∙ open_is n (line_words bs) p ∙ ap (λ ws. open_outcome n ws p) (sym (words_trailing bs b e))
+    search (rules, scan-append, at_blank, from_start, open_is, words_trailing)
   where
     all_parts : (bs : List ℕ) → AllByRecursion IsNoEnd (bs ++ b ∷ []) → AllByRecursion IsNoEnd bs × (eqb b 10 ≡ false)
     all_parts [] h = (tt, h.0)
@@ -234,13 +212,10 @@ OpenIs text (Ok q) = lines_fault false 0 [] (significant_lines text) ≡ None
 OpenIs text (Err e) = lines_fault false 0 [] (significant_lines text) ≡ Some e
 
 pub open_fault : (k : PlainBid → PlainBid) (text : List ℕ) → EndsFinal (blank_returns text) → OpenIs text (outcome (scan (first_state k) (blank_returns text)))
-open_fault k text f =
-    subst (OpenIs text) (sym (ap (λ bs. outcome (scan (first_state k) bs)) (sym (text_of-lines (blank_returns text)))
+open_fault k text f = subst (OpenIs text) (sym (ap (λ bs. outcome (scan (first_state k) bs)) (sym (text_of-lines (blank_returns text)))
     ∙ open_text 1 (start k) (raw_lines (blank_returns text)) (AreRaw-lines (blank_returns text)) (EndsBlank-lines (blank_returns text) f)
     ∙ raw_scan-lines false 1 (raw_lines (blank_returns text)) (start k) 0 (AreRaw-lines (blank_returns text)) (λ e. absurd (both_ways false refl e))))
-    (answer (lines_scan false 0 (significant_lines text) (start k))
-    (lines_step false 0 [] (significant_lines text) (start k) (kept_are 1 (raw_lines (blank_returns text)))
-    (kept_ends 1 (raw_lines (blank_returns text)) (AreRaw-lines (blank_returns text))) (at_start k)))
+    (search (rules, answer, lines_step, kept_are, kept_ends, AreRaw-lines, at_start))
   where
     answer : (r : Scanned) → LinesAre false 0 [] (significant_lines text) r → OpenIs text r
     answer (Ok q) h = h.0

@@ -1,7 +1,7 @@
 -- The place of the first fault: the parser's answers over the lines give it, and it has the first fault. The idea: each
 -- step of the search is a step of the definition, at what the parser keeps of the lines and words before.
-use Rattle.std.proofs.Common.{◌≡◌, ℕ, suc, ◌+◌, ◌<◌, Bool, true, false, cond, List, [], ◌∷◌, ◌++◌, length, filter, refl, sym, ap, ◌∙◌}
-use Rattle.std.proofs.Common.{subst, arith, Option, Some, None, Ok, Err, option_map, append-nil, append_assoc, length-append}
+use Rattle.std.proofs.Common.{rules, ◌≡◌, ℕ, suc, ◌+◌, ◌<◌, Bool, true, false, cond, List, [], ◌∷◌, ◌++◌, length, filter, refl, sym, ap, ◌∙◌, subst, arith, Ok}
+use Rattle.std.proofs.Common.{Option, Some, None, Err, option_map, append-nil, append_assoc, length-append}
 use Rattle.std.specs.Bool.{then_some}
 use Rattle.std.specs.Option.{option_or}
 use Rattle.std.specs.List.{AllByRecursion}
@@ -121,15 +121,7 @@ line_passed text n raw raws p q b judged = elim (is_significant (line_words raw.
             number = omega (arith, b.number);
             count = omega (arith, b.count, ap (λ (ls : List Line). length ls) (kept_first n raw raws s), length-append b.lines (line_words raw.bytes ∷ []));
           }
-      | false ↦ λ (s : is_significant (line_words raw.bytes) ≡ false) (j : Ok p ≡ Ok q).
-          let same : p ≡ q = cc in
-          record {
-            lines = b.lines;
-            at = subst (IsAt b.lines []) same b.at;
-            place = sym (ap (lines_place (line_count text) b.lines) (kept_behind n raw raws s)) ∙ b.place;
-            number = omega (arith, b.number);
-            count = omega (arith, b.count, ap (λ (ls : List Line). length ls) (kept_behind n raw raws s));
-          }
+      | false ↦ search (rules, IsAt, kept_behind)
     ] refl judged
 
 -- behind the last line

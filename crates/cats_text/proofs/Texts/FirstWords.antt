@@ -1,7 +1,7 @@
 -- The first word of a line and the first line of a text, each cut where a search for a byte says. The idea: the bytes before
 -- the first one that passes a test are all of one sort, and the definitions go over such bytes at one go.
-use Rattle.std.proofs.Common.{◌≡◌, ℕ, zero, suc, ◌+◌, ◌<◌, ◌≤◌, min, Bool, true, false, not, ◌&&◌, cond, eqb, ltb, List, [], ◌∷◌, ◌++◌, length, take, drop}
-use Rattle.std.proofs.Common.{get_or, refl, sym, ap, ap₂, ◌∙◌, subst, arith, Some, None, ◌⊎◌, ⊎_elim, inl, drop-cons, append-nil, length-append}
+use Rattle.std.proofs.Common.{rules, ◌≡◌, ℕ, zero, suc, ◌+◌, ◌<◌, ◌≤◌, min, Bool, true, false, not, ◌&&◌, cond, eqb, ltb, List, [], ◌∷◌, ◌++◌, length, take, ap}
+use Rattle.std.proofs.Common.{drop, get_or, refl, sym, ap₂, ◌∙◌, subst, arith, Some, None, ◌⊎◌, ⊎_elim, inl, drop-cons, append-nil, length-append}
 use Rattle.std.proofs.lemmas.Bool.{both_ways, eqb-true, ltb-true, ltb-false, cases_lt}
 use Rattle.std.proofs.lemmas.List.{take-append-drop, drop_all, take_all, length-drop, length-take}
 use Rattle.std.proofs.lemmas.List.Sums.{fails_before_first, passes_at_first}
@@ -135,12 +135,7 @@ with_last (x ∷ y ∷ ys) b e = ap (λ ds. x ∷ ds) (with_last (y ∷ ys) b e)
 
 line_to_end : (xs : List ℕ) → 0 < length xs → AllByRecursion IsNoEnd xs → IsFirstLine xs (without_return xs) []
 line_to_end [] some h = absurd (omega arith)
-line_to_end (x ∷ xs) some h = record {
-  raw = record { bytes = blank_returns (x ∷ xs); ended = false };
-  lines = lines_last (line_byte x xs) (blank_returns xs) (returns_no_end (x ∷ xs) h);
-  words = words_of_line (x ∷ xs) h;
-  within = some;
-}
+line_to_end (x ∷ xs) some h = search (rules, lines_last, returns_no_end, words_of_line)
 
 line_to_feed : (xs bs : List ℕ) → AllByRecursion IsNoEnd xs → IsFirstLine (xs ++ 10 ∷ bs) (without_return xs) bs
 line_to_feed xs bs h = record {
@@ -152,16 +147,9 @@ line_to_feed xs bs h = record {
 
 pub first_line : (text : List ℕ) (end next : ℕ) → 0 < length text → IsFound (λ b. eqb b 10) text end → next ≡ min (length text) (end + 1)
     → IsFirstLine text (without_return (take end text)) (drop next text)
-first_line text end next some found is = ⊎_elim
-    (λ (l : end < length text).
+first_line text end next some found is = ⊎_elim (λ (l : end < length text).
     let behind : suc end ≡ next = omega (arith, is) in
-    let cut : text ≡ take end text ++ 10 ∷ drop next text =
-    sym (take-append-drop end text) ∙ ap (λ ds. take end text ++ ds) (drop-cons text end 0 l
+    let cut : text ≡ take end text ++ 10 ∷ drop next text = sym (take-append-drop end text) ∙ ap (λ ds. take end text ++ ds) (drop-cons text end 0 l
     ∙ ap₂ (λ (b : ℕ) (k : ℕ). b ∷ drop k text) (eqb-true (get_or text end 0) 10 (found.passes l)) behind) in
     subst (λ t. IsFirstLine t (without_return (take end text)) (drop next text)) (sym cut) (line_to_feed (take end text) (drop next text) found.before))
-    (λ (l : length text ≤ end).
-    let all : take end text ≡ text = take_all end text l in
-    let none : drop next text ≡ [] = drop_all next text (omega (arith, is)) in
-    subst (λ t. IsFirstLine text (without_return (take end text)) t) (sym none)
-    (subst (λ t. IsFirstLine text (without_return t) []) (sym all) (line_to_end text some (subst (AllByRecursion IsNoEnd) all found.before))))
-    (cases_lt end (length text))
+    (search (rules, take_all, drop_all, line_to_end, IsNoEnd)) (cases_lt end (length text))

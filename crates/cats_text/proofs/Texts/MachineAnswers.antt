@@ -1,6 +1,6 @@
 -- What the machine gives on bytes, by the definitions over lines and words.
-use Rattle.std.proofs.Common.{◌≡◌, ℕ, ◌<◌, true, false, List, [], ◌∷◌, ◌++◌, length, Some, None, ◌⊎◌, ⊎_elim, inr, Ok, Err, IsOkAnd, sym, ap, ◌∙◌}
-use Rattle.std.proofs.Common.{subst, arith, refl}
+use Rattle.std.proofs.Common.{rules, ◌≡◌, ℕ, ◌<◌, true, false, List, [], ◌∷◌, ◌++◌, length, Some, None, ◌⊎◌, ⊎_elim, inr, Ok, Err, IsOkAnd, sym, ap, ◌∙◌, subst}
+use Rattle.std.proofs.Common.{arith, refl}
 use Rattle.std.proofs.lemmas.Bool.{both_ways, lt-ltb}
 use Rattle.std.proofs.lemmas.List.{length-map}
 use Rattle.bid_file.specs.Files.{PlainFile, PlainBid}
@@ -137,9 +137,7 @@ bids_behind _ p at l = absurd (let none : length p.slots ≡ 0 = ap length at.sl
 
 pub ends_in_bid_line : (k : PlainBid → PlainBid) (bytes : List ℕ) (s : State) → scan (first_state k) (settled bytes) ≡ ok s
     → IsInBidLine s ⊎ HasBids (end_of (waits bytes) s) → has_bid_line bytes ≡ true
-ends_in_bid_line k bytes s h b = ⊎_elim
-    (λ (i : IsInBidLine s). meets_bid_line k bytes (met_at_end (first_state k) s (settled bytes) h i))
-    (λ (some : HasBids (end_of (waits bytes) s)). by_end (end_of (waits bytes) s) refl some) b
+ends_in_bid_line k bytes s h b = ⊎_elim (search (rules, meets_bid_line, met_at_end)) (search (rules, by_end)) b
   where
     by_end : (r : Scan) → end_of (waits bytes) s ≡ r → HasBids r → has_bid_line bytes ≡ true
     by_end (Ok t) is some = let whole = whole_at_end k bytes s (ok t) h is in

@@ -1,8 +1,7 @@
 -- What the reader keeps of a word says all that the grammar needs of the word. The idea: `Summarises w s` says it of each kind of
 -- summary s, and one more byte keeps it.
-use Rattle.std.proofs.Common.{◌≡◌, ◌≢◌, ℕ, zero, suc, ◌+◌, ◌-◌, ◌*◌, ◌^◌, ◌<◌, ◌≤◌, min, true, false, not, ◌&&◌, ◌||◌, cond, eqb, ltb, ◌⊎◌}
-use Rattle.std.proofs.Common.{List, [], ◌∷◌, ◌++◌, length, get_or, take, fold, refl, sym, ap, ◌∙◌, subst, arith, append_assoc, add-one}
-use Rattle.std.proofs.Common.{length-append, append-nil}
+use Rattle.std.proofs.Common.{rules, ◌≡◌, ◌≢◌, ℕ, zero, suc, ◌+◌, ◌-◌, ◌*◌, ◌^◌, ◌<◌, ◌≤◌, min, true, false, not, ◌&&◌, ◌||◌, cond, eqb, ltb, ◌⊎◌, List, [], ap}
+use Rattle.std.proofs.Common.{◌∷◌, ◌++◌, length, get_or, take, fold, refl, sym, ◌∙◌, subst, arith, append_assoc, add-one, length-append, append-nil}
 use Rattle.std.proofs.lemmas.Bool.{and_parts, and_from, eqb-true, eqb-false, eq-eqb, ne_eqb, ltb-true, ltb-false, lt-ltb, le-ltb, or_right, both_ways}
 use Rattle.std.proofs.lemmas.List.Sums.{fold-append}
 use Rattle.std.proofs.Math.ListN.{drop_of_length-le}
@@ -131,12 +130,7 @@ summarises_first a = grind (arith, common_steps, eqb-false, eqb-true, other_firs
 
 -- behind digits, a byte that is neither a digit nor a point
 number_other : (a : ℕ) (w : List ℕ) (b : ℕ) (t : List ℕ) → digits_alone (a ∷ w) ≡ true → is_digit b ≡ false → b ≢ 46 → IsOther ((a ∷ w) ++ b ∷ t)
-number_other a w b t h digit point =
-    let first = digits_head a w h in
-    let whole : whole_part ((a ∷ w) ++ b ∷ t) ≡ (a ∷ w) ++ b ∷ whole_part t = whole-other (a ∷ w) t b h point in
-    let none : is_number (whole_part ((a ∷ w) ++ b ∷ t)) ≡ false = ap is_number whole ∙ digits-not (a ∷ w) (whole_part t) b digit in
-    digit_is_other a (w ++ b ∷ t) first.0 (digits-not (a ∷ w) t b digit)
-    (ap (λ x. x && (not (has_point ((a ∷ w) ++ b ∷ t)) || is_number (places ((a ∷ w) ++ b ∷ t)))) none)
+number_other a w b t h digit point = search (rules, digits_head, whole-other, digits-not, digit_is_other)
 
 summarises_number : (a : ℕ) (w : List ℕ) (b v : ℕ) → Summarises (a ∷ w) (Number v) → Summarises ((a ∷ w) ++ b ∷ []) (word_with (Number v) b)
 summarises_number a w b v h =
@@ -232,20 +226,7 @@ keyword_other Bids a w n b t e l h = grind (arith, common_steps, bytes_mismatch,
 keyword_other Dummy a w n b t e l h = grind (arith, common_steps, bytes_mismatch, first_of_take, not_price_first)
 
 summarises_keyword : (k : Key) (a : ℕ) (w : List ℕ) (b n : ℕ) → Summarises (a ∷ w) (Keyword k n) → Summarises ((a ∷ w) ++ b ∷ []) (word_with (Keyword k n) b)
-summarises_keyword k a w b n h =
-    elim (ltb n (length (keyword_text k)) && eqb (get_or (keyword_text k) n 0) b) as (λ t. (ltb n (length (keyword_text k))
-    && eqb (get_or (keyword_text k) n 0) b) ≡ t → Summarises ((a ∷ w) ++ b ∷ []) (cond t (Keyword k (n + 1)) Other)) [
-      | true ↦ λ (e : (ltb n (length (keyword_text k)) && eqb (get_or (keyword_text k) n 0) b) ≡ true).
-          let both = and_parts (ltb n (length (keyword_text k))) (eqb (get_or (keyword_text k) n 0) b) e in
-          let l : n < length (keyword_text k) = ltb-true n (length (keyword_text k)) both.0 in (
-            ap (λ ds. ds ++ b ∷ []) h.0 ∙ ap (λ c. take n (keyword_text k) ++ c ∷ []) (sym (eqb-true (get_or (keyword_text k) n 0) b both.1))
-                ∙ sym (take-suc (keyword_text k) n 0 l) ∙ ap (λ m. take m (keyword_text k)) (sym (add-one n)),
-            omega arith,
-            omega arith,
-          )
-      | false ↦ λ (e : (ltb n (length (keyword_text k)) && eqb (get_or (keyword_text k) n 0) b) ≡ false).
-          λ t. subst IsOther (sym (append_assoc (a ∷ w) (b ∷ []) t)) (keyword_other k a w n b t h.0 h.2 e)
-    ] refl
+summarises_keyword k a w b n h = search (rules, and_parts, ltb-true, eqb-true, take-suc, append_assoc, keyword_other)
 
 hash_other : (b : ℕ) (t : List ℕ) → IsOther (35 ∷ b ∷ t)
 hash_other b t = record { number = refl; price = not_price_first 35 (b ∷ t) refl; ended = refl; keyword = elim [ Goods ↦ refl | Bids ↦ refl | Dummy ↦ refl ] }
@@ -259,8 +240,7 @@ summarises_more a w b Other h = λ t. subst IsOther (sym (append_assoc (a ∷ w)
 
 summarises_fold : (a : ℕ) (w rest : List ℕ) (s : Word) → Summarises (a ∷ w) s → Summarises ((a ∷ w) ++ rest) (fold word_with s rest)
 summarises_fold a w [] s h = subst (λ ds. Summarises ds s) (sym (append-nil (a ∷ w))) h
-summarises_fold a w (b ∷ rest) s h = subst (λ ds. Summarises ds (fold word_with (word_with s b) rest)) (append_assoc (a ∷ w) (b ∷ []) rest)
-    (summarises_fold a (w ++ b ∷ []) rest (word_with s b) (summarises_more a w b s h))
+summarises_fold a w (b ∷ rest) s h = search (rules, append_assoc, summarises_more, (summarises_fold a (w ++ b ∷ []) rest (word_with s b) (summarises_more a w b s h)))
 
 -- what is kept of a word says of the word
 pub summarises : (a : ℕ) (w : List ℕ) → Summarises (a ∷ w) (summary (a ∷ w))

@@ -1,7 +1,7 @@
 -- The digits behind a point, as a sum of what each place counts.
+use Rattle.std.proofs.Common.{rules, add-zero, ◌≡◌, ℕ, zero, suc, ◌+◌, ◌-◌, ◌*◌, ◌<◌, ◌≤◌, true, ◌||◌, ltb, leb, List, [], ◌∷◌, ◌++◌, length, refl, ap, ◌∙◌}
 use Rattle.std.proofs.Math.Nat.{mul-le-mul_right}
-use Rattle.std.proofs.Common.{add-zero, ◌≡◌, ℕ, zero, suc, ◌+◌, ◌-◌, ◌*◌, ◌<◌, ◌≤◌, true, ◌||◌, ltb, leb, List, [], ◌∷◌, ◌++◌}
-use Rattle.std.proofs.Common.{length, refl, ap, ◌∙◌, arith}
+use Rattle.std.proofs.Common.{arith}
 use Rattle.std.proofs.lemmas.Bool.{and_parts, eqb-true, eqb-false, ne_eqb, leb-true, lt-ltb, or_right}
 use Rattle.cats_text.specs.Numbers.{is_digit, digits_alone, number_of, six_places, has_place_from}
 use Rattle.cats_text.specs.Internal.Keywords.{place_value_of}
@@ -28,8 +28,7 @@ places-push n [] b = let same : place_value_of (n + 0) ≡ place_value_of n = ap
 places-push n (a ∷ bs) b =
     let later : places_from (suc n) (bs ++ b ∷ []) ≡ places_from (suc n) bs + (b - 48) * place_value_of (suc n + length bs) = places-push (suc n) bs b in
     let place : suc n + length bs ≡ n + length (a ∷ bs) = omega arith in
-    let same : place_value_of (suc n + length bs) ≡ place_value_of (n + length (a ∷ bs)) = ap place_value_of place in
-    ap (λ k. (a - 48) * place_value_of n + k) (later ∙ ap (λ v. places_from (suc n) bs + (b - 48) * v) same) ∙ omega arith
+    search rules
 
 -- the first six places as a number of six digits
 pub places-six : (bs : List ℕ) → number_of (six_places bs) ≡ places_from 0 bs

@@ -1,6 +1,6 @@
 -- What is kept of a word answers every test that the grammar makes of the word.
-use Rattle.std.proofs.Common.{◌≡◌, ℕ, zero, suc, ◌<◌, ◌≤◌, min, Bool, true, false, not, ◌&&◌, ◌||◌, eqb, List, [], ◌∷◌, ◌++◌, length, take, refl}
-use Rattle.std.proofs.Common.{sym, ap, ◌∙◌, subst, arith, append-nil}
+use Rattle.std.proofs.Common.{rules, ◌≡◌, ℕ, zero, suc, ◌<◌, ◌≤◌, min, Bool, true, false, not, ◌&&◌, ◌||◌, eqb, List, [], ◌∷◌, ◌++◌, length, take, refl, sym}
+use Rattle.std.proofs.Common.{ap, ◌∙◌, subst, arith, append-nil}
 use Rattle.std.proofs.lemmas.Bool.{and_parts, eqb-true, eqb-false, eq-eqb, ne_eqb, both_ways}
 use Rattle.std.specs.Str.{bytes_eq}
 use Rattle.cats_text.specs.Numbers.{is_digit, digits_alone, is_number, is_price, has_point, places}
@@ -51,37 +51,9 @@ same_prefix (x ∷ xs) zero l = sym (ne_eqb 0 (length (x ∷ xs)) (λ e. absurd 
 same_prefix (x ∷ xs) (suc n) l = grind (arith, common_steps, eq-eqb, eqb-false, eqb-true, ne_eqb, (same_prefix xs n (omega arith)))
 
 tested_keyword : (j : Key) (a : ℕ) (w : List ℕ) (n : ℕ) → Summarises (a ∷ w) (Keyword j n) → IsTested (a ∷ w) (Keyword j n)
-tested_keyword Goods a w n h = let first : a ≡ 103 = first_of_take a w 103 _ n h.0 in record {
-  number = rw first refl;
-  price = (first_not_digit a w (rw first refl)).1;
-  ended = rw first refl;
-  keyword = elim [
-    | Goods ↦ ap (λ ds. bytes_eq ds (keyword_text Goods)) h.0 ∙ same_prefix (keyword_text Goods) n h.2
-    | Bids ↦ rw first refl
-    | Dummy ↦ rw first refl
-  ];
-}
-tested_keyword Bids a w n h = let first : a ≡ 98 = first_of_take a w 98 _ n h.0 in record {
-  number = rw first refl;
-  price = (first_not_digit a w (rw first refl)).1;
-  ended = rw first refl;
-  keyword = elim [
-    | Goods ↦ rw first refl
-    | Bids ↦ ap (λ ds. bytes_eq ds (keyword_text Bids)) h.0 ∙ same_prefix (keyword_text Bids) n h.2
-    | Dummy ↦ rw first refl
-  ];
-}
-tested_keyword Dummy a w n h = let first : a ≡ 100 = first_of_take a w 100 _ n h.0 in record {
-  number = rw first refl;
-  price = (first_not_digit a w (rw first refl)).1;
-  ended = rw first refl;
-  keyword = elim [
-    | Goods ↦ rw first refl
-    | Bids ↦ rw first refl
-    | Dummy ↦ ap (λ ds. bytes_eq ds (keyword_text Dummy)) h.0
-        ∙ same_prefix (keyword_text Dummy) n h.2
-  ];
-}
+tested_keyword Goods a w n h = let first : a ≡ 103 = first_of_take a w 103 _ n h.0 in search (rules, first_not_digit, same_prefix)
+tested_keyword Bids a w n h = let first : a ≡ 98 = first_of_take a w 98 _ n h.0 in search (rules, first_not_digit, same_prefix)
+tested_keyword Dummy a w n h = let first : a ≡ 100 = first_of_take a w 100 _ n h.0 in search (rules, first_not_digit, same_prefix)
 
 -- a word that begins with a digit is neither `#` nor a keyword
 digit_first : (a : ℕ) (w : List ℕ) → is_digit a ≡ true → (is_end (a ∷ w) ≡ false) × ((k : Key) → bytes_eq (a ∷ w) (keyword_text k) ≡ false)
@@ -95,26 +67,7 @@ price_behind [] count h e = rw e refl
 price_behind (b ∷ bs) count h e = h ∙ sym (ap not (ne_eqb count 0 (λ z. absurd (let pos : 0 < length (b ∷ bs) = omega arith in omega arith))))
 
 tested_fraction : (a : ℕ) (w : List ℕ) (d : Decimal) → Summarises (a ∷ w) (Fraction d) → IsTested (a ∷ w) (Fraction d)
-tested_fraction a w d f = at f.whole f.is f.number
-  where
-    at : (whole : List ℕ) → a ∷ w ≡ whole ++ 46 ∷ f.behind → is_number whole ≡ true → IsTested (a ∷ w) (Fraction d)
-    at [] e n = absurd (both_ways false refl n)
-    at (c ∷ cs) e n =
-        let first : a ≡ c = cc in
-        let head : is_digit a ≡ true = ap is_digit first ∙ (and_parts (is_digit c) (digits_alone cs) n).0 in
-        let others = digit_first a w head in record {
-          number = ap is_number e ∙ not_number cs;
-          price = ap is_price e ∙ ap (λ x. is_number x && (not (has_point ((c ∷ cs) ++ 46 ∷ f.behind)) || is_number (places ((c ∷ cs) ++ 46 ∷ f.behind))))
-              (whole-point (c ∷ cs) f.behind n)
-              ∙ ap (λ x. x && (not (has_point ((c ∷ cs) ++ 46 ∷ f.behind)) || is_number (places ((c ∷ cs) ++ 46 ∷ f.behind)))) n
-              ∙ ap (λ x. not x || is_number (places ((c ∷ cs) ++ 46 ∷ f.behind))) (point-point (c ∷ cs) f.behind)
-              ∙ ap is_number (places-point (c ∷ cs) f.behind n) ∙ price_behind f.behind d.decimals f.digits f.count;
-          ended = others.0;
-          keyword = others.1;
-        }
-      where
-        not_number : (ds : List ℕ) → is_number ((c ∷ ds) ++ 46 ∷ f.behind) ≡ false
-        not_number ds = digits-not (c ∷ ds) f.behind 46 refl
+tested_fraction a w d f = search (rules, both_ways, and_parts, digit_first, whole-point, point-point, places-point, price_behind, digits-not)
 
 tested_other : (w : List ℕ) → Summarises w Other → IsTested w Other
 tested_other w h = let o = subst IsOther (append-nil w) (h []) in record { number = o.number; price = o.price; ended = o.ended; keyword = o.keyword }

@@ -1,5 +1,5 @@
 -- The lines and words of a layout.
-use Rattle.std.proofs.Common.{◌≡◌, ℕ, suc, ◌+◌, ◌/◌, ◌^◌, ◌<◌, true, List, [], ◌∷◌, ◌++◌, length, map, codes, decimal, Option, Some, None, refl, sym, ap}
+use Rattle.std.proofs.Common.{rules, ◌≡◌, ℕ, suc, ◌+◌, ◌/◌, ◌^◌, ◌<◌, true, List, [], ◌∷◌, ◌++◌, length, map, codes, decimal, Option, Some, None, refl, sym, ap}
 use Rattle.std.proofs.Common.{◌∙◌, arith, append_assoc}
 use Rattle.std.specs.List.{AllByRecursion}
 use Rattle.std.proofs.lemmas.Bool.{and_parts, false≢true, ne_eqb, not_from_false}
@@ -82,11 +82,7 @@ bid_line_in_line : (goods n : ℕ) (b : PlainBid) → IsBidLine goods n b → Al
 bid_line_in_line goods n b fits =
     let number = letters_in_line (decimal n) (decimal_is_word n fits.number).letters in
     let price = letters_in_line (price_text b.price) (price_text_is_word b.price fits.price).letters in
-    let mark : AllByRecursion IsInLine (codes "\t#") = (tab, (record { feed = refl; return = refl }, tt)) in
-    let prefix = all_append IsInLine (decimal n) (9 ∷ price_text b.price) number (tab, price) in
-    all_append IsInLine (decimal n ++ 9 ∷ price_text b.price ++ tabbed (goods_of goods b)) (codes "\t#")
-    (all_append IsInLine (decimal n ++ 9 ∷ price_text b.price) (tabbed (goods_of goods b)) prefix (tabbed_in_line (goods_of goods b) fits.short))
-    mark
+    search (rules, tab, all_append, tabbed_in_line)
 
 ended : (prefix rest : List ℕ) → prefix ++ codes "\t#\n" ++ rest ≡ (prefix ++ codes "\t#") ++ 10 ∷ rest
 ended prefix rest = ap (λ t. t ++ rest) (sym (append_assoc prefix (codes "\t#") (10 ∷ []))) ∙ append_assoc (prefix ++ codes "\t#") (10 ∷ []) rest
@@ -115,8 +111,7 @@ first_line goods dummy n b bs bids = record {
 lines_from-bids : (k goods dummy n : ℕ) (bs : List PlainBid) → AreBids goods dummy n bs → lines_from k (bids_text goods n bs) ≡ bids_words goods n bs
 lines_from-bids k goods dummy n [] bids = refl
 lines_from-bids k goods dummy n (b ∷ bs) bids =
-    lines_from-bid k goods n b (bids_text goods (suc n) bs) (first_line goods dummy n b bs bids)
-    ∙ ap (λ ls. bid_words goods n b ∷ ls) (lines_from-bids (suc k) goods dummy (suc n) bs (behind_first goods dummy n b bs bids))
+    search (rules, lines_from-bid, first_line, behind_first, (lines_from-bids (suc k) goods dummy (suc n) bs (behind_first goods dummy n b bs bids)))
 
 -- ---- header lines
 

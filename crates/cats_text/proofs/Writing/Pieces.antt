@@ -1,6 +1,6 @@
 -- A text that is sent in pieces: what was sent is its beginning, and the page holds its next bytes.
-use Rattle.std.proofs.Common.{arith, ◌≡◌, ◌<◌, ◌≤◌, ◌+◌, ◌-◌, ◌^◌, ◌++◌, ◌∷◌, ℕ, List, [], length, take, drop, decimal, codes}
-use Rattle.std.proofs.Common.{Option, Some, Result, Err, sym, ap, ◌∙◌, subst}
+use Rattle.std.proofs.Common.{rules, arith, ◌≡◌, ◌<◌, ◌≤◌, ◌+◌, ◌-◌, ◌^◌, ◌++◌, ◌∷◌, ℕ, List, [], length, take, drop, decimal, codes, Option, Some, Result, Err}
+use Rattle.std.proofs.Common.{sym, ap, ◌∙◌, subst}
 use Rattle.std.specs.Prelude.{IsErrAnd}
 use Rattle.std.proofs.Math.Seq.{take-add}
 use Rattle.std.proofs.KnownBytes.{Appends-trans}
@@ -48,8 +48,7 @@ pub line_held : (goods : ℕ) (bids : List PlainBid) (number : ℕ) (bid : Plain
     → page ++ bids_text goods number (drop number bids) ≡ drop before whole → left ≡ drop (count - before) page
     → new ≡ left ++ bid_text goods number bid → new ++ bids_text goods (number + 1) (drop (number + 1) bids) ≡ drop count whole
 line_held goods bids number bid before count page left new whole there later held next rest more =
-    let now : left ++ bids_text goods number (drop number bids) ≡ drop count whole =
-    ap (λ (l : List ℕ). l ++ bids_text goods number (drop number bids)) rest ∙ left_on before count page _ whole later held next in
+    let now : left ++ bids_text goods number (drop number bids) ≡ drop count whole = search (rules, left_on) in
     bids_text_on goods bids number bid left new (drop count whole) there now more
 
 -- the writer failed in a piece
@@ -92,7 +91,4 @@ three_short : (a b c : List ℕ) → length a ≤ 30 → length b ≤ 30 → len
 three_short a b c short_a short_b short_c = grind (arith, length-append)
 
 pub headers_short : (goods bids dummy : ℕ) → goods < 2 ^ 64 → bids < 2 ^ 64 → dummy < 2 ^ 64 → length (headers_text goods bids dummy) ≤ 128
-headers_short goods bids dummy g b d =
-    three_short (header_text (codes "goods") goods) (header_text (codes "bids") bids) (header_text (codes "dummy") dummy)
-    (header_line_short (codes "goods") goods g (omega arith)) (header_line_short (codes "bids") bids b (omega arith))
-    (header_line_short (codes "dummy") dummy d (omega arith))
+headers_short goods bids dummy g b d = search (rules, three_short, header_line_short)

@@ -1,6 +1,6 @@
 -- The six digits behind the point: what they spell, and that taking away the zeros at their end loses nothing.
-use Rattle.std.proofs.Common.{◌≡◌, ℕ, zero, suc, ◌+◌, nat_le, List, map, ◌<◌, ◌≤◌, true, eqb, [], ◌∷◌, ◌++◌, length, take, drop, replicate, decimal, refl, sym}
-use Rattle.std.proofs.Common.{ap, subst, ◌∙◌, inl, inr, arith}
+use Rattle.std.proofs.Common.{rules, ◌≡◌, ℕ, zero, suc, ◌+◌, nat_le, List, map, ◌<◌, ◌≤◌, true, eqb, [], ◌∷◌, ◌++◌, length, take, drop, replicate, decimal, sym}
+use Rattle.std.proofs.Common.{refl, ap, subst, ◌∙◌, inl, inr, arith}
 use Rattle.std.specs.Fmt.{digits}
 use Rattle.std.proofs.lemmas.Bool.{le-leb, and_parts, and_from, cases_eq, cond-false, cond_both, ne_eqb}
 use Rattle.std.proofs.lemmas.Fmt.{decimal-digits_value}
@@ -43,13 +43,9 @@ place_filled : (b : ℕ) (ws ds : Word) (k : ℕ) → ((j : ℕ) → length ds �
     → take (suc (length ds)) (with_place b ws ++ replicate k 48) ≡ b ∷ ds
 place_filled b (c ∷ cs) ds k filled space = ap (λ xs. b ∷ xs) (filled k (omega arith))
 place_filled b [] ds zero filled space = absurd (omega arith)
-place_filled b [] ds (suc k) filled space =
-    elim (cases_eq b 48) as (λ _. take (suc (length ds)) (with_place b [] ++ replicate (suc k) 48) ≡ b ∷ ds) [
-      | inl zero_digit ↦
-          subst (λ (a : ℕ). take (suc (length ds)) (with_place a [] ++ replicate (suc k) 48) ≡ a ∷ ds) (sym zero_digit)
-          (ap (λ xs. 48 ∷ xs) (filled k (omega arith)))
-      | inr other ↦
-          ap (λ ws. take (suc (length ds)) (ws ++ replicate (suc k) 48)) (cond-false (eqb b 48) [] (b ∷ []) (ne_eqb b 48 other))
+place_filled b [] ds (suc k) filled space = elim (cases_eq b 48) as (λ _. take (suc (length ds)) (with_place b [] ++ replicate (suc k) 48) ≡ b ∷ ds) [
+      | inl zero_digit ↦ search rules
+      | inr other ↦ ap (λ ws. take (suc (length ds)) (ws ++ replicate (suc k) 48)) (cond-false (eqb b 48) [] (b ∷ []) (ne_eqb b 48 other))
           ∙ ap (λ xs. b ∷ xs) (filled (suc k) (omega arith))
     ]
 

@@ -1,6 +1,6 @@
 -- The layout of a file spells it: its lines are the bids by number, so each number comes once, and the goods of a bid rise.
-use Rattle.std.proofs.Common.{◌≡◌, ℕ, suc, ◌+◌, ◌^◌, ◌<◌, true, List, [], ◌∷◌, ◌++◌, length, map, decimal, Option, Some, None, refl, sym, ap, subst}
-use Rattle.std.proofs.Common.{◌∙◌, arith, append_assoc, length-append}
+use Rattle.std.proofs.Common.{rules, ◌≡◌, ℕ, suc, ◌+◌, ◌^◌, ◌<◌, true, List, [], ◌∷◌, ◌++◌, length, map, decimal, Option, Some, None, refl, sym, ap, subst, ◌∙◌}
+use Rattle.std.proofs.Common.{arith, append_assoc, length-append}
 use Rattle.std.specs.List.{AllByRecursion, slice_get}
 use Rattle.std.proofs.lemmas.List.{append-nil}
 use Rattle.cats_text.specs.Numbers.{is_number, number_of}
@@ -21,8 +21,7 @@ use Rattle.std.proofs.lemmas.Grind.{common_steps}
 -- the dummy good is behind the real goods
 goods_rising : (goods : ℕ) (gs : List ℕ) (d : Option ℕ) → IsRising gs → AreBelow goods gs → IsRising (gs ++ dummy_good goods d)
 goods_rising goods gs None rising below = subst IsRising (sym (append-nil gs)) rising
-goods_rising goods gs (Some d) rising below =
-    IsRising-push gs (goods + d) rising (λ k there. let low : k < goods = has_below goods gs k below there in omega arith)
+goods_rising goods gs (Some d) rising below = search (rules, IsRising-push, has_below)
 
 -- ---- the goods of a line
 

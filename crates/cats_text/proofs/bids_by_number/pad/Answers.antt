@@ -7,8 +7,7 @@ pub loop-arrivals-preserved : goal.loop-arrivals-preserved
 loop-arrivals-preserved c =
     let space : length c.loop-arrivals.arrivals.items ≤ c.args.number = search rules in
     record {
-      padded = padded_more c.args.arrivals.now.items c.loop-arrivals.arrivals.items c.push.new.self.items c.args.number c.loop-arrivals.invariant.padded space
-          c.in_ok-push.ensures.items;
+      padded = search (rules, padded_more);
       within = λ n all. rw c.in_ok-push.ensures.items (within_push n c.loop-arrivals.arrivals.items 0 (c.loop-arrivals.invariant.within n all) (omega arith));
     }
 

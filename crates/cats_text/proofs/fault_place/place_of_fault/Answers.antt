@@ -1,5 +1,5 @@
 -- `place_of_fault`
-use Rattle.std.proofs.Common.{◌≡◌, ◌≢◌, refl, ℕ, List, [], length, ap, ◌∙◌, sym, subst, arith, Some, None, option_map, cond, add-one}
+use Rattle.std.proofs.Common.{rules, ◌≡◌, ◌≢◌, refl, ℕ, List, [], length, ap, ◌∙◌, sym, subst, arith, Some, None, option_map, cond, add-one}
 use Rattle.std.proofs.lemmas.Bool.{eqb-true}
 use Rattle.cats_text.specs.Lines.{raw_lines, blank_returns}
 use Rattle.cats_text.specs.FaultPlaces.{place_behind}
@@ -13,10 +13,7 @@ use Rattle.cats_text.proofs.fault_place.place_of_fault.Goals as goal
 use Rattle.cats_text.proofs.fault_place.place_of_fault.Goals.{in-Memory, in_default-kind}
 
 pub loop-rest-init : goal.loop-rest-init
-loop-rest-init c = record {
-  behind = subst (IsBehind c.args.text.now 1 (raw_lines (blank_returns c.args.text.now))) (sym c.new-parser.ensures) (at_first_line c.args.text.now);
-  count = omega arith;
-}
+loop-rest-init c = search (rules, IsBehind, at_first_line)
 
 pub loop-rest-preserved : goal.loop-rest-preserved
 loop-rest-preserved c =
@@ -50,11 +47,4 @@ returns-in-Err-clause-place c =
     ]
 
 pub returns-clause-place : goal.returns-clause-place
-returns-clause-place c =
-    let rest : List ℕ = c.loop-rest.rest.now in
-    let p = seen c.loop-rest.parser in
-    let none : rest ≡ [] = none_left rest (eqb-true (length rest) 0 (sym c.is_empty.ensures ∙ c.loop-rest-test.false)) in
-    ap (option_map plain_place) c.then_some.ensures ∙ place_if c.is_due.result _
-    ∙ ap (λ b. cond b (Some (place_behind c.loop-rest.number [] [] Missing)) None) c.is_due.ensures
-    ∙ sym (lines_ended c.args.text.now c.loop-rest.number p
-    (subst (λ (t : List ℕ). IsBehind c.args.text.now c.loop-rest.number (raw_lines (blank_returns t)) p) none c.loop-rest.invariant.behind))
+returns-clause-place c = search (rules, none_left, eqb-true, place_if, lines_ended, IsBehind)

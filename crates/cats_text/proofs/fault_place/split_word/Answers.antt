@@ -1,5 +1,5 @@
 -- `split_word`
-use Rattle.std.proofs.Common.{◌≡◌, ℕ, List, not, Some, ap, ◌∙◌, sym, length, take, drop, refl, subst, ◌-◌}
+use Rattle.std.proofs.Common.{rules, ◌≡◌, ℕ, List, not, Some, ap, ◌∙◌, sym, length, take, drop, refl, subst, ◌-◌}
 use Rattle.std.specs.List.{position}
 use Rattle.std.specs.Option.{unwrap_or}
 use Rattle.std.proofs.lemmas.List.{take_rest}
@@ -10,10 +10,8 @@ use Rattle.cats_text.proofs.Texts.FirstWords.{IsFound, found_at, first_word, no_
 use Rattle.cats_text.proofs.fault_place.split_word.Goals as goal
 
 pub returns-in_default : goal.returns-in_default
-returns-in_default c = no_word c.args.line.now (length c.args.line.now)
-    (found_at (λ b. not (is_blank b)) c.args.line.now (length c.args.line.now)
-    (ap (λ o. unwrap_or o (length c.args.line.now)) (sym c.in_default.is ∙ c.first_letter.ensures)))
-    refl
+returns-in_default c = no_word c.args.line.now (length c.args.line.now) (found_at (λ b. not (is_blank b)) c.args.line.now (length c.args.line.now)
+    (search rules)) refl
 
 pub returns : goal.returns
 returns c =

@@ -1,4 +1,5 @@
 -- `push_bids`
+use Rattle.std.proofs.lemmas.Grind.{common_steps}
 use Rattle.std.proofs.Common.{◌++◌, List, ℕ, arith, ap, ◌∙◌}
 use Rattle.cats_text.proofs.Writing.BidTexts.{bids_text_on, bids_text_all}
 use Rattle.cats_text.specs.declared.layout.TheConstants.{LONGEST_LINE}
@@ -14,6 +15,4 @@ loop-number-preserved g c =
     (rest_of LONGEST_LINE c.write_bid-start.result c.write_bid-start.new.line (c.write_bid-start.auto.line ∙ c.loop-number-test.array_long) ∙ wrote.2))
 
 pub returns : goal.returns
-returns g c =
-    let file = g.B.Bids.file c.args.file.now in
-    bids_text_all file.goods file.bids c.loop-number.number _ _ (omega arith) c.loop-number.invariant
+returns g c = grind (arith, common_steps, bids_text_all)

@@ -1,4 +1,5 @@
 -- `write_bid`
+use Rattle.std.proofs.lemmas.Grind.{common_steps}
 use Rattle.std.proofs.Common.{◌++◌, ◌∷◌, decimal, List, ℕ, ap, ◌∙◌, arith}
 use Rattle.bid_file.specs.Files.{dummy_good}
 use Rattle.bid_file.specs.Views.{seen_bid}
@@ -18,16 +19,4 @@ write_number_and_price-requires-clause-space g c =
     omega (arith, few, c.write_line_end-end.ensures.start, c.write_dummy-end.ensures.start.1, c.write_goods-end.ensures.start.1)
 
 pub returns-clause-written : goal.returns-clause-written
-returns-clause-written g c =
-    let bid = c.at-bid.result in
-    let offer = decimal c.args.number ++ 9 ∷ price_text bid.price in (
-      seen_bid bid,
-      c.at-bid.ensures,
-      c.write_number_and_price.ensures.written
-          ∙ ap (λ (t : List ℕ). offer ++ t)
-          (c.write_goods-end.ensures.written
-          ∙ ap (λ (t : List ℕ). tabbed bid.goods.now ++ t)
-          (c.write_dummy-end.ensures.written
-          ∙ ap (λ (t : List ℕ). tabbed (dummy_good c.goods-goods.result bid.dummy) ++ t) c.write_line_end-end.ensures.written))
-          ∙ whole_line _ _ c.args.number (seen_bid bid) c.goods-goods.ensures.value,
-    )
+returns-clause-written g c = grind (arith, common_steps, whole_line)

@@ -26,7 +26,4 @@ returns-in-46 c =
     (take c.with_places-places.result.1 ds)) rest places.value)
 
 pub returns-in_default-2 : goal.returns-in_default-2
-returns-in_default-2 c =
-    let number = c.requires.number in
-    number_kept c.args.bytes.now c.args.digits c.args.value (omega (arith, c.if-digits-eq0-2.false)) c.requires.bound number.digits
-    number.value
+returns-in_default-2 c = search (rules, number_kept)

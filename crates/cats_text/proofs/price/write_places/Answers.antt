@@ -1,13 +1,12 @@
 -- `write_places`: the digits of the millionths behind a leading 1, without the zeros at the end: the point takes the place of that 1.
-use Rattle.std.proofs.Common.{◌<◌, ◌++◌, length, drop, decimal, sym, ap, ◌∙◌, arith}
+use Rattle.std.proofs.Common.{rules, ◌<◌, ◌++◌, length, drop, decimal, sym, ap, ◌∙◌, arith}
 use Rattle.std.proofs.lemmas.Fmt.{length-decimal-le, decimal_nonempty}
 use Rattle.cats_text.proofs.Writing.SixDigits.{places_text_none, places_written}
 use Rattle.cats_text.proofs.Writing.Ends.{byte_in_place}
 use Rattle.cats_text.proofs.price.write_places.Goals as goal
 
 pub returns-then-millionths-eq0-clause-written : goal.returns-then-millionths-eq0-clause-written
-returns-then-millionths-eq0-clause-written c =
-    sym (ap (λ t. t ++ drop c.args.end c.args.text.now) (places_text_none c.args.millionths c.if-millionths-eq0.true))
+returns-then-millionths-eq0-clause-written c = search (rules, places_text_none)
 
 pub write_digits-point-requires : goal.write_digits-point-requires
 write_digits-point-requires c =
@@ -17,11 +16,7 @@ write_digits-point-requires c =
     (omega (arith, c.requires.space, length-decimal-le 7 shown (omega arith) (omega arith) (omega arith)), c.requires.inside)
 
 pub bounds-text-point : goal.bounds-text-point
-bounds-text-point c =
-    let shown = c.without_zeros.result in
-    let most = c.without_zeros.ensures.size.1 in
-    let places = c.requires.places in
-    omega (arith, c.requires.inside, c.write_digits-point.ensures.start, decimal_nonempty shown (omega arith))
+bounds-text-point c = search (rules, decimal_nonempty)
 
 pub returns-clause-start : goal.returns-clause-start
 returns-clause-start c =

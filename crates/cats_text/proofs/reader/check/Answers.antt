@@ -1,4 +1,5 @@
 -- `check`: what a `PushReader` that was fed the whole text and counts bids answers.
+use Rattle.std.proofs.Common.{rules}
 use Rattle.std.proofs.lemmas.Result.{err_from_is_err_and}
 use Rattle.cats_text.proofs.Feeding.Pieces.{whole_reported}
 use Rattle.cats_text.proofs.reader.check.Goals as goal
@@ -11,13 +12,7 @@ returns-in_err-feed c =
     (whole_reported c.args.text.now c.feed.new.self.bytes c.feed.new.self.limit c.in_err-feed.field-0.0 fed.limit fed.bytes fed.answer.0)
 
 pub returns-in_err-header : goal.returns-in_err-header
-returns-in_err-header c =
-    let fed = rw c.new-counter.ensures at c.in_ok-feed.ensures in
-    let reported = err_from_is_err_and c.from_residual-in_err-header.result c.from_residual-in_err-header.ensures.1 in
-    rw (reported.1, reported.2) (rw (fed.answer.1, fed.bytes) at c.in_err-header.ensures)
+returns-in_err-header c = search (rules, err_from_is_err_and)
 
 pub returns : goal.returns
-returns c =
-    let fed = rw c.new-counter.ensures at c.in_ok-feed.ensures in
-    let says = rw (fed.answer.1, fed.bytes) at c.in_ok-header.ensures in
-    record { file = says.file; spells = says.spelled; sizes = says.sizes }
+returns c = search rules

@@ -1,12 +1,11 @@
 -- `read`: the packed file that the text spells, with a vector for each bid.
+use Rattle.std.proofs.Common.{rules}
 use Rattle.std.proofs.lemmas.Result.{err_from_is_err_and}
 use Rattle.cats_text.proofs.Feeding.Files.{unpacked_reported}
 use Rattle.cats_text.proofs.reader.read.Goals as goal
 
 pub returns-in_err-file : goal.returns-in_err-file
-returns-in_err-file c =
-    let reported = err_from_is_err_and c.from_residual.result c.from_residual.ensures.1 in
-    rw (reported.1, reported.2) c.in_err-file.ensures
+returns-in_err-file c = search (rules, err_from_is_err_and)
 
 pub returns : goal.returns
 returns c = unpacked_reported c.args.text.now c.in_ok-file.file c.unpacked.result c.in_ok-file.ensures c.unpacked.ensures

@@ -1,4 +1,5 @@
 -- `read_packed`: what a `PushReader` that was fed the whole text answers.
+use Rattle.std.proofs.Common.{rules}
 use Rattle.std.proofs.lemmas.Result.{err_from_is_err_and}
 use Rattle.cats_text.proofs.Feeding.Pieces.{whole_reported}
 use Rattle.cats_text.proofs.reader.read_packed.Goals as goal
@@ -11,6 +12,4 @@ returns-in_err-feed c =
     (whole_reported c.args.text.now c.feed.new.self.bytes c.feed.new.self.limit c.in_err-feed.field-0.0 fed.limit fed.bytes fed.answer.0)
 
 pub returns : goal.returns
-returns c =
-    let fed = rw c.new-push_reader.ensures at c.in_ok-feed.ensures in
-    rw (fed.answer.1, fed.bytes) at c.finish_packed.ensures
+returns c = search rules

@@ -1,8 +1,7 @@
 -- `send_bids`
-use Rattle.std.proofs.Common.{◌++◌, ◌-◌, ◌≤◌, List, ℕ, arith, length, length-drop, length-append, refl, ap, ◌∙◌}
+use Rattle.std.proofs.Common.{rules, ◌++◌, ◌-◌, ◌≤◌, List, ℕ, arith, length, length-drop, length-append, refl, ap, ◌∙◌, drop}
 use Rattle.std.proofs.lemmas.Bool.{false≢true}
 use Rattle.std.proofs.KnownBytes.{Appends-nil}
-use Rattle.std.proofs.Common.{drop}
 use Rattle.bid_file.specs.Files.{PlainFile}
 use Rattle.cats_text.specs.Layout.{bids_text, layout}
 use Rattle.cats_text.specs.declared.layout.TheConstants.{LONGEST_LINE}
@@ -11,43 +10,16 @@ use Rattle.cats_text.proofs.Writing.Pieces.{sent_on, within_on, line_held, faile
 use Rattle.cats_text.proofs.sending.send_bids.Goals as goal
 
 pub loop-number-init : goal.loop-number-init
-loop-number-init g c =
-    let file : PlainFile = g.B.Bids.file c.args.file.now in
-    let facts = c.requires.file in
-    let bound : length file.bids ≤ 65536 = facts.count in
-    let short : length c.args.page.items ≤ 128 =
-    rw c.requires.header (headers_short file.goods (length file.bids) file.dummy
-    (omega (arith, facts.goods)) (omega arith) (omega (arith, facts.dummy))) in
-    record {
-      working = c.requires.works;
-      ended = refl;
-      within = omega arith;
-      sent = Appends-nil _;
-      left = ap (λ t. t ++ bids_text file.goods 0 file.bids) c.requires.header;
-      space = c.requires.space;
-      counted = omega arith;
-    }
+loop-number-init g c = search (rules, headers_short, Appends-nil)
 
 pub returns-in_err-written-clause-sends : goal.returns-in_err-written-clause-sends
-returns-in_err-written-clause-sends g c =
-    let now = c.loop-number in
-    let file : PlainFile = g.B.Bids.file c.args.file.now in
-    let wrote = c.in_err-written.ensures in
-    failed_in_piece g.W.Write.contents c.args.out.now now.out c.flush_unless_fits.new.out now.written now.page.items now.page.items
-    (bids_text file.goods now.number (drop now.number file.bids))
-    (layout file) c.in_err-written.field-0.0 refl now.invariant.left now.invariant.within now.invariant.sent
-    wrote.counts wrote.part _ c.from_residual.ensures.1
+returns-in_err-written-clause-sends g c = search (rules, failed_in_piece)
 
 pub flush_unless_fits-requires-clause-counted : goal.flush_unless_fits-requires-clause-counted
-flush_unless_fits-requires-clause-counted g c =
-    let bound : length (g.B.Bids.file c.args.file.now).bids ≤ 65536 = c.requires.file.count in
-    omega (arith, c.loop-number.invariant.counted)
+flush_unless_fits-requires-clause-counted g c = search rules
 
 pub unreachable-requires : goal.unreachable-requires
-unreachable-requires g c =
-    let space = c.loop-number.invariant.space in
-    let wrote = c.in_ok-written.ensures in
-    false≢true (c.in_default.ensures.succeeds (omega (arith, space, wrote.capacity, wrote.space)))
+unreachable-requires g c = search (rules, false≢true)
 
 pub loop-number-preserved : goal.loop-number-preserved
 loop-number-preserved g c =
@@ -82,20 +54,10 @@ loop-number-preserved g c =
     }
 
 pub send_piece-requires-clause-counted : goal.send_piece-requires-clause-counted
-send_piece-requires-clause-counted g c =
-    let bound : length (g.B.Bids.file c.args.file.now).bids ≤ 65536 = c.requires.file.count in
-    omega (arith, c.loop-number.invariant.counted)
+send_piece-requires-clause-counted g c = search rules
 
 pub overflow_add-written : goal.overflow_add-written
-overflow_add-written g c =
-    let bound : length (g.B.Bids.file c.args.file.now).bids ≤ 65536 = c.requires.file.count in
-    omega (arith, c.loop-number.invariant.counted)
+overflow_add-written g c = search rules
 
 pub returns-in_err-send_piece-clause-sends : goal.returns-in_err-send_piece-clause-sends
-returns-in_err-send_piece-clause-sends g c =
-    let now = c.loop-number in
-    let wrote = c.in_err-send_piece.ensures in
-    let fault = c.in_err-send_piece.field-0.0 in
-    failed_in_piece g.W.Write.contents c.args.out.now now.out c.send_piece.new.out now.written now.page.items _ _
-    (layout (g.B.Bids.file c.args.file.now)) fault c.as_slice.ensures.value now.invariant.left now.invariant.within now.invariant.sent wrote.counts wrote.part _
-    c.from_residual-in_err-send_piece.ensures.1
+returns-in_err-send_piece-clause-sends g c = search (rules, failed_in_piece)

@@ -1,5 +1,5 @@
 -- `send_piece`: one more piece was sent: what was sent is still the beginning of the text, and the writer still works.
-use Rattle.std.proofs.Common.{arith, ◌≡◌, ◌<◌, ◌≤◌, ◌∷◌, List, [], length, take, drop, false, ℕ, ◌+◌, ◌-◌, Ok, Option, refl, ◌∙◌}
+use Rattle.std.proofs.Common.{rules, arith, ◌≡◌, ◌<◌, ◌≤◌, ◌∷◌, List, [], length, take, drop, false, ℕ, ◌+◌, ◌-◌, Ok, Option, refl, ◌∙◌}
 use Rattle.std.proofs.Math.Seq.{take-add, take-length}
 use Rattle.std.proofs.lemmas.List.{length-drop}
 use Rattle.std.proofs.KnownBytes.{Appends-trans}
@@ -12,18 +12,11 @@ all_but n text = grind (arith, length-drop n text, take-length (drop n text))
 
 one_more_piece : (a b c : Option (List ℕ)) (m n : ℕ) (text : List ℕ)
     → Appends a b (take m text) → Appends b c (take n (take (length text - m) (drop m text))) → Appends a c (take (m + n) text)
-one_more_piece a b c m n text first next =
-    rw (take-add m n text) (Appends-trans a b c (take m text) (take n (drop m text)) first (rw all_but at next))
+one_more_piece a b c m n text first next = search (rules, take-add, Appends-trans, all_but)
 
 took_some : (n : ℕ) (piece : List ℕ) → 0 < n → failed_to_write (Ok n) piece ≡ false
 took_some n [] h = refl
 took_some n (byte ∷ piece) h = grind arith
 
 pub loop-written-preserved : goal.loop-written-preserved
-loop-written-preserved g c = let wrote = c.in-Ok.ensures in let left = all_but c.loop-written.written c.args.piece.now in record {
-  working = wrote.failed ∙ took_some c.in-Ok.count _ c.if-count-gt0.true;
-  ended = wrote.ended ∙ c.loop-written.invariant.ended;
-  within = let bound : c.in-Ok.count ≤ length (drop c.loop-written.written c.args.piece.now) = rw left at wrote.bound in
-      omega (arith, length-drop c.loop-written.written c.args.piece.now);
-  sent = one_more_piece _ _ _ c.loop-written.written c.in-Ok.count c.args.piece.now c.loop-written.invariant.sent wrote.bytes;
-}
+loop-written-preserved g c = search (rules, all_but, took_some, length-drop, one_more_piece)

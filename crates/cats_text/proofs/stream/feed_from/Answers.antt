@@ -1,5 +1,7 @@
 -- `feed_from`: the bytes that came are those that were fed.
-use Rattle.std.proofs.Common.{arith, ◌≡◌, ◌<◌, ◌++◌, ℕ, Bool, true, List, [], ◌∷◌, ◌||◌, length, take, refl, ◌∙◌, append-nil, Ok, Option, length-append, ◌≢◌}
+use Rattle.std.proofs.Common.{rules, arith, ◌≡◌, ◌<◌, ◌++◌, ℕ, Bool, true, List, [], ◌∷◌, ◌||◌, length, take, refl, ◌∙◌, append-nil, Ok, Option, length-append}
+use Rattle.std.proofs.lemmas.Grind.{common_steps}
+use Rattle.std.proofs.Common.{◌≢◌}
 use Rattle.std.proofs.lemmas.Result.{err_from_is_err_and}
 use Rattle.cats_text.specs.declared.limits.TheConstants.{MAX_STREAM}
 use Rattle.std.proofs.KnownBytes.{Consumes-trans, Consumes-kept}
@@ -11,31 +13,14 @@ use Rattle.cats_text.proofs.stream.feed_from.Goals as goal
 
 -- a read that gave nothing
 no_more : (a b c : Option (List ℕ)) (bytes piece : List ℕ) (n : ℕ) → n ≡ 0 → Consumes a b bytes → Consumes b c (take n piece) → Consumes a c bytes
-no_more a b c bytes piece n none came gave =
-    let joined = Consumes-trans a b c bytes [] came (rw none at gave) in rw append-nil at joined
+no_more a b c bytes piece n none came gave = search (rules, Consumes-trans, append-nil)
 
 at_the_end : (before : Bool) (n : ℕ) (piece : List ℕ) → n ≡ 0 → 0 < length piece → (before || moved_nothing (Ok n) piece) ≡ true
 at_the_end before n [] none space = absurd (omega arith)
 at_the_end before n (byte ∷ piece) none space = grind arith
 
 pub returns-in-Ok-eq0 : goal.returns-in-Ok-eq0
-returns-in-Ok-eq0 g c =
-    let none = c.in-Ok-eq0.field-0-test in
-    let kept = c.loop-count.invariant in
-    let gave = c.in-Ok-eq0.ensures in
-    let space : 0 < length c.read.new.piece = rw c.read.auto.piece kept.space in
-    record {
-      bytes = no_more _ _ _ c.loop-count.push_reader.bytes c.read.new.piece c.in-Ok-eq0.field-0 none kept.came gave.bytes.0;
-      answer = (
-        kept.working,
-        gave.failed,
-        record {
-          ended = gave.ended ∙ at_the_end _ c.in-Ok-eq0.field-0 c.read.new.piece none space;
-          at_end = gave.bytes.1 none space;
-          no_fault = kept.no_fault;
-        },
-      );
-    }
+returns-in-Ok-eq0 g c = search (rules, no_more, at_the_end)
 
 -- a read that gave a piece
 came_more : (a b c : Option (List ℕ)) (bytes piece all : List ℕ) → Consumes a b bytes → Consumes b c piece → all ≡ bytes ++ piece → Consumes a c all
@@ -46,12 +31,7 @@ more_bytes : (bytes piece all : List ℕ) (n : ℕ) → n ≢ 0 → n ≡ length
 more_bytes bytes piece all n some count joined = rw (joined, length-append bytes piece) (omega arith)
 
 pub loop-count-smaller : goal.loop-count-smaller
-loop-count-smaller g c =
-    let kept = c.loop-count.invariant in
-    let fed = rw kept.working at c.in_ok-feed-in-Ok.ensures in
-    let before = fed_within MAX_STREAM c.loop-count.push_reader.bytes kept.no_fault in
-    let grown = more_bytes c.loop-count.push_reader.bytes _ c.feed.new.self.bytes c.in-Ok.count c.in-Ok.count-test.1 c.in-Ok.ensures.bound.1 fed.bytes in
-    omega arith
+loop-count-smaller g c = grind (arith, common_steps, fed_within, more_bytes)
 
 pub loop-count-preserved : goal.loop-count-preserved
 loop-count-preserved g c =
@@ -81,9 +61,4 @@ returns-in_err-feed-in-Ok g c =
     }
 
 pub returns-in-Err : goal.returns-in-Err
-returns-in-Err g c =
-    let kept = c.loop-count.invariant in
-    record {
-      bytes = Consumes-kept _ _ _ c.loop-count.push_reader.bytes kept.came c.in-Err.ensures.bytes;
-      answer = rw c.whole.ensures (refl, c.in-Err.ensures.failed, kept.no_fault);
-    }
+returns-in-Err g c = search (rules, Consumes-kept)

@@ -1,11 +1,10 @@
 -- `spelled_files`
-use Rattle.std.proofs.Common.{refl, codes, ◌++◌, ◌∷◌}
+use Rattle.std.proofs.Common.{rules, refl, codes, ◌++◌, ◌∷◌}
 use Rattle.cats_text.proofs.Spelling.Files.{spells_from_no_fault}
 use Rattle.cats_text.proofs.worked.spelled_files.Goals as goal
 
 pub returns-clause-lenient : goal.returns-clause-lenient
-returns-clause-lenient c =
-    spells_from_no_fault (codes "%% " ++ 255 ∷ 233 ∷ codes "\r\n\r\n \t% note\ngoods\t002\r\nbids  1 \r\n dummy 0\r\n\r\n00 0005 1 0 #\r") refl
+returns-clause-lenient c = search (rules, spells_from_no_fault)
 
 pub returns-clause-cats : goal.returns-clause-cats
 returns-clause-cats c = spells_from_no_fault (codes "%% a comment\n\ngoods 3\nbids 2\ndummy 1\n\n0\t20\t0\t2\t3\t#\n1\t7\t1\t#\n") refl

@@ -1,7 +1,6 @@
 -- `BidsByNumber::has`
-use Rattle.std.proofs.Common.{◌≡◌, ◌∙◌, List, Option, length, sym, ap, arith}
+use Rattle.std.proofs.Common.{◌≡◌, ◌∙◌, List, Option, length, sym, ap, arith, rules}
 use Rattle.std.proofs.lemmas.Grind.{common_steps}
-use Rattle.std.proofs.Common.{rules}
 use Rattle.std.specs.List.{slice_get}
 use Rattle.bid_file.specs.Files.{PlainBid}
 use Rattle.cats_text.specs.Internal.Kept.{is_some_bid}
@@ -9,9 +8,7 @@ use Rattle.cats_text.proofs.Parsing.BidsByNumber.{has_in_order, listed}
 use Rattle.cats_text.proofs.bids_by_number.BidsByNumber.has.Goals as goal
 
 pub returns-then-is_empty : goal.returns-then-is_empty
-returns-then-is_empty g c =
-    let none : length c.self.inside.arrivals.items ≡ 0 = first_of (search rules, grind (arith, common_steps)) in
-    rw (← c.self.view_is) (has_in_order (g.K.Keep.bids c.self.inside.came) c.self.inside.arrivals.items c.args.number c.count.result none c.count.ensures)
+returns-then-is_empty g c = search (rules, has_in_order)
 
 pub returns : goal.returns
 returns g c =

@@ -10,9 +10,7 @@ use Rattle.cats_text.proofs.bids_by_number.BidsByNumber.into_kept.Goals.{then-ar
 use Rattle.cats_text.proofs.bids_by_number.BidsByNumber.into_kept.Goals as goal
 
 pub returns-then-is_empty-clause-bids : goal.returns-then-is_empty-clause-bids
-returns-then-is_empty-clause-bids g c =
-    let none : length c.self.inside.arrivals.items ≡ 0 = first_of (search rules, grind (arith, common_steps)) in
-    rw (← c.self.view_is) (filled_all (g.K.Keep.bids c.self.inside.came) c.self.inside.arrivals.items none)
+returns-then-is_empty-clause-bids g c = search (rules, filled_all)
 
 pub loop-arrival-preserved : goal.loop-arrival-preserved
 loop-arrival-preserved g c =
@@ -38,11 +36,4 @@ loop-arrival-preserved g c =
     ])
 
 pub returns-clause-bids : goal.returns-clause-bids
-returns-clause-bids g c =
-    let came = g.K.Keep.bids c.self.inside.came in
-    let arrivals : List ℕ = c.deref-arrival-items.result.now in
-    let some : length c.self.inside.arrivals.items ≡ 0 → ⊥ = λ none. first_of (search rules, grind (arith, common_steps)) in
-    c.loop-arrival.invariant
-    ∙ ap (λ (ps : List ℕ). filled (arrived came ps))
-    (take_all c.loop-arrival.arrival-index arrivals c.loop-arrival-test.false ∙ c.deref-arrival-items.ensures.value)
-    ∙ ap filled (sym (listed came c.self.inside.arrivals.items some) ∙ c.self.view_is)
+returns-clause-bids g c = search (rules, take_all, listed)

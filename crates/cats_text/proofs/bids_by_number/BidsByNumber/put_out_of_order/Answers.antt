@@ -1,17 +1,14 @@
 -- `BidsByNumber::put_out_of_order`
-use Rattle.std.proofs.Common.{◌≡◌, ◌∙◌, ◌+◌, ◌∷◌, [], length, sym, ap, arith, length-append}
+use Rattle.std.proofs.Common.{rules, ◌≡◌, ◌∙◌, ◌+◌, ◌∷◌, [], length, sym, ap, arith, length-append}
 use Rattle.cats_text.specs.Internal.Kept.{AreWithin, with_goods}
 use Rattle.cats_text.proofs.Parsing.BidsByNumber.{put_listed, within_more, within_set}
 use Rattle.cats_text.proofs.bids_by_number.BidsByNumber.put_out_of_order.Goals as goal
 
 pub invariant_of-self-in_err-pad : goal.invariant_of-self-in_err-pad
-invariant_of-self-in_err-pad g c =
-    c.pad.ensures.within (length (g.K.Keep.bids c.self.inside.came)) ((rw c.count.ensures at c.list_arrivals.ensures.within) c.self.invariant)
+invariant_of-self-in_err-pad g c = c.pad.ensures.within (length (g.K.Keep.bids c.self.inside.came)) (search rules)
 
 pub invariant_of-self-in_err-add : goal.invariant_of-self-in_err-add
-invariant_of-self-in_err-add g c =
-    rw c.in_err-add.ensures.same
-    (c.pad.ensures.within (length (g.K.Keep.bids c.self.inside.came)) ((rw c.count.ensures at c.list_arrivals.ensures.within) c.self.invariant))
+invariant_of-self-in_err-add g c = rw c.in_err-add.ensures.same (c.pad.ensures.within (length (g.K.Keep.bids c.self.inside.came)) (search rules))
 
 pub invariant_of-self-2 : goal.invariant_of-self-2
 invariant_of-self-2 g c =
@@ -29,7 +26,4 @@ returns g c =
     let came = g.K.Keep.bids c.self.inside.came in
     let all : AreWithin (length came) c.pad.new.arrivals.items =
     c.pad.ensures.within (length came) ((rw c.count.ensures at c.list_arrivals.ensures.within) c.self.invariant) in
-    rw (← c.self.view_is)
-    (put_listed came (g.K.Keep.bids c.add.new.self) (g.K.Keep.keep (with_goods c.args.draft.now c.args.goods.now)) c.self.inside.arrivals.items
-    c.list_arrivals.new.arrivals.items c.pad.new.arrivals.items c.args.draft.now.number c.count-2.result all c.in_ok-add.ensures.kept c.count-2.ensures
-    c.in_ok-pad.ensures.padded c.in_ok-pad.ensures.there (c.in_ok-list_arrivals.ensures.listed came (sym c.count.ensures)))
+    search (rules, put_listed)

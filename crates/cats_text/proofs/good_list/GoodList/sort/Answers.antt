@@ -1,5 +1,5 @@
 -- `GoodList::sort`: goods that do not rise are sorted: the marks stay theirs.
-use Rattle.std.proofs.Common.{◌≡◌, true, sym, ap, ◌∙◌, List, ℕ}
+use Rattle.std.proofs.Common.{rules, ◌≡◌, true, sym, ap, ◌∙◌, List, ℕ}
 use Rattle.std.proofs.lemmas.Bool.{both_ways}
 use Rattle.std.proofs.lemmas.List.Sorted.{list_any-IsPermutation, IsNonDecreasingBy-from_sort}
 use Rattle.goods_set.specs.Bundles.{IsRising, has_good}
@@ -11,9 +11,7 @@ use Rattle.cats_text.proofs.good_list.GoodList.sort.Goals as goal
 pub invariant_of-self : goal.invariant_of-self
 invariant_of-self c =
     let marked : IsMarked c.self.inside.goods.items c.self.inside.marks.items c.self.inside.bid_mark = rw c.if-not-self.true at c.self.invariant.marked in
-    let rising : IsRising c.sort_unstable.new.self.items =
-    rising_from_sort c.self.inside.goods.items _ marked.distinct c.sort_unstable.ensures.permutation
-    (IsNonDecreasingBy-from_sort (λ x. x) _ c.sort_unstable.ensures.sorted) in
+    let rising : IsRising c.sort_unstable.new.self.items = search (rules, rising_from_sort, IsNonDecreasingBy-from_sort) in
     record {
       marked = rw c.if-not-self.true (IsMarked-sorted _ _ _ _ marked c.sort_unstable.ensures.permutation rising);
       rising = λ _. rising;
@@ -24,9 +22,7 @@ invariant_of-self c =
 pub returns-then-not-self-clause-rising : goal.returns-then-not-self-clause-rising
 returns-then-not-self-clause-rising c =
     let marked : IsMarked c.self.inside.goods.items c.self.inside.marks.items c.self.inside.bid_mark = rw c.if-not-self.true at c.self.invariant.marked in
-    rising_from_sort c.self.inside.goods.items _ marked.distinct c.sort_unstable.ensures.permutation
-    (IsNonDecreasingBy-from_sort (λ x. x) _ c.sort_unstable.ensures.sorted)
+    search (rules, rising_from_sort, IsNonDecreasingBy-from_sort)
 
 pub returns-then-not-self-clause-same : goal.returns-then-not-self-clause-same
-returns-then-not-self-clause-same c = λ g.
-    sym (list_any-IsPermutation _ _ _ c.sort_unstable.ensures.permutation) ∙ ap (λ (xs : List ℕ). has_good xs g) c.self.view_is
+returns-then-not-self-clause-same c = search (rules, list_any-IsPermutation)

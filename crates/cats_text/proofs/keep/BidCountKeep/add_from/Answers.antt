@@ -7,8 +7,4 @@ use Rattle.cats_text.proofs.Parsing.BidsByNumber.{same_bid}
 use Rattle.cats_text.proofs.keep.BidCountKeep.add_from.Goals as goal
 
 pub returns : goal.returns
-returns c bid e =
-    let more : c.in-Some.count ≡ c.args.self.now.count + 1 = first_of (search rules, grind (arith, common_steps)) in
-    ap (λ (k : ℕ). replicate k number_alone) more ∙ replicate_next c.args.self.now.count number_alone
-    ∙ ap (λ (b : PlainBid). replicate c.args.self.now.count number_alone ++ b ∷ [])
-    (sym (same_bid c.args._other.now.count c.args._index number_alone bid e))
+returns c bid e = search (rules, replicate_next, same_bid)

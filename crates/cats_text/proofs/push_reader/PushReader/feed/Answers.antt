@@ -1,5 +1,6 @@
 -- `PushReader::feed`: what the scanner was given is what the limit leaves of the piece.
-use Rattle.std.proofs.Common.{arith, ◌≡◌, ◌<◌, ◌≤◌, ◌+◌, ◌-◌, ◌++◌, min, ℕ, List, length, take, sym, ap, ◌∙◌, length-append}
+use Rattle.std.proofs.Common.{rules, arith, ◌≡◌, ◌<◌, ◌≤◌, ◌+◌, ◌-◌, ◌++◌, min, ℕ, List, length, take, sym, ap, ◌∙◌, length-append}
+use Rattle.std.proofs.lemmas.Grind.{common_steps}
 use Rattle.std.proofs.Math.Seq.{take-length}
 use Rattle.std.proofs.lemmas.List.{length-take}
 use Rattle.cats_text.proofs.Feeding.Pieces.{IsJudged, judged_bytes, judged_halted, judged_too_long, judged_ok, few_lines, still_reading, fed_reported}
@@ -10,10 +11,7 @@ pub take-requires : goal.take-requires
 take-requires g c =
     let kept = c.self.invariant.taken c.in_default.is in
     let lines = few_lines _ _ _ _ _ kept in
-    let within = kept.within in
-    let limit = c.self.invariant.limit in
-    let some = c.min-within.ensures in
-    omega (arith, length-take c.min-within.result c.args.piece.now)
+    search (rules, length-take)
 
 -- fewer bytes than the piece has fill the limit up
 too_many : (limit count within : ℕ) (bytes piece : List ℕ) → count ≡ length bytes → within ≡ min (length piece) (limit - count) → within < length piece
@@ -24,9 +22,7 @@ too_many limit count within bytes piece c w more = let sum = length-append bytes
 all_judged : (limit count within : ℕ) (bytes piece : List ℕ) → count ≡ length bytes → count ≤ limit → within ≡ min (length piece) (limit - count)
     → length piece ≤ within
     → (length (bytes ++ piece) ≤ limit) × (take within piece ≡ piece) × (within ≡ length piece)
-all_judged limit count within bytes piece c space w whole =
-    let sum = length-append bytes piece in let same : within ≡ length piece = omega arith in
-    (omega arith, rw same (take-length piece), same)
+all_judged limit count within bytes piece c space w whole = grind (arith, common_steps, take-length)
 
 judged : (g : _) (c : goal.After-self-2-1 g)
     → IsJudged g.K.Keep.keep c.self.inside.limit (c.self.inside.count + c.min-within.result) c.take.new.self
@@ -55,9 +51,7 @@ judged g c =
     ]
 
 pub invariant_of-self : goal.invariant_of-self
-invariant_of-self g c =
-    rw (c.note.ensures, c.err-self-inside.ensures.value)
-    (still_reading _ _ _ _ _ c.match-take.judged c.self.invariant.limit (judged g c))
+invariant_of-self g c = rw (c.note.ensures, c.err-self-inside.ensures.value) (search (rules, still_reading, judged))
 
 pub returns : goal.returns
 returns g c =

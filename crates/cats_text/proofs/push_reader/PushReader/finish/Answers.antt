@@ -1,15 +1,12 @@
 -- `PushReader::finish`: the end of the bytes that the scanner took: it has what the header lines said, and what is kept of the bids.
-use Rattle.std.proofs.Common.{arith}
+use Rattle.std.proofs.Common.{rules, arith}
 use Rattle.cats_text.proofs.Feeding.Pieces.{ended_parts, few_lines}
 use Rattle.cats_text.proofs.push_reader.PushReader.finish.Goals as goal
 
 pub finish-requires : goal.finish-requires
 finish-requires g c =
     let kept = c.self.invariant.taken c.in_default.is in
-    let lines = few_lines _ _ _ _ _ kept in
-    let within = kept.within in
-    let limit = c.self.invariant.limit in
-    omega arith
+    search (rules, few_lines)
 
 pub returns : goal.returns
 returns g c =

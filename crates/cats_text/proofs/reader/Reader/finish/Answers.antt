@@ -1,12 +1,11 @@
 -- `Reader::finish`: the packed file that the bytes spell, with a vector for each bid.
+use Rattle.std.proofs.Common.{rules}
 use Rattle.std.proofs.lemmas.Result.{err_from_is_err_and}
 use Rattle.cats_text.proofs.Feeding.Files.{unpacked_as, fault_as}
 use Rattle.cats_text.proofs.reader.Reader.finish.Goals as goal
 
 pub returns-in_err-file : goal.returns-in_err-file
-returns-in_err-file c =
-    let reported = err_from_is_err_and c.from_residual.result c.from_residual.ensures.1 in
-    rw (← c.self.view_is, reported.1, reported.2) (fault_as c.self.inside.push_reader c.in_err-file.field-0.0 c.in_err-file.ensures)
+returns-in_err-file c = search (rules, err_from_is_err_and, fault_as)
 
 pub returns : goal.returns
 returns c = rw (← c.self.view_is) (unpacked_as c.self.inside.push_reader c.in_ok-file.file c.unpacked.result c.unpacked.ensures c.in_ok-file.ensures)

@@ -27,8 +27,4 @@ returns-after-count-bytes-clause-scanned g c =
 pub returns-in-Inside-Number-clause-scanned : goal.returns-in-Inside-Number-clause-scanned
 returns-in-Inside-Number-clause-scanned g c =
     let mode : c.args.self.now.mode ≡ Inside (Number c.in-Inside-Number.value) = search rules in
-    let number = c.with_digits-value.ensures in (
-      number_scanned (state g.K.Keep.keep c.args.self.now) c.in-Inside-Number.value c.with_digits-value.result.0 c.args.bytes.now c.with_digits-value.result.1
-          c.args.self.now.waiting mode number.digits number.value c.requires.waits,
-      number.bound,
-    )
+    search (rules, number_scanned)

@@ -1,13 +1,12 @@
 -- `Scanner::read_bid_line`: scans of words one behind the other are one scan of all their bytes; where one of them stops, the scan stops there.
+use Rattle.std.proofs.Common.{rules}
 use Rattle.std.proofs.lemmas.Result.{err_from_is_err_and}
 use Rattle.cats_text.specs.Internal.Scanning.{state}
 use Rattle.cats_text.proofs.Scanning.WholeWords.{rest_then, rest_stops_to}
 use Rattle.cats_text.proofs.scanner.Scanner.read_bid_line.Goals as goal
 
 pub returns-in_err-offset-clause-scanned : goal.returns-in_err-offset-clause-scanned
-returns-in_err-offset-clause-scanned g c =
-    let reported = err_from_is_err_and c.from_residual.result c.from_residual.ensures.1 in
-    rw (reported.1, reported.2) (c.in_err-offset.ensures.scanned c.args.bytes.now c.in-Some.ensures)
+returns-in_err-offset-clause-scanned g c = search (rules, err_from_is_err_and)
 
 pub returns-in_default-leading_token-clause-scanned : goal.returns-in_default-leading_token-clause-scanned
 returns-in_default-leading_token-clause-scanned g c =

@@ -1,5 +1,5 @@
 -- `Scanner::take_bid_end`
-use Rattle.std.proofs.Common.{refl}
+use Rattle.std.proofs.Common.{rules, refl}
 use Rattle.std.proofs.lemmas.Result.{err_from_is_err_and}
 use Rattle.cats_text.specs.Internal.Progress.{progress}
 use Rattle.cats_text.proofs.Scanning.BidEnds.{end_passed, end_halts}
@@ -10,7 +10,4 @@ returns-clause-scanned g c bytes leading_token =
     end_passed _ _ c.args.self.now.waiting _ bytes c.requires.due leading_token c.in_ok-close_bid.ensures c.requires.waits refl
 
 pub returns-in_err-close_bid-clause-scanned : goal.returns-in_err-close_bid-clause-scanned
-returns-in_err-close_bid-clause-scanned g c bytes leading_token =
-    let reported = err_from_is_err_and c.from_residual.result c.from_residual.ensures.1 in
-    rw (reported.1, reported.2)
-    (end_halts _ (progress g.K.Keep.keep c.close_bid.new.self) c.args.self.now.waiting bytes _ c.requires.due leading_token c.in_err-close_bid.ensures)
+returns-in_err-close_bid-clause-scanned g c bytes leading_token = search (rules, err_from_is_err_and, end_halts)
