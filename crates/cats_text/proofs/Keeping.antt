@@ -1,22 +1,10 @@
 -- What is kept of the bids stays what it was at the first byte.
-use Rattle.std.proofs.Common.{◌≡◌, ℕ, Bool, true, false, List, [], ◌∷◌, refl, subst, Ok, Err, if◌then◌else◌}
-use Rattle.cats_text.specs.Faults.{fault_at}
-use Rattle.cats_text.specs.Internal.Progress.{Progress}
-use Rattle.cats_text.specs.Internal.Parsing.{Reading, word_read, line_read, is_due}
-use Rattle.cats_text.specs.Internal.Scanning.{State, Scan, and_then, with_reading, blank_step_at, words_step_at, missing_step}
-use Rattle.cats_text.specs.Internal.Scanning.{line_step, byte_step, scan, end_step, end_of}
-use Rattle.cats_text.specs.declared.read_fault.Kind.TheVariants.{Missing}
-use Rattle.bid_file.specs.Files.{PlainBid}
-use Rattle.cats_text.specs.declared.parser.Column.{Column}
-use Rattle.cats_text.specs.declared.parser.Column.TheVariants.{First, Second, Later, Ended}
-use Rattle.cats_text.specs.declared.parser.Stage.{Stage}
-use Rattle.cats_text.specs.declared.parser.Stage.TheVariants.{Bid}
-use Rattle.cats_text.specs.declared.scanner.Mode.{Mode}
-use Rattle.cats_text.specs.declared.scanner.Mode.TheVariants.{Between, Inside}
+use Rattle.cats_text.proofs.Common.{◌≡◌, ℕ, Bool, true, false, List, [], ◌∷◌, refl, subst, Ok, Err, if◌then◌else◌, fault_at, Progress, Reading, word_read}
+use Rattle.cats_text.proofs.Common.{line_read, is_due, State, Scan, and_then, with_reading, blank_step_at, words_step_at, missing_step, line_step, byte_step}
+use Rattle.cats_text.proofs.Common.{scan, end_step, end_of, Missing, PlainBid, Column, First, Second, Later, Ended, Stage, Bid, Mode, Between, Inside, arith}
+use Rattle.cats_text.proofs.Common.{common_steps}
 use Rattle.cats_text.proofs.Parsing.Lines.{line_at}
 use Rattle.cats_text.proofs.Scanning.BidLines.{Keeps, keeps_word}
-use Rattle.std.proofs.Common.{arith}
-use Rattle.std.proofs.lemmas.Grind.{common_steps}
 
 abbrev ReadKeeps : (PlainBid → PlainBid) → Reading → Type 0
 ReadKeeps k (Ok p) = p.keep ≡ k

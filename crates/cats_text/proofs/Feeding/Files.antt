@@ -1,18 +1,7 @@
 -- The file of what the header lines said and the bids that were kept whole.
-use Rattle.std.proofs.Common.{◌≡◌, ◌<◌, ℕ, true, List, length, Option, Some, None, Result, Ok, Err, MatchOption, refl, sym, subst, inr, arith}
-use Rattle.std.proofs.lemmas.List.{length-map}
-use Rattle.std.proofs.lemmas.Bool.{lt-ltb}
-use Rattle.cats_text.specs.Faults.{has_bid_line}
-use Rattle.bid_file.specs.Files.{PlainBid, PlainFile, IsPlainFile}
-use Rattle.bid_file.specs.declared.bid.BidFile.{BidFile}
-use Rattle.cats_text.specs.Fed.{Fed}
-use Rattle.cats_text.specs.Grammar.{Spells}
-use Rattle.cats_text.specs.Reading.{PackedAnswer, FinishAnswer, FinishesAs}
-use Rattle.cats_text.specs.Internal.Kept.{whole}
-use Rattle.cats_text.specs.Internal.Reading.{PartsAnswer, PartsAs, PackedAs, Unpacks}
-use Rattle.cats_text.specs.declared.read_fault.ReadFault.{ReadFault}
-use Rattle.cats_text.specs.declared.parser.Header.{Header}
-use Rattle.std.proofs.lemmas.Grind.{common_steps}
+use Rattle.cats_text.proofs.Common.{◌≡◌, ◌<◌, ℕ, true, List, length, Option, Some, None, Result, Ok, Err, MatchOption, refl, sym, subst, inr, arith, length-map}
+use Rattle.cats_text.proofs.Common.{lt-ltb, has_bid_line, PlainBid, PlainFile, IsPlainFile, BidFile, Fed, Spells, PackedAnswer, FinishAnswer, FinishesAs, whole}
+use Rattle.cats_text.proofs.Common.{PartsAnswer, PartsAs, PackedAs, Unpacks, ReadFault, Header, common_steps}
 
 same_file : (g d : ℕ) (bids : List PlainBid) (f : PlainFile) → g ≡ f.goods → d ≡ f.dummy → bids ≡ f.bids
     → record { goods = g; dummy = d; bids = bids } ≡ f

@@ -1,29 +1,15 @@
 -- What a reader answers to one more piece.
-use Rattle.std.proofs.Common.{rules, ◌≡◌, ℕ, suc, zero, ◌+◌, ◌-◌, ◌<◌, ◌≤◌, min, Bool, false, List, [], ◌∷◌, ◌++◌, length, take, Some, None, refl, sym, ap, ◌∙◌}
-use Rattle.std.proofs.Common.{arith, inl, inr, ◌⊎◌, Result, Ok, Err, length-append, ◌^◌}
-use Rattle.std.specs.Option.{option_or}
-use Rattle.std.specs.Result.{result_err}
-use Rattle.std.proofs.lemmas.Bool.{le-leb, lt-leb}
-use Rattle.std.proofs.lemmas.Bool.Decides.{leb_tells}
-use Rattle.cats_text.specs.Faults.{complete_fault, first_fault, has_bid_line, fault_at}
-use Rattle.cats_text.specs.Fed.{Fed, fed_fault}
-use Rattle.cats_text.specs.Internal.Reading.{HasTaken, IsReading, SpellsParts, PartsAnswer, placed_fault}
-use Rattle.cats_text.specs.Reading.{WantsMemory, FeedsAs}
-use Rattle.cats_text.specs.Internal.Returns.{settled, waits, carried}
-use Rattle.cats_text.specs.Internal.Scanning.{State, state, first_state, Scan, scan, Scans, MeetsBidLine, end_of, ArePartsOf, Finishes, IsInBidLine, HasBids}
-use Rattle.cats_text.specs.declared.read_fault.ReadFault.{ReadFault}
-use Rattle.cats_text.specs.declared.read_fault.Kind.{Kind}
-use Rattle.cats_text.specs.declared.read_fault.Kind.TheVariants.{TooLong, Memory}
-use Rattle.cats_text.specs.declared.parser.Header.{Header}
-use Rattle.bid_file.specs.Files.{PlainBid}
-use Rattle.cats_text.specs.declared.scanner.Scanner.{Scanner}
+use Rattle.cats_text.proofs.Common.{rules, ◌≡◌, ℕ, suc, zero, ◌+◌, ◌-◌, ◌<◌, ◌≤◌, min, Bool, false, List, [], ◌∷◌, ◌++◌, length, take, Some, None, refl, sym}
+use Rattle.cats_text.proofs.Common.{ap, ◌∙◌, arith, inl, inr, ◌⊎◌, Result, Ok, Err, length-append, ◌^◌, option_or, result_err, le-leb, lt-leb, leb_tells}
+use Rattle.cats_text.proofs.Common.{complete_fault, first_fault, has_bid_line, fault_at, Fed, fed_fault, HasTaken, IsReading, SpellsParts, PartsAnswer}
+use Rattle.cats_text.proofs.Common.{placed_fault, WantsMemory, FeedsAs, settled, waits, carried, State, state, first_state, Scan, scan, Scans, MeetsBidLine}
+use Rattle.cats_text.proofs.Common.{end_of, ArePartsOf, Finishes, IsInBidLine, HasBids, ReadFault, Kind, TooLong, Memory, Header, PlainBid, Scanner, take_all}
+use Rattle.cats_text.proofs.Common.{common_steps}
 use Rattle.cats_text.proofs.Scanning.Lines.{scan-append}
 use Rattle.cats_text.proofs.Texts.MachineAnswers.{stops_at_complete_fault, continues_without_fault, meets_bid_line, complete_fault_is_first, ends_at_parts}
 use Rattle.cats_text.proofs.Texts.MachineAnswers.{ends_at_first_fault, ends_in_bid_line}
 use Rattle.cats_text.proofs.Scanning.Pieces.{settled-append, waits-append}
-use Rattle.std.proofs.lemmas.List.{take_all}
 use Rattle.cats_text.proofs.Scanning.Appends.{meets_behind, scan-line, settled-length}
-use Rattle.std.proofs.lemmas.Grind.{common_steps}
 
 -- ---- the bytes that are judged
 

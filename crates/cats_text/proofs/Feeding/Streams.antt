@@ -1,21 +1,9 @@
 -- Reading a stream answers as the reader that was fed the bytes.
-use Rattle.std.proofs.Common.{rules, ◌≡◌, ℕ, false, List, take, Option, Some, IfSome, Result, Ok, Err, ◌⊎◌, inl, inr, refl, arith}
-use Rattle.std.proofs.lemmas.List.{take_all}
-use Rattle.cats_text.specs.Faults.{first_fault, fault_at}
-use Rattle.cats_text.specs.Fed.{fed_fault}
-use Rattle.bid_file.specs.Files.{PlainBid, PlainFile}
-use Rattle.cats_text.specs.Reading.{PackedAnswer, WantsMemory, FinishAnswer}
-use Rattle.cats_text.specs.Internal.Reading.{SpellsParts}
-use Rattle.cats_text.specs.Streams.{has_failed, IsWhole, IsTextFault, FaultsAt, ReadsAs, ReadsPlainAs, ChecksAs}
-use Rattle.bid_file.specs.declared.bid.BidFile.{BidFile}
-use Rattle.cats_text.specs.declared.read_fault.Kind.{Kind}
-use Rattle.cats_text.specs.declared.read_fault.Kind.TheVariants.{Device, Memory}
-use Rattle.cats_text.specs.declared.read_fault.ReadFault.{ReadFault}
-use Rattle.cats_text.specs.declared.parser.Header.{Header}
-use Rattle.cats_text.specs.declared.limits.TheConstants.{MAX_STREAM}
-use Rattle.cats_text.specs.declared.stream.Watched.{Watched}
+use Rattle.cats_text.proofs.Common.{rules, ◌≡◌, ℕ, false, List, take, Option, Some, IfSome, Result, Ok, Err, ◌⊎◌, inl, inr, refl, arith, take_all, first_fault}
+use Rattle.cats_text.proofs.Common.{fault_at, fed_fault, PlainBid, PlainFile, PackedAnswer, WantsMemory, FinishAnswer, SpellsParts, has_failed, IsWhole}
+use Rattle.cats_text.proofs.Common.{IsTextFault, FaultsAt, ReadsAs, ReadsPlainAs, ChecksAs, BidFile, Kind, Device, Memory, ReadFault, Header, MAX_STREAM}
+use Rattle.cats_text.proofs.Common.{Watched, common_steps}
 use Rattle.cats_text.proofs.Texts.FaultKinds.{IsFaultOfBytes, first_fault-of_bytes, fed_fault-of_bytes, fed_within}
-use Rattle.std.proofs.lemmas.Grind.{common_steps}
 
 found : (fault : Option ReadFault) (e : ReadFault) → IfSome fault IsFaultOfBytes → fault ≡ Some e → IsFaultOfBytes e
 found fault e h is = rw is at h

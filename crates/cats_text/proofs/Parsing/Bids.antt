@@ -1,31 +1,19 @@
 -- The words of a bid line: the parser and the definitions agree.
-use Rattle.std.proofs.Common.{rules, ◌≡◌, ℕ, ◌-◌, ◌<◌, ◌≤◌, Bool, true, false, not, ◌&&◌, ◌||◌, cond, eqb, ltb, leb, List, [], ◌∷◌, length, refl, ap, ◌∙◌, None}
-use Rattle.std.proofs.Common.{arith, Option, Err}
-use Rattle.std.proofs.lemmas.Bool.{ltb-false, lt-ltb, leb-true, leb-false, eq-eqb, ne_eqb, both_ways, or_left, and_parts}
-use Rattle.std.specs.List.{list_any, slice_get}
-use Rattle.cats_text.specs.Numbers.{number_of, is_too_large, is_too_fine, price_of, whole_part, places, has_place_from, six_places, digits_alone}
-use Rattle.cats_text.specs.Numbers.{GREATEST_PRICE}
-use Rattle.cats_text.specs.Grammar.{line_number}
-use Rattle.cats_text.specs.Faults.{header_value, word_fault, when}
-use Rattle.cats_text.specs.FileLines.{bid_of}
-use Rattle.cats_text.specs.Internal.Progress.{Progress}
-use Rattle.cats_text.specs.Internal.Parsing.{Reading, number_read, price_read, price_parts, with_price}
-use Rattle.cats_text.specs.Internal.Kept.{is_some_bid}
-use Rattle.cats_text.specs.declared.read_fault.Kind.{Kind}
+use Rattle.cats_text.proofs.Common.{rules, ◌≡◌, ℕ, ◌-◌, ◌<◌, ◌≤◌, Bool, true, false, not, ◌&&◌, ◌||◌, cond, eqb, ltb, leb, List, [], ◌∷◌, length, refl, ap, ◌∙◌}
+use Rattle.cats_text.proofs.Common.{None, arith, Option, Err, ltb-false, lt-ltb, leb-true, leb-false, eq-eqb, ne_eqb, both_ways, or_left, and_parts, list_any}
+use Rattle.cats_text.proofs.Common.{slice_get, number_of, is_too_large, is_too_fine, price_of, whole_part, places, has_place_from, six_places, digits_alone}
+use Rattle.cats_text.proofs.Common.{GREATEST_PRICE, line_number, header_value, word_fault, when, bid_of, Progress, Reading, number_read, price_read}
+use Rattle.cats_text.proofs.Common.{price_parts, with_price, is_some_bid, Kind, Decimal, Keyword, Number, End, Other, Header, Second, Later, MAX_BIDS}
+use Rattle.cats_text.proofs.Common.{common_steps}
 use Rattle.cats_text.specs.declared.read_fault.Kind.TheVariants as kinds
 use Rattle.cats_text.specs.declared.word.Word.{Word}
-use Rattle.cats_text.specs.declared.price.Decimal.{Decimal}
-use Rattle.cats_text.specs.declared.word.Word.TheVariants.{Keyword, Number, Decimal as Fraction, End, Other}
-use Rattle.cats_text.specs.declared.parser.Header.{Header}
-use Rattle.cats_text.specs.declared.parser.Column.TheVariants.{Second, Later}
-use Rattle.bid_file.specs.declared.limits.TheConstants.{MAX_BIDS}
+use Rattle.cats_text.specs.declared.word.Word.TheVariants.{Decimal as Fraction}
 use Rattle.cats_text.proofs.Words.Places.{digit_bounds, places_from, places-six, places_below_one, place_not_zero}
 use Rattle.cats_text.proofs.Words.Kept.{Summarises, Holds, whole-digits, whole-point, places-point}
 use Rattle.cats_text.proofs.Words.Tests.{IsTested}
 use Rattle.cats_text.proofs.Parsing.States.{IsAt, WordFollows, with_words}
 use Rattle.cats_text.proofs.Parsing.Headers.{holds_le, holds_same}
 use Rattle.cats_text.proofs.Parsing.NumbersTaken.{taken}
-use Rattle.std.proofs.lemmas.Grind.{common_steps}
 
 -- one test of the definitions against one of the parser
 pub follow_test : (lines : List (List (List ℕ))) (before : List (List ℕ)) (w : List ℕ) (b c : Bool) (kind : Kind) (r : Reading) (rest : Option Kind)

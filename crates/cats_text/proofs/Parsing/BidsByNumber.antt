@@ -1,18 +1,11 @@
 -- The arrivals of the bids by number. The idea: the bids stay in the order in which they came, and an arrival is a number
 -- in that order, which one more bid behind the others does not change.
-use Rattle.std.proofs.Common.{rules, ◌≡◌, ℕ, zero, suc, ◌+◌, ◌-◌, ◌<◌, ◌≤◌, List, [], ◌∷◌, ◌++◌, length, replicate, set, take, get_or, subst, add-one, Option}
-use Rattle.std.proofs.Common.{Some, None, Result, Ok, Err, OnOk, true, false, nat_lt, inl, inr, ◌⊎◌, map, append-nil, refl, sym, ap, ap₂, ◌∙◌, arith}
-use Rattle.std.proofs.Common.{append_assoc, length-append}
-use Rattle.std.proofs.lemmas.List.{length-replicate, replicate-append-replicate, map-set, map-append, length-map, take_more, take_all}
-use Rattle.std.proofs.lemmas.Option.{slice_get_past, slice_get-get_or, slice_get_cases}
-use Rattle.std.proofs.lemmas.List.Elements.{filter_map-append}
-use Rattle.std.proofs.lemmas.Bool.{lt-ltb, le-ltb}
-use Rattle.std.specs.List.{slice_get}
-use Rattle.std.specs.Option.{option_to_list}
-use Rattle.bid_file.specs.Files.{PlainBid}
-use Rattle.cats_text.specs.Internal.Kept.{is_some_bid, number_alone, slot_at, arrived, AreWithin, IsPadded, slot_list}
-use Rattle.cats_text.specs.FileLines.{put_slot, filled}
-use Rattle.std.proofs.lemmas.Grind.{common_steps}
+use Rattle.cats_text.proofs.Common.{rules, ◌≡◌, ℕ, zero, suc, ◌+◌, ◌-◌, ◌<◌, ◌≤◌, List, [], ◌∷◌, ◌++◌, length, replicate, set, take, get_or, subst, add-one}
+use Rattle.cats_text.proofs.Common.{Option, Some, None, Result, Ok, Err, OnOk, true, false, nat_lt, inl, inr, ◌⊎◌, map, append-nil, refl, sym, ap, ap₂, ◌∙◌}
+use Rattle.cats_text.proofs.Common.{arith, append_assoc, length-append, length-replicate, replicate-append-replicate, map-set, map-append, length-map}
+use Rattle.cats_text.proofs.Common.{take_more, take_all, slice_get_past, slice_get-get_or, slice_get_cases, filter_map-append, lt-ltb, le-ltb, slice_get}
+use Rattle.cats_text.proofs.Common.{option_to_list, PlainBid, is_some_bid, number_alone, slot_at, arrived, AreWithin, IsPadded, slot_list, put_slot, filled}
+use Rattle.cats_text.proofs.Common.{common_steps}
 
 some_same : (x y : ℕ) → Some x ≡ Some y → x ≡ y
 some_same x y e = cc

@@ -1,22 +1,13 @@
 -- The goods of a bid line and its `#`: the parser and the definitions agree.
-use Rattle.std.proofs.Common.{rules, ◌≡◌, ℕ, ◌+◌, ◌-◌, ◌<◌, ◌≤◌, Bool, true, false, not, ◌&&◌, cond, eqb, ltb, leb, List, [], ◌∷◌, ◌++◌, length, refl, sym, ap}
-use Rattle.std.proofs.Common.{ap₂, ◌∙◌, subst, arith, Option, Some, None, Ok, Err}
-use Rattle.std.proofs.lemmas.Bool.{ltb-true, ltb-false, le-leb, lt-leb, leb-true, leb-false, eqb-true, eqb-false, eq-eqb, ne_eqb}
-use Rattle.std.specs.List.{list_any, find}
-use Rattle.std.specs.Option.{option_map, is_some}
-use Rattle.cats_text.specs.Numbers.{is_number, number_of}
-use Rattle.goods_set.specs.Bundles.{has_good}
-use Rattle.cats_text.specs.Faults.{header_value, word_fault, when, has_end, is_end}
-use Rattle.cats_text.specs.FileLines.{before_end, real_goods, dummy_in}
-use Rattle.cats_text.specs.Internal.Progress.{Progress}
-use Rattle.cats_text.specs.Internal.Parsing.{good_or_end_read, good_read, dummy_read, end_read}
-use Rattle.cats_text.specs.declared.read_fault.Kind.{Kind}
+use Rattle.cats_text.proofs.Common.{rules, ◌≡◌, ℕ, ◌+◌, ◌-◌, ◌<◌, ◌≤◌, Bool, true, false, not, ◌&&◌, cond, eqb, ltb, leb, List, [], ◌∷◌, ◌++◌, length, refl}
+use Rattle.cats_text.proofs.Common.{sym, ap, ap₂, ◌∙◌, subst, arith, Option, Some, None, Ok, Err, ltb-true, ltb-false, le-leb, lt-leb, leb-true, leb-false}
+use Rattle.cats_text.proofs.Common.{eqb-true, eqb-false, eq-eqb, ne_eqb, list_any, find, is_some, is_number, number_of, has_good, header_value, word_fault}
+use Rattle.cats_text.proofs.Common.{when, has_end, is_end, before_end, real_goods, dummy_in, Progress, good_or_end_read, good_read, dummy_read, end_read, Kind}
+use Rattle.cats_text.proofs.Common.{Keyword, Number, End, Other, Ended, Header, MAX_GOODS, MAX_DUMMY, common_steps}
+use Rattle.std.specs.Option.{option_map}
 use Rattle.cats_text.specs.declared.read_fault.Kind.TheVariants as kinds
 use Rattle.cats_text.specs.declared.word.Word.{Word}
-use Rattle.cats_text.specs.declared.word.Word.TheVariants.{Keyword, Number, Decimal as Fraction, End, Other}
-use Rattle.cats_text.specs.declared.parser.Column.TheVariants.{Ended}
-use Rattle.cats_text.specs.declared.parser.Header.{Header}
-use Rattle.bid_file.specs.declared.limits.TheConstants.{MAX_GOODS, MAX_DUMMY}
+use Rattle.cats_text.specs.declared.word.Word.TheVariants.{Decimal as Fraction}
 use Rattle.cats_text.proofs.Words.Kept.{Summarises}
 use Rattle.cats_text.proofs.Words.Tests.{IsTested, is_number_by, ends_by}
 use Rattle.cats_text.proofs.Parsing.States.{IsAt, WordFollows, HasOneDummy, ended_column, with_words}
@@ -25,7 +16,6 @@ use Rattle.cats_text.proofs.Parsing.Bids.{follow_test, fault_named, passes}
 use Rattle.cats_text.proofs.Parsing.GoodsSoFar.{values, before_end-all, before_end-ended, before_end-push, has_end-push, values-push, any_find, any_values}
 use Rattle.cats_text.proofs.Parsing.GoodsSoFar.{find_passes, has_filtered, none_real, no_dummy_has_not, other_dummy_has_not, one_more_real, first_dummy}
 use Rattle.cats_text.proofs.Parsing.GoodsSoFar.{real_goods-real, real_goods-dummy, dummy_in-real, dummy_in-dummy}
-use Rattle.std.proofs.lemmas.Grind.{common_steps}
 
 -- the tests of a good, in the order of the definitions
 abbrev tests_from_range : ℕ → ℕ → List (List ℕ) → List ℕ → Option Kind

@@ -1,20 +1,10 @@
 -- The goods of a bid so far: what the parser keeps of them answers the tests of the next.
-use Rattle.std.proofs.Common.{◌≡◌, ◌≢◌, ℕ, ◌-◌, ◌<◌, ◌≤◌, Bool, true, false, not, ◌||◌, cond, eqb, ltb, leb, ◌⊎◌, List, []}
-use Rattle.std.proofs.Common.{◌∷◌, ◌++◌, length, map, refl, ap, ◌∙◌, arith, Some, None, append-nil}
-use Rattle.std.proofs.lemmas.Bool.{eqb-true, eq-eqb, ne_eqb, ltb-false, lt-ltb, le-ltb, le-leb, lt-leb, leb-true, both_ways, false_from_ne_true, or_cases}
-use Rattle.std.proofs.lemmas.Bool.{or_right}
-use Rattle.std.proofs.lemmas.List.{map-append}
-use Rattle.std.proofs.lemmas.List.Folds.{find-append, list_any-append}
-use Rattle.std.proofs.lemmas.List.Elements.{filter-append}
-use Rattle.std.specs.List.{find, filter, list_any}
-use Rattle.std.specs.Option.{is_some}
-use Rattle.cats_text.specs.Lines.{Word}
-use Rattle.cats_text.specs.Numbers.{number_of}
-use Rattle.goods_set.specs.Bundles.{has_good}
-use Rattle.cats_text.specs.Faults.{has_end, is_end}
-use Rattle.cats_text.specs.FileLines.{before_end, real_goods, dummy_in}
+use Rattle.cats_text.proofs.Common.{◌≡◌, ◌≢◌, ℕ, ◌-◌, ◌<◌, ◌≤◌, Bool, true, false, not, ◌||◌, cond, eqb, ltb, leb, ◌⊎◌, List, [], ◌∷◌, ◌++◌, length, map, refl}
+use Rattle.cats_text.proofs.Common.{ap, ◌∙◌, arith, Some, None, append-nil, eqb-true, eq-eqb, ne_eqb, ltb-false, lt-ltb, le-ltb, le-leb, lt-leb, leb-true}
+use Rattle.cats_text.proofs.Common.{both_ways, false_from_ne_true, or_cases, or_right, map-append, find-append, list_any-append, filter-append, find, list_any}
+use Rattle.cats_text.proofs.Common.{is_some, Word, number_of, has_good, has_end, is_end, before_end, real_goods, dummy_in, common_steps}
+use Rattle.std.specs.List.{filter}
 use Rattle.cats_text.proofs.Parsing.States.{HasOneDummy}
-use Rattle.std.proofs.lemmas.Grind.{common_steps}
 
 abbrev pub values : List Word → List ℕ
 values gs = map number_of gs

@@ -1,28 +1,16 @@
 -- The words of the header lines: the parser and the definitions agree.
-use Rattle.std.proofs.Common.{◌≡◌, ℕ, ◌<◌, ◌≤◌, true, false, not, cond, ltb, leb, ⊎_elim, List, [], ◌∷◌, ◌++◌, refl, sym, ap, ap₂, ◌∙◌, subst, arith}
-use Rattle.std.proofs.Common.{Option, None, Ok, Err}
-use Rattle.std.proofs.lemmas.Bool.{ltb-false, lt-ltb, le-leb, both_ways}
-use Rattle.cats_text.specs.Numbers.{is_number, number_of}
-use Rattle.cats_text.specs.Faults.{header_word, word_fault, when, header_value}
-use Rattle.cats_text.specs.Internal.Keywords.{keyword_text}
-use Rattle.cats_text.specs.Internal.Progress.{Progress}
-use Rattle.cats_text.specs.Internal.Parsing.{Reading, keyword_read, header_number_read, number_read, price_read, good_or_end_read, word_read}
-use Rattle.cats_text.specs.declared.read_fault.Kind.{Kind}
+use Rattle.cats_text.proofs.Common.{◌≡◌, ℕ, ◌<◌, ◌≤◌, true, false, not, cond, ltb, leb, ⊎_elim, List, [], ◌∷◌, ◌++◌, refl, sym, ap, ap₂, ◌∙◌, subst, arith}
+use Rattle.cats_text.proofs.Common.{Option, None, Ok, Err, ltb-false, lt-ltb, le-leb, both_ways, is_number, number_of, header_word, word_fault, when}
+use Rattle.cats_text.proofs.Common.{header_value, keyword_text, Progress, Reading, keyword_read, header_number_read, number_read, price_read, good_or_end_read}
+use Rattle.cats_text.proofs.Common.{word_read, Kind, Keyword, Number, HELD, Stage, Goods, Bids, Dummy, Bid, Column, First, Second, Later, Ended, MAX_GOODS}
+use Rattle.cats_text.proofs.Common.{MAX_BIDS, MAX_DUMMY, common_steps}
 use Rattle.cats_text.specs.declared.read_fault.Kind.TheVariants as kinds
 use Rattle.cats_text.specs.declared.word.Keyword.{Keyword as Key}
 use Rattle.cats_text.specs.declared.word.Keyword.TheVariants as keywords
 use Rattle.cats_text.specs.declared.word.Word.{Word}
-use Rattle.cats_text.specs.declared.word.Word.TheVariants.{Keyword, Number}
-use Rattle.cats_text.specs.declared.word.TheConstants.{HELD}
-use Rattle.cats_text.specs.declared.parser.Stage.{Stage}
-use Rattle.cats_text.specs.declared.parser.Stage.TheVariants.{Goods, Bids, Dummy, Bid}
-use Rattle.cats_text.specs.declared.parser.Column.{Column}
-use Rattle.cats_text.specs.declared.parser.Column.TheVariants.{First, Second, Later, Ended}
-use Rattle.bid_file.specs.declared.limits.TheConstants.{MAX_GOODS, MAX_BIDS, MAX_DUMMY}
 use Rattle.cats_text.proofs.Words.Kept.{Summarises, Holds}
 use Rattle.cats_text.proofs.Words.Tests.{IsTested, is_number_by, is_keyword_by}
 use Rattle.cats_text.proofs.Parsing.States.{IsAt, WordFollows, with_words}
-use Rattle.std.proofs.lemmas.Grind.{common_steps}
 
 -- ---- a word by its column, the column and the line given
 

@@ -1,25 +1,15 @@
 -- Words, line ends and whole lines: the parser and the definitions agree.
-use Rattle.std.proofs.Common.{rules, ◌≡◌, ℕ, ◌-◌, ◌<◌, Bool, true, false, ltb, List, [], ◌∷◌, length, refl, sym, ap, ap₂, ◌∙◌, subst, arith, Ok, Err}
-use Rattle.std.proofs.Common.{length-append}
-use Rattle.std.proofs.lemmas.Bool.{ltb-true, ltb-false, lt-ltb, le-ltb}
-use Rattle.std.proofs.lemmas.List.Sums.{fold_push}
-use Rattle.cats_text.specs.Faults.{is_line_due, has_end}
-use Rattle.cats_text.specs.FileLines.{bid_of}
-use Rattle.cats_text.specs.Internal.Progress.{Progress}
-use Rattle.cats_text.specs.Internal.Parsing.{Reading, word_read, line_read, with_bid, drafted, is_due}
+use Rattle.cats_text.proofs.Common.{rules, ◌≡◌, ℕ, ◌-◌, ◌<◌, Bool, true, false, ltb, List, [], ◌∷◌, length, refl, sym, ap, ap₂, ◌∙◌, subst, arith, Ok, Err}
+use Rattle.cats_text.proofs.Common.{length-append, ltb-true, ltb-false, lt-ltb, le-ltb, fold_push, is_line_due, has_end, bid_of, Progress, Reading, word_read}
+use Rattle.cats_text.proofs.Common.{line_read, with_bid, drafted, is_due, Stage, Goods, Bids, Dummy, Bid, Column, First, Second, Later, Ended, summary}
+use Rattle.cats_text.proofs.Common.{common_steps}
 use Rattle.cats_text.specs.declared.read_fault.Kind.TheVariants as kinds
-use Rattle.cats_text.specs.declared.parser.Stage.{Stage}
-use Rattle.cats_text.specs.declared.parser.Stage.TheVariants.{Goods, Bids, Dummy, Bid}
-use Rattle.cats_text.specs.declared.parser.Column.{Column}
-use Rattle.cats_text.specs.declared.parser.Column.TheVariants.{First, Second, Later, Ended}
-use Rattle.cats_text.specs.Internal.Machine.{summary}
 use Rattle.cats_text.proofs.Words.Kept.{summarises}
 use Rattle.cats_text.proofs.Words.Tests.{tested}
 use Rattle.cats_text.proofs.Parsing.States.{IsAt, IsDraft, WordFollows, LineFollows, ended_column, kept_slots}
 use Rattle.cats_text.proofs.Parsing.Headers.{read_there, goods_word, bids_word, dummy_word}
 use Rattle.cats_text.proofs.Parsing.Bids.{fault_named, bid_first, bid_second}
 use Rattle.cats_text.proofs.Parsing.Goods.{bid_later}
-use Rattle.std.proofs.lemmas.Grind.{common_steps}
 
 -- ---- a word
 

@@ -1,15 +1,7 @@
 -- Which numbers are taken: a place is filled exactly if a line has its number.
-use Rattle.std.proofs.Common.{◌≡◌, ℕ, zero, suc, ◌<◌, false, ◌||◌, eqb, List, [], ◌∷◌, ◌++◌, length, set, replicate, fold, refl, sym}
-use Rattle.std.proofs.Common.{ap, arith, Option, Some, None, length-append}
-use Rattle.std.proofs.lemmas.Bool.{eqb-true, eqb-false, eq-eqb, ne_eqb}
-use Rattle.std.proofs.lemmas.List.{length-replicate}
-use Rattle.std.specs.List.{slice_get, list_any}
-use Rattle.cats_text.specs.Lines.{Word}
-use Rattle.bid_file.specs.Files.{PlainBid}
-use Rattle.cats_text.specs.Grammar.{line_number}
-use Rattle.cats_text.specs.Internal.Kept.{is_some_bid}
-use Rattle.cats_text.specs.FileLines.{put_slot}
-use Rattle.std.proofs.lemmas.Grind.{common_steps}
+use Rattle.cats_text.proofs.Common.{◌≡◌, ℕ, zero, suc, ◌<◌, false, ◌||◌, eqb, List, [], ◌∷◌, ◌++◌, length, set, replicate, fold, refl, sym, ap, arith, Option}
+use Rattle.cats_text.proofs.Common.{Some, None, length-append, eqb-true, eqb-false, eq-eqb, ne_eqb, length-replicate, slice_get, list_any, Word, PlainBid}
+use Rattle.cats_text.proofs.Common.{line_number, is_some_bid, put_slot, common_steps}
 
 taken_set : (xs : List (Option PlainBid)) (n : ℕ) (b : PlainBid) (k : ℕ) → n < length xs → is_some_bid (slice_get (set xs n (Some b)) k)
     ≡ (eqb n k || is_some_bid (slice_get xs k))

@@ -1,24 +1,8 @@
 -- What the parser keeps, as a function of the lines before and the words before in a line.
-use Rattle.std.proofs.Common.{◌≡◌, ℕ, ◌-◌, ◌≤◌, Bool, true, false, leb, List, [], ◌∷◌, ◌++◌, length, drop, map, fold, Option, Some, None, Ok, Err}
-use Rattle.std.specs.List.{find}
-use Rattle.cats_text.specs.Lines.{Word}
-use Rattle.cats_text.specs.Numbers.{number_of, price_of}
-use Rattle.goods_set.specs.Bundles.{has_good}
-use Rattle.cats_text.specs.Grammar.{line_number}
-use Rattle.cats_text.specs.Faults.{header_value, has_end, word_fault, end_fault}
-use Rattle.cats_text.specs.FileLines.{before_end, real_goods, dummy_in, bid_of, put_slot}
-use Rattle.bid_file.specs.Files.{PlainBid}
-use Rattle.cats_text.specs.Internal.Progress.{Progress}
-use Rattle.cats_text.specs.Internal.Parsing.{Reading}
-use Rattle.cats_text.specs.declared.parser.Stage.{Stage}
-use Rattle.cats_text.specs.declared.parser.Stage.TheVariants.{Goods, Bids, Dummy, Bid}
-use Rattle.cats_text.specs.declared.parser.Column.{Column}
-use Rattle.cats_text.specs.declared.parser.Column.TheVariants.{First, Second, Later, Ended}
-use Rattle.cats_text.specs.declared.parser.Draft.{Draft}
-use Rattle.cats_text.specs.declared.parser.Header.{Header}
-use Rattle.bid_file.specs.declared.limits.TheConstants.{MAX_GOODS, MAX_BIDS, MAX_DUMMY}
-use Rattle.std.proofs.Common.{arith}
-use Rattle.std.proofs.lemmas.Grind.{common_steps}
+use Rattle.cats_text.proofs.Common.{◌≡◌, ℕ, ◌-◌, ◌≤◌, Bool, true, false, leb, List, [], ◌∷◌, ◌++◌, length, drop, map, fold, Option, Some, None, Ok, Err, find}
+use Rattle.cats_text.proofs.Common.{Word, number_of, price_of, has_good, line_number, header_value, has_end, word_fault, end_fault, before_end, real_goods}
+use Rattle.cats_text.proofs.Common.{dummy_in, bid_of, put_slot, PlainBid, Progress, Reading, Stage, Goods, Bids, Dummy, Bid, Column, First, Second, Later}
+use Rattle.cats_text.proofs.Common.{Ended, Draft, Header, MAX_GOODS, MAX_BIDS, MAX_DUMMY, arith, common_steps}
 
 abbrev pub stage_of : List (List Word) → Stage
 stage_of [] = Goods

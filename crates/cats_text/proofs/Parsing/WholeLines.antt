@@ -1,19 +1,10 @@
 -- All words of a line, and all lines: the parser and the definitions agree.
-use Rattle.std.proofs.Common.{◌≡◌, ℕ, suc, ◌<◌, Bool, true, false, ◌&&◌, ◌||◌, cond, List, [], ◌∷◌, ◌++◌, length, map, refl, sym, ap, subst, arith, Some}
-use Rattle.std.proofs.Common.{None, Result, Ok, Err, append-nil, append_assoc}
-use Rattle.std.proofs.lemmas.Bool.{both_ways}
-use Rattle.std.specs.Option.{option_or}
-use Rattle.std.specs.List.{AllByRecursion}
-use Rattle.cats_text.specs.Lines.{Word, Line}
-use Rattle.cats_text.specs.Faults.{words_fault, line_fault, lines_fault, fault_at, is_line_due}
-use Rattle.cats_text.specs.Internal.Progress.{Progress}
-use Rattle.cats_text.specs.Internal.Parsing.{Reading, word_read, line_read, is_due}
-use Rattle.cats_text.specs.declared.read_fault.Kind.TheVariants.{Missing}
-use Rattle.cats_text.specs.declared.read_fault.ReadFault.{ReadFault}
-use Rattle.cats_text.specs.Internal.Machine.{summary}
+use Rattle.cats_text.proofs.Common.{◌≡◌, ℕ, suc, ◌<◌, Bool, true, false, ◌&&◌, ◌||◌, cond, List, [], ◌∷◌, ◌++◌, length, map, refl, sym, ap, subst, arith, Some}
+use Rattle.cats_text.proofs.Common.{None, Result, Ok, Err, append-nil, append_assoc, both_ways, option_or, AllByRecursion, Word, Line, words_fault, line_fault}
+use Rattle.cats_text.proofs.Common.{lines_fault, fault_at, is_line_due, Progress, Reading, word_read, line_read, is_due, Missing, ReadFault, summary}
+use Rattle.cats_text.proofs.Common.{common_steps}
 use Rattle.cats_text.proofs.Parsing.States.{IsAt, WordFollows}
 use Rattle.cats_text.proofs.Parsing.Lines.{word_step, line_step, due_step}
-use Rattle.std.proofs.lemmas.Grind.{common_steps}
 
 abbrev pub IsWord : Word → Type 0
 IsWord w = 0 < length w

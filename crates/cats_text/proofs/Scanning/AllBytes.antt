@@ -1,22 +1,11 @@
 -- From bytes to lines: the scanner over a whole text gives what the parser gives over its significant lines.
-use Rattle.std.proofs.Common.{rules, ◌≡◌, ℕ, suc, ◌<◌, Bool, true, false, ◌&&◌, ◌||◌, cond, eqb, List, [], ◌∷◌, ◌++◌, length, refl, sym, ap, ◌∙◌, subst, arith}
-use Rattle.std.proofs.Common.{Ok, Err, append-nil}
-use Rattle.std.proofs.lemmas.Bool.{both_ways, eqb-true}
-use Rattle.std.specs.List.{AllByRecursion}
-use Rattle.cats_text.specs.Lines.{Word, RawLine, raw_lines, with_byte, line_words, is_significant, is_blank}
-use Rattle.cats_text.specs.Faults.{fault_at}
-use Rattle.cats_text.specs.Internal.Progress.{Progress}
-use Rattle.cats_text.specs.Internal.Parsing.{Reading, line_read, is_due}
-use Rattle.cats_text.specs.Internal.Scanning.{State, Scan, and_then, scan, byte_step, blank_step, words_step, next_line, end_step, missing_step, line_behind}
-use Rattle.cats_text.specs.Internal.Scanning.{with_reading, letter_mode}
-use Rattle.cats_text.specs.declared.read_fault.Kind.TheVariants.{Missing}
-use Rattle.cats_text.specs.declared.read_fault.ReadFault.{ReadFault}
-use Rattle.cats_text.specs.declared.scanner.Mode.{Mode}
-use Rattle.cats_text.specs.declared.scanner.Mode.TheVariants.{Start, Blank, Comment, Between, Inside}
-use Rattle.cats_text.specs.Internal.Machine.{word_from}
+use Rattle.cats_text.proofs.Common.{rules, ◌≡◌, ℕ, suc, ◌<◌, Bool, true, false, ◌&&◌, ◌||◌, cond, eqb, List, [], ◌∷◌, ◌++◌, length, refl, sym, ap, ◌∙◌, subst}
+use Rattle.cats_text.proofs.Common.{arith, Ok, Err, append-nil, both_ways, eqb-true, AllByRecursion, Word, RawLine, raw_lines, with_byte, line_words}
+use Rattle.cats_text.proofs.Common.{is_significant, is_blank, fault_at, Progress, Reading, line_read, is_due, State, Scan, and_then, scan, byte_step}
+use Rattle.cats_text.proofs.Common.{blank_step, words_step, next_line, end_step, missing_step, line_behind, with_reading, letter_mode, Missing, ReadFault, Mode}
+use Rattle.cats_text.proofs.Common.{Start, Blank, Comment, Between, Inside, word_from, common_steps}
 use Rattle.cats_text.proofs.Scanning.Lines.{byte_blank, byte_letter, and_then-assoc, scan-append, IsNoEnd, standing, lifted, fresh_outcome, quiet, from_start}
 use Rattle.cats_text.proofs.Parsing.WholeLines.{words_read, reading_then, on_line, Scanned, scanned_then}
-use Rattle.std.proofs.lemmas.Grind.{common_steps}
 
 -- ---- a text as its lines
 

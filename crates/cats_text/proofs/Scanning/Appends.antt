@@ -1,15 +1,8 @@
 -- Bytes that come in pieces: what is decided, waits and runs over an append.
-use Rattle.std.proofs.Common.{rules, ◌≡◌, ℕ, suc, ◌+◌, ◌≤◌, ◌==◌, Bool, true, false, List, [], ◌∷◌, ◌++◌, length, refl, arith, inr, Ok, Err, IfOk, IsOkAnd}
-use Rattle.std.proofs.Common.{if◌then◌else◌}
-use Rattle.cats_text.specs.Lines.{is_blank}
-use Rattle.cats_text.specs.Internal.Returns.{settled, settle}
-use Rattle.cats_text.specs.declared.read_fault.ReadFault.{ReadFault}
-use Rattle.cats_text.specs.declared.scanner.Mode.{Mode}
-use Rattle.cats_text.specs.declared.scanner.Mode.TheVariants.{Between, Inside}
-use Rattle.cats_text.specs.Internal.Parsing.{Reading, word_read, line_read}
-use Rattle.cats_text.specs.Internal.Scanning.{State, Scan, and_then, with_reading, blank_step_at, blank_step, words_step_at, line_step, byte_step, scan}
-use Rattle.cats_text.specs.Internal.Scanning.{MeetsBidLine}
-use Rattle.std.proofs.lemmas.Grind.{common_steps}
+use Rattle.cats_text.proofs.Common.{rules, ◌≡◌, ℕ, suc, ◌+◌, ◌≤◌, ◌==◌, Bool, true, false, List, [], ◌∷◌, ◌++◌, length, refl, arith, inr, Ok, Err, IfOk}
+use Rattle.cats_text.proofs.Common.{IsOkAnd, if◌then◌else◌, is_blank, settled, settle, ReadFault, Mode, Between, Inside, Reading, word_read, line_read, State}
+use Rattle.cats_text.proofs.Common.{Scan, and_then, with_reading, blank_step_at, blank_step, words_step_at, line_step, byte_step, scan, MeetsBidLine}
+use Rattle.cats_text.proofs.Common.{common_steps}
 
 abbrev ok : State → Scan
 ok t = Ok t

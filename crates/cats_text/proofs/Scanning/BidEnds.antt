@@ -1,21 +1,10 @@
 -- The `#` and the LF that end a bid line.
-use Rattle.std.proofs.Common.{rules, ◌≡◌, ◌≢◌, ℕ, ◌+◌, ◌<◌, Bool, true, false, cond, eqb, List, length, get_or, refl, sym, ap, subst, ◌∙◌, arith, Ok, Err}
-use Rattle.std.proofs.Common.{add-one}
-use Rattle.std.proofs.lemmas.Bool.{eqb-true}
-use Rattle.cats_text.specs.Internal.LeadingToken.{IsLeadingToken}
-use Rattle.cats_text.specs.Internal.Parsing.{word_read, line_read, end_read, bid_closed, with_bid}
-use Rattle.cats_text.specs.Internal.Progress.{Progress, Gives}
-use Rattle.cats_text.specs.Internal.Scanning.{State, byte_step, is_before_word, IsGoodDue, ScansTo}
-use Rattle.cats_text.specs.declared.read_fault.Kind.{Kind}
-use Rattle.cats_text.specs.declared.read_fault.Kind.TheVariants.{EmptyBundle}
-use Rattle.cats_text.specs.declared.parser.Column.TheVariants.{Later, Ended}
-use Rattle.cats_text.specs.declared.parser.Stage.TheVariants.{Bid}
-use Rattle.cats_text.specs.declared.scanner.Mode.TheVariants.{Start}
+use Rattle.cats_text.proofs.Common.{rules, ◌≡◌, ◌≢◌, ℕ, ◌+◌, ◌<◌, Bool, true, false, cond, eqb, List, length, get_or, refl, sym, ap, subst, ◌∙◌, arith, Ok, Err}
+use Rattle.cats_text.proofs.Common.{add-one, eqb-true, IsLeadingToken, word_read, line_read, end_read, bid_closed, with_bid, Progress, Gives, State, byte_step}
+use Rattle.cats_text.proofs.Common.{is_before_word, IsGoodDue, ScansTo, Kind, EmptyBundle, Later, Ended, Bid, Start, End, common_steps}
 use Rattle.cats_text.specs.declared.word.Word.{Word}
-use Rattle.cats_text.specs.declared.word.Word.TheVariants.{End}
 use Rattle.cats_text.proofs.Scanning.Rests.{scan_byte_at}
 use Rattle.cats_text.proofs.Scanning.WholeWords.{behind_word, word_taken, word_halts, stops_in}
-use Rattle.std.proofs.lemmas.Grind.{common_steps}
 
 -- behind a word of one byte with no blank there is LF
 token_one : (bytes : List ℕ) (w : Word) → IsLeadingToken bytes w 1 → (1 < length bytes) × (get_or bytes 1 0 ≡ 10)

@@ -1,35 +1,21 @@
 -- Where the scanner is in a bid line, a fourth significant line has begun. The idea: count the lines that begin, byte by byte,
 -- and the header lines that have ended by the parser's stage.
-use Rattle.std.proofs.Common.{rules, ◌≡◌, ℕ, suc, ◌+◌, ◌≤◌, Option, Some, None, Bool, true, false, not, cond, eqb, ltb, ⊎_elim, List, [], ◌∷◌, ◌++◌, length, ap}
-use Rattle.std.proofs.Common.{filter, refl, sym, ◌∙◌, subst, arith, Result, Ok, Err, IsOkAnd}
-use Rattle.std.proofs.lemmas.Bool.{lt-ltb}
-use Rattle.cats_text.specs.Lines.{Word, RawLine, Line, raw_lines, lines_with, with_byte, line_words, words_with, with_letter, begins_word, is_significant}
-use Rattle.cats_text.specs.Lines.{is_blank, numbered, blank_returns, significant_lines}
-use Rattle.cats_text.specs.Faults.{has_bid_line}
-use Rattle.cats_text.specs.Internal.Progress.{Progress}
-use Rattle.cats_text.specs.Internal.Parsing.{Reading, keyword_read, header_number_read, number_read, price_parts, with_price, price_read, dummy_read, word_read}
-use Rattle.cats_text.specs.Internal.Parsing.{good_or_end_read, line_read}
-use Rattle.cats_text.specs.declared.read_fault.Kind.{Kind}
+use Rattle.cats_text.proofs.Common.{rules, ◌≡◌, ℕ, suc, ◌+◌, ◌≤◌, Option, Some, None, Bool, true, false, not, cond, eqb, ltb, ⊎_elim, List, [], ◌∷◌, ◌++◌}
+use Rattle.cats_text.proofs.Common.{length, ap, filter, refl, sym, ◌∙◌, subst, arith, Result, Ok, Err, IsOkAnd, lt-ltb, Word, RawLine, Line, raw_lines}
+use Rattle.cats_text.proofs.Common.{lines_with, with_byte, line_words, words_with, with_letter, begins_word, is_significant, is_blank, numbered, blank_returns}
+use Rattle.cats_text.proofs.Common.{significant_lines, has_bid_line, Progress, Reading, keyword_read, header_number_read, number_read, price_parts, with_price}
+use Rattle.cats_text.proofs.Common.{price_read, dummy_read, word_read, good_or_end_read, line_read, Kind, Keyword, Number, End, PlainBid, Column, First, Second}
+use Rattle.cats_text.proofs.Common.{Later, Ended, MAX_GOODS, MAX_BIDS, MAX_DUMMY, State, Scan, and_then, byte_step, blank_step, words_step, line_step}
+use Rattle.cats_text.proofs.Common.{next_line, with_reading, letter_mode, MeetsBidLine, IsInBidLine, IsInLine, first_state, word_from, Stage, Goods, Bids}
+use Rattle.cats_text.proofs.Common.{Dummy, Bid, Mode, Start, Blank, Comment, Between, Inside, common_steps}
 use Rattle.cats_text.specs.declared.read_fault.Kind.TheVariants as kinds
 use Rattle.cats_text.specs.declared.word.Keyword.{Keyword as Key}
 use Rattle.cats_text.specs.declared.word.Keyword.TheVariants as keywords
-use Rattle.cats_text.specs.declared.word.Word.TheVariants.{Keyword, Number, Decimal as Fraction, End}
-use Rattle.bid_file.specs.Files.{PlainBid}
-use Rattle.cats_text.specs.declared.parser.Column.{Column}
-use Rattle.cats_text.specs.declared.parser.Column.TheVariants.{First, Second, Later, Ended}
-use Rattle.bid_file.specs.declared.limits.TheConstants.{MAX_GOODS, MAX_BIDS, MAX_DUMMY}
+use Rattle.cats_text.specs.declared.word.Word.TheVariants.{Decimal as Fraction}
 use Rattle.cats_text.proofs.Parsing.Headers.{read_at}
 use Rattle.cats_text.proofs.Parsing.Lines.{line_at}
-use Rattle.cats_text.specs.Internal.Scanning.{State, Scan, and_then, byte_step, blank_step, words_step, line_step, next_line, with_reading, letter_mode}
-use Rattle.cats_text.specs.Internal.Scanning.{MeetsBidLine, IsInBidLine, IsInLine, first_state}
-use Rattle.cats_text.specs.Internal.Machine.{word_from}
 use Rattle.cats_text.specs.declared.word.Word.{Word as Kept}
-use Rattle.cats_text.specs.declared.parser.Stage.{Stage}
-use Rattle.cats_text.specs.declared.parser.Stage.TheVariants.{Goods, Bids, Dummy, Bid}
-use Rattle.cats_text.specs.declared.scanner.Mode.{Mode}
-use Rattle.cats_text.specs.declared.scanner.Mode.TheVariants.{Start, Blank, Comment, Between, Inside}
 use Rattle.cats_text.proofs.Scanning.Lines.{standing, words_blank}
-use Rattle.std.proofs.lemmas.Grind.{common_steps}
 
 -- ---- how many significant lines begin in the bytes
 

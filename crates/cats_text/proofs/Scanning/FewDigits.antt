@@ -1,20 +1,12 @@
 -- The digits at the start of bytes and the number that they spell, where they are few.
-use Rattle.std.proofs.Common.{rules, ◌≡◌, ℕ, suc, ◌+◌, ◌-◌, ◌*◌, ◌%◌, ◌^◌, ◌<◌, ◌≤◌, min, true, false, cond, List, [], ◌∷◌, length, take, drop, slice_range, ap}
-use Rattle.std.proofs.Common.{fold, Option, Some, None, IfSome, refl, sym, ◌∙◌, subst, arith, lt_of_lt_of_le}
-use Rattle.std.proofs.Math.Nat.{pow-suc, pow-le-pow_right, mod-eq_of_lt}
-use Rattle.std.proofs.lemmas.Bool.{and_parts, and_from, lt-ltb}
-use Rattle.std.proofs.lemmas.List.{length-take, take-take}
-use Rattle.std.specs.Char.{digit_value}
-use Rattle.std.specs.Float.Numeral.{digits_len}
-use Rattle.std.specs.Str.Parse.{digits_value, digits_value_after}
-use Rattle.core.proofs.dec2flt.DigitsLemmas.{is_digit as digit_worth, digits_len_short}
-use Rattle.cats_text.specs.Numbers.{is_digit, digits_alone}
-use Rattle.cats_text.specs.Internal.Machine.{word_with}
-use Rattle.cats_text.specs.declared.word.Word.TheVariants.{Number}
+use Rattle.cats_text.proofs.Common.{rules, ◌≡◌, ℕ, suc, ◌+◌, ◌-◌, ◌*◌, ◌%◌, ◌^◌, ◌<◌, ◌≤◌, min, true, false, cond, List, [], ◌∷◌, length, take, drop}
+use Rattle.cats_text.proofs.Common.{slice_range, ap, fold, Option, Some, None, IfSome, refl, sym, ◌∙◌, subst, arith, lt_of_lt_of_le, pow-suc, pow-le-pow_right}
+use Rattle.cats_text.proofs.Common.{mod-eq_of_lt, and_parts, and_from, lt-ltb, length-take, digit_value, digits_len, digits_value, digits_value_after}
+use Rattle.cats_text.proofs.Common.{digits_len_short, is_digit, digits_alone, word_with, Number, IsNumberSoFar, common_steps}
+use Rattle.std.proofs.lemmas.List.{take-take}
+use Rattle.core.proofs.dec2flt.DigitsLemmas.{is_digit as digit_worth}
 use Rattle.cats_text.proofs.Words.Places.{digit_bounds}
-use Rattle.cats_text.specs.Internal.LeadingToken.{IsNumberSoFar}
 use Rattle.cats_text.proofs.Scanning.ManyBytes.{number_with}
-use Rattle.std.proofs.lemmas.Grind.{common_steps}
 
 digits_in_prefix : (bs : List ℕ) → digits_alone (take (digits_len bs) bs) ≡ true
 digits_in_prefix [] = refl

@@ -1,19 +1,11 @@
 -- What is kept of the word at the start of bytes: of digits, of digits and a point, and of `#`.
-use Rattle.std.proofs.Common.{rules, ◌≡◌, ℕ, ◌+◌, ◌-◌, ◌<◌, ◌≤◌, min, true, false, List, [], ◌∷◌, ◌++◌, length, get_or, take, drop, fold, refl, sym, ap, ◌∙◌}
-use Rattle.std.proofs.Common.{subst, arith, zero, suc, zero-add, eqb}
-use Rattle.std.proofs.lemmas.Bool.{and_parts, both_ways, eqb-true, eq-eqb, or_left, or_right}
-use Rattle.std.proofs.lemmas.List.{length-take, length-drop}
-use Rattle.std.proofs.lemmas.List.Sums.{fold-append}
-use Rattle.std.specs.List.{AllByRecursion}
-use Rattle.cats_text.specs.Lines.{is_blank}
-use Rattle.cats_text.specs.Numbers.{is_digit, digits_alone}
-use Rattle.cats_text.specs.Internal.Machine.{word_from, word_with, summary}
-use Rattle.cats_text.specs.Internal.LeadingToken.{IsPlain, IsKept, IsLeadingToken}
+use Rattle.cats_text.proofs.Common.{rules, ◌≡◌, ℕ, ◌+◌, ◌-◌, ◌<◌, ◌≤◌, min, true, false, List, [], ◌∷◌, ◌++◌, length, get_or, take, drop, fold, refl, sym, ap}
+use Rattle.cats_text.proofs.Common.{◌∙◌, subst, arith, zero, suc, zero-add, eqb, and_parts, both_ways, eqb-true, eq-eqb, or_left, or_right, length-take}
+use Rattle.cats_text.proofs.Common.{length-drop, fold-append, AllByRecursion, is_blank, is_digit, digits_alone, word_from, word_with, summary, IsPlain, IsKept}
+use Rattle.cats_text.proofs.Common.{IsLeadingToken, Decimal, Number, End, common_steps}
 use Rattle.cats_text.specs.declared.word.Word.{Word}
-use Rattle.cats_text.specs.declared.price.Decimal.{Decimal}
-use Rattle.cats_text.specs.declared.word.Word.TheVariants.{Number, Decimal as Fraction, End}
+use Rattle.cats_text.specs.declared.word.Word.TheVariants.{Decimal as Fraction}
 use Rattle.cats_text.proofs.Scanning.ManyBytes.{digits_plain}
-use Rattle.std.proofs.lemmas.Grind.{common_steps}
 
 first_digit : (b : ℕ) → is_digit b ≡ true → word_from b ≡ word_with (Number 0) b
 first_digit b d = rw d (ap (λ n. Number n) (sym (zero-add (b - 48))))

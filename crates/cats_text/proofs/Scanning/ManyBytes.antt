@@ -1,31 +1,17 @@
 -- Several bytes at once: the digits of a number, whole words, and the bytes of a comment.
-use Rattle.std.proofs.Common.{rules, ◌≡◌, ◌≢◌, ℕ, suc, ◌+◌, ◌-◌, ◌*◌, ◌<◌, ◌≤◌, Bool, true, false, not, ◌&&◌, cond, eqb, ltb, List, [], ◌∷◌, ◌++◌, length, take}
-use Rattle.std.proofs.Common.{get_or, drop, fold, refl, sym, ap, ◌∙◌, subst, arith, Ok, add-one, append-nil, Some, None, min}
-use Rattle.std.proofs.lemmas.Bool.{and_parts, and_from, ltb-false, ne_eqb, eq-eqb}
-use Rattle.std.proofs.lemmas.List.Sums.{fold_push}
-use Rattle.std.proofs.Math.Seq.{take-suc, take-length}
-use Rattle.std.specs.List.{AllByRecursion, prefix_len, position_or_len, position}
-use Rattle.std.proofs.lemmas.List.{take-append-drop, length-drop, length-take}
-use Rattle.std.proofs.lemmas.List.Folds.{length-prefix_len}
-use Rattle.std.specs.Option.{unwrap_or}
-use Rattle.cats_text.specs.Lines.{is_blank}
-use Rattle.cats_text.specs.Internal.Returns.{settled, waits, return_byte}
-use Rattle.cats_text.specs.Internal.Progress.{Progress}
-use Rattle.cats_text.specs.Internal.Scanning.{State, scan, and_then, letter_mode, is_before_word, MeetsBidLine, IsScanned}
-use Rattle.cats_text.specs.declared.scanner.Mode.{Mode}
-use Rattle.cats_text.specs.declared.scanner.Mode.TheVariants.{Comment, Between, Inside}
+use Rattle.cats_text.proofs.Common.{rules, ◌≡◌, ◌≢◌, ℕ, suc, ◌+◌, ◌-◌, ◌*◌, ◌<◌, ◌≤◌, Bool, true, false, not, ◌&&◌, cond, eqb, ltb, List, [], ◌∷◌, ◌++◌, length}
+use Rattle.cats_text.proofs.Common.{take, get_or, drop, fold, refl, sym, ap, ◌∙◌, subst, arith, Ok, add-one, append-nil, Some, None, min, and_parts, and_from}
+use Rattle.cats_text.proofs.Common.{ltb-false, ne_eqb, eq-eqb, fold_push, take-suc, take-length, AllByRecursion, prefix_len, position_or_len, position}
+use Rattle.cats_text.proofs.Common.{take-append-drop, length-drop, length-take, length-prefix_len, unwrap_or, is_blank, settled, waits, return_byte, Progress}
+use Rattle.cats_text.proofs.Common.{State, scan, and_then, letter_mode, is_before_word, MeetsBidLine, IsScanned, Mode, Comment, Between, Inside, is_digit}
+use Rattle.cats_text.proofs.Common.{digits_alone, word_from, word_with, decimal_with, summary, IsPlain, IsKept, IsNumberSoFar, Number, Decimal, HELD}
+use Rattle.cats_text.proofs.Common.{common_steps}
 use Rattle.cats_text.proofs.Words.Places.{digit_bounds}
 use Rattle.cats_text.proofs.Scanning.Rests.{settled-other}
 use Rattle.cats_text.proofs.Scanning.Appends.{meets_behind}
 use Rattle.cats_text.proofs.Scanning.Lines.{IsNoEnd, standing, scan-append, in_comment, byte_letter}
-use Rattle.cats_text.specs.Numbers.{is_digit, digits_alone}
-use Rattle.cats_text.specs.Internal.Machine.{word_from, word_with, decimal_with, summary}
-use Rattle.cats_text.specs.Internal.LeadingToken.{IsPlain, IsKept, IsNumberSoFar}
 use Rattle.cats_text.specs.declared.word.Word.{Word}
-use Rattle.cats_text.specs.declared.word.Word.TheVariants.{Number, Decimal as Fraction}
-use Rattle.cats_text.specs.declared.price.Decimal.{Decimal}
-use Rattle.cats_text.specs.declared.word.TheConstants.{HELD}
-use Rattle.std.proofs.lemmas.Grind.{common_steps}
+use Rattle.cats_text.specs.declared.word.Word.TheVariants.{Decimal as Fraction}
 
 take_push : (bytes : List ℕ) (i : ℕ) → i < length bytes → take (i + 1) bytes ≡ take i bytes ++ get_or bytes i 0 ∷ []
 take_push bytes i l = rw add-one (take-suc bytes i 0 l)

@@ -1,16 +1,7 @@
 -- A good that is due is read as any word in its column is.
-use Rattle.std.proofs.Common.{rules, ◌≡◌, ℕ, Bool, true, List, sym, ap, ◌∙◌, subst, false, Ok, Err, arith}
-use Rattle.cats_text.specs.Internal.LeadingToken.{IsLeadingToken}
-use Rattle.cats_text.specs.Internal.Progress.{Progress, Gives}
-use Rattle.cats_text.specs.Internal.Parsing.{good_read, word_read}
-use Rattle.cats_text.specs.Internal.Scanning.{State, IsGoodDue, ScansTo, is_before_word}
-use Rattle.cats_text.specs.declared.read_fault.Kind.{Kind}
-use Rattle.cats_text.specs.declared.parser.Stage.TheVariants.{Bid}
-use Rattle.cats_text.specs.declared.parser.Column.TheVariants.{Later}
-use Rattle.cats_text.specs.declared.scanner.Mode.{Mode}
-use Rattle.cats_text.specs.declared.word.Word.TheVariants.{Number}
+use Rattle.cats_text.proofs.Common.{rules, ◌≡◌, ℕ, Bool, true, List, sym, ap, ◌∙◌, subst, false, Ok, Err, arith, IsLeadingToken, Progress, Gives, good_read}
+use Rattle.cats_text.proofs.Common.{word_read, State, IsGoodDue, ScansTo, is_before_word, Kind, Bid, Later, Mode, Number, common_steps}
 use Rattle.cats_text.proofs.Scanning.WholeWords.{behind_word, word_taken, word_halts, stops_in}
-use Rattle.std.proofs.lemmas.Grind.{common_steps}
 
 good_word : (p : Progress) (n : ℕ) → p.stage ≡ Bid → p.column ≡ Later → word_read p (Number n) ≡ good_read p n
 good_word p n stage column = grind (arith, common_steps)

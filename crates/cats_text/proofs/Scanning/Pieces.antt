@@ -1,18 +1,12 @@
 -- Pieces of a text: what is decided of a CR, what is complete, and what waits.
-use Rattle.std.proofs.Common.{rules, ◌≡◌, ℕ, Bool, true, false, ◌&&◌, cond, eqb, List, [], ◌∷◌, ◌++◌, refl, sym, ap, ap₂, ◌∙◌, subst, Some, None, Ok, Err}
-use Rattle.std.proofs.lemmas.Bool.{both_ways, eqb-true, ne_eqb}
-use Rattle.std.specs.List.{AllByRecursion}
-use Rattle.cats_text.specs.Lines.{is_blank, line_byte, blank_returns}
-use Rattle.cats_text.specs.Faults.{is_final, keep_final, up_to_final, complete_fault}
-use Rattle.cats_text.specs.Internal.Returns.{return_byte, settled, waits, carried}
-use Rattle.cats_text.specs.Internal.Scanning.{State, Scan, first_state, and_then, scan, end_step, end_of, letter_mode}
-use Rattle.bid_file.specs.Files.{PlainBid}
+use Rattle.cats_text.proofs.Common.{rules, ◌≡◌, ℕ, Bool, true, false, ◌&&◌, cond, eqb, List, [], ◌∷◌, ◌++◌, refl, sym, ap, ap₂, ◌∙◌, subst, Some, None, Ok, Err}
+use Rattle.cats_text.proofs.Common.{both_ways, eqb-true, ne_eqb, AllByRecursion, is_blank, line_byte, blank_returns, is_final, keep_final, up_to_final}
+use Rattle.cats_text.proofs.Common.{complete_fault, return_byte, settled, waits, carried, State, Scan, first_state, and_then, scan, end_step, end_of}
+use Rattle.cats_text.proofs.Common.{letter_mode, PlainBid, arith, common_steps}
 use Rattle.cats_text.proofs.Scanning.Lines.{scan-append, byte_letter}
 use Rattle.cats_text.proofs.Parsing.WholeLines.{Scanned}
 use Rattle.cats_text.proofs.Scanning.AllBytes.{outcome}
 use Rattle.cats_text.proofs.Texts.FirstFaults.{EndsFinal, OpenIs, open_fault}
-use Rattle.std.proofs.Common.{arith}
-use Rattle.std.proofs.lemmas.Grind.{common_steps}
 
 -- ---- one piece behind another
 

@@ -1,11 +1,7 @@
 -- A scan of a list of bytes: what is left of it does to the state reached what the whole does to the first.
-use Rattle.std.proofs.Math.ListN.{drop_of_length-le}
-use Rattle.std.proofs.Common.{add-one, drop-cons, ◌≡◌, ◌≢◌, ℕ, ◌+◌, ◌<◌, Bool, true, false, List, [], ◌∷◌, length, drop, get_or, refl, sym, subst}
-use Rattle.std.proofs.Common.{arith, Ok}
-use Rattle.std.proofs.lemmas.Bool.{ne_eqb, eq-eqb}
-use Rattle.cats_text.specs.Internal.Returns.{settled, waits, return_byte}
-use Rattle.cats_text.specs.Internal.Scanning.{State, scan, byte_step, MeetsBidLine, IsScanned}
-use Rattle.std.proofs.lemmas.Grind.{common_steps}
+use Rattle.cats_text.proofs.Common.{drop_of_length-le, add-one, drop-cons, ◌≡◌, ◌≢◌, ℕ, ◌+◌, ◌<◌, Bool, true, false, List, [], ◌∷◌, length, drop, get_or, refl}
+use Rattle.cats_text.proofs.Common.{sym, subst, arith, Ok, ne_eqb, eq-eqb, settled, waits, return_byte, State, scan, byte_step, MeetsBidLine, IsScanned}
+use Rattle.cats_text.proofs.Common.{common_steps}
 
 pub settled-other : (b : ℕ) (rest : List ℕ) → b ≢ 13 → settled (b ∷ rest) ≡ b ∷ settled rest
 settled-other b [] ne = rw (ne_eqb b 13 ne) refl

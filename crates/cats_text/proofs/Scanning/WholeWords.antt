@@ -1,14 +1,7 @@
 -- Whole words at the start of bytes, each read before the byte that ends it.
-use Rattle.std.proofs.Common.{rules, ◌≡◌, ◌≢◌, ℕ, ◌+◌, ◌-◌, ◌<◌, ◌≤◌, Bool, true, false, ◌||◌, cond, eqb, ⊎_elim, inl, inr, List, [], ◌∷◌, length, get_or, take}
-use Rattle.std.proofs.Common.{drop, refl, sym, ap, ◌∙◌, subst, arith, Ok, Err, IsOkAnd}
-use Rattle.std.proofs.lemmas.Bool.{both_ways}
-use Rattle.std.proofs.lemmas.List.{length-drop, drop-drop}
-use Rattle.cats_text.specs.Lines.{is_blank}
-use Rattle.cats_text.specs.Internal.Returns.{settled}
-use Rattle.cats_text.specs.Faults.{fault_at}
-use Rattle.cats_text.specs.Internal.LeadingToken.{IsLeadingToken, ends_word}
-use Rattle.cats_text.specs.Internal.Progress.{Progress, Stops, Gives}
-use Rattle.cats_text.specs.Internal.Parsing.{word_read}
+use Rattle.cats_text.proofs.Common.{rules, ◌≡◌, ◌≢◌, ℕ, ◌+◌, ◌-◌, ◌<◌, ◌≤◌, Bool, true, false, ◌||◌, cond, eqb, ⊎_elim, inl, inr, List, [], ◌∷◌, length, get_or}
+use Rattle.cats_text.proofs.Common.{take, drop, refl, sym, ap, ◌∙◌, subst, arith, Ok, Err, IsOkAnd, both_ways, length-drop, drop-drop, is_blank, settled}
+use Rattle.cats_text.proofs.Common.{fault_at, IsLeadingToken, ends_word, Progress, Stops, Gives, word_read, Kind, Memory, Bid, Between, Inside, common_steps}
 use Rattle.cats_text.specs.Internal.Scanning.{
   State,
   and_then,
@@ -22,14 +15,9 @@ use Rattle.cats_text.specs.Internal.Scanning.{
   Steps,
   Scans,
 }
-use Rattle.cats_text.specs.declared.read_fault.Kind.{Kind}
-use Rattle.cats_text.specs.declared.read_fault.Kind.TheVariants.{Memory}
-use Rattle.cats_text.specs.declared.parser.Stage.TheVariants.{Bid}
-use Rattle.cats_text.specs.declared.scanner.Mode.TheVariants.{Between, Inside}
 use Rattle.cats_text.specs.declared.word.Word.{Word}
 use Rattle.cats_text.proofs.Scanning.Rests.{settled-other, at_place, scan_byte_at, scanned_then}
 use Rattle.cats_text.proofs.Scanning.ManyBytes.{word_scanned, rest_is}
-use Rattle.std.proofs.lemmas.Grind.{common_steps}
 
 -- where a call stopped, the call that made it does
 pub stops_in : (kind : Kind) {N M F G : Type 0} → (N → M) → (F → G) → Stops kind N F → Stops kind M G

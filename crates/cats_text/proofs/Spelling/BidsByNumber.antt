@@ -1,15 +1,10 @@
 -- The bids of lines, each at its number. The idea: each line with a number of its own fills one more place, so as many lines
 -- as there are places fill them all.
-use Rattle.std.proofs.Common.{rules, ◌≡◌, ◌≢◌, ℕ, zero, suc, ◌+◌, ◌-◌, ◌<◌, ◌≤◌, List, [], ◌∷◌, ◌++◌, length, map, replicate, set, get_or, Option, Some, None}
-use Rattle.std.proofs.Common.{refl, sym, ap, ap₂, ◌∙◌, subst, arith, length-append, get_or-set_same, get_or-set_other}
-use Rattle.std.proofs.lemmas.Bool.{cases_eq}
-use Rattle.std.proofs.lemmas.List.{length-replicate, length-set}
-use Rattle.std.specs.List.{AllByRecursion, fold, slice_get}
-use Rattle.cats_text.specs.Lines.{Word}
-use Rattle.bid_file.specs.Files.{PlainBid}
-use Rattle.cats_text.specs.Grammar.{AreDistinct, line_number}
-use Rattle.cats_text.specs.FileLines.{put_slot, filled, bid_of, slots_of}
-use Rattle.std.proofs.lemmas.Grind.{common_steps}
+use Rattle.cats_text.proofs.Common.{rules, ◌≡◌, ◌≢◌, ℕ, zero, suc, ◌+◌, ◌-◌, ◌<◌, ◌≤◌, List, [], ◌∷◌, ◌++◌, length, map, replicate, set, get_or, Option, Some}
+use Rattle.cats_text.proofs.Common.{None, refl, sym, ap, ap₂, ◌∙◌, subst, arith, length-append, get_or-set_same, get_or-set_other, cases_eq, length-replicate}
+use Rattle.cats_text.proofs.Common.{length-set, AllByRecursion, slice_get, Word, PlainBid, AreDistinct, line_number, put_slot, filled, bid_of, slots_of}
+use Rattle.cats_text.proofs.Common.{common_steps}
+use Rattle.std.specs.List.{fold}
 
 abbrev BidsByNumber : Type 0
 BidsByNumber = List (Option PlainBid)

@@ -1,14 +1,8 @@
 -- Lists of numbers in which none is twice. The idea: how often a number is in a list is the same however the list is
 -- ordered, and in a list without repeats it is at most 1; so such a list rises once it is sorted.
-use Rattle.std.proofs.Common.{◌≡◌, ◌≢◌, ℕ, zero, suc, ◌+◌, ◌<◌, ◌≤◌, cond, eqb, List, [], ◌∷◌, length, get_or, refl, sym, subst, arith}
-use Rattle.std.proofs.lemmas.Bool.{eqb-true, eq-eqb, ne_eqb}
-use Rattle.std.proofs.lemmas.List.Sorted.{sum_by-IsPermutation}
-use Rattle.std.proofs.lemmas.List.Sums.{sum_by-cons}
-use Rattle.std.specs.List.{sum_by, AllByRecursion}
-use Rattle.std.specs.List.Sorted.{IsPermutation, IsNonDecreasing}
-use Rattle.goods_set.specs.Bundles.{AreAbove, IsRising}
-use Rattle.cats_text.specs.Grammar.{AreDistinct}
-use Rattle.std.proofs.lemmas.Grind.{common_steps}
+use Rattle.cats_text.proofs.Common.{◌≡◌, ◌≢◌, ℕ, zero, suc, ◌+◌, ◌<◌, ◌≤◌, cond, eqb, List, [], ◌∷◌, length, get_or, refl, sym, subst, arith, eqb-true, eq-eqb}
+use Rattle.cats_text.proofs.Common.{ne_eqb, sum_by-IsPermutation, sum_by-cons, sum_by, AllByRecursion, IsPermutation, IsNonDecreasing, AreAbove, IsRising}
+use Rattle.cats_text.proofs.Common.{AreDistinct, common_steps}
 
 abbrev one_at : ℕ → ℕ → ℕ
 one_at g x = cond (eqb x g) 1 0

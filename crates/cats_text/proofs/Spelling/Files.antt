@@ -1,21 +1,14 @@
 -- A text without a fault spells the file that it says, and a text that spells a file has no fault and says that file.
-use Rattle.std.proofs.Common.{rules, ◌≡◌, ℕ, ◌≤◌, cond, ◌⊎◌, inl, inr, List, [], ◌∷◌, length, Option, Some, None, refl, sym, ap, ◌∙◌, subst, arith}
-use Rattle.std.specs.List.{AllByRecursion, slice_get}
+use Rattle.cats_text.proofs.Common.{rules, ◌≡◌, ℕ, ◌≤◌, cond, ◌⊎◌, inl, inr, List, [], ◌∷◌, length, Option, Some, None, refl, sym, ap, ◌∙◌, subst, arith}
+use Rattle.cats_text.proofs.Common.{AllByRecursion, slice_get, Word, significant_lines, line_count, number_of, PlainFile, IsBid, IsPlainFile, Spells, SpellsBid}
+use Rattle.cats_text.proofs.Common.{SpellsNumber, line_number, significant_words, bounds_of, header_value, first_fault, filled, bid_of, slots_of, file_of_lines}
+use Rattle.cats_text.proofs.Common.{spelled_file, ReadFault, MAX_GOODS, MAX_BIDS, MAX_DUMMY, common_steps}
 use Rattle.std.specs.Prelude.{codes}
-use Rattle.cats_text.specs.Lines.{Word, significant_lines, line_count}
-use Rattle.cats_text.specs.Numbers.{number_of}
-use Rattle.bid_file.specs.Files.{PlainFile, IsBid, IsPlainFile}
-use Rattle.cats_text.specs.Grammar.{Spells, SpellsBid, SpellsNumber, line_number, significant_words}
-use Rattle.cats_text.specs.Faults.{bounds_of, header_value, first_fault}
-use Rattle.cats_text.specs.FileLines.{filled, bid_of, slots_of, file_of_lines, spelled_file}
-use Rattle.cats_text.specs.declared.read_fault.ReadFault.{ReadFault}
-use Rattle.bid_file.specs.declared.limits.TheConstants.{MAX_GOODS, MAX_BIDS, MAX_DUMMY}
 use Rattle.cats_text.proofs.Spelling.BidsByNumber.{FillPlaces, length_bids, bids_stand, bids_all, bids_are}
 use Rattle.cats_text.proofs.Spelling.Tests.{IsHeader, header_number}
 use Rattle.cats_text.proofs.Spelling.Goods.{IsBidLine}
 use Rattle.cats_text.proofs.Spelling.Lines.{words_from, words_none, AreBidLines, AreFileLines, lines_from, lines_none, fill_places}
 use Rattle.cats_text.proofs.Spelling.Bids.{line_is_bid, line_spells, file_bounds, spelled_line, spelled_bid}
-use Rattle.std.proofs.lemmas.Grind.{common_steps}
 
 all_same : (P Q : List Word → Type 0) → ((x : List Word) → P x → Q x) → (xs : List (List Word)) → AllByRecursion P xs → AllByRecursion Q xs
 all_same P Q h [] a = tt

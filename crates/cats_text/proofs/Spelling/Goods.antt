@@ -1,21 +1,13 @@
 -- Bid lines without a fault: a number, a price, and goods up to `#`.
-use Rattle.std.proofs.Common.{rules, ◌≡◌, ℕ, ◌+◌, ◌<◌, Bool, true, false, not, cond, eqb, ltb, leb, ◌||◌, ◌&&◌, ⊎_elim, List, [], ◌∷◌, ◌++◌, length, map, None}
-use Rattle.std.proofs.Common.{Option, refl, sym, ap, ap₂, ◌∙◌, subst, append_assoc, append-nil, arith}
-use Rattle.std.proofs.lemmas.Bool.{both_ways, leb-false, lt-leb, not-false, not_from_true, or_left, or_right, or_from, false_from_ne_true, cases_Bool}
-use Rattle.std.proofs.lemmas.List.{map-append}
-use Rattle.std.proofs.lemmas.List.Folds.{list_any-append}
-use Rattle.std.specs.List.{AllByRecursion, list_any}
+use Rattle.cats_text.proofs.Common.{rules, ◌≡◌, ℕ, ◌+◌, ◌<◌, Bool, true, false, not, cond, eqb, ltb, leb, ◌||◌, ◌&&◌, ⊎_elim, List, [], ◌∷◌, ◌++◌, length, map}
+use Rattle.cats_text.proofs.Common.{None, Option, refl, sym, ap, ap₂, ◌∙◌, subst, append_assoc, append-nil, arith, both_ways, leb-false, lt-leb, not-false}
+use Rattle.cats_text.proofs.Common.{not_from_true, or_left, or_right, or_from, false_from_ne_true, cases_Bool, map-append, list_any-append, AllByRecursion}
+use Rattle.cats_text.proofs.Common.{list_any, Word, is_number, number_of, is_price, is_too_large, is_too_fine, has_good, line_number, when, Bounds, number_word}
+use Rattle.cats_text.proofs.Common.{price_word, is_end, has_end, bid_end, bounds_of, words_fault, Kind, NotANumber, GoodRange, RepeatedGood, TwoDummies}
+use Rattle.cats_text.proofs.Common.{EmptyBundle, common_steps}
 use Rattle.std.specs.Prelude.{codes}
-use Rattle.cats_text.specs.Lines.{Word}
-use Rattle.cats_text.specs.Numbers.{is_number, number_of, is_price, is_too_large, is_too_fine}
-use Rattle.goods_set.specs.Bundles.{has_good}
-use Rattle.cats_text.specs.Grammar.{line_number}
-use Rattle.cats_text.specs.Faults.{when, Bounds, number_word, price_word, is_end, has_end, bid_end, bounds_of, words_fault}
-use Rattle.cats_text.specs.declared.read_fault.Kind.{Kind}
-use Rattle.cats_text.specs.declared.read_fault.Kind.TheVariants.{NotANumber, GoodRange, RepeatedGood, TwoDummies, EmptyBundle}
 use Rattle.cats_text.proofs.Spelling.Members.{AreGoods, MayFollow, no_goods, push_goods, may_follow}
 use Rattle.cats_text.proofs.Spelling.Tests.{when_none, none_when, or_none, none_or, equal_words}
-use Rattle.std.proofs.lemmas.Grind.{common_steps}
 
 abbrev numbers : List Word → List ℕ
 numbers ws = map number_of ws

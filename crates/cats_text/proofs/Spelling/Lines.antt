@@ -1,21 +1,14 @@
 -- Lines without a fault: three header lines, and then bid lines, each with a number of its own, as many as the header says.
-use Rattle.std.proofs.Common.{◌≡◌, ℕ, suc, ◌<◌, ◌≤◌, true, false, cond, List, [], ◌∷◌, ◌++◌, length, map, Some, None, refl, sym, ap, subst}
-use Rattle.std.proofs.Common.{arith, append_assoc, append-nil, length-append}
-use Rattle.std.proofs.lemmas.Bool.{both_ways, ltb-false, le-ltb}
-use Rattle.std.proofs.lemmas.List.{map-append}
-use Rattle.std.specs.List.{AllByRecursion}
+use Rattle.cats_text.proofs.Common.{◌≡◌, ℕ, suc, ◌<◌, ◌≤◌, true, false, cond, List, [], ◌∷◌, ◌++◌, length, map, Some, None, refl, sym, ap, subst, arith}
+use Rattle.cats_text.proofs.Common.{append_assoc, append-nil, length-append, both_ways, ltb-false, le-ltb, map-append, AllByRecursion, Word, Line, AreDistinct}
+use Rattle.cats_text.proofs.Common.{line_number, Bounds, bounds_of, words_fault, end_fault, is_line_due, fault_at, lines_fault, Missing, MAX_GOODS, MAX_BIDS}
+use Rattle.cats_text.proofs.Common.{MAX_DUMMY, common_steps}
 use Rattle.std.specs.Prelude.{codes}
-use Rattle.cats_text.specs.Lines.{Word, Line}
-use Rattle.cats_text.specs.Grammar.{AreDistinct, line_number}
-use Rattle.cats_text.specs.Faults.{Bounds, bounds_of, words_fault, end_fault, is_line_due, fault_at, lines_fault}
-use Rattle.cats_text.specs.declared.read_fault.Kind.TheVariants.{Missing}
-use Rattle.bid_file.specs.declared.limits.TheConstants.{MAX_GOODS, MAX_BIDS, MAX_DUMMY}
 use Rattle.cats_text.proofs.Spelling.Marks.{AreDistinct-push}
 use Rattle.cats_text.proofs.Spelling.Members.{new_at}
 use Rattle.cats_text.proofs.Spelling.BidsByNumber.{FillPlaces}
 use Rattle.cats_text.proofs.Spelling.Tests.{or_none, none_or, map_none, cond_none, or_whole, IsHeader, header_from, header_none}
 use Rattle.cats_text.proofs.Spelling.Goods.{IsBidLine, bid_line_from, bid_line_none}
-use Rattle.std.proofs.lemmas.Grind.{common_steps}
 
 -- ---- no fault, by lines of words
 

@@ -1,16 +1,9 @@
 -- The marks of the goods that have come.
-use Rattle.std.proofs.Common.{◌≡◌, ◌≢◌, ℕ, ◌+◌, ◌<◌, ◌≤◌, Bool, true, false, eqb, List, [], ◌∷◌, ◌++◌, length, get_or, set, refl, arith, ◌||◌}
-use Rattle.std.proofs.Common.{get_or-set_same, get_or-set_other}
-use Rattle.std.proofs.lemmas.Bool.{eqb-true, eq-eqb, eqb-false, both_ways, or_left, or_right}
-use Rattle.std.proofs.lemmas.List.Sorted.{list_any-IsPermutation}
-use Rattle.std.specs.List.{AllByRecursion}
-use Rattle.std.specs.List.Sorted.{IsPermutation}
-use Rattle.goods_set.specs.Bundles.{IsRising, has_good}
-use Rattle.cats_text.specs.Grammar.{AreDistinct}
-use Rattle.cats_text.specs.Internal.Marks.{IsMarked, IsListed}
+use Rattle.cats_text.proofs.Common.{◌≡◌, ◌≢◌, ℕ, ◌+◌, ◌<◌, ◌≤◌, Bool, true, false, eqb, List, [], ◌∷◌, ◌++◌, length, get_or, set, refl, arith, ◌||◌}
+use Rattle.cats_text.proofs.Common.{get_or-set_same, get_or-set_other, eqb-true, eq-eqb, eqb-false, both_ways, or_left, or_right, list_any-IsPermutation}
+use Rattle.cats_text.proofs.Common.{AllByRecursion, IsPermutation, IsRising, has_good, AreDistinct, IsMarked, IsListed, common_steps}
 use Rattle.cats_text.proofs.Spelling.Distinct.{distinct_from_rising}
 use Rattle.cats_text.proofs.Spelling.Rising.{IsRising-push}
-use Rattle.std.proofs.lemmas.Grind.{common_steps}
 
 -- one more number, other than those there
 apart_more : (x : ℕ) (xs : List ℕ) (g : ℕ) → AllByRecursion (λ y. x ≢ y) xs → x ≢ g → AllByRecursion (λ y. x ≢ y) (xs ++ g ∷ [])

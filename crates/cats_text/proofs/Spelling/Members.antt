@@ -1,20 +1,14 @@
 -- The numbers of a bid's goods: its real goods are those below G, and of those from G on it has one at most. Lists of numbers
 -- that are in the same lists of goods are the same, however they are ordered.
-use Rattle.std.proofs.Common.{rules, ◌≡◌, ◌≢◌, ℕ, ◌+◌, ◌-◌, ◌<◌, ◌≤◌, Bool, true, false, eqb, ltb, leb, ◌||◌, ◌&&◌, ◌⊎◌, inl, ⊎_elim, List, [], ◌∷◌, ◌++◌, Some}
-use Rattle.std.proofs.Common.{length, Option, None, refl, sym, ap, ◌∙◌, subst, arith}
-use Rattle.std.proofs.lemmas.Bool.{both_ways, eqb-true, ltb-true, ltb-false, leb-true, leb-false, or_cases, or_left, or_right, and_parts, false_from_ne_true}
-use Rattle.std.proofs.lemmas.Bool.{cases_lt}
-use Rattle.std.proofs.lemmas.List.Folds.{list_any-append}
-use Rattle.std.specs.List.{AllByRecursion, list_any, filter, find}
+use Rattle.cats_text.proofs.Common.{rules, ◌≡◌, ◌≢◌, ℕ, ◌+◌, ◌-◌, ◌<◌, ◌≤◌, Bool, true, false, eqb, ltb, leb, ◌||◌, ◌&&◌, ◌⊎◌, inl, ⊎_elim, List, [], ◌∷◌, ◌++◌}
+use Rattle.cats_text.proofs.Common.{Some, length, Option, None, refl, sym, ap, ◌∙◌, subst, arith, both_ways, eqb-true, ltb-true, ltb-false, leb-true, leb-false}
+use Rattle.cats_text.proofs.Common.{or_cases, or_left, or_right, and_parts, false_from_ne_true, cases_lt, list_any-append, AllByRecursion, list_any, find}
+use Rattle.cats_text.proofs.Common.{AreBelow, IsRising, has_good, PlainBid, IsDummyBelow, dummy_good, goods_of, AreDistinct, rising_of, has_head, has_tail}
+use Rattle.cats_text.proofs.Common.{has_cases, common_steps}
+use Rattle.std.specs.List.{filter}
 use Rattle.std.specs.Option.{option_map}
-use Rattle.goods_set.specs.Bundles.{AreBelow, IsRising, has_good}
-use Rattle.bid_file.specs.Files.{PlainBid, IsDummyBelow, dummy_good, goods_of}
-use Rattle.cats_text.specs.Grammar.{AreDistinct}
-use Rattle.cats_text.specs.FileLines.{rising_of}
-use Rattle.goods_set.specs.Lemmas.Members.{has_head, has_tail, has_cases}
 use Rattle.cats_text.proofs.Spelling.Rising.{has_rising_of, rising_of_is}
 use Rattle.cats_text.proofs.Spelling.Marks.{AreDistinct-push}
-use Rattle.std.proofs.lemmas.Grind.{common_steps}
 
 -- ---- tests
 

@@ -1,17 +1,12 @@
 -- Prices: a price that is neither too large nor too fine is at most the greatest one in millionths, and the other way round.
-use Rattle.std.proofs.Common.{rules, ◌≡◌, ℕ, suc, ◌+◌, ◌-◌, ◌*◌, ◌^◌, ◌<◌, ◌≤◌, Bool, true, false, not, eqb, ltb, leb, ◌&&◌, List, [], ◌∷◌, ◌++◌, length, take}
-use Rattle.std.proofs.Common.{refl, sym, ◌∙◌, subst, arith, length-append, length-take}
-use Rattle.std.proofs.lemmas.Bool.{both_ways, eqb-true, eq-eqb, ltb-false, le-ltb, leb-true, or_cases, or_parts, or_from, and_parts, and_from, not-true}
-use Rattle.std.proofs.lemmas.Bool.{false_from_ne_true, not-false, cases_Bool}
-use Rattle.std.proofs.lemmas.List.{take-append-drop}
-use Rattle.std.proofs.lemmas.List.Folds.{list_any-append, list_all-append}
-use Rattle.std.proofs.Math.Nat.{mul-le-mul_left, pow-succ'}
-use Rattle.std.specs.List.{list_any, list_all, fold}
-use Rattle.cats_text.specs.Lines.{Word}
-use Rattle.cats_text.specs.Numbers.{is_digit, digits_alone, is_number, number_of, whole_part, has_point, places, is_price, has_place_from, is_too_large}
-use Rattle.cats_text.specs.Numbers.{is_too_fine, six_places, price_of, GREATEST_PRICE}
-use Rattle.bid_file.specs.declared.limits.TheConstants.{MAX_PRICE}
-use Rattle.std.proofs.lemmas.Grind.{common_steps}
+use Rattle.cats_text.proofs.Common.{rules, ◌≡◌, ℕ, suc, ◌+◌, ◌-◌, ◌*◌, ◌^◌, ◌<◌, ◌≤◌, Bool, true, false, not, eqb, ltb, leb, ◌&&◌, List, [], ◌∷◌, ◌++◌, length}
+use Rattle.cats_text.proofs.Common.{take, refl, sym, ◌∙◌, subst, arith, length-append, both_ways, eqb-true, eq-eqb, ltb-false, le-ltb, leb-true, or_cases}
+use Rattle.cats_text.proofs.Common.{or_parts, or_from, and_parts, and_from, not-true, false_from_ne_true, not-false, cases_Bool, take-append-drop}
+use Rattle.cats_text.proofs.Common.{list_any-append, list_all-append, mul-le-mul_left, pow-succ', list_any, list_all, Word, is_digit, digits_alone, is_number}
+use Rattle.cats_text.proofs.Common.{number_of, whole_part, has_point, places, is_price, has_place_from, is_too_large, is_too_fine, six_places, price_of}
+use Rattle.cats_text.proofs.Common.{GREATEST_PRICE, MAX_PRICE, common_steps}
+use Rattle.std.proofs.Common.{length-take}
+use Rattle.std.specs.List.{fold}
 
 -- ---- what digits are worth
 

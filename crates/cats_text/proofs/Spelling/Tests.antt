@@ -1,14 +1,8 @@
 -- Tests one after another: no fault is that each of them is false. And header lines.
-use Rattle.std.proofs.Common.{rules, ◌≡◌, ℕ, ◌≤◌, Bool, true, false, cond, ◌||◌, List, [], ◌∷◌, Option, Some, None, refl, sym, ap, ◌∙◌, subst, arith}
-use Rattle.std.proofs.lemmas.Bool.{both_ways, ltb-false, le-ltb, not-false, not_from_true}
-use Rattle.std.proofs.lemmas.Slice.Eq.{bytes_eq-Decides}
-use Rattle.std.specs.Option.{option_or, option_map}
-use Rattle.std.specs.Str.{bytes_eq}
-use Rattle.cats_text.specs.Lines.{Word}
-use Rattle.cats_text.specs.Numbers.{is_number, number_of}
-use Rattle.cats_text.specs.Faults.{when, header_word, header_end, header_value, word_fault, words_fault}
-use Rattle.cats_text.specs.declared.read_fault.Kind.{Kind}
-use Rattle.std.proofs.lemmas.Grind.{common_steps}
+use Rattle.cats_text.proofs.Common.{rules, ◌≡◌, ℕ, ◌≤◌, Bool, true, false, cond, ◌||◌, List, [], ◌∷◌, Option, Some, None, refl, sym, ap, ◌∙◌, subst, arith}
+use Rattle.cats_text.proofs.Common.{both_ways, ltb-false, le-ltb, not-false, not_from_true, bytes_eq-Decides, option_or, bytes_eq, Word, is_number, number_of}
+use Rattle.cats_text.proofs.Common.{when, header_word, header_end, header_value, word_fault, words_fault, Kind, common_steps}
+use Rattle.std.specs.Option.{option_map}
 
 -- ---- tests
 

@@ -1,16 +1,10 @@
 -- Which kinds a fault of a text has, and at which lines.
-use Rattle.std.proofs.Common.{◌≡◌, ◌≢◌, ℕ, suc, ◌<◌, ◌≤◌, nat_le, Bool, true, false, ◌&&◌, List, [], ◌∷◌, ◌++◌, Option, Some, None, IfSome}
-use Rattle.std.proofs.Common.{option_map, refl, if◌then◌else◌, take, length, filter, arith}
-use Rattle.std.specs.Option.{option_or}
-use Rattle.std.specs.List.{AllByRecursion}
-use Rattle.cats_text.specs.Lines.{Word, RawLine, Line, line_count, significant_lines, raw_lines, blank_returns, numbered, is_significant}
-use Rattle.cats_text.specs.Faults.{when, header_word, header_end, number_word, price_word, good_word, bid_word, bid_end, Bounds, word_fault, end_fault}
-use Rattle.cats_text.specs.Faults.{words_fault, fault_at, line_fault, lines_fault, first_fault, complete_fault, is_line_due, is_text_kind, IsOfText}
-use Rattle.cats_text.specs.Fed.{fed_fault}
-use Rattle.cats_text.specs.declared.read_fault.Kind.{Kind}
-use Rattle.cats_text.specs.declared.read_fault.Kind.TheVariants.{Missing, TooLong, Device, Memory}
-use Rattle.cats_text.specs.declared.read_fault.ReadFault.{ReadFault}
-use Rattle.std.proofs.lemmas.Grind.{common_steps}
+use Rattle.cats_text.proofs.Common.{◌≡◌, ◌≢◌, ℕ, suc, ◌<◌, ◌≤◌, nat_le, Bool, true, false, ◌&&◌, List, [], ◌∷◌, ◌++◌, Option, Some, None, IfSome, option_map}
+use Rattle.cats_text.proofs.Common.{refl, if◌then◌else◌, take, length, filter, arith, option_or, AllByRecursion, Word, RawLine, Line, line_count}
+use Rattle.cats_text.proofs.Common.{significant_lines, raw_lines, blank_returns, numbered, is_significant, when, header_word, header_end, number_word}
+use Rattle.cats_text.proofs.Common.{price_word, good_word, bid_word, bid_end, Bounds, word_fault, end_fault, words_fault, fault_at, line_fault, lines_fault}
+use Rattle.cats_text.proofs.Common.{first_fault, complete_fault, is_line_due, is_text_kind, IsOfText, fed_fault, Kind, Missing, TooLong, Device, Memory}
+use Rattle.cats_text.proofs.Common.{ReadFault, common_steps}
 
 -- a word, or a line's end, may have a fault of this kind
 abbrev is_line_kind : Kind → Bool

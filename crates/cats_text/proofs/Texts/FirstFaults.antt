@@ -1,24 +1,15 @@
 -- The scanner's answer over a text is the definitions' first fault, and over the bytes so far the fault that is complete.
-use Rattle.std.proofs.Common.{rules, ◌≡◌, ℕ, suc, ◌+◌, ◌<◌, Bool, true, false, ◌||◌, cond, eqb, List, [], ◌∷◌, ◌++◌, length, filter, refl, sym, ap, ◌∙◌, subst}
-use Rattle.std.proofs.Common.{arith, Some, None, Ok, Err, append-nil}
-use Rattle.std.proofs.lemmas.Bool.{both_ways}
-use Rattle.std.specs.List.{AllByRecursion}
-use Rattle.cats_text.specs.Lines.{Word, RawLine, Line, raw_lines, line_words, words_with, with_letter, begins_word, is_significant, is_blank, numbered}
-use Rattle.cats_text.specs.Lines.{significant_lines, blank_returns, line_count, lines_with, with_byte}
-use Rattle.cats_text.specs.Grammar.{significant_words}
-use Rattle.cats_text.specs.Faults.{lines_fault, first_fault, is_line_due, is_final}
-use Rattle.cats_text.specs.Internal.Progress.{Progress}
-use Rattle.cats_text.specs.Internal.Parsing.{start}
-use Rattle.cats_text.specs.Internal.Scanning.{Scan, first_state, and_then, scan, byte_step, blank_step, end_step}
-use Rattle.bid_file.specs.Files.{PlainBid}
-use Rattle.cats_text.specs.declared.scanner.Mode.TheVariants.{Start}
+use Rattle.cats_text.proofs.Common.{rules, ◌≡◌, ℕ, suc, ◌+◌, ◌<◌, Bool, true, false, ◌||◌, cond, eqb, List, [], ◌∷◌, ◌++◌, length, filter, refl, sym, ap, ◌∙◌}
+use Rattle.cats_text.proofs.Common.{subst, arith, Some, None, Ok, Err, append-nil, both_ways, AllByRecursion, Word, RawLine, Line, raw_lines, line_words}
+use Rattle.cats_text.proofs.Common.{words_with, with_letter, begins_word, is_significant, is_blank, numbered, significant_lines, blank_returns, line_count}
+use Rattle.cats_text.proofs.Common.{lines_with, with_byte, significant_words, lines_fault, first_fault, is_line_due, is_final, Progress, start, Scan}
+use Rattle.cats_text.proofs.Common.{first_state, and_then, scan, byte_step, blank_step, end_step, PlainBid, Start, common_steps}
 use Rattle.cats_text.proofs.Scanning.Lines.{scan-append, IsNoEnd, standing, fresh_outcome, lifted, quiet, from_start, byte_blank, words_blank}
 use Rattle.cats_text.proofs.Parsing.WholeLines.{words_read, on_line, reading_then, Scanned, scanned_then, lines_scan, lines_step, LinesAre, IsLine, IsWord}
 use Rattle.cats_text.proofs.Parsing.WholeLines.{AreEndedButLast}
 use Rattle.cats_text.proofs.Parsing.States.{IsAt}
 use Rattle.cats_text.proofs.Scanning.AllBytes.{text_of, text_of-lines, AreRaw, AreRaw-lines, raw_scan, whole_text, outcome, line_outcome, open_outcome}
 use Rattle.cats_text.proofs.Scanning.AllBytes.{line_and_rest, outcome_from}
-use Rattle.std.proofs.lemmas.Grind.{common_steps}
 
 -- ---- the significant lines alone
 

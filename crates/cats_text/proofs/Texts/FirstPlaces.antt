@@ -1,28 +1,16 @@
 -- The place of the first fault: the parser's answers over the lines give it, and it has the first fault. The idea: each
 -- step of the search is a step of the definition, at what the parser keeps of the lines and words before.
-use Rattle.std.proofs.Common.{rules, ◌≡◌, ℕ, suc, ◌+◌, ◌<◌, Bool, true, false, cond, List, [], ◌∷◌, ◌++◌, length, filter, refl, sym, ap, ◌∙◌, subst, arith, Ok}
-use Rattle.std.proofs.Common.{Option, Some, None, Err, option_map, append-nil, append_assoc, length-append}
-use Rattle.std.specs.Bool.{then_some}
-use Rattle.std.specs.Option.{option_or}
-use Rattle.std.specs.List.{AllByRecursion}
-use Rattle.cats_text.specs.Lines.{Word, RawLine, Line, raw_lines, blank_returns, line_words, is_significant, numbered, significant_lines, line_count}
-use Rattle.cats_text.specs.Faults.{word_fault, end_fault, words_fault, line_fault, lines_fault, first_fault, fault_at}
-use Rattle.cats_text.specs.FaultPlaces.{PlainPlace, place_behind, words_place, lines_place, first_place, fault_of}
-use Rattle.cats_text.specs.Views.{plain_place}
-use Rattle.cats_text.specs.declared.fault_place.FaultPlace.{FaultPlace}
-use Rattle.cats_text.specs.Internal.Kept.{number_alone}
-use Rattle.cats_text.specs.Internal.Machine.{summary}
-use Rattle.cats_text.specs.Internal.Parsing.{Reading, start, word_read, line_read, is_due}
-use Rattle.cats_text.specs.Internal.Places.{Judged, judged_at, judged_then, words_judged, line_judged}
-use Rattle.cats_text.specs.Internal.Progress.{Progress}
-use Rattle.cats_text.specs.declared.read_fault.Kind.{Kind}
-use Rattle.cats_text.specs.declared.read_fault.Kind.TheVariants.{Missing}
-use Rattle.cats_text.specs.declared.read_fault.ReadFault.{ReadFault}
+use Rattle.cats_text.proofs.Common.{rules, ◌≡◌, ℕ, suc, ◌+◌, ◌<◌, Bool, true, false, cond, List, [], ◌∷◌, ◌++◌, length, filter, refl, sym, ap, ◌∙◌, subst}
+use Rattle.cats_text.proofs.Common.{arith, Ok, Option, Some, None, Err, option_map, append-nil, append_assoc, length-append, then_some, option_or}
+use Rattle.cats_text.proofs.Common.{AllByRecursion, Word, RawLine, Line, raw_lines, blank_returns, line_words, is_significant, numbered, significant_lines}
+use Rattle.cats_text.proofs.Common.{line_count, word_fault, end_fault, words_fault, line_fault, lines_fault, first_fault, fault_at, PlainPlace, place_behind}
+use Rattle.cats_text.proofs.Common.{words_place, lines_place, first_place, fault_of, plain_place, FaultPlace, number_alone, summary, Reading, start, word_read}
+use Rattle.cats_text.proofs.Common.{line_read, is_due, Judged, judged_at, judged_then, words_judged, line_judged, Progress, Kind, Missing, ReadFault}
+use Rattle.cats_text.proofs.Common.{common_steps}
 use Rattle.cats_text.proofs.Parsing.Lines.{word_step, line_step, due_step}
 use Rattle.cats_text.proofs.Parsing.States.{IsAt, WordFollows}
 use Rattle.cats_text.proofs.Parsing.WholeLines.{IsWord}
 use Rattle.cats_text.proofs.Texts.FirstFaults.{at_start, words_are, significant_pos}
-use Rattle.std.proofs.lemmas.Grind.{common_steps}
 
 -- ---- the words of a line
 

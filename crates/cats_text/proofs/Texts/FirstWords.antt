@@ -1,17 +1,12 @@
 -- The first word of a line and the first line of a text, each cut where a search for a byte says. The idea: the bytes before
 -- the first one that passes a test are all of one sort, and the definitions go over such bytes at one go.
-use Rattle.std.proofs.Common.{rules, ◌≡◌, ℕ, zero, suc, ◌+◌, ◌<◌, ◌≤◌, min, Bool, true, false, not, ◌&&◌, cond, eqb, ltb, List, [], ◌∷◌, ◌++◌, length, take, ap}
-use Rattle.std.proofs.Common.{drop, get_or, refl, sym, ap₂, ◌∙◌, subst, arith, Some, None, ◌⊎◌, ⊎_elim, inl, drop-cons, append-nil, length-append}
-use Rattle.std.proofs.lemmas.Bool.{both_ways, eqb-true, ltb-true, ltb-false, cases_lt}
-use Rattle.std.proofs.lemmas.List.{take-append-drop, drop_all, take_all, length-drop, length-take}
-use Rattle.std.proofs.lemmas.List.Sums.{fails_before_first, passes_at_first}
-use Rattle.std.specs.List.{AllByRecursion, position, position_or_len}
-use Rattle.std.specs.Option.{unwrap_or}
-use Rattle.cats_text.specs.Lines.{is_blank, raw_lines, with_byte, line_ends, blank_returns, line_byte, line_words}
-use Rattle.cats_text.specs.Internal.Places.{IsFirstWord, IsFirstLine, without_return}
+use Rattle.cats_text.proofs.Common.{rules, ◌≡◌, ℕ, zero, suc, ◌+◌, ◌<◌, ◌≤◌, min, Bool, true, false, not, ◌&&◌, cond, eqb, ltb, List, [], ◌∷◌, ◌++◌, length}
+use Rattle.cats_text.proofs.Common.{take, ap, drop, get_or, refl, sym, ap₂, ◌∙◌, subst, arith, Some, None, ◌⊎◌, ⊎_elim, inl, drop-cons, append-nil}
+use Rattle.cats_text.proofs.Common.{length-append, both_ways, eqb-true, ltb-true, ltb-false, cases_lt, take-append-drop, drop_all, take_all, length-drop}
+use Rattle.cats_text.proofs.Common.{length-take, fails_before_first, passes_at_first, AllByRecursion, position, position_or_len, unwrap_or, is_blank, raw_lines}
+use Rattle.cats_text.proofs.Common.{with_byte, line_ends, blank_returns, line_byte, line_words, IsFirstWord, IsFirstLine, without_return, common_steps}
 use Rattle.cats_text.proofs.Scanning.Lines.{IsNoEnd, words_blank, words_last, words_next}
 use Rattle.cats_text.proofs.Texts.FirstFaults.{words_trailing}
-use Rattle.std.proofs.lemmas.Grind.{common_steps}
 
 -- ---- where a byte is found
 

@@ -1,21 +1,10 @@
 -- What the machine gives on bytes, by the definitions over lines and words.
-use Rattle.std.proofs.Common.{rules, ◌≡◌, ℕ, ◌<◌, true, false, List, [], ◌∷◌, ◌++◌, length, Some, None, ◌⊎◌, ⊎_elim, inr, Ok, Err, IsOkAnd, sym, ap, ◌∙◌, subst}
-use Rattle.std.proofs.Common.{arith, refl}
-use Rattle.std.proofs.lemmas.Bool.{both_ways, lt-ltb}
-use Rattle.std.proofs.lemmas.List.{length-map}
-use Rattle.bid_file.specs.Files.{PlainFile, PlainBid}
-use Rattle.cats_text.specs.Lines.{Word, Line, significant_lines}
-use Rattle.cats_text.specs.Grammar.{Spells, significant_words}
-use Rattle.cats_text.specs.Faults.{first_fault, complete_fault, has_bid_line, is_line_due}
+use Rattle.cats_text.proofs.Common.{rules, ◌≡◌, ℕ, ◌<◌, true, false, List, [], ◌∷◌, ◌++◌, length, Some, None, ◌⊎◌, ⊎_elim, inr, Ok, Err, IsOkAnd, sym, ap, ◌∙◌}
+use Rattle.cats_text.proofs.Common.{subst, arith, refl, both_ways, lt-ltb, length-map, PlainFile, PlainBid, Word, Line, significant_lines, Spells}
+use Rattle.cats_text.proofs.Common.{significant_words, first_fault, complete_fault, has_bid_line, is_line_due, SpellsParts, settled, waits, carried, Progress}
+use Rattle.cats_text.proofs.Common.{filled, file_of_lines, State, Scan, first_state, and_then, scan, byte_step, end_step, end_of, MeetsBidLine, IsInBidLine}
+use Rattle.cats_text.proofs.Common.{HasBids, whole, ReadFault, Header, common_steps}
 use Rattle.std.specs.Prelude.{codes}
-use Rattle.cats_text.specs.Internal.Reading.{SpellsParts}
-use Rattle.cats_text.specs.Internal.Returns.{settled, waits, carried}
-use Rattle.cats_text.specs.Internal.Progress.{Progress}
-use Rattle.cats_text.specs.FileLines.{filled, file_of_lines}
-use Rattle.cats_text.specs.Internal.Scanning.{State, Scan, first_state, and_then, scan, byte_step, end_step, end_of, MeetsBidLine, IsInBidLine, HasBids}
-use Rattle.cats_text.specs.Internal.Kept.{whole}
-use Rattle.cats_text.specs.declared.read_fault.ReadFault.{ReadFault}
-use Rattle.cats_text.specs.declared.parser.Header.{Header}
 use Rattle.cats_text.proofs.Scanning.AllBytes.{outcome}
 use Rattle.cats_text.proofs.Texts.FirstFaults.{WholeIs, whole_fault}
 use Rattle.cats_text.proofs.Scanning.Pieces.{CompleteIs, complete_is, end_of_text, waiting, blank_returns-settled, settled-append}
@@ -24,7 +13,6 @@ use Rattle.cats_text.proofs.Parsing.States.{IsAt, kept_slots}
 use Rattle.cats_text.proofs.Keeping.{scan_keeping, end_keeping}
 use Rattle.cats_text.proofs.Spelling.Files.{spells_from_no_fault, spelled_value}
 use Rattle.cats_text.proofs.Scanning.Lines.{scan-append}
-use Rattle.std.proofs.lemmas.Grind.{common_steps}
 
 abbrev ok : State → Scan
 ok s = Ok s

@@ -1,27 +1,16 @@
 -- What the reader keeps of a word says all that the grammar needs of the word. The idea: `Summarises w s` says it of each kind of
 -- summary s, and one more byte keeps it.
-use Rattle.std.proofs.Common.{rules, ◌≡◌, ◌≢◌, ℕ, zero, suc, ◌+◌, ◌-◌, ◌*◌, ◌^◌, ◌<◌, ◌≤◌, min, true, false, not, ◌&&◌, ◌||◌, cond, eqb, ltb, ◌⊎◌, List, [], ap}
-use Rattle.std.proofs.Common.{◌∷◌, ◌++◌, length, get_or, take, fold, refl, sym, ◌∙◌, subst, arith, append_assoc, add-one, length-append, append-nil}
-use Rattle.std.proofs.lemmas.Bool.{and_parts, and_from, eqb-true, eqb-false, eq-eqb, ne_eqb, ltb-true, ltb-false, lt-ltb, le-ltb, or_right, both_ways}
-use Rattle.std.proofs.lemmas.List.Sums.{fold-append}
-use Rattle.std.proofs.Math.ListN.{drop_of_length-le}
-use Rattle.std.proofs.lemmas.List.{drop-append-le}
-use Rattle.std.proofs.Math.Seq.{take-suc}
-use Rattle.std.proofs.lemmas.List.Folds.{list_any-append}
-use Rattle.std.specs.List.{list_any}
-use Rattle.std.specs.Str.{bytes_eq}
-use Rattle.cats_text.specs.Numbers.{is_digit, digits_alone, is_number, number_of, is_price, whole_part, has_point, places, has_place_from}
-use Rattle.cats_text.specs.Faults.{is_end}
-use Rattle.cats_text.specs.Internal.Keywords.{keyword_text, place_value_of}
-use Rattle.cats_text.specs.Internal.Machine.{word_from, word_with, decimal_with, summary}
+use Rattle.cats_text.proofs.Common.{rules, ◌≡◌, ◌≢◌, ℕ, zero, suc, ◌+◌, ◌-◌, ◌*◌, ◌^◌, ◌<◌, ◌≤◌, min, true, false, not, ◌&&◌, ◌||◌, cond, eqb, ltb, ◌⊎◌, List}
+use Rattle.cats_text.proofs.Common.{[], ap, ◌∷◌, ◌++◌, length, get_or, take, fold, refl, sym, ◌∙◌, subst, arith, append_assoc, add-one, length-append}
+use Rattle.cats_text.proofs.Common.{append-nil, and_parts, and_from, eqb-true, eqb-false, eq-eqb, ne_eqb, ltb-true, ltb-false, lt-ltb, le-ltb, or_right}
+use Rattle.cats_text.proofs.Common.{both_ways, fold-append, drop_of_length-le, drop-append-le, take-suc, list_any-append, list_any, bytes_eq, is_digit}
+use Rattle.cats_text.proofs.Common.{digits_alone, is_number, number_of, is_price, whole_part, has_point, places, has_place_from, is_end, keyword_text}
+use Rattle.cats_text.proofs.Common.{place_value_of, word_from, word_with, decimal_with, summary, Decimal, Keyword, Number, End, Other, HELD, common_steps}
 use Rattle.cats_text.specs.declared.word.Keyword.{Keyword as Key}
 use Rattle.cats_text.specs.declared.word.Keyword.TheVariants.{Goods, Bids, Dummy}
 use Rattle.cats_text.specs.declared.word.Word.{Word}
-use Rattle.cats_text.specs.declared.price.Decimal.{Decimal}
-use Rattle.cats_text.specs.declared.word.Word.TheVariants.{Keyword, Number, Decimal as Fraction, End, Other}
-use Rattle.cats_text.specs.declared.word.TheConstants.{HELD}
+use Rattle.cats_text.specs.declared.word.Word.TheVariants.{Decimal as Fraction}
 use Rattle.cats_text.proofs.Words.Places.{places_from, places-push, place_value_late, digit_bounds, places_below_one}
-use Rattle.std.proofs.lemmas.Grind.{common_steps}
 
 pub summary-push : (a : ℕ) (w : List ℕ) (b : ℕ) → summary ((a ∷ w) ++ b ∷ []) ≡ word_with (summary (a ∷ w)) b
 summary-push a w b = fold-append word_with (word_from a) w (b ∷ [])

@@ -1,11 +1,7 @@
 -- The digits behind a point, as a sum of what each place counts.
-use Rattle.std.proofs.Common.{rules, add-zero, ◌≡◌, ℕ, zero, suc, ◌+◌, ◌-◌, ◌*◌, ◌<◌, ◌≤◌, true, ◌||◌, ltb, leb, List, [], ◌∷◌, ◌++◌, length, refl, ap, ◌∙◌}
-use Rattle.std.proofs.Math.Nat.{mul-le-mul_right}
-use Rattle.std.proofs.Common.{arith}
-use Rattle.std.proofs.lemmas.Bool.{and_parts, eqb-true, eqb-false, ne_eqb, leb-true, lt-ltb, or_right}
-use Rattle.cats_text.specs.Numbers.{is_digit, digits_alone, number_of, six_places, has_place_from}
-use Rattle.cats_text.specs.Internal.Keywords.{place_value_of}
-use Rattle.std.proofs.lemmas.Grind.{common_steps}
+use Rattle.cats_text.proofs.Common.{rules, add-zero, ◌≡◌, ℕ, zero, suc, ◌+◌, ◌-◌, ◌*◌, ◌<◌, ◌≤◌, true, ◌||◌, ltb, leb, List, [], ◌∷◌, ◌++◌, length, refl, ap}
+use Rattle.cats_text.proofs.Common.{◌∙◌, mul-le-mul_right, arith, and_parts, eqb-true, eqb-false, ne_eqb, leb-true, lt-ltb, or_right, is_digit, digits_alone}
+use Rattle.cats_text.proofs.Common.{number_of, six_places, has_place_from, place_value_of, common_steps}
 
 -- what the digits from the n-th place on count, in millionths
 abbrev pub places_from : ℕ → List ℕ → ℕ

@@ -1,20 +1,14 @@
 -- What is kept of a word answers every test that the grammar makes of the word.
-use Rattle.std.proofs.Common.{rules, ◌≡◌, ℕ, zero, suc, ◌<◌, ◌≤◌, min, Bool, true, false, not, ◌&&◌, ◌||◌, eqb, List, [], ◌∷◌, ◌++◌, length, take, refl, sym}
-use Rattle.std.proofs.Common.{ap, ◌∙◌, subst, arith, append-nil}
-use Rattle.std.proofs.lemmas.Bool.{and_parts, eqb-true, eqb-false, eq-eqb, ne_eqb, both_ways}
-use Rattle.std.specs.Str.{bytes_eq}
-use Rattle.cats_text.specs.Numbers.{is_digit, digits_alone, is_number, is_price, has_point, places}
-use Rattle.cats_text.specs.Faults.{is_end}
-use Rattle.cats_text.specs.Internal.Keywords.{keyword_text}
-use Rattle.cats_text.specs.Internal.Parsing.{is_same_keyword}
+use Rattle.cats_text.proofs.Common.{rules, ◌≡◌, ℕ, zero, suc, ◌<◌, ◌≤◌, min, Bool, true, false, not, ◌&&◌, ◌||◌, eqb, List, [], ◌∷◌, ◌++◌, length, take, refl}
+use Rattle.cats_text.proofs.Common.{sym, ap, ◌∙◌, subst, arith, append-nil, and_parts, eqb-true, eqb-false, eq-eqb, ne_eqb, both_ways, bytes_eq, is_digit}
+use Rattle.cats_text.proofs.Common.{digits_alone, is_number, is_price, has_point, places, is_end, keyword_text, is_same_keyword, Decimal, Keyword, Number, End}
+use Rattle.cats_text.proofs.Common.{Other, common_steps}
 use Rattle.cats_text.specs.declared.word.Keyword.{Keyword as Key}
 use Rattle.cats_text.specs.declared.word.Keyword.TheVariants.{Goods, Bids, Dummy}
 use Rattle.cats_text.specs.declared.word.Word.{Word}
-use Rattle.cats_text.specs.declared.price.Decimal.{Decimal}
-use Rattle.cats_text.specs.declared.word.Word.TheVariants.{Keyword, Number, Decimal as Fraction, End, Other}
+use Rattle.cats_text.specs.declared.word.Word.TheVariants.{Decimal as Fraction}
 use Rattle.cats_text.proofs.Words.Kept.{Summarises, IsOther, digit_not, first_of_take, digits-not, whole-digits, point-digits, whole-point, places-point}
 use Rattle.cats_text.proofs.Words.Kept.{point-point}
-use Rattle.std.proofs.lemmas.Grind.{common_steps}
 
 abbrev pub is_number_by : Word → Bool
 is_number_by (Number v) = true

@@ -1,21 +1,14 @@
 -- The lines and words of a layout.
-use Rattle.std.proofs.Common.{rules, ◌≡◌, ℕ, suc, ◌+◌, ◌/◌, ◌^◌, ◌<◌, true, List, [], ◌∷◌, ◌++◌, length, map, codes, decimal, Option, Some, None, refl, sym, ap}
-use Rattle.std.proofs.Common.{◌∙◌, arith, append_assoc}
-use Rattle.std.specs.List.{AllByRecursion}
-use Rattle.std.proofs.lemmas.Bool.{and_parts, false≢true, ne_eqb, not_from_false}
+use Rattle.cats_text.proofs.Common.{rules, ◌≡◌, ℕ, suc, ◌+◌, ◌/◌, ◌^◌, ◌<◌, true, List, [], ◌∷◌, ◌++◌, length, map, codes, decimal, Option, Some, None, refl}
+use Rattle.cats_text.proofs.Common.{sym, ap, ◌∙◌, arith, append_assoc, AllByRecursion, and_parts, false≢true, ne_eqb, not_from_false, Word, line_words}
+use Rattle.cats_text.proofs.Common.{is_significant, is_number, significant_words, AreBelow, PlainBid, PlainFile, IsBid, IsDummyBelow, dummy_good, goods_of}
+use Rattle.cats_text.proofs.Common.{price_text, header_text, tabbed, bid_text, bids_text, layout, common_steps}
 use Rattle.std.proofs.lemmas.List.{append-nil}
-use Rattle.cats_text.specs.Lines.{Word, line_words, is_significant}
-use Rattle.cats_text.specs.Numbers.{is_number}
-use Rattle.cats_text.specs.Grammar.{significant_words}
-use Rattle.goods_set.specs.Bundles.{AreBelow}
-use Rattle.bid_file.specs.Files.{PlainBid, PlainFile, IsBid, IsDummyBelow, dummy_good, goods_of}
-use Rattle.cats_text.specs.Layout.{price_text, header_text, tabbed, bid_text, bids_text, layout}
 use Rattle.cats_text.proofs.Words.Places.{digit_bounds}
 use Rattle.cats_text.proofs.Writing.Numerals.{decimal_spells}
 use Rattle.cats_text.proofs.Writing.Prices.{price_text_is_word}
 use Rattle.cats_text.proofs.Writing.TextLines.{IsInLine, IsWord, all_append, letters_in_line, number_is_word, line_words-word, line_words-last, lines_from}
 use Rattle.cats_text.proofs.Writing.TextLines.{lines_from-line}
-use Rattle.std.proofs.lemmas.Grind.{common_steps}
 
 -- ---- the words that are written
 

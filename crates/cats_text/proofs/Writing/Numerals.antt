@@ -1,12 +1,7 @@
 -- What decimal digits spell.
-use Rattle.std.proofs.Common.{◌≡◌, ℕ, ◌+◌, ◌-◌, ◌*◌, ◌^◌, ◌<◌, true, [], ◌∷◌, length, fold, decimal, refl, sym, ap, ◌∙◌, arith, rules}
-use Rattle.std.proofs.Math.Nat.{pow-suc}
-use Rattle.std.proofs.lemmas.Str.Parse.{IsNumeralModel, numerals_by_fold}
-use Rattle.std.proofs.lemmas.Fmt.{digits_decimal, digits_value-decimal, decimal_nonempty}
-use Rattle.cats_text.specs.Lines.{Word}
-use Rattle.cats_text.specs.Numbers.{digits_alone, is_number, number_of}
-use Rattle.cats_text.specs.Grammar.{SpellsNumber}
-use Rattle.std.proofs.lemmas.Grind.{common_steps}
+use Rattle.cats_text.proofs.Common.{◌≡◌, ℕ, ◌+◌, ◌-◌, ◌*◌, ◌^◌, ◌<◌, true, [], ◌∷◌, length, fold, decimal, refl, sym, ap, ◌∙◌, arith, rules, pow-suc}
+use Rattle.cats_text.proofs.Common.{IsNumeralModel, numerals_by_fold, digits_decimal, digits_value-decimal, decimal_nonempty, Word, digits_alone, is_number}
+use Rattle.cats_text.proofs.Common.{number_of, SpellsNumber, common_steps}
 
 -- digits behind a number
 abbrev pub number_then : ℕ → Word → ℕ

@@ -1,22 +1,10 @@
 -- A text that is sent in pieces: what was sent is its beginning, and the page holds its next bytes.
-use Rattle.std.proofs.Common.{rules, arith, ◌≡◌, ◌<◌, ◌≤◌, ◌+◌, ◌-◌, ◌^◌, ◌++◌, ◌∷◌, ℕ, List, [], length, take, drop, decimal, codes, Option, Some, Result, Err}
-use Rattle.std.proofs.Common.{sym, ap, ◌∙◌, subst}
-use Rattle.std.specs.Prelude.{IsErrAnd}
-use Rattle.std.proofs.Math.Seq.{take-add}
-use Rattle.std.proofs.KnownBytes.{Appends-trans}
-use Rattle.std.proofs.lemmas.Fmt.{length-decimal-le}
-use Rattle.std.proofs.lemmas.List.{drop-drop, take-append-le, drop-append-le, length-drop, length-append}
-use Rattle.std.proofs.lemmas.Result.{err_from_is_err_and}
-use Rattle.std.specs.Io.KnownBytes.{Appends}
-use Rattle.std.specs.List.{slice_get}
-use Rattle.goods_set.specs.Bundles.{AreAbove, AreBelow, IsRising}
-use Rattle.bid_file.specs.Files.{PlainBid, PlainFile, IsPlainFile}
-use Rattle.cats_text.specs.Layout.{bid_text, bids_text, header_text, headers_text}
-use Rattle.cats_text.specs.Streams.{inner_of, Sends, SendsPart}
-use Rattle.cats_text.specs.declared.read_fault.SendFault.{SendFault}
-use Rattle.cats_text.specs.declared.stream.Watched.{Watched}
+use Rattle.cats_text.proofs.Common.{rules, arith, ◌≡◌, ◌<◌, ◌≤◌, ◌+◌, ◌-◌, ◌^◌, ◌++◌, ◌∷◌, ℕ, List, [], length, take, drop, decimal, codes, Option, Some}
+use Rattle.cats_text.proofs.Common.{Result, Err, sym, ap, ◌∙◌, subst, IsErrAnd, take-add, Appends-trans, length-decimal-le, drop-drop, take-append-le}
+use Rattle.cats_text.proofs.Common.{drop-append-le, length-drop, err_from_is_err_and, Appends, slice_get, AreAbove, AreBelow, IsRising, PlainBid, PlainFile}
+use Rattle.cats_text.proofs.Common.{IsPlainFile, bid_text, bids_text, header_text, headers_text, inner_of, Sends, SendsPart, SendFault, Watched, common_steps}
+use Rattle.std.proofs.lemmas.List.{length-append}
 use Rattle.cats_text.proofs.Writing.BidTexts.{bid_at, bids_text_on}
-use Rattle.std.proofs.lemmas.Grind.{common_steps}
 
 -- ---- what is sent, and what is held
 

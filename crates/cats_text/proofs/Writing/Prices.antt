@@ -1,19 +1,15 @@
 -- What the text of a price spells.
-use Rattle.std.proofs.Common.{◌≡◌, ℕ, ◌+◌, ◌*◌, ◌/◌, ◌%◌, ◌^◌, ◌<◌, ◌≤◌, true, false, eqb, [], ◌∷◌, ◌++◌, length, decimal, refl, sym, ap, subst, ◌∙◌, inl}
-use Rattle.std.proofs.Common.{inr, arith, length-append}
-use Rattle.std.proofs.lemmas.Bool.{and_parts, and_from, or_left, or_right, cases_eq, cond-false, ne_eqb}
-use Rattle.std.proofs.lemmas.List.{append-nil, drop_all}
-use Rattle.cats_text.specs.Lines.{Word}
-use Rattle.cats_text.specs.Numbers.{is_digit, digits_alone, is_number, number_of, places, six_places}
-use Rattle.cats_text.specs.Grammar.{SpellsNumber, SpellsPrice}
-use Rattle.cats_text.specs.Layout.{without_zeros, six_digits, places_text, price_text}
+use Rattle.cats_text.proofs.Common.{◌≡◌, ℕ, ◌+◌, ◌*◌, ◌/◌, ◌%◌, ◌^◌, ◌<◌, ◌≤◌, true, false, eqb, [], ◌∷◌, ◌++◌, length, decimal, refl, sym, ap, subst, ◌∙◌, inl}
+use Rattle.cats_text.proofs.Common.{inr, arith, length-append, and_parts, and_from, or_left, or_right, cases_eq, cond-false, ne_eqb, drop_all, Word, is_digit}
+use Rattle.cats_text.proofs.Common.{digits_alone, is_number, number_of, places, six_places, SpellsNumber, SpellsPrice, without_zeros, six_digits, places_text}
+use Rattle.cats_text.proofs.Common.{price_text, common_steps}
+use Rattle.std.proofs.lemmas.List.{append-nil}
 use Rattle.cats_text.proofs.Writing.Numerals.{decimal_spells, digits_from_number, is_number_from_digits}
 use Rattle.cats_text.proofs.Words.Places.{digit_bounds}
 use Rattle.cats_text.proofs.Words.Kept.{whole-digits, point-digits, whole-point, places-point}
 use Rattle.cats_text.proofs.Writing.SixDigits.{six_digits_spell, six_places-without_zeros, digits_alone-without_zeros, length-without_zeros-le}
 use Rattle.cats_text.proofs.Writing.SixDigits.{places_text_none, places_text_some}
 use Rattle.cats_text.proofs.Writing.TextLines.{IsWord, IsLetter, all_append, digits_are_letters, number_is_word}
-use Rattle.std.proofs.lemmas.Grind.{common_steps}
 
 digit_not_point : (b : ℕ) → is_digit b ≡ true → eqb b 46 ≡ false
 digit_not_point b digit = let bounds = digit_bounds b digit in ne_eqb b 46 (λ e. omega arith)

@@ -1,15 +1,11 @@
 -- The six digits behind the point: what they spell, and that taking away the zeros at their end loses nothing.
-use Rattle.std.proofs.Common.{rules, ◌≡◌, ℕ, zero, suc, ◌+◌, nat_le, List, map, ◌<◌, ◌≤◌, true, eqb, [], ◌∷◌, ◌++◌, length, take, drop, replicate, decimal, sym}
-use Rattle.std.proofs.Common.{refl, ap, subst, ◌∙◌, inl, inr, arith}
+use Rattle.cats_text.proofs.Common.{rules, ◌≡◌, ℕ, zero, suc, ◌+◌, nat_le, List, map, ◌<◌, ◌≤◌, true, eqb, [], ◌∷◌, ◌++◌, length, take, drop, replicate}
+use Rattle.cats_text.proofs.Common.{decimal, sym, refl, ap, subst, ◌∙◌, inl, inr, arith, le-leb, and_parts, and_from, cases_eq, cond-false, cond_both, ne_eqb}
+use Rattle.cats_text.proofs.Common.{decimal-digits_value, Word, is_digit, digits_alone, number_of, six_places, with_place, without_zeros, digit_at, six_digits}
+use Rattle.cats_text.proofs.Common.{behind_point, places_text, common_steps}
 use Rattle.std.specs.Fmt.{digits}
-use Rattle.std.proofs.lemmas.Bool.{le-leb, and_parts, and_from, cases_eq, cond-false, cond_both, ne_eqb}
-use Rattle.std.proofs.lemmas.Fmt.{decimal-digits_value}
-use Rattle.cats_text.specs.Lines.{Word}
-use Rattle.cats_text.specs.Numbers.{is_digit, digits_alone, number_of, six_places}
-use Rattle.cats_text.specs.Layout.{with_place, without_zeros, digit_at, six_digits, behind_point, places_text}
 use Rattle.cats_text.proofs.Writing.Zeros.{drop_without_zeros}
 use Rattle.cats_text.proofs.Writing.Numerals.{numerals, number_of-cons}
-use Rattle.std.proofs.lemmas.Grind.{common_steps}
 
 -- six digits of this value
 pub record SpellsPlaces (w : Word) (n : ℕ) : Type 0 where

@@ -1,20 +1,14 @@
 -- The layout of a file spells it: its lines are the bids by number, so each number comes once, and the goods of a bid rise.
-use Rattle.std.proofs.Common.{rules, ◌≡◌, ℕ, suc, ◌+◌, ◌^◌, ◌<◌, true, List, [], ◌∷◌, ◌++◌, length, map, decimal, Option, Some, None, refl, sym, ap, subst, ◌∙◌}
-use Rattle.std.proofs.Common.{arith, append_assoc, length-append}
-use Rattle.std.specs.List.{AllByRecursion, slice_get}
+use Rattle.cats_text.proofs.Common.{rules, ◌≡◌, ℕ, suc, ◌+◌, ◌^◌, ◌<◌, true, List, [], ◌∷◌, ◌++◌, length, map, decimal, Option, Some, None, refl, sym, ap}
+use Rattle.cats_text.proofs.Common.{subst, ◌∙◌, arith, append_assoc, length-append, AllByRecursion, slice_get, is_number, number_of, AreAbove, AreBelow}
+use Rattle.cats_text.proofs.Common.{IsRising, has_good, has_below, SpellsBid, Spells, AreDistinct, line_number, PlainBid, PlainFile, IsPlainFile, dummy_good}
+use Rattle.cats_text.proofs.Common.{goods_of, price_text, layout, common_steps}
 use Rattle.std.proofs.lemmas.List.{append-nil}
-use Rattle.cats_text.specs.Numbers.{is_number, number_of}
-use Rattle.goods_set.specs.Bundles.{AreAbove, AreBelow, IsRising, has_good}
-use Rattle.goods_set.specs.Lemmas.Members.{has_below}
-use Rattle.cats_text.specs.Grammar.{SpellsBid, Spells, AreDistinct, line_number}
-use Rattle.bid_file.specs.Files.{PlainBid, PlainFile, IsPlainFile, dummy_good, goods_of}
-use Rattle.cats_text.specs.Layout.{price_text, layout}
 use Rattle.cats_text.proofs.Spelling.Distinct.{distinct_from_rising}
 use Rattle.cats_text.proofs.Spelling.Rising.{IsRising-push}
 use Rattle.cats_text.proofs.Writing.Numerals.{decimal_spells}
 use Rattle.cats_text.proofs.Writing.Prices.{price_text_spells}
 use Rattle.cats_text.proofs.Writing.Lines.{AreShort, AreBids, bid_words, bids_words, bid_goods_short, behind_first, layout_words}
-use Rattle.std.proofs.lemmas.Grind.{common_steps}
 
 -- ---- the goods of a bid rise
 

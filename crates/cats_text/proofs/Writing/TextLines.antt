@@ -1,11 +1,9 @@
 -- The lines and words of a text that is put together of words, blanks and line ends.
-use Rattle.std.proofs.Common.{◌≡◌, ℕ, suc, ◌<◌, true, false, eqb, List, [], ◌∷◌, ◌++◌, length, map, filter, refl, ◌∙◌, arith}
-use Rattle.std.specs.List.{AllByRecursion}
-use Rattle.std.proofs.lemmas.Bool.{false≢true, cond-true, cond-false, not_from_true, not_from_false, and_parts, and_left, or_from, ne_eqb}
-use Rattle.cats_text.specs.Lines.{Word, is_blank, blank_returns, raw_lines, begins_word, with_letter, words_with, line_words, is_significant, numbered}
-use Rattle.cats_text.specs.Numbers.{is_digit, digits_alone, is_number}
+use Rattle.cats_text.proofs.Common.{◌≡◌, ℕ, suc, ◌<◌, true, false, eqb, List, [], ◌∷◌, ◌++◌, length, map, filter, refl, ◌∙◌, arith, AllByRecursion, false≢true}
+use Rattle.cats_text.proofs.Common.{cond-true, cond-false, not_from_true, not_from_false, and_parts, and_left, or_from, ne_eqb, Word, is_blank, blank_returns}
+use Rattle.cats_text.proofs.Common.{raw_lines, begins_word, with_letter, words_with, line_words, is_significant, numbered, is_digit, digits_alone, is_number}
+use Rattle.cats_text.proofs.Common.{common_steps}
 use Rattle.cats_text.proofs.Words.Places.{digit_bounds}
-use Rattle.std.proofs.lemmas.Grind.{common_steps}
 
 -- a byte of a line, other than CR
 pub record IsInLine (b : ℕ) : Type 0 where

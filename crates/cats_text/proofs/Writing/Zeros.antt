@@ -1,9 +1,7 @@
 -- The zeros at the end of digits.
-use Rattle.std.proofs.Common.{◌≡◌, ◌≢◌, ℕ, ◌+◌, ◌/◌, ◌%◌, ◌^◌, ◌<◌, List, [], ◌∷◌, ◌++◌, length, drop, eqb, decimal, refl, sym, ap, ◌∙◌, arith, length-append}
-use Rattle.std.proofs.lemmas.Bool.{cases_lt, cond-false, cond_both, ne_eqb}
-use Rattle.std.proofs.lemmas.Fmt.{decimal_digit, decimal_step}
-use Rattle.cats_text.specs.Layout.{with_place, without_zeros}
-use Rattle.std.proofs.lemmas.Grind.{common_steps}
+use Rattle.cats_text.proofs.Common.{◌≡◌, ◌≢◌, ℕ, ◌+◌, ◌/◌, ◌%◌, ◌^◌, ◌<◌, List, [], ◌∷◌, ◌++◌, length, drop, eqb, decimal, refl, sym, ap, ◌∙◌, arith}
+use Rattle.cats_text.proofs.Common.{length-append, cases_lt, cond-false, cond_both, ne_eqb, decimal_digit, decimal_step, with_place, without_zeros}
+use Rattle.cats_text.proofs.Common.{common_steps}
 
 without_zeros_push : (xs : List ℕ) → without_zeros (xs ++ 48 ∷ []) ≡ without_zeros xs
 without_zeros_push [] = refl

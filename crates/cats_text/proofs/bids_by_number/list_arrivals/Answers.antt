@@ -1,6 +1,5 @@
 -- `list_arrivals`
-use Rattle.std.proofs.Common.{◌≡◌, ◌≤◌, length, arith, rules}
-use Rattle.std.proofs.lemmas.Grind.{common_steps}
+use Rattle.cats_text.proofs.Common.{◌≡◌, ◌≤◌, length, arith, rules, common_steps}
 use Rattle.cats_text.proofs.Parsing.BidsByNumber.{none_numbered, next_numbered, all_listed, within_numbered}
 use Rattle.cats_text.proofs.bids_by_number.list_arrivals.Goals as goal
 

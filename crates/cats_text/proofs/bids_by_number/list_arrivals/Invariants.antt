@@ -1,5 +1,5 @@
 -- `list_arrivals`
-use Rattle.std.proofs.Common.{◌≡◌, ◌≤◌, ◌-◌, length}
+use Rattle.cats_text.proofs.Common.{◌≡◌, ◌≤◌, ◌-◌, length}
 use Rattle.cats_text.proofs.Parsing.BidsByNumber.{numbered}
 use Rattle.cats_text.proofs.bids_by_number.list_arrivals.Given as goal
 

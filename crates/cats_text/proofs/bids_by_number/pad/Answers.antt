@@ -1,5 +1,5 @@
 -- `pad`
-use Rattle.std.proofs.Common.{◌≤◌, length, arith, rules}
+use Rattle.cats_text.proofs.Common.{◌≤◌, length, arith, rules}
 use Rattle.cats_text.proofs.Parsing.BidsByNumber.{padded_more, within_push}
 use Rattle.cats_text.proofs.bids_by_number.pad.Goals as goal
 

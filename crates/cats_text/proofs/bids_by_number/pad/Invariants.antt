@@ -1,6 +1,5 @@
 -- `pad`
-use Rattle.std.proofs.Common.{◌+◌, ◌-◌, length, ℕ}
-use Rattle.cats_text.specs.Internal.Kept.{IsPadded, AreWithin}
+use Rattle.cats_text.proofs.Common.{◌+◌, ◌-◌, length, ℕ, IsPadded, AreWithin}
 use Rattle.cats_text.proofs.bids_by_number.pad.Given as goal
 
 abbrev pub invariant-loop-arrivals : goal.invariant-loop-arrivals

@@ -1,6 +1,5 @@
 -- `few_digits`: the first byte that is no digit is found by its flag; the digits before it, moved up, are worth what they spell.
-use Rattle.std.proofs.Common.{arith, take, sym, ◌∙◌}
-use Rattle.core.proofs.dec2flt.Eight.{lanes_are, first_other, shifted_is, eight_at, word_at}
+use Rattle.cats_text.proofs.Common.{arith, take, sym, ◌∙◌, lanes_are, first_other, shifted_is, eight_at, word_at}
 use Rattle.cats_text.proofs.eight.few_digits.Goals as goal
 
 pub returns-clause-count : goal.returns-clause-count

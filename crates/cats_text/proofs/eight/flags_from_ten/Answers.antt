@@ -1,5 +1,5 @@
 -- `flags_from_ten`
-use Rattle.core.proofs.slice.Flagged.{flags_from_ten}
+use Rattle.cats_text.proofs.Common.{flags_from_ten}
 use Rattle.cats_text.proofs.eight.flags_from_ten.Goals as goal
 
 pub returns : goal.returns

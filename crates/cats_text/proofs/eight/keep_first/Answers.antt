@@ -1,5 +1,5 @@
 -- `keep_first`
-use Rattle.core.proofs.dec2flt.Eight.{bytes_up}
+use Rattle.cats_text.proofs.Common.{bytes_up}
 use Rattle.cats_text.proofs.eight.keep_first.Goals as goal
 
 pub returns : goal.returns

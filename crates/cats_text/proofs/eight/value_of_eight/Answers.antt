@@ -1,5 +1,5 @@
 -- `value_of_eight`
-use Rattle.core.proofs.dec2flt.Eight.{eight_is}
+use Rattle.cats_text.proofs.Common.{eight_is}
 use Rattle.cats_text.proofs.eight.value_of_eight.Goals as goal
 
 pub returns : goal.returns

@@ -1,7 +1,5 @@
 -- `judge_words`
-use Rattle.std.proofs.Common.{◌≡◌, ◌+◌, ◌≤◌, length}
-use Rattle.cats_text.specs.Lines.{line_words}
-use Rattle.cats_text.specs.Internal.Places.{seen, words_judged}
+use Rattle.cats_text.proofs.Common.{◌≡◌, ◌+◌, ◌≤◌, length, line_words, seen, words_judged}
 use Rattle.cats_text.proofs.fault_place.judge_words.Given as goal
 
 abbrev pub invariant-loop-text : goal.invariant-loop-text

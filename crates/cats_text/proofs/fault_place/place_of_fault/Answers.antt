@@ -1,13 +1,6 @@
 -- `place_of_fault`
-use Rattle.std.proofs.Common.{rules, ◌≡◌, ◌≢◌, refl, ℕ, List, [], length, ap, ◌∙◌, sym, subst, arith, Some, None, option_map, cond, add-one}
-use Rattle.std.proofs.lemmas.Bool.{eqb-true}
-use Rattle.cats_text.specs.Lines.{raw_lines, blank_returns}
-use Rattle.cats_text.specs.FaultPlaces.{place_behind}
-use Rattle.cats_text.specs.Internal.Places.{seen, line_judged}
-use Rattle.cats_text.specs.Internal.Progress.{Stops}
-use Rattle.cats_text.specs.Views.{plain_place}
-use Rattle.cats_text.specs.declared.read_fault.Kind.{Kind}
-use Rattle.cats_text.specs.declared.read_fault.Kind.TheVariants.{Missing, Memory}
+use Rattle.cats_text.proofs.Common.{rules, ◌≡◌, ◌≢◌, refl, ℕ, List, [], length, ap, ◌∙◌, sym, subst, arith, Some, None, option_map, cond, add-one, eqb-true}
+use Rattle.cats_text.proofs.Common.{raw_lines, blank_returns, place_behind, seen, line_judged, Stops, plain_place, Kind, Missing, Memory}
 use Rattle.cats_text.proofs.Texts.FirstPlaces.{IsBehind, at_first_line, line_stopped, line_passed, lines_ended, none_left, place_if}
 use Rattle.cats_text.proofs.fault_place.place_of_fault.Goals as goal
 use Rattle.cats_text.proofs.fault_place.place_of_fault.Goals.{in-Memory, in_default-kind}

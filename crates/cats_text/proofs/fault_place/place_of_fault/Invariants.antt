@@ -1,7 +1,5 @@
 -- `place_of_fault`
-use Rattle.std.proofs.Common.{◌+◌, ◌≤◌, length}
-use Rattle.cats_text.specs.Lines.{raw_lines, blank_returns}
-use Rattle.cats_text.specs.Internal.Places.{seen}
+use Rattle.cats_text.proofs.Common.{◌+◌, ◌≤◌, length, raw_lines, blank_returns, seen}
 use Rattle.cats_text.proofs.Texts.FirstPlaces.{IsBehind}
 use Rattle.cats_text.proofs.fault_place.place_of_fault.Given as goal
 

@@ -1,11 +1,6 @@
 -- `split_word`
-use Rattle.std.proofs.Common.{rules, ◌≡◌, ℕ, List, not, Some, ap, ◌∙◌, sym, length, take, drop, refl, subst, ◌-◌}
-use Rattle.std.specs.List.{position}
-use Rattle.std.specs.Option.{unwrap_or}
-use Rattle.std.proofs.lemmas.List.{take_rest}
-use Rattle.std.proofs.lemmas.List.Quantifiers.{position-Some}
-use Rattle.cats_text.specs.Lines.{is_blank}
-use Rattle.cats_text.specs.Internal.Places.{IsFirstWord}
+use Rattle.cats_text.proofs.Common.{rules, ◌≡◌, ℕ, List, not, Some, ap, ◌∙◌, sym, length, take, drop, refl, subst, ◌-◌, position, unwrap_or, take_rest}
+use Rattle.cats_text.proofs.Common.{position-Some, is_blank, IsFirstWord}
 use Rattle.cats_text.proofs.Texts.FirstWords.{IsFound, found_at, first_word, no_word}
 use Rattle.cats_text.proofs.fault_place.split_word.Goals as goal
 

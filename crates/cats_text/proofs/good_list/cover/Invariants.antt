@@ -1,5 +1,5 @@
 -- `cover`
-use Rattle.std.proofs.Common.{◌≡◌, ℕ, ◌+◌, ◌-◌, get_or, vec_len}
+use Rattle.cats_text.proofs.Common.{◌≡◌, ℕ, ◌+◌, ◌-◌, get_or, vec_len}
 use Rattle.cats_text.proofs.good_list.cover.Given as goal
 
 abbrev pub invariant-loop-marks : goal.invariant-loop-marks

@@ -1,6 +1,5 @@
 -- `mark_all`
-use Rattle.std.proofs.Common.{arith, ◌≡◌, ◌-◌, ◌<◌, ◌≤◌, [], length, take, get_or, vec_len}
-use Rattle.std.proofs.lemmas.List.{take_more}
+use Rattle.cats_text.proofs.Common.{arith, ◌≡◌, ◌-◌, ◌<◌, ◌≤◌, [], length, take, get_or, vec_len, take_more}
 use Rattle.cats_text.proofs.Spelling.Marks.{IsMarked-push, IsMarked-covered}
 use Rattle.cats_text.proofs.Spelling.Rising.{has_at, rising_new, last_is_most}
 use Rattle.cats_text.proofs.good_list.mark_all.Goals as goal

@@ -1,6 +1,5 @@
 -- `mark_all`: the goods so far are marked, and each has its mark.
-use Rattle.std.proofs.Common.{ℕ, ◌<◌, length, take, get_or, vec_len}
-use Rattle.cats_text.specs.Internal.Marks.{IsMarked}
+use Rattle.cats_text.proofs.Common.{ℕ, ◌<◌, length, take, get_or, vec_len, IsMarked}
 use Rattle.cats_text.proofs.good_list.mark_all.Given as goal
 
 abbrev pub invariant-loop-good : goal.invariant-loop-good

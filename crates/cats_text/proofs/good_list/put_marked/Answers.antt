@@ -1,8 +1,5 @@
 -- `put_marked`
-use Rattle.std.proofs.Common.{◌≡◌, ◌≢◌, ◌<◌, false, eqb, get_or, length, rules, sym, ap, ◌∙◌, arith}
-use Rattle.std.proofs.lemmas.Bool.{ne_eqb}
-use Rattle.std.proofs.lemmas.Grind.{common_steps}
-use Rattle.goods_set.specs.Bundles.{has_good}
+use Rattle.cats_text.proofs.Common.{◌≡◌, ◌≢◌, ◌<◌, false, eqb, get_or, length, rules, sym, ap, ◌∙◌, arith, ne_eqb, common_steps, has_good}
 use Rattle.cats_text.proofs.Spelling.Marks.{IsMarked-push, IsMarked-covered}
 use Rattle.cats_text.proofs.good_list.put_marked.Goals as goal
 

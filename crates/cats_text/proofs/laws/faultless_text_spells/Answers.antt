@@ -1,5 +1,5 @@
 -- `faultless_text_spells`
-use Rattle.std.proofs.Common.{sym}
+use Rattle.cats_text.proofs.Common.{sym}
 use Rattle.cats_text.proofs.Spelling.Files.{spells_from_no_fault, says_spelled}
 use Rattle.cats_text.proofs.laws.faultless_text_spells.Goals as goal
 

@@ -1,5 +1,5 @@
 -- `faults_of_texts`
-use Rattle.std.proofs.Common.{true, false, refl, subst, IfSome}
+use Rattle.cats_text.proofs.Common.{true, false, refl, subst, IfSome}
 use Rattle.cats_text.proofs.Texts.FaultKinds.{IsFound, first_fault-found, complete_fault-found}
 use Rattle.cats_text.proofs.laws.faults_of_texts.Goals as goal
 

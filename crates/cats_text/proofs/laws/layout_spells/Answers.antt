@@ -1,5 +1,5 @@
 -- `layout_spells`
-use Rattle.cats_text.specs.Layout.{layout}
+use Rattle.cats_text.proofs.Common.{layout}
 use Rattle.cats_text.proofs.Spelling.Files.{spells_one}
 use Rattle.cats_text.proofs.Writing.Spells as proof
 use Rattle.cats_text.proofs.laws.layout_spells.Goals as goal

@@ -1,8 +1,6 @@
 -- `push_bids`
-use Rattle.std.proofs.lemmas.Grind.{common_steps}
-use Rattle.std.proofs.Common.{◌++◌, List, ℕ, arith, ap, ◌∙◌}
+use Rattle.cats_text.proofs.Common.{common_steps, ◌++◌, List, ℕ, arith, ap, ◌∙◌, LONGEST_LINE}
 use Rattle.cats_text.proofs.Writing.BidTexts.{bids_text_on, bids_text_all}
-use Rattle.cats_text.specs.declared.layout.TheConstants.{LONGEST_LINE}
 use Rattle.cats_text.proofs.Writing.Ends.{rest_of}
 use Rattle.cats_text.proofs.layout.push_bids.Goals as goal
 

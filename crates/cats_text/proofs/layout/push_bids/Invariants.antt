@@ -1,6 +1,5 @@
 -- `push_bids`
-use Rattle.std.proofs.Common.{◌≡◌, ◌++◌, drop}
-use Rattle.cats_text.specs.Layout.{bids_text}
+use Rattle.cats_text.proofs.Common.{◌≡◌, ◌++◌, drop, bids_text}
 use Rattle.cats_text.proofs.layout.push_bids.Given as goal
 
 abbrev pub invariant-loop-number : goal.invariant-loop-number

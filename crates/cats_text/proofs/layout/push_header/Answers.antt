@@ -1,6 +1,5 @@
 -- `push_header`
-use Rattle.std.proofs.lemmas.Grind.{common_steps}
-use Rattle.std.proofs.Common.{arith}
+use Rattle.cats_text.proofs.Common.{common_steps, arith}
 use Rattle.cats_text.proofs.layout.push_header.Goals as goal
 
 pub returns-clause-text : goal.returns-clause-text

@@ -1,9 +1,5 @@
 -- `write_bid`
-use Rattle.std.proofs.lemmas.Grind.{common_steps}
-use Rattle.std.proofs.Common.{◌++◌, ◌∷◌, decimal, List, ℕ, ap, ◌∙◌, arith}
-use Rattle.bid_file.specs.Files.{dummy_good}
-use Rattle.bid_file.specs.Views.{seen_bid}
-use Rattle.cats_text.specs.Layout.{price_text, tabbed}
+use Rattle.cats_text.proofs.Common.{common_steps, ◌++◌, ◌∷◌, decimal, List, ℕ, ap, ◌∙◌, arith, dummy_good, seen_bid, price_text, tabbed}
 use Rattle.cats_text.proofs.Writing.Ends.{whole_line}
 use Rattle.cats_text.proofs.Writing.Pieces.{bundle_within}
 use Rattle.cats_text.proofs.layout.write_bid.Goals as goal

@@ -1,6 +1,5 @@
 -- `write_dummy`
-use Rattle.std.proofs.Common.{◌+◌, arith}
-use Rattle.std.proofs.lemmas.Fmt.{length-decimal-le}
+use Rattle.cats_text.proofs.Common.{◌+◌, arith, length-decimal-le}
 use Rattle.cats_text.proofs.layout.write_dummy.Goals as goal
 
 pub write_good-requires-clause-space : goal.write_good-requires-clause-space

@@ -1,8 +1,5 @@
 -- `write_goods`
-use Rattle.std.proofs.Common.{◌≡◌, ◌-◌, ◌≤◌, ◌∷◌, ◌++◌, length, take, drop, get_or, decimal, ap, ◌∙◌, arith}
-use Rattle.std.proofs.lemmas.Fmt.{length-decimal-le}
-use Rattle.std.proofs.lemmas.List.{length-take-le}
-use Rattle.cats_text.specs.Layout.{tabbed}
+use Rattle.cats_text.proofs.Common.{◌≡◌, ◌-◌, ◌≤◌, ◌∷◌, ◌++◌, length, take, drop, get_or, decimal, ap, ◌∙◌, arith, length-decimal-le, length-take-le, tabbed}
 use Rattle.cats_text.proofs.Writing.Ends.{last_good, shorter_prefix, last_of_prefix}
 use Rattle.cats_text.proofs.layout.write_goods.Goals as goal
 

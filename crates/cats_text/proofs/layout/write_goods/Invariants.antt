@@ -1,7 +1,5 @@
 -- `write_goods`
-use Rattle.std.proofs.Common.{◌≡◌, ◌+◌, ◌*◌, ◌≤◌, ◌++◌, length, take, drop}
-use Rattle.cats_text.specs.Layout.{tabbed}
-use Rattle.cats_text.specs.declared.layout.TheConstants.{GOOD}
+use Rattle.cats_text.proofs.Common.{◌≡◌, ◌+◌, ◌*◌, ◌≤◌, ◌++◌, length, take, drop, tabbed, GOOD}
 use Rattle.cats_text.proofs.layout.write_goods.Given as goal
 
 abbrev pub invariant-loop-left : goal.invariant-loop-left

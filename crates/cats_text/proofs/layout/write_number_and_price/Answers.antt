@@ -1,6 +1,5 @@
 -- `write_number_and_price`
-use Rattle.std.proofs.Common.{arith, rules}
-use Rattle.std.proofs.lemmas.Fmt.{length-decimal-le}
+use Rattle.cats_text.proofs.Common.{arith, rules, length-decimal-le}
 use Rattle.cats_text.proofs.layout.write_number_and_price.Goals as goal
 
 pub write_digits-requires : goal.write_digits-requires

@@ -1,8 +1,6 @@
 -- `kept`
-use Rattle.std.proofs.Common.{◌≡◌, ◌+◌, ◌<◌, ◌≤◌, ℕ, List, true, false, length, take, fold, get_or, subst, rules, arith}
-use Rattle.std.proofs.lemmas.Grind.{common_steps}
-use Rattle.cats_text.specs.Internal.Machine.{word_with}
-use Rattle.cats_text.specs.Numbers.{digits_alone}
+use Rattle.cats_text.proofs.Common.{◌≡◌, ◌+◌, ◌<◌, ◌≤◌, ℕ, List, true, false, length, take, fold, get_or, subst, rules, arith, common_steps, word_with}
+use Rattle.cats_text.proofs.Common.{digits_alone}
 use Rattle.cats_text.specs.declared.word.Word.TheVariants.{Decimal}
 use Rattle.cats_text.proofs.Scanning.LeadingTokens.{number_kept, decimal_kept}
 use Rattle.cats_text.proofs.Scanning.ManyBytes.{rest_is}

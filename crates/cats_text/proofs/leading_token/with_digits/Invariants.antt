@@ -1,5 +1,5 @@
 -- `with_digits`
-use Rattle.cats_text.specs.Internal.LeadingToken.{IsNumberSoFar}
+use Rattle.cats_text.proofs.Common.{IsNumberSoFar}
 use Rattle.cats_text.proofs.leading_token.with_digits.Given as goal
 
 abbrev pub invariant-loop-count : goal.invariant-loop-count

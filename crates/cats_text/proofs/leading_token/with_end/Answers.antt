@@ -1,7 +1,5 @@
 -- `with_end`
-use Rattle.std.proofs.Common.{◌<◌, ◌≡◌, length, get_or, true, rules, arith}
-use Rattle.std.proofs.lemmas.Grind.{common_steps}
-use Rattle.cats_text.specs.Lines.{is_blank}
+use Rattle.cats_text.proofs.Common.{◌<◌, ◌≡◌, length, get_or, true, rules, arith, common_steps, is_blank}
 use Rattle.cats_text.proofs.Scanning.LeadingTokens.{token_before_blank, token_before_feed}
 use Rattle.cats_text.proofs.leading_token.with_end.Goals as goal
 

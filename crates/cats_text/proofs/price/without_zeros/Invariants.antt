@@ -1,6 +1,5 @@
 -- `without_zeros`
-use Rattle.std.proofs.Common.{◌≡◌, ◌<◌, ◌≤◌, decimal}
-use Rattle.cats_text.specs.Layout.{without_zeros}
+use Rattle.cats_text.proofs.Common.{◌≡◌, ◌<◌, ◌≤◌, decimal, without_zeros}
 use Rattle.cats_text.proofs.price.without_zeros.Given as goal
 
 abbrev pub invariant-loop-left : goal.invariant-loop-left

@@ -1,6 +1,5 @@
 -- `write_price`
-use Rattle.std.proofs.Common.{◌/◌, arith}
-use Rattle.std.proofs.lemmas.Fmt.{length-decimal-le, decimal_nonempty}
+use Rattle.cats_text.proofs.Common.{◌/◌, arith, length-decimal-le, decimal_nonempty}
 use Rattle.cats_text.proofs.price.write_price.Goals as goal
 
 pub write_digits-requires : goal.write_digits-requires

@@ -1,6 +1,5 @@
 -- `read`: the packed file that the text spells, with a vector for each bid.
-use Rattle.std.proofs.Common.{rules}
-use Rattle.std.proofs.lemmas.Result.{err_from_is_err_and}
+use Rattle.cats_text.proofs.Common.{rules, err_from_is_err_and}
 use Rattle.cats_text.proofs.Feeding.Files.{unpacked_reported}
 use Rattle.cats_text.proofs.reader.read.Goals as goal
 

@@ -1,6 +1,5 @@
 -- `read_packed`: what a `PushReader` that was fed the whole text answers.
-use Rattle.std.proofs.Common.{rules}
-use Rattle.std.proofs.lemmas.Result.{err_from_is_err_and}
+use Rattle.cats_text.proofs.Common.{rules, err_from_is_err_and}
 use Rattle.cats_text.proofs.Feeding.Pieces.{whole_reported}
 use Rattle.cats_text.proofs.reader.read_packed.Goals as goal
 

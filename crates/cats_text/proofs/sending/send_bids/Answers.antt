@@ -1,10 +1,7 @@
 -- `send_bids`
-use Rattle.std.proofs.Common.{rules, ◌++◌, ◌-◌, ◌≤◌, List, ℕ, arith, length, length-drop, length-append, refl, ap, ◌∙◌, drop}
-use Rattle.std.proofs.lemmas.Bool.{false≢true}
-use Rattle.std.proofs.KnownBytes.{Appends-nil}
-use Rattle.bid_file.specs.Files.{PlainFile}
-use Rattle.cats_text.specs.Layout.{bids_text, layout}
-use Rattle.cats_text.specs.declared.layout.TheConstants.{LONGEST_LINE}
+use Rattle.cats_text.proofs.Common.{rules, ◌++◌, ◌-◌, ◌≤◌, List, ℕ, arith, length, length-append, refl, ap, ◌∙◌, drop, false≢true, Appends-nil, PlainFile}
+use Rattle.cats_text.proofs.Common.{bids_text, layout, LONGEST_LINE}
+use Rattle.std.proofs.Common.{length-drop}
 use Rattle.cats_text.proofs.Writing.Ends.{rest_of}
 use Rattle.cats_text.proofs.Writing.Pieces.{sent_on, within_on, line_held, failed_in_piece, headers_short}
 use Rattle.cats_text.proofs.sending.send_bids.Goals as goal

@@ -1,10 +1,6 @@
 -- `send_bids`
-use Rattle.std.proofs.Common.{◌≡◌, ◌+◌, ◌*◌, ◌++◌, ◌≤◌, length, take, drop, false, vec_capacity}
-use Rattle.std.specs.Io.KnownBytes.{Appends}
-use Rattle.cats_text.specs.Layout.{bids_text, layout}
-use Rattle.cats_text.specs.declared.layout.TheConstants.{LONGEST_LINE}
-use Rattle.cats_text.specs.declared.sending.TheConstants.{PAGE}
-use Rattle.cats_text.specs.Streams.{inner_of, has_failed, has_ended}
+use Rattle.cats_text.proofs.Common.{◌≡◌, ◌+◌, ◌*◌, ◌++◌, ◌≤◌, length, take, drop, false, vec_capacity, Appends, bids_text, layout, LONGEST_LINE, PAGE, inner_of}
+use Rattle.cats_text.proofs.Common.{has_failed, has_ended}
 use Rattle.cats_text.proofs.sending.send_bids.Given as goal
 
 abbrev pub invariant-loop-number : goal.invariant-loop-number

@@ -1,7 +1,5 @@
 -- `send_piece`
-use Rattle.std.proofs.Common.{length, ◌-◌, ◌≡◌, ◌≤◌, take, false}
-use Rattle.std.specs.Io.KnownBytes.{Appends}
-use Rattle.cats_text.specs.Streams.{inner_of, has_failed, has_ended}
+use Rattle.cats_text.proofs.Common.{length, ◌-◌, ◌≡◌, ◌≤◌, take, false, Appends, inner_of, has_failed, has_ended}
 use Rattle.cats_text.proofs.sending.send_piece.Given as goal
 
 abbrev pub invariant-loop-written : goal.invariant-loop-written

@@ -1,7 +1,5 @@
 -- `check_from`: the header lines of all bytes that were fed, or the fault that feeding them reported.
-use Rattle.std.proofs.Common.{rules, arith}
-use Rattle.std.proofs.lemmas.Grind.{common_steps}
-use Rattle.std.proofs.lemmas.Result.{err_from_is_err_and}
+use Rattle.cats_text.proofs.Common.{rules, arith, common_steps, err_from_is_err_and}
 use Rattle.cats_text.proofs.Feeding.Streams.{checked_reported, ended_reported}
 use Rattle.cats_text.proofs.stream.check_from.Goals as goal
 

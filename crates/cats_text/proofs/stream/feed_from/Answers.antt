@@ -1,12 +1,6 @@
 -- `feed_from`: the bytes that came are those that were fed.
-use Rattle.std.proofs.Common.{rules, arith, ◌≡◌, ◌<◌, ◌++◌, ℕ, Bool, true, List, [], ◌∷◌, ◌||◌, length, take, refl, ◌∙◌, append-nil, Ok, Option, length-append}
-use Rattle.std.proofs.lemmas.Grind.{common_steps}
-use Rattle.std.proofs.Common.{◌≢◌}
-use Rattle.std.proofs.lemmas.Result.{err_from_is_err_and}
-use Rattle.cats_text.specs.declared.limits.TheConstants.{MAX_STREAM}
-use Rattle.std.proofs.KnownBytes.{Consumes-trans, Consumes-kept}
-use Rattle.std.specs.Io.KnownBytes.{Consumes}
-use Rattle.cats_text.specs.Streams.{moved_nothing}
+use Rattle.cats_text.proofs.Common.{rules, arith, ◌≡◌, ◌<◌, ◌++◌, ℕ, Bool, true, List, [], ◌∷◌, ◌||◌, length, take, refl, ◌∙◌, append-nil, Ok, Option}
+use Rattle.cats_text.proofs.Common.{length-append, common_steps, ◌≢◌, err_from_is_err_and, MAX_STREAM, Consumes-trans, Consumes-kept, Consumes, moved_nothing}
 use Rattle.cats_text.proofs.Texts.FaultKinds.{fed_within}
 use Rattle.cats_text.proofs.Feeding.Streams.{fed_reported}
 use Rattle.cats_text.proofs.stream.feed_from.Goals as goal

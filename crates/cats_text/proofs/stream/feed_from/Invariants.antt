@@ -1,9 +1,5 @@
 -- `feed_from`
-use Rattle.std.proofs.Common.{◌≡◌, ◌<◌, ◌+◌, ◌-◌, length, false, None}
-use Rattle.std.specs.Io.KnownBytes.{Consumes}
-use Rattle.cats_text.specs.declared.limits.TheConstants.{MAX_STREAM}
-use Rattle.cats_text.specs.Fed.{fed_fault}
-use Rattle.cats_text.specs.Streams.{inner_of, has_failed}
+use Rattle.cats_text.proofs.Common.{◌≡◌, ◌<◌, ◌+◌, ◌-◌, length, false, None, Consumes, MAX_STREAM, fed_fault, inner_of, has_failed}
 use Rattle.cats_text.proofs.stream.feed_from.Given as goal
 
 abbrev pub invariant-loop-count : goal.invariant-loop-count

@@ -1,7 +1,5 @@
 -- `read_packed_from`: the file of all bytes that were fed, or the fault that feeding them reported.
-use Rattle.std.proofs.Common.{rules, arith}
-use Rattle.std.proofs.lemmas.Grind.{common_steps}
-use Rattle.std.proofs.lemmas.Result.{err_from_is_err_and}
+use Rattle.cats_text.proofs.Common.{rules, arith, common_steps, err_from_is_err_and}
 use Rattle.cats_text.proofs.Feeding.Streams.{packed_reported}
 use Rattle.cats_text.proofs.stream.read_packed_from.Goals as goal
 

@@ -1,5 +1,5 @@
 -- `numbers_and_prices`
-use Rattle.std.proofs.Common.{refl}
+use Rattle.cats_text.proofs.Common.{refl}
 use Rattle.std.specs.Fmt.{digits}
 use Rattle.cats_text.proofs.worked.numbers_and_prices.Goals as goal
 

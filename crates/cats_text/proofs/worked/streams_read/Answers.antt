@@ -1,6 +1,5 @@
 -- `streams_read`
-use Rattle.std.proofs.Common.{rules, refl, codes}
-use Rattle.cats_text.specs.FileLines.{spelled_file}
+use Rattle.cats_text.proofs.Common.{rules, refl, codes, spelled_file}
 use Rattle.cats_text.proofs.Spelling.Files.{spells_from_no_fault}
 use Rattle.cats_text.proofs.worked.streams_read.Goals as goal
 

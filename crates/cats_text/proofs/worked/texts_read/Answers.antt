@@ -1,5 +1,5 @@
 -- `texts_read`
-use Rattle.std.proofs.Common.{refl, codes}
+use Rattle.cats_text.proofs.Common.{refl, codes}
 use Rattle.cats_text.proofs.Spelling.Files.{spells_from_no_fault}
 use Rattle.cats_text.proofs.worked.texts_read.Goals as goal
 

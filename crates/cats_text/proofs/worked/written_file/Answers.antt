@@ -1,5 +1,5 @@
 -- `written_file`
-use Rattle.std.proofs.Common.{refl}
+use Rattle.cats_text.proofs.Common.{refl}
 use Rattle.std.specs.Fmt.{digits}
 use Rattle.cats_text.proofs.worked.written_file.Goals as goal
 

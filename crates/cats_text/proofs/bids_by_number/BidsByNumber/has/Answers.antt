@@ -1,9 +1,5 @@
 -- `BidsByNumber::has`
-use Rattle.std.proofs.Common.{◌≡◌, ◌∙◌, List, Option, length, sym, ap, arith, rules}
-use Rattle.std.proofs.lemmas.Grind.{common_steps}
-use Rattle.std.specs.List.{slice_get}
-use Rattle.bid_file.specs.Files.{PlainBid}
-use Rattle.cats_text.specs.Internal.Kept.{is_some_bid}
+use Rattle.cats_text.proofs.Common.{◌≡◌, ◌∙◌, List, Option, length, sym, ap, arith, rules, common_steps, slice_get, PlainBid, is_some_bid}
 use Rattle.cats_text.proofs.Parsing.BidsByNumber.{has_in_order, listed}
 use Rattle.cats_text.proofs.bids_by_number.BidsByNumber.has.Goals as goal
 

@@ -1,10 +1,6 @@
 -- `BidsByNumber::into_kept`
-use Rattle.std.proofs.Common.{◌≡◌, ◌<◌, ◌≤◌, ◌+◌, ◌-◌, ◌∙◌, ◌++◌, ◌∷◌, [], ℕ, List, ap, sym, take, get_or, length, arith, rules, refl}
-use Rattle.std.proofs.lemmas.Grind.{common_steps}
-use Rattle.std.proofs.lemmas.List.{take_all, take_more}
-use Rattle.std.proofs.lemmas.Option.{slice_get-get_or}
-use Rattle.cats_text.specs.FileLines.{filled}
-use Rattle.cats_text.specs.Internal.Kept.{AreWithin, arrived}
+use Rattle.cats_text.proofs.Common.{◌≡◌, ◌<◌, ◌≤◌, ◌+◌, ◌-◌, ◌∙◌, ◌++◌, ◌∷◌, [], ℕ, List, ap, sym, take, get_or, length, arith, rules, refl, common_steps}
+use Rattle.cats_text.proofs.Common.{take_all, take_more, slice_get-get_or, filled, AreWithin, arrived}
 use Rattle.cats_text.proofs.Parsing.BidsByNumber.{filled_all, kept_none, kept_more, listed, within_at}
 use Rattle.cats_text.proofs.bids_by_number.BidsByNumber.into_kept.Goals.{then-arrival-gt0+in_ok-add_from, else-arrival-gt0}
 use Rattle.cats_text.proofs.bids_by_number.BidsByNumber.into_kept.Goals as goal

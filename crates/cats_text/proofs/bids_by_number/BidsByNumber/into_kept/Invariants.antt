@@ -1,7 +1,5 @@
 -- `BidsByNumber::into_kept`
-use Rattle.std.proofs.Common.{◌≡◌, take}
-use Rattle.cats_text.specs.FileLines.{filled}
-use Rattle.cats_text.specs.Internal.Kept.{arrived}
+use Rattle.cats_text.proofs.Common.{◌≡◌, take, filled, arrived}
 use Rattle.cats_text.proofs.bids_by_number.BidsByNumber.into_kept.Given as goal
 
 abbrev pub invariant-loop-arrival : goal.invariant-loop-arrival

@@ -1,7 +1,5 @@
 -- `BidsByNumber::put`
-use Rattle.std.proofs.Common.{◌≡◌, ◌∙◌, length, arith, rules}
-use Rattle.std.proofs.lemmas.Grind.{common_steps}
-use Rattle.cats_text.specs.Internal.Kept.{with_goods}
+use Rattle.cats_text.proofs.Common.{◌≡◌, ◌∙◌, length, arith, rules, common_steps, with_goods}
 use Rattle.cats_text.proofs.Parsing.BidsByNumber.{put_in_order, on_ok}
 use Rattle.cats_text.proofs.bids_by_number.BidsByNumber.put.Goals as goal
 

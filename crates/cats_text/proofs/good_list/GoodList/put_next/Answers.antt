@@ -1,5 +1,5 @@
 -- `GoodList::put_next`
-use Rattle.std.proofs.Common.{◌≤◌, ◌<◌, arith}
+use Rattle.cats_text.proofs.Common.{◌≤◌, ◌<◌, arith}
 use Rattle.cats_text.proofs.Spelling.Marks.{IsListed-push}
 use Rattle.cats_text.proofs.good_list.GoodList.put_next.Goals as goal
 

@@ -1,9 +1,6 @@
 -- `GoodList::sort`: goods that do not rise are sorted: the marks stay theirs.
-use Rattle.std.proofs.Common.{rules, ◌≡◌, true, sym, ap, ◌∙◌, List, ℕ}
-use Rattle.std.proofs.lemmas.Bool.{both_ways}
-use Rattle.std.proofs.lemmas.List.Sorted.{list_any-IsPermutation, IsNonDecreasingBy-from_sort}
-use Rattle.goods_set.specs.Bundles.{IsRising, has_good}
-use Rattle.cats_text.specs.Internal.Marks.{IsMarked}
+use Rattle.cats_text.proofs.Common.{rules, ◌≡◌, true, sym, ap, ◌∙◌, List, ℕ, both_ways, list_any-IsPermutation, IsNonDecreasingBy-from_sort, IsRising, has_good}
+use Rattle.cats_text.proofs.Common.{IsMarked}
 use Rattle.cats_text.proofs.Spelling.Distinct.{rising_from_sort}
 use Rattle.cats_text.proofs.Spelling.Marks.{IsMarked-sorted}
 use Rattle.cats_text.proofs.good_list.GoodList.sort.Goals as goal

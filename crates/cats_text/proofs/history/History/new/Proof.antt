@@ -1,27 +1,12 @@
 -- `History::new`: it makes a value of no bytes, at the empty list.
+use Rattle.cats_text.proofs.Common.{Ura, Val, vstruct, vcons, vnil, SProp, Routine, WpFn, Tables, Logic, Fun, tables, WpFn-mono, raw, ◌$◌, ◌∵◌, !, qed, keep}
+use Rattle.cats_text.proofs.Common.{join, suffices, done, no_more, returns, enter, agg, alloc_all, pass_all, free_all, look_at, get, sets, pure_i, nothing}
+use Rattle.cats_text.proofs.Common.{on_entry, Meets, triple_of, entered, says, ends_at, walked, walk_Meets, History}
 use mathlib.Core.Path.{refl}
 use mathlib.Core.List.{[], ◌∷◌}
-use seplogic.Ra.Ura.{Ura}
-use mir.Val.{Val, vstruct, vcons, vnil}
-use base.Logic.{SProp}
 use prog.Memory.{Memory}
-use prog.Routine.{Routine}
-use prog.Wp.{WpFn, Tables}
-use types.Logic.{Logic}
-use contract.Monad.{Fun}
-use contract.Running.{tables, tables_of}
-use sound.WpLaws.{WpFn-mono}
-use types.Kit.{raw, ◌$◌, ◌∵◌, !, qed, keep, join, suffices, done}
-use types.Run.{no_more, and_then, returns, enter}
-use types.Part.{agg}
-use types.ByLocal.{alloc_all, pass_all, free_all, look_at, get, sets}
-use denote.Shadow.{pure_i}
-use denote.Steps.{nothing}
-use denote.Triple.Entry.{on_entry}
-use denote.Triple.Spec.{Meets, triple_of}
-use denote.Triple.Table.{entered}
-use denote.Triple.Walked.{says, ends_at, walked, walk_Meets}
-use Rattle.cats_text.specs.declared.history.History.{History}
+use contract.Running.{tables_of}
+use types.Run.{and_then}
 use Rattle.cats_text.specs.contracts.history.History as T
 use Rattle.cats_text.specs.contracts.history.History.new.Key.{name as #it}
 use Rattle.cats_text.specs.contracts.history.History.new as it

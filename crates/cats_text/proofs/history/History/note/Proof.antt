@@ -1,39 +1,19 @@
 -- `History::note`: an empty body. The borrow is opened and closed at another ghost value.
-use Rattle.std.proofs.Common.{rules, ℕ, List, [], ◌∷◌, ◌++◌, refl, MutBor, ◌<◌, ◌^◌, length}
-use seplogic.Ra.Ura.{Ura}
-use mir.Syntax.{named}
-use mir.Val.{Val, vunit, vptr}
-use base.Logic.{SProp, ent, sep, emp, via, fst∗, id⊢}
-use base.Fml.{GName, Lft, Share, ftrue, flft, fobs, fbor}
+use Rattle.cats_text.proofs.Common.{rules, ℕ, List, [], ◌∷◌, ◌++◌, refl, MutBor, ◌<◌, ◌^◌, length, Ura, named, Val, vunit, vptr, SProp, ent, sep, emp, via}
+use Rattle.cats_text.proofs.Common.{fst∗, id⊢, GName, Lft, Share, ftrue, flft, fobs, fbor, Routine, Calls, Loops, WpFn, Tables, Logic, Fun, tables, ‵, ◌⊛◌, ◌$◌}
+use Rattle.cats_text.proofs.Common.{◌∵◌, !, qed, by, move, keep, use1, split, join, fsplit, fsplit3, fjoin, fjoin3, feq_i, suffices, frame, done, unit_lit}
+use Rattle.cats_text.proofs.Common.{of_opd, returns, enter, Body, alloc_all, pass_all, free_all, look_at, sets, WpFn-mono, owns, mem, MutRef, mut_vals}
+use Rattle.cats_text.proofs.Common.{mut_Tells, Bor, plain, opens, closes, on_entry, Meets, triple_of, entered, says, Stays, stay_ref, walk_of, AllGo, Goes-ref}
+use Rattle.cats_text.proofs.Common.{Walks, ends_at, walked, walk_Meets, stay_none_slice, Goes-none_slice, History, u8, yes, ShrSlice, slice_val, shr_slice_vals}
+use Rattle.cats_text.proofs.Common.{shr_slice_Tells}
 use prog.Memory.{Memory}
-use prog.Routine.{Routine}
-use prog.Wp.{Calls, Loops, WpFn, Tables}
-use types.Logic.{Logic}
-use contract.Monad.{Fun}
-use contract.Running.{tables, tables_of}
-use types.Kit.{‵, ◌⊛◌, ◌$◌, ◌∵◌, !, qed, by, move, keep, drop, use1, split, join, fsplit, fsplit3, fjoin, fjoin3, feq_i, suffices, frame, done}
-use types.Run.{unit_lit, of_opd, returns, enter}
-use types.SemTy.{Body}
-use types.ByLocal.{alloc_all, pass_all, free_all, look_at, sets}
-use sound.WpLaws.{WpFn-mono}
-use denote.RattleType.{owns}
-use denote.Memory.{mem}
-use denote.Ref.{MutRef, mut_vals, mut_Tells, Bor}
-use denote.Signature.{plain}
-use denote.Steps.{opens, closes}
-use denote.Triple.Entry.{on_entry}
-use denote.Triple.Spec.{Meets, triple_of}
-use denote.Triple.Table.{entered}
-use denote.Triple.Walked.{says, Stays, stay_ref, walk_of, AllGo, Goes-ref, Walks, ends_at, walked, walk_Meets, stay_none_slice, Goes-none_slice}
-use Rattle.cats_text.specs.declared.history.History.{History}
+use contract.Running.{tables_of}
+use types.Kit.{drop}
 use Rattle.cats_text.specs.contracts.history.History as T
 use Rattle.cats_text.specs.contracts.history.History.note.Key.{name as #it}
 use Rattle.cats_text.specs.contracts.history.History.note as it
 use Rattle.cats_text.proofs.history.History.note.Statement as stated
 use Rattle.cats_text.proofs.history.History.note.Code as code
-use denote.Builtin.{u8}
-use denote.Exit.{yes}
-use denote.Slice.{ShrSlice, slice_val, shr_slice_vals, shr_slice_Tells}
 
 abbrev Arg : Type 0
 Arg = MutBor History × (Bor (List ℕ) × Unit {0})

@@ -1,6 +1,5 @@
 -- `PackedBidsKeep::sort`: the goods in rising order are those that a bid keeps.
-use Rattle.std.proofs.Common.{List, ℕ, ap}
-use Rattle.cats_text.specs.Internal.Kept.{with_goods}
+use Rattle.cats_text.proofs.Common.{List, ℕ, ap, with_goods}
 use Rattle.cats_text.proofs.Spelling.Rising.{rising_of_is}
 use Rattle.cats_text.proofs.keep.PackedBidsKeep.sort.Goals as goal
 

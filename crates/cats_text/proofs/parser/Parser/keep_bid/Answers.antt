@@ -1,5 +1,5 @@
 -- `Parser::keep_bid`: what is kept of the bid is at its number, and its goods are gone.
-use Rattle.std.proofs.Common.{rules}
+use Rattle.cats_text.proofs.Common.{rules}
 use Rattle.cats_text.proofs.parser.Parser.keep_bid.Goals as goal
 
 pub returns : goal.returns

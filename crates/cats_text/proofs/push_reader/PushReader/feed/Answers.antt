@@ -1,8 +1,6 @@
 -- `PushReader::feed`: what the scanner was given is what the limit leaves of the piece.
-use Rattle.std.proofs.Common.{rules, arith, ◌≡◌, ◌<◌, ◌≤◌, ◌+◌, ◌-◌, ◌++◌, min, ℕ, List, length, take, sym, ap, ◌∙◌, length-append}
-use Rattle.std.proofs.lemmas.Grind.{common_steps}
-use Rattle.std.proofs.Math.Seq.{take-length}
-use Rattle.std.proofs.lemmas.List.{length-take}
+use Rattle.cats_text.proofs.Common.{rules, arith, ◌≡◌, ◌<◌, ◌≤◌, ◌+◌, ◌-◌, ◌++◌, min, ℕ, List, length, take, sym, ap, ◌∙◌, length-append, common_steps}
+use Rattle.cats_text.proofs.Common.{take-length, length-take}
 use Rattle.cats_text.proofs.Feeding.Pieces.{IsJudged, judged_bytes, judged_halted, judged_too_long, judged_ok, few_lines, still_reading, fed_reported}
 use Rattle.cats_text.proofs.push_reader.PushReader.feed.Goals as goal
 use Rattle.cats_text.proofs.push_reader.PushReader.feed.Goals.{in-Err, in-Ok, in-Ok-2}

@@ -1,5 +1,5 @@
 -- `PushReader::new`: it has taken no bytes.
-use Rattle.std.proofs.Common.{rules, refl}
+use Rattle.cats_text.proofs.Common.{rules, refl}
 use Rattle.cats_text.proofs.Feeding.Pieces.{nothing_taken}
 use Rattle.cats_text.proofs.push_reader.PushReader.new.Goals as goal
 

@@ -1,6 +1,5 @@
 -- `Reader::finish`: the packed file that the bytes spell, with a vector for each bid.
-use Rattle.std.proofs.Common.{rules}
-use Rattle.std.proofs.lemmas.Result.{err_from_is_err_and}
+use Rattle.cats_text.proofs.Common.{rules, err_from_is_err_and}
 use Rattle.cats_text.proofs.Feeding.Files.{unpacked_as, fault_as}
 use Rattle.cats_text.proofs.reader.Reader.finish.Goals as goal
 

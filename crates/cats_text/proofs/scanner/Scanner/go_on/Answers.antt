@@ -1,10 +1,5 @@
 -- `Scanner::go_on`
-use Rattle.std.proofs.Common.{◌≡◌, ◌-◌, ◌&&◌, eqb, length, get_or, sym, ap, ◌∙◌, rules}
-use Rattle.std.proofs.lemmas.Bool.{eq-eqb, ne_eqb}
-use Rattle.std.specs.Option.{unwrap_or}
-use Rattle.cats_text.specs.Internal.Scanning.{state}
-use Rattle.cats_text.specs.declared.scanner.Mode.TheVariants.{Inside}
-use Rattle.cats_text.specs.declared.word.Word.TheVariants.{Number}
+use Rattle.cats_text.proofs.Common.{◌≡◌, ◌-◌, ◌&&◌, eqb, length, get_or, sym, ap, ◌∙◌, rules, eq-eqb, ne_eqb, unwrap_or, state, Inside, Number}
 use Rattle.cats_text.proofs.Scanning.ManyBytes.{comment_scanned, comment_within, number_scanned}
 use Rattle.cats_text.proofs.scanner.Scanner.go_on.Goals as goal
 use Rattle.cats_text.proofs.scanner.Scanner.go_on.Goals.{then-count-bytes, else-count-bytes}

@@ -1,7 +1,5 @@
 -- `Scanner::read_bid_line`: scans of words one behind the other are one scan of all their bytes; where one of them stops, the scan stops there.
-use Rattle.std.proofs.Common.{rules}
-use Rattle.std.proofs.lemmas.Result.{err_from_is_err_and}
-use Rattle.cats_text.specs.Internal.Scanning.{state}
+use Rattle.cats_text.proofs.Common.{rules, err_from_is_err_and, state}
 use Rattle.cats_text.proofs.Scanning.WholeWords.{rest_then, rest_stops_to}
 use Rattle.cats_text.proofs.scanner.Scanner.read_bid_line.Goals as goal
 

@@ -1,6 +1,5 @@
 -- `Scanner::read_bid_lines`
-use Rattle.std.proofs.Common.{◌≡◌, ◌≤◌, ◌+◌, ◌-◌, false, drop, length}
-use Rattle.cats_text.specs.Internal.Scanning.{state, IsScanned}
+use Rattle.cats_text.proofs.Common.{◌≡◌, ◌≤◌, ◌+◌, ◌-◌, false, drop, length, state, IsScanned}
 use Rattle.cats_text.proofs.scanner.Scanner.read_bid_lines.Given as goal
 
 abbrev pub invariant-loop-offset : goal.invariant-loop-offset

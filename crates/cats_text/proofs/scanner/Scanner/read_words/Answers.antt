@@ -1,8 +1,5 @@
 -- `Scanner::read_words`
-use Rattle.std.proofs.Common.{arith, ◌∙◌, ap}
-use Rattle.std.proofs.lemmas.Grind.{common_steps}
-use Rattle.std.proofs.lemmas.Result.{err_from_is_err_and}
-use Rattle.cats_text.specs.Internal.Scanning.{state, is_before_word}
+use Rattle.cats_text.proofs.Common.{arith, ◌∙◌, ap, common_steps, err_from_is_err_and, state, is_before_word}
 use Rattle.cats_text.proofs.Scanning.WholeWords.{rest_then, rest_stops_to}
 use Rattle.cats_text.proofs.scanner.Scanner.read_words.Goals as goal
 

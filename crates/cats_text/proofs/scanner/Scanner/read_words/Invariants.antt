@@ -1,6 +1,5 @@
 -- `Scanner::read_words`
-use Rattle.std.proofs.Common.{◌≡◌, ◌≤◌, ◌-◌, true, false, drop, length}
-use Rattle.cats_text.specs.Internal.Scanning.{state, is_before_word, IsScanned}
+use Rattle.cats_text.proofs.Common.{◌≡◌, ◌≤◌, ◌-◌, true, false, drop, length, state, is_before_word, IsScanned}
 use Rattle.cats_text.proofs.scanner.Scanner.read_words.Given as goal
 
 abbrev pub invariant-loop-word : goal.invariant-loop-word

@@ -1,8 +1,6 @@
 -- `Scanner::scan`: the bytes so far are scanned; what goes on from there, and one more byte where it stops short, make the scan longer.
-use Rattle.std.proofs.Common.{◌≡◌, ◌≢◌, ◌+◌, ◌≤◌, ◌<◌, Ok, length, drop, get_or, arith, rules}
-use Rattle.std.proofs.lemmas.Result.{err_from_is_err_and}
-use Rattle.cats_text.specs.Internal.Scanning.{state, byte_step, IsScanned}
-use Rattle.cats_text.specs.Internal.Returns.{return_byte}
+use Rattle.cats_text.proofs.Common.{◌≡◌, ◌≢◌, ◌+◌, ◌≤◌, ◌<◌, Ok, length, drop, get_or, arith, rules, err_from_is_err_and, state, byte_step, IsScanned}
+use Rattle.cats_text.proofs.Common.{return_byte}
 use Rattle.cats_text.proofs.Scanning.Rests.{scan_byte_at, scan_last_return_at, scan_return_at}
 use Rattle.cats_text.proofs.Scanning.WholeWords.{rest_scanned, byte_stops}
 use Rattle.cats_text.proofs.scanner.Scanner.scan.Goals as goal

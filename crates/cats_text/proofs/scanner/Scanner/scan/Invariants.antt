@@ -1,6 +1,5 @@
 -- `Scanner::scan`
-use Rattle.std.proofs.Common.{◌≤◌, ◌+◌, ◌-◌, drop, length}
-use Rattle.cats_text.specs.Internal.Scanning.{state, IsScanned}
+use Rattle.cats_text.proofs.Common.{◌≤◌, ◌+◌, ◌-◌, drop, length, state, IsScanned}
 use Rattle.cats_text.proofs.scanner.Scanner.scan.Given as goal
 
 abbrev pub invariant-loop-offset : goal.invariant-loop-offset

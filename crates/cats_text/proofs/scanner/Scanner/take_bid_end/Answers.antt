@@ -1,7 +1,5 @@
 -- `Scanner::take_bid_end`
-use Rattle.std.proofs.Common.{rules, refl}
-use Rattle.std.proofs.lemmas.Result.{err_from_is_err_and}
-use Rattle.cats_text.specs.Internal.Progress.{progress}
+use Rattle.cats_text.proofs.Common.{rules, refl, err_from_is_err_and, progress}
 use Rattle.cats_text.proofs.Scanning.BidEnds.{end_passed, end_halts}
 use Rattle.cats_text.proofs.scanner.Scanner.take_bid_end.Goals as goal
 

@@ -1,6 +1,5 @@
 -- `Scanner::take_good`
-use Rattle.std.proofs.lemmas.Result.{err_from_is_err_and}
-use Rattle.cats_text.specs.Internal.Progress.{progress}
+use Rattle.cats_text.proofs.Common.{err_from_is_err_and, progress}
 use Rattle.cats_text.proofs.Scanning.ManyGoods.{good_taken, good_halts}
 use Rattle.cats_text.proofs.scanner.Scanner.take_good.Goals as goal
 

@@ -1,6 +1,5 @@
 -- `Scanner::take_goods`
-use Rattle.std.proofs.Common.{◌≡◌, ◌≤◌, ◌-◌, false, drop, length}
-use Rattle.cats_text.specs.Internal.Scanning.{state, IsGoodDue, IsScanned}
+use Rattle.cats_text.proofs.Common.{◌≡◌, ◌≤◌, ◌-◌, false, drop, length, state, IsGoodDue, IsScanned}
 use Rattle.cats_text.proofs.scanner.Scanner.take_goods.Given as goal
 
 abbrev pub invariant-loop-good : goal.invariant-loop-good

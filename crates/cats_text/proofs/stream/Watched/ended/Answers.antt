@@ -1,5 +1,5 @@
 -- `Watched::ended`
-use Rattle.std.proofs.Common.{refl}
+use Rattle.cats_text.proofs.Common.{refl}
 use Rattle.cats_text.proofs.stream.Watched.ended.Goals as goal
 
 pub returns : goal.returns

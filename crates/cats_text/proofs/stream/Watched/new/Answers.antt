@@ -1,5 +1,5 @@
 -- `Watched::new`
-use Rattle.std.proofs.Common.{refl}
+use Rattle.cats_text.proofs.Common.{refl}
 use Rattle.cats_text.proofs.stream.Watched.new.Goals as goal
 
 pub returns-clause-ended : goal.returns-clause-ended
