@@ -3,8 +3,7 @@ use Rattle.cats_text.proofs.Common.{◌≡◌, ◌<◌, ℕ, true, List, length,
 use Rattle.cats_text.proofs.Common.{lt-ltb, has_bid_line, PlainBid, PlainFile, IsPlainFile, BidFile, Fed, Spells, PackedAnswer, FinishAnswer, FinishesAs, whole}
 use Rattle.cats_text.proofs.Common.{PartsAnswer, PartsAs, PackedAs, Unpacks, ReadFault, Header, common_steps}
 
-same_file : (g d : ℕ) (bids : List PlainBid) (f : PlainFile) → g ≡ f.goods → d ≡ f.dummy → bids ≡ f.bids
-    → record { goods = g; dummy = d; bids = bids } ≡ f
+same_file : (g d : ℕ) (bids : List PlainBid) (f : PlainFile) → g ≡ f.goods → d ≡ f.dummy → bids ≡ f.bids → record { goods = g; dummy = d; bids = bids } ≡ f
 same_file g d bids f a b c = rw (a, b, c) refl
 
 module _ {K : Type 0} (bids : K → List PlainBid) where

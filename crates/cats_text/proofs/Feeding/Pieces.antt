@@ -53,23 +53,20 @@ pub fed-too_long : (limit : ℕ) (bytes : List ℕ) → limit < length bytes →
 fed-too_long limit bytes beyond h = fed-beyond limit bytes beyond ∙ ap (λ f. option_or f (Some (fault_at 0 TooLong))) h
 
 pub nothing_taken : {K : Type 0} (k : PlainBid → PlainBid) (limit : ℕ) (scanner : Scanner K) (bytes : List ℕ) → state k scanner ≡ first_state k
-    → scanner.waiting ≡ false → bytes ≡ []
-    → HasTaken k limit 0 scanner bytes
+    → scanner.waiting ≡ false → bytes ≡ [] → HasTaken k limit 0 scanner bytes
 nothing_taken k limit scanner bytes first waiting none = grind (arith, common_steps)
 
 -- ---- the answers
 
 -- the scanner took them
 pub went_on : {K : Type 0} (k : PlainBid → PlainBid) (limit taken : ℕ) (old new : Scanner K) (bytes judged : List ℕ) → HasTaken k limit taken old bytes
-    → scan (state k old) (settled (carried old.waiting judged)) ≡ Ok (state k new)
-    → complete_fault (bytes ++ judged) ≡ None
+    → scan (state k old) (settled (carried old.waiting judged)) ≡ Ok (state k new) → complete_fault (bytes ++ judged) ≡ None
 went_on k limit taken old new bytes judged kept steps = continues_without_fault k (bytes ++ judged) (state k new) (search (rules, scan_on))
 
 -- and has taken them then
 pub took : {K : Type 0} (k : PlainBid → PlainBid) (limit before count : ℕ) (old new : Scanner K) (bytes judged : List ℕ) → HasTaken k limit before old bytes
     → scan (state k old) (settled (carried old.waiting judged)) ≡ Ok (state k new)
-    → new.waiting ≡ waits (carried old.waiting judged) → count ≡ before + length judged → count ≤ limit
-    → HasTaken k limit count new (bytes ++ judged)
+    → new.waiting ≡ waits (carried old.waiting judged) → count ≡ before + length judged → count ≤ limit → HasTaken k limit count new (bytes ++ judged)
 took k limit before count old new bytes judged kept steps waiting sum within = grind (arith, common_steps, length-append, scan_on, waits-append)
 
 -- the number of the line stays small
@@ -86,8 +83,7 @@ IsJudged k limit count scanner all (Err e) = (fed_fault limit all ≡ Some e) �
 
 -- the scanner stopped in the bytes that are judged
 pub judged_halted : {K : Type 0} (k : PlainBid → PlainBid) (limit count taken : ℕ) (old new : Scanner K) (bytes judged all : List ℕ) (kind : Kind)
-    → HasTaken k limit taken old bytes → bytes ++ judged ≡ take limit all
-    → Scans (settled (carried old.waiting judged)) (state k old) (state k new) (Err kind)
+    → HasTaken k limit taken old bytes → bytes ++ judged ≡ take limit all → Scans (settled (carried old.waiting judged)) (state k old) (state k new) (Err kind)
     → IsJudged k limit count new all (Err (placed_fault new.line kind))
 judged_halted k limit count taken old new bytes judged all Memory kept is needs =
     let behind = meets_behind (first_state k) (state k old) (settled bytes) (settled (carried old.waiting judged)) kept.runs needs in
@@ -99,19 +95,15 @@ judged_halted k limit count taken old new bytes judged all kind kept is read =
     (scan_on k bytes judged (state k old) old.waiting kept.runs kept.waiting ∙ read)))
 
 pub judged_too_long : {K : Type 0} (k : PlainBid → PlainBid) (limit count taken : ℕ) (old new : Scanner K) (bytes judged all : List ℕ)
-    → HasTaken k limit taken old bytes
-    → bytes ++ judged ≡ take limit all → limit < length all
-    → scan (state k old) (settled (carried old.waiting judged)) ≡ Ok (state k new)
-    → IsJudged k limit count new all (Err (fault_at 0 TooLong))
+    → HasTaken k limit taken old bytes → bytes ++ judged ≡ take limit all → limit < length all
+    → scan (state k old) (settled (carried old.waiting judged)) ≡ Ok (state k new) → IsJudged k limit count new all (Err (fault_at 0 TooLong))
 judged_too_long k limit count taken old new bytes judged all kept is beyond steps =
     inl (fed-too_long limit all beyond (ap complete_fault (sym is) ∙ went_on k limit taken old new bytes judged kept steps))
 
 pub judged_ok : {K : Type 0} (k : PlainBid → PlainBid) (limit count before : ℕ) (old new : Scanner K) (bytes judged all : List ℕ)
-    → HasTaken k limit before old bytes
-    → bytes ++ judged ≡ all → length all ≤ limit
+    → HasTaken k limit before old bytes → bytes ++ judged ≡ all → length all ≤ limit
     → scan (state k old) (settled (carried old.waiting judged)) ≡ Ok (state k new)
-    → new.waiting ≡ waits (carried old.waiting judged) → count ≡ before + length judged → count ≤ limit
-    → IsJudged k limit count new all (Ok tt)
+    → new.waiting ≡ waits (carried old.waiting judged) → count ≡ before + length judged → count ≤ limit → IsJudged k limit count new all (Ok tt)
 judged_ok k limit count before old new bytes judged all kept is within steps waiting sum most =
     let none : complete_fault all ≡ None = ap complete_fault (sym is) ∙ went_on k limit before old new bytes judged kept steps in
     let now : HasTaken k limit count new all = rw (← is) (took k limit before count old new bytes judged kept steps waiting sum most) in
@@ -119,14 +111,12 @@ judged_ok k limit count before old new bytes judged all kept is within steps wai
 
 -- the reader keeps what it has to
 pub still_reading : {K : Type 0} (k : PlainBid → PlainBid) (limit count : ℕ) (scanner : Scanner K) (all : List ℕ) (judged : Result (Unit {0}) ReadFault)
-    → limit < 2 ^ 63
-    → IsJudged k limit count scanner all judged → IsReading k limit count scanner (result_err judged) all
+    → limit < 2 ^ 63 → IsJudged k limit count scanner all judged → IsReading k limit count scanner (result_err judged) all
 still_reading k limit count scanner all (Ok u) small reported = record { limit = small; taken = λ none. reported.1 }
 still_reading k limit count scanner all (Err e) small reported = record { limit = small; taken = λ none. cc }
 
 pub fed_reported : {K : Type 0} (k : PlainBid → PlainBid) (old : Fed) (piece : List ℕ) (count : ℕ) (scanner : Scanner K) (judged : Result (Unit {0}) ReadFault)
-    → old.failed ≡ None
-    → IsJudged k old.limit count scanner (old.bytes ++ piece) judged
+    → old.failed ≡ None → IsJudged k old.limit count scanner (old.bytes ++ piece) judged
     → FeedsAs old piece (record { limit = old.limit; bytes = old.bytes ++ piece; failed = result_err judged }) judged
 fed_reported k old piece count scanner (Ok u) none reported = rw none (record { limit = refl; bytes = refl; answer = (reported.0, refl) })
 fed_reported k old piece count scanner (Err e) none reported = rw none (record { limit = refl; bytes = refl; answer = (reported, refl) })

@@ -37,8 +37,7 @@ none_due : (bids count : ℕ) → eqb (bids - count) 0 ≡ leb bids count
 none_due bids count = grind (arith, common_steps, eq-eqb, leb-false, leb-true, ne_eqb)
 
 number_follows : (g b d : List (List ℕ)) (lines : List (List (List ℕ))) (w : List ℕ) (v : ℕ) (p : Progress) → Summarises w (Number v)
-    → IsAt (g ∷ b ∷ d ∷ lines) [] p
-    → WordFollows (g ∷ b ∷ d ∷ lines) [] w (number_read p (Number v))
+    → IsAt (g ∷ b ∷ d ∷ lines) [] p → WordFollows (g ∷ b ∷ d ∷ lines) [] w (number_read p (Number v))
 number_follows g b d lines w v p t at =
     let bids : p.header.bids ≡ header_value b = ap (λ (h : Header). h.bids) at.header in
     let small : p.header.bids ≤ MAX_BIDS = at.bids in
@@ -106,8 +105,7 @@ behind_price : (g b d : List (List ℕ)) (lines : List (List (List ℕ))) (n w :
 behind_price g b d lines n w p at x e = grind (arith, common_steps, both_ways)
 
 pub bid_second : (g b d : List (List ℕ)) (lines : List (List (List ℕ))) (n w : List ℕ) (s : Word) (p : Progress) → IsTested w s → Summarises w s
-    → IsAt (g ∷ b ∷ d ∷ lines) (n ∷ []) p
-    → WordFollows (g ∷ b ∷ d ∷ lines) (n ∷ []) w (price_read p s)
+    → IsAt (g ∷ b ∷ d ∷ lines) (n ∷ []) p → WordFollows (g ∷ b ∷ d ∷ lines) (n ∷ []) w (price_read p s)
 bid_second g b d lines n w (Number v) p tested t at = price_follows (g ∷ b ∷ d ∷ lines) n w p v 0 false (priced_number w v t) (search (rules, passes))
     (behind_price g b d lines n w p at)
 bid_second g b d lines n w (Fraction e) p tested t at = elim (eqb e.decimals 0) as (λ x. eqb e.decimals 0 ≡ x

@@ -90,8 +90,7 @@ length-padded old padded n p = ap length p.is ∙ length-append old (replicate p
 pub padded_more : (old padded next : List ℕ) (n : ℕ) → IsPadded old padded n → length padded ≤ n → next ≡ padded ++ 0 ∷ [] → IsPadded old next n
 padded_more old padded next n p space e = record {
   count = p.count + 1;
-  is = e ∙ ap (λ ys. ys ++ 0 ∷ []) p.is ∙ append_assoc old (replicate p.count 0) (0 ∷ [])
-      ∙ ap (λ ys. old ++ ys) (replicate-append-replicate p.count 1 0);
+  is = e ∙ ap (λ ys. ys ++ 0 ∷ []) p.is ∙ append_assoc old (replicate p.count 0) (0 ∷ []) ∙ ap (λ ys. old ++ ys) (replicate-append-replicate p.count 1 0);
   few = let len = length-padded old padded n p in let few = p.few in omega arith;
 }
 
@@ -108,8 +107,7 @@ put_arrived came next b old padded n k all e at p there =
     let same : length (arrived came old) ≡ length old = length-map old (slot_at came) in
     let zeros : p.count ≡ n + 1 - length (arrived came old) = omega arith in
     let last : slot_at next k ≡ Some b = ap₂ slot_at e (at ∙ ap length e ∙ length-append came (b ∷ []) ∙ add-one (length came)) ∙ slot_last came b in
-    map-set (slot_at next) padded n k
-    ∙ ap₂ (λ (xs : List (Option PlainBid)) (x : Option PlainBid). set xs n x)
+    map-set (slot_at next) padded n k ∙ ap₂ (λ (xs : List (Option PlainBid)) (x : Option PlainBid). set xs n x)
     (ap (λ (c : List PlainBid). arrived c padded) e ∙ arrived_stay came b padded all
     ∙ ap (arrived came) p.is ∙ map-append (slot_at came) old (replicate p.count 0) ∙ ap (λ ys. arrived came old ++ ys) (arrived_zeros came p.count)
     ∙ ap (λ (c : ℕ). arrived came old ++ replicate c None) zeros) last
@@ -152,8 +150,7 @@ next_numbered arrivals next p e at is = grind (arith, common_steps, length-appen
 pub all_listed : (came : List PlainBid) (before arrivals : List ℕ) (count : ℕ) → length before ≡ 0 → length came ≡ count → arrivals ≡ numbered (length arrivals)
     → length arrivals ≡ count → arrived came arrivals ≡ slot_list came before
 all_listed came [] arrivals count none long e all =
-    ap (arrived came) e ∙ arrived_numbered came (length arrivals) (omega arith)
-    ∙ ap all_of (take_all (length arrivals) came (omega arith))
+    ap (arrived came) e ∙ arrived_numbered came (length arrivals) (omega arith) ∙ ap all_of (take_all (length arrivals) came (omega arith))
 all_listed came (p ∷ before) arrivals count none long e all = absurd (let no : suc (length before) ≡ 0 = none in omega arith)
 
 -- more arrivals within reach
@@ -192,8 +189,7 @@ kept_more came kept next arrivals (suc i) j e some at l more =
     let b = get_or came j number_alone in
     let here : slice_get came j ≡ Some b = slice_get-get_or came j number_alone l in
     let same : j ≡ i = omega arith in
-    more b here ∙ ap (λ ks. ks ++ b ∷ []) e
-    ∙ ap (λ o. filled (arrived came arrivals) ++ option_to_list o) (sym here ∙ ap (slice_get came) same)
+    more b here ∙ ap (λ ks. ks ++ b ∷ []) e ∙ ap (λ o. filled (arrived came arrivals) ++ option_to_list o) (sym here ∙ ap (slice_get came) same)
     ∙ sym (filled_more came arrivals (suc i))
 
 pub on_ok : {A E : Type 0} (r : Result A E) (P Q : Type 0) → (P → Q) → OnOk r P → OnOk r Q

@@ -52,8 +52,7 @@ one_dummy g b d lines n x gs p o = subst (λ ws. HasOneDummy p.header.goods (val
 -- ---- the `#`
 
 end_follows : (g b d : List (List ℕ)) (lines : List (List (List ℕ))) (n x : List ℕ) (gs : List (List ℕ)) (w : List ℕ) (p : Progress)
-    → Continues g b d lines n x gs p → is_end w ≡ true
-    → word_fault (g ∷ b ∷ d ∷ lines) (n ∷ x ∷ gs) w ≡ tests_from_end (header_value g) (header_value d) gs w
+    → Continues g b d lines n x gs p → is_end w ≡ true → word_fault (g ∷ b ∷ d ∷ lines) (n ∷ x ∷ gs) w ≡ tests_from_end (header_value g) (header_value d) gs w
     → WordFollows (g ∷ b ∷ d ∷ lines) (n ∷ x ∷ gs) w (end_read p)
 end_follows g b d lines n x gs w p o e fault =
     let goods : p.header.goods ≡ header_value g = ap (λ (h : Header). h.goods) o.at.header in
@@ -61,7 +60,8 @@ end_follows g b d lines n x gs w p o e fault =
     search rules in
     follow_test (g ∷ b ∷ d ∷ lines) (n ∷ x ∷ gs) w _ _ kinds.EmptyBundle _ _ is
     (ap (λ (vs : List ℕ). eqb (length vs) 0) (goods_are g b d lines n x gs p o) ∙ none_real p.header.goods (values gs)
-    ∙ ap not (any_values (λ v. ltb v p.header.goods) gs ∙ ap (λ G. list_any (λ v. ltb (number_of v) G) gs) goods)) (λ _ is. ( is,
+    ∙ ap not (any_values (λ v. ltb v p.header.goods) gs ∙ ap (λ G. list_any (λ v. ltb (number_of v) G) gs) goods)) (λ _ is. (
+      is,
       with_words (g ∷ b ∷ d ∷ lines) (n ∷ x ∷ gs) (n ∷ x ∷ (gs ++ w ∷ [])) p Ended p.draft p.goods o.at
           (sym (ap ended_column (has_end-push gs w o.on ∙ e))) refl (let same : before_end (gs ++ w ∷ []) ≡ gs = before_end-ended gs w o.on e in record {
             number = o.at.draft.number;
@@ -75,8 +75,7 @@ end_follows g b d lines n x gs w p o e fault =
 -- ---- a real good
 
 real_follows : (g b d : List (List ℕ)) (lines : List (List (List ℕ))) (n x : List ℕ) (gs : List (List ℕ)) (w : List ℕ) (v : ℕ) (p : Progress)
-    → Continues g b d lines n x gs p → is_end w ≡ false
-    → v ≡ number_of w → v < p.header.goods
+    → Continues g b d lines n x gs p → is_end w ≡ false → v ≡ number_of w → v < p.header.goods
     → word_fault (g ∷ b ∷ d ∷ lines) (n ∷ x ∷ gs) w ≡ when (list_any (λ y. eqb (number_of y) (number_of w)) gs) kinds.RepeatedGood
     (when (leb p.header.goods (number_of w) && list_any (λ y. leb p.header.goods (number_of y)) gs) kinds.TwoDummies None)
     → WordFollows (g ∷ b ∷ d ∷ lines) (n ∷ x ∷ gs) w (cond (has_good p.goods v) (Err kinds.RepeatedGood) (Ok (record p { goods = p.goods ++ v ∷ [] })))
@@ -106,8 +105,7 @@ same_behind : (G e v : ℕ) → G ≤ e → G ≤ v → eqb (e - G) (v - G) ≡ 
 same_behind G e v le lv = grind (arith, common_steps, eq-eqb, eqb-false, eqb-true, ne_eqb)
 
 dummy_follows : (g b d : List (List ℕ)) (lines : List (List (List ℕ))) (n x : List ℕ) (gs : List (List ℕ)) (w : List ℕ) (p : Progress)
-    → Continues g b d lines n x gs p → is_end w ≡ false
-    → p.header.goods ≤ number_of w
+    → Continues g b d lines n x gs p → is_end w ≡ false → p.header.goods ≤ number_of w
     → word_fault (g ∷ b ∷ d ∷ lines) (n ∷ x ∷ gs) w ≡ when (list_any (λ y. eqb (number_of y) (number_of w)) gs) kinds.RepeatedGood
     (when (leb p.header.goods (number_of w) && list_any (λ y. leb p.header.goods (number_of y)) gs) kinds.TwoDummies None)
     → (found : Option ℕ) → find (λ y. leb p.header.goods y) (values gs) ≡ found
@@ -177,8 +175,7 @@ good_follows g b d lines n x gs w v p o e t fault =
 -- ---- a word behind the price
 
 tests_here : (g b d : List (List ℕ)) (lines : List (List (List ℕ))) (n x : List ℕ) (gs : List (List ℕ)) (w : List ℕ) (p : Progress)
-    → Continues g b d lines n x gs p
-    → word_fault (g ∷ b ∷ d ∷ lines) (n ∷ x ∷ gs) w ≡ tests_from_end p.header.goods p.header.dummy gs w
+    → Continues g b d lines n x gs p → word_fault (g ∷ b ∷ d ∷ lines) (n ∷ x ∷ gs) w ≡ tests_from_end p.header.goods p.header.dummy gs w
 tests_here g b d lines n x gs w p o = ap (λ t. when t kinds.AfterEnd (tests_from_end (header_value g) (header_value d) gs w)) o.on ∙ sym (search rules)
 
 no_good : (g b d : List (List ℕ)) (lines : List (List (List ℕ))) (n x : List ℕ) (gs : List (List ℕ)) (w : List ℕ) (s : Word) (p : Progress)
@@ -187,11 +184,9 @@ no_good : (g b d : List (List ℕ)) (lines : List (List (List ℕ))) (n x : List
 no_good g b d lines n x gs w s p o tested e m = grind (arith, common_steps, tests_here)
 
 pub bid_later : (g b d : List (List ℕ)) (lines : List (List (List ℕ))) (n x : List ℕ) (gs : List (List ℕ)) (w : List ℕ) (s : Word) (p : Progress) → IsTested w s
-    → Summarises w s → Continues g b d lines n x gs p
-    → WordFollows (g ∷ b ∷ d ∷ lines) (n ∷ x ∷ gs) w (good_or_end_read p s)
+    → Summarises w s → Continues g b d lines n x gs p → WordFollows (g ∷ b ∷ d ∷ lines) (n ∷ x ∷ gs) w (good_or_end_read p s)
 bid_later g b d lines n x gs w (Number v) p tested t o = good_follows g b d lines n x gs w v p o tested.ended t
-    (tests_here g b d lines n x gs w p o
-    ∙ ap (λ u. cond u (when (not (list_any (λ v. ltb (number_of v) p.header.goods) gs)) kinds.EmptyBundle None)
+    (tests_here g b d lines n x gs w p o ∙ ap (λ u. cond u (when (not (list_any (λ v. ltb (number_of v) p.header.goods) gs)) kinds.EmptyBundle None)
     (tests_from_number p.header.goods p.header.dummy gs w)) tested.ended
     ∙ ap (λ u. when (not u) kinds.NotANumber (tests_from_range p.header.goods p.header.dummy gs w)) tested.number)
 bid_later g b d lines n x gs w End p tested t o = grind (arith, common_steps, end_follows)

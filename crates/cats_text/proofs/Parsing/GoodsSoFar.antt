@@ -63,8 +63,7 @@ any_values p (g ∷ gs) = ap (λ b. p (number_of g) || b) (any_values p gs)
 pub no_dummy_has_not : (G : ℕ) (vs : List ℕ) (v : ℕ) → HasOneDummy G vs → leb G v ≡ true → find (λ x. leb G x) vs ≡ None → has_good vs v ≡ false
 no_dummy_has_not G vs v one d none = grind (arith, common_steps, false_from_ne_true)
 
-pub other_dummy_has_not : (G : ℕ) (vs : List ℕ) (v e : ℕ) → HasOneDummy G vs → leb G v ≡ true → find (λ x. leb G x) vs ≡ Some e → e ≢ v
-    → has_good vs v ≡ false
+pub other_dummy_has_not : (G : ℕ) (vs : List ℕ) (v e : ℕ) → HasOneDummy G vs → leb G v ≡ true → find (λ x. leb G x) vs ≡ Some e → e ≢ v → has_good vs v ≡ false
 other_dummy_has_not G vs v e one d found ne = grind (arith, common_steps, false_from_ne_true)
 
 has_push_cases : (vs : List ℕ) (x v : ℕ) → has_good (vs ++ x ∷ []) v ≡ true → (has_good vs v ≡ true) ⊎ (x ≡ v)

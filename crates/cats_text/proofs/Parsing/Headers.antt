@@ -120,8 +120,7 @@ bids_word g (k ∷ []) w s p tested t at = grind (arith, common_steps, not_numbe
 bids_word g (k ∷ v ∷ words) w s p tested t at = subst (WordFollows (g ∷ []) (k ∷ v ∷ words) w) (sym (read_there Later Bids p s at.column at.stage)) refl
 
 pub dummy_word : (g b : List (List ℕ)) (words : List (List ℕ)) (w : List ℕ) (s : Word) (p : Progress) → IsTested w s → Summarises w s
-    → IsAt (g ∷ b ∷ []) words p
-    → WordFollows (g ∷ b ∷ []) words w (word_read p s)
+    → IsAt (g ∷ b ∷ []) words p → WordFollows (g ∷ b ∷ []) words w (word_read p s)
 dummy_word g b [] w s p tested t at = first_word (g ∷ b ∷ []) keywords.Dummy MAX_DUMMY p s w tested (read_there First Dummy p s at.column at.stage) refl
     (with_words (g ∷ b ∷ []) [] (w ∷ []) p Second p.draft p.goods at refl refl at.draft)
 dummy_word g b (k ∷ []) w s p tested t at = grind (arith, common_steps, not_number_read, number_there, read_there, second_word)

@@ -14,8 +14,7 @@ use Rattle.cats_text.proofs.Parsing.Goods.{bid_later}
 -- ---- a word
 
 bid_word_step : (g b d : List (List ℕ)) (lines : List (List (List ℕ))) (words : List (List ℕ)) (a : ℕ) (w : List ℕ) (p : Progress)
-    → IsAt (g ∷ b ∷ d ∷ lines) words p
-    → WordFollows (g ∷ b ∷ d ∷ lines) words (a ∷ w) (word_read p (summary (a ∷ w)))
+    → IsAt (g ∷ b ∷ d ∷ lines) words p → WordFollows (g ∷ b ∷ d ∷ lines) words (a ∷ w) (word_read p (summary (a ∷ w)))
 bid_word_step g b d lines [] a w p at = grind (arith, common_steps, bid_first, read_there, summarises, tested)
 bid_word_step g b d lines (n ∷ []) a w p at = grind (arith, common_steps, bid_second, read_there, summarises, tested)
 bid_word_step g b d lines (n ∷ x ∷ gs) a w p at =

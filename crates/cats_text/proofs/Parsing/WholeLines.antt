@@ -111,8 +111,7 @@ tail_ends l [] e = tt
 tail_ends l (m ∷ ls) e = e.1
 
 pub lines_step : (whole : Bool) (count : ℕ) (lines : List (List Word)) (ls : List Line) (p : Progress) → AllByRecursion IsLine ls → AreEndedButLast ls
-    → IsAt lines [] p
-    → LinesAre whole count lines ls (lines_scan whole count ls p)
+    → IsAt lines [] p → LinesAre whole count lines ls (lines_scan whole count ls p)
 lines_step whole count lines [] p is ends at = end_step whole count lines p at
 lines_step whole count lines (l ∷ ls) p is ends at =
     elim (l.ended || whole) as (λ b. (l.ended || whole) ≡ b

@@ -68,8 +68,7 @@ line_then n ws p f g same = grind (arith, common_steps, lifted, on_line, quiet, 
 pub line_and_rest : (n : ℕ) (p : Progress) (bytes rest : List ℕ) → AllByRecursion IsNoEnd bytes
     → scan (standing Start n p) (bytes ++ 10 ∷ rest) ≡ then_from (line_outcome n (line_words bytes) p) (λ q. scan (standing Start (suc n) q) rest)
 line_and_rest n p bytes rest h =
-    scan-append (standing Start n p) bytes (10 ∷ rest)
-    ∙ regroup (scan (standing Start n p) bytes)
+    scan-append (standing Start n p) bytes (10 ∷ rest) ∙ regroup (scan (standing Start n p) bytes)
     ∙ ap (λ r. and_then (and_then r words_step) (λ t. and_then (next_line t) (λ u. scan u rest))) (from_start n p bytes h)
     ∙ line_then n (line_words bytes) p (λ t. and_then (next_line t) (λ u. scan u rest)) (λ q. scan (standing Start (suc n) q) rest) (λ m q. refl)
   where
@@ -88,8 +87,7 @@ scan_then (Ok s) f = f s
 scan_then (Err e) f = Err e
 
 line_then_outcome : (n : ℕ) (ws : List Word) (p : Progress) (f : State → Scanned) (g : Progress → Scanned)
-    → ((m : Mode) (q : Progress) → f (standing m n q) ≡ g q)
-    → scan_then (and_then (fresh_outcome n ws p) words_step) f ≡ scanned_then (line_outcome n ws p) g
+    → ((m : Mode) (q : Progress) → f (standing m n q) ≡ g q) → scan_then (and_then (fresh_outcome n ws p) words_step) f ≡ scanned_then (line_outcome n ws p) g
 line_then_outcome n ws p f g same = grind (arith, common_steps, lifted, on_line, quiet, quiet_words, reading_then, scanned_then, standing, words_read)
 
 -- behind a byte of a line the line has begun

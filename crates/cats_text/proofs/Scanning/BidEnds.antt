@@ -39,8 +39,7 @@ stopped_by p kind false h = cc
 -- ---- the scanner
 
 pub end_passed : (s : State) (p : Progress) (v w : Bool) (bytes : List ℕ) → IsGoodDue s → IsLeadingToken bytes End 1 → bid_closed s.progress ≡ Ok p → v ≡ false
-    → w ≡ v
-    → ScansTo s (record { mode = Start; line = s.line + 1; progress = p }) w bytes (Ok 2)
+    → w ≡ v → ScansTo s (record { mode = Start; line = s.line + 1; progress = p }) w bytes (Ok 2)
 end_passed s p v w bytes due token closed e same =
     let before : is_before_word s.mode ≡ true = ap is_before_word due.mode in
     let put = put_by s.progress p (eqb (length s.progress.goods) 0) closed in

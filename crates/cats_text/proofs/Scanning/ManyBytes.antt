@@ -37,8 +37,7 @@ decimal_digit d b h = rw h refl
 
 -- one more digit behind the point
 pub decimal_more : (first : Decimal) (bytes : List ℕ) (i : ℕ) (sum next : Decimal) → i < length bytes → is_digit (get_or bytes i 0) ≡ true
-    → IsDecimalSoFar first bytes i sum
-    → next ≡ decimal_with sum (get_or bytes i 0 - 48) → IsDecimalSoFar first bytes (i + 1) next
+    → IsDecimalSoFar first bytes i sum → next ≡ decimal_with sum (get_or bytes i 0 - 48) → IsDecimalSoFar first bytes (i + 1) next
 decimal_more first bytes i sum next l d so e = grind (arith, common_steps, decimal_digit, digits_push, fold_push, take_push)
 
 -- ---- over several bytes at once
@@ -80,15 +79,13 @@ settled_split (b ∷ prefix) back h = let later = settled_split prefix back h.1 
           | true ↦ λ (q : eqb b 13 ≡ true). (decided, ap (λ ds. settled (b ∷ ds)) e ∙ ap (λ t. cond t [] (b ∷ [])) q ∙ ap settled (sym e) ∙ is, none)
           | false ↦ λ (q : eqb b 13 ≡ false). (
             b ∷ decided,
-            ap (λ ds. settled (b ∷ ds)) e ∙ ap (λ t. cond t [] (b ∷ [])) q ∙ ap (λ ds. b ∷ settled ds) (sym e)
-                ∙ ap (λ ds. b ∷ ds) is,
+            ap (λ ds. settled (b ∷ ds)) e ∙ ap (λ t. cond t [] (b ∷ [])) q ∙ ap (λ ds. b ∷ settled ds) (sym e) ∙ ap (λ ds. b ∷ ds) is,
             (h.0, none),
           )
         ] refl
     joined (c ∷ cs) e decided is none = (
       cond (eqb b 13) (return_byte c) b ∷ decided,
-      ap (λ ds. settled (b ∷ ds)) e
-          ∙ ap (λ ds. cond (eqb b 13) (return_byte c) b ∷ settled ds) (sym e) ∙ ap (λ ds. cond (eqb b 13) (return_byte c) b ∷ ds) is,
+      ap (λ ds. settled (b ∷ ds)) e ∙ ap (λ ds. cond (eqb b 13) (return_byte c) b ∷ settled ds) (sym e) ∙ ap (λ ds. cond (eqb b 13) (return_byte c) b ∷ ds) is,
       (one c, none),
     )
 
@@ -200,8 +197,7 @@ digits_plain (b ∷ ds) h = let p = and_parts (is_digit b) (digits_alone ds) h i
 
 -- the rest of a number's digits in these bytes
 pub number_scanned : (s : State) (first sum : ℕ) (rest : List ℕ) (count : ℕ) (w : Bool) → s.mode ≡ Inside (Number first) → digits_alone (take count rest) ≡ true
-    → Number sum ≡ fold word_with (Number first) (take count rest) → w ≡ false
-    → IsScanned s (record s { mode = Inside (Number sum) }) w rest (drop count rest)
+    → Number sum ≡ fold word_with (Number first) (take count rest) → w ≡ false → IsScanned s (record s { mode = Inside (Number sum) }) w rest (drop count rest)
 number_scanned s first sum rest count w mode digits value e =
     let is : s ≡ standing (Inside (Number first)) s.line s.progress = ap (λ (m : Mode). standing m s.line s.progress) mode in
     let plain : AllByRecursion IsPlain (take count rest) = digits_plain (take count rest) digits in

@@ -77,8 +77,7 @@ settled_end bytes count within ends = grind (arith, common_steps, at_place, ends
 
 -- the word is read before the byte that ends it
 read_scanned : (s : State) (p : Progress) (bytes : List ℕ) (w : Word) (taken : ℕ) (v : Bool) → is_before_word s.mode ≡ true
-    → (token : IsLeadingToken bytes w taken)
-    → word_read s.progress w ≡ Ok p
+    → (token : IsLeadingToken bytes w taken) → word_read s.progress w ≡ Ok p
     → p.stage ≡ s.progress.stage → v ≡ false → IsScanned s (behind_word s p) v bytes (drop token.count bytes)
 read_scanned s p bytes w taken v before token read stage e =
     let count : ℕ = token.count in
@@ -134,8 +133,7 @@ word_taken s p v bytes word taken before token read stage e =
 
 -- or stops the parser
 pub word_halts : (s : State) (u : Progress) (v : Bool) (bytes : List ℕ) (word : Word) (taken : ℕ) (kind : Kind) → is_before_word s.mode ≡ true
-    → IsLeadingToken bytes word taken → Gives (λ p. word_read p word) s.progress u (Err kind)
-    → ScansTo s (record s { progress = u }) v bytes (Err kind)
+    → IsLeadingToken bytes word taken → Gives (λ p. word_read p word) s.progress u (Err kind) → ScansTo s (record s { progress = u }) v bytes (Err kind)
 word_halts s u v bytes word taken kind before token = search (rules, stops_in, token_needs, token_faults)
 
 -- ---- a call on the rest of the bytes

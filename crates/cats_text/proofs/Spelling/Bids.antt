@@ -15,8 +15,7 @@ use Rattle.cats_text.proofs.Spelling.Goods.{IsBidLine, number_no_end}
 before_end_is : (goods : List Word) → AllByRecursion (λ w. is_number w ≡ true) goods → before_end (goods ++ codes "#" ∷ []) ≡ goods
 before_end_is [] a = refl
 before_end_is (w ∷ ws) a =
-    take_while-cons (λ v. not (is_end v)) w (ws ++ codes "#" ∷ [])
-    ∙ ap (λ e. cond (not e) (w ∷ before_end (ws ++ codes "#" ∷ [])) []) (number_no_end w a.0)
+    take_while-cons (λ v. not (is_end v)) w (ws ++ codes "#" ∷ []) ∙ ap (λ e. cond (not e) (w ∷ before_end (ws ++ codes "#" ∷ [])) []) (number_no_end w a.0)
     ∙ ap (λ vs. w ∷ vs) (before_end_is ws a.1)
 
 bid_of_words : (G : ℕ) (number price : Word) (goods : List Word) → AllByRecursion (λ w. is_number w ≡ true) goods

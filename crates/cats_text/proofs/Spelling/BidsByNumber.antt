@@ -105,8 +105,7 @@ free_put xs n b [] d f = tt
 free_put xs n b (m ∷ ms) d f = (put_other xs n b m (λ e. d.0 (sym e)) ∙ f.0, free_put xs n b ms d.1 f.1)
 
 filled_count : (G : ℕ) (xs : BidsByNumber) (lines : List (List Word)) → AreDistinct (lines_numbers lines)
-    → AllByRecursion (λ n. get_or xs n None ≡ None) (lines_numbers lines)
-    → length (filled (slots_from G xs lines)) ≡ length lines + length (filled xs)
+    → AllByRecursion (λ n. get_or xs n None ≡ None) (lines_numbers lines) → length (filled (slots_from G xs lines)) ≡ length lines + length (filled xs)
 filled_count G xs [] d f = omega arith
 filled_count G xs (l ∷ ls) d f =
     search (rules, free_put, length_filled_put, (filled_count G (put_slot xs (line_number l) (bid_of G l)) ls d.1 (free_put xs (line_number l) (bid_of G l) (lines_numbers ls) d.0 f.1)))
@@ -117,8 +116,7 @@ within G xs [] m l a = l
 within G xs (w ∷ ws) m l a = within G (put_slot xs (line_number w) (bid_of G w)) ws m (length_put xs (line_number w) (bid_of G w) m l a.0) a.1
 
 all_from : (G : ℕ) (P : PlainBid → Type 0) (xs : BidsByNumber) (lines : List (List Word)) → AllByRecursion P (filled xs)
-    → AllByRecursion (λ l. P (bid_of G l)) lines
-    → AllByRecursion P (filled (slots_from G xs lines))
+    → AllByRecursion (λ l. P (bid_of G l)) lines → AllByRecursion P (filled (slots_from G xs lines))
 all_from G P xs [] a b = a
 all_from G P xs (l ∷ ls) a b = all_from G P (put_slot xs (line_number l) (bid_of G l)) ls (all_put P xs (line_number l) (bid_of G l) a b.0) b.1
 

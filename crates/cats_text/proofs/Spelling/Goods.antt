@@ -97,8 +97,7 @@ module _ (g b d : List Word) (lines : List (List Word)) where
   nothing_after n p before (w ∷ ws) f e = absurd (both_ways (has_end before) (when_none _ _ _ (or_none _ _ f).0).0 e)
 
   goods_from : (n p : Word) (before ws : List Word) → AreGoods bounds.goods bounds.dummy (numbers before) → has_end before ≡ false
-      → goods_fault n p before ws ≡ None → has_end (before ++ ws) ≡ true
-      → EndsGoods bounds before ws
+      → goods_fault n p before ws ≡ None → has_end (before ++ ws) ≡ true → EndsGoods bounds before ws
   goods_from n p before [] a e f t = absurd (both_ways (has_end before) e (sym (ap has_end (append-nil before)) ∙ t))
   goods_from n p before (w ∷ ws) a e f t =
       let first = or_none _ _ f in

@@ -40,8 +40,7 @@ module _ (g b d : List Word) where
   bounds = bounds_of g b d
 
   bid_lines_from : (before rest : List (List Word)) → AllByRecursion (IsBidLine bounds) before → AreDistinct (map line_number before)
-      → length before ≤ bounds.bids
-      → HaveNoFault (g ∷ b ∷ d ∷ before) rest → AreBidLines bounds (before ++ rest)
+      → length before ≤ bounds.bids → HaveNoFault (g ∷ b ∷ d ∷ before) rest → AreBidLines bounds (before ++ rest)
   bid_lines_from before [] a distinct l h = grind (arith, common_steps, append-nil, ltb-false)
   bid_lines_from before (w ∷ ws) a distinct l h =
       grind (arith, common_steps, AreDistinct-push, all_push, append_assoc, bid_line_from, length-append, map-append, (bid_lines_from (before ++ w ∷ []) ws))
@@ -72,8 +71,7 @@ lines_from (g ∷ b ∷ []) h = absurd (both_ways true h.2.2 refl)
 lines_from (g ∷ b ∷ d ∷ ls) h = grind (arith, common_steps, bid_lines_from, header_from)
 
 file_lines_none : (g b d : List Word) (ls : List (List Word)) → IsHeader (codes "goods") MAX_GOODS g → IsHeader (codes "bids") MAX_BIDS b
-    → IsHeader (codes "dummy") MAX_DUMMY d
-    → AreBidLines (bounds_of g b d) ls → HaveNoFault [] (g ∷ b ∷ d ∷ ls)
+    → IsHeader (codes "dummy") MAX_DUMMY d → AreBidLines (bounds_of g b d) ls → HaveNoFault [] (g ∷ b ∷ d ∷ ls)
 file_lines_none g b d ls p q r a = grind (arith, common_steps, bid_lines_none, header_none)
 
 pub lines_none : (lines : List (List Word)) → AreFileLines lines → HaveNoFault [] lines

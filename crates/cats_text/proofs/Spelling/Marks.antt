@@ -18,8 +18,7 @@ has_good-push : (xs : List ℕ) (g k : ℕ) → has_good (xs ++ g ∷ []) k ≡ 
 has_good-push [] g k = elim (eqb g k) as (λ b. (b || false) ≡ b) [ true ↦ refl | false ↦ refl ]
 has_good-push (x ∷ xs) g k = grind (arith, common_steps, (has_good-push xs g k))
 
-marked_push : (goods marks : List ℕ) (m g k : ℕ) → IsMarked goods marks m → g < length marks
-    → eqb (get_or (set marks g m) k 0) m ≡ has_good (goods ++ g ∷ []) k
+marked_push : (goods marks : List ℕ) (m g k : ℕ) → IsMarked goods marks m → g < length marks → eqb (get_or (set marks g m) k 0) m ≡ has_good (goods ++ g ∷ []) k
 marked_push goods marks m g k old there = grind (arith, common_steps, eq-eqb, eqb-false, eqb-true, get_or-set_other, get_or-set_same, has_good-push, or_right)
 
 older_push : (goods marks : List ℕ) (m g k : ℕ) → IsMarked goods marks m → g < length marks → get_or (set marks g m) k 0 ≤ m
@@ -35,13 +34,11 @@ pub IsMarked-covered : (goods marks more : List ℕ) (m : ℕ) → IsMarked good
 IsMarked-covered goods marks more m old same = grind (arith, common_steps)
 
 -- the goods in rising order have the same marks
-pub IsMarked-sorted : (goods sorted marks : List ℕ) (m : ℕ) → IsMarked goods marks m → IsPermutation goods sorted → IsRising sorted
-    → IsMarked sorted marks m
+pub IsMarked-sorted : (goods sorted marks : List ℕ) (m : ℕ) → IsMarked goods marks m → IsPermutation goods sorted → IsRising sorted → IsMarked sorted marks m
 IsMarked-sorted goods sorted marks m old moved rises = grind (arith, common_steps, distinct_from_rising, list_any-IsPermutation)
 
 -- one more good from the least on that is above those that rise
-behind_all : (goods : List ℕ) (g k least : ℕ) → ((j : ℕ) → has_good goods j ≡ true → j < least) → least ≤ g → has_good (goods ++ g ∷ []) k ≡ true
-    → k < g + 1
+behind_all : (goods : List ℕ) (g k least : ℕ) → ((j : ℕ) → has_good goods j ≡ true → j < least) → least ≤ g → has_good (goods ++ g ∷ []) k ≡ true → k < g + 1
 behind_all goods g k least below le h = grind (arith, common_steps, eqb-true, has_good-push)
 
 pub IsListed-push : (goods marks : List ℕ) (m : ℕ) (rises : Bool) (least g : ℕ) → IsListed goods marks m rises least → least ≤ g → g < 65536

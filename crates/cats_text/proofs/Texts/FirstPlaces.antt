@@ -44,8 +44,7 @@ words_placed n lines before ((a ∷ w) ∷ ws) p words some at =
     )
     behind (Err place) none f = ap (λ o. option_or (option_map (place_behind n before (a ∷ w)) o) later) none ∙ f
 
-    by_word : (r : Reading) → WordFollows lines before (a ∷ w) r
-        → ((q : Progress) → IsAt lines (before ++ (a ∷ w) ∷ []) q
+    by_word : (r : Reading) → WordFollows lines before (a ∷ w) r → ((q : Progress) → IsAt lines (before ++ (a ∷ w) ∷ []) q
         → WordsPlaced n lines (before ++ (a ∷ w) ∷ []) ws (words_judged n (suc (length (before ++ (a ∷ w) ∷ []))) ws q))
         → WordsPlaced n lines before ((a ∷ w) ∷ ws) (judged_then (judged_at n (suc (length before)) (a ∷ w) r) (words_judged n (suc (suc (length before))) ws))
     by_word (Err kind) f next = ap (λ o. option_or (option_map (place_behind n before (a ∷ w)) o) later) f
@@ -113,8 +112,7 @@ line_passed text n raw raws p q b judged = elim (is_significant (line_words raw.
     ] refl judged
 
 -- behind the last line
-pub lines_ended : (text : List ℕ) (n : ℕ) (p : Progress) → IsBehind text n [] p
-    → first_place text ≡ cond (is_due p) (Some (place_behind n [] [] Missing)) None
+pub lines_ended : (text : List ℕ) (n : ℕ) (p : Progress) → IsBehind text n [] p → first_place text ≡ cond (is_due p) (Some (place_behind n [] [] Missing)) None
 lines_ended text n p b = grind (arith, common_steps, due_step)
 
 pub none_left : (text : List ℕ) → length text ≡ 0 → text ≡ []

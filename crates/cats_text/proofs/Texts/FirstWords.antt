@@ -76,8 +76,7 @@ word_of_letters [] n some letter found = absurd (omega arith)
 word_of_letters (x ∷ xs) n some letter found =
     let kept : 0 < n = first_kept x xs n letter found in
     let within = found.within in
-    sym (ap line_words (take-append-drop n (x ∷ xs)))
-    ∙ leading (take n (x ∷ xs)) (drop n (x ∷ xs)) (omega (arith, length-take n (x ∷ xs))) found.before
+    sym (ap line_words (take-append-drop n (x ∷ xs))) ∙ leading (take n (x ∷ xs)) (drop n (x ∷ xs)) (omega (arith, length-take n (x ∷ xs))) found.before
     (λ some. ap is_blank (get-drop (x ∷ xs) n) ∙ found.passes (omega (arith, length-drop n (x ∷ xs))))
   where
     get-drop : (ys : List ℕ) (k : ℕ) → get_or (drop k ys) 0 0 ≡ get_or ys k 0

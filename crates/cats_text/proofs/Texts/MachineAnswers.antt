@@ -61,8 +61,7 @@ complete_fault-append bytes rest e h = by_scan (scan (first_state whole) (settle
     by_scan (Ok s) is = absurd (no (sym (continues_without_fault whole bytes s is) ∙ h))
     by_scan (Err c) is = stops_at_complete_fault whole (bytes ++ rest) c
         (ap (scan (first_state whole)) (settled-append bytes rest) ∙ scan-append (first_state whole) (settled bytes) more
-        ∙ ap (λ (r : Scan). and_then r (λ t. scan t more)) is)
-        ∙ sym (stops_at_complete_fault whole bytes c is) ∙ h
+        ∙ ap (λ (r : Scan). and_then r (λ t. scan t more)) is) ∙ sym (stops_at_complete_fault whole bytes c is) ∙ h
 
 -- so it is the first fault, whatever follows
 pub complete_fault_stays : (bytes rest : List ℕ) (e : ReadFault) → complete_fault bytes ≡ Some e → first_fault (bytes ++ rest) ≡ Some e

@@ -179,8 +179,7 @@ fraction_late w d b f digit late =
 summarises_fraction : (a : ℕ) (w : List ℕ) (b : ℕ) (d : Decimal) → Summarises (a ∷ w) (Fraction d) → Summarises ((a ∷ w) ++ b ∷ []) (word_with (Fraction d) b)
 summarises_fraction a w b d f = elim (is_digit b) as (λ t. is_digit b ≡ t
     → Summarises ((a ∷ w) ++ b ∷ []) (cond t (Fraction (decimal_with d (b - 48))) Other)) [
-      | true ↦ λ (digit : is_digit b ≡ true). elim (ltb d.decimals 6) as (λ t. ltb d.decimals 6 ≡ t
-          → IsFraction ((a ∷ w) ++ b ∷ [])
+      | true ↦ λ (digit : is_digit b ≡ true). elim (ltb d.decimals 6) as (λ t. ltb d.decimals 6 ≡ t → IsFraction ((a ∷ w) ++ b ∷ [])
           (cond t (record d { millionths = min (d.millionths + (b - 48) * place_value_of d.decimals) (2 ^ 64 - 1); decimals = d.decimals + 1 })
           (record d { fine = d.fine || not (eqb (b - 48) 0) }))) [
             | true ↦ λ (e : ltb d.decimals 6 ≡ true). fraction_early (a ∷ w) d b f digit (ltb-true d.decimals 6 e)

@@ -37,8 +37,7 @@ digit_le b bs h = let both = and_parts (is_digit b) (digits_alone bs) h in let t
 
 -- less than ten times what its first place counts
 below_place : (n : ℕ) (bs : List ℕ) → digits_alone bs ≡ true → 9 * place_value_of n + 10 * place_value_of (suc n) ≤ 10 * place_value_of n
-    → places_from (suc n) bs ≤ 10 * place_value_of (suc n)
-    → (b : ℕ) → b - 48 ≤ 9 → places_from n (b ∷ bs) ≤ 10 * place_value_of n
+    → places_from (suc n) bs ≤ 10 * place_value_of (suc n) → (b : ℕ) → b - 48 ≤ 9 → places_from n (b ∷ bs) ≤ 10 * place_value_of n
 below_place n bs h step later b le = let product : (b - 48) * place_value_of n ≤ 9 * place_value_of n = mul-le-mul_right (place_value_of n) le in omega arith
 
 -- less than a whole unit

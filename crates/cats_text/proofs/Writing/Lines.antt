@@ -113,8 +113,7 @@ lines_from-header : (k : ℕ) (keyword : Word) (n : ℕ) (rest : List ℕ) → I
 lines_from-header k keyword n rest word significant fits =
     let number = decimal_is_word n fits in
     let blank : IsInLine 32 = record { feed = refl; return = refl } in
-    ap (lines_from k) (append_assoc (keyword ++ 32 ∷ decimal n) (10 ∷ []) rest)
-    ∙ lines_from-line k (keyword ++ 32 ∷ decimal n) rest (keyword ∷ decimal n ∷ [])
+    ap (lines_from k) (append_assoc (keyword ++ 32 ∷ decimal n) (10 ∷ []) rest) ∙ lines_from-line k (keyword ++ 32 ∷ decimal n) rest (keyword ∷ decimal n ∷ [])
     (all_append IsInLine keyword (32 ∷ decimal n) (letters_in_line keyword word.letters) (blank, letters_in_line (decimal n) number.letters))
     (line_words-word keyword 32 (decimal n) word refl ∙ ap (λ ws. keyword ∷ ws) (line_words-last (decimal n) number))
     significant

@@ -28,8 +28,7 @@ carried n d p v = grind arith
 number_then_is : (n : ℕ) (w : Word) → number_then n w ≡ n * 10 ^ length w + number_of w
 number_then_is n [] = omega arith
 number_then_is n (b ∷ bs) =
-    number_then_is (10 * n + (b - 48)) bs
-    ∙ carried n (b - 48) (10 ^ length bs) (number_of bs)
+    number_then_is (10 * n + (b - 48)) bs ∙ carried n (b - 48) (10 ^ length bs) (number_of bs)
     ∙ ap (λ m. n * (10 ^ length bs * 10) + m) (sym (number_then_is (10 * 0 + (b - 48)) bs))
     ∙ ap (λ p. n * p + number_of (b ∷ bs)) (sym (pow-suc 10 (length bs)))
 

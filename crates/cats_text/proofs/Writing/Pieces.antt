@@ -22,9 +22,7 @@ module _ (before count : ℕ) (page rest whole : List ℕ) (later : before ≤ c
 
   pub left_on : drop (count - before) page ++ rest ≡ drop count whole
   left_on =
-      sym (drop-append-le (count - before) page rest (omega arith))
-      ∙ ap (drop (count - before)) next
-      ∙ drop-drop (count - before) before whole
+      sym (drop-append-le (count - before) page rest (omega arith)) ∙ ap (drop (count - before)) next ∙ drop-drop (count - before) before whole
       ∙ ap (λ (n : ℕ). drop n whole) behind
 
   pub within_on : before ≤ length whole → count ≤ length whole

@@ -29,8 +29,7 @@ seven_digits : (n : ℕ) → n < 1000000 → decimal (1000000 + n) ≡ 49 ∷ si
 seven_digits n places =
     let six = six_digits_spell n places in
     let value : number_of (49 ∷ six_digits n) ≡ 1000000 + n = number_of-cons 49 (six_digits n) ∙ ap (λ m. 1000000 + m) six.value in
-    sym (ap decimal value)
-    ∙ decimal-digits_value numerals (49 ∷ six_digits n) (and_from true (digits_alone (six_digits n)) refl six.digits) (omega arith)
+    sym (ap decimal value) ∙ decimal-digits_value numerals (49 ∷ six_digits n) (and_from true (digits_alone (six_digits n)) refl six.digits) (omega arith)
     (λ e. absurd (omega (arith, e))) (omega (arith, value))
 
 -- ---- with zeros behind it again
@@ -40,10 +39,10 @@ place_filled : (b : ℕ) (ws ds : Word) (k : ℕ) → ((j : ℕ) → length ds �
 place_filled b (c ∷ cs) ds k filled space = ap (λ xs. b ∷ xs) (filled k (omega arith))
 place_filled b [] ds zero filled space = absurd (omega arith)
 place_filled b [] ds (suc k) filled space = elim (cases_eq b 48) as (λ _. take (suc (length ds)) (with_place b [] ++ replicate (suc k) 48) ≡ b ∷ ds) [
-      | inl zero_digit ↦ search rules
-      | inr other ↦ ap (λ ws. take (suc (length ds)) (ws ++ replicate (suc k) 48)) (cond-false (eqb b 48) [] (b ∷ []) (ne_eqb b 48 other))
-          ∙ ap (λ xs. b ∷ xs) (filled (suc k) (omega arith))
-    ]
+  | inl zero_digit ↦ search rules
+  | inr other ↦ ap (λ ws. take (suc (length ds)) (ws ++ replicate (suc k) 48)) (cond-false (eqb b 48) [] (b ∷ []) (ne_eqb b 48 other))
+      ∙ ap (λ xs. b ∷ xs) (filled (suc k) (omega arith))
+]
 
 without_zeros_filled : (ds : Word) (k : ℕ) → length ds ≤ k → take (length ds) (without_zeros ds ++ replicate k 48) ≡ ds
 without_zeros_filled [] k space = refl
@@ -51,8 +50,7 @@ without_zeros_filled (b ∷ bs) k space = place_filled b (without_zeros bs) bs k
 
 -- a price reads these as the digits that they were
 pub six_places-without_zeros : (ds : Word) → length ds ≡ 6 → six_places (without_zeros ds) ≡ ds
-six_places-without_zeros ds six =
-    subst (λ (n : ℕ). take n (without_zeros ds ++ replicate 6 48) ≡ ds) six (without_zeros_filled ds 6 (omega arith))
+six_places-without_zeros ds six = subst (λ (n : ℕ). take n (without_zeros ds ++ replicate 6 48) ≡ ds) six (without_zeros_filled ds 6 (omega arith))
 
 place_digits : (b : ℕ) (ws : Word) → is_digit b ≡ true → digits_alone ws ≡ true → digits_alone (with_place b ws) ≡ true
 place_digits b (c ∷ cs) here there = and_from (is_digit b) (digits_alone (c ∷ cs)) here there
@@ -87,6 +85,5 @@ pub places_text_some : (n : ℕ) → 0 < n → n < 1000000 → places_text n ≡
 places_text_some n some places = grind (arith, common_steps, six_digits_spell, six_places-without_zeros, some_places)
 
 -- the point in place of the first digit of the seven
-pub places_written : (shown n : ℕ) → 0 < n → n < 1000000 → decimal shown ≡ without_zeros (decimal (1000000 + n))
-    → 46 ∷ drop 1 (decimal shown) ≡ places_text n
+pub places_written : (shown n : ℕ) → 0 < n → n < 1000000 → decimal shown ≡ without_zeros (decimal (1000000 + n)) → 46 ∷ drop 1 (decimal shown) ≡ places_text n
 places_written shown n some places e = grind (arith, common_steps, drop_without_zeros, places_text_some, seven_digits)

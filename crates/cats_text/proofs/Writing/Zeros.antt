@@ -19,9 +19,7 @@ without_zeros_stops (x ∷ xs) b other = grind (arith, common_steps, length-appe
 pub zero_dropped : (n : ℕ) → 0 < n → n < 2 ^ 64 → n % 10 ≡ 0 → without_zeros (decimal (n / 10)) ≡ without_zeros (decimal n)
 zero_dropped n some fits zero =
     let step = decimal_step n (omega arith) fits in
-    sym (without_zeros_push (decimal (n / 10)))
-    ∙ ap (λ d. without_zeros (decimal (n / 10) ++ (48 + d) ∷ [])) (sym zero)
-    ∙ ap without_zeros (sym step)
+    sym (without_zeros_push (decimal (n / 10))) ∙ ap (λ d. without_zeros (decimal (n / 10) ++ (48 + d) ∷ [])) (sym zero) ∙ ap without_zeros (sym step)
 
 -- another digit at the end stays
 pub last_stays : (n : ℕ) → n < 2 ^ 64 → n % 10 ≢ 0 → without_zeros (decimal n) ≡ decimal n

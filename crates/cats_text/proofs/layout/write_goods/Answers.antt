@@ -27,6 +27,5 @@ loop-left-preserved c =
       omega (arith, l.invariant.2, c.write_good-start.ensures.start, digits),
       shorter_prefix l.left.now c.args.goods.now l.invariant.3,
       ap (λ t. tabbed prefix ++ t) (c.write_good-start.ensures.written ∙ ap (λ g. (9 ∷ decimal g) ++ drop l.start l.text) c.from.ensures)
-          ∙ last_good l.left.now (drop l.start l.text) some
-          ∙ l.invariant.4,
+          ∙ last_good l.left.now (drop l.start l.text) some ∙ l.invariant.4,
     )

@@ -8,5 +8,4 @@ pub returns-in_err-file : goal.returns-in_err-file
 returns-in_err-file g c = search (rules, err_from_is_err_and)
 
 pub returns : goal.returns
-returns g c =
-    let came = c.in_ok-file.ensures in search (rules, finished_reported, unpacked_reported)
+returns g c = let came = c.in_ok-file.ensures in search (rules, finished_reported, unpacked_reported)

@@ -22,8 +22,7 @@ loop-arrival-preserved g c =
       | then-arrival-gt0+in_ok-add_from w ↦
           let some : 0 < p = w.if-arrival-gt0.true in
           let there : p - 1 < length came = omega arith in
-          ap g.K.Keep.bids w.kept-is
-          ∙ kept_more came (g.K.Keep.bids c.loop-arrival.kept) (g.K.Keep.bids w.add_from.new.self) (take i arrivals) p
+          ap g.K.Keep.bids w.kept-is ∙ kept_more came (g.K.Keep.bids c.loop-arrival.kept) (g.K.Keep.bids w.add_from.new.self) (take i arrivals) p
           (p - 1) c.loop-arrival.invariant some refl there
           w.in_ok-add_from.ensures
       | else-arrival-gt0 w ↦

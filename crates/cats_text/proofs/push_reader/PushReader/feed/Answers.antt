@@ -18,12 +18,10 @@ too_many limit count within bytes piece c w more = let sum = length-append bytes
 
 -- the whole piece was judged
 all_judged : (limit count within : ℕ) (bytes piece : List ℕ) → count ≡ length bytes → count ≤ limit → within ≡ min (length piece) (limit - count)
-    → length piece ≤ within
-    → (length (bytes ++ piece) ≤ limit) × (take within piece ≡ piece) × (within ≡ length piece)
+    → length piece ≤ within → (length (bytes ++ piece) ≤ limit) × (take within piece ≡ piece) × (within ≡ length piece)
 all_judged limit count within bytes piece c space w whole = grind (arith, common_steps, take-length)
 
-judged : (g : _) (c : goal.After-self-2-1 g)
-    → IsJudged g.K.Keep.keep c.self.inside.limit (c.self.inside.count + c.min-within.result) c.take.new.self
+judged : (g : _) (c : goal.After-self-2-1 g) → IsJudged g.K.Keep.keep c.self.inside.limit (c.self.inside.count + c.min-within.result) c.take.new.self
     (c.self.inside.history.bytes ++ c.args.piece.now) c.match-take.judged
 judged g c =
     let limit = c.self.inside.limit in

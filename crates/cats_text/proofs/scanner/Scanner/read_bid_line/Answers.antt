@@ -7,8 +7,7 @@ pub returns-in_err-offset-clause-scanned : goal.returns-in_err-offset-clause-sca
 returns-in_err-offset-clause-scanned g c = search (rules, err_from_is_err_and)
 
 pub returns-in_default-leading_token-clause-scanned : goal.returns-in_default-leading_token-clause-scanned
-returns-in_default-leading_token-clause-scanned g c =
-    c.in_ok-offset.ensures.scanned c.args.bytes.now c.in-Some.ensures
+returns-in_default-leading_token-clause-scanned g c = c.in_ok-offset.ensures.scanned c.args.bytes.now c.in-Some.ensures
 
 pub returns-in_err-offset-2-clause-scanned : goal.returns-in_err-offset-2-clause-scanned
 returns-in_err-offset-2-clause-scanned g c =
