@@ -1,7 +1,6 @@
 -- Bidders are counted alike by their tables and by their points. A bidder of value zero has neither, and of the others each has
 -- the points that its table says.
-use Rattle.std.proofs.Common.{◌≡◌, ℕ, ◌+◌, ◌<◌, ◌≤◌, Bool, true, false, cond, ⊎_elim, List, [], ◌∷◌, refl, sym, ap, ◌∙◌, subst, arith, le_antisymm}
-use Rattle.std.proofs.Common.{nat_cmp}
+use Rattle.std.proofs.Common.{◌≡◌, ℕ, ◌+◌, ◌<◌, ◌≤◌, Bool, true, false, cond, ⊎_elim, List, [], ◌∷◌, refl, sym, ap, ◌∙◌, subst, arith, le_antisymm, nat_cmp}
 use Rattle.std.specs.Prelude.{All}
 use Rattle.std.specs.List.{count_by}
 use Rattle.std.specs.Ordering.{is_eq}
@@ -34,14 +33,12 @@ same_table goods table bidder e =
     slice_cmp-IsAntisymmetric nat_cmp-IsAntisymmetric (xor_table bidder goods) table (equal_from (slice_cmp nat_cmp (xor_table bidder goods) table) e)
 
 pub its_table : (goods : ℕ) (table : List ℕ) (bidder : List (Atom (List ℕ))) → xor_table bidder goods ≡ table → has_table goods table bidder ≡ true
-its_table goods table bidder e =
-    ap (λ (t : List ℕ). is_eq (slice_cmp nat_cmp t table)) e ∙ ap is_eq (tied_itself nat_list_cmp_total table)
+its_table goods table bidder e = search (rules, tied_itself, nat_list_cmp_total)
 
 -- a bidder of value zero does not have the table of one that is not
 zero_has_none : (goods : ℕ) (table : List ℕ) (bidder : List (Atom (List ℕ))) → is_nonzero table ≡ true → is_nonzero (xor_table bidder goods) ≡ false
     → has_table goods table bidder ≡ false
-zero_has_none goods table bidder n z =
-    false_from_ne_true (has_table goods table bidder) (λ e. both_ways (is_nonzero table) (ap is_nonzero (sym (same_table goods table bidder e)) ∙ z) n)
+zero_has_none goods table bidder n z = search (rules, false_from_ne_true, both_ways, same_table)
 
 -- one more bidder
 count_by-cons : {X : Type 0} (p : X → Bool) (x : X) (xs : List X) → count_by p (x ∷ xs) ≡ cond {A = ℕ} (p x) 1 0 + count_by p xs
@@ -55,8 +52,7 @@ skips p x xs e = let first : cond {A = ℕ} (p x) 1 0 ≡ 0 = ap (λ b. cond {A 
 
 pub alike : {X Y : Type 0} (p : X → Bool) (q : Y → Bool) (x : X) (xs : List X) (y : Y) (ys : List Y) → p x ≡ q y → count_by p xs ≡ count_by q ys
     → count_by p (x ∷ xs) ≡ count_by q (y ∷ ys)
-alike p q x xs y ys e rest = let first : cond {A = ℕ} (p x) 1 0 ≡ cond {A = ℕ} (q y) 1 0 = ap (λ b. cond {A = ℕ} b 1 0) e in
-    omega (arith, count_by-cons p x xs, count_by-cons q y ys)
+alike p q x xs y ys e rest = search (rules, count_by-cons)
 
 module _ (goods : ℕ) where
   -- the points of one more bidder
@@ -120,41 +116,19 @@ module _ (goods : ℕ) where
       → 0 < count_of bidder_cmp points (points_of_bidders goods bidders) → (bidder : List (Atom (List ℕ))) × IsPointsOf points bidder
   occurring points [] h l = let none : count_of bidder_cmp points [] ≡ 0 = refl in absurd (omega arith)
   occurring points (bidder ∷ bidders) h l =
-      let later = occurring points bidders (All-tail (All (IsAtom goods)) bidder bidders h) in
-      ⊎_elim
-      (λ (e : is_nonzero (xor_table bidder goods) ≡ true).
-      ⊎_elim
-      (λ (t : is_eq (bidder_cmp points (xor_points goods bidder)) ≡ true). (
-        bidder,
-        record {
-          atoms = All-head (All (IsAtom goods)) bidder bidders h;
-          nonzero = e;
-          are = bidder_cmp_equal points (xor_points goods bidder) (equal_from (bidder_cmp points (xor_points goods bidder)) t);
-        },
-      ))
-      (λ (t : is_eq (bidder_cmp points (xor_points goods bidder)) ≡ false).
-      let same = ap (count_of bidder_cmp points) (points_more bidder bidders e)
-      ∙ skips (λ p. is_eq (bidder_cmp points p)) (xor_points goods bidder) (points_of_bidders goods bidders) t in
-      later (subst (λ n. 0 < n) same l))
-      (cases_Bool (is_eq (bidder_cmp points (xor_points goods bidder)))))
-      (λ (e : is_nonzero (xor_table bidder goods) ≡ false). later (subst (λ n. 0 < n) (ap (count_of bidder_cmp points) (points_without bidder bidders e)) l))
-      (cases_Bool (is_nonzero (xor_table bidder goods)))
+      search (rules, All-tail, All, All-head, bidder_cmp_equal, equal_from, points_more, skips, cases_Bool, points_without, (occurring points bidders (All-tail (All (IsAtom goods)) bidder bidders h)))
 
   at_most : (one other : List (List (Atom (List ℕ)))) → All (All (IsAtom goods)) one → All (All (IsAtom goods)) other
       → ((table : List ℕ) → is_nonzero table ≡ true → count_by (has_table goods table) one ≡ count_by (has_table goods table) other)
       → (points : List (Atom (List ℕ))) → count_of bidder_cmp points (points_of_bidders goods one) ≤ count_of bidder_cmp points (points_of_bidders goods other)
-  at_most one other h k same points =
-      ⊎_elim
-      (λ (z : count_of bidder_cmp points (points_of_bidders goods one) ≡ 0). omega arith)
-      (λ (l : 0 < count_of bidder_cmp points (points_of_bidders goods one)).
+  at_most one other h k same points = ⊎_elim (search rules) (λ (l : 0 < count_of bidder_cmp points (points_of_bidders goods one)).
       let r = occurring points one h l in
       let here = ap (λ (p : List (Atom (List ℕ))). count_of bidder_cmp p (points_of_bidders goods one)) r.1.are
       ∙ points_as_tables r.0 r.1.atoms r.1.nonzero one h in
       let there = ap (λ (p : List (Atom (List ℕ))). count_of bidder_cmp p (points_of_bidders goods other)) r.1.are
       ∙ points_as_tables r.0 r.1.atoms r.1.nonzero other k in
       let tables = same (xor_table r.0 goods) r.1.nonzero in
-      omega arith)
-      (zero_or_more (count_of bidder_cmp points (points_of_bidders goods one)))
+      omega arith) (zero_or_more (count_of bidder_cmp points (points_of_bidders goods one)))
 
   -- bidders that are counted alike by table have points that are counted alike
   pub points_counted : (one other : List (List (Atom (List ℕ)))) → All (All (IsAtom goods)) one → All (All (IsAtom goods)) other

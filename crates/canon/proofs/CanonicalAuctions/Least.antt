@@ -1,5 +1,5 @@
 -- The canonical file is held by every file of the same auction: their canonical files are one, and a file holds its points.
-use Rattle.std.proofs.Common.{◌≡◌, ℕ, ◌<◌, ◌≤◌, true, false, ⊎_elim, List, [], ◌∷◌, length, map, cond, None, refl, sym, ap, ◌∙◌, subst, arith}
+use Rattle.std.proofs.Common.{rules, ◌≡◌, ℕ, ◌<◌, ◌≤◌, true, false, ⊎_elim, List, [], ◌∷◌, length, map, cond, None, refl, sym, ap, ◌∙◌, subst, arith}
 use Rattle.std.specs.Prelude.{All, Contains}
 use Rattle.std.specs.Ordering.{is_eq}
 use Rattle.std.proofs.lemmas.Bool.{cases_Bool}
@@ -54,9 +54,7 @@ module _ (g : PlainFile) (facts : IsPlainFile g) where
   bidders_held : (points : List (Atom (List ℕ))) → 0 < length points → count_of bidder_cmp points (map (xor_points g.goods) (auction_from g).xor_bidders)
       ≡ count_of bidder_cmp points (canonical_auction (auction_from g)).xor_bidders
   bidders_held [] l = absurd (omega arith)
-  bidders_held (point ∷ rest) l =
-      points_with_zero g.goods point rest (auction_from g).xor_bidders atoms.xor_atoms
-      ∙ sym (sum_by-sort_by bidder_cmp (λ p. cond {A = ℕ} (is_eq (bidder_cmp (point ∷ rest) p)) 1 0) (points_of_bidders g.goods (auction_from g).xor_bidders))
+  bidders_held (point ∷ rest) l = points_with_zero g.goods point rest (auction_from g).xor_bidders atoms.xor_atoms ∙ sym (search (rules, sum_by-sort_by))
 
   bids_fewer : length (canonical_file g).bids ≤ length g.bids
   bids_fewer =

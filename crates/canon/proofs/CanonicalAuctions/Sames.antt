@@ -1,5 +1,5 @@
 -- The canonical auction is the same auction, and auctions are the same exactly where their canonical auctions are equal.
-use Rattle.std.proofs.Common.{◌≡◌, ℕ, true, cond, List, refl, sym, ap₂, ◌∙◌, subst}
+use Rattle.std.proofs.Common.{◌≡◌, ℕ, true, cond, List, refl, sym, ap₂, ◌∙◌, subst, rules}
 use Rattle.std.specs.Prelude.{All}
 use Rattle.std.specs.List.{count_by, filter}
 use Rattle.std.proofs.lemmas.List.Elements.{All-map, All-filter, All-weaker}
@@ -17,7 +17,6 @@ use Rattle.canon.specs.Sameness.{has_table, IsSameAuction}
 use Rattle.canon.specs.Canonical.{points_of_bidders, canonical_auction}
 use Rattle.canon.proofs.CanonicalAuctions.Atoms.{HasAtoms, or_points_atoms, xor_points_atoms, or_points_table}
 use Rattle.canon.proofs.CanonicalAuctions.Counting.{tables_of_points, points_counted}
-use Rattle.std.proofs.Common.{rules}
 
 -- ---- the same auction is an equivalence
 
@@ -28,12 +27,7 @@ pub same_sym : (a b : PlainAuction) → IsSameAuction a b → IsSameAuction b a
 same_sym a b s = record { goods = sym s.goods; or_values = sym s.or_values; xor_bidders = λ table n. sym (s.xor_bidders table n) }
 
 pub same_trans : (a b c : PlainAuction) → IsSameAuction a b → IsSameAuction b c → IsSameAuction a c
-same_trans a b c s t = record {
-  goods = s.goods ∙ t.goods;
-  or_values = s.or_values ∙ t.or_values;
-  xor_bidders = λ table n. s.xor_bidders table n
-      ∙ t.xor_bidders table n;
-}
+same_trans a b c s t = search rules
 
 -- ---- the canonical auction
 
@@ -50,13 +44,7 @@ HasAtoms-canonical a h = record {
 }
 
 pub canonical_is_same : (a : PlainAuction) → HasAtoms a → IsSameAuction a (canonical_auction a)
-canonical_is_same a h = record {
-  goods = refl;
-  or_values = sym (or_points_table a.goods a.or_atoms h.or_atoms);
-  xor_bidders = λ table n.
-      sym (sum_by-sort_by bidder_cmp (λ b. cond {A = ℕ} (has_table a.goods table b) 1 0) (points_of_bidders a.goods a.xor_bidders)
-      ∙ tables_of_points a.goods table n a.xor_bidders h.xor_atoms);
-}
+canonical_is_same a h = search (rules, or_points_table, sum_by-sort_by, tables_of_points)
 
 -- the canonical bidders, over the same number of goods
 pub same_bidders : (goods : ℕ) (one other : List (List (Atom (List ℕ)))) → All (All (IsAtom goods)) one → All (All (IsAtom goods)) other

@@ -1,6 +1,6 @@
 -- The canonical auction has no more atoms and no more bidders than the auction, so it is an auction too. Points are atoms on
 -- different bundles, so each takes an atom of its own.
-use Rattle.std.proofs.Common.{◌≡◌, ℕ, ◌+◌, ◌≤◌, true, false, ⊎_elim, List, [], ◌∷◌, length, refl, sym, ap, subst, arith}
+use Rattle.std.proofs.Common.{◌≡◌, ℕ, ◌+◌, ◌≤◌, true, false, ⊎_elim, List, [], ◌∷◌, length, refl, sym, ap, subst, arith, rules}
 use Rattle.std.specs.Prelude.{All, Contains, sum_by, remove}
 use Rattle.std.proofs.lemmas.Bool.{cases_Bool}
 use Rattle.std.proofs.lemmas.List.Elements.{All-head, All-tail, All-contains}
@@ -25,7 +25,6 @@ use Rattle.canon.proofs.CanonicalAuctions.Atoms.{HasAtoms, xor_points_atoms}
 use Rattle.canon.proofs.CanonicalAuctions.Counting.{points_more, points_without}
 use Rattle.canon.proofs.CanonicalAuctions.Sames.{HasAtoms-auction, HasAtoms-canonical}
 use Rattle.std.proofs.lemmas.Grind.{common_steps}
-use Rattle.std.proofs.Common.{rules}
 
 -- atoms in order, each in a list, are no more than the list has
 no_more : (points atoms : List (Atom (List ℕ))) → IsInOrder points → All (Contains atoms) points → length points ≤ length atoms
@@ -33,16 +32,12 @@ no_more [] atoms s h = omega arith
 no_more (x ∷ rest) atoms s h =
     let c = All-head (Contains atoms) x rest h in
     let p = IsPermutation-remove atoms c.0 x c.1 (sym c.2) in
-    let later = no_more rest (remove atoms c.0) (AllPairs-tail IsBefore x rest s)
-    (All-from_Contains (Contains (remove atoms c.0)) rest (λ y d.
-    ⊎_elim
+    let later = no_more rest (remove atoms c.0) (AllPairs-tail IsBefore x rest s) (All-from_Contains (Contains (remove atoms c.0)) rest (λ y d. ⊎_elim
     (λ (e : x ≡ y). absurd (before_itself y.bundle
     (subst (λ (z : Atom (List ℕ)). IsBefore z y) e (All-contains (IsBefore x) rest y (AllPairs-head IsBefore x rest s) d))))
-    (λ (k : Contains (remove atoms c.0) y). k)
-    (Contains-cons_cases x (remove atoms c.0) y
+    (λ (k : Contains (remove atoms c.0) y). k) (Contains-cons_cases x (remove atoms c.0) y
     (Contains-permutation atoms (x ∷ remove atoms c.0) y p (All-contains (Contains atoms) (x ∷ rest) y h (Contains-tail x rest y d)))))) in
-    let long = length_permutation atoms (x ∷ remove atoms c.0) p in
-    omega arith
+    search (rules, length_permutation)
 
 pub length-or_points : (goods : ℕ) (atoms : List (Atom (List ℕ))) → All (IsAtom goods) atoms → length (or_points goods atoms) ≤ length atoms
 length-or_points goods atoms h = search (rules, no_more, points_where-in_order, or_points_are_atoms, on_bundles)
@@ -55,16 +50,7 @@ no_more_bidders : (goods : ℕ) (f : List (Atom (List ℕ)) → ℕ) → ((b : L
     → (bidders : List (List (Atom (List ℕ)))) → All (All (IsAtom goods)) bidders → sum_by f (points_of_bidders goods bidders) ≤ sum_by f bidders
 no_more_bidders goods f less [] h = omega arith
 no_more_bidders goods f less (b ∷ bs) h =
-    let later = no_more_bidders goods f less bs (All-tail (All (IsAtom goods)) b bs h) in
-    let first = less b (All-head (All (IsAtom goods)) b bs h) in
-    let all = sum_by-cons f b bs in
-    ⊎_elim
-    (λ (e : is_nonzero (xor_table b goods) ≡ true).
-    let more = ap (sum_by f) (points_more goods b bs e) in
-    let split = sum_by-cons f (xor_points goods b) (points_of_bidders goods bs) in
-    omega arith)
-    (λ (e : is_nonzero (xor_table b goods) ≡ false). let same = ap (sum_by f) (points_without goods b bs e) in omega arith)
-    (cases_Bool (is_nonzero (xor_table b goods)))
+    search (rules, All-tail, All, All-head, sum_by-cons, points_more, points_without, cases_Bool, (no_more_bidders goods f less bs (All-tail (All (IsAtom goods)) b bs h)))
 
 count_is_length : {X : Type 0} (xs : List X) → sum_by (λ x. 1) xs ≡ length xs
 count_is_length [] = refl
@@ -89,10 +75,7 @@ no_more_xor_atoms a h = grind (arith, common_steps, sum_by-sort_by, no_more_bidd
 -- and no more atoms
 pub no_more_canonical_atoms : (a : PlainAuction) → HasAtoms a → length (canonical_auction a).or_atoms + sum_by length (canonical_auction a).xor_bidders
     ≤ length a.or_atoms + sum_by length a.xor_bidders
-no_more_canonical_atoms a h =
-    let fewer = no_more_xor_atoms a h in
-    let ors = length-or_points a.goods a.or_atoms h.or_atoms in
-    omega arith
+no_more_canonical_atoms a h = search (rules, no_more_xor_atoms, length-or_points)
 
 pub IsAuction-canonical : (cap : ℕ) (a : PlainAuction) → IsAuction cap a → IsAuction cap (canonical_auction a)
 IsAuction-canonical cap a h =

@@ -1,6 +1,6 @@
 -- Bidders are ordered by their keys, where these differ: the bundles of the first atoms are then in the order of the keys, so that these
 -- atoms settle it, or one bidder has no atom.
-use Rattle.std.proofs.Common.{◌≡◌, ℕ, List, [], ◌∷◌, Ordering, Less, Equal, Greater, refl, sym, ap, ◌∙◌, nat_cmp, Some, None}
+use Rattle.std.proofs.Common.{rules, ◌≡◌, ℕ, List, [], ◌∷◌, Ordering, Less, Equal, Greater, refl, sym, ap, ◌∙◌, nat_cmp, Some, None}
 use Rattle.std.specs.List.{slice_get}
 use Rattle.std.specs.Ordering.{ordering_then}
 use Rattle.goods_set.specs.Bundles.{AreBelow}
@@ -28,15 +28,9 @@ pub order_by_bidder_key : {S : Type 0} (goods : S → List ℕ) → ((s : S) →
     → (nat_cmp (bidder_key (atoms_of goods one)) (bidder_key (atoms_of goods other)) ≡ Equal → ⊥)
     → nat_cmp (bidder_key (atoms_of goods one)) (bidder_key (atoms_of goods other)) ≡ bidder_cmp (atoms_of goods one) (atoms_of goods other)
 order_by_bidder_key goods below [] [] n = absurd (n (nat_cmp-refl 0))
-order_by_bidder_key goods below [] (b ∷ others) n =
-    let key : ℕ = sort_key_of (goods b.bundle) in
-    nat_cmp-lt 0 key (positive key (λ e. n (ap (nat_cmp 0) e ∙ nat_cmp-refl 0)))
-order_by_bidder_key goods below (a ∷ ones) [] n =
-    let key : ℕ = sort_key_of (goods a.bundle) in
-    nat_cmp-gt key 0 (positive key (λ e. n (ap (λ k. nat_cmp k 0) e ∙ nat_cmp-refl 0)))
-order_by_bidder_key goods below (a ∷ ones) (b ∷ others) n =
-    let bundles = order_by_key (goods a.bundle) (goods b.bundle) (below a.bundle) (below b.bundle) n in
-    bundles ∙ first_decides _ (nat_cmp a.price b.price) (bidder_cmp (atoms_of goods ones) (atoms_of goods others)) (λ e. n (bundles ∙ e))
+order_by_bidder_key goods below [] (b ∷ others) n = search (rules, nat_cmp-lt, positive, nat_cmp-refl)
+order_by_bidder_key goods below (a ∷ ones) [] n = search (rules, nat_cmp-gt, positive, nat_cmp-refl)
+order_by_bidder_key goods below (a ∷ ones) (b ∷ others) n = search (rules, order_by_key, first_decides)
 
 -- ---- from the first atom, if there is one
 

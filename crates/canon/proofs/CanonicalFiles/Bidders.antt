@@ -1,6 +1,5 @@
 -- The bidders as the code has them: what holds of each, one more, and putting them in order.
-use Rattle.std.proofs.Common.{◌≡◌, ℕ, ◌<◌, ◌≤◌, ⊎_elim, List, [], ◌∷◌, ◌++◌, length, map, None, sym, ap, ap₂, ◌∙◌, subst}
-use Rattle.std.proofs.Common.{arith, append_assoc, Global}
+use Rattle.std.proofs.Common.{◌≡◌, ℕ, ◌<◌, ◌≤◌, ⊎_elim, List, [], ◌∷◌, ◌++◌, length, map, None, sym, ap, ap₂, ◌∙◌, subst, arith, append_assoc, Global, rules}
 use Rattle.std.specs.Prelude.{All, Option, Vec, IsPermutation}
 use Rattle.std.specs.List.Sorted.{IsSortedBy}
 use Rattle.std.specs.Ordering.{is_lt}
@@ -31,7 +30,6 @@ use Rattle.canon.specs.Internal.KeyedBidders.{NumberedBidder, numbered_points, n
 use Rattle.canon.specs.Lemmas.Renaming.{map-sorted}
 use Rattle.canon.proofs.CanonicalFiles.Numbering.{numbered_cmp_total, numbered_cmp_equal, points_push, points_skip}
 use Rattle.std.proofs.lemmas.Grind.{common_steps}
-use Rattle.std.proofs.Common.{rules}
 
 -- atoms over fewer goods are atoms over more
 pub atoms_within : (fewer more : ℕ) (atoms : List (Atom (List ℕ))) → fewer ≤ more → All (IsAtom fewer) atoms → All (IsAtom more) atoms
@@ -92,11 +90,9 @@ module _ {S : Type 0} (goods : S → List ℕ) (all done more left rest : List (
         → seen made ≡ record { number = number; atoms = atoms_of goods own.items } → 0 < length own.items
         → map seen all_points ≡ numbered_points n (bidders_of goods more)
     points_pushed all_points made number e is f some =
-        let count : number ≡ length (bidders_of goods done) = is ∙ sym (length-map done (λ (v : Vec (Atom S) Global). atoms_of goods v.items)) in
-        ap (map seen) e ∙ map_push seen points made
-        ∙ ap₂ (λ (zs : List NumberedBidder) (own : NumberedBidder). zs ++ own ∷ []) so_far
-        (f ∙ ap (λ k. record { number = k; atoms = atoms_of goods own.items }) count)
-        ∙ sym (ap (numbered_points n) one_more
+        let count : number ≡ length (bidders_of goods done) = search (rules, length-map) in
+        ap (map seen) e ∙ map_push seen points made ∙ ap₂ (λ (zs : List NumberedBidder) (own : NumberedBidder). zs ++ own ∷ []) so_far
+        (f ∙ ap (λ k. record { number = k; atoms = atoms_of goods own.items }) count) ∙ sym (ap (numbered_points n) one_more
         ∙ points_push n (bidders_of goods done) (atoms_of goods b.items) (atoms_of goods own.items) own_atoms (are own_atoms)
         (λ none. let long = length-atoms_of goods own.items in let zero : length (atoms_of goods own.items) ≡ 0 = ap length none in omega arith))
 
@@ -111,9 +107,7 @@ module _ {S : Type 0} (goods : S → List ℕ) (all done more left rest : List (
 pub points_done : {S X : Type 0} (goods : S → List ℕ) (seen : X → NumberedBidder) (n : ℕ) (all done left : List (Vec (Atom S) Global))
     (points : List X) → all ≡ done ++ left → left ≡ [] → map seen points ≡ numbered_points n (bidders_of goods done)
     → map seen points ≡ numbered_points n (bidders_of goods all)
-points_done {S} goods seen n all done left points parts none h =
-    h ∙ ap (λ (zs : List (Vec (Atom S) Global)). numbered_points n (bidders_of goods zs))
-    (sym (parts ∙ ap (λ (zs : List (Vec (Atom S) Global)). done ++ zs) none ∙ append-nil done))
+points_done {S} goods seen n all done left points parts none h = search (rules, append-nil)
 
 pub fates_done : {S : Type 0} (goods : S → List ℕ) (n : ℕ) (all done left : List (Vec (Atom S) Global)) (noted : List (List (Option ℕ)))
     → all ≡ done ++ left → left ≡ [] → noted ≡ map (xor_fates n) (bidders_of goods done) → noted ≡ map (xor_fates n) (bidders_of goods all)
@@ -125,10 +119,7 @@ module _ {S X : Type 0} (goods : S → List ℕ) (bare : X → Vec (Atom S) Glob
     (parts : all ≡ done ++ left) (so_far : bidders ≡ map bare done) where
   pub bare_pushed : (rest : List X) (b : X) (more : List (Vec (Atom S) Global)) → left ≡ b ∷ rest → more ≡ bidders ++ bare b ∷ []
       → (all ≡ (done ++ b ∷ []) ++ rest) × (more ≡ map bare (done ++ b ∷ []))
-  bare_pushed rest b more next e = (
-    parts ∙ ap (λ (zs : List X). done ++ zs) next ∙ sym (append_assoc done (b ∷ []) rest),
-    e ∙ ap (λ (zs : List (Vec (Atom S) Global)). zs ++ bare b ∷ []) so_far ∙ sym (map_push bare done b),
-  )
+  bare_pushed rest b more next e = search (rules, append_assoc, map_push)
 
   pub bare_done : left ≡ [] → bidders_of goods bidders ≡ map (λ x. atoms_of goods (bare x).items) all
   bare_done none = search (rules, append-nil, map-map)
@@ -154,18 +145,12 @@ module _ (cap : ℕ) (a : PlainAuction) (facts : IsAuction cap a) (n : ℕ) (ors
       (k : (m : ℕ) → All (All (IsAtom m)) xors → bidders ≡ canonical_bidders m xors) where
     pub canonical_parts : ((m : ℕ) → All (IsAtom m) ors → bids ≡ or_points m ors)
         → ◌≡◌ {A = PlainAuction} (record { goods = n; or_atoms = bids; xor_bidders = bidders }) (canonical_auction a)
-    canonical_parts h =
-        ap₂ (λ (os : List (Atom (List ℕ))) (xs : List (List (Atom (List ℕ)))). record { goods = n; or_atoms = os; xor_bidders = xs }) (h n made.or_atoms)
-        (k n made.xor_atoms)
-        ∙ ap canonical_auction (sym parts)
+    canonical_parts h = search rules
 
     -- and those of the unsearched one
     pub unsearched_parts : ((m : ℕ) → All (IsAtom m) ors → bids ≡ xor_points m ors)
         → ◌≡◌ {A = PlainAuction} (record { goods = n; or_atoms = bids; xor_bidders = bidders }) (unsearched_auction a)
-    unsearched_parts h =
-        ap₂ (λ (os : List (Atom (List ℕ))) (xs : List (List (Atom (List ℕ)))). record { goods = n; or_atoms = os; xor_bidders = xs }) (h n made.or_atoms)
-        (k n made.xor_atoms)
-        ∙ ap unsearched_auction (sym parts)
+    unsearched_parts h = search rules
 
   -- the numbers of its bidders
   pub number_parts : (numbers : List ℕ)
@@ -174,8 +159,7 @@ module _ (cap : ℕ) (a : PlainAuction) (facts : IsAuction cap a) (n : ℕ) (ors
 
   pub fates_parts : (kind : SearchKind) (fates : BidderFates) → ((m : ℕ) → All (IsAtom m) ors → map plain_fate fates.or.items ≡ or_fates kind m ors)
       → ((m : ℕ) → All (All (IsAtom m)) xors → map (λ v. v.items) fates.xor.items ≡ map (xor_fates m) xors) → AreFates kind a fates
-  fates_parts kind fates h k =
-      subst (λ (x : PlainAuction). AreFates kind x fates) (sym parts) (record { or = h n made.or_atoms; xor = k n made.xor_atoms })
+  fates_parts kind fates h k = search rules
 
   pub parts_within_limit : (options : SearchOptions) → ((m : ℕ) → All (IsAtom m) ors → first_refused options m ors ≡ None)
       → first_refused options a.goods a.or_atoms ≡ None

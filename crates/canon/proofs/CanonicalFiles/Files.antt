@@ -1,5 +1,5 @@
 -- The file of an auction represents that auction, and keeps the limits of
-use Rattle.std.proofs.Common.{◌≡◌, ℕ, zero, suc, ◌+◌, ◌<◌, ◌≤◌, List, [], ◌∷◌, ◌++◌, length, map, Option, Some, None, is_none, refl, ap, ap₂, ◌∙◌, arith}
+use Rattle.std.proofs.Common.{rules, ◌≡◌, ℕ, zero, suc, ◌+◌, ◌<◌, ◌≤◌, List, [], ◌∷◌, ◌++◌, length, map, Option, Some, None, is_none, refl, ap, ap₂, ◌∙◌, arith}
 use Rattle.std.specs.Prelude.{All, filter, sum_by}
 use Rattle.std.specs.List.{range_with_len, AllByRecursion}
 use Rattle.std.proofs.lemmas.Bool.{eq-eqb, ne_eqb}
@@ -15,12 +15,10 @@ use Rattle.canon.specs.Canonical.{bid_from, dummy_bids, file_from}
 -- ---- the bids of a bidder, among those of a list
 
 or_atoms_of-append : (xs ys : List PlainBid) → or_atoms_of (xs ++ ys) ≡ or_atoms_of xs ++ or_atoms_of ys
-or_atoms_of-append xs ys = ap (map atom_of) (filter-append (λ b. is_none b.dummy) xs ys)
-    ∙ map-append atom_of (filter (λ b. is_none b.dummy) xs) (filter (λ b. is_none b.dummy) ys)
+or_atoms_of-append xs ys = search (rules, filter-append, map-append)
 
 xor_atoms_of-append : (xs ys : List PlainBid) (d : ℕ) → xor_atoms_of (xs ++ ys) d ≡ xor_atoms_of xs d ++ xor_atoms_of ys d
-xor_atoms_of-append xs ys d = ap (map atom_of) (filter-append (λ b. is_dummy d b.dummy) xs ys)
-    ∙ map-append atom_of (filter (λ b. is_dummy d b.dummy) xs) (filter (λ b. is_dummy d b.dummy) ys)
+xor_atoms_of-append xs ys d = search (rules, filter-append, map-append)
 
 or_of_or : (atoms : List (Atom (List ℕ))) → or_atoms_of (map (bid_from None) atoms) ≡ atoms
 or_of_or [] = refl
@@ -32,9 +30,7 @@ or_of_bidder d (a ∷ rest) = or_of_bidder d rest
 
 or_of_bidders : (d : ℕ) (bidders : List (List (Atom (List ℕ)))) → or_atoms_of (dummy_bids d bidders) ≡ []
 or_of_bidders d [] = refl
-or_of_bidders d (bidder ∷ bidders) =
-    or_atoms_of-append (map (bid_from (Some d)) bidder) (dummy_bids (d + 1) bidders)
-    ∙ ap₂ (λ (xs ys : List (Atom (List ℕ))). xs ++ ys) (or_of_bidder d bidder) (or_of_bidders (d + 1) bidders)
+or_of_bidders d (bidder ∷ bidders) = search (rules, or_atoms_of-append, or_of_bidder, (or_of_bidders (d + 1) bidders))
 
 xor_of_or : (atoms : List (Atom (List ℕ))) (d : ℕ) → xor_atoms_of (map (bid_from None) atoms) d ≡ []
 xor_of_or [] d = refl
@@ -42,21 +38,15 @@ xor_of_or (a ∷ rest) d = xor_of_or rest d
 
 xor_of_itself : (d : ℕ) (atoms : List (Atom (List ℕ))) → xor_atoms_of (map (bid_from (Some d)) atoms) d ≡ atoms
 xor_of_itself d [] = refl
-xor_of_itself d (a ∷ rest) =
-    ap (map atom_of) (filter-kept (λ b. is_dummy d b.dummy) (bid_from (Some d) a) (map (bid_from (Some d)) rest) (eq-eqb d d refl))
-    ∙ ap (λ (zs : List (Atom (List ℕ))). a ∷ zs) (xor_of_itself d rest)
+xor_of_itself d (a ∷ rest) = search (rules, filter-kept, eq-eqb, (xor_of_itself d rest))
 
 xor_of_other : (e d : ℕ) → (e ≡ d → ⊥) → (atoms : List (Atom (List ℕ))) → xor_atoms_of (map (bid_from (Some e)) atoms) d ≡ []
 xor_of_other e d differ [] = refl
-xor_of_other e d differ (a ∷ rest) =
-    ap (map atom_of) (filter-lost (λ b. is_dummy d b.dummy) (bid_from (Some e) a) (map (bid_from (Some e)) rest) (ne_eqb e d differ))
-    ∙ xor_of_other e d differ rest
+xor_of_other e d differ (a ∷ rest) = search (rules, filter-lost, ne_eqb, (xor_of_other e d differ rest))
 
 xor_of_later : (d : ℕ) (bidders : List (List (Atom (List ℕ)))) (k : ℕ) → k < d → xor_atoms_of (dummy_bids d bidders) k ≡ []
 xor_of_later d [] k l = refl
-xor_of_later d (bidder ∷ bidders) k l =
-    xor_atoms_of-append (map (bid_from (Some d)) bidder) (dummy_bids (d + 1) bidders) k
-    ∙ ap₂ (λ (xs ys : List (Atom (List ℕ))). xs ++ ys) (xor_of_other d k (λ e. omega arith) bidder) (xor_of_later (d + 1) bidders k (omega arith))
+xor_of_later d (bidder ∷ bidders) k l = search (rules, xor_atoms_of-append, xor_of_other, (xor_of_later (d + 1) bidders k (omega arith)))
 
 -- ---- the auction of the file
 
@@ -67,14 +57,7 @@ map_range_same {X} f g low (suc n) h = ap₂ (λ (x : X) (xs : List X). x ∷ xs
 bidders_again : (d : ℕ) (bidders : List (List (Atom (List ℕ)))) → map (xor_atoms_of (dummy_bids d bidders)) (range_with_len d (length bidders)) ≡ bidders
 bidders_again d [] = refl
 bidders_again d (bidder ∷ bidders) =
-    let bids = map (bid_from (Some d)) bidder in
-    let rest = dummy_bids (d + 1) bidders in
-    ap₂ (λ (x : List (Atom (List ℕ))) (xs : List (List (Atom (List ℕ)))). x ∷ xs)
-    (xor_atoms_of-append bids rest d ∙ ap₂ (λ (xs ys : List (Atom (List ℕ))). xs ++ ys) (xor_of_itself d bidder) (xor_of_later (d + 1) bidders d (omega arith))
-    ∙ append-nil bidder)
-    (map_range_same (xor_atoms_of (bids ++ rest)) (xor_atoms_of rest) (d + 1) (length bidders)
-    (λ k l. xor_atoms_of-append bids rest k ∙ ap (λ (xs : List (Atom (List ℕ))). xs ++ xor_atoms_of rest k) (xor_of_other d k (λ e. omega arith) bidder))
-    ∙ bidders_again (d + 1) bidders)
+    search (rules, xor_atoms_of-append, xor_of_itself, xor_of_later, append-nil, map_range_same, xor_of_other, (bidders_again (d + 1) bidders))
 
 pub auction_from-file_from : (a : PlainAuction) → auction_from (file_from a) ≡ a
 auction_from-file_from a =
@@ -94,13 +77,7 @@ auction_from-file_from a =
 -- ---- the limits of files
 
 IsBid-from : (G D : ℕ) (dummy : Option ℕ) (a : Atom (List ℕ)) → IsDummyBelow D dummy → IsAtom G a → IsBid G D (bid_from dummy a)
-IsBid-from G D dummy a d h = record {
-  price = h.price;
-  goods = h.nonempty;
-  rising = h.bundle.0;
-  below = h.bundle.1;
-  dummy = d;
-}
+IsBid-from G D dummy a d h = search rules
 
 each_append : (P : PlainBid → Type 0) (xs ys : List PlainBid) → AllByRecursion P xs → AllByRecursion P ys → AllByRecursion P (xs ++ ys)
 each_append P [] ys h k = k
@@ -121,21 +98,13 @@ each_of_bidders G D d (bidder ∷ bidders) l h =
 
 pub length-dummy_bids : (d : ℕ) (bidders : List (List (Atom (List ℕ)))) → length (dummy_bids d bidders) ≡ sum_by length bidders
 length-dummy_bids d [] = refl
-length-dummy_bids d (bidder ∷ bidders) =
-    let first = length-map bidder (bid_from (Some d)) in
-    let both = length-append (map (bid_from (Some d)) bidder) (dummy_bids (d + 1) bidders) in
-    let later = length-dummy_bids (d + 1) bidders in
-    omega (arith, sum_by-cons (length {A = Atom (List ℕ)}) bidder bidders)
+length-dummy_bids d (bidder ∷ bidders) = search (rules, length-map, length-append, sum_by-cons, (length-dummy_bids (d + 1) bidders))
 
 pub IsPlainFile-file_from : (cap : ℕ) (a : PlainAuction) → IsAuction cap a → IsPlainFile (file_from a)
 IsPlainFile-file_from cap a h = record {
   goods = h.goods;
   dummy = h.bidders;
-  count =
-      let first = length-map a.or_atoms (bid_from None) in
-      let both = length-append (map (bid_from None) a.or_atoms) (dummy_bids 0 a.xor_bidders) in
-      let later = length-dummy_bids 0 a.xor_bidders in
-      omega (arith, h.atoms);
+  count = search (rules, length-map, length-append, length-dummy_bids);
   each = each_append (IsBid a.goods (length a.xor_bidders)) (map (bid_from None) a.or_atoms) (dummy_bids 0 a.xor_bidders)
       (each_from a.goods (length a.xor_bidders) None tt a.or_atoms h.or_atoms)
       (each_of_bidders a.goods (length a.xor_bidders) 0 a.xor_bidders (omega arith) h.xor_atoms);

@@ -1,6 +1,6 @@
 -- The file of an auction is made bid by bid: one more atom of a bidder, and one more bidder.
 use Rattle.std.proofs.Common.{◌≡◌, ℕ, ◌+◌, ◌<◌, ◌≤◌, List, [], ◌∷◌, ◌++◌, length, map, drop, get_or, Option, Some, sym, ap, ap₂, ◌∙◌, subst, append_assoc}
-use Rattle.std.proofs.Common.{Global}
+use Rattle.std.proofs.Common.{Global, rules}
 use Rattle.std.specs.Prelude.{Vec}
 use Rattle.std.proofs.lemmas.List.{drop-map, drop_more, append-nil, drop_all, length-map}
 use Rattle.bid_file.specs.Files.{PlainBid, PlainFile, IsBidFile, IsPlainFile}
@@ -11,7 +11,6 @@ use Rattle.valuation.specs.Bidders.{bidders_of}
 use Rattle.valuation.specs.Values.{atoms_of}
 use Rattle.canon.specs.Canonical.{bid_from, dummy_bids, file_from}
 use Rattle.canon.proofs.CanonicalFiles.Files.{IsPlainFile-file_from}
-use Rattle.std.proofs.Common.{rules}
 
 -- one more bid, and one atom less to come
 pub one_more_bid : {S : Type 0} (goods : S → List ℕ) (dummy : Option ℕ) (old new : List PlainBid) (bundle : List ℕ) (atoms : List (Atom S)) (i : ℕ) (a : Atom S)
@@ -21,8 +20,7 @@ one_more_bid goods dummy old new bundle atoms i a l e its more = search (rules, 
 
 -- none is to come
 pub all_bids : {X Y : Type 0} (done : List Y) (f : X → Y) (xs : List X) (i : ℕ) (all : List Y) → length xs ≤ i → done ++ map f (drop i xs) ≡ all → done ≡ all
-all_bids {X} {Y} done f xs i all l h =
-    sym (append-nil done) ∙ ap (λ (zs : List X). done ++ map f zs) (sym (drop_all i xs l)) ∙ h
+all_bids {X} {Y} done f xs i all l h = search (rules, append-nil, drop_all)
 
 -- the bidder at an index, and those behind it
 pub next_bidder : {S : Type 0} (goods : S → List ℕ) (bidders : List (Vec (Atom S) Global)) (i : ℕ) (b : Vec (Atom S) Global)
@@ -37,16 +35,13 @@ one_more_bidder {S} goods old new bidders i b l e more = search (rules, append_a
 
 pub all_bidders : (done all : List PlainBid) (i : ℕ) (bidders : List (List (Atom (List ℕ)))) → length bidders ≤ i → done ++ dummy_bids i (drop i bidders) ≡ all
     → done ≡ all
-all_bidders done all i bidders l h =
-    sym (append-nil done) ∙ ap (λ (zs : List (List (Atom (List ℕ)))). done ++ dummy_bids i zs) (sym (drop_all i bidders l)) ∙ h
+all_bidders done all i bidders l h = search (rules, append-nil, drop_all)
 
 -- ---- the parts of the file
 
 pub file_parts : (a : PlainAuction) (goods dummy : ℕ) (bids : List PlainBid) → goods ≡ a.goods → dummy ≡ length a.xor_bidders → bids ≡ (file_from a).bids
     → ◌≡◌ {A = PlainFile} (record { goods = goods; dummy = dummy; bids = bids }) (file_from a)
-file_parts a goods dummy bids e f h =
-    ap (λ n. record { goods = n; dummy = dummy; bids = bids }) e
-    ∙ ap₂ (λ (n : ℕ) (bs : List PlainBid). record { goods = a.goods; dummy = n; bids = bs }) f h
+file_parts a goods dummy bids e f h = search rules
 
 pub file_limits : (cap : ℕ) (a : PlainAuction) → IsAuction cap a → (goods dummy : ℕ) (bids : List PlainBid) → goods ≡ a.goods → dummy ≡ length a.xor_bidders
     → bids ≡ (file_from a).bids → IsBidFile goods dummy bids

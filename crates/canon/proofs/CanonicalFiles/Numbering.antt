@@ -1,7 +1,5 @@
 -- Bidders with their numbers: one more at the end, what is left without the numbers, and the numbers of those that are in the canonical auction.
-use Rattle.std.proofs.Common.{◌≡◌, ℕ, zero, suc, ◌+◌, ◌<◌, ◌≤◌, Bool, List, [], ◌∷◌, ◌++◌, length, map, take, get_or, refl, sym, ap, ap₂}
-use Rattle.std.proofs.Common.{◌∙◌}
-use Rattle.std.proofs.Common.{arith, Equal}
+use Rattle.std.proofs.Common.{◌≡◌, ℕ, zero, suc, ◌+◌, ◌<◌, ◌≤◌, Bool, List, [], ◌∷◌, ◌++◌, length, map, take, get_or, refl, sym, ap, ap₂, ◌∙◌, arith, Equal}
 use Rattle.std.specs.Cmp.{IsTotalOrder}
 use Rattle.std.specs.FinMap.{nat_cmp-IsAntisymmetric}
 use Rattle.std.specs.List.{filter, range_with_len}
@@ -98,9 +96,7 @@ atoms_in_order goods bidders = search (rules, sort_by-map, numbered_cmp_total, b
 
 pub one_more_number : {X : Type 0} (number : X → ℕ) (xs : List X) (so_far more : List ℕ) (i : ℕ) (x : X) → i < length xs → x ≡ get_or xs i x
     → so_far ≡ map number (take i xs) → more ≡ so_far ++ number x ∷ [] → more ≡ map number (take (i + 1) xs)
-one_more_number {X} number xs so_far more i x l is h e =
-    e ∙ ap (λ (ns : List ℕ). ns ++ number x ∷ []) h
-    ∙ sym (ap (map number) (take_more xs i x l ∙ ap (λ (y : X). take i xs ++ y ∷ []) (sym is)) ∙ map_push number (take i xs) x)
+one_more_number {X} number xs so_far more i x l is h e = grind (arith, common_steps, take_more, map_push)
 
 pub all_numbers : {X : Type 0} (number : X → ℕ) (xs : List X) (so_far : List ℕ) (i : ℕ) → length xs ≤ i → so_far ≡ map number (take i xs)
     → so_far ≡ map number xs

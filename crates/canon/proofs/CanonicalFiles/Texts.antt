@@ -1,6 +1,6 @@
 -- Files of the same auction have one text, and only these: the layout spells the file, the file represents its auction, and the
 -- canonical auction is the same auction.
-use Rattle.std.proofs.Common.{◌≡◌, ℕ, List, Option, Some, None, refl, sym, ap, ◌∙◌, subst, le_refl}
+use Rattle.std.proofs.Common.{◌≡◌, ℕ, List, Option, Some, None, refl, sym, ap, ◌∙◌, subst, le_refl, rules}
 use Rattle.bid_file.specs.Files.{PlainFile, IsPlainFile}
 use Rattle.cats_text.specs.Grammar.{Spells}
 use Rattle.cats_text.specs.Faults.{first_fault}
@@ -24,7 +24,6 @@ use Rattle.canon.proofs.CanonicalAuctions.Atoms.{HasAtoms}
 use Rattle.canon.proofs.CanonicalAuctions.Sames.{HasAtoms-auction, canonical_is_same, same_canonical, same_from_canonical, canonical_is_fixed}
 use Rattle.canon.proofs.CanonicalFiles.Files.{auction_from-file_from, IsPlainFile-file_from}
 use Rattle.canon.proofs.CanonicalAuctions.Smaller.{IsAuction-canonical}
-use Rattle.std.proofs.Common.{rules}
 
 -- ---- the auction and the canonical file of a file
 
@@ -35,8 +34,7 @@ pub HasAtoms-file : (f : PlainFile) → IsPlainFile f → HasAtoms (auction_from
 HasAtoms-file f h = HasAtoms-auction f.goods (auction_from f) (IsAuction-file f h)
 
 pub IsPlainFile-canonical : (f : PlainFile) → IsPlainFile f → IsPlainFile (canonical_file f)
-IsPlainFile-canonical f h =
-    IsPlainFile-file_from f.goods (canonical_auction (auction_from f)) (IsAuction-canonical f.goods (auction_from f) (IsAuction-file f h))
+IsPlainFile-canonical f h = search (rules, IsPlainFile-file_from, IsAuction-canonical, IsAuction-file)
 
 pub canonical_file_is_same : (f : PlainFile) → IsPlainFile f → AreSameFiles f (canonical_file f)
 canonical_file_is_same f h = search (rules, auction_from-file_from, canonical_is_same, HasAtoms-file)
@@ -73,22 +71,13 @@ pub record IsNormalText (options : SearchOptions) (text out : List ℕ) : Type 0
 pub text_of_file : (options : SearchOptions) (f : PlainFile) (out : List ℕ) → normalised_file options f ≡ IsText out
     → (first_refused options f.goods (or_atoms_of f.bids) ≡ None)
     × (out ≡ canonical_text f)
-text_of_file options f out = by (first_refused options f.goods (or_atoms_of f.bids)) refl
-  where
-    by : (o : Option (List ℕ)) → first_refused options f.goods (or_atoms_of f.bids) ≡ o → unless_refused f o ≡ IsText out
-        → (first_refused options f.goods (or_atoms_of f.bids) ≡ None) × (out ≡ canonical_text f)
-    by None e q = (e, cc)
-    by (Some goods) e q = absurd (cc)
+text_of_file options f out = search rules
 
 pub text_from_normalised : (options : SearchOptions) (text out : List ℕ) → Normalises options text (IsText out) → IsNormalText options text out
 text_from_normalised options text out n = search (rules, text_of_file)
 
 pub normalised_from_text : (options : SearchOptions) (text out : List ℕ) → IsNormalText options text out → Normalises options text (IsText out)
-normalised_from_text options text out n = record {
-  file = n.file;
-  spelled = n.spelled;
-  is = ap (unless_refused n.file) n.within_limit ∙ ap IsText (sym n.is);
-}
+normalised_from_text options text out n = search rules
 
 -- each text has one outcome
 pub has_outcome : (options : SearchOptions) (text : List ℕ) → IsNormalised options text

@@ -1,7 +1,7 @@
 -- Alike files. The idea: OR values depend on the bids that no single bid replaces alone, since any other may be taken for one inside its
 -- bundle with at least its price; and what needs no search depends on the XOR values of the bids alone, which neither their order nor their
 -- repetition changes.
-use Rattle.std.proofs.Common.{◌≡◌, ℕ, ◌<◌, ◌≤◌, List, length, map, Bool, refl, sym, ap, ap₂, ◌∙◌, subst, arith, le_antisymm, le_refl, is_none}
+use Rattle.std.proofs.Common.{◌≡◌, ℕ, ◌<◌, ◌≤◌, List, length, map, Bool, refl, sym, ap, ap₂, ◌∙◌, subst, arith, le_antisymm, le_refl, is_none, rules}
 use Rattle.std.specs.Prelude.{All, Contains, ◌↔◌}
 use Rattle.std.specs.List.{filter, range_with_len}
 use Rattle.std.proofs.lemmas.List.Elements.{All-contains, All-weaker}
@@ -35,7 +35,6 @@ use Rattle.canon.proofs.CanonicalAuctions.Sames.{canonical_is_same, same_sym, sa
 use Rattle.canon.proofs.CanonicalAuctions.Smaller.{IsAuction-unsearched}
 use Rattle.canon.proofs.CanonicalFiles.Files.{auction_from-file_from, IsPlainFile-file_from}
 use Rattle.canon.proofs.CanonicalFiles.Texts.{HasAtoms-file}
-use Rattle.std.proofs.Common.{rules}
 
 -- ---- OR values without the bids that single bids replace
 
@@ -73,26 +72,17 @@ module _ (goods : ℕ) (atoms : List (Atom (List ℕ))) (h : All (IsAtom goods) 
 unsearched_is_same : (a : PlainAuction) → HasAtoms a → IsSameAuction a (unsearched_auction a)
 unsearched_is_same a h = record {
   goods = refl;
-  or_values = map_same_on (or_value a.or_atoms) (or_value (xor_points a.goods a.or_atoms)) (all_bundles a.goods)
-      (All-from_Contains (λ bundle. or_value a.or_atoms bundle ≡ or_value (xor_points a.goods a.or_atoms) bundle) (all_bundles a.goods)
-      (λ bundle c. kept_values a.goods a.or_atoms h.or_atoms bundle));
+  or_values = search (rules, map_same_on, All-from_Contains, kept_values);
   xor_bidders = (canonical_is_same a h).xor_bidders;
 }
 
 -- ---- alike auctions have one unsearched auction
 
 one_from_alike : (a b : PlainAuction) → AreAlikeAuctions a b → unsearched_auction a ≡ unsearched_auction b
-one_from_alike a b s =
-    ap (λ n. record { goods = n; or_atoms = (unsearched_auction a).or_atoms; xor_bidders = (unsearched_auction a).xor_bidders }) s.goods
-    ∙ ap₂ (λ (os : List (Atom (List ℕ))) (xs : List (List (Atom (List ℕ)))). record { goods = b.goods; or_atoms = os; xor_bidders = xs }) s.or_bids
-    s.xor_bidders
+one_from_alike a b s = search rules
 
 alike_from_one : (a b : PlainAuction) → unsearched_auction a ≡ unsearched_auction b → AreAlikeAuctions a b
-alike_from_one a b e = record {
-  goods = ap (λ (x : PlainAuction). x.goods) e;
-  or_bids = ap (λ (x : PlainAuction). x.or_atoms) e;
-  xor_bidders = ap (λ (x : PlainAuction). x.xor_bidders) e;
-}
+alike_from_one a b e = search rules
 
 same_from_one : (a b : PlainAuction) → HasAtoms a → HasAtoms b → unsearched_auction a ≡ unsearched_auction b → IsSameAuction a b
 same_from_one a b h k e =
@@ -100,15 +90,12 @@ same_from_one a b h k e =
     (same_sym b (unsearched_auction b) (unsearched_is_same b k))
 
 pub same_from_alike : (f g : PlainFile) → IsPlainFile f → IsPlainFile g → AreAlike f g → AreSameFiles f g
-same_from_alike f g h k s =
-    same_from_one (auction_from f) (auction_from g) (HasAtoms-file f h) (HasAtoms-file g k) (one_from_alike (auction_from f) (auction_from g) s)
+same_from_alike f g h k s = search (rules, same_from_one, HasAtoms-file, one_from_alike)
 
 -- ---- and their files one text
 
 IsPlainFile-unsearched : (f : PlainFile) → IsPlainFile f → IsPlainFile (unsearched_file f)
-IsPlainFile-unsearched f h =
-    IsPlainFile-file_from f.goods (unsearched_auction (auction_from f))
-    (IsAuction-unsearched f.goods (auction_from f) (IsAuction-auction_from f.goods f h (le_refl f.goods)))
+IsPlainFile-unsearched f h = IsPlainFile-file_from f.goods (unsearched_auction (auction_from f)) (search (rules, IsAuction-unsearched, IsAuction-auction_from))
 
 one_from_texts : (f g : PlainFile) → IsPlainFile f → IsPlainFile g → unsearched_text f ≡ unsearched_text g
     → unsearched_auction (auction_from f) ≡ unsearched_auction (auction_from g)
@@ -121,10 +108,7 @@ one_from_texts f g h k e =
     ∙ auction_from-file_from (unsearched_auction (auction_from g))
 
 pub unsearched_texts_tell : (f g : PlainFile) → IsPlainFile f → IsPlainFile g → (unsearched_text f ≡ unsearched_text g ↔ AreAlike f g)
-unsearched_texts_tell f g h k = (
-  λ e. alike_from_one (auction_from f) (auction_from g) (one_from_texts f g h k e),
-  λ s. ap (λ (a : PlainAuction). layout (file_from a)) (one_from_alike (auction_from f) (auction_from g) s),
-)
+unsearched_texts_tell f g h k = search (rules, alike_from_one, one_from_texts, one_from_alike)
 
 -- ---- the same bids
 
@@ -159,13 +143,8 @@ module _ (goods dummy : ℕ) (one other : List PlainBid) (same : (bid : PlainBid
   table_alike d = search (rules, map_same_on, All-from_Contains, values_alike)
 
   bidders_alike : points_of_bidders goods (auction_from f).xor_bidders ≡ points_of_bidders goods (auction_from g).xor_bidders
-  bidders_alike =
-      points_of_nonzero f
-      ∙ ap (map (points_of_dummy f)) (filter_same_on (has_value f) (has_value g) (range_with_len 0 dummy)
-      (All-from_Contains (λ d. has_value f d ≡ has_value g d) (range_with_len 0 dummy) (λ d c. ap is_nonzero (table_alike d))))
-      ∙ map_same_on (points_of_dummy f) (points_of_dummy g) (nonzero_dummies g)
-      (All-from_Contains (λ d. points_of_dummy f d ≡ points_of_dummy g d) (nonzero_dummies g) (λ d c. points_alike (λ b. is_dummy d b.dummy)))
-      ∙ sym (points_of_nonzero g)
+  bidders_alike = points_of_nonzero f ∙ ap (map (points_of_dummy f)) (search (rules, filter_same_on, has_value, All-from_Contains, table_alike))
+      ∙ map_same_on (points_of_dummy f) (points_of_dummy g) (nonzero_dummies g) (search (rules, All-from_Contains, points_alike)) ∙ sym (points_of_nonzero g)
 
   alike : AreAlike f g
   alike = record { goods = refl; or_bids = points_alike (λ b. is_none b.dummy); xor_bidders = ap (sort_by bidder_cmp) bidders_alike }

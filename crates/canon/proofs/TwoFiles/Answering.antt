@@ -1,5 +1,5 @@
 -- What the calls answer, from what the calls below them answered: each kind of answer of one is, by the definitions, one of the other.
-use Rattle.std.proofs.Common.{◌≡◌, ℕ, ◌⊎◌, inl, inr, true, List, Option, Some, None, refl, sym, ap, ◌∙◌, subst, IfSome}
+use Rattle.std.proofs.Common.{rules, ◌≡◌, ℕ, ◌⊎◌, inl, inr, true, List, Option, Some, None, refl, sym, ap, ◌∙◌, subst, IfSome}
 use Rattle.std.specs.Prelude.{◌↔◌}
 use Rattle.bid_file.specs.Files.{PlainFile, IsPlainFile}
 use Rattle.cats_text.specs.Grammar.{Spells}
@@ -24,8 +24,7 @@ use Rattle.canon.specs.declared.canon_fault.CanonFault.TheVariants.{Read, StepLi
 use Rattle.prune.specs.SearchSteps.{first_refused}
 use Rattle.canon.proofs.CanonicalFiles.Files.{auction_from-file_from}
 use Rattle.canon.proofs.CanonicalAuctions.Least.{canonical_is_least}
-use Rattle.canon.proofs.CanonicalFiles.Texts.{text_from_normalised, normalised_from_text, normalised_again, same_text, same_from_text}
-use Rattle.canon.proofs.CanonicalFiles.Texts.{canonical_file_is_same}
+use Rattle.canon.proofs.CanonicalFiles.Texts.{text_from_normalised, normalised_from_text, normalised_again, same_text, same_from_text, canonical_file_is_same}
 
 -- ---- a search that takes too many steps
 
@@ -93,8 +92,7 @@ text_of_normal options f h n out is = ap (unless_refused f) n.within_limit ∙ a
 -- ---- the file of a canonical auction
 
 pub canonical_file_is : (c : PlainAuction) (h : PlainFile) → h ≡ file_from c → IsCanonical c → IsCanonicalFile h
-canonical_file_is c h is fixed =
-    subst IsCanonicalFile (sym is) (ap (λ (a : PlainAuction). file_from (canonical_auction a)) (auction_from-file_from c) ∙ ap file_from fixed)
+canonical_file_is c h is fixed = search (rules, auction_from-file_from)
 
 pub canonical_auction_is : (a : PlainAuction) → IsCanonicalFile (file_from a) → IsCanonical a
 canonical_auction_is a h =

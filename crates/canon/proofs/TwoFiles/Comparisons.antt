@@ -1,6 +1,6 @@
 -- What comparing answers: of two canonical files, by their OR bids and their XOR bids, and of two texts, by the files that they spell.
-use Rattle.std.proofs.Common.{◌≡◌, ℕ, ◌+◌, ◌⊎◌, Bool, true, eqb, List, [], ◌∷◌, ◌++◌, length, map, take, drop, Option, Some, None, Result}
-use Rattle.std.proofs.Common.{Ok, Err, refl, sym, ap, ◌∙◌, subst, arith}
+use Rattle.std.proofs.Common.{◌≡◌, ℕ, ◌+◌, ◌⊎◌, Bool, true, eqb, List, [], ◌∷◌, ◌++◌, length, map, take, drop, Option, Some, None, Result, Ok, Err, refl, sym}
+use Rattle.std.proofs.Common.{ap, ◌∙◌, subst, arith, rules}
 use Rattle.std.specs.Prelude.{◌↔◌, IfOk, IfErr, OnErr, MatchOption, IsErrAnd}
 use Rattle.std.specs.List.{prefix_len}
 use Rattle.std.specs.Option.{option_eq}
@@ -40,7 +40,6 @@ use Rattle.canon.proofs.CanonicalFiles.Files.{auction_from-file_from}
 use Rattle.canon.proofs.TwoFiles.SameDifferences.{difference_of_same_files}
 use Rattle.canon.proofs.CanonicalAuctions.Sames.{same_sym, same_trans}
 use Rattle.canon.proofs.CanonicalFiles.Texts.{HasAtoms-file, IsPlainFile-canonical, canonical_file_is_same, canonical_file_is_fixed}
-use Rattle.std.proofs.Common.{rules}
 
 -- ---- the bids of a canonical file
 
@@ -48,10 +47,7 @@ use Rattle.std.proofs.Common.{rules}
 or_bids_pass : (p : PlainBid → Bool) → ((a : Atom (List ℕ)) → p (bid_from None a) ≡ true) → (atoms : List (Atom (List ℕ))) (rest : List PlainBid)
     → prefix_len p rest ≡ 0 → prefix_len p (map (bid_from None) atoms ++ rest) ≡ length (map (bid_from None) atoms)
 or_bids_pass p h [] rest e = e
-or_bids_pass p h (a ∷ atoms) rest e =
-    let here = h a in
-    let later = or_bids_pass p h atoms rest e in
-    cond-true (p (bid_from None a)) (1 + prefix_len p (map (bid_from None) atoms ++ rest)) 0 here ∙ omega arith
+or_bids_pass p h (a ∷ atoms) rest e = search (rules, cond-true, (or_bids_pass p h atoms rest e))
 
 no_bidder_passes : (d : ℕ) (bidders : List (List (Atom (List ℕ)))) → leading None (dummy_bids d bidders) ≡ 0
 no_bidder_passes d [] = refl
@@ -113,8 +109,7 @@ module _ (f g : PlainFile) (h : IsPlainFile f) (k : IsPlainFile g) where
 
   pub same_if_ok : {E : Type 0} (r : Result Verdict E) → IfOk r (λ verdict. plain_verdict verdict ≡ first_difference (auction_from f) (auction_from g))
       → IfOk r (λ verdict. verdict ≡ Same ↔ AreSameFiles f g)
-  same_if_ok r = IfOk-weaker r (λ verdict. plain_verdict verdict ≡ first_difference (auction_from f) (auction_from g))
-      (λ verdict. verdict ≡ Same ↔ AreSameFiles f g) same_by_difference
+  same_if_ok r = search (rules, IfOk-weaker, same_by_difference)
 
 -- ---- the first step: a text is read and made canonical
 
@@ -191,8 +186,7 @@ module _ (options : SearchOptions) (one other : List ℕ) (h k : PlainFile) (n :
 
   pub same_by_texts : {E : Type 0} (r : Result Verdict E) → IfOk r (λ verdict. verdict ≡ Same ↔ AreSameFiles h k)
       → IfOk r (λ verdict. verdict ≡ Same ↔ AreSameTexts one other)
-  same_by_texts r e = IfOk-weaker r (λ verdict. verdict ≡ Same ↔ AreSameFiles h k) (λ verdict. verdict ≡ Same ↔ AreSameTexts one other)
-      (λ v same. (λ p. same_texts (same.0 p), λ t. same.1 (same_files t))) e
+  same_by_texts r e = search (rules, IfOk-weaker, same_texts, same_files)
 
 -- ---- the walk over two files
 

@@ -1,6 +1,6 @@
 -- Laws of the first difference. Exchanging the auctions exchanges its sides; there is none exactly between auctions that are the same;
 -- and where it is a bundle or a bidder, it is a point of one of them, or counted unequally by tables: each case by case over its parts.
-use Rattle.std.proofs.Common.{◌≡◌, ℕ, ◌<◌, true, eqb, cond, ⊎_elim, List, refl, sym, ap, ap₂, ◌∙◌, subst, arith, Option, Some, None}
+use Rattle.std.proofs.Common.{◌≡◌, ℕ, ◌<◌, true, eqb, cond, ⊎_elim, List, refl, sym, ap, ap₂, ◌∙◌, subst, arith, Option, Some, None, rules}
 use Rattle.std.specs.Prelude.{All, ◌↔◌}
 use Rattle.std.specs.List.{find, count_by}
 use Rattle.std.specs.Ordering.{is_eq}
@@ -28,22 +28,18 @@ use Rattle.canon.proofs.CanonicalAuctions.Sames.{same_canonical, same_from_canon
 use Rattle.canon.specs.Lemmas.OrDifferences.{are_unequal, equal_from_test, unequal_swap, IsFirstUnequal, first_unequal, greater_is_point}
 use Rattle.canon.specs.Lemmas.BidderDifferences.{least_uneven, least_uneven_swap, all_even, none_of_same, IsLeastUneven, least_uneven_is}
 use Rattle.std.proofs.lemmas.Grind.{common_steps}
-use Rattle.std.proofs.Common.{rules}
 
 -- ---- exchanging
 
 pub unequal_bundle_swap : (a b : PlainAuction) → a.goods ≡ b.goods → first_unequal_bundle b a ≡ first_unequal_bundle a b
-unequal_bundle_swap a b e =
-    unequal_swap b.or_atoms a.or_atoms (all_bundles b.goods) ∙ ap (λ (n : ℕ). find (are_unequal a.or_atoms b.or_atoms) (all_bundles n)) (sym e)
+unequal_bundle_swap a b e = search (rules, unequal_swap, are_unequal)
 
 xor_swap : (a b : PlainAuction) (o : Option (List (Atom (List ℕ)))) → xor_difference b a o ≡ exchanged (xor_difference a b o)
 xor_swap a b None = refl
 xor_swap a b (Some bidder) = refl
 
 or_swap : (a b : PlainAuction) (o : Option (List ℕ)) → or_difference b a o ≡ exchanged (or_difference a b o)
-or_swap a b None =
-    ap (xor_difference b a) (least_uneven_swap bidder_cmp bidder_cmp_total bidder_cmp_equal (canonical_auction b).xor_bidders (canonical_auction a).xor_bidders)
-    ∙ xor_swap a b (least_unequal_bidder a b)
+or_swap a b None = ap (xor_difference b a) (search (rules, least_uneven_swap, bidder_cmp_total, bidder_cmp_equal)) ∙ xor_swap a b (least_unequal_bidder a b)
 or_swap a b (Some bundle) = refl
 
 -- of auctions with as many goods
@@ -61,13 +57,7 @@ differences_swap a b = grind (arith, common_steps, eqb-true, at_same_goods, uneq
 -- no bundle, and no bidder
 same_from_none : (a b : PlainAuction) → HasAtoms a → HasAtoms b → a.goods ≡ b.goods → first_unequal_bundle a b ≡ None → least_unequal_bidder a b ≡ None
     → IsSameAuction a b
-same_from_none a b h k e values counts =
-    same_from_canonical a b h k
-    (over e (λ (n : ℕ) (or_atoms : List (Atom (List ℕ))) (xor_bidders : List (List (Atom (List ℕ)))). record {
-      goods = n;
-      or_atoms = or_atoms;
-      xor_bidders = xor_bidders;
-    }) points all)
+same_from_none a b h k e values counts = same_from_canonical a b h k (search (rules, over, points, all))
   where
     over : {x y : ℕ} → x ≡ y → (f : ℕ → List (Atom (List ℕ)) → List (List (Atom (List ℕ))) → PlainAuction) → {p q : List (Atom (List ℕ))} → p ≡ q
         → {r s : List (List (Atom (List ℕ)))} → r ≡ s → f x p r ≡ f y q s
@@ -127,15 +117,13 @@ pub greater_has_point : (a b : PlainAuction) → HasAtoms b → a.goods ≡ b.go
     → or_value b.or_atoms bundle < or_value a.or_atoms bundle → is_or_point a.goods a.or_atoms bundle ≡ true
 greater_has_point a b k same bundle e l =
     let f = unequal_bundle_is a b bundle e in
-    let there : All (IsAtom a.goods) b.or_atoms = subst (λ n. All (IsAtom n) b.or_atoms) (sym same) k.or_atoms in
-    greater_is_point a.goods a.or_atoms b.or_atoms (on_bundles a.goods b.or_atoms there) bundle f.within f.earlier l
+    search (rules, All, greater_is_point, on_bundles)
 
 -- ---- the least bidder
 
 pub unequal_bidder_is : (a b : PlainAuction) (bidder : List (Atom (List ℕ))) → least_unequal_bidder a b ≡ Some bidder
     → IsLeastUneven bidder_cmp bidder_cmp_total bidder_cmp_equal (canonical_auction a).xor_bidders (canonical_auction b).xor_bidders bidder
-unequal_bidder_is a b bidder e = least_uneven_is bidder_cmp bidder_cmp_total bidder_cmp_equal (canonical_auction a).xor_bidders
-    (canonical_auction b).xor_bidders bidder e
+unequal_bidder_is a b bidder e = search (rules, least_uneven_is)
 
 copies_in : (goods : ℕ) (bidder : List (Atom (List ℕ))) (bidders : List (List (Atom (List ℕ))))
     → count_of bidder_cmp bidder (sort_by bidder_cmp (points_of_bidders goods bidders)) ≡ count_of bidder_cmp bidder (points_of_bidders goods bidders)
@@ -145,12 +133,10 @@ copies_in goods bidder bidders = sum_by-sort_by bidder_cmp (λ b. cond (is_eq (b
 copies_by_table : (goods : ℕ) (bidder model : List (Atom (List ℕ))) → IsPointsOf goods bidder model → (bidders : List (List (Atom (List ℕ))))
     → All (All (IsAtom goods)) bidders → count_of bidder_cmp bidder (sort_by bidder_cmp (points_of_bidders goods bidders))
     ≡ count_by (has_table goods (xor_table bidder goods)) bidders
-copies_by_table goods bidder model p bidders h =
-    copies_in goods bidder bidders
+copies_by_table goods bidder model p bidders h = copies_in goods bidder bidders
     ∙ ap (λ (b : List (Atom (List ℕ))). count_of bidder_cmp b (points_of_bidders goods bidders)) p.are
     ∙ points_as_tables goods model p.atoms p.nonzero bidders h
-    ∙ ap (λ (table : List ℕ). count_by (has_table goods table) bidders) (sym (ap (λ (b : List (Atom (List ℕ))). xor_table b goods) p.are
-    ∙ xor_points_table goods model p.atoms))
+    ∙ ap (λ (table : List ℕ). count_by (has_table goods table) bidders) (search (rules, xor_points_table))
 
 pub numbers_by_table : (a b : PlainAuction) → HasAtoms a → HasAtoms b → a.goods ≡ b.goods → (bidder : List (Atom (List ℕ)))
     → least_unequal_bidder a b ≡ Some bidder → (copies_of bidder a ≡ bidders_with (xor_table bidder a.goods) a)

@@ -1,6 +1,6 @@
 -- A file with its dummy goods exchanged. Its bidders are those of the file in another order, so as many of them have each table of values.
-use Rattle.std.proofs.Common.{◌≡◌, ◌≢◌, ◌⊎◌, inl, inr, ℕ, ◌<◌, Bool, cond, eqb, is_none, List, length, get_or, map, Option, Some, None}
-use Rattle.std.proofs.Common.{refl, sym, ap, ◌∙◌, subst, arith}
+use Rattle.std.proofs.Common.{◌≡◌, ◌≢◌, ◌⊎◌, inl, inr, ℕ, ◌<◌, Bool, cond, eqb, is_none, List, length, get_or, map, Option, Some, None, refl, sym, ap, ◌∙◌}
+use Rattle.std.proofs.Common.{subst, arith, rules}
 use Rattle.std.specs.Prelude.{All, AllPairs, IsPermutation}
 use Rattle.std.specs.Cmp.{both_ways}
 use Rattle.std.specs.List.{filter, range_with_len}
@@ -26,7 +26,6 @@ use Rattle.canon.specs.Unsearched.{AreAlike}
 use Rattle.canon.proofs.CanonicalAuctions.Sames.{same_bidders}
 use Rattle.canon.proofs.CanonicalFiles.Texts.{HasAtoms-file}
 use Rattle.canon.specs.Lemmas.OrDifferences.{eqb_swap}
-use Rattle.std.proofs.Common.{rules}
 
 -- the bids that pass a test after the exchange offer what those offer that pass another one before it
 offers_named : (dummies : List ℕ) (p q : PlainBid → Bool) (bids : List PlainBid) → All (λ b. p (named_bid dummies b) ≡ q b) bids
@@ -52,28 +51,16 @@ module _ (f : PlainFile) (dummies : List ℕ) (facts : IsPlainFile f) (moved : I
 
   -- no dummy good is there twice
   differ : AllPairs (λ d e. d ≢ e) dummies
-  differ =
-      AllPairs-from_IsDistinct Decides-eqb dummies
-      (IsDistinct-IsPermutation eqb eqb_swap (range_with_len 0 f.dummy) dummies moved
-      (IsDistinct-from_AllPairs Decides-eqb (range_with_len 0 f.dummy) (range_differs f.dummy)))
+  differ = AllPairs-from_IsDistinct Decides-eqb dummies
+      (search (rules, IsDistinct-IsPermutation, eqb_swap, IsDistinct-from_AllPairs, Decides-eqb, range_differs))
 
   one_number : (d e : ℕ) → d < f.dummy → e < f.dummy → named d ≡ named e → d ≡ e
-  one_number d e l m same = by (cases d e)
-    where
-      cases : (d e : ℕ) → (d < e) ⊎ ((d ≡ e) ⊎ (e < d))
-      cases d e = grind arith
-
-      by : (d < e) ⊎ ((d ≡ e) ⊎ (e < d)) → d ≡ e
-      by (inl below) = let within : e < length dummies = omega (arith, long) in absurd (differ d e 0 below within same)
-      by (inr (inl equal)) = equal
-      by (inr (inr above)) = let within : d < length dummies = omega (arith, long) in absurd (differ e d 0 above within (sym same))
+  one_number d e l m same = search (rules, long, differ)
 
   -- a bid has a dummy good after the exchange exactly where it had the one before
   still_dummy : (d : ℕ) → d < f.dummy → (o : Option ℕ) → IsDummyBelow f.dummy o → is_dummy (named d) (named_dummy dummies o) ≡ is_dummy d o
   still_dummy d l None h = refl
-  still_dummy d l (Some e) h =
-      both_ways (eqb (named e) (named d)) (eqb e d) (λ t. eq-eqb e d (one_number e d h l (eqb-true (named e) (named d) t)))
-      (λ t. eq-eqb (named e) (named d) (ap named (eqb-true e d t)))
+  still_dummy d l (Some e) h = search (rules, eq-eqb, one_number, eqb-true)
 
   dummies_below : All (λ b. IsDummyBelow f.dummy b.dummy) f.bids
   dummies_below = search (rules, All-from_recursion)
@@ -102,13 +89,11 @@ module _ (f : PlainFile) (dummies : List ℕ) (facts : IsPlainFile f) (moved : I
   news = (auction_from (with_dummies dummies f)).xor_bidders
 
   bidders_moved : IsPermutation news olds
-  bidders_moved =
-      subst (λ (bidders : List (List (Atom (List ℕ)))). IsPermutation news bidders)
+  bidders_moved = subst (λ (bidders : List (List (Atom (List ℕ)))). IsPermutation news bidders)
       (ap (map (xor_atoms_of new)) all_named ∙ map-map (xor_atoms_of new) named (range_with_len 0 f.dummy)
       ∙ map_same_on (λ d. xor_atoms_of new (named d)) (xor_atoms_of f.bids) (range_with_len 0 f.dummy)
-      (All-from_Contains (λ d. xor_atoms_of new (named d) ≡ xor_atoms_of f.bids d) (range_with_len 0 f.dummy)
-      (λ d c. bidder_named d (in_range f.dummy d c))))
-      (IsPermutation-map (xor_atoms_of new) (range_with_len 0 f.dummy) dummies moved)
+      (All-from_Contains (λ d. xor_atoms_of new (named d) ≡ xor_atoms_of f.bids d) (range_with_len 0 f.dummy) (λ d c. bidder_named d (in_range f.dummy d c))))
+      (search (rules, IsPermutation-map))
 
   pub alike_exchanged : AreAlike f (with_dummies dummies f)
   alike_exchanged =

@@ -1,8 +1,7 @@
 -- One more file in an index. Files have one text exactly where they are related, as those of one auction are, so the first file with a
 -- text, which is the one that the map has for it, is the first of those.
-use Rattle.std.proofs.Common.{◌≡◌, ◌⊎◌, ℕ, zero, suc, ◌+◌, ◌<◌, Bool, true, false, cond, unwrap_or, bytes_eq, List, [], ◌∷◌, ◌++◌, length, get_or, map, All}
-use Rattle.std.proofs.Common.{Option}
-use Rattle.std.proofs.Common.{Some, None, slice_get, refl, sym, ap, ◌∙◌, subst, inl, inr, ⊎_elim, arith, length-append, Global}
+use Rattle.std.proofs.Common.{◌≡◌, ◌⊎◌, ℕ, zero, suc, ◌+◌, ◌<◌, Bool, true, false, cond, unwrap_or, bytes_eq, List, [], ◌∷◌, ◌++◌, length, get_or, map, All, ap}
+use Rattle.std.proofs.Common.{Option, Some, None, slice_get, refl, sym, ◌∙◌, subst, inl, inr, ⊎_elim, arith, length-append, Global, rules}
 use Rattle.std.specs.Prelude.{◌↔◌, Vec, Result, Ok, Err, IfOk, IfErr, OnOk, OnErr, IsErrAnd}
 use Rattle.std.specs.Io.KnownBytes.{Consumes}
 use Rattle.std.specs.Cmp.Lexicographic.{bytes_decides}
@@ -27,7 +26,6 @@ use Rattle.canon.proofs.CanonicalFiles.Texts.{same_text, same_from_text}
 use Rattle.cats_text.specs.declared.read_fault.ReadFault.{ReadFault}
 use Rattle.canon.specs.Refusals.{refusal_of}
 use Rattle.canon.specs.Lemmas.TextMaps.{same_order}
-use Rattle.std.proofs.Common.{rules}
 
 -- ---- a list with one more element
 
@@ -49,8 +47,7 @@ pushed (z ∷ xs) y x (suc k) e = ⊎_elim (λ (f : slice_get xs k ≡ Some x). 
 
 -- one that is before the last was there before
 pushed_earlier : {X : Type 0} (xs : List X) (y x : X) (k : ℕ) → k < length xs → slice_get (xs ++ y ∷ []) k ≡ Some x → slice_get xs k ≡ Some x
-pushed_earlier xs y x k l at =
-    ⊎_elim (λ (e : slice_get xs k ≡ Some x). e) (λ (e : (k ≡ length xs) × (x ≡ y)). let last = e.0 in absurd (omega arith)) (pushed xs y x k at)
+pushed_earlier xs y x k l at = search (rules, pushed)
 
 -- ---- texts
 
@@ -64,9 +61,7 @@ module _ (text_of : PlainFile → List ℕ) (files : List PlainFile) (f : PlainF
     file = h.file;
     there = pushed_before files f h.file number h.there;
     has = h.has;
-    first = λ k other l at is.
-        let within = slice_get_within files number h.file h.there in
-        h.first k other l (pushed_earlier files f other k (omega arith) at) is;
+    first = search (rules, slice_get_within, pushed_earlier);
   }
 
   -- a text that no file had has its first file now
@@ -80,14 +75,7 @@ module _ (text_of : PlainFile → List ℕ) (files : List PlainFile) (f : PlainF
 
   -- another text has the number that it had
   stays_placed : (text : List ℕ) → bytes_eq (text_of f) text ≡ false → (o : Option ℕ) → NumbersText text_of files text o → NumbersText text_of more text o
-  stays_placed text apart None h = λ k other at is.
-      ⊎_elim
-      (λ (e : slice_get files k ≡ Some other). h k other e is)
-      (λ (e : (k ≡ length files) × (other ≡ f)).
-      let same : text_of f ≡ text = ap text_of (sym e.1) ∙ is in
-      let equal : bytes_eq (text_of f) text ≡ true = (bytes_decides (text_of f) text).1 same in
-      absurd (cc))
-      (pushed files f other k at)
+  stays_placed text apart None h = search (rules, pushed)
   stays_placed text apart (Some number) h = stays_first text number h
 
   -- the number that is answered
@@ -98,8 +86,7 @@ module _ (text_of : PlainFile → List ℕ) (files : List PlainFile) (f : PlainF
 
   all_plain : IsPlainFile f → ((k : ℕ) (g : PlainFile) → slice_get files k ≡ Some g → IsPlainFile g) → (k : ℕ) (g : PlainFile) → slice_get more k ≡ Some g
       → IsPlainFile g
-  all_plain facts each k g at =
-      ⊎_elim (λ (e : slice_get files k ≡ Some g). each k g e) (λ (e : (k ≡ length files) × (g ≡ f)). subst IsPlainFile (sym e.1) facts) (pushed files f g k at)
+  all_plain facts each k g at = ⊎_elim (λ (e : slice_get files k ≡ Some g). each k g e) (search rules) (pushed files f g k at)
 
 -- files have one text exactly where they are related
 abbrev pub TellsRelated : (PlainFile → List ℕ) → (PlainFile → PlainFile → Type 0) → Type 0
@@ -112,12 +99,7 @@ canonical_texts_tell f g h k = (same_from_text f g h k, same_text f g h k)
 
 -- an index without a text is that of no files
 pub index_of_none : (text_of : PlainFile → List ℕ) (index : TextIndex) → IsEmptyIndex index → IsIndexOf text_of index []
-index_of_none text_of index h = record {
-  facts = λ k file at. absurd (none-some file at);
-  texts = λ text. subst (λ (o : Option ℕ). NumbersText text_of [] text o) (sym (ap (lookup (bytes_eq text)) h.texts))
-      (λ k other at is. absurd (none-some other at));
-  count = h.count;
-}
+index_of_none text_of index h = search (rules, none-some)
 
 module _ (text_of : PlainFile → List ℕ) (old new : TextIndex) (number : ℕ) (files : List PlainFile) (f : PlainFile) (facts : IsPlainFile f)
     (h : IsIndexOf text_of old files) (added : AddsText old new (text_of f) number) where
@@ -140,14 +122,7 @@ module _ (text_of : PlainFile → List ℕ) (old new : TextIndex) (number : ℕ)
 
   -- the first file with the text is the first that is related
   pub number_of_more : (Related : PlainFile → PlainFile → Type 0) → TellsRelated text_of Related → IsFirstNumber Related (files ++ f ∷ []) f number
-  number_of_more Related tells =
-      let each = all_plain text_of files f facts h.facts in
-      record {
-        file = first.file;
-        there = first.there;
-        related = (tells first.file f (each number first.file first.there) facts).0 first.has;
-        first = λ k other l at related. first.first k other l at ((tells other f (each k other at) facts).1 related);
-      }
+  number_of_more Related tells = search (rules, all_plain, first)
 
 -- ---- the map
 
@@ -158,9 +133,7 @@ bytes_eq_sym one other = nat_list_eq_equiv.symm one other
 pub number_seen : (entries : List (Vec ℕ Global × ℕ)) (text : List ℕ)
     → lookup (bytes_eq text) (map (λ e. (e.0.items, e.1)) entries) ≡ lookup (λ key. same_order text key.items) entries
 number_seen [] text = refl
-number_seen (e ∷ entries) text =
-    ap (λ (o : Option ℕ). cond (bytes_eq text e.0.items) (Some e.1) o) (number_seen entries text)
-    ∙ ap (λ (b : Bool). cond b (Some e.1) (lookup (λ key. same_order text key.items) entries)) (sym (is_eq-slice_cmp text e.0.items))
+number_seen (e ∷ entries) text = search (rules, same_order, is_eq-slice_cmp, (number_seen entries text))
 
 -- what is seen of a map
 abbrev pub seen_texts : List (Vec ℕ Global × ℕ) → List (List ℕ × ℕ)
@@ -182,41 +155,22 @@ pub stream_added : {R : Type 0} (remaining : R → Option (List ℕ)) (options :
     → (answer : Result ℕ CanonFault) → IfOk answer (AddsText old new (canonical_text file))
     → OnOk answer (normalised_file options file ≡ IsText (canonical_text file))
     → IfErr answer (RefusesAs (normalised_file options file)) → OnErr answer (new ≡ old) → AddsStream remaining options old new before after answer
-stream_added remaining options old new before after bytes file consumes reads (Ok number) added within_limit refused unchanged = record {
-  bytes = bytes;
-  consumes = consumes;
-  adds = record { file = file; reads = reads; within_limit = within_limit; added = added };
-}
-stream_added remaining options old new before after bytes file consumes reads (Err fault) added within_limit refused unchanged = record {
-  bytes = bytes;
-  consumes = consumes;
-  adds = (unchanged, inr (record { file = file; reads = reads; refused = refused }));
-}
+stream_added remaining options old new before after bytes file consumes reads (Ok number) added within_limit refused unchanged = search rules
+stream_added remaining options old new before after bytes file consumes reads (Err fault) added within_limit refused unchanged = search rules
 
 -- nothing is added of a file that was not read
 pub stream_unread : {R : Type 0} (remaining : R → Option (List ℕ)) (options : SearchOptions) (index : TextIndex) (before after : Watched R) (bytes : List ℕ)
     (why : ReadFault) → Consumes (remaining (inner_of before)) (remaining (inner_of after)) bytes → ReadsAs remaining bytes after (Err why)
     → (answer : Result ℕ CanonFault) → IsErrAnd answer (λ fault. fault ≡ refusal_of why) → AddsStream remaining options index index before after answer
 stream_unread remaining options index before after bytes why consumes reads (Ok number) is = absurd is
-stream_unread remaining options index before after bytes why consumes reads (Err fault) is = record {
-  bytes = bytes;
-  consumes = consumes;
-  adds = (refl, inl (record { why = why; reads = reads; is = is }));
-}
+stream_unread remaining options index before after bytes why consumes reads (Err fault) is = search rules
 
 -- ---- later files
 
 -- the first file of an auction stays it
 pub first_number_stays : (Related : PlainFile → PlainFile → Type 0) (files : List PlainFile) (more given : PlainFile) (number : ℕ)
     → IsFirstNumber Related files given number → IsFirstNumber Related (files ++ more ∷ []) given number
-first_number_stays Related files more given number h = record {
-  file = h.file;
-  there = pushed_before files more h.file number h.there;
-  related = h.related;
-  first = λ k other l at related.
-      let within = slice_get_within files number h.file h.there in
-      h.first k other l (pushed_earlier files more other k (omega arith) at) related;
-}
+first_number_stays Related files more given number h = search (rules, pushed_before, first, slice_get_within, pushed_earlier)
 
 -- the first file with the text of a file
 pub first_number_is : (files : List PlainFile) (given : PlainFile) (number : ℕ) → All IsPlainFile files → IsPlainFile given

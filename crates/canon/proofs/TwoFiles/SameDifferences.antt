@@ -1,5 +1,5 @@
 -- The first difference depends on the values of the auctions alone, so it is the same of canonical files.
-use Rattle.std.proofs.Common.{◌≡◌, ℕ, Bool, true, not, eqb, cond, List, refl, sym, ap, ap₂, ◌∙◌, subst, Option, Some, None}
+use Rattle.std.proofs.Common.{◌≡◌, ℕ, Bool, true, not, eqb, cond, List, refl, sym, ap, ap₂, ◌∙◌, subst, Option, Some, None, arith, rules}
 use Rattle.std.specs.Prelude.{Contains}
 use Rattle.std.specs.List.{find}
 use Rattle.std.proofs.lemmas.Bool.{eqb-true, eqb-false}
@@ -31,8 +31,6 @@ use Rattle.canon.specs.Lemmas.OrDifferences.{are_unequal}
 use Rattle.canon.proofs.CanonicalAuctions.Sames.{same_canonical}
 use Rattle.canon.proofs.CanonicalFiles.Texts.{HasAtoms-file}
 use Rattle.std.proofs.lemmas.Grind.{common_steps}
-use Rattle.std.proofs.Common.{arith}
-use Rattle.std.proofs.Common.{rules}
 
 -- ---- the XOR bidders
 
@@ -116,22 +114,10 @@ module _ (a a2 b b2 : PlainAuction) (h : HasAtoms a) (h2 : HasAtoms a2) (k : Has
     or_difference_same None f = xor_difference_same a a2 b b2 (same_canonical a a2 h h2 s) (same_canonical b b2 k k2 t)
     or_difference_same (Some bundle) f =
         let within = (unequal_bundle_is a b bundle f).within in
-        let lv = value_alike a.goods a.or_atoms a2.or_atoms left bundle within in
-        let rv = value_alike a.goods b.or_atoms b2.or_atoms right bundle within in
-        let lp : is_or_point a.goods a.or_atoms bundle ≡ is_or_point a2.goods a2.or_atoms bundle =
-        is_point_alike a.goods a.or_atoms a2.or_atoms left bundle within ∙ ap (λ n. is_or_point n a2.or_atoms bundle) s.goods in
-        let rp : is_or_point b.goods b.or_atoms bundle ≡ is_or_point b2.goods b2.or_atoms bundle =
-        ap (λ n. is_or_point n b.or_atoms bundle) (sym e) ∙ is_point_alike a.goods b.or_atoms b2.or_atoms right bundle within
-        ∙ ap (λ n. is_or_point n b2.or_atoms bundle) (e ∙ t.goods) in
-        ap₂ (λ (one other : Side). InOr bundle one other)
-        (ap (λ (p : Bool). side_by p (or_value a.or_atoms bundle) (or_value b.or_atoms bundle)) lp
-        ∙ ap₂ (λ (m n : ℕ). side_by (is_or_point a2.goods a2.or_atoms bundle) m n) lv rv)
-        (ap (λ (p : Bool). side_by p (or_value b.or_atoms bundle) (or_value a.or_atoms bundle)) rp
-        ∙ ap₂ (λ (m n : ℕ). side_by (is_or_point b2.goods b2.or_atoms bundle) m n) rv lv)
+        search (rules, value_alike, left, right, is_point_alike)
 
     same_goods_difference : first_difference a b ≡ first_difference a2 b2
-    same_goods_difference =
-        at_same_goods a b e ∙ or_difference_same (first_unequal_bundle a b) refl ∙ ap (or_difference a2 b2) bundle_same ∙ sym (at_same_goods a2 b2 e2)
+    same_goods_difference = search (rules, at_same_goods, or_difference_same, bundle_same, e2)
 
   pub difference_same : first_difference a b ≡ first_difference a2 b2
   difference_same = grind (arith, common_steps, same_goods_difference, eqb-true, eqb-false, at_other_goods)

@@ -1,8 +1,8 @@
 -- Walks over the bids of bidders. The bids of the first bidder are the leading ones with its dummy good, and those of the others
 -- come after them. If two lists of bidders that never fall are the same up to some bidder, the lesser of the next two is the least
 -- bidder that the lists do not have equally often.
-use Rattle.std.proofs.Common.{◌≡◌, ℕ, ◌+◌, ◌<◌, ◌≤◌, true, false, eqb, cond, ⊎_elim, List, [], ◌∷◌, ◌++◌, length, map, take, drop, refl, sym, ap, ap₂}
-use Rattle.std.proofs.Common.{◌∙◌, subst, arith, append_assoc, Option, Some, None, Less, Equal, Greater, ◌⊎◌}
+use Rattle.std.proofs.Common.{◌≡◌, ℕ, ◌+◌, ◌<◌, ◌≤◌, true, false, eqb, cond, ⊎_elim, List, [], ◌∷◌, ◌++◌, length, map, take, drop, refl, sym, ap, ap₂, ◌∙◌, ◌⊎◌}
+use Rattle.std.proofs.Common.{subst, arith, append_assoc, Option, Some, None, Less, Equal, Greater, rules}
 use Rattle.std.specs.Prelude.{All, MatchOption}
 use Rattle.std.specs.List.{AllByRecursion, slice_get}
 use Rattle.std.specs.Option.{option_eq, option_or}
@@ -29,7 +29,6 @@ use Rattle.canon.specs.Difference.{InXor, least_unequal_bidder, xor_difference}
 use Rattle.canon.specs.Lemmas.BidderDifferences.{least_uneven, least_uneven_swap, none_of_same, behind, parts_at_left}
 use Rattle.canon.proofs.CanonicalAuctions.Counting.{points_more, points_without}
 use Rattle.std.proofs.lemmas.Grind.{common_steps}
-use Rattle.std.proofs.Common.{rules}
 
 -- ---- the first bidder
 
@@ -38,18 +37,12 @@ none_leading : (d : ℕ) (bidders : List (List (Atom (List ℕ)))) → AllByRecu
     → leading (Some d) (dummy_bids (d + 1) bidders) ≡ 0
 none_leading d [] h = refl
 none_leading d ([] ∷ bs) h = absurd (omega (arith, h.0))
-none_leading d ((a ∷ more) ∷ bs) h =
-    let other : eqb (d + 1) d ≡ false = ne_eqb (d + 1) d (λ e. omega arith) in
-    ap (λ b. cond {A = ℕ} b (1 + leading (Some d) (map (bid_from (Some (d + 1))) more ++ dummy_bids (d + 1 + 1) bs)) 0) other
+none_leading d ((a ∷ more) ∷ bs) h = search (rules, ne_eqb)
 
 all_leading : (d : ℕ) (bidder : List (Atom (List ℕ))) (rest : List PlainBid) → leading (Some d) rest ≡ 0
     → leading (Some d) (map (bid_from (Some d)) bidder ++ rest) ≡ length bidder
 all_leading d [] rest e = e
-all_leading d (a ∷ more) rest e =
-    let own : eqb d d ≡ true = eq-eqb d d refl in
-    let later = all_leading d more rest e in
-    let one_more : 1 + leading (Some d) (map (bid_from (Some d)) more ++ rest) ≡ length (a ∷ more) = omega arith in
-    ap (λ b. cond {A = ℕ} b (1 + leading (Some d) (map (bid_from (Some d)) more ++ rest)) 0) own ∙ one_more
+all_leading d (a ∷ more) rest e = search (rules, eq-eqb, (all_leading d more rest e))
 
 offered : (d : ℕ) (bidder : List (Atom (List ℕ))) → map atom_of (map (bid_from (Some d)) bidder) ≡ bidder
 offered d [] = refl
@@ -59,16 +52,7 @@ offered d (a ∷ more) = ap (λ (zs : List (Atom (List ℕ))). a ∷ zs) (offere
 parts_of_bids : (d : ℕ) (bidder : List (Atom (List ℕ))) (bidders : List (List (Atom (List ℕ)))) (bids : List PlainBid)
     → AreBidsOf d (bidder ∷ bidders) bids → (n : ℕ) → n ≡ length bidder
     → (offers (take n bids) ≡ bidder) × AreBidsOf (d + 1) bidders (drop n bids)
-parts_of_bids d bidder bidders bids h n e =
-    let own = map (bid_from (Some d)) bidder in
-    let rest = dummy_bids (d + 1) bidders in
-    let size : length own ≡ n = length-map bidder (bid_from (Some d)) ∙ sym e in
-    let prefix : take n (own ++ rest) ≡ own = take-append-le n own rest (omega arith) ∙ take_all n own (omega arith) in
-    let back : drop n (own ++ rest) ≡ rest = drop-append-le n own rest (omega arith)
-    ∙ ap (λ (zs : List PlainBid). zs ++ rest) (drop_all n own (omega arith)) in (
-      ap (λ (zs : List PlainBid). offers (take n zs)) h.are ∙ ap offers prefix ∙ offered d bidder,
-      record { each = h.each.1; are = ap (drop n) h.are ∙ back },
-    )
+parts_of_bids d bidder bidders bids h n e = search (rules, length-map, take-append-le, take_all, drop-append-le, drop_all, offered)
 
 leading_own : (d : ℕ) (bidder : List (Atom (List ℕ))) (bidders : List (List (Atom (List ℕ)))) (bids : List PlainBid)
     → AreBidsOf d (bidder ∷ bidders) bids → leading (Some d) bids ≡ length bidder
@@ -77,10 +61,7 @@ leading_own d bidder bidders bids h = ap (leading (Some d)) h.are ∙ all_leadin
 first_dummy : (d : ℕ) (bidder : List (Atom (List ℕ))) (bidders : List (List (Atom (List ℕ)))) (b : PlainBid) (bids : List PlainBid)
     → AreBidsOf d (bidder ∷ bidders) (b ∷ bids) → b.dummy ≡ Some d
 first_dummy d [] bidders b bids h = absurd (omega (arith, h.each.0))
-first_dummy d (a ∷ more) bidders b bids h =
-    let same : b ∷ bids ≡ bid_from (Some d) a ∷ (map (bid_from (Some d)) more ++ dummy_bids (d + 1) bidders) = h.are in
-    let first : b ≡ bid_from (Some d) a = cc in
-    ap (λ (p : PlainBid). p.dummy) first
+first_dummy d (a ∷ more) bidders b bids h = search rules
 
 same_dummy : (dummy : Option ℕ) → option_eq eqb dummy dummy ≡ true
 same_dummy None = refl
@@ -115,19 +96,13 @@ pub record HasNext (d : ℕ) (bidders : List (List (Atom (List ℕ)))) (bids fir
 
 pub next_bidder : (d : ℕ) (bidders : List (List (Atom (List ℕ)))) (bids first : List PlainBid) → AreBidsOf d bidders bids → IsFirstBidder bids first
     → HasNext d bidders bids first
-next_bidder d [] bids first h f =
-    let none : length bids ≡ 0 = ap length h.are in
-    absurd (omega (arith, f.some, f.within))
-next_bidder d (b ∷ bs) bids first h f =
-    let p = f.parts d b bs h in
-    record { later = bs; are = ap (λ (x : List (Atom (List ℕ))). x ∷ bs) (sym p.0); rest = p.1 }
+next_bidder d [] bids first h f = search rules
+next_bidder d (b ∷ bs) bids first h f = search rules
 
 pub no_bidder : (d : ℕ) (bidders : List (List (Atom (List ℕ)))) (bids : List PlainBid) → AreBidsOf d bidders bids → length bids ≡ 0 → bidders ≡ []
 no_bidder d [] bids h e = refl
 no_bidder d ([] ∷ bs) bids h e = absurd (omega (arith, h.each.0))
-no_bidder d ((a ∷ more) ∷ bs) bids h e =
-    let long : length bids ≡ length (bid_from (Some d) a ∷ (map (bid_from (Some d)) more ++ dummy_bids (d + 1) bs)) = ap length h.are in
-    absurd (omega arith)
+no_bidder d ((a ∷ more) ∷ bs) bids h e = search rules
 
 -- ---- how often a bidder is there
 
@@ -144,12 +119,7 @@ pub one_more_counted : (bidder : List (Atom (List ℕ))) (bidders : List (List (
     → IsCounted bidder bidders more (drop (length first) bids)
 one_more_counted bidder bidders copies more bids first f e h =
     let next = next_bidder h.dummy h.later bids first h.rest f in
-    record {
-      dummy = h.dummy + 1;
-      later = next.later;
-      rest = next.rest;
-      counted = grind (arith, common_steps, sum_by-cons);
-    }
+    grind (arith, common_steps, sum_by-cons, next)
 
 pub all_counted : (bidder : List (Atom (List ℕ))) (bidders : List (List (Atom (List ℕ)))) (copies : ℕ) (bids : List PlainBid) → length bids ≡ 0
     → IsCounted bidder bidders copies bids → copies ≡ count_of bidder_cmp bidder bidders
@@ -170,16 +140,7 @@ module _ (xs ys : List (List (Atom (List ℕ)))) where
     pub right_rest : AreBidsOf dummy right_later right
 
   pub alike_first : (left right : List PlainBid) → AreBidsOf 0 xs left → AreBidsOf 0 ys right → AreAlike left right
-  alike_first left right h k = record {
-    dummy = 0;
-    shared = [];
-    left_later = xs;
-    right_later = ys;
-    left_all = refl;
-    right_all = refl;
-    left_rest = h;
-    right_rest = k;
-  }
+  alike_first left right h k = search rules
 
   -- the same bidder once more
   pub alike_further : (left right one other : List PlainBid) → AreAlike left right → IsFirstBidder left one → IsFirstBidder right other
@@ -243,16 +204,7 @@ module _ (xs ys : List (List (Atom (List ℕ)))) where
 
 -- the same walks with the sides exchanged
 alike_swap : (xs ys : List (List (Atom (List ℕ)))) (left right : List PlainBid) → AreAlike xs ys left right → AreAlike ys xs right left
-alike_swap xs ys left right h = record {
-  dummy = h.dummy;
-  shared = h.shared;
-  left_later = h.right_later;
-  right_later = h.left_later;
-  left_all = h.right_all;
-  right_all = h.left_all;
-  left_rest = h.right_rest;
-  right_rest = h.left_rest;
-}
+alike_swap xs ys left right h = search rules
 
 reversed : (x y : List (Atom (List ℕ))) → bidder_cmp x y ≡ Greater → bidder_cmp y x ≡ Less
 reversed x y e = bidder_cmp_total.antisymm y x ∙ ap ordering_reverse e
@@ -264,12 +216,7 @@ nonempty_points : (goods : ℕ) (bidders : List (List (Atom (List ℕ)))) → Al
 nonempty_points goods [] h = All-nil (λ (bidder : List (Atom (List ℕ))). 0 < length bidder)
 nonempty_points goods (b ∷ bs) h =
     let later = nonempty_points goods bs (All-tail (All (IsAtom goods)) b bs h) in
-    ⊎_elim
-    (λ (e : is_nonzero (xor_table b goods) ≡ true).
-    subst (All (λ bidder. 0 < length bidder)) (sym (points_more goods b bs e))
-    (All-cons (λ bidder. 0 < length bidder) (xor_points goods b) (points_of_bidders goods bs) (some (xor_points goods b) refl e) later))
-    (λ (e : is_nonzero (xor_table b goods) ≡ false). subst (All (λ bidder. 0 < length bidder)) (sym (points_without goods b bs e)) later)
-    (cases_Bool (is_nonzero (xor_table b goods)))
+    search (rules, All, points_more, All-cons, some, points_without, cases_Bool)
   where
     some : (points : List (Atom (List ℕ))) → xor_points goods b ≡ points → is_nonzero (xor_table b goods) ≡ true → 0 < length points
     some [] e t = absurd (both_ways (is_nonzero (xor_table b goods)) ((no_xor_points goods b (on_bundles goods b (All-head (All (IsAtom goods)) b bs h))).0 e)
@@ -306,8 +253,7 @@ module _ (a b : PlainAuction) (all others : List PlainBid) (h : HasBidders a all
   module _ (left right : List PlainBid) (w : AreAlike a.xor_bidders b.xor_bidders left right) where
     pub least_left : (one other : List PlainBid) → IsFirstBidder left one → IsFirstBidder right other → bidder_cmp (offers one) (offers other) ≡ Less
         → least_unequal_bidder a b ≡ Some (offers one)
-    least_left one other f g l = least_in_canonical ∙ parts_left a.xor_bidders b.xor_bidders (ordered_of_canonical a all h)
-        (ordered_of_canonical b others k) left right one other w f g l
+    least_left one other f g l = search (rules, least_in_canonical, parts_left, ordered_of_canonical)
 
     swapped : least_unequal_bidder a b ≡ least_of_both b.xor_bidders a.xor_bidders
     swapped = least_in_canonical ∙ least_uneven_swap bidder_cmp bidder_cmp_total bidder_cmp_equal a.xor_bidders b.xor_bidders
@@ -317,15 +263,13 @@ module _ (a b : PlainAuction) (all others : List PlainBid) (h : HasBidders a all
     least_right one other f g l = search (rules, swapped, parts_left, ordered_of_canonical, alike_swap, reversed)
 
     pub least_only_left : (one : List PlainBid) → IsFirstBidder left one → length right ≡ 0 → least_unequal_bidder a b ≡ Some (offers one)
-    least_only_left one f e = least_in_canonical ∙ only_left a.xor_bidders b.xor_bidders (ordered_of_canonical a all h)
-        (ordered_of_canonical b others k) left right one w f e
+    least_only_left one f e = search (rules, least_in_canonical, only_left, ordered_of_canonical)
 
     pub least_only_right : (other : List PlainBid) → length left ≡ 0 → IsFirstBidder right other → least_unequal_bidder a b ≡ Some (offers other)
     least_only_right other e g = search (rules, swapped, only_left, ordered_of_canonical, alike_swap)
 
     pub no_least : length left ≡ 0 → length right ≡ 0 → least_unequal_bidder a b ≡ None
-    no_least e f = least_in_canonical ∙ neither a.xor_bidders b.xor_bidders (ordered_of_canonical a all h) (ordered_of_canonical b others k) left right
-        w e f
+    no_least e f = search (rules, least_in_canonical, neither, ordered_of_canonical)
 
     -- where a walk is at its end
     pub least_at_end : (one other : Option (List PlainBid)) → MatchOption one (length left ≡ 0) (λ x. IsFirstBidder left x)
@@ -335,8 +279,7 @@ module _ (a b : PlainAuction) (all others : List PlainBid) (h : HasBidders a all
     least_at_end None None e f ended = no_least e f
     least_at_end None (Some y) e g ended = least_only_right y e g
     least_at_end (Some x) None f e ended = least_only_left x f e
-    least_at_end (Some x) (Some y) f g ended =
-        ⊎_elim (λ (e : length left ≡ 0). absurd (omega (arith, f.some, f.within))) (λ (e : length right ≡ 0). absurd (omega (arith, g.some, g.within))) ended
+    least_at_end (Some x) (Some y) f g ended = search rules
 
   -- the bidder as it is named, with its numbers
   pub numbers_named : (named bidder : List (Atom (List ℕ))) (one other : ℕ) → named ≡ bidder → one ≡ count_of bidder_cmp bidder a.xor_bidders

@@ -1,5 +1,5 @@
 -- The first change of the OR bids of two canonical files is the first difference of their OR values.
-use Rattle.std.proofs.Common.{◌≡◌, ℕ, List, [], ◌∷◌, map, refl, sym, ap, ap₂, ◌∙◌, subst, None}
+use Rattle.std.proofs.Common.{rules, ◌≡◌, ℕ, List, [], ◌∷◌, map, refl, sym, ap, ap₂, ◌∙◌, subst, None}
 use Rattle.std.specs.Prelude.{OnErr, Result, Ok, Err}
 use Rattle.std.proofs.lemmas.List.Elements.{All-head}
 use Rattle.goods_set.specs.Bundles.{all_bundles}
@@ -39,18 +39,13 @@ points_of a bids h = record { on = on_bundles a.goods a.or_atoms h.facts.or_atom
 module _ (left right begin_left begin_right : List PlainBid) (l : begin_left ≡ left) (r : begin_right ≡ right) (a b : PlainAuction) (h : HasOrBids a left)
     (k : HasOrBids b right) where
   all_changes : (changes : List PlainChange) → changes_of (offers begin_left) (offers begin_right) ≡ changes → ArePriceChanges a.or_atoms b.or_atoms changes
-  all_changes changes e =
-      subst (ArePriceChanges a.or_atoms b.or_atoms)
-      (ap₂ changes_of (sym (ap offers l ∙ offers_are a left h)) (sym (ap offers r ∙ offers_are b right k)) ∙ e)
-      (are_all a.or_atoms b.or_atoms (in_order a.goods a.or_atoms (points_of a left h)) (in_order b.goods b.or_atoms (points_of b right k)))
+  all_changes changes e = subst (ArePriceChanges a.or_atoms b.or_atoms)
+      (ap₂ changes_of (sym (ap offers l ∙ offers_are a left h)) (sym (ap offers r ∙ offers_are b right k)) ∙ e) (search (rules, are_all, in_order, points_of))
 
   pub none_of_auctions : changes_of (offers begin_left) (offers begin_right) ≡ [] → first_unequal_bundle a b ≡ None
   none_of_auctions none =
-      let atoms : a.or_atoms ≡ b.or_atoms =
-      same_bids a.or_atoms b.or_atoms (in_order a.goods a.or_atoms (points_of a left h)) (in_order b.goods b.or_atoms (points_of b right k))
-      (all_changes [] none) in
-      find_none (are_unequal a.or_atoms b.or_atoms) (all_bundles a.goods)
-      (λ bundle c. equal_test a.or_atoms b.or_atoms bundle (ap (λ (zs : List (Atom (List ℕ))). or_value zs bundle) atoms))
+      let atoms : a.or_atoms ≡ b.or_atoms = search (rules, same_bids, in_order, points_of, all_changes) in
+      search (rules, find_none, are_unequal, equal_test)
 
   pub first_of_auctions : (c : PlainChange) (rest : List PlainChange) → changes_of (offers begin_left) (offers begin_right) ≡ c ∷ rest → a.goods ≡ b.goods
       → or_difference a b (first_unequal_bundle a b) ≡ InOr c.bundle (side_at c.left c.right) (side_at c.right c.left)

@@ -1,5 +1,5 @@
 -- The walk of two lists of bids in order gives all changes: the lesser of the two first bundles comes before all others.
-use Rattle.std.proofs.Common.{◌≡◌, ℕ, true, false, eqb, ⊎_elim, Some, List, [], ◌∷◌, refl, sym, ap, ◌∙◌, subst, Ordering, Less, Equal, Greater}
+use Rattle.std.proofs.Common.{rules, ◌≡◌, ℕ, true, false, eqb, ⊎_elim, Some, List, [], ◌∷◌, refl, sym, ap, ◌∙◌, subst, Ordering, Less, Equal, Greater}
 use Rattle.std.specs.Ordering.{match_ordering, ordering_reverse}
 use Rattle.std.proofs.lemmas.Bool.{cases_Bool, eqb-true, eqb-false, cond-true, cond-false}
 use Rattle.std.proofs.lemmas.List.Elements.{All-nil, All-cons, All-weaker}
@@ -34,32 +34,18 @@ module _ (a : Atom (List ℕ)) (rest others : List (Atom (List ℕ))) (s : IsInO
     (changes : List PlainChange) where
   past_left : ArePriceChanges rest others changes → ArePriceChanges (a ∷ rest) others (only_left a ∷ changes)
   past_left found =
-      past_change a.bundle (a ∷ rest) rest others others (behind_head a rest s) (behind_none a.bundle others later) changes found (only_left a) refl (record {
-        on_left = sym (price_here a rest a.bundle refl);
-        on_right = sym (no_price a.bundle others later);
-        differ = λ e. cc;
-      })
+      past_change a.bundle (a ∷ rest) rest others others (behind_head a rest s) (behind_none a.bundle others later) changes found (only_left a) refl (search (rules, price_here, no_price))
 
   past_right : ArePriceChanges others rest changes → ArePriceChanges others (a ∷ rest) (only_right a ∷ changes)
   past_right found =
-      past_change a.bundle others others (a ∷ rest) rest (behind_none a.bundle others later) (behind_head a rest s) changes found (only_right a) refl (record {
-        on_left = sym (no_price a.bundle others later);
-        on_right = sym (price_here a rest a.bundle refl);
-        differ = λ e. cc;
-      })
+      past_change a.bundle others others (a ∷ rest) rest (behind_none a.bundle others later) (behind_head a rest s) changes found (only_right a) refl (search (rules, no_price, price_here))
 
 past_both : (a b : Atom (List ℕ)) (rest others : List (Atom (List ℕ))) → IsInOrder (a ∷ rest) → IsInOrder (b ∷ others) → a.bundle ≡ b.bundle
     → (changes : List PlainChange) → ArePriceChanges rest others changes → ArePriceChanges (a ∷ rest) (b ∷ others) (if_differs (on_both a b) changes)
-past_both a b rest others s t same changes found =
-    ⊎_elim (λ (e : eqb a.price b.price ≡ true).
-    subst are (sym (cond-true (eqb a.price b.price) changes (on_both a b ∷ changes) e))
-    (past_same a.bundle (a ∷ rest) rest (b ∷ others) others here there changes found
-    (on_left ∙ ap Some (eqb-true a.price b.price e) ∙ sym on_right)))
-    (λ (e : eqb a.price b.price ≡ false).
-    subst are (sym (cond-false (eqb a.price b.price) changes (on_both a b ∷ changes) e))
+past_both a b rest others s t same changes found = ⊎_elim (search (rules, are, cond-true, past_same, here, there, on_left, eqb-true, on_right))
+    (λ (e : eqb a.price b.price ≡ false). subst are (sym (cond-false (eqb a.price b.price) changes (on_both a b ∷ changes) e))
     (past_change a.bundle (a ∷ rest) rest (b ∷ others) others here there changes found (on_both a b) refl
-    (record { on_left = sym on_left; on_right = sym on_right; differ = λ d. eqb-false a.price b.price e (cc) })))
-    (cases_Bool (eqb a.price b.price))
+    (record { on_left = sym on_left; on_right = sym on_right; differ = λ d. eqb-false a.price b.price e (cc) }))) (cases_Bool (eqb a.price b.price))
   where
     are : List PlainChange → Type 0
     are = ArePriceChanges (a ∷ rest) (b ∷ others)
@@ -79,11 +65,7 @@ past_both a b rest others s t same changes found =
 -- ---- the walk
 
 no_changes : ArePriceChanges [] [] []
-no_changes = record {
-  in_order = AllPairs-nil (λ (c d : PlainChange). bundle_cmp c.bundle d.bundle ≡ Less);
-  each = All-nil (IsPriceChange [] []);
-  all = λ bundle differ. absurd (differ refl);
-}
+no_changes = search (rules, AllPairs-nil, All-nil)
 
 -- with a further bid on the left, by the rest with what is on the right
 with_left : (a : Atom (List ℕ)) (left right : List (Atom (List ℕ))) → IsInOrder (a ∷ left) → IsInOrder right

@@ -1,12 +1,11 @@
 -- The bids of XOR bidders, split bidder by bidder: those that are split, with the bidders of the rest behind them, are all bidders.
-use Rattle.std.proofs.Common.{◌≡◌, ℕ, ◌+◌, List, [], ◌∷◌, ◌++◌, length, map, drop, append_assoc}
+use Rattle.std.proofs.Common.{◌≡◌, ℕ, ◌+◌, List, [], ◌∷◌, ◌++◌, length, map, drop, append_assoc, rules}
 use Rattle.std.proofs.lemmas.List.{append-nil, map-append}
 use Rattle.bid_file.specs.Files.{PlainBid}
 use Rattle.valuation.specs.declared.atom.Atom.{Atom}
 use Rattle.canon.specs.Bidders.{offers}
 use Rattle.canon.specs.Internal.BidderBids.{AreBidsOf, IsFirstBidder}
 use Rattle.canon.proofs.Walks.BidderWalks.{next_bidder, no_bidder}
-use Rattle.std.proofs.Common.{rules}
 
 pub record AreSplit (bidders : List (List (Atom (List ℕ)))) (split : List (List PlainBid)) (bids : List PlainBid) : Type 0 where
   pub dummy : ℕ
@@ -18,12 +17,7 @@ pub one_more_split : (bidders : List (List (Atom (List ℕ)))) (split : List (Li
     → AreSplit bidders split bids → AreSplit bidders (split ++ first ∷ []) (drop (length first) bids)
 one_more_split bidders split bids first f h =
     let next = next_bidder h.dummy h.later bids first h.rest f in
-    record {
-      dummy = h.dummy + 1;
-      later = next.later;
-      rest = next.rest;
-      all = search (rules, map-append, append_assoc);
-    }
+    search (rules, map-append, append_assoc)
 
 pub all_split : (bidders : List (List (Atom (List ℕ)))) (split : List (List PlainBid)) (bids : List PlainBid) → length bids ≡ 0
     → AreSplit bidders split bids → map offers split ≡ bidders

@@ -1,5 +1,5 @@
 -- `unsearched_auction`: the pruned parts are those of the unsearched auction, which keeps the limits of auctions.
-use Rattle.std.proofs.Common.{sym, ◌∙◌, subst, arith, Global}
+use Rattle.std.proofs.Common.{rules, sym, ◌∙◌, subst, arith, Global}
 use Rattle.std.specs.Prelude.{Vec}
 use Rattle.std.proofs.lemmas.List.{length-map}
 use Rattle.valuation.specs.declared.atom.Atom.{Atom}
@@ -12,26 +12,20 @@ use Rattle.canon.proofs.CanonicalAuctions.Smaller.{IsAuction-unsearched}
 use Rattle.canon.proofs.auction_index.unsearched.unsearched_auction.Goals as goal
 
 pub prune_xor-requires : goal.prune_xor-requires
-prune_xor-requires g c =
-    or_part g.S.GoodsSet.CAP (plain_auction c.args.auction) c.args.auction.facts _ _ _ c.into_parts-goods.ensures
+prune_xor-requires g c = search (rules, or_part)
 
 pub canonical_bidders-requires-clause-few : goal.canonical_bidders-requires-clause-few
-canonical_bidders-requires-clause-few g c =
-    let few = few_bidders g.S.GoodsSet.CAP (plain_auction c.args.auction) c.args.auction.facts _ _ _ c.into_parts-goods.ensures in
-    let seen = length-map c.into_parts-goods.result.2.items (λ (v : Vec (Atom _) Global). atoms_of g.S.GoodsSet.goods v.items) in
-    omega (arith, few, seen)
+canonical_bidders-requires-clause-few g c = search (rules, few_bidders, length-map)
 
 pub canonical_bidders-requires-clause-atoms : goal.canonical_bidders-requires-clause-atoms
-canonical_bidders-requires-clause-atoms g c =
-    xor_part g.S.GoodsSet.CAP (plain_auction c.args.auction) c.args.auction.facts _ _ _ c.into_parts-goods.ensures
+canonical_bidders-requires-clause-atoms g c = search (rules, xor_part)
 
 pub new-requires : goal.new-requires
 new-requires g c =
     let same = unsearched_parts g.S.GoodsSet.CAP (plain_auction c.args.auction) c.args.auction.facts _ _ _ c.into_parts-goods.ensures
     (atoms_of g.S.GoodsSet.goods c.in_ok-or_bids.or_bids.items) (bidders_of g.S.GoodsSet.goods c.in_ok-xor.xor.bidders.items)
     c.in_ok-xor.ensures.bidders c.in_ok-or_bids.ensures.points in
-    subst (λ (a : PlainAuction). IsAuction g.S.GoodsSet.CAP a) (sym same)
-    (IsAuction-unsearched g.S.GoodsSet.CAP (plain_auction c.args.auction) c.args.auction.facts)
+    search (rules, IsAuction-unsearched, same)
 
 pub returns : goal.returns
 returns g c =

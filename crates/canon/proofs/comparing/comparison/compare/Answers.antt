@@ -12,13 +12,10 @@ use Rattle.canon.proofs.TwoFiles.Comparisons.{canonical_of_text, compared_as, no
 use Rattle.canon.proofs.comparing.comparison.compare.Goals as goal
 
 pub compare_files-requires-clause-left_canonical : goal.compare_files-requires-clause-left_canonical
-compare_files-requires-clause-left_canonical c =
-    canonical_of_text _ _ _ (normal_of c.plain-options.result c.args.left.now c.read_normal.result c.in_ok-first.first c.read_normal.ensures (search rules))
+compare_files-requires-clause-left_canonical c = search (rules, canonical_of_text, normal_of)
 
 pub compare_files-requires-clause-right_canonical : goal.compare_files-requires-clause-right_canonical
-compare_files-requires-clause-right_canonical c =
-    canonical_of_text _ _ _
-    (normal_of c.plain-options.result c.args.right.now c.read_normal-2.result c.in_ok-second.second c.read_normal-2.ensures (search rules))
+compare_files-requires-clause-right_canonical c = search (rules, canonical_of_text, normal_of)
 
 first : (c : goal.After-drop-first-inside-3) → IsNormalFileOf c.plain-options.result c.args.left.now c.in_ok-first.first
 first c = normal_of _ _ c.read_normal.result c.in_ok-first.first c.read_normal.ensures (search rules)

@@ -1,6 +1,6 @@
 -- `compare_files`: the two parts of each file's bids are those of its auction, so what the walks over them answer is the first difference of the
 -- auctions: a bundle of the OR bidders, or else the least XOR bidder.
-use Rattle.std.proofs.Common.{◌≡◌, arith}
+use Rattle.std.proofs.Common.{rules, ◌≡◌, arith}
 use Rattle.valuation.specs.Auctions.{auction_from}
 use Rattle.canon.proofs.TwoFiles.Comparisons.{or_found, xor_found, or_named, xor_named, same_by_difference, same_if_ok}
 use Rattle.canon.proofs.Walks.OrWalks.{on_err}
@@ -15,9 +15,7 @@ returns-in-Some-clause-difference g c =
     (c.in_ok-verdict.ensures.verdict a b c.split_bids-left_or.ensures.or_bids c.split_bids-right_or.ensures.or_bids e)
 
 pub returns-in-Some-clause-same : goal.returns-in-Some-clause-same
-returns-in-Some-clause-same g c =
-    same_by_difference (g.B.Bids.file c.args.left.now) (g.B.Bids.file c.args.right.now) c.goods.ensures.file c.goods-2.ensures.file
-    c.in-Some.verdict (returns-in-Some-clause-difference g c)
+returns-in-Some-clause-same g c = search (rules, same_by_difference, returns-in-Some-clause-difference)
 
 pub returns-in-None-clause-difference : goal.returns-in-None-clause-difference
 returns-in-None-clause-difference g c =

@@ -1,5 +1,5 @@
 -- `bidder_verdict`
-use Rattle.std.proofs.Common.{ℕ, List, Option, sym, ap, subst}
+use Rattle.std.proofs.Common.{rules, ℕ, List, Option, sym, ap, subst}
 use Rattle.valuation.specs.declared.atom.Atom.{Atom}
 use Rattle.canon.specs.Bidders.{offers}
 use Rattle.canon.specs.Difference.{xor_difference}
@@ -12,13 +12,7 @@ pub returns-in-None-clause-verdict : goal.returns-in-None-clause-verdict
 returns-in-None-clause-verdict g c = λ a b h k. sym (ap (xor_difference a b) (c.in-None.ensures a b h k))
 
 pub returns-in_ok-named_bids-in-Some-clause-verdict : goal.returns-in_ok-named_bids-in-Some-clause-verdict
-returns-in_ok-named_bids-in-Some-clause-verdict g c = λ a b h k.
-    numbers_named a b c.args.left.now c.args.right.now h k (printed_atoms c.in_ok-named_bids-in-Some.field-0.items) (offers c.in-Some.bidder)
-    c.count_copies.result c.count_copies-in-Some.result
-    c.in_ok-named_bids-in-Some.ensures (c.count_copies.ensures a.xor_bidders (bids_of_canonical a c.args.left.now h))
-    (c.count_copies-in-Some.ensures b.xor_bidders (bids_of_canonical b c.args.right.now k))
-    (c.in-Some.ensures a b h k)
+returns-in_ok-named_bids-in-Some-clause-verdict g c = search (rules, numbers_named, bids_of_canonical)
 
 pub returns-in_err-named_bids-in-Some-clause-memory : goal.returns-in_err-named_bids-in-Some-clause-memory
-returns-in_err-named_bids-in-Some-clause-memory g c =
-    λ a b h k. on_err _ (subst (λ (o : Option (List (Atom (List ℕ)))). NamesGoods (xor_difference a b o)) (sym (c.in-Some.ensures a b h k)) tt)
+returns-in_err-named_bids-in-Some-clause-memory g c = search (rules, on_err)

@@ -1,6 +1,6 @@
 -- `least_unequal`: the bidders that were walked past are the same on both sides (proofs/BidderWalks), so the first difference is at the two that come
 -- next, of which the lesser is the least uneven one, or at the end of one list.
-use Rattle.std.proofs.Common.{◌≡◌, ◌⊎◌, inl, inr, List, length, Option, Some, None, sym, subst}
+use Rattle.std.proofs.Common.{rules, ◌≡◌, ◌⊎◌, inl, inr, List, length, Option, Some, None, sym, subst}
 use Rattle.std.specs.Prelude.{MatchOption}
 use Rattle.bid_file.specs.Files.{PlainBid}
 use Rattle.canon.specs.Bidders.{offers}
@@ -23,10 +23,7 @@ returns-in-Greater g c = λ a b h k.
     c.in-Some-Some.one c.in-Some-Some.other c.in-Some-Some.ensures c.in-Some-Some.ensures' (sym c.in-Greater.ensures)
 
 pub loop-one-preserved : goal.loop-one-preserved
-loop-one-preserved g c = λ a b h k.
-    rw (c.from-left_rest-in-Equal.ensures, c.from-right_rest-in-Equal.ensures, c.len.ensures, c.len-in-Equal.ensures)
-    (alike_further a.xor_bidders b.xor_bidders c.loop-one.left_rest c.loop-one.right_rest c.in-Some-Some.one c.in-Some-Some.other
-    (c.loop-one.invariant a b h k) c.in-Some-Some.ensures c.in-Some-Some.ensures' (sym c.in-Equal.ensures))
+loop-one-preserved g c = search (rules, alike_further)
 
 pub returns : goal.returns
 returns g c = λ a b h k.

@@ -1,5 +1,5 @@
 -- `compare_bidders`
-use Rattle.std.proofs.Common.{◌+◌, drop, sym, ◌∙◌, arith}
+use Rattle.std.proofs.Common.{rules, ◌+◌, drop, sym, ◌∙◌, arith}
 use Rattle.valuation.specs.Values.{atoms_of}
 use Rattle.valuation.specs.Orders.{atom_cmp, bidder_cmp}
 use Rattle.valuation.specs.Lemmas.Atoms.{length-atoms_of}
@@ -30,9 +30,4 @@ loop-i-preserved g c =
     sym (then-left _ later same) ∙ sym turn ∙ c.loop-i.invariant
 
 pub returns : goal.returns
-returns g c =
-    let goods = g.S.GoodsSet.goods in
-    let some = length-atoms_of goods c.args.one.now in
-    let other = length-atoms_of goods c.args.other.now in
-    c.cmp.ensures ∙ sym (rw (some, other) at (slice_cmp-ended atom_cmp c.loop-i.i (atoms_of goods c.args.one.now) (atoms_of goods c.args.other.now)
-    (omega arith))) ∙ c.loop-i.invariant
+returns g c = search (rules, length-atoms_of, slice_cmp-ended)

@@ -1,5 +1,5 @@
 -- `canonical`: plain searches refuse at the first heavy bundle.
-use Rattle.std.proofs.Common.{◌≡◌, None, Some, Result, Ok, Err, sym, subst, ◌∙◌}
+use Rattle.std.proofs.Common.{rules, ◌≡◌, None, Some, Result, Ok, Err, sym, subst, ◌∙◌}
 use Rattle.std.specs.Prelude.{IfErr, IsErrAnd}
 use Rattle.valuation.specs.declared.search.options.SearchOptions.{SearchOptions}
 use Rattle.prune.specs.Faults.{IfStepLimit}
@@ -16,25 +16,11 @@ same_fault (Ok a) fault P is h = tt
 same_fault (Err why) fault P is h = subst P (sym is) h
 
 pub returns-clause-same : goal.returns-clause-same
-returns-clause-same g c =
-    subst (λ (a : PlainAuction). IsSameAuction (plain_auction c.args.auction) a) (sym c.in_ok-named_canonical.ensures.canonical)
-    (canonical_is_same (plain_auction c.args.auction) (HasAtoms-auction g.S.GoodsSet.CAP (plain_auction c.args.auction) c.args.auction.facts))
+returns-clause-same g c = subst (λ (a : PlainAuction). IsSameAuction (plain_auction c.args.auction) a) (sym c.in_ok-named_canonical.ensures.canonical)
+    (search (rules, canonical_is_same, HasAtoms-auction))
 
 pub returns-clause-none_heavy : goal.returns-clause-none_heavy
-returns-clause-none_heavy g c =
-    let a = plain_auction c.args.auction in
-    sym (first_refused-plain c.args.limit a.goods a.or_atoms)
-    ∙ subst (λ (o : SearchOptions). first_refused o a.goods a.or_atoms ≡ None) c.plain.ensures c.in_ok-named_canonical.ensures.none_refused
+returns-clause-none_heavy g c = search (rules, first_refused-plain)
 
 pub returns-in_err-named_canonical-clause-step_limit : goal.returns-in_err-named_canonical-clause-step_limit
-returns-in_err-named_canonical-clause-step_limit g c =
-    let goods = g.S.GoodsSet.goods in
-    let a = plain_auction c.args.auction in
-    let weaker = step_limit_weaker c.in_err-named_canonical.field-0.0
-    (λ bundle. first_refused c.plain.result a.goods a.or_atoms ≡ Some (goods bundle))
-    (λ bundle. first_heavy a.goods c.args.limit a.or_atoms ≡ Some (goods bundle))
-    (λ bundle h. sym (first_refused-plain c.args.limit a.goods a.or_atoms)
-    ∙ subst (λ (o : SearchOptions). first_refused o a.goods a.or_atoms ≡ Some (goods bundle)) c.plain.ensures h)
-    c.in_err-named_canonical.ensures.refused in
-    same_fault c.from_residual.result c.in_err-named_canonical.field-0.0
-    (λ fault. IfStepLimit fault (λ bundle. first_heavy a.goods c.args.limit a.or_atoms ≡ Some (goods bundle))) c.from_residual.ensures.1 weaker
+returns-in_err-named_canonical-clause-step_limit g c = search (rules, step_limit_weaker, first_refused-plain, same_fault)

@@ -1,7 +1,6 @@
 -- `named_canonical`: what is made of the pruned parts is the canonical auction (proofs/Bidders), so the laws of that auction are those of the result.
-use Rattle.std.proofs.Common.{sym, ap, ◌∙◌, map, subst, arith, Global}
+use Rattle.std.proofs.Common.{rules, sym, ap, ◌∙◌, map, subst, arith, Global, ℕ}
 use Rattle.std.specs.Prelude.{Option, Vec}
-use Rattle.std.proofs.Common.{ℕ}
 use Rattle.std.proofs.lemmas.List.{length-map}
 use Rattle.valuation.specs.declared.atom.Atom.{Atom}
 use Rattle.valuation.specs.Auctions.{PlainAuction, IsAuction}
@@ -16,26 +15,20 @@ use Rattle.canon.proofs.CanonicalAuctions.Smaller.{IsAuction-canonical}
 use Rattle.canon.proofs.normal.auction.named_canonical.Goals as goal
 
 pub prune_or_by-requires-clause-atoms : goal.prune_or_by-requires-clause-atoms
-prune_or_by-requires-clause-atoms g c =
-    or_part g.S.GoodsSet.CAP (plain_auction c.args.auction) c.args.auction.facts _ _ _ c.into_parts-goods.ensures
+prune_or_by-requires-clause-atoms g c = search (rules, or_part)
 
 pub canonical_bidders-requires-clause-few : goal.canonical_bidders-requires-clause-few
-canonical_bidders-requires-clause-few g c =
-    let few = few_bidders g.S.GoodsSet.CAP (plain_auction c.args.auction) c.args.auction.facts _ _ _ c.into_parts-goods.ensures in
-    let seen = length-map c.into_parts-goods.result.2.items (λ (v : Vec (Atom _) Global). atoms_of g.S.GoodsSet.goods v.items) in
-    omega (arith, few, seen)
+canonical_bidders-requires-clause-few g c = search (rules, few_bidders, length-map)
 
 pub canonical_bidders-requires-clause-atoms : goal.canonical_bidders-requires-clause-atoms
-canonical_bidders-requires-clause-atoms g c =
-    xor_part g.S.GoodsSet.CAP (plain_auction c.args.auction) c.args.auction.facts _ _ _ c.into_parts-goods.ensures
+canonical_bidders-requires-clause-atoms g c = search (rules, xor_part)
 
 pub new-auction-requires : goal.new-auction-requires
 new-auction-requires g c =
     let same = canonical_parts g.S.GoodsSet.CAP (plain_auction c.args.auction) c.args.auction.facts _ _ _ c.into_parts-goods.ensures
     (atoms_of g.S.GoodsSet.goods c.in_ok-or_points.or_points.items) (bidders_of g.S.GoodsSet.goods c.in_ok-xor.xor.bidders.items)
     c.in_ok-xor.ensures.bidders c.in_ok-or_points.ensures.points in
-    subst (λ (a : PlainAuction). IsAuction g.S.GoodsSet.CAP a) (sym same)
-    (IsAuction-canonical g.S.GoodsSet.CAP (plain_auction c.args.auction) c.args.auction.facts)
+    search (rules, IsAuction-canonical, same)
 
 pub returns-clause-canonical : goal.returns-clause-canonical
 returns-clause-canonical g c =
@@ -45,9 +38,8 @@ returns-clause-canonical g c =
     c.in_ok-xor.ensures.bidders c.in_ok-or_points.ensures.points
 
 pub returns-clause-fixed : goal.returns-clause-fixed
-returns-clause-fixed g c =
-    subst (λ (a : PlainAuction). IsCanonical a) (sym (returns-clause-canonical g c))
-    (canonical_is_fixed (plain_auction c.args.auction) (HasAtoms-auction g.S.GoodsSet.CAP (plain_auction c.args.auction) c.args.auction.facts))
+returns-clause-fixed g c = subst (λ (a : PlainAuction). IsCanonical a) (sym (returns-clause-canonical g c))
+    (search (rules, canonical_is_fixed, HasAtoms-auction))
 
 pub returns-clause-dummies : goal.returns-clause-dummies
 returns-clause-dummies g c =

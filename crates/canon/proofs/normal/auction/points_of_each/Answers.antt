@@ -1,5 +1,6 @@
 -- `points_of_each`: the points so far are those of the bidders that are done: the next bidder adds its points, or nothing where it has none.
-use Rattle.std.proofs.Common.{arith, ◌≡◌, ℕ, ◌+◌, ◌<◌, [], length, map, refl, sym, ap, ap₂, ◌∙◌, Global}
+use Rattle.std.proofs.Common.{rules, arith, ◌≡◌, ℕ, ◌+◌, ◌<◌, [], length, map, refl, sym, ap, ap₂, ◌∙◌, Global}
+use Rattle.std.proofs.lemmas.Grind.{common_steps}
 use Rattle.std.specs.Prelude.{All, Option, Vec}
 use Rattle.std.specs.Iterator.Adapters.{enumerate_count, enumerate_source}
 use Rattle.std.specs.Vec.Iter.{into_iter_items}
@@ -10,20 +11,12 @@ use Rattle.valuation.specs.declared.atom.Atom.{Atom}
 use Rattle.valuation.specs.Auctions.{IsAtom}
 use Rattle.valuation.specs.Values.{atoms_of}
 use Rattle.canon.specs.Internal.KeyedBidders.{keyed_bidder}
-use Rattle.canon.proofs.CanonicalFiles.Bidders.{positive, fewer_done, bidder_next, bidder_taken, points_pushed, points_skipped}
-use Rattle.canon.proofs.CanonicalFiles.Bidders.{points_done, fates_pushed, fates_done}
+use Rattle.canon.proofs.CanonicalFiles.Bidders.{positive, fewer_done, bidder_next, bidder_taken, points_pushed, points_skipped, points_done, fates_pushed}
+use Rattle.canon.proofs.CanonicalFiles.Bidders.{fates_done}
 use Rattle.canon.proofs.normal.auction.points_of_each.Goals as goal
 
 pub loop-dummy-init : goal.loop-dummy-init
-loop-dummy-init g c =
-    let inner = c.into_iter-dummy-iterator.ensures.into_iter_gives in
-    record {
-      all = sym (ap (λ it. into_iter_items (enumerate_source it)) inner ∙ ap into_iter_items c.enumerate-dummy-items.ensures.source ∙ c.into_iter.ensures.rest);
-      count = ap enumerate_count inner ∙ c.enumerate-dummy-items.ensures.count;
-      points = λ n atoms. ap (map keyed_bidder) c.in_ok-points.ensures.items;
-      wanted = refl;
-      fates = λ w n atoms. ap (map (λ (v : Vec (Option ℕ) Global). v.items)) c.requires.empty;
-    }
+loop-dummy-init g c = search rules
 
 pub prune_xor_noting-requires-clause-atoms : goal.prune_xor_noting-requires-clause-atoms
 prune_xor_noting-requires-clause-atoms g c =
@@ -31,11 +24,7 @@ prune_xor_noting-requires-clause-atoms g c =
     refl c.in-Some.ensures.steps.0.0 (All (IsAtom MAX_GOODS)) c.requires.atoms
 
 pub overflow_cast-dummy : goal.overflow_cast-dummy
-overflow_cast-dummy g c =
-    let few : length (map (λ p. p.1) c.loop-dummy.yielded) < length c.args.bidders.items =
-    fewer_done c.args.bidders.items _ _ _ c.in-Some.bidder c.loop-dummy.invariant.all c.in-Some.ensures.steps.0.0 in
-    let done = length-map c.loop-dummy.yielded (λ p. p.1) in
-    record { fits = omega (arith, few, done, c.in-Some.ensures.steps.1, c.loop-dummy.invariant.count, c.requires.few) }
+overflow_cast-dummy g c = grind (arith, common_steps, fewer_done, length-map)
 
 pub loop-dummy-preserved : goal.loop-dummy-preserved
 loop-dummy-preserved g c =
@@ -61,20 +50,10 @@ loop-dummy-preserved g c =
     }
 
 pub returns-clause-points : goal.returns-clause-points
-returns-clause-points g c = λ n atoms.
-    let none : into_iter_items (enumerate_source c.loop-dummy.dummy-iterator) ≡ [] =
-    nil_from_length (into_iter_items (enumerate_source c.loop-dummy.dummy-iterator))
-    (omega (arith, c.in-None.ensures.steps.0.0, (enumerate_source c.loop-dummy.dummy-iterator).rest.ok.0)) in
-    points_done g.S.GoodsSet.goods keyed_bidder n c.args.bidders.items (map (λ p. p.1) c.loop-dummy.yielded) _ c.loop-dummy.points.items
-    c.loop-dummy.invariant.all none (c.loop-dummy.invariant.points n atoms)
+returns-clause-points g c = search (rules, nil_from_length, points_done)
 
 pub returns-clause-fates : goal.returns-clause-fates
-returns-clause-fates g c = λ w n atoms.
-    let none : into_iter_items (enumerate_source c.loop-dummy.dummy-iterator) ≡ [] =
-    nil_from_length (into_iter_items (enumerate_source c.loop-dummy.dummy-iterator))
-    (omega (arith, c.in-None.ensures.steps.0.0, (enumerate_source c.loop-dummy.dummy-iterator).rest.ok.0)) in
-    fates_done g.S.GoodsSet.goods n c.args.bidders.items (map (λ p. p.1) c.loop-dummy.yielded) _ _ c.loop-dummy.invariant.all none
-    (c.loop-dummy.invariant.fates w n atoms)
+returns-clause-fates g c = search (rules, nil_from_length, fates_done)
 
 pub loop-dummy-preserved-in-Continue-branch-4 : goal.loop-dummy-preserved-in-Continue-branch-4
 loop-dummy-preserved-in-Continue-branch-4 g c =

@@ -1,5 +1,5 @@
 -- `explained_file_on`
-use Rattle.std.proofs.Common.{◌≡◌, ap, ◌∙◌, subst, true}
+use Rattle.std.proofs.Common.{rules, ◌≡◌, ap, ◌∙◌, subst, true}
 use Rattle.std.proofs.lemmas.Result.{IfOk-weaker}
 use Rattle.valuation.specs.Auctions.{PlainAuction, auction_from}
 use Rattle.valuation.specs.Views.{plain_auction}
@@ -10,13 +10,7 @@ use Rattle.canon.proofs.CanonicalFiles.Numbering.{kept_numbers_are}
 use Rattle.canon.proofs.normal.explained.explained_file_on.Goals as goal
 
 pub returns-clause-dummies : goal.returns-clause-dummies
-returns-clause-dummies g c =
-    IfOk-weaker c.normal_auction_file.result (λ e. e.dummies.items ≡ kept_numbers (plain_auction c.in_ok-auction.auction))
-    (λ e. e.dummies.items ≡ kept_dummies c.args.file.now)
-    (λ named e. e ∙ ap kept_numbers c.in_ok-auction.ensures ∙ kept_numbers_are c.args.file.now) c.normal_auction_file.ensures.dummies
+returns-clause-dummies g c = search (rules, IfOk-weaker, kept_numbers_are)
 
 pub returns-clause-fates : goal.returns-clause-fates
-returns-clause-fates g c =
-    IfOk-weaker c.normal_auction_file.result (λ e. c.args.with_fates ≡ true → AreFates c.args.options.kind (plain_auction c.in_ok-auction.auction) e.fates)
-    (λ e. c.args.with_fates ≡ true → AreFates c.args.options.kind (auction_from c.args.file.now) e.fates)
-    (λ e h w. subst (λ (a : PlainAuction). AreFates c.args.options.kind a e.fates) c.in_ok-auction.ensures (h w)) c.normal_auction_file.ensures.fates
+returns-clause-fates g c = search (rules, IfOk-weaker)

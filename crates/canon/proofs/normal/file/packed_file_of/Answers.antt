@@ -1,6 +1,7 @@
 -- `packed_file_of`: the bids so far, with those of the bidders still to come, are the bids of the auction's file (proofs/Filing), so in the end they
 -- are all of them and keep its limits.
-use Rattle.std.proofs.Common.{List, ◌++◌, None, Some, map, refl, ap, ap₂, ◌∙◌, arith}
+use Rattle.std.proofs.Common.{rules, List, ◌++◌, None, Some, map, refl, ap, ap₂, ◌∙◌, arith}
+use Rattle.std.proofs.lemmas.Grind.{common_steps}
 use Rattle.bid_file.specs.Files.{PlainBid}
 use Rattle.valuation.specs.Bidders.{bidders_of}
 use Rattle.valuation.specs.Values.{atoms_of}
@@ -11,32 +12,16 @@ use Rattle.canon.proofs.CanonicalFiles.Filing.{one_more_bidder, all_bidders, fil
 use Rattle.canon.proofs.normal.file.packed_file_of.Goals as goal
 
 pub loop-dummy-init : goal.loop-dummy-init
-loop-dummy-init g c =
-    ap₂ (λ (x : List PlainBid) (y : List (List (Atom (List _)))). x ++ dummy_bids 0 y)
-    (c.in_ok-push_bids.ensures ∙ ap (λ (zs : List PlainBid). zs ++ map (bid_from None) (atoms_of g.S.GoodsSet.goods c.or_atoms.result.now)) (c.reserve.ensures
-    ∙ c.new-bids.ensures)
-    ∙ ap (map (bid_from None)) c.or_atoms.ensures)
-    c.xor_bidders-bidders.ensures
+loop-dummy-init g c = search rules
 
 pub overflow_cast-dummy : goal.overflow_cast-dummy
-overflow_cast-dummy g c =
-    let a = plain_auction c.args.auction.now in
-    let long = length-bidders g.S.GoodsSet.goods c.xor_bidders-bidders.result.now a.xor_bidders c.xor_bidders-bidders.ensures in
-    record { fits = omega (arith, long, c.loop-dummy-test.true, c.args.auction.now.facts.bidders) }
+overflow_cast-dummy g c = search (rules, length-bidders)
 
 pub loop-dummy-preserved : goal.loop-dummy-preserved
-loop-dummy-preserved g c =
-    one_more_bidder g.S.GoodsSet.goods c.loop-dummy.bids c.push_bids-in-loop-dummy.new.bids c.xor_bidders-bidders.result.now c.loop-dummy.dummy
-    c.index-bidders-dummy.result c.loop-dummy-test.true c.index-bidders-dummy.is
-    (c.in_ok-push_bids-2.ensures
-    ∙ ap (λ (zs : List _). c.loop-dummy.bids ++ map (bid_from (Some c.loop-dummy.dummy)) (atoms_of g.S.GoodsSet.goods zs)) c.as_slice-atoms.ensures.value)
-    ∙ c.loop-dummy.invariant
+loop-dummy-preserved g c = search (rules, one_more_bidder)
 
 pub overflow_cast-bidders : goal.overflow_cast-bidders
-overflow_cast-bidders g c =
-    let a = plain_auction c.args.auction.now in
-    let long = length-bidders g.S.GoodsSet.goods c.xor_bidders-bidders.result.now a.xor_bidders c.xor_bidders-bidders.ensures in
-    record { fits = omega (arith, long, c.args.auction.now.facts.bidders) }
+overflow_cast-bidders g c = search (rules, length-bidders)
 
 pub new-requires : goal.new-requires
 new-requires g c =
@@ -52,14 +37,4 @@ new-requires g c =
     c.loop-dummy.invariant)
 
 pub returns : goal.returns
-returns g c =
-    let a = plain_auction c.args.auction.now in
-    let long = length-bidders g.S.GoodsSet.goods c.xor_bidders-bidders.result.now a.xor_bidders c.xor_bidders-bidders.ensures in
-    c.new.ensures ∙ file_parts a c.goods.result _ c.loop-dummy.bids c.goods.ensures long
-    (all_bidders c.loop-dummy.bids (file_from a).bids c.loop-dummy.dummy (bidders_of g.S.GoodsSet.goods c.xor_bidders-bidders.result.now)
-    (omega (
-      arith,
-      c.loop-dummy-test.false,
-      length-bidders g.S.GoodsSet.goods c.xor_bidders-bidders.result.now (bidders_of g.S.GoodsSet.goods c.xor_bidders-bidders.result.now) refl,
-    ))
-    c.loop-dummy.invariant)
+returns g c = grind (arith, common_steps, length-bidders, file_parts, all_bidders)

@@ -14,12 +14,7 @@ returns-in_err-normal-clause-answer c =
 made : (c : goal.After-drop-normal-inside-3) → Normalises (plain_options c.args.limit) c.args.text.now (IsText c.in_ok-write.field-0.items)
 made c =
     let n = c.in_ok-normal.ensures in
-    record {
-      file = n.file;
-      spelled = n.spelled;
-      is = subst (λ (o : SearchOptions). normalised_file o n.file ≡ IsText c.in_ok-write.field-0.items) c.plain.ensures
-          (text_of_normal c.plain.result n.file c.in_ok-normal.normal n.normal _ c.in_ok-write.ensures.layout);
-    }
+    search (rules, text_of_normal)
 
 pub returns-clause-answer : goal.returns-clause-answer
 returns-clause-answer c = made c

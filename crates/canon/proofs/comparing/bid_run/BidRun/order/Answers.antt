@@ -1,5 +1,5 @@
 -- `BidRun::order`
-use Rattle.std.proofs.Common.{◌+◌, drop, sym, ap₂, ◌∙◌, nat_cmp, arith}
+use Rattle.std.proofs.Common.{rules, ◌+◌, drop, sym, ap₂, ◌∙◌, nat_cmp, arith}
 use Rattle.bid_file.specs.Views.{seen_bid}
 use Rattle.valuation.specs.Orders.{atom_cmp, bidder_cmp}
 use Rattle.canon.specs.Bidders.{offers}
@@ -28,9 +28,4 @@ loop-i-preserved g c =
     sym (then-left _ later same) ∙ sym turn ∙ c.loop-i.invariant
 
 pub returns : goal.returns
-returns g c =
-    let some = length-offers c.args.self.now in
-    let other = length-offers c.args.other.now in
-    c.cmp.ensures ∙ ap₂ nat_cmp c.len-3.ensures c.len-4.ensures
-    ∙ sym (rw (some, other) at (slice_cmp-ended atom_cmp c.loop-i.i (offers c.args.self.now) (offers c.args.other.now) (omega arith)))
-    ∙ c.loop-i.invariant
+returns g c = search (rules, length-offers, slice_cmp-ended)
