@@ -1,13 +1,7 @@
 -- What holds of the atoms of an auction holds of its points: they are atoms over its goods, and have the tables of all atoms.
-use Rattle.std.proofs.Common.{◌≡◌, ℕ, List}
-use Rattle.std.specs.Prelude.{All, Contains}
-use Rattle.std.proofs.lemmas.List.Elements.{All-contains, All-weaker}
-use Rattle.valuation.specs.declared.atom.Atom.{Atom}
-use Rattle.valuation.specs.Auctions.{IsAtom, PlainAuction}
-use Rattle.valuation.specs.Tables.{or_table, xor_table}
-use Rattle.prune.specs.Points.{xor_points, or_points}
-use Rattle.prune.specs.Lemmas.KeptBids.{just_bundles, or_points_are_atoms, or_points_again, xor_points_are_atoms, xor_points_again, on_bundles}
-use Rattle.prune.specs.Lemmas.Tables.{same_xor_points, same_or_points}
+use Rattle.canon.proofs.Common.{◌≡◌, ℕ, List, All, Contains, All-contains, All-weaker, Atom, IsAtom, PlainAuction, or_table, xor_table, xor_points, or_points}
+use Rattle.canon.proofs.Common.{just_bundles, or_points_are_atoms, or_points_again, xor_points_are_atoms, xor_points_again, on_bundles, same_xor_points}
+use Rattle.canon.proofs.Common.{same_or_points}
 
 -- the atoms of each bidder are atoms over the goods
 pub record HasAtoms (a : PlainAuction) : Type 0 where

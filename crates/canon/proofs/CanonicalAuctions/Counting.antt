@@ -1,30 +1,11 @@
 -- Bidders are counted alike by their tables and by their points. A bidder of value zero has neither, and of the others each has
 -- the points that its table says.
-use Rattle.std.proofs.Common.{◌≡◌, ℕ, ◌+◌, ◌<◌, ◌≤◌, Bool, true, false, cond, ⊎_elim, List, [], ◌∷◌, refl, sym, ap, ◌∙◌, subst, arith, le_antisymm, nat_cmp}
-use Rattle.std.specs.Prelude.{All}
-use Rattle.std.specs.List.{count_by}
-use Rattle.std.specs.Ordering.{is_eq}
-use Rattle.std.specs.Cmp.Lexicographic.{slice_cmp}
-use Rattle.std.specs.FinMap.{slice_cmp-IsAntisymmetric, nat_cmp-IsAntisymmetric}
-use Rattle.std.proofs.lemmas.Bool.{cases_Bool, both_ways, false_from_ne_true, cond-true, cond-false}
-use Rattle.std.proofs.lemmas.Cmp.{tied_itself, nat_list_cmp_total}
-use Rattle.std.proofs.lemmas.List.Elements.{All-head, All-tail}
-use Rattle.std.proofs.lemmas.List.Sums.{sum_by-cons}
-use Rattle.valuation.specs.declared.atom.Atom.{Atom}
-use Rattle.valuation.specs.Auctions.{IsAtom}
-use Rattle.valuation.specs.Orders.{bidder_cmp}
-use Rattle.valuation.specs.Lemmas.Orders.{bidder_cmp_total, bidder_cmp_equal}
-use Rattle.valuation.specs.Sorting.{count_of}
-use Rattle.valuation.specs.Tables.{xor_table, is_nonzero}
-use Rattle.prune.specs.Points.{xor_points}
-use Rattle.prune.specs.Lemmas.Lists.{zero_or_more}
-use Rattle.prune.specs.Lemmas.Tables.{same_xor_points}
-use Rattle.prune.specs.Lemmas.KeptBids.{on_bundles}
-use Rattle.canon.specs.Sameness.{has_table}
-use Rattle.canon.specs.Canonical.{points_of_bidders}
+use Rattle.canon.proofs.Common.{◌≡◌, ℕ, ◌+◌, ◌<◌, ◌≤◌, Bool, true, false, cond, ⊎_elim, List, [], ◌∷◌, refl, sym, ap, ◌∙◌, subst, arith, le_antisymm, nat_cmp}
+use Rattle.canon.proofs.Common.{All, count_by, is_eq, slice_cmp, slice_cmp-IsAntisymmetric, nat_cmp-IsAntisymmetric, cases_Bool, both_ways, false_from_ne_true}
+use Rattle.canon.proofs.Common.{cond-true, cond-false, tied_itself, nat_list_cmp_total, All-head, All-tail, sum_by-cons, Atom, IsAtom, bidder_cmp}
+use Rattle.canon.proofs.Common.{bidder_cmp_total, bidder_cmp_equal, count_of, xor_table, is_nonzero, xor_points, zero_or_more, same_xor_points, on_bundles}
+use Rattle.canon.proofs.Common.{has_table, points_of_bidders, equal_from, rules}
 use Rattle.canon.proofs.CanonicalAuctions.Atoms.{xor_points_table}
-use Rattle.canon.specs.Lemmas.Finding.{equal_from}
-use Rattle.std.proofs.Common.{rules}
 
 -- ---- tests by an order
 

@@ -1,25 +1,9 @@
 -- The canonical file is held by every file of the same auction: their canonical files are one, and a file holds its points.
-use Rattle.std.proofs.Common.{rules, ◌≡◌, ℕ, ◌<◌, ◌≤◌, true, false, ⊎_elim, List, [], ◌∷◌, length, map, cond, None, refl, sym, ap, ◌∙◌, subst, arith}
-use Rattle.std.specs.Prelude.{All, Contains}
-use Rattle.std.specs.Ordering.{is_eq}
-use Rattle.std.proofs.lemmas.Bool.{cases_Bool}
-use Rattle.std.proofs.lemmas.List.{length-append, length-map}
-use Rattle.std.proofs.lemmas.List.FromFn.{length-map-range_with_len}
-use Rattle.std.proofs.lemmas.List.Elements.{All-head, All-tail, All-weaker}
-use Rattle.bid_file.specs.Files.{PlainFile, IsPlainFile}
-use Rattle.valuation.specs.declared.atom.Atom.{Atom}
-use Rattle.valuation.specs.Auctions.{PlainAuction, IsAtom, auction_from, xor_atoms_of}
-use Rattle.valuation.specs.Lemmas.AuctionsOfFiles.{count_atoms}
-use Rattle.valuation.specs.Orders.{bidder_cmp}
-use Rattle.valuation.specs.Sorting.{count_of}
-use Rattle.valuation.specs.Lemmas.Sorting.{sum_by-sort_by}
-use Rattle.valuation.specs.Tables.{xor_table, is_nonzero}
-use Rattle.prune.specs.Points.{xor_points}
-use Rattle.prune.specs.Lemmas.KeptBids.{just_bundles, or_points_are_atoms, xor_points_are_atoms, on_bundles}
-use Rattle.prune.specs.Lemmas.Tables.{no_xor_points}
-use Rattle.canon.specs.Sameness.{AreSameFiles}
-use Rattle.canon.specs.Canonical.{canonical_auction, canonical_file, points_of_bidders, bid_from, dummy_bids, file_from}
-use Rattle.canon.specs.Least.{IsHeldBy}
+use Rattle.canon.proofs.Common.{rules, ◌≡◌, ℕ, ◌<◌, ◌≤◌, true, false, ⊎_elim, List, [], ◌∷◌, length, map, cond, None, refl, sym, ap, ◌∙◌, subst, arith, All}
+use Rattle.canon.proofs.Common.{Contains, is_eq, cases_Bool, length-append, length-map, length-map-range_with_len, All-head, All-tail, All-weaker, PlainFile}
+use Rattle.canon.proofs.Common.{IsPlainFile, Atom, PlainAuction, IsAtom, auction_from, xor_atoms_of, count_atoms, bidder_cmp, count_of, sum_by-sort_by}
+use Rattle.canon.proofs.Common.{xor_table, is_nonzero, xor_points, just_bundles, or_points_are_atoms, xor_points_are_atoms, on_bundles, no_xor_points}
+use Rattle.canon.proofs.Common.{AreSameFiles, canonical_auction, canonical_file, points_of_bidders, bid_from, dummy_bids, file_from, IsHeldBy}
 use Rattle.canon.proofs.CanonicalAuctions.Atoms.{HasAtoms}
 use Rattle.canon.proofs.CanonicalAuctions.Counting.{alike, skips, points_more, points_without}
 use Rattle.canon.proofs.CanonicalFiles.Files.{auction_from-file_from, length-dummy_bids}

@@ -1,20 +1,8 @@
 -- The canonical auction is the same auction, and auctions are the same exactly where their canonical auctions are equal.
-use Rattle.std.proofs.Common.{◌≡◌, ℕ, true, cond, List, refl, sym, ap₂, ◌∙◌, subst, rules}
-use Rattle.std.specs.Prelude.{All}
-use Rattle.std.specs.List.{count_by, filter}
-use Rattle.std.proofs.lemmas.List.Elements.{All-map, All-filter, All-weaker}
-use Rattle.valuation.specs.declared.atom.Atom.{Atom}
-use Rattle.valuation.specs.Auctions.{PlainAuction, IsAtom, IsAuction}
-use Rattle.valuation.specs.Orders.{bidder_cmp}
-use Rattle.valuation.specs.Lemmas.Orders.{bidder_cmp_total, bidder_cmp_equal}
-use Rattle.valuation.specs.Sorting.{sort_by}
-use Rattle.valuation.specs.Lemmas.Sorting.{sum_by-sort_by, All-sort_by, sort_by-same}
-use Rattle.valuation.specs.Tables.{or_table, xor_table, is_nonzero}
-use Rattle.prune.specs.Points.{xor_points}
-use Rattle.prune.specs.Lemmas.Tables.{same_or_points}
-use Rattle.prune.specs.Lemmas.KeptBids.{on_bundles}
-use Rattle.canon.specs.Sameness.{has_table, IsSameAuction}
-use Rattle.canon.specs.Canonical.{points_of_bidders, canonical_auction}
+use Rattle.canon.proofs.Common.{◌≡◌, ℕ, true, cond, List, refl, sym, ap₂, ◌∙◌, subst, rules, All, count_by, filter, All-map, All-filter, All-weaker, Atom}
+use Rattle.canon.proofs.Common.{PlainAuction, IsAtom, IsAuction, bidder_cmp, bidder_cmp_total, bidder_cmp_equal, sort_by, sum_by-sort_by, All-sort_by}
+use Rattle.canon.proofs.Common.{sort_by-same, or_table, xor_table, is_nonzero, xor_points, same_or_points, on_bundles, has_table, IsSameAuction}
+use Rattle.canon.proofs.Common.{points_of_bidders, canonical_auction}
 use Rattle.canon.proofs.CanonicalAuctions.Atoms.{HasAtoms, or_points_atoms, xor_points_atoms, or_points_table}
 use Rattle.canon.proofs.CanonicalAuctions.Counting.{tables_of_points, points_counted}
 

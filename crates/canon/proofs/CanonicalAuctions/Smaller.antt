@@ -1,30 +1,14 @@
 -- The canonical auction has no more atoms and no more bidders than the auction, so it is an auction too. Points are atoms on
 -- different bundles, so each takes an atom of its own.
-use Rattle.std.proofs.Common.{◌≡◌, ℕ, ◌+◌, ◌≤◌, true, false, ⊎_elim, List, [], ◌∷◌, length, refl, sym, ap, subst, arith, rules}
-use Rattle.std.specs.Prelude.{All, Contains, sum_by, remove}
-use Rattle.std.proofs.lemmas.Bool.{cases_Bool}
-use Rattle.std.proofs.lemmas.List.Elements.{All-head, All-tail, All-contains}
-use Rattle.std.proofs.lemmas.List.Sorted.{IsPermutation-remove, Contains-permutation, length_permutation}
-use Rattle.std.proofs.lemmas.List.Sums.{sum_by-cons}
-use Rattle.valuation.specs.declared.atom.Atom.{Atom}
-use Rattle.valuation.specs.Auctions.{PlainAuction, IsAtom, IsAuction}
-use Rattle.valuation.specs.Lemmas.Lists.{Contains-cons_cases, AllPairs-head, AllPairs-tail}
-use Rattle.valuation.specs.Orders.{bidder_cmp}
-use Rattle.valuation.specs.Sorting.{sort_by}
-use Rattle.valuation.specs.Lemmas.Sorting.{sum_by-sort_by}
-use Rattle.valuation.specs.Tables.{xor_table, is_nonzero}
-use Rattle.prune.specs.InOrder.{IsBefore, IsInOrder}
-use Rattle.prune.specs.Lemmas.InOrder.{before_itself}
-use Rattle.prune.specs.Lemmas.Lists.{All-from_Contains, Contains-tail}
-use Rattle.prune.specs.Lemmas.KeptBids.{just_bundles, or_points_are_atoms, xor_points_are_atoms, on_bundles}
-use Rattle.prune.specs.Lemmas.Points.{points_where-in_order}
-use Rattle.prune.specs.Points.{or_points, xor_points}
-use Rattle.canon.specs.Canonical.{canonical_auction, points_of_bidders}
-use Rattle.canon.specs.Unsearched.{unsearched_auction}
+use Rattle.canon.proofs.Common.{◌≡◌, ℕ, ◌+◌, ◌≤◌, true, false, ⊎_elim, List, [], ◌∷◌, length, refl, sym, ap, subst, arith, rules, All, Contains, sum_by, remove}
+use Rattle.canon.proofs.Common.{cases_Bool, All-head, All-tail, All-contains, IsPermutation-remove, Contains-permutation, length_permutation, sum_by-cons, Atom}
+use Rattle.canon.proofs.Common.{PlainAuction, IsAtom, IsAuction, Contains-cons_cases, AllPairs-head, AllPairs-tail, bidder_cmp, sort_by, sum_by-sort_by}
+use Rattle.canon.proofs.Common.{xor_table, is_nonzero, IsBefore, IsInOrder, before_itself, All-from_Contains, Contains-tail, just_bundles, or_points_are_atoms}
+use Rattle.canon.proofs.Common.{xor_points_are_atoms, on_bundles, points_where-in_order, or_points, xor_points, canonical_auction, points_of_bidders}
+use Rattle.canon.proofs.Common.{unsearched_auction, common_steps}
 use Rattle.canon.proofs.CanonicalAuctions.Atoms.{HasAtoms, xor_points_atoms}
 use Rattle.canon.proofs.CanonicalAuctions.Counting.{points_more, points_without}
 use Rattle.canon.proofs.CanonicalAuctions.Sames.{HasAtoms-auction, HasAtoms-canonical}
-use Rattle.std.proofs.lemmas.Grind.{common_steps}
 
 -- atoms in order, each in a list, are no more than the list has
 no_more : (points atoms : List (Atom (List ℕ))) → IsInOrder points → All (Contains atoms) points → length points ≤ length atoms

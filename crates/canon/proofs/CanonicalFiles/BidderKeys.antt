@@ -1,16 +1,7 @@
 -- Bidders are ordered by their keys, where these differ: the bundles of the first atoms are then in the order of the keys, so that these
 -- atoms settle it, or one bidder has no atom.
-use Rattle.std.proofs.Common.{rules, ◌≡◌, ℕ, List, [], ◌∷◌, Ordering, Less, Equal, Greater, refl, sym, ap, ◌∙◌, nat_cmp, Some, None}
-use Rattle.std.specs.List.{slice_get}
-use Rattle.std.specs.Ordering.{ordering_then}
-use Rattle.goods_set.specs.Bundles.{AreBelow}
-use Rattle.goods_set.specs.SortKeys.{sort_key_of}
-use Rattle.goods_set.specs.Lemmas.SortKeys.{order_by_key}
-use Rattle.goods_set.specs.Lemmas.Orders.{nat_cmp-lt, nat_cmp-gt, nat_cmp-refl}
-use Rattle.valuation.specs.declared.atom.Atom.{Atom}
-use Rattle.valuation.specs.Orders.{bidder_cmp}
-use Rattle.valuation.specs.Values.{atoms_of}
-use Rattle.canon.specs.Internal.BidderKeys.{bidder_key}
+use Rattle.canon.proofs.Common.{rules, ◌≡◌, ℕ, List, [], ◌∷◌, Ordering, Less, Equal, Greater, refl, sym, ap, ◌∙◌, nat_cmp, Some, None, slice_get, ordering_then}
+use Rattle.canon.proofs.Common.{AreBelow, sort_key_of, order_by_key, nat_cmp-lt, nat_cmp-gt, nat_cmp-refl, Atom, bidder_cmp, atoms_of, bidder_key}
 use Rattle.canon.proofs.CanonicalFiles.Bidders.{positive}
 
 -- what comes first decides, unless it is equal

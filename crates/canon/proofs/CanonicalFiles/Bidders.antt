@@ -1,35 +1,13 @@
 -- The bidders as the code has them: what holds of each, one more, and putting them in order.
-use Rattle.std.proofs.Common.{◌≡◌, ℕ, ◌<◌, ◌≤◌, ⊎_elim, List, [], ◌∷◌, ◌++◌, length, map, None, sym, ap, ap₂, ◌∙◌, subst, arith, append_assoc, Global, rules}
-use Rattle.std.specs.Prelude.{All, Option, Vec, IsPermutation}
-use Rattle.std.specs.List.Sorted.{IsSortedBy}
-use Rattle.std.specs.Ordering.{is_lt}
-use Rattle.std.proofs.lemmas.List.{map-append, map_push, append-nil, length-append, length-map, nil_from_length}
-use Rattle.std.proofs.lemmas.Simd.{map-map}
-use Rattle.std.proofs.lemmas.List.Elements.{All-contains, All-weaker, Contains-append_right}
-use Rattle.std.proofs.lemmas.List.Sorted.{IsPermutation-map}
-use Rattle.bid_file.specs.declared.limits.TheConstants.{MAX_GOODS, MAX_DUMMY}
-use Rattle.goods_set.specs.Lemmas.Members.{AreBelow-higher}
-use Rattle.valuation.specs.declared.atom.Atom.{Atom}
-use Rattle.valuation.specs.declared.search.kind.SearchKind.{SearchKind}
-use Rattle.valuation.specs.declared.search.options.SearchOptions.{SearchOptions}
-use Rattle.valuation.specs.Auctions.{PlainAuction, IsAtom, IsAuction}
-use Rattle.valuation.specs.Lemmas.Atoms.{length-atoms_of}
-use Rattle.valuation.specs.Bidders.{bidders_of}
-use Rattle.valuation.specs.Sorting.{sort_by}
-use Rattle.valuation.specs.Lemmas.Sorting.{sorted_is_sort_by}
-use Rattle.valuation.specs.Values.{atoms_of}
-use Rattle.prune.specs.Fates.{or_fates, plain_fate, xor_fates}
-use Rattle.prune.specs.Lemmas.Lists.{Contains-head, zero_or_more}
-use Rattle.prune.specs.Points.{xor_points, or_points}
-use Rattle.prune.specs.SearchSteps.{first_refused}
-use Rattle.canon.specs.Canonical.{canonical_auction, canonical_bidders}
-use Rattle.canon.specs.Unsearched.{unsearched_auction}
-use Rattle.canon.specs.declared.normal.explained.BidderFates.{BidderFates}
-use Rattle.canon.specs.Internal.Fates.{AreFates}
-use Rattle.canon.specs.Internal.KeyedBidders.{NumberedBidder, numbered_points, numbered_cmp, kept_numbers}
-use Rattle.canon.specs.Lemmas.Renaming.{map-sorted}
+use Rattle.canon.proofs.Common.{◌≡◌, ℕ, ◌<◌, ◌≤◌, ⊎_elim, List, [], ◌∷◌, ◌++◌, length, map, None, sym, ap, ap₂, ◌∙◌, subst, arith, append_assoc, Global, rules}
+use Rattle.canon.proofs.Common.{All, Vec, IsPermutation, IsSortedBy, is_lt, map-append, map_push, append-nil, length-append, length-map, nil_from_length}
+use Rattle.canon.proofs.Common.{map-map, All-contains, All-weaker, Contains-append_right, IsPermutation-map, MAX_GOODS, MAX_DUMMY, AreBelow-higher, Atom}
+use Rattle.canon.proofs.Common.{SearchKind, SearchOptions, PlainAuction, IsAtom, IsAuction, length-atoms_of, bidders_of, sort_by, sorted_is_sort_by, atoms_of}
+use Rattle.canon.proofs.Common.{or_fates, plain_fate, xor_fates, Contains-head, zero_or_more, xor_points, or_points, first_refused, canonical_auction}
+use Rattle.canon.proofs.Common.{canonical_bidders, unsearched_auction, BidderFates, AreFates, NumberedBidder, numbered_points, numbered_cmp, kept_numbers}
+use Rattle.canon.proofs.Common.{map-sorted, common_steps}
+use Rattle.std.specs.Prelude.{Option}
 use Rattle.canon.proofs.CanonicalFiles.Numbering.{numbered_cmp_total, numbered_cmp_equal, points_push, points_skip}
-use Rattle.std.proofs.lemmas.Grind.{common_steps}
 
 -- atoms over fewer goods are atoms over more
 pub atoms_within : (fewer more : ℕ) (atoms : List (Atom (List ℕ))) → fewer ≤ more → All (IsAtom fewer) atoms → All (IsAtom more) atoms

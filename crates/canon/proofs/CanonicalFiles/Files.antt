@@ -1,16 +1,9 @@
 -- The file of an auction represents that auction, and keeps the limits of
-use Rattle.std.proofs.Common.{rules, ◌≡◌, ℕ, zero, suc, ◌+◌, ◌<◌, ◌≤◌, List, [], ◌∷◌, ◌++◌, length, map, Option, Some, None, is_none, refl, ap, ap₂, ◌∙◌, arith}
-use Rattle.std.specs.Prelude.{All, filter, sum_by}
-use Rattle.std.specs.List.{range_with_len, AllByRecursion}
-use Rattle.std.proofs.lemmas.Bool.{eq-eqb, ne_eqb}
-use Rattle.std.proofs.lemmas.List.{map-append, append-nil, length-append, length-map}
-use Rattle.std.proofs.lemmas.List.Elements.{All-head, All-tail, filter-append}
-use Rattle.std.proofs.lemmas.List.Sums.{sum_by-cons}
-use Rattle.bid_file.specs.Files.{PlainBid, IsDummyBelow, IsBid, IsPlainFile}
-use Rattle.valuation.specs.declared.atom.Atom.{Atom}
-use Rattle.valuation.specs.Auctions.{PlainAuction, IsAtom, IsAuction, atom_of, is_dummy, or_atoms_of, xor_atoms_of, auction_from}
-use Rattle.prune.specs.Lemmas.Lists.{filter-kept, filter-lost}
-use Rattle.canon.specs.Canonical.{bid_from, dummy_bids, file_from}
+use Rattle.canon.proofs.Common.{rules, ◌≡◌, ℕ, zero, suc, ◌+◌, ◌<◌, ◌≤◌, List, [], ◌∷◌, ◌++◌, length, map, Option, Some, None, is_none, refl, ap, ap₂, ◌∙◌}
+use Rattle.canon.proofs.Common.{arith, All, sum_by, range_with_len, AllByRecursion, eq-eqb, ne_eqb, map-append, append-nil, length-append, length-map, All-head}
+use Rattle.canon.proofs.Common.{All-tail, filter-append, sum_by-cons, PlainBid, IsDummyBelow, IsBid, IsPlainFile, Atom, PlainAuction, IsAtom, IsAuction}
+use Rattle.canon.proofs.Common.{atom_of, is_dummy, or_atoms_of, xor_atoms_of, auction_from, filter-kept, filter-lost, bid_from, dummy_bids, file_from}
+use Rattle.std.specs.Prelude.{filter}
 
 -- ---- the bids of a bidder, among those of a list
 

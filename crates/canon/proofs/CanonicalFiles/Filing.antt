@@ -1,15 +1,7 @@
 -- The file of an auction is made bid by bid: one more atom of a bidder, and one more bidder.
-use Rattle.std.proofs.Common.{◌≡◌, ℕ, ◌+◌, ◌<◌, ◌≤◌, List, [], ◌∷◌, ◌++◌, length, map, drop, get_or, Option, Some, sym, ap, ap₂, ◌∙◌, subst, append_assoc}
-use Rattle.std.proofs.Common.{Global, rules}
-use Rattle.std.specs.Prelude.{Vec}
-use Rattle.std.proofs.lemmas.List.{drop-map, drop_more, append-nil, drop_all, length-map}
-use Rattle.bid_file.specs.Files.{PlainBid, PlainFile, IsBidFile, IsPlainFile}
-use Rattle.valuation.specs.declared.atom.Atom.{Atom}
-use Rattle.valuation.specs.Auctions.{PlainAuction, IsAuction}
-use Rattle.valuation.specs.Lemmas.Atoms.{drop-atoms_of}
-use Rattle.valuation.specs.Bidders.{bidders_of}
-use Rattle.valuation.specs.Values.{atoms_of}
-use Rattle.canon.specs.Canonical.{bid_from, dummy_bids, file_from}
+use Rattle.canon.proofs.Common.{◌≡◌, ℕ, ◌+◌, ◌<◌, ◌≤◌, List, [], ◌∷◌, ◌++◌, length, map, drop, get_or, Option, Some, sym, ap, ap₂, ◌∙◌, subst, append_assoc}
+use Rattle.canon.proofs.Common.{Global, rules, Vec, drop-map, drop_more, append-nil, drop_all, length-map, PlainBid, PlainFile, IsBidFile, IsPlainFile, Atom}
+use Rattle.canon.proofs.Common.{PlainAuction, IsAuction, drop-atoms_of, bidders_of, atoms_of, bid_from, dummy_bids, file_from}
 use Rattle.canon.proofs.CanonicalFiles.Files.{IsPlainFile-file_from}
 
 -- one more bid, and one atom less to come

@@ -1,31 +1,12 @@
 -- Bidders with their numbers: one more at the end, what is left without the numbers, and the numbers of those that are in the canonical auction.
-use Rattle.std.proofs.Common.{◌≡◌, ℕ, zero, suc, ◌+◌, ◌<◌, ◌≤◌, Bool, List, [], ◌∷◌, ◌++◌, length, map, take, get_or, refl, sym, ap, ap₂, ◌∙◌, arith, Equal}
-use Rattle.std.specs.Cmp.{IsTotalOrder}
-use Rattle.std.specs.FinMap.{nat_cmp-IsAntisymmetric}
-use Rattle.std.specs.List.{filter, range_with_len}
+use Rattle.canon.proofs.Common.{◌≡◌, ℕ, zero, suc, ◌+◌, ◌<◌, ◌≤◌, Bool, List, [], ◌∷◌, ◌++◌, length, map, take, get_or, refl, sym, ap, ap₂, ◌∙◌, arith, Equal}
+use Rattle.canon.proofs.Common.{IsTotalOrder, nat_cmp-IsAntisymmetric, filter, range_with_len, nat_cmp_total, on_total, then_total, append-nil, map-append}
+use Rattle.canon.proofs.Common.{map-id, map_push, take_all, take_more, filter-append, map-map, All, PlainFile, Atom, IsAtom, auction_from, xor_atoms_of}
+use Rattle.canon.proofs.Common.{bidder_cmp_total, bidder_cmp_equal, bidder_cmp, sort_by, xor_table, is_nonzero, on_bundles, filter-kept, filter-lost}
+use Rattle.canon.proofs.Common.{no_xor_points, xor_points, points_of_bidders, points_of_dummy, dummy_cmp, kept_dummies, NumberedBidder, numbered_from}
+use Rattle.canon.proofs.Common.{points_of_numbered, numbered_points, numbered_cmp, kept_numbers, filter-map, sort_by-map, then_not_less, then_equal}
+use Rattle.canon.proofs.Common.{dummy_cmp_total, nonzero_dummies, common_steps, rules}
 use Rattle.std.specs.Ordering.{nat_cmp}
-use Rattle.std.proofs.lemmas.Cmp.{nat_cmp_total, on_total, then_total}
-use Rattle.std.proofs.lemmas.List.{append-nil, map-append, map-id, map_push, take_all, take_more}
-use Rattle.std.proofs.lemmas.List.Elements.{filter-append}
-use Rattle.std.proofs.lemmas.Simd.{map-map}
-use Rattle.std.specs.Prelude.{All}
-use Rattle.bid_file.specs.Files.{PlainFile}
-use Rattle.valuation.specs.declared.atom.Atom.{Atom}
-use Rattle.valuation.specs.Auctions.{IsAtom, auction_from, xor_atoms_of}
-use Rattle.valuation.specs.Lemmas.Orders.{bidder_cmp_total, bidder_cmp_equal}
-use Rattle.valuation.specs.Orders.{bidder_cmp}
-use Rattle.valuation.specs.Sorting.{sort_by}
-use Rattle.valuation.specs.Tables.{xor_table, is_nonzero}
-use Rattle.prune.specs.Lemmas.KeptBids.{on_bundles}
-use Rattle.prune.specs.Lemmas.Lists.{filter-kept, filter-lost}
-use Rattle.prune.specs.Lemmas.Tables.{no_xor_points}
-use Rattle.prune.specs.Points.{xor_points}
-use Rattle.canon.specs.Canonical.{points_of_bidders}
-use Rattle.canon.specs.Renaming.{points_of_dummy, dummy_cmp, kept_dummies}
-use Rattle.canon.specs.Internal.KeyedBidders.{NumberedBidder, numbered_from, points_of_numbered, numbered_points, numbered_cmp, kept_numbers}
-use Rattle.canon.specs.Lemmas.Renaming.{filter-map, sort_by-map, then_not_less, then_equal, dummy_cmp_total, nonzero_dummies}
-use Rattle.std.proofs.lemmas.Grind.{common_steps}
-use Rattle.std.proofs.Common.{rules}
 
 -- ---- the order
 

@@ -1,25 +1,11 @@
 -- Files of the same auction have one text, and only these: the layout spells the file, the file represents its auction, and the
 -- canonical auction is the same auction.
-use Rattle.std.proofs.Common.{◌≡◌, ℕ, List, Option, Some, None, refl, sym, ap, ◌∙◌, subst, le_refl, rules}
-use Rattle.bid_file.specs.Files.{PlainFile, IsPlainFile}
-use Rattle.cats_text.specs.Grammar.{Spells}
-use Rattle.cats_text.specs.Faults.{first_fault}
-use Rattle.cats_text.specs.FileLines.{spelled_file}
-use Rattle.cats_text.specs.Layout.{layout}
-use Rattle.cats_text.specs.declared.read_fault.ReadFault.{ReadFault}
+use Rattle.canon.proofs.Common.{◌≡◌, ℕ, List, Option, Some, None, refl, sym, ap, ◌∙◌, subst, le_refl, rules, PlainFile, IsPlainFile, Spells, first_fault}
+use Rattle.canon.proofs.Common.{spelled_file, layout, ReadFault, spells_from_no_fault, no_fault_from_spells, spells_one, PlainAuction, IsAuction, or_atoms_of}
+use Rattle.canon.proofs.Common.{auction_from, SearchOptions, IsAuction-auction_from, or_points, first_refused, no_refused_point, on_bundles, AreSameFiles}
+use Rattle.canon.proofs.Common.{AreSameTexts, canonical_auction, file_from, canonical_file, canonical_text, Normalised, IsNoFile, ExceedsSteps, IsText}
+use Rattle.canon.proofs.Common.{HasOutcome, IsNormalised, Normalises, SpellsCanonicalFile, unless_refused, normalised_file}
 use Rattle.cats_text.proofs.Writing.Spells as laid_out
-use Rattle.cats_text.proofs.Spelling.Files.{spells_from_no_fault, no_fault_from_spells, spells_one}
-use Rattle.valuation.specs.Auctions.{PlainAuction, IsAuction, or_atoms_of, auction_from}
-use Rattle.valuation.specs.declared.search.options.SearchOptions.{SearchOptions}
-use Rattle.valuation.specs.Lemmas.AuctionsOfFiles.{IsAuction-auction_from}
-use Rattle.prune.specs.Points.{or_points}
-use Rattle.prune.specs.SearchSteps.{first_refused}
-use Rattle.prune.specs.Lemmas.Refusals.{no_refused_point}
-use Rattle.prune.specs.Lemmas.KeptBids.{on_bundles}
-use Rattle.canon.specs.Sameness.{AreSameFiles, AreSameTexts}
-use Rattle.canon.specs.Canonical.{canonical_auction, file_from, canonical_file, canonical_text}
-use Rattle.canon.specs.Normalising.{Normalised, IsNoFile, ExceedsSteps, IsText, HasOutcome, IsNormalised, Normalises, SpellsCanonicalFile, unless_refused}
-use Rattle.canon.specs.Normalising.{normalised_file}
 use Rattle.canon.proofs.CanonicalAuctions.Atoms.{HasAtoms}
 use Rattle.canon.proofs.CanonicalAuctions.Sames.{HasAtoms-auction, canonical_is_same, same_canonical, same_from_canonical, canonical_is_fixed}
 use Rattle.canon.proofs.CanonicalFiles.Files.{auction_from-file_from, IsPlainFile-file_from}

@@ -1,35 +1,15 @@
 -- Alike files. The idea: OR values depend on the bids that no single bid replaces alone, since any other may be taken for one inside its
 -- bundle with at least its price; and what needs no search depends on the XOR values of the bids alone, which neither their order nor their
 -- repetition changes.
-use Rattle.std.proofs.Common.{◌≡◌, ℕ, ◌<◌, ◌≤◌, List, length, map, Bool, refl, sym, ap, ap₂, ◌∙◌, subst, arith, le_antisymm, le_refl, is_none, rules}
-use Rattle.std.specs.Prelude.{All, Contains, ◌↔◌}
-use Rattle.std.specs.List.{filter, range_with_len}
-use Rattle.std.proofs.lemmas.List.Elements.{All-contains, All-weaker}
-use Rattle.bid_file.specs.Files.{PlainBid, PlainFile, IsPlainFile}
-use Rattle.cats_text.specs.Grammar.{Spells}
-use Rattle.cats_text.specs.Layout.{layout}
+use Rattle.canon.proofs.Common.{◌≡◌, ℕ, ◌<◌, ◌≤◌, List, length, map, Bool, refl, sym, ap, ap₂, ◌∙◌, subst, arith, le_antisymm, le_refl, is_none, rules, All}
+use Rattle.canon.proofs.Common.{Contains, ◌↔◌, filter, range_with_len, All-contains, All-weaker, PlainBid, PlainFile, IsPlainFile, Spells, layout, spells_one}
+use Rattle.canon.proofs.Common.{all_bundles, IsBundle, IsInside, inside_refl, Atom, IsAtom, PlainAuction, atom_of, auction_from, is_dummy, xor_atoms_of}
+use Rattle.canon.proofs.Common.{IsAuction-auction_from, Contains-map, Contains-unmap, or_value-price, bidder_cmp, sort_by, xor_table, is_nonzero, or_value}
+use Rattle.canon.proofs.Common.{xor_value, just_bundles, on_bundles, xor_points_are_atoms, xor_points_keep_values, xor_points_same, All-from_Contains}
+use Rattle.canon.proofs.Common.{Contains-filter, Contains-filter_parts, filter_same_on, map_same_on, or_value-dominated, xor_value-bound, xor_value-member}
+use Rattle.canon.proofs.Common.{xor_points, file_from, points_of_bidders, has_value, nonzero_dummies, points_of_nonzero, points_of_dummy, AreSameFiles}
+use Rattle.canon.proofs.Common.{IsSameAuction, AreAlike, AreAlikeAuctions, unsearched_auction, unsearched_file, unsearched_text}
 use Rattle.cats_text.proofs.Writing.Spells as laid_out
-use Rattle.cats_text.proofs.Spelling.Files.{spells_one}
-use Rattle.goods_set.specs.Bundles.{all_bundles, IsBundle, IsInside}
-use Rattle.goods_set.specs.Lemmas.Members.{inside_refl}
-use Rattle.valuation.specs.declared.atom.Atom.{Atom}
-use Rattle.valuation.specs.Auctions.{IsAtom, PlainAuction, atom_of, auction_from, is_dummy, xor_atoms_of}
-use Rattle.valuation.specs.Lemmas.AuctionsOfFiles.{IsAuction-auction_from}
-use Rattle.valuation.specs.Lemmas.Lists.{Contains-map, Contains-unmap}
-use Rattle.valuation.specs.Lemmas.OrValues.{or_value-price}
-use Rattle.valuation.specs.Orders.{bidder_cmp}
-use Rattle.valuation.specs.Sorting.{sort_by}
-use Rattle.valuation.specs.Tables.{xor_table, is_nonzero}
-use Rattle.valuation.specs.Values.{or_value, xor_value}
-use Rattle.prune.specs.Lemmas.KeptBids.{just_bundles, on_bundles, xor_points_are_atoms, xor_points_keep_values, xor_points_same}
-use Rattle.prune.specs.Lemmas.Lists.{All-from_Contains, Contains-filter, Contains-filter_parts, filter_same_on, map_same_on}
-use Rattle.prune.specs.Lemmas.Values.{or_value-dominated, xor_value-bound, xor_value-member}
-use Rattle.prune.specs.Points.{xor_points}
-use Rattle.canon.specs.Canonical.{file_from, points_of_bidders}
-use Rattle.canon.specs.Lemmas.Renaming.{has_value, nonzero_dummies, points_of_nonzero}
-use Rattle.canon.specs.Renaming.{points_of_dummy}
-use Rattle.canon.specs.Sameness.{AreSameFiles, IsSameAuction}
-use Rattle.canon.specs.Unsearched.{AreAlike, AreAlikeAuctions, unsearched_auction, unsearched_file, unsearched_text}
 use Rattle.canon.proofs.CanonicalAuctions.Atoms.{HasAtoms, xor_points_atoms}
 use Rattle.canon.proofs.CanonicalAuctions.Sames.{canonical_is_same, same_sym, same_trans}
 use Rattle.canon.proofs.CanonicalAuctions.Smaller.{IsAuction-unsearched}

@@ -1,27 +1,10 @@
 -- What the calls answer, from what the calls below them answered: each kind of answer of one is, by the definitions, one of the other.
-use Rattle.std.proofs.Common.{rules, ◌≡◌, ℕ, ◌⊎◌, inl, inr, true, List, Option, Some, None, refl, sym, ap, ◌∙◌, subst, IfSome}
-use Rattle.std.specs.Prelude.{◌↔◌}
-use Rattle.bid_file.specs.Files.{PlainFile, IsPlainFile}
-use Rattle.cats_text.specs.Grammar.{Spells}
-use Rattle.cats_text.specs.Layout.{layout}
-use Rattle.cats_text.specs.Faults.{first_fault, is_text_kind}
-use Rattle.cats_text.specs.Reading.{WantsMemory}
-use Rattle.cats_text.specs.declared.read_fault.Kind.{Kind}
+use Rattle.canon.proofs.Common.{rules, ◌≡◌, ℕ, ◌⊎◌, inl, inr, true, List, Option, Some, None, refl, sym, ap, ◌∙◌, subst, IfSome, ◌↔◌, PlainFile, IsPlainFile}
+use Rattle.canon.proofs.Common.{Spells, layout, first_fault, is_text_kind, WantsMemory, Kind, ReadFault, IsFound, first_fault-found, spells_one, PlainAuction}
+use Rattle.canon.proofs.Common.{auction_from, or_atoms_of, SearchOptions, RefusesAs, RefusesText, RefusesAuction, IsNormalFile, IsCanonical, IsCanonicalFile}
+use Rattle.canon.proofs.Common.{canonical_auction, canonical_text, file_from, IsLeastFor, IsNoFile, IsText, Normalises, unless_refused, normalised_file}
+use Rattle.canon.proofs.Common.{refusal_by_kind, refusal_of, AreSameFiles, CanonFault, Read, StepLimit, Memory, first_refused}
 use Rattle.cats_text.specs.declared.read_fault.Kind.TheVariants.{Memory as NoMemory}
-use Rattle.cats_text.specs.declared.read_fault.ReadFault.{ReadFault}
-use Rattle.cats_text.proofs.Texts.FaultKinds.{IsFound, first_fault-found}
-use Rattle.cats_text.proofs.Spelling.Files.{spells_one}
-use Rattle.valuation.specs.Auctions.{PlainAuction, auction_from, or_atoms_of}
-use Rattle.valuation.specs.declared.search.options.SearchOptions.{SearchOptions}
-use Rattle.canon.specs.Answers.{RefusesAs, RefusesText, RefusesAuction, IsNormalFile}
-use Rattle.canon.specs.Canonical.{IsCanonical, IsCanonicalFile, canonical_auction, canonical_text, file_from}
-use Rattle.canon.specs.Least.{IsLeastFor}
-use Rattle.canon.specs.Normalising.{IsNoFile, IsText, Normalises, unless_refused, normalised_file}
-use Rattle.canon.specs.Refusals.{refusal_by_kind, refusal_of}
-use Rattle.canon.specs.Sameness.{AreSameFiles}
-use Rattle.canon.specs.declared.canon_fault.CanonFault.{CanonFault}
-use Rattle.canon.specs.declared.canon_fault.CanonFault.TheVariants.{Read, StepLimit, Memory}
-use Rattle.prune.specs.SearchSteps.{first_refused}
 use Rattle.canon.proofs.CanonicalFiles.Files.{auction_from-file_from}
 use Rattle.canon.proofs.CanonicalAuctions.Least.{canonical_is_least}
 use Rattle.canon.proofs.CanonicalFiles.Texts.{text_from_normalised, normalised_from_text, normalised_again, same_text, same_from_text, canonical_file_is_same}

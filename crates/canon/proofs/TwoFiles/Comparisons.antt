@@ -1,39 +1,13 @@
 -- What comparing answers: of two canonical files, by their OR bids and their XOR bids, and of two texts, by the files that they spell.
-use Rattle.std.proofs.Common.{◌≡◌, ℕ, ◌+◌, ◌⊎◌, Bool, true, eqb, List, [], ◌∷◌, ◌++◌, length, map, take, drop, Option, Some, None, Result, Ok, Err, refl, sym}
-use Rattle.std.proofs.Common.{ap, ◌∙◌, subst, arith, rules}
-use Rattle.std.specs.Prelude.{◌↔◌, IfOk, IfErr, OnErr, MatchOption, IsErrAnd}
-use Rattle.std.specs.List.{prefix_len}
-use Rattle.std.specs.Option.{option_eq}
-use Rattle.std.proofs.lemmas.Bool.{cond-true}
-use Rattle.std.proofs.lemmas.Option.{MatchOption-at_some, MatchOption-at_none}
-use Rattle.std.proofs.lemmas.Result.{IfOk-weaker}
-use Rattle.std.proofs.Math.Seq.{take-append_seam, drop-append_seam}
-use Rattle.bid_file.specs.declared.limits.TheConstants.{MAX_GOODS}
-use Rattle.bid_file.specs.Files.{PlainBid, PlainFile, IsPlainFile}
-use Rattle.cats_text.specs.Grammar.{Spells}
-use Rattle.cats_text.specs.Faults.{first_fault}
-use Rattle.cats_text.specs.Reading.{WantsMemory}
-use Rattle.cats_text.specs.declared.read_fault.ReadFault.{ReadFault}
-use Rattle.canon.specs.Refusals.{refusal_of}
-use Rattle.cats_text.proofs.Spelling.Files.{spells_one}
-use Rattle.valuation.specs.declared.atom.Atom.{Atom}
-use Rattle.valuation.specs.declared.search.options.SearchOptions.{SearchOptions}
-use Rattle.valuation.specs.Lemmas.AuctionsOfFiles.{IsAuction-auction_from}
-use Rattle.valuation.specs.Auctions.{PlainAuction, IsAuction, auction_from}
-use Rattle.canon.specs.Answers.{NormalisesPlainAs, RefusesText}
-use Rattle.canon.specs.Internal.BidderBids.{HasBidders, leading}
-use Rattle.canon.specs.Canonical.{IsCanonicalFile, bid_from, canonical_auction, dummy_bids, file_from}
-use Rattle.canon.specs.Comparing.{ComparesAs, Differ, IsNormalFileOf, ReadsNormalAs, RefusesOf, SpellsWithinLimit}
-use Rattle.canon.specs.Difference.{Difference, NoDifference, first_difference, first_unequal_bundle, least_unequal_bidder, or_difference, xor_difference}
-use Rattle.canon.specs.Internal.OrBids.{HasOrBids}
-use Rattle.canon.specs.Sameness.{AreSameFiles, AreSameTexts}
-use Rattle.canon.specs.Verdicts.{NamesGoods, plain_verdict}
-use Rattle.canon.specs.declared.canon_fault.CanonFault.{CanonFault}
-use Rattle.canon.specs.declared.canon_fault.CanonFault.TheVariants.{Memory}
-use Rattle.canon.specs.declared.verdict.Verdict.{Verdict}
-use Rattle.canon.specs.declared.verdict.Verdict.TheVariants.{Same, Goods, Or, Xor}
-use Rattle.canon.specs.declared.which.Which.{Which}
-use Rattle.canon.specs.declared.which.Which.TheVariants.{Both}
+use Rattle.canon.proofs.Common.{◌≡◌, ℕ, ◌+◌, ◌⊎◌, Bool, true, eqb, List, [], ◌∷◌, ◌++◌, length, map, take, drop, Option, Some, None, Result, Ok, Err, refl, sym}
+use Rattle.canon.proofs.Common.{ap, ◌∙◌, subst, arith, rules, ◌↔◌, IfOk, IfErr, OnErr, MatchOption, IsErrAnd, prefix_len, option_eq, cond-true}
+use Rattle.canon.proofs.Common.{MatchOption-at_some, MatchOption-at_none, IfOk-weaker, take-append_seam, drop-append_seam, MAX_GOODS, PlainBid, PlainFile}
+use Rattle.canon.proofs.Common.{IsPlainFile, Spells, first_fault, WantsMemory, ReadFault, refusal_of, spells_one, Atom, SearchOptions, IsAuction-auction_from}
+use Rattle.canon.proofs.Common.{PlainAuction, IsAuction, auction_from, NormalisesPlainAs, RefusesText, HasBidders, leading, IsCanonicalFile, bid_from}
+use Rattle.canon.proofs.Common.{canonical_auction, dummy_bids, file_from, ComparesAs, Differ, IsNormalFileOf, ReadsNormalAs, RefusesOf, SpellsWithinLimit}
+use Rattle.canon.proofs.Common.{Difference, NoDifference, first_difference, first_unequal_bundle, least_unequal_bidder, or_difference, xor_difference}
+use Rattle.canon.proofs.Common.{HasOrBids, AreSameFiles, AreSameTexts, NamesGoods, plain_verdict, CanonFault, Memory, Verdict, Same, Goods, Or, Xor, Which}
+use Rattle.canon.proofs.Common.{Both}
 use Rattle.canon.proofs.TwoFiles.Answering.{refused_file, refused_text, unread_text}
 use Rattle.canon.proofs.TwoFiles.Differences.{at_same_goods, same_from_no_difference, no_difference_from_same}
 use Rattle.canon.proofs.CanonicalFiles.Files.{auction_from-file_from}

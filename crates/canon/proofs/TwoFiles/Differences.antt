@@ -1,33 +1,16 @@
 -- Laws of the first difference. Exchanging the auctions exchanges its sides; there is none exactly between auctions that are the same;
 -- and where it is a bundle or a bidder, it is a point of one of them, or counted unequally by tables: each case by case over its parts.
-use Rattle.std.proofs.Common.{◌≡◌, ℕ, ◌<◌, true, eqb, cond, ⊎_elim, List, refl, sym, ap, ap₂, ◌∙◌, subst, arith, Option, Some, None, rules}
-use Rattle.std.specs.Prelude.{All, ◌↔◌}
-use Rattle.std.specs.List.{find, count_by}
-use Rattle.std.specs.Ordering.{is_eq}
-use Rattle.std.proofs.lemmas.Bool.{eqb-true, eq-eqb, ne_eqb, eqb-false, not_from_true, cond-true, cond-false}
-use Rattle.goods_set.specs.Bundles.{all_bundles}
-use Rattle.valuation.specs.declared.atom.Atom.{Atom}
-use Rattle.valuation.specs.Auctions.{PlainAuction, IsAtom}
-use Rattle.valuation.specs.Orders.{bidder_cmp}
-use Rattle.valuation.specs.Lemmas.Orders.{bidder_cmp_total, bidder_cmp_equal}
-use Rattle.valuation.specs.Sorting.{sort_by, count_of}
-use Rattle.valuation.specs.Lemmas.Sorting.{ordered-sort_by, ordered_from_counts, sum_by-sort_by}
-use Rattle.valuation.specs.Tables.{or_table, xor_table}
-use Rattle.valuation.specs.Values.{or_value}
-use Rattle.prune.specs.Lemmas.Lists.{find_none, found_none, map_same_on, map_same_at, All-from_Contains, zero_or_more}
-use Rattle.prune.specs.Points.{is_or_point, or_points}
-use Rattle.prune.specs.Lemmas.Tables.{same_or_points}
-use Rattle.prune.specs.Lemmas.KeptBids.{on_bundles}
-use Rattle.canon.specs.Sameness.{IsSameAuction, has_table, bidders_with}
-use Rattle.canon.specs.Canonical.{canonical_auction, points_of_bidders}
-use Rattle.canon.specs.Difference.{NoDifference, InGoods, first_difference, first_unequal_bundle, least_unequal_bidder, or_difference, xor_difference}
-use Rattle.canon.specs.Difference.{copies_of, exchanged}
+use Rattle.canon.proofs.Common.{◌≡◌, ℕ, ◌<◌, true, eqb, cond, ⊎_elim, List, refl, sym, ap, ap₂, ◌∙◌, subst, arith, Option, Some, None, rules, All, ◌↔◌, find}
+use Rattle.canon.proofs.Common.{count_by, is_eq, eqb-true, eq-eqb, ne_eqb, eqb-false, not_from_true, cond-true, cond-false, all_bundles, Atom, PlainAuction}
+use Rattle.canon.proofs.Common.{IsAtom, bidder_cmp, bidder_cmp_total, bidder_cmp_equal, sort_by, count_of, ordered-sort_by, ordered_from_counts, sum_by-sort_by}
+use Rattle.canon.proofs.Common.{or_table, xor_table, or_value, find_none, found_none, map_same_on, map_same_at, All-from_Contains, zero_or_more, is_or_point}
+use Rattle.canon.proofs.Common.{or_points, same_or_points, on_bundles, IsSameAuction, has_table, bidders_with, canonical_auction, points_of_bidders}
+use Rattle.canon.proofs.Common.{NoDifference, InGoods, first_difference, first_unequal_bundle, least_unequal_bidder, or_difference, xor_difference, copies_of}
+use Rattle.canon.proofs.Common.{exchanged, are_unequal, equal_from_test, unequal_swap, IsFirstUnequal, first_unequal, greater_is_point, least_uneven}
+use Rattle.canon.proofs.Common.{least_uneven_swap, all_even, none_of_same, IsLeastUneven, least_uneven_is, common_steps}
 use Rattle.canon.proofs.CanonicalAuctions.Atoms.{HasAtoms, xor_points_table}
 use Rattle.canon.proofs.CanonicalAuctions.Counting.{IsPointsOf, occurring, points_as_tables}
 use Rattle.canon.proofs.CanonicalAuctions.Sames.{same_canonical, same_from_canonical}
-use Rattle.canon.specs.Lemmas.OrDifferences.{are_unequal, equal_from_test, unequal_swap, IsFirstUnequal, first_unequal, greater_is_point}
-use Rattle.canon.specs.Lemmas.BidderDifferences.{least_uneven, least_uneven_swap, all_even, none_of_same, IsLeastUneven, least_uneven_is}
-use Rattle.std.proofs.lemmas.Grind.{common_steps}
 
 -- ---- exchanging
 

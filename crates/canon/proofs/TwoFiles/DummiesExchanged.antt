@@ -1,31 +1,14 @@
 -- A file with its dummy goods exchanged. Its bidders are those of the file in another order, so as many of them have each table of values.
-use Rattle.std.proofs.Common.{◌≡◌, ◌≢◌, ◌⊎◌, inl, inr, ℕ, ◌<◌, Bool, cond, eqb, is_none, List, length, get_or, map, Option, Some, None, refl, sym, ap, ◌∙◌}
-use Rattle.std.proofs.Common.{subst, arith, rules}
-use Rattle.std.specs.Prelude.{All, AllPairs, IsPermutation}
+use Rattle.canon.proofs.Common.{◌≡◌, ◌≢◌, ◌⊎◌, inl, inr, ℕ, ◌<◌, Bool, cond, eqb, is_none, List, length, get_or, map, Option, Some, None, refl, sym, ap, ◌∙◌}
+use Rattle.canon.proofs.Common.{subst, arith, rules, All, AllPairs, IsPermutation, filter, range_with_len, eq-eqb, eqb-true, Decides-eqb, ext_get_or}
+use Rattle.canon.proofs.Common.{get_or-map, length-map, All-from_recursion, length-range_with_len, get_or-range_with_len, All-permutation, IsPermutation-map}
+use Rattle.canon.proofs.Common.{IsPermutation-sym, length_permutation, sum_by-IsPermutation, IsDistinct-IsPermutation, AllPairs-from_IsDistinct}
+use Rattle.canon.proofs.Common.{IsDistinct-from_AllPairs, map-map, IsDummyBelow, IsPlainFile, PlainBid, PlainFile, Atom, IsAtom, atom_of, auction_from}
+use Rattle.canon.proofs.Common.{is_dummy, or_atoms_of, xor_atoms_of, All-from_Contains, filter_same_on, map-filter, map_same_on, in_range, xor_points}
+use Rattle.canon.proofs.Common.{range_differs, named_bid, named_dummy, with_dummies, has_table, AreAlike, eqb_swap}
 use Rattle.std.specs.Cmp.{both_ways}
-use Rattle.std.specs.List.{filter, range_with_len}
-use Rattle.std.proofs.lemmas.Bool.{eq-eqb, eqb-true}
-use Rattle.std.proofs.lemmas.Bool.Decides.{Decides-eqb}
-use Rattle.std.proofs.lemmas.List.{ext_get_or, get_or-map, length-map}
-use Rattle.std.proofs.lemmas.List.Elements.{All-from_recursion}
-use Rattle.std.proofs.lemmas.List.FromFn.{length-range_with_len, get_or-range_with_len}
-use Rattle.std.proofs.lemmas.List.Sorted.{All-permutation, IsPermutation-map, IsPermutation-sym, length_permutation, sum_by-IsPermutation}
-use Rattle.std.proofs.lemmas.Map.Keys.{IsDistinct-IsPermutation}
-use Rattle.std.proofs.lemmas.Map.Made.{AllPairs-from_IsDistinct, IsDistinct-from_AllPairs}
-use Rattle.std.proofs.lemmas.Simd.{map-map}
-use Rattle.bid_file.specs.Files.{IsDummyBelow, IsPlainFile, PlainBid, PlainFile}
-use Rattle.valuation.specs.declared.atom.Atom.{Atom}
-use Rattle.valuation.specs.Auctions.{IsAtom, atom_of, auction_from, is_dummy, or_atoms_of, xor_atoms_of}
-use Rattle.prune.specs.Lemmas.Lists.{All-from_Contains, filter_same_on, map-filter, map_same_on}
-use Rattle.prune.specs.Lemmas.Ranges.{in_range}
-use Rattle.prune.specs.Points.{xor_points}
-use Rattle.canon.specs.Lemmas.Renaming.{range_differs}
-use Rattle.canon.specs.Renaming.{named_bid, named_dummy, with_dummies}
-use Rattle.canon.specs.Sameness.{has_table}
-use Rattle.canon.specs.Unsearched.{AreAlike}
 use Rattle.canon.proofs.CanonicalAuctions.Sames.{same_bidders}
 use Rattle.canon.proofs.CanonicalFiles.Texts.{HasAtoms-file}
-use Rattle.canon.specs.Lemmas.OrDifferences.{eqb_swap}
 
 -- the bids that pass a test after the exchange offer what those offer that pass another one before it
 offers_named : (dummies : List ℕ) (p q : PlainBid → Bool) (bids : List PlainBid) → All (λ b. p (named_bid dummies b) ≡ q b) bids

@@ -1,31 +1,16 @@
 -- One more file in an index. Files have one text exactly where they are related, as those of one auction are, so the first file with a
 -- text, which is the one that the map has for it, is the first of those.
-use Rattle.std.proofs.Common.{◌≡◌, ◌⊎◌, ℕ, zero, suc, ◌+◌, ◌<◌, Bool, true, false, cond, unwrap_or, bytes_eq, List, [], ◌∷◌, ◌++◌, length, get_or, map, All, ap}
-use Rattle.std.proofs.Common.{Option, Some, None, slice_get, refl, sym, ◌∙◌, subst, inl, inr, ⊎_elim, arith, length-append, Global, rules}
-use Rattle.std.specs.Prelude.{◌↔◌, Vec, Result, Ok, Err, IfOk, IfErr, OnOk, OnErr, IsErrAnd}
-use Rattle.std.specs.Io.KnownBytes.{Consumes}
-use Rattle.std.specs.Cmp.Lexicographic.{bytes_decides}
-use Rattle.std.specs.Map.{lookup}
-use Rattle.std.proofs.lemmas.Bool.{cases_Bool, cond-true, cond-false}
-use Rattle.std.proofs.lemmas.Cmp.{nat_list_eq_equiv}
-use Rattle.std.proofs.lemmas.List.Quantifiers.{position-Some}
-use Rattle.std.proofs.lemmas.Map.Text.{is_eq-slice_cmp}
-use Rattle.std.proofs.lemmas.Option.{none-some, same_Some, slice_get_within, slice_get-get_or, get_or_from_slice_get}
-use Rattle.bid_file.specs.Files.{PlainFile, IsPlainFile}
-use Rattle.cats_text.specs.Streams.{inner_of, ReadsFile, ReadsAs}
-use Rattle.valuation.specs.declared.search.options.SearchOptions.{SearchOptions}
-use Rattle.cats_text.specs.declared.stream.Watched.{Watched}
-use Rattle.canon.specs.Answers.{RefusesAs}
-use Rattle.canon.specs.Canonical.{canonical_text}
-use Rattle.canon.specs.FirstNumbers.{AddsStream, AddsText, IsEmptyIndex, IsFirstNumber, IsFirstText, IsIndexOf, LacksText, NumbersText, TextIndex, first_number}
-use Rattle.canon.specs.FirstNumbers.{text_number}
-use Rattle.canon.specs.Normalising.{IsText, normalised_file}
-use Rattle.canon.specs.Sameness.{AreSameFiles}
-use Rattle.canon.specs.declared.canon_fault.CanonFault.{CanonFault}
+use Rattle.canon.proofs.Common.{◌≡◌, ◌⊎◌, ℕ, zero, suc, ◌+◌, ◌<◌, Bool, true, false, cond, unwrap_or, bytes_eq, List, [], ◌∷◌, ◌++◌, length, get_or, map, ap}
+use Rattle.canon.proofs.Common.{Option, Some, None, refl, sym, ◌∙◌, subst, inl, inr, ⊎_elim, arith, Global, rules, ◌↔◌, Vec, IfOk, IfErr, OnOk, OnErr, IsErrAnd}
+use Rattle.canon.proofs.Common.{Consumes, bytes_decides, lookup, cases_Bool, cond-true, cond-false, nat_list_eq_equiv, position-Some, is_eq-slice_cmp}
+use Rattle.canon.proofs.Common.{none-some, same_Some, slice_get_within, slice_get-get_or, get_or_from_slice_get, PlainFile, IsPlainFile, inner_of, ReadsFile}
+use Rattle.canon.proofs.Common.{ReadsAs, SearchOptions, Watched, RefusesAs, canonical_text, AddsStream, AddsText, IsEmptyIndex, IsFirstNumber, IsFirstText}
+use Rattle.canon.proofs.Common.{IsIndexOf, LacksText, NumbersText, TextIndex, first_number, text_number, IsText, normalised_file, AreSameFiles, CanonFault}
+use Rattle.canon.proofs.Common.{ReadFault, refusal_of, same_order}
+use Rattle.std.proofs.Common.{All}
+use Rattle.std.proofs.Common.{slice_get, length-append}
+use Rattle.std.specs.Prelude.{Result, Ok, Err}
 use Rattle.canon.proofs.CanonicalFiles.Texts.{same_text, same_from_text}
-use Rattle.cats_text.specs.declared.read_fault.ReadFault.{ReadFault}
-use Rattle.canon.specs.Refusals.{refusal_of}
-use Rattle.canon.specs.Lemmas.TextMaps.{same_order}
 
 -- ---- a list with one more element
 

@@ -1,36 +1,14 @@
 -- The first difference depends on the values of the auctions alone, so it is the same of canonical files.
-use Rattle.std.proofs.Common.{◌≡◌, ℕ, Bool, true, not, eqb, cond, List, refl, sym, ap, ap₂, ◌∙◌, subst, Option, Some, None, arith, rules}
-use Rattle.std.specs.Prelude.{Contains}
-use Rattle.std.specs.List.{find}
-use Rattle.std.proofs.lemmas.Bool.{eqb-true, eqb-false}
-use Rattle.goods_set.specs.Bundles.{IsBundle, all_bundles}
-use Rattle.goods_set.specs.Lemmas.AllBundles.{all_bundles_has}
-use Rattle.bid_file.specs.Files.{PlainFile, IsPlainFile}
-use Rattle.valuation.specs.declared.atom.Atom.{Atom}
-use Rattle.valuation.specs.Auctions.{PlainAuction, auction_from}
-use Rattle.valuation.specs.Orders.{bidder_cmp}
-use Rattle.valuation.specs.Lemmas.Orders.{bidder_cmp_total, bidder_cmp_equal}
-use Rattle.valuation.specs.Sorting.{count_of}
-use Rattle.valuation.specs.Tables.{or_table}
-use Rattle.valuation.specs.Values.{or_value}
-use Rattle.prune.specs.Lemmas.Lists.{filter_same_on, find_alike, All-from_Contains, map_same_at}
-use Rattle.prune.specs.Lemmas.Points.{IsOrPoint-from_test, is_or_point-true, or_points_are}
-use Rattle.prune.specs.Points.{is_or_point, or_points}
-use Rattle.prune.specs.Lemmas.Tables.{same_or_points}
-use Rattle.prune.specs.Lemmas.KeptBids.{on_bundles}
-use Rattle.canon.specs.Canonical.{canonical_auction}
-use Rattle.canon.specs.Difference.{Difference, NoDifference, InOr, InXor, first_difference, first_unequal_bundle, least_unequal_bidder, or_difference}
-use Rattle.canon.specs.Difference.{xor_difference}
-use Rattle.canon.specs.Sameness.{IsSameAuction, AreSameFiles}
-use Rattle.canon.specs.declared.verdict.Side.{Side}
-use Rattle.canon.specs.declared.verdict.Side.TheVariants.{Exactly, Below}
+use Rattle.canon.proofs.Common.{◌≡◌, ℕ, Bool, true, not, eqb, cond, List, refl, sym, ap, ap₂, ◌∙◌, subst, Option, Some, None, arith, rules, Contains, find}
+use Rattle.canon.proofs.Common.{eqb-true, eqb-false, IsBundle, all_bundles, all_bundles_has, PlainFile, IsPlainFile, Atom, PlainAuction, auction_from}
+use Rattle.canon.proofs.Common.{bidder_cmp, bidder_cmp_total, bidder_cmp_equal, count_of, or_table, or_value, filter_same_on, find_alike, All-from_Contains}
+use Rattle.canon.proofs.Common.{map_same_at, IsOrPoint-from_test, is_or_point-true, or_points_are, is_or_point, or_points, same_or_points, on_bundles}
+use Rattle.canon.proofs.Common.{canonical_auction, Difference, NoDifference, InOr, InXor, first_difference, first_unequal_bundle, least_unequal_bidder}
+use Rattle.canon.proofs.Common.{or_difference, xor_difference, IsSameAuction, AreSameFiles, Side, Exactly, Below, least_uneven, are_unequal, common_steps}
 use Rattle.canon.proofs.CanonicalAuctions.Atoms.{HasAtoms}
-use Rattle.canon.specs.Lemmas.BidderDifferences.{least_uneven}
 use Rattle.canon.proofs.TwoFiles.Differences.{at_same_goods, at_other_goods, unequal_bundle_is}
-use Rattle.canon.specs.Lemmas.OrDifferences.{are_unequal}
 use Rattle.canon.proofs.CanonicalAuctions.Sames.{same_canonical}
 use Rattle.canon.proofs.CanonicalFiles.Texts.{HasAtoms-file}
-use Rattle.std.proofs.lemmas.Grind.{common_steps}
 
 -- ---- the XOR bidders
 

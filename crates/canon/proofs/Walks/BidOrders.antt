@@ -1,19 +1,9 @@
 -- Bidders whose bids are compared one by one, and bids that are named one by one: each step takes the bids at one index, by which the
 -- order of what is behind it is known.
-use Rattle.std.proofs.Common.{◌≡◌, ℕ, ◌+◌, List, [], ◌∷◌, ◌++◌, length, take, drop, Some, sym, ap, ap₂, ◌∙◌, Global}
-use Rattle.std.specs.Prelude.{Vec}
-use Rattle.std.specs.List.{slice_get}
-use Rattle.std.specs.Ordering.{ordering_then}
-use Rattle.std.proofs.lemmas.List.{drop-map, take_more, length-map, map_push}
-use Rattle.std.proofs.lemmas.Option.{get_or_from_slice_get, slice_get_within}
-use Rattle.bid_file.specs.Files.{PlainBid}
-use Rattle.valuation.specs.declared.atom.Atom.{Atom}
-use Rattle.valuation.specs.Auctions.{atom_of}
-use Rattle.valuation.specs.Orders.{atom_cmp, bidder_cmp}
-use Rattle.canon.specs.Bidders.{offers}
-use Rattle.canon.specs.Verdicts.{printed_atoms}
+use Rattle.canon.proofs.Common.{◌≡◌, ℕ, ◌+◌, List, [], ◌∷◌, ◌++◌, length, take, drop, Some, sym, ap, ap₂, ◌∙◌, Global, Vec, slice_get, ordering_then, drop-map}
+use Rattle.canon.proofs.Common.{take_more, length-map, map_push, get_or_from_slice_get, slice_get_within, PlainBid, Atom, atom_of, atom_cmp, bidder_cmp, offers}
+use Rattle.canon.proofs.Common.{printed_atoms, rules}
 use Rattle.canon.proofs.Walks.BidRuns.{drop_at}
-use Rattle.std.proofs.Common.{rules}
 
 pub length-offers : (bids : List PlainBid) → length (offers bids) ≡ length bids
 length-offers bids = length-map bids atom_of

@@ -1,13 +1,7 @@
 -- Bids that lie side by side in a list, and how many of the first ones have one dummy good.
-use Rattle.std.proofs.Common.{◌≡◌, ℕ, zero, suc, ◌+◌, ◌-◌, ◌<◌, ◌≤◌, true, false, eqb, cond, List, [], ◌∷◌, length, take, drop, Option, Some, refl, sym, ap}
-use Rattle.std.proofs.Common.{◌∙◌}
-use Rattle.std.proofs.Common.{arith}
-use Rattle.std.specs.List.{slice_get, slice_range}
-use Rattle.std.specs.Option.{option_eq}
-use Rattle.std.proofs.lemmas.List.{length-take, drop-drop, drop_more, drop-take}
-use Rattle.std.proofs.lemmas.Option.{get_or_from_slice_get, slice_get_within}
-use Rattle.bid_file.specs.Files.{PlainBid}
-use Rattle.canon.specs.Internal.BidderBids.{leading}
+use Rattle.canon.proofs.Common.{◌≡◌, ℕ, zero, suc, ◌+◌, ◌-◌, ◌<◌, ◌≤◌, true, false, eqb, cond, List, [], ◌∷◌, length, take, drop, Option, Some, refl, sym, ap}
+use Rattle.canon.proofs.Common.{◌∙◌, arith, slice_get, slice_range, option_eq, length-take, drop-drop, drop_more, drop-take, get_or_from_slice_get}
+use Rattle.canon.proofs.Common.{slice_get_within, PlainBid, leading}
 
 get-drop : {X : Type 0} (n i : ℕ) (xs : List X) → slice_get (drop n xs) i ≡ slice_get xs (n + i)
 get-drop zero i xs = let same : i ≡ 0 + i = omega arith in ap (slice_get xs) same

@@ -1,34 +1,15 @@
 -- Walks over the bids of bidders. The bids of the first bidder are the leading ones with its dummy good, and those of the others
 -- come after them. If two lists of bidders that never fall are the same up to some bidder, the lesser of the next two is the least
 -- bidder that the lists do not have equally often.
-use Rattle.std.proofs.Common.{◌≡◌, ℕ, ◌+◌, ◌<◌, ◌≤◌, true, false, eqb, cond, ⊎_elim, List, [], ◌∷◌, ◌++◌, length, map, take, drop, refl, sym, ap, ap₂, ◌∙◌, ◌⊎◌}
-use Rattle.std.proofs.Common.{subst, arith, append_assoc, Option, Some, None, Less, Equal, Greater, rules}
-use Rattle.std.specs.Prelude.{All, MatchOption}
-use Rattle.std.specs.List.{AllByRecursion, slice_get}
-use Rattle.std.specs.Option.{option_eq, option_or}
-use Rattle.std.specs.Ordering.{is_eq, ordering_reverse}
-use Rattle.std.proofs.lemmas.Bool.{cases_Bool, both_ways, eq-eqb, ne_eqb}
-use Rattle.std.proofs.lemmas.List.{length-map, length-take-le, take-append-le, take_all, drop-append-le, drop_all}
-use Rattle.std.proofs.lemmas.List.Elements.{All-nil, All-cons, All-head, All-tail, recursion_from_All}
-use Rattle.std.proofs.lemmas.List.Sums.{sum_by-cons, prefix_len-le-length}
-use Rattle.bid_file.specs.Files.{PlainBid}
-use Rattle.valuation.specs.declared.atom.Atom.{Atom}
-use Rattle.valuation.specs.Auctions.{PlainAuction, IsAtom, atom_of}
-use Rattle.valuation.specs.Orders.{bidder_cmp}
-use Rattle.valuation.specs.Lemmas.Orders.{bidder_cmp_total, bidder_cmp_equal}
-use Rattle.valuation.specs.Lemmas.Sorting.{IsOrdered, ordered-sort_by, All-sort_by}
-use Rattle.valuation.specs.Sorting.{count_of}
-use Rattle.valuation.specs.Tables.{xor_table, is_nonzero}
-use Rattle.prune.specs.Points.{xor_points}
-use Rattle.prune.specs.Lemmas.Tables.{no_xor_points}
-use Rattle.prune.specs.Lemmas.KeptBids.{on_bundles}
-use Rattle.canon.specs.Bidders.{offers}
-use Rattle.canon.specs.Internal.BidderBids.{leading, AreBidsOf, HasBidders, IsFirstBidder}
-use Rattle.canon.specs.Canonical.{bid_from, dummy_bids, canonical_auction, points_of_bidders}
-use Rattle.canon.specs.Difference.{InXor, least_unequal_bidder, xor_difference}
-use Rattle.canon.specs.Lemmas.BidderDifferences.{least_uneven, least_uneven_swap, none_of_same, behind, parts_at_left}
+use Rattle.canon.proofs.Common.{◌≡◌, ℕ, ◌+◌, ◌<◌, ◌≤◌, true, false, eqb, cond, ⊎_elim, List, [], ◌∷◌, ◌++◌, length, map, take, drop, refl, sym, ap, ap₂, ◌∙◌}
+use Rattle.canon.proofs.Common.{◌⊎◌, subst, arith, append_assoc, Option, Some, None, Less, Equal, Greater, rules, All, MatchOption, AllByRecursion, slice_get}
+use Rattle.canon.proofs.Common.{option_eq, option_or, is_eq, ordering_reverse, cases_Bool, both_ways, eq-eqb, ne_eqb, length-map, length-take-le}
+use Rattle.canon.proofs.Common.{take-append-le, take_all, drop-append-le, drop_all, All-nil, All-cons, All-head, All-tail, recursion_from_All, sum_by-cons}
+use Rattle.canon.proofs.Common.{prefix_len-le-length, PlainBid, Atom, PlainAuction, IsAtom, atom_of, bidder_cmp, bidder_cmp_total, bidder_cmp_equal, IsOrdered}
+use Rattle.canon.proofs.Common.{ordered-sort_by, All-sort_by, count_of, xor_table, is_nonzero, xor_points, no_xor_points, on_bundles, offers, leading}
+use Rattle.canon.proofs.Common.{AreBidsOf, HasBidders, IsFirstBidder, bid_from, dummy_bids, canonical_auction, points_of_bidders, InXor, least_unequal_bidder}
+use Rattle.canon.proofs.Common.{xor_difference, least_uneven, least_uneven_swap, none_of_same, behind, parts_at_left, common_steps}
 use Rattle.canon.proofs.CanonicalAuctions.Counting.{points_more, points_without}
-use Rattle.std.proofs.lemmas.Grind.{common_steps}
 
 -- ---- the first bidder
 

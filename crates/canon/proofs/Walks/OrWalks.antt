@@ -1,23 +1,9 @@
 -- The first change of the OR bids of two canonical files is the first difference of their OR values.
-use Rattle.std.proofs.Common.{rules, ◌≡◌, ℕ, List, [], ◌∷◌, map, refl, sym, ap, ap₂, ◌∙◌, subst, None}
-use Rattle.std.specs.Prelude.{OnErr, Result, Ok, Err}
-use Rattle.std.proofs.lemmas.List.Elements.{All-head}
-use Rattle.goods_set.specs.Bundles.{all_bundles}
-use Rattle.bid_file.specs.Files.{PlainBid}
-use Rattle.valuation.specs.declared.atom.Atom.{Atom}
-use Rattle.valuation.specs.Auctions.{PlainAuction, atom_of}
-use Rattle.valuation.specs.Values.{or_value}
-use Rattle.prune.specs.Lemmas.KeptBids.{on_bundles}
-use Rattle.prune.specs.Lemmas.Lists.{find_none}
-use Rattle.canon.specs.Bidders.{offers}
-use Rattle.canon.specs.Canonical.{bid_from}
-use Rattle.canon.specs.Difference.{InOr, first_unequal_bundle, or_difference}
-use Rattle.canon.specs.Internal.OrBids.{HasOrBids}
-use Rattle.canon.specs.Internal.PriceWalks.{changes_of, side_at}
-use Rattle.canon.specs.Lemmas.FirstChanges.{first_change_found, or_side, same_bids, side_of_change}
-use Rattle.canon.specs.Lemmas.OrDifferences.{ArePoints, are_unequal, equal_test, in_order}
-use Rattle.canon.specs.PriceChanges.{PlainChange, IsPriceChange, ArePriceChanges}
-use Rattle.canon.specs.declared.verdict.Side.{Side}
+use Rattle.canon.proofs.Common.{rules, ◌≡◌, ℕ, List, [], ◌∷◌, map, refl, sym, ap, ap₂, ◌∙◌, subst, None, OnErr, All-head, all_bundles, PlainBid, Atom}
+use Rattle.canon.proofs.Common.{PlainAuction, atom_of, or_value, on_bundles, find_none, offers, bid_from, InOr, first_unequal_bundle, or_difference, HasOrBids}
+use Rattle.canon.proofs.Common.{changes_of, side_at, first_change_found, or_side, same_bids, side_of_change, ArePoints, are_unequal, equal_test, in_order}
+use Rattle.canon.proofs.Common.{PlainChange, IsPriceChange, ArePriceChanges, Side}
+use Rattle.std.specs.Prelude.{Result, Ok, Err}
 use Rattle.canon.proofs.Walks.PriceWalks.{are_all}
 
 -- a fact that holds in any case

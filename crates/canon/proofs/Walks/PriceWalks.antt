@@ -1,16 +1,9 @@
 -- The walk of two lists of bids in order gives all changes: the lesser of the two first bundles comes before all others.
-use Rattle.std.proofs.Common.{rules, ◌≡◌, ℕ, true, false, eqb, ⊎_elim, Some, List, [], ◌∷◌, refl, sym, ap, ◌∙◌, subst, Ordering, Less, Equal, Greater}
-use Rattle.std.specs.Ordering.{match_ordering, ordering_reverse}
-use Rattle.std.proofs.lemmas.Bool.{cases_Bool, eqb-true, eqb-false, cond-true, cond-false}
-use Rattle.std.proofs.lemmas.List.Elements.{All-nil, All-cons, All-weaker}
-use Rattle.goods_set.specs.Orders.{bundle_cmp}
-use Rattle.goods_set.specs.Lemmas.Orders.{bundle_cmp_total, bundle_cmp_equal}
-use Rattle.valuation.specs.declared.atom.Atom.{Atom}
-use Rattle.valuation.specs.Lemmas.Lists.{AllPairs-nil, AllPairs-head, AllPairs-tail}
-use Rattle.prune.specs.InOrder.{IsBefore, IsInOrder}
-use Rattle.canon.specs.Internal.PriceWalks.{changes_of, if_differs, on_both, only_left, only_right}
-use Rattle.canon.specs.Lemmas.PriceChanges.{AreLater, IsBehind, price_here, price_behind, no_price, past_change, past_same}
-use Rattle.canon.specs.PriceChanges.{PlainChange, price_on, IsPriceChange, ArePriceChanges}
+use Rattle.canon.proofs.Common.{rules, ◌≡◌, ℕ, true, false, eqb, ⊎_elim, Some, List, [], ◌∷◌, refl, sym, ap, ◌∙◌, subst, Ordering, Less, Equal, Greater}
+use Rattle.canon.proofs.Common.{match_ordering, ordering_reverse, cases_Bool, eqb-true, eqb-false, cond-true, cond-false, All-nil, All-cons, All-weaker}
+use Rattle.canon.proofs.Common.{bundle_cmp, bundle_cmp_total, bundle_cmp_equal, Atom, AllPairs-nil, AllPairs-head, AllPairs-tail, IsBefore, IsInOrder}
+use Rattle.canon.proofs.Common.{changes_of, if_differs, on_both, only_left, only_right, AreLater, IsBehind, price_here, price_behind, no_price, past_change}
+use Rattle.canon.proofs.Common.{past_same, PlainChange, price_on, IsPriceChange, ArePriceChanges}
 
 -- ---- past a bundle
 

@@ -1,10 +1,6 @@
 -- The bids of XOR bidders, split bidder by bidder: those that are split, with the bidders of the rest behind them, are all bidders.
-use Rattle.std.proofs.Common.{◌≡◌, ℕ, ◌+◌, List, [], ◌∷◌, ◌++◌, length, map, drop, append_assoc, rules}
-use Rattle.std.proofs.lemmas.List.{append-nil, map-append}
-use Rattle.bid_file.specs.Files.{PlainBid}
-use Rattle.valuation.specs.declared.atom.Atom.{Atom}
-use Rattle.canon.specs.Bidders.{offers}
-use Rattle.canon.specs.Internal.BidderBids.{AreBidsOf, IsFirstBidder}
+use Rattle.canon.proofs.Common.{◌≡◌, ℕ, ◌+◌, List, [], ◌∷◌, ◌++◌, length, map, drop, append_assoc, rules, append-nil, map-append, PlainBid, Atom, offers}
+use Rattle.canon.proofs.Common.{AreBidsOf, IsFirstBidder}
 use Rattle.canon.proofs.Walks.BidderWalks.{next_bidder, no_bidder}
 
 pub record AreSplit (bidders : List (List (Atom (List ℕ)))) (split : List (List PlainBid)) (bids : List PlainBid) : Type 0 where

@@ -1,8 +1,5 @@
 -- `number_text`
-use Rattle.std.proofs.Common.{rules, ◌≡◌, ℕ, List, cond, bytes_eq, Some, subst}
-use Rattle.canon.specs.Internal.TextNumbers.{number_of}
-use Rattle.canon.specs.Lemmas.TextMaps.{updated}
-use Rattle.std.specs.Prelude.{Vec}
+use Rattle.canon.proofs.Common.{rules, ◌≡◌, ℕ, List, cond, bytes_eq, Some, subst, number_of, updated, Vec}
 use Rattle.std.specs.Global.{Global}
 use Rattle.canon.proofs.auction_index.number_text.Goals as goal
 

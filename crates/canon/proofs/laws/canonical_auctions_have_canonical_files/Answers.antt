@@ -1,6 +1,5 @@
 -- `canonical_auctions_have_canonical_files`
-use Rattle.std.proofs.Common.{refl}
-use Rattle.canon.specs.Canonical.{file_from}
+use Rattle.canon.proofs.Common.{refl, file_from}
 use Rattle.canon.proofs.TwoFiles.Answering.{canonical_file_is, canonical_auction_is}
 use Rattle.canon.proofs.laws.canonical_auctions_have_canonical_files.Goals as goal
 

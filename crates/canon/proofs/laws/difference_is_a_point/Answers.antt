@@ -1,5 +1,5 @@
 -- `difference_is_a_point`
-use Rattle.std.proofs.Common.{sym, ◌∙◌}
+use Rattle.canon.proofs.Common.{sym, ◌∙◌}
 use Rattle.canon.proofs.TwoFiles.Differences.{unequal_bundle_is, unequal_bundle_swap, greater_has_point}
 use Rattle.canon.proofs.CanonicalAuctions.Sames.{HasAtoms-auction}
 use Rattle.canon.proofs.laws.difference_is_a_point.Goals as goal

@@ -1,6 +1,5 @@
 -- `files_with_the_same_bids_are_alike`
-use Rattle.std.proofs.Common.{rules}
-use Rattle.std.proofs.lemmas.List.Sorted.{Contains-permutation, IsPermutation-sym}
+use Rattle.canon.proofs.Common.{rules, Contains-permutation, IsPermutation-sym}
 use Rattle.canon.proofs.TwoFiles.Alike.{alike_by_bids}
 use Rattle.canon.proofs.laws.files_with_the_same_bids_are_alike.Goals as goal
 

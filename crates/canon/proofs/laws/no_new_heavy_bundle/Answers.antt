@@ -1,8 +1,5 @@
 -- `no_new_heavy_bundle`
-use Rattle.std.proofs.Common.{rules}
-use Rattle.prune.specs.Lemmas.SearchSteps.{no_new_heavy, search_steps-point}
-use Rattle.prune.specs.Lemmas.Refusals.{no_heavy_point, no_refused_point}
-use Rattle.prune.specs.Lemmas.KeptBids.{on_bundles}
+use Rattle.canon.proofs.Common.{rules, no_new_heavy, search_steps-point, no_heavy_point, no_refused_point, on_bundles}
 use Rattle.canon.proofs.laws.no_new_heavy_bundle.Goals as goal
 
 pub returns : goal.returns

@@ -1,5 +1,5 @@
 -- `same_auctions_have_one_difference`
-use Rattle.std.proofs.Common.{rules}
+use Rattle.canon.proofs.Common.{rules}
 use Rattle.canon.proofs.CanonicalAuctions.Sames.{HasAtoms-auction}
 use Rattle.canon.proofs.TwoFiles.SameDifferences.{difference_same, difference_of_same_files}
 use Rattle.canon.proofs.laws.same_auctions_have_one_difference.Goals as goal

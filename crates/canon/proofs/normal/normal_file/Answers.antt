@@ -1,11 +1,5 @@
 -- `normal_file`
-use Rattle.std.proofs.Common.{subst, sym}
-use Rattle.bid_file.specs.Files.{PlainFile}
-use Rattle.bid_file.specs.Views.{plain_file}
-use Rattle.valuation.specs.Auctions.{auction_from}
-use Rattle.canon.specs.Answers.{IsNormalFile}
-use Rattle.canon.specs.Least.{IsLeastFor}
-use Rattle.canon.specs.Sameness.{AreSameFiles}
+use Rattle.canon.proofs.Common.{subst, sym, PlainFile, plain_file, auction_from, IsNormalFile, IsLeastFor, AreSameFiles}
 use Rattle.canon.proofs.TwoFiles.Answering.{same_of_normal, least_of_normal}
 use Rattle.canon.proofs.normal.normal_file.Goals as goal
 

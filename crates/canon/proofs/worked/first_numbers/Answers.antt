@@ -1,5 +1,5 @@
 -- `first_numbers`
-use Rattle.std.proofs.Common.{refl}
+use Rattle.canon.proofs.Common.{refl}
 use Rattle.std.specs.Fmt.{digits}
 use Rattle.prune.specs.Points.{points_where, is_xor_point, is_or_point}
 use Rattle.valuation.specs.Values.{xor_value, or_value}

@@ -1,8 +1,6 @@
 -- `AuctionIndex::add`
-use Rattle.std.proofs.Common.{◌≡◌, ◌+◌, arith, subst}
+use Rattle.canon.proofs.Common.{◌≡◌, ◌+◌, arith, subst, canonical_text, AddsText, TextIndex}
 use Rattle.canon.proofs.TwoFiles.Answering.{text_of_normal}
-use Rattle.canon.specs.Canonical.{canonical_text}
-use Rattle.canon.specs.FirstNumbers.{AddsText, TextIndex}
 use Rattle.canon.proofs.TwoFiles.Indexing.{added_text, seen_texts}
 use Rattle.canon.proofs.CanonicalFiles.Texts.{text_of_file}
 use Rattle.canon.proofs.auction_index.AuctionIndex.add.Goals as goal

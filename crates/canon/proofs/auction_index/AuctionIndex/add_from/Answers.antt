@@ -1,5 +1,5 @@
 -- `AuctionIndex::add_from`
-use Rattle.std.proofs.Common.{rules}
+use Rattle.canon.proofs.Common.{rules}
 use Rattle.canon.proofs.TwoFiles.Indexing.{stream_added, stream_unread}
 use Rattle.canon.proofs.auction_index.AuctionIndex.add_from.Goals as goal
 

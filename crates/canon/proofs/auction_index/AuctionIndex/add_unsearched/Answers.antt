@@ -1,8 +1,5 @@
 -- `AuctionIndex::add_unsearched`
-use Rattle.std.proofs.Common.{◌≡◌, ◌+◌, arith, subst, ap, ◌∙◌}
-use Rattle.cats_text.specs.Layout.{layout}
-use Rattle.canon.specs.FirstNumbers.{AddsText, TextIndex}
-use Rattle.canon.specs.Unsearched.{unsearched_text}
+use Rattle.canon.proofs.Common.{◌≡◌, ◌+◌, arith, subst, ap, ◌∙◌, layout, AddsText, TextIndex, unsearched_text}
 use Rattle.canon.proofs.TwoFiles.Indexing.{added_text, seen_texts}
 use Rattle.canon.proofs.auction_index.AuctionIndex.add_unsearched.Goals as goal
 

@@ -1,7 +1,5 @@
 -- `bundle_verdict`
-use Rattle.std.proofs.Common.{sym, subst}
-use Rattle.canon.specs.PriceChanges.{plain_change}
-use Rattle.canon.specs.Verdicts.{NamesGoods}
+use Rattle.canon.proofs.Common.{sym, subst, plain_change, NamesGoods}
 use Rattle.canon.proofs.Walks.OrWalks.{on_err, first_of_auctions, none_of_auctions}
 use Rattle.canon.proofs.comparing.bundles.bundle_verdict.Goals as goal
 

@@ -1,13 +1,6 @@
 -- `compare`
-use Rattle.std.proofs.Common.{◌≡◌, rules, subst}
-use Rattle.std.specs.Prelude.{IfOk, IfErr, OnErr}
-use Rattle.valuation.specs.Auctions.{auction_from}
-use Rattle.valuation.specs.declared.search.options.SearchOptions.{SearchOptions}
-use Rattle.canon.specs.Comparing.{ComparesAs, IsNormalFileOf}
-use Rattle.canon.specs.Difference.{first_difference}
-use Rattle.canon.specs.Verdicts.{NamesGoods, plain_verdict}
-use Rattle.canon.specs.declared.canon_fault.CanonFault.TheVariants.{Memory}
-use Rattle.canon.specs.declared.which.Which.TheVariants.{Both}
+use Rattle.canon.proofs.Common.{◌≡◌, rules, subst, IfOk, IfErr, OnErr, auction_from, SearchOptions, ComparesAs, IsNormalFileOf, first_difference, NamesGoods}
+use Rattle.canon.proofs.Common.{plain_verdict, Memory, Both}
 use Rattle.canon.proofs.TwoFiles.Comparisons.{canonical_of_text, compared_as, normal_of, same_by_texts}
 use Rattle.canon.proofs.comparing.comparison.compare.Goals as goal
 

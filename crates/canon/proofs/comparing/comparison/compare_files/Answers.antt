@@ -1,7 +1,6 @@
 -- `compare_files`: the two parts of each file's bids are those of its auction, so what the walks over them answer is the first difference of the
 -- auctions: a bundle of the OR bidders, or else the least XOR bidder.
-use Rattle.std.proofs.Common.{rules, ◌≡◌, arith}
-use Rattle.valuation.specs.Auctions.{auction_from}
+use Rattle.canon.proofs.Common.{rules, ◌≡◌, arith, auction_from}
 use Rattle.canon.proofs.TwoFiles.Comparisons.{or_found, xor_found, or_named, xor_named, same_by_difference, same_if_ok}
 use Rattle.canon.proofs.Walks.OrWalks.{on_err}
 use Rattle.canon.proofs.comparing.comparison.compare_files.Goals as goal

@@ -1,6 +1,5 @@
 -- `split_bids`
-use Rattle.std.proofs.Common.{rules}
-use Rattle.std.proofs.lemmas.List.Sums.{prefix_len-le-length}
+use Rattle.canon.proofs.Common.{rules, prefix_len-le-length}
 use Rattle.canon.proofs.TwoFiles.Comparisons.{or_bids_of, xor_bids_of}
 use Rattle.canon.proofs.comparing.comparison.split_bids.Goals as goal
 

@@ -1,5 +1,5 @@
 -- `split_bidders`: the next bidder is split as well; where no bid is left, all bidders are.
-use Rattle.std.proofs.Common.{rules}
+use Rattle.canon.proofs.Common.{rules}
 use Rattle.canon.proofs.Walks.SplitBidders.{one_more_split, all_split}
 use Rattle.canon.proofs.comparing.file_bidders.split_bidders.Goals as goal
 

@@ -1,7 +1,5 @@
 -- `split_bidders`
-use Rattle.std.proofs.Common.{ℕ, List, length}
-use Rattle.valuation.specs.declared.atom.Atom.{Atom}
-use Rattle.canon.specs.Internal.BidderBids.{AreBidsOf}
+use Rattle.canon.proofs.Common.{ℕ, List, length, Atom, AreBidsOf}
 use Rattle.canon.proofs.Walks.SplitBidders.{AreSplit}
 use Rattle.canon.proofs.comparing.file_bidders.split_bidders.Given as goal
 

@@ -1,11 +1,6 @@
 -- `price_changes`
-use Rattle.std.proofs.Common.{sym, ap, ap₂, ◌∙◌, subst, map}
-use Rattle.std.proofs.lemmas.Iterator.{items_from_drains}
-use Rattle.std.proofs.lemmas.Iterator.Consumers.{YieldsList-from_first}
-use Rattle.std.proofs.lemmas.Result.{IfOk-weaker}
-use Rattle.canon.specs.Bidders.{offers}
-use Rattle.canon.specs.Internal.PriceWalks.{changes_of}
-use Rattle.canon.specs.PriceChanges.{ArePriceChanges, plain_change}
+use Rattle.canon.proofs.Common.{sym, ap, ap₂, ◌∙◌, subst, map, items_from_drains, YieldsList-from_first, IfOk-weaker, offers, changes_of, ArePriceChanges}
+use Rattle.canon.proofs.Common.{plain_change}
 use Rattle.canon.proofs.Walks.PriceWalks.{are_all}
 use Rattle.canon.proofs.comparing.price_walk.price_changes.Goals as goal
 

@@ -1,8 +1,5 @@
 -- `count_copies`
-use Rattle.std.proofs.Common.{ℕ, ◌+◌, ◌≤◌, List, length}
-use Rattle.valuation.specs.declared.atom.Atom.{Atom}
-use Rattle.canon.specs.Bidders.{offers}
-use Rattle.canon.specs.Internal.BidderBids.{AreBidsOf}
+use Rattle.canon.proofs.Common.{ℕ, ◌+◌, ◌≤◌, List, length, Atom, offers, AreBidsOf}
 use Rattle.canon.proofs.Walks.BidderWalks.{IsCounted}
 use Rattle.canon.proofs.comparing.xor_bidders.count_copies.Given as goal
 

@@ -1,6 +1,5 @@
 -- `first_bidder`
-use Rattle.std.proofs.lemmas.List.Sums.{prefix_len-le-length}
-use Rattle.bid_file.specs.Views.{seen_bid}
+use Rattle.canon.proofs.Common.{prefix_len-le-length, seen_bid}
 use Rattle.canon.proofs.Walks.BidderWalks.{leading_bids}
 use Rattle.canon.proofs.comparing.xor_bidders.first_bidder.Goals as goal
 

@@ -1,10 +1,6 @@
 -- `least_unequal`: the bidders that were walked past are the same on both sides (proofs/BidderWalks), so the first difference is at the two that come
 -- next, of which the lesser is the least uneven one, or at the end of one list.
-use Rattle.std.proofs.Common.{rules, ◌≡◌, ◌⊎◌, inl, inr, List, length, Option, Some, None, sym, subst}
-use Rattle.std.specs.Prelude.{MatchOption}
-use Rattle.bid_file.specs.Files.{PlainBid}
-use Rattle.canon.specs.Bidders.{offers}
-use Rattle.canon.specs.Difference.{least_unequal_bidder}
+use Rattle.canon.proofs.Common.{rules, ◌≡◌, ◌⊎◌, inl, inr, List, length, Option, Some, None, sym, subst, MatchOption, PlainBid, offers, least_unequal_bidder}
 use Rattle.canon.proofs.Walks.BidderWalks.{alike_further, alike_canonical, least_left, least_right, least_at_end}
 use Rattle.canon.proofs.comparing.xor_bidders.least_unequal.Goals as goal
 use Rattle.canon.proofs.comparing.xor_bidders.least_unequal.Goals.{in_default, in_default-2}

@@ -1,7 +1,5 @@
 -- `least_unequal`
-use Rattle.std.proofs.Common.{length}
-use Rattle.valuation.specs.Auctions.{PlainAuction}
-use Rattle.canon.specs.Internal.BidderBids.{HasBidders}
+use Rattle.canon.proofs.Common.{length, PlainAuction, HasBidders}
 use Rattle.canon.proofs.Walks.BidderWalks.{AreAlike}
 use Rattle.canon.proofs.comparing.xor_bidders.least_unequal.Given as goal
 

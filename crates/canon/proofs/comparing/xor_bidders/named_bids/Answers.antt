@@ -1,5 +1,5 @@
 -- `named_bids`
-use Rattle.bid_file.specs.Views.{seen_bid}
+use Rattle.canon.proofs.Common.{seen_bid}
 use Rattle.canon.proofs.Walks.BidOrders.{one_more_named}
 use Rattle.canon.proofs.comparing.xor_bidders.named_bids.Goals as goal
 

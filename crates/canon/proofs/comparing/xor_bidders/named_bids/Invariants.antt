@@ -1,7 +1,5 @@
 -- `named_bids`
-use Rattle.std.proofs.Common.{◌≡◌, take}
-use Rattle.canon.specs.Bidders.{offers}
-use Rattle.canon.specs.Verdicts.{printed_atoms}
+use Rattle.canon.proofs.Common.{◌≡◌, take, offers, printed_atoms}
 use Rattle.canon.proofs.comparing.xor_bidders.named_bids.Given as goal
 
 -- the bids so far are named

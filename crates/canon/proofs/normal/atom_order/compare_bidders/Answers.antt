@@ -1,10 +1,6 @@
 -- `compare_bidders`
-use Rattle.std.proofs.Common.{rules, ◌+◌, drop, sym, ◌∙◌, arith}
-use Rattle.valuation.specs.Values.{atoms_of}
-use Rattle.valuation.specs.Orders.{atom_cmp, bidder_cmp}
-use Rattle.valuation.specs.Lemmas.Atoms.{length-atoms_of}
-use Rattle.valuation.specs.Lemmas.Orders.{then-decided, then-left, slice_cmp-ended}
-use Rattle.valuation.specs.Lemmas.Comparing.{bidder_cmp-drop}
+use Rattle.canon.proofs.Common.{rules, ◌+◌, drop, sym, ◌∙◌, arith, atoms_of, atom_cmp, bidder_cmp, length-atoms_of, then-decided, then-left, slice_cmp-ended}
+use Rattle.canon.proofs.Common.{bidder_cmp-drop}
 use Rattle.canon.proofs.normal.atom_order.compare_bidders.Goals as goal
 
 pub returns-then-is_ne : goal.returns-then-is_ne

@@ -1,7 +1,5 @@
 -- `compare_bidders`
-use Rattle.std.proofs.Common.{◌≡◌, drop}
-use Rattle.valuation.specs.Values.{atoms_of}
-use Rattle.valuation.specs.Orders.{bidder_cmp}
+use Rattle.canon.proofs.Common.{◌≡◌, drop, atoms_of, bidder_cmp}
 use Rattle.canon.proofs.normal.atom_order.compare_bidders.Given as goal
 
 -- the atoms from here on decide

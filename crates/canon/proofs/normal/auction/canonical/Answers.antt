@@ -1,13 +1,6 @@
 -- `canonical`: plain searches refuse at the first heavy bundle.
-use Rattle.std.proofs.Common.{rules, ◌≡◌, None, Some, Result, Ok, Err, sym, subst, ◌∙◌}
-use Rattle.std.specs.Prelude.{IfErr, IsErrAnd}
-use Rattle.valuation.specs.declared.search.options.SearchOptions.{SearchOptions}
-use Rattle.prune.specs.Faults.{IfStepLimit}
-use Rattle.prune.specs.SearchSteps.{first_heavy, first_refused}
-use Rattle.prune.specs.Lemmas.Refusals.{first_refused-plain, step_limit_weaker}
-use Rattle.valuation.specs.Auctions.{PlainAuction}
-use Rattle.valuation.specs.Views.{plain_auction}
-use Rattle.canon.specs.Sameness.{IsSameAuction}
+use Rattle.canon.proofs.Common.{rules, ◌≡◌, None, Some, Result, Ok, Err, sym, subst, ◌∙◌, IfErr, IsErrAnd, SearchOptions, IfStepLimit, first_heavy}
+use Rattle.canon.proofs.Common.{first_refused, first_refused-plain, step_limit_weaker, PlainAuction, plain_auction, IsSameAuction}
 use Rattle.canon.proofs.CanonicalAuctions.Sames.{HasAtoms-auction, canonical_is_same}
 use Rattle.canon.proofs.normal.auction.canonical.Goals as goal
 

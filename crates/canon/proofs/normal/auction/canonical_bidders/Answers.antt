@@ -1,10 +1,6 @@
 -- `canonical_bidders`: the bidders are put in order with their numbers, which does not change the order of their atoms.
-use Rattle.std.proofs.Common.{rules, ℕ, List, map, ap, ◌∙◌, Global}
-use Rattle.std.specs.Prelude.{Option, Vec}
-use Rattle.valuation.specs.Bidders.{bidders_of}
-use Rattle.valuation.specs.Sorting.{sort_by}
-use Rattle.canon.specs.declared.normal.keyed_bidder.KeyedBidder.{KeyedBidder}
-use Rattle.canon.specs.Internal.KeyedBidders.{NumberedBidder, keyed_bidders, numbered_cmp}
+use Rattle.canon.proofs.Common.{rules, ℕ, List, map, ap, ◌∙◌, Global, Vec, bidders_of, sort_by, KeyedBidder, NumberedBidder, keyed_bidders, numbered_cmp}
+use Rattle.std.specs.Prelude.{Option}
 use Rattle.canon.proofs.CanonicalFiles.Numbering.{atoms_in_order}
 use Rattle.canon.proofs.normal.auction.canonical_bidders.Goals as goal
 

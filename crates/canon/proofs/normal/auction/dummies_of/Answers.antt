@@ -1,9 +1,5 @@
 -- `dummies_of`
-use Rattle.std.proofs.Common.{rules, ◌++◌, ◌∷◌, [], ◌∙◌, ap, sym, arith}
-use Rattle.std.proofs.lemmas.Grind.{common_steps}
-use Rattle.std.proofs.lemmas.Simd.{map-map}
-use Rattle.canon.specs.declared.normal.keyed_bidder.KeyedBidder.{KeyedBidder}
-use Rattle.canon.specs.Internal.KeyedBidders.{NumberedBidder, keyed_bidder}
+use Rattle.canon.proofs.Common.{rules, ◌++◌, ◌∷◌, [], ◌∙◌, ap, sym, arith, common_steps, map-map, KeyedBidder, NumberedBidder, keyed_bidder}
 use Rattle.canon.proofs.CanonicalFiles.Numbering.{one_more_number, all_numbers}
 use Rattle.canon.proofs.normal.auction.dummies_of.Goals as goal
 

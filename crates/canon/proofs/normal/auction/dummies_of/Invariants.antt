@@ -1,5 +1,5 @@
 -- `dummies_of`
-use Rattle.std.proofs.Common.{◌≡◌, map, take}
+use Rattle.canon.proofs.Common.{◌≡◌, map, take}
 use Rattle.canon.proofs.normal.auction.dummies_of.Given as goal
 
 -- the numbers of the bidders so far

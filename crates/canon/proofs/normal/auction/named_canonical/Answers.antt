@@ -1,15 +1,8 @@
 -- `named_canonical`: what is made of the pruned parts is the canonical auction (proofs/Bidders), so the laws of that auction are those of the result.
-use Rattle.std.proofs.Common.{rules, sym, ap, ◌∙◌, map, subst, arith, Global, ℕ}
-use Rattle.std.specs.Prelude.{Option, Vec}
-use Rattle.std.proofs.lemmas.List.{length-map}
-use Rattle.valuation.specs.declared.atom.Atom.{Atom}
-use Rattle.valuation.specs.Auctions.{PlainAuction, IsAuction}
-use Rattle.valuation.specs.Bidders.{bidders_of}
-use Rattle.valuation.specs.Values.{atoms_of}
-use Rattle.valuation.specs.Views.{plain_auction}
-use Rattle.canon.specs.Canonical.{IsCanonical}
+use Rattle.canon.proofs.Common.{rules, sym, ap, ◌∙◌, map, subst, arith, Global, ℕ, Vec, length-map, Atom, PlainAuction, IsAuction, bidders_of, atoms_of}
+use Rattle.canon.proofs.Common.{plain_auction, IsCanonical, plain_fate}
+use Rattle.std.specs.Prelude.{Option}
 use Rattle.canon.proofs.CanonicalFiles.Bidders.{or_part, xor_part, few_bidders, canonical_parts, fates_parts, number_parts, parts_within_limit}
-use Rattle.prune.specs.Fates.{plain_fate}
 use Rattle.canon.proofs.CanonicalAuctions.Sames.{HasAtoms-auction, canonical_is_fixed}
 use Rattle.canon.proofs.CanonicalAuctions.Smaller.{IsAuction-canonical}
 use Rattle.canon.proofs.normal.auction.named_canonical.Goals as goal

@@ -1,16 +1,8 @@
 -- `points_of_each`: the points so far are those of the bidders that are done: the next bidder adds its points, or nothing where it has none.
-use Rattle.std.proofs.Common.{rules, arith, ◌≡◌, ℕ, ◌+◌, ◌<◌, [], length, map, refl, sym, ap, ap₂, ◌∙◌, Global}
-use Rattle.std.proofs.lemmas.Grind.{common_steps}
-use Rattle.std.specs.Prelude.{All, Option, Vec}
-use Rattle.std.specs.Iterator.Adapters.{enumerate_count, enumerate_source}
-use Rattle.std.specs.Vec.Iter.{into_iter_items}
-use Rattle.std.proofs.lemmas.Bool.{eqb-true, eqb-false}
-use Rattle.std.proofs.lemmas.List.{nil_from_length, length-map, length_push, map_push}
-use Rattle.bid_file.specs.declared.limits.TheConstants.{MAX_GOODS}
-use Rattle.valuation.specs.declared.atom.Atom.{Atom}
-use Rattle.valuation.specs.Auctions.{IsAtom}
-use Rattle.valuation.specs.Values.{atoms_of}
-use Rattle.canon.specs.Internal.KeyedBidders.{keyed_bidder}
+use Rattle.canon.proofs.Common.{rules, arith, ◌≡◌, ℕ, ◌+◌, ◌<◌, [], length, map, refl, sym, ap, ap₂, ◌∙◌, Global, common_steps, All, Vec, enumerate_count}
+use Rattle.canon.proofs.Common.{enumerate_source, into_iter_items, eqb-true, eqb-false, nil_from_length, length-map, length_push, map_push, MAX_GOODS, Atom}
+use Rattle.canon.proofs.Common.{IsAtom, atoms_of, keyed_bidder}
+use Rattle.std.specs.Prelude.{Option}
 use Rattle.canon.proofs.CanonicalFiles.Bidders.{positive, fewer_done, bidder_next, bidder_taken, points_pushed, points_skipped, points_done, fates_pushed}
 use Rattle.canon.proofs.CanonicalFiles.Bidders.{fates_done}
 use Rattle.canon.proofs.normal.auction.points_of_each.Goals as goal

@@ -1,13 +1,7 @@
 -- `points_of_each`: the bidders that are done and those still to come are all bidders; of those done the points are there, with their numbers,
 -- and what became of their best bids is noted.
-use Rattle.std.proofs.Common.{◌≡◌, ℕ, ◌++◌, true, length, map}
-use Rattle.std.specs.Prelude.{All}
-use Rattle.std.specs.Iterator.Adapters.{enumerate_count, enumerate_source}
-use Rattle.std.specs.Vec.Iter.{into_iter_items}
-use Rattle.valuation.specs.Auctions.{IsAtom}
-use Rattle.valuation.specs.Bidders.{bidders_of}
-use Rattle.prune.specs.Fates.{xor_fates}
-use Rattle.canon.specs.Internal.KeyedBidders.{keyed_bidders, numbered_points}
+use Rattle.canon.proofs.Common.{◌≡◌, ℕ, ◌++◌, true, length, map, All, enumerate_count, enumerate_source, into_iter_items, IsAtom, bidders_of, xor_fates}
+use Rattle.canon.proofs.Common.{keyed_bidders, numbered_points}
 use Rattle.canon.proofs.normal.auction.points_of_each.Given as goal
 
 abbrev pub invariant-loop-dummy : goal.invariant-loop-dummy

@@ -1,9 +1,5 @@
 -- `sort_bidders`
-use Rattle.std.proofs.Common.{rules}
-use Rattle.std.proofs.lemmas.Fn.{always_returns_same}
-use Rattle.std.proofs.lemmas.List.Sorted.{ranks_by}
-use Rattle.std.specs.Ordering.{is_lt}
-use Rattle.canon.specs.Internal.KeyedBidders.{keyed_bidder, numbered_cmp}
+use Rattle.canon.proofs.Common.{rules, always_returns_same, ranks_by, is_lt, keyed_bidder, numbered_cmp}
 use Rattle.canon.proofs.CanonicalFiles.Bidders.{bidders_sorted}
 use Rattle.canon.proofs.CanonicalFiles.Numbering.{numbered_cmp_total}
 use Rattle.canon.proofs.normal.auction.sort_bidders.Goals as goal

@@ -1,6 +1,5 @@
 -- `without_keys`: the bidders that are done and those still to come are all bidders; those done are there, without what was beside them.
-use Rattle.std.proofs.Common.{◌≡◌, ◌++◌, map}
-use Rattle.std.specs.Vec.Iter.{into_iter_items}
+use Rattle.canon.proofs.Common.{◌≡◌, ◌++◌, map, into_iter_items}
 use Rattle.canon.proofs.normal.auction.without_keys.Given as goal
 
 abbrev pub invariant-loop-bidder : goal.invariant-loop-bidder

@@ -1,11 +1,5 @@
 -- `explained_file_on`
-use Rattle.std.proofs.Common.{rules, ◌≡◌, ap, ◌∙◌, subst, true}
-use Rattle.std.proofs.lemmas.Result.{IfOk-weaker}
-use Rattle.valuation.specs.Auctions.{PlainAuction, auction_from}
-use Rattle.valuation.specs.Views.{plain_auction}
-use Rattle.canon.specs.Internal.Fates.{AreFates}
-use Rattle.canon.specs.Internal.KeyedBidders.{kept_numbers}
-use Rattle.canon.specs.Renaming.{kept_dummies}
+use Rattle.canon.proofs.Common.{rules, ◌≡◌, ap, ◌∙◌, subst, true, IfOk-weaker, PlainAuction, auction_from, plain_auction, AreFates, kept_numbers, kept_dummies}
 use Rattle.canon.proofs.CanonicalFiles.Numbering.{kept_numbers_are}
 use Rattle.canon.proofs.normal.explained.explained_file_on.Goals as goal
 

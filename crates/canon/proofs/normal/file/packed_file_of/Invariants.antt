@@ -1,8 +1,5 @@
 -- `packed_file_of`: the bids so far, and those of the bidders still to come, are the bids of the file.
-use Rattle.std.proofs.Common.{◌≡◌, ◌++◌, drop}
-use Rattle.valuation.specs.Bidders.{bidders_of}
-use Rattle.valuation.specs.Views.{plain_auction}
-use Rattle.canon.specs.Canonical.{dummy_bids, file_from}
+use Rattle.canon.proofs.Common.{◌≡◌, ◌++◌, drop, bidders_of, plain_auction, dummy_bids, file_from}
 use Rattle.canon.proofs.normal.file.packed_file_of.Given as goal
 
 abbrev pub invariant-loop-dummy : goal.invariant-loop-dummy

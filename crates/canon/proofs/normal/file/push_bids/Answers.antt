@@ -1,8 +1,5 @@
 -- `push_bids`
-use Rattle.std.proofs.Common.{rules, arith, ◌∙◌}
-use Rattle.valuation.specs.Lemmas.Atoms.{length-atoms_of}
-use Rattle.valuation.specs.Values.{atoms_of}
-use Rattle.canon.specs.Canonical.{bid_from}
+use Rattle.canon.proofs.Common.{rules, arith, ◌∙◌, length-atoms_of, atoms_of, bid_from}
 use Rattle.canon.proofs.CanonicalFiles.Filing.{one_more_bid, all_bids}
 use Rattle.canon.proofs.normal.file.push_bids.Goals as goal
 

@@ -1,7 +1,5 @@
 -- `push_bids`: the bids so far, and those of the atoms still to come, are all bids.
-use Rattle.std.proofs.Common.{◌≡◌, ◌++◌, map, drop}
-use Rattle.valuation.specs.Values.{atoms_of}
-use Rattle.canon.specs.Canonical.{bid_from}
+use Rattle.canon.proofs.Common.{◌≡◌, ◌++◌, map, drop, atoms_of, bid_from}
 use Rattle.canon.proofs.normal.file.push_bids.Given as goal
 
 abbrev pub invariant-loop-atom : goal.invariant-loop-atom

@@ -1,8 +1,5 @@
 -- `normalise`
-use Rattle.std.proofs.Common.{◌≡◌, rules, subst}
-use Rattle.valuation.specs.SearchLimits.{plain_options}
-use Rattle.valuation.specs.declared.search.options.SearchOptions.{SearchOptions}
-use Rattle.canon.specs.Normalising.{IsText, Normalises, normalised_file}
+use Rattle.canon.proofs.Common.{◌≡◌, rules, subst, plain_options, SearchOptions, IsText, Normalises, normalised_file}
 use Rattle.canon.proofs.TwoFiles.Answering.{text_of_normal, same_exactly, normal_again}
 use Rattle.canon.proofs.normal.text.normalise.Goals as goal
 

@@ -1,5 +1,5 @@
 -- `read_normal`
-use Rattle.std.proofs.Common.{rules}
+use Rattle.canon.proofs.Common.{rules}
 use Rattle.canon.proofs.TwoFiles.Comparisons.{normal_from_file, normal_unread}
 use Rattle.canon.proofs.normal.text.read_normal.Goals as goal
 

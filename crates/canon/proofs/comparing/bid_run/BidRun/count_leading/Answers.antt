@@ -1,6 +1,5 @@
 -- `BidRun::count_leading`
-use Rattle.std.proofs.Common.{◌∙◌, sym, arith}
-use Rattle.bid_file.specs.Views.{seen_bid}
+use Rattle.canon.proofs.Common.{◌∙◌, sym, arith, seen_bid}
 use Rattle.canon.proofs.Walks.BidRuns.{one_more_leads, none_leads}
 use Rattle.canon.proofs.comparing.bid_run.BidRun.count_leading.Goals as goal
 

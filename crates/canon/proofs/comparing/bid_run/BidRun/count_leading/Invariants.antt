@@ -1,6 +1,5 @@
 -- `BidRun::count_leading`
-use Rattle.std.proofs.Common.{◌≡◌, ◌+◌, ◌-◌, ◌≤◌, length, drop}
-use Rattle.canon.specs.Internal.BidderBids.{leading}
+use Rattle.canon.proofs.Common.{◌≡◌, ◌+◌, ◌-◌, ◌≤◌, length, drop, leading}
 use Rattle.canon.proofs.comparing.bid_run.BidRun.count_leading.Given as goal
 
 -- the bids so far have the dummy good

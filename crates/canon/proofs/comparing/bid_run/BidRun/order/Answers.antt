@@ -1,9 +1,6 @@
 -- `BidRun::order`
-use Rattle.std.proofs.Common.{rules, ◌+◌, drop, sym, ap₂, ◌∙◌, nat_cmp, arith}
-use Rattle.bid_file.specs.Views.{seen_bid}
-use Rattle.valuation.specs.Orders.{atom_cmp, bidder_cmp}
-use Rattle.canon.specs.Bidders.{offers}
-use Rattle.valuation.specs.Lemmas.Orders.{then-decided, then-left, slice_cmp-ended}
+use Rattle.canon.proofs.Common.{rules, ◌+◌, drop, sym, ap₂, ◌∙◌, nat_cmp, arith, seen_bid, atom_cmp, bidder_cmp, offers, then-decided, then-left}
+use Rattle.canon.proofs.Common.{slice_cmp-ended}
 use Rattle.canon.proofs.Walks.BidOrders.{bidder_cmp-drop, length-offers}
 use Rattle.canon.proofs.comparing.bid_run.BidRun.order.Goals as goal
 

@@ -1,7 +1,5 @@
 -- `BidRun::order`
-use Rattle.std.proofs.Common.{◌≡◌, drop}
-use Rattle.valuation.specs.Orders.{bidder_cmp}
-use Rattle.canon.specs.Bidders.{offers}
+use Rattle.canon.proofs.Common.{◌≡◌, drop, bidder_cmp, offers}
 use Rattle.canon.proofs.comparing.bid_run.BidRun.order.Given as goal
 
 -- the bids from here on decide

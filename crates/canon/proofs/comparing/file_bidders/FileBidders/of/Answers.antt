@@ -1,5 +1,5 @@
 -- `FileBidders::of`: the bids of the OR bidder are its points, and those of the XOR bidders are split.
-use Rattle.valuation.specs.Auctions.{auction_from}
+use Rattle.canon.proofs.Common.{auction_from}
 use Rattle.canon.proofs.Walks.BidderWalks.{bids_of_canonical}
 use Rattle.canon.proofs.Walks.OrWalks.{offers_are}
 use Rattle.canon.proofs.comparing.file_bidders.FileBidders.of.Goals as goal

@@ -1,7 +1,5 @@
 -- `PriceWalkIterator::next`
-use Rattle.std.proofs.Common.{◌≡◌, ◌+◌, length}
-use Rattle.canon.specs.Bidders.{offers}
-use Rattle.canon.specs.Internal.PriceWalks.{changes_of}
+use Rattle.canon.proofs.Common.{◌≡◌, ◌+◌, length, offers, changes_of}
 use Rattle.canon.proofs.comparing.price_walk.PriceWalkIterator.next.Given as goal
 
 -- no change is passed

@@ -1,8 +1,5 @@
 -- `KeyedBidder::new`
-use Rattle.std.proofs.Common.{rules, ◌∙◌, List, sym, ap}
-use Rattle.std.specs.List.{slice_get}
-use Rattle.std.specs.Option.{option_copied}
-use Rattle.valuation.specs.declared.atom.Atom.{Atom}
+use Rattle.canon.proofs.Common.{rules, ◌∙◌, List, sym, ap, slice_get, option_copied, Atom}
 use Rattle.canon.proofs.CanonicalFiles.BidderKeys.{key_of_first, key_of_none}
 use Rattle.canon.proofs.normal.keyed_bidder.KeyedBidder.new.Goals.{in-Some, in-None}
 use Rattle.canon.proofs.normal.keyed_bidder.KeyedBidder.new.Goals as goal

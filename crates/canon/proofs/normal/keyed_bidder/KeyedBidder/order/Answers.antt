@@ -1,9 +1,5 @@
 -- `KeyedBidder::order`
-use Rattle.std.proofs.Common.{rules, ◌≡◌, ◌∙◌, nat_cmp, ap}
-use Rattle.goods_set.specs.Lemmas.Members.{AreBelow-higher}
-use Rattle.valuation.specs.Orders.{bidder_cmp}
-use Rattle.valuation.specs.Values.{atoms_of}
-use Rattle.canon.specs.Internal.BidderKeys.{bidder_key}
+use Rattle.canon.proofs.Common.{rules, ◌≡◌, ◌∙◌, nat_cmp, ap, AreBelow-higher, bidder_cmp, atoms_of, bidder_key}
 use Rattle.canon.proofs.CanonicalFiles.BidderKeys.{order_by_bidder_key, decided}
 use Rattle.canon.proofs.normal.keyed_bidder.KeyedBidder.order.Goals as goal
 
