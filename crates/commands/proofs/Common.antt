@@ -23,7 +23,7 @@ pub use Rattle.canon.proofs.CanonicalAuctions.Sames.{same_sym, same_trans}
 pub use Rattle.canon.proofs.CanonicalFiles.Files.{auction_from-file_from}
 pub use Rattle.canon.proofs.CanonicalFiles.Texts.{HasAtoms-file, canonical_file_is_fixed, IsPlainFile-canonical, canonical_file_is_same}
 pub use Rattle.canon.proofs.TwoFiles.Differences.{no_difference_same}
-pub use Rattle.canon.proofs.TwoFiles.Indexing.{canonical_texts_tell, index_of_more, number_of_more}
+pub use Rattle.canon.proofs.TwoFiles.Indexing.{canonical_texts_tell, index_of_more, number_of_more, pushed_before, pushed_earlier}
 pub use Rattle.canon.proofs.TwoFiles.SameDifferences.{difference_of_same_files}
 pub use Rattle.canon.specs.Answers.{RefusesAs}
 pub use Rattle.canon.specs.Canonical.{canonical_auction, canonical_file, IsCanonicalFile, canonical_text}

@@ -6,24 +6,12 @@ use Rattle.commands.proofs.Common.{ReadFault, or_atoms_of, SearchOptions, first_
 use Rattle.commands.proofs.Common.{normalised_file, unless_refused, refusal_of, AreSameFiles, CanonFault, Read, StepLimit, Memory, Only, canonical_texts_tell}
 use Rattle.commands.proofs.Common.{index_of_more, number_of_more, AnswersFirst, IsFirstSame, SizesText, line_of_first, status_of_first, texts_of, JudgesText}
 use Rattle.commands.proofs.Common.{Keeps, SaysSoFar, files_if_sized, files_sized, numbers_sized, FinePrices, with_bid, RefusesText, text_read, Sized, IsSized}
-use Rattle.commands.proofs.Common.{IsTooHeavy, IsUnsized, JudgedTexts, RunFault, Refused}
+use Rattle.commands.proofs.Common.{IsTooHeavy, IsUnsized, JudgedTexts, RunFault, Refused, pushed_before, pushed_earlier}
 use Rattle.std.proofs.Common.{slice_get}
 use Rattle.std.proofs.Common.{flat_map}
 use Rattle.cats_text.specs.declared.read_fault.Kind.TheVariants.{Memory as NoMemory}
 use Rattle.canon.specs.Normalising.{ExceedsSteps}
 use Rattle.commands.proofs.Sizing.{heavy_bid, sizes_heavy, sizes_unread}
-
--- ---- a list with one more element
-
-pushed_before : {X : Type 0} (xs : List X) (y x : X) (k : ℕ) → slice_get xs k ≡ Some x → slice_get (xs ++ y ∷ []) k ≡ Some x
-pushed_before [] y x k e = absurd (none-some x e)
-pushed_before (z ∷ xs) y x zero e = e
-pushed_before (z ∷ xs) y x (suc k) e = pushed_before xs y x k e
-
-pushed_earlier : {X : Type 0} (xs : List X) (y x : X) (k : ℕ) → k < length xs → slice_get (xs ++ y ∷ []) k ≡ Some x → slice_get xs k ≡ Some x
-pushed_earlier [] y x k l e = absurd (omega arith)
-pushed_earlier (z ∷ xs) y x zero l e = e
-pushed_earlier (z ∷ xs) y x (suc k) l e = pushed_earlier xs y x k (omega arith) e
 
 -- the first text of an auction stays it
 pub first_stays : (texts : List Sized) (more : Sized) (given : PlainFile) (number : ℕ) → IsFirstSame texts given number

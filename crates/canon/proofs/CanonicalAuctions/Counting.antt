@@ -115,5 +115,4 @@ module _ (goods : ℕ) where
   pub points_counted : (one other : List (List (Atom (List ℕ)))) → All (All (IsAtom goods)) one → All (All (IsAtom goods)) other
       → ((table : List ℕ) → is_nonzero table ≡ true → count_by (has_table goods table) one ≡ count_by (has_table goods table) other)
       → (points : List (Atom (List ℕ))) → count_of bidder_cmp points (points_of_bidders goods one) ≡ count_of bidder_cmp points (points_of_bidders goods other)
-  points_counted one other h k same points =
-      le_antisymm (at_most one other h k same points) (at_most other one k h (λ table n. sym (same table n)) points)
+  points_counted one other h k same points = le_antisymm (at_most one other h k same points) (at_most other one k h (λ table n. sym (same table n)) points)

@@ -77,8 +77,7 @@ module _ {S : Type 0} (goods : S → List ℕ) (all done more left rest : List (
     pub points_skipped : length own.items ≡ 0 → map seen points ≡ numbered_points n (bidders_of goods more)
     points_skipped zero =
         let none : atoms_of goods own.items ≡ [] = ap (atoms_of goods) (nil_from_length own.items zero) in
-        so_far
-        ∙ sym (ap (numbered_points n) one_more
+        so_far ∙ sym (ap (numbered_points n) one_more
         ∙ points_skip n (bidders_of goods done) (atoms_of goods b.items) (atoms_of goods own.items) own_atoms (are own_atoms) none)
 
 -- no bidder is left

@@ -11,8 +11,7 @@ use Rattle.std.specs.Ordering.{nat_cmp}
 -- ---- the order
 
 pub numbered_cmp_total : IsTotalOrder numbered_cmp
-numbered_cmp_total =
-    then_total (on_total (λ (b : NumberedBidder). b.atoms) bidder_cmp_total) (on_total (λ (b : NumberedBidder). b.number) nat_cmp_total)
+numbered_cmp_total = then_total (on_total (λ (b : NumberedBidder). b.atoms) bidder_cmp_total) (on_total (λ (b : NumberedBidder). b.number) nat_cmp_total)
 
 pub numbered_cmp_equal : (a b : NumberedBidder) → numbered_cmp a b ≡ Equal → a ≡ b
 numbered_cmp_equal a b e =
@@ -64,8 +63,7 @@ atoms_of_points : (goods : ℕ) (bidders : List (List (Atom (List ℕ)))) → ma
 atoms_of_points goods bidders =
     let asks : List (Atom (List ℕ)) → Bool = λ bidder. is_nonzero (xor_table bidder goods) in
     let kept = filter (λ b. is_nonzero (xor_table b.atoms goods)) (numbered_from 0 bidders) in
-    map-map (λ (b : NumberedBidder). b.atoms) (points_of_numbered goods) kept
-    ∙ sym (map-map (xor_points goods) (λ (b : NumberedBidder). b.atoms) kept)
+    map-map (λ (b : NumberedBidder). b.atoms) (points_of_numbered goods) kept ∙ sym (map-map (xor_points goods) (λ (b : NumberedBidder). b.atoms) kept)
     ∙ ap (map (xor_points goods)) (sym (filter-map asks (λ (b : NumberedBidder). b.atoms) (numbered_from 0 bidders))
     ∙ ap (filter asks) (numbered-atoms 0 bidders))
 
@@ -100,6 +98,4 @@ pub kept_numbers_are : (f : PlainFile) → kept_numbers (auction_from f) ≡ kep
 kept_numbers_are f =
     ap (λ (bs : List NumberedBidder). map (λ b. b.number) (sort_by numbered_cmp bs)) (numbered_points_are f)
     ∙ ap (map (λ b. b.number)) (sym (sort_by-map (dummy_cmp f) numbered_cmp (named f) (dummy_cmp_total f) numbered_cmp_total numbered_cmp_equal
-    (λ d e h. h) (nonzero_dummies f)))
-    ∙ map-map (λ (b : NumberedBidder). b.number) (named f) (kept_dummies f)
-    ∙ map-id (kept_dummies f)
+    (λ d e h. h) (nonzero_dummies f))) ∙ map-map (λ (b : NumberedBidder). b.number) (named f) (kept_dummies f) ∙ map-id (kept_dummies f)

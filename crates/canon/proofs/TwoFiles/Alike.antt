@@ -84,8 +84,7 @@ one_from_texts f g h k e =
     subst (λ (text : List ℕ). Spells text (unsearched_file f)) e (laid_out.layout_spells (unsearched_file f) (IsPlainFile-unsearched f h)) in
     let other : Spells (unsearched_text g) (unsearched_file g) = laid_out.layout_spells (unsearched_file g) (IsPlainFile-unsearched g k) in
     let files : unsearched_file f ≡ unsearched_file g = spells_one (unsearched_text g) (unsearched_file f) (unsearched_file g) one other in
-    sym (auction_from-file_from (unsearched_auction (auction_from f))) ∙ ap auction_from files
-    ∙ auction_from-file_from (unsearched_auction (auction_from g))
+    sym (auction_from-file_from (unsearched_auction (auction_from f))) ∙ ap auction_from files ∙ auction_from-file_from (unsearched_auction (auction_from g))
 
 pub unsearched_texts_tell : (f g : PlainFile) → IsPlainFile f → IsPlainFile g → (unsearched_text f ≡ unsearched_text g ↔ AreAlike f g)
 unsearched_texts_tell f g h k = search (rules, alike_from_one, one_from_texts, one_from_alike)
@@ -113,8 +112,7 @@ module _ (goods dummy : ℕ) (one other : List PlainBid) (same : (bid : PlainBid
   g = record { goods = goods; dummy = dummy; bids = other }
 
   values_alike : (p : PlainBid → Bool) (bundle : List ℕ) → xor_value (map atom_of (filter p one)) bundle ≡ xor_value (map atom_of (filter p other)) bundle
-  values_alike p bundle =
-      le_antisymm (values_of_some p one other (λ bid. (same bid).0) bundle) (values_of_some p other one (λ bid. (same bid).1) bundle)
+  values_alike p bundle = le_antisymm (values_of_some p one other (λ bid. (same bid).0) bundle) (values_of_some p other one (λ bid. (same bid).1) bundle)
 
   points_alike : (p : PlainBid → Bool) → xor_points goods (map atom_of (filter p one)) ≡ xor_points goods (map atom_of (filter p other))
   points_alike p = xor_points_same goods (map atom_of (filter p one)) (map atom_of (filter p other)) (λ bundle b. values_alike p bundle)
@@ -129,8 +127,7 @@ module _ (goods dummy : ℕ) (one other : List PlainBid) (same : (bid : PlainBid
   alike : AreAlike f g
   alike = record { goods = refl; or_bids = points_alike (λ b. is_none b.dummy); xor_bidders = ap (sort_by bidder_cmp) bidders_alike }
 
-pub alike_by_bids : (f g : PlainFile) → f.goods ≡ g.goods → f.dummy ≡ g.dummy → ((bid : PlainBid) → (Contains f.bids bid ↔ Contains g.bids bid))
-    → AreAlike f g
+pub alike_by_bids : (f g : PlainFile) → f.goods ≡ g.goods → f.dummy ≡ g.dummy → ((bid : PlainBid) → (Contains f.bids bid ↔ Contains g.bids bid)) → AreAlike f g
 alike_by_bids f g e d same =
     subst (λ n. AreAlike f (record { goods = n; dummy = g.dummy; bids = g.bids })) e
     (subst (λ n. AreAlike f (record { goods = f.goods; dummy = n; bids = g.bids })) d (alike f.goods f.dummy f.bids g.bids same))

@@ -88,8 +88,7 @@ module _ (f g : PlainFile) (h : IsPlainFile f) (k : IsPlainFile g) where
 -- ---- the first step: a text is read and made canonical
 
 pub normal_from_file : (options : SearchOptions) (text : List ℕ) (f : PlainFile) → Spells text f → (r : Result PlainFile CanonFault)
-    → NormalisesPlainAs options f r
-    → ReadsNormalAs options text r
+    → NormalisesPlainAs options f r → ReadsNormalAs options text r
 normal_from_file options text f s (Ok h) n = record { file = f; spelled = s; normal = n }
 normal_from_file options text f s (Err fault) n = refused_text options text f s fault (refused_file options f fault n)
 
@@ -131,8 +130,7 @@ module _ (options : SearchOptions) (one other : List ℕ) (h k : PlainFile) (n :
       subst (λ (w : Which). RefusesOf options one other w fault) (sym e.0)
       (record { difference = first_difference (auction_from h) (auction_from k); differ = differ_by _ refl; named = named }, e.1)
 
-  pub compared_as : (r : Result Verdict (Which × CanonFault))
-      → IfOk r (λ verdict. plain_verdict verdict ≡ first_difference (auction_from h) (auction_from k))
+  pub compared_as : (r : Result Verdict (Which × CanonFault)) → IfOk r (λ verdict. plain_verdict verdict ≡ first_difference (auction_from h) (auction_from k))
       → IfErr r (λ refusal. (refusal.0 ≡ Both) × (refusal.1 ≡ Memory))
       → OnErr r (NamesGoods (first_difference (auction_from h) (auction_from k))) → ComparesAs options one other r
   compared_as (Ok verdict) d e named = differ_by (plain_verdict verdict) d

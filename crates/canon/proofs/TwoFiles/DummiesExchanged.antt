@@ -14,8 +14,7 @@ use Rattle.canon.proofs.CanonicalFiles.Texts.{HasAtoms-file}
 offers_named : (dummies : List ℕ) (p q : PlainBid → Bool) (bids : List PlainBid) → All (λ b. p (named_bid dummies b) ≡ q b) bids
     → map atom_of (filter p (map (named_bid dummies) bids)) ≡ map atom_of (filter q bids)
 offers_named dummies p q bids h =
-    ap (map atom_of) (sym (map-filter (named_bid dummies) p bids))
-    ∙ map-map atom_of (named_bid dummies) (filter (λ b. p (named_bid dummies b)) bids)
+    ap (map atom_of) (sym (map-filter (named_bid dummies) p bids)) ∙ map-map atom_of (named_bid dummies) (filter (λ b. p (named_bid dummies b)) bids)
     ∙ ap (map atom_of) (filter_same_on (λ b. p (named_bid dummies b)) q bids h)
 
 still_none : (dummies : List ℕ) (o : Option ℕ) → is_none (named_dummy dummies o) ≡ is_none o

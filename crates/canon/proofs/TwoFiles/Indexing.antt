@@ -14,7 +14,7 @@ use Rattle.canon.proofs.CanonicalFiles.Texts.{same_text, same_from_text}
 
 -- ---- a list with one more element
 
-pushed_before : {X : Type 0} (xs : List X) (y x : X) (k : ℕ) → slice_get xs k ≡ Some x → slice_get (xs ++ y ∷ []) k ≡ Some x
+pub pushed_before : {X : Type 0} (xs : List X) (y x : X) (k : ℕ) → slice_get xs k ≡ Some x → slice_get (xs ++ y ∷ []) k ≡ Some x
 pushed_before [] y x k e = absurd (none-some x e)
 pushed_before (z ∷ xs) y x zero e = e
 pushed_before (z ∷ xs) y x (suc k) e = pushed_before xs y x k e
@@ -31,7 +31,7 @@ pushed (z ∷ xs) y x zero e = inl e
 pushed (z ∷ xs) y x (suc k) e = ⊎_elim (λ (f : slice_get xs k ≡ Some x). inl f) (λ (f : (k ≡ length xs) × (x ≡ y)). inr (ap suc f.0, f.1)) (pushed xs y x k e)
 
 -- one that is before the last was there before
-pushed_earlier : {X : Type 0} (xs : List X) (y x : X) (k : ℕ) → k < length xs → slice_get (xs ++ y ∷ []) k ≡ Some x → slice_get xs k ≡ Some x
+pub pushed_earlier : {X : Type 0} (xs : List X) (y x : X) (k : ℕ) → k < length xs → slice_get (xs ++ y ∷ []) k ≡ Some x → slice_get xs k ≡ Some x
 pushed_earlier xs y x k l at = search (rules, pushed)
 
 -- ---- texts
@@ -126,8 +126,7 @@ seen_texts entries = map (λ e. (e.0.items, e.1)) entries
 
 -- the text of one more file was put into a map
 pub added_text : (old new : List (Vec ℕ Global × ℕ)) (m k : ℕ) (text canonical : List ℕ) (number : ℕ) → text ≡ canonical
-    → number ≡ unwrap_or (lookup (λ key. same_order text key.items) old) m
-    → ((other : List ℕ) → lookup (λ key. same_order other key.items) new
+    → number ≡ unwrap_or (lookup (λ key. same_order text key.items) old) m → ((other : List ℕ) → lookup (λ key. same_order other key.items) new
     ≡ cond (bytes_eq text other) (Some number) (lookup (λ key. same_order other key.items) old))
     → k ≡ m + 1 → AddsText (record { texts = seen_texts old; count = m }) (record { texts = seen_texts new; count = k }) canonical number
 added_text old new m k text canonical number is answer placed more = search (rules, seen_texts, number_seen)
@@ -159,8 +158,7 @@ first_number_stays Related files more given number h = search (rules, pushed_bef
 
 -- the first file with the text of a file
 pub first_number_is : (files : List PlainFile) (given : PlainFile) (number : ℕ) → All IsPlainFile files → IsPlainFile given
-    → first_number files given ≡ Some number
-    → IsFirstNumber AreSameFiles files given number
+    → first_number files given ≡ Some number → IsFirstNumber AreSameFiles files given number
 first_number_is files given number each facts e =
     let found = position-Some (λ file. bytes_eq (canonical_text file) (canonical_text given)) files number given e in
     record {

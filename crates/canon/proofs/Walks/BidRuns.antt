@@ -27,8 +27,7 @@ rest_of_range {X} xs first end i l =
     ap (take later) (sym (drop-drop i first xs)) ∙ sym (drop-take i later (drop first xs)) ∙ ap (λ n. drop i (take n (drop first xs))) size
 
 pub drop_at : (bids : List PlainBid) (i : ℕ) (b : PlainBid) → slice_get bids i ≡ Some b → drop i bids ≡ b ∷ drop (i + 1) bids
-drop_at bids i b e =
-    drop_more bids i b (slice_get_within bids i b e) ∙ ap (λ (x : PlainBid). x ∷ drop (i + 1) bids) (get_or_from_slice_get bids i b b e)
+drop_at bids i b e = drop_more bids i b (slice_get_within bids i b e) ∙ ap (λ (x : PlainBid). x ∷ drop (i + 1) bids) (get_or_from_slice_get bids i b b e)
 
 module _ (dummy : Option ℕ) (bids : List PlainBid) (i : ℕ) (b : PlainBid) (here : slice_get bids i ≡ Some b) where
   pub one_more_leads : option_eq eqb b.dummy dummy ≡ true → leading dummy (drop i bids) ≡ 1 + leading dummy (drop (i + 1) bids)

@@ -31,8 +31,7 @@ offered d (a ∷ more) = ap (λ (zs : List (Atom (List ℕ))). a ∷ zs) (offere
 
 -- the leading bids, as many as the bidder has, are the bidder's, and the others are behind them
 parts_of_bids : (d : ℕ) (bidder : List (Atom (List ℕ))) (bidders : List (List (Atom (List ℕ)))) (bids : List PlainBid)
-    → AreBidsOf d (bidder ∷ bidders) bids → (n : ℕ) → n ≡ length bidder
-    → (offers (take n bids) ≡ bidder) × AreBidsOf (d + 1) bidders (drop n bids)
+    → AreBidsOf d (bidder ∷ bidders) bids → (n : ℕ) → n ≡ length bidder → (offers (take n bids) ≡ bidder) × AreBidsOf (d + 1) bidders (drop n bids)
 parts_of_bids d bidder bidders bids h n e = search (rules, length-map, take-append-le, take_all, drop-append-le, drop_all, offered)
 
 leading_own : (d : ℕ) (bidder : List (Atom (List ℕ))) (bidders : List (List (Atom (List ℕ)))) (bids : List PlainBid)
@@ -95,8 +94,7 @@ pub record IsCounted (bidder : List (Atom (List ℕ))) (bidders : List (List (At
   pub counted : copies + count_of bidder_cmp bidder later ≡ count_of bidder_cmp bidder bidders
 
 pub one_more_counted : (bidder : List (Atom (List ℕ))) (bidders : List (List (Atom (List ℕ)))) (copies more : ℕ) (bids first : List PlainBid)
-    → IsFirstBidder bids first
-    → more ≡ copies + cond {A = ℕ} (is_eq (bidder_cmp bidder (offers first))) 1 0 → IsCounted bidder bidders copies bids
+    → IsFirstBidder bids first → more ≡ copies + cond {A = ℕ} (is_eq (bidder_cmp bidder (offers first))) 1 0 → IsCounted bidder bidders copies bids
     → IsCounted bidder bidders more (drop (length first) bids)
 one_more_counted bidder bidders copies more bids first f e h =
     let next = next_bidder h.dummy h.later bids first h.rest f in
@@ -125,8 +123,7 @@ module _ (xs ys : List (List (Atom (List ℕ)))) where
 
   -- the same bidder once more
   pub alike_further : (left right one other : List PlainBid) → AreAlike left right → IsFirstBidder left one → IsFirstBidder right other
-      → bidder_cmp (offers one) (offers other) ≡ Equal
-      → AreAlike (drop (length one) left) (drop (length other) right)
+      → bidder_cmp (offers one) (offers other) ≡ Equal → AreAlike (drop (length one) left) (drop (length other) right)
   alike_further left right one other h f g e =
       let p = next_bidder h.dummy h.left_later left one h.left_rest f in
       let q = next_bidder h.dummy h.right_later right other h.right_rest g in
@@ -170,8 +167,7 @@ module _ (xs ys : List (List (Atom (List ℕ)))) where
         (behind bidder_cmp bidder_cmp_total bidder_cmp_equal (offers one) (offers other) q.later t l))
 
     -- the left one alone goes on
-    pub only_left : (left right one : List PlainBid) → AreAlike left right → IsFirstBidder left one → length right ≡ 0
-        → least_of_both ≡ Some (offers one)
+    pub only_left : (left right one : List PlainBid) → AreAlike left right → IsFirstBidder left one → length right ≡ 0 → least_of_both ≡ Some (offers one)
     only_left left right one h f e =
         let p = next_bidder h.dummy h.left_later left one h.left_rest f in
         over h.shared (offers one ∷ p.later) []
@@ -254,8 +250,7 @@ module _ (a b : PlainAuction) (all others : List PlainBid) (h : HasBidders a all
 
     -- where a walk is at its end
     pub least_at_end : (one other : Option (List PlainBid)) → MatchOption one (length left ≡ 0) (λ x. IsFirstBidder left x)
-        → MatchOption other (length right ≡ 0) (λ y. IsFirstBidder right y)
-        → (length left ≡ 0) ⊎ (length right ≡ 0)
+        → MatchOption other (length right ≡ 0) (λ y. IsFirstBidder right y) → (length left ≡ 0) ⊎ (length right ≡ 0)
         → MatchOption (option_or one other) (least_unequal_bidder a b ≡ None) (λ x. least_unequal_bidder a b ≡ Some (offers x))
     least_at_end None None e f ended = no_least e f
     least_at_end None (Some y) e g ended = least_only_right y e g

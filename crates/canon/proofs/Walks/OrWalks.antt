@@ -40,8 +40,7 @@ module _ (left right begin_left begin_right : List PlainBid) (l : begin_left ≡
       let others = subst (λ (n : ℕ). ArePoints n b.or_atoms) (sym e) (points_of b right k) in
       let all = all_changes (c ∷ rest) first in
       let change = All-head (IsPriceChange a.or_atoms b.or_atoms) c rest all.each in
-      ap (or_difference a b) (first_change_found a.goods a.or_atoms b.or_atoms own others c rest all)
-      ∙ ap₂ (λ (x y : Side). InOr c.bundle x y)
+      ap (or_difference a b) (first_change_found a.goods a.or_atoms b.or_atoms own others c rest all) ∙ ap₂ (λ (x y : Side). InOr c.bundle x y)
       (side_of_change a.goods a.or_atoms b.or_atoms own others c.bundle c.left c.right (sym change.on_left) (sym change.on_right) change.differ)
       (ap (λ (n : ℕ). or_side n b.or_atoms a.or_atoms c.bundle) (sym e)
       ∙ side_of_change a.goods b.or_atoms a.or_atoms others own c.bundle c.right c.left (sym change.on_right) (sym change.on_left)

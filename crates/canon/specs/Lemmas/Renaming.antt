@@ -36,8 +36,7 @@ filter-map p seen [] = refl
 filter-map {X} {Y} p seen (x ∷ xs) = search (rules, (filter-map p seen xs))
 
 -- what is in order by what is seen of each element, is in order once it is seen
-pub map-sorted : {X Y : Type 0} (seen : X → Y) (lt : Y → Y → Bool) (xs : List X) → IsSortedBy (λ x y. lt (seen x) (seen y)) xs
-    → IsSortedBy lt (map seen xs)
+pub map-sorted : {X Y : Type 0} (seen : X → Y) (lt : Y → Y → Bool) (xs : List X) → IsSortedBy (λ x y. lt (seen x) (seen y)) xs → IsSortedBy lt (map seen xs)
 map-sorted seen lt [] up k d l m = absurd (omega arith)
 map-sorted {Y = Y} seen lt (x ∷ xs) up k d l m =
     let long = length-map (x ∷ xs) seen in

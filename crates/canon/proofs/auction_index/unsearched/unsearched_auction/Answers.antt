@@ -22,7 +22,6 @@ new-requires g c =
 
 pub returns : goal.returns
 returns g c =
-    c.new.ensures
-    ∙ unsearched_parts g.S.GoodsSet.CAP (plain_auction c.args.auction) c.args.auction.facts _ _ _ c.into_parts-goods.ensures
+    c.new.ensures ∙ unsearched_parts g.S.GoodsSet.CAP (plain_auction c.args.auction) c.args.auction.facts _ _ _ c.into_parts-goods.ensures
     (atoms_of g.S.GoodsSet.goods c.in_ok-or_bids.or_bids.items) (bidders_of g.S.GoodsSet.goods c.in_ok-xor.xor.bidders.items)
     c.in_ok-xor.ensures.bidders c.in_ok-or_bids.ensures.points

@@ -25,8 +25,7 @@ new-auction-requires g c =
 
 pub returns-clause-canonical : goal.returns-clause-canonical
 returns-clause-canonical g c =
-    c.new-auction.ensures
-    ∙ canonical_parts g.S.GoodsSet.CAP (plain_auction c.args.auction) c.args.auction.facts _ _ _ c.into_parts-goods.ensures
+    c.new-auction.ensures ∙ canonical_parts g.S.GoodsSet.CAP (plain_auction c.args.auction) c.args.auction.facts _ _ _ c.into_parts-goods.ensures
     (atoms_of g.S.GoodsSet.goods c.in_ok-or_points.or_points.items) (bidders_of g.S.GoodsSet.goods c.in_ok-xor.xor.bidders.items)
     c.in_ok-xor.ensures.bidders c.in_ok-or_points.ensures.points
 

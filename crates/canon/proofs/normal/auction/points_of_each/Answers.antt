@@ -65,8 +65,7 @@ loop-dummy-preserved-in-Continue-branch-4 g c =
           (c.in_ok-own.ensures.points n) (h.points n atoms) c.push.new.self.items c.new.result c.in-Some.dummy c.in_ok-push.ensures.items number
           (ap₂ (λ (d : ℕ) (v : Vec (Atom _) Global). record {
             number = d;
-            atoms =
-                atoms_of g.S.GoodsSet.goods v.items;
+            atoms = atoms_of g.S.GoodsSet.goods v.items;
           }) c.new.ensures.dummy c.new.ensures.atoms)
           (positive (length c.in_ok-own.own.items) (λ e. some (omega (arith, e, c.in_ok-own.own.ok.0))));
       wanted = c.note.ensures.wanted ∙ h.wanted;

@@ -3,5 +3,4 @@ use Rattle.canon.proofs.Common.{◌≡◌, ◌++◌, drop, bidders_of, plain_auc
 use Rattle.canon.proofs.normal.file.packed_file_of.Given as goal
 
 abbrev pub invariant-loop-dummy : goal.invariant-loop-dummy
-invariant-loop-dummy g l =
-    l.bids ++ dummy_bids l.dummy (drop l.dummy (bidders_of g.S.GoodsSet.goods l.bidders)) ≡ (file_from (plain_auction l.auction)).bids
+invariant-loop-dummy g l = l.bids ++ dummy_bids l.dummy (drop l.dummy (bidders_of g.S.GoodsSet.goods l.bidders)) ≡ (file_from (plain_auction l.auction)).bids
