@@ -32,7 +32,21 @@ tested_masked cap ws g p e l = search (rules, one_shifted, and_pow, bit_at-lt, h
 one_more : (cap : ℕ) (ws vs : List ℕ) (g : ℕ) → g < cap → word_bit vs g ≡ 1 → ((x : ℕ) → (g ≡ x → ⊥) → word_bit vs x ≡ word_bit ws x)
     → word_goods cap vs ≡ with_good g (word_goods cap ws)
 one_more cap ws vs g m same other =
-    search (rules, same_from_has, word_goods_bundle, IsRising-with_good, word_goods_parts, has-with_good, or_left, eq-eqb, or_right, word_goods_has, cases_eq, eqb-true, or_cases)
+    search (
+      rules,
+      same_from_has,
+      word_goods_bundle,
+      IsRising-with_good,
+      word_goods_parts,
+      has-with_good,
+      or_left,
+      eq-eqb,
+      or_right,
+      word_goods_has,
+      cases_eq,
+      eqb-true,
+      or_cases,
+    )
 
 bit_set_same : (ws : List ℕ) (g p : ℕ) → p ≡ g / 64 → p < length ws → word_bit (set ws p (bit_or (get_or ws p 0) (1 * 2 ^ (g % 64) % 2 ^ 64))) g ≡ 1
 bit_set_same ws g p e l =

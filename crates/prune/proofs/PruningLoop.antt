@@ -57,7 +57,8 @@ price_reached : (price : ℕ) → 0 < price → (bundle : List ℕ) (atoms : Lis
     → list_any (λ a. leb price a.price) atoms ≡ leb price (xor_value atoms bundle)
 price_reached price l bundle [] h = sym (ap (leb price) (xor_value-nil bundle) ∙ lt-leb price 0 l)
 price_reached price l bundle (a ∷ rest) h =
-    search (rules, xor_value-inside, All-head, All-tail, lt-leb, le-leb, cases_lt, (price_reached price l bundle rest (All-tail (λ a. IsInside a.bundle bundle) a rest h)))
+    let again = price_reached price l bundle rest (All-tail (λ a. IsInside a.bundle bundle) a rest h) in
+    search (rules, xor_value-inside, All-head, All-tail, lt-leb, le-leb, cases_lt, again)
 
 -- whether a kept atom inside the bundle has the price
 pub dominates_is : (price : ℕ) (bundle : List ℕ) (kept : List (Atom (List ℕ))) → 0 < price

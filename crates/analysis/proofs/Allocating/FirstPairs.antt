@@ -56,7 +56,8 @@ module _ (f : PlainFile) where
       in_later k l less c d = ⊎_elim
           (λ (h : w ≡ l).
           ⊎_elim (λ (g : w ≡ k). absurd (omega arith))
-          (λ (g : Contains later k). let above = has_above w later k r.0 (has_from_contains later k g) in absurd (omega arith)) (Contains-cons_cases w later k c))
+          (λ (g : Contains later k). let above = has_above w later k r.0 (has_from_contains later k g) in absurd (omega arith))
+          (Contains-cons_cases w later k c))
           (λ (h : Contains later l). h) (Contains-cons_cases w later l d)
 
       by : (o : Option ℕ) → first_rival f w later ≡ o → (first_clash f later ≡ Some (i, j) → IsFirstClash f later i j) → IsFirstClash f (w ∷ later) i j

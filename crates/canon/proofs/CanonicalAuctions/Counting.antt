@@ -97,7 +97,8 @@ module _ (goods : ℕ) where
       → 0 < count_of bidder_cmp points (points_of_bidders goods bidders) → (bidder : List (Atom (List ℕ))) × IsPointsOf points bidder
   occurring points [] h l = let none : count_of bidder_cmp points [] ≡ 0 = refl in absurd (omega arith)
   occurring points (bidder ∷ bidders) h l =
-      search (rules, All-tail, All, All-head, bidder_cmp_equal, equal_from, points_more, skips, cases_Bool, points_without, (occurring points bidders (All-tail (All (IsAtom goods)) bidder bidders h)))
+      let again = occurring points bidders (All-tail (All (IsAtom goods)) bidder bidders h) in
+      search (rules, All-tail, All, All-head, bidder_cmp_equal, equal_from, points_more, skips, cases_Bool, points_without, again)
 
   at_most : (one other : List (List (Atom (List ℕ)))) → All (All (IsAtom goods)) one → All (All (IsAtom goods)) other
       → ((table : List ℕ) → is_nonzero table ≡ true → count_by (has_table goods table) one ≡ count_by (has_table goods table) other)

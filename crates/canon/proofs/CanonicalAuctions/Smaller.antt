@@ -34,7 +34,8 @@ no_more_bidders : (goods : ℕ) (f : List (Atom (List ℕ)) → ℕ) → ((b : L
     → (bidders : List (List (Atom (List ℕ)))) → All (All (IsAtom goods)) bidders → sum_by f (points_of_bidders goods bidders) ≤ sum_by f bidders
 no_more_bidders goods f less [] h = omega arith
 no_more_bidders goods f less (b ∷ bs) h =
-    search (rules, All-tail, All, All-head, sum_by-cons, points_more, points_without, cases_Bool, (no_more_bidders goods f less bs (All-tail (All (IsAtom goods)) b bs h)))
+    let again = no_more_bidders goods f less bs (All-tail (All (IsAtom goods)) b bs h) in
+    search (rules, All-tail, All, All-head, sum_by-cons, points_more, points_without, cases_Bool, again)
 
 count_is_length : {X : Type 0} (xs : List X) → sum_by (λ x. 1) xs ≡ length xs
 count_is_length [] = refl

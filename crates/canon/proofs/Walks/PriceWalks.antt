@@ -27,11 +27,13 @@ module _ (a : Atom (List ℕ)) (rest others : List (Atom (List ℕ))) (s : IsInO
     (changes : List PlainChange) where
   past_left : ArePriceChanges rest others changes → ArePriceChanges (a ∷ rest) others (only_left a ∷ changes)
   past_left found =
-      past_change a.bundle (a ∷ rest) rest others others (behind_head a rest s) (behind_none a.bundle others later) changes found (only_left a) refl (search (rules, price_here, no_price))
+      past_change a.bundle (a ∷ rest) rest others others (behind_head a rest s) (behind_none a.bundle others later) changes found (only_left a) refl
+      (search (rules, price_here, no_price))
 
   past_right : ArePriceChanges others rest changes → ArePriceChanges others (a ∷ rest) (only_right a ∷ changes)
   past_right found =
-      past_change a.bundle others others (a ∷ rest) rest (behind_none a.bundle others later) (behind_head a rest s) changes found (only_right a) refl (search (rules, no_price, price_here))
+      past_change a.bundle others others (a ∷ rest) rest (behind_none a.bundle others later) (behind_head a rest s) changes found (only_right a) refl
+      (search (rules, no_price, price_here))
 
 past_both : (a b : Atom (List ℕ)) (rest others : List (Atom (List ℕ))) → IsInOrder (a ∷ rest) → IsInOrder (b ∷ others) → a.bundle ≡ b.bundle
     → (changes : List PlainChange) → ArePriceChanges rest others changes → ArePriceChanges (a ∷ rest) (b ∷ others) (if_differs (on_both a b) changes)

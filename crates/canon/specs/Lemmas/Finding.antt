@@ -86,7 +86,8 @@ module _ {X : Type 0} (cmp : X → X → Ordering) (total : IsTotalOrder cmp) (e
 
   pub found_least : (p : X → Bool) (xs : List X) → IsOrdered cmp xs → (x : X) → find p xs ≡ Some x → IsLeast p xs x
   found_least p [] s x e = absurd (cc)
-  found_least p (z ∷ zs) s x e = grind (arith, common_steps, cases_Bool, both_ways, Contains-head, tied_itself, each_at, Contains-cons_cases, Contains-tail, (found_least p zs s.1 x))
+  found_least p (z ∷ zs) s x e =
+      grind (arith, common_steps, cases_Bool, both_ways, Contains-head, tied_itself, each_at, Contains-cons_cases, Contains-tail, (found_least p zs s.1 x))
 
   -- an element that is counted is there
   pub counted_is_there : (x : X) (xs : List X) → 0 < count_of cmp x xs → Contains xs x

@@ -63,7 +63,8 @@ module _ (goods : ℕ) where
   pub first_unequal_found : (one other : List (Atom (List ℕ))) (bundle : List ℕ) → IsFirstUnequal one other bundle
       → find (are_unequal one other) (all_bundles goods) ≡ Some bundle
   first_unequal_found one other bundle h =
-      find_it (λ xs ys. bundle_cmp xs ys ≡ Less) (are_unequal one other) (all_bundles goods) (all_bundles_rise goods) bundle (search (rules, all_bundles_has, unequal_test, equal_test, All-contains, all_bundles_are))
+      find_it (λ xs ys. bundle_cmp xs ys ≡ Less) (are_unequal one other) (all_bundles goods) (all_bundles_rise goods) bundle
+      (search (rules, all_bundles_has, unequal_test, equal_test, All-contains, all_bundles_are))
 
   -- ---- the parts of a bundle come before it
 

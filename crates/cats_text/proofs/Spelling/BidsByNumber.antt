@@ -108,7 +108,8 @@ filled_count : (G : ℕ) (xs : BidsByNumber) (lines : List (List Word)) → AreD
     → AllByRecursion (λ n. get_or xs n None ≡ None) (lines_numbers lines) → length (filled (slots_from G xs lines)) ≡ length lines + length (filled xs)
 filled_count G xs [] d f = omega arith
 filled_count G xs (l ∷ ls) d f =
-    search (rules, free_put, length_filled_put, (filled_count G (put_slot xs (line_number l) (bid_of G l)) ls d.1 (free_put xs (line_number l) (bid_of G l) (lines_numbers ls) d.0 f.1)))
+    let again = filled_count G (put_slot xs (line_number l) (bid_of G l)) ls d.1 (free_put xs (line_number l) (bid_of G l) (lines_numbers ls) d.0 f.1) in
+    search (rules, free_put, length_filled_put, again)
 
 within : (G : ℕ) (xs : BidsByNumber) (lines : List (List Word)) (m : ℕ) → length xs ≤ m → AllByRecursion (λ n. n < m) (lines_numbers lines)
     → length (slots_from G xs lines) ≤ m

@@ -228,7 +228,8 @@ summarises_more a w b Other h = λ t. subst IsOther (sym (append_assoc (a ∷ w)
 
 summarises_fold : (a : ℕ) (w rest : List ℕ) (s : Word) → Summarises (a ∷ w) s → Summarises ((a ∷ w) ++ rest) (fold word_with s rest)
 summarises_fold a w [] s h = subst (λ ds. Summarises ds s) (sym (append-nil (a ∷ w))) h
-summarises_fold a w (b ∷ rest) s h = search (rules, append_assoc, summarises_more, (summarises_fold a (w ++ b ∷ []) rest (word_with s b) (summarises_more a w b s h)))
+summarises_fold a w (b ∷ rest) s h =
+    search (rules, append_assoc, summarises_more, (summarises_fold a (w ++ b ∷ []) rest (word_with s b) (summarises_more a w b s h)))
 
 -- what is kept of a word says of the word
 pub summarises : (a : ℕ) (w : List ℕ) → Summarises (a ∷ w) (summary (a ∷ w))

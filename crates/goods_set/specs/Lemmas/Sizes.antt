@@ -136,7 +136,8 @@ pub record IsNextGood (xs : List ℕ) (g m : ℕ) : Type 0 where
 
 pub good_from-Some : (xs : List ℕ) (g m : ℕ) → IsRising xs → good_from xs g ≡ Some m → IsNextGood xs g m
 good_from-Some [] g m r e = absurd (cc)
-good_from-Some (x ∷ xs) g m r e = search (rules, leb-true, has_head, false_from_ne_true, has_above, has_cases, leb-false, has_tail, both_ways, (good_from-Some xs g m r.1))
+good_from-Some (x ∷ xs) g m r e =
+    search (rules, leb-true, has_head, false_from_ne_true, has_above, has_cases, leb-false, has_tail, both_ways, (good_from-Some xs g m r.1))
 
 pub good_from-None : (xs : List ℕ) (g k : ℕ) → good_from xs g ≡ None → g ≤ k → has_good xs k ≡ false
 good_from-None [] g k e a = refl

@@ -1,5 +1,7 @@
 -- Atoms listed by their goods. Those inside a bundle are found through the goods of the bundle.
-use Rattle.std.specs.Prelude.{◌≡◌, ℕ, ◌<◌, ◌≤◌, Bool, ◌&&◌, true, false, nat_le, map, slice_index_or, List, [], length, Option, All, AllPairs, Contains}
+use Rattle.std.specs.Prelude.{◌≡◌, ℕ, ◌<◌, ◌≤◌, Bool, ◌&&◌, true, false, nat_le, map, slice_index_or, List, []}
+use Rattle.std.specs.Prelude.{length}
+use Rattle.std.specs.Prelude.{Option, All, AllPairs, Contains}
 use Rattle.std.proofs.Common.{Less}
 use Rattle.std.specs.Global.{Vec}
 use Rattle.std.specs.List.{find, range_with_len}

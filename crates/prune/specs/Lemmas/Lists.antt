@@ -47,7 +47,8 @@ Contains-filter p (y ∷ ys) x c e = ⊎_elim (search (rules, filter-kept, Conta
 
 pub Contains-filter_parts : {X : Type 0} (p : X → Bool) (xs : List X) (x : X) → Contains (filter p xs) x → Contains xs x × (p x ≡ true)
 Contains-filter_parts p [] x c = absurd (Contains-nil x c)
-Contains-filter_parts {X} p (y ∷ ys) x c = search (rules, cases_Bool, Contains-tail, Contains-head, Contains-cons_cases, filter-kept, filter-lost, (Contains-filter_parts p ys x))
+Contains-filter_parts {X} p (y ∷ ys) x c =
+    search (rules, cases_Bool, Contains-tail, Contains-head, Contains-cons_cases, filter-kept, filter-lost, (Contains-filter_parts p ys x))
 
 -- two tests that agree on the elements of the list keep the same ones
 pub filter_same_on : {X : Type 0} (p q : X → Bool) (xs : List X) → All (λ x. p x ≡ q x) xs → filter p xs ≡ filter q xs

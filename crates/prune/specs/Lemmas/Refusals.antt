@@ -207,7 +207,9 @@ unfolding first_over
 none_from_within steps [] options each all = refl
 none_from_within steps (bundle ∷ rest) options each all =
     let together : IsWithinTotal options.total (steps bundle + sum_by steps rest) = rw (sum_by-cons steps bundle rest) at all in
-    search (rules, least_from, All-head, first_over-within, All-tail, within_later, (none_from_within steps rest (options_after options (steps bundle)) (All-tail (λ bundle. steps bundle ≤ options.each) bundle rest each) (within_later options.total (steps bundle) (sum_by steps rest) together)))
+    let again = none_from_within steps rest (options_after options (steps bundle)) (All-tail (λ bundle. steps bundle ≤ options.each) bundle rest each)
+    (within_later options.total (steps bundle) (sum_by steps rest) together) in
+    search (rules, least_from, All-head, first_over-within, All-tail, within_later, again)
 
 pub none_refused : (options : SearchOptions) (goods : ℕ) (atoms : List (Atom (List ℕ))) → first_refused options goods atoms ≡ None
     → All (λ bundle. search_steps_by options.kind goods atoms bundle ≤ options.each) (searched_bundles goods atoms)

@@ -85,7 +85,9 @@ pub or_value-dominated : (other : List (Atom (List ℕ))) → All (λ a. 0 < len
 or_value-dominated other some [] h bundle = omega (arith, or_value-nil bundle)
 or_value-dominated other some (a ∷ rest) h bundle =
     let more = All-tail (λ a. a.price ≤ or_value other a.bundle) a rest h in
-    search (rules, All-head, or_value-least, or_value-split, (or_value-dominated other some rest more bundle), (or_value-dominated other some rest more (without bundle a.bundle)))
+    let first = or_value-dominated other some rest more bundle in
+    let second = or_value-dominated other some rest more (without bundle a.bundle) in
+    search (rules, All-head, or_value-least, or_value-split, first, second)
 
 -- only the atoms inside the bundle matter
 enough_on : (p : Atom (List ℕ) → Bool) (atoms : List (Atom (List ℕ))) (bundle : List ℕ) → All (λ a. IsInside a.bundle bundle → p a ≡ true) atoms
@@ -93,7 +95,10 @@ enough_on : (p : Atom (List ℕ) → Bool) (atoms : List (Atom (List ℕ))) (bun
 enough_on p [] bundle h = le_refl _
 enough_on p (a ∷ rest) bundle h =
     let more = All-tail (λ a. IsInside a.bundle bundle → p a ≡ true) a rest h in
-    search (rules, All-head, or_value-least, or_value-rest, or_value-taken, inside_trans, without_inside, filter-kept, (enough_on p rest bundle more), (enough_on p rest (without bundle a.bundle) (λ k d l j. more k d l (inside_trans _ (without bundle a.bundle) bundle j (without_inside bundle a.bundle)))))
+    let first = enough_on p rest bundle more in
+    let second = enough_on p rest (without bundle a.bundle)
+    (λ k d l j. more k d l (inside_trans _ (without bundle a.bundle) bundle j (without_inside bundle a.bundle))) in
+    search (rules, All-head, or_value-least, or_value-rest, or_value-taken, inside_trans, without_inside, filter-kept, first, second)
 
 pub or_value-filter_on : (p : Atom (List ℕ) → Bool) (atoms : List (Atom (List ℕ))) (bundle : List ℕ) → All (λ a. IsInside a.bundle bundle → p a ≡ true) atoms
     → or_value (filter p atoms) bundle ≡ or_value atoms bundle
