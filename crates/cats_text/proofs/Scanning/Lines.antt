@@ -111,8 +111,8 @@ from_word n p (a ∷ w) (b ∷ bs) f h = elim (is_blank b) as (λ t. is_blank b 
           (byte_blank (standing (Inside (summary (a ∷ w))) n p) b h.0 e ∙ lifted_word (standing (Inside (summary (a ∷ w))) n p) (summary (a ∷ w)) refl)
           ∙ behind_word n (word_read p (summary (a ∷ w))) bs (words_read (line_words bs)) (λ q. from_word n q [] bs tt h.1)
           ∙ ap (λ ws. lifted n Between (words_read ws p)) (sym (words_next a w b bs f e))
-      | false ↦ λ (e : is_blank b ≡ false). search
-          (rules, byte_letter, summary-push, blank_free_push, words_read, append_assoc, (from_word n p ((a ∷ w) ++ b ∷ []) bs (blank_free_push (a ∷ w) b f e) h.1))
+      | false ↦ λ (e : is_blank b ≡ false). let again = from_word n p ((a ∷ w) ++ b ∷ []) bs (blank_free_push (a ∷ w) b f e) h.1 in
+          search (rules, byte_letter, summary-push, blank_free_push, words_read, append_assoc, again)
     ] refl
 
 -- ---- from the beginning of a line on
