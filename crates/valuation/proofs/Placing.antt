@@ -1,7 +1,8 @@
 -- The turns of the loop that makes the auction of a file, by what the code knows of its vectors: an atom goes to the end of the OR
 -- bidder's list, or of the list of one XOR bidder.
-use Rattle.std.proofs.Common.{◌≡◌, ℕ, zero, suc, ◌+◌, ◌<◌, ◌≤◌, List, [], ◌∷◌, ◌++◌, length, map, get_or, set, take, replicate, Some, None, Global, refl, sym}
-use Rattle.std.proofs.Common.{ap, ap₂, ◌∙◌, arith}
+use Rattle.std.proofs.Common.{rules, ◌≡◌, ℕ, zero, suc, ◌+◌, ◌<◌, ◌≤◌, List, [], ◌∷◌, ◌++◌, length, map, get_or, set, take, replicate, Some, None, Global, refl}
+use Rattle.std.proofs.lemmas.Grind.{common_steps}
+use Rattle.std.proofs.Common.{sym, ap, ap₂, ◌∙◌, arith}
 use Rattle.std.specs.Prelude.{Vec}
 use Rattle.std.specs.List.{range_with_len}
 use Rattle.std.proofs.lemmas.List.{map_push, map-set, length-map, get_or-map, take_all}
@@ -19,15 +20,12 @@ module _ {S : Type 0} (goods : S → List ℕ) (bids : List PlainBid) (i : ℕ) 
   seen = ap₂ (λ (xs : List ℕ) (p : ℕ). record { bundle = xs; price = p }) bundle price
 
   atoms-push : (atoms more : List (Atom S)) → more ≡ atoms ++ a ∷ [] → atoms_of goods more ≡ atoms_of goods atoms ++ atom_of b ∷ []
-  atoms-push atoms more e =
-      ap (atoms_of goods) e ∙ map_push (λ (x : Atom S). record { bundle = goods x.bundle; price = x.price }) atoms a
-      ∙ ap (λ (x : Atom (List ℕ)). atoms_of goods atoms ++ x ∷ []) seen
+  atoms-push atoms more e = search (rules, map_push, seen)
 
   -- the atom goes to the OR bidder
   pub place-or : (atoms more : List (Atom S)) → b.dummy ≡ None → atoms_of goods atoms ≡ or_atoms_of (take i bids) → more ≡ atoms ++ a ∷ []
       → atoms_of goods more ≡ or_atoms_of (take (i + 1) bids)
-  place-or atoms more n h e =
-      atoms-push atoms more e ∙ ap (λ (xs : List (Atom (List ℕ))). xs ++ atom_of b ∷ []) h ∙ sym (or_atoms_of-more bids i b l here n)
+  place-or atoms more n h e = grind (arith, common_steps, atoms-push, or_atoms_of-more)
 
   -- the atom goes to an XOR bidder
   pub place-xor : (bidders changed : List (Vec (Atom S) Global)) (old new : Vec (Atom S) Global) (d n : ℕ) → b.dummy ≡ Some d → d < n
@@ -49,9 +47,7 @@ module _ {S : Type 0} (goods : S → List ℕ) (bids : List PlainBid) (i : ℕ) 
 -- how many bidders there are
 pub length-bidders_of : {S : Type 0} (goods : S → List ℕ) (bidders : List (Vec (Atom S) Global)) (bids : List PlainBid) (n : ℕ)
     → bidders_of goods bidders ≡ map (xor_atoms_of bids) (range_with_len 0 n) → length bidders ≡ n
-length-bidders_of {S} goods bidders bids n h =
-    sym (length-map bidders (λ (v : Vec (Atom S) Global). atoms_of goods v.items)) ∙ ap (length {A = List (Atom (List ℕ))}) h
-    ∙ length-map-range_with_len (xor_atoms_of bids) 0 n
+length-bidders_of {S} goods bidders bids n h = search (rules, length-map, length-map-range_with_len)
 
 -- no bidder has an atom before the first bid
 pub no_bids : (low n : ℕ) → replicate n [] ≡ map (xor_atoms_of []) (range_with_len low n)
@@ -64,9 +60,4 @@ pub placed : {S : Type 0} (goods : S → List ℕ) (f : PlainFile) (bids : List 
     → bids ≡ f.bids → length bids ≤ i → count ≡ f.goods → atoms_of goods atoms ≡ or_atoms_of (take i bids)
     → bidders_of goods bidders ≡ map (xor_atoms_of (take i bids)) (range_with_len 0 f.dummy)
     → plain_auction_of goods count atoms bidders ≡ auction_from f
-placed goods f bids i count atoms bidders e l n h k =
-    let all : take i bids ≡ f.bids = take_all i bids l ∙ e in
-    let or : atoms_of goods atoms ≡ or_atoms_of f.bids = h ∙ ap or_atoms_of all in
-    let xor : bidders_of goods bidders ≡ map (xor_atoms_of f.bids) (range_with_len 0 f.dummy) =
-    k ∙ ap (λ (bs : List PlainBid). map (xor_atoms_of bs) (range_with_len 0 f.dummy)) all in
-    rw (n, or, xor) refl
+placed goods f bids i count atoms bidders e l n h k = search (rules, take_all)

@@ -1,6 +1,6 @@
 -- `auction_of`: each turn of the loop puts one atom at its end (proofs/Placing), and what was placed from all bids is the auction of the file,
 -- whose limits follow from those of the file.
-use Rattle.std.proofs.Common.{arith, ◌≡◌, ◌<◌, length, take, refl, sym, ap, ◌∙◌}
+use Rattle.std.proofs.Common.{rules, arith, ◌≡◌, ◌<◌, length, take, refl, sym, ap, ◌∙◌}
 use Rattle.std.proofs.lemmas.Option.{get_or_from_slice_get, slice_get_within}
 use Rattle.goods_set.specs.Lemmas.Members.{AreBelow-higher}
 use Rattle.bid_file.specs.Files.{PlainBid, PlainFile}
@@ -13,18 +13,7 @@ use Rattle.valuation.proofs.from_file.auction_of.Goals as goal
 use Rattle.valuation.proofs.from_file.auction_of.Goals.{in-None+in_ok-push-in-None, in-Some+in_ok-push-in-Some}
 
 pub loop-number-init : goal.loop-number-init
-loop-number-init g c =
-    let file : PlainFile = g.B.Bids.file c.args.file.now in
-    let counted : length c.deref.result.now ≡ file.dummy = omega (
-      arith,
-      ap length c.deref.ensures.value,
-      c.in_ok-without.ensures,
-      c.in_ok-without.counts.ok.0,
-    ) in
-    record {
-      or = ap (atoms_of g.S.GoodsSet.goods) c.in_ok-or_atoms.ensures.items;
-      xor = c.in_ok-xor_bidders.ensures ∙ rw counted (no_bids 0 file.dummy);
-    }
+loop-number-init g c = search (rules, no_bids)
 
 pub from_slice-requires-clause-rising : goal.from_slice-requires-clause-rising
 from_slice-requires-clause-rising g c =

@@ -1,5 +1,5 @@
 -- `xor_value`: the atoms before i were looked at: see proofs/FirstBestAtoms.
-use Rattle.std.proofs.Common.{arith, sym, ◌∙◌, ◌≡◌, ◌<◌, ◌⊎◌, inl, inr, None, length}
+use Rattle.std.proofs.Common.{rules, arith, sym, ◌∙◌, ◌≡◌, ◌<◌, ◌⊎◌, inl, inr, None, length}
 use Rattle.std.proofs.lemmas.Bool.{both_ways, ltb-true, ltb-false}
 use Rattle.valuation.specs.Values.{atoms_of}
 use Rattle.valuation.specs.Lemmas.Atoms.{length-atoms_of, get_or-atoms_of}
@@ -41,13 +41,10 @@ loop-i-preserved g c =
     ]
 
 pub returns-clause-value : goal.returns-clause-value
-returns-clause-value g c =
-    Scanned-value _ _ _ _ _ c.loop-i.invariant (omega (arith, length-atoms_of g.S.GoodsSet.goods c.args.atoms.now))
+returns-clause-value g c = search (rules, Scanned-value, length-atoms_of)
 
 pub returns-clause-index : goal.returns-clause-index
-returns-clause-index g c =
-    Scanned-index _ _ _ _ _ c.loop-i.invariant (omega (arith, length-atoms_of g.S.GoodsSet.goods c.args.atoms.now))
+returns-clause-index g c = search (rules, Scanned-index, length-atoms_of)
 
 pub returns-clause-none : goal.returns-clause-none
-returns-clause-none g c =
-    Scanned-none _ _ _ _ _ c.loop-i.invariant (omega (arith, length-atoms_of g.S.GoodsSet.goods c.args.atoms.now))
+returns-clause-none g c = search (rules, Scanned-none, length-atoms_of)

@@ -1,5 +1,5 @@
 -- `Atom::keeps_limits`: the first good from the number of goods on is there exactly where the bundle is not below that number.
-use Rattle.std.proofs.Common.{arith, ◌≡◌, ℕ, ◌<◌, ◌≤◌, List, Some, None, ⊎_elim, sym, ap, ◌∙◌}
+use Rattle.std.proofs.Common.{rules, arith, ◌≡◌, ℕ, ◌<◌, ◌≤◌, List, Some, None, ⊎_elim, sym, ap, ◌∙◌}
 use Rattle.std.proofs.lemmas.Bool.{both_ways, cases_lt, ltb-true, lt-ltb}
 use Rattle.goods_set.specs.Bundles.{IsRising, AreBelow, has_good, good_from}
 use Rattle.goods_set.specs.Lemmas.Members.{has_below, AreBelow-from_has}
@@ -8,9 +8,7 @@ use Rattle.valuation.proofs.atom.Atom.keeps_limits.Goals as goal
 
 -- no good is at least the number of goods
 below : (goods : ℕ) (xs : List ℕ) → good_from xs goods ≡ None → AreBelow goods xs
-below goods xs e =
-    AreBelow-from_has goods xs (λ g h. ⊎_elim (λ (l : g < goods). l) (λ (l : goods ≤ g). absurd (both_ways (has_good xs g) (good_from-None xs goods g e l) h))
-    (cases_lt g goods))
+below goods xs e = search (rules, AreBelow-from_has, both_ways, good_from-None, cases_lt)
 
 not_below : (goods : ℕ) (xs : List ℕ) (m : ℕ) → IsRising xs → good_from xs goods ≡ Some m → AreBelow goods xs → ⊥
 not_below goods xs m r e b =
@@ -28,16 +26,4 @@ returns-in-Some g c =
     )
 
 pub returns-in-None : goal.returns-in-None
-returns-in-None g c =
-    let xs = g.S.GoodsSet.goods c.args.self.now.bundle in
-    let size = c.size.ensures in (
-      λ t.
-          let some = ltb-true 0 c.size.result t in
-          record {
-            nonempty = omega arith;
-            bundle = ((g.met.S.GoodsSet.is_bundle _).0, below c.args.goods xs (ap (good_from xs) (sym c.from.ensures) ∙ sym c.in-None.ensures));
-            price =
-                c.if-self-gt-MAX_PRICE.false;
-          },
-      λ a. let some = a.nonempty in lt-ltb 0 c.size.result (omega arith),
-    )
+returns-in-None g c = search (rules, ltb-true, below, lt-ltb)
