@@ -1,4 +1,5 @@
 -- Proofs that several functions of this crate cite.
+pub mod Common
 pub mod ConflictMasks
 pub mod AllHolders
 pub mod FirstBestAtoms

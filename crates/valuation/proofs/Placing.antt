@@ -1,18 +1,10 @@
 -- The turns of the loop that makes the auction of a file, by what the code knows of its vectors: an atom goes to the end of the OR
 -- bidder's list, or of the list of one XOR bidder.
-use Rattle.std.proofs.Common.{rules, ◌≡◌, ℕ, zero, suc, ◌+◌, ◌<◌, ◌≤◌, List, [], ◌∷◌, ◌++◌, length, map, get_or, set, take, replicate, Some, None, Global, refl}
-use Rattle.std.proofs.lemmas.Grind.{common_steps}
-use Rattle.std.proofs.Common.{sym, ap, ap₂, ◌∙◌, arith}
+use Rattle.valuation.proofs.Common.{rules, ◌≡◌, ℕ, zero, suc, ◌+◌, ◌<◌, ◌≤◌, List, [], ◌∷◌, ◌++◌, length, map, get_or, set, take, replicate, Some, None, Global}
+use Rattle.valuation.proofs.Common.{refl, common_steps, sym, ap, ap₂, ◌∙◌, arith, range_with_len, map_push, map-set, length-map, get_or-map, take_all}
+use Rattle.valuation.proofs.Common.{length-map-range_with_len, get_or-map-range_with_len, PlainBid, PlainFile, Atom, atoms_of, atom_of, or_atoms_of}
+use Rattle.valuation.proofs.Common.{xor_atoms_of, auction_from, bidders_of, plain_auction_of, or_atoms_of-more, xor_bidders-more}
 use Rattle.std.specs.Prelude.{Vec}
-use Rattle.std.specs.List.{range_with_len}
-use Rattle.std.proofs.lemmas.List.{map_push, map-set, length-map, get_or-map, take_all}
-use Rattle.std.proofs.lemmas.List.FromFn.{length-map-range_with_len, get_or-map-range_with_len}
-use Rattle.bid_file.specs.Files.{PlainBid, PlainFile}
-use Rattle.valuation.specs.declared.atom.Atom.{Atom}
-use Rattle.valuation.specs.Values.{atoms_of}
-use Rattle.valuation.specs.Auctions.{atom_of, or_atoms_of, xor_atoms_of, auction_from}
-use Rattle.valuation.specs.Bidders.{bidders_of, plain_auction_of}
-use Rattle.valuation.specs.Lemmas.AuctionsOfFiles.{or_atoms_of-more, xor_bidders-more}
 
 module _ {S : Type 0} (goods : S → List ℕ) (bids : List PlainBid) (i : ℕ) (b : PlainBid) (l : i < length bids) (here : get_or bids i b ≡ b)
     (a : Atom S) (bundle : goods a.bundle ≡ b.goods) (price : a.price ≡ b.price) where

@@ -1,9 +1,5 @@
 -- `auction_of`
-use Rattle.std.proofs.Common.{◌≡◌, map, take}
-use Rattle.std.specs.List.{range_with_len}
-use Rattle.valuation.specs.Values.{atoms_of}
-use Rattle.valuation.specs.Auctions.{or_atoms_of, xor_atoms_of}
-use Rattle.valuation.specs.Bidders.{bidders_of}
+use Rattle.valuation.proofs.Common.{◌≡◌, map, take, range_with_len, atoms_of, or_atoms_of, xor_atoms_of, bidders_of}
 use Rattle.valuation.proofs.from_file.auction_of.Given as goal
 
 -- the atoms of the bids so far are there

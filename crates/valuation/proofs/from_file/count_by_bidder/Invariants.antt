@@ -1,5 +1,5 @@
 -- `count_by_bidder`
-use Rattle.std.proofs.Common.{◌≡◌, vec_len}
+use Rattle.valuation.proofs.Common.{◌≡◌, vec_len}
 use Rattle.valuation.proofs.from_file.count_by_bidder.Given as goal
 
 -- each dummy good has a count

@@ -1,6 +1,5 @@
 -- `empty_bidders`
-use Rattle.std.proofs.Common.{◌≡◌, [], replicate}
-use Rattle.valuation.specs.Bidders.{bidders_of}
+use Rattle.valuation.proofs.Common.{◌≡◌, [], replicate, bidders_of}
 use Rattle.valuation.proofs.from_file.empty_bidders.Given as goal
 
 -- so many bidders are made

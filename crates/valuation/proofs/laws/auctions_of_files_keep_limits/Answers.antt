@@ -1,5 +1,5 @@
 -- `auctions_of_files_keep_limits`
-use Rattle.valuation.specs.Lemmas.AuctionsOfFiles.{IsAuction-auction_from}
+use Rattle.valuation.proofs.Common.{IsAuction-auction_from}
 use Rattle.valuation.proofs.laws.auctions_of_files_keep_limits.Goals as goal
 
 pub returns : goal.returns

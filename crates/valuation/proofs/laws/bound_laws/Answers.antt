@@ -1,5 +1,5 @@
 -- `bound_laws`
-use Rattle.valuation.specs.Lemmas.Bounds.{or_value-all_prices, or_value-rates}
+use Rattle.valuation.proofs.Common.{or_value-all_prices, or_value-rates}
 use Rattle.valuation.proofs.laws.bound_laws.Goals as goal
 
 pub returns : goal.returns

@@ -1,5 +1,5 @@
 -- `packings_are_counted`
-use Rattle.valuation.specs.Lemmas.PackingCounts.{count_packings-packings}
+use Rattle.valuation.proofs.Common.{count_packings-packings}
 use Rattle.valuation.proofs.laws.packings_are_counted.Goals as goal
 
 pub returns : goal.returns

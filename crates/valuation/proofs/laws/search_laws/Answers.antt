@@ -1,6 +1,5 @@
 -- `search_laws`
-use Rattle.std.proofs.Common.{rules}
-use Rattle.valuation.specs.Lemmas.SearchSteps.{cut_within_packings, found_indices-packing}
+use Rattle.valuation.proofs.Common.{rules, cut_within_packings, found_indices-packing}
 use Rattle.valuation.proofs.ValueStepsCounted.{value_steps-counted}
 use Rattle.valuation.proofs.laws.search_laws.Goals as goal
 

@@ -1,8 +1,5 @@
 -- `sorting_laws`
-use Rattle.std.proofs.Common.{rules}
-use Rattle.valuation.specs.Orders.{bidder_cmp}
-use Rattle.valuation.specs.Lemmas.Orders.{bidder_cmp_total, bidder_cmp_equal}
-use Rattle.valuation.specs.Lemmas.Sorting.{permutation-sort_by, sorted-sort_by, sorted_same}
+use Rattle.valuation.proofs.Common.{rules, bidder_cmp, bidder_cmp_total, bidder_cmp_equal, permutation-sort_by, sorted-sort_by, sorted_same}
 use Rattle.valuation.proofs.laws.sorting_laws.Goals as goal
 
 pub returns : goal.returns

@@ -1,5 +1,5 @@
 -- `xor_value_laws`
-use Rattle.valuation.specs.Lemmas.XorValues.{xor_value-grows, xor_value-permutation}
+use Rattle.valuation.proofs.Common.{xor_value-grows, xor_value-permutation}
 use Rattle.valuation.proofs.laws.xor_value_laws.Goals as goal
 
 pub returns : goal.returns

@@ -1,8 +1,5 @@
 -- `reaching_worked`
-use Rattle.std.proofs.Common.{arith, [], ◌∷◌}
-use Rattle.std.proofs.lemmas.Bool.{both_ways}
-use Rattle.goods_set.specs.Bundles.{has_good}
-use Rattle.goods_set.specs.Lemmas.Members.{apart_at, has_head}
+use Rattle.valuation.proofs.Common.{arith, [], ◌∷◌, both_ways, has_good, apart_at, has_head}
 use Rattle.valuation.proofs.worked.reaching_worked.Goals as goal
 
 pub returns-clause-shared_good : goal.returns-clause-shared_good

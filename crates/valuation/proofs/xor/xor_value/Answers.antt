@@ -1,13 +1,10 @@
 -- `xor_value`: the atoms before i were looked at: see proofs/FirstBestAtoms.
-use Rattle.std.proofs.Common.{rules, arith, sym, ◌∙◌, ◌≡◌, ◌<◌, ◌⊎◌, inl, inr, None, length}
-use Rattle.std.proofs.lemmas.Bool.{both_ways, ltb-true, ltb-false}
-use Rattle.valuation.specs.Values.{atoms_of}
-use Rattle.valuation.specs.Lemmas.Atoms.{length-atoms_of, get_or-atoms_of}
+use Rattle.valuation.proofs.Common.{rules, arith, sym, ◌∙◌, ◌≡◌, ◌<◌, ◌⊎◌, inl, inr, None, length, both_ways, ltb-true, ltb-false, atoms_of, length-atoms_of}
+use Rattle.valuation.proofs.Common.{get_or-atoms_of, atom_at}
 use Rattle.valuation.proofs.FirstBestAtoms.{Scanned-take, Scanned-outside, Scanned-no_better, Scanned-value, Scanned-index, Scanned-none, none_is, some_is}
 use Rattle.valuation.proofs.xor.xor_value.Goals as goal
 use Rattle.valuation.proofs.xor.xor_value.Goals.{then-is_none, else-is_none, then-value-atom+then-is_inside, else-value-atom}
 use Rattle.valuation.proofs.xor.xor_value.Goals.{else-value-atom-via-then-value-atom+else-is_inside, else-value-atom-via-else-value-atom}
-use Rattle.valuation.specs.Packings.{atom_at}
 
 pub loop-i-preserved : goal.loop-i-preserved
 loop-i-preserved g c =

@@ -1,5 +1,5 @@
 -- `xor_value`: the atoms before i were looked at: see proofs/FirstBestAtoms.
-use Rattle.valuation.specs.Values.{atoms_of}
+use Rattle.valuation.proofs.Common.{atoms_of}
 use Rattle.valuation.proofs.FirstBestAtoms.{Scanned}
 use Rattle.valuation.proofs.xor.xor_value.Given as goal
 
