@@ -22,8 +22,7 @@ module _ {S : Type 0} (goods : S → List ℕ) (bids : List PlainBid) (i : ℕ) 
   -- the atom goes to an XOR bidder
   pub place-xor : (bidders changed : List (Vec (Atom S) Global)) (old new : Vec (Atom S) Global) (d n : ℕ) → b.dummy ≡ Some d → d < n
       → bidders_of goods bidders ≡ map (xor_atoms_of (take i bids)) (range_with_len 0 n) → old ≡ get_or bidders d old → new.items ≡ old.items ++ a ∷ []
-      → changed ≡ set bidders d new
-      → bidders_of goods changed ≡ map (xor_atoms_of (take (i + 1) bids)) (range_with_len 0 n)
+      → changed ≡ set bidders d new → bidders_of goods changed ≡ map (xor_atoms_of (take (i + 1) bids)) (range_with_len 0 n)
   place-xor bidders changed old new d n s m h is e c =
       let listed : Vec (Atom S) Global → List (Atom (List ℕ)) = λ v. atoms_of goods v.items in
       let long : length bidders ≡ n = sym (length-map bidders listed) ∙ ap (length {A = List (Atom (List ℕ))}) h
@@ -50,6 +49,5 @@ no_bids low (suc n) = ap (λ (xs : List (List (Atom (List ℕ)))). [] ∷ xs) (n
 pub placed : {S : Type 0} (goods : S → List ℕ) (f : PlainFile) (bids : List PlainBid) (i count : ℕ) (atoms : List (Atom S))
     (bidders : List (Vec (Atom S) Global))
     → bids ≡ f.bids → length bids ≤ i → count ≡ f.goods → atoms_of goods atoms ≡ or_atoms_of (take i bids)
-    → bidders_of goods bidders ≡ map (xor_atoms_of (take i bids)) (range_with_len 0 f.dummy)
-    → plain_auction_of goods count atoms bidders ≡ auction_from f
+    → bidders_of goods bidders ≡ map (xor_atoms_of (take i bids)) (range_with_len 0 f.dummy) → plain_auction_of goods count atoms bidders ≡ auction_from f
 placed goods f bids i count atoms bidders e l n h k = search (rules, take_all)

@@ -125,5 +125,4 @@ IsAuction-auction_from cap f h fits = record {
 -- ---- a bid that is in a list of the bids of a file
 
 pub IsBid-there : (G D : ℕ) (bids : List PlainBid) (i : ℕ) (b : PlainBid) → AllByRecursion (IsBid G D) bids → slice_get bids i ≡ Some b → IsBid G D b
-IsBid-there G D bids i b h e =
-    subst (IsBid G D) (get_or_from_slice_get bids i b b e) (All-from_recursion (IsBid G D) bids h i b (slice_get_within bids i b e))
+IsBid-there G D bids i b h e = subst (IsBid G D) (get_or_from_slice_get bids i b b e) (All-from_recursion (IsBid G D) bids h i b (slice_get_within bids i b e))

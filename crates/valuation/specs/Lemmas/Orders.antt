@@ -13,8 +13,7 @@ use Rattle.valuation.specs.declared.atom.Atom.{Atom}
 use Rattle.valuation.specs.Orders.{atom_cmp, bidder_cmp}
 
 pub atom_cmp_total : IsTotalOrder atom_cmp
-atom_cmp_total =
-    then_total (on_total (λ (a : Atom (List ℕ)). a.bundle) bundle_cmp_total) (on_total (λ (a : Atom (List ℕ)). a.price) nat_cmp_total)
+atom_cmp_total = then_total (on_total (λ (a : Atom (List ℕ)). a.bundle) bundle_cmp_total) (on_total (λ (a : Atom (List ℕ)). a.price) nat_cmp_total)
 
 pub then_parts : (a b : Ordering) → ordering_then a b ≡ Equal → (a ≡ Equal) × (b ≡ Equal)
 then_parts Less b e = absurd (cc)

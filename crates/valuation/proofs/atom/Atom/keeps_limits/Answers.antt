@@ -18,8 +18,7 @@ pub returns-in-Some : goal.returns-in-Some
 returns-in-Some g c =
     let xs = g.S.GoodsSet.goods c.args.self.now.bundle in (
       λ t. cc,
-      λ a. absurd (not_below c.args.goods xs _ (g.met.S.GoodsSet.is_bundle _).0 (ap (good_from xs) (sym c.from.ensures)
-          ∙ sym c.in-Some.ensures) a.bundle.1),
+      λ a. absurd (not_below c.args.goods xs _ (g.met.S.GoodsSet.is_bundle _).0 (ap (good_from xs) (sym c.from.ensures) ∙ sym c.in-Some.ensures) a.bundle.1),
     )
 
 pub returns-in-None : goal.returns-in-None
