@@ -8,7 +8,7 @@ use Rattle.analysis.proofs.Common.{Contains-append_right, IsBundle, IsRising, ar
 use Rattle.analysis.proofs.Common.{same_from_has, IsDummyBelow, IsPlainFile, PlainBid, PlainFile, dummy_good, goods_of, Contains-map, Contains-unmap, bid_at}
 use Rattle.analysis.proofs.Common.{All-from_Contains, Contains-filter, Contains-filter_parts, filter-kept, filter-lost, list_all_from, list_any_found, revenue}
 use Rattle.analysis.proofs.Common.{list_any_has, range_contains, numbers_of, can_all_win, can_both_win, share_dummy, PlainRow, bids_with, is_shared, lp_rows}
-use Rattle.analysis.proofs.Common.{row_of, apart_at, has_head, has_tail, AreRowsMet, objective, value_of}
+use Rattle.analysis.proofs.Common.{row_of, apart_at, has_head, has_tail, AreRowsMet, objective, value_of, contains_from_has, has_from_contains}
 use Rattle.analysis.proofs.Explaining.KeptBids.{bid_here}
 use Rattle.analysis.proofs.Allocating.Allocations.{CanWin, both_flip, pairs_from_test}
 use Rattle.analysis.proofs.Explaining.Packings.{pairs_at}
