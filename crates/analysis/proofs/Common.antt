@@ -4,7 +4,7 @@ pub use Rattle.std.proofs.Common.{List, [], ◌∷◌, length, map, get_or, refl
 pub use Rattle.std.proofs.Common.{Contains, IsPermutation, IsTrue, ◌+◌, Bool, ◌||◌, ◌++◌, set, ap₂, Global, append-nil, get_or-set_same, get_or-set_other, Vec}
 pub use Rattle.std.proofs.Common.{cond, Ordering, false, drop, replicate, zero, suc, IfSome, ◌*◌, if◌then◌else◌, leb, Ok, ltb, take, Result, Err, append_assoc}
 pub use Rattle.std.proofs.Common.{◌≢◌, subst₂, ◌↔◌, le_antisymm, Bor, ◌-◌, is_some, Less, Equal, Greater, slice_get, is_none, min, is_lt, ◌==◌, ◌&&◌}
-pub use Rattle.std.proofs.Common.{MatchOption, IsSome}
+pub use Rattle.std.proofs.Common.{MatchOption, IsSome, bytes_eq}
 pub use Rattle.std.proofs.Math.Bool.{and_comm}
 pub use Rattle.std.proofs.Math.Seq.{drop-length, get_or-append_seam}
 pub use Rattle.std.proofs.lemmas.Bool.{and_cases, ltb-false, and_right, or_right, le-leb, and_parts, and_from, cases_eq, eq-eqb, ne_eqb, or_left, both_ways}
@@ -62,7 +62,7 @@ pub use Rattle.analysis.specs.BidderChanges.{lefts_of, partner_of, partners_of, 
 pub use Rattle.analysis.specs.Bids.{bid_at, numbers_of, is_best, bidder_of, are_alike, is_better, IsBestFor, best_number}
 pub use Rattle.analysis.specs.Differences.{AreAllDifferences, BeginsWith, PlainDifferences, is_none_at_all, no_differences, exchanged_change, exchanged_goods}
 pub use Rattle.analysis.specs.Differences.{goods_change}
-pub use Rattle.analysis.specs.Examples.{bidder_change, atom, change}
+pub use Rattle.analysis.specs.Examples.{atom, change}
 pub use Rattle.analysis.specs.Internal.BidsByGood.{list_at, with_number, AreByGood, lists_of, with_bid}
 pub use Rattle.analysis.specs.Internal.Changes.{AreLefts, AreRest}
 pub use Rattle.analysis.specs.Internal.Deciding.{IsNoPoint, IsDecided, IsPointBid, IsPointInside}
@@ -132,8 +132,7 @@ pub use Rattle.prune.specs.InOrder.{IsInOrder, IsBefore}
 pub use Rattle.prune.specs.Lemmas.Fates.{or_fate-reaches, indices_below-within}
 pub use Rattle.prune.specs.Lemmas.InOrder.{before_itself, before_not_inside, same_in_order}
 pub use Rattle.prune.specs.Lemmas.KeptBids.{or_points_keep_values, or_points_on_bundles, xor_points_keep_values, on_bundles, just_bundles, or_points_are_atoms}
-pub use Rattle.prune.specs.Lemmas.KeptBids.{has_from_contains, contains_from_has}
-pub use Rattle.prune.specs.Lemmas.KeptBids.{xor_points_are_atoms}
+pub use Rattle.prune.specs.Lemmas.KeptBids.{has_from_contains, contains_from_has, xor_points_are_atoms}
 pub use Rattle.prune.specs.Lemmas.Lists.{find_same_on, map_same_on, list_all_fails, All-from_Contains, Contains-filter, Contains-filter_parts, Contains-nil}
 pub use Rattle.prune.specs.Lemmas.Lists.{Contains-tail, list_all_at, list_all_from, filter-kept, filter-lost, list_any_fails, list_any_found, Contains-head}
 pub use Rattle.prune.specs.Lemmas.Lists.{find_none, found_none, found_some, list_any_has, find_first}

@@ -14,8 +14,8 @@ pub use Rattle.canon.specs.FirstNumbers.{first_number, text_number}
 pub use Rattle.canon.specs.Internal.BidderBids.{HasBidders, leading, AreBidsOf, IsFirstBidder}
 pub use Rattle.canon.specs.Internal.BidderKeys.{bidder_key}
 pub use Rattle.canon.specs.Internal.Fates.{AreFates}
-pub use Rattle.canon.specs.Internal.KeyedBidders.{NumberedBidder, numbered_points, numbered_cmp, kept_numbers, numbered_from, points_of_numbered, keyed_bidders}
-pub use Rattle.canon.specs.Internal.KeyedBidders.{keyed_bidder}
+pub use Rattle.canon.specs.Internal.KeyedBidders.{NumberedBidder, numbered_points, numbered_cmp, kept_numbers, numbered_from, points_of_numbered}
+pub use Rattle.canon.specs.Internal.KeyedBidders.{keyed_bidders, keyed_bidder}
 pub use Rattle.canon.specs.Internal.OrBids.{HasOrBids}
 pub use Rattle.canon.specs.Internal.PriceWalks.{changes_of, side_at, if_differs, on_both, only_left, only_right}
 pub use Rattle.canon.specs.Internal.TextNumbers.{number_of}
@@ -41,7 +41,6 @@ pub use Rattle.canon.specs.Verdicts.{NamesGoods, plain_verdict, printed_atoms}
 pub use Rattle.canon.specs.declared.canon_fault.CanonFault.{CanonFault}
 pub use Rattle.canon.specs.declared.canon_fault.CanonFault.TheVariants.{Read, StepLimit, Memory}
 pub use Rattle.canon.specs.declared.normal.explained.BidderFates.{BidderFates}
-pub use Rattle.canon.specs.declared.normal.keyed_bidder.KeyedBidder.{KeyedBidder}
 pub use Rattle.canon.specs.declared.verdict.Side.{Side}
 pub use Rattle.canon.specs.declared.verdict.Side.TheVariants.{Exactly, Below}
 pub use Rattle.canon.specs.declared.verdict.Verdict.{Verdict}
@@ -67,13 +66,12 @@ pub use Rattle.goods_set.specs.Lemmas.SortKeys.{order_by_key}
 pub use Rattle.goods_set.specs.Orders.{bundle_cmp}
 pub use Rattle.goods_set.specs.SortKeys.{sort_key_of}
 pub use Rattle.prune.specs.Fates.{or_fates, plain_fate, xor_fates}
-pub use Rattle.prune.specs.Faults.{IfStepLimit}
 pub use Rattle.prune.specs.InOrder.{IsBefore, IsInOrder}
 pub use Rattle.prune.specs.Lemmas.InOrder.{before_itself}
 pub use Rattle.prune.specs.Lemmas.KeptBids.{just_bundles, or_points_are_atoms, or_points_again, xor_points_are_atoms, xor_points_again, on_bundles}
 pub use Rattle.prune.specs.Lemmas.KeptBids.{xor_points_keep_values, xor_points_same}
 pub use Rattle.prune.specs.Lemmas.Lists.{zero_or_more, All-from_Contains, Contains-tail, Contains-head, filter-kept, filter-lost, Contains-filter}
-pub use Rattle.prune.specs.Lemmas.Lists.{Contains-filter_parts, filter_same_on, map_same_on, find_none, found_none, map_same_at, map-filter, find_alike}
+pub use Rattle.prune.specs.Lemmas.Lists.{Contains-filter_parts, filter_same_on, map_same_on, find_none, found_none, map_same_at, find_alike}
 pub use Rattle.prune.specs.Lemmas.Points.{points_where-in_order, IsOrPoint-from_test, is_or_point-true, or_points_are}
 pub use Rattle.prune.specs.Lemmas.Ranges.{in_range}
 pub use Rattle.prune.specs.Lemmas.Refusals.{no_refused_point, no_heavy_point, first_refused-plain, step_limit_weaker}
@@ -81,10 +79,10 @@ pub use Rattle.prune.specs.Lemmas.SearchSteps.{no_new_heavy, search_steps-point}
 pub use Rattle.prune.specs.Lemmas.Tables.{same_xor_points, same_or_points, no_xor_points}
 pub use Rattle.prune.specs.Lemmas.Values.{or_value-dominated, xor_value-bound, xor_value-member}
 pub use Rattle.prune.specs.Points.{xor_points, or_points, is_or_point}
-pub use Rattle.prune.specs.SearchSteps.{first_refused, first_heavy}
-pub use Rattle.std.proofs.Common.{◌≡◌, ℕ, List, ◌+◌, ◌<◌, ◌≤◌, Bool, true, false, cond, ⊎_elim, [], ◌∷◌, refl, sym, ap, ◌∙◌, subst, arith, le_antisymm, nat_cmp}
-pub use Rattle.std.proofs.Common.{rules, length, map, None, ap₂, Ordering, Less, Equal, Greater, Some, ◌++◌, append_assoc, Global, zero, suc, Option, is_none}
-pub use Rattle.std.proofs.Common.{drop, get_or, take, le_refl, ◌⊎◌, inl, inr, IfSome, eqb, Result, Ok, Err, ◌≢◌, unwrap_or, bytes_eq, not, ◌-◌}
+pub use Rattle.prune.specs.SearchSteps.{first_refused}
+pub use Rattle.std.proofs.Common.{◌≡◌, ℕ, List, ◌+◌, ◌<◌, ◌≤◌, Bool, true, false, cond, ⊎_elim, [], ◌∷◌, refl, sym, ap, ◌∙◌, subst, arith, le_antisymm}
+pub use Rattle.std.proofs.Common.{nat_cmp, rules, length, map, None, ap₂, Ordering, Less, Equal, Greater, Some, ◌++◌, append_assoc, Global, zero, suc, Option}
+pub use Rattle.std.proofs.Common.{is_none, drop, get_or, take, le_refl, ◌⊎◌, inl, inr, IfSome, eqb, Result, Ok, Err, ◌≢◌, unwrap_or, bytes_eq, not, ◌-◌}
 pub use Rattle.std.proofs.Math.Seq.{take-append_seam, drop-append_seam}
 pub use Rattle.std.proofs.lemmas.Bool.{cases_Bool, both_ways, false_from_ne_true, cond-true, cond-false, eq-eqb, ne_eqb, eqb-true, eqb-false, not_from_true}
 pub use Rattle.std.proofs.lemmas.Bool.Decides.{Decides-eqb}
@@ -118,16 +116,16 @@ pub use Rattle.std.specs.Iterator.Adapters.{enumerate_count, enumerate_source}
 pub use Rattle.std.specs.List.{count_by, filter, slice_get, range_with_len, AllByRecursion, prefix_len, find, slice_range}
 pub use Rattle.std.specs.List.Sorted.{IsSortedBy}
 pub use Rattle.std.specs.Map.{lookup}
-pub use Rattle.std.specs.Option.{option_eq, option_or, option_copied}
+pub use Rattle.std.specs.Option.{option_eq, option_or}
 pub use Rattle.std.specs.Ordering.{is_eq, ordering_then, is_lt, ordering_reverse, match_ordering}
-pub use Rattle.std.specs.Prelude.{All, Contains, sum_by, remove, Vec, IsPermutation, ◌↔◌, IfOk, IfErr, OnErr, MatchOption, IsErrAnd, AllPairs, OnOk, codes}
+pub use Rattle.std.specs.Prelude.{All, Contains, sum_by, remove, Vec, IsPermutation, ◌↔◌, IfOk, IfErr, OnErr, MatchOption, IsErrAnd, AllPairs, OnOk}
 pub use Rattle.std.specs.Vec.Iter.{into_iter_items}
 pub use Rattle.valuation.specs.Auctions.{IsAtom, PlainAuction, auction_from, xor_atoms_of, IsAuction, atom_of, is_dummy, or_atoms_of}
 pub use Rattle.valuation.specs.Bidders.{bidders_of}
 pub use Rattle.valuation.specs.Lemmas.Atoms.{length-atoms_of, drop-atoms_of}
 pub use Rattle.valuation.specs.Lemmas.AuctionsOfFiles.{count_atoms, IsAuction-auction_from}
 pub use Rattle.valuation.specs.Lemmas.Comparing.{bidder_cmp-drop}
-pub use Rattle.valuation.specs.Lemmas.Lists.{Contains-cons_cases, AllPairs-head, AllPairs-tail, Contains-map, Contains-unmap, AllPairs-nil}
+pub use Rattle.valuation.specs.Lemmas.Lists.{Contains-cons_cases, AllPairs-head, AllPairs-tail, Contains-map, Contains-unmap, AllPairs-nil, map-filter}
 pub use Rattle.valuation.specs.Lemmas.OrValues.{or_value-price}
 pub use Rattle.valuation.specs.Lemmas.Orders.{bidder_cmp_total, bidder_cmp_equal, then-decided, then-left, slice_cmp-ended}
 pub use Rattle.valuation.specs.Lemmas.Sorting.{sum_by-sort_by, All-sort_by, sort_by-same, sorted_is_sort_by, ordered-sort_by, ordered_from_counts, IsOrdered}

@@ -7,9 +7,7 @@ use Rattle.cats_cmd.proofs.Common.{number_cell, price_cell, Outcome, Prints, dif
 use Rattle.cats_cmd.proofs.Common.{text_unless_refused, value_text, PlainBid, PlainFile, Difference, NoDifference, Side, Exactly, PlainPlace, behind_point}
 use Rattle.cats_cmd.proofs.Common.{bids_text, digit_at, places_text, six_digits, with_place, without_zeros, Kind, PlainDifferences, PlainReason, Zero}
 use Rattle.cats_cmd.proofs.Common.{allocation_text, AllocationVerdict, Revenue, PlainRow, if_none, AreBytes, escaped, text_of_place, outcome_for, PlainCommand}
-use Rattle.cats_cmd.proofs.Common.{Check}
-use Rattle.std.proofs.Common.{append_assoc}
-use Rattle.std.specs.Prelude.{codes, decimal, Option, Some, None}
+use Rattle.cats_cmd.proofs.Common.{Check, append_assoc, codes, decimal, Option, Some, None}
 use Rattle.cats_text.specs.declared.read_fault.Kind.TheVariants as kinds
 use Rattle.cats_cmd.proofs.PrintableTexts.{bytes_from, of_each}
 use Rattle.cats_cmd.proofs.ShownTexts.{Ours, Shown, is_ours, number_ours, ours, path_shown, then}

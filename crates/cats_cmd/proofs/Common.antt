@@ -13,7 +13,7 @@ pub use Rattle.canon.specs.Canonical.{canonical_text}
 pub use Rattle.canon.specs.Difference.{Difference, NoDifference, first_difference}
 pub use Rattle.canon.specs.FirstNumbers.{AddsText, IsFirstNumber, TextIndex}
 pub use Rattle.canon.specs.Lemmas.Renaming.{map-sorted}
-pub use Rattle.canon.specs.Normalising.{IsText, IsNoFile, normalised_file, unless_refused}
+pub use Rattle.canon.specs.Normalising.{IsText, normalised_file}
 pub use Rattle.canon.specs.Refusals.{refusal_by_kind, refusal_of}
 pub use Rattle.canon.specs.Sameness.{AreSameFiles}
 pub use Rattle.canon.specs.Unsearched.{AreAlike, unsearched_text}
@@ -36,7 +36,8 @@ pub use Rattle.cats_cmd.specs.Folders.{Finds, FindsAt, FoundAt, AreFilesAt, file
 pub use Rattle.cats_cmd.specs.Folders.{with_slash}
 pub use Rattle.cats_cmd.specs.Inputs.{IsOpened, ReadsBytes, IsUnreadStream, StopsReading, WantsMemoryForBytes, ReadsAll}
 pub use Rattle.cats_cmd.specs.Internal.Carrying.{RunsAtOrNot, answer_of_run}
-pub use Rattle.cats_cmd.specs.Internal.Judging.{KeepsNumbers, AddsJudgement, AddsOpened, AddsRefused, KeepsGroups, AddsPath, HasJudged, JudgesAllAs, OpensAllAs}
+pub use Rattle.cats_cmd.specs.Internal.Judging.{KeepsNumbers, AddsJudgement, AddsOpened, AddsRefused, KeepsGroups, AddsPath, HasJudged, JudgesAllAs}
+pub use Rattle.cats_cmd.specs.Internal.Judging.{OpensAllAs}
 pub use Rattle.cats_cmd.specs.Internal.Roundings.{RoundsText}
 pub use Rattle.cats_cmd.specs.Internal.Walking.{WalksBelow, StaysBelow}
 pub use Rattle.cats_cmd.specs.Opening.{Opens, openable, with_paths}
@@ -92,7 +93,7 @@ pub use Rattle.commands.specs.FaultPlaceTexts.{before_word, behind_word, shown_b
 pub use Rattle.commands.specs.KindNames.{name_of_kind}
 pub use Rattle.commands.specs.Naming.{with_bid}
 pub use Rattle.commands.specs.Outcomes.{Prints, Outcome, diff_outcome, outcome_of_difference, outcome_of_verdict, outcome_unless, text_unless_refused}
-pub use Rattle.commands.specs.Outcomes.{exceeds_at, first_bid_on, naming_outcome, normalise_outcome, exceeds_limits, exceeds_packings, value_outcome_if}
+pub use Rattle.commands.specs.Outcomes.{exceeds_at, naming_outcome, normalise_outcome, exceeds_limits, exceeds_packings, value_outcome_if}
 pub use Rattle.commands.specs.Outputs.{bundle_text, number_cell, price_cell, after_commas}
 pub use Rattle.commands.specs.Pairs.{CommandsOnBoth, CommandsBoth, GivesBoth, outcome_of_both}
 pub use Rattle.commands.specs.Pieces.{text_of_piece, text_of_pieces}

@@ -3,9 +3,7 @@ use Rattle.cats_cmd.proofs.Common.{not, ◌≡◌, ℕ, ◌-◌, ◌<◌, ◌==�
 use Rattle.cats_cmd.proofs.Common.{nat_tests, append_assoc, line_of_fault, prefix_of, text_of_canon_fault, text_of_heavy_bid, text_of_kind, total_text}
 use Rattle.cats_cmd.proofs.Common.{HeavyBid, bundle_text, number_cell, RunFault, Refused, TooHeavy, GoodRange, BidRange, Sent, CanonFault, Read, StepLimit}
 use Rattle.cats_cmd.proofs.Common.{Memory, Which, Kind, line_of_request_error, line_of_unopened, fault_cell, without_end, RequestError, CannotOpen, NotOpened}
-use Rattle.cats_cmd.proofs.Common.{Run, Unopened}
-use Rattle.std.specs.Prelude.{codes, decimal, Option, Some, None}
-use Rattle.std.proofs.lemmas.List.{length-append}
+use Rattle.cats_cmd.proofs.Common.{Run, Unopened, codes, decimal, Option, Some, None, length-append}
 use Rattle.canon.specs.declared.which.Which.TheVariants as which
 use Rattle.cats_text.specs.declared.read_fault.Kind.TheVariants as kinds
 use Rattle.cats_cmd.specs.declared.source.Unopened.TheVariants as unopened

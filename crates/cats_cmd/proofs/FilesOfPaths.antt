@@ -2,8 +2,7 @@
 use Rattle.cats_cmd.proofs.Common.{◌≡◌, inl, inr, ℕ, ◌+◌, ◌<◌, length, get_or, take, List, [], ◌∷◌, ◌++◌, map, refl, sym, ap, ◌∙◌, subst, Option, Some, None}
 use Rattle.cats_cmd.proofs.Common.{Result, Ok, Err, append-nil, Bor, Global, IfOk, AllocError, flat_map, IsUtf8, is_utf8, false_from_ne_true, map-append}
 use Rattle.cats_cmd.proofs.Common.{map_push, All-nil, All-push, flat_map-append, IsUtf8-from_is_utf8, is_utf8-from_IsUtf8, Finds, FindsAt, FoundAt, AreFilesAt}
-use Rattle.cats_cmd.proofs.Common.{files_at, files_of, found_of, paths_of}
-use Rattle.std.proofs.Common.{Vec}
+use Rattle.cats_cmd.proofs.Common.{files_at, files_of, found_of, paths_of, Vec}
 use Rattle.cats_cmd.proofs.JudgingPaths.{one_more_path}
 
 module _ (may_find : List ℕ → Option (List (List ℕ)) → Type 0) where

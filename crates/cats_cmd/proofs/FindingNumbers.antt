@@ -1,10 +1,9 @@
 -- The groups of `cats duplicates`: one more file has its number behind the others, among those that were judged or among those that a step
 -- limit refused.
 use Rattle.cats_cmd.proofs.Common.{◌≡◌, ℕ, ◌<◌, List, [], ◌∷◌, ◌++◌, length, ap, ◌∙◌, subst, append-nil, Global, Vec, AllByRecursion, AllZip, flat_map}
-use Rattle.cats_cmd.proofs.Common.{flat_map-append, length-map, map-append, AllZip-long, All-from_recursion, slice_get_within, PlainFile, IsPlainFile, AddsText}
-use Rattle.cats_cmd.proofs.Common.{IsFirstNumber, TextIndex, TellsRelated, first_number_stays, index_of_more, number_of_more, zip_push, found_paths}
-use Rattle.cats_cmd.proofs.Common.{KeepsNumbers, Judgement}
-use Rattle.std.proofs.Common.{All}
+use Rattle.cats_cmd.proofs.Common.{flat_map-append, length-map, map-append, AllZip-long, All-from_recursion, slice_get_within, PlainFile, IsPlainFile}
+use Rattle.cats_cmd.proofs.Common.{AddsText, IsFirstNumber, TextIndex, TellsRelated, first_number_stays, index_of_more, number_of_more, zip_push, found_paths}
+use Rattle.cats_cmd.proofs.Common.{KeepsNumbers, Judgement, All}
 
 -- files, of which those are related that have one text
 module _ (text_of : PlainFile → List ℕ) (Related : PlainFile → PlainFile → Type 0) where

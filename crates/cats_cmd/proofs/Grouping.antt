@@ -5,11 +5,8 @@ use Rattle.cats_cmd.proofs.Common.{get_or, set, take, replicate, refl, sym, ap, 
 use Rattle.cats_cmd.proofs.Common.{range_with_len, and_parts, cases_Bool, cases_eq, ne_eqb, eq-eqb, length-set, get_or-set_same, get_or-set_other, length-map}
 use Rattle.cats_cmd.proofs.Common.{get_or-map, map-set, map-append, take_more, filter_more, filter_passes, fill_by_all, length-map-range_with_len}
 use Rattle.cats_cmd.proofs.Common.{get_or-map-range_with_len, after_empty_lines, behind, duplicates_text, groups_of, groups_text, is_printed, lines_of}
-use Rattle.cats_cmd.proofs.Common.{paths_at, plain_group, plain_groups, printed_groups, with_group, end_of, has_lines, nat_tests, list_all-append, Ending, Line}
-use Rattle.cats_cmd.proofs.Common.{Null, fold_push, list_all-from_AllPass}
-use Rattle.std.proofs.Common.{append_assoc}
-use Rattle.std.proofs.Common.{Global}
-use Rattle.std.proofs.lemmas.List.Concat.{flat_map-append}
+use Rattle.cats_cmd.proofs.Common.{paths_at, plain_group, plain_groups, printed_groups, with_group, end_of, has_lines, nat_tests, list_all-append, Ending}
+use Rattle.cats_cmd.proofs.Common.{Line, Null, fold_push, list_all-from_AllPass, append_assoc, Global, flat_map-append}
 use Rattle.cats_cmd.proofs.PrintableTexts.{list_all-weaker}
 
 abbrev Found : Type 0

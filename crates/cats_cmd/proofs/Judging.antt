@@ -1,14 +1,13 @@
 -- The file at one path: what reading its input says of it, in the words of the run.
-use Rattle.cats_cmd.proofs.Common.{◌≡◌, ℕ, List, [], ◌∷◌, ◌++◌, Option, None, Some, refl, ap, ap₂, subst, inl, inr, Global, Vec, PlainFile, IsPlainFile, Prices}
-use Rattle.cats_cmd.proofs.Common.{SearchOptions, fault_at, Kind, ReadFault, or_atoms_of, first_refused, RefusesAs, canonical_text, AddsText, IsText, IsNoFile}
-use Rattle.cats_cmd.proofs.Common.{normalised_file, unless_refused, refusal_by_kind, refusal_of, CanonFault, Read, StepLimit, Memory, Only, text_within_limit}
-use Rattle.cats_cmd.proofs.Common.{no_fault_made, refused_bundle, heavy_bid, found_paths, HeavyBid, with_bid, exceeds_at, first_bid_on, text_unless_refused}
-use Rattle.cats_cmd.proofs.Common.{IsPriced, PricedGives, PricedRefuses, AddsJudgement, AddsOpened, AddsRefused, KeepsGroups, Judgement, IsHeavy, IsJudged}
-use Rattle.cats_cmd.proofs.Common.{IsUnjudged, JudgesAs, JudgesInput, CannotOpen, NotOpened, Run, PricedInput, Refused, files_if_heavy, files_if_judged}
-use Rattle.cats_cmd.proofs.Common.{heavy_files, heavy_paths, judged_files, judged_paths, paths_if_heavy, paths_if_judged, Groups, AreSameFiles, AreAlike}
-use Rattle.cats_cmd.proofs.Common.{unsearched_text, unsearched_texts_tell, canonical_texts_tell, Unopened}
+use Rattle.cats_cmd.proofs.Common.{◌≡◌, ℕ, List, [], ◌∷◌, ◌++◌, Option, None, Some, refl, ap, ap₂, subst, inl, inr, Global, Vec, PlainFile, IsPlainFile}
+use Rattle.cats_cmd.proofs.Common.{Prices, SearchOptions, fault_at, Kind, ReadFault, or_atoms_of, first_refused, RefusesAs, canonical_text, AddsText, IsText}
+use Rattle.cats_cmd.proofs.Common.{normalised_file, refusal_by_kind, refusal_of, CanonFault, Read, StepLimit, Memory, Only, text_within_limit, no_fault_made}
+use Rattle.cats_cmd.proofs.Common.{refused_bundle, heavy_bid, found_paths, HeavyBid, with_bid, exceeds_at, text_unless_refused, IsPriced, PricedGives}
+use Rattle.cats_cmd.proofs.Common.{PricedRefuses, AddsJudgement, AddsOpened, AddsRefused, KeepsGroups, Judgement, IsHeavy, IsJudged, IsUnjudged, JudgesAs}
+use Rattle.cats_cmd.proofs.Common.{JudgesInput, CannotOpen, NotOpened, Run, PricedInput, Refused, files_if_heavy, files_if_judged, heavy_files, heavy_paths}
+use Rattle.cats_cmd.proofs.Common.{judged_files, judged_paths, paths_if_heavy, paths_if_judged, Groups, AreSameFiles, AreAlike, unsearched_text}
+use Rattle.cats_cmd.proofs.Common.{unsearched_texts_tell, canonical_texts_tell, Unopened}
 use Rattle.cats_text.specs.declared.read_fault.Kind.TheVariants.{Memory as NoMemory}
-use Rattle.canon.specs.Normalising.{ExceedsSteps as Exceeds}
 use Rattle.cats_cmd.proofs.Skipping.{groups_skip}
 use Rattle.cats_cmd.proofs.FindingNumbers.{judgement_more, judgement_skipped, numbers_more}
 

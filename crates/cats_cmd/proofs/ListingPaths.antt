@@ -1,9 +1,8 @@
 -- The parts of a list of paths: what is behind its last NUL is a path only if it is not empty.
 use Rattle.cats_cmd.proofs.Common.{◌≡◌, ◌≢◌, ℕ, List, [], ◌∷◌, ◌++◌, length, refl, sym, ap, ◌∙◌, subst, arith, map, ◌<◌, true, Option, Err, list_all}
-use Rattle.cats_cmd.proofs.Common.{slice_split, and_parts, eq-eqb, append_assoc, length-map, map-append, length-slice_split, slice_split_at, Watched, ReadFault}
-use Rattle.cats_cmd.proofs.Common.{refusal_of, Only, IsUnread, IsOpened, ReadsBytes, Run, Refused, ended, parts_in, paths_in, without_empty_end, Unopened}
-use Rattle.std.proofs.Common.{Bor}
-use Rattle.std.specs.Prelude.{◌==◌}
+use Rattle.cats_cmd.proofs.Common.{slice_split, and_parts, eq-eqb, append_assoc, length-map, map-append, length-slice_split, slice_split_at, Watched}
+use Rattle.cats_cmd.proofs.Common.{ReadFault, refusal_of, Only, IsUnread, IsOpened, ReadsBytes, Run, Refused, ended, parts_in, paths_in, without_empty_end}
+use Rattle.cats_cmd.proofs.Common.{Unopened, Bor, ◌==◌}
 use Rattle.cats_cmd.proofs.PrintableTexts.{lacks, none_passes}
 use Rattle.cats_cmd.proofs.ReadingBytes.{unread_stream}
 

@@ -1,8 +1,7 @@
 -- Paths that were opened, and more of them behind these.
-use Rattle.cats_cmd.proofs.Common.{◌≡◌, ℕ, ◌+◌, ◌<◌, List, [], ◌∷◌, ◌++◌, length, map, get_or, take, refl, sym, ap, ◌∙◌, append-nil, Option, Some, None, Result}
-use Rattle.cats_cmd.proofs.Common.{Ok, Err, IsErr, IsUtf8, is_utf8, AllocError, append_assoc, take-map, filter-append, false_from_ne_true, IsUtf8-from_is_utf8}
-use Rattle.cats_cmd.proofs.Common.{OpensAllAs, Opens, openable, with_paths}
-use Rattle.std.proofs.Common.{Bor}
+use Rattle.cats_cmd.proofs.Common.{◌≡◌, ℕ, ◌+◌, ◌<◌, List, [], ◌∷◌, ◌++◌, length, map, get_or, take, refl, sym, ap, ◌∙◌, append-nil, Option, Some, None}
+use Rattle.cats_cmd.proofs.Common.{Result, Ok, Err, IsErr, IsUtf8, is_utf8, AllocError, append_assoc, take-map, filter-append, false_from_ne_true}
+use Rattle.cats_cmd.proofs.Common.{IsUtf8-from_is_utf8, OpensAllAs, Opens, openable, with_paths, Bor}
 use Rattle.cats_cmd.proofs.JudgingPaths.{one_more_path}
 
 with_more : (known : Option (List (List ℕ))) (paths more : List (List ℕ)) → with_paths (with_paths known paths) more ≡ with_paths known (paths ++ more)

@@ -5,8 +5,7 @@ use Rattle.cats_cmd.proofs.Common.{append-nil, filter, All, flat_map, list_all, 
 use Rattle.cats_cmd.proofs.Common.{not_from_false, nat_tests, flat_map-append, append_assoc, length-map, list_all-map, slice_split_at, slice_split_none}
 use Rattle.cats_cmd.proofs.Common.{after_empty_lines, duplicates_text, groups_text, lines_of, printed_groups, end_of, escaped, path_text, IsPath, behind_tabs}
 use Rattle.cats_cmd.proofs.Common.{end_byte, groups_in, has_lines, is_empty, paths_in_table, read_path, ended, parts_in, Judgement, cells, MakesTable, columns}
-use Rattle.cats_cmd.proofs.Common.{rows_of_table, sizes_header, Ending, Line, Null}
-use Rattle.std.specs.Prelude.{codes, drop}
+use Rattle.cats_cmd.proofs.Common.{rows_of_table, sizes_header, Ending, Line, Null, codes, drop}
 use Rattle.cats_cmd.proofs.FaultTexts.{fault_plain, number_plain, plain_lacks}
 use Rattle.cats_cmd.proofs.Grouping.{printed_have_paths}
 use Rattle.cats_cmd.proofs.ListingPaths.{parts_back}

@@ -3,8 +3,7 @@ use Rattle.cats_cmd.proofs.Common.{not, ◌≡◌, ℕ, zero, suc, ◌+◌, ◌/
 use Rattle.cats_cmd.proofs.Common.{◌∙◌, arith, append-nil, filter, digit_glyph, digits_onto, digit_char, encode_utf8, All, flat_map, list_all, all_scalars}
 use Rattle.cats_cmd.proofs.Common.{low_scalar, scalar, and_from, not-true, not_from_false, and_parts, cond_both, lt-ltb, ltb-true, nat_tests, All-weaker}
 use Rattle.cats_cmd.proofs.Common.{All-append, All-cons, All-nil, list_all-append, list_all-map, AllPass-from_list_all, list_all-from_AllPass, encode_ascii}
-use Rattle.cats_cmd.proofs.Common.{encodes-append, AreBytes, IsTextOf, escaped, escaped_byte, is_printable}
-use Rattle.std.specs.Prelude.{decimal}
+use Rattle.cats_cmd.proofs.Common.{encodes-append, AreBytes, IsTextOf, escaped, escaped_byte, is_printable, decimal}
 use Rattle.std.specs.Fmt.{digits}
 use Rattle.cats_cmd.proofs.Escaped.{escaped_by_parts, plainly}
 

@@ -2,8 +2,7 @@
 use Rattle.cats_cmd.proofs.Common.{◌≡◌, ℕ, ◌<◌, ◌==◌, ◌||◌, Bool, true, List, [], ◌∷◌, ◌++◌, refl, sym, subst, arith, All, flat_map, list_all, and_parts}
 use Rattle.cats_cmd.proofs.Common.{nat_tests, All-weaker, duplicates_text, groups_text, lines_of, printed_groups, AreBytes, IsTextOf, end_of, escaped}
 use Rattle.cats_cmd.proofs.Common.{is_printable, is_shown, path_text, Judgement, progress_line, refusal_line, line_of_request_error, MakesTable, row}
-use Rattle.cats_cmd.proofs.Common.{sizes_header, Line, RequestError}
-use Rattle.std.specs.Prelude.{codes, decimal}
+use Rattle.cats_cmd.proofs.Common.{sizes_header, Line, RequestError, codes, decimal}
 use Rattle.cats_cmd.proofs.FaultTexts.{Plain, error_line}
 use Rattle.cats_cmd.proofs.OutputPaths.{printed_all, words_of, words_plain}
 use Rattle.cats_cmd.proofs.PrintableTexts.{are_bytes, bytes_from, list_all-from_All, ascii_text, is_ascii, list_all-decimal, no_text, printable, text_behind}

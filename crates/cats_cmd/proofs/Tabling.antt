@@ -2,8 +2,8 @@
 use Rattle.cats_cmd.proofs.Common.{◌≡◌, ℕ, List, [], ◌∷◌, ◌++◌, map, refl, sym, append-nil, inl, inr, ap, ◌∙◌, Option, Some, None, IsSomeAnd, MatchOption}
 use Rattle.cats_cmd.proofs.Common.{option_map, flat_map-append, PlainFile, SearchOptions, Read, StepLimit, Memory, Only, ReadFault, RunFault, Refused, Sized}
 use Rattle.cats_cmd.proofs.Common.{IsSized, IsTooHeavy, IsUnsized, Sizes, cells, fault_sized, numbers_sized, Judgement, IsHeavy, IsJudged, IsUnjudged}
-use Rattle.cats_cmd.proofs.Common.{JudgesInput, request_error_of, columns, fault_cell, number_columns, row, rows_of_table, path_text, Ending, RequestError, Run}
-use Rattle.std.specs.Prelude.{codes}
+use Rattle.cats_cmd.proofs.Common.{JudgesInput, request_error_of, columns, fault_cell, number_columns, row, rows_of_table, path_text, Ending, RequestError}
+use Rattle.cats_cmd.proofs.Common.{Run, codes}
 
 -- ---- what became of a file
 

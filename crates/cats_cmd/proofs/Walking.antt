@@ -2,10 +2,7 @@
 use Rattle.cats_cmd.proofs.Common.{◌≡◌, ℕ, List, [], ◌∷◌, ◌++◌, refl, sym, ap, ◌∙◌, subst, true, false, cond, append-nil, length, arith, Global, IsPermutation}
 use Rattle.cats_cmd.proofs.Common.{nat_eq, ends_with, IsSorted, is_lt, nat_cmp, slice_cmp, append_assoc, get_or_append_left, All-append, All-map, All-nil}
 use Rattle.cats_cmd.proofs.Common.{All-push, All-permutation, get_or-append_seam, map-sorted, BeginsWith, IsBelow, ListsFolder, paths_of, with_slash}
-use Rattle.cats_cmd.proofs.Common.{WalksBelow, Walk}
-use Rattle.std.proofs.Common.{Vec}
-use Rattle.std.specs.Prelude.{All}
-use Rattle.std.proofs.lemmas.List.{length-append}
+use Rattle.cats_cmd.proofs.Common.{WalksBelow, Walk, Vec, All, length-append}
 
 abbrev pub Begins : List ℕ → Vec ℕ Global → Type 0
 Begins start path = BeginsWith start path.items

@@ -66,9 +66,9 @@ pub use Rattle.goods_set.specs.Bundles.{has_good, AreAbove, IsRising, AreBelow}
 pub use Rattle.goods_set.specs.Lemmas.Members.{has_head, has_tail, has_cases, has_above, same_from_has, has_below}
 pub use Rattle.goods_set.specs.Lemmas.Sizes.{has-with_good, IsRising-with_good}
 pub use Rattle.std.proofs.Common.{◌≡◌, ◌<◌, ℕ, true, List, length, Option, Some, None, Result, Ok, Err, MatchOption, refl, sym, subst, inr, arith, rules, suc}
-pub use Rattle.std.proofs.Common.{zero, ◌+◌, ◌-◌, ◌≤◌, min, Bool, false, [], ◌∷◌, ◌++◌, take, ap, ◌∙◌, inl, ◌⊎◌, length-append, ◌^◌, IfSome, if◌then◌else◌, not}
-pub use Rattle.std.proofs.Common.{◌&&◌, ◌||◌, cond, eqb, ltb, leb, replicate, set, get_or, add-one, OnOk, nat_lt, map, append-nil, ap₂, append_assoc, ◌≢◌}
-pub use Rattle.std.proofs.Common.{⊎_elim, fold, drop, ◌==◌, IfOk, IsOkAnd, filter, ◌*◌, ◌%◌, slice_range, lt_of_lt_of_le, zero-add, drop-cons, get_or-set_same}
+pub use Rattle.std.proofs.Common.{zero, ◌+◌, ◌-◌, ◌≤◌, min, Bool, false, [], ◌∷◌, ◌++◌, take, ap, ◌∙◌, inl, ◌⊎◌, length-append, ◌^◌, IfSome, if◌then◌else◌}
+pub use Rattle.std.proofs.Common.{not, ◌&&◌, ◌||◌, cond, eqb, ltb, leb, replicate, set, get_or, add-one, OnOk, nat_lt, map, append-nil, ap₂, append_assoc, ◌≢◌}
+pub use Rattle.std.proofs.Common.{⊎_elim, fold, drop, IfOk, IsOkAnd, filter, ◌*◌, ◌%◌, slice_range, lt_of_lt_of_le, zero-add, drop-cons, get_or-set_same}
 pub use Rattle.std.proofs.Common.{get_or-set_other, nat_le, option_map, add-zero, codes, decimal, take-take, ◌/◌, vec_len, MutBor, vec_capacity}
 pub use Rattle.std.proofs.KnownBytes.{Appends-trans, Appends-nil, Consumes-trans, Consumes-kept}
 pub use Rattle.std.proofs.Math.ListN.{drop_of_length-le}
@@ -112,10 +112,10 @@ pub use denote.Builtin.{u8}
 pub use denote.Exit.{yes}
 pub use denote.Memory.{mem}
 pub use denote.RattleType.{owns}
-pub use denote.Ref.{MutRef, mut_vals, mut_Tells, Bor}
+pub use denote.Ref.{MutRef, mut_vals, Bor}
 pub use denote.Shadow.{pure_i}
 pub use denote.Signature.{plain}
-pub use denote.Slice.{ShrSlice, slice_val, shr_slice_vals, shr_slice_Tells}
+pub use denote.Slice.{ShrSlice, slice_val, shr_slice_vals}
 pub use denote.Steps.{nothing, opens, closes}
 pub use denote.Triple.Entry.{on_entry}
 pub use denote.Triple.Spec.{Meets, triple_of}

@@ -1,8 +1,7 @@
 -- The place that `xor_value` answers is the least of a best atom: no atom before it is one, so the search for the first passes them.
 use Rattle.commands.proofs.Common.{◌≡◌, ◌≢◌, ℕ, ◌<◌, Bool, true, false, ◌&&◌, ◌==◌, List, [], length, get_or, Option, Some, None, refl, arith, All, IsNone}
 use Rattle.commands.proofs.Common.{position_or_len, eqb-true, and_from, and_left, eq-eqb, lt-ltb, le-ltb, position_or_len_is, is_inside, Atom, xor_value}
-use Rattle.commands.proofs.Common.{IsFirstBest, best_place}
-use Rattle.std.specs.Prelude.{IfSome}
+use Rattle.commands.proofs.Common.{IsFirstBest, best_place, IfSome}
 
 -- whether the atom is inside the bundle and its price is the value
 abbrev is_best : ℕ → List ℕ → Atom (List ℕ) → Bool

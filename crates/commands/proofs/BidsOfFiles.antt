@@ -2,14 +2,12 @@
 -- atoms, and so a bid of the file.
 use Rattle.commands.proofs.Common.{◌≡◌, ◌<◌, ℕ, Bool, true, List, [], length, map, get_or, sym, ap, ◌∙◌, subst, arith, Option, Some, None, All, Contains}
 use Rattle.commands.proofs.Common.{range_with_len, get_or-map, length-map, All-contains, All-get_or, All-weaker, Contains-get_or, get_or-map-range_with_len}
-use Rattle.commands.proofs.Common.{length-map-range_with_len, PlainBid, PlainFile, IsDummyBelow, IsPlainFile, Atom, IsAtom, PlainAuction, atom_of, auction_from}
-use Rattle.commands.proofs.Common.{is_dummy, or_atoms_of, xor_atoms_of, Contains-unmap, just_bundles, on_bundles, or_points_are_atoms, xor_points_are_atoms}
-use Rattle.commands.proofs.Common.{Contains-filter_parts, or_points, HasAtoms, auction_from-file_from, HasAtoms-file, canonical_auction, canonical_file}
-use Rattle.commands.proofs.Common.{kept_dummies-below, points_of_kept_dummies, kept_dummies, named_dummy, points_of_dummy, PlainBidderChange, AreBidderChanges}
-use Rattle.commands.proofs.Common.{bidder_at, bids_at, PlainChange, IsPriceChange, ArePriceChanges, price_on, bid_of_price, none_is, some_is, IsBidOf}
-use Rattle.commands.proofs.Common.{IsOfBidders, IsOfBids}
-use Rattle.std.proofs.Common.{is_none}
-use Rattle.std.specs.List.{filter}
+use Rattle.commands.proofs.Common.{length-map-range_with_len, PlainBid, PlainFile, IsDummyBelow, IsPlainFile, Atom, IsAtom, PlainAuction, atom_of}
+use Rattle.commands.proofs.Common.{auction_from, is_dummy, or_atoms_of, xor_atoms_of, Contains-unmap, just_bundles, on_bundles, or_points_are_atoms}
+use Rattle.commands.proofs.Common.{xor_points_are_atoms, Contains-filter_parts, or_points, HasAtoms, auction_from-file_from, HasAtoms-file, canonical_auction}
+use Rattle.commands.proofs.Common.{canonical_file, kept_dummies-below, points_of_kept_dummies, kept_dummies, named_dummy, points_of_dummy, PlainBidderChange}
+use Rattle.commands.proofs.Common.{AreBidderChanges, bidder_at, bids_at, PlainChange, IsPriceChange, ArePriceChanges, price_on, bid_of_price, none_is, some_is}
+use Rattle.commands.proofs.Common.{IsBidOf, IsOfBidders, IsOfBids, is_none, filter}
 use Rattle.commands.proofs.ComparedFiles.{lefts_below, rights_below}
 
 -- each point is an atom of the bids that pass a test, so its price is that of a bid

@@ -59,8 +59,8 @@ pub use Rattle.commands.specs.Buffers.{Calls, Gives, GivesFault, GivesOutput, Pu
 pub use Rattle.commands.specs.Commands.{AnswersBy, Commands, IsRefused, IsWantOfMemory, text_of, GivesWithin, ReadsCanonical}
 pub use Rattle.commands.specs.ComparisonTexts.{bidder_text}
 pub use Rattle.commands.specs.DiffTexts.{bid_number, bidder_rows, change_row, diff_header, diff_text, goods_row}
-pub use Rattle.commands.specs.DuplicatesCalls.{AnswersFirsts, DuplicatesCalls, SaysFirsts, AnswersFirst, IsFirstSame, SizesText, line_of_first, status_of_first}
-pub use Rattle.commands.specs.DuplicatesCalls.{texts_of}
+pub use Rattle.commands.specs.DuplicatesCalls.{AnswersFirsts, DuplicatesCalls, SaysFirsts, AnswersFirst, IsFirstSame, SizesText, line_of_first}
+pub use Rattle.commands.specs.DuplicatesCalls.{status_of_first, texts_of}
 pub use Rattle.commands.specs.Examples.{larger_bid}
 pub use Rattle.commands.specs.ExplanationTexts.{explanation_row, explanation_header}
 pub use Rattle.commands.specs.FaultCalls.{AnswersPlace, AnswersPlaceBy, FaultCalls, IsUnplaced, SaysPlace}

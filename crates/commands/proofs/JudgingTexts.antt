@@ -6,9 +6,7 @@ use Rattle.commands.proofs.Common.{ReadFault, or_atoms_of, SearchOptions, first_
 use Rattle.commands.proofs.Common.{normalised_file, unless_refused, refusal_of, AreSameFiles, CanonFault, Read, StepLimit, Memory, Only, canonical_texts_tell}
 use Rattle.commands.proofs.Common.{index_of_more, number_of_more, AnswersFirst, IsFirstSame, SizesText, line_of_first, status_of_first, texts_of, JudgesText}
 use Rattle.commands.proofs.Common.{Keeps, SaysSoFar, files_if_sized, files_sized, numbers_sized, FinePrices, with_bid, RefusesText, text_read, Sized, IsSized}
-use Rattle.commands.proofs.Common.{IsTooHeavy, IsUnsized, JudgedTexts, RunFault, Refused, pushed_before, pushed_earlier}
-use Rattle.std.proofs.Common.{slice_get}
-use Rattle.std.proofs.Common.{flat_map}
+use Rattle.commands.proofs.Common.{IsTooHeavy, IsUnsized, JudgedTexts, RunFault, Refused, pushed_before, pushed_earlier, slice_get, flat_map}
 use Rattle.cats_text.specs.declared.read_fault.Kind.TheVariants.{Memory as NoMemory}
 use Rattle.canon.specs.Normalising.{ExceedsSteps}
 use Rattle.commands.proofs.Sizing.{heavy_bid, sizes_heavy, sizes_unread}

@@ -2,8 +2,7 @@
 use Rattle.commands.proofs.Common.{arith, ◌≡◌, ℕ, ◌<◌, true, ltb, List, [], ◌∷◌, length, get_or, sym, ap, ◌∙◌, Some, Contains, is_none, nat_eq, and_from}
 use Rattle.commands.proofs.Common.{ltb-true, nat_list_eq_equiv, passes_at_first, pointwise, PlainBid, PlainFile, Atom, SearchOptions, atom_of, or_atoms_of}
 use Rattle.commands.proofs.Common.{Contains-unmap, options_after, Contains-head, Contains-tail, Contains-filter_parts, greatest_price-reached, greatest_price}
-use Rattle.commands.proofs.Common.{search_steps_by, searched_bundles, first_bid_on, is_on}
-use Rattle.std.specs.List.{filter}
+use Rattle.commands.proofs.Common.{search_steps_by, searched_bundles, first_bid_on, is_on, filter}
 use Rattle.prune.specs.SearchSteps.{first_over, first_refused}
 use Rattle.commands.proofs.BidNumbers.{first_within}
 

@@ -3,9 +3,7 @@
 use Rattle.commands.proofs.Common.{◌≡◌, ℕ, suc, ◌+◌, ◌<◌, Bool, true, false, cond, List, [], ◌∷◌, ◌++◌, length, map, get_or, set, take, Some, None, Global}
 use Rattle.commands.proofs.Common.{refl, sym, ap, ◌∙◌, arith, append_assoc, append-nil, zero-add, Vec, range_with_len, ne_eqb, eq-eqb, take_more, length-map}
 use Rattle.commands.proofs.Common.{length-take-le, map-set, PlainBid, atom_of, is_dummy, or_atoms_of, xor_atoms_of, numbers_from, or_numbers, xor_numbers}
-use Rattle.commands.proofs.Common.{lists_of}
-use Rattle.std.proofs.Common.{is_none}
-use Rattle.std.specs.Prelude.{filter}
+use Rattle.commands.proofs.Common.{lists_of, is_none, filter}
 use Rattle.commands.proofs.ByNumber.{by_number-same, by_number-set, seen_by_number-length, seen_by_number-at}
 
 -- ---- as many as atoms

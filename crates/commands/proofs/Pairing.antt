@@ -1,10 +1,9 @@
 -- What is made of two files that were given: an answer, or memory is refused for it.
 use Rattle.commands.proofs.Common.{rules, ◌≡◌, Result, Ok, Err, sym, ap, ap₂, ◌∙◌, subst, IfOk, IfErr, IfOk-weaker, PlainFile, IsPlainFile, ReadFault}
-use Rattle.commands.proofs.Common.{SearchOptions, difference_of_same_files, same_sym, canonical_file_is_same, IsPlainFile-canonical, canonical_file, CanonFault}
-use Rattle.commands.proofs.Common.{Memory, Which, First, Second, Both, PrintsDifferences, RunFault, ComparedFile, GivesWithin, ReadsCanonical, text_of, of_file}
-use Rattle.commands.proofs.Common.{Outcome, Prints, compare_outcome, diff_outcome, naming_outcome, normalise_outcome, outcome_of_difference, CommandsBoth}
-use Rattle.commands.proofs.Common.{Compares, Diffs, GivesBoth, MakesOfBoth, outcome_of_both, Answer}
-use Rattle.std.specs.Prelude.{ℕ, List}
+use Rattle.commands.proofs.Common.{SearchOptions, difference_of_same_files, same_sym, canonical_file_is_same, IsPlainFile-canonical, canonical_file}
+use Rattle.commands.proofs.Common.{CanonFault, Memory, Which, First, Second, Both, PrintsDifferences, RunFault, ComparedFile, GivesWithin, ReadsCanonical}
+use Rattle.commands.proofs.Common.{text_of, of_file, Outcome, Prints, compare_outcome, diff_outcome, naming_outcome, normalise_outcome, outcome_of_difference}
+use Rattle.commands.proofs.Common.{CommandsBoth, Compares, Diffs, GivesBoth, MakesOfBoth, outcome_of_both, Answer, ℕ, List}
 
 -- what was given, if there is no fault
 given_of : {T : Type 0} (P : Result T CanonFault → Type 0) (which : Which) (answer : Result T CanonFault) (given : T)

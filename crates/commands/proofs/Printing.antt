@@ -1,9 +1,8 @@
 -- The lines of the XOR bidders, one by one: one more bidder's line, made piece by piece, is put behind those of the bidders before it.
 use Rattle.commands.proofs.Common.{◌≡◌, ℕ, ◌+◌, ◌<◌, List, ◌∷◌, ◌++◌, length, map, get_or, Global, sym, ap, ◌∙◌, arith, append_assoc, Vec, OnOk, is_ok}
 use Rattle.commands.proofs.Common.{if◌then◌else◌, All, flat_map, range_with_len, All-weaker, PlainBid, PlainFile, price_text, Atom, or_atoms_of, xor_atoms_of}
-use Rattle.commands.proofs.Common.{bidders_of, atoms_of, chosen_indices, xor_value, chosen_indices-packing, best_place, dummy_line, numbers_text, option_places}
-use Rattle.commands.proofs.Common.{or_numbers, xor_line, xor_numbers}
-use Rattle.std.specs.Prelude.{Option, Result, Ok, Err, codes, decimal}
+use Rattle.commands.proofs.Common.{bidders_of, atoms_of, chosen_indices, xor_value, chosen_indices-packing, best_place, dummy_line, numbers_text}
+use Rattle.commands.proofs.Common.{option_places, or_numbers, xor_line, xor_numbers, Option, Result, Ok, Err, codes, decimal}
 use Rattle.commands.proofs.ByNumber.{seen_by_number-at}
 use Rattle.commands.proofs.Lines.{lines_more}
 use Rattle.commands.proofs.Numbering.{length-or_numbers}

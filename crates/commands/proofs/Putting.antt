@@ -1,7 +1,6 @@
 -- Texts that are put into a buffer, one behind the other.
 use Rattle.commands.proofs.Common.{◌≡◌, ℕ, ◌+◌, ◌^◌, ◌<◌, ◌≤◌, List, [], ◌++◌, length, get_or, take, drop, refl, sym, ap, ap₂, ◌∙◌, arith, append-nil}
-use Rattle.commands.proofs.Common.{length-append, flat_map, flat_map-append, drop-drop, take-append-drop, take_more, PutsInto, PutsFrom}
-use Rattle.std.proofs.lemmas.List.{append_assoc}
+use Rattle.commands.proofs.Common.{length-append, flat_map, flat_map-append, drop-drop, take-append-drop, take_more, PutsInto, PutsFrom, append_assoc}
 
 pub puts_nothing : (at : ℕ) (old : List ℕ) → at < 2 ^ 64 → PutsFrom at [] old old at
 puts_nothing at old small = record {

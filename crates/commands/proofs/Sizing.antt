@@ -1,11 +1,9 @@
 -- The numbers in a row of `cats sizes`: how many bids have no dummy good, and which dummy goods the bids so far have.
-use Rattle.commands.proofs.Common.{◌≡◌, ℕ, ◌+◌, ◌<◌, Bool, true, false, cond, List, [], ◌++◌, length, map, set, take, refl, arith, inl, inr, Option, Some, None}
-use Rattle.commands.proofs.Common.{Global, is_none, ◌||◌, Vec, range_with_len, slice_get, length-filter_more, list_any_more, get_or_from_slice_get}
+use Rattle.commands.proofs.Common.{◌≡◌, ℕ, ◌+◌, ◌<◌, Bool, true, false, cond, List, [], ◌++◌, length, map, set, take, refl, arith, inl, inr, Option, Some}
+use Rattle.commands.proofs.Common.{None, Global, is_none, ◌||◌, Vec, range_with_len, slice_get, length-filter_more, list_any_more, get_or_from_slice_get}
 use Rattle.commands.proofs.Common.{slice_get_within, PlainBid, PlainFile, Kind, ReadFault, is_dummy, or_atoms_of, SearchOptions, first_refused, canonical_file}
 use Rattle.commands.proofs.Common.{refusal_by_kind, refusal_of, StepLimit, Memory, Only, HeavyBid, RunFault, Refused, with_bid, first_bid_on, Sizes, IsSized}
-use Rattle.commands.proofs.Common.{IsTooHeavy, IsUnsized, PutsNumbers, counts_of, has_dummy, sizes_of, with_tabs}
-use Rattle.std.specs.Prelude.{codes, filter}
-use Rattle.std.proofs.lemmas.List.{append_assoc}
+use Rattle.commands.proofs.Common.{IsTooHeavy, IsUnsized, PutsNumbers, counts_of, has_dummy, sizes_of, with_tabs, codes, filter, append_assoc}
 use Rattle.cats_text.specs.declared.read_fault.Kind.TheVariants.{Memory as NoMemory}
 use Rattle.commands.proofs.ByNumber.{by_number-same, by_number-set}
 

@@ -12,20 +12,18 @@ pub use Rattle.goods_set.specs.Lemmas.Sizes.{IsBundle-with_good, with_good_there
 pub use Rattle.goods_set.specs.Lemmas.SortKeys.{sort_key_less, order_by_key, sort_key_of-short, sort_key_of-long}
 pub use Rattle.goods_set.specs.Lemmas.Words.{word_goods_bundle, word_goods_has, word_goods_parts, word_goods_same, word_bit_at, word_goods_lacks}
 pub use Rattle.goods_set.specs.Lemmas.Words.{word_goods_rise, words_without, word_goods_past, words_apart, words_sharing, words_inside, words_outside}
-pub use Rattle.goods_set.specs.SortKeys.{sort_key_of}
 pub use Rattle.goods_set.specs.Words.{word_bit, word_goods, word_cap}
 pub use Rattle.std.proofs.Common.{rules, ◌≡◌, ℕ, ◌*◌, ◌/◌, ◌%◌, ◌^◌, min, ◌<◌, ◌≤◌, ◌≢◌, true, false, not, eqb, ltb, ◌⊎◌, inl, inr, ⊎_elim, List, [], length}
-pub use Rattle.std.proofs.Common.{take, get_or, set, replicate, refl, sym, ap, ◌∙◌, subst, arith, w64, shl_exact, pow_pos, get_or-set_same, get_or-set_other}
-pub use Rattle.std.proofs.Common.{get_or-take, length-take, ◌+◌, ◌-◌, ◌||◌, ◌∷◌, Less, Equal, Greater, nat_cmp, zero, suc, map, ap₂, Bool, cond, ◌++◌}
-pub use Rattle.std.proofs.Common.{append_assoc, drop, MatchResult, Bor, Option, lit<}
+pub use Rattle.std.proofs.Common.{take, get_or, set, replicate, refl, sym, ap, ◌∙◌, subst, arith, w64, shl_exact, get_or-set_same, ◌+◌, ◌-◌, ◌∷◌, Less, Equal}
+pub use Rattle.std.proofs.Common.{Greater, nat_cmp, zero, suc, map, ap₂, Bool, cond, ◌++◌, append_assoc, drop, MatchResult, Bor, Option, lit<}
 pub use Rattle.std.proofs.lemmas.Bool.{both_ways, cases_eq, cases_Bool, eq-eqb, ne_eqb, eqb-true, ltb-true, ltb-false, false_from_ne_true, or_left, or_right}
 pub use Rattle.std.proofs.lemmas.Bool.{or_cases, cases_lt, cases_order, eqb-false, or_parts, or_from, lt-ltb, le-ltb, le-leb, lt-leb}
 pub use Rattle.std.proofs.lemmas.Bool.Decides.{Decides-eqb}
 pub use Rattle.std.proofs.lemmas.Cmp.{nat_list_cmp_total, tied_itself}
 pub use Rattle.std.proofs.lemmas.Fn.{filter_same}
 pub use Rattle.std.proofs.lemmas.Grind.{common_steps, get_or_default_zero}
-pub use Rattle.std.proofs.lemmas.List.{get_or_past, get_or-map, length-map, append-nil, length-set, length-append, length-drop, get_or-drop, get_or_append_left}
-pub use Rattle.std.proofs.lemmas.List.{get_or-append_right, drop_all, take_all}
+pub use Rattle.std.proofs.lemmas.List.{get_or_past, get_or-map, length-map, append-nil, length-set, length-append, length-drop, get_or-drop}
+pub use Rattle.std.proofs.lemmas.List.{get_or_append_left, get_or-append_right, drop_all, take_all, get_or-take, length-take}
 pub use Rattle.std.proofs.lemmas.List.FromFn.{length-range_with_len, get_or-map-range_with_len}
 pub use Rattle.std.proofs.lemmas.List.Sorted.{searched, IsPartitionPoint-from_clause}
 pub use Rattle.std.proofs.lemmas.List.Sums.{length-filter}
@@ -38,7 +36,7 @@ pub use Rattle.std.proofs.lemmas.Simd.{get_or-put_chunk_at, get_or-put_chunk_abo
 pub use Rattle.std.proofs.lemmas.Slice.Eq.{slice_eq-Decides}
 pub use Rattle.std.specs.Cmp.Lexicographic.{slice_cmp}
 pub use Rattle.std.specs.Int.{bit_at, trailing_zeros, bit_not}
-pub use Rattle.std.specs.Int.Bits.{or_zero_l, and_zero_l}
+pub use Rattle.std.specs.Int.Bits.{or_zero_l}
 pub use Rattle.std.specs.Int.RustNames.{bit_and, bit_or, bit_xor, count_ones}
 pub use Rattle.std.specs.List.{filter, range_with_len, insert, slice_get}
 pub use Rattle.std.specs.List.Sorted.{IsBinarySearchResult, IsPartitionPoint, IsPartitionedBy}

@@ -1,10 +1,9 @@
 -- Words that hold goods of any number: past the last word there is none, so what they hold is what their bits are, whatever the bound.
-use Rattle.goods_set.proofs.Common.{rules, ◌≡◌, ℕ, ◌+◌, ◌*◌, ◌/◌, ◌%◌, ◌^◌, ◌<◌, ◌≤◌, min, List, length, get_or, take, ◌++◌, set}
-use Rattle.goods_set.proofs.Common.{drop, replicate, sym, ap, ap₂, ◌∙◌, arith, w64, bit_at, bit_not, bit_and, bit_or, cases_lt}
-use Rattle.goods_set.proofs.Common.{and_mask, bit_at-zero, length-set, length-append, length-drop, get_or-drop, get_or_past, get_or_append_left}
-use Rattle.goods_set.proofs.Common.{get_or-append_right, append-nil, drop_all, take_all, get_or_default_zero, with_good, without, same_from_has, word_bit}
-use Rattle.goods_set.proofs.Common.{word_goods, word_goods_rise, word_goods_has, word_goods_parts, word_goods_same, words_without}
-use Rattle.std.proofs.lemmas.List.{get_or-take}
+use Rattle.goods_set.proofs.Common.{rules, ◌≡◌, ℕ, ◌+◌, ◌*◌, ◌/◌, ◌%◌, ◌^◌, ◌<◌, ◌≤◌, min, List, length, get_or, take, ◌++◌, set, drop, replicate, sym, ap}
+use Rattle.goods_set.proofs.Common.{ap₂, ◌∙◌, arith, w64, bit_at, bit_not, bit_and, bit_or, cases_lt, and_mask, bit_at-zero, length-set, length-append}
+use Rattle.goods_set.proofs.Common.{length-drop, get_or-drop, get_or_past, get_or_append_left, get_or-append_right, append-nil, drop_all, take_all}
+use Rattle.goods_set.proofs.Common.{get_or_default_zero, with_good, without, same_from_has, word_bit, word_goods, word_goods_rise, word_goods_has}
+use Rattle.goods_set.proofs.Common.{word_goods_parts, word_goods_same, words_without, get_or-take}
 use Rattle.goods_set.proofs.Bits.{zeros, with_bit}
 
 -- a bit that is set is in a word that is there

@@ -1,10 +1,8 @@
 -- Where a good is in a rising list, or where it goes: what a binary search and a partition point say.
 use Rattle.goods_set.proofs.Common.{rules, ◌≡◌, ℕ, zero, suc, ◌+◌, ◌<◌, ◌≤◌, true, false, eqb, ltb, List, [], ◌∷◌, length, get_or, refl, sym, ap, ◌∙◌, arith}
-use Rattle.goods_set.proofs.Common.{MatchResult, Bor, Result, Some, None, or_left, or_right, or_from, eq-eqb, ne_eqb, ltb-true, ltb-false}
-use Rattle.goods_set.proofs.Common.{lt-ltb, le-ltb, le-leb, lt-leb, searched, insert, slice_get, IsBinarySearchResult, IsPartitionPoint, IsPartitionedBy}
-use Rattle.goods_set.proofs.Common.{option_copied, IsItemAt, slice_get-get_or, slice_get_past, AreAbove, IsRising, has_good, with_good, good_from}
-use Rattle.std.specs.Prelude.{Option}
-use Rattle.std.specs.Ordering.{nat_cmp}
+use Rattle.goods_set.proofs.Common.{MatchResult, Bor, Result, Some, None, or_left, or_right, or_from, eq-eqb, ne_eqb, ltb-true, ltb-false, lt-ltb, le-ltb}
+use Rattle.goods_set.proofs.Common.{le-leb, lt-leb, searched, insert, slice_get, IsBinarySearchResult, IsPartitionPoint, IsPartitionedBy, option_copied}
+use Rattle.goods_set.proofs.Common.{IsItemAt, slice_get-get_or, slice_get_past, AreAbove, IsRising, has_good, with_good, good_from, Option, nat_cmp}
 
 AreAbove-get_or : (x : ℕ) (xs : List ℕ) (k d : ℕ) → AreAbove x xs → k < length xs → x < get_or xs k d
 AreAbove-get_or x [] k d a l = absurd (omega arith)

@@ -1,13 +1,13 @@
 -- Bids sorted by bundle and by falling price: the first on each bundle are the best.
 use Rattle.prune.proofs.Common.{rules, ◌≡◌, ℕ, ◌+◌, ◌<◌, ◌≤◌, Bool, true, false, cond, ltb, ◌⊎◌, inl, inr, ⊎_elim, List, [], ◌∷◌, map, length, get_or, refl}
-use Rattle.prune.proofs.Common.{sym, ap, ap₂, ◌∙◌, subst, arith, le_refl, Ordering, Less, Equal, Greater, is_lt, nat_cmp, AllPairs, Contains, IsPermutation}
+use Rattle.prune.proofs.Common.{sym, ap, ap₂, ◌∙◌, subst, arith, le_refl, Ordering, Less, Equal, Greater, is_lt, AllPairs, Contains, IsPermutation}
 use Rattle.prune.proofs.Common.{IsTotalOrder, filter, dedup, dedup_from, IsSortedBy, is_eq, ordering_then, cases_Bool, cases_lt, both_ways, false_from_ne_true}
 use Rattle.prune.proofs.Common.{ltb-true, lt-ltb, cond-true, cond-false, on_total, then_total, back_total, nat_cmp_total, length-map, get_or-map, All-head}
 use Rattle.prune.proofs.Common.{All-tail, All-from_recursion, IsStrictlySortedBy-dedup, Contains-from_dedup, sorted_far, ranks_by, Contains-permutation}
 use Rattle.prune.proofs.Common.{IsPermutation-sym, IsPermutation-map, IsInside, is_inside, inside_refl, bundle_cmp, bundle_cmp_total, bundle_cmp_refl}
 use Rattle.prune.proofs.Common.{bundle_cmp_equal, nat_cmp-lt, Atom, Contains-cons_cases, AllPairs-nil, AllPairs-cons, AllPairs-head, AllPairs-tail}
-use Rattle.prune.proofs.Common.{AllPairs-map, map-filter, Contains-nil, Contains-head, Contains-tail, Contains-filter, Contains-filter_parts, All-from_Contains}
-use Rattle.prune.proofs.Common.{IsBefore, IsInOrder, bid_cmp, AreBestBids}
+use Rattle.prune.proofs.Common.{AllPairs-map, map-filter, Contains-nil, Contains-head, Contains-tail, Contains-filter, Contains-filter_parts}
+use Rattle.prune.proofs.Common.{All-from_Contains, IsBefore, IsInOrder, bid_cmp, AreBestBids}
 use Rattle.std.specs.List.Sorted.{IsStrictlySortedBy}
 
 abbrev pub is_bid_before : Atom (List ℕ) → Atom (List ℕ) → Bool

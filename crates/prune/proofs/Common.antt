@@ -13,16 +13,16 @@ pub use Rattle.prune.specs.Fates.{best_bids, indices_below, plain_fate, ordered,
 pub use Rattle.prune.specs.Faults.{IfStepLimit}
 pub use Rattle.prune.specs.InOrder.{IsBefore, IsInOrder}
 pub use Rattle.prune.specs.Internal.BestBids.{bid_cmp, AreBestBids}
-pub use Rattle.prune.specs.Internal.Fingerprints.{AreMarks, mark_of, mixed}
-pub use Rattle.prune.specs.Internal.Listings.{indices_at, is_inside_at, dominates, dominates_at, first_dominating_index, listed_at, AreListed, NoneInsideFrom}
-pub use Rattle.prune.specs.Internal.Listings.{MayBePosting, IsListed, IsPosting, AreGoodsOf, IsBehind, ComesNext, lists_of, indices_of, IsIndexOf}
-pub use Rattle.prune.specs.Internal.Reaching.{found_inside, indices_inside, steps_for, IsFinderOf}
+pub use Rattle.prune.specs.Internal.Fingerprints.{AreMarks, mark_of}
+pub use Rattle.prune.specs.Internal.Listings.{indices_at, dominates, dominates_at, first_dominating_index, listed_at, AreListed, NoneInsideFrom, MayBePosting}
+pub use Rattle.prune.specs.Internal.Listings.{IsListed, IsPosting, AreGoodsOf, IsBehind, ComesNext, lists_of, indices_of, IsIndexOf}
+pub use Rattle.prune.specs.Internal.Reaching.{found_inside, steps_for, IsFinderOf}
 pub use Rattle.prune.specs.Lemmas.Fates.{or_fate-push, xor_fate-push, atoms_below-push, or_fate-reaches, xor_fate-reaches}
 pub use Rattle.prune.specs.Lemmas.InOrder.{before_itself, before_not_inside, same_bundle_same_atom}
 pub use Rattle.prune.specs.Lemmas.KeptBids.{contains_from_has, has_from_contains, all_nonempty, on_bundles, xor_kept_are_points, xor_points_same}
 pub use Rattle.prune.specs.Lemmas.KeptBids.{or_kept_are_points, or_points_same, xor_points_any_goods, or_points_any_goods, just_bundles, xor_points_are_atoms}
 pub use Rattle.prune.specs.Lemmas.KeptBids.{or_points_are_atoms, xor_points_keep_values, or_points_keep_values, xor_points_again, or_points_again}
-pub use Rattle.prune.specs.Lemmas.Lists.{map-filter, Contains-nil, Contains-head, Contains-tail, Contains-filter, Contains-filter_parts, All-from_Contains}
+pub use Rattle.prune.specs.Lemmas.Lists.{Contains-nil, Contains-head, Contains-tail, Contains-filter, Contains-filter_parts, All-from_Contains}
 pub use Rattle.prune.specs.Lemmas.Lists.{is_some-find_map, filter_same_on, find_filter, map_same_on, list_any_filter, zero_or_more}
 pub use Rattle.prune.specs.Lemmas.OnBundles.{IsOnBundle}
 pub use Rattle.prune.specs.Lemmas.PackingIndices.{map-reverse, reversed_within}
@@ -39,8 +39,8 @@ pub use Rattle.prune.specs.SearchSteps.{atoms_below, greatest_price, is_below, i
 pub use Rattle.prune.specs.declared.subset_index.Posting.{Posting}
 pub use Rattle.std.proofs.Common.{rules, ◌≡◌, ℕ, ◌+◌, ◌<◌, ◌≤◌, Bool, true, false, cond, ltb, ◌⊎◌, inl, inr, ⊎_elim, List, [], ◌∷◌, map, length, get_or, refl}
 pub use Rattle.std.proofs.Common.{sym, ap, ap₂, ◌∙◌, subst, arith, le_refl, Ordering, Less, Equal, Greater, is_lt, nat_cmp, leb, take, Some, None, ◌≢◌, zero}
-pub use Rattle.std.proofs.Common.{suc, append_assoc, eqb, ◌++◌, subst₂, ◌*◌, ◌/◌, ◌%◌, ◌-◌, ◌^◌, min, drop, set, not, ◌&&◌, le_trans, ◌||◌, max, le_antisymm}
-pub use Rattle.std.proofs.Common.{reverse, get_or-set_same, get_or-set_other, Err, append-nil, vec_len}
+pub use Rattle.std.proofs.Common.{suc, append_assoc, eqb, ◌++◌, subst₂, ◌*◌, ◌%◌, ◌-◌, ◌^◌, min, drop, set, not, le_trans, le_antisymm, reverse, Err}
+pub use Rattle.std.proofs.Common.{append-nil, vec_len}
 pub use Rattle.std.proofs.lemmas.Bool.{cases_Bool, cases_lt, both_ways, false_from_ne_true, ltb-true, lt-ltb, cond-true, cond-false, cases_eq, and_parts}
 pub use Rattle.std.proofs.lemmas.Bool.{and_from, and_right, eqb-true, eq-eqb, le-leb, lt-leb, and_left, not_from_true, ltb-false, leb-true, leb-false}
 pub use Rattle.std.proofs.lemmas.Bool.Decides.{Decides-eqb}
@@ -51,11 +51,12 @@ pub use Rattle.std.proofs.lemmas.List.{length-map, get_or-map, get_or-take, get_
 pub use Rattle.std.proofs.lemmas.List.{length_push, take_more, take_all, take-set-le, take_more_set, drop-set-lt, drop_more, take-append-drop, map-append}
 pub use Rattle.std.proofs.lemmas.List.{drop_all, map-set, get_or_read, length-take-le}
 pub use Rattle.std.proofs.lemmas.List.Edits.{swap_is}
-pub use Rattle.std.proofs.lemmas.List.Elements.{All-head, All-tail, All-from_recursion, All-contains, filter_more, Contains-get_or, All-append, All-filter}
-pub use Rattle.std.proofs.lemmas.List.Elements.{All-weaker, Contains-append_left, Contains-push, Contains-append_right, Contains-push_cases, All-push, All-nil}
-pub use Rattle.std.proofs.lemmas.List.Elements.{All-cons, filter_passes}
+pub use Rattle.std.proofs.lemmas.List.Elements.{All-head, All-tail, All-from_recursion, All-contains, filter_more, Contains-get_or, All-append, All-weaker}
+pub use Rattle.std.proofs.lemmas.List.Elements.{Contains-append_left, Contains-push, Contains-append_right, Contains-push_cases, All-push, All-nil, All-cons}
+pub use Rattle.std.proofs.lemmas.List.Elements.{filter_passes}
 pub use Rattle.std.proofs.lemmas.List.FromFn.{fill_by_all}
-pub use Rattle.std.proofs.lemmas.List.Kept.{IsStrictlySortedBy-dedup, Contains-from_dedup, AllPairs-from_increasing, AllPairs-filter, IsStrictlySortedBy-filter}
+pub use Rattle.std.proofs.lemmas.List.Kept.{IsStrictlySortedBy-dedup, Contains-from_dedup, AllPairs-from_increasing, AllPairs-filter}
+pub use Rattle.std.proofs.lemmas.List.Kept.{IsStrictlySortedBy-filter}
 pub use Rattle.std.proofs.lemmas.List.Quantifiers.{all_pairs_push}
 pub use Rattle.std.proofs.lemmas.List.Sorted.{sorted_far, ranks_by, Contains-permutation, IsPermutation-sym, IsPermutation-map, IsNonDecreasingBy-from_sort}
 pub use Rattle.std.proofs.lemmas.List.Sorted.{All-permutation, IsPermutation-reverse, IsPermutation-trans, IsPermutation-swap}
@@ -78,14 +79,15 @@ pub use Rattle.std.specs.Prelude.{AllPairs, Contains, IsPermutation, All, is_som
 pub use Rattle.valuation.proofs.SearchesInTurn.{are_refused, are_searched}
 pub use Rattle.valuation.specs.Auctions.{IsAtom}
 pub use Rattle.valuation.specs.Examples.{atom}
+pub use Rattle.valuation.specs.Lemmas.Inside.{atoms_at-indices_inside, indices_inside-within}
 pub use Rattle.valuation.specs.Lemmas.Atoms.{length-atoms_of, get_or-atoms_of}
 pub use Rattle.valuation.specs.Lemmas.Listed.{MaySearch-more}
 pub use Rattle.valuation.specs.Lemmas.Lists.{Contains-cons_cases, AllPairs-nil, AllPairs-cons, AllPairs-head, AllPairs-tail, AllPairs-map, AllPairs-append}
-pub use Rattle.valuation.specs.Lemmas.Lists.{Contains-map, Contains-unmap}
+pub use Rattle.valuation.specs.Lemmas.Lists.{Contains-map, Contains-unmap, map-filter}
 pub use Rattle.valuation.specs.Lemmas.OrValues.{or_value-price, or_value-filter_le, or_value-nil, or_value-rest, or_value-least, or_value-taken}
 pub use Rattle.valuation.specs.Lemmas.SearchLimits.{is_one_over-one, options_after_all-one}
 pub use Rattle.valuation.specs.Lemmas.XorValues.{xor_value-nil, xor_value-inside}
-pub use Rattle.valuation.specs.Packings.{atom_at, atoms_inside, atoms_at, numbers_at}
+pub use Rattle.valuation.specs.Packings.{atom_at, atoms_inside, atoms_at, indices_inside, is_inside_at, numbers_at}
 pub use Rattle.valuation.specs.SearchLimits.{is_one_over, options_after, options_after_all, plain_options}
 pub use Rattle.valuation.specs.SearchSteps.{found_indices}
 pub use Rattle.valuation.specs.Searches.{bound_of, AreSearched, IsFound, IsSearchedBy}

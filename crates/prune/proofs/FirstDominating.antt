@@ -1,10 +1,10 @@
 -- The first atom that dominates a bid: it has the least of the indices that are found, in a list of atoms or at the goods of the bid's bundle.
-use Rattle.prune.proofs.Common.{rules, ◌≡◌, ℕ, ◌+◌, ◌<◌, ◌≤◌, Bool, true, false, leb, ⊎_elim, List, [], length, get_or, take, refl, sym, ap, ◌∙◌, subst, arith}
-use Rattle.prune.proofs.Common.{common_steps, Some, None, All, AllPairs, Contains, is_some, list_any, range_with_len, cases_lt, cases_eq, both_ways, and_parts}
+use Rattle.prune.proofs.Common.{rules, ◌≡◌, ℕ, ◌+◌, ◌<◌, ◌≤◌, Bool, true, false, leb, List, [], length, get_or, take, refl, sym, ap, ◌∙◌, arith, common_steps}
+use Rattle.prune.proofs.Common.{Some, None, All, AllPairs, Contains, is_some, list_any, range_with_len, cases_lt, cases_eq, both_ways, and_parts}
 use Rattle.prune.proofs.Common.{false_from_ne_true, get_or-take, get_or_default, length-take, take-map, All-contains, fill_by_all, IsRising, has_good}
-use Rattle.prune.proofs.Common.{good_from, IsNextGood, good_from-Some, AreMarks, Atom, atoms_of, plain_atom, Posting, indices_at, is_inside_at, dominates}
-use Rattle.prune.proofs.Common.{dominates_at, first_dominating_index, listed_at, AreListed, NoneInsideFrom, atom_at, MayBePosting, is_some-find_map}
-use Rattle.prune.proofs.Common.{first_in_range, none_in_range}
+use Rattle.prune.proofs.Common.{good_from, IsNextGood, good_from-Some, Atom, atoms_of, Posting, indices_at, is_inside_at, dominates, dominates_at}
+use Rattle.prune.proofs.Common.{first_dominating_index, listed_at, AreListed, NoneInsideFrom, atom_at, MayBePosting, is_some-find_map, first_in_range}
+use Rattle.prune.proofs.Common.{none_in_range}
 use Rattle.prune.proofs.ListedAtoms.{is_listed, listed_before, postings_right}
 
 -- there is one exactly if an atom dominates the bid

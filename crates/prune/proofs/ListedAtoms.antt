@@ -1,19 +1,18 @@
 -- Atoms are found through the goods of a bundle: each atom inside it is listed at one of its goods, which is a good of the bundle.
 -- The indices found, sorted, are those of the atoms inside the bundle, since no index is listed twice.
 use Rattle.prune.proofs.Common.{rules, ◌≡◌, ◌≢◌, ℕ, zero, suc, ◌+◌, ◌<◌, ◌≤◌, Bool, true, false, cond, leb, take, append_assoc, eqb, ◌⊎◌, inl, inr, ⊎_elim}
-use Rattle.prune.proofs.Common.{List, [], ◌∷◌, ◌++◌, length, map, get_or, refl, sym, ap, ◌∙◌, subst, subst₂, arith, Some, None, nat_cmp, Less, Greater, All}
-use Rattle.prune.proofs.Common.{AllPairs, Contains, IsPermutation, filter, range_with_len, slice_get, IsSorted, cases_lt, cases_eq, both_ways, and_parts}
-use Rattle.prune.proofs.Common.{and_from, and_right, false_from_ne_true, eqb-true, eq-eqb, le-leb, lt-leb, Decides-eqb, map_push, get_or-map}
-use Rattle.prune.proofs.Common.{get_or_append_left, get_or_push, length-map, length_push, filter_more, Contains-get_or, All-append, All-contains, All-filter}
-use Rattle.prune.proofs.Common.{All-weaker, Contains-append_left, Contains-push, Contains-append_right, Contains-push_cases, slice_get-get_or, slice_get_past}
-use Rattle.prune.proofs.Common.{fill_by_all, AllPairs-from_increasing, AllPairs-filter, all_pairs_push, Contains-permutation, IsPermutation-sym}
-use Rattle.prune.proofs.Common.{IsNonDecreasingBy-from_sort, IsDistinct-IsPermutation, IsStrictlyIncreasing-from_distinct, IsDistinct-from_AllPairs, AreAbove}
-use Rattle.prune.proofs.Common.{IsRising, has_good, is_inside, good_from, contains_from_has, has_from_contains, has_cases, has-filter, AreAbove-from_has}
-use Rattle.prune.proofs.Common.{IsRising-filter, same_from_has, inside_at, bundle_cmp, AreMarks, larger_last, IsNextGood, good_from-Some, good_from-None}
-use Rattle.prune.proofs.Common.{length_inside, same_from_length, range_has, range_rises, Atom, AllPairs-head, AllPairs-tail, AllPairs-append, Contains-map}
-use Rattle.prune.proofs.Common.{Contains-unmap, Posting, IsInOrder, listed_at, indices_at, is_inside_at, dominates_at, IsListed, IsPosting, AreListed}
-use Rattle.prune.proofs.Common.{AreGoodsOf, IsBehind, atom_at, NoneInsideFrom, before_itself, map-filter, Contains-head, Contains-tail, Contains-filter}
-use Rattle.prune.proofs.Common.{Contains-filter_parts, All-from_Contains}
+use Rattle.prune.proofs.Common.{List, [], ◌∷◌, ◌++◌, length, map, get_or, refl, sym, ap, ◌∙◌, subst, arith, Some, None, nat_cmp, All, AllPairs, Contains}
+use Rattle.prune.proofs.Common.{IsPermutation, filter, range_with_len, slice_get, IsSorted, cases_lt, cases_eq, both_ways, and_parts, and_from, and_right}
+use Rattle.prune.proofs.Common.{false_from_ne_true, eqb-true, eq-eqb, le-leb, lt-leb, Decides-eqb, map_push, get_or-map, get_or_append_left, get_or_push}
+use Rattle.prune.proofs.Common.{length-map, length_push, filter_more, Contains-get_or, All-append, All-contains, All-weaker, Contains-append_left}
+use Rattle.prune.proofs.Common.{Contains-push, Contains-append_right, Contains-push_cases, slice_get-get_or, slice_get_past, AllPairs-from_increasing}
+use Rattle.prune.proofs.Common.{AllPairs-filter, all_pairs_push, Contains-permutation, IsPermutation-sym, IsNonDecreasingBy-from_sort}
+use Rattle.prune.proofs.Common.{IsDistinct-IsPermutation, IsStrictlyIncreasing-from_distinct, IsDistinct-from_AllPairs, AreAbove, IsRising, has_good}
+use Rattle.prune.proofs.Common.{good_from, contains_from_has, has_from_contains, has_cases, has-filter, AreAbove-from_has, IsRising-filter, same_from_has}
+use Rattle.prune.proofs.Common.{inside_at, AreMarks, larger_last, IsNextGood, good_from-Some, good_from-None, length_inside, same_from_length, range_has}
+use Rattle.prune.proofs.Common.{range_rises, Atom, AllPairs-head, AllPairs-tail, AllPairs-append, Contains-map, Contains-unmap, Posting, IsInOrder, listed_at}
+use Rattle.prune.proofs.Common.{indices_at, is_inside_at, dominates_at, IsListed, IsPosting, AreListed, AreGoodsOf, IsBehind, atom_at, NoneInsideFrom}
+use Rattle.prune.proofs.Common.{before_itself, indices_inside, Contains-filter, Contains-filter_parts, All-from_Contains}
 use Rattle.std.specs.Cmp.{both_ways as same_test}
 
 -- ---- lists of indices
@@ -153,7 +152,7 @@ eqb_flips x y = same_test (eqb x y) (eqb y x) (λ t. eq-eqb y x (sym (eqb-true x
 -- all goods are done: the indices found are those of the atoms inside the bundle
 pub IsFinding-all : (lists : List (List Posting)) (listed : ℕ) (atoms : List (Atom (List ℕ))) (bundle : List ℕ) (from : ℕ) (found sorted : List ℕ)
     → AreListed lists listed atoms → NoneInsideFrom listed atoms bundle → good_from bundle from ≡ None → IsFinding lists atoms bundle from found
-    → IsPermutation found sorted → IsSorted nat_cmp sorted → sorted ≡ filter (is_inside_at atoms bundle) (range_with_len 0 (length atoms))
+    → IsPermutation found sorted → IsSorted nat_cmp sorted → sorted ≡ indices_inside atoms bundle
 IsFinding-all lists listed atoms bundle from found sorted a unlisted none f p up =
     let test = is_inside_at atoms bundle in
     let all = range_with_len 0 (length atoms) in
@@ -172,22 +171,6 @@ IsFinding-all lists listed atoms bundle from found sorted a unlisted none f p up
     let within : g < listed = is_listed listed atoms bundle unlisted g (omega (arith, r.1)) t.0 in
     let l = listed_before lists listed atoms bundle from g a none within t.0 in
     has_from_contains sorted g (Contains-permutation found sorted g p (f.complete l.0 g l.1 l.2 l.3 t.0)))
-
--- ---- the atoms at the indices found
-
-pub indices_in_list : (atoms : List (Atom (List ℕ))) (bundle indices : List ℕ) → indices ≡ filter (is_inside_at atoms bundle) (range_with_len 0 (length atoms))
-    → All (λ index. index < length atoms) indices
-indices_in_list atoms bundle indices e =
-    rw e (All-filter (is_inside_at atoms bundle) (λ index. index < length atoms) (range_with_len 0 (length atoms))
-    (All-from_Contains (λ index. index < length atoms) (range_with_len 0 (length atoms))
-    (λ g c. let r = has_range 0 (length atoms) g (has_from_contains (range_with_len 0 (length atoms)) g c) in omega (arith, r.1))))
-
-pub atoms_at_indices : (atoms : List (Atom (List ℕ))) (bundle indices : List ℕ) → indices ≡ filter (is_inside_at atoms bundle) (range_with_len 0 (length atoms))
-    → map (atom_at atoms) indices ≡ filter (λ a. is_inside a.bundle bundle) atoms
-atoms_at_indices atoms bundle indices e =
-    ap (map (atom_at atoms)) e ∙ map-filter (atom_at atoms) (λ a. is_inside a.bundle bundle) (range_with_len 0 (length atoms))
-    ∙ ap (filter (λ a. is_inside a.bundle bundle))
-    (sym (fill_by_all (atom_at atoms) atoms (length atoms) (record { bundle = []; price = 0 }) refl (λ k l. refl)))
 
 -- ---- one more atom
 

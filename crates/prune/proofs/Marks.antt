@@ -1,9 +1,9 @@
 -- The marks of goods: one more for each good, and what a mark that is missing says.
-use Rattle.prune.proofs.Common.{rules, ◌≡◌, ◌≢◌, ℕ, ◌+◌, ◌*◌, ◌/◌, ◌%◌, ◌-◌, ◌^◌, ◌<◌, ◌≤◌, min, Bool, true, false, eqb, ltb, cond, ◌⊎◌, inl, inr, ⊎_elim, List}
+use Rattle.prune.proofs.Common.{rules, ◌≡◌, ◌≢◌, ℕ, ◌+◌, ◌*◌, ◌%◌, ◌-◌, ◌^◌, ◌<◌, ◌≤◌, min, Bool, true, false, eqb, cond, ◌⊎◌, inl, inr, ⊎_elim, List}
 use Rattle.prune.proofs.Common.{common_steps, [], ◌∷◌, ◌++◌, length, get_or, take, refl, sym, ap, ◌∙◌, subst, arith, bit_at, bit_not, trailing_zeros, w128}
 use Rattle.prune.proofs.Common.{bit_and, bit_or, cases_eq, eq-eqb, both_ways, take_more, and_le_l, bit_at-lt, bit_at_and, bit_at_not, bit_at-zero}
-use Rattle.prune.proofs.Common.{bit_at-trailing_zeros, bit_at_set_same, bit_at_set_other, IsInside, has_good, AreMarks, mark_of, mixed, has_head, has_tail}
-use Rattle.prune.proofs.Common.{has_cases, inside_at}
+use Rattle.prune.proofs.Common.{bit_at-trailing_zeros, bit_at_set_same, bit_at_set_other, IsInside, has_good, AreMarks, mark_of, has_head, has_tail, has_cases}
+use Rattle.prune.proofs.Common.{inside_at}
 
 -- ---- the bit of a good
 

@@ -1,7 +1,7 @@
 -- What is kept of a list is its prefix: an element that is kept is swapped behind those kept so far, and what is behind it
 -- is as it was.
-use Rattle.prune.proofs.Common.{rules, ◌≡◌, ℕ, ◌+◌, ◌<◌, ◌≤◌, List, [], ◌∷◌, ◌++◌, length, get_or, take, drop, set, refl, sym, ap, ◌∙◌, arith, common_steps}
-use Rattle.prune.proofs.Common.{swap, take-set-le, take_more, take_more_set, drop-set-lt, drop_more, take-append-drop, swap_is}
+use Rattle.prune.proofs.Common.{rules, ◌≡◌, ℕ, ◌+◌, ◌<◌, ◌≤◌, List, [], ◌∷◌, ◌++◌, length, get_or, take, drop, refl, sym, ap, ◌∙◌, arith, common_steps, swap}
+use Rattle.prune.proofs.Common.{take-set-le, take_more, take_more_set, drop-set-lt, drop_more, take-append-drop, swap_is}
 
 -- ---- one swap
 

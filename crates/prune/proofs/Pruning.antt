@@ -1,11 +1,11 @@
 -- What a pruning keeps of bids in order of bundles: a bid is kept if the kept bids below its bundle do not reach
 -- its price. The idea: a later bid is below no earlier one, so what was decided stays right, and a pruning that is broken off
 -- could be completed without a change below the bundles that it saw.
-use Rattle.prune.proofs.Common.{rules, ◌≡◌, ℕ, ◌<◌, ◌≤◌, Bool, true, false, not, ◌&&◌, ⊎_elim, List, [], ◌∷◌, ◌++◌, refl, sym, ap, ◌∙◌, subst, le_trans}
-use Rattle.prune.proofs.Common.{append_assoc, All, Contains, filter, cases_lt, and_left, and_right, false_from_ne_true, not_from_true, All-nil, All-cons}
-use Rattle.prune.proofs.Common.{All-head, All-tail, All-push, All-contains, All-weaker, Contains-append_left, Contains-push, Contains-append_right}
-use Rattle.prune.proofs.Common.{all_pairs_push, IsRising, is_inside, IsInside, inside_refl, Atom, AllPairs-nil, AllPairs-head, AllPairs-tail, is_below}
-use Rattle.prune.proofs.Common.{atoms_below, atoms_below-push, All-from_Contains, Contains-head, IsBefore, IsInOrder, before_not_inside}
+use Rattle.prune.proofs.Common.{rules, ◌≡◌, ℕ, ◌<◌, ◌≤◌, Bool, false, not, ⊎_elim, List, [], ◌∷◌, ◌++◌, refl, sym, ap, ◌∙◌, subst, le_trans, append_assoc, All}
+use Rattle.prune.proofs.Common.{Contains, filter, cases_lt, and_left, and_right, false_from_ne_true, not_from_true, All-nil, All-cons, All-head, All-tail}
+use Rattle.prune.proofs.Common.{All-push, All-contains, All-weaker, Contains-append_left, Contains-push, Contains-append_right, all_pairs_push, IsRising}
+use Rattle.prune.proofs.Common.{is_inside, IsInside, inside_refl, Atom, AllPairs-nil, AllPairs-head, AllPairs-tail, is_below, atoms_below, atoms_below-push}
+use Rattle.prune.proofs.Common.{All-from_Contains, Contains-head, IsBefore, IsInOrder, before_not_inside}
 
 abbrev pub HasRisingBundle : Atom (List ℕ) → Type 0
 HasRisingBundle a = IsRising a.bundle

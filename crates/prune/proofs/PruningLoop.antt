@@ -1,9 +1,9 @@
 -- The turns of a pruning's loop, by what the code knows of its variables: each is one of proofs/Results, once the code's lists are seen
 -- by the goods of their sets.
-use Rattle.prune.proofs.Common.{rules, ◌≡◌, ℕ, ◌+◌, ◌<◌, ◌≤◌, ◌||◌, leb, ⊎_elim, List, [], ◌∷◌, ◌++◌, length, take, drop, max, get_or, sym, ap, ◌∙◌, subst}
-use Rattle.prune.proofs.Common.{arith, common_steps, All, list_any, cases_lt, le-leb, lt-leb, map-append, map_push, drop_all, take_all, All-nil, All-cons}
-use Rattle.prune.proofs.Common.{All-head, All-tail, All-weaker, filter_passes, IsRising, is_inside, IsInside, Atom, IsAtom, atoms_of, xor_value, plain_atom}
-use Rattle.prune.proofs.Common.{xor_value-nil, xor_value-inside, list_any_filter, dominates, AreBestBids, atoms_inside}
+use Rattle.prune.proofs.Common.{rules, ◌≡◌, ℕ, ◌+◌, ◌<◌, ◌≤◌, leb, List, [], ◌∷◌, ◌++◌, length, take, drop, get_or, sym, ap, ◌∙◌, subst, arith, common_steps}
+use Rattle.prune.proofs.Common.{All, list_any, cases_lt, le-leb, lt-leb, map-append, map_push, drop_all, take_all, All-nil, All-cons, All-head, All-tail}
+use Rattle.prune.proofs.Common.{All-weaker, filter_passes, IsRising, is_inside, IsInside, Atom, IsAtom, atoms_of, xor_value, plain_atom, xor_value-nil}
+use Rattle.prune.proofs.Common.{xor_value-inside, list_any_filter, dominates, AreBestBids, atoms_inside}
 use Rattle.prune.proofs.Pruning.{HasRisingBundle}
 use Rattle.prune.proofs.Results.{IsTurn, IsXorKept, IsOrKept, AreXorPoints, AreOrPoints, xor_done, or_done}
 use Rattle.prune.proofs.Prefixes.{IsLeft, next_parts, next_taken, next_drop}

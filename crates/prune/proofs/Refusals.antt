@@ -1,7 +1,7 @@
 -- The limits along a pruning's loop. The best bids are those of the searched bundles, one on each, in order; the search for a best bid among the points so
 -- far takes the steps that the definition says; so what is left of the limits decides on the bids that are left as the first limits do on all.
-use Rattle.prune.proofs.Common.{rules, ◌≡◌, ℕ, ◌+◌, ◌<◌, false, true, ltb, ⊎_elim, List, [], ◌∷◌, ◌++◌, map, refl, sym, ap, ap₂, ◌∙◌, subst, arith, Some, None}
-use Rattle.prune.proofs.Common.{Less, All, Contains, AllByRecursion, lt-ltb, ltb-false, ltb-true, All-head, All-tail, All-contains, Contains-append_right}
+use Rattle.prune.proofs.Common.{rules, ◌≡◌, ℕ, ◌+◌, ◌<◌, false, true, ltb, ⊎_elim, List, [], ◌∷◌, ◌++◌, map, sym, ap, ap₂, ◌∙◌, subst, arith, Some, None, Less}
+use Rattle.prune.proofs.Common.{All, Contains, AllByRecursion, lt-ltb, ltb-false, ltb-true, All-head, All-tail, All-contains, Contains-append_right}
 use Rattle.prune.proofs.Common.{IsStrictlySortedBy-filter, all_bundles, bundle_cmp, bundle_cmp_strict, all_bundles_has, all_bundles_sorted, same_from_contains}
 use Rattle.prune.proofs.Common.{Atom, SearchKind, SearchOptions, IsAtom, or_value, bound_of, is_one_over, options_after, options_after_all, is_one_over-one}
 use Rattle.prune.proofs.Common.{options_after_all-one, Contains-cons_cases, Contains-map, Contains-unmap, AllPairs-head, AllPairs-tail, or_value-price}

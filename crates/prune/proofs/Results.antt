@@ -1,8 +1,8 @@
 -- What a pruning that is done has kept: the points, with the values of all bids. A turn on one more best bid keeps this of the bids
 -- so far, and in the end the best bids are done, which have the points and the values of all.
-use Rattle.prune.proofs.Common.{rules, ◌≡◌, ℕ, ◌<◌, ◌≤◌, Bool, true, false, leb, ⊎_elim, List, [], ◌∷◌, ◌++◌, length, sym, ap, ◌∙◌, subst, arith, le_trans}
-use Rattle.prune.proofs.Common.{le_antisymm, All, Contains, filter, leb-true, leb-false, All-contains, All-weaker, Contains-append_left, Contains-append_right}
-use Rattle.prune.proofs.Common.{IsBundle, is_inside, IsInside, without, inside_refl, Atom, xor_value, or_value, or_value-nil, or_value-rest, or_value-least}
+use Rattle.prune.proofs.Common.{rules, ◌≡◌, ℕ, ◌<◌, ◌≤◌, Bool, true, false, leb, List, [], ◌∷◌, ◌++◌, length, sym, ap, ◌∙◌, subst, arith, le_antisymm, All}
+use Rattle.prune.proofs.Common.{Contains, filter, leb-true, leb-false, All-contains, All-weaker, Contains-append_left, Contains-append_right, IsBundle}
+use Rattle.prune.proofs.Common.{is_inside, IsInside, without, inside_refl, Atom, xor_value, or_value, or_value-nil, or_value-rest, or_value-least}
 use Rattle.prune.proofs.Common.{or_value-taken, or_value-price, or_value-filter_le, xor_points, or_points, IsOnBundle, is_below, atoms_below, greatest_price}
 use Rattle.prune.proofs.Common.{zero_or_more, Contains-head, Contains-filter_parts, All-from_Contains, filter_same_on, IsAtom, ComesNext, IsBehind, IsBefore}
 use Rattle.prune.proofs.Common.{IsInOrder, same_bundle_same_atom, xor_value-member, xor_value-bound, xor_value-dominated, or_value-dominated}

@@ -1,6 +1,6 @@
 -- The atom of the worked rows is listed rightly: its one good marks bit 96.
-use Rattle.prune.proofs.Common.{rules, ◌≡◌, ℕ, ◌^◌, true, false, [], ◌∷◌, ⊎_elim, refl, sym, subst, arith, bit_at, bit_at-pow_same, bit_at-pow_other, both_ways}
-use Rattle.prune.proofs.Common.{cases_eq, has_good, AreMarks, mark_of, has_cases, atom, IsPosting}
+use Rattle.prune.proofs.Common.{rules, ◌≡◌, ℕ, ◌^◌, true, [], ◌∷◌, ⊎_elim, refl, sym, arith, bit_at, bit_at-pow_same, bit_at-pow_other, both_ways, cases_eq}
+use Rattle.prune.proofs.Common.{has_good, AreMarks, mark_of, has_cases, atom, IsPosting}
 
 has_bit : (good : ℕ) → has_good (0 ∷ []) good ≡ true → bit_at (2 ^ 96) (mark_of good) ≡ 1
 has_bit good has = search (rules, bit_at-pow_same, both_ways, has_cases)

@@ -1,6 +1,6 @@
 -- What is listed at a good, in vectors of postings that are read or written.
-use Rattle.prune.proofs.Common.{rules, ◌≡◌, ℕ, zero, suc, ◌<◌, set, get_or-set_same, get_or-set_other, List, [], ◌∷◌, ◌++◌, length, get_or, refl, sym, ap, ◌∙◌}
-use Rattle.prune.proofs.Common.{arith, Vec, map-set, get_or-map, length-map, Posting, lists_of, listed_at}
+use Rattle.prune.proofs.Common.{rules, ◌≡◌, ℕ, zero, suc, ◌<◌, set, List, [], ◌∷◌, ◌++◌, length, get_or, refl, sym, ap, ◌∙◌, Vec, map-set, get_or-map}
+use Rattle.prune.proofs.Common.{length-map, Posting, lists_of, listed_at}
 
 pub listed_there : (vectors : List (Vec Posting)) (good : ℕ) (v : Vec Posting) → good < length vectors → v ≡ get_or vectors good v
     → listed_at (lists_of vectors) good ≡ v.items

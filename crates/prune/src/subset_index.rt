@@ -10,7 +10,6 @@ ghost use Rattle.prune.specs.InOrder.{IsInOrder};
 ghost use Rattle.prune.specs.Internal.Listings.{
   count_listed,
   indices_of,
-  is_inside_at,
   listed_at,
   lists_of,
   dominates_at,
@@ -22,8 +21,7 @@ ghost use Rattle.prune.specs.Internal.Listings.{
   IsPosting,
   MayBePosting,
 };
-ghost use Rattle.prune.specs.Internal.Reaching.{indices_inside};
-ghost use Rattle.valuation.specs.Packings.{atom_at};
+ghost use Rattle.valuation.specs.Packings.{atom_at, indices_inside, is_inside_at};
 
 use crate::commonness::{goods_counts, rarest};
 use crate::fingerprints::{fingerprint, may_be_subset};

@@ -34,7 +34,8 @@ pub use Rattle.rounding.specs.declared.value.Value.{Value}
 pub use Rattle.std.proofs.Common.{◌≡◌, ℕ, suc, ◌+◌, ◌*◌, ◌/◌, ◌%◌, ◌<◌, ◌≤◌, min, true, false, not, eqb, ltb, refl, sym, ap, ◌∙◌, arith, ⊎_elim, rules, ◌-◌}
 pub use Rattle.std.proofs.Common.{◌^◌, is_none, ◌⊎◌, inl, inr, zero, ◌&&◌, leb, List, [], ◌∷◌, ◌++◌, map, filter, drop, length, Bool, Some, None, append_assoc}
 pub use Rattle.std.proofs.Common.{subst, slice_get, Result, Ok, Err, ◌||◌, take, get_or, drop-cons, add-one, length-append, fold}
-pub use Rattle.std.proofs.Math.Nat.{pow-le-pow_right, pow-succ', one-le-pow, mod-eq_of_lt, div-eq_of_lt, mul-div_cancel, mul-mod_left, mul-le-mul_left, pow-suc}
+pub use Rattle.std.proofs.Math.Nat.{pow-le-pow_right, pow-succ', one-le-pow, mod-eq_of_lt, div-eq_of_lt, mul-div_cancel, mul-mod_left, mul-le-mul_left}
+pub use Rattle.std.proofs.Math.Nat.{pow-suc}
 pub use Rattle.std.proofs.Math.Seq.{take-append_seam, drop-nil, take-length, drop-length}
 pub use Rattle.std.proofs.lemmas.Bool.{lt-ltb, le-ltb, ltb-false, cases_lt, eqb-true, eqb-false, cases_order, ltb-true, ne_eqb, cases_Bool, and_parts, lt-leb}
 pub use Rattle.std.proofs.lemmas.Bool.{both_ways, and_from, eq-eqb, leb-true, leb-false}

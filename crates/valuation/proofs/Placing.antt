@@ -1,7 +1,7 @@
 -- The turns of the loop that makes the auction of a file, by what the code knows of its vectors: an atom goes to the end of the OR
 -- bidder's list, or of the list of one XOR bidder.
-use Rattle.valuation.proofs.Common.{rules, ◌≡◌, ℕ, zero, suc, ◌+◌, ◌<◌, ◌≤◌, List, [], ◌∷◌, ◌++◌, length, map, get_or, set, take, replicate, Some, None, Global}
-use Rattle.valuation.proofs.Common.{refl, common_steps, sym, ap, ap₂, ◌∙◌, arith, range_with_len, map_push, map-set, length-map, get_or-map, take_all}
+use Rattle.valuation.proofs.Common.{rules, ◌≡◌, ℕ, zero, suc, ◌+◌, ◌<◌, ◌≤◌, List, [], ◌∷◌, ◌++◌, length, map, get_or, set, take, replicate, Some, None}
+use Rattle.valuation.proofs.Common.{Global, refl, common_steps, sym, ap, ap₂, ◌∙◌, arith, range_with_len, map_push, map-set, length-map, get_or-map, take_all}
 use Rattle.valuation.proofs.Common.{length-map-range_with_len, get_or-map-range_with_len, PlainBid, PlainFile, Atom, atoms_of, atom_of, or_atoms_of}
 use Rattle.valuation.proofs.Common.{xor_atoms_of, auction_from, bidders_of, plain_auction_of, or_atoms_of-more, xor_bidders-more}
 use Rattle.std.specs.Prelude.{Vec}

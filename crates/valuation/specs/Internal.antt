@@ -1,6 +1,5 @@
 -- What the contracts of private functions cite, and the facts that private types keep. No public contract rests on
 -- them.
-pub mod Inside
 pub mod Holders
 pub mod Reaching
 pub mod BestSearch

@@ -2,6 +2,7 @@
 pub mod Atoms
 pub mod AuctionsOfFiles
 pub mod Bounds
+pub mod Inside
 pub mod Limits
 pub mod Listed
 pub mod Lists

@@ -1,18 +1,17 @@
 -- The rows are met exactly by allocations: two winners that share a good, or a dummy good, are both in its row, and other winners are not.
 -- A row's bids are those of all numbers that pass a test, so they rise; and so are the winners, whose prices the objective adds up.
 use Rattle.analysis.proofs.Common.{count_by-le-length, range_rises, IsRising-filter, length-filter, [], rules, ◌≡◌, ℕ, ◌+◌, ◌*◌, ◌<◌, ◌≤◌, Bool, true, false}
-use Rattle.analysis.proofs.Common.{not, eqb, ⊎_elim, ◌⊎◌, List, ◌∷◌, ◌++◌, length, map, refl, sym, ap, ◌∙◌, subst, Option, Some, None, arith, Contains, IsTrue}
-use Rattle.analysis.proofs.Common.{if◌then◌else◌, sum_by, filter, list_all, range_with_len, and_from, and_parts, both_ways, cases_Bool, eq-eqb, eqb-true, IsBid}
-use Rattle.analysis.proofs.Common.{lt-ltb, not_from_false, false_from_ne_true, not-true, All-contains, Contains-append_cases, Contains-append_left, sum_by-cons}
+use Rattle.analysis.proofs.Common.{not, ⊎_elim, ◌⊎◌, List, ◌∷◌, ◌++◌, length, map, refl, sym, ap, ◌∙◌, subst, Option, Some, None, arith, IsTrue, if◌then◌else◌}
+use Rattle.analysis.proofs.Common.{sum_by, filter, list_all, range_with_len, and_from, and_parts, both_ways, cases_Bool, eq-eqb, eqb-true, IsBid, lt-ltb}
+use Rattle.analysis.proofs.Common.{not_from_false, false_from_ne_true, not-true, All-contains, Contains-append_cases, Contains-append_left, sum_by-cons}
 use Rattle.analysis.proofs.Common.{Contains-append_right, IsBundle, IsRising, are_apart, has_good, apart_from, has-filter, has_above, has_below, has_cases}
 use Rattle.analysis.proofs.Common.{same_from_has, IsDummyBelow, IsPlainFile, PlainBid, PlainFile, dummy_good, goods_of, Contains-map, Contains-unmap, bid_at}
-use Rattle.analysis.proofs.Common.{All-from_Contains, Contains-filter, Contains-filter_parts, filter-kept, filter-lost, list_all_from, list_any_found, revenue}
-use Rattle.analysis.proofs.Common.{list_any_has, range_contains, numbers_of, can_all_win, can_both_win, share_dummy, PlainRow, bids_with, is_shared, lp_rows}
-use Rattle.analysis.proofs.Common.{row_of, apart_at, has_head, has_tail, AreRowsMet, objective, value_of, contains_from_has, has_from_contains}
+use Rattle.analysis.proofs.Common.{All-from_Contains, Contains-filter, Contains-filter_parts, filter-kept, filter-lost, list_all_from, revenue, range_contains}
+use Rattle.analysis.proofs.Common.{numbers_of, can_all_win, can_both_win, share_dummy, PlainRow, bids_with, is_shared, lp_rows, row_of, apart_at, has_head}
+use Rattle.analysis.proofs.Common.{has_tail, AreRowsMet, objective, value_of, contains_from_has, has_from_contains, common_steps}
 use Rattle.analysis.proofs.Explaining.KeptBids.{bid_here}
 use Rattle.analysis.proofs.Allocating.Allocations.{CanWin, both_flip, pairs_from_test}
 use Rattle.analysis.proofs.Explaining.Packings.{pairs_at}
-use Rattle.std.proofs.lemmas.Grind.{common_steps}
 
 -- ---- how many a list has
 

@@ -1,10 +1,9 @@
 -- The bidders that have a bid on a bundle, as a map has them, and the first of them that waits.
 use Rattle.analysis.proofs.Common.{rules, ◌≡◌, ◌<◌, ℕ, zero, suc, Bool, true, false, cond, List, [], ◌∷◌, ◌++◌, length, get_or, Some, Ordering, slice_get, ap}
-use Rattle.analysis.proofs.Common.{◌∙◌, arith, ⊎_elim, append-nil, filter, Bor, BTreeMap, UpdatesBy, slice_cmp, is_eq, nat_cmp, cases_Bool, bundle_cmp, Holders}
-use Rattle.analysis.proofs.Common.{bundle_cmp_equal, bundle_cmp_refl, holders_at, indices_in, passed_in}
+use Rattle.analysis.proofs.Common.{◌∙◌, arith, ⊎_elim, append-nil, filter, Bor, BTreeMap, UpdatesBy, slice_cmp, is_eq, nat_cmp, cases_Bool, bundle_cmp}
+use Rattle.analysis.proofs.Common.{Holders, bundle_cmp_equal, bundle_cmp_refl, holders_at, indices_in, passed_in, bytes_eq}
 use Rattle.analysis.specs.Internal.Holders.{found_at}
 use Rattle.canon.specs.Lemmas.Finding.{equal_from}
-use Rattle.std.proofs.Common.{bytes_eq}
 use Rattle.canon.specs.Lemmas.TextMaps.{updated as text_updated}
 
 -- ---- the first that passes a test

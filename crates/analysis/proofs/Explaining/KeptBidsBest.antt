@@ -3,12 +3,11 @@
 use Rattle.analysis.proofs.Common.{[], rules, ◌≡◌, ℕ, ◌<◌, ◌≤◌, Bool, true, false, ◌&&◌, ◌||◌, ltb, eqb, List, length, map, Option, Some, None, is_none, refl}
 use Rattle.analysis.proofs.Common.{sym, ap, ◌∙◌, arith, le_antisymm, Contains, filter, and_parts, and_from, or_left, or_cases, both_ways, eqb-true, eq-eqb}
 use Rattle.analysis.proofs.Common.{ltb-true, lt-ltb, not_from_false, not-true, false_from_ne_true, get_or_default, Contains-get_or, list_any_none, PlainBid}
-use Rattle.analysis.proofs.Common.{PlainFile, Atom, atom_of, is_dummy, Contains-map, Contains-unmap, greatest_price, All-from_Contains, Contains-filter, bid_at}
-use Rattle.analysis.proofs.Common.{Contains-filter_parts, list_any_fails, greatest_price-member, greatest_price-bound, greatest_price-reached, bidder_of}
-use Rattle.analysis.proofs.Common.{are_alike, is_better, is_best, numbers_of, or_right, range_contains, in_range}
+use Rattle.analysis.proofs.Common.{PlainFile, Atom, atom_of, is_dummy, Contains-map, Contains-unmap, greatest_price, All-from_Contains, Contains-filter}
+use Rattle.analysis.proofs.Common.{bid_at, Contains-filter_parts, list_any_fails, greatest_price-member, greatest_price-bound, greatest_price-reached}
+use Rattle.analysis.proofs.Common.{bidder_of, are_alike, is_better, is_best, numbers_of, or_right, range_contains, in_range, common_steps}
 use Rattle.analysis.proofs.Explaining.BestBids.{HaveOneKey, one_key, alike_from}
 use Rattle.analysis.proofs.Explaining.KeptBidsLists.{first_index}
-use Rattle.std.proofs.lemmas.Grind.{common_steps}
 
 -- ---- bids
 

@@ -1,7 +1,7 @@
 -- Bidders are counted alike by their tables and by their points. A bidder of value zero has neither, and of the others each has
 -- the points that its table says.
-use Rattle.canon.proofs.Common.{◌≡◌, ℕ, ◌+◌, ◌<◌, ◌≤◌, Bool, true, false, cond, ⊎_elim, List, [], ◌∷◌, refl, sym, ap, ◌∙◌, subst, arith, le_antisymm, nat_cmp}
-use Rattle.canon.proofs.Common.{All, count_by, is_eq, slice_cmp, slice_cmp-IsAntisymmetric, nat_cmp-IsAntisymmetric, cases_Bool, both_ways, false_from_ne_true}
+use Rattle.canon.proofs.Common.{◌≡◌, ℕ, ◌+◌, ◌<◌, ◌≤◌, Bool, true, false, cond, ⊎_elim, List, [], ◌∷◌, refl, sym, ap, ◌∙◌, arith, le_antisymm, nat_cmp, All}
+use Rattle.canon.proofs.Common.{count_by, is_eq, slice_cmp, slice_cmp-IsAntisymmetric, nat_cmp-IsAntisymmetric, cases_Bool, both_ways, false_from_ne_true}
 use Rattle.canon.proofs.Common.{cond-true, cond-false, tied_itself, nat_list_cmp_total, All-head, All-tail, sum_by-cons, Atom, IsAtom, bidder_cmp}
 use Rattle.canon.proofs.Common.{bidder_cmp_total, bidder_cmp_equal, count_of, xor_table, is_nonzero, xor_points, zero_or_more, same_xor_points, on_bundles}
 use Rattle.canon.proofs.Common.{has_table, points_of_bidders, equal_from, rules}

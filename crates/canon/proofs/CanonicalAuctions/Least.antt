@@ -1,5 +1,5 @@
 -- The canonical file is held by every file of the same auction: their canonical files are one, and a file holds its points.
-use Rattle.canon.proofs.Common.{rules, ◌≡◌, ℕ, ◌<◌, ◌≤◌, true, false, ⊎_elim, List, [], ◌∷◌, length, map, cond, None, refl, sym, ap, ◌∙◌, subst, arith, All}
+use Rattle.canon.proofs.Common.{rules, ◌≡◌, ℕ, ◌<◌, ◌≤◌, true, false, ⊎_elim, List, [], ◌∷◌, length, map, None, refl, sym, ap, ◌∙◌, subst, arith, All}
 use Rattle.canon.proofs.Common.{Contains, is_eq, cases_Bool, length-append, length-map, length-map-range_with_len, All-head, All-tail, All-weaker, PlainFile}
 use Rattle.canon.proofs.Common.{IsPlainFile, Atom, PlainAuction, IsAtom, auction_from, xor_atoms_of, count_atoms, bidder_cmp, count_of, sum_by-sort_by}
 use Rattle.canon.proofs.Common.{xor_table, is_nonzero, xor_points, just_bundles, or_points_are_atoms, xor_points_are_atoms, on_bundles, no_xor_points}

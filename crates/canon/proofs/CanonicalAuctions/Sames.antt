@@ -1,8 +1,8 @@
 -- The canonical auction is the same auction, and auctions are the same exactly where their canonical auctions are equal.
-use Rattle.canon.proofs.Common.{◌≡◌, ℕ, true, cond, List, refl, sym, ap₂, ◌∙◌, subst, rules, All, count_by, filter, All-map, All-filter, All-weaker, Atom}
-use Rattle.canon.proofs.Common.{PlainAuction, IsAtom, IsAuction, bidder_cmp, bidder_cmp_total, bidder_cmp_equal, sort_by, sum_by-sort_by, All-sort_by}
-use Rattle.canon.proofs.Common.{sort_by-same, or_table, xor_table, is_nonzero, xor_points, same_or_points, on_bundles, has_table, IsSameAuction}
-use Rattle.canon.proofs.Common.{points_of_bidders, canonical_auction}
+use Rattle.canon.proofs.Common.{◌≡◌, ℕ, true, List, refl, sym, ap₂, subst, rules, All, count_by, filter, All-map, All-filter, All-weaker, Atom, PlainAuction}
+use Rattle.canon.proofs.Common.{IsAtom, IsAuction, bidder_cmp, bidder_cmp_total, bidder_cmp_equal, sort_by, sum_by-sort_by, All-sort_by, sort_by-same}
+use Rattle.canon.proofs.Common.{or_table, xor_table, is_nonzero, xor_points, same_or_points, on_bundles, has_table, IsSameAuction, points_of_bidders}
+use Rattle.canon.proofs.Common.{canonical_auction}
 use Rattle.canon.proofs.CanonicalAuctions.Atoms.{HasAtoms, or_points_atoms, xor_points_atoms, or_points_table}
 use Rattle.canon.proofs.CanonicalAuctions.Counting.{tables_of_points, points_counted}
 

@@ -1,11 +1,11 @@
 -- The canonical auction has no more atoms and no more bidders than the auction, so it is an auction too. Points are atoms on
 -- different bundles, so each takes an atom of its own.
-use Rattle.canon.proofs.Common.{◌≡◌, ℕ, ◌+◌, ◌≤◌, true, false, ⊎_elim, List, [], ◌∷◌, length, refl, sym, ap, subst, arith, rules, All, Contains, sum_by, remove}
-use Rattle.canon.proofs.Common.{cases_Bool, All-head, All-tail, All-contains, IsPermutation-remove, Contains-permutation, length_permutation, sum_by-cons, Atom}
+use Rattle.canon.proofs.Common.{◌≡◌, ℕ, ◌+◌, ◌≤◌, ⊎_elim, List, [], ◌∷◌, length, refl, sym, subst, arith, rules, All, Contains, sum_by, remove, cases_Bool}
+use Rattle.canon.proofs.Common.{All-head, All-tail, All-contains, IsPermutation-remove, Contains-permutation, length_permutation, sum_by-cons, Atom}
 use Rattle.canon.proofs.Common.{PlainAuction, IsAtom, IsAuction, Contains-cons_cases, AllPairs-head, AllPairs-tail, bidder_cmp, sort_by, sum_by-sort_by}
-use Rattle.canon.proofs.Common.{xor_table, is_nonzero, IsBefore, IsInOrder, before_itself, All-from_Contains, Contains-tail, just_bundles, or_points_are_atoms}
-use Rattle.canon.proofs.Common.{xor_points_are_atoms, on_bundles, points_where-in_order, or_points, xor_points, canonical_auction, points_of_bidders}
-use Rattle.canon.proofs.Common.{unsearched_auction, common_steps}
+use Rattle.canon.proofs.Common.{IsBefore, IsInOrder, before_itself, All-from_Contains, Contains-tail, just_bundles, or_points_are_atoms, xor_points_are_atoms}
+use Rattle.canon.proofs.Common.{on_bundles, points_where-in_order, or_points, xor_points, canonical_auction, points_of_bidders, unsearched_auction}
+use Rattle.canon.proofs.Common.{common_steps}
 use Rattle.canon.proofs.CanonicalAuctions.Atoms.{HasAtoms, xor_points_atoms}
 use Rattle.canon.proofs.CanonicalAuctions.Counting.{points_more, points_without}
 use Rattle.canon.proofs.CanonicalAuctions.Sames.{HasAtoms-auction, HasAtoms-canonical}

@@ -1,6 +1,6 @@
 -- Bidders are ordered by their keys, where these differ: the bundles of the first atoms are then in the order of the keys, so that these
 -- atoms settle it, or one bidder has no atom.
-use Rattle.canon.proofs.Common.{rules, ◌≡◌, ℕ, List, [], ◌∷◌, Ordering, Less, Equal, Greater, refl, sym, ap, ◌∙◌, nat_cmp, Some, None, slice_get, ordering_then}
+use Rattle.canon.proofs.Common.{rules, ◌≡◌, ℕ, List, [], ◌∷◌, Ordering, Less, Equal, Greater, refl, sym, ap, nat_cmp, Some, None, slice_get, ordering_then}
 use Rattle.canon.proofs.Common.{AreBelow, sort_key_of, order_by_key, nat_cmp-lt, nat_cmp-gt, nat_cmp-refl, Atom, bidder_cmp, atoms_of, bidder_key}
 use Rattle.canon.proofs.CanonicalFiles.Bidders.{positive}
 

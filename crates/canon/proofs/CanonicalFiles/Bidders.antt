@@ -5,8 +5,7 @@ use Rattle.canon.proofs.Common.{map-map, All-contains, All-weaker, Contains-appe
 use Rattle.canon.proofs.Common.{SearchKind, SearchOptions, PlainAuction, IsAtom, IsAuction, length-atoms_of, bidders_of, sort_by, sorted_is_sort_by, atoms_of}
 use Rattle.canon.proofs.Common.{or_fates, plain_fate, xor_fates, Contains-head, zero_or_more, xor_points, or_points, first_refused, canonical_auction}
 use Rattle.canon.proofs.Common.{canonical_bidders, unsearched_auction, BidderFates, AreFates, NumberedBidder, numbered_points, numbered_cmp, kept_numbers}
-use Rattle.canon.proofs.Common.{map-sorted, common_steps}
-use Rattle.std.specs.Prelude.{Option}
+use Rattle.canon.proofs.Common.{map-sorted, common_steps, Option}
 use Rattle.canon.proofs.CanonicalFiles.Numbering.{numbered_cmp_total, numbered_cmp_equal, points_push, points_skip}
 
 -- atoms over fewer goods are atoms over more

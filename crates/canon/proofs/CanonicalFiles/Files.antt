@@ -1,9 +1,8 @@
 -- The file of an auction represents that auction, and keeps the limits of
-use Rattle.canon.proofs.Common.{rules, ◌≡◌, ℕ, zero, suc, ◌+◌, ◌<◌, ◌≤◌, List, [], ◌∷◌, ◌++◌, length, map, Option, Some, None, is_none, refl, ap, ap₂, ◌∙◌}
-use Rattle.canon.proofs.Common.{arith, All, sum_by, range_with_len, AllByRecursion, eq-eqb, ne_eqb, map-append, append-nil, length-append, length-map, All-head}
-use Rattle.canon.proofs.Common.{All-tail, filter-append, sum_by-cons, PlainBid, IsDummyBelow, IsBid, IsPlainFile, Atom, PlainAuction, IsAtom, IsAuction}
-use Rattle.canon.proofs.Common.{atom_of, is_dummy, or_atoms_of, xor_atoms_of, auction_from, filter-kept, filter-lost, bid_from, dummy_bids, file_from}
-use Rattle.std.specs.Prelude.{filter}
+use Rattle.canon.proofs.Common.{rules, ◌≡◌, ℕ, zero, suc, ◌+◌, ◌<◌, ◌≤◌, List, [], ◌∷◌, ◌++◌, length, map, Option, Some, None, refl, ap, ap₂, ◌∙◌, arith, All}
+use Rattle.canon.proofs.Common.{sum_by, range_with_len, AllByRecursion, eq-eqb, ne_eqb, map-append, append-nil, length-append, length-map, All-head, All-tail}
+use Rattle.canon.proofs.Common.{filter-append, sum_by-cons, PlainBid, IsDummyBelow, IsBid, IsPlainFile, Atom, PlainAuction, IsAtom, IsAuction, or_atoms_of}
+use Rattle.canon.proofs.Common.{xor_atoms_of, auction_from, filter-kept, filter-lost, bid_from, dummy_bids, file_from}
 
 -- ---- the bids of a bidder, among those of a list
 

@@ -1,6 +1,6 @@
 -- The file of an auction is made bid by bid: one more atom of a bidder, and one more bidder.
-use Rattle.canon.proofs.Common.{◌≡◌, ℕ, ◌+◌, ◌<◌, ◌≤◌, List, [], ◌∷◌, ◌++◌, length, map, drop, get_or, Option, Some, sym, ap, ap₂, ◌∙◌, subst, append_assoc}
-use Rattle.canon.proofs.Common.{Global, rules, Vec, drop-map, drop_more, append-nil, drop_all, length-map, PlainBid, PlainFile, IsBidFile, IsPlainFile, Atom}
+use Rattle.canon.proofs.Common.{◌≡◌, ℕ, ◌+◌, ◌<◌, ◌≤◌, List, [], ◌∷◌, ◌++◌, length, map, drop, get_or, Option, Some, sym, ap, ◌∙◌, subst, append_assoc, Global}
+use Rattle.canon.proofs.Common.{rules, Vec, drop-map, drop_more, append-nil, drop_all, length-map, PlainBid, PlainFile, IsBidFile, IsPlainFile, Atom}
 use Rattle.canon.proofs.Common.{PlainAuction, IsAuction, drop-atoms_of, bidders_of, atoms_of, bid_from, dummy_bids, file_from}
 use Rattle.canon.proofs.CanonicalFiles.Files.{IsPlainFile-file_from}
 

@@ -5,8 +5,7 @@ use Rattle.canon.proofs.Common.{map-id, map_push, take_all, take_more, filter-ap
 use Rattle.canon.proofs.Common.{bidder_cmp_total, bidder_cmp_equal, bidder_cmp, sort_by, xor_table, is_nonzero, on_bundles, filter-kept, filter-lost}
 use Rattle.canon.proofs.Common.{no_xor_points, xor_points, points_of_bidders, points_of_dummy, dummy_cmp, kept_dummies, NumberedBidder, numbered_from}
 use Rattle.canon.proofs.Common.{points_of_numbered, numbered_points, numbered_cmp, kept_numbers, filter-map, sort_by-map, then_not_less, then_equal}
-use Rattle.canon.proofs.Common.{dummy_cmp_total, nonzero_dummies, common_steps, rules}
-use Rattle.std.specs.Ordering.{nat_cmp}
+use Rattle.canon.proofs.Common.{dummy_cmp_total, nonzero_dummies, common_steps, rules, nat_cmp}
 
 -- ---- the order
 

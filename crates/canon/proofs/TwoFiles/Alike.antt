@@ -1,14 +1,14 @@
 -- Alike files. The idea: OR values depend on the bids that no single bid replaces alone, since any other may be taken for one inside its
 -- bundle with at least its price; and what needs no search depends on the XOR values of the bids alone, which neither their order nor their
 -- repetition changes.
-use Rattle.canon.proofs.Common.{◌≡◌, ℕ, ◌<◌, ◌≤◌, List, length, map, Bool, refl, sym, ap, ap₂, ◌∙◌, subst, arith, le_antisymm, le_refl, is_none, rules, All}
-use Rattle.canon.proofs.Common.{Contains, ◌↔◌, filter, range_with_len, All-contains, All-weaker, PlainBid, PlainFile, IsPlainFile, Spells, layout, spells_one}
-use Rattle.canon.proofs.Common.{all_bundles, IsBundle, IsInside, inside_refl, Atom, IsAtom, PlainAuction, atom_of, auction_from, is_dummy, xor_atoms_of}
-use Rattle.canon.proofs.Common.{IsAuction-auction_from, Contains-map, Contains-unmap, or_value-price, bidder_cmp, sort_by, xor_table, is_nonzero, or_value}
-use Rattle.canon.proofs.Common.{xor_value, just_bundles, on_bundles, xor_points_are_atoms, xor_points_keep_values, xor_points_same, All-from_Contains}
-use Rattle.canon.proofs.Common.{Contains-filter, Contains-filter_parts, filter_same_on, map_same_on, or_value-dominated, xor_value-bound, xor_value-member}
-use Rattle.canon.proofs.Common.{xor_points, file_from, points_of_bidders, has_value, nonzero_dummies, points_of_nonzero, points_of_dummy, AreSameFiles}
-use Rattle.canon.proofs.Common.{IsSameAuction, AreAlike, AreAlikeAuctions, unsearched_auction, unsearched_file, unsearched_text}
+use Rattle.canon.proofs.Common.{◌≡◌, ℕ, ◌<◌, ◌≤◌, List, length, map, Bool, refl, sym, ap, ◌∙◌, subst, arith, le_antisymm, is_none, rules, All, Contains, ◌↔◌}
+use Rattle.canon.proofs.Common.{filter, All-contains, All-weaker, PlainBid, PlainFile, IsPlainFile, Spells, spells_one, IsBundle, IsInside, inside_refl, Atom}
+use Rattle.canon.proofs.Common.{IsAtom, PlainAuction, atom_of, auction_from, xor_atoms_of, IsAuction-auction_from, Contains-map, Contains-unmap}
+use Rattle.canon.proofs.Common.{or_value-price, bidder_cmp, sort_by, xor_table, or_value, xor_value, just_bundles, on_bundles, xor_points_are_atoms}
+use Rattle.canon.proofs.Common.{xor_points_keep_values, xor_points_same, All-from_Contains, Contains-filter, Contains-filter_parts, filter_same_on}
+use Rattle.canon.proofs.Common.{map_same_on, or_value-dominated, xor_value-bound, xor_value-member, xor_points, points_of_bidders, has_value, nonzero_dummies}
+use Rattle.canon.proofs.Common.{points_of_nonzero, points_of_dummy, AreSameFiles, IsSameAuction, AreAlike, AreAlikeAuctions, unsearched_auction}
+use Rattle.canon.proofs.Common.{unsearched_file, unsearched_text}
 use Rattle.cats_text.proofs.Writing.Spells as laid_out
 use Rattle.canon.proofs.CanonicalAuctions.Atoms.{HasAtoms, xor_points_atoms}
 use Rattle.canon.proofs.CanonicalAuctions.Sames.{canonical_is_same, same_sym, same_trans}

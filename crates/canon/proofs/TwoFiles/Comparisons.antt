@@ -1,6 +1,6 @@
 -- What comparing answers: of two canonical files, by their OR bids and their XOR bids, and of two texts, by the files that they spell.
-use Rattle.canon.proofs.Common.{◌≡◌, ℕ, ◌+◌, ◌⊎◌, Bool, true, eqb, List, [], ◌∷◌, ◌++◌, length, map, take, drop, Option, Some, None, Result, Ok, Err, refl, sym}
-use Rattle.canon.proofs.Common.{ap, ◌∙◌, subst, arith, rules, ◌↔◌, IfOk, IfErr, OnErr, MatchOption, IsErrAnd, prefix_len, option_eq, cond-true}
+use Rattle.canon.proofs.Common.{◌≡◌, ℕ, ◌+◌, ◌⊎◌, Bool, true, eqb, List, [], ◌∷◌, ◌++◌, length, map, take, drop, Option, Some, None, Result, Ok, Err, refl}
+use Rattle.canon.proofs.Common.{sym, ap, ◌∙◌, subst, rules, ◌↔◌, IfOk, IfErr, OnErr, MatchOption, IsErrAnd, prefix_len, option_eq, cond-true}
 use Rattle.canon.proofs.Common.{MatchOption-at_some, MatchOption-at_none, IfOk-weaker, take-append_seam, drop-append_seam, MAX_GOODS, PlainBid, PlainFile}
 use Rattle.canon.proofs.Common.{IsPlainFile, Spells, first_fault, WantsMemory, ReadFault, refusal_of, spells_one, Atom, SearchOptions, IsAuction-auction_from}
 use Rattle.canon.proofs.Common.{PlainAuction, IsAuction, auction_from, NormalisesPlainAs, RefusesText, HasBidders, leading, IsCanonicalFile, bid_from}

@@ -1,13 +1,13 @@
 -- Laws of the first difference. Exchanging the auctions exchanges its sides; there is none exactly between auctions that are the same;
 -- and where it is a bundle or a bidder, it is a point of one of them, or counted unequally by tables: each case by case over its parts.
-use Rattle.canon.proofs.Common.{◌≡◌, ℕ, ◌<◌, true, eqb, cond, ⊎_elim, List, refl, sym, ap, ap₂, ◌∙◌, subst, arith, Option, Some, None, rules, All, ◌↔◌, find}
+use Rattle.canon.proofs.Common.{◌≡◌, ℕ, ◌<◌, true, eqb, cond, ⊎_elim, List, refl, sym, ap, ap₂, ◌∙◌, subst, arith, Option, Some, None, rules, All, ◌↔◌}
 use Rattle.canon.proofs.Common.{count_by, is_eq, eqb-true, eq-eqb, ne_eqb, eqb-false, not_from_true, cond-true, cond-false, all_bundles, Atom, PlainAuction}
-use Rattle.canon.proofs.Common.{IsAtom, bidder_cmp, bidder_cmp_total, bidder_cmp_equal, sort_by, count_of, ordered-sort_by, ordered_from_counts, sum_by-sort_by}
-use Rattle.canon.proofs.Common.{or_table, xor_table, or_value, find_none, found_none, map_same_on, map_same_at, All-from_Contains, zero_or_more, is_or_point}
-use Rattle.canon.proofs.Common.{or_points, same_or_points, on_bundles, IsSameAuction, has_table, bidders_with, canonical_auction, points_of_bidders}
-use Rattle.canon.proofs.Common.{NoDifference, InGoods, first_difference, first_unequal_bundle, least_unequal_bidder, or_difference, xor_difference, copies_of}
-use Rattle.canon.proofs.Common.{exchanged, are_unequal, equal_from_test, unequal_swap, IsFirstUnequal, first_unequal, greater_is_point, least_uneven}
-use Rattle.canon.proofs.Common.{least_uneven_swap, all_even, none_of_same, IsLeastUneven, least_uneven_is, common_steps}
+use Rattle.canon.proofs.Common.{IsAtom, bidder_cmp, bidder_cmp_total, bidder_cmp_equal, sort_by, count_of, ordered-sort_by, ordered_from_counts}
+use Rattle.canon.proofs.Common.{sum_by-sort_by, or_table, xor_table, or_value, find_none, found_none, map_same_on, map_same_at, All-from_Contains}
+use Rattle.canon.proofs.Common.{zero_or_more, is_or_point, or_points, same_or_points, on_bundles, IsSameAuction, has_table, bidders_with, canonical_auction}
+use Rattle.canon.proofs.Common.{points_of_bidders, NoDifference, InGoods, first_difference, first_unequal_bundle, least_unequal_bidder, or_difference}
+use Rattle.canon.proofs.Common.{xor_difference, copies_of, exchanged, are_unequal, equal_from_test, unequal_swap, IsFirstUnequal, first_unequal}
+use Rattle.canon.proofs.Common.{greater_is_point, least_uneven, least_uneven_swap, all_even, none_of_same, IsLeastUneven, least_uneven_is, common_steps}
 use Rattle.canon.proofs.CanonicalAuctions.Atoms.{HasAtoms, xor_points_table}
 use Rattle.canon.proofs.CanonicalAuctions.Counting.{IsPointsOf, occurring, points_as_tables}
 use Rattle.canon.proofs.CanonicalAuctions.Sames.{same_canonical, same_from_canonical}

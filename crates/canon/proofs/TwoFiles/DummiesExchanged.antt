@@ -1,12 +1,11 @@
 -- A file with its dummy goods exchanged. Its bidders are those of the file in another order, so as many of them have each table of values.
-use Rattle.canon.proofs.Common.{◌≡◌, ◌≢◌, ◌⊎◌, inl, inr, ℕ, ◌<◌, Bool, cond, eqb, is_none, List, length, get_or, map, Option, Some, None, refl, sym, ap, ◌∙◌}
-use Rattle.canon.proofs.Common.{subst, arith, rules, All, AllPairs, IsPermutation, filter, range_with_len, eq-eqb, eqb-true, Decides-eqb, ext_get_or}
-use Rattle.canon.proofs.Common.{get_or-map, length-map, All-from_recursion, length-range_with_len, get_or-range_with_len, All-permutation, IsPermutation-map}
-use Rattle.canon.proofs.Common.{IsPermutation-sym, length_permutation, sum_by-IsPermutation, IsDistinct-IsPermutation, AllPairs-from_IsDistinct}
-use Rattle.canon.proofs.Common.{IsDistinct-from_AllPairs, map-map, IsDummyBelow, IsPlainFile, PlainBid, PlainFile, Atom, IsAtom, atom_of, auction_from}
-use Rattle.canon.proofs.Common.{is_dummy, or_atoms_of, xor_atoms_of, All-from_Contains, filter_same_on, map-filter, map_same_on, in_range, xor_points}
-use Rattle.canon.proofs.Common.{range_differs, named_bid, named_dummy, with_dummies, has_table, AreAlike, eqb_swap}
-use Rattle.std.specs.Cmp.{both_ways}
+use Rattle.canon.proofs.Common.{◌≡◌, ◌≢◌, ℕ, ◌<◌, Bool, cond, is_none, List, length, get_or, map, Option, Some, None, refl, sym, ap, ◌∙◌, subst, arith, rules}
+use Rattle.canon.proofs.Common.{All, AllPairs, IsPermutation, filter, range_with_len, eq-eqb, eqb-true, Decides-eqb, ext_get_or, get_or-map, length-map}
+use Rattle.canon.proofs.Common.{All-from_recursion, length-range_with_len, get_or-range_with_len, All-permutation, IsPermutation-map, IsPermutation-sym}
+use Rattle.canon.proofs.Common.{length_permutation, sum_by-IsPermutation, IsDistinct-IsPermutation, AllPairs-from_IsDistinct, IsDistinct-from_AllPairs}
+use Rattle.canon.proofs.Common.{map-map, IsDummyBelow, IsPlainFile, PlainBid, PlainFile, Atom, IsAtom, atom_of, auction_from, is_dummy, or_atoms_of}
+use Rattle.canon.proofs.Common.{xor_atoms_of, All-from_Contains, filter_same_on, map-filter, map_same_on, in_range, xor_points, range_differs, named_bid}
+use Rattle.canon.proofs.Common.{named_dummy, with_dummies, has_table, AreAlike, eqb_swap}
 use Rattle.canon.proofs.CanonicalAuctions.Sames.{same_bidders}
 use Rattle.canon.proofs.CanonicalFiles.Texts.{HasAtoms-file}
 

@@ -1,15 +1,12 @@
 -- One more file in an index. Files have one text exactly where they are related, as those of one auction are, so the first file with a
 -- text, which is the one that the map has for it, is the first of those.
-use Rattle.canon.proofs.Common.{◌≡◌, ◌⊎◌, ℕ, zero, suc, ◌+◌, ◌<◌, Bool, true, false, cond, unwrap_or, bytes_eq, List, [], ◌∷◌, ◌++◌, length, get_or, map, ap}
-use Rattle.canon.proofs.Common.{Option, Some, None, refl, sym, ◌∙◌, subst, inl, inr, ⊎_elim, arith, Global, rules, ◌↔◌, Vec, IfOk, IfErr, OnOk, OnErr, IsErrAnd}
+use Rattle.canon.proofs.Common.{◌≡◌, ◌⊎◌, ℕ, zero, suc, ◌+◌, ◌<◌, true, false, cond, unwrap_or, bytes_eq, List, [], ◌∷◌, ◌++◌, length, get_or, map, ap, Option}
+use Rattle.canon.proofs.Common.{Some, None, refl, sym, ◌∙◌, subst, inl, inr, ⊎_elim, arith, Global, rules, ◌↔◌, Vec, IfOk, IfErr, OnOk, OnErr, IsErrAnd}
 use Rattle.canon.proofs.Common.{Consumes, bytes_decides, lookup, cases_Bool, cond-true, cond-false, nat_list_eq_equiv, position-Some, is_eq-slice_cmp}
 use Rattle.canon.proofs.Common.{none-some, same_Some, slice_get_within, slice_get-get_or, get_or_from_slice_get, PlainFile, IsPlainFile, inner_of, ReadsFile}
 use Rattle.canon.proofs.Common.{ReadsAs, SearchOptions, Watched, RefusesAs, canonical_text, AddsStream, AddsText, IsEmptyIndex, IsFirstNumber, IsFirstText}
 use Rattle.canon.proofs.Common.{IsIndexOf, LacksText, NumbersText, TextIndex, first_number, text_number, IsText, normalised_file, AreSameFiles, CanonFault}
-use Rattle.canon.proofs.Common.{ReadFault, refusal_of, same_order}
-use Rattle.std.proofs.Common.{All}
-use Rattle.std.proofs.Common.{slice_get, length-append}
-use Rattle.std.specs.Prelude.{Result, Ok, Err}
+use Rattle.canon.proofs.Common.{ReadFault, refusal_of, same_order, All, slice_get, length-append, Result, Ok, Err}
 use Rattle.canon.proofs.CanonicalFiles.Texts.{same_text, same_from_text}
 
 -- ---- a list with one more element

@@ -3,7 +3,7 @@ use Rattle.canon.proofs.Common.{◌≡◌, ℕ, Bool, true, not, eqb, cond, List
 use Rattle.canon.proofs.Common.{eqb-true, eqb-false, IsBundle, all_bundles, all_bundles_has, PlainFile, IsPlainFile, Atom, PlainAuction, auction_from}
 use Rattle.canon.proofs.Common.{bidder_cmp, bidder_cmp_total, bidder_cmp_equal, count_of, or_table, or_value, filter_same_on, find_alike, All-from_Contains}
 use Rattle.canon.proofs.Common.{map_same_at, IsOrPoint-from_test, is_or_point-true, or_points_are, is_or_point, or_points, same_or_points, on_bundles}
-use Rattle.canon.proofs.Common.{canonical_auction, Difference, NoDifference, InOr, InXor, first_difference, first_unequal_bundle, least_unequal_bidder}
+use Rattle.canon.proofs.Common.{canonical_auction, Difference, NoDifference, InXor, first_difference, first_unequal_bundle, least_unequal_bidder}
 use Rattle.canon.proofs.Common.{or_difference, xor_difference, IsSameAuction, AreSameFiles, Side, Exactly, Below, least_uneven, are_unequal, common_steps}
 use Rattle.canon.proofs.CanonicalAuctions.Atoms.{HasAtoms}
 use Rattle.canon.proofs.TwoFiles.Differences.{at_same_goods, at_other_goods, unequal_bundle_is}

@@ -1,10 +1,10 @@
 -- Walks over the bids of bidders. The bids of the first bidder are the leading ones with its dummy good, and those of the others
 -- come after them. If two lists of bidders that never fall are the same up to some bidder, the lesser of the next two is the least
 -- bidder that the lists do not have equally often.
-use Rattle.canon.proofs.Common.{◌≡◌, ℕ, ◌+◌, ◌<◌, ◌≤◌, true, false, eqb, cond, ⊎_elim, List, [], ◌∷◌, ◌++◌, length, map, take, drop, refl, sym, ap, ap₂, ◌∙◌}
-use Rattle.canon.proofs.Common.{◌⊎◌, subst, arith, append_assoc, Option, Some, None, Less, Equal, Greater, rules, All, MatchOption, AllByRecursion, slice_get}
-use Rattle.canon.proofs.Common.{option_eq, option_or, is_eq, ordering_reverse, cases_Bool, both_ways, eq-eqb, ne_eqb, length-map, length-take-le}
-use Rattle.canon.proofs.Common.{take-append-le, take_all, drop-append-le, drop_all, All-nil, All-cons, All-head, All-tail, recursion_from_All, sum_by-cons}
+use Rattle.canon.proofs.Common.{◌≡◌, ℕ, ◌+◌, ◌<◌, ◌≤◌, true, eqb, cond, List, [], ◌∷◌, ◌++◌, length, map, take, drop, refl, sym, ap, ap₂, ◌∙◌, ◌⊎◌, subst}
+use Rattle.canon.proofs.Common.{arith, append_assoc, Option, Some, None, Less, Equal, Greater, rules, All, MatchOption, AllByRecursion, slice_get, option_eq}
+use Rattle.canon.proofs.Common.{option_or, is_eq, ordering_reverse, cases_Bool, both_ways, eq-eqb, ne_eqb, length-map, length-take-le, take-append-le}
+use Rattle.canon.proofs.Common.{take_all, drop-append-le, drop_all, All-nil, All-cons, All-head, All-tail, recursion_from_All, sum_by-cons}
 use Rattle.canon.proofs.Common.{prefix_len-le-length, PlainBid, Atom, PlainAuction, IsAtom, atom_of, bidder_cmp, bidder_cmp_total, bidder_cmp_equal, IsOrdered}
 use Rattle.canon.proofs.Common.{ordered-sort_by, All-sort_by, count_of, xor_table, is_nonzero, xor_points, no_xor_points, on_bundles, offers, leading}
 use Rattle.canon.proofs.Common.{AreBidsOf, HasBidders, IsFirstBidder, bid_from, dummy_bids, canonical_auction, points_of_bidders, InXor, least_unequal_bidder}

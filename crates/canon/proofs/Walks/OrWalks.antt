@@ -1,9 +1,8 @@
 -- The first change of the OR bids of two canonical files is the first difference of their OR values.
-use Rattle.canon.proofs.Common.{rules, ◌≡◌, ℕ, List, [], ◌∷◌, map, refl, sym, ap, ap₂, ◌∙◌, subst, None, OnErr, All-head, all_bundles, PlainBid, Atom}
-use Rattle.canon.proofs.Common.{PlainAuction, atom_of, or_value, on_bundles, find_none, offers, bid_from, InOr, first_unequal_bundle, or_difference, HasOrBids}
-use Rattle.canon.proofs.Common.{changes_of, side_at, first_change_found, or_side, same_bids, side_of_change, ArePoints, are_unequal, equal_test, in_order}
-use Rattle.canon.proofs.Common.{PlainChange, IsPriceChange, ArePriceChanges, Side}
-use Rattle.std.specs.Prelude.{Result, Ok, Err}
+use Rattle.canon.proofs.Common.{rules, ◌≡◌, ℕ, List, [], ◌∷◌, map, refl, sym, ap, ap₂, ◌∙◌, subst, None, OnErr, All-head, PlainBid, Atom, PlainAuction}
+use Rattle.canon.proofs.Common.{atom_of, on_bundles, find_none, offers, bid_from, InOr, first_unequal_bundle, or_difference, HasOrBids, changes_of, side_at}
+use Rattle.canon.proofs.Common.{first_change_found, or_side, same_bids, side_of_change, ArePoints, are_unequal, equal_test, in_order, PlainChange}
+use Rattle.canon.proofs.Common.{IsPriceChange, ArePriceChanges, Side, Result, Ok, Err}
 use Rattle.canon.proofs.Walks.PriceWalks.{are_all}
 
 -- a fact that holds in any case

@@ -1,9 +1,9 @@
 -- The walk of two lists of bids in order gives all changes: the lesser of the two first bundles comes before all others.
-use Rattle.canon.proofs.Common.{rules, ◌≡◌, ℕ, true, false, eqb, ⊎_elim, Some, List, [], ◌∷◌, refl, sym, ap, ◌∙◌, subst, Ordering, Less, Equal, Greater}
+use Rattle.canon.proofs.Common.{rules, ◌≡◌, ℕ, false, eqb, ⊎_elim, Some, List, [], ◌∷◌, refl, sym, ap, ◌∙◌, subst, Ordering, Less, Equal, Greater}
 use Rattle.canon.proofs.Common.{match_ordering, ordering_reverse, cases_Bool, eqb-true, eqb-false, cond-true, cond-false, All-nil, All-cons, All-weaker}
 use Rattle.canon.proofs.Common.{bundle_cmp, bundle_cmp_total, bundle_cmp_equal, Atom, AllPairs-nil, AllPairs-head, AllPairs-tail, IsBefore, IsInOrder}
 use Rattle.canon.proofs.Common.{changes_of, if_differs, on_both, only_left, only_right, AreLater, IsBehind, price_here, price_behind, no_price, past_change}
-use Rattle.canon.proofs.Common.{past_same, PlainChange, price_on, IsPriceChange, ArePriceChanges}
+use Rattle.canon.proofs.Common.{past_same, PlainChange, price_on, ArePriceChanges}
 
 -- ---- past a bundle
 

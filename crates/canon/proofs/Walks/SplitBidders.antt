@@ -1,6 +1,6 @@
 -- The bids of XOR bidders, split bidder by bidder: those that are split, with the bidders of the rest behind them, are all bidders.
-use Rattle.canon.proofs.Common.{◌≡◌, ℕ, ◌+◌, List, [], ◌∷◌, ◌++◌, length, map, drop, append_assoc, rules, append-nil, map-append, PlainBid, Atom, offers}
-use Rattle.canon.proofs.Common.{AreBidsOf, IsFirstBidder}
+use Rattle.canon.proofs.Common.{◌≡◌, ℕ, List, [], ◌∷◌, ◌++◌, length, map, drop, append_assoc, rules, append-nil, map-append, PlainBid, Atom, offers, AreBidsOf}
+use Rattle.canon.proofs.Common.{IsFirstBidder}
 use Rattle.canon.proofs.Walks.BidderWalks.{next_bidder, no_bidder}
 
 pub record AreSplit (bidders : List (List (Atom (List ℕ)))) (split : List (List PlainBid)) (bids : List PlainBid) : Type 0 where

@@ -9,11 +9,11 @@ use Rattle.valuation.specs.Lemmas.Orders.{bidder_cmp_total}
 use Rattle.valuation.specs.Lemmas.Sorting.{IsOrdered, All-sort_by, ordered-sort_by}
 use Rattle.valuation.specs.Orders.{bidder_cmp}
 use Rattle.valuation.specs.Tables.{xor_table, is_nonzero}
-use Rattle.valuation.specs.Values.{or_value, xor_value}
+use Rattle.valuation.specs.Values.{xor_value}
 use Rattle.prune.specs.InOrder.{IsInOrder}
 use Rattle.prune.specs.Lemmas.Lists.{All-from_Contains}
 use Rattle.prune.specs.Lemmas.Points.{points_where-in_order}
-use Rattle.prune.specs.Points.{is_or_point, is_xor_point, xor_points}
+use Rattle.prune.specs.Points.{is_xor_point, xor_points}
 use Rattle.canon.specs.Canonical.{IsCanonical, canonical_auction, points_of_bidders}
 
 module _ (a : PlainAuction) (canonical : IsCanonical a) where

@@ -4,7 +4,7 @@ use Rattle.std.specs.Prelude.{All, Contains}
 use Rattle.std.specs.List.{find}
 use Rattle.std.proofs.lemmas.Bool.{both_ways, eqb-true, eq-eqb, ne_eqb, not_from_true, not_from_false}
 use Rattle.std.proofs.lemmas.List.Elements.{All-contains}
-use Rattle.goods_set.specs.Bundles.{IsBundle, is_inside, without, all_bundles}
+use Rattle.goods_set.specs.Bundles.{IsBundle, without, all_bundles}
 use Rattle.goods_set.specs.Lemmas.Members.{inside_refl, without_inside, IsBundle-without}
 use Rattle.goods_set.specs.Orders.{bundle_cmp}
 use Rattle.goods_set.specs.Lemmas.Orders.{inside_before}

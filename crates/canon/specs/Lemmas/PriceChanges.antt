@@ -1,6 +1,6 @@
 -- Two lists of atoms in order are walked side by side, bundle by bundle. What is still to be found are the changes of the two
 -- rests: where the changes of the rests are given, the bundle that was walked past is put in front of them if its prices differ.
-use Rattle.std.proofs.Common.{◌≡◌, ℕ, true, false, ◌⊎◌, inl, inr, ⊎_elim, List, [], ◌∷◌, map, refl, sym, ◌∙◌, subst, Some, None, Less, arith, rules}
+use Rattle.std.proofs.Common.{◌≡◌, ℕ, true, false, ◌⊎◌, inr, ⊎_elim, List, [], ◌∷◌, map, refl, sym, ◌∙◌, subst, Some, None, Less, arith, rules}
 use Rattle.std.specs.Prelude.{◌≢◌, All, Contains}
 use Rattle.std.specs.Ordering.{is_eq}
 use Rattle.std.proofs.lemmas.List.Elements.{All-cons, All-head, All-tail, All-weaker}

@@ -1,6 +1,6 @@
 -- The dummy goods of the bidders that are in the canonical file. They are put in order by the points of their bidders first, so these
 -- points are the bidders of the canonical auction; none is there twice, and each is that of a bidder whose value is not zero.
-use Rattle.std.proofs.Common.{◌≡◌, ◌≢◌, ℕ, ◌+◌, ◌<◌, Bool, true, false, cond, List, [], ◌∷◌, length, map, get_or, eqb, refl, sym, ap, subst, arith, Ordering}
+use Rattle.std.proofs.Common.{◌≡◌, ◌≢◌, ℕ, ◌+◌, ◌<◌, Bool, true, false, List, [], ◌∷◌, length, map, get_or, eqb, refl, sym, subst, arith, Ordering}
 use Rattle.std.proofs.Common.{Less, Equal, Greater, rules}
 use Rattle.std.specs.Prelude.{AllPairs, Contains}
 use Rattle.std.specs.Cmp.{IsTotalOrder}

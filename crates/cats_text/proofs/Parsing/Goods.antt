@@ -3,8 +3,7 @@ use Rattle.cats_text.proofs.Common.{rules, ◌≡◌, ℕ, ◌+◌, ◌-◌, ◌
 use Rattle.cats_text.proofs.Common.{sym, ap, ap₂, ◌∙◌, subst, arith, Option, Some, None, Ok, Err, ltb-true, ltb-false, le-leb, lt-leb, leb-true, leb-false}
 use Rattle.cats_text.proofs.Common.{eqb-true, eqb-false, eq-eqb, ne_eqb, list_any, find, is_some, is_number, number_of, has_good, header_value, word_fault}
 use Rattle.cats_text.proofs.Common.{when, has_end, is_end, before_end, real_goods, dummy_in, Progress, good_or_end_read, good_read, dummy_read, end_read, Kind}
-use Rattle.cats_text.proofs.Common.{Keyword, Number, End, Other, Ended, Header, MAX_GOODS, MAX_DUMMY, common_steps}
-use Rattle.std.specs.Option.{option_map}
+use Rattle.cats_text.proofs.Common.{Keyword, Number, End, Other, Ended, Header, MAX_GOODS, MAX_DUMMY, common_steps, option_map}
 use Rattle.cats_text.specs.declared.read_fault.Kind.TheVariants as kinds
 use Rattle.cats_text.specs.declared.word.Word.{Word}
 use Rattle.cats_text.specs.declared.word.Word.TheVariants.{Decimal as Fraction}

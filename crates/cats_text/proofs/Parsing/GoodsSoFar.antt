@@ -2,8 +2,7 @@
 use Rattle.cats_text.proofs.Common.{◌≡◌, ◌≢◌, ℕ, ◌-◌, ◌<◌, ◌≤◌, Bool, true, false, not, ◌||◌, cond, eqb, ltb, leb, ◌⊎◌, List, [], ◌∷◌, ◌++◌, length, map, refl}
 use Rattle.cats_text.proofs.Common.{ap, ◌∙◌, arith, Some, None, append-nil, eqb-true, eq-eqb, ne_eqb, ltb-false, lt-ltb, le-ltb, le-leb, lt-leb, leb-true}
 use Rattle.cats_text.proofs.Common.{both_ways, false_from_ne_true, or_cases, or_right, map-append, find-append, list_any-append, filter-append, find, list_any}
-use Rattle.cats_text.proofs.Common.{is_some, Word, number_of, has_good, has_end, is_end, before_end, real_goods, dummy_in, common_steps}
-use Rattle.std.specs.List.{filter}
+use Rattle.cats_text.proofs.Common.{is_some, Word, number_of, has_good, has_end, is_end, before_end, real_goods, dummy_in, common_steps, filter}
 use Rattle.cats_text.proofs.Parsing.States.{HasOneDummy}
 
 abbrev pub values : List Word → List ℕ

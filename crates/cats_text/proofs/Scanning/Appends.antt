@@ -1,8 +1,7 @@
 -- Bytes that come in pieces: what is decided, waits and runs over an append.
-use Rattle.cats_text.proofs.Common.{rules, ◌≡◌, ℕ, suc, ◌+◌, ◌≤◌, ◌==◌, Bool, true, false, List, [], ◌∷◌, ◌++◌, length, refl, arith, inr, Ok, Err, IfOk}
-use Rattle.cats_text.proofs.Common.{IsOkAnd, if◌then◌else◌, is_blank, settled, settle, ReadFault, Mode, Between, Inside, Reading, word_read, line_read, State}
-use Rattle.cats_text.proofs.Common.{Scan, and_then, with_reading, blank_step_at, blank_step, words_step_at, line_step, byte_step, scan, MeetsBidLine}
-use Rattle.cats_text.proofs.Common.{common_steps}
+use Rattle.cats_text.proofs.Common.{rules, ◌≡◌, ℕ, suc, ◌+◌, ◌≤◌, Bool, true, false, List, [], ◌∷◌, ◌++◌, length, refl, arith, inr, Ok, Err, IfOk, IsOkAnd}
+use Rattle.cats_text.proofs.Common.{if◌then◌else◌, settled, settle, ReadFault, Mode, Between, Inside, Reading, word_read, line_read, State, Scan, and_then}
+use Rattle.cats_text.proofs.Common.{with_reading, blank_step_at, words_step_at, line_step, byte_step, scan, MeetsBidLine, common_steps}
 
 abbrev ok : State → Scan
 ok t = Ok t

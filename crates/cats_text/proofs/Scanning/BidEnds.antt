@@ -1,7 +1,7 @@
 -- The `#` and the LF that end a bid line.
-use Rattle.cats_text.proofs.Common.{rules, ◌≡◌, ◌≢◌, ℕ, ◌+◌, ◌<◌, Bool, true, false, cond, eqb, List, length, get_or, refl, sym, ap, subst, ◌∙◌, arith, Ok, Err}
-use Rattle.cats_text.proofs.Common.{add-one, eqb-true, IsLeadingToken, word_read, line_read, end_read, bid_closed, with_bid, Progress, Gives, State, byte_step}
-use Rattle.cats_text.proofs.Common.{is_before_word, IsGoodDue, ScansTo, Kind, EmptyBundle, Later, Ended, Bid, Start, End, common_steps}
+use Rattle.cats_text.proofs.Common.{rules, ◌≡◌, ◌≢◌, ℕ, ◌+◌, ◌<◌, Bool, true, false, cond, eqb, List, length, get_or, refl, ap, arith, Ok, Err, eqb-true}
+use Rattle.cats_text.proofs.Common.{IsLeadingToken, word_read, line_read, end_read, bid_closed, with_bid, Progress, Gives, State, is_before_word, IsGoodDue}
+use Rattle.cats_text.proofs.Common.{ScansTo, Kind, EmptyBundle, Later, Ended, Bid, Start, End, common_steps}
 use Rattle.cats_text.specs.declared.word.Word.{Word}
 use Rattle.cats_text.proofs.Scanning.Rests.{scan_byte_at}
 use Rattle.cats_text.proofs.Scanning.WholeWords.{behind_word, word_taken, word_halts, stops_in}

@@ -1,13 +1,12 @@
 -- Where the scanner is in a bid line, a fourth significant line has begun. The idea: count the lines that begin, byte by byte,
 -- and the header lines that have ended by the parser's stage.
 use Rattle.cats_text.proofs.Common.{rules, ◌≡◌, ℕ, suc, ◌+◌, ◌≤◌, Option, Some, None, Bool, true, false, not, cond, eqb, ltb, ⊎_elim, List, [], ◌∷◌, ◌++◌}
-use Rattle.cats_text.proofs.Common.{length, ap, filter, refl, sym, ◌∙◌, subst, arith, Result, Ok, Err, IsOkAnd, lt-ltb, Word, RawLine, Line, raw_lines}
-use Rattle.cats_text.proofs.Common.{lines_with, with_byte, line_words, words_with, with_letter, begins_word, is_significant, is_blank, numbered, blank_returns}
-use Rattle.cats_text.proofs.Common.{significant_lines, has_bid_line, Progress, Reading, keyword_read, header_number_read, number_read, price_parts, with_price}
-use Rattle.cats_text.proofs.Common.{price_read, dummy_read, word_read, good_or_end_read, line_read, Kind, Keyword, Number, End, PlainBid, Column, First, Second}
-use Rattle.cats_text.proofs.Common.{Later, Ended, MAX_GOODS, MAX_BIDS, MAX_DUMMY, State, Scan, and_then, byte_step, blank_step, words_step, line_step}
-use Rattle.cats_text.proofs.Common.{next_line, with_reading, letter_mode, MeetsBidLine, IsInBidLine, IsInLine, first_state, word_from, Stage, Goods, Bids}
-use Rattle.cats_text.proofs.Common.{Dummy, Bid, Mode, Start, Blank, Comment, Between, Inside, common_steps}
+use Rattle.cats_text.proofs.Common.{length, ap, filter, refl, sym, ◌∙◌, subst, arith, Result, Ok, Err, IsOkAnd, lt-ltb, RawLine, Line, raw_lines, lines_with}
+use Rattle.cats_text.proofs.Common.{with_byte, line_words, is_significant, is_blank, numbered, blank_returns, has_bid_line, Progress, Reading, keyword_read}
+use Rattle.cats_text.proofs.Common.{header_number_read, number_read, price_parts, with_price, price_read, dummy_read, word_read, good_or_end_read, line_read}
+use Rattle.cats_text.proofs.Common.{Kind, Keyword, Number, End, PlainBid, Column, First, Second, Later, Ended, MAX_GOODS, MAX_BIDS, MAX_DUMMY, State, Scan}
+use Rattle.cats_text.proofs.Common.{and_then, byte_step, blank_step, words_step, line_step, next_line, with_reading, letter_mode, MeetsBidLine, IsInLine}
+use Rattle.cats_text.proofs.Common.{first_state, word_from, Stage, Goods, Bids, Dummy, Bid, Mode, Start, Blank, Comment, Between, Inside, common_steps}
 use Rattle.cats_text.specs.declared.read_fault.Kind.TheVariants as kinds
 use Rattle.cats_text.specs.declared.word.Keyword.{Keyword as Key}
 use Rattle.cats_text.specs.declared.word.Keyword.TheVariants as keywords

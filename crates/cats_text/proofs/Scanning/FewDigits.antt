@@ -2,8 +2,7 @@
 use Rattle.cats_text.proofs.Common.{rules, ◌≡◌, ℕ, suc, ◌+◌, ◌-◌, ◌*◌, ◌%◌, ◌^◌, ◌<◌, ◌≤◌, min, true, false, cond, List, [], ◌∷◌, length, take, drop}
 use Rattle.cats_text.proofs.Common.{slice_range, ap, fold, Option, Some, None, IfSome, refl, sym, ◌∙◌, subst, arith, lt_of_lt_of_le, pow-suc, pow-le-pow_right}
 use Rattle.cats_text.proofs.Common.{mod-eq_of_lt, and_parts, and_from, lt-ltb, length-take, digit_value, digits_len, digits_value, digits_value_after}
-use Rattle.cats_text.proofs.Common.{digits_len_short, is_digit, digits_alone, word_with, Number, IsNumberSoFar, common_steps}
-use Rattle.std.proofs.lemmas.List.{take-take}
+use Rattle.cats_text.proofs.Common.{digits_len_short, is_digit, digits_alone, word_with, Number, IsNumberSoFar, common_steps, take-take}
 use Rattle.core.proofs.dec2flt.DigitsLemmas.{is_digit as digit_worth}
 use Rattle.cats_text.proofs.Words.Places.{digit_bounds}
 use Rattle.cats_text.proofs.Scanning.ManyBytes.{number_with}

@@ -1,8 +1,8 @@
 -- What is kept of the word at the start of bytes: of digits, of digits and a point, and of `#`.
-use Rattle.cats_text.proofs.Common.{rules, ◌≡◌, ℕ, ◌+◌, ◌-◌, ◌<◌, ◌≤◌, min, true, false, List, [], ◌∷◌, ◌++◌, length, get_or, take, drop, fold, refl, sym, ap}
-use Rattle.cats_text.proofs.Common.{◌∙◌, subst, arith, zero, suc, zero-add, eqb, and_parts, both_ways, eqb-true, eq-eqb, or_left, or_right, length-take}
-use Rattle.cats_text.proofs.Common.{length-drop, fold-append, AllByRecursion, is_blank, is_digit, digits_alone, word_from, word_with, summary, IsPlain, IsKept}
-use Rattle.cats_text.proofs.Common.{IsLeadingToken, Decimal, Number, End, common_steps}
+use Rattle.cats_text.proofs.Common.{rules, ◌≡◌, ℕ, ◌+◌, ◌-◌, ◌<◌, ◌≤◌, true, false, List, [], ◌∷◌, ◌++◌, length, get_or, take, drop, fold, sym, ap, ◌∙◌, arith}
+use Rattle.cats_text.proofs.Common.{zero, suc, zero-add, eqb, and_parts, both_ways, eqb-true, eq-eqb, or_left, or_right, length-take, length-drop, fold-append}
+use Rattle.cats_text.proofs.Common.{AllByRecursion, is_blank, is_digit, digits_alone, word_from, word_with, summary, IsPlain, IsKept, IsLeadingToken, Decimal}
+use Rattle.cats_text.proofs.Common.{Number, End, common_steps}
 use Rattle.cats_text.specs.declared.word.Word.{Word}
 use Rattle.cats_text.specs.declared.word.Word.TheVariants.{Decimal as Fraction}
 use Rattle.cats_text.proofs.Scanning.ManyBytes.{digits_plain}

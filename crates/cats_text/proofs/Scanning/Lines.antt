@@ -1,9 +1,9 @@
 -- From bytes to lines of words: the scanner's states over the bytes of a line, and over all lines. The idea: at each state one
 -- statement on the rest of the line, by induction on the rest, general in what has come of the word.
-use Rattle.cats_text.proofs.Common.{rules, ◌≡◌, ℕ, true, false, not, cond, eqb, List, [], ◌∷◌, ◌++◌, refl, sym, ap, ◌∙◌, Ok, Err, append-nil, append_assoc}
-use Rattle.cats_text.proofs.Common.{arith, AllByRecursion, Word, is_blank, begins_word, with_letter, words_with, line_words, is_significant, fault_at, Progress}
-use Rattle.cats_text.proofs.Common.{Reading, word_read, word_from, summary, State, Scan, and_then, scan, byte_step, blank_step, letter_mode, Mode, Start, Blank}
-use Rattle.cats_text.proofs.Common.{Comment, Between, Inside, common_steps}
+use Rattle.cats_text.proofs.Common.{rules, ◌≡◌, ℕ, true, false, cond, eqb, List, [], ◌∷◌, ◌++◌, refl, sym, ap, ◌∙◌, Ok, Err, append-nil, append_assoc, arith}
+use Rattle.cats_text.proofs.Common.{AllByRecursion, Word, is_blank, begins_word, with_letter, words_with, line_words, is_significant, fault_at, Progress}
+use Rattle.cats_text.proofs.Common.{Reading, word_read, word_from, summary, State, Scan, and_then, scan, byte_step, blank_step, letter_mode, Mode, Start}
+use Rattle.cats_text.proofs.Common.{Blank, Comment, Between, Inside, common_steps}
 use Rattle.cats_text.specs.declared.word.Word.{Word as Kept}
 use Rattle.cats_text.proofs.Words.Kept.{summary-push}
 use Rattle.cats_text.proofs.Parsing.WholeLines.{words_read, reading_then}

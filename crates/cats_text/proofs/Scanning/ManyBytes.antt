@@ -1,9 +1,9 @@
 -- Several bytes at once: the digits of a number, whole words, and the bytes of a comment.
-use Rattle.cats_text.proofs.Common.{rules, ◌≡◌, ◌≢◌, ℕ, suc, ◌+◌, ◌-◌, ◌*◌, ◌<◌, ◌≤◌, Bool, true, false, not, ◌&&◌, cond, eqb, ltb, List, [], ◌∷◌, ◌++◌, length}
-use Rattle.cats_text.proofs.Common.{take, get_or, drop, fold, refl, sym, ap, ◌∙◌, subst, arith, Ok, add-one, append-nil, Some, None, min, and_parts, and_from}
-use Rattle.cats_text.proofs.Common.{ltb-false, ne_eqb, eq-eqb, fold_push, take-suc, take-length, AllByRecursion, prefix_len, position_or_len, position}
-use Rattle.cats_text.proofs.Common.{take-append-drop, length-drop, length-take, length-prefix_len, unwrap_or, is_blank, settled, waits, return_byte, Progress}
-use Rattle.cats_text.proofs.Common.{State, scan, and_then, letter_mode, is_before_word, MeetsBidLine, IsScanned, Mode, Comment, Between, Inside, is_digit}
+use Rattle.cats_text.proofs.Common.{rules, ◌≡◌, ◌≢◌, ℕ, suc, ◌+◌, ◌-◌, ◌*◌, ◌<◌, ◌≤◌, Bool, true, false, not, ◌&&◌, cond, eqb, ltb, List, [], ◌∷◌, ◌++◌}
+use Rattle.cats_text.proofs.Common.{length, take, get_or, drop, fold, refl, sym, ap, ◌∙◌, subst, arith, Ok, add-one, append-nil, Some, None, min, and_parts}
+use Rattle.cats_text.proofs.Common.{and_from, ltb-false, ne_eqb, eq-eqb, fold_push, take-suc, take-length, AllByRecursion, prefix_len, position_or_len}
+use Rattle.cats_text.proofs.Common.{position, take-append-drop, length-drop, length-take, length-prefix_len, unwrap_or, is_blank, settled, waits, return_byte}
+use Rattle.cats_text.proofs.Common.{Progress, State, scan, letter_mode, is_before_word, MeetsBidLine, IsScanned, Mode, Comment, Between, Inside, is_digit}
 use Rattle.cats_text.proofs.Common.{digits_alone, word_from, word_with, decimal_with, summary, IsPlain, IsKept, IsNumberSoFar, Number, Decimal, HELD}
 use Rattle.cats_text.proofs.Common.{common_steps}
 use Rattle.cats_text.proofs.Words.Places.{digit_bounds}

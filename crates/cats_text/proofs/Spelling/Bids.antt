@@ -1,9 +1,9 @@
 -- The bid that a line spells, and the bid of a line's words.
 use Rattle.cats_text.proofs.Common.{rules, ◌≡◌, ℕ, zero, suc, ◌<◌, ◌≤◌, true, false, not, cond, ltb, ⊎_elim, List, [], ◌∷◌, ◌++◌, length, map, Some, refl, sym}
-use Rattle.cats_text.proofs.Common.{ap, ap₂, ◌∙◌, subst, both_ways, ltb-true, lt-ltb, or_cases, or_left, or_right, take_while-cons, slice_get_within}
+use Rattle.cats_text.proofs.Common.{ap, ◌∙◌, subst, both_ways, ltb-true, lt-ltb, or_cases, or_left, or_right, take_while-cons, slice_get_within}
 use Rattle.cats_text.proofs.Common.{AllByRecursion, list_any, slice_get, Word, is_number, number_of, price_of, PlainBid, PlainFile, IsBid, IsPlainFile}
 use Rattle.cats_text.proofs.Common.{goods_of, has_good, SpellsBid, line_number, Bounds, is_end, before_end, bid_of, MAX_PRICE, has_head, has_tail, has_cases}
-use Rattle.std.specs.Prelude.{codes}
+use Rattle.cats_text.proofs.Common.{codes}
 use Rattle.cats_text.proofs.Spelling.Rising.{IsRising-of}
 use Rattle.cats_text.proofs.Spelling.Members.{bid_on, bid_on_same, bid_on_below, bid_on_real, bid_on_dummy, goods_are, rising_goods, same_dummy, has_real_good}
 use Rattle.cats_text.proofs.Spelling.Members.{real, dummy_of}

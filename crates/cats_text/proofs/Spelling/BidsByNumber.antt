@@ -1,10 +1,9 @@
 -- The bids of lines, each at its number. The idea: each line with a number of its own fills one more place, so as many lines
 -- as there are places fill them all.
 use Rattle.cats_text.proofs.Common.{rules, ◌≡◌, ◌≢◌, ℕ, zero, suc, ◌+◌, ◌-◌, ◌<◌, ◌≤◌, List, [], ◌∷◌, ◌++◌, length, map, replicate, set, get_or, Option, Some}
-use Rattle.cats_text.proofs.Common.{None, refl, sym, ap, ap₂, ◌∙◌, subst, arith, length-append, get_or-set_same, get_or-set_other, cases_eq, length-replicate}
-use Rattle.cats_text.proofs.Common.{length-set, AllByRecursion, slice_get, Word, PlainBid, AreDistinct, line_number, put_slot, filled, bid_of, slots_of}
-use Rattle.cats_text.proofs.Common.{common_steps}
-use Rattle.std.specs.List.{fold}
+use Rattle.cats_text.proofs.Common.{None, refl, sym, ap, ◌∙◌, arith, length-append, get_or-set_same, get_or-set_other, cases_eq, length-replicate, length-set}
+use Rattle.cats_text.proofs.Common.{AllByRecursion, slice_get, Word, PlainBid, AreDistinct, line_number, put_slot, filled, bid_of, slots_of, common_steps}
+use Rattle.cats_text.proofs.Common.{fold}
 
 abbrev BidsByNumber : Type 0
 BidsByNumber = List (Option PlainBid)

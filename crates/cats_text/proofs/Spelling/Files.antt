@@ -1,9 +1,8 @@
 -- A text without a fault spells the file that it says, and a text that spells a file has no fault and says that file.
 use Rattle.cats_text.proofs.Common.{rules, ◌≡◌, ℕ, ◌≤◌, cond, ◌⊎◌, inl, inr, List, [], ◌∷◌, length, Option, Some, None, refl, sym, ap, ◌∙◌, subst, arith}
-use Rattle.cats_text.proofs.Common.{AllByRecursion, slice_get, Word, significant_lines, line_count, number_of, PlainFile, IsBid, IsPlainFile, Spells, SpellsBid}
-use Rattle.cats_text.proofs.Common.{SpellsNumber, line_number, significant_words, bounds_of, header_value, first_fault, filled, bid_of, slots_of, file_of_lines}
-use Rattle.cats_text.proofs.Common.{spelled_file, ReadFault, MAX_GOODS, MAX_BIDS, MAX_DUMMY, common_steps}
-use Rattle.std.specs.Prelude.{codes}
+use Rattle.cats_text.proofs.Common.{AllByRecursion, slice_get, Word, significant_lines, line_count, number_of, PlainFile, IsBid, IsPlainFile, Spells}
+use Rattle.cats_text.proofs.Common.{SpellsBid, SpellsNumber, line_number, significant_words, bounds_of, header_value, first_fault, filled, bid_of, slots_of}
+use Rattle.cats_text.proofs.Common.{file_of_lines, spelled_file, ReadFault, MAX_GOODS, MAX_BIDS, MAX_DUMMY, common_steps, codes}
 use Rattle.cats_text.proofs.Spelling.BidsByNumber.{FillPlaces, length_bids, bids_stand, bids_all, bids_are}
 use Rattle.cats_text.proofs.Spelling.Tests.{IsHeader, header_number}
 use Rattle.cats_text.proofs.Spelling.Goods.{IsBidLine}

@@ -2,10 +2,9 @@
 use Rattle.cats_text.proofs.Common.{rules, ◌≡◌, ℕ, ◌+◌, ◌<◌, Bool, true, false, not, cond, eqb, ltb, leb, ◌||◌, ◌&&◌, ⊎_elim, List, [], ◌∷◌, ◌++◌, length, map}
 use Rattle.cats_text.proofs.Common.{None, Option, refl, sym, ap, ap₂, ◌∙◌, subst, append_assoc, append-nil, arith, both_ways, leb-false, lt-leb, not-false}
 use Rattle.cats_text.proofs.Common.{not_from_true, or_left, or_right, or_from, false_from_ne_true, cases_Bool, map-append, list_any-append, AllByRecursion}
-use Rattle.cats_text.proofs.Common.{list_any, Word, is_number, number_of, is_price, is_too_large, is_too_fine, has_good, line_number, when, Bounds, number_word}
-use Rattle.cats_text.proofs.Common.{price_word, is_end, has_end, bid_end, bounds_of, words_fault, Kind, NotANumber, GoodRange, RepeatedGood, TwoDummies}
-use Rattle.cats_text.proofs.Common.{EmptyBundle, common_steps}
-use Rattle.std.specs.Prelude.{codes}
+use Rattle.cats_text.proofs.Common.{list_any, Word, is_number, number_of, is_price, is_too_large, is_too_fine, has_good, line_number, when, Bounds}
+use Rattle.cats_text.proofs.Common.{number_word, price_word, is_end, has_end, bid_end, bounds_of, words_fault, Kind, NotANumber, GoodRange, RepeatedGood}
+use Rattle.cats_text.proofs.Common.{TwoDummies, EmptyBundle, common_steps, codes}
 use Rattle.cats_text.proofs.Spelling.Members.{AreGoods, MayFollow, no_goods, push_goods, may_follow}
 use Rattle.cats_text.proofs.Spelling.Tests.{when_none, none_when, or_none, none_or, equal_words}
 

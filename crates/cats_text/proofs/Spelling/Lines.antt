@@ -2,8 +2,7 @@
 use Rattle.cats_text.proofs.Common.{◌≡◌, ℕ, suc, ◌<◌, ◌≤◌, true, false, cond, List, [], ◌∷◌, ◌++◌, length, map, Some, None, refl, sym, ap, subst, arith}
 use Rattle.cats_text.proofs.Common.{append_assoc, append-nil, length-append, both_ways, ltb-false, le-ltb, map-append, AllByRecursion, Word, Line, AreDistinct}
 use Rattle.cats_text.proofs.Common.{line_number, Bounds, bounds_of, words_fault, end_fault, is_line_due, fault_at, lines_fault, Missing, MAX_GOODS, MAX_BIDS}
-use Rattle.cats_text.proofs.Common.{MAX_DUMMY, common_steps}
-use Rattle.std.specs.Prelude.{codes}
+use Rattle.cats_text.proofs.Common.{MAX_DUMMY, common_steps, codes}
 use Rattle.cats_text.proofs.Spelling.Marks.{AreDistinct-push}
 use Rattle.cats_text.proofs.Spelling.Members.{new_at}
 use Rattle.cats_text.proofs.Spelling.BidsByNumber.{FillPlaces}

@@ -4,9 +4,7 @@ use Rattle.cats_text.proofs.Common.{take, refl, sym, ◌∙◌, subst, arith, le
 use Rattle.cats_text.proofs.Common.{or_parts, or_from, and_parts, and_from, not-true, false_from_ne_true, not-false, cases_Bool, take-append-drop}
 use Rattle.cats_text.proofs.Common.{list_any-append, list_all-append, mul-le-mul_left, pow-succ', list_any, list_all, Word, is_digit, digits_alone, is_number}
 use Rattle.cats_text.proofs.Common.{number_of, whole_part, has_point, places, is_price, has_place_from, is_too_large, is_too_fine, six_places, price_of}
-use Rattle.cats_text.proofs.Common.{GREATEST_PRICE, MAX_PRICE, common_steps}
-use Rattle.std.proofs.Common.{length-take}
-use Rattle.std.specs.List.{fold}
+use Rattle.cats_text.proofs.Common.{GREATEST_PRICE, MAX_PRICE, common_steps, length-take, fold}
 
 -- ---- what digits are worth
 

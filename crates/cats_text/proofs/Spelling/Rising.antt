@@ -1,7 +1,7 @@
 -- Rising lists: one more number behind, the numbers at places, and a list put in order, which is the one rising list of its numbers.
 use Rattle.cats_text.proofs.Common.{rules, ◌≡◌, ℕ, ◌<◌, ◌≤◌, true, false, ◌||◌, eqb, ⊎_elim, List, [], ◌∷◌, ◌++◌, ◌-◌, zero, suc, length, take, get_or, refl}
-use Rattle.cats_text.proofs.Common.{sym, ap, ◌∙◌, arith, both_ways, ne_eqb, AreAbove, IsRising, has_good, has_head, has_tail, has_cases, has_above}
-use Rattle.cats_text.proofs.Common.{same_from_has, has-with_good, IsRising-with_good, rising_of, common_steps}
+use Rattle.cats_text.proofs.Common.{ap, ◌∙◌, arith, both_ways, ne_eqb, AreAbove, IsRising, has_good, has_head, has_tail, has_cases, has_above, same_from_has}
+use Rattle.cats_text.proofs.Common.{has-with_good, IsRising-with_good, rising_of, common_steps}
 
 -- ---- one more number behind
 

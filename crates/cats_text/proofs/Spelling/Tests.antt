@@ -1,8 +1,7 @@
 -- Tests one after another: no fault is that each of them is false. And header lines.
-use Rattle.cats_text.proofs.Common.{rules, ◌≡◌, ℕ, ◌≤◌, Bool, true, false, cond, ◌||◌, List, [], ◌∷◌, Option, Some, None, refl, sym, ap, ◌∙◌, subst, arith}
-use Rattle.cats_text.proofs.Common.{both_ways, ltb-false, le-ltb, not-false, not_from_true, bytes_eq-Decides, option_or, bytes_eq, Word, is_number, number_of}
-use Rattle.cats_text.proofs.Common.{when, header_word, header_end, header_value, word_fault, words_fault, Kind, common_steps}
-use Rattle.std.specs.Option.{option_map}
+use Rattle.cats_text.proofs.Common.{rules, ◌≡◌, ℕ, ◌≤◌, Bool, true, false, cond, ◌||◌, List, [], ◌∷◌, Option, Some, None, refl, ap, ◌∙◌, arith, both_ways}
+use Rattle.cats_text.proofs.Common.{ltb-false, le-ltb, not-false, not_from_true, bytes_eq-Decides, option_or, bytes_eq, Word, is_number, number_of, when}
+use Rattle.cats_text.proofs.Common.{header_word, header_end, header_value, word_fault, words_fault, Kind, common_steps, option_map}
 
 -- ---- tests
 

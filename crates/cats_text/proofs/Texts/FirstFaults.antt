@@ -1,9 +1,9 @@
 -- The scanner's answer over a text is the definitions' first fault, and over the bytes so far the fault that is complete.
 use Rattle.cats_text.proofs.Common.{rules, ◌≡◌, ℕ, suc, ◌+◌, ◌<◌, Bool, true, false, ◌||◌, cond, eqb, List, [], ◌∷◌, ◌++◌, length, filter, refl, sym, ap, ◌∙◌}
 use Rattle.cats_text.proofs.Common.{subst, arith, Some, None, Ok, Err, append-nil, both_ways, AllByRecursion, Word, RawLine, Line, raw_lines, line_words}
-use Rattle.cats_text.proofs.Common.{words_with, with_letter, begins_word, is_significant, is_blank, numbered, significant_lines, blank_returns, line_count}
-use Rattle.cats_text.proofs.Common.{lines_with, with_byte, significant_words, lines_fault, first_fault, is_line_due, is_final, Progress, start, Scan}
-use Rattle.cats_text.proofs.Common.{first_state, and_then, scan, byte_step, blank_step, end_step, PlainBid, Start, common_steps}
+use Rattle.cats_text.proofs.Common.{words_with, is_significant, is_blank, numbered, significant_lines, blank_returns, line_count, lines_with, with_byte}
+use Rattle.cats_text.proofs.Common.{significant_words, lines_fault, first_fault, is_line_due, is_final, Progress, start, Scan, first_state, and_then, scan}
+use Rattle.cats_text.proofs.Common.{byte_step, blank_step, end_step, PlainBid, Start, common_steps}
 use Rattle.cats_text.proofs.Scanning.Lines.{scan-append, IsNoEnd, standing, fresh_outcome, lifted, quiet, from_start, byte_blank, words_blank}
 use Rattle.cats_text.proofs.Parsing.WholeLines.{words_read, on_line, reading_then, Scanned, scanned_then, lines_scan, lines_step, LinesAre, IsLine, IsWord}
 use Rattle.cats_text.proofs.Parsing.WholeLines.{AreEndedButLast}

@@ -3,8 +3,7 @@ use Rattle.cats_text.proofs.Common.{rules, ◌≡◌, ℕ, ◌<◌, true, false,
 use Rattle.cats_text.proofs.Common.{subst, arith, refl, both_ways, lt-ltb, length-map, PlainFile, PlainBid, Word, Line, significant_lines, Spells}
 use Rattle.cats_text.proofs.Common.{significant_words, first_fault, complete_fault, has_bid_line, is_line_due, SpellsParts, settled, waits, carried, Progress}
 use Rattle.cats_text.proofs.Common.{filled, file_of_lines, State, Scan, first_state, and_then, scan, byte_step, end_step, end_of, MeetsBidLine, IsInBidLine}
-use Rattle.cats_text.proofs.Common.{HasBids, whole, ReadFault, Header, common_steps}
-use Rattle.std.specs.Prelude.{codes}
+use Rattle.cats_text.proofs.Common.{HasBids, whole, ReadFault, Header, common_steps, codes}
 use Rattle.cats_text.proofs.Scanning.AllBytes.{outcome}
 use Rattle.cats_text.proofs.Texts.FirstFaults.{WholeIs, whole_fault}
 use Rattle.cats_text.proofs.Scanning.Pieces.{CompleteIs, complete_is, end_of_text, waiting, blank_returns-settled, settled-append}

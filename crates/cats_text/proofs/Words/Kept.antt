@@ -1,11 +1,11 @@
 -- What the reader keeps of a word says all that the grammar needs of the word. The idea: `Summarises w s` says it of each kind of
 -- summary s, and one more byte keeps it.
 use Rattle.cats_text.proofs.Common.{rules, ◌≡◌, ◌≢◌, ℕ, zero, suc, ◌+◌, ◌-◌, ◌*◌, ◌^◌, ◌<◌, ◌≤◌, min, true, false, not, ◌&&◌, ◌||◌, cond, eqb, ltb, ◌⊎◌, List}
-use Rattle.cats_text.proofs.Common.{[], ap, ◌∷◌, ◌++◌, length, get_or, take, fold, refl, sym, ◌∙◌, subst, arith, append_assoc, add-one, length-append}
-use Rattle.cats_text.proofs.Common.{append-nil, and_parts, and_from, eqb-true, eqb-false, eq-eqb, ne_eqb, ltb-true, ltb-false, lt-ltb, le-ltb, or_right}
-use Rattle.cats_text.proofs.Common.{both_ways, fold-append, drop_of_length-le, drop-append-le, take-suc, list_any-append, list_any, bytes_eq, is_digit}
-use Rattle.cats_text.proofs.Common.{digits_alone, is_number, number_of, is_price, whole_part, has_point, places, has_place_from, is_end, keyword_text}
-use Rattle.cats_text.proofs.Common.{place_value_of, word_from, word_with, decimal_with, summary, Decimal, Keyword, Number, End, Other, HELD, common_steps}
+use Rattle.cats_text.proofs.Common.{[], ap, ◌∷◌, ◌++◌, length, get_or, take, fold, refl, sym, ◌∙◌, subst, arith, append_assoc, length-append, append-nil}
+use Rattle.cats_text.proofs.Common.{and_parts, and_from, eqb-true, eqb-false, eq-eqb, ne_eqb, ltb-true, ltb-false, lt-ltb, le-ltb, or_right, both_ways}
+use Rattle.cats_text.proofs.Common.{fold-append, drop_of_length-le, drop-append-le, take-suc, list_any-append, list_any, bytes_eq, is_digit, digits_alone}
+use Rattle.cats_text.proofs.Common.{is_number, number_of, is_price, whole_part, has_point, places, has_place_from, is_end, keyword_text, place_value_of}
+use Rattle.cats_text.proofs.Common.{word_from, word_with, decimal_with, summary, Decimal, Keyword, Number, End, Other, HELD, common_steps}
 use Rattle.cats_text.specs.declared.word.Keyword.{Keyword as Key}
 use Rattle.cats_text.specs.declared.word.Keyword.TheVariants.{Goods, Bids, Dummy}
 use Rattle.cats_text.specs.declared.word.Word.{Word}

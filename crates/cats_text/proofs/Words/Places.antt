@@ -1,6 +1,6 @@
 -- The digits behind a point, as a sum of what each place counts.
 use Rattle.cats_text.proofs.Common.{rules, add-zero, ◌≡◌, ℕ, zero, suc, ◌+◌, ◌-◌, ◌*◌, ◌<◌, ◌≤◌, true, ◌||◌, ltb, leb, List, [], ◌∷◌, ◌++◌, length, refl, ap}
-use Rattle.cats_text.proofs.Common.{◌∙◌, mul-le-mul_right, arith, and_parts, eqb-true, eqb-false, ne_eqb, leb-true, lt-ltb, or_right, is_digit, digits_alone}
+use Rattle.cats_text.proofs.Common.{mul-le-mul_right, arith, and_parts, eqb-true, eqb-false, ne_eqb, leb-true, lt-ltb, or_right, is_digit, digits_alone}
 use Rattle.cats_text.proofs.Common.{number_of, six_places, has_place_from, place_value_of, common_steps}
 
 -- what the digits from the n-th place on count, in millionths

@@ -1,8 +1,7 @@
 -- What is kept of a word answers every test that the grammar makes of the word.
-use Rattle.cats_text.proofs.Common.{rules, ◌≡◌, ℕ, zero, suc, ◌<◌, ◌≤◌, min, Bool, true, false, not, ◌&&◌, ◌||◌, eqb, List, [], ◌∷◌, ◌++◌, length, take, refl}
-use Rattle.cats_text.proofs.Common.{sym, ap, ◌∙◌, subst, arith, append-nil, and_parts, eqb-true, eqb-false, eq-eqb, ne_eqb, both_ways, bytes_eq, is_digit}
-use Rattle.cats_text.proofs.Common.{digits_alone, is_number, is_price, has_point, places, is_end, keyword_text, is_same_keyword, Decimal, Keyword, Number, End}
-use Rattle.cats_text.proofs.Common.{Other, common_steps}
+use Rattle.cats_text.proofs.Common.{rules, ◌≡◌, ℕ, zero, suc, ◌<◌, ◌≤◌, min, Bool, true, false, not, ◌&&◌, eqb, List, [], ◌∷◌, length, take, refl, sym, ap}
+use Rattle.cats_text.proofs.Common.{◌∙◌, subst, arith, append-nil, and_parts, eqb-true, eqb-false, eq-eqb, ne_eqb, both_ways, bytes_eq, is_digit, digits_alone}
+use Rattle.cats_text.proofs.Common.{is_number, is_price, is_end, keyword_text, is_same_keyword, Decimal, Keyword, Number, End, Other, common_steps}
 use Rattle.cats_text.specs.declared.word.Keyword.{Keyword as Key}
 use Rattle.cats_text.specs.declared.word.Keyword.TheVariants.{Goods, Bids, Dummy}
 use Rattle.cats_text.specs.declared.word.Word.{Word}

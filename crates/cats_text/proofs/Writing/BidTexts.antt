@@ -1,7 +1,6 @@
 -- The texts of bids one after another.
 use Rattle.cats_text.proofs.Common.{◌≡◌, ℕ, zero, suc, ◌+◌, ◌≤◌, List, [], ◌∷◌, ◌++◌, Some, length, subst, drop, ap, add-one, append_assoc, drop_all}
-use Rattle.cats_text.proofs.Common.{AllByRecursion, slice_get, PlainBid, bid_text, bids_text, arith, common_steps}
-use Rattle.std.proofs.lemmas.List.{append-nil}
+use Rattle.cats_text.proofs.Common.{AllByRecursion, slice_get, PlainBid, bid_text, bids_text, arith, common_steps, append-nil}
 
 -- all are written
 pub bids_text_all : (goods : ℕ) (bids : List PlainBid) (i : ℕ) (out text : List ℕ) → length bids ≤ i → out ++ bids_text goods i (drop i bids) ≡ text

@@ -1,8 +1,7 @@
 -- A text that is written from its end to its start.
 use Rattle.cats_text.proofs.Common.{◌≡◌, ℕ, ◌-◌, ◌<◌, ◌≤◌, List, ◌∷◌, ◌++◌, codes, length, take, drop, set, get_or, decimal, sym, ap, ◌∙◌, arith, append_assoc}
 use Rattle.cats_text.proofs.Common.{take-take, drop-set, drop-drop, drop-append-le, take_more, take_all, get_or-take, length-take-le, length-drop}
-use Rattle.cats_text.proofs.Common.{flat_map-append, common_steps, PlainBid, dummy_good, price_text, tabbed, bid_text}
-use Rattle.std.proofs.lemmas.List.{append-nil}
+use Rattle.cats_text.proofs.Common.{flat_map-append, common_steps, PlainBid, dummy_good, price_text, tabbed, bid_text, append-nil}
 
 -- a byte in place of the first
 pub byte_in_place : (xs text rest : List ℕ) (start b : ℕ) → start < length xs → 0 < length text → drop start xs ≡ text ++ rest

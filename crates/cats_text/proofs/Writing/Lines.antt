@@ -2,8 +2,7 @@
 use Rattle.cats_text.proofs.Common.{rules, ◌≡◌, ℕ, suc, ◌+◌, ◌/◌, ◌^◌, ◌<◌, true, List, [], ◌∷◌, ◌++◌, length, map, codes, decimal, Option, Some, None, refl}
 use Rattle.cats_text.proofs.Common.{sym, ap, ◌∙◌, arith, append_assoc, AllByRecursion, and_parts, false≢true, ne_eqb, not_from_false, Word, line_words}
 use Rattle.cats_text.proofs.Common.{is_significant, is_number, significant_words, AreBelow, PlainBid, PlainFile, IsBid, IsDummyBelow, dummy_good, goods_of}
-use Rattle.cats_text.proofs.Common.{price_text, header_text, tabbed, bid_text, bids_text, layout, common_steps}
-use Rattle.std.proofs.lemmas.List.{append-nil}
+use Rattle.cats_text.proofs.Common.{price_text, header_text, tabbed, bid_text, bids_text, layout, common_steps, append-nil}
 use Rattle.cats_text.proofs.Words.Places.{digit_bounds}
 use Rattle.cats_text.proofs.Writing.Numerals.{decimal_spells}
 use Rattle.cats_text.proofs.Writing.Prices.{price_text_is_word}

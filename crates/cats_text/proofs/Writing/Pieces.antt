@@ -1,9 +1,9 @@
 -- A text that is sent in pieces: what was sent is its beginning, and the page holds its next bytes.
-use Rattle.cats_text.proofs.Common.{rules, arith, ◌≡◌, ◌<◌, ◌≤◌, ◌+◌, ◌-◌, ◌^◌, ◌++◌, ◌∷◌, ℕ, List, [], length, take, drop, decimal, codes, Option, Some}
-use Rattle.cats_text.proofs.Common.{Result, Err, sym, ap, ◌∙◌, subst, IsErrAnd, take-add, Appends-trans, length-decimal-le, drop-drop, take-append-le}
-use Rattle.cats_text.proofs.Common.{drop-append-le, length-drop, err_from_is_err_and, Appends, slice_get, AreAbove, AreBelow, IsRising, PlainBid, PlainFile}
-use Rattle.cats_text.proofs.Common.{IsPlainFile, bid_text, bids_text, header_text, headers_text, inner_of, Sends, SendsPart, SendFault, Watched, common_steps}
-use Rattle.std.proofs.lemmas.List.{length-append}
+use Rattle.cats_text.proofs.Common.{rules, arith, ◌≡◌, ◌<◌, ◌≤◌, ◌+◌, ◌-◌, ◌^◌, ◌++◌, ◌∷◌, ℕ, List, [], length, take, drop, decimal, Option, Some, Result, Err}
+use Rattle.cats_text.proofs.Common.{sym, ap, ◌∙◌, subst, IsErrAnd, take-add, Appends-trans, length-decimal-le, drop-drop, take-append-le, drop-append-le}
+use Rattle.cats_text.proofs.Common.{length-drop, err_from_is_err_and, Appends, slice_get, AreAbove, AreBelow, IsRising, PlainBid, PlainFile, IsPlainFile}
+use Rattle.cats_text.proofs.Common.{bid_text, bids_text, header_text, headers_text, inner_of, Sends, SendsPart, SendFault, Watched, common_steps}
+use Rattle.cats_text.proofs.Common.{length-append}
 use Rattle.cats_text.proofs.Writing.BidTexts.{bid_at, bids_text_on}
 
 -- ---- what is sent, and what is held

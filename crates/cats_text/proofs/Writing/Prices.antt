@@ -1,9 +1,8 @@
 -- What the text of a price spells.
-use Rattle.cats_text.proofs.Common.{◌≡◌, ℕ, ◌+◌, ◌*◌, ◌/◌, ◌%◌, ◌^◌, ◌<◌, ◌≤◌, true, false, eqb, [], ◌∷◌, ◌++◌, length, decimal, refl, sym, ap, subst, ◌∙◌, inl}
-use Rattle.cats_text.proofs.Common.{inr, arith, length-append, and_parts, and_from, or_left, or_right, cases_eq, cond-false, ne_eqb, drop_all, Word, is_digit}
-use Rattle.cats_text.proofs.Common.{digits_alone, is_number, number_of, places, six_places, SpellsNumber, SpellsPrice, without_zeros, six_digits, places_text}
-use Rattle.cats_text.proofs.Common.{price_text, common_steps}
-use Rattle.std.proofs.lemmas.List.{append-nil}
+use Rattle.cats_text.proofs.Common.{◌≡◌, ℕ, ◌+◌, ◌*◌, ◌/◌, ◌%◌, ◌^◌, ◌<◌, ◌≤◌, true, false, eqb, [], ◌∷◌, ◌++◌, length, decimal, refl, sym, ap, subst, ◌∙◌}
+use Rattle.cats_text.proofs.Common.{inl, inr, arith, length-append, and_parts, and_from, or_left, or_right, cases_eq, cond-false, ne_eqb, drop_all, Word}
+use Rattle.cats_text.proofs.Common.{is_digit, digits_alone, is_number, number_of, places, six_places, SpellsNumber, SpellsPrice, without_zeros, six_digits}
+use Rattle.cats_text.proofs.Common.{places_text, price_text, common_steps, append-nil}
 use Rattle.cats_text.proofs.Writing.Numerals.{decimal_spells, digits_from_number, is_number_from_digits}
 use Rattle.cats_text.proofs.Words.Places.{digit_bounds}
 use Rattle.cats_text.proofs.Words.Kept.{whole-digits, point-digits, whole-point, places-point}

@@ -2,8 +2,7 @@
 use Rattle.cats_text.proofs.Common.{rules, ◌≡◌, ℕ, suc, ◌+◌, ◌^◌, ◌<◌, true, List, [], ◌∷◌, ◌++◌, length, map, decimal, Option, Some, None, refl, sym, ap}
 use Rattle.cats_text.proofs.Common.{subst, ◌∙◌, arith, append_assoc, length-append, AllByRecursion, slice_get, is_number, number_of, AreAbove, AreBelow}
 use Rattle.cats_text.proofs.Common.{IsRising, has_good, has_below, SpellsBid, Spells, AreDistinct, line_number, PlainBid, PlainFile, IsPlainFile, dummy_good}
-use Rattle.cats_text.proofs.Common.{goods_of, price_text, layout, common_steps}
-use Rattle.std.proofs.lemmas.List.{append-nil}
+use Rattle.cats_text.proofs.Common.{goods_of, price_text, layout, common_steps, append-nil}
 use Rattle.cats_text.proofs.Spelling.Distinct.{distinct_from_rising}
 use Rattle.cats_text.proofs.Spelling.Rising.{IsRising-push}
 use Rattle.cats_text.proofs.Writing.Numerals.{decimal_spells}

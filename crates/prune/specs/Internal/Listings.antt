@@ -9,7 +9,7 @@ use Rattle.valuation.specs.declared.atom.Atom.{Atom}
 use Rattle.goods_set.specs.Bundles.{has_good, is_inside}
 use Rattle.goods_set.specs.Orders.{bundle_cmp}
 use Rattle.prune.specs.Internal.Fingerprints.{AreMarks}
-use Rattle.valuation.specs.Packings.{atom_at}
+use Rattle.valuation.specs.Packings.{atom_at, is_inside_at}
 use Rattle.prune.specs.InOrder.{IsInOrder}
 use Rattle.prune.specs.declared.subset_index.Posting.{Posting}
 use Rattle.prune.specs.declared.subset_index.SubsetIndex.{SubsetIndex}
@@ -29,10 +29,6 @@ indices_of postings = map (λ posting. posting.index) postings
 -- the indices that are listed at a good
 abbrev pub indices_at : List (List Posting) → ℕ → List ℕ
 indices_at lists good = indices_of (listed_at lists good)
-
--- whether the atom at the index is inside the bundle
-abbrev pub is_inside_at : List (Atom (List ℕ)) → List ℕ → ℕ → Bool
-is_inside_at atoms bundle index = is_inside (atom_at atoms index).bundle bundle
 
 -- whether the atom is inside the bundle and has at least the price
 abbrev pub dominates : List ℕ → ℕ → Atom (List ℕ) → Bool

@@ -1,25 +1,25 @@
 -- Lemmas on what becomes of best bids: points that are not below a bundle do not matter there.
-use Rattle.std.proofs.Common.{rules, ◌≡◌, ℕ, ◌+◌, ◌<◌, ◌≤◌, Bool, true, false, not, cond, leb, List, [], ◌∷◌, ◌++◌, append-nil, length, reverse, refl, sym, ap}
+use Rattle.std.proofs.Common.{rules, ◌≡◌, ℕ, ◌+◌, ◌<◌, ◌≤◌, Bool, true, false, not, leb, List, [], ◌∷◌, ◌++◌, append-nil, length, reverse, refl, sym, ap}
 use Rattle.std.proofs.Common.{◌∙◌, subst, arith, Some, None}
 use Rattle.std.specs.Prelude.{All, AllPairs, Contains, IfSome, Option}
 use Rattle.std.specs.List.{filter, find, range_with_len}
 use Rattle.std.proofs.lemmas.Bool.{and_parts, leb-true}
 use Rattle.std.proofs.lemmas.List.{get_or_append_left, get_or_push, length_push}
 use Rattle.std.proofs.lemmas.List.Elements.{filter-append}
-use Rattle.std.proofs.lemmas.List.FromFn.{fill_by_all}
 use Rattle.std.proofs.lemmas.List.Kept.{AllPairs-filter}
 use Rattle.goods_set.specs.Bundles.{is_inside}
 use Rattle.valuation.specs.declared.atom.Atom.{Atom}
 use Rattle.valuation.specs.declared.search.kind.SearchKind.{SearchKind}
 use Rattle.valuation.specs.declared.search.kind.SearchKind.TheVariants.{Plain, Bounded}
 use Rattle.valuation.specs.Packings.{atom_at, IsPackingFor, atoms_at}
+use Rattle.valuation.specs.Lemmas.Inside.{atoms_at-filter}
 use Rattle.valuation.specs.Lemmas.SearchSteps.{found_indices-packing}
 use Rattle.valuation.specs.SearchSteps.{found_indices}
 use Rattle.valuation.specs.Values.{or_value}
 use Rattle.prune.specs.Fates.{indices_below, found_points, or_fate, xor_fate}
 use Rattle.prune.specs.Reached.{IsPointFor}
 use Rattle.prune.specs.SearchSteps.{is_below, atoms_below, in_search_order}
-use Rattle.prune.specs.Lemmas.Lists.{All-from_Contains, Contains-filter_parts, filter-lost, filter_same_on, find_same_on, found_some, map-filter}
+use Rattle.prune.specs.Lemmas.Lists.{All-from_Contains, Contains-filter_parts, filter-lost, filter_same_on, find_same_on, found_some}
 use Rattle.valuation.specs.Lemmas.PackingIndices.{packing_rising}
 use Rattle.prune.specs.Lemmas.PackingIndices.{map-reverse, packing_falling, reversed_falling, reversed_within}
 use Rattle.prune.specs.Lemmas.Ranges.{in_range, range_more, range_rising}
@@ -82,9 +82,7 @@ all_within points bundle =
     All-from_Contains (λ index. index < length points) (indices_below points bundle) (λ index c. (indices_below-within points bundle index c).0)
 
 atoms_at_below : (points : List (Atom (List ℕ))) (bundle : List ℕ) → atoms_at points (indices_below points bundle) ≡ atoms_below points bundle
-atoms_at_below points bundle =
-    map-filter (atom_at points) (λ a. is_below a.bundle bundle) (range_with_len 0 (length points)) ∙ ap (filter (λ a. is_below a.bundle bundle))
-    (sym (fill_by_all (atom_at points) points (length points) (record { bundle = []; price = 0 }) refl (λ k l. refl)))
+atoms_at_below points bundle = atoms_at-filter (λ a. is_below a.bundle bundle) points
 
 searched_packing : (kind : SearchKind) (points : List (Atom (List ℕ))) (bundle : List ℕ) (price : ℕ) → price ≤ or_value (atoms_below points bundle) bundle
     → IsPackingFor (in_search_order kind (atoms_below points bundle)) bundle price

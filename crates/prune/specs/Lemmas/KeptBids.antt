@@ -1,27 +1,24 @@
 -- A list in order, of whose atoms none is reached by those below it, is the list of its points. The idea: for what is properly
 -- inside a kept atom's bundle only the atoms below it matter; and a value above 0 is reached with some atom, which is either
 -- on the whole bundle or one part of a split of it.
-use Rattle.std.proofs.Common.{rules, ◌≡◌, ℕ, zero, suc, ◌+◌, ◌<◌, ◌≤◌, true, false, not, ltb, ◌⊎◌, inl, inr, ⊎_elim, List, [], ◌∷◌, length, refl, sym, ap, ap₂}
+use Rattle.std.proofs.Common.{rules, ◌≡◌, ℕ, zero, suc, ◌+◌, ◌<◌, ◌≤◌, true, false, not, ◌⊎◌, ⊎_elim, List, [], ◌∷◌, length, refl, sym, ap, ap₂}
 use Rattle.std.proofs.Common.{eqb, subst, arith, le_antisymm}
 use Rattle.std.specs.Prelude.{All, Contains}
-use Rattle.std.specs.List.{list_all}
-use Rattle.std.specs.Cmp.{both_ways as same_test}
 use Rattle.std.proofs.lemmas.Bool.{cases_Bool, eqb-true, eq-eqb, both_ways, and_from, and_cases, ltb-false, not_from_false, false_from_ne_true}
 use Rattle.std.proofs.lemmas.List.Elements.{All-contains, All-weaker, All-filter}
 use Rattle.goods_set.specs.Bundles.{IsRising, IsBundle, has_good, is_inside, IsInside, without}
-use Rattle.goods_set.specs.Lemmas.Members.{has_head, has_tail, has_cases, inside_at, inside_from, inside_refl, inside_trans, inside_antisymm, apart_from}
+use Rattle.goods_set.specs.Lemmas.Members.{has_head, has_cases, inside_at, inside_from, inside_refl, inside_trans, inside_antisymm, apart_from}
 use Rattle.goods_set.specs.Lemmas.Members.{has_without_parts, without_inside, inside_without, IsBundle-without}
 use Rattle.goods_set.specs.Lemmas.Sizes.{without_all, length-without, inside_from_without, no_goods}
 use Rattle.valuation.specs.declared.atom.Atom.{Atom}
 use Rattle.valuation.specs.Auctions.{IsAtom}
 use Rattle.valuation.specs.Values.{xor_value, or_value}
-use Rattle.valuation.specs.Lemmas.Lists.{Contains-cons_cases}
 use Rattle.valuation.specs.Lemmas.XorValues.{xor_value-grows}
 use Rattle.valuation.specs.Lemmas.OrValues.{or_value-split, or_value-empty, or_value-price, ReachesValue, ReachesValue-some}
 use Rattle.prune.specs.Lemmas.OnBundles.{IsOnBundle}
 use Rattle.prune.specs.Points.{is_xor_point, xor_points, is_or_point, or_points, IsXorPoint, IsPart, IsOrPoint}
 use Rattle.prune.specs.SearchSteps.{is_below, atoms_below}
-use Rattle.prune.specs.Lemmas.Lists.{zero_or_more, list_all_fails, list_any_found, list_any_has, Contains-nil, Contains-filter, All-from_Contains}
+use Rattle.prune.specs.Lemmas.Lists.{zero_or_more, list_all_fails, list_any_found, list_any_has, Contains-filter, All-from_Contains}
 use Rattle.prune.specs.InOrder.{IsInOrder}
 use Rattle.prune.specs.Lemmas.InOrder.{same_bundle_same_atom, same_in_order}
 use Rattle.prune.specs.Lemmas.Values.{xor_value-member, xor_value-bound, xor_value-dominated, xor_value-reached, xor_value-filter_on, or_value-dominated}

@@ -1,6 +1,6 @@
 -- Lemmas on lists: which elements a list has, behind a filter too, and the first that passes a test.
-use Rattle.std.proofs.Common.{rules, ◌≡◌, ℕ, zero, suc, ◌<◌, Bool, true, false, cond, ◌&&◌, ◌||◌, ◌⊎◌, inl, inr, ⊎_elim, List, [], ◌∷◌, map, refl, sym, ap, ap₂}
-use Rattle.std.proofs.Common.{◌∙◌, subst, arith, Some, None, Option, is_some, IfSome}
+use Rattle.std.proofs.Common.{rules, ◌≡◌, ℕ, zero, suc, ◌<◌, Bool, true, false, ◌&&◌, ◌⊎◌, inl, inr, ⊎_elim, List, [], ◌∷◌, map, refl, sym, ap}
+use Rattle.std.proofs.Common.{◌∙◌, arith, Some, None, is_some, IfSome}
 use Rattle.std.specs.Prelude.{All, AllPairs, Contains}
 use Rattle.std.specs.List.{filter, find, list_all, list_any}
 use Rattle.std.proofs.Math.Bool.{and-true, and-false}
@@ -133,11 +133,6 @@ list_any_has p xs x c t = true_from_ne_false (list_any p xs) (λ e. both_ways (p
 pub list_any_filter : {X : Type 0} (p q : X → Bool) (xs : List X) → list_any (λ x. p x && q x) xs ≡ list_any p (filter q xs)
 list_any_filter p q [] = refl
 list_any_filter p q (x ∷ xs) = search (rules, and-true, and-false, (list_any_filter p q xs))
-
--- what passes once it is seen
-pub map-filter : {X Y : Type 0} (seen : X → Y) (p : Y → Bool) (xs : List X) → map seen (filter (λ x. p (seen x)) xs) ≡ filter p (map seen xs)
-map-filter seen p [] = refl
-map-filter {X} {Y} seen p (x ∷ xs) = search (rules, (map-filter seen p xs))
 
 pub found_some : {X : Type 0} (p : X → Bool) (xs : List X) → IfSome (find p xs) (λ x. Contains xs x × (p x ≡ true))
 found_some p [] = tt

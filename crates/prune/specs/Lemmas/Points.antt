@@ -1,5 +1,5 @@
 -- What the points of a list are, good by good and split by split; and that points depend on values alone.
-use Rattle.std.proofs.Common.{rules, ◌≡◌, ℕ, ◌+◌, ◌≤◌, Bool, true, false, not, ◌&&◌, ltb, ◌⊎◌, inl, inr, ⊎_elim, List, [], ◌∷◌, length, map, refl, sym, ap, ap₂}
+use Rattle.std.proofs.Common.{rules, ◌≡◌, ℕ, ◌+◌, ◌≤◌, Bool, true, false, ltb, ◌⊎◌, inl, inr, ⊎_elim, List, [], ◌∷◌, map, refl, sym, ap, ap₂}
 use Rattle.std.proofs.lemmas.Grind.{common_steps}
 use Rattle.std.proofs.Common.{◌∙◌, subst, arith, Less}
 use Rattle.std.specs.Prelude.{All, Contains, ◌↔◌}
@@ -7,7 +7,7 @@ use Rattle.std.specs.List.{filter, list_all}
 use Rattle.std.proofs.lemmas.Bool.{and_parts, and_from, and_cases, not-true, not_from_false, ltb-true, ltb-false, lt-ltb}
 use Rattle.std.proofs.lemmas.List.Elements.{All-head, All-tail, All-contains}
 use Rattle.std.proofs.lemmas.List.Kept.{AllPairs-filter}
-use Rattle.goods_set.specs.Bundles.{AreBelow, IsRising, IsBundle, is_inside, IsInside, without, all_bundles}
+use Rattle.goods_set.specs.Bundles.{AreBelow, IsRising, IsBundle, IsInside, without, all_bundles}
 use Rattle.goods_set.specs.Lemmas.Members.{has_below, inside_at, AreBelow-from_has}
 use Rattle.goods_set.specs.Orders.{bundle_cmp}
 use Rattle.goods_set.specs.Lemmas.AllBundles.{all_bundles_are, all_bundles_has, all_bundles_rise}

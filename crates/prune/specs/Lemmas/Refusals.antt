@@ -1,7 +1,7 @@
 -- The first bundle whose search takes more steps than it may. If all together have no limit, it is the first heavy one; fewer searches of the same steps
 -- are refused nowhere where more are not.
 use Rattle.std.proofs.Common.{rules, ◌≡◌, ℕ, ◌+◌, ◌-◌, ◌<◌, ◌≤◌, Bool, true, false, cond, ◌&&◌, ltb, ◌⊎◌, inl, inr, ⊎_elim, List, [], ◌∷◌, refl, sym, ap, ◌∙◌}
-use Rattle.std.proofs.Common.{arith, le_trans, Option, Some, None}
+use Rattle.std.proofs.Common.{arith, Option, Some, None}
 use Rattle.std.specs.Prelude.{All, Contains, sum_by}
 use Rattle.std.specs.List.{filter, find}
 use Rattle.std.proofs.lemmas.Bool.{cases_Bool, cases_lt, ltb-true, lt-ltb, le-ltb}
@@ -14,7 +14,6 @@ use Rattle.goods_set.specs.Lemmas.Orders.{bundle_cmp_strict}
 use Rattle.goods_set.specs.Lemmas.AllBundles.{all_bundles_has, all_bundles_sorted}
 use Rattle.goods_set.specs.Lemmas.Sorted.{same_from_contains}
 use Rattle.valuation.specs.declared.atom.Atom.{Atom}
-use Rattle.valuation.specs.declared.search.kind.SearchKind.TheVariants.{Plain}
 use Rattle.valuation.specs.declared.search.options.SearchOptions.{SearchOptions}
 use Rattle.valuation.specs.SearchLimits.{plain_options, least_of, next_steps, total_after, options_after}
 use Rattle.prune.specs.Faults.{IfStepLimit}

@@ -1,9 +1,9 @@
 -- Points and tables of values say the same: points are empty exactly if the table is all zeros, and tables are equal exactly
 -- if the points are.
-use Rattle.std.proofs.Common.{rules, ◌≡◌, ℕ, ◌<◌, false, not, eqb, List, [], map, sym, ap, ◌∙◌, arith}
+use Rattle.std.proofs.Common.{rules, ◌≡◌, ℕ, ◌<◌, false, not, eqb, List, [], map, arith}
 use Rattle.std.specs.Prelude.{All, Contains, ◌↔◌}
 use Rattle.std.proofs.lemmas.Bool.{not-false, eqb-true, eq-eqb, not_from_true}
-use Rattle.std.proofs.lemmas.List.Elements.{All-map, All-contains}
+use Rattle.std.proofs.lemmas.List.Elements.{All-map}
 use Rattle.std.proofs.lemmas.List.Folds.{list_any_none}
 use Rattle.goods_set.specs.Bundles.{IsBundle, all_bundles}
 use Rattle.goods_set.specs.Lemmas.AllBundles.{all_bundles_are, all_bundles_has}

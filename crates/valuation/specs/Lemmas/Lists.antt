@@ -1,10 +1,11 @@
 -- Lemmas on lists: what holds of each element, of each pair of elements, and of the indices of a list and of the list behind its
 -- first element.
-use Rattle.std.proofs.Common.{rules, ◌≡◌, ℕ, zero, suc, pred, ◌<◌, ◌≤◌, ◌≢◌, ◌⊎◌, inl, inr, ⊎_elim, List, [], ◌∷◌, ◌++◌, length, map, get_or, refl, sym, ap}
-use Rattle.std.proofs.Common.{◌∙◌, arith}
-use Rattle.std.specs.Prelude.{All, AllPairs, Contains}
+use Rattle.std.proofs.Common.{rules, ◌≡◌, ℕ, zero, suc, pred, ◌<◌, ◌≤◌, ◌≢◌, ◌⊎◌, inl, inr, ⊎_elim, List, [], ◌∷◌, ◌++◌, map, get_or, refl, sym, ap}
+use Rattle.std.proofs.Common.{◌∙◌, ◌+◌, Bool, true, false, length, take, append-nil, arith}
+use Rattle.std.specs.Prelude.{All, AllPairs, Contains, filter}
 use Rattle.std.proofs.lemmas.Bool.{cases_lt}
-use Rattle.std.proofs.lemmas.List.Elements.{All-nil, All-cons, All-head, All-tail, All-append, All-map, All-weaker, Contains-append_right}
+use Rattle.std.proofs.lemmas.Grind.{common_steps}
+use Rattle.std.proofs.lemmas.List.Elements.{All-nil, All-cons, All-head, All-tail, All-append, All-map, All-weaker, Contains-append_right, filter_more}
 
 pub le_or_lt : (m n : ℕ) → (m ≤ n) ⊎ (n < m)
 le_or_lt m n = ⊎_elim (λ (l : n < m). inr l) (λ (l : m ≤ n). inl l) (cases_lt n m)
@@ -117,3 +118,19 @@ map_suc_different xs ys differ e = differ (sym (unmap_suc xs) ∙ ap (map pred) 
 pub first_different : (xs ys : List ℕ) → map suc xs ≢ 0 ∷ map suc ys
 first_different [] ys e = cc
 first_different (x ∷ xs) ys e = cc
+
+-- ---- filters
+
+-- what passes once it is seen
+pub map-filter : {X Y : Type 0} (seen : X → Y) (p : Y → Bool) (xs : List X) → map seen (filter (λ x. p (seen x)) xs) ≡ filter p (map seen xs)
+map-filter seen p [] = refl
+map-filter {X} {Y} seen p (x ∷ xs) = search (rules, (map-filter seen p xs))
+
+-- what passes among the first elements, with one more
+pub filter_more-true : {X : Type 0} (p : X → Bool) (xs found more : List X) (i : ℕ) (d : X) → i < length xs → p (get_or xs i d) ≡ true
+    → found ≡ filter p (take i xs) → more ≡ found ++ get_or xs i d ∷ [] → more ≡ filter p (take (i + 1) xs)
+filter_more-true {X} p xs found more i d l t e m = grind (arith, common_steps, filter_more)
+
+pub filter_more-false : {X : Type 0} (p : X → Bool) (xs found : List X) (i : ℕ) (d : X) → i < length xs → p (get_or xs i d) ≡ false
+    → found ≡ filter p (take i xs) → found ≡ filter p (take (i + 1) xs)
+filter_more-false {X} p xs found i d l t e = grind (arith, common_steps, append-nil, filter_more)

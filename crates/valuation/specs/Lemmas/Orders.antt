@@ -1,5 +1,5 @@
 -- The orders of atoms and of bidders are total, and answer Equal only for equal ones; lists are compared element by element.
-use Rattle.std.proofs.Common.{rules, ◌≡◌, ℕ, zero, suc, ◌<◌, true, false, min, ⊎_elim, List, [], ◌∷◌, length, drop, Ordering, Less, Equal, Greater, nat_cmp, ap}
+use Rattle.std.proofs.Common.{rules, ◌≡◌, ℕ, zero, suc, true, false, min, List, [], ◌∷◌, length, drop, Ordering, Less, Equal, Greater, nat_cmp}
 use Rattle.std.proofs.Common.{refl, sym, ap₂, ◌∙◌, arith}
 use Rattle.std.specs.Ordering.{is_ne, ordering_then}
 use Rattle.std.specs.Cmp.{IsTotalOrder}

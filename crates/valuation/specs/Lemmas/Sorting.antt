@@ -1,6 +1,6 @@
 -- Lists in an order that answers Equal for equal elements alone. The idea: a list in order is determined by how often it has each
 -- element, so a list is put in order in one way only, whichever way that is done.
-use Rattle.std.proofs.Common.{rules, ◌≡◌, ℕ, zero, suc, ◌+◌, true, false, cond, ⊎_elim, List, [], ◌∷◌, get_or, refl, sym, ap, ◌∙◌, subst, arith, Ordering, Less}
+use Rattle.std.proofs.Common.{rules, ◌≡◌, ℕ, zero, suc, ◌+◌, true, false, cond, List, [], ◌∷◌, get_or, refl, sym, ap, ◌∙◌, arith, Ordering, Less}
 use Rattle.std.proofs.lemmas.Grind.{common_steps}
 use Rattle.std.proofs.Common.{Equal, Greater}
 use Rattle.std.specs.Prelude.{All, AllPairs, IsPermutation}

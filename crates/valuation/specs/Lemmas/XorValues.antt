@@ -1,6 +1,6 @@
 -- Lemmas on the XOR value: it is the least number that no atom inside the bundle exceeds. So it grows with the bundle, and does
 -- not depend on the order of the atoms.
-use Rattle.std.proofs.Common.{rules, ◌≡◌, ℕ, ◌≤◌, max, true, false, ⊎_elim, List, [], ◌∷◌, refl, arith, le_trans, le_refl, le_antisymm}
+use Rattle.std.proofs.Common.{rules, ◌≡◌, ℕ, ◌≤◌, max, false, List, [], ◌∷◌, refl, arith, le_trans, le_refl, le_antisymm}
 use Rattle.std.specs.Prelude.{IsPermutation}
 use Rattle.std.proofs.lemmas.Bool.{cases_Bool}
 use Rattle.std.proofs.lemmas.List.Sorted.{IsPermutation-sym}

@@ -1,6 +1,5 @@
 -- `number_text`
-use Rattle.canon.proofs.Common.{rules, ◌≡◌, ℕ, List, cond, bytes_eq, Some, subst, number_of, updated, Vec}
-use Rattle.std.specs.Global.{Global}
+use Rattle.canon.proofs.Common.{rules, ◌≡◌, ℕ, List, cond, bytes_eq, Some, subst, number_of, updated, Vec, Global}
 use Rattle.canon.proofs.auction_index.number_text.Goals as goal
 
 pub returns-clause-placed : goal.returns-clause-placed

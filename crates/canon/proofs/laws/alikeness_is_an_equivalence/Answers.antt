@@ -1,5 +1,5 @@
 -- `alikeness_is_an_equivalence`
-use Rattle.canon.proofs.Common.{rules, refl, sym, ◌∙◌}
+use Rattle.canon.proofs.Common.{rules}
 use Rattle.canon.proofs.laws.alikeness_is_an_equivalence.Goals as goal
 
 pub returns : goal.returns

@@ -1,5 +1,5 @@
 -- `added_texts`
-use Rattle.canon.proofs.Common.{rules, ◌≡◌, [], ℕ, cond, Option, Some, None, refl, ap, arith, codes, canonical_text}
+use Rattle.canon.proofs.Common.{rules}
 use Rattle.canon.proofs.TwoFiles.Indexing.{index_of_none, bytes_eq_sym}
 use Rattle.canon.proofs.worked.added_texts.Goals as goal
 

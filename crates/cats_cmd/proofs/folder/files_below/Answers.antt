@@ -1,6 +1,5 @@
 -- `files_below`
-use Rattle.cats_cmd.proofs.Common.{sym, subst, All-take, with_slash, WalksBelow}
-use Rattle.std.specs.Prelude.{All}
+use Rattle.cats_cmd.proofs.Common.{sym, subst, All-take, with_slash, WalksBelow, All}
 use Rattle.cats_cmd.proofs.Walking.{Begins, all_fewer, begins_itself, lists_folder, starts_below}
 use Rattle.cats_cmd.proofs.folder.files_below.Goals as goal
 use Rattle.cats_cmd.proofs.folder.files_below.Goals.{else-loop-test, then-loop-test+in_default}

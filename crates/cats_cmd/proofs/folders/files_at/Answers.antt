@@ -1,6 +1,5 @@
 -- `files_at`
-use Rattle.cats_cmd.proofs.Common.{ℕ, List, [], ◌∷◌, ◌∙◌, ap, refl, Bor, Global, found_of}
-use Rattle.std.proofs.Common.{Vec}
+use Rattle.cats_cmd.proofs.Common.{ℕ, List, [], ◌∷◌, ◌∙◌, ap, refl, Bor, Global, found_of, Vec}
 use Rattle.cats_cmd.proofs.FilesOfPaths.{next_files}
 use Rattle.cats_cmd.proofs.folders.files_at.Goals as goal
 use Rattle.cats_cmd.proofs.folders.files_at.Goals.{in-Some+in_ok-append-in-Some, in-None+in_ok-from_slice-in-None+in_ok-push-in-None}

@@ -1,6 +1,6 @@
 -- `folders_found`
 use Rattle.cats_cmd.proofs.Common.{◌≡◌, ℕ, zero, suc, List, [], ◌∷◌, arith, refl, false, slice_cmp, IsSorted, is_lt, nat_cmp, All-nil, All-push, IsBelow}
-use Rattle.std.specs.Prelude.{codes}
+use Rattle.cats_cmd.proofs.Common.{codes}
 use Rattle.cats_cmd.proofs.worked.folders_found.Goals as goal
 
 in_order : (x y : List ℕ) → is_lt (slice_cmp nat_cmp y x) ≡ false → IsSorted (slice_cmp nat_cmp) (x ∷ y ∷ [])

@@ -1,5 +1,5 @@
 -- `list_arrivals`
-use Rattle.cats_text.proofs.Common.{◌≡◌, ◌≤◌, length, arith, rules, common_steps}
+use Rattle.cats_text.proofs.Common.{rules}
 use Rattle.cats_text.proofs.Parsing.BidsByNumber.{none_numbered, next_numbered, all_listed, within_numbered}
 use Rattle.cats_text.proofs.bids_by_number.list_arrivals.Goals as goal
 

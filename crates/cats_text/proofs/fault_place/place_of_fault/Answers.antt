@@ -1,6 +1,6 @@
 -- `place_of_fault`
-use Rattle.cats_text.proofs.Common.{rules, ◌≡◌, ◌≢◌, refl, ℕ, List, [], length, ap, ◌∙◌, sym, subst, arith, Some, None, option_map, cond, add-one, eqb-true}
-use Rattle.cats_text.proofs.Common.{raw_lines, blank_returns, place_behind, seen, line_judged, Stops, plain_place, Kind, Missing, Memory}
+use Rattle.cats_text.proofs.Common.{rules, ◌≢◌, refl, [], ap, ◌∙◌, sym, subst, arith, add-one, eqb-true, raw_lines, blank_returns, seen, line_judged, Stops}
+use Rattle.cats_text.proofs.Common.{plain_place, Kind, Memory}
 use Rattle.cats_text.proofs.Texts.FirstPlaces.{IsBehind, at_first_line, line_stopped, line_passed, lines_ended, none_left, place_if}
 use Rattle.cats_text.proofs.fault_place.place_of_fault.Goals as goal
 use Rattle.cats_text.proofs.fault_place.place_of_fault.Goals.{in-Memory, in_default-kind}

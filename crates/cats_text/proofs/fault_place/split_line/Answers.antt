@@ -1,5 +1,5 @@
 -- `split_line`
-use Rattle.cats_text.proofs.Common.{rules, ℕ, List, ◌-◌, eqb, ap, ◌∙◌, length, take, drop, subst, sym, unwrap_or, take_rest, IsFirstLine}
+use Rattle.cats_text.proofs.Common.{rules, take_rest}
 use Rattle.cats_text.proofs.Texts.FirstWords.{IsFound, found_at, first_line}
 use Rattle.cats_text.proofs.fault_place.split_line.Goals as goal
 

@@ -1,5 +1,5 @@
 -- `without_return`
-use Rattle.cats_text.proofs.Common.{rules, ◌∷◌, [], ◌++◌, ap, ◌∙◌, sym, ne_eqb, without_return}
+use Rattle.cats_text.proofs.Common.{rules, ne_eqb}
 use Rattle.cats_text.proofs.Texts.FirstWords.{without_last, with_last}
 use Rattle.cats_text.proofs.fault_place.without_return.Goals as goal
 

@@ -1,5 +1,5 @@
 -- `write`
-use Rattle.cats_text.proofs.Common.{rules, ◌≡◌, List, ℕ, sym, subst, arith, common_steps, Spells, layout}
+use Rattle.cats_text.proofs.Common.{rules}
 use Rattle.cats_text.proofs.Writing.Spells.{layout_spells}
 use Rattle.cats_text.proofs.layout.write.Goals as goal
 

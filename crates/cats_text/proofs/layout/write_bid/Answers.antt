@@ -1,5 +1,5 @@
 -- `write_bid`
-use Rattle.cats_text.proofs.Common.{common_steps, ◌++◌, ◌∷◌, decimal, List, ℕ, ap, ◌∙◌, arith, dummy_good, seen_bid, price_text, tabbed}
+use Rattle.cats_text.proofs.Common.{common_steps, arith, seen_bid}
 use Rattle.cats_text.proofs.Writing.Ends.{whole_line}
 use Rattle.cats_text.proofs.Writing.Pieces.{bundle_within}
 use Rattle.cats_text.proofs.layout.write_bid.Goals as goal

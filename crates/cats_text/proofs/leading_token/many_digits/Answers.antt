@@ -1,5 +1,5 @@
 -- `many_digits`
-use Rattle.cats_text.proofs.Common.{rules, arith}
+use Rattle.cats_text.proofs.Common.{rules}
 use Rattle.cats_text.proofs.Scanning.FewDigits.{few_read}
 use Rattle.cats_text.proofs.leading_token.many_digits.Goals as goal
 

@@ -1,5 +1,5 @@
 -- `with_end`
-use Rattle.cats_text.proofs.Common.{◌<◌, ◌≡◌, length, get_or, true, rules, arith, common_steps, is_blank}
+use Rattle.cats_text.proofs.Common.{rules}
 use Rattle.cats_text.proofs.Scanning.LeadingTokens.{token_before_blank, token_before_feed}
 use Rattle.cats_text.proofs.leading_token.with_end.Goals as goal
 

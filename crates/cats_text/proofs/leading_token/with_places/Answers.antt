@@ -1,5 +1,5 @@
 -- `with_places`
-use Rattle.cats_text.proofs.Common.{arith, ◌≡◌, ◌≤◌, true, get_or, rules, common_steps, le-leb, and_from, is_digit}
+use Rattle.cats_text.proofs.Common.{arith, common_steps, le-leb, and_from}
 use Rattle.cats_text.proofs.Scanning.ManyBytes.{decimal_more}
 use Rattle.cats_text.proofs.leading_token.with_places.Goals as goal
 

@@ -1,5 +1,5 @@
 -- `without_zeros`
-use Rattle.cats_text.proofs.Common.{rules, ◌∙◌, sym, arith}
+use Rattle.cats_text.proofs.Common.{rules}
 use Rattle.cats_text.proofs.Writing.Zeros.{zero_dropped, last_stays}
 use Rattle.cats_text.proofs.price.without_zeros.Goals as goal
 

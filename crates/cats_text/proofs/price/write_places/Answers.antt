@@ -1,5 +1,5 @@
 -- `write_places`: the digits of the millionths behind a leading 1, without the zeros at the end: the point takes the place of that 1.
-use Rattle.cats_text.proofs.Common.{rules, ◌<◌, ◌++◌, length, drop, decimal, sym, ap, ◌∙◌, arith, length-decimal-le, decimal_nonempty}
+use Rattle.cats_text.proofs.Common.{rules, ◌<◌, ◌++◌, length, drop, decimal, ap, ◌∙◌, arith, length-decimal-le, decimal_nonempty}
 use Rattle.cats_text.proofs.Writing.SixDigits.{places_text_none, places_written}
 use Rattle.cats_text.proofs.Writing.Ends.{byte_in_place}
 use Rattle.cats_text.proofs.price.write_places.Goals as goal

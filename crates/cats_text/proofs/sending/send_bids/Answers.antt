@@ -1,7 +1,6 @@
 -- `send_bids`
-use Rattle.cats_text.proofs.Common.{rules, ◌++◌, ◌-◌, ◌≤◌, List, ℕ, arith, length, length-append, refl, ap, ◌∙◌, drop, false≢true, Appends-nil, PlainFile}
-use Rattle.cats_text.proofs.Common.{bids_text, layout, LONGEST_LINE}
-use Rattle.std.proofs.Common.{length-drop}
+use Rattle.cats_text.proofs.Common.{rules, ◌++◌, ◌-◌, List, ℕ, arith, length, length-append, ap, ◌∙◌, drop, false≢true, Appends-nil, PlainFile, layout}
+use Rattle.cats_text.proofs.Common.{LONGEST_LINE, length-drop}
 use Rattle.cats_text.proofs.Writing.Ends.{rest_of}
 use Rattle.cats_text.proofs.Writing.Pieces.{sent_on, within_on, line_held, failed_in_piece, headers_short}
 use Rattle.cats_text.proofs.sending.send_bids.Goals as goal

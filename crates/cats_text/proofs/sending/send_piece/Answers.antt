@@ -1,6 +1,6 @@
 -- `send_piece`: one more piece was sent: what was sent is still the beginning of the text, and the writer still works.
-use Rattle.cats_text.proofs.Common.{rules, arith, ◌≡◌, ◌<◌, ◌≤◌, ◌∷◌, List, [], length, take, drop, false, ℕ, ◌+◌, ◌-◌, Ok, Option, refl, ◌∙◌, take-add}
-use Rattle.cats_text.proofs.Common.{take-length, length-drop, Appends-trans, Appends, failed_to_write}
+use Rattle.cats_text.proofs.Common.{rules, arith, ◌≡◌, ◌<◌, ◌∷◌, List, [], length, take, drop, false, ℕ, ◌+◌, ◌-◌, Ok, Option, refl, take-add, take-length}
+use Rattle.cats_text.proofs.Common.{length-drop, Appends-trans, Appends, failed_to_write}
 use Rattle.cats_text.proofs.sending.send_piece.Goals as goal
 
 all_but : (n : ℕ) (text : List ℕ) → take (length text - n) (drop n text) ≡ drop n text

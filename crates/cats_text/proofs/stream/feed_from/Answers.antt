@@ -1,6 +1,6 @@
 -- `feed_from`: the bytes that came are those that were fed.
-use Rattle.cats_text.proofs.Common.{rules, arith, ◌≡◌, ◌<◌, ◌++◌, ℕ, Bool, true, List, [], ◌∷◌, ◌||◌, length, take, refl, ◌∙◌, append-nil, Ok, Option}
-use Rattle.cats_text.proofs.Common.{length-append, common_steps, ◌≢◌, err_from_is_err_and, MAX_STREAM, Consumes-trans, Consumes-kept, Consumes, moved_nothing}
+use Rattle.cats_text.proofs.Common.{rules, arith, ◌≡◌, ◌<◌, ◌++◌, ℕ, Bool, true, List, [], ◌∷◌, ◌||◌, length, take, ◌∙◌, append-nil, Ok, Option, length-append}
+use Rattle.cats_text.proofs.Common.{common_steps, ◌≢◌, err_from_is_err_and, Consumes-trans, Consumes-kept, Consumes, moved_nothing}
 use Rattle.cats_text.proofs.Texts.FaultKinds.{fed_within}
 use Rattle.cats_text.proofs.Feeding.Streams.{fed_reported}
 use Rattle.cats_text.proofs.stream.feed_from.Goals as goal

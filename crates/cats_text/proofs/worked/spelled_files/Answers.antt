@@ -1,5 +1,5 @@
 -- `spelled_files`
-use Rattle.cats_text.proofs.Common.{rules, refl, codes, ◌++◌, ◌∷◌}
+use Rattle.cats_text.proofs.Common.{rules, refl, codes}
 use Rattle.cats_text.proofs.Spelling.Files.{spells_from_no_fault}
 use Rattle.cats_text.proofs.worked.spelled_files.Goals as goal
 

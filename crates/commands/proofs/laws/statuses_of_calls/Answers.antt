@@ -4,10 +4,9 @@ use Rattle.commands.proofs.Common.{arith, AllZip, list_any, eqb-true, Contains-f
 use Rattle.commands.proofs.Common.{le_or_lt, SearchOptions, CanonFault, Read, StepLimit, Memory, Only, rounded_text, FinePrices, status_of_canon_fault}
 use Rattle.commands.proofs.Common.{status_of_fault, status_of_read_fault, RunFault, Refused, TooHeavy, GoodRange, BidRange, Outcome, Prints, LacksGood}
 use Rattle.commands.proofs.Common.{LacksBid, ExceedsSteps, ExceedsAtBid, explain_outcome, naming_outcome, normalise_outcome, outcome_of, statuses_of, Sized}
-use Rattle.commands.proofs.Common.{IsSized, IsTooHeavy, IsUnsized, Sizes, fault_sized, status_unless, Calls, PutsInto, AnswersFirst, DuplicatesCalls, SizesText}
-use Rattle.commands.proofs.Common.{status_of_first, IsUnplaced, SaysPlace, CallsOn, IsRefusedText, IsUnmade, OfOnly, RefusesText, text_fault, text_read}
-use Rattle.commands.proofs.Common.{IsUnrounded, RoundCalls, SizesCalls, CallsOnBoth, IsRefusedOfTwo, Comparison, Compare, Diff}
-use Rattle.std.specs.List.{Contains}
+use Rattle.commands.proofs.Common.{IsSized, IsTooHeavy, IsUnsized, Sizes, fault_sized, status_unless, Calls, PutsInto, AnswersFirst, DuplicatesCalls}
+use Rattle.commands.proofs.Common.{SizesText, status_of_first, IsUnplaced, SaysPlace, CallsOn, IsRefusedText, IsUnmade, OfOnly, RefusesText, text_fault}
+use Rattle.commands.proofs.Common.{text_read, IsUnrounded, RoundCalls, SizesCalls, CallsOnBoth, IsRefusedOfTwo, Comparison, Compare, Diff, Contains}
 use Rattle.commands.proofs.Refusing.{text_fault-of_bytes}
 use Rattle.commands.proofs.laws.statuses_of_calls.Goals as goal
 

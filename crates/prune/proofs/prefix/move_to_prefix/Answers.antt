@@ -1,5 +1,5 @@
 -- `move_to_prefix`
-use Rattle.prune.proofs.Common.{rules, ◌+◌, ◌++◌, ◌∷◌, [], get_or, take, drop, ap, ◌∙◌, arith, take_more}
+use Rattle.prune.proofs.Common.{rules, take_more}
 use Rattle.prune.proofs.Prefixes.{swap-prefix, swap-rest}
 use Rattle.prune.proofs.prefix.move_to_prefix.Goals as goal
 

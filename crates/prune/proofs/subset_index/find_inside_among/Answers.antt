@@ -1,6 +1,5 @@
 -- `find_inside_among`
-use Rattle.prune.proofs.Common.{arith, ◌≡◌, ◌++◌, map, get_or, sym, ap, ◌∙◌, true, false, cond, [], ◌∷◌, append-nil, common_steps, atoms_of, Posting}
-use Rattle.prune.proofs.Common.{is_inside_at}
+use Rattle.prune.proofs.Common.{arith, true, append-nil, common_steps}
 use Rattle.prune.proofs.ListedAtoms.{index_of, indices_get, found_more}
 use Rattle.prune.proofs.subset_index.find_inside_among.Goals as goal
 use Rattle.prune.proofs.subset_index.find_inside_among.Goals.{then-is_inside+in_ok-push, else-is_inside}

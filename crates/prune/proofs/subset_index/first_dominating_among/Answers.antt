@@ -1,7 +1,7 @@
 -- `first_dominating_among`
 -- None of the atoms listed before dominates the bid, and the next one does not either, or it is the first that does; indices that rise
 -- are no longer among the atoms once one is not.
-use Rattle.prune.proofs.Common.{rules, length, get_or, sym, ◌∙◌, arith, length-map, atoms_of, Posting, dominates_at, indices_of}
+use Rattle.prune.proofs.Common.{rules, length, get_or, arith, length-map, atoms_of, Posting, dominates_at, indices_of}
 use Rattle.prune.proofs.FirstDominating.{NonePass-more, none_before}
 use Rattle.prune.proofs.ListedAtoms.{index_of, indices_get}
 use Rattle.prune.proofs.subset_index.first_dominating_among.Goals as goal

@@ -1,6 +1,5 @@
 -- `is_dominating`
-use Rattle.prune.proofs.Common.{rules, ◌&&◌, ℕ, List, leb, [], sym, ap, ◌∙◌, arith, both_ways, false_from_ne_true, and_left, le-leb, lt-leb, is_inside, Atom}
-use Rattle.prune.proofs.Common.{atoms_of, get_or-atoms_of, length-atoms_of, is_inside_at, atom_at}
+use Rattle.prune.proofs.Common.{rules, both_ways, false_from_ne_true, and_left, le-leb, lt-leb, get_or-atoms_of, length-atoms_of}
 use Rattle.prune.proofs.ListedAtoms.{not_inside}
 use Rattle.prune.proofs.subset_index.is_dominating.Goals as goal
 

@@ -1,5 +1,5 @@
 -- `fingerprints_worked`: good 5 marks bit 5, which is 32.
-use Rattle.prune.proofs.Common.{rules, ◌≡◌, true, false, [], ⊎_elim, refl, arith, ap, ◌∙◌, both_ways, has_good, mark_of, has_cases}
+use Rattle.prune.proofs.Common.{rules, [], refl, arith, both_ways, has_cases}
 use Rattle.prune.proofs.Marks.{no_marks, one_more}
 use Rattle.prune.proofs.worked.fingerprints_worked.Goals as goal
 

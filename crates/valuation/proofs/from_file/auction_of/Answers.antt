@@ -1,7 +1,7 @@
 -- `auction_of`: each turn of the loop puts one atom at its end (proofs/Placing), and what was placed from all bids is the auction of the file,
 -- whose limits follow from those of the file.
-use Rattle.valuation.proofs.Common.{rules, arith, ◌≡◌, ◌<◌, length, take, refl, sym, ap, ◌∙◌, get_or_from_slice_get, slice_get_within, AreBelow-higher}
-use Rattle.valuation.proofs.Common.{PlainBid, PlainFile, seen_bid, Atom, atoms_of, IsBid-there, or_atoms_of-same, xor_bidders-same, IsAuction-auction_from}
+use Rattle.valuation.proofs.Common.{rules, arith, ◌<◌, take, refl, sym, ◌∙◌, get_or_from_slice_get, slice_get_within, AreBelow-higher, PlainBid, PlainFile}
+use Rattle.valuation.proofs.Common.{seen_bid, Atom, IsBid-there, or_atoms_of-same, xor_bidders-same, IsAuction-auction_from}
 use Rattle.valuation.proofs.Placing.{place-or, place-xor, placed, no_bids, length-bidders_of}
 use Rattle.valuation.proofs.from_file.auction_of.Goals as goal
 use Rattle.valuation.proofs.from_file.auction_of.Goals.{in-None+in_ok-push-in-None, in-Some+in_ok-push-in-Some}

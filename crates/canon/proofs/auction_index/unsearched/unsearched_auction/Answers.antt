@@ -1,5 +1,5 @@
 -- `unsearched_auction`: the pruned parts are those of the unsearched auction, which keeps the limits of auctions.
-use Rattle.canon.proofs.Common.{rules, sym, ◌∙◌, subst, arith, Global, Vec, length-map, Atom, PlainAuction, IsAuction, bidders_of, atoms_of, plain_auction}
+use Rattle.canon.proofs.Common.{rules, ◌∙◌, length-map, bidders_of, atoms_of, plain_auction}
 use Rattle.canon.proofs.CanonicalFiles.Bidders.{or_part, xor_part, few_bidders, unsearched_parts}
 use Rattle.canon.proofs.CanonicalAuctions.Smaller.{IsAuction-unsearched}
 use Rattle.canon.proofs.auction_index.unsearched.unsearched_auction.Goals as goal

@@ -1,5 +1,5 @@
 -- `bidder_verdict`
-use Rattle.canon.proofs.Common.{rules, ℕ, List, Option, sym, ap, subst, Atom, offers, xor_difference, NamesGoods, printed_atoms}
+use Rattle.canon.proofs.Common.{rules, sym, ap, xor_difference}
 use Rattle.canon.proofs.Walks.BidderWalks.{bids_of_canonical, numbers_named}
 use Rattle.canon.proofs.Walks.OrWalks.{on_err}
 use Rattle.canon.proofs.comparing.xor_bidders.bidder_verdict.Goals as goal

@@ -1,5 +1,5 @@
 -- `compare_bidders`
-use Rattle.canon.proofs.Common.{rules, ◌+◌, drop, sym, ◌∙◌, arith, atoms_of, atom_cmp, bidder_cmp, length-atoms_of, then-decided, then-left, slice_cmp-ended}
+use Rattle.canon.proofs.Common.{rules, ◌+◌, drop, sym, ◌∙◌, arith, atoms_of, bidder_cmp, length-atoms_of, then-decided, then-left, slice_cmp-ended}
 use Rattle.canon.proofs.Common.{bidder_cmp-drop}
 use Rattle.canon.proofs.normal.atom_order.compare_bidders.Goals as goal
 

@@ -1,6 +1,6 @@
 -- `canonical`: plain searches refuse at the first heavy bundle.
-use Rattle.canon.proofs.Common.{rules, ◌≡◌, None, Some, Result, Ok, Err, sym, subst, ◌∙◌, IfErr, IsErrAnd, SearchOptions, IfStepLimit, first_heavy}
-use Rattle.canon.proofs.Common.{first_refused, first_refused-plain, step_limit_weaker, PlainAuction, plain_auction, IsSameAuction}
+use Rattle.canon.proofs.Common.{rules, ◌≡◌, Result, Ok, Err, sym, subst, IfErr, IsErrAnd, first_refused-plain, step_limit_weaker, PlainAuction, plain_auction}
+use Rattle.canon.proofs.Common.{IsSameAuction}
 use Rattle.canon.proofs.CanonicalAuctions.Sames.{HasAtoms-auction, canonical_is_same}
 use Rattle.canon.proofs.normal.auction.canonical.Goals as goal
 

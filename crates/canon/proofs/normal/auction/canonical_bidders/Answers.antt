@@ -1,6 +1,5 @@
 -- `canonical_bidders`: the bidders are put in order with their numbers, which does not change the order of their atoms.
-use Rattle.canon.proofs.Common.{rules, ℕ, List, map, ap, ◌∙◌, Global, Vec, bidders_of, sort_by, KeyedBidder, NumberedBidder, keyed_bidders, numbered_cmp}
-use Rattle.std.specs.Prelude.{Option}
+use Rattle.canon.proofs.Common.{rules, List, map, ap, ◌∙◌, bidders_of, sort_by, NumberedBidder, numbered_cmp}
 use Rattle.canon.proofs.CanonicalFiles.Numbering.{atoms_in_order}
 use Rattle.canon.proofs.normal.auction.canonical_bidders.Goals as goal
 

@@ -1,5 +1,5 @@
 -- `dummies_of`
-use Rattle.canon.proofs.Common.{rules, ◌++◌, ◌∷◌, [], ◌∙◌, ap, sym, arith, common_steps, map-map, KeyedBidder, NumberedBidder, keyed_bidder}
+use Rattle.canon.proofs.Common.{rules, arith, common_steps, map-map}
 use Rattle.canon.proofs.CanonicalFiles.Numbering.{one_more_number, all_numbers}
 use Rattle.canon.proofs.normal.auction.dummies_of.Goals as goal
 

@@ -1,7 +1,6 @@
 -- `named_canonical`: what is made of the pruned parts is the canonical auction (proofs/Bidders), so the laws of that auction are those of the result.
-use Rattle.canon.proofs.Common.{rules, sym, ap, ◌∙◌, map, subst, arith, Global, ℕ, Vec, length-map, Atom, PlainAuction, IsAuction, bidders_of, atoms_of}
-use Rattle.canon.proofs.Common.{plain_auction, IsCanonical, plain_fate}
-use Rattle.std.specs.Prelude.{Option}
+use Rattle.canon.proofs.Common.{rules, sym, ap, ◌∙◌, map, subst, Global, ℕ, Vec, length-map, PlainAuction, bidders_of, atoms_of, plain_auction, IsCanonical}
+use Rattle.canon.proofs.Common.{plain_fate, Option}
 use Rattle.canon.proofs.CanonicalFiles.Bidders.{or_part, xor_part, few_bidders, canonical_parts, fates_parts, number_parts, parts_within_limit}
 use Rattle.canon.proofs.CanonicalAuctions.Sames.{HasAtoms-auction, canonical_is_fixed}
 use Rattle.canon.proofs.CanonicalAuctions.Smaller.{IsAuction-canonical}

@@ -1,8 +1,6 @@
 -- `points_of_each`: the points so far are those of the bidders that are done: the next bidder adds its points, or nothing where it has none.
-use Rattle.canon.proofs.Common.{rules, arith, ◌≡◌, ℕ, ◌+◌, ◌<◌, [], length, map, refl, sym, ap, ap₂, ◌∙◌, Global, common_steps, All, Vec, enumerate_count}
-use Rattle.canon.proofs.Common.{enumerate_source, into_iter_items, eqb-true, eqb-false, nil_from_length, length-map, length_push, map_push, MAX_GOODS, Atom}
-use Rattle.canon.proofs.Common.{IsAtom, atoms_of, keyed_bidder}
-use Rattle.std.specs.Prelude.{Option}
+use Rattle.canon.proofs.Common.{rules, arith, ℕ, ◌+◌, length, map, refl, sym, ap, ap₂, ◌∙◌, Global, common_steps, All, Vec, eqb-true, eqb-false}
+use Rattle.canon.proofs.Common.{nil_from_length, length-map, length_push, map_push, MAX_GOODS, Atom, IsAtom, atoms_of, keyed_bidder, Option}
 use Rattle.canon.proofs.CanonicalFiles.Bidders.{positive, fewer_done, bidder_next, bidder_taken, points_pushed, points_skipped, points_done, fates_pushed}
 use Rattle.canon.proofs.CanonicalFiles.Bidders.{fates_done}
 use Rattle.canon.proofs.normal.auction.points_of_each.Goals as goal

@@ -1,5 +1,5 @@
 -- `explained_file_on`
-use Rattle.canon.proofs.Common.{rules, ◌≡◌, ap, ◌∙◌, subst, true, IfOk-weaker, PlainAuction, auction_from, plain_auction, AreFates, kept_numbers, kept_dummies}
+use Rattle.canon.proofs.Common.{rules, IfOk-weaker}
 use Rattle.canon.proofs.CanonicalFiles.Numbering.{kept_numbers_are}
 use Rattle.canon.proofs.normal.explained.explained_file_on.Goals as goal
 

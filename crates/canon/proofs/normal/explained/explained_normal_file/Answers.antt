@@ -1,5 +1,5 @@
 -- `explained_normal_file`
-use Rattle.canon.proofs.Common.{rules, ◌≡◌, true, ◌∙◌, map, refl, range_with_len, IfOk-weaker, map-map, auction_from, xor_atoms_of, xor_fates, AreFates}
+use Rattle.canon.proofs.Common.{rules, IfOk-weaker, map-map}
 use Rattle.canon.proofs.normal.explained.explained_normal_file.Goals as goal
 
 pub returns-clause-xor_fates : goal.returns-clause-xor_fates

@@ -1,7 +1,6 @@
 -- `packed_file_of`: the bids so far, with those of the bidders still to come, are the bids of the auction's file (proofs/Filing), so in the end they
 -- are all of them and keep its limits.
-use Rattle.canon.proofs.Common.{rules, List, ◌++◌, None, Some, map, refl, ap, ap₂, ◌∙◌, arith, common_steps, PlainBid, bidders_of, atoms_of, plain_auction}
-use Rattle.canon.proofs.Common.{Atom, bid_from, dummy_bids, file_from}
+use Rattle.canon.proofs.Common.{rules, refl, arith, common_steps, bidders_of, plain_auction, file_from}
 use Rattle.canon.proofs.CanonicalFiles.Filing.{one_more_bidder, all_bidders, file_parts, file_limits, length-bidders}
 use Rattle.canon.proofs.normal.file.packed_file_of.Goals as goal
 

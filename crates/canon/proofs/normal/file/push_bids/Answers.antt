@@ -1,5 +1,5 @@
 -- `push_bids`
-use Rattle.canon.proofs.Common.{rules, arith, ◌∙◌, length-atoms_of, atoms_of, bid_from}
+use Rattle.canon.proofs.Common.{rules, length-atoms_of}
 use Rattle.canon.proofs.CanonicalFiles.Filing.{one_more_bid, all_bids}
 use Rattle.canon.proofs.normal.file.push_bids.Goals as goal
 

@@ -1,5 +1,5 @@
 -- `normalise`
-use Rattle.canon.proofs.Common.{◌≡◌, rules, subst, plain_options, SearchOptions, IsText, Normalises, normalised_file}
+use Rattle.canon.proofs.Common.{rules, plain_options, IsText, Normalises}
 use Rattle.canon.proofs.TwoFiles.Answering.{text_of_normal, same_exactly, normal_again}
 use Rattle.canon.proofs.normal.text.normalise.Goals as goal
 

@@ -1,6 +1,6 @@
 -- `BidsByNumber::into_kept`
-use Rattle.cats_text.proofs.Common.{◌≡◌, ◌<◌, ◌≤◌, ◌+◌, ◌-◌, ◌∙◌, ◌++◌, ◌∷◌, [], ℕ, List, ap, sym, take, get_or, length, arith, rules, refl, common_steps}
-use Rattle.cats_text.proofs.Common.{take_all, take_more, slice_get-get_or, filled, AreWithin, arrived}
+use Rattle.cats_text.proofs.Common.{◌≡◌, ◌<◌, ◌≤◌, ◌+◌, ◌-◌, ◌∙◌, ◌++◌, ◌∷◌, [], ℕ, List, ap, take, get_or, length, arith, rules, refl, take_all, take_more}
+use Rattle.cats_text.proofs.Common.{slice_get-get_or, AreWithin}
 use Rattle.cats_text.proofs.Parsing.BidsByNumber.{filled_all, kept_none, kept_more, listed, within_at}
 use Rattle.cats_text.proofs.bids_by_number.BidsByNumber.into_kept.Goals.{then-arrival-gt0+in_ok-add_from, else-arrival-gt0}
 use Rattle.cats_text.proofs.bids_by_number.BidsByNumber.into_kept.Goals as goal

@@ -1,5 +1,5 @@
 -- `BidsByNumber::put`
-use Rattle.cats_text.proofs.Common.{◌≡◌, ◌∙◌, length, arith, rules, common_steps, with_goods}
+use Rattle.cats_text.proofs.Common.{rules}
 use Rattle.cats_text.proofs.Parsing.BidsByNumber.{put_in_order, on_ok}
 use Rattle.cats_text.proofs.bids_by_number.BidsByNumber.put.Goals as goal
 

@@ -1,5 +1,5 @@
 -- `BidsByNumber::put_out_of_order`
-use Rattle.cats_text.proofs.Common.{rules, ◌≡◌, ◌∙◌, ◌+◌, ◌∷◌, [], length, sym, ap, arith, length-append, AreWithin, with_goods}
+use Rattle.cats_text.proofs.Common.{rules, ◌≡◌, ◌∙◌, ◌+◌, ◌∷◌, [], length, ap, arith, length-append, AreWithin, with_goods}
 use Rattle.cats_text.proofs.Parsing.BidsByNumber.{put_listed, within_more, within_set}
 use Rattle.cats_text.proofs.bids_by_number.BidsByNumber.put_out_of_order.Goals as goal
 

@@ -1,6 +1,5 @@
 -- `GoodList::sort`: goods that do not rise are sorted: the marks stay theirs.
-use Rattle.cats_text.proofs.Common.{rules, ◌≡◌, true, sym, ap, ◌∙◌, List, ℕ, both_ways, list_any-IsPermutation, IsNonDecreasingBy-from_sort, IsRising, has_good}
-use Rattle.cats_text.proofs.Common.{IsMarked}
+use Rattle.cats_text.proofs.Common.{rules, ◌≡◌, true, both_ways, list_any-IsPermutation, IsNonDecreasingBy-from_sort, IsRising, IsMarked}
 use Rattle.cats_text.proofs.Spelling.Distinct.{rising_from_sort}
 use Rattle.cats_text.proofs.Spelling.Marks.{IsMarked-sorted}
 use Rattle.cats_text.proofs.good_list.GoodList.sort.Goals as goal

@@ -1,11 +1,11 @@
 -- `History::note`: an empty body. The borrow is opened and closed at another ghost value.
 use Rattle.cats_text.proofs.Common.{rules, ℕ, List, [], ◌∷◌, ◌++◌, refl, MutBor, ◌<◌, ◌^◌, length, Ura, named, Val, vunit, vptr, SProp, ent, sep, emp, via}
-use Rattle.cats_text.proofs.Common.{fst∗, id⊢, GName, Lft, Share, ftrue, flft, fobs, fbor, Routine, Calls, Loops, WpFn, Tables, Logic, Fun, tables, ‵, ◌⊛◌, ◌$◌}
-use Rattle.cats_text.proofs.Common.{◌∵◌, !, qed, by, move, keep, use1, split, join, fsplit, fsplit3, fjoin, fjoin3, feq_i, suffices, frame, done, unit_lit}
-use Rattle.cats_text.proofs.Common.{of_opd, returns, enter, Body, alloc_all, pass_all, free_all, look_at, sets, WpFn-mono, owns, mem, MutRef, mut_vals}
-use Rattle.cats_text.proofs.Common.{mut_Tells, Bor, plain, opens, closes, on_entry, Meets, triple_of, entered, says, Stays, stay_ref, walk_of, AllGo, Goes-ref}
-use Rattle.cats_text.proofs.Common.{Walks, ends_at, walked, walk_Meets, stay_none_slice, Goes-none_slice, History, u8, yes, ShrSlice, slice_val, shr_slice_vals}
-use Rattle.cats_text.proofs.Common.{shr_slice_Tells}
+use Rattle.cats_text.proofs.Common.{fst∗, id⊢, GName, Lft, Share, ftrue, flft, fobs, fbor, Routine, Calls, Loops, WpFn, Tables, Logic, Fun, tables, ‵, ◌⊛◌}
+use Rattle.cats_text.proofs.Common.{◌$◌, ◌∵◌, !, qed, by, move, keep, use1, split, join, fsplit, fsplit3, fjoin, fjoin3, feq_i, suffices, frame, done}
+use Rattle.cats_text.proofs.Common.{unit_lit, of_opd, returns, enter, Body, alloc_all, pass_all, free_all, look_at, sets, WpFn-mono, owns, mem, MutRef}
+use Rattle.cats_text.proofs.Common.{mut_vals, Bor, plain, opens, closes, on_entry, Meets, triple_of, entered, says, Stays, stay_ref, walk_of, AllGo, Goes-ref}
+use Rattle.cats_text.proofs.Common.{Walks, ends_at, walked, walk_Meets, stay_none_slice, Goes-none_slice, History, u8, yes, ShrSlice, slice_val}
+use Rattle.cats_text.proofs.Common.{shr_slice_vals}
 use prog.Memory.{Memory}
 use contract.Running.{tables_of}
 use types.Kit.{drop}

@@ -1,5 +1,5 @@
 -- `BidCountKeep::add_from`
-use Rattle.cats_text.proofs.Common.{◌≡◌, ◌∙◌, ◌+◌, ◌++◌, ◌∷◌, [], ℕ, replicate, sym, ap, arith, rules, common_steps, replicate_next, PlainBid, number_alone}
+use Rattle.cats_text.proofs.Common.{rules, replicate_next}
 use Rattle.cats_text.proofs.Parsing.BidsByNumber.{same_bid}
 use Rattle.cats_text.proofs.keep.BidCountKeep.add_from.Goals as goal
 

@@ -1,5 +1,5 @@
 -- `PushReader::finish`: the end of the bytes that the scanner took: it has what the header lines said, and what is kept of the bids.
-use Rattle.cats_text.proofs.Common.{rules, arith}
+use Rattle.cats_text.proofs.Common.{rules}
 use Rattle.cats_text.proofs.Feeding.Pieces.{ended_parts, few_lines}
 use Rattle.cats_text.proofs.push_reader.PushReader.finish.Goals as goal
 

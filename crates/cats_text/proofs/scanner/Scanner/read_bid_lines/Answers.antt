@@ -1,5 +1,5 @@
 -- `Scanner::read_bid_lines`
-use Rattle.cats_text.proofs.Common.{rules, ◌≡◌, ◌+◌, ◌≤◌, length, drop, subst, arith, state, IsScanned}
+use Rattle.cats_text.proofs.Common.{rules}
 use Rattle.cats_text.proofs.Scanning.WholeWords.{rest_then}
 use Rattle.cats_text.proofs.scanner.Scanner.read_bid_lines.Goals as goal
 

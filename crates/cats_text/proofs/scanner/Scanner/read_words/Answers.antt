@@ -1,5 +1,5 @@
 -- `Scanner::read_words`
-use Rattle.cats_text.proofs.Common.{arith, ◌∙◌, ap, common_steps, err_from_is_err_and, state, is_before_word}
+use Rattle.cats_text.proofs.Common.{arith, common_steps, err_from_is_err_and}
 use Rattle.cats_text.proofs.Scanning.WholeWords.{rest_then, rest_stops_to}
 use Rattle.cats_text.proofs.scanner.Scanner.read_words.Goals as goal
 

@@ -1,5 +1,5 @@
 -- `Scanner::take_bid_end`
-use Rattle.cats_text.proofs.Common.{rules, refl, err_from_is_err_and, progress}
+use Rattle.cats_text.proofs.Common.{rules, refl, err_from_is_err_and}
 use Rattle.cats_text.proofs.Scanning.BidEnds.{end_passed, end_halts}
 use Rattle.cats_text.proofs.scanner.Scanner.take_bid_end.Goals as goal
 

@@ -1,5 +1,5 @@
 -- `Scanner::take_goods`
-use Rattle.cats_text.proofs.Common.{arith, ◌∙◌, common_steps, err_from_is_err_and, state}
+use Rattle.cats_text.proofs.Common.{arith, common_steps, err_from_is_err_and}
 use Rattle.cats_text.proofs.Scanning.WholeWords.{rest_then, rest_stops_to}
 use Rattle.cats_text.proofs.scanner.Scanner.take_goods.Goals as goal
 

@@ -1,8 +1,7 @@
 -- `duplicates_said`
-use Rattle.commands.proofs.Common.{◌≡◌, ◌<◌, ℕ, zero, suc, List, [], ◌∷◌, Some, Ok, Err, inl, inr, refl, ap, ◌∙◌, codes, arith, eqb-false, same_Some, PlainFile}
-use Rattle.commands.proofs.Common.{fault_at, spelled_file, Header, spells_from_no_fault, Round, AreSameFiles, Read, Memory, Only, larger_bid, text_read, Sized}
-use Rattle.commands.proofs.Common.{IsSized, IsUnsized, Refused}
-use Rattle.std.proofs.Common.{slice_get}
+use Rattle.commands.proofs.Common.{◌≡◌, ◌<◌, ℕ, zero, suc, List, [], ◌∷◌, Some, Ok, Err, inl, inr, refl, ap, ◌∙◌, codes, arith, eqb-false, same_Some}
+use Rattle.commands.proofs.Common.{PlainFile, fault_at, spelled_file, Header, spells_from_no_fault, Round, AreSameFiles, Read, Memory, Only, larger_bid}
+use Rattle.commands.proofs.Common.{text_read, Sized, IsSized, IsUnsized, Refused, slice_get}
 use Rattle.std.specs.Fmt.{digits}
 use Rattle.valuation.specs.SearchSteps.{cut_steps}
 use Rattle.valuation.specs.Values.{or_value, xor_value}

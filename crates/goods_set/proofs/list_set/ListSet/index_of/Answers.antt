@@ -1,6 +1,5 @@
 -- `ListSet::index_of`
-use Rattle.goods_set.proofs.Common.{List, ℕ, subst, IsBinarySearchResult}
-use Rattle.std.specs.Ordering.{nat_cmp}
+use Rattle.goods_set.proofs.Common.{List, ℕ, subst, IsBinarySearchResult, nat_cmp}
 use Rattle.goods_set.proofs.Places.{placed}
 use Rattle.goods_set.proofs.list_set.ListSet.index_of.Goals as goal
 

@@ -1,6 +1,5 @@
 -- `remove_shared`
-use Rattle.goods_set.proofs.Common.{rules}
-use Rattle.std.proofs.lemmas.List.{length-take}
+use Rattle.goods_set.proofs.Common.{rules, length-take}
 use Rattle.goods_set.proofs.LongWords.{shared_removed}
 use Rattle.goods_set.proofs.word_set.lanes.remove_shared.Goals as goal
 

@@ -1,6 +1,6 @@
 -- `Atom::keeps_limits`: the first good from the number of goods on is there exactly where the bundle is not below that number.
-use Rattle.valuation.proofs.Common.{rules, arith, ◌≡◌, ℕ, ◌<◌, ◌≤◌, List, Some, None, ⊎_elim, sym, ap, ◌∙◌, both_ways, cases_lt, ltb-true, lt-ltb, IsRising}
-use Rattle.valuation.proofs.Common.{AreBelow, has_good, good_from, has_below, AreBelow-from_has, good_from-Some, good_from-None}
+use Rattle.valuation.proofs.Common.{rules, arith, ◌≡◌, ℕ, List, Some, None, sym, ap, ◌∙◌, both_ways, cases_lt, ltb-true, lt-ltb, IsRising, AreBelow, good_from}
+use Rattle.valuation.proofs.Common.{has_below, AreBelow-from_has, good_from-Some, good_from-None}
 use Rattle.valuation.proofs.atom.Atom.keeps_limits.Goals as goal
 
 -- no good is at least the number of goods

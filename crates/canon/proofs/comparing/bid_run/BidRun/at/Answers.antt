@@ -1,6 +1,5 @@
 -- `BidRun::at`
-use Rattle.canon.proofs.Common.{rules, ◌≡◌, ◌∙◌, length, sym, ap, arith, slice_range}
-use Rattle.std.proofs.Common.{slice_get}
+use Rattle.canon.proofs.Common.{rules}
 use Rattle.canon.proofs.Walks.BidRuns.{get_in_range, range_length}
 use Rattle.canon.proofs.comparing.bid_run.BidRun.at.Goals as goal
 

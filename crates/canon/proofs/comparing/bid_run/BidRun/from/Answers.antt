@@ -1,5 +1,5 @@
 -- `BidRun::from`
-use Rattle.canon.proofs.Common.{rules, ◌≡◌, ◌∙◌, length, drop, ap, arith, slice_range}
+use Rattle.canon.proofs.Common.{rules}
 use Rattle.canon.proofs.Walks.BidRuns.{range_length, rest_of_range}
 use Rattle.canon.proofs.comparing.bid_run.BidRun.from.Goals as goal
 

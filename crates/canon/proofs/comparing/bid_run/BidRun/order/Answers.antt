@@ -1,6 +1,5 @@
 -- `BidRun::order`
-use Rattle.canon.proofs.Common.{rules, ◌+◌, drop, sym, ap₂, ◌∙◌, nat_cmp, arith, seen_bid, atom_cmp, bidder_cmp, offers, then-decided, then-left}
-use Rattle.canon.proofs.Common.{slice_cmp-ended}
+use Rattle.canon.proofs.Common.{rules, ◌+◌, drop, sym, ◌∙◌, seen_bid, bidder_cmp, offers, then-decided, then-left, slice_cmp-ended}
 use Rattle.canon.proofs.Walks.BidOrders.{bidder_cmp-drop, length-offers}
 use Rattle.canon.proofs.comparing.bid_run.BidRun.order.Goals as goal
 

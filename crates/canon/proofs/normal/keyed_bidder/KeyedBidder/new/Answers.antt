@@ -1,5 +1,5 @@
 -- `KeyedBidder::new`
-use Rattle.canon.proofs.Common.{rules, ◌∙◌, List, sym, ap, slice_get, option_copied, Atom}
+use Rattle.canon.proofs.Common.{rules}
 use Rattle.canon.proofs.CanonicalFiles.BidderKeys.{key_of_first, key_of_none}
 use Rattle.canon.proofs.normal.keyed_bidder.KeyedBidder.new.Goals.{in-Some, in-None}
 use Rattle.canon.proofs.normal.keyed_bidder.KeyedBidder.new.Goals as goal

@@ -1,5 +1,5 @@
 -- `KeyedBidder::order`
-use Rattle.canon.proofs.Common.{rules, ◌≡◌, ◌∙◌, nat_cmp, ap, AreBelow-higher, bidder_cmp, atoms_of, bidder_key}
+use Rattle.canon.proofs.Common.{rules, AreBelow-higher}
 use Rattle.canon.proofs.CanonicalFiles.BidderKeys.{order_by_bidder_key, decided}
 use Rattle.canon.proofs.normal.keyed_bidder.KeyedBidder.order.Goals as goal
 
