@@ -1,5 +1,5 @@
 -- What a verdict says. It has three cases: a named number that the file does not have, two bids that clash, or neither.
-use Rattle.analysis.proofs.Common.{rules, ◌≡◌, ◌↔◌, ℕ, ◌<◌, ◌≤◌, leb, ⊎_elim, List, length, refl, sym, ap, ◌∙◌, Option, Some, None, All, Contains, Result, Ok}
+use Rattle.analysis.proofs.Common.{rules, ◌≡◌, ◌↔◌, ℕ, ◌<◌, ◌≤◌, leb, List, length, refl, Option, Some, None, All, Contains, Result, Ok}
 use Rattle.analysis.proofs.Common.{Err, unwrap_or, both_ways, cases_lt, leb-false, leb-true, lt-leb, not-false, All-contains, IsBundle, has_good, apart_from}
 use Rattle.analysis.proofs.Common.{AreBelow-from_has, IsPlainFile, PlainFile, All-from_Contains, Contains-filter, Contains-filter_parts, find_none, found_none}
 use Rattle.analysis.proofs.Common.{range_contains, bid_at, numbers_of, IsFirstClash, allocation_verdict, first_clash, missing_bid, named_bids, verdict_by}
@@ -75,34 +75,15 @@ module _ (f : PlainFile) (named : List ℕ) where
   -- ---- a clash
 
   pub is_first : (i j : ℕ) → missing_bid f named ≡ None → first_clash f bids ≡ Some (i, j) → IsFirstClash f named i j
-  is_first i j none c =
-      let p = first_pair f bids are_numbers.0 i j c in
-      record {
-        first = in_named i p.first;
-        second = in_named j p.second;
-        order = p.order;
-        clash = p.clash;
-        earlier = λ k l d e. p.earlier k l (in_bids k (within_if_none none k d) d) (in_bids l (within_if_none none l e) e);
-      }
+  is_first i j none c = let p = first_pair f bids are_numbers.0 i j c in search (rules, p.earlier, in_named, in_bids, within_if_none)
 
   pub is_least : IsPlainFile f → (i j good : ℕ) → first_clash f bids ≡ Some (i, j) → shared_good (bid_at f i) (bid_at f j) ≡ Some good
       → IsLeastShared (bid_at f i).goods (bid_at f j).goods good
   is_least plain i j good c s =
-      let a = bid_at f i in
-      let b = bid_at f j in
-      let there = found_at (has_good b.goods) a.goods good s in
       let p = first_pair f bids are_numbers.0 i j c in
       let within = in_range (length f.bids) i (Contains-filter_parts (has_good named) (numbers_of f) i p.first).0 in
-      let rises = (bid_here f plain i within).rising in
-      record {
-        first = has_from_contains a.goods good there.0;
-        second = there.1;
-        least = λ g h k.
-            ⊎_elim
-            (λ (l : g < good).
-            absurd (both_ways (has_good b.goods g) (found_least (has_good b.goods) a.goods rises good s g (contains_from_has a.goods g h) l) k))
-            (λ (l : good ≤ g). l) (cases_lt g good);
-      }
+      let less = found_least (has_good (bid_at f j).goods) (bid_at f i).goods (bid_here f plain i within).rising good s in
+      search (rules, (found_at (has_good (bid_at f j).goods) (bid_at f i).goods good s), has_from_contains, both_ways, less, contains_from_has, cases_lt)
 
   pub are_one_bidders : (i j : ℕ) → first_clash f bids ≡ Some (i, j) → shared_good (bid_at f i) (bid_at f j) ≡ None
       → AreOneBidders (bid_at f i) (bid_at f j) (unwrap_or (bid_at f i).dummy 0)
@@ -110,11 +91,7 @@ module _ (f : PlainFile) (named : List ℕ) where
       let b = bid_at f j in
       let apart = apart_from a.goods b.goods (λ g h. found_none (has_good b.goods) a.goods s g (contains_from_has a.goods g h)) in
       let p = first_pair f bids are_numbers.0 i j c in
-      let share = not-false (share_dummy a.dummy b.dummy)
-      (search (rules, both_ways, and_cases)) in
-      let d = same_dummy a.dummy b.dummy share in
-      let is : unwrap_or a.dummy 0 ≡ d.0 = ap (λ (o : Option ℕ). unwrap_or o 0) d.1 in
-      record { apart = apart; first = d.1 ∙ ap Some (sym is); second = d.2 ∙ ap Some (sym is) }
+      search (rules, (same_dummy a.dummy b.dummy (not-false (share_dummy a.dummy b.dummy) (search (rules, both_ways, and_cases)))))
 
   pub is_missing : (i : ℕ) → missing_bid f named ≡ Some i → Contains named i × (length f.bids ≤ i)
   is_missing i m = let there = found_at (leb (length f.bids)) named i m in (there.0, leb-true (length f.bids) i there.1)
@@ -140,30 +117,10 @@ module _ (f : PlainFile) (named : List ℕ) where
   if_revenue n e = search (rules, cases, all_within, is_allocation)
 
   pub if_good : (i j good : ℕ) → allocation_verdict f named ≡ Ok (SharedGood i j good) → SharesGood f named i j good
-  if_good i j good e = by (cases f named)
-    where
-      by : IsVerdict f named (allocation_verdict f named) → SharesGood f named i j good
-      by (Missing k m v) = absurd (cc)
-      by (All_win m c v) = absurd (cc)
-      by (Share k l g m c s v) =
-          let clash : first_clash f (named_bids f named) ≡ Some (i, j) = cc in
-          let shared : shared_good (bid_at f i) (bid_at f j) ≡ Some good = cc in
-          record { first = is_first f named i j m clash; clash = clash; shared = shared }
-      by (Share_none k l m c s v) = absurd (cc)
+  if_good i j good e = search (rules, (cases f named), (is_first f named i j))
 
   pub if_bidder : (i j dummy : ℕ) → allocation_verdict f named ≡ Ok (SharedBidder i j dummy) → SharesBidder f named i j dummy
-  if_bidder i j dummy e = by (cases f named)
-    where
-      by : IsVerdict f named (allocation_verdict f named) → SharesBidder f named i j dummy
-      by (Missing k m v) = absurd (cc)
-      by (All_win m c v) = absurd (cc)
-      by (Share k l g m c s v) = absurd (cc)
-      by (Share_none k l m c s v) =
-          let clash : first_clash f (named_bids f named) ≡ Some (i, j) = cc in
-          let none : shared_good (bid_at f i) (bid_at f j) ≡ None = cc in
-          let same : unwrap_or (bid_at f i).dummy 0 ≡ dummy = cc in
-          let bidders = are_one_bidders f named i j clash none in
-          record { first = is_first f named i j m clash; bidders = search rules }
+  if_bidder i j dummy e = search (rules, (cases f named), (is_first f named i j), (are_one_bidders f named i j))
 
   pub if_missing : (i : ℕ) → allocation_verdict f named ≡ Err i → Contains named i × (length f.bids ≤ i)
   if_missing i e = search (rules, cases, is_missing)

@@ -6,18 +6,6 @@ use Rattle.analysis.proofs.Common.{get_or, refl, ap, ◌∙◌, arith, Ordering,
 use Rattle.analysis.proofs.Common.{IsTotalOrder, le-ltb, tied_itself, sum_by-drop_more, sum_by-take-drop, count_of, le_or_lt, reverse, nat_lt, reverse-append}
 use Rattle.canon.specs.Lemmas.Finding.{equal_from}
 
--- ---- tests of an order
-
-less_from_test : (o : Ordering) → is_lt o ≡ true → o ≡ Less
-less_from_test Less e = refl
-less_from_test Equal e = absurd (cc)
-less_from_test Greater e = absurd (cc)
-
-greater_from_tests : (o : Ordering) → is_lt o ≡ false → is_eq o ≡ false → o ≡ Greater
-greater_from_tests Less e f = absurd (cc)
-greater_from_tests Equal e f = absurd (cc)
-greater_from_tests Greater e f = refl
-
 -- ---- the indices that pass a test, from some index on
 
 abbrev pub passing_from : (ℕ → Bool) → ℕ → ℕ → List ℕ
@@ -68,9 +56,7 @@ module _ {X : Type 0} (cmp : X → X → Ordering) (none : X) where
       → ((k : ℕ) → from ≤ k → k < end → is_eq (cmp x (get_or xs k none)) ≡ false) → count_of cmp x (drop from xs) ≡ count_of cmp x (drop end xs)
   count_past x xs zero from end e within differ = let same : from ≡ end = omega arith in ap (λ n. count_of cmp x (drop n xs)) same
   count_past x xs (suc number) from end e within differ = let first = count_from x xs from (omega arith) in
-      let other : cond {A = ℕ} (is_eq (cmp x (get_or xs from none))) 1 0 ≡ 0 = search rules in
-      let later = count_past x xs number (from + 1) end (omega arith) within (λ k l m. differ k (omega arith) m) in
-      omega arith
+      search (rules, (count_past x xs number (from + 1) end (omega arith) within (λ k l m. differ k (omega arith) m)))
 
 -- ---- one step of the walk
 
@@ -84,9 +70,7 @@ module _ {X : Type 0} (cmp : X → X → Ordering) (none : X) (total : IsTotalOr
 
   count_at : (xs : List X) (index : ℕ) → index < length xs
       → count_of cmp (get_or xs index none) (drop index xs) ≡ 1 + count_of cmp (get_or xs index none) (drop (index + 1) xs)
-  count_at xs index l = let x = get_or xs index none in
-      let one : cond {A = ℕ} (is_eq (cmp x x)) 1 0 ≡ 1 = ap (λ o. cond {A = ℕ} (is_eq o) 1 0) (tied_itself total x) in
-      search (rules, count_from)
+  count_at xs index l = let tied = tied_itself total (get_or xs index none) in let step = count_from cmp none (get_or xs index none) xs index l in search rules
 
   -- others that are greater than the last element are greater than all elements before it
   taken_past : (xs others : List X) (index end before : ℕ) → NeverAbove cmp none xs → index < length xs
@@ -96,39 +80,28 @@ module _ {X : Type 0} (cmp : X → X → Ordering) (none : X) (total : IsTotalOr
     within = omega (arith, w.within);
     counted = λ k m.
         count_past cmp none (get_or xs k none) others (end - before) before end (omega arith) w.within
-        (search (rules, below_further, not_above_last, within, less_from_test)) ∙ w.counted k m;
+        (search (rules, below_further, not_above_last, within)) ∙ w.counted k m;
   }
 
   -- an element takes its equal
   module _ (xs others : List X) (index last : ℕ) (below : index < length xs) (w : AreTaken cmp none xs others (index + 1) (last + 1))
       (equal : cmp (get_or xs index none) (get_or others last none) ≡ Equal) where
     one_taken : (x : X) → IsTaken cmp none xs others (index + 1) (last + 1) x → IsTaken cmp none xs others index last x
-    one_taken x counted = let same : get_or xs index none ≡ get_or others last none = search rules in
-        let front = ap (λ (y : X). cond {A = ℕ} (is_eq (cmp x y)) 1 0) same in
-        let one = count_from cmp none x xs index below in
-        let other = count_from cmp none x others last (omega (arith, w.within)) in
-        let some = count_from-le cmp none x others last in
-        omega arith
+    one_taken x counted = let some = count_from-le cmp none x others last in grind (arith, common_steps, count_from, w, exact)
 
     taken_equal : AreTaken cmp none xs others index last
     taken_equal = record { within = omega (arith, w.within); counted = λ k m. one_taken (get_or xs k none) (w.counted k (omega arith)) }
 
     -- it is not in excess, since its equal was left
     equal_left : is_more_often cmp none xs others index ≡ false
-    equal_left = let x = get_or xs index none in
-        let tied : cond {A = ℕ} (is_eq (cmp x (get_or others last none))) 1 0 ≡ 1 = ap (λ o. cond {A = ℕ} (is_eq o) 1 0) equal in
-        let here = count_at xs index below in
-        let there = count_from cmp none x others last (omega (arith, w.within)) in
-        let some = count_from-le cmp none x others last in
-        search (rules, le-ltb)
+    equal_left = let x = get_or xs index none in let tied : cond {A = ℕ} (is_eq (cmp x (get_or others last none))) 1 0 ≡ 1 = search rules in
+        let here = count_at xs index below in let there = count_from cmp none x others last (omega (arith, w.within)) in
+        let some = count_from-le cmp none x others last in search (rules, le-ltb)
 
   -- none of the others before the end is equal to an element that is greater than the last of them
   none_equal : (x : X) (others : List X) (end : ℕ) → NeverAbove cmp none others → end ≤ length others
       → ((last : ℕ) → last + 1 ≡ end → cmp x (get_or others last none) ≡ Greater) → (k : ℕ) → k < end → is_eq (cmp x (get_or others k none)) ≡ false
-  none_equal x others end up within greater k below = let last = end - 1 in
-      let less : cmp (get_or others last none) x ≡ Less =
-      search rules in
-      search (rules, below_further, not_above_last)
+  none_equal x others end up within greater k below = let least = greater (end - 1) (omega arith) in search (rules, below_further, not_above_last)
 
   -- no other is left for an element
   module _ (xs others : List X) (index end : ℕ) (below : index < length xs) (w : AreTaken cmp none xs others (index + 1) end)
@@ -136,19 +109,11 @@ module _ {X : Type 0} (cmp : X → X → Ordering) (none : X) (total : IsTotalOr
     all_taken : count_of cmp (get_or xs index none) others ≡ count_of cmp (get_or xs index none) (drop end others)
     all_taken = count_past cmp none (get_or xs index none) others end 0 end (omega arith) w.within (λ k l m. differ k m)
 
-    other_kept : (x : X) → is_eq (cmp x (get_or xs index none)) ≡ false → IsTaken cmp none xs others (index + 1) end x → IsTaken cmp none xs others index end x
-    other_kept x e counted = let here = count_from cmp none x xs index below in search rules
-
     kept : (x : X) (o : Ordering) → cmp x (get_or xs index none) ≡ o → IsTaken cmp none xs others (index + 1) end x → IsTaken cmp none xs others index end x
-    kept x Less e counted = other_kept x (ap is_eq e) counted
-    kept x Greater e counted = other_kept x (ap is_eq e) counted
-    kept x Equal e counted = grind (arith, common_steps, all_taken, count_from)
+    kept x o e counted = grind (arith, common_steps, all_taken, count_from)
 
     taken_none : AreTaken cmp none xs others index end
-    taken_none = record {
-      within = w.within;
-      counted = λ k m. kept (get_or xs k none) (cmp (get_or xs k none) (get_or xs index none)) refl (w.counted k (omega arith));
-    }
+    taken_none = record { within = w.within; counted = λ k m. kept (get_or xs k none) _ refl (w.counted k (omega arith)) }
 
     -- it is in excess
     none_left : is_more_often cmp none xs others index ≡ true
@@ -177,9 +142,5 @@ module _ {X : Type 0} (cmp : X → X → Ordering) (none : X) (total : IsTotalOr
 
     pub walked_excess : NeverAbove cmp none others → ((last : ℕ) → last + 1 ≡ before → is_eq (cmp (get_or xs index none) (get_or others last none)) ≡ false)
         → IsWalked xs others index before (indices ++ index ∷ [])
-    walked_excess others_up differ = let least = none_equal (get_or xs index none) others before others_up past.within
-        (search (rules, greater_from_tests)) in
-        record {
-          named = search (rules, one_passes, none_left, past);
-          taken = taken_none xs others index before below past least;
-        }
+    walked_excess others_up differ = let least = none_equal (get_or xs index none) others before others_up past.within (search rules) in
+        search (rules, one_passes, none_left, past, taken_none)

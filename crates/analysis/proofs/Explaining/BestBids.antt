@@ -1,7 +1,7 @@
 -- In a list of all bids in order, the first bid that does not come before a bidder and a bundle is the best of that bidder's bids
 -- on that bundle, if there are any: each of them is there or after it.
-use Rattle.analysis.proofs.Common.{[], rules, ◌≡◌, ℕ, zero, suc, ◌<◌, ◌≤◌, true, false, List, ◌∷◌, length, get_or, refl, sym, ap, ap₂, ◌∙◌, subst, arith, Less}
-use Rattle.analysis.proofs.Common.{Ordering, Equal, Greater, is_lt, nat_cmp, Contains, IsTotalOrder, ordering_then, ordering_reverse, and_parts, and_from}
+use Rattle.analysis.proofs.Common.{[], rules, ◌≡◌, ℕ, zero, suc, ◌<◌, ◌≤◌, true, false, List, ◌∷◌, length, get_or, refl, ap, ap₂, ◌∙◌, arith}
+use Rattle.analysis.proofs.Common.{Ordering, Equal, is_lt, nat_cmp, Contains, IsTotalOrder, ordering_then, ordering_reverse, and_parts, and_from}
 use Rattle.analysis.proofs.Common.{cases_lt, both_ways, false_from_ne_true, eqb-true, eq-eqb, ltb-true, or_cases, not_from_false, on_total, then_total, bid_at}
 use Rattle.analysis.proofs.Common.{nat_cmp_total, get_or_default, list_any_none, length-range_with_len, get_or-range_with_len, sorted_far, ranks_by, bundle_cmp}
 use Rattle.analysis.proofs.Common.{Contains-permutation, IsPermutation-sym, bundle_cmp_total, bundle_cmp_equal, bundle_cmp_refl, nat_cmp-lt, nat_cmp-refl}
@@ -24,29 +24,16 @@ key_cmp_total = then_total (on_total (λ (b : PlainBid). bidder_of b.dummy) nat_
 
 pub numbered_cmp_total : IsTotalOrder numbered_cmp
 numbered_cmp_total = then_total (then_total (on_total (λ (n : NumberedBid). seen_bid n.bid) key_cmp_total)
-    (search (rules, back_total, on_total, nat_cmp_total)))
-    (on_total (λ (n : NumberedBid). n.number) nat_cmp_total)
+    (search (rules, back_total, on_total, nat_cmp_total))) (on_total (λ (n : NumberedBid). n.number) nat_cmp_total)
 
 pub key_first : (o p q : Ordering) → is_lt (ordering_then (ordering_then o p) q) ≡ false → is_lt o ≡ false
-key_first Less p q e = e
-key_first Equal p q e = refl
-key_first Greater p q e = refl
+key_first o p q e = search rules
 
 both_not_less : (o p : Ordering) → o ≡ ordering_reverse p → is_lt o ≡ false → is_lt p ≡ false → o ≡ Equal
-both_not_less Less p e f g = absurd (cc)
-both_not_less Equal p e f g = refl
-both_not_less Greater Less e f g = absurd (cc)
-both_not_less Greater Equal e f g = absurd (cc)
-both_not_less Greater Greater e f g = absurd (cc)
+both_not_less o p e f g = search rules
 
 not_after : (o p : Ordering) → ordering_index o ≤ ordering_index p → is_lt p ≡ true → is_lt o ≡ true
-not_after Less p l e = refl
-not_after Equal Less l e = absurd (omega arith)
-not_after Equal Equal l e = absurd (cc)
-not_after Equal Greater l e = absurd (cc)
-not_after Greater Less l e = absurd (omega arith)
-not_after Greater Equal l e = absurd (cc)
-not_after Greater Greater l e = absurd (cc)
+not_after o p l e = search rules
 
 -- ---- bids of one bidder on the same goods
 
@@ -76,9 +63,7 @@ module _ (f : PlainFile) (bids : List NumberedBid) (order : AreInOrder f bids) (
   by_key k d l m = search (rules, key_first)
 
   pub partitioned : IsPartitionedBy (λ (n : NumberedBid). is_lt (key_cmp (seen_bid n.bid) target)) bids
-  partitioned i j d l m h =
-      not_after (key_cmp (seen_bid (get_or bids i d).bid) target) (key_cmp (seen_bid (get_or bids j d).bid) target)
-      (searchable_from_sorted key_cmp_total (λ (n : NumberedBid). seen_bid n.bid) bids target by_key i j d l m) h
+  partitioned i j d l m h = not_after _ _ (searchable_from_sorted key_cmp_total (λ (n : NumberedBid). seen_bid n.bid) bids target by_key i j d l m) h
 
   has_own : (k : ℕ) → bid_at f k ≡ target → HaveOneKey (bid_at f k) target
   has_own k at = record { bidder = ap (λ (b : PlainBid). bidder_of b.dummy) at; goods = ap (λ (b : PlainBid). b.goods) at }
@@ -87,12 +72,8 @@ module _ (f : PlainFile) (bids : List NumberedBid) (order : AreInOrder f bids) (
   pub at_number : (k : ℕ) → k < length f.bids → (n : NumberedBid) × Contains bids n × (n.number ≡ k) × (seen_bid n.bid ≡ bid_at f k)
   at_number k l = let within : k < length order.numbered = omega (arith, l, order.are.long) in
       let r = element_at order.numbered k within in
-      let each = order.are.each k r.0 within in (
-        r.0,
-        Contains-permutation order.numbered bids r.0 order.same (k, within, r.1 r.0),
-        ap (λ (n : NumberedBid). n.number) (sym (r.1 r.0)) ∙ each.0,
-        search rules,
-      )
+      let each = order.are.each k r.0 within in
+      (r.0, Contains-permutation order.numbered bids r.0 order.same (k, within, r.1 r.0), search (rules, (r.1 r.0), each), search (rules, each))
 
   -- each bid in the list is that of its number
   pub numbered : (n : NumberedBid) → Contains bids n → (n.number < length f.bids) × (seen_bid n.bid ≡ bid_at f n.number)
@@ -109,37 +90,29 @@ module _ (f : PlainFile) (bids : List NumberedBid) (order : AreInOrder f bids) (
     module _ (x : NumberedBid) (is : (d : NumberedBid) → get_or bids index d ≡ x) (there : index < length bids) where
       -- no bid behind it comes before it
       not_before : (n : NumberedBid) (q : ℕ) → index ≤ q → q < length bids → get_or bids q n ≡ n → is_lt (numbered_cmp n x) ≡ false
-      not_before n q l m e =
-          subst (λ (a : NumberedBid). is_lt (numbered_cmp a x) ≡ false) e
-          (subst (λ (b : NumberedBid). is_lt (numbered_cmp (get_or bids q n) b) ≡ false) (is n)
-          (sorted_far (λ (a b : NumberedBid). is_lt (numbered_cmp a b)) (ranks_by numbered_cmp_total (λ (n : NumberedBid). n)) bids order.sorted index q n l m))
+      not_before n q l m e = let far = sorted_far (λ a b. is_lt (numbered_cmp a b)) (ranks_by numbered_cmp_total (λ n. n)) bids order.sorted index q n l m in
+          search (rules, is)
 
       facts : (x.number < length f.bids) × (seen_bid x.bid ≡ bid_at f x.number)
       facts = numbered x (index, there, is x)
 
       has_key : (k : ℕ) → k < length f.bids → HaveOneKey (bid_at f k) target → HaveOneKey (bid_at f x.number) target
       has_key k l h = let r = behind k l h in
-          let first = key_first (key_cmp (seen_bid r.0.bid) (seen_bid x.bid)) (nat_cmp x.bid.price r.0.bid.price) (nat_cmp r.0.number x.number)
-          (not_before r.0 r.3 r.4 r.5 r.6) in
-          let other : is_lt (key_cmp (seen_bid x.bid) target) ≡ false =
-          search rules in
+          let first : is_lt (key_cmp (seen_bid r.0.bid) (seen_bid x.bid)) ≡ false = search (rules, key_first, (not_before r.0 r.3 r.4 r.5 r.6)) in
+          let other : is_lt (key_cmp (seen_bid x.bid) target) ≡ false = search rules in
           search (rules, facts, from_equal, both_not_less, key_cmp_total)
 
       none_better : HaveOneKey (bid_at f x.number) target → (k : ℕ) → k < length f.bids → is_better f k x.number ≡ true → ⊥
       none_better own k l better = let parts = and_parts (are_alike (bid_at f k) (bid_at f x.number)) _ better in
-          let alike = one_key (bid_at f k) (bid_at f x.number) parts.0 in
-          let r = behind k l (record { bidder = alike.bidder ∙ own.bidder; goods = alike.goods ∙ own.goods }) in
+          let r = behind k l (search (rules, one_key)) in
           let later = not_before r.0 r.3 r.4 r.5 r.6 in
-          search (rules, facts, key_equal, ltb-true, both_ways, nat_cmp-lt, and_parts, eqb-true, nat_cmp-refl, or_cases)
+          search (rules, facts, one_key, key_equal, ltb-true, both_ways, nat_cmp-lt, and_parts, eqb-true, nat_cmp-refl, or_cases)
 
       is_the_best : (k : ℕ) → k < length f.bids → bid_at f k ≡ target → IsBestFor f k x.number
       is_the_best k l at = let own = has_key k l (has_own k at) in
-          record {
-            within = facts.0;
-            alike = search (rules, alike_from);
-            best = not_from_false _ (list_any_none (λ j. is_better f j x.number) (numbers_of f)
-                (search (rules, length-range_with_len, get_or-range_with_len, false_from_ne_true, none_better)));
-          }
+          let best = not_from_false _ (list_any_none (λ j. is_better f j x.number) (numbers_of f)
+          (search (rules, length-range_with_len, get_or-range_with_len, false_from_ne_true, none_better))) in
+          search (rules, facts, has_own, alike_from)
 
     -- there is one
     pub has_index : (k : ℕ) → k < length f.bids → bid_at f k ≡ target → index < length bids
@@ -147,8 +120,7 @@ module _ (f : PlainFile) (bids : List NumberedBid) (order : AreInOrder f bids) (
 
     -- the bid at the index is the best
     pub first_is_best : (d : NumberedBid) (k : ℕ) → k < length f.bids → bid_at f k ≡ target → IsBestFor f k (get_or bids index d).number
-    first_is_best d k l at =
-        let there = has_index k l at in
+    first_is_best d k l at = let there = has_index k l at in
         is_the_best (get_or bids index d) (λ e. get_or_default bids index e d there) there k l at
 
 -- there are as many as in the file

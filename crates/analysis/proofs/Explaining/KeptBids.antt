@@ -5,9 +5,9 @@ use Rattle.analysis.proofs.Common.{sym, ap₂, ◌∙◌, subst, arith, All, Con
 use Rattle.analysis.proofs.Common.{not_from_false, map-append, length-append, append_assoc, flat_map-cons, All-contains, All-from_recursion, slice_get-get_or}
 use Rattle.analysis.proofs.Common.{Contains-append_left, Contains-append_right, Contains-append_cases, slice_get_within, get_or_from_slice_get, IsBundle, IsBid}
 use Rattle.analysis.proofs.Common.{all_bundles_has, inside_refl, PlainBid, PlainFile, IsDummyBelow, IsPlainFile, IsAtom, atom_of, auction_from, or_atoms_of}
-use Rattle.analysis.proofs.Common.{xor_atoms_of, xor_table, xor_value, IsAuction-auction_from, AllPairs-map, Contains-map, Contains-unmap, greatest_price}
+use Rattle.analysis.proofs.Common.{xor_atoms_of, xor_table, xor_value, IsAuction-auction_from, AllPairs-map, Contains-map, Contains-unmap}
 use Rattle.analysis.proofs.Common.{IsBefore, IsInOrder, or_points, on_bundles, list_any_has, IsOnBundle, points_where-in_order, xor_value-member, bid_from}
-use Rattle.analysis.proofs.Common.{canonical_auction, dummy_bids, points_of_kept_dummies, kept_dummies-differ, kept_dummies-below, kept_bids, kept_dummies}
+use Rattle.analysis.proofs.Common.{dummy_bids, points_of_kept_dummies, kept_dummies-differ, kept_dummies-below, kept_bids, kept_dummies}
 use Rattle.analysis.proofs.Common.{named_bid, points_of_dummy, bid_at, IsKeptAs, points_of, IsAuction, before_itself, kept_dummies-has, range_contains}
 use Rattle.analysis.proofs.Explaining.BestBids.{element_at}
 use Rattle.analysis.proofs.Explaining.KeptBidsLists.{in_flat_map, from_flat_map, AreDifferent, different_indices, different_append, different_flat_map}
@@ -30,20 +30,13 @@ or_points_of f = or_points f.goods (or_atoms_of f.bids)
 named_bids : (points : ℕ → List (Atom (List ℕ))) (before ds : List ℕ) (n : ℕ) → length before ≡ n
     → map (named_bid (before ++ ds)) (dummy_bids n (map points ds)) ≡ flat_map (λ d. map (bid_from (Some d)) (points d)) ds
 named_bids points before [] n l = refl
-named_bids points before (d ∷ ds) n l = map-append (named_bid (before ++ d ∷ ds)) (map (bid_from (Some n)) (points d)) (dummy_bids (n + 1) (map points ds))
-    ∙ ap₂ (λ (xs ys : List PlainBid). xs ++ ys)
-    (search (rules, map_of_map, get_or-append_seam))
-    (ap (λ (es : List ℕ). map (named_bid es) (dummy_bids (n + 1) (map points ds))) (sym (append_assoc before (d ∷ []) ds))
-    ∙ named_bids points (before ++ d ∷ []) ds (n + 1) (let long = length-append before (d ∷ []) in omega arith))
-    ∙ sym (flat_map-cons (λ e. map (bid_from (Some e)) (points e)) d ds)
+named_bids points before (d ∷ ds) n l = let rest = named_bids points (before ++ d ∷ []) ds (n + 1) (let long = length-append before (d ∷ []) in omega arith) in
+    search (rules, rest, map-append, map_of_map, get_or-append_seam, append_assoc, flat_map-cons)
 
 -- the OR bidder's, and then each XOR bidder's
 pub kept_bids_are : (f : PlainFile) → kept_bids f ≡ map (bid_from None) (or_points_of f) ++ flat_map (bids_of_dummy f) (kept_dummies f)
-kept_bids_are f = let names = named_bid (kept_dummies f) in
-    map-append names (map (bid_from None) (or_points_of f)) (dummy_bids 0 (canonical_auction (auction_from f)).xor_bidders)
-    ∙ ap₂ (λ (xs ys : List PlainBid). xs ++ ys) (search (rules, map_of_map))
-    (ap (λ (bidders : List (List (Atom (List ℕ)))). map names (dummy_bids 0 bidders)) (sym (points_of_kept_dummies f))
-    ∙ named_bids (points_of_dummy f) [] (kept_dummies f) 0 refl)
+kept_bids_are f = let rest = named_bids (points_of_dummy f) [] (kept_dummies f) 0 refl in
+    search (rules, rest, (map_of_map (named_bid (kept_dummies f)) (bid_from None) (bid_from None)), map-append, (points_of_kept_dummies f))
 
 -- ---- points are among them
 
@@ -55,10 +48,9 @@ or-points-are-kept f a c = grind (arith, common_steps, kept_bids_are, listed, Co
 
 pub xor-points-are-kept : (f : PlainFile) → (d : ℕ) → Contains (kept_dummies f) d → (a : Atom (List ℕ)) → Contains (points_of_dummy f d) a
     → (k : ℕ) × (slice_get (kept_bids f) k ≡ Some (bid_from (Some d) a))
-xor-points-are-kept f d e a c = subst (λ (bs : List PlainBid). (k : ℕ) × (slice_get bs k ≡ Some (bid_from (Some d) a))) (sym (kept_bids_are f))
-    (listed _ (bid_from (Some d) a) (Contains-append_right (map (bid_from None) (or_points_of f)) (flat_map (bids_of_dummy f) (kept_dummies f))
-    (bid_from (Some d) a) (in_flat_map (bids_of_dummy f) (kept_dummies f) d (bid_from (Some d) a) e
-    (grind (arith, common_steps, Contains-map)))))
+xor-points-are-kept f d e a c =
+    let there = in_flat_map (bids_of_dummy f) (kept_dummies f) d (bid_from (Some d) a) e (grind (arith, common_steps, Contains-map)) in
+    search (rules, (listed _ _ (Contains-append_right (map (bid_from None) (or_points_of f)) _ _ there)), kept_bids_are)
 
 -- ---- no two are equal
 
@@ -69,13 +61,9 @@ bids-different : (f : PlainFile) → AreDifferent (map (bid_from None) (or_point
 bids-different f = different_append (map (bid_from None) (or_points_of f)) (flat_map (bids_of_dummy f) (kept_dummies f))
     (search (rules, same_bundles, points_where-in_order))
     (different_flat_map (bids_of_dummy f) (λ (b : PlainBid). unwrap_or b.dummy 0) (kept_dummies f) (kept_dummies-differ f)
-    (search (rules, same_bundles, points_where-in_order))
-    (λ d b c. let r = Contains-unmap (bid_from (Some d)) (points_of_dummy f d) b c in ap (λ (z : PlainBid). unwrap_or z.dummy 0) r.2))
-    (λ b c e.
-    let r = Contains-unmap (bid_from None) (or_points_of f) b c in
-    let s = from_flat_map (bids_of_dummy f) (kept_dummies f) b e in
-    let t = Contains-unmap (bid_from (Some s.0)) (points_of_dummy f s.0) b s.2 in
-    search rules)
+    (search (rules, same_bundles, points_where-in_order)) (λ d b c. search (rules, (Contains-unmap (bid_from (Some d)) (points_of_dummy f d) b c))))
+    (λ b c e. let s = from_flat_map (bids_of_dummy f) (kept_dummies f) b e in
+    search (rules, (Contains-unmap (bid_from None) (or_points_of f) b c), (Contains-unmap (bid_from (Some s.0)) (points_of_dummy f s.0) b s.2)))
 
 pub kept-once : (f : PlainFile) → (k l : ℕ) → k < length (kept_bids f) → l < length (kept_bids f)
     → slice_get (kept_bids f) k ≡ slice_get (kept_bids f) l → k ≡ l
@@ -90,10 +78,8 @@ pub or_on : (f : PlainFile) → IsPlainFile f → All (IsOnBundle f.goods) (or_a
 or_on f is = on_bundles f.goods (or_atoms_of f.bids) (auction f is).or_atoms
 
 pub xor_on : (f : PlainFile) → IsPlainFile f → (d : ℕ) → d < f.dummy → All (IsOnBundle f.goods) (xor_atoms_of f.bids d)
-xor_on f is d l =
-    on_bundles f.goods (xor_atoms_of f.bids d) (All-contains (All (IsAtom f.goods)) (map (xor_atoms_of f.bids) (range_with_len 0 f.dummy))
-    (xor_atoms_of f.bids d)
-    (auction f is).xor_atoms (Contains-map (xor_atoms_of f.bids) (range_with_len 0 f.dummy) d (range_contains f.dummy d l)))
+xor_on f is d l = on_bundles f.goods (xor_atoms_of f.bids d) (All-contains (All (IsAtom f.goods)) _ (xor_atoms_of f.bids d) (auction f is).xor_atoms
+    (Contains-map (xor_atoms_of f.bids) (range_with_len 0 f.dummy) d (range_contains f.dummy d l)))
 
 -- a point of a bidder that the file has
 abbrev IsPoint : PlainFile → PlainBid → Type 0
@@ -102,16 +88,10 @@ IsPoint f b = IsDummyBelow f.dummy b.dummy × Contains (points_of f b.dummy) (at
 pub kept_is_point : (f : PlainFile) (k : ℕ) (b : PlainBid) → slice_get (kept_bids f) k ≡ Some b
     → IsDummyBelow f.dummy b.dummy × Contains (points_of f b.dummy) (atom_of b)
 kept_is_point f k b e = let there : Contains (kept_bids f) b = search (rules, slice_get_within, get_or_from_slice_get) in
-    ⊎_elim
-    (λ (c : Contains (map (bid_from None) (or_points_of f)) b).
-    let r = Contains-unmap (bid_from None) (or_points_of f) b c in
-    subst (IsPoint f) (sym r.2) (tt, r.1))
-    (λ (c : Contains (flat_map (bids_of_dummy f) (kept_dummies f)) b).
-    let s = from_flat_map (bids_of_dummy f) (kept_dummies f) b c in
-    let r = Contains-unmap (bid_from (Some s.0)) (points_of_dummy f s.0) b s.2 in
-    subst (IsPoint f) (sym r.2) ((kept_dummies-below f s.0 s.1).0, r.1))
-    (Contains-append_cases (map (bid_from None) (or_points_of f)) (flat_map (bids_of_dummy f) (kept_dummies f)) b
-    (search (rules, kept_bids_are)))
+    ⊎_elim (λ (c : Contains (map (bid_from None) (or_points_of f)) b). search (rules, (Contains-unmap (bid_from None) (or_points_of f) b c)))
+    (λ (c : Contains (flat_map (bids_of_dummy f) (kept_dummies f)) b). let s = from_flat_map (bids_of_dummy f) (kept_dummies f) b c in
+    search (rules, (Contains-unmap (bid_from (Some s.0)) (points_of_dummy f s.0) b s.2), (kept_dummies-below f s.0 s.1)))
+    (Contains-append_cases (map (bid_from None) (or_points_of f)) (flat_map (bids_of_dummy f) (kept_dummies f)) b (search (rules, kept_bids_are)))
 
 point_is_greatest : (f : PlainFile) → IsPlainFile f → (dummy : Option ℕ) → IsDummyBelow f.dummy dummy → (a : Atom (List ℕ)) → Contains (points_of f dummy) a
     → IsGreatest f.goods (atoms_of_bidder f dummy) a
@@ -123,8 +103,7 @@ kept-is-best f is k l = let b = element_at (kept_bids f) k l in
     let at = slice_get-get_or (kept_bids f) k b.0 l ∙ ap Some (b.1 b.0) in
     let point = kept_is_point f k b.0 at in
     let g = point_is_greatest f is b.0.dummy point.0 (atom_of b.0) point.1 in
-    let greatest : b.0.price ≡ greatest_price (atoms_of_bidder f b.0.dummy) b.0.goods = g.greatest in
-    search (rules, best_of_greatest)
+    search (rules, (g.greatest), best_of_greatest)
 
 -- ---- a bid of the file with a price above 0
 
@@ -145,9 +124,7 @@ within_value f i l d some = xor_value-member (xor_atoms_of f.bids d) (atom_of (b
 -- its bidder is in the canonical file
 pub dummy-is-kept : (f : PlainFile) → IsPlainFile f → (i : ℕ) → i < length f.bids → (d : ℕ) → (bid_at f i).dummy ≡ Some d → 0 < (bid_at f i).price
     → Contains (kept_dummies f) d
-dummy-is-kept f is i l d some positive = let atoms = xor_atoms_of f.bids d in
-    let goods = (bid_at f i).goods in
-    let low = within_value f i l d some in
-    kept_dummies-has f d (below_here f is i l d some) (list_any_has (λ value. not (eqb value 0)) (xor_table atoms f.goods) (xor_value atoms goods)
-    (search (rules, Contains-map, all_bundles_has, bundle_here))
+dummy-is-kept f is i l d some positive = let low = within_value f i l d some in
+    kept_dummies-has f d (below_here f is i l d some) (list_any_has (λ value. not (eqb value 0)) (xor_table (xor_atoms_of f.bids d) f.goods)
+    (xor_value (xor_atoms_of f.bids d) (bid_at f i).goods) (search (rules, Contains-map, all_bundles_has, bundle_here))
     (search (rules, not_from_false, ne_eqb)))

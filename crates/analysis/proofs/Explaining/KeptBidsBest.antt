@@ -12,10 +12,7 @@ use Rattle.analysis.proofs.Explaining.KeptBidsLists.{first_index}
 -- ---- bids
 
 pub same_bidder : (o p : Option ℕ) → bidder_of o ≡ bidder_of p → o ≡ p
-same_bidder None None e = refl
-same_bidder None (Some d) e = absurd (omega arith)
-same_bidder (Some c) None e = absurd (omega arith)
-same_bidder (Some c) (Some d) e = let f : c ≡ d = omega arith in ap Some f
+same_bidder o p e = search rules
 
 pub same_bid : (a b : PlainBid) → HaveOneKey a b → a.price ≡ b.price → a ≡ b
 same_bid a b h e = search (rules, same_bidder)
@@ -60,15 +57,9 @@ pub best_of : (f : PlainFile) (b : PlainBid) (k : ℕ) → k < length f.bids →
     → ((j : ℕ) → j < length f.bids → HaveOneKey (bid_at f j) b → (bid_at f j).price ≤ b.price) → (j : ℕ) × IsBestOf f b j
 best_of f b k l e greatest = let r = first_index (is_same b) f.bids (record { price = 0; goods = []; dummy = None }) k l
     (search (rules, and_from, alike_from, one_key_same, eq-eqb)) in
-    let there = same (bid_at f r.0) r.1.passes in (
-      r.0,
-      record {
-        within = r.1.within;
-        is = there;
-        best = not_from_false _ (list_any_none (λ i. is_better f i r.0) (numbers_of f)
-            (search (rules, All-from_Contains, false_from_ne_true, none, in_range)));
-      },
-    )
+    let there = same (bid_at f r.0) r.1.passes in
+    let best = not_from_false _ (list_any_none (λ i. is_better f i r.0) (numbers_of f)
+    (search (rules, All-from_Contains, false_from_ne_true, none, in_range))) in (r.0, record { within = r.1.within; is = there; best = best })
   where
     same : (c : PlainBid) → is_same b c ≡ true → c ≡ b
     same c t = let parts = and_parts (are_alike c b) (eqb c.price b.price) t in same_bid c b (one_key c b parts.0) (eqb-true _ _ parts.1)
@@ -88,19 +79,14 @@ pub record IsAtomOf (p : PlainBid → Bool) (f : PlainFile) (a : Atom (List ℕ)
   pub is : a ≡ atom_of (bid_at f j)
 
 pub atom_from : (p : PlainBid → Bool) (f : PlainFile) (a : Atom (List ℕ)) → Contains (map atom_of (filter p f.bids)) a → (j : ℕ) × IsAtomOf p f a j
-atom_from p f a c =
-    let r = Contains-unmap atom_of (filter p f.bids) a c in
-    let s = Contains-filter_parts p f.bids r.0 r.1 in
-    let at : r.0 ≡ bid_at f s.0.0 = sym s.0.2 ∙ get_or_default f.bids s.0.0 r.0 _ s.0.1 in
-    (s.0.0, record { within = s.0.1; passes = sym (ap p at) ∙ s.1; is = r.2 ∙ ap atom_of at })
+atom_from p f a c = let r = Contains-unmap atom_of (filter p f.bids) a c in
+    let s = Contains-filter_parts p f.bids r.0 r.1 in (s.0.0, search (rules, get_or_default))
 
 pub none_is : {X : Type 0} (o : Option X) → is_none o ≡ true → o ≡ None
-none_is None e = refl
-none_is (Some x) e = absurd (cc)
+none_is o e = search rules
 
 pub some_is : (d : ℕ) (o : Option ℕ) → is_dummy d o ≡ true → o ≡ Some d
-some_is d None e = absurd (cc)
-some_is d (Some c) e = ap Some (eqb-true c d e)
+some_is d o e = search (rules, eqb-true)
 
 pub is_dummy-same : (d : ℕ) (o : Option ℕ) → o ≡ Some d → is_dummy d o ≡ true
 is_dummy-same d o e = ap (is_dummy d) e ∙ eq-eqb d d refl
@@ -115,12 +101,10 @@ abbrev pub atoms_of_bidder : PlainFile → Option ℕ → List (Atom (List ℕ))
 atoms_of_bidder f dummy = map atom_of (filter (is_of dummy) f.bids)
 
 pub of_it : (dummy : Option ℕ) (b : PlainBid) → is_of dummy b ≡ true → b.dummy ≡ dummy
-of_it None b t = none_is b.dummy t
-of_it (Some d) b t = some_is d b.dummy t
+of_it dummy b t = search (rules, none_is, some_is)
 
 pub its_own : (dummy : Option ℕ) (b : PlainBid) → b.dummy ≡ dummy → is_of dummy b ≡ true
-its_own None b e = ap is_none e
-its_own (Some d) b e = is_dummy-same d b.dummy e
+its_own dummy b e = search (rules, is_dummy-same)
 
 -- what the bidder offers on these goods
 abbrev pub greatest_bid : PlainFile → Option ℕ → List ℕ → PlainBid
@@ -128,22 +112,16 @@ greatest_bid f dummy goods = record { price = greatest_price (atoms_of_bidder f 
 
 pub best_of_greatest : (f : PlainFile) (dummy : Option ℕ) (goods : List ℕ) → 0 < greatest_price (atoms_of_bidder f dummy) goods
     → (j : ℕ) × IsBestOf f (greatest_bid f dummy goods) j
-best_of_greatest f dummy goods some = let r = greatest_price-reached (atoms_of_bidder f dummy) goods some in
-    let k = atom_from (is_of dummy) f r.0 r.1 in
-    best_of f (greatest_bid f dummy goods) k.0 k.1.within
-    (search (rules, same_bid)) (λ i l h.
-    let low = greatest_price-member (atoms_of_bidder f dummy) (atom_of (bid_at f i))
-    (search (rules, atom_there, its_own, same_bidder)) in
-    search rules)
+best_of_greatest f dummy goods some = let r = greatest_price-reached (atoms_of_bidder f dummy) goods some in let k = atom_from (is_of dummy) f r.0 r.1 in
+    best_of f (greatest_bid f dummy goods) k.0 k.1.within (search (rules, same_bid)) (λ i l h.
+    let low = greatest_price-member (atoms_of_bidder f dummy) (atom_of (bid_at f i)) (search (rules, atom_there, its_own, same_bidder)) in search rules)
 
 -- ---- the price of a best bid is the greatest on its goods
 
 pub greatest-is-best : (f : PlainFile) (i : ℕ) → i < length f.bids → is_best f i ≡ true
     → greatest_price (atoms_of_bidder f (bid_at f i).dummy) (bid_at f i).goods ≡ (bid_at f i).price
 greatest-is-best f i l best = let dummy = (bid_at f i).dummy in
-    le_antisymm
-    (greatest_price-bound (atoms_of_bidder f dummy) (bid_at f i).goods (bid_at f i).price
+    le_antisymm (greatest_price-bound (atoms_of_bidder f dummy) (bid_at f i).goods (bid_at f i).price
     (All-from_Contains (λ a. a.bundle ≡ (bid_at f i).goods → a.price ≤ (bid_at f i).price) (atoms_of_bidder f dummy) (λ a c e.
-    let r = atom_from (is_of dummy) f a c in
-    search (rules, best_is_greatest, best, of_it))))
+    let r = atom_from (is_of dummy) f a c in search (rules, best_is_greatest, best, of_it))))
     (greatest_price-member (atoms_of_bidder f dummy) (atom_of (bid_at f i)) (search (rules, atom_there, its_own)))

@@ -2,7 +2,7 @@
 use Rattle.analysis.proofs.Common.{[], common_steps, rules, ◌≡◌, ℕ, ◌+◌, ◌<◌, ◌≤◌, Bool, true, false, List, ◌∷◌, ◌++◌, length, map, get_or, Option, Some, None}
 use Rattle.analysis.proofs.Common.{is_none, refl, sym, ap, ◌∙◌, subst, arith, nat_cmp, Global, All, Vec, filter, append-nil, get_or-map, get_or_default, Atom}
 use Rattle.analysis.proofs.Common.{get_or_at, length-append, length-map, length-take-le, map-append, filter-append, get_or-map-range_with_len, length-filter}
-use Rattle.analysis.proofs.Common.{length-map-range_with_len, slice_get_within, and_parts, IsInside, is_inside, PlainBid, PlainFile, IsDummyBelow, seen_bid}
+use Rattle.analysis.proofs.Common.{length-map-range_with_len, slice_get_within, and_parts, IsInside, PlainBid, PlainFile, IsDummyBelow, seen_bid}
 use Rattle.analysis.proofs.Common.{MAX_BIDS, Bounded, atom_of, xor_atoms_of, atom_at, sort_by, best_bids, numbers_at, filter-kept, filter-lost, bid_at, Keep}
 use Rattle.analysis.proofs.Common.{Inside, Packing, IsKeptAs, best_reason, kept_number, or_reason, point_number, points_of, xor_reason, HasPassed, IsNextBest}
 use Rattle.analysis.proofs.Common.{is_kept_atom, is_kept_bid, passed_bids, NumberedBid, Known, Walk, plain_fate, xor_fates, count_by-le-length, map_same_on}
@@ -84,11 +84,9 @@ module _ {known : Known} {index : ℕ} {n : NumberedBid} {walk : Walk} (best : I
 
   pub or_here : dummy ≡ None → (walk.passed < length fates) × ((d : Option (Vec ℕ Global))
       → plain_fate (get_or fates walk.passed d) ≡ or_fate Bounded (points_of f None) (offer n))
-  or_here e = let r = best_from None e in
+  or_here e = let r = best_from None e in let long = length-map fates plain_fate in
       let s = at_seam (map plain_fate fates) (or_fate Bounded (points_of f None)) (map offer own_done) (offer n) r.0 walk.passed
-      (is.or ∙ ap (map (or_fate Bounded (points_of f None))) r.1) long_done in
-      let long = length-map fates plain_fate in
-      (omega arith, λ d. sym (search (rules, get_or-map)) ∙ s.1 None)
+      (search (rules, is)) long_done in (omega arith, λ d. sym (search (rules, get_or-map)) ∙ s.1 None)
 
   pub xor_here : (fates : List (Option ℕ)) (d : ℕ) → dummy ≡ Some d → fates ≡ xor_fates f.goods (xor_atoms_of f.bids d)
       → (walk.passed < length fates) × ((o : Option ℕ) → get_or fates walk.passed o ≡ xor_fate (points_of f (Some d)) (offer n))
@@ -122,9 +120,8 @@ module _ {known : Known} {index : ℕ} {n : NumberedBid} {walk : Walk} (best : I
 
     module _ {r : Vec (Option ℕ) Global} (there : r ≡ get_or lists d r) where
       pub xor_list : r.items ≡ xor_fates f.goods (xor_atoms_of f.bids d)
-      xor_list = ap (λ (v : Vec (Option ℕ) Global). v.items) there ∙ sym (search (rules, get_or-map, xor_long))
-          ∙ ap (λ (xs : List (List (Option ℕ))). get_or xs d []) is.xor
-          ∙ get_or-map-range_with_len (λ d. xor_fates f.goods (xor_atoms_of f.bids d)) 0 f.dummy d d [] in_file (omega arith)
+      xor_list = let one = get_or-map-range_with_len (λ d. xor_fates f.goods (xor_atoms_of f.bids d)) 0 f.dummy d d [] in_file (omega arith) in
+          search (rules, is, xor_long, get_or-map)
 
       pub xor_within : walk.passed < length r.items
       xor_within = (xor_here r.items d xor xor_list).0
@@ -172,33 +169,26 @@ module _ {known : Known} {index : ℕ} {n : NumberedBid} {walk : Walk} (best : I
 
   module _ {indices : List ℕ} (or : dummy ≡ None) (fate : or_fate Bounded (points_of f None) (offer n) ≡ Some indices) where
     each_before : All (λ p. (p < length walk.points.items) × (get_or walk.points.items p 0 ≡ point_number f None p)) indices
-    each_before k d l =
-        let packing = (packing_from (points_of f None) (offer n) indices fate).packing in
-        point_before None or (or_not_kept or fate) (get_or indices k d) (packing.within k d l)
-        (all_unmap (λ a. IsInside a.bundle (offer n).bundle) (atom_at (points_of f None)) indices packing.inside k d l)
+    each_before k d l = let packing = (packing_from (points_of f None) (offer n) indices fate).packing in
+        point_before None or (or_not_kept or fate) _ (packing.within k d l) (all_unmap (λ a. IsInside a.bundle (offer n).bundle) _ indices packing.inside k d l)
 
     pub packing_within : All (λ p. p < length walk.points.items) indices
     packing_within k d l = (each_before k d l).0
 
     pub packing_reason : Packing (sort_by nat_cmp (numbers_at walk.points.items indices)) ≡ reason_of f n.number
-    packing_reason = let numbers : numbers_at walk.points.items indices ≡ map (point_number f None) indices =
-        search (rules, map_same_on, each_before) in
-        ap (λ (ns : List ℕ). Packing (sort_by nat_cmp ns)) numbers
-        ∙ sym (reason None or ∙ ap (or_reason f n.number) (ap (or_fate Bounded (points_of f None)) (sym offered) ∙ fate))
+    packing_reason = let numbers : numbers_at walk.points.items indices ≡ map (point_number f None) indices = search (rules, map_same_on, each_before) in
+        let why = reason None or in search (rules, offered, fate)
 
   module _ {d p : ℕ} (xor : dummy ≡ Some d) (fate : xor_fate (points_of f (Some d)) (offer n) ≡ Some p) where
     own_point : (p < length walk.points.items) × (get_or walk.points.items p 0 ≡ point_number f (Some d) p)
-    own_point =
-        let point = inside_from (points_of f (Some d)) (offer n) p fate in
-        point_before (Some d) xor (xor_not_kept xor fate) p point.within
-        (and_parts (is_inside (atom_at (points_of f (Some d)) p).bundle (offer n).bundle) _ point.below).0
+    own_point = let point = inside_from (points_of f (Some d)) (offer n) p fate in
+        point_before (Some d) xor (xor_not_kept xor fate) p point.within (search (rules, and_parts))
 
     pub inside_within : p < length walk.points.items
     inside_within = own_point.0
 
     pub inside_reason : Inside (get_or walk.points.items p 0) ≡ reason_of f n.number
-    inside_reason =
-        ap Inside own_point.1 ∙ sym (reason (Some d) xor ∙ ap (xor_reason f d n.number) (ap (xor_fate (points_of f (Some d))) (sym offered) ∙ fate))
+    inside_reason = let why = reason (Some d) xor in search (rules, own_point, offered, fate)
 
   -- ---- the walk has passed it
 

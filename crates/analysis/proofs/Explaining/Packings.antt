@@ -1,7 +1,7 @@
 -- The numbers of the points of a packing, sorted. Different points of a packing are on different goods, so their numbers differ, and
 -- rise once they are sorted; what holds of each two of them does not depend on their order.
-use Rattle.analysis.proofs.Common.{eqb, [], rules, Contains-cons_cases, All-contains, Contains-nil, ◌≡◌, ℕ, ◌<◌, ◌≤◌, true, ⊎_elim, List, ◌∷◌, length, map, sym}
-use Rattle.analysis.proofs.Common.{get_or, Option, None, refl, ap, subst, subst₂, arith, nat_cmp, All, AllPairs, Contains, IsPermutation, sum_by, list_all}
+use Rattle.analysis.proofs.Common.{eqb, [], rules, Contains-cons_cases, All-contains, Contains-nil, ◌≡◌, ℕ, ◌<◌, ◌≤◌, true, List, ◌∷◌, length, map, sym}
+use Rattle.analysis.proofs.Common.{get_or, Option, None, refl, ap, subst₂, nat_cmp, All, AllPairs, Contains, IsPermutation, sum_by, list_all}
 use Rattle.analysis.proofs.Common.{AllByRecursion, IsSorted, and_from, Decides-eqb, length-map, get_or-map, All-map, All-head, All-tail, recursion_from_All}
 use Rattle.analysis.proofs.Common.{Contains-get_or, AllPairs-from_increasing, sum_by-cons, All-permutation, Contains-permutation, IsPermutation-sym, AreAbove}
 use Rattle.analysis.proofs.Common.{IsNonDecreasingBy-from_sort, sum_by-IsPermutation, IsDistinct-IsPermutation, IsStrictlyIncreasing-from_distinct, IsRising}
@@ -13,27 +13,18 @@ use Rattle.canon.specs.Lemmas.OrDifferences.{eqb_swap}
 -- ---- lists
 
 pub all_unmap : {X Y : Type 0} (P : Y → Type 0) (g : X → Y) (xs : List X) → All P (map g xs) → All (λ x. P (g x)) xs
-all_unmap P g xs h k d l =
-    let long = length-map xs g in
-    subst P (get_or-map g xs k d (g d) l) (h k (g d) (omega arith))
+all_unmap P g xs h k d l = search (rules, (length-map xs g), (get_or-map g xs k d (g d) l), (h k (g d)))
 
 pub pairs_unmap : {X Y : Type 0} (R : Y → Y → Type 0) (g : X → Y) (xs : List X) → AllPairs R (map g xs) → AllPairs (λ x y. R (g x) (g y)) xs
-pairs_unmap R g xs h i j d m l =
-    let long = length-map xs g in
-    let n : i < length xs = omega arith in
-    subst₂ R (get_or-map g xs i d (g d) n) (get_or-map g xs j d (g d) l) (h i j (g d) m (omega arith))
+pairs_unmap R g xs h i j d m l = let long = length-map xs g in
+    search (rules, (get_or-map g xs i d (g d)), (get_or-map g xs j d (g d) l), (h i j (g d) m))
 
 -- what holds of each two elements, in either order, holds of any two that differ
 pub pairs_at : (R : ℕ → ℕ → Type 0) → ((x y : ℕ) → R x y → R y x) → (xs : List ℕ) → AllPairs R xs → (x y : ℕ) → Contains xs x → Contains xs y
     → (x ≡ y → ⊥) → R x y
 pairs_at R flip [] h x y c d differ = absurd (Contains-nil x c)
 pairs_at R flip (z ∷ zs) h x y c d differ = let later = λ (w : ℕ) (e : Contains zs w). All-contains (R z) zs w (AllPairs-head R z zs h) e in
-    ⊎_elim
-    (search (rules, differ, Contains-cons_cases))
-    (λ (e : Contains zs x).
-    ⊎_elim (λ (g : z ≡ y). subst (R x) g (flip z x (later x e)))
-    (λ (g : Contains zs y). pairs_at R flip zs (AllPairs-tail R z zs h) x y e g differ) (Contains-cons_cases z zs y d))
-    (Contains-cons_cases z zs x c)
+    search (rules, (pairs_at R flip zs (AllPairs-tail R z zs h)), Contains-cons_cases)
 
 above_from_all : (x : ℕ) (xs : List ℕ) → All (λ y. x < y) xs → AreAbove x xs
 above_from_all x [] h = tt
@@ -52,10 +43,9 @@ module _ (xs js : List ℕ) (same : IsPermutation xs js) (sorted : IsSorted nat_
       search (rules, AllPairs-from_increasing, IsStrictlyIncreasing-from_distinct, IsNonDecreasingBy-from_sort)
 
   pub pairs_sorted : (R : ℕ → ℕ → Type 0) → ((x y : ℕ) → R x y → R y x) → AllPairs R xs → AllPairs R js
-  pairs_sorted R flips pairs i j d m l =
-      let up = increasing i j d m l in
+  pairs_sorted R flips pairs i j d m l = let up = increasing i j d m l in
       let back = λ (k : ℕ) (n : k < length js). Contains-permutation js xs (get_or js k d) (IsPermutation-sym xs js same) (Contains-get_or js k d n) in
-      pairs_at R flips xs pairs (get_or js i d) (get_or js j d) (back i (omega arith)) (back j l) (λ e. omega arith)
+      search (rules, (pairs_at R flips xs pairs), (back i), (back j l))
 
 -- ---- bids that share no good
 
@@ -64,16 +54,12 @@ ShareNone f i j = AreApart (bid_at f i).goods (bid_at f j).goods
 
 one_apart : (f : PlainFile) (goods : List ℕ) (js : List ℕ) → All (λ j. AreApart goods (bid_at f j).goods) js → list_all (are_apart goods) (goods_at f js) ≡ true
 one_apart f goods [] h = refl
-one_apart f goods (j ∷ js) h =
-    and_from (are_apart goods (bid_at f j).goods) (list_all (are_apart goods) (goods_at f js))
-    (All-head (λ k. AreApart goods (bid_at f k).goods) j js h)
-    (one_apart f goods js (All-tail (λ k. AreApart goods (bid_at f k).goods) j js h))
+one_apart f goods (j ∷ js) h = search (rules, (one_apart f goods js), and_from, All-head, All-tail)
 
 apart_from_pairs : (f : PlainFile) (js : List ℕ) → AllPairs (ShareNone f) js → all_apart (goods_at f js) ≡ true
 apart_from_pairs f [] h = refl
 apart_from_pairs f (j ∷ js) h =
-    and_from (list_all (are_apart (bid_at f j).goods) (goods_at f js)) (all_apart (goods_at f js))
-    (one_apart f (bid_at f j).goods js (AllPairs-head (ShareNone f) j js h)) (apart_from_pairs f js (AllPairs-tail (ShareNone f) j js h))
+    search (rules, (apart_from_pairs f js (AllPairs-tail (ShareNone f) j js h)), and_from, one_apart, (AllPairs-head (ShareNone f) j js h))
 
 -- ---- the numbers of a packing
 
@@ -101,21 +87,16 @@ module _ (f : PlainFile) (goods : List ℕ) (price : ℕ) (atoms : List (Atom (L
     apart : AreApart (atom_at atoms p).bundle (atom_at atoms q).bundle
 
   pairs : AllPairs IsPair indices
-  pairs = λ i j d m l. record {
-    one = packing.packing.within i d (omega arith);
-    other = packing.packing.within j d l;
-    apart = pairs_unmap (λ a b. AreApart a.bundle b.bundle) (atom_at atoms) indices packing.packing.apart i j d m l;
-  }
+  pairs = λ i j d m l. let apart = pairs_unmap (λ a b. AreApart a.bundle b.bundle) (atom_at atoms) indices packing.packing.apart i j d m l in
+      search (rules, packing.packing.within)
 
   share_none : (p q : ℕ) → IsPair p q → ShareNone f (number p) (number q)
   share_none p q h = subst₂ AreApart (sym (goods_is p h.one)) (sym (goods_is q h.other)) h.apart
 
   differ : (p q : ℕ) → IsPair p q → number p ≡ number q → ⊥
-  differ p q h e = let same_goods : (atom_at atoms q).bundle ≡ (atom_at atoms p).bundle =
-      search (rules, goods_is) in
-      let none = ap (length {A = ℕ}) (apart_inside_none (atom_at atoms p).bundle (atom_at atoms p).bundle (inside_refl (atom_at atoms p).bundle)
-      (search rules)) in
-      omega arith
+  differ p q h e = let goods = (atom_at atoms p).bundle in
+      let same_goods : (atom_at atoms q).bundle ≡ goods = search (rules, goods_is) in
+      let none = apart_inside_none goods goods (inside_refl goods) (search rules) in search (rules, none, some)
 
   shared : AllPairs (ShareNone f) (map number indices)
   shared = AllPairs-map IsPair (ShareNone f) number share_none indices pairs
@@ -124,30 +105,16 @@ module _ (f : PlainFile) (goods : List ℕ) (price : ℕ) (atoms : List (Atom (L
   different = AllPairs-map IsPair (λ i j. i ≡ j → ⊥) number differ indices pairs
 
   inside_each : All (IsPointInside f goods) (map number indices)
-  inside_each = All-map (IsPointInside f goods) number indices (λ k d l.
-      let p = get_or indices k d in
-      let within = packing.packing.within k d l in
-      let of = point p within in
-      record {
-        or = ap (λ (b : PlainBid). b.dummy) of.is;
-        point = of.point;
-        inside = subst (λ (xs : List ℕ). IsInside xs goods) (sym (goods_is p within))
-            (all_unmap (λ a. IsInside a.bundle goods) (atom_at atoms) indices packing.packing.inside k d l);
-      })
+  inside_each = All-map (IsPointInside f goods) number indices (λ k d l. let of = point (get_or indices k d) (packing.packing.within k d l) in
+      search (rules, (all_unmap (λ a. IsInside a.bundle goods) (atom_at atoms) indices packing.packing.inside k d l)))
 
   sums : (ps : List ℕ) → All (λ p. p < length atoms) ps → sum_by (λ a. a.price) (map (atom_at atoms) ps) ≡ sum_by (λ j. (bid_at f j).price) (map number ps)
   sums [] h = refl
-  sums (p ∷ ps) h = let here : (bid_at f (number p)).price ≡ (atom_at atoms p).price =
-      search (rules, point, All-head) in
-      let rest = sums ps (All-tail (λ q. q < length atoms) p ps h) in
-      search (rules, sum_by-cons)
+  sums (p ∷ ps) h = let here : (bid_at f (number p)).price ≡ (atom_at atoms p).price = search (rules, point, All-head) in
+      search (rules, (sums ps (All-tail (λ q. q < length atoms) p ps h)), sum_by-cons)
 
   pub of_packing : AreOfPacking f goods price js
   of_packing = let total = sums indices packing.packing.within in
       let moved = sum_by-IsPermutation (λ j. (bid_at f j).price) (map number indices) js same in
-      record {
-        rising = search (rules, rising_from_pairs, increasing, different);
-        each = search (rules, recursion_from_All, All-permutation, inside_each);
-        apart = search (rules, apart_from_pairs, pairs_sorted, different, apart_sym, shared);
-        enough = omega arith;
-      }
+      let apart = apart_from_pairs f js (search (rules, pairs_sorted, different, apart_sym, shared)) in
+      search (rules, rising_from_pairs, increasing, different, recursion_from_All, All-permutation, inside_each)

@@ -1,7 +1,7 @@
 -- The walk takes the next bid in. It is the best of its bidder's on its goods if the bid before it is not on the same goods of that bidder;
 -- and at the first bid of a bidder the walk has passed none of it.
-use Rattle.analysis.proofs.Common.{[], rules, ◌≡◌, ℕ, ◌+◌, ◌-◌, ◌<◌, ◌≤◌, Bool, true, false, cond, ⊎_elim, List, ◌∷◌, ◌++◌, length, get_or, take, Option, Some}
-use Rattle.analysis.proofs.Common.{None, refl, sym, ap, ◌∙◌, subst, arith, Ordering, Less, Equal, Greater, is_lt, nat_cmp, is_eq, ordering_reverse, and_parts}
+use Rattle.analysis.proofs.Common.{[], rules, ◌≡◌, ℕ, ◌+◌, ◌-◌, ◌<◌, ◌≤◌, true, false, List, length, get_or, take, Option, Some}
+use Rattle.analysis.proofs.Common.{None, sym, ap, ◌∙◌, subst, arith, Ordering, is_lt, is_eq, ordering_reverse, and_parts}
 use Rattle.analysis.proofs.Common.{both_ways, cases_lt, false_from_ne_true, ltb-true, append-nil, get_or_default, length-take-le, Contains-get_or, filter_more}
 use Rattle.analysis.proofs.Common.{ranks_by, sorted_far, get_or_from_slice_get, slice_get_within, nat_cmp-lt, PlainBid, PlainFile, seen_bid, NumberedBid, Known}
 use Rattle.analysis.proofs.Common.{Walk, bid_at, bidder_of, IsBestFor, AreInOrder, numbered_cmp, HasPassed, IsAt, is_best_of, passed_bids, get_or-take, IsNext}
@@ -15,11 +15,7 @@ use Rattle.canon.specs.Lemmas.Finding.{equal_from}
 use Rattle.canon.specs.Lemmas.FirstChanges.{same_price_cases}
 
 less_from : (o p : Ordering) → p ≡ ordering_reverse o → is_lt p ≡ false → is_eq o ≡ false → is_lt o ≡ true
-less_from Less p e l n = refl
-less_from Equal p e l n = absurd (cc)
-less_from Greater Less e l n = absurd (cc)
-less_from Greater Equal e l n = absurd (cc)
-less_from Greater Greater e l n = absurd (cc)
+less_from o p e l n = search rules
 
 module _ {known : Known} {index : ℕ} {n : NumberedBid} (next : IsNext known index n) where
   abbrev f : PlainFile
@@ -42,31 +38,21 @@ module _ {known : Known} {index : ℕ} {n : NumberedBid} (next : IsNext known in
 
   -- no bid comes before an earlier one
   key_after : (i j : ℕ) (d : NumberedBid) → i ≤ j → j < length bids → is_lt (key_cmp (seen_bid (get_or bids j d).bid) (seen_bid (get_or bids i d).bid)) ≡ false
-  key_after i j d l m = key_first (key_cmp (seen_bid (get_or bids j d).bid) (seen_bid (get_or bids i d).bid))
-      (nat_cmp (get_or bids i d).bid.price (get_or bids j d).bid.price) (nat_cmp (get_or bids j d).number (get_or bids i d).number)
-      (sorted_far (λ (a b : NumberedBid). is_lt (numbered_cmp a b)) (ranks_by numbered_cmp_total (λ (n : NumberedBid). n)) bids order.sorted i j d l m)
+  key_after i j d l m = key_first _ _ _ (sorted_far (λ (a b : NumberedBid). is_lt (numbered_cmp a b)) (ranks_by numbered_cmp_total (λ (n : NumberedBid). n))
+      bids order.sorted i j d l m)
 
   bidders_rise : (i j : ℕ) (d : NumberedBid) → i ≤ j → j < length bids → bidder_of (get_or bids i d).bid.dummy ≤ bidder_of (get_or bids j d).bid.dummy
-  bidders_rise i j d l m = let one : PlainBid = seen_bid (get_or bids i d).bid in
-      let other : PlainBid = seen_bid (get_or bids j d).bid in
-      ⊎_elim
-      (λ (k : bidder_of other.dummy < bidder_of one.dummy).
-      absurd (both_ways (is_lt (key_cmp other one)) (key_after i j d l m)
-      (search (rules, nat_cmp-lt))))
-      (λ (k : bidder_of one.dummy ≤ bidder_of other.dummy). k) (cases_lt (bidder_of other.dummy) (bidder_of one.dummy))
+  bidders_rise i j d l m = let after = key_after i j d l m in search (rules, after, nat_cmp-lt, both_ways, cases_lt)
 
   -- ---- the best bid
 
   -- the next bid itself, if the last one is on other goods or of another bidder
   itself : ((d : NumberedBid) → 0 < index → is_lt (key_cmp (seen_bid (get_or bids (index - 1) d).bid) (seen_bid n.bid)) ≡ true) → IsBestFor f n.number n.number
-  itself less =
-      let target : PlainBid = seen_bid n.bid in
-      subst (λ (m : NumberedBid). IsBestFor f n.number m.number) (next_at n)
-      (first_is_best f bids order target index (
-        λ i d lo hi. partitioned f bids order target i (index - 1) d (omega arith) (omega (arith, next_within)) (less d (omega arith)),
-        λ i d lo hi. ap (λ (m : NumberedBid). is_lt (key_cmp (seen_bid (get_or bids i d).bid) (seen_bid m.bid))) (sym (next_at d)) ∙ key_after index i d lo hi,
-      )
-      n n.number next_here.0 (sym next_here.1))
+  itself less = let best = first_is_best f bids order (seen_bid n.bid) index (
+    λ i d lo hi. partitioned f bids order (seen_bid n.bid) i (index - 1) d (omega arith) (omega (arith, next_within)) (less d (omega arith)),
+    λ i d lo hi. search (rules, (next_at d), (key_after index i d lo hi)),
+  ) n n.number next_here.0 (sym next_here.1) in
+      search (rules, (next_at n))
 
   module _ (last : NumberedBid) (best : IsLastBest f bids index last) where
     abbrev before : NumberedBid
@@ -82,55 +68,40 @@ module _ {known : Known} {index : ℕ} {n : NumberedBid} (next : IsNext known in
     key = key_same (seen_bid last.bid) (seen_bid before.bid) (seen_bid n.bid) last_key
 
     not_after : is_lt (key_cmp (seen_bid n.bid) (seen_bid before.bid)) ≡ false
-    not_after =
-        ap (λ (m : NumberedBid). is_lt (key_cmp (seen_bid m.bid) (seen_bid before.bid))) (sym (next_at last)) ∙ key_after (index - 1) index last
-        (omega arith) next_within
+    not_after = search (rules, next_at, key_after, next_within)
 
     same_key : is_eq (key_cmp (seen_bid last.bid) (seen_bid n.bid)) ≡ true → IsBestFor f n.number last.number
     same_key t = search (rules, from_equal, equal_from, next_within, alike_from, next_here)
 
     other_key : is_eq (key_cmp (seen_bid last.bid) (seen_bid n.bid)) ≡ false → IsBestFor f n.number n.number
-    other_key t = itself (λ d some.
-        ap (λ (m : NumberedBid). is_lt (key_cmp (seen_bid m.bid) (seen_bid n.bid))) (get_or_default bids (index - 1) d last (omega (arith, next_within)))
-        ∙ less_from (key_cmp (seen_bid before.bid) (seen_bid n.bid)) (key_cmp (seen_bid n.bid) (seen_bid before.bid))
-        (key_cmp_total.antisymm (seen_bid n.bid) (seen_bid before.bid)) not_after (ap is_eq (sym key) ∙ t))
+    other_key t = let less = less_from _ _ (key_cmp_total.antisymm (seen_bid n.bid) (seen_bid before.bid)) not_after (ap is_eq (sym key) ∙ t) in
+        itself (λ d some. search (rules, (get_or_default bids (index - 1) d last (omega (arith, next_within))), less))
 
     -- the bids of another bidder come later
     none_of_other : (last.bid.dummy ≡ n.bid.dummy → ⊥) → passed_bids f bids n.bid.dummy index ≡ []
     none_of_other differ = filter_none (is_best_of f n.bid.dummy) (take index bids) last (λ i l.
         let long = length-take-le index bids (omega (arith, next_within)) in
-        let there = get_or-take index bids i last (omega arith) in
-        let m : NumberedBid = get_or bids i last in
-        ap (is_best_of f n.bid.dummy) there ∙ false_from_ne_true (is_best_of f n.bid.dummy m) (λ t.
         let low = bidders_rise i (index - 1) last (omega arith) (omega (arith, next_within)) in
         let high = bidders_rise (index - 1) index last (omega arith) next_within in
-        let next : bidder_of (get_or bids index last).bid.dummy ≡ bidder_of n.bid.dummy = ap (λ (k : NumberedBid). bidder_of k.bid.dummy) (next_at last) in
-        search (rules, last_key, same_bidder)))
+        search (rules, (get_or-take index bids i last), false_from_ne_true, next_at, last_key, same_bidder))
 
   -- ---- after the next bid
 
   abbrev pub best_then : NumberedBid → Type 0
   best_then b = IsBestFor f n.number b.number × (seen_bid b.bid ≡ bid_at f b.number)
 
-  by_key : (last : NumberedBid) → IsLastBest f bids index last → (t : Bool) → is_eq (key_cmp (seen_bid last.bid) (seen_bid n.bid)) ≡ t
-      → best_then (cond t last n)
-  by_key last best true e = (same_key last best e, best.is)
-  by_key last best false e = (other_key last best e, next_here.1)
-
   best_after_is : (o : Option NumberedBid) → IsBestAt f bids index o → best_then (best_after o n)
-  best_after_is None none = (itself (λ d some. absurd (omega arith)), next_here.1)
-  best_after_is (Some last) best = by_key last best (is_eq (key_cmp (seen_bid last.bid) (seen_bid n.bid))) refl
+  best_after_is None none = search (rules, itself, next_here)
+  best_after_is (Some last) best = search (rules, same_key, other_key, next_here)
 
   pub best_is : {walk : Walk} {b : NumberedBid} → IsAt f bids index walk → b ≡ best_after walk.best n → best_then b
   best_is {walk} at e = subst best_then (sym e) (best_after_is walk.best at.best)
 
   last_best : (b : NumberedBid) → best_then b → IsLastBest f bids (index + 1) b
-  last_best b h = let same : get_or bids (index + 1 - 1) b ≡ n = let e : index + 1 - 1 ≡ index = omega arith in ap (λ (k : ℕ). get_or bids k b) e ∙ next_at b in
-      search rules
+  last_best b h = let same : get_or bids (index + 1 - 1) b ≡ n = ap (λ (k : ℕ). get_or bids k b) (omega arith) ∙ next_at b in search rules
 
   none_passed : (o : Option NumberedBid) → IsBestAt f bids index o → (dummy_of o ≡ n.bid.dummy → ⊥) → passed_bids f bids n.bid.dummy index ≡ []
-  none_passed None none differ = ap (λ (k : ℕ). passed_bids f bids n.bid.dummy k) none
-  none_passed (Some last) best differ = none_of_other last best differ
+  none_passed o at differ = search (rules, none_of_other)
 
   pub turned : {walk after : Walk} → IsAt f bids index walk
       → (dummy_of walk.best ≡ n.bid.dummy → (after.passed ≡ walk.passed) × (after.points.items ≡ walk.points.items))
@@ -140,11 +111,7 @@ module _ {known : Known} {index : ℕ} {n : NumberedBid} (next : IsNext known in
   -- ---- a bid that is not a best bid with a price above 0
 
   skipped : {walk : Walk} → is_best_of f n.bid.dummy n ≡ false → HasPassed f bids n.bid.dummy index walk → HasPassed f bids n.bid.dummy (index + 1) walk
-  skipped t h = let same : passed_bids f bids n.bid.dummy (index + 1) ≡ passed_bids f bids n.bid.dummy index =
-      filter_more (is_best_of f n.bid.dummy) bids index n next_within
-      ∙ ap (λ (m : NumberedBid). passed_bids f bids n.bid.dummy index ++ cond (is_best_of f n.bid.dummy m) (m ∷ []) []) (next_at n)
-      ∙ ap (λ (b : Bool). passed_bids f bids n.bid.dummy index ++ cond b (n ∷ []) []) t ∙ append-nil (passed_bids f bids n.bid.dummy index) in
-      search rules
+  skipped t h = let more = filter_more (is_best_of f n.bid.dummy) bids index n next_within in search (rules, more, (next_at n), t, append-nil)
 
   pub passed_zero : {walk : Walk} → n.bid.price ≡ 0 → HasPassed f bids n.bid.dummy index walk → HasPassed f bids n.bid.dummy (index + 1) walk
   passed_zero none h = skipped (search (rules, false_from_ne_true, and_parts, ltb-true)) h
