@@ -1,7 +1,6 @@
 -- The canonical auction, and the file of an auction. Of the OR bidder and of each XOR bidder the points stay, the bids
 -- that the values alone determine; XOR bidders of value zero are dropped, and the others are in the order of their
--- lists of
--- bids, equal ones beside one another.
+-- lists of bids, equal ones beside one another.
 use Rattle.std.specs.Prelude.{◌≡◌, ℕ, ◌+◌, List, [], ◌∷◌, ◌++◌, map, filter, length, Option, Some, None}
 use Rattle.bid_file.specs.Files.{PlainBid, PlainFile}
 use Rattle.cats_text.specs.Layout.{layout}

@@ -1,7 +1,6 @@
 -- The first difference of two auctions. The number of goods comes first, then the OR values on the bundles in order,
--- and then
--- the XOR bidders, each as its points, in order. Values are those of Nisan ("Bidding and allocation in combinatorial
--- auctions", 2000).
+-- and then the XOR bidders, each as its points, in order. Values are those of Nisan ("Bidding and allocation in
+-- combinatorial auctions", 2000).
 use Rattle.std.specs.Prelude.{ℕ, not, ◌==◌, if◌then◌else◌, Option, Some, None, List, ◌++◌}
 use Rattle.std.specs.List.{find}
 use Rattle.goods_set.specs.Bundles.{all_bundles}

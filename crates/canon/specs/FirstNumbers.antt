@@ -1,7 +1,6 @@
 -- The first file of each auction, among added files. What is said of files and their texts is said of any texts of
--- files, and
--- of any relation between files: files have one canonical text if they are the same auction, and one unsearched text if
--- they are alike.
+-- files, and of any relation between files: files have one canonical text if they are the same auction, and one
+-- unsearched text if they are alike.
 use Rattle.std.specs.Map.{lookup}
 use Rattle.std.specs.Prelude.{◌≡◌, ◌⊎◌, ℕ, ◌+◌, ◌<◌, List, [], length, position, Option, Some, None, slice_get}
 use Rattle.std.specs.Prelude.{bytes_eq, cond, unwrap_or}

@@ -1,7 +1,6 @@
--- What can be said of a file without any search. Its XOR bidders are canonical. Of the OR bidder the bids stay of which
--- no
--- bid inside their bundle has the price, which are the points of these bids as XOR bids; OR values depend on them
--- alone.
+-- What can be said of a file without any search. Its XOR bidders are canonical. Of the OR bidder those bids stay that
+-- no other bid replaces, by a bundle inside theirs and at least their price: the points of these bids as XOR bids. OR
+-- values depend on them alone.
 use Rattle.std.specs.Prelude.{◌≡◌, ℕ, List}
 use Rattle.bid_file.specs.Files.{PlainFile}
 use Rattle.cats_text.specs.Layout.{layout}

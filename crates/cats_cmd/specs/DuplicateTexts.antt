@@ -1,6 +1,5 @@
 -- What `cats duplicates` prints. Of the files that were judged, it has those that are not the only one of their
--- auction, or
--- all. Of those that a step limit refused, it has those that are alike to another one.
+-- auction, or all. Of those that a step limit refused, it has those that are alike to another one.
 use Rattle.std.specs.Prelude.{ℕ, ◌==◌, nat_lt, if◌then◌else◌, Bool, false, List, [], ◌∷◌, ◌++◌, length, map, filter}
 use Rattle.std.specs.Prelude.{Vec}
 use Rattle.std.specs.Borrow.{Bor}

@@ -50,8 +50,7 @@ pub record FindsNumbers (Related : PlainFile → PlainFile → Type 0) (paths : 
   pub numbers : AllZip (λ p file. IsFirstNumber Related files file p.1) found files
 
 -- The text is that of the groups of paths whose files are one auction: of the files that were judged, and of those that
--- a
--- step limit refused, as far as that is known without any search, as the files are alike.
+-- a step limit refused, as far as that is known without any search, as the files are alike.
 pub record MakesGroups (ending : Ending) (all : Bool) (judgements : List (List ℕ × Judgement)) (text : List ℕ)
     : Type 0 where
   pub judged : List (List ℕ × ℕ)

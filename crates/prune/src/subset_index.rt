@@ -206,8 +206,7 @@ impl SubsetIndex {
     }
 
     /// Lists the first kept atom that is not listed. An index past the numbers of 4 bytes is refused as memory is; a file
-    /// has far
-    /// fewer bids.
+    /// has far fewer bids.
     fn list_next<S: GoodsSet>(&mut self, kept: &[Atom<S>]) -> Result<(), AllocError>
         requires next { count_listed self.old < length kept.now }
         requires index { IsIndexOf (atoms_of S.goods kept.now) self.old }
