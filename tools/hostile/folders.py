@@ -1,7 +1,7 @@
 """Runs the commands on many files where memory, reads, writes and opening fail, and judges each answer: such a run reports the file
 and continues with the others. Also lists of paths, folders, names that are escaped, and files that the step limit refuses.
 
-    folders.py PROGRAM CALLS GENERATED LARGE
+    folders.py PROGRAM CALLS GENERATED LARGE [full]
 
 The words are those of runs.py. Prints what is wrong and 'N runs, M wrong'; the status is 0 where M is 0, and else 1.
 """

@@ -1,6 +1,6 @@
 """Compares each command with --round and with --round-exact with the same command on what `cats round` prints.
 
-    rounded.py PROGRAM GENERATE
+    rounded.py PROGRAM GENERATE [full]
 
 The commands on one file read texts of many forms, most of which have prices with exponents or finer places, and some of which are refused. Those
 on two files read pairs of these. `duplicates` and `sizes` read 300 files of tools/generate --kind with prices as `%g` prints them, some of which
@@ -20,7 +20,7 @@ from functools import lru_cache
 
 from commands import LINES
 from rounding import MIXED, OTHER_TEXTS, PLAIN, RETURNS, ROWS, Answer, judge, latin, price_of, run, text_of
-from tally import KINDS, TALLY
+from tally import KINDS, TALLY, some_of
 
 GENERATE = sys.argv[2]
 
@@ -84,7 +84,7 @@ def texts():
 
 
 def check_texts(some):
-    calls = [(command, flags, text) for command in ON_FILE for flags in FLAGS for text in some]
+    calls = some_of((command, flags, text) for command in ON_FILE for flags in FLAGS for text in some)
     with ThreadPoolExecutor(os.cpu_count()) as pool:
         list(pool.map(lambda call: judge_text(*call), calls))
 
@@ -132,7 +132,7 @@ def pairs(some):
 
 def check_pairs(folder, some):
     with ThreadPoolExecutor(os.cpu_count()) as pool:
-        list(pool.map(lambda it: judge_pair(folder, *it), enumerate(pairs(some))))
+        list(pool.map(lambda it: judge_pair(folder, *it), some_of(enumerate(pairs(some)))))
 
 
 # ---- many files

@@ -1,6 +1,6 @@
 """Compares the built program's `cats round` with Python's `decimal`.
 
-    rounding.py PROGRAM
+    rounding.py PROGRAM [full]
 
 Prints what is wrong and 'N runs, M wrong'; the status is 0 if M is 0, and else 1. The words and texts are random, and the same each
 time. What a text should become is known as it is made: it is put together of lines, and each bid line has its price in one place.
@@ -15,7 +15,7 @@ from concurrent.futures import ThreadPoolExecutor
 from decimal import Decimal
 from typing import NamedTuple
 
-from tally import TALLY
+from tally import TALLY, some_of
 
 PROGRAM = sys.argv[1]
 SECONDS = 120
@@ -396,7 +396,7 @@ def main():
     check_forms()
     check_long_words()
     choose = random.Random(4)
-    words = [random_word(choose) for _ in range(RANDOM_WORDS)] + [aimed_word(choose) for _ in range(AIMED_WORDS)]
+    words = some_of([*(random_word(choose) for _ in range(RANDOM_WORDS)), *(aimed_word(choose) for _ in range(AIMED_WORDS))])
     for exact, form in ((False, MIXED), (True, PLAIN)):
         many_words(words, exact, form, 5)
     return TALLY.status()

@@ -1,6 +1,6 @@
 """Runs the built program where memory, reads, writes and opening fail, and judges each answer.
 
-    runs.py PROGRAM CALLS GENERATED LARGE
+    runs.py PROGRAM CALLS GENERATED LARGE [full]
 
 CALLS is the library made of calls.c. GENERATED and LARGE are bid files, the first of some hundred bids, the second of so many
 that its texts do not fit into a pipe. Prints what is wrong and 'N runs, M wrong'; the status is 0 where M is 0, and else 1.
@@ -20,7 +20,7 @@ from typing import NamedTuple
 from commands import NAMES
 from tally import TALLY
 
-PROGRAM, CALLS, GENERATED, LARGE = sys.argv[1:]
+PROGRAM, CALLS, GENERATED, LARGE = sys.argv[1:5]
 SECONDS = 60
 
 DIFFERENT, FILE_REFUSED, NO_MEMORY, DEVICE_FAILED = 1, 2, 4, 5

@@ -1,4 +1,6 @@
-"""How many runs a script of this folder made, and what was wrong; and the kinds of files that tools/generate makes."""
+"""How many runs a script of this folder made, and what was wrong; how much it tries; and the kinds of files that tools/generate makes."""
+import random
+import sys
 import threading
 
 KINDS = ("l1", "l2", "l3", "l4", "l5", "l6", "l7", "arbitrary", "regions", "paths", "matching", "scheduling")
@@ -29,3 +31,13 @@ class Tally:
 
 
 TALLY = Tally()
+
+# A script that is given this word tries all, as before a release; without it, as in the gate, a tenth of what repeats.
+FULL = "full" in sys.argv
+
+
+def some_of(them):
+    """All of these, or a tenth: the same ones each time, in their order."""
+    them = list(them)
+    chosen = random.Random(len(them)).sample(range(len(them)), -(-len(them) // 10))
+    return them if FULL else [them[at] for at in sorted(chosen)]
