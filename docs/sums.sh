@@ -10,14 +10,9 @@ set -f
 newline='
 '
 
-# PATH: prints it as `cats duplicates` does. If it has other characters than these, the row of `cats sizes` has it so, of a file below it whose
-# name is too long to be there.
-escape() {
-    case $1 in
-        *[!A-Za-z0-9" "+,./:=@_-]*) ;;
-        *) printf '%s\n' "$1"; return ;;
-    esac
-    printf '%s/%0256d\0' "$1" 0 | cats sizes --files0-from /dev/stdin |
+# Prints the path as `cats duplicates` does: so `cats sizes` has it in the row of a file below it, whose name is too long to be there.
+print_escaped() {
+    printf '%s/%0256d\0' "$path" 0 | cats sizes --files0-from /dev/stdin |
         awk -F '\t' 'NR == 2 { sub("/0*$", "", $10); print $10; found = 1 } END { exit !found }'
 }
 
@@ -31,7 +26,10 @@ print_sum() {
 
 exec 3>&1
 for path; do
-    shown=$(escape "$path") || exit 1
+    shown=$path
+    case $path in
+        *[!A-Za-z0-9" "+,./:=@_-]*) shown=$(print_escaped) || exit 1 ;;
+    esac
     said=$(print_sum 2>&1 >&3)
     status=$?
     case $status:$said in
