@@ -120,7 +120,9 @@ def tables():
 
 def kinds(texts):
     """The reasons and the kinds of difference that the tables have."""
-    return {row.split("\t")[at] for at, name in ((4, "explain"), (0, "diff")) for table, text in texts if table.startswith(name) for row in text.splitlines()[1:]}
+    columns = {"explain": 4, "diff": 0}
+    rows = [(name.split()[0], line.split("\t")) for name, text in texts for line in text.splitlines()[1:]]
+    return {row[columns[name]] for name, row in rows if name in columns}
 
 
 def main():
