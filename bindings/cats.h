@@ -27,9 +27,9 @@
 
 // The version of this header, as a number too.
 #define CATS_VERSION_MAJOR 0
-#define CATS_VERSION_MINOR 1
+#define CATS_VERSION_MINOR 2
 #define CATS_VERSION_PATCH 0
-#define CATS_VERSION "0.1.0"
+#define CATS_VERSION "0.2.0"
 #define CATS_VERSION_NUMBER (10000 * CATS_VERSION_MAJOR + 100 * CATS_VERSION_MINOR + CATS_VERSION_PATCH)
 
 #ifdef __cplusplus

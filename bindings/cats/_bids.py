@@ -5,6 +5,8 @@ from decimal import Decimal
 from operator import index
 from typing import Iterable, List, NamedTuple, Optional, Tuple, Union
 
+from cats.errors import LONG, LONG_DIGITS, shown
+
 
 class Bid(NamedTuple):
     """A bid of a file: its number, its price, its real goods, rising, and the number of its dummy good in the file, or None."""
@@ -20,6 +22,10 @@ BidLike = Tuple[int, Union[Decimal, int], Iterable[int], Optional[int]]
 
 # The lines before those of the bids: goods, bids, dummy.
 HEADER_LINES = 3
+
+def plain(number: int) -> int:
+    """The value of a number as a plain int, whatever its class says of it."""
+    return int.__index__(index(number))
 
 
 # ---- reading: only of texts that the library has accepted, so no rule of the format is tested here
@@ -63,31 +69,44 @@ def bid_of(line: bytes, goods: int) -> Bid:
 
 def text_of(goods: int, bids: Iterable[BidLike]) -> bytes:
     """A text with a line for each bid, in this order, behind those of the header."""
-    dummies, lines = 0, []
+    goods, dummies, lines = plain(goods), 0, []
     for number, price, bundle, dummy in bids:
-        words = [str(index(number)), price_word(number, price), *good_words(number, bundle, goods)]
+        number = plain(number)
+        words = [word_of(number), price_word(number, price), *good_words(number, bundle, goods)]
         if dummy is not None:
+            dummy = plain(dummy)
             if dummy < goods:
-                raise ValueError(f"bid {number}: {dummy} is no dummy good, as these begin at {goods}, the number of goods")
+                raise ValueError(f"bid {shown(number)}: {shown(dummy)} is no dummy good, as these begin at {shown(goods)}, the number of goods")
             dummies = max(dummies, dummy + 1 - goods)
-            words.append(str(index(dummy)))
+            words.append(word_of(dummy))
         lines.append("\t".join([*words, "#\n"]))
-    return f"goods {index(goods)}\nbids {len(lines)}\ndummy {dummies}\n{''.join(lines)}".encode("ascii")
+    return f"goods {word_of(goods)}\nbids {len(lines)}\ndummy {word_of(dummies)}\n{''.join(lines)}".encode("ascii")
+
+
+def word_of(number: int) -> str:
+    """A number as it is written. In the place of one that is too long for any file is a shorter one, which the library refuses alike."""
+    return str(max(-LONG, min(number, LONG)))
 
 
 def price_word(number: int, price: Union[Decimal, int]) -> str:
-    """The exact price without an exponent."""
-    if isinstance(price, Decimal):
-        return format(price, "f")
-    try:
-        return str(index(price))
-    except TypeError:
-        raise TypeError(f"bid {number}: a price is a decimal.Decimal or an int, and not a {type(price).__name__}") from None
+    """The exact price without an exponent. In the place of one that begins too far from the point for any file is one that begins nearer to it,
+    which the library refuses alike. That of zero says nothing."""
+    if not isinstance(price, Decimal):
+        try:
+            return word_of(plain(price))
+        except TypeError:
+            raise TypeError(f"bid {shown(number)}: a price is a decimal.Decimal or an int, and not a {type(price).__name__}") from None
+    price = Decimal(price)
+    place = price.adjusted()
+    if not -LONG_DIGITS < place < LONG_DIGITS:
+        digit, place = (1, max(-LONG_DIGITS, min(place, LONG_DIGITS))) if price else (0, 0)
+        price = Decimal((int(price.is_signed()), (digit,), place))
+    return format(price, "f")
 
 
 def good_words(number: int, bundle: Iterable[int], goods: int) -> List[str]:
     """The real goods, rising."""
-    rising = sorted(map(index, bundle))
+    rising = sorted(map(plain, bundle))
     if rising and rising[-1] >= goods:
-        raise ValueError(f"bid {number}: the good {rising[-1]} is not below {goods}, the number of goods")
-    return list(map(str, rising))
+        raise ValueError(f"bid {shown(number)}: the good {shown(rising[-1])} is not below {shown(goods)}, the number of goods")
+    return list(map(word_of, rising))

@@ -112,11 +112,11 @@ def find_library() -> ctypes.CDLL:
     """The library: in the folder of this package, as in a wheel; or beside that folder; or where the system looks."""
     package = os.path.dirname(os.path.abspath(__file__))
     beside = os.path.dirname(package)
-    for path in (os.path.join(package, "libcats.so"), os.path.join(beside, "libcats.so"), os.path.join(beside, "libcats.so.0")):
+    for path in (os.path.join(package, "libcats.so"), os.path.join(beside, "libcats.so"), os.path.join(beside, "libcats.so.1")):
         if os.path.exists(path):
             return load_or_raise(path, path)
     try:
-        return load("libcats.so.0")
+        return load("libcats.so.1")
     except OSError:
         return load_or_raise("libcats.so", f"libcats.so in {package} or {beside}, or where the system looks")
 

@@ -5,12 +5,12 @@ import mmap
 import os
 from ctypes import c_uint16, c_uint32, sizeof
 from functools import partial
-from operator import index
 from typing import Any, Callable, Iterable, List, Literal, Optional, Sequence, Union
 
+from cats._bids import plain
 from cats._library import NO_TOTAL, Prices, Status, call
 from cats._places import place_in, place_in_rounded
-from cats.errors import CatsError, NoSuchBid, NoSuchGood, Place, RefusedText, error_of
+from cats.errors import CatsError, NoSuchBid, NoSuchGood, Place, RefusedText, error_of, shown
 
 # The bytes of a file, or its path.
 TextOrPath = Union[bytes, bytearray, memoryview, mmap.mmap, "os.PathLike[str]", "os.PathLike[bytes]"]
@@ -23,11 +23,12 @@ LIMIT_END = 2**64
 
 
 def bytes_of(text: TextOrPath) -> bytes:
-    """The bytes of a text, or of the file at a path. Those that another thread may change are copied."""
-    if isinstance(text, bytes):
+    """The bytes of a text, or of the file at a path. What is not plain bytes is copied from its buffer: another thread may change that, and a class
+    may say anything of itself, as of its length."""
+    if type(text) is bytes:
         return text
-    if isinstance(text, os.PathLike):
-        with open(text, "rb") as file:
+    if isinstance(text, os.PathLike) and not isinstance(text, bytes):
+        with open(os.fspath(text), "rb") as file:
             return file.read()
     try:
         return bytes(memoryview(text))
@@ -76,7 +77,7 @@ def finder(text: bytes, line: Optional[int], prices: Prices) -> Optional[Callabl
 
 def array_of(kind: Any, lacking: Callable[[int], CatsError], numbers: Iterable[int]) -> List[object]:
     """An array of numbers of this kind, and its length. No file has a number that the kind does not have."""
-    listed = list(map(index, numbers))
+    listed = list(map(plain, numbers))
     for number in listed:
         if not 0 <= number < 2 ** (8 * sizeof(kind)):
             raise lacking(number)
@@ -90,12 +91,12 @@ bids_of = partial(array_of, c_uint32, NoSuchBid)
 
 def limits_of(steps: int, total: Optional[int]) -> List[int]:
     """The limits as the library takes them."""
-    steps = index(steps)
+    steps = plain(steps)
     if not 0 <= steps < LIMIT_END:
-        raise ValueError(f"steps is a number from 0 to 2**64 - 1, and not {steps}")
+        raise ValueError(f"steps is a number from 0 to 2**64 - 1, and not {shown(steps)}")
     if total is None:
         return [steps, NO_TOTAL]
-    total = index(total)
+    total = plain(total)
     if not 1 <= total < LIMIT_END:
-        raise ValueError(f"total is None or a number from 1 to 2**64 - 1, and not {total}")
+        raise ValueError(f"total is None or a number from 1 to 2**64 - 1, and not {shown(total)}")
     return [steps, total]

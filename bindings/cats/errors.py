@@ -11,6 +11,19 @@ HEAVY = re.compile(r"(?:(first|second): )?step limit of (\d+)(?: \((\d+) in all\
 FAULT = re.compile(r"(?:(first|second): )?(?:line (\d+): (\w+)|step limit at ([\d,]*)|(good|bid) (\d+) out of range|(want of memory)|(\w+))\n")
 
 
+# A number of so many digits is in no file. Of a longer one, which Python may refuse to print, less is shown.
+LONG_DIGITS = 40
+LONG = 10**LONG_DIGITS
+
+
+def shown(number: int) -> str:
+    """A number, or a power of 2 that a long one is beyond."""
+    if abs(number) <= LONG:
+        return str(number)
+    power = number.bit_length() - 1
+    return f"2**{power} or more" if number > 0 else f"-2**{power} or less"
+
+
 class Place(NamedTuple):
     """Where a fault is in its line, and what helps: fields of RefusedText."""
 
@@ -112,7 +125,7 @@ class NoSuchGood(CatsError):
     """A bundle has a good that the file does not have: `good`."""
 
     def __init__(self, good: int) -> None:
-        super().__init__(f"good {good} out of range")
+        super().__init__(f"good {shown(good)} out of range")
         self.good = good
         self._words = (good,)
 
@@ -121,7 +134,7 @@ class NoSuchBid(CatsError):
     """A bid was named that the file does not have: `bid`."""
 
     def __init__(self, bid: int) -> None:
-        super().__init__(f"bid {bid} out of range")
+        super().__init__(f"bid {shown(bid)} out of range")
         self.bid = bid
         self._words = (bid,)
 

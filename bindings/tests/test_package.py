@@ -193,7 +193,7 @@ def installed(library, tmp_path):
 def test_the_library_is_found(installed, library, tmp_path):
     system = tmp_path / "system"
     system.mkdir()
-    places = [(system, "libcats.so"), (system, "libcats.so.0"), (installed, "libcats.so.0"), (installed, "libcats.so"), (installed / "cats", "libcats.so")]
+    places = [(system, "libcats.so"), (system, "libcats.so.1"), (installed, "libcats.so.1"), (installed, "libcats.so"), (installed / "cats", "libcats.so")]
     for folder, name in places:
         shutil.copy(library / "libcats.so", folder / name)
         found = run_beside(installed, LD_LIBRARY_PATH=str(system))

@@ -40,12 +40,12 @@ const ROUNDED: u8 = 1;
 const NO_TOTAL: u64 = 0;
 
 /// 10000 * major + 100 * minor + patch: `CATS_VERSION_NUMBER` of the cats.h of this library.
-const VERSION: u32 = 100;
+const VERSION: u32 = 200;
 
 /// The version of the library.
 #[unsafe(no_mangle)]
 pub extern "C" fn cats_version() -> u32
-    ensures { result ≡ 100 }
+    ensures { result ≡ 200 }
 {
     VERSION
 }
