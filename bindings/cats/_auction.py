@@ -9,7 +9,7 @@ from cats._bids import Bid, BidLike, bid_lines, bid_of, text_of
 from cats._calls import check, compare, diff, explain, lp, normalise, revenue, sizes, value
 from cats._library import STEPS, Prices
 from cats._tables import Allocation, Difference, Reason, Rows, SizesRow, Value
-from cats._texts import Rounding, TextOrPath, bytes_of, prices_of, rounded
+from cats._texts import Rounding, TextOrPath, bytes_of, path_of, prices_of, rounded
 
 A = TypeVar("A", bound="Auction")
 
@@ -97,7 +97,7 @@ class Auction:
 
     def write(self, path: Union[str, os.PathLike[str], os.PathLike[bytes]]) -> None:
         """Writes the text to a file."""
-        with open(path, "wb") as file:
+        with open(path_of(path), "wb") as file:
             file.write(self._text)
 
     def __reduce__(self) -> Tuple[Type[Auction], Tuple[bytes]]:

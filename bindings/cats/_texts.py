@@ -28,13 +28,19 @@ def bytes_of(text: TextOrPath) -> bytes:
     if type(text) is bytes:
         return text
     if isinstance(text, os.PathLike) and not isinstance(text, bytes):
-        with open(os.fspath(text), "rb") as file:
+        with open(path_of(text), "rb") as file:
             return file.read()
     try:
         return bytes(memoryview(text))
     except TypeError:
         kind = type(text).__name__
         raise TypeError(f"a text is bytes or an os.PathLike, and no {kind}: pathlib.Path(name) is a path, and text.encode() a text") from None
+
+
+def path_of(path: Union[str, "os.PathLike[str]", "os.PathLike[bytes]"]) -> Union[str, bytes]:
+    """A path as plain str or bytes: `open` takes what says that it is a number for an open file."""
+    found = os.fspath(path)
+    return str.__str__(found) if isinstance(found, str) else bytes(memoryview(found))
 
 
 def prices_of(round: Rounding) -> Prices:
