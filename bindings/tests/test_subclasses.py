@@ -12,11 +12,11 @@ from texts import BIDS
 
 import cats
 
-# What an object of such a class answers. A buffer is not asked before Python 3.12, and is what a text is made of.
+# What an object of such a class answers.
 SAID = {
     "__bool__": False, "__bytes__": b"no file", "__complex__": 1j, "__contains__": True, "__ceil__": 1, "__float__": 1.5, "__floor__": 1, "__format__": "9",
     "__hash__": 0, "__index__": 1, "__int__": 1, "__len__": 1 << 24, "__length_hint__": 1 << 24, "__repr__": "9", "__round__": 1, "__str__": "9", "__trunc__": 1,
-    "__sizeof__": 1, "__getitem__": 7, "__buffer__": memoryview(BIDS),
+    "__sizeof__": 1, "__getitem__": 7,
     **dict.fromkeys(["__eq__", "__ne__", "__lt__", "__le__", "__gt__", "__ge__"], True),
     **dict.fromkeys(["__abs__", "__add__", "__and__", "__mod__", "__mul__", "__neg__", "__pos__", "__radd__", "__rmod__", "__rmul__", "__sub__", "__rsub__"], 3),
 }
@@ -30,6 +30,8 @@ def lying(base):
     """A class whose objects have the values of those of another, and of which each method says something else."""
     named = {name: answer(None) for name in dir(base) if not name.startswith("_")}
     said = {name: answer(it) for name, it in SAID.items()}
+    if base not in (int, str, Decimal):  # what a text is made of, from Python 3.12 on
+        said["__buffer__"] = answer(memoryview(BIDS))
     return type(f"Lying_{base.__name__}", (base,), {**named, **said, "__iter__": lambda self: iter(range(9)), "__class__": property(answer(float))})
 
 
