@@ -23,6 +23,7 @@ BidLike = Tuple[int, Union[Decimal, int], Iterable[int], Optional[int]]
 # The lines before those of the bids: goods, bids, dummy.
 HEADER_LINES = 3
 
+
 def plain(number: int) -> int:
     """The value of a number as a plain int, whatever its class says of it."""
     return int.__index__(index(number))

@@ -3,6 +3,7 @@ import copy
 import pathlib
 import pickle
 import random
+import tracemalloc
 from decimal import Decimal
 from functools import partial
 
@@ -145,11 +146,49 @@ def test_from_bids_writes_what_is_given():
     (cats.Bid(0, Decimal(3), (0, 0)), "line 4: RepeatedGood"),
     (cats.Bid(0, Decimal(3), (-1,)), "line 4: NotANumber"),
     (cats.Bid(0, Decimal(3), (0,), 70_000), "line 3: TooLarge"),
+    (cats.Bid(0, 10**13, (0,)), "line 4: TooLarge"),
+    (cats.Bid(0, -1, (0,)), "line 4: NotANumber"),
 ])
 def test_the_library_refuses_wrong_bids(bid, fault):
     with pytest.raises(cats.RefusedText) as refused:
         cats.Auction.from_bids(2, [bid])
     assert str(refused.value) == fault
+
+
+# The place of the first digit of a price that is as wrong as one with a few digits.
+FAR = (20, 38, 39, 40, 41, 5000, 999_999_999)
+
+
+@pytest.mark.parametrize("bid, fault", [
+    *((cats.Bid(0, Decimal(f"{digits}e{place}"), (0,)), "line 4: TooLarge") for place in FAR for digits in ("1", "9.75")),
+    *((cats.Bid(0, Decimal(f"{digits}e-{place}"), (0,)), "line 4: TooFine") for place in FAR for digits in ("1", "9.75")),
+    *((cats.Bid(0, Decimal(f"{digits}e{sign}{place}"), (0,)), "line 4: NotANumber") for place in FAR for digits in ("-1", "-9.75", "-0") for sign in ("", "-")),
+    *((cats.Bid(0, 10**places, (0,)), "line 4: TooLarge") for places in (20, 39, 40, 41, 4300, 5000)),
+    *((cats.Bid(0, -(10**places), (0,)), "line 4: NotANumber") for places in (20, 39, 40, 41, 4300, 5000)),
+    *((cats.Bid(10**places, 1, (0,)), "line 4: BidNumber") for places in (1, 20, 40, 41, 5000)),
+    *((cats.Bid(-(10**places), 1, (0,)), "line 4: NotANumber") for places in (1, 20, 40, 41, 5000)),
+    *((cats.Bid(0, 1, (-(10**places), 0)), "line 4: NotANumber") for places in (1, 20, 40, 41, 5000)),
+    *((cats.Bid(0, 1, (0,), 10**places), "line 3: TooLarge") for places in (20, 40, 41, 5000)),
+])
+def test_long_numbers_are_refused_as_shorter_ones(bid, fault):
+    """And in no more memory than these."""
+    tracemalloc.start()
+    with pytest.raises(cats.RefusedText) as refused:
+        cats.Auction.from_bids(2, [bid])
+    most = tracemalloc.get_traced_memory()[1]
+    tracemalloc.stop()
+    assert str(refused.value) == fault and most < 100_000
+
+
+def test_long_numbers():
+    """A zero of any exponent is one. What the package itself refuses it can print."""
+    zeros = [cats.Bid(number, Decimal(f"0e{place}"), (0,)) for number, place in enumerate((-999_999_999, -41, -7, 0, 41, 999_999_999))]
+    assert cats.Auction.from_bids(1, zeros).text.count(b"\t0\t0\t#\n") >= 4
+    with pytest.raises(cats.RefusedText, match="^line 1: TooLarge$"):
+        cats.Auction.from_bids(10**5000, [])
+    for goods, bid in ((2, cats.Bid(0, 1, (10**5000,))), (10**5000, cats.Bid(-(10**5000), 1, (0,), 5)), (2, cats.Bid(10**5000, 1, (0, 2)))):
+        with pytest.raises(ValueError, match="^bid -?(0|2[*]{2}16609 or (more|less)): .{1,100}, the number of goods$"):
+            cats.Auction.from_bids(goods, [bid])
 
 
 @pytest.mark.parametrize("bid, error", [
