@@ -90,8 +90,8 @@ def word_of(number: int) -> str:
 
 
 def price_word(number: int, price: Union[Decimal, int]) -> str:
-    """The exact price without an exponent. In the place of one that begins too far from the point for any file is one that begins nearer to it,
-    which the library refuses alike. That of zero says nothing."""
+    """The exact price without an exponent. In the place of one that begins too far from the point for any file is one digit nearer to it, which the
+    library judges alike."""
     if not isinstance(price, Decimal):
         try:
             return word_of(plain(price))
@@ -99,9 +99,8 @@ def price_word(number: int, price: Union[Decimal, int]) -> str:
             raise TypeError(f"bid {shown(number)}: a price is a decimal.Decimal or an int, and not a {type(price).__name__}") from None
     price = Decimal(price)
     place = price.adjusted()
-    if not -LONG_DIGITS < place < LONG_DIGITS:
-        digit, place = (1, max(-LONG_DIGITS, min(place, LONG_DIGITS))) if price else (0, 0)
-        price = Decimal((int(price.is_signed()), (digit,), place))
+    if abs(place) > LONG_DIGITS:
+        price = Decimal((int(price.is_signed()), (int(bool(price)),), LONG_DIGITS if place > 0 else -LONG_DIGITS))
     return format(price, "f")
 
 

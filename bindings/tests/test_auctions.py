@@ -161,7 +161,7 @@ FAR = (20, 38, 39, 40, 41, 5000, 999_999_999)
 
 @pytest.mark.parametrize("bid, fault", [
     *((cats.Bid(0, Decimal(f"{digits}e{place}"), (0,)), "line 4: TooLarge") for place in FAR for digits in ("1", "9.75")),
-    *((cats.Bid(0, Decimal(f"{digits}e-{place}"), (0,)), "line 4: TooFine") for place in FAR for digits in ("1", "9.75")),
+    *((cats.Bid(0, Decimal(f"{digits}e-{place}"), (0,)), "line 4: TooFine") for place in FAR for digits in ("0", "1", "9.75")),
     *((cats.Bid(0, Decimal(f"{digits}e{sign}{place}"), (0,)), "line 4: NotANumber") for place in FAR for digits in ("-1", "-9.75", "-0") for sign in ("", "-")),
     *((cats.Bid(0, 10**places, (0,)), "line 4: TooLarge") for places in (20, 39, 40, 41, 4300, 5000)),
     *((cats.Bid(0, -(10**places), (0,)), "line 4: NotANumber") for places in (20, 39, 40, 41, 4300, 5000)),
@@ -181,9 +181,10 @@ def test_long_numbers_are_refused_as_shorter_ones(bid, fault):
 
 
 def test_long_numbers():
-    """A zero of any exponent is one. What the package itself refuses it can print."""
-    zeros = [cats.Bid(number, Decimal(f"0e{place}"), (0,)) for number, place in enumerate((-999_999_999, -41, -7, 0, 41, 999_999_999))]
-    assert cats.Auction.from_bids(1, zeros).text.count(b"\t0\t0\t#\n") >= 4
+    """A zero with an exponent is zero. What the package itself refuses it can print."""
+    zeros = [cats.Bid(number, Decimal(f"0e{place}"), (0,)) for number, place in enumerate((0, *FAR))]
+    made = cats.Auction.from_bids(1, zeros)
+    assert len(made.text) < 1000 and [bid.price for bid in made.bids] == [0] * len(zeros)
     with pytest.raises(cats.RefusedText, match="^line 1: TooLarge$"):
         cats.Auction.from_bids(10**5000, [])
     for goods, bid in ((2, cats.Bid(0, 1, (10**5000,))), (10**5000, cats.Bid(-(10**5000), 1, (0,), 5)), (2, cats.Bid(10**5000, 1, (0, 2)))):
