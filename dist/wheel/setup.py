@@ -1,4 +1,6 @@
-"""What pyproject.toml cannot say of the wheel: it has compiled code for any Python 3, and its script is a program."""
+"""What pyproject.toml cannot say of the wheel: it has compiled code for any Python 3, its script is a program, and PROOF is with what it says of
+itself."""
+import shutil
 from distutils.command.build_scripts import build_scripts
 
 from setuptools import Distribution, setup
@@ -17,6 +19,10 @@ class Wheel(bdist_wheel):
 
     def get_tag(self):
         return "py3", "none", self.plat_name
+
+    def egg2dist(self, egginfo_path, distinfo_path):
+        super().egg2dist(egginfo_path, distinfo_path)
+        shutil.copy("PROOF", distinfo_path)
 
 
 class Scripts(build_scripts):
