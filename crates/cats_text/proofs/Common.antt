@@ -12,7 +12,7 @@ pub use Rattle.cats_text.specs.FileLines.{bid_of, put_slot, filled, before_end, 
 pub use Rattle.cats_text.specs.Grammar.{Spells, line_number, SpellsBid, AreDistinct, SpellsNumber, significant_words, SpellsPrice}
 pub use Rattle.cats_text.specs.Internal.Kept.{whole, is_some_bid, number_alone, slot_at, arrived, AreWithin, IsPadded, slot_list, with_goods}
 pub use Rattle.cats_text.specs.Internal.Keywords.{keyword_text, place_value_of}
-pub use Rattle.cats_text.specs.Internal.LeadingToken.{IsLeadingToken, IsNumberSoFar, IsPlain, IsKept, ends_word}
+pub use Rattle.cats_text.specs.Internal.LeadingToken.{IsLeadingToken, IsNumberSoFar, IsPlain, IsLetter, IsKept, ends_word}
 pub use Rattle.cats_text.specs.Internal.Machine.{summary, word_from, word_with, decimal_with}
 pub use Rattle.cats_text.specs.Internal.Marks.{IsMarked, IsListed}
 pub use Rattle.cats_text.specs.Internal.Parsing.{Reading, word_read, line_read, is_due, number_read, price_read, price_parts, with_price, good_or_end_read}

@@ -1,8 +1,9 @@
 //! The leading token of bytes, if it is whole.
 
 ghost use Rattle.std.specs.Prelude.{◌≡◌, ◌≤◌, true, fold, length, take, IfSome};
+ghost use Rattle.std.specs.List.{AllByRecursion};
 ghost use Rattle.std.specs.Bool.{OnTrue};
-ghost use Rattle.cats_text.specs.Internal.LeadingToken.{IsLeadingToken, IsKept, IsNumberSoFar};
+ghost use Rattle.cats_text.specs.Internal.LeadingToken.{IsLeadingToken, IsKept, IsLetter, IsNumberSoFar};
 ghost use Rattle.cats_text.specs.Internal.Machine.{word_with};
 ghost use Rattle.cats_text.specs.Numbers.{digits_alone};
 
@@ -12,7 +13,7 @@ use crate::word::{Word, with_digit};
 use core::dec2flt::read_digits;
 
 /// A number with the digits that are at the start, and how many they are.
-pub fn with_digits(value: u64, bytes: &[u8]) -> (u64, usize)
+fn with_digits(value: u64, bytes: &[u8]) -> (u64, usize)
     ensures bound { result.1 ≤ length bytes.now }
     ensures digits { digits_alone (take result.1 bytes.now) ≡ true }
     ensures value { Word.Number result.0 ≡ fold word_with (Word.Number value) (take result.1 bytes.now) }
@@ -68,6 +69,39 @@ fn with_places(decimal: Decimal, bytes: &[u8]) -> (Decimal, usize)
         }
     }
     (decimal, bytes.len())
+}
+
+/// How many bytes at the start are neither blanks nor CR or LF.
+fn letters(bytes: &[u8]) -> usize
+    ensures bound { result ≤ length bytes.now }
+    ensures letters { AllByRecursion IsLetter (take result bytes.now) }
+{
+    for (count, byte) in bytes.iter().enumerate() {
+        if matches!(*byte, b' ' | b'\t' | b'\n' | b'\r') {
+            return count;
+        }
+    }
+    bytes.len()
+}
+
+/// A word with bytes at the start that continue it, and how many they are. Of a keyword and `#` it takes none.
+pub fn with_letters(word: Word, bytes: &[u8]) -> (Word, usize)
+    ensures bound { result.1 ≤ length bytes.now }
+    ensures letters { AllByRecursion IsLetter (take result.1 bytes.now) }
+    ensures word { result.0 ≡ fold word_with word (take result.1 bytes.now) }
+{
+    match word {
+        Word::Number(value) => {
+            let (value, count) = with_digits(value, bytes);
+            (Word::Number(value), count)
+        }
+        Word::Decimal(decimal) => {
+            let (decimal, count) = with_places(decimal, bytes);
+            (Word::Decimal(decimal), count)
+        }
+        Word::Other => (word, letters(bytes)),
+        Word::Keyword(..) | Word::End => (word, 0),
+    }
 }
 
 /// The digits at the start, with a point and more digits or without, or `#`, and how many bytes it has.

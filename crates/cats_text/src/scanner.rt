@@ -1,7 +1,9 @@
 //! The scanner: from bytes to words and line ends.
 
-ghost use Rattle.std.specs.Prelude.{◌≡◌, ◌+◌, ◌-◌, ◌<◌, ◌≤◌, ◌^◌, ◌==◌, true, position, length, false, OnOk, IfOk, ℕ, List};
-ghost use Rattle.cats_text.specs.Internal.LeadingToken.{IsLeadingToken};
+ghost use Rattle.std.specs.Prelude.{◌≡◌, ◌+◌, ◌-◌, ◌<◌, ◌≤◌, ◌^◌, ◌==◌, true, false, position, length, take, OnOk, IfOk};
+ghost use Rattle.std.specs.Prelude.{ℕ, List};
+ghost use Rattle.std.specs.List.{list_any};
+ghost use Rattle.cats_text.specs.Internal.LeadingToken.{IsLeadingToken, ends_word};
 ghost use Rattle.cats_text.specs.Internal.Returns.{settled, waits, carried, return_byte};
 ghost use Rattle.cats_text.specs.Internal.Scanning.{
   letter_mode,
@@ -21,7 +23,7 @@ ghost use Rattle.cats_text.specs.Internal.Scanning.{
 };
 
 use crate::keep::Keep;
-use crate::leading_token::{leading_token, with_digits};
+use crate::leading_token::{leading_token, with_letters};
 use crate::parser::{Header, Parser};
 use crate::read_fault::{Kind, ReadFault};
 use crate::word::Word;
@@ -63,11 +65,42 @@ fn carriage_return(next: u8) -> u8
     if next == b'\n' { b' ' } else { b'\r' }
 }
 
+/// Whether a byte is a blank or LF.
+fn ends_word(byte: u8) -> bool
+    ensures { result ≡ ends_word byte }
+{
+    matches!(byte, b' ' | b'\t' | b'\n')
+}
+
+/// So many bytes are searched at once.
+const GROUP: usize = 64;
+
+/// How many bytes the whole groups at the start have that are without LF.
+fn groups_without_line_feed(bytes: &[u8]) -> usize
+    ensures bound { result ≤ length bytes.now }
+    ensures none { list_any (λ b. b == 10) (take result bytes.now) ≡ false }
+{
+    let mut offset = 0;
+    while GROUP <= bytes.len() - offset && !bytes[offset..offset + GROUP].contains(&b'\n') {
+        offset += GROUP;
+    }
+    offset
+}
+
+/// The offset of the first LF, byte by byte.
+fn near_line_feed(bytes: &[u8]) -> Option<usize>
+    ensures { result ≡ position (λ b. b == 10) bytes.now }
+{
+    bytes.iter().position(|byte| *byte == b'\n')
+}
+
 /// The offset of the first LF.
 pub fn line_feed(bytes: &[u8]) -> Option<usize>
     ensures { result ≡ position (λ b. b == 10) bytes.now }
 {
-    bytes.iter().position(|byte| *byte == b'\n')
+    let start = groups_without_line_feed(bytes);
+    let place = near_line_feed(&bytes[start..])?;
+    Some(start + place)
 }
 
 /// The text so far. A CR waits until the byte after it says whether a line ends there.
@@ -183,7 +216,42 @@ impl<K: Keep> Scanner<K> {
         Ok(offset)
     }
 
-    /// Continues a comment or a number as far as it reaches, or reads whole words; answers how many bytes these have.
+    /// Takes the blanks and LFs at the start; answers how many they are.
+    fn take_blanks(&mut self, bytes: &[u8]) -> Result<usize, Kind>
+        requires waits { self.old.waiting ≡ false }
+        requires space { self.old.line + length bytes.now < 2 ^ 64 }
+        ensures scanned { ScansTo (state K.keep self.old) (state K.keep self.new) self.new.waiting bytes.now result }
+        ensures line { IfOk result (λ count. self.new.line ≤ self.old.line + count) }
+        ensures most { self.new.line ≤ self.old.line + length bytes.now }
+    {
+        let mut offset = 0;
+        while offset < bytes.len() && ends_word(bytes[offset]) {
+            self.take_byte(bytes[offset])?;
+            offset += 1;
+        }
+        Ok(offset)
+    }
+
+    /// Takes the blanks and LFs at the start, or reads whole words; answers how many bytes these have.
+    fn go_on_behind_word(&mut self, bytes: &[u8]) -> Result<usize, Kind>
+        requires waits { self.old.waiting ≡ false }
+        requires before { is_before_word self.old.mode ≡ true }
+        requires some { 0 < length bytes.now }
+        requires space { self.old.line + length bytes.now < 2 ^ 64 }
+        ensures scanned { ScansTo (state K.keep self.old) (state K.keep self.new) self.new.waiting bytes.now result }
+        ensures line { IfOk result (λ count. self.new.line ≤ self.old.line + count) }
+        ensures most { self.new.line ≤ self.old.line + length bytes.now }
+    {
+        if ends_word(bytes[0]) {
+            return self.take_blanks(bytes);
+        }
+        if self.mode == Mode::Start && self.parser.begins_bid() {
+            return self.read_bid_lines(bytes);
+        }
+        self.read_words(bytes)
+    }
+
+    /// Continues a comment or a word as far as it can, or goes on behind a word; answers how many bytes were read.
     fn go_on(&mut self, bytes: &[u8]) -> Result<usize, Kind>
         requires waits { self.old.waiting ≡ false }
         requires some { 0 < length bytes.now }
@@ -198,14 +266,12 @@ impl<K: Keep> Scanner<K> {
                 self.waiting = count == bytes.len() && bytes[count - 1] == b'\r';
                 Ok(count)
             }
-            Mode::Inside(Word::Number(value)) => {
-                let (value, count) = with_digits(value, bytes);
-                self.mode = Mode::Inside(Word::Number(value));
+            Mode::Inside(word) => {
+                let (word, count) = with_letters(word, bytes);
+                self.mode = Mode::Inside(word);
                 Ok(count)
             }
-            Mode::Start if self.parser.begins_bid() => self.read_bid_lines(bytes),
-            Mode::Start | Mode::Blank | Mode::Between => self.read_words(bytes),
-            Mode::Inside(_) => Ok(0),
+            Mode::Start | Mode::Blank | Mode::Between => self.go_on_behind_word(bytes),
         }
     }
 

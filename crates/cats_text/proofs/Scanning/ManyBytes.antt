@@ -4,7 +4,8 @@ use Rattle.cats_text.proofs.Common.{length, take, get_or, drop, fold, refl, sym,
 use Rattle.cats_text.proofs.Common.{and_from, ltb-false, ne_eqb, eq-eqb, fold_push, take-suc, take-length, AllByRecursion, prefix_len, position_or_len}
 use Rattle.cats_text.proofs.Common.{position, take-append-drop, length-drop, length-take, length-prefix_len, unwrap_or, is_blank, settled, waits, return_byte}
 use Rattle.cats_text.proofs.Common.{Progress, State, scan, letter_mode, is_before_word, MeetsBidLine, IsScanned, Mode, Comment, Between, Inside, is_digit}
-use Rattle.cats_text.proofs.Common.{digits_alone, word_from, word_with, decimal_with, summary, IsPlain, IsKept, IsNumberSoFar, Number, Decimal, HELD}
+use Rattle.cats_text.proofs.Common.{digits_alone, word_from, word_with, decimal_with, summary, IsPlain, IsLetter, IsKept, IsNumberSoFar, Number, Other, Decimal}
+use Rattle.cats_text.proofs.Common.{HELD, ends_word, or_parts, eqb-false, list_any, option_map, lt-ltb, ◌||◌, zero, zero-add, take-add, list_any-append}
 use Rattle.cats_text.proofs.Common.{common_steps}
 use Rattle.cats_text.proofs.Words.Places.{digit_bounds}
 use Rattle.cats_text.proofs.Scanning.Rests.{settled-other}
@@ -119,6 +120,29 @@ feed_at bytes = elim (ltb (position_or_len (λ b. eqb b 10) bytes) (length bytes
           min_le_right _ _ _ (length-take (prefix_len (λ b. not (eqb b 10)) bytes) bytes) in omega arith
     ] refl
 
+-- none passes in two parts
+pub none_more : (test : ℕ → Bool) (bytes : List ℕ) (start count : ℕ) → list_any test (take start bytes) ≡ false
+    → list_any test (take count (drop start bytes)) ≡ false → list_any test (take (start + count) bytes) ≡ false
+none_more test bytes start count none more =
+    ap (list_any test) (take-add start count bytes) ∙ list_any-append test (take start bytes) (take count (drop start bytes))
+    ∙ ap (λ t. t || list_any test (take count (drop start bytes))) none ∙ more
+
+none_before : (test : ℕ → Bool) (bytes : List ℕ) (start : ℕ) → start ≤ length bytes → list_any test (take start bytes) ≡ false
+    → position_or_len test bytes ≡ start + position_or_len test (drop start bytes)
+none_before test bytes zero l none = sym (zero-add (position_or_len test bytes))
+none_before test [] (suc start) l none = absurd (omega arith)
+none_before test (b ∷ bs) (suc start) l none =
+    let parts = or_parts (test b) (list_any test (take start bs)) none in
+    let next = none_before test bs start (omega arith) parts.1 in
+    grind (arith, common_steps)
+
+-- the first that passes, behind some that do not
+pub position_behind : (test : ℕ → Bool) (bytes : List ℕ) (start : ℕ) → start ≤ length bytes → list_any test (take start bytes) ≡ false
+    → position test bytes ≡ option_map (λ i. start + i) (position test (drop start bytes))
+position_behind test bytes start l none =
+    let first = none_before test bytes start l none in
+    grind (arith, common_steps, length-drop, lt-ltb, ltb-false)
+
 pub comment_within : (rest : List ℕ) (count : ℕ) → count ≡ unwrap_or (position (λ b. eqb b 10) rest) (length rest) → count ≤ length rest
 comment_within rest count feed = grind (arith, common_steps, feed_at, length-prefix_len, length-take, min_le_right)
 
@@ -148,25 +172,32 @@ comment_scanned s rest count w mode some feed e =
 
 -- ---- the bytes of a word
 
-plain_no_return : (b : ℕ) → IsPlain b → b ≢ 13
-plain_no_return b p e = let low : 32 < b = p.0 in absurd (omega arith)
+letter_parts : (b : ℕ) → IsLetter b → (eqb b 10 ≡ false) × (is_blank b ≡ false) × (b ≢ 13)
+letter_parts b h =
+    let no_return = or_parts (ends_word b) (eqb b 13) h in
+    let no_end = or_parts (is_blank b) (eqb b 10) no_return.0 in
+    (no_end.1, no_end.0, eqb-false b 13 no_return.1)
 
-settled_plain : (prefix back : List ℕ) → AllByRecursion IsPlain prefix → settled (prefix ++ back) ≡ prefix ++ settled back
-settled_plain [] back h = refl
-settled_plain (b ∷ prefix) back h = settled-other b (prefix ++ back) (plain_no_return b h.0) ∙ ap (λ ds. b ∷ ds) (settled_plain prefix back h.1)
+settled_letters : (prefix back : List ℕ) → AllByRecursion IsLetter prefix → settled (prefix ++ back) ≡ prefix ++ settled back
+settled_letters [] back h = refl
+settled_letters (b ∷ prefix) back h = settled-other b (prefix ++ back) (letter_parts b h.0).2 ∙ ap (λ ds. b ∷ ds) (settled_letters prefix back h.1)
 
-waits_plain : (xs : List ℕ) → AllByRecursion IsPlain xs → waits xs ≡ false
-waits_plain [] h = refl
-waits_plain (b ∷ []) h = ne_eqb b 13 (plain_no_return b h.0)
-waits_plain (b ∷ c ∷ xs) h = waits_plain (c ∷ xs) h.1
+waits_letters : (xs : List ℕ) → AllByRecursion IsLetter xs → waits xs ≡ false
+waits_letters [] h = refl
+waits_letters (b ∷ []) h = ne_eqb b 13 (letter_parts b h.0).2
+waits_letters (b ∷ c ∷ xs) h = waits_letters (c ∷ xs) h.1
 
-plain_letter : (b : ℕ) → IsPlain b → (eqb b 10 ≡ false) × (is_blank b ≡ false)
+letters_scan : (w : Word) (n : ℕ) (p : Progress) (ds : List ℕ) → AllByRecursion IsLetter ds
+    → scan (standing (Inside w) n p) ds ≡ Ok (standing (Inside (fold word_with w ds)) n p)
+letters_scan w n p [] h = refl
+letters_scan w n p (b ∷ ds) h = grind (arith, common_steps, byte_letter, letter_parts, standing, (letters_scan (word_with w b) n p ds h.1))
+
+plain_letter : (b : ℕ) → IsPlain b → IsLetter b
 plain_letter b p = grind (arith, common_steps, ne_eqb)
 
-plain_scan : (w : Word) (n : ℕ) (p : Progress) (ds : List ℕ) → AllByRecursion IsPlain ds
-    → scan (standing (Inside w) n p) ds ≡ Ok (standing (Inside (fold word_with w ds)) n p)
-plain_scan w n p [] h = refl
-plain_scan w n p (b ∷ ds) h = grind (arith, common_steps, byte_letter, plain_letter, standing, (plain_scan (word_with w b) n p ds h.1))
+plain_letters : (ds : List ℕ) → AllByRecursion IsPlain ds → AllByRecursion IsLetter ds
+plain_letters [] h = tt
+plain_letters (b ∷ ds) h = (plain_letter b h.0, plain_letters ds h.1)
 
 plain_begins : (m : Mode) (b : ℕ) → is_before_word m ≡ true → IsPlain b → letter_mode m b ≡ Inside (word_from b)
 plain_begins Comment b e h = cc
@@ -177,14 +208,37 @@ plain_begins _ b e h = ap (λ t. cond t Comment (Inside (word_from b))) h.1
 word_scan : (m : Mode) (n : ℕ) (p : Progress) (ds : List ℕ) → is_before_word m ≡ true → 0 < length ds → AllByRecursion IsPlain ds
     → scan (standing m n p) ds ≡ Ok (standing (Inside (summary ds)) n p)
 word_scan m n p [] before l h = absurd (let no : 0 < 0 = l in omega arith)
-word_scan m n p (b ∷ ds) before l h = grind (arith, common_steps, byte_letter, plain_begins, plain_letter, plain_scan, standing)
+word_scan m n p (b ∷ ds) before l h = grind (arith, common_steps, byte_letter, letter_parts, letters_scan, plain_begins, plain_letter, plain_letters, standing)
 
 -- bytes of a word at the start, which lead from one state to another
-plain_scanned : (s t : State) (rest : List ℕ) (count : ℕ) (w : Bool) → AllByRecursion IsPlain (take count rest) → scan s (take count rest) ≡ Ok t → w ≡ false
-    → IsScanned s t w rest (drop count rest)
-plain_scanned s t rest count w plain ran e =
+letters_scanned : (s t : State) (rest : List ℕ) (count : ℕ) (w : Bool) → AllByRecursion IsLetter (take count rest) → scan s (take count rest) ≡ Ok t
+    → w ≡ false → IsScanned s t w rest (drop count rest)
+letters_scanned s t rest count w all ran e =
     let parts : take count rest ++ drop count rest ≡ rest = take-append-drop count rest in
-    search (rules, settled_plain, scan-append, meets_behind, waits_behind, append-nil, waits_plain)
+    search (rules, settled_letters, scan-append, meets_behind, waits_behind, append-nil, waits_letters)
+
+-- one more
+pub letters_more : (bytes : List ℕ) (i : ℕ) → i < length bytes → IsLetter (get_or bytes i 0) → AllByRecursion IsLetter (take i bytes)
+    → AllByRecursion IsLetter (take (i + 1) bytes)
+letters_more bytes i l one so = rw (take_push bytes i l) (push (take i bytes) so)
+  where
+    push : (ds : List ℕ) → AllByRecursion IsLetter ds → AllByRecursion IsLetter (ds ++ get_or bytes i 0 ∷ [])
+    push [] h = (one, tt)
+    push (d ∷ ds) h = (h.0, push ds h.1)
+
+-- a word goes on with these bytes
+pub word_goes_on : (s : State) (first word : Word) (rest : List ℕ) (count : ℕ) (w : Bool) → s.mode ≡ Inside first → AllByRecursion IsLetter (take count rest)
+    → word ≡ fold word_with first (take count rest) → w ≡ false → IsScanned s (record s { mode = Inside word }) w rest (drop count rest)
+word_goes_on s first word rest count w mode all value e =
+    let is : s ≡ standing (Inside first) s.line s.progress = ap (λ (m : Mode). standing m s.line s.progress) mode in
+    letters_scanned s (record s { mode = Inside word }) rest count w all
+    (ap (λ t. scan t (take count rest)) is ∙ letters_scan first s.line s.progress (take count rest) all
+    ∙ ap (λ k. Ok (standing (Inside k) s.line s.progress)) (sym value)) e
+
+-- nothing makes such a word one of the grammar
+pub others_stay : (ds : List ℕ) → Other ≡ fold word_with Other ds
+others_stay [] = refl
+others_stay (b ∷ ds) = others_stay ds
 
 -- ---- the digits of a number
 
@@ -195,15 +249,8 @@ pub digits_plain : (ds : List ℕ) → digits_alone ds ≡ true → AllByRecursi
 digits_plain [] h = tt
 digits_plain (b ∷ ds) h = let p = and_parts (is_digit b) (digits_alone ds) h in (digit_plain b p.0, digits_plain ds p.1)
 
--- the rest of a number's digits in these bytes
-pub number_scanned : (s : State) (first sum : ℕ) (rest : List ℕ) (count : ℕ) (w : Bool) → s.mode ≡ Inside (Number first) → digits_alone (take count rest) ≡ true
-    → Number sum ≡ fold word_with (Number first) (take count rest) → w ≡ false → IsScanned s (record s { mode = Inside (Number sum) }) w rest (drop count rest)
-number_scanned s first sum rest count w mode digits value e =
-    let is : s ≡ standing (Inside (Number first)) s.line s.progress = ap (λ (m : Mode). standing m s.line s.progress) mode in
-    let plain : AllByRecursion IsPlain (take count rest) = digits_plain (take count rest) digits in
-    plain_scanned s (record s { mode = Inside (Number sum) }) rest count w plain
-    (ap (λ t. scan t (take count rest)) is ∙ plain_scan (Number first) s.line s.progress (take count rest) plain
-    ∙ ap (λ k. Ok (standing (Inside k) s.line s.progress)) (sym value)) e
+pub digits_letters : (ds : List ℕ) → digits_alone ds ≡ true → AllByRecursion IsLetter ds
+digits_letters ds h = plain_letters ds (digits_plain ds h)
 
 -- ---- a whole word
 
@@ -214,7 +261,7 @@ word_scanned s rest kept count w before is e =
     let some : 0 < count = is.some in
     let within : count ≤ length rest = is.within in
     let long : length (take count rest) ≡ min count (length rest) = length-take count rest in
-    plain_scanned s (record s { mode = Inside kept }) rest count w is.plain
+    letters_scanned s (record s { mode = Inside kept }) rest count w (plain_letters (take count rest) is.plain)
     (word_scan s.mode s.line s.progress (take count rest) before (omega arith) is.plain ∙ ap (λ k. Ok (standing (Inside k) s.line s.progress)) (sym is.word)) e
 
 -- ---- from a place on

@@ -37,7 +37,7 @@ blank_from : (x y : Bool) → (x || y) ≡ true → y ≡ false → x ≡ true
 blank_from true y h k = refl
 blank_from false y h k = absurd (both_ways y k h)
 
-ends_no_return : (b : ℕ) → ends_word b ≡ true → b ≢ 13
+pub ends_no_return : (b : ℕ) → ends_word b ≡ true → b ≢ 13
 ends_no_return b h e = absurd (both_ways (ends_word 13) refl (subst (λ c. ends_word c ≡ true) e h))
 
 line_ends_word : (s : State) (w : Word) (p : Progress) (b : ℕ) → eqb b 10 ≡ true → word_read s.progress w ≡ Ok p
@@ -154,9 +154,8 @@ pub rest_stops_to : (s0 s t : State) (w v : Bool) (bytes : List ℕ) (place : �
     → ScansTo s t v (take (length bytes - place) (drop place bytes)) (Err kind) → ScansTo s0 t v bytes (Err kind)
 rest_stops_to s0 s t w v bytes place kind so_far = grind (arith, common_steps, rest_is, stops_in)
 
--- behind that call a byte stopped
-pub byte_stops : (s0 s t u : State) (w v : Bool) (bytes : List ℕ) (place count : ℕ) (kind : Kind) → place < length bytes
-    → IsScanned s0 s w bytes (drop place bytes) → ScansTo s t v (take (length bytes - place) (drop place bytes)) (Ok count)
-    → place + count < length bytes → get_or bytes (place + count) 0 ≢ 13
-    → Steps IsInBidLine (λ x. byte_step x (get_or bytes (place + count) 0)) t u (Err kind) → Scans (settled bytes) s0 u (Err kind)
-byte_stops s0 s t u w v bytes place count kind l so_far next here ne = grind (arith, common_steps, at_place, rest_scanned, settled-other, stops_in)
+-- a byte at which the machine stopped
+pub byte_stops : (s0 s t : State) (w : Bool) (bytes : List ℕ) (place : ℕ) (kind : Kind) → place < length bytes → get_or bytes place 0 ≢ 13
+    → IsScanned s0 s w bytes (drop place bytes) → Steps IsInBidLine (λ x. byte_step x (get_or bytes place 0)) s t (Err kind)
+    → Scans (settled bytes) s0 t (Err kind)
+byte_stops s0 s t w bytes place kind l ne so_far here = grind (arith, common_steps, at_place, settled-other, stops_in)

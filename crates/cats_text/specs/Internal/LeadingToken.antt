@@ -29,6 +29,10 @@ pub record IsKept (bytes : List ℕ) (kept : Word) (count : ℕ) : Type 0 where
 abbrev pub ends_word : ℕ → Bool
 ends_word b = is_blank b || (b == 10)
 
+-- neither a blank nor CR or LF
+abbrev pub IsLetter : ℕ → Type 0
+IsLetter b = (ends_word b || (b == 13)) ≡ false
+
 -- the first so many bytes are a word of which this is kept, and the blank behind it, or LF is behind them
 pub record IsLeadingToken (bytes : List ℕ) (word : Word) (taken : ℕ) : Type 0 where
   pub count : ℕ

@@ -1,17 +1,17 @@
-//! Words of a million bytes.
+//! Words, blanks, empty lines and comments of a million bytes.
 
 use super::{assert_bytes, fault, fault_of, many, written};
 use cats_text::Kind;
 use std::alloc::{AllocError, Global};
 use std::test::Fail;
 
-/// The parts, with a million times this digit between each and the next.
-fn with_digits_between(alloc: Global, digit: u8, parts: &[&[u8]]) -> Result<Vec<u8>, AllocError> {
-    let digits = many(alloc, digit, 1_000_000)?;
+/// The parts, with a million times this byte between each and the next.
+fn with_many_between(alloc: Global, byte: u8, parts: &[&[u8]]) -> Result<Vec<u8>, AllocError> {
+    let bytes = many(alloc, byte, 1_000_000)?;
     let mut text = Vec::new(alloc);
     for (place, part) in parts.iter().enumerate() {
         if place > 0 {
-            text.extend_from_slice(&digits)?;
+            text.extend_from_slice(&bytes)?;
         }
         text.extend_from_slice(part)?;
     }
@@ -33,14 +33,14 @@ static ZEROS: [(&[&[u8]], &[u8]); 2] = [
 #[test]
 fn zeros_before_numbers(rt: HostRuntime) -> Result<(), Fail> {
     for (parts, want) in &ZEROS {
-        let text = with_digits_between(rt.alloc(), b'0', parts)?;
+        let text = with_many_between(rt.alloc(), b'0', parts)?;
         assert_bytes(&rt, &written(rt.alloc(), &text)?, want);
     }
     Ok(())
 }
 
-/// A digit and the parts that it is between, and the line and the kind of the fault.
-static FAULTS: [(u8, &[&[u8]], u64, Kind); 13] = [
+/// A byte and the parts that it is between, and the line and the kind of the fault.
+static FAULTS: [(u8, &[&[u8]], u64, Kind); 18] = [
     (
         b'0',
         &[b"goods 2\nbids 1\ndummy 0\n0 0.", b"1 0 #"],
@@ -99,14 +99,38 @@ static FAULTS: [(u8, &[&[u8]], u64, Kind); 13] = [
         4,
         Kind::AfterEnd,
     ),
+    (b'x', &[b"goods 1\nbids ", b"\r\n"], 2, Kind::NotANumber),
+    (b' ', &[b"", b"\n\tgoods", b"x"], 2, Kind::NotANumber),
+    (b'\n', &[b"", b"x\n"], 1_000_001, Kind::Header),
+    (
+        b'\n',
+        &[b"goods 1\nbids 1\ndummy 0", b"0 1 0\n"],
+        1_000_003,
+        Kind::NoEnd,
+    ),
+    (b'%', &[b"", b"\nx\n"], 2, Kind::Header),
 ];
 
 #[test]
-fn long_numbers_in_each_place(rt: HostRuntime) -> Result<(), Fail> {
-    for (digit, parts, line, kind) in &FAULTS {
-        let text = with_digits_between(rt.alloc(), *digit, parts)?;
+fn long_runs_in_each_place(rt: HostRuntime) -> Result<(), Fail> {
+    for (byte, parts, line, kind) in &FAULTS {
+        let text = with_many_between(rt.alloc(), *byte, parts)?;
         let want = fault(*line, *kind);
         assert_eq!(rt; fault_of(rt.alloc(), &text), want, "{parts:?}");
+    }
+    Ok(())
+}
+
+#[test]
+fn comments_of_each_length(rt: HostRuntime) -> Result<(), Fail> {
+    for count in 1..=200 {
+        let mut text = many(rt.alloc(), b'%', count)?;
+        text.extend_from_slice(b"\nx\n")?;
+        assert_eq!(rt;
+            fault_of(rt.alloc(), &text),
+            fault(2, Kind::Header),
+            "{count} bytes"
+        );
     }
     Ok(())
 }

@@ -1,6 +1,6 @@
 -- `Scanner::go_on`
-use Rattle.cats_text.proofs.Common.{◌≡◌, ◌-◌, ◌&&◌, eqb, length, get_or, sym, ap, ◌∙◌, rules, eq-eqb, ne_eqb, unwrap_or, state, Inside, Number}
-use Rattle.cats_text.proofs.Scanning.ManyBytes.{comment_scanned, comment_within, number_scanned}
+use Rattle.cats_text.proofs.Common.{◌≡◌, ◌-◌, ◌&&◌, eqb, length, get_or, sym, ap, ◌∙◌, rules, eq-eqb, ne_eqb, unwrap_or, state, Inside}
+use Rattle.cats_text.proofs.Scanning.ManyBytes.{comment_scanned, comment_within, word_goes_on}
 use Rattle.cats_text.proofs.scanner.Scanner.go_on.Goals as goal
 use Rattle.cats_text.proofs.scanner.Scanner.go_on.Goals.{then-count-bytes, else-count-bytes}
 
@@ -19,7 +19,10 @@ returns-after-count-bytes-clause-scanned g c =
       comment_within bytes count feed,
     )
 
-pub returns-in-Inside-Number-clause-scanned : goal.returns-in-Inside-Number-clause-scanned
-returns-in-Inside-Number-clause-scanned g c =
-    let mode : c.args.self.now.mode ≡ Inside (Number c.in-Inside-Number.value) = search rules in
-    search (rules, number_scanned)
+pub returns-in-Inside-clause-scanned : goal.returns-in-Inside-clause-scanned
+returns-in-Inside-clause-scanned g c =
+    let mode : c.args.self.now.mode ≡ Inside c.in-Inside.word = search rules in (
+      word_goes_on (state g.K.Keep.keep c.args.self.now) c.in-Inside.word c.with_letters-word.result.0 c.args.bytes.now c.with_letters-word.result.1
+          c.args.self.now.waiting mode c.with_letters-word.ensures.letters c.with_letters-word.ensures.word c.requires.waits,
+      c.with_letters-word.ensures.bound,
+    )

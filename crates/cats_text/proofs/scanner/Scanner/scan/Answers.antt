@@ -15,9 +15,8 @@ returns-in_err-take_byte-clause-steps g c =
     let left : c.loop-offset.offset + c.in_ok-offset.field-0 ≢ length c.args.bytes.now = search rules in
     let here : c.loop-offset.offset + c.in_ok-offset.field-0 < length c.args.bytes.now = omega arith in
     let ne : get_or c.args.bytes.now (c.loop-offset.offset + c.in_ok-offset.field-0) 0 ≢ 13 = c.if-bytes-offset-ne13.true in
-    let stops = byte_stops _ _ _ (state g.K.Keep.keep c.take_byte.new.self) _ _ c.args.bytes.now c.loop-offset.offset c.in_ok-offset.field-0
-    c.in_err-take_byte.field-0.0
-    c.loop-offset-test.true c.loop-offset.invariant.0 c.in_ok-offset.ensures.scanned here ne c.in_err-take_byte.ensures.steps in
+    let stops = byte_stops _ _ (state g.K.Keep.keep c.take_byte.new.self) _ c.args.bytes.now (c.loop-offset.offset + c.in_ok-offset.field-0)
+    c.in_err-take_byte.field-0.0 here ne both.0 c.in_err-take_byte.ensures.steps in
     let reported = err_from_is_err_and c.from_residual-in_err-take_byte.result c.from_residual-in_err-take_byte.ensures.1 in
     rw (reported.1, reported.2) stops
 
