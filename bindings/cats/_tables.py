@@ -197,7 +197,7 @@ def price_in(cell: bytes) -> Optional[Decimal]:
 
 
 def numbers_in(cell: bytes) -> Tuple[int, ...]:
-    return tuple(map(int, cell.split(b","))) if cell else ()
+    return tuple(map(int, cell.split()))
 
 
 def allocation_of(printed: bytes) -> Allocation:

@@ -66,7 +66,7 @@ def printed_table(rows, kind):
 def printed_cell(cell):
     if cell is None:
         return ""
-    return ",".join(map(str, cell)) if isinstance(cell, tuple) else str(cell)
+    return " ".join(map(str, cell)) if isinstance(cell, tuple) else str(cell)
 
 
 def printed_value(found):

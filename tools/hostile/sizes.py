@@ -71,7 +71,7 @@ def explanation(bids, whose):
     rows = [EXPLANATION_HEADER]
     for number, bid in enumerate(bids):
         dummy = {OR: "", ONE_XOR: 0, MANY_XOR: number}[whose]
-        rows.append(f"{number}\t{dummy}\t{bid.price}\t{','.join(map(str, bid.goods))}\tkeep\t{kept[number]}\t\n")
+        rows.append(f"{number}\t{dummy}\t{bid.price}\t{' '.join(map(str, bid.goods))}\tkeep\t{kept[number]}\t\n")
     return "".join(rows)
 
 
@@ -92,7 +92,7 @@ def differences(bids, last, whose):
     """What `cats diff` prints of a file with these bids and of one that lacks this bid: of equal bidders the first is printed."""
     number = bids.index(last)
     kind, dummy, beside = {OR: ("or", "", ""), ONE_XOR: ("xor", 0, 0), MANY_XOR: ("xor", number, "")}[whose]
-    return f"{DIFF_HEADER}{kind}\t{named(last)[0]}\t{last.price}\t\t{dummy}\t{beside}\t{number}\t\n"
+    return f"{DIFF_HEADER}{kind}\t{' '.join(map(str, last.goods))}\t{last.price}\t\t{dummy}\t{beside}\t{number}\t\n"
 
 
 def sizes(bids, whose):

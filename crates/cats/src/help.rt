@@ -256,9 +256,9 @@ Prints a table with a header and a row for each bid, in order of number, with ta
   bid\tdummy\tprice\tgoods\treason\tkept\tby
   0\t\t3\t0\tkeep\t0\t
   1\t\t4\t1\tkeep\t1\t
-  2\t\t7\t0,1\tpacking\t\t0,1
-  3\t0\t6\t0,1\tkeep\t2\t
-  4\t0\t2\t0,1\tsame\t\t3
+  2\t\t7\t0 1\tpacking\t\t0 1
+  3\t0\t6\t0 1\tkeep\t2\t
+  4\t0\t2\t0 1\tsame\t\t3
 
 'dummy' is the bid's dummy good as its number among dummy goods, from 0. The reasons:
   keep     it is the bid 'kept' of the text that 'cats normalise' prints
@@ -353,7 +353,7 @@ Prints a table with a header and a row for each bundle on which a bidder's price
 and only the header if both files are the same auction. For example:
   $ cats diff examples/ladder.cats examples/ladder_with_synergy.cats
   kind\tgoods\tleft\tright\tleft_dummy\tright_dummy\tleft_bid\tright_bid
-  or\t0,1\t\t7.5\t\t\t\t2
+  or\t0 1\t\t7.5\t\t\t\t2
 
 A cell is empty if there is nothing. The cells, with 'left' for the first file and 'right' for the second:
   kind                     'or', 'xor', or 'goods': in such a row 'left' and 'right' are the numbers of goods

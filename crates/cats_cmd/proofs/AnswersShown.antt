@@ -3,7 +3,7 @@
 use Rattle.cats_cmd.proofs.Common.{◌≡◌, ℕ, suc, ◌+◌, ◌/◌, ◌%◌, ◌<◌, ◌≤◌, ◌&&◌, Bool, true, false, List, [], ◌∷◌, ◌++◌, cond, arith, refl, Ok, Err, Result}
 use Rattle.cats_cmd.proofs.Common.{subst, nat_le, unwrap_or, list_all, and_parts, leb-true, nat_tests, All-take, diff_text, goods_rows, difference_text}
 use Rattle.cats_cmd.proofs.Common.{side_text, explanation_text, reason_cells, hint_of_kind, before_word, behind_word, shown_bytes, name_of_kind, bundle_text}
-use Rattle.cats_cmd.proofs.Common.{number_cell, price_cell, Outcome, Prints, diff_outcome, outcome_of_difference, outcome_of_verdict, outcome_unless}
+use Rattle.cats_cmd.proofs.Common.{list_cell, number_cell, price_cell, Outcome, Prints, diff_outcome, outcome_of_difference, outcome_of_verdict, outcome_unless}
 use Rattle.cats_cmd.proofs.Common.{text_unless_refused, value_text, PlainBid, PlainFile, Difference, NoDifference, Side, Exactly, PlainPlace, behind_point}
 use Rattle.cats_cmd.proofs.Common.{bids_text, digit_at, places_text, six_digits, with_place, without_zeros, Kind, PlainDifferences, PlainReason, Zero}
 use Rattle.cats_cmd.proofs.Common.{allocation_text, AllocationVerdict, Revenue, PlainRow, if_none, AreBytes, escaped, text_of_place, outcome_for, PlainCommand}
@@ -40,6 +40,10 @@ bundle : (goods : List ℕ) → Ours (bundle_text goods)
 bundle [] = refl
 bundle (g ∷ goods) = simp (of_each, number_ours)
 
+list : (numbers : List ℕ) → Ours (list_cell numbers)
+list [] = refl
+list (n ∷ numbers) = simp (of_each, number_ours)
+
 number_if_any : (n : Option ℕ) → Ours (number_cell n)
 number_if_any None = refl
 number_if_any (Some n) = number_ours n
@@ -48,7 +52,7 @@ price_if_any : (p : Option ℕ) → Ours (price_cell p)
 price_if_any None = refl
 price_if_any (Some p) = simp (of_each, number_ours, places)
 
-ruleset pieces = (of_each, number_ours, places, bundle, number_if_any, price_if_any)
+ruleset pieces = (of_each, number_ours, places, bundle, list, number_if_any, price_if_any)
 
 -- of `cats show` and `cats normalise`
 bid_lines : (goods n : ℕ) (bids : List PlainBid) → Ours (bids_text goods n bids)

@@ -94,7 +94,7 @@ pub use Rattle.commands.specs.KindNames.{name_of_kind}
 pub use Rattle.commands.specs.Naming.{with_bid}
 pub use Rattle.commands.specs.Outcomes.{Prints, Outcome, diff_outcome, outcome_of_difference, outcome_of_verdict, outcome_unless, text_unless_refused}
 pub use Rattle.commands.specs.Outcomes.{exceeds_at, naming_outcome, normalise_outcome, exceeds_limits, exceeds_packings, value_outcome_if}
-pub use Rattle.commands.specs.Outputs.{bundle_text, number_cell, price_cell, after_commas}
+pub use Rattle.commands.specs.Outputs.{bundle_text, list_cell, number_cell, price_cell, after_commas}
 pub use Rattle.commands.specs.Pairs.{CommandsOnBoth, CommandsBoth, GivesBoth, outcome_of_both}
 pub use Rattle.commands.specs.Pieces.{text_of_piece, text_of_pieces}
 pub use Rattle.commands.specs.RoundedLines.{rounded_line}

@@ -8,7 +8,7 @@ use Rattle.analysis.specs.BidderChanges.{PlainBidderChange}
 use Rattle.analysis.specs.Differences.{PlainDifferences}
 use Rattle.canon.specs.PriceChanges.{PlainChange}
 use Rattle.analysis.specs.Bids.{best_number}
-use Rattle.commands.specs.Outputs.{bundle_text, number_cell, price_cell}
+use Rattle.commands.specs.Outputs.{list_cell, number_cell, price_cell}
 
 -- the names of the columns
 abbrev pub diff_header : List ℕ
@@ -30,7 +30,7 @@ bid_number f dummy goods (Some price) = best_number f dummy goods
 
 -- a kind of bidder, a bundle, and the price on each side
 abbrev pub price_cells : List ℕ → PlainChange → List ℕ
-price_cells kind c = kind ++ codes "\t" ++ bundle_text c.bundle ++ codes "\t" ++ price_cell c.left ++ codes "\t"
+price_cells kind c = kind ++ codes "\t" ++ list_cell c.bundle ++ codes "\t" ++ price_cell c.left ++ codes "\t"
     ++ price_cell c.right
 
 -- a number of each side

@@ -6,7 +6,7 @@ use Rattle.bid_file.specs.Files.{PlainBid, PlainFile}
 use Rattle.cats_text.specs.Layout.{price_text}
 use Rattle.analysis.specs.Bids.{bid_at, numbers_of}
 use Rattle.analysis.specs.Reasons.{PlainReason, Keep, Zero, Same, Inside, Packing, reason_at}
-use Rattle.commands.specs.Outputs.{bundle_text, number_cell}
+use Rattle.commands.specs.Outputs.{list_cell, number_cell}
 
 -- the names of the columns
 abbrev pub explanation_header : List ℕ
@@ -14,15 +14,15 @@ explanation_header = codes "bid\tdummy\tprice\tgoods\treason\tkept\tby\n"
 
 -- the dummy good, as a number among the dummy goods, the price and the goods of a bid
 abbrev pub bid_cells : PlainBid → List ℕ
-bid_cells bid = number_cell bid.dummy ++ codes "\t" ++ price_text bid.price ++ codes "\t" ++ bundle_text bid.goods
+bid_cells bid = number_cell bid.dummy ++ codes "\t" ++ price_text bid.price ++ codes "\t" ++ list_cell bid.goods
 
 -- the word of the reason, the number in the canonical file, and the bids that make this one superfluous
 abbrev pub reason_cells : PlainReason → List ℕ
 reason_cells (Keep k) = codes "keep\t" ++ decimal k ++ codes "\t"
 reason_cells Zero = codes "zero\t\t"
-reason_cells (Same j) = codes "same\t\t" ++ bundle_text (j ∷ [])
-reason_cells (Inside j) = codes "inside\t\t" ++ bundle_text (j ∷ [])
-reason_cells (Packing js) = codes "packing\t\t" ++ bundle_text js
+reason_cells (Same j) = codes "same\t\t" ++ list_cell (j ∷ [])
+reason_cells (Inside j) = codes "inside\t\t" ++ list_cell (j ∷ [])
+reason_cells (Packing js) = codes "packing\t\t" ++ list_cell js
 
 -- the row of the bid with this number
 abbrev pub explanation_row : ℕ → PlainBid → PlainReason → List ℕ

@@ -4,18 +4,22 @@ use Rattle.std.specs.List.{flat_map}
 use Rattle.bid_file.specs.Files.{PlainFile}
 use Rattle.cats_text.specs.Layout.{price_text}
 
--- a list with a comma between each two, by the text of each
-abbrev pub list_text : {A : Type 0} → (A → List ℕ) → List A → List ℕ
-list_text text [] = []
-list_text text (x ∷ xs) = text x ++ flat_map (λ y. 44 ∷ text y) xs
+-- a list with this byte between each two, by the text of each
+abbrev pub list_text : {A : Type 0} → ℕ → (A → List ℕ) → List A → List ℕ
+list_text between text [] = []
+list_text between text (x ∷ xs) = text x ++ flat_map (λ y. between ∷ text y) xs
 
--- a bundle: its goods with a comma between each two
+-- a bundle in a line: its goods with a comma (44) between each two
 abbrev pub bundle_text : List ℕ → List ℕ
-bundle_text goods = list_text decimal goods
+bundle_text goods = list_text 44 decimal goods
 
 -- each good after a comma
 abbrev pub after_commas : List ℕ → List ℕ
 after_commas goods = flat_map (λ g. 44 ∷ decimal g) goods
+
+-- a list of numbers in a table: with a space (32) between each two, as in a bid file
+abbrev pub list_cell : List ℕ → List ℕ
+list_cell numbers = list_text 32 decimal numbers
 
 -- a number, if there is one
 abbrev pub number_cell : Option ℕ → List ℕ

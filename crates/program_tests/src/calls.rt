@@ -280,12 +280,12 @@ fn limits_of_steps(rt: HostRuntime) -> Result<(), Fail> {
     let packed: (u8, &[u8]) = (
         0,
         b"bid\tdummy\tprice\tgoods\treason\tkept\tby\n0\t\t3\t0\tkeep\t0\t\n1\t\t4\t1\tkeep\t1\t\n\
-        2\t\t7\t0,1\tpacking\t\t0,1\n",
+        2\t\t7\t0 1\tpacking\t\t0 1\n",
     );
     let kept: (u8, &[u8]) = (
         0,
-        b"bid\tdummy\tprice\tgoods\treason\tkept\tby\n0\t\t4\t0,1\tkeep\t0\t\n1\t\t4\t1,2\tkeep\t1\t\n\
-        2\t\t7\t0,1,2\tkeep\t2\t\n",
+        b"bid\tdummy\tprice\tgoods\treason\tkept\tby\n0\t\t4\t0 1\tkeep\t0\t\n1\t\t4\t1 2\tkeep\t1\t\n\
+        2\t\t7\t0 1 2\tkeep\t2\t\n",
     );
     expect_call(&rt, normal, text(CROSSING), (0, CROSSING));
     expect_call(&rt, Command::Normalise(total(2)), text(CROSSING), over);
@@ -326,7 +326,7 @@ fn all_differences(rt: HostRuntime) -> Result<(), Fail> {
     let table: (u8, &[u8]) = (
         1,
         b"kind\tgoods\tleft\tright\tleft_dummy\tright_dummy\tleft_bid\tright_bid\n\
-        or\t0,1\t\t8\t\t\t\t2\n",
+        or\t0 1\t\t8\t\t\t\t2\n",
     );
     expect_comparison(&rt, enough, (SINGLES, PAIR_AT_7), none);
     expect_comparison(&rt, enough, (SINGLES, PAIR_AT_8), table);

@@ -34,19 +34,20 @@ pub(crate) fn push_price_cell(text: &mut Vec<u8>, price: Option<u64>) -> Result<
     }
 }
 
-/// Appends numbers, with a comma between each two.
+/// Appends numbers, with this byte between each two.
 pub(crate) fn push_list<I: Integer + Copy>(
     text: &mut Vec<u8>,
+    between: u8,
     numbers: &[I],
 ) -> Result<(), AllocError>
-    ensures { OnOk result (text.new.items ≡ text.old.items ++ list_text I.text numbers.now) }
+    ensures { OnOk result (text.new.items ≡ text.old.items ++ list_text between I.text numbers.now) }
 {
     let Some((first, rest)) = numbers.split_first() else {
         return Ok(());
     };
     push_number(text, *first)?;
     for number in rest {
-        text.extend_from_slice(b",")?;
+        text.push(between)?;
         push_number(text, *number)?;
     }
     Ok(())

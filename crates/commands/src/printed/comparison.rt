@@ -38,7 +38,7 @@ pub(crate) fn verdict_text(alloc: Global, verdict: &Verdict) -> Result<Vec<u8>, 
             right,
         } => {
             let mut place = Vec::from_slice(alloc, b"or ")?;
-            push_list(&mut place, bundle.as_slice())?;
+            push_list(&mut place, b',', bundle.as_slice())?;
             let left = side(alloc, *left)?;
             let right = side(alloc, *right)?;
             difference_lines(alloc, place.as_slice(), left.as_slice(), right.as_slice())
@@ -97,7 +97,7 @@ fn bids(alloc: Global, bidder: &[(Vec<u16>, u64)]) -> Result<Vec<u8>, AllocError
     let mut text = Vec::from_slice(alloc, b"xor")?;
     for (goods, price) in bidder {
         text.extend_from_slice(b" ")?;
-        push_list(&mut text, goods.as_slice())?;
+        push_list(&mut text, b',', goods.as_slice())?;
         text.extend_from_slice(b":")?;
         push_price(&mut text, u128::from(*price))?;
     }

@@ -175,7 +175,7 @@ fn push_prices(text: &mut Vec<u8>, kind: &[u8], change: &PriceChange<'_>) -> Res
 {
     text.extend_from_slice(kind)?;
     text.extend_from_slice(b"\t")?;
-    push_list(text, change.goods)?;
+    push_list(text, b' ', change.goods)?;
     text.extend_from_slice(b"\t")?;
     push_price_cell(text, change.left)?;
     text.extend_from_slice(b"\t")?;

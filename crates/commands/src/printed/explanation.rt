@@ -4,7 +4,7 @@ ghost use Rattle.std.specs.Prelude.{◌≡◌, ◌++◌, IfOk, OnOk, length, map
 ghost use Rattle.bid_file.specs.Views.{seen_bid};
 ghost use Rattle.analysis.specs.Reasons.{plain_reason};
 ghost use Rattle.commands.specs.ExplanationTexts.{bid_cells, explanation_row, explanation_text, reason_cells};
-ghost use Rattle.commands.specs.Outputs.{bundle_text};
+ghost use Rattle.commands.specs.Outputs.{list_cell};
 
 use crate::printed::cells::{push_list, push_number, push_number_cell};
 use analysis::reasons::Reason;
@@ -57,7 +57,7 @@ fn push_bid(text: &mut Vec<u8>, bid: &BidRef<'_>) -> Result<(), AllocError>
     text.extend_from_slice(b"\t")?;
     push_price(text, u128::from(bid.price))?;
     text.extend_from_slice(b"\t")?;
-    push_list(text, bid.goods)
+    push_list(text, b' ', bid.goods)
 }
 
 /// Appends the cells of a reason: its word, the number of a kept bid in the canonical file, and the bids that it names.
@@ -77,10 +77,10 @@ fn push_reason(text: &mut Vec<u8>, reason: &Reason) -> Result<(), AllocError>
     }
 }
 
-/// Appends a text, and the numbers of bids with a comma between each two.
+/// Appends a text, and the numbers of bids.
 fn push_named(text: &mut Vec<u8>, before: &[u8], bids: &[u32]) -> Result<(), AllocError>
-    ensures { OnOk result (text.new.items ≡ text.old.items ++ (before.now ++ bundle_text bids.now)) }
+    ensures { OnOk result (text.new.items ≡ text.old.items ++ (before.now ++ list_cell bids.now)) }
 {
     text.extend_from_slice(before)?;
-    push_list(text, bids)
+    push_list(text, b' ', bids)
 }

@@ -66,7 +66,7 @@ fn push_piece(text: &mut Vec<u8>, piece: &Piece<'_>) -> Result<(), AllocError>
     match piece {
         Piece::Text(piece) => text.extend_from_slice(piece),
         Piece::Number(number) => push_number(text, *number),
-        Piece::Goods(goods) => push_list(text, goods),
+        Piece::Goods(goods) => push_list(text, b',', goods),
         Piece::Price(price) => push_price(text, u128::from(*price)),
     }
 }

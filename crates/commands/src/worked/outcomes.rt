@@ -71,13 +71,13 @@ pub fn canonical_files()
     ensures refused { outcome_of (Normalise (plain_options 1)) larger_bid ≡ ExceedsSteps (0 ∷ 1 ∷ []) }
     ensures reasons { outcome_of (Explain 3 None) larger_bid
         ≡ Prints 0 (codes "bid\tdummy\tprice\tgoods\treason\tkept\tby\n0\t\t3\t0\tkeep\t0\t\n1\t\t4\t1\tkeep\t1\t\n"
-        ++ codes "2\t\t7\t0,1\tpacking\t\t0,1\n") }
+        ++ codes "2\t\t7\t0 1\tpacking\t\t0 1\n") }
     ensures unexplained { outcome_of (Explain 1 None) larger_bid ≡ ExceedsAtBid 1 None 2 (0 ∷ 1 ∷ []) }
     ensures text_of_both { outcome_of (Normalise (plain_options 1000)) xor_ladder
         ≡ Prints 0 (codes "goods 2\nbids 3\ndummy 1\n0\t1.5\t1\t#\n1\t5\t0\t2\t#\n2\t6\t0\t1\t2\t#\n") }
     ensures reasons_of_both { outcome_of (Explain 1000 None) xor_ladder
         ≡ Prints 0 (codes "bid\tdummy\tprice\tgoods\treason\tkept\tby\n0\t0\t5\t0\tkeep\t1\t\n"
-        ++ codes "1\t\t1.5\t1\tkeep\t0\t\n2\t0\t6\t0,1\tkeep\t2\t\n") }
+        ++ codes "1\t\t1.5\t1\tkeep\t0\t\n2\t0\t6\t0 1\tkeep\t2\t\n") }
 {}
 
 /// The bid that is named: not that of an XOR bidder, and the first of two.

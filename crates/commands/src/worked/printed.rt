@@ -36,7 +36,7 @@ ghost use Rattle.commands.specs.ExplanationTexts.{explanation_row, explanation_t
 ghost use Rattle.commands.specs.FaultHints.{hint_of_kind};
 ghost use Rattle.commands.specs.FaultLines.{line_of_fault};
 ghost use Rattle.commands.specs.FaultPlaceTexts.{place_text, shown_bytes};
-ghost use Rattle.commands.specs.Outputs.{bundle_text, sizes_text};
+ghost use Rattle.commands.specs.Outputs.{bundle_text, list_cell, sizes_text};
 ghost use Rattle.commands.specs.RoundedLines.{rounded_line};
 ghost use Rattle.commands.specs.Statuses.{status_of_difference, status_of_differences, status_of_fault};
 ghost use Rattle.commands.specs.declared.faults.RunFault.TheVariants.{Refused, TooHeavy, GoodRange, BidRange, Sent};
@@ -120,9 +120,10 @@ pub fn heavy_bids()
         → status_of_fault (TooHeavy Only (record { number = 0; goods = goods; steps = 1; total = None })) ≡ 3 }
 {}
 
-/// Bundles as they are printed.
+/// Bundles as they are printed, in a line and in a table.
 pub fn bundles()
-    ensures { map bundle_text ((0 ∷ 1 ∷ 2 ∷ []) ∷ (4095 ∷ []) ∷ [] ∷ []) ≡ codes "0,1,2" ∷ codes "4095" ∷ [] ∷ [] }
+    ensures line { map bundle_text ((0 ∷ 1 ∷ 2 ∷ []) ∷ (4095 ∷ []) ∷ [] ∷ []) ≡ codes "0,1,2" ∷ codes "4095" ∷ [] ∷ [] }
+    ensures cell { map list_cell ((12 ∷ 17 ∷ 36 ∷ []) ∷ (4095 ∷ []) ∷ [] ∷ []) ≡ codes "12 17 36" ∷ codes "4095" ∷ [] ∷ [] }
 {}
 
 /// The line of `cats check`.
@@ -135,14 +136,14 @@ pub fn explanations()
     ensures no_bids { explanation_text (file 0 0 []) [] ≡ codes "bid\tdummy\tprice\tgoods\treason\tkept\tby\n" }
     ensures kept { explanation_row 0 (or_bid (0 ∷ []) 3000000) (Keep 12) ≡ codes "0\t\t3\t0\tkeep\t12\t\n" }
     ensures packing { explanation_row 2 (or_bid (0 ∷ 1 ∷ []) 6000000) (Packing (0 ∷ 1 ∷ []))
-        ≡ codes "2\t\t6\t0,1\tpacking\t\t0,1\n" }
+        ≡ codes "2\t\t6\t0 1\tpacking\t\t0 1\n" }
     ensures inside { explanation_row 5 (xor_bid 2 (1 ∷ []) 4000000) (Inside 3) ≡ codes "5\t2\t4\t1\tinside\t\t3\n" }
     ensures zero { explanation_row 12 (xor_bid 10 (7 ∷ []) 0) Zero ≡ codes "12\t10\t0\t7\tzero\t\t\n" }
     ensures same { explanation_row 65535 (or_bid (4095 ∷ []) 4500000) (Same 65534)
         ≡ codes "65535\t\t4.5\t4095\tsame\t\t65534\n" }
     ensures two_bids { explanation_text (file 2 1 (or_bid (0 ∷ []) 0 ∷ xor_bid 0 (0 ∷ 1 ∷ []) 7250000 ∷ []))
         (Zero ∷ Keep 0 ∷ [])
-        ≡ codes "bid\tdummy\tprice\tgoods\treason\tkept\tby\n0\t\t0\t0\tzero\t\t\n1\t0\t7.25\t0,1\tkeep\t0\t\n" }
+        ≡ codes "bid\tdummy\tprice\tgoods\treason\tkept\tby\n0\t\t0\t0\tzero\t\t\n1\t0\t7.25\t0 1\tkeep\t0\t\n" }
 {}
 
 /// How differences are printed, and the statuses of comparisons.
@@ -170,8 +171,8 @@ pub fn all_differences()
         (file 60 0 (or_bid (0 ∷ 1 ∷ 59 ∷ []) 1 ∷ or_bid (18 ∷ []) 233145000 ∷ []))
         (differences None (change (18 ∷ []) (Some 173958000) (Some 233145000)
         ∷ change (18 ∷ 23 ∷ []) (Some 203457000) None ∷ change (0 ∷ 1 ∷ 59 ∷ []) None (Some 1) ∷ []) [])
-        ≡ diff_header ++ codes "or\t18\t173.958\t233.145\t\t\t0\t1\nor\t18,23\t203.457\t\t\t\t1\t\n"
-        ++ codes "or\t0,1,59\t\t0.000001\t\t\t\t0\n" }
+        ≡ diff_header ++ codes "or\t18\t173.958\t233.145\t\t\t0\t1\nor\t18 23\t203.457\t\t\t\t1\t\n"
+        ++ codes "or\t0 1 59\t\t0.000001\t\t\t\t0\n" }
     ensures best { diff_text (file 1 0 (or_bid (0 ∷ []) 2000000 ∷ or_bid (0 ∷ []) 3000000 ∷ []))
         (file 1 0 (or_bid (0 ∷ []) 4000000 ∷ or_bid (0 ∷ []) 4000000 ∷ []))
         (differences None (change (0 ∷ []) (Some 3000000) (Some 4000000) ∷ []) [])
@@ -179,7 +180,7 @@ pub fn all_differences()
     ensures not_kept { diff_text (file 2 0 (or_bid (0 ∷ 1 ∷ []) 3000000 ∷ or_bid (1 ∷ []) 3000000 ∷ []))
         (file 2 0 (or_bid (1 ∷ []) 3000000 ∷ or_bid (0 ∷ 1 ∷ []) 4000000 ∷ []))
         (differences None (change (0 ∷ 1 ∷ []) None (Some 4000000) ∷ []) [])
-        ≡ diff_header ++ codes "or\t0,1\t\t4\t\t\t\t1\n" }
+        ≡ diff_header ++ codes "or\t0 1\t\t4\t\t\t\t1\n" }
     ensures statuses { map status_of_differences (differences None [] [] ∷ differences (Some (2, 5)) [] []
         ∷ differences None (change (0 ∷ []) None (Some 1) ∷ []) []
         ∷ differences None [] (bidder_change (Some 0) None [] ∷ []) ∷ []) ≡ 0 ∷ 1 ∷ 1 ∷ 1 ∷ [] }
@@ -196,7 +197,7 @@ pub fn differences_of_bidders()
         (file 2 1 (or_bid (1 ∷ []) 7000000 ∷ xor_bid 0 (0 ∷ []) 3000000 ∷ []))
         (differences None [] (bidder_change (Some 1) None (change (0 ∷ 1 ∷ []) (Some 5000000) None ∷ [])
         ∷ bidder_change None (Some 0) (change (0 ∷ []) None (Some 3000000) ∷ []) ∷ []))
-        ≡ diff_header ++ codes "xor\t0,1\t5\t\t0\t\t1\t\nxor\t0\t\t3\t\t0\t\t1\n" }
+        ≡ diff_header ++ codes "xor\t0 1\t5\t\t0\t\t1\t\nxor\t0\t\t3\t\t0\t\t1\n" }
 {}
 
 /// The line of a price whose value changed.

@@ -134,22 +134,22 @@ static BUNDLES: &[(&str, &str, &str, &str)] = &[
     (
         "goods 2\nbids 3\ndummy 0\n0\t3\t0\t#\n1\t4\t1\t#\n2\t8\t0\t1\t#\n",
         SINGLES,
-        "or\t0,1\t8\t\t\t\t2\t\n",
-        "or\t0,1\t\t8\t\t\t\t2\n",
+        "or\t0 1\t8\t\t\t\t2\t\n",
+        "or\t0 1\t\t8\t\t\t\t2\n",
     ),
     // and one on the right that is at their sum, and so is not kept
     (
         "goods 2\nbids 3\ndummy 0\n0\t3\t0\t#\n1\t4\t1\t#\n2\t8\t0\t1\t#\n",
         LARGER_BID,
-        "or\t0,1\t8\t\t\t\t2\t\n",
-        "or\t0,1\t\t8\t\t\t\t2\n",
+        "or\t0 1\t8\t\t\t\t2\t\n",
+        "or\t0 1\t\t8\t\t\t\t2\n",
     ),
     // one more good in a bid: bundles in order, by size first
     (
         "goods 2\nbids 2\ndummy 0\n0\t1\t0\t#\n1\t1\t1\t#\n",
         "goods 2\nbids 2\ndummy 0\n0\t1\t0\t#\n1\t9\t0\t1\t#\n",
-        "or\t1\t1\t\t\t\t1\t\nor\t0,1\t\t9\t\t\t\t1\n",
-        "or\t1\t\t1\t\t\t\t1\nor\t0,1\t9\t\t\t\t1\t\n",
+        "or\t1\t1\t\t\t\t1\t\nor\t0 1\t\t9\t\t\t\t1\n",
+        "or\t1\t\t1\t\t\t\t1\nor\t0 1\t9\t\t\t\t1\t\n",
     ),
     // all bundles differ, and the last is on one side alone
     (
@@ -197,8 +197,8 @@ static SINGLE_BIDDERS: &[(&str, &str, &str, &str)] = &[
     (
         EQUAL_BIDDERS,
         "goods 2\nbids 2\ndummy 1\n0\t1\t0\t2\t#\n1\t2\t0\t1\t2\t#\n",
-        "xor\t0\t1\t\t0\t\t0\t\nxor\t0,1\t2\t\t0\t\t1\t\n",
-        "xor\t0\t\t1\t\t0\t\t0\nxor\t0,1\t\t2\t\t0\t\t1\n",
+        "xor\t0\t1\t\t0\t\t0\t\nxor\t0 1\t2\t\t0\t\t1\t\n",
+        "xor\t0\t\t1\t\t0\t\t0\nxor\t0 1\t\t2\t\t0\t\t1\n",
     ),
     // three copies and two, and three and none: the smallest dummy goods first
     (
@@ -246,22 +246,22 @@ static BIDDERS_BESIDE_EACH_OTHER: &[(&str, &str, &str, &str)] = &[
     (
         "goods 2\nbids 2\ndummy 1\n0\t5\t0\t2\t#\n1\t8\t0\t1\t2\t#\n",
         "goods 2\nbids 3\ndummy 2\n0\t5\t0\t3\t#\n1\t9\t0\t1\t3\t#\n2\t0\t0\t2\t#\n",
-        "xor\t0,1\t8\t9\t0\t1\t1\t1\n",
-        "xor\t0,1\t9\t8\t1\t0\t1\t1\n",
+        "xor\t0 1\t8\t9\t0\t1\t1\t1\n",
+        "xor\t0 1\t9\t8\t1\t0\t1\t1\n",
     ),
     // one more bid, and one more good in a bid
     (
         "goods 3\nbids 2\ndummy 1\n0\t5\t0\t3\t#\n1\t7\t1\t3\t#\n",
         "goods 3\nbids 3\ndummy 1\n0\t5\t0\t3\t#\n1\t7\t1\t2\t3\t#\n2\t6\t1\t3\t#\n",
-        "xor\t1\t7\t6\t0\t0\t1\t2\nxor\t1,2\t\t7\t0\t0\t\t1\n",
-        "xor\t1\t6\t7\t0\t0\t2\t1\nxor\t1,2\t7\t\t0\t0\t1\t\n",
+        "xor\t1\t7\t6\t0\t0\t1\t2\nxor\t1 2\t\t7\t0\t0\t\t1\n",
+        "xor\t1\t6\t7\t0\t0\t2\t1\nxor\t1 2\t7\t\t0\t0\t1\t\n",
     ),
     // two bidders of each file, bundles in common with either
     (
         APART,
         TOGETHER,
-        "xor\t1\t2\t1\t0\t0\t1\t1\nxor\t0,1\t\t2\t0\t0\t\t2\nxor\t1\t1\t2\t1\t1\t3\t4\n",
-        "xor\t1\t1\t2\t0\t0\t1\t1\nxor\t0,1\t2\t\t0\t0\t2\t\nxor\t1\t2\t1\t1\t1\t4\t3\n",
+        "xor\t1\t2\t1\t0\t0\t1\t1\nxor\t0 1\t\t2\t0\t0\t\t2\nxor\t1\t1\t2\t1\t1\t3\t4\n",
+        "xor\t1\t1\t2\t0\t0\t1\t1\nxor\t0 1\t2\t\t0\t0\t2\t\nxor\t1\t2\t1\t1\t1\t4\t3\n",
     ),
     // the one on the rarest bundle, and the first on that
     (

@@ -29,9 +29,9 @@ pub(super) static COMMANDS: [(&str, &str, &str, &str); 9] = [
         "explain",
         "FILE",
         "bid\tdummy\tprice\tgoods\treason\tkept\tby\n\
-        0\t\t3\t0\tkeep\t0\t\n1\t\t4\t1\tkeep\t1\t\n2\t\t7\t0,1\tpacking\t\t0,1\n",
+        0\t\t3\t0\tkeep\t0\t\n1\t\t4\t1\tkeep\t1\t\n2\t\t7\t0 1\tpacking\t\t0 1\n",
         "bid\tdummy\tprice\tgoods\treason\tkept\tby\n\
-        0\t\t0.012346\t0\tkeep\t0\t\n1\t\t1000\t1\tkeep\t1\t\n2\t0\t2\t0,1\tkeep\t2\t\n",
+        0\t\t0.012346\t0\tkeep\t0\t\n1\t\t1000\t1\tkeep\t1\t\n2\t0\t2\t0 1\tkeep\t2\t\n",
     ),
     (
         "lp",

@@ -34,27 +34,27 @@ static OR_BIDS: &[(&str, u64, &str)] = &[
     (
         LARGER_BID,
         STEPS,
-        "0\t\t3\t0\tkeep\t0\t\n1\t\t4\t1\tkeep\t1\t\n2\t\t7\t0,1\tpacking\t\t0,1\n",
+        "0\t\t3\t0\tkeep\t0\t\n1\t\t4\t1\tkeep\t1\t\n2\t\t7\t0 1\tpacking\t\t0 1\n",
     ),
     (
         "goods 2\nbids 4\ndummy 0\n0\t8\t0\t1\t#\n1\t3\t0\t#\n2\t4\t1\t#\n3\t8\t0\t1\t#\n",
         STEPS,
-        "0\t\t8\t0,1\tkeep\t2\t\n1\t\t3\t0\tkeep\t0\t\n2\t\t4\t1\tkeep\t1\t\n3\t\t8\t0,1\tsame\t\t0\n",
+        "0\t\t8\t0 1\tkeep\t2\t\n1\t\t3\t0\tkeep\t0\t\n2\t\t4\t1\tkeep\t1\t\n3\t\t8\t0 1\tsame\t\t0\n",
     ),
     (
         SINGLES_BELOW_TRIPLE,
         1,
-        "0\t\t1\t0\tkeep\t0\t\n1\t\t1\t1\tkeep\t1\t\n2\t\t1\t2\tkeep\t2\t\n3\t\t4\t0,1,2\tkeep\t3\t\n",
+        "0\t\t1\t0\tkeep\t0\t\n1\t\t1\t1\tkeep\t1\t\n2\t\t1\t2\tkeep\t2\t\n3\t\t4\t0 1 2\tkeep\t3\t\n",
     ),
     (
         TRIPLE_REACHED,
         4,
-        "0\t\t2\t0\tkeep\t0\t\n1\t\t2\t1\tkeep\t1\t\n2\t\t2\t2\tkeep\t2\t\n3\t\t5\t0,1,2\tpacking\t\t0,1,2\n",
+        "0\t\t2\t0\tkeep\t0\t\n1\t\t2\t1\tkeep\t1\t\n2\t\t2\t2\tkeep\t2\t\n3\t\t5\t0 1 2\tpacking\t\t0 1 2\n",
     ),
     (
         "goods 2\nbids 4\ndummy 0\n0\t1\t0\t#\n1\t1\t0\t#\n2\t1\t1\t#\n3\t3\t0\t1\t#\n",
         4,
-        "0\t\t1\t0\tkeep\t0\t\n1\t\t1\t0\tsame\t\t0\n2\t\t1\t1\tkeep\t1\t\n3\t\t3\t0,1\tkeep\t2\t\n",
+        "0\t\t1\t0\tkeep\t0\t\n1\t\t1\t0\tsame\t\t0\n2\t\t1\t1\tkeep\t1\t\n3\t\t3\t0 1\tkeep\t2\t\n",
     ),
     (
         "goods 1\nbids 3\ndummy 0\n2\t1\t0\t#\n0\t3\t0\t#\n1\t2\t0\t#\n",
@@ -69,12 +69,12 @@ static OR_BIDS: &[(&str, u64, &str)] = &[
     (
         "goods 2\nbids 3\ndummy 0\n0 1.50 0 #\n1 02.25 1 #\n2 3.75 0 1 #\n",
         STEPS,
-        "0\t\t1.5\t0\tkeep\t0\t\n1\t\t2.25\t1\tkeep\t1\t\n2\t\t3.75\t0,1\tpacking\t\t0,1\n",
+        "0\t\t1.5\t0\tkeep\t0\t\n1\t\t2.25\t1\tkeep\t1\t\n2\t\t3.75\t0 1\tpacking\t\t0 1\n",
     ),
     (
         "goods 2\nbids 3\ndummy 0\n0 1.50 0 #\n1 02.25 1 #\n2 3.750001 0 1 #\n",
         STEPS,
-        "0\t\t1.5\t0\tkeep\t0\t\n1\t\t2.25\t1\tkeep\t1\t\n2\t\t3.750001\t0,1\tkeep\t2\t\n",
+        "0\t\t1.5\t0\tkeep\t0\t\n1\t\t2.25\t1\tkeep\t1\t\n2\t\t3.750001\t0 1\tkeep\t2\t\n",
     ),
 ];
 
@@ -87,12 +87,12 @@ static XOR_BIDDERS: &[(&str, u64, &str)] = &[
     (
         "goods 2\nbids 3\ndummy 1\n0\t5\t0\t2\t#\n1\t5\t0\t1\t2\t#\n2\t6\t0\t1\t2\t#\n",
         STEPS,
-        "0\t0\t5\t0\tkeep\t0\t\n1\t0\t5\t0,1\tsame\t\t2\n2\t0\t6\t0,1\tkeep\t1\t\n",
+        "0\t0\t5\t0\tkeep\t0\t\n1\t0\t5\t0 1\tsame\t\t2\n2\t0\t6\t0 1\tkeep\t1\t\n",
     ),
     (
         "goods 2\nbids 3\ndummy 1\n0\t3\t0\t1\t2\t#\n1\t3\t1\t2\t#\n2\t2\t0\t2\t#\n",
         STEPS,
-        "0\t0\t3\t0,1\tinside\t\t1\n1\t0\t3\t1\tkeep\t1\t\n2\t0\t2\t0\tkeep\t0\t\n",
+        "0\t0\t3\t0 1\tinside\t\t1\n1\t0\t3\t1\tkeep\t1\t\n2\t0\t2\t0\tkeep\t0\t\n",
     ),
     (
         "goods 2\nbids 2\ndummy 2\n0\t0\t0\t2\t#\n1\t2\t1\t3\t#\n",
@@ -104,8 +104,8 @@ static XOR_BIDDERS: &[(&str, u64, &str)] = &[
         "goods 2\nbids 5\ndummy 2\n0\t1\t0\t2\t#\n1\t2\t0\t1\t2\t#\n2\t1\t0\t3\t#\n3\t1\t0\t1\t3\t#\n\
         4\t2\t0\t1\t3\t#\n",
         STEPS,
-        "0\t0\t1\t0\tkeep\t0\t\n1\t0\t2\t0,1\tkeep\t1\t\n2\t1\t1\t0\tkeep\t2\t\n\
-        3\t1\t1\t0,1\tsame\t\t4\n4\t1\t2\t0,1\tkeep\t3\t\n",
+        "0\t0\t1\t0\tkeep\t0\t\n1\t0\t2\t0 1\tkeep\t1\t\n2\t1\t1\t0\tkeep\t2\t\n\
+        3\t1\t1\t0 1\tsame\t\t4\n4\t1\t2\t0 1\tkeep\t3\t\n",
     ),
     (
         "goods 2\nbids 4\ndummy 2\n0\t2\t0\t2\t#\n1\t1\t1\t2\t#\n2\t1\t0\t3\t#\n3\t2\t1\t3\t#\n",
@@ -115,7 +115,7 @@ static XOR_BIDDERS: &[(&str, u64, &str)] = &[
     (
         "%% a comment\n\ngoods 3\nbids 2\ndummy 1\n\n0\t20\t0\t2\t3\t#\n1\t7\t1\t#\n",
         STEPS,
-        "0\t0\t20\t0,2\tkeep\t1\t\n1\t\t7\t1\tkeep\t0\t\n",
+        "0\t0\t20\t0 2\tkeep\t1\t\n1\t\t7\t1\tkeep\t0\t\n",
     ),
 ];
 

@@ -3,6 +3,10 @@ use Rattle.commands.proofs.Common.{refl}
 use Rattle.std.specs.Fmt.{digits}
 use Rattle.commands.proofs.worked.printed.bundles.Goals as goal
 
-pub returns : goal.returns
+pub returns-line : goal.returns-line
 unfolding digits
-returns c = refl
+returns-line c = refl
+
+pub returns-cell : goal.returns-cell
+unfolding digits
+returns-cell c = refl
