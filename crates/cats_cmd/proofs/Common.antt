@@ -36,6 +36,7 @@ pub use Rattle.cats_cmd.specs.Folders.{Finds, FindsAt, FoundAt, AreFilesAt, file
 pub use Rattle.cats_cmd.specs.Folders.{with_slash}
 pub use Rattle.cats_cmd.specs.Inputs.{IsOpened, ReadsBytes, IsUnreadStream, StopsReading, WantsMemoryForBytes, ReadsAll}
 pub use Rattle.cats_cmd.specs.Internal.Carrying.{RunsAtOrNot, answer_of_run}
+pub use Rattle.cats_cmd.specs.Internal.Gathering.{Gathers, GathersNext}
 pub use Rattle.cats_cmd.specs.Internal.Judging.{KeepsNumbers, AddsJudgement, AddsOpened, AddsRefused, KeepsGroups, AddsPath, HasJudged, JudgesAllAs}
 pub use Rattle.cats_cmd.specs.Internal.Judging.{OpensAllAs}
 pub use Rattle.cats_cmd.specs.Internal.Roundings.{RoundsText}
@@ -46,7 +47,7 @@ pub use Rattle.cats_cmd.specs.PathLists.{ended, parts_in, paths_in, without_empt
 pub use Rattle.cats_cmd.specs.Paths.{Judgement, IsHeavy, IsJudged, IsUnjudged, JudgesAs, JudgesInput, JudgedPath, Judges, Reporting, greatest_status}
 pub use Rattle.cats_cmd.specs.Paths.{judgement_at, lines_from, lines_of_path, report_lines, status_of_judgement, without_refusals, BeginsPaths, MakesOfPaths}
 pub use Rattle.cats_cmd.specs.Paths.{RunsOnPaths, outcome_of_paths, progress_line, refusal_line, request_error_of, status_if, is_counted}
-pub use Rattle.cats_cmd.specs.PricedInputs.{PricedGives, PricedRefuses, fine_prices, IsPriced, rounding_lines, gives_by}
+pub use Rattle.cats_cmd.specs.PricedInputs.{PricedGives, PricedRefuses, fine_prices, IsPriced, rounded_words, rounding_lines, gives_by}
 pub use Rattle.cats_cmd.specs.RequestErrors.{Reports, line_of_request_error, has_found, is_for_many_files, is_reporting, is_rounding, names_found}
 pub use Rattle.cats_cmd.specs.RequestErrors.{names_many_files, names_reporting, status_of_request_error, line_of_unopened, ReportsAll, SendsText}
 pub use Rattle.cats_cmd.specs.Requests.{AnswersRequest, CarriesOut, RunsAt, RunsAtBoth, RunsFor, FailsRequest, comparison_of, outcome_for}

@@ -11,6 +11,7 @@ mod PricedInputs
 mod ReadingBytes
 mod Rounding
 mod Reporting
+mod Gathering
 mod Escaped
 mod Judging
 mod JudgingPaths

@@ -1,6 +1,7 @@
 -- What the contracts of private functions cite, and the facts that private types keep. No public contract rests on
 -- them.
 pub mod Carrying
+pub mod Gathering
 pub mod Judging
 pub mod Roundings
 pub mod Walking

@@ -78,9 +78,12 @@ module _ {R : Type 0} (remaining : R → Option (List ℕ)) where
 
 -- ---- what is reported
 
+-- what is behind the number
+abbrev pub rounded_words : ℕ → List ℕ
+rounded_words count = if count == 1 then codes " price rounded\n" else codes " prices rounded\n"
+
 abbrev pub rounding_line : List ℕ → ℕ → List ℕ
-rounding_line path count = escaped path ++ codes ": " ++ decimal count
-    ++ (if count == 1 then codes " price rounded\n" else codes " prices rounded\n")
+rounding_line path count = escaped path ++ codes ": " ++ decimal count ++ rounded_words count
 
 -- of a file at this path, how many of its prices were rounded: nothing if none was
 abbrev pub rounding_lines : List ℕ → ℕ → List (List ℕ)

@@ -1,10 +1,11 @@
 //! Why a request has no answer, with its line and its status.
 
 ghost use Rattle.std.specs.Prelude.{◌≡◌, IfOk};
+ghost use Rattle.cats_cmd.specs.Internal.Gathering.{Gathers};
 ghost use Rattle.cats_cmd.specs.RequestErrors.{Reports, line_of_request_error, status_of_request_error};
 ghost use Rattle.cats_cmd.specs.declared.errors.RequestError.{RequestError};
 
-use crate::lines::{report, report_pieces};
+use crate::lines::LineBuffer;
 use crate::source::Unopened;
 use canon::Which;
 use cats_text::Watched;
@@ -29,7 +30,9 @@ pub(crate) fn report_request_error<E: Write>(error: &RequestError, err: &mut Wat
     ensures status { result ≡ status_of_request_error error.now }
     ensures line { Reports E.contents (line_of_request_error error.now) err.old err.new }
 {
-    report_error(err, error);
+    let mut line = LineBuffer::new();
+    push_error(&mut line, err, error);
+    line.send(err);
     status_of(error)
 }
 
@@ -43,14 +46,18 @@ pub(crate) fn status_of(error: &RequestError) -> u8
     }
 }
 
-/// Reports why a request has no answer.
-pub(crate) fn report_error<E: Write>(err: &mut Watched<E>, error: &RequestError)
-    ensures { Reports E.contents (line_of_request_error error.now) err.old err.new }
+/// Puts why a request has no answer behind the line.
+pub(crate) fn push_error<E: Write>(
+    line: &mut LineBuffer,
+    err: &mut Watched<E>,
+    error: &RequestError,
+)
+    ensures { Gathers E.contents (line_of_request_error error.now) line.old line.new err.old err.new }
 {
     match error {
-        RequestError::CannotOpen(which) => report(err, unopened(*which).as_bytes()),
-        RequestError::NotOpened(why) => report(err, not_opened(*why).as_bytes()),
-        RequestError::Run(fault) => report_pieces(err, &fault_pieces(fault)),
+        RequestError::CannotOpen(which) => line.push(err, unopened(*which).as_bytes()),
+        RequestError::NotOpened(why) => line.push(err, not_opened(*why).as_bytes()),
+        RequestError::Run(fault) => line.push_pieces(err, &fault_pieces(fault)),
     }
 }
 

@@ -10,14 +10,15 @@ ghost use Rattle.cats_cmd.specs.Internal.Judging.{OpensAllAs};
 ghost use Rattle.cats_cmd.specs.Paths.{Judgement, IsUnjudged, IsUnopened, RunsOnPaths, count_line, progress_line};
 ghost use Rattle.cats_cmd.specs.Paths.{progress_lines, refusal_line, refusal_lines, removal_lines, status_if};
 ghost use Rattle.cats_cmd.specs.RequestErrors.{Reports, ReportsAll};
+ghost use Rattle.cats_cmd.specs.Internal.Gathering.{Gathers};
 ghost use Rattle.cats_cmd.specs.Internal.Judging.{AddsFile, AddsJudgement, AddsPathAs, AddsOpened, HasSome, JudgesAllAs};
 ghost use Rattle.cats_cmd.specs.declared.paths.Ending.{Ending};
 ghost use Rattle.cats_cmd.specs.declared.paths.Progress.TheVariants.{Lines};
 ghost use Rattle.cats_cmd.specs.declared.errors.RequestError.{RequestError};
 ghost use Rattle.cats_cmd.specs.declared.errors.RequestError.TheVariants.{NotOpened};
 
-use crate::errors::{RequestError, report_error, status_of};
-use crate::lines::{report, report_escaped, report_number};
+use crate::errors::{RequestError, push_error, status_of};
+use crate::lines::{LineBuffer, report};
 use crate::priced_input::{PricedInput, report_rounded};
 use crate::run::send_text;
 use crate::source::{Source, Unopened};
@@ -267,9 +268,11 @@ pub(crate) fn open_file<S: Source>(
 pub(crate) fn report_refusal<E: Write>(err: &mut Watched<E>, path: &[u8], error: &RequestError)
     ensures { Reports E.contents (refusal_line path.now error.now) err.old err.new }
 {
-    report_escaped(err, path);
-    report(err, b": ");
-    report_error(err, error);
+    let mut line = LineBuffer::new();
+    line.push_escaped(err, path);
+    line.push(err, b": ");
+    push_error(&mut line, err, error);
+    line.send(err);
 }
 
 /// Removes the line of progress of a terminal, which is there after the first file.
@@ -321,24 +324,29 @@ fn report_hundreds<E: Write>(turn: &Turn<'_>, err: &mut Watched<E>)
 fn report_last<E: Write>(turn: &Turn<'_>, err: &mut Watched<E>)
     ensures { Reports E.contents (progress_line turn.now.number turn.now.count turn.now.path.now) err.old err.new }
 {
-    report_numbers(turn, err);
-    report(err, b" ");
-    report_escaped(err, turn.path);
-    report(err, b"\n");
+    let mut line = LineBuffer::new();
+    push_numbers(&mut line, err, turn);
+    line.push(err, b" ");
+    line.push_escaped(err, turn.path);
+    line.push(err, b"\n");
+    line.send(err);
 }
 
 /// Reports so on a terminal: without the path, so that it is one line there.
 fn report_count<E: Write>(turn: &Turn<'_>, err: &mut Watched<E>)
     ensures { Reports E.contents (count_line turn.now.number turn.now.count) err.old err.new }
 {
-    report_numbers(turn, err);
-    report(err, b"\n");
+    let mut line = LineBuffer::new();
+    push_numbers(&mut line, err, turn);
+    line.push(err, b"\n");
+    line.send(err);
 }
 
-fn report_numbers<E: Write>(turn: &Turn<'_>, err: &mut Watched<E>)
-    ensures { Reports E.contents (decimal turn.now.number ++ codes " of " ++ decimal turn.now.count) err.old err.new }
+fn push_numbers<E: Write>(line: &mut LineBuffer, err: &mut Watched<E>, turn: &Turn<'_>)
+    ensures { Gathers E.contents (decimal turn.now.number ++ codes " of " ++ decimal turn.now.count) line.old line.new
+        err.old err.new }
 {
-    report_number(err, turn.number as u64);
-    report(err, b" of ");
-    report_number(err, turn.count as u64);
+    line.push_number(err, turn.number as u64);
+    line.push(err, b" of ");
+    line.push_number(err, turn.count as u64);
 }

@@ -3,11 +3,11 @@
 ghost use Rattle.std.specs.Prelude.{◌≡◌, false};
 ghost use Rattle.cats_text.specs.Streams.{has_ended, has_failed};
 ghost use Rattle.cats_cmd.specs.Internal.Roundings.{ReadsRounded};
-ghost use Rattle.cats_cmd.specs.PricedInputs.{fine_prices, rounding_line, rounding_lines};
+ghost use Rattle.cats_cmd.specs.PricedInputs.{fine_prices, rounded_words, rounding_line, rounding_lines};
 ghost use Rattle.cats_cmd.specs.RequestErrors.{Reports, ReportsAll};
 
 use crate::bytes::read_bytes;
-use crate::lines::{report, report_escaped, report_number};
+use crate::lines::LineBuffer;
 use bid_file::PackedFile;
 use cats_text::packed::{Header, check, read_packed};
 use cats_text::{Kind, ReadFault, Watched};
@@ -123,12 +123,21 @@ pub(crate) fn report_rounded<E: Write>(path: &[u8], count: usize, err: &mut Watc
 fn report_rounded_count<E: Write>(path: &[u8], count: usize, err: &mut Watched<E>)
     ensures { Reports E.contents (rounding_line path.now count) err.old err.new }
 {
-    report_escaped(err, path);
-    report(err, b": ");
-    report_number(err, count as u64);
+    let mut line = LineBuffer::new();
+    line.push_escaped(err, path);
+    line.push(err, b": ");
+    line.push_number(err, count as u64);
+    line.push(err, rounded_words(count).as_bytes());
+    line.send(err);
+}
+
+/// What is behind the number.
+fn rounded_words(count: usize) -> &'static str
+    ensures { result.now ≡ rounded_words count }
+{
     if count == 1 {
-        report(err, b" price rounded\n");
+        " price rounded\n"
     } else {
-        report(err, b" prices rounded\n");
+        " prices rounded\n"
     }
 }

@@ -12,6 +12,7 @@ mod few_files;
 mod files;
 mod folders;
 mod inputs;
+mod lines;
 mod lp;
 mod many_files;
 mod memory;

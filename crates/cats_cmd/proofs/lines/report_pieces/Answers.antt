@@ -1,12 +1,6 @@
 -- `report_pieces`
-use Rattle.cats_cmd.proofs.Common.{text_of_piece}
-use Rattle.cats_cmd.proofs.Reporting.{reports_nothing, reports_next}
+use Rattle.cats_cmd.proofs.Gathering.{gathered_sent}
 use Rattle.cats_cmd.proofs.lines.report_pieces.Goals as goal
 
-pub loop-piece-init : goal.loop-piece-init
-loop-piece-init g c = reports_nothing g.E.Write.contents c.args.err.now
-
-pub loop-piece-preserved : goal.loop-piece-preserved
-loop-piece-preserved g c =
-    reports_next g.E.Write.contents text_of_piece c.args.pieces.now c.loop-piece.piece-index _ c.loop-piece-test.true _ _ _ c.loop-piece.invariant
-    c.report_piece.ensures
+pub returns : goal.returns
+returns g c = gathered_sent g.E.Write.contents _ _ _ _ _ (rw c.new-line.ensures at c.push_pieces.ensures) c.send.ensures.reports
