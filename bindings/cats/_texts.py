@@ -27,14 +27,15 @@ def bytes_of(text: TextOrPath) -> bytes:
     may say anything of itself, as of its length."""
     if type(text) is bytes:
         return text
-    if isinstance(text, os.PathLike) and not isinstance(text, bytes):
-        with open(path_of(text), "rb") as file:
-            return file.read()
+    given: Any = text
     try:
-        return bytes(memoryview(text))
+        return bytes(memoryview(given))
     except TypeError:
-        kind = type(text).__name__
-        raise TypeError(f"a text is bytes or an os.PathLike, and no {kind}: pathlib.Path(name) is a path, and text.encode() a text") from None
+        if not isinstance(text, os.PathLike):
+            kind = type(text).__name__
+            raise TypeError(f"a text is bytes or an os.PathLike, and no {kind}: pathlib.Path(name) is a path, and text.encode() a text") from None
+    with open(path_of(text), "rb") as file:
+        return file.read()
 
 
 def path_of(path: Union[str, "os.PathLike[str]", "os.PathLike[bytes]"]) -> Union[str, bytes]:
