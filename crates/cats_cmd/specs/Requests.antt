@@ -63,7 +63,7 @@ misuse_text BidsTwice =
     codes "error: give bids, or '--bids <LIST>', and not both\n\nFor more information, try '--help'.\n"
 misuse_text UnboundedTotal = codes "error: '--total-steps <N>' needs '--bound'\n\nFor more information, try '--help'.\n"
 misuse_text WrongGoods =
-    codes "error: goods are numbers and ranges, as in '0,2-5'\n\nFor more information, try '--help'.\n"
+    codes "error: goods are numbers up to 4095 and ranges, as in '0,2-5'\n\nFor more information, try '--help'.\n"
 misuse_text WrongFiles =
     codes "error: give paths, or '--files0-from <LIST>', and not both\n\nFor more information, try '--help'.\n"
 

@@ -68,7 +68,7 @@ pub(crate) fn misuse_text(misuse: Misuse) -> &'static str
             "error: '--total-steps <N>' needs '--bound'\n\nFor more information, try '--help'.\n"
         }
         Misuse::WrongGoods => {
-            "error: goods are numbers and ranges, as in '0,2-5'\n\nFor more information, try '--help'.\n"
+            "error: goods are numbers up to 4095 and ranges, as in '0,2-5'\n\nFor more information, try '--help'.\n"
         }
         Misuse::WrongFiles => {
             "error: give paths, or '--files0-from <LIST>', and not both\n\nFor more information, try '--help'.\n"

@@ -16,9 +16,10 @@ pub use Rattle.clap.specs.declared.error.Error.{Error}
 pub use Rattle.clap.specs.declared.error.kind.ErrorKind.{ErrorKind}
 pub use Rattle.clap.specs.declared.error.kind.ErrorKind.TheVariants.{ValueValidation}
 pub use Rattle.clap.specs.declared.parser.matches.ArgMatches.{ArgMatches}
-pub use Rattle.command_line.specs.Goods.{all_goods, ends_of, goods_of_part, joined, good_of, goods_of_word, goods_of_words}
+pub use Rattle.command_line.specs.Goods.{all_goods, ends_of, firsts, goods_of_part, joined, good_of, goods_of_word, goods_of_words}
 pub use Rattle.command_line.specs.Internal.Commands.{rule_for, has_globals, with_row}
 pub use Rattle.command_line.specs.Internal.Matches.{IsAnswerTo, rows_in}
+pub use Rattle.command_line.specs.Internal.Named.{AreMarked, is_among, with_all, with_named}
 pub use Rattle.command_line.specs.Numbers.{numbers_up_to}
 pub use Rattle.command_line.specs.PlainRequests.{PlainRequest, OnFile, PlainCommand, Normalise}
 pub use Rattle.command_line.specs.Requests.{IsNoRequestOf, if_taken, is_no_memory, is_shown, misuse_in, misuse_of, request_from, request_of, texts_of}
@@ -33,19 +34,21 @@ pub use Rattle.command_line.specs.declared.request.NoRequest.TheVariants.{Help, 
 pub use Rattle.command_line.specs.declared.request.Prices.TheVariants.{AsWritten}
 pub use Rattle.command_line.specs.declared.request.Request.{Request}
 pub use Rattle.std.proofs.Common.{◌≡◌, ◌∙◌, ℕ, Bool, true, false, List, [], ◌∷◌, Option, Some, None, Result, ap, sym, subst, refl, inl, inr, ◌++◌, ◌+◌, ◌-◌}
-pub use Rattle.std.proofs.Common.{◌<◌, ◌≤◌, drop, get_or, length, arith, le-leb, suc, zero, ap₂, map, Ok, Err, ◌^◌, ◌≢◌, rules, take, tests, codes}
+pub use Rattle.std.proofs.Common.{◌<◌, ◌≤◌, drop, replicate, get_or, length, arith, le-leb, suc, zero, ap₂, map, Ok, Err, ◌^◌, ◌≢◌, rules, take, tests, codes}
 pub use Rattle.std.proofs.Math.Bool.{or-true}
 pub use Rattle.std.proofs.lemmas.Bool.{lt-leb}
+pub use Rattle.std.proofs.lemmas.Bool.Decides.{nat_tests}
 pub use Rattle.std.proofs.lemmas.Iterator.Adapters.{option_map_id}
 pub use Rattle.std.proofs.lemmas.Iterator.Consumers.{map_from_collect}
 pub use Rattle.std.proofs.lemmas.Iterator.Splits.{YieldsList-from_str_split}
-pub use Rattle.std.proofs.lemmas.List.{append_assoc, at_drop_more, get_or-map, map_more}
-pub use Rattle.std.proofs.lemmas.List.Sums.{fold_more}
+pub use Rattle.std.proofs.lemmas.List.{append-nil, append_assoc, get_or-replicate, length-replicate, at_drop_more, get_or-map, map_more}
+pub use Rattle.std.proofs.lemmas.List.Folds.{list_any-append}
+pub use Rattle.std.proofs.lemmas.List.Sums.{fold_more, fold-append, fold_push}
 pub use Rattle.std.proofs.lemmas.Slice.Eq.{bytes_eq-Decides}
 pub use Rattle.std.specs.Borrow.{Bor}
 pub use Rattle.std.specs.List.{list_any, range_with_len, slice_split}
 pub use Rattle.std.specs.Option.{option_map_or}
-pub use Rattle.std.specs.Prelude.{IfErr, not, option_map, ◌==◌, if◌then◌else◌, option_and_then, ◌||◌, All, find, fold, unwrap_or}
+pub use Rattle.std.specs.Prelude.{IfErr, filter, not, ◌&&◌, option_map, ◌==◌, if◌then◌else◌, option_and_then, ◌||◌, All, find, fold, unwrap_or}
 pub use Rattle.std.specs.Result.{result_ok}
 pub use Rattle.std.specs.Str.{bytes_eq}
 pub use Rattle.std.specs.Str.Parse.{ParsesUnsigned, ExplainsUnsignedError, HasUnsignedDigitsIfOk}

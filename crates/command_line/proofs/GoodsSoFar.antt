@@ -1,17 +1,18 @@
 -- The goods of a list of texts are those of its first text and of the others.
 use Rattle.command_line.proofs.Common.{◌≡◌, ◌∙◌, ◌++◌, ◌+◌, ◌-◌, ◌<◌, ◌≤◌, ℕ, Bool, true, false, List, [], ◌∷◌, Option, None, Some, drop, get_or, length, ap}
 use Rattle.command_line.proofs.Common.{arith, le-leb, refl, suc, sym, zero, Bor, range_with_len, slice_split, ◌==◌, if◌then◌else◌, not, option_and_then}
-use Rattle.command_line.proofs.Common.{option_map, lt-leb, append_assoc, at_drop_more, all_goods, ends_of, goods_of_part, joined, texts_of}
+use Rattle.command_line.proofs.Common.{option_map, lt-leb, fold-append, fold_push, at_drop_more, all_goods, ends_of, goods_of_part, joined, texts_of}
+use Rattle.command_line.proofs.Common.{with_all, with_named}
 
 -- the goods so far, and those that are found after them
 abbrev pub after : List ℕ → Option (List ℕ) → Option (List ℕ)
-after so_far found = option_map (λ more. so_far ++ more) found
+after so_far found = option_map (with_all so_far) found
 
 joined_after : (so_far : List ℕ) (found rest : Option (List ℕ)) → after so_far (joined found rest)
     ≡ option_and_then (λ new. after new rest) (after so_far found)
 joined_after so_far None rest = refl
 joined_after so_far (Some xs) None = refl
-joined_after so_far (Some xs) (Some ys) = ap Some (sym (append_assoc so_far xs ys))
+joined_after so_far (Some xs) (Some ys) = ap Some (fold-append with_named so_far xs ys)
 
 -- one text more, of which these are the goods so far, or which is wrong
 pub one_more : (goods_of : List ℕ → Option (List ℕ)) (so_far : List ℕ) (now : Option (List ℕ)) (texts : List (Bor (List ℕ))) (i : ℕ) (d : Bor (List ℕ))
@@ -32,16 +33,16 @@ range_more : (a n j : ℕ) → a + n ≡ j → range_with_len a (suc n) ≡ rang
 range_more a zero j e = ap (λ k. k ∷ []) (omega (arith, e))
 range_more a (suc n) j e = ap (λ l. a ∷ l) (range_more (a + 1) n j (omega (arith, e)))
 
-pub pushed : (so_far items new : List ℕ) (first good last : ℕ) → first ≤ good → good ≡ last → new ≡ items ++ good ∷ []
-    → items ≡ so_far ++ range_with_len first (good - first) → new ≡ so_far ++ range_with_len first (last + 1 - first)
+pub pushed : (so_far items new : List ℕ) (first good last : ℕ) → first ≤ good → good ≡ last → new ≡ with_named items good
+    → items ≡ with_all so_far (range_with_len first (good - first)) → new ≡ with_all so_far (range_with_len first (last + 1 - first))
 pushed so_far items new first good last le is push before =
     let longer : suc (good - first) ≡ last + 1 - first = omega (arith, le, is) in
     let more = range_more first (good - first) good (omega (arith, le)) in
-    rw (push, before, ← longer, more) (append_assoc so_far (range_with_len first (good - first)) (good ∷ []))
+    rw (push, before, ← longer, more) (sym (fold_push with_named so_far (range_with_len first (good - first)) good))
 
 module _ (so_far : List ℕ) (parts : List (Bor (List ℕ))) (i : ℕ) (d : Bor (List ℕ)) (lt : i < length parts) (first last : ℕ)
     (ends : Some (first, last) ≡ ends_of (slice_split (λ b. b == 45) (get_or parts i d).now)) where
-  pub one_range : (new : List ℕ) → first ≤ last → new ≡ so_far ++ range_with_len first (last + 1 - first)
+  pub one_range : (new : List ℕ) → first ≤ last → new ≡ with_all so_far (range_with_len first (last + 1 - first))
       → after so_far (all_goods goods_of_part (texts_of (drop i parts))) ≡ after new (all_goods goods_of_part (texts_of (drop (i + 1) parts)))
   one_range new le is = one_more goods_of_part so_far (Some new) parts i d lt (rw (← ends, le-leb first last le) (ap Some is))
 

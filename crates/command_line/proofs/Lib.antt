@@ -1,6 +1,7 @@
 -- Proofs that several functions of this crate cite.
 pub mod Common
 pub mod Answering
+pub mod FirstNames
 pub mod GoodsSoFar
 pub mod Lines
 pub mod PlainWords

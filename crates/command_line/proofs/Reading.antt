@@ -1,6 +1,7 @@
 -- What the getters of `clap` read is what the rows say: numbers are read exactly if they are decimal numbers in range.
-use Rattle.command_line.proofs.Common.{◌++◌, ◌+◌, ◌≡◌, ◌<◌, ℕ, Bool, true, false, List, [], ◌∷◌, Option, Some, None, Result, Ok, Err, sym, ap, refl, arith, ◌^◌}
-use Rattle.command_line.proofs.Common.{Bor, list_any, ◌||◌, option_and_then, option_map, option_map_or, result_ok, ParsesUnsigned, ExplainsUnsignedError}
+use Rattle.command_line.proofs.Common.{◌++◌, ◌+◌, ◌≡◌, ◌∙◌, ◌<◌, ℕ, Bool, true, false, List, [], ◌∷◌, Option, Some, None, Result, Ok, Err, sym, ap, refl, arith}
+use Rattle.command_line.proofs.Common.{◌^◌, ◌≤◌, Bor, list_any, ◌||◌, option_and_then, option_map, option_map_or, result_ok}
+use Rattle.command_line.proofs.Common.{ParsesUnsigned, ExplainsUnsignedError}
 use Rattle.command_line.proofs.Common.{HasUnsignedDigitsIfOk, ParseIntError, ReadsOne, StepsValues, is_unsigned_in, Unsigned, accepts-Accepts, Accepts-accepts}
 use Rattle.command_line.proofs.Common.{texts_of, good_of, numbers_up_to, option_map_id, append_assoc}
 use Rattle.command_line.specs.Numbers.{begins_with_sign, number_up_to}
@@ -34,9 +35,34 @@ limit_read (Some text) answer none value = read answer (value text refl)
     read (Some n) h = number_read 64 18446744073709551615 refl (omega arith) ParseIntError text (Ok n) h.0
     read None h = number_read 64 18446744073709551615 refl (omega arith) ParseIntError text (Err h.0) h.1.0
 
-pub good_read : (E : Type 0) (text : List ℕ) (answer : Result ℕ E) → begins_with_sign text ≡ false → ParsesUnsigned 16 10 text answer
-    → result_ok answer ≡ good_of text
-good_read E text answer plain parses = rw plain (number_read 16 65535 refl (omega arith) E text answer parses)
+-- a good that is read from a text is the text's, if it is not too great, as no number is if none is read
+pub good_read : (E : Type 0) (text : List ℕ) (answer : Result ℕ E) (n : ℕ) → begins_with_sign text ≡ false → ParsesUnsigned 16 10 text answer
+    → answer ≡ Ok n → n ≤ 4095 → Some n ≡ good_of text
+good_read E text (Ok m) n plain parses is small =
+    let same : m ≡ n = ap (λ (read : Result ℕ E). get_ok read) is in
+    let value = parses.1 in
+    rw (plain, Accepts-accepts false (Unsigned 0 4095) text (parses.0.0, omega (arith, small, same, value), omega arith, omega (arith, small, same, value)))
+    (ap Some (sym same ∙ value))
+  where
+    get_ok : {E : Type 0} → Result ℕ E → ℕ
+    get_ok (Ok n) = n
+    get_ok (Err e) = 0
+good_read E text (Err e) n plain parses is small = cc
+
+pub no_good_read : (E : Type 0) (text : List ℕ) (answer : Result ℕ E) → begins_with_sign text ≡ false → ParsesUnsigned 16 10 text answer
+    → ((n : ℕ) → answer ≡ Ok n → 4095 < n) → None ≡ good_of text
+no_good_read E text answer plain parses great = rw plain (go (is_unsigned_in 0 4095 text) refl answer parses great)
+  where
+    go : (taken : Bool) → is_unsigned_in 0 4095 text ≡ taken → (answer : Result ℕ E) → ParsesUnsigned 16 10 text answer
+        → ((n : ℕ) → answer ≡ Ok n → 4095 < n) → None ≡ number_up_to 4095 text
+    go false accepts answer parses great = rw accepts refl
+    go true accepts (Ok n) parses great =
+        let within = (accepts-Accepts false (Unsigned 0 4095) text accepts).3 in
+        absurd (omega (arith, within, great n refl, parses.1))
+    go true accepts (Err e) parses great =
+        let numeral = accepts-Accepts false (Unsigned 0 4095) text accepts in
+        let within = numeral.3 in
+        absurd (parses (numeral.0, omega (arith, within)))
 
 -- ---- signs
 

@@ -1,13 +1,13 @@
 -- The goods that words name: each word is a list, with commas, of numbers and of ranges of numbers.
 use Rattle.std.specs.Prelude.{◌==◌, ◌-◌, ◌+◌, ◌++◌, ℕ, List, [], ◌∷◌, nat_le, Option, Some, None, if◌then◌else◌}
-use Rattle.std.specs.Prelude.{option_and_then, option_map}
+use Rattle.std.specs.Prelude.{filter, not, option_and_then, option_map}
 use Rattle.std.specs.List.{range_with_len, slice_split}
 use Rattle.std.specs.Option.{option_zip}
 use Rattle.command_line.specs.Numbers.{begins_with_sign, number_up_to}
 
--- goods have numbers of 16 bits, which are digits alone
+-- Goods have numbers up to 4,095, as a file has 4,096 goods at most. They are digits alone.
 abbrev pub good_of : List ℕ → Option ℕ
-good_of text = if begins_with_sign text then None else number_up_to 65535 text
+good_of text = if begins_with_sign text then None else number_up_to 4095 text
 
 -- the first and the last number of a range, by its texts; one number is both
 abbrev pub ends_of : List (List ℕ) → Option (ℕ × ℕ)
@@ -35,5 +35,11 @@ all_goods goods_of (text ∷ texts) = joined (goods_of text) (all_goods goods_of
 abbrev pub goods_of_word : List ℕ → Option (List ℕ)
 goods_of_word word = all_goods goods_of_part (slice_split (λ b. b == 44) word)
 
+-- each of these numbers once, where it comes first
+abbrev pub firsts : List ℕ → List ℕ
+firsts [] = []
+firsts (n ∷ ns) = n ∷ filter (λ m. not (m == n)) (firsts ns)
+
+-- a good that is named again adds nothing
 abbrev pub goods_of_words : List (List ℕ) → Option (List ℕ)
-goods_of_words = all_goods goods_of_word
+goods_of_words words = option_map firsts (all_goods goods_of_word words)

@@ -77,15 +77,18 @@ pub fn bids_and_files()
         ≡ Some (OnFiles (usual_files (Given (codes "a" ∷ [])) (Duplicates true))) }
 {}
 
-/// Goods are numbers, lists and ranges.
+/// Goods are numbers, lists and ranges. Each is there once, where it is named first.
 pub fn goods()
     ensures line { request_of (words_in (codes "cats value a 0-2 7,4,5-6 1"))
-        ≡ Some (OnFile (codes "a") AsWritten (Value (0 ∷ 1 ∷ 2 ∷ 7 ∷ 4 ∷ 5 ∷ 6 ∷ 1 ∷ []) (usual_limits false))) }
-    ensures words { map goods_of_word (codes "3" ∷ codes "3-3" ∷ codes "65534-65535" ∷ codes "1,1" ∷ [])
-        ≡ Some (3 ∷ []) ∷ Some (3 ∷ []) ∷ Some (65534 ∷ 65535 ∷ []) ∷ Some (1 ∷ 1 ∷ []) ∷ [] }
+        ≡ Some (OnFile (codes "a") AsWritten (Value (0 ∷ 1 ∷ 2 ∷ 7 ∷ 4 ∷ 5 ∷ 6 ∷ []) (usual_limits false))) }
+    ensures again { request_of (words_in (codes "cats value a 3,0,3 0-4 2"))
+        ≡ Some (OnFile (codes "a") AsWritten (Value (3 ∷ 0 ∷ 1 ∷ 2 ∷ 4 ∷ []) (usual_limits false))) }
+    ensures words { map goods_of_word (codes "3" ∷ codes "3-3" ∷ codes "4094-4095" ∷ codes "1,1" ∷ [])
+        ≡ Some (3 ∷ []) ∷ Some (3 ∷ []) ∷ Some (4094 ∷ 4095 ∷ []) ∷ Some (1 ∷ 1 ∷ []) ∷ [] }
     ensures wrong_words { map goods_of_word (codes "19-0" ∷ codes "0-" ∷ codes "-3" ∷ codes "1,,2" ∷ [] ∷ codes "1,"
-        ∷ codes "1-2-3" ∷ codes "+1" ∷ codes "1,+2" ∷ codes "65536" ∷ codes "0-65536" ∷ codes "1 2" ∷ codes "x" ∷ [])
-        ≡ None ∷ None ∷ None ∷ None ∷ None ∷ None ∷ None ∷ None ∷ None ∷ None ∷ None ∷ None ∷ None ∷ [] }
+        ∷ codes "1-2-3" ∷ codes "+1" ∷ codes "1,+2" ∷ codes "4096" ∷ codes "0-4096" ∷ codes "65536" ∷ codes "1 2"
+        ∷ codes "x" ∷ [])
+        ≡ None ∷ None ∷ None ∷ None ∷ None ∷ None ∷ None ∷ None ∷ None ∷ None ∷ None ∷ None ∷ None ∷ None ∷ [] }
 {}
 
 /// Lines that `clap` takes and that request nothing: why. The space at the end of one line is before an empty word.

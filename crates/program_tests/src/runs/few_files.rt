@@ -119,7 +119,7 @@ static ROWS: [Row<'static>; 27] = [
         &["cats", "value", "sum", "1-0"],
         64,
         "",
-        "error: goods are numbers and ranges, as in '0,2-5'\n\nFor more information, try '--help'.\n",
+        "error: goods are numbers up to 4095 and ranges, as in '0,2-5'\n\nFor more information, try '--help'.\n",
     ),
     (&["cats", "fault", "one"], 0, "", ""),
     (

@@ -221,12 +221,12 @@ static VALUED_ROWS: [Row<'static>; 14] = [
         "",
     ),
     (
-        "cats value FILE 0 65535 2",
+        "cats value FILE 0 4095 2",
         CAPACITY,
         CAPACITY,
         64,
         "",
-        "good 65535 out of range\n",
+        "good 4095 out of range\n",
     ),
 ];
 
