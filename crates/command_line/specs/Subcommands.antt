@@ -77,6 +77,10 @@ null = record (flag (codes "null")) { short = Some 48 }
 abbrev pub bound : Rule
 bound = flag (codes "bound")
 
+-- the same flag of a subcommand that always uses the bounded search: it changes nothing
+abbrev pub always_bound : Rule
+always_bound = record (flag (codes "always-bound")) { long = Some (codes "bound") }
+
 -- the flags that round prices, before these rules
 abbrev pub with_rounding : List Rule → List Rule
 with_rounding rules = flag (codes "round") ∷ flag (codes "round-exact") ∷ rules
@@ -93,7 +97,7 @@ abbrev pub two : List Rule
 two = file ∷ second_file ∷ more_files ∷ []
 
 abbrev pub many : List Rule → List Rule
-many more = with_rounding (with_limits (flag (codes "progress") ∷ null ∷ more
+many more = with_rounding (always_bound ∷ with_limits (flag (codes "progress") ∷ null ∷ more
     ++ option (codes "files0-from") ∷ files ∷ []))
 
 -- ---- what was given, by the rows of the arguments
@@ -125,7 +129,7 @@ abbrev pub prices_in : List Row → Prices
 prices_in rows = if is_set (codes "round-exact") rows then RoundedExactly
     else (if is_set (codes "round") rows then Rounded else AsWritten)
 
--- The search is the bounded one if `--bound` is given. A subcommand that has no such flag always uses it.
+-- The search is the bounded one if the flag that chooses it is given. A subcommand without it always uses that search.
 abbrev pub is_bounded : List Row → Bool
 is_bounded rows = option_map_or is_true (first_of (codes "bound") rows) true
 
@@ -245,11 +249,11 @@ subcommands =
     ∷ named (codes "value") (with_rounding (bound ∷ with_limits (file ∷ goods ∷ []))) (on_file valued)
     ∷ named (codes "revenue") (with_rounding (option (codes "bids") ∷ file ∷ bids ∷ [])) (on_file awarded)
     ∷ named (codes "normalise") (with_rounding (bound ∷ with_limits one)) (on_file (limited Normalise))
-    ∷ named (codes "explain") (with_rounding (with_limits one)) (on_file (limited Explain))
+    ∷ named (codes "explain") (with_rounding (always_bound ∷ with_limits one)) (on_file (limited Explain))
     ∷ named (codes "round") (flag (codes "exact") ∷ one) round_in
     ∷ named (codes "lp") (with_rounding one) (on_file (λ rows. Some Lp))
     ∷ named (codes "compare") (with_rounding (bound ∷ with_limits two)) (on_pair Compare)
-    ∷ named (codes "diff") (with_rounding (with_limits two)) (on_pair Diff)
+    ∷ named (codes "diff") (with_rounding (always_bound ∷ with_limits two)) (on_pair Diff)
     ∷ named (codes "duplicates") (many (flag (codes "all") ∷ [])) duplicates_in
     ∷ named (codes "sizes") (many []) (on_files Sizes)
     ∷ []

@@ -15,8 +15,8 @@ use crate::parser::{
 };
 use crate::request::{FileCommand, FilesCommand, PairCommand, Request};
 use Argument::{
-    All, BidList, Bids, Bound, Exact, File, Files, Goods, List, MoreFiles, Null, Progress, Round,
-    RoundExact, SecondFile, Steps, TotalSteps,
+    All, BidList, Bids, Bound, Bounded, Exact, File, Files, Goods, List, MoreFiles, Null, Progress,
+    Round, RoundExact, SecondFile, Steps, TotalSteps,
 };
 use clap::{Arg, ArgAction, ArgMatches, Command, value_parser};
 use std::alloc::{AllocError, Global};
@@ -37,6 +37,8 @@ pub(crate) const STEPS: &str = "steps";
 pub(crate) const TOTAL_STEPS: &str = "total-steps";
 /// The flag for the bounded search.
 pub(crate) const BOUND: &str = "bound";
+/// The same flag where the search is always the bounded one.
+const ALWAYS_BOUND: &str = "always-bound";
 /// The flag for reports of how many files were read.
 pub(crate) const PROGRESS: &str = "progress";
 /// The flag for NUL after each path of the output.
@@ -80,6 +82,8 @@ enum Argument {
     /// The option for a limit of all searches together.
     TotalSteps,
     Bound,
+    /// The same flag of a subcommand that always uses that search.
+    Bounded,
     Progress,
     Null,
     All,
@@ -123,7 +127,9 @@ static SUBCOMMANDS: &[Subcommand] = &[
     },
     Subcommand {
         name: "explain",
-        arguments: &[Round, RoundExact, Steps, TotalSteps, File, MoreFiles],
+        arguments: &[
+            Round, RoundExact, Bounded, Steps, TotalSteps, File, MoreFiles,
+        ],
     },
     Subcommand {
         name: "round",
@@ -142,19 +148,19 @@ static SUBCOMMANDS: &[Subcommand] = &[
     Subcommand {
         name: "diff",
         arguments: &[
-            Round, RoundExact, Steps, TotalSteps, File, SecondFile, MoreFiles,
+            Round, RoundExact, Bounded, Steps, TotalSteps, File, SecondFile, MoreFiles,
         ],
     },
     Subcommand {
         name: "duplicates",
         arguments: &[
-            Round, RoundExact, Steps, TotalSteps, Progress, Null, All, List, Files,
+            Round, RoundExact, Bounded, Steps, TotalSteps, Progress, Null, All, List, Files,
         ],
     },
     Subcommand {
         name: "sizes",
         arguments: &[
-            Round, RoundExact, Steps, TotalSteps, Progress, Null, List, Files,
+            Round, RoundExact, Bounded, Steps, TotalSteps, Progress, Null, List, Files,
         ],
     },
 ];
@@ -281,6 +287,7 @@ impl Argument {
                 .value_name("N")
                 .value_parser(value_parser!(u64).range(1..=MAX_TOTAL_STEPS)),
             Bound => flag(alloc, BOUND),
+            Bounded => flag(alloc, ALWAYS_BOUND).long(BOUND),
             Progress => flag(alloc, PROGRESS),
             Null => flag(alloc, NULL).short('0'),
             All => flag(alloc, ALL),

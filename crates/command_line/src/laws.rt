@@ -59,7 +59,7 @@ pub fn rounded()
         ≡ Some (OnPair first second RoundedExactly Compare (usual_limits false)) }
 {}
 
-/// `--bound` chooses the bounded search.
+/// `--bound` chooses the bounded search; `explain` always uses it (`worked::limits` has its other commands).
 pub fn bounded()
     ensures normalise { (program path : List ℕ) → begins_with_hyphen path ≡ false
         → request_of (program ∷ codes "normalise" ∷ codes "--bound" ∷ path ∷ [])
@@ -70,6 +70,9 @@ pub fn bounded()
     ensures compare { (program first second : List ℕ) → begins_with_hyphen first ≡ false → begins_with_hyphen second ≡ false
         → request_of (program ∷ codes "compare" ∷ codes "--bound" ∷ first ∷ second ∷ [])
         ≡ Some (OnPair first second AsWritten Compare (usual_limits true)) }
+    ensures explain { (program path : List ℕ) → begins_with_hyphen path ≡ false
+        → request_of (program ∷ codes "explain" ∷ codes "--bound" ∷ path ∷ [])
+        ≡ Some (OnFile path AsWritten (Explain (usual_limits true))) }
 {}
 
 /// The limit of each search. A value may follow `=`, or be the next word (`worked::lines`).

@@ -310,7 +310,7 @@ fn has_unbounded_total(given: &ArgMatches<'_>) -> bool
     find_text(given, TOTAL_STEPS).is_some() && !is_bounded(given)
 }
 
-/// Whether the search is the bounded one, as it is where there is no flag for it.
+/// Whether the search is the bounded one, as it is where no flag chooses it.
 fn is_bounded(given: &ArgMatches<'_>) -> bool
     ensures { result ≡ is_bounded (rows_in given.now) }
 {

@@ -41,6 +41,10 @@ pub fn limits()
         ≡ Some (OnFile (codes "a") AsWritten (Value (3 ∷ []) (usual_limits true))) }
     ensures explain { request_of (words_in (codes "cats explain --total-steps=1000000000000 a"))
         ≡ Some (OnFile (codes "a") AsWritten (Explain (record (usual_limits true) { total = Some 1000000000000 }))) }
+    ensures always { map (λ line. request_of (words_in line)) (codes "cats explain a" ∷ codes "cats diff a b"
+        ∷ codes "cats duplicates a --total-steps=5" ∷ codes "cats sizes a" ∷ [])
+        ≡ map (λ line. request_of (words_in line)) (codes "cats explain --bound a" ∷ codes "cats diff a --bound b"
+        ∷ codes "cats duplicates --bound a --total-steps=5" ∷ codes "cats sizes a --bound" ∷ []) }
     ensures sizes { request_of (words_in (codes "cats sizes a --total-steps=5 --steps=7"))
         ≡ Some (OnFiles (record (usual_files (Given (codes "a" ∷ [])) Sizes) {
           limits = record { bound = true; steps = 7; total = Some 5 };
@@ -109,7 +113,7 @@ pub fn misused_lines()
 pub fn wrong_lines()
     ensures { map (λ line. request_of (words_in line)) (codes "cats" ∷ codes "cats check" ∷ codes "cats Check a"
         ∷ codes "cats check --help" ∷ codes "cats value --steps 0 a" ∷ codes "cats value a 65536"
-        ∷ codes "cats sizes -0 --null a" ∷ codes "cats explain --bound a" ∷ codes "cats explain --total-steps=0 a"
+        ∷ codes "cats sizes -0 --null a" ∷ codes "cats explain --bound --bound a" ∷ codes "cats explain --total-steps=0 a"
         ∷ codes "cats sizes" ∷ [])
         ≡ None ∷ None ∷ None ∷ None ∷ None ∷ None ∷ None ∷ None ∷ None ∷ None ∷ [] }
 {}

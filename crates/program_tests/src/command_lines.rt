@@ -114,6 +114,26 @@ static REQUESTS: &[(&[&str], &str)] = &[
         "OnFile(FileRequest { file: \"a\", prices: AsWritten, command: Value { goods: [0], limits: Limits { bound: true, steps: 1000000, total: None } } })",
     ),
     (
+        &["cats", "value", "a", "3,0,3", "0-4", "4095", "2"],
+        "OnFile(FileRequest { file: \"a\", prices: AsWritten, command: Value { goods: [3, 0, 1, 2, 4, 4095], limits: Limits { bound: false, steps: 1000000, total: None } } })",
+    ),
+    (
+        &["cats", "explain", "--bound", "a"],
+        "OnFile(FileRequest { file: \"a\", prices: AsWritten, command: Explain(Limits { bound: true, steps: 1000000, total: None }) })",
+    ),
+    (
+        &["cats", "diff", "a", "--bound", "b", "--steps=7"],
+        "OnPair(PairRequest { first: \"a\", second: \"b\", prices: AsWritten, command: Diff, limits: Limits { bound: true, steps: 7, total: None } })",
+    ),
+    (
+        &["cats", "duplicates", "a", "--bound"],
+        "OnFiles(FilesRequest { paths: Given([[97]]), prices: AsWritten, command: Duplicates { all: false }, limits: Limits { bound: true, steps: 1000000, total: None }, progress: false, null: false })",
+    ),
+    (
+        &["cats", "sizes", "--bound", "a"],
+        "OnFiles(FilesRequest { paths: Given([[97]]), prices: AsWritten, command: Sizes, limits: Limits { bound: true, steps: 1000000, total: None }, progress: false, null: false })",
+    ),
+    (
         &["cats", "explain", "--total-steps=1000000000000", "a"],
         "OnFile(FileRequest { file: \"a\", prices: AsWritten, command: Explain(Limits { bound: true, steps: 1000000, total: Some(1000000000000) }) })",
     ),
@@ -182,7 +202,8 @@ static WRONG_LINES: &[&[&str]] = &[
     &["cats", "sizes", "-0", "--null", "a"],
     &["cats", "normalise", "-0", "a"],
     &["cats", "check", "--files0-from", "a"],
-    &["cats", "explain", "--bound", "a"],
+    &["cats", "explain", "--bound", "--bound", "a"],
+    &["cats", "check", "--bound", "a"],
     &["cats", "check", "--total-steps=5", "a"],
     &["cats", "explain", "--total-steps=0", "a"],
     &["cats", "normalise", "--bound", "--bound", "a"],

@@ -5,11 +5,11 @@ use Rattle.clap.specs.Walk.{Rule}
 use Rattle.clap.specs.declared.builder.command.Command.{Command}
 use Rattle.clap.specs.declared.builder.command.Command.TheViews.{out-Command}
 use Rattle.command_line.specs.Subcommands.{file, second_file, more_files, files, goods, bound, steps}
-use Rattle.command_line.specs.Subcommands.{total_steps, option, flag, null, bids}
+use Rattle.command_line.specs.Subcommands.{always_bound, total_steps, option, flag, null, bids}
 use Rattle.command_line.specs.declared.commands.Argument.{Argument}
 use Rattle.command_line.specs.declared.commands.Argument.TheVariants.{File, SecondFile, MoreFiles, Files, List, Goods}
 use Rattle.command_line.specs.declared.commands.Argument.TheVariants.{Steps, TotalSteps, Bound, Progress, Null, Exact}
-use Rattle.command_line.specs.declared.commands.Argument.TheVariants.{All, Bids, BidList, Round, RoundExact}
+use Rattle.command_line.specs.declared.commands.Argument.TheVariants.{All, Bounded, Bids, BidList, Round, RoundExact}
 use Rattle.command_line.specs.declared.commands.Subcommand.{Subcommand}
 
 -- some argument is one of the subcommands too
@@ -28,6 +28,7 @@ rule_for BidList = option (codes "bids")
 rule_for Steps = steps
 rule_for TotalSteps = total_steps
 rule_for Bound = bound
+rule_for Bounded = always_bound
 rule_for Progress = flag (codes "progress")
 rule_for Null = null
 rule_for All = flag (codes "all")

@@ -15,3 +15,7 @@ returns-clause-value c program path plain = line (codes "value") (codes "--bound
 pub returns-clause-compare : goal.returns-clause-compare
 unfolding clap_on_literals
 returns-clause-compare c program first second one other = line (codes "compare") (codes "--bound" ∷ []) (first ∷ second ∷ []) (one, (other, tt)) refl refl
+
+pub returns-clause-explain : goal.returns-clause-explain
+unfolding clap_on_literals
+returns-clause-explain c program path plain = line (codes "explain") (codes "--bound" ∷ []) (path ∷ []) (plain, tt) refl refl
