@@ -7,13 +7,16 @@ use std::alloc::{AllocError, Global};
 use std::process::Abort;
 use std::test::Fail;
 
+/// No line of a help is longer.
+const WIDTH: usize = 79;
+
 /// What a command says of an argument: its own text, or else this one.
 fn text_of<'a>(command: &CommandHelp<'a>, argument: (&str, &'a str)) -> &'a str {
     let own = command.arguments.iter().find(|own| own.0 == argument.0);
     own.map_or(argument.1, |own| own.1)
 }
 
-/// Whether a help names an argument only beside the text of it.
+/// Whether a help names an argument only beside the lines of its text.
 fn has_text(alloc: Global, help: &str, name: &str, text: &str) -> Result<bool, AllocError> {
     let option = format!(in alloc; "--{name} ")?;
     let word = format!(in alloc; "<{name}>")?;
@@ -21,10 +24,10 @@ fn has_text(alloc: Global, help: &str, name: &str, text: &str) -> Result<bool, A
     let names = help.contains(option.as_str())
         || help.contains(word.as_str())
         || help.contains(words.as_str());
-    Ok(!names || help.contains(text))
+    Ok(!names || text.split('\n').all(|line| help.contains(line)))
 }
 
-/// Whether a help has all texts of a command, of whose arguments some have those of the program.
+/// Whether a help has short lines, and all texts of a command, of whose arguments some have those of the program.
 fn has_texts(
     alloc: Global,
     help: &str,
@@ -34,6 +37,9 @@ fn has_texts(
     let Some((before, _)) = help.split_once(command.after) else {
         return Ok(false);
     };
+    if !help.split('\n').all(|line| line.chars().count() <= WIDTH) {
+        return Ok(false);
+    }
     for argument in program.arguments {
         if !has_text(alloc, before, argument.0, text_of(command, *argument))? {
             return Ok(false);
