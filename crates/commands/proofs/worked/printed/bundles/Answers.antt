@@ -3,10 +3,10 @@ use Rattle.commands.proofs.Common.{refl}
 use Rattle.std.specs.Fmt.{digits}
 use Rattle.commands.proofs.worked.printed.bundles.Goals as goal
 
-pub returns-line : goal.returns-line
+pub returns-clause-line : goal.returns-clause-line
 unfolding digits
-returns-line c = refl
+returns-clause-line c = refl
 
-pub returns-cell : goal.returns-cell
+pub returns-clause-cell : goal.returns-clause-cell
 unfolding digits
-returns-cell c = refl
+returns-clause-cell c = refl
