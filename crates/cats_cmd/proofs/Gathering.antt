@@ -1,6 +1,6 @@
 -- Texts that are put behind a line one after the other, and the line that is then sent.
-use Rattle.cats_cmd.proofs.Common.{◌≡◌, ℕ, ◌+◌, ◌<◌, List, [], ◌∷◌, ◌++◌, length, get_or, take, refl, sym, ap, ◌∙◌, subst, append-nil, append_assoc, Option, flat_map}
-use Rattle.cats_cmd.proofs.Common.{flat_map-append, take_more, escaped, Gathers, GathersNext, Watched, Reports}
+use Rattle.cats_cmd.proofs.Common.{◌≡◌, ℕ, ◌+◌, ◌<◌, List, [], ◌∷◌, ◌++◌, length, get_or, take, refl, sym, ap, ◌∙◌, subst, append-nil, append_assoc, Option}
+use Rattle.cats_cmd.proofs.Common.{flat_map, flat_map-append, take_more, escaped, Gathers, GathersNext, Watched, Reports}
 use Rattle.cats_cmd.proofs.Reporting.{reports_nothing, reports_then}
 
 module _ {E : Type 0} (messages : E → Option (List ℕ)) where

@@ -257,7 +257,10 @@ static MISUSES: &[(&[&str], Misuse)] = &[
     ),
     (&["cats", "sizes", "--steps=+5"], Misuse::SignedNumber),
     (&["cats", "value", "a", "4096"], Misuse::WrongGoods),
-    (&["cats", "value", "a", "0-65535,0-65535"], Misuse::WrongGoods),
+    (
+        &["cats", "value", "a", "0-65535,0-65535"],
+        Misuse::WrongGoods,
+    ),
     (&["cats", "value", "a", "b"], Misuse::WrongGoods),
     (&["cats", "value", "a", "0", "+1"], Misuse::SignedNumber),
     (&["cats", "value", "a", "--", "-0"], Misuse::SignedNumber),

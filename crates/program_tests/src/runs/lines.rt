@@ -160,11 +160,7 @@ static ROWS: [Row<'static>; 17] = [
 ];
 
 /// The writes of a command line on these files.
-fn writes_of(
-    alloc: Global,
-    words: &[&str],
-    terminal: bool,
-) -> Result<Vec<Vec<u8>>, Fail> {
+fn writes_of(alloc: Global, words: &[&str], terminal: bool) -> Result<Vec<Vec<u8>>, Fail> {
     let mut source = FilesInMemory::new(alloc, &FILES);
     let mut out = writer(alloc, 4096, 4096);
     let mut err = Watched::new(WritesKept {
