@@ -1,6 +1,6 @@
 -- Texts that are put behind a line one after the other, and the line that is then sent.
 use Rattle.cats_cmd.proofs.Common.{◌≡◌, ℕ, ◌+◌, ◌<◌, List, [], ◌∷◌, ◌++◌, length, get_or, take, refl, sym, ap, ◌∙◌, subst, append-nil, append_assoc, Option}
-use Rattle.cats_cmd.proofs.Common.{flat_map, flat_map-append, take_more, escaped, Gathers, GathersNext, Watched, Reports}
+use Rattle.cats_cmd.proofs.Common.{flat_map, ◌==◌, true, arith, eqb-true, flat_map-append, take_more, escaped, Gathers, GathersNext, Watched, Reports}
 use Rattle.cats_cmd.proofs.Reporting.{reports_nothing, reports_then}
 
 module _ {E : Type 0} (messages : E → Option (List ℕ)) where
@@ -51,8 +51,9 @@ module _ {E : Type 0} (messages : E → Option (List ℕ)) where
   }
 
   -- nothing is left of the path
-  pub all_gathered : (path rest line line_after : List ℕ) (old new : Watched E) → GathersNext messages path rest line line_after old new → rest ≡ []
-      → Gathers messages (escaped path) line line_after old new
-  all_gathered path rest line line_after old new next none =
-      let whole : next.text ≡ escaped path = sym (append-nil next.text) ∙ subst (λ (r : List ℕ). next.text ++ escaped r ≡ escaped path) none next.completes in
-      subst (λ (t : List ℕ). Gathers messages t line line_after old new) whole next.gathers
+  pub all_gathered : (path rest line line_after : List ℕ) (old new : Watched E) → GathersNext messages path rest line line_after old new
+      → true ≡ (length rest == 0) → Gathers messages (escaped path) line line_after old new
+  all_gathered path [] line line_after old new next none =
+      subst (λ (t : List ℕ). Gathers messages t line line_after old new) (sym (append-nil next.text) ∙ next.completes) next.gathers
+  all_gathered path (b ∷ bs) line line_after old new next none =
+      let empty : length (b ∷ bs) ≡ 0 = eqb-true (length (b ∷ bs)) 0 (sym none) in absurd (omega (arith, empty))

@@ -18,11 +18,12 @@ use std::test::Fail;
 #[derive(Drop)]
 struct WritesKept {
     writes: Vec<Vec<u8>>,
+    alloc: Global,
 }
 
 impl Write for WritesKept {
     fn write(&mut self, piece: &[u8]) -> io::Result<usize> {
-        let kept = Vec::from_slice(self.writes.alloc(), piece)?;
+        let kept = Vec::from_slice(self.alloc, piece)?;
         self.writes.push(kept)?;
         Ok(piece.len())
     }
@@ -165,6 +166,7 @@ fn writes_of(alloc: Global, words: &[&str], terminal: bool) -> Result<Vec<Vec<u8
     let mut out = writer(alloc, 4096, 4096);
     let mut err = Watched::new(WritesKept {
         writes: Vec::new(alloc),
+        alloc,
     });
     let process = Process {
         version: "1.2 (test)",
