@@ -12,7 +12,6 @@ pub use Rattle.canon.specs.Answers.{RefusesAs}
 pub use Rattle.canon.specs.Canonical.{canonical_text}
 pub use Rattle.canon.specs.Difference.{Difference, NoDifference, first_difference}
 pub use Rattle.canon.specs.FirstNumbers.{AddsText, IsFirstNumber, TextIndex}
-pub use Rattle.canon.specs.Lemmas.Renaming.{map-sorted}
 pub use Rattle.canon.specs.Normalising.{IsText, normalised_file}
 pub use Rattle.canon.specs.Refusals.{refusal_by_kind, refusal_of}
 pub use Rattle.canon.specs.Sameness.{AreSameFiles}
@@ -133,8 +132,10 @@ pub use Rattle.std.proofs.lemmas.List.{append_assoc, drop-drop, take_all, map-ap
 pub use Rattle.std.proofs.lemmas.List.{get_or-map, map-set, take_more, length-take-le, take-map, take-append-le, get_or_append_left}
 pub use Rattle.std.proofs.lemmas.List.Elements.{All-take, All-nil, All-push, All-from_recursion, filter_more, filter_passes, filter-append, All-weaker}
 pub use Rattle.std.proofs.lemmas.List.Elements.{All-append, All-cons, All-map}
+pub use Rattle.std.proofs.lemmas.List.Filters.{All-dedup, dedup_is}
 pub use Rattle.std.proofs.lemmas.List.Folds.{list_all-append, list_all-map}
 pub use Rattle.std.proofs.lemmas.List.FromFn.{fill_by_all, length-map-range_with_len, get_or-map-range_with_len}
+pub use Rattle.std.proofs.lemmas.List.Kept.{IsStrictlySortedBy-dedup}
 pub use Rattle.std.proofs.lemmas.List.Sorted.{All-permutation}
 pub use Rattle.std.proofs.lemmas.List.Splits.{length-slice_split, slice_split_at, slice_split_none}
 pub use Rattle.std.proofs.lemmas.List.Sums.{fold_push, list_all-from_AllPass, AllPass-from_list_all, fold-append}
@@ -145,14 +146,17 @@ pub use Rattle.std.proofs.lemmas.Slice.Zip.{AllZip-long}
 pub use Rattle.std.proofs.lemmas.Str.{IsUtf8-from_is_utf8, is_utf8-from_IsUtf8, encode_ascii, encodes-append, digit_value-digit_char}
 pub use Rattle.std.specs.Borrow.{Bor}
 pub use Rattle.std.specs.Char.{encode_utf8, digit_char}
-pub use Rattle.std.specs.Cmp.Lexicographic.{slice_cmp}
+pub use Rattle.std.specs.Cmp.Lexicographic.{slice_cmp, on_texts, pointwise, texts_ties}
 pub use Rattle.std.specs.Fmt.{digit_glyph, digits_onto}
 pub use Rattle.std.specs.Global.{Global}
 pub use Rattle.std.specs.Io.KnownBytes.{Consumes, Appends}
 pub use Rattle.std.specs.List.{list_all, starts_with, flat_map, AllByRecursion, AllZip, range_with_len, slice_split, All, ends_with}
+pub use Rattle.std.specs.List.Retain.{IsFiltered, DiffersFromLast}
 pub use Rattle.std.specs.List.Sorted.{IsSorted}
 pub use Rattle.std.specs.Option.{MatchOption, option_map}
-pub use Rattle.std.specs.Ordering.{is_lt, nat_cmp}
+pub use Rattle.std.specs.Ordering.{nat_cmp}
+pub use Rattle.std.specs.declared.cmp.Ordering.{Ordering}
+pub use Rattle.std.specs.declared.cmp.Ordering.TheVariants.{Less}
 pub use Rattle.std.specs.Prelude.{nat_le, unwrap_or, IfOk, Vec, filter, IsErr, IfSome, nat_lt, IsErrAnd, IsSomeAnd, IsPermutation, nat_eq}
 pub use Rattle.std.specs.Str.{all_scalars, IsUtf8, is_utf8}
 pub use Rattle.std.specs.declared.alloc.AllocError.{AllocError}

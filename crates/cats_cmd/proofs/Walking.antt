@@ -1,8 +1,10 @@
 -- A walk through folders. What is added to it begins as the folder's path that it was found in, so all of it stays below the first folder.
 use Rattle.cats_cmd.proofs.Common.{◌≡◌, ℕ, List, [], ◌∷◌, ◌++◌, refl, sym, ap, ◌∙◌, subst, true, false, cond, append-nil, length, arith, Global, IsPermutation}
-use Rattle.cats_cmd.proofs.Common.{nat_eq, ends_with, IsSorted, is_lt, nat_cmp, slice_cmp, append_assoc, get_or_append_left, All-append, All-map, All-nil}
-use Rattle.cats_cmd.proofs.Common.{All-push, All-permutation, get_or-append_seam, map-sorted, BeginsWith, IsBelow, ListsFolder, paths_of, with_slash}
-use Rattle.cats_cmd.proofs.Common.{WalksBelow, Walk, Vec, All, length-append}
+use Rattle.cats_cmd.proofs.Common.{nat_eq, ends_with, IsSorted, nat_cmp, slice_cmp, append_assoc, get_or_append_left, All-append, All-map, All-nil, Ordering}
+use Rattle.cats_cmd.proofs.Common.{All-push, All-permutation, get_or-append_seam, BeginsWith, IsBelow, ListsFolder, paths_of, with_slash}
+use Rattle.cats_cmd.proofs.Common.{WalksBelow, Walk, Vec, All, length-append, Bool, Less, AllByRecursion, IsFiltered, DiffersFromLast, All-dedup, dedup_is}
+use Rattle.cats_cmd.proofs.Common.{IsStrictlySortedBy-dedup, on_texts, pointwise, texts_ties}
+use Rattle.std.specs.List.Sorted.{IsStrictlySortedBy}
 
 abbrev pub Begins : List ℕ → Vec ℕ Global → Type 0
 Begins start path = BeginsWith start path.items
@@ -44,13 +46,33 @@ all_fewer start old new path is all =
           (both (length new) path (rw (length-append new (path ∷ [])) (omega arith))),
     )
 
+-- ---- paths in order, each once
+
+abbrev before : Vec ℕ Global → Vec ℕ Global → Ordering
+before p q = slice_cmp nat_cmp p.items q.items
+
+all_after : (p : Vec ℕ Global) (ps : List (Vec ℕ Global)) → AllByRecursion (λ q. before p q ≡ Less) ps
+    → AllByRecursion (λ q. slice_cmp nat_cmp p.items q ≡ Less) (paths_of ps)
+all_after p [] after = tt
+all_after p (q ∷ ps) after = (after.0, all_after p ps after.1)
+
+rising : (ps : List (Vec ℕ Global)) → IsStrictlySortedBy before ps → IsStrictlySortedBy (slice_cmp nat_cmp) (paths_of ps)
+unfolding IsStrictlySortedBy
+rising [] rise = tt
+rising (p ∷ ps) rise = (all_after p ps rise.0, rising ps rise.1)
+
 -- the paths that a walk ends with
-pub lists_folder : (folder : List ℕ) (found folders all sorted : List (Vec ℕ Global)) → All (λ p. IsBelow folder p.items) found
-    → All (λ p. IsBelow folder p.items) folders → all ≡ found ++ folders → IsPermutation all sorted
-    → IsSorted (λ (p q : Vec ℕ Global). slice_cmp nat_cmp p.items q.items) sorted → ListsFolder folder (paths_of sorted)
-lists_folder folder found folders all sorted files more is moves in_order = record {
-  below = All-map (IsBelow folder) (λ (p : Vec ℕ Global). p.items) sorted
-      (All-permutation (Begins (with_slash folder)) all sorted moves
-      (subst (All (Begins (with_slash folder))) (sym is) (All-append (Begins (with_slash folder)) found folders files more)));
-  sorted = map-sorted (λ (p : Vec ℕ Global). p.items) (λ (p q : List ℕ). is_lt (slice_cmp nat_cmp p q)) sorted in_order;
-}
+pub lists_folder : (folder : List ℕ) (found folders all sorted once : List (Vec ℕ Global)) → All (λ p. IsBelow folder p.items) found
+    → All (λ p. IsBelow folder p.items) folders → all ≡ found ++ folders → IsPermutation all sorted → IsSorted before sorted
+    → IsFiltered (DiffersFromLast (λ p q. pointwise nat_eq p.items q.items)) [] sorted once → ListsFolder folder (paths_of once)
+lists_folder folder found folders all sorted once files more is moves in_order filtered =
+    let same : Vec ℕ Global → Vec ℕ Global → Bool = λ p q. pointwise nat_eq p.items q.items in
+    let is_once = dedup_is same sorted once filtered in
+    record {
+      below = All-map (IsBelow folder) (λ (p : Vec ℕ Global). p.items) once
+          (rw is_once (All-dedup same (Begins (with_slash folder)) sorted
+          (All-permutation (Begins (with_slash folder)) all sorted moves
+          (subst (All (Begins (with_slash folder))) (sym is) (All-append (Begins (with_slash folder)) found folders files more)))));
+      sorted = rising once
+          (rw is_once (IsStrictlySortedBy-dedup (on_texts (λ (p : Vec ℕ Global). p.items)) (λ p q. texts_ties p.items q.items) sorted in_order));
+    }

@@ -4,7 +4,7 @@ use Rattle.std.specs.Prelude.{None, option_map, Vec}
 use Rattle.std.specs.Cmp.Lexicographic.{slice_cmp}
 use Rattle.std.specs.Global.{Global}
 use Rattle.std.specs.List.{All, ends_with, flat_map}
-use Rattle.std.specs.List.Sorted.{IsSorted}
+use Rattle.std.specs.List.Sorted.{IsStrictlySortedBy}
 use Rattle.std.specs.Ordering.{nat_cmp}
 use Rattle.std.specs.Str.{is_utf8}
 
@@ -26,10 +26,10 @@ BeginsWith start path = (rest : List ℕ) × (path ≡ start ++ rest)
 abbrev pub IsBelow : List ℕ → List ℕ → Type 0
 IsBelow folder path = BeginsWith (with_slash folder) path
 
--- paths below the folder, in the order of their bytes
+-- paths below the folder, each once, in the order of their bytes
 pub record ListsFolder (folder : List ℕ) (files : List (List ℕ)) : Type 0 where
   pub below : All (IsBelow folder) files
-  pub sorted : IsSorted (slice_cmp nat_cmp) files
+  pub sorted : IsStrictlySortedBy (slice_cmp nat_cmp) files
 
 -- a path, and the files below it, if it is a folder's
 pub record FoundAt : Type 0 where

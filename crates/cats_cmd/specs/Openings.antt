@@ -57,7 +57,7 @@ module _ {S H F : Type 0} (content_of : S → H) (opened : S → Option (List (L
     pub record OpensList (list : List ℕ) (old new : S) (status : ℕ) : Type 0 where
       pub between : S
       pub opens : Opens content_of opened old between (list ∷ [])
-      pub rest : OpensListed list old between new status ⊎ (new ≡ between)
+      pub rest : OpensListed list old between new status ⊎ ((2 ≤ status) × (new ≡ between))
 
     abbrev pub OpensFiles : PlainPaths → S → S → ℕ → Type 0
     OpensFiles (Given paths) old new status = OpensAtPaths content_of opened may_find paths old new status

@@ -27,7 +27,8 @@ enum Place {
     Other,
 }
 
-/// The paths of the regular files below the folder at a path, in the order of their bytes. No link below it is followed.
+/// The paths of the regular files below the folder at a path, each once, in the order of their bytes. No link below it is
+/// followed.
 ///
 /// What cannot be looked at is listed too, and so is a folder below that cannot be read: where these paths are opened, it
 /// is said why they cannot be. The folder itself may be a link to one. If it cannot be read, there is no answer.
@@ -59,6 +60,7 @@ pub(crate) fn files_below<F: Files>(
     } = walk;
     found.append(&mut folders)?;
     found.sort_unstable();
+    found.dedup();
     Ok(Some(found))
 }
 

@@ -211,5 +211,6 @@ pub fn folders_found()
     ensures slashes { map with_slash (codes "f" ∷ codes "f/" ∷ codes "/" ∷ []) ≡ codes "f/" ∷ codes "f/" ∷ codes "/" ∷ [] }
     ensures ordered { ListsFolder (codes "f") (codes "f/a.b" ∷ codes "f/a/b" ∷ []) }
     ensures unordered { ListsFolder (codes "f") (codes "f/a/b" ∷ codes "f/a.b" ∷ []) → ⊥ }
+    ensures twice { ListsFolder (codes "f") (codes "f/a" ∷ codes "f/a" ∷ []) → ⊥ }
     ensures elsewhere { ListsFolder (codes "f") (codes "g/a" ∷ []) → ⊥ }
 {}

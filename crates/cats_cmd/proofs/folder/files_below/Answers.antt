@@ -25,4 +25,5 @@ returns g c =
         found = c.loop.invariant.found;
       })
     ] in
-    lists_folder c.args.path.now _ _ _ _ all.found all.folders c.in_ok-append.ensures.items c.sort_unstable.ensures.permutation c.sort_unstable.ensures.sorted
+    lists_folder c.args.path.now _ _ _ _ _ all.found all.folders c.in_ok-append.ensures.items c.sort_unstable.ensures.permutation
+    c.sort_unstable.ensures.sorted c.dedup.ensures.filtered
