@@ -84,7 +84,7 @@ def reads(one, piece):
 def is_whole_run_refused(answer):
     """Whether the run ended for want of memory, before a file was read or when all were."""
     lines = answer.err.splitlines(True)
-    return answer.status == NO_MEMORY and answer.out == b"" and bool(lines) and lines[-1] in (WANT, b"error: out of memory\n")
+    return answer.status == NO_MEMORY and answer.out == b"" and bool(lines) and lines[-1] == WANT
 
 
 def memory(one, rest):

@@ -173,7 +173,7 @@ def prefixes(one):
 
 def is_want_of_memory(one, answer):
     """Whether a run printed want of memory, of one of its files or of neither, or of the command line."""
-    lines = [which + b"want of memory\n" for which in (b"", *prefixes(one))] + [b"error: out of memory\n"]
+    lines = [which + b"want of memory\n" for which in (b"", *prefixes(one))]
     lines = [one.counts(many) + line for many in range(len(one.files) + 1) for line in lines]
     return answer.status == NO_MEMORY and answer.out == b"" and answer.err in lines
 

@@ -34,7 +34,7 @@ pub use Rattle.cats_cmd.specs.FindingFaults.{outcome_of_place, text_of_place}
 pub use Rattle.cats_cmd.specs.Folders.{Finds, FindsAt, FoundAt, AreFilesAt, files_at, files_of, found_of, paths_of, BeginsWith, IsBelow, ListsFolder}
 pub use Rattle.cats_cmd.specs.Folders.{with_slash}
 pub use Rattle.cats_cmd.specs.Inputs.{IsOpened, ReadsBytes, IsUnreadStream, StopsReading, WantsMemoryForBytes, ReadsAll}
-pub use Rattle.cats_cmd.specs.Internal.Carrying.{RunsAtOrNot, answer_of_run}
+pub use Rattle.cats_cmd.specs.Internal.Carrying.{IsButForText, RunsAtOrNot, answer_of_run}
 pub use Rattle.cats_cmd.specs.Internal.Gathering.{Gathers, GathersNext}
 pub use Rattle.cats_cmd.specs.Internal.Judging.{KeepsNumbers, AddsJudgement, AddsOpened, AddsRefused, KeepsGroups, AddsPath, HasJudged, JudgesAllAs}
 pub use Rattle.cats_cmd.specs.Internal.Judging.{OpensAllAs}
@@ -49,7 +49,7 @@ pub use Rattle.cats_cmd.specs.Paths.{RunsOnPaths, outcome_of_paths, progress_lin
 pub use Rattle.cats_cmd.specs.PricedInputs.{PricedGives, PricedRefuses, fine_prices, IsPriced, rounded_words, rounding_lines, gives_by}
 pub use Rattle.cats_cmd.specs.RequestErrors.{Reports, line_of_request_error, has_found, is_for_many_files, is_reporting, is_rounding, names_found}
 pub use Rattle.cats_cmd.specs.RequestErrors.{names_many_files, names_reporting, status_of_request_error, line_of_unopened, ReportsAll, SendsText}
-pub use Rattle.cats_cmd.specs.Requests.{AnswersRequest, CarriesOut, RunsAt, RunsAtBoth, RunsFor, FailsRequest, comparison_of, outcome_for}
+pub use Rattle.cats_cmd.specs.Requests.{AnswersNoRequest, AnswersRequest, CarriesOut, RunsAt, RunsAtBoth, RunsFor, FailsRequest, comparison_of, outcome_for}
 pub use Rattle.cats_cmd.specs.Rounding.{IsUnrounded, Rounds}
 pub use Rattle.cats_cmd.specs.Runs.{RunsCommand, SendsAs, RunsOnFile, RunsOnPair, SendsAnswer, SendsMadeAs, WritesText}
 pub use Rattle.cats_cmd.specs.SizesTables.{fault_cell, without_end, MakesTable, columns, rows_of_table, sizes_header, row, number_columns}
@@ -75,9 +75,12 @@ pub use Rattle.cats_text.specs.declared.read_fault.Kind.TheVariants.{Device, Too
 pub use Rattle.cats_text.specs.declared.read_fault.ReadFault.{ReadFault}
 pub use Rattle.cats_text.specs.declared.read_fault.SendFault.{SendFault}
 pub use Rattle.cats_text.specs.declared.stream.Watched.{Watched}
+pub use Rattle.command_line.proofs.Answering.{only_memory}
 pub use Rattle.command_line.specs.PlainRequests.{PlainRequest, OnFile, OnPair, OnFiles, Fault, Round, GivenBids, BidsIn, PlainBids, PlainCommand, Check}
 pub use Rattle.command_line.specs.PlainRequests.{plain_request}
-pub use Rattle.command_line.specs.Requests.{request_of}
+pub use Rattle.command_line.specs.Requests.{request_of, IsNoRequestOf, is_no_memory}
+pub use Rattle.command_line.specs.declared.request.NoRequest.{NoRequest}
+pub use Rattle.command_line.specs.declared.request.NoRequest.TheVariants.{WrongUsage, NoMemory}
 pub use Rattle.command_line.specs.declared.request.Prices.{Prices}
 pub use Rattle.command_line.specs.declared.request.Prices.TheVariants.{AsWritten}
 pub use Rattle.commands.proofs.JudgingTexts.{zip_push, text_within_limit, no_fault_made, refused_bundle}

@@ -27,3 +27,4 @@ mod RunsOfLists
 mod RunsOfPaths
 pub mod Common
 pub mod Sending
+mod Unasked

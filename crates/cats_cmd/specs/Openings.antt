@@ -1,11 +1,10 @@
 -- Which paths a command line opens, each once, and in which order.
-use Rattle.std.specs.Prelude.{◌≡◌, ◌≤◌, ◌⊎◌, ℕ, List, [], ◌∷◌, Option, Some, Result, Ok, Err}
+use Rattle.std.specs.Prelude.{◌≡◌, ◌≤◌, ◌⊎◌, ℕ, List, [], ◌∷◌, Option, Some, None, Result, Ok, Err}
 use Rattle.commands.specs.Statuses.{status_of_fault}
 use Rattle.commands.specs.declared.faults.RunFault.{RunFault}
 use Rattle.command_line.specs.PlainRequests.{PlainRequest, OnFile, OnPair, OnFiles, Fault, Round}
 use Rattle.command_line.specs.PlainRequests.{PlainPaths, Given, ListedIn, PlainBids, BidsIn}
-use Rattle.command_line.specs.Requests.{IsNoRequestOf, request_of}
-use Rattle.command_line.specs.declared.request.NoRequest.{NoRequest}
+use Rattle.command_line.specs.Requests.{request_of}
 use Rattle.cats_cmd.specs.BidLists.{named_bids}
 use Rattle.cats_cmd.specs.FileLists.{ReadsList}
 use Rattle.cats_cmd.specs.Opening.{Opens, OpensAtPaths}
@@ -39,11 +38,9 @@ module _ {S H F : Type 0} (content_of : S → H) (opened : S → Option (List (L
       ⊎ ((2 ≤ status) × Opens content_of opened old new (list ∷ []))
   OpensForBids file bids old new status = Opens content_of opened old new (file ∷ [])
 
-  -- the line is no request, or memory was refused, and nothing is opened
-  pub record OpensNothing (words : List (List ℕ)) (old new : S) : Type 0 where
-    pub no_request : NoRequest
-    pub unasked : IsNoRequestOf words no_request
-    pub unopened : new ≡ old
+  -- the line has no request, or memory was refused, and nothing is opened
+  abbrev pub OpensNothing : List (List ℕ) → S → S → ℕ → Type 0
+  OpensNothing words old new status = ((request_of words ≡ None) ⊎ (status ≡ 4)) × (new ≡ old)
 
   module _ (may_find : H → List ℕ → Option (List (List ℕ)) → Type 0) where
     -- the list was read from a stream that the source might open at first, and the files at the paths in it
@@ -79,4 +76,4 @@ module _ {S H F : Type 0} (content_of : S → H) (opened : S → Option (List (L
 
     -- what any command line opens
     abbrev pub OpensLine : List (List ℕ) → S → S → ℕ → Type 0
-    OpensLine words old new status = OpensAsked words old new status ⊎ OpensNothing words old new
+    OpensLine words old new status = OpensAsked words old new status ⊎ OpensNothing words old new status

@@ -1,6 +1,6 @@
 -- The contract of the program. It is the run of the request, on the files at its paths, what is sent where, and
 -- with which status.
-use Rattle.std.specs.Prelude.{◌≡◌, ◌⊎◌, ◌++◌, ℕ, Bool, true, false, List, [], ◌∷◌, Option, Some, Result, Ok, Err, codes}
+use Rattle.std.specs.Prelude.{◌≡◌, ◌⊎◌, ◌++◌, ℕ, Bool, true, false, List, Option, Some, Result, Ok, Err, codes}
 use Rattle.std.specs.Prelude.{if◌then◌else◌}
 use Rattle.std.specs.Prelude.{string_bytes}
 use Rattle.bid_file.specs.Files.{PlainFile}
@@ -67,11 +67,6 @@ misuse_text WrongGoods =
 misuse_text WrongFiles =
     codes "error: give paths, or '--files0-from <LIST>', and not both\n\nFor more information, try '--help'.\n"
 
--- a text that says that memory was refused, or another if memory for it was refused too
-abbrev pub memory_text : List ℕ → List ℕ
-memory_text [] = codes "want of memory\n"
-memory_text (b ∷ bs) = b ∷ bs
-
 module _ {W E : Type 0} (contents : W → Option (List ℕ)) (messages : E → Option (List ℕ)) where
   -- the text was written, and the status says whether all of it was
   pub record SendsHelp (text : List ℕ) (out out_after : Watched W) (status : ℕ) : Type 0 where
@@ -86,8 +81,8 @@ module _ {W E : Type 0} (contents : W → Option (List ℕ)) (messages : E → O
       (status ≡ 64) × (out_after ≡ out) × SendsText messages (string_bytes text) err err_after
   AnswersNoRequest (Misused misuse) out out_after err err_after status =
       (status ≡ 64) × (out_after ≡ out) × SendsText messages (misuse_text misuse) err err_after
-  AnswersNoRequest (NoMemory text) out out_after err err_after status =
-      (status ≡ 4) × (out_after ≡ out) × SendsText messages (memory_text (string_bytes text)) err err_after
+  AnswersNoRequest NoMemory out out_after err err_after status =
+      (status ≡ 4) × (out_after ≡ out) × SendsText messages (codes "want of memory\n") err err_after
 
 -- ---- a request, and any command line
 

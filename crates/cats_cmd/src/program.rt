@@ -2,7 +2,7 @@
 
 ghost use Rattle.std.specs.Prelude.{◌≡◌, ◌≢◌, ◌≤◌, false};
 ghost use Rattle.cats_text.specs.Streams.{has_failed};
-ghost use Rattle.cats_cmd.specs.Requests.{AnswersLine, AnswersNoRequest, AnswersRequest, memory_text};
+ghost use Rattle.cats_cmd.specs.Requests.{AnswersLine, AnswersNoRequest, AnswersRequest};
 ghost use Rattle.cats_cmd.specs.Openings.{OpensFor, OpensLine};
 ghost use Rattle.command_line.specs.PlainRequests.{plain_request};
 ghost use Rattle.command_line.specs.Requests.{texts_of};
@@ -21,7 +21,7 @@ use std::alloc::AllocGlobal;
 use std::io::Write;
 use std::rt::Files;
 
-/// What is sent if memory was refused to the text that says so.
+/// What is sent if memory was refused before a request began.
 const NO_MEMORY_LINE: &str = "want of memory\n";
 
 /// What the program has from its process and from its build.
@@ -63,7 +63,7 @@ pub fn run_cats<F: Files + AllocGlobal, W: Write, E: Write>(
 /// program's name, and `out` and `err` are the standard streams.
 ///
 /// A fault's line is sent to `err`. It needs no memory.
-#[tactic(auto, using(crate::proofs::AnswersOfRequests::few_files, crate::proofs::AnswersOfRequests::none_found, crate::proofs::AnswersOfRequests::quiet_request))]
+#[tactic(auto, using(crate::proofs::AnswersOfRequests::few_files, crate::proofs::AnswersOfRequests::none_found, crate::proofs::AnswersOfRequests::quiet_request, crate::proofs::Unasked::still_unasked, crate::proofs::Unasked::unasked_status))]
 pub fn run_program<S: Source + AllocGlobal, W: Write, E: Write>(
     source: &mut S,
     words: &[&str],
@@ -137,20 +137,9 @@ fn answer_no_request<W: Write, E: Write>(
             let _ = send(err, misuse_text(*misuse).as_bytes());
             WRONG_USAGE
         }
-        NoRequest::NoMemory(text) => {
-            let _ = send(err, memory_text(text.as_str()).as_bytes());
+        NoRequest::NoMemory => {
+            let _ = send(err, NO_MEMORY_LINE.as_bytes());
             NO_MEMORY
         }
-    }
-}
-
-/// The text that says that memory was refused, or another if memory for it was refused too.
-fn memory_text(text: &str) -> &str
-    ensures { result.now ≡ memory_text text.now }
-{
-    if text.is_empty() {
-        NO_MEMORY_LINE
-    } else {
-        text
     }
 }

@@ -2,7 +2,7 @@
 //! stranger gave to files.
 
 ghost use Rattle.std.specs.Prelude.{◌≡◌};
-ghost use Rattle.command_line.specs.Requests.{IsNoRequestOf, texts_of};
+ghost use Rattle.cats_cmd.specs.Internal.Carrying.{IsButForText};
 ghost use Rattle.cats_cmd.specs.Requests.{misuse_text};
 
 use crate::escaping::escaped;
@@ -17,7 +17,7 @@ pub(crate) fn with_escaped_words(
     words: &[&str],
     no_request: NoRequest,
 ) -> NoRequest
-    ensures { IsNoRequestOf (texts_of words.now) no_request → IsNoRequestOf (texts_of words.now) result }
+    ensures { IsButForText no_request result }
 {
     match no_request {
         NoRequest::WrongUsage(_) => match escaped_usage(alloc, version, words) {

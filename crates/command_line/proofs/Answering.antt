@@ -55,7 +55,7 @@ answered words error (Help text) (inr among) is = among_shown error.kind _ is_sh
 answered words error (WrongUsage text) (inl memory) is = absurd (is.1 memory)
 answered words error (WrongUsage text) (inr among) is = among_shown error.kind _ (λ kind. not (is_shown kind)) (ap not is.0) among
 answered words error (Misused misuse) kind is = absurd is
-answered words error (NoMemory text) kind is = tt
+answered words error NoMemory kind is = tt
 
 -- ---- a line with a request
 
@@ -74,4 +74,4 @@ only_memory words request (WrongUsage text) asked is =
     let some : false ≡ true = rw none at is in
     cc
 only_memory words request (Misused misuse) asked is = let none : None ≡ Some request = sym is.1 ∙ asked in cc
-only_memory words request (NoMemory text) asked is = refl
+only_memory words request NoMemory asked is = refl

@@ -70,7 +70,7 @@ IsNoRequestOf words (Help text) = list_any is_shown (fault_of cats words) ≡ tr
 IsNoRequestOf words (WrongUsage text) = list_any (λ kind. not (is_shown kind)) (fault_of cats words) ≡ true
 IsNoRequestOf words (Misused misuse) =
     (fault_of cats words ≡ []) × (request_of words ≡ None) × (misuse ≡ misuse_of words)
-IsNoRequestOf words (NoMemory text) = Unit {0}
+IsNoRequestOf words NoMemory = Unit {0}
 
 -- the word may be an option
 abbrev pub begins_with_hyphen : List ℕ → Bool
@@ -78,8 +78,12 @@ begins_with_hyphen [] = false
 begins_with_hyphen (b ∷ rest) = b == 45
 
 abbrev pub is_no_memory : NoRequest → Bool
-is_no_memory (NoMemory text) = true
+is_no_memory NoMemory = true
 is_no_memory answer = false
+
+abbrev pub is_wrong_usage : NoRequest → Bool
+is_wrong_usage (WrongUsage text) = true
+is_wrong_usage answer = false
 
 -- ---- what a subcommand requests by its arguments
 

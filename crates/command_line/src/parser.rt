@@ -56,14 +56,13 @@ fn no_request(alloc: Global, error: &Error) -> NoRequest
     if !error.use_stderr() {
         return match text {
             Ok(text) => NoRequest::Help(text),
-            Err(AllocError) => NoRequest::NoMemory(String::new(alloc)),
+            Err(AllocError) => NoRequest::NoMemory,
         };
     }
-    let text = text.unwrap_or(String::new(alloc));
     if error.kind() == ErrorKind::OutOfMemory {
-        NoRequest::NoMemory(text)
+        NoRequest::NoMemory
     } else {
-        NoRequest::WrongUsage(text)
+        NoRequest::WrongUsage(text.unwrap_or(String::new(alloc)))
     }
 }
 

@@ -121,8 +121,8 @@ pub enum NoRequest {
     WrongUsage(String),
     /// Each word of it is one that its subcommand takes, but it is wrong.
     Misused(Misuse),
-    /// Memory was refused: this says so, for standard error.
-    NoMemory(String),
+    /// Memory was refused.
+    NoMemory,
 }
 
 /// Why a command line is wrong whose words are such as its subcommand takes.

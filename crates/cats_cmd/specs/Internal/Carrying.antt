@@ -1,5 +1,5 @@
 -- The parts of carrying out a request.
-use Rattle.std.specs.Prelude.{◌≡◌, ◌⊎◌, ℕ, Bool, false, List, [], ◌∷◌, Option, Result, Ok, Err}
+use Rattle.std.specs.Prelude.{◌≡◌, ◌⊎◌, ℕ, Bool, false, true, List, [], ◌∷◌, Option, Result, Ok, Err}
 use Rattle.bid_file.specs.Files.{PlainFile}
 use Rattle.cats_text.specs.declared.stream.Watched.{Watched}
 use Rattle.canon.specs.declared.which.Which.{Which}
@@ -7,8 +7,11 @@ use Rattle.canon.specs.declared.which.Which.TheVariants.{Only}
 use Rattle.commands.specs.Outcomes.{Outcome}
 use Rattle.command_line.specs.declared.request.Prices.{Prices}
 use Rattle.command_line.specs.PlainRequests.{PlainFiles}
+use Rattle.command_line.specs.Requests.{is_wrong_usage}
 use Rattle.command_line.specs.declared.request.FilesCommand.{FilesCommand}
 use Rattle.command_line.specs.declared.request.FilesCommand.TheVariants.{Duplicates, Sizes}
+use Rattle.command_line.specs.declared.request.NoRequest.{NoRequest}
+use Rattle.command_line.specs.declared.request.NoRequest.TheVariants.{WrongUsage}
 use Rattle.commands.specs.declared.faults.RunFault.{RunFault}
 use Rattle.cats_cmd.specs.Inputs.{MayRefuse}
 use Rattle.cats_cmd.specs.Opening.{Opens}
@@ -17,6 +20,11 @@ use Rattle.cats_cmd.specs.declared.errors.RequestError.{RequestError}
 use Rattle.cats_cmd.specs.declared.errors.RequestError.TheVariants.{CannotOpen, NotOpened, Run}
 use Rattle.cats_cmd.specs.declared.paths.ManyFiles.{ManyFiles}
 use Rattle.cats_cmd.specs.declared.source.Unopened.{Unopened}
+
+-- the same answer to a line without a request, but for the text of a wrong usage
+abbrev pub IsButForText : NoRequest → NoRequest → Type 0
+IsButForText (WrongUsage text) answer = is_wrong_usage answer ≡ true
+IsButForText no_request answer = answer ≡ no_request
 
 -- whether the files are printed too that are the only ones of their auction
 abbrev pub is_all : FilesCommand → Bool

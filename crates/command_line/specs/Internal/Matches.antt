@@ -17,4 +17,4 @@ abbrev pub IsAnswerTo : ErrorKind → NoRequest → Type 0
 IsAnswerTo kind (Help text) = is_shown kind ≡ true
 IsAnswerTo kind (WrongUsage text) = (is_shown kind ≡ false) × (kind ≡ OutOfMemory → ⊥)
 IsAnswerTo kind (Misused misuse) = ⊥
-IsAnswerTo kind (NoMemory text) = (kind ≡ OutOfMemory) ⊎ (is_shown kind ≡ true)
+IsAnswerTo kind NoMemory = (kind ≡ OutOfMemory) ⊎ (is_shown kind ≡ true)
