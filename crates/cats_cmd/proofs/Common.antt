@@ -40,7 +40,7 @@ pub use Rattle.cats_cmd.specs.Internal.Judging.{KeepsNumbers, AddsJudgement, Add
 pub use Rattle.cats_cmd.specs.Internal.Judging.{OpensAllAs}
 pub use Rattle.cats_cmd.specs.Internal.Roundings.{RoundsText}
 pub use Rattle.cats_cmd.specs.Internal.Walking.{WalksBelow, StaysBelow}
-pub use Rattle.cats_cmd.specs.Opening.{Opens, openable, with_paths}
+pub use Rattle.cats_cmd.specs.Opening.{Opening, Opens, regular_openings, with_openings}
 pub use Rattle.cats_cmd.specs.OutputPaths.{has_lines, IsPath, behind_tabs, end_byte, groups_in, is_empty, paths_in_table, read_path}
 pub use Rattle.cats_cmd.specs.PathLists.{ended, parts_in, paths_in, without_empty_end}
 pub use Rattle.cats_cmd.specs.Paths.{Judgement, IsHeavy, IsJudged, IsUnjudged, JudgesAs, JudgesInput, JudgedPath, Judges, Reporting, greatest_status}
@@ -62,6 +62,7 @@ pub use Rattle.cats_cmd.specs.declared.paths.Ending.TheVariants.{Line, Null}
 pub use Rattle.cats_cmd.specs.declared.paths.Progress.TheVariants.{Silent}
 pub use Rattle.cats_cmd.specs.declared.priced_input.PricedInput.{PricedInput}
 pub use Rattle.cats_cmd.specs.declared.source.Unopened.{Unopened}
+pub use Rattle.cats_cmd.specs.declared.source.Way.TheVariants.{Anything, NoFolder, Regular}
 pub use Rattle.cats_text.proofs.Spelling.Files.{spells_from_no_fault}
 pub use Rattle.cats_text.proofs.Texts.FaultKinds.{IsFaultOfBytes, first_fault-of_bytes}
 pub use Rattle.cats_text.specs.FaultPlaces.{PlainPlace, first_place}

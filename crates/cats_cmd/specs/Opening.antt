@@ -1,32 +1,38 @@
--- Which paths a source has opened: each once, in the order of the request.
-use Rattle.std.specs.Prelude.{◌≡◌, ◌⊎◌, ◌++◌, ℕ, List, filter, take, Option, option_map}
+-- What a source has opened: each path once, in the order of the request, and in which way.
+use Rattle.std.specs.Prelude.{◌≡◌, ◌⊎◌, ◌++◌, ℕ, List, filter, map, take, Option, option_map}
 use Rattle.std.specs.Str.{is_utf8}
 use Rattle.cats_cmd.specs.Folders.{AreFilesAt}
+use Rattle.cats_cmd.specs.declared.source.Way.{Way}
+use Rattle.cats_cmd.specs.declared.source.Way.TheVariants.{Regular}
 
--- known paths, and then these
-abbrev pub with_paths : Option (List (List ℕ)) → List (List ℕ) → Option (List (List ℕ))
-with_paths known paths = option_map (λ before. before ++ paths) known
+-- a path that is opened, and in which way
+abbrev pub Opening : Type 0
+Opening = List ℕ × Way
 
--- A path that is not UTF-8 is not opened.
-abbrev pub openable : List (List ℕ) → List (List ℕ)
-openable paths = filter is_utf8 paths
+-- known openings, and then these
+abbrev pub with_openings : Option (List Opening) → List Opening → Option (List Opening)
+with_openings known more = option_map (λ before. before ++ more) known
 
--- `content_of` says what a source holds, and `opened` which paths it has opened, if that is known.
-module _ {S H : Type 0} (content_of : S → H) (opened : S → Option (List (List ℕ))) where
-  -- the source has opened these paths more, in order, with those that it refused, and holds what it held
-  pub record Opens (old new : S) (paths : List (List ℕ)) : Type 0 where
+-- each of many paths is opened as that of a regular file. One that is not UTF-8 is not opened
+abbrev pub regular_openings : List (List ℕ) → List Opening
+regular_openings paths = map (λ path. (path, Regular)) (filter is_utf8 paths)
+
+-- `content_of` says what a source holds, and `opened` what it has opened, if that is known.
+module _ {S H : Type 0} (content_of : S → H) (opened : S → Option (List Opening)) where
+  -- the source has made these openings more, in order, with those that it refused, and holds what it held
+  pub record Opens (old new : S) (openings : List Opening) : Type 0 where
     pub stays : content_of new ≡ content_of old
-    pub more : opened new ≡ with_paths (opened old) paths
+    pub more : opened new ≡ with_openings (opened old) openings
 
   -- it has opened the first of these paths
   pub record OpensFirst (old new : S) (paths : List (List ℕ)) : Type 0 where
     pub count : ℕ
-    pub opens : Opens old new (openable (take count paths))
+    pub opens : Opens old new (regular_openings (take count paths))
 
   -- it has opened all of these paths, or the first of them, as memory was refused to all files together
   abbrev pub OpensEach : List (List ℕ) → S → S → ℕ → Type 0
   OpensEach paths old new status =
-      Opens old new (openable paths) ⊎ ((status ≡ 4) × OpensFirst old new paths)
+      Opens old new (regular_openings paths) ⊎ ((status ≡ 4) × OpensFirst old new paths)
 
   module _ (may_find : H → List ℕ → Option (List (List ℕ)) → Type 0) where
     -- the files at these paths are opened

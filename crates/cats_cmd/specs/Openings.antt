@@ -1,4 +1,4 @@
--- Which paths a command line opens, each once, and in which order.
+-- Which paths a command line opens, each once, in which order and way.
 use Rattle.std.specs.Prelude.{◌≡◌, ◌≤◌, ◌⊎◌, ℕ, List, [], ◌∷◌, Option, Some, None, Result, Ok, Err}
 use Rattle.commands.specs.Statuses.{status_of_fault}
 use Rattle.commands.specs.declared.faults.RunFault.{RunFault}
@@ -7,11 +7,12 @@ use Rattle.command_line.specs.PlainRequests.{PlainPaths, Given, ListedIn, PlainB
 use Rattle.command_line.specs.Requests.{request_of}
 use Rattle.cats_cmd.specs.BidLists.{named_bids}
 use Rattle.cats_cmd.specs.FileLists.{ReadsList}
-use Rattle.cats_cmd.specs.Opening.{Opens, OpensAtPaths}
+use Rattle.cats_cmd.specs.Opening.{Opening, Opens, OpensAtPaths}
 use Rattle.cats_cmd.specs.PathLists.{paths_in}
 use Rattle.cats_cmd.specs.RequestErrors.{status_of_request_error}
 use Rattle.cats_cmd.specs.declared.errors.RequestError.{RequestError}
 use Rattle.cats_cmd.specs.declared.source.Unopened.{Unopened}
+use Rattle.cats_cmd.specs.declared.source.Way.TheVariants.{Anything, NoFolder}
 
 -- the status that a run comes to
 abbrev pub status_of_run : Result ℕ RunFault → ℕ
@@ -22,21 +23,21 @@ abbrev pub status_of_answer : Result ℕ RequestError → ℕ
 status_of_answer (Ok status) = status
 status_of_answer (Err error) = status_of_request_error error
 
-module _ {S H F : Type 0} (content_of : S → H) (opened : S → Option (List (List ℕ)))
+module _ {S H F : Type 0} (content_of : S → H) (opened : S → Option (List Opening))
     (may_open : H → List ℕ → F → Type 0) (may_refuse : H → List ℕ → Unopened → Type 0)
     (remaining : F → Option (List ℕ)) where
   -- both files are opened, or only the first, which is refused
   abbrev pub OpensPair : List ℕ → List ℕ → S → S → ℕ → Type 0
   OpensPair first second old new status =
-      Opens content_of opened old new (first ∷ second ∷ [])
-      ⊎ ((status ≡ 5) × Opens content_of opened old new (first ∷ []))
+      Opens content_of opened old new ((first, Anything) ∷ (second, Anything) ∷ [])
+      ⊎ ((status ≡ 5) × Opens content_of opened old new ((first, Anything) ∷ []))
 
   -- the list of the bids, if they are in one, and then the file, unless the list is refused
   abbrev pub OpensForBids : List ℕ → Option PlainBids → S → S → ℕ → Type 0
   OpensForBids file (Some (BidsIn list)) old new status =
-      Opens content_of opened old new (list ∷ file ∷ [])
-      ⊎ ((2 ≤ status) × Opens content_of opened old new (list ∷ []))
-  OpensForBids file bids old new status = Opens content_of opened old new (file ∷ [])
+      Opens content_of opened old new ((list, NoFolder) ∷ (file, Anything) ∷ [])
+      ⊎ ((2 ≤ status) × Opens content_of opened old new ((list, NoFolder) ∷ []))
+  OpensForBids file bids old new status = Opens content_of opened old new ((file, Anything) ∷ [])
 
   -- the line has no request, or memory was refused, and nothing is opened
   abbrev pub OpensNothing : List (List ℕ) → S → S → ℕ → Type 0
@@ -53,7 +54,7 @@ module _ {S H F : Type 0} (content_of : S → H) (opened : S → Option (List (L
     -- the list is opened, and then the files at the paths in it, unless it is not read or memory is refused for them
     pub record OpensList (list : List ℕ) (old new : S) (status : ℕ) : Type 0 where
       pub between : S
-      pub opens : Opens content_of opened old between (list ∷ [])
+      pub opens : Opens content_of opened old between ((list, NoFolder) ∷ [])
       pub rest : OpensListed list old between new status ⊎ ((2 ≤ status) × (new ≡ between))
 
     abbrev pub OpensFiles : PlainPaths → S → S → ℕ → Type 0
@@ -65,8 +66,8 @@ module _ {S H F : Type 0} (content_of : S → H) (opened : S → Option (List (L
     OpensFor (OnFile file prices command) old new status = OpensForBids file (named_bids command) old new status
     OpensFor (OnPair first second prices command limits) old new status = OpensPair first second old new status
     OpensFor (OnFiles files) old new status = OpensFiles files.paths old new status
-    OpensFor (Fault file) old new status = Opens content_of opened old new (file ∷ [])
-    OpensFor (Round file exact) old new status = Opens content_of opened old new (file ∷ [])
+    OpensFor (Fault file) old new status = Opens content_of opened old new ((file, Anything) ∷ [])
+    OpensFor (Round file exact) old new status = Opens content_of opened old new ((file, Anything) ∷ [])
 
     -- the line has this request, whose paths are opened
     pub record OpensAsked (words : List (List ℕ)) (old new : S) (status : ℕ) : Type 0 where

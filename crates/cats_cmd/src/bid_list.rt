@@ -3,6 +3,7 @@
 ghost use Rattle.std.specs.Prelude.{◌≡◌, ◌∷◌, [], IfErr, IfOk};
 ghost use Rattle.cats_cmd.specs.BidLists.{AreUnread, ReadsBids, fault_of_numbers};
 ghost use Rattle.cats_cmd.specs.Opening.{Opens};
+ghost use Rattle.cats_cmd.specs.declared.source.Way.TheVariants.{NoFolder};
 
 use crate::errors::RequestError;
 use crate::many_files::read_list;
@@ -22,7 +23,7 @@ pub(crate) fn read_bids<S: Source + AllocGlobal>(
         (S.may_refuse (S.content_of source.old)) S.Stream.remaining list.now bids.items) }
     ensures unread { IfErr result (AreUnread (S.may_open (S.content_of source.old))
         (S.may_refuse (S.content_of source.old)) S.Stream.remaining list.now) }
-    ensures opens { Opens S.content_of S.opened source.old source.new (list.now ∷ []) }
+    ensures opens { Opens S.content_of S.opened source.old source.new ((list.now, NoFolder) ∷ []) }
 {
     let text = read_list(source, list)?;
     match read_bid_numbers(source.alloc(), text.as_slice()) {

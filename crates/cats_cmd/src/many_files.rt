@@ -10,6 +10,7 @@ ghost use Rattle.cats_cmd.specs.Openings.{OpensFiles, status_of_run};
 ghost use Rattle.cats_cmd.specs.Paths.{RunsOnPaths, refusal_line};
 ghost use Rattle.cats_cmd.specs.Requests.{RunsOnMany};
 ghost use Rattle.cats_cmd.specs.RequestErrors.{Reports, status_of_request_error};
+ghost use Rattle.cats_cmd.specs.declared.source.Way.TheVariants.{NoFolder};
 
 use crate::bytes::read_bytes;
 use crate::errors::{RequestError, status_of};
@@ -124,7 +125,7 @@ pub(crate) fn read_list<S: Source + AllocGlobal>(
         (S.may_refuse (S.content_of source.old)) S.Stream.remaining list.now text.items) }
     ensures unread { IfErr result (IsUnread (S.may_open (S.content_of source.old)) (S.may_refuse (S.content_of source.old))
         S.Stream.remaining list.now) }
-    ensures opens { Opens S.content_of S.opened source.old source.new (list.now ∷ []) }
+    ensures opens { Opens S.content_of S.opened source.old source.new ((list.now, NoFolder) ∷ []) }
 {
     let mut input = match open_file(source, list) {
         Ok(input) => input,

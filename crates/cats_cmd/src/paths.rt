@@ -4,7 +4,7 @@ ghost use Rattle.std.specs.Prelude.{◌≡◌, ◌++◌, ℕ, Bool, List, Option
 ghost use Rattle.std.specs.Prelude.{false};
 ghost use Rattle.cats_text.specs.Streams.{has_failed};
 ghost use Rattle.cats_cmd.specs.Inputs.{IsOpened};
-ghost use Rattle.cats_cmd.specs.Opening.{Opens, OpensEach, openable};
+ghost use Rattle.cats_cmd.specs.Opening.{Opens, OpensEach, regular_openings};
 ghost use Rattle.cats_cmd.specs.Openings.{status_of_run};
 ghost use Rattle.cats_cmd.specs.Internal.Judging.{OpensAllAs};
 ghost use Rattle.cats_cmd.specs.Paths.{Judgement, IsUnjudged, IsUnopened, RunsOnPaths, count_line, progress_line};
@@ -16,12 +16,13 @@ ghost use Rattle.cats_cmd.specs.declared.paths.Ending.{Ending};
 ghost use Rattle.cats_cmd.specs.declared.paths.Progress.TheVariants.{Lines};
 ghost use Rattle.cats_cmd.specs.declared.errors.RequestError.{RequestError};
 ghost use Rattle.cats_cmd.specs.declared.errors.RequestError.TheVariants.{NotOpened};
+ghost use Rattle.cats_cmd.specs.declared.source.Way.TheVariants.{NoFolder};
 
 use crate::errors::{RequestError, push_error, status_of};
 use crate::lines::{LineBuffer, report};
 use crate::priced_input::{PricedInput, report_rounded};
 use crate::run::send_text;
-use crate::source::{Source, Unopened};
+use crate::source::{Source, Unopened, Way};
 use cats_text::Watched;
 use command_line::request::Prices;
 use commands::Input;
@@ -189,7 +190,7 @@ fn judge_path<C: Collection, S: Source + AllocGlobal, E: Write>(
         (S.may_refuse (S.content_of source.old)) S.Stream.remaining many.options many.prices E.contents
         (record { refusals = C.refusals; progress = many.progress }) turn.now.count turn.now.number turn.now.path.now
         collection.old collection.new err.old err.new result }
-    ensures opens { Opens S.content_of S.opened source.old source.new (openable (turn.now.path.now ∷ [])) }
+    ensures opens { Opens S.content_of S.opened source.old source.new (regular_openings (turn.now.path.now ∷ [])) }
 {
     let (error, rounded) = judge(source, collection, turn.path, many)?;
     remove_progress(many.progress, turn.number, err);
@@ -219,7 +220,7 @@ fn judge<C: Collection, S: Source + AllocGlobal>(
     ensures adds { IfOk result (λ judged. AddsFile (C.has many.ending) (S.may_open (S.content_of source.old))
         (S.may_refuse (S.content_of source.old)) S.Stream.remaining many.options many.prices
         path.now collection.old collection.new judged.1 judged.0) }
-    ensures opens { Opens S.content_of S.opened source.old source.new (openable (path.now ∷ [])) }
+    ensures opens { Opens S.content_of S.opened source.old source.new (regular_openings (path.now ∷ [])) }
 {
     match open_path(source, path) {
         Ok(stream) => {
@@ -238,12 +239,12 @@ fn judge<C: Collection, S: Source + AllocGlobal>(
 fn open_path<S: Source>(source: &mut S, path: &[u8]) -> Result<Watched<S::Stream>, Unopened>
     ensures opened { IfOk result (IsOpened (S.may_open (S.content_of source.old)) path.now) }
     ensures refused { IfErr result (IsUnopened (S.may_refuse (S.content_of source.old)) path.now) }
-    ensures opens { Opens S.content_of S.opened source.old source.new (openable (path.now ∷ [])) }
+    ensures opens { Opens S.content_of S.opened source.old source.new (regular_openings (path.now ∷ [])) }
 {
     let Ok(path) = str::from_utf8(path) else {
         return Err(Unopened::Other);
     };
-    match source.open_regular(path) {
+    match source.open(path, Way::Regular) {
         Ok(stream) => Ok(Watched::new(stream)),
         Err(why) => Err(why),
     }
@@ -256,9 +257,9 @@ pub(crate) fn open_file<S: Source>(
 ) -> Result<Watched<S::Stream>, Unopened>
     ensures opened { IfOk result (IsOpened (S.may_open (S.content_of source.old)) path.now) }
     ensures refused { IfErr result (S.may_refuse (S.content_of source.old) path.now) }
-    ensures opens { Opens S.content_of S.opened source.old source.new (path.now ∷ []) }
+    ensures opens { Opens S.content_of S.opened source.old source.new ((path.now, NoFolder) ∷ []) }
 {
-    match source.open_file(path) {
+    match source.open(path, Way::NoFolder) {
         Ok(stream) => Ok(Watched::new(stream)),
         Err(why) => Err(why),
     }

@@ -10,6 +10,7 @@ ghost use Rattle.cats_cmd.specs.Opening.{Opens};
 ghost use Rattle.cats_cmd.specs.Openings.{OpensFiles, OpensFor, OpensForBids, OpensPair, status_of_answer};
 ghost use Rattle.cats_cmd.specs.Openings.{status_of_run};
 ghost use Rattle.cats_cmd.specs.Requests.{CarriesOut, RunsOfFiles, fine_of, outcome_for};
+ghost use Rattle.cats_cmd.specs.declared.source.Way.TheVariants.{Anything};
 ghost use Rattle.command_line.specs.PlainRequests.{OnFile, OnPair, plain_bids, plain_command, plain_files, plain_request};
 
 use crate::bid_list::read_bids;
@@ -22,7 +23,7 @@ use crate::one_file::run_on_file;
 use crate::priced_input::{PricedInput, report_rounded};
 use crate::round::run_round;
 use crate::sizes::Table;
-use crate::source::Source;
+use crate::source::{Source, Way};
 use crate::two_files::run_on_pair;
 use canon::Which;
 use cats_text::Watched;
@@ -113,7 +114,7 @@ fn run_at<S: Source + AllocGlobal, W: Write, E: Write>(
     ensures runs { RunsAtOrNot (S.may_open (S.content_of source.old)) (S.may_refuse (S.content_of source.old))
         S.Stream.remaining W.contents E.contents request.now.file.now request.now.prices (outcome_for (plain_command
         request.now.command) bids.now) out.old out.new err.old err.new result }
-    ensures opens { Opens S.content_of S.opened source.old source.new (request.now.file.now ∷ []) }
+    ensures opens { Opens S.content_of S.opened source.old source.new ((request.now.file.now, Anything) ∷ []) }
 {
     let stream = open_only(source, request.file)?;
     let mut input = PricedInput::new(stream, request.prices);
@@ -200,7 +201,7 @@ pub(crate) fn open_only<S: Source>(
     ensures opened { IfOk result (IsOpened (S.may_open (S.content_of source.old)) path.now) }
     ensures refused { IfErr result (λ error. (error ≡ RequestError.CannotOpen Only)
         × MayRefuse (S.may_refuse (S.content_of source.old)) path.now) }
-    ensures opens { Opens S.content_of S.opened source.old source.new (path.now ∷ []) }
+    ensures opens { Opens S.content_of S.opened source.old source.new ((path.now, Anything) ∷ []) }
 {
     open(source, path, Which::Only)
 }
@@ -212,7 +213,8 @@ fn open_both<S: Source>(
 ) -> Result<(Watched<S::Stream>, Watched<S::Stream>), RequestError>
     ensures opened { IfOk result (λ both. IsOpened (S.may_open (S.content_of source.old)) files.now.first.now both.0
         × IsOpened (S.may_open (S.content_of source.old)) files.now.second.now both.1
-        × Opens S.content_of S.opened source.old source.new (files.now.first.now ∷ files.now.second.now ∷ [])) }
+        × Opens S.content_of S.opened source.old source.new ((files.now.first.now, Anything)
+        ∷ (files.now.second.now, Anything) ∷ [])) }
     ensures refused { IfErr result (λ error. FailsToOpenPair S.content_of S.opened (S.may_refuse (S.content_of source.old))
         files.now.first.now files.now.second.now source.old source.new error) }
 {
@@ -229,9 +231,9 @@ fn open<S: Source>(
     ensures opened { IfOk result (IsOpened (S.may_open (S.content_of source.old)) path.now) }
     ensures refused { IfErr result (λ error. (error ≡ RequestError.CannotOpen which)
         × MayRefuse (S.may_refuse (S.content_of source.old)) path.now) }
-    ensures opens { Opens S.content_of S.opened source.old source.new (path.now ∷ []) }
+    ensures opens { Opens S.content_of S.opened source.old source.new ((path.now, Anything) ∷ []) }
 {
-    match source.open(path) {
+    match source.open(path, Way::Anything) {
         Ok(stream) => Ok(Watched::new(stream)),
         Err(_) => Err(RequestError::CannotOpen(which)),
     }

@@ -2,7 +2,7 @@
 
 ghost use Rattle.std.specs.Prelude.{ℕ, List, [], ◌∷◌, Option, None, IfErr, IfOk};
 ghost use Rattle.cats_cmd.specs.Folders.{Finds, found_of};
-ghost use Rattle.cats_cmd.specs.Opening.{Opens};
+ghost use Rattle.cats_cmd.specs.Opening.{Opening, Opens};
 
 use crate::folder::files_below;
 use std::alloc::{Alloc, AllocError, Global};
@@ -15,7 +15,7 @@ use std::rt::Files;
 ///
 /// It says which streams it may open at a path, and for which reason it may refuse one, by what it holds, which no
 /// opening changes. So a contract can speak of the file at a path of the command line. It may also know which paths were
-/// opened so far, in order, with those that it refused.
+/// opened so far, in order, each in which way, with those that it refused.
 pub trait Source {
     ghost use Rattle.cats_cmd.specs.declared.source.Unopened.{Unopened};
 
@@ -31,32 +31,30 @@ pub trait Source {
 
     ghost may_find: { Content → List ℕ → Option (List (List ℕ)) → Type 0 };
 
-    ghost opened: { Self → Option (List (List ℕ)) };
+    ghost opened: { Self → Option (List Opening) };
 
-    /// Opens what is at a path. A folder may be opened too; then reading it fails.
-    fn open(&mut self, path: &str) -> Result<Self::Stream, Unopened>
+    /// Opens what is at a path, in a way.
+    fn open(&mut self, path: &str, way: Way) -> Result<Self::Stream, Unopened>
         ensures opened { IfOk result (Self.may_open (Self.content_of self.old) path.now) }
         ensures refused { IfErr result (Self.may_refuse (Self.content_of self.old) path.now) }
-        ensures opens { Opens Self.content_of Self.opened self.old self.new (path.now ∷ []) };
+        ensures opens { Opens Self.content_of Self.opened self.old self.new ((path.now, way) ∷ []) };
 
-    /// Opens the file at a path, and refuses a folder.
-    fn open_file(&mut self, path: &str) -> Result<Self::Stream, Unopened>
-        ensures opened { IfOk result (Self.may_open (Self.content_of self.old) path.now) }
-        ensures refused { IfErr result (Self.may_refuse (Self.content_of self.old) path.now) }
-        ensures opens { Opens Self.content_of Self.opened self.old self.new (path.now ∷ []) };
-
-    /// Opens the regular file at a path. A folder, a device and a FIFO are refused, and not opened: to open a FIFO may
-    /// take for ever.
-    fn open_regular(&mut self, path: &str) -> Result<Self::Stream, Unopened>
-        ensures opened { IfOk result (Self.may_open (Self.content_of self.old) path.now) }
-        ensures refused { IfErr result (Self.may_refuse (Self.content_of self.old) path.now) }
-        ensures opens { Opens Self.content_of Self.opened self.old self.new (path.now ∷ []) };
-
-    /// If a folder is at a path, the paths of the files below it, each with the folder's own path before it. No file is
-    /// opened. Where one of the folders below cannot be read, its path is among them. Without a folder that can be read
+    /// If a folder is at a path, the paths of the files below it, each once, with the folder's own path before it. No file
+    /// is opened. Where one of the folders below cannot be read, its path is among them. Without a folder that can be read
     /// there is none.
     fn find(&self, alloc: Global, path: &str) -> Result<Option<Vec<Vec<u8>>>, AllocError>
         ensures { IfOk result (λ found. Finds (Self.may_find (Self.content_of self.now)) path.now (found_of found)) };
+}
+
+/// How a path is opened.
+#[derive(Clone, Copy, PartialEq, Eq, Debug)]
+pub enum Way {
+    /// Whatever is there. A folder may be opened too; then reading it fails.
+    Anything,
+    /// A folder is refused.
+    NoFolder,
+    /// A folder, a device and a FIFO are refused, and not opened: to open a FIFO may take for ever.
+    Regular,
 }
 
 /// Why a file could not be opened.
@@ -99,32 +97,40 @@ impl<F: Files> Source for SystemFiles<'_, F> {
 
     ghost opened = { λ _. None };
 
-    fn open(&mut self, path: &str) -> Result<F::File, Unopened> {
-        match fs::open(self.files, path) {
-            Ok(file) => Ok(file),
-            Err(error) => Err(reason(error.kind())),
-        }
-    }
-
-    fn open_file(&mut self, path: &str) -> Result<F::File, Unopened> {
-        let file = self.open(path)?;
-        match file.metadata() {
-            Ok(metadata) if metadata.is_dir() => Err(Unopened::IsFolder),
-            _ => Ok(file),
-        }
-    }
-
-    fn open_regular(&mut self, path: &str) -> Result<F::File, Unopened> {
-        match fs::metadata(self.files, path) {
-            Ok(metadata) if metadata.is_file() => self.open(path),
-            Ok(metadata) if metadata.is_dir() => Err(folder_reason(self.files, path)),
-            Ok(_) => Err(Unopened::NotAFile),
-            Err(error) => Err(reason(error.kind())),
+    fn open(&mut self, path: &str, way: Way) -> Result<F::File, Unopened> {
+        match way {
+            Way::Anything => open(self.files, path),
+            Way::NoFolder => open_file(self.files, path),
+            Way::Regular => open_regular(self.files, path),
         }
     }
 
     fn find(&self, alloc: Global, path: &str) -> Result<Option<Vec<Vec<u8>>>, AllocError> {
         files_below(self.files, alloc, path)
+    }
+}
+
+fn open<F: Files>(files: &F, path: &str) -> Result<F::File, Unopened> {
+    match fs::open(files, path) {
+        Ok(file) => Ok(file),
+        Err(error) => Err(reason(error.kind())),
+    }
+}
+
+fn open_file<F: Files>(files: &F, path: &str) -> Result<F::File, Unopened> {
+    let file = open(files, path)?;
+    match file.metadata() {
+        Ok(metadata) if metadata.is_dir() => Err(Unopened::IsFolder),
+        _ => Ok(file),
+    }
+}
+
+fn open_regular<F: Files>(files: &F, path: &str) -> Result<F::File, Unopened> {
+    match fs::metadata(files, path) {
+        Ok(metadata) if metadata.is_file() => open(files, path),
+        Ok(metadata) if metadata.is_dir() => Err(folder_reason(files, path)),
+        Ok(_) => Err(Unopened::NotAFile),
+        Err(error) => Err(reason(error.kind())),
     }
 }
 

@@ -10,7 +10,7 @@ ghost use Rattle.cats_cmd.specs.DuplicateTexts.{duplicates_text};
 ghost use Rattle.cats_cmd.specs.Escaping.{escaped};
 ghost use Rattle.cats_cmd.specs.Duplicates.{heavy_paths, judged_paths};
 ghost use Rattle.cats_cmd.specs.Folders.{ListsFolder, files_at, with_slash};
-ghost use Rattle.cats_cmd.specs.Opening.{with_paths};
+ghost use Rattle.cats_cmd.specs.Opening.{with_openings};
 ghost use Rattle.std.specs.List.{flat_map};
 ghost use Rattle.cats_cmd.specs.PathLists.{paths_in};
 ghost use Rattle.cats_cmd.specs.declared.paths.Ending.TheVariants.{Line, Null};
@@ -28,6 +28,7 @@ ghost use Rattle.cats_cmd.specs.RequestErrors.{Reports, line_of_request_error};
 ghost use Rattle.cats_cmd.specs.declared.errors.RequestError.TheVariants.{CannotOpen, NotOpened, Run};
 ghost use Rattle.cats_cmd.specs.declared.source.Unopened.TheVariants.{NoSuchFile, PermissionDenied, IsFolder, NotAFile};
 ghost use Rattle.cats_cmd.specs.declared.source.Unopened.TheVariants.{Other};
+ghost use Rattle.cats_cmd.specs.declared.source.Way.TheVariants.{Anything, NoFolder, Regular};
 ghost use Rattle.canon.specs.declared.which.Which.TheVariants.{Only, First};
 ghost use Rattle.canon.specs.declared.canon_fault.CanonFault.TheVariants.{Read, Memory};
 ghost use Rattle.commands.specs.declared.faults.RunFault.TheVariants.{Refused, Sent};
@@ -194,11 +195,11 @@ pub fn paths_listed()
         ∷ ([] ∷ []) ∷ (codes "a" ∷ codes "a" ∷ []) ∷ (codes "a\nb" ∷ []) ∷ [] ∷ [] }
 {}
 
-/// What a source has opened: known paths and more of them, or unknown ones.
+/// What a source has opened: known openings and more of them, or unknown ones.
 pub fn paths_opened()
-    ensures known { with_paths (Some (codes "a" ∷ [])) (codes "b" ∷ codes "a" ∷ [])
-        ≡ Some (codes "a" ∷ codes "b" ∷ codes "a" ∷ []) }
-    ensures unknown { with_paths None (codes "b" ∷ []) ≡ None }
+    ensures known { with_openings (Some ((codes "a", Anything) ∷ [])) ((codes "b", Regular) ∷ (codes "a", NoFolder) ∷ [])
+        ≡ Some ((codes "a", Anything) ∷ (codes "b", Regular) ∷ (codes "a", NoFolder) ∷ []) }
+    ensures unknown { with_openings None ((codes "b", Regular) ∷ []) ≡ None }
 {}
 
 /// The files at paths: a file itself, the files below a folder, and none of an empty folder. Below a folder the paths begin

@@ -17,6 +17,7 @@ mod lp;
 mod many_files;
 mod memory;
 mod normalise;
+mod opened;
 mod openings;
 mod program;
 mod revenue;

@@ -14,12 +14,13 @@ use Rattle.command_line.specs.declared.request.NoRequest.{NoRequest}
 use Rattle.command_line.specs.declared.request.NoRequest.TheVariants.{WrongUsage}
 use Rattle.commands.specs.declared.faults.RunFault.{RunFault}
 use Rattle.cats_cmd.specs.Inputs.{MayRefuse}
-use Rattle.cats_cmd.specs.Opening.{Opens}
+use Rattle.cats_cmd.specs.Opening.{Opening, Opens}
 use Rattle.cats_cmd.specs.Requests.{CannotOpenPair, RunsAt, bounded_by, ending_of, progress_of}
 use Rattle.cats_cmd.specs.declared.errors.RequestError.{RequestError}
 use Rattle.cats_cmd.specs.declared.errors.RequestError.TheVariants.{CannotOpen, NotOpened, Run}
 use Rattle.cats_cmd.specs.declared.paths.ManyFiles.{ManyFiles}
 use Rattle.cats_cmd.specs.declared.source.Unopened.{Unopened}
+use Rattle.cats_cmd.specs.declared.source.Way.TheVariants.{Anything}
 
 -- the same answer to a line without a request, but for the text of a wrong usage
 abbrev pub IsButForText : NoRequest → NoRequest → Type 0
@@ -47,13 +48,14 @@ answer_of_run (Ok status) = Ok status
 answer_of_run (Err fault) = Err (Run fault)
 
 -- one of two files cannot be opened: the second, or the first, and then the second was not opened
-pub record FailsToOpenPair {S H : Type 0} (content_of : S → H) (opened : S → Option (List (List ℕ)))
+pub record FailsToOpenPair {S H : Type 0} (content_of : S → H) (opened : S → Option (List Opening))
     (may_refuse : List ℕ → Unopened → Type 0) (first second : List ℕ) (old new : S) (error : RequestError)
     : Type 0 where
   pub which : Which
   pub is : error ≡ CannotOpen which
   pub refused : CannotOpenPair may_refuse first second which
-  pub opens : Opens content_of opened old new (first ∷ second ∷ []) ⊎ Opens content_of opened old new (first ∷ [])
+  pub opens : Opens content_of opened old new ((first, Anything) ∷ (second, Anything) ∷ [])
+      ⊎ Opens content_of opened old new ((first, Anything) ∷ [])
 
 -- the run on a stream that was opened at the path, or none was
 abbrev pub RunsAtOrNot : {F W E : Type 0} → (List ℕ → F → Type 0) → (List ℕ → Unopened → Type 0)

@@ -13,7 +13,7 @@ use Rattle.canon.specs.Unsearched.{AreAlike, unsearched_text}
 use Rattle.cats_cmd.specs.DuplicateTexts.{found_paths}
 use Rattle.cats_cmd.specs.Duplicates.{FindsNumbers, heavy_files, heavy_paths, judged_files, judged_paths}
 use Rattle.cats_cmd.specs.declared.duplicates.Groups.{Groups}
-use Rattle.cats_cmd.specs.Opening.{Opens, OpensFirst, openable}
+use Rattle.cats_cmd.specs.Opening.{Opening, Opens, OpensFirst, regular_openings}
 use Rattle.commands.specs.declared.faults.HeavyBid.{HeavyBid}
 use Rattle.canon.specs.declared.canon_fault.CanonFault.{CanonFault}
 use Rattle.canon.specs.declared.canon_fault.CanonFault.TheVariants.{StepLimit}
@@ -117,7 +117,7 @@ abbrev pub AddsRefused : List ℕ → PlainFile → CanonFault → Groups → Gr
 AddsRefused path file fault old new = AddsRefusedTo KeepsGroups path file fault old new
 
 -- all paths were opened, or, when memory is refused, the first of them
-abbrev pub OpensAllAs : {S H : Type 0} → (S → H) → (S → Option (List (List ℕ))) → List (List ℕ) → S → S
+abbrev pub OpensAllAs : {S H : Type 0} → (S → H) → (S → Option (List Opening)) → List (List ℕ) → S → S
     → Result ℕ AllocError → Type 0
-OpensAllAs content_of opened paths old new (Ok greatest) = Opens content_of opened old new (openable paths)
+OpensAllAs content_of opened paths old new (Ok greatest) = Opens content_of opened old new (regular_openings paths)
 OpensAllAs content_of opened paths old new (Err e) = OpensFirst content_of opened old new paths

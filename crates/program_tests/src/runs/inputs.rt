@@ -6,7 +6,7 @@ ghost use Rattle.cats_text.specs.Streams.{has_failed};
 use super::each_command::words_of;
 use super::memory::answer_on;
 use super::streams::{RunAnswer, StepReader, StepWriter};
-use cats_cmd::source::{Source, Unopened};
+use cats_cmd::source::{Source, Unopened, Way};
 use cats_text::Watched;
 use std::alloc::{Alloc, AllocError, Global};
 use std::test::Fail;
@@ -34,19 +34,11 @@ impl<'a> Source for TwoStreams<'a> {
 
     ghost opened = { λ _. None };
 
-    fn open(&mut self, path: &str) -> Result<StepReader<'a>, Unopened> {
+    fn open(&mut self, path: &str, _way: Way) -> Result<StepReader<'a>, Unopened> {
         match path {
             "OTHER" => Ok(self.other),
             _ => Ok(self.file),
         }
-    }
-
-    fn open_file(&mut self, path: &str) -> Result<StepReader<'a>, Unopened> {
-        self.open(path)
-    }
-
-    fn open_regular(&mut self, path: &str) -> Result<StepReader<'a>, Unopened> {
-        self.open(path)
     }
 
     fn find(&self, _alloc: Global, _path: &str) -> Result<Option<Vec<Vec<u8>>>, AllocError> {

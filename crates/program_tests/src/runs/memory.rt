@@ -1,26 +1,30 @@
-//! Files in memory, and the program on them. Its contract says what it does there for a command line.
+//! Files in memory, with a list of what was opened, and the program on them. Its contract says what it does there for a
+//! command line, and what it opens.
 
 ghost use Rattle.std.specs.Borrow.{Bor};
 ghost use Rattle.std.specs.List.{Any};
-ghost use Rattle.std.specs.Prelude.{◌≡◌, ◌⊎◌, ℕ, List, None, false};
+ghost use Rattle.std.specs.Prelude.{◌≡◌, ◌⊎◌, ℕ, IfErr, IfOk, List, None, Some, false};
 ghost use Rattle.cats_text.specs.Streams.{has_failed};
 ghost use Rattle.cats_cmd.specs.declared.source.Unopened.{Unopened};
 ghost use Rattle.cats_cmd.specs.declared.source.Unopened.TheVariants.{NoSuchFile};
 
+use super::opened::Openings;
 use super::streams::{RunAnswer, StepWriter, expect, text_taken, writer};
 use cats_cmd::program::{Process, run_program};
-use cats_cmd::source::{Source, Unopened};
+use cats_cmd::source::{Source, Unopened, Way};
 use cats_text::Watched;
 use std::alloc::{Alloc, AllocError, AllocGlobal, Global};
 use std::process::Abort;
 use std::test::Fail;
 
-/// Files with their paths, paths that are refused, and how many openings there were.
+/// Files with their paths, paths that are refused, and what was opened: as contracts list it, and as tests read it, with a
+/// line for each opening.
 #[derive(Drop)]
 pub(super) struct FilesInMemory<'a> {
     files: &'a [(&'a str, &'a [u8])],
     refused: &'a [(&'a str, Unopened)],
-    pub(super) openings: usize,
+    pub(super) openings: Openings,
+    pub(super) lines: String,
     alloc: Global,
 }
 
@@ -29,9 +33,29 @@ impl<'a> FilesInMemory<'a> {
         FilesInMemory {
             files,
             refused: &REFUSED,
-            openings: 0,
+            openings: Openings::new(),
+            lines: String::new(alloc),
             alloc,
         }
+    }
+
+    /// The file at a path.
+    fn find_file(&self, path: &str) -> Result<&'a [u8], Unopened>
+        ensures found { IfOk result (λ stream. Any (λ f. (f.0.now ≡ path.now) × (f.1.now ≡ stream.now)) self.now.files.now) }
+        ensures refused { IfErr result (λ why. Any (λ r. (r.0.now ≡ path.now) × (r.1 ≡ why)) self.now.refused.now
+            ⊎ (why ≡ NoSuchFile)) }
+    {
+        for (name, why) in self.refused {
+            if *name == path {
+                return Err(*why);
+            }
+        }
+        for (name, text) in self.files {
+            if *name == path {
+                return Ok(*text);
+            }
+        }
+        Err(Unopened::NoSuchFile)
     }
 }
 
@@ -48,29 +72,12 @@ impl<'a> Source for FilesInMemory<'a> {
 
     ghost may_find = { λ _ _ found. found ≡ None };
 
-    ghost opened = { λ _. None };
+    ghost opened = { λ source. Some source.openings.list };
 
-    fn open(&mut self, path: &str) -> Result<&'a [u8], Unopened> {
-        self.open_file(path)
-    }
-
-    fn open_regular(&mut self, path: &str) -> Result<&'a [u8], Unopened> {
-        self.open_file(path)
-    }
-
-    fn open_file(&mut self, path: &str) -> Result<&'a [u8], Unopened> {
-        self.openings = self.openings.saturating_add(1);
-        for (name, why) in self.refused {
-            if *name == path {
-                return Err(*why);
-            }
-        }
-        for (name, text) in self.files {
-            if *name == path {
-                return Ok(*text);
-            }
-        }
-        Err(Unopened::NoSuchFile)
+    fn open(&mut self, path: &str, way: Way) -> Result<&'a [u8], Unopened> {
+        self.openings.note(path, way);
+        let _ = write!(self.lines, "{way:?} {path}\n");
+        self.find_file(path)
     }
 
     fn find(&self, _alloc: Global, _path: &str) -> Result<Option<Vec<Vec<u8>>>, AllocError> {
