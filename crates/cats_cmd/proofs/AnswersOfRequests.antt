@@ -60,7 +60,7 @@ canon_status_above (StepLimit goods) = omega arith
 canon_status_above Memory = omega arith
 
 -- no error has the status of an answer
-error_status_above : (error : RequestError) → 2 ≤ status_of_request_error error
+pub error_status_above : (error : RequestError) → 2 ≤ status_of_request_error error
 error_status_above (Run (Refused which fault)) = canon_status_above fault
 error_status_above error = omega arith
 

@@ -63,7 +63,7 @@ pub fn run_cats<F: Files + AllocGlobal, W: Write, E: Write>(
 /// program's name, and `out` and `err` are the standard streams.
 ///
 /// A fault's line is sent to `err`. It needs no memory.
-#[tactic(auto, using(crate::proofs::AnswersOfRequests::few_files, crate::proofs::AnswersOfRequests::none_found, crate::proofs::AnswersOfRequests::quiet_request, crate::proofs::Unasked::still_unasked, crate::proofs::Unasked::unasked_status))]
+#[tactic(auto, using(crate::proofs::AnswersOfRequests::few_files, crate::proofs::AnswersOfRequests::none_found, crate::proofs::AnswersOfRequests::quiet_request))]
 pub fn run_program<S: Source + AllocGlobal, W: Write, E: Write>(
     source: &mut S,
     words: &[&str],

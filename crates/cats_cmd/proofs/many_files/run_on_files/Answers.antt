@@ -1,5 +1,6 @@
 -- `run_on_files`
-use Rattle.cats_cmd.proofs.Common.{◌∙◌, ap, map, paths_in}
+use Rattle.cats_cmd.proofs.Common.{◌∙◌, ap, inr, map, paths_in, refl}
+use Rattle.cats_cmd.proofs.AnswersOfRequests.{error_status_above}
 use Rattle.cats_cmd.proofs.RunsOfLists.{list_run}
 use Rattle.cats_cmd.proofs.many_files.run_on_files.Goals as goal
 
@@ -8,3 +9,11 @@ returns-in_ok-paths-in-Ok-clause-runs g c =
     rw c.in-ListedIn.is (list_run _ _ _ _ _ _ c.in-ListedIn.list.now c.in-Ok.text.items c.in-Ok.ensures.read _
     (ap (map (λ path. path.now)) c.as_slice-in-Ok-2.ensures.value ∙ c.in_ok-paths-in-Ok.ensures ∙ ap paths_in c.as_slice-in-Ok.ensures.value)
     _ _ _ _ _ (rw (c.in-Ok.ensures.opens.stays, c.many_files-many.ensures) at c.run_at_paths-in-Ok.ensures.runs))
+
+pub returns-in-Err-clause-opens : goal.returns-in-Err-clause-opens
+returns-in-Err-clause-opens g c =
+    rw c.in-ListedIn.is (record {
+      between = c.read_list.new.source;
+      opens = c.in-Err.ensures.opens;
+      rest = inr (rw c.refuse_list.ensures.status (error_status_above c.in-Err.error), refl);
+    })

@@ -1,0 +1,11 @@
+-- `run_at_paths`
+use Rattle.cats_cmd.proofs.Common.{inl, map}
+use Rattle.cats_cmd.proofs.many_files.run_at_paths.Goals as goal
+
+pub returns-clause-opens : goal.returns-clause-opens
+returns-clause-opens g c =
+    inl (record {
+      files = map (λ path. path.now) c.as_slice-2.result.now;
+      are = rw (c.as_slice-2.ensures.value, c.in_ok-files.ensures, c.as_slice.ensures.value) c.in_ok-found.ensures;
+      opens = c.run_on_paths.ensures.opens;
+    })
