@@ -79,7 +79,7 @@ pub use Rattle.cats_text.specs.declared.stream.Watched.{Watched}
 pub use Rattle.command_line.proofs.Answering.{only_memory}
 pub use Rattle.command_line.specs.PlainRequests.{PlainRequest, OnFile, OnPair, OnFiles, Fault, Round, GivenBids, BidsIn, PlainBids, PlainCommand, Check}
 pub use Rattle.command_line.specs.PlainRequests.{plain_request}
-pub use Rattle.command_line.specs.Requests.{request_of, IsNoRequestOf, is_no_memory}
+pub use Rattle.command_line.specs.Requests.{request_of, texts_of, IsNoRequestOf, is_no_memory}
 pub use Rattle.command_line.specs.declared.request.NoRequest.{NoRequest}
 pub use Rattle.command_line.specs.declared.request.NoRequest.TheVariants.{WrongUsage, NoMemory}
 pub use Rattle.command_line.specs.declared.request.Prices.{Prices}

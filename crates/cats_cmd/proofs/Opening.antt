@@ -31,7 +31,11 @@ module _ {S H : Type 0} (content_of : S → H) (opened : S → Option (List Open
   opens_next old between new paths i d l first later =
       let before = map (λ (p : Bor (List ℕ)). p.now) (take i paths) in
       let one = (get_or paths i d).now ∷ [] in
-      rw (one_more_path paths i d l, filter-append is_utf8 before one, map-append {B = Opening} (λ p. (p, Regular)) (filter is_utf8 before) (filter is_utf8 one))
+      rw (
+        one_more_path paths i d l,
+        filter-append is_utf8 before one,
+        map-append {B = Opening} (λ p. (p, Regular)) (filter is_utf8 before) (filter is_utf8 one),
+      )
       (opens_then old between new (regular_openings before) (regular_openings one) first later)
 
   -- memory was refused behind one of them

@@ -1,5 +1,5 @@
 -- `run_program`
-use Rattle.cats_cmd.proofs.Common.{inr, refl}
+use Rattle.cats_cmd.proofs.Common.{inr, refl, texts_of}
 use Rattle.cats_cmd.proofs.Unasked.{still_unasked, unasked_status}
 use Rattle.cats_cmd.proofs.program.run_program.Goals as goal
 
@@ -8,13 +8,16 @@ returns-in-Err-clause-answers g c =
     let answer = c.with_escaped_words-no_request in
     inr (record {
       no_request = answer.result;
-      unasked = still_unasked _ c.in-Err.no_request answer.result c.in-Err.ensures.no_request answer.ensures;
+      unasked = still_unasked (texts_of c.args.words.now) c.in-Err.no_request answer.result c.in-Err.ensures.no_request answer.ensures;
       answers = c.answer_no_request.ensures;
     })
 
 pub returns-in-Err-clause-opens : goal.returns-in-Err-clause-opens
 returns-in-Err-clause-opens g c =
     let answer = c.with_escaped_words-no_request in
-    let unasked = still_unasked _ c.in-Err.no_request answer.result c.in-Err.ensures.no_request answer.ensures in
-    inr (unasked_status g.W.Write.contents g.E.Write.contents _ answer.result c.args.out.now c.answer_no_request.new.out c.args.err.now
-    c.answer_no_request.new.err c.answer_no_request.result unasked c.answer_no_request.ensures, refl)
+    let unasked = still_unasked (texts_of c.args.words.now) c.in-Err.no_request answer.result c.in-Err.ensures.no_request answer.ensures in
+    inr (
+      unasked_status g.W.Write.contents g.E.Write.contents (texts_of c.args.words.now) answer.result c.args.out.now c.answer_no_request.new.out c.args.err.now
+          c.answer_no_request.new.err c.answer_no_request.result unasked c.answer_no_request.ensures,
+      refl,
+    )
