@@ -1,6 +1,6 @@
 -- Lines without a request: what is answered to one stays an answer to it with another text of a wrong usage, and only want of memory is answered to
 -- a line that has a request.
-use Rattle.cats_cmd.proofs.Common.{◌≡◌, ℕ, List, Option, None, Some, refl, true, false, ◌⊎◌, inl, inr, Watched, PlainRequest, request_of, IsNoRequestOf}
+use Rattle.cats_cmd.proofs.Common.{◌≡◌, ℕ, List, Option, None, Some, refl, false, ◌⊎◌, inl, inr, Watched, PlainRequest, request_of, IsNoRequestOf}
 use Rattle.cats_cmd.proofs.Common.{is_no_memory, NoRequest, WrongUsage, NoMemory, only_memory, IsButForText, AnswersNoRequest}
 
 pub still_unasked : (words : List (List ℕ)) (before after : NoRequest) → IsNoRequestOf words before → IsButForText before after
