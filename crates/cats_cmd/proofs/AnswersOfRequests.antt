@@ -7,7 +7,8 @@ use Rattle.cats_cmd.proofs.Common.{AnswersRequest, CarriesOut, RunsAt, RunsAtBot
 use Rattle.cats_cmd.proofs.Common.{status_of_canon_fault, status_of_read_fault, Reports, line_of_request_error, has_found, is_for_many_files, is_reporting}
 use Rattle.cats_cmd.proofs.Common.{is_rounding, names_found, names_many_files, names_reporting, status_of_request_error, RequestError, CannotOpen, NotOpened}
 use Rattle.cats_cmd.proofs.Common.{Run, RunFault, Refused, Sent, PlainRequest, OnFile, OnPair, OnFiles, Fault, Round, GivenBids, BidsIn, PlainBids}
-use Rattle.cats_cmd.proofs.Common.{PlainCommand, Comparison, Prices, AsWritten, request_of, Unopened}
+use Rattle.cats_cmd.proofs.Common.{PlainCommand, Comparison, Prices, AsWritten, request_of, Unopened, RunsOnFile, RunsOnPair, answer_if_lost, is_lost}
+use Rattle.cats_cmd.proofs.Common.{max, true, length, rounded_prices, fine_of, status_if_lost}
 use Rattle.cats_text.specs.declared.read_fault.Kind.TheVariants.{Memory as NoMemory}
 use Rattle.cats_cmd.proofs.AnswersShown.{command_printed, printed}
 use Rattle.cats_cmd.proofs.Sending.{pair_facts}
@@ -20,6 +21,11 @@ none_printed : (path : List ℕ) (place : Option PlainPlace) (status : ℕ) (tex
     → (status == 2) ≡ false → status ≤ 1
 none_printed path None status text is none = let same : 0 ≡ status = cc in omega (arith, same)
 none_printed path (Some place) status text is none = let same : 2 ≡ status = cc in absurd (both_ways (status == 2) none (eq-eqb status 2 (sym same)))
+
+-- the rounded text was printed, and its report is not lost
+round_printed : (lost : Bool) (status : ℕ) {sent : List ℕ} (text : List ℕ) → Prints (status_if_lost lost 0) sent ≡ Prints status text → status ≢ 5 → status ≤ 1
+round_printed true status text is no = let same : 5 ≡ status = cc in absurd (no (sym same))
+round_printed false status text is no = let same : 0 ≡ status = cc in omega (arith, same)
 
 -- what is known of a line's request is known of the request
 pub few_files : (words : List (List ℕ)) (request : PlainRequest) → request_of words ≡ Some request → names_many_files words ≡ false
@@ -78,11 +84,18 @@ none_rounded prices plain = cc
 module _ {F W E : Type 0} (may_open : List ℕ → F → Type 0) (may_refuse : List ℕ → Unopened → Type 0) (remaining : F → Option (List ℕ))
     (contents : W → Option (List ℕ)) (messages : E → Option (List ℕ)) (terminal : Bool)
     (may_find : List ℕ → Option (List (List ℕ)) → Type 0) (out out_after : Watched W) (err : Watched E) where
-  -- A run on one or two files that answered has the status 0 or 1, or has written nothing, and has reported nothing if prices are not rounded.
-  -- One that failed has written nothing, unless its output failed.
+  -- A run on one or two files that answered has the status 0 or 1, or 5, or has written nothing, and has reported nothing if prices are not
+  -- rounded. One that failed has written nothing, unless its output failed.
   abbrev Kept : Prices → Watched E → Result ℕ RunFault → Type 0
-  Kept prices err_after (Ok status) = ((status ≤ 1) ⊎ (out_after ≡ out)) × (is_rounding prices ≡ false → status ≤ 1 → err_after ≡ err)
+  Kept prices err_after (Ok status) =
+      (status ≢ 5 → (status ≤ 1) ⊎ (out_after ≡ out)) × (is_rounding prices ≡ false → status ≤ 1 → err_after ≡ err)
   Kept prices err_after (Err fault) = IsSilent (Run fault) out out_after
+
+  -- whether its report is lost or not
+  kept_if_lost : (prices : Prices) (err_after : Watched E) (lost : Bool) (status : ℕ) → status ≤ 1 → (is_rounding prices ≡ false → err_after ≡ err)
+      → Kept prices err_after (answer_if_lost lost (Ok status))
+  kept_if_lost prices err_after true status most quiet = ((λ no. absurd (no refl)), (λ plain few. absurd (omega (arith, few))))
+  kept_if_lost prices err_after false status most quiet = ((λ no. inl most), (λ plain few. quiet plain))
 
   -- ---- a command on one file
 
@@ -90,18 +103,21 @@ module _ {F W E : Type 0} (may_open : List ℕ → F → Type 0) (may_refuse : L
     abbrev RunsOnNumbers : List ℕ → Result ℕ RunFault → Type 0
     RunsOnNumbers numbers answer = RunsAt may_open remaining contents messages path prices (outcome_for command numbers) out out_after err err_after answer
 
-    kept_at : (numbers : List ℕ) (answer : Result ℕ RunFault) → RunsOnNumbers numbers answer → Kept prices err_after answer
-    kept_at numbers (Err fault) ran =
+    kept_sent : (numbers : List ℕ) (answer sent : Result ℕ RunFault) (ran : RunsOnNumbers numbers answer)
+        → RunsOnFile (PricedGives remaining) (PricedRefuses remaining) contents (outcome_for command numbers) ran.before ran.after out out_after sent
+        → Kept prices err_after (answer_if_lost (is_lost ran.after.rounded err_after) sent)
+    kept_sent numbers answer (Err fault) ran runs =
         silent_run contents (Commands (PricedGives remaining) (PricedRefuses remaining) (outcome_for command numbers) ran.before ran.after) out out_after fault
-        ran.runs
-    kept_at numbers (Ok status) ran =
-        let r = ran.runs in
-        let made = r.answers in
+        runs
+    kept_sent numbers answer (Ok status) ran runs =
+        let made = runs.answers in
         let most = (printed _ _ _ (command_printed command numbers made.file) made.made).0 in
-        let is = r.is_status in (
-          inl (omega (arith, most, is)),
-          λ plain few. rw (none_given remaining ran.before ran.after (ran.opened.fine ∙ none_rounded prices plain) made.file made.given) at ran.reports,
-        )
+        let is = runs.is_status in
+        kept_if_lost prices err_after (is_lost ran.after.rounded err_after) status (omega (arith, most, is))
+        (λ plain. rw (none_given remaining ran.before ran.after (ran.opened.fine ∙ none_rounded prices plain) made.file made.given) at ran.reports)
+
+    kept_at : (numbers : List ℕ) (answer : Result ℕ RunFault) → RunsOnNumbers numbers answer → Kept prices err_after answer
+    kept_at numbers answer ran = rw ran.answers (kept_sent numbers answer ran.sent ran ran.runs)
 
     -- it runs on the bids that are named, or on none
     kept_on : (named : Option PlainBids) (answer : Result ℕ RunFault) → RunsOnBids may_open may_refuse remaining messages
@@ -114,7 +130,7 @@ module _ {F W E : Type 0} (may_open : List ℕ → F → Type 0) (may_refuse : L
     kept_on (Some (BidsIn list)) (Ok status) (inr refused) =
         let least = error_status_above refused.error in
         let is = refused.is_status in
-        (inr refused.silent, λ plain most. absurd (omega (arith, least, is, most)))
+        ((λ no. inr refused.silent), (λ plain most. absurd (omega (arith, least, is, most))))
 
   -- ---- any request
 
@@ -127,30 +143,41 @@ module _ {F W E : Type 0} (may_open : List ℕ → F → Type 0) (may_refuse : L
   abbrev Failed : PlainRequest → Watched E → ℕ → Type 0
   Failed request err_after status = FailsRequest may_open may_refuse remaining contents messages terminal may_find request out out_after err err_after status
 
-  kept_both : (first second : List ℕ) (prices : Prices) (comparison : Comparison) (err_after : Watched E) (answer : Result ℕ RunFault)
-      → RunsAtBoth may_open remaining contents messages first second prices comparison out out_after err err_after answer → Kept prices err_after answer
-  kept_both first second prices comparison err_after (Err fault) ran =
+  abbrev RanOnPair : List ℕ → List ℕ → Prices → Comparison → Watched E → Result ℕ RunFault → Type 0
+  RanOnPair first second prices comparison err_after answer =
+      RunsAtBoth may_open remaining contents messages first second prices comparison out out_after err err_after answer
+
+  sent_both : (first second : List ℕ) (prices : Prices) (comparison : Comparison) (err_after : Watched E) (answer sent : Result ℕ RunFault)
+      (ran : RanOnPair first second prices comparison err_after answer)
+      → RunsOnPair (PricedGives remaining) (PricedRefuses remaining) (PricedGives remaining) (PricedRefuses remaining) contents comparison ran.left
+      ran.left_after ran.right ran.right_after out out_after sent
+      → Kept prices err_after (answer_if_lost (is_lost (max ran.left_after.rounded ran.right_after.rounded) err_after) sent)
+  sent_both first second prices comparison err_after answer (Err fault) ran runs =
       silent_run contents (CommandsOnBoth (PricedGives remaining) (PricedRefuses remaining) (PricedGives remaining) (PricedRefuses remaining)
-      comparison ran.left ran.left_after ran.right ran.right_after) out out_after fault ran.runs
-  kept_both first second prices comparison err_after (Ok status) ran =
+      comparison ran.left ran.left_after ran.right ran.right_after) out out_after fault runs
+  sent_both first second prices comparison err_after answer (Ok status) ran runs =
       let facts = pair_facts (PricedGives remaining) (PricedRefuses remaining) (PricedGives remaining) (PricedRefuses remaining) ran.left ran.left_after
       ran.right ran.right_after comparison in
-      let made = facts.made ran.runs.answer ran.runs.answers in
+      let made = facts.made runs.answer runs.answers in
       let most = made.printed.0 in
-      let is = ran.runs.is_status in (
-        inl (omega (arith, most, is)),
-        λ plain few.
-            let written = none_rounded prices plain in
-            let one = none_given remaining ran.left ran.left_after (ran.left_opened.fine ∙ written) made.files.0 made.given.0.given in
-            let other = none_given remaining ran.right ran.right_after (ran.right_opened.fine ∙ written) made.files.1 made.given.1.given in
-            rw other at (rw one at ran.reports),
-      )
+      let is = runs.is_status in
+      kept_if_lost prices err_after (is_lost (max ran.left_after.rounded ran.right_after.rounded) err_after) status (omega (arith, most, is))
+      (λ plain.
+      let written = none_rounded prices plain in
+      let one = none_given remaining ran.left ran.left_after (ran.left_opened.fine ∙ written) made.files.0 made.given.0.given in
+      let other = none_given remaining ran.right ran.right_after (ran.right_opened.fine ∙ written) made.files.1 made.given.1.given in
+      rw other at (rw one at ran.reports))
+
+  kept_both : (first second : List ℕ) (prices : Prices) (comparison : Comparison) (err_after : Watched E) (answer : Result ℕ RunFault)
+      → RanOnPair first second prices comparison err_after answer → Kept prices err_after answer
+  kept_both first second prices comparison err_after answer ran =
+      rw ran.answers (sent_both first second prices comparison err_after answer ran.sent ran ran.runs)
 
   -- A request for one or two files that answered has the status 0 or 1, or has written nothing, unless it has found a fault. It has reported
   -- nothing, unless it is one that reports. One that failed has written nothing, unless its output failed.
   abbrev KeptFor : PlainRequest → Watched E → Result ℕ RunFault → Type 0
   KeptFor request err_after (Ok status) =
-      (is_for_many_files request ≡ false → has_found status request ≡ false → (status ≤ 1) ⊎ (out_after ≡ out))
+      (is_for_many_files request ≡ false → has_found status request ≡ false → status ≢ 5 → (status ≤ 1) ⊎ (out_after ≡ out))
       × (is_reporting request ≡ false → status ≤ 1 → err_after ≡ err)
   KeptFor request err_after (Err fault) = is_for_many_files request ≡ false → IsSilent (Run fault) out out_after
 
@@ -162,16 +189,18 @@ module _ {F W E : Type 0} (may_open : List ℕ → F → Type 0) (may_refuse : L
       let kept = kept_both first second prices (comparison_of command limits) err_after (Ok status) ran in ((λ few none. kept.0), kept.1)
   kept_for (OnPair first second prices command limits) err_after (Err fault) ran =
       λ few. kept_both first second prices (comparison_of command limits) err_after (Err fault) ran
-  kept_for (OnFiles files) err_after (Ok status) ran = ((λ few none. absurd (cc)), (λ plain most. absurd (cc)))
+  kept_for (OnFiles files) err_after (Ok status) ran = ((λ few none no. absurd (cc)), (λ plain most. absurd (cc)))
   kept_for (OnFiles files) err_after (Err fault) ran = λ few. absurd (cc)
   kept_for (Fault file) err_after (Ok status) ran =
       let made = ran.0.runs in
-      ((λ few none. inl (none_printed file (first_place made.given) status made.text made.made none)), (λ plain most. ran.1))
+      ((λ few none no. inl (none_printed file (first_place made.given) status made.text made.made none)), (λ plain most. ran.1))
   kept_for (Fault file) err_after (Err (Refused which fault)) ran = λ few. ran.0.runs.2
   kept_for (Fault file) err_after (Err (Sent fault)) ran = λ few. tt
   kept_for (Fault file) err_after (Err fault) ran = absurd ran.0.runs
-  kept_for (Round file exact) err_after (Ok status) ran =
-      let made = ran.runs.made in let is : 0 ≡ status = cc in ((λ few none. inl (omega (arith, is))), (λ plain most. absurd (cc)))
+  kept_for (Round file exact) err_after (Ok status) ran = (
+    (λ few none no. inl (round_printed (is_lost (length (rounded_prices (fine_of exact) ran.runs.given)) err_after) status ran.runs.text ran.runs.made no)),
+    (λ plain most. absurd (cc)),
+  )
   kept_for (Round file exact) err_after (Err (Refused which fault)) ran = λ few. ran.runs.silent
   kept_for (Round file exact) err_after (Err (Sent fault)) ran = λ few. tt
   kept_for (Round file exact) err_after (Err fault) ran = absurd ran.runs
@@ -190,7 +219,7 @@ module _ {F W E : Type 0} (may_open : List ℕ → F → Type 0) (may_refuse : L
     pub silent_answer : Answered → is_for_many_files request ≡ false → has_found status request ≡ false → status ≢ 0 → status ≢ 1 → status ≢ 5 → out_after ≡ out
     silent_answer (inl ran) few none a b c =
         ⊎_elim (λ (most : status ≤ 1). absurd (omega (arith, most, a, b))) (λ (silent : out_after ≡ out). silent)
-        ((kept_for request err_after (Ok status) ran).0 few none)
+        ((kept_for request err_after (Ok status) ran).0 few none c)
     silent_answer (inr s) few none a b c =
         silent_unless_failed s.error out out_after (silent_request request s.between s.error s.carries few) (λ five. c (s.is_status ∙ five))
 

@@ -3,8 +3,9 @@
 use Rattle.cats_cmd.proofs.Common.{◌≡◌, ℕ, suc, ◌+◌, ◌<◌, max, List, [], ◌∷◌, ◌++◌, length, map, get_or, take, refl, sym, ap, ◌∙◌, subst, arith, append-nil}
 use Rattle.cats_cmd.proofs.Common.{Option, Result, Ok, Err, IsErr, Bor, AllByRecursion, flat_map, AllocError, map-append, take_more, append_assoc, length-map}
 use Rattle.cats_cmd.proofs.Common.{length-take-le, take-map, fold_push, Watched, Prices, SearchOptions, AddsPath, HasJudged, JudgesAllAs, JudgedPath, Judgement}
-use Rattle.cats_cmd.proofs.Common.{Judges, Reporting, greatest_status, judgement_at, lines_from, lines_of_path, report_lines, status_of_judgement}
-use Rattle.cats_cmd.proofs.Common.{without_refusals, rounding_lines, Silent, ReportsAll, Unopened}
+use Rattle.cats_cmd.proofs.Common.{Judges, Reporting, ReportsFrom, ReportsPath, greatest_status, judgement_at, lines_from, lines_of_path, report_lines}
+use Rattle.cats_cmd.proofs.Common.{status_of_path, without_refusals, removal_lines, rounding_lines, progress_lines, request_error_of, is_lost, Bool}
+use Rattle.cats_cmd.proofs.Common.{Silent, ReportsAll, RequestError, Unopened}
 
 pub all_push : {X : Type 0} (P : X → Type 0) (xs : List X) (x : X) → AllByRecursion P xs → P x → AllByRecursion P (xs ++ x ∷ [])
 all_push P [] x h p = (p, tt)
@@ -40,6 +41,37 @@ path_reported messages first then more last a b c d e one two three four =
     reports_more messages (first ++ then ++ more) last a d e
     (reports_more messages (first ++ then) more a c d (reports_more messages first then a b c one two) three) four
 
+-- the same, until its rounded prices were reported, and then
+pub path_reports : {E : Type 0} (messages : E → Option (List ℕ)) (reporting : Reporting) (count number : ℕ) (path : List ℕ) (judgement : Judgement)
+    (error : Option RequestError) → error ≡ request_error_of judgement → (rounded : ℕ) (lost : Bool) (a b c d e : Watched E) → lost ≡ is_lost rounded c
+    → ReportsAll messages (removal_lines reporting.progress number) a b → ReportsAll messages (rounding_lines path rounded) b c
+    → ReportsAll messages (reporting.refusals path error) c d → ReportsAll messages (progress_lines reporting.progress number count path) d e
+    → ReportsPath messages reporting count number (record { path = path; judgement = judgement; rounded = rounded; lost = lost }) a e
+path_reports messages reporting count number path judgement error is rounded lost a b c d e loses one two three four = record {
+  between = c;
+  roundings = reports_more messages (removal_lines reporting.progress number) (rounding_lines path rounded) a b c one two;
+  loses = loses;
+  others = rw is at (reports_more messages (reporting.refusals path error) (progress_lines reporting.progress number count path) c d e three four);
+}
+
+reports_push : {E : Type 0} (messages : E → Option (List ℕ)) (reporting : Reporting) (count number : ℕ) (js : List JudgedPath) (j : JudgedPath)
+    (a b c : Watched E) → ReportsFrom messages reporting count number js a b → ReportsPath messages reporting count (number + length js) j b c
+    → ReportsFrom messages reporting count number (js ++ j ∷ []) a c
+reports_push {E = E} messages reporting count number [] j a b c before now =
+    let same : number + 0 ≡ number = omega arith in (
+      c,
+      subst (λ (e : Watched E). ReportsPath messages reporting count number j e c) before
+          (subst (λ (n : ℕ). ReportsPath messages reporting count n j b c) same now),
+      refl,
+    )
+reports_push messages reporting count number (i ∷ js) j a b c before now =
+    let same : number + suc (length js) ≡ suc number + length js = omega arith in (
+      before.0,
+      before.1,
+      reports_push messages reporting count (suc number) js j before.0 b c before.2
+          (subst (λ (n : ℕ). ReportsPath messages reporting count n j b c) same now),
+    )
+
 -- ---- the paths so far
 
 module _ {C F E : Type 0} (Has : C → List (List ℕ × Judgement) → Type 0) (may_open : List ℕ → F → Type 0) (may_refuse : List ℕ → Unopened → Type 0)
@@ -48,7 +80,7 @@ module _ {C F E : Type 0} (Has : C → List (List ℕ × Judgement) → Type 0) 
   pub none_judged : (kept : C) → Has kept [] → HasJudged Has may_open may_refuse remaining options prices messages reporting count [] kept err err 0
   none_judged kept has = record {
     judged = [];
-    judges = record { of_paths = refl; each = tt; reports = refl };
+    judges = record { of_paths = refl; each = tt; reports = refl; each_reports = refl };
     has = has;
     is_greatest = refl;
   }
@@ -59,7 +91,7 @@ module _ {C F E : Type 0} (Has : C → List (List ℕ × Judgement) → Type 0) 
       → HasJudged Has may_open may_refuse remaining options prices messages reporting count (paths ++ path ∷ []) more err after (max greatest status)
   judged_more paths kept more greatest status before after path h a =
       let js = h.judged in
-      let j : JudgedPath = record { path = path; judgement = a.judgement; rounded = a.rounded } in
+      let j : JudgedPath = record { path = path; judgement = a.judgement; rounded = a.rounded; lost = a.lost } in
       let long : length paths + 1 ≡ 1 + length js =
       let e = sym (length-map js (λ (x : JudgedPath). x.path)) ∙ ap (length {A = List ℕ}) h.judges.of_paths in omega (arith, e) in
       let all : ReportsAll messages (report_lines reporting count js ++ lines_of_path reporting count (1 + length js) j) err after =
@@ -72,11 +104,12 @@ module _ {C F E : Type 0} (Has : C → List (List ℕ × Judgement) → Type 0) 
           of_paths = map-append (λ (x : JudgedPath). x.path) js (j ∷ []) ∙ ap (λ (ps : List (List ℕ)). ps ++ path ∷ []) h.judges.of_paths;
           each = all_push (Judges may_open may_refuse remaining options prices) js j h.judges.each a.judges;
           reports = subst (λ (lines : List (List ℕ)). ReportsAll messages lines err after) (sym (lines_push reporting count 1 js j)) all;
+          each_reports = reports_push messages reporting count 1 js j err before after h.judges.each_reports
+              (subst (λ (n : ℕ). ReportsPath messages reporting count n j before after) long a.path_reports);
         };
         has = subst (λ (judgements : List (List ℕ × Judgement)). Has more judgements) (sym more_judgements) (a.adds (map judgement_at js) h.has);
-        is_greatest = ap (λ (g : ℕ). max g status) h.is_greatest ∙ ap (max (greatest_status (map judgement_at js))) a.is_status
-            ∙ sym (ap greatest_status more_judgements
-            ∙ fold_push (λ (g : ℕ) (x : List ℕ × Judgement). max g (status_of_judgement x.1)) 0 (map judgement_at js) (judgement_at j));
+        is_greatest = ap (λ (g : ℕ). max g status) h.is_greatest ∙ ap (max (greatest_status js)) a.is_status
+            ∙ sym (fold_push (λ (g : ℕ) (x : JudgedPath). max g (status_of_path x)) 0 js j);
       }
 
 -- ---- as the code has them

@@ -1,5 +1,5 @@
 -- The contract of a run on many files. It has what became of each file, what is reported, and the text that is sent.
-use Rattle.std.specs.Prelude.{◌≡◌, ◌⊎◌, ◌==◌, ◌||◌, ◌%◌, nat_lt, if◌then◌else◌, ℕ, suc, max, Bool}
+use Rattle.std.specs.Prelude.{◌≡◌, ◌⊎◌, ◌==◌, ◌||◌, ◌%◌, nat_lt, if◌then◌else◌, ℕ, suc, max, Bool, false}
 use Rattle.std.specs.Prelude.{List, [], ◌∷◌, ◌++◌, length, fold, map, take}
 use Rattle.std.specs.Prelude.{Option, Some, None, Result, Ok, Err, codes, decimal}
 use Rattle.std.specs.List.{AllByRecursion}
@@ -19,7 +19,7 @@ use Rattle.cats_cmd.specs.Escaping.{escaped}
 use Rattle.cats_cmd.specs.PricedInputs.{IsPriced, PricedGives, PricedRefuses, rounding_lines}
 use Rattle.cats_cmd.specs.declared.priced_input.PricedInput.{PricedInput}
 use Rattle.cats_cmd.specs.Runs.{FailsInText, WritesText}
-use Rattle.cats_cmd.specs.RequestErrors.{ReportsAll, line_of_request_error, status_of_request_error}
+use Rattle.cats_cmd.specs.RequestErrors.{ReportsAll, is_lost, line_of_request_error, status_if_lost, status_of_request_error}
 use Rattle.cats_cmd.specs.declared.paths.Progress.{Progress}
 use Rattle.cats_cmd.specs.declared.paths.Progress.TheVariants.{Silent, Lines, Terminal}
 use Rattle.cats_cmd.specs.declared.errors.RequestError.{RequestError}
@@ -39,14 +39,15 @@ pub data Judgement : Type 0 where
   -- it was not judged, for this reason
   IsUnjudged : RequestError → Judgement
 
--- what became of the file at a path, and how many of its prices were rounded
+-- what became of the file at a path, how many of its prices were rounded, and whether the report of that is lost
 pub record JudgedPath : Type 0 where
   pub path : List ℕ
   pub judgement : Judgement
   pub rounded : ℕ
+  pub lost : Bool
 
 abbrev pub judged_path : List ℕ → Judgement → ℕ → JudgedPath
-judged_path path judgement rounded = record { path = path; judgement = judgement; rounded = rounded }
+judged_path path judgement rounded = record { path = path; judgement = judgement; rounded = rounded; lost = false }
 
 abbrev pub judgement_at : JudgedPath → List ℕ × Judgement
 judgement_at judged = (judged.path, judged.judgement)
@@ -57,15 +58,16 @@ request_error_of (IsJudged file) = None
 request_error_of (IsHeavy file heavy) = Some (Run (TooHeavy Only heavy))
 request_error_of (IsUnjudged error) = Some error
 
-abbrev pub status_if : Option RequestError → ℕ
-status_if None = 0
-status_if (Some error) = status_of_request_error error
+-- of a file that was judged the status says whether the report is lost, and of another one why it was not
+abbrev pub status_if : Bool → Option RequestError → ℕ
+status_if lost None = status_if_lost lost 0
+status_if lost (Some error) = status_of_request_error error
 
-abbrev pub status_of_judgement : Judgement → ℕ
-status_of_judgement judgement = status_if (request_error_of judgement)
+abbrev pub status_of_path : JudgedPath → ℕ
+status_of_path judged = status_if judged.lost (request_error_of judged.judgement)
 
-abbrev pub greatest_status : List (List ℕ × Judgement) → ℕ
-greatest_status judgements = fold (λ greatest j. max greatest (status_of_judgement j.1)) 0 judgements
+abbrev pub greatest_status : List JudgedPath → ℕ
+greatest_status judged = fold (λ greatest j. max greatest (status_of_path j)) 0 judged
 
 -- ---- what is reported
 
@@ -138,6 +140,22 @@ lines_from reporting count number (judged ∷ rest) =
 abbrev pub report_lines : Reporting → ℕ → List JudgedPath → List (List ℕ)
 report_lines reporting count judged = lines_from reporting count 1 judged
 
+module _ {E : Type 0} (messages : E → Option (List ℕ)) (reporting : Reporting) (count : ℕ) where
+  -- of the path with this number, how many of its prices were rounded, unless that is lost, and then the rest
+  pub record ReportsPath (number : ℕ) (judged : JudgedPath) (old new : Watched E) : Type 0 where
+    pub between : Watched E
+    pub roundings : ReportsAll messages
+        (removal_lines reporting.progress number ++ rounding_lines judged.path judged.rounded) old between
+    pub loses : judged.lost ≡ is_lost judged.rounded between
+    pub others : ReportsAll messages (reporting.refusals judged.path (request_error_of judged.judgement)
+        ++ progress_lines reporting.progress number count judged.path) between new
+
+  -- of paths of which the first has this number
+  abbrev pub ReportsFrom : ℕ → List JudgedPath → Watched E → Watched E → Type 0
+  ReportsFrom number [] old new = new ≡ old
+  ReportsFrom number (judged ∷ rest) old new =
+      (between : Watched E) × ReportsPath number judged old between × ReportsFrom (suc number) rest between new
+
 -- ---- the file at a path
 
 -- no file was opened at the path, for this reason: it may be refused, or it is not UTF-8
@@ -195,6 +213,7 @@ module _ {F E : Type 0} (may_open : List ℕ → F → Type 0) (may_refuse : Lis
     pub of_paths : map (λ j. j.path) judged ≡ paths
     pub each : AllByRecursion (Judges may_open may_refuse remaining options prices) judged
     pub reports : ReportsAll messages (report_lines reporting count judged) err err_after
+    pub each_reports : ReportsFrom messages reporting count 1 judged err err_after
 
   -- this became of the files at the first so many of the paths
   pub record BeginsPaths (paths : List (List ℕ)) (err err_after : Watched E) : Type 0 where
@@ -205,7 +224,7 @@ module _ {F E : Type 0} (may_open : List ℕ → F → Type 0) (may_refuse : Lis
 -- ---- the run
 
 abbrev pub outcome_of_paths : Made → Outcome
-outcome_of_paths made = Prints (greatest_status (map judgement_at made.judged)) made.text
+outcome_of_paths made = Prints (greatest_status made.judged) made.text
 
 -- `Makes` says which text is made of what became of the files
 module _ {F W E : Type 0} (may_open : List ℕ → F → Type 0) (may_refuse : List ℕ → Unopened → Type 0)

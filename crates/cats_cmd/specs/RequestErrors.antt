@@ -1,11 +1,13 @@
 -- Why a request fails, and what is then reported. The program's status is part of it.
-use Rattle.std.specs.Prelude.{◌≡◌, ◌⊎◌, ◌==◌, ◌++◌, ℕ, Bool, true, false, List, [], ◌∷◌, Option, Result, codes}
+use Rattle.std.specs.Prelude.{◌≡◌, ◌⊎◌, ◌==◌, ◌++◌, ◌&&◌, ℕ, Bool, true, false, List, [], ◌∷◌, Option, Result, Ok, Err}
+use Rattle.std.specs.Prelude.{codes, if◌then◌else◌, nat_lt}
 use Rattle.std.specs.Option.{option_map_or}
 use Rattle.cats_text.specs.Streams.{has_failed, Sends}
 use Rattle.cats_text.specs.declared.read_fault.SendFault.{SendFault}
 use Rattle.cats_text.specs.declared.stream.Watched.{Watched}
 use Rattle.commands.specs.FaultLines.{line_of_fault, prefix_of}
 use Rattle.commands.specs.Statuses.{status_of_fault}
+use Rattle.commands.specs.declared.faults.RunFault.{RunFault}
 use Rattle.command_line.specs.PlainRequests.{PlainRequest, OnFile, OnPair, OnFiles, Fault, Round}
 use Rattle.command_line.specs.Requests.{request_of}
 use Rattle.command_line.specs.declared.request.Prices.{Prices}
@@ -66,6 +68,21 @@ abbrev pub line_of_request_error : RequestError → List ℕ
 line_of_request_error (CannotOpen which) = prefix_of which ++ codes "cannot open\n"
 line_of_request_error (NotOpened why) = line_of_unopened why
 line_of_request_error (Run fault) = line_of_fault fault
+
+-- ---- a report that is lost
+
+-- so many prices were changed, and standard error has failed behind the report on them
+abbrev pub is_lost : {E : Type 0} → ℕ → Watched E → Bool
+is_lost changed err_after = nat_lt 0 changed && has_failed err_after
+
+-- the status of a run that comes to this one
+abbrev pub status_if_lost : Bool → ℕ → ℕ
+status_if_lost lost status = if lost then 5 else status
+
+-- what a run answers: if it fails, no more than that
+abbrev pub answer_if_lost : Bool → Result ℕ RunFault → Result ℕ RunFault
+answer_if_lost lost (Ok status) = Ok (status_if_lost lost status)
+answer_if_lost lost (Err fault) = Err fault
 
 -- ---- what is sent to a stream for messages
 

@@ -1,6 +1,6 @@
 -- The contract of the program. It is the run of the request, on the files at its paths, what is sent where, and
 -- with which status.
-use Rattle.std.specs.Prelude.{◌≡◌, ◌⊎◌, ◌++◌, ℕ, Bool, true, false, List, Option, Some, Result, Ok, Err, codes}
+use Rattle.std.specs.Prelude.{◌≡◌, ◌⊎◌, ◌++◌, ℕ, max, Bool, true, false, List, [], ◌∷◌, Option, Some, Result, Ok, Err, codes}
 use Rattle.std.specs.Prelude.{if◌then◌else◌}
 use Rattle.std.specs.Prelude.{string_bytes}
 use Rattle.bid_file.specs.Files.{PlainFile}
@@ -26,7 +26,8 @@ use Rattle.commands.specs.declared.command.Comparison.{Comparison}
 use Rattle.commands.specs.declared.command.Comparison.TheVariants as comparisons
 use Rattle.rounding.specs.declared.replacement.FinePrices.{FinePrices}
 use Rattle.rounding.specs.declared.replacement.FinePrices.TheVariants.{Round as RoundFine, Refuse}
-use Rattle.cats_cmd.specs.RequestErrors.{Reports, ReportsAll, SendsText, line_of_request_error, status_of_request_error}
+use Rattle.cats_cmd.specs.RequestErrors.{Reports, ReportsAll, SendsText, answer_if_lost, is_lost}
+use Rattle.cats_cmd.specs.RequestErrors.{line_of_request_error, status_of_request_error}
 use Rattle.command_line.specs.PlainRequests.{PlainRequest, OnFile, OnPair, OnFiles, Fault, Round, PlainFiles}
 use Rattle.command_line.specs.PlainRequests.{PlainCommand, Check, Show, Value, Revenue, Normalise, Explain, Lp}
 use Rattle.command_line.specs.declared.request.FilesCommand.{FilesCommand}
@@ -105,15 +106,18 @@ fine_of false = RoundFine
 
 module _ {F W E : Type 0} (may_open : List ℕ → F → Type 0) (remaining : F → Option (List ℕ))
     (contents : W → Option (List ℕ)) (messages : E → Option (List ℕ)) where
-  -- a run on a stream that was opened at the path, with its prices read so; how many were rounded is reported
+  -- a run on a stream that was opened at the path, with its prices read so; how many were rounded is reported, or the
+  -- status says that this is lost
   pub record RunsAt (path : List ℕ) (prices : Prices) (outcome : PlainFile → Outcome) (out out_after : Watched W)
       (err err_after : Watched E) (answer : Result ℕ RunFault) : Type 0 where
     pub before : PricedInput F
     pub after : PricedInput F
     pub opened : IsPriced may_open prices path before
+    pub sent : Result ℕ RunFault
     pub runs : RunsOnFile (PricedGives remaining) (PricedRefuses remaining) contents outcome before after out out_after
-        answer
+        sent
     pub reports : ReportsAll messages (rounding_lines path after.rounded) err err_after
+    pub answers : answer ≡ answer_if_lost (is_lost after.rounded err_after) sent
 
   -- a run on the streams that were opened at the two paths
   pub record RunsAtBoth (first second : List ℕ) (prices : Prices) (comparison : Comparison) (out out_after : Watched W)
@@ -124,10 +128,13 @@ module _ {F W E : Type 0} (may_open : List ℕ → F → Type 0) (remaining : F 
     pub right_after : PricedInput F
     pub left_opened : IsPriced may_open prices first left
     pub right_opened : IsPriced may_open prices second right
+    pub sent : Result ℕ RunFault
     pub runs : RunsOnPair (PricedGives remaining) (PricedRefuses remaining) (PricedGives remaining)
-        (PricedRefuses remaining) contents comparison left left_after right right_after out out_after answer
+        (PricedRefuses remaining) contents comparison left left_after right right_after out out_after sent
     pub reports : ReportsAll messages
         (rounding_lines first left_after.rounded ++ rounding_lines second right_after.rounded) err err_after
+    pub answers : answer
+        ≡ answer_if_lost (is_lost (max left_after.rounded right_after.rounded) err_after) sent
 
   -- the first fault of a stream that was opened at the path
   pub record FindsFaultAt (path : List ℕ) (out out_after : Watched W) (answer : Result ℕ RunFault) : Type 0 where

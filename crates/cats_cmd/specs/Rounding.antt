@@ -1,5 +1,5 @@
 -- What `cats round` does. It reads bytes, sends the text with their prices rounded, and reports.
-use Rattle.std.specs.Prelude.{◌≡◌, ◌⊎◌, ℕ, List, map, Option, Result, Ok, Err}
+use Rattle.std.specs.Prelude.{◌≡◌, ◌⊎◌, ℕ, Bool, false, List, length, map, Option, Result, Ok, Err}
 use Rattle.bid_file.specs.Files.{PlainFile}
 use Rattle.cats_text.specs.Grammar.{Spells}
 use Rattle.cats_text.specs.declared.stream.Watched.{Watched}
@@ -15,13 +15,13 @@ use Rattle.cats_cmd.specs.Inputs.{ReadsAll, StopsReading, WantsMemoryForBytes}
 use Rattle.cats_cmd.specs.PricedInputs.{HasRoundedFault}
 use Rattle.commands.specs.Outcomes.{Outcome, Prints}
 use Rattle.cats_cmd.specs.Runs.{FailsInText, WritesText}
-use Rattle.cats_cmd.specs.RequestErrors.{ReportsAll}
+use Rattle.cats_cmd.specs.RequestErrors.{ReportsAll, is_lost, status_if_lost}
 use Rattle.commands.specs.declared.faults.RunFault.{RunFault}
 use Rattle.commands.specs.declared.faults.RunFault.TheVariants.{Refused, TooHeavy, GoodRange, BidRange, Sent}
 
--- the text with its prices rounded, with status 0
-abbrev pub round_outcome : FinePrices → List ℕ → Outcome
-round_outcome fine bytes = Prints 0 (rounded_text fine bytes)
+-- the text with its prices rounded, with status 0, unless the report on them is lost
+abbrev pub round_outcome : FinePrices → Bool → List ℕ → Outcome
+round_outcome fine lost bytes = Prints (status_if_lost lost 0) (rounded_text fine bytes)
 
 -- ---- the run
 
@@ -63,14 +63,15 @@ module _ {R W E : Type 0} (remaining : R → Option (List ℕ)) (contents : W �
   -- the text was written in part, as the output failed, and nothing was reported
   pub record FailsInRounding (old new : Watched R) (out out_after : Watched W) (err err_after : Watched E)
       (written : ℕ) : Type 0 where
-    pub fails : FailsInText contents (ReadsRoundable old new) (round_outcome fine) out out_after written
+    pub fails : FailsInText contents (ReadsRoundable old new) (round_outcome fine false) out out_after written
     pub quiet : err_after ≡ err
 
   -- the contract of the run, from its input, its output and standard error before to those after it
   abbrev pub Rounds : Watched R → Watched R → Watched W → Watched W → Watched E → Watched E → Result ℕ RunFault
       → Type 0
   Rounds old new out out_after err err_after (Ok status) =
-      WritesText contents (ReadsAndReports old new err err_after) (round_outcome fine) out out_after status
+      WritesText contents (ReadsAndReports old new err err_after)
+      (λ bytes. round_outcome fine (is_lost (length (rounded_prices fine bytes)) err_after) bytes) out out_after status
   Rounds old new out out_after err err_after (Err (Refused which fault)) =
       RefusesRounding old new out out_after err err_after which fault
   Rounds old new out out_after err err_after (Err (TooHeavy which heavy)) = ⊥

@@ -21,7 +21,7 @@ ghost use Rattle.cats_cmd.specs.declared.source.Way.TheVariants.{NoFolder};
 use crate::errors::{RequestError, push_error, status_of};
 use crate::lines::{LineBuffer, report};
 use crate::priced_input::{PricedInput, report_rounded};
-use crate::run::send_text;
+use crate::run::{is_lost, send_text, status_if_lost};
 use crate::source::{Source, Unopened, Way};
 use cats_text::Watched;
 use command_line::request::Prices;
@@ -125,8 +125,8 @@ pub(crate) trait Collection: Sized + Drop {
 ///
 /// A file that cannot be judged is reported on `err` at once, unless the text says it, and the others go on; so is, where
 /// prices are rounded, how many of a file's were. With `progress`, it is reported there after each hundredth file, and
-/// after the last, how many were read. The status is 0 if every file was judged, and else the greatest of the statuses of
-/// those that were not.
+/// after the last, how many were read. The status is the greatest of the files' statuses. That of a file that was judged is
+/// 0, or says that it could not be reported that prices were rounded.
 pub(crate) fn run_on_paths<C: Collection, S: Source + AllocGlobal, W: Write, E: Write>(
     source: &mut S,
     paths: &[&[u8]],
@@ -195,17 +195,18 @@ fn judge_path<C: Collection, S: Source + AllocGlobal, E: Write>(
     let (error, rounded) = judge(source, collection, turn.path, many)?;
     remove_progress(many.progress, turn.number, err);
     report_rounded(turn.path, rounded, err);
+    let lost = is_lost(rounded, err);
     C::report_refusal(turn.path, &error, err);
     report_progress(many.progress, turn, err);
-    Ok(status_if(&error))
+    Ok(status_if(lost, &error))
 }
 
-/// The status of a file that was judged, or of the reason why it was not.
-fn status_if(error: &Option<RequestError>) -> u8
-    ensures { result ≡ status_if error.now }
+/// The status of a file that was judged, whose report may be lost, or of the reason why it was not.
+fn status_if(lost: bool, error: &Option<RequestError>) -> u8
+    ensures { result ≡ status_if lost error.now }
 {
     match error {
-        None => DONE,
+        None => status_if_lost(lost, DONE),
         Some(error) => status_of(error),
     }
 }

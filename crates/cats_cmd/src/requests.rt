@@ -22,6 +22,7 @@ use crate::mapping::{command_of, comparison_of};
 use crate::one_file::run_on_file;
 use crate::priced_input::{PricedInput, report_rounded};
 use crate::round::run_round;
+use crate::run::{answer_if_lost, is_lost};
 use crate::sizes::Table;
 use crate::source::{Source, Way};
 use crate::two_files::run_on_pair;
@@ -121,7 +122,8 @@ fn run_at<S: Source + AllocGlobal, W: Write, E: Write>(
     let command = command_of(&request.command, bids);
     let answer = run_on_file(source.alloc(), &mut input, &command, out);
     report_rounded(request.file.as_bytes(), input.rounded(), err);
-    ran(answer)
+    let lost = is_lost(input.rounded(), err);
+    ran(answer_if_lost(lost, answer))
 }
 
 /// Opens the files of a request for two, runs on them, and reports how many of their prices were rounded.
@@ -146,7 +148,8 @@ fn carry_out_on_pair<S: Source + AllocGlobal, W: Write, E: Write>(
     let answer = run_on_pair(source.alloc(), &mut left, &mut right, &comparison, out);
     report_rounded(request.first.as_bytes(), left.rounded(), err);
     report_rounded(request.second.as_bytes(), right.rounded(), err);
-    ran(answer)
+    let lost = is_lost(left.rounded().max(right.rounded()), err);
+    ran(answer_if_lost(lost, answer))
 }
 
 /// The run of a request on many files.

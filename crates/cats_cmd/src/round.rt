@@ -10,7 +10,7 @@ ghost use Rattle.cats_cmd.specs.RequestErrors.{Reports, ReportsAll};
 
 use crate::bytes::read_bytes;
 use crate::lines::report_pieces;
-use crate::run::send_text;
+use crate::run::{is_lost, send_text, status_if_lost};
 use canon::CanonFault;
 use cats_text::Watched;
 use commands::faults::RunFault;
@@ -22,7 +22,8 @@ use std::alloc::Global;
 use std::io::{Read, Write};
 
 /// Reads a text, rounds each price of it that is finer than a millionth, or refuses it, and writes each that is written
-/// otherwise as a price. Sends that text if it is a bid file, and then reports on `err` each price whose value changed.
+/// otherwise as a price. Sends that text if it is a bid file, and then reports on `err` each price whose value changed. If
+/// that fails, the status says so.
 ///
 /// A fault is the first of the text that results, as `run_check` has it.
 pub(crate) fn run_round<R: Read, W: Write, E: Write>(
@@ -44,7 +45,8 @@ pub(crate) fn run_round<R: Read, W: Write, E: Write>(
     let rounded = round_bytes(alloc, text.as_slice(), fine)?;
     let status = send_text(out, DONE, rounded.text.as_slice())?;
     report_prices(rounded.prices.as_slice(), err);
-    Ok(status)
+    let lost = is_lost(rounded.prices.len(), err);
+    Ok(status_if_lost(lost, status))
 }
 
 /// The text with its prices rounded. If memory is refused to the rounding, the run answers that memory was refused.

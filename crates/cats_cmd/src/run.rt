@@ -2,6 +2,7 @@
 
 ghost use Rattle.std.specs.Prelude.{◌≡◌, false};
 ghost use Rattle.cats_text.specs.Streams.{has_failed};
+ghost use Rattle.cats_cmd.specs.RequestErrors.{answer_if_lost, is_lost, status_if_lost};
 ghost use Rattle.cats_cmd.specs.Runs.{SendsAnswer, SendsAs};
 
 use canon::{CanonFault, Which};
@@ -9,6 +10,7 @@ use cats_text::packed::send_file;
 use cats_text::{Watched, send};
 use commands::answer::{Answer, Output};
 use commands::faults::RunFault;
+use commands::statuses::DEVICE_FAILED;
 use std::alloc::{AllocError, Global};
 use std::io::Write;
 
@@ -48,4 +50,28 @@ pub(crate) fn send_answer<W: Write>(
         Ok(Err(fault)) => Err(RunFault::Sent(fault)),
         Err(AllocError) => Err(RunFault::Refused(whose, CanonFault::Memory)),
     }
+}
+
+/// Whether it is lost that so many prices were changed, as standard error failed.
+pub(crate) fn is_lost<E>(changed: usize, err: &Watched<E>) -> bool
+    ensures { result ≡ is_lost changed err.now }
+{
+    changed > 0 && err.failed()
+}
+
+/// What a run answers. If its report is lost, the status is that of a device that failed.
+pub(crate) fn answer_if_lost(lost: bool, answer: Result<u8, RunFault>) -> Result<u8, RunFault>
+    ensures { result ≡ answer_if_lost lost answer }
+{
+    match answer {
+        Ok(status) => Ok(status_if_lost(lost, status)),
+        Err(fault) => Err(fault),
+    }
+}
+
+/// The status of a run that comes to this one.
+pub(crate) fn status_if_lost(lost: bool, status: u8) -> u8
+    ensures { result ≡ status_if_lost lost status }
+{
+    if lost { DEVICE_FAILED } else { status }
 }

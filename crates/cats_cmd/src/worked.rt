@@ -16,7 +16,7 @@ ghost use Rattle.cats_cmd.specs.PathLists.{paths_in};
 ghost use Rattle.cats_cmd.specs.declared.paths.Ending.TheVariants.{Line, Null};
 ghost use Rattle.cats_cmd.specs.declared.paths.Progress.TheVariants.{Silent, Lines, Terminal};
 ghost use Rattle.cats_cmd.specs.Paths.{IsHeavy, IsJudged, IsUnjudged, greatest_status, judged_path, progress_lines};
-ghost use Rattle.cats_cmd.specs.Paths.{report_lines};
+ghost use Rattle.cats_cmd.specs.Paths.{report_lines, status_of_path};
 ghost use Rattle.cats_cmd.specs.Paths.{with_refusals, without_refusals};
 ghost use Rattle.commands.specs.SizesRows.{counts_of, sizes_of};
 ghost use Rattle.cats_cmd.specs.SizesTables.{MakesTable, row};
@@ -24,7 +24,7 @@ ghost use Rattle.cats_cmd.specs.Rounding.{round_outcome};
 ghost use Rattle.cats_cmd.specs.PricedInputs.{PricedGives, PricedRefuses, rounding_lines};
 ghost use Rattle.rounding.specs.declared.replacement.FinePrices.TheVariants.{Refuse, Round};
 ghost use Rattle.cats_cmd.specs.Runs.{SendsMadeAs};
-ghost use Rattle.cats_cmd.specs.RequestErrors.{Reports, line_of_request_error};
+ghost use Rattle.cats_cmd.specs.RequestErrors.{Reports, answer_if_lost, is_lost, line_of_request_error};
 ghost use Rattle.cats_cmd.specs.declared.errors.RequestError.TheVariants.{CannotOpen, NotOpened, Run};
 ghost use Rattle.cats_cmd.specs.declared.source.Unopened.TheVariants.{NoSuchFile, PermissionDenied, IsFolder, NotAFile};
 ghost use Rattle.cats_cmd.specs.declared.source.Unopened.TheVariants.{Other};
@@ -65,8 +65,17 @@ pub fn paths_reported()
     ensures terminal { report_lines (with_refusals Terminal) 2 (judged_path (codes "a") (IsJudged larger_bid) 0 ∷
         judged_path (codes "b") (IsUnjudged (NotOpened NoSuchFile)) 0 ∷ [])
         ≡ codes "1 of 2\n" ∷ (27 ∷ 91 ∷ 65 ∷ 27 ∷ 91 ∷ 75 ∷ []) ∷ codes "b: cannot open: no such file\n" ∷ codes "2 of 2\n" ∷ [] }
-    ensures status { greatest_status ((codes "a", IsUnjudged (NotOpened NoSuchFile)) ∷ (codes "b", IsJudged larger_bid) ∷ [])
-        ≡ 5 }
+    ensures status { greatest_status (judged_path (codes "a") (IsUnjudged (NotOpened NoSuchFile)) 0 ∷
+        judged_path (codes "b") (IsJudged larger_bid) 0 ∷ []) ≡ 5 }
+    ensures lost { (goods : Vec ℕ Global) → map status_of_path (
+        record { path = codes "a"; judgement = IsJudged larger_bid; rounded = 1; lost = true } ∷
+        record { path = codes "b"; judgement = IsJudged larger_bid; rounded = 1; lost = false } ∷
+        record {
+          path = codes "c";
+          judgement = IsHeavy larger_bid (record { number = 2; goods = goods; steps = 1; total = None });
+          rounded = 1;
+          lost = true;
+        } ∷ []) ≡ 5 ∷ 0 ∷ 3 ∷ [] }
     ensures judged { judged_paths ((codes "a", IsUnjudged (NotOpened NoSuchFile)) ∷ (codes "b", IsJudged larger_bid) ∷ [])
         ≡ codes "b" ∷ [] }
     ensures heavy { (goods : Vec ℕ Global) → heavy_paths ((codes "a", IsUnjudged (NotOpened NoSuchFile)) ∷
@@ -134,8 +143,19 @@ pub fn table_rows()
 
 /// What `cats round` makes of bytes.
 pub fn rounded_texts()
-    ensures { round_outcome Round (codes "goods 1\nbids 1\ndummy 0\n0 0.0123456 0 #\n")
-        ≡ Prints 0 (codes "goods 1\nbids 1\ndummy 0\n0 0.012346 0 #\n") }
+    ensures { map (λ lost. round_outcome Round lost (codes "goods 1\nbids 1\ndummy 0\n0 0.0123456 0 #\n")) (false ∷ true ∷ [])
+        ≡ Prints 0 (codes "goods 1\nbids 1\ndummy 0\n0 0.012346 0 #\n") ∷
+        Prints 5 (codes "goods 1\nbids 1\ndummy 0\n0 0.012346 0 #\n") ∷ [] }
+{}
+
+/// Whether a report on prices is lost, and what a run then answers: a failure stays what it is.
+pub fn reports_lost()
+    ensures lost { is_lost 1 (watched (codes "x") true false) ≡ true }
+    ensures sent { is_lost 1 (watched (codes "x\n") false false) ≡ false }
+    ensures nothing { is_lost 0 (watched [] true false) ≡ false }
+    ensures answers { map (answer_if_lost true) (Ok 0 ∷ Ok 1 ∷ Err (Refused Only Memory) ∷ [])
+        ≡ Ok 5 ∷ Ok 5 ∷ Err (Refused Only Memory) ∷ [] }
+    ensures kept { map (answer_if_lost false) (Ok 0 ∷ Ok 1 ∷ []) ≡ Ok 0 ∷ Ok 1 ∷ [] }
 {}
 
 /// What is reported of a file of which no price was rounded, one, and more.

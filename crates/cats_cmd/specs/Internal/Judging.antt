@@ -1,5 +1,5 @@
 -- Judging the file at one path of many. The definitions say what it does, and what is kept.
-use Rattle.std.specs.Prelude.{◌≡◌, ℕ, List, [], ◌∷◌, ◌++◌, length, map, Option, Result, Ok, Err}
+use Rattle.std.specs.Prelude.{◌≡◌, ℕ, Bool, List, [], ◌∷◌, ◌++◌, length, map, Option, Result, Ok, Err}
 use Rattle.std.specs.declared.alloc.AllocError.{AllocError}
 use Rattle.cats_text.specs.declared.stream.Watched.{Watched}
 use Rattle.cats_text.specs.declared.read_fault.ReadFault.{ReadFault}
@@ -19,8 +19,8 @@ use Rattle.canon.specs.declared.canon_fault.CanonFault.{CanonFault}
 use Rattle.canon.specs.declared.canon_fault.CanonFault.TheVariants.{StepLimit}
 use Rattle.cats_cmd.specs.Paths.{BeginsPaths, IsHeavy, IsUnjudged, JudgedPath, Judgement, JudgesAs, JudgesInput}
 use Rattle.cats_cmd.specs.Paths.{JudgesPaths}
-use Rattle.cats_cmd.specs.Paths.{Reporting, greatest_status, judgement_at, lines_on, request_error_of}
-use Rattle.cats_cmd.specs.Paths.{status_of_judgement}
+use Rattle.cats_cmd.specs.Paths.{Reporting, ReportsPath, greatest_status, judgement_at, lines_on, request_error_of}
+use Rattle.cats_cmd.specs.Paths.{status_if}
 use Rattle.cats_cmd.specs.RequestErrors.{ReportsAll}
 use Rattle.cats_cmd.specs.declared.errors.RequestError.{RequestError}
 use Rattle.cats_cmd.specs.declared.source.Unopened.{Unopened}
@@ -83,11 +83,14 @@ module _ {C : Type 0} (Has : C → List (List ℕ × Judgement) → Type 0) wher
         (path : List ℕ) (old new : C) (err err_after : Watched E) (status : ℕ) : Type 0 where
       pub judgement : Judgement
       pub rounded : ℕ
+      pub lost : Bool
       pub judges : JudgesAs may_open may_refuse remaining options prices path rounded judgement
       pub adds : AddsJudgement path judgement old new
       pub reports : ReportsAll messages
           (lines_on reporting count number path rounded (request_error_of judgement)) err err_after
-      pub is_status : status ≡ status_of_judgement judgement
+      pub path_reports : ReportsPath messages reporting count number
+          (record { path = path; judgement = judgement; rounded = rounded; lost = lost }) err err_after
+      pub is_status : status ≡ status_if lost (request_error_of judgement)
 
     abbrev pub AddsPathAs : {E : Type 0} → (E → Option (List ℕ)) → Reporting → ℕ → ℕ → List ℕ → C → C → Watched E
         → Watched E → Result ℕ AllocError → Type 0
@@ -102,7 +105,7 @@ module _ {C : Type 0} (Has : C → List (List ℕ × Judgement) → Type 0) wher
       pub judges : JudgesPaths may_open may_refuse remaining messages options prices reporting count paths err err_after
           judged
       pub has : Has kept (map judgement_at judged)
-      pub is_greatest : greatest ≡ greatest_status (map judgement_at judged)
+      pub is_greatest : greatest ≡ greatest_status judged
 
     -- the files at all paths, or, when memory is refused, those at the first of them
     abbrev pub JudgesAllAs : {E : Type 0} → (E → Option (List ℕ)) → List

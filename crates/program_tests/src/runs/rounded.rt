@@ -4,6 +4,7 @@ use super::each_command::{COMMANDS, FINE, prefixes, words_of};
 use super::memory::{FilesInMemory, Row, answer_on, judge_rows};
 use super::program::{CAPACITY, run};
 use super::streams::{expect, writer};
+use cats_cmd::program::{Process, run_program};
 use std::process::Abort;
 use std::test::Fail;
 use std::{fs, process};
@@ -312,8 +313,48 @@ fn an_output_fails_after_rounding(rt: HostRuntime) -> Result<(), Fail> {
         CAPACITY,
         0,
     )?;
-    expect(&rt, &silent, 0, "goods 1 bids 1 dummy 0\n", "");
+    expect(&rt, &silent, 5, "goods 1 bids 1 dummy 0\n", "");
     fs::remove_file(&rt, path.as_str())?;
+    Ok(())
+}
+
+/// Command lines, and their statuses if standard error takes nothing.
+static LOST: [(&[&str], u8); 12] = [
+    (&["cats", "round", "fine"], 5),
+    (&["cats", "check", "--round", "fine"], 5),
+    (&["cats", "compare", "--round", "fine", "twin"], 5),
+    // one is the same as before, and the files differ
+    (&["cats", "compare", "--round", "exponents", "fine"], 5),
+    (&["cats", "diff", "--round", "fine", "exponents"], 5),
+    (&["cats", "duplicates", "--round", "fine", "twin"], 5),
+    (&["cats", "sizes", "--round", "fine", "exponents"], 5),
+    // no price was changed
+    (&["cats", "round", "exponents"], 0),
+    (
+        &["cats", "duplicates", "--round", "--progress", "exponents"],
+        0,
+    ),
+    // a fault keeps its status
+    (&["cats", "check", "--round", "large"], 2),
+    (&["cats", "explain", "--round", "--steps", "2", "sum"], 3),
+    (&["cats", "duplicates", "--round", "bad", "exponents"], 2),
+];
+
+#[test]
+fn reports_are_lost(rt: HostRuntime) -> Result<(), Fail> {
+    let alloc = rt.alloc();
+    let mut source = FilesInMemory::new(alloc, &FILES);
+    let process = Process {
+        version: "1.2 (test)",
+        help: &[],
+        terminal: false,
+    };
+    for (words, expected) in &LOST {
+        let mut out = writer(alloc, 4096, 4096);
+        let mut err = writer(alloc, 4096, 0);
+        let status = run_program(&mut source, words, &mut out, &mut err, &process);
+        assert!(rt; status == *expected, "of {words:?}: {status}");
+    }
     Ok(())
 }
 

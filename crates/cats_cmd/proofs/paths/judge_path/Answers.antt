@@ -1,6 +1,6 @@
 -- `judge_path`
 use Rattle.cats_cmd.proofs.Common.{◌∙◌, ap, status_if}
-use Rattle.cats_cmd.proofs.JudgingPaths.{path_reported}
+use Rattle.cats_cmd.proofs.JudgingPaths.{path_reported, path_reports}
 use Rattle.cats_cmd.proofs.paths.judge_path.Goals as goal
 
 pub returns-clause-adds : goal.returns-clause-adds
@@ -9,9 +9,12 @@ returns-clause-adds g c =
     record {
       judgement = a.judgement;
       rounded = _;
+      lost = c.is_lost-lost.result;
       judges = a.judges;
       adds = a.adds;
       reports = rw a.is_error at (path_reported _ _ _ _ _ _ _ _ _ _ c.remove_progress.ensures c.report_rounded.ensures c.report_refusal.ensures
           c.report_progress.ensures);
-      is_status = c.status_if.ensures ∙ ap status_if a.is_error;
+      path_reports = path_reports _ _ _ _ _ _ _ a.is_error _ _ _ _ _ _ _ c.is_lost-lost.ensures c.remove_progress.ensures c.report_rounded.ensures
+          c.report_refusal.ensures c.report_progress.ensures;
+      is_status = c.status_if.ensures ∙ ap (status_if c.is_lost-lost.result) a.is_error;
     }

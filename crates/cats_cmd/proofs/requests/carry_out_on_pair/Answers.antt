@@ -1,5 +1,5 @@
 -- `carry_out_on_pair`
-use Rattle.cats_cmd.proofs.Common.{Bool, OnPair}
+use Rattle.cats_cmd.proofs.Common.{Bool, OnPair, ap, answer_if_lost}
 use Rattle.cats_cmd.proofs.CarryingOut.{carried, is_priced}
 use Rattle.cats_cmd.proofs.JudgingPaths.{reports_more}
 use Rattle.cats_cmd.proofs.requests.carry_out_on_pair.Goals as goal
@@ -9,7 +9,7 @@ returns-clause-carries g c =
     let request = c.args.request.now in
     let opened = c.in_ok-left.ensures.opened in
     λ (terminal : Bool).
-    rw c.ran.ensures
+    rw (c.ran.ensures, c.answer_if_lost.ensures)
     (carried (g.S.Source.may_open (g.S.Source.content_of c.args.source.now)) (g.S.Source.may_refuse (g.S.Source.content_of c.args.source.now)) _ _ _ terminal
     (g.S.Source.may_find (g.S.Source.content_of c.args.source.now)) _ _ _ _
     (OnPair request.first.now request.second.now request.prices request.command request.limits) _ (record {
@@ -19,7 +19,10 @@ returns-clause-carries g c =
       right_after = c.run_on_pair-answer.new.second;
       left_opened = is_priced _ _ _ c.in_ok-left.left _ c.new-left.ensures.stream c.new-left.ensures.fine c.new-left.ensures.unread opened.0;
       right_opened = is_priced _ _ _ c.in_ok-left.right _ c.new-right.ensures.stream c.new-right.ensures.fine c.new-right.ensures.unread opened.1;
+      sent = c.run_on_pair-answer.result;
       runs = rw c.comparison_of-comparison.ensures at c.run_on_pair-answer.ensures;
       reports = reports_more _ _ _ _ c.report_rounded.new.err _ (rw (c.as_bytes.ensures.value, c.rounded.ensures) at c.report_rounded.ensures)
           (rw (c.as_bytes-2.ensures.value, c.rounded-2.ensures) at c.report_rounded-2.ensures);
+      answers = ap (λ (lost : Bool). answer_if_lost lost c.run_on_pair-answer.result) (rw (c.max.ensures, c.rounded-3.ensures, c.rounded-4.ensures) at
+          c.is_lost-lost.ensures);
     }))
