@@ -24,8 +24,8 @@ none_printed path (Some place) status text is none = let same : 2 ≡ status = c
 
 -- the rounded text was printed, and its report is not lost
 round_printed : (lost : Bool) (status : ℕ) {sent : List ℕ} (text : List ℕ) → Prints (status_if_lost lost 0) sent ≡ Prints status text → status ≢ 5 → status ≤ 1
-round_printed true status text is no = let same : 5 ≡ status = cc in absurd (no (sym same))
-round_printed false status text is no = let same : 0 ≡ status = cc in omega (arith, same)
+round_printed true status text is other = let same : 5 ≡ status = cc in absurd (other (sym same))
+round_printed false status text is other = let same : 0 ≡ status = cc in omega (arith, same)
 
 -- what is known of a line's request is known of the request
 pub few_files : (words : List (List ℕ)) (request : PlainRequest) → request_of words ≡ Some request → names_many_files words ≡ false
@@ -94,8 +94,8 @@ module _ {F W E : Type 0} (may_open : List ℕ → F → Type 0) (may_refuse : L
   -- whether its report is lost or not
   kept_if_lost : (prices : Prices) (err_after : Watched E) (lost : Bool) (status : ℕ) → status ≤ 1 → (is_rounding prices ≡ false → err_after ≡ err)
       → Kept prices err_after (answer_if_lost lost (Ok status))
-  kept_if_lost prices err_after true status most quiet = ((λ no. absurd (no refl)), (λ plain few. absurd (omega (arith, few))))
-  kept_if_lost prices err_after false status most quiet = ((λ no. inl most), (λ plain few. quiet plain))
+  kept_if_lost prices err_after true status most quiet = ((λ other. absurd (other refl)), (λ plain few. absurd (omega (arith, few))))
+  kept_if_lost prices err_after false status most quiet = ((λ other. inl most), (λ plain few. quiet plain))
 
   -- ---- a command on one file
 
@@ -130,7 +130,7 @@ module _ {F W E : Type 0} (may_open : List ℕ → F → Type 0) (may_refuse : L
     kept_on (Some (BidsIn list)) (Ok status) (inr refused) =
         let least = error_status_above refused.error in
         let is = refused.is_status in
-        ((λ no. inr refused.silent), (λ plain most. absurd (omega (arith, least, is, most))))
+        ((λ other. inr refused.silent), (λ plain most. absurd (omega (arith, least, is, most))))
 
   -- ---- any request
 
@@ -189,16 +189,16 @@ module _ {F W E : Type 0} (may_open : List ℕ → F → Type 0) (may_refuse : L
       let kept = kept_both first second prices (comparison_of command limits) err_after (Ok status) ran in ((λ few none. kept.0), kept.1)
   kept_for (OnPair first second prices command limits) err_after (Err fault) ran =
       λ few. kept_both first second prices (comparison_of command limits) err_after (Err fault) ran
-  kept_for (OnFiles files) err_after (Ok status) ran = ((λ few none no. absurd (cc)), (λ plain most. absurd (cc)))
+  kept_for (OnFiles files) err_after (Ok status) ran = ((λ few none other. absurd (cc)), (λ plain most. absurd (cc)))
   kept_for (OnFiles files) err_after (Err fault) ran = λ few. absurd (cc)
   kept_for (Fault file) err_after (Ok status) ran =
       let made = ran.0.runs in
-      ((λ few none no. inl (none_printed file (first_place made.given) status made.text made.made none)), (λ plain most. ran.1))
+      ((λ few none other. inl (none_printed file (first_place made.given) status made.text made.made none)), (λ plain most. ran.1))
   kept_for (Fault file) err_after (Err (Refused which fault)) ran = λ few. ran.0.runs.2
   kept_for (Fault file) err_after (Err (Sent fault)) ran = λ few. tt
   kept_for (Fault file) err_after (Err fault) ran = absurd ran.0.runs
   kept_for (Round file exact) err_after (Ok status) ran = (
-    (λ few none no. inl (round_printed (is_lost (length (rounded_prices (fine_of exact) ran.runs.given)) err_after) status ran.runs.text ran.runs.made no)),
+    (λ few none other. inl (round_printed (is_lost (length (rounded_prices (fine_of exact) ran.runs.given)) err_after) status ran.runs.text ran.runs.made other)),
     (λ plain most. absurd (cc)),
   )
   kept_for (Round file exact) err_after (Err (Refused which fault)) ran = λ few. ran.runs.silent

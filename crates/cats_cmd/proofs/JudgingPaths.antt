@@ -1,8 +1,8 @@
 -- One more path, whose file was judged: what became of the files before it stays, and the path adds its judgement, how many of its prices
 -- were rounded, a status that may be the greatest, and its lines.
-use Rattle.cats_cmd.proofs.Common.{◌≡◌, ℕ, suc, ◌+◌, ◌<◌, max, List, [], ◌∷◌, ◌++◌, length, map, get_or, take, refl, sym, ap, ◌∙◌, subst, arith, append-nil}
+use Rattle.cats_cmd.proofs.Common.{◌≡◌, ℕ, suc, ◌+◌, ◌<◌, ◌≤◌, max, List, [], ◌∷◌, ◌++◌, length, map, get_or, take, refl, sym, ap, ◌∙◌, subst, arith, append-nil}
 use Rattle.cats_cmd.proofs.Common.{Option, Result, Ok, Err, IsErr, Bor, AllByRecursion, flat_map, AllocError, map-append, take_more, append_assoc, length-map}
-use Rattle.cats_cmd.proofs.Common.{length-take-le, take-map, fold_push, Watched, Prices, SearchOptions, AddsPath, HasJudged, JudgesAllAs, JudgedPath, Judgement}
+use Rattle.cats_cmd.proofs.Common.{length-take-le, take-map, take_all, fold_push, Watched, Prices, SearchOptions, AddsPath, HasJudged, JudgesAllAs, JudgedPath, Judgement}
 use Rattle.cats_cmd.proofs.Common.{Judges, Reporting, ReportsFrom, ReportsPath, greatest_status, judgement_at, lines_from, lines_of_path, report_lines}
 use Rattle.cats_cmd.proofs.Common.{status_of_path, without_refusals, removal_lines, rounding_lines, progress_lines, request_error_of, is_lost, Bool}
 use Rattle.cats_cmd.proofs.Common.{Silent, ReportsAll, RequestError, Unopened}
@@ -137,6 +137,11 @@ module _ {C F E : Type 0} (Has : C → List (List ℕ × Judgement) → Type 0) 
       rw is (rw (one_more_path paths i d l) (judged_more Has may_open may_refuse remaining options prices messages reporting (length paths) err
       (map (λ (p : Bor (List ℕ)). p.now) (take i paths)) kept more greatest status before after (get_or paths i d).now h
       (rw (so_many paths i l) a)))
+
+  -- these were all
+  pub all_judged : length paths ≤ i → JudgesAllAs Has may_open may_refuse remaining options prices messages (map (λ p. p.now) paths) reporting kept
+      err before (Ok greatest)
+  all_judged most = rw (length-map paths (λ (p : Bor (List ℕ)). p.now)) (rw (take_all i paths most) at h)
 
   -- the others were not opened
   pub first_judged : (other : C) (after : Watched E) → after ≡ before → (answer : Result ℕ AllocError) → IsErr answer

@@ -1,6 +1,6 @@
 -- `judge_all`
-use Rattle.cats_cmd.proofs.Common.{ℕ, List, [], Bor}
-use Rattle.cats_cmd.proofs.JudgingPaths.{first_judged, none_judged, path_more}
+use Rattle.cats_cmd.proofs.Common.{ℕ, List, [], Bor, arith}
+use Rattle.cats_cmd.proofs.JudgingPaths.{all_judged, first_judged, none_judged, path_more}
 use Rattle.cats_cmd.proofs.Opening.{opens_next, opens_none, opens_some}
 use Rattle.cats_cmd.proofs.paths.judge_all.Goals as goal
 
@@ -16,6 +16,10 @@ loop-number-preserved g c = record {
       c.in_ok-status.status _ _ (rw c.loop-number.invariant.opens.stays at c.in_ok-status.ensures.adds) c.max-greatest.ensures;
   opens = opens_next _ _ _ _ _ c.args.paths.now c.loop-number.number nowhere c.loop-number-test.true c.loop-number.invariant.opens c.judge_path.ensures.opens;
 }
+
+pub returns-clause-judges : goal.returns-clause-judges
+returns-clause-judges g c =
+    all_judged _ _ _ _ _ _ _ _ c.args.paths.now _ c.loop-number.number _ _ _ c.loop-number.invariant.judged (omega (arith, c.loop-number-test.false))
 
 pub returns-in_err-status-clause-judges : goal.returns-in_err-status-clause-judges
 returns-in_err-status-clause-judges g c =
