@@ -198,7 +198,8 @@ module _ {F W E : Type 0} (may_open : List ℕ → F → Type 0) (may_refuse : L
   kept_for (Fault file) err_after (Err (Sent fault)) ran = λ few. tt
   kept_for (Fault file) err_after (Err fault) ran = absurd ran.0.runs
   kept_for (Round file exact) err_after (Ok status) ran = (
-    (λ few none other. inl (round_printed (is_lost (length (rounded_prices (fine_of exact) ran.runs.given)) err_after) status ran.runs.text ran.runs.made other)),
+    (λ few none other. inl (round_printed (is_lost (length (rounded_prices (fine_of exact) ran.runs.given)) err_after) status ran.runs.text
+        ran.runs.made other)),
     (λ plain most. absurd (cc)),
   )
   kept_for (Round file exact) err_after (Err (Refused which fault)) ran = λ few. ran.runs.silent

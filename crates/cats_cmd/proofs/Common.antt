@@ -43,14 +43,16 @@ pub use Rattle.cats_cmd.specs.Internal.Walking.{WalksBelow, StaysBelow}
 pub use Rattle.cats_cmd.specs.Opening.{Opening, Opens, regular_openings, with_openings}
 pub use Rattle.cats_cmd.specs.OutputPaths.{has_lines, IsPath, behind_tabs, end_byte, groups_in, is_empty, paths_in_table, read_path}
 pub use Rattle.cats_cmd.specs.PathLists.{ended, parts_in, paths_in, without_empty_end}
-pub use Rattle.cats_cmd.specs.Paths.{removal_lines, progress_lines}
+pub use Rattle.cats_cmd.specs.Paths.{removal_lines, progress_lines, ReportsFrom, ReportsPath}
 pub use Rattle.cats_cmd.specs.Paths.{Judgement, IsHeavy, IsJudged, IsUnjudged, JudgesAs, JudgesInput, JudgedPath, Judges, Reporting, greatest_status}
-pub use Rattle.cats_cmd.specs.Paths.{judgement_at, lines_from, lines_of_path, report_lines, status_of_path, ReportsFrom, ReportsPath, without_refusals, BeginsPaths, MakesOfPaths}
+pub use Rattle.cats_cmd.specs.Paths.{judgement_at, lines_from, lines_of_path, report_lines, status_of_path, without_refusals, BeginsPaths, MakesOfPaths}
 pub use Rattle.cats_cmd.specs.Paths.{RunsOnPaths, outcome_of_paths, progress_line, refusal_line, request_error_of, status_if, is_counted}
 pub use Rattle.cats_cmd.specs.PricedInputs.{PricedGives, PricedRefuses, fine_prices, IsPriced, rounded_words, rounding_lines, gives_by}
 pub use Rattle.cats_cmd.specs.RequestErrors.{Reports, line_of_request_error, has_found, is_for_many_files, is_reporting, is_rounding, names_found}
-pub use Rattle.cats_cmd.specs.RequestErrors.{names_many_files, names_reporting, status_of_request_error, line_of_unopened, ReportsAll, SendsText, answer_if_lost, is_lost, status_if_lost}
-pub use Rattle.cats_cmd.specs.Requests.{AnswersNoRequest, AnswersRequest, CarriesOut, RunsAt, RunsAtBoth, RunsFor, FailsRequest, comparison_of, fine_of, outcome_for}
+pub use Rattle.cats_cmd.specs.RequestErrors.{names_many_files, names_reporting, status_of_request_error, line_of_unopened, ReportsAll, SendsText}
+pub use Rattle.cats_cmd.specs.RequestErrors.{answer_if_lost, is_lost, status_if_lost}
+pub use Rattle.cats_cmd.specs.Requests.{AnswersNoRequest, AnswersRequest, CarriesOut, RunsAt, RunsAtBoth, RunsFor, FailsRequest, comparison_of, fine_of}
+pub use Rattle.cats_cmd.specs.Requests.{outcome_for}
 pub use Rattle.cats_cmd.specs.Rounding.{IsUnrounded, Rounds}
 pub use Rattle.cats_cmd.specs.Runs.{RunsCommand, SendsAs, RunsOnFile, RunsOnPair, SendsAnswer, SendsMadeAs, WritesText}
 pub use Rattle.cats_cmd.specs.SizesTables.{fault_cell, without_end, MakesTable, columns, rows_of_table, sizes_header, row, number_columns}

@@ -1,11 +1,11 @@
 -- One more path, whose file was judged: what became of the files before it stays, and the path adds its judgement, how many of its prices
 -- were rounded, a status that may be the greatest, and its lines.
-use Rattle.cats_cmd.proofs.Common.{◌≡◌, ℕ, suc, ◌+◌, ◌<◌, ◌≤◌, max, List, [], ◌∷◌, ◌++◌, length, map, get_or, take, refl, sym, ap, ◌∙◌, subst, arith, append-nil}
-use Rattle.cats_cmd.proofs.Common.{Option, Result, Ok, Err, IsErr, Bor, AllByRecursion, flat_map, AllocError, map-append, take_more, append_assoc, length-map}
-use Rattle.cats_cmd.proofs.Common.{length-take-le, take-map, take_all, fold_push, Watched, Prices, SearchOptions, AddsPath, HasJudged, JudgesAllAs, JudgedPath, Judgement}
+use Rattle.cats_cmd.proofs.Common.{◌≡◌, ℕ, suc, ◌+◌, ◌<◌, ◌≤◌, max, List, [], ◌∷◌, ◌++◌, length, map, get_or, take, refl, sym, ap, ◌∙◌, subst, arith}
+use Rattle.cats_cmd.proofs.Common.{Option, Result, Ok, Err, IsErr, Bor, AllByRecursion, flat_map, AllocError, append-nil, append_assoc, map-append, take_more}
+use Rattle.cats_cmd.proofs.Common.{length-map, length-take-le, take-map, take_all, fold_push, Watched, Prices, SearchOptions, AddsPath, HasJudged, JudgesAllAs}
 use Rattle.cats_cmd.proofs.Common.{Judges, Reporting, ReportsFrom, ReportsPath, greatest_status, judgement_at, lines_from, lines_of_path, report_lines}
 use Rattle.cats_cmd.proofs.Common.{status_of_path, without_refusals, removal_lines, rounding_lines, progress_lines, request_error_of, is_lost, Bool}
-use Rattle.cats_cmd.proofs.Common.{Silent, ReportsAll, RequestError, Unopened}
+use Rattle.cats_cmd.proofs.Common.{Silent, JudgedPath, Judgement, ReportsAll, RequestError, Unopened}
 
 pub all_push : {X : Type 0} (P : X → Type 0) (xs : List X) (x : X) → AllByRecursion P xs → P x → AllByRecursion P (xs ++ x ∷ [])
 all_push P [] x h p = (p, tt)

@@ -19,7 +19,8 @@ use Rattle.cats_cmd.specs.Escaping.{escaped}
 use Rattle.cats_cmd.specs.PricedInputs.{IsPriced, PricedGives, PricedRefuses, rounding_lines}
 use Rattle.cats_cmd.specs.declared.priced_input.PricedInput.{PricedInput}
 use Rattle.cats_cmd.specs.Runs.{FailsInText, WritesText}
-use Rattle.cats_cmd.specs.RequestErrors.{ReportsAll, is_lost, line_of_request_error, status_if_lost, status_of_request_error}
+use Rattle.cats_cmd.specs.RequestErrors.{ReportsAll, is_lost, line_of_request_error, status_if_lost}
+use Rattle.cats_cmd.specs.RequestErrors.{status_of_request_error}
 use Rattle.cats_cmd.specs.declared.paths.Progress.{Progress}
 use Rattle.cats_cmd.specs.declared.paths.Progress.TheVariants.{Silent, Lines, Terminal}
 use Rattle.cats_cmd.specs.declared.errors.RequestError.{RequestError}

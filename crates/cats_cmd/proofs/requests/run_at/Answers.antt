@@ -6,7 +6,8 @@ use Rattle.cats_cmd.proofs.requests.run_at.Goals as goal
 pub returns-clause-runs : goal.returns-clause-runs
 returns-clause-runs g c =
     let request = c.args.request.now in
-    rw (c.ran.ensures, c.answer_if_lost.ensures) (ran_or_not _ (g.S.Source.may_refuse (g.S.Source.content_of c.args.source.now)) _ _ _ request.file.now request.prices _ _ _ _ _ _ (record {
+    rw (c.ran.ensures, c.answer_if_lost.ensures)
+    (ran_or_not _ (g.S.Source.may_refuse (g.S.Source.content_of c.args.source.now)) _ _ _ request.file.now request.prices _ _ _ _ _ _ (record {
       before = c.new-input.result;
       after = c.run_on_file-answer.new.input;
       opened = is_priced _ _ _ c.in_ok-stream.stream _ c.new-input.ensures.stream c.new-input.ensures.fine c.new-input.ensures.unread
