@@ -234,10 +234,11 @@ def reads(one, piece, counts=None):
 
 
 def cut_off(one, is_output, at, rest):
-    """What is printed if the output, or else standard error, fails after so many bytes. If the rest fails too, nothing more is."""
+    """What is printed if the output, or else standard error, fails after so many bytes. If the rest fails too, nothing more is. A run that is not
+    refused reports there which prices were changed, and fails without that."""
     if is_output:
         return (DEVICE_FAILED, one.own.out[:at], b"" if rest else one.counts(2) + b"output failed after %d bytes\n" % at)
-    return (one.own.status, one.own.out, one.own.err[:at])
+    return (DEVICE_FAILED if one.own.status in (0, DIFFERENT) else one.own.status, one.own.out, one.own.err[:at])
 
 
 def writes(one, piece, rest):
