@@ -75,7 +75,7 @@ impl<'a> Source for FilesInMemory<'a> {
     ghost opened = { λ source. Some source.openings.list };
 
     fn open(&mut self, path: &str, way: Way) -> Result<&'a [u8], Unopened> {
-        self.openings.note(path, way);
+        self.openings.note(&[way], path.as_bytes());
         let _ = write!(self.lines, "{way:?} {path}\n");
         self.find_file(path)
     }

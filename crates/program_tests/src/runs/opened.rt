@@ -1,6 +1,6 @@
 //! What a source has opened. Only contracts see it, so it takes no memory.
 
-ghost use Rattle.std.specs.Prelude.{◌≡◌, List, [], ◌∷◌, ◌++◌};
+ghost use Rattle.std.specs.Prelude.{◌≡◌, List, [], ◌++◌, map};
 ghost use Rattle.std.specs.Borrow.{ftrue};
 ghost use Rattle.cats_cmd.specs.Opening.{Opening};
 
@@ -27,8 +27,8 @@ impl Openings {
         }
     }
 
-    /// This path was opened, in this way.
-    pub(super) fn note(&mut self, _path: &str, _way: Way)
-        ensures { self.new.list ≡ self.old.list ++ (_path.now, _way) ∷ [] }
+    /// The path of these bytes was opened, in each of these ways.
+    pub(super) fn note(&mut self, _ways: &[Way], _path: &[u8])
+        ensures { self.new.list ≡ self.old.list ++ map (λ way. (_path.now, way)) _ways.now }
     {}
 }
