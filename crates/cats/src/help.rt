@@ -116,8 +116,8 @@ A fault is one line on standard error. Statuses:
    3  a search takes more steps than its limit: use --bound, and then a greater
       --steps
    4  memory was refused
-   5  a file cannot be opened, a read failed, the output failed, or it cannot be
-      reported that prices were changed
+   5  a file cannot be opened, a read failed, the output failed, or it cannot
+      be reported that prices were changed
   64  the command line is wrong, or names a good or a bid that the file does
       not have
 
