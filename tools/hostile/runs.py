@@ -18,7 +18,7 @@ from itertools import count
 from typing import NamedTuple
 
 from commands import NAMES
-from tally import TALLY
+from tally import TALLY, some_of
 
 PROGRAM, CALLS, GENERATED, LARGE = sys.argv[1:5]
 SECONDS = 60
@@ -31,6 +31,9 @@ SET_PIPE_SIZE = getattr(fcntl, "F_SETPIPE_SZ", 1031)
 
 # What the program reads at once.
 PIECE = 65_536
+
+# So many runs share one standard error.
+SHARED = 400
 
 
 class Answer(NamedTuple):
@@ -370,6 +373,15 @@ def refused_cases(folder):
     return {**{one: (FAULT_AT,) for one in one_file}, **rounded, **compared}
 
 
+def share_standard_error(folder):
+    """Four runs at a time report refused files on one standard error: each line is whole."""
+    faulty = write_file(folder, "shared", FAULTY)
+    words = ["xargs", "-P", "4", "-n", "1", PROGRAM, "check"]
+    ran = subprocess.run(words, input=f"{faulty}\n".encode() * SHARED, capture_output=True, timeout=SECONDS, check=False)
+    TALLY.count_run()
+    TALLY.judge(ran.stderr == b"line 5: TwoDummies\n" * SHARED, f"{SHARED} runs that share standard error", ran.stderr)
+
+
 def large_cases(folder):
     """Runs whose text does not fit into a pipe."""
     bidders = write_file(folder, "many_bidders", header(1, 0, 65_536))
@@ -409,13 +421,14 @@ def work(folder):
         calls += [lambda it=one, counts=counts: reads(it, 1, counts), lambda it=one: writes(it, 1, rest=False)]
         calls += [lambda it=one, rest=rest: memory(it, rest) for rest in (False, True)]
     with ThreadPoolExecutor(os.cpu_count()) as pool:
-        list(pool.map(lambda call: call(), calls))
+        list(pool.map(lambda call: call(), some_of(calls)))
     for one, piece in pieces.items():
         on_its_own(one, piece)
     for one, size in ((one, size) for one in large for size in (0, 1, PIPE)):
         closed(one, size)
     for one in refused:
         full(one)
+    share_standard_error(folder)
 
 
 def main():
