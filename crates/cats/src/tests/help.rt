@@ -16,15 +16,40 @@ fn text_of<'a>(command: &CommandHelp<'a>, argument: (&str, &'a str)) -> &'a str 
     own.map_or(argument.1, |own| own.1)
 }
 
-/// Whether a help names an argument only beside the lines of its text.
-fn has_text(alloc: Global, help: &str, name: &str, text: &str) -> Result<bool, AllocError> {
-    let option = format!(in alloc; "--{name} ")?;
-    let word = format!(in alloc; "<{name}>")?;
-    let words = format!(in alloc; "[{name}]")?;
-    let names = help.contains(option.as_str())
-        || help.contains(word.as_str())
-        || help.contains(words.as_str());
-    Ok(!names || text.split('\n').all(|line| help.contains(line)))
+/// The word of an argument on a command line: two options are `--bound`.
+fn word_of<'a>(argument: (&'a str, &str)) -> &'a str {
+    match argument.0 {
+        "always-bound" => "bound",
+        name => name,
+    }
+}
+
+/// Whether a help names a word of a command line.
+fn names(alloc: Global, help: &str, word: &str) -> Result<bool, AllocError> {
+    let option = format!(in alloc; "--{word} ")?;
+    let one = format!(in alloc; "<{word}>")?;
+    let any = format!(in alloc; "[{word}]")?;
+    Ok(help.contains(option.as_str()) || help.contains(one.as_str()) || help.contains(any.as_str()))
+}
+
+/// Whether a help has all lines of a text.
+fn has_lines(help: &str, text: &str) -> bool {
+    text.split('\n').all(|line| help.contains(line))
+}
+
+/// Whether a help names the word of an argument only beside a text of it.
+fn has_text(
+    alloc: Global,
+    help: &str,
+    program: &CommandHelp<'_>,
+    command: &CommandHelp<'_>,
+    word: &str,
+) -> Result<bool, AllocError> {
+    let mut is_shown = !names(alloc, help, word)?;
+    for argument in program.arguments {
+        is_shown |= word_of(*argument) == word && has_lines(help, text_of(command, *argument));
+    }
+    Ok(is_shown)
 }
 
 /// Whether a help has short lines, and all texts of a command, of whose arguments some have those of the program.
@@ -41,7 +66,7 @@ fn has_texts(
         return Ok(false);
     }
     for argument in program.arguments {
-        if !has_text(alloc, before, argument.0, text_of(command, *argument))? {
+        if !has_text(alloc, before, program, command, word_of(*argument))? {
             return Ok(false);
         }
     }
