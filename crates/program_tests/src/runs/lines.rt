@@ -154,7 +154,7 @@ static ROWS: [Row<'static>; 17] = [
         &["cats", "value", "sum", "1-0"],
         false,
         &[
-            "error: goods are numbers and ranges, as in '0,2-5'\n\nFor more information, try '--help'.\n",
+            "error: goods are numbers up to 4095 and ranges, as in '0,2-5'\n\nFor more information, try '--help'.\n",
         ],
     ),
     (&["cats", "check", "one"], false, &[]),
