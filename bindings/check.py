@@ -32,7 +32,7 @@ THREADS = 8
 TESTED = _library.load(os.path.abspath(LIBRARY))
 
 # Of so many of the files every buffer length and every allocation is tried. The outputs of the given files are larger.
-FEW = 40
+FEW = 40 if os.environ.get("FULL") else 4
 
 # The most bytes of a text.
 MAX_STREAM = 2_147_483_648
