@@ -31,8 +31,10 @@ THREADS = 8
 # The library that is compared.
 TESTED = _library.load(os.path.abspath(LIBRARY))
 
-# Of so many of the files every buffer length and every allocation is tried. The outputs of the given files are larger.
-FEW = 40 if os.environ.get("FULL") else 4
+# Of so many of the files buffer lengths and every allocation are tried. The outputs of the given files are larger.
+FEW = 40
+# Each buffer length is tried, or each so many.
+STRIDE = 1 if os.environ.get("FULL") else 10
 
 # The most bytes of a text.
 MAX_STREAM = 2_147_483_648
@@ -136,13 +138,18 @@ def is_right_with(one, sizes):
     return status == one.own.status and all(buffer.bytes.raw[: len(output)] == output for buffer, output in zip(buffers, outputs))
 
 
+def lengths(needed):
+    """Lengths of a buffer from 0 to one more than is needed."""
+    return sorted({*range(0, needed, STRIDE), max(0, needed - 1), needed, needed + 1})
+
+
 def check_sizes(cases):
-    """Every length of a buffer from 0 to one more than is needed, and of two buffers each beside some of the other."""
+    """Lengths of a buffer from 0 to one more than is needed, and of two buffers each beside some of the other."""
     for one in cases:
         needed = list(map(len, one.own[1 : 1 + one.call.outputs()]))
-        tried = [[size, *needed[1:]] for size in range(needed[0] + 2)]
+        tried = [[size, *needed[1:]] for size in lengths(needed[0])]
         if len(needed) == 2:
-            tried += [[first, size] for size in range(needed[1] + 2) for first in {0, needed[0]}]
+            tried += [[first, size] for size in lengths(needed[1]) for first in {0, needed[0]}]
         for sizes in tried:
             TALLY.judge(is_right_with(one, sizes), f"{one}: buffers of {sizes} bytes", one.texts)
 

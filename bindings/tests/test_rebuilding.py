@@ -2,7 +2,6 @@
 
 What is wanted is made here from the bids of the files, by docs/CANONICAL.md and docs/FORMAT.md.
 """
-import os
 import random
 from collections import Counter
 from decimal import Decimal
@@ -13,7 +12,7 @@ from texts import text_of
 
 import cats
 
-PAIRS = 1_000 if os.environ.get("FULL") else 100
+PAIRS = 1_000
 
 # Few, so that bids and bidders are often equal, and rows differ in the number of a bid alone.
 PRICES = ["0", "1", "2", "2.5", "2.50", "3", "3.000001", "4"]
