@@ -16,7 +16,7 @@ ghost use Rattle.cats_cmd.specs.PathLists.{paths_in};
 ghost use Rattle.cats_cmd.specs.declared.paths.Ending.TheVariants.{Line, Null};
 ghost use Rattle.cats_cmd.specs.declared.paths.Progress.TheVariants.{Silent, Lines, Terminal};
 ghost use Rattle.cats_cmd.specs.Paths.{IsHeavy, IsJudged, IsUnjudged, greatest_status, judged_path, progress_lines};
-ghost use Rattle.cats_cmd.specs.Paths.{report_lines, status_of_path};
+ghost use Rattle.cats_cmd.specs.Paths.{ReportsFrom, report_lines, status_of_path};
 ghost use Rattle.cats_cmd.specs.Paths.{with_refusals, without_refusals};
 ghost use Rattle.commands.specs.SizesRows.{counts_of, sizes_of};
 ghost use Rattle.cats_cmd.specs.SizesTables.{MakesTable, row};
@@ -156,6 +156,19 @@ pub fn reports_lost()
     ensures answers { map (answer_if_lost true) (Ok 0 ∷ Ok 1 ∷ Err (Refused Only Memory) ∷ [])
         ≡ Ok 5 ∷ Ok 5 ∷ Err (Refused Only Memory) ∷ [] }
     ensures kept { map (answer_if_lost false) (Ok 0 ∷ Ok 1 ∷ []) ≡ Ok 0 ∷ Ok 1 ∷ [] }
+{}
+
+/// Standard error fails in the line on a file's price. Then that report is lost, and the line on progress is not sent.
+pub fn report_of_path_lost()
+    ensures lost { ReportsFrom known (with_refusals Lines) 1 1
+        (record { path = codes "a"; judgement = IsJudged larger_bid; rounded = 1; lost = true } ∷ [])
+        (watched [] false false) (watched (codes "a: 1") true false) }
+    ensures kept { ReportsFrom known (with_refusals Lines) 1 1
+        (record { path = codes "a"; judgement = IsJudged larger_bid; rounded = 1; lost = false } ∷ [])
+        (watched [] false false) (watched (codes "a: 1") true false) → ⊥ }
+    ensures later { ReportsFrom known (with_refusals Lines) 1 1
+        (record { path = codes "a"; judgement = IsJudged larger_bid; rounded = 1; lost = false } ∷ [])
+        (watched [] false false) (watched (codes "a: 1 price rounded\n1 of") true false) }
 {}
 
 /// What is reported of a file of which no price was rounded, one, and more.
