@@ -21,9 +21,9 @@ from typing import NamedTuple
 PROGRAM, LIBRARY, REFUSING, *FILES = sys.argv[1:]
 
 sys.path[:0] = [os.path.dirname(os.path.abspath(LIBRARY)), os.path.join(os.path.dirname(os.path.abspath(__file__)), "tests")]
-from beside import CALLS, Answer, cases_of  # noqa: E402: they are in these folders
+from beside import CALLS, FEW_IN_ALL, Answer, cases_of  # noqa: E402: they are in these folders
 from cats import _library  # noqa: E402
-from cats._library import FUNCTIONS, ROOM, Status  # noqa: E402
+from cats._library import FUNCTIONS, ROOM, Prices, Status  # noqa: E402
 from texts import BIDS, made_texts  # noqa: E402
 
 THREADS = 8
@@ -70,6 +70,9 @@ class GuardedBuffer(NamedTuple):
     bytes: ctypes.Array
     needed: ctypes.c_size_t
 
+    def output(self):
+        return self.bytes.raw[: self.needed.value]
+
     def is_marked(self, begin):
         """Whether all is as it was before the call, from some place on."""
         return self.bytes.raw[begin:] == bytes([MARK]) * (self.size + GUARD - begin)
@@ -111,6 +114,50 @@ def answer_of_library(library, call, texts):
     return Answer(status, *(buffer.bytes.raw[: buffer.needed.value] for buffer in buffers))
 
 
+# ---- the call for all commands
+
+# The commands, by their numbers.
+TASKS = ["check", "fault", "show", "value", "revenue", "normalise", "explain", "round", "lp", "compare", "diff", "duplicates", "sizes"]
+
+
+class Request(ctypes.Structure):
+    _fields_ = [
+        ("goods", ctypes.POINTER(ctypes.c_uint16)), ("goods_count", ctypes.c_size_t), ("bids", ctypes.POINTER(ctypes.c_uint32)),
+        ("bids_count", ctypes.c_size_t), ("steps", ctypes.c_uint64), ("total", ctypes.c_uint64), ("task", ctypes.c_uint8),
+        ("prices", ctypes.c_uint8), ("bound", ctypes.c_bool), ("all", ctypes.c_bool), ("null", ctypes.c_bool),
+    ]
+
+
+class Text(ctypes.Structure):
+    _fields_ = [("bytes", ctypes.c_char_p), ("length", ctypes.c_size_t), ("name", ctypes.c_char_p), ("name_length", ctypes.c_size_t)]
+
+
+def request_of(call):
+    """A call as a request."""
+    prices = call.prices if not call.takes("exact") else Prices.ROUNDED_EXACTLY if call.arguments[0] else Prices.ROUNDED
+    steps, total = call.arguments if call.takes("limits") else (0, 0)
+    goods = call.named if call.takes("goods") else ()
+    bids = call.named if call.takes("bids") else ()
+    return Request(
+        (ctypes.c_uint16 * max(1, len(goods)))(*goods), len(goods), (ctypes.c_uint32 * max(1, len(bids)))(*bids), len(bids), steps, total,
+        TASKS.index(call.name), prices or 0, True, True, False,
+    )
+
+
+def texts_of(texts, names):
+    """Texts with names."""
+    names = [os.fsencode(it) for it in names]
+    return (Text * max(1, len(texts)))(*(Text(text, len(text), name, len(name)) for text, name in zip(texts, names))), len(texts)
+
+
+def call_with(library, request, texts, room):
+    """The status and the two lengths that a request answers, and two buffers of so many bytes."""
+    buffers = [buffer_of(room), buffer_of(room)]
+    words = [word for it in buffers for word in (it.bytes, ctypes.c_size_t(it.size), ctypes.byref(it.needed))]
+    status = library.cats_call(ctypes.byref(request), texts[0], ctypes.c_size_t(texts[1]), *words)
+    return (status & 255, *(it.needed.value for it in buffers)), buffers
+
+
 # ---- what is compared
 
 def check_answers(cases):
@@ -122,6 +169,36 @@ def check_answers(cases):
     for call in CALLS:
         lacking = [status for status in call.statuses() if (str(call), status) not in seen]
         TALLY.judge(not lacking, f"{call}: no file was answered by the statuses {lacking}")
+
+
+def check_one_call(cases):
+    """`cats_call` prints what the program does, on texts that have the names of its files, and puts what fits into the buffers."""
+    for one in cases:
+        request = request_of(one.call)
+        for room in (len(one.printed.out) + len(one.printed.report), 0, len(one.printed.out) // 2):
+            answer, buffers = call_with(TESTED, request, texts_of(one.texts, one.paths), room)
+            wanted = (one.printed.status, len(one.printed.out), len(one.printed.report))
+            fits = [it.bytes.raw[:room] == (text + bytes([MARK]) * room)[:room] for it, text in zip(buffers, one.printed[1:])]
+            TALLY.judge(answer == wanted and all(fits), f"cats_call, {one}, buffers of {room} bytes", f"{answer} and not {wanted}, of {one.texts}")
+            TALLY.judge(all(it.is_marked(room) for it in buffers), f"cats_call, {one}: behind a buffer of {room} bytes")
+
+
+def check_names():
+    """Of `cats_call`: a text without a name has its number, texts of one name are those in their order, and a request that is wrong prints nothing."""
+    many = request_of(next(it for it in CALLS if it.name == "duplicates" and not it.words))
+    broken = b"goods\n"
+    named = [b"", b"", b"2", b"a\nb"]
+    answer, buffers = call_with(TESTED, many, texts_of([BIDS, broken, BIDS, broken], named), 200)
+    found = (answer[0], buffers[0].output(), buffers[1].output())
+    TALLY.judge(found == (2, b"1\n2\n", b"2: line 1: Header\na\\nb: line 1: Header\n"), "cats_call: names", found)
+    check, compare = (request_of(next(it for it in CALLS if it.name == name)) for name in ("check", "compare"))
+    unbounded = request_of(next(it for it in CALLS if it.words == FEW_IN_ALL and it.name == "normalise"))
+    unbounded.bound = False
+    other = request_of(CALLS[0])
+    other.task = len(TASKS)
+    for request, names in ((check, []), (check, [b"", b""]), (compare, [b""]), (compare, [b""] * 3), (unbounded, [b""]), (other, [b""]), (check, [b"\xff"])):
+        answer, _ = call_with(TESTED, request, texts_of([BIDS] * len(names), names), 200)
+        TALLY.judge(answer == (Status.WRONG_USAGE, 0, 0), f"cats_call: {request.task} on texts of the names {names}", answer)
 
 
 def is_right_with(one, sizes):
@@ -222,9 +299,11 @@ def main():
     with tempfile.TemporaryDirectory() as folder:
         cases = cases_of(PROGRAM, folder, texts)
     few = cases[: len(CALLS) * (len(FILES) + FEW)]
-    for check, on in ((check_answers, cases), (check_threads, cases), (check_sizes, few), (check_refusals, few)):
+    for check, on in ((check_answers, cases), (check_one_call, cases), (check_threads, cases), (check_sizes, few), (check_refusals, few)):
         print(check.__doc__.split("\n")[0], flush=True)
         check(on)
+    print(check_names.__doc__, flush=True)
+    check_names()
     print(check_long_texts.__doc__, flush=True)
     check_long_texts()
     print(f"{TALLY.calls} calls, {TALLY.wrong} wrong")

@@ -114,12 +114,14 @@ CALLS = [
 
 
 class Case(NamedTuple):
-    """A call on texts, and what the program answers."""
+    """A call on texts, what the program answers, and what it prints on its two outputs of files at these paths."""
 
     call: Call
     names: tuple
+    paths: tuple
     texts: tuple
     own: Answer
+    printed: Answer
 
     def __str__(self):
         return " ".join([str(self.call), *self.names])
@@ -132,18 +134,29 @@ def options_of(program, name):
     return re.findall(r"^ +(--[\w-]+)", shown, re.M)
 
 
-def answer_of_program(program, words, paths):
+def run_program(program, words, paths):
+    """What the program prints."""
     ran = subprocess.run([program, *words, *paths], stdin=subprocess.DEVNULL, stdout=subprocess.PIPE, stderr=subprocess.PIPE, timeout=SECONDS)
-    reported = ran.stderr if words[0] == "round" else OF_PRICES.sub(b"", ran.stderr)
-    if words[0] == "sizes":
-        return Answer(ran.returncode, row_in(ran.stdout), reported)
-    if words[0] == "duplicates":
-        return Answer(ran.returncode, lines_of(paths, ran.stdout, reported))
-    if ran.returncode <= Status.DIFFERENT:
-        return Answer(ran.returncode, ran.stdout, reported)
-    if words[0] == "fault" and ran.stdout:
-        return Answer(ran.returncode, OF_FAULT.sub(rb"text\1\n", ran.stdout))
-    return Answer(ran.returncode, reported)
+    return Answer(ran.returncode, ran.stdout, ran.stderr)
+
+
+def answer_of(printed, name, paths):
+    """What a function of the library answers of that, where it is something else."""
+    status, out, report = printed
+    reported = report if name == "round" else OF_PRICES.sub(b"", report)
+    if name == "sizes":
+        return Answer(status, row_in(out), reported)
+    if name == "duplicates":
+        return Answer(status, lines_of(paths, out, reported))
+    if status <= Status.DIFFERENT:
+        return Answer(status, out, reported)
+    if name == "fault" and out:
+        return Answer(status, OF_FAULT.sub(rb"text\1\n", out))
+    return Answer(status, reported)
+
+
+def answer_of_program(program, words, paths):
+    return answer_of(run_program(program, words, paths), words[0], paths)
 
 
 def row_in(table):
@@ -179,7 +192,9 @@ def cases_of(program, folder, texts):
 
     def case(number, call):
         which = [max(number - 1, 0), number][-call.texts() :]
-        own = answer_of_program(program, call.words_of_program(program), [*(paths[at] for at in which), *call.words_behind()])
-        return Case(call, tuple(map(str, which)), tuple(texts[at] for at in which), own)
+        files = tuple(paths[at] for at in which)
+        printed = run_program(program, call.words_of_program(program), [*files, *call.words_behind()])
+        own = answer_of(printed, call.name, [*files, *call.words_behind()])
+        return Case(call, tuple(map(str, which)), files, tuple(texts[at] for at in which), own, printed)
 
     return in_parallel(case, [(number, call) for number in range(len(texts)) for call in CALLS])

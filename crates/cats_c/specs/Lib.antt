@@ -1,3 +1,5 @@
 -- What the contracts of this crate cite.
+pub mod Calls
+pub mod Examples
 pub mod Prices
 pub mod Totals

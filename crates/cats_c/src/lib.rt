@@ -17,6 +17,7 @@ ghost use Rattle.valuation.specs.SearchLimits.{bounded_options};
 ghost use Rattle.cats_c.specs.Prices.{fine_of};
 ghost use Rattle.cats_c.specs.Totals.{total_of};
 
+pub mod call;
 pub mod worked;
 
 use commands::calls::{

@@ -91,7 +91,9 @@ pub fn run_program<S: Source + AllocGlobal, W: Write, E: Write>(
     }
 }
 
-fn answer_request<S: Source + AllocGlobal, W: Write, E: Write>(
+/// Does what a request says, on the files of a source, and answers the exit status. A fault's line is sent to `err`;
+/// `terminal` says whether that is one.
+pub fn answer_request<S: Source + AllocGlobal, W: Write, E: Write>(
     source: &mut S,
     request: &Request<'_>,
     out: &mut Watched<W>,
@@ -115,7 +117,7 @@ fn answer_request<S: Source + AllocGlobal, W: Write, E: Write>(
 }
 
 /// Sends help to `out`, and what is wrong with a command line to `err`.
-fn answer_no_request<W: Write, E: Write>(
+pub fn answer_no_request<W: Write, E: Write>(
     no_request: &NoRequest,
     out: &mut Watched<W>,
     err: &mut Watched<E>,

@@ -8,28 +8,48 @@ use Rattle.cats_cmd.proofs.worked.report_of_path_lost.Goals as goal
 pub returns-clause-lost : goal.returns-clause-lost
 unfolding digits encode_utf8
 returns-clause-lost c =
-    let failed = watched (codes "a: 1") true false in
-    ( failed
-    , record {
+    let failed = watched (codes "a: 1") true false in (
+      failed,
+      record {
         between = failed;
-        roundings = (failed, inr (refl, record { answer = Err (record { written = 4 });
-          sends = record { within = omega arith; appended = refl; failed = refl } }), refl);
+        roundings = (
+          failed,
+          inr (
+            refl,
+            record {
+              answer = Err (record { written = 4 });
+              sends = record { within = omega arith; appended = refl; failed = refl };
+            },
+          ),
+          refl,
+        );
         loses = refl;
         others = (failed, inl (refl, refl), refl);
-      }
-    , refl)
+      },
+      refl,
+    )
 
 pub returns-clause-later : goal.returns-clause-later
 unfolding digits encode_utf8
 returns-clause-later c =
     let failed = watched (codes "a: 1 price rounded\n1 of") true false in
-    let sent = watched (codes "a: 1 price rounded\n") false false in
-    ( failed
-    , record {
+    let sent = watched (codes "a: 1 price rounded\n") false false in (
+      failed,
+      record {
         between = sent;
         roundings = (sent, inr (refl, record { answer = Ok tt; sends = record { appended = refl; works = refl } }), refl);
         loses = refl;
-        others = (failed, inr (refl, record { answer = Err (record { written = 4 });
-          sends = record { within = omega arith; appended = refl; failed = refl } }), refl);
-      }
-    , refl)
+        others = (
+          failed,
+          inr (
+            refl,
+            record {
+              answer = Err (record { written = 4 });
+              sends = record { within = omega arith; appended = refl; failed = refl };
+            },
+          ),
+          refl,
+        );
+      },
+      refl,
+    )
