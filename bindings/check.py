@@ -33,7 +33,7 @@ TESTED = _library.load(os.path.abspath(LIBRARY))
 
 # Of so many of the files buffer lengths and every allocation are tried. The outputs of the given files are larger.
 FEW = 40
-# Each buffer length is tried, or each so many.
+# Each buffer length is tried, or each so many; so are the cases whose allocations are refused to `cats_call`.
 STRIDE = 1 if os.environ.get("FULL") else 10
 
 # The most bytes of a text.
@@ -244,27 +244,46 @@ def lacks_memory(one, answer):
     return answer.status == Status.WANT_OF_MEMORY and answer.out in lines and answer.report == b""
 
 
+def each_refusal(library):
+    """Refuses each allocation, alone or with all that come after it, until a call makes fewer: its number, and whether it is alone."""
+    for is_alone in (True, False):
+        for number in count(1):
+            library.refuse_allocations(number, number if is_alone else 2**64 - 1)
+            yield number, is_alone
+            if library.count_allocations() < number:
+                break
+
+
 def check_refusals(cases):
     """Each allocation is refused, alone or with all that come after it. No call keeps a block."""
     refusing = _library.load(REFUSING)
     refusing.refuse_allocations.argtypes = [ctypes.c_size_t, ctypes.c_size_t]
     refusing.count_allocations.restype, refusing.count_held.restype = ctypes.c_size_t, ctypes.c_long
-    for one in cases:
+    for at, one in enumerate(cases):
         wants = 0
-        for is_alone in (True, False):
-            for number in count(1):
-                refusing.refuse_allocations(number, number if is_alone else 2**64 - 1)
-                answer = answer_of_library(refusing, one.call, one.texts)
-                is_last = refusing.count_allocations() < number
-                lacks = lacks_memory(one, answer)
-                is_right = answer == one.own or (lacks and not is_last)
-                TALLY.judge(is_right, f"{one}: allocation {number} refused, alone {is_alone}", answer)
-                TALLY.judge(refusing.count_held() == 0, f"{one}: blocks are held", refusing.count_held())
-                wants += lacks
-                if is_last:
-                    break
+        for number, is_alone in each_refusal(refusing):
+            answer = answer_of_library(refusing, one.call, one.texts)
+            is_last = refusing.count_allocations() < number
+            lacks = lacks_memory(one, answer)
+            is_right = answer == one.own or (lacks and not is_last)
+            TALLY.judge(is_right, f"{one}: allocation {number} refused, alone {is_alone}", answer)
+            TALLY.judge(refusing.count_held() == 0, f"{one}: blocks are held", refusing.count_held())
+            wants += lacks
         makes_none = number == 1
         TALLY.judge(wants or makes_none or one.own.status == Status.REFUSED, f"{one}: no want of memory was answered")
+        if at % STRIDE == 0:
+            check_refusals_of_call(refusing, one)
+
+
+def check_refusals_of_call(refusing, one):
+    """The same of `cats_call`, which makes more allocations than the others."""
+    request, texts, room = request_of(one.call), texts_of(one.texts, one.paths), len(one.printed.out) + len(one.printed.report)
+    for number, is_alone in each_refusal(refusing):
+        (status, *_), buffers = call_with(refusing, request, texts, room)
+        is_last = refusing.count_allocations() < number
+        is_right = Answer(status, *(it.output() for it in buffers)) == one.printed or (status == Status.WANT_OF_MEMORY and not is_last)
+        TALLY.judge(is_right, f"cats_call, {one}: allocation {number} refused, alone {is_alone}", status)
+        TALLY.judge(refusing.count_held() == 0, f"cats_call, {one}: blocks are held", refusing.count_held())
 
 
 def check_threads(cases):
