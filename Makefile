@@ -44,7 +44,7 @@ link-cats: cats
 
 # Both libraries have what was compiled and the allocator's calls, which are C. Of the shared one only the exports are seen. Programs find it by
 # its name, of which the number rises if a program that was linked with it no longer works.
-SONAME = libcats.so.1
+SONAME = libcats.so.2
 link-cats_c: cats_c
 	cp -R bindings/cats bindings/cats.h bindings/libcats.pc "$$WORK/made"
 	ln -s $(SONAME) "$$WORK/made/libcats.so"

@@ -1,21 +1,18 @@
 // The proved library libcats: bid files of combinatorial auctions, checked, shown, valued, normalised, explained, rounded, compared and grouped,
-// and their winner determination problems, with what bids bring as winners. docs/C.md shows how it is used, and docs/FORMAT.md has the texts.
+// and their winner determination problems, with what bids bring as winners. docs/C.md shows how it is used.
 //
-// What all functions have in common:
+// One call does what the program `cats` does, with texts in memory in the place of files. Each text that it writes is the program's, byte for
+// byte: what that prints on standard output is put into the buffer `out`, and what it prints on standard error into the buffer `err`.
+// docs/FORMAT.md has these texts. Where they have a path, there is the name of the text.
 //
 // - A text is a pointer and a length in bytes. Only these bytes are read. It needs no NUL at its end.
-// - An output buffer is a pointer and its size in bytes. `needed` gets the length of the output, whatever the status.
-// - With every status but CATS_BUFFER_TOO_SMALL, the first `*needed` bytes of the buffer are the output: what the program `cats` prints
-//   on standard output, or, if the text is refused, the line that it prints on standard error; of cats_sizes a row, and of cats_duplicates a
-//   line for each text. There is no NUL behind it.
-// - With CATS_BUFFER_TOO_SMALL the buffer that is too small is as it was, and a call with a buffer of `*needed` bytes gives the output.
-// - For each function the macro CATS_.._SIZE is a buffer size that always suffices, for the output and for the line of a fault. If the prices
-//   of a text are rounded, CATS_ROUND_SIZE(length) counts in the place of its length, as in CATS_SHOW_SIZE(CATS_ROUND_SIZE(length)).
+// - A buffer is a pointer and its size in bytes. As much of an output as fits is put at its front, without a NUL. `needed` gets the length of
+//   the whole output. If that is greater than the size, a call with a buffer of so many bytes gives the whole.
 //
-// The caller has to guarantee that each pointer is valid for its length or size and not null (for 0 bytes too), that the buffers, `needed`,
-// the texts and what else is read do not overlap, but that the two texts may be the same, and that nothing else changes a text or uses a buffer during
-// the call. A call needs some 180 KiB of stack. It is not made from a signal handler, or in the forked child of a process with threads.
-// `malloc`, `realloc` and `free` are those of one allocator, which aligns a block as the C library's does.
+// The caller has to guarantee that each pointer is valid for its length or size and not null (for 0 bytes too), that the buffers, the places
+// of both lengths and what is read do not overlap, but that several texts may be the same, and that nothing else changes a text or uses a
+// buffer during the call. A call needs some 180 KiB of stack. It is not made from a signal handler, or in the forked child of a process with
+// threads. `malloc`, `realloc` and `free` are those of one allocator, which aligns a block as the C library's does.
 //
 // No call keeps anything, ends the process, or hands out memory that has to be freed. Several threads may call at once.
 #ifndef CATS_H
@@ -27,133 +24,202 @@
 
 // The version of this header, as a number too.
 #define CATS_VERSION_MAJOR 0
-#define CATS_VERSION_MINOR 2
+#define CATS_VERSION_MINOR 3
 #define CATS_VERSION_PATCH 0
-#define CATS_VERSION "0.2.0"
+#define CATS_VERSION "0.3.0"
 #define CATS_VERSION_NUMBER (10000 * CATS_VERSION_MAJOR + 100 * CATS_VERSION_MINOR + CATS_VERSION_PATCH)
 
 #ifdef __cplusplus
 extern "C" {
 #endif
 
-// What a call returns. All but CATS_BUFFER_TOO_SMALL are statuses of the program.
-enum cats_status {
-    CATS_DONE = 0,             // done; of cats_compare and cats_diff: the same auction
-    CATS_DIFFERENT = 1,        // of cats_compare and cats_diff: different auctions; of cats_revenue: two bids cannot both win
-    CATS_REFUSED = 2,          // a text is not a bid file, or is longer than is read
-    CATS_STEP_LIMIT = 3,       // a search takes more steps than its limits leave
-    CATS_WANT_OF_MEMORY = 4,   // memory was refused
-    CATS_BUFFER_TOO_SMALL = 6, // an output needs a larger buffer
-    CATS_WRONG_USAGE = 64      // of cats_value: the text has no such good; of cats_revenue: it has no such bid
+// The commands of the program, each as the function of its name below.
+enum cats_task {
+    CATS_CHECK = 0,
+    CATS_FAULT = 1,
+    CATS_SHOW = 2,
+    CATS_VALUE = 3,
+    CATS_REVENUE = 4,
+    CATS_NORMALISE = 5,
+    CATS_EXPLAIN = 6,
+    CATS_ROUND = 7,
+    CATS_LP = 8,
+    CATS_COMPARE = 9,
+    CATS_DIFF = 10,
+    CATS_DUPLICATES = 11,
+    CATS_SIZES = 12
 };
 
-// How `prices` says that a text is read, or each of several. Any other number is as CATS_ROUNDED_EXACTLY.
+// What a call returns: the status of the program. Of several texts it is the greatest of any.
+enum cats_status {
+    CATS_DONE = 0,           // done; of CATS_COMPARE and CATS_DIFF: the same auction
+    CATS_DIFFERENT = 1,      // of CATS_COMPARE and CATS_DIFF: different auctions; of CATS_REVENUE: two bids cannot both win
+    CATS_REFUSED = 2,        // a text is not a bid file, or is longer than is read
+    CATS_STEP_LIMIT = 3,     // a search takes more steps than its limits leave
+    CATS_WANT_OF_MEMORY = 4, // memory was refused, perhaps so early that nothing is written
+    CATS_WRONG_USAGE = 64    // of CATS_VALUE: the text has no such good; of CATS_REVENUE: it has no such bid; or there is no such request
+};
+
+// How a text is read, or each of several. Any other number is as CATS_ROUNDED_EXACTLY.
 enum cats_prices {
     CATS_AS_WRITTEN = 0,     // as it is: a price such as 1e3 is a fault
-    CATS_ROUNDED = 1,        // as cats_round writes it, which the program does with `--round`
-    CATS_ROUNDED_EXACTLY = 2 // the same, but refused if the value of a price would change, as by the program with `--round-exact`
+    CATS_ROUNDED = 1,        // as CATS_ROUND writes it: `--round` of the program
+    CATS_ROUNDED_EXACTLY = 2 // the same, but refused if the value of a price would change: `--round-exact`, and `--exact` of CATS_ROUND
 };
 
-// The two limits of a call that searches. All its searches are bounded, as those of the program with `--bound`.
-//
-// - `steps`: the most steps of one search, of which a file may need as many as it has bids. Any number is a limit; CATS_STEPS is what the
-//   program has without `--steps`.
-// - `total`: the most steps of all searches of one text together, or CATS_NO_TOTAL. Each of several texts has a total of its own.
+// A limit of steps that is seldom reached, which the program has without `--steps`; and no limit of the steps of all searches together.
 #define CATS_STEPS 1000000
 #define CATS_NO_TOTAL 0
+
+// What is requested. What a task does not take has no effect on it.
+struct cats_request {
+    const uint16_t *goods; // of CATS_VALUE: the goods of the bundle, in any order; one that is there twice counts once
+    size_t goods_count;
+    const uint32_t *bids; // of CATS_REVENUE: the bids, by number and in any order; one that is there twice counts once
+    size_t bids_count;
+    uint64_t steps; // the most steps of one search, of which a text may need as many as it has bids; any number is a limit
+    uint64_t total; // the most steps of all searches of one text together, or CATS_NO_TOTAL; each of several texts has a total of its own
+    uint8_t task;   // of enum cats_task
+    uint8_t prices; // of enum cats_prices
+    bool bound;     // whether the search is the bounded one: `--bound`; with a total it has to be; some tasks have no other
+    bool all;       // whether CATS_DUPLICATES writes the names too of texts that are the same auction as no other: `--all`
+    bool null;      // whether names end with NUL in what CATS_DUPLICATES and CATS_SIZES write: `--null`
+};
+
+// A text, and its name in UTF-8. If that is empty, the name is the number of the text, from 1.
+struct cats_text {
+    const uint8_t *bytes;
+    size_t length;
+    const char *name;
+    size_t name_length;
+};
 
 // The version of the library that was linked, as CATS_VERSION_NUMBER is that of this header.
 uint32_t cats_version(void);
 
-// Reads a text of `length` bytes and writes how many goods, bids and dummy goods it has, as `goods G bids B dummy D` and LF.
-// Returns CATS_DONE, CATS_REFUSED, CATS_WANT_OF_MEMORY or CATS_BUFFER_TOO_SMALL.
-uint8_t cats_check(const uint8_t *text, size_t length, uint8_t prices, uint8_t *out, size_t size, size_t *needed);
-#define CATS_CHECK_SIZE ((size_t)64)
+// Does what is requested, on so many texts: two of CATS_COMPARE and CATS_DIFF, any number of CATS_DUPLICATES and CATS_SIZES, and else one. It
+// returns CATS_WRONG_USAGE and writes nothing, with both lengths 0, if the number of texts is another one, if there is no such task, if there
+// is a total without `bound`, or if a name is not UTF-8.
+uint8_t cats_call(const struct cats_request *request, const struct cats_text *texts, size_t count, uint8_t *out, size_t size, size_t *needed,
+                  uint8_t *err, size_t err_size, size_t *err_needed);
 
-// Reads a text and writes where its first fault is, as `text:LINE:WORD: KIND`, and a line on what helps. Lines and the words of a line are
-// counted from 1; at the end of a line or of the text the word is the one behind the last. The bytes of the word, which the program prints
-// too, are left out: they are in the text. Of a bid file nothing is written, and of a text that is longer than is read the line `TooLong`.
-// Returns CATS_DONE, CATS_REFUSED, CATS_WANT_OF_MEMORY or CATS_BUFFER_TOO_SMALL.
-uint8_t cats_fault(const uint8_t *text, size_t length, uint8_t *out, size_t size, size_t *needed);
-#define CATS_FAULT_SIZE ((size_t)512)
+// ---- The rest is no part of the library, but makes its call. Here a pointer may be null if its length, count or size is 0.
 
-// Reads a text and writes it in the one layout: each bid on a line, in the order of the numbers.
-// Returns CATS_DONE, CATS_REFUSED, CATS_WANT_OF_MEMORY or CATS_BUFFER_TOO_SMALL.
-uint8_t cats_show(const uint8_t *text, size_t length, uint8_t prices, uint8_t *out, size_t size, size_t *needed);
-#define CATS_SHOW_SIZE(length) ((size_t)(length) + 64)
+// A request with the usual values: CATS_STEPS, CATS_NO_TOTAL, the bounded search, prices as they are written, and no goods or bids.
+static inline struct cats_request cats_request_of(enum cats_task task) {
+    static const uint16_t goods[1] = {0};
+    static const uint32_t bids[1] = {0};
+    struct cats_request request = {goods, 0, bids, 0, CATS_STEPS, CATS_NO_TOTAL, (uint8_t)task, CATS_AS_WRITTEN, true, false, false};
+    return request;
+}
 
-// Reads a text and writes what `count` of its bids, by number and in any order, bring as winners: a line with their revenue, or which two of
-// them cannot both win. A bid that is named twice counts once. A bid that the text does not have is refused.
-// Returns CATS_DONE, CATS_DIFFERENT, CATS_REFUSED, CATS_WANT_OF_MEMORY, CATS_BUFFER_TOO_SMALL or CATS_WRONG_USAGE.
-uint8_t cats_revenue(const uint8_t *text, size_t length, uint8_t prices, const uint32_t *bids, size_t count, uint8_t *out, size_t size,
-                     size_t *needed);
-#define CATS_REVENUE_SIZE ((size_t)128)
+// A text without a name.
+static inline struct cats_text cats_text_of(const uint8_t *bytes, size_t length) {
+    static const uint8_t nothing[1] = {0};
+    struct cats_text text = {bytes ? bytes : nothing, length, "", 0};
+    return text;
+}
 
-// Reads a text and writes its winner determination problem in CPLEX's LP format, for a solver.
-// Returns CATS_DONE, CATS_REFUSED, CATS_WANT_OF_MEMORY or CATS_BUFFER_TOO_SMALL.
-uint8_t cats_lp(const uint8_t *text, size_t length, uint8_t prices, uint8_t *out, size_t size, size_t *needed);
-#define CATS_LP_SIZE(length) (5 * (size_t)(length) + 64)
+// Room for an output: `size` bytes at `bytes`. A call sets `needed`, the length of the whole output, of which it writes what fits.
+struct cats_buffer {
+    uint8_t *bytes;
+    size_t size, needed;
+};
 
-// Reads a text and writes what its bidders offer for a bundle of `count` goods, in any order: a line for the OR bidder, with the bids of one
-// best packing, and a line for each XOR bidder. A good that the text does not have is refused.
-// Returns CATS_DONE, CATS_REFUSED, CATS_STEP_LIMIT, CATS_WANT_OF_MEMORY, CATS_BUFFER_TOO_SMALL or CATS_WRONG_USAGE.
-uint8_t cats_value(const uint8_t *text, size_t length, uint8_t prices, const uint16_t *goods, size_t count, uint64_t steps, uint64_t total,
-                   uint8_t *out, size_t size, size_t *needed);
-#define CATS_VALUE_SIZE(length) ((size_t)(length) + 800000)
+// The call, with buffers of this form.
+static inline uint8_t cats_run(const struct cats_request *request, const struct cats_text *texts, size_t count, struct cats_buffer *out,
+                               struct cats_buffer *err) {
+    struct cats_text no_text = cats_text_of(NULL, 0);
+    uint8_t no_room = 0;
+    return cats_call(request, texts ? texts : &no_text, count, out->bytes ? out->bytes : &no_room, out->size, &out->needed,
+                     err->bytes ? err->bytes : &no_room, err->size, &err->needed);
+}
 
-// Reads a text and writes the canonical text of its auction, which is the same for two texts exactly if they are the same auction.
-// Returns CATS_DONE, CATS_REFUSED, CATS_STEP_LIMIT, CATS_WANT_OF_MEMORY or CATS_BUFFER_TOO_SMALL.
-uint8_t cats_normalise(const uint8_t *text, size_t length, uint8_t prices, uint64_t steps, uint64_t total, uint8_t *out, size_t size,
-                       size_t *needed);
-#define CATS_NORMALISE_SIZE(length) ((size_t)(length) + (size_t)(length) / 2 + 64)
+// The usual request of this task, on these texts.
+static inline uint8_t cats_run_usual(enum cats_task task, const struct cats_text *texts, size_t count, struct cats_buffer *out,
+                                     struct cats_buffer *err) {
+    struct cats_request request = cats_request_of(task);
+    return cats_run(&request, texts, count, out, err);
+}
 
-// Reads a text and writes a table, a header and a line for each of its bids: the bid, and why the canonical text has it or not.
-// Returns CATS_DONE, CATS_REFUSED, CATS_STEP_LIMIT, CATS_WANT_OF_MEMORY or CATS_BUFFER_TOO_SMALL.
-uint8_t cats_explain(const uint8_t *text, size_t length, uint8_t prices, uint64_t steps, uint64_t total, uint8_t *out, size_t size,
-                     size_t *needed);
-#define CATS_EXPLAIN_SIZE(length) (4 * (size_t)(length) + 64)
+// Each of these makes the usual request of its task. For another one, as with other limits or prices, change what cats_request_of answers, and
+// call cats_run.
 
-// Reads a text and writes its row in the table of `cats sizes`, without the path: nine cells, with a tab between each two, and LF. Eight are
-// numbers: goods, bids, bids without a dummy good, dummy goods that some bid has, dummy goods; and of the canonical text bids, bids without a
-// dummy good, and dummy goods. The last is empty, or has why some numbers are not known, whose cells are then empty. So a text that is
-// refused has a row too. Only if memory is refused for the row, the line `want of memory` is written in its place.
-// Returns CATS_DONE, CATS_REFUSED, CATS_STEP_LIMIT, CATS_WANT_OF_MEMORY or CATS_BUFFER_TOO_SMALL.
-uint8_t cats_sizes(const uint8_t *text, size_t length, uint8_t prices, uint64_t steps, uint64_t total, uint8_t *out, size_t size,
-                   size_t *needed);
-#define CATS_SIZES_SIZE ((size_t)512)
+// Writes how many goods, bids and dummy goods a text has.
+static inline uint8_t cats_check(struct cats_text text, struct cats_buffer *out, struct cats_buffer *err) {
+    return cats_run_usual(CATS_CHECK, &text, 1, out, err);
+}
 
-// Reads `count` texts, which lie one behind the other, and writes for each a line with the number, counted from 0, of the first text that is the
-// same auction: its own number if no text before it is. The text of number N is the next `lengths[N]` bytes, as far as there are bytes. If a text
-// is refused, its line is that of its fault, as cats_sizes has it, and it is the same auction as no other; the others are judged all the
-// same. What is returned is the greatest status of a text. Only if memory is refused for the lines, the line `want of memory` is written in
-// their place.
-// Returns CATS_DONE, CATS_REFUSED, CATS_STEP_LIMIT, CATS_WANT_OF_MEMORY or CATS_BUFFER_TOO_SMALL.
-uint8_t cats_duplicates(const uint8_t *texts, size_t length, const size_t *lengths, size_t count, uint8_t prices, uint64_t steps,
-                        uint64_t total, uint8_t *out, size_t size, size_t *needed);
-#define CATS_DUPLICATES_SIZE(count) (256 * (size_t)(count) + 64)
+// Writes where the first fault of a text is, and what helps; of a bid file nothing.
+static inline uint8_t cats_fault(struct cats_text text, struct cats_buffer *out, struct cats_buffer *err) {
+    return cats_run_usual(CATS_FAULT, &text, 1, out, err);
+}
 
-// Reads two texts and writes `same` and LF, or four lines: `different`, and where the two auctions first differ.
-// The line of a refused text begins with `first: ` or `second: `.
-// Returns CATS_DONE, CATS_DIFFERENT, CATS_REFUSED, CATS_STEP_LIMIT, CATS_WANT_OF_MEMORY or CATS_BUFFER_TOO_SMALL.
-uint8_t cats_compare(const uint8_t *left, size_t left_length, const uint8_t *right, size_t right_length, uint8_t prices, uint64_t steps,
-                     uint64_t total, uint8_t *out, size_t size, size_t *needed);
-#define CATS_COMPARE_SIZE(left_length, right_length) ((size_t)(left_length) + (size_t)(right_length) + 128)
+// Writes a text in the one layout: each bid on a line, in the order of the numbers.
+static inline uint8_t cats_show(struct cats_text text, struct cats_buffer *out, struct cats_buffer *err) {
+    return cats_run_usual(CATS_SHOW, &text, 1, out, err);
+}
 
-// Reads two texts and writes a table, a header and a line for each difference of the two auctions: none if they are the same.
-// The line of a refused text begins with `first: ` or `second: `.
-// Returns CATS_DONE, CATS_DIFFERENT, CATS_REFUSED, CATS_STEP_LIMIT, CATS_WANT_OF_MEMORY or CATS_BUFFER_TOO_SMALL.
-uint8_t cats_diff(const uint8_t *left, size_t left_length, const uint8_t *right, size_t right_length, uint8_t prices, uint64_t steps,
-                  uint64_t total, uint8_t *out, size_t size, size_t *needed);
-#define CATS_DIFF_SIZE(left_length, right_length) (2 * ((size_t)(left_length) + (size_t)(right_length)) + 128)
+// Writes what the bidders of a text offer for a bundle of so many goods.
+static inline uint8_t cats_value(struct cats_text text, const uint16_t *goods, size_t count, struct cats_buffer *out, struct cats_buffer *err) {
+    struct cats_request request = cats_request_of(CATS_VALUE);
+    request.goods = count ? goods : request.goods;
+    request.goods_count = count;
+    return cats_run(&request, &text, 1, out, err);
+}
 
-// Reads a text, and writes it with each price that is a decimal rounded to the nearest millionth. A second buffer gets a line for each price
-// whose value changed. If `exact`, a text with such a price is refused. The second buffer gets nothing if the text is refused. With
-// CATS_BUFFER_TOO_SMALL one of the two is too small, or both, which the lengths show: it is as it was.
-// Returns CATS_DONE, CATS_REFUSED, CATS_WANT_OF_MEMORY or CATS_BUFFER_TOO_SMALL.
-uint8_t cats_round(const uint8_t *text, size_t length, bool exact, uint8_t *out, size_t size, size_t *needed, uint8_t *report,
-                   size_t report_size, size_t *report_needed);
-#define CATS_ROUND_SIZE(length) (2 * (size_t)(length) + 64)
-#define CATS_ROUND_REPORT_SIZE(length) (5 * (size_t)(length) + 64)
+// Writes what so many bids of a text bring as winners, or which two of them cannot both win.
+static inline uint8_t cats_revenue(struct cats_text text, const uint32_t *bids, size_t count, struct cats_buffer *out, struct cats_buffer *err) {
+    struct cats_request request = cats_request_of(CATS_REVENUE);
+    request.bids = count ? bids : request.bids;
+    request.bids_count = count;
+    return cats_run(&request, &text, 1, out, err);
+}
+
+// Writes the canonical text of a text's auction, which is the same for two texts exactly if they are the same auction.
+static inline uint8_t cats_normalise(struct cats_text text, struct cats_buffer *out, struct cats_buffer *err) {
+    return cats_run_usual(CATS_NORMALISE, &text, 1, out, err);
+}
+
+// Writes a table with a line for each bid of a text: why the canonical text has it or not.
+static inline uint8_t cats_explain(struct cats_text text, struct cats_buffer *out, struct cats_buffer *err) {
+    return cats_run_usual(CATS_EXPLAIN, &text, 1, out, err);
+}
+
+// Writes a text with each price that is a decimal rounded to the nearest millionth, and into `err` a line for each price whose value changed.
+// If `exact`, a text with such a price is refused.
+static inline uint8_t cats_round(struct cats_text text, bool exact, struct cats_buffer *out, struct cats_buffer *err) {
+    struct cats_request request = cats_request_of(CATS_ROUND);
+    request.prices = exact ? CATS_ROUNDED_EXACTLY : CATS_ROUNDED;
+    return cats_run(&request, &text, 1, out, err);
+}
+
+// Writes the winner determination problem of a text in CPLEX's LP format, for a solver.
+static inline uint8_t cats_lp(struct cats_text text, struct cats_buffer *out, struct cats_buffer *err) {
+    return cats_run_usual(CATS_LP, &text, 1, out, err);
+}
+
+// Writes whether two texts are the same auction, and else where they first differ.
+static inline uint8_t cats_compare(struct cats_text left, struct cats_text right, struct cats_buffer *out, struct cats_buffer *err) {
+    const struct cats_text texts[2] = {left, right};
+    return cats_run_usual(CATS_COMPARE, texts, 2, out, err);
+}
+
+// Writes a table with a line for each difference of two auctions.
+static inline uint8_t cats_diff(struct cats_text left, struct cats_text right, struct cats_buffer *out, struct cats_buffer *err) {
+    const struct cats_text texts[2] = {left, right};
+    return cats_run_usual(CATS_DIFF, texts, 2, out, err);
+}
+
+// Writes the names of those texts that are the same auction, in groups.
+static inline uint8_t cats_duplicates(const struct cats_text *texts, size_t count, struct cats_buffer *out, struct cats_buffer *err) {
+    return cats_run_usual(CATS_DUPLICATES, texts, count, out, err);
+}
+
+// Writes a table with a line for each text: its sizes, and those of its canonical text.
+static inline uint8_t cats_sizes(const struct cats_text *texts, size_t count, struct cats_buffer *out, struct cats_buffer *err) {
+    return cats_run_usual(CATS_SIZES, texts, count, out, err);
+}
 
 #ifdef __cplusplus
 }

@@ -1,4 +1,4 @@
-"""Compares the shared library with the program, and tries what a C caller may do to it.
+"""Compares the one call of the shared library with the program, and tries what a C caller may do to it.
 
     check.py PROGRAM LIBRARY REFUSING FILE..
 
@@ -16,14 +16,13 @@ import tempfile
 import threading
 from concurrent.futures import ThreadPoolExecutor
 from itertools import count
-from typing import NamedTuple
 
 PROGRAM, LIBRARY, REFUSING, *FILES = sys.argv[1:]
 
 sys.path[:0] = [os.path.dirname(os.path.abspath(LIBRARY)), os.path.join(os.path.dirname(os.path.abspath(__file__)), "tests")]
-from beside import CALLS, FEW_IN_ALL, Answer, cases_of  # noqa: E402: they are in these folders
+from beside import CALLS, Answer, Call, cases_of, run_program, write_texts  # noqa: E402: they are in these folders
 from cats import _library  # noqa: E402
-from cats._library import FUNCTIONS, ROOM, Prices, Status  # noqa: E402
+from cats._library import Request, Status, Task, Text  # noqa: E402
 from texts import BIDS, made_texts  # noqa: E402
 
 THREADS = 8
@@ -33,14 +32,16 @@ TESTED = _library.load(os.path.abspath(LIBRARY))
 
 # Of so many of the files buffer lengths and every allocation are tried. The outputs of the given files are larger.
 FEW = 40
-# Each buffer length is tried, or each so many; so are the cases whose allocations are refused to `cats_call`.
+# Each buffer length and each case of refused allocations is tried, or one of so many.
 STRIDE = 1 if os.environ.get("FULL") else 10
 
 # The most bytes of a text.
 MAX_STREAM = 2_147_483_648
 
 # What is behind a buffer, and in it before a call.
-GUARD, MARK = 64, 0xA5
+GUARD, MARK = 64, b"\xa5"
+
+WANT = b"want of memory"
 
 
 class Tally:
@@ -61,158 +62,60 @@ class Tally:
 TALLY = Tally()
 
 
-# ---- the library
-
-class GuardedBuffer(NamedTuple):
-    """A buffer with a guard behind it, and the length that a call says it needs."""
-
-    size: int
-    bytes: ctypes.Array
-    needed: ctypes.c_size_t
-
-    def output(self):
-        return self.bytes.raw[: self.needed.value]
-
-    def is_marked(self, begin):
-        """Whether all is as it was before the call, from some place on."""
-        return self.bytes.raw[begin:] == bytes([MARK]) * (self.size + GUARD - begin)
-
-
-def buffer_of(size):
-    marked = (ctypes.c_char * (size + GUARD))()
-    ctypes.memset(marked, MARK, size + GUARD)
-    return GuardedBuffer(size, marked, ctypes.c_size_t())
-
-
-def call_library(library, call, texts, sizes):
-    """The status of a call with buffers of these sizes, and the buffers. A text is its bytes, or a pointer and a length."""
-    buffers = [buffer_of(size) for size in sizes]
-    words = words_of_texts(call, texts)
-    arguments = [word for buffer in buffers for word in (buffer.bytes, buffer.size, ctypes.byref(buffer.needed))]
-    return getattr(library, f"cats_{call.name}")(*words, *call.words_of_library(), *arguments), buffers
-
-
-def words_of_texts(call, texts):
-    """The texts as a function takes them. Of many one alone may be a pointer and a length."""
-    if not any(isinstance(text, tuple) for text in texts):
-        return _library.arguments_of(call.name, texts)
-    words = [word for text in texts for word in (text if isinstance(text, tuple) else (text, len(text)))]
-    return [*words, (ctypes.c_size_t * 1)(words[1]), 1] if call.takes("texts") else words
-
-
-def ample_sizes(call, texts):
-    """The sizes that cats.h says always suffice. A text whose prices are rounded counts with the size that rounding it needs."""
-    rounded = FUNCTIONS["round"].sizes[0]
-    length = sum(rounded.ample(len(text), 1) if call.words_of_prices() else len(text) for text in texts)
-    return [size.ample(length, len(texts)) for size in FUNCTIONS[call.name].sizes]
-
-
-def answer_of_library(library, call, texts):
-    status, buffers = call_library(library, call, texts, ample_sizes(call, texts))
-    if any(buffer.needed.value > buffer.size for buffer in buffers):
-        return Answer(status, b"the sizes of cats.h are too small")
-    return Answer(status, *(buffer.bytes.raw[: buffer.needed.value] for buffer in buffers))
-
-
-# ---- the call for all commands
-
-# The commands, by their numbers.
-TASKS = ["check", "fault", "show", "value", "revenue", "normalise", "explain", "round", "lp", "compare", "diff", "duplicates", "sizes"]
-
-
-class Request(ctypes.Structure):
-    _fields_ = [
-        ("goods", ctypes.POINTER(ctypes.c_uint16)), ("goods_count", ctypes.c_size_t), ("bids", ctypes.POINTER(ctypes.c_uint32)),
-        ("bids_count", ctypes.c_size_t), ("steps", ctypes.c_uint64), ("total", ctypes.c_uint64), ("task", ctypes.c_uint8),
-        ("prices", ctypes.c_uint8), ("bound", ctypes.c_bool), ("all", ctypes.c_bool), ("null", ctypes.c_bool),
-    ]
-
-
-class Text(ctypes.Structure):
-    _fields_ = [("bytes", ctypes.c_char_p), ("length", ctypes.c_size_t), ("name", ctypes.c_char_p), ("name_length", ctypes.c_size_t)]
-
+# ---- the call
 
 def request_of(call):
     """A call as a request."""
-    prices = call.prices if not call.takes("exact") else Prices.ROUNDED_EXACTLY if call.arguments[0] else Prices.ROUNDED
-    steps, total = call.arguments if call.takes("limits") else (0, 0)
-    goods = call.named if call.takes("goods") else ()
-    bids = call.named if call.takes("bids") else ()
+    goods, bids = (call.named if call.takes(kind) else () for kind in ("goods", "bids"))
     return Request(
-        (ctypes.c_uint16 * max(1, len(goods)))(*goods), len(goods), (ctypes.c_uint32 * max(1, len(bids)))(*bids), len(bids), steps, total,
-        TASKS.index(call.name), prices or 0, True, True, False,
+        (ctypes.c_uint16 * max(1, len(goods)))(*goods), len(goods), (ctypes.c_uint32 * max(1, len(bids)))(*bids), len(bids), call.steps, call.total,
+        Task[call.name.upper()], call.prices, call.bound, call.all, call.null,
     )
 
 
 def texts_of(texts, names):
-    """Texts with names."""
+    """Texts with names, and how many there are."""
     names = [os.fsencode(it) for it in names]
-    return (Text * max(1, len(texts)))(*(Text(text, len(text), name, len(name)) for text, name in zip(texts, names))), len(texts)
+    return (Text * max(1, len(texts)))(*(Text(text, len(text), name, len(name)) for text, name in zip(texts, names))), ctypes.c_size_t(len(texts))
 
 
-def call_with(library, request, texts, room):
-    """The status and the two lengths that a request answers, and two buffers of so many bytes."""
-    buffers = [buffer_of(room), buffer_of(room)]
-    words = [word for it in buffers for word in (it.bytes, ctypes.c_size_t(it.size), ctypes.byref(it.needed))]
-    status = library.cats_call(ctypes.byref(request), texts[0], ctypes.c_size_t(texts[1]), *words)
-    return (status & 255, *(it.needed.value for it in buffers)), buffers
+def call_with(library, request, texts, sizes):
+    """The status and the two lengths that a call answers, and what is then in buffers of these sizes and behind them."""
+    buffers = [ctypes.create_string_buffer(MARK * (size + GUARD), size + GUARD) for size in sizes]
+    lengths = [ctypes.c_size_t(), ctypes.c_size_t()]
+    words = [word for it in zip(buffers, map(ctypes.c_size_t, sizes), map(ctypes.byref, lengths)) for word in it]
+    status = library.cats_call(ctypes.byref(request), *texts, *words)
+    return status, [it.value for it in lengths], [it.raw for it in buffers]
+
+
+def wanted_with(printed, sizes):
+    """The same of a call that answers what was printed: as much of it as fits is there, and no other byte is changed."""
+    status, *outputs = printed
+    return status, list(map(len, outputs)), [text[:size] + MARK * (size + GUARD - len(text[:size])) for text, size in zip(outputs, sizes)]
+
+
+def judge_call(request, texts, sizes, printed, what):
+    found = call_with(TESTED, request, texts, sizes)
+    TALLY.judge(found == wanted_with(printed, sizes), f"{what}, buffers of {sizes} bytes", f"{found} and not {printed}")
+
+
+def parts_of(case):
+    """The request of a case, its texts with the names of their files, and the lengths of what is printed."""
+    return request_of(case.call), texts_of(case.texts, case.paths), [len(it) for it in case.printed[1:]]
 
 
 # ---- what is compared
 
 def check_answers(cases):
-    """Each call answers what the program does."""
+    """Each call answers what the program does, on texts that have the names of its files, and puts what fits into the buffers."""
     for one in cases:
-        answer = answer_of_library(TESTED, one.call, one.texts)
-        TALLY.judge(answer == one.own, one, f"{answer} and not {one.own}, of {one.texts}")
-    seen = {(str(one.call), one.own.status) for one in cases}
+        request, texts, needed = parts_of(one)
+        for sizes in (needed, [sum(needed)] * 2, [0, 0], [it // 2 for it in needed]):
+            judge_call(request, texts, sizes, one.printed, one)
+    seen = {(str(one.call), one.printed.status) for one in cases}
     for call in CALLS:
         lacking = [status for status in call.statuses() if (str(call), status) not in seen]
         TALLY.judge(not lacking, f"{call}: no file was answered by the statuses {lacking}")
-
-
-def check_one_call(cases):
-    """`cats_call` prints what the program does, on texts that have the names of its files, and puts what fits into the buffers."""
-    for one in cases:
-        request = request_of(one.call)
-        for room in (len(one.printed.out) + len(one.printed.report), 0, len(one.printed.out) // 2):
-            answer, buffers = call_with(TESTED, request, texts_of(one.texts, one.paths), room)
-            wanted = (one.printed.status, len(one.printed.out), len(one.printed.report))
-            fits = [it.bytes.raw[:room] == (text + bytes([MARK]) * room)[:room] for it, text in zip(buffers, one.printed[1:])]
-            TALLY.judge(answer == wanted and all(fits), f"cats_call, {one}, buffers of {room} bytes", f"{answer} and not {wanted}, of {one.texts}")
-            TALLY.judge(all(it.is_marked(room) for it in buffers), f"cats_call, {one}: behind a buffer of {room} bytes")
-
-
-def check_names():
-    """Of `cats_call`: a text without a name has its number, texts of one name are those in their order, and a request that is wrong prints nothing."""
-    many = request_of(next(it for it in CALLS if it.name == "duplicates" and not it.words))
-    broken = b"goods\n"
-    named = [b"", b"", b"2", b"a\nb"]
-    answer, buffers = call_with(TESTED, many, texts_of([BIDS, broken, BIDS, broken], named), 200)
-    found = (answer[0], buffers[0].output(), buffers[1].output())
-    TALLY.judge(found == (2, b"1\n2\n", b"2: line 1: Header\na\\nb: line 1: Header\n"), "cats_call: names", found)
-    check, compare = (request_of(next(it for it in CALLS if it.name == name)) for name in ("check", "compare"))
-    unbounded = request_of(next(it for it in CALLS if it.words == FEW_IN_ALL and it.name == "normalise"))
-    unbounded.bound = False
-    other = request_of(CALLS[0])
-    other.task = len(TASKS)
-    for request, names in ((check, []), (check, [b"", b""]), (compare, [b""]), (compare, [b""] * 3), (unbounded, [b""]), (other, [b""]), (check, [b"\xff"])):
-        answer, _ = call_with(TESTED, request, texts_of([BIDS] * len(names), names), 200)
-        TALLY.judge(answer == (Status.WRONG_USAGE, 0, 0), f"cats_call: {request.task} on texts of the names {names}", answer)
-
-
-def is_right_with(one, sizes):
-    """Whether a call with buffers of these sizes fills each or leaves it as it was, sets each length, and keeps what is behind it."""
-    status, buffers = call_library(TESTED, one.call, one.texts, sizes)
-    outputs = one.own[1 : 1 + len(buffers)]
-    if [buffer.needed.value for buffer in buffers] != list(map(len, outputs)):
-        return False
-    are_small = [buffer.size < len(output) for buffer, output in zip(buffers, outputs)]
-    if not all(buffer.is_marked(0 if is_small else buffer.size) for buffer, is_small in zip(buffers, are_small)):
-        return False
-    if any(are_small):
-        return status == Status.BUFFER_TOO_SMALL
-    return status == one.own.status and all(buffer.bytes.raw[: len(output)] == output for buffer, output in zip(buffers, outputs))
 
 
 def lengths(needed):
@@ -221,27 +124,27 @@ def lengths(needed):
 
 
 def check_sizes(cases):
-    """Lengths of a buffer from 0 to one more than is needed, and of two buffers each beside some of the other."""
+    """Lengths of a buffer from 0 to one more than is needed, each beside some of the other."""
     for one in cases:
-        needed = list(map(len, one.own[1 : 1 + one.call.outputs()]))
-        tried = [[size, *needed[1:]] for size in lengths(needed[0])]
-        if len(needed) == 2:
-            tried += [[first, size] for size in lengths(needed[1]) for first in {0, needed[0]}]
+        request, texts, (needed, err_needed) = parts_of(one)
+        tried = [[size, other] for size in lengths(needed) for other in {0, err_needed}]
+        tried += [[other, size] for size in lengths(err_needed) for other in {0, needed}]
         for sizes in tried:
-            TALLY.judge(is_right_with(one, sizes), f"{one}: buffers of {sizes} bytes", one.texts)
+            judge_call(request, texts, sizes, one.printed, one)
 
 
-WANT = b"want of memory\n"
+def check_threads(cases):
+    """Eight threads make all calls at once, each in an order of its own."""
+    begin = threading.Barrier(THREADS)
 
+    def make_calls(seed):
+        begin.wait()
+        for one in random.Random(seed).sample(cases, len(cases)):
+            request, texts, needed = parts_of(one)
+            judge_call(request, texts, needed, one.printed, f"{one}, beside other threads")
 
-def lacks_memory(one, answer):
-    """Whether a call answers that memory was refused. No line of a fault or of a changed price is replaced."""
-    prefixes = (b"", b"first: ", b"second: ") if one.call.takes("second") else (b"",)
-    lines = [prefix + WANT for prefix in (*prefixes, *([b"\t" * 8] if one.call.name == "sizes" else []))]
-    if one.call.takes("texts"):
-        first, second = one.own.out.splitlines(True)
-        lines += [first + WANT, WANT + (b"1\n" if second == b"0\n" else second), WANT + WANT]
-    return answer.status == Status.WANT_OF_MEMORY and answer.out in lines and answer.report == b""
+    with ThreadPoolExecutor(THREADS) as pool:
+        list(pool.map(make_calls, range(THREADS)))
 
 
 def each_refusal(library):
@@ -259,58 +162,54 @@ def check_refusals(cases):
     refusing = _library.load(REFUSING)
     refusing.refuse_allocations.argtypes = [ctypes.c_size_t, ctypes.c_size_t]
     refusing.count_allocations.restype, refusing.count_held.restype = ctypes.c_size_t, ctypes.c_long
-    for at, one in enumerate(cases):
-        wants = 0
+    for one in random.Random(3).sample(cases, len(cases) // STRIDE):
+        request, texts, needed = parts_of(one)
+        sizes = [sum(needed) + 200] * 2
         for number, is_alone in each_refusal(refusing):
-            answer = answer_of_library(refusing, one.call, one.texts)
+            status, many, buffers = call_with(refusing, request, texts, sizes)
             is_last = refusing.count_allocations() < number
-            lacks = lacks_memory(one, answer)
-            is_right = answer == one.own or (lacks and not is_last)
-            TALLY.judge(is_right, f"{one}: allocation {number} refused, alone {is_alone}", answer)
+            lacks = status == Status.WANT_OF_MEMORY and (many == [0, 0] or any(WANT in it for it in buffers))
+            is_right = (status, many, buffers) == wanted_with(one.printed, sizes) or (lacks and not is_last)
+            TALLY.judge(is_right, f"{one}: allocation {number} refused, alone {is_alone}", (status, many, buffers))
             TALLY.judge(refusing.count_held() == 0, f"{one}: blocks are held", refusing.count_held())
-            wants += lacks
-        makes_none = number == 1
-        TALLY.judge(wants or makes_none or one.own.status == Status.REFUSED, f"{one}: no want of memory was answered")
-        if at % STRIDE == 0:
-            check_refusals_of_call(refusing, one)
 
 
-def check_refusals_of_call(refusing, one):
-    """The same of `cats_call`, which makes more allocations than the others."""
-    request, texts, room = request_of(one.call), texts_of(one.texts, one.paths), len(one.printed.out) + len(one.printed.report)
-    for number, is_alone in each_refusal(refusing):
-        (status, *_), buffers = call_with(refusing, request, texts, room)
-        is_last = refusing.count_allocations() < number
-        is_right = Answer(status, *(it.output() for it in buffers)) == one.printed or (status == Status.WANT_OF_MEMORY and not is_last)
-        TALLY.judge(is_right, f"cats_call, {one}: allocation {number} refused, alone {is_alone}", status)
-        TALLY.judge(refusing.count_held() == 0, f"cats_call, {one}: blocks are held", refusing.count_held())
+def check_many(texts):
+    """All texts in one call."""
+    with tempfile.TemporaryDirectory() as folder:
+        paths = write_texts(folder, texts)
+        for call in [it for it in CALLS if it.name in ("duplicates", "sizes")]:
+            printed = run_program(PROGRAM, [call.name, *call.options(), *paths])
+            judge_call(request_of(call), texts_of(texts, paths), [len(printed.out), len(printed.err)], printed, f"{call} on {len(texts)} texts")
 
 
-def check_threads(cases):
-    """Eight threads make all calls at once, each in an order of its own."""
-    begin = threading.Barrier(THREADS)
-
-    def make_calls(seed):
-        begin.wait()
-        for one in random.Random(seed).sample(cases, len(cases)):
-            answer = answer_of_library(TESTED, one.call, one.texts)
-            TALLY.judge(answer == one.own, f"{one}, beside other threads", answer)
-
-    with ThreadPoolExecutor(THREADS) as pool:
-        list(pool.map(make_calls, range(THREADS)))
+def check_names():
+    """A text without a name has its number, texts of one name are those in their order, and a request that is wrong prints nothing."""
+    broken, names = b"goods\n", [b"", b"", b"2", b"a\nb"]
+    printed = Answer(2, b"1\n2\n", b"2: line 1: Header\na\\nb: line 1: Header\n")
+    judge_call(request_of(Call("duplicates")), texts_of([BIDS, broken, BIDS, broken], names), [200, 200], printed, names)
+    other = request_of(Call("check"))
+    other.task = len(Task)
+    unbounded = [Call(name, total=1, bound=False) for name in ("value", "normalise", "compare")]
+    wrong = [(request_of(it), [b""] * it.texts()) for it in unbounded] + [(other, [b""])]
+    wrong += [(request_of(Call("check")), names) for names in ([], [b"", b""], [b"\xff"])]
+    wrong += [(request_of(Call("compare")), names) for names in ([], [b""], [b""] * 3, [b"", b"\xff"])]
+    for request, names in wrong:
+        judge_call(request, texts_of([BIDS] * len(names), names), [200, 200], Answer(Status.WRONG_USAGE, b""), f"{request.task} on texts of the names {names}")
 
 
 def check_long_texts():
     """A text of as many bytes as are read, and of one more."""
     pages = mmap.mmap(-1, MAX_STREAM + 1, flags=mmap.MAP_PRIVATE | mmap.MAP_ANONYMOUS)
     zeros = ctypes.cast((ctypes.c_char * len(pages)).from_buffer(pages), ctypes.c_char_p)
-    tried = [(call, MAX_STREAM + 1, b"TooLong\n") for call in CALLS if not call.words] + [(CALLS[0], MAX_STREAM, b"line 1: Header\n")]
-    for call, length, line in tried:
-        before = [BIDS] if call.takes("second") else []
-        status, buffers = call_library(TESTED, call, [*before, (zeros, length)], [ROOM] * call.outputs())
-        out = buffers[0].bytes.raw[: buffers[0].needed.value]
-        prefix = b"second: " if before else b"\t" * 8 if call.name == "sizes" else b""
-        TALLY.judge((status, out) == (Status.REFUSED, prefix + line), f"{call} on {length} bytes", (status, out))
+    of_each = {call.name: call for call in reversed(CALLS)}.values()
+    tried = [*((call, MAX_STREAM + 1, b"TooLong") for call in of_each), (Call("check"), MAX_STREAM, b"line 1: Header")]
+    for call, length, fault in tried:
+        texts = texts_of([BIDS] * call.texts(), [b""] * call.texts())
+        texts[0][call.texts() - 1] = Text(zeros, length, b"", 0)
+        status, _, buffers = call_with(TESTED, request_of(call), texts, [1000, 1000])
+        is_right = status == Status.REFUSED and any(fault in it for it in buffers)
+        TALLY.judge(is_right, f"{call} on {length} bytes", (status, buffers))
 
 
 def main():
@@ -318,13 +217,10 @@ def main():
     with tempfile.TemporaryDirectory() as folder:
         cases = cases_of(PROGRAM, folder, texts)
     few = cases[: len(CALLS) * (len(FILES) + FEW)]
-    for check, on in ((check_answers, cases), (check_one_call, cases), (check_threads, cases), (check_sizes, few), (check_refusals, few)):
+    checks = {check_answers: [cases], check_threads: [cases], check_sizes: [few], check_refusals: [few], check_many: [texts], check_names: [], check_long_texts: []}
+    for check, words in checks.items():
         print(check.__doc__.split("\n")[0], flush=True)
-        check(on)
-    print(check_names.__doc__, flush=True)
-    check_names()
-    print(check_long_texts.__doc__, flush=True)
-    check_long_texts()
+        check(*words)
     print(f"{TALLY.calls} calls, {TALLY.wrong} wrong")
     return 1 if TALLY.wrong else 0
 

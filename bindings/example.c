@@ -7,62 +7,50 @@
 
 #include "cats.h"
 
-enum { FILE_FAILED = 5, WRONG_USAGE = 64 };
+enum { FILE_FAILED = 5, WRONG_USAGE = 64, FIRST_SIZE = 1 << 12 };
 
-// The bytes of a file.
-struct text {
-    uint8_t *bytes;
-    size_t length;
-};
+// A buffer of so many bytes in the place of an old one.
+static struct cats_buffer grown(struct cats_buffer old, size_t size) {
+    struct cats_buffer buffer = {realloc(old.bytes, size), size, 0};
+    if (buffer.bytes)
+        return buffer;
+    fprintf(stderr, "want of memory\n");
+    exit(CATS_WANT_OF_MEMORY);
+}
 
 // Reads the whole of a file into a block that is made twice as large until it suffices. Ends the program if that fails.
-static struct text read_text(const char *path) {
-    struct text text = {NULL, 0};
-    size_t capacity = 1 << 12;
+static struct cats_text read_text(const char *path) {
+    struct cats_buffer buffer = {NULL, 0, 0};
     FILE *file = fopen(path, "rb");
-    while (file) {
-        uint8_t *bytes = realloc(text.bytes, capacity);
-        if (!bytes)
-            break;
-        text.bytes = bytes;
-        text.length += fread(bytes + text.length, 1, capacity - text.length, file);
+    for (size_t length = 0; file; length = buffer.size) {
+        buffer = grown(buffer, length ? 2 * length : FIRST_SIZE);
+        length += fread(buffer.bytes + length, 1, buffer.size - length, file);
         if (ferror(file))
             break;
-        if (text.length < capacity) {
+        if (length < buffer.size) {
             fclose(file);
-            return text;
+            return cats_text_of(buffer.bytes, length);
         }
-        capacity *= 2;
     }
     fprintf(stderr, "%s cannot be read\n", path);
     exit(FILE_FAILED);
 }
 
-// Prints the output of a call: on standard error if the call was refused.
-static void print(uint8_t status, const uint8_t *out, size_t length) {
-    fwrite(out, 1, length, status <= CATS_DIFFERENT ? stdout : stderr);
-}
-
-static uint8_t compare(struct text left, struct text right) {
-    size_t size = CATS_COMPARE_SIZE(left.length, right.length), needed;
-    uint8_t *out = malloc(size);
-    if (!out)
-        return CATS_WANT_OF_MEMORY;
-    uint8_t status = cats_compare(left.bytes, left.length, right.bytes, right.length, CATS_AS_WRITTEN, CATS_STEPS, CATS_NO_TOTAL, out, size,
-                                  &needed);
-    print(status, out, needed);
-    free(out);
-    return status;
-}
-
-static uint8_t normalise(struct text text) {
-    size_t size = CATS_NORMALISE_SIZE(text.length), needed;
-    uint8_t *out = malloc(size);
-    if (!out)
-        return CATS_WANT_OF_MEMORY;
-    uint8_t status = cats_normalise(text.bytes, text.length, CATS_AS_WRITTEN, CATS_STEPS, CATS_NO_TOTAL, out, size, &needed);
-    print(status, out, needed);
-    free(out);
+// Prints what the program prints of these texts. If a buffer was too small, the call is made again.
+static uint8_t print_answer(enum cats_task task, const struct cats_text *texts, size_t count) {
+    struct cats_request request = cats_request_of(task);
+    struct cats_buffer out = grown((struct cats_buffer){NULL, 0, 0}, texts[0].length + FIRST_SIZE);
+    struct cats_buffer err = grown((struct cats_buffer){NULL, 0, 0}, FIRST_SIZE);
+    uint8_t status = cats_run(&request, texts, count, &out, &err);
+    if (out.needed > out.size || err.needed > err.size) {
+        out = grown(out, out.needed + 1);
+        err = grown(err, err.needed + 1);
+        status = cats_run(&request, texts, count, &out, &err);
+    }
+    fwrite(out.bytes, 1, out.needed, stdout);
+    fwrite(err.bytes, 1, err.needed, stderr);
+    free(out.bytes);
+    free(err.bytes);
     return status;
 }
 
@@ -71,13 +59,13 @@ int main(int count, char **words) {
         fprintf(stderr, "usage: example FILE FILE\n");
         return WRONG_USAGE;
     }
-    struct text left = read_text(words[1]), right = read_text(words[2]);
-    uint8_t status = compare(left, right);
+    struct cats_text texts[] = {read_text(words[1]), read_text(words[2])};
+    uint8_t status = print_answer(CATS_COMPARE, texts, 2);
     if (status <= CATS_DIFFERENT) {
-        uint8_t second = normalise(left);
+        uint8_t second = print_answer(CATS_NORMALISE, texts, 1);
         status = second == CATS_DONE ? status : second;
     }
-    free(left.bytes);
-    free(right.bytes);
+    free((void *)texts[0].bytes);
+    free((void *)texts[1].bytes);
     return status;
 }

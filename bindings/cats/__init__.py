@@ -12,7 +12,7 @@ of one text together, if it is not None. With `round` a text is read as `round_p
 that would change the value of a price.
 
 The library is looked for in the folder of this package (`libcats.so`), then in the folder that holds the package (`libcats.so`,
-`libcats.so.1`), and then where the system looks for libraries (`libcats.so.1`, `libcats.so`).
+`libcats.so.2`), and then where the system looks for libraries (`libcats.so.2`, `libcats.so`).
 """
 from cats._auction import Auction, read
 from cats._bids import Bid
@@ -22,7 +22,7 @@ from cats._library import check_version as _check_version
 from cats._tables import Allocation, Change, Difference, Reason, Rounded, Rows, Sizes, SizesRow, Value, Verdict, XorValue
 from cats.errors import CatsError, NoSuchBid, NoSuchGood, RefusedText, StepLimit, WantOfMemory
 
-__version__ = "0.2.0"
+__version__ = "0.3.0"
 
 _check_version(__version__)
 

@@ -7,9 +7,9 @@ from typing import Iterable, Optional, Tuple, Type, TypeVar, Union
 
 from cats._bids import Bid, BidLike, bid_lines, bid_of, text_of
 from cats._calls import check, compare, diff, explain, lp, normalise, revenue, sizes, value
-from cats._library import STEPS, Prices
+from cats._library import STEPS, Prices, Task
 from cats._tables import Allocation, Difference, Reason, Rows, SizesRow, Value
-from cats._texts import Rounding, TextOrPath, bytes_of, path_of, prices_of, rounded
+from cats._texts import Rounding, TextOrPath, bytes_of, outputs_on, path_of, prices_of
 
 A = TypeVar("A", bound="Auction")
 
@@ -121,4 +121,4 @@ def read(path_or_bytes: TextOrPath, *, round: Rounding = False) -> Auction:
     """
     prices = prices_of(round)
     text = bytes_of(path_or_bytes)
-    return Auction(text if prices == Prices.AS_WRITTEN else rounded(text, prices == Prices.ROUNDED_EXACTLY)[0])
+    return Auction(text if prices == Prices.AS_WRITTEN else outputs_on(Task.ROUND, [text], prices)[0])

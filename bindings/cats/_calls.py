@@ -4,10 +4,10 @@ from __future__ import annotations
 
 from typing import Dict, Iterable, List, Optional, Tuple, TypeVar
 
-from cats._library import STEPS
+from cats._library import STEPS, Prices, Task
 from cats._tables import Allocation, Difference, Reason, Rounded, Rows, Sizes, SizesRow, Value, Verdict
 from cats._tables import allocation_of, changes_of, difference_of, reason_of, row_of_sizes, rows_of, sizes_of, value_of, verdict_of
-from cats._texts import Rounding, TextOrPath, answer_on, bids_of, bytes_of, goods_of, limits_of, rounded
+from cats._texts import Rounding, TextOrPath, answer_on, bids_of, goods_of, limits_of, outputs_on
 from cats.errors import CatsError, NoSuchBid, NoSuchGood, RefusedText, StepLimit  # noqa: F401: for the examples
 
 # A text as the caller has it.
@@ -28,7 +28,7 @@ def check(text: TextOrPath, *, round: Rounding = False) -> Sizes:
     ...     print(fault.line, fault.word, fault.kind, fault.text)
     4 2 NotANumber b'1e3'
     """
-    return sizes_of(answer_on("check", [text], round))
+    return sizes_of(answer_on(Task.CHECK, [text], round))
 
 
 def show(text: TextOrPath, *, round: Rounding = False) -> bytes:
@@ -37,7 +37,7 @@ def show(text: TextOrPath, *, round: Rounding = False) -> bytes:
     >>> show(b"goods 2\\nbids 2\\ndummy 0\\n% two\\n1 4.50 1 0 #\\n0 03 0 #\\n")
     b'goods 2\\nbids 2\\ndummy 0\\n0\\t3\\t0\\t#\\n1\\t4.5\\t0\\t1\\t#\\n'
     """
-    return answer_on("show", [text], round)
+    return answer_on(Task.SHOW, [text], round)
 
 
 def value(text: TextOrPath, goods: Iterable[int], steps: int = STEPS, *, total: Optional[int] = None, round: Rounding = False) -> Value:
@@ -52,7 +52,7 @@ def value(text: TextOrPath, goods: Iterable[int], steps: int = STEPS, *, total: 
     ...     print(fault.good)
     2
     """
-    return value_of(answer_on("value", [text], round, [*goods_of(goods), *limits_of(steps, total)]))
+    return value_of(answer_on(Task.VALUE, [text], round, limits_of(steps, total), goods=goods_of(goods)))
 
 
 def revenue(text: TextOrPath, bids: Iterable[int], *, round: Rounding = False) -> Allocation:
@@ -69,7 +69,7 @@ def revenue(text: TextOrPath, bids: Iterable[int], *, round: Rounding = False) -
     ...     print(fault.bid)
     3
     """
-    return allocation_of(answer_on("revenue", [text], round, bids_of(bids)))
+    return allocation_of(answer_on(Task.REVENUE, [text], round, bids=bids_of(bids)))
 
 
 def normalise(text: TextOrPath, steps: int = STEPS, *, total: Optional[int] = None, round: Rounding = False) -> bytes:
@@ -91,7 +91,7 @@ def normalise(text: TextOrPath, steps: int = STEPS, *, total: Optional[int] = No
     >>> normalise(b"goods 1\\nbids 1\\ndummy 0\\n0 1e3 0 #\\n", round="exact")
     b'goods 1\\nbids 1\\ndummy 0\\n0\\t1000\\t0\\t#\\n'
     """
-    return answer_on("normalise", [text], round, limits_of(steps, total))
+    return answer_on(Task.NORMALISE, [text], round, limits_of(steps, total))
 
 
 def explain(text: TextOrPath, steps: int = STEPS, *, total: Optional[int] = None, round: Rounding = False) -> Rows[Reason]:
@@ -103,7 +103,7 @@ def explain(text: TextOrPath, steps: int = STEPS, *, total: Optional[int] = None
     1 keep 1 ()
     2 packing None (0, 1)
     """
-    return rows_of(answer_on("explain", [text], round, limits_of(steps, total)), reason_of)
+    return rows_of(answer_on(Task.EXPLAIN, [text], round, limits_of(steps, total)), reason_of)
 
 
 def lp(text: TextOrPath, *, round: Rounding = False) -> bytes:
@@ -124,7 +124,7 @@ def lp(text: TextOrPath, *, round: Rounding = False) -> bytes:
      x1
     End
     """
-    return answer_on("lp", [text], round)
+    return answer_on(Task.LP, [text], round)
 
 
 def sizes(text: TextOrPath, steps: int = STEPS, *, total: Optional[int] = None, round: Rounding = False) -> SizesRow:
@@ -133,7 +133,7 @@ def sizes(text: TextOrPath, steps: int = STEPS, *, total: Optional[int] = None, 
     >>> sizes(b"goods 2\\nbids 3\\ndummy 1\\n0 3 0 #\\n1 2 0 #\\n2 4 1 2 #\\n")
     SizesRow(goods=2, bids=3, or_bids=2, xor_bidders=1, dummies=1, kept=2, kept_or_bids=1, kept_xor_bidders=1)
     """
-    return row_of_sizes(answer_on("sizes", [text], round, limits_of(steps, total)))
+    return row_of_sizes(answer_on(Task.SIZES, [text], round, limits_of(steps, total)))
 
 
 def round_prices(text: TextOrPath, exact: bool = False) -> Rounded:
@@ -146,8 +146,8 @@ def round_prices(text: TextOrPath, exact: bool = False) -> Rounded:
     >>> found.changes
     (Change(line=5, word='0.0123456', price='0.012346'),)
     """
-    out, report = rounded(bytes_of(text), bool(exact))
-    return Rounded(out, changes_of(report))
+    out, changes = outputs_on(Task.ROUND, [text], Prices.ROUNDED_EXACTLY if exact else Prices.ROUNDED)
+    return Rounded(out, changes_of(changes))
 
 
 def compare(
@@ -161,7 +161,7 @@ def compare(
     >>> compare(one, b"goods 2\\nbids 3\\ndummy 0\\n0 3 0 #\\n1 4 1 #\\n2 7.5 0 1 #\\n")
     Verdict(same=False, kind='or', where='0,1', left='below 7.5', right='7.5')
     """
-    return verdict_of(answer_on("compare", [left, right], round, limits_of(steps, total)))
+    return verdict_of(answer_on(Task.COMPARE, [left, right], round, limits_of(steps, total)))
 
 
 def diff(
@@ -175,7 +175,7 @@ def diff(
     or (1,) 4 5 1 1
     or (0, 1) None 8.5 None 2
     """
-    return rows_of(answer_on("diff", [left, right], round, limits_of(steps, total)), difference_of)
+    return rows_of(answer_on(Task.DIFF, [left, right], round, limits_of(steps, total)), difference_of)
 
 
 def duplicates(

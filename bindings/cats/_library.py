@@ -1,11 +1,11 @@
-"""The library libcats: where it is, its functions as in cats.h, and how they are called."""
+"""The library libcats: where it is, and its one call, as in cats.h."""
 from __future__ import annotations
 
 import ctypes
 import enum
 import os
-from ctypes import POINTER, byref, c_bool, c_char_p, c_size_t, c_uint8, c_uint16, c_uint32, c_uint64, c_void_p
-from typing import Any, Dict, List, NamedTuple, Optional, Sequence, Tuple
+from ctypes import POINTER, byref, c_bool, c_char, c_char_p, c_size_t, c_uint8, c_uint16, c_uint32, c_uint64, sizeof
+from typing import Any, List, Sequence, Tuple
 
 # The limit on the steps of each search, if none is given: CATS_STEPS.
 STEPS = 1_000_000
@@ -13,19 +13,33 @@ STEPS = 1_000_000
 # What the library takes for no limit on the steps of all searches of a text: CATS_NO_TOTAL.
 NO_TOTAL = 0
 
-# The most bytes that are tried first beside those for each byte of the texts: room for any line on a fault, and what helps.
-ROOM = 512
+
+class Task(enum.IntEnum):
+    """The commands of the program: `enum cats_task`."""
+
+    CHECK = 0
+    FAULT = 1
+    SHOW = 2
+    VALUE = 3
+    REVENUE = 4
+    NORMALISE = 5
+    EXPLAIN = 6
+    ROUND = 7
+    LP = 8
+    COMPARE = 9
+    DIFF = 10
+    DUPLICATES = 11
+    SIZES = 12
 
 
 class Status(enum.IntEnum):
-    """What a function of the library returns: `enum cats_status`."""
+    """What a call returns: `enum cats_status`."""
 
     DONE = 0
     DIFFERENT = 1
     REFUSED = 2
     STEP_LIMIT = 3
     WANT_OF_MEMORY = 4
-    BUFFER_TOO_SMALL = 6
     WRONG_USAGE = 64
 
 
@@ -37,74 +51,27 @@ class Prices(enum.IntEnum):
     ROUNDED_EXACTLY = 2
 
 
-# What stands in C for what a function takes. A second text is one that is compared with the first. Texts are many, one behind the other.
-ARGUMENTS: Dict[str, List[Any]] = {
-    "text": [c_char_p, c_size_t],
-    "texts": [c_char_p, c_size_t, POINTER(c_size_t), c_size_t],
-    "second": [c_char_p, c_size_t],
-    "prices": [c_uint8],
-    "exact": [c_bool],
-    "goods": [POINTER(c_uint16), c_size_t],
-    "bids": [POINTER(c_uint32), c_size_t],
-    "limits": [c_uint64, c_uint64],
-    "out": [c_void_p, c_size_t, POINTER(c_size_t)],
-}
+def struct(**fields: Any) -> Any:
+    """A struct with these fields, in order."""
+    return type("Struct", (ctypes.Structure,), {"_fields_": list(fields.items())})
 
 
-class Size(NamedTuple):
-    """The size of a buffer that always suffices: so many bytes for each byte of the texts, and so many more. `usual` is the number for each byte
-    that mostly suffices, if it is another one. `each` is the number for each of many texts."""
-
-    times: float
-    more: int
-    usual: Optional[float] = None
-    each: int = 0
-
-    def ample(self, length: int, count: int) -> int:
-        return int(self.times * length) + self.each * count + self.more
-
-    def first(self, length: int, count: int) -> int:
-        """What is tried first."""
-        return int((self.times if self.usual is None else self.usual) * length) + self.each * count + min(self.more, ROOM)
-
-
-class Function(NamedTuple):
-    """A function of the library: what it takes before its buffers, in order, and the size of each of these."""
-
-    takes: List[str]
-    sizes: List[Size]
-
-    def arguments(self) -> List[Any]:
-        return [it for name in [*self.takes, *["out"] * len(self.sizes)] for it in ARGUMENTS[name]]
-
-
-# Those of cats.h, by their names without `cats_`.
-FUNCTIONS: Dict[str, Function] = {
-    "check": Function(["text", "prices"], [Size(0, 64)]),
-    "fault": Function(["text"], [Size(0, 512)]),
-    "show": Function(["text", "prices"], [Size(1, 64)]),
-    "revenue": Function(["text", "prices", "bids"], [Size(0, 128)]),
-    "lp": Function(["text", "prices"], [Size(5, 64)]),
-    "value": Function(["text", "prices", "goods", "limits"], [Size(1, 800_000)]),
-    "normalise": Function(["text", "prices", "limits"], [Size(1.5, 64)]),
-    "explain": Function(["text", "prices", "limits"], [Size(4, 64)]),
-    "sizes": Function(["text", "prices", "limits"], [Size(0, 512)]),
-    "duplicates": Function(["texts", "prices", "limits"], [Size(0, 64, each=256)]),
-    "compare": Function(["text", "second", "prices", "limits"], [Size(1, 128)]),
-    "diff": Function(["text", "second", "prices", "limits"], [Size(2, 128)]),
-    "round": Function(["text", "exact"], [Size(2, 64, 1), Size(5, 64, 0)]),
-}
+# What is requested, and a text with its name: `struct cats_request` and `struct cats_text`.
+Request = struct(
+    goods=POINTER(c_uint16), goods_count=c_size_t, bids=POINTER(c_uint32), bids_count=c_size_t, steps=c_uint64, total=c_uint64, task=c_uint8,
+    prices=c_uint8, bound=c_bool, all=c_bool, null=c_bool,
+)
+Text = struct(bytes=c_char_p, length=c_size_t, name=c_char_p, name_length=c_size_t)
 
 
 def load(path: str) -> ctypes.CDLL:
-    """The library at a path, with its functions declared. OSError: there is none."""
+    """The library at a path. OSError: there is none."""
     library = ctypes.CDLL(path)
-    for name, it in {"version": Function([], []), **FUNCTIONS}.items():
+    for name, answer in (("cats_version", c_uint32), ("cats_call", c_uint8)):
         try:
-            function = getattr(library, f"cats_{name}")
+            getattr(library, name).restype = answer
         except AttributeError as error:
-            raise ImportError(f"the library {path} has no function cats_{name}: it is of another version than this package") from error
-        function.argtypes, function.restype = it.arguments(), c_uint32 if name == "version" else c_uint8
+            raise ImportError(f"the library {path} has no function {name}: it is of another version than this package") from error
     return library
 
 
@@ -112,11 +79,11 @@ def find_library() -> ctypes.CDLL:
     """The library: in the folder of this package, as in a wheel; or beside that folder; or where the system looks."""
     package = os.path.dirname(os.path.abspath(__file__))
     beside = os.path.dirname(package)
-    for path in (os.path.join(package, "libcats.so"), os.path.join(beside, "libcats.so"), os.path.join(beside, "libcats.so.1")):
+    for path in (os.path.join(package, "libcats.so"), os.path.join(beside, "libcats.so"), os.path.join(beside, "libcats.so.2")):
         if os.path.exists(path):
             return load_or_raise(path, path)
     try:
-        return load("libcats.so.1")
+        return load("libcats.so.2")
     except OSError:
         return load_or_raise("libcats.so", f"libcats.so in {package} or {beside}, or where the system looks")
 
@@ -130,6 +97,7 @@ def load_or_raise(path: str, where: str) -> ctypes.CDLL:
 
 
 LIBRARY = find_library()
+CALL = LIBRARY.cats_call
 
 
 def check_version(version: str) -> None:
@@ -140,37 +108,64 @@ def check_version(version: str) -> None:
         raise ImportError(f"the library {LIBRARY._name} is of version {found}, and this package of {version}")
 
 
-class Buffer:
-    """Room for an output, and the length that is needed."""
+# ---- calls. All that is passed has its type in C, so the function needs no `argtypes`, by which a call would take twice as long.
 
-    def __init__(self, size: int) -> None:
-        self.buffer, self.size, self.needed = ctypes.create_string_buffer(size), size, c_size_t()
+# The bytes of a buffer that is used again: room for what is printed of a small text, and for any line on a fault, which may name each good.
+ROOM = 32_768
 
-    def arguments(self) -> Tuple[object, ...]:
-        return self.buffer, self.size, byref(self.needed)
-
-    def output(self) -> bytes:
-        return ctypes.string_at(self.buffer, self.needed.value)
-
-    def is_too_small(self) -> bool:
-        return self.needed.value > self.size
+# The buffer for a larger text: so many bytes for each of the text, which mostly suffice.
+TIMES = {Task.SHOW: 1, Task.VALUE: 1, Task.NORMALISE: 1.5, Task.EXPLAIN: 4, Task.ROUND: 1, Task.LP: 5, Task.COMPARE: 1, Task.DIFF: 2}
 
 
-def arguments_of(name: str, texts: Sequence[bytes]) -> List[object]:
-    """The texts as a function takes them."""
-    if "texts" not in FUNCTIONS[name].takes:
-        return [word for text in texts for word in (text, len(text))]
-    joined = b"".join(texts)
-    return [joined, len(joined), (c_size_t * len(texts))(*map(len, texts)), len(texts)]
+class Frame:
+    """What a call on a text or two is made with: a request, texts, and buffers of these sizes. It takes longer to make than the call on a small text,
+    so it is used again."""
+
+    def __init__(self, size: int = ROOM, err_size: int = ROOM) -> None:
+        self.request = Request((c_uint16 * 1)(), 0, (c_uint32 * 1)(), 0, STEPS, NO_TOTAL, 0, 0, True, False, False)
+        texts = (Text * 2)(Text(b"", 0, b"", 0), Text(b"", 0, b"", 0))
+        # the pointer and the length of each text in these, by which they are set in less time than as fields
+        self.texts = [(c_char_p.from_buffer(texts, at), c_size_t.from_buffer(texts, at + Text.length.offset)) for at in (0, sizeof(Text))]
+        self.out: Any = (c_char * size)()
+        self.err: Any = (c_char * err_size)()
+        self.needed, self.err_needed = c_size_t(), c_size_t()
+        outputs = self.out, c_size_t(size), byref(self.needed), self.err, c_size_t(err_size), byref(self.err_needed)
+        # all that is passed, by the number of texts
+        self.words = [(byref(self.request), texts, c_size_t(count), *outputs) for count in range(3)]
 
 
-def call(name: str, texts: Sequence[bytes], words: Sequence[object] = ()) -> Tuple[int, List[bytes]]:
-    """The status of a call on texts and these words, and its outputs. A buffer that is too small is replaced by one of the length that is needed."""
-    function = getattr(LIBRARY, f"cats_{name}")
-    buffers = [Buffer(size.first(sum(map(len, texts)), len(texts))) for size in FUNCTIONS[name].sizes]
-    arguments = [*arguments_of(name, texts), *words]
+# The frames of which no call is made. Calls of several threads, or one within another, as in the handler of a signal, take different ones.
+FREE: List[Frame] = []
+
+
+def call(
+    task: Task, texts: Sequence[bytes], prices: Prices = Prices.AS_WRITTEN, limits: Tuple[int, int] = (STEPS, NO_TOTAL),
+    goods: Sequence[int] = (), bids: Sequence[int] = (),
+) -> Tuple[int, bytes, bytes]:
+    """The status of a request on a text or two, and the outputs. If one was cut, the call is made again with room for all of it."""
+    size = int(sum(map(len, texts)) * TIMES.get(task, 0))
+    try:
+        frame = FREE.pop() if size <= ROOM else Frame(size)
+    except IndexError:
+        frame = Frame()
     while True:
-        status = function(*arguments, *(word for buffer in buffers for word in buffer.arguments()))
-        if status != Status.BUFFER_TOO_SMALL:
-            return status, [buffer.output() for buffer in buffers]
-        buffers = [Buffer(it.needed.value) if it.is_too_small() else it for it in buffers]
+        request = frame.request
+        request.task, request.prices, (request.steps, request.total) = task, prices, limits
+        request.goods_count, request.bids_count = len(goods), len(bids)
+        if goods:
+            request.goods = (c_uint16 * len(goods))(*goods)
+        if bids:
+            request.bids = (c_uint32 * len(bids))(*bids)
+        for (pointer, count), text in zip(frame.texts, texts):
+            pointer.value, count.value = text, len(text)
+        status: int = CALL(*frame.words[len(texts)])
+        needed, err_needed = frame.needed.value, frame.err_needed.value
+        if needed <= len(frame.out) and err_needed <= len(frame.err):
+            break
+        frame = Frame(needed, err_needed)
+    answer = status, frame.out[:needed], frame.err[:err_needed]
+    for pointer, _ in frame.texts:
+        pointer.value = b""
+    if len(frame.out) == ROOM:
+        FREE.append(frame)
+    return answer

@@ -2,14 +2,14 @@
 from __future__ import annotations
 
 import re
-from typing import List
+from typing import List, Tuple
 
 from cats._bids import HEADER_LINES, is_significant
-from cats._library import Status, call
+from cats._library import Prices, Status, Task, call
 from cats.errors import NO_PLACE, Place, error_of
 
-# The lines of cats_fault.
-PLACE = re.compile(r"text:(\d+):(\d+): \w+\n(.*)\n")
+# What is printed of a fault in a text without a name: where it is, its kind and its word, and what helps.
+PLACE = re.compile(rb"1:(\d+):(\d+): .*\n(.*)\n")
 
 # The words that are read in the place of a price that cannot be rounded, by the kind of its fault.
 FAULTY = {b"TooLarge": b"1000000000001", b"TooFine": b"0.0000001"}
@@ -17,35 +17,35 @@ FAULTY = {b"TooLarge": b"1000000000001", b"TooFine": b"0.0000001"}
 
 def place_in(text: bytes) -> Place:
     """The place of the first fault of a text. One that is longer than is read has none."""
-    found = PLACE.fullmatch(first_output("fault", text).decode("ascii"))
-    return Place(int(found[2]), word_at(text, int(found[1]), int(found[2])), found[3]) if found else NO_PLACE
+    found = PLACE.fullmatch(outputs_of(Task.FAULT, text, Prices.AS_WRITTEN)[0])
+    return Place(int(found[2]), word_at(text, int(found[1]), int(found[2])), found[3].decode("ascii")) if found else NO_PLACE
 
 
-def place_in_rounded(text: bytes, line: int, exact: bool) -> Place:
+def place_in_rounded(text: bytes, line: int, prices: Prices) -> Place:
     """The place of the first fault of a text whose prices are rounded, which is on this line. The library does not answer that text. So prices
     before that line are replaced by one without a fault, and that of the line by one that is judged alike."""
     lines = text.split(b"\n")
     for at in [at for at, it in enumerate(lines[:line]) if is_significant(it)][HEADER_LINES:]:
         words = words_of(lines[at])
-        words[1:2] = [judged_price(word, exact) if at + 1 == line else b"0" for word in words[1:2]]
+        words[1:2] = [judged_price(word, prices) if at + 1 == line else b"0" for word in words[1:2]]
         lines[at] = b" ".join(words) + (b"\r" if lines[at].endswith(b"\r") else b"")
     place = place_in(b"\n".join(lines))
     return place._replace(text=word_at(text, line, place.word)) if place.word else place
 
 
-def judged_price(price: bytes, exact: bool) -> bytes:
+def judged_price(price: bytes, prices: Prices) -> bytes:
     """A price that is judged as this one is once it is rounded."""
     text = b"goods 1\nbids 1\ndummy 0\n0 %b 0 #\n" % price
-    out = first_output("round", text, exact)
-    return b"0" if out.startswith(b"goods ") else FAULTY.get(out.split()[-1], price)
+    out, err = outputs_of(Task.ROUND, text, prices)
+    return b"0" if out else FAULTY.get(err.split()[-1], price)
 
 
-def first_output(name: str, text: bytes, *words: object) -> bytes:
-    """The output of a call, or the line of its refusal. WantOfMemory: memory was refused."""
-    status, outputs = call(name, [text], words)
+def outputs_of(task: Task, text: bytes, prices: Prices) -> Tuple[bytes, bytes]:
+    """Both outputs of a call. WantOfMemory: memory was refused."""
+    status, out, err = call(task, [text], prices)
     if status == Status.WANT_OF_MEMORY:
-        raise error_of(status, outputs[0])
-    return outputs[0]
+        raise error_of(status, b"")
+    return out, err
 
 
 def word_at(text: bytes, line: int, word: int) -> bytes:

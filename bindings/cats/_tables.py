@@ -1,17 +1,12 @@
 """What the library prints, as Python data."""
 from __future__ import annotations
 
-import re
 from decimal import Decimal
 from typing import Callable, Iterator, List, NamedTuple, Optional, Sequence, Tuple, TypeVar, Union, overload
 
 from cats._bids import price_of
-from cats.errors import WantOfMemory
 
 Row = TypeVar("Row", covariant=True)
-
-# The line of a price that was rounded.
-CHANGE = re.compile(r"line (\d+): (.*) rounded to (\S+)")
 
 
 class Sizes(NamedTuple):
@@ -163,8 +158,8 @@ def sizes_of(printed: bytes) -> Sizes:
 
 
 def row_of_sizes(printed: bytes) -> SizesRow:
-    """Eight numbers, with a tab after each."""
-    return SizesRow(*map(int, printed.split(b"\t")[:-1]))
+    """A header, and a row of eight numbers, an empty cell, and the name of the text."""
+    return SizesRow(*map(int, printed.split(b"\n")[1].split(b"\t")[:8]))
 
 
 def value_of(printed: bytes) -> Value:
@@ -225,12 +220,6 @@ def difference_of(line: bytes) -> Difference:
 
 
 def changes_of(printed: bytes) -> Tuple[Change, ...]:
-    """A line for each price that was rounded. In their place memory may be wanted."""
-    return tuple(map(change_of, printed.decode("ascii").splitlines()))
-
-
-def change_of(line: str) -> Change:
-    found = CHANGE.fullmatch(line)
-    if not found:
-        raise WantOfMemory(line)
-    return Change(int(found[1]), found[2], found[3])
+    """For each price whose value changed, `line L: WORD rounded to PRICE`."""
+    words = map(str.split, printed.decode("ascii").splitlines())
+    return tuple(Change(int(line[:-1]), word, price) for _, line, word, _, _, price in words)

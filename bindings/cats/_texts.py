@@ -3,12 +3,11 @@ from __future__ import annotations
 
 import mmap
 import os
-from ctypes import c_uint16, c_uint32, sizeof
 from functools import partial
-from typing import Any, Callable, Iterable, List, Literal, Optional, Sequence, Union
+from typing import Any, Callable, Iterable, List, Literal, Optional, Sequence, Tuple, Union
 
 from cats._bids import plain
-from cats._library import NO_TOTAL, Prices, Status, call
+from cats._library import NO_TOTAL, STEPS, Prices, Status, Task, call
 from cats._places import place_in, place_in_rounded
 from cats.errors import CatsError, NoSuchBid, NoSuchGood, Place, RefusedText, error_of, shown
 
@@ -51,26 +50,37 @@ def prices_of(round: Rounding) -> Prices:
     return Prices.ROUNDED_EXACTLY if round == "exact" else Prices.ROUNDED if round else Prices.AS_WRITTEN
 
 
-def rounded(text: bytes, exact: bool) -> List[bytes]:
-    """A text with its prices rounded, and the lines on those that changed."""
-    return outputs_on("round", [text], Prices.ROUNDED_EXACTLY if exact else Prices.ROUNDED, [exact])
+def answer_on(
+    task: Task, texts: Sequence[TextOrPath], round: Rounding, limits: Tuple[int, int] = (STEPS, NO_TOTAL), goods: Sequence[int] = (),
+    bids: Sequence[int] = (),
+) -> bytes:
+    """What is printed of texts, which are read so."""
+    return outputs_on(task, texts, prices_of(round), limits, goods, bids)[0]
 
 
-def answer_on(name: str, texts: Sequence[TextOrPath], round: Rounding, words: Sequence[object] = ()) -> bytes:
-    """The output of a call on texts, which are read so, and these words."""
-    prices = prices_of(round)
-    return outputs_on(name, list(map(bytes_of, texts)), prices, [prices, *words])[0]
-
-
-def outputs_on(name: str, texts: Sequence[bytes], prices: Prices, words: Sequence[object]) -> List[bytes]:
-    """The outputs of a call on texts, which are read so. Raises an exception for what is refused, whose line may be behind cells."""
-    status, outputs = call(name, texts, words)
-    if status in (Status.DONE, Status.DIFFERENT):
-        return outputs
-    fault = error_of(status, outputs[0].rpartition(b"\t")[2])
+def outputs_on(
+    task: Task, given: Sequence[TextOrPath], prices: Prices, limits: Tuple[int, int] = (STEPS, NO_TOTAL), goods: Sequence[int] = (),
+    bids: Sequence[int] = (),
+) -> Tuple[bytes, bytes]:
+    """Both outputs of a call on texts, which are read so. Raises an exception for what is refused."""
+    texts = [it if type(it) is bytes else bytes_of(it) for it in given]
+    status, out, err = call(task, texts, prices, limits, goods, bids)
+    if status <= Status.DIFFERENT:
+        return out, err
+    fault = error_of(status, fault_in_table(out) if task == Task.SIZES and out else last_line(err))
     if isinstance(fault, RefusedText):
         fault._find = finder(texts[fault.which == "second"], fault.line, prices)
     raise fault
+
+
+def fault_in_table(table: bytes) -> bytes:
+    """The fault of the only row of `sizes`, whose last cell is the name of its text."""
+    return table.split(b"\t")[-2]
+
+
+def last_line(printed: bytes) -> bytes:
+    """That of the fault. Before it may be lines on prices that were rounded."""
+    return printed[:-1].rpartition(b"\n")[2]
 
 
 def finder(text: bytes, line: Optional[int], prices: Prices) -> Optional[Callable[[], Place]]:
@@ -79,31 +89,31 @@ def finder(text: bytes, line: Optional[int], prices: Prices) -> Optional[Callabl
         return None
     if prices == Prices.AS_WRITTEN:
         return partial(place_in, text)
-    return partial(place_in_rounded, text, line, prices == Prices.ROUNDED_EXACTLY)
+    return partial(place_in_rounded, text, line, prices)
 
 
-def array_of(kind: Any, lacking: Callable[[int], CatsError], numbers: Iterable[int]) -> List[object]:
-    """An array of numbers of this kind, and its length. No file has a number that the kind does not have."""
+def numbers_of(bits: int, lacking: Callable[[int], CatsError], numbers: Iterable[int]) -> List[int]:
+    """Numbers that have so many bits. No file has another one."""
     listed = list(map(plain, numbers))
     for number in listed:
-        if not 0 <= number < 2 ** (8 * sizeof(kind)):
+        if not 0 <= number < 2**bits:
             raise lacking(number)
-    return [(kind * len(listed))(*listed), len(listed)]
+    return listed
 
 
 # Goods, and the numbers of bids, as the library takes them.
-goods_of = partial(array_of, c_uint16, NoSuchGood)
-bids_of = partial(array_of, c_uint32, NoSuchBid)
+goods_of = partial(numbers_of, 16, NoSuchGood)
+bids_of = partial(numbers_of, 32, NoSuchBid)
 
 
-def limits_of(steps: int, total: Optional[int]) -> List[int]:
+def limits_of(steps: int, total: Optional[int]) -> Tuple[int, int]:
     """The limits as the library takes them."""
     steps = plain(steps)
     if not 0 <= steps < LIMIT_END:
         raise ValueError(f"steps is a number from 0 to 2**64 - 1, and not {shown(steps)}")
     if total is None:
-        return [steps, NO_TOTAL]
+        return steps, NO_TOTAL
     total = plain(total)
     if not 1 <= total < LIMIT_END:
         raise ValueError(f"total is None or a number from 1 to 2**64 - 1, and not {shown(total)}")
-    return [steps, total]
+    return steps, total

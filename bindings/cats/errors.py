@@ -4,11 +4,13 @@ from __future__ import annotations
 import re
 from typing import Any, Callable, NamedTuple, Optional, Tuple
 
+from cats._library import Status
+
 # The line of a step limit, by a call that names the bid, as the program prints it.
-HEAVY = re.compile(r"(?:(first|second): )?step limit of (\d+)(?: \((\d+) in all\))? at bid (\d+): ([\d,]*)(?:,\.\. \((\d+) goods\))?\n")
+HEAVY = re.compile(r"(?:(first|second): )?step limit of (\d+)(?: \((\d+) in all\))? at bid (\d+): ([\d,]*)(?:,\.\. \((\d+) goods\))?")
 
 # That of any other fault.
-FAULT = re.compile(r"(?:(first|second): )?(?:line (\d+): (\w+)|step limit at ([\d,]*)|(good|bid) (\d+) out of range|(want of memory)|(\w+))\n")
+FAULT = re.compile(r"(?:(first|second): )?(?:line (\d+): (\w+)|step limit at ([\d,]*)|(good|bid) (\d+) out of range|(want of memory)|(\w+))")
 
 
 # A number of so many digits is in no file. Of a longer one, which Python may refuse to print, less is shown.
@@ -155,8 +157,8 @@ def heavy_error_of(which: Optional[str], steps: str, total: Optional[str], bid: 
 
 
 def error_of(status: int, printed: bytes) -> CatsError:
-    """The exception for a status and the line of its fault."""
-    line = printed.decode("ascii", "replace")
+    """The exception for a status and the line of its fault, which may be none if memory was refused."""
+    line = printed.decode("ascii", "replace") or ("want of memory" if status == Status.WANT_OF_MEMORY else "")
     heavy = HEAVY.fullmatch(line)
     if heavy:
         return heavy_error_of(*heavy.groups())

@@ -8,15 +8,15 @@ from decimal import Decimal
 from functools import partial
 
 import pytest
-from beside import answer_of_program, in_parallel, write_texts
+from beside import in_parallel, run_program, write_texts
+from functions import TAKEN
 from texts import BIDS, made_texts, spelled_texts
 
 import cats
 import cats._auction
-from cats._library import FUNCTIONS
 
 # The functions of one text that are methods.
-METHODS = [name for name, it in FUNCTIONS.items() if "second" not in it.takes and callable(getattr(cats.Auction, name, None))]
+METHODS = [name for name, taken in TAKEN.items() if "left" not in taken and callable(getattr(cats.Auction, name, None))]
 
 TWO = [cats.Bid(0, Decimal("7.5"), (0, 1)), cats.Bid(1, Decimal(3), (0,), 2)]
 
@@ -35,7 +35,7 @@ def shown(program, root, tmp_path_factory):
     """Texts, with what `cats show` answers."""
     texts = [path.read_bytes() for path in sorted(root.glob("examples/**/*.[ct]*")) if path.is_file()] + made_texts() + spelled_texts()
     paths = write_texts(tmp_path_factory.mktemp("shown"), texts)
-    return list(zip(texts, in_parallel(answer_of_program, [(program, ["show"], [path]) for path in paths])))
+    return list(zip(texts, in_parallel(run_program, [(program, ["show", path]) for path in paths])))
 
 
 def test_bids_are_those_that_the_program_shows(shown):
@@ -50,7 +50,7 @@ def test_bids_are_those_that_the_program_shows(shown):
         else:
             with pytest.raises(cats.RefusedText) as refused:
                 cats.read(text)
-            assert f"{refused.value}\n".encode() == own.out
+            assert f"{refused.value}\n".encode() == own.err
     assert statuses.count(0) > 500 and statuses.count(2) > 400
 
 
@@ -78,7 +78,7 @@ def test_only_what_is_used_is_read(monkeypatch):
 
 def words_of(name, auction):
     """The goods or bids that a function of the library takes: as many as there are goods."""
-    return [range(auction.goods) for kind in ("goods", "bids") if kind in FUNCTIONS[name].takes]
+    return [range(auction.goods) for kind in ("goods", "bids") if kind in TAKEN[name]]
 
 
 def test_methods_answer_as_the_functions(root, tmp_path):
@@ -100,12 +100,12 @@ def test_methods_answer_as_the_functions(root, tmp_path):
 
 def test_each_function_is_a_method():
     """Or an auction has something else of its name, or does what these do in other ways."""
-    assert {name for name in FUNCTIONS if not hasattr(cats.Auction, name)} == {"check", "fault", "show", "round", "compare", "duplicates"}
+    assert {name for name in TAKEN if not hasattr(cats.Auction, name)} == {"check", "fault", "show", "round", "compare", "duplicates"}
 
 
 def test_methods_keep_the_limits(root):
     auction = cats.read(root / "examples/three_reach.cats")
-    calls = [partial(getattr(auction, name), *words_of(name, auction)) for name in METHODS if "limits" in FUNCTIONS[name].takes]
+    calls = [partial(getattr(auction, name), *words_of(name, auction)) for name in METHODS if "steps" in TAKEN[name]]
     for call in (*calls, partial(auction.same_as, auction), partial(auction.diff, auction)):
         for limits in ({"steps": 3}, {"total": 2}):
             with pytest.raises(cats.StepLimit):

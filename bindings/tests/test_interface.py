@@ -20,6 +20,9 @@ enum status { DONE = 0, REFUSED };
 uint8_t x_read(const uint8_t *text,
                size_t length);
 void x_end(void);
+static inline uint8_t x_read_all(struct pair it) {
+    return x_read(0, it.one);
+}
 #ifdef __cplusplus
 }
 #endif
@@ -44,7 +47,7 @@ def test_what_is_declared(script):
     assert script["interface"](HEADER) == DECLARED
 
 
-@pytest.mark.parametrize("old, new", [("// two", "// 2"), ('"0.2.0"', '"0.3.0"'), ("text,\n    ", "text, "), ("void x_end(void);\n", "\nvoid  x_end(void);\n\n")])
+@pytest.mark.parametrize("old, new", [("// two", "// 2"), ("it.one", "it.other"), ('"0.2.0"', '"0.3.0"'), ("text,\n    ", "text, "), ("void x_end(void);\n", "\nvoid  x_end(void);\n\n")])
 def test_the_same_interface(script, old, new):
     """Comments, its own version and blanks are no part of it, so it needs nothing new; but nothing may fall."""
     judge, header = script["judge"], HEADER.replace(old, new)

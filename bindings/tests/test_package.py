@@ -8,15 +8,17 @@ import os
 import pkgutil
 import re
 import shutil
+import signal
 import subprocess
 import sys
 import tracemalloc
 import types
 import typing
+from concurrent.futures import ThreadPoolExecutor
 from decimal import Decimal
 
 import pytest
-from functions import OF_TEXT
+from functions import OF_TEXT, TAKEN
 from texts import BIDS
 
 import cats
@@ -47,10 +49,22 @@ def test_no_name_hides_one_of_python():
     assert "round" not in star and star["Auction"] is cats.Auction
 
 
-def test_each_function_of_the_library_has_one_of_its_name(root):
+def test_each_command_has_a_function():
     """But `fault`, which the fields of a RefusedText are made of, and `round`, whose name is one of Python's."""
-    declared = re.findall(r"^uint8_t cats_(\w+)\(", (root / "bindings/cats.h").read_text(), re.M)
-    assert sorted(declared) == sorted(_library.FUNCTIONS) and {*declared} - {*cats.__all__} == {"fault", "round"}
+    assert TAKEN.keys() - {*cats.__all__} == {"fault", "round"}
+
+
+def test_what_cats_h_declares(root):
+    """Its numbers and the fields of its structs are those here, and each command is a function."""
+    header = re.sub(r"//.*", "", (root / "bindings/cats.h").read_text())
+    for kind in (_library.Task, _library.Status, _library.Prices):
+        declared = re.search(rf"enum cats_{kind.__name__.lower()} {{(.*?)}};", header, re.S)[1]
+        assert {name: int(number) for name, number in re.findall(r"CATS_(\w+) = (\d+)", declared)} == dict(kind.__members__)
+    for name, kind in (("request", _library.Request), ("text", _library.Text)):
+        declared = re.search(rf"struct cats_{name} {{(.*?)\n}};", header, re.S)[1]
+        assert re.findall(r"(\w+);", declared) == [name for name, _ in kind._fields_]
+    assert {*re.findall(r"uint8_t cats_(\w+)\(", header)} - {"call", "run", "run_usual"} == TAKEN.keys()
+    assert [re.search(rf"#define CATS_{name} (\d+)", header)[1] for name in ("STEPS", "NO_TOTAL")] == [str(_library.STEPS), str(_library.NO_TOTAL)]
 
 
 def test_version(root):
@@ -169,8 +183,54 @@ def test_room():
     _, most = tracemalloc.get_traced_memory()
     tracemalloc.stop()
     assert rounded == (text, ()) and most < 2.5 * len(text)
-    many = b"goods 1\nbids 99\ndummy 0\n" + b"".join(b"%d 1.00000049 0 #\n" % at for at in range(99))
-    assert len(cats.round_prices(many).changes) == 99
+
+
+def test_outputs_that_are_cut():
+    """Each of them is larger than what is tried first."""
+    lines = [b"%d 1.00000049 0 #\n" % at for at in range(2_000)]
+    many = cats.round_prices(b"goods 1\nbids 2000\ndummy 0\n" + b"".join(lines))
+    assert len(many.changes) == 2_000 and many.changes[-1] == (2003, "1.00000049", "1") and cats.check(many.text).bids == 2_000
+    found = cats.value(b"goods 1\nbids 1\ndummy 9999\n0 2.50 0 3 #\n", [0])
+    assert len(found.xor) == 9_999 and found == cats.value(b"goods 1\nbids 1\ndummy 9999\n0 2.50 0 3 #\n", [0])
+    bundle = b" ".join(b"%d" % good for good in range(4_096))
+    with pytest.raises(cats.StepLimit) as limit:
+        cats.normalise(b"goods 4096\nbids 1\ndummy 0\n0 3 " + bundle + b" #\n", 0)
+    assert limit.value.bundle == tuple(range(4_096))
+
+
+# ---- what a call is made with is used again
+
+def test_nothing_is_kept():
+    """No call keeps its text."""
+    text = BIDS + b"%" * 1_000
+    count = sys.getrefcount(text)
+    for call in CALLS.values():
+        call(text)
+    assert sys.getrefcount(text) == count
+
+
+def test_calls_at_once():
+    """Calls of other threads, or one in the handler of a signal, change nothing of a call."""
+    texts = [BIDS.replace(b" 4 1 ", b" %d %s " % (number, b"0 1" if number % 2 else b"1")) for number in range(50)]
+    wanted = [(cats.show(text), cats.value(text, [number % 2]), cats.revenue(text, [1])) for number, text in enumerate(texts)]
+
+    def make_calls(_):
+        for number, text in enumerate(texts * 20):
+            number %= len(texts)
+            assert (cats.show(text), cats.value(text, [number % 2]), cats.revenue(text, [1])) == wanted[number]
+
+    made = []
+    signal.signal(signal.SIGALRM, lambda *_: made.append(cats.value(texts[0], [0, 1])))
+    signal.setitimer(signal.ITIMER_REAL, 0.001, 0.001)
+    try:
+        with ThreadPoolExecutor(8) as pool:
+            others = pool.map(make_calls, range(8))
+            make_calls(None)
+            assert list(others) == [None] * 8
+    finally:
+        signal.setitimer(signal.ITIMER_REAL, 0)
+        signal.signal(signal.SIGALRM, signal.SIG_DFL)
+    assert len(made) > 10 and len(set(made)) == 1
 
 
 # ---- where the library is looked for
@@ -193,7 +253,7 @@ def installed(library, tmp_path):
 def test_the_library_is_found(installed, library, tmp_path):
     system = tmp_path / "system"
     system.mkdir()
-    places = [(system, "libcats.so"), (system, "libcats.so.1"), (installed, "libcats.so.1"), (installed, "libcats.so"), (installed / "cats", "libcats.so")]
+    places = [(system, "libcats.so"), (system, "libcats.so.2"), (installed, "libcats.so.2"), (installed, "libcats.so"), (installed / "cats", "libcats.so")]
     for folder, name in places:
         shutil.copy(library / "libcats.so", folder / name)
         found = run_beside(installed, LD_LIBRARY_PATH=str(system))

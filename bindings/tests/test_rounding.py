@@ -1,35 +1,12 @@
-"""With `round` a call is that on the text that `round_prices` answers."""
+"""With `round` a call is that on the text that `round_prices` answers, of each function. Beside the program it is tried in test_answers.py."""
 import pytest
 from functions import OF_PAIRS, OF_TEXT
-from texts import BIDS, made_texts
+from texts import BIDS
 
 import cats
 
 # Its prices are valid once they are rounded, and the value of one changes.
 FINE = BIDS.replace(b" 3 ", b" 3e0 ").replace(b" 4 ", b" 4.0000004 ")
-
-
-def answer_of(call):
-    try:
-        return call()
-    except cats.CatsError as error:
-        return type(error), str(error)[len(f"{error.which}: ") if error.which else 0 :]
-
-
-def is_refused(answer):
-    return answer[:1] == (cats.RefusedText,)
-
-
-@pytest.mark.parametrize("call", OF_TEXT.values(), ids=OF_TEXT)
-@pytest.mark.parametrize("round", [True, "exact"])
-def test_calls_on_rounded_texts(call, round):
-    refused = refused_rounded = 0
-    for text in [FINE, *made_texts()]:
-        found = answer_of(lambda: call(text, round=round))
-        assert found == answer_of(lambda: call(cats.round_prices(text, exact=round == "exact").text))
-        refused += is_refused(answer_of(lambda: call(text)))
-        refused_rounded += is_refused(found)
-    assert refused_rounded < refused
 
 
 @pytest.mark.parametrize("call", OF_TEXT.values(), ids=OF_TEXT)

@@ -24,7 +24,7 @@ BEHIND = {"Goods": ("0 1", "0 4095"), "Bids": ("1 0", "70000")}
 
 def lines():
     """Command lines of each command of the program: without options, with each that has a row above, and with each word behind the files."""
-    for name, arguments, _ in runpy.run_path(str(pathlib.Path(__file__).resolve().parents[2] / "docs/tables"))["commands"]():
+    for name, arguments in runpy.run_path(str(pathlib.Path(__file__).resolve().parents[2] / "docs/tables"))["commands"]():
         named = arguments.split(", ")
         files = 0 if "Files" in named else named.count("File") + named.count("SecondFile")
         behind = next((BEHIND[it] for it in named if it in BEHIND), ("",))

@@ -1,5 +1,4 @@
 -- What the contracts of this crate cite.
 pub mod Calls
 pub mod Examples
-pub mod Prices
 pub mod Totals

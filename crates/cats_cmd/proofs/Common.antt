@@ -87,9 +87,7 @@ pub use Rattle.command_line.specs.declared.request.NoRequest.{NoRequest}
 pub use Rattle.command_line.specs.declared.request.NoRequest.TheVariants.{WrongUsage, NoMemory}
 pub use Rattle.command_line.specs.declared.request.Prices.{Prices}
 pub use Rattle.command_line.specs.declared.request.Prices.TheVariants.{AsWritten}
-pub use Rattle.commands.proofs.JudgingTexts.{zip_push, text_within_limit, no_fault_made, refused_bundle}
 pub use Rattle.commands.proofs.Sizing.{heavy_bid}
-pub use Rattle.commands.proofs.Unrounded.{rounding_refused}
 pub use Rattle.commands.specs.Commands.{Commands, text_of}
 pub use Rattle.commands.specs.ComparisonTexts.{difference_text, side_text}
 pub use Rattle.commands.specs.DiffTexts.{diff_text, goods_rows}

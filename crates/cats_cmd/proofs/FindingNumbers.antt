@@ -2,8 +2,16 @@
 -- limit refused.
 use Rattle.cats_cmd.proofs.Common.{◌≡◌, ℕ, ◌<◌, List, [], ◌∷◌, ◌++◌, length, ap, ◌∙◌, subst, append-nil, Global, Vec, AllByRecursion, AllZip, flat_map}
 use Rattle.cats_cmd.proofs.Common.{flat_map-append, length-map, map-append, AllZip-long, All-from_recursion, slice_get_within, PlainFile, IsPlainFile}
-use Rattle.cats_cmd.proofs.Common.{AddsText, IsFirstNumber, TextIndex, TellsRelated, first_number_stays, index_of_more, number_of_more, zip_push, found_paths}
+use Rattle.cats_cmd.proofs.Common.{AddsText, IsFirstNumber, TextIndex, TellsRelated, first_number_stays, index_of_more, number_of_more, found_paths}
 use Rattle.cats_cmd.proofs.Common.{KeepsNumbers, Judgement, All}
+
+-- two lists that are as long, with one element more each
+zip_push : {X Y : Type 0} (R S : X → Y → Type 0) (xs : List X) (ys : List Y) (x : X) (y : Y) → ((a : X) (b : Y) → R a b → S a b) → AllZip R xs ys → S x y
+    → AllZip S (xs ++ x ∷ []) (ys ++ y ∷ [])
+zip_push R S [] [] x y weaker h s = (s, tt)
+zip_push R S [] (b ∷ ys) x y weaker h s = absurd h
+zip_push R S (a ∷ xs) [] x y weaker h s = absurd h
+zip_push R S (a ∷ xs) (b ∷ ys) x y weaker h s = (weaker a b h.0, zip_push R S xs ys x y weaker h.1 s)
 
 -- files, of which those are related that have one text
 module _ (text_of : PlainFile → List ℕ) (Related : PlainFile → PlainFile → Type 0) where

@@ -1,8 +1,8 @@
 -- The file at one path: what reading its input says of it, in the words of the run.
 use Rattle.cats_cmd.proofs.Common.{◌≡◌, ℕ, List, [], ◌∷◌, ◌++◌, Option, None, Some, refl, ap, ap₂, subst, inl, inr, Global, Vec, PlainFile, IsPlainFile}
 use Rattle.cats_cmd.proofs.Common.{Prices, SearchOptions, fault_at, Kind, ReadFault, or_atoms_of, first_refused, RefusesAs, canonical_text, AddsText, IsText}
-use Rattle.cats_cmd.proofs.Common.{normalised_file, refusal_by_kind, refusal_of, CanonFault, Read, StepLimit, Memory, Only, text_within_limit, no_fault_made}
-use Rattle.cats_cmd.proofs.Common.{refused_bundle, heavy_bid, found_paths, HeavyBid, with_bid, exceeds_at, text_unless_refused, IsPriced, PricedGives}
+use Rattle.cats_cmd.proofs.Common.{normalised_file, refusal_by_kind, refusal_of, CanonFault, Read, StepLimit, Memory, Only}
+use Rattle.cats_cmd.proofs.Common.{heavy_bid, found_paths, HeavyBid, with_bid, exceeds_at, text_unless_refused, IsPriced, PricedGives}
 use Rattle.cats_cmd.proofs.Common.{PricedRefuses, AddsJudgement, AddsOpened, AddsRefused, KeepsGroups, Judgement, IsHeavy, IsJudged, IsUnjudged, JudgesAs}
 use Rattle.cats_cmd.proofs.Common.{JudgesInput, CannotOpen, NotOpened, Run, PricedInput, Refused, files_if_heavy, files_if_judged, heavy_files, heavy_paths}
 use Rattle.cats_cmd.proofs.Common.{judged_files, judged_paths, paths_if_heavy, paths_if_judged, Groups, AreSameFiles, AreAlike, unsearched_text}
@@ -10,6 +10,21 @@ use Rattle.cats_cmd.proofs.Common.{unsearched_texts_tell, canonical_texts_tell, 
 use Rattle.cats_text.specs.declared.read_fault.Kind.TheVariants.{Memory as NoMemory}
 use Rattle.cats_cmd.proofs.Skipping.{groups_skip}
 use Rattle.cats_cmd.proofs.FindingNumbers.{judgement_more, judgement_skipped, numbers_more}
+use Rattle.canon.specs.Normalising.{ExceedsSteps, IsNoFile, unless_refused}
+
+-- ---- refused bundles, by what normalising a file gives
+
+text_within_limit : (file : PlainFile) (heavy : Option (List ℕ)) (text : List ℕ) → unless_refused file heavy ≡ IsText text → heavy ≡ None
+text_within_limit file None text is = refl
+text_within_limit file (Some goods) text is = cc
+
+no_fault_made : (file : PlainFile) (heavy : Option (List ℕ)) (why : ReadFault) → unless_refused file heavy ≡ IsNoFile why → ⊥
+no_fault_made file None why is = cc
+no_fault_made file (Some goods) why is = cc
+
+refused_bundle : (file : PlainFile) (heavy : Option (List ℕ)) (goods : List ℕ) → unless_refused file heavy ≡ ExceedsSteps goods → heavy ≡ Some goods
+refused_bundle file None goods is = cc
+refused_bundle file (Some heavy) goods is = cc
 
 -- ---- one input
 

@@ -27,4 +27,5 @@ mod RunsOfLists
 mod RunsOfPaths
 pub mod Common
 pub mod Sending
+pub mod OneText
 mod Unasked

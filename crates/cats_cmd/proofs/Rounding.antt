@@ -1,10 +1,27 @@
 -- `cats round`: the prices that were reported so far, and the ways in which the run ends.
-use Rattle.cats_cmd.proofs.Common.{◌≡◌, ◌<◌, ◌+◌, ℕ, List, [], ◌∷◌, length, take, map, get_or, refl, Option, Result, Ok, Err, inl, IsErrAnd, map-append}
+use Rattle.cats_cmd.proofs.Common.{◌≡◌, ◌<◌, ◌+◌, ℕ, List, [], ◌∷◌, length, take, map, get_or, refl, Option, Result, Ok, Err, inl, inr, IsErrAnd, map-append}
 use Rattle.cats_cmd.proofs.Common.{take_more, Watched, ReadFault, refusal_of, Only, IsRounded, rounded_text, plain_change, plain_changes, FinePrices}
 use Rattle.cats_cmd.proofs.Common.{RoundedPrice, RoundedText, IsUnreadStream, ReadsAll, rounded_line, IsUnrounded, Rounds, SendsAs, Reports, ReportsAll}
 use Rattle.cats_cmd.proofs.Common.{RunFault, Refused, Sent}
 use Rattle.cats_cmd.proofs.JudgingPaths.{reports_more}
 use Rattle.cats_cmd.proofs.ReadingBytes.{unread_stream}
+use Rattle.cats_cmd.proofs.Common.{Some, Kind, first_fault, first_fault-of_bytes, refusal_by_kind, CanonFault, Read, Memory}
+use Rattle.cats_text.specs.declared.read_fault.Kind.TheVariants.{Memory as NoMemory}
+use Rattle.rounding.specs.Answers.{RoundAnswer, WantsMemoryToRound}
+
+-- ---- why a text is not rounded
+
+module _ (P : CanonFault → Type 0) (fine : FinePrices) (text : List ℕ)
+    (first : (fault : ReadFault) → first_fault (rounded_text fine text) ≡ Some fault → P (Read fault)) (memory : WantsMemoryToRound fine text → P Memory)
+  where
+    by_kind : (why : ReadFault) (kind : Kind) → why.kind ≡ kind → first_fault (rounded_text fine text) ≡ Some why → P (refusal_by_kind why kind)
+    by_kind why NoMemory is found = absurd ((rw found at (first_fault-of_bytes (rounded_text fine text))).1 is)
+    by_kind why kind is found = first why found
+
+    -- the rounded text has a fault, or memory is refused
+    pub rounding_refused : (why : ReadFault) → RoundAnswer fine text (Err why) → P (refusal_of why)
+    rounding_refused why (inl found) = by_kind why why.kind refl found
+    rounding_refused why (inr wants) = rw wants.0 (memory wants.1)
 
 -- ---- reports
 

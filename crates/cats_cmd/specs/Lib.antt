@@ -4,6 +4,7 @@ pub mod RequestErrors
 pub mod Runs
 pub mod Escaping
 pub mod PricedInputs
+pub mod OneText
 pub mod DuplicateTexts
 pub mod Paths
 pub mod PathLists

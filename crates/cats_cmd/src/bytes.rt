@@ -10,7 +10,7 @@ use std::alloc::Global;
 use std::io::Read;
 
 /// How many bytes are read at once.
-const PIECE: usize = 65_536;
+const PIECE: usize = 16_384;
 
 /// Reads a stream to its end. No more than `MAX_STREAM` bytes are kept.
 pub(crate) fn read_bytes<R: Read>(

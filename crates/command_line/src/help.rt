@@ -2,7 +2,7 @@
 //! from the caller.
 
 /// The version of the program.
-pub const VERSION: &str = "0.2.0";
+pub const VERSION: &str = "0.3.0";
 
 /// The help of the program, or of a subcommand.
 #[derive(Clone, Copy)]

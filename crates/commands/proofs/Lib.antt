@@ -5,7 +5,6 @@ pub mod Explanations
 pub mod ComparedFiles
 pub mod BidNumbers
 pub mod BidsOfFiles
-pub mod Unrounded
 pub mod ByNumber
 mod Numbering
 mod Bundling
@@ -14,8 +13,3 @@ mod Printing
 mod Pairing
 mod NamedBids
 pub mod Sizing
-pub mod JudgingTexts
-pub mod Refusing
-pub mod Given
-pub mod SmallTexts
-pub mod Putting

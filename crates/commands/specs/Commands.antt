@@ -26,15 +26,6 @@ abbrev pub text_of : Output → List ℕ
 text_of (Text text) = text.items
 text_of (File file) = layout file
 
--- memory is refused for what is answered
-abbrev pub IsWantOfMemory : RunFault → Type 0
-IsWantOfMemory fault = fault ≡ Refused Only Memory
-
--- a status and a text of which this is said, unless memory is refused for them
-abbrev pub AnswersBy : (ℕ → List ℕ → Type 0) → Result Answer RunFault → Type 0
-AnswersBy Says (Ok answer) = Says answer.status (text_of answer.output)
-AnswersBy Says (Err fault) = IsWantOfMemory fault
-
 -- the bid that is named, and its bundle
 abbrev pub outcome_of_heavy_bid : HeavyBid → Outcome
 outcome_of_heavy_bid heavy = ExceedsAtBid heavy.steps heavy.total heavy.number heavy.goods.items

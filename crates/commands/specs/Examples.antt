@@ -21,6 +21,14 @@ xor_ladder = record {
   bids = bid 5000000 (0 ∷ []) (Some 0) ∷ bid 1500000 (1 ∷ []) None ∷ bid 6000000 (0 ∷ 1 ∷ []) (Some 0) ∷ [];
 }
 
+-- bids for two goods of three each, which share one, and a bid for all three
+abbrev pub crossing_bids : PlainFile
+crossing_bids = record {
+  goods = 3;
+  dummy = 0;
+  bids = bid 4000000 (0 ∷ 1 ∷ []) None ∷ bid 4000000 (1 ∷ 2 ∷ []) None ∷ bid 7000000 (0 ∷ 1 ∷ 2 ∷ []) None ∷ [];
+}
+
 -- bids on one bundle, the first of which is of an XOR bidder
 abbrev pub repeated_bundle : PlainFile
 repeated_bundle = record {

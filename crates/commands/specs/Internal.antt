@@ -4,5 +4,3 @@ pub mod Sides
 pub mod Pairs
 pub mod Searches
 pub mod Values
-pub mod Putting
-pub mod Duplicates

@@ -18,12 +18,4 @@ pub mod Commands
 pub mod Pairs
 pub mod SizesRows
 pub mod Examples
-pub mod Refusals
-pub mod Buffers
-pub mod OneText
-pub mod TwoTexts
-pub mod SizesCalls
-pub mod DuplicatesCalls
-pub mod Roundings
-pub mod FaultCalls
 pub mod Internal

@@ -139,7 +139,7 @@ outcome_of (Normalise options) = normalise_outcome options
 outcome_of (Explain steps total) = explain_outcome (bounded_options steps total)
 outcome_of Lp = lp_outcome
 
--- the statuses that only some of its calls have
+-- the statuses that only some commands have
 abbrev pub own_statuses : Command → List ℕ
 own_statuses (Value goods options) = 3 ∷ 64 ∷ []
 own_statuses (Revenue bids) = 1 ∷ 64 ∷ []
@@ -147,9 +147,9 @@ own_statuses (Normalise options) = 3 ∷ []
 own_statuses (Explain steps total) = 3 ∷ []
 own_statuses command = []
 
--- the statuses of its calls, as cats.h lists them
+-- the statuses that a command on one file may end with
 abbrev pub statuses_of : Command → List ℕ
-statuses_of command = 0 ∷ 2 ∷ 4 ∷ 6 ∷ own_statuses command
+statuses_of command = 0 ∷ 2 ∷ 4 ∷ 5 ∷ own_statuses command
 
 abbrev pub outcome_of_difference : Difference → Outcome
 outcome_of_difference difference = Prints (status_of_difference difference) (difference_text difference)

@@ -1,7 +1,6 @@
--- The row of a file in the table of `cats sizes`. It has the numbers of the file, those of its canonical file, and why
--- they are not known.
+-- The numbers of a file in the table of `cats sizes`, and of its canonical file, and why they are not known.
 use Rattle.std.specs.Prelude.{◌≡◌, ◌≢◌, ◌⊎◌, ℕ, Bool, List, [], ◌∷◌, ◌++◌, length, map, filter, is_none, codes, decimal}
-use Rattle.std.specs.Prelude.{Option, Some, None, Result}
+use Rattle.std.specs.Prelude.{Option, Some, None}
 use Rattle.std.specs.List.{flat_map, list_any, range_with_len}
 use Rattle.std.specs.Option.{option_map}
 use Rattle.bid_file.specs.Files.{PlainBid, PlainFile}
@@ -15,15 +14,12 @@ use Rattle.canon.specs.Canonical.{canonical_file}
 use Rattle.canon.specs.declared.canon_fault.CanonFault.{CanonFault}
 use Rattle.canon.specs.declared.canon_fault.CanonFault.TheVariants.{Read, StepLimit, Memory}
 use Rattle.canon.specs.declared.which.Which.TheVariants.{Only}
-use Rattle.commands.specs.FaultLines.{line_of_fault}
 use Rattle.commands.specs.Outputs.{number_cell}
-use Rattle.commands.specs.Statuses.{status_of_fault}
 use Rattle.commands.specs.declared.faults.HeavyBid.{HeavyBid}
 use Rattle.commands.specs.declared.faults.RunFault.{RunFault}
 use Rattle.commands.specs.declared.faults.RunFault.TheVariants.{Refused, TooHeavy}
-use Rattle.commands.specs.Commands.{AnswersBy, outcome_of_heavy_bid}
+use Rattle.commands.specs.Commands.{outcome_of_heavy_bid}
 use Rattle.commands.specs.Outcomes.{naming_outcome}
-use Rattle.commands.specs.declared.answer.Answer.{Answer}
 
 -- whether some bid has the dummy good d
 abbrev pub has_dummy : List PlainBid → ℕ → Bool
@@ -93,7 +89,7 @@ module _ (Gives : PlainFile → Type 0) (Refuses : ReadFault → Type 0) (option
   Sizes (IsUnsized (StepLimit goods)) = ⊥
   Sizes (IsUnsized Memory) = Refuses (fault_at 0 NoMemory) ⊎ ((file : PlainFile) × Gives file)
 
--- ---- the row
+-- ---- the cells
 
 -- each word, and a tab after it
 abbrev pub cells : List (List ℕ) → List ℕ
@@ -111,18 +107,6 @@ abbrev pub numbers_sized : Sized → List ℕ
 numbers_sized sized =
     cells (map (number_in (file_sized sized)) file_numbers ++ map (number_in (canonical_sized sized)) canonical_numbers)
 
--- the line of the fault, or else the end of a line
-abbrev pub row_end : Option RunFault → List ℕ
-row_end None = codes "\n"
-row_end (Some fault) = line_of_fault fault
-
-abbrev pub sizes_row : Sized → List ℕ
-sizes_row sized = numbers_sized sized ++ row_end (fault_sized sized)
-
-abbrev pub status_unless : Option RunFault → ℕ
-status_unless None = 0
-status_unless (Some fault) = status_of_fault fault
-
 module _ (Gives : PlainFile → Type 0) (Refuses : ReadFault → Type 0) (options : SearchOptions) where
   -- the cells of the numbers were put behind a text, and this is why they are not known
   pub record PutsNumbers (old new : List ℕ) (fault : Option RunFault) : Type 0 where
@@ -130,14 +114,3 @@ module _ (Gives : PlainFile → Type 0) (Refuses : ReadFault → Type 0) (option
     pub sizes : Sizes Gives Refuses options sized
     pub puts : new ≡ old ++ numbers_sized sized
     pub is_fault : fault ≡ fault_sized sized
-
-  -- the status and the row
-  pub record PrintsRow (status : ℕ) (text : List ℕ) : Type 0 where
-    pub sized : Sized
-    pub sizes : Sizes Gives Refuses options sized
-    pub is_status : status ≡ status_unless (fault_sized sized)
-    pub is_row : text ≡ sizes_row sized
-
-  -- a row is answered, unless memory is refused for it
-  abbrev pub AnswersRow : Result Answer RunFault → Type 0
-  AnswersRow answer = AnswersBy PrintsRow answer

@@ -11,8 +11,8 @@ use cats_text::{ReadFault, Watched};
 use std::alloc::Global;
 use std::io::Read;
 
-/// What gives a bid file: a stream, or a text in memory. It says which file it gives, and why it gives none, by what it is
-/// before it is read and after. What it refuses for want of memory is on no line.
+/// What gives a bid file, as a stream does. It says which file it gives, and why it gives none, by what it is before it is
+/// read and after. What it refuses for want of memory is on no line.
 pub trait Input {
     ghost use Rattle.bid_file.specs.Files.{PlainFile};
     ghost use Rattle.cats_text.specs.declared.read_fault.ReadFault.{ReadFault};

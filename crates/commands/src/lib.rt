@@ -1,11 +1,9 @@
-//! The commands on one bid file or two, as functions of their inputs, what they print, and the calls of the C library, which
-//! are commands on texts in memory.
+//! The commands on one bid file or two, as functions of their inputs, and what they print.
 #![tactic(auto)]
 
 mod allocation;
 pub mod answer;
 mod bundle_value;
-pub mod calls;
 pub mod command;
 pub mod faults;
 mod input;

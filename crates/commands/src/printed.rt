@@ -1,4 +1,4 @@
-//! What the program and the library print, and their statuses.
+//! What the commands print, and their statuses.
 
 mod cells;
 mod comparison;
@@ -18,7 +18,6 @@ pub(crate) use explanation::explanation_text;
 pub use fault_hint::{fault_place_text, shown_word};
 pub use pieces::Piece;
 pub use report::{WANT_OF_MEMORY, fault_line, fault_pieces, status};
-pub(crate) use rounded::price_line;
 pub use rounded::price_pieces;
 pub(crate) use sides::ComparedFile;
 pub(crate) use sizes::sizes_line;

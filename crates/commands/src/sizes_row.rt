@@ -1,14 +1,12 @@
-//! `cats sizes`: the row of a file, which has the numbers of the file and of its canonical file, and why they are not known.
+//! `cats sizes`: the numbers of a file and of its canonical file, and why they are not known.
 
 mod count;
 
 ghost use Rattle.std.specs.Prelude.{IfOk};
-ghost use Rattle.commands.specs.SizesRows.{AnswersRow, PutsNumbers};
+ghost use Rattle.commands.specs.SizesRows.{PutsNumbers};
 
-use crate::answer::{Answer, Output, done};
 use crate::faults::{RunFault, name_bid};
 use crate::input::Input;
-use crate::printed::{fault_line, status};
 use canon::normal::named_normal_file;
 use canon::{CanonFault, Which};
 use count::{push_counts, push_sizes};
@@ -20,33 +18,6 @@ pub const NO_NUMBERS: &str = "\t\t\t\t\t\t\t\t";
 
 /// The empty cells of the numbers of a canonical file that is not known.
 const NO_COUNTS: &str = "\t\t\t";
-
-/// The row of a file in the table of `cats sizes`, without its path. The last cell is empty, or says why numbers are not
-/// known; the status is that of the file.
-pub fn sizes<I: Input>(
-    alloc: Global,
-    input: &mut I,
-    options: SearchOptions,
-) -> Result<Answer, RunFault>
-    requires { I.is_ready input.old }
-    ensures { AnswersRow (I.gives input.old input.new) (I.refuses input.old input.new) options result }
-{
-    let mut row = Vec::new(alloc);
-    match push_numbers(alloc, &mut row, input, options)? {
-        None => {
-            row.extend_from_slice(b"\n")?;
-            Ok(done(Output::Text(row)))
-        }
-        Some(fault) => {
-            let line = fault_line(alloc, &fault)?;
-            row.extend_from_slice(line.as_slice())?;
-            Ok(Answer {
-                status: status(&fault),
-                output: Output::Text(row),
-            })
-        }
-    }
-}
 
 /// Puts the numbers of a file and of its canonical file behind the text, each with a tab after it, and answers why they are
 /// not known. A number that is not known is an empty cell.

@@ -1,4 +1,4 @@
-//! The statuses of the program and of the calls of the C library.
+//! The statuses of the program and of the library.
 
 /// A run did what its request says.
 pub const DONE: u8 = 0;
@@ -17,9 +17,6 @@ pub const NO_MEMORY: u8 = 4;
 
 /// A file could not be opened, read or written.
 pub const DEVICE_FAILED: u8 = 5;
-
-/// The buffer is too small.
-pub const TOO_SMALL: u8 = 6;
 
 /// The command line names nothing that the program does.
 pub const WRONG_USAGE: u8 = 64;

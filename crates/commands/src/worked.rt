@@ -1,5 +1,4 @@
 //! Worked examples of the definitions, computed by the prover.
 
-pub mod calls;
 pub mod outcomes;
 pub mod printed;

@@ -1,12 +1,12 @@
-//! Answers of `sizes` and of the commands on two files, and the bid that a fault names. Each command has runs in `runs`.
+//! Answers of the commands on two files, and the bid that a fault names. Each command has runs in `runs`.
 
-use crate::calls::expect;
-use cats_text::Watched;
-use commands::answer::Answer;
+use cats_text::{Watched, write};
+use commands::answer::{Answer, Output};
 use commands::command::{Command, Comparison};
 use commands::faults::RunFault;
-use commands::sizes_row::sizes;
-use std::alloc::Global;
+use commands::printed::{fault_line, status};
+use std::alloc::{AllocError, Global};
+use std::process::Abort;
 use std::test::Fail;
 use valuation::search::SearchOptions;
 
@@ -26,19 +26,28 @@ static LARGER: &[u8] = b"goods 2\nbids 3\ndummy 0\n0 3 0 #\n1 4 1 #\n2 7 0 1 #\n
 /// Steps enough for these files.
 const STEPS: u64 = 1_000;
 
-#[test]
-fn rows_of_sizes(rt: HostRuntime) -> Result<(), Fail> {
-    let alloc = rt.alloc();
-    let options = SearchOptions::bounded(1, None);
-    let judged = sizes(alloc, &mut Watched::new(LADDER), options);
-    expect(&rt, alloc, &judged, 0, b"2\t3\t1\t1\t1\t3\t1\t1\t\n");
-    let heavy = sizes(alloc, &mut Watched::new(LARGER), options);
-    let row = b"2\t3\t3\t0\t0\t\t\t\tstep limit of 1 at bid 2: 0,1\n";
-    expect(&rt, alloc, &heavy, 3, row);
-    let header: &[u8] = b"bids 0\n";
-    let refused = sizes(alloc, &mut Watched::new(header), options);
-    expect(&rt, alloc, &refused, 2, b"\t\t\t\t\t\t\t\tline 1: Header\n");
+/// The status and the text of an answer, or the status and the line of a fault.
+fn expect<R: Abort>(
+    rt: &R,
+    alloc: Global,
+    answer: &Result<Answer, RunFault>,
+    expected_status: u8,
+    expected: &[u8],
+) -> Result<(), AllocError> {
+    let (found, text) = match answer {
+        Ok(answer) => (answer.status, text_of(alloc, &answer.output)?),
+        Err(fault) => (status(fault), fault_line(alloc, fault)?),
+    };
+    assert_eq!(rt; found, expected_status);
+    assert!(rt; text.as_slice() == expected);
     Ok(())
+}
+
+fn text_of(alloc: Global, output: &Output) -> Result<Vec<u8>, AllocError> {
+    match output {
+        Output::Text(text) => Vec::from_slice(alloc, text.as_slice()),
+        Output::File(file) => write(alloc, file),
+    }
 }
 
 /// What a command answers of two files.
@@ -59,11 +68,11 @@ fn two_files(rt: HostRuntime) -> Result<(), Fail> {
     let table = b"kind\tgoods\tleft\tright\tleft_dummy\tright_dummy\tleft_bid\tright_bid\n\
         or\t1\t1.5\t\t\t\t1\t\n";
     let same = answer_of(alloc, Comparison::Compare(options), LADDER, CANONICAL);
-    expect(&rt, alloc, &same, 0, b"same\n");
+    expect(&rt, alloc, &same, 0, b"same\n")?;
     let other = answer_of(alloc, Comparison::Compare(options), LADDER, CHEAPER);
-    expect(&rt, alloc, &other, 1, verdict);
+    expect(&rt, alloc, &other, 1, verdict)?;
     let all = answer_of(alloc, Comparison::Diff(options), LADDER, CHEAPER);
-    expect(&rt, alloc, &all, 1, table);
+    expect(&rt, alloc, &all, 1, table)?;
     Ok(())
 }
 
@@ -77,10 +86,10 @@ fn heavy_bid(rt: HostRuntime) -> Result<(), Fail> {
     };
     let first = answer_of(alloc, Comparison::Diff(options), LARGER, LADDER);
     let line = b"first: step limit of 1 (5 in all) at bid 2: 0,1\n";
-    expect(&rt, alloc, &first, 3, line);
+    expect(&rt, alloc, &first, 3, line)?;
     let second = answer_of(alloc, Comparison::Diff(options), LADDER, LARGER);
     let line = b"second: step limit of 1 (5 in all) at bid 2: 0,1\n";
-    expect(&rt, alloc, &second, 3, line);
+    expect(&rt, alloc, &second, 3, line)?;
     let unexplained = reasons.answer(alloc, &mut Watched::new(LARGER));
     expect(
         &rt,
@@ -88,8 +97,8 @@ fn heavy_bid(rt: HostRuntime) -> Result<(), Fail> {
         &unexplained,
         3,
         b"step limit of 1 at bid 2: 0,1\n",
-    );
+    )?;
     let normal = Command::Normalise(options).answer(alloc, &mut Watched::new(LARGER));
-    expect(&rt, alloc, &normal, 3, b"step limit at 0,1\n");
+    expect(&rt, alloc, &normal, 3, b"step limit at 0,1\n")?;
     Ok(())
 }

@@ -4,8 +4,6 @@
 #[cfg(test)]
 mod answers;
 #[cfg(test)]
-mod calls;
-#[cfg(test)]
 mod command_lines;
 #[cfg(test)]
 mod runs;

@@ -4,14 +4,22 @@ ghost use Rattle.std.specs.Prelude.{◌≡◌, ◌∷◌, [], IfOk, List, Some, 
 ghost use Rattle.command_line.specs.PlainRequests.{plain_command, plain_request};
 ghost use Rattle.cats_c.specs.Calls.{command_of, limits_if_bounded, limits_of, many_of, one_of, pair_of, prices_of};
 ghost use Rattle.cats_c.specs.Calls.{request_for, request_of};
+ghost use Rattle.cats_c.specs.Totals.{total_of};
 
 use crate::call::{CallRequest, TASKS, Task};
-use crate::{AS_WRITTEN, ROUNDED, total_of};
 use command_line::request::{
     FileCommand, FilePaths, FileRequest, FilesCommand, FilesRequest, Limits, NamedBids,
     PairCommand, PairRequest, Prices, Request,
 };
 use std::alloc::{AllocError, Global};
+
+/// The values of `prices`: `CATS_AS_WRITTEN` and `CATS_ROUNDED` of cats.h. Any other one is `CATS_ROUNDED_EXACTLY`.
+const AS_WRITTEN: u8 = 0;
+
+const ROUNDED: u8 = 1;
+
+/// The value of `total` that is no limit: `CATS_NO_TOTAL` of cats.h.
+const NO_TOTAL: u64 = 0;
 
 /// The request of the program on texts of these names, if the caller's is one.
 pub(crate) fn request_of<'a>(
@@ -200,4 +208,11 @@ fn limits_if_bounded(request: &CallRequest<'_>) -> Option<Limits>
         }),
         (false, Some(_)) => None,
     }
+}
+
+/// The limit on all searches of a text together, if there is one.
+fn total_of(total: u64) -> Option<u64>
+    ensures { result ≡ total_of total }
+{
+    if total == NO_TOTAL { None } else { Some(total) }
 }

@@ -6,11 +6,11 @@ ghost use Rattle.cats_text.specs.declared.read_fault.Kind.TheVariants.{TwoDummie
 ghost use Rattle.canon.specs.declared.canon_fault.CanonFault.TheVariants.{Memory, Read};
 ghost use Rattle.valuation.specs.SearchLimits.{bounded_options, plain_options};
 ghost use Rattle.valuation.specs.declared.search.kind.SearchKind.TheVariants.{Bounded};
-ghost use Rattle.commands.specs.Examples.{larger_bid, repeated_bundle, xor_ladder};
+ghost use Rattle.commands.specs.Examples.{crossing_bids, larger_bid, repeated_bundle, xor_ladder};
 ghost use Rattle.commands.specs.Outcomes.{ExceedsAtBid, ExceedsSteps, LacksBid, LacksGood, Prints, compare_outcome};
 ghost use Rattle.commands.specs.Outcomes.{exceeds_at, first_bid_on, naming_outcome, outcome_of, revenue_outcome};
 ghost use Rattle.commands.specs.Outcomes.{value_outcome};
-ghost use Rattle.commands.specs.SizesRows.{IsSized, IsTooHeavy, IsUnsized, fault_sized, sizes_row, status_unless};
+ghost use Rattle.commands.specs.SizesRows.{IsSized, IsTooHeavy, IsUnsized, numbers_sized};
 ghost use Rattle.commands.specs.ValueTexts.{bundle_from};
 ghost use Rattle.commands.specs.declared.command.Command.TheVariants.{Check, Explain, Lp, Normalise, Show};
 
@@ -52,16 +52,13 @@ pub fn revenues()
     ensures both { revenue_outcome (1 ∷ 0 ∷ []) xor_ladder ≡ Prints 0 (codes "revenue 6.5\n") }
 {}
 
-/// Rows of `cats sizes`: of a file that was judged, of one with a heavy bundle, and of none.
-pub fn sizes_rows()
-    ensures judged { sizes_row (IsSized larger_bid) ≡ codes "2\t3\t3\t0\t0\t2\t2\t0\t\n" }
-    ensures heavy { (goods : Vec ℕ Global) → goods.items ≡ 0 ∷ 1 ∷ []
-        → sizes_row (IsTooHeavy xor_ladder (record { number = 2; goods = goods; steps = 1; total = None }))
-        ≡ codes "2\t3\t1\t1\t1\t\t\t\tstep limit of 1 at bid 2: 0,1\n" }
-    ensures refused { sizes_row (IsUnsized (Read (record { kind = TwoDummies; line = 7 })))
-        ≡ codes "\t\t\t\t\t\t\t\tline 7: TwoDummies\n" }
-    ensures statuses { map (λ sized. status_unless (fault_sized sized)) (IsSized larger_bid ∷ IsUnsized Memory ∷ [])
-        ≡ 0 ∷ 4 ∷ [] }
+/// The numbers in rows of `cats sizes`: of a file that was judged, of one with a heavy bundle, and of none.
+pub fn numbers_of_rows()
+    ensures judged { numbers_sized (IsSized larger_bid) ≡ codes "2\t3\t3\t0\t0\t2\t2\t0\t" }
+    ensures heavy { (goods : Vec ℕ Global)
+        → numbers_sized (IsTooHeavy xor_ladder (record { number = 2; goods = goods; steps = 1; total = None }))
+        ≡ codes "2\t3\t1\t1\t1\t\t\t\t" }
+    ensures refused { numbers_sized (IsUnsized (Read (record { kind = TwoDummies; line = 7 }))) ≡ codes "\t\t\t\t\t\t\t\t" }
 {}
 
 /// What `cats normalise` and `cats explain` make of two files: the same limits refuse one of them.
@@ -78,6 +75,17 @@ pub fn canonical_files()
     ensures reasons_of_both { outcome_of (Explain 1000 None) xor_ladder
         ≡ Prints 0 (codes "bid\tdummy\tprice\tgoods\treason\tkept\tby\n0\t0\t5\t0\tkeep\t1\t\n"
         ++ codes "1\t\t1.5\t1\tkeep\t0\t\n2\t0\t6\t0 1\tkeep\t2\t\n") }
+{}
+
+/// The limits on steps. For the goods 0, 1 and 2 the plain search enters the bid of 4 for 0 and 1; the bounded one enters no
+/// bid, since the rates add up to 6. So each bundle with a bid takes one step.
+pub fn limits_of_searches()
+    ensures plain { outcome_of (Normalise (plain_options 1)) crossing_bids ≡ ExceedsSteps (0 ∷ 1 ∷ 2 ∷ []) }
+    ensures bounded { outcome_of (Normalise (bounded_options 1 None)) crossing_bids
+        ≡ Prints 0 (codes "goods 3\nbids 3\ndummy 0\n0\t4\t0\t1\t#\n1\t4\t1\t2\t#\n2\t7\t0\t1\t2\t#\n") }
+    ensures over_total { outcome_of (Normalise (bounded_options 1 (Some 2))) crossing_bids ≡ ExceedsSteps (0 ∷ 1 ∷ 2 ∷ []) }
+    ensures within_total { outcome_of (Normalise (bounded_options 1 (Some 3))) crossing_bids
+        ≡ Prints 0 (codes "goods 3\nbids 3\ndummy 0\n0\t4\t0\t1\t#\n1\t4\t1\t2\t#\n2\t7\t0\t1\t2\t#\n") }
 {}
 
 /// The bid that is named: not that of an XOR bidder, and the first of two.

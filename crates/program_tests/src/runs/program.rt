@@ -138,7 +138,7 @@ fn help(rt: HostRuntime) -> Result<(), Fail> {
 fn version(rt: HostRuntime) -> Result<(), Fail> {
     for line in &["cats --version", "cats -V"] {
         let answer = run(&rt, line, "", "", CAPACITY, CAPACITY)?;
-        expect(&rt, &answer, 0, "cats 0.2.0\n", "");
+        expect(&rt, &answer, 0, "cats 0.3.0\n", "");
         let cut_off = run(&rt, line, "", "", 3, CAPACITY)?;
         expect(&rt, &cut_off, 5, "cat", "");
     }

@@ -1,5 +1,6 @@
 -- `round_bytes`
-use Rattle.cats_cmd.proofs.Common.{Err, sym, subst, CanonFault, rounding_refused, RoundsText}
+use Rattle.cats_cmd.proofs.Common.{Err, sym, subst, CanonFault, RoundsText}
+use Rattle.cats_cmd.proofs.Rounding.{rounding_refused}
 use Rattle.cats_cmd.proofs.round.round_bytes.Goals as goal
 
 pub returns-in-Err : goal.returns-in-Err

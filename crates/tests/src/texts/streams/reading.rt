@@ -194,6 +194,6 @@ fn endless_stream_is_too_long(rt: HostRuntime) -> Result<(), Fail> {
     let (line, kind) = (0, Kind::TooLong);
     assert_eq!(rt; answer, Some(ReadFault { line, kind }));
     assert!(rt; !input.ended());
-    assert_eq!(rt; input.into_inner().calls, MAX_STREAM / 65_536 + 1);
+    assert_eq!(rt; input.into_inner().calls, MAX_STREAM / 16_384 + 1);
     Ok(())
 }

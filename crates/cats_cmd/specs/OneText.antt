@@ -1,0 +1,19 @@
+-- What is printed of one text.
+use Rattle.std.specs.Prelude.{◌≡◌, ℕ, List, Option, Some, None}
+use Rattle.bid_file.specs.Files.{PlainFile}
+use Rattle.cats_text.specs.Grammar.{Spells}
+use Rattle.commands.specs.Outcomes.{Outcome, Prints}
+use Rattle.rounding.specs.Texts.{rounded_text}
+use Rattle.rounding.specs.declared.replacement.FinePrices.{FinePrices}
+
+-- the text that is read: with its prices as they are written, or rounded
+abbrev pub text_read : Option FinePrices → List ℕ → List ℕ
+text_read None text = text
+text_read (Some fine) text = rounded_text fine text
+
+-- the text that is read spells a file, of which a command makes this status and output
+pub record PrintsOf (outcome : PlainFile → Outcome) (fine : Option FinePrices) (text : List ℕ) (status : ℕ)
+    (out : List ℕ) : Type 0 where
+  pub file : PlainFile
+  pub spelled : Spells (text_read fine text) file
+  pub made : outcome file ≡ Prints status out
