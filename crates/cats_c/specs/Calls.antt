@@ -1,5 +1,6 @@
 -- The one call for all commands. It does what the program does with a request on texts in memory.
-use Rattle.std.specs.Prelude.{◌≡◌, ◌⊎◌, ◌++◌, ◌+◌, ◌==◌, ℕ, suc, Bool, true, false, List, [], ◌∷◌, drop, length, map}
+use Rattle.std.specs.Prelude.{◌≡◌, ◌⊎◌, ◌++◌, ◌+◌, ◌==◌, ◌||◌, ℕ, suc, Bool, false, not, List, [], ◌∷◌, drop, length}
+use Rattle.std.specs.Prelude.{map}
 use Rattle.std.specs.Prelude.{take, Option, Some, None, Vec, String, decimal, if◌then◌else◌, option_and_then}
 use Rattle.std.specs.Prelude.{option_map, slice_get, string_bytes}
 use Rattle.std.specs.Borrow.{Bor}
@@ -7,23 +8,18 @@ use Rattle.std.specs.Global.{Global}
 use Rattle.std.specs.Str.{IsUtf8}
 use Rattle.cats_text.specs.Streams.{has_failed, inner_of}
 use Rattle.cats_text.specs.declared.stream.Watched.{Watched}
-use Rattle.command_line.specs.PlainRequests.{PlainCommand, PlainRequest, Given, GivenBids, OnFile, OnFiles, OnPair}
-use Rattle.command_line.specs.PlainRequests.{Check, Show, Value, Revenue, Normalise, Explain, Lp, Fault, Round}
-use Rattle.command_line.specs.declared.request.FilesCommand.{FilesCommand}
-use Rattle.command_line.specs.declared.request.FilesCommand.TheVariants as many
-use Rattle.command_line.specs.declared.request.Limits.{Limits}
 use Rattle.command_line.specs.declared.request.NoRequest.TheVariants.{NoMemory}
-use Rattle.command_line.specs.declared.request.PairCommand.TheVariants as pair
-use Rattle.command_line.specs.declared.request.Prices.{Prices}
-use Rattle.command_line.specs.declared.request.Prices.TheVariants.{AsWritten, Rounded, RoundedExactly}
+use Rattle.requests.specs.Requests.{PlainRequest}
+use Rattle.requests.specs.declared.task.TaskRow.{TaskRow}
+use Rattle.requests.specs.declared.task.TheConstants.{TASKS}
+use Rattle.rounding.specs.declared.replacement.FinePrices.{FinePrices}
+use Rattle.rounding.specs.declared.replacement.FinePrices.TheVariants.{Round, Refuse}
+use Rattle.valuation.specs.SearchLimits.{bounded_options, plain_options}
+use Rattle.valuation.specs.declared.search.options.SearchOptions.{SearchOptions}
 use Rattle.cats_cmd.specs.Requests.{AnswersNoRequest, AnswersRequest}
 use Rattle.cats_cmd.specs.declared.source.Unopened.TheVariants.{NoSuchFile}
-use Rattle.cats_c.specs.Totals.{total_of}
 use Rattle.cats_c.specs.declared.call.CallRequest.{CallRequest}
 use Rattle.cats_c.specs.declared.call.CallText.{CallText}
-use Rattle.cats_c.specs.declared.call.Task.{Task}
-use Rattle.cats_c.specs.declared.call.Task.TheVariants as task
-use Rattle.cats_c.specs.declared.call.TheConstants.{TASKS}
 
 -- ---- the names of texts
 
@@ -61,85 +57,47 @@ pub record IsTextAt (texts : List CallText) (name : List ℕ) (bytes : Bor (List
 
 -- ---- what is requested
 
-abbrev pub prices_of : ℕ → Prices
-prices_of prices = if prices == 0 then AsWritten else if prices == 1 then Rounded else RoundedExactly
+-- the limit on the steps of all searches of one text: 0 is no limit
+abbrev pub total_of : ℕ → Option ℕ
+total_of total = if total == 0 then None else Some total
 
--- the limits of bounded searches
-abbrev pub limits_of : CallRequest → Limits
-limits_of request = record { bound = true; steps = request.steps; total = total_of request.total }
+-- what becomes of fine prices, if prices are rounded
+abbrev pub prices_of : ℕ → Option FinePrices
+prices_of prices = if prices == 0 then None else if prices == 1 then Some Round else Some Refuse
 
--- the limits of searches that are not bounded: they have none of all together
-abbrev pub plain_limits : ℕ → Option ℕ → Option Limits
-plain_limits steps None = Some (record { bound = false; steps = steps; total = None })
-plain_limits steps (Some total) = None
+-- plain searches have no limit of all together
+abbrev pub plain_unless : Option ℕ → ℕ → Option SearchOptions
+plain_unless None steps = Some (plain_options steps)
+plain_unless (Some total) steps = None
 
--- the limits of the searches that are requested
-abbrev pub limits_if_bounded : CallRequest → Option Limits
-limits_if_bounded request = if request.bound then Some (limits_of request)
-    else plain_limits request.steps (total_of request.total)
+-- how the files are searched, by a command that lets the caller choose the searches or not
+abbrev pub options_of : CallRequest → Bool → Option SearchOptions
+options_of request may_choose = if request.bound || not may_choose
+    then Some (bounded_options request.steps (total_of request.total))
+    else plain_unless (total_of request.total) request.steps
 
-abbrev pub is_exact : Prices → Bool
-is_exact RoundedExactly = true
-is_exact prices = false
-
-abbrev pub command_of : Task → CallRequest → Option PlainCommand
-command_of task.Check request = Some Check
-command_of task.Show request = Some Show
-command_of task.Value request = option_map (Value request.goods.now) (limits_if_bounded request)
-command_of task.Revenue request = Some (Revenue (GivenBids request.bids.now))
-command_of task.Normalise request = option_map Normalise (limits_if_bounded request)
-command_of task.Explain request = Some (Explain (limits_of request))
-command_of task.Lp request = Some Lp
-command_of other request = None
-
--- the request of a command on one text
-abbrev pub one_of : Task → CallRequest → List ℕ → Option PlainRequest
-one_of task.Fault request file = Some (Fault file)
-one_of task.Round request file = Some (Round file (is_exact (prices_of request.prices)))
-one_of other request file = option_map (OnFile file (prices_of request.prices)) (command_of other request)
-
--- the request of a command on two texts
-abbrev pub pair_of : Task → CallRequest → List ℕ → List ℕ → Option PlainRequest
-pair_of task.Compare request first second =
-    option_map (OnPair first second (prices_of request.prices) pair.Compare) (limits_if_bounded request)
-pair_of other request first second =
-    Some (OnPair first second (prices_of request.prices) pair.Diff (limits_of request))
-
-abbrev pub many_command : Task → CallRequest → FilesCommand
-many_command task.Duplicates request = many.Duplicates request.all
-many_command other request = many.Sizes
-
--- the request of a command on many texts
-abbrev pub many_of : Task → CallRequest → List (List ℕ) → PlainRequest
-many_of command request names = OnFiles (record {
-  paths = Given names;
+-- the request of the command of a row on texts of these names, with searches that go so
+abbrev pub request_with : TaskRow → CallRequest → List (List ℕ) → SearchOptions → PlainRequest
+request_with row request names options = record {
+  task = row.task;
+  files = names;
+  list = None;
+  goods = request.goods.now;
+  bids = request.bids.now;
   prices = prices_of request.prices;
-  command = many_command command request;
-  limits = limits_of request;
+  options = options;
   progress = false;
   null = request.null;
-})
+  all = request.all;
+}
 
-abbrev pub pair_if_two : Task → CallRequest → List (List ℕ) → Option PlainRequest
-pair_if_two command request (first ∷ second ∷ []) = pair_of command request first second
-pair_if_two command request names = None
+abbrev pub request_by : TaskRow → CallRequest → List (List ℕ) → Option PlainRequest
+request_by row request names = option_map (request_with row request names) (options_of request row.bound)
 
-abbrev pub one_if_one : Task → CallRequest → List (List ℕ) → Option PlainRequest
-one_if_one command request (file ∷ []) = one_of command request file
-one_if_one command request names = None
-
--- the request of a command on texts of these names, if it takes so many
-abbrev pub request_for : Task → CallRequest → List (List ℕ) → Option PlainRequest
-request_for task.Duplicates request names = Some (many_of task.Duplicates request names)
-request_for task.Sizes request names = Some (many_of task.Sizes request names)
-request_for task.Compare request names = pair_if_two task.Compare request names
-request_for task.Diff request names = pair_if_two task.Diff request names
-request_for other request names = one_if_one other request names
-
--- the program's request on texts of these names; none if there is no such command, if it takes another number of texts,
--- or if searches that are not bounded are limited together
+-- the program's request on texts of these names; none if there is no such command, or if searches that are not bounded
+-- are limited together
 abbrev pub request_of : CallRequest → List (List ℕ) → Option PlainRequest
-request_of request names = option_and_then (λ command. request_for command request names) (slice_get TASKS request.task)
+request_of request names = option_and_then (λ row. request_by row request names) (slice_get TASKS request.task)
 
 -- ---- what is answered
 

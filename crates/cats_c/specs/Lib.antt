@@ -1,4 +1,3 @@
 -- What the contracts of this crate cite.
 pub mod Calls
 pub mod Examples
-pub mod Totals

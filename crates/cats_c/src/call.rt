@@ -17,41 +17,6 @@ use request::request_of;
 use std::alloc::{AllocError, Global};
 use texts::Texts;
 
-/// The commands, by the numbers that a caller in C writes.
-pub const TASKS: [Task; 13] = [
-    Task::Check,
-    Task::Fault,
-    Task::Show,
-    Task::Value,
-    Task::Revenue,
-    Task::Normalise,
-    Task::Explain,
-    Task::Round,
-    Task::Lp,
-    Task::Compare,
-    Task::Diff,
-    Task::Duplicates,
-    Task::Sizes,
-];
-
-/// What a command does.
-#[derive(Clone, Copy, PartialEq, Eq, Debug)]
-pub enum Task {
-    Check,
-    Fault,
-    Show,
-    Value,
-    Revenue,
-    Normalise,
-    Explain,
-    Round,
-    Lp,
-    Compare,
-    Diff,
-    Duplicates,
-    Sizes,
-}
-
 /// What a caller in C requests. What a command does not take has no effect on it.
 #[repr(C)]
 pub struct CallRequest<'a> {
@@ -63,7 +28,7 @@ pub struct CallRequest<'a> {
     pub steps: u64,
     /// The most steps of all searches of a text together. 0 is no limit.
     pub total: u64,
-    /// The number of the command.
+    /// The number of the command: its place among the commands, counted from 0.
     pub task: u8,
     /// How prices are read; of `round`, what becomes of those that are finer than a millionth.
     pub prices: u8,

@@ -1,14 +1,11 @@
 //! Worked rows of what a caller in C writes. The prover computes them.
 
-ghost use Rattle.std.specs.Prelude.{◌≡◌, [], ◌∷◌, Some, None, codes, false, map, true};
-ghost use Rattle.command_line.specs.PlainRequests.{Check, Explain, Fault, Given, GivenBids, Lp, Normalise, OnFile, OnFiles};
-ghost use Rattle.command_line.specs.PlainRequests.{OnPair, Revenue, Round as RoundFile, Show, Value};
-ghost use Rattle.command_line.specs.declared.request.FilesCommand.TheVariants.{Duplicates, Sizes};
-ghost use Rattle.command_line.specs.declared.request.PairCommand.TheVariants.{Compare, Diff};
-ghost use Rattle.command_line.specs.declared.request.Prices.TheVariants.{AsWritten, Rounded, RoundedExactly};
-ghost use Rattle.cats_c.specs.Calls.{names_of, request_of};
+ghost use Rattle.std.specs.Prelude.{◌≡◌, [], ◌∷◌, Some, None, codes, false, map, option_map, true};
+ghost use Rattle.requests.specs.Tasks.{name_of};
+ghost use Rattle.rounding.specs.declared.replacement.FinePrices.TheVariants.{Refuse, Round};
+ghost use Rattle.valuation.specs.SearchLimits.{bounded_options, plain_options};
+ghost use Rattle.cats_c.specs.Calls.{names_of, request_of, total_of};
 ghost use Rattle.cats_c.specs.Examples.{asked, named};
-ghost use Rattle.cats_c.specs.Totals.{total_of};
 
 /// A limit on all searches together: 0 is none.
 pub fn totals()
@@ -22,48 +19,36 @@ pub fn names()
     ensures { names_of (map named ([] ∷ codes "a" ∷ [] ∷ [])) ≡ codes "1" ∷ codes "a" ∷ codes "3" ∷ [] }
 {}
 
-/// The commands, by their numbers, on one text.
-pub fn requests_on_one()
-    ensures { map (λ task. request_of (asked task 0 true 9) (codes "a" ∷ [])) (0 ∷ 1 ∷ 2 ∷ 3 ∷ 4 ∷ 5 ∷ 6 ∷ 7 ∷ 8 ∷ [])
-        ≡ Some (OnFile (codes "a") AsWritten Check) ∷ Some (Fault (codes "a")) ∷ Some (OnFile (codes "a") AsWritten Show)
-        ∷ Some (OnFile (codes "a") AsWritten (Value (7 ∷ []) (record { bound = true; steps = 5; total = Some 9 })))
-        ∷ Some (OnFile (codes "a") AsWritten (Revenue (GivenBids (8 ∷ []))))
-        ∷ Some (OnFile (codes "a") AsWritten (Normalise (record { bound = true; steps = 5; total = Some 9 })))
-        ∷ Some (OnFile (codes "a") AsWritten (Explain (record { bound = true; steps = 5; total = Some 9 })))
-        ∷ Some (RoundFile (codes "a") false) ∷ Some (OnFile (codes "a") AsWritten Lp) ∷ [] }
+/// The commands, by their numbers.
+pub fn commands()
+    ensures { map (λ task. option_map (λ request. name_of request.task) (request_of (asked task 0 true 9) []))
+        (0 ∷ 1 ∷ 2 ∷ 3 ∷ 4 ∷ 5 ∷ 6 ∷ 7 ∷ 8 ∷ 9 ∷ 10 ∷ 11 ∷ 12 ∷ 13 ∷ [])
+        ≡ Some (codes "check") ∷ Some (codes "fault") ∷ Some (codes "show") ∷ Some (codes "value") ∷ Some (codes "revenue")
+        ∷ Some (codes "normalise") ∷ Some (codes "explain") ∷ Some (codes "round") ∷ Some (codes "lp")
+        ∷ Some (codes "compare") ∷ Some (codes "diff") ∷ Some (codes "duplicates") ∷ Some (codes "sizes") ∷ None ∷ [] }
 {}
 
-/// Those on two texts, and on any number. The prices of `round` say what becomes of fine ones.
-pub fn requests_on_more()
-    ensures compare { request_of (asked 9 1 false 0) (codes "a" ∷ codes "b" ∷ [])
-        ≡ Some (OnPair (codes "a") (codes "b") Rounded Compare (record { bound = false; steps = 5; total = None })) }
-    ensures diff { request_of (asked 10 2 false 0) (codes "a" ∷ codes "b" ∷ [])
-        ≡ Some (OnPair (codes "a") (codes "b") RoundedExactly Diff (record { bound = true; steps = 5; total = None })) }
-    ensures duplicates { request_of (asked 11 0 true 0) [] ≡ Some (OnFiles (record {
-      paths = Given [];
-      prices = AsWritten;
-      command = Duplicates true;
-      limits = record { bound = true; steps = 5; total = None };
-      progress = false;
-      null = true;
-    })) }
-    ensures sizes { request_of (asked 12 0 false 0) (codes "a" ∷ codes "a" ∷ []) ≡ Some (OnFiles (record {
-      paths = Given (codes "a" ∷ codes "a" ∷ []);
-      prices = AsWritten;
-      command = Sizes;
-      limits = record { bound = true; steps = 5; total = None };
-      progress = false;
-      null = true;
-    })) }
-    ensures round { request_of (asked 7 2 true 0) (codes "a" ∷ []) ≡ Some (RoundFile (codes "a") true) }
+/// What comes with a command.
+pub fn requests()
+    ensures files { option_map (λ request. request.files) (request_of (asked 9 0 true 0) (codes "a" ∷ codes "b" ∷ []))
+        ≡ Some (codes "a" ∷ codes "b" ∷ []) }
+    ensures goods { option_map (λ request. request.goods) (request_of (asked 3 0 true 0) []) ≡ Some (7 ∷ []) }
+    ensures bids { option_map (λ request. request.bids) (request_of (asked 4 0 true 0) []) ≡ Some (8 ∷ []) }
+    ensures list { option_map (λ request. request.list) (request_of (asked 4 0 true 0) []) ≡ Some None }
+    ensures null { option_map (λ request. request.null) (request_of (asked 12 0 true 0) []) ≡ Some true }
+    ensures all { option_map (λ request. request.all) (request_of (asked 11 0 true 0) []) ≡ Some true }
+    ensures progress { option_map (λ request. request.progress) (request_of (asked 11 0 true 0) []) ≡ Some false }
+    ensures prices { map (λ prices. option_map (λ request. request.prices) (request_of (asked 7 prices true 0) []))
+        (0 ∷ 1 ∷ 2 ∷ 3 ∷ []) ≡ Some None ∷ Some (Some Round) ∷ Some (Some Refuse) ∷ Some (Some Refuse) ∷ [] }
 {}
 
-/// No requests: of no command, on another number of texts, and with a limit of all searches that are not bounded.
-pub fn wrong_requests()
-    ensures number { request_of (asked 13 0 true 0) (codes "a" ∷ []) ≡ None }
-    ensures none { request_of (asked 0 0 true 0) [] ≡ None }
-    ensures two { request_of (asked 0 0 true 0) (codes "a" ∷ codes "b" ∷ []) ≡ None }
-    ensures one { request_of (asked 9 0 true 0) (codes "a" ∷ []) ≡ None }
-    ensures unbounded { map (λ task. request_of (asked task 0 false 9) (codes "a" ∷ [])) (3 ∷ 5 ∷ []) ≡ None ∷ None ∷ [] }
-    ensures unbounded_pair { request_of (asked 9 0 false 9) (codes "a" ∷ codes "b" ∷ []) ≡ None }
+/// How the searches go. A command that lets the caller choose them has no limit of all plain ones together, and another one
+/// always uses bounded ones.
+pub fn searches()
+    ensures bounded { option_map (λ request. request.options) (request_of (asked 5 0 true 9) [])
+        ≡ Some (bounded_options 5 (Some 9)) }
+    ensures plain { option_map (λ request. request.options) (request_of (asked 5 0 false 0) []) ≡ Some (plain_options 5) }
+    ensures unbounded { map (λ task. request_of (asked task 0 false 9) []) (3 ∷ 5 ∷ 9 ∷ []) ≡ None ∷ None ∷ None ∷ [] }
+    ensures always { map (λ task. option_map (λ request. request.options) (request_of (asked task 0 false 9) []))
+        (6 ∷ 12 ∷ []) ≡ Some (bounded_options 5 (Some 9)) ∷ Some (bounded_options 5 (Some 9)) ∷ [] }
 {}

@@ -1,15 +1,18 @@
 -- What holds of each answer to a request: the statuses of a run that answered, what a request that failed has written, and that only
 -- `round`, `duplicates`, `sizes` and rounded prices are reported on before they end, or a list of bids that is refused.
-use Rattle.cats_cmd.proofs.Common.{◌≡◌, ◌≢◌, ℕ, List, [], Option, None, Some, Result, Ok, Err, Bool, false, ◌∙◌, arith, ◌≤◌, refl, sym, ⊎_elim, ◌⊎◌, inl, inr}
-use Rattle.cats_cmd.proofs.Common.{◌==◌, both_ways, eq-eqb, PlainPlace, first_place, Kind, Device, Watched, CanonFault, Read, StepLimit, Memory, Commands}
-use Rattle.cats_cmd.proofs.Common.{Prints, CommandsOnBoth, Answer, outcome_of_place, PricedGives, PricedRefuses, fine_prices, RunsOnBids, named_bids}
-use Rattle.cats_cmd.proofs.Common.{AnswersRequest, CarriesOut, RunsAt, RunsAtBoth, RunsFor, FailsRequest, comparison_of, outcome_for, RunsCommand}
+use Rattle.cats_cmd.proofs.Common.{◌≡◌, ◌≢◌, ℕ, List, [], ◌∷◌, Option, None, Some, Result, Ok, Err, Bool, false, ◌∙◌, arith, ◌≤◌, refl, sym, ⊎_elim, ◌⊎◌, inl}
+use Rattle.cats_cmd.proofs.Common.{inr}
+use Rattle.cats_cmd.proofs.Common.{◌==◌, ◌||◌, both_ways, eq-eqb, PlainPlace, first_place, Kind, Device, Watched, CanonFault, Read, StepLimit, Memory, Commands}
+use Rattle.cats_cmd.proofs.Common.{Prints, CommandsOnBoth, Answer, outcome_of_place, PricedGives, PricedRefuses, RunsOnBids, outcome_of, FinePrices, is_some}
+use Rattle.cats_cmd.proofs.Common.{AnswersRequest, CarriesOut, RunsAt, RunsAtBoth, RunsFor, RunsOfCommand, RunsOnOne, RunsWith, FailsRequest, RunsCommand}
 use Rattle.cats_cmd.proofs.Common.{status_of_canon_fault, status_of_read_fault, Reports, line_of_request_error, has_found, is_for_many_files, is_reporting}
-use Rattle.cats_cmd.proofs.Common.{is_rounding, names_found, names_many_files, names_reporting, status_of_request_error, RequestError, CannotOpen, NotOpened}
-use Rattle.cats_cmd.proofs.Common.{Run, RunFault, Refused, Sent, PlainRequest, OnFile, OnPair, OnFiles, Fault, Round, GivenBids, BidsIn, PlainBids}
-use Rattle.cats_cmd.proofs.Common.{PlainCommand, Comparison, Prices, AsWritten, request_of, Unopened, RunsOnFile, RunsOnPair, answer_if_lost, is_lost}
-use Rattle.cats_cmd.proofs.Common.{max, true, length, rounded_prices, fine_of, status_if_lost}
+use Rattle.cats_cmd.proofs.Common.{finds, is_many, reports, names_found, names_many_files, names_reporting, status_of_request_error, RequestError, CannotOpen}
+use Rattle.cats_cmd.proofs.Common.{NotOpened, Run, RunFault, Refused, Sent, PlainRequest, Files, One, Two, Many, Task, request_of, Unopened}
+use Rattle.cats_cmd.proofs.Common.{RunsOnFile, RunsOnPair, answer_if_lost, is_lost, max, true, length, rounded_prices, status_if_lost, unwrap_or}
 use Rattle.cats_text.specs.declared.read_fault.Kind.TheVariants.{Memory as NoMemory}
+use Rattle.requests.specs.Tasks.{files_of}
+use Rattle.requests.specs.declared.task.Task.TheVariants.{Fault, Round, Compare, Diff}
+use Rattle.rounding.specs.declared.replacement.FinePrices.TheVariants.{Round as RoundFine}
 use Rattle.cats_cmd.proofs.AnswersShown.{command_printed, printed}
 use Rattle.cats_cmd.proofs.Sending.{pair_facts}
 use Rattle.cats_cmd.proofs.PricedInputs.{none_given}
@@ -74,65 +77,154 @@ silent_unless_failed : {W : Type 0} (error : RequestError) (old new : Watched W)
 silent_unless_failed (Run (Sent fault)) old new silent failed = absurd (failed refl)
 silent_unless_failed error old new silent failed = silent
 
--- prices that are not rounded are read as they are written
-none_rounded : (prices : Prices) → is_rounding prices ≡ false → fine_prices prices ≡ None
-none_rounded AsWritten plain = refl
-none_rounded prices plain = cc
-
 -- ---- requests
+
+no_answer : (fault : RunFault) (answer : Result ℕ RunFault) → answer ≡ Err fault → answer ≡ Ok 64 → ⊥
+no_answer fault answer failed answered = cc
+
+-- of a command on two files: if nothing may be reported, prices are read as they are written
+quiet_pair : (task : Task) (prices : Option FinePrices) → Two ≡ files_of task → reports task prices ≡ false → is_some prices ≡ false
+quiet_pair Compare prices two quiet = quiet
+quiet_pair Diff prices two quiet = quiet
+quiet_pair task prices two quiet = cc
+
+not_rounded : (prices : Option FinePrices) → is_some prices ≡ false → prices ≡ None
+not_rounded None plain = refl
+not_rounded (Some fine) plain = cc
 
 module _ {F W E : Type 0} (may_open : List ℕ → F → Type 0) (may_refuse : List ℕ → Unopened → Type 0) (remaining : F → Option (List ℕ))
     (contents : W → Option (List ℕ)) (messages : E → Option (List ℕ)) (terminal : Bool)
     (may_find : List ℕ → Option (List (List ℕ)) → Type 0) (out out_after : Watched W) (err : Watched E) where
   -- A run on one or two files that answered has the status 0 or 1, or 5, or has written nothing, and has reported nothing if prices are not
   -- rounded. One that failed has written nothing, unless its output failed.
-  abbrev Kept : Prices → Watched E → Result ℕ RunFault → Type 0
+  abbrev Kept : Option FinePrices → Watched E → Result ℕ RunFault → Type 0
   Kept prices err_after (Ok status) =
-      (status ≢ 5 → (status ≤ 1) ⊎ (out_after ≡ out)) × (is_rounding prices ≡ false → status ≤ 1 → err_after ≡ err)
+      (status ≢ 5 → (status ≤ 1) ⊎ (out_after ≡ out)) × (is_some prices ≡ false → status ≤ 1 → err_after ≡ err)
   Kept prices err_after (Err fault) = IsSilent (Run fault) out out_after
 
   -- whether its report is lost or not
-  kept_if_lost : (prices : Prices) (err_after : Watched E) (lost : Bool) (status : ℕ) → status ≤ 1 → (is_rounding prices ≡ false → err_after ≡ err)
-      → Kept prices err_after (answer_if_lost lost (Ok status))
+  kept_if_lost : (prices : Option FinePrices) (err_after : Watched E) (lost : Bool) (status : ℕ) → status ≤ 1
+      → (is_some prices ≡ false → err_after ≡ err) → Kept prices err_after (answer_if_lost lost (Ok status))
   kept_if_lost prices err_after true status most quiet = ((λ other. absurd (other refl)), (λ plain few. absurd (omega (arith, few))))
   kept_if_lost prices err_after false status most quiet = ((λ other. inl most), (λ plain few. quiet plain))
 
-  -- ---- a command on one file
+  -- ---- a command on one bid file
 
-  module _ (path : List ℕ) (prices : Prices) (command : PlainCommand) (err_after : Watched E) where
+  module _ (path : List ℕ) (request : PlainRequest) (err_after : Watched E) where
     abbrev RunsOnNumbers : List ℕ → Result ℕ RunFault → Type 0
-    RunsOnNumbers numbers answer = RunsAt may_open remaining contents messages path prices (outcome_for command numbers) out out_after err err_after answer
+    RunsOnNumbers bids answer =
+        RunsAt may_open remaining contents messages path request.prices (outcome_of request bids) out out_after err err_after answer
 
-    kept_sent : (numbers : List ℕ) (answer sent : Result ℕ RunFault) (ran : RunsOnNumbers numbers answer)
-        → RunsOnFile (PricedGives remaining) (PricedRefuses remaining) contents (outcome_for command numbers) ran.before ran.after out out_after sent
-        → Kept prices err_after (answer_if_lost (is_lost ran.after.rounded err_after) sent)
-    kept_sent numbers answer (Err fault) ran runs =
-        silent_run contents (Commands (PricedGives remaining) (PricedRefuses remaining) (outcome_for command numbers) ran.before ran.after) out out_after fault
-        runs
-    kept_sent numbers answer (Ok status) ran runs =
+    kept_sent : (bids : List ℕ) (answer sent : Result ℕ RunFault) (ran : RunsOnNumbers bids answer)
+        → RunsOnFile (PricedGives remaining) (PricedRefuses remaining) contents (outcome_of request bids) ran.before ran.after out out_after sent
+        → Kept request.prices err_after (answer_if_lost (is_lost ran.after.rounded err_after) sent)
+    kept_sent bids answer (Err fault) ran runs =
+        silent_run contents (Commands (PricedGives remaining) (PricedRefuses remaining) (outcome_of request bids) ran.before ran.after) out out_after fault runs
+    kept_sent bids answer (Ok status) ran runs =
         let made = runs.answers in
-        let most = (printed _ _ _ (command_printed command numbers made.file) made.made).0 in
+        let most = (printed _ _ _ (command_printed request bids made.file) made.made).0 in
         let is = runs.is_status in
-        kept_if_lost prices err_after (is_lost ran.after.rounded err_after) status (omega (arith, most, is))
-        (λ plain. rw (none_given remaining ran.before ran.after (ran.opened.fine ∙ none_rounded prices plain) made.file made.given) at ran.reports)
+        kept_if_lost request.prices err_after (is_lost ran.after.rounded err_after) status (omega (arith, most, is))
+        (λ plain. rw (none_given remaining ran.before ran.after (ran.opened.fine ∙ not_rounded request.prices plain) made.file made.given) at ran.reports)
 
-    kept_at : (numbers : List ℕ) (answer : Result ℕ RunFault) → RunsOnNumbers numbers answer → Kept prices err_after answer
-    kept_at numbers answer ran = rw ran.answers (kept_sent numbers answer ran.sent ran ran.runs)
+    kept_at : (bids : List ℕ) (answer : Result ℕ RunFault) → RunsOnNumbers bids answer → Kept request.prices err_after answer
+    kept_at bids answer ran = rw ran.answers (kept_sent bids answer ran.sent ran ran.runs)
 
-    -- it runs on the bids that are named, or on none
-    kept_on : (named : Option PlainBids) (answer : Result ℕ RunFault) → RunsOnBids may_open may_refuse remaining messages
-        (λ numbers out out_after err err_after answer. RunsAt may_open remaining contents messages path prices (outcome_for command numbers) out out_after err
-        err_after answer) named out out_after err err_after answer → Kept prices err_after answer
-    kept_on None answer ran = kept_at [] answer ran
-    kept_on (Some (GivenBids bids)) answer ran = kept_at bids answer ran
-    kept_on (Some (BidsIn list)) (Err fault) ran = kept_at ran.bids (Err fault) ran.runs
-    kept_on (Some (BidsIn list)) (Ok status) (inl listed) = kept_at listed.bids (Ok status) listed.runs
-    kept_on (Some (BidsIn list)) (Ok status) (inr refused) =
+    -- it runs on the bids in the list, or on those that are given
+    kept_on : (list : Option (List ℕ)) (answer : Result ℕ RunFault) → RunsOnBids may_open may_refuse remaining messages
+        (λ bids out out_after err err_after answer. RunsAt may_open remaining contents messages path request.prices (outcome_of request bids) out out_after
+        err err_after answer) list request.bids out out_after err err_after answer → Kept request.prices err_after answer
+    kept_on None answer ran = kept_at request.bids answer ran
+    kept_on (Some list) (Err fault) ran = kept_at ran.bids (Err fault) ran.runs
+    kept_on (Some list) (Ok status) (inl listed) = kept_at listed.bids (Ok status) listed.runs
+    kept_on (Some list) (Ok status) (inr refused) =
         let least = error_status_above refused.error in
         let is = refused.is_status in
         ((λ other. inr refused.silent), (λ plain most. absurd (omega (arith, least, is, most))))
 
+  -- ---- a command on two
+
+  abbrev RanOnPair : List ℕ → List ℕ → PlainRequest → Watched E → Result ℕ RunFault → Type 0
+  RanOnPair first second request err_after answer =
+      RunsAtBoth may_open remaining contents messages first second request out out_after err err_after answer
+
+  sent_both : (first second : List ℕ) (request : PlainRequest) (err_after : Watched E) (answer sent : Result ℕ RunFault)
+      (ran : RanOnPair first second request err_after answer)
+      → RunsOnPair (PricedGives remaining) (PricedRefuses remaining) (PricedGives remaining) (PricedRefuses remaining) contents request ran.left
+      ran.left_after ran.right ran.right_after out out_after sent
+      → Kept request.prices err_after (answer_if_lost (is_lost (max ran.left_after.rounded ran.right_after.rounded) err_after) sent)
+  sent_both first second request err_after answer (Err fault) ran runs =
+      silent_run contents (CommandsOnBoth (PricedGives remaining) (PricedRefuses remaining) (PricedGives remaining) (PricedRefuses remaining)
+      request ran.left ran.left_after ran.right ran.right_after) out out_after fault runs
+  sent_both first second request err_after answer (Ok status) ran runs =
+      let facts = pair_facts (PricedGives remaining) (PricedRefuses remaining) (PricedGives remaining) (PricedRefuses remaining) ran.left ran.left_after
+      ran.right ran.right_after request.task request.options in
+      let made = facts.made runs.answer runs.answers in
+      let most = made.printed.0 in
+      let is = runs.is_status in
+      kept_if_lost request.prices err_after (is_lost (max ran.left_after.rounded ran.right_after.rounded) err_after) status (omega (arith, most, is))
+      (λ plain.
+      let written = not_rounded request.prices plain in
+      let one = none_given remaining ran.left ran.left_after (ran.left_opened.fine ∙ written) made.files.0 made.given.0.given in
+      let other = none_given remaining ran.right ran.right_after (ran.right_opened.fine ∙ written) made.files.1 made.given.1.given in
+      rw other at (rw one at ran.reports))
+
+  kept_both : (first second : List ℕ) (request : PlainRequest) (err_after : Watched E) (answer : Result ℕ RunFault)
+      → RanOnPair first second request err_after answer → Kept request.prices err_after answer
+  kept_both first second request err_after answer ran =
+      rw ran.answers (sent_both first second request err_after answer ran.sent ran ran.runs)
+
   -- ---- any request
+
+  -- A request for one or two files that answered has the status 0 or 1, or has written nothing, unless it has found a fault. It has reported
+  -- nothing, unless it is one that reports. One that failed has written nothing, unless its output failed.
+  abbrev KeptBy : Files → Task → Option FinePrices → Watched E → Result ℕ RunFault → Type 0
+  KeptBy count task prices err_after (Ok status) =
+      (is_many count ≡ false → finds task status ≡ false → status ≢ 5 → (status ≤ 1) ⊎ (out_after ≡ out))
+      × ((is_many count || reports task prices) ≡ false → status ≤ 1 → err_after ≡ err)
+  KeptBy count task prices err_after (Err fault) = is_many count ≡ false → IsSilent (Run fault) out out_after
+
+  kept_few : (count : Files) (task : Task) (prices : Option FinePrices) (err_after : Watched E) (answer : Result ℕ RunFault)
+      → ((is_many count || reports task prices) ≡ false → is_some prices ≡ false) → Kept prices err_after answer → KeptBy count task prices err_after answer
+  kept_few count task prices err_after (Ok status) plain kept = ((λ few none. kept.0), (λ quiet. kept.1 (plain quiet)))
+  kept_few count task prices err_after (Err fault) plain kept = λ few. kept
+
+  kept_one : (task : Task) (request : PlainRequest) (path : List ℕ) (err_after : Watched E) (answer : Result ℕ RunFault)
+      → RunsOnOne may_open may_refuse remaining contents messages task request path out out_after err err_after answer
+      → KeptBy One task request.prices err_after answer
+  kept_one Fault request path err_after (Ok status) ran =
+      let made = ran.0.runs in
+      ((λ few none other. inl (none_printed path (first_place made.given) status made.text made.made none)), (λ plain most. ran.1))
+  kept_one Fault request path err_after (Err (Refused which fault)) ran = λ few. ran.0.runs.2
+  kept_one Fault request path err_after (Err (Sent fault)) ran = λ few. tt
+  kept_one Fault request path err_after (Err fault) ran = absurd ran.0.runs
+  kept_one Round request path err_after (Ok status) ran = (
+    (λ few none other. inl (round_printed (is_lost (length (rounded_prices (unwrap_or request.prices RoundFine) ran.runs.given)) err_after) status
+        ran.runs.text ran.runs.made other)),
+    (λ plain most. absurd (cc)),
+  )
+  kept_one Round request path err_after (Err (Refused which fault)) ran = λ few. ran.runs.silent
+  kept_one Round request path err_after (Err (Sent fault)) ran = λ few. tt
+  kept_one Round request path err_after (Err fault) ran = absurd ran.runs
+  kept_one task request path err_after answer ran =
+      kept_few One task request.prices err_after answer (λ quiet. quiet) (kept_on path request err_after request.list answer ran)
+
+  unfit : (count : Files) (request : PlainRequest) (err_after : Watched E) (answer : Result ℕ RunFault)
+      → (answer ≡ Ok 64) × (out_after ≡ out) × (err_after ≡ err) → KeptBy count request.task request.prices err_after answer
+  unfit count request err_after (Ok status) ran = ((λ few none other. inr ran.1), (λ quiet most. ran.2))
+  unfit count request err_after (Err fault) ran = absurd (no_answer fault (Err fault) refl ran.0)
+
+  kept_with : (count : Files) (files : List (List ℕ)) (request : PlainRequest) (err_after : Watched E) (answer : Result ℕ RunFault)
+      → count ≡ files_of request.task
+      → RunsWith may_open may_refuse remaining contents messages terminal may_find count files request out out_after err err_after answer
+      → KeptBy count request.task request.prices err_after answer
+  kept_with Many files request err_after (Ok status) is ran = ((λ few none other. absurd (cc)), (λ quiet most. absurd (cc)))
+  kept_with Many files request err_after (Err fault) is ran = λ few. absurd (cc)
+  kept_with One (file ∷ []) request err_after answer is ran = kept_one request.task request file err_after answer ran
+  kept_with Two (first ∷ second ∷ []) request err_after answer is ran =
+      kept_few Two request.task request.prices err_after answer (quiet_pair request.task request.prices is)
+      (kept_both first second request err_after answer ran)
+  kept_with count files request err_after answer is ran = unfit count request err_after answer ran
 
   abbrev Ran : PlainRequest → Watched E → Result ℕ RunFault → Type 0
   Ran request err_after answer = RunsFor may_open may_refuse remaining contents messages terminal may_find request out out_after err err_after answer
@@ -143,68 +235,9 @@ module _ {F W E : Type 0} (may_open : List ℕ → F → Type 0) (may_refuse : L
   abbrev Failed : PlainRequest → Watched E → ℕ → Type 0
   Failed request err_after status = FailsRequest may_open may_refuse remaining contents messages terminal may_find request out out_after err err_after status
 
-  abbrev RanOnPair : List ℕ → List ℕ → Prices → Comparison → Watched E → Result ℕ RunFault → Type 0
-  RanOnPair first second prices comparison err_after answer =
-      RunsAtBoth may_open remaining contents messages first second prices comparison out out_after err err_after answer
-
-  sent_both : (first second : List ℕ) (prices : Prices) (comparison : Comparison) (err_after : Watched E) (answer sent : Result ℕ RunFault)
-      (ran : RanOnPair first second prices comparison err_after answer)
-      → RunsOnPair (PricedGives remaining) (PricedRefuses remaining) (PricedGives remaining) (PricedRefuses remaining) contents comparison ran.left
-      ran.left_after ran.right ran.right_after out out_after sent
-      → Kept prices err_after (answer_if_lost (is_lost (max ran.left_after.rounded ran.right_after.rounded) err_after) sent)
-  sent_both first second prices comparison err_after answer (Err fault) ran runs =
-      silent_run contents (CommandsOnBoth (PricedGives remaining) (PricedRefuses remaining) (PricedGives remaining) (PricedRefuses remaining)
-      comparison ran.left ran.left_after ran.right ran.right_after) out out_after fault runs
-  sent_both first second prices comparison err_after answer (Ok status) ran runs =
-      let facts = pair_facts (PricedGives remaining) (PricedRefuses remaining) (PricedGives remaining) (PricedRefuses remaining) ran.left ran.left_after
-      ran.right ran.right_after comparison in
-      let made = facts.made runs.answer runs.answers in
-      let most = made.printed.0 in
-      let is = runs.is_status in
-      kept_if_lost prices err_after (is_lost (max ran.left_after.rounded ran.right_after.rounded) err_after) status (omega (arith, most, is))
-      (λ plain.
-      let written = none_rounded prices plain in
-      let one = none_given remaining ran.left ran.left_after (ran.left_opened.fine ∙ written) made.files.0 made.given.0.given in
-      let other = none_given remaining ran.right ran.right_after (ran.right_opened.fine ∙ written) made.files.1 made.given.1.given in
-      rw other at (rw one at ran.reports))
-
-  kept_both : (first second : List ℕ) (prices : Prices) (comparison : Comparison) (err_after : Watched E) (answer : Result ℕ RunFault)
-      → RanOnPair first second prices comparison err_after answer → Kept prices err_after answer
-  kept_both first second prices comparison err_after answer ran =
-      rw ran.answers (sent_both first second prices comparison err_after answer ran.sent ran ran.runs)
-
-  -- A request for one or two files that answered has the status 0 or 1, or has written nothing, unless it has found a fault. It has reported
-  -- nothing, unless it is one that reports. One that failed has written nothing, unless its output failed.
-  abbrev KeptFor : PlainRequest → Watched E → Result ℕ RunFault → Type 0
-  KeptFor request err_after (Ok status) =
-      (is_for_many_files request ≡ false → has_found status request ≡ false → status ≢ 5 → (status ≤ 1) ⊎ (out_after ≡ out))
-      × (is_reporting request ≡ false → status ≤ 1 → err_after ≡ err)
-  KeptFor request err_after (Err fault) = is_for_many_files request ≡ false → IsSilent (Run fault) out out_after
-
-  kept_for : (request : PlainRequest) (err_after : Watched E) (answer : Result ℕ RunFault) → Ran request err_after answer → KeptFor request err_after answer
-  kept_for (OnFile path prices command) err_after (Ok status) ran =
-      let kept = kept_on path prices command err_after (named_bids command) (Ok status) ran in ((λ few none. kept.0), kept.1)
-  kept_for (OnFile path prices command) err_after (Err fault) ran = λ few. kept_on path prices command err_after (named_bids command) (Err fault) ran
-  kept_for (OnPair first second prices command limits) err_after (Ok status) ran =
-      let kept = kept_both first second prices (comparison_of command limits) err_after (Ok status) ran in ((λ few none. kept.0), kept.1)
-  kept_for (OnPair first second prices command limits) err_after (Err fault) ran =
-      λ few. kept_both first second prices (comparison_of command limits) err_after (Err fault) ran
-  kept_for (OnFiles files) err_after (Ok status) ran = ((λ few none other. absurd (cc)), (λ plain most. absurd (cc)))
-  kept_for (OnFiles files) err_after (Err fault) ran = λ few. absurd (cc)
-  kept_for (Fault file) err_after (Ok status) ran =
-      let made = ran.0.runs in
-      ((λ few none other. inl (none_printed file (first_place made.given) status made.text made.made none)), (λ plain most. ran.1))
-  kept_for (Fault file) err_after (Err (Refused which fault)) ran = λ few. ran.0.runs.2
-  kept_for (Fault file) err_after (Err (Sent fault)) ran = λ few. tt
-  kept_for (Fault file) err_after (Err fault) ran = absurd ran.0.runs
-  kept_for (Round file exact) err_after (Ok status) ran = (
-    (λ few none other. inl (round_printed (is_lost (length (rounded_prices (fine_of exact) ran.runs.given)) err_after) status ran.runs.text
-        ran.runs.made other)),
-    (λ plain most. absurd (cc)),
-  )
-  kept_for (Round file exact) err_after (Err (Refused which fault)) ran = λ few. ran.runs.silent
-  kept_for (Round file exact) err_after (Err (Sent fault)) ran = λ few. tt
-  kept_for (Round file exact) err_after (Err fault) ran = absurd ran.runs
+  kept_for : (request : PlainRequest) (err_after : Watched E) (answer : Result ℕ RunFault) → Ran request err_after answer
+      → KeptBy (files_of request.task) request.task request.prices err_after answer
+  kept_for request err_after answer ran = kept_with (files_of request.task) request.files request err_after answer refl ran
 
   silent_request : (request : PlainRequest) (err_after : Watched E) (error : RequestError) → Carried request err_after (Err error)
       → is_for_many_files request ≡ false → IsSilent error out out_after

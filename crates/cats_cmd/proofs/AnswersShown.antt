@@ -6,9 +6,11 @@ use Rattle.cats_cmd.proofs.Common.{side_text, explanation_text, reason_cells, hi
 use Rattle.cats_cmd.proofs.Common.{list_cell, number_cell, price_cell, Outcome, Prints, diff_outcome, outcome_of_difference, outcome_of_verdict, outcome_unless}
 use Rattle.cats_cmd.proofs.Common.{text_unless_refused, value_text, PlainBid, PlainFile, Difference, NoDifference, Side, Exactly, PlainPlace, behind_point}
 use Rattle.cats_cmd.proofs.Common.{bids_text, digit_at, places_text, six_digits, with_place, without_zeros, Kind, PlainDifferences, PlainReason, Zero}
-use Rattle.cats_cmd.proofs.Common.{allocation_text, AllocationVerdict, Revenue, PlainRow, if_none, AreBytes, escaped, text_of_place, outcome_for, PlainCommand}
-use Rattle.cats_cmd.proofs.Common.{Check, append_assoc, codes, decimal, Option, Some, None}
+use Rattle.cats_cmd.proofs.Common.{allocation_text, AllocationVerdict, Revenue, PlainRow, if_none, AreBytes, escaped, text_of_place, outcome_by, outcome_of}
+use Rattle.cats_cmd.proofs.Common.{PlainRequest}
+use Rattle.cats_cmd.proofs.Common.{Task, append_assoc, codes, decimal, Option, Some, None}
 use Rattle.cats_text.specs.declared.read_fault.Kind.TheVariants as kinds
+use Rattle.requests.specs.declared.task.Task.TheVariants.{Check}
 use Rattle.cats_cmd.proofs.PrintableTexts.{bytes_from, of_each}
 use Rattle.cats_cmd.proofs.ShownTexts.{Ours, Shown, is_ours, number_ours, ours, path_shown, then}
 
@@ -137,9 +139,12 @@ differences_printed left right d = simp (texts, one_at_most)
 ruleset outcomes = (texts, is_printed-cond, is_printed-unless, is_printed-unless_refused, verdict_printed)
 
 -- the texts of all commands are of these pieces
-pub command_printed : (command : PlainCommand) (numbers : List ℕ) (file : PlainFile) → is_printed (outcome_for command numbers file) ≡ true
-command_printed Check numbers file = simp texts
-command_printed command numbers file = simp outcomes
+outcome_printed : (task : Task) (request : PlainRequest) (bids : List ℕ) (file : PlainFile) → is_printed (outcome_by task request bids file) ≡ true
+outcome_printed Check request bids file = simp texts
+outcome_printed task request bids file = simp outcomes
+
+pub command_printed : (request : PlainRequest) (bids : List ℕ) (file : PlainFile) → is_printed (outcome_of request bids file) ≡ true
+command_printed request = outcome_printed request.task request
 
 -- ---- any verdict, difference, reasons and differences
 

@@ -22,7 +22,7 @@ pub use Rattle.canon.specs.declared.verdict.Side.{Side}
 pub use Rattle.canon.specs.declared.verdict.Side.TheVariants.{Exactly}
 pub use Rattle.canon.specs.declared.which.Which.{Which}
 pub use Rattle.canon.specs.declared.which.Which.TheVariants.{Only, Both}
-pub use Rattle.cats_cmd.specs.BidLists.{RunsOnBids, named_bids}
+pub use Rattle.cats_cmd.specs.BidLists.{RunsOnBids}
 pub use Rattle.cats_cmd.specs.DuplicateTexts.{found_paths, after_empty_lines, behind, duplicates_text, groups_of, groups_text, is_printed, lines_of, paths_at}
 pub use Rattle.cats_cmd.specs.DuplicateTexts.{plain_group, plain_groups, printed_groups, with_group}
 pub use Rattle.cats_cmd.specs.Duplicates.{files_if_heavy, files_if_judged, heavy_files, heavy_paths, judged_files, judged_paths, paths_if_heavy}
@@ -34,7 +34,7 @@ pub use Rattle.cats_cmd.specs.FindingFaults.{outcome_of_place, text_of_place}
 pub use Rattle.cats_cmd.specs.Folders.{Finds, FindsAt, FoundAt, AreFilesAt, files_at, files_of, found_of, paths_of, BeginsWith, IsBelow, ListsFolder}
 pub use Rattle.cats_cmd.specs.Folders.{with_slash}
 pub use Rattle.cats_cmd.specs.Inputs.{IsOpened, ReadsBytes, IsUnreadStream, StopsReading, WantsMemoryForBytes, ReadsAll}
-pub use Rattle.cats_cmd.specs.Internal.Carrying.{IsButForText, RunsAtOrNot, answer_of_run}
+pub use Rattle.cats_cmd.specs.Internal.Carrying.{IsButForText, answer_of_run}
 pub use Rattle.cats_cmd.specs.Internal.Gathering.{Gathers, GathersNext}
 pub use Rattle.cats_cmd.specs.Internal.Judging.{KeepsNumbers, AddsJudgement, AddsOpened, AddsRefused, KeepsGroups, AddsPath, HasJudged, JudgesAllAs}
 pub use Rattle.cats_cmd.specs.Internal.Judging.{OpensAllAs}
@@ -47,12 +47,12 @@ pub use Rattle.cats_cmd.specs.Paths.{removal_lines, progress_lines, ReportsFrom,
 pub use Rattle.cats_cmd.specs.Paths.{Judgement, IsHeavy, IsJudged, IsUnjudged, JudgesAs, JudgesInput, JudgedPath, Judges, Reporting, greatest_status}
 pub use Rattle.cats_cmd.specs.Paths.{judgement_at, lines_from, lines_of_path, report_lines, status_of_path, without_refusals, BeginsPaths, MakesOfPaths}
 pub use Rattle.cats_cmd.specs.Paths.{RunsOnPaths, outcome_of_paths, progress_line, refusal_line, request_error_of, status_if, is_counted}
-pub use Rattle.cats_cmd.specs.PricedInputs.{PricedGives, PricedRefuses, fine_prices, IsPriced, rounded_words, rounding_lines, gives_by}
-pub use Rattle.cats_cmd.specs.RequestErrors.{Reports, line_of_request_error, has_found, is_for_many_files, is_reporting, is_rounding, names_found}
+pub use Rattle.cats_cmd.specs.PricedInputs.{PricedGives, PricedRefuses, IsPriced, rounded_words, rounding_lines, gives_by}
+pub use Rattle.cats_cmd.specs.RequestErrors.{Reports, line_of_request_error, has_found, is_for_many_files, is_reporting, finds, is_many, reports, names_found}
 pub use Rattle.cats_cmd.specs.RequestErrors.{names_many_files, names_reporting, status_of_request_error, line_of_unopened, ReportsAll, SendsText}
 pub use Rattle.cats_cmd.specs.RequestErrors.{answer_if_lost, is_lost, status_if_lost}
-pub use Rattle.cats_cmd.specs.Requests.{AnswersNoRequest, AnswersRequest, CarriesOut, RunsAt, RunsAtBoth, RunsFor, FailsRequest, comparison_of, fine_of}
-pub use Rattle.cats_cmd.specs.Requests.{outcome_for}
+pub use Rattle.cats_cmd.specs.Requests.{AnswersNoRequest, AnswersRequest, Carries, CarriesOut, RunsAt, RunsAtBoth, RunsFor, RunsOfCommand, RunsOnOne}
+pub use Rattle.cats_cmd.specs.Requests.{RunsWith, FailsRequest}
 pub use Rattle.cats_cmd.specs.Rounding.{IsUnrounded, Rounds}
 pub use Rattle.cats_cmd.specs.Runs.{RunsCommand, SendsAs, RunsOnFile, RunsOnPair, SendsAnswer, SendsMadeAs, WritesText}
 pub use Rattle.cats_cmd.specs.SizesTables.{fault_cell, without_end, MakesTable, columns, rows_of_table, sizes_header, row, number_columns}
@@ -80,13 +80,13 @@ pub use Rattle.cats_text.specs.declared.read_fault.ReadFault.{ReadFault}
 pub use Rattle.cats_text.specs.declared.read_fault.SendFault.{SendFault}
 pub use Rattle.cats_text.specs.declared.stream.Watched.{Watched}
 pub use Rattle.command_line.proofs.Answering.{only_memory}
-pub use Rattle.command_line.specs.PlainRequests.{PlainRequest, OnFile, OnPair, OnFiles, Fault, Round, GivenBids, BidsIn, PlainBids, PlainCommand, Check}
-pub use Rattle.command_line.specs.PlainRequests.{plain_request}
-pub use Rattle.command_line.specs.Requests.{request_of, texts_of, IsNoRequestOf, is_no_memory}
+pub use Rattle.command_line.specs.Requests.{request_of, IsNoRequestOf, is_no_memory}
+pub use Rattle.requests.specs.Requests.{PlainRequest, plain_request, texts_of}
+pub use Rattle.requests.specs.declared.task.Files.{Files}
+pub use Rattle.requests.specs.declared.task.Files.TheVariants.{One, Two, Many}
+pub use Rattle.requests.specs.declared.task.Task.{Task}
 pub use Rattle.command_line.specs.declared.request.NoRequest.{NoRequest}
 pub use Rattle.command_line.specs.declared.request.NoRequest.TheVariants.{WrongUsage, NoMemory}
-pub use Rattle.command_line.specs.declared.request.Prices.{Prices}
-pub use Rattle.command_line.specs.declared.request.Prices.TheVariants.{AsWritten}
 pub use Rattle.commands.proofs.Sizing.{heavy_bid}
 pub use Rattle.commands.specs.Commands.{Commands, text_of}
 pub use Rattle.commands.specs.ComparisonTexts.{difference_text, side_text}
@@ -98,17 +98,16 @@ pub use Rattle.commands.specs.FaultPlaceTexts.{before_word, behind_word, shown_b
 pub use Rattle.commands.specs.KindNames.{name_of_kind}
 pub use Rattle.commands.specs.Naming.{with_bid}
 pub use Rattle.commands.specs.Outcomes.{Prints, Outcome, diff_outcome, outcome_of_difference, outcome_of_verdict, outcome_unless, text_unless_refused}
-pub use Rattle.commands.specs.Outcomes.{exceeds_at, naming_outcome, normalise_outcome, exceeds_limits, exceeds_packings, value_outcome_if}
+pub use Rattle.commands.specs.Outcomes.{exceeds_at, naming_outcome, normalise_outcome, outcome_by, outcome_of, exceeds_limits, exceeds_packings}
+pub use Rattle.commands.specs.Outcomes.{value_outcome_if}
 pub use Rattle.commands.specs.Outputs.{bundle_text, list_cell, number_cell, price_cell, after_commas}
-pub use Rattle.commands.specs.Pairs.{CommandsOnBoth, CommandsBoth, GivesBoth, outcome_of_both}
+pub use Rattle.commands.specs.Pairs.{CommandsBy, CommandsOnBoth, CommandsBoth, GivesBoth, outcome_of_both}
 pub use Rattle.commands.specs.Pieces.{text_of_piece, text_of_pieces}
 pub use Rattle.commands.specs.RoundedLines.{rounded_line}
 pub use Rattle.commands.specs.SizesRows.{cells, Sized, IsSized, IsTooHeavy, IsUnsized, Sizes, fault_sized, numbers_sized}
 pub use Rattle.commands.specs.Statuses.{status_of_canon_fault, status_of_read_fault}
 pub use Rattle.commands.specs.ValueTexts.{value_text, bundle_from}
 pub use Rattle.commands.specs.declared.answer.Answer.{Answer}
-pub use Rattle.commands.specs.declared.command.Comparison.{Comparison}
-pub use Rattle.commands.specs.declared.command.Comparison.TheVariants.{Compare, Diff}
 pub use Rattle.commands.specs.declared.faults.HeavyBid.{HeavyBid}
 pub use Rattle.commands.specs.declared.faults.RunFault.{RunFault}
 pub use Rattle.commands.specs.declared.faults.RunFault.TheVariants.{Refused, Sent, TooHeavy, GoodRange, BidRange}
@@ -162,7 +161,7 @@ pub use Rattle.std.specs.Option.{MatchOption, option_map}
 pub use Rattle.std.specs.Ordering.{nat_cmp}
 pub use Rattle.std.specs.declared.cmp.Ordering.{Ordering}
 pub use Rattle.std.specs.declared.cmp.Ordering.TheVariants.{Less}
-pub use Rattle.std.specs.Prelude.{nat_le, unwrap_or, IfOk, Vec, filter, IsErr, IfSome, nat_lt, IsErrAnd, IsSomeAnd, IsPermutation, nat_eq}
+pub use Rattle.std.specs.Prelude.{is_some, nat_le, unwrap_or, IfOk, Vec, filter, IsErr, IfSome, nat_lt, IsErrAnd, IsSomeAnd, IsPermutation, nat_eq}
 pub use Rattle.std.specs.Str.{all_scalars, IsUtf8, is_utf8}
 pub use Rattle.std.specs.declared.alloc.AllocError.{AllocError}
 pub use Rattle.valuation.specs.Auctions.{or_atoms_of, auction_from}

@@ -1,6 +1,7 @@
 -- The file at one path: what reading its input says of it, in the words of the run.
 use Rattle.cats_cmd.proofs.Common.{◌≡◌, ℕ, List, [], ◌∷◌, ◌++◌, Option, None, Some, refl, ap, ap₂, subst, inl, inr, Global, Vec, PlainFile, IsPlainFile}
-use Rattle.cats_cmd.proofs.Common.{Prices, SearchOptions, fault_at, Kind, ReadFault, or_atoms_of, first_refused, RefusesAs, canonical_text, AddsText, IsText}
+use Rattle.cats_cmd.proofs.Common.{FinePrices, SearchOptions, fault_at, Kind, ReadFault, or_atoms_of, first_refused, RefusesAs, canonical_text, AddsText}
+use Rattle.cats_cmd.proofs.Common.{IsText}
 use Rattle.cats_cmd.proofs.Common.{normalised_file, refusal_by_kind, refusal_of, CanonFault, Read, StepLimit, Memory, Only}
 use Rattle.cats_cmd.proofs.Common.{heavy_bid, found_paths, HeavyBid, with_bid, exceeds_at, text_unless_refused, IsPriced, PricedGives}
 use Rattle.cats_cmd.proofs.Common.{PricedRefuses, AddsJudgement, AddsOpened, AddsRefused, KeepsGroups, Judgement, IsHeavy, IsJudged, IsUnjudged, JudgesAs}
@@ -120,7 +121,7 @@ groups_heavy before after path copy number is kept file facts added put heavy js
 -- ---- the file at a path
 
 module _ {F : Type 0} (may_open : List ℕ → F → Type 0) (may_refuse : List ℕ → Unopened → Type 0) (remaining : F → Option (List ℕ))
-    (options : SearchOptions) (prices : Prices) (path : List ℕ) where
+    (options : SearchOptions) (prices : Option FinePrices) (path : List ℕ) where
   pub opened_judges : (before after : PricedInput F) → IsPriced may_open prices path before → (j : Judgement)
       → JudgesInput (PricedGives remaining) (PricedRefuses remaining) options before after j
       → JudgesAs may_open may_refuse remaining options prices path after.rounded j

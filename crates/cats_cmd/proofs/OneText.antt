@@ -2,7 +2,7 @@
 use Rattle.cats_cmd.proofs.Common.{◌≡◌, ◌<◌, ◌++◌, ◌∙◌, ℕ, Bool, List, Option, Some, None, Result, Ok, Err, arith, refl, sym, ap, subst, append-nil}
 use Rattle.cats_cmd.proofs.Common.{PlainFile, CanonFault, Read, StepLimit, Memory, Kind, Device, status_of_canon_fault, status_of_read_fault, Watched}
 use Rattle.cats_cmd.proofs.Common.{inner_of, SendsWhole, FinePrices, Outcome, Commands, text_of, RunFault, Refused, Sent, TooHeavy, GoodRange, BidRange}
-use Rattle.cats_cmd.proofs.Common.{Prices, IsPriced, PricedGives, PricedRefuses, fine_prices, gives_by, PricedInput, answer_if_lost, is_lost}
+use Rattle.cats_cmd.proofs.Common.{IsPriced, PricedGives, PricedRefuses, gives_by, PricedInput, answer_if_lost, is_lost}
 use Rattle.cats_cmd.proofs.Common.{status_of_request_error, RequestError, CannotOpen, NotOpened, Run, RunsAt, RunsOnFile}
 use Rattle.std.specs.Io.KnownBytes.{Consumes, IsAtEnd}
 use Rattle.cats_text.specs.Grammar.{Spells}
@@ -59,10 +59,11 @@ module _ {F : Type 0} (remaining : F → Option (List ℕ)) (text : List ℕ) wh
 -- ---- the run
 
 module _ {F W E : Type 0} (may_open : List ℕ → F → Type 0) (remaining : F → Option (List ℕ)) (contents : W → Option (List ℕ))
-    (messages : E → Option (List ℕ)) (path text : List ℕ) (only : (stream : F) → may_open path stream → remaining stream ≡ Some text) (prices : Prices)
-    (outcome : PlainFile → Outcome) (out out_after : Watched W) (err err_after : Watched E) (status : ℕ) (success : status < 2) where
+    (messages : E → Option (List ℕ)) (path text : List ℕ) (only : (stream : F) → may_open path stream → remaining stream ≡ Some text)
+    (prices : Option FinePrices) (outcome : PlainFile → Outcome) (out out_after : Watched W) (err err_after : Watched E) (status : ℕ)
+    (success : status < 2) where
   abbrev Printed : Type 0
-  Printed = (printed : List ℕ) × PrintsOf outcome (fine_prices prices) text status printed × SendsWhole contents out out_after printed
+  Printed = (printed : List ℕ) × PrintsOf outcome prices text status printed × SendsWhole contents out out_after printed
 
   sent_text : (before after : PricedInput F) → IsPriced may_open prices path before
       → WritesAnswer contents (Commands (PricedGives remaining) (PricedRefuses remaining) outcome before after) out out_after status → Printed

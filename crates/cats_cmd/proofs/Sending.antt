@@ -1,10 +1,11 @@
 -- A run sends what its command answers: by the command's contract, what was sent is what the run promises.
 use Rattle.cats_cmd.proofs.Common.{◌≡◌, ◌≤◌, ℕ, List, Option, Result, Ok, Err, true, refl, inr, PlainFile, ReadFault, SendFault, Watched, Memory, Which, Only}
 use Rattle.cats_cmd.proofs.Common.{Both, RunFault, Refused, Sent, Commands, text_of, Outcome, Prints, diff_outcome, naming_outcome, normalise_outcome}
-use Rattle.cats_cmd.proofs.Common.{CommandsBoth, CommandsOnBoth, GivesBoth, outcome_of_both, first_difference, auction_from, SearchOptions, Answer, Comparison}
-use Rattle.cats_cmd.proofs.Common.{Compare, Diff, RunsCommand, RunsOnFile, RunsOnPair, SendsAnswer, SendsAs, SendsMadeAs, WritesText}
+use Rattle.cats_cmd.proofs.Common.{CommandsBoth, CommandsBy, GivesBoth, outcome_of_both, first_difference, auction_from, SearchOptions, Answer, Task}
+use Rattle.cats_cmd.proofs.Common.{RunsCommand, RunsOnFile, SendsAnswer, SendsAs, SendsMadeAs, WritesText}
 use Rattle.cats_cmd.proofs.AnswersShown.{difference_printed, differences_printed, is_printed, printed}
 use Rattle.cats_cmd.proofs.ShownTexts.{Shown}
+use Rattle.requests.specs.declared.task.Task.TheVariants.{Compare}
 
 -- the status that was answered is that of the text
 pub wrote : {A W : Type 0} (contents : W → Option (List ℕ)) (Reads : A → Type 0) (outcome : A → Outcome) (old new : Watched W) (given : A) → Reads given
@@ -73,17 +74,17 @@ module _ {I J : Type 0} (gives_first : I → I → PlainFile → Type 0) (refuse
     };
   }
 
-  abbrev Answers : Comparison → Result Answer RunFault → Type 0
-  Answers comparison answer = CommandsOnBoth gives_first refuses_first gives_second refuses_second comparison first first_after second second_after answer
+  abbrev Answers : Task → SearchOptions → Result Answer RunFault → Type 0
+  Answers task options answer = CommandsBy gives_first refuses_first gives_second refuses_second task options first first_after second second_after answer
 
-  pub pair_facts : (comparison : Comparison) → PairFacts (Answers comparison)
-  pair_facts (Compare options) = both_made options (normalise_outcome options) _ outcome_of_both (λ files. files) (λ files given. given)
+  pub pair_facts : (task : Task) (options : SearchOptions) → PairFacts (Answers task options)
+  pair_facts Compare options = both_made options (normalise_outcome options) _ outcome_of_both (λ files. files) (λ files given. given)
       (λ files. difference_printed (first_difference (auction_from files.0) (auction_from files.1)))
-  pair_facts (Diff options) = both_made options (naming_outcome options) _ diff_outcome (λ compared. (compared.0, compared.1))
+  pair_facts task options = both_made options (naming_outcome options) _ diff_outcome (λ compared. (compared.0, compared.1))
       (λ compared given. given.given) (λ compared. differences_printed compared.0 compared.1 compared.2)
 
-  pub pair_run : {W : Type 0} (contents : W → Option (List ℕ)) (comparison : Comparison) (old new : Watched W) (answer : Result Answer RunFault)
-      → Answers comparison answer → (result : Result ℕ RunFault) → SendsAnswer contents Both answer old new result
-      → RunsOnPair gives_first refuses_first gives_second refuses_second contents comparison first first_after second second_after old new result
-  pair_run contents comparison old new answer given result sends =
-      let facts = pair_facts comparison in command_run contents (Answers comparison) Both facts.unsent facts.memory old new answer given result sends
+  pub pair_run : {W : Type 0} (contents : W → Option (List ℕ)) (task : Task) (options : SearchOptions) (old new : Watched W)
+      (answer : Result Answer RunFault) → Answers task options answer → (result : Result ℕ RunFault) → SendsAnswer contents Both answer old new result
+      → RunsCommand contents (Answers task options) old new result
+  pair_run contents task options old new answer given result sends =
+      let facts = pair_facts task options in command_run contents (Answers task options) Both facts.unsent facts.memory old new answer given result sends

@@ -1,12 +1,11 @@
--- The bids that a command names. They are numbers that words of the command line are, or those in a list.
-use Rattle.std.specs.Prelude.{◌≡◌, ◌⊎◌, ℕ, List, [], Option, None, Some, Result, Ok, Err}
+-- The bids of `revenue`. They are those that a request names, or those in its list.
+use Rattle.std.specs.Prelude.{◌≡◌, ◌⊎◌, ℕ, List, Option, None, Some, Result, Ok, Err}
 use Rattle.cats_text.specs.Faults.{fault_at}
 use Rattle.cats_text.specs.declared.read_fault.Kind.TheVariants.{NotANumber as NoNumber}
 use Rattle.cats_text.specs.declared.stream.Watched.{Watched}
 use Rattle.canon.specs.declared.canon_fault.CanonFault.{CanonFault}
 use Rattle.canon.specs.declared.canon_fault.CanonFault.TheVariants.{Read, Memory as NoMemory}
 use Rattle.canon.specs.declared.which.Which.TheVariants.{Only}
-use Rattle.command_line.specs.PlainRequests.{PlainBids, GivenBids, BidsIn, PlainCommand, Revenue}
 use Rattle.analysis.specs.BidNumbers.{RefusesNumbers, bid_numbers, faulty_line, lines_in}
 use Rattle.analysis.specs.declared.winners.bid_numbers.BidNumbersFault.{BidNumbersFault}
 use Rattle.analysis.specs.declared.winners.bid_numbers.BidNumbersFault.TheVariants.{NotANumber, Memory}
@@ -16,11 +15,6 @@ use Rattle.cats_cmd.specs.FileLists.{IsUnread, ReadsList, RefusesList}
 use Rattle.cats_cmd.specs.declared.errors.RequestError.{RequestError}
 use Rattle.cats_cmd.specs.declared.errors.RequestError.TheVariants.{Run}
 use Rattle.cats_cmd.specs.declared.source.Unopened.{Unopened}
-
--- the bids that a command names, if it names some
-abbrev pub named_bids : PlainCommand → Option PlainBids
-named_bids (Revenue bids) = Some bids
-named_bids command = None
 
 -- as the fault of a bid file: a word of this line is not a number, or memory was refused
 abbrev pub fault_of_numbers : BidNumbersFault → CanonFault
@@ -59,12 +53,12 @@ module _ {F W E : Type 0} (may_open : List ℕ → F → Type 0) (may_refuse : L
     pub reads : ReadsBids may_open may_refuse remaining list bids
     pub runs : Runs bids out out_after err err_after answer
 
-  -- the run on the bids that are given, or that are listed, or on none
-  abbrev pub RunsOnBids : Option PlainBids → Watched W → Watched W → Watched E → Watched E → Result ℕ RunFault → Type 0
-  RunsOnBids None out out_after err err_after answer = Runs [] out out_after err err_after answer
-  RunsOnBids (Some (GivenBids bids)) out out_after err err_after answer = Runs bids out out_after err err_after answer
-  RunsOnBids (Some (BidsIn list)) out out_after err err_after (Ok status) =
+  -- the run on the bids in the list, or else on those that are given
+  abbrev pub RunsOnBids : Option (List ℕ) → List ℕ → Watched W → Watched W → Watched E → Watched E → Result ℕ RunFault
+      → Type 0
+  RunsOnBids None bids out out_after err err_after answer = Runs bids out out_after err err_after answer
+  RunsOnBids (Some list) bids out out_after err err_after (Ok status) =
       RunsOnListedBids list out out_after err err_after (Ok status)
       ⊎ RefusesList messages (AreUnread may_open may_refuse remaining list) list out out_after err err_after status
-  RunsOnBids (Some (BidsIn list)) out out_after err err_after (Err fault) =
+  RunsOnBids (Some list) bids out out_after err err_after (Err fault) =
       RunsOnListedBids list out out_after err err_after (Err fault)

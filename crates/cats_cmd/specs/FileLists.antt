@@ -1,10 +1,9 @@
 -- Runs on many files. Their paths are words of the command line, or are in a list of paths.
-use Rattle.std.specs.Prelude.{◌≡◌, ◌⊎◌, ℕ, List, Option, Result, Ok, Err}
+use Rattle.std.specs.Prelude.{◌≡◌, ◌⊎◌, ℕ, List, Option, Some, None, Result, Ok, Err}
 use Rattle.cats_text.specs.declared.read_fault.ReadFault.{ReadFault}
 use Rattle.cats_text.specs.declared.stream.Watched.{Watched}
 use Rattle.canon.specs.declared.canon_fault.CanonFault.TheVariants.{Read, StepLimit, Memory}
 use Rattle.canon.specs.declared.which.Which.TheVariants.{Only}
-use Rattle.command_line.specs.PlainRequests.{PlainPaths, Given, ListedIn}
 use Rattle.cats_cmd.specs.Folders.{AreFilesAt}
 use Rattle.cats_cmd.specs.Inputs.{IsOpened, ReadsAll, StopsReading, WantsMemoryForBytes}
 use Rattle.cats_cmd.specs.PathLists.{paths_in}
@@ -92,7 +91,8 @@ module _ {F W E : Type 0} (may_open : List ℕ → F → Type 0) (may_refuse : L
       ⊎ RefusesList messages (IsUnread may_open may_refuse remaining list) list out out_after err err_after status
   RunsOnList list out out_after err err_after (Err fault) = RunsOnListed list out out_after err err_after (Err fault)
 
-  -- the run on the paths that are given, or that are listed
-  abbrev pub RunsOnFiles : PlainPaths → Watched W → Watched W → Watched E → Watched E → Result ℕ RunFault → Type 0
-  RunsOnFiles (Given paths) out out_after err err_after answer = Runs paths out out_after err err_after answer
-  RunsOnFiles (ListedIn list) out out_after err err_after answer = RunsOnList list out out_after err err_after answer
+  -- the run on the paths in the list, or else on those that are given
+  abbrev pub RunsOnFiles : Option (List ℕ) → List (List ℕ) → Watched W → Watched W → Watched E → Watched E
+      → Result ℕ RunFault → Type 0
+  RunsOnFiles None paths out out_after err err_after answer = Runs paths out out_after err err_after answer
+  RunsOnFiles (Some list) paths out out_after err err_after answer = RunsOnList list out out_after err err_after answer

@@ -2,10 +2,13 @@
 use Rattle.std.specs.Prelude.{◌≡◌, ◌≤◌, ◌⊎◌, ℕ, List, [], ◌∷◌, Option, Some, None, Result, Ok, Err}
 use Rattle.commands.specs.Statuses.{status_of_fault}
 use Rattle.commands.specs.declared.faults.RunFault.{RunFault}
-use Rattle.command_line.specs.PlainRequests.{PlainRequest, OnFile, OnPair, OnFiles, Fault, Round}
-use Rattle.command_line.specs.PlainRequests.{PlainPaths, Given, ListedIn, PlainBids, BidsIn}
 use Rattle.command_line.specs.Requests.{request_of}
-use Rattle.cats_cmd.specs.BidLists.{named_bids}
+use Rattle.requests.specs.Requests.{PlainRequest}
+use Rattle.requests.specs.Tasks.{files_of}
+use Rattle.requests.specs.declared.task.Files.{Files}
+use Rattle.requests.specs.declared.task.Files.TheVariants.{One, Two, Many}
+use Rattle.requests.specs.declared.task.Task.{Task}
+use Rattle.requests.specs.declared.task.Task.TheVariants.{Fault, Round}
 use Rattle.cats_cmd.specs.FileLists.{ReadsList}
 use Rattle.cats_cmd.specs.Opening.{Opening, Opens, OpensAtPaths}
 use Rattle.cats_cmd.specs.PathLists.{paths_in}
@@ -32,12 +35,18 @@ module _ {S H F : Type 0} (content_of : S → H) (opened : S → Option (List Op
       Opens content_of opened old new ((first, Anything) ∷ (second, Anything) ∷ [])
       ⊎ ((status ≡ 5) × Opens content_of opened old new ((first, Anything) ∷ []))
 
-  -- the list of the bids, if they are in one, and then the file, unless the list is refused
-  abbrev pub OpensForBids : List ℕ → Option PlainBids → S → S → ℕ → Type 0
-  OpensForBids file (Some (BidsIn list)) old new status =
+  -- the list of the bids, if there is one, and then the file, unless the list is refused
+  abbrev pub OpensForBids : Option (List ℕ) → List ℕ → S → S → ℕ → Type 0
+  OpensForBids (Some list) file old new status =
       Opens content_of opened old new ((list, NoFolder) ∷ (file, Anything) ∷ [])
       ⊎ ((2 ≤ status) × Opens content_of opened old new ((list, NoFolder) ∷ []))
-  OpensForBids file bids old new status = Opens content_of opened old new ((file, Anything) ∷ [])
+  OpensForBids None file old new status = Opens content_of opened old new ((file, Anything) ∷ [])
+
+  -- the only file of a request, with its list
+  abbrev pub OpensOne : Task → PlainRequest → List ℕ → S → S → ℕ → Type 0
+  OpensOne Fault request file old new status = Opens content_of opened old new ((file, Anything) ∷ [])
+  OpensOne Round request file old new status = Opens content_of opened old new ((file, Anything) ∷ [])
+  OpensOne task request file old new status = OpensForBids request.list file old new status
 
   -- the line has no request, or memory was refused, and nothing is opened
   abbrev pub OpensNothing : List (List ℕ) → S → S → ℕ → Type 0
@@ -57,17 +66,20 @@ module _ {S H F : Type 0} (content_of : S → H) (opened : S → Option (List Op
       pub opens : Opens content_of opened old between ((list, NoFolder) ∷ [])
       pub rest : OpensListed list old between new status ⊎ ((2 ≤ status) × (new ≡ between))
 
-    abbrev pub OpensFiles : PlainPaths → S → S → ℕ → Type 0
-    OpensFiles (Given paths) old new status = OpensAtPaths content_of opened may_find paths old new status
-    OpensFiles (ListedIn list) old new status = OpensList list old new status
+    abbrev pub OpensFiles : Option (List ℕ) → List (List ℕ) → S → S → ℕ → Type 0
+    OpensFiles None paths old new status = OpensAtPaths content_of opened may_find paths old new status
+    OpensFiles (Some list) paths old new status = OpensList list old new status
+
+    -- these paths of a request whose command reads so many files; none, if there are more or fewer
+    abbrev pub OpensPaths : Files → List (List ℕ) → PlainRequest → S → S → ℕ → Type 0
+    OpensPaths Many paths request old new status = OpensFiles request.list paths old new status
+    OpensPaths One (file ∷ []) request old new status = OpensOne request.task request file old new status
+    OpensPaths Two (first ∷ second ∷ []) request old new status = OpensPair first second old new status
+    OpensPaths count paths request old new status = new ≡ old
 
     -- the paths of a request, which ends with this status
     abbrev pub OpensFor : PlainRequest → S → S → ℕ → Type 0
-    OpensFor (OnFile file prices command) old new status = OpensForBids file (named_bids command) old new status
-    OpensFor (OnPair first second prices command limits) old new status = OpensPair first second old new status
-    OpensFor (OnFiles files) old new status = OpensFiles files.paths old new status
-    OpensFor (Fault file) old new status = Opens content_of opened old new ((file, Anything) ∷ [])
-    OpensFor (Round file exact) old new status = Opens content_of opened old new ((file, Anything) ∷ [])
+    OpensFor request = OpensPaths (files_of request.task) request.files request
 
     -- the line has this request, whose paths are opened
     pub record OpensAsked (words : List (List ℕ)) (old new : S) (status : ℕ) : Type 0 where

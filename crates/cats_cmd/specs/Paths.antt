@@ -13,7 +13,7 @@ use Rattle.canon.specs.declared.which.Which.{Which}
 use Rattle.canon.specs.declared.which.Which.TheVariants.{Only}
 use Rattle.commands.specs.Commands.{Commands, GivesWithin, outcome_of_heavy_bid}
 use Rattle.cats_text.specs.declared.read_fault.ReadFault.{ReadFault}
-use Rattle.command_line.specs.declared.request.Prices.{Prices}
+use Rattle.rounding.specs.declared.replacement.FinePrices.{FinePrices}
 use Rattle.commands.specs.Outcomes.{Outcome, Prints, naming_outcome, normalise_outcome}
 use Rattle.cats_cmd.specs.Escaping.{escaped}
 use Rattle.cats_cmd.specs.PricedInputs.{IsPriced, PricedGives, PricedRefuses, rounding_lines}
@@ -179,7 +179,7 @@ module _ {I : Type 0} (gives : I → I → PlainFile → Type 0) (refuses : I �
 
 module _ {F : Type 0} (may_open : List ℕ → F → Type 0) (may_refuse : List ℕ → Unopened → Type 0) (remaining : F
     → Option (List ℕ))
-    (options : SearchOptions) (prices : Prices) where
+    (options : SearchOptions) (prices : Option FinePrices) where
   -- this became of a stream that was opened at the path
   pub record JudgesOpened (path : List ℕ) (judgement : Judgement) (rounded : ℕ) : Type 0 where
     pub before : PricedInput F
@@ -206,8 +206,8 @@ pub record Made : Type 0 where
   pub text : List ℕ
 
 module _ {F E : Type 0} (may_open : List ℕ → F → Type 0) (may_refuse : List ℕ → Unopened → Type 0)
-    (remaining : F → Option (List ℕ)) (messages : E → Option (List ℕ)) (options : SearchOptions) (prices : Prices)
-    (reporting : Reporting) where
+    (remaining : F → Option (List ℕ)) (messages : E → Option (List ℕ)) (options : SearchOptions)
+    (prices : Option FinePrices) (reporting : Reporting) where
   -- this became of the files at these paths, which are the first of so many, and it was reported
   pub record JudgesPaths (count : ℕ) (paths : List (List ℕ)) (err err_after : Watched E)
       (judged : List JudgedPath) : Type 0 where
@@ -230,7 +230,7 @@ outcome_of_paths made = Prints (greatest_status made.judged) made.text
 -- `Makes` says which text is made of what became of the files
 module _ {F W E : Type 0} (may_open : List ℕ → F → Type 0) (may_refuse : List ℕ → Unopened → Type 0)
     (remaining : F → Option (List ℕ)) (contents : W → Option (List ℕ)) (messages : E → Option (List ℕ))
-    (options : SearchOptions) (prices : Prices)
+    (options : SearchOptions) (prices : Option FinePrices)
     (Makes : List (List ℕ × Judgement) → List ℕ → Type 0) (paths : List (List ℕ)) (reporting : Reporting) where
   pub record MakesOfPaths (err err_after : Watched E) (made : Made) : Type 0 where
     pub judges : JudgesPaths may_open may_refuse remaining messages options prices reporting (length paths) paths err

@@ -7,27 +7,18 @@ use Rattle.cats_text.specs.Grammar.{Spells}
 use Rattle.cats_text.specs.declared.read_fault.Kind.TheVariants.{Memory}
 use Rattle.cats_text.specs.declared.read_fault.ReadFault.{ReadFault}
 use Rattle.cats_text.specs.declared.stream.Watched.{Watched}
-use Rattle.command_line.specs.declared.request.Prices.{Prices}
-use Rattle.command_line.specs.declared.request.Prices.TheVariants.{AsWritten, Rounded, RoundedExactly}
 use Rattle.commands.specs.Inputs.{StreamGives, StreamRefuses}
 use Rattle.rounding.specs.Texts.{rounded_prices, rounded_text}
 use Rattle.rounding.specs.declared.replacement.FinePrices.{FinePrices}
-use Rattle.rounding.specs.declared.replacement.FinePrices.TheVariants.{Round, Refuse}
 use Rattle.cats_cmd.specs.Escaping.{escaped}
 use Rattle.cats_cmd.specs.Inputs.{IsOpened, ReadsAll, StopsReading, WantsMemoryForBytes}
 use Rattle.cats_cmd.specs.declared.priced_input.PricedInput.{PricedInput}
 
--- what becomes of fine prices, if prices are rounded
-abbrev pub fine_prices : Prices → Option FinePrices
-fine_prices AsWritten = None
-fine_prices Rounded = Some Round
-fine_prices RoundedExactly = Some Refuse
-
--- a stream that was opened at this path, of which nothing was read; the prices of its file are read so
-pub record IsPriced {R : Type 0} (may_open : List ℕ → R → Type 0) (prices : Prices) (path : List ℕ)
+-- a stream that was opened at this path, of which nothing was read; this becomes of fine prices, if prices are rounded
+pub record IsPriced {R : Type 0} (may_open : List ℕ → R → Type 0) (prices : Option FinePrices) (path : List ℕ)
     (input : PricedInput R) : Type 0 where
   pub opened : IsOpened may_open path input.stream
-  pub fine : input.fine ≡ fine_prices prices
+  pub fine : input.fine ≡ prices
   pub unread : input.rounded ≡ 0
 
 module _ {R : Type 0} (remaining : R → Option (List ℕ)) where

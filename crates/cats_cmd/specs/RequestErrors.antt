@@ -1,6 +1,7 @@
 -- Why a request fails, and what is then reported. The program's status is part of it.
-use Rattle.std.specs.Prelude.{◌≡◌, ◌⊎◌, ◌==◌, ◌++◌, ◌&&◌, ℕ, Bool, true, false, List, [], ◌∷◌, Option, Result, Ok, Err}
-use Rattle.std.specs.Prelude.{codes, if◌then◌else◌, nat_lt}
+use Rattle.std.specs.Prelude.{◌≡◌, ◌⊎◌, ◌==◌, ◌++◌, ◌&&◌, ◌||◌, ℕ, Bool, true, false, List, [], ◌∷◌, Option, Result, Ok}
+use Rattle.std.specs.Prelude.{Err}
+use Rattle.std.specs.Prelude.{codes, if◌then◌else◌, is_some, nat_lt}
 use Rattle.std.specs.Option.{option_map_or}
 use Rattle.cats_text.specs.Streams.{has_failed, Sends}
 use Rattle.cats_text.specs.declared.read_fault.SendFault.{SendFault}
@@ -8,45 +9,52 @@ use Rattle.cats_text.specs.declared.stream.Watched.{Watched}
 use Rattle.commands.specs.FaultLines.{line_of_fault, prefix_of}
 use Rattle.commands.specs.Statuses.{status_of_fault}
 use Rattle.commands.specs.declared.faults.RunFault.{RunFault}
-use Rattle.command_line.specs.PlainRequests.{PlainRequest, OnFile, OnPair, OnFiles, Fault, Round}
+use Rattle.requests.specs.Requests.{PlainRequest}
+use Rattle.requests.specs.Tasks.{files_of}
+use Rattle.requests.specs.declared.task.Files.{Files}
+use Rattle.requests.specs.declared.task.Files.TheVariants.{Many}
+use Rattle.requests.specs.declared.task.Task.{Task}
+use Rattle.requests.specs.declared.task.Task.TheVariants.{Fault, Round}
+use Rattle.rounding.specs.declared.replacement.FinePrices.{FinePrices}
 use Rattle.command_line.specs.Requests.{request_of}
-use Rattle.command_line.specs.declared.request.Prices.{Prices}
-use Rattle.command_line.specs.declared.request.Prices.TheVariants.{AsWritten}
 use Rattle.cats_cmd.specs.declared.errors.RequestError.{RequestError}
 use Rattle.cats_cmd.specs.declared.errors.RequestError.TheVariants.{CannotOpen, NotOpened, Run}
 use Rattle.cats_cmd.specs.declared.source.Unopened.{Unopened}
 use Rattle.cats_cmd.specs.declared.source.Unopened.TheVariants.{NoSuchFile, PermissionDenied, IsFolder, NotAFile, Other}
 
+abbrev pub is_many : Files → Bool
+is_many Many = true
+is_many count = false
+
 -- whether each of a request's files may be refused, and the others go on
 abbrev pub is_for_many_files : PlainRequest → Bool
-is_for_many_files (OnFiles files) = true
-is_for_many_files request = false
+is_for_many_files request = is_many (files_of request.task)
 
 -- whether a command line requests `duplicates` or `sizes`
 abbrev pub names_many_files : List (List ℕ) → Bool
 names_many_files words = option_map_or is_for_many_files (request_of words) false
 
--- whether a request printed the fault that it was to find, with the status of a file that is refused
+-- whether a command printed the fault that it was to find, with the status of a file that is refused
+abbrev pub finds : Task → ℕ → Bool
+finds Fault status = status == 2
+finds task status = false
+
 abbrev pub has_found : ℕ → PlainRequest → Bool
-has_found status (Fault file) = status == 2
-has_found status request = false
+has_found status request = finds request.task status
 
 -- whether a command line requests `fault`, and ended with this status
 abbrev pub names_found : ℕ → List (List ℕ) → Bool
 names_found status words = option_map_or (has_found status) (request_of words) false
 
--- whether prices are rounded
-abbrev pub is_rounding : Prices → Bool
-is_rounding AsWritten = false
-is_rounding prices = true
+-- whether a command on one file or two may report something before it ends, by what becomes of prices
+abbrev pub reports : Task → Option FinePrices → Bool
+reports Fault prices = false
+reports Round prices = true
+reports task prices = is_some prices
 
 -- whether a request may report something before it ends
 abbrev pub is_reporting : PlainRequest → Bool
-is_reporting (OnFile file prices command) = is_rounding prices
-is_reporting (OnPair first second prices command limits) = is_rounding prices
-is_reporting (OnFiles files) = true
-is_reporting (Fault file) = false
-is_reporting (Round file exact) = true
+is_reporting request = is_for_many_files request || reports request.task request.prices
 
 -- whether a command line requests `round`, `duplicates` or `sizes`, or that prices are rounded
 abbrev pub names_reporting : List (List ℕ) → Bool

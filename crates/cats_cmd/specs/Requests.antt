@@ -1,16 +1,14 @@
 -- The contract of the program. It is the run of the request, on the files at its paths, what is sent where, and
 -- with which status.
 use Rattle.std.specs.Prelude.{◌≡◌, ◌⊎◌, ◌++◌, ℕ, max, Bool, true, false, List, Option, Some, Result, Ok, Err}
-use Rattle.std.specs.Prelude.{codes, if◌then◌else◌}
-use Rattle.std.specs.Prelude.{string_bytes}
+use Rattle.std.specs.Prelude.{[], ◌∷◌, codes, string_bytes, unwrap_or}
 use Rattle.bid_file.specs.Files.{PlainFile}
-use Rattle.valuation.specs.declared.search.options.SearchOptions.{SearchOptions}
 use Rattle.cats_text.specs.Streams.{SendsWhole, SendsPart}
 use Rattle.cats_text.specs.declared.stream.Watched.{Watched}
 use Rattle.canon.specs.declared.which.Which.{Which}
 use Rattle.canon.specs.declared.which.Which.TheVariants.{Only, First, Second}
 use Rattle.cats_cmd.specs.Duplicates.{MakesGroups}
-use Rattle.cats_cmd.specs.BidLists.{RunsOnBids, named_bids}
+use Rattle.cats_cmd.specs.BidLists.{RunsOnBids}
 use Rattle.cats_cmd.specs.FileLists.{RunsAtPaths, RunsOnFiles}
 use Rattle.cats_cmd.specs.FindingFaults.{FindsFault}
 use Rattle.cats_cmd.specs.Inputs.{IsOpened, MayRefuse}
@@ -20,21 +18,17 @@ use Rattle.cats_cmd.specs.Paths.{Judgement, Reporting, RunsOnPaths, with_refusal
 use Rattle.cats_cmd.specs.Rounding.{Rounds}
 use Rattle.cats_cmd.specs.Runs.{RunsOnFile, RunsOnPair}
 use Rattle.cats_cmd.specs.SizesTables.{MakesTable}
-use Rattle.commands.specs.Outcomes.{Outcome, check_outcome, explain_outcome, lp_outcome, normalise_outcome}
-use Rattle.commands.specs.Outcomes.{revenue_outcome, show_outcome, value_outcome_by}
-use Rattle.commands.specs.declared.command.Comparison.{Comparison}
-use Rattle.commands.specs.declared.command.Comparison.TheVariants as comparisons
+use Rattle.commands.specs.Outcomes.{Outcome, outcome_of}
+use Rattle.requests.specs.Requests.{PlainRequest}
+use Rattle.requests.specs.Tasks.{files_of}
+use Rattle.requests.specs.declared.task.Files.{Files}
+use Rattle.requests.specs.declared.task.Files.TheVariants.{One, Two, Many}
+use Rattle.requests.specs.declared.task.Task.{Task}
+use Rattle.requests.specs.declared.task.Task.TheVariants.{Fault, Round, Duplicates}
 use Rattle.rounding.specs.declared.replacement.FinePrices.{FinePrices}
-use Rattle.rounding.specs.declared.replacement.FinePrices.TheVariants.{Round as RoundFine, Refuse}
+use Rattle.rounding.specs.declared.replacement.FinePrices.TheVariants.{Round as RoundFine}
 use Rattle.cats_cmd.specs.RequestErrors.{Reports, ReportsAll, SendsText, answer_if_lost, is_lost}
 use Rattle.cats_cmd.specs.RequestErrors.{line_of_request_error, status_of_request_error}
-use Rattle.command_line.specs.PlainRequests.{PlainRequest, OnFile, OnPair, OnFiles, Fault, Round, PlainFiles}
-use Rattle.command_line.specs.PlainRequests.{PlainCommand, Check, Show, Value, Revenue, Normalise, Explain, Lp}
-use Rattle.command_line.specs.declared.request.FilesCommand.{FilesCommand}
-use Rattle.command_line.specs.declared.request.FilesCommand.TheVariants.{Duplicates, Sizes}
-use Rattle.command_line.specs.declared.request.PairCommand.{PairCommand}
-use Rattle.command_line.specs.declared.request.PairCommand.TheVariants.{Compare, Diff}
-use Rattle.command_line.specs.declared.request.Prices.{Prices}
 use Rattle.command_line.specs.Requests.{IsNoRequestOf, request_of}
 use Rattle.command_line.specs.declared.request.NoRequest.{NoRequest}
 use Rattle.command_line.specs.declared.request.NoRequest.TheVariants.{Help, WrongUsage, Misused, NoMemory}
@@ -42,8 +36,6 @@ use Rattle.command_line.specs.declared.request.Misuse.{Misuse}
 use Rattle.command_line.specs.declared.request.Misuse.TheVariants.{SignedNumber, MoreThanOneFile, MoreThanTwoFiles}
 use Rattle.command_line.specs.declared.request.Misuse.TheVariants.{BidsTwice, UnboundedTotal, WrongGoods}
 use Rattle.command_line.specs.declared.request.Misuse.TheVariants.{WrongFiles}
-use Rattle.command_line.specs.declared.request.Limits.{Limits}
-use Rattle.valuation.specs.SearchLimits.{bounded_options, plain_options}
 use Rattle.cats_cmd.specs.declared.paths.Ending.{Ending}
 use Rattle.cats_cmd.specs.declared.paths.Ending.TheVariants.{Line, Null}
 use Rattle.cats_cmd.specs.declared.paths.Progress.{Progress}
@@ -99,17 +91,12 @@ progress_of terminal false = Silent
 progress_of true true = OnTerminal
 progress_of false true = Lines
 
--- what becomes of fine prices, with `--exact` and without
-abbrev pub fine_of : Bool → FinePrices
-fine_of true = Refuse
-fine_of false = RoundFine
-
 module _ {F W E : Type 0} (may_open : List ℕ → F → Type 0) (remaining : F → Option (List ℕ))
     (contents : W → Option (List ℕ)) (messages : E → Option (List ℕ)) where
   -- a run on a stream that was opened at the path, with its prices read so; how many were rounded is reported, or the
   -- status says that this is lost
-  pub record RunsAt (path : List ℕ) (prices : Prices) (outcome : PlainFile → Outcome) (out out_after : Watched W)
-      (err err_after : Watched E) (answer : Result ℕ RunFault) : Type 0 where
+  pub record RunsAt (path : List ℕ) (prices : Option FinePrices) (outcome : PlainFile → Outcome)
+      (out out_after : Watched W) (err err_after : Watched E) (answer : Result ℕ RunFault) : Type 0 where
     pub before : PricedInput F
     pub after : PricedInput F
     pub opened : IsPriced may_open prices path before
@@ -120,17 +107,17 @@ module _ {F W E : Type 0} (may_open : List ℕ → F → Type 0) (remaining : F 
     pub answers : answer ≡ answer_if_lost (is_lost after.rounded err_after) sent
 
   -- a run on the streams that were opened at the two paths
-  pub record RunsAtBoth (first second : List ℕ) (prices : Prices) (comparison : Comparison) (out out_after : Watched W)
+  pub record RunsAtBoth (first second : List ℕ) (request : PlainRequest) (out out_after : Watched W)
       (err err_after : Watched E) (answer : Result ℕ RunFault) : Type 0 where
     pub left : PricedInput F
     pub left_after : PricedInput F
     pub right : PricedInput F
     pub right_after : PricedInput F
-    pub left_opened : IsPriced may_open prices first left
-    pub right_opened : IsPriced may_open prices second right
+    pub left_opened : IsPriced may_open request.prices first left
+    pub right_opened : IsPriced may_open request.prices second right
     pub sent : Result ℕ RunFault
     pub runs : RunsOnPair (PricedGives remaining) (PricedRefuses remaining) (PricedGives remaining)
-        (PricedRefuses remaining) contents comparison left left_after right right_after out out_after sent
+        (PricedRefuses remaining) contents request left left_after right right_after out out_after sent
     pub reports : ReportsAll messages
         (rounding_lines first left_after.rounded ++ rounding_lines second right_after.rounded) err err_after
     pub answers : answer
@@ -153,97 +140,92 @@ module _ {F W E : Type 0} (may_open : List ℕ → F → Type 0) (may_refuse : L
     pub opened : IsOpened may_open path before
     pub runs : Rounds remaining contents messages fine before after out out_after err err_after answer
 
--- bounded searches, within the limits of a request
-abbrev pub bounded_by : Limits → SearchOptions
-bounded_by limits = bounded_options limits.steps limits.total
-
--- the searches that a request chooses
-abbrev pub options_of : Limits → SearchOptions
-options_of limits = if limits.bound then bounded_by limits else plain_options limits.steps
-
--- what a command makes of a file, on the bids of these numbers if it names some
-abbrev pub outcome_for : PlainCommand → List ℕ → PlainFile → Outcome
-outcome_for Check numbers = check_outcome
-outcome_for Show numbers = show_outcome
-outcome_for (Value goods limits) numbers = value_outcome_by goods (options_of limits)
-outcome_for (Revenue bids) numbers = revenue_outcome numbers
-outcome_for (Normalise limits) numbers = normalise_outcome (options_of limits)
-outcome_for (Explain limits) numbers = explain_outcome (bounded_by limits)
-outcome_for Lp numbers = lp_outcome
-
--- a command on two files, with its searches
-abbrev pub comparison_of : PairCommand → Limits → Comparison
-comparison_of Compare limits = comparisons.Compare (options_of limits)
-comparison_of Diff limits = comparisons.Diff (bounded_by limits)
-
 module _ (may_refuse : List ℕ → Unopened → Type 0) where
+  -- the only file cannot be opened
+  abbrev pub CannotOpenOnly : List ℕ → Which → Type 0
+  CannotOpenOnly file which = (which ≡ Only) × MayRefuse may_refuse file
+
   -- the one of two files that cannot be opened
   abbrev pub CannotOpenPair : List ℕ → List ℕ → Which → Type 0
   CannotOpenPair first second which =
       ((which ≡ First) × MayRefuse may_refuse first) ⊎ ((which ≡ Second) × MayRefuse may_refuse second)
 
-  -- the file of a request that cannot be opened; of many files none, as the request goes on with the others
-  abbrev pub CannotOpenOf : PlainRequest → Which → Type 0
-  CannotOpenOf (OnFile file prices command) which = (which ≡ Only) × MayRefuse may_refuse file
-  CannotOpenOf (OnPair first second prices command limits) which = CannotOpenPair first second which
-  CannotOpenOf (OnFiles files) which = ⊥
-  CannotOpenOf (Fault file) which = (which ≡ Only) × MayRefuse may_refuse file
-  CannotOpenOf (Round file exact) which = (which ≡ Only) × MayRefuse may_refuse file
+  -- the one of these files that cannot be opened; of many files none, as the request goes on with the others
+  abbrev pub CannotOpenOf : Files → List (List ℕ) → Which → Type 0
+  CannotOpenOf One (file ∷ []) which = CannotOpenOnly file which
+  CannotOpenOf Two (first ∷ second ∷ []) which = CannotOpenPair first second which
+  CannotOpenOf count files which = ⊥
 
--- `terminal` says whether standard error is a terminal.
+module _ {W E : Type 0} (Runs : Watched W → Watched W → Watched E → Watched E → Result ℕ RunFault → Type 0)
+    (Cannot : Which → Type 0) where
+  -- the run answers, or a file cannot be opened, and then nothing was read, written or reported
+  abbrev pub Carries : Watched W → Watched W → Watched E → Watched E → Result ℕ RequestError → Type 0
+  Carries out out_after err err_after (Ok status) = Runs out out_after err err_after (Ok status)
+  Carries out out_after err err_after (Err (Run fault)) = Runs out out_after err err_after (Err fault)
+  Carries out out_after err err_after (Err (CannotOpen which)) =
+      Cannot which × (out_after ≡ out) × (err_after ≡ err)
+  Carries out out_after err err_after (Err (NotOpened why)) = ⊥
+
 module _ {F W E : Type 0} (may_open : List ℕ → F → Type 0) (may_refuse : List ℕ → Unopened → Type 0)
-    (remaining : F → Option (List ℕ)) (contents : W → Option (List ℕ)) (messages : E → Option (List ℕ))
-    (terminal : Bool) where
-  -- the run of a command on one file
-  abbrev pub RunsOfCommand : List ℕ → Prices → PlainCommand → Watched W → Watched W → Watched E → Watched E
-      → Result ℕ RunFault → Type 0
-  RunsOfCommand path prices command out out_after err err_after answer =
+    (remaining : F → Option (List ℕ)) (contents : W → Option (List ℕ)) (messages : E → Option (List ℕ)) where
+  -- the run of a command on the bid file at the path
+  abbrev pub RunsOfCommand : PlainRequest → List ℕ → Watched W → Watched W → Watched E → Watched E → Result ℕ RunFault
+      → Type 0
+  RunsOfCommand request path out out_after err err_after answer =
       RunsOnBids may_open may_refuse remaining messages
-      (λ numbers. RunsAt may_open remaining contents messages path prices (outcome_for command numbers))
-      (named_bids command) out out_after err err_after answer
+      (λ bids. RunsAt may_open remaining contents messages path request.prices (outcome_of request bids))
+      request.list request.bids out out_after err err_after answer
 
-  module _ (may_find : List ℕ → Option (List (List ℕ)) → Type 0) where
+  -- the run on the only file of a request, by its command
+  abbrev pub RunsOnOne : Task → PlainRequest → List ℕ → Watched W → Watched W → Watched E → Watched E
+      → Result ℕ RunFault → Type 0
+  RunsOnOne Fault request path out out_after err err_after answer =
+      FindsFaultAt may_open remaining contents messages path out out_after answer × (err_after ≡ err)
+  RunsOnOne Round request path out out_after err err_after answer =
+      RoundsAt may_open may_refuse remaining contents messages path (unwrap_or request.prices RoundFine) out out_after
+      err err_after answer
+  RunsOnOne task request path out out_after err err_after answer =
+      RunsOfCommand request path out out_after err err_after answer
+
+  -- `terminal` says whether standard error is a terminal.
+  module _ (terminal : Bool) (may_find : List ℕ → Option (List (List ℕ)) → Type 0) where
     -- the run on many files, where `Makes` says which text is made of what became of them
     abbrev pub RunsOnMany : (Ending → List (List ℕ × Judgement) → List ℕ → Type 0) → (Progress → Reporting)
-        → PlainFiles → Watched W → Watched W → Watched E → Watched E → Result ℕ RunFault → Type 0
-    RunsOnMany Makes reporting files out out_after err err_after answer =
+        → PlainRequest → Watched W → Watched W → Watched E → Watched E → Result ℕ RunFault → Type 0
+    RunsOnMany Makes reporting request out out_after err err_after answer =
         RunsOnFiles may_open may_refuse remaining messages
-        (RunsAtPaths may_find (λ paths. RunsOnPaths may_open may_refuse remaining contents messages
-        (bounded_by files.limits) files.prices (Makes (ending_of files.null)) paths
-        (reporting (progress_of terminal files.progress)))) files.paths
-        out out_after err err_after answer
+        (RunsAtPaths may_find (λ paths. RunsOnPaths may_open may_refuse remaining contents messages request.options
+        request.prices (Makes (ending_of request.null)) paths (reporting (progress_of terminal request.progress))))
+        request.list request.files out out_after err err_after answer
 
-    -- the run of a command on many files
-    abbrev pub RunsOfFiles : FilesCommand → PlainFiles → Watched W → Watched W → Watched E → Watched E
+    -- by the command
+    abbrev pub RunsOfFiles : Task → PlainRequest → Watched W → Watched W → Watched E → Watched E → Result ℕ RunFault
+        → Type 0
+    RunsOfFiles Duplicates request out out_after err err_after answer =
+        RunsOnMany (λ ending. MakesGroups ending request.all) with_refusals request out out_after err err_after answer
+    RunsOfFiles task request out out_after err err_after answer =
+        RunsOnMany MakesTable without_refusals request out out_after err err_after answer
+
+    -- the run on these files of a request whose command reads so many. If there are more or fewer, that is wrong usage
+    abbrev pub RunsWith : Files → List (List ℕ) → PlainRequest → Watched W → Watched W → Watched E → Watched E
         → Result ℕ RunFault → Type 0
-    RunsOfFiles (Duplicates all) files out out_after err err_after answer =
-        RunsOnMany (λ ending. MakesGroups ending all) with_refusals files out out_after err err_after answer
-    RunsOfFiles Sizes files out out_after err err_after answer =
-        RunsOnMany MakesTable without_refusals files out out_after err err_after answer
+    RunsWith Many files request out out_after err err_after answer =
+        RunsOfFiles request.task request out out_after err err_after answer
+    RunsWith One (file ∷ []) request out out_after err err_after answer =
+        RunsOnOne request.task request file out out_after err err_after answer
+    RunsWith Two (first ∷ second ∷ []) request out out_after err err_after answer =
+        RunsAtBoth may_open remaining contents messages first second request out out_after err err_after answer
+    RunsWith count files request out out_after err err_after answer =
+        (answer ≡ Ok 64) × (out_after ≡ out) × (err_after ≡ err)
 
     -- the run of each request
     abbrev pub RunsFor : PlainRequest → Watched W → Watched W → Watched E → Watched E → Result ℕ RunFault → Type 0
-    RunsFor (OnFile file prices command) out out_after err err_after answer =
-        RunsOfCommand file prices command out out_after err err_after answer
-    RunsFor (OnPair first second prices command limits) out out_after err err_after answer =
-        RunsAtBoth may_open remaining contents messages first second prices (comparison_of command limits) out out_after
-        err err_after answer
-    RunsFor (OnFiles files) out out_after err err_after answer =
-        RunsOfFiles files.command files out out_after err err_after answer
-    RunsFor (Fault file) out out_after err err_after answer =
-        FindsFaultAt may_open remaining contents messages file out out_after answer × (err_after ≡ err)
-    RunsFor (Round file exact) out out_after err err_after answer =
-        RoundsAt may_open may_refuse remaining contents messages file (fine_of exact) out out_after err err_after answer
+    RunsFor request = RunsWith (files_of request.task) request.files request
 
-    -- the request's run answers, or a file of it cannot be opened, and then nothing was read, written or reported
     abbrev pub CarriesOut : PlainRequest → Watched W → Watched W → Watched E → Watched E → Result ℕ RequestError → Type
         0
-    CarriesOut request out out_after err err_after (Ok status) = RunsFor request out out_after err err_after (Ok status)
-    CarriesOut request out out_after err err_after (Err (Run fault)) =
-        RunsFor request out out_after err err_after (Err fault)
-    CarriesOut request out out_after err err_after (Err (CannotOpen which)) =
-        CannotOpenOf may_refuse request which × (out_after ≡ out) × (err_after ≡ err)
-    CarriesOut request out out_after err err_after (Err (NotOpened why)) = ⊥
+    CarriesOut request =
+        Carries (RunsFor request) (CannotOpenOf may_refuse (files_of request.task) request.files)
 
     -- the request failed; its line was reported after what its run reported, and the status is its own
     pub record FailsRequest (request : PlainRequest) (out out_after : Watched W) (err err_after : Watched E) (status :

@@ -1,6 +1,7 @@
 -- What a run does: it sends what a command answers.
 use Rattle.std.specs.Prelude.{◌≡◌, ℕ, List, Option, Result, Ok, Err}
 use Rattle.bid_file.specs.Files.{PlainFile}
+use Rattle.requests.specs.Requests.{PlainRequest}
 use Rattle.valuation.specs.declared.search.options.SearchOptions.{SearchOptions}
 use Rattle.cats_text.specs.Streams.{SendsWhole, SendsPart}
 use Rattle.cats_text.specs.declared.stream.Watched.{Watched}
@@ -9,10 +10,8 @@ use Rattle.canon.specs.declared.which.Which.{Which}
 use Rattle.commands.specs.Commands.{Commands, text_of}
 use Rattle.cats_text.specs.declared.read_fault.ReadFault.{ReadFault}
 use Rattle.commands.specs.Outcomes.{Outcome, Prints}
-use Rattle.commands.specs.Pairs.{CommandsOnBoth}
+use Rattle.commands.specs.Pairs.{Compares as ComparesFiles, CommandsOnBoth}
 use Rattle.commands.specs.declared.answer.Answer.{Answer}
-use Rattle.commands.specs.declared.command.Comparison.{Comparison}
-use Rattle.commands.specs.declared.command.Comparison.TheVariants.{Compare}
 use Rattle.commands.specs.declared.faults.RunFault.{RunFault}
 use Rattle.commands.specs.declared.faults.RunFault.TheVariants.{Refused, TooHeavy, GoodRange, BidRange, Sent}
 
@@ -99,11 +98,13 @@ module _ {I J W : Type 0} (gives_first : I → I → PlainFile → Type 0) (refu
     (gives_second : J → J → PlainFile → Type 0) (refuses_second : J → J → ReadFault → Type 0)
     (contents : W → Option (List ℕ)) where
   -- each run
-  abbrev pub RunsOnPair : Comparison → I → I → J → J → Watched W → Watched W → Result ℕ RunFault → Type 0
-  RunsOnPair comparison first first_after second second_after old new answer =
-      RunsCommand contents (CommandsOnBoth gives_first refuses_first gives_second refuses_second comparison first
+  abbrev pub RunsOnPair : PlainRequest → I → I → J → J → Watched W → Watched W → Result ℕ RunFault → Type 0
+  RunsOnPair request first first_after second second_after old new answer =
+      RunsCommand contents (CommandsOnBoth gives_first refuses_first gives_second refuses_second request first
       first_after second second_after) old new answer
 
   -- a comparison
   abbrev pub Compares : SearchOptions → I → I → J → J → Watched W → Watched W → Result ℕ RunFault → Type 0
-  Compares options = RunsOnPair (Compare options)
+  Compares options first first_after second second_after old new answer =
+      RunsCommand contents (ComparesFiles gives_first refuses_first gives_second refuses_second options first
+      first_after second second_after) old new answer

@@ -1,10 +1,10 @@
 //! Laws of what the runs read and print.
 
 ghost use Rattle.std.specs.List.{All, flat_map};
-ghost use Rattle.std.specs.Prelude.{◌≡◌, ◌==◌, ℕ, Bool, List, Ok, filter, map, false};
+ghost use Rattle.std.specs.Prelude.{◌≡◌, ◌==◌, ℕ, Bool, List, None, Ok, filter, map, false};
 ghost use Rattle.bid_file.specs.Files.{PlainFile};
 ghost use Rattle.cats_text.specs.FaultPlaces.{PlainPlace};
-ghost use Rattle.command_line.specs.PlainRequests.{PlainCommand};
+ghost use Rattle.requests.specs.Requests.{PlainRequest};
 ghost use Rattle.analysis.specs.AllocationVerdicts.{allocation_text};
 ghost use Rattle.analysis.specs.Differences.{PlainDifferences};
 ghost use Rattle.analysis.specs.Reasons.{PlainReason};
@@ -15,10 +15,9 @@ ghost use Rattle.commands.specs.ComparisonTexts.{difference_text};
 ghost use Rattle.commands.specs.DiffTexts.{diff_text};
 ghost use Rattle.commands.specs.ExplanationTexts.{explanation_text};
 ghost use Rattle.commands.specs.ValueTexts.{value_text};
-ghost use Rattle.commands.specs.Outcomes.{Prints};
+ghost use Rattle.commands.specs.Outcomes.{Prints, outcome_of};
 ghost use Rattle.commands.specs.Pairs.{CommandsOnBoth};
 ghost use Rattle.commands.specs.declared.answer.Answer.{Answer};
-ghost use Rattle.commands.specs.declared.command.Comparison.{Comparison};
 ghost use Rattle.cats_cmd.specs.Escaping.{AreBytes, IsTextOf, escaped, is_control_byte, is_printable, is_shown, unescaped};
 ghost use Rattle.cats_cmd.specs.DuplicateTexts.{duplicates_text, printed_groups};
 ghost use Rattle.cats_cmd.specs.FindingFaults.{text_of_place};
@@ -26,16 +25,14 @@ ghost use Rattle.cats_cmd.specs.OutputPaths.{IsPath, groups_in, paths_in_table};
 ghost use Rattle.cats_cmd.specs.PathLists.{listed, paths_in};
 ghost use Rattle.cats_cmd.specs.Paths.{JudgedPath, Judgement, JudgesInput, progress_line, refusal_line, report_lines};
 ghost use Rattle.cats_cmd.specs.Paths.{without_refusals};
-ghost use Rattle.cats_cmd.specs.PricedInputs.{PricedGives, PricedRefuses, fine_prices, rounding_lines};
+ghost use Rattle.cats_cmd.specs.PricedInputs.{PricedGives, PricedRefuses, rounding_lines};
 ghost use Rattle.cats_cmd.specs.declared.priced_input.PricedInput.{PricedInput};
 ghost use Rattle.cats_cmd.specs.RequestErrors.{line_of_request_error};
-ghost use Rattle.cats_cmd.specs.Requests.{outcome_for};
 ghost use Rattle.cats_cmd.specs.SizesTables.{MakesTable};
 ghost use Rattle.cats_cmd.specs.declared.paths.Ending.{Ending};
 ghost use Rattle.cats_cmd.specs.declared.paths.Ending.TheVariants.{Line};
 ghost use Rattle.cats_cmd.specs.declared.paths.Progress.TheVariants.{Silent};
 ghost use Rattle.cats_cmd.specs.declared.errors.RequestError.{RequestError};
-ghost use Rattle.command_line.specs.declared.request.Prices.TheVariants.{AsWritten};
 ghost use Rattle.valuation.specs.declared.search.options.SearchOptions.{SearchOptions};
 
 use commands::Input;
@@ -70,10 +67,10 @@ pub fn printed_lines_are_shown()
 
 /// So is what the commands on one or two files print, and `cats fault`.
 pub fn printed_answers_are_shown<I: Input, J: Input>()
-    ensures commands { (command : PlainCommand) (numbers : List ℕ) (file : PlainFile) (status : ℕ) (text : List ℕ)
-        → outcome_for command numbers file ≡ Prints status text → IsTextOf is_shown text }
-    ensures comparisons { (comparison : Comparison) (first first_after : I) (second second_after : J) (answer : Answer)
-        → CommandsOnBoth I.gives I.refuses J.gives J.refuses comparison first first_after second second_after (Ok answer)
+    ensures commands { (request : PlainRequest) (bids : List ℕ) (file : PlainFile) (status : ℕ) (text : List ℕ)
+        → outcome_of request bids file ≡ Prints status text → IsTextOf is_shown text }
+    ensures comparisons { (request : PlainRequest) (first first_after : I) (second second_after : J) (answer : Answer)
+        → CommandsOnBoth I.gives I.refuses J.gives J.refuses request first first_after second second_after (Ok answer)
         → IsTextOf is_shown (text_of answer.output) }
     ensures fault { (path : List ℕ) (place : PlainPlace) → AreBytes path → AreBytes place.text
         → IsTextOf is_shown (text_of_place path place) }
@@ -115,7 +112,7 @@ pub fn tables_report_roundings()
 /// No price of a file is rounded whose prices are read as they are written.
 pub fn written_prices_are_not_rounded<R: Read>()
     ensures { (options : SearchOptions) (before after : PricedInput R) (judgement : Judgement)
-        → before.fine ≡ fine_prices AsWritten
+        → before.fine ≡ None
         → JudgesInput (PricedGives R.remaining) (PricedRefuses R.remaining) options before after judgement
         → after.rounded ≡ 0 }
 {}

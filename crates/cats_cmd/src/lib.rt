@@ -3,6 +3,7 @@
 
 mod bid_list;
 mod bytes;
+mod carrying_out;
 mod duplicates;
 mod errors;
 mod escaping;
@@ -12,13 +13,11 @@ mod folders;
 pub mod laws;
 mod lines;
 mod many_files;
-mod mapping;
 mod one_file;
 mod path_list;
 mod paths;
 mod priced_input;
 pub mod program;
-mod requests;
 mod round;
 mod run;
 mod sizes;

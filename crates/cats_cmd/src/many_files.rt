@@ -2,20 +2,19 @@
 
 ghost use Rattle.std.specs.Prelude.{◌≡◌, ◌∷◌, [], map, IfErr, IfOk, false};
 ghost use Rattle.cats_text.specs.Streams.{has_failed};
-ghost use Rattle.command_line.specs.PlainRequests.{plain_files};
 ghost use Rattle.cats_cmd.specs.FileLists.{IsUnread, ReadsList, RunsAtPaths};
-ghost use Rattle.cats_cmd.specs.Internal.Carrying.{is_all, many_files};
+ghost use Rattle.cats_cmd.specs.Internal.Carrying.{many_files};
 ghost use Rattle.cats_cmd.specs.Opening.{Opens, OpensAtPaths};
 ghost use Rattle.cats_cmd.specs.Openings.{OpensFiles, status_of_run};
 ghost use Rattle.cats_cmd.specs.Paths.{RunsOnPaths, refusal_line};
 ghost use Rattle.cats_cmd.specs.Requests.{RunsOnMany};
+ghost use Rattle.requests.specs.Requests.{plain_request, texts_of};
 ghost use Rattle.cats_cmd.specs.RequestErrors.{Reports, status_of_request_error};
 ghost use Rattle.cats_cmd.specs.declared.source.Way.TheVariants.{NoFolder};
 
 use crate::bytes::read_bytes;
 use crate::errors::{RequestError, status_of};
 use crate::folders::{files_at, slices};
-use crate::mapping::bounded_search;
 use crate::path_list::split_paths;
 use crate::paths::{
     Collection, Ending, ManyFiles, Progress, open_file, report_refusal, run_on_paths,
@@ -23,15 +22,15 @@ use crate::paths::{
 use crate::source::Source;
 use canon::CanonFault;
 use cats_text::Watched;
-use command_line::request::{FilePaths, FilesCommand, FilesRequest};
 use commands::faults::RunFault;
-use std::alloc::AllocGlobal;
+use requests::request::Request;
+use std::alloc::{AllocError, AllocGlobal, Global};
 use std::io::Write;
 
 /// The run on the files of a request. A list that is not read is reported as a file that is not judged.
 pub(crate) fn run_on_files<C: Collection, S: Source + AllocGlobal, W: Write, E: Write>(
     source: &mut S,
-    files: &FilesRequest<'_>,
+    request: &Request<'_>,
     terminal: bool,
     out: &mut Watched<W>,
     err: &mut Watched<E>,
@@ -39,18 +38,16 @@ pub(crate) fn run_on_files<C: Collection, S: Source + AllocGlobal, W: Write, E: 
     requires { has_failed out.old ≡ false }
     ensures runs { RunsOnMany (S.may_open (S.content_of source.old)) (S.may_refuse (S.content_of source.old))
         S.Stream.remaining W.contents E.contents terminal (S.may_find (S.content_of source.old))
-        (λ ending. C.Makes ending (is_all files.now.command))
-        (λ progress. record { refusals = C.refusals; progress = progress }) (plain_files files.now) out.old out.new err.old
-        err.new result }
+        (λ ending. C.Makes ending request.now.all)
+        (λ progress. record { refusals = C.refusals; progress = progress }) (plain_request request.now) out.old out.new
+        err.old err.new result }
     ensures opens { OpensFiles S.content_of S.opened S.may_open S.may_refuse S.Stream.remaining S.may_find
-        (plain_files files.now).paths source.old source.new (status_of_run result) }
+        (plain_request request.now).list (plain_request request.now).files source.old source.new (status_of_run result) }
 {
-    let many = many_files(files, terminal);
-    let list = match &files.paths {
-        FilePaths::Given(paths) => {
-            return run_at_paths::<C, S, W, E>(source, paths.as_slice(), many, out, err);
-        }
-        FilePaths::ListedIn(list) => list,
+    let many = many_files(request, terminal);
+    let Some(list) = request.list else {
+        let paths = paths_of(source.alloc(), request.files.as_slice())?;
+        return run_at_paths::<C, S, W, E>(source, paths.as_slice(), many, out, err);
     };
     match read_list(source, list) {
         Ok(text) => {
@@ -83,36 +80,37 @@ fn run_at_paths<C: Collection, S: Source + AllocGlobal, W: Write, E: Write>(
     run_on_paths::<C, S, W, E>(source, files.as_slice(), many, out, err)
 }
 
-/// How a run on many files reads them and reports.
-fn many_files(files: &FilesRequest<'_>, terminal: bool) -> ManyFiles
-    ensures { result ≡ many_files terminal (plain_files files.now) }
+/// Words as paths.
+fn paths_of<'a>(alloc: Global, words: &[&'a str]) -> Result<Vec<&'a [u8]>, AllocError>
+    ensures { IfOk result (λ paths. map (λ path. path.now) paths.items ≡ texts_of words.now) }
 {
-    let ending = if files.null {
+    let mut paths = Vec::with_capacity(alloc, words.len())?;
+    for word in words {
+        paths.push(word.as_bytes())?;
+    }
+    Ok(paths)
+}
+
+/// How a run on many files reads them and reports.
+fn many_files(request: &Request<'_>, terminal: bool) -> ManyFiles
+    ensures { result ≡ many_files terminal (plain_request request.now) }
+{
+    let ending = if request.null {
         Ending::Null
     } else {
         Ending::Line
     };
-    let progress = match (terminal, files.progress) {
+    let progress = match (terminal, request.progress) {
         (_, false) => Progress::Silent,
         (true, true) => Progress::Terminal,
         (false, true) => Progress::Lines,
     };
     ManyFiles {
-        options: bounded_search(&files.limits),
+        options: request.options,
         progress,
         ending,
-        prices: files.prices,
-        all: is_all(files.command),
-    }
-}
-
-/// Whether the files are printed too that are the only ones of their auction.
-fn is_all(command: FilesCommand) -> bool
-    ensures { result ≡ is_all command }
-{
-    match command {
-        FilesCommand::Duplicates { all } => all,
-        FilesCommand::Sizes => false,
+        prices: request.prices,
+        all: request.all,
     }
 }
 

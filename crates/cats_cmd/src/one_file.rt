@@ -3,20 +3,22 @@
 ghost use Rattle.std.specs.Prelude.{◌≡◌, false};
 ghost use Rattle.cats_text.specs.Streams.{has_failed};
 ghost use Rattle.cats_cmd.specs.Runs.{RunsOnFile};
-ghost use Rattle.commands.specs.Outcomes.{check_outcome, normalise_outcome, outcome_of, show_outcome, value_outcome};
+ghost use Rattle.commands.specs.Outcomes.{check_outcome, normalise_outcome, show_outcome, value_outcome};
 ghost use Rattle.valuation.specs.SearchLimits.{plain_options};
 
 use crate::run::send_answer;
 use canon::Which;
 use cats_text::Watched;
 use commands::Input;
-use commands::command::Command;
+use commands::bundle_value::value;
 use commands::faults::RunFault;
+use commands::one_file::{check, normalise, show};
 use std::alloc::Global;
 use std::io::Write;
 use valuation::search::SearchOptions;
 
 /// Judges a bid file, and sends how many goods, bids and dummy goods it has. No bid is kept.
+#[tactic(auto, using(crate::proofs::Sending::file_run))]
 pub fn run_check<I: Input, W: Write>(
     alloc: Global,
     input: &mut I,
@@ -26,10 +28,12 @@ pub fn run_check<I: Input, W: Write>(
     requires out_works { has_failed out.old ≡ false }
     ensures { RunsOnFile I.gives I.refuses W.contents check_outcome input.old input.new out.old out.new result }
 {
-    run_on_file(alloc, input, &Command::Check, out)
+    let answer = check(alloc, input);
+    send_answer(alloc, out, answer, Which::Only)
 }
 
 /// Reads a bid file, and sends it in the layout that `cats_text::write` has, a page at a time.
+#[tactic(auto, using(crate::proofs::Sending::file_run))]
 pub fn run_show<I: Input, W: Write>(
     alloc: Global,
     input: &mut I,
@@ -39,7 +43,8 @@ pub fn run_show<I: Input, W: Write>(
     requires out_works { has_failed out.old ≡ false }
     ensures { RunsOnFile I.gives I.refuses W.contents show_outcome input.old input.new out.old out.new result }
 {
-    run_on_file(alloc, input, &Command::Show, out)
+    let answer = show(alloc, input);
+    send_answer(alloc, out, answer, Which::Only)
 }
 
 /// Reads a bid file, and sends what its bidders offer for the bundle of these goods: the OR value with the bids of one
@@ -59,12 +64,13 @@ pub fn run_value<I: Input, W: Write>(
     ensures { RunsOnFile I.gives I.refuses W.contents (value_outcome goods.now limit) input.old input.new out.old
         out.new result }
 {
-    let options = SearchOptions::plain(limit);
-    run_on_file(alloc, input, &Command::Value { goods, options }, out)
+    let answer = value(alloc, input, goods, SearchOptions::plain(limit));
+    send_answer(alloc, out, answer, Which::Only)
 }
 
 /// Reads a bid file, and sends the canonical text of its auction, a page at a time. `limit` bounds the steps of each
 /// plain search that decides on a bundle of the OR bidder.
+#[tactic(auto, using(crate::proofs::Sending::file_run))]
 pub fn run_normalise<I: Input, W: Write>(
     alloc: Global,
     input: &mut I,
@@ -76,22 +82,6 @@ pub fn run_normalise<I: Input, W: Write>(
     ensures { RunsOnFile I.gives I.refuses W.contents (normalise_outcome (plain_options limit)) input.old input.new out.old
         out.new result }
 {
-    let options = SearchOptions::plain(limit);
-    run_on_file(alloc, input, &Command::Normalise(options), out)
-}
-
-/// Sends what a command answers of the file that an input gives.
-#[tactic(auto, using(crate::proofs::Sending::file_run))]
-pub(crate) fn run_on_file<I: Input, W: Write>(
-    alloc: Global,
-    input: &mut I,
-    command: &Command<'_>,
-    out: &mut Watched<W>,
-) -> Result<u8, RunFault>
-    requires input { I.is_ready input.old }
-    requires out_works { has_failed out.old ≡ false }
-    ensures { RunsOnFile I.gives I.refuses W.contents (outcome_of command.now) input.old input.new out.old out.new result }
-{
-    let answer = command.answer(alloc, input);
+    let answer = normalise(alloc, input, SearchOptions::plain(limit));
     send_answer(alloc, out, answer, Which::Only)
 }

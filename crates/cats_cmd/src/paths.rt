@@ -24,10 +24,10 @@ use crate::priced_input::{PricedInput, report_rounded};
 use crate::run::{is_lost, send_text, status_if_lost};
 use crate::source::{Source, Unopened, Way};
 use cats_text::Watched;
-use command_line::request::Prices;
 use commands::Input;
 use commands::faults::RunFault;
 use commands::statuses::DONE;
+use rounding::replacement::FinePrices;
 use std::alloc::{AllocError, AllocGlobal, Global};
 use std::io::Write;
 use valuation::search::SearchOptions;
@@ -39,7 +39,8 @@ pub struct ManyFiles {
     pub options: SearchOptions,
     pub progress: Progress,
     pub ending: Ending,
-    pub prices: Prices,
+    /// What becomes of fine prices, if prices are rounded.
+    pub prices: Option<FinePrices>,
     /// Whether `duplicates` prints the files too that are the only ones of their auction.
     pub all: bool,
 }

@@ -3,7 +3,7 @@
 ghost use Rattle.std.specs.Prelude.{◌≡◌, false};
 ghost use Rattle.cats_text.specs.Streams.{has_ended, has_failed};
 ghost use Rattle.cats_cmd.specs.Internal.Roundings.{ReadsRounded};
-ghost use Rattle.cats_cmd.specs.PricedInputs.{fine_prices, rounded_words, rounding_line, rounding_lines};
+ghost use Rattle.cats_cmd.specs.PricedInputs.{rounded_words, rounding_line, rounding_lines};
 ghost use Rattle.cats_cmd.specs.RequestErrors.{Reports, ReportsAll};
 
 use crate::bytes::read_bytes;
@@ -11,7 +11,6 @@ use crate::lines::LineBuffer;
 use bid_file::PackedFile;
 use cats_text::packed::{Header, check, read_packed};
 use cats_text::{Kind, ReadFault, Watched};
-use command_line::request::Prices;
 use commands::Input;
 use rounding::replacement::FinePrices;
 use rounding::text::round_prices;
@@ -63,14 +62,14 @@ impl<R: Read> Input for PricedInput<R> {
 
 impl<R> PricedInput<R> {
     /// A stream of which nothing was read.
-    pub(crate) fn new(stream: Watched<R>, prices: Prices) -> PricedInput<R>
+    pub(crate) fn new(stream: Watched<R>, fine: Option<FinePrices>) -> PricedInput<R>
         ensures stream { result.stream ≡ stream }
-        ensures fine { result.fine ≡ fine_prices prices }
+        ensures fine { result.fine ≡ fine }
         ensures unread { result.rounded ≡ 0 }
     {
         PricedInput {
             stream,
-            fine: fine_prices(prices),
+            fine,
             rounded: 0,
         }
     }
@@ -80,17 +79,6 @@ impl<R> PricedInput<R> {
         ensures { result ≡ self.now.rounded }
     {
         self.rounded
-    }
-}
-
-/// What becomes of fine prices, if prices are rounded.
-fn fine_prices(prices: Prices) -> Option<FinePrices>
-    ensures { result ≡ fine_prices prices }
-{
-    match prices {
-        Prices::AsWritten => None,
-        Prices::Rounded => Some(FinePrices::Round),
-        Prices::RoundedExactly => Some(FinePrices::Refuse),
     }
 }
 

@@ -1,16 +1,16 @@
-//! The runs of two files: each sends what its command answers.
+//! The run of two files: it sends what its command answers.
 
 ghost use Rattle.std.specs.Prelude.{◌≡◌, false};
 ghost use Rattle.cats_text.specs.Streams.{has_failed};
-ghost use Rattle.cats_cmd.specs.Runs.{Compares, RunsOnPair};
+ghost use Rattle.cats_cmd.specs.Runs.{Compares};
 ghost use Rattle.valuation.specs.SearchLimits.{plain_options};
 
 use crate::run::send_answer;
 use canon::Which;
 use cats_text::Watched;
 use commands::Input;
-use commands::command::Comparison;
 use commands::faults::RunFault;
+use commands::two_files::compare;
 use std::alloc::Global;
 use std::io::Write;
 use valuation::search::SearchOptions;
@@ -20,6 +20,7 @@ use valuation::search::SearchOptions;
 ///
 /// The status is 0 for the same auction, and 1 for a difference. A fault of a file says which of the two it belongs
 /// to; a refusal of memory while the two are compared belongs to both.
+#[tactic(auto, using(crate::proofs::Sending::pair_run))]
 pub fn run_compare<I: Input, J: Input, W: Write>(
     alloc: Global,
     first: &mut I,
@@ -33,26 +34,6 @@ pub fn run_compare<I: Input, J: Input, W: Write>(
     ensures { Compares I.gives I.refuses J.gives J.refuses W.contents (plain_options limit) first.old first.new second.old
         second.new out.old out.new result }
 {
-    let options = SearchOptions::plain(limit);
-    run_on_pair(alloc, first, second, &Comparison::Compare(options), out)
-}
-
-/// Sends what a command answers of the files that two inputs give. A fault of a file says which of the two it belongs to; a
-/// refusal of memory after both are read belongs to both.
-#[tactic(auto, using(crate::proofs::Sending::pair_run))]
-pub(crate) fn run_on_pair<I: Input, J: Input, W: Write>(
-    alloc: Global,
-    first: &mut I,
-    second: &mut J,
-    comparison: &Comparison,
-    out: &mut Watched<W>,
-) -> Result<u8, RunFault>
-    requires first { I.is_ready first.old }
-    requires second { J.is_ready second.old }
-    requires out_works { has_failed out.old ≡ false }
-    ensures { RunsOnPair I.gives I.refuses J.gives J.refuses W.contents comparison.now first.old first.new second.old
-        second.new out.old out.new result }
-{
-    let answer = comparison.answer(alloc, first, second);
+    let answer = compare(alloc, first, second, SearchOptions::plain(limit));
     send_answer(alloc, out, answer, Which::Both)
 }

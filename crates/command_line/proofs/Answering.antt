@@ -1,8 +1,8 @@
 -- What `clap` answers to the program's command line, and what the program makes of it.
-use Rattle.command_line.proofs.Common.{◌≡◌, ◌∙◌, ℕ, Bool, true, false, List, [], ◌∷◌, Option, Some, None, Result, ap, sym, subst, refl, inl, inr, IfErr, not}
+use Rattle.command_line.proofs.Common.{◌≡◌, ◌∙◌, ℕ, Bool, true, false, List, [], ◌∷◌, Option, Some, None, Result, ap, sym, subst, refl, inl, inr, not}
 use Rattle.command_line.proofs.Common.{option_map, list_any, or-true, fault_of, is_simple_and_free, FailsBy, HasKind, IsAmong, Kinds, App, HasMatchesOf}
-use Rattle.command_line.proofs.Common.{is_simple, subcommand_of, subcommand_rows_of, Row, Error, ErrorKind, ArgMatches, IsAnswerTo, PlainRequest, IsNoRequestOf}
-use Rattle.command_line.proofs.Common.{if_taken, is_no_memory, is_shown, misuse_in, misuse_of, request_from, request_of, cats, Misuse, NoRequest, Request, Help}
+use Rattle.command_line.proofs.Common.{is_simple, subcommand_of, subcommand_rows_of, Row, Error, ErrorKind, ArgMatches, IsAnswerTo, PlainRequest}
+use Rattle.command_line.proofs.Common.{IsNoRequestOf, if_taken, is_no_memory, is_shown, request_of, requested_in, requested_of, cats, NoRequest, Help}
 use Rattle.command_line.proofs.Common.{WrongUsage, Misused, NoMemory}
 use Rattle.clap.proofs.OnLiterals.{clap_on_literals}
 
@@ -33,13 +33,8 @@ module _ (app : App) (is : app ≡ cats) (words : List (List ℕ)) where
       both None named given = cc
       both (Some (n, r)) named given = cc
 
--- what is requested, and why nothing is
-module _ (words : List (List ℕ)) (name : List ℕ) (rows : List Row) (met : subcommand_of cats words ≡ Some (name, rows)) where
-  pub requested : fault_of cats words ≡ [] → request_from name rows ≡ request_of words
-  requested none = rw (none, met) refl
-
-  pub misused : (answer : Result Request Misuse) → IfErr answer (λ misuse. misuse ≡ misuse_in rows) → IfErr answer (λ misuse. misuse ≡ misuse_of words)
-  misused answer is = rw met is
+  pub requested : (name : List ℕ) (rows : List Row) → subcommand_of cats words ≡ Some (name, rows) → requested_in name rows ≡ requested_of words
+  requested name rows met = rw met refl
 
 -- ---- why a line requests nothing
 
@@ -73,5 +68,5 @@ only_memory words request (WrongUsage text) asked is =
     let none : fault_of cats words ≡ [] = no_fault _ _ request asked in
     let some : false ≡ true = rw none at is in
     cc
-only_memory words request (Misused misuse) asked is = let none : None ≡ Some request = sym is.1 ∙ asked in cc
+only_memory words request (Misused misuse) asked is = let none : None ≡ Some request = rw (is.0, is.1) at asked in cc
 only_memory words request NoMemory asked is = refl

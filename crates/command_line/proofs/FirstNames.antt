@@ -1,5 +1,5 @@
 -- Goods that are named one after the other, each added unless it is there, are those of the whole list, each once.
-use Rattle.command_line.proofs.Common.{◌≡◌, ◌∙◌, ◌++◌, ◌==◌, ◌&&◌, ◌||◌, ℕ, Bool, true, false, not, List, [], ◌∷◌, Option, None, Some, ap, sym, refl, arith}
+use Rattle.command_line.proofs.Common.{◌≡◌, ◌∙◌, ◌++◌, ◌==◌, ◌&&◌, ℕ, Bool, true, false, not, List, [], ◌∷◌, Option, None, Some, ap, sym, refl, arith}
 use Rattle.command_line.proofs.Common.{append-nil, append_assoc, filter, list_any-append, nat_tests, option_map, firsts, is_among, with_all, AreMarked}
 use Rattle.command_line.proofs.Common.{get_or-replicate, length-replicate, replicate}
 

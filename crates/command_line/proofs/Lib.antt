@@ -3,7 +3,6 @@ pub mod Common
 pub mod Answering
 pub mod FirstNames
 pub mod GoodsSoFar
+pub mod Reading
 pub mod Lines
 pub mod PlainWords
-pub mod Reading
-pub mod Tables

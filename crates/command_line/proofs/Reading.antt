@@ -1,10 +1,8 @@
 -- What the getters of `clap` read is what the rows say: numbers are read exactly if they are decimal numbers in range.
-use Rattle.command_line.proofs.Common.{◌++◌, ◌+◌, ◌≡◌, ◌∙◌, ◌<◌, ℕ, Bool, true, false, List, [], ◌∷◌, Option, Some, None, Result, Ok, Err, sym, ap, refl, arith}
-use Rattle.command_line.proofs.Common.{◌^◌, ◌≤◌, Bor, list_any, ◌||◌, option_and_then, option_map, option_map_or, result_ok}
-use Rattle.command_line.proofs.Common.{ParsesUnsigned, ExplainsUnsignedError}
-use Rattle.command_line.proofs.Common.{HasUnsignedDigitsIfOk, ParseIntError, ReadsOne, StepsValues, is_unsigned_in, Unsigned, accepts-Accepts, Accepts-accepts}
-use Rattle.command_line.proofs.Common.{texts_of, good_of, numbers_up_to, option_map_id, append_assoc}
-use Rattle.command_line.specs.Numbers.{begins_with_sign, number_up_to}
+use Rattle.command_line.proofs.Common.{◌+◌, ◌≡◌, ◌∙◌, ◌<◌, ℕ, Bool, true, false, List, [], ◌∷◌, Some, None, Result, Ok, Err, sym, ap, refl, arith, ◌^◌, ◌≤◌}
+use Rattle.command_line.proofs.Common.{Bor, list_any, ◌||◌, result_ok, ParsesUnsigned, is_unsigned_in, Unsigned, accepts-Accepts, Accepts-accepts, texts_of}
+use Rattle.command_line.proofs.Common.{good_of, ◌++◌, cons_option, filter_map, filter_map-append, get_or, length, map_more, take, begins_with_sign}
+use Rattle.command_line.proofs.Common.{number_up_to, limit_of}
 
 -- a number below 2 ^ bits that is read from a text is the text's
 module _ (bits most : ℕ) (is : 2 ^ bits ≡ most + 1) (small : most < 2 ^ 64) where
@@ -22,18 +20,8 @@ module _ (bits most : ℕ) (is : 2 ^ bits ≡ most + 1) (small : most < 2 ^ 64) 
           absurd (h (numeral.0, omega (arith, within, is)))
       go false accepts = rw accepts refl
 
--- what `from_str` answers for a number below 2 ^ bits
-abbrev pub Reads : ℕ → List ℕ → Result ℕ ParseIntError → Type 0
-Reads bits text answer = ParsesUnsigned bits 10 text answer × ExplainsUnsignedError 10 text answer × HasUnsignedDigitsIfOk text answer
-
-pub limit_read : (found : Option (List ℕ)) (answer : Option ℕ) → (found ≡ None → answer ≡ None)
-    → ((text : List ℕ) → found ≡ Some text → ReadsOne (Reads 64) text answer) → answer ≡ option_and_then (number_up_to 18446744073709551615) found
-limit_read None answer none value = none refl
-limit_read (Some text) answer none value = read answer (value text refl)
-  where
-    read : (answer : Option ℕ) → ReadsOne (Reads 64) text answer → answer ≡ number_up_to 18446744073709551615 text
-    read (Some n) h = number_read 64 18446744073709551615 refl (omega arith) ParseIntError text (Ok n) h.0
-    read None h = number_read 64 18446744073709551615 refl (omega arith) ParseIntError text (Err h.0) h.1.0
+pub limit_read : (E : Type 0) (text : List ℕ) (answer : Result ℕ E) → ParsesUnsigned 64 10 text answer → limit_of text ≡ result_ok answer
+limit_read E text answer parses = sym (number_read 64 18446744073709551615 refl (omega arith) E text answer parses)
 
 -- a good that is read from a text is the text's, if it is not too great, as no number is if none is read
 pub good_read : (E : Type 0) (text : List ℕ) (answer : Result ℕ E) (n : ℕ) → begins_with_sign text ≡ false → ParsesUnsigned 16 10 text answer
@@ -72,27 +60,11 @@ any_of_texts test (word ∷ words) = ap (λ b. test word.now || b) (any_of_texts
 
 -- ---- bids
 
--- the numbers that were read, and those of the texts that are left
-abbrev pub numbers_after : List ℕ → List (List ℕ) → Option (List ℕ)
-numbers_after so_far texts = option_map (λ ns. so_far ++ ns) (numbers_up_to 4294967295 texts)
-
-pub one_more : (so_far : List ℕ) (texts rest : List (List ℕ)) (answer : Result ℕ ParseIntError) → StepsValues (Reads 32) texts rest (Some answer)
-    → numbers_after so_far texts ≡ option_and_then (λ n. numbers_after (so_far ++ n ∷ []) rest) (result_ok answer)
-one_more so_far [] rest answer steps = absurd steps
-one_more so_far (text ∷ texts) rest answer steps =
-    rw (steps.1, number_read 32 4294967295 refl (omega arith) ParseIntError text answer steps.0.0)
-    (go (number_up_to 4294967295 text) (numbers_up_to 4294967295 texts))
-  where
-    go : (first : Option ℕ) (others : Option (List ℕ)) → option_map (λ ns. so_far ++ ns) (option_and_then (λ n. option_map (λ ns. n ∷ ns) others) first)
-        ≡ option_and_then (λ n. option_map (λ ns. (so_far ++ n ∷ []) ++ ns) others) first
-    go None others = refl
-    go (Some n) None = refl
-    go (Some n) (Some ns) = ap Some (sym (append_assoc so_far (n ∷ []) ns))
-
-pub numbers_given : (found : Option (List (List ℕ))) (texts : List (List ℕ)) (so_far : List ℕ) → so_far ≡ [] → found ≡ Some texts
-    → option_map_or (numbers_up_to 4294967295) found (Some []) ≡ numbers_after so_far texts
-numbers_given found texts so_far none is = rw (is, none) (sym (option_map_id (numbers_up_to 4294967295 texts)))
-
-pub no_numbers : (found : Option (List (List ℕ))) (so_far : List ℕ) → so_far ≡ [] → found ≡ None
-    → Some so_far ≡ option_map_or (numbers_up_to 4294967295) found (Some [])
-no_numbers found so_far none is = rw (is, none) refl
+-- the bids of one word more
+pub one_bid_more : {E : Type 0} (words : List (Bor (List ℕ))) (i : ℕ) (d : Bor (List ℕ)) (answer : Result ℕ E) → i < length words
+    → ParsesUnsigned 32 10 (get_or words i d).now answer → filter_map (number_up_to 4294967295) (texts_of (take (i + 1) words))
+    ≡ filter_map (number_up_to 4294967295) (texts_of (take i words)) ++ cons_option (result_ok answer) []
+one_bid_more {E} words i d answer lt parses =
+    let read = number_read 32 4294967295 refl (omega arith) E (get_or words i d).now answer parses in
+    rw read (ap (filter_map (number_up_to 4294967295)) (map_more (λ (word : Bor (List ℕ)). word.now) words i d lt)
+    ∙ filter_map-append (number_up_to 4294967295) (texts_of (take i words)) ((get_or words i d).now ∷ []))

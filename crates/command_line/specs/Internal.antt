@@ -1,4 +1,3 @@
 -- What the contracts of private functions cite.
-pub mod Commands
 pub mod Matches
 pub mod Named

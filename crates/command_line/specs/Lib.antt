@@ -1,7 +1,6 @@
 -- What the contracts of this crate cite.
+pub mod Commands
 pub mod Goods
 pub mod Numbers
-pub mod PlainRequests
 pub mod Requests
-pub mod Subcommands
 pub mod Internal

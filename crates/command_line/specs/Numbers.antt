@@ -1,6 +1,5 @@
 -- Numbers of a command line, by their texts.
-use Rattle.std.specs.Prelude.{◌==◌, ◌||◌, ℕ, Bool, false, List, [], ◌∷◌, Option, Some, None, if◌then◌else◌, option_map}
-use Rattle.std.specs.Prelude.{option_and_then}
+use Rattle.std.specs.Prelude.{◌==◌, ◌||◌, ℕ, Bool, false, List, [], ◌∷◌, Option, Some, None, if◌then◌else◌}
 use Rattle.std.specs.Str.Parse.{digits_value, without_leading_plus}
 use Rattle.clap.specs.ValueTests.{is_unsigned_in}
 
@@ -8,10 +7,9 @@ use Rattle.clap.specs.ValueTests.{is_unsigned_in}
 abbrev pub number_up_to : ℕ → List ℕ → Option ℕ
 number_up_to most text = if is_unsigned_in 0 most text then Some (digits_value 10 (without_leading_plus text)) else None
 
-abbrev pub numbers_up_to : ℕ → List (List ℕ) → Option (List ℕ)
-numbers_up_to most [] = Some []
-numbers_up_to most (text ∷ texts) =
-    option_and_then (λ n. option_map (λ ns. n ∷ ns) (numbers_up_to most texts)) (number_up_to most text)
+-- the number of a limit, which has 64 bits
+abbrev pub limit_of : List ℕ → Option ℕ
+limit_of text = number_up_to 18446744073709551615 text
 
 -- the first byte is '+' or '-'
 abbrev pub begins_with_sign : List ℕ → Bool

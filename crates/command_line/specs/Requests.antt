@@ -1,61 +1,102 @@
 -- What a command line requests, and what it is if it requests nothing.
-use Rattle.std.specs.Prelude.{◌≡◌, ◌==◌, ◌||◌, ℕ, Bool, true, false, not, List, [], ◌∷◌, map, find, filter, fold}
-use Rattle.std.specs.Prelude.{Option, None, codes, option_and_then, if◌then◌else◌, is_none, is_some}
+use Rattle.std.specs.Prelude.{◌≡◌, ◌==◌, ◌&&◌, ◌++◌, ℕ, Bool, true, false, not, All, List, [], ◌∷◌, filter, find}
+use Rattle.std.specs.Prelude.{Option, Some, None, Result, Err, codes, if◌then◌else◌, is_none, ok_or, option_map}
+use Rattle.std.specs.Prelude.{unwrap_or}
 use Rattle.std.specs.Option.{option_map_or}
-use Rattle.std.specs.Borrow.{Bor}
 use Rattle.std.specs.List.{list_any, slice_split}
+use Rattle.std.specs.Result.{result_err, result_ok}
 use Rattle.std.specs.Str.{bytes_eq}
 use Rattle.clap.specs.Faults.{fault_of}
 use Rattle.clap.specs.Kinds.{Kinds}
-use Rattle.clap.specs.Simple.{built_leaf, subcommand_of}
-use Rattle.clap.specs.Walk.{Row, Rule, arg_by_id, finished, nothing_held, used_by_id}
+use Rattle.clap.specs.Simple.{subcommand_of}
+use Rattle.clap.specs.Walk.{Row}
 use Rattle.clap.specs.declared.error.kind.ErrorKind.{ErrorKind}
 use Rattle.clap.specs.declared.error.kind.ErrorKind.TheVariants.{DisplayHelp, DisplayVersion}
-use Rattle.command_line.specs.PlainRequests.{PlainRequest}
-use Rattle.command_line.specs.Subcommands.{Subcommand, cats, goods_in, has_both_bids, has_more_files, has_signed_number}
-use Rattle.command_line.specs.Subcommands.{has_unbounded_total, second_in, shape_of_subcommand, subcommands}
+use Rattle.command_line.specs.Commands.{bids_in, cats, files_in, goods_in, has_signed_number, is_bounded, is_given}
+use Rattle.command_line.specs.Commands.{is_set, list_in, options_in, prices_in}
+use Rattle.command_line.specs.Numbers.{begins_with_sign}
 use Rattle.command_line.specs.declared.request.Misuse.{Misuse}
 use Rattle.command_line.specs.declared.request.Misuse.TheVariants.{SignedNumber, MoreThanOneFile, MoreThanTwoFiles}
-use Rattle.command_line.specs.declared.request.Misuse.TheVariants.{BidsTwice, UnboundedTotal}
-use Rattle.command_line.specs.declared.request.Misuse.TheVariants.{WrongGoods, WrongFiles}
+use Rattle.command_line.specs.declared.request.Misuse.TheVariants.{BidsTwice, UnboundedTotal, WrongGoods, WrongFiles}
 use Rattle.command_line.specs.declared.request.NoRequest.{NoRequest}
 use Rattle.command_line.specs.declared.request.NoRequest.TheVariants.{Help, WrongUsage, Misused, NoMemory}
+use Rattle.requests.specs.Requests.{PlainRequest}
+use Rattle.requests.specs.Tasks.{name_of, names_with}
+use Rattle.requests.specs.declared.task.Files.{Files}
+use Rattle.requests.specs.declared.task.Files.TheVariants.{One}
+use Rattle.requests.specs.declared.task.Task.{Task}
+use Rattle.requests.specs.declared.task.TaskRow.{TaskRow}
+use Rattle.requests.specs.declared.task.TheConstants.{TASKS}
+use Rattle.valuation.specs.SearchLimits.{bounded_options, plain_options}
+use Rattle.valuation.specs.declared.search.options.SearchOptions.{SearchOptions}
 
--- what the subcommand of this name requests; nothing if a number has a sign, if there are too many files, or if both
--- ways of naming bids are there
-abbrev pub request_from : List ℕ → List Row → Option PlainRequest
-request_from name rows = if has_signed_number rows || has_more_files rows
-    || has_both_bids rows then None
-    else option_and_then (λ s. s.request rows) (find (λ s. bytes_eq s.name name) subcommands)
+-- ---- by the rows of the arguments of a command
+
+-- many files are words or a list, and not both
+abbrev pub has_wrong_files : Bool → Bool → Bool
+has_wrong_files true false = false
+has_wrong_files false true = false
+has_wrong_files words list = true
+
+-- what is wrong with a line that `clap` takes, if something is
+abbrev pub misuse_in : List Row → Option Misuse
+misuse_in rows = if has_signed_number rows then Some SignedNumber
+    else (if is_given (codes "MORE_FILES") rows
+    then Some (if is_given (codes "SECOND_FILE") rows then MoreThanTwoFiles else MoreThanOneFile)
+    else (if is_given (codes "bids") rows && is_given (codes "BID") rows then Some BidsTwice
+    else (if is_given (codes "total-steps") rows && not (is_bounded rows) then Some UnboundedTotal
+    else (if is_none (goods_in rows) then Some WrongGoods
+    else (if has_wrong_files (is_given (codes "FILE") rows) (is_given (codes "files0-from") rows) then Some WrongFiles
+    else None)))))
+
+-- what a command requests by its arguments
+abbrev pub request_in : Task → List Row → PlainRequest
+request_in task rows = record {
+  task = task;
+  files = files_in rows;
+  list = list_in rows;
+  goods = unwrap_or (goods_in rows) [];
+  bids = bids_in rows;
+  prices = prices_in rows;
+  options = options_in rows;
+  progress = is_set (codes "progress") rows;
+  null = is_set (codes "null") rows;
+  all = is_set (codes "all") rows;
+}
+
+abbrev pub task_named : List ℕ → Option Task
+task_named name = option_map (λ row. row.task) (find (λ row. bytes_eq (name_of row.task) name) TASKS)
+
+-- what the command of a name requests, or what is wrong; `clap` takes the name of no other command
+abbrev pub requested_by : Option Misuse → Option PlainRequest → Result PlainRequest Misuse
+requested_by (Some misuse) found = Err misuse
+requested_by None found = ok_or found WrongFiles
+
+abbrev pub requested_in : List ℕ → List Row → Result PlainRequest Misuse
+requested_in name rows = requested_by (misuse_in rows) (option_map (λ task. request_in task rows) (task_named name))
+
+-- ---- by the words of a line, of which the first is the program's name
+
+-- what a line requests that `clap` takes, or what is wrong with it
+abbrev pub requested_of : List (List ℕ) → Result PlainRequest Misuse
+requested_of words = option_map_or (λ p. requested_in p.0 p.1) (subcommand_of cats words) (Err WrongFiles)
 
 -- a line without a fault requests this, and another nothing
 abbrev pub if_taken : Kinds → Option PlainRequest → Option PlainRequest
 if_taken [] found = found
 if_taken (kind ∷ kinds) found = None
 
--- What a command line requests, if it is one that `clap` takes. Its first word is the program's name.
+-- What a command line requests, if it is one that `clap` takes.
 abbrev pub request_of : List (List ℕ) → Option PlainRequest
-request_of words = if_taken (fault_of cats words)
-    (option_and_then (λ p. request_from p.0 p.1) (subcommand_of cats words))
+request_of words = if_taken (fault_of cats words) (result_ok (requested_of words))
 
 -- why a line requests nothing although `clap` takes it
-abbrev pub misuse_in : List Row → Misuse
-misuse_in rows = if has_signed_number rows then SignedNumber
-    else (if has_more_files rows then (if is_some (second_in rows) then MoreThanTwoFiles else MoreThanOneFile)
-    else (if has_both_bids rows then BidsTwice
-    else (if has_unbounded_total rows then UnboundedTotal
-    else (if is_none (goods_in rows) then WrongGoods else WrongFiles))))
-
 abbrev pub misuse_of : List (List ℕ) → Misuse
-misuse_of words = option_map_or (λ p. misuse_in p.1) (subcommand_of cats words) WrongFiles
+misuse_of words = unwrap_or (result_err (requested_of words)) WrongFiles
 
 -- a line as words, with a space (32) between each two
 abbrev pub words_in : List ℕ → List (List ℕ)
 words_in line = slice_split (λ b. b == 32) line
-
--- the texts of the words
-abbrev pub texts_of : List (Bor (List ℕ)) → List (List ℕ)
-texts_of = map (λ word. word.now)
 
 -- an answer that is no fault: help, or the version
 abbrev pub is_shown : ErrorKind → Bool
@@ -68,14 +109,8 @@ is_shown kind = false
 abbrev pub IsNoRequestOf : List (List ℕ) → NoRequest → Type 0
 IsNoRequestOf words (Help text) = list_any is_shown (fault_of cats words) ≡ true
 IsNoRequestOf words (WrongUsage text) = list_any (λ kind. not (is_shown kind)) (fault_of cats words) ≡ true
-IsNoRequestOf words (Misused misuse) =
-    (fault_of cats words ≡ []) × (request_of words ≡ None) × (misuse ≡ misuse_of words)
+IsNoRequestOf words (Misused misuse) = (fault_of cats words ≡ []) × (requested_of words ≡ Err misuse)
 IsNoRequestOf words NoMemory = Unit {0}
-
--- the word may be an option
-abbrev pub begins_with_hyphen : List ℕ → Bool
-begins_with_hyphen [] = false
-begins_with_hyphen (b ∷ rest) = b == 45
 
 abbrev pub is_no_memory : NoRequest → Bool
 is_no_memory NoMemory = true
@@ -85,27 +120,51 @@ abbrev pub is_wrong_usage : NoRequest → Bool
 is_wrong_usage (WrongUsage text) = true
 is_wrong_usage answer = false
 
--- ---- what a subcommand requests by its arguments
+-- ---- a line with few words
 
--- the rows of these arguments, each with its values, and of all others by default
-abbrev pub rows_with : List Rule → List (List ℕ × List (List ℕ)) → List Row
-rows_with rules given = finished rules (record nothing_held {
-  rows = fold (λ rows argument. used_by_id (arg_by_id rules argument.0) argument.1 rows) [] given;
-})
+-- How a command searches that is given no option for that. Where a flag chooses the bounded search, it is the plain
+-- one.
+abbrev pub usual_options : Task → SearchOptions
+usual_options task = if list_any (bytes_eq (name_of task)) (names_with (λ row. row.bound)) then plain_options 1000000
+    else bounded_options (if list_any (bytes_eq (name_of task)) (names_with (λ row. row.limits)) then 1000000 else 0)
+    None
 
--- what is requested if just these arguments are given. A flag has no value
-abbrev pub request_with : Subcommand → List (List ℕ × List (List ℕ)) → Option PlainRequest
-request_with s given = s.request (rows_with (built_leaf (shape_of_subcommand s)).rules given)
+-- what is requested of a command with these files and nothing else
+abbrev pub usual : Task → List (List ℕ) → PlainRequest
+usual task files = record {
+  task = task;
+  files = files;
+  list = None;
+  goods = [];
+  bids = [];
+  prices = None;
+  options = usual_options task;
+  progress = false;
+  null = false;
+  all = false;
+}
 
-abbrev pub one_file : List ℕ → List (List ℕ × List (List ℕ))
-one_file path = (codes "FILE", path ∷ []) ∷ []
+-- a number with a sign requests nothing
+abbrev pub unless_signed : List ℕ → PlainRequest → Option PlainRequest
+unless_signed text request = if begins_with_sign text then None else Some request
 
-abbrev pub two_files : List ℕ → List ℕ → List (List ℕ × List (List ℕ))
-two_files first second = (codes "FILE", first ∷ []) ∷ (codes "SECOND_FILE", second ∷ []) ∷ []
+-- the word may be an option
+abbrev pub begins_with_hyphen : List ℕ → Bool
+begins_with_hyphen [] = false
+begins_with_hyphen (b ∷ rest) = b == 45
 
--- the subcommands that need one file or two, and those that need two
-abbrev pub on_one_or_two : List Subcommand
-on_one_or_two = filter (λ s. list_any (λ rule. rule.required) s.rules) subcommands
+abbrev pub is_one : Files → Bool
+is_one One = true
+is_one files = false
 
-abbrev pub on_two : List Subcommand
-on_two = filter (λ s. is_some (arg_by_id s.rules (codes "SECOND_FILE"))) subcommands
+-- as many paths as a command reads: one or two, and of many two
+abbrev pub paths_for : TaskRow → List ℕ → List ℕ → List (List ℕ)
+paths_for row first second = if is_one row.files then first ∷ [] else first ∷ second ∷ []
+
+-- Each command that passes the test requests this, if these words and then its paths follow its name. A path here does
+-- not begin with a hyphen.
+pub record EachRequests (test : TaskRow → Bool) (words : List (List ℕ))
+    (request : Task → List (List ℕ) → Option PlainRequest) : Type 0 where
+  pub each : (program first second : List ℕ) → begins_with_hyphen first ≡ false → begins_with_hyphen second ≡ false
+      → All (λ row. request_of (program ∷ name_of row.task ∷ words ++ paths_for row first second)
+      ≡ request row.task (paths_for row first second)) (filter test TASKS)

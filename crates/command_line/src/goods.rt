@@ -1,11 +1,11 @@
 //! The goods that words name: each word is a list, with commas, of numbers and of ranges of numbers.
 
 ghost use Rattle.std.specs.Prelude.{◌≡◌, ◌+◌, ◌-◌, ◌==◌, ◌<◌, ◌≤◌, IfOk, IfSome, None, OnOk, Some};
-ghost use Rattle.std.specs.Prelude.{if◌then◌else◌, length, option_map};
+ghost use Rattle.std.specs.Prelude.{if◌then◌else◌, option_map};
 ghost use Rattle.std.specs.List.{range_with_len, slice_split};
 ghost use Rattle.command_line.specs.Goods.{ends_of, good_of, goods_of_word, goods_of_words};
 ghost use Rattle.command_line.specs.Internal.Named.{AreMarked, with_all, with_named};
-ghost use Rattle.command_line.specs.Requests.{texts_of};
+ghost use Rattle.requests.specs.Requests.{texts_of};
 
 use crate::parser::begins_with_sign;
 use std::alloc::{AllocError, Global};

@@ -1,109 +1,66 @@
-//! Laws of the definitions: what the forms of each subcommand request. A path here does not begin with a hyphen; after
-//! `--` any path may.
+//! Laws of the definitions: what the forms of each command request. `EachRequests` has as many paths behind the options
+//! as the command reads.
 
-ghost use Rattle.std.specs.Prelude.{◌≡◌, ◌++◌, ℕ, All, List, [], ◌∷◌, None, Some, codes, false, if◌then◌else◌, option_map};
-ghost use Rattle.std.specs.Prelude.{true};
-ghost use Rattle.command_line.specs.PlainRequests.{BidsIn, Check, Explain, Normalise, OnFile, OnPair, PlainRequest};
-ghost use Rattle.command_line.specs.PlainRequests.{Revenue, Round, Value};
+ghost use Rattle.std.specs.Prelude.{◌≡◌, ◌++◌, ℕ, All, List, [], ◌∷◌, None, Some, codes, true, unwrap_or};
 ghost use Rattle.clap.specs.ValueTests.{is_unsigned_in};
-ghost use Rattle.command_line.specs.Subcommands.{begins_with_sign, number_up_to, usual_limits};
-ghost use Rattle.command_line.specs.Requests.{IsNoRequestOf, begins_with_hyphen, is_no_memory, on_one_or_two, on_two};
-ghost use Rattle.command_line.specs.Requests.{one_file, request_of, request_with, two_files};
+ghost use Rattle.command_line.specs.Commands.{is_always_bounded, is_many};
+ghost use Rattle.command_line.specs.Numbers.{limit_of};
+ghost use Rattle.command_line.specs.Requests.{EachRequests, IsNoRequestOf, is_no_memory, paths_for, request_of};
+ghost use Rattle.command_line.specs.Requests.{unless_signed, usual, usual_options};
 ghost use Rattle.command_line.specs.declared.request.NoRequest.{NoRequest};
-ghost use Rattle.command_line.specs.declared.request.PairCommand.TheVariants.{Compare};
-ghost use Rattle.command_line.specs.declared.request.Prices.TheVariants.{AsWritten, Rounded, RoundedExactly};
+ghost use Rattle.requests.specs.Requests.{PlainRequest};
+ghost use Rattle.requests.specs.Tasks.{name_of};
+ghost use Rattle.requests.specs.declared.task.TheConstants.{TASKS};
+ghost use Rattle.rounding.specs.declared.replacement.FinePrices.TheVariants.{Refuse, Round};
+ghost use Rattle.valuation.specs.SearchLimits.{bounded_options};
 
-/// Each subcommand that needs a file, with one path. `--exact` is the flag of `round` alone.
-pub fn one_path()
-    ensures each { (program path : List ℕ) → begins_with_hyphen path ≡ false
-        → All (λ s. request_of (program ∷ s.name ∷ path ∷ []) ≡ request_with s (one_file path)) on_one_or_two }
-    ensures exact { (program path : List ℕ) → begins_with_hyphen path ≡ false
-        → request_of (program ∷ codes "round" ∷ codes "--exact" ∷ path ∷ []) ≡ Some (Round path true) }
+/// Any paths, after `--`.
+pub fn paths_after_hyphens()
+    ensures { (program first second : List ℕ)
+        → All (λ row. request_of (program ∷ name_of row.task ∷ codes "--" ∷ paths_for row first second)
+        ≡ Some (usual row.task (paths_for row first second))) TASKS }
 {}
 
-/// Any path, after `--`.
-#[tactic(auto, unfolding(clap::proofs::OnLiterals::clap_on_literals))]
-pub fn path_after_hyphens()
-    ensures { (program path : List ℕ)
-        → request_of (program ∷ codes "check" ∷ codes "--" ∷ path ∷ [])
-        ≡ Some (OnFile path AsWritten Check) }
+/// Each command with just its paths, in their order, and with each flag that it has. The path of a list of bids is any
+/// that follows `--bids=`.
+pub fn options()
+    ensures { EachRequests (λ row. true) [] (λ task paths. Some (usual task paths))
+        × EachRequests (λ row. row.rounding) (codes "--round" ∷ [])
+        (λ task paths. Some (record (usual task paths) { prices = Some Round }))
+        × EachRequests (λ row. row.rounding) (codes "--round-exact" ∷ [])
+        (λ task paths. Some (record (usual task paths) { prices = Some Refuse }))
+        × EachRequests (λ row. row.exact) (codes "--exact" ∷ [])
+        (λ task paths. Some (record (usual task paths) { prices = Some Refuse }))
+        × EachRequests (λ row. row.limits) (codes "--bound" ∷ [])
+        (λ task paths. Some (record (usual task paths) { options = bounded_options 1000000 None }))
+        × EachRequests (λ row. is_many row.files) (codes "--progress" ∷ [])
+        (λ task paths. Some (record (usual task paths) { progress = true }))
+        × EachRequests (λ row. is_many row.files) (codes "--null" ∷ [])
+        (λ task paths. Some (record (usual task paths) { null = true }))
+        × EachRequests (λ row. row.all) (codes "--all" ∷ [])
+        (λ task paths. Some (record (usual task paths) { all = true }))
+        × ((list : List ℕ) → EachRequests (λ row. row.bids) ((codes "--bids=" ++ list) ∷ [])
+        (λ task paths. Some (record (usual task paths) { list = Some list }))) }
 {}
 
-/// Each subcommand with two paths, in their order.
-pub fn two_paths()
-    ensures { (program first second : List ℕ) → begins_with_hyphen first ≡ false → begins_with_hyphen second ≡ false
-        → All (λ s. request_of (program ∷ s.name ∷ first ∷ second ∷ []) ≡ request_with s (two_files first second)) on_two }
-{}
-
-/// The numbers of bids are in the file at any path that follows `--bids=`.
-pub fn listed_bids()
-    ensures { (program path list : List ℕ) → begins_with_hyphen path ≡ false
-        → request_of (program ∷ codes "revenue" ∷ (codes "--bids=" ++ list) ∷ path ∷ [])
-        ≡ Some (OnFile path AsWritten (Revenue (BidsIn list))) }
-{}
-
-/// `--round` and `--round-exact` say how prices are read.
-pub fn rounded()
-    ensures normalise { (program path : List ℕ) → begins_with_hyphen path ≡ false
-        → request_of (program ∷ codes "normalise" ∷ codes "--round" ∷ path ∷ [])
-        ≡ Some (OnFile path Rounded (Normalise (usual_limits false))) }
-    ensures normalise_exactly { (program path : List ℕ) → begins_with_hyphen path ≡ false
-        → request_of (program ∷ codes "normalise" ∷ codes "--round-exact" ∷ path ∷ [])
-        ≡ Some (OnFile path RoundedExactly (Normalise (usual_limits false))) }
-    ensures compare { (program first second : List ℕ) → begins_with_hyphen first ≡ false → begins_with_hyphen second ≡ false
-        → request_of (program ∷ codes "compare" ∷ codes "--round" ∷ first ∷ second ∷ [])
-        ≡ Some (OnPair first second Rounded Compare (usual_limits false)) }
-    ensures compare_exactly { (program first second : List ℕ) → begins_with_hyphen first ≡ false
-        → begins_with_hyphen second ≡ false
-        → request_of (program ∷ codes "compare" ∷ codes "--round-exact" ∷ first ∷ second ∷ [])
-        ≡ Some (OnPair first second RoundedExactly Compare (usual_limits false)) }
-{}
-
-/// `--bound` chooses the bounded search; `explain` always uses it (`worked::limits` has its other commands).
-pub fn bounded()
-    ensures normalise { (program path : List ℕ) → begins_with_hyphen path ≡ false
-        → request_of (program ∷ codes "normalise" ∷ codes "--bound" ∷ path ∷ [])
-        ≡ Some (OnFile path AsWritten (Normalise (usual_limits true))) }
-    ensures value { (program path : List ℕ) → begins_with_hyphen path ≡ false
-        → request_of (program ∷ codes "value" ∷ codes "--bound" ∷ path ∷ [])
-        ≡ Some (OnFile path AsWritten (Value [] (usual_limits true))) }
-    ensures compare { (program first second : List ℕ) → begins_with_hyphen first ≡ false → begins_with_hyphen second ≡ false
-        → request_of (program ∷ codes "compare" ∷ codes "--bound" ∷ first ∷ second ∷ [])
-        ≡ Some (OnPair first second AsWritten Compare (usual_limits true)) }
-    ensures explain { (program path : List ℕ) → begins_with_hyphen path ≡ false
-        → request_of (program ∷ codes "explain" ∷ codes "--bound" ∷ path ∷ [])
-        ≡ Some (OnFile path AsWritten (Explain (usual_limits true))) }
-{}
-
-/// The limit of each search. A value may follow `=`, or be the next word (`worked::lines`).
-pub fn limit()
-    ensures { (program text path : List ℕ) → is_unsigned_in 1 1000000000 text ≡ true → begins_with_hyphen path ≡ false
-        → request_of (program ∷ codes "normalise" ∷ (codes "--steps=" ++ text) ∷ path ∷ [])
-        ≡ (if begins_with_sign text then None else option_map (λ steps. OnFile path AsWritten
-        (Normalise (record { bound = false; steps = steps; total = None })))
-        (number_up_to 18446744073709551615 text)) }
-{}
-
-/// The limit of all searches together.
-pub fn total_limit()
-    ensures { (program text path : List ℕ) → is_unsigned_in 1 1000000000000 text ≡ true → begins_with_hyphen path ≡ false
-        → request_of (program ∷ codes "explain" ∷ (codes "--total-steps=" ++ text) ∷ path ∷ [])
-        ≡ (if begins_with_sign text then None else Some (OnFile path AsWritten (Explain (record {
-          bound = true;
-          steps = 1000000;
-          total = number_up_to 18446744073709551615 text;
-        })))) }
-{}
-
-/// The plain search has no limit of all searches together.
-pub fn unbounded_total()
-    ensures normalise { (program text path : List ℕ) → begins_with_hyphen path ≡ false
-        → request_of (program ∷ codes "normalise" ∷ (codes "--total-steps=" ++ text) ∷ path ∷ []) ≡ None }
-    ensures value { (program text path : List ℕ) → begins_with_hyphen path ≡ false
-        → request_of (program ∷ codes "value" ∷ (codes "--total-steps=" ++ text) ∷ path ∷ []) ≡ None }
-    ensures compare { (program text first second : List ℕ) → begins_with_hyphen first ≡ false
-        → begins_with_hyphen second ≡ false
-        → request_of (program ∷ codes "compare" ∷ (codes "--total-steps=" ++ text) ∷ first ∷ second ∷ []) ≡ None }
+/// The limits, whose values may follow `=`, or be the next words (`worked::lines`). The limit of all searches together is of
+/// the bounded search, and not of the plain one.
+pub fn limits()
+    ensures steps { (text : List ℕ) → is_unsigned_in 1 1000000000 text ≡ true
+        → EachRequests (λ row. row.limits) ((codes "--steps=" ++ text) ∷ [])
+        (λ task paths. unless_signed text (record (usual task paths) {
+          options = record (usual_options task) { each = unwrap_or (limit_of text) 0 };
+        })) }
+    ensures total { (text : List ℕ) → is_unsigned_in 1 1000000000000 text ≡ true
+        → EachRequests (λ row. row.limits) (codes "--bound" ∷ (codes "--total-steps=" ++ text) ∷ [])
+        (λ task paths. unless_signed text
+        (record (usual task paths) { options = bounded_options 1000000 (limit_of text) })) }
+    ensures always_bounded { (text : List ℕ) → is_unsigned_in 1 1000000000000 text ≡ true
+        → EachRequests is_always_bounded ((codes "--total-steps=" ++ text) ∷ [])
+        (λ task paths. unless_signed text
+        (record (usual task paths) { options = bounded_options 1000000 (limit_of text) })) }
+    ensures plain { (text : List ℕ)
+        → EachRequests (λ row. row.bound) ((codes "--total-steps=" ++ text) ∷ []) (λ task paths. None) }
 {}
 
 /// Only want of memory may come in the place of a request.

@@ -1,33 +1,32 @@
 //! From the words of a command line to a request.
 
-ghost use Rattle.std.specs.Prelude.{◌≡◌, List, [], IfErr, IfOk, Some, map, option_map};
+ghost use Rattle.std.specs.Prelude.{◌≡◌, [], IfErr, IfOk, List, Some, is_none, option_map, unwrap_or};
 ghost use Rattle.std.specs.List.{list_any};
-ghost use Rattle.std.specs.Result.{result_ok};
+ghost use Rattle.std.specs.Option.{option_map_or};
 ghost use Rattle.clap.specs.Faults.{fault_of};
-ghost use Rattle.clap.specs.Words.{HasKind, all_of, first_of, kind_of};
-ghost use Rattle.command_line.specs.Internal.Matches.{IsAnswerTo, rows_in};
-ghost use Rattle.command_line.specs.PlainRequests.{plain_bids, plain_command, plain_paths, plain_request};
-ghost use Rattle.command_line.specs.Requests.{IsNoRequestOf, misuse_in, misuse_of, request_from};
-ghost use Rattle.command_line.specs.Requests.{request_of, texts_of};
-ghost use Rattle.command_line.specs.Subcommands.{begins_with_sign, bid_numbers_in, bids_in, cats, goods_in};
-ghost use Rattle.command_line.specs.Subcommands.{has_both_bids, has_more_files, has_signed_number};
-ghost use Rattle.command_line.specs.Subcommands.{has_unbounded_total, is_bounded, is_set, is_signed};
-ghost use Rattle.command_line.specs.Subcommands.{limits_in, number_in, on_file, on_files, on_pair, paths_in, prices_in};
-ghost use Rattle.command_line.specs.Subcommands.{valued};
+ghost use Rattle.clap.specs.Words.{HasKind, first_of, kind_of};
+ghost use Rattle.command_line.specs.Commands.{bids_in, cats, files_in, goods_in, has_signed_number, is_bounded, is_given};
+ghost use Rattle.command_line.specs.Commands.{is_set, is_signed, list_in, number_in, options_in, prices_in, texts_in};
+ghost use Rattle.command_line.specs.Internal.Matches.{IsAnswerTo, plain_requested, rows_in};
+ghost use Rattle.command_line.specs.Numbers.{begins_with_sign};
+ghost use Rattle.command_line.specs.Requests.{IsNoRequestOf, misuse_in, request_in, request_of, requested_in, requested_of};
+ghost use Rattle.command_line.specs.Requests.{task_named};
+ghost use Rattle.requests.specs.Requests.{plain_request, texts_of};
 
 use crate::commands::{
-    BID, BIDS, BOUND, FILE, FILES0_FROM, GOOD, MORE_FILES, NULL, PROGRESS, ROUND, ROUND_EXACT,
-    SECOND_FILE, STEPS, TOTAL_STEPS, cats_command, find_named_request,
+    ALL, BID, BIDS, BOUND, EXACT, FILE, FILES0_FROM, GOOD, MORE_FILES, NULL, PROGRESS, ROUND,
+    ROUND_EXACT, SECOND_FILE, STEPS, TOTAL_STEPS, cats_command,
 };
 use crate::goods::goods_of_words;
 use crate::help::CommandHelp;
-use crate::request::{
-    FileCommand, FilePaths, FileRequest, FilesCommand, FilesRequest, Limits, Misuse, NamedBids,
-    NoRequest, PairCommand, PairRequest, Prices, Request,
-};
+use crate::request::{Misuse, NoRequest};
 use clap::error::ErrorKind;
 use clap::{ArgMatches, Error};
+use requests::request::Request;
+use requests::task::{TASKS, Task, name_of};
+use rounding::replacement::FinePrices;
 use std::alloc::{AllocError, Global};
+use valuation::search::SearchOptions;
 
 /// Reads a command line, whose first word is the program's name. `--version` prints `version` after that name, and
 /// `--help` the texts of `help`.
@@ -74,239 +73,150 @@ fn find_request<'a>(
     words: &'a [&'a str],
 ) -> Result<Result<Request<'a>, Misuse>, Error>
     ensures taken { IfOk result (λ found. fault_of cats (texts_of words.now) ≡ List.[]) }
-    ensures found { IfOk result (λ found. option_map plain_request (result_ok found) ≡ request_of (texts_of words.now)) }
-    ensures misused { IfOk result (λ found. IfErr found (λ misuse. misuse ≡ misuse_of (texts_of words.now))) }
+    ensures found { IfOk result (λ found. plain_requested found ≡ requested_of (texts_of words.now)) }
     ensures refused { IfErr result (HasKind (fault_of cats (texts_of words.now))) }
 {
     let matches = cats_command(alloc, version, help)?.try_get_matches_from(words)?;
     match matches.subcommand() {
-        Some((name, given)) => Ok(judge_subcommand(alloc, name, given)?),
+        Some((name, given)) => Ok(judge(alloc, name, given)?),
         None => Ok(Err(Misuse::WrongFiles)),
     }
 }
 
-/// What a subcommand with these matches requests, or why it is wrong.
-fn judge_subcommand<'a>(
+/// What the command of a name requests by its matches, or why the line is wrong.
+fn judge<'a>(
     alloc: Global,
     name: &str,
     given: &ArgMatches<'a>,
 ) -> Result<Result<Request<'a>, Misuse>, AllocError>
-    ensures found { IfOk result (λ found. option_map plain_request (result_ok found)
-        ≡ request_from name.now (rows_in given.now)) }
-    ensures misused { IfOk result (λ found. IfErr found (λ misuse. misuse ≡ misuse_in (rows_in given.now))) }
+    ensures { IfOk result (λ found. plain_requested found ≡ requested_in name.now (rows_in given.now)) }
 {
-    match find_named_request(alloc, name, given)? {
-        Some(request) => Ok(Ok(request)),
-        None => Ok(Err(misuse(alloc, given)?)),
+    let goods = find_goods(alloc, given)?;
+    if let Some(misuse) = find_misuse(given, goods.is_none()) {
+        return Ok(Err(misuse));
+    }
+    let goods = goods.unwrap_or(Vec::new(alloc));
+    match find_task(name) {
+        Some(task) => Ok(Ok(request(alloc, task, goods, given)?)),
+        None => Ok(Err(Misuse::WrongFiles)),
     }
 }
 
-/// Why a line without a request is wrong, by the matches of its subcommand.
-fn misuse(alloc: Global, given: &ArgMatches<'_>) -> Result<Misuse, AllocError>
-    ensures { IfOk result (λ misuse. misuse ≡ misuse_in (rows_in given.now)) }
+/// The command of a name.
+fn find_task(name: &str) -> Option<Task>
+    ensures { result ≡ task_named name.now }
 {
-    Ok(if has_signed_number(given) {
-        Misuse::SignedNumber
-    } else if has_more_files(given) {
-        match find_text(given, SECOND_FILE) {
-            Some(_) => Misuse::MoreThanTwoFiles,
-            None => Misuse::MoreThanOneFile,
-        }
-    } else if has_both_bids(given) {
-        Misuse::BidsTwice
-    } else if has_unbounded_total(given) {
-        Misuse::UnboundedTotal
-    } else if find_goods(alloc, given)?.is_none() {
-        Misuse::WrongGoods
+    let row = TASKS.iter().find(|row| name_of(row.task) == name)?;
+    Some(row.task)
+}
+
+/// What is wrong with a line that `clap` takes, if something is.
+fn find_misuse(given: &ArgMatches<'_>, has_wrong_goods: bool) -> Option<Misuse>
+    requires { has_wrong_goods ≡ is_none (goods_in (rows_in given.now)) }
+    ensures { result ≡ misuse_in (rows_in given.now) }
+{
+    if has_signed_number(given) {
+        Some(Misuse::SignedNumber)
+    } else if is_given(given, MORE_FILES) {
+        Some(if is_given(given, SECOND_FILE) {
+            Misuse::MoreThanTwoFiles
+        } else {
+            Misuse::MoreThanOneFile
+        })
+    } else if is_given(given, BIDS) && is_given(given, BID) {
+        Some(Misuse::BidsTwice)
+    } else if is_given(given, TOTAL_STEPS) && !is_bounded(given) {
+        Some(Misuse::UnboundedTotal)
+    } else if has_wrong_goods {
+        Some(Misuse::WrongGoods)
+    } else if is_given(given, FILE) == is_given(given, FILES0_FROM) {
+        Some(Misuse::WrongFiles)
     } else {
-        Misuse::WrongFiles
+        None
+    }
+}
+
+/// What a command requests by its matches, which are not wrong, and the goods that they name.
+fn request<'a>(
+    alloc: Global,
+    task: Task,
+    goods: Vec<u16>,
+    given: &ArgMatches<'a>,
+) -> Result<Request<'a>, AllocError>
+    requires { goods.items ≡ unwrap_or (goods_in (rows_in given.now)) [] }
+    ensures { IfOk result (λ request. plain_request request ≡ request_in task (rows_in given.now)) }
+{
+    Ok(Request {
+        task,
+        files: find_files(alloc, given)?,
+        list: find_list(given),
+        goods,
+        bids: find_bids(alloc, given)?,
+        prices: find_prices(given),
+        options: find_options(given),
+        progress: is_set(given, PROGRESS),
+        null: is_set(given, NULL),
+        all: is_set(given, ALL),
     })
 }
 
-/// The request of a command on one file. There is no command if its own arguments are wrong.
-pub(crate) fn on_file<'a>(
-    given: &ArgMatches<'a>,
-    command: Option<FileCommand<'a>>,
-) -> Option<Request<'a>>
-    ensures { option_map plain_request result
-        ≡ on_file (λ rows. option_map plain_command command.entry) (rows_in given.now) }
+fn find_files<'a>(alloc: Global, given: &ArgMatches<'a>) -> Result<Vec<&'a str>, AllocError>
+    ensures { IfOk result (λ files. texts_of files.items ≡ files_in (rows_in given.now)) }
 {
-    let file = find_text(given, FILE)?;
-    let command = command?;
-    Some(Request::OnFile(FileRequest {
-        file,
-        prices: find_prices(given),
-        command,
-    }))
+    let mut files = Vec::from_slice(alloc, find_texts(given, FILE))?;
+    files.extend_from_slice(find_texts(given, SECOND_FILE))?;
+    Ok(files)
 }
 
-/// How prices are read.
-fn find_prices(given: &ArgMatches<'_>) -> Prices
-    ensures { result ≡ prices_in (rows_in given.now) }
+/// The list of files, or of bids.
+fn find_list<'a>(given: &ArgMatches<'a>) -> Option<&'a str>
+    ensures { option_map (λ list. list.now) result ≡ list_in (rows_in given.now) }
 {
-    if is_set(given, ROUND_EXACT) {
-        Prices::RoundedExactly
-    } else if is_set(given, ROUND) {
-        Prices::Rounded
-    } else {
-        Prices::AsWritten
-    }
-}
-
-pub(crate) fn find_value<'a>(
-    alloc: Global,
-    given: &ArgMatches<'a>,
-) -> Result<Option<FileCommand<'a>>, AllocError>
-    ensures { IfOk result (λ found. option_map plain_command found ≡ valued (rows_in given.now)) }
-{
-    let (Some(limits), Some(goods)) = (find_limits(given), find_goods(alloc, given)?) else {
-        return Ok(None);
-    };
-    Ok(Some(FileCommand::Value { goods, limits }))
+    find_text(given, FILES0_FROM).or(find_text(given, BIDS))
 }
 
 fn find_goods(alloc: Global, given: &ArgMatches<'_>) -> Result<Option<Vec<u16>>, AllocError>
     ensures { IfOk result (λ goods. option_map (λ found. found.items) goods ≡ goods_in (rows_in given.now)) }
 {
-    match find_texts(given, GOOD) {
-        Some(words) => goods_of_words(alloc, words),
-        None => Ok(Some(Vec::new(alloc))),
+    goods_of_words(alloc, find_texts(given, GOOD))
+}
+
+/// The bids that words name. `clap` takes no word as a bid that is no number.
+fn find_bids(alloc: Global, given: &ArgMatches<'_>) -> Result<Vec<u32>, AllocError>
+    ensures { IfOk result (λ bids. bids.items ≡ bids_in (rows_in given.now)) }
+{
+    let mut bids = Vec::new(alloc);
+    for word in find_texts(given, BID) {
+        if let Ok(bid) = word.parse::<u32>() {
+            bids.push(bid)?;
+        }
+    }
+    Ok(bids)
+}
+
+/// What becomes of fine prices.
+fn find_prices(given: &ArgMatches<'_>) -> Option<FinePrices>
+    ensures { result ≡ prices_in (rows_in given.now) }
+{
+    if is_set(given, ROUND_EXACT) || is_set(given, EXACT) {
+        Some(FinePrices::Refuse)
+    } else if is_set(given, ROUND) {
+        Some(FinePrices::Round)
+    } else {
+        None
     }
 }
 
-/// The bids of a list, or else those that words name.
-pub(crate) fn find_bids<'a>(
-    alloc: Global,
-    given: &ArgMatches<'a>,
-) -> Result<Option<NamedBids<'a>>, AllocError>
-    ensures { IfOk result (λ found. option_map plain_bids found ≡ bids_in (rows_in given.now)) }
+/// How to search.
+fn find_options(given: &ArgMatches<'_>) -> SearchOptions
+    ensures { result ≡ options_in (rows_in given.now) }
 {
-    if let Some(list) = find_text(given, BIDS) {
-        return Ok(Some(NamedBids::ListedIn(list)));
+    let steps = find_number(given, STEPS).unwrap_or(0);
+    if is_bounded(given) {
+        SearchOptions::bounded(steps, find_number(given, TOTAL_STEPS))
+    } else {
+        SearchOptions::plain(steps)
     }
-    match find_numbers(alloc, given)? {
-        Some(numbers) => Ok(Some(NamedBids::Given(numbers))),
-        None => Ok(None),
-    }
-}
-
-fn find_numbers(alloc: Global, given: &ArgMatches<'_>) -> Result<Option<Vec<u32>>, AllocError>
-    ensures { IfOk result (λ numbers. option_map (λ found. found.items) numbers ≡ bid_numbers_in (rows_in given.now)) }
-{
-    let mut numbers = Vec::new(alloc);
-    let Some(words) = given.get_many::<u32>(BID) else {
-        return Ok(Some(numbers));
-    };
-    for number in words {
-        let Ok(number) = number else { return Ok(None) };
-        numbers.push(number)?;
-    }
-    Ok(Some(numbers))
-}
-
-pub(crate) fn find_pair_request<'a>(
-    given: &ArgMatches<'a>,
-    command: PairCommand,
-) -> Option<Request<'a>>
-    ensures { option_map plain_request result ≡ on_pair command (rows_in given.now) }
-{
-    let first = find_text(given, FILE)?;
-    let second = find_text(given, SECOND_FILE)?;
-    let limits = find_limits(given)?;
-    Some(Request::OnPair(PairRequest {
-        first,
-        second,
-        prices: find_prices(given),
-        command,
-        limits,
-    }))
-}
-
-pub(crate) fn find_files_request<'a>(
-    alloc: Global,
-    given: &ArgMatches<'a>,
-    command: FilesCommand,
-) -> Result<Option<Request<'a>>, AllocError>
-    ensures { IfOk result (λ found. option_map plain_request found ≡ on_files command (rows_in given.now)) }
-{
-    let (Some(limits), Some(paths)) = (find_limits(given), find_paths(alloc, given)?) else {
-        return Ok(None);
-    };
-    Ok(Some(Request::OnFiles(FilesRequest {
-        paths,
-        prices: find_prices(given),
-        command,
-        limits,
-        progress: is_set(given, PROGRESS),
-        null: is_set(given, NULL),
-    })))
-}
-
-/// Where the paths are: in a list, or on the command line, and not both.
-fn find_paths<'a>(
-    alloc: Global,
-    given: &ArgMatches<'a>,
-) -> Result<Option<FilePaths<'a>>, AllocError>
-    ensures { IfOk result (λ found. option_map plain_paths found ≡ paths_in (rows_in given.now)) }
-{
-    match (find_text(given, FILES0_FROM), find_texts(given, FILE)) {
-        (Some(list), None) => Ok(Some(FilePaths::ListedIn(list))),
-        (None, Some(words)) => Ok(Some(FilePaths::Given(paths_of(alloc, words)?))),
-        _ => Ok(None),
-    }
-}
-
-/// Words as paths.
-fn paths_of<'a>(alloc: Global, words: &[&'a str]) -> Result<Vec<&'a [u8]>, AllocError>
-    ensures { IfOk result (λ paths. texts_of paths.items ≡ texts_of words.now) }
-{
-    let mut paths = Vec::new(alloc);
-    for word in words {
-        paths.push(word.as_bytes())?;
-    }
-    Ok(paths)
-}
-
-/// The paths of many files.
-fn find_texts<'b, 'a>(given: &'b ArgMatches<'a>, id: &str) -> Option<&'b [&'a str]>
-    ensures { option_map (λ texts. texts_of texts.now) result ≡ all_of id.now (rows_in given.now) }
-{
-    given.get_strs(id)
-}
-
-/// The value of an option, or the path of a file.
-pub(crate) fn find_text<'a>(given: &ArgMatches<'a>, id: &str) -> Option<&'a str>
-    ensures { option_map (λ text. text.now) result ≡ first_of id.now (rows_in given.now) }
-{
-    given.get_str(id)
-}
-
-pub(crate) fn find_limits(given: &ArgMatches<'_>) -> Option<Limits>
-    ensures { result ≡ limits_in (rows_in given.now) }
-{
-    if has_unbounded_total(given) {
-        return None;
-    }
-    let steps = find_number(given, STEPS)?;
-    Some(Limits {
-        bound: is_bounded(given),
-        steps,
-        total: find_number(given, TOTAL_STEPS),
-    })
-}
-
-/// Whether the line has both a list of bids and words that name bids.
-pub(crate) fn has_both_bids(given: &ArgMatches<'_>) -> bool
-    ensures { result ≡ has_both_bids (rows_in given.now) }
-{
-    find_text(given, BIDS).is_some() && find_texts(given, BID).is_some()
-}
-
-/// Whether there is a limit of all searches together, but not for the bounded search, which alone has one.
-fn has_unbounded_total(given: &ArgMatches<'_>) -> bool
-    ensures { result ≡ has_unbounded_total (rows_in given.now) }
-{
-    find_text(given, TOTAL_STEPS).is_some() && !is_bounded(given)
 }
 
 /// Whether the search is the bounded one, as it is where no flag chooses it.
@@ -320,21 +230,15 @@ fn is_bounded(given: &ArgMatches<'_>) -> bool
 }
 
 /// The number of an option.
+#[tactic(auto, using(crate::proofs::Reading::limit_read))]
 fn find_number(given: &ArgMatches<'_>, id: &str) -> Option<u64>
     ensures { result ≡ number_in id.now (rows_in given.now) }
 {
-    given.get_one::<u64>(id)
-}
-
-/// Whether the line has more files than its subcommand takes.
-pub(crate) fn has_more_files(given: &ArgMatches<'_>) -> bool
-    ensures { result ≡ has_more_files (rows_in given.now) }
-{
-    find_text(given, MORE_FILES).is_some()
+    find_text(given, id)?.parse::<u64>().ok()
 }
 
 /// Whether a number of the line begins with a sign. `clap` takes `+5`, and `-0`.
-pub(crate) fn has_signed_number(given: &ArgMatches<'_>) -> bool
+fn has_signed_number(given: &ArgMatches<'_>) -> bool
     ensures { result ≡ has_signed_number (rows_in given.now) }
 {
     is_signed(given, STEPS)
@@ -347,10 +251,7 @@ pub(crate) fn has_signed_number(given: &ArgMatches<'_>) -> bool
 fn is_signed(given: &ArgMatches<'_>, id: &str) -> bool
     ensures { result ≡ is_signed id.now (rows_in given.now) }
 {
-    match find_texts(given, id) {
-        Some(numbers) => is_any_signed(numbers),
-        None => false,
-    }
+    is_any_signed(find_texts(given, id))
 }
 
 fn is_any_signed(numbers: &[&str]) -> bool
@@ -366,11 +267,42 @@ pub(crate) fn begins_with_sign(text: &str) -> bool
 }
 
 /// Whether a flag was given.
-pub(crate) fn is_set(given: &ArgMatches<'_>, flag: &str) -> bool
+fn is_set(given: &ArgMatches<'_>, flag: &str) -> bool
     ensures { result ≡ is_set flag.now (rows_in given.now) }
 {
     match find_text(given, flag) {
         Some(text) => text == "true",
         None => false,
+    }
+}
+
+/// Whether an argument has a value.
+fn is_given(given: &ArgMatches<'_>, id: &str) -> bool
+    ensures { result ≡ is_given id.now (rows_in given.now) }
+{
+    find_text(given, id).is_some()
+}
+
+/// The values of an argument.
+fn find_texts<'b, 'a>(given: &'b ArgMatches<'a>, id: &str) -> &'b [&'a str]
+    ensures { texts_of result.now ≡ texts_in id.now (rows_in given.now) }
+{
+    or_none(given.get_strs(id))
+}
+
+/// The first value of an argument.
+fn find_text<'a>(given: &ArgMatches<'a>, id: &str) -> Option<&'a str>
+    ensures { option_map (λ text. text.now) result ≡ first_of id.now (rows_in given.now) }
+{
+    given.get_str(id)
+}
+
+/// The items, if there are some.
+fn or_none<T>(items: Option<&[T]>) -> &[T]
+    ensures { result.now ≡ option_map_or (λ found. found.now) items.entry [] }
+{
+    match items {
+        Some(items) => items,
+        None => &[],
     }
 }

@@ -5,67 +5,64 @@ ghost use Rattle.std.specs.Prelude.{◌≡◌, [], ◌∷◌, None, Some, codes,
 ghost use Rattle.std.specs.List.{flat_map, list_any};
 ghost use Rattle.clap.specs.Faults.{fault_of};
 ghost use Rattle.clap.specs.declared.error.kind.ErrorKind.TheVariants.{UnknownArgument};
+ghost use Rattle.command_line.specs.Commands.{cats};
 ghost use Rattle.command_line.specs.Goods.{goods_of_word};
-ghost use Rattle.command_line.specs.PlainRequests.{BidsIn, Check, Explain, Given, GivenBids, ListedIn};
-ghost use Rattle.command_line.specs.PlainRequests.{Normalise, OnFile, OnFiles, OnPair, Revenue, Show, Value};
-ghost use Rattle.command_line.specs.Requests.{misuse_of, request_of, words_in};
-ghost use Rattle.command_line.specs.Subcommands.{cats, usual_files, usual_limits};
-ghost use Rattle.command_line.specs.declared.request.FilesCommand.TheVariants.{Duplicates, Sizes};
+ghost use Rattle.command_line.specs.Requests.{misuse_of, request_of, usual, words_in};
 ghost use Rattle.command_line.specs.declared.request.Misuse.TheVariants.{BidsTwice, MoreThanOneFile, MoreThanTwoFiles};
 ghost use Rattle.command_line.specs.declared.request.Misuse.TheVariants.{SignedNumber, UnboundedTotal};
 ghost use Rattle.command_line.specs.declared.request.Misuse.TheVariants.{WrongFiles, WrongGoods};
-ghost use Rattle.command_line.specs.declared.request.PairCommand.TheVariants.{Compare, Diff};
-ghost use Rattle.command_line.specs.declared.request.Prices.TheVariants.{AsWritten, Rounded, RoundedExactly};
+ghost use Rattle.requests.specs.declared.task.Task.TheVariants.{Check, Compare, Diff, Duplicates, Explain};
+ghost use Rattle.requests.specs.declared.task.Task.TheVariants.{Normalise, Revenue, Show, Sizes, Value};
+ghost use Rattle.rounding.specs.declared.replacement.FinePrices.TheVariants.{Refuse, Round};
+ghost use Rattle.valuation.specs.SearchLimits.{bounded_options, plain_options};
 
 /// Options may come between files, and goods after them.
 pub fn lines()
     ensures value { request_of (words_in (codes "cats value a --steps 7 0 2"))
-        ≡ Some (OnFile (codes "a") AsWritten (Value (0 ∷ 2 ∷ []) (record { bound = false; steps = 7; total = None }))) }
+        ≡ Some (record (usual Value (codes "a" ∷ [])) { goods = 0 ∷ 2 ∷ []; options = plain_options 7 }) }
     ensures compare { request_of (words_in (codes "cats compare a --steps=9 b"))
-        ≡ Some (OnPair (codes "a") (codes "b") AsWritten Compare (record { bound = false; steps = 9; total = None })) }
+        ≡ Some (record (usual Compare (codes "a" ∷ codes "b" ∷ [])) { options = plain_options 9 }) }
     ensures duplicates { request_of (words_in (codes "cats duplicates -0 a b"))
-        ≡ Some (OnFiles (record (usual_files (Given (codes "a" ∷ codes "b" ∷ [])) (Duplicates false)) { null = true })) }
+        ≡ Some (record (usual Duplicates (codes "a" ∷ codes "b" ∷ [])) { null = true }) }
     ensures sizes { request_of (words_in (codes "cats sizes --progress --files0-from=l"))
-        ≡ Some (OnFiles (record (usual_files (ListedIn (codes "l")) Sizes) { progress = true })) }
+        ≡ Some (record (usual Sizes []) { list = Some (codes "l"); progress = true }) }
 {}
 
 /// The flag and the limits, in any order.
 pub fn limits()
     ensures before { request_of (words_in (codes "cats normalise --bound --total-steps=5 a"))
-        ≡ Some (OnFile (codes "a") AsWritten (Normalise (record { bound = true; steps = 1000000; total = Some 5 }))) }
+        ≡ Some (record (usual Normalise (codes "a" ∷ [])) { options = bounded_options 1000000 (Some 5) }) }
     ensures after { request_of (words_in (codes "cats normalise a --total-steps 5 --bound"))
-        ≡ Some (OnFile (codes "a") AsWritten (Normalise (record { bound = true; steps = 1000000; total = Some 5 }))) }
+        ≡ Some (record (usual Normalise (codes "a" ∷ [])) { options = bounded_options 1000000 (Some 5) }) }
     ensures compare { request_of (words_in (codes "cats compare --total-steps=5 a --bound b --steps=9"))
-        ≡ Some (OnPair (codes "a") (codes "b") AsWritten Compare (record { bound = true; steps = 9; total = Some 5 })) }
+        ≡ Some (record (usual Compare (codes "a" ∷ codes "b" ∷ [])) { options = bounded_options 9 (Some 5) }) }
     ensures value { request_of (words_in (codes "cats value a --bound 3"))
-        ≡ Some (OnFile (codes "a") AsWritten (Value (3 ∷ []) (usual_limits true))) }
+        ≡ Some (record (usual Value (codes "a" ∷ [])) { goods = 3 ∷ []; options = bounded_options 1000000 None }) }
     ensures explain { request_of (words_in (codes "cats explain --total-steps=1000000000000 a"))
-        ≡ Some (OnFile (codes "a") AsWritten (Explain (record (usual_limits true) { total = Some 1000000000000 }))) }
+        ≡ Some (record (usual Explain (codes "a" ∷ [])) { options = bounded_options 1000000 (Some 1000000000000) }) }
     ensures always { map (λ line. request_of (words_in line)) (codes "cats explain a" ∷ codes "cats diff a b"
         ∷ codes "cats duplicates a --total-steps=5" ∷ codes "cats sizes a" ∷ [])
         ≡ map (λ line. request_of (words_in line)) (codes "cats explain --bound a" ∷ codes "cats diff a --bound b"
         ∷ codes "cats duplicates --bound a --total-steps=5" ∷ codes "cats sizes a --bound" ∷ []) }
     ensures sizes { request_of (words_in (codes "cats sizes a --total-steps=5 --steps=7"))
-        ≡ Some (OnFiles (record (usual_files (Given (codes "a" ∷ [])) Sizes) {
-          limits = record { bound = true; steps = 7; total = Some 5 };
-        })) }
+        ≡ Some (record (usual Sizes (codes "a" ∷ [])) { options = bounded_options 7 (Some 5) }) }
 {}
 
 /// The flags that round prices. With both of them the exact one holds.
 pub fn rounding()
     ensures value { request_of (words_in (codes "cats value a --round 3"))
-        ≡ Some (OnFile (codes "a") Rounded (Value (3 ∷ []) (usual_limits false))) }
+        ≡ Some (record (usual Value (codes "a" ∷ [])) { goods = 3 ∷ []; prices = Some Round }) }
     ensures revenue { request_of (words_in (codes "cats revenue --round a 3"))
-        ≡ Some (OnFile (codes "a") Rounded (Revenue (GivenBids (3 ∷ [])))) }
+        ≡ Some (record (usual Revenue (codes "a" ∷ [])) { bids = 3 ∷ []; prices = Some Round }) }
     ensures diff { request_of (words_in (codes "cats diff a b --round"))
-        ≡ Some (OnPair (codes "a") (codes "b") Rounded Diff (usual_limits true)) }
+        ≡ Some (record (usual Diff (codes "a" ∷ codes "b" ∷ [])) { prices = Some Round }) }
     ensures duplicates { request_of (words_in (codes "cats duplicates --round a"))
-        ≡ Some (OnFiles (record (usual_files (Given (codes "a" ∷ [])) (Duplicates false)) { prices = Rounded })) }
+        ≡ Some (record (usual Duplicates (codes "a" ∷ [])) { prices = Some Round }) }
     ensures sizes { request_of (words_in (codes "cats sizes --files0-from=l --round"))
-        ≡ Some (OnFiles (record (usual_files (ListedIn (codes "l")) Sizes) { prices = Rounded })) }
+        ≡ Some (record (usual Sizes []) { list = Some (codes "l"); prices = Some Round }) }
     ensures both { map (λ line. request_of (words_in line))
         (codes "cats check --round --round-exact a" ∷ codes "cats show --round-exact a --round" ∷ [])
-        ≡ Some (OnFile (codes "a") RoundedExactly Check) ∷ Some (OnFile (codes "a") RoundedExactly Show) ∷ [] }
+        ≡ map (λ task. Some (record (usual task (codes "a" ∷ [])) { prices = Some Refuse })) (Check ∷ Show ∷ []) }
     ensures refused { map (λ line. fault_of cats (words_in line)) (codes "cats fault --round a"
         ∷ codes "cats round --round a" ∷ codes "cats fault --round-exact a" ∷ codes "cats round --round-exact a" ∷ [])
         ≡ (UnknownArgument ∷ []) ∷ (UnknownArgument ∷ []) ∷ (UnknownArgument ∷ []) ∷ (UnknownArgument ∷ []) ∷ [] }
@@ -74,19 +71,19 @@ pub fn rounding()
 /// Bids, and the flag of `duplicates` for all files.
 pub fn bids_and_files()
     ensures given { request_of (words_in (codes "cats revenue a 4294967295 0"))
-        ≡ Some (OnFile (codes "a") AsWritten (Revenue (GivenBids (4294967295 ∷ 0 ∷ [])))) }
+        ≡ Some (record (usual Revenue (codes "a" ∷ [])) { bids = 4294967295 ∷ 0 ∷ [] }) }
     ensures listed { request_of (words_in (codes "cats revenue --bids l a"))
-        ≡ Some (OnFile (codes "a") AsWritten (Revenue (BidsIn (codes "l")))) }
+        ≡ Some (record (usual Revenue (codes "a" ∷ [])) { list = Some (codes "l") }) }
     ensures all { request_of (words_in (codes "cats duplicates a --all"))
-        ≡ Some (OnFiles (usual_files (Given (codes "a" ∷ [])) (Duplicates true))) }
+        ≡ Some (record (usual Duplicates (codes "a" ∷ [])) { all = true }) }
 {}
 
 /// Goods are numbers, lists and ranges. Each is there once, where it is named first.
 pub fn goods()
     ensures line { request_of (words_in (codes "cats value a 0-2 7,4,5-6 1"))
-        ≡ Some (OnFile (codes "a") AsWritten (Value (0 ∷ 1 ∷ 2 ∷ 7 ∷ 4 ∷ 5 ∷ 6 ∷ []) (usual_limits false))) }
+        ≡ Some (record (usual Value (codes "a" ∷ [])) { goods = 0 ∷ 1 ∷ 2 ∷ 7 ∷ 4 ∷ 5 ∷ 6 ∷ [] }) }
     ensures again { request_of (words_in (codes "cats value a 3,0,3 0-4 2"))
-        ≡ Some (OnFile (codes "a") AsWritten (Value (3 ∷ 0 ∷ 1 ∷ 2 ∷ 4 ∷ []) (usual_limits false))) }
+        ≡ Some (record (usual Value (codes "a" ∷ [])) { goods = 3 ∷ 0 ∷ 1 ∷ 2 ∷ 4 ∷ [] }) }
     ensures words { map goods_of_word (codes "3" ∷ codes "3-3" ∷ codes "4094-4095" ∷ codes "1,1" ∷ [])
         ≡ Some (3 ∷ []) ∷ Some (3 ∷ []) ∷ Some (4094 ∷ 4095 ∷ []) ∷ Some (1 ∷ 1 ∷ []) ∷ [] }
     ensures wrong_words { map goods_of_word (codes "19-0" ∷ codes "0-" ∷ codes "-3" ∷ codes "1,,2" ∷ [] ∷ codes "1,"
@@ -114,6 +111,6 @@ pub fn wrong_lines()
     ensures { map (λ line. request_of (words_in line)) (codes "cats" ∷ codes "cats check" ∷ codes "cats Check a"
         ∷ codes "cats check --help" ∷ codes "cats value --steps 0 a" ∷ codes "cats value a 65536"
         ∷ codes "cats sizes -0 --null a" ∷ codes "cats explain --bound --bound a" ∷ codes "cats explain --total-steps=0 a"
-        ∷ codes "cats sizes" ∷ [])
-        ≡ None ∷ None ∷ None ∷ None ∷ None ∷ None ∷ None ∷ None ∷ None ∷ None ∷ [] }
+        ∷ codes "cats sizes" ∷ codes "cats diff a" ∷ [])
+        ≡ None ∷ None ∷ None ∷ None ∷ None ∷ None ∷ None ∷ None ∷ None ∷ None ∷ None ∷ [] }
 {}

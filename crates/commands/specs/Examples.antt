@@ -1,6 +1,9 @@
--- Files for worked examples.
-use Rattle.std.specs.Prelude.{ℕ, List, [], ◌∷◌, Option, Some, None}
+-- Files and requests for worked examples.
+use Rattle.std.specs.Prelude.{ℕ, false, List, [], ◌∷◌, Option, Some, None}
 use Rattle.bid_file.specs.Files.{PlainBid, PlainFile}
+use Rattle.requests.specs.Requests.{PlainRequest}
+use Rattle.requests.specs.declared.task.Task.{Task}
+use Rattle.valuation.specs.declared.search.options.SearchOptions.{SearchOptions}
 
 abbrev bid : ℕ → List ℕ → Option ℕ → PlainBid
 bid price goods dummy = record { price = price; goods = goods; dummy = dummy }
@@ -36,4 +39,19 @@ repeated_bundle = record {
   dummy = 1;
   bids = bid 5000000 (0 ∷ 1 ∷ []) (Some 0) ∷ bid 3000000 (0 ∷ []) None ∷ bid 4000000 (0 ∷ 1 ∷ []) None
       ∷ bid 7000000 (0 ∷ 1 ∷ []) None ∷ [];
+}
+
+-- a request for this command, with searches that go so
+abbrev pub asked : Task → SearchOptions → PlainRequest
+asked task options = record {
+  task = task;
+  files = [];
+  list = None;
+  goods = [];
+  bids = [];
+  prices = None;
+  options = options;
+  progress = false;
+  null = false;
+  all = false;
 }

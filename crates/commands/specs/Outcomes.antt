@@ -24,8 +24,9 @@ use Rattle.analysis.specs.AllocationVerdicts.{allocation_status, allocation_text
 use Rattle.analysis.specs.LpTexts.{lp_text}
 use Rattle.analysis.specs.declared.winners.allocation_verdict.AllocationVerdict.{AllocationVerdict}
 use Rattle.commands.specs.ValueTexts.{bundle_from, value_text}
-use Rattle.commands.specs.declared.command.Command.{Command}
-use Rattle.commands.specs.declared.command.Command.TheVariants.{Check, Show, Value, Revenue, Normalise, Explain, Lp}
+use Rattle.requests.specs.Requests.{PlainRequest}
+use Rattle.requests.specs.declared.task.Task.{Task}
+use Rattle.requests.specs.declared.task.Task.TheVariants.{Check, Show, Value, Revenue, Normalise, Explain}
 
 pub data Outcome : Type 0 where
   -- this status, and this text on the output
@@ -129,27 +130,30 @@ abbrev pub explain_outcome : SearchOptions → PlainFile → Outcome
 explain_outcome options file =
     outcome_within options (exceeds_at options file) (explanation_text file (reasons_of file)) file
 
--- what a command on one file makes of it
-abbrev pub outcome_of : Command → PlainFile → Outcome
-outcome_of Check = check_outcome
-outcome_of Show = show_outcome
-outcome_of (Value goods options) = value_outcome_by goods.now options
-outcome_of (Revenue bids) = revenue_outcome bids.now
-outcome_of (Normalise options) = normalise_outcome options
-outcome_of (Explain steps total) = explain_outcome (bounded_options steps total)
-outcome_of Lp = lp_outcome
+-- what a command on one file makes of it, on the bids of these numbers
+abbrev pub outcome_by : Task → PlainRequest → List ℕ → PlainFile → Outcome
+outcome_by Check request bids = check_outcome
+outcome_by Show request bids = show_outcome
+outcome_by Value request bids = value_outcome_by request.goods request.options
+outcome_by Revenue request bids = revenue_outcome bids
+outcome_by Normalise request bids = normalise_outcome request.options
+outcome_by Explain request bids = explain_outcome (bounded_options request.options.each request.options.total)
+outcome_by task request bids = lp_outcome
+
+abbrev pub outcome_of : PlainRequest → List ℕ → PlainFile → Outcome
+outcome_of request = outcome_by request.task request
 
 -- the statuses that only some commands have
-abbrev pub own_statuses : Command → List ℕ
-own_statuses (Value goods options) = 3 ∷ 64 ∷ []
-own_statuses (Revenue bids) = 1 ∷ 64 ∷ []
-own_statuses (Normalise options) = 3 ∷ []
-own_statuses (Explain steps total) = 3 ∷ []
-own_statuses command = []
+abbrev pub own_statuses : Task → List ℕ
+own_statuses Value = 3 ∷ 64 ∷ []
+own_statuses Revenue = 1 ∷ 64 ∷ []
+own_statuses Normalise = 3 ∷ []
+own_statuses Explain = 3 ∷ []
+own_statuses task = []
 
 -- the statuses that a command on one file may end with
-abbrev pub statuses_of : Command → List ℕ
-statuses_of command = 0 ∷ 2 ∷ 4 ∷ 5 ∷ own_statuses command
+abbrev pub statuses_of : Task → List ℕ
+statuses_of task = 0 ∷ 2 ∷ 4 ∷ 5 ∷ own_statuses task
 
 abbrev pub outcome_of_difference : Difference → Outcome
 outcome_of_difference difference = Prints (status_of_difference difference) (difference_text difference)

@@ -15,8 +15,9 @@ use Rattle.commands.specs.Commands.{GivesWithin, IsRefused, Makes, outcome_of_he
 use Rattle.commands.specs.Outcomes.{Outcome, Prints, compare_outcome, diff_outcome, naming_outcome}
 use Rattle.commands.specs.Outcomes.{normalise_outcome}
 use Rattle.commands.specs.declared.answer.Answer.{Answer}
-use Rattle.commands.specs.declared.command.Comparison.{Comparison}
-use Rattle.commands.specs.declared.command.Comparison.TheVariants.{Compare, Diff}
+use Rattle.requests.specs.Requests.{PlainRequest}
+use Rattle.requests.specs.declared.task.Task.{Task}
+use Rattle.requests.specs.declared.task.Task.TheVariants.{Compare}
 
 abbrev pub outcome_of_both : PlainFile × PlainFile → Outcome
 outcome_of_both files = compare_outcome files.0 files.1
@@ -105,6 +106,9 @@ module _ {I J : Type 0} (gives_first : I → I → PlainFile → Type 0) (refuse
 module _ {I J : Type 0} (gives_first : I → I → PlainFile → Type 0) (refuses_first : I → I → ReadFault → Type 0)
     (gives_second : J → J → PlainFile → Type 0) (refuses_second : J → J → ReadFault → Type 0) where
   -- the contract of each command
-  abbrev pub CommandsOnBoth : Comparison → I → I → J → J → Result Answer RunFault → Type 0
-  CommandsOnBoth (Compare options) = Compares gives_first refuses_first gives_second refuses_second options
-  CommandsOnBoth (Diff options) = Diffs gives_first refuses_first gives_second refuses_second options
+  abbrev pub CommandsBy : Task → SearchOptions → I → I → J → J → Result Answer RunFault → Type 0
+  CommandsBy Compare options = Compares gives_first refuses_first gives_second refuses_second options
+  CommandsBy task options = Diffs gives_first refuses_first gives_second refuses_second options
+
+  abbrev pub CommandsOnBoth : PlainRequest → I → I → J → J → Result Answer RunFault → Type 0
+  CommandsOnBoth request = CommandsBy request.task request.options

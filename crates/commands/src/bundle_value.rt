@@ -30,7 +30,7 @@ use valuation::{Auction, Packing, ValueFault, auction_of, on_set_for};
 /// What the bidders of a file offer for the bundle of these goods: the OR value with the bids of one best packing, and each
 /// XOR bidder's value with the bid that gives it. The first of the goods that the file does not have is refused once the
 /// file was read.
-pub(crate) fn value<I: Input>(
+pub fn value<I: Input>(
     alloc: Global,
     input: &mut I,
     goods: &[u16],

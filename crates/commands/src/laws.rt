@@ -16,7 +16,7 @@ ghost use Rattle.commands.specs.Outcomes.{Prints, compare_outcome, diff_outcome,
 ghost use Rattle.commands.specs.Outcomes.{outcome_of, statuses_of};
 ghost use Rattle.commands.specs.Statuses.{status_of_fault};
 ghost use Rattle.commands.specs.declared.answer.Answer.{Answer};
-ghost use Rattle.commands.specs.declared.command.Command.{Command};
+ghost use Rattle.requests.specs.Requests.{PlainRequest};
 ghost use Rattle.commands.specs.declared.faults.RunFault.{RunFault};
 
 use crate::input::Input;
@@ -38,12 +38,12 @@ pub fn named_bids_are_refused()
 
 /// The statuses of the commands on one file, of what they print and of their faults.
 pub fn statuses_of_commands<I: Input>()
-    ensures printed { (command : Command) (old new : I) (answer : Answer)
-        → Commands I.gives I.refuses (outcome_of command) old new (Ok answer)
-        → Contains (statuses_of command) answer.status }
-    ensures refused { (command : Command) (old new : I) (fault : RunFault)
-        → Commands I.gives I.refuses (outcome_of command) old new (Err fault)
-        → Contains (statuses_of command) (status_of_fault fault) }
+    ensures printed { (request : PlainRequest) (bids : List ℕ) (old new : I) (answer : Answer)
+        → Commands I.gives I.refuses (outcome_of request bids) old new (Ok answer)
+        → Contains (statuses_of request.task) answer.status }
+    ensures refused { (request : PlainRequest) (bids : List ℕ) (old new : I) (fault : RunFault)
+        → Commands I.gives I.refuses (outcome_of request bids) old new (Err fault)
+        → Contains (statuses_of request.task) (status_of_fault fault) }
 {}
 
 /// The status of `compare` and of `diff` is 0 exactly for the same auction.

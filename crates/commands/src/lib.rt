@@ -3,16 +3,16 @@
 
 mod allocation;
 pub mod answer;
-mod bundle_value;
+pub mod bundle_value;
 pub mod command;
 pub mod faults;
 mod input;
 pub mod laws;
-mod one_file;
+pub mod one_file;
 pub mod printed;
 pub mod sizes_row;
 pub mod statuses;
-mod two_files;
+pub mod two_files;
 pub mod worked;
 
 pub use input::Input;

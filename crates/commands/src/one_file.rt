@@ -20,7 +20,7 @@ use std::alloc::Global;
 use valuation::search::SearchOptions;
 
 /// The sizes of a bid file: how many goods, bids and dummy goods it has. No bid is kept.
-pub(crate) fn check<I: Input>(alloc: Global, input: &mut I) -> Result<Answer, RunFault>
+pub fn check<I: Input>(alloc: Global, input: &mut I) -> Result<Answer, RunFault>
     requires { I.is_ready input.old }
     ensures { Commands I.gives I.refuses check_outcome input.old input.new result }
 {
@@ -30,7 +30,7 @@ pub(crate) fn check<I: Input>(alloc: Global, input: &mut I) -> Result<Answer, Ru
 }
 
 /// A bid file in its one layout.
-pub(crate) fn show<I: Input>(alloc: Global, input: &mut I) -> Result<Answer, RunFault>
+pub fn show<I: Input>(alloc: Global, input: &mut I) -> Result<Answer, RunFault>
     requires { I.is_ready input.old }
     ensures { Commands I.gives I.refuses show_outcome input.old input.new result }
 {
@@ -48,7 +48,7 @@ pub(crate) fn lp<I: Input>(alloc: Global, input: &mut I) -> Result<Answer, RunFa
 }
 
 /// The canonical text of a bid file's auction.
-pub(crate) fn normalise<I: Input>(
+pub fn normalise<I: Input>(
     alloc: Global,
     input: &mut I,
     options: SearchOptions,

@@ -22,7 +22,7 @@ use valuation::search::SearchOptions;
 
 /// Whether two files are the same auction, or their first difference. Each file has a total of steps of its own. Memory that
 /// is refused while the two are compared belongs to both.
-pub(crate) fn compare<I: Input, J: Input>(
+pub fn compare<I: Input, J: Input>(
     alloc: Global,
     first: &mut I,
     second: &mut J,

@@ -2,9 +2,11 @@
 
 use cats_text::{Watched, write};
 use commands::answer::{Answer, Output};
-use commands::command::{Command, Comparison};
+use commands::command::{answer_on_file, answer_on_pair};
 use commands::faults::RunFault;
 use commands::printed::{fault_line, status};
+use requests::request::Request;
+use requests::task::Task;
 use std::alloc::{AllocError, Global};
 use std::process::Abort;
 use std::test::Fail;
@@ -50,28 +52,50 @@ fn text_of(alloc: Global, output: &Output) -> Result<Vec<u8>, AllocError> {
     }
 }
 
+/// A request for this command, with searches that go so.
+fn request_for<'a>(alloc: Global, task: Task, options: SearchOptions) -> Request<'a> {
+    Request {
+        task,
+        files: Vec::new(alloc),
+        list: None,
+        goods: Vec::new(alloc),
+        bids: Vec::new(alloc),
+        prices: None,
+        options,
+        progress: false,
+        null: false,
+        all: false,
+    }
+}
+
 /// What a command answers of two files.
 fn answer_of(
     alloc: Global,
-    comparison: Comparison,
+    request: &Request<'_>,
     left: &[u8],
     right: &[u8],
 ) -> Result<Answer, RunFault> {
-    comparison.answer(alloc, &mut Watched::new(left), &mut Watched::new(right))
+    answer_on_pair(
+        alloc,
+        request,
+        &mut Watched::new(left),
+        &mut Watched::new(right),
+    )
 }
 
 #[test]
 fn two_files(rt: HostRuntime) -> Result<(), Fail> {
     let alloc = rt.alloc();
-    let options = SearchOptions::plain(STEPS);
+    let compare = request_for(alloc, Task::Compare, SearchOptions::plain(STEPS));
+    let diff = request_for(alloc, Task::Diff, SearchOptions::plain(STEPS));
     let verdict = b"different\nor 1\nleft 1.5\nright below 1.5\n";
     let table = b"kind\tgoods\tleft\tright\tleft_dummy\tright_dummy\tleft_bid\tright_bid\n\
         or\t1\t1.5\t\t\t\t1\t\n";
-    let same = answer_of(alloc, Comparison::Compare(options), LADDER, CANONICAL);
+    let same = answer_of(alloc, &compare, LADDER, CANONICAL);
     expect(&rt, alloc, &same, 0, b"same\n")?;
-    let other = answer_of(alloc, Comparison::Compare(options), LADDER, CHEAPER);
+    let other = answer_of(alloc, &compare, LADDER, CHEAPER);
     expect(&rt, alloc, &other, 1, verdict)?;
-    let all = answer_of(alloc, Comparison::Diff(options), LADDER, CHEAPER);
+    let all = answer_of(alloc, &diff, LADDER, CHEAPER);
     expect(&rt, alloc, &all, 1, table)?;
     Ok(())
 }
@@ -80,25 +104,19 @@ fn two_files(rt: HostRuntime) -> Result<(), Fail> {
 fn heavy_bid(rt: HostRuntime) -> Result<(), Fail> {
     let alloc = rt.alloc();
     let options = SearchOptions::bounded(1, Some(5));
-    let reasons = Command::Explain {
-        steps: 1,
-        total: None,
-    };
-    let first = answer_of(alloc, Comparison::Diff(options), LARGER, LADDER);
+    let diff = request_for(alloc, Task::Diff, options);
+    let first = answer_of(alloc, &diff, LARGER, LADDER);
     let line = b"first: step limit of 1 (5 in all) at bid 2: 0,1\n";
     expect(&rt, alloc, &first, 3, line)?;
-    let second = answer_of(alloc, Comparison::Diff(options), LADDER, LARGER);
+    let second = answer_of(alloc, &diff, LADDER, LARGER);
     let line = b"second: step limit of 1 (5 in all) at bid 2: 0,1\n";
     expect(&rt, alloc, &second, 3, line)?;
-    let unexplained = reasons.answer(alloc, &mut Watched::new(LARGER));
-    expect(
-        &rt,
-        alloc,
-        &unexplained,
-        3,
-        b"step limit of 1 at bid 2: 0,1\n",
-    )?;
-    let normal = Command::Normalise(options).answer(alloc, &mut Watched::new(LARGER));
-    expect(&rt, alloc, &normal, 3, b"step limit at 0,1\n")?;
+    let reasons = request_for(alloc, Task::Explain, SearchOptions::bounded(1, None));
+    let unexplained = answer_on_file(alloc, &reasons, &[], &mut Watched::new(LARGER));
+    let line = b"step limit of 1 at bid 2: 0,1\n";
+    expect(&rt, alloc, &unexplained, 3, line)?;
+    let normal = request_for(alloc, Task::Normalise, options);
+    let refused = answer_on_file(alloc, &normal, &[], &mut Watched::new(LARGER));
+    expect(&rt, alloc, &refused, 3, b"step limit at 0,1\n")?;
     Ok(())
 }

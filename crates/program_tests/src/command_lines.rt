@@ -1,7 +1,8 @@
 //! What no clause says of command lines. It is the files, goods and limits that they name, and what `clap` prints.
 
 use command_line::help::VERSION;
-use command_line::request::{Misuse, NoRequest, Request, parse};
+use command_line::request::{Misuse, NoRequest, parse};
+use requests::request::Request;
 use std::process::Abort;
 use std::test::Fail;
 
@@ -9,87 +10,87 @@ use std::test::Fail;
 static REQUESTS: &[(&[&str], &str)] = &[
     (
         &["cats", "check", "a"],
-        "OnFile(FileRequest { file: \"a\", prices: AsWritten, command: Check })",
+        "Request { task: Check, files: [\"a\"], list: None, goods: [], bids: [], prices: None, options: SearchOptions { kind: Bounded, each: 0, total: None }, progress: false, null: false, all: false }",
     ),
     (
         &["cats", "show", "a"],
-        "OnFile(FileRequest { file: \"a\", prices: AsWritten, command: Show })",
+        "Request { task: Show, files: [\"a\"], list: None, goods: [], bids: [], prices: None, options: SearchOptions { kind: Bounded, each: 0, total: None }, progress: false, null: false, all: false }",
     ),
     (
         &["cats", "value", "a"],
-        "OnFile(FileRequest { file: \"a\", prices: AsWritten, command: Value { goods: [], limits: Limits { bound: false, steps: 1000000, total: None } } })",
+        "Request { task: Value, files: [\"a\"], list: None, goods: [], bids: [], prices: None, options: SearchOptions { kind: Plain, each: 1000000, total: None }, progress: false, null: false, all: false }",
     ),
     (
         &["cats", "value", "a", "3", "4", "--steps", "7"],
-        "OnFile(FileRequest { file: \"a\", prices: AsWritten, command: Value { goods: [3, 4], limits: Limits { bound: false, steps: 7, total: None } } })",
+        "Request { task: Value, files: [\"a\"], list: None, goods: [3, 4], bids: [], prices: None, options: SearchOptions { kind: Plain, each: 7, total: None }, progress: false, null: false, all: false }",
     ),
     (
         &["cats", "normalise", "a"],
-        "OnFile(FileRequest { file: \"a\", prices: AsWritten, command: Normalise(Limits { bound: false, steps: 1000000, total: None }) })",
+        "Request { task: Normalise, files: [\"a\"], list: None, goods: [], bids: [], prices: None, options: SearchOptions { kind: Plain, each: 1000000, total: None }, progress: false, null: false, all: false }",
     ),
     (
         &["cats", "normalise", "--steps=1000000000", "a"],
-        "OnFile(FileRequest { file: \"a\", prices: AsWritten, command: Normalise(Limits { bound: false, steps: 1000000000, total: None }) })",
+        "Request { task: Normalise, files: [\"a\"], list: None, goods: [], bids: [], prices: None, options: SearchOptions { kind: Plain, each: 1000000000, total: None }, progress: false, null: false, all: false }",
     ),
     (
         &["cats", "explain", "a"],
-        "OnFile(FileRequest { file: \"a\", prices: AsWritten, command: Explain(Limits { bound: true, steps: 1000000, total: None }) })",
+        "Request { task: Explain, files: [\"a\"], list: None, goods: [], bids: [], prices: None, options: SearchOptions { kind: Bounded, each: 1000000, total: None }, progress: false, null: false, all: false }",
     ),
     (
         &["cats", "explain", "a", "--steps", "8"],
-        "OnFile(FileRequest { file: \"a\", prices: AsWritten, command: Explain(Limits { bound: true, steps: 8, total: None }) })",
+        "Request { task: Explain, files: [\"a\"], list: None, goods: [], bids: [], prices: None, options: SearchOptions { kind: Bounded, each: 8, total: None }, progress: false, null: false, all: false }",
     ),
     (
         &["cats", "lp", "a"],
-        "OnFile(FileRequest { file: \"a\", prices: AsWritten, command: Lp })",
+        "Request { task: Lp, files: [\"a\"], list: None, goods: [], bids: [], prices: None, options: SearchOptions { kind: Bounded, each: 0, total: None }, progress: false, null: false, all: false }",
     ),
     (
         &["cats", "compare", "a", "b"],
-        "OnPair(PairRequest { first: \"a\", second: \"b\", prices: AsWritten, command: Compare, limits: Limits { bound: false, steps: 1000000, total: None } })",
+        "Request { task: Compare, files: [\"a\", \"b\"], list: None, goods: [], bids: [], prices: None, options: SearchOptions { kind: Plain, each: 1000000, total: None }, progress: false, null: false, all: false }",
     ),
     (
         &["cats", "compare", "--steps", "1", "a", "b"],
-        "OnPair(PairRequest { first: \"a\", second: \"b\", prices: AsWritten, command: Compare, limits: Limits { bound: false, steps: 1, total: None } })",
+        "Request { task: Compare, files: [\"a\", \"b\"], list: None, goods: [], bids: [], prices: None, options: SearchOptions { kind: Plain, each: 1, total: None }, progress: false, null: false, all: false }",
     ),
     (
         &["cats", "diff", "a", "b"],
-        "OnPair(PairRequest { first: \"a\", second: \"b\", prices: AsWritten, command: Diff, limits: Limits { bound: true, steps: 1000000, total: None } })",
+        "Request { task: Diff, files: [\"a\", \"b\"], list: None, goods: [], bids: [], prices: None, options: SearchOptions { kind: Bounded, each: 1000000, total: None }, progress: false, null: false, all: false }",
     ),
     (
         &["cats", "diff", "b", "--steps=7", "a"],
-        "OnPair(PairRequest { first: \"b\", second: \"a\", prices: AsWritten, command: Diff, limits: Limits { bound: true, steps: 7, total: None } })",
+        "Request { task: Diff, files: [\"b\", \"a\"], list: None, goods: [], bids: [], prices: None, options: SearchOptions { kind: Bounded, each: 7, total: None }, progress: false, null: false, all: false }",
     ),
     (
         &["cats", "duplicates", "a", "b", "a"],
-        "OnFiles(FilesRequest { paths: Given([[97], [98], [97]]), prices: AsWritten, command: Duplicates { all: false }, limits: Limits { bound: true, steps: 1000000, total: None }, progress: false, null: false })",
+        "Request { task: Duplicates, files: [\"a\", \"b\", \"a\"], list: None, goods: [], bids: [], prices: None, options: SearchOptions { kind: Bounded, each: 1000000, total: None }, progress: false, null: false, all: false }",
     ),
     (
         &["cats", "duplicates", "--progress", "a", "b", "--steps=9"],
-        "OnFiles(FilesRequest { paths: Given([[97], [98]]), prices: AsWritten, command: Duplicates { all: false }, limits: Limits { bound: true, steps: 9, total: None }, progress: true, null: false })",
+        "Request { task: Duplicates, files: [\"a\", \"b\"], list: None, goods: [], bids: [], prices: None, options: SearchOptions { kind: Bounded, each: 9, total: None }, progress: true, null: false, all: false }",
     ),
     (
         &["cats", "duplicates", "-0", "a"],
-        "OnFiles(FilesRequest { paths: Given([[97]]), prices: AsWritten, command: Duplicates { all: false }, limits: Limits { bound: true, steps: 1000000, total: None }, progress: false, null: true })",
+        "Request { task: Duplicates, files: [\"a\"], list: None, goods: [], bids: [], prices: None, options: SearchOptions { kind: Bounded, each: 1000000, total: None }, progress: false, null: true, all: false }",
     ),
     (
         &["cats", "duplicates", "a", "--", "-0"],
-        "OnFiles(FilesRequest { paths: Given([[97], [45, 48]]), prices: AsWritten, command: Duplicates { all: false }, limits: Limits { bound: true, steps: 1000000, total: None }, progress: false, null: false })",
+        "Request { task: Duplicates, files: [\"a\", \"-0\"], list: None, goods: [], bids: [], prices: None, options: SearchOptions { kind: Bounded, each: 1000000, total: None }, progress: false, null: false, all: false }",
     ),
     (
         &["cats", "duplicates", "--files0-from", "a"],
-        "OnFiles(FilesRequest { paths: ListedIn(\"a\"), prices: AsWritten, command: Duplicates { all: false }, limits: Limits { bound: true, steps: 1000000, total: None }, progress: false, null: false })",
+        "Request { task: Duplicates, files: [], list: Some(\"a\"), goods: [], bids: [], prices: None, options: SearchOptions { kind: Bounded, each: 1000000, total: None }, progress: false, null: false, all: false }",
     ),
     (
         &["cats", "sizes", "a"],
-        "OnFiles(FilesRequest { paths: Given([[97]]), prices: AsWritten, command: Sizes, limits: Limits { bound: true, steps: 1000000, total: None }, progress: false, null: false })",
+        "Request { task: Sizes, files: [\"a\"], list: None, goods: [], bids: [], prices: None, options: SearchOptions { kind: Bounded, each: 1000000, total: None }, progress: false, null: false, all: false }",
     ),
     (
         &["cats", "sizes", "--steps=9", "a", "--progress", "b"],
-        "OnFiles(FilesRequest { paths: Given([[97], [98]]), prices: AsWritten, command: Sizes, limits: Limits { bound: true, steps: 9, total: None }, progress: true, null: false })",
+        "Request { task: Sizes, files: [\"a\", \"b\"], list: None, goods: [], bids: [], prices: None, options: SearchOptions { kind: Bounded, each: 9, total: None }, progress: true, null: false, all: false }",
     ),
     (
         &["cats", "sizes", "a", "--null", "é"],
-        "OnFiles(FilesRequest { paths: Given([[97], [195, 169]]), prices: AsWritten, command: Sizes, limits: Limits { bound: true, steps: 1000000, total: None }, progress: false, null: true })",
+        "Request { task: Sizes, files: [\"a\", \"é\"], list: None, goods: [], bids: [], prices: None, options: SearchOptions { kind: Bounded, each: 1000000, total: None }, progress: false, null: true, all: false }",
     ),
     (
         &[
@@ -99,59 +100,59 @@ static REQUESTS: &[(&[&str], &str)] = &[
             "-0",
             "--progress",
         ],
-        "OnFiles(FilesRequest { paths: ListedIn(\"/dev/stdin\"), prices: AsWritten, command: Sizes, limits: Limits { bound: true, steps: 1000000, total: None }, progress: true, null: true })",
+        "Request { task: Sizes, files: [], list: Some(\"/dev/stdin\"), goods: [], bids: [], prices: None, options: SearchOptions { kind: Bounded, each: 1000000, total: None }, progress: true, null: true, all: false }",
     ),
     (
         &["cats", "normalise", "--bound", "--total-steps=5", "a"],
-        "OnFile(FileRequest { file: \"a\", prices: AsWritten, command: Normalise(Limits { bound: true, steps: 1000000, total: Some(5) }) })",
+        "Request { task: Normalise, files: [\"a\"], list: None, goods: [], bids: [], prices: None, options: SearchOptions { kind: Bounded, each: 1000000, total: Some(5) }, progress: false, null: false, all: false }",
     ),
     (
         &["cats", "compare", "a", "--total-steps", "5", "b", "--bound"],
-        "OnPair(PairRequest { first: \"a\", second: \"b\", prices: AsWritten, command: Compare, limits: Limits { bound: true, steps: 1000000, total: Some(5) } })",
+        "Request { task: Compare, files: [\"a\", \"b\"], list: None, goods: [], bids: [], prices: None, options: SearchOptions { kind: Bounded, each: 1000000, total: Some(5) }, progress: false, null: false, all: false }",
     ),
     (
         &["cats", "value", "--bound", "a", "0"],
-        "OnFile(FileRequest { file: \"a\", prices: AsWritten, command: Value { goods: [0], limits: Limits { bound: true, steps: 1000000, total: None } } })",
+        "Request { task: Value, files: [\"a\"], list: None, goods: [0], bids: [], prices: None, options: SearchOptions { kind: Bounded, each: 1000000, total: None }, progress: false, null: false, all: false }",
     ),
     (
         &["cats", "value", "a", "3,0,3", "0-4", "4095", "2"],
-        "OnFile(FileRequest { file: \"a\", prices: AsWritten, command: Value { goods: [3, 0, 1, 2, 4, 4095], limits: Limits { bound: false, steps: 1000000, total: None } } })",
+        "Request { task: Value, files: [\"a\"], list: None, goods: [3, 0, 1, 2, 4, 4095], bids: [], prices: None, options: SearchOptions { kind: Plain, each: 1000000, total: None }, progress: false, null: false, all: false }",
     ),
     (
         &["cats", "explain", "--bound", "a"],
-        "OnFile(FileRequest { file: \"a\", prices: AsWritten, command: Explain(Limits { bound: true, steps: 1000000, total: None }) })",
+        "Request { task: Explain, files: [\"a\"], list: None, goods: [], bids: [], prices: None, options: SearchOptions { kind: Bounded, each: 1000000, total: None }, progress: false, null: false, all: false }",
     ),
     (
         &["cats", "diff", "a", "--bound", "b", "--steps=7"],
-        "OnPair(PairRequest { first: \"a\", second: \"b\", prices: AsWritten, command: Diff, limits: Limits { bound: true, steps: 7, total: None } })",
+        "Request { task: Diff, files: [\"a\", \"b\"], list: None, goods: [], bids: [], prices: None, options: SearchOptions { kind: Bounded, each: 7, total: None }, progress: false, null: false, all: false }",
     ),
     (
         &["cats", "duplicates", "a", "--bound"],
-        "OnFiles(FilesRequest { paths: Given([[97]]), prices: AsWritten, command: Duplicates { all: false }, limits: Limits { bound: true, steps: 1000000, total: None }, progress: false, null: false })",
+        "Request { task: Duplicates, files: [\"a\"], list: None, goods: [], bids: [], prices: None, options: SearchOptions { kind: Bounded, each: 1000000, total: None }, progress: false, null: false, all: false }",
     ),
     (
         &["cats", "sizes", "--bound", "a"],
-        "OnFiles(FilesRequest { paths: Given([[97]]), prices: AsWritten, command: Sizes, limits: Limits { bound: true, steps: 1000000, total: None }, progress: false, null: false })",
+        "Request { task: Sizes, files: [\"a\"], list: None, goods: [], bids: [], prices: None, options: SearchOptions { kind: Bounded, each: 1000000, total: None }, progress: false, null: false, all: false }",
     ),
     (
         &["cats", "explain", "--total-steps=1000000000000", "a"],
-        "OnFile(FileRequest { file: \"a\", prices: AsWritten, command: Explain(Limits { bound: true, steps: 1000000, total: Some(1000000000000) }) })",
+        "Request { task: Explain, files: [\"a\"], list: None, goods: [], bids: [], prices: None, options: SearchOptions { kind: Bounded, each: 1000000, total: Some(1000000000000) }, progress: false, null: false, all: false }",
     ),
     (
         &["cats", "check", "--round", "a"],
-        "OnFile(FileRequest { file: \"a\", prices: Rounded, command: Check })",
+        "Request { task: Check, files: [\"a\"], list: None, goods: [], bids: [], prices: Some(Round), options: SearchOptions { kind: Bounded, each: 0, total: None }, progress: false, null: false, all: false }",
     ),
     (
         &["cats", "revenue", "a", "--round-exact"],
-        "OnFile(FileRequest { file: \"a\", prices: RoundedExactly, command: Revenue(Given([])) })",
+        "Request { task: Revenue, files: [\"a\"], list: None, goods: [], bids: [], prices: Some(Refuse), options: SearchOptions { kind: Bounded, each: 0, total: None }, progress: false, null: false, all: false }",
     ),
     (
         &["cats", "diff", "--round", "--round-exact", "a", "b"],
-        "OnPair(PairRequest { first: \"a\", second: \"b\", prices: RoundedExactly, command: Diff, limits: Limits { bound: true, steps: 1000000, total: None } })",
+        "Request { task: Diff, files: [\"a\", \"b\"], list: None, goods: [], bids: [], prices: Some(Refuse), options: SearchOptions { kind: Bounded, each: 1000000, total: None }, progress: false, null: false, all: false }",
     ),
     (
         &["cats", "sizes", "a", "--round"],
-        "OnFiles(FilesRequest { paths: Given([[97]]), prices: Rounded, command: Sizes, limits: Limits { bound: true, steps: 1000000, total: None }, progress: false, null: false })",
+        "Request { task: Sizes, files: [\"a\"], list: None, goods: [], bids: [], prices: Some(Round), options: SearchOptions { kind: Bounded, each: 1000000, total: None }, progress: false, null: false, all: false }",
     ),
 ];
 

@@ -4,7 +4,7 @@ use Rattle.std.specs.declared.alloc.AllocError.{AllocError}
 use Rattle.cats_text.specs.declared.stream.Watched.{Watched}
 use Rattle.cats_text.specs.declared.read_fault.ReadFault.{ReadFault}
 use Rattle.bid_file.specs.Files.{PlainFile}
-use Rattle.command_line.specs.declared.request.Prices.{Prices}
+use Rattle.rounding.specs.declared.replacement.FinePrices.{FinePrices}
 use Rattle.valuation.specs.declared.search.options.SearchOptions.{SearchOptions}
 use Rattle.canon.specs.FirstNumbers.{IsIndexOf, TextIndex}
 use Rattle.canon.specs.Canonical.{canonical_text}
@@ -70,7 +70,7 @@ module _ {C : Type 0} (Has : C → List (List ℕ × Judgement) → Type 0) wher
     pub is_error : error ≡ request_error_of judgement
 
   module _ {F : Type 0} (may_open : List ℕ → F → Type 0) (may_refuse : List ℕ → Unopened → Type 0)
-      (remaining : F → Option (List ℕ)) (options : SearchOptions) (prices : Prices) where
+      (remaining : F → Option (List ℕ)) (options : SearchOptions) (prices : Option FinePrices) where
     -- the file at the path was judged, and so many of its prices were rounded
     pub record AddsFile (path : List ℕ) (old new : C) (rounded : ℕ) (error : Option RequestError) : Type 0 where
       pub judgement : Judgement

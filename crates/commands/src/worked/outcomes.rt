@@ -6,28 +6,28 @@ ghost use Rattle.cats_text.specs.declared.read_fault.Kind.TheVariants.{TwoDummie
 ghost use Rattle.canon.specs.declared.canon_fault.CanonFault.TheVariants.{Memory, Read};
 ghost use Rattle.valuation.specs.SearchLimits.{bounded_options, plain_options};
 ghost use Rattle.valuation.specs.declared.search.kind.SearchKind.TheVariants.{Bounded};
-ghost use Rattle.commands.specs.Examples.{crossing_bids, larger_bid, repeated_bundle, xor_ladder};
+ghost use Rattle.commands.specs.Examples.{asked, crossing_bids, larger_bid, repeated_bundle, xor_ladder};
 ghost use Rattle.commands.specs.Outcomes.{ExceedsAtBid, ExceedsSteps, LacksBid, LacksGood, Prints, compare_outcome};
 ghost use Rattle.commands.specs.Outcomes.{exceeds_at, first_bid_on, naming_outcome, outcome_of, revenue_outcome};
 ghost use Rattle.commands.specs.Outcomes.{value_outcome};
 ghost use Rattle.commands.specs.SizesRows.{IsSized, IsTooHeavy, IsUnsized, numbers_sized};
 ghost use Rattle.commands.specs.ValueTexts.{bundle_from};
-ghost use Rattle.commands.specs.declared.command.Command.TheVariants.{Check, Explain, Lp, Normalise, Show};
+ghost use Rattle.requests.specs.declared.task.Task.TheVariants.{Check, Explain, Lp, Normalise, Show};
 
 /// What `cats check` and `cats show` make of files.
 pub fn sizes_and_layouts()
-    ensures check { outcome_of Check xor_ladder ≡ Prints 0 (codes "goods 2 bids 3 dummy 1\n") }
-    ensures show { outcome_of Show xor_ladder
+    ensures check { outcome_of (asked Check (plain_options 1)) [] xor_ladder ≡ Prints 0 (codes "goods 2 bids 3 dummy 1\n") }
+    ensures show { outcome_of (asked Show (plain_options 1)) [] xor_ladder
         ≡ Prints 0 (codes "goods 2\nbids 3\ndummy 1\n0\t5\t0\t2\t#\n1\t1.5\t1\t#\n2\t6\t0\t1\t2\t#\n") }
 {}
 
 /// What `cats lp` makes of two files, of which the second has no bids.
 pub fn lp_texts()
-    ensures shared { outcome_of Lp xor_ladder
+    ensures shared { outcome_of (asked Lp (plain_options 1)) [] xor_ladder
         ≡ Prints 0 (codes "Maximize\n revenue:\n + 5 x0\n + 1.5 x1\n + 6 x2\nSubject To\n"
         ++ codes " g0:\n + x0\n + x2\n <= 1\n g1:\n + x1\n + x2\n <= 1\n d0:\n + x0\n + x2\n <= 1\n"
         ++ codes "Binary\n x0\n x1\n x2\nEnd\n") }
-    ensures empty { outcome_of Lp (record { goods = 2; dummy = 1; bids = [] })
+    ensures empty { outcome_of (asked Lp (plain_options 1)) [] (record { goods = 2; dummy = 1; bids = [] })
         ≡ Prints 0 (codes "Maximize\n revenue:\n + 0 none\nSubject To\n none:\n + none\n <= 1\nBinary\n none\nEnd\n") }
 {}
 
@@ -63,16 +63,16 @@ pub fn numbers_of_rows()
 
 /// What `cats normalise` and `cats explain` make of two files: the same limits refuse one of them.
 pub fn canonical_files()
-    ensures text { outcome_of (Normalise (plain_options 3)) larger_bid
+    ensures text { outcome_of (asked Normalise (plain_options 3)) [] larger_bid
         ≡ Prints 0 (codes "goods 2\nbids 2\ndummy 0\n0\t3\t0\t#\n1\t4\t1\t#\n") }
-    ensures refused { outcome_of (Normalise (plain_options 1)) larger_bid ≡ ExceedsSteps (0 ∷ 1 ∷ []) }
-    ensures reasons { outcome_of (Explain 3 None) larger_bid
+    ensures refused { outcome_of (asked Normalise (plain_options 1)) [] larger_bid ≡ ExceedsSteps (0 ∷ 1 ∷ []) }
+    ensures reasons { outcome_of (asked Explain (plain_options 3)) [] larger_bid
         ≡ Prints 0 (codes "bid\tdummy\tprice\tgoods\treason\tkept\tby\n0\t\t3\t0\tkeep\t0\t\n1\t\t4\t1\tkeep\t1\t\n"
         ++ codes "2\t\t7\t0 1\tpacking\t\t0 1\n") }
-    ensures unexplained { outcome_of (Explain 1 None) larger_bid ≡ ExceedsAtBid 1 None 2 (0 ∷ 1 ∷ []) }
-    ensures text_of_both { outcome_of (Normalise (plain_options 1000)) xor_ladder
+    ensures unexplained { outcome_of (asked Explain (plain_options 1)) [] larger_bid ≡ ExceedsAtBid 1 None 2 (0 ∷ 1 ∷ []) }
+    ensures text_of_both { outcome_of (asked Normalise (plain_options 1000)) [] xor_ladder
         ≡ Prints 0 (codes "goods 2\nbids 3\ndummy 1\n0\t1.5\t1\t#\n1\t5\t0\t2\t#\n2\t6\t0\t1\t2\t#\n") }
-    ensures reasons_of_both { outcome_of (Explain 1000 None) xor_ladder
+    ensures reasons_of_both { outcome_of (asked Explain (plain_options 1000)) [] xor_ladder
         ≡ Prints 0 (codes "bid\tdummy\tprice\tgoods\treason\tkept\tby\n0\t0\t5\t0\tkeep\t1\t\n"
         ++ codes "1\t\t1.5\t1\tkeep\t0\t\n2\t0\t6\t0 1\tkeep\t2\t\n") }
 {}
@@ -80,11 +80,12 @@ pub fn canonical_files()
 /// The limits on steps. For the goods 0, 1 and 2 the plain search enters the bid of 4 for 0 and 1; the bounded one enters no
 /// bid, since the rates add up to 6. So each bundle with a bid takes one step.
 pub fn limits_of_searches()
-    ensures plain { outcome_of (Normalise (plain_options 1)) crossing_bids ≡ ExceedsSteps (0 ∷ 1 ∷ 2 ∷ []) }
-    ensures bounded { outcome_of (Normalise (bounded_options 1 None)) crossing_bids
+    ensures plain { outcome_of (asked Normalise (plain_options 1)) [] crossing_bids ≡ ExceedsSteps (0 ∷ 1 ∷ 2 ∷ []) }
+    ensures bounded { outcome_of (asked Normalise (bounded_options 1 None)) [] crossing_bids
         ≡ Prints 0 (codes "goods 3\nbids 3\ndummy 0\n0\t4\t0\t1\t#\n1\t4\t1\t2\t#\n2\t7\t0\t1\t2\t#\n") }
-    ensures over_total { outcome_of (Normalise (bounded_options 1 (Some 2))) crossing_bids ≡ ExceedsSteps (0 ∷ 1 ∷ 2 ∷ []) }
-    ensures within_total { outcome_of (Normalise (bounded_options 1 (Some 3))) crossing_bids
+    ensures over_total { outcome_of (asked Normalise (bounded_options 1 (Some 2))) [] crossing_bids
+        ≡ ExceedsSteps (0 ∷ 1 ∷ 2 ∷ []) }
+    ensures within_total { outcome_of (asked Normalise (bounded_options 1 (Some 3))) [] crossing_bids
         ≡ Prints 0 (codes "goods 3\nbids 3\ndummy 0\n0\t4\t0\t1\t#\n1\t4\t1\t2\t#\n2\t7\t0\t1\t2\t#\n") }
 {}
 

@@ -1,7 +1,7 @@
 -- `answer`
 use Rattle.std.proofs.Common.{◌≡◌, ◌∙◌, ap, inl, inr, map, refl, sym}
 use Rattle.std.specs.Prelude.{string_bytes}
-use Rattle.command_line.specs.PlainRequests.{plain_request}
+use Rattle.requests.specs.Requests.{plain_request}
 use Rattle.cats_c.specs.Calls.{names_of, request_of}
 use Rattle.cats_c.proofs.call.answer.Goals as goal
 

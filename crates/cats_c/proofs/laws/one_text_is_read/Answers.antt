@@ -1,26 +1,29 @@
 -- `one_text_is_read`: the only text of a name is the one that is opened, and all of it is read.
-use Rattle.std.proofs.Common.{◌≡◌, ◌<◌, ◌++◌, ◌∙◌, ℕ, zero, suc, false, List, [], ◌∷◌, Option, Some, None, Ok, arith, refl, sym, ap, inl, inr, subst}
+use Rattle.std.proofs.Common.{◌≡◌, ◌≢◌, ◌<◌, ◌++◌, ◌∙◌, ℕ, zero, suc, false, List, [], ◌∷◌, Option, Some, None, Ok, arith, refl, sym, ap, inl, inr, subst}
 use Rattle.std.proofs.lemmas.Option.{same_Some}
 use Rattle.std.specs.Borrow.{Bor}
 use Rattle.std.specs.Global.{Global}
-use Rattle.std.specs.Prelude.{⊤, Vec, option_and_then, option_map, slice_get}
+use Rattle.std.specs.Prelude.{Vec, option_and_then, option_map, slice_get}
 use Rattle.bid_file.specs.Files.{PlainFile}
 use Rattle.cats_text.specs.Streams.{inner_of}
-use Rattle.commands.specs.Outcomes.{Outcome}
-use Rattle.command_line.specs.PlainRequests.{BidsIn, GivenBids, OnFile, PlainCommand, PlainRequest, Check, Show, Value, Revenue, Normalise, Explain, Lp}
-use Rattle.command_line.specs.declared.request.Limits.{Limits}
-use Rattle.command_line.specs.declared.request.Prices.{Prices}
+use Rattle.commands.specs.Outcomes.{Outcome, outcome_of}
+use Rattle.requests.specs.Requests.{PlainRequest}
+use Rattle.requests.specs.Tasks.{files_of}
+use Rattle.requests.specs.declared.task.Files.{Files}
+use Rattle.requests.specs.declared.task.Files.TheVariants.{One}
+use Rattle.requests.specs.declared.task.Task.{Task}
+use Rattle.requests.specs.declared.task.Task.TheVariants.{Fault, Round}
+use Rattle.requests.specs.declared.task.TaskRow.{TaskRow}
+use Rattle.requests.specs.declared.task.TheConstants.{TASKS}
+use Rattle.valuation.specs.declared.search.options.SearchOptions.{SearchOptions}
 use Rattle.cats_cmd.proofs.OneText.{error_fails, run_prints}
 use Rattle.cats_cmd.specs.OneText.{PrintsOf}
-use Rattle.cats_cmd.specs.PricedInputs.{fine_prices}
-use Rattle.cats_cmd.specs.Requests.{AnswersRequest, RunsAt, RunsFor, outcome_for}
+use Rattle.cats_cmd.specs.BidLists.{RunsOnBids}
+use Rattle.cats_cmd.specs.Requests.{AnswersRequest, RunsAt, RunsOnOne, RunsWith}
 use Rattle.cats_cmd.specs.declared.source.Unopened.TheVariants.{NoSuchFile}
-use Rattle.cats_c.specs.Calls.{Answers, IsTextAt, Output, command_of, limits_if_bounded, limits_of, name_or, names_of, prices_of, request_for, request_of}
+use Rattle.cats_c.specs.Calls.{Answers, IsTextAt, Output, name_or, names_of, options_of, request_by, request_of, request_with}
 use Rattle.cats_c.specs.declared.call.CallRequest.{CallRequest}
 use Rattle.cats_c.specs.declared.call.CallText.{CallText}
-use Rattle.cats_c.specs.declared.call.Task.{Task}
-use Rattle.cats_c.specs.declared.call.Task.TheVariants as task
-use Rattle.cats_c.specs.declared.call.TheConstants.{TASKS}
 use Rattle.cats_c.proofs.laws.one_text_is_read.Goals as goal
 
 abbrev left_of : Bor (List ℕ) → Option (List ℕ)
@@ -38,106 +41,91 @@ the_only_text text path bytes h = only h.number h.named.text h.named.there h.is
 abbrev printed_of : Vec ℕ Global → Option (List ℕ)
 printed_of printed = Some printed.items
 
--- ---- the request
+-- ---- the request: it has no list, one path, and the bids of the caller
 
--- the bids that a command names are these, if it names some
-abbrev HasBids : List ℕ → PlainCommand → Type 0
-HasBids bids (Revenue (GivenBids given)) = given ≡ bids
-HasBids bids (Revenue (BidsIn list)) = ⊥
-HasBids bids command = ⊤
+record IsOnText (request : CallRequest) (name : List ℕ) (asked : PlainRequest) : Type 0 where
+  list : asked.list ≡ None
+  files : asked.files ≡ name ∷ []
+  bids : asked.bids ≡ request.bids.now
 
-module _ (request : CallRequest) where
-  limited : (limits : Option Limits) (make : Limits → PlainCommand) → ((l : Limits) → HasBids request.bids.now (make l))
-      → (command : PlainCommand) → option_map make limits ≡ Some command → HasBids request.bids.now command
-  limited None make has command is = cc
-  limited (Some l) make has command is = subst (HasBids request.bids.now) (same_Some (make l) command is) (has l)
+module _ (request : CallRequest) (name : List ℕ) (asked : PlainRequest) where
+  by_options : (row : TaskRow) (options : Option SearchOptions) → option_map (request_with row request (name ∷ [])) options ≡ Some asked
+      → IsOnText request name asked
+  by_options row None is = cc
+  by_options row (Some options) is =
+      subst (IsOnText request name) (same_Some (request_with row request (name ∷ []) options) asked is) (record { list = refl; files = refl; bids = refl })
 
-  of_command : (which : Task) (command : PlainCommand) → command_of which request ≡ Some command → HasBids request.bids.now command
-  of_command task.Check command is = subst (HasBids request.bids.now) (same_Some Check command is) tt
-  of_command task.Show command is = subst (HasBids request.bids.now) (same_Some Show command is) tt
-  of_command task.Value command is = limited (limits_if_bounded request) (Value request.goods.now) (λ l. tt) command is
-  of_command task.Revenue command is = subst (HasBids request.bids.now) (same_Some (Revenue (GivenBids request.bids.now)) command is) refl
-  of_command task.Normalise command is = limited (limits_if_bounded request) Normalise (λ l. tt) command is
-  of_command task.Explain command is = subst (HasBids request.bids.now) (same_Some (Explain (limits_of request)) command is) tt
-  of_command task.Lp command is = subst (HasBids request.bids.now) (same_Some Lp command is) tt
-  of_command which command is = cc
-
-  module _ (name path : List ℕ) (prices : Prices) (command : PlainCommand) where
-    abbrev wanted : Option PlainRequest
-    wanted = Some (OnFile path prices command)
-
-    mapped : (found : Option PlainCommand) → option_map (OnFile name (prices_of request.prices)) found ≡ wanted → found ≡ Some command
-    mapped None is = cc
-    mapped (Some found) is = cc
-
-    of_task : (which : Task) → request_for which request (name ∷ []) ≡ wanted → HasBids request.bids.now command
-    of_task task.Duplicates is = cc
-    of_task task.Sizes is = cc
-    of_task task.Compare is = cc
-    of_task task.Diff is = cc
-    of_task task.Fault is = cc
-    of_task task.Round is = cc
-    of_task which is = of_command which command (mapped (command_of which request) is)
-
-    of_number : (which : Option Task) → option_and_then (λ which. request_for which request (name ∷ [])) which ≡ wanted
-        → HasBids request.bids.now command
-    of_number None is = cc
-    of_number (Some which) is = of_task which is
+  by_row : (row : Option TaskRow) → option_and_then (λ row. request_by row request (name ∷ [])) row ≡ Some asked → IsOnText request name asked
+  by_row None is = cc
+  by_row (Some row) is = by_options row (options_of request row.bound) is
 
 -- ---- the answer
 
-module _ (request : CallRequest) (text : CallText) (path : List ℕ) (prices : Prices) (out out_after err err_after : Output) (status : ℕ)
+module _ (request : CallRequest) (text : CallText) (asked : PlainRequest) (out out_after err err_after : Output) (status : ℕ)
     (success : status < 2) (empty : (inner_of out).items ≡ []) where
-  abbrev Printed : (PlainFile → Outcome) → Type 0
-  Printed outcome = PrintsOf outcome (fine_prices prices) text.bytes.now status (inner_of out_after).items
+  abbrev Printed : Type 0
+  Printed = PrintsOf (outcome_of asked request.bids.now) asked.prices text.bytes.now status (inner_of out_after).items
 
-  abbrev Answered : PlainCommand → Type 0
-  Answered command = Printed (outcome_for command request.bids.now)
+  opened : (path : List ℕ) (stream : Bor (List ℕ)) → IsTextAt (text ∷ []) path stream → left_of stream ≡ Some text.bytes.now
+  opened path stream h = ap left_of (the_only_text text path stream h)
 
-  opened : (stream : Bor (List ℕ)) → IsTextAt (text ∷ []) path stream → left_of stream ≡ Some text.bytes.now
-  opened stream h = ap left_of (the_only_text text path stream h)
-
-  at_text : (outcome : PlainFile → Outcome)
-      → RunsAt (IsTextAt (text ∷ [])) left_of printed_of printed_of path prices outcome out out_after err err_after (Ok status) → Printed outcome
-  at_text outcome run =
-      let found = run_prints (IsTextAt (text ∷ [])) left_of printed_of printed_of path text.bytes.now opened prices outcome out out_after err err_after status
-      success run in
-      subst (PrintsOf outcome (fine_prices prices) text.bytes.now status)
+  at_text : (path : List ℕ) → RunsAt (IsTextAt (text ∷ [])) left_of printed_of printed_of path asked.prices (outcome_of asked request.bids.now) out out_after
+      err err_after (Ok status) → Printed
+  at_text path run =
+      let found = run_prints (IsTextAt (text ∷ [])) left_of printed_of printed_of path text.bytes.now (opened path) asked.prices
+      (outcome_of asked request.bids.now) out out_after err err_after status success run in
+      subst (PrintsOf (outcome_of asked request.bids.now) asked.prices text.bytes.now status)
       (sym (found.2.appended ∙ ap (λ (front : List ℕ). front ++ found.0) empty)) found.1
 
-  on_bids : (command : PlainCommand) → HasBids request.bids.now command
-      → RunsFor (IsTextAt (text ∷ [])) (λ name why. why ≡ NoSuchFile) left_of printed_of printed_of false (λ name found. found ≡ None)
-      (OnFile path prices command) out out_after err err_after (Ok status) → Answered command
-  on_bids (Revenue (GivenBids given)) has run = rw (← has) (at_text (outcome_for (Revenue (GivenBids given)) given) run)
-  on_bids (Revenue (BidsIn list)) has run = absurd has
-  on_bids Check has run = at_text (outcome_for Check []) run
-  on_bids Show has run = at_text (outcome_for Show []) run
-  on_bids (Value goods l) has run = at_text (outcome_for (Value goods l) []) run
-  on_bids (Normalise l) has run = at_text (outcome_for (Normalise l) []) run
-  on_bids (Explain l) has run = at_text (outcome_for (Explain l) []) run
-  on_bids Lp has run = at_text (outcome_for Lp []) run
+  on_bids : (list : Option (List ℕ)) (bids path : List ℕ) → list ≡ None → bids ≡ request.bids.now
+      → RunsOnBids (IsTextAt (text ∷ [])) (λ name why. why ≡ NoSuchFile) left_of printed_of
+      (λ bids. RunsAt (IsTextAt (text ∷ [])) left_of printed_of printed_of path asked.prices (outcome_of asked bids)) list bids out out_after err err_after
+      (Ok status) → Printed
+  on_bids None bids path none is run =
+      at_text path (subst (λ (bids : List ℕ). RunsAt (IsTextAt (text ∷ [])) left_of printed_of printed_of path asked.prices (outcome_of asked bids) out
+      out_after err err_after (Ok status)) is run)
+  on_bids (Some list) bids path none is run = cc
 
-  answered : (command : PlainCommand) → request_of request (names_of (text ∷ [])) ≡ Some (OnFile path prices command)
-      → Answers request (text ∷ []) out out_after err err_after status → Answered command
-  answered command is (inl call) = by (same_Some call.asked (OnFile path prices command) (sym call.is_request ∙ is)) call.answers
+  on_one : (task : Task) (path : List ℕ) → task ≢ Fault → task ≢ Round → asked.list ≡ None → asked.bids ≡ request.bids.now
+      → RunsOnOne (IsTextAt (text ∷ [])) (λ name why. why ≡ NoSuchFile) left_of printed_of printed_of task asked path out out_after err err_after
+      (Ok status) → Printed
+  on_one Fault path fault round none bids run = absurd (fault refl)
+  on_one Round path fault round none bids run = absurd (round refl)
+  on_one task path fault round none bids run = on_bids asked.list asked.bids path none bids run
+
+  abbrev Ran : Files → List (List ℕ) → Type 0
+  Ran count files =
+      RunsWith (IsTextAt (text ∷ [])) (λ name why. why ≡ NoSuchFile) left_of printed_of printed_of false (λ name found. found ≡ None) count files asked out
+      out_after err err_after (Ok status)
+
+  ran : (name : List ℕ) → IsOnText request name asked → files_of asked.task ≡ One → asked.task ≢ Fault → asked.task ≢ Round
+      → Ran (files_of asked.task) asked.files → Printed
+  ran name on one fault round run =
+      on_one asked.task name fault round on.list on.bids (subst (Ran One) on.files (subst (λ (count : Files). Ran count asked.files) one run))
+
+  answered : request_of request (names_of (text ∷ [])) ≡ Some asked → files_of asked.task ≡ One → asked.task ≢ Fault → asked.task ≢ Round
+      → Answers request (text ∷ []) out out_after err err_after status → Printed
+  answered is one fault round (inl call) = by (same_Some call.asked asked (sym call.is_request ∙ is)) call.answers
     where
-      by : call.asked ≡ OnFile path prices command
+      name : List ℕ
+      name = name_or text.name.now 1
+
+      by : call.asked ≡ asked
           → AnswersRequest (IsTextAt (text ∷ [])) (λ name why. why ≡ NoSuchFile) left_of printed_of printed_of false (λ name found. found ≡ None)
-          call.asked out out_after err err_after status → Answered command
-      by asked (inl runs) =
-          on_bids command (of_number request (name_or text.name.now 1) path prices command (slice_get TASKS request.task) is) (rw asked at runs)
-      by asked (inr fails) = absurd (omega (arith, success, fails.is_status, error_fails fails.error))
-  answered command is (inr (inl wrong)) = absurd (omega (arith, success, wrong.is_status))
-  answered command is (inr (inr unasked)) = absurd (omega (arith, success, unasked.0))
+          call.asked out out_after err err_after status → Printed
+      by same (inl runs) = ran name (by_row request name asked (slice_get TASKS request.task) is) one fault round (rw same at runs)
+      by same (inr fails) = absurd (omega (arith, success, fails.is_status, error_fails fails.error))
+  answered is one fault round (inr (inl wrong)) = absurd (omega (arith, success, wrong.is_status))
+  answered is one fault round (inr (inr unasked)) = absurd (omega (arith, success, unasked.0))
 
 pub returns : goal.returns
-returns c request text path prices command out out_new needed err err_new err_needed status is (inl both) success =
+returns c request text asked out out_new needed err err_new err_needed status is one fault round (inl both) success =
     let printed = both.prints in (
       both.text,
       both.puts,
       rw printed.is_text
-          (answered request text path prices printed.out printed.out_after printed.err printed.err_after status success printed.empty.0 command is
+          (answered request text asked printed.out printed.out_after printed.err printed.err_after status success printed.empty.0 is one fault round
           printed.answers),
     )
-returns c request text path prices command out out_new needed err err_new err_needed status is (inr memory) success =
+returns c request text asked out out_new needed err err_new err_needed status is one fault round (inr memory) success =
     absurd (omega (arith, success, memory.0))

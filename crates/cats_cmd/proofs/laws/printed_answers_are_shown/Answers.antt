@@ -4,12 +4,12 @@ use Rattle.cats_cmd.proofs.Sending.{pair_facts}
 use Rattle.cats_cmd.proofs.laws.printed_answers_are_shown.Goals as goal
 
 pub returns-clause-commands : goal.returns-clause-commands
-returns-clause-commands g c = λ command numbers file status text is. (printed _ status text (command_printed command numbers file) is).1
+returns-clause-commands g c = λ request bids file status text is. (printed _ status text (command_printed request bids file) is).1
 
 pub returns-clause-comparisons : goal.returns-clause-comparisons
-returns-clause-comparisons g c = λ comparison first first_after second second_after answer given.
-    ((pair_facts g.I.Input.gives g.I.Input.refuses g.J.Input.gives g.J.Input.refuses first first_after second second_after comparison).made answer
-    given).printed.1
+returns-clause-comparisons g c = λ request first first_after second second_after answer given.
+    ((pair_facts g.I.Input.gives g.I.Input.refuses g.J.Input.gives g.J.Input.refuses first first_after second second_after request.task
+    request.options).made answer given).printed.1
 
 pub returns-clause-fault : goal.returns-clause-fault
 returns-clause-fault g c = place_shown

@@ -6,13 +6,13 @@ use Rattle.cats_cmd.proofs.many_files.run_on_files.Goals as goal
 
 pub returns-in_ok-paths-in-Ok-clause-runs : goal.returns-in_ok-paths-in-Ok-clause-runs
 returns-in_ok-paths-in-Ok-clause-runs g c =
-    rw c.in-ListedIn.is (list_run _ _ _ _ _ _ c.in-ListedIn.list.now c.in-Ok.text.items c.in-Ok.ensures.read _
+    rw c.in-Some.is (list_run _ _ _ _ _ _ c.in-Some.list.now c.in-Ok.text.items c.in-Ok.ensures.read _
     (ap (map (λ path. path.now)) c.as_slice-in-Ok-2.ensures.value ∙ c.in_ok-paths-in-Ok.ensures ∙ ap paths_in c.as_slice-in-Ok.ensures.value)
     _ _ _ _ _ (rw (c.in-Ok.ensures.opens.stays, c.many_files-many.ensures) at c.run_at_paths-in-Ok.ensures.runs))
 
 pub returns-in-Err-clause-opens : goal.returns-in-Err-clause-opens
 returns-in-Err-clause-opens g c =
-    rw c.in-ListedIn.is (record {
+    rw c.in-Some.is (record {
       between = c.read_list.new.source;
       opens = c.in-Err.ensures.opens;
       rest = inr (rw c.refuse_list.ensures.status (error_status_above c.in-Err.error), refl);

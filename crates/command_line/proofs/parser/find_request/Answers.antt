@@ -1,6 +1,6 @@
 -- `find_request`
 use Rattle.command_line.proofs.Common.{◌∙◌, rules, rows_in, texts_of}
-use Rattle.command_line.proofs.Answering.{fails_by, entered, requested, misused}
+use Rattle.command_line.proofs.Answering.{fails_by, entered, requested}
 use Rattle.command_line.proofs.parser.find_request.Goals as goal
 
 pub returns-in_err-matches-clause-refused : goal.returns-in_err-matches-clause-refused
@@ -14,13 +14,6 @@ returns-in-Some-clause-taken c =
 
 pub returns-in-Some-clause-found : goal.returns-in-Some-clause-found
 returns-in-Some-clause-found c =
-    let none = rw c.in_ok-matches.was at (fails_by _ c.in_ok-cats_command.ensures (texts_of c.args.words.now) _ c.try_get_matches_from.ensures.kinds) in
     let met = entered _ c.in_ok-cats_command.ensures (texts_of c.args.words.now) c.in_ok-matches.matches c.in_ok-matches.ensures.matches
     c.in-Some.name.now (rows_in c.in-Some.given.now) (search rules) (search rules) in
-    c.in_ok-judge_subcommand-in-Some.ensures.found ∙ requested (texts_of c.args.words.now) _ _ met none
-
-pub returns-in-Some-clause-misused : goal.returns-in-Some-clause-misused
-returns-in-Some-clause-misused c =
-    let met = entered _ c.in_ok-cats_command.ensures (texts_of c.args.words.now) c.in_ok-matches.matches c.in_ok-matches.ensures.matches
-    c.in-Some.name.now (rows_in c.in-Some.given.now) (search rules) (search rules) in
-    misused (texts_of c.args.words.now) _ _ met _ c.in_ok-judge_subcommand-in-Some.ensures.misused
+    c.in_ok-judge-in-Some.ensures ∙ requested _ c.in_ok-cats_command.ensures (texts_of c.args.words.now) c.in-Some.name.now (rows_in c.in-Some.given.now) met

@@ -12,7 +12,9 @@ use Rattle.std.proofs.lemmas.Bool.{eqb-true}
 use Rattle.std.proofs.lemmas.Map.Views.{Contains-from_any}
 use Rattle.cats_text.specs.declared.read_fault.Kind.TheVariants.{Device, Memory as NoMemory}
 use Rattle.commands.specs.Commands.{IsRefused}
-use Rattle.commands.specs.Outcomes.{outcome_of, statuses_of}
+use Rattle.commands.specs.Outcomes.{outcome_by, outcome_of, statuses_of}
+use Rattle.requests.specs.Requests.{PlainRequest}
+use Rattle.requests.specs.declared.task.Task.{Task}
 use Rattle.commands.specs.Statuses.{status_of_canon_fault, status_of_fault, status_of_read_fault}
 use Rattle.commands.proofs.laws.statuses_of_commands.Goals as goal
 
@@ -50,10 +52,15 @@ module _ (statuses : List ℕ) (two : Has statuses 2) (four : Has statuses 4) (f
     of_answer : (answer : Answer) → Commands gives refuses outcome old new (Ok answer) → Has statuses answer.status
     of_answer answer h = grind (arith, of_file h.file)
 
+has_status : (task : Task) (request : PlainRequest) (bids : List ℕ) (file : PlainFile) → Has (statuses_of task) (status_in (outcome_by task request bids file))
+has_status task request bids file = grind arith
+
 pub returns : goal.returns
 returns g c = record {
-  printed = λ command old new answer h. Contains-from_any eqb-true answer.status (statuses_of command)
-      (of_answer (statuses_of command) refl refl refl g.I.Input.gives g.I.Input.refuses (outcome_of command) (λ file. grind arith) old new answer h);
-  refused = λ command old new fault h. Contains-from_any eqb-true (status_of_fault fault) (statuses_of command)
-      (of_fault (statuses_of command) refl refl refl g.I.Input.gives g.I.Input.refuses (outcome_of command) (λ file. grind arith) old new fault h);
+  printed = λ request bids old new answer h. Contains-from_any eqb-true answer.status (statuses_of request.task)
+      (of_answer (statuses_of request.task) refl refl refl g.I.Input.gives g.I.Input.refuses (outcome_of request bids)
+      (has_status request.task request bids) old new answer h);
+  refused = λ request bids old new fault h. Contains-from_any eqb-true (status_of_fault fault) (statuses_of request.task)
+      (of_fault (statuses_of request.task) refl refl refl g.I.Input.gives g.I.Input.refuses (outcome_of request bids)
+      (has_status request.task request bids) old new fault h);
 }

@@ -1,0 +1,38 @@
+-- Requests, with the texts and numbers that they hold.
+use Rattle.std.specs.Prelude.{ℕ, Bool, List, map, Option, option_map}
+use Rattle.std.specs.Borrow.{Bor}
+use Rattle.rounding.specs.declared.replacement.FinePrices.{FinePrices}
+use Rattle.valuation.specs.declared.search.options.SearchOptions.{SearchOptions}
+use Rattle.requests.specs.declared.request.Request.{Request}
+use Rattle.requests.specs.declared.task.Task.{Task}
+
+-- a command, the paths of its files, that of its list, and what else may come with a command
+pub record PlainRequest : Type 0 where
+  pub task : Task
+  pub files : List (List ℕ)
+  pub list : Option (List ℕ)
+  pub goods : List ℕ
+  pub bids : List ℕ
+  pub prices : Option FinePrices
+  pub options : SearchOptions
+  pub progress : Bool
+  pub null : Bool
+  pub all : Bool
+
+-- the texts of the words
+abbrev pub texts_of : List (Bor (List ℕ)) → List (List ℕ)
+texts_of = map (λ word. word.now)
+
+abbrev pub plain_request : Request → PlainRequest
+plain_request request = record {
+  task = request.task;
+  files = texts_of request.files.items;
+  list = option_map (λ list. list.now) request.list;
+  goods = request.goods.items;
+  bids = request.bids.items;
+  prices = request.prices;
+  options = request.options;
+  progress = request.progress;
+  null = request.null;
+  all = request.all;
+}

@@ -1,0 +1,36 @@
+-- The names of the commands.
+use Rattle.std.specs.Prelude.{ℕ, Bool, List, codes, filter, map}
+use Rattle.requests.specs.declared.task.Files.{Files}
+use Rattle.requests.specs.declared.task.Files.TheVariants.{One, Two, Many}
+use Rattle.requests.specs.declared.task.Task.{Task}
+use Rattle.requests.specs.declared.task.Task.TheVariants.{Check, Fault, Show, Value, Revenue, Normalise, Explain, Round}
+use Rattle.requests.specs.declared.task.Task.TheVariants.{Lp, Compare, Diff, Duplicates, Sizes}
+use Rattle.requests.specs.declared.task.TaskRow.{TaskRow}
+use Rattle.requests.specs.declared.task.TheConstants.{TASKS}
+
+abbrev pub name_of : Task → List ℕ
+name_of Check = codes "check"
+name_of Fault = codes "fault"
+name_of Show = codes "show"
+name_of Value = codes "value"
+name_of Revenue = codes "revenue"
+name_of Normalise = codes "normalise"
+name_of Explain = codes "explain"
+name_of Round = codes "round"
+name_of Lp = codes "lp"
+name_of Compare = codes "compare"
+name_of Diff = codes "diff"
+name_of Duplicates = codes "duplicates"
+name_of Sizes = codes "sizes"
+
+-- the names of the commands whose rows pass the test
+abbrev pub names_with : (TaskRow → Bool) → List (List ℕ)
+names_with test = map (λ row. name_of row.task) (filter test TASKS)
+
+-- how many files a command reads
+abbrev pub files_of : Task → Files
+files_of Compare = Two
+files_of Diff = Two
+files_of Duplicates = Many
+files_of Sizes = Many
+files_of task = One
