@@ -46,7 +46,7 @@ link-cats: cats
 # its name, of which the number rises if a program that was linked with it no longer works.
 SONAME = libcats.so.2
 link-cats_c: cats_c
-	cp -R bindings/cats bindings/cats.h bindings/libcats.pc "$$WORK/made"
+	cp -R bindings/yinchaku bindings/cats.h bindings/libcats.pc "$$WORK/made"
 	ln -s $(SONAME) "$$WORK/made/libcats.so"
 	"$$KIT/toolchain/bin/llvm-ar" qcsL "$$WORK/made/libcats.a" "$$WORK/libraries/libcats_c.a" $(c_library) $(log)
 	"$$KIT/toolchain/bin/ld.lld" -shared -soname $(SONAME) --version-script=bindings/exports -z defs -z now -o "$$WORK/made/$(SONAME)" \

@@ -2,7 +2,7 @@
 
     check.py PROGRAM LIBRARY REFUSING FILE..
 
-LIBRARY is the shared library, with the package cats beside it, which loads it here. REFUSING is the same library with its allocations
+LIBRARY is the shared library, with the package yinchaku beside it, which loads it here. REFUSING is the same library with its allocations
 counted: allocations.c. The files are bid files, which are tried beside the random ones of tests/texts.py. Prints what is wrong and
 'N calls, M wrong'; the status is 0 if M is 0, and else 1. The package itself is tried in tests.
 """
@@ -21,8 +21,8 @@ PROGRAM, LIBRARY, REFUSING, *FILES = sys.argv[1:]
 
 sys.path[:0] = [os.path.dirname(os.path.abspath(LIBRARY)), os.path.join(os.path.dirname(os.path.abspath(__file__)), "tests")]
 from beside import CALLS, Answer, Call, cases_of, run_program, write_texts  # noqa: E402: they are in these folders
-from cats import _library  # noqa: E402
-from cats._library import Request, Status, Task, Text  # noqa: E402
+from yinchaku import _library  # noqa: E402
+from yinchaku._library import Request, Status, Task, Text  # noqa: E402
 from texts import BIDS, made_texts  # noqa: E402
 
 THREADS = 8

@@ -2,7 +2,7 @@
 
     calls.py PROGRAM LIBRARY FILE
 
-LIBRARY is the folder with the package cats and libcats.so. Prints a line for each call: its name, its seconds, and those of a process. Each is the
+LIBRARY is the folder with the package yinchaku and libcats.so. Prints a line for each call: its name, its seconds, and those of a process. Each is the
 least of some runs by the clock, of one call and of one process that does the same after another.
 """
 import pathlib
@@ -13,7 +13,7 @@ import time
 PROGRAM, LIBRARY, FILE = sys.argv[1:]
 
 sys.path.insert(0, LIBRARY)
-import cats  # noqa: E402: it is in the folder
+import yinchaku  # noqa: E402: it is in the folder
 
 # How long each is measured at least, in how many runs.
 SECONDS, RUNS = 0.1, 5
@@ -38,12 +38,12 @@ def run(*words):
 def main():
     text = pathlib.Path(FILE).read_bytes()
     calls = {
-        "check": lambda: cats.check(text),
-        "normalise": lambda: cats.normalise(text),
-        "explain": lambda: cats.explain(text),
-        "round": lambda: cats.round_prices(text),
-        "compare": lambda: cats.compare(text, text),
-        "diff": lambda: cats.diff(text, text),
+        "check": lambda: yinchaku.check(text),
+        "normalise": lambda: yinchaku.normalise(text),
+        "explain": lambda: yinchaku.explain(text),
+        "round": lambda: yinchaku.round_prices(text),
+        "compare": lambda: yinchaku.compare(text, text),
+        "diff": lambda: yinchaku.diff(text, text),
     }
     for name, call in calls.items():
         files = [FILE] * (2 if name in ("compare", "diff") else 1)

@@ -7,7 +7,7 @@ from typing import NamedTuple
 
 from functions import TAKEN
 
-from cats._library import NO_TOTAL, STEPS, Prices, Status, Task
+from yinchaku._library import NO_TOTAL, STEPS, Prices, Status, Task
 
 SECONDS = 60
 

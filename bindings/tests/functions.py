@@ -4,19 +4,27 @@ from functools import partial
 
 from texts import BIDS
 
-import cats
-from cats._library import Task
+import yinchaku
+from yinchaku._library import Task
 
-# The names of what a function takes, by the name of the command. Of `fault` there is no function.
-TAKEN = {it.name.lower(): set(inspect.signature(getattr(cats, it.name.lower(), len)).parameters) for it in Task}
+# The function of each command, by its name. Of `fault` there is none.
+FUNCTIONS = {it.name.lower(): getattr(yinchaku, "round_prices" if it == Task.ROUND else it.name.lower(), None) for it in Task}
+
+# The names of what a function takes.
+TAKEN = {name: set(inspect.signature(function).parameters) if function else set() for name, function in FUNCTIONS.items()}
 
 # The functions of two texts.
-OF_PAIRS = [getattr(cats, name) for name, taken in TAKEN.items() if "left" in taken]
+OF_PAIRS = [FUNCTIONS[name] for name, taken in TAKEN.items() if "left" in taken]
 
 OF_TEXT = {
-    "read": lambda text, **words: cats.read(text, **words).text,
-    "duplicates": lambda text, **words: list(map(len, cats.duplicates([text, BIDS], all=True, **words))),
+    "read": lambda text, **words: yinchaku.read(text, **words).text,
+    "duplicates": lambda text, **words: list(map(len, yinchaku.duplicates([text, BIDS], all=True, **words))),
+    "sizes": lambda text, **words: yinchaku.read(text, **words).sizes()[:-1],
+    "winners": lambda text, **words: yinchaku.winners(text, SOLUTION, **words),
 }
+# That of BIDS.
+SOLUTION = b"# Objective value = 7\nx0 1\nx1 1\n"
+
 for name, taken in [(name, taken) for name, taken in TAKEN.items() if "round" in taken and name not in OF_TEXT]:
-    function = partial(getattr(cats, name), **{kind: [0] for kind in ("goods", "bids") if kind in taken})
+    function = partial(FUNCTIONS[name], **{kind: [0] for kind in ("goods", "bids") if kind in taken})
     OF_TEXT.update({f"{name}, left": partial(function, right=BIDS), f"{name}, right": partial(function, BIDS)} if "left" in taken else {name: function})

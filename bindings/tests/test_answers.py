@@ -3,13 +3,14 @@ import re
 
 import pytest
 from beside import CALLS, Answer
+from functions import FUNCTIONS
 
-import cats
-from cats._library import NO_TOTAL, Status
+import yinchaku
+from yinchaku._library import NO_TOTAL, Status
 
 STATUSES = {
-    cats.RefusedText: Status.REFUSED, cats.StepLimit: Status.STEP_LIMIT, cats.NoSuchGood: Status.WRONG_USAGE, cats.NoSuchBid: Status.WRONG_USAGE,
-    cats.WantOfMemory: Status.WANT_OF_MEMORY,
+    yinchaku.RefusedText: Status.REFUSED, yinchaku.StepLimit: Status.STEP_LIMIT, yinchaku.NoSuchGood: Status.WRONG_USAGE, yinchaku.NoSuchBid: Status.WRONG_USAGE,
+    yinchaku.WantOfMemory: Status.WANT_OF_MEMORY,
 }
 
 
@@ -18,9 +19,10 @@ def answer_of_package(call, texts):
     function = function_of(call)
     try:
         found = function(*texts, **call.words_of_package())
-    except cats.CatsError as error:
+    except yinchaku.CatsError as error:
         return Answer(STATUSES[type(error)], b"", f"{error}\n".encode())
-    return PRINTED[call.name](found)
+    goods = [yinchaku.check(texts[0], round=call.rounding()).goods] if call.name == "value" else []
+    return PRINTED[call.name](found, *goods)
 
 
 # What `cats fault` prints of a file and a RefusedText has otherwise: its path, and the bytes of the word.
@@ -32,22 +34,25 @@ def wanted_of(case):
     status, out, err = case.printed
     if case.call.name == "fault" and out:
         return Answer(status, OF_FAULT.sub(rb"text\1\n", out))
-    cells = out.split(b"\n")[1].split(b"\t") if case.call.name == "sizes" else []
+    if case.call.name == "sizes":
+        return Answer(Status.DONE, b"".join(line.rpartition(b"\t")[0] + b"\t\n" for line in out.split(b"\n")[1:-1]))
     if status > Status.DIFFERENT:
-        return Answer(status, b"", cells[8] + b"\n" if cells else err.splitlines(True)[-1])
-    return Answer(status, b"\t".join(cells[:9]) + b"\n" if cells else out, err if case.call.name == "round" else b"")
+        return Answer(status, b"", err.splitlines(True)[-1])
+    return Answer(status, out, err if case.call.name == "round" else b"")
 
 
 def function_of(call):
-    """That of the package, in which `fault` is a field of an exception."""
-    return fault if call.name == "fault" else getattr(cats, call.name)
+    """That of the package, in which `fault` is a field of an exception, and `sizes` takes a list."""
+    if call.name == "sizes":
+        return lambda *texts, **words: yinchaku.sizes(texts, **words)
+    return fault if call.name == "fault" else FUNCTIONS[call.name]
 
 
 def fault(text):
     """Where the first fault of a text is, and what helps."""
     try:
-        cats.check(text)
-    except cats.RefusedText as error:
+        yinchaku.check(text)
+    except yinchaku.RefusedText as error:
         assert error.line is not None and is_word_at(text, error)
         return error
     return None
@@ -63,7 +68,7 @@ def is_word_at(text, error):
 def printed_fault(error):
     if error is None:
         return Answer(0, b"")
-    return Answer(2, f"text:{error.line}:{error.word}: {error.kind}\n{error.hint}\n".encode())
+    return Answer(2, f"text:{error.line}:{error.word}: {error.kind}\n{error.hint}\n".replace("`round=True`", "`cats round`").encode())
 
 
 def printed_revenue(found):
@@ -84,9 +89,9 @@ def printed_cell(cell):
     return " ".join(map(str, cell)) if isinstance(cell, tuple) else str(cell)
 
 
-def printed_value(found):
+def printed_value(found, goods):
     rows = [("or", found.or_value, *found.packing)]
-    rows += [("xor", it.good, it.value, *([] if it.bid is None else [it.bid])) for it in found.xor]
+    rows += [("xor", goods + it.dummy, it.value, *([] if it.bid is None else [it.bid])) for it in found.xor]
     return Answer(0, "".join(" ".join(map(str, row)) + "\n" for row in rows).encode())
 
 
@@ -113,11 +118,11 @@ PRINTED = {
     "lp": lambda text: Answer(0, text),
     "value": printed_value,
     "normalise": lambda text: Answer(0, text),
-    "explain": lambda rows: Answer(0, printed_table(rows, cats.Reason)),
-    "sizes": lambda row: Answer(0, "".join(f"{number}\t" for number in row).encode() + b"\n"),
+    "explain": lambda rows: Answer(0, printed_table(rows, yinchaku.Reason)),
+    "sizes": lambda rows: Answer(0, "".join("\t".join(map(printed_cell, row)) + "\n" for row in rows).encode()),
     "round": printed_round,
     "compare": printed_compare,
-    "diff": lambda rows: Answer(1 if rows else 0, printed_table(rows, cats.Difference)),
+    "diff": lambda rows: Answer(1 if rows else 0, printed_table(rows, yinchaku.Difference)),
 }
 
 
@@ -138,14 +143,14 @@ def test_errors_have_their_fields(cases):
         printed = wanted_of(case).err
         try:
             function_of(case.call)(*case.texts, **case.call.words_of_package())
-        except cats.RefusedText as error:
+        except yinchaku.RefusedText as error:
             assert printed.decode() == prefix_of(error) + (f"line {error.line}: " if error.line else "") + error.kind + "\n"
-        except cats.StepLimit as error:
+        except yinchaku.StepLimit as error:
             assert (error.bid is None) == (b" at bid " not in printed)
             assert printed.decode() == prefix_of(error) + printed_limit(case.call, error)
-        except cats.NoSuchGood as error:
+        except yinchaku.NoSuchGood as error:
             assert printed.decode() == f"good {error.good} out of range\n"
-        except cats.NoSuchBid as error:
+        except yinchaku.NoSuchBid as error:
             assert printed.decode() == f"bid {error.bid} out of range\n"
 
 

@@ -1,6 +1,7 @@
 """An exception stays the same in `pickle` and `copy`, and comes so from another process."""
 import copy
 import multiprocessing
+import pathlib
 import pickle
 from concurrent.futures import ProcessPoolExecutor
 
@@ -8,34 +9,36 @@ import pytest
 from functions import OF_TEXT
 from texts import BIDS
 
-import cats
-from cats.errors import HeavyBid
+import yinchaku
+from yinchaku.errors import HeavyBid
 
 ERRORS = [
-    cats.CatsError("no"),
-    cats.RefusedText("TooLong"),
-    cats.RefusedText("Header", 1, "second"),
-    cats.WantOfMemory("want of memory", "first"),
-    cats.StepLimit((0, 12)),
-    cats.StepLimit((), "first"),
-    cats.StepLimit((0, 12), "second", HeavyBid(3, 2, 1_000, 5_000)),
-    cats.StepLimit(tuple(range(20)), None, HeavyBid(0, 58, 1, None)),
-    cats.NoSuchGood(7),
-    cats.NoSuchBid(65536),
+    yinchaku.CatsError("no"),
+    yinchaku.RefusedText("TooLong"),
+    yinchaku.RefusedText("Header", 1, "second"),
+    yinchaku.WantOfMemory("want of memory", "first"),
+    yinchaku.StepLimit((0, 12)),
+    yinchaku.StepLimit((), "first"),
+    yinchaku.StepLimit((0, 12), "second", HeavyBid(3, 2, 1_000, 5_000)),
+    yinchaku.StepLimit(tuple(range(20)), None, HeavyBid(0, 58, 1, None)),
+    yinchaku.NoSuchGood(7),
+    yinchaku.NoSuchBid(65536),
+    yinchaku.WrongSolution("no"),
 ]
-FIELDS = ("which", "source", "kind", "line", "word", "text", "hint", "bundle", "count", "good", "bid", "args", "extra")
+FIELDS = ("which", "path", "source", "kind", "line", "row", "word", "text", "hint", "bundle", "count", "good", "bid", "args", "extra")
 
 
 @pytest.mark.parametrize("error", ERRORS, ids=repr)
 def test_copies_are_the_same(error):
-    error.extra, error.source = "of the caller", BIDS
+    error = copy.copy(error)
+    error.extra, error.source, error.path = "of the caller", BIDS, pathlib.Path("a/b")
     for made in (pickle.loads(pickle.dumps(error)), copy.copy(error), copy.deepcopy(error)):
         assert type(made) is type(error) and str(made) == str(error)
         assert [getattr(made, field, None) for field in FIELDS] == [getattr(error, field, None) for field in FIELDS]
 
 
 def refusal_of(call, *arguments, **words):
-    with pytest.raises(cats.RefusedText) as refused:
+    with pytest.raises(yinchaku.RefusedText) as refused:
         call(*arguments, **words)
     return refused.value
 
@@ -44,12 +47,34 @@ def test_copies_have_the_place():
     """It is looked up at last when a copy is made, which has it without the text."""
     wrong = BIDS.replace(b" 4 ", b"\t4.5e0 ") + b"%" * 10_000
     for make in (pickle.dumps, copy.copy, copy.deepcopy):
-        made = make(refusal_of(cats.check, wrong))
+        made = make(refusal_of(yinchaku.check, wrong))
         if isinstance(made, bytes):
             assert len(made) < 1_000
             made = pickle.loads(made)
         assert (made.line, made.word, made.text, str(made)) == (5, 2, b"4.5e0", "line 5: NotANumber")
-        assert "cats round" in made.hint
+        assert "`round=True`" in made.hint and "cats" not in made.hint
+
+
+def test_paths(tmp_path):
+    """The text begins with the path of the file that is refused, and has its place."""
+    path, other = tmp_path / "one", tmp_path / "two\n\x1b"
+    path.write_bytes(BIDS.replace(b" 4 ", b" 4e0 "))
+    other.write_bytes(BIDS[:-2])
+    for call in (yinchaku.check, yinchaku.read, lambda text: yinchaku.compare(text, BIDS), lambda text: yinchaku.diff(BIDS, text)):
+        assert str(refusal_of(call, path)) == f"{path}:5:2: NotANumber"
+    shown = str(other).replace("\n", r"\n").replace("\x1b", r"\x1b")
+    refused = refusal_of(yinchaku.compare, path, other, round=True)
+    assert (refused.path, refused.which, str(refused)) == (other, "second", f"{shown}:5:4: NoEnd")
+    assert str(pickle.loads(pickle.dumps(refused))) == str(refused)
+    path.write_bytes(BIDS)
+    for call, said in {
+        lambda: yinchaku.normalise(path, 0): "step limit at 0", lambda: yinchaku.diff(BIDS, path, 0): "first: step limit of 0 at bid 0: 0",
+        lambda: yinchaku.value(path, [2]): "good 2 out of range", lambda: yinchaku.value(path, [2**16]): "good 65536 out of range",
+        lambda: yinchaku.revenue(path, [2**32]): "bid 4294967296 out of range", lambda: yinchaku.winners(BIDS, path): "no solution",
+    }.items():
+        with pytest.raises(yinchaku.CatsError) as raised:
+            call()
+        assert str(raised.value).startswith(said if said.startswith("first") else f"{path}: {said}")
 
 
 @pytest.mark.parametrize("text, line, word, found", [
@@ -62,7 +87,7 @@ def test_copies_have_the_place():
 ])
 def test_places(text, line, word, found):
     """The word is one between spaces and tabs, or the end of a line or of the text."""
-    for name, call in {**OF_TEXT, "round_prices": cats.round_prices}.items():
+    for name, call in {**OF_TEXT, "round_prices": yinchaku.round_prices}.items():
         refused, which = refusal_of(call, text), {"left": "first", "right": "second"}.get(name.split(" ")[-1])
         assert (refused.which, refused.line, refused.word, refused.text) == (which, line, word, found)
 
@@ -79,20 +104,20 @@ def test_places(text, line, word, found):
 def test_places_in_rounded_texts(price, good, exact, word, kind):
     """Prices that are rounded are no fault of a text, neither before its first one nor on the line of that."""
     text = BIDS.replace(b" 3 ", b" 3e0 ").replace(b" 4 1 ", b" " + price + b" " + good + b" ")
-    for refused in (refusal_of(cats.round_prices, text, exact), refusal_of(cats.diff, BIDS, text, round="exact" if exact else True)):
+    for refused in (refusal_of(yinchaku.round_prices, text, exact), refusal_of(yinchaku.diff, BIDS, text, round="exact" if exact else True)):
         assert (refused.line, refused.word, refused.kind) == (5, word, kind)
         assert refused.text == (price if word == 2 else good) and refused.hint
 
 
 def test_process_pool():
     with ProcessPoolExecutor(1, multiprocessing.get_context("spawn")) as pool:
-        limit = pool.submit(cats.normalise, BIDS, 0).exception()
-        refused = pool.submit(cats.compare, BIDS, b"no file").exception()
-        auction = pool.submit(cats.read, BIDS).result()
-        reasons = pool.submit(cats.explain, BIDS).result()
-    assert type(limit) is cats.StepLimit and str(limit) == "step limit at 0" and limit.bundle == (0,)
-    assert type(refused) is cats.RefusedText and (refused.which, refused.kind, refused.line) == ("second", "Header", 1)
-    assert auction.text == BIDS and reasons == cats.explain(BIDS)
+        limit = pool.submit(yinchaku.normalise, BIDS, 0).exception()
+        refused = pool.submit(yinchaku.compare, BIDS, b"no file").exception()
+        auction = pool.submit(yinchaku.read, BIDS).result()
+        reasons = pool.submit(yinchaku.explain, BIDS).result()
+    assert type(limit) is yinchaku.StepLimit and str(limit) == "step limit at 0" and limit.bundle == (0,)
+    assert type(refused) is yinchaku.RefusedText and (refused.which, refused.kind, refused.line) == ("second", "Header", 1)
+    assert auction.text == BIDS and reasons == yinchaku.explain(BIDS)
 
 
 def test_messages():
@@ -102,7 +127,7 @@ def test_messages():
         "no", "TooLong", "second: line 1: Header", "first: want of memory", "step limit at 0,12", "first: step limit at ",
         "second: step limit of 1000 (5000 in all) at bid 3: 0,12",
         "step limit of 1 at bid 0: 0,1,2,3,4,5,6,7,8,9,10,11,12,13,14,15,16,17,18,19,.. (58 goods)",
-        "good 7 out of range", "bid 65536 out of range",
+        "good 7 out of range", "bid 65536 out of range", "no",
     ]
 
 
@@ -114,15 +139,15 @@ def one_bid(goods):
 @pytest.mark.parametrize("goods", (1, 20, 21, 58))
 def test_named_bids(goods):
     """A step limit of `explain` and `diff` names the bid, and at most 20 of its goods."""
-    with pytest.raises(cats.StepLimit) as alone:
-        cats.explain(one_bid(goods), 0)
-    with pytest.raises(cats.StepLimit) as second:
-        cats.diff(b"goods 0\nbids 0\ndummy 0\n", one_bid(goods), 0, total=7)
+    with pytest.raises(yinchaku.StepLimit) as alone:
+        yinchaku.explain(one_bid(goods), 0)
+    with pytest.raises(yinchaku.StepLimit) as second:
+        yinchaku.diff(b"goods 0\nbids 0\ndummy 0\n", one_bid(goods), 0, total=7)
     for raised in (alone, second):
         assert (raised.value.bid, raised.value.count, raised.value.bundle) == (0, goods, tuple(range(min(goods, 20))))
     shown = ",".join(map(str, range(min(goods, 20)))) + (f",.. ({goods} goods)" if goods > 20 else "")
     assert str(alone.value) == f"step limit of 0 at bid 0: {shown}"
     assert str(second.value) == f"second: step limit of 0 (7 in all) at bid 0: {shown}"
-    with pytest.raises(cats.StepLimit) as other:
-        cats.normalise(one_bid(goods), 0)
+    with pytest.raises(yinchaku.StepLimit) as other:
+        yinchaku.normalise(one_bid(goods), 0)
     assert (other.value.bid, other.value.count, other.value.bundle) == (None, goods, tuple(range(goods)))

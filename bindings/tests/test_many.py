@@ -5,14 +5,11 @@ import pytest
 from beside import run_program, write_texts
 from texts import BIDS, made_texts
 
-import cats
+import yinchaku
 
 
 def is_refused(path):
-    try:
-        return not cats.sizes(path, 3)
-    except cats.CatsError:
-        return True
+    return next(yinchaku.sizes(path, 3)).fault is not None
 
 
 @pytest.fixture(scope="module")
@@ -24,23 +21,23 @@ def paths(root, tmp_path_factory):
 def test_duplicates(program, paths):
     judged = [path for path in paths if not is_refused(path)]
     printed = run_program(program, ["duplicates", *map(str, judged)]).out.decode()
-    found = cats.duplicates(judged)
+    found = yinchaku.duplicates(judged)
     assert "\n".join("".join(f"{path}\n" for path in group) for group in found) == printed and len(found) > 50
-    groups = cats.duplicates(iter(judged), all=True)
+    groups = yinchaku.duplicates(iter(judged), all=True)
     assert [group for group in groups if len(group) > 1] == found
     assert sorted(path for group in groups for path in group) == sorted(judged) and len(groups) > len(found)
-    assert cats.duplicates([]) == cats.duplicates([BIDS]) == [] and cats.duplicates([BIDS], all=True) == [(BIDS,)]
+    assert yinchaku.duplicates([]) == yinchaku.duplicates([BIDS]) == [] and yinchaku.duplicates([BIDS], all=True) == [(BIDS,)]
 
 
 def test_duplicates_raise_what_is_refused(tmp_path):
     """The exception has the text as it was given."""
-    for refused, error in ((b"no file", cats.RefusedText), (tmp_path / "no file", cats.RefusedText), (BIDS, cats.StepLimit)):
+    for refused, error in ((b"no file", yinchaku.RefusedText), (tmp_path / "no file", yinchaku.RefusedText), (BIDS, yinchaku.StepLimit)):
         (tmp_path / "no file").write_bytes(b"no file")
         with pytest.raises(error) as raised:
-            cats.duplicates([b"goods 1\nbids 0\ndummy 0\n", refused], total=1)
+            yinchaku.duplicates([b"goods 1\nbids 0\ndummy 0\n", refused], total=1)
         assert raised.value.source is refused
     with pytest.raises(FileNotFoundError):
-        cats.duplicates([BIDS, tmp_path / "none"])
-    for texts in ("examples", BIDS, [BIDS.decode()]):
+        yinchaku.duplicates([BIDS, tmp_path / "none"])
+    for texts in ("examples", [BIDS.decode()], BIDS.decode()):
         with pytest.raises(TypeError):
-            cats.duplicates(texts)
+            yinchaku.duplicates(texts)

@@ -21,13 +21,13 @@ import pytest
 from functions import OF_TEXT, TAKEN
 from texts import BIDS
 
-import cats
-from cats import _library
+import yinchaku
+from yinchaku import _library
 
-MODULES = ["cats", *(f"cats.{it.name}" for it in pkgutil.iter_modules(cats.__path__))]
+MODULES = ["yinchaku", *(f"yinchaku.{it.name}" for it in pkgutil.iter_modules(yinchaku.__path__))]
 
 # Each function of a text, with that text in each place.
-CALLS = {**OF_TEXT, "normalise, rounded": lambda text: cats.normalise(text, round=True), "round_prices": cats.round_prices}
+CALLS = {**OF_TEXT, "normalise, rounded": lambda text: yinchaku.normalise(text, round=True), "round_prices": yinchaku.round_prices}
 
 
 @pytest.mark.parametrize("name", MODULES)
@@ -41,17 +41,16 @@ def test_there_are_examples():
 
 
 def test_no_name_hides_one_of_python():
-    assert [name for name in cats.__all__ if hasattr(builtins, name) or not hasattr(cats, name)] == []
-    assert len(set(cats.__all__)) == len(cats.__all__)
-    assert cats.round is cats.round_prices
+    assert [name for name in yinchaku.__all__ if hasattr(builtins, name) or not hasattr(yinchaku, name)] == []
+    assert len(set(yinchaku.__all__)) == len(yinchaku.__all__)
     star = {}
-    exec("from cats import *", star)
-    assert "round" not in star and star["Auction"] is cats.Auction
+    exec("from yinchaku import *", star)
+    assert "round" not in star and star["Auction"] is yinchaku.Auction
 
 
 def test_each_command_has_a_function():
     """But `fault`, which the fields of a RefusedText are made of, and `round`, whose name is one of Python's."""
-    assert TAKEN.keys() - {*cats.__all__} == {"fault", "round"}
+    assert TAKEN.keys() - {*yinchaku.__all__} == {"fault", "round"}
 
 
 def test_what_cats_h_declares(root):
@@ -69,7 +68,7 @@ def test_what_cats_h_declares(root):
 
 def test_version(root):
     cited = re.search(r"^version: (\S+)$", (root / "CITATION.cff").read_text(), re.M)
-    assert cats.__version__ == cited[1]
+    assert yinchaku.__version__ == cited[1]
 
 
 @pytest.mark.parametrize("name", MODULES)
@@ -84,9 +83,9 @@ def test_sources_are_of_python_3_8(name):
 
 def test_types_are_there():
     """Each public function and method has types, which can be looked up."""
-    assert os.path.exists(os.path.join(os.path.dirname(cats.__file__), "py.typed"))
-    functions = [it for it in vars(cats).values() if callable(it) and not isinstance(it, type)]
-    functions += [it for it in vars(cats.Auction).values() if callable(it)]
+    assert os.path.exists(os.path.join(os.path.dirname(yinchaku.__file__), "py.typed"))
+    functions = [it for it in vars(yinchaku).values() if callable(it) and not isinstance(it, type)]
+    functions += [it for it in vars(yinchaku.Auction).values() if callable(it)]
     assert len(functions) > 12
     for function in functions:
         assert "return" in (typing.get_type_hints(function) if sys.version_info >= (3, 9) else function.__annotations__)
@@ -104,7 +103,7 @@ def test_texts(call, tmp_path):
             return os.fsencode(path)
 
     with open(path, "rb") as file, mmap.mmap(file.fileno(), 0, access=mmap.ACCESS_READ) as pages:
-        for text in (bytearray(BIDS), memoryview(BIDS), memoryview(BIDS + b" ")[:-1], pages, path, PathOfBytes()):
+        for text in (bytearray(BIDS), memoryview(BIDS), memoryview(BIDS + b" ")[:-1], pages, path, PathOfBytes(), yinchaku.read(path)):
             assert call(text) == wanted
     with pytest.raises(FileNotFoundError):
         call(tmp_path / "none")
@@ -125,76 +124,76 @@ def test_a_str_is_refused(call, text):
 def test_limits():
     for steps in (-1, 2**64):
         with pytest.raises(ValueError):
-            cats.normalise(BIDS, steps)
+            yinchaku.normalise(BIDS, steps)
     for total in (0, -1, 2**64):
         with pytest.raises(ValueError):
-            cats.normalise(BIDS, total=total)
-    assert cats.normalise(BIDS, 2**64 - 1, total=2**64 - 1) == cats.normalise(BIDS)
+            yinchaku.normalise(BIDS, total=total)
+    assert yinchaku.normalise(BIDS, 2**64 - 1, total=2**64 - 1) == yinchaku.normalise(BIDS)
     for limits in ({"steps": 3.0}, {"steps": None}, {"total": 3.0}):
         with pytest.raises(TypeError):
-            cats.normalise(BIDS, **limits)
+            yinchaku.normalise(BIDS, **limits)
 
 
 def test_goods():
     """No good is taken for another one."""
-    assert cats.value(BIDS, (it for it in (1, 0, 1))) == cats.value(BIDS, {0, 1}) == cats.Value(7, (0, 1), ())
-    assert cats.value(BIDS, ()) == cats.Value(0, (), ())
+    assert yinchaku.value(BIDS, (it for it in (1, 0, 1))) == yinchaku.value(BIDS, {0, 1}) == yinchaku.Value(7, (0, 1), ())
+    assert yinchaku.value(BIDS, ()) == yinchaku.Value(0, (), ())
     for good in (2, 65535, 65536, 65537, 2**64, -1):
-        with pytest.raises(cats.NoSuchGood) as lacking:
-            cats.value(BIDS, [0, good, 9])
+        with pytest.raises(yinchaku.NoSuchGood) as lacking:
+            yinchaku.value(BIDS, [0, good, 9])
         assert lacking.value.good == good and str(lacking.value) == f"good {good} out of range"
     for goods in ([0.0], ["0"], "0", 0, None):
         with pytest.raises(TypeError):
-            cats.value(BIDS, goods)
+            yinchaku.value(BIDS, goods)
 
 
 def test_bids():
     """No bid is taken for another one."""
-    wanted = cats.Allocation(Decimal(7), None, None, None, None)
-    assert cats.revenue(BIDS, (it for it in (1, 0, 1))) == cats.revenue(BIDS, {0, 1}) == cats.read(BIDS).revenue([1, 0]) == wanted
-    assert cats.revenue(BIDS, ()) == cats.Allocation(Decimal(0))
+    wanted = yinchaku.Allocation(Decimal(7), None, None, None, None)
+    assert yinchaku.revenue(BIDS, (it for it in (1, 0, 1))) == yinchaku.revenue(BIDS, {0, 1}) == yinchaku.read(BIDS).revenue([1, 0]) == wanted
+    assert yinchaku.revenue(BIDS, ()) == yinchaku.Allocation(Decimal(0))
     for bid in (2, 65536, 2**32 - 1, 2**32, 2**32 + 1, -1):
-        with pytest.raises(cats.NoSuchBid) as lacking:
-            cats.revenue(BIDS, [0, bid, 9])
+        with pytest.raises(yinchaku.NoSuchBid) as lacking:
+            yinchaku.revenue(BIDS, [0, bid, 9])
         assert lacking.value.bid == bid and str(lacking.value) == f"bid {bid} out of range"
     for bids in ([0.0], ["0"], "0", 0, None):
         with pytest.raises(TypeError):
-            cats.revenue(BIDS, bids)
+            yinchaku.revenue(BIDS, bids)
 
 
 def test_bids_that_cannot_both_win():
     text = b"goods 2\nbids 3\ndummy 2\n0 3 0 3 #\n1 1.5 1 3 #\n2 4 1 #\n"
-    assert cats.revenue(text, [0, 2]).revenue == 7
-    assert cats.revenue(text, [2, 1]) == cats.Allocation(None, 1, 2, good=1)
-    assert cats.revenue(text, [2, 1, 0]) == cats.Allocation(None, 0, 1, dummy=1)
+    assert yinchaku.revenue(text, [0, 2]).revenue == 7
+    assert yinchaku.revenue(text, [2, 1]) == yinchaku.Allocation(None, 1, 2, good=1)
+    assert yinchaku.revenue(text, [2, 1, 0]) == yinchaku.Allocation(None, 0, 1, dummy=1)
 
 
 def test_many_dummy_goods():
     """Each has a row, for which a text needs no byte."""
-    found = cats.value(b"goods 1\nbids 1\ndummy 65536\n0 2.50 0 3 #\n", [0])
-    assert len(found.xor) == 65_536 and found.xor[0] == (1, 0, None) and found.xor[2] == (3, Decimal("2.5"), 0)
+    found = yinchaku.value(b"goods 1\nbids 1\ndummy 65536\n0 2.50 0 3 #\n", [0])
+    assert len(found.xor) == 65_536 and found.xor[0] == (0, 0, None) and found.xor[2] == (2, Decimal("2.5"), 0)
 
 
 def test_room():
     """`round_prices` takes room for what it prints, and not for what it might."""
     text = BIDS + b"%" * 1_000_000
     tracemalloc.start()
-    rounded = cats.round_prices(text)
+    rounded = yinchaku.round_prices(text)
     _, most = tracemalloc.get_traced_memory()
     tracemalloc.stop()
-    assert rounded == (text, ()) and most < 2.5 * len(text)
+    assert rounded == (text, []) and most < 2.5 * len(text)
 
 
 def test_outputs_that_are_cut():
     """Each of them is larger than what is tried first."""
     lines = [b"%d 1.00000049 0 #\n" % at for at in range(2_000)]
-    many = cats.round_prices(b"goods 1\nbids 2000\ndummy 0\n" + b"".join(lines))
-    assert len(many.changes) == 2_000 and many.changes[-1] == (2003, "1.00000049", "1") and cats.check(many.text).bids == 2_000
-    found = cats.value(b"goods 1\nbids 1\ndummy 9999\n0 2.50 0 3 #\n", [0])
-    assert len(found.xor) == 9_999 and found == cats.value(b"goods 1\nbids 1\ndummy 9999\n0 2.50 0 3 #\n", [0])
+    many = yinchaku.round_prices(b"goods 1\nbids 2000\ndummy 0\n" + b"".join(lines))
+    assert len(many.changes) == 2_000 and many.changes[-1] == (2003, "1.00000049", "1") and yinchaku.check(many.text).bids == 2_000
+    found = yinchaku.value(b"goods 1\nbids 1\ndummy 9999\n0 2.50 0 3 #\n", [0])
+    assert len(found.xor) == 9_999 and found == yinchaku.value(b"goods 1\nbids 1\ndummy 9999\n0 2.50 0 3 #\n", [0])
     bundle = b" ".join(b"%d" % good for good in range(4_096))
-    with pytest.raises(cats.StepLimit) as limit:
-        cats.normalise(b"goods 4096\nbids 1\ndummy 0\n0 3 " + bundle + b" #\n", 0)
+    with pytest.raises(yinchaku.StepLimit) as limit:
+        yinchaku.normalise(b"goods 4096\nbids 1\ndummy 0\n0 3 " + bundle + b" #\n", 0)
     assert limit.value.bundle == tuple(range(4_096))
 
 
@@ -212,15 +211,15 @@ def test_nothing_is_kept():
 def test_calls_at_once():
     """Calls of other threads, or one in the handler of a signal, change nothing of a call."""
     texts = [BIDS.replace(b" 4 1 ", b" %d %s " % (number, b"0 1" if number % 2 else b"1")) for number in range(50)]
-    wanted = [(cats.show(text), cats.value(text, [number % 2]), cats.revenue(text, [1])) for number, text in enumerate(texts)]
+    wanted = [(yinchaku.show(text), yinchaku.value(text, [number % 2]), yinchaku.revenue(text, [1])) for number, text in enumerate(texts)]
 
     def make_calls(_):
         for number, text in enumerate(texts * 20):
             number %= len(texts)
-            assert (cats.show(text), cats.value(text, [number % 2]), cats.revenue(text, [1])) == wanted[number]
+            assert (yinchaku.show(text), yinchaku.value(text, [number % 2]), yinchaku.revenue(text, [1])) == wanted[number]
 
     made = []
-    signal.signal(signal.SIGALRM, lambda *_: made.append(cats.value(texts[0], [0, 1])))
+    signal.signal(signal.SIGALRM, lambda *_: made.append(yinchaku.value(texts[0], [0, 1])))
     signal.setitimer(signal.ITIMER_REAL, 0.001, 0.001)
     try:
         with ThreadPoolExecutor(8) as pool:
@@ -237,7 +236,7 @@ def test_calls_at_once():
 
 def run_beside(folder, **environment):
     """The path of the library that a package in a folder takes, or the last line of what it prints."""
-    words = [sys.executable, "-B", "-c", "import cats, cats._library; print(cats.check(b'goods 1\\nbids 0\\ndummy 0\\n').goods, cats._library.LIBRARY._name)"]
+    words = [sys.executable, "-B", "-c", "import yinchaku, yinchaku._library; print(yinchaku.check(b'goods 1\\nbids 0\\ndummy 0\\n').goods, yinchaku._library.LIBRARY._name)"]
     environment = {**os.environ, "PYTHONPATH": str(folder), **environment}
     ran = subprocess.run(words, env=environment, cwd=folder, stdout=subprocess.PIPE, stderr=subprocess.STDOUT, universal_newlines=True)
     return ran.stdout.splitlines()[-1]
@@ -246,14 +245,14 @@ def run_beside(folder, **environment):
 @pytest.fixture
 def installed(library, tmp_path):
     """A folder with the package in it, without a library."""
-    shutil.copytree(library / "cats", tmp_path / "lib/cats", ignore=shutil.ignore_patterns("*.so*", "__pycache__"))
+    shutil.copytree(library / "yinchaku", tmp_path / "lib/yinchaku", ignore=shutil.ignore_patterns("*.so*", "__pycache__"))
     return tmp_path / "lib"
 
 
 def test_the_library_is_found(installed, library, tmp_path):
     system = tmp_path / "system"
     system.mkdir()
-    places = [(system, "libcats.so"), (system, "libcats.so.2"), (installed, "libcats.so.2"), (installed, "libcats.so"), (installed / "cats", "libcats.so")]
+    places = [(system, "libcats.so"), (system, "libcats.so.2"), (installed, "libcats.so.2"), (installed, "libcats.so"), (installed / "yinchaku", "libcats.so")]
     for folder, name in places:
         shutil.copy(library / "libcats.so", folder / name)
         found = run_beside(installed, LD_LIBRARY_PATH=str(system))

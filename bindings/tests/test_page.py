@@ -1,4 +1,4 @@
-"""The examples of docs/PYTHON.md print what the page shows."""
+"""The examples of docs/PYTHON.md and docs/RECIPES.md print what the page shows."""
 import os
 import pathlib
 import re
@@ -7,7 +7,7 @@ import sys
 
 import pytest
 
-PAGE = pathlib.Path(__file__).resolve().parent.parent.parent / "docs/PYTHON.md"
+PAGES = [pathlib.Path(__file__).resolve().parent.parent.parent / f"docs/{name}.md" for name in ("PYTHON", "RECIPES")]
 
 # A fenced block: its language, the package that it needs, if any, and its text.
 BLOCK = re.compile(r"^```(\w+) ?(\w*)\n(.*?)^```\n", re.M | re.S)
@@ -15,11 +15,12 @@ BLOCK = re.compile(r"^```(\w+) ?(\w*)\n(.*?)^```\n", re.M | re.S)
 
 def examples():
     """Each block of Python: the package that it needs, its script, and the block of text after it, which it prints."""
-    blocks = BLOCK.findall(PAGE.read_text())
-    for at, (language, needed, script) in enumerate(blocks):
-        if language == "python":
-            assert blocks[at + 1][0] == "text"
-            yield pytest.param(needed, script, blocks[at + 1][2], id=f"block {at}")
+    for page in PAGES:
+        blocks = BLOCK.findall(page.read_text())
+        for at, (language, needed, script) in enumerate(blocks):
+            if language == "python":
+                assert blocks[at + 1][0] == "text"
+                yield pytest.param(needed, script, blocks[at + 1][2], id=f"{page.stem}, block {at}")
 
 
 @pytest.mark.parametrize("needed, script, shown", examples())

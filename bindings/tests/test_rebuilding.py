@@ -10,7 +10,7 @@ from typing import NamedTuple
 
 from texts import text_of
 
-import cats
+import yinchaku
 
 PAIRS = 1_000
 
@@ -69,7 +69,7 @@ def random_pair(choose):
         offers, bidders = with_copy(choose, offers, bidders), bidders + 1
     goods = max(1, goods + choose.choice([0, 0, 0, 0, -1, 1, 2]))
     offers = [offer for offer in edited(choose, goods, offers, bidders) if offer.goods[-1] < goods]
-    return cats.read(left), cats.read(file_of(choose, goods, offers, bidders))
+    return yinchaku.read(left), yinchaku.read(file_of(choose, goods, offers, bidders))
 
 
 # ---- bidders, each as its price for each of its bundles
@@ -79,8 +79,8 @@ def in_order(bundle):
 
 
 def bids_of(auction, dummy):
-    """The bids of the bidder with this dummy good, as number among the dummy goods, or of the OR bidder."""
-    return [bid for bid in auction.bids if bid.dummy == (None if dummy is None else auction.goods + dummy)]
+    """The bids of the bidder with this dummy good, or of the OR bidder."""
+    return [bid for bid in auction.bids if bid.dummy == dummy]
 
 
 def xor_points(bids):
@@ -94,8 +94,8 @@ def canonical_text(goods, or_bidder, xor_bidders):
     """The canonical text of bidders with these points."""
     listed = sorted([(in_order(bundle), price) for bundle, price in sorted(bidder.items(), key=lambda it: in_order(it[0]))] for bidder in xor_bidders)
     bids = [(bundle, or_bidder[bundle], None) for bundle in sorted(or_bidder, key=in_order)]
-    bids += [(bundle, price, goods + dummy) for dummy, points in enumerate(listed) for (_, bundle), price in points]
-    return cats.Auction.from_bids(goods, [(number, price, bundle, dummy) for number, (bundle, price, dummy) in enumerate(bids)]).text
+    bids += [(bundle, price, dummy) for dummy, points in enumerate(listed) for (_, bundle), price in points]
+    return yinchaku.Auction.from_bids(goods, [(price, bundle, dummy) for bundle, price, dummy in bids]).text
 
 
 # ---- the table

@@ -3,7 +3,7 @@ import pytest
 from functions import OF_PAIRS, OF_TEXT
 from texts import BIDS
 
-import cats
+import yinchaku
 
 # Its prices are valid once they are rounded, and the value of one changes.
 FINE = BIDS.replace(b" 3 ", b" 3e0 ").replace(b" 4 ", b" 4.0000004 ")
@@ -14,7 +14,7 @@ def test_fine_prices(call):
     """The value of one changes, which `exact` refuses."""
     assert call(FINE, round=True) == call(BIDS)
     for round, fault in ((False, "line 4: NotANumber"), ("exact", "line 5: TooFine")):
-        with pytest.raises(cats.RefusedText) as refused:
+        with pytest.raises(yinchaku.RefusedText) as refused:
             call(FINE, round=round)
         assert str(refused.value).endswith(fault)
 
@@ -22,7 +22,7 @@ def test_fine_prices(call):
 def test_which_text_is_refused():
     for call in OF_PAIRS:
         for texts, which in (((FINE, BIDS), "first"), ((BIDS, FINE), "second"), ((FINE, FINE), "first")):
-            with pytest.raises(cats.RefusedText) as refused:
+            with pytest.raises(yinchaku.RefusedText) as refused:
                 call(*texts, round="exact")
             assert (refused.value.which, str(refused.value)) == (which, f"{which}: line 5: TooFine")
 
@@ -37,5 +37,5 @@ def test_other_words(call):
 
 def test_the_first_text_is_searched_before_the_second_is_rounded():
     for call in OF_PAIRS:
-        with pytest.raises(cats.StepLimit):
+        with pytest.raises(yinchaku.StepLimit):
             call(BIDS, b"no file", 0, round=True)

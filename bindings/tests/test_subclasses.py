@@ -10,7 +10,7 @@ import pytest
 from functions import OF_TEXT
 from texts import BIDS
 
-import cats
+import yinchaku
 
 # What an object of such a class answers.
 SAID = {
@@ -64,7 +64,7 @@ def texts():
         yield {**made, "path, str": Path(Str(named.name)), "path, bytes": Path(Bytes(os.fsencode(named.name)))}
 
 
-@pytest.mark.parametrize("call", [*OF_TEXT.values(), cats.round_prices], ids=[*OF_TEXT, "round_prices"])
+@pytest.mark.parametrize("call", [*OF_TEXT.values(), yinchaku.round_prices], ids=[*OF_TEXT, "round_prices"])
 def test_texts(call, texts):
     wanted = call(BIDS)
     for name, text in texts.items():
@@ -72,33 +72,33 @@ def test_texts(call, texts):
 
 
 def test_auctions(texts):
-    class Lying(cats.Auction):
+    class Lying(yinchaku.Auction):
         text = property(answer(Bytes(BIDS)))
 
-    auction = cats.read(BIDS)
+    auction = yinchaku.read(BIDS)
     for text in [*texts.values(), Lying(Bytes(BIDS))]:
         assert auction.same_as(text) and not auction.diff(text)
     for text in texts.values():
-        made = cats.read(text)
+        made = yinchaku.read(text)
         assert type(made.text) is bytes and made.text == BIDS and made.bids == auction.bids
 
 
 def test_refused_texts():
-    with pytest.raises(cats.RefusedText) as refused:
-        cats.check(Bytes(BIDS + b"x"))
+    with pytest.raises(yinchaku.RefusedText) as refused:
+        yinchaku.check(Bytes(BIDS + b"x"))
     assert (refused.value.line, refused.value.word, refused.value.text) == (6, 1, b"x")
     with pytest.raises(TypeError):
-        cats.check(Str(BIDS.decode()))
+        yinchaku.check(Str(BIDS.decode()))
     with pytest.raises(TypeError):
-        cats.check(Int(3))
+        yinchaku.check(Int(3))
 
 
 def test_written_paths(tmp_path):
     for path in (Str(tmp_path / "one"), Path(Str(tmp_path / "two")), Path(Bytes(os.fsencode(tmp_path / "three")))):
-        cats.read(BIDS).write(path)
+        yinchaku.read(BIDS).write(path)
     assert [it.read_bytes() for it in tmp_path.iterdir()] == [BIDS] * 3
     with pytest.raises(TypeError):
-        cats.read(BIDS).write(2)
+        yinchaku.read(BIDS).write(2)
 
 
 class Changing(list):
@@ -114,29 +114,29 @@ class Changing(list):
 
 def test_numbers():
     for numbers in ([Int(0), Int(1)], Changing([Int(0), Int(1)]), (Int(it) for it in range(2))):
-        assert cats.value(BIDS, numbers) == cats.value(BIDS, [0, 1])
+        assert yinchaku.value(BIDS, numbers) == yinchaku.value(BIDS, [0, 1])
     for numbers in ([Int(0), Int(1)], Changing([Int(0), Int(1)]), (Int(it) for it in range(2))):
-        assert cats.revenue(BIDS, numbers) == cats.revenue(BIDS, [0, 1])
-    for call, error in ((cats.value, cats.NoSuchGood), (cats.revenue, cats.NoSuchBid)):
+        assert yinchaku.revenue(BIDS, numbers) == yinchaku.revenue(BIDS, [0, 1])
+    for call, error in ((yinchaku.value, yinchaku.NoSuchGood), (yinchaku.revenue, yinchaku.NoSuchBid)):
         for number in (-1, 2, 2**16, 2**32, 2**64, 10**5000, -10**5000):
             with pytest.raises(error, match="^(good|bid) .{1,40} out of range$"):
                 call(BIDS, [Int(number)])
 
 
 def test_limits():
-    assert cats.normalise(BIDS, Int(1000), total=Int(1000)) == cats.normalise(BIDS)
-    with pytest.raises(cats.StepLimit):
-        cats.normalise(BIDS, Int(0))
+    assert yinchaku.normalise(BIDS, Int(1000), total=Int(1000)) == yinchaku.normalise(BIDS)
+    with pytest.raises(yinchaku.StepLimit):
+        yinchaku.normalise(BIDS, Int(0))
     for limits in ({"steps": -1}, {"steps": 2**64}, {"total": 0}, {"total": 2**64}, {"steps": 10**5000}, {"total": 10**5000}, {"total": -10**5000}):
         with pytest.raises(ValueError, match="^(steps|total) is .{1,70}, and not .{1,40}$"):
-            cats.normalise(BIDS, **{name: Int(it) for name, it in limits.items()})
+            yinchaku.normalise(BIDS, **{name: Int(it) for name, it in limits.items()})
 
 
 def test_bids():
     wanted = b"goods 2\nbids 2\ndummy 1\n0\t7.5\t0\t1\t#\n1\t3\t0\t2\t#\n"
-    bids = [(Int(0), Price("7.5"), Changing([Int(1), Int(0)]), None), cats.Bid(Int(1), Int(3), (Int(0),), Int(2))]
-    assert cats.Auction.from_bids(Int(2), Changing(bids)).text == wanted
+    bids = [(Int(0), Price("7.5"), Changing([Int(1), Int(0)]), None), yinchaku.Bid(Int(1), Int(3), (Int(0),), Int(0))]
+    assert yinchaku.Auction.from_bids(Int(2), Changing(bids)).text == wanted
     with pytest.raises(ValueError):
-        cats.Auction.from_bids(Int(2), [cats.Bid(Int(0), Price(3), (Int(2),))])
+        yinchaku.Auction.from_bids(Int(2), [yinchaku.Bid(Int(0), Price(3), (Int(2),))])
     with pytest.raises(ValueError):
-        cats.Auction.from_bids(Int(2), [cats.Bid(Int(0), Price(3), (Int(0),), Int(1))])
+        yinchaku.Auction.from_bids(Int(2), [yinchaku.Bid(Int(0), Price(3), (Int(0),), Int(-1))])

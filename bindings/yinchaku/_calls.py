@@ -1,17 +1,20 @@
-"""The functions of the library, each a call with what it prints as Python data; and `duplicates`, which has one text in memory at a time, and is
-made of calls of `normalise`."""
+"""The functions of the library, each a call with what it prints as Python data; and `duplicates` and `sizes`, which have one text in memory at a
+time, and are made of calls on one text."""
 from __future__ import annotations
 
-from typing import Dict, Iterable, List, Optional, Tuple, TypeVar
+import pathlib
+from typing import Any, Dict, Iterable, Iterator, List, Optional, Tuple, Union
 
-from cats._library import STEPS, Prices, Task
-from cats._tables import Allocation, Difference, Reason, Rounded, Rows, Sizes, SizesRow, Value, Verdict
-from cats._tables import allocation_of, changes_of, difference_of, reason_of, row_of_sizes, rows_of, sizes_of, value_of, verdict_of
-from cats._texts import Rounding, TextOrPath, answer_on, bids_of, goods_of, limits_of, outputs_on
-from cats.errors import CatsError, NoSuchBid, NoSuchGood, RefusedText, StepLimit  # noqa: F401: for the examples
+from yinchaku._files import Given, texts_in
+from yinchaku._library import STEPS, Prices, Task, call
+from yinchaku._rows import Rows
+from yinchaku._tables import Allocation, Difference, Reason, Rounded, Sizes, SizesRow, Value, Verdict
+from yinchaku._tables import allocation_of, changes_of, differences_of, reasons_of, row_of_sizes, sizes_of, value_of, verdict_of
+from yinchaku._texts import Rounding, TextOrPath, answer_on, bytes_of, limits_of, outputs_on, path_given, prices_of
+from yinchaku.errors import CatsError, NoSuchBid, NoSuchGood, RefusedText, StepLimit, error_of  # noqa: F401: for the examples
 
-# A text as the caller has it.
-Given = TypeVar("Given", bound=TextOrPath)
+# Why a file cannot be opened, as the program prints it.
+REASONS = {FileNotFoundError: "no such file", PermissionError: "permission denied"}
 
 
 def check(text: TextOrPath, *, round: Rounding = False) -> Sizes:
@@ -45,14 +48,14 @@ def value(text: TextOrPath, goods: Iterable[int], steps: int = STEPS, *, total: 
 
     >>> auction = b"goods 2\\nbids 3\\ndummy 1\\n0 3 0 #\\n1 4 1 #\\n2 5.5 0 1 2 #\\n"
     >>> value(auction, [0, 1])
-    Value(or_value=Decimal('7'), packing=(0, 1), xor=(XorValue(good=2, value=Decimal('5.5'), bid=2),))
+    Value(or_value=Decimal('7'), packing=(0, 1), xor=(XorValue(dummy=0, value=Decimal('5.5'), bid=2),))
     >>> try:
     ...     value(auction, [0, 2])
     ... except NoSuchGood as fault:
     ...     print(fault.good)
     2
     """
-    return value_of(answer_on(Task.VALUE, [text], round, limits_of(steps, total), goods=goods_of(goods)))
+    return value_of(answer_on(Task.VALUE, [text], round, limits_of(steps, total), goods=goods))
 
 
 def revenue(text: TextOrPath, bids: Iterable[int], *, round: Rounding = False) -> Allocation:
@@ -69,7 +72,7 @@ def revenue(text: TextOrPath, bids: Iterable[int], *, round: Rounding = False) -
     ...     print(fault.bid)
     3
     """
-    return allocation_of(answer_on(Task.REVENUE, [text], round, bids=bids_of(bids)))
+    return allocation_of(answer_on(Task.REVENUE, [text], round, bids=bids))
 
 
 def normalise(text: TextOrPath, steps: int = STEPS, *, total: Optional[int] = None, round: Rounding = False) -> bytes:
@@ -103,7 +106,7 @@ def explain(text: TextOrPath, steps: int = STEPS, *, total: Optional[int] = None
     1 keep 1 ()
     2 packing None (0, 1)
     """
-    return rows_of(answer_on(Task.EXPLAIN, [text], round, limits_of(steps, total)), reason_of)
+    return reasons_of(answer_on(Task.EXPLAIN, [text], round, limits_of(steps, total)))
 
 
 def lp(text: TextOrPath, *, round: Rounding = False) -> bytes:
@@ -127,15 +130,6 @@ def lp(text: TextOrPath, *, round: Rounding = False) -> bytes:
     return answer_on(Task.LP, [text], round)
 
 
-def sizes(text: TextOrPath, steps: int = STEPS, *, total: Optional[int] = None, round: Rounding = False) -> SizesRow:
-    """The sizes of a file and of its canonical file.
-
-    >>> sizes(b"goods 2\\nbids 3\\ndummy 1\\n0 3 0 #\\n1 2 0 #\\n2 4 1 2 #\\n")
-    SizesRow(goods=2, bids=3, or_bids=2, xor_bidders=1, dummies=1, kept=2, kept_or_bids=1, kept_xor_bidders=1)
-    """
-    return row_of_sizes(answer_on(Task.SIZES, [text], round, limits_of(steps, total)))
-
-
 def round_prices(text: TextOrPath, exact: bool = False) -> Rounded:
     """The text with each price rounded to the nearest millionth, ties to even, and the prices whose values changed. If `exact`, a text with
     such a price is refused.
@@ -143,8 +137,8 @@ def round_prices(text: TextOrPath, exact: bool = False) -> Rounded:
     >>> found = round_prices(b"goods 1\\nbids 2\\ndummy 0\\n0 1e3 0 #\\n1 0.0123456 0 #\\n")
     >>> found.text
     b'goods 1\\nbids 2\\ndummy 0\\n0 1000 0 #\\n1 0.012346 0 #\\n'
-    >>> found.changes
-    (Change(line=5, word='0.0123456', price='0.012346'),)
+    >>> list(found.changes)
+    [Change(line=5, word='0.0123456', price='0.012346')]
     """
     out, changes = outputs_on(Task.ROUND, [text], Prices.ROUNDED_EXACTLY if exact else Prices.ROUNDED)
     return Rounded(out, changes_of(changes))
@@ -175,25 +169,63 @@ def diff(
     or (1,) 4 5 1 1
     or (0, 1) None 8.5 None 2
     """
-    return rows_of(answer_on(Task.DIFF, [left, right], round, limits_of(steps, total)), difference_of)
+    return differences_of(answer_on(Task.DIFF, [left, right], round, limits_of(steps, total)))
 
 
 def duplicates(
-    texts: Iterable[Given], steps: int = STEPS, *, total: Optional[int] = None, round: Rounding = False, all: bool = False
-) -> List[Tuple[Given, ...]]:
+    texts: Union[Given, Iterable[Given]], steps: int = STEPS, *, total: Optional[int] = None, round: Rounding = False, all: bool = False,
+    refused: Optional[List[Tuple[Any, Exception]]] = None,
+) -> List[Tuple[Union[Given, pathlib.Path], ...]]:
     """The texts that are the same auction, in groups of two or more, in the order of their first ones. With `all` a text that is alone is a group
-    too. The first text that is refused raises its error, which has it as `source`; a text that is refused is in no group.
+    too. A folder is the files below it. A text that is refused is in no group: it and its error are put into the list `refused`. Without that the
+    first error is raised, and has the text as `source`.
 
     >>> one, other = b"goods 1\\nbids 1\\ndummy 0\\n0 3 0 #\\n", b"goods 1\\nbids 0\\ndummy 0\\n"
     >>> duplicates([one, other, b"% three\\n" + one]) == [(one, b"% three\\n" + one)]
     True
+    >>> refused = []
+    >>> duplicates([one, b"no file"], refused=refused)
+    []
+    >>> refused
+    [(b'no file', RefusedText('line 1: Header'))]
     """
-    groups: Dict[bytes, List[Given]] = {}
-    for text in texts:
+    groups: Dict[bytes, List[Union[Given, pathlib.Path]]] = {}
+    for text in texts_in(texts):
         try:
             canonical = normalise(text, steps, total=total, round=round)
-        except CatsError as fault:
-            fault.source = text
-            raise
-        groups.setdefault(canonical, []).append(text)
+        except (CatsError, OSError) as fault:
+            if isinstance(fault, CatsError):
+                fault.source = text
+            if refused is None:
+                raise
+            refused.append((text, fault))
+        else:
+            groups.setdefault(canonical, []).append(text)
     return [tuple(group) for group in groups.values() if all or len(group) > 1]
+
+
+def sizes(
+    texts: Union[Given, Iterable[Given]], steps: int = STEPS, *, total: Optional[int] = None, round: Rounding = False
+) -> Iterator[SizesRow]:
+    """A row for each text, made when it is taken: its sizes, and those of its canonical file, or why it is refused. A folder is the files below it.
+
+    >>> for row in sizes([b"goods 2\\nbids 3\\ndummy 1\\n0 3 0 #\\n1 2 0 #\\n2 4 1 2 #\\n", b"no file"]):
+    ...     print(row.bids, row.or_bids, row.xor_bidders, row.kept, row.fault)
+    3 2 1 2 None
+    None None None None line 1: Header
+    """
+    limits, prices = limits_of(steps, total), prices_of(round)
+    return (sizes_row(text, limits, prices) for text in texts_in(texts))
+
+
+def sizes_row(given: TextOrPath, limits: Tuple[int, int], prices: Prices) -> SizesRow:
+    path = path_given(given)
+    try:
+        text = bytes_of(given)
+    except OSError as error:
+        reason = REASONS.get(type(error), error.strerror or str(error))
+        return SizesRow._make([*[None] * 8, f"cannot open: {reason}", path])
+    status, out, err = call(Task.SIZES, [text], prices, limits)
+    if not out:
+        raise error_of(status, err)
+    return row_of_sizes(out, path)

@@ -4,12 +4,15 @@ from __future__ import annotations
 import re
 from typing import List, Tuple
 
-from cats._bids import HEADER_LINES, is_significant
-from cats._library import Prices, Status, Task, call
-from cats.errors import NO_PLACE, Place, error_of
+from yinchaku._bids import HEADER_LINES, is_significant
+from yinchaku._library import Prices, Status, Task, call
+from yinchaku.errors import NO_PLACE, Place, error_of
 
 # What is printed of a fault in a text without a name: where it is, its kind and its word, and what helps.
 PLACE = re.compile(rb"1:(\d+):(\d+): .*\n(.*)\n")
+
+# What a hint says of the program, and what it says here.
+PROGRAM, PACKAGE = "`cats round`", "`round=True`"
 
 # The words that are read in the place of a price that cannot be rounded, by the kind of its fault.
 FAULTY = {b"TooLarge": b"1000000000001", b"TooFine": b"0.0000001"}
@@ -18,7 +21,10 @@ FAULTY = {b"TooLarge": b"1000000000001", b"TooFine": b"0.0000001"}
 def place_in(text: bytes) -> Place:
     """The place of the first fault of a text. One that is longer than is read has none."""
     found = PLACE.fullmatch(outputs_of(Task.FAULT, text, Prices.AS_WRITTEN)[0])
-    return Place(int(found[2]), word_at(text, int(found[1]), int(found[2])), found[3].decode("ascii")) if found else NO_PLACE
+    if not found:
+        return NO_PLACE
+    hint = found[3].decode("ascii").replace(PROGRAM, PACKAGE)
+    return Place(int(found[2]), word_at(text, int(found[1]), int(found[2])), hint)
 
 
 def place_in_rounded(text: bytes, line: int, prices: Prices) -> Place:

@@ -1,10 +1,12 @@
 """The exceptions of the package, and how the line of a fault becomes one."""
 from __future__ import annotations
 
+import os
+import pathlib
 import re
-from typing import Any, Callable, NamedTuple, Optional, Tuple
+from typing import Any, Callable, Match, NamedTuple, Optional, Tuple
 
-from cats._library import Status
+from yinchaku._library import Status
 
 # The line of a step limit, by a call that names the bid, as the program prints it.
 HEAVY = re.compile(r"(?:(first|second): )?step limit of (\d+)(?: \((\d+) in all\))? at bid (\d+): ([\d,]*)(?:,\.\. \((\d+) goods\))?")
@@ -24,6 +26,20 @@ def shown(number: int) -> str:
         return str(number)
     power = number.bit_length() - 1
     return f"2**{power} or more" if number > 0 else f"-2**{power} or less"
+
+
+# What is escaped in a path, beside bytes that are not UTF-8: a backslash, and what controls lines, terminals or the direction of writing.
+ESCAPED = re.compile("[\\\\\x00-\x1f\x7f-\x9f\u2028-\u202e\u2066-\u2069]")
+
+
+def shown_path(path: pathlib.Path) -> str:
+    """A path as the program prints it."""
+    return ESCAPED.sub(escaped, str(path)).encode("utf-8", "surrogateescape").decode("utf-8", "backslashreplace")
+
+
+def escaped(found: Match[str]) -> str:
+    names = {"\n": r"\n", "\t": r"\t", "\\": r"\\"}
+    return names.get(found[0]) or "".join(f"\\x{byte:02x}" for byte in found[0].encode())
 
 
 class Place(NamedTuple):
@@ -47,14 +63,21 @@ class HeavyBid(NamedTuple):
 
 
 class CatsError(Exception):
-    """Why a call gave no answer. `which` is `first` or `second` if it is about one of two texts, and else None. `source` is the one of the
-    texts of `duplicates` that it is about, as it was given, and else None."""
+    """Why a call gave no answer. `which` is `first` or `second` if it is about one of two texts, and else None. `path` is that of the file, with
+    which the text begins, or None if the text was bytes. `source` is the one of the texts of `duplicates` that it is about, as it was given,
+    and else None."""
 
     def __init__(self, message: str, which: Optional[str] = None) -> None:
         super().__init__(f"{which}: {message}" if which else message)
         self.which = which
+        self.path: Optional[pathlib.Path] = None
         self.source: object = None
+        self._message = message
         self._words: Tuple[Any, ...] = (message, which)
+
+    def __str__(self) -> str:
+        before = shown_path(self.path) if self.path else self.which
+        return f"{before}: {self._message}" if before else self._message
 
     def __reduce__(self) -> Tuple[Any, ...]:
         """For `pickle`, `copy` and pools of processes: it is made again of the words that it was made of."""
@@ -64,16 +87,28 @@ class CatsError(Exception):
 class RefusedText(CatsError):
     """A text is not a bid file, or is longer than is read: the fault has a `kind`, and a `line` if it belongs to one. `word` is the number of its
     word in the line, from 1, and `text` has the bytes of that word, none at the end of the line or text. `hint` says what helps.
-    These three are looked up in the text when one is first read, and are None if the text is too long."""
+    These three are looked up in the text when one is first read, and are None if the text is too long. `row` is the row of `from_bids`, from 0, that
+    the line was written of, and else None."""
 
     def __init__(self, kind: str, line: Optional[int] = None, which: Optional[str] = None) -> None:
         super().__init__(f"line {line}: {kind}" if line is not None else kind, which)
         self.kind = kind
         self.line = line
+        self.row: Optional[int] = None
         self._words = (kind, line, which)
         # how the call that raises it looks the place up
         self._find: Optional[Callable[[], Place]] = None
         self._place = NO_PLACE
+
+    def __str__(self) -> str:
+        """With a path its place, as that of the program's `fault`. Without memory the word is not looked up."""
+        if self.path is None or self.line is None:
+            return super().__str__()
+        try:
+            word = self.word
+        except MemoryError:
+            word = None
+        return f"{shown_path(self.path)}:{self.line}:{'' if word is None else f'{word}:'} {self.kind}"
 
     @property
     def word(self) -> Optional[int]:
@@ -103,7 +138,9 @@ class RefusedText(CatsError):
 class StepLimit(CatsError):
     """The search on a bundle takes more steps than `steps`, or than are left of `total`. `bundle` has the goods, rising, and `count` is their
     number. If `explain` or `diff` raises it, `bid` is the number of the first bid of the OR bidder on the bundle, and `bundle` has the first 20
-    goods if there are more; else `bid` is None."""
+    goods if there are more; else `bid` is None. `hint` says what helps."""
+
+    hint = "a search may take more with a greater `steps`, and all of them with a greater `total`"
 
     def __init__(self, bundle: Tuple[int, ...], which: Optional[str] = None, heavy: Optional[HeavyBid] = None) -> None:
         super().__init__(step_limit_text(bundle, heavy), which)
@@ -139,6 +176,12 @@ class NoSuchBid(CatsError):
         super().__init__(f"bid {shown(bid)} out of range")
         self.bid = bid
         self._words = (bid,)
+
+
+class WrongSolution(CatsError):
+    """A solution is not one of this auction, or has no known layout. `path` is that of the solution. `hint` says what helps."""
+
+    hint = "with `canonical=True` it is read as one of the canonical text, and else as one of the file"
 
 
 class WantOfMemory(CatsError, MemoryError):

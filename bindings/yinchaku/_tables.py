@@ -1,12 +1,12 @@
-"""What the library prints, as Python data."""
+"""What the library prints, as Python data. Dummy goods are numbered from 0 in all of it."""
 from __future__ import annotations
 
+import pathlib
 from decimal import Decimal
-from typing import Callable, Iterator, List, NamedTuple, Optional, Sequence, Tuple, TypeVar, Union, overload
+from typing import Callable, List, NamedTuple, Optional, Tuple, Union
 
-from cats._bids import price_of
-
-Row = TypeVar("Row", covariant=True)
+from yinchaku._bids import Bid, price_of
+from yinchaku._rows import Rows
 
 
 class Sizes(NamedTuple):
@@ -19,23 +19,26 @@ class Sizes(NamedTuple):
 
 class SizesRow(NamedTuple):
     """The sizes of a file and of its canonical file: `or_bids` are the bids without a dummy good, and `xor_bidders` the dummy goods that some bid
-    has. `kept`, `kept_or_bids` and `kept_xor_bidders` are the bids, OR bids and XOR bidders of the canonical file."""
+    has. `kept`, `kept_or` and `kept_xor` are the bids, OR bids and XOR bidders of the canonical file. `fault` says why a file is refused: then all
+    numbers are None, or, if only a limit of steps stops it, those of the canonical file. `file` is the path, or None of a text without one."""
 
-    goods: int
-    bids: int
-    or_bids: int
-    xor_bidders: int
-    dummies: int
-    kept: int
-    kept_or_bids: int
-    kept_xor_bidders: int
+    goods: Optional[int]
+    bids: Optional[int]
+    or_bids: Optional[int]
+    xor_bidders: Optional[int]
+    dummies: Optional[int]
+    kept: Optional[int]
+    kept_or: Optional[int]
+    kept_xor: Optional[int]
+    fault: Optional[str] = None
+    file: Optional[pathlib.Path] = None
 
 
 class XorValue(NamedTuple):
     """What the XOR bidder with this dummy good offers for a bundle: its greatest price, and the first bid of this price, or None if no bid is
-    inside the bundle. `good` is the number of the dummy good in the file."""
+    inside the bundle."""
 
-    good: int
+    dummy: int
     value: Decimal
     bid: Optional[int]
 
@@ -50,9 +53,8 @@ class Value(NamedTuple):
 
 
 class Reason(NamedTuple):
-    """A bid, and why the canonical text has it or not: `keep`, `zero`, `same`, `inside` or `packing`. `dummy` is the number of its dummy good
-    among the dummy goods, from 0, or None. `kept` is a kept bid's number in the canonical text, or None. `by` are the bids that
-    make another one superfluous."""
+    """A bid, and why the canonical text has it or not: `keep`, `zero`, `same`, `inside` or `packing`. `kept` is a kept bid's number in the canonical
+    text, or None. `by` are the bids that make another one superfluous."""
 
     bid: int
     dummy: Optional[int]
@@ -75,18 +77,25 @@ class Rounded(NamedTuple):
     """A text with its prices rounded, and the prices whose values changed."""
 
     text: bytes
-    changes: Tuple[Change, ...]
+    changes: Rows[Change]
 
 
 class Allocation(NamedTuple):
     """What bids bring as winners: their `revenue`, if all can win together. If not, that is None, and `first` and `second` are the first two that
-    cannot both win: they share the good `good`, or are of one XOR bidder, whose dummy good is `dummy` among the dummy goods, from 0."""
+    cannot both win: they share the good `good`, or are of one XOR bidder, whose dummy good is `dummy`."""
 
     revenue: Optional[Decimal]
     first: Optional[int] = None
     second: Optional[int] = None
     good: Optional[int] = None
     dummy: Optional[int] = None
+
+
+class Winners(NamedTuple):
+    """The bids of a file that win by a solution, and the exact sum of their prices."""
+
+    bids: Rows[Bid]
+    revenue: Decimal
 
 
 class Verdict(NamedTuple):
@@ -103,8 +112,7 @@ class Verdict(NamedTuple):
 class Difference(NamedTuple):
     """A bundle on which a bidder's prices differ. `kind` is `or` or `xor`, the bidder's. `left` and `right` are its prices in the first and in the
     second text, and `left_bid` and `right_bid` the numbers of these bids, or None if there is none. `left_dummy` and `right_dummy` are the XOR
-    bidder's dummy goods, as numbers among the dummy goods, from 0, or None. If the numbers of goods differ, the first row has them as `left`
-    and `right`, and its `kind` is `goods`."""
+    bidder's dummy goods, or None. If the numbers of goods differ, the first row has them as `left` and `right`, and its `kind` is `goods`."""
 
     kind: str
     goods: Tuple[int, ...]
@@ -116,66 +124,36 @@ class Difference(NamedTuple):
     right_bid: Optional[int]
 
 
-class Rows(Sequence[Row]):
-    """The rows of a table. The lines of the table are kept, and a row is made of its line when it is read.
-
-    It is equal to the list of its rows, and `list(rows)` makes that.
-    """
-
-    def __init__(self, lines: Sequence[bytes], row_of: Callable[[bytes], Row]) -> None:
-        self._lines, self._row_of = lines, row_of
-
-    def __len__(self) -> int:
-        return len(self._lines)
-
-    def __iter__(self) -> Iterator[Row]:
-        return map(self._row_of, self._lines)
-
-    @overload
-    def __getitem__(self, at: int) -> Row: ...
-
-    @overload
-    def __getitem__(self, at: slice) -> Rows[Row]: ...
-
-    def __getitem__(self, at: Union[int, slice]) -> Union[Row, Rows[Row]]:
-        if isinstance(at, slice):
-            return Rows(self._lines[at], self._row_of)
-        return self._row_of(self._lines[at])
-
-    def __eq__(self, other: object) -> bool:
-        if isinstance(other, (Rows, list)):
-            return list(self) == list(other)
-        return NotImplemented
-
-    def __repr__(self) -> str:
-        return f"Rows({list(self)})"
-
-
 def sizes_of(printed: bytes) -> Sizes:
     """`goods G bids B dummy D`."""
     goods, bids, dummies = printed.split()[1::2]
     return Sizes(int(goods), int(bids), int(dummies))
 
 
-def row_of_sizes(printed: bytes) -> SizesRow:
-    """A header, and a row of eight numbers, an empty cell, and the name of the text."""
-    return SizesRow(*map(int, printed.split(b"\n")[1].split(b"\t")[:8]))
+def row_of_sizes(printed: bytes, path: Optional[pathlib.Path]) -> SizesRow:
+    """A header, and a row of eight numbers, a fault, and the name of the text."""
+    *numbers, fault, _ = printed.split(b"\n", 1)[1].split(b"\t", 9)
+    return SizesRow._make([*map(number_in, numbers), fault.decode("ascii") or None, path])
 
 
 def value_of(printed: bytes) -> Value:
-    """`or`, the value, and bids; then for each dummy good a line: `xor`, the dummy good, the value, and perhaps a bid."""
+    """`or`, the value, and bids; then for each dummy good, rising, a line: `xor`, its number as a good, the value, and perhaps a bid."""
     (_, price, *packing), *xor = map(bytes.split, printed.splitlines())
-    return Value(price_of(price), tuple(map(int, packing)), tuple(map(xor_value_of, xor)))
+    return Value(price_of(price), tuple(map(int, packing)), tuple(xor_value_of(dummy, words) for dummy, words in enumerate(xor)))
 
 
-def xor_value_of(words: List[bytes]) -> XorValue:
-    _, good, price, *bid = words
-    return XorValue(int(good), price_of(price), int(bid[0]) if bid else None)
+def xor_value_of(dummy: int, words: List[bytes]) -> XorValue:
+    _, _, price, *bid = words
+    return XorValue(dummy, price_of(price), int(bid[0]) if bid else None)
 
 
-def rows_of(printed: bytes, row_of: Callable[[bytes], Row]) -> Rows[Row]:
+def reasons_of(printed: bytes) -> Rows[Reason]:
     """A header, and a line for each row."""
-    return Rows(printed.splitlines()[1:], row_of)
+    return Rows(printed.splitlines()[1:], reason_of, Reason._fields)
+
+
+def differences_of(printed: bytes) -> Rows[Difference]:
+    return Rows(printed.splitlines()[1:], difference_of, Difference._fields)
 
 
 def reason_of(line: bytes) -> Reason:
@@ -219,7 +197,11 @@ def difference_of(line: bytes) -> Difference:
     return Difference(kind.decode("ascii"), numbers_in(goods), value_in(left), value_in(right), *map(number_in, numbers))
 
 
-def changes_of(printed: bytes) -> Tuple[Change, ...]:
+def changes_of(printed: bytes) -> Rows[Change]:
     """For each price whose value changed, `line L: WORD rounded to PRICE`."""
-    words = map(str.split, printed.decode("ascii").splitlines())
-    return tuple(Change(int(line[:-1]), word, price) for _, line, word, _, _, price in words)
+    return Rows(printed.splitlines(), change_of, Change._fields)
+
+
+def change_of(line: bytes) -> Change:
+    _, number, word, _, _, price = line.decode("ascii").split()
+    return Change(int(number[:-1]), word, price)
