@@ -2,6 +2,9 @@
 
 mod heavy_bid;
 
+ghost use Rattle.std.specs.Prelude.{◌≡◌};
+ghost use Rattle.commands.specs.Internal.Pairs.{of_file};
+
 use canon::{CanonFault, Which};
 use cats_text::SendFault;
 pub use heavy_bid::name_bid;
@@ -19,9 +22,23 @@ pub struct HeavyBid {
     pub total: Option<u64>,
 }
 
+/// Why a file could not be opened.
+#[derive(Clone, Copy, PartialEq, Eq, Debug)]
+pub enum Unopened {
+    NoSuchFile,
+    PermissionDenied,
+    IsFolder,
+    /// It is neither a regular file nor a folder.
+    NotAFile,
+    /// For a reason that has no name here, or that is not reported.
+    Other,
+}
+
 /// Why a run failed.
 #[derive(PartialEq, Eq, Debug, Drop)]
 pub enum RunFault {
+    /// A file could not be opened.
+    NotOpened(Which, Unopened),
     /// A file was refused.
     Refused(Which, CanonFault),
     /// A file was refused for a step limit, by a command that names the bid.
@@ -58,5 +75,15 @@ impl From<AllocError> for RunFault {
 
     fn from(_refused: AllocError) -> RunFault {
         RunFault::Refused(Which::Only, CanonFault::Memory)
+    }
+}
+
+/// Says which file a fault is of.
+pub(crate) fn of<T>(which: Which, answer: Result<T, CanonFault>) -> Result<T, RunFault>
+    ensures { result ≡ of_file which answer }
+{
+    match answer {
+        Ok(given) => Ok(given),
+        Err(fault) => Err(RunFault::Refused(which, fault)),
     }
 }

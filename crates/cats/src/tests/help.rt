@@ -1,8 +1,9 @@
 //! The texts of `--help`.
 
 use crate::help::all_help;
-use command_line::help::{CommandHelp, VERSION};
+use command_line::help::VERSION;
 use command_line::request::{NoRequest, parse};
+use requests::help::CommandHelp;
 use std::alloc::{AllocError, Global};
 use std::process::Abort;
 use std::test::Fail;
