@@ -10,7 +10,7 @@ pub use Rattle.cats_text.specs.Faults.{number_word, price_word, bid_end, header_
 pub use Rattle.cats_text.specs.Fed.{Fed, fed_fault}
 pub use Rattle.cats_text.specs.FileLines.{bid_of, put_slot, filled, before_end, real_goods, dummy_in, slots_of, file_of_lines, spelled_file, rising_of}
 pub use Rattle.cats_text.specs.Grammar.{Spells, line_number, SpellsBid, AreDistinct, SpellsNumber, significant_words, SpellsPrice}
-pub use Rattle.cats_text.specs.Internal.Kept.{whole, is_some_bid, number_alone, slot_at, arrived, AreWithin, IsPadded, slot_list, with_goods}
+pub use Rattle.cats_text.specs.Internal.Kept.{whole, is_some_bid, number_alone, slot_at, arrived, AreWithin, IsPadded, arrivals_to, with_goods}
 pub use Rattle.cats_text.specs.Internal.Keywords.{keyword_text, place_value_of}
 pub use Rattle.cats_text.specs.Internal.LeadingToken.{IsLeadingToken, IsNumberSoFar, IsPlain, IsLetter, IsKept, ends_word}
 pub use Rattle.cats_text.specs.Internal.Machine.{summary, word_from, word_with, decimal_with}
@@ -67,7 +67,7 @@ pub use Rattle.goods_set.specs.Lemmas.Members.{has_head, has_tail, has_cases, ha
 pub use Rattle.goods_set.specs.Lemmas.Sizes.{has-with_good, IsRising-with_good}
 pub use Rattle.std.proofs.Common.{◌≡◌, ◌<◌, ℕ, true, List, length, Option, Some, None, Result, Ok, Err, MatchOption, refl, sym, subst, inr, arith, rules, suc}
 pub use Rattle.std.proofs.Common.{zero, ◌+◌, ◌-◌, ◌≤◌, min, Bool, false, [], ◌∷◌, ◌++◌, take, ap, ◌∙◌, inl, ◌⊎◌, length-append, ◌^◌, IfSome, if◌then◌else◌}
-pub use Rattle.std.proofs.Common.{not, ◌&&◌, ◌||◌, cond, eqb, ltb, leb, replicate, set, get_or, add-one, OnOk, nat_lt, map, append-nil, ap₂, append_assoc, ◌≢◌}
+pub use Rattle.std.proofs.Common.{not, ◌&&◌, ◌||◌, cond, eqb, ltb, leb, replicate, set, get_or, add-one, map, append-nil, ap₂, append_assoc, ◌≢◌}
 pub use Rattle.std.proofs.Common.{⊎_elim, fold, drop, IfOk, IsOkAnd, filter, ◌*◌, ◌%◌, slice_range, lt_of_lt_of_le, zero-add, drop-cons, get_or-set_same}
 pub use Rattle.std.proofs.Common.{get_or-set_other, nat_le, option_map, add-zero, codes, decimal, take-take, ◌/◌, vec_len, MutBor, vec_capacity}
 pub use Rattle.std.proofs.KnownBytes.{Appends-trans, Appends-nil, Consumes-trans, Consumes-kept}
@@ -89,7 +89,7 @@ pub use Rattle.std.proofs.lemmas.List.Folds.{find-append, list_any-append, lengt
 pub use Rattle.std.proofs.lemmas.List.Quantifiers.{position-Some}
 pub use Rattle.std.proofs.lemmas.List.Sorted.{sum_by-IsPermutation, list_any-IsPermutation, IsNonDecreasingBy-from_sort}
 pub use Rattle.std.proofs.lemmas.List.Sums.{fold_push, fold-append, take_while-cons, sum_by-cons, fails_before_first, passes_at_first}
-pub use Rattle.std.proofs.lemmas.Option.{slice_get_past, slice_get-get_or, slice_get_cases, slice_get_within}
+pub use Rattle.std.proofs.lemmas.Option.{slice_get-get_or, slice_get_within}
 pub use Rattle.std.proofs.lemmas.Result.{err_from_is_err_and}
 pub use Rattle.std.proofs.lemmas.Slice.Eq.{bytes_eq-Decides}
 pub use Rattle.std.proofs.lemmas.Str.Parse.{IsNumeralModel, numerals_by_fold}

@@ -4,8 +4,8 @@ pub use Rattle.goods_set.specs.Bundles.{IsInside, is_inside, IsRising, has_good,
 pub use Rattle.goods_set.specs.Lemmas.AllBundles.{all_bundles_has, all_bundles_sorted}
 pub use Rattle.goods_set.specs.Lemmas.Members.{inside_refl, has_cases, has-filter, AreAbove-from_has, IsRising-filter, same_from_has, inside_at, has_head}
 pub use Rattle.goods_set.specs.Lemmas.Members.{has_tail}
-pub use Rattle.goods_set.specs.Lemmas.Orders.{bundle_cmp_total, bundle_cmp_refl, bundle_cmp_equal, nat_cmp-lt, larger_last, bundle_cmp_strict}
-pub use Rattle.goods_set.specs.Lemmas.Sizes.{IsNextGood, good_from-Some, good_from-None, length_inside, same_from_length}
+pub use Rattle.goods_set.specs.Lemmas.Orders.{bundle_cmp_total, bundle_cmp_refl, bundle_cmp_equal, nat_cmp-lt, bundle_cmp_strict}
+pub use Rattle.goods_set.specs.Lemmas.Sizes.{IsNextGood, good_from-Some, good_from-None}
 pub use Rattle.goods_set.specs.Lemmas.Sorted.{same_from_contains}
 pub use Rattle.goods_set.specs.Lemmas.Words.{range_has, range_rises}
 pub use Rattle.goods_set.specs.Orders.{bundle_cmp}
@@ -14,11 +14,11 @@ pub use Rattle.prune.specs.Faults.{IfStepLimit}
 pub use Rattle.prune.specs.InOrder.{IsBefore, IsInOrder}
 pub use Rattle.prune.specs.Internal.BestBids.{bid_cmp, AreBestBids}
 pub use Rattle.prune.specs.Internal.Fingerprints.{AreMarks, mark_of}
-pub use Rattle.prune.specs.Internal.Listings.{indices_at, dominates, dominates_at, first_dominating_index, listed_at, AreListed, NoneInsideFrom, MayBePosting}
-pub use Rattle.prune.specs.Internal.Listings.{IsListed, IsPosting, AreGoodsOf, IsBehind, ComesNext, lists_of, indices_of, IsIndexOf}
+pub use Rattle.prune.specs.Internal.Listings.{indices_at, dominates, dominates_at, first_dominating_index, listed_at, AreListed, MayBePosting}
+pub use Rattle.prune.specs.Internal.Listings.{IsListed, IsPosting, IsBehind, ComesNext, lists_of, indices_of, IsIndexOf}
 pub use Rattle.prune.specs.Internal.Reaching.{found_inside, steps_for, IsFinderOf}
 pub use Rattle.prune.specs.Lemmas.Fates.{or_fate-push, xor_fate-push, atoms_below-push, or_fate-reaches, xor_fate-reaches}
-pub use Rattle.prune.specs.Lemmas.InOrder.{before_itself, before_not_inside, same_bundle_same_atom}
+pub use Rattle.prune.specs.Lemmas.InOrder.{before_not_inside, same_bundle_same_atom}
 pub use Rattle.prune.specs.Lemmas.KeptBids.{contains_from_has, has_from_contains, all_nonempty, on_bundles, xor_kept_are_points, xor_points_same}
 pub use Rattle.prune.specs.Lemmas.KeptBids.{or_kept_are_points, or_points_same, xor_points_any_goods, or_points_any_goods, just_bundles, xor_points_are_atoms}
 pub use Rattle.prune.specs.Lemmas.KeptBids.{or_points_are_atoms, xor_points_keep_values, or_points_keep_values, xor_points_again, or_points_again}
@@ -46,7 +46,7 @@ pub use Rattle.std.proofs.lemmas.Bool.{and_from, and_right, eqb-true, eq-eqb, le
 pub use Rattle.std.proofs.lemmas.Bool.Decides.{Decides-eqb}
 pub use Rattle.std.proofs.lemmas.Cmp.{on_total, then_total, back_total, nat_cmp_total}
 pub use Rattle.std.proofs.lemmas.Fn.{filter_same, dedup_same, always_returns_same}
-pub use Rattle.std.proofs.lemmas.Grind.{common_steps, get_or_default_zero}
+pub use Rattle.std.proofs.lemmas.Grind.{common_steps}
 pub use Rattle.std.proofs.lemmas.List.{length-map, get_or-map, get_or-take, get_or_default, length-take, take-map, map_push, get_or_append_left, get_or_push}
 pub use Rattle.std.proofs.lemmas.List.{length_push, take_more, take_all, take-set-le, take_more_set, drop-set-lt, drop_more, take-append-drop, map-append}
 pub use Rattle.std.proofs.lemmas.List.{drop_all, map-set, get_or_read, length-take-le}

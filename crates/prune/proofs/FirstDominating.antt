@@ -3,9 +3,9 @@ use Rattle.prune.proofs.Common.{rules, ◌≡◌, ℕ, ◌+◌, ◌<◌, ◌≤�
 use Rattle.prune.proofs.Common.{Some, None, All, AllPairs, Contains, is_some, list_any, range_with_len, cases_lt, cases_eq, both_ways, and_parts}
 use Rattle.prune.proofs.Common.{false_from_ne_true, get_or-take, get_or_default, length-take, take-map, All-contains, fill_by_all, IsRising, has_good}
 use Rattle.prune.proofs.Common.{good_from, IsNextGood, good_from-Some, Atom, atoms_of, Posting, indices_at, is_inside_at, dominates, dominates_at}
-use Rattle.prune.proofs.Common.{first_dominating_index, listed_at, AreListed, NoneInsideFrom, atom_at, MayBePosting, is_some-find_map, first_in_range}
+use Rattle.prune.proofs.Common.{first_dominating_index, listed_at, AreListed, atom_at, MayBePosting, is_some-find_map, first_in_range}
 use Rattle.prune.proofs.Common.{none_in_range}
-use Rattle.prune.proofs.ListedAtoms.{is_listed, listed_before, postings_right}
+use Rattle.prune.proofs.ListedAtoms.{listed_before, postings_right}
 
 -- there is one exactly if an atom dominates the bid
 pub is_some-first_dominating : (atoms : List (Atom (List ℕ))) (bundle : List ℕ) (price : ℕ)
@@ -48,16 +48,15 @@ IsFirstSoFar-more lists atoms bundle price from good first next r e small found 
     search (rules, get_or-take, cases_lt, All-contains, both_ways, cases_eq)
 
 -- all goods are done
-module _ (lists : List (List Posting)) (listed : ℕ) (atoms : List (Atom (List ℕ))) (bundle : List ℕ) (price from first : ℕ) (a : AreListed lists listed atoms)
-    (unlisted : NoneInsideFrom listed atoms bundle) (done : good_from bundle from ≡ None) (h : IsFirstSoFar lists atoms bundle price from first)
+module _ (lists : List (List Posting)) (atoms : List (Atom (List ℕ))) (bundle : List ℕ) (price from first : ℕ) (a : AreListed lists atoms)
+    (done : good_from bundle from ≡ None) (h : IsFirstSoFar lists atoms bundle price from first)
   where
     none_earlier : (index : ℕ) → index < first → dominates_at atoms bundle price index ≡ false
     none_earlier index l =
         let fits = h.within in
         false_from_ne_true (dominates_at atoms bundle price index) (λ t.
         let inside = (and_parts (leb price (atom_at atoms index).price) (is_inside_at atoms bundle index) t).1 in
-        let at = listed_before lists listed atoms bundle from index a done
-        (is_listed listed atoms bundle unlisted index (omega (arith, fits, l)) inside) inside in
+        let at = listed_before lists atoms bundle from index a done (omega (arith, fits, l)) inside in
         both_ways (dominates_at atoms bundle price index) (h.none at.0 index at.1 at.2 at.3 l) t)
 
     pub IsFirstSoFar-some : first < length atoms → Some first ≡ first_dominating_index atoms bundle price
@@ -68,9 +67,9 @@ module _ (lists : List (List Posting)) (listed : ℕ) (atoms : List (Atom (List 
 
 -- ---- what is listed of the first so many atoms
 
-pub postings_before : {S : Type 0} (goods : S → List ℕ) (lists : List (List Posting)) (listed : ℕ) (atoms : List (Atom S)) (good first : ℕ)
-    (postings : List Posting) → AreListed lists listed (atoms_of goods atoms) → postings ≡ listed_at lists good
+pub postings_before : {S : Type 0} (goods : S → List ℕ) (lists : List (List Posting)) (atoms : List (Atom S)) (good first : ℕ)
+    (postings : List Posting) → AreListed lists (atoms_of goods atoms) → postings ≡ listed_at lists good
     → All (MayBePosting (atoms_of goods (take first atoms))) postings
-postings_before goods lists listed atoms good first postings a e k d l within =
-    let right = postings_right lists listed (atoms_of goods atoms) good postings a e k d l in
+postings_before goods lists atoms good first postings a e k d l within =
+    let right = postings_right lists (atoms_of goods atoms) good postings a e k d l in
     grind (arith, common_steps, length-take, take-map, get_or-take, right)

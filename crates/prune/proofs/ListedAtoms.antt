@@ -3,16 +3,16 @@
 use Rattle.prune.proofs.Common.{rules, ◌≡◌, ◌≢◌, ℕ, zero, suc, ◌+◌, ◌<◌, ◌≤◌, Bool, true, false, cond, leb, take, append_assoc, eqb, ◌⊎◌, inl, inr, ⊎_elim}
 use Rattle.prune.proofs.Common.{List, [], ◌∷◌, ◌++◌, length, map, get_or, refl, sym, ap, ◌∙◌, subst, arith, Some, None, nat_cmp, All, AllPairs, Contains}
 use Rattle.prune.proofs.Common.{IsPermutation, filter, range_with_len, slice_get, IsSorted, cases_lt, cases_eq, both_ways, and_parts, and_from, and_right}
-use Rattle.prune.proofs.Common.{false_from_ne_true, eqb-true, eq-eqb, le-leb, lt-leb, Decides-eqb, map_push, get_or-map, get_or_append_left, get_or_push}
+use Rattle.prune.proofs.Common.{eqb-true, eq-eqb, le-leb, lt-leb, Decides-eqb, map_push, get_or-map, get_or_append_left, get_or_push}
 use Rattle.prune.proofs.Common.{length-map, length_push, filter_more, Contains-get_or, All-append, All-contains, All-weaker, Contains-append_left}
 use Rattle.prune.proofs.Common.{Contains-push, Contains-append_right, Contains-push_cases, slice_get-get_or, slice_get_past, AllPairs-from_increasing}
 use Rattle.prune.proofs.Common.{AllPairs-filter, all_pairs_push, Contains-permutation, IsPermutation-sym, IsNonDecreasingBy-from_sort}
 use Rattle.prune.proofs.Common.{IsDistinct-IsPermutation, IsStrictlyIncreasing-from_distinct, IsDistinct-from_AllPairs, AreAbove, IsRising, has_good}
 use Rattle.prune.proofs.Common.{good_from, contains_from_has, has_from_contains, has_cases, has-filter, AreAbove-from_has, IsRising-filter, same_from_has}
-use Rattle.prune.proofs.Common.{inside_at, AreMarks, larger_last, IsNextGood, good_from-Some, good_from-None, length_inside, same_from_length, range_has}
-use Rattle.prune.proofs.Common.{range_rises, Atom, AllPairs-head, AllPairs-tail, AllPairs-append, Contains-map, Contains-unmap, Posting, IsInOrder, listed_at}
-use Rattle.prune.proofs.Common.{indices_at, is_inside_at, dominates_at, IsListed, IsPosting, AreListed, AreGoodsOf, IsBehind, atom_at, NoneInsideFrom}
-use Rattle.prune.proofs.Common.{before_itself, indices_inside, Contains-filter, Contains-filter_parts, All-from_Contains}
+use Rattle.prune.proofs.Common.{inside_at, AreMarks, IsNextGood, good_from-Some, good_from-None, range_has}
+use Rattle.prune.proofs.Common.{range_rises, Atom, AllPairs-head, AllPairs-tail, AllPairs-append, Contains-map, Contains-unmap, Posting, listed_at}
+use Rattle.prune.proofs.Common.{indices_at, is_inside_at, dominates_at, IsListed, IsPosting, AreListed, atom_at}
+use Rattle.prune.proofs.Common.{indices_inside, Contains-filter, Contains-filter_parts, All-from_Contains}
 use Rattle.std.specs.Cmp.{both_ways as same_test}
 
 -- ---- lists of indices
@@ -21,13 +21,13 @@ abbrev pub index_of : Posting → ℕ
 index_of posting = posting.index
 
 -- what is listed at the index is right
-pub posting_at : (lists : List (List Posting)) (listed : ℕ) (atoms : List (Atom (List ℕ))) (good index : ℕ) → AreListed lists listed atoms
+pub posting_at : (lists : List (List Posting)) (atoms : List (Atom (List ℕ))) (good index : ℕ) → AreListed lists atoms
     → Contains (indices_at lists good) index → (posting : Posting) × IsPosting atoms posting × (index ≡ posting.index)
-posting_at lists listed atoms good index a c = let r = Contains-unmap index_of (listed_at lists good) index c in (r.0, a.right good r.0 r.1, r.2)
+posting_at lists atoms good index a c = let r = Contains-unmap index_of (listed_at lists good) index c in (r.0, a.right good r.0 r.1, r.2)
 
-pub index_within : (lists : List (List Posting)) (listed : ℕ) (atoms : List (Atom (List ℕ))) (good index : ℕ) → AreListed lists listed atoms
+pub index_within : (lists : List (List Posting)) (atoms : List (Atom (List ℕ))) (good index : ℕ) → AreListed lists atoms
     → Contains (indices_at lists good) index → index < length atoms
-index_within lists listed atoms good index a c = let r = posting_at lists listed atoms good index a c in let l = r.1.within in omega (arith, r.2)
+index_within lists atoms good index a c = let r = posting_at lists atoms good index a c in let l = r.1.within in omega (arith, r.2)
 
 rising_from_pairs : (xs : List ℕ) → AllPairs (λ i j. i < j) xs → IsRising xs
 rising_from_pairs [] s = tt
@@ -57,11 +57,11 @@ pub record IsFinding (lists : List (List Posting)) (atoms : List (Atom (List ℕ
   pub earlier : All (λ index. (good : ℕ) × (good < from) × Contains (indices_at lists good) index) found
   pub once : AllPairs (λ one other. one ≢ other) found
 
-pub IsFinding-more : (lists : List (List Posting)) (listed : ℕ) (atoms : List (Atom (List ℕ))) (bundle : List ℕ) (from good : ℕ) (found more : List ℕ)
-    → AreListed lists listed atoms → IsRising bundle → good_from bundle from ≡ Some good
+pub IsFinding-more : (lists : List (List Posting)) (atoms : List (Atom (List ℕ))) (bundle : List ℕ) (from good : ℕ) (found more : List ℕ)
+    → AreListed lists atoms → IsRising bundle → good_from bundle from ≡ Some good
     → more ≡ found ++ filter (is_inside_at atoms bundle) (indices_at lists good)
     → IsFinding lists atoms bundle from found → IsFinding lists atoms bundle (good + 1) more
-IsFinding-more lists listed atoms bundle from good found more a r next e f =
+IsFinding-more lists atoms bundle from good found more a r next e f =
     let p = is_inside_at atoms bundle in
     let new = filter p (indices_at lists good) in
     let n : IsNextGood bundle from good = good_from-Some bundle from good r next in
@@ -69,7 +69,7 @@ IsFinding-more lists listed atoms bundle from good found more a r next e f =
     rw e (record {
       sound = All-append (λ index. (p index ≡ true) × (index < length atoms)) found new f.sound
           (All-from_Contains (λ index. (p index ≡ true) × (index < length atoms)) new
-          (λ index c. let t = Contains-filter_parts p (indices_at lists good) index c in (t.1, index_within lists listed atoms good index a t.0)));
+          (λ index c. let t = Contains-filter_parts p (indices_at lists good) index c in (t.1, index_within lists atoms good index a t.0)));
       complete = λ g index h l c t.
           ⊎_elim (λ (q : g ≡ good). Contains-append_right found new index
           (Contains-filter p (indices_at lists good) index (subst (λ m. Contains (indices_at lists m) index) q c) t))
@@ -127,16 +127,11 @@ none_there goods bundle i e r l m = search (rules, next_behind, slice_get_past)
 pub behind_next : (goods bundle : List ℕ) (i : ℕ) → goods ≡ bundle → get_or goods i 0 + 1 ≡ behind_first bundle (i + 1)
 behind_next goods bundle i e = search rules
 
--- an atom inside the bundle is listed
-pub is_listed : (listed : ℕ) (atoms : List (Atom (List ℕ))) (bundle : List ℕ) → NoneInsideFrom listed atoms bundle → (index : ℕ) → index < length atoms
-    → is_inside_at atoms bundle index ≡ true → index < listed
-is_listed listed atoms bundle unlisted index l t = search (rules, both_ways, cases_lt)
-
 -- the good at which an atom inside the bundle is listed has been visited
-pub listed_before : (lists : List (List Posting)) (listed : ℕ) (atoms : List (Atom (List ℕ))) (bundle : List ℕ) (from index : ℕ) → AreListed lists listed atoms
-    → good_from bundle from ≡ None → index < listed → is_inside_at atoms bundle index ≡ true → (good : ℕ) × (has_good bundle good ≡ true) × (good < from)
+pub listed_before : (lists : List (List Posting)) (atoms : List (Atom (List ℕ))) (bundle : List ℕ) (from index : ℕ) → AreListed lists atoms
+    → good_from bundle from ≡ None → index < length atoms → is_inside_at atoms bundle index ≡ true → (good : ℕ) × (has_good bundle good ≡ true) × (good < from)
     × Contains (indices_at lists good) index
-listed_before lists listed atoms bundle from index a none l t =
+listed_before lists atoms bundle from index a none l t =
     let at = a.each index l in
     let of_bundle = inside_at (atom_at atoms index).bundle bundle at.good t at.has in (
       at.good,
@@ -150,10 +145,10 @@ eqb_flips : (x y : ℕ) → eqb x y ≡ eqb y x
 eqb_flips x y = same_test (eqb x y) (eqb y x) (λ t. eq-eqb y x (sym (eqb-true x y t))) (λ t. eq-eqb x y (sym (eqb-true y x t)))
 
 -- all goods are done: the indices found are those of the atoms inside the bundle
-pub IsFinding-all : (lists : List (List Posting)) (listed : ℕ) (atoms : List (Atom (List ℕ))) (bundle : List ℕ) (from : ℕ) (found sorted : List ℕ)
-    → AreListed lists listed atoms → NoneInsideFrom listed atoms bundle → good_from bundle from ≡ None → IsFinding lists atoms bundle from found
+pub IsFinding-all : (lists : List (List Posting)) (atoms : List (Atom (List ℕ))) (bundle : List ℕ) (from : ℕ) (found sorted : List ℕ)
+    → AreListed lists atoms → good_from bundle from ≡ None → IsFinding lists atoms bundle from found
     → IsPermutation found sorted → IsSorted nat_cmp sorted → sorted ≡ indices_inside atoms bundle
-IsFinding-all lists listed atoms bundle from found sorted a unlisted none f p up =
+IsFinding-all lists atoms bundle from found sorted a none f p up =
     let test = is_inside_at atoms bundle in
     let all = range_with_len 0 (length atoms) in
     let distinct = IsDistinct-IsPermutation eqb eqb_flips found sorted p (IsDistinct-from_AllPairs Decides-eqb found f.once) in
@@ -168,51 +163,14 @@ IsFinding-all lists listed atoms bundle from found sorted a unlisted none f p up
     (λ g h.
     let t = and_parts (test g) (has_good all g) (sym (has-filter test all g) ∙ h) in
     let r = has_range 0 (length atoms) g t.1 in
-    let within : g < listed = is_listed listed atoms bundle unlisted g (omega (arith, r.1)) t.0 in
-    let l = listed_before lists listed atoms bundle from g a none within t.0 in
+    let l = listed_before lists atoms bundle from g a none (omega (arith, r.1)) t.0 in
     has_from_contains sorted g (Contains-permutation found sorted g p (f.complete l.0 g l.1 l.2 l.3 t.0)))
-
--- ---- one more atom
-
-pub AreListed-push : (lists : List (List Posting)) (listed : ℕ) (atoms : List (Atom (List ℕ))) (a : Atom (List ℕ)) → AreListed lists listed atoms
-    → AreListed lists listed (atoms ++ a ∷ [])
-AreListed-push lists listed atoms a h =
-    let d : Atom (List ℕ) = record { bundle = []; price = 0 } in
-    let long = length_push atoms a in
-    let most : listed ≤ length atoms = h.most in
-    record {
-      most = omega arith;
-      each = λ index l.
-          subst (λ (b : Atom (List ℕ)). IsListed lists b.bundle index) (sym (get_or_append_left atoms (a ∷ []) d index (omega arith))) (h.each index l);
-      right = λ g posting c. still_right (h.right g posting c);
-      no_more = h.no_more;
-      rising = h.rising;
-      one_good = h.one_good;
-    }
-  where
-    still_right : {posting : Posting} → IsPosting atoms posting → IsPosting (atoms ++ a ∷ []) posting
-    still_right {posting} r =
-        let l : posting.index < length atoms = r.within in
-        let e : atom_at (atoms ++ a ∷ []) posting.index ≡ atom_at atoms posting.index =
-        get_or_append_left atoms (a ∷ []) (record { bundle = []; price = 0 }) posting.index l in
-        let long = length_push atoms a in
-        record {
-          within = omega arith;
-          marks = subst (λ (b : Atom (List ℕ)). AreMarks b.bundle posting.fingerprint) (sym e) r.marks;
-        }
-
--- ---- a good of each atom
-
--- of one more atom
-pub AreGoodsOf-push : (goods : List ℕ) (atoms : List (Atom (List ℕ))) (good : ℕ) (a : Atom (List ℕ)) → has_good a.bundle good ≡ true → AreGoodsOf goods atoms
-    → AreGoodsOf (goods ++ good ∷ []) (atoms ++ a ∷ [])
-AreGoodsOf-push goods atoms good a has h = search (rules, length_push, get_or_append_left, get_or_push, cases_lt)
 
 -- ---- one more atom is listed
 
-module _ (lists more : List (List Posting)) (listed : ℕ) (atoms : List (Atom (List ℕ))) (good : ℕ) (new : Posting) (h : AreListed lists listed atoms)
+module _ (lists more : List (List Posting)) (atoms : List (Atom (List ℕ))) (good : ℕ) (new : Posting) (h : AreListed lists atoms)
     (others : (g : ℕ) → (g ≡ good → ⊥) → listed_at more g ≡ listed_at lists g) (there : listed_at more good ≡ listed_at lists good ++ new ∷ [])
-    (index : new.index ≡ listed)
+    (index : new.index ≡ length atoms)
   where
     -- what is listed now was listed before, or is new
     posting_cases : (g : ℕ) (posting : Posting) → Contains (listed_at more g) posting → Contains (listed_at lists g) posting ⊎ ((g ≡ good) × (new ≡ posting))
@@ -224,7 +182,7 @@ module _ (lists more : List (List Posting)) (listed : ℕ) (atoms : List (Atom (
         (λ (n : g ≡ good → ⊥). inl (subst (λ (zs : List Posting). Contains zs posting) (others g n) c))
         (cases_eq g good)
 
-    index_cases : (g spot : ℕ) → Contains (indices_at more g) spot → Contains (indices_at lists g) spot ⊎ ((g ≡ good) × (spot ≡ listed))
+    index_cases : (g spot : ℕ) → Contains (indices_at more g) spot → Contains (indices_at lists g) spot ⊎ ((g ≡ good) × (spot ≡ length atoms))
     index_cases g spot c =
         let r = Contains-unmap index_of (listed_at more g) spot c in
         ⊎_elim (λ (k : Contains (listed_at lists g) r.0). inl
@@ -239,63 +197,65 @@ module _ (lists more : List (List Posting)) (listed : ℕ) (atoms : List (Atom (
         (λ (n : g ≡ good → ⊥). subst (λ (zs : List Posting). Contains (map index_of zs) spot) (sym (others g n)) c)
         (cases_eq g good)
 
-    here : Contains (indices_at more good) (listed)
+    here : Contains (indices_at more good) (length atoms)
     here = subst (λ n. Contains (indices_at more good) n) index (subst (λ (zs : List Posting). Contains (map index_of zs) new.index) (sym there)
         (subst (λ (zs : List ℕ). Contains zs new.index) (sym (map_push index_of (listed_at lists good) new)) (Contains-push (indices_at lists good) new.index)))
 
-    pub AreListed-more : (a : Atom (List ℕ)) → a ≡ atom_at atoms listed → listed < length atoms → has_good a.bundle good ≡ true
-        → AreMarks a.bundle new.fingerprint → AreListed more (listed + 1) atoms
-    AreListed-more a is next has marks =
-        let at : atom_at atoms new.index ≡ a = ap (atom_at atoms) index ∙ sym is in
+    pub AreListed-more : (a : Atom (List ℕ)) → has_good a.bundle good ≡ true → AreMarks a.bundle new.fingerprint → AreListed more (atoms ++ a ∷ [])
+    AreListed-more a has marks =
+        let long = length_push atoms a in
         record {
-          most = omega arith;
           each = λ spot l.
               ⊎_elim
-              (λ (m : spot < listed).
+              (λ (m : spot < length atoms).
               let at = h.each spot m in
-              record { good = at.good; has = at.has; listed = still at.good spot at.listed })
-              (λ (m : listed ≤ spot).
-              let e : listed ≡ spot = omega arith in
-              subst (λ n. IsListed more (atom_at atoms n).bundle n) e
-              (record { good = good; has = ap (λ (b : Atom (List ℕ)). has_good b.bundle good) (sym is) ∙ has; listed = here }))
-              (cases_lt spot listed);
+              subst (λ (b : Atom (List ℕ)). IsListed more b.bundle spot) (sym (before spot m))
+              (record { good = at.good; has = at.has; listed = still at.good spot at.listed }))
+              (λ (m : length atoms ≤ spot).
+              let e : length atoms ≡ spot = omega (arith, l, long) in
+              subst (λ n. IsListed more (atom_at (atoms ++ a ∷ []) n).bundle n) e
+              (record { good = good; has = ap (λ (b : Atom (List ℕ)). has_good b.bundle good) last ∙ has; listed = here }))
+              (cases_lt spot (length atoms));
           right = λ g posting c.
-              ⊎_elim (λ (k : Contains (listed_at lists g) posting). h.right g posting k)
-              (λ (k : (g ≡ good) × (new ≡ posting)). subst (λ (z : Posting). IsPosting atoms z) k.1 (record {
-                within = omega arith;
-                marks = subst (λ (b : Atom (List ℕ)). AreMarks b.bundle new.fingerprint) (sym at) marks;
+              ⊎_elim (λ (k : Contains (listed_at lists g) posting).
+              let r = h.right g posting k in
+              let l : posting.index < length atoms = r.within in
+              record {
+                within = omega (arith, l, long);
+                marks = subst (λ (b : Atom (List ℕ)). AreMarks b.bundle posting.fingerprint) (sym (before posting.index l)) r.marks;
+              })
+              (λ (k : (g ≡ good) × (new ≡ posting)). subst (λ (z : Posting). IsPosting (atoms ++ a ∷ []) z) k.1 (record {
+                within = omega (arith, index, long);
+                marks = subst (λ (b : Atom (List ℕ)). AreMarks b.bundle new.fingerprint) (sym (ap (atom_at (atoms ++ a ∷ [])) index ∙ last)) marks;
               }))
               (posting_cases g posting c);
-          no_more = λ g spot c.
-              ⊎_elim (λ (k : Contains (indices_at lists g) spot). let l = h.no_more g spot k in omega (arith, l))
-              (λ (k : (g ≡ good) × (spot ≡ listed)). let e : spot ≡ listed = k.1 in omega arith)
-              (index_cases g spot c);
           rising = λ g.
               ⊎_elim
               (λ (e : g ≡ good). subst (λ (zs : List ℕ). AllPairs (λ one other. one < other) zs) (sym (ap (λ m. indices_at more m) e ∙ ap (map index_of) there
               ∙ map_push index_of (listed_at lists good) new))
               (all_pairs_push (λ one other. one < other) (indices_at lists good) new.index (h.rising good) (λ k d l.
-              let w = h.no_more good (get_or (indices_at lists good) k d) (Contains-get_or (indices_at lists good) k d l) in
-              omega (arith, w))))
+              let w = index_within lists atoms good (get_or (indices_at lists good) k d) h (Contains-get_or (indices_at lists good) k d l) in
+              omega (arith, w, index))))
               (λ (n : g ≡ good → ⊥). subst (λ (zs : List Posting). AllPairs (λ one other. one < other) (map index_of zs)) (sym (others g n)) (h.rising g))
               (cases_eq g good);
           one_good = λ g o spot c k. both g o spot (index_cases g spot c) (index_cases o spot k);
         }
       where
-        both : (g o spot : ℕ) → Contains (indices_at lists g) spot ⊎ ((g ≡ good) × (spot ≡ listed)) → Contains (indices_at lists o) spot
-            ⊎ ((o ≡ good) × (spot ≡ listed)) → g ≡ o
+        d : Atom (List ℕ)
+        d = record { bundle = []; price = 0 }
+
+        before : (spot : ℕ) → spot < length atoms → atom_at (atoms ++ a ∷ []) spot ≡ atom_at atoms spot
+        before spot l = get_or_append_left atoms (a ∷ []) d spot l
+
+        last : atom_at (atoms ++ a ∷ []) (length atoms) ≡ a
+        last = get_or_push atoms a d (length atoms) refl
+
+        both : (g o spot : ℕ) → Contains (indices_at lists g) spot ⊎ ((g ≡ good) × (spot ≡ length atoms)) → Contains (indices_at lists o) spot
+            ⊎ ((o ≡ good) × (spot ≡ length atoms)) → g ≡ o
         both g o spot (inl c) (inl k) = h.one_good g o spot c k
-        both g o spot (inl c) (inr k) = let l = h.no_more g spot c in let e : spot ≡ listed = k.1 in absurd (omega (arith, l))
-        both g o spot (inr c) (inl k) = let l = h.no_more o spot k in let e : spot ≡ listed = c.1 in absurd (omega (arith, l))
+        both g o spot (inl c) (inr k) = let l = index_within lists atoms g spot h c in let e : spot ≡ length atoms = k.1 in absurd (omega (arith, l))
+        both g o spot (inr c) (inl k) = let l = index_within lists atoms o spot h k in let e : spot ≡ length atoms = c.1 in absurd (omega (arith, l))
         both g o spot (inr c) (inr k) = c.0 ∙ sym k.0
-
--- ---- the atoms that are not listed
-
--- behind an atom at least as large as a bundle that comes behind all atoms, none is inside the bundle
-pub none_inside : (from : ℕ) (atoms : List (Atom (List ℕ))) (bundle : List ℕ) → All (λ a. IsRising a.bundle) atoms → IsRising bundle → IsInOrder atoms
-    → IsBehind bundle atoms → (from < length atoms → length bundle ≤ length (atom_at atoms from).bundle) → NoneInsideFrom from atoms bundle
-none_inside from atoms bundle rising r order before large index behind within =
-    search (rules, cases_eq, false_from_ne_true, length_inside, same_from_length, before_itself, cases_lt, larger_last)
 
 -- ---- the indices found so far at one good
 
@@ -303,19 +263,14 @@ pub found_more : (p : ℕ → Bool) (old found more xs : List ℕ) (i index : �
     → more ≡ found ++ cond (p index) (index ∷ []) [] → more ≡ old ++ filter p (take (i + 1) xs)
 found_more p old found more xs i index l is e f = search (rules, append_assoc, filter_more)
 
--- the bundle that is read at an index
-pub bundle_there : {S : Type 0} (goods : S → List ℕ) (atoms : List (Atom S)) (i : ℕ) (a : Atom S) → a ≡ get_or atoms i a
-    → goods (get_or atoms i a).bundle ≡ goods a.bundle
-bundle_there {S} goods atoms i a e = ap (λ (b : Atom S). goods b.bundle) (sym e)
-
 -- what is listed at an index, and its index
 pub indices_get : (listed : List Posting) (i : ℕ) (d : Posting) → i < length listed → (i < length (map index_of listed))
     × (get_or (map index_of listed) i 0 ≡ (get_or listed i d).index)
 indices_get listed i d l = let long = length-map listed index_of in (omega arith, get_or-map index_of listed i d 0 l)
 
-pub postings_right : (lists : List (List Posting)) (count : ℕ) (atoms : List (Atom (List ℕ))) (good : ℕ) (postings : List Posting)
-    → AreListed lists count atoms → postings ≡ listed_at lists good → All (IsPosting atoms) postings
-postings_right lists count atoms good postings a e =
+pub postings_right : (lists : List (List Posting)) (atoms : List (Atom (List ℕ))) (good : ℕ) (postings : List Posting)
+    → AreListed lists atoms → postings ≡ listed_at lists good → All (IsPosting atoms) postings
+postings_right lists atoms good postings a e =
     subst (λ (ps : List Posting). All (IsPosting atoms) ps) (sym e)
     (All-from_Contains (IsPosting atoms) (listed_at lists good) (λ posting c. a.right good posting c))
 

@@ -1,22 +1,17 @@
 //! `SubsetIndex`: the kept atoms. Those inside a bundle are found by its goods.
 ghost use Rattle.std.specs.Prelude.{◌≡◌, ℕ, List, ◌+◌, ◌<◌, ◌≤◌, false, true, map, length, All, AllPairs, IfOk, OnOk, []};
 ghost use Rattle.std.specs.Prelude.{◌∷◌, ◌++◌, cond, is_some};
-ghost use Rattle.std.specs.Bool.{OnTrue};
 ghost use Rattle.std.specs.List.{filter};
 ghost use Rattle.prune.specs.Internal.Fingerprints.{AreMarks};
 ghost use Rattle.valuation.specs.Values.{atoms_of, plain_atom};
 ghost use Rattle.valuation.specs.declared.atom.Atom.{Atom};
-ghost use Rattle.prune.specs.InOrder.{IsInOrder};
 ghost use Rattle.prune.specs.Internal.Listings.{
-  count_listed,
   indices_of,
   listed_at,
   lists_of,
   dominates_at,
   first_dominating_index,
-  AreAllListed,
-  ComesNext,
-  IsBehind,
+  AreListed,
   IsIndexOf,
   IsPosting,
   MayBePosting,
@@ -42,16 +37,11 @@ struct Posting {
 }
 
 /// Lists atoms, each at one of its goods, so that those inside a bundle are found through the bundle's goods. The atoms
-/// themselves are given with each call: those kept so far, in order, and so the smaller bundles first.
-/// For speed alone an atom is listed at its rarest good, only once a larger bundle comes (none of its own size is inside
-/// another), and fingerprints are compared before bundles.
+/// themselves are given with each call: those kept so far, in order. For speed alone an atom is listed at its rarest good,
+/// and fingerprints are compared before bundles.
 #[derive(Drop)]
 pub struct SubsetIndex {
     alloc: Global,
-    /// Of each kept atom the good at which it is listed, or will be: the rarest of its bundle.
-    goods: Vec<u16>,
-    /// How many of the atoms, from the first on, are listed.
-    listed: usize,
     /// For each good the atoms that are listed there.
     lists: Vec<Vec<Posting>>,
     /// How common each good is among all atoms that may be kept.
@@ -163,7 +153,7 @@ fn first_dominating_listed<S: GoodsSet>(
     goods: &[u16],
 ) -> Option<usize>
     requires goods { goods.now ≡ S.goods bid.now.bundle }
-    requires listed { AreAllListed (lists_of lists.now) (atoms_of S.goods kept.now) (S.goods bid.now.bundle) }
+    requires listed { AreListed (lists_of lists.now) (atoms_of S.goods kept.now) }
     ensures { result
         ≡ first_dominating_index (atoms_of S.goods kept.now) (S.goods bid.now.bundle) bid.now.price }
 {
@@ -179,6 +169,35 @@ fn first_dominating_listed<S: GoodsSet>(
     None
 }
 
+/// Lists the next kept atom, whose bundle has these goods, at the rarest of them. An index past the numbers of 4 bytes is
+/// refused as memory is; a file has far fewer bids.
+fn list_at_rarest(
+    alloc: Global,
+    lists: &mut Vec<Vec<Posting>>,
+    counts: &[u32],
+    index: usize,
+    goods: &[u16],
+) -> Result<(), AllocError>
+    requires { 0 < length goods.now }
+    ensures { OnOk result ((kept : List (Atom (List ℕ))) (atom : Atom (List ℕ)) → atom.bundle ≡ goods.now
+        → index ≡ length kept → AreListed (lists_of lists.old.items) kept
+        → AreListed (lists_of lists.new.items) (kept ++ atom ∷ [])) }
+{
+    if index > u32::MAX as usize {
+        return Err(AllocError);
+    }
+    let posting = Posting {
+        index: index as u32,
+        fingerprint: fingerprint(goods),
+    };
+    let good = usize::from(rarest(counts, goods));
+    while lists.len() <= good {
+        lists.push(Vec::new(alloc))?;
+    }
+    lists[good].push(posting)?;
+    Ok(())
+}
+
 impl SubsetIndex {
     /// The index of those of these atoms that will be kept. None is kept so far.
     pub fn of<S: GoodsSet>(alloc: Global, atoms: &[Atom<S>]) -> Result<SubsetIndex, AllocError>
@@ -186,96 +205,33 @@ impl SubsetIndex {
     {
         Ok(SubsetIndex {
             alloc,
-            goods: Vec::new(alloc),
-            listed: 0,
             lists: Vec::new(alloc),
             counts: goods_counts(alloc, atoms)?,
             buffer: Vec::new(alloc),
         })
     }
 
-    /// Adds a kept atom, whose bundle has these goods.
-    pub fn keep(&mut self, goods: &[u16]) -> Result<(), AllocError>
+    /// Adds the next kept atom, whose bundle has these goods.
+    pub fn keep(&mut self, index: usize, goods: &[u16]) -> Result<(), AllocError>
         requires { 0 < length goods.now }
-        ensures listed { count_listed self.new ≡ count_listed self.old }
-        ensures index { OnOk result ((kept : List (Atom (List ℕ))) (atom : Atom (List ℕ)) → atom.bundle ≡ goods.now
-            → IsIndexOf kept self.old → IsIndexOf (kept ++ atom ∷ []) self.new) }
+        ensures { OnOk result ((kept : List (Atom (List ℕ))) (atom : Atom (List ℕ)) → atom.bundle ≡ goods.now
+            → index ≡ length kept → IsIndexOf kept self.old → IsIndexOf (kept ++ atom ∷ []) self.new) }
     {
-        self.goods.push(rarest(&self.counts, goods))?;
-        Ok(())
+        list_at_rarest(self.alloc, &mut self.lists, &self.counts, index, goods)
     }
 
-    /// Lists the first kept atom that is not listed. An index past the numbers of 4 bytes is refused as memory is; a file
-    /// has far fewer bids.
-    fn list_next<S: GoodsSet>(&mut self, kept: &[Atom<S>]) -> Result<(), AllocError>
-        requires next { count_listed self.old < length kept.now }
-        requires index { IsIndexOf (atoms_of S.goods kept.now) self.old }
-        ensures count { OnOk result (count_listed self.new ≡ count_listed self.old + 1) }
-        ensures index { OnOk result (IsIndexOf (atoms_of S.goods kept.now) self.new) }
-    {
-        if self.listed > u32::MAX as usize {
-            return Err(AllocError);
-        }
-        let rarest = self.goods[self.listed];
-        let marks = fingerprint(rising_goods(&kept[self.listed].bundle, &mut self.buffer)?);
-        let posting = Posting {
-            index: self.listed as u32,
-            fingerprint: marks,
-        };
-        let good = usize::from(rarest);
-        while self.lists.len() <= good {
-            self.lists.push(Vec::new(self.alloc))?;
-        }
-        self.lists[good].push(posting)?;
-        self.listed += 1;
-        Ok(())
-    }
-
-    /// Whether the first kept atom that is not listed has fewer goods.
-    fn is_next_smaller<S: GoodsSet>(&self, kept: &[Atom<S>], size: usize) -> bool
-        ensures next { OnTrue result (count_listed self.now < length kept.now) }
-        ensures larger { result ≡ false → count_listed self.now < length kept.now
-            → size ≤ length (atom_at (atoms_of S.goods kept.now) (count_listed self.now)).bundle }
-    {
-        match kept.get(self.listed) {
-            Some(atom) => atom.bundle.size() < size,
-            None => false,
-        }
-    }
-
-    /// Lists the kept atoms with fewer goods than the bundle, which comes behind all of them.
-    fn list_below<S: GoodsSet>(&mut self, kept: &[Atom<S>], bundle: &S) -> Result<(), AllocError>
-        requires in_order { IsInOrder (atoms_of S.goods kept.now) }
-        requires behind { IsBehind (S.goods bundle.now) (atoms_of S.goods kept.now) }
-        requires index { IsIndexOf (atoms_of S.goods kept.now) self.old }
-        ensures index { OnOk result (IsIndexOf (atoms_of S.goods kept.now) self.new) }
-        ensures listed { OnOk result (AreAllListed (lists_of self.new.lists.items) (atoms_of S.goods kept.now)
-            (S.goods bundle.now)) }
-    {
-        let size = bundle.size();
-        while self.is_next_smaller(kept, size) {
-            self.list_next(kept)?;
-        }
-        Ok(())
-    }
-
-    /// Replaces the indices by those of the kept atoms inside the bundle, which has these goods and comes behind all of
-    /// them.
+    /// Replaces the indices by those of the kept atoms inside the bundle, which has these goods.
     pub fn find_inside<S: GoodsSet>(
-        &mut self,
+        &self,
         kept: &[Atom<S>],
         bundle: &S,
         goods: &[u16],
         indices: &mut Vec<usize>,
     ) -> Result<(), AllocError>
         requires goods { goods.now ≡ S.goods bundle.now }
-        requires next { ComesNext (atoms_of S.goods kept.now) (S.goods bundle.now) }
-        requires index { IsIndexOf (atoms_of S.goods kept.now) self.old }
-        ensures index { OnOk result (IsIndexOf (atoms_of S.goods kept.now) self.new) }
-        ensures indices { OnOk result (indices.new.items
-            ≡ indices_inside (atoms_of S.goods kept.now) (S.goods bundle.now)) }
+        requires index { IsIndexOf (atoms_of S.goods kept.now) self.now }
+        ensures { OnOk result (indices.new.items ≡ indices_inside (atoms_of S.goods kept.now) (S.goods bundle.now)) }
     {
-        self.list_below(kept, bundle)?;
         let marks = fingerprint(goods);
         indices.clear();
         for good in goods {
@@ -293,18 +249,17 @@ impl SubsetIndex {
         kept: &[Atom<S>],
         bid: &Atom<S>,
     ) -> Result<Option<usize>, AllocError>
-        requires next { ComesNext (atoms_of S.goods kept.now) (S.goods bid.now.bundle) }
+        requires some { 0 < length (S.goods bid.now.bundle) }
         requires index { IsIndexOf (atoms_of S.goods kept.now) self.old }
         ensures index { IfOk result (λ found. IsIndexOf
             (atoms_of S.goods kept.now ++ cond (is_some found) [] (plain_atom S.goods bid.now ∷ [])) self.new) }
         ensures found { IfOk result (λ found. found
             ≡ first_dominating_index (atoms_of S.goods kept.now) (S.goods bid.now.bundle) bid.now.price) }
     {
-        self.list_below(kept, &bid.bundle)?;
         let goods = rising_goods(&bid.bundle, &mut self.buffer)?;
         let found = first_dominating_listed(&self.lists, kept, bid, goods);
         if found.is_none() {
-            self.goods.push(rarest(&self.counts, goods))?;
+            list_at_rarest(self.alloc, &mut self.lists, &self.counts, kept.len(), goods)?;
         }
         Ok(found)
     }

@@ -6,7 +6,7 @@ ghost use Rattle.valuation.specs.SearchLimits.{plain_options};
 ghost use Rattle.prune.specs.declared.subset_index.Posting.{Posting};
 ghost use Rattle.prune.specs.Fates.{best_bids, or_fate, or_fates, indices_below, xor_fate, xor_fates};
 ghost use Rattle.prune.specs.Internal.Fingerprints.{AreMarks, mark_of};
-ghost use Rattle.prune.specs.Internal.Listings.{IsListed, IsPosting, AreListed, NoneInsideFrom};
+ghost use Rattle.prune.specs.Internal.Listings.{IsListed, IsPosting, AreListed};
 ghost use Rattle.prune.specs.Points.{xor_points, or_points};
 ghost use Rattle.prune.specs.SearchSteps.{
   atoms_below,
@@ -178,19 +178,12 @@ fn posting_worked()
     ensures no_mark { ¬ IsPosting (atom (0 ∷ []) 5 ∷ []) (record { index = 0; fingerprint = 0 }) }
 {}
 
-/// So many atoms are listed, from the first on, and nothing else.
+/// Each atom is listed, and nothing else.
 fn postings_worked()
-    ensures none_yet { AreListed [] 0 (atom (0 ∷ []) 5 ∷ []) }
+    ensures none_yet { AreListed [] [] }
     ensures one { let it : Posting = record { index = 0; fingerprint = 2 ^ 96 } in
-        AreListed ((it ∷ []) ∷ []) 1 (atom (0 ∷ []) 5 ∷ []) }
-    ensures nowhere { ¬ AreListed [] 1 (atom (0 ∷ []) 5 ∷ []) }
+        AreListed ((it ∷ []) ∷ []) (atom (0 ∷ []) 5 ∷ []) }
+    ensures nowhere { ¬ AreListed [] (atom (0 ∷ []) 5 ∷ []) }
     ensures too_many { let it : Posting = record { index = 0; fingerprint = 2 ^ 96 } in
-        ¬ AreListed ((it ∷ []) ∷ []) 0 (atom (0 ∷ []) 5 ∷ []) }
-{}
-
-/// From an index on no atom is inside the bundle.
-fn none_inside_from_worked()
-    ensures no_atoms { NoneInsideFrom 0 [] (0 ∷ []) }
-    ensures behind_it { NoneInsideFrom 1 (atom (0 ∷ []) 3 ∷ atom (1 ∷ []) 4 ∷ []) (0 ∷ []) }
-    ensures from_it { ¬ NoneInsideFrom 0 (atom (0 ∷ []) 3 ∷ atom (1 ∷ []) 4 ∷ []) (0 ∷ []) }
+        ¬ AreListed ((it ∷ []) ∷ []) [] }
 {}

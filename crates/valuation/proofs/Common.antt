@@ -1,17 +1,17 @@
 -- The names from outside `proofs` that the proofs cite, passed on from one place. A definition that a proof unfolds comes from its own file. Declares nothing.
 pub use Rattle.bid_file.specs.Files.{PlainBid, PlainFile}
 pub use Rattle.bid_file.specs.Views.{seen_bid}
-pub use Rattle.bid_file.specs.declared.limits.TheConstants.{MAX_PRICE, MAX_GOODS}
+pub use Rattle.bid_file.specs.declared.limits.TheConstants.{MAX_GOODS}
 pub use Rattle.goods_set.proofs.Places.{has_at, placed}
 pub use Rattle.goods_set.specs.Bundles.{has_good, with_good, IsRising, is_inside, IsInside, without, good_from, AreApart, are_apart, AreBelow}
 pub use Rattle.goods_set.specs.Lemmas.Members.{apart_sym, inside_refl, inside_trans, inside_without_both, inside_without, without_inside, has-without}
-pub use Rattle.goods_set.specs.Lemmas.Members.{has_without_parts, inside_at, inside_without_parts, IsRising-without, has_cases, has_above, has_not_head}
+pub use Rattle.goods_set.specs.Lemmas.Members.{has_without_parts, inside_at, IsRising-without, has_cases, has_above, has_not_head}
 pub use Rattle.goods_set.specs.Lemmas.Members.{has-filter, inside_from, IsRising-filter, has_below, AreBelow-from_has, AreBelow-higher, apart_at, has_head}
-pub use Rattle.goods_set.specs.Lemmas.Sizes.{has-with_good, length-without, good_from-None, is_inside-without, good_from-Some}
+pub use Rattle.goods_set.specs.Lemmas.Sizes.{has-with_good, good_from-None, is_inside-without, good_from-Some}
 pub use Rattle.std.proofs.Common.{rules, ◌≡◌, ℕ, ◌+◌, ◌<◌, ◌≤◌, Bool, true, false, ◌&&◌, ◌||◌, eqb, ⊎_elim, List, length, set, get_or, refl, sym, ap, ◌∙◌}
 pub use Rattle.std.proofs.Common.{subst, arith, None, Some, get_or-set_same, suc, ◌-◌, ◌*◌, cond, leb, [], ◌∷◌, ◌++◌, map, drop, sum_by, ap₂, append_assoc}
 pub use Rattle.std.proofs.Common.{append-nil, ltb, ◌≢◌, zero, take, le_refl, le_trans, le_antisymm, not, Bor, max, ◌⊎◌, inl, inr, below_more, Equal, is_lt}
-pub use Rattle.std.proofs.Common.{nat_cmp, replicate, Global, fold, vec_len, ◌^◌, subst₂, MatchResult}
+pub use Rattle.std.proofs.Common.{nat_cmp, replicate, Global, vec_len, ◌^◌, subst₂, MatchResult}
 pub use Rattle.std.proofs.Math.Bool.{and-false, or-false, or-true}
 pub use Rattle.std.proofs.Math.ListN.{get_or-eq_default}
 pub use Rattle.std.proofs.lemmas.Bool.{and_from, and_parts, both_ways, cases_eq, eq-eqb, eqb-true, ne_eqb, or_cases, or_left, or_right, cases_lt, le-leb}
@@ -28,7 +28,7 @@ pub use Rattle.std.proofs.lemmas.List.FromFn.{get_or-map-range_with_len}
 pub use Rattle.std.proofs.lemmas.List.Kept.{AllPairs-filter}
 pub use Rattle.std.proofs.lemmas.List.Sorted.{All-permutation, IsPermutation-cons, IsPermutation-map, IsPermutation-middle, IsPermutation-refl}
 pub use Rattle.std.proofs.lemmas.List.Sorted.{IsPermutation-trans, sum_by-IsPermutation, IsNonDecreasingBy-from_sort}
-pub use Rattle.std.proofs.lemmas.List.Sums.{sum_by-cons, sum_by_push, fold_push}
+pub use Rattle.std.proofs.lemmas.List.Sums.{sum_by-cons, sum_by_push}
 pub use Rattle.std.proofs.lemmas.Option.{get_or_from_slice_get, slice_get_within}
 pub use Rattle.std.specs.Cmp.{IsTotalOrder}
 pub use Rattle.std.specs.Global.{Vec}
@@ -45,7 +45,6 @@ pub use Rattle.valuation.specs.Internal.BestSearch.{IsPackingFrom, IsFoundFrom, 
 pub use Rattle.valuation.specs.Internal.Conflicts.{AreConflicts, AreHolders, IsLeft, AreFree, are_disjoint, offers_of}
 pub use Rattle.valuation.specs.Internal.Holders.{holders_at, indices_of}
 pub use Rattle.valuation.specs.Internal.Listed.{IsListed}
-pub use Rattle.valuation.specs.Internal.Paths.{IsEntered, IsLeftBehind, IsPassed}
 pub use Rattle.valuation.specs.Lemmas.Atoms.{get_or-atoms_of, length-atoms_of}
 pub use Rattle.valuation.specs.Lemmas.AuctionsOfFiles.{or_atoms_of-more, xor_bidders-more, IsBid-there, or_atoms_of-same, xor_bidders-same}
 pub use Rattle.valuation.specs.Lemmas.AuctionsOfFiles.{IsAuction-auction_from}
@@ -60,7 +59,7 @@ pub use Rattle.valuation.specs.Lemmas.PackingCounts.{count_packings-nil, count_p
 pub use Rattle.valuation.specs.Lemmas.PackingCounts.{count_packings-rest, count_packings-permutation, count_packings-packings}
 pub use Rattle.valuation.specs.Lemmas.PackingIndices.{indices_within, numbers_are, numbers_related, same_atoms}
 pub use Rattle.valuation.specs.Lemmas.Packings.{chosen_indices-nil, chosen_indices-left, chosen_indices-taken, needed_inside, price_sum-left}
-pub use Rattle.valuation.specs.Lemmas.Packings.{price_sum-packing, IsPacking-unleft, chosen_indices-packing, IsPacking-none, price_sum-chosen}
+pub use Rattle.valuation.specs.Lemmas.Packings.{price_sum-packing, IsPacking-unleft, IsPacking-none, price_sum-chosen}
 pub use Rattle.valuation.specs.Lemmas.Packings.{chosen_indices-best}
 pub use Rattle.valuation.specs.Lemmas.Permutations.{from_permutation}
 pub use Rattle.valuation.specs.Lemmas.SearchLimits.{is_one_over-first, is_one_over-later, is_one_over-none, options_after_all-cons, options_after_all-none}
@@ -72,7 +71,7 @@ pub use Rattle.valuation.specs.Lemmas.Searches.{searched, search-refused}
 pub use Rattle.valuation.specs.Lemmas.Sorting.{sorted_is_sort_by, permutation-sort_by, sorted-sort_by, sorted_same}
 pub use Rattle.valuation.specs.Lemmas.XorValues.{xor_value-nil, xor_value-inside, xor_value-outside, xor_value-grows, xor_value-permutation}
 pub use Rattle.valuation.specs.Listed.{listed, AreListsOf}
-pub use Rattle.valuation.specs.Lemmas.Inside.{atoms_at-indices_inside, indices_inside-within, length-indices_inside}
+pub use Rattle.valuation.specs.Lemmas.Inside.{atoms_at-indices_inside, indices_inside-within}
 pub use Rattle.valuation.specs.Packings.{indices_inside, is_inside_at, atom_at, count_packings, atoms_inside, numbers_at, atoms_at, price_sum, IsPackingFor}
 pub use Rattle.valuation.specs.Packings.{IsPacking}
 pub use Rattle.valuation.specs.SearchLimits.{is_one_over, options_after, options_after_all, next_steps, total_after}
@@ -89,5 +88,3 @@ pub use Rattle.valuation.specs.declared.search.conflicts.Conflicts.{Conflicts}
 pub use Rattle.valuation.specs.declared.search.kind.SearchKind.{SearchKind}
 pub use Rattle.valuation.specs.declared.search.kind.SearchKind.TheVariants.{Plain, Bounded}
 pub use Rattle.valuation.specs.declared.search.options.SearchOptions.{SearchOptions}
-pub use Rattle.valuation.specs.declared.search.path.Level.{Level}
-pub use Rattle.valuation.specs.declared.search.path.Path.{Path}

@@ -4,14 +4,12 @@ pub mod ConflictMasks
 pub mod AllHolders
 pub mod FirstBestAtoms
 pub mod Placing
-pub mod BestPackingLevels
+pub mod Shifted
 pub mod Paths
+pub mod Reaching
+pub mod Counting
 pub mod Rates
-pub mod BestPath
 pub mod FewerAtoms
-pub mod PathPackings
-pub mod ReachingLevels
-pub mod ReachingPath
 pub mod PricesLeft
 pub mod RatesSoFar
 pub mod Listed

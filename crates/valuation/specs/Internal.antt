@@ -5,5 +5,4 @@ pub mod Reaching
 pub mod BestSearch
 pub mod Searches
 pub mod Conflicts
-pub mod Paths
 pub mod Listed

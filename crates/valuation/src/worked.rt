@@ -4,7 +4,7 @@ ghost use Rattle.std.specs.declared.cmp.Ordering.TheVariants.{Less, Equal, Great
 ghost use Rattle.valuation.specs.declared.search.kind.SearchKind.TheVariants.{Plain, Bounded};
 ghost use Rattle.valuation.specs.Examples.{atom};
 ghost use Rattle.valuation.specs.Values.{xor_value, or_value, chosen_indices};
-ghost use Rattle.valuation.specs.Internal.Reaching.{ArePricesLeft, IsReachedBy};
+ghost use Rattle.valuation.specs.Internal.Reaching.{ArePricesLeft, Continues};
 ghost use Rattle.valuation.specs.Packings.{count_packings, IsPackingFor, numbers_at};
 ghost use Rattle.valuation.specs.Bounds.{price_bound, rate, greatest_rate, rate_bound};
 ghost use Rattle.valuation.specs.SearchSteps.{cut_steps, found_indices};
@@ -192,10 +192,10 @@ fn reaching_worked()
     ensures shared_good { ¬ IsPackingFor (atom (0 ∷ []) 3 ∷ atom (0 ∷ []) 4 ∷ []) (0 ∷ []) 7 (0 ∷ 1 ∷ []) }
 {}
 
-/// What a search for a price answers, by the steps that are left before and after it.
-#[tactic(auto, unfolding(crate::specs::SearchSteps::cut_steps, crate::specs::Values::or_value))]
+/// What a search from an index on answers, by the members and the steps that are left before and after it.
+#[tactic(auto, unfolding(crate::specs::SearchSteps::cut_steps, crate::specs::SearchSteps::found_indices, crate::specs::Values::or_value))]
 fn searched_worked()
-    ensures reached { IsReachedBy price_bound (atom (0 ∷ []) 3 ∷ []) (0 ∷ []) 3 5 3 (Ok true) }
-    ensures answer { ¬ IsReachedBy price_bound (atom (0 ∷ []) 3 ∷ []) (0 ∷ []) 3 5 3 (Ok false) }
-    ensures fewer_steps { ¬ IsReachedBy price_bound (atom (0 ∷ []) 3 ∷ []) (0 ∷ []) 4 5 3 (Ok false) }
+    ensures reached { Continues price_bound (atom (0 ∷ []) 3 ∷ []) 0 (0 ∷ []) 3 [] (0 ∷ []) 5 4 (Ok true) }
+    ensures answer { ¬ Continues price_bound (atom (0 ∷ []) 3 ∷ []) 0 (0 ∷ []) 3 [] (0 ∷ []) 5 4 (Ok false) }
+    ensures fewer_steps { ¬ Continues price_bound (atom (0 ∷ []) 3 ∷ []) 0 (0 ∷ []) 4 [] [] 5 4 (Ok false) }
 {}

@@ -1,10 +1,10 @@
 -- The arrivals of the bids by number. The idea: the bids stay in the order in which they came, and an arrival is a number
 -- in that order, which one more bid behind the others does not change.
 use Rattle.cats_text.proofs.Common.{rules, ◌≡◌, ℕ, zero, suc, ◌+◌, ◌-◌, ◌<◌, ◌≤◌, List, [], ◌∷◌, ◌++◌, length, replicate, set, take, get_or, subst, add-one}
-use Rattle.cats_text.proofs.Common.{Option, Some, None, Result, Ok, Err, OnOk, true, false, nat_lt, inl, inr, ◌⊎◌, map, append-nil, refl, sym, ap, ap₂, ◌∙◌}
+use Rattle.cats_text.proofs.Common.{Option, Some, None, map, append-nil, refl, sym, ap, ap₂, ◌∙◌}
 use Rattle.cats_text.proofs.Common.{arith, append_assoc, length-append, length-replicate, replicate-append-replicate, map-set, map-append, length-map}
-use Rattle.cats_text.proofs.Common.{take_more, take_all, slice_get_past, slice_get-get_or, slice_get_cases, filter_map-append, lt-ltb, le-ltb, slice_get}
-use Rattle.cats_text.proofs.Common.{option_to_list, PlainBid, is_some_bid, number_alone, slot_at, arrived, AreWithin, IsPadded, slot_list, put_slot, filled}
+use Rattle.cats_text.proofs.Common.{take_more, take_all, slice_get-get_or, filter_map-append, slice_get}
+use Rattle.cats_text.proofs.Common.{option_to_list, PlainBid, number_alone, slot_at, arrived, AreWithin, IsPadded, arrivals_to, put_slot, filled}
 use Rattle.cats_text.proofs.Common.{common_steps}
 
 some_same : (x y : ℕ) → Some x ≡ Some y → x ≡ y
@@ -15,53 +15,7 @@ some_same x y e = cc
 abbrev all_of : List PlainBid → List (Option PlainBid)
 all_of came = map (λ b. Some b) came
 
-pub has_first : (came : List PlainBid) (n : ℕ) → n < length came → is_some_bid (slice_get (all_of came) n) ≡ true
-has_first [] n l = absurd (let no : n < 0 = l in omega arith)
-has_first (b ∷ came) zero l = refl
-has_first (b ∷ came) (suc n) l = has_first came n (omega arith)
-
-pub has_no_more : (came : List PlainBid) (n : ℕ) → length came ≤ n → is_some_bid (slice_get (all_of came) n) ≡ false
-has_no_more came n l = ap is_some_bid (slice_get_past (all_of came) n (omega (arith, length-map came (λ b. Some b))))
-
-by_count : (came : List PlainBid) (n count : ℕ) → count ≡ length came
-    → ((x : Option PlainBid) × (n < length (all_of came)) × (slice_get (all_of came) n ≡ Some x) × (get_or (all_of came) n x ≡ x))
-    ⊎ ((length (all_of came) ≤ n) × (slice_get (all_of came) n ≡ None))
-    → nat_lt n count ≡ is_some_bid (slice_get (all_of came) n)
-by_count came n count e (inl h) = grind (arith, common_steps, has_first, length-map, lt-ltb)
-by_count came n count e (inr h) = grind (arith, common_steps, has_no_more, le-ltb, length-map)
-
-pub has_in_order : (came : List PlainBid) (arrivals : List ℕ) (n count : ℕ) → length arrivals ≡ 0 → count ≡ length came
-    → nat_lt n count ≡ is_some_bid (slice_get (slot_list came arrivals) n)
-has_in_order came [] n count none e = by_count came n count e (slice_get_cases (all_of came) n).1
-has_in_order came (p ∷ arrivals) n count none e = absurd (let no : suc (length arrivals) ≡ 0 = none in omega arith)
-
--- the next one
-put_next : (came next : List PlainBid) (n : ℕ) (b : PlainBid) → n ≡ length came → next ≡ came ++ b ∷ [] → all_of next ≡ put_slot (all_of came) n b
-put_next came next n b at e =
-    let long : length (all_of came) ≡ length came = length-map came (λ b. Some b) in
-    search (rules, map-append, set_last)
-  where
-    set_last : (xs : List (Option PlainBid)) (n : ℕ) (x : Option PlainBid) → n ≡ length xs → set (xs ++ None ∷ []) n x ≡ xs ++ x ∷ []
-    set_last [] zero x e = refl
-    set_last [] (suc n) x e = absurd (let no : suc n ≡ 0 = e in omega arith)
-    set_last (y ∷ xs) zero x e = absurd (let no : 0 ≡ suc (length xs) = e in omega arith)
-    set_last (y ∷ xs) (suc n) x e = let same : suc n ≡ suc (length xs) = e in ap (λ ys. y ∷ ys) (set_last xs n x (omega arith))
-
-pub put_in_order : (came next : List PlainBid) (arrivals : List ℕ) (n : ℕ) (b : PlainBid) → n ≡ length came → length arrivals ≡ 0 → next ≡ came ++ b ∷ []
-    → slot_list next arrivals ≡ put_slot (slot_list came arrivals) n b
-put_in_order came next [] n b at none e = put_next came next n b at e
-put_in_order came next (p ∷ arrivals) n b at none e = absurd (let no : suc (length arrivals) ≡ 0 = none in omega arith)
-
 -- ---- bids with their arrivals
-
-pub listed : (came : List PlainBid) (arrivals : List ℕ) → (length arrivals ≡ 0 → ⊥) → slot_list came arrivals ≡ arrived came arrivals
-listed came [] some = absurd (some refl)
-listed came (p ∷ arrivals) some = refl
-
-listed_set : (came : List PlainBid) (arrivals : List ℕ) (n k : ℕ) → n < length arrivals → slot_list came (set arrivals n k) ≡ arrived came (set arrivals n k)
-listed_set came [] n k l = absurd (let no : n < 0 = l in omega arith)
-listed_set came (p ∷ arrivals) zero k l = refl
-listed_set came (p ∷ arrivals) (suc n) k l = refl
 
 pub within_at : (n : ℕ) (arrivals : List ℕ) (i p : ℕ) → AreWithin n arrivals → slice_get arrivals i ≡ Some p → p ≤ n
 within_at n [] i p all e = cc
@@ -99,7 +53,7 @@ arrived_zeros came zero = refl
 arrived_zeros came (suc k) = ap (λ ys. None ∷ ys) (arrived_zeros came k)
 
 -- a bid put with its arrival
-put_arrived : (came next : List PlainBid) (b : PlainBid) (old padded : List ℕ) (n k : ℕ) → AreWithin (length came) padded → next ≡ came ++ b ∷ []
+pub put_arrived : (came next : List PlainBid) (b : PlainBid) (old padded : List ℕ) (n k : ℕ) → AreWithin (length came) padded → next ≡ came ++ b ∷ []
     → k ≡ length next → IsPadded old padded n → n < length padded → arrived next (set padded n k) ≡ put_slot (arrived came old) n b
 put_arrived came next b old padded n k all e at p there =
     let len = length-padded old padded n p in
@@ -112,46 +66,18 @@ put_arrived came next b old padded n k all e at p there =
     ∙ ap (arrived came) p.is ∙ map-append (slot_at came) old (replicate p.count 0) ∙ ap (λ ys. arrived came old ++ ys) (arrived_zeros came p.count)
     ∙ ap (λ (c : ℕ). arrived came old ++ replicate c None) zeros) last
 
-pub put_listed : (came next : List PlainBid) (b : PlainBid) (before old padded : List ℕ) (n k : ℕ) → AreWithin (length came) padded → next ≡ came ++ b ∷ []
-    → k ≡ length next → IsPadded old padded n → n < length padded → arrived came old ≡ slot_list came before
-    → slot_list next (set padded n k) ≡ put_slot (slot_list came before) n b
-put_listed came next b before old padded n k all e at p there same =
-    listed_set next padded n k there ∙ put_arrived came next b old padded n k all e at p there ∙ ap (λ ss. put_slot ss n b) same
-
 -- ---- the arrivals of bids that came in the order of their numbers
-
-abbrev pub numbered : ℕ → List ℕ
-numbered zero = []
-numbered (suc k) = numbered k ++ suc k ∷ []
 
 pub within_push : (n : ℕ) (arrivals : List ℕ) (p : ℕ) → AreWithin n arrivals → p ≤ n → AreWithin n (arrivals ++ p ∷ [])
 within_push n [] p all l = (l, tt)
 within_push n (q ∷ arrivals) p all l = (all.0, within_push n arrivals p all.1 l)
 
-pub within_numbered : (n k : ℕ) → k ≤ n → AreWithin n (numbered k)
-within_numbered n zero l = tt
-within_numbered n (suc k) l = within_push n (numbered k) (suc k) (within_numbered n k (omega arith)) l
-
-pub arrived_numbered : (came : List PlainBid) (k : ℕ) → k ≤ length came → arrived came (numbered k) ≡ all_of (take k came)
+pub arrived_numbered : (came : List PlainBid) (k : ℕ) → k ≤ length came → arrived came (arrivals_to k) ≡ all_of (take k came)
 arrived_numbered came zero l = refl
-arrived_numbered came (suc k) l = map-append (slot_at came) (numbered k) (suc k ∷ [])
+arrived_numbered came (suc k) l = map-append (slot_at came) (arrivals_to k) (suc k ∷ [])
     ∙ ap₂ (λ (xs : List (Option PlainBid)) (x : Option PlainBid). xs ++ x ∷ []) (arrived_numbered came k (omega arith))
     (slice_get-get_or came k number_alone (omega arith)) ∙ sym (map-append (λ b. Some b) (take k came) (get_or came k number_alone ∷ []))
     ∙ ap all_of (search (rules, take_more))
-
-pub none_numbered : (arrivals : List ℕ) → length arrivals ≡ 0 → arrivals ≡ numbered (length arrivals)
-none_numbered [] none = refl
-none_numbered (p ∷ arrivals) none = absurd (let no : suc (length arrivals) ≡ 0 = none in omega arith)
-
-pub next_numbered : (arrivals next : List ℕ) (p : ℕ) → arrivals ≡ numbered (length arrivals) → p ≡ length arrivals + 1 → next ≡ arrivals ++ p ∷ []
-    → next ≡ numbered (length next)
-next_numbered arrivals next p e at is = grind (arith, common_steps, length-append)
-
-pub all_listed : (came : List PlainBid) (before arrivals : List ℕ) (count : ℕ) → length before ≡ 0 → length came ≡ count → arrivals ≡ numbered (length arrivals)
-    → length arrivals ≡ count → arrived came arrivals ≡ slot_list came before
-all_listed came [] arrivals count none long e all =
-    ap (arrived came) e ∙ arrived_numbered came (length arrivals) (omega arith) ∙ ap all_of (take_all (length arrivals) came (omega arith))
-all_listed came (p ∷ before) arrivals count none long e all = absurd (let no : suc (length before) ≡ 0 = none in omega arith)
 
 -- more arrivals within reach
 pub within_more : (n m : ℕ) (arrivals : List ℕ) → AreWithin n arrivals → n ≤ m → AreWithin m arrivals
@@ -165,10 +91,21 @@ within_set n (q ∷ arrivals) (suc i) p all l = (all.0, within_set n arrivals i 
 
 -- ---- the bids that are there
 
-pub filled_all : (came : List PlainBid) (arrivals : List ℕ) → length arrivals ≡ 0 → came ≡ filled (slot_list came arrivals)
-filled_all [] [] none = refl
-filled_all (b ∷ came) [] none = ap (λ bs. b ∷ bs) (filled_all came [] none)
-filled_all came (p ∷ arrivals) none = absurd (let no : suc (length arrivals) ≡ 0 = none in omega arith)
+filled_came : (came : List PlainBid) → filled (all_of came) ≡ came
+filled_came [] = refl
+filled_came (b ∷ came) = ap (λ bs. b ∷ bs) (filled_came came)
+
+pub next_arrival : (arrivals : List ℕ) (n : ℕ) → n < length arrivals → get_or arrivals n 0 ≡ n + 1 → take n arrivals ≡ arrivals_to n
+    → take (n + 1) arrivals ≡ arrivals_to (n + 1)
+next_arrival arrivals n l e h =
+    take_more arrivals n 0 l ∙ ap₂ (λ (xs : List ℕ) (x : ℕ). xs ++ x ∷ []) h (e ∙ add-one n) ∙ sym (ap arrivals_to (add-one n))
+
+-- those that came in the order of their numbers
+pub filled_numbered : (came : List PlainBid) (arrivals : List ℕ) → length arrivals ≡ length came → arrivals ≡ arrivals_to (length arrivals)
+    → came ≡ filled (arrived came arrivals)
+filled_numbered came arrivals long e =
+    sym (ap (λ (ks : List ℕ). filled (arrived came ks)) e ∙ ap filled (arrived_numbered came (length arrivals) (omega arith))
+    ∙ ap (λ (bs : List PlainBid). filled (all_of bs)) (take_all (length arrivals) came (omega arith)) ∙ filled_came came)
 
 filled_more : (came : List PlainBid) (arrivals : List ℕ) (p : ℕ)
     → filled (arrived came (arrivals ++ p ∷ [])) ≡ filled (arrived came arrivals) ++ option_to_list (slot_at came p)
@@ -191,10 +128,6 @@ kept_more came kept next arrivals (suc i) j e some at l more =
     let same : j ≡ i = omega arith in
     more b here ∙ ap (λ ks. ks ++ b ∷ []) e ∙ ap (λ o. filled (arrived came arrivals) ++ option_to_list o) (sym here ∙ ap (slice_get came) same)
     ∙ sym (filled_more came arrivals (suc i))
-
-pub on_ok : {A E : Type 0} (r : Result A E) (P Q : Type 0) → (P → Q) → OnOk r P → OnOk r Q
-on_ok (Ok x) P Q f h = f h
-on_ok (Err e) P Q f h = tt
 
 -- each of many that are the same
 pub same_bid : (count i : ℕ) (x bid : PlainBid) → slice_get (replicate count x) i ≡ Some bid → bid ≡ x

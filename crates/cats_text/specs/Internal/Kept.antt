@@ -39,7 +39,7 @@ pub record IsPadded (old padded : List ℕ) (n : ℕ) : Type 0 where
   pub is : padded ≡ old ++ replicate count 0
   pub few : count ≤ n + 1 - length old
 
--- bids by number: those that came, in their order or with these arrivals
-abbrev pub slot_list : List PlainBid → List ℕ → List (Option PlainBid)
-slot_list came [] = map (λ b. Some b) came
-slot_list came (p ∷ arrivals) = arrived came (p ∷ arrivals)
+-- the arrivals of so many bids that came in the order of their numbers
+abbrev pub arrivals_to : ℕ → List ℕ
+arrivals_to zero = []
+arrivals_to (suc k) = arrivals_to k ++ suc k ∷ []

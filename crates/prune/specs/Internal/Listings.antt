@@ -1,5 +1,5 @@
 -- Atoms listed by their goods. Those inside a bundle are found through the goods of the bundle.
-use Rattle.std.specs.Prelude.{◌≡◌, ℕ, ◌<◌, ◌≤◌, Bool, ◌&&◌, true, false, nat_le, map, slice_index_or, List, []}
+use Rattle.std.specs.Prelude.{◌≡◌, ℕ, ◌<◌, Bool, ◌&&◌, true, nat_le, map, slice_index_or, List, []}
 use Rattle.std.specs.Prelude.{length}
 use Rattle.std.specs.Prelude.{Option, All, AllPairs, Contains}
 use Rattle.std.proofs.Common.{Less}
@@ -9,7 +9,7 @@ use Rattle.valuation.specs.declared.atom.Atom.{Atom}
 use Rattle.goods_set.specs.Bundles.{has_good, is_inside}
 use Rattle.goods_set.specs.Orders.{bundle_cmp}
 use Rattle.prune.specs.Internal.Fingerprints.{AreMarks}
-use Rattle.valuation.specs.Packings.{atom_at, is_inside_at}
+use Rattle.valuation.specs.Packings.{atom_at}
 use Rattle.prune.specs.InOrder.{IsInOrder}
 use Rattle.prune.specs.declared.subset_index.Posting.{Posting}
 use Rattle.prune.specs.declared.subset_index.SubsetIndex.{SubsetIndex}
@@ -58,47 +58,21 @@ abbrev pub MayBePosting : List (Atom (List ℕ)) → Posting → Type 0
 MayBePosting atoms posting =
     posting.index < length atoms → AreMarks (atom_at atoms posting.index).bundle posting.fingerprint
 
--- each of so many atoms, from the first on, is listed at one of its goods and at no other good, in order, and nothing
--- else is listed
-pub record AreListed (lists : List (List Posting)) (listed : ℕ) (atoms : List (Atom (List ℕ))) : Type 0 where
-  pub most : listed ≤ length atoms
-  pub each : (index : ℕ) → index < listed → IsListed lists (atom_at atoms index).bundle index
+-- each atom is listed at one of its goods and at no other good, in order, and nothing else is listed
+pub record AreListed (lists : List (List Posting)) (atoms : List (Atom (List ℕ))) : Type 0 where
+  pub each : (index : ℕ) → index < length atoms → IsListed lists (atom_at atoms index).bundle index
   pub right : (good : ℕ) (posting : Posting) → Contains (listed_at lists good) posting → IsPosting atoms posting
-  pub no_more : (good index : ℕ) → Contains (indices_at lists good) index → index < listed
   pub rising : (good : ℕ) → AllPairs (λ one other. one < other) (indices_at lists good)
   pub one_good : (good other index : ℕ) → Contains (indices_at lists good) index
       → Contains (indices_at lists other) index
       → good ≡ other
 
--- of each atom a good of its bundle
-pub record AreGoodsOf (goods : List ℕ) (atoms : List (Atom (List ℕ))) : Type 0 where
-  pub long : length goods ≡ length atoms
-  pub each : (index : ℕ) → index < length atoms
-      → has_good (atom_at atoms index).bundle (slice_index_or goods index 0) ≡ true
-
--- how many atoms the index lists, from the first on
-abbrev pub count_listed : SubsetIndex → ℕ
-count_listed index = index.listed
-
--- the index lists the first so many of the atoms, and has noted a good of each
-pub record IsIndexOf (atoms : List (Atom (List ℕ))) (index : SubsetIndex) : Type 0 where
-  pub listed : AreListed (lists_of index.lists.items) (count_listed index) atoms
-  pub noted : AreGoodsOf index.goods.items atoms
+abbrev pub IsIndexOf : List (Atom (List ℕ)) → SubsetIndex → Type 0
+IsIndexOf atoms index = AreListed (lists_of index.lists.items) atoms
 
 -- the bundle comes behind those of all atoms
 abbrev pub IsBehind : List ℕ → List (Atom (List ℕ)) → Type 0
 IsBehind bundle atoms = All (λ a. bundle_cmp a.bundle bundle ≡ Less) atoms
-
--- none of the atoms from an index on is inside the bundle
-abbrev pub NoneInsideFrom : ℕ → List (Atom (List ℕ)) → List ℕ → Type 0
-NoneInsideFrom from atoms bundle = (index : ℕ) → from ≤ index → index < length atoms
-    → is_inside_at atoms bundle index ≡ false
-
--- each of the atoms that is inside the bundle is listed
-pub record AreAllListed (lists : List (List Posting)) (atoms : List (Atom (List ℕ))) (bundle : List ℕ) : Type 0 where
-  pub count : ℕ
-  pub listed : AreListed lists count atoms
-  pub others : NoneInsideFrom count atoms bundle
 
 -- each atom has a good
 abbrev pub HaveGoods : List (Atom (List ℕ)) → Type 0

@@ -40,8 +40,8 @@ returns-then-first-kept g c =
     let bundle = goods c.args.bid.now.bundle in
     let none = none_there c.args.goods.now bundle c.loop-good.good-index c.requires.goods (g.met.S.GoodsSet.is_bundle c.args.bid.now.bundle).0
     c.loop-good.auto.good-index-end c.loop-good-test.false in
-    IsFirstSoFar-some (lists_of c.args.lists.now) c.requires.listed.count (atoms_of goods c.args.kept.now) bundle c.args.bid.now.price _ c.loop-good.first
-    c.requires.listed.listed c.requires.listed.others none c.loop-good.invariant (omega (arith, c.if-first-kept.true, length-atoms_of goods c.args.kept.now))
+    IsFirstSoFar-some (lists_of c.args.lists.now) (atoms_of goods c.args.kept.now) bundle c.args.bid.now.price _ c.loop-good.first
+    c.requires.listed none c.loop-good.invariant (omega (arith, c.if-first-kept.true, length-atoms_of goods c.args.kept.now))
 
 pub returns : goal.returns
 returns g c =
@@ -49,5 +49,5 @@ returns g c =
     let bundle = goods c.args.bid.now.bundle in
     let none = none_there c.args.goods.now bundle c.loop-good.good-index c.requires.goods (g.met.S.GoodsSet.is_bundle c.args.bid.now.bundle).0
     c.loop-good.auto.good-index-end c.loop-good-test.false in
-    IsFirstSoFar-all (lists_of c.args.lists.now) c.requires.listed.count (atoms_of goods c.args.kept.now) bundle c.args.bid.now.price _ c.loop-good.first
-    c.requires.listed.listed c.requires.listed.others none c.loop-good.invariant (omega (arith, c.if-first-kept.false, length-atoms_of goods c.args.kept.now))
+    IsFirstSoFar-all (lists_of c.args.lists.now) (atoms_of goods c.args.kept.now) bundle c.args.bid.now.price _ c.loop-good.first
+    c.requires.listed none c.loop-good.invariant (omega (arith, c.if-first-kept.false, length-atoms_of goods c.args.kept.now))

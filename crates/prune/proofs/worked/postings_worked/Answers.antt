@@ -8,14 +8,14 @@ elsewhere : (it : Posting) (good : ℕ) → (good ≡ 0 → ⊥) → listed_at (
 elsewhere it zero n = absurd (n refl)
 elsewhere it (suc good) n = refl
 
-none_yet : AreListed [] 0 (atom (0 ∷ []) 5 ∷ [])
+none_yet : AreListed [] []
 none_yet = search rules
 
 pub returns-clause-one : goal.returns-clause-one
 returns-clause-one c =
     let it : Posting = record { index = 0; fingerprint = 2 ^ 96 } in
-    AreListed-more [] ((it ∷ []) ∷ []) 0 (atom (0 ∷ []) 5 ∷ []) 0 it none_yet (elsewhere it) refl refl
-    (atom (0 ∷ []) 5) refl (omega arith) refl listed_rightly.marks
+    AreListed-more [] ((it ∷ []) ∷ []) [] 0 it none_yet (elsewhere it) refl refl (atom (0 ∷ []) 5) refl listed_rightly.marks
 
 pub returns-clause-too_many : goal.returns-clause-too_many
-returns-clause-too_many c h = absurd (omega (arith, h.no_more 0 0 (0, omega arith, refl)))
+returns-clause-too_many c h = let it : Posting = record { index = 0; fingerprint = 2 ^ 96 } in
+    absurd (omega (arith, (h.right 0 it (0, omega arith, refl)).within))

@@ -1,12 +1,12 @@
 -- `BidsByNumber::into_kept`
 use Rattle.cats_text.proofs.Common.{◌≡◌, ◌<◌, ◌≤◌, ◌+◌, ◌-◌, ◌∙◌, ◌++◌, ◌∷◌, [], ℕ, List, ap, take, get_or, length, arith, rules, refl, take_all, take_more}
 use Rattle.cats_text.proofs.Common.{slice_get-get_or, AreWithin}
-use Rattle.cats_text.proofs.Parsing.BidsByNumber.{filled_all, kept_none, kept_more, listed, within_at}
+use Rattle.cats_text.proofs.Parsing.BidsByNumber.{filled_numbered, kept_none, kept_more, within_at}
 use Rattle.cats_text.proofs.bids_by_number.BidsByNumber.into_kept.Goals.{then-arrival-gt0+in_ok-add_from, else-arrival-gt0}
 use Rattle.cats_text.proofs.bids_by_number.BidsByNumber.into_kept.Goals as goal
 
-pub returns-then-is_empty-clause-bids : goal.returns-then-is_empty-clause-bids
-returns-then-is_empty-clause-bids g c = search (rules, filled_all)
+pub returns-then-came_in_order-clause-bids : goal.returns-then-came_in_order-clause-bids
+returns-then-came_in_order-clause-bids g c = search (rules, filled_numbered)
 
 pub loop-arrival-preserved : goal.loop-arrival-preserved
 loop-arrival-preserved g c =
@@ -31,4 +31,4 @@ loop-arrival-preserved g c =
     ])
 
 pub returns-clause-bids : goal.returns-clause-bids
-returns-clause-bids g c = search (rules, take_all, listed)
+returns-clause-bids g c = search (rules, take_all)

@@ -7,7 +7,7 @@ pub find_inside_among-requires-clause-listed : goal.find_inside_among-requires-c
 find_inside_among-requires-clause-listed g c =
     let there = c.postings_at-postings.ensures ∙ ap (λ (vs : List (Vec Posting)). listed_at (lists_of vs) (get_or c.args.goods.now c.loop-good.good-index 0))
     c.deref.ensures.value in
-    postings_right _ _ _ _ _ c.in_ok-list_below.ensures.listed.listed there
+    postings_right _ _ _ _ c.requires.index there
 
 pub loop-good-preserved : goal.loop-good-preserved
 loop-good-preserved g c =
@@ -19,16 +19,15 @@ loop-good-preserved g c =
     let found = c.in_ok-find_inside_among.ensures
     ∙ ap (λ (ps : List Posting). c.loop-good.indices.items ++ filter (is_inside_at (atoms_of g.S.GoodsSet.goods c.args.kept.now) bundle) (indices_of ps))
     there in
-    let more = IsFinding-more _ _ _ bundle _ _ _ _ c.in_ok-list_below.ensures.listed.listed rises
+    let more = IsFinding-more _ _ bundle _ _ _ _ c.requires.index rises
     (next_there goods bundle i c.requires.goods rises c.loop-good-test.true) found c.loop-good.invariant in
     rw (sym (behind_next goods bundle i c.requires.goods)) more
 
-pub returns-clause-indices : goal.returns-clause-indices
-returns-clause-indices g c =
+pub returns : goal.returns
+returns g c =
     let goods = g.S.GoodsSet.goods in
     let bundle = goods c.args.bundle.now in
-    let all = c.in_ok-list_below.ensures.listed in
     let none = none_there c.args.goods.now bundle c.loop-good.good-index c.requires.goods (g.met.S.GoodsSet.is_bundle c.args.bundle.now).0
     c.loop-good.auto.good-index-end c.loop-good-test.false in
-    IsFinding-all _ all.count (atoms_of goods c.args.kept.now) bundle _ _ _ all.listed all.others none c.loop-good.invariant
+    IsFinding-all _ (atoms_of goods c.args.kept.now) bundle _ _ _ c.requires.index none c.loop-good.invariant
     c.sort_unstable.ensures.permutation c.sort_unstable.ensures.sorted
