@@ -4,10 +4,10 @@ use Rattle.cats_cmd.proofs.Common.{◌≡◌, ◌≢◌, ℕ, List, [], ◌∷�
 use Rattle.cats_cmd.proofs.Common.{inr}
 use Rattle.cats_cmd.proofs.Common.{◌==◌, ◌||◌, both_ways, eq-eqb, PlainPlace, first_place, Kind, Device, Watched, CanonFault, Read, StepLimit, Memory, Commands}
 use Rattle.cats_cmd.proofs.Common.{Prints, CommandsOnBoth, Answer, outcome_of_place, PricedGives, PricedRefuses, RunsOnBids, outcome_of, FinePrices, is_some}
-use Rattle.cats_cmd.proofs.Common.{AnswersRequest, CarriesOut, RunsAt, RunsAtBoth, RunsFor, RunsOfCommand, RunsOnOne, RunsWith, FailsRequest, RunsCommand}
-use Rattle.cats_cmd.proofs.Common.{status_of_canon_fault, status_of_read_fault, Reports, line_of_request_error, has_found, is_for_many_files, is_reporting}
-use Rattle.cats_cmd.proofs.Common.{finds, is_many, reports, names_found, names_many_files, names_reporting, status_of_request_error, RequestError, CannotOpen}
-use Rattle.cats_cmd.proofs.Common.{NotOpened, Run, RunFault, Refused, Sent, PlainRequest, Files, One, Two, Many, Task, request_of, Unopened}
+use Rattle.cats_cmd.proofs.Common.{AnswersRequest, CarriesOut, RunsAt, RunsAtBoth, RunsFor, RunsOnOne, RunsWith, FailsRequest, RunsCommand}
+use Rattle.cats_cmd.proofs.Common.{status_of_canon_fault, status_of_read_fault, Reports, line_of_fault, has_found, is_for_many_files, is_reporting}
+use Rattle.cats_cmd.proofs.Common.{finds, is_many, reports, names_found, names_many_files, names_reporting, status_of_fault, RunFault}
+use Rattle.cats_cmd.proofs.Common.{Refused, Sent, PlainRequest, Files, One, Two, Many, Task, request_of, Unopened}
 use Rattle.cats_cmd.proofs.Common.{RunsOnFile, RunsOnPair, answer_if_lost, is_lost, max, true, length, rounded_prices, status_if_lost, unwrap_or}
 use Rattle.cats_text.specs.declared.read_fault.Kind.TheVariants.{Memory as NoMemory}
 use Rattle.requests.specs.Tasks.{files_of}
@@ -46,17 +46,17 @@ quiet_request words request asked quiet = rw asked at quiet
 -- ---- runs
 
 -- nothing was written, unless it is the output that failed
-abbrev IsSilent : {W : Type 0} → RequestError → Watched W → Watched W → Type 0
-IsSilent (Run (Sent fault)) old new = Unit {0}
-IsSilent error old new = new ≡ old
+abbrev IsSilent : {W : Type 0} → RunFault → Watched W → Watched W → Type 0
+IsSilent (Sent fault) old new = Unit {0}
+IsSilent fault old new = new ≡ old
 
 -- a run that failed has written nothing, unless its output failed
 silent_run : {W : Type 0} (contents : W → Option (List ℕ)) (Answers : Result Answer RunFault → Type 0) (old new : Watched W) (fault : RunFault)
-    → RunsCommand contents Answers old new (Err fault) → IsSilent (Run fault) old new
+    → RunsCommand contents Answers old new (Err fault) → IsSilent fault old new
 silent_run contents Answers old new (Sent fault) ran = tt
 silent_run contents Answers old new fault ran = ran.1
 
--- ---- errors
+-- ---- faults
 
 read_status_above : (kind : Kind) → 2 ≤ status_of_read_fault kind
 read_status_above Device = omega arith
@@ -68,19 +68,23 @@ canon_status_above (Read fault) = read_status_above fault.kind
 canon_status_above (StepLimit goods) = omega arith
 canon_status_above Memory = omega arith
 
--- no error has the status of an answer
-pub error_status_above : (error : RequestError) → 2 ≤ status_of_request_error error
-error_status_above (Run (Refused which fault)) = canon_status_above fault
-error_status_above error = omega arith
+-- no fault has the status of an answer
+pub fault_status_above : (fault : RunFault) → 2 ≤ status_of_fault fault
+fault_status_above (Refused which fault) = canon_status_above fault
+fault_status_above fault = omega arith
 
-silent_unless_failed : {W : Type 0} (error : RequestError) (old new : Watched W) → IsSilent error old new → (status_of_request_error error ≡ 5 → ⊥) → new ≡ old
-silent_unless_failed (Run (Sent fault)) old new silent failed = absurd (failed refl)
-silent_unless_failed error old new silent failed = silent
+silent_unless_failed : {W : Type 0} (fault : RunFault) (old new : Watched W) → IsSilent fault old new → (status_of_fault fault ≡ 5 → ⊥) → new ≡ old
+silent_unless_failed (Sent fault) old new silent failed = absurd (failed refl)
+silent_unless_failed fault old new silent failed = silent
+
+silent_if_same : {W : Type 0} (fault : RunFault) (old new : Watched W) → new ≡ old → IsSilent fault old new
+silent_if_same (Sent fault) old new same = tt
+silent_if_same fault old new same = same
 
 -- ---- requests
 
-no_answer : (fault : RunFault) (answer : Result ℕ RunFault) → answer ≡ Err fault → answer ≡ Ok 64 → ⊥
-no_answer fault answer failed answered = cc
+no_answer : (fault : RunFault) (status : ℕ) → Ok status ≡ Err fault → ⊥
+no_answer fault status is = cc
 
 -- of a command on two files: if nothing may be reported, prices are read as they are written
 quiet_pair : (task : Task) (prices : Option FinePrices) → Two ≡ files_of task → reports task prices ≡ false → is_some prices ≡ false
@@ -100,7 +104,7 @@ module _ {F W E : Type 0} (may_open : List ℕ → F → Type 0) (may_refuse : L
   abbrev Kept : Option FinePrices → Watched E → Result ℕ RunFault → Type 0
   Kept prices err_after (Ok status) =
       (status ≢ 5 → (status ≤ 1) ⊎ (out_after ≡ out)) × (is_some prices ≡ false → status ≤ 1 → err_after ≡ err)
-  Kept prices err_after (Err fault) = IsSilent (Run fault) out out_after
+  Kept prices err_after (Err fault) = IsSilent fault out out_after
 
   -- whether its report is lost or not
   kept_if_lost : (prices : Option FinePrices) (err_after : Watched E) (lost : Bool) (status : ℕ) → status ≤ 1
@@ -138,7 +142,7 @@ module _ {F W E : Type 0} (may_open : List ℕ → F → Type 0) (may_refuse : L
     kept_on (Some list) (Err fault) ran = kept_at ran.bids (Err fault) ran.runs
     kept_on (Some list) (Ok status) (inl listed) = kept_at listed.bids (Ok status) listed.runs
     kept_on (Some list) (Ok status) (inr refused) =
-        let least = error_status_above refused.error in
+        let least = fault_status_above refused.fault in
         let is = refused.is_status in
         ((λ other. inr refused.silent), (λ plain most. absurd (omega (arith, least, is, most))))
 
@@ -182,7 +186,7 @@ module _ {F W E : Type 0} (may_open : List ℕ → F → Type 0) (may_refuse : L
   KeptBy count task prices err_after (Ok status) =
       (is_many count ≡ false → finds task status ≡ false → status ≢ 5 → (status ≤ 1) ⊎ (out_after ≡ out))
       × ((is_many count || reports task prices) ≡ false → status ≤ 1 → err_after ≡ err)
-  KeptBy count task prices err_after (Err fault) = is_many count ≡ false → IsSilent (Run fault) out out_after
+  KeptBy count task prices err_after (Err fault) = is_many count ≡ false → IsSilent fault out out_after
 
   kept_few : (count : Files) (task : Task) (prices : Option FinePrices) (err_after : Watched E) (answer : Result ℕ RunFault)
       → ((is_many count || reports task prices) ≡ false → is_some prices ≡ false) → Kept prices err_after answer → KeptBy count task prices err_after answer
@@ -212,7 +216,7 @@ module _ {F W E : Type 0} (may_open : List ℕ → F → Type 0) (may_refuse : L
   unfit : (count : Files) (request : PlainRequest) (err_after : Watched E) (answer : Result ℕ RunFault)
       → (answer ≡ Ok 64) × (out_after ≡ out) × (err_after ≡ err) → KeptBy count request.task request.prices err_after answer
   unfit count request err_after (Ok status) ran = ((λ few none other. inr ran.1), (λ quiet most. ran.2))
-  unfit count request err_after (Err fault) ran = absurd (no_answer fault (Err fault) refl ran.0)
+  unfit count request err_after (Err fault) ran = absurd (no_answer fault 64 (sym ran.0))
 
   kept_with : (count : Files) (files : List (List ℕ)) (request : PlainRequest) (err_after : Watched E) (answer : Result ℕ RunFault)
       → count ≡ files_of request.task
@@ -229,7 +233,7 @@ module _ {F W E : Type 0} (may_open : List ℕ → F → Type 0) (may_refuse : L
   abbrev Ran : PlainRequest → Watched E → Result ℕ RunFault → Type 0
   Ran request err_after answer = RunsFor may_open may_refuse remaining contents messages terminal may_find request out out_after err err_after answer
 
-  abbrev Carried : PlainRequest → Watched E → Result ℕ RequestError → Type 0
+  abbrev Carried : PlainRequest → Watched E → Result ℕ RunFault → Type 0
   Carried request err_after answer = CarriesOut may_open may_refuse remaining contents messages terminal may_find request out out_after err err_after answer
 
   abbrev Failed : PlainRequest → Watched E → ℕ → Type 0
@@ -239,11 +243,15 @@ module _ {F W E : Type 0} (may_open : List ℕ → F → Type 0) (may_refuse : L
       → KeptBy (files_of request.task) request.task request.prices err_after answer
   kept_for request err_after answer ran = kept_with (files_of request.task) request.files request err_after answer refl ran
 
-  silent_request : (request : PlainRequest) (err_after : Watched E) (error : RequestError) → Carried request err_after (Err error)
-      → is_for_many_files request ≡ false → IsSilent error out out_after
-  silent_request request err_after (CannotOpen which) ran few = ran.1
-  silent_request request err_after (NotOpened why) ran few = absurd ran
-  silent_request request err_after (Run fault) ran few = kept_for request err_after (Err fault) ran few
+  silent_request : (request : PlainRequest) (err_after : Watched E) (fault : RunFault) → Carried request err_after (Err fault)
+      → is_for_many_files request ≡ false → IsSilent fault out out_after
+  silent_request request err_after fault (inl ran) few = kept_for request err_after (Err fault) ran few
+  silent_request request err_after fault (inr failed) few = silent_if_same fault out out_after failed.silent
+
+  -- a request that answers has run
+  answered : (request : PlainRequest) (err_after : Watched E) (status : ℕ) → Carried request err_after (Ok status) → Ran request err_after (Ok status)
+  answered request err_after status (inl ran) = ran
+  answered request err_after status (inr failed) = absurd (no_answer failed.fault status failed.is)
 
   module _ (request : PlainRequest) (err_after : Watched E) (status : ℕ) where
     abbrev Answered : Type 0
@@ -251,18 +259,18 @@ module _ {F W E : Type 0} (may_open : List ℕ → F → Type 0) (may_refuse : L
 
     -- a status but 0, 1 and 5 says that nothing was written, unless a fault was found
     pub silent_answer : Answered → is_for_many_files request ≡ false → has_found status request ≡ false → status ≢ 0 → status ≢ 1 → status ≢ 5 → out_after ≡ out
-    silent_answer (inl ran) few none a b c =
+    silent_answer (inl carried) few none a b c =
         ⊎_elim (λ (most : status ≤ 1). absurd (omega (arith, most, a, b))) (λ (silent : out_after ≡ out). silent)
-        ((kept_for request err_after (Ok status) ran).0 few none c)
+        ((kept_for request err_after (Ok status) (answered request err_after status carried)).0 few none c)
     silent_answer (inr s) few none a b c =
-        silent_unless_failed s.error out out_after (silent_request request s.between s.error s.carries few) (λ five. c (s.is_status ∙ five))
+        silent_unless_failed s.fault out out_after (silent_request request s.between s.fault s.carries few) (λ five. c (s.is_status ∙ five))
 
     -- the statuses 0 and 1 say that nothing was reported
     pub done_answer : Answered → is_reporting request ≡ false → status ≤ 1 → err_after ≡ err
-    done_answer (inl ran) few most = (kept_for request err_after (Ok status) ran).1 few most
-    done_answer (inr s) few most = let least = error_status_above s.error in let is = s.is_status in absurd (omega (arith, least, is, most))
+    done_answer (inl carried) few most = (kept_for request err_after (Ok status) (answered request err_after status carried)).1 few most
+    done_answer (inr s) few most = let least = fault_status_above s.fault in let is = s.is_status in absurd (omega (arith, least, is, most))
 
-  pub failed_request : (request : PlainRequest) (error : RequestError) (between err_after : Watched E) (status : ℕ) → Carried request between (Err error)
-      → Reports messages (line_of_request_error error) between err_after → status ≡ status_of_request_error error → Failed request err_after status
-  failed_request request error between err_after status carries reports is =
-      record { error = error; between = between; carries = carries; reports = reports; is_status = is }
+  pub failed_request : (request : PlainRequest) (fault : RunFault) (between err_after : Watched E) (status : ℕ) → Carried request between (Err fault)
+      → Reports messages (line_of_fault fault) between err_after → status ≡ status_of_fault fault → Failed request err_after status
+  failed_request request fault between err_after status carries reports is =
+      record { fault = fault; between = between; carries = carries; reports = reports; is_status = is }

@@ -34,7 +34,7 @@ pub use Rattle.cats_cmd.specs.FindingFaults.{outcome_of_place, text_of_place}
 pub use Rattle.cats_cmd.specs.Folders.{Finds, FindsAt, FoundAt, AreFilesAt, files_at, files_of, found_of, paths_of, BeginsWith, IsBelow, ListsFolder}
 pub use Rattle.cats_cmd.specs.Folders.{with_slash}
 pub use Rattle.cats_cmd.specs.Inputs.{IsOpened, ReadsBytes, IsUnreadStream, StopsReading, WantsMemoryForBytes, ReadsAll}
-pub use Rattle.cats_cmd.specs.Internal.Carrying.{IsButForText, answer_of_run}
+pub use Rattle.cats_cmd.specs.Internal.Carrying.{IsButForText}
 pub use Rattle.cats_cmd.specs.Internal.Gathering.{Gathers, GathersNext}
 pub use Rattle.cats_cmd.specs.Internal.Judging.{KeepsNumbers, AddsJudgement, AddsOpened, AddsRefused, KeepsGroups, AddsPath, HasJudged, JudgesAllAs}
 pub use Rattle.cats_cmd.specs.Internal.Judging.{OpensAllAs}
@@ -44,27 +44,25 @@ pub use Rattle.cats_cmd.specs.Opening.{Opening, Opens, regular_openings, with_op
 pub use Rattle.cats_cmd.specs.OutputPaths.{has_lines, IsPath, behind_tabs, end_byte, groups_in, is_empty, paths_in_table, read_path}
 pub use Rattle.cats_cmd.specs.PathLists.{ended, parts_in, paths_in, without_empty_end}
 pub use Rattle.cats_cmd.specs.Paths.{removal_lines, progress_lines, ReportsFrom, ReportsPath}
-pub use Rattle.cats_cmd.specs.Paths.{Judgement, IsHeavy, IsJudged, IsUnjudged, JudgesAs, JudgesInput, JudgedPath, Judges, Reporting, greatest_status}
+pub use Rattle.cats_cmd.specs.Paths.{JudgesAs, JudgedPath, Judges, Reporting, greatest_status}
 pub use Rattle.cats_cmd.specs.Paths.{judgement_at, lines_from, lines_of_path, report_lines, status_of_path, without_refusals, BeginsPaths, MakesOfPaths}
-pub use Rattle.cats_cmd.specs.Paths.{RunsOnPaths, outcome_of_paths, progress_line, refusal_line, request_error_of, status_if, is_counted}
+pub use Rattle.cats_cmd.specs.Paths.{RunsOnPaths, outcome_of_paths, progress_line, refusal_line, status_if, is_counted}
 pub use Rattle.cats_cmd.specs.PricedInputs.{PricedGives, PricedRefuses, IsPriced, rounded_words, rounding_lines, gives_by}
-pub use Rattle.cats_cmd.specs.RequestErrors.{Reports, line_of_request_error, has_found, is_for_many_files, is_reporting, finds, is_many, reports, names_found}
-pub use Rattle.cats_cmd.specs.RequestErrors.{names_many_files, names_reporting, status_of_request_error, line_of_unopened, ReportsAll, SendsText}
-pub use Rattle.cats_cmd.specs.RequestErrors.{answer_if_lost, is_lost, status_if_lost}
+pub use Rattle.cats_cmd.specs.Reports.{Reports, has_found, is_for_many_files, is_reporting, finds, reports, names_found, names_many_files}
+pub use Rattle.cats_cmd.specs.Reports.{names_reporting, ReportsAll, SendsText}
+pub use Rattle.cats_cmd.specs.Reports.{answer_if_lost, is_lost, status_if_lost}
 pub use Rattle.cats_cmd.specs.Requests.{AnswersNoRequest, AnswersRequest, Carries, CarriesOut, RunsAt, RunsAtBoth, RunsFor, RunsOfCommand, RunsOnOne}
 pub use Rattle.cats_cmd.specs.Requests.{RunsWith, FailsRequest}
 pub use Rattle.cats_cmd.specs.Rounding.{IsUnrounded, Rounds}
 pub use Rattle.cats_cmd.specs.Runs.{RunsCommand, SendsAs, RunsOnFile, RunsOnPair, SendsAnswer, SendsMadeAs, WritesText}
-pub use Rattle.cats_cmd.specs.SizesTables.{fault_cell, without_end, MakesTable, columns, rows_of_table, sizes_header, row, number_columns}
+pub use Rattle.cats_cmd.specs.SizesTables.{fault_cell, without_end, MakesTable, columns, rows_of_table, sizes_header, row}
 pub use Rattle.cats_cmd.specs.declared.duplicates.Groups.{Groups}
-pub use Rattle.cats_cmd.specs.declared.errors.RequestError.{RequestError}
-pub use Rattle.cats_cmd.specs.declared.errors.RequestError.TheVariants.{CannotOpen, NotOpened, Run}
 pub use Rattle.cats_cmd.specs.declared.folder.Walk.{Walk}
 pub use Rattle.cats_cmd.specs.declared.paths.Ending.{Ending}
 pub use Rattle.cats_cmd.specs.declared.paths.Ending.TheVariants.{Line, Null}
 pub use Rattle.cats_cmd.specs.declared.paths.Progress.TheVariants.{Silent}
 pub use Rattle.cats_cmd.specs.declared.priced_input.PricedInput.{PricedInput}
-pub use Rattle.cats_cmd.specs.declared.source.Unopened.{Unopened}
+pub use Rattle.commands.specs.declared.faults.Unopened.{Unopened}
 pub use Rattle.cats_cmd.specs.declared.source.Way.TheVariants.{Anything, NoFolder, Regular}
 pub use Rattle.cats_text.proofs.Spelling.Files.{spells_from_no_fault}
 pub use Rattle.cats_text.proofs.Texts.FaultKinds.{IsFaultOfBytes, first_fault-of_bytes}
@@ -82,18 +80,19 @@ pub use Rattle.cats_text.specs.declared.stream.Watched.{Watched}
 pub use Rattle.command_line.proofs.Answering.{only_memory}
 pub use Rattle.command_line.specs.Requests.{request_of, IsNoRequestOf, is_no_memory}
 pub use Rattle.requests.specs.Requests.{PlainRequest, plain_request, texts_of}
+pub use Rattle.requests.specs.Tasks.{is_many}
 pub use Rattle.requests.specs.declared.task.Files.{Files}
 pub use Rattle.requests.specs.declared.task.Files.TheVariants.{One, Two, Many}
 pub use Rattle.requests.specs.declared.task.Task.{Task}
 pub use Rattle.command_line.specs.declared.request.NoRequest.{NoRequest}
 pub use Rattle.command_line.specs.declared.request.NoRequest.TheVariants.{WrongUsage, NoMemory}
-pub use Rattle.commands.proofs.Sizing.{heavy_bid}
 pub use Rattle.commands.specs.Commands.{Commands, text_of}
 pub use Rattle.commands.specs.ComparisonTexts.{difference_text, side_text}
 pub use Rattle.commands.specs.DiffTexts.{diff_text, goods_rows}
 pub use Rattle.commands.specs.ExplanationTexts.{explanation_text, reason_cells}
 pub use Rattle.commands.specs.FaultHints.{hint_of_kind}
-pub use Rattle.commands.specs.FaultLines.{line_of_fault, prefix_of, text_of_canon_fault, text_of_heavy_bid, text_of_kind, total_text}
+pub use Rattle.commands.specs.FaultLines.{line_of_fault, prefix_of, text_of_canon_fault, text_of_heavy_bid, text_of_kind, text_of_unopened, total_text}
+pub use Rattle.commands.specs.Judgements.{Judgement, IsHeavy, IsJudged, IsUnjudged, JudgesInput, fault_judged}
 pub use Rattle.commands.specs.FaultPlaceTexts.{before_word, behind_word, shown_bytes}
 pub use Rattle.commands.specs.KindNames.{name_of_kind}
 pub use Rattle.commands.specs.Naming.{with_bid}
@@ -104,13 +103,13 @@ pub use Rattle.commands.specs.Outputs.{bundle_text, list_cell, number_cell, pric
 pub use Rattle.commands.specs.Pairs.{CommandsBy, CommandsOnBoth, CommandsBoth, GivesBoth, outcome_of_both}
 pub use Rattle.commands.specs.Pieces.{text_of_piece, text_of_pieces}
 pub use Rattle.commands.specs.RoundedLines.{rounded_line}
-pub use Rattle.commands.specs.SizesRows.{cells, Sized, IsSized, IsTooHeavy, IsUnsized, Sizes, fault_sized, numbers_sized}
-pub use Rattle.commands.specs.Statuses.{status_of_canon_fault, status_of_read_fault}
+pub use Rattle.commands.specs.SizesRows.{cells, number_columns, numbers_judged}
+pub use Rattle.commands.specs.Statuses.{status_of_canon_fault, status_of_fault, status_of_read_fault}
 pub use Rattle.commands.specs.ValueTexts.{value_text, bundle_from}
 pub use Rattle.commands.specs.declared.answer.Answer.{Answer}
 pub use Rattle.commands.specs.declared.faults.HeavyBid.{HeavyBid}
 pub use Rattle.commands.specs.declared.faults.RunFault.{RunFault}
-pub use Rattle.commands.specs.declared.faults.RunFault.TheVariants.{Refused, Sent, TooHeavy, GoodRange, BidRange}
+pub use Rattle.commands.specs.declared.faults.RunFault.TheVariants.{NotOpened, Refused, Sent, TooHeavy, GoodRange, BidRange}
 pub use Rattle.prune.specs.SearchSteps.{first_refused}
 pub use Rattle.rounding.specs.Answers.{IsRounded}
 pub use Rattle.rounding.specs.Texts.{rounded_prices, rounded_text}

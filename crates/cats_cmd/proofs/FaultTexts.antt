@@ -1,12 +1,13 @@
 -- What is reported of a fault is a line of printable ASCII.
 use Rattle.cats_cmd.proofs.Common.{not, ◌≡◌, ℕ, ◌-◌, ◌<◌, ◌==◌, true, List, [], ◌∷◌, ◌++◌, length, take, refl, sym, ap, ◌∙◌, arith, list_all, take-append_seam}
+use Rattle.cats_cmd.proofs.Common.{Other, text_of_unopened}
 use Rattle.cats_cmd.proofs.Common.{nat_tests, append_assoc, line_of_fault, prefix_of, text_of_canon_fault, text_of_heavy_bid, text_of_kind, total_text}
 use Rattle.cats_cmd.proofs.Common.{HeavyBid, bundle_text, number_cell, RunFault, Refused, TooHeavy, GoodRange, BidRange, Sent, CanonFault, Read, StepLimit}
-use Rattle.cats_cmd.proofs.Common.{Memory, Which, Kind, line_of_request_error, line_of_unopened, fault_cell, without_end, RequestError, CannotOpen, NotOpened}
-use Rattle.cats_cmd.proofs.Common.{Run, Unopened, codes, decimal, Option, Some, None, length-append}
+use Rattle.cats_cmd.proofs.Common.{Memory, Which, Kind, fault_cell, without_end, NotOpened}
+use Rattle.cats_cmd.proofs.Common.{Unopened, codes, decimal, Option, Some, None, length-append}
 use Rattle.canon.specs.declared.which.Which.TheVariants as which
 use Rattle.cats_text.specs.declared.read_fault.Kind.TheVariants as kinds
-use Rattle.cats_cmd.specs.declared.source.Unopened.TheVariants as unopened
+use Rattle.commands.specs.declared.faults.Unopened.TheVariants as unopened
 use Rattle.cats_cmd.proofs.PrintableTexts.{lacks, list_all-weaker, is_ascii, list_all-decimal, of_each}
 
 abbrev pub Plain : List ℕ → Type 0
@@ -60,21 +61,17 @@ ended text plain = record { text = text; is = refl; plain = plain }
 ended_behind : (xs ys : List ℕ) → Plain (xs ++ ys) → IsLine (xs ++ (ys ++ 10 ∷ []))
 ended_behind xs ys plain = record { text = xs ++ ys; is = sym (append_assoc xs ys (10 ∷ [])); plain = plain }
 
-fault_line : (why : RunFault) → IsLine (line_of_fault why)
+unopened_text : (why : Unopened) → Plain (text_of_unopened why)
+unopened_text unopened.Other = refl
+unopened_text why = refl
+
+pub fault_line : (why : RunFault) → IsLine (line_of_fault why)
+fault_line (NotOpened w why) = ended (prefix_of w ++ text_of_unopened why) (simp (of_each, prefix, unopened_text))
 fault_line (Refused w why) = ended (prefix_of w ++ text_of_canon_fault why) (simp (of_each, prefix, canon_text))
 fault_line (TooHeavy w heavy) = ended (prefix_of w ++ text_of_heavy_bid heavy) (simp (of_each, prefix, heavy_text))
 fault_line (GoodRange good) = ended_behind (codes "good " ++ decimal good) (codes " out of range") (simp (of_each, number))
 fault_line (BidRange bid) = ended_behind (codes "bid " ++ decimal bid) (codes " out of range") (simp (of_each, number))
 fault_line (Sent why) = ended_behind (codes "output failed after " ++ decimal why.written) (codes " bytes") (simp (of_each, number))
-
-unopened_line : (why : Unopened) → IsLine (line_of_unopened why)
-unopened_line unopened.Other = ended (codes "cannot open") refl
-unopened_line why = ended (without_end (line_of_unopened why)) refl
-
-pub error_line : (error : RequestError) → IsLine (line_of_request_error error)
-error_line (CannotOpen w) = ended_behind (prefix_of w) (codes "cannot open") (simp (of_each, prefix))
-error_line (NotOpened why) = unopened_line why
-error_line (Run why) = fault_line why
 
 -- ---- cells
 
@@ -83,9 +80,9 @@ end_left_out text =
     let shorter : length (text ++ 10 ∷ []) - 1 ≡ length text = omega (arith, length-append text (10 ∷ [])) in
     ap (λ (n : ℕ). take n (text ++ 10 ∷ [])) shorter ∙ take-append_seam text (10 ∷ [])
 
-pub fault_plain : (error : Option RequestError) → Plain (fault_cell error)
+pub fault_plain : (fault : Option RunFault) → Plain (fault_cell fault)
 fault_plain None = refl
-fault_plain (Some error) = let line = error_line error in rw (line.is, end_left_out line.text) line.plain
+fault_plain (Some fault) = let line = fault_line fault in rw (line.is, end_left_out line.text) line.plain
 
 pub number_plain : (number : Option ℕ) → Plain (number_cell number)
 number_plain None = refl

@@ -1,16 +1,17 @@
 -- The file at one path: what reading its input says of it, in the words of the run.
-use Rattle.cats_cmd.proofs.Common.{◌≡◌, ℕ, List, [], ◌∷◌, ◌++◌, Option, None, Some, refl, ap, ap₂, subst, inl, inr, Global, Vec, PlainFile, IsPlainFile}
-use Rattle.cats_cmd.proofs.Common.{FinePrices, SearchOptions, fault_at, Kind, ReadFault, or_atoms_of, first_refused, RefusesAs, canonical_text, AddsText}
+use Rattle.cats_cmd.proofs.Common.{◌≡◌, ℕ, List, [], ◌∷◌, ◌++◌, Option, None, Some, refl, Global, Vec, PlainFile, IsPlainFile}
+use Rattle.cats_cmd.proofs.Common.{FinePrices, SearchOptions, ReadFault, or_atoms_of, first_refused, RefusesAs, canonical_text, AddsText}
 use Rattle.cats_cmd.proofs.Common.{IsText}
-use Rattle.cats_cmd.proofs.Common.{normalised_file, refusal_by_kind, refusal_of, CanonFault, Read, StepLimit, Memory, Only}
-use Rattle.cats_cmd.proofs.Common.{heavy_bid, found_paths, HeavyBid, with_bid, exceeds_at, text_unless_refused, IsPriced, PricedGives}
+use Rattle.cats_cmd.proofs.Common.{normalised_file, refusal_of, CanonFault, Read, StepLimit, Memory, Only}
+use Rattle.cats_cmd.proofs.Common.{heavy_bid, found_paths, HeavyBid, with_bid, IsPriced, PricedGives}
 use Rattle.cats_cmd.proofs.Common.{PricedRefuses, AddsJudgement, AddsOpened, AddsRefused, KeepsGroups, Judgement, IsHeavy, IsJudged, IsUnjudged, JudgesAs}
-use Rattle.cats_cmd.proofs.Common.{JudgesInput, CannotOpen, NotOpened, Run, PricedInput, Refused, files_if_heavy, files_if_judged, heavy_files, heavy_paths}
+use Rattle.cats_cmd.proofs.Common.{JudgesInput, NotOpened, PricedInput, Refused, files_if_heavy, files_if_judged, heavy_files, heavy_paths}
 use Rattle.cats_cmd.proofs.Common.{judged_files, judged_paths, paths_if_heavy, paths_if_judged, Groups, AreSameFiles, AreAlike, unsearched_text}
 use Rattle.cats_cmd.proofs.Common.{unsearched_texts_tell, canonical_texts_tell, Unopened}
 use Rattle.cats_text.specs.declared.read_fault.Kind.TheVariants.{Memory as NoMemory}
 use Rattle.cats_cmd.proofs.Skipping.{groups_skip}
 use Rattle.cats_cmd.proofs.FindingNumbers.{judgement_more, judgement_skipped, numbers_more}
+use Rattle.commands.proofs.Judging.{judged_heavy, judged_unmade, judged_unread}
 use Rattle.canon.specs.Normalising.{ExceedsSteps, IsNoFile, unless_refused}
 
 -- ---- refused bundles, by what normalising a file gives
@@ -30,27 +31,6 @@ refused_bundle file (Some heavy) goods is = cc
 -- ---- one input
 
 module _ {I : Type 0} (gives : I → I → PlainFile → Type 0) (refuses : I → I → ReadFault → Type 0) (options : SearchOptions) (old new : I) where
-  abbrev Judged : Judgement → Type 0
-  Judged judgement = JudgesInput gives refuses options old new judgement
-
-  judged_by_kind : (why : ReadFault) (kind : Kind) → why.kind ≡ kind → (why.kind ≡ NoMemory → why.line ≡ 0) → refuses old new why
-      → Judged (IsUnjudged (Run (Refused Only (refusal_by_kind why kind))))
-  judged_by_kind why NoMemory is no_line refused =
-      (refl, inl (subst (refuses old new) (ap₂ (λ (line : ℕ) (kind : Kind). fault_at line kind) (no_line is) is) refused))
-  judged_by_kind why kind is no_line refused = (refl, ((λ memory. cc), refused))
-
-  -- no file was given. Want of memory is on no line
-  pub judged_unread : (why : ReadFault) → (why.kind ≡ NoMemory → why.line ≡ 0) → refuses old new why → Judged (IsUnjudged (Run (Refused Only (refusal_of why))))
-  judged_unread why no_line refused = judged_by_kind why why.kind refl no_line refused
-
-  module _ (file : PlainFile) (given : gives old new file) where
-    pub judged_heavy : (goods : Vec ℕ Global) → first_refused options file.goods (or_atoms_of file.bids) ≡ Some goods.items
-        → Judged (IsHeavy file (heavy_bid options file goods))
-    judged_heavy goods heavy = (given, ap (text_unless_refused (exceeds_at options file) (canonical_text file)) heavy)
-
-    pub judged_unmade : Judged (IsUnjudged (Run (Refused Only Memory)))
-    judged_unmade = (refl, inr (record { file = file; given = given }))
-
   -- ---- the groups of `cats duplicates`
 
   -- the file was judged
@@ -72,36 +52,36 @@ module _ {I : Type 0} (gives : I → I → PlainFile → Type 0) (refuses : I �
       heavy = rw kept (judgement_skipped unsearched_text AreAlike files_if_heavy paths_if_heavy js path (IsJudged file) before.heavy.index
           (found_paths before.heavy.found.items) refl refl h.heavy);
     };
-    is_error = refl;
+    is_fault = refl;
   }
 
   -- no file was given
   pub groups_unread : (groups : Groups) (path : List ℕ) (why : ReadFault) → (why.kind ≡ NoMemory → why.line ≡ 0) → refuses old new why
-      → AddsOpened KeepsGroups gives refuses options path groups groups old new (Some (Run (Refused Only (refusal_of why))))
+      → AddsOpened KeepsGroups gives refuses options path groups groups old new (Some (Refused Only (refusal_of why)))
   groups_unread groups path why no_line refused = record {
-    judgement = IsUnjudged (Run (Refused Only (refusal_of why)));
-    judges = judged_unread why no_line refused;
-    adds = λ js h. groups_skip groups js path (Run (Refused Only (refusal_of why))) h;
-    is_error = refl;
+    judgement = IsUnjudged (Refused Only (refusal_of why));
+    judges = judged_unread gives refuses options old new why no_line refused;
+    adds = λ js h. groups_skip groups js path (Refused Only (refusal_of why)) h;
+    is_fault = refl;
   }
 
   -- the file was refused
   pub groups_unmade : (before tried after : Groups) (path : List ℕ) → tried ≡ before → (file : PlainFile) → gives old new file → (fault : CanonFault)
       → RefusesAs (normalised_file options file) fault → AddsRefused path file fault tried after
-      → AddsOpened KeepsGroups gives refuses options path before after old new (Some (Run (with_bid Only file options fault)))
+      → AddsOpened KeepsGroups gives refuses options path before after old new (Some (with_bid Only file options fault))
   groups_unmade before tried after path same file given (Read why) refused adds =
       absurd (no_fault_made file (first_refused options file.goods (or_atoms_of file.bids)) why refused)
   groups_unmade before tried after path same file given (StepLimit goods) refused adds = record {
     judgement = IsHeavy file (heavy_bid options file goods);
-    judges = judged_heavy file given goods (refused_bundle file (first_refused options file.goods (or_atoms_of file.bids)) goods.items refused);
+    judges = judged_heavy gives refuses options old new file given goods (refused_bundle file (first_refused options file.goods (or_atoms_of file.bids)) goods.items refused);
     adds = λ js h. adds (heavy_bid options file goods) js (rw same h);
-    is_error = refl;
+    is_fault = refl;
   }
   groups_unmade before tried after path same file given Memory refused adds = record {
-    judgement = IsUnjudged (Run (Refused Only Memory));
-    judges = judged_unmade file given;
-    adds = λ js h. adds (Run (Refused Only Memory)) js (rw same h);
-    is_error = refl;
+    judgement = IsUnjudged (Refused Only Memory);
+    judges = judged_unmade gives refuses options old new file given;
+    adds = λ js h. adds (Refused Only Memory) js (rw same h);
+    is_fault = refl;
   }
 
 -- a file that a step limit refused is with those that are alike
@@ -125,6 +105,5 @@ module _ {F : Type 0} (may_open : List ℕ → F → Type 0) (may_refuse : List 
   pub opened_judges : (before after : PricedInput F) → IsPriced may_open prices path before → (j : Judgement)
       → JudgesInput (PricedGives remaining) (PricedRefuses remaining) options before after j
       → JudgesAs may_open may_refuse remaining options prices path after.rounded j
-  opened_judges before after opened (IsUnjudged (CannotOpen which)) judges = absurd judges
-  opened_judges before after opened (IsUnjudged (NotOpened why)) judges = absurd judges
+  opened_judges before after opened (IsUnjudged (NotOpened which why)) judges = absurd judges
   opened_judges before after opened judgement judges = record { before = before; after = after; opened = opened; judges = judges; count = refl }

@@ -5,8 +5,8 @@ use Rattle.cats_cmd.proofs.Common.{Option, Result, Ok, Err, IsErr, Bor, AllByRec
 use Rattle.cats_cmd.proofs.Common.{length-map, length-take-le, take-map, take_all, fold_push, Watched, FinePrices, SearchOptions, AddsPath, HasJudged}
 use Rattle.cats_cmd.proofs.Common.{JudgesAllAs}
 use Rattle.cats_cmd.proofs.Common.{Judges, Reporting, ReportsFrom, ReportsPath, greatest_status, judgement_at, lines_from, lines_of_path, report_lines}
-use Rattle.cats_cmd.proofs.Common.{status_of_path, without_refusals, removal_lines, rounding_lines, progress_lines, request_error_of, is_lost, Bool}
-use Rattle.cats_cmd.proofs.Common.{Silent, JudgedPath, Judgement, ReportsAll, RequestError, Unopened}
+use Rattle.cats_cmd.proofs.Common.{status_of_path, without_refusals, removal_lines, rounding_lines, progress_lines, fault_judged, is_lost, Bool}
+use Rattle.cats_cmd.proofs.Common.{Silent, JudgedPath, Judgement, ReportsAll, RunFault, Unopened}
 
 pub all_push : {X : Type 0} (P : X → Type 0) (xs : List X) (x : X) → AllByRecursion P xs → P x → AllByRecursion P (xs ++ x ∷ [])
 all_push P [] x h p = (p, tt)
@@ -44,15 +44,15 @@ path_reported messages first then more last a b c d e one two three four =
 
 -- the same, until its rounded prices were reported, and then
 pub path_reports : {E : Type 0} (messages : E → Option (List ℕ)) (reporting : Reporting) (count number : ℕ) (path : List ℕ) (judgement : Judgement)
-    (error : Option RequestError) → error ≡ request_error_of judgement → (rounded : ℕ) (lost : Bool) (a b c d e : Watched E) → lost ≡ is_lost rounded c
+    (fault : Option RunFault) → fault ≡ fault_judged judgement → (rounded : ℕ) (lost : Bool) (a b c d e : Watched E) → lost ≡ is_lost rounded c
     → ReportsAll messages (removal_lines reporting.progress number) a b → ReportsAll messages (rounding_lines path rounded) b c
-    → ReportsAll messages (reporting.refusals path error) c d → ReportsAll messages (progress_lines reporting.progress number count path) d e
+    → ReportsAll messages (reporting.refusals path fault) c d → ReportsAll messages (progress_lines reporting.progress number count path) d e
     → ReportsPath messages reporting count number (record { path = path; judgement = judgement; rounded = rounded; lost = lost }) a e
-path_reports messages reporting count number path judgement error is rounded lost a b c d e loses one two three four = record {
+path_reports messages reporting count number path judgement fault is rounded lost a b c d e loses one two three four = record {
   between = c;
   roundings = reports_more messages (removal_lines reporting.progress number) (rounding_lines path rounded) a b c one two;
   loses = loses;
-  others = rw is at (reports_more messages (reporting.refusals path error) (progress_lines reporting.progress number count path) c d e three four);
+  others = rw is at (reports_more messages (reporting.refusals path fault) (progress_lines reporting.progress number count path) c d e three four);
 }
 
 reports_push : {E : Type 0} (messages : E → Option (List ℕ)) (reporting : Reporting) (count number : ℕ) (js : List JudgedPath) (j : JudgedPath)

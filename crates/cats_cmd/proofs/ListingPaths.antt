@@ -1,7 +1,7 @@
 -- The parts of a list of paths: what is behind its last NUL is a path only if it is not empty.
 use Rattle.cats_cmd.proofs.Common.{◌≡◌, ◌≢◌, ℕ, List, [], ◌∷◌, ◌++◌, length, refl, sym, ap, ◌∙◌, subst, arith, map, ◌<◌, true, Option, Err, list_all}
 use Rattle.cats_cmd.proofs.Common.{slice_split, and_parts, eq-eqb, append_assoc, length-map, map-append, length-slice_split, slice_split_at, Watched}
-use Rattle.cats_cmd.proofs.Common.{ReadFault, refusal_of, Only, IsUnread, IsOpened, ReadsBytes, Run, Refused, ended, parts_in, paths_in, without_empty_end}
+use Rattle.cats_cmd.proofs.Common.{ReadFault, refusal_of, Only, IsUnread, IsOpened, ReadsBytes, Refused, ended, parts_in, paths_in, without_empty_end}
 use Rattle.cats_cmd.proofs.Common.{Unopened, Bor, ◌==◌}
 use Rattle.cats_cmd.proofs.PrintableTexts.{lacks, none_passes}
 use Rattle.cats_cmd.proofs.ReadingBytes.{unread_stream}
@@ -75,8 +75,8 @@ parts_back end (part ∷ parts) plain =
 module _ {F : Type 0} (may_open : List ℕ → F → Type 0) (may_refuse : List ℕ → Unopened → Type 0) (remaining : F → Option (List ℕ)) (list : List ℕ)
     (before after : Watched F) (opened : IsOpened may_open list before) where
   pub list_unread : (fault : ReadFault) → ReadsBytes remaining before after (Err fault)
-      → IsUnread may_open may_refuse remaining list (Run (Refused Only (refusal_of fault)))
+      → IsUnread may_open may_refuse remaining list (Refused Only (refusal_of fault))
   list_unread fault unread =
-      unread_stream remaining before after (λ why. IsUnread may_open may_refuse remaining list (Run (Refused Only why)))
+      unread_stream remaining before after (λ why. IsUnread may_open may_refuse remaining list (Refused Only why))
       (λ f stops. (refl, record { before = before; after = after; opened = opened; stops = stops }))
       (λ wants. (refl, record { before = before; after = after; opened = opened; wants = wants })) fault unread

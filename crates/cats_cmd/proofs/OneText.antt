@@ -1,13 +1,12 @@
 -- The run on the only text of a name, if it ends in success: all of the text is read, and what is made of it is printed.
 use Rattle.cats_cmd.proofs.Common.{◌≡◌, ◌<◌, ◌++◌, ◌∙◌, ℕ, Bool, List, Option, Some, None, Result, Ok, Err, arith, refl, sym, ap, subst, append-nil}
 use Rattle.cats_cmd.proofs.Common.{PlainFile, CanonFault, Read, StepLimit, Memory, Kind, Device, status_of_canon_fault, status_of_read_fault, Watched}
-use Rattle.cats_cmd.proofs.Common.{inner_of, SendsWhole, FinePrices, Outcome, Commands, text_of, RunFault, Refused, Sent, TooHeavy, GoodRange, BidRange}
+use Rattle.cats_cmd.proofs.Common.{inner_of, SendsWhole, FinePrices, Outcome, Commands, text_of, RunFault, Refused}
 use Rattle.cats_cmd.proofs.Common.{IsPriced, PricedGives, PricedRefuses, gives_by, PricedInput, answer_if_lost, is_lost}
-use Rattle.cats_cmd.proofs.Common.{status_of_request_error, RequestError, CannotOpen, NotOpened, Run, RunsAt, RunsOnFile}
+use Rattle.cats_cmd.proofs.Common.{status_of_fault, RunsAt, RunsOnFile}
 use Rattle.std.specs.Io.KnownBytes.{Consumes, IsAtEnd}
 use Rattle.cats_text.specs.Grammar.{Spells}
 use Rattle.cats_text.specs.declared.read_fault.Kind.TheVariants.{Memory as NoMemory}
-use Rattle.commands.specs.Statuses.{status_of_fault}
 use Rattle.cats_cmd.specs.OneText.{PrintsOf, text_read}
 use Rattle.cats_cmd.specs.Runs.{WritesAnswer}
 
@@ -23,17 +22,9 @@ canon_fails (Read fault) = read_fails fault.kind
 canon_fails (StepLimit goods) = omega arith
 canon_fails Memory = omega arith
 
-fault_fails : (fault : RunFault) → 1 < status_of_fault fault
+pub fault_fails : (fault : RunFault) → 1 < status_of_fault fault
 fault_fails (Refused which fault) = canon_fails fault
-fault_fails (TooHeavy which heavy) = omega arith
-fault_fails (GoodRange good) = omega arith
-fault_fails (BidRange bid) = omega arith
-fault_fails (Sent fault) = omega arith
-
-pub error_fails : (error : RequestError) → 1 < status_of_request_error error
-error_fails (CannotOpen which) = omega arith
-error_fails (NotOpened why) = omega arith
-error_fails (Run fault) = fault_fails fault
+fault_fails fault = omega arith
 
 not_lost : (lost : Bool) (status sent : ℕ) (answer : Result ℕ RunFault) → answer ≡ Ok status → status < 2 → answer ≡ answer_if_lost lost (Ok sent)
     → status ≡ sent

@@ -1,9 +1,9 @@
 -- The lines that name paths, and the texts of `cats duplicates` and `cats sizes`: what is printed there beside paths is ASCII of ours.
 use Rattle.cats_cmd.proofs.Common.{◌≡◌, ℕ, ◌<◌, ◌==◌, ◌||◌, Bool, true, List, [], ◌∷◌, ◌++◌, refl, sym, subst, arith, All, flat_map, list_all, and_parts}
 use Rattle.cats_cmd.proofs.Common.{nat_tests, All-weaker, duplicates_text, groups_text, lines_of, printed_groups, AreBytes, IsTextOf, end_of, escaped}
-use Rattle.cats_cmd.proofs.Common.{is_printable, is_shown, path_text, Judgement, progress_line, refusal_line, line_of_request_error, MakesTable, row}
-use Rattle.cats_cmd.proofs.Common.{sizes_header, Line, RequestError, codes, decimal}
-use Rattle.cats_cmd.proofs.FaultTexts.{Plain, error_line}
+use Rattle.cats_cmd.proofs.Common.{is_printable, is_shown, path_text, Judgement, progress_line, refusal_line, line_of_fault, MakesTable, row}
+use Rattle.cats_cmd.proofs.Common.{sizes_header, Line, RunFault, codes, decimal}
+use Rattle.cats_cmd.proofs.FaultTexts.{Plain, fault_line}
 use Rattle.cats_cmd.proofs.OutputPaths.{printed_all, words_of, words_plain}
 use Rattle.cats_cmd.proofs.PrintableTexts.{are_bytes, bytes_from, list_all-from_All, ascii_text, is_ascii, list_all-decimal, no_text, printable, text_behind}
 
@@ -54,13 +54,13 @@ path_shown path bytes =
 plain_shown : (text : List ℕ) → Plain text → Shown text
 plain_shown = ascii_text is_shown is_ascii (λ b e. ours_shown b (rw e refl))
 
-pub error_shown : (error : RequestError) → Shown (line_of_request_error error)
-error_shown error = let line = error_line error in subst Shown (sym line.is) (then (plain_shown line.text line.plain) (ours (codes "\n") refl))
+pub fault_shown : (fault : RunFault) → Shown (line_of_fault fault)
+fault_shown fault = let line = fault_line fault in subst Shown (sym line.is) (then (plain_shown line.text line.plain) (ours (codes "\n") refl))
 
 -- ---- lines that name a path
 
-pub refusal_shown : (path : List ℕ) (error : RequestError) → AreBytes path → Shown (refusal_line path error)
-refusal_shown path error bytes = then (then (path_shown path (bytes_from path bytes)) (ours (codes ": ") refl)) (error_shown error)
+pub refusal_shown : (path : List ℕ) (fault : RunFault) → AreBytes path → Shown (refusal_line path fault)
+refusal_shown path fault bytes = then (then (path_shown path (bytes_from path bytes)) (ours (codes ": ") refl)) (fault_shown fault)
 
 pub progress_shown : (k n : ℕ) (path : List ℕ) → AreBytes path → Shown (progress_line k n path)
 progress_shown k n path bytes =

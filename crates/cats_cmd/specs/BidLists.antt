@@ -12,9 +12,7 @@ use Rattle.analysis.specs.declared.winners.bid_numbers.BidNumbersFault.TheVarian
 use Rattle.commands.specs.declared.faults.RunFault.{RunFault}
 use Rattle.commands.specs.declared.faults.RunFault.TheVariants.{Refused}
 use Rattle.cats_cmd.specs.FileLists.{IsUnread, ReadsList, RefusesList}
-use Rattle.cats_cmd.specs.declared.errors.RequestError.{RequestError}
-use Rattle.cats_cmd.specs.declared.errors.RequestError.TheVariants.{Run}
-use Rattle.cats_cmd.specs.declared.source.Unopened.{Unopened}
+use Rattle.commands.specs.declared.faults.Unopened.{Unopened}
 
 -- as the fault of a bid file: a word of this line is not a number, or memory was refused
 abbrev pub fault_of_numbers : BidNumbersFault → CanonFault
@@ -31,16 +29,16 @@ module _ {F : Type 0} (may_open : List ℕ → F → Type 0) (may_refuse : List 
     pub are : bids ≡ bid_numbers bytes
 
   -- the list was read, and its words are not numbers, or memory was refused for them
-  pub record RefusesBids (error : RequestError) : Type 0 where
+  pub record RefusesBids (refusal : RunFault) : Type 0 where
     pub bytes : List ℕ
     pub reads : ReadsList may_open may_refuse remaining list bytes
     pub fault : BidNumbersFault
     pub refuses : RefusesNumbers bytes fault
-    pub is : error ≡ Run (Refused Only (fault_of_numbers fault))
+    pub is : refusal ≡ Refused Only (fault_of_numbers fault)
 
   -- why there are no bids
-  abbrev pub AreUnread : RequestError → Type 0
-  AreUnread error = IsUnread may_open may_refuse remaining list error ⊎ RefusesBids error
+  abbrev pub AreUnread : RunFault → Type 0
+  AreUnread fault = IsUnread may_open may_refuse remaining list fault ⊎ RefusesBids fault
 
 -- `Runs` is the run on the bids of some numbers.
 module _ {F W E : Type 0} (may_open : List ℕ → F → Type 0) (may_refuse : List ℕ → Unopened → Type 0)

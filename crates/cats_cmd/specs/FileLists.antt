@@ -2,18 +2,17 @@
 use Rattle.std.specs.Prelude.{◌≡◌, ◌⊎◌, ℕ, List, Option, Some, None, Result, Ok, Err}
 use Rattle.cats_text.specs.declared.read_fault.ReadFault.{ReadFault}
 use Rattle.cats_text.specs.declared.stream.Watched.{Watched}
-use Rattle.canon.specs.declared.canon_fault.CanonFault.TheVariants.{Read, StepLimit, Memory}
+use Rattle.canon.specs.declared.canon_fault.CanonFault.TheVariants.{Read, Memory}
 use Rattle.canon.specs.declared.which.Which.TheVariants.{Only}
 use Rattle.cats_cmd.specs.Folders.{AreFilesAt}
 use Rattle.cats_cmd.specs.Inputs.{IsOpened, ReadsAll, StopsReading, WantsMemoryForBytes}
 use Rattle.cats_cmd.specs.PathLists.{paths_in}
 use Rattle.cats_cmd.specs.Paths.{refusal_line}
-use Rattle.cats_cmd.specs.RequestErrors.{Reports, status_of_request_error}
-use Rattle.cats_cmd.specs.declared.errors.RequestError.{RequestError}
-use Rattle.cats_cmd.specs.declared.errors.RequestError.TheVariants.{CannotOpen, NotOpened, Run}
-use Rattle.cats_cmd.specs.declared.source.Unopened.{Unopened}
+use Rattle.cats_cmd.specs.Reports.{Reports}
+use Rattle.commands.specs.declared.faults.Unopened.{Unopened}
 use Rattle.commands.specs.declared.faults.RunFault.{RunFault}
-use Rattle.commands.specs.declared.faults.RunFault.TheVariants.{Refused, TooHeavy, GoodRange, BidRange, Sent}
+use Rattle.commands.specs.declared.faults.RunFault.TheVariants.{Refused, NotOpened}
+use Rattle.commands.specs.Statuses.{status_of_fault}
 
 module _ {F : Type 0} (may_open : List ℕ → F → Type 0) (may_refuse : List ℕ → Unopened → Type 0)
     (remaining : F → Option (List ℕ)) (list : List ℕ) where
@@ -39,25 +38,20 @@ module _ {F : Type 0} (may_open : List ℕ → F → Type 0) (may_refuse : List 
     pub wants : WantsMemoryForBytes remaining before after
 
   -- why the list was not read
-  abbrev pub IsUnread : RequestError → Type 0
-  IsUnread (CannotOpen which) = ⊥
-  IsUnread (NotOpened why) = may_refuse list why
-  IsUnread (Run (Refused which (Read fault))) = (which ≡ Only) × StopsList fault
-  IsUnread (Run (Refused which (StepLimit goods))) = ⊥
-  IsUnread (Run (Refused which Memory)) = (which ≡ Only) × WantsMemoryForList
-  IsUnread (Run (TooHeavy which heavy)) = ⊥
-  IsUnread (Run (GoodRange good)) = ⊥
-  IsUnread (Run (BidRange bid)) = ⊥
-  IsUnread (Run (Sent fault)) = ⊥
+  abbrev pub IsUnread : RunFault → Type 0
+  IsUnread (NotOpened which why) = (which ≡ Only) × may_refuse list why
+  IsUnread (Refused which (Read fault)) = (which ≡ Only) × StopsList fault
+  IsUnread (Refused which Memory) = (which ≡ Only) × WantsMemoryForList
+  IsUnread fault = ⊥
 
 -- a list was not read, for one of these reasons, which was reported as of a file, and nothing was written
-pub record RefusesList {W E : Type 0} (messages : E → Option (List ℕ)) (Unread : RequestError → Type 0)
+pub record RefusesList {W E : Type 0} (messages : E → Option (List ℕ)) (Unread : RunFault → Type 0)
     (list : List ℕ) (out out_after : Watched W) (err err_after : Watched E) (status : ℕ) : Type 0 where
-  pub error : RequestError
-  pub unread : Unread error
-  pub reports : Reports messages (refusal_line list error) err err_after
+  pub fault : RunFault
+  pub unread : Unread fault
+  pub reports : Reports messages (refusal_line list fault) err err_after
   pub silent : out_after ≡ out
-  pub is_status : status ≡ status_of_request_error error
+  pub is_status : status ≡ status_of_fault fault
 
 -- `Runs` is the run on some files.
 module _ {W E : Type 0} (may_find : List ℕ → Option (List (List ℕ)) → Type 0)

@@ -8,7 +8,7 @@ use Rattle.canon.specs.declared.canon_fault.CanonFault.TheVariants.{Read, StepLi
 use Rattle.canon.specs.declared.which.Which.TheVariants.{Only}
 use Rattle.commands.specs.FaultPlaceTexts.{place_text, shown_bytes}
 use Rattle.commands.specs.declared.faults.RunFault.{RunFault}
-use Rattle.commands.specs.declared.faults.RunFault.TheVariants.{Refused, TooHeavy, GoodRange, BidRange, Sent}
+use Rattle.commands.specs.declared.faults.RunFault.TheVariants.{Refused, Sent}
 use Rattle.commands.specs.Outcomes.{Outcome, Prints}
 use Rattle.cats_cmd.specs.Escaping.{escaped}
 use Rattle.cats_cmd.specs.Inputs.{ReadsAll, StopsReading, WantsMemoryForBytes}
@@ -51,8 +51,6 @@ module _ {R W : Type 0} (remaining : R → Option (List ℕ)) (contents : W → 
       WritesText contents (ReadsAll remaining old new) (fault_outcome path) out out_after status
   FindsFault old new out out_after (Err (Refused which fault)) =
       (which ≡ Only) × IsUnfound old new fault × (out_after ≡ out)
-  FindsFault old new out out_after (Err (TooHeavy which heavy)) = ⊥
-  FindsFault old new out out_after (Err (GoodRange good)) = ⊥
-  FindsFault old new out out_after (Err (BidRange bid)) = ⊥
   FindsFault old new out out_after (Err (Sent fault)) =
       FailsInText contents (ReadsAll remaining old new) (fault_outcome path) out out_after fault.written
+  FindsFault old new out out_after (Err fault) = ⊥

@@ -9,7 +9,7 @@ use Rattle.cats_text.specs.declared.limits.TheConstants.{MAX_STREAM}
 use Rattle.cats_text.specs.declared.stream.Watched.{Watched}
 use Rattle.cats_text.specs.Faults.{fault_at}
 use Rattle.cats_text.specs.declared.read_fault.ReadFault.{ReadFault}
-use Rattle.cats_cmd.specs.declared.source.Unopened.{Unopened}
+use Rattle.commands.specs.declared.faults.Unopened.{Unopened}
 
 -- a file at this path may be refused, for some reason
 abbrev pub MayRefuse : (List ℕ → Unopened → Type 0) → List ℕ → Type 0

@@ -12,19 +12,13 @@ use Rattle.requests.specs.declared.task.Task.TheVariants.{Fault, Round}
 use Rattle.cats_cmd.specs.FileLists.{ReadsList}
 use Rattle.cats_cmd.specs.Opening.{Opening, Opens, OpensAtPaths}
 use Rattle.cats_cmd.specs.PathLists.{paths_in}
-use Rattle.cats_cmd.specs.RequestErrors.{status_of_request_error}
-use Rattle.cats_cmd.specs.declared.errors.RequestError.{RequestError}
-use Rattle.cats_cmd.specs.declared.source.Unopened.{Unopened}
+use Rattle.commands.specs.declared.faults.Unopened.{Unopened}
 use Rattle.cats_cmd.specs.declared.source.Way.TheVariants.{Anything, NoFolder}
 
 -- the status that a run comes to
 abbrev pub status_of_run : Result ℕ RunFault → ℕ
 status_of_run (Ok status) = status
 status_of_run (Err fault) = status_of_fault fault
-
-abbrev pub status_of_answer : Result ℕ RequestError → ℕ
-status_of_answer (Ok status) = status
-status_of_answer (Err error) = status_of_request_error error
 
 module _ {S H F : Type 0} (content_of : S → H) (opened : S → Option (List Opening))
     (may_open : H → List ℕ → F → Type 0) (may_refuse : H → List ℕ → Unopened → Type 0)

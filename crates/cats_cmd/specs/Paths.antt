@@ -4,41 +4,28 @@ use Rattle.std.specs.Prelude.{List, [], ◌∷◌, ◌++◌, length, fold, map, 
 use Rattle.std.specs.Prelude.{Option, Some, None, Result, Ok, Err, codes, decimal}
 use Rattle.std.specs.List.{AllByRecursion}
 use Rattle.std.specs.Str.{IsUtf8}
-use Rattle.bid_file.specs.Files.{PlainFile}
 use Rattle.valuation.specs.declared.search.options.SearchOptions.{SearchOptions}
 use Rattle.cats_text.specs.declared.stream.Watched.{Watched}
 use Rattle.canon.specs.declared.canon_fault.CanonFault.{CanonFault}
-use Rattle.canon.specs.declared.canon_fault.CanonFault.TheVariants.{StepLimit, Memory}
+use Rattle.canon.specs.declared.canon_fault.CanonFault.TheVariants.{Memory}
 use Rattle.canon.specs.declared.which.Which.{Which}
 use Rattle.canon.specs.declared.which.Which.TheVariants.{Only}
-use Rattle.commands.specs.Commands.{Commands, GivesWithin, outcome_of_heavy_bid}
-use Rattle.cats_text.specs.declared.read_fault.ReadFault.{ReadFault}
 use Rattle.rounding.specs.declared.replacement.FinePrices.{FinePrices}
-use Rattle.commands.specs.Outcomes.{Outcome, Prints, naming_outcome, normalise_outcome}
+use Rattle.commands.specs.Outcomes.{Outcome, Prints}
 use Rattle.cats_cmd.specs.Escaping.{escaped}
 use Rattle.cats_cmd.specs.PricedInputs.{IsPriced, PricedGives, PricedRefuses, rounding_lines}
 use Rattle.cats_cmd.specs.declared.priced_input.PricedInput.{PricedInput}
 use Rattle.cats_cmd.specs.Runs.{FailsInText, WritesText}
-use Rattle.cats_cmd.specs.RequestErrors.{ReportsAll, is_lost, line_of_request_error, status_if_lost}
-use Rattle.cats_cmd.specs.RequestErrors.{status_of_request_error}
+use Rattle.cats_cmd.specs.Reports.{ReportsAll, is_lost, status_if_lost}
 use Rattle.cats_cmd.specs.declared.paths.Progress.{Progress}
 use Rattle.cats_cmd.specs.declared.paths.Progress.TheVariants.{Silent, Lines, Terminal}
-use Rattle.cats_cmd.specs.declared.errors.RequestError.{RequestError}
-use Rattle.cats_cmd.specs.declared.errors.RequestError.TheVariants.{CannotOpen, NotOpened, Run}
-use Rattle.cats_cmd.specs.declared.source.Unopened.{Unopened}
-use Rattle.cats_cmd.specs.declared.source.Unopened.TheVariants.{Other}
-use Rattle.commands.specs.declared.faults.HeavyBid.{HeavyBid}
+use Rattle.commands.specs.declared.faults.Unopened.{Unopened}
+use Rattle.commands.specs.declared.faults.Unopened.TheVariants.{Other}
 use Rattle.commands.specs.declared.faults.RunFault.{RunFault}
-use Rattle.commands.specs.declared.faults.RunFault.TheVariants.{Refused, TooHeavy, GoodRange, BidRange, Sent}
-
--- what became of the file at a path
-pub data Judgement : Type 0 where
-  -- it was judged: it spells this file, of which no bundle is refused
-  IsJudged : PlainFile → Judgement
-  -- it spells this file, of which the bundle of this bid is the first that is refused
-  IsHeavy : PlainFile → HeavyBid → Judgement
-  -- it was not judged, for this reason
-  IsUnjudged : RequestError → Judgement
+use Rattle.commands.specs.declared.faults.RunFault.TheVariants.{Refused, Sent, NotOpened}
+use Rattle.commands.specs.Statuses.{status_of_fault}
+use Rattle.commands.specs.FaultLines.{line_of_fault}
+use Rattle.commands.specs.Judgements.{Judgement, IsUnjudged, JudgesInput, fault_judged}
 
 -- what became of the file at a path, how many of its prices were rounded, and whether the report of that is lost
 pub record JudgedPath : Type 0 where
@@ -53,35 +40,29 @@ judged_path path judgement rounded = record { path = path; judgement = judgement
 abbrev pub judgement_at : JudgedPath → List ℕ × Judgement
 judgement_at judged = (judged.path, judged.judgement)
 
--- why the file was not judged
-abbrev pub request_error_of : Judgement → Option RequestError
-request_error_of (IsJudged file) = None
-request_error_of (IsHeavy file heavy) = Some (Run (TooHeavy Only heavy))
-request_error_of (IsUnjudged error) = Some error
-
 -- of a file that was judged the status says whether the report is lost, and of another one why it was not
-abbrev pub status_if : Bool → Option RequestError → ℕ
+abbrev pub status_if : Bool → Option RunFault → ℕ
 status_if lost None = status_if_lost lost 0
-status_if lost (Some error) = status_of_request_error error
+status_if lost (Some fault) = status_of_fault fault
 
 abbrev pub status_of_path : JudgedPath → ℕ
-status_of_path judged = status_if judged.lost (request_error_of judged.judgement)
+status_of_path judged = status_if judged.lost (fault_judged judged.judgement)
 
 abbrev pub greatest_status : List JudgedPath → ℕ
 greatest_status judged = fold (λ greatest j. max greatest (status_of_path j)) 0 judged
 
 -- ---- what is reported
 
-abbrev pub refusal_line : List ℕ → RequestError → List ℕ
-refusal_line path error = escaped path ++ codes ": " ++ line_of_request_error error
+abbrev pub refusal_line : List ℕ → RunFault → List ℕ
+refusal_line path fault = escaped path ++ codes ": " ++ line_of_fault fault
 
 abbrev pub progress_line : ℕ → ℕ → List ℕ → List ℕ
 progress_line number count path =
     decimal number ++ codes " of " ++ decimal count ++ codes " " ++ escaped path ++ codes "\n"
 
-abbrev pub refusal_lines : List ℕ → Option RequestError → List (List ℕ)
+abbrev pub refusal_lines : List ℕ → Option RunFault → List (List ℕ)
 refusal_lines path None = []
-refusal_lines path (Some error) = refusal_line path error ∷ []
+refusal_lines path (Some fault) = refusal_line path fault ∷ []
 
 -- whether it is reported how many files were read, after the one with this number among so many: after each hundredth,
 -- and after the last
@@ -110,7 +91,7 @@ removal_lines Terminal number = if nat_lt 1 number then line_removal ∷ [] else
 
 -- what a run reports: of a path, why its file was not judged, and how many files were read
 pub record Reporting : Type 0 where
-  pub refusals : List ℕ → Option RequestError → List (List ℕ)
+  pub refusals : List ℕ → Option RunFault → List (List ℕ)
   pub progress : Progress
 
 -- a line for each file that was not judged
@@ -119,17 +100,17 @@ with_refusals progress = record { refusals = refusal_lines; progress = progress 
 
 -- no line for it, as the text of the run has one
 abbrev pub without_refusals : Progress → Reporting
-without_refusals progress = record { refusals = λ path error. []; progress = progress }
+without_refusals progress = record { refusals = λ path fault. []; progress = progress }
 
 -- of the path with this number, among so many: how many prices of its file were rounded, and why it was not judged
-abbrev pub lines_on : Reporting → ℕ → ℕ → List ℕ → ℕ → Option RequestError → List (List ℕ)
-lines_on reporting count number path rounded error = removal_lines reporting.progress number
-    ++ rounding_lines path rounded ++ reporting.refusals path error
+abbrev pub lines_on : Reporting → ℕ → ℕ → List ℕ → ℕ → Option RunFault → List (List ℕ)
+lines_on reporting count number path rounded fault = removal_lines reporting.progress number
+    ++ rounding_lines path rounded ++ reporting.refusals path fault
     ++ progress_lines reporting.progress number count path
 
 abbrev pub lines_of_path : Reporting → ℕ → ℕ → JudgedPath → List (List ℕ)
 lines_of_path reporting count number judged =
-    lines_on reporting count number judged.path judged.rounded (request_error_of judged.judgement)
+    lines_on reporting count number judged.path judged.rounded (fault_judged judged.judgement)
 
 -- of paths of which the first has this number
 abbrev pub lines_from : Reporting → ℕ → ℕ → List JudgedPath → List (List ℕ)
@@ -148,7 +129,7 @@ module _ {E : Type 0} (messages : E → Option (List ℕ)) (reporting : Reportin
     pub roundings : ReportsAll messages
         (removal_lines reporting.progress number ++ rounding_lines judged.path judged.rounded) old between
     pub loses : judged.lost ≡ is_lost judged.rounded between
-    pub others : ReportsAll messages (reporting.refusals judged.path (request_error_of judged.judgement)
+    pub others : ReportsAll messages (reporting.refusals judged.path (fault_judged judged.judgement)
         ++ progress_lines reporting.progress number count judged.path) between new
 
   -- of paths of which the first has this number
@@ -163,20 +144,6 @@ module _ {E : Type 0} (messages : E → Option (List ℕ)) (reporting : Reportin
 abbrev pub IsUnopened : (List ℕ → Unopened → Type 0) → List ℕ → Unopened → Type 0
 IsUnopened may_refuse path why = may_refuse path why ⊎ ((why ≡ Other) × (IsUtf8 path → ⊥))
 
-module _ {I : Type 0} (gives : I → I → PlainFile → Type 0) (refuses : I → I → ReadFault → Type 0)
-    (options : SearchOptions) where
-  -- Reading the input gives this. Of no input but one that gives a file is a bundle refused.
-  abbrev pub JudgesInput : I → I → Judgement → Type 0
-  JudgesInput before after (IsJudged file) = GivesWithin gives refuses options before after file
-  JudgesInput before after (IsHeavy file heavy) = gives before after file
-      × (naming_outcome options file ≡ outcome_of_heavy_bid heavy)
-  JudgesInput before after (IsUnjudged (CannotOpen which)) = ⊥
-  JudgesInput before after (IsUnjudged (NotOpened why)) = ⊥
-  JudgesInput before after (IsUnjudged (Run (Refused which (StepLimit goods)))) = ⊥
-  JudgesInput before after (IsUnjudged (Run (TooHeavy which heavy))) = ⊥
-  JudgesInput before after (IsUnjudged (Run fault)) =
-      Commands gives refuses (normalise_outcome options) before after (Err fault)
-
 module _ {F : Type 0} (may_open : List ℕ → F → Type 0) (may_refuse : List ℕ → Unopened → Type 0) (remaining : F
     → Option (List ℕ))
     (options : SearchOptions) (prices : Option FinePrices) where
@@ -189,11 +156,9 @@ module _ {F : Type 0} (may_open : List ℕ → F → Type 0) (may_refuse : List 
     pub count : rounded ≡ after.rounded
 
   abbrev pub JudgesAs : List ℕ → ℕ → Judgement → Type 0
-  JudgesAs path rounded (IsJudged file) = JudgesOpened path (IsJudged file) rounded
-  JudgesAs path rounded (IsHeavy file heavy) = JudgesOpened path (IsHeavy file heavy) rounded
-  JudgesAs path rounded (IsUnjudged (CannotOpen which)) = ⊥
-  JudgesAs path rounded (IsUnjudged (NotOpened why)) = IsUnopened may_refuse path why × (rounded ≡ 0)
-  JudgesAs path rounded (IsUnjudged (Run fault)) = JudgesOpened path (IsUnjudged (Run fault)) rounded
+  JudgesAs path rounded (IsUnjudged (NotOpened which why)) =
+      (which ≡ Only) × IsUnopened may_refuse path why × (rounded ≡ 0)
+  JudgesAs path rounded judgement = JudgesOpened path judgement rounded
 
   abbrev pub Judges : JudgedPath → Type 0
   Judges judged = JudgesAs judged.path judged.rounded judged.judgement
@@ -251,8 +216,6 @@ module _ {F W E : Type 0} (may_open : List ℕ → F → Type 0) (may_refuse : L
       WritesText contents (MakesOfPaths err err_after) outcome_of_paths out out_after status
   RunsOnPaths out out_after err err_after (Err (Refused which fault)) =
       RefusesPaths out out_after err err_after which fault
-  RunsOnPaths out out_after err err_after (Err (TooHeavy which heavy)) = ⊥
-  RunsOnPaths out out_after err err_after (Err (GoodRange good)) = ⊥
-  RunsOnPaths out out_after err err_after (Err (BidRange bid)) = ⊥
   RunsOnPaths out out_after err err_after (Err (Sent fault)) =
       FailsInText contents (MakesOfPaths err err_after) outcome_of_paths out out_after fault.written
+  RunsOnPaths out out_after err err_after (Err fault) = ⊥

@@ -14,7 +14,7 @@ use Rattle.cats_cmd.specs.FindingFaults.{FindsFault}
 use Rattle.cats_cmd.specs.Inputs.{IsOpened, MayRefuse}
 use Rattle.cats_cmd.specs.PricedInputs.{IsPriced, PricedGives, PricedRefuses, rounding_lines}
 use Rattle.cats_cmd.specs.declared.priced_input.PricedInput.{PricedInput}
-use Rattle.cats_cmd.specs.Paths.{Judgement, Reporting, RunsOnPaths, with_refusals, without_refusals}
+use Rattle.cats_cmd.specs.Paths.{Reporting, RunsOnPaths, with_refusals, without_refusals}
 use Rattle.cats_cmd.specs.Rounding.{Rounds}
 use Rattle.cats_cmd.specs.Runs.{RunsOnFile, RunsOnPair}
 use Rattle.cats_cmd.specs.SizesTables.{MakesTable}
@@ -27,8 +27,7 @@ use Rattle.requests.specs.declared.task.Task.{Task}
 use Rattle.requests.specs.declared.task.Task.TheVariants.{Fault, Round, Duplicates}
 use Rattle.rounding.specs.declared.replacement.FinePrices.{FinePrices}
 use Rattle.rounding.specs.declared.replacement.FinePrices.TheVariants.{Round as RoundFine}
-use Rattle.cats_cmd.specs.RequestErrors.{Reports, ReportsAll, SendsText, answer_if_lost, is_lost}
-use Rattle.cats_cmd.specs.RequestErrors.{line_of_request_error, status_of_request_error}
+use Rattle.cats_cmd.specs.Reports.{Reports, ReportsAll, SendsText, answer_if_lost, is_lost}
 use Rattle.command_line.specs.Requests.{IsNoRequestOf, request_of}
 use Rattle.command_line.specs.declared.request.NoRequest.{NoRequest}
 use Rattle.command_line.specs.declared.request.NoRequest.TheVariants.{Help, WrongUsage, Misused, NoMemory}
@@ -40,10 +39,13 @@ use Rattle.cats_cmd.specs.declared.paths.Ending.{Ending}
 use Rattle.cats_cmd.specs.declared.paths.Ending.TheVariants.{Line, Null}
 use Rattle.cats_cmd.specs.declared.paths.Progress.{Progress}
 use Rattle.cats_cmd.specs.declared.paths.Progress.TheVariants.{Silent, Lines, Terminal as OnTerminal}
-use Rattle.cats_cmd.specs.declared.errors.RequestError.{RequestError}
-use Rattle.cats_cmd.specs.declared.errors.RequestError.TheVariants.{CannotOpen, NotOpened, Run}
 use Rattle.commands.specs.declared.faults.RunFault.{RunFault}
-use Rattle.cats_cmd.specs.declared.source.Unopened.{Unopened}
+use Rattle.commands.specs.declared.faults.Unopened.{Unopened}
+use Rattle.commands.specs.declared.faults.RunFault.TheVariants.{NotOpened}
+use Rattle.commands.specs.declared.faults.Unopened.TheVariants.{Other}
+use Rattle.commands.specs.Statuses.{status_of_fault}
+use Rattle.commands.specs.FaultLines.{line_of_fault}
+use Rattle.commands.specs.Judgements.{Judgement}
 
 -- ---- a command line without a request
 
@@ -141,30 +143,34 @@ module _ {F W E : Type 0} (may_open : List ℕ → F → Type 0) (may_refuse : L
     pub runs : Rounds remaining contents messages fine before after out out_after err err_after answer
 
 module _ (may_refuse : List ℕ → Unopened → Type 0) where
-  -- the only file cannot be opened
-  abbrev pub CannotOpenOnly : List ℕ → Which → Type 0
-  CannotOpenOnly file which = (which ≡ Only) × MayRefuse may_refuse file
+  -- this one of the files of a request cannot be opened. The reason is not reported
+  abbrev pub CannotOpen : Which → List ℕ → RunFault → Type 0
+  CannotOpen which file fault = (fault ≡ NotOpened which Other) × MayRefuse may_refuse file
 
-  -- the one of two files that cannot be opened
-  abbrev pub CannotOpenPair : List ℕ → List ℕ → Which → Type 0
-  CannotOpenPair first second which =
-      ((which ≡ First) × MayRefuse may_refuse first) ⊎ ((which ≡ Second) × MayRefuse may_refuse second)
+  -- one of two
+  abbrev pub CannotOpenPair : List ℕ → List ℕ → RunFault → Type 0
+  CannotOpenPair first second fault = CannotOpen First first fault ⊎ CannotOpen Second second fault
 
-  -- the one of these files that cannot be opened; of many files none, as the request goes on with the others
-  abbrev pub CannotOpenOf : Files → List (List ℕ) → Which → Type 0
-  CannotOpenOf One (file ∷ []) which = CannotOpenOnly file which
-  CannotOpenOf Two (first ∷ second ∷ []) which = CannotOpenPair first second which
-  CannotOpenOf count files which = ⊥
+  -- one of these files; of many files none, as the request goes on with the others
+  abbrev pub CannotOpenOf : Files → List (List ℕ) → RunFault → Type 0
+  CannotOpenOf One (file ∷ []) fault = CannotOpen Only file fault
+  CannotOpenOf Two (first ∷ second ∷ []) fault = CannotOpenPair first second fault
+  CannotOpenOf count files fault = ⊥
 
 module _ {W E : Type 0} (Runs : Watched W → Watched W → Watched E → Watched E → Result ℕ RunFault → Type 0)
-    (Cannot : Which → Type 0) where
-  -- the run answers, or a file cannot be opened, and then nothing was read, written or reported
-  abbrev pub Carries : Watched W → Watched W → Watched E → Watched E → Result ℕ RequestError → Type 0
-  Carries out out_after err err_after (Ok status) = Runs out out_after err err_after (Ok status)
-  Carries out out_after err err_after (Err (Run fault)) = Runs out out_after err err_after (Err fault)
-  Carries out out_after err err_after (Err (CannotOpen which)) =
-      Cannot which × (out_after ≡ out) × (err_after ≡ err)
-  Carries out out_after err err_after (Err (NotOpened why)) = ⊥
+    (Cannot : RunFault → Type 0) (out out_after : Watched W) (err err_after : Watched E) (answer : Result ℕ RunFault)
+    where
+  -- a file cannot be opened, and nothing was read, written or reported
+  pub record FailsToOpen : Type 0 where
+    pub fault : RunFault
+    pub is : answer ≡ Err fault
+    pub cannot : Cannot fault
+    pub silent : out_after ≡ out
+    pub quiet : err_after ≡ err
+
+  -- the run answers, or a file cannot be opened
+  abbrev pub Carries : Type 0
+  Carries = Runs out out_after err err_after answer ⊎ FailsToOpen
 
 module _ {F W E : Type 0} (may_open : List ℕ → F → Type 0) (may_refuse : List ℕ → Unopened → Type 0)
     (remaining : F → Option (List ℕ)) (contents : W → Option (List ℕ)) (messages : E → Option (List ℕ)) where
@@ -222,7 +228,7 @@ module _ {F W E : Type 0} (may_open : List ℕ → F → Type 0) (may_refuse : L
     abbrev pub RunsFor : PlainRequest → Watched W → Watched W → Watched E → Watched E → Result ℕ RunFault → Type 0
     RunsFor request = RunsWith (files_of request.task) request.files request
 
-    abbrev pub CarriesOut : PlainRequest → Watched W → Watched W → Watched E → Watched E → Result ℕ RequestError → Type
+    abbrev pub CarriesOut : PlainRequest → Watched W → Watched W → Watched E → Watched E → Result ℕ RunFault → Type
         0
     CarriesOut request =
         Carries (RunsFor request) (CannotOpenOf may_refuse (files_of request.task) request.files)
@@ -231,11 +237,11 @@ module _ {F W E : Type 0} (may_open : List ℕ → F → Type 0) (may_refuse : L
     pub record FailsRequest (request : PlainRequest) (out out_after : Watched W) (err err_after : Watched E) (status :
         ℕ)
         : Type 0 where
-      pub error : RequestError
+      pub fault : RunFault
       pub between : Watched E
-      pub carries : CarriesOut request out out_after err between (Err error)
-      pub reports : Reports messages (line_of_request_error error) between err_after
-      pub is_status : status ≡ status_of_request_error error
+      pub carries : CarriesOut request out out_after err between (Err fault)
+      pub reports : Reports messages (line_of_fault fault) between err_after
+      pub is_status : status ≡ status_of_fault fault
 
     abbrev pub AnswersRequest : PlainRequest → Watched W → Watched W → Watched E → Watched E → ℕ → Type 0
     AnswersRequest request out out_after err err_after status =

@@ -15,9 +15,9 @@ use Rattle.cats_cmd.specs.Inputs.{ReadsAll, StopsReading, WantsMemoryForBytes}
 use Rattle.cats_cmd.specs.PricedInputs.{HasRoundedFault}
 use Rattle.commands.specs.Outcomes.{Outcome, Prints}
 use Rattle.cats_cmd.specs.Runs.{FailsInText, WritesText}
-use Rattle.cats_cmd.specs.RequestErrors.{ReportsAll, is_lost, status_if_lost}
+use Rattle.cats_cmd.specs.Reports.{ReportsAll, is_lost, status_if_lost}
 use Rattle.commands.specs.declared.faults.RunFault.{RunFault}
-use Rattle.commands.specs.declared.faults.RunFault.TheVariants.{Refused, TooHeavy, GoodRange, BidRange, Sent}
+use Rattle.commands.specs.declared.faults.RunFault.TheVariants.{Refused, Sent}
 
 -- the text with its prices rounded, with status 0, unless the report on them is lost
 abbrev pub round_outcome : FinePrices → Bool → List ℕ → Outcome
@@ -74,8 +74,6 @@ module _ {R W E : Type 0} (remaining : R → Option (List ℕ)) (contents : W �
       (λ bytes. round_outcome fine (is_lost (length (rounded_prices fine bytes)) err_after) bytes) out out_after status
   Rounds old new out out_after err err_after (Err (Refused which fault)) =
       RefusesRounding old new out out_after err err_after which fault
-  Rounds old new out out_after err err_after (Err (TooHeavy which heavy)) = ⊥
-  Rounds old new out out_after err err_after (Err (GoodRange good)) = ⊥
-  Rounds old new out out_after err err_after (Err (BidRange bid)) = ⊥
   Rounds old new out out_after err err_after (Err (Sent fault)) =
       FailsInRounding old new out out_after err err_after fault.written
+  Rounds old new out out_after err err_after (Err fault) = ⊥

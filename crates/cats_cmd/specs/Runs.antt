@@ -13,7 +13,7 @@ use Rattle.commands.specs.Outcomes.{Outcome, Prints}
 use Rattle.commands.specs.Pairs.{Compares as ComparesFiles, CommandsOnBoth}
 use Rattle.commands.specs.declared.answer.Answer.{Answer}
 use Rattle.commands.specs.declared.faults.RunFault.{RunFault}
-use Rattle.commands.specs.declared.faults.RunFault.TheVariants.{Refused, TooHeavy, GoodRange, BidRange, Sent}
+use Rattle.commands.specs.declared.faults.RunFault.TheVariants.{Refused, Sent}
 
 -- ---- sending a text
 
@@ -21,11 +21,8 @@ module _ {W : Type 0} (contents : W → Option (List ℕ)) where
   -- Sending a run's whole text, when the run then answers this status.
   abbrev pub SendsAs : ℕ → List ℕ → Watched W → Watched W → Result ℕ RunFault → Type 0
   SendsAs status text old new (Ok answer) = (answer ≡ status) × SendsWhole contents old new text
-  SendsAs status text old new (Err (Refused which fault)) = ⊥
-  SendsAs status text old new (Err (TooHeavy which heavy)) = ⊥
-  SendsAs status text old new (Err (GoodRange good)) = ⊥
-  SendsAs status text old new (Err (BidRange bid)) = ⊥
   SendsAs status text old new (Err (Sent fault)) = SendsPart contents old new text fault.written
+  SendsAs status text old new (Err fault) = ⊥
 
   -- Sending a text, or a file's text by pages, when the run then answers this status. Memory may be refused, and then
   -- nothing is written; it belongs to this one of the inputs.
@@ -78,11 +75,8 @@ module _ {W : Type 0} (contents : W → Option (List ℕ)) (Answers : Result Ans
   -- written
   abbrev pub RunsCommand : Watched W → Watched W → Result ℕ RunFault → Type 0
   RunsCommand old new (Ok status) = WritesAnswer old new status
-  RunsCommand old new (Err (Refused which fault)) = Answers (Err (Refused which fault)) × (new ≡ old)
-  RunsCommand old new (Err (TooHeavy which heavy)) = Answers (Err (TooHeavy which heavy)) × (new ≡ old)
-  RunsCommand old new (Err (GoodRange good)) = Answers (Err (GoodRange good)) × (new ≡ old)
-  RunsCommand old new (Err (BidRange bid)) = Answers (Err (BidRange bid)) × (new ≡ old)
   RunsCommand old new (Err (Sent fault)) = FailsInAnswer old new fault.written
+  RunsCommand old new (Err fault) = Answers (Err fault) × (new ≡ old)
 
 -- ---- a run of one file, of which `outcome` says what it makes
 

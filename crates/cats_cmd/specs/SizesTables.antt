@@ -3,49 +3,27 @@
 use Rattle.std.specs.Prelude.{◌≡◌, ◌-◌, ℕ, List, [], ◌∷◌, ◌++◌, length, map, take, codes}
 use Rattle.std.specs.Prelude.{Option, Some, None}
 use Rattle.std.specs.List.{flat_map}
-use Rattle.bid_file.specs.Files.{PlainFile}
-use Rattle.canon.specs.Canonical.{canonical_file}
-use Rattle.commands.specs.SizesRows.{canonical_numbers, cells, file_numbers, number_in}
+use Rattle.commands.specs.SizesRows.{cells, number_columns, Column}
 use Rattle.cats_cmd.specs.Escaping.{end_of, path_text}
-use Rattle.cats_cmd.specs.Paths.{Judgement, IsJudged, IsHeavy, IsUnjudged, request_error_of}
-use Rattle.cats_cmd.specs.RequestErrors.{line_of_request_error}
 use Rattle.cats_cmd.specs.declared.paths.Ending.{Ending}
-use Rattle.cats_cmd.specs.declared.errors.RequestError.{RequestError}
+use Rattle.commands.specs.FaultLines.{line_of_fault}
+use Rattle.commands.specs.Judgements.{Judgement, fault_judged}
+use Rattle.commands.specs.declared.faults.RunFault.{RunFault}
 
--- ---- the columns, each with its title and its cell in the row of a path
-
--- the file at the path, if it was read
-abbrev pub file_read : Judgement → Option PlainFile
-file_read (IsJudged file) = Some file
-file_read (IsHeavy file heavy) = Some file
-file_read (IsUnjudged error) = None
-
--- its canonical file, if the step limit did not stop it
-abbrev pub canonical_known : Judgement → Option PlainFile
-canonical_known (IsJudged file) = Some (canonical_file file)
-canonical_known (IsHeavy file heavy) = None
-canonical_known (IsUnjudged error) = None
+-- ---- the columns
 
 -- a line without its end
 abbrev pub without_end : List ℕ → List ℕ
 without_end line = take (length line - 1) line
 
 -- what is reported of a file elsewhere, without its path and its line end
-abbrev pub fault_cell : Option RequestError → List ℕ
+abbrev pub fault_cell : Option RunFault → List ℕ
 fault_cell None = []
-fault_cell (Some error) = without_end (line_of_request_error error)
-
-abbrev pub Column : Type 0
-Column = List ℕ × (Judgement → List ℕ)
-
--- the cell is empty where there is no number
-abbrev pub number_columns : List Column
-number_columns = map (λ n. (n.0, λ j. number_in (file_read j) n)) file_numbers
-    ++ map (λ n. (n.0, λ j. number_in (canonical_known j) n)) canonical_numbers
+fault_cell (Some fault) = without_end (line_of_fault fault)
 
 -- all, but for that of the path, which is the last
 abbrev pub columns : List Column
-columns = number_columns ++ (codes "fault", λ j. fault_cell (request_error_of j)) ∷ []
+columns = number_columns ++ (codes "fault", λ j. fault_cell (fault_judged j)) ∷ []
 
 -- ---- the table
 

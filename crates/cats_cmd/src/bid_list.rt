@@ -5,7 +5,6 @@ ghost use Rattle.cats_cmd.specs.BidLists.{AreUnread, ReadsBids, fault_of_numbers
 ghost use Rattle.cats_cmd.specs.Opening.{Opens};
 ghost use Rattle.cats_cmd.specs.declared.source.Way.TheVariants.{NoFolder};
 
-use crate::errors::RequestError;
 use crate::many_files::read_list;
 use crate::source::Source;
 use analysis::winners::{BidNumbersFault, read_bid_numbers};
@@ -18,7 +17,7 @@ use std::alloc::AllocGlobal;
 pub(crate) fn read_bids<S: Source + AllocGlobal>(
     source: &mut S,
     list: &str,
-) -> Result<Vec<u32>, RequestError>
+) -> Result<Vec<u32>, RunFault>
     ensures read { IfOk result (λ bids. ReadsBids (S.may_open (S.content_of source.old))
         (S.may_refuse (S.content_of source.old)) S.Stream.remaining list.now bids.items) }
     ensures unread { IfErr result (AreUnread (S.may_open (S.content_of source.old))
@@ -28,7 +27,7 @@ pub(crate) fn read_bids<S: Source + AllocGlobal>(
     let text = read_list(source, list)?;
     match read_bid_numbers(source.alloc(), text.as_slice()) {
         Ok(bids) => Ok(bids),
-        Err(fault) => Err(RequestError::Run(RunFault::from(fault_of_numbers(fault)))),
+        Err(fault) => Err(RunFault::from(fault_of_numbers(fault))),
     }
 }
 

@@ -1,7 +1,6 @@
 //! All bytes of a stream.
 
 ghost use Rattle.std.specs.Prelude.{◌≡◌, false};
-ghost use Rattle.cats_text.specs.Faults.{fault_at};
 ghost use Rattle.cats_text.specs.Streams.{has_ended, has_failed};
 ghost use Rattle.cats_cmd.specs.Inputs.{ReadsBytes};
 

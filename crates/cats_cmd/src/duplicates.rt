@@ -4,16 +4,14 @@ mod lines;
 
 ghost use Rattle.std.specs.Prelude.{OnOk};
 ghost use Rattle.cats_cmd.specs.Paths.{refusal_lines};
-ghost use Rattle.cats_cmd.specs.RequestErrors.{ReportsAll};
+ghost use Rattle.cats_cmd.specs.Reports.{ReportsAll};
 
-use crate::errors::RequestError;
 use crate::paths::{Collection, Ending, ManyFiles, report_if_refused};
-use crate::source::Unopened;
 use bid_file::PackedFile;
 use canon::{AuctionIndex, CanonFault, Which};
 use cats_text::Watched;
 use commands::Input;
-use commands::faults::{RunFault, name_bid};
+use commands::faults::{RunFault, Unopened, name_bid};
 use lines::duplicates_text;
 use std::alloc::{AllocError, Global};
 use std::io::Write;
@@ -92,11 +90,11 @@ impl Collection for Groups {
         path: &[u8],
         input: &mut I,
         many: ManyFiles,
-    ) -> Result<Option<RequestError>, AllocError> {
+    ) -> Result<Option<RunFault>, AllocError> {
         let file = match input.read_file(alloc) {
             Ok(file) => file,
             Err(fault) => {
-                return Ok(Some(RequestError::Run(RunFault::from(CanonFault::from(fault)))));
+                return Ok(Some(RunFault::from(CanonFault::from(fault))));
             }
         };
         match self.judged.index.add(alloc, &file, many.options) {
@@ -107,8 +105,7 @@ impl Collection for Groups {
             }
             Err(fault) => {
                 self.add_refused(alloc, path, &file, &fault)?;
-                let fault = name_bid(Which::Only, &file, many.options, fault);
-                Ok(Some(RequestError::Run(fault)))
+                Ok(Some(name_bid(Which::Only, &file, many.options, fault)))
             }
         }
     }
@@ -124,10 +121,10 @@ impl Collection for Groups {
         Ok(())
     }
 
-    fn report_refusal<E: Write>(path: &[u8], error: &Option<RequestError>, err: &mut Watched<E>)
-        ensures { ReportsAll E.contents (refusal_lines path.now error.now) err.old err.new }
+    fn report_refusal<E: Write>(path: &[u8], fault: &Option<RunFault>, err: &mut Watched<E>)
+        ensures { ReportsAll E.contents (refusal_lines path.now fault.now) err.old err.new }
     {
-        report_if_refused(path, error, err);
+        report_if_refused(path, fault, err);
     }
 
     fn text(&self, alloc: Global, many: ManyFiles) -> Result<Vec<u8>, AllocError> {

@@ -1,7 +1,7 @@
 //! Laws of what the runs read and print.
 
 ghost use Rattle.std.specs.List.{All, flat_map};
-ghost use Rattle.std.specs.Prelude.{◌≡◌, ◌==◌, ℕ, Bool, List, None, Ok, filter, map, false};
+ghost use Rattle.std.specs.Prelude.{◌≡◌, ◌==◌, ℕ, Bool, List, None, Ok, map, false};
 ghost use Rattle.bid_file.specs.Files.{PlainFile};
 ghost use Rattle.cats_text.specs.FaultPlaces.{PlainPlace};
 ghost use Rattle.requests.specs.Requests.{PlainRequest};
@@ -23,17 +23,18 @@ ghost use Rattle.cats_cmd.specs.DuplicateTexts.{duplicates_text, printed_groups}
 ghost use Rattle.cats_cmd.specs.FindingFaults.{text_of_place};
 ghost use Rattle.cats_cmd.specs.OutputPaths.{IsPath, groups_in, paths_in_table};
 ghost use Rattle.cats_cmd.specs.PathLists.{listed, paths_in};
-ghost use Rattle.cats_cmd.specs.Paths.{JudgedPath, Judgement, JudgesInput, progress_line, refusal_line, report_lines};
+ghost use Rattle.cats_cmd.specs.Paths.{JudgedPath, progress_line, refusal_line, report_lines};
 ghost use Rattle.cats_cmd.specs.Paths.{without_refusals};
 ghost use Rattle.cats_cmd.specs.PricedInputs.{PricedGives, PricedRefuses, rounding_lines};
 ghost use Rattle.cats_cmd.specs.declared.priced_input.PricedInput.{PricedInput};
-ghost use Rattle.cats_cmd.specs.RequestErrors.{line_of_request_error};
 ghost use Rattle.cats_cmd.specs.SizesTables.{MakesTable};
 ghost use Rattle.cats_cmd.specs.declared.paths.Ending.{Ending};
 ghost use Rattle.cats_cmd.specs.declared.paths.Ending.TheVariants.{Line};
 ghost use Rattle.cats_cmd.specs.declared.paths.Progress.TheVariants.{Silent};
-ghost use Rattle.cats_cmd.specs.declared.errors.RequestError.{RequestError};
 ghost use Rattle.valuation.specs.declared.search.options.SearchOptions.{SearchOptions};
+ghost use Rattle.commands.specs.FaultLines.{line_of_fault};
+ghost use Rattle.commands.specs.Judgements.{Judgement, JudgesInput};
+ghost use Rattle.commands.specs.declared.faults.RunFault.{RunFault};
 
 use commands::Input;
 use std::io::Read;
@@ -55,8 +56,8 @@ pub fn escaped_path_is_read_back()
 /// Beside bid files, what the program prints of faults and paths is characters that are printable, tabs and line feeds:
 /// the lines of faults, those that name a path, the groups of `cats duplicates`, and the table of `cats sizes`.
 pub fn printed_lines_are_shown()
-    ensures faults { (error : RequestError) → IsTextOf is_shown (line_of_request_error error) }
-    ensures refusals { (path : List ℕ) (error : RequestError) → AreBytes path → IsTextOf is_shown (refusal_line path error) }
+    ensures faults { (error : RunFault) → IsTextOf is_shown (line_of_fault error) }
+    ensures refusals { (path : List ℕ) (error : RunFault) → AreBytes path → IsTextOf is_shown (refusal_line path error) }
     ensures progress { (number count : ℕ) (path : List ℕ) → AreBytes path
         → IsTextOf is_shown (progress_line number count path) }
     ensures groups { (all : Bool) (judged heavy : List (List ℕ × ℕ)) → All (λ f. AreBytes f.0) judged

@@ -5,7 +5,6 @@ mod bid_list;
 mod bytes;
 mod carrying_out;
 mod duplicates;
-mod errors;
 mod escaping;
 mod fault;
 mod folder;

@@ -7,7 +7,7 @@ ghost use Rattle.commands.specs.Pieces.{text_of_piece, text_of_pieces};
 ghost use Rattle.cats_text.specs.Layout.{price_text};
 ghost use Rattle.cats_cmd.specs.Escaping.{escaped, escaped_byte};
 ghost use Rattle.cats_cmd.specs.Internal.Gathering.{Gathers, GathersNext};
-ghost use Rattle.cats_cmd.specs.RequestErrors.{Reports};
+ghost use Rattle.cats_cmd.specs.Reports.{Reports};
 ghost use Rattle.cats_cmd.specs.declared.lines.TheConstants.{LINE_SIZE};
 
 use crate::escaping::{hex_escape, plain_run};

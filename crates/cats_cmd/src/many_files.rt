@@ -9,20 +9,21 @@ ghost use Rattle.cats_cmd.specs.Openings.{OpensFiles, status_of_run};
 ghost use Rattle.cats_cmd.specs.Paths.{RunsOnPaths, refusal_line};
 ghost use Rattle.cats_cmd.specs.Requests.{RunsOnMany};
 ghost use Rattle.requests.specs.Requests.{plain_request, texts_of};
-ghost use Rattle.cats_cmd.specs.RequestErrors.{Reports, status_of_request_error};
+ghost use Rattle.cats_cmd.specs.Reports.{Reports};
 ghost use Rattle.cats_cmd.specs.declared.source.Way.TheVariants.{NoFolder};
+ghost use Rattle.commands.specs.Statuses.{status_of_fault};
 
 use crate::bytes::read_bytes;
-use crate::errors::{RequestError, status_of};
 use crate::folders::{files_at, slices};
 use crate::path_list::split_paths;
 use crate::paths::{
     Collection, Ending, ManyFiles, Progress, open_file, report_refusal, run_on_paths,
 };
 use crate::source::Source;
-use canon::CanonFault;
+use canon::{CanonFault, Which};
 use cats_text::Watched;
 use commands::faults::RunFault;
+use commands::printed::status;
 use requests::request::Request;
 use std::alloc::{AllocError, AllocGlobal, Global};
 use std::io::Write;
@@ -54,7 +55,7 @@ pub(crate) fn run_on_files<C: Collection, S: Source + AllocGlobal, W: Write, E: 
             let paths = split_paths(source.alloc(), text.as_slice())?;
             run_at_paths::<C, S, W, E>(source, paths.as_slice(), many, out, err)
         }
-        Err(error) => Ok(refuse_list(list, &error, err)),
+        Err(fault) => Ok(refuse_list(list, &fault, err)),
     }
 }
 
@@ -118,7 +119,7 @@ fn many_files(request: &Request<'_>, terminal: bool) -> ManyFiles
 pub(crate) fn read_list<S: Source + AllocGlobal>(
     source: &mut S,
     list: &str,
-) -> Result<Vec<u8>, RequestError>
+) -> Result<Vec<u8>, RunFault>
     ensures read { IfOk result (λ text. ReadsList (S.may_open (S.content_of source.old))
         (S.may_refuse (S.content_of source.old)) S.Stream.remaining list.now text.items) }
     ensures unread { IfErr result (IsUnread (S.may_open (S.content_of source.old)) (S.may_refuse (S.content_of source.old))
@@ -127,19 +128,19 @@ pub(crate) fn read_list<S: Source + AllocGlobal>(
 {
     let mut input = match open_file(source, list) {
         Ok(input) => input,
-        Err(why) => return Err(RequestError::NotOpened(why)),
+        Err(why) => return Err(RunFault::NotOpened(Which::Only, why)),
     };
     match read_bytes(source.alloc(), &mut input) {
         Ok(text) => Ok(text),
-        Err(fault) => Err(RequestError::Run(RunFault::from(CanonFault::from(fault)))),
+        Err(fault) => Err(RunFault::from(CanonFault::from(fault))),
     }
 }
 
 /// Reports why the list at this path was not read, and answers the status.
-pub(crate) fn refuse_list<E: Write>(list: &str, error: &RequestError, err: &mut Watched<E>) -> u8
-    ensures reports { Reports E.contents (refusal_line list.now error.now) err.old err.new }
-    ensures status { result ≡ status_of_request_error error.now }
+pub(crate) fn refuse_list<E: Write>(list: &str, fault: &RunFault, err: &mut Watched<E>) -> u8
+    ensures reports { Reports E.contents (refusal_line list.now fault.now) err.old err.new }
+    ensures status { result ≡ status_of_fault fault.now }
 {
-    report_refusal(err, list.as_bytes(), error);
-    status_of(error)
+    report_refusal(err, list.as_bytes(), fault);
+    status(fault)
 }

@@ -7,25 +7,28 @@ ghost use Rattle.cats_cmd.specs.Inputs.{IsOpened};
 ghost use Rattle.cats_cmd.specs.Opening.{Opens, OpensEach, regular_openings};
 ghost use Rattle.cats_cmd.specs.Openings.{status_of_run};
 ghost use Rattle.cats_cmd.specs.Internal.Judging.{OpensAllAs};
-ghost use Rattle.cats_cmd.specs.Paths.{Judgement, IsUnjudged, IsUnopened, RunsOnPaths, count_line, progress_line};
+ghost use Rattle.cats_cmd.specs.Paths.{IsUnopened, RunsOnPaths, count_line, progress_line};
 ghost use Rattle.cats_cmd.specs.Paths.{progress_lines, refusal_line, refusal_lines, removal_lines, status_if};
-ghost use Rattle.cats_cmd.specs.RequestErrors.{Reports, ReportsAll};
+ghost use Rattle.cats_cmd.specs.Reports.{Reports, ReportsAll};
 ghost use Rattle.cats_cmd.specs.Internal.Gathering.{Gathers};
 ghost use Rattle.cats_cmd.specs.Internal.Judging.{AddsFile, AddsJudgement, AddsPathAs, AddsOpened, HasSome, JudgesAllAs};
 ghost use Rattle.cats_cmd.specs.declared.paths.Ending.{Ending};
 ghost use Rattle.cats_cmd.specs.declared.paths.Progress.TheVariants.{Lines};
-ghost use Rattle.cats_cmd.specs.declared.errors.RequestError.{RequestError};
-ghost use Rattle.cats_cmd.specs.declared.errors.RequestError.TheVariants.{NotOpened};
 ghost use Rattle.cats_cmd.specs.declared.source.Way.TheVariants.{NoFolder};
+ghost use Rattle.commands.specs.declared.faults.RunFault.TheVariants.{NotOpened};
+ghost use Rattle.canon.specs.declared.which.Which.TheVariants.{Only};
+ghost use Rattle.commands.specs.Judgements.{Judgement, IsUnjudged};
+ghost use Rattle.commands.specs.declared.faults.RunFault.{RunFault};
 
-use crate::errors::{RequestError, push_error, status_of};
 use crate::lines::{LineBuffer, report};
 use crate::priced_input::{PricedInput, report_rounded};
 use crate::run::{is_lost, send_text, status_if_lost};
-use crate::source::{Source, Unopened, Way};
+use crate::source::{Source, Way};
+use canon::Which;
 use cats_text::Watched;
 use commands::Input;
-use commands::faults::RunFault;
+use commands::faults::{RunFault, Unopened};
+use commands::printed::{fault_pieces, status};
 use commands::statuses::DONE;
 use rounding::replacement::FinePrices;
 use std::alloc::{AllocError, AllocGlobal, Global};
@@ -82,7 +85,7 @@ pub(crate) trait Collection: Sized + Drop {
 
     ghost Makes: { Ending → Bool → List (List ℕ × Judgement) → List ℕ → Type 0 };
 
-    ghost refusals: { List ℕ → Option RequestError → List (List ℕ) };
+    ghost refusals: { List ℕ → Option RunFault → List (List ℕ) };
 
     /// What is made of no files.
     fn none(alloc: Global) -> Self
@@ -95,11 +98,10 @@ pub(crate) trait Collection: Sized + Drop {
         path: &[u8],
         input: &mut I,
         many: ManyFiles,
-    ) -> Result<Option<RequestError>, AllocError>
+    ) -> Result<Option<RunFault>, AllocError>
         requires { I.is_ready input.old }
-        ensures { IfOk result (λ error. AddsOpened
-            (has many.ending) I.gives I.refuses many.options path.now self.old self.new input.old input.new
-            error) };
+        ensures { IfOk result (λ fault. AddsOpened (has many.ending) I.gives I.refuses many.options path.now self.old self.new
+            input.old input.new fault) };
 
     /// Adds a path at which no file was opened, for this reason.
     fn add_unopened(
@@ -109,11 +111,11 @@ pub(crate) trait Collection: Sized + Drop {
         why: Unopened,
         ending: Ending,
     ) -> Result<(), AllocError>
-        ensures { OnOk result (AddsJudgement (has ending) path.now (IsUnjudged (NotOpened why)) self.old self.new) };
+        ensures { OnOk result (AddsJudgement (has ending) path.now (IsUnjudged (NotOpened Only why)) self.old self.new) };
 
     /// Reports why the file at a path was not judged, unless the text of all says it.
-    fn report_refusal<E: Write>(path: &[u8], error: &Option<RequestError>, err: &mut Watched<E>)
-        ensures { ReportsAll E.contents (refusals path.now error.now) err.old err.new };
+    fn report_refusal<E: Write>(path: &[u8], fault: &Option<RunFault>, err: &mut Watched<E>)
+        ensures { ReportsAll E.contents (refusals path.now fault.now) err.old err.new };
 
     /// The text of all.
     fn text(&self, alloc: Global, many: ManyFiles) -> Result<Vec<u8>, AllocError>
@@ -193,22 +195,22 @@ fn judge_path<C: Collection, S: Source + AllocGlobal, E: Write>(
         collection.old collection.new err.old err.new result }
     ensures opens { Opens S.content_of S.opened source.old source.new (regular_openings (turn.now.path.now ∷ [])) }
 {
-    let (error, rounded) = judge(source, collection, turn.path, many)?;
+    let (fault, rounded) = judge(source, collection, turn.path, many)?;
     remove_progress(many.progress, turn.number, err);
     report_rounded(turn.path, rounded, err);
     let lost = is_lost(rounded, err);
-    C::report_refusal(turn.path, &error, err);
+    C::report_refusal(turn.path, &fault, err);
     report_progress(many.progress, turn, err);
-    Ok(status_if(lost, &error))
+    Ok(status_if(lost, &fault))
 }
 
 /// The status of a file that was judged, whose report may be lost, or of the reason why it was not.
-fn status_if(lost: bool, error: &Option<RequestError>) -> u8
-    ensures { result ≡ status_if lost error.now }
+fn status_if(lost: bool, fault: &Option<RunFault>) -> u8
+    ensures { result ≡ status_if lost fault.now }
 {
-    match error {
+    match fault {
         None => status_if_lost(lost, DONE),
-        Some(error) => status_of(error),
+        Some(fault) => status(fault),
     }
 }
 
@@ -218,7 +220,7 @@ fn judge<C: Collection, S: Source + AllocGlobal>(
     collection: &mut C,
     path: &[u8],
     many: ManyFiles,
-) -> Result<(Option<RequestError>, usize), AllocError>
+) -> Result<(Option<RunFault>, usize), AllocError>
     ensures adds { IfOk result (λ judged. AddsFile (C.has many.ending) (S.may_open (S.content_of source.old))
         (S.may_refuse (S.content_of source.old)) S.Stream.remaining many.options many.prices
         path.now collection.old collection.new judged.1 judged.0) }
@@ -227,12 +229,12 @@ fn judge<C: Collection, S: Source + AllocGlobal>(
     match open_path(source, path) {
         Ok(stream) => {
             let mut input = PricedInput::new(stream, many.prices);
-            let error = collection.add(source.alloc(), path, &mut input, many)?;
-            Ok((error, input.rounded()))
+            let fault = collection.add(source.alloc(), path, &mut input, many)?;
+            Ok((fault, input.rounded()))
         }
         Err(why) => {
             collection.add_unopened(source.alloc(), path, why, many.ending)?;
-            Ok((Some(RequestError::NotOpened(why)), 0))
+            Ok((Some(RunFault::NotOpened(Which::Only, why)), 0))
         }
     }
 }
@@ -268,13 +270,13 @@ pub(crate) fn open_file<S: Source>(
 }
 
 /// Reports why the file at a path was not judged.
-pub(crate) fn report_refusal<E: Write>(err: &mut Watched<E>, path: &[u8], error: &RequestError)
-    ensures { Reports E.contents (refusal_line path.now error.now) err.old err.new }
+pub(crate) fn report_refusal<E: Write>(err: &mut Watched<E>, path: &[u8], fault: &RunFault)
+    ensures { Reports E.contents (refusal_line path.now fault.now) err.old err.new }
 {
     let mut line = LineBuffer::new();
     line.push_escaped(err, path);
     line.push(err, b": ");
-    push_error(&mut line, err, error);
+    line.push_pieces(err, &fault_pieces(fault));
     line.send(err);
 }
 
@@ -292,13 +294,13 @@ fn remove_progress<E: Write>(progress: Progress, number: usize, err: &mut Watche
 /// Reports why the file at a path was not judged, if it was not.
 pub(crate) fn report_if_refused<E: Write>(
     path: &[u8],
-    error: &Option<RequestError>,
+    fault: &Option<RunFault>,
     err: &mut Watched<E>,
 )
-    ensures { ReportsAll E.contents (refusal_lines path.now error.now) err.old err.new }
+    ensures { ReportsAll E.contents (refusal_lines path.now fault.now) err.old err.new }
 {
-    if let Some(error) = error {
-        report_refusal(err, path, error);
+    if let Some(fault) = fault {
+        report_refusal(err, path, fault);
     }
 }
 

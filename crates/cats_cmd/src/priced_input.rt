@@ -4,7 +4,7 @@ ghost use Rattle.std.specs.Prelude.{◌≡◌, false};
 ghost use Rattle.cats_text.specs.Streams.{has_ended, has_failed};
 ghost use Rattle.cats_cmd.specs.Internal.Roundings.{ReadsRounded};
 ghost use Rattle.cats_cmd.specs.PricedInputs.{rounded_words, rounding_line, rounding_lines};
-ghost use Rattle.cats_cmd.specs.RequestErrors.{Reports, ReportsAll};
+ghost use Rattle.cats_cmd.specs.Reports.{Reports, ReportsAll};
 
 use crate::bytes::read_bytes;
 use crate::lines::LineBuffer;

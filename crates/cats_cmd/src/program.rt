@@ -5,16 +5,17 @@ ghost use Rattle.cats_text.specs.Streams.{has_failed};
 ghost use Rattle.cats_cmd.specs.Requests.{AnswersLine, AnswersNoRequest, AnswersRequest};
 ghost use Rattle.cats_cmd.specs.Openings.{OpensFor, OpensLine};
 ghost use Rattle.requests.specs.Requests.{plain_request, texts_of};
-ghost use Rattle.cats_cmd.specs.RequestErrors.{has_found, is_for_many_files, is_reporting, names_found, names_many_files};
-ghost use Rattle.cats_cmd.specs.RequestErrors.{names_reporting};
+ghost use Rattle.cats_cmd.specs.Reports.{has_found, is_for_many_files, is_reporting, names_found, names_many_files};
+ghost use Rattle.cats_cmd.specs.Reports.{names_reporting};
 
 use crate::carrying_out::carry_out;
-use crate::errors::report_request_error;
+use crate::lines::report_pieces;
 use crate::source::{Source, SystemFiles};
 use crate::usage::{misuse_text, with_escaped_words};
 use cats_text::{Watched, send};
 use command_line::help::{CommandHelp, VERSION};
 use command_line::request::{NoRequest, parse};
+use commands::printed::{fault_pieces, status};
 use commands::statuses::{DEVICE_FAILED, DONE, NO_MEMORY, WRONG_USAGE};
 use requests::request::Request;
 use std::alloc::AllocGlobal;
@@ -112,7 +113,10 @@ pub fn answer_request<S: Source + AllocGlobal, W: Write, E: Write>(
 {
     match carry_out(source, request, out, err, terminal) {
         Ok(status) => status,
-        Err(error) => report_request_error(&error, err),
+        Err(fault) => {
+            report_pieces(err, &fault_pieces(&fault));
+            status(&fault)
+        }
     }
 }
 

@@ -6,7 +6,7 @@ ghost use Rattle.rounding.specs.Views.{plain_change, plain_changes};
 ghost use Rattle.commands.specs.RoundedLines.{rounded_line};
 ghost use Rattle.cats_cmd.specs.Rounding.{Rounds};
 ghost use Rattle.cats_cmd.specs.Internal.Roundings.{RoundsText};
-ghost use Rattle.cats_cmd.specs.RequestErrors.{Reports, ReportsAll};
+ghost use Rattle.cats_cmd.specs.Reports.{Reports, ReportsAll};
 
 use crate::bytes::read_bytes;
 use crate::lines::report_pieces;

@@ -2,7 +2,7 @@
 
 ghost use Rattle.std.specs.Prelude.{◌≡◌, false};
 ghost use Rattle.cats_text.specs.Streams.{has_failed};
-ghost use Rattle.cats_cmd.specs.RequestErrors.{answer_if_lost, is_lost, status_if_lost};
+ghost use Rattle.cats_cmd.specs.Reports.{answer_if_lost, is_lost, status_if_lost};
 ghost use Rattle.cats_cmd.specs.Runs.{SendsAnswer, SendsAs};
 
 use canon::{CanonFault, Which};

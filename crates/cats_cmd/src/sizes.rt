@@ -5,12 +5,13 @@ ghost use Rattle.std.specs.Prelude.{◌≡◌, ◌++◌, List, ℕ, codes, OnOk}
 ghost use Rattle.cats_cmd.specs.Escaping.{path_text};
 ghost use Rattle.cats_cmd.specs.SizesTables.{fault_cell};
 
-use crate::errors::{RequestError, error_line};
 use crate::escaping::{push_end, push_path};
 use crate::paths::{Collection, Ending, ManyFiles};
-use crate::source::Unopened;
+use canon::Which;
 use cats_text::Watched;
 use commands::Input;
+use commands::faults::{RunFault, Unopened};
+use commands::printed::fault_line;
 use commands::sizes_row::{NO_NUMBERS, push_numbers};
 use std::alloc::{AllocError, Global};
 use std::io::Write;
@@ -32,7 +33,7 @@ impl Collection for Table {
 
     ghost Makes = { λ ending all. MakesTable ending };
 
-    ghost refusals = { λ path error. [] };
+    ghost refusals = { λ path fault. [] };
 
     fn none(alloc: Global) -> Table {
         Table {
@@ -46,13 +47,12 @@ impl Collection for Table {
         path: &[u8],
         input: &mut I,
         many: ManyFiles,
-    ) -> Result<Option<RequestError>, AllocError> {
+    ) -> Result<Option<RunFault>, AllocError> {
         let mut cells = Vec::new(alloc);
         let fault = push_numbers(alloc, &mut cells, input, many.options)?;
-        let error = fault.map(RequestError::Run);
-        push_fault(alloc, &mut cells, &error)?;
+        push_fault(alloc, &mut cells, &fault)?;
         push_row(&mut self.rows, cells.as_slice(), path, many.ending)?;
-        Ok(error)
+        Ok(fault)
     }
 
     fn add_unopened(
@@ -63,14 +63,14 @@ impl Collection for Table {
         ending: Ending,
     ) -> Result<(), AllocError> {
         let mut cells = Vec::from_slice(alloc, NO_NUMBERS.as_bytes())?;
-        push_fault(alloc, &mut cells, &Some(RequestError::NotOpened(why)))?;
+        push_fault(alloc, &mut cells, &Some(RunFault::NotOpened(Which::Only, why)))?;
         push_row(&mut self.rows, cells.as_slice(), path, ending)
     }
 
     /// The row says it.
     fn report_refusal<E: Write>(
         _path: &[u8],
-        _error: &Option<RequestError>,
+        _fault: &Option<RunFault>,
         _err: &mut Watched<E>,
     ) {}
 
@@ -86,13 +86,13 @@ impl Collection for Table {
 fn push_fault(
     alloc: Global,
     text: &mut Vec<u8>,
-    error: &Option<RequestError>,
+    fault: &Option<RunFault>,
 ) -> Result<(), AllocError>
-    ensures { let more : List ℕ = fault_cell error.now ++ codes "\t" in
+    ensures { let more : List ℕ = fault_cell fault.now ++ codes "\t" in
         OnOk result (text.new.items ≡ text.old.items ++ more) }
 {
-    if let Some(error) = error {
-        let line = error_line(alloc, error)?;
+    if let Some(fault) = fault {
+        let line = fault_line(alloc, fault)?;
         let end = line.len().saturating_sub(1);
         text.extend_from_slice(&line.as_slice()[..end])?;
     }

@@ -5,6 +5,7 @@ ghost use Rattle.cats_cmd.specs.Folders.{Finds, found_of};
 ghost use Rattle.cats_cmd.specs.Opening.{Opening, Opens};
 
 use crate::folder::files_below;
+use commands::faults::Unopened;
 use std::alloc::{Alloc, AllocError, Global};
 use std::fs;
 use std::fs::OpenFile;
@@ -17,7 +18,7 @@ use std::rt::Files;
 /// opening changes. So a contract can speak of the file at a path of the command line. It may also know which paths were
 /// opened so far, in order, each in which way, with those that it refused.
 pub trait Source {
-    ghost use Rattle.cats_cmd.specs.declared.source.Unopened.{Unopened};
+    ghost use Rattle.commands.specs.declared.faults.Unopened.{Unopened};
 
     type Stream: Read + Drop;
 
@@ -55,18 +56,6 @@ pub enum Way {
     NoFolder,
     /// A folder, a device and a FIFO are refused, and not opened: to open a FIFO may take for ever.
     Regular,
-}
-
-/// Why a file could not be opened.
-#[derive(Clone, Copy, Debug)]
-pub enum Unopened {
-    NoSuchFile,
-    PermissionDenied,
-    IsFolder,
-    /// It is neither a regular file nor a folder.
-    NotAFile,
-    /// For a reason that has no name here.
-    Other,
 }
 
 /// The files of the system. No contract can say what they hold, so any stream may be opened at any path; and nothing is

@@ -15,7 +15,7 @@ ghost use Rattle.std.specs.List.{flat_map};
 ghost use Rattle.cats_cmd.specs.PathLists.{paths_in};
 ghost use Rattle.cats_cmd.specs.declared.paths.Ending.TheVariants.{Line, Null};
 ghost use Rattle.cats_cmd.specs.declared.paths.Progress.TheVariants.{Silent, Lines, Terminal};
-ghost use Rattle.cats_cmd.specs.Paths.{IsHeavy, IsJudged, IsUnjudged, greatest_status, judged_path, progress_lines};
+ghost use Rattle.cats_cmd.specs.Paths.{greatest_status, judged_path, progress_lines};
 ghost use Rattle.cats_cmd.specs.Paths.{ReportsFrom, report_lines, status_of_path};
 ghost use Rattle.cats_cmd.specs.Paths.{with_refusals, without_refusals};
 ghost use Rattle.commands.specs.SizesRows.{counts_of, sizes_of};
@@ -24,33 +24,23 @@ ghost use Rattle.cats_cmd.specs.Rounding.{round_outcome};
 ghost use Rattle.cats_cmd.specs.PricedInputs.{PricedGives, PricedRefuses, rounding_lines};
 ghost use Rattle.rounding.specs.declared.replacement.FinePrices.TheVariants.{Refuse, Round};
 ghost use Rattle.cats_cmd.specs.Runs.{SendsMadeAs};
-ghost use Rattle.cats_cmd.specs.RequestErrors.{Reports, answer_if_lost, is_lost, line_of_request_error};
-ghost use Rattle.cats_cmd.specs.declared.errors.RequestError.TheVariants.{CannotOpen, NotOpened, Run};
-ghost use Rattle.cats_cmd.specs.declared.source.Unopened.TheVariants.{NoSuchFile, PermissionDenied, IsFolder, NotAFile};
-ghost use Rattle.cats_cmd.specs.declared.source.Unopened.TheVariants.{Other};
+ghost use Rattle.cats_cmd.specs.Reports.{Reports, answer_if_lost, is_lost};
+ghost use Rattle.commands.specs.declared.faults.Unopened.TheVariants.{NoSuchFile};
+ghost use Rattle.commands.specs.declared.faults.Unopened.TheVariants.{Other};
 ghost use Rattle.cats_cmd.specs.declared.source.Way.TheVariants.{Anything, NoFolder, Regular};
-ghost use Rattle.canon.specs.declared.which.Which.TheVariants.{Only, First};
+ghost use Rattle.canon.specs.declared.which.Which.TheVariants.{Only};
 ghost use Rattle.canon.specs.declared.canon_fault.CanonFault.TheVariants.{Read, Memory};
-ghost use Rattle.commands.specs.declared.faults.RunFault.TheVariants.{Refused, Sent};
-
-/// The line of a file that cannot be opened: of the only one, of the first of two, and of one of many.
-pub fn unopened_lines()
-    ensures { map line_of_request_error
-        (CannotOpen Only ∷ CannotOpen First ∷ NotOpened NoSuchFile ∷ NotOpened PermissionDenied
-        ∷ NotOpened IsFolder ∷ NotOpened NotAFile ∷ NotOpened Other ∷ []) ≡
-        codes "cannot open\n" ∷ codes "first: cannot open\n" ∷ codes "cannot open: no such file\n"
-        ∷ codes "cannot open: permission denied\n" ∷ codes "cannot open: is a folder\n"
-        ∷ codes "cannot open: not a file\n" ∷ codes "cannot open\n" ∷ [] }
-{}
+ghost use Rattle.commands.specs.declared.faults.RunFault.TheVariants.{Refused, Sent, NotOpened};
+ghost use Rattle.commands.specs.Judgements.{IsJudged, IsHeavy, IsUnjudged};
 
 /// What `cats duplicates` reports of two paths: how many prices of each were rounded, then the reason for the one that was
 /// not judged, and, with progress, how many were read. On a terminal the line of progress is taken away before anything else
 /// is printed. Of 250 files that is reported after the hundredth, the two hundredth and the last.
 pub fn paths_reported()
-    ensures reason { report_lines (with_refusals Silent) 2 (judged_path (codes "a") (IsUnjudged (NotOpened NoSuchFile)) 0 ∷
+    ensures reason { report_lines (with_refusals Silent) 2 (judged_path (codes "a") (IsUnjudged (NotOpened Only NoSuchFile)) 0 ∷
         judged_path (codes "b") (IsJudged larger_bid) 0 ∷ [])
         ≡ codes "a: cannot open: no such file\n" ∷ [] }
-    ensures progress { report_lines (with_refusals Lines) 2 (judged_path (codes "a") (IsUnjudged (NotOpened NoSuchFile)) 0 ∷
+    ensures progress { report_lines (with_refusals Lines) 2 (judged_path (codes "a") (IsUnjudged (NotOpened Only NoSuchFile)) 0 ∷
         judged_path (codes "b") (IsJudged larger_bid) 0 ∷ [])
         ≡ codes "a: cannot open: no such file\n" ∷ codes "2 of 2 b\n" ∷ [] }
     ensures rounded { (goods : Vec ℕ Global) → goods.items ≡ 0 ∷ 1 ∷ 2 ∷ []
@@ -63,9 +53,9 @@ pub fn paths_reported()
         ≡ [] ∷ [] ∷ (codes "100 of 250 a\n" ∷ []) ∷ (codes "200 of 250 a\n" ∷ []) ∷ []
         ∷ (codes "250 of 250 a\n" ∷ []) ∷ [] }
     ensures terminal { report_lines (with_refusals Terminal) 2 (judged_path (codes "a") (IsJudged larger_bid) 0 ∷
-        judged_path (codes "b") (IsUnjudged (NotOpened NoSuchFile)) 0 ∷ [])
+        judged_path (codes "b") (IsUnjudged (NotOpened Only NoSuchFile)) 0 ∷ [])
         ≡ codes "1 of 2\n" ∷ (27 ∷ 91 ∷ 65 ∷ 27 ∷ 91 ∷ 75 ∷ []) ∷ codes "b: cannot open: no such file\n" ∷ codes "2 of 2\n" ∷ [] }
-    ensures status { greatest_status (judged_path (codes "a") (IsUnjudged (NotOpened NoSuchFile)) 0 ∷
+    ensures status { greatest_status (judged_path (codes "a") (IsUnjudged (NotOpened Only NoSuchFile)) 0 ∷
         judged_path (codes "b") (IsJudged larger_bid) 0 ∷ []) ≡ 5 }
     ensures lost { (goods : Vec ℕ Global) → map status_of_path (
         record { path = codes "a"; judgement = IsJudged larger_bid; rounded = 1; lost = true } ∷
@@ -76,9 +66,9 @@ pub fn paths_reported()
           rounded = 1;
           lost = true;
         } ∷ []) ≡ 5 ∷ 0 ∷ 3 ∷ [] }
-    ensures judged { judged_paths ((codes "a", IsUnjudged (NotOpened NoSuchFile)) ∷ (codes "b", IsJudged larger_bid) ∷ [])
+    ensures judged { judged_paths ((codes "a", IsUnjudged (NotOpened Only NoSuchFile)) ∷ (codes "b", IsJudged larger_bid) ∷ [])
         ≡ codes "b" ∷ [] }
-    ensures heavy { (goods : Vec ℕ Global) → heavy_paths ((codes "a", IsUnjudged (NotOpened NoSuchFile)) ∷
+    ensures heavy { (goods : Vec ℕ Global) → heavy_paths ((codes "a", IsUnjudged (NotOpened Only NoSuchFile)) ∷
         (codes "b", IsJudged larger_bid) ∷
         (codes "c", IsHeavy larger_bid (record { number = 2; goods = goods; steps = 1000000; total = None })) ∷ [])
         ≡ codes "c" ∷ [] }
@@ -132,12 +122,12 @@ pub fn table_rows()
         → row Line (codes "a b") (IsHeavy larger_bid (record { number = 2; goods = goods; steps = 1000000; total = Some 5000000 }))
         ≡ codes "2\t3\t3\t0\t0\t\t\t\tstep limit of 1000000 (5000000 in all) at bid 2: 0,1,2\ta b\n" }
     ensures refused { map (λ error. row Line (codes "a") (IsUnjudged error))
-        (NotOpened NoSuchFile ∷ NotOpened Other ∷ Run (Refused Only (Read (record { kind = TwoDummies; line = 7 })))
-        ∷ Run (Refused Only Memory) ∷ []) ≡
+        (NotOpened Only NoSuchFile ∷ NotOpened Only Other ∷ Refused Only (Read (record { kind = TwoDummies; line = 7 }))
+        ∷ Refused Only Memory ∷ []) ≡
         codes "\t\t\t\t\t\t\t\tcannot open: no such file\ta\n" ∷ codes "\t\t\t\t\t\t\t\tcannot open\ta\n"
         ∷ codes "\t\t\t\t\t\t\t\tline 7: TwoDummies\ta\n" ∷ codes "\t\t\t\t\t\t\t\twant of memory\ta\n" ∷ [] }
     ensures reported { report_lines (without_refusals Lines) 2
-        (judged_path (codes "a") (IsUnjudged (NotOpened NoSuchFile)) 0 ∷ judged_path (codes "b") (IsJudged larger_bid) 2 ∷ [])
+        (judged_path (codes "a") (IsUnjudged (NotOpened Only NoSuchFile)) 0 ∷ judged_path (codes "b") (IsJudged larger_bid) 2 ∷ [])
         ≡ codes "b: 2 prices rounded\n" ∷ codes "2 of 2 b\n" ∷ [] }
 {}
 

@@ -11,9 +11,9 @@ use Rattle.clap.specs.declared.builder.action.ArgAction.TheVariants.{SetTrue}
 use Rattle.clap.specs.declared.builder.value_parser.ValueParser.TheVariants.{Signed, Unsigned}
 use Rattle.command_line.specs.Goods.{goods_of_words}
 use Rattle.command_line.specs.Numbers.{begins_with_sign, limit_of, number_up_to}
-use Rattle.requests.specs.Tasks.{name_of}
+use Rattle.requests.specs.Tasks.{is_many, name_of}
 use Rattle.requests.specs.declared.task.Files.{Files}
-use Rattle.requests.specs.declared.task.Files.TheVariants.{Two, Many}
+use Rattle.requests.specs.declared.task.Files.TheVariants.{Two}
 use Rattle.requests.specs.declared.task.TaskRow.{TaskRow}
 use Rattle.requests.specs.declared.task.TheConstants.{TASKS}
 use Rattle.rounding.specs.declared.replacement.FinePrices.{FinePrices}
@@ -69,10 +69,6 @@ null = record (flag (codes "null")) { short = Some 48 }
 abbrev pub is_two : Files → Bool
 is_two Two = true
 is_two files = false
-
-abbrev pub is_many : Files → Bool
-is_many Many = true
-is_many files = false
 
 abbrev pub is_always_bounded : TaskRow → Bool
 is_always_bounded row = row.limits && not row.bound

@@ -3,7 +3,8 @@
 ghost use Rattle.std.specs.Prelude.{◌≡◌, IfOk, false};
 ghost use Rattle.clap.specs.Simple.{new_app};
 ghost use Rattle.clap.specs.Words.{app_of, rule_of};
-ghost use Rattle.command_line.specs.Commands.{bids, cats, file, flag, has_no_other_words, is_always_bounded, is_many};
+ghost use Rattle.command_line.specs.Commands.{bids, cats, file, flag, has_no_other_words, is_always_bounded};
+ghost use Rattle.requests.specs.Tasks.{is_many};
 ghost use Rattle.command_line.specs.Commands.{is_two, option, second_file, shape_of, steps, total_steps, words_from};
 ghost use Rattle.command_line.specs.Internal.Matches.{has_globals, with_one};
 

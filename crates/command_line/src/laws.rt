@@ -3,13 +3,13 @@
 
 ghost use Rattle.std.specs.Prelude.{◌≡◌, ◌++◌, ℕ, All, List, [], ◌∷◌, None, Some, codes, true, unwrap_or};
 ghost use Rattle.clap.specs.ValueTests.{is_unsigned_in};
-ghost use Rattle.command_line.specs.Commands.{is_always_bounded, is_many};
+ghost use Rattle.command_line.specs.Commands.{is_always_bounded};
 ghost use Rattle.command_line.specs.Numbers.{limit_of};
 ghost use Rattle.command_line.specs.Requests.{EachRequests, IsNoRequestOf, is_no_memory, paths_for, request_of};
 ghost use Rattle.command_line.specs.Requests.{unless_signed, usual, usual_options};
 ghost use Rattle.command_line.specs.declared.request.NoRequest.{NoRequest};
 ghost use Rattle.requests.specs.Requests.{PlainRequest};
-ghost use Rattle.requests.specs.Tasks.{name_of};
+ghost use Rattle.requests.specs.Tasks.{is_many, name_of};
 ghost use Rattle.requests.specs.declared.task.TheConstants.{TASKS};
 ghost use Rattle.rounding.specs.declared.replacement.FinePrices.TheVariants.{Refuse, Round};
 ghost use Rattle.valuation.specs.SearchLimits.{bounded_options};

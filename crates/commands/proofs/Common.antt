@@ -22,7 +22,7 @@ pub use Rattle.canon.proofs.CanonicalFiles.Files.{auction_from-file_from}
 pub use Rattle.canon.proofs.CanonicalFiles.Texts.{HasAtoms-file, canonical_file_is_fixed, IsPlainFile-canonical, canonical_file_is_same}
 pub use Rattle.canon.proofs.TwoFiles.Differences.{no_difference_same}
 pub use Rattle.canon.proofs.TwoFiles.SameDifferences.{difference_of_same_files}
-pub use Rattle.canon.specs.Canonical.{canonical_auction, canonical_file, IsCanonicalFile}
+pub use Rattle.canon.specs.Canonical.{canonical_auction, canonical_file, canonical_text, IsCanonicalFile}
 pub use Rattle.canon.specs.Difference.{Difference, NoDifference}
 pub use Rattle.canon.specs.Lemmas.Finding.{counted_is_there}
 pub use Rattle.canon.specs.Lemmas.FirstChanges.{bid_of_price}
@@ -36,6 +36,7 @@ pub use Rattle.canon.specs.declared.canon_fault.CanonFault.{CanonFault}
 pub use Rattle.canon.specs.declared.canon_fault.CanonFault.TheVariants.{StepLimit, Memory}
 pub use Rattle.canon.specs.declared.which.Which.{Which}
 pub use Rattle.canon.specs.declared.which.Which.TheVariants.{Only, First, Second, Both}
+pub use Rattle.cats_text.specs.Faults.{fault_at}
 pub use Rattle.cats_text.specs.Layout.{price_text}
 pub use Rattle.cats_text.specs.declared.read_fault.Kind.{Kind}
 pub use Rattle.cats_text.specs.declared.read_fault.Kind.TheVariants.{TooLong, Device}
@@ -50,12 +51,13 @@ pub use Rattle.commands.specs.Internal.Pairs.{of_file}
 pub use Rattle.commands.specs.Internal.Sides.{IsBidOf, IsOfBidders, IsOfBids, file_of}
 pub use Rattle.commands.specs.KindNames.{name_of_kind}
 pub use Rattle.commands.specs.Naming.{with_bid}
-pub use Rattle.commands.specs.Outcomes.{missing_good, Outcome, Prints, naming_outcome, normalise_outcome, first_bid_on, is_on, compare_outcome, diff_outcome}
+pub use Rattle.commands.specs.Outcomes.{missing_good, Outcome, Prints, naming_outcome, normalise_outcome, exceeds_at, text_unless_refused, first_bid_on, is_on, compare_outcome, diff_outcome}
 pub use Rattle.commands.specs.Outcomes.{outcome_of_difference}
 pub use Rattle.commands.specs.Outputs.{bundle_text}
 pub use Rattle.commands.specs.Pairs.{CommandsBoth, Compares, Diffs, GivesBoth, MakesOfBoth, outcome_of_both}
 pub use Rattle.commands.specs.Pieces.{text_of_piece, text_of_pieces}
-pub use Rattle.commands.specs.SizesRows.{IsSized, IsTooHeavy, IsUnsized, Sizes, PutsNumbers, counts_of, has_dummy, sizes_of, with_tabs}
+pub use Rattle.commands.specs.Judgements.{Judgement, IsJudged, IsHeavy, IsUnjudged, JudgesInput}
+pub use Rattle.commands.specs.SizesRows.{PutsNumbers, counts_of, has_dummy, sizes_of, with_tabs}
 pub use Rattle.commands.specs.ValueTexts.{best_place, numbers_from, or_numbers, xor_numbers, lists_of, dummy_line, numbers_text, option_places, xor_line}
 pub use Rattle.commands.specs.ValueTexts.{bundle_from}
 pub use Rattle.commands.specs.declared.answer.Answer.{Answer}

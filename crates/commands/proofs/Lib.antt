@@ -12,4 +12,5 @@ mod BestPlaces
 mod Printing
 mod Pairing
 mod NamedBids
-pub mod Sizing
+pub mod Judging
+mod Sizing

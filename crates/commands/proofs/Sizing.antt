@@ -1,10 +1,12 @@
 -- The numbers in a row of `cats sizes`: how many bids have no dummy good, and which dummy goods the bids so far have.
-use Rattle.commands.proofs.Common.{◌≡◌, ℕ, ◌+◌, ◌<◌, Bool, true, false, cond, List, [], ◌++◌, length, map, set, take, refl, arith, inl, inr, Option, Some}
+use Rattle.commands.proofs.Common.{◌≡◌, ℕ, ◌+◌, ◌<◌, Bool, true, false, cond, List, [], ◌++◌, length, map, set, take, refl, arith, Option, Some}
 use Rattle.commands.proofs.Common.{None, Global, is_none, ◌||◌, Vec, range_with_len, slice_get, length-filter_more, list_any_more, get_or_from_slice_get}
-use Rattle.commands.proofs.Common.{slice_get_within, PlainBid, PlainFile, Kind, ReadFault, is_dummy, or_atoms_of, SearchOptions, first_refused, canonical_file}
-use Rattle.commands.proofs.Common.{refusal_by_kind, refusal_of, StepLimit, Memory, Only, HeavyBid, RunFault, Refused, with_bid, first_bid_on, Sizes, IsSized}
-use Rattle.commands.proofs.Common.{IsTooHeavy, IsUnsized, PutsNumbers, counts_of, has_dummy, sizes_of, with_tabs, codes, filter, append_assoc}
+use Rattle.commands.proofs.Common.{slice_get_within, PlainBid, PlainFile, ReadFault, is_dummy, or_atoms_of, SearchOptions, first_refused, canonical_file}
+use Rattle.commands.proofs.Common.{refusal_of, StepLimit, Memory, Only, RunFault, Refused, with_bid}
+use Rattle.commands.proofs.Common.{IsJudged, IsHeavy, IsUnjudged}
+use Rattle.commands.proofs.Common.{PutsNumbers, counts_of, has_dummy, sizes_of, with_tabs, codes, filter, append_assoc}
 use Rattle.cats_text.specs.declared.read_fault.Kind.TheVariants.{Memory as NoMemory}
+use Rattle.commands.proofs.Judging.{heavy_bid, judged_heavy, judged_unmade, judged_unread}
 use Rattle.commands.proofs.ByNumber.{by_number-same, by_number-set}
 
 -- ---- cells
@@ -16,50 +18,36 @@ sizes_put none sizes given text longer numbers empty is same put = rw (put, same
 
 -- ---- the numbers of the file that an input gives
 
--- the bid that is named for the bundle of these goods
-abbrev pub heavy_bid : SearchOptions → PlainFile → Vec ℕ Global → HeavyBid
-heavy_bid options file goods = record { number = first_bid_on file goods.items; goods = goods; steps = options.each; total = options.total }
-
-module _ (Gives : PlainFile → Type 0) (Refuses : ReadFault → Type 0) (options : SearchOptions) where
-  unread_by_kind : (why : ReadFault) (kind : Kind) → why.kind ≡ kind → (why.kind ≡ NoMemory → why.line ≡ 0) → Refuses why
-      → Sizes Gives Refuses options (IsUnsized (refusal_by_kind why kind))
-  unread_by_kind why NoMemory is no_line refused = inl (rw (← no_line is, ← is) refused)
-  unread_by_kind why kind is no_line refused = ((λ memory. cc), refused)
-
-  -- no file was given. Want of memory is on no line
-  pub sizes_unread : (why : ReadFault) → (why.kind ≡ NoMemory → why.line ≡ 0) → Refuses why → Sizes Gives Refuses options (IsUnsized (refusal_of why))
-  sizes_unread why no_line refused = unread_by_kind why why.kind refl no_line refused
-
-  pub sizes_heavy : (file : PlainFile) → Gives file → (goods : Vec ℕ Global) → first_refused options file.goods (or_atoms_of file.bids) ≡ Some goods.items
-      → Sizes Gives Refuses options (IsTooHeavy file (heavy_bid options file goods))
-  sizes_heavy file given goods heavy = (given, rw heavy)
-
-module _ (Gives : PlainFile → Type 0) (Refuses : ReadFault → Type 0) (options : SearchOptions) (text longer : List ℕ) where
+module _ {I : Type 0} (gives : I → I → PlainFile → Type 0) (refuses : I → I → ReadFault → Type 0) (options : SearchOptions) (before after : I)
+    (text longer : List ℕ) where
   abbrev Puts : Option RunFault → Type 0
-  Puts fault = PutsNumbers Gives Refuses options text longer fault
+  Puts fault = PutsNumbers gives refuses options before after text longer fault
 
   -- no file was given
-  pub numbers_unread : longer ≡ text ++ codes "\t\t\t\t\t\t\t\t" → (why : ReadFault) → (why.kind ≡ NoMemory → why.line ≡ 0) → Refuses why
-      → Puts (Some (Refused Only (refusal_of why)))
+  pub numbers_unread : longer ≡ text ++ codes "\t\t\t\t\t\t\t\t" → (why : ReadFault) → (why.kind ≡ NoMemory → why.line ≡ 0)
+      → refuses before after why → Puts (Some (Refused Only (refusal_of why)))
   numbers_unread put why no_line refused =
-      record { sized = IsUnsized (refusal_of why); sizes = sizes_unread Gives Refuses options why no_line refused; puts = put; is_fault = refl }
+      record { judgement = IsUnjudged (Refused Only (refusal_of why)); judges = judged_unread gives refuses options before after why no_line refused; puts = put; is_fault = refl }
 
-  module _ (file : PlainFile) (given : Gives file) where
-    pub numbers_judged : first_refused options file.goods (or_atoms_of file.bids) ≡ None
+  module _ (file : PlainFile) (given : gives before after file) where
+    pub numbers_within : first_refused options file.goods (or_atoms_of file.bids) ≡ None
         → longer ≡ text ++ with_tabs (sizes_of file) ++ with_tabs (counts_of (canonical_file file)) → Puts None
-    numbers_judged within put = record { sized = IsSized file; sizes = (given, within); puts = rw put (simp append_assoc); is_fault = refl }
+    numbers_within within put =
+        record { judgement = IsJudged file; judges = record { given = given; within = within }; puts = rw put (simp append_assoc); is_fault = refl }
 
     pub numbers_heavy : (goods : Vec ℕ Global) → first_refused options file.goods (or_atoms_of file.bids) ≡ Some goods.items
-        → longer ≡ text ++ with_tabs (sizes_of file) ++ codes "\t\t\t" → (why : RunFault) → why ≡ with_bid Only file options (StepLimit goods) → Puts (Some why)
+        → longer ≡ text ++ with_tabs (sizes_of file) ++ codes "\t\t\t" → (why : RunFault) → why ≡ with_bid Only file options (StepLimit goods)
+        → Puts (Some why)
     numbers_heavy goods heavy put why is = record {
-      sized = IsTooHeavy file (heavy_bid options file goods);
-      sizes = sizes_heavy Gives Refuses options file given goods heavy;
+      judgement = IsHeavy file (heavy_bid options file goods);
+      judges = judged_heavy gives refuses options before after file given goods heavy;
       puts = rw put (simp append_assoc);
       is_fault = cc;
     }
 
     pub numbers_unmade : longer ≡ text ++ codes "\t\t\t\t\t\t\t\t" → Puts (Some (Refused Only Memory))
-    numbers_unmade put = record { sized = IsUnsized Memory; sizes = inr (file, given); puts = put; is_fault = refl }
+    numbers_unmade put =
+        record { judgement = IsUnjudged (Refused Only Memory); judges = judged_unmade gives refuses options before after file given; puts = put; is_fault = refl }
 
 -- ---- marks
 

@@ -14,7 +14,7 @@ use Rattle.canon.specs.declared.canon_fault.CanonFault.TheVariants.{Read, StepLi
 use Rattle.canon.specs.declared.which.Which.TheVariants.{Only}
 use Rattle.commands.specs.declared.faults.HeavyBid.{HeavyBid}
 use Rattle.commands.specs.declared.faults.RunFault.{RunFault}
-use Rattle.commands.specs.declared.faults.RunFault.TheVariants.{Refused, TooHeavy, GoodRange, BidRange, Sent}
+use Rattle.commands.specs.declared.faults.RunFault.TheVariants.{Refused, TooHeavy, GoodRange, BidRange}
 use Rattle.commands.specs.Outcomes.{Outcome, Prints, LacksGood, LacksBid, ExceedsSteps, ExceedsAtBid, normalise_outcome}
 use Rattle.commands.specs.Outcomes.{outcome_within}
 use Rattle.commands.specs.declared.answer.Answer.{Answer}
@@ -57,7 +57,7 @@ module _ {I : Type 0} (gives : I → I → PlainFile → Type 0) (refuses : I �
   Commands old new (Err (TooHeavy which heavy)) = (which ≡ Only) × Makes old new (outcome_of_heavy_bid heavy)
   Commands old new (Err (GoodRange good)) = Makes old new (LacksGood good)
   Commands old new (Err (BidRange bid)) = Makes old new (LacksBid bid)
-  Commands old new (Err (Sent fault)) = ⊥
+  Commands old new (Err fault) = ⊥
 
 -- ---- a canonical file
 

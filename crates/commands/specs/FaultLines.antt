@@ -9,7 +9,9 @@ use Rattle.canon.specs.declared.canon_fault.CanonFault.TheVariants.{Read, StepLi
 use Rattle.canon.specs.declared.which.Which.{Which}
 use Rattle.canon.specs.declared.which.Which.TheVariants.{Only, First, Second, Both}
 use Rattle.commands.specs.declared.faults.RunFault.{RunFault}
-use Rattle.commands.specs.declared.faults.RunFault.TheVariants.{Refused, TooHeavy, GoodRange, BidRange, Sent}
+use Rattle.commands.specs.declared.faults.RunFault.TheVariants.{NotOpened, Refused, TooHeavy, GoodRange, BidRange, Sent}
+use Rattle.commands.specs.declared.faults.Unopened.{Unopened}
+use Rattle.commands.specs.declared.faults.Unopened.TheVariants.{NoSuchFile, PermissionDenied, IsFolder, NotAFile, Other}
 use Rattle.commands.specs.declared.faults.HeavyBid.{HeavyBid}
 use Rattle.commands.specs.KindNames.{name_of_kind}
 use Rattle.commands.specs.Outputs.{bundle_text}
@@ -50,7 +52,15 @@ abbrev pub text_of_heavy_bid : HeavyBid → List ℕ
 text_of_heavy_bid heavy = codes "step limit of " ++ decimal heavy.steps ++ total_text heavy.total ++ codes " at bid "
     ++ decimal heavy.number ++ codes ": " ++ bundle_text (take 20 heavy.goods.items) ++ rest_text (length heavy.goods.items)
 
+abbrev pub text_of_unopened : Unopened → List ℕ
+text_of_unopened NoSuchFile = codes "cannot open: no such file"
+text_of_unopened PermissionDenied = codes "cannot open: permission denied"
+text_of_unopened IsFolder = codes "cannot open: is a folder"
+text_of_unopened NotAFile = codes "cannot open: not a file"
+text_of_unopened Other = codes "cannot open"
+
 abbrev pub line_of_fault : RunFault → List ℕ
+line_of_fault (NotOpened which why) = prefix_of which ++ text_of_unopened why ++ codes "\n"
 line_of_fault (Refused which fault) = prefix_of which ++ text_of_canon_fault fault ++ codes "\n"
 line_of_fault (TooHeavy which heavy) = prefix_of which ++ text_of_heavy_bid heavy ++ codes "\n"
 line_of_fault (GoodRange good) = codes "good " ++ decimal good ++ codes " out of range\n"

@@ -16,6 +16,7 @@ pub mod Outcomes
 pub mod Inputs
 pub mod Commands
 pub mod Pairs
+pub mod Judgements
 pub mod SizesRows
 pub mod Examples
 pub mod Internal

@@ -7,10 +7,10 @@ use Rattle.valuation.specs.declared.search.options.SearchOptions.{SearchOptions}
 use Rattle.canon.specs.Canonical.{canonical_file}
 use Rattle.canon.specs.declared.canon_fault.CanonFault.{CanonFault}
 use Rattle.canon.specs.declared.canon_fault.CanonFault.TheVariants.{Memory}
-use Rattle.canon.specs.declared.which.Which.TheVariants.{Only, First, Second, Both}
+use Rattle.canon.specs.declared.which.Which.TheVariants.{First, Second, Both}
 use Rattle.analysis.specs.Differences.{AreAllDifferences, PlainDifferences}
 use Rattle.commands.specs.declared.faults.RunFault.{RunFault}
-use Rattle.commands.specs.declared.faults.RunFault.TheVariants.{Refused, TooHeavy, GoodRange, BidRange, Sent}
+use Rattle.commands.specs.declared.faults.RunFault.TheVariants.{Refused, TooHeavy}
 use Rattle.commands.specs.Commands.{GivesWithin, IsRefused, Makes, outcome_of_heavy_bid, text_of}
 use Rattle.commands.specs.Outcomes.{Outcome, Prints, compare_outcome, diff_outcome, naming_outcome}
 use Rattle.commands.specs.Outcomes.{normalise_outcome}
@@ -68,17 +68,13 @@ module _ {I J : Type 0} (gives_first : I → I → PlainFile → Type 0) (refuse
       second_after
   CommandsBoth refusal Gives outcome first first_after second second_after (Err (Refused Both fault)) =
       RefusesBoth first first_after second second_after fault
-  CommandsBoth refusal Gives outcome first first_after second second_after (Err (Refused Only fault)) = ⊥
   CommandsBoth refusal Gives outcome first first_after second second_after (Err (TooHeavy First heavy)) =
       RefusesFirst (λ old new. Makes gives_first refuses_first refusal old new (outcome_of_heavy_bid heavy)) first
       first_after second second_after
   CommandsBoth refusal Gives outcome first first_after second second_after (Err (TooHeavy Second heavy)) =
       RefusesSecond (λ old new. Makes gives_second refuses_second refusal old new (outcome_of_heavy_bid heavy)) first
       first_after second second_after
-  CommandsBoth refusal Gives outcome first first_after second second_after (Err (TooHeavy which heavy)) = ⊥
-  CommandsBoth refusal Gives outcome first first_after second second_after (Err (GoodRange good)) = ⊥
-  CommandsBoth refusal Gives outcome first first_after second second_after (Err (BidRange bid)) = ⊥
-  CommandsBoth refusal Gives outcome first first_after second second_after (Err (Sent fault)) = ⊥
+  CommandsBoth refusal Gives outcome first first_after second second_after (Err fault) = ⊥
 
   -- ---- a comparison
 

@@ -8,7 +8,7 @@ use Rattle.canon.specs.declared.canon_fault.CanonFault.{CanonFault}
 use Rattle.canon.specs.declared.canon_fault.CanonFault.TheVariants.{Read, StepLimit, Memory}
 use Rattle.analysis.specs.Differences.{PlainDifferences, is_none_at_all}
 use Rattle.commands.specs.declared.faults.RunFault.{RunFault}
-use Rattle.commands.specs.declared.faults.RunFault.TheVariants.{Refused, TooHeavy, GoodRange, BidRange, Sent}
+use Rattle.commands.specs.declared.faults.RunFault.TheVariants.{NotOpened, Refused, TooHeavy, GoodRange, BidRange, Sent}
 
 abbrev pub status_of_read_fault : Kind → ℕ
 status_of_read_fault Device = 5
@@ -21,6 +21,7 @@ status_of_canon_fault (StepLimit goods) = 3
 status_of_canon_fault Memory = 4
 
 abbrev pub status_of_fault : RunFault → ℕ
+status_of_fault (NotOpened which why) = 5
 status_of_fault (Refused which fault) = status_of_canon_fault fault
 status_of_fault (TooHeavy which heavy) = 3
 status_of_fault (GoodRange good) = 64

@@ -19,9 +19,23 @@ pub struct HeavyBid {
     pub total: Option<u64>,
 }
 
+/// Why a file could not be opened.
+#[derive(Clone, Copy, PartialEq, Eq, Debug)]
+pub enum Unopened {
+    NoSuchFile,
+    PermissionDenied,
+    IsFolder,
+    /// It is neither a regular file nor a folder.
+    NotAFile,
+    /// For a reason that has no name here, or that is not reported.
+    Other,
+}
+
 /// Why a run failed.
 #[derive(PartialEq, Eq, Debug, Drop)]
 pub enum RunFault {
+    /// A file could not be opened.
+    NotOpened(Which, Unopened),
     /// A file was refused.
     Refused(Which, CanonFault),
     /// A file was refused for a step limit, by a command that names the bid.

@@ -28,8 +28,7 @@ pub fn push_numbers<I: Input>(
     options: SearchOptions,
 ) -> Result<Option<RunFault>, AllocError>
     requires { I.is_ready input.old }
-    ensures { IfOk result (PutsNumbers (I.gives input.old input.new) (I.refuses input.old input.new) options text.old.items
-        text.new.items) }
+    ensures { IfOk result (PutsNumbers I.gives I.refuses options input.old input.new text.old.items text.new.items) }
 {
     let file = match input.read_file(alloc) {
         Ok(file) => file,

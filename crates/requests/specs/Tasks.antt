@@ -1,5 +1,5 @@
 -- The names of the commands.
-use Rattle.std.specs.Prelude.{ℕ, Bool, List, codes, filter, map}
+use Rattle.std.specs.Prelude.{ℕ, Bool, true, false, List, codes, filter, map}
 use Rattle.requests.specs.declared.task.Files.{Files}
 use Rattle.requests.specs.declared.task.Files.TheVariants.{One, Two, Many}
 use Rattle.requests.specs.declared.task.Task.{Task}
@@ -34,3 +34,7 @@ files_of Diff = Two
 files_of Duplicates = Many
 files_of Sizes = Many
 files_of task = One
+
+abbrev pub is_many : Files → Bool
+is_many Many = true
+is_many count = false

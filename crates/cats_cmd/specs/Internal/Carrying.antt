@@ -1,22 +1,14 @@
 -- The parts of carrying out a request.
-use Rattle.std.specs.Prelude.{◌≡◌, ◌⊎◌, ℕ, Bool, false, true, List, [], ◌∷◌, Option, Result, Ok, Err}
-use Rattle.bid_file.specs.Files.{PlainFile}
-use Rattle.cats_text.specs.declared.stream.Watched.{Watched}
-use Rattle.canon.specs.declared.which.Which.{Which}
-use Rattle.canon.specs.declared.which.Which.TheVariants.{Only}
-use Rattle.commands.specs.Outcomes.{Outcome}
+use Rattle.std.specs.Prelude.{◌≡◌, ◌⊎◌, ℕ, Bool, true, List, [], ◌∷◌, Option}
 use Rattle.requests.specs.Requests.{PlainRequest}
 use Rattle.command_line.specs.Requests.{is_wrong_usage}
 use Rattle.command_line.specs.declared.request.NoRequest.{NoRequest}
 use Rattle.command_line.specs.declared.request.NoRequest.TheVariants.{WrongUsage}
 use Rattle.commands.specs.declared.faults.RunFault.{RunFault}
-use Rattle.cats_cmd.specs.Inputs.{MayRefuse}
 use Rattle.cats_cmd.specs.Opening.{Opening, Opens}
 use Rattle.cats_cmd.specs.Requests.{CannotOpenPair, ending_of, progress_of}
-use Rattle.cats_cmd.specs.declared.errors.RequestError.{RequestError}
-use Rattle.cats_cmd.specs.declared.errors.RequestError.TheVariants.{CannotOpen, NotOpened, Run}
 use Rattle.cats_cmd.specs.declared.paths.ManyFiles.{ManyFiles}
-use Rattle.cats_cmd.specs.declared.source.Unopened.{Unopened}
+use Rattle.commands.specs.declared.faults.Unopened.{Unopened}
 use Rattle.cats_cmd.specs.declared.source.Way.TheVariants.{Anything}
 
 -- the same answer to a line without a request, but for the text of a wrong usage
@@ -34,17 +26,10 @@ many_files terminal request = record {
   all = request.all;
 }
 
--- what a run answers, as the answer to its request
-abbrev pub answer_of_run : Result ℕ RunFault → Result ℕ RequestError
-answer_of_run (Ok status) = Ok status
-answer_of_run (Err fault) = Err (Run fault)
-
 -- one of two files cannot be opened: the second, or the first, and then the second was not opened
 pub record FailsToOpenPair {S H : Type 0} (content_of : S → H) (opened : S → Option (List Opening))
-    (may_refuse : List ℕ → Unopened → Type 0) (first second : List ℕ) (old new : S) (error : RequestError)
+    (may_refuse : List ℕ → Unopened → Type 0) (first second : List ℕ) (old new : S) (fault : RunFault)
     : Type 0 where
-  pub which : Which
-  pub is : error ≡ CannotOpen which
-  pub refused : CannotOpenPair may_refuse first second which
+  pub refused : CannotOpenPair may_refuse first second fault
   pub opens : Opens content_of opened old new ((first, Anything) ∷ (second, Anything) ∷ [])
       ⊎ Opens content_of opened old new ((first, Anything) ∷ [])

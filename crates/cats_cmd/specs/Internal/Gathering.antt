@@ -2,7 +2,7 @@
 use Rattle.std.specs.Prelude.{◌≡◌, ◌++◌, ℕ, List, Option}
 use Rattle.cats_text.specs.declared.stream.Watched.{Watched}
 use Rattle.cats_cmd.specs.Escaping.{escaped}
-use Rattle.cats_cmd.specs.RequestErrors.{Reports}
+use Rattle.cats_cmd.specs.Reports.{Reports}
 
 module _ {E : Type 0} (contents : E → Option (List ℕ)) where
   -- the text was put behind what of the line was not yet sent, of which the beginning may have been sent

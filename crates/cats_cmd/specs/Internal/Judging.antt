@@ -17,13 +17,14 @@ use Rattle.cats_cmd.specs.Opening.{Opening, Opens, OpensFirst, regular_openings}
 use Rattle.commands.specs.declared.faults.HeavyBid.{HeavyBid}
 use Rattle.canon.specs.declared.canon_fault.CanonFault.{CanonFault}
 use Rattle.canon.specs.declared.canon_fault.CanonFault.TheVariants.{StepLimit}
-use Rattle.cats_cmd.specs.Paths.{BeginsPaths, IsHeavy, IsUnjudged, JudgedPath, Judgement, JudgesAs, JudgesInput}
+use Rattle.cats_cmd.specs.Paths.{BeginsPaths, JudgedPath, JudgesAs}
 use Rattle.cats_cmd.specs.Paths.{JudgesPaths}
-use Rattle.cats_cmd.specs.Paths.{Reporting, ReportsPath, greatest_status, judgement_at, lines_on, request_error_of}
+use Rattle.cats_cmd.specs.Paths.{Reporting, ReportsPath, greatest_status, judgement_at, lines_on}
 use Rattle.cats_cmd.specs.Paths.{status_if}
-use Rattle.cats_cmd.specs.RequestErrors.{ReportsAll}
-use Rattle.cats_cmd.specs.declared.errors.RequestError.{RequestError}
-use Rattle.cats_cmd.specs.declared.source.Unopened.{Unopened}
+use Rattle.cats_cmd.specs.Reports.{ReportsAll}
+use Rattle.commands.specs.declared.faults.Unopened.{Unopened}
+use Rattle.commands.specs.Judgements.{Judgement, IsHeavy, IsUnjudged, JudgesInput, fault_judged}
+use Rattle.commands.specs.declared.faults.RunFault.{RunFault}
 
 -- an index of files at some paths by a text of each, and what was found of them
 pub record KeepsNumbers (text_of : PlainFile → List ℕ) (Related : PlainFile → PlainFile → Type 0)
@@ -58,25 +59,25 @@ module _ {C : Type 0} (Has : C → List (List ℕ × Judgement) → Type 0) wher
   abbrev pub AddsRefusedTo : List ℕ → PlainFile → CanonFault → C → C → Type 0
   AddsRefusedTo path file (StepLimit goods) old new = (heavy : HeavyBid) → AddsJudgement path (IsHeavy file heavy) old
       new
-  AddsRefusedTo path file fault old new = (error : RequestError) → AddsJudgement path (IsUnjudged error) old new
+  AddsRefusedTo path file fault old new = (why : RunFault) → AddsJudgement path (IsUnjudged why) old new
 
   -- the stream was judged, and this is why it was not
   pub record AddsOpened {I : Type 0} (gives : I → I → PlainFile → Type 0) (refuses : I → I → ReadFault → Type 0)
-      (options : SearchOptions) (path : List ℕ) (old new : C) (before after : I) (error : Option RequestError)
+      (options : SearchOptions) (path : List ℕ) (old new : C) (before after : I) (fault : Option RunFault)
       : Type 0 where
     pub judgement : Judgement
     pub judges : JudgesInput gives refuses options before after judgement
     pub adds : AddsJudgement path judgement old new
-    pub is_error : error ≡ request_error_of judgement
+    pub is_fault : fault ≡ fault_judged judgement
 
   module _ {F : Type 0} (may_open : List ℕ → F → Type 0) (may_refuse : List ℕ → Unopened → Type 0)
       (remaining : F → Option (List ℕ)) (options : SearchOptions) (prices : Option FinePrices) where
     -- the file at the path was judged, and so many of its prices were rounded
-    pub record AddsFile (path : List ℕ) (old new : C) (rounded : ℕ) (error : Option RequestError) : Type 0 where
+    pub record AddsFile (path : List ℕ) (old new : C) (rounded : ℕ) (fault : Option RunFault) : Type 0 where
       pub judgement : Judgement
       pub judges : JudgesAs may_open may_refuse remaining options prices path rounded judgement
       pub adds : AddsJudgement path judgement old new
-      pub is_error : error ≡ request_error_of judgement
+      pub is_fault : fault ≡ fault_judged judgement
 
     -- the file at the path with this number, among so many, was judged and reported
     pub record AddsPath {E : Type 0} (messages : E → Option (List ℕ)) (reporting : Reporting) (count number : ℕ)
@@ -87,10 +88,10 @@ module _ {C : Type 0} (Has : C → List (List ℕ × Judgement) → Type 0) wher
       pub judges : JudgesAs may_open may_refuse remaining options prices path rounded judgement
       pub adds : AddsJudgement path judgement old new
       pub reports : ReportsAll messages
-          (lines_on reporting count number path rounded (request_error_of judgement)) err err_after
+          (lines_on reporting count number path rounded (fault_judged judgement)) err err_after
       pub path_reports : ReportsPath messages reporting count number
           (record { path = path; judgement = judgement; rounded = rounded; lost = lost }) err err_after
-      pub is_status : status ≡ status_if lost (request_error_of judgement)
+      pub is_status : status ≡ status_if lost (fault_judged judgement)
 
     abbrev pub AddsPathAs : {E : Type 0} → (E → Option (List ℕ)) → Reporting → ℕ → ℕ → List ℕ → C → C → Watched E
         → Watched E → Result ℕ AllocError → Type 0

@@ -4,10 +4,10 @@ ghost use Rattle.std.specs.Prelude.{◌≡◌, ◌++◌, IfOk, codes};
 ghost use Rattle.commands.specs.KindNames.{name_of_kind};
 ghost use Rattle.commands.specs.Pieces.{text_of_piece, text_of_pieces};
 ghost use Rattle.commands.specs.FaultLines.{line_of_fault, prefix_of, rest_text, text_of_canon_fault, text_of_heavy_bid};
-ghost use Rattle.commands.specs.FaultLines.{text_of_read_fault, total_text};
+ghost use Rattle.commands.specs.FaultLines.{text_of_read_fault, text_of_unopened, total_text};
 ghost use Rattle.commands.specs.Statuses.{status_of_fault, status_of_canon_fault, status_of_read_fault};
 
-use crate::faults::{HeavyBid, RunFault};
+use crate::faults::{HeavyBid, RunFault, Unopened};
 use crate::printed::pieces::{NOTHING, Piece, line_pieces, text_of};
 use crate::statuses::{DEVICE_FAILED, FILE_REFUSED, NO_MEMORY, STEPS_EXCEEDED, WRONG_USAGE};
 use canon::{CanonFault, Which};
@@ -25,6 +25,7 @@ pub fn status(fault: &RunFault) -> u8
     ensures { result ≡ status_of_fault fault.now }
 {
     match fault {
+        RunFault::NotOpened(_, _) => DEVICE_FAILED,
         RunFault::Refused(_, fault) => canon_status(fault),
         RunFault::TooHeavy(_, _) => STEPS_EXCEEDED,
         RunFault::GoodRange(_) | RunFault::BidRange(_) => WRONG_USAGE,
@@ -64,6 +65,7 @@ pub fn fault_pieces(fault: &RunFault) -> [Piece<'_>; 14]
     ensures { text_of_pieces result ≡ line_of_fault fault.now }
 {
     match fault {
+        RunFault::NotOpened(which, why) => text_pieces(prefix(*which), unopened(*why)),
         RunFault::Refused(which, fault) => canon_pieces(prefix(*which), fault),
         RunFault::TooHeavy(which, heavy) => heavy_pieces(prefix(*which), heavy),
         RunFault::GoodRange(good) => {
@@ -88,6 +90,18 @@ fn prefix(which: Which) -> &'static str
         Which::First => "first: ",
         Which::Second => "second: ",
         Which::Only | Which::Both => "",
+    }
+}
+
+fn unopened(why: Unopened) -> &'static str
+    ensures { result.now ≡ text_of_unopened why }
+{
+    match why {
+        Unopened::NoSuchFile => "cannot open: no such file",
+        Unopened::PermissionDenied => "cannot open: permission denied",
+        Unopened::IsFolder => "cannot open: is a folder",
+        Unopened::NotAFile => "cannot open: not a file",
+        Unopened::Other => "cannot open",
     }
 }
 

@@ -1,18 +1,21 @@
 //! Worked examples of what is made of files. The prover computes them.
 
-ghost use Rattle.std.specs.Prelude.{◌≡◌, ◌++◌, ℕ, [], ◌∷◌, None, Some, Vec, codes, map};
+ghost use Rattle.std.specs.Prelude.{◌≡◌, ◌++◌, ℕ, [], ◌∷◌, None, Some, Vec, codes};
 ghost use Rattle.std.specs.Global.{Global};
 ghost use Rattle.cats_text.specs.declared.read_fault.Kind.TheVariants.{TwoDummies};
-ghost use Rattle.canon.specs.declared.canon_fault.CanonFault.TheVariants.{Memory, Read};
+ghost use Rattle.canon.specs.declared.canon_fault.CanonFault.TheVariants.{Read};
 ghost use Rattle.valuation.specs.SearchLimits.{bounded_options, plain_options};
 ghost use Rattle.valuation.specs.declared.search.kind.SearchKind.TheVariants.{Bounded};
 ghost use Rattle.commands.specs.Examples.{asked, crossing_bids, larger_bid, repeated_bundle, xor_ladder};
 ghost use Rattle.commands.specs.Outcomes.{ExceedsAtBid, ExceedsSteps, LacksBid, LacksGood, Prints, compare_outcome};
 ghost use Rattle.commands.specs.Outcomes.{exceeds_at, first_bid_on, naming_outcome, outcome_of, revenue_outcome};
 ghost use Rattle.commands.specs.Outcomes.{value_outcome};
-ghost use Rattle.commands.specs.SizesRows.{IsSized, IsTooHeavy, IsUnsized, numbers_sized};
+ghost use Rattle.commands.specs.Judgements.{IsHeavy, IsJudged, IsUnjudged};
+ghost use Rattle.commands.specs.SizesRows.{numbers_judged};
 ghost use Rattle.commands.specs.ValueTexts.{bundle_from};
 ghost use Rattle.requests.specs.declared.task.Task.TheVariants.{Check, Explain, Lp, Normalise, Show};
+ghost use Rattle.commands.specs.declared.faults.RunFault.TheVariants.{Refused};
+ghost use Rattle.canon.specs.declared.which.Which.TheVariants.{Only};
 
 /// What `cats check` and `cats show` make of files.
 pub fn sizes_and_layouts()
@@ -54,11 +57,11 @@ pub fn revenues()
 
 /// The numbers in rows of `cats sizes`: of a file that was judged, of one with a heavy bundle, and of none.
 pub fn numbers_of_rows()
-    ensures judged { numbers_sized (IsSized larger_bid) ≡ codes "2\t3\t3\t0\t0\t2\t2\t0\t" }
+    ensures judged { numbers_judged (IsJudged larger_bid) ≡ codes "2\t3\t3\t0\t0\t2\t2\t0\t" }
     ensures heavy { (goods : Vec ℕ Global)
-        → numbers_sized (IsTooHeavy xor_ladder (record { number = 2; goods = goods; steps = 1; total = None }))
+        → numbers_judged (IsHeavy xor_ladder (record { number = 2; goods = goods; steps = 1; total = None }))
         ≡ codes "2\t3\t1\t1\t1\t\t\t\t" }
-    ensures refused { numbers_sized (IsUnsized (Read (record { kind = TwoDummies; line = 7 }))) ≡ codes "\t\t\t\t\t\t\t\t" }
+    ensures refused { numbers_judged (IsUnjudged (Refused Only (Read (record { kind = TwoDummies; line = 7 })))) ≡ codes "\t\t\t\t\t\t\t\t" }
 {}
 
 /// What `cats normalise` and `cats explain` make of two files: the same limits refuse one of them.

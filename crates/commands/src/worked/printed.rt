@@ -40,6 +40,9 @@ ghost use Rattle.commands.specs.Outputs.{bundle_text, list_cell, sizes_text};
 ghost use Rattle.commands.specs.RoundedLines.{rounded_line};
 ghost use Rattle.commands.specs.Statuses.{status_of_difference, status_of_differences, status_of_fault};
 ghost use Rattle.commands.specs.declared.faults.RunFault.TheVariants.{Refused, TooHeavy, GoodRange, BidRange, Sent};
+ghost use Rattle.commands.specs.declared.faults.RunFault.TheVariants.{NotOpened};
+ghost use Rattle.commands.specs.declared.faults.Unopened.TheVariants.{NoSuchFile, PermissionDenied, IsFolder, NotAFile};
+ghost use Rattle.commands.specs.declared.faults.Unopened.TheVariants.{Other};
 
 /// The place of a fault and what helps: of a word, of a word that is printed in part, and of a line's end.
 pub fn places_of_faults()
@@ -68,13 +71,16 @@ pub fn fault_lines()
         ∷ Refused Second (Read (record { line = 0; kind = Device }))
         ∷ Refused First (Read (record { line = 0; kind = NoMemory }))
         ∷ Refused Both Memory ∷ Refused Only Memory ∷ GoodRange 2 ∷ BidRange 17
-        ∷ Sent (record { written = 5 }) ∷ []) ≡
+        ∷ Sent (record { written = 5 }) ∷ NotOpened Only NoSuchFile ∷ NotOpened Only PermissionDenied ∷ NotOpened Only IsFolder
+        ∷ NotOpened Only NotAFile ∷ NotOpened Only Other ∷ NotOpened First Other ∷ []) ≡
         codes "line 5: TwoDummies\n" ∷ codes "first: line 5: TwoDummies\n"
         ∷ codes "second: line 12: NoEnd\n" ∷ codes "TooLong\n"
         ∷ codes "second: Device\n" ∷ codes "first: want of memory\n"
         ∷ codes "want of memory\n" ∷ codes "want of memory\n" ∷ codes "good 2 out of range\n"
         ∷ codes "bid 17 out of range\n"
-        ∷ codes "output failed after 5 bytes\n" ∷ [] }
+        ∷ codes "output failed after 5 bytes\n" ∷ codes "cannot open: no such file\n"
+        ∷ codes "cannot open: permission denied\n" ∷ codes "cannot open: is a folder\n"
+        ∷ codes "cannot open: not a file\n" ∷ codes "cannot open\n" ∷ codes "first: cannot open\n" ∷ [] }
 {}
 
 /// The statuses of these faults.
@@ -85,8 +91,8 @@ pub fn fault_statuses()
         ∷ Refused Second (Read (record { line = 0; kind = Device }))
         ∷ Refused First (Read (record { line = 0; kind = NoMemory }))
         ∷ Refused Both Memory ∷ Refused Only Memory ∷ GoodRange 2 ∷ BidRange 17
-        ∷ Sent (record { written = 5 }) ∷ []) ≡
-        2 ∷ 2 ∷ 5 ∷ 4 ∷ 4 ∷ 4 ∷ 64 ∷ 64 ∷ 5 ∷ [] }
+        ∷ Sent (record { written = 5 }) ∷ NotOpened Only NoSuchFile ∷ []) ≡
+        2 ∷ 2 ∷ 5 ∷ 4 ∷ 4 ∷ 4 ∷ 64 ∷ 64 ∷ 5 ∷ 5 ∷ [] }
 {}
 
 /// How a step limit is reported, whatever vector holds the goods, and its status.

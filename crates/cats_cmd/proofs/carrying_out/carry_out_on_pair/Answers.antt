@@ -1,6 +1,6 @@
 -- `carry_out_on_pair`
-use Rattle.cats_cmd.proofs.Common.{Bool, ap, answer_if_lost, plain_request, RunsAtBoth}
-use Rattle.cats_cmd.proofs.CarryingOut.{carried, is_priced}
+use Rattle.cats_cmd.proofs.Common.{Bool, ap, answer_if_lost}
+use Rattle.cats_cmd.proofs.CarryingOut.{is_priced}
 use Rattle.cats_cmd.proofs.JudgingPaths.{reports_more}
 use Rattle.cats_cmd.proofs.Sending.{pair_run}
 use Rattle.cats_cmd.proofs.carrying_out.carry_out_on_pair.Goals as goal
@@ -9,9 +9,7 @@ pub returns-clause-carries : goal.returns-clause-carries
 returns-clause-carries g c =
     let request = c.args.request.now in
     let opened = c.in_ok-left.ensures.opened in
-    rw (c.ran.ensures, c.answer_if_lost.ensures)
-    (carried (RunsAtBoth (g.S.Source.may_open (g.S.Source.content_of c.args.source.now)) g.S.Stream.Read.remaining g.W.Write.contents g.E.Write.contents
-    c.args.files.0.now c.args.files.1.now (plain_request request)) _ _ _ _ _ _ (record {
+    rw c.answer_if_lost.ensures (inl (record {
       left = c.new-left.result;
       left_after = c.answer_on_pair-answer.new.first;
       right = c.new-right.result;

@@ -1,15 +1,13 @@
 -- `run_at`
-use Rattle.cats_cmd.proofs.Common.{Bool, ap, answer_if_lost, outcome_of, plain_request, RunsAt}
-use Rattle.cats_cmd.proofs.CarryingOut.{carried, is_priced}
+use Rattle.cats_cmd.proofs.Common.{Bool, ap, answer_if_lost, outcome_of, plain_request}
+use Rattle.cats_cmd.proofs.CarryingOut.{is_priced}
 use Rattle.cats_cmd.proofs.Sending.{file_run}
 use Rattle.cats_cmd.proofs.carrying_out.run_at.Goals as goal
 
 pub returns-clause-runs : goal.returns-clause-runs
 returns-clause-runs g c =
     let request = c.args.request.now in
-    rw (c.ran.ensures, c.answer_if_lost.ensures)
-    (carried (RunsAt (g.S.Source.may_open (g.S.Source.content_of c.args.source.now)) g.S.Stream.Read.remaining g.W.Write.contents g.E.Write.contents
-    c.args.file.now request.prices (outcome_of (plain_request request) c.args.bids.now)) _ _ _ _ _ _ (record {
+    rw c.answer_if_lost.ensures (inl (record {
       before = c.new-input.result;
       after = c.answer_on_file-answer.new.input;
       opened = is_priced _ _ _ c.in_ok-stream.stream _ c.new-input.ensures.stream c.new-input.ensures.fine c.new-input.ensures.unread

@@ -1,9 +1,9 @@
 -- `printed_lines_are_shown`
-use Rattle.cats_cmd.proofs.ShownTexts.{duplicates_shown, error_shown, progress_shown, refusal_shown, table_shown}
+use Rattle.cats_cmd.proofs.ShownTexts.{duplicates_shown, fault_shown, progress_shown, refusal_shown, table_shown}
 use Rattle.cats_cmd.proofs.laws.printed_lines_are_shown.Goals as goal
 
 pub returns-clause-faults : goal.returns-clause-faults
-returns-clause-faults c = error_shown
+returns-clause-faults c = fault_shown
 
 pub returns-clause-refusals : goal.returns-clause-refusals
 returns-clause-refusals c = refusal_shown

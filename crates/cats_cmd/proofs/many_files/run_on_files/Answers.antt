@@ -1,6 +1,6 @@
 -- `run_on_files`
 use Rattle.cats_cmd.proofs.Common.{◌∙◌, ap, inr, map, paths_in, refl}
-use Rattle.cats_cmd.proofs.AnswersOfRequests.{error_status_above}
+use Rattle.cats_cmd.proofs.AnswersOfRequests.{fault_status_above}
 use Rattle.cats_cmd.proofs.RunsOfLists.{list_run}
 use Rattle.cats_cmd.proofs.many_files.run_on_files.Goals as goal
 
@@ -15,5 +15,5 @@ returns-in-Err-clause-opens g c =
     rw c.in-Some.is (record {
       between = c.read_list.new.source;
       opens = c.in-Err.ensures.opens;
-      rest = inr (rw c.refuse_list.ensures.status (error_status_above c.in-Err.error), refl);
+      rest = inr (rw c.refuse_list.ensures.status (fault_status_above c.in-Err.fault), refl);
     })

@@ -1,12 +1,11 @@
 -- `statuses_of_commands`: if the statuses of what a command makes of files are in a list, and 2, 4 and 5 are too, so are the statuses of its answers.
-use Rattle.commands.proofs.Common.{◌≡◌, ℕ, true, List, ◌∷◌, [], Result, Ok, Err, arith, refl, PlainFile, ReadFault, CanonFault, StepLimit, Memory, RunFault}
+use Rattle.commands.proofs.Common.{◌≡◌, ℕ, true, List, Ok, Err, arith, refl, PlainFile, ReadFault, CanonFault, StepLimit, Memory, RunFault}
 use Rattle.commands.proofs.Common.{Refused, Outcome, Prints, Answer, Kind}
 use Rattle.std.specs.Prelude.{eqb}
 use Rattle.canon.specs.declared.canon_fault.CanonFault.TheVariants.{Read}
-use Rattle.commands.specs.declared.faults.RunFault.TheVariants.{TooHeavy, GoodRange, BidRange, Sent}
+use Rattle.commands.specs.declared.faults.RunFault.TheVariants.{TooHeavy, GoodRange, BidRange}
 use Rattle.commands.specs.Outcomes.{LacksGood, LacksBid, ExceedsSteps, ExceedsAtBid}
 use Rattle.commands.specs.Commands.{Commands}
-use Rattle.std.specs.Prelude.{Contains}
 use Rattle.std.specs.List.{list_any}
 use Rattle.std.proofs.lemmas.Bool.{eqb-true}
 use Rattle.std.proofs.lemmas.Map.Views.{Contains-from_any}
@@ -47,7 +46,7 @@ module _ (statuses : List ℕ) (two : Has statuses 2) (four : Has statuses 4) (f
     of_fault (TooHeavy which heavy) h = grind (arith, of_file h.1.file)
     of_fault (GoodRange good) h = grind (arith, of_file h.file)
     of_fault (BidRange bid) h = grind (arith, of_file h.file)
-    of_fault (Sent fault) h = absurd h
+    of_fault fault h = absurd h
 
     of_answer : (answer : Answer) → Commands gives refuses outcome old new (Ok answer) → Has statuses answer.status
     of_answer answer h = grind (arith, of_file h.file)

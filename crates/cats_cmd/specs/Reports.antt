@@ -1,30 +1,18 @@
--- Why a request fails, and what is then reported. The program's status is part of it.
-use Rattle.std.specs.Prelude.{◌≡◌, ◌⊎◌, ◌==◌, ◌++◌, ◌&&◌, ◌||◌, ℕ, Bool, true, false, List, [], ◌∷◌, Option, Result, Ok}
+-- What a request reports before it ends, what is lost of it, and what is sent to standard error.
+use Rattle.std.specs.Prelude.{◌≡◌, ◌⊎◌, ◌==◌, ◌&&◌, ◌||◌, ℕ, Bool, true, false, List, [], ◌∷◌, Option, Result, Ok}
 use Rattle.std.specs.Prelude.{Err}
-use Rattle.std.specs.Prelude.{codes, if◌then◌else◌, is_some, nat_lt}
+use Rattle.std.specs.Prelude.{if◌then◌else◌, is_some, nat_lt}
 use Rattle.std.specs.Option.{option_map_or}
 use Rattle.cats_text.specs.Streams.{has_failed, Sends}
 use Rattle.cats_text.specs.declared.read_fault.SendFault.{SendFault}
 use Rattle.cats_text.specs.declared.stream.Watched.{Watched}
-use Rattle.commands.specs.FaultLines.{line_of_fault, prefix_of}
-use Rattle.commands.specs.Statuses.{status_of_fault}
 use Rattle.commands.specs.declared.faults.RunFault.{RunFault}
 use Rattle.requests.specs.Requests.{PlainRequest}
-use Rattle.requests.specs.Tasks.{files_of}
-use Rattle.requests.specs.declared.task.Files.{Files}
-use Rattle.requests.specs.declared.task.Files.TheVariants.{Many}
+use Rattle.requests.specs.Tasks.{files_of, is_many}
 use Rattle.requests.specs.declared.task.Task.{Task}
 use Rattle.requests.specs.declared.task.Task.TheVariants.{Fault, Round}
 use Rattle.rounding.specs.declared.replacement.FinePrices.{FinePrices}
 use Rattle.command_line.specs.Requests.{request_of}
-use Rattle.cats_cmd.specs.declared.errors.RequestError.{RequestError}
-use Rattle.cats_cmd.specs.declared.errors.RequestError.TheVariants.{CannotOpen, NotOpened, Run}
-use Rattle.cats_cmd.specs.declared.source.Unopened.{Unopened}
-use Rattle.cats_cmd.specs.declared.source.Unopened.TheVariants.{NoSuchFile, PermissionDenied, IsFolder, NotAFile, Other}
-
-abbrev pub is_many : Files → Bool
-is_many Many = true
-is_many count = false
 
 -- whether each of a request's files may be refused, and the others go on
 abbrev pub is_for_many_files : PlainRequest → Bool
@@ -59,23 +47,6 @@ is_reporting request = is_for_many_files request || reports request.task request
 -- whether a command line requests `round`, `duplicates` or `sizes`, or that prices are rounded
 abbrev pub names_reporting : List (List ℕ) → Bool
 names_reporting words = option_map_or is_reporting (request_of words) false
-
-abbrev pub status_of_request_error : RequestError → ℕ
-status_of_request_error (CannotOpen which) = 5
-status_of_request_error (NotOpened why) = 5
-status_of_request_error (Run fault) = status_of_fault fault
-
-abbrev pub line_of_unopened : Unopened → List ℕ
-line_of_unopened NoSuchFile = codes "cannot open: no such file\n"
-line_of_unopened PermissionDenied = codes "cannot open: permission denied\n"
-line_of_unopened IsFolder = codes "cannot open: is a folder\n"
-line_of_unopened NotAFile = codes "cannot open: not a file\n"
-line_of_unopened Other = codes "cannot open\n"
-
-abbrev pub line_of_request_error : RequestError → List ℕ
-line_of_request_error (CannotOpen which) = prefix_of which ++ codes "cannot open\n"
-line_of_request_error (NotOpened why) = line_of_unopened why
-line_of_request_error (Run fault) = line_of_fault fault
 
 -- ---- a report that is lost
 

@@ -1,0 +1,51 @@
+-- What became of one of many files.
+use Rattle.std.specs.Prelude.{◌≡◌, Option, Some, None, Err}
+use Rattle.bid_file.specs.Files.{PlainFile}
+use Rattle.cats_text.specs.declared.read_fault.ReadFault.{ReadFault}
+use Rattle.valuation.specs.declared.search.options.SearchOptions.{SearchOptions}
+use Rattle.canon.specs.Canonical.{canonical_file}
+use Rattle.canon.specs.declared.canon_fault.CanonFault.TheVariants.{StepLimit}
+use Rattle.canon.specs.declared.which.Which.TheVariants.{Only}
+use Rattle.commands.specs.Commands.{Commands, GivesWithin, outcome_of_heavy_bid}
+use Rattle.commands.specs.Outcomes.{naming_outcome, normalise_outcome}
+use Rattle.commands.specs.declared.faults.HeavyBid.{HeavyBid}
+use Rattle.commands.specs.declared.faults.RunFault.{RunFault}
+use Rattle.commands.specs.declared.faults.RunFault.TheVariants.{Refused, TooHeavy}
+
+pub data Judgement : Type 0 where
+  -- this file was read, and no bundle of it is refused
+  IsJudged : PlainFile → Judgement
+  -- this file was read, and the bundle of this bid is the first that is refused
+  IsHeavy : PlainFile → HeavyBid → Judgement
+  -- no file was read, or memory was refused, for this fault
+  IsUnjudged : RunFault → Judgement
+
+-- the file, if it was read
+abbrev pub file_read : Judgement → Option PlainFile
+file_read (IsJudged file) = Some file
+file_read (IsHeavy file heavy) = Some file
+file_read (IsUnjudged fault) = None
+
+-- its canonical file, if no step limit stopped it
+abbrev pub canonical_known : Judgement → Option PlainFile
+canonical_known (IsJudged file) = Some (canonical_file file)
+canonical_known (IsHeavy file heavy) = None
+canonical_known (IsUnjudged fault) = None
+
+-- why the file was not judged
+abbrev pub fault_judged : Judgement → Option RunFault
+fault_judged (IsJudged file) = None
+fault_judged (IsHeavy file heavy) = Some (TooHeavy Only heavy)
+fault_judged (IsUnjudged fault) = Some fault
+
+-- Reading an input gives this. Of no input but one that gives a file is a bundle refused.
+module _ {I : Type 0} (gives : I → I → PlainFile → Type 0) (refuses : I → I → ReadFault → Type 0)
+    (options : SearchOptions) where
+  abbrev pub JudgesInput : I → I → Judgement → Type 0
+  JudgesInput before after (IsJudged file) = GivesWithin gives refuses options before after file
+  JudgesInput before after (IsHeavy file heavy) = gives before after file
+      × (naming_outcome options file ≡ outcome_of_heavy_bid heavy)
+  JudgesInput before after (IsUnjudged (Refused which (StepLimit goods))) = ⊥
+  JudgesInput before after (IsUnjudged (TooHeavy which heavy)) = ⊥
+  JudgesInput before after (IsUnjudged fault) =
+      Commands gives refuses (normalise_outcome options) before after (Err fault)
