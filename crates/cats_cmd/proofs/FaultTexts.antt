@@ -1,6 +1,6 @@
 -- What is reported of a fault is a line of printable ASCII.
 use Rattle.cats_cmd.proofs.Common.{not, ◌≡◌, ℕ, ◌-◌, ◌<◌, ◌==◌, true, List, [], ◌∷◌, ◌++◌, length, take, refl, sym, ap, ◌∙◌, arith, list_all, take-append_seam}
-use Rattle.cats_cmd.proofs.Common.{Other, text_of_unopened}
+use Rattle.cats_cmd.proofs.Common.{text_of_unopened}
 use Rattle.cats_cmd.proofs.Common.{nat_tests, append_assoc, line_of_fault, prefix_of, text_of_canon_fault, text_of_heavy_bid, text_of_kind, total_text}
 use Rattle.cats_cmd.proofs.Common.{HeavyBid, bundle_text, number_cell, RunFault, Refused, TooHeavy, GoodRange, BidRange, Sent, CanonFault, Read, StepLimit}
 use Rattle.cats_cmd.proofs.Common.{Memory, Which, Kind, fault_cell, without_end, NotOpened}

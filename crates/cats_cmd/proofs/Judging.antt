@@ -3,7 +3,7 @@ use Rattle.cats_cmd.proofs.Common.{◌≡◌, ℕ, List, [], ◌∷◌, ◌++◌
 use Rattle.cats_cmd.proofs.Common.{FinePrices, SearchOptions, ReadFault, or_atoms_of, first_refused, RefusesAs, canonical_text, AddsText}
 use Rattle.cats_cmd.proofs.Common.{IsText}
 use Rattle.cats_cmd.proofs.Common.{normalised_file, refusal_of, CanonFault, Read, StepLimit, Memory, Only}
-use Rattle.cats_cmd.proofs.Common.{heavy_bid, found_paths, HeavyBid, with_bid, IsPriced, PricedGives}
+use Rattle.cats_cmd.proofs.Common.{found_paths, HeavyBid, with_bid, IsPriced, PricedGives}
 use Rattle.cats_cmd.proofs.Common.{PricedRefuses, AddsJudgement, AddsOpened, AddsRefused, KeepsGroups, Judgement, IsHeavy, IsJudged, IsUnjudged, JudgesAs}
 use Rattle.cats_cmd.proofs.Common.{JudgesInput, NotOpened, PricedInput, Refused, files_if_heavy, files_if_judged, heavy_files, heavy_paths}
 use Rattle.cats_cmd.proofs.Common.{judged_files, judged_paths, paths_if_heavy, paths_if_judged, Groups, AreSameFiles, AreAlike, unsearched_text}
@@ -11,7 +11,7 @@ use Rattle.cats_cmd.proofs.Common.{unsearched_texts_tell, canonical_texts_tell, 
 use Rattle.cats_text.specs.declared.read_fault.Kind.TheVariants.{Memory as NoMemory}
 use Rattle.cats_cmd.proofs.Skipping.{groups_skip}
 use Rattle.cats_cmd.proofs.FindingNumbers.{judgement_more, judgement_skipped, numbers_more}
-use Rattle.commands.proofs.Judging.{judged_heavy, judged_unmade, judged_unread}
+use Rattle.commands.proofs.Judging.{heavy_bid, judged_heavy, judged_unmade, judged_unread}
 use Rattle.canon.specs.Normalising.{ExceedsSteps, IsNoFile, unless_refused}
 
 -- ---- refused bundles, by what normalising a file gives

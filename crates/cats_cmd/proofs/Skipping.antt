@@ -4,7 +4,7 @@ use Rattle.cats_cmd.proofs.Common.{AreSameFiles, AreAlike, unsearched_text, Keep
 use Rattle.cats_cmd.proofs.FindingNumbers.{judgement_skipped}
 
 pub groups_skip : (groups : Groups) (js : List (List ℕ × Judgement)) (path : List ℕ) (fault : RunFault)
-    → KeepsGroups groups js → KeepsGroups groups (js ++ (path, IsUnjudged error) ∷ [])
+    → KeepsGroups groups js → KeepsGroups groups (js ++ (path, IsUnjudged fault) ∷ [])
 groups_skip groups js path fault h = record {
   judged = judgement_skipped canonical_text AreSameFiles files_if_judged paths_if_judged js path (IsUnjudged fault) groups.judged.index
       (found_paths groups.judged.found.items) refl refl h.judged;

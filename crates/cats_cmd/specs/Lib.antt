@@ -1,6 +1,6 @@
 -- What the contracts of this crate cite.
 pub mod Inputs
-pub mod RequestErrors
+pub mod Reports
 pub mod Runs
 pub mod Escaping
 pub mod PricedInputs

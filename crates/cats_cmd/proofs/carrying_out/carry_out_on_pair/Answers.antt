@@ -1,5 +1,5 @@
 -- `carry_out_on_pair`
-use Rattle.cats_cmd.proofs.Common.{Bool, ap, answer_if_lost}
+use Rattle.cats_cmd.proofs.Common.{Bool, ap, inl, answer_if_lost}
 use Rattle.cats_cmd.proofs.CarryingOut.{is_priced}
 use Rattle.cats_cmd.proofs.JudgingPaths.{reports_more}
 use Rattle.cats_cmd.proofs.Sending.{pair_run}

@@ -1,5 +1,5 @@
 -- `run_at`
-use Rattle.cats_cmd.proofs.Common.{Bool, ap, answer_if_lost, outcome_of, plain_request}
+use Rattle.cats_cmd.proofs.Common.{Bool, ap, inl, answer_if_lost, outcome_of, plain_request}
 use Rattle.cats_cmd.proofs.CarryingOut.{is_priced}
 use Rattle.cats_cmd.proofs.Sending.{file_run}
 use Rattle.cats_cmd.proofs.carrying_out.run_at.Goals as goal

@@ -7,5 +7,5 @@ pub returns : goal.returns
 returns g c =
     gathered_sent g.E.Write.contents _ _ _ _ _
     (gathers_three g.E.Write.contents (escaped c.args.path.now) (codes ": ") (line_of_fault c.args.fault.now) _ _ _ _ _ _ _ _
-    (rw c.new-line.ensures at c.push_escaped.ensures) c.push.ensures c.push_pieces.ensures)
+    (rw c.new-line.ensures at c.push_escaped.ensures) c.push.ensures (rw c.fault_pieces.ensures at c.push_pieces.ensures))
     c.send.ensures.reports

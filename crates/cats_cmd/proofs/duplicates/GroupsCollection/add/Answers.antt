@@ -11,7 +11,7 @@ returns-in-Ok-add g c =
 
 pub returns : goal.returns
 returns g c =
-    rw c.name_bid-fault.ensures
+    rw c.name_bid.ensures
     (groups_unmade g.I.Input.gives g.I.Input.refuses c.args.many.options c.args.input.now c.read_file.new.self c.args.self.now _ _ c.args.path.now
     (ap (λ (index : TextIndex). record { judged = record { index = index; found = c.args.self.now.judged.found }; heavy = c.args.self.now.heavy })
     c.in-Err-add.ensures.unchanged)
