@@ -5,7 +5,7 @@ ghost use Rattle.cats_cmd.specs.OneText.{PrintsOf};
 ghost use Rattle.cats_c.specs.Calls.{CallsProgram, Puts, names_of, request_of};
 ghost use Rattle.cats_c.specs.declared.call.CallRequest.{CallRequest};
 ghost use Rattle.cats_c.specs.declared.call.CallText.{CallText};
-ghost use Rattle.commands.specs.Outcomes.{outcome_of};
+ghost use Rattle.commands.specs.Meanings.{outcome_of};
 ghost use Rattle.requests.specs.Requests.{PlainRequest};
 ghost use Rattle.requests.specs.Tasks.{files_of};
 ghost use Rattle.requests.specs.declared.task.Files.TheVariants.{One};

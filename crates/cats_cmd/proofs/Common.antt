@@ -87,25 +87,32 @@ pub use Rattle.requests.specs.declared.task.Task.{Task}
 pub use Rattle.command_line.specs.declared.request.NoRequest.{NoRequest}
 pub use Rattle.command_line.specs.declared.request.NoRequest.TheVariants.{WrongUsage, NoMemory}
 pub use Rattle.commands.specs.Commands.{Commands, text_of}
-pub use Rattle.commands.specs.ComparisonTexts.{difference_text, side_text}
-pub use Rattle.commands.specs.DiffTexts.{diff_text, goods_rows}
-pub use Rattle.commands.specs.ExplanationTexts.{explanation_text, reason_cells}
-pub use Rattle.commands.specs.FaultHints.{hint_of_kind}
+pub use Rattle.commands.specs.Compare.{difference_text, side_text}
+pub use Rattle.commands.specs.Diff.{diff_text, goods_rows}
+pub use Rattle.commands.specs.Explain.{explanation_text, reason_cells}
+pub use Rattle.commands.specs.Fault.{hint_of_kind}
 pub use Rattle.commands.specs.FaultLines.{line_of_fault, prefix_of, text_of_canon_fault, text_of_heavy_bid, text_of_kind, text_of_unopened, total_text}
 pub use Rattle.commands.specs.Judgements.{Judgement, IsHeavy, IsJudged, IsUnjudged, JudgesInput, fault_judged}
-pub use Rattle.commands.specs.FaultPlaceTexts.{before_word, behind_word, shown_bytes}
+pub use Rattle.commands.specs.Fault.{before_word, behind_word, shown_bytes}
 pub use Rattle.commands.specs.KindNames.{name_of_kind}
-pub use Rattle.commands.specs.Naming.{with_bid}
-pub use Rattle.commands.specs.Outcomes.{Prints, Outcome, diff_outcome, outcome_of_difference, outcome_of_verdict, outcome_unless, text_unless_refused}
-pub use Rattle.commands.specs.Outcomes.{exceeds_at, naming_outcome, normalise_outcome, outcome_by, outcome_of, exceeds_limits, exceeds_packings}
-pub use Rattle.commands.specs.Outcomes.{value_outcome_if}
+pub use Rattle.commands.specs.Normalise.{with_bid}
+pub use Rattle.commands.specs.Outcomes.{Prints, Outcome}
+pub use Rattle.commands.specs.Diff.{diff_outcome}
+pub use Rattle.commands.specs.Compare.{outcome_of_difference}
+pub use Rattle.commands.specs.Revenue.{outcome_of_verdict}
+pub use Rattle.commands.specs.Value.{outcome_unless}
+pub use Rattle.commands.specs.Normalise.{text_unless_refused}
+pub use Rattle.commands.specs.Normalise.{exceeds_at, naming_outcome, normalise_outcome}
+pub use Rattle.commands.specs.Meanings.{outcome_by, outcome_of}
+pub use Rattle.commands.specs.Value.{exceeds_limits, exceeds_packings}
+pub use Rattle.commands.specs.Value.{value_outcome_if}
 pub use Rattle.commands.specs.Outputs.{bundle_text, list_cell, number_cell, price_cell, after_commas}
 pub use Rattle.commands.specs.Pairs.{CommandsBy, CommandsOnBoth, CommandsBoth, GivesBoth, outcome_of_both}
 pub use Rattle.commands.specs.Pieces.{text_of_piece, text_of_pieces}
-pub use Rattle.commands.specs.RoundedLines.{rounded_line}
-pub use Rattle.commands.specs.SizesRows.{cells, number_columns, numbers_judged}
+pub use Rattle.commands.specs.Round.{rounded_line}
+pub use Rattle.commands.specs.Sizes.{cells, number_columns, numbers_judged}
 pub use Rattle.commands.specs.Statuses.{status_of_canon_fault, status_of_fault, status_of_read_fault}
-pub use Rattle.commands.specs.ValueTexts.{value_text, bundle_from}
+pub use Rattle.commands.specs.Value.{value_text, bundle_from}
 pub use Rattle.commands.specs.declared.answer.Answer.{Answer}
 pub use Rattle.commands.specs.declared.faults.HeavyBid.{HeavyBid}
 pub use Rattle.commands.specs.declared.faults.RunFault.{RunFault}

@@ -18,7 +18,8 @@ use Rattle.cats_cmd.specs.Paths.{Reporting, RunsOnPaths, with_refusals, without_
 use Rattle.cats_cmd.specs.Rounding.{Rounds}
 use Rattle.cats_cmd.specs.Runs.{RunsOnFile, RunsOnPair}
 use Rattle.cats_cmd.specs.SizesTables.{MakesTable}
-use Rattle.commands.specs.Outcomes.{Outcome, outcome_of}
+use Rattle.commands.specs.Outcomes.{Outcome}
+use Rattle.commands.specs.Meanings.{outcome_of}
 use Rattle.requests.specs.Requests.{PlainRequest}
 use Rattle.requests.specs.Tasks.{files_of}
 use Rattle.requests.specs.declared.task.Files.{Files}

@@ -3,7 +3,7 @@
 use Rattle.std.specs.Prelude.{◌≡◌, ◌-◌, ℕ, List, [], ◌∷◌, ◌++◌, length, map, take, codes}
 use Rattle.std.specs.Prelude.{Option, Some, None}
 use Rattle.std.specs.List.{flat_map}
-use Rattle.commands.specs.SizesRows.{cells, number_columns, Column}
+use Rattle.commands.specs.Sizes.{cells, number_columns, Column}
 use Rattle.cats_cmd.specs.Escaping.{end_of, path_text}
 use Rattle.cats_cmd.specs.declared.paths.Ending.{Ending}
 use Rattle.commands.specs.FaultLines.{line_of_fault}

@@ -10,7 +10,7 @@ ghost use Rattle.cats_cmd.specs.Openings.{OpensFiles, OpensFor, OpensForBids, Op
 ghost use Rattle.cats_cmd.specs.Requests.{CannotOpenPair, Carries, CarriesOut, RunsAt, RunsAtBoth, CannotOpen};
 ghost use Rattle.cats_cmd.specs.Requests.{RunsOfCommand, RunsOfFiles, RunsOnOne};
 ghost use Rattle.cats_cmd.specs.declared.source.Way.TheVariants.{Anything};
-ghost use Rattle.commands.specs.Outcomes.{outcome_of};
+ghost use Rattle.commands.specs.Meanings.{outcome_of};
 ghost use Rattle.requests.specs.Requests.{plain_request};
 
 use crate::bid_list::read_bids;

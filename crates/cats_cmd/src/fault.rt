@@ -13,7 +13,7 @@ use canon::CanonFault;
 use cats_text::Watched;
 use cats_text::fault_place::{FaultPlace, place_of_fault};
 use commands::faults::RunFault;
-use commands::printed::{fault_place_text, shown_word};
+use commands::fault::{fault_place_text, shown_word};
 use commands::statuses::{DONE, FILE_REFUSED};
 use std::alloc::{AllocError, Global};
 use std::io::{Read, Write};

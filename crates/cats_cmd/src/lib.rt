@@ -4,7 +4,7 @@
 mod bid_list;
 mod bytes;
 mod carrying_out;
-mod duplicates;
+pub mod duplicates;
 mod escaping;
 mod fault;
 mod folder;

@@ -3,16 +3,21 @@
 ghost use Rattle.std.specs.Prelude.{◌≡◌, false};
 ghost use Rattle.cats_text.specs.Streams.{has_failed};
 ghost use Rattle.cats_cmd.specs.Runs.{RunsOnFile};
-ghost use Rattle.commands.specs.Outcomes.{check_outcome, normalise_outcome, show_outcome, value_outcome};
+ghost use Rattle.commands.specs.Check.{check_outcome};
+ghost use Rattle.commands.specs.Normalise.{normalise_outcome};
+ghost use Rattle.commands.specs.Show.{show_outcome};
+ghost use Rattle.commands.specs.Value.{value_outcome};
 ghost use Rattle.valuation.specs.SearchLimits.{plain_options};
 
 use crate::run::send_answer;
 use canon::Which;
 use cats_text::Watched;
 use commands::Input;
-use commands::bundle_value::value;
+use commands::value::value;
 use commands::faults::RunFault;
-use commands::one_file::{check, normalise, show};
+use commands::check::check;
+use commands::normalise::normalise;
+use commands::show::show;
 use std::alloc::Global;
 use std::io::Write;
 use valuation::search::SearchOptions;

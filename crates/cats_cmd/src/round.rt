@@ -3,7 +3,7 @@
 ghost use Rattle.std.specs.Prelude.{◌≡◌, map, false};
 ghost use Rattle.cats_text.specs.Streams.{has_ended, has_failed};
 ghost use Rattle.rounding.specs.Views.{plain_change, plain_changes};
-ghost use Rattle.commands.specs.RoundedLines.{rounded_line};
+ghost use Rattle.commands.specs.Round.{rounded_line};
 ghost use Rattle.cats_cmd.specs.Rounding.{Rounds};
 ghost use Rattle.cats_cmd.specs.Internal.Roundings.{RoundsText};
 ghost use Rattle.cats_cmd.specs.Reports.{Reports, ReportsAll};
@@ -14,7 +14,7 @@ use crate::run::{is_lost, send_text, status_if_lost};
 use canon::CanonFault;
 use cats_text::Watched;
 use commands::faults::RunFault;
-use commands::printed::price_pieces;
+use commands::round::price_pieces;
 use commands::statuses::DONE;
 use rounding::replacement::FinePrices;
 use rounding::text::{RoundedPrice, RoundedText, round};

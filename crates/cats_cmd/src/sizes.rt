@@ -12,7 +12,7 @@ use cats_text::Watched;
 use commands::Input;
 use commands::faults::{RunFault, Unopened};
 use commands::printed::fault_line;
-use commands::sizes_row::{NO_NUMBERS, push_numbers};
+use commands::sizes::{NO_NUMBERS, push_numbers};
 use std::alloc::{AllocError, Global};
 use std::io::Write;
 

@@ -10,7 +10,7 @@ use canon::Which;
 use cats_text::Watched;
 use commands::Input;
 use commands::faults::RunFault;
-use commands::two_files::compare;
+use commands::compare::compare;
 use std::alloc::Global;
 use std::io::Write;
 use valuation::search::SearchOptions;

@@ -18,7 +18,7 @@ ghost use Rattle.cats_cmd.specs.declared.paths.Progress.TheVariants.{Silent, Lin
 ghost use Rattle.cats_cmd.specs.Paths.{greatest_status, judged_path, progress_lines};
 ghost use Rattle.cats_cmd.specs.Paths.{ReportsFrom, report_lines, status_of_path};
 ghost use Rattle.cats_cmd.specs.Paths.{with_refusals, without_refusals};
-ghost use Rattle.commands.specs.SizesRows.{counts_of, sizes_of};
+ghost use Rattle.commands.specs.Sizes.{counts_of, sizes_of};
 ghost use Rattle.cats_cmd.specs.SizesTables.{MakesTable, row};
 ghost use Rattle.cats_cmd.specs.Rounding.{round_outcome};
 ghost use Rattle.cats_cmd.specs.PricedInputs.{PricedGives, PricedRefuses, rounding_lines};

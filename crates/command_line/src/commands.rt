@@ -8,8 +8,9 @@ ghost use Rattle.requests.specs.Tasks.{is_many};
 ghost use Rattle.command_line.specs.Commands.{is_two, option, second_file, shape_of, steps, total_steps, words_from};
 ghost use Rattle.command_line.specs.Internal.Matches.{has_globals, with_one};
 
-use crate::help::{CommandHelp, argument_text, find_help};
+use crate::help::{argument_text, find_help};
 use clap::{Arg, ArgAction, Command, value_parser};
+use requests::help::CommandHelp;
 use requests::task::{Files, TASKS, TaskRow, name_of};
 use std::alloc::{AllocError, Global};
 

@@ -1,22 +1,10 @@
 //! The version, and what `--help` prints of a command beside what `clap` makes of its arguments. The texts themselves come
 //! from the caller.
 
+use requests::help::CommandHelp;
+
 /// The version of the program.
 pub const VERSION: &str = "0.3.0";
-
-/// The help of the program, or of a subcommand.
-#[derive(Clone, Copy)]
-pub struct CommandHelp<'a> {
-    /// The program's name, or the subcommand's.
-    pub name: &'a str,
-    /// What it is for, in a line.
-    pub about: &'a str,
-    /// The texts of arguments, each behind the argument's name. Those of the program are of each subcommand that has no
-    /// other.
-    pub arguments: &'a [(&'a str, &'a str)],
-    /// What comes after its arguments.
-    pub after: &'a str,
-}
 
 /// The help of a command among these, if it is there. Else its texts are empty.
 pub(crate) fn find_help<'a>(help: &[CommandHelp<'a>], name: &str) -> Option<CommandHelp<'a>> {

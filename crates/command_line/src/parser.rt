@@ -18,10 +18,10 @@ use crate::commands::{
     ROUND_EXACT, SECOND_FILE, STEPS, TOTAL_STEPS, cats_command,
 };
 use crate::goods::goods_of_words;
-use crate::help::CommandHelp;
 use crate::request::{Misuse, NoRequest};
 use clap::error::ErrorKind;
 use clap::{ArgMatches, Error};
+use requests::help::CommandHelp;
 use requests::request::Request;
 use requests::task::{TASKS, Task, name_of};
 use rounding::replacement::FinePrices;

@@ -42,30 +42,35 @@ pub use Rattle.cats_text.specs.declared.read_fault.Kind.{Kind}
 pub use Rattle.cats_text.specs.declared.read_fault.Kind.TheVariants.{TooLong, Device}
 pub use Rattle.cats_text.specs.declared.read_fault.ReadFault.{ReadFault}
 pub use Rattle.commands.specs.Commands.{text_of, GivesWithin, ReadsCanonical}
-pub use Rattle.commands.specs.ComparisonTexts.{bidder_text}
-pub use Rattle.commands.specs.DiffTexts.{bid_number, bidder_rows, change_row}
-pub use Rattle.commands.specs.ExplanationTexts.{explanation_row, explanation_header}
+pub use Rattle.commands.specs.Compare.{bidder_text}
+pub use Rattle.commands.specs.Diff.{bid_number, bidder_rows, change_row}
+pub use Rattle.commands.specs.Explain.{explanation_row, explanation_header}
 pub use Rattle.commands.specs.FaultLines.{rest_text, text_of_heavy_bid, total_text, text_of_kind}
 pub use Rattle.commands.specs.Internal.ComparedFiles.{IsComparedFile, PrintsDifferences}
 pub use Rattle.commands.specs.Internal.Pairs.{of_file}
 pub use Rattle.commands.specs.Internal.Sides.{IsBidOf, IsOfBidders, IsOfBids, file_of}
 pub use Rattle.commands.specs.KindNames.{name_of_kind}
-pub use Rattle.commands.specs.Naming.{with_bid}
-pub use Rattle.commands.specs.Outcomes.{missing_good, Outcome, Prints, naming_outcome, normalise_outcome, exceeds_at, text_unless_refused, first_bid_on, is_on, compare_outcome, diff_outcome}
-pub use Rattle.commands.specs.Outcomes.{outcome_of_difference}
+pub use Rattle.commands.specs.Normalise.{with_bid}
+pub use Rattle.commands.specs.Value.{missing_good}
+pub use Rattle.commands.specs.Outcomes.{Outcome, Prints}
+pub use Rattle.commands.specs.Normalise.{naming_outcome, normalise_outcome, exceeds_at, text_unless_refused, first_bid_on, is_on}
+pub use Rattle.commands.specs.Compare.{compare_outcome}
+pub use Rattle.commands.specs.Diff.{diff_outcome}
+pub use Rattle.commands.specs.Compare.{outcome_of_difference}
 pub use Rattle.commands.specs.Outputs.{bundle_text}
 pub use Rattle.commands.specs.Pairs.{CommandsBoth, Compares, Diffs, GivesBoth, MakesOfBoth, outcome_of_both}
 pub use Rattle.commands.specs.Pieces.{text_of_piece, text_of_pieces}
 pub use Rattle.commands.specs.Judgements.{Judgement, IsJudged, IsHeavy, IsUnjudged, JudgesInput}
-pub use Rattle.commands.specs.SizesRows.{PutsNumbers, counts_of, has_dummy, sizes_of, with_tabs}
-pub use Rattle.commands.specs.ValueTexts.{best_place, numbers_from, or_numbers, xor_numbers, lists_of, dummy_line, numbers_text, option_places, xor_line}
-pub use Rattle.commands.specs.ValueTexts.{bundle_from}
+pub use Rattle.commands.specs.Sizes.{PutsNumbers}
+pub use Rattle.commands.specs.Sizes.{counts_of, has_dummy, sizes_of, with_tabs}
+pub use Rattle.commands.specs.Value.{best_place, numbers_from, or_numbers, xor_numbers, lists_of, dummy_line, numbers_text, option_places, xor_line}
+pub use Rattle.commands.specs.Value.{bundle_from}
 pub use Rattle.commands.specs.declared.answer.Answer.{Answer}
 pub use Rattle.commands.specs.declared.faults.HeavyBid.{HeavyBid}
 pub use Rattle.commands.specs.declared.faults.RunFault.{RunFault}
 pub use Rattle.commands.specs.declared.faults.RunFault.TheVariants.{Refused}
 pub use Rattle.commands.specs.declared.printed.pieces.Piece.{Piece}
-pub use Rattle.commands.specs.declared.printed.sides.ComparedFile.{ComparedFile}
+pub use Rattle.commands.specs.declared.diff.sides.ComparedFile.{ComparedFile}
 pub use Rattle.goods_set.specs.Bundles.{is_inside, with_good}
 pub use Rattle.goods_set.specs.Lemmas.Members.{AreBelow-higher}
 pub use Rattle.prune.specs.Lemmas.KeptBids.{just_bundles, on_bundles, or_points_are_atoms, xor_points_are_atoms}

@@ -15,8 +15,9 @@ use Rattle.canon.specs.declared.which.Which.TheVariants.{Only}
 use Rattle.commands.specs.declared.faults.HeavyBid.{HeavyBid}
 use Rattle.commands.specs.declared.faults.RunFault.{RunFault}
 use Rattle.commands.specs.declared.faults.RunFault.TheVariants.{Refused, TooHeavy, GoodRange, BidRange}
-use Rattle.commands.specs.Outcomes.{Outcome, Prints, LacksGood, LacksBid, ExceedsSteps, ExceedsAtBid, normalise_outcome}
-use Rattle.commands.specs.Outcomes.{outcome_within}
+use Rattle.commands.specs.Outcomes.{Outcome, Prints, LacksGood, LacksBid, ExceedsSteps, ExceedsAtBid}
+use Rattle.commands.specs.Normalise.{normalise_outcome}
+use Rattle.commands.specs.Normalise.{outcome_within}
 use Rattle.commands.specs.declared.answer.Answer.{Answer}
 use Rattle.commands.specs.declared.answer.Output.{Output}
 use Rattle.commands.specs.declared.answer.Output.TheVariants.{Text, File}

@@ -7,7 +7,7 @@ use Rattle.canon.specs.Canonical.{canonical_file}
 use Rattle.canon.specs.declared.canon_fault.CanonFault.TheVariants.{StepLimit}
 use Rattle.canon.specs.declared.which.Which.TheVariants.{Only}
 use Rattle.commands.specs.Commands.{Commands, GivesWithin, outcome_of_heavy_bid}
-use Rattle.commands.specs.Outcomes.{naming_outcome, normalise_outcome}
+use Rattle.commands.specs.Normalise.{naming_outcome, normalise_outcome}
 use Rattle.commands.specs.declared.faults.HeavyBid.{HeavyBid}
 use Rattle.commands.specs.declared.faults.RunFault.{RunFault}
 use Rattle.commands.specs.declared.faults.RunFault.TheVariants.{Refused, TooHeavy}

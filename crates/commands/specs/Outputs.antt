@@ -1,7 +1,6 @@
 -- What `cats check` prints, lists of goods, and the cells of tables.
-use Rattle.std.specs.Prelude.{ℕ, List, [], ◌∷◌, ◌++◌, Option, Some, None, length, codes, decimal}
+use Rattle.std.specs.Prelude.{ℕ, List, [], ◌∷◌, ◌++◌, Option, Some, None, decimal}
 use Rattle.std.specs.List.{flat_map}
-use Rattle.bid_file.specs.Files.{PlainFile}
 use Rattle.cats_text.specs.Layout.{price_text}
 
 -- a list with this byte between each two, by the text of each
@@ -30,11 +29,3 @@ number_cell (Some number) = decimal number
 abbrev pub price_cell : Option ℕ → List ℕ
 price_cell None = []
 price_cell (Some price) = price_text price
-
-abbrev pub sizes_text : ℕ → ℕ → ℕ → List ℕ
-sizes_text goods bids dummy = codes "goods " ++ decimal goods ++ codes " bids " ++ decimal bids ++ codes " dummy "
-    ++ decimal dummy ++ codes "\n"
-
--- what `cats check` prints of a file
-abbrev pub check_text : PlainFile → List ℕ
-check_text file = sizes_text file.goods (length file.bids) file.dummy

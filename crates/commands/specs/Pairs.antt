@@ -12,8 +12,11 @@ use Rattle.analysis.specs.Differences.{AreAllDifferences, PlainDifferences}
 use Rattle.commands.specs.declared.faults.RunFault.{RunFault}
 use Rattle.commands.specs.declared.faults.RunFault.TheVariants.{Refused, TooHeavy}
 use Rattle.commands.specs.Commands.{GivesWithin, IsRefused, Makes, outcome_of_heavy_bid, text_of}
-use Rattle.commands.specs.Outcomes.{Outcome, Prints, compare_outcome, diff_outcome, naming_outcome}
-use Rattle.commands.specs.Outcomes.{normalise_outcome}
+use Rattle.commands.specs.Outcomes.{Outcome, Prints}
+use Rattle.commands.specs.Compare.{compare_outcome}
+use Rattle.commands.specs.Diff.{diff_outcome}
+use Rattle.commands.specs.Normalise.{naming_outcome}
+use Rattle.commands.specs.Normalise.{normalise_outcome}
 use Rattle.commands.specs.declared.answer.Answer.{Answer}
 use Rattle.requests.specs.Requests.{PlainRequest}
 use Rattle.requests.specs.declared.task.Task.{Task}

@@ -1,12 +1,10 @@
 -- The exit statuses. They are those of a run's faults and of a comparison, as users know them: they are written
 -- out here, and the code's constants are proved to be these.
-use Rattle.std.specs.Prelude.{ℕ, if◌then◌else◌}
+use Rattle.std.specs.Prelude.{ℕ}
 use Rattle.cats_text.specs.declared.read_fault.Kind.{Kind}
 use Rattle.cats_text.specs.declared.read_fault.Kind.TheVariants.{Device, Memory as NoMemory}
-use Rattle.canon.specs.Difference.{Difference, NoDifference}
 use Rattle.canon.specs.declared.canon_fault.CanonFault.{CanonFault}
 use Rattle.canon.specs.declared.canon_fault.CanonFault.TheVariants.{Read, StepLimit, Memory}
-use Rattle.analysis.specs.Differences.{PlainDifferences, is_none_at_all}
 use Rattle.commands.specs.declared.faults.RunFault.{RunFault}
 use Rattle.commands.specs.declared.faults.RunFault.TheVariants.{NotOpened, Refused, TooHeavy, GoodRange, BidRange, Sent}
 
@@ -27,12 +25,3 @@ status_of_fault (TooHeavy which heavy) = 3
 status_of_fault (GoodRange good) = 64
 status_of_fault (BidRange bid) = 64
 status_of_fault (Sent fault) = 5
-
--- the status of a comparison
-abbrev pub status_of_difference : Difference → ℕ
-status_of_difference NoDifference = 0
-status_of_difference _ = 1
-
--- and of all differences
-abbrev pub status_of_differences : PlainDifferences → ℕ
-status_of_differences differences = if is_none_at_all differences then 0 else 1

@@ -1,17 +1,22 @@
 //! The commands on one bid file or two, by the request for them.
 
 ghost use Rattle.commands.specs.Commands.{Commands};
-ghost use Rattle.commands.specs.Outcomes.{outcome_of};
+ghost use Rattle.commands.specs.Meanings.{outcome_of};
 ghost use Rattle.commands.specs.Pairs.{CommandsOnBoth};
 ghost use Rattle.requests.specs.Requests.{plain_request};
 
-use crate::allocation::revenue;
 use crate::answer::Answer;
-use crate::bundle_value::value;
+use crate::check::check;
+use crate::compare::compare;
+use crate::diff::diff;
+use crate::explain::explain;
 use crate::faults::RunFault;
 use crate::input::Input;
-use crate::one_file::{check, explain, lp, normalise, show};
-use crate::two_files::{compare, diff};
+use crate::lp::lp;
+use crate::normalise::normalise;
+use crate::revenue::revenue;
+use crate::show::show;
+use crate::value::value;
 use requests::request::Request;
 use requests::task::Task;
 use std::alloc::Global;

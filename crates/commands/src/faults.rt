@@ -2,6 +2,9 @@
 
 mod heavy_bid;
 
+ghost use Rattle.std.specs.Prelude.{◌≡◌};
+ghost use Rattle.commands.specs.Internal.Pairs.{of_file};
+
 use canon::{CanonFault, Which};
 use cats_text::SendFault;
 pub use heavy_bid::name_bid;
@@ -72,5 +75,15 @@ impl From<AllocError> for RunFault {
 
     fn from(_refused: AllocError) -> RunFault {
         RunFault::Refused(Which::Only, CanonFault::Memory)
+    }
+}
+
+/// Says which file a fault is of.
+pub(crate) fn of<T>(which: Which, answer: Result<T, CanonFault>) -> Result<T, RunFault>
+    ensures { result ≡ of_file which answer }
+{
+    match answer {
+        Ok(given) => Ok(given),
+        Err(fault) => Err(RunFault::Refused(which, fault)),
     }
 }

@@ -1,18 +1,25 @@
-//! The commands on one bid file or two, as functions of their inputs, and what they print.
+//! The commands on bid files, as functions of their inputs. Each has a module, with its help, its function and its text.
 #![tactic(auto)]
 
-mod allocation;
 pub mod answer;
-pub mod bundle_value;
+pub mod check;
 pub mod command;
+pub mod compare;
+pub mod diff;
+pub mod explain;
+pub mod fault;
 pub mod faults;
 mod input;
 pub mod laws;
-pub mod one_file;
+pub mod lp;
+pub mod normalise;
 pub mod printed;
-pub mod sizes_row;
+pub mod revenue;
+pub mod round;
+pub mod show;
+pub mod sizes;
 pub mod statuses;
-pub mod two_files;
+pub mod value;
 pub mod worked;
 
 pub use input::Input;

@@ -1,23 +1,8 @@
-//! What the commands print, and their statuses.
+//! What several commands print: cells of tables, pieces of lines, and faults.
 
-mod cells;
-mod comparison;
-mod diff;
-mod explanation;
-mod fault_hint;
-mod pieces;
-mod report;
-mod rounded;
-mod sides;
-mod sizes;
+pub(crate) mod cells;
+pub(crate) mod pieces;
+pub(crate) mod report;
 
-pub(crate) use cells::push_number;
-pub(crate) use comparison::{verdict_status, verdict_text};
-pub(crate) use diff::differences_text;
-pub(crate) use explanation::explanation_text;
-pub use fault_hint::{fault_place_text, shown_word};
 pub use pieces::Piece;
 pub use report::{WANT_OF_MEMORY, fault_line, fault_pieces, status};
-pub use rounded::price_pieces;
-pub(crate) use sides::ComparedFile;
-pub(crate) use sizes::sizes_line;

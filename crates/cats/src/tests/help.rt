@@ -1,8 +1,9 @@
 //! The texts of `--help`.
 
-use crate::help::all_help;
-use command_line::help::{CommandHelp, VERSION};
+use crate::help::HELP;
+use command_line::help::VERSION;
 use command_line::request::{NoRequest, parse};
+use requests::help::CommandHelp;
 use std::alloc::{AllocError, Global};
 use std::process::Abort;
 use std::test::Fail;
@@ -103,9 +104,8 @@ fn help_prints_texts(
 
 #[test]
 fn help_texts(rt: HostRuntime) -> Result<(), Fail> {
-    let help = all_help();
-    for command in &help {
-        let printed = help_prints_texts(rt.alloc(), &help, command)?;
+    for command in HELP {
+        let printed = help_prints_texts(rt.alloc(), HELP, command)?;
         assert!(rt; printed, "of {}", command.name);
     }
     Ok(())

@@ -7,9 +7,9 @@ use Rattle.canon.specs.Canonical.{canonical_file}
 use Rattle.canon.specs.Renaming.{kept_dummies}
 use Rattle.canon.specs.declared.normal.named.NamedFile.{NamedFile}
 use Rattle.analysis.specs.Differences.{PlainDifferences, AreAllDifferences}
-use Rattle.commands.specs.DiffTexts.{diff_text}
-use Rattle.commands.specs.Statuses.{status_of_differences}
-use Rattle.commands.specs.declared.printed.sides.ComparedFile.{ComparedFile}
+use Rattle.commands.specs.Diff.{diff_text}
+use Rattle.commands.specs.Diff.{status_of_differences}
+use Rattle.commands.specs.declared.diff.sides.ComparedFile.{ComparedFile}
 
 -- the canonical file of this file, with its names
 pub record IsNamed (file : PlainFile) (named : NamedFile) : Type 0 where

@@ -7,9 +7,9 @@ use Rattle.canon.specs.declared.canon_fault.CanonFault.{CanonFault}
 use Rattle.canon.specs.declared.which.Which.{Which}
 use Rattle.commands.specs.declared.faults.RunFault.{RunFault}
 use Rattle.commands.specs.declared.faults.RunFault.TheVariants.{Refused, TooHeavy}
-use Rattle.commands.specs.declared.printed.sides.ComparedFile.{ComparedFile}
+use Rattle.commands.specs.declared.diff.sides.ComparedFile.{ComparedFile}
 use Rattle.commands.specs.Commands.{GivesWithin, IsRefused, Makes, outcome_of_heavy_bid}
-use Rattle.commands.specs.Outcomes.{naming_outcome}
+use Rattle.commands.specs.Normalise.{naming_outcome}
 
 -- the answer, where a fault is of this file
 abbrev pub of_file : {T : Type 0} → Which → Result T CanonFault → Result T RunFault

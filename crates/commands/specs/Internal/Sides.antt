@@ -6,8 +6,8 @@ use Rattle.analysis.specs.BidderChanges.{PlainBidderChange}
 use Rattle.canon.specs.PriceChanges.{PlainChange}
 use Rattle.analysis.specs.BidOrders.{AreInOrder}
 use Rattle.commands.specs.Internal.ComparedFiles.{IsComparedFile}
-use Rattle.commands.specs.declared.printed.sides.Side.{Side}
-use Rattle.commands.specs.declared.printed.sides.Sides.{Sides}
+use Rattle.commands.specs.declared.diff.sides.Side.{Side}
+use Rattle.commands.specs.declared.diff.sides.Sides.{Sides}
 
 -- the file that is compared
 abbrev pub file_of : Side → PlainFile

@@ -2,8 +2,8 @@
 
 ghost use Rattle.std.specs.Prelude.{◌≡◌};
 ghost use Rattle.bid_file.specs.Views.{seen_bid};
-ghost use Rattle.commands.specs.Naming.{with_bid};
-ghost use Rattle.commands.specs.Outcomes.{first_bid_on, is_on};
+ghost use Rattle.commands.specs.Normalise.{with_bid};
+ghost use Rattle.commands.specs.Normalise.{first_bid_on, is_on};
 
 use crate::faults::{HeavyBid, RunFault};
 use bid_file::{BidRef, Bids, PackedFile};

@@ -6,7 +6,8 @@ use Rattle.std.specs.Global.{Global}
 use Rattle.std.specs.Prelude.{Vec, option_and_then, option_map, slice_get}
 use Rattle.bid_file.specs.Files.{PlainFile}
 use Rattle.cats_text.specs.Streams.{inner_of}
-use Rattle.commands.specs.Outcomes.{Outcome, outcome_of}
+use Rattle.commands.specs.Outcomes.{Outcome}
+use Rattle.commands.specs.Meanings.{outcome_of}
 use Rattle.requests.specs.Requests.{PlainRequest}
 use Rattle.requests.specs.Tasks.{files_of}
 use Rattle.requests.specs.declared.task.Files.{Files}

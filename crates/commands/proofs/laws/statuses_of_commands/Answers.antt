@@ -11,7 +11,7 @@ use Rattle.std.proofs.lemmas.Bool.{eqb-true}
 use Rattle.std.proofs.lemmas.Map.Views.{Contains-from_any}
 use Rattle.cats_text.specs.declared.read_fault.Kind.TheVariants.{Device, Memory as NoMemory}
 use Rattle.commands.specs.Commands.{IsRefused}
-use Rattle.commands.specs.Outcomes.{outcome_by, outcome_of, statuses_of}
+use Rattle.commands.specs.Meanings.{outcome_by, outcome_of, statuses_of}
 use Rattle.requests.specs.Requests.{PlainRequest}
 use Rattle.requests.specs.declared.task.Task.{Task}
 use Rattle.commands.specs.Statuses.{status_of_canon_fault, status_of_fault, status_of_read_fault}

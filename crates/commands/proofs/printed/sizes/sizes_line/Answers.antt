@@ -1,6 +1,0 @@
--- `sizes_line`
-use Rattle.commands.proofs.Common.{rules, append_assoc}
-use Rattle.commands.proofs.printed.sizes.sizes_line.Goals as goal
-
-pub returns : goal.returns
-returns c = simp append_assoc (search rules)

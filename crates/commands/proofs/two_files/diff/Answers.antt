@@ -1,8 +1,0 @@
--- `diff`
-use Rattle.commands.proofs.Pairing.{files_differed}
-use Rattle.commands.proofs.two_files.diff.Goals as goal
-
-pub returns : goal.returns
-returns g c =
-    files_differed _ _ _ _ _ _ _ _ _ c.in_ok-left.left c.in_ok-right.right c.in_ok-left.ensures.answer c.in_ok-right.ensures.answer _
-    c.all_differences.ensures.made c.all_differences.ensures.memory _ c.of.ensures

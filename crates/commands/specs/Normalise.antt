@@ -1,0 +1,55 @@
+-- What `cats normalise` prints: the canonical text. A bundle of the OR bidder may be refused, and then the bid may be
+-- named.
+use Rattle.std.specs.Prelude.{ℕ, Bool, ◌&&◌, List, Option, Some, None, is_none, nat_eq}
+use Rattle.std.specs.Cmp.Lexicographic.{pointwise}
+use Rattle.std.specs.List.{position_or_len}
+use Rattle.bid_file.specs.Files.{PlainBid, PlainFile}
+use Rattle.valuation.specs.Auctions.{or_atoms_of}
+use Rattle.valuation.specs.declared.search.options.SearchOptions.{SearchOptions}
+use Rattle.prune.specs.SearchSteps.{first_refused}
+use Rattle.canon.specs.Canonical.{canonical_text}
+use Rattle.canon.specs.declared.canon_fault.CanonFault.{CanonFault}
+use Rattle.canon.specs.declared.canon_fault.CanonFault.TheVariants.{StepLimit}
+use Rattle.canon.specs.declared.which.Which.{Which}
+use Rattle.commands.specs.declared.faults.RunFault.{RunFault}
+use Rattle.commands.specs.declared.faults.RunFault.TheVariants.{Refused, TooHeavy}
+use Rattle.commands.specs.Outcomes.{Outcome, Prints, ExceedsSteps, ExceedsAtBid}
+
+-- a text, unless this bundle of the OR bidder is refused, of which `refusal` is made
+abbrev pub text_unless_refused : (List ℕ → Outcome) → List ℕ → Option (List ℕ) → Outcome
+text_unless_refused refusal text None = Prints 0 text
+text_unless_refused refusal text (Some goods) = refusal goods
+
+-- of a command that searches the bundles of the OR bidder within limits, as one on the canonical file does
+abbrev pub outcome_within : SearchOptions → (List ℕ → Outcome) → List ℕ → PlainFile → Outcome
+outcome_within options refusal text file =
+    text_unless_refused refusal text (first_refused options file.goods (or_atoms_of file.bids))
+
+-- of `cats normalise`: the canonical text, unless a bundle of the OR bidder is refused
+abbrev pub normalise_outcome : SearchOptions → PlainFile → Outcome
+normalise_outcome options file = outcome_within options ExceedsSteps (canonical_text file) file
+
+-- a bid of the OR bidder on the bundle of these goods
+abbrev pub is_on : List ℕ → PlainBid → Bool
+is_on goods b = is_none b.dummy && pointwise nat_eq b.goods goods
+
+-- the number of the first such bid
+abbrev pub first_bid_on : PlainFile → List ℕ → ℕ
+first_bid_on file goods = position_or_len (is_on goods) file.bids
+
+-- the bundle of these goods is refused, and the bid is named
+abbrev pub exceeds_at : SearchOptions → PlainFile → List ℕ → Outcome
+exceeds_at options file goods = ExceedsAtBid options.each options.total (first_bid_on file goods) goods
+
+-- the canonical text, by a command that names the bid whose bundle is refused
+abbrev pub naming_outcome : SearchOptions → PlainFile → Outcome
+naming_outcome options file = outcome_within options (exceeds_at options file) (canonical_text file) file
+
+abbrev pub with_bid : Which → PlainFile → SearchOptions → CanonFault → RunFault
+with_bid which file options (StepLimit goods) = TooHeavy which (record {
+  number = first_bid_on file goods.items;
+  goods = goods;
+  steps = options.each;
+  total = options.total;
+})
+with_bid which file options fault = Refused which fault

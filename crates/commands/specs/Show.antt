@@ -1,0 +1,8 @@
+-- What `cats show` prints: a file in its one layout.
+use Rattle.bid_file.specs.Files.{PlainFile}
+use Rattle.cats_text.specs.Layout.{layout}
+use Rattle.commands.specs.Outcomes.{Outcome, Prints}
+
+-- of `cats show`
+abbrev pub show_outcome : PlainFile → Outcome
+show_outcome file = Prints 0 (layout file)

@@ -1,0 +1,171 @@
+//! `cats compare`: whether two files are the same auction, or their first difference.
+
+ghost use Rattle.std.specs.Prelude.{IfErr, IfOk, ◌≡◌, ◌++◌, codes};
+ghost use Rattle.canon.specs.Canonical.{IsCanonicalFile};
+ghost use Rattle.canon.specs.declared.canon_fault.CanonFault.TheVariants.{Memory};
+ghost use Rattle.commands.specs.Commands.{text_of};
+ghost use Rattle.commands.specs.Outcomes.{Prints};
+ghost use Rattle.commands.specs.Compare.{compare_outcome};
+ghost use Rattle.commands.specs.Pairs.{Compares};
+ghost use Rattle.canon.specs.Verdicts.{plain_verdict, printed_atoms};
+ghost use Rattle.commands.specs.Compare.{bidder_text, difference_text, difference_lines, side_text};
+ghost use Rattle.commands.specs.Compare.{status_of_difference};
+
+use crate::answer::{Answer, Output};
+use crate::faults::{RunFault, of};
+use crate::input::Input;
+use crate::normalise::read_canonical;
+use crate::printed::cells::push_list;
+use crate::statuses::{DIFFERENT, DONE};
+use bid_file::PackedFile;
+use canon::{CanonFault, Side, Verdict, Which, compare_files};
+use cats_text::price::push_price;
+use requests::help::CommandHelp;
+use std::alloc::{AllocError, Global};
+use valuation::search::SearchOptions;
+
+/// What `--help` prints of it.
+pub const HELP: CommandHelp<'static> = CommandHelp {
+    name: "compare",
+    about: "Prints 'same', or where the auctions of two files differ first",
+    arguments: &[],
+    after: "\
+Prints 'same', or 'different' and where the two first differ: in their goods,
+in the OR value of a bundle, or in how often they have an XOR bidder. For
+example:
+  $ cats compare examples/ladder.cats examples/ladder_rewritten.cats
+  same
+
+A step is that of 'cats normalise': each file is normalised first, and --bound
+does what it does there. A fault's line begins with 'first: ' or 'second: '.
+'cats diff' prints all differences.
+
+Statuses: 0 for the same auction, 1 for different ones; 2 if a file is not a
+bid file; 3 for the step limit: use --bound, and then a greater --steps; 4, 5
+and 64 as 'cats --help' lists them",
+};
+
+/// Whether two files are the same auction, or their first difference. Each file has a total of steps of its own. Memory that
+/// is refused while the two are compared belongs to both.
+pub fn compare<I: Input, J: Input>(
+    alloc: Global,
+    first: &mut I,
+    second: &mut J,
+    options: SearchOptions,
+) -> Result<Answer, RunFault>
+    requires first { I.is_ready first.old }
+    requires second { J.is_ready second.old }
+    ensures { Compares I.gives I.refuses J.gives J.refuses options first.old first.new second.old second.new result }
+{
+    let left = of(Which::First, read_canonical(alloc, first, options))?;
+    let right = of(Which::Second, read_canonical(alloc, second, options))?;
+    of(Which::Both, compared(alloc, &left, &right))
+}
+
+/// The first difference of two canonical files.
+fn compared(alloc: Global, left: &PackedFile, right: &PackedFile) -> Result<Answer, CanonFault>
+    requires left { IsCanonicalFile left.now }
+    requires right { IsCanonicalFile right.now }
+    ensures made { IfOk result (λ answer. compare_outcome left.now right.now
+        ≡ Prints answer.status (text_of answer.output)) }
+    ensures memory { IfErr result (λ fault. fault ≡ Memory) }
+{
+    let verdict = compare_files(alloc, left, right)?;
+    Ok(Answer {
+        status: verdict_status(&verdict),
+        output: Output::Text(verdict_text(alloc, &verdict)?),
+    })
+}
+
+/// The status of a comparison.
+pub(crate) fn verdict_status(verdict: &Verdict) -> u8
+    ensures { result ≡ status_of_difference (plain_verdict verdict.now) }
+{
+    match verdict {
+        Verdict::Same => DONE,
+        _ => DIFFERENT,
+    }
+}
+
+/// `same`, or `different`, where the two auctions first differ, and both sides of the difference, each on a line.
+pub(crate) fn verdict_text(alloc: Global, verdict: &Verdict) -> Result<Vec<u8>, AllocError>
+    ensures { IfOk result (λ text. text.items ≡ difference_text (plain_verdict verdict.now)) }
+{
+    match verdict {
+        Verdict::Same => Vec::from_slice(alloc, b"same\n"),
+        Verdict::Goods(left, right) => {
+            let left = left.to_string(alloc)?;
+            let right = right.to_string(alloc)?;
+            difference_lines(alloc, b"goods", left.as_bytes(), right.as_bytes())
+        }
+        Verdict::Or {
+            bundle,
+            left,
+            right,
+        } => {
+            let mut place = Vec::from_slice(alloc, b"or ")?;
+            push_list(&mut place, b',', bundle.as_slice())?;
+            let left = side(alloc, *left)?;
+            let right = side(alloc, *right)?;
+            difference_lines(alloc, place.as_slice(), left.as_slice(), right.as_slice())
+        }
+        Verdict::Xor {
+            bidder,
+            left,
+            right,
+        } => {
+            let place = bids(alloc, bidder.as_slice())?;
+            let left = left.to_string(alloc)?;
+            let right = right.to_string(alloc)?;
+            difference_lines(alloc, place.as_slice(), left.as_bytes(), right.as_bytes())
+        }
+    }
+}
+
+/// That two auctions are different, where they first differ, and what is reported of each.
+fn difference_lines(
+    alloc: Global,
+    place: &[u8],
+    left: &[u8],
+    right: &[u8],
+) -> Result<Vec<u8>, AllocError>
+    ensures { IfOk result (λ text. text.items ≡ difference_lines place.now left.now right.now) }
+{
+    let mut text = Vec::from_slice(alloc, b"different\n")?;
+    text.extend_from_slice(place)?;
+    text.extend_from_slice(b"\nleft ")?;
+    text.extend_from_slice(left)?;
+    text.extend_from_slice(b"\nright ")?;
+    text.extend_from_slice(right)?;
+    text.extend_from_slice(b"\n")?;
+    Ok(text)
+}
+
+/// What is reported of one auction's OR value.
+fn side(alloc: Global, side: Side) -> Result<Vec<u8>, AllocError>
+    ensures { IfOk result (λ text. text.items ≡ side_text side) }
+{
+    let mut text = Vec::new(alloc);
+    match side {
+        Side::Exactly(price) => push_price(&mut text, u128::from(price))?,
+        Side::Below(price) => {
+            text.extend_from_slice(b"below ")?;
+            push_price(&mut text, u128::from(price))?;
+        }
+    }
+    Ok(text)
+}
+
+/// An XOR bidder's bids, each as its goods and its price.
+fn bids(alloc: Global, bidder: &[(Vec<u16>, u64)]) -> Result<Vec<u8>, AllocError>
+    ensures { IfOk result (λ text. text.items ≡ codes "xor" ++ bidder_text (printed_atoms bidder.now)) }
+{
+    let mut text = Vec::from_slice(alloc, b"xor")?;
+    for (goods, price) in bidder {
+        text.extend_from_slice(b" ")?;
+        push_list(&mut text, b',', goods.as_slice())?;
+        text.extend_from_slice(b":")?;
+        push_price(&mut text, u128::from(*price))?;
+    }
+    Ok(text)
+}

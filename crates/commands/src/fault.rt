@@ -1,0 +1,152 @@
+//! What `cats fault` prints: the place of a fault, and what helps.
+
+ghost use Rattle.std.specs.Prelude.{◌≡◌, IfOk};
+ghost use Rattle.cats_text.specs.Views.{plain_place};
+ghost use Rattle.commands.specs.Fault.{hint_of_kind};
+ghost use Rattle.commands.specs.Fault.{before_word, behind_word, place_text, shown_bytes};
+ghost use Rattle.commands.specs.Pieces.{text_of_pieces};
+
+use crate::printed::pieces::{Piece, text_of};
+use crate::printed::report::kind_name;
+use cats_text::Kind;
+use cats_text::fault_place::FaultPlace;
+use requests::help::CommandHelp;
+use std::alloc::{AllocError, Global};
+
+/// What `--help` prints of it.
+pub const HELP: CommandHelp<'static> = CommandHelp {
+    name: "fault",
+    about: "Prints where the first fault of a bid file is, and what helps",
+    arguments: &[],
+    after: "\
+Prints two lines: the path, the line and the word of the file's first fault,
+with its kind and the word itself; and what helps. Lines and words are counted
+from 1. 'cats --help' lists the kinds. For example:
+  $ cats fault auction.txt
+  auction.txt:8:2: TooFine: 0.0123456
+  a price has at most six places after the point; `cats round` rounds it
+
+If the file is a bid file, nothing is printed.
+
+Statuses: 0 if the file is a bid file; 2 if it is not, 4, 5 and 64 as 'cats
+--help' lists them",
+};
+
+/// So many bytes of a word are printed.
+const SHOWN_BYTES: usize = 60;
+
+// Hints about the header and the file as a whole.
+const HEADER: &str =
+    "header lines are `goods N`, `bids N` and `dummy N`, in this order; write `dummy 0` if there are none";
+
+const EXTRA_BID: &str =
+    "the line `bids N` says how many bid lines there are; correct it, or remove the line";
+
+const MISSING: &str =
+    "there are three header lines, and as many bid lines as `bids` says; add lines, or correct `bids`";
+
+const TOO_LONG: &str =
+    "a file has at most 2147483648 bytes; remove comments, or bids that are not needed";
+
+const DEVICE: &str =
+    "a file is read to its end, and this read failed; give a file that can be read";
+
+const MEMORY: &str =
+    "reading a file takes memory, which was refused; free some, or raise its limit, as by `ulimit -v`";
+
+/// The bytes of the word that are printed.
+pub fn shown_word<'a>(place: &FaultPlace<'a>) -> &'a [u8]
+    ensures { result.now ≡ shown_bytes (plain_place place.now).text }
+{
+    &place.text[..place.text.len().min(SHOWN_BYTES)]
+}
+
+/// What is printed before a word.
+fn before_word(text: &[u8]) -> &'static [u8]
+    ensures { result.now ≡ before_word text.now }
+{
+    if text.is_empty() { b"" } else { b": " }
+}
+
+/// What is printed behind the bytes of a word, if there are more.
+fn behind_word(text: &[u8]) -> &'static [u8]
+    ensures { result.now ≡ behind_word text.now }
+{
+    if text.len() > SHOWN_BYTES { b".." } else { b"" }
+}
+
+/// The place and the hint, each a line with its LF. The path is escaped already, and the word is `shown_word`, escaped.
+pub fn fault_place_text<'a>(
+    alloc: Global,
+    path: &'a [u8],
+    word: &'a [u8],
+    place: &FaultPlace<'_>,
+) -> Result<Vec<u8>, AllocError>
+    ensures { IfOk result (λ text. text.items ≡ place_text path.now word.now (plain_place place.now)) }
+{
+    text_of(alloc, &place_pieces(path, word, place))
+}
+
+/// They, in pieces.
+fn place_pieces<'a>(path: &'a [u8], word: &'a [u8], place: &FaultPlace<'_>) -> [Piece<'a>; 13]
+    ensures { text_of_pieces result ≡ place_text path.now word.now (plain_place place.now) }
+{
+    [
+        Piece::Text(path),
+        Piece::Text(b":"),
+        Piece::Number(place.line),
+        Piece::Text(b":"),
+        Piece::Number(place.word),
+        Piece::Text(b": "),
+        Piece::Text(kind_name(place.kind).as_bytes()),
+        Piece::Text(before_word(place.text)),
+        Piece::Text(word),
+        Piece::Text(behind_word(place.text)),
+        Piece::Text(b"\n"),
+        Piece::Text(hint(place.kind).as_bytes()),
+        Piece::Text(b"\n"),
+    ]
+}
+
+/// The rule of a kind, and what to do about its fault.
+fn hint(kind: Kind) -> &'static str
+    ensures { result.now ≡ hint_of_kind kind }
+{
+    match kind {
+        Kind::Header => HEADER,
+        Kind::NotANumber => {
+            "a number has digits alone, a price digits around its point; `cats round` rewrites exponents"
+        }
+        Kind::TooLarge => {
+            "at most 4096 goods, 65536 bids, 65536 dummy goods, prices up to 10^12; divide all prices"
+        }
+        Kind::ExtraBid => EXTRA_BID,
+        Kind::BidNumber => {
+            "bids are numbered from 0, below the number that `bids` says; number the bids anew"
+        }
+        Kind::RepeatedNumber => "each bid line has a number of its own; number the bids anew",
+        Kind::TooFine => "a price has at most six places after the point; `cats round` rounds it",
+        Kind::GoodRange => {
+            "goods count from 0, dummy goods behind the others; correct the good, or `goods` or `dummy`"
+        }
+        Kind::RepeatedGood => {
+            "a bid names each of its goods once; remove the good where it is repeated"
+        }
+        Kind::TwoDummies => {
+            "a bid names at most one dummy good, its bidder's; write a bid line for each bidder"
+        }
+        Kind::EmptyBundle => {
+            "a bid names a good that is no dummy good; write its goods before `#`, or remove the bid"
+        }
+        Kind::NoEnd => {
+            "a bid line ends with the word `#`; write a space and `#` behind its last good"
+        }
+        Kind::AfterEnd => {
+            "nothing is behind the `#` of a bid line; remove it, or write a line of its own for it"
+        }
+        Kind::Missing => MISSING,
+        Kind::TooLong => TOO_LONG,
+        Kind::Device => DEVICE,
+        Kind::Memory => MEMORY,
+    }
+}

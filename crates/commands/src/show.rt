@@ -1,0 +1,37 @@
+//! `cats show`: a bid file in its one layout.
+
+ghost use Rattle.commands.specs.Commands.{Commands};
+ghost use Rattle.commands.specs.Show.{show_outcome};
+
+use crate::answer::{Answer, Output, done};
+use crate::faults::RunFault;
+use crate::input::Input;
+use canon::CanonFault;
+use requests::help::CommandHelp;
+use std::alloc::Global;
+
+/// What `--help` prints of it.
+pub const HELP: CommandHelp<'static> = CommandHelp {
+    name: "show",
+    about: "Prints a bid file in its one layout, with bids in order of number",
+    arguments: &[],
+    after: "\
+Prints the three lines of the header and a line for each bid, without comments.
+For example:
+  $ cats show examples/two_bids.cats
+
+If the file is not a bid file, its first fault is reported. 'cats fault' prints
+the word that has it, and what helps.
+
+Statuses: 0; 2 if the file is not a bid file, 4, 5 and 64 as 'cats --help'
+lists them",
+};
+
+/// A bid file in its one layout.
+pub fn show<I: Input>(alloc: Global, input: &mut I) -> Result<Answer, RunFault>
+    requires { I.is_ready input.old }
+    ensures { Commands I.gives I.refuses show_outcome input.old input.new result }
+{
+    let file = input.read_file(alloc).map_err(CanonFault::from)?;
+    Ok(done(Output::File(file)))
+}

@@ -1,0 +1,154 @@
+//! `cats value`: what a file's bidders offer for a bundle of goods.
+
+mod bundles;
+mod lines;
+mod numbers;
+
+ghost use Rattle.std.specs.Prelude.{◌≡◌, ◌≤◌, None};
+ghost use Rattle.bid_file.specs.Files.{IsPlainFile};
+ghost use Rattle.valuation.specs.Views.{plain_auction};
+ghost use Rattle.commands.specs.Internal.Searches.{SearchesAs};
+ghost use Rattle.commands.specs.Value.{exceeds_limits, missing_good, value_outcome_by, values_unless};
+ghost use Rattle.commands.specs.Commands.{Commands};
+ghost use Rattle.commands.specs.Internal.Values.{MakesAs};
+ghost use Rattle.commands.specs.Value.{bundle_from};
+
+use crate::answer::{Answer, Output, done};
+use crate::faults::RunFault;
+use crate::input::Input;
+use bid_file::PackedFile;
+use bundles::bundle_of;
+use canon::CanonFault;
+use goods_set::GoodsSet;
+use goods_set::listing::goods_of;
+use lines::{push_or_line, push_xor_lines};
+use numbers::bid_numbers;
+use requests::help::CommandHelp;
+use std::alloc::Global;
+use valuation::search::{SearchOptions, or_value_by};
+use valuation::{Auction, Packing, ValueFault, auction_of, on_set_for};
+
+/// What `--help` prints of it.
+pub const HELP: CommandHelp<'static> = CommandHelp {
+    name: "value",
+    about: "Prints what the bidders of a bid file offer for a bundle of goods",
+    arguments: &[(
+        "steps",
+        "\
+The most packings that a search may enter, from 1 to
+1000000000",
+    )],
+    after: "\
+Prints 'or', the greatest sum of prices of bids without a dummy good that lie
+in the bundle and share no good, and the numbers of these bids; then for each
+dummy good 'xor', the dummy good, the greatest price of its bids that lie in
+the bundle, and the number of the first that has it. For example, for all goods
+of a file with 40:
+  $ cats value auction.txt 0-39
+
+A good that is named twice counts once. Numbers, lists and ranges may stand
+side by side, as in '0-9,12 15 20-39'.
+
+A step is one packing: one family of the bids without a dummy good that lie in
+the bundle and share no good. A step takes 5 to 20 nanoseconds with up to 128
+such bids, and some 30 nanoseconds more for each 1,000. If there are more than
+N packings, the program prints 'step limit at GOODS', with status 3. The
+bounded search decides many files that the plain search refuses, and its answer
+is the same. If it takes more steps too, a greater N lets the search go on:
+  $ cats value --bound auction.txt 0-39
+  $ cats value --bound --steps 1000000000 auction.txt 0-39
+
+Statuses: 0; 2 if the file is not a bid file; 3 for the step limit: use
+--bound, and then a greater --steps; 64 for a good that the file does not have;
+4 and 5 as 'cats --help' lists them",
+};
+
+/// What the bidders of a file offer for the bundle of these goods: the OR value with the bids of one best packing, and each
+/// XOR bidder's value with the bid that gives it. The first of the goods that the file does not have is refused once the
+/// file was read.
+pub fn value<I: Input>(
+    alloc: Global,
+    input: &mut I,
+    goods: &[u16],
+    options: SearchOptions,
+) -> Result<Answer, RunFault>
+    requires { I.is_ready input.old }
+    ensures { Commands I.gives I.refuses (value_outcome_by goods.now options) input.old input.new result }
+{
+    let file = input.read_file(alloc).map_err(CanonFault::from)?;
+    if let Some(good) = first_missing(goods, file.goods()) {
+        return Err(RunFault::GoodRange(good));
+    }
+    let text = text_on_sets(alloc, &file, goods, options)?;
+    Ok(done(Output::Text(text)))
+}
+
+/// The first of the goods that a file with `count` goods does not have.
+fn first_missing(goods: &[u16], count: u16) -> Option<u16>
+    ensures { result ≡ missing_good count goods.now }
+{
+    goods.iter().copied().find(|good| *good >= count)
+}
+
+/// The values of the bundle of these goods, as they are printed, by the kind of sets that suits the file's bids.
+fn text_on_sets(
+    alloc: Global,
+    file: &PackedFile,
+    goods: &[u16],
+    options: SearchOptions,
+) -> Result<Vec<u8>, CanonFault>
+    requires facts { IsPlainFile file.now }
+    requires there { missing_good file.now.goods goods.now ≡ None }
+    ensures { MakesAs (values_unless (exceeds_limits (bundle_from goods.now) options file.now)
+        (bundle_from goods.now) file.now) result }
+{
+    on_set_for!(file, text_of_values(alloc, file, goods, options))
+}
+
+/// The values of the bundle of these goods, as they are printed.
+fn text_of_values<S: GoodsSet>(
+    alloc: Global,
+    file: &PackedFile,
+    goods: &[u16],
+    options: SearchOptions,
+) -> Result<Vec<u8>, CanonFault>
+    requires facts { IsPlainFile file.now }
+    requires cap { file.now.goods ≤ S.CAP }
+    requires there { missing_good file.now.goods goods.now ≡ None }
+    ensures { MakesAs (values_unless (exceeds_limits (bundle_from goods.now) options file.now)
+        (bundle_from goods.now) file.now) result }
+{
+    let bundle: S = bundle_of(alloc, goods)?;
+    let auction = auction_of(alloc, file)?;
+    let packing = best_packing(alloc, &auction, &bundle, options)?;
+    let numbers = bid_numbers(alloc, file)?;
+    let mut text = Vec::new(alloc);
+    push_or_line(&mut text, &packing, numbers.or_bids.as_slice())?;
+    push_xor_lines(
+        &mut text,
+        file,
+        auction.xor_bidders(),
+        numbers.xor_bids.as_slice(),
+        &bundle,
+    )?;
+    Ok(text)
+}
+
+/// A best packing of the bundle by the OR bidder.
+fn best_packing<S: GoodsSet>(
+    alloc: Global,
+    auction: &Auction<S>,
+    bundle: &S,
+    options: SearchOptions,
+) -> Result<Packing, CanonFault>
+    ensures { SearchesAs (plain_auction auction.now).or_atoms (S.goods bundle.now) options result }
+{
+    match or_value_by(alloc, auction.or_atoms(), bundle, options) {
+        Ok(packing) => Ok(packing),
+        Err(ValueFault::StepLimit) => {
+            let goods = goods_of(alloc, bundle)?;
+            Err(CanonFault::StepLimit { goods })
+        }
+        Err(ValueFault::Memory) => Err(CanonFault::Memory),
+    }
+}
