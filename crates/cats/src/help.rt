@@ -17,7 +17,7 @@ pub const HELP: &[CommandHelp<'static>] = &[
     commands::lp::HELP,
     commands::compare::HELP,
     commands::diff::HELP,
-    cats_cmd::duplicates::HELP,
+    cats_cmd::DUPLICATES_HELP,
     commands::sizes::HELP,
 ];
 

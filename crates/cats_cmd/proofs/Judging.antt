@@ -73,7 +73,8 @@ module _ {I : Type 0} (gives : I → I → PlainFile → Type 0) (refuses : I �
       absurd (no_fault_made file (first_refused options file.goods (or_atoms_of file.bids)) why refused)
   groups_unmade before tried after path same file given (StepLimit goods) refused adds = record {
     judgement = IsHeavy file (heavy_bid options file goods);
-    judges = judged_heavy gives refuses options old new file given goods (refused_bundle file (first_refused options file.goods (or_atoms_of file.bids)) goods.items refused);
+    judges = judged_heavy gives refuses options old new file given goods
+        (refused_bundle file (first_refused options file.goods (or_atoms_of file.bids)) goods.items refused);
     adds = λ js h. adds (heavy_bid options file goods) js (rw same h);
     is_fault = refl;
   }

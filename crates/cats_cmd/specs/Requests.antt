@@ -160,18 +160,18 @@ module _ (may_refuse : List ℕ → Unopened → Type 0) where
 
 module _ {W E : Type 0} (Runs : Watched W → Watched W → Watched E → Watched E → Result ℕ RunFault → Type 0)
     (Cannot : RunFault → Type 0) (out out_after : Watched W) (err err_after : Watched E) (answer : Result ℕ RunFault)
-    where
-  -- a file cannot be opened, and nothing was read, written or reported
-  pub record FailsToOpen : Type 0 where
-    pub fault : RunFault
-    pub is : answer ≡ Err fault
-    pub cannot : Cannot fault
-    pub silent : out_after ≡ out
-    pub quiet : err_after ≡ err
+  where
+    -- a file cannot be opened, and nothing was read, written or reported
+    pub record FailsToOpen : Type 0 where
+      pub fault : RunFault
+      pub is : answer ≡ Err fault
+      pub cannot : Cannot fault
+      pub silent : out_after ≡ out
+      pub quiet : err_after ≡ err
 
-  -- the run answers, or a file cannot be opened
-  abbrev pub Carries : Type 0
-  Carries = Runs out out_after err err_after answer ⊎ FailsToOpen
+    -- the run answers, or a file cannot be opened
+    abbrev pub Carries : Type 0
+    Carries = Runs out out_after err err_after answer ⊎ FailsToOpen
 
 module _ {F W E : Type 0} (may_open : List ℕ → F → Type 0) (may_refuse : List ℕ → Unopened → Type 0)
     (remaining : F → Option (List ℕ)) (contents : W → Option (List ℕ)) (messages : E → Option (List ℕ)) where

@@ -18,7 +18,7 @@ use std::alloc::{AllocError, Global};
 use std::io::Write;
 
 /// What `--help` prints of it.
-pub const HELP: CommandHelp<'static> = CommandHelp {
+pub const DUPLICATES_HELP: CommandHelp<'static> = CommandHelp {
     name: "duplicates",
     about: "Prints which of many bid files are the same auction",
     arguments: &[("total-steps", TOTAL_STEPS), ("FILE", FILES)],

@@ -4,7 +4,7 @@
 mod bid_list;
 mod bytes;
 mod carrying_out;
-pub mod duplicates;
+mod duplicates;
 mod escaping;
 mod fault;
 mod folder;
@@ -27,6 +27,7 @@ pub mod worked;
 
 pub use canon::{CanonFault, Which};
 pub use commands::faults::RunFault;
+pub use duplicates::DUPLICATES_HELP;
 pub use commands::printed::{fault_line, status};
 pub use one_file::{run_check, run_normalise, run_show, run_value};
 pub use program::run_cats;

@@ -100,8 +100,8 @@ pub(crate) trait Collection: Sized + Drop {
         many: ManyFiles,
     ) -> Result<Option<RunFault>, AllocError>
         requires { I.is_ready input.old }
-        ensures { IfOk result (λ fault. AddsOpened (has many.ending) I.gives I.refuses many.options path.now self.old self.new
-            input.old input.new fault) };
+        ensures { IfOk result (AddsOpened (has many.ending) I.gives I.refuses many.options path.now self.old self.new
+            input.old input.new) };
 
     /// Adds a path at which no file was opened, for this reason.
     fn add_unopened(

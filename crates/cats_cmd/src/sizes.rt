@@ -63,16 +63,16 @@ impl Collection for Table {
         ending: Ending,
     ) -> Result<(), AllocError> {
         let mut cells = Vec::from_slice(alloc, NO_NUMBERS.as_bytes())?;
-        push_fault(alloc, &mut cells, &Some(RunFault::NotOpened(Which::Only, why)))?;
+        push_fault(
+            alloc,
+            &mut cells,
+            &Some(RunFault::NotOpened(Which::Only, why)),
+        )?;
         push_row(&mut self.rows, cells.as_slice(), path, ending)
     }
 
     /// The row says it.
-    fn report_refusal<E: Write>(
-        _path: &[u8],
-        _fault: &Option<RunFault>,
-        _err: &mut Watched<E>,
-    ) {}
+    fn report_refusal<E: Write>(_path: &[u8], _fault: &Option<RunFault>, _err: &mut Watched<E>) {}
 
     fn text(&self, alloc: Global, many: ManyFiles) -> Result<Vec<u8>, AllocError> {
         let mut text = Vec::from_slice(alloc, HEADER.as_bytes())?;
@@ -83,11 +83,7 @@ impl Collection for Table {
 }
 
 /// Puts why a file was not judged behind the text, with a tab after it.
-fn push_fault(
-    alloc: Global,
-    text: &mut Vec<u8>,
-    fault: &Option<RunFault>,
-) -> Result<(), AllocError>
+fn push_fault(alloc: Global, text: &mut Vec<u8>, fault: &Option<RunFault>) -> Result<(), AllocError>
     ensures { let more : List ℕ = fault_cell fault.now ++ codes "\t" in
         OnOk result (text.new.items ≡ text.old.items ++ more) }
 {

@@ -27,7 +27,8 @@ module _ {I : Type 0} (gives : I → I → PlainFile → Type 0) (refuses : I �
   pub numbers_unread : longer ≡ text ++ codes "\t\t\t\t\t\t\t\t" → (why : ReadFault) → (why.kind ≡ NoMemory → why.line ≡ 0)
       → refuses before after why → Puts (Some (Refused Only (refusal_of why)))
   numbers_unread put why no_line refused =
-      record { judgement = IsUnjudged (Refused Only (refusal_of why)); judges = judged_unread gives refuses options before after why no_line refused; puts = put; is_fault = refl }
+      let judges = judged_unread gives refuses options before after why no_line refused in
+      record { judgement = IsUnjudged (Refused Only (refusal_of why)); judges = judges; puts = put; is_fault = refl }
 
   module _ (file : PlainFile) (given : gives before after file) where
     pub numbers_within : first_refused options file.goods (or_atoms_of file.bids) ≡ None
@@ -47,7 +48,8 @@ module _ {I : Type 0} (gives : I → I → PlainFile → Type 0) (refuses : I �
 
     pub numbers_unmade : longer ≡ text ++ codes "\t\t\t\t\t\t\t\t" → Puts (Some (Refused Only Memory))
     numbers_unmade put =
-        record { judgement = IsUnjudged (Refused Only Memory); judges = judged_unmade gives refuses options before after file given; puts = put; is_fault = refl }
+        let judges = judged_unmade gives refuses options before after file given in
+        record { judgement = IsUnjudged (Refused Only Memory); judges = judges; puts = put; is_fault = refl }
 
 -- ---- marks
 

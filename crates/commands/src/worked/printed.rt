@@ -74,8 +74,8 @@ pub fn fault_lines()
         ∷ Refused Second (Read (record { line = 0; kind = Device }))
         ∷ Refused First (Read (record { line = 0; kind = NoMemory }))
         ∷ Refused Both Memory ∷ Refused Only Memory ∷ GoodRange 2 ∷ BidRange 17
-        ∷ Sent (record { written = 5 }) ∷ NotOpened Only NoSuchFile ∷ NotOpened Only PermissionDenied ∷ NotOpened Only IsFolder
-        ∷ NotOpened Only NotAFile ∷ NotOpened Only Other ∷ NotOpened First Other ∷ []) ≡
+        ∷ Sent (record { written = 5 }) ∷ NotOpened Only NoSuchFile ∷ NotOpened Only PermissionDenied
+        ∷ NotOpened Only IsFolder ∷ NotOpened Only NotAFile ∷ NotOpened Only Other ∷ NotOpened First Other ∷ []) ≡
         codes "line 5: TwoDummies\n" ∷ codes "first: line 5: TwoDummies\n"
         ∷ codes "second: line 12: NoEnd\n" ∷ codes "TooLong\n"
         ∷ codes "second: Device\n" ∷ codes "first: want of memory\n"
