@@ -1,25 +1,29 @@
 //! What `--help` prints: of the program and of each command a line and a text, which says what is printed, and has an
 //! example and the statuses. The texts of arguments are the program's, but for those in which a command differs.
 
+use cats_cmd::duplicates_help;
 use requests::help::CommandHelp;
 
-/// The help of the program and of each command, the program's first.
-pub const HELP: &[CommandHelp<'static>] = &[
-    PROGRAM,
-    commands::check::HELP,
-    commands::fault::HELP,
-    commands::show::HELP,
-    commands::value::HELP,
-    commands::revenue::HELP,
-    commands::normalise::HELP,
-    commands::explain::HELP,
-    commands::round::HELP,
-    commands::lp::HELP,
-    commands::compare::HELP,
-    commands::diff::HELP,
-    cats_cmd::DUPLICATES_HELP,
-    commands::sizes::HELP,
-];
+/// The help of the program and of each command, the program's first. It is made of calls, as a table of all texts is over a
+/// step limit of the prover.
+pub fn all_help<'a>() -> [CommandHelp<'a>; 14] {
+    [
+        program_help(),
+        commands::check::help(),
+        commands::fault::help(),
+        commands::show::help(),
+        commands::value::help(),
+        commands::revenue::help(),
+        commands::normalise::help(),
+        commands::explain::help(),
+        commands::round::help(),
+        commands::lp::help(),
+        commands::compare::help(),
+        commands::diff::help(),
+        duplicates_help(),
+        commands::sizes::help(),
+    ]
+}
 
 /// What each argument is, for the commands that say nothing else of it.
 const ARGUMENTS: &[(&str, &str)] = &[
@@ -134,9 +138,11 @@ read failed, as of a folder.
 With --round a command takes prices with exponents or more than six places: it
 reads a file as 'cats round' prints it.";
 
-const PROGRAM: CommandHelp<'static> = CommandHelp {
-    name: "cats",
-    about: "Reads auction bid files in the format of CATS 2.0",
-    arguments: ARGUMENTS,
-    after: STATUSES,
-};
+fn program_help<'a>() -> CommandHelp<'a> {
+    CommandHelp {
+        name: "cats",
+        about: "Reads auction bid files in the format of CATS 2.0",
+        arguments: ARGUMENTS,
+        after: STATUSES,
+    }
+}

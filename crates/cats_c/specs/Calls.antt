@@ -17,7 +17,7 @@ use Rattle.rounding.specs.declared.replacement.FinePrices.TheVariants.{Round, Re
 use Rattle.valuation.specs.SearchLimits.{bounded_options, plain_options}
 use Rattle.valuation.specs.declared.search.options.SearchOptions.{SearchOptions}
 use Rattle.cats_cmd.specs.Requests.{AnswersNoRequest, AnswersRequest}
-use Rattle.cats_cmd.specs.declared.source.Unopened.TheVariants.{NoSuchFile}
+use Rattle.commands.specs.declared.faults.Unopened.TheVariants.{NoSuchFile}
 use Rattle.cats_c.specs.declared.call.CallRequest.{CallRequest}
 use Rattle.cats_c.specs.declared.call.CallText.{CallText}
 

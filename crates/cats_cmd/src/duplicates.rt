@@ -18,11 +18,12 @@ use std::alloc::{AllocError, Global};
 use std::io::Write;
 
 /// What `--help` prints of it.
-pub const DUPLICATES_HELP: CommandHelp<'static> = CommandHelp {
-    name: "duplicates",
-    about: "Prints which of many bid files are the same auction",
-    arguments: &[("total-steps", TOTAL_STEPS), ("FILE", FILES)],
-    after: "\
+pub fn duplicates_help<'a>() -> CommandHelp<'a> {
+    CommandHelp {
+        name: "duplicates",
+        about: "Prints which of many bid files are the same auction",
+        arguments: &[("total-steps", TOTAL_STEPS), ("FILE", FILES)],
+        after: "\
 Prints the paths of the files that are one auction, each on a line, for each
 auction that two or more of them are, with an empty line between two auctions.
 For example:
@@ -66,7 +67,8 @@ Statuses: 0 if every file was judged, whether or not some are one auction; else
 the greatest status of those that were not: 2 for a file that is not a bid
 file, 3 for the step limit (use a greater --steps), 4, 5 and 64 as 'cats
 --help' lists them",
-};
+    }
+}
 
 /// Files in groups.
 #[derive(Drop)]

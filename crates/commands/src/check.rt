@@ -14,11 +14,12 @@ use requests::help::CommandHelp;
 use std::alloc::{AllocError, Global};
 
 /// What `--help` prints of it.
-pub const HELP: CommandHelp<'static> = CommandHelp {
-    name: "check",
-    about: "Prints how many goods, bids and dummy goods a bid file has",
-    arguments: &[],
-    after: "\
+pub fn help<'a>() -> CommandHelp<'a> {
+    CommandHelp {
+        name: "check",
+        about: "Prints how many goods, bids and dummy goods a bid file has",
+        arguments: &[],
+        after: "\
 Prints one line. For example:
   $ cats check examples/two_bids.cats
   goods 3 bids 2 dummy 1
@@ -31,7 +32,8 @@ the word that has it, and what helps.
 
 Statuses: 0; 2 if the file is not a bid file, 4, 5 and 64 as 'cats --help'
 lists them",
-};
+    }
+}
 
 /// The sizes of a bid file: how many goods, bids and dummy goods it has. No bid is kept.
 pub fn check<I: Input>(alloc: Global, input: &mut I) -> Result<Answer, RunFault>

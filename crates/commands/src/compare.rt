@@ -25,11 +25,12 @@ use std::alloc::{AllocError, Global};
 use valuation::search::SearchOptions;
 
 /// What `--help` prints of it.
-pub const HELP: CommandHelp<'static> = CommandHelp {
-    name: "compare",
-    about: "Prints 'same', or where the auctions of two files differ first",
-    arguments: &[],
-    after: "\
+pub fn help<'a>() -> CommandHelp<'a> {
+    CommandHelp {
+        name: "compare",
+        about: "Prints 'same', or where the auctions of two files differ first",
+        arguments: &[],
+        after: "\
 Prints 'same', or 'different' and where the two first differ: in their goods,
 in the OR value of a bundle, or in how often they have an XOR bidder. For
 example:
@@ -43,7 +44,8 @@ does what it does there. A fault's line begins with 'first: ' or 'second: '.
 Statuses: 0 for the same auction, 1 for different ones; 2 if a file is not a
 bid file; 3 for the step limit: use --bound, and then a greater --steps; 4, 5
 and 64 as 'cats --help' lists them",
-};
+    }
+}
 
 /// Whether two files are the same auction, or their first difference. Each file has a total of steps of its own. Memory that
 /// is refused while the two are compared belongs to both.

@@ -32,11 +32,12 @@ use std::alloc::{AllocError, Global};
 use valuation::search::SearchOptions;
 
 /// What `--help` prints of it.
-pub const HELP: CommandHelp<'static> = CommandHelp {
-    name: "diff",
-    about: "Prints all differences of two bid files' auctions",
-    arguments: &[("total-steps", TOTAL_STEPS)],
-    after: "\
+pub fn help<'a>() -> CommandHelp<'a> {
+    CommandHelp {
+        name: "diff",
+        about: "Prints all differences of two bid files' auctions",
+        arguments: &[("total-steps", TOTAL_STEPS)],
+        after: "\
 Prints a table with a header and a row for each bundle on which a bidder's
 prices differ, with tabs between the cells, and only the header if both files
 are the same auction. For example:
@@ -75,7 +76,8 @@ or 'second: '.
 Statuses: 0 for the same auction, 1 for different ones; 2 if a file is not a
 bid file; 3 for the step limit: use a greater --steps; 4, 5 and 64 as 'cats
 --help' lists them",
-};
+    }
+}
 
 /// All differences of two files, as a table.
 pub(crate) fn diff<I: Input, J: Input>(

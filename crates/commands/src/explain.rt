@@ -23,11 +23,12 @@ use valuation::Packing;
 use valuation::search::SearchOptions;
 
 /// What `--help` prints of it.
-pub const HELP: CommandHelp<'static> = CommandHelp {
-    name: "explain",
-    about: "Prints why each bid is in the canonical text, or is dropped",
-    arguments: &[("total-steps", TOTAL_STEPS)],
-    after: "\
+pub fn help<'a>() -> CommandHelp<'a> {
+    CommandHelp {
+        name: "explain",
+        about: "Prints why each bid is in the canonical text, or is dropped",
+        arguments: &[("total-steps", TOTAL_STEPS)],
+        after: "\
 Prints a table with a header and a row for each bid, in order of number, with
 tabs between the cells: why the text that 'cats normalise' prints has the bid
 or not. For example:
@@ -58,7 +59,8 @@ This command always uses the bounded search. A step is that of 'cats normalise
 
 Statuses: 0; 2 if the file is not a bid file; 3 for the step limit: use a
 greater --steps; 4, 5 and 64 as 'cats --help' lists them",
-};
+    }
+}
 
 /// A table with a row for each bid of a file: why it is in the canonical file or is not. `steps` bounds each search that
 /// decides on a bundle of the OR bidder, and `total` all of them together.

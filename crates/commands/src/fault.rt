@@ -14,11 +14,12 @@ use requests::help::CommandHelp;
 use std::alloc::{AllocError, Global};
 
 /// What `--help` prints of it.
-pub const HELP: CommandHelp<'static> = CommandHelp {
-    name: "fault",
-    about: "Prints where the first fault of a bid file is, and what helps",
-    arguments: &[],
-    after: "\
+pub fn help<'a>() -> CommandHelp<'a> {
+    CommandHelp {
+        name: "fault",
+        about: "Prints where the first fault of a bid file is, and what helps",
+        arguments: &[],
+        after: "\
 Prints two lines: the path, the line and the word of the file's first fault,
 with its kind and the word itself; and what helps. Lines and words are counted
 from 1. 'cats --help' lists the kinds. For example:
@@ -30,7 +31,8 @@ If the file is a bid file, nothing is printed.
 
 Statuses: 0 if the file is a bid file; 2 if it is not, 4, 5 and 64 as 'cats
 --help' lists them",
-};
+    }
+}
 
 /// So many bytes of a word are printed.
 const SHOWN_BYTES: usize = 60;

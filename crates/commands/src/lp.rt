@@ -12,11 +12,12 @@ use requests::help::CommandHelp;
 use std::alloc::Global;
 
 /// What `--help` prints of it.
-pub const HELP: CommandHelp<'static> = CommandHelp {
-    name: "lp",
-    about: "Prints a file's winner determination problem in the LP format",
-    arguments: &[],
-    after: "\
+pub fn help<'a>() -> CommandHelp<'a> {
+    CommandHelp {
+        name: "lp",
+        about: "Prints a file's winner determination problem in the LP format",
+        arguments: &[],
+        after: "\
 Prints the winner determination problem in CPLEX's LP format: glpsol and cbc
 read it, and other programs that read the LP format. Bid N is the binary
 variable xN, which is 1 if the bid wins, and the sum of the winners' prices is
@@ -31,7 +32,8 @@ The greatest sum is that of the canonical text too, which may have fewer bids:
 
 Statuses: 0; 2 if the file is not a bid file, 4, 5 and 64 as 'cats --help'
 lists them",
-};
+    }
+}
 
 /// The winner determination problem of a bid file in CPLEX's LP format.
 pub(crate) fn lp<I: Input>(alloc: Global, input: &mut I) -> Result<Answer, RunFault>

@@ -16,11 +16,12 @@ use std::alloc::Global;
 use valuation::search::SearchOptions;
 
 /// What `--help` prints of it.
-pub const HELP: CommandHelp<'static> = CommandHelp {
-    name: "normalise",
-    about: "Prints the one canonical text of a bid file's auction",
-    arguments: &[],
-    after: "\
+pub fn help<'a>() -> CommandHelp<'a> {
+    CommandHelp {
+        name: "normalise",
+        about: "Prints the one canonical text of a bid file's auction",
+        arguments: &[],
+        after: "\
 Prints the header and the bids that remain: those that the bidders' values
 need, in one order. Two files give the same text exactly if they are the same
 auction. For example:
@@ -42,7 +43,8 @@ The line is on standard error, and is left out if no value changed.
 
 Statuses: 0; 2 if the file is not a bid file; 3 for the step limit: use
 --bound, and then a greater --steps; 4, 5 and 64 as 'cats --help' lists them",
-};
+    }
+}
 
 /// The canonical text of a bid file's auction.
 pub fn normalise<I: Input>(

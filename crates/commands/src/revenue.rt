@@ -12,11 +12,12 @@ use requests::help::CommandHelp;
 use std::alloc::Global;
 
 /// What `--help` prints of it.
-pub const HELP: CommandHelp<'static> = CommandHelp {
-    name: "revenue",
-    about: "Prints the sum of bids' prices, or which two bids cannot both win",
-    arguments: &[],
-    after: "\
+pub fn help<'a>() -> CommandHelp<'a> {
+    CommandHelp {
+        name: "revenue",
+        about: "Prints the sum of bids' prices, or which two bids cannot both win",
+        arguments: &[],
+        after: "\
 Prints 'revenue' and the sum of the bids' prices, if no two of them share a
 good or a dummy good. Else it prints the first two that do, and what they
 share. For example:
@@ -30,7 +31,8 @@ with spaces or ends of lines between them:
 Statuses: 0 if the bids can win together, 1 if not; 2 if the file is not a bid
 file; 64 for a bid that the file does not have; 4 and 5 as 'cats --help' lists
 them",
-};
+    }
+}
 
 /// The revenue of the bids of these numbers if they can all win together, and else the first two that cannot. A number that
 /// the file does not have is refused once the file was read.

@@ -10,11 +10,12 @@ use requests::help::CommandHelp;
 use rounding::text::RoundedPrice;
 
 /// What `--help` prints of it.
-pub const HELP: CommandHelp<'static> = CommandHelp {
-    name: "round",
-    about: "Prints a bid file with prices rounded, and reports which changed",
-    arguments: &[],
-    after: "\
+pub fn help<'a>() -> CommandHelp<'a> {
+    CommandHelp {
+        name: "round",
+        about: "Prints a bid file with prices rounded, and reports which changed",
+        arguments: &[],
+        after: "\
 Prints the text of a bid file in which each price that is a decimal, such as
 1.02345e+06, .5 or 0.0123456, is written so that it is read: rounded to the
 nearest millionth, and halfway between two to the even one. A valid price and
@@ -33,7 +34,8 @@ Other commands round prices before they read a file, if --round is given:
 
 Statuses: 0, whether or not a price was rounded; 2 if the text with its prices
 rounded is not a bid file; 4, 5 and 64 as 'cats --help' lists them",
-};
+    }
+}
 
 /// The line in which the price is, as it is written there, and its new value, in pieces.
 pub fn price_pieces(price: &RoundedPrice) -> [Piece<'_>; 7]

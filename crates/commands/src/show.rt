@@ -11,11 +11,12 @@ use requests::help::CommandHelp;
 use std::alloc::Global;
 
 /// What `--help` prints of it.
-pub const HELP: CommandHelp<'static> = CommandHelp {
-    name: "show",
-    about: "Prints a bid file in its one layout, with bids in order of number",
-    arguments: &[],
-    after: "\
+pub fn help<'a>() -> CommandHelp<'a> {
+    CommandHelp {
+        name: "show",
+        about: "Prints a bid file in its one layout, with bids in order of number",
+        arguments: &[],
+        after: "\
 Prints the three lines of the header and a line for each bid, without comments.
 For example:
   $ cats show examples/two_bids.cats
@@ -25,7 +26,8 @@ the word that has it, and what helps.
 
 Statuses: 0; 2 if the file is not a bid file, 4, 5 and 64 as 'cats --help'
 lists them",
-};
+    }
+}
 
 /// A bid file in its one layout.
 pub fn show<I: Input>(alloc: Global, input: &mut I) -> Result<Answer, RunFault>

@@ -15,11 +15,12 @@ use std::alloc::{AllocError, Global};
 use valuation::search::SearchOptions;
 
 /// What `--help` prints of it.
-pub const HELP: CommandHelp<'static> = CommandHelp {
-    name: "sizes",
-    about: "Prints a table of sizes of bid files and of their canonical files",
-    arguments: &[("total-steps", TOTAL_STEPS), ("FILE", FILES)],
-    after: "\
+pub fn help<'a>() -> CommandHelp<'a> {
+    CommandHelp {
+        name: "sizes",
+        about: "Prints a table of sizes of bid files and of their canonical files",
+        arguments: &[("total-steps", TOTAL_STEPS), ("FILE", FILES)],
+        after: "\
 Prints a header and a row for each file, in the order given, with tabs between
 the cells. For example:
   $ cats sizes examples/ladder.cats examples/two_bids.cats
@@ -47,7 +48,8 @@ All files below a folder, in the order of the bytes of their paths:
 Statuses: 0 if every file was judged; else the greatest status of those that
 were not: 2 for a file that is not a bid file, 3 for the step limit (use a
 greater --steps), 4, 5 and 64 as 'cats --help' lists them",
-};
+    }
+}
 
 /// The empty cells of the numbers of a file that was not read.
 pub const NO_NUMBERS: &str = "\t\t\t\t\t\t\t\t";

@@ -29,16 +29,17 @@ use valuation::search::{SearchOptions, or_value_by};
 use valuation::{Auction, Packing, ValueFault, auction_of, on_set_for};
 
 /// What `--help` prints of it.
-pub const HELP: CommandHelp<'static> = CommandHelp {
-    name: "value",
-    about: "Prints what the bidders of a bid file offer for a bundle of goods",
-    arguments: &[(
-        "steps",
-        "\
+pub fn help<'a>() -> CommandHelp<'a> {
+    CommandHelp {
+        name: "value",
+        about: "Prints what the bidders of a bid file offer for a bundle of goods",
+        arguments: &[(
+            "steps",
+            "\
 The most packings that a search may enter, from 1 to
 1000000000",
-    )],
-    after: "\
+        )],
+        after: "\
 Prints 'or', the greatest sum of prices of bids without a dummy good that lie
 in the bundle and share no good, and the numbers of these bids; then for each
 dummy good 'xor', the dummy good, the greatest price of its bids that lie in
@@ -61,7 +62,8 @@ is the same. If it takes more steps too, a greater N lets the search go on:
 Statuses: 0; 2 if the file is not a bid file; 3 for the step limit: use
 --bound, and then a greater --steps; 64 for a good that the file does not have;
 4 and 5 as 'cats --help' lists them",
-};
+    }
+}
 
 /// What the bidders of a file offer for the bundle of these goods: the OR value with the bids of one best packing, and each
 /// XOR bidder's value with the bid that gives it. The first of the goods that the file does not have is refused once the

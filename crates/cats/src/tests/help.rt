@@ -1,6 +1,6 @@
 //! The texts of `--help`.
 
-use crate::help::HELP;
+use crate::help::all_help;
 use command_line::help::VERSION;
 use command_line::request::{NoRequest, parse};
 use requests::help::CommandHelp;
@@ -104,8 +104,9 @@ fn help_prints_texts(
 
 #[test]
 fn help_texts(rt: HostRuntime) -> Result<(), Fail> {
-    for command in HELP {
-        let printed = help_prints_texts(rt.alloc(), HELP, command)?;
+    let help = all_help();
+    for command in &help {
+        let printed = help_prints_texts(rt.alloc(), &help, command)?;
         assert!(rt; printed, "of {}", command.name);
     }
     Ok(())

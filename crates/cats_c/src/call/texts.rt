@@ -5,7 +5,8 @@ ghost use Rattle.std.specs.Str.{bytes_eq};
 ghost use Rattle.cats_c.specs.Calls.{IsNumberOf, name_or};
 
 use crate::call::CallText;
-use cats_cmd::source::{Source, Unopened, Way};
+use cats_cmd::source::{Source, Way};
+use commands::faults::Unopened;
 use itoa::Buffer;
 use std::alloc::{Alloc, AllocError, Global};
 
@@ -34,7 +35,7 @@ impl<'b, 'a> Source for Texts<'b, 'a> {
     ghost use Rattle.std.specs.Prelude.{◌≡◌, List, None};
     ghost use Rattle.cats_c.specs.Calls.{IsTextAt};
     ghost use Rattle.cats_c.specs.declared.call.CallText.{CallText};
-    ghost use Rattle.cats_cmd.specs.declared.source.Unopened.TheVariants.{NoSuchFile};
+    ghost use Rattle.commands.specs.declared.faults.Unopened.TheVariants.{NoSuchFile};
 
     type Stream = &'a [u8];
 

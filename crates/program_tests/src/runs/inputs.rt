@@ -6,8 +6,9 @@ ghost use Rattle.cats_text.specs.Streams.{has_failed};
 use super::each_command::words_of;
 use super::memory::answer_on;
 use super::streams::{RunAnswer, StepReader, StepWriter};
-use cats_cmd::source::{Source, Unopened, Way};
+use cats_cmd::source::{Source, Way};
 use cats_text::Watched;
+use commands::faults::Unopened;
 use std::alloc::{Alloc, AllocError, Global};
 use std::test::Fail;
 

@@ -5,14 +5,15 @@ ghost use Rattle.std.specs.Borrow.{Bor};
 ghost use Rattle.std.specs.List.{Any};
 ghost use Rattle.std.specs.Prelude.{◌≡◌, ◌⊎◌, ℕ, IfErr, IfOk, List, None, Some, false};
 ghost use Rattle.cats_text.specs.Streams.{has_failed};
-ghost use Rattle.cats_cmd.specs.declared.source.Unopened.{Unopened};
-ghost use Rattle.cats_cmd.specs.declared.source.Unopened.TheVariants.{NoSuchFile};
+ghost use Rattle.commands.specs.declared.faults.Unopened.{Unopened};
+ghost use Rattle.commands.specs.declared.faults.Unopened.TheVariants.{NoSuchFile};
 
 use super::opened::Openings;
 use super::streams::{RunAnswer, StepWriter, expect, text_taken, writer};
 use cats_cmd::program::{Process, run_program};
-use cats_cmd::source::{Source, Unopened, Way};
+use cats_cmd::source::{Source, Way};
 use cats_text::Watched;
+use commands::faults::Unopened;
 use std::alloc::{Alloc, AllocError, AllocGlobal, Global};
 use std::process::Abort;
 use std::test::Fail;

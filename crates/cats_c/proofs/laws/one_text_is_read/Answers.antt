@@ -1,12 +1,10 @@
 -- `one_text_is_read`: the only text of a name is the one that is opened, and all of it is read.
-use Rattle.std.proofs.Common.{◌≡◌, ◌≢◌, ◌<◌, ◌++◌, ◌∙◌, ℕ, zero, suc, false, List, [], ◌∷◌, Option, Some, None, Ok, arith, refl, sym, ap, inl, inr, subst}
+use Rattle.std.proofs.Common.{◌≡◌, ◌≢◌, ◌<◌, ◌++◌, ◌∙◌, ℕ, zero, suc, false, List, [], ◌∷◌, Option, Some, None, Ok, Err, arith, refl, sym, ap, inl, inr, subst}
 use Rattle.std.proofs.lemmas.Option.{same_Some}
 use Rattle.std.specs.Borrow.{Bor}
 use Rattle.std.specs.Global.{Global}
 use Rattle.std.specs.Prelude.{Vec, option_and_then, option_map, slice_get}
-use Rattle.bid_file.specs.Files.{PlainFile}
 use Rattle.cats_text.specs.Streams.{inner_of}
-use Rattle.commands.specs.Outcomes.{Outcome}
 use Rattle.commands.specs.Meanings.{outcome_of}
 use Rattle.requests.specs.Requests.{PlainRequest}
 use Rattle.requests.specs.Tasks.{files_of}
@@ -17,11 +15,12 @@ use Rattle.requests.specs.declared.task.Task.TheVariants.{Fault, Round}
 use Rattle.requests.specs.declared.task.TaskRow.{TaskRow}
 use Rattle.requests.specs.declared.task.TheConstants.{TASKS}
 use Rattle.valuation.specs.declared.search.options.SearchOptions.{SearchOptions}
-use Rattle.cats_cmd.proofs.OneText.{error_fails, run_prints}
+use Rattle.cats_cmd.proofs.OneText.{fault_fails, run_prints}
 use Rattle.cats_cmd.specs.OneText.{PrintsOf}
 use Rattle.cats_cmd.specs.BidLists.{RunsOnBids}
 use Rattle.cats_cmd.specs.Requests.{AnswersRequest, RunsAt, RunsOnOne, RunsWith}
-use Rattle.cats_cmd.specs.declared.source.Unopened.TheVariants.{NoSuchFile}
+use Rattle.commands.specs.declared.faults.RunFault.{RunFault}
+use Rattle.commands.specs.declared.faults.Unopened.TheVariants.{NoSuchFile}
 use Rattle.cats_c.specs.Calls.{Answers, IsTextAt, Output, name_or, names_of, options_of, request_by, request_of, request_with}
 use Rattle.cats_c.specs.declared.call.CallRequest.{CallRequest}
 use Rattle.cats_c.specs.declared.call.CallText.{CallText}
@@ -111,11 +110,15 @@ module _ (request : CallRequest) (text : CallText) (asked : PlainRequest) (out o
       name : List ℕ
       name = name_or text.name.now 1
 
+      no_status : (why : RunFault) → Ok status ≡ Err why → ⊥
+      no_status why is = cc
+
       by : call.asked ≡ asked
           → AnswersRequest (IsTextAt (text ∷ [])) (λ name why. why ≡ NoSuchFile) left_of printed_of printed_of false (λ name found. found ≡ None)
           call.asked out out_after err err_after status → Printed
-      by same (inl runs) = ran name (by_row request name asked (slice_get TASKS request.task) is) one fault round (rw same at runs)
-      by same (inr fails) = absurd (omega (arith, success, fails.is_status, error_fails fails.error))
+      by same (inl (inl runs)) = ran name (by_row request name asked (slice_get TASKS request.task) is) one fault round (rw same at runs)
+      by same (inl (inr failed)) = absurd (no_status failed.fault failed.is)
+      by same (inr fails) = absurd (omega (arith, success, fails.is_status, fault_fails fails.fault))
   answered is one fault round (inr (inl wrong)) = absurd (omega (arith, success, wrong.is_status))
   answered is one fault round (inr (inr unasked)) = absurd (omega (arith, success, unasked.0))
 
