@@ -206,11 +206,7 @@ fn open_both<S: Source>(
 }
 
 /// Opens a file of a request for one or two.
-pub(crate) fn open<S: Source>(
-    source: &mut S,
-    path: &str,
-    which: Which,
-) -> Result<Watched<S::Stream>, RunFault>
+fn open<S: Source>(source: &mut S, path: &str, which: Which) -> Result<Watched<S::Stream>, RunFault>
     ensures opened { IfOk result (IsOpened (S.may_open (S.content_of source.old)) path.now) }
     ensures refused { IfErr result (CannotOpen (S.may_refuse (S.content_of source.old)) which path.now) }
     ensures opens { Opens S.content_of S.opened source.old source.new ((path.now, Anything) ∷ []) }

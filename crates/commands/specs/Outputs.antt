@@ -1,4 +1,4 @@
--- What `cats check` prints, lists of goods, and the cells of tables.
+-- Lists of goods, and the cells of tables.
 use Rattle.std.specs.Prelude.{ℕ, List, [], ◌∷◌, ◌++◌, Option, Some, None, decimal}
 use Rattle.std.specs.List.{flat_map}
 use Rattle.cats_text.specs.Layout.{price_text}

@@ -1,5 +1,5 @@
--- The exit statuses. They are those of a run's faults and of a comparison, as users know them: they are written
--- out here, and the code's constants are proved to be these.
+-- The exit statuses of faults, as users know them. They are written out here, and the code's constants are proved to be
+-- these.
 use Rattle.std.specs.Prelude.{ℕ}
 use Rattle.cats_text.specs.declared.read_fault.Kind.{Kind}
 use Rattle.cats_text.specs.declared.read_fault.Kind.TheVariants.{Device, Memory as NoMemory}

@@ -1,5 +1,11 @@
 //! `cats check`: how many goods, bids and dummy goods a bid file has.
 
+ghost use Rattle.std.specs.Prelude.{[], codes};
+ghost use Rattle.valuation.specs.SearchLimits.{plain_options};
+ghost use Rattle.commands.specs.Examples.{asked, xor_ladder};
+ghost use Rattle.commands.specs.Outcomes.{Prints};
+ghost use Rattle.commands.specs.Meanings.{outcome_of};
+ghost use Rattle.requests.specs.declared.task.Task.TheVariants.{Check};
 ghost use Rattle.std.specs.Prelude.{IfOk, ◌≡◌, string_bytes};
 ghost use Rattle.commands.specs.Commands.{Commands};
 ghost use Rattle.commands.specs.Check.{check_outcome};
@@ -52,3 +58,9 @@ fn sizes_line(alloc: Global, header: Header) -> Result<String, AllocError>
     let Header { goods, bids, dummy } = header;
     format!(in alloc; "goods {goods} bids {bids} dummy {dummy}\n")
 }
+
+/// What `cats check` makes of a file, and the line of some sizes.
+pub fn sizes()
+    ensures file { outcome_of (asked Check (plain_options 1)) [] xor_ladder ≡ Prints 0 (codes "goods 2 bids 3 dummy 1\n") }
+    ensures line { sizes_text 3 2 1 ≡ codes "goods 3 bids 2 dummy 1\n" }
+{}

@@ -1,5 +1,10 @@
 //! `cats compare`: whether two files are the same auction, or their first difference.
 
+ghost use Rattle.std.specs.Prelude.{[], ◌∷◌, map};
+ghost use Rattle.commands.specs.Examples.{larger_bid, xor_ladder};
+ghost use Rattle.valuation.specs.Examples.{atom};
+ghost use Rattle.canon.specs.Difference.{NoDifference, InGoods, InOr, InXor};
+ghost use Rattle.canon.specs.declared.verdict.Side.TheVariants.{Exactly, Below};
 ghost use Rattle.std.specs.Prelude.{IfErr, IfOk, ◌≡◌, ◌++◌, codes};
 ghost use Rattle.canon.specs.Canonical.{IsCanonicalFile};
 ghost use Rattle.canon.specs.declared.canon_fault.CanonFault.TheVariants.{Memory};
@@ -80,7 +85,7 @@ fn compared(alloc: Global, left: &PackedFile, right: &PackedFile) -> Result<Answ
 }
 
 /// The status of a comparison.
-pub(crate) fn verdict_status(verdict: &Verdict) -> u8
+fn verdict_status(verdict: &Verdict) -> u8
     ensures { result ≡ status_of_difference (plain_verdict verdict.now) }
 {
     match verdict {
@@ -90,7 +95,7 @@ pub(crate) fn verdict_status(verdict: &Verdict) -> u8
 }
 
 /// `same`, or `different`, where the two auctions first differ, and both sides of the difference, each on a line.
-pub(crate) fn verdict_text(alloc: Global, verdict: &Verdict) -> Result<Vec<u8>, AllocError>
+fn verdict_text(alloc: Global, verdict: &Verdict) -> Result<Vec<u8>, AllocError>
     ensures { IfOk result (λ text. text.items ≡ difference_text (plain_verdict verdict.now)) }
 {
     match verdict {
@@ -171,3 +176,24 @@ fn bids(alloc: Global, bidder: &[(Vec<u16>, u64)]) -> Result<Vec<u8>, AllocError
     }
     Ok(text)
 }
+
+/// What `cats compare` makes of two files.
+pub fn comparisons()
+    ensures same { compare_outcome larger_bid larger_bid ≡ Prints 0 (codes "same\n") }
+    ensures different { compare_outcome larger_bid xor_ladder
+        ≡ Prints 1 (codes "different\nor 0\nleft 3\nright below 3\n") }
+{}
+
+/// How differences are printed, and the statuses of comparisons.
+pub fn differences()
+    ensures same { difference_text NoDifference ≡ codes "same\n" }
+    ensures goods { difference_text (InGoods 1 2) ≡ codes "different\ngoods\nleft 1\nright 2\n" }
+    ensures below { difference_text (InOr (0 ∷ []) (Exactly 4000000) (Below 4500000))
+        ≡ codes "different\nor 0\nleft 4\nright below 4.5\n" }
+    ensures pair { difference_text (InOr (0 ∷ 12 ∷ []) (Below 8000000) (Exactly 8000000))
+        ≡ codes "different\nor 0,12\nleft below 8\nright 8\n" }
+    ensures bidder { difference_text (InXor (atom (0 ∷ []) 1000000 ∷ atom (0 ∷ 1 ∷ []) 2000000 ∷ []) 2 1)
+        ≡ codes "different\nxor 0:1 0,1:2\nleft 2\nright 1\n" }
+    ensures statuses { map status_of_difference (NoDifference ∷ InGoods 1 2 ∷ InOr [] (Exactly 1) (Exactly 2)
+        ∷ InXor [] 0 1 ∷ []) ≡ 0 ∷ 1 ∷ 1 ∷ 1 ∷ [] }
+{}

@@ -2,6 +2,9 @@
 
 mod sides;
 
+ghost use Rattle.std.specs.Prelude.{[], ◌∷◌, None, Some, codes};
+ghost use Rattle.analysis.specs.Examples.{file, or_bid, xor_bid, bidder_change, change, differences};
+ghost use Rattle.commands.specs.Diff.{diff_header, status_of_differences};
 ghost use Rattle.std.specs.Prelude.{IfErr, IfOk, ◌≡◌, ◌++◌, OnOk, map, All};
 ghost use Rattle.commands.specs.Internal.ComparedFiles.{IsComparedFile, PrintsDifferences};
 ghost use Rattle.canon.specs.declared.canon_fault.CanonFault.TheVariants.{Memory};
@@ -145,7 +148,7 @@ struct RowBidder {
 }
 
 /// The status and the table of all differences of two files. Their bids are put in order only if there is a difference.
-pub(crate) fn differences_text(
+fn differences_text(
     alloc: Global,
     left: &ComparedFile,
     right: &ComparedFile,
@@ -306,3 +309,43 @@ fn push_numbers(text: &mut Vec<u8>, left: Option<u32>, right: Option<u32>) -> Re
     text.extend_from_slice(b"\t")?;
     push_number_cell(text, right)
 }
+
+/// What `cats diff` prints: nothing below the header; numbers of goods; bundles with a price on each side, on the left, and
+/// on the right; the best bid of two, and the first of two equal ones; and no number of a bid that is not kept.
+pub fn tables_of_differences()
+    ensures none { diff_text (file 60 0 []) (file 60 0 []) (differences None [] [])
+        ≡ codes "kind\tgoods\tleft\tright\tleft_dummy\tright_dummy\tleft_bid\tright_bid\n" }
+    ensures goods { diff_text (file 2 0 []) (file 5 0 []) (differences (Some (2, 5)) [] [])
+        ≡ diff_header ++ codes "goods\t\t2\t5\t\t\t\t\n" }
+    ensures bundles { diff_text (file 60 0 (or_bid (18 ∷ []) 173958000 ∷ or_bid (18 ∷ 23 ∷ []) 203457000 ∷ []))
+        (file 60 0 (or_bid (0 ∷ 1 ∷ 59 ∷ []) 1 ∷ or_bid (18 ∷ []) 233145000 ∷ []))
+        (differences None (change (18 ∷ []) (Some 173958000) (Some 233145000)
+        ∷ change (18 ∷ 23 ∷ []) (Some 203457000) None ∷ change (0 ∷ 1 ∷ 59 ∷ []) None (Some 1) ∷ []) [])
+        ≡ diff_header ++ codes "or\t18\t173.958\t233.145\t\t\t0\t1\nor\t18 23\t203.457\t\t\t\t1\t\n"
+        ++ codes "or\t0 1 59\t\t0.000001\t\t\t\t0\n" }
+    ensures best { diff_text (file 1 0 (or_bid (0 ∷ []) 2000000 ∷ or_bid (0 ∷ []) 3000000 ∷ []))
+        (file 1 0 (or_bid (0 ∷ []) 4000000 ∷ or_bid (0 ∷ []) 4000000 ∷ []))
+        (differences None (change (0 ∷ []) (Some 3000000) (Some 4000000) ∷ []) [])
+        ≡ diff_header ++ codes "or\t0\t3\t4\t\t\t1\t0\n" }
+    ensures not_kept { diff_text (file 2 0 (or_bid (0 ∷ 1 ∷ []) 3000000 ∷ or_bid (1 ∷ []) 3000000 ∷ []))
+        (file 2 0 (or_bid (1 ∷ []) 3000000 ∷ or_bid (0 ∷ 1 ∷ []) 4000000 ∷ []))
+        (differences None (change (0 ∷ 1 ∷ []) None (Some 4000000) ∷ []) [])
+        ≡ diff_header ++ codes "or\t0 1\t\t4\t\t\t\t1\n" }
+    ensures statuses { map status_of_differences (differences None [] [] ∷ differences (Some (2, 5)) [] []
+        ∷ differences None (change (0 ∷ []) None (Some 1) ∷ []) []
+        ∷ differences None [] (bidder_change (Some 0) None [] ∷ []) ∷ []) ≡ 0 ∷ 1 ∷ 1 ∷ 1 ∷ [] }
+{}
+
+/// The rows of XOR bidders, with their dummy goods in their files: two bidders beside each other, of the first bidder of the
+/// left canonical file and that of the right one; and each alone.
+pub fn differences_of_bidders()
+    ensures beside { diff_text (file 2 2 (xor_bid 1 (0 ∷ []) 2000000 ∷ xor_bid 0 (0 ∷ 1 ∷ []) 5000000 ∷ []))
+        (file 2 1 (or_bid (1 ∷ []) 7000000 ∷ xor_bid 0 (0 ∷ []) 3000000 ∷ []))
+        (differences None [] (bidder_change (Some 0) (Some 0) (change (0 ∷ []) (Some 2000000) (Some 3000000) ∷ []) ∷ []))
+        ≡ diff_header ++ codes "xor\t0\t2\t3\t1\t0\t0\t1\n" }
+    ensures alone { diff_text (file 2 2 (xor_bid 1 (0 ∷ []) 2000000 ∷ xor_bid 0 (0 ∷ 1 ∷ []) 5000000 ∷ []))
+        (file 2 1 (or_bid (1 ∷ []) 7000000 ∷ xor_bid 0 (0 ∷ []) 3000000 ∷ []))
+        (differences None [] (bidder_change (Some 1) None (change (0 ∷ 1 ∷ []) (Some 5000000) None ∷ [])
+        ∷ bidder_change None (Some 0) (change (0 ∷ []) None (Some 3000000) ∷ []) ∷ []))
+        ≡ diff_header ++ codes "xor\t0 1\t5\t\t0\t\t1\t\nxor\t0\t\t3\t\t0\t\t1\n" }
+{}

@@ -1,5 +1,8 @@
 //! `cats explain`: why each bid of a file is in the canonical file or is not.
 
+ghost use Rattle.std.specs.Prelude.{[], ◌∷◌, codes};
+ghost use Rattle.analysis.specs.Examples.{file, or_bid, xor_bid};
+ghost use Rattle.analysis.specs.Reasons.{Keep, Zero, Same, Inside, Packing};
 ghost use Rattle.std.specs.Prelude.{IfOk, ◌≡◌, ◌++◌, OnOk, length, map};
 ghost use Rattle.commands.specs.Commands.{Commands};
 ghost use Rattle.commands.specs.Explain.{explain_outcome};
@@ -19,7 +22,6 @@ use canon::{CanonFault, Which};
 use cats_text::price::push_price;
 use requests::help::{CommandHelp, TOTAL_STEPS};
 use std::alloc::{AllocError, Global};
-use valuation::Packing;
 use valuation::search::SearchOptions;
 
 /// What `--help` prints of it.
@@ -89,7 +91,7 @@ pub(crate) fn explain<I: Input>(
 const HEADER: &[u8] = b"bid\tdummy\tprice\tgoods\treason\tkept\tby\n";
 
 /// The table of a file's bids, in order of number, with their reasons.
-pub(crate) fn explanation_text(
+fn explanation_text(
     alloc: Global,
     file: &PackedFile,
     reasons: &[Reason],
@@ -157,3 +159,18 @@ fn push_named(text: &mut Vec<u8>, before: &[u8], bids: &[u32]) -> Result<(), All
     text.extend_from_slice(before)?;
     push_list(text, b' ', bids)
 }
+
+/// What `cats explain` prints of no bids, of a bid of each reason, and of two bids.
+pub fn explanations()
+    ensures no_bids { explanation_text (file 0 0 []) [] ≡ codes "bid\tdummy\tprice\tgoods\treason\tkept\tby\n" }
+    ensures kept { explanation_row 0 (or_bid (0 ∷ []) 3000000) (Keep 12) ≡ codes "0\t\t3\t0\tkeep\t12\t\n" }
+    ensures packing { explanation_row 2 (or_bid (0 ∷ 1 ∷ []) 6000000) (Packing (0 ∷ 1 ∷ []))
+        ≡ codes "2\t\t6\t0 1\tpacking\t\t0 1\n" }
+    ensures inside { explanation_row 5 (xor_bid 2 (1 ∷ []) 4000000) (Inside 3) ≡ codes "5\t2\t4\t1\tinside\t\t3\n" }
+    ensures zero { explanation_row 12 (xor_bid 10 (7 ∷ []) 0) Zero ≡ codes "12\t10\t0\t7\tzero\t\t\n" }
+    ensures same { explanation_row 65535 (or_bid (4095 ∷ []) 4500000) (Same 65534)
+        ≡ codes "65535\t\t4.5\t4095\tsame\t\t65534\n" }
+    ensures two_bids { explanation_text (file 2 1 (or_bid (0 ∷ []) 0 ∷ xor_bid 0 (0 ∷ 1 ∷ []) 7250000 ∷ []))
+        (Zero ∷ Keep 0 ∷ [])
+        ≡ codes "bid\tdummy\tprice\tgoods\treason\tkept\tby\n0\t\t0\t0\tzero\t\t\n1\t0\t7.25\t0 1\tkeep\t0\t\n" }
+{}

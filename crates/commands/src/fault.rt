@@ -1,5 +1,13 @@
 //! What `cats fault` prints: the place of a fault, and what helps.
 
+ghost use Rattle.std.specs.Prelude.{◌++◌, [], ◌∷◌, codes, map, length, replicate, nat_le, true};
+ghost use Rattle.cats_text.specs.declared.read_fault.Kind.TheVariants.{TwoDummies, Header, NotANumber, TooLarge, ExtraBid};
+ghost use Rattle.cats_text.specs.declared.read_fault.Kind.TheVariants.{BidNumber, RepeatedNumber, TooFine};
+ghost use Rattle.cats_text.specs.declared.read_fault.Kind.TheVariants.{GoodRange as NoSuchGood, RepeatedGood, EmptyBundle};
+ghost use Rattle.cats_text.specs.declared.read_fault.Kind.TheVariants.{NoEnd, AfterEnd, Missing, TooLong, Device};
+ghost use Rattle.cats_text.specs.declared.read_fault.Kind.TheVariants.{Memory as NoMemory};
+ghost use Rattle.std.specs.List.{list_all};
+ghost use Rattle.cats_text.specs.Examples.{place};
 ghost use Rattle.std.specs.Prelude.{◌≡◌, IfOk};
 ghost use Rattle.cats_text.specs.Views.{plain_place};
 ghost use Rattle.commands.specs.Fault.{hint_of_kind};
@@ -152,3 +160,20 @@ fn hint(kind: Kind) -> &'static str
         Kind::Memory => MEMORY,
     }
 }
+
+/// The place of a fault and what helps: of a word, of a word that is printed in part, and of a line's end.
+pub fn places_of_faults()
+    ensures word { place_text (codes "in") (codes "0.0123456") (place 8 2 (codes "0.0123456") TooFine) ≡
+        codes "in:8:2: TooFine: 0.0123456\n"
+        ++ codes "a price has at most six places after the point; `cats round` rounds it\n" }
+    ensures long_word { place_text (codes "in") (replicate 60 120) (place 4 1 (replicate 61 120) RepeatedNumber) ≡
+        codes "in:4:1: RepeatedNumber: " ++ replicate 60 120
+        ++ codes "..\neach bid line has a number of its own; number the bids anew\n" }
+    ensures shown { map shown_bytes (replicate 61 120 ∷ replicate 60 120 ∷ codes "x" ∷ []) ≡
+        replicate 60 120 ∷ replicate 60 120 ∷ codes "x" ∷ [] }
+    ensures end { place_text (codes "in") [] (place 5 4 [] NoEnd) ≡
+        codes "in:5:4: NoEnd\na bid line ends with the word `#`; write a space and `#` behind its last good\n" }
+    ensures short { list_all (λ kind. nat_le (length (hint_of_kind kind)) 100)
+        (Header ∷ NotANumber ∷ TooLarge ∷ ExtraBid ∷ BidNumber ∷ RepeatedNumber ∷ TooFine ∷ NoSuchGood ∷ RepeatedGood
+        ∷ TwoDummies ∷ EmptyBundle ∷ NoEnd ∷ AfterEnd ∷ Missing ∷ TooLong ∷ Device ∷ NoMemory ∷ []) ≡ true }
+{}

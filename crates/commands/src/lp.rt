@@ -1,5 +1,11 @@
 //! `cats lp`: the winner determination problem of a bid file, in CPLEX's LP format.
 
+ghost use Rattle.std.specs.Prelude.{◌≡◌, ◌++◌, [], codes};
+ghost use Rattle.valuation.specs.SearchLimits.{plain_options};
+ghost use Rattle.commands.specs.Examples.{asked, xor_ladder};
+ghost use Rattle.commands.specs.Outcomes.{Prints};
+ghost use Rattle.commands.specs.Meanings.{outcome_of};
+ghost use Rattle.requests.specs.declared.task.Task.TheVariants.{Lp};
 ghost use Rattle.commands.specs.Commands.{Commands};
 ghost use Rattle.commands.specs.Lp.{lp_outcome};
 
@@ -43,3 +49,13 @@ pub(crate) fn lp<I: Input>(alloc: Global, input: &mut I) -> Result<Answer, RunFa
     let file = input.read_file(alloc).map_err(CanonFault::from)?;
     Ok(done(Output::Text(lp_text(alloc, &file)?)))
 }
+
+/// What `cats lp` makes of two files, of which the second has no bids.
+pub fn lp_texts()
+    ensures shared { outcome_of (asked Lp (plain_options 1)) [] xor_ladder
+        ≡ Prints 0 (codes "Maximize\n revenue:\n + 5 x0\n + 1.5 x1\n + 6 x2\nSubject To\n"
+        ++ codes " g0:\n + x0\n + x2\n <= 1\n g1:\n + x1\n + x2\n <= 1\n d0:\n + x0\n + x2\n <= 1\n"
+        ++ codes "Binary\n x0\n x1\n x2\nEnd\n") }
+    ensures empty { outcome_of (asked Lp (plain_options 1)) [] (record { goods = 2; dummy = 1; bids = [] })
+        ≡ Prints 0 (codes "Maximize\n revenue:\n + 0 none\nSubject To\n none:\n + none\n <= 1\nBinary\n none\nEnd\n") }
+{}

@@ -1,5 +1,13 @@
 //! `cats normalise`: the canonical text of a bid file's auction.
 
+ghost use Rattle.std.specs.Prelude.{◌≡◌, ◌++◌, [], ◌∷◌, None, Some, codes};
+ghost use Rattle.valuation.specs.SearchLimits.{bounded_options, plain_options};
+ghost use Rattle.valuation.specs.declared.search.kind.SearchKind.TheVariants.{Bounded};
+ghost use Rattle.commands.specs.Examples.{asked, crossing_bids, larger_bid, repeated_bundle, xor_ladder};
+ghost use Rattle.commands.specs.Outcomes.{ExceedsAtBid, ExceedsSteps, Prints};
+ghost use Rattle.commands.specs.Normalise.{exceeds_at, first_bid_on, naming_outcome};
+ghost use Rattle.commands.specs.Meanings.{outcome_of};
+ghost use Rattle.requests.specs.declared.task.Task.TheVariants.{Explain, Normalise};
 ghost use Rattle.std.specs.Prelude.{IfErr, IfOk};
 ghost use Rattle.canon.specs.Canonical.{IsCanonicalFile};
 ghost use Rattle.commands.specs.Commands.{Commands, IsRefusedAlike, ReadsCanonical};
@@ -72,3 +80,39 @@ pub(crate) fn read_canonical<I: Input>(
     let file = input.read_file(alloc)?;
     normal_packed_file(alloc, file, options)
 }
+
+/// What `cats normalise` and `cats explain` make of two files: the same limits refuse one of them.
+pub fn canonical_files()
+    ensures text { outcome_of (asked Normalise (plain_options 3)) [] larger_bid
+        ≡ Prints 0 (codes "goods 2\nbids 2\ndummy 0\n0\t3\t0\t#\n1\t4\t1\t#\n") }
+    ensures refused { outcome_of (asked Normalise (plain_options 1)) [] larger_bid ≡ ExceedsSteps (0 ∷ 1 ∷ []) }
+    ensures reasons { outcome_of (asked Explain (plain_options 3)) [] larger_bid
+        ≡ Prints 0 (codes "bid\tdummy\tprice\tgoods\treason\tkept\tby\n0\t\t3\t0\tkeep\t0\t\n1\t\t4\t1\tkeep\t1\t\n"
+        ++ codes "2\t\t7\t0 1\tpacking\t\t0 1\n") }
+    ensures unexplained { outcome_of (asked Explain (plain_options 1)) [] larger_bid ≡ ExceedsAtBid 1 None 2 (0 ∷ 1 ∷ []) }
+    ensures text_of_both { outcome_of (asked Normalise (plain_options 1000)) [] xor_ladder
+        ≡ Prints 0 (codes "goods 2\nbids 3\ndummy 1\n0\t1.5\t1\t#\n1\t5\t0\t2\t#\n2\t6\t0\t1\t2\t#\n") }
+    ensures reasons_of_both { outcome_of (asked Explain (plain_options 1000)) [] xor_ladder
+        ≡ Prints 0 (codes "bid\tdummy\tprice\tgoods\treason\tkept\tby\n0\t0\t5\t0\tkeep\t1\t\n"
+        ++ codes "1\t\t1.5\t1\tkeep\t0\t\n2\t0\t6\t0 1\tkeep\t2\t\n") }
+{}
+
+/// The limits on steps. For the goods 0, 1 and 2 the plain search enters the bid of 4 for 0 and 1; the bounded one enters no
+/// bid, since the rates add up to 6. So each bundle with a bid takes one step.
+pub fn limits_of_searches()
+    ensures plain { outcome_of (asked Normalise (plain_options 1)) [] crossing_bids ≡ ExceedsSteps (0 ∷ 1 ∷ 2 ∷ []) }
+    ensures bounded { outcome_of (asked Normalise (bounded_options 1 None)) [] crossing_bids
+        ≡ Prints 0 (codes "goods 3\nbids 3\ndummy 0\n0\t4\t0\t1\t#\n1\t4\t1\t2\t#\n2\t7\t0\t1\t2\t#\n") }
+    ensures over_total { outcome_of (asked Normalise (bounded_options 1 (Some 2))) [] crossing_bids
+        ≡ ExceedsSteps (0 ∷ 1 ∷ 2 ∷ []) }
+    ensures within_total { outcome_of (asked Normalise (bounded_options 1 (Some 3))) [] crossing_bids
+        ≡ Prints 0 (codes "goods 3\nbids 3\ndummy 0\n0\t4\t0\t1\t#\n1\t4\t1\t2\t#\n2\t7\t0\t1\t2\t#\n") }
+{}
+
+/// The bid that is named: not that of an XOR bidder, and the first of two.
+pub fn named_bids()
+    ensures first { first_bid_on repeated_bundle (0 ∷ 1 ∷ []) ≡ 2 }
+    ensures limits { exceeds_at (record { kind = Bounded; each = 5; total = Some 7 }) repeated_bundle (0 ∷ [])
+        ≡ ExceedsAtBid 5 (Some 7) 1 (0 ∷ []) }
+    ensures in_a_diff { naming_outcome (bounded_options 1 (Some 5)) larger_bid ≡ ExceedsAtBid 1 (Some 5) 2 (0 ∷ 1 ∷ []) }
+{}

@@ -1,5 +1,8 @@
 //! `cats revenue`: what bids bring as winners.
 
+ghost use Rattle.std.specs.Prelude.{◌≡◌, [], ◌∷◌, codes};
+ghost use Rattle.commands.specs.Examples.{larger_bid, xor_ladder};
+ghost use Rattle.commands.specs.Outcomes.{LacksBid, Prints};
 ghost use Rattle.commands.specs.Commands.{Commands};
 ghost use Rattle.commands.specs.Revenue.{revenue_outcome};
 
@@ -52,3 +55,12 @@ pub(crate) fn revenue<I: Input>(
         output: Output::Text(text),
     })
 }
+
+/// What `cats revenue` makes of a file: of bids that can all win, of which one is named twice, of two that cannot, and of
+/// bids that it does not have.
+pub fn revenues()
+    ensures sum { revenue_outcome (1 ∷ 0 ∷ 1 ∷ []) larger_bid ≡ Prints 0 (codes "revenue 7\n") }
+    ensures clash { revenue_outcome (2 ∷ 0 ∷ []) larger_bid ≡ Prints 1 (codes "bids 0 and 2 share good 0\n") }
+    ensures missing { revenue_outcome (2 ∷ 4 ∷ 0 ∷ 3 ∷ []) larger_bid ≡ LacksBid 4 }
+    ensures both { revenue_outcome (1 ∷ 0 ∷ []) xor_ladder ≡ Prints 0 (codes "revenue 6.5\n") }
+{}

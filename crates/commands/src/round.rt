@@ -1,5 +1,6 @@
 //! `cats round`: the line of a price that it changed.
 
+ghost use Rattle.std.specs.Prelude.{codes};
 ghost use Rattle.std.specs.Prelude.{◌≡◌};
 ghost use Rattle.rounding.specs.Views.{plain_change};
 ghost use Rattle.commands.specs.Pieces.{text_of_pieces};
@@ -51,3 +52,9 @@ pub fn price_pieces(price: &RoundedPrice) -> [Piece<'_>; 7]
         Piece::Text(b"\n"),
     ]
 }
+
+/// The line of a price whose value changed.
+pub fn rounded_lines()
+    ensures { rounded_line (record { line = 12; word = codes "0.0123456"; price = 12346 })
+        ≡ codes "line 12: 0.0123456 rounded to 0.012346\n" }
+{}

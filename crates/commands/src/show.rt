@@ -1,5 +1,11 @@
 //! `cats show`: a bid file in its one layout.
 
+ghost use Rattle.std.specs.Prelude.{◌≡◌, [], codes};
+ghost use Rattle.valuation.specs.SearchLimits.{plain_options};
+ghost use Rattle.commands.specs.Examples.{asked, xor_ladder};
+ghost use Rattle.commands.specs.Outcomes.{Prints};
+ghost use Rattle.commands.specs.Meanings.{outcome_of};
+ghost use Rattle.requests.specs.declared.task.Task.TheVariants.{Show};
 ghost use Rattle.commands.specs.Commands.{Commands};
 ghost use Rattle.commands.specs.Show.{show_outcome};
 
@@ -37,3 +43,9 @@ pub fn show<I: Input>(alloc: Global, input: &mut I) -> Result<Answer, RunFault>
     let file = input.read_file(alloc).map_err(CanonFault::from)?;
     Ok(done(Output::File(file)))
 }
+
+/// What `cats show` makes of a file.
+pub fn layouts()
+    ensures { outcome_of (asked Show (plain_options 1)) [] xor_ladder
+        ≡ Prints 0 (codes "goods 2\nbids 3\ndummy 1\n0\t5\t0\t2\t#\n1\t1.5\t1\t#\n2\t6\t0\t1\t2\t#\n") }
+{}

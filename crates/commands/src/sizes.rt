@@ -2,6 +2,15 @@
 
 mod count;
 
+ghost use Rattle.std.specs.Prelude.{◌≡◌, ℕ, None, Vec, codes};
+ghost use Rattle.std.specs.Global.{Global};
+ghost use Rattle.cats_text.specs.declared.read_fault.Kind.TheVariants.{TwoDummies};
+ghost use Rattle.canon.specs.declared.canon_fault.CanonFault.TheVariants.{Read};
+ghost use Rattle.commands.specs.Examples.{larger_bid, xor_ladder};
+ghost use Rattle.commands.specs.Judgements.{IsHeavy, IsJudged, IsUnjudged};
+ghost use Rattle.commands.specs.Sizes.{numbers_judged};
+ghost use Rattle.commands.specs.declared.faults.RunFault.TheVariants.{Refused};
+ghost use Rattle.canon.specs.declared.which.Which.TheVariants.{Only};
 ghost use Rattle.std.specs.Prelude.{IfOk};
 ghost use Rattle.commands.specs.Sizes.{PutsNumbers};
 
@@ -96,3 +105,12 @@ pub fn push_numbers<I: Input>(
         }
     }
 }
+
+/// The numbers in rows of `cats sizes`: of a file that was judged, of one with a heavy bundle, and of none.
+pub fn numbers_of_rows()
+    ensures judged { numbers_judged (IsJudged larger_bid) ≡ codes "2\t3\t3\t0\t0\t2\t2\t0\t" }
+    ensures heavy { (goods : Vec ℕ Global)
+        → numbers_judged (IsHeavy xor_ladder (record { number = 2; goods = goods; steps = 1; total = None }))
+        ≡ codes "2\t3\t1\t1\t1\t\t\t\t" }
+    ensures refused { numbers_judged (IsUnjudged (Refused Only (Read (record { kind = TwoDummies; line = 7 })))) ≡ codes "\t\t\t\t\t\t\t\t" }
+{}

@@ -4,6 +4,10 @@ mod bundles;
 mod lines;
 mod numbers;
 
+ghost use Rattle.std.specs.Prelude.{[], ◌∷◌, codes};
+ghost use Rattle.commands.specs.Examples.{larger_bid, xor_ladder};
+ghost use Rattle.commands.specs.Outcomes.{ExceedsSteps, LacksGood, Prints};
+ghost use Rattle.commands.specs.Value.{value_outcome};
 ghost use Rattle.std.specs.Prelude.{◌≡◌, ◌≤◌, None};
 ghost use Rattle.bid_file.specs.Files.{IsPlainFile};
 ghost use Rattle.valuation.specs.Views.{plain_auction};
@@ -154,3 +158,15 @@ fn best_packing<S: GoodsSet>(
         Err(ValueFault::Memory) => Err(CanonFault::Memory),
     }
 }
+
+/// What `cats value` makes of two files.
+pub fn values()
+    ensures best_packing { value_outcome (1 ∷ 0 ∷ 1 ∷ []) 5 larger_bid ≡ Prints 0 (codes "or 7 2\n") }
+    ensures one_good { value_outcome (1 ∷ []) 2 larger_bid ≡ Prints 0 (codes "or 4 1\n") }
+    ensures step_limit { value_outcome (1 ∷ 0 ∷ []) 4 larger_bid ≡ ExceedsSteps (0 ∷ 1 ∷ []) }
+    ensures missing { value_outcome (0 ∷ 3 ∷ 2 ∷ []) 0 larger_bid ≡ LacksGood 3 }
+    ensures both { value_outcome (0 ∷ 1 ∷ []) 2 xor_ladder ≡ Prints 0 (codes "or 1.5 1\nxor 2 6 2\n") }
+    ensures first { value_outcome (0 ∷ []) 1 xor_ladder ≡ Prints 0 (codes "or 0\nxor 2 5 0\n") }
+    ensures none_inside { value_outcome [] 1 xor_ladder ≡ Prints 0 (codes "or 0\nxor 2 0\n") }
+    ensures bundle { bundle_from (3 ∷ 1 ∷ 3 ∷ 0 ∷ []) ≡ 0 ∷ 1 ∷ 3 ∷ [] }
+{}

@@ -1,0 +1,8 @@
+-- `rounded_lines`
+use Rattle.commands.proofs.Common.{refl}
+use Rattle.std.specs.Fmt.{digits}
+use Rattle.commands.proofs.round.rounded_lines.Goals as goal
+
+pub returns : goal.returns
+unfolding digits
+returns c = refl

@@ -1,0 +1,8 @@
+-- `fault_lines`
+use Rattle.commands.proofs.Common.{refl}
+use Rattle.std.specs.Fmt.{digits}
+use Rattle.commands.proofs.worked.fault_lines.Goals as goal
+
+pub returns : goal.returns
+unfolding digits
+returns c = refl

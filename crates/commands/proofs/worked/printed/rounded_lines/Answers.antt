@@ -1,8 +1,0 @@
--- `rounded_lines`
-use Rattle.commands.proofs.Common.{refl}
-use Rattle.std.specs.Fmt.{digits}
-use Rattle.commands.proofs.worked.printed.rounded_lines.Goals as goal
-
-pub returns : goal.returns
-unfolding digits
-returns c = refl
