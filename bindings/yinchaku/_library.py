@@ -4,6 +4,7 @@ from __future__ import annotations
 import ctypes
 import enum
 import os
+import threading
 from ctypes import POINTER, byref, c_bool, c_char, c_char_p, c_size_t, c_uint8, c_uint16, c_uint32, c_uint64, sizeof
 from typing import Any, List, Sequence, Tuple
 
@@ -134,6 +135,27 @@ class Frame:
         self.words = [(byref(self.request), texts, c_size_t(count), *outputs) for count in range(3)]
 
 
+# A call of these commands on texts with more bytes than SMALL may search for longer than a second, and any on more than LARGE read for so long.
+SEARCHES = {Task.VALUE, Task.NORMALISE, Task.EXPLAIN, Task.COMPARE, Task.DIFF, Task.SIZES}
+SMALL = 512
+LARGE = 16_777_216
+
+
+def status_of(frame: Frame, texts: Sequence[bytes]) -> int:
+    """The status of the call of a frame. Ctrl-C ends one that may take long: what it began goes on in a thread until it ends or meets a limit, and
+    nothing reads what that writes."""
+    size, request = sum(map(len, texts)), frame.request
+    is_short = size <= LARGE and (request.task not in SEARCHES or (size <= SMALL and request.steps <= STEPS))
+    if is_short or threading.current_thread() is not threading.main_thread():
+        return int(CALL(*frame.words[len(texts)]))
+    statuses: List[int] = []
+    # the function keeps the frame and the texts
+    thread = threading.Thread(target=lambda: statuses.append(CALL(*frame.words[len(texts)])), daemon=True)
+    thread.start()
+    thread.join()
+    return statuses[0]
+
+
 # The frames of which no call is made. Calls of several threads, or one within another, as in the handler of a signal, take different ones.
 FREE: List[Frame] = []
 
@@ -158,7 +180,7 @@ def call(
             request.bids = (c_uint32 * len(bids))(*bids)
         for (pointer, count), text in zip(frame.texts, texts):
             pointer.value, count.value = text, len(text)
-        status: int = CALL(*frame.words[len(texts)])
+        status = status_of(frame, texts)
         needed, err_needed = frame.needed.value, frame.err_needed.value
         if needed <= len(frame.out) and err_needed <= len(frame.err):
             break
