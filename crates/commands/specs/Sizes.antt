@@ -22,6 +22,7 @@ count_or bids = length (filter (λ b. is_none b.dummy) bids)
 abbrev pub count_xor : ℕ → List PlainBid → ℕ
 count_xor dummy bids = length (filter (has_dummy bids) (range_with_len 0 dummy))
 
+-- a number of a file, with its title
 abbrev pub Number : Type 0
 Number = List ℕ × (PlainFile → ℕ)
 

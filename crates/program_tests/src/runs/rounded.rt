@@ -262,7 +262,7 @@ fn each_command(rt: HostRuntime) -> Result<(), Fail> {
     let alloc = rt.alloc();
     let fine = "fine: 2 prices rounded\n";
     let twin = "twin: 1 price rounded\n";
-    for (name, words, _, printed) in &COMMANDS {
+    for (name, words, _, printed) in COMMANDS {
         let line = format!(in alloc; "cats {name} --round {words}")?;
         let there = words_of(alloc, line.as_str(), "fine", "twin")?;
         if prefixes(words).len() == 1 {
