@@ -28,8 +28,8 @@ Number = List ℕ × (PlainFile → ℕ)
 
 -- of a bid file
 abbrev pub file_numbers : List Number
-file_numbers = (codes "goods", λ f. f.goods) ∷ (codes "bids", λ f. length f.bids) ∷ (codes "or", λ f. count_or f.bids)
-    ∷ (codes "xor", λ f. count_xor f.dummy f.bids) ∷ (codes "dummy", λ f. f.dummy) ∷ []
+file_numbers = (codes "goods", λ f. f.goods) ∷ (codes "bids", λ f. length f.bids) ∷ (codes "or_bids", λ f. count_or f.bids)
+    ∷ (codes "xor_bidders", λ f. count_xor f.dummy f.bids) ∷ (codes "dummies", λ f. f.dummy) ∷ []
 
 -- of its canonical file
 abbrev pub canonical_numbers : List Number
