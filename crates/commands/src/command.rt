@@ -9,7 +9,8 @@ use crate::answer::Answer;
 use crate::faults::RunFault;
 use crate::input::Input;
 use crate::{
-    check, compare, diff, duplicates, explain, fault, lp, normalise, revenue, round, show, sizes, value,
+    check, compare, diff, duplicates, explain, fault, lp, normalise, revenue, round, show, sizes,
+    value,
 };
 use requests::help::CommandHelp;
 use requests::request::Request;
@@ -52,7 +53,12 @@ pub fn answer_on_file<I: Input>(
         Task::Value => value::value(alloc, input, request.goods.as_slice(), request.options),
         Task::Revenue => revenue::revenue(alloc, input, bids),
         Task::Normalise => normalise::normalise(alloc, input, request.options),
-        Task::Explain => explain::explain(alloc, input, request.options.each, request.options.total),
+        Task::Explain => explain::explain(
+            alloc,
+            input,
+            request.options.each,
+            request.options.total,
+        ),
         _ => lp::lp(alloc, input),
     }
 }
