@@ -1,6 +1,6 @@
 -- What `cats fault` prints of a fault: a line with its place, and a line with what helps.
-use Rattle.std.specs.Prelude.{ℕ, nat_lt, nat_le, nat_eq, ◌==◌, Bool, true, ◌&&◌, if◌then◌else◌, List, [], ◌∷◌, ◌++◌}
-use Rattle.std.specs.Prelude.{length, map, take, drop, find, codes, decimal}
+use Rattle.std.specs.Prelude.{ℕ, nat_lt, nat_le, nat_eq, ◌==◌, Bool, true, ◌&&◌, if◌then◌else◌, List, [], ◌∷◌}
+use Rattle.std.specs.Prelude.{◌++◌, length, map, take, drop, find, codes, decimal}
 use Rattle.std.specs.Char.{is_ascii_alphabetic}
 use Rattle.std.specs.List.{list_any, starts_with, ends_with}
 use Rattle.std.specs.Option.{option_map_or}
@@ -40,7 +40,8 @@ hint_of_kind RepeatedGood = codes "a bid names each of its goods once; remove th
 hint_of_kind TwoDummies = codes "these are two dummy goods; count goods from 0, or write a bid line for each bidder"
 hint_of_kind EmptyBundle =
     codes "no good is before `#`; write the bid's goods, or remove the bid"
-hint_of_kind NoEnd = codes "if the file ends here, it seems cut: compare its length with the original; `#` ends each bid"
+hint_of_kind NoEnd =
+    codes "if the file ends here, it seems cut: compare its length with the original; `#` ends each bid"
 hint_of_kind AfterEnd = codes "nothing is behind the `#` of a bid line; remove it, or write a line of its own for it"
 hint_of_kind Missing =
     codes "the file seems cut: compare its length with the original; only if it is whole, correct `bids`"
@@ -98,7 +99,8 @@ rows_of Missing = CUT_FILE_HINTS
 rows_of kind = []
 
 abbrev pub all_rows : List HintRow
-all_rows = HEADER_HINTS ++ NUMBER_HINTS ++ LIMIT_HINTS ++ BUNDLE_HINTS ++ CUT_LINE_HINTS ++ BEHIND_END_HINTS ++ CUT_FILE_HINTS
+all_rows = HEADER_HINTS ++ NUMBER_HINTS ++ LIMIT_HINTS ++ BUNDLE_HINTS ++ CUT_LINE_HINTS ++ BEHIND_END_HINTS
+    ++ CUT_FILE_HINTS
 
 -- what helps: the hint of the first row that fits, or else that of the kind
 abbrev pub hint_of : PlainPlace → List ℕ
