@@ -2,12 +2,12 @@
 -- its pieces, so a new command needs a lemma only for a piece of a new kind.
 use Rattle.cats_cmd.proofs.Common.{◌≡◌, ℕ, suc, ◌+◌, ◌/◌, ◌%◌, ◌<◌, ◌≤◌, ◌&&◌, Bool, true, false, List, [], ◌∷◌, ◌++◌, cond, arith, refl, Ok, Err, Result}
 use Rattle.cats_cmd.proofs.Common.{subst, nat_le, unwrap_or, list_all, and_parts, leb-true, nat_tests, All-take, diff_text, goods_rows, difference_text}
-use Rattle.cats_cmd.proofs.Common.{side_text, explanation_text, reason_cells, hint_of_kind, before_word, behind_word, shown_bytes, name_of_kind, bundle_text}
+use Rattle.cats_cmd.proofs.Common.{side_text, explanation_text, reason_cells, hint_of, hint_of_kind, before_word, behind_word, shown_bytes, name_of_kind, bundle_text}
 use Rattle.cats_cmd.proofs.Common.{list_cell, number_cell, price_cell, Outcome, Prints, diff_outcome, outcome_of_difference, outcome_of_verdict, outcome_unless}
 use Rattle.cats_cmd.proofs.Common.{text_unless_refused, value_text, PlainBid, PlainFile, Difference, NoDifference, Side, Exactly, PlainPlace, behind_point}
 use Rattle.cats_cmd.proofs.Common.{bids_text, digit_at, places_text, six_digits, with_place, without_zeros, Kind, PlainDifferences, PlainReason, Zero}
 use Rattle.cats_cmd.proofs.Common.{allocation_text, AllocationVerdict, Revenue, PlainRow, if_none, AreBytes, escaped, text_of_place, outcome_by, outcome_of}
-use Rattle.cats_cmd.proofs.Common.{PlainRequest}
+use Rattle.cats_cmd.proofs.Common.{PlainRequest, HintRow, find, fits, option_map, rows_of}
 use Rattle.cats_cmd.proofs.Common.{Task, append_assoc, codes, decimal, Option, Some, None}
 use Rattle.cats_text.specs.declared.read_fault.Kind.TheVariants as kinds
 use Rattle.requests.specs.declared.task.Task.TheVariants.{Check}
@@ -84,9 +84,32 @@ text_if_none (row ∷ rows) text is = refl
 ruleset texts = (pieces, bid_lines, side, reason, goods_if_any, text_if_none)
 
 -- of `cats fault`
-hint : (kind : Kind) → Ours (hint_of_kind kind)
-hint kinds.Header = refl
-hint kind = refl
+hint_by_kind : (kind : Kind) → Ours (hint_of_kind kind)
+hint_by_kind kinds.Header = refl
+hint_by_kind kind = refl
+
+abbrev has_our_hint : HintRow → Bool
+has_our_hint row = list_all is_ours row.hint.now
+
+rows_by_kind : (kind : Kind) → list_all has_our_hint (rows_of kind) ≡ true
+rows_by_kind kinds.Header = refl
+rows_by_kind kind = refl
+
+chosen_hint : (t : Bool) (row : HintRow) (found : Option HintRow) (other : List ℕ) → has_our_hint row ≡ true
+    → Ours (unwrap_or (option_map (λ row. row.hint.now) found) other)
+    → Ours (unwrap_or (option_map (λ row. row.hint.now) (cond t (Some row) found)) other)
+chosen_hint true row found other first rest = first
+chosen_hint false row found other first rest = rest
+
+hint_of_rows : (test : HintRow → Bool) (rows : List HintRow) (other : List ℕ) → list_all has_our_hint rows ≡ true → Ours other
+    → Ours (unwrap_or (option_map (λ row. row.hint.now) (find test rows)) other)
+hint_of_rows test [] other each is = is
+hint_of_rows test (row ∷ rows) other each is =
+    let both = and_parts (has_our_hint row) (list_all has_our_hint rows) each in
+    chosen_hint (test row) row (find test rows) other both.0 (hint_of_rows test rows other both.1 is)
+
+hint : (place : PlainPlace) → Ours (hint_of place)
+hint place = hint_of_rows (fits place) (rows_of place.kind) (hint_of_kind place.kind) (rows_by_kind place.kind) (hint_by_kind place.kind)
 
 name : (kind : Kind) → Ours (name_of_kind kind)
 name kinds.Header = refl
@@ -168,7 +191,9 @@ place_shown path place bytes word =
     let shown = shown_bytes place.text in
     let front : List ℕ = codes ":" ++ decimal place.line ++ codes ":" ++ decimal place.word ++ codes ": " ++ name_of_kind place.kind
     ++ before_word place.text in
-    let back : List ℕ = behind_word place.text ++ codes "\n" ++ hint_of_kind place.kind ++ codes "\n" in
-    let same : ((escaped path ++ front) ++ escaped shown) ++ back ≡ text_of_place path place = simp append_assoc in
-    subst Shown same (then (then (then (path_shown path (bytes_from path bytes)) (ours front (simp (pieces, name, before))))
-    (path_shown shown (bytes_from shown (All-take (λ b. b < 256) 60 place.text word)))) (ours back (simp (pieces, hint))))
+    let back : List ℕ = behind_word place.text ++ codes "\n" in
+    let end : List ℕ = codes "\n" in
+    let same : ((((escaped path ++ front) ++ escaped shown) ++ back) ++ hint_of place) ++ end ≡ text_of_place path place = simp append_assoc in
+    subst Shown same (then (then (then (then (then (path_shown path (bytes_from path bytes)) (ours front (simp (pieces, name, before))))
+    (path_shown shown (bytes_from shown (All-take (λ b. b < 256) 60 place.text word)))) (ours back (simp pieces)))
+    (ours (hint_of place) (hint place))) (ours end refl))

@@ -1,9 +1,9 @@
 -- What `cats fault` prints of a fault: a line with its place, and a line with what helps.
 use Rattle.std.specs.Prelude.{ℕ, nat_lt, nat_le, nat_eq, ◌==◌, Bool, true, ◌&&◌, if◌then◌else◌, List, [], ◌∷◌}
-use Rattle.std.specs.Prelude.{◌++◌, length, map, take, drop, find, codes, decimal}
+use Rattle.std.specs.Prelude.{◌++◌, length, map, take, drop, find, codes, decimal, Option, option_map}
 use Rattle.std.specs.Char.{is_ascii_alphabetic}
 use Rattle.std.specs.List.{list_any, starts_with, ends_with}
-use Rattle.std.specs.Option.{option_map_or}
+use Rattle.std.specs.Option.{unwrap_or}
 use Rattle.std.specs.Str.{bytes_eq}
 use Rattle.cats_text.specs.Lines.{Word}
 use Rattle.cats_text.specs.Numbers.{digits_alone}
@@ -102,9 +102,13 @@ abbrev pub all_rows : List HintRow
 all_rows = HEADER_HINTS ++ NUMBER_HINTS ++ LIMIT_HINTS ++ BUNDLE_HINTS ++ CUT_LINE_HINTS ++ BEHIND_END_HINTS
     ++ CUT_FILE_HINTS
 
+-- the hint of the first of the rows that fits
+abbrev pub first_hint : List HintRow → PlainPlace → Option (List ℕ)
+first_hint rows place = option_map (λ row. row.hint.now) (find (fits place) rows)
+
 -- what helps: the hint of the first row that fits, or else that of the kind
 abbrev pub hint_of : PlainPlace → List ℕ
-hint_of place = option_map_or (λ row. row.hint.now) (find (fits place) (rows_of place.kind)) (hint_of_kind place.kind)
+hint_of place = unwrap_or (first_hint (rows_of place.kind) place) (hint_of_kind place.kind)
 
 -- ---- what is printed
 

@@ -1,6 +1,6 @@
 //! What `cats fault` prints: the place of a fault, and what helps.
 
-ghost use Rattle.std.specs.Prelude.{◌++◌, [], ◌∷◌, codes, map, length, replicate, nat_le, true, option_map, find};
+ghost use Rattle.std.specs.Prelude.{◌++◌, [], ◌∷◌, codes, map, length, replicate, nat_le, true, option_map};
 ghost use Rattle.cats_text.specs.declared.read_fault.Kind.TheVariants.{TwoDummies, Header, NotANumber, TooLarge, ExtraBid};
 ghost use Rattle.cats_text.specs.declared.read_fault.Kind.TheVariants.{BidNumber, RepeatedNumber, TooFine};
 ghost use Rattle.cats_text.specs.declared.read_fault.Kind.TheVariants.{GoodRange as NoSuchGood, RepeatedGood, EmptyBundle};
@@ -10,8 +10,8 @@ ghost use Rattle.std.specs.List.{list_all};
 ghost use Rattle.cats_text.specs.Examples.{place};
 ghost use Rattle.std.specs.Prelude.{◌≡◌, IfOk};
 ghost use Rattle.cats_text.specs.Views.{plain_place};
-ghost use Rattle.commands.specs.Fault.{hint_of, hint_of_kind};
-ghost use Rattle.commands.specs.Fault.{fits, before_word, behind_word, place_text, shown_bytes};
+ghost use Rattle.commands.specs.Fault.{first_hint, hint_of, hint_of_kind, rows_of};
+ghost use Rattle.commands.specs.Fault.{before_word, behind_word, place_text, shown_bytes};
 ghost use Rattle.commands.specs.Pieces.{text_of_pieces};
 
 mod hints;
@@ -132,23 +132,31 @@ fn place_pieces<'a>(path: &'a [u8], word: &'a [u8], place: &FaultPlace<'_>) -> [
 fn hint(place: &FaultPlace<'_>) -> &'static str
     ensures { result.now ≡ hint_of (plain_place place.now) }
 {
-    let found = match place.kind {
-        Kind::Header => first_fit(&HEADER_HINTS, place),
-        Kind::NotANumber => first_fit(&NUMBER_HINTS, place),
-        Kind::TooLarge => first_fit(&LIMIT_HINTS, place),
-        Kind::EmptyBundle => first_fit(&BUNDLE_HINTS, place),
-        Kind::NoEnd => first_fit(&CUT_LINE_HINTS, place),
-        Kind::AfterEnd => first_fit(&BEHIND_END_HINTS, place),
-        Kind::Missing => first_fit(&CUT_FILE_HINTS, place),
+    match find_hint(place) {
+        Some(hint) => hint,
+        None => hint_of_kind(place.kind),
+    }
+}
+
+/// What helps by a row, if one fits.
+fn find_hint(place: &FaultPlace<'_>) -> Option<&'static str>
+    ensures { option_map (λ hint. hint.now) result ≡ first_hint (rows_of place.now.kind) (plain_place place.now) }
+{
+    match place.kind {
+        Kind::Header => first_hint(&HEADER_HINTS, place),
+        Kind::NotANumber => first_hint(&NUMBER_HINTS, place),
+        Kind::TooLarge => first_hint(&LIMIT_HINTS, place),
+        Kind::EmptyBundle => first_hint(&BUNDLE_HINTS, place),
+        Kind::NoEnd => first_hint(&CUT_LINE_HINTS, place),
+        Kind::AfterEnd => first_hint(&BEHIND_END_HINTS, place),
+        Kind::Missing => first_hint(&CUT_FILE_HINTS, place),
         _ => None,
-    };
-    found.unwrap_or(hint_of_kind(place.kind))
+    }
 }
 
 /// The hint of the first row that fits.
-fn first_fit(rows: &[HintRow], place: &FaultPlace<'_>) -> Option<&'static str>
-    ensures { option_map (λ hint. hint.now) result
-        ≡ option_map (λ row. row.hint.now) (find (fits (plain_place place.now)) rows.now) }
+fn first_hint(rows: &[HintRow], place: &FaultPlace<'_>) -> Option<&'static str>
+    ensures { option_map (λ hint. hint.now) result ≡ first_hint rows.now (plain_place place.now) }
 {
     let row = rows.iter().find(|row| fits(row, place))?;
     Some(row.hint)
