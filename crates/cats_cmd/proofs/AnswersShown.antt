@@ -7,9 +7,10 @@ use Rattle.cats_cmd.proofs.Common.{list_cell, number_cell, price_cell, Outcome, 
 use Rattle.cats_cmd.proofs.Common.{text_unless_refused, value_text, PlainBid, PlainFile, Difference, NoDifference, Side, Exactly, PlainPlace, behind_point}
 use Rattle.cats_cmd.proofs.Common.{bids_text, digit_at, places_text, six_digits, with_place, without_zeros, Kind, PlainDifferences, PlainReason, Zero}
 use Rattle.cats_cmd.proofs.Common.{allocation_text, AllocationVerdict, Revenue, PlainRow, if_none, AreBytes, escaped, text_of_place, outcome_by, outcome_of}
-use Rattle.cats_cmd.proofs.Common.{PlainRequest, HintRow, find, fits, option_map, rows_of}
+use Rattle.cats_cmd.proofs.Common.{PlainRequest, Hint, first_hint, option_map_or, rows_of, sentence}
 use Rattle.cats_cmd.proofs.Common.{Task, append_assoc, codes, decimal, Option, Some, None}
 use Rattle.cats_text.specs.declared.read_fault.Kind.TheVariants as kinds
+use Rattle.commands.specs.declared.fault.rows.Hint.TheVariants as hints
 use Rattle.requests.specs.declared.task.Task.TheVariants.{Check}
 use Rattle.cats_cmd.proofs.PrintableTexts.{bytes_from, of_each}
 use Rattle.cats_cmd.proofs.ShownTexts.{Ours, Shown, is_ours, number_ours, ours, path_shown, then}
@@ -88,28 +89,16 @@ hint_by_kind : (kind : Kind) → Ours (hint_of_kind kind)
 hint_by_kind kinds.Header = refl
 hint_by_kind kind = refl
 
-abbrev has_our_hint : HintRow → Bool
-has_our_hint row = list_all is_ours row.hint.now
+hint_by_row : (h : Hint) → Ours (sentence h)
+hint_by_row hints.Gzip = refl
+hint_by_row h = refl
 
-rows_by_kind : (kind : Kind) → list_all has_our_hint (rows_of kind) ≡ true
-rows_by_kind kinds.Header = refl
-rows_by_kind kind = refl
-
-chosen_hint : (t : Bool) (row : HintRow) (found : Option HintRow) (other : List ℕ) → has_our_hint row ≡ true
-    → Ours (unwrap_or (option_map (λ row. row.hint.now) found) other)
-    → Ours (unwrap_or (option_map (λ row. row.hint.now) (cond t (Some row) found)) other)
-chosen_hint true row found other first rest = first
-chosen_hint false row found other first rest = rest
-
-hint_of_rows : (test : HintRow → Bool) (rows : List HintRow) (other : List ℕ) → list_all has_our_hint rows ≡ true → Ours other
-    → Ours (unwrap_or (option_map (λ row. row.hint.now) (find test rows)) other)
-hint_of_rows test [] other each is = is
-hint_of_rows test (row ∷ rows) other each is =
-    let both = and_parts (has_our_hint row) (list_all has_our_hint rows) each in
-    chosen_hint (test row) row (find test rows) other both.0 (hint_of_rows test rows other both.1 is)
+hint_of_either : (found : Option Hint) (other : List ℕ) → Ours other → Ours (option_map_or sentence found other)
+hint_of_either None other is = is
+hint_of_either (Some h) other is = hint_by_row h
 
 hint : (place : PlainPlace) → Ours (hint_of place)
-hint place = hint_of_rows (fits place) (rows_of place.kind) (hint_of_kind place.kind) (rows_by_kind place.kind) (hint_by_kind place.kind)
+hint place = hint_of_either (first_hint (rows_of place.kind) place) (hint_of_kind place.kind) (hint_by_kind place.kind)
 
 name : (kind : Kind) → Ours (name_of_kind kind)
 name kinds.Header = refl

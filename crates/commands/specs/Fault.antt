@@ -1,27 +1,15 @@
 -- What `cats fault` prints of a fault: a line with its place, and a line with what helps.
-use Rattle.std.specs.Prelude.{ℕ, nat_lt, nat_le, nat_eq, ◌==◌, Bool, true, ◌&&◌, if◌then◌else◌, List, [], ◌∷◌}
-use Rattle.std.specs.Prelude.{◌++◌, length, map, take, drop, find, codes, decimal, Option, option_map}
-use Rattle.std.specs.Char.{is_ascii_alphabetic}
-use Rattle.std.specs.List.{list_any, starts_with, ends_with}
-use Rattle.std.specs.Option.{unwrap_or}
-use Rattle.std.specs.Str.{bytes_eq}
+use Rattle.std.specs.Prelude.{ℕ, nat_lt, if◌then◌else◌, List, [], ◌∷◌, ◌++◌, length, take, codes, decimal}
+use Rattle.std.specs.Option.{option_map_or}
 use Rattle.cats_text.specs.Lines.{Word}
-use Rattle.cats_text.specs.Numbers.{digits_alone}
 use Rattle.cats_text.specs.FaultPlaces.{PlainPlace}
 use Rattle.cats_text.specs.declared.read_fault.Kind.{Kind}
 use Rattle.cats_text.specs.declared.read_fault.Kind.TheVariants.{Header, NotANumber, TooLarge, ExtraBid, BidNumber}
 use Rattle.cats_text.specs.declared.read_fault.Kind.TheVariants.{RepeatedNumber, TooFine, GoodRange, RepeatedGood}
 use Rattle.cats_text.specs.declared.read_fault.Kind.TheVariants.{TwoDummies, EmptyBundle, NoEnd, AfterEnd, Missing}
 use Rattle.cats_text.specs.declared.read_fault.Kind.TheVariants.{TooLong, Device, Memory}
-use Rattle.rounding.specs.Decimals.{is_decimal, has_exponent}
+use Rattle.commands.specs.Hints.{first_hint, rows_of, sentence}
 use Rattle.commands.specs.KindNames.{name_of_kind}
-use Rattle.commands.specs.declared.fault.hints.TheConstants.{HEADER_HINTS, NUMBER_HINTS, LIMIT_HINTS, BUNDLE_HINTS}
-use Rattle.commands.specs.declared.fault.hints.TheConstants.{CUT_LINE_HINTS, CUT_FILE_HINTS, BEHIND_END_HINTS}
-use Rattle.commands.specs.declared.fault.row.HintRow.{HintRow}
-use Rattle.commands.specs.declared.fault.row.Places.{Places}
-use Rattle.commands.specs.declared.fault.row.Test.{Test}
-use Rattle.commands.specs.declared.fault.row.Test.TheVariants.{Any, Is, Begins, Ends, Has, HasAt, HasLetter, HasOther}
-use Rattle.commands.specs.declared.fault.row.Test.TheVariants.{Digits, Decimal, Exponent}
 
 -- at most 100 bytes
 abbrev pub hint_of_kind : Kind → List ℕ
@@ -50,67 +38,9 @@ hint_of_kind Device = codes "a file is read to its end, and this read failed; gi
 hint_of_kind Memory =
     codes "reading a file takes memory, which was refused; free some, or raise its limit, as by `ulimit -v`"
 
--- ---- hints by what stands at a place
-
--- a place of this line and this number in it is among these places
-abbrev pub is_at : Places → ℕ → ℕ → Bool
-is_at places line word = nat_le places.first_line line && nat_le line places.last_line
-    && nat_le places.first_word word && nat_le word places.last_word
-
-abbrev pub is_one_of : Word → List Word → Bool
-is_one_of w words = list_any (bytes_eq w) words
-
-abbrev pub begins_with_one : Word → List Word → Bool
-begins_with_one w begins = list_any (starts_with nat_eq w) begins
-
-abbrev pub ends_with_one : Word → List Word → Bool
-ends_with_one w ends = list_any (ends_with nat_eq w) ends
-
--- one of these bytes is in the word
-abbrev pub has_one : Word → List ℕ → Bool
-has_one w bytes = list_any (λ b. list_any (λ it. it == b) bytes) w
-
--- whether a word is as the test asks
-abbrev pub passes : Test → Word → Bool
-passes Any w = true
-passes (Is words) w = is_one_of w (map (λ it. it.now) words.now)
-passes (Begins begins) w = begins_with_one w (map (λ it. it.now) begins.now)
-passes (Ends ends) w = ends_with_one w (map (λ it. it.now) ends.now)
-passes (Has bytes) w = has_one w bytes.now
-passes (HasAt before bytes) w = starts_with nat_eq (drop before w) bytes.now
-passes HasLetter w = list_any is_ascii_alphabetic w
-passes HasOther w = list_any (λ b. nat_le 128 b) w
-passes (Digits most) w = nat_le (length w) most && digits_alone w
-passes Decimal w = is_decimal w
-passes Exponent w = is_decimal w && has_exponent w
-
-abbrev pub fits : PlainPlace → HintRow → Bool
-fits place row = is_at row.at place.line place.word && passes row.test place.text
-
--- the rows for a kind of fault
-abbrev pub rows_of : Kind → List HintRow
-rows_of Header = HEADER_HINTS
-rows_of NotANumber = NUMBER_HINTS
-rows_of TooLarge = LIMIT_HINTS
-rows_of EmptyBundle = BUNDLE_HINTS
-rows_of NoEnd = CUT_LINE_HINTS
-rows_of AfterEnd = BEHIND_END_HINTS
-rows_of Missing = CUT_FILE_HINTS
-rows_of kind = []
-
-abbrev pub all_rows : List HintRow
-all_rows = HEADER_HINTS ++ NUMBER_HINTS ++ LIMIT_HINTS ++ BUNDLE_HINTS ++ CUT_LINE_HINTS ++ BEHIND_END_HINTS
-    ++ CUT_FILE_HINTS
-
--- the hint of the first of the rows that fits
-abbrev pub first_hint : List HintRow → PlainPlace → Option (List ℕ)
-first_hint rows place = option_map (λ row. row.hint.now) (find (fits place) rows)
-
 -- what helps: the hint of the first row that fits, or else that of the kind
 abbrev pub hint_of : PlainPlace → List ℕ
-hint_of place = unwrap_or (first_hint (rows_of place.kind) place) (hint_of_kind place.kind)
-
--- ---- what is printed
+hint_of place = option_map_or sentence (first_hint (rows_of place.kind) place) (hint_of_kind place.kind)
 
 -- the bytes of a word that are printed
 abbrev pub shown_bytes : Word → List ℕ

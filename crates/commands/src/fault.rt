@@ -1,6 +1,6 @@
 //! What `cats fault` prints: the place of a fault, and what helps.
 
-ghost use Rattle.std.specs.Prelude.{◌++◌, [], ◌∷◌, codes, map, length, replicate, nat_le, true, option_map};
+ghost use Rattle.std.specs.Prelude.{◌++◌, [], ◌∷◌, codes, map, length, replicate, nat_le, true};
 ghost use Rattle.cats_text.specs.declared.read_fault.Kind.TheVariants.{TwoDummies, Header, NotANumber, TooLarge, ExtraBid};
 ghost use Rattle.cats_text.specs.declared.read_fault.Kind.TheVariants.{BidNumber, RepeatedNumber, TooFine};
 ghost use Rattle.cats_text.specs.declared.read_fault.Kind.TheVariants.{GoodRange as NoSuchGood, RepeatedGood, EmptyBundle};
@@ -10,20 +10,19 @@ ghost use Rattle.std.specs.List.{list_all};
 ghost use Rattle.cats_text.specs.Examples.{place};
 ghost use Rattle.std.specs.Prelude.{◌≡◌, IfOk};
 ghost use Rattle.cats_text.specs.Views.{plain_place};
-ghost use Rattle.commands.specs.Fault.{first_hint, hint_of, hint_of_kind, rows_of};
+ghost use Rattle.commands.specs.Fault.{hint_of, hint_of_kind};
 ghost use Rattle.commands.specs.Fault.{before_word, behind_word, place_text, shown_bytes};
 ghost use Rattle.commands.specs.Pieces.{text_of_pieces};
 
-mod hints;
-mod row;
-mod shared;
+mod finding;
+mod fitting;
+mod rows;
+mod sentences;
+mod tables;
 pub mod worked;
 
-use self::hints::{
-    BEHIND_END_HINTS, BUNDLE_HINTS, CUT_FILE_HINTS, CUT_LINE_HINTS, HEADER_HINTS, LIMIT_HINTS,
-    NUMBER_HINTS,
-};
-use self::row::{HintRow, fits};
+use self::finding::find_hint;
+use self::sentences::sentence;
 use crate::printed::pieces::{Piece, text_of};
 use crate::printed::report::kind_name;
 use cats_text::Kind;
@@ -133,33 +132,9 @@ fn hint(place: &FaultPlace<'_>) -> &'static str
     ensures { result.now ≡ hint_of (plain_place place.now) }
 {
     match find_hint(place) {
-        Some(hint) => hint,
+        Some(hint) => sentence(hint),
         None => hint_of_kind(place.kind),
     }
-}
-
-/// What helps by a row, if one fits.
-fn find_hint(place: &FaultPlace<'_>) -> Option<&'static str>
-    ensures { option_map (λ hint. hint.now) result ≡ first_hint (rows_of place.now.kind) (plain_place place.now) }
-{
-    match place.kind {
-        Kind::Header => first_hint(&HEADER_HINTS, place),
-        Kind::NotANumber => first_hint(&NUMBER_HINTS, place),
-        Kind::TooLarge => first_hint(&LIMIT_HINTS, place),
-        Kind::EmptyBundle => first_hint(&BUNDLE_HINTS, place),
-        Kind::NoEnd => first_hint(&CUT_LINE_HINTS, place),
-        Kind::AfterEnd => first_hint(&BEHIND_END_HINTS, place),
-        Kind::Missing => first_hint(&CUT_FILE_HINTS, place),
-        _ => None,
-    }
-}
-
-/// The hint of the first row that fits.
-fn first_hint(rows: &[HintRow], place: &FaultPlace<'_>) -> Option<&'static str>
-    ensures { option_map (λ hint. hint.now) result ≡ first_hint rows.now (plain_place place.now) }
-{
-    let row = rows.iter().find(|row| fits(row, place))?;
-    Some(row.hint)
 }
 
 /// The rule of a kind, and what to do about its fault.

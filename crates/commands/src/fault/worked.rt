@@ -5,7 +5,8 @@ ghost use Rattle.std.specs.List.{list_all};
 ghost use Rattle.cats_text.specs.Examples.{place};
 ghost use Rattle.cats_text.specs.declared.read_fault.Kind.TheVariants.{Header, NotANumber, TooLarge, EmptyBundle};
 ghost use Rattle.cats_text.specs.declared.read_fault.Kind.TheVariants.{NoEnd, Missing, AfterEnd};
-ghost use Rattle.commands.specs.Fault.{all_rows, hint_of};
+ghost use Rattle.commands.specs.Fault.{hint_of};
+ghost use Rattle.commands.specs.Hints.{all_rows, sentence};
 
 /// Files that are packed, or not in UTF-8.
 pub fn packed_texts()
@@ -217,6 +218,6 @@ pub fn lines_and_ends()
 
 /// Each hint has at most 100 bytes, which are printable ASCII.
 pub fn short_hints()
-    ensures short { list_all (λ row. nat_le (length row.hint.now) 100) all_rows ≡ true }
-    ensures plain { list_all (λ row. list_all (λ b. nat_le 32 b && nat_le b 126) row.hint.now) all_rows ≡ true }
+    ensures short { list_all (λ row. nat_le (length (sentence row.hint)) 100) all_rows ≡ true }
+    ensures plain { list_all (λ row. list_all (λ b. nat_le 32 b && nat_le b 126) (sentence row.hint)) all_rows ≡ true }
 {}
