@@ -2,12 +2,12 @@
 -- its pieces, so a new command needs a lemma only for a piece of a new kind.
 use Rattle.cats_cmd.proofs.Common.{◌≡◌, ℕ, suc, ◌+◌, ◌/◌, ◌%◌, ◌<◌, ◌≤◌, ◌&&◌, Bool, true, false, List, [], ◌∷◌, ◌++◌, cond, arith, refl, Ok, Err, Result}
 use Rattle.cats_cmd.proofs.Common.{subst, nat_le, unwrap_or, list_all, and_parts, leb-true, nat_tests, All-take, diff_text, goods_rows, difference_text}
-use Rattle.cats_cmd.proofs.Common.{side_text, explanation_text, reason_cells, hint_of, hint_of_kind, before_word, behind_word, shown_bytes, name_of_kind, bundle_text}
+use Rattle.cats_cmd.proofs.Common.{side_text, explanation_text, reason_cells, hint_of_kind, before_word, behind_word, shown_bytes, name_of_kind, bundle_text}
 use Rattle.cats_cmd.proofs.Common.{list_cell, number_cell, price_cell, Outcome, Prints, diff_outcome, outcome_of_difference, outcome_of_verdict, outcome_unless}
 use Rattle.cats_cmd.proofs.Common.{text_unless_refused, value_text, PlainBid, PlainFile, Difference, NoDifference, Side, Exactly, PlainPlace, behind_point}
 use Rattle.cats_cmd.proofs.Common.{bids_text, digit_at, places_text, six_digits, with_place, without_zeros, Kind, PlainDifferences, PlainReason, Zero}
 use Rattle.cats_cmd.proofs.Common.{allocation_text, AllocationVerdict, Revenue, PlainRow, if_none, AreBytes, escaped, text_of_place, outcome_by, outcome_of}
-use Rattle.cats_cmd.proofs.Common.{PlainRequest, Hint, first_hint, option_map_or, rows_of, sentence}
+use Rattle.cats_cmd.proofs.Common.{PlainRequest, Hint, first_hint, hint_of, option_map_or, rows_of, sentence}
 use Rattle.cats_cmd.proofs.Common.{Task, append_assoc, codes, decimal, Option, Some, None}
 use Rattle.cats_text.specs.declared.read_fault.Kind.TheVariants as kinds
 use Rattle.commands.specs.declared.fault.rows.Hint.TheVariants as hints

@@ -1,6 +1,6 @@
 -- Hints of `cats fault` by what stands at a place, by the tables of `src/fault/tables.rt`.
 use Rattle.std.specs.Prelude.{ℕ, ◌==◌, nat_eq, nat_le, Bool, true, ◌&&◌, List, [], ◌∷◌, ◌++◌, length, drop, find}
-use Rattle.std.specs.Prelude.{Option, codes, option_map}
+use Rattle.std.specs.Prelude.{Option, codes, nat_lt, option_map}
 use Rattle.std.specs.Char.{is_ascii_alphabetic}
 use Rattle.std.specs.List.{list_any, starts_with, ends_with}
 use Rattle.std.specs.Str.{bytes_eq}
@@ -145,7 +145,7 @@ passes w (test.Is it) = is_among w it
 passes w (test.Begins it) = begins_by w it
 passes w (test.Ends it) = ends_by w it
 passes w (test.Has it) = has_some w it
-passes w test.Tar = starts_with nat_eq (drop 99 w) (0 ∷ 48 ∷ 48 ∷ 48 ∷ [])
+passes w test.Tar = nat_lt 99 (length w) && starts_with nat_eq (drop 99 w) (0 ∷ 48 ∷ 48 ∷ 48 ∷ [])
 passes w test.Letter = list_any is_ascii_alphabetic w
 passes w test.Other = list_any (λ b. nat_le 128 b) w
 passes w test.Number = digits_alone w

@@ -9,8 +9,10 @@ ghost use Rattle.commands.specs.declared.fault.tables.TheConstants.{BEHIND_END_H
 
 use super::fitting::fits;
 use super::rows::{Hint, HintRow};
-use super::tables::{BEHIND_END_HINTS, BUNDLE_HINTS, CUT_FILE_HINTS, CUT_LINE_HINTS};
-use super::tables::{HEADER_HINTS, LIMIT_HINTS, NUMBER_HINTS};
+use super::tables::{
+    BEHIND_END_HINTS, BUNDLE_HINTS, CUT_FILE_HINTS, CUT_LINE_HINTS, HEADER_HINTS, LIMIT_HINTS,
+    NUMBER_HINTS,
+};
 use cats_text::Kind;
 use cats_text::fault_place::FaultPlace;
 

@@ -1,6 +1,6 @@
 //! Whether a row of hints fits a place.
 
-ghost use Rattle.std.specs.Prelude.{◌≡◌, ◌==◌, [], ◌∷◌, drop, nat_eq, nat_le};
+ghost use Rattle.std.specs.Prelude.{◌≡◌, ◌==◌, ◌&&◌, [], ◌∷◌, drop, length, nat_eq, nat_le, nat_lt};
 ghost use Rattle.std.specs.Char.{is_ascii_alphabetic};
 ghost use Rattle.std.specs.List.{ends_with, list_any, starts_with};
 ghost use Rattle.std.specs.Str.{bytes_eq};
@@ -62,12 +62,51 @@ fn is_among(word: &[u8], it: Words) -> bool
     match it {
         Words::JsonList => is_one_of(word, &[b"["]),
         Words::Pointer => is_one_of(word, &[b"version"]),
-        Words::LinearProgram => is_one_of(word, &[b"Maximize", b"maximize", b"MAXIMIZE", b"Minimize", b"minimize", b"MINIMIZE", b"Max", b"max", b"Min", b"min"]),
+        Words::LinearProgram => is_one_of(
+            word,
+            &[
+                b"Maximize",
+                b"maximize",
+                b"MAXIMIZE",
+                b"Minimize",
+                b"minimize",
+                b"MINIMIZE",
+                b"Max",
+                b"max",
+                b"Min",
+                b"min",
+            ],
+        ),
         Words::Mps => is_one_of(word, &[b"NAME", b"ROWS", b"OBJSENSE"]),
         Words::Keyword => is_one_of(word, &[b"goods", b"bids", b"dummy"]),
-        Words::Capital => is_one_of(word, &[b"Goods", b"Bids", b"Dummy", b"GOODS", b"BIDS", b"DUMMY"]),
-        Words::NotFinite => is_one_of(word, &[b"nan", b"NaN", b"NAN", b"-nan", b"inf", b"Inf", b"INF", b"+inf", b"-inf", b"Infinity", b"-Infinity", b"infinity"]),
-        Words::Missing => is_one_of(word, &[b"NA", b"N/A", b"na", b"n/a", b"null", b"NULL", b"None", b"none", b"nil", b"-", b"?"]),
+        Words::Capital => is_one_of(
+            word,
+            &[b"Goods", b"Bids", b"Dummy", b"GOODS", b"BIDS", b"DUMMY"],
+        ),
+        Words::NotFinite => is_one_of(
+            word,
+            &[
+                b"nan",
+                b"NaN",
+                b"NAN",
+                b"-nan",
+                b"inf",
+                b"Inf",
+                b"INF",
+                b"+inf",
+                b"-inf",
+                b"Infinity",
+                b"-Infinity",
+                b"infinity",
+            ],
+        ),
+        Words::Missing => is_one_of(
+            word,
+            &[
+                b"NA", b"N/A", b"na", b"n/a", b"null", b"NULL", b"None", b"none", b"nil", b"-",
+                b"?",
+            ],
+        ),
         Words::NoPrice => is_one_of(word, &[b"#"]),
         Words::MinusOne => is_one_of(word, &[b"-1"]),
     }
@@ -86,13 +125,22 @@ fn begins_by(word: &[u8], it: Starts) -> bool
         Starts::Wide => begins_with_one(word, &[b"\xff\xfe", b"\xfe\xff"]),
         Starts::WideLittle => begins_with_one(word, &[b"g\x00"]),
         Starts::WideBig => begins_with_one(word, &[b"\x00g"]),
-        Starts::Conflict => begins_with_one(word, &[b"<<<<<<<", b"|||||||", b"=======", b">>>>>>>"]),
+        Starts::Conflict => begins_with_one(
+            word,
+            &[b"<<<<<<<", b"|||||||", b"=======", b">>>>>>>"],
+        ),
         Starts::RichText => begins_with_one(word, &[b"{\x5crtf"]),
         Starts::Json => begins_with_one(word, &[b"{", b"[{", b"[[", b"[\x22", b"[0", b"[1"]),
         Starts::Page => begins_with_one(word, &[b"<"]),
         Starts::Answer => begins_with_one(word, &[b"HTTP/", b"404:", b"403:", b"500:"]),
         Starts::CommentedProgram => begins_with_one(word, &[b"\x5c", b"max:", b"min:"]),
-        Starts::Keyword => begins_with_one(word, &[b"goods", b"bids", b"dummy", b"Goods", b"Bids", b"Dummy", b"GOODS", b"BIDS", b"DUMMY"]),
+        Starts::Keyword => begins_with_one(
+            word,
+            &[
+                b"goods", b"bids", b"dummy", b"Goods", b"Bids", b"Dummy", b"GOODS", b"BIDS",
+                b"DUMMY",
+            ],
+        ),
         Starts::Comment => begins_with_one(word, &[b"#", b"//", b";", b"--", b"/*"]),
         Starts::Quote => begins_with_one(word, &[b"\x22", b"'"]),
         Starts::CommentBehind => begins_with_one(word, &[b"%", b"#", b"//", b";"]),
@@ -102,7 +150,18 @@ fn begins_by(word: &[u8], it: Starts) -> bool
         Starts::RemarkToo => begins_with_one(word, &[b"#"]),
         Starts::Hexadecimal => begins_with_one(word, &[b"0x", b"0X"]),
         Starts::Sign => begins_with_one(word, &[b"-", b"+", b"\xe2\x88\x92", b"\xe2\x80\x93"]),
-        Starts::Currency => begins_with_one(word, &[b"$", b"\xe2\x82\xac", b"\xc2\xa3", b"\xc2\xa5", b"\xa3", b"\xa5", b"\x80"]),
+        Starts::Currency => begins_with_one(
+            word,
+            &[
+                b"$",
+                b"\xe2\x82\xac",
+                b"\xc2\xa3",
+                b"\xc2\xa5",
+                b"\xa3",
+                b"\xa5",
+                b"\x80",
+            ],
+        ),
         Starts::Bracket => begins_with_one(word, &[b"{", b"[", b"("]),
     }
 }
@@ -112,7 +171,18 @@ fn ends_by(word: &[u8], it: Ends) -> bool
 {
     match it {
         Ends::NoBlank => ends_with_one(word, &[b"#"]),
-        Ends::Currency => ends_with_one(word, &[b"$", b"\xe2\x82\xac", b"\xc2\xa3", b"\xc2\xa5", b"\xa3", b"\xa5", b"\x80"]),
+        Ends::Currency => ends_with_one(
+            word,
+            &[
+                b"$",
+                b"\xe2\x82\xac",
+                b"\xc2\xa3",
+                b"\xc2\xa5",
+                b"\xa3",
+                b"\xa5",
+                b"\x80",
+            ],
+        ),
         Ends::BracketBehind => ends_with_one(word, &[b"}", b"]", b")"]),
     }
 }
@@ -122,7 +192,10 @@ fn has_some(word: &[u8], it: Bytes) -> bool
 {
     match it {
         Bytes::Table => has_one(word, b",;"),
-        Bytes::Control => has_one(word, b"\x00\x01\x02\x03\x04\x05\x06\x07\x08\x0b\x0c\x0e\x0f\x10\x11\x12\x13\x14\x15\x16\x17\x18\x19\x1a\x1b\x1c\x1d\x1e\x1f\x7f"),
+        Bytes::Control => has_one(
+            word,
+            b"\x00\x01\x02\x03\x04\x05\x06\x07\x08\x0b\x0c\x0e\x0f\x10\x11\x12\x13\x14\x15\x16\x17\x18\x19\x1a\x1b\x1c\x1d\x1e\x1f\x7f",
+        ),
         Bytes::Zeros => has_one(word, b"\x00"),
         Bytes::Returns => has_one(word, b"\x0d"),
         Bytes::Commas => has_one(word, b","),
@@ -134,9 +207,9 @@ fn has_some(word: &[u8], it: Bytes) -> bool
 
 /// Whether behind 99 bytes a zero and three digits 0 are, as in the first word of a tar archive.
 fn is_tar(word: &[u8]) -> bool
-    ensures { result ≡ starts_with nat_eq (drop 99 word.now) (0 ∷ 48 ∷ 48 ∷ 48 ∷ []) }
+    ensures { result ≡ (nat_lt 99 (length word.now) && starts_with nat_eq (drop 99 word.now) (0 ∷ 48 ∷ 48 ∷ 48 ∷ [])) }
 {
-    word[word.len().min(99)..].starts_with(b"\x00000")
+    99 < word.len() && word[99..].starts_with(b"\x00000")
 }
 
 fn has_letter(word: &[u8]) -> bool

@@ -1,5 +1,5 @@
-//! The tables of hints. The code and the definitions read them, one for each kind of fault whose hint depends on the place. The
-//! first row that fits has the hint.
+//! The tables of hints. The code and the definitions read them, one for each kind of fault whose hint depends on the
+//! place. The first row that fits has the hint.
 
 use super::rows::{At, Bytes, Ends, Hint, HintRow, Starts, Test, Words};
 
@@ -406,22 +406,18 @@ pub const LIMIT_HINTS: [HintRow; 4] = [
 ];
 
 /// Of a bid without a real good.
-pub const BUNDLE_HINTS: [HintRow; 1] = [
-    HintRow {
-        at: At::BehindFirstGood,
-        test: Test::Any,
-        hint: Hint::DummyAlone,
-    },
-];
+pub const BUNDLE_HINTS: [HintRow; 1] = [HintRow {
+    at: At::BehindFirstGood,
+    test: Test::Any,
+    hint: Hint::DummyAlone,
+}];
 
 /// Of a line without `#`. None says to write it, since the line may be cut.
-pub const CUT_LINE_HINTS: [HintRow; 1] = [
-    HintRow {
-        at: At::CutBid,
-        test: Test::Any,
-        hint: Hint::NoGoods,
-    },
-];
+pub const CUT_LINE_HINTS: [HintRow; 1] = [HintRow {
+    at: At::CutBid,
+    test: Test::Any,
+    hint: Hint::NoGoods,
+}];
 
 /// Of a file that ends too early.
 pub const CUT_FILE_HINTS: [HintRow; 2] = [
