@@ -1,0 +1,7 @@
+-- Proofs that several functions of this crate cite.
+pub mod Numberings
+pub mod Bundles
+pub mod FirstWrong
+pub mod Values
+pub mod Auctions
+pub mod Sameness

@@ -1,0 +1,4 @@
+-- What the contracts of this crate cite.
+pub mod Renumbering
+pub mod SameUpToNumbers
+pub mod Refusals

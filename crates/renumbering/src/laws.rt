@@ -1,0 +1,58 @@
+//! What is promised, over the definitions alone.
+
+ghost use Rattle.std.specs.Prelude.{◌≡◌, ℕ, List};
+ghost use Rattle.bid_file.specs.Files.{IsPlainFile, PlainFile};
+ghost use Rattle.valuation.specs.Auctions.{IsAuction, PlainAuction, auction_from};
+ghost use Rattle.valuation.specs.Values.{or_value, xor_value};
+ghost use Rattle.valuation.specs.declared.atom.Atom.{Atom};
+ghost use Rattle.canon.specs.Sameness.{IsSameAuction};
+ghost use Rattle.renumbering.specs.Refusals.{IsFirstWrong};
+ghost use Rattle.renumbering.specs.Renumbering.{IsNumbering, renumbered, renumbered_atoms, renumbered_bundle};
+ghost use Rattle.renumbering.specs.Renumbering.{renumbered_file};
+ghost use Rattle.renumbering.specs.SameUpToNumbers.{IsSameUpToNumbers};
+
+/// To be the same auction up to the numbers of goods is an equivalence.
+pub fn sameness_up_to_numbers_is_an_equivalence()
+    ensures reflexive { (cap : ℕ) (a : PlainAuction) → IsAuction cap a → IsSameUpToNumbers a a }
+    ensures symmetric { (cap : ℕ) (a b : PlainAuction) → IsAuction cap a → IsAuction cap b → IsSameUpToNumbers a b
+        → IsSameUpToNumbers b a }
+    ensures transitive { (cap : ℕ) (a b c : PlainAuction) → IsAuction cap a → IsAuction cap b → IsSameUpToNumbers a b
+        → IsSameUpToNumbers b c → IsSameUpToNumbers a c }
+{}
+
+/// Auctions that are the same are the same up to numbers, and are the same if the goods of both are numbered anew alike. An
+/// auction is the same up to numbers as itself with its goods numbered anew.
+pub fn same_auctions_are_the_same_up_to_numbers()
+    ensures same { (cap : ℕ) (a b : PlainAuction) → IsAuction cap a → IsSameAuction a b → IsSameUpToNumbers a b }
+    ensures alike { (cap : ℕ) (numbering : List ℕ) (a b : PlainAuction) → IsAuction cap a → IsAuction cap b
+        → IsNumbering a.goods numbering → IsSameAuction a b
+        → IsSameAuction (renumbered numbering a) (renumbered numbering b) }
+    ensures renumbered { (numbering : List ℕ) (a : PlainAuction) → IsNumbering a.goods numbering
+        → IsSameUpToNumbers a (renumbered numbering a) }
+{}
+
+/// What bids offer for a bundle does not depend on the numbers of the goods.
+pub fn values_are_kept()
+    ensures or { (goods : ℕ) (numbering : List ℕ) (atoms : List (Atom (List ℕ))) (bundle : List ℕ)
+        → IsNumbering goods numbering
+        → or_value (renumbered_atoms numbering atoms) (renumbered_bundle numbering bundle) ≡ or_value atoms bundle }
+    ensures xor { (goods : ℕ) (numbering : List ℕ) (atoms : List (Atom (List ℕ))) (bundle : List ℕ)
+        → IsNumbering goods numbering
+        → xor_value (renumbered_atoms numbering atoms) (renumbered_bundle numbering bundle) ≡ xor_value atoms bundle }
+{}
+
+/// An auction and a file keep their limits under other numbers, and the auction of the file is the renumbered one.
+pub fn files_are_renumbered()
+    ensures auction_limits { (cap : ℕ) (numbering : List ℕ) (a : PlainAuction) → IsNumbering a.goods numbering
+        → IsAuction cap a → IsAuction cap (renumbered numbering a) }
+    ensures file_limits { (numbering : List ℕ) (f : PlainFile) → IsNumbering f.goods numbering → IsPlainFile f
+        → IsPlainFile (renumbered_file numbering f) }
+    ensures auction { (numbering : List ℕ) (f : PlainFile) → auction_from (renumbered_file numbering f)
+        ≡ renumbered numbering (auction_from f) }
+{}
+
+/// A numbering is wrong at no index, and another list at one.
+pub fn lists_have_one_first_wrong_index()
+    ensures none { (goods index : ℕ) (numbers : List ℕ) → IsNumbering goods numbers → IsFirstWrong goods numbers index → ⊥ }
+    ensures one { (goods i j : ℕ) (numbers : List ℕ) → IsFirstWrong goods numbers i → IsFirstWrong goods numbers j → i ≡ j }
+{}
