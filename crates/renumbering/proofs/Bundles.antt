@@ -1,20 +1,20 @@
 -- Bundles under other numbers.
-use Rattle.std.proofs.Common.{rules, ◌≡◌, ◌≢◌, ℕ, ◌<◌, ◌≤◌, ◌⊎◌, ⊎_elim, Bool, true, false, ◌&&◌, cond, eqb, List, [], ◌∷◌, length, map, refl, sym, ap, ◌∙◌, subst}
+use Rattle.std.proofs.Common.{rules, ◌≡◌, ◌≢◌, ℕ, ◌<◌, ◌≤◌, ◌⊎◌, ⊎_elim, Bool, true, false, ◌&&◌, cond, eqb, List, [], ◌∷◌, length, map, take, refl, sym, ap, ◌∙◌, subst}
 use Rattle.std.proofs.Common.{arith, nat_cmp}
-use Rattle.std.specs.Prelude.{IsPermutation}
+use Rattle.std.specs.Prelude.{IsPermutation, IsSorted}
 use Rattle.std.specs.List.{range_with_len, list_all, AllByRecursion}
 use Rattle.std.specs.Ordering.{is_eq, is_gt}
 use Rattle.std.proofs.Math.Path.{fun_ext}
 use Rattle.std.proofs.lemmas.Bool.{eq-eqb, ne_eqb, cases_lt, cases_eq, cases_Bool}
 use Rattle.std.proofs.lemmas.Cmp.{nat_cmp_total}
-use Rattle.std.proofs.lemmas.List.{length-map, map-id}
+use Rattle.std.proofs.lemmas.List.{length-map, map-id, take_all}
 use Rattle.std.proofs.lemmas.List.Sorted.{IsPermutation-map, IsPermutation-sym, length_permutation, list_any-IsPermutation, sum_by-IsPermutation}
 use Rattle.std.proofs.lemmas.Map.Lookups.{exact_unsigned}
 use Rattle.std.proofs.lemmas.Simd.{map-map}
 use Rattle.goods_set.specs.Bundles.{AreAbove, AreBelow, IsBundle, IsRising, has_good}
 use Rattle.goods_set.specs.Lemmas.Members.{AreAbove-from_has, AreAbove-lower, AreBelow-from_has, has_above, has_below, has_cases, has_head, has_not_head, same_from_has}
 use Rattle.goods_set.specs.Lemmas.Orders.{nat_cmp-lt, nat_cmp-gt, nat_cmp-refl}
-use Rattle.valuation.specs.Lemmas.Sorting.{permutation-sort_by, sort_by-same}
+use Rattle.valuation.specs.Lemmas.Sorting.{permutation-sort_by, sort_by-same, sorted_is_sort_by}
 use Rattle.valuation.specs.Sorting.{insert_by, sort_by}
 use Rattle.renumbering.specs.Renumbering.{IsNumbering, number_in, renumbered_bundle}
 use Rattle.renumbering.proofs.Numberings.{inverse, inverse_numbers, joined, number_below, number_in-joined, number_in-range, numbers_differ, back_and_there, there_and_back}
@@ -99,3 +99,10 @@ module _ (n : ℕ) (p : List ℕ) (numbers : IsNumbering n p) where
       (IsPermutation-map (number_in q) moved (sort_by nat_cmp moved) (permutation-sort_by nat_cmp moved))
       ∙ ap (sort_by nat_cmp) (map-map (number_in q) (number_in p) bundle)
       ∙ ap (λ (f : ℕ → ℕ). sort_by nat_cmp (map f bundle)) (fun_ext (λ g. sym (number_in-joined n p numbers q then g)))
+
+-- the new numbers of all goods, put in order in any way
+pub bundle_in_order : (p goods moved sorted : List ℕ) (k : ℕ) → length goods ≤ k → moved ≡ map (number_in p) (take k goods) → IsPermutation moved sorted
+    → IsSorted nat_cmp sorted → sorted ≡ renumbered_bundle p goods
+bundle_in_order p goods moved sorted k l e moves up =
+    sorted_is_sort_by nat_cmp nat_cmp_total exact_unsigned moved sorted moves up
+    ∙ ap (sort_by nat_cmp) (e ∙ ap (map (number_in p)) (take_all k goods l))

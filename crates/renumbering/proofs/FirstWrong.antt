@@ -10,6 +10,7 @@ use Rattle.std.proofs.lemmas.List.Elements.{All-contains}
 use Rattle.std.proofs.lemmas.List.Sorted.{IsPermutation-sym}
 use Rattle.std.proofs.lemmas.Option.{slice_get-get_or, slice_get_past}
 use Rattle.goods_set.specs.Bundles.{AreAbove, AreBelow, IsRising, has_good}
+use Rattle.goods_set.specs.Lemmas.AllBundles.{length_bundle}
 use Rattle.goods_set.specs.Lemmas.Members.{AreBelow-from_has, has_above, has_head}
 use Rattle.valuation.specs.Lemmas.Lists.{AllPairs-head, AllPairs-tail}
 use Rattle.valuation.specs.Lemmas.Sorting.{permutation-sort_by}
@@ -62,6 +63,12 @@ numbering_from_numbers goods numbers h e =
     full goods 0 sorted (rising-sorted numbers h.distinct) (subst (λ (b : ℕ). AreBelow b sorted) whole (below-sorted goods numbers h.below)) (λ g k. omega arith) (length-sort_by numbers ∙ e) in
     subst (λ (xs : List ℕ). IsPermutation xs numbers) all (IsPermutation-sym numbers sorted (permutation-sort_by nat_cmp numbers))
 
+-- no more numbers than goods
+pub no_more_numbers : (goods : ℕ) (numbers : List ℕ) → AreNumbers goods numbers → length numbers ≤ goods
+no_more_numbers goods numbers h =
+    subst (λ (k : ℕ). k ≤ goods) (length-sort_by numbers)
+    (length_bundle goods (sort_by nat_cmp numbers) (rising-sorted numbers h.distinct, below-sorted goods numbers h.below))
+
 -- ---- where a list is wrong
 
 pub numbers_from_numbering : (goods : ℕ) (numbers : List ℕ) → IsNumbering goods numbers → AreNumbers goods numbers
@@ -102,11 +109,3 @@ pub one_wrong_index : (goods i j : ℕ) (numbers : List ℕ) → IsFirstWrong go
 one_wrong_index goods i j numbers one other =
     ⊎_elim (λ (l : i < j). absurd (earlier_wrong goods i j numbers l one other))
     (λ (m : j ≤ i). ⊎_elim (λ (l : j < i). absurd (earlier_wrong goods j i numbers l other one)) (λ (n : i ≤ j). omega arith) (cases_lt j i)) (cases_lt i j)
-
--- ---- numbers found so far
-
--- the numbers are of goods, each once, and the marks of just these goods are set
-pub record AreTaken (goods : ℕ) (numbers : List ℕ) (marks : List Bool) : Type 0 where
-  pub length : length marks ≡ goods
-  pub right : AreNumbers goods numbers
-  pub marked : (g : ℕ) (d : Bool) → g < goods → get_or marks g d ≡ has_good numbers g

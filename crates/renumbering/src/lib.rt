@@ -1,7 +1,9 @@
 //! The same auction up to the numbers of its goods.
 #![tactic(auto)]
 
+mod files;
 pub mod laws;
 mod renumber_fault;
 
+pub use files::renumber;
 pub use renumber_fault::RenumberFault;
