@@ -4,18 +4,19 @@ use Rattle.std.proofs.Common.{rules, ◌≡◌, ◌≢◌, ℕ, zero, suc, ◌+�
 use Rattle.std.proofs.Common.{◌∙◌, subst, arith, nat_cmp}
 use Rattle.std.specs.Prelude.{All, AllPairs, Contains, IsPermutation}
 use Rattle.std.specs.List.{range_with_len, slice_get}
-use Rattle.std.proofs.lemmas.Bool.{cases_lt, false_from_ne_true}
+use Rattle.std.proofs.lemmas.Bool.{both_ways, cases_lt, false_from_ne_true}
 use Rattle.std.proofs.lemmas.List.{get_or-take, get_or_default, length-take-le, take-take}
-use Rattle.std.proofs.lemmas.List.Elements.{All-contains}
+use Rattle.std.proofs.lemmas.List.Elements.{All-contains, All-from_recursion}
 use Rattle.std.proofs.lemmas.List.Sorted.{IsPermutation-sym}
 use Rattle.std.proofs.lemmas.Option.{slice_get-get_or, slice_get_past}
 use Rattle.goods_set.specs.Bundles.{AreAbove, AreBelow, IsRising, has_good}
 use Rattle.goods_set.specs.Lemmas.AllBundles.{length_bundle}
 use Rattle.goods_set.specs.Lemmas.Members.{AreBelow-from_has, has_above, has_head}
-use Rattle.valuation.specs.Lemmas.Lists.{AllPairs-head, AllPairs-tail}
+use Rattle.valuation.specs.Lemmas.Lists.{AllPairs-cons, AllPairs-head, AllPairs-nil, AllPairs-tail}
 use Rattle.valuation.specs.Lemmas.Sorting.{permutation-sort_by}
 use Rattle.valuation.specs.Sorting.{sort_by}
-use Rattle.prune.specs.Lemmas.KeptBids.{contains_from_has}
+use Rattle.prune.specs.Lemmas.KeptBids.{contains_from_has, has_from_contains}
+use Rattle.prune.specs.Lemmas.Lists.{All-from_Contains}
 use Rattle.renumbering.specs.Refusals.{AreNumbers, IsFirstWrong, IsWrongBehind}
 use Rattle.renumbering.specs.Renumbering.{IsNumbering}
 use Rattle.renumbering.proofs.Bundles.{has-sort_by, length-sort_by, rising-insert_by}
@@ -54,6 +55,25 @@ rising-sorted (x ∷ xs) d =
 below-sorted : (goods : ℕ) (xs : List ℕ) → All (λ x. x < goods) xs → AreBelow goods (sort_by nat_cmp xs)
 below-sorted goods xs h =
     AreBelow-from_has goods (sort_by nat_cmp xs) (λ g k. All-contains (λ x. x < goods) xs g h (contains_from_has xs g (sym (has-sort_by xs g) ∙ k)))
+
+-- no number is there again
+abbrev pub Differ : List ℕ → Type 0
+Differ [] = Unit {0}
+Differ (x ∷ xs) = (has_good xs x ≡ false) × Differ xs
+
+pairs_from_tests : (numbers : List ℕ) → Differ numbers → AllPairs (λ x y. x ≢ y) numbers
+pairs_from_tests [] h = AllPairs-nil (λ x y. x ≢ y)
+pairs_from_tests (x ∷ xs) h =
+    AllPairs-cons (λ x y. x ≢ y) x xs
+    (All-from_Contains (λ y. x ≢ y) xs (λ y c e. both_ways (has_good xs x) h.0 (subst (λ z. has_good xs z ≡ true) (sym e) (has_from_contains xs y c))))
+    (pairs_from_tests xs h.1)
+
+-- numbers by tests that compute
+pub numbers_from_tests : (goods : ℕ) (numbers : List ℕ) → AreBelow goods numbers → Differ numbers → AreNumbers goods numbers
+numbers_from_tests goods numbers below differ = record {
+  below = All-from_recursion (λ x. x < goods) numbers below;
+  distinct = pairs_from_tests numbers differ;
+}
 
 pub numbering_from_numbers : (goods : ℕ) (numbers : List ℕ) → AreNumbers goods numbers → length numbers ≡ goods → IsNumbering goods numbers
 numbering_from_numbers goods numbers h e =

@@ -4,6 +4,7 @@
 mod files;
 pub mod laws;
 mod renumber_fault;
+pub mod worked;
 
 pub use files::renumber;
 pub use renumber_fault::RenumberFault;
