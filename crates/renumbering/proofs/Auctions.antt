@@ -17,13 +17,13 @@ use Rattle.renumbering.proofs.Bundles.{IsBundle-renumbered, length-renumbered_bu
 use Rattle.renumbering.proofs.Numberings.{joined}
 
 -- auctions with the same bids
-abbrev with_bids : ℕ → List (Atom (List ℕ)) → List (List (Atom (List ℕ))) → PlainAuction
+abbrev pub with_bids : ℕ → List (Atom (List ℕ)) → List (List (Atom (List ℕ))) → PlainAuction
 with_bids goods o x = record { goods = goods; or_atoms = o; xor_bidders = x }
 
-auction_alike : (goods : ℕ) (o p : List (Atom (List ℕ))) (x y : List (List (Atom (List ℕ)))) → o ≡ p → x ≡ y → with_bids goods o x ≡ with_bids goods p y
+pub auction_alike : (goods : ℕ) (o p : List (Atom (List ℕ))) (x y : List (List (Atom (List ℕ)))) → o ≡ p → x ≡ y → with_bids goods o x ≡ with_bids goods p y
 auction_alike goods o p x y e f = ap₂ (with_bids goods) e f
 
-map_itself : {X : Type 0} (f : X → X) (xs : List X) → All (λ x. f x ≡ x) xs → map f xs ≡ xs
+pub map_itself : {X : Type 0} (f : X → X) (xs : List X) → All (λ x. f x ≡ x) xs → map f xs ≡ xs
 map_itself f xs h = map_same_on f (λ x. x) xs h ∙ map-id xs
 
 -- ---- the range of all goods

@@ -100,6 +100,16 @@ module _ (n : ℕ) (p : List ℕ) (numbers : IsNumbering n p) where
       ∙ ap (sort_by nat_cmp) (map-map (number_in q) (number_in p) bundle)
       ∙ ap (λ (f : ℕ → ℕ). sort_by nat_cmp (map f bundle)) (fun_ext (λ g. sym (number_in-joined n p numbers q then g)))
 
+-- numbered back
+pub bundle_back : (p q bundle : List ℕ) → ((g : ℕ) → number_in q (number_in p g) ≡ g) → IsRising bundle
+    → renumbered_bundle q (renumbered_bundle p bundle) ≡ bundle
+bundle_back p q bundle back r =
+    let moved = map (number_in p) bundle in
+    sorted_alike (map (number_in q) moved) (map (number_in q) (sort_by nat_cmp moved))
+    (IsPermutation-map (number_in q) moved (sort_by nat_cmp moved) (permutation-sort_by nat_cmp moved))
+    ∙ ap (sort_by nat_cmp) (map-map (number_in q) (number_in p) bundle)
+    ∙ ap (λ (f : ℕ → ℕ). sort_by nat_cmp (map f bundle)) (fun_ext back) ∙ ap (sort_by nat_cmp) (map-id bundle) ∙ sort_by-rising bundle r
+
 -- the new numbers of all goods, put in order in any way
 pub bundle_in_order : (p goods moved sorted : List ℕ) (k : ℕ) → length goods ≤ k → moved ≡ map (number_in p) (take k goods) → IsPermutation moved sorted
     → IsSorted nat_cmp sorted → sorted ≡ renumbered_bundle p goods

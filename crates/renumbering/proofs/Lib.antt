@@ -5,5 +5,16 @@ pub mod FirstWrong
 pub mod Taken
 pub mod Values
 pub mod Auctions
+pub mod Members
+pub mod Points
+pub mod Images
+pub mod Rounds
+pub mod Counts
+pub mod Places
+pub mod WholeCells
+pub mod Leaves
+pub mod Steps
+pub mod CanonicalNumbers
+pub mod Headline
 pub mod Bids
 pub mod Sameness

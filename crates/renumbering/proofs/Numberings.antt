@@ -131,8 +131,8 @@ module _ (n : ℕ) (p : List ℕ) (numbers : IsNumbering n p) where
         get_or_past (joined p q) g g (subst (λ (k : ℕ). k ≤ g) (sym (length-map p (number_in q) ∙ length-numbering n p numbers)) m)
         ∙ sym (ap (number_in q) (number_kept n p numbers g m) ∙ number_kept n q then g m)) (cases_lt g n)
 
-    whole : map (number_in q) (range_with_len 0 n) ≡ q
-    whole =
+    pub numbers_of_range : map (number_in q) (range_with_len 0 n) ≡ q
+    numbers_of_range =
         ext_get_or 0 (map (number_in q) (range_with_len 0 n)) q
         (length-map (range_with_len 0 n) (number_in q) ∙ length-range_with_len 0 n ∙ sym (length-numbering n q then))
         (λ i l.
@@ -143,4 +143,4 @@ module _ (n : ℕ) (p : List ℕ) (numbers : IsNumbering n p) where
     pub joined_numbers : IsNumbering n (joined p q)
     joined_numbers =
         IsPermutation-trans (range_with_len 0 n) q (joined p q) then
-        (subst (λ (xs : List ℕ). IsPermutation xs (joined p q)) whole (IsPermutation-map (number_in q) (range_with_len 0 n) p numbers))
+        (subst (λ (xs : List ℕ). IsPermutation xs (joined p q)) numbers_of_range (IsPermutation-map (number_in q) (range_with_len 0 n) p numbers))

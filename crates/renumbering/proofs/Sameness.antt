@@ -68,7 +68,7 @@ module _ (n : ℕ) (p : List ℕ) (numbers : IsNumbering n p) where
       ∙ sym (xor_value-hit n p numbers (xor_points n atoms) (before bundle) bundle (hits-before bundle)))
 
   -- a bidder that offers nothing offers nothing under other numbers
-  zero-renumbered : (atoms : List (Atom (List ℕ))) → All (IsAtom n) atoms → is_nonzero (xor_table atoms n) ≡ false
+  pub zero-renumbered : (atoms : List (Atom (List ℕ))) → All (IsAtom n) atoms → is_nonzero (xor_table atoms n) ≡ false
       → is_nonzero (xor_table (renumbered_atoms p atoms) n) ≡ false
   zero-renumbered atoms h z =
       let on = on_bundles n atoms h in
@@ -133,7 +133,7 @@ module _ (p : List ℕ) where
       (subst (λ (c : PlainAuction). IsSameAuction (renumbered p c) (renumbered p b)) (sym (same_canonical a b h k s))
       (same_sym (renumbered p b) (renumbered p (canonical_auction b)) (canonical_renumbered b there k)))
 
-HasAtoms-renumbered : (p : List ℕ) (a : PlainAuction) → IsNumbering a.goods p → HasAtoms a → HasAtoms (renumbered p a)
+pub HasAtoms-renumbered : (p : List ℕ) (a : PlainAuction) → IsNumbering a.goods p → HasAtoms a → HasAtoms (renumbered p a)
 HasAtoms-renumbered p a numbers h = record {
   or_atoms = atoms_renumbered a.goods p numbers a.or_atoms h.or_atoms;
   xor_atoms = bidders_renumbered a.goods p numbers a.xor_bidders h.xor_atoms;

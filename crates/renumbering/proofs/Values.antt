@@ -30,8 +30,11 @@ module _ (n : ℕ) (p : List ℕ) (numbers : IsNumbering n p) where
   unfolding or_value
   or_value-hit [] bundle other hits = refl
   or_value-hit (a ∷ rest) bundle other hits =
-      rw (or_value-hit rest bundle other hits, inside-renumbered a.bundle bundle other hits,
-      or_value-hit rest (without bundle a.bundle) (without other (renumbered_bundle p a.bundle)) (without-renumbered a.bundle bundle other hits)) refl
+      rw (
+        or_value-hit rest bundle other hits,
+        inside-renumbered a.bundle bundle other hits,
+        or_value-hit rest (without bundle a.bundle) (without other (renumbered_bundle p a.bundle)) (without-renumbered a.bundle bundle other hits),
+      ) refl
 
   pub xor_value-hit : (atoms : List (Atom (List ℕ))) (bundle other : List ℕ) → Hits bundle other
       → xor_value (renumbered_atoms p atoms) other ≡ xor_value atoms bundle

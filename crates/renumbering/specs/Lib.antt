@@ -2,3 +2,8 @@
 pub mod Renumbering
 pub mod SameUpToNumbers
 pub mod Refusals
+pub mod Colours
+pub mod Cells
+pub mod Leaves
+pub mod RenumberedTexts
+pub mod Examples

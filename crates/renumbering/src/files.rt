@@ -10,7 +10,11 @@ use std::alloc::{AllocError, Global};
 
 /// The file with its goods numbered anew: the good g gets the number at index g. The bids keep their numbers, their prices
 /// and their dummy goods.
-pub fn renumber(alloc: Global, file: &PackedFile, numbering: &[u16]) -> Result<PackedFile, RenumberFault>
+pub fn renumber(
+    alloc: Global,
+    file: &PackedFile,
+    numbering: &[u16],
+) -> Result<PackedFile, RenumberFault>
     ensures file { IfOk result (λ f. f ≡ renumbered_file numbering.now file.now) }
     ensures numbering { OnOk result (IsNumbering file.now.goods numbering.now) }
     ensures refused { IfErr result (λ fault. RefusesNumbering file.now.goods numbering.now fault) }

@@ -1,15 +1,46 @@
 //! What is promised, over the definitions alone.
 
-ghost use Rattle.std.specs.Prelude.{◌≡◌, ℕ, List};
+ghost use Rattle.std.specs.Prelude.{◌≡◌, ◌↔◌, ℕ, List};
 ghost use Rattle.bid_file.specs.Files.{IsPlainFile, PlainFile};
 ghost use Rattle.valuation.specs.Auctions.{IsAuction, PlainAuction, auction_from};
 ghost use Rattle.valuation.specs.Values.{or_value, xor_value};
 ghost use Rattle.valuation.specs.declared.atom.Atom.{Atom};
+ghost use Rattle.canon.specs.Canonical.{IsCanonicalFile};
 ghost use Rattle.canon.specs.Sameness.{IsSameAuction};
 ghost use Rattle.renumbering.specs.Refusals.{IsFirstWrong};
 ghost use Rattle.renumbering.specs.Renumbering.{IsNumbering, renumbered, renumbered_atoms, renumbered_bundle};
 ghost use Rattle.renumbering.specs.Renumbering.{renumbered_file};
-ghost use Rattle.renumbering.specs.SameUpToNumbers.{IsSameUpToNumbers};
+ghost use Rattle.renumbering.specs.RenumberedTexts.{ExceedsLimitOfFile, IsRenumberedFile, IsRenumberedText};
+ghost use Rattle.renumbering.specs.SameUpToNumbers.{AreSameFilesUpToNumbers, AreSameTextsUpToNumbers, IsSameUpToNumbers};
+
+/// The headline. Two renumbered texts are equal exactly if some numbering of the goods makes the files of the texts the same
+/// auction, whatever function mixes numbers.
+pub fn equal_text_exactly_for_the_same_auction_up_to_numbers()
+    ensures equal { (mix : ℕ → ℕ → ℕ) (one other s t : List ℕ) → IsRenumberedText mix one s
+        → IsRenumberedText mix other t → (s ≡ t ↔ AreSameTextsUpToNumbers one other) }
+{}
+
+/// The renumbered file is a canonical file within the limits, and is the same auction up to numbers. Files of the same
+/// auction up to numbers have one renumbered file, which is its own.
+pub fn renumbered_file_is_canonical()
+    ensures limits { (mix : ℕ → ℕ → ℕ) (f out : PlainFile) → IsPlainFile f → IsRenumberedFile mix f out → IsPlainFile out }
+    ensures canonical { (mix : ℕ → ℕ → ℕ) (f out : PlainFile) → IsPlainFile f → IsRenumberedFile mix f out
+        → IsCanonicalFile out }
+    ensures same { (mix : ℕ → ℕ → ℕ) (f out : PlainFile) → IsPlainFile f → IsRenumberedFile mix f out
+        → AreSameFilesUpToNumbers f out }
+    ensures one { (mix : ℕ → ℕ → ℕ) (f g s t : PlainFile) → IsPlainFile f → IsPlainFile g → AreSameFilesUpToNumbers f g
+        → IsRenumberedFile mix f s → IsRenumberedFile mix g t → s ≡ t }
+    ensures of_each { (mix : ℕ → ℕ → ℕ) (f g out : PlainFile) → IsPlainFile f → IsPlainFile g
+        → AreSameFilesUpToNumbers f g → IsRenumberedFile mix f out → IsRenumberedFile mix g out }
+    ensures again { (mix : ℕ → ℕ → ℕ) (f out : PlainFile) → IsPlainFile f → IsRenumberedFile mix f out
+        → IsRenumberedFile mix out out }
+{}
+
+/// Whether the whole search of a numbering takes more steps than a limit does not depend on the numbers of the goods.
+pub fn limits_do_not_depend_on_numbers()
+    ensures { (mix : ℕ → ℕ → ℕ) (limit : ℕ) (f g : PlainFile) → IsPlainFile f → IsPlainFile g
+        → AreSameFilesUpToNumbers f g → (ExceedsLimitOfFile mix f limit ↔ ExceedsLimitOfFile mix g limit) }
+{}
 
 /// To be the same auction up to the numbers of goods is an equivalence.
 pub fn sameness_up_to_numbers_is_an_equivalence()

@@ -4,6 +4,8 @@
 mod files;
 pub mod laws;
 mod renumber_fault;
+#[cfg(test)]
+mod tests;
 pub mod worked;
 
 pub use files::renumber;
