@@ -1,11 +1,6 @@
 -- How many elements pass a test.
-use Rattle.std.proofs.Common.{rules, ◌≡◌, ℕ, suc, ◌+◌, ◌<◌, ◌≤◌, ⊎_elim, Bool, true, false, ◌&&◌, cond, List, [], ◌∷◌, length, refl, sym, ap, ◌∙◌, subst, arith}
-use Rattle.std.specs.Prelude.{Contains}
-use Rattle.std.specs.List.{count_by, filter, sum_by}
-use Rattle.std.proofs.lemmas.Bool.{both_ways, cases_Bool}
-use Rattle.std.proofs.lemmas.List.Sums.{sum_by-cons, sum_by-le-sum_by}
-use Rattle.valuation.specs.Lemmas.Lists.{Contains-cons_cases}
-use Rattle.prune.specs.Lemmas.Lists.{Contains-nil}
+use Rattle.renumbering.proofs.Common.{ap, arith, Bool, cases_Bool, cond, Contains, Contains-cons_cases, Contains-nil, count_by, false, filter, length}
+use Rattle.renumbering.proofs.Common.{List, refl, subst, sum_by-cons, sum_by-le-sum_by, sym, true, ℕ, [], ⊎_elim, ◌&&◌, ◌+◌, ◌<◌, ◌∙◌, ◌∷◌, ◌≡◌, ◌≤◌}
 
 below_one : (b d : Bool) → (b ≡ true → d ≡ true) → cond {A = ℕ} b 1 0 ≤ cond {A = ℕ} d 1 0
 below_one true d h = subst (λ (e : Bool). 1 ≤ cond {A = ℕ} e 1 0) (sym (h refl)) (omega arith)

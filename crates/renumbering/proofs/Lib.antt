@@ -1,4 +1,5 @@
 -- Proofs that several functions of this crate cite.
+pub mod Common
 pub mod Numberings
 pub mod Bundles
 pub mod FirstWrong

@@ -1,6 +1,7 @@
--- Cells: goods of one colour. A point cuts a cell if it has some of its goods and not all. Where no cell is cut, goods of one colour always go
--- together, so that their numbers may be exchanged.
-use Rattle.std.specs.Prelude.{ℕ, ◌+◌, ◌==◌, nat_lt, Bool, true, false, cond, List, [], ◌∷◌, map, Option, Some, None, slice_index}
+-- Cells: goods of one colour. A point cuts a cell if it has some of its goods and not all. Where no cell is cut, goods
+-- of one colour always go together, so that their numbers may be exchanged.
+use Rattle.std.specs.Prelude.{ℕ, ◌+◌, ◌==◌, nat_lt, Bool, true, false, cond, List, [], ◌∷◌, map, slice_index}
+use Rattle.std.specs.Prelude.{Option, Some, None}
 use Rattle.std.specs.List.{range_with_len, count_by, list_any}
 use Rattle.valuation.specs.declared.atom.Atom.{Atom}
 use Rattle.valuation.specs.Auctions.{PlainAuction}

@@ -1,7 +1,8 @@
--- Colours of goods. In each round a good gets a new colour by its old one, and then by its weight, which adds up what mixes of the points
--- that have it are. Weights are numbers below 2 to the power 64, and wrap. `mix` is any function of two numbers: one that mixes badly tells
--- fewer goods apart.
-use Rattle.std.specs.Prelude.{ℕ, zero, suc, ◌+◌, ◌%◌, ◌^◌, ◌==◌, nat_lt, Bool, true, false, cond, List, map, slice_index}
+-- Colours of goods. In each round a good gets a new colour by its old one, and then by its weight, which adds up what
+-- mixes of the points that have it are. Weights are numbers below 2 to the power 64, and wrap. `mix` is any function of
+-- two numbers: one that mixes badly tells fewer goods apart.
+use Rattle.std.specs.Prelude.{ℕ, zero, suc, ◌+◌, ◌%◌, ◌^◌, ◌==◌, nat_lt, Bool, true, false, cond, List, map}
+use Rattle.std.specs.Prelude.{slice_index}
 use Rattle.std.specs.List.{range_with_len, sum_by, count_by, list_all}
 use Rattle.valuation.specs.declared.atom.Atom.{Atom}
 use Rattle.valuation.specs.Auctions.{PlainAuction}
@@ -67,4 +68,5 @@ refined mix a colours = colours_after mix a a.goods colours
 -- what the colours and weights of all goods add up to
 abbrev pub trace : (ℕ → ℕ → ℕ) → PlainAuction → List ℕ → ℕ
 trace mix a colours =
-    wrapped_sum (λ g. mix (slice_index colours g) (good_weight mix a (slice_index colours) g)) (range_with_len 0 a.goods)
+    let c : ℕ → ℕ = slice_index colours in
+    wrapped_sum (λ g. mix (c g) (good_weight mix a c g)) (range_with_len 0 a.goods)

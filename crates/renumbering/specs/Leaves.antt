@@ -1,7 +1,8 @@
--- The search for a numbering. Below colours with a cell that is cut are those with a good of the largest such cell set apart, refined, for each of
--- its goods in turn. Colours that cut no cell are a leaf. It numbers the goods by colour, and those of one colour as they were. The text of an auction
--- is that of its least leaf.
-use Rattle.std.specs.Prelude.{◌≡◌, ◌≢◌, ℕ, zero, suc, ◌+◌, ◌*◌, ◌<◌, ◌==◌, cond, List, [], ◌∷◌, map, length, replicate, Option, Some, None, slice_index}
+-- The search for a numbering. Below colours with a cell that is cut are those with a good of the largest such cell set
+-- apart, refined, for each of its goods in turn. Colours that cut no cell are a leaf. It numbers the goods by colour,
+-- and those of one colour as they were. The text of an auction is that of its least leaf.
+use Rattle.std.specs.Prelude.{◌≡◌, ◌≢◌, ℕ, zero, suc, ◌+◌, ◌*◌, ◌<◌, ◌==◌, cond, List, [], ◌∷◌, map, length}
+use Rattle.std.specs.Prelude.{replicate, Option, Some, None, slice_index}
 use Rattle.std.specs.List.{range_with_len, count_by, sum_by}
 use Rattle.std.specs.Ordering.{nat_cmp, ordering_then}
 use Rattle.std.specs.Cmp.Lexicographic.{slice_cmp}
@@ -21,7 +22,8 @@ numbers_by_colour goods colours =
     let c : ℕ → ℕ = slice_index colours in
     map (λ g. count_by (λ h. is_before (c h) h (c g) g) (range_with_len 0 goods)) (range_with_len 0 goods)
 
--- what is read at a leaf: the traces of the colours on the way, and the canonical auction of the auction under the leaf's numbers
+-- what is read at a leaf: the traces of the colours on the way, and the canonical auction of the auction under the
+-- leaf's numbers
 pub record Leaf : Type 0 where
   pub traces : List ℕ
   pub auction : PlainAuction

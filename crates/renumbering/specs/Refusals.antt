@@ -1,5 +1,6 @@
 -- Where a list is not a numbering.
-use Rattle.std.specs.Prelude.{ℕ, ◌<◌, ◌≤◌, ◌≢◌, ◌⊎◌, All, AllPairs, Contains, List, Option, Some, None, length, slice_get, take}
+use Rattle.std.specs.Prelude.{ℕ, ◌<◌, ◌≤◌, ◌≢◌, ◌⊎◌, All, AllPairs, Contains, List, Option, Some, None, length}
+use Rattle.std.specs.Prelude.{slice_get, take}
 use Rattle.renumbering.specs.declared.renumber_fault.RenumberFault.{RenumberFault}
 use Rattle.renumbering.specs.declared.renumber_fault.RenumberFault.TheVariants.{Index, Memory}
 
@@ -8,7 +9,8 @@ pub record AreNumbers (goods : ℕ) (numbers : List ℕ) : Type 0 where
   pub below : All (λ number. number < goods) numbers
   pub distinct : AllPairs (λ x y. x ≢ y) numbers
 
--- what comes behind numbers that are right: none, though goods are left, or one that is no good's, or that is there before
+-- what comes behind numbers that are right: none, though goods are left, or one that is no good's, or that is there
+-- before
 abbrev pub IsWrongBehind : ℕ → List ℕ → Option ℕ → Type 0
 IsWrongBehind goods before None = length before < goods
 IsWrongBehind goods before (Some number) = (goods ≤ number) ⊎ Contains before number

@@ -1,5 +1,6 @@
--- Goods numbered anew: bundles, bids, auctions and files under other numbers of their goods. A numbering lists the new number of each
--- good, and has each number of a good once. Prices, dummy goods, and the order of bids and of bidders stay.
+-- Goods numbered anew: bundles, bids, auctions and files under other numbers of their goods. A numbering lists the new
+-- number of each good, and has each number of a good once. Prices, dummy goods, and the order of bids and of bidders
+-- stay.
 use Rattle.std.specs.Prelude.{ℕ, List, map, get_or, IsPermutation}
 use Rattle.std.specs.List.{range_with_len}
 use Rattle.std.specs.Ordering.{nat_cmp}

@@ -1,5 +1,5 @@
--- When two auctions are the same up to the numbers of their goods: if the goods of one may be numbered anew so that it is the same
--- auction as the other.
+-- When two auctions are the same up to the numbers of their goods: if the goods of one may be numbered anew so that it
+-- is the same auction as the other.
 use Rattle.std.specs.Prelude.{List, ℕ}
 use Rattle.bid_file.specs.Files.{PlainFile}
 use Rattle.cats_text.specs.Grammar.{Spells}

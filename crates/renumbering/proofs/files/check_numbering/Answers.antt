@@ -7,7 +7,8 @@ use Rattle.renumbering.proofs.files.check_numbering.Goals.{then-number-count-via
 pub returns-then-number-count-clause-refused : goal.returns-then-number-count-clause-refused
 returns-then-number-count-clause-refused c = elim c.then-number-count.branch [
   | then-number-count-via-then-number-count w ↦ search (rules, no_good)
-  | then-number-count-via-else-number-count+then-index w ↦ search (rules, (twice c.args.goods c.args.numbering.now c.loop-index.index c.loop-index.taken.items w.index.result.now))
+  | then-number-count-via-else-number-count+then-index w ↦
+      search (rules, (twice c.args.goods c.args.numbering.now c.loop-index.index c.loop-index.taken.items w.index.result.now))
 ]
 
 pub loop-index-preserved : goal.loop-index-preserved

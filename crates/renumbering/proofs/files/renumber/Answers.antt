@@ -12,7 +12,8 @@ renumber_goods-requires c =
     let there : slice_get c.args.file.now.bids c.loop-number.number ≡ Some bid =
     ap (λ (bids : List PlainBid). slice_get bids c.loop-number.number) (sym c.bids-held.ensures) ∙ c.at-price.ensures in
     goods_have_numbers c.args.file.now c.args.numbering.now c.loop-number.number bid
-    (subst (λ (n : ℕ). IsNumbering n c.args.numbering.now) c.goods-goods.ensures.value c.in_ok-check_numbering.ensures.numbering) c.goods-goods.ensures.file there
+    (subst (λ (n : ℕ). IsNumbering n c.args.numbering.now) c.goods-goods.ensures.value c.in_ok-check_numbering.ensures.numbering)
+    c.goods-goods.ensures.file there
 
 pub loop-number-preserved : goal.loop-number-preserved
 loop-number-preserved c =
@@ -27,8 +28,10 @@ new-requires c =
     let numbers : IsNumbering c.args.file.now.goods c.args.numbering.now =
     subst (λ (n : ℕ). IsNumbering n c.args.numbering.now) c.goods-goods.ensures.value c.in_ok-check_numbering.ensures.numbering in
     let all : length c.args.file.now.bids ≤ c.loop-number.number =
-    subst (λ (n : ℕ). n ≤ c.loop-number.number) (c.len-number-end.ensures ∙ ap (λ (bids : List PlainBid). length bids) c.bids-held.ensures) c.loop-number-test.false in
-    let made = file_of_all c.args.file.now c.args.numbering.now c.loop-number.bids c.loop-number.number numbers c.goods-goods.ensures.file all c.loop-number.invariant in
+    subst (λ (n : ℕ). n ≤ c.loop-number.number) (c.len-number-end.ensures ∙ ap (λ (bids : List PlainBid). length bids) c.bids-held.ensures)
+    c.loop-number-test.false in
+    let made =
+    file_of_all c.args.file.now c.args.numbering.now c.loop-number.bids c.loop-number.number numbers c.goods-goods.ensures.file all c.loop-number.invariant in
     subst (λ (n : ℕ). IsBidFile n c.dummy.result c.loop-number.bids) (sym c.goods-goods.ensures.value)
     (subst (λ (d : ℕ). IsBidFile c.args.file.now.goods d c.loop-number.bids) (sym c.dummy.ensures) made)
 
