@@ -1,18 +1,8 @@
 -- Auctions and files under other numbers: they keep the limits, the range of all goods changes nothing, and two numberings are joined.
-use Rattle.std.proofs.Common.{rules, ◌≡◌, ℕ, ◌+◌, ◌<◌, ◌≤◌, Bool, List, [], ◌∷◌, length, map, is_none, refl, sym, ap, ap₂, ◌∙◌, subst, arith}
-use Rattle.std.specs.Prelude.{All}
-use Rattle.std.specs.List.{range_with_len, filter, sum_by, AllByRecursion}
-use Rattle.std.proofs.Math.Path.{fun_ext}
-use Rattle.std.proofs.lemmas.List.{length-map, map-id}
-use Rattle.std.proofs.lemmas.List.Elements.{All-map, All-weaker, All-head, All-tail}
-use Rattle.std.proofs.lemmas.List.Sums.{sum_by-cons}
-use Rattle.std.proofs.lemmas.Simd.{map-map}
-use Rattle.bid_file.specs.Files.{IsBid, IsBidFile, IsPlainFile, PlainBid, PlainFile}
-use Rattle.bid_file.specs.declared.limits.TheConstants.{MAX_BIDS}
-use Rattle.valuation.specs.declared.atom.Atom.{Atom}
-use Rattle.valuation.specs.Auctions.{IsAtom, IsAuction, PlainAuction, atom_of, auction_from, is_dummy, or_atoms_of, xor_atoms_of}
-use Rattle.prune.specs.Lemmas.Lists.{map_same_on}
-use Rattle.renumbering.specs.Renumbering.{IsNumbering, renumbered, renumbered_atom, renumbered_atoms, renumbered_bid, renumbered_bundle, renumbered_file}
+use Rattle.renumbering.proofs.Common.{All, All-map, All-weaker, AllByRecursion, ap, ap₂, arith, Atom, atom_of, auction_from, Bool, filter, fun_ext, is_dummy}
+use Rattle.renumbering.proofs.Common.{is_none, IsAtom, IsAuction, IsBid, IsBidFile, IsNumbering, length, length-map, List, map, map-id, map-map, map_same_on}
+use Rattle.renumbering.proofs.Common.{MAX_BIDS, PlainAuction, PlainBid, PlainFile, range_with_len, refl, renumbered, renumbered_atom, renumbered_atoms}
+use Rattle.renumbering.proofs.Common.{renumbered_bid, renumbered_file, rules, subst, sum_by, sum_by-cons, sym, xor_atoms_of, ℕ, [], ◌<◌, ◌∙◌, ◌∷◌, ◌≡◌, ◌≤◌}
 use Rattle.renumbering.proofs.Bundles.{IsBundle-renumbered, length-renumbered_bundle, renumbered_bundle-joined, renumbered_bundle-range}
 use Rattle.renumbering.proofs.Numberings.{joined}
 

@@ -1,13 +1,7 @@
 -- Bids under other numbers, one after the other.
-use Rattle.std.proofs.Common.{◌≡◌, ℕ, ◌+◌, ◌<◌, ◌≤◌, List, [], ◌∷◌, ◌++◌, Some, length, get_or, map, take, refl, sym, ap, ap₂, ◌∙◌, subst, arith}
-use Rattle.std.specs.Prelude.{All}
-use Rattle.std.specs.List.{slice_get}
-use Rattle.std.proofs.lemmas.List.{get_or-map, length-map, map-append, take_all, take_more}
-use Rattle.std.proofs.lemmas.List.Elements.{All-from_recursion, All-weaker}
-use Rattle.std.proofs.lemmas.Option.{get_or_from_slice_get, slice_get_within}
-use Rattle.bid_file.specs.Files.{IsBid, IsBidFile, IsPlainFile, PlainBid, PlainFile}
-use Rattle.valuation.specs.Lemmas.AuctionsOfFiles.{IsBid-there}
-use Rattle.renumbering.specs.Renumbering.{IsNumbering, renumbered_bid, renumbered_bundle}
+use Rattle.renumbering.proofs.Common.{All, All-from_recursion, ap, ap₂, get_or_from_slice_get, IsBid-there, IsBidFile, IsNumbering, IsPlainFile, length, List}
+use Rattle.renumbering.proofs.Common.{map, map-append, PlainBid, PlainFile, renumbered_bid, renumbered_bundle, slice_get, slice_get_within, Some, subst, sym}
+use Rattle.renumbering.proofs.Common.{take, take_all, take_more, ℕ, [], ◌++◌, ◌+◌, ◌<◌, ◌∙◌, ◌∷◌, ◌≡◌, ◌≤◌}
 use Rattle.renumbering.proofs.Auctions.{IsBidFile-renumbered}
 use Rattle.renumbering.proofs.Numberings.{length-numbering}
 

@@ -1,23 +1,11 @@
 -- Bundles under other numbers.
-use Rattle.std.proofs.Common.{rules, ◌≡◌, ◌≢◌, ℕ, ◌<◌, ◌≤◌, ◌⊎◌, ⊎_elim, Bool, true, false, ◌&&◌, cond, eqb, List, [], ◌∷◌, length, map, take, refl, sym, ap, ◌∙◌, subst}
-use Rattle.std.proofs.Common.{arith, nat_cmp}
-use Rattle.std.specs.Prelude.{IsPermutation, IsSorted}
-use Rattle.std.specs.List.{range_with_len, list_all, AllByRecursion}
-use Rattle.std.specs.Ordering.{is_eq, is_gt}
-use Rattle.std.proofs.Math.Path.{fun_ext}
-use Rattle.std.proofs.lemmas.Bool.{eq-eqb, ne_eqb, cases_lt, cases_eq, cases_Bool}
-use Rattle.std.proofs.lemmas.Cmp.{nat_cmp_total}
-use Rattle.std.proofs.lemmas.List.{length-map, map-id, take_all}
-use Rattle.std.proofs.lemmas.List.Sorted.{IsPermutation-map, IsPermutation-sym, length_permutation, list_any-IsPermutation, sum_by-IsPermutation}
-use Rattle.std.proofs.lemmas.Map.Lookups.{exact_unsigned}
-use Rattle.std.proofs.lemmas.Simd.{map-map}
-use Rattle.goods_set.specs.Bundles.{AreAbove, AreBelow, IsBundle, IsRising, has_good}
-use Rattle.goods_set.specs.Lemmas.Members.{AreAbove-from_has, AreAbove-lower, AreBelow-from_has, has_above, has_below, has_cases, has_head, has_not_head, same_from_has}
-use Rattle.goods_set.specs.Lemmas.Orders.{nat_cmp-lt, nat_cmp-gt, nat_cmp-refl}
-use Rattle.valuation.specs.Lemmas.Sorting.{permutation-sort_by, sort_by-same, sorted_is_sort_by}
-use Rattle.valuation.specs.Sorting.{insert_by, sort_by}
-use Rattle.renumbering.specs.Renumbering.{IsNumbering, number_in, renumbered_bundle}
-use Rattle.renumbering.proofs.Numberings.{inverse, inverse_numbers, joined, number_below, number_in-joined, number_in-range, numbers_differ, back_and_there, there_and_back}
+use Rattle.renumbering.proofs.Common.{ap, AreAbove, AreAbove-lower, AreBelow, AreBelow-from_has, Bool, cases_Bool, cases_eq, cases_lt, cond, eq-eqb, eqb}
+use Rattle.renumbering.proofs.Common.{exact_unsigned, false, fun_ext, has_below, has_good, has_not_head, insert_by, is_eq, IsBundle, IsNumbering, IsPermutation}
+use Rattle.renumbering.proofs.Common.{IsPermutation-map, IsRising, IsSorted, length, length-map, length_permutation, List, list_all, list_any-IsPermutation}
+use Rattle.renumbering.proofs.Common.{map, map-id, map-map, nat_cmp, nat_cmp-gt, nat_cmp-lt, nat_cmp_total, ne_eqb, number_in, permutation-sort_by}
+use Rattle.renumbering.proofs.Common.{range_with_len, refl, renumbered_bundle, rules, sort_by, sort_by-same, sorted_is_sort_by, subst, sum_by-IsPermutation}
+use Rattle.renumbering.proofs.Common.{sym, take, take_all, true, ℕ, [], ⊎_elim, ◌&&◌, ◌<◌, ◌∙◌, ◌∷◌, ◌≡◌, ◌≤◌}
+use Rattle.renumbering.proofs.Numberings.{back_and_there, inverse, joined, number_below, number_in-joined, number_in-range, numbers_differ}
 
 -- ---- lists of numbers in order
 

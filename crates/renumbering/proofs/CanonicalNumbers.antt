@@ -1,26 +1,12 @@
 -- The canonical auction of a canonical auction under other numbers has the same points under these numbers, in its own order.
-use Rattle.std.proofs.Common.{rules, ◌≡◌, ℕ, ⊎_elim, Bool, true, false, cond, List, [], ◌∷◌, map, refl, sym, ap, ap₂, ◌∙◌, subst, nat_cmp}
-use Rattle.std.specs.Prelude.{All, Contains, IsPermutation}
-use Rattle.std.specs.List.{filter}
-use Rattle.std.proofs.lemmas.Bool.{both_ways, cases_Bool}
-use Rattle.std.proofs.lemmas.List.Elements.{All-contains, All-head, All-map, All-tail, All-weaker}
-use Rattle.std.proofs.lemmas.List.Sorted.{Contains-permutation, IsPermutation-sym}
-use Rattle.std.proofs.lemmas.Simd.{map-map}
-use Rattle.valuation.specs.declared.atom.Atom.{Atom}
-use Rattle.valuation.specs.Auctions.{IsAtom, PlainAuction}
-use Rattle.valuation.specs.Lemmas.Lists.{Contains-unmap}
-use Rattle.valuation.specs.Lemmas.Sorting.{permutation-sort_by}
-use Rattle.valuation.specs.Orders.{bidder_cmp}
-use Rattle.valuation.specs.Sorting.{sort_by}
-use Rattle.valuation.specs.Tables.{is_nonzero, xor_table}
-use Rattle.prune.specs.Lemmas.KeptBids.{just_bundles, on_bundles, xor_points_again}
-use Rattle.prune.specs.Lemmas.Lists.{All-from_Contains, Contains-filter_parts, filter-kept, map_same_on}
-use Rattle.prune.specs.Points.{or_points, xor_points}
-use Rattle.canon.specs.Canonical.{IsCanonical, canonical_auction, canonical_bidders, nonzero_bidders, points_of_bidders}
-use Rattle.canon.proofs.CanonicalAuctions.Atoms.{HasAtoms, xor_points_table}
-use Rattle.renumbering.specs.Renumbering.{IsNumbering, number_in, renumbered, renumbered_atom, renumbered_atoms, renumbered_bundle}
+use Rattle.renumbering.proofs.Common.{All, All-contains, All-from_Contains, All-head, All-map, All-tail, All-weaker, ap, Atom, bidder_cmp, Bool, both_ways}
+use Rattle.renumbering.proofs.Common.{canonical_auction, canonical_bidders, cases_Bool, Contains, Contains-filter_parts, Contains-permutation, Contains-unmap}
+use Rattle.renumbering.proofs.Common.{false, filter, filter-kept, HasAtoms, is_nonzero, IsAtom, IsCanonical, IsNumbering, IsPermutation, IsPermutation-sym}
+use Rattle.renumbering.proofs.Common.{just_bundles, List, map, map-map, nat_cmp, nonzero_bidders, number_in, on_bundles, or_points, permutation-sort_by}
+use Rattle.renumbering.proofs.Common.{PlainAuction, points_of_bidders, refl, renumbered, renumbered_atom, renumbered_atoms, renumbered_bundle, sort_by, subst}
+use Rattle.renumbering.proofs.Common.{sym, true, xor_points, xor_points_again, xor_points_table, xor_table, ℕ, [], ⊎_elim, ◌∙◌, ◌∷◌, ◌≡◌}
 use Rattle.renumbering.proofs.Auctions.{atoms_renumbered, map_itself}
-use Rattle.renumbering.proofs.Images.{AreImages, AreRenamedAtoms, IsRenamedAtom, IsRenamedAuction, Zip, images_of_map}
+use Rattle.renumbering.proofs.Images.{AreRenamedAtoms, images_of_map, IsRenamedAtom, IsRenamedAuction, Zip}
 use Rattle.renumbering.proofs.Numberings.{inverse, inverse_numbers}
 use Rattle.renumbering.proofs.Points.{atom_back, or_points_moved, xor_points_moved}
 use Rattle.renumbering.proofs.Sameness.{zero-renumbered}

@@ -1,11 +1,6 @@
 -- How many elements pass a test.
-use Rattle.std.proofs.Common.{rules, ◌≡◌, ℕ, suc, ◌+◌, ◌<◌, ◌≤◌, ⊎_elim, Bool, true, false, ◌&&◌, cond, List, [], ◌∷◌, length, refl, sym, ap, ◌∙◌, subst, arith}
-use Rattle.std.specs.Prelude.{Contains}
-use Rattle.std.specs.List.{count_by, filter, sum_by}
-use Rattle.std.proofs.lemmas.Bool.{both_ways, cases_Bool}
-use Rattle.std.proofs.lemmas.List.Sums.{sum_by-cons, sum_by-le-sum_by}
-use Rattle.valuation.specs.Lemmas.Lists.{Contains-cons_cases}
-use Rattle.prune.specs.Lemmas.Lists.{Contains-nil}
+use Rattle.renumbering.proofs.Common.{ap, arith, Bool, cases_Bool, cond, Contains, Contains-cons_cases, Contains-nil, count_by, false, filter, get_or, length}
+use Rattle.renumbering.proofs.Common.{List, refl, subst, suc, sum_by-cons, sum_by-le-sum_by, sym, true, zero, ℕ, [], ⊎_elim, ◌&&◌, ◌+◌, ◌<◌, ◌∙◌, ◌∷◌, ◌≡◌, ◌≤◌}
 
 below_one : (b d : Bool) → (b ≡ true → d ≡ true) → cond {A = ℕ} b 1 0 ≤ cond {A = ℕ} d 1 0
 below_one true d h = subst (λ (e : Bool). 1 ≤ cond {A = ℕ} e 1 0) (sym (h refl)) (omega arith)
@@ -61,3 +56,17 @@ count_either f h both each (x ∷ xs) =
     let rest = count_either f h both each xs in
     let here = each x in
     omega (arith, sum_by-cons (λ y. cond (f y) 1 0) x xs, sum_by-cons (λ y. cond (h y) 1 0) x xs, sum_by-cons (λ y. cond (both y) 1 0) x xs)
+
+-- how many elements pass a test that those of a front pass, and no others
+
+pub count_front : {X : Type 0} (p : X → Bool) (xs : List X) (i : ℕ) (d : X) → i ≤ length xs → ((k : ℕ) → k < i → p (get_or xs k d) ≡ true)
+    → ((k : ℕ) → i ≤ k → k < length xs → p (get_or xs k d) ≡ false) → count_by p xs ≡ i
+count_front p [] i d l passes fails = omega arith
+count_front p (x ∷ xs) zero d l passes fails =
+    let rest : count_by p xs ≡ 0 = count_front p xs zero d (omega arith) (λ k m. absurd (omega arith)) (λ k m n. fails (suc k) (omega arith) (omega arith)) in
+    let here : p x ≡ false = fails zero (omega arith) (omega arith) in
+    rw (sum_by-cons (λ y. cond (p y) 1 0) x xs, here, rest)
+count_front p (x ∷ xs) (suc i) d l passes fails =
+    let rest : count_by p xs ≡ i = count_front p xs i d (omega arith) (λ k m. passes (suc k) (omega arith)) (λ k m n. fails (suc k) (omega arith) (omega arith)) in
+    let here : p x ≡ true = passes zero (omega arith) in
+    rw (sum_by-cons (λ y. cond (p y) 1 0) x xs, here, rest) (omega arith)

@@ -1,24 +1,12 @@
 -- The first index at which a list is not a numbering: a numbering has none, no list has two, and numbers of goods, as many as there are goods and each
 -- once, are a numbering.
-use Rattle.std.proofs.Common.{rules, ◌≡◌, ◌≢◌, ℕ, zero, suc, ◌+◌, ◌<◌, ◌≤◌, ◌⊎◌, inl, inr, ⊎_elim, Bool, true, false, Option, Some, None, List, [], ◌∷◌, length, get_or, take, refl, sym, ap, ap₂}
-use Rattle.std.proofs.Common.{◌∙◌, subst, arith, nat_cmp}
-use Rattle.std.specs.Prelude.{All, AllPairs, Contains, IsPermutation}
-use Rattle.std.specs.List.{range_with_len, slice_get}
-use Rattle.std.proofs.lemmas.Bool.{both_ways, cases_lt, false_from_ne_true}
-use Rattle.std.proofs.lemmas.List.{get_or-take, get_or_default, length-take-le, take-take}
-use Rattle.std.proofs.lemmas.List.Elements.{All-contains, All-from_recursion}
-use Rattle.std.proofs.lemmas.List.Sorted.{IsPermutation-sym}
-use Rattle.std.proofs.lemmas.Option.{slice_get-get_or, slice_get_past}
-use Rattle.goods_set.specs.Bundles.{AreAbove, AreBelow, IsRising, has_good}
-use Rattle.goods_set.specs.Lemmas.AllBundles.{length_bundle}
-use Rattle.goods_set.specs.Lemmas.Members.{AreBelow-from_has, has_above, has_head}
-use Rattle.valuation.specs.Lemmas.Lists.{AllPairs-cons, AllPairs-head, AllPairs-nil, AllPairs-tail}
-use Rattle.valuation.specs.Lemmas.Sorting.{permutation-sort_by}
-use Rattle.valuation.specs.Sorting.{sort_by}
-use Rattle.prune.specs.Lemmas.KeptBids.{contains_from_has, has_from_contains}
-use Rattle.prune.specs.Lemmas.Lists.{All-from_Contains}
-use Rattle.renumbering.specs.Refusals.{AreNumbers, IsFirstWrong, IsWrongBehind}
-use Rattle.renumbering.specs.Renumbering.{IsNumbering}
+use Rattle.renumbering.proofs.Common.{All, All-contains, All-from_Contains, All-from_recursion, AllPairs, AllPairs-cons, AllPairs-head, AllPairs-nil}
+use Rattle.renumbering.proofs.Common.{AllPairs-tail, ap, ap₂, AreAbove, AreBelow, AreBelow-from_has, AreNumbers, arith, both_ways, cases_lt, Contains}
+use Rattle.renumbering.proofs.Common.{contains_from_has, false, false_from_ne_true, get_or, get_or-take, get_or_default, has_above, has_from_contains, has_good}
+use Rattle.renumbering.proofs.Common.{has_head, IsFirstWrong, IsNumbering, IsPermutation, IsPermutation-sym, IsRising, IsWrongBehind, length, length-take-le}
+use Rattle.renumbering.proofs.Common.{length_bundle, List, nat_cmp, Option, permutation-sort_by, range_with_len, refl, slice_get, slice_get-get_or}
+use Rattle.renumbering.proofs.Common.{slice_get_past, Some, sort_by, subst, suc, sym, take, take-take, true, zero, ℕ, [], ⊎_elim, ◌+◌, ◌<◌, ◌∙◌, ◌∷◌, ◌≡◌, ◌≢◌}
+use Rattle.renumbering.proofs.Common.{◌≤◌, ◌⊎◌}
 use Rattle.renumbering.proofs.Bundles.{has-sort_by, length-sort_by, rising-insert_by}
 use Rattle.renumbering.proofs.Numberings.{below, differ, length-numbering}
 

@@ -1,31 +1,14 @@
 -- The least leaf of an auction is that of each renumbered one, and is the same auction up to numbers. So renumbered texts are equal exactly for files that
 -- are the same up to numbers.
-use Rattle.std.proofs.Common.{rules, ◌≡◌, ◌≢◌, ℕ, ◌<◌, ⊎_elim, List, [], ◌∷◌, map, refl, sym, ap, ap₂, ◌∙◌, subst, arith, le_refl, Ordering, Less, Equal, Greater}
-use Rattle.std.specs.Prelude.{◌↔◌}
-use Rattle.std.specs.Ordering.{ordering_reverse}
-use Rattle.std.specs.Cmp.{IsTotalOrder}
-use Rattle.std.specs.FinMap.{slice_cmp-IsAntisymmetric, nat_cmp-IsAntisymmetric}
-use Rattle.std.proofs.lemmas.Cmp.{lists_total, nat_list_cmp_total, on_total, then_total}
-use Rattle.bid_file.specs.Files.{IsPlainFile, PlainFile}
-use Rattle.cats_text.specs.Grammar.{Spells}
-use Rattle.cats_text.specs.Layout.{layout}
-use Rattle.cats_text.proofs.Spelling.Files.{spells_one}
+use Rattle.renumbering.proofs.Common.{ap, ap₂, AreSameFilesUpToNumbers, AreSameTextsUpToNumbers, Atom, auction_from, auction_from-file_from, bidder_cmp_equal}
+use Rattle.renumbering.proofs.Common.{bidder_cmp_total, canonical_auction, canonical_is_fixed, canonical_is_same, Equal, ExceedsLimitOfFile, file_from}
+use Rattle.renumbering.proofs.Common.{first_colours, Greater, HasAtoms, HasAtoms-canonical, HasAtoms-file, HasLeaf, IsAuction, IsAuction-auction_from}
+use Rattle.renumbering.proofs.Common.{IsAuction-canonical, IsCanonicalFile, IsLeastLeaf, IsPlainFile, IsPlainFile-file_from, IsRenumberedFile, IsRenumberedText}
+use Rattle.renumbering.proofs.Common.{IsSameAuction, IsSameUpToNumbers, IsTotalOrder, layout, le_refl, Leaf, leaf_cmp, Less, List, lists_total, map}
+use Rattle.renumbering.proofs.Common.{nat_cmp-IsAntisymmetric, nat_list_cmp_total, number_in, numbers_by_colour, on_total, Ordering, ordering_reverse}
+use Rattle.renumbering.proofs.Common.{PlainAuction, PlainFile, refl, renumbered, same_canonical, same_sym, same_trans, slice_cmp-IsAntisymmetric, Spells}
+use Rattle.renumbering.proofs.Common.{spells_one, subst, sym, then_parts, then_total, ℕ, [], ⊎_elim, ◌<◌, ◌↔◌, ◌∙◌, ◌∷◌, ◌≡◌, ◌≢◌}
 use Rattle.cats_text.proofs.Writing.Spells as laid_out
-use Rattle.valuation.specs.declared.atom.Atom.{Atom}
-use Rattle.valuation.specs.Auctions.{IsAuction, PlainAuction, auction_from}
-use Rattle.valuation.specs.Lemmas.AuctionsOfFiles.{IsAuction-auction_from}
-use Rattle.valuation.specs.Lemmas.Orders.{bidder_cmp_equal, bidder_cmp_total, then_parts}
-use Rattle.canon.specs.Canonical.{IsCanonicalFile, canonical_auction, file_from}
-use Rattle.canon.specs.Sameness.{IsSameAuction}
-use Rattle.canon.proofs.CanonicalAuctions.Atoms.{HasAtoms}
-use Rattle.canon.proofs.CanonicalAuctions.Sames.{HasAtoms-auction, HasAtoms-canonical, canonical_is_fixed, canonical_is_same, same_canonical, same_sym, same_trans}
-use Rattle.canon.proofs.CanonicalAuctions.Smaller.{IsAuction-canonical}
-use Rattle.canon.proofs.CanonicalFiles.Files.{IsPlainFile-file_from, auction_from-file_from}
-use Rattle.canon.proofs.CanonicalFiles.Texts.{HasAtoms-file}
-use Rattle.renumbering.specs.Leaves.{ExceedsLimit, HasLeaf, IsLeastLeaf, Leaf, first_colours, leaf_cmp, numbers_by_colour}
-use Rattle.renumbering.specs.RenumberedTexts.{ExceedsLimitOfFile, IsRenumberedFile, IsRenumberedText}
-use Rattle.renumbering.specs.Renumbering.{IsNumbering, number_in, renumbered}
-use Rattle.renumbering.specs.SameUpToNumbers.{AreSameFilesUpToNumbers, AreSameTextsUpToNumbers, IsSameUpToNumbers}
 use Rattle.renumbering.proofs.Auctions.{IsAuction-renumbered}
 use Rattle.renumbering.proofs.CanonicalNumbers.{canonical_renamed}
 use Rattle.renumbering.proofs.Images.{IsRenamedAuction}

@@ -1,14 +1,7 @@
 -- Lists whose elements are the images of those of another, in any order. What each image adds as its element does, adds up alike.
-use Rattle.std.proofs.Common.{rules, ◌≡◌, ℕ, ◌+◌, ◌<◌, ◌≤◌, Bool, true, false, cond, eqb, List, [], ◌∷◌, map, refl, sym, ap, ◌∙◌, inl, inr}
-use Rattle.std.specs.Prelude.{IsPermutation}
-use Rattle.std.specs.List.{list_all, list_any, range_with_len, sum_by}
-use Rattle.std.proofs.Math.Path.{fun_ext}
-use Rattle.std.proofs.lemmas.Bool.{cases_eq, eq-eqb, ne_eqb}
-use Rattle.std.proofs.lemmas.List.Folds.{sum_by-zero}
-use Rattle.std.proofs.lemmas.List.Sorted.{list_any-IsPermutation, sum_by-IsPermutation}
-use Rattle.std.proofs.lemmas.List.Sums.{sum_by-cons}
-use Rattle.valuation.specs.declared.atom.Atom.{Atom}
-use Rattle.valuation.specs.Auctions.{PlainAuction}
+use Rattle.renumbering.proofs.Common.{ap, Atom, Bool, cases_eq, cond, eq-eqb, eqb, false, fun_ext, inl, inr, IsPermutation, List, list_all, list_any}
+use Rattle.renumbering.proofs.Common.{list_any-IsPermutation, map, ne_eqb, PlainAuction, range_with_len, refl, rules, sum_by, sum_by-cons, sum_by-IsPermutation}
+use Rattle.renumbering.proofs.Common.{sum_by-zero, sym, true, ℕ, [], ◌<◌, ◌∙◌, ◌∷◌, ◌≡◌, ◌≤◌}
 
 -- lists of one length, whose elements are related in pairs
 abbrev pub Zip : {X Y : Type 0} → (X → Y → Type 0) → List X → List Y → Type 0

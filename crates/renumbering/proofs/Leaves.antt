@@ -1,35 +1,19 @@
 -- The leaves of an auction are those of each renumbered one, and as many steps lead to them.
-use Rattle.std.proofs.Common.{rules, ◌≡◌, ◌≢◌, ℕ, zero, suc, ◌+◌, ◌*◌, ◌<◌, ◌≤◌, ⊎_elim, Bool, true, false, cond, eqb, ltb, List, [], ◌∷◌, length, map, replicate, refl, sym, ap, ap₂, ◌∙◌}
-use Rattle.std.proofs.Common.{subst, arith, Option, Some, None}
-use Rattle.std.specs.Prelude.{All, Contains, slice_index}
-use Rattle.std.specs.List.{count_by, list_all, list_any, range_with_len, sum_by}
-use Rattle.std.proofs.lemmas.Bool.{both_ways, cases_Bool, cases_lt, eqb-true, false_from_ne_true}
-use Rattle.std.proofs.lemmas.List.{get_or_past}
-use Rattle.std.proofs.lemmas.List.FromFn.{length-range_with_len}
-use Rattle.std.proofs.lemmas.List.Elements.{All-contains}
-use Rattle.std.proofs.lemmas.List.Sorted.{IsPermutation-sym}
-use Rattle.std.specs.Prelude.{IsPermutation}
-use Rattle.goods_set.specs.Bundles.{IsBundle, has_good}
-use Rattle.goods_set.specs.Lemmas.Members.{has_below}
-use Rattle.valuation.specs.declared.atom.Atom.{Atom}
-use Rattle.valuation.specs.Auctions.{IsAtom, PlainAuction}
-use Rattle.prune.specs.Lemmas.Lists.{All-from_Contains, Contains-head, Contains-tail, list_all_at, list_any_fails, map_same_on}
-use Rattle.prune.specs.Lemmas.Ranges.{range_contains}
-use Rattle.valuation.specs.Lemmas.Lists.{Contains-cons_cases}
-use Rattle.canon.specs.Canonical.{canonical_auction}
-use Rattle.canon.specs.Sameness.{IsSameAuction}
-use Rattle.canon.proofs.CanonicalAuctions.Atoms.{HasAtoms}
-use Rattle.canon.proofs.CanonicalAuctions.Sames.{same_canonical}
-use Rattle.renumbering.specs.Cells.{cell_size, is_cut, is_cut_by, larger, largest, largest_cut, set_apart}
-use Rattle.renumbering.specs.Colours.{are_stable, colours_after, good_weight, is_before, next_colour, next_colours, refined, trace}
-use Rattle.renumbering.specs.Leaves.{HasLeaf, IsOfCut, IsUnder, Leaf, below_good, first_colours, leaf_of, numbers_by_colour, under}
-use Rattle.renumbering.specs.Renumbering.{IsNumbering, number_in, renumbered, renumbered_atom, renumbered_atoms, renumbered_bundle}
+use Rattle.renumbering.proofs.Common.{All, All-contains, All-from_Contains, ap, are_stable, arith, Atom, below_good, Bool, both_ways, canonical_auction}
+use Rattle.renumbering.proofs.Common.{cases_Bool, cell_size, cond, Contains, Contains-cons_cases, count_by, eqb, eqb-true, false, first_colours, get_or_past}
+use Rattle.renumbering.proofs.Common.{good_weight, has_below, HasAtoms, HasLeaf, is_before, is_cut, is_cut_by, IsAtom, IsNumbering, IsPermutation}
+use Rattle.renumbering.proofs.Common.{IsPermutation-sym, IsSameAuction, larger, largest_cut, Leaf, length-range_with_len, List, list_all_at, list_any}
+use Rattle.renumbering.proofs.Common.{list_any_fails, ltb, map, map_same_on, next_colour, next_colours, None, number_in, numbers_by_colour, Option}
+use Rattle.renumbering.proofs.Common.{PlainAuction, range_contains, range_with_len, refined, refl, renumbered, renumbered_atom, renumbered_atoms, replicate}
+use Rattle.renumbering.proofs.Common.{same_canonical, set_apart, slice_index, Some, subst, suc, sym, true, under, zero, ℕ, [], ⊎_elim, ◌<◌, ◌∙◌, ◌∷◌, ◌≡◌, ◌≤◌}
+use Rattle.renumbering.specs.Cells.{largest}
+use Rattle.renumbering.specs.Colours.{colours_after}
 use Rattle.renumbering.proofs.Auctions.{auction_alike, renumbered-joined}
 use Rattle.renumbering.proofs.Counts.{count_all, count_more}
-use Rattle.renumbering.proofs.Images.{IsRenamedAuction, IsRenaming, images_of_map, images_sum}
+use Rattle.renumbering.proofs.Images.{images_of_map, images_sum, IsRenamedAuction, IsRenaming}
 use Rattle.renumbering.proofs.Numberings.{joined, joined_numbers, number_below, number_in-joined, number_kept, numbers_differ, numbers_of_range}
-use Rattle.renumbering.proofs.Places.{before_itself, lower, place}
-use Rattle.renumbering.proofs.Rounds.{Match, at_good, largest_cut_same, refined_match, set_apart_match, trace_same}
+use Rattle.renumbering.proofs.Places.{before_itself, lower}
+use Rattle.renumbering.proofs.Rounds.{at_good, largest_cut_same, Match, refined_match, set_apart_match, trace_same}
 use Rattle.renumbering.proofs.Sameness.{HasAtoms-renumbered, same_renumbered}
 use Rattle.renumbering.proofs.WholeCells.{bundles_alike, colours_number, has_whole_cell, number_is_place, same_colour}
 

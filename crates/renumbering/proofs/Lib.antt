@@ -1,4 +1,5 @@
 -- Proofs that several functions of this crate cite.
+pub mod Common
 pub mod Numberings
 pub mod Bundles
 pub mod FirstWrong
@@ -16,5 +17,7 @@ pub mod Leaves
 pub mod Steps
 pub mod CanonicalNumbers
 pub mod Headline
+pub mod Runs
+pub mod Keys
 pub mod Bids
 pub mod Sameness

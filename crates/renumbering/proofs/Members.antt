@@ -1,20 +1,8 @@
 -- Lists with the same elements, each once, are permutations of one another.
-use Rattle.std.proofs.Common.{rules, ◌≡◌, ◌≢◌, ℕ, Bool, true, false, cond, ⊎_elim, List, [], ◌∷◌, refl, sym, ap, ◌∙◌, subst, Ordering, Equal}
-use Rattle.std.specs.Prelude.{AllPairs, Contains, IsPermutation}
-use Rattle.std.specs.Cmp.{IsTotalOrder}
-use Rattle.std.specs.List.{list_any}
-use Rattle.std.specs.Ordering.{is_eq}
-use Rattle.std.proofs.lemmas.Bool.{both_ways, cases_Bool, false_from_ne_true}
-use Rattle.std.proofs.lemmas.Cmp.{tied_itself}
-use Rattle.std.proofs.lemmas.List.Elements.{All-contains}
-use Rattle.std.proofs.lemmas.List.Sorted.{IsPermutation-sym, IsPermutation-trans}
-use Rattle.valuation.specs.Lemmas.Lists.{AllPairs-head, AllPairs-tail}
-use Rattle.valuation.specs.Lemmas.Sorting.{permutation-sort_by, sort_by-same}
-use Rattle.valuation.specs.Sorting.{count_of, sort_by}
-use Rattle.prune.specs.Lemmas.Lists.{list_any_found, list_any_has}
-use Rattle.canon.specs.Lemmas.Finding.{equal_from}
-use Rattle.canon.proofs.CanonicalAuctions.Counting.{skips}
-use Rattle.std.proofs.lemmas.List.Sums.{sum_by-cons}
+use Rattle.renumbering.proofs.Common.{All-contains, AllPairs, AllPairs-head, AllPairs-tail, ap, Bool, both_ways, cases_Bool, cond, Contains, count_of, Equal}
+use Rattle.renumbering.proofs.Common.{equal_from, false, false_from_ne_true, is_eq, IsPermutation, IsPermutation-sym, IsPermutation-trans, IsTotalOrder, List}
+use Rattle.renumbering.proofs.Common.{list_any, list_any_found, list_any_has, Ordering, permutation-sort_by, refl, skips, sort_by, sort_by-same, subst}
+use Rattle.renumbering.proofs.Common.{sum_by-cons, sym, tied_itself, true, ℕ, [], ⊎_elim, ◌∙◌, ◌∷◌, ◌≡◌, ◌≢◌}
 
 pub same_tests : (a b : Bool) → (a ≡ true → b ≡ true) → (b ≡ true → a ≡ true) → a ≡ b
 same_tests true b there back = sym (there refl)

@@ -1,18 +1,10 @@
 -- Numberings: each good has a number of its own, there is an inverse, and two are joined to one.
-use Rattle.std.proofs.Common.{rules, ◌≡◌, ◌≢◌, ℕ, ◌+◌, ◌<◌, ◌≤◌, ◌⊎◌, inl, inr, ⊎_elim, Bool, true, false, eqb, List, length, map, get_or, refl, sym, ap, ◌∙◌, subst}
-use Rattle.std.proofs.Common.{arith}
-use Rattle.std.specs.Prelude.{All, AllPairs, IsPermutation}
-use Rattle.std.specs.List.{range_with_len, position_or_len}
-use Rattle.std.proofs.lemmas.Bool.{eq-eqb, ne_eqb, cases_lt, cases_eq}
-use Rattle.std.proofs.lemmas.Bool.Decides.{Decides-eqb}
-use Rattle.std.proofs.lemmas.List.{ext_get_or, get_or-map, length-map, get_or_past}
-use Rattle.std.proofs.lemmas.List.FromFn.{length-range_with_len, get_or-range_with_len}
-use Rattle.std.proofs.lemmas.List.Sorted.{All-permutation, IsPermutation-map, IsPermutation-refl, IsPermutation-sym, IsPermutation-trans, length_permutation}
-use Rattle.std.proofs.lemmas.List.Sums.{position_or_len_is}
-use Rattle.std.proofs.lemmas.Map.Keys.{IsDistinct-IsPermutation}
-use Rattle.std.proofs.lemmas.Map.Made.{AllPairs-from_IsDistinct, IsDistinct-from_AllPairs}
-use Rattle.std.proofs.lemmas.Grind.{common_steps, get_or_default_zero}
-use Rattle.renumbering.specs.Renumbering.{IsNumbering, number_in}
+use Rattle.renumbering.proofs.Common.{All, All-permutation, AllPairs, AllPairs-from_IsDistinct, ap, arith, cases_eq, cases_lt, common_steps, Decides-eqb}
+use Rattle.renumbering.proofs.Common.{eq-eqb, eqb, ext_get_or, get_or, get_or-map, get_or-range_with_len, get_or_default_zero, get_or_past}
+use Rattle.renumbering.proofs.Common.{IsDistinct-from_AllPairs, IsDistinct-IsPermutation, IsNumbering, IsPermutation, IsPermutation-map, IsPermutation-refl}
+use Rattle.renumbering.proofs.Common.{IsPermutation-sym, IsPermutation-trans, length, length-map, length-range_with_len, length_permutation, List, map, ne_eqb}
+use Rattle.renumbering.proofs.Common.{number_in, position_or_len, position_or_len_is, range_with_len, rules, subst, sym, ℕ, ⊎_elim, ◌+◌, ◌<◌, ◌∙◌, ◌≡◌, ◌≢◌}
+use Rattle.renumbering.proofs.Common.{◌≤◌, ◌⊎◌}
 
 range_differs : (n : ℕ) → AllPairs (λ d e. d ≢ e) (range_with_len 0 n)
 range_differs n i j d l m e = grind (arith, common_steps, length-range_with_len, get_or-range_with_len)

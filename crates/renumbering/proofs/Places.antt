@@ -1,38 +1,22 @@
 -- The numbers by colour. Each good has one of its own. A cell has numbers that follow one another, and which these are depends on how many goods each colour
 -- has. So where no cell is cut, the numbers of a bundle do not depend on the numbers of the goods before.
-use Rattle.std.proofs.Common.{rules, ◌≡◌, ◌≢◌, ℕ, ◌+◌, ◌<◌, ◌≤◌, ◌⊎◌, inl, inr, ⊎_elim, Bool, true, false, ◌&&◌, cond, eqb, ltb, List, [], ◌∷◌, length, get_or, map, refl, sym, ap, ap₂, ◌∙◌}
-use Rattle.std.proofs.Common.{subst, arith}
-use Rattle.std.specs.Prelude.{All, Contains, slice_index}
-use Rattle.std.specs.List.{count_by, filter, range_with_len}
-use Rattle.std.proofs.lemmas.Bool.{both_ways, cases_eq, cases_lt, cases_order, eq-eqb, eqb-true, false_from_ne_true, le-ltb, lt-ltb, ltb-true, ne_eqb, cases_Bool, and_parts, and_from}
-use Rattle.std.proofs.lemmas.List.FromFn.{get_or-map-range_with_len, length-map-range_with_len, length-range_with_len}
-use Rattle.goods_set.specs.Bundles.{AreAbove, IsBundle, IsRising, has_good}
-use Rattle.goods_set.specs.Lemmas.Members.{AreAbove-from_has, IsRising-filter, has-filter, has_below, same_from_has}
-use Rattle.prune.specs.Lemmas.KeptBids.{contains_from_has, has_from_contains}
-use Rattle.prune.specs.Lemmas.Ranges.{in_range, range_contains}
-use Rattle.renumbering.specs.Cells.{cell_size}
-use Rattle.renumbering.specs.Colours.{is_before}
-use Rattle.renumbering.specs.Leaves.{numbers_by_colour}
-use Rattle.renumbering.specs.Refusals.{AreNumbers}
-use Rattle.renumbering.specs.Renumbering.{IsNumbering, number_in, renumbered_bundle}
-use Rattle.renumbering.proofs.Bundles.{IsBundle-renumbered, has-renumbered_bundle}
-use Rattle.renumbering.proofs.Counts.{count_all, count_either, count_filter, count_more, count_weaker}
-use Rattle.renumbering.proofs.FirstWrong.{numbering_from_numbers}
-use Rattle.renumbering.proofs.Members.{same_tests}
-use Rattle.renumbering.proofs.Numberings.{back_and_there, inverse, inverse_numbers, number_below}
+use Rattle.renumbering.proofs.Common.{ap, arith, Bool, both_ways, cases_eq, cases_lt, cell_size, cond, count_by, eq-eqb, eqb, eqb-true, false, inl, inr}
+use Rattle.renumbering.proofs.Common.{is_before, le-ltb, length-range_with_len, lt-ltb, ltb, ltb-true, ne_eqb, range_contains, range_with_len, refl, sym, true}
+use Rattle.renumbering.proofs.Common.{ℕ, [], ⊎_elim, ◌+◌, ◌<◌, ◌∙◌, ◌≡◌, ◌≢◌, ◌≤◌, ◌⊎◌}
+use Rattle.renumbering.proofs.Counts.{count_all, count_either, count_more, count_weaker}
 
 -- ---- the order by two numbers
 
 pub before_itself : (x y : ℕ) → is_before x y x y ≡ false
 before_itself x y = rw (le-ltb x x (omega arith), eq-eqb x x refl, le-ltb y y (omega arith)) refl
 
-before_from : (a b x y : ℕ) → (a < x) ⊎ ((a ≡ x) × (b < y)) → is_before a b x y ≡ true
+pub before_from : (a b x y : ℕ) → (a < x) ⊎ ((a ≡ x) × (b < y)) → is_before a b x y ≡ true
 before_from a b x y (inl l) = rw (lt-ltb a x l) refl
 before_from a b x y (inr h) =
     let m : x ≤ a = omega (arith, h.0) in
     rw (le-ltb a x m, eq-eqb a x h.0, lt-ltb b y h.1) refl
 
-before_parts : (a b x y : ℕ) → is_before a b x y ≡ true → (a < x) ⊎ ((a ≡ x) × (b < y))
+pub before_parts : (a b x y : ℕ) → is_before a b x y ≡ true → (a < x) ⊎ ((a ≡ x) × (b < y))
 before_parts a b x y e = ⊎_elim (λ (l : a < x). inl l)
     (λ (m : x ≤ a). ⊎_elim
     (λ (f : a ≡ x).

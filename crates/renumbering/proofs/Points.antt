@@ -1,24 +1,12 @@
 -- The points of a bidder under other numbers are its points, each under them, in some order. The idea: numbered back they have the values of the bidder,
 -- which say what its points are, so no point is lost.
-use Rattle.std.proofs.Common.{rules, ◌≡◌, ◌≢◌, ℕ, List, [], ◌∷◌, get_or, map, refl, sym, ap, ◌∙◌, subst, arith}
-use Rattle.std.specs.Prelude.{All, AllPairs, Contains, IsPermutation}
-use Rattle.std.proofs.lemmas.List.Elements.{All-contains, All-weaker}
-use Rattle.goods_set.specs.Bundles.{IsBundle}
-use Rattle.valuation.specs.declared.atom.Atom.{Atom}
-use Rattle.valuation.specs.Auctions.{IsAtom}
-use Rattle.valuation.specs.Lemmas.Lists.{AllPairs-map, Contains-map, Contains-unmap}
-use Rattle.valuation.specs.Lemmas.Orders.{atom_cmp_equal, atom_cmp_total}
-use Rattle.valuation.specs.Orders.{atom_cmp}
-use Rattle.valuation.specs.Values.{or_value, xor_value}
-use Rattle.prune.specs.InOrder.{IsBefore, IsInOrder}
-use Rattle.prune.specs.Lemmas.InOrder.{before_itself}
-use Rattle.prune.specs.Lemmas.KeptBids.{just_bundles, on_bundles, or_points_are_atoms, or_points_keep_values, or_points_same}
-use Rattle.prune.specs.Lemmas.KeptBids.{xor_points_are_atoms, xor_points_keep_values, xor_points_same}
-use Rattle.prune.specs.Lemmas.Points.{points_where-in_order}
-use Rattle.prune.specs.Points.{is_or_point, is_xor_point, or_points, xor_points}
-use Rattle.renumbering.specs.Renumbering.{IsNumbering, renumbered_atom, renumbered_atoms, renumbered_bundle}
+use Rattle.renumbering.proofs.Common.{All, All-contains, All-weaker, AllPairs, AllPairs-map, ap, arith, Atom, atom_cmp, atom_cmp_equal, atom_cmp_total}
+use Rattle.renumbering.proofs.Common.{before_itself, Contains, Contains-unmap, get_or, is_or_point, is_xor_point, IsAtom, IsBefore, IsBundle, IsInOrder}
+use Rattle.renumbering.proofs.Common.{IsNumbering, IsPermutation, just_bundles, List, on_bundles, or_points, or_points_are_atoms, or_points_keep_values}
+use Rattle.renumbering.proofs.Common.{or_points_same, or_value, points_where-in_order, renumbered_atom, renumbered_atoms, renumbered_bundle, subst, sym}
+use Rattle.renumbering.proofs.Common.{xor_points, xor_points_are_atoms, xor_points_keep_values, xor_points_same, xor_value, ℕ, [], ◌∙◌, ◌≡◌, ◌≢◌}
 use Rattle.renumbering.proofs.Auctions.{atoms_renumbered}
-use Rattle.renumbering.proofs.Bundles.{IsBundle-renumbered, bundle_back}
+use Rattle.renumbering.proofs.Bundles.{bundle_back, IsBundle-renumbered}
 use Rattle.renumbering.proofs.Members.{permutation_from_members}
 use Rattle.renumbering.proofs.Numberings.{back_and_there, inverse, inverse_numbers, there_and_back}
 use Rattle.renumbering.proofs.Values.{or_value-renumbered, xor_value-renumbered}

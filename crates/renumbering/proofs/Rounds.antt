@@ -1,18 +1,12 @@
 -- Colours, rounds and cells do not depend on the numbers of the goods: if goods are numbered anew, and their colours with them, then so is what comes of these.
-use Rattle.std.proofs.Common.{rules, ◌≡◌, ℕ, zero, suc, ◌+◌, ◌*◌, ◌%◌, ◌^◌, ◌<◌, ◌≤◌, ⊎_elim, Bool, true, false, cond, eqb, ltb, List, [], ◌∷◌, length, map, get_or, refl, sym, ap, ap₂, subst, arith}
-use Rattle.std.proofs.Common.{Option, Some, None}
-use Rattle.std.specs.Prelude.{slice_index}
-use Rattle.std.specs.List.{count_by, list_all, list_any, range_with_len, sum_by}
-use Rattle.std.proofs.Math.Path.{fun_ext, ◌∙◌}
-use Rattle.std.proofs.lemmas.Bool.{cases_lt}
-use Rattle.std.proofs.lemmas.List.{get_or_past}
-use Rattle.std.proofs.lemmas.List.FromFn.{get_or-map-range_with_len, length-map-range_with_len}
-use Rattle.valuation.specs.declared.atom.Atom.{Atom}
-use Rattle.valuation.specs.Auctions.{PlainAuction}
-use Rattle.renumbering.specs.Cells.{cell_size, is_cut, is_cut_by, largest, largest_cut, set_apart}
-use Rattle.renumbering.specs.Colours.{are_stable, bidder_weight, colours_after, from_bidder, from_point, good_weight, is_before, next_colour, next_colours, point_weight}
-use Rattle.renumbering.specs.Colours.{refined, rounds_after, trace, wrapped_sum}
-use Rattle.renumbering.proofs.Images.{AreImages, AreRenamedAtoms, IsRenamedAtom, IsRenamedAuction, IsRenaming, images_all, images_any, images_sum, same_test}
+use Rattle.renumbering.proofs.Common.{ap, ap₂, are_stable, arith, Atom, bidder_weight, Bool, cases_lt, cell_size, cond, count_by, eqb, false, from_bidder}
+use Rattle.renumbering.proofs.Common.{from_point, fun_ext, get_or-map-range_with_len, get_or_past, good_weight, is_before, is_cut, is_cut_by, largest}
+use Rattle.renumbering.proofs.Common.{largest_cut, length-map-range_with_len, List, list_all, list_any, ltb, map, next_colour, next_colours, PlainAuction}
+use Rattle.renumbering.proofs.Common.{point_weight, range_with_len, refined, refl, set_apart, slice_index, subst, suc, sum_by, sym, trace, true, wrapped_sum}
+use Rattle.renumbering.proofs.Common.{zero, ℕ, [], ⊎_elim, ◌%◌, ◌+◌, ◌<◌, ◌^◌, ◌∙◌, ◌≡◌, ◌≤◌}
+use Rattle.renumbering.specs.Colours.{colours_after}
+use Rattle.renumbering.specs.Colours.{rounds_after}
+use Rattle.renumbering.proofs.Images.{AreRenamedAtoms, images_all, images_any, images_sum, IsRenamedAtom, IsRenamedAuction, IsRenaming, same_test}
 
 -- a list of what each good has, read at a good
 pub at_good : (f : ℕ → ℕ) (n g : ℕ) → g < n → slice_index (map f (range_with_len 0 n)) g ≡ f g

@@ -1,37 +1,16 @@
 -- The same auction up to numbers is an equivalence. The idea: an auction and its canonical one are the same under any numbering, and
 -- auctions that are the same have one canonical auction.
-use Rattle.std.proofs.Common.{rules, cond, nat_cmp, ◌≡◌, ℕ, true, false, ⊎_elim, List, [], ◌∷◌, map, refl, sym, ap, ◌∙◌, subst, arith, Bool}
-use Rattle.std.specs.Prelude.{All, ◌↔◌}
-use Rattle.std.specs.List.{range_with_len, count_by, sum}
-use Rattle.std.specs.Ordering.{is_eq}
-use Rattle.std.specs.Cmp.Lexicographic.{slice_cmp}
-use Rattle.std.proofs.lemmas.Bool.{cases_Bool, both_ways, false_from_ne_true}
-use Rattle.std.proofs.lemmas.List.Elements.{All-head, All-tail}
-use Rattle.std.proofs.lemmas.List.Sorted.{IsPermutation-refl}
-use Rattle.std.proofs.lemmas.List.Sums.{sum-map}
-use Rattle.std.proofs.lemmas.Simd.{map-map}
-use Rattle.goods_set.specs.Bundles.{IsBundle, all_bundles, has_good}
-use Rattle.goods_set.specs.Lemmas.AllBundles.{all_bundles_are}
-use Rattle.valuation.specs.declared.atom.Atom.{Atom}
-use Rattle.valuation.specs.Auctions.{IsAtom, IsAuction, PlainAuction}
-use Rattle.valuation.specs.Lemmas.Sorting.{sum_by-sort_by}
-use Rattle.valuation.specs.Orders.{bidder_cmp}
-use Rattle.valuation.specs.Tables.{is_nonzero, or_table, xor_table}
-use Rattle.valuation.specs.Values.{or_value, xor_value}
-use Rattle.prune.specs.Lemmas.KeptBids.{just_bundles, on_bundles, or_points_keep_values, xor_points_again, xor_points_keep_values}
-use Rattle.prune.specs.Lemmas.Lists.{All-from_Contains, map_same_on}
-use Rattle.prune.specs.Lemmas.Tables.{no_xor_points}
-use Rattle.prune.specs.Points.{or_points, xor_points}
-use Rattle.canon.specs.Canonical.{canonical_auction, points_of_bidders}
-use Rattle.canon.specs.Sameness.{IsSameAuction, has_table}
-use Rattle.canon.proofs.CanonicalAuctions.Atoms.{HasAtoms}
-use Rattle.canon.proofs.CanonicalAuctions.Counting.{alike, points_more, points_without, same_table, skips}
-use Rattle.canon.proofs.CanonicalAuctions.Sames.{HasAtoms-auction, canonical_is_same, same_canonical, same_refl, same_sym, same_trans}
-use Rattle.renumbering.specs.Renumbering.{IsNumbering, number_in, renumbered, renumbered_atoms, renumbered_bundle}
-use Rattle.renumbering.specs.SameUpToNumbers.{IsSameUpToNumbers}
-use Rattle.renumbering.proofs.Auctions.{IsAuction-renumbered, atoms_renumbered, bidders_renumbered, renumbered-joined, renumbered-range}
-use Rattle.renumbering.proofs.Bundles.{IsBundle-renumbered, has-renumbered_bundle}
-use Rattle.renumbering.proofs.Numberings.{back_and_there, inverse, inverse_numbers, joined, joined-inverse, joined_numbers, there_and_back}
+use Rattle.renumbering.proofs.Common.{alike, All, All-from_Contains, All-head, All-tail, all_bundles, all_bundles_are, ap, arith, Atom, bidder_cmp, Bool}
+use Rattle.renumbering.proofs.Common.{both_ways, canonical_auction, cases_Bool, cond, count_by, false, false_from_ne_true, has_good, has_table, HasAtoms, is_eq}
+use Rattle.renumbering.proofs.Common.{is_nonzero, IsAtom, IsBundle, IsNumbering, IsPermutation-refl, IsSameAuction, IsSameUpToNumbers, just_bundles, List, map}
+use Rattle.renumbering.proofs.Common.{map-map, map_same_on, nat_cmp, no_xor_points, number_in, on_bundles, or_points, or_points_keep_values, or_table, or_value}
+use Rattle.renumbering.proofs.Common.{PlainAuction, points_more, points_of_bidders, points_without, range_with_len, refl, renumbered, renumbered_atoms}
+use Rattle.renumbering.proofs.Common.{renumbered_bundle, rules, same_canonical, same_sym, same_table, same_trans, skips, slice_cmp, subst, sum, sum-map}
+use Rattle.renumbering.proofs.Common.{sum_by-sort_by, sym, true, xor_points, xor_points_again, xor_points_keep_values, xor_table, xor_value, ℕ, [], ⊎_elim, ◌∙◌}
+use Rattle.renumbering.proofs.Common.{◌∷◌, ◌≡◌}
+use Rattle.renumbering.proofs.Auctions.{atoms_renumbered, bidders_renumbered, renumbered-joined, renumbered-range}
+use Rattle.renumbering.proofs.Bundles.{has-renumbered_bundle, IsBundle-renumbered}
+use Rattle.renumbering.proofs.Numberings.{inverse, inverse_numbers, joined, joined-inverse, joined_numbers, there_and_back}
 use Rattle.renumbering.proofs.Values.{Hits, or_value-hit, xor_value-hit}
 
 tables_alike : (one other : List ℕ → ℕ) (n : ℕ) → ((bundle : List ℕ) → IsBundle n bundle → one bundle ≡ other bundle)
@@ -104,7 +83,7 @@ module _ (n : ℕ) (p : List ℕ) (numbers : IsNumbering n p) where
       ap (count_by test) (points_without n bidder bidders e) ∙ later ∙ sym (skips test bidder bidders (zero_lacks table bidder nonzero atoms e)))
       (cases_Bool (is_nonzero (xor_table bidder n)))
 
-count_by-map : {X Y : Type 0} (test : Y → Bool) (f : X → Y) (xs : List X) → count_by test (map f xs) ≡ count_by (λ x. test (f x)) xs
+pub count_by-map : {X Y : Type 0} (test : Y → Bool) (f : X → Y) (xs : List X) → count_by test (map f xs) ≡ count_by (λ x. test (f x)) xs
 count_by-map {Y = Y} test f xs =
     let one : Y → ℕ = λ y. cond {A = ℕ} (test y) 1 0 in
     sym (sum-map one (map f xs)) ∙ ap sum (map-map one f xs) ∙ sum-map (λ x. cond {A = ℕ} (test (f x)) 1 0) xs

@@ -1,20 +1,11 @@
 -- The search of a renumbered auction takes as many steps.
-use Rattle.std.proofs.Common.{rules, ◌≡◌, ℕ, zero, suc, ◌+◌, ◌*◌, ◌<◌, Bool, cond, eqb, List, [], ◌∷◌, length, map, replicate, Option, Some, None, refl, sym, ap, ap₂, ◌∙◌}
-use Rattle.std.proofs.Common.{subst, arith}
-use Rattle.std.specs.Prelude.{slice_index}
-use Rattle.std.specs.List.{range_with_len, sum_by}
-use Rattle.std.proofs.lemmas.List.Sorted.{length_permutation}
-use Rattle.valuation.specs.declared.atom.Atom.{Atom}
-use Rattle.valuation.specs.Auctions.{PlainAuction}
-use Rattle.canon.specs.Sameness.{IsSameAuction}
-use Rattle.canon.proofs.CanonicalAuctions.Atoms.{HasAtoms}
-use Rattle.renumbering.specs.Cells.{largest_cut, set_apart}
-use Rattle.renumbering.specs.Colours.{rounds_after}
-use Rattle.renumbering.specs.Leaves.{ExceedsLimit, below_good, first_colours, refining_steps, round_steps, search_steps, steps_below, steps_of_cell}
-use Rattle.renumbering.specs.Renumbering.{IsNumbering, number_in}
-use Rattle.renumbering.proofs.Images.{AreImages, AreRenamedAtoms, IsRenamedAtom, IsRenamedAuction, IsRenaming, Zip, images_sum}
+use Rattle.renumbering.proofs.Common.{ap₂, arith, Atom, below_good, cond, eqb, first_colours, IsNumbering, largest_cut, length, length_permutation, List, None}
+use Rattle.renumbering.proofs.Common.{number_in, Option, PlainAuction, range_with_len, refining_steps, refl, replicate, round_steps, search_steps, set_apart}
+use Rattle.renumbering.proofs.Common.{slice_index, Some, steps_of_cell, suc, sum_by, sym, zero, ℕ, [], ◌*◌, ◌+◌, ◌∙◌, ◌∷◌, ◌≡◌}
+use Rattle.renumbering.specs.Leaves.{steps_below}
+use Rattle.renumbering.proofs.Images.{AreImages, AreRenamedAtoms, images_sum, IsRenamedAtom, IsRenamedAuction, IsRenaming, Zip}
 use Rattle.renumbering.proofs.Leaves.{all_zero, below_match, first_match, renaming_from_numbering}
-use Rattle.renumbering.proofs.Rounds.{Match, all_rounds_same, largest_cut_same, set_apart_match}
+use Rattle.renumbering.proofs.Rounds.{all_rounds_same, largest_cut_same, Match, set_apart_match}
 
 zip_length : {X Y : Type 0} (R : X → Y → Type 0) (xs : List X) (ys : List Y) → Zip R xs ys → length ys ≡ length xs
 zip_length R [] [] z = refl

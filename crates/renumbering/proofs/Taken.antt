@@ -1,19 +1,8 @@
 -- Going through a list, and marking each number as taken.
-use Rattle.std.proofs.Common.{rules, ◌≡◌, ◌≢◌, ℕ, ◌+◌, ◌<◌, ◌≤◌, ◌⊎◌, inl, inr, ⊎_elim, Bool, true, false, eqb, Option, Some, List, [], ◌∷◌, ◌++◌, length, get_or, set, take, refl, sym, ap}
-use Rattle.std.proofs.Common.{◌∙◌, subst, arith}
-use Rattle.std.specs.Prelude.{All, AllPairs, Contains}
-use Rattle.std.specs.List.{slice_get}
-use Rattle.std.proofs.lemmas.Bool.{cases_eq, eq-eqb, ne_eqb, both_ways}
-use Rattle.std.proofs.lemmas.Grind.{common_steps}
-use Rattle.std.proofs.lemmas.List.{get_or-set_other, get_or_default, get_or-set_same, length-set, take_all, take_more}
-use Rattle.std.proofs.lemmas.List.Elements.{All-push, Contains-get_or}
-use Rattle.std.proofs.lemmas.List.Quantifiers.{all_pairs_push}
-use Rattle.std.proofs.lemmas.Option.{slice_get-get_or, slice_get_past}
-use Rattle.goods_set.specs.Bundles.{has_good}
-use Rattle.goods_set.specs.Lemmas.Members.{has_head}
-use Rattle.prune.specs.Lemmas.KeptBids.{contains_from_has, has_from_contains}
-use Rattle.renumbering.specs.Refusals.{AreNumbers, IsFirstWrong, IsWrongBehind}
-use Rattle.renumbering.specs.Renumbering.{IsNumbering}
+use Rattle.renumbering.proofs.Common.{All-push, all_pairs_push, AreNumbers, arith, Bool, both_ways, cases_eq, Contains, contains_from_has, false, get_or}
+use Rattle.renumbering.proofs.Common.{get_or-set_other, get_or-set_same, get_or_default, has_from_contains, has_good, has_head, inl, inr, IsFirstWrong}
+use Rattle.renumbering.proofs.Common.{IsNumbering, IsWrongBehind, length, length-set, List, ne_eqb, Option, refl, rules, set, slice_get-get_or, slice_get_past}
+use Rattle.renumbering.proofs.Common.{subst, sym, take, take_all, take_more, true, ℕ, [], ⊎_elim, ◌++◌, ◌+◌, ◌<◌, ◌∙◌, ◌∷◌, ◌≡◌, ◌≢◌, ◌≤◌, ◌⊎◌}
 use Rattle.renumbering.proofs.FirstWrong.{no_more_numbers, numbering_from_numbers}
 
 -- the numbers are of goods, each once, and the marks of just these goods are set

@@ -1,13 +1,7 @@
 -- Values under other numbers.
-use Rattle.std.proofs.Common.{rules, ◌≡◌, ℕ, ◌+◌, Bool, not, ◌&&◌, List, [], ◌∷◌, map, refl, sym, ap, ap₂, ◌∙◌}
-use Rattle.std.specs.List.{list_all}
-use Rattle.std.proofs.Math.Path.{fun_ext}
-use Rattle.std.proofs.lemmas.List.Folds.{list_all-map}
-use Rattle.goods_set.specs.Bundles.{has_good, is_inside, without}
-use Rattle.goods_set.specs.Lemmas.Members.{has-without}
-use Rattle.valuation.specs.declared.atom.Atom.{Atom}
+use Rattle.renumbering.proofs.Common.{ap, ap₂, Atom, Bool, fun_ext, has-without, has_good, is_inside, IsNumbering, List, list_all, list_all-map, map, not}
+use Rattle.renumbering.proofs.Common.{number_in, refl, renumbered_atoms, renumbered_bundle, sym, without, ℕ, [], ◌&&◌, ◌∙◌, ◌∷◌, ◌≡◌}
 use Rattle.valuation.specs.Values.{or_value, xor_value}
-use Rattle.renumbering.specs.Renumbering.{IsNumbering, number_in, renumbered_atoms, renumbered_bundle}
 use Rattle.renumbering.proofs.Bundles.{has-renumbered_bundle, list_all-sort_by}
 
 module _ (n : ℕ) (p : List ℕ) (numbers : IsNumbering n p) where

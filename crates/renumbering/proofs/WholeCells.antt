@@ -1,19 +1,11 @@
 -- Where a point cuts no cell, the numbers by colour of its goods are those of whole cells. So they depend on the colours alone.
-use Rattle.std.proofs.Common.{rules, ◌≡◌, ◌≢◌, ℕ, zero, suc, ◌+◌, ◌<◌, ◌≤◌, ⊎_elim, Bool, true, false, ◌&&◌, cond, eqb, ltb, List, [], ◌∷◌, length, get_or, map, refl, sym, ap, ap₂, ◌∙◌}
-use Rattle.std.proofs.Common.{subst, arith, inl, inr, ◌⊎◌}
-use Rattle.std.specs.Prelude.{All, Contains, slice_index}
-use Rattle.std.specs.List.{count_by, filter, range_with_len}
-use Rattle.std.proofs.lemmas.Bool.{and_from, and_parts, both_ways, cases_lt, cases_order, cases_Bool, eq-eqb, false_from_ne_true, lt-ltb}
-use Rattle.std.proofs.lemmas.List.FromFn.{get_or-map-range_with_len, length-map-range_with_len}
-use Rattle.goods_set.specs.Bundles.{AreAbove, IsBundle, IsRising, has_good}
-use Rattle.goods_set.specs.Lemmas.Members.{IsRising-filter, has-filter, has_below, same_from_has}
-use Rattle.valuation.specs.declared.atom.Atom.{Atom}
-use Rattle.prune.specs.Lemmas.KeptBids.{contains_from_has, has_from_contains}
-use Rattle.prune.specs.Lemmas.Ranges.{in_range, range_contains}
-use Rattle.renumbering.specs.Cells.{cell_size, is_cut_by}
-use Rattle.renumbering.specs.Leaves.{numbers_by_colour}
-use Rattle.renumbering.specs.Renumbering.{IsNumbering, number_in, renumbered_bundle}
-use Rattle.renumbering.proofs.Bundles.{IsBundle-renumbered, has-renumbered_bundle}
+use Rattle.renumbering.proofs.Common.{and_from, and_parts, ap, ap₂, AreAbove, arith, Bool, both_ways, cases_Bool, cases_order, cell_size, cond}
+use Rattle.renumbering.proofs.Common.{contains_from_has, count_by, eq-eqb, eqb, false, filter, get_or, get_or-map-range_with_len, has-filter, has_below}
+use Rattle.renumbering.proofs.Common.{has_from_contains, has_good, is_cut_by, IsBundle, IsNumbering, IsRising, IsRising-filter, length}
+use Rattle.renumbering.proofs.Common.{length-map-range_with_len, List, lt-ltb, number_in, numbers_by_colour, range_contains, range_with_len, refl}
+use Rattle.renumbering.proofs.Common.{renumbered_bundle, same_from_has, slice_index, subst, suc, sym, true, zero, ℕ, [], ⊎_elim, ◌&&◌, ◌+◌, ◌<◌, ◌∙◌, ◌≡◌, ◌≤◌}
+use Rattle.renumbering.proofs.Common.{◌⊎◌}
+use Rattle.renumbering.proofs.Bundles.{has-renumbered_bundle, IsBundle-renumbered}
 use Rattle.renumbering.proofs.Counts.{count_filter, count_more}
 use Rattle.renumbering.proofs.FirstWrong.{numbering_from_numbers}
 use Rattle.renumbering.proofs.Numberings.{back_and_there, inverse, inverse_numbers, number_below}

@@ -7,3 +7,5 @@ pub mod Cells
 pub mod Leaves
 pub mod RenumberedTexts
 pub mod Examples
+pub mod Mixing
+pub mod Internal

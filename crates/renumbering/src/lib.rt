@@ -3,9 +3,13 @@
 
 mod files;
 pub mod laws;
+mod mixing;
+mod ranks;
 mod renumber_fault;
+mod round;
 #[cfg(test)]
 mod tests;
+mod weights;
 pub mod worked;
 
 pub use files::renumber;
