@@ -1,10 +1,12 @@
 -- The order of goods by colour and weight is that of one number, and so are the colours of the next round.
-use Rattle.renumbering.proofs.Common.{ap, ap₂, arith, Bool, cases_lt, count_by, fun_ext, good_weight, inl, inr, is_before, List, lt-ltb, ltb, ltb-true, map}
+use Rattle.renumbering.proofs.Common.{length, ap, ap₂, arith, Bool, cases_lt, count_by, fun_ext, good_weight, inl, inr, is_before, List, lt-ltb, ltb, ltb-true, map}
 use Rattle.renumbering.proofs.Common.{map-map, map-range_with_len_more, next_colour, next_colours, PlainAuction, range_with_len, slice_index, subst, sym, ℕ, []}
 use Rattle.renumbering.proofs.Common.{⊎_elim, ◌*◌, ◌++◌, ◌+◌, ◌<◌, ◌^◌, ◌∙◌, ◌∷◌, ◌≡◌, ◌≤◌, ◌⊎◌}
 use Rattle.renumbering.proofs.Members.{same_tests}
 use Rattle.renumbering.proofs.Places.{before_from, before_parts}
 use Rattle.renumbering.proofs.Sameness.{count_by-map}
+use Rattle.std.proofs.lemmas.List.{length-map}
+use Rattle.std.proofs.lemmas.List.FromFn.{length-map-range_with_len}
 
 key_order : (a b x y : ℕ) → b < 2 ^ 64 → y < 2 ^ 64 → ltb (a * 2 ^ 64 + b) (x * 2 ^ 64 + y) ≡ is_before a b x y
 key_order a b x y l m =
@@ -18,6 +20,10 @@ key_order a b x y l m =
     inr (same, lower)) (cases_lt a x)))
     (λ e. lt-ltb (a * 2 ^ 64 + b) (x * 2 ^ 64 + y)
     (⊎_elim (λ (k : a < x). omega arith) (λ (k : (a ≡ x) × (b < y)). omega (arith, k.0, k.1)) (before_parts a b x y e)))
+
+pub ranks_long : (f key : ℕ → ℕ) (keys ranks : List ℕ) (n : ℕ) → keys ≡ map key (range_with_len 0 n) → ranks ≡ map f keys → length ranks ≡ n
+ranks_long f key keys ranks n made ranked =
+    ap (λ (xs : List ℕ). length xs) ranked ∙ length-map keys f ∙ ap (λ (xs : List ℕ). length xs) made ∙ length-map-range_with_len key 0 n
 
 -- the keys so far, and one more
 pub one_more_key : (f : ℕ → ℕ) (keys after : List ℕ) (n key : ℕ) → keys ≡ map f (range_with_len 0 n) → key ≡ f n → after ≡ keys ++ key ∷ []

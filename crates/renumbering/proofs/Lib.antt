@@ -21,3 +21,4 @@ pub mod Runs
 pub mod Keys
 pub mod Bids
 pub mod Sameness
+pub mod RoundByRound

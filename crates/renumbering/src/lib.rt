@@ -4,7 +4,9 @@
 mod files;
 pub mod laws;
 mod mixing;
+mod numbering_fault;
 mod ranks;
+mod refining;
 mod renumber_fault;
 mod round;
 #[cfg(test)]

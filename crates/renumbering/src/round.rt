@@ -21,7 +21,8 @@ pub(crate) fn next_colours(
 ) -> Result<Vec<usize>, AllocError>
     requires or_goods { AreOn (length colours.now) bidders.now.or_bids }
     requires xor_goods { AreOnEach (length colours.now) bidders.now.xor_bidders.items }
-    ensures { IfOk result (λ next. (a : PlainAuction) → AreBidders a bidders.now.or_bids bidders.now.xor_bidders.items
+    ensures length { IfOk result (λ next. length next.items ≡ length colours.now) }
+    ensures colours { IfOk result (λ next. (a : PlainAuction) → AreBidders a bidders.now.or_bids bidders.now.xor_bidders.items
         → a.goods ≡ length colours.now → next.items ≡ next_colours mix_64 a colours.now) }
 {
     let weights = good_weights(alloc, bidders, colours)?;
