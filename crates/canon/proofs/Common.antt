@@ -2,7 +2,7 @@
 pub use Rattle.bid_file.specs.Files.{PlainFile, IsPlainFile, PlainBid, IsDummyBelow, IsBid, IsBidFile}
 pub use Rattle.bid_file.specs.Views.{seen_bid, plain_file}
 pub use Rattle.bid_file.specs.declared.limits.TheConstants.{MAX_GOODS, MAX_DUMMY}
-pub use Rattle.canon.specs.Answers.{RefusesAs, RefusesText, RefusesAuction, IsNormalFile, NormalisesPlainAs}
+pub use Rattle.canon.specs.Answers.{RefusesText, RefusesAuction, IsNormalFile, NormalisesPlainAs}
 pub use Rattle.canon.specs.Bidders.{offers}
 pub use Rattle.canon.specs.Canonical.{points_of_bidders, canonical_auction, canonical_file, bid_from, dummy_bids, file_from, canonical_bidders, canonical_text}
 pub use Rattle.canon.specs.Canonical.{IsCanonical, IsCanonicalFile}
@@ -31,7 +31,6 @@ pub use Rattle.canon.specs.Lemmas.Renaming.{map-sorted, filter-map, sort_by-map,
 pub use Rattle.canon.specs.Lemmas.Renaming.{points_of_nonzero, range_differs}
 pub use Rattle.canon.specs.Lemmas.TextMaps.{same_order, updated}
 pub use Rattle.canon.specs.Normalising.{Normalised, IsNoFile, ExceedsSteps, IsText, HasOutcome, IsNormalised, Normalises, SpellsCanonicalFile, unless_refused}
-pub use Rattle.canon.specs.Normalising.{normalised_file}
 pub use Rattle.canon.specs.PriceChanges.{PlainChange, IsPriceChange, ArePriceChanges, price_on, plain_change}
 pub use Rattle.canon.specs.Refusals.{refusal_by_kind, refusal_of}
 pub use Rattle.canon.specs.Renaming.{points_of_dummy, dummy_cmp, kept_dummies, named_bid, named_dummy, with_dummies}
@@ -74,12 +73,12 @@ pub use Rattle.prune.specs.Lemmas.Lists.{zero_or_more, All-from_Contains, Contai
 pub use Rattle.prune.specs.Lemmas.Lists.{Contains-filter_parts, filter_same_on, map_same_on, find_none, found_none, map_same_at, find_alike}
 pub use Rattle.prune.specs.Lemmas.Points.{points_where-in_order, IsOrPoint-from_test, is_or_point-true, or_points_are}
 pub use Rattle.prune.specs.Lemmas.Ranges.{in_range}
-pub use Rattle.prune.specs.Lemmas.Refusals.{no_refused_point, no_heavy_point, first_refused-plain, step_limit_weaker}
+pub use Rattle.prune.specs.Lemmas.Refusals.{no_refused_point, no_heavy_point, may_refuse-plain, some_refused, step_limit_weaker}
 pub use Rattle.prune.specs.Lemmas.SearchSteps.{no_new_heavy, search_steps-point}
 pub use Rattle.prune.specs.Lemmas.Tables.{same_xor_points, same_or_points, no_xor_points}
 pub use Rattle.prune.specs.Lemmas.Values.{or_value-dominated, xor_value-bound, xor_value-member}
 pub use Rattle.prune.specs.Points.{xor_points, or_points, is_or_point}
-pub use Rattle.prune.specs.SearchSteps.{first_refused}
+pub use Rattle.prune.specs.SearchSteps.{MayRefuse, first_heavy}
 pub use Rattle.std.proofs.Common.{◌≡◌, ℕ, List, ◌+◌, ◌<◌, ◌≤◌, Bool, true, false, cond, ⊎_elim, [], ◌∷◌, refl, sym, ap, ◌∙◌, subst, arith, le_antisymm}
 pub use Rattle.std.proofs.Common.{nat_cmp, rules, length, map, None, ap₂, Ordering, Less, Equal, Greater, Some, ◌++◌, append_assoc, Global, zero, suc, Option}
 pub use Rattle.std.proofs.Common.{is_none, drop, get_or, take, le_refl, ◌⊎◌, inl, inr, IfSome, eqb, Result, Ok, Err, ◌≢◌, unwrap_or, bytes_eq, not, ◌-◌}

@@ -8,19 +8,13 @@ use Rattle.bid_file.specs.declared.bid.BidFile.{BidFile}
 use Rattle.cats_text.specs.Faults.{has_bid_line}
 use Rattle.cats_text.specs.Grammar.{Spells}
 use Rattle.valuation.specs.Auctions.{PlainAuction, auction_from}
-use Rattle.prune.specs.SearchSteps.{first_refused}
+use Rattle.prune.specs.SearchSteps.{MayRefuse}
 use Rattle.valuation.specs.declared.search.options.SearchOptions.{SearchOptions}
 use Rattle.canon.specs.Canonical.{canonical_auction, file_from}
 use Rattle.canon.specs.Normalising.{Normalised, IsNoFile, ExceedsSteps, IsText, Normalises}
 use Rattle.canon.specs.declared.canon_fault.CanonFault.{CanonFault}
 use Rattle.canon.specs.declared.normal.named.NamedFile.{NamedFile}
 use Rattle.canon.specs.declared.canon_fault.CanonFault.TheVariants.{Read, StepLimit, Memory}
-
--- why there is no text
-abbrev pub RefusesAs : Normalised → CanonFault → Type 0
-RefusesAs expected (Read fault) = expected ≡ IsNoFile fault
-RefusesAs expected (StepLimit goods) = expected ≡ ExceedsSteps goods.items
-RefusesAs expected Memory = Unit {0}
 
 -- ---- a text
 
@@ -41,14 +35,14 @@ NormalisesTextAs options text (Err fault) = RefusesText options text fault
 
 -- ---- a file
 
--- the file of the canonical auction if no bundle is refused, and else the first refused bundle
+-- the file of the canonical auction, if limits may refuse no bundle
 pub record IsNormalFile (options : SearchOptions) (a : PlainAuction) (h : PlainFile) : Type 0 where
   pub canonical : h ≡ file_from (canonical_auction a)
-  pub within_limit : first_refused options a.goods a.or_atoms ≡ None
+  pub within_limit : MayRefuse options a.goods a.or_atoms None
 
 abbrev pub RefusesAuction : SearchOptions → PlainAuction → CanonFault → Type 0
 RefusesAuction options a (Read fault) = ⊥
-RefusesAuction options a (StepLimit goods) = first_refused options a.goods a.or_atoms ≡ Some goods.items
+RefusesAuction options a (StepLimit goods) = MayRefuse options a.goods a.or_atoms (Some goods.items)
 RefusesAuction options a Memory = Unit {0}
 
 abbrev pub NormalisesAuctionAs : SearchOptions → PlainAuction → Result PlainFile CanonFault → Type 0

@@ -4,7 +4,7 @@ use Rattle.std.specs.Prelude.{◌≡◌, ℕ, List, None, Result, Ok, Err}
 use Rattle.bid_file.specs.Files.{PlainFile}
 use Rattle.cats_text.specs.Grammar.{Spells}
 use Rattle.valuation.specs.Auctions.{auction_from, or_atoms_of}
-use Rattle.prune.specs.SearchSteps.{first_refused}
+use Rattle.prune.specs.SearchSteps.{MayRefuse}
 use Rattle.valuation.specs.declared.search.options.SearchOptions.{SearchOptions}
 use Rattle.canon.specs.Answers.{IsNormalFile, RefusesText}
 use Rattle.canon.specs.Difference.{Difference, first_difference}
@@ -15,11 +15,11 @@ use Rattle.canon.specs.declared.verdict.Verdict.{Verdict}
 use Rattle.canon.specs.declared.which.Which.{Which}
 use Rattle.canon.specs.declared.which.Which.TheVariants.{Only, First, Second, Both}
 
--- the text spells a file of which no bundle is refused
+-- the text spells a file of which limits may refuse no bundle
 pub record SpellsWithinLimit (options : SearchOptions) (text : List ℕ) : Type 0 where
   pub file : PlainFile
   pub spelled : Spells text file
-  pub within_limit : first_refused options file.goods (or_atoms_of file.bids) ≡ None
+  pub within_limit : MayRefuse options file.goods (or_atoms_of file.bids) None
 
 -- both texts do, and this is the first difference of the auctions of their files
 pub record Differ (options : SearchOptions) (one other : List ℕ) (difference : Difference) : Type 0 where

@@ -10,9 +10,10 @@ use Rattle.bid_file.specs.Files.{PlainFile, IsPlainFile}
 use Rattle.cats_text.specs.Streams.{inner_of, ReadsAs, ReadsFile}
 use Rattle.cats_text.specs.declared.read_fault.ReadFault.{ReadFault}
 use Rattle.cats_text.specs.declared.stream.Watched.{Watched}
-use Rattle.canon.specs.Answers.{RefusesAs}
+use Rattle.canon.specs.Answers.{RefusesAuction}
 use Rattle.canon.specs.Canonical.{canonical_text}
-use Rattle.canon.specs.Normalising.{IsText, normalised_file}
+use Rattle.prune.specs.SearchSteps.{MayRefuse}
+use Rattle.valuation.specs.Auctions.{auction_from, or_atoms_of}
 use Rattle.canon.specs.Refusals.{refusal_of}
 use Rattle.canon.specs.declared.canon_fault.CanonFault.{CanonFault}
 use Rattle.valuation.specs.declared.search.options.SearchOptions.{SearchOptions}
@@ -83,7 +84,7 @@ module _ {R : Type 0} (remaining : R → Option (List ℕ)) where
       (number : ℕ) : Type 0 where
     pub file : PlainFile
     pub reads : ReadsFile remaining bytes input file
-    pub within_limit : normalised_file options file ≡ IsText (canonical_text file)
+    pub within_limit : MayRefuse options file.goods (or_atoms_of file.bids) None
     pub added : AddsText old new (canonical_text file) number
 
   -- the bytes spell no file, or no more came
@@ -96,7 +97,7 @@ module _ {R : Type 0} (remaining : R → Option (List ℕ)) where
   pub record IsUnmade (options : SearchOptions) (bytes : List ℕ) (input : Watched R) (fault : CanonFault) : Type 0 where
     pub file : PlainFile
     pub reads : ReadsFile remaining bytes input file
-    pub refused : RefusesAs (normalised_file options file) fault
+    pub refused : RefusesAuction options (auction_from file) fault
 
   abbrev pub AddsOrRefuses : SearchOptions → TextIndex → TextIndex → List ℕ → Watched R → Result ℕ CanonFault → Type 0
   AddsOrRefuses options old new bytes input (Ok number) = AddsFile options old new bytes input number

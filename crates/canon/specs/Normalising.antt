@@ -5,7 +5,7 @@ use Rattle.cats_text.specs.Faults.{first_fault}
 use Rattle.cats_text.specs.Grammar.{Spells}
 use Rattle.cats_text.specs.declared.read_fault.ReadFault.{ReadFault}
 use Rattle.valuation.specs.Auctions.{or_atoms_of}
-use Rattle.prune.specs.SearchSteps.{first_refused}
+use Rattle.prune.specs.SearchSteps.{MayRefuse}
 use Rattle.valuation.specs.declared.search.options.SearchOptions.{SearchOptions}
 use Rattle.canon.specs.Canonical.{canonical_file, canonical_text}
 use Rattle.canon.specs.Sameness.{AreSameFiles}
@@ -13,7 +13,7 @@ use Rattle.canon.specs.Sameness.{AreSameFiles}
 pub data Normalised : Type 0 where
   -- the text is not a bid file, by this fault
   IsNoFile : ReadFault → Normalised
-  -- the search on the bundle of these goods takes more steps than its limits leave
+  -- limits refuse the bundle of these goods
   ExceedsSteps : List ℕ → Normalised
   -- the canonical text
   IsText : List ℕ → Normalised
@@ -22,17 +22,15 @@ abbrev pub unless_refused : PlainFile → Option (List ℕ) → Normalised
 unless_refused f None = IsText (canonical_text f)
 unless_refused f (Some goods) = ExceedsSteps goods
 
--- of a file: its canonical text, unless some bundle of the OR bidder is refused, of which the first is reported
-abbrev pub normalised_file : SearchOptions → PlainFile → Normalised
-normalised_file options f = unless_refused f (first_refused options f.goods (or_atoms_of f.bids))
-
--- the text spells a file, of which this is the outcome
+-- the text spells a file, and this comes of it: its canonical text, unless limits refuse a bundle of the OR bidder
 pub record HasOutcome (options : SearchOptions) (text : List ℕ) (outcome : Normalised) : Type 0 where
   pub file : PlainFile
   pub spelled : Spells text file
-  pub is : normalised_file options file ≡ outcome
+  pub refused : Option (List ℕ)
+  pub may : MayRefuse options file.goods (or_atoms_of file.bids) refused
+  pub is : unless_refused file refused ≡ outcome
 
--- Of a text: its first fault, or else the outcome of the file that it spells. Each text has one outcome.
+-- Of a text: its first fault, or else an outcome of the file that it spells. By plain searches each text has one outcome.
 abbrev pub Normalises : SearchOptions → List ℕ → Normalised → Type 0
 Normalises options text (IsNoFile fault) = first_fault text ≡ Some fault
 Normalises options text outcome = HasOutcome options text outcome

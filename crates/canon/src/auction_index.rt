@@ -4,10 +4,11 @@ mod unsearched;
 
 ghost use Rattle.std.specs.Prelude.{◌≡◌, ℕ, List, cond, unwrap_or, bytes_eq, Some, IfOk, IfErr, OnOk, OnErr, false};
 ghost use Rattle.cats_text.specs.Streams.{has_ended, has_failed};
-ghost use Rattle.canon.specs.Answers.{RefusesAs};
+ghost use Rattle.canon.specs.Answers.{RefusesAuction};
 ghost use Rattle.canon.specs.Canonical.{canonical_text};
 ghost use Rattle.canon.specs.FirstNumbers.{AddsStream, AddsText, IsEmptyIndex};
-ghost use Rattle.canon.specs.Normalising.{IsText, normalised_file};
+ghost use Rattle.prune.specs.SearchSteps.{MayRefuse};
+ghost use Rattle.valuation.specs.Auctions.{auction_from, or_atoms_of};
 ghost use Rattle.canon.specs.Unsearched.{unsearched_text};
 ghost use Rattle.canon.specs.Internal.TextNumbers.{number_of};
 
@@ -66,8 +67,8 @@ impl AuctionIndex {
         options: SearchOptions,
     ) -> Result<usize, CanonFault>
         ensures added { IfOk result (AddsText self.old self.new (canonical_text file.now)) }
-        ensures within_limits { OnOk result (normalised_file options file.now ≡ IsText (canonical_text file.now)) }
-        ensures refused { IfErr result (RefusesAs (normalised_file options file.now)) }
+        ensures within_limits { let f = file.now in OnOk result (MayRefuse options f.goods (or_atoms_of f.bids) None) }
+        ensures refused { IfErr result (RefusesAuction options (auction_from file.now)) }
         ensures unchanged { OnErr result (self.new ≡ self.old) }
     {
         let Some(count) = self.count.checked_add(1) else {

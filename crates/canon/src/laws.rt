@@ -3,9 +3,9 @@
 ghost use Rattle.std.specs.Prelude.{◌≡◌, ◌↔◌, ℕ, List, [], ◌∷◌, ◌++◌, None, true, ◌<◌, Some, All, Contains, IsPermutation};
 ghost use Rattle.bid_file.specs.Files.{PlainBid, PlainFile, IsPlainFile};
 ghost use Rattle.valuation.specs.Auctions.{PlainAuction, IsAuction, auction_from};
-ghost use Rattle.prune.specs.SearchSteps.{first_heavy, first_refused, greatest_price, is_heavy, search_steps_by};
-ghost use Rattle.valuation.specs.declared.search.kind.SearchKind.{SearchKind};
+ghost use Rattle.prune.specs.SearchSteps.{first_heavy, greatest_price, is_heavy, search_steps, MayRefuse};
 ghost use Rattle.valuation.specs.declared.search.options.SearchOptions.{SearchOptions};
+ghost use Rattle.valuation.specs.SearchLimits.{plain_options};
 ghost use Rattle.canon.specs.Canonical.{IsCanonical, IsCanonicalFile, canonical_auction, canonical_text, file_from};
 ghost use Rattle.canon.specs.FirstNumbers.{AddsText, IsEmptyIndex, IsFirstNumber, IsIndexOf, TextIndex, first_number};
 ghost use Rattle.canon.specs.Normalising.{IsNormalised, IsText, Normalised, Normalises, SpellsCanonicalFile};
@@ -28,7 +28,7 @@ ghost use Rattle.canon.specs.Difference.{NoDifference};
 /// their canonical texts are equal exactly if their files have the same number of goods, the same OR value on every
 /// bundle and the same multiset of nonzero XOR valuations. So one text has one canonical text, whatever the searches and
 /// the limits. The canonical text spells the canonical file of the file that the text spells, which is the same auction;
-/// and normalising it by the same searches under the same limits gives it back.
+/// and normalising it by the same searches under the same limits may give it back, as plain ones do.
 pub fn equal_text_exactly_for_the_same_auction()
     ensures equal { (m n : SearchOptions) (one other s t : List ℕ) → Normalises m one (IsText s)
         → Normalises n other (IsText t) → (s ≡ t ↔ AreSameTexts one other) }
@@ -40,11 +40,11 @@ pub fn equal_text_exactly_for_the_same_auction()
         → Normalises options out (IsText out) }
 {}
 
-/// What normalising a text gives is there for each text, each kind of search and all limits, and is one.
+/// What normalising a text gives is there for each text, each kind of search and all limits. By plain searches it is one.
 pub fn each_text_has_one_outcome()
     ensures some { (options : SearchOptions) (text : List ℕ) → IsNormalised options text }
-    ensures one { (options : SearchOptions) (text : List ℕ) (one other : Normalised) → Normalises options text one
-        → Normalises options text other → one ≡ other }
+    ensures one { (limit : ℕ) (text : List ℕ) (one other : Normalised) → Normalises (plain_options limit) text one
+        → Normalises (plain_options limit) text other → one ≡ other }
 {}
 
 /// Files of the same auction have one canonical text, and no others have it.
@@ -79,22 +79,20 @@ pub fn sameness_is_an_equivalence()
     ensures transitive { (a b c : PlainAuction) → IsSameAuction a b → IsSameAuction b c → IsSameAuction a c }
 {}
 
-/// On a bundle that the canonical auction has a price for, the search of either kind takes the steps that it takes in the
-/// auction. So a bundle that is over the limit in the canonical auction is over it in the auction, and if none is refused
-/// there, none is here.
+/// On a bundle that the canonical auction has a price for, the plain search takes the steps that it takes in the auction.
+/// So a bundle that is over the limit in the canonical auction is over it in the auction, and if limits may refuse none
+/// there, they may refuse none here.
 pub fn no_new_heavy_bundle()
     ensures heavy { (cap limit : ℕ) (a : PlainAuction) → IsAuction cap a → (bundle : List ℕ)
         → is_heavy a.goods limit (canonical_auction a).or_atoms bundle ≡ true → is_heavy a.goods limit a.or_atoms bundle
         ≡ true }
     ensures none { (cap limit : ℕ) (a : PlainAuction) → IsAuction cap a → first_heavy a.goods limit a.or_atoms ≡ None
         → first_heavy a.goods limit (canonical_auction a).or_atoms ≡ None }
-    ensures steps { (kind : SearchKind) (cap : ℕ) (a : PlainAuction) → IsAuction cap a → (bundle : List ℕ)
+    ensures steps { (cap : ℕ) (a : PlainAuction) → IsAuction cap a → (bundle : List ℕ)
         → 0 < greatest_price (canonical_auction a).or_atoms bundle
-        → search_steps_by kind a.goods (canonical_auction a).or_atoms bundle
-        ≡ search_steps_by kind a.goods a.or_atoms bundle }
+        → search_steps a.goods (canonical_auction a).or_atoms bundle ≡ search_steps a.goods a.or_atoms bundle }
     ensures none_refused { (options : SearchOptions) (cap : ℕ) (a : PlainAuction) → IsAuction cap a
-        → first_refused options a.goods a.or_atoms ≡ None
-        → first_refused options a.goods (canonical_auction a).or_atoms ≡ None }
+        → MayRefuse options a.goods a.or_atoms None → MayRefuse options a.goods (canonical_auction a).or_atoms None }
 {}
 
 /// An index that files are added to one by one, each with a text of its own, is the index of these files by these texts.

@@ -12,7 +12,7 @@ ghost use Rattle.std.specs.Prelude.{◌≡◌, ◌≤◌, true, None, IfOk, IfEr
 ghost use Rattle.bid_file.specs.Views.{plain_file};
 ghost use Rattle.valuation.specs.SearchLimits.{plain_options};
 ghost use Rattle.valuation.specs.Views.{plain_auction};
-ghost use Rattle.prune.specs.SearchSteps.{first_refused};
+ghost use Rattle.prune.specs.SearchSteps.{MayRefuse};
 ghost use Rattle.canon.specs.Answers.{NormalisesAuctionAs, NormalisesFileAs, NormalisesPlainAs, RefusesAuction};
 ghost use Rattle.canon.specs.Answers.{unnamed_answer};
 ghost use Rattle.canon.specs.Canonical.{IsCanonical, IsCanonicalFile, canonical_auction};
@@ -102,7 +102,7 @@ pub(crate) fn normal_auction_file<S: GoodsSet>(
     })
 }
 
-/// The canonical auction, if no bundle is refused.
+/// The canonical auction, if limits refuse no bundle.
 fn canonical_within_limits<S: GoodsSet>(
     alloc: Global,
     auction: Auction<S>,
@@ -113,7 +113,7 @@ fn canonical_within_limits<S: GoodsSet>(
     ensures fixed { IfOk result (λ c. IsCanonical (plain_auction c.auction)) }
     ensures dummies { IfOk result (λ c. c.dummies.items ≡ kept_numbers (plain_auction auction)) }
     ensures within_limits { let a = plain_auction auction in
-        OnOk result (first_refused options a.goods a.or_atoms ≡ None) }
+        OnOk result (MayRefuse options a.goods a.or_atoms None) }
     ensures refused { IfErr result (λ fault. RefusesAuction options (plain_auction auction) fault) }
     ensures fates { IfOk result (λ c. with_fates ≡ true → AreFates options.kind (plain_auction auction) c.fates) }
 {

@@ -1,16 +1,13 @@
 -- The limits along a pruning's loop. The best bids are those of the searched bundles, one on each, in order; the search for a best bid among the points so
--- far takes the steps that the definition says; so what is left of the limits decides on the bids that are left as the first limits do on all.
-use Rattle.prune.proofs.Common.{rules, ◌≡◌, ℕ, ◌+◌, ◌<◌, false, true, ltb, ⊎_elim, List, [], ◌∷◌, ◌++◌, map, sym, ap, ap₂, ◌∙◌, subst, arith, Some, None, Less}
-use Rattle.prune.proofs.Common.{All, Contains, AllByRecursion, lt-ltb, ltb-false, ltb-true, All-head, All-tail, All-contains, Contains-append_right}
+-- far may take the steps that the definition says; so what is left of the limits refuses of the bids that are left what the first limits refuse of all.
+use Rattle.prune.proofs.Common.{rules, ◌≡◌, ℕ, ◌<◌, false, ltb, inl, inr, ⊎_elim, List, [], ◌∷◌, ◌++◌, map, refl, sym, ap, ◌∙◌, subst, subst₂, arith, Some, None, Less}
+use Rattle.prune.proofs.Common.{Option, All, Contains, AllByRecursion, lt-ltb, ltb-true, All-head, All-tail, All-contains, Contains-append_right}
 use Rattle.prune.proofs.Common.{IsStrictlySortedBy-filter, all_bundles, bundle_cmp, bundle_cmp_strict, all_bundles_has, all_bundles_sorted, same_from_contains}
-use Rattle.prune.proofs.Common.{Atom, SearchKind, SearchOptions, IsAtom, or_value, bound_of, is_one_over, options_after, options_after_all, is_one_over-one}
-use Rattle.prune.proofs.Common.{options_after_all-one, Contains-cons_cases, Contains-map, Contains-unmap, AllPairs-head, AllPairs-tail, or_value-price}
-use Rattle.prune.proofs.Common.{or_value-filter_le, or_points, is_below, atoms_below, greatest_price, in_search_order, searched_bundles, IsBefore, IsInOrder}
-use Rattle.prune.proofs.Common.{AreBestBids, IsOnBundle, Contains-head, Contains-tail, Contains-filter, Contains-filter_parts, All-from_Contains, all_nonempty}
-use Rattle.prune.proofs.Common.{on_bundles, first_over-refused, first_over-within, atoms_inside, steps_for}
+use Rattle.prune.proofs.Common.{Atom, SearchKind, SearchOptions, IsAtom, or_value, MayTake, IsFirstOver, IsWithinLimits, IsOverLimits, within_more, over_more}
+use Rattle.prune.proofs.Common.{Contains-cons_cases, Contains-map, Contains-unmap, AllPairs-head, AllPairs-tail, or_value-price, or_value-filter_le, or_points}
+use Rattle.prune.proofs.Common.{is_below, atoms_below, greatest_price, searched_bundles, BundleMayTake, MayRefuse, IsBefore, IsInOrder, AreBestBids, IsOnBundle}
+use Rattle.prune.proofs.Common.{Contains-head, Contains-tail, Contains-filter, Contains-filter_parts, All-from_Contains, all_nonempty, on_bundles, atoms_inside}
 use Rattle.std.specs.List.Sorted.{IsStrictlySortedBy}
-use Rattle.valuation.specs.SearchSteps.{cut_steps as steps_with}
-use Rattle.prune.specs.SearchSteps.{search_steps_by, first_over, first_refused}
 use Rattle.prune.proofs.Pruning.{HasRisingBundle, completion, later_not_below, not_below_itself, behind_next}
 use Rattle.prune.proofs.Results.{IsTurn, IsOrKept, turn_below, or_more, or_done, best_on, best_price}
 
@@ -39,18 +36,16 @@ best_searched goods bids best on b =
     let r = best_on bids best b bundle (ltb-true _ _ (Contains-filter_parts (λ bundle. ltb 0 (greatest_price bids bundle)) (all_bundles goods) bundle c).1) in
     subst (Contains (map (λ a. a.bundle) best)) r.2 (Contains-map (λ (a : Atom (List ℕ)). a.bundle) best r.0 r.1))
 
--- ---- the steps of a turn
+-- ---- the search of a turn
 
-pub turn_steps : (kind : SearchKind) (goods : ℕ) (bids done : List (Atom (List ℕ))) (x : Atom (List ℕ)) (rest kept : List (Atom (List ℕ)))
-    → All (IsOnBundle goods) bids → IsTurn bids done x rest → IsOrKept done kept
-    → 1 + steps_with (bound_of kind) (in_search_order kind (atoms_inside kept x.bundle)) x.bundle x.price ≡ search_steps_by kind goods bids x.bundle
-unfolding search_steps_by
-turn_steps kind goods bids done x rest kept on t k =
+-- the kept atoms inside the bundle are the points below it
+turn_points : (goods : ℕ) (bids done : List (Atom (List ℕ))) (x : Atom (List ℕ)) (rest kept : List (Atom (List ℕ)))
+    → All (IsOnBundle goods) bids → IsTurn bids done x rest → IsOrKept done kept → atoms_inside kept x.bundle ≡ atoms_below (or_points goods bids) x.bundle
+turn_points goods bids done x rest kept on t k =
     let best = done ++ x ∷ rest in
     let f = completion or_value or_value-price or_more or_value-filter_le (x ∷ rest) done kept t.best.in_order t.rising k in
     let points : f.0 ≡ or_points goods bids = (or_done bids best f.0 (all_nonempty goods bids on) t.best f.1.kept).points goods on in
     let here : Contains best x = Contains-append_right done (x ∷ rest) x (Contains-head x rest) in
-    let price : greatest_price bids x.bundle ≡ x.price = best_price bids best t.best x here in
     let later : All (IsBefore x) rest = behind_next done x rest t.best.in_order in
     let rising : (a : Atom (List ℕ)) → Contains best a → HasRisingBundle a = λ a c. All-contains HasRisingBundle best a t.rising c in
     let below : atoms_below f.0 x.bundle ≡ atoms_inside kept x.bundle =
@@ -59,56 +54,56 @@ turn_steps kind goods bids done x rest kept on t k =
     (λ (d : Contains rest a). later_not_below x a (rising x here) (rising a (Contains-append_right done (x ∷ rest) a (Contains-tail x rest a d)))
     (All-contains (IsBefore x) rest a later d))
     (Contains-cons_cases x rest a c))) ∙ sym (turn_below bids done x rest kept t k.among) in
-    let inside : atoms_inside kept x.bundle ≡ atoms_below (or_points goods bids) x.bundle =
-    sym below ∙ ap (λ (zs : List (Atom (List ℕ))). atoms_below zs x.bundle) points in
-    ap₂ (λ (zs : List (Atom (List ℕ))) (n : ℕ). 1 + steps_with (bound_of kind) (in_search_order kind zs) x.bundle n) inside (sym price)
+    sym below ∙ ap (λ (zs : List (Atom (List ℕ))). atoms_below zs x.bundle) points
+
+-- so it may take the steps that the definition says
+turn_may : (kind : SearchKind) (goods : ℕ) (bids done : List (Atom (List ℕ))) (x : Atom (List ℕ)) (rest kept : List (Atom (List ℕ)))
+    → All (IsOnBundle goods) bids → IsTurn bids done x rest → IsOrKept done kept → (steps : ℕ)
+    → MayTake kind (atoms_inside kept x.bundle) x.bundle x.price steps → BundleMayTake kind goods bids x.bundle steps
+turn_may kind goods bids done x rest kept on t k steps h =
+    let here : Contains (done ++ x ∷ rest) x = Contains-append_right done (x ∷ rest) x (Contains-head x rest) in
+    subst₂ (λ (zs : List (Atom (List ℕ))) (price : ℕ). MayTake kind zs x.bundle price steps) (turn_points goods bids done x rest kept on t k)
+    (sym (best_price bids (done ++ x ∷ rest) t.best x here)) h
 
 -- ---- the limits along the loop
 
--- what is left of the limits decides on the bids that are left
+-- what is left of the limits refuses of the bids that are left what the first limits refuse of all
 pub record IsWithin (start now : SearchOptions) (bids rest : List (Atom (List ℕ))) : Type 0 where
   pub kind : now.kind ≡ start.kind
-  pub left : (goods : ℕ) → All (IsAtom goods) bids
-      → first_refused start goods bids ≡ first_over (search_steps_by start.kind goods bids) now (map (λ a. a.bundle) rest)
+  pub left : (goods : ℕ) → All (IsAtom goods) bids → (refused : Option (List ℕ))
+      → IsFirstOver (BundleMayTake start.kind goods bids) now (map (λ a. a.bundle) rest) refused → MayRefuse start goods bids refused
 
 pub IsWithin-start : (start : SearchOptions) (bids best : List (Atom (List ℕ))) → AreBestBids bids best → IsWithin start start bids best
-unfolding first_refused
-IsWithin-start start bids best b = search (rules, best_searched, on_bundles)
-
--- the steps of the turn by the kind that is kept
-now_steps : (start now : SearchOptions) (goods : ℕ) (bids done : List (Atom (List ℕ))) (x : Atom (List ℕ)) (rest kept : List (Atom (List ℕ)))
-    → All (IsAtom goods) bids → IsTurn bids done x rest → IsOrKept done kept → now.kind ≡ start.kind
-    → steps_for now.kind kept x.bundle x.price ≡ search_steps_by start.kind goods bids x.bundle
-now_steps start now goods bids done x rest kept are t k e =
-    turn_steps now.kind goods bids done x rest kept (on_bundles goods bids are) t k ∙ ap (λ (kind : SearchKind). search_steps_by kind goods bids x.bundle) e
+IsWithin-start start bids best b = record {
+  kind = refl;
+  left = λ goods are refused h.
+      subst (λ (bundles : List (List ℕ)). IsFirstOver (BundleMayTake start.kind goods bids) start bundles refused)
+      (best_searched goods bids best (on_bundles goods bids are) b) h;
+}
 
 module _ (start now : SearchOptions) (bids done : List (Atom (List ℕ))) (x : Atom (List ℕ)) (rest kept : List (Atom (List ℕ)))
     (t : IsTurn bids done x rest) (k : IsOrKept done kept) (w : IsWithin start now bids (x ∷ rest))
   where
+    turns : (goods : ℕ) → All (IsAtom goods) bids → (steps : ℕ) → MayTake now.kind (atoms_inside kept x.bundle) x.bundle x.price steps
+        → BundleMayTake start.kind goods bids x.bundle steps
+    turns goods are steps h =
+        subst (λ (kind : SearchKind). BundleMayTake kind goods bids x.bundle steps) w.kind
+        (turn_may now.kind goods bids done x rest kept (on_bundles goods bids are) t k steps h)
+
     -- the search of a bid is within the limits
-    pub IsWithin-next : (after : SearchOptions) → is_one_over now (steps_for now.kind kept x.bundle x.price ∷ []) ≡ false
-        → after ≡ options_after_all now (steps_for now.kind kept x.bundle x.price ∷ []) → IsWithin start after bids rest
-    IsWithin-next after within left =
-        let same : after ≡ options_after now (steps_for now.kind kept x.bundle x.price) = left ∙ sym (options_after_all-one now _) in
-        let fits = ltb-false _ _ (sym (is_one_over-one now (steps_for now.kind kept x.bundle x.price)) ∙ within) in
-        rw same (record {
-          kind = w.kind;
-          left = λ goods are.
-              let steps = now_steps start now goods bids done x rest kept are t k w.kind in
-              w.left goods are ∙ first_over-within (search_steps_by start.kind goods bids) now x.bundle (map (λ a. a.bundle) rest) (omega (arith, steps, fits))
-              ∙ ap (λ n. first_over (search_steps_by start.kind goods bids) (options_after now n) (map (λ a. a.bundle) rest)) (sym steps);
-        })
+    pub IsWithin-next : (after : SearchOptions) → IsWithinLimits (MayTake now.kind (atoms_inside kept x.bundle) x.bundle x.price) now after
+        → IsWithin start after bids rest
+    IsWithin-next after h = record {
+      kind = ap (λ (o : SearchOptions). o.kind) h.left ∙ w.kind;
+      left = λ goods are refused later. w.left goods are refused (inr (after, within_more (turns goods are) h, later));
+    }
 
     -- it is not
-    pub IsWithin-refused : is_one_over now (steps_for now.kind kept x.bundle x.price ∷ []) ≡ true
-        → (goods : ℕ) → All (IsAtom goods) bids → first_refused start goods bids ≡ Some x.bundle
-    IsWithin-refused over goods are =
-        let steps = now_steps start now goods bids done x rest kept are t k w.kind in
-        let more = ltb-true _ _ (sym (is_one_over-one now (steps_for now.kind kept x.bundle x.price)) ∙ over) in
-        w.left goods are ∙ first_over-refused (search_steps_by start.kind goods bids) now x.bundle (map (λ a. a.bundle) rest) (omega (arith, steps, more))
+    pub IsWithin-refused : IsOverLimits (MayTake now.kind (atoms_inside kept x.bundle) x.bundle x.price) now
+        → (goods : ℕ) → All (IsAtom goods) bids → MayRefuse start goods bids (Some x.bundle)
+    IsWithin-refused over goods are = w.left goods are (Some x.bundle) (inl (over_more (turns goods are) over, refl))
 
 -- no bid is left
 pub IsWithin-end : (start now : SearchOptions) (bids : List (Atom (List ℕ))) → IsWithin start now bids [] → (goods : ℕ) → All (IsAtom goods) bids
-    → first_refused start goods bids ≡ None
-unfolding first_over
-IsWithin-end start now bids w goods are = w.left goods are
+    → MayRefuse start goods bids None
+IsWithin-end start now bids w goods are = w.left goods are None refl

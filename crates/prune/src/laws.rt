@@ -1,11 +1,12 @@
 //! Laws of the definitions, which the check proves.
-ghost use Rattle.std.specs.Prelude.{◌≡◌, ℕ, ◌<◌, ◌≤◌, ◌↔◌, true, false, IfSome, Some, None, List, [], All, Contains, sum_by};
+ghost use Rattle.std.specs.Prelude.{◌≡◌, ℕ, ◌*◌, ◌<◌, ◌≤◌, ◌↔◌, true, false, IfSome, Option, Some, None, List, [], All, Contains, sum_by};
 ghost use Rattle.goods_set.specs.Bundles.{IsBundle};
 ghost use Rattle.valuation.specs.Auctions.{IsAtom};
 ghost use Rattle.valuation.specs.declared.atom.Atom.{Atom};
 ghost use Rattle.valuation.specs.declared.search.kind.SearchKind.{SearchKind};
 ghost use Rattle.valuation.specs.declared.search.options.SearchOptions.{SearchOptions};
-ghost use Rattle.valuation.specs.SearchLimits.{plain_options};
+ghost use Rattle.valuation.specs.SearchLimits.{AreOver, plain_options};
+ghost use Rattle.valuation.specs.Searches.{steps_per_packing};
 ghost use Rattle.valuation.specs.Packings.{IsPackingFor, count_packings};
 ghost use Rattle.valuation.specs.Tables.{xor_table, or_table, is_nonzero};
 ghost use Rattle.valuation.specs.Values.{xor_value, or_value};
@@ -16,11 +17,11 @@ ghost use Rattle.prune.specs.SearchSteps.{
   atoms_below,
   greatest_price,
   steps_at_most,
-  search_steps_by,
+  search_steps,
   is_heavy,
   first_heavy,
   searched_bundles,
-  first_refused,
+  MayRefuse,
 };
 
 /// Which atoms are points. An XOR point is on a bundle of a value above 0, which each good less makes smaller; an OR
@@ -69,21 +70,20 @@ pub fn points_of_points()
         → or_points goods (or_points goods atoms) ≡ or_points goods atoms }
 {}
 
-/// A search of either kind takes no more steps than the bundle has packings by the points below it, nor than it has by
-/// all bids below it.
+/// A plain search takes no more steps than the bundle has packings by the points below it, and those are no more than it
+/// has by all bids below it.
 pub fn steps_are_bounded()
-    ensures cut { (kind : SearchKind) (goods : ℕ) (atoms : List (Atom (List ℕ))) (bundle : List ℕ)
-        → search_steps_by kind goods atoms bundle ≤ count_packings (atoms_below (or_points goods atoms) bundle) bundle }
-    ensures load { (kind : SearchKind) (goods : ℕ) (atoms : List (Atom (List ℕ))) → All (IsAtom goods) atoms
-        → (bundle : List ℕ) → search_steps_by kind goods atoms bundle ≤ steps_at_most atoms bundle }
+    ensures cut { (goods : ℕ) (atoms : List (Atom (List ℕ))) (bundle : List ℕ)
+        → search_steps goods atoms bundle ≤ count_packings (atoms_below (or_points goods atoms) bundle) bundle }
+    ensures load { (goods : ℕ) (atoms : List (Atom (List ℕ))) → All (IsAtom goods) atoms → (bundle : List ℕ)
+        → count_packings (atoms_below (or_points goods atoms) bundle) bundle ≤ steps_at_most atoms bundle }
 {}
 
-/// A bundle that is heavy for the points is heavy for all bids: where a point is, the search of either kind takes the
-/// same steps.
+/// A bundle that is heavy for the points is heavy for all bids: where a point is, the plain search takes the same steps.
 pub fn no_new_heavy_bundle()
-    ensures steps { (kind : SearchKind) (goods : ℕ) (atoms : List (Atom (List ℕ))) → All (IsAtom goods) atoms
-        → (bundle : List ℕ) → 0 < greatest_price (or_points goods atoms) bundle
-        → search_steps_by kind goods (or_points goods atoms) bundle ≡ search_steps_by kind goods atoms bundle }
+    ensures steps { (goods : ℕ) (atoms : List (Atom (List ℕ))) → All (IsAtom goods) atoms → (bundle : List ℕ)
+        → 0 < greatest_price (or_points goods atoms) bundle
+        → search_steps goods (or_points goods atoms) bundle ≡ search_steps goods atoms bundle }
     ensures heavy { (goods limit : ℕ) (atoms : List (Atom (List ℕ))) → All (IsAtom goods) atoms → (bundle : List ℕ)
         → is_heavy goods limit (or_points goods atoms) bundle ≡ true → is_heavy goods limit atoms bundle ≡ true }
 {}
@@ -112,31 +112,33 @@ pub fn fates_reach()
         → IfSome (xor_fate points bid) (λ index. IsPointFor points bid.bundle bid.price index) }
 {}
 
-/// If no bundle is heavy for the bids, or none is refused, that holds for their points.
+/// If no bundle is heavy for the bids, or limits may refuse none, that holds for their points.
 pub fn none_heavy_for_points()
     ensures heavy { (goods limit : ℕ) (atoms : List (Atom (List ℕ))) → All (IsAtom goods) atoms
         → first_heavy goods limit atoms ≡ None → first_heavy goods limit (or_points goods atoms) ≡ None }
     ensures refused { (options : SearchOptions) (goods : ℕ) (atoms : List (Atom (List ℕ))) → All (IsAtom goods) atoms
-        → first_refused options goods atoms ≡ None → first_refused options goods (or_points goods atoms) ≡ None }
+        → MayRefuse options goods atoms None → MayRefuse options goods (or_points goods atoms) None }
 {}
 
-/// No bundle is refused exactly if the search of each bundle takes no more steps than one may, and all together no more
-/// than all may, if that has a limit.
+/// Limits refuse a bundle only if a bid is there, and if its packings by the points below it, times a factor, are more
+/// than the steps of one search, or those of all bundles are more than all searches may take.
 pub fn refusals_are()
-    ensures { (options : SearchOptions) (goods : ℕ) (atoms : List (Atom (List ℕ)))
-        → let steps = search_steps_by options.kind goods atoms in let searched = searched_bundles goods atoms in
-        (first_refused options goods atoms ≡ None ↔ (All (λ bundle. steps bundle ≤ options.each) searched
-        × ((most : ℕ) → options.total ≡ Some most → sum_by steps searched ≤ most))) }
+    ensures searched { (options : SearchOptions) (goods : ℕ) (atoms : List (Atom (List ℕ))) (bundle : List ℕ)
+        → MayRefuse options goods atoms (Some bundle) → Contains (searched_bundles goods atoms) bundle }
+    ensures why { (options : SearchOptions) (goods : ℕ) (atoms : List (Atom (List ℕ))) (bundle : List ℕ)
+        → MayRefuse options goods atoms (Some bundle)
+        → let most = λ b. steps_per_packing * count_packings (atoms_below (or_points goods atoms) b) b in
+        AreOver options (most bundle) (sum_by most (searched_bundles goods atoms)) }
 {}
 
-/// For plain searches with no limit on all together, the first refused bundle is the first heavy one.
+/// Plain searches with no limit on all together refuse exactly the first heavy bundle.
 pub fn refused_is_heavy()
-    ensures { (limit goods : ℕ) (atoms : List (Atom (List ℕ)))
-        → first_refused (plain_options limit) goods atoms ≡ first_heavy goods limit atoms }
+    ensures { (limit goods : ℕ) (atoms : List (Atom (List ℕ))) (refused : Option (List ℕ))
+        → (MayRefuse (plain_options limit) goods atoms refused ↔ refused ≡ first_heavy goods limit atoms) }
 {}
 
-/// The points, and the first bundle that is heavy or refused, are the same for each number of goods that all bids are
-/// within.
+/// The points, the first heavy bundle, and what limits may refuse, are the same for each number of goods that all bids
+/// are within.
 pub fn goods_without_bids()
     ensures xor { (fewer more : ℕ) (atoms : List (Atom (List ℕ))) → All (IsAtom fewer) atoms → All (IsAtom more) atoms
         → xor_points fewer atoms ≡ xor_points more atoms }
@@ -145,6 +147,6 @@ pub fn goods_without_bids()
     ensures heavy { (fewer more limit : ℕ) (atoms : List (Atom (List ℕ))) → All (IsAtom fewer) atoms
         → All (IsAtom more) atoms → first_heavy fewer limit atoms ≡ first_heavy more limit atoms }
     ensures refused { (options : SearchOptions) (fewer more : ℕ) (atoms : List (Atom (List ℕ)))
-        → All (IsAtom fewer) atoms → All (IsAtom more) atoms
-        → first_refused options fewer atoms ≡ first_refused options more atoms }
+        → All (IsAtom fewer) atoms → All (IsAtom more) atoms → (refused : Option (List ℕ))
+        → MayRefuse options fewer atoms refused → MayRefuse options more atoms refused }
 {}

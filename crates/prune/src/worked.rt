@@ -1,8 +1,8 @@
 //! Worked examples of the definitions, which the check computes.
-ghost use Rattle.std.specs.Prelude.{◌≡◌, ◌+◌, ◌^◌, [], ◌∷◌, length, true, false, Some, None, Ok};
+ghost use Rattle.std.specs.Prelude.{◌≡◌, ◌+◌, ◌^◌, [], ◌∷◌, true, false, Some, None, Ok};
 ghost use Rattle.valuation.specs.declared.search.kind.SearchKind.TheVariants.{Plain, Bounded};
 ghost use Rattle.valuation.specs.Examples.{atom};
-ghost use Rattle.valuation.specs.SearchLimits.{plain_options};
+ghost use Rattle.valuation.specs.SearchLimits.{bounded_options, plain_options};
 ghost use Rattle.prune.specs.declared.subset_index.Posting.{Posting};
 ghost use Rattle.prune.specs.Fates.{best_bids, or_fate, or_fates, indices_below, xor_fate, xor_fates};
 ghost use Rattle.prune.specs.Internal.Fingerprints.{AreMarks, mark_of};
@@ -14,13 +14,11 @@ ghost use Rattle.prune.specs.SearchSteps.{
   cut_steps,
   in_search_order,
   steps_at_most,
-  search_steps_by,
   search_steps,
   is_heavy,
   first_heavy,
   searched_bundles,
-  first_over,
-  first_refused,
+  MayRefuse,
 };
 
 /// The XOR points: a bid is kept if no bid inside its bundle has its price.
@@ -58,7 +56,7 @@ pub fn or_points_worked()
 {}
 
 /// The steps of the searches, and the heavy bundles.
-#[tactic(auto, unfolding(crate::specs::Points::points_where, crate::specs::Points::is_or_point, crate::specs::SearchSteps::search_steps_by, crate::specs::SearchSteps::steps_at_most, crate::specs::SearchSteps::is_heavy, crate::specs::SearchSteps::first_heavy, valuation::specs::SearchSteps::cut_steps, valuation::specs::Values::or_value, valuation::specs::Packings::count_packings))]
+#[tactic(auto, unfolding(crate::specs::Points::points_where, crate::specs::Points::is_or_point, crate::specs::SearchSteps::search_steps, crate::specs::SearchSteps::steps_at_most, crate::specs::SearchSteps::is_heavy, crate::specs::SearchSteps::first_heavy, valuation::specs::SearchSteps::cut_steps, valuation::specs::Values::or_value, valuation::specs::Packings::count_packings))]
 pub fn steps_worked()
     ensures below { atoms_below (atom (0 ∷ []) 3 ∷ atom (0 ∷ 1 ∷ []) 7 ∷ atom (2 ∷ []) 1 ∷ []) (0 ∷ 1 ∷ [])
         ≡ atom (0 ∷ []) 3 ∷ [] }
@@ -103,48 +101,28 @@ pub fn fates_worked()
         ≡ None ∷ None ∷ Some 1 ∷ [] }
 {}
 
-/// The steps of the searches of each kind.
-#[tactic(auto, unfolding(crate::specs::Points::points_where, crate::specs::Points::is_or_point, crate::specs::SearchSteps::search_steps_by, valuation::specs::SearchSteps::cut_steps, valuation::specs::Values::or_value, valuation::specs::Bounds::greatest_rate, valuation::specs::Bounds::rate_bound))]
-pub fn kinds_worked()
-    ensures plain_order { let a = atom (0 ∷ []) 3 ∷ atom (1 ∷ []) 4 ∷ [] in in_search_order Plain a ≡ a }
-    ensures bounded_order { in_search_order Bounded (atom (0 ∷ []) 3 ∷ atom (1 ∷ []) 4 ∷ [])
+/// The orders of the searches.
+fn orders_worked()
+    ensures plain { let a = atom (0 ∷ []) 3 ∷ atom (1 ∷ []) 4 ∷ [] in in_search_order Plain a ≡ a }
+    ensures bounded { in_search_order Bounded (atom (0 ∷ []) 3 ∷ atom (1 ∷ []) 4 ∷ [])
         ≡ atom (1 ∷ []) 4 ∷ atom (0 ∷ []) 3 ∷ [] }
-    ensures rates_reach { search_steps_by Bounded 3 (atom (0 ∷ 1 ∷ []) 4 ∷ atom (0 ∷ 2 ∷ []) 4 ∷ atom (1 ∷ 2 ∷ []) 4
-        ∷ atom (0 ∷ 1 ∷ 2 ∷ []) 6 ∷ []) (0 ∷ 1 ∷ 2 ∷ []) ≡ 3 }
-    ensures rates_too_low { search_steps_by Bounded 3 (atom (0 ∷ 1 ∷ []) 4 ∷ atom (0 ∷ 2 ∷ []) 4 ∷ atom (1 ∷ 2 ∷ []) 4
-        ∷ atom (0 ∷ 1 ∷ 2 ∷ []) 7 ∷ []) (0 ∷ 1 ∷ 2 ∷ []) ≡ 1 }
-    ensures prices_reach { search_steps_by Plain 3 (atom (0 ∷ 1 ∷ []) 4 ∷ atom (0 ∷ 2 ∷ []) 4 ∷ atom (1 ∷ 2 ∷ []) 4
-        ∷ atom (0 ∷ 1 ∷ 2 ∷ []) 7 ∷ []) (0 ∷ 1 ∷ 2 ∷ []) ≡ 3 }
-    ensures rate_rounded_up { search_steps_by Bounded 3 (atom (0 ∷ 1 ∷ []) 1 ∷ atom (2 ∷ []) 1
-        ∷ atom (0 ∷ 1 ∷ 2 ∷ []) 3 ∷ []) (0 ∷ 1 ∷ 2 ∷ []) ≡ 2 }
-    ensures prices_too_low { search_steps_by Plain 3 (atom (0 ∷ 1 ∷ []) 1 ∷ atom (2 ∷ []) 1
-        ∷ atom (0 ∷ 1 ∷ 2 ∷ []) 3 ∷ []) (0 ∷ 1 ∷ 2 ∷ []) ≡ 1 }
 {}
 
-/// The bundles that a pruning searches, and the first that it refuses.
-#[tactic(auto, unfolding(crate::specs::Points::points_where, crate::specs::Points::is_or_point, crate::specs::SearchSteps::search_steps_by, crate::specs::SearchSteps::first_over, crate::specs::SearchSteps::first_refused, valuation::specs::SearchSteps::cut_steps, valuation::specs::Values::or_value, valuation::specs::Bounds::greatest_rate, valuation::specs::Bounds::rate_bound))]
+/// The bundles that a pruning searches, and what limits may refuse. The greatest bundle has four packings by the points
+/// below it.
 pub fn refused_worked()
     ensures searched { searched_bundles 2 (atom (1 ∷ []) 4 ∷ atom (0 ∷ []) 0 ∷ atom (0 ∷ 1 ∷ []) 7 ∷ [])
         ≡ (1 ∷ []) ∷ (0 ∷ 1 ∷ []) ∷ [] }
-    ensures third { first_over length (record { kind = Plain; each = 2; total = Some 3 }) ((0 ∷ []) ∷ (0 ∷ 1 ∷ [])
-        ∷ (1 ∷ []) ∷ []) ≡ Some (1 ∷ []) }
-    ensures each_too_low { first_refused (plain_options 2) 2 (atom (0 ∷ []) 3 ∷ atom (1 ∷ []) 4 ∷ atom (0 ∷ 1 ∷ []) 7 ∷ [])
-        ≡ Some (0 ∷ 1 ∷ []) }
-    ensures each_enough { first_refused (plain_options 3) 2 (atom (0 ∷ []) 3 ∷ atom (1 ∷ []) 4 ∷ atom (0 ∷ 1 ∷ []) 7 ∷ [])
-        ≡ None }
-    ensures total_too_low { first_refused (record { kind = Plain; each = 3; total = Some 4 }) 2 (atom (0 ∷ []) 3
-        ∷ atom (1 ∷ []) 4 ∷ atom (0 ∷ 1 ∷ []) 7 ∷ []) ≡ Some (0 ∷ 1 ∷ []) }
-    ensures total_enough { first_refused (record { kind = Plain; each = 3; total = Some 5 }) 2 (atom (0 ∷ []) 3
-        ∷ atom (1 ∷ []) 4 ∷ atom (0 ∷ 1 ∷ []) 7 ∷ []) ≡ None }
-    ensures nothing_left { first_refused (record { kind = Plain; each = 3; total = Some 1 }) 2 (atom (0 ∷ []) 3
-        ∷ atom (1 ∷ []) 4 ∷ atom (0 ∷ 1 ∷ []) 7 ∷ []) ≡ Some (1 ∷ []) }
-    ensures bounded_enough { first_refused (record { kind = Bounded; each = 1; total = Some 4 }) 3 (atom (0 ∷ 1 ∷ []) 4
-        ∷ atom (0 ∷ 2 ∷ []) 4 ∷ atom (1 ∷ 2 ∷ []) 4 ∷ atom (0 ∷ 1 ∷ 2 ∷ []) 7 ∷ []) ≡ None }
-    ensures bounded_too_low { first_refused (record { kind = Bounded; each = 1; total = Some 3 }) 3 (atom (0 ∷ 1 ∷ []) 4
-        ∷ atom (0 ∷ 2 ∷ []) 4 ∷ atom (1 ∷ 2 ∷ []) 4 ∷ atom (0 ∷ 1 ∷ 2 ∷ []) 7 ∷ []) ≡ Some (0 ∷ 1 ∷ 2 ∷ []) }
-    ensures rounded_up { first_refused (record { kind = Bounded; each = 1; total = None }) 3 (atom (0 ∷ 1 ∷ []) 1
-        ∷ atom (2 ∷ []) 1 ∷ atom (0 ∷ 1 ∷ 2 ∷ []) 3 ∷ []) ≡ Some (0 ∷ 1 ∷ 2 ∷ []) }
-    ensures worthless { first_refused (plain_options 0) 1 (atom (0 ∷ []) 0 ∷ []) ≡ None }
+    ensures each_too_low { MayRefuse (plain_options 2) 2 (atom (0 ∷ []) 3 ∷ atom (1 ∷ []) 4 ∷ atom (0 ∷ 1 ∷ []) 7 ∷ [])
+        (Some (0 ∷ 1 ∷ [])) }
+    ensures each_enough { ¬ MayRefuse (plain_options 3) 2 (atom (0 ∷ []) 3 ∷ atom (1 ∷ []) 4 ∷ atom (0 ∷ 1 ∷ []) 7 ∷ [])
+        (Some (0 ∷ 1 ∷ [])) }
+    ensures bounded { MayRefuse (bounded_options 3 None) 2 (atom (0 ∷ []) 3 ∷ atom (1 ∷ []) 4 ∷ atom (0 ∷ 1 ∷ []) 7 ∷ [])
+        (Some (0 ∷ 1 ∷ [])) }
+    ensures bounded_enough { ¬ MayRefuse (bounded_options 4 None) 2 (atom (0 ∷ []) 3 ∷ atom (1 ∷ []) 4
+        ∷ atom (0 ∷ 1 ∷ []) 7 ∷ []) (Some (0 ∷ 1 ∷ [])) }
+    ensures total_too_low { ¬ MayRefuse (bounded_options 4 (Some 2)) 2 (atom (0 ∷ []) 3 ∷ atom (1 ∷ []) 4
+        ∷ atom (0 ∷ 1 ∷ []) 7 ∷ []) None }
 {}
 
 /// Goods near one another, and those that differ by 64 or 65, mark different bits. Some goods share one.

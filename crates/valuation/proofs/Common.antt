@@ -41,7 +41,7 @@ pub use Rattle.std.specs.Prelude.{OnOk}
 pub use Rattle.valuation.specs.Auctions.{IsAtom, atom_of, or_atoms_of, xor_atoms_of, auction_from}
 pub use Rattle.valuation.specs.Bidders.{bidders_of, plain_auction_of}
 pub use Rattle.valuation.specs.Bounds.{IsOnGoods, rate, greatest_rate, rate_bound, IsBound, price_bound}
-pub use Rattle.valuation.specs.Internal.BestSearch.{IsPackingFrom, IsFoundFrom, IsReady}
+pub use Rattle.valuation.specs.Internal.BestSearch.{IsPackingFrom, IsFoundFrom, IsReady, AreMade, AreSearched}
 pub use Rattle.valuation.specs.Internal.Conflicts.{AreConflicts, AreHolders, IsLeft, AreFree, are_disjoint, offers_of}
 pub use Rattle.valuation.specs.Internal.Holders.{holders_at, indices_of}
 pub use Rattle.valuation.specs.Internal.Listed.{IsListed}
@@ -62,8 +62,8 @@ pub use Rattle.valuation.specs.Lemmas.Packings.{chosen_indices-nil, chosen_indic
 pub use Rattle.valuation.specs.Lemmas.Packings.{price_sum-packing, IsPacking-unleft, IsPacking-none, price_sum-chosen}
 pub use Rattle.valuation.specs.Lemmas.Packings.{chosen_indices-best}
 pub use Rattle.valuation.specs.Lemmas.Permutations.{from_permutation}
-pub use Rattle.valuation.specs.Lemmas.SearchLimits.{is_one_over-first, is_one_over-later, is_one_over-none, options_after_all-cons, options_after_all-none}
-pub use Rattle.valuation.specs.Lemmas.SearchLimits.{options_after_all-one, is_one_over-one, is_one_over-cons, is_one_over-append}
+pub use Rattle.valuation.specs.Internal.Searches.{bound_of}
+pub use Rattle.valuation.specs.Lemmas.SearchLimits.{value_refusals, plain_value, plain_value-may}
 pub use Rattle.valuation.specs.Lemmas.SearchSteps.{cut_steps-zero, cut_steps-short, cut_steps-outside, cut_steps-reached, cut_steps-missed, found_indices-zero}
 pub use Rattle.valuation.specs.Lemmas.SearchSteps.{found_indices-taken, found_indices-outside, found_indices-missed, cut_steps-nil, cut_within_packings}
 pub use Rattle.valuation.specs.Lemmas.SearchSteps.{found_indices-packing}
@@ -74,12 +74,10 @@ pub use Rattle.valuation.specs.Listed.{listed, AreListsOf}
 pub use Rattle.valuation.specs.Lemmas.Inside.{atoms_at-indices_inside, indices_inside-within}
 pub use Rattle.valuation.specs.Packings.{indices_inside, is_inside_at, atom_at, count_packings, atoms_inside, numbers_at, atoms_at, price_sum, IsPackingFor}
 pub use Rattle.valuation.specs.Packings.{IsPacking}
-pub use Rattle.valuation.specs.SearchLimits.{is_one_over, options_after, options_after_all, next_steps, total_after}
+pub use Rattle.valuation.specs.SearchLimits.{AreOver, IsFirstOver, IsOverLimits, IsWithinLimits, bounded_options, options_after, next_steps, plain_options}
 pub use Rattle.valuation.specs.SearchSteps.{cut_steps, found_indices}
-pub use Rattle.valuation.specs.Searches.{AreSearched, IsFound, IsSearchedBy, bound_of}
-pub use Rattle.valuation.specs.Sorting.{sort_by}
-pub use Rattle.valuation.specs.ValueSearches.{is_candidate, larger_first, largest_first, indices_from, price_above, best_from, found_from, steps_from}
-pub use Rattle.valuation.specs.ValueSearches.{steps_to_choose, steps_to_best}
+pub use Rattle.valuation.specs.Searches.{IsBoundedCount, IsFound, IsSearchedBy, IsSearchedWithin, MayTake}
+pub use Rattle.valuation.specs.ValueSearches.{is_candidate, MayBeSearches, MayRefuseValue, ValueMayTake}
 pub use Rattle.valuation.specs.Values.{or_value, chosen_indices, xor_value, IsFirstBest, atoms_of, plain_atom}
 pub use Rattle.valuation.specs.declared.atom.Atom.{Atom}
 pub use Rattle.valuation.specs.declared.packing.ValueFault.{ValueFault}

@@ -15,7 +15,5 @@ pub mod RatesSoFar
 pub mod Listed
 pub mod Candidates
 pub mod Choosing
-pub mod LargestFirst
 pub mod SearchesInTurn
-pub mod SearchesForValue
-pub mod ValueStepsCounted
+pub mod ValueLimits

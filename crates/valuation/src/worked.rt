@@ -1,16 +1,15 @@
 //! Worked examples of the definitions, which the check computes.
-ghost use Rattle.std.specs.Prelude.{◌≡◌, [], ◌∷◌, true, false, Ok, Some};
+ghost use Rattle.std.specs.Prelude.{◌≡◌, [], ◌∷◌, true, false, Ok, Some, None};
 ghost use Rattle.std.specs.declared.cmp.Ordering.TheVariants.{Less, Equal, Greater};
 ghost use Rattle.valuation.specs.declared.search.kind.SearchKind.TheVariants.{Plain, Bounded};
-ghost use Rattle.valuation.specs.Examples.{atom};
+ghost use Rattle.valuation.specs.Examples.{atom, three_bids};
 ghost use Rattle.valuation.specs.Values.{xor_value, or_value, chosen_indices};
 ghost use Rattle.valuation.specs.Internal.Reaching.{ArePricesLeft, Continues};
 ghost use Rattle.valuation.specs.Packings.{count_packings, IsPackingFor, numbers_at};
 ghost use Rattle.valuation.specs.Bounds.{price_bound, rate, greatest_rate, rate_bound};
 ghost use Rattle.valuation.specs.SearchSteps.{cut_steps, found_indices};
-ghost use Rattle.valuation.specs.SearchLimits.{plain_options, bounded_options, next_steps, options_after, is_one_over};
-ghost use Rattle.valuation.specs.SearchLimits.{options_after_all};
-ghost use Rattle.valuation.specs.ValueSearches.{best_from, found_from, is_candidate, largest_first, steps_from, value_steps};
+ghost use Rattle.valuation.specs.SearchLimits.{plain_options, bounded_options, next_steps, options_after, IsFirstOver};
+ghost use Rattle.valuation.specs.ValueSearches.{is_candidate, MayRefuseValue};
 ghost use Rattle.valuation.specs.Tables.{or_table, xor_table, is_nonzero};
 ghost use Rattle.valuation.specs.Orders.{atom_cmp, bidder_cmp};
 ghost use Rattle.valuation.specs.Sorting.{sort_by};
@@ -102,7 +101,6 @@ pub fn searches_worked()
 {}
 
 /// The limits of searches: each may take so many steps, and all together so many, if that has a limit.
-#[tactic(auto, unfolding(crate::specs::SearchLimits::options_after_all, crate::specs::SearchLimits::is_one_over))]
 pub fn limits_worked()
     ensures no_total { next_steps (plain_options 5) ≡ 5 }
     ensures each { next_steps (bounded_options 5 (Some 7)) ≡ 5 }
@@ -110,35 +108,27 @@ pub fn limits_worked()
     ensures bounded { bounded_options 5 (Some 7) ≡ record { kind = Bounded; each = 5; total = Some 7 } }
     ensures after { options_after (bounded_options 5 (Some 7)) 4 ≡ bounded_options 5 (Some 3) }
     ensures plain_after { options_after (plain_options 5) 4 ≡ plain_options 5 }
-    ensures after_all { options_after_all (bounded_options 5 (Some 7)) (4 ∷ 2 ∷ []) ≡ bounded_options 5 (Some 1) }
-    ensures all_within { is_one_over (bounded_options 5 (Some 7)) (5 ∷ 2 ∷ []) ≡ false }
-    ensures second_over { is_one_over (bounded_options 5 (Some 7)) (5 ∷ 3 ∷ []) ≡ true }
-    ensures first_over { is_one_over (bounded_options 5 None) (6 ∷ []) ≡ true }
-    ensures each_within { is_one_over (bounded_options 5 None) (5 ∷ 5 ∷ 5 ∷ []) ≡ false }
-    ensures no_search { is_one_over (bounded_options 0 None) [] ≡ false }
 {}
 
-/// The searches for a value: on most goods first, each for more than the best packing so far, and then one on each bid
-/// of the best packing.
-#[tactic(auto, unfolding(crate::specs::SearchSteps::cut_steps, crate::specs::SearchSteps::found_indices, crate::specs::Bounds::greatest_rate, crate::specs::Bounds::rate_bound, crate::specs::Values::or_value, crate::specs::Packings::count_packings, crate::specs::ValueSearches::steps_from, crate::specs::ValueSearches::found_from, crate::specs::ValueSearches::best_from, crate::specs::ValueSearches::steps_to_best, crate::specs::ValueSearches::steps_to_choose, crate::specs::ValueSearches::value_steps))]
-pub fn value_searches_worked()
-    ensures order { let a = atom (0 ∷ []) 3 ∷ atom (0 ∷ 1 ∷ []) 6 ∷ atom (1 ∷ []) 4 ∷ [] in
-        largest_first a ≡ 1 ∷ 0 ∷ 2 ∷ [] }
-    ensures found { let a = atom (0 ∷ []) 3 ∷ atom (1 ∷ []) 4 ∷ atom (0 ∷ 1 ∷ []) 6 ∷ [] in
-        found_from a (0 ∷ 1 ∷ []) 0 1 ≡ 2 ∷ [] }
-    ensures found_later { let a = atom (0 ∷ []) 3 ∷ atom (1 ∷ []) 4 ∷ atom (0 ∷ 1 ∷ []) 6 ∷ [] in
-        found_from a (0 ∷ 1 ∷ []) 1 4 ≡ 2 ∷ [] }
-    ensures steps { let a = atom (0 ∷ []) 3 ∷ atom (1 ∷ []) 4 ∷ atom (0 ∷ 1 ∷ []) 6 ∷ [] in
-        steps_from a (0 ∷ 1 ∷ []) 0 7 ≡ 4 }
-    ensures best { let a = atom (0 ∷ []) 3 ∷ atom (1 ∷ []) 4 ∷ atom (0 ∷ 1 ∷ []) 6 ∷ [] in
-        best_from 7 a (0 ∷ 1 ∷ []) [] ≡ 0 ∷ 1 ∷ [] }
-    ensures bounded { let a = atom (0 ∷ []) 3 ∷ atom (1 ∷ []) 4 ∷ atom (0 ∷ 1 ∷ []) 6 ∷ [] in
-        value_steps Bounded a (0 ∷ 1 ∷ []) ≡ 2 ∷ 4 ∷ 1 ∷ 2 ∷ 1 ∷ [] }
-    ensures plain { let a = atom (0 ∷ []) 3 ∷ atom (1 ∷ []) 4 ∷ atom (0 ∷ 1 ∷ []) 6 ∷ [] in
-        value_steps Plain a (0 ∷ 1 ∷ []) ≡ 5 ∷ [] }
-    ensures later_reaches { let a = atom (0 ∷ []) 5 ∷ atom (0 ∷ []) 5 ∷ [] in
-        value_steps Bounded a (0 ∷ []) ≡ 2 ∷ 1 ∷ 2 ∷ 1 ∷ [] }
-    ensures no_bid { value_steps Bounded [] (0 ∷ []) ≡ 1 ∷ [] }
+/// Of searches of so many steps each, the first that is over the limits.
+fn first_over_worked()
+    ensures all_within { IsFirstOver (λ _ steps. steps ≡ 3) (bounded_options 5 (Some 7)) ((0 ∷ []) ∷ (1 ∷ []) ∷ []) None }
+    ensures second_over { IsFirstOver (λ _ steps. steps ≡ 4) (bounded_options 5 (Some 7)) ((0 ∷ []) ∷ (1 ∷ []) ∷ [])
+        (Some (1 ∷ [])) }
+    ensures first_over { IsFirstOver (λ _ steps. steps ≡ 6) (bounded_options 5 None) ((0 ∷ []) ∷ (1 ∷ []) ∷ [])
+        (Some (0 ∷ [])) }
+    ensures not_within { ¬ IsFirstOver (λ _ steps. steps ≡ 6) (bounded_options 5 None) ((0 ∷ []) ∷ []) None }
+    ensures no_search { IsFirstOver (λ _ steps. steps ≡ 6) (bounded_options 0 None) [] None }
+{}
+
+/// Three bids have five packings: which limits refuse the value. A bounded search takes one step at least.
+fn value_refusals_worked()
+    ensures within { MayRefuseValue (plain_options 5) three_bids (0 ∷ 1 ∷ []) None }
+    ensures over { MayRefuseValue (plain_options 4) three_bids (0 ∷ 1 ∷ []) (Some (0 ∷ 1 ∷ [])) }
+    ensures not_over { ¬ MayRefuseValue (plain_options 5) three_bids (0 ∷ 1 ∷ []) (Some (0 ∷ 1 ∷ [])) }
+    ensures bounded { MayRefuseValue (bounded_options 4 None) three_bids (0 ∷ 1 ∷ []) (Some (0 ∷ 1 ∷ [])) }
+    ensures not_bounded { ¬ MayRefuseValue (bounded_options 5 None) three_bids (0 ∷ 1 ∷ []) (Some (0 ∷ 1 ∷ [])) }
+    ensures no_step { ¬ MayRefuseValue (bounded_options 0 None) three_bids (0 ∷ 1 ∷ []) None }
 {}
 
 /// The bids that the search for a best packing visits.

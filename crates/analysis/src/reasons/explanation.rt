@@ -3,7 +3,7 @@
 ghost use Rattle.std.specs.Prelude.{◌≡◌, IfErr, IfOk, None, OnOk, map};
 ghost use Rattle.bid_file.specs.Files.{IsPlainFile};
 ghost use Rattle.valuation.specs.Auctions.{auction_from, or_atoms_of};
-ghost use Rattle.prune.specs.SearchSteps.{first_refused};
+ghost use Rattle.prune.specs.SearchSteps.{MayRefuse};
 ghost use Rattle.valuation.specs.SearchLimits.{bounded_options};
 ghost use Rattle.canon.specs.Answers.{RefusesAuction};
 ghost use Rattle.analysis.specs.Reasons.{Explains, plain_reason, reasons_of};
@@ -31,7 +31,7 @@ pub fn explain(
     ensures exact { IfOk result (λ reasons. map plain_reason reasons.items ≡ reasons_of file.now) }
     ensures reasons { IfOk result (λ reasons. Explains file.now (map plain_reason reasons.items)) }
     ensures within { let f = file.now in
-        OnOk result (first_refused (bounded_options limit total) f.goods (or_atoms_of f.bids) ≡ None) }
+        OnOk result (MayRefuse (bounded_options limit total) f.goods (or_atoms_of f.bids) None) }
     ensures refused { IfErr result (λ fault. RefusesAuction (bounded_options limit total) (auction_from file.now) fault) }
 {
     let explained = explained_normal_file(alloc, file, SearchOptions::bounded(limit, total))?;

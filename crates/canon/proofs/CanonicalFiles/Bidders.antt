@@ -3,7 +3,7 @@ use Rattle.canon.proofs.Common.{◌≡◌, ℕ, ◌<◌, ◌≤◌, ⊎_elim, Li
 use Rattle.canon.proofs.Common.{All, Vec, IsPermutation, IsSortedBy, is_lt, map-append, map_push, append-nil, length-append, length-map, nil_from_length}
 use Rattle.canon.proofs.Common.{map-map, All-contains, All-weaker, Contains-append_right, IsPermutation-map, MAX_GOODS, MAX_DUMMY, AreBelow-higher, Atom}
 use Rattle.canon.proofs.Common.{SearchKind, SearchOptions, PlainAuction, IsAtom, IsAuction, length-atoms_of, bidders_of, sort_by, sorted_is_sort_by, atoms_of}
-use Rattle.canon.proofs.Common.{or_fates, plain_fate, xor_fates, Contains-head, zero_or_more, xor_points, or_points, first_refused, canonical_auction}
+use Rattle.canon.proofs.Common.{or_fates, plain_fate, xor_fates, Contains-head, zero_or_more, xor_points, or_points, MayRefuse, canonical_auction}
 use Rattle.canon.proofs.Common.{canonical_bidders, unsearched_auction, BidderFates, AreFates, NumberedBidder, numbered_points, numbered_cmp, kept_numbers}
 use Rattle.canon.proofs.Common.{map-sorted, common_steps, Option}
 use Rattle.canon.proofs.CanonicalFiles.Numbering.{numbered_cmp_total, numbered_cmp_equal, points_push, points_skip}
@@ -137,6 +137,6 @@ module _ (cap : ℕ) (a : PlainAuction) (facts : IsAuction cap a) (n : ℕ) (ors
       → ((m : ℕ) → All (All (IsAtom m)) xors → map (λ v. v.items) fates.xor.items ≡ map (xor_fates m) xors) → AreFates kind a fates
   fates_parts kind fates h k = search rules
 
-  pub parts_within_limit : (options : SearchOptions) → ((m : ℕ) → All (IsAtom m) ors → first_refused options m ors ≡ None)
-      → first_refused options a.goods a.or_atoms ≡ None
-  parts_within_limit options h = ap (λ (x : PlainAuction). first_refused options x.goods x.or_atoms) parts ∙ h n made.or_atoms
+  pub parts_within_limit : (options : SearchOptions) → ((m : ℕ) → All (IsAtom m) ors → MayRefuse options m ors None)
+      → MayRefuse options a.goods a.or_atoms None
+  parts_within_limit options h = subst (λ (x : PlainAuction). MayRefuse options x.goods x.or_atoms None) (sym parts) (h n made.or_atoms)

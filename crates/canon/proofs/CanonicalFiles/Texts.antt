@@ -2,9 +2,9 @@
 -- canonical auction is the same auction.
 use Rattle.canon.proofs.Common.{◌≡◌, ℕ, List, Option, Some, None, refl, sym, ap, ◌∙◌, subst, le_refl, rules, PlainFile, IsPlainFile, Spells, first_fault}
 use Rattle.canon.proofs.Common.{spelled_file, layout, ReadFault, spells_from_no_fault, no_fault_from_spells, spells_one, PlainAuction, IsAuction, or_atoms_of}
-use Rattle.canon.proofs.Common.{auction_from, SearchOptions, IsAuction-auction_from, or_points, first_refused, no_refused_point, on_bundles, AreSameFiles}
+use Rattle.canon.proofs.Common.{auction_from, SearchOptions, IsAuction-auction_from, or_points, MayRefuse, first_heavy, plain_options, may_refuse-plain, some_refused}
 use Rattle.canon.proofs.Common.{AreSameTexts, canonical_auction, file_from, canonical_file, canonical_text, Normalised, IsNoFile, ExceedsSteps, IsText}
-use Rattle.canon.proofs.Common.{HasOutcome, IsNormalised, Normalises, SpellsCanonicalFile, unless_refused, normalised_file}
+use Rattle.canon.proofs.Common.{no_refused_point, on_bundles, AreSameFiles, Atom, HasOutcome, IsNormalised, Normalises, SpellsCanonicalFile, unless_refused}
 use Rattle.cats_text.proofs.Writing.Spells as laid_out
 use Rattle.canon.proofs.CanonicalAuctions.Atoms.{HasAtoms}
 use Rattle.canon.proofs.CanonicalAuctions.Sames.{HasAtoms-auction, canonical_is_same, same_canonical, same_from_canonical, canonical_is_fixed}
@@ -51,41 +51,59 @@ same_from_text f g h k e =
 pub record IsNormalText (options : SearchOptions) (text out : List ℕ) : Type 0 where
   pub file : PlainFile
   pub spelled : Spells text file
-  pub within_limit : first_refused options file.goods (or_atoms_of file.bids) ≡ None
+  pub within_limit : MayRefuse options file.goods (or_atoms_of file.bids) None
   pub is : out ≡ canonical_text file
 
-pub text_of_file : (options : SearchOptions) (f : PlainFile) (out : List ℕ) → normalised_file options f ≡ IsText out
-    → (first_refused options f.goods (or_atoms_of f.bids) ≡ None)
-    × (out ≡ canonical_text f)
-text_of_file options f out = search rules
+text_of_file : (f : PlainFile) (refused : Option (List ℕ)) (out : List ℕ) → unless_refused f refused ≡ IsText out → (refused ≡ None) × (out ≡ canonical_text f)
+text_of_file f None out e = let same : out ≡ canonical_text f = cc in (refl, same)
+text_of_file f (Some goods) out e = absurd (cc)
 
 pub text_from_normalised : (options : SearchOptions) (text out : List ℕ) → Normalises options text (IsText out) → IsNormalText options text out
-text_from_normalised options text out n = search (rules, text_of_file)
+text_from_normalised options text out n =
+    let r = text_of_file n.file n.refused out n.is in
+    record {
+      file = n.file;
+      spelled = n.spelled;
+      within_limit = subst (MayRefuse options n.file.goods (or_atoms_of n.file.bids)) r.0 n.may;
+      is = r.1;
+    }
 
 pub normalised_from_text : (options : SearchOptions) (text out : List ℕ) → IsNormalText options text out → Normalises options text (IsText out)
-normalised_from_text options text out n = search rules
+normalised_from_text options text out n =
+    record { file = n.file; spelled = n.spelled; refused = None; may = n.within_limit; is = ap IsText (sym n.is) }
 
 -- each text has one outcome
 pub has_outcome : (options : SearchOptions) (text : List ℕ) → IsNormalised options text
 has_outcome options text = by (first_fault text) refl
   where
-    of_file : (f : PlainFile) → Spells text f → (o : Option (List ℕ)) → first_refused options f.goods (or_atoms_of f.bids) ≡ o → IsNormalised options text
-    of_file f s None e = record { outcome = IsText (canonical_text f); normalises = record { file = f; spelled = s; is = ap (unless_refused f) e } }
-    of_file f s (Some goods) e = record { outcome = ExceedsSteps goods; normalises = record { file = f; spelled = s; is = ap (unless_refused f) e } }
+    of_file : (f : PlainFile) → Spells text f → (o : Option (List ℕ)) → MayRefuse options f.goods (or_atoms_of f.bids) o → IsNormalised options text
+    of_file f s None m =
+        record { outcome = IsText (canonical_text f); normalises = record { file = f; spelled = s; refused = None; may = m; is = refl } }
+    of_file f s (Some goods) m =
+        record { outcome = ExceedsSteps goods; normalises = record { file = f; spelled = s; refused = Some goods; may = m; is = refl } }
 
     by : (o : Option ReadFault) → first_fault text ≡ o → IsNormalised options text
-    by None e = of_file (spelled_file text) (spells_from_no_fault text e)
-        (first_refused options (spelled_file text).goods (or_atoms_of (spelled_file text).bids)) refl
+    by None e =
+        let f = spelled_file text in
+        let some = some_refused options f.goods (or_atoms_of f.bids) in
+        of_file f (spells_from_no_fault text e) some.0 some.1
     by (Some fault) e = record { outcome = IsNoFile fault; normalises = e }
 
-module _ (options : SearchOptions) (text : List ℕ) where
-  no_outcome : (fault : ReadFault) (o : Normalised) → first_fault text ≡ Some fault → HasOutcome options text o → ⊥
+-- by plain searches it has one
+module _ (limit : ℕ) (text : List ℕ) where
+  no_outcome : (fault : ReadFault) (o : Normalised) → first_fault text ≡ Some fault → HasOutcome (plain_options limit) text o → ⊥
   no_outcome fault o e n = let none = no_fault_from_spells text n.file n.spelled in absurd (cc)
 
-  same_outcome : (one other : Normalised) → HasOutcome options text one → HasOutcome options text other → one ≡ other
-  same_outcome one other p q = sym p.is ∙ ap (normalised_file options) (spells_one text p.file q.file p.spelled q.spelled) ∙ q.is
+  heavy_outcome : (o : Normalised) (n : HasOutcome (plain_options limit) text o)
+      → o ≡ unless_refused n.file (first_heavy n.file.goods limit (or_atoms_of n.file.bids))
+  heavy_outcome o n = sym n.is ∙ ap (unless_refused n.file) (may_refuse-plain limit n.file.goods (or_atoms_of n.file.bids) n.refused n.may)
 
-  pub one_outcome : (one other : Normalised) → Normalises options text one → Normalises options text other → one ≡ other
+  same_outcome : (one other : Normalised) → HasOutcome (plain_options limit) text one → HasOutcome (plain_options limit) text other → one ≡ other
+  same_outcome one other p q =
+      heavy_outcome one p ∙ ap (λ (f : PlainFile). unless_refused f (first_heavy f.goods limit (or_atoms_of f.bids)))
+      (spells_one text p.file q.file p.spelled q.spelled) ∙ sym (heavy_outcome other q)
+
+  pub one_outcome : (one other : Normalised) → Normalises (plain_options limit) text one → Normalises (plain_options limit) text other → one ≡ other
   one_outcome (IsNoFile a) (IsNoFile b) p q = cc
   one_outcome (IsNoFile a) (ExceedsSteps goods) p q = absurd (no_outcome a (ExceedsSteps goods) p q)
   one_outcome (IsNoFile a) (IsText out) p q = absurd (no_outcome a (IsText out) p q)
@@ -107,7 +125,8 @@ normalised_again options text out n =
     record {
       file = canonical_file f;
       spelled = subst (λ (t : List ℕ). Spells t (canonical_file f)) (sym n.is) (laid_out.layout_spells (canonical_file f) (IsPlainFile-canonical f facts));
-      within_limit = search (rules, no_refused_point, on_bundles);
+      within_limit = subst (λ (bids : List (Atom (List ℕ))). MayRefuse options f.goods bids None) (sym ors)
+          (no_refused_point options f.goods (or_atoms_of f.bids) (on_bundles f.goods (or_atoms_of f.bids) atoms.or_atoms) n.within_limit);
       is = n.is ∙ ap layout (sym (canonical_file_is_fixed f facts));
     }
 

@@ -1,21 +1,13 @@
 -- What the calls answer, from what the calls below them answered: each kind of answer of one is, by the definitions, one of the other.
 use Rattle.canon.proofs.Common.{rules, ◌≡◌, ℕ, ◌⊎◌, inl, inr, true, List, Option, Some, None, refl, sym, ap, ◌∙◌, subst, IfSome, ◌↔◌, PlainFile, IsPlainFile}
 use Rattle.canon.proofs.Common.{Spells, layout, first_fault, is_text_kind, WantsMemory, Kind, ReadFault, IsFound, first_fault-found, spells_one, PlainAuction}
-use Rattle.canon.proofs.Common.{auction_from, or_atoms_of, SearchOptions, RefusesAs, RefusesText, RefusesAuction, IsNormalFile, IsCanonical, IsCanonicalFile}
-use Rattle.canon.proofs.Common.{canonical_auction, canonical_text, file_from, IsLeastFor, IsNoFile, IsText, Normalises, unless_refused, normalised_file}
-use Rattle.canon.proofs.Common.{refusal_by_kind, refusal_of, AreSameFiles, CanonFault, Read, StepLimit, Memory, first_refused}
+use Rattle.canon.proofs.Common.{auction_from, SearchOptions, IsNormalFileOf, RefusesText, RefusesAuction, IsNormalFile, IsCanonical, IsCanonicalFile}
+use Rattle.canon.proofs.Common.{canonical_auction, canonical_text, file_from, IsLeastFor, IsNoFile, IsText, Normalises}
+use Rattle.canon.proofs.Common.{refusal_by_kind, refusal_of, AreSameFiles, CanonFault, Read, StepLimit, Memory}
 use Rattle.cats_text.specs.declared.read_fault.Kind.TheVariants.{Memory as NoMemory}
 use Rattle.canon.proofs.CanonicalFiles.Files.{auction_from-file_from}
 use Rattle.canon.proofs.CanonicalAuctions.Least.{canonical_is_least}
 use Rattle.canon.proofs.CanonicalFiles.Texts.{text_from_normalised, normalised_from_text, normalised_again, same_text, same_from_text, canonical_file_is_same}
-
--- ---- a search that takes too many steps
-
-pub refused_file : (options : SearchOptions) (f : PlainFile) (fault : CanonFault) → RefusesAuction options (auction_from f) fault
-    → RefusesAs (normalised_file options f) fault
-refused_file options f (Read fault) r = absurd r
-refused_file options f (StepLimit goods) r = ap (unless_refused f) r
-refused_file options f Memory r = tt
 
 -- ---- the text
 
@@ -34,15 +26,11 @@ unread_text options text why h = by why.kind refl h
     by kind e (inr wants) = let none = sym e ∙ ap (λ (w : ReadFault). w.kind) wants.0 in absurd (cc)
 
 -- a text that spells a file is answered as the file is
-module _ (options : SearchOptions) (text : List ℕ) (f : PlainFile) (s : Spells text f) where
-  no_read_fault : (why : ReadFault) (o : Option (List ℕ)) → unless_refused f o ≡ IsNoFile why → ⊥
-  no_read_fault why None e = absurd (cc)
-  no_read_fault why (Some goods) e = absurd (cc)
-
-  pub refused_text : (fault : CanonFault) → RefusesAs (normalised_file options f) fault → RefusesText options text fault
-  refused_text (Read why) r = absurd (no_read_fault why (first_refused options f.goods (or_atoms_of f.bids)) r)
-  refused_text (StepLimit goods) r = record { file = f; spelled = s; is = r }
-  refused_text Memory r = inr (record { file = f; spelled = s })
+pub refused_text : (options : SearchOptions) (text : List ℕ) (f : PlainFile) → Spells text f → (fault : CanonFault)
+    → RefusesAuction options (auction_from f) fault → RefusesText options text fault
+refused_text options text f s (Read why) r = absurd r
+refused_text options text f s (StepLimit goods) r = record { file = f; spelled = s; refused = Some goods.items; may = r; is = refl }
+refused_text options text f s Memory r = inr (record { file = f; spelled = s })
 
 -- equal texts come of files of the same auction, and of these alone
 pub same_exactly : (options : SearchOptions) (text out : List ℕ) → Normalises options text (IsText out) → (f g : PlainFile) → Spells text f → IsPlainFile g
@@ -69,8 +57,18 @@ module _ (options : SearchOptions) (f h : PlainFile) (facts : IsPlainFile f) (n 
 
 -- its text is the canonical text
 pub text_of_normal : (options : SearchOptions) (f h : PlainFile) → IsNormalFile options (auction_from f) h → (out : List ℕ) → out ≡ layout h
-    → normalised_file options f ≡ IsText out
-text_of_normal options f h n out is = ap (unless_refused f) n.within_limit ∙ ap IsText (sym (is ∙ ap layout n.canonical))
+    → out ≡ canonical_text f
+text_of_normal options f h n out is = is ∙ ap layout n.canonical
+
+pub normalised_text : (options : SearchOptions) (text : List ℕ) (h : PlainFile) (n : IsNormalFileOf options text h) (out : List ℕ) → out ≡ layout h
+    → Normalises options text (IsText out)
+normalised_text options text h n out is = record {
+  file = n.file;
+  spelled = n.spelled;
+  refused = None;
+  may = n.normal.within_limit;
+  is = ap IsText (sym (text_of_normal options n.file h n.normal out is));
+}
 
 -- ---- the file of a canonical auction
 

@@ -8,7 +8,7 @@ use Rattle.canon.proofs.Common.{canonical_auction, dummy_bids, file_from, Compar
 use Rattle.canon.proofs.Common.{Difference, NoDifference, first_difference, first_unequal_bundle, least_unequal_bidder, or_difference, xor_difference}
 use Rattle.canon.proofs.Common.{HasOrBids, AreSameFiles, AreSameTexts, NamesGoods, plain_verdict, CanonFault, Memory, Verdict, Same, Goods, Or, Xor, Which}
 use Rattle.canon.proofs.Common.{Both}
-use Rattle.canon.proofs.TwoFiles.Answering.{refused_file, refused_text, unread_text}
+use Rattle.canon.proofs.TwoFiles.Answering.{refused_text, unread_text}
 use Rattle.canon.proofs.TwoFiles.Differences.{at_same_goods, same_from_no_difference, no_difference_from_same}
 use Rattle.canon.proofs.CanonicalFiles.Files.{auction_from-file_from}
 use Rattle.canon.proofs.TwoFiles.SameDifferences.{difference_of_same_files}
@@ -90,7 +90,7 @@ module _ (f g : PlainFile) (h : IsPlainFile f) (k : IsPlainFile g) where
 pub normal_from_file : (options : SearchOptions) (text : List ℕ) (f : PlainFile) → Spells text f → (r : Result PlainFile CanonFault)
     → NormalisesPlainAs options f r → ReadsNormalAs options text r
 normal_from_file options text f s (Ok h) n = record { file = f; spelled = s; normal = n }
-normal_from_file options text f s (Err fault) n = refused_text options text f s fault (refused_file options f fault n)
+normal_from_file options text f s (Err fault) n = refused_text options text f s fault n
 
 pub normal_unread : (options : SearchOptions) (text : List ℕ) (why : ReadFault) → (first_fault text ≡ Some why) ⊎ WantsMemory text why
     → (r : Result PlainFile CanonFault) → IsErrAnd r (λ fault. fault ≡ refusal_of why) → ReadsNormalAs options text r

@@ -4,8 +4,8 @@ use Rattle.canon.proofs.Common.{◌≡◌, ◌⊎◌, ℕ, zero, suc, ◌+◌, �
 use Rattle.canon.proofs.Common.{Some, None, refl, sym, ◌∙◌, subst, inl, inr, ⊎_elim, arith, Global, rules, ◌↔◌, Vec, IfOk, IfErr, OnOk, OnErr, IsErrAnd}
 use Rattle.canon.proofs.Common.{Consumes, bytes_decides, lookup, cases_Bool, cond-true, cond-false, nat_list_eq_equiv, position-Some, is_eq-slice_cmp}
 use Rattle.canon.proofs.Common.{none-some, same_Some, slice_get_within, slice_get-get_or, get_or_from_slice_get, PlainFile, IsPlainFile, inner_of, ReadsFile}
-use Rattle.canon.proofs.Common.{ReadsAs, SearchOptions, Watched, RefusesAs, canonical_text, AddsStream, AddsText, IsEmptyIndex, IsFirstNumber, IsFirstText}
-use Rattle.canon.proofs.Common.{IsIndexOf, LacksText, NumbersText, TextIndex, first_number, text_number, IsText, normalised_file, AreSameFiles, CanonFault}
+use Rattle.canon.proofs.Common.{ReadsAs, SearchOptions, Watched, RefusesAuction, MayRefuse, auction_from, or_atoms_of, canonical_text, AddsStream, AddsText, IsEmptyIndex, IsFirstNumber, IsFirstText}
+use Rattle.canon.proofs.Common.{IsIndexOf, LacksText, NumbersText, TextIndex, first_number, text_number, AreSameFiles, CanonFault}
 use Rattle.canon.proofs.Common.{ReadFault, refusal_of, same_order, All, slice_get, length-append, Result, Ok, Err}
 use Rattle.canon.proofs.CanonicalFiles.Texts.{same_text, same_from_text}
 
@@ -134,8 +134,8 @@ pub stream_added : {R : Type 0} (remaining : R → Option (List ℕ)) (options :
     (file : PlainFile)
     → Consumes (remaining (inner_of before)) (remaining (inner_of after)) bytes → ReadsFile remaining bytes after file
     → (answer : Result ℕ CanonFault) → IfOk answer (AddsText old new (canonical_text file))
-    → OnOk answer (normalised_file options file ≡ IsText (canonical_text file))
-    → IfErr answer (RefusesAs (normalised_file options file)) → OnErr answer (new ≡ old) → AddsStream remaining options old new before after answer
+    → OnOk answer (MayRefuse options file.goods (or_atoms_of file.bids) None)
+    → IfErr answer (RefusesAuction options (auction_from file)) → OnErr answer (new ≡ old) → AddsStream remaining options old new before after answer
 stream_added remaining options old new before after bytes file consumes reads (Ok number) added within_limit refused unchanged = search rules
 stream_added remaining options old new before after bytes file consumes reads (Err fault) added within_limit refused unchanged = search rules
 

@@ -8,7 +8,7 @@ ghost use Rattle.valuation.specs.Sorting.{sort_by};
 ghost use Rattle.valuation.specs.Views.{plain_auction};
 ghost use Rattle.prune.specs.Fates.{xor_fates};
 ghost use Rattle.prune.specs.Faults.{IfStepLimit};
-ghost use Rattle.prune.specs.SearchSteps.{first_heavy, first_refused};
+ghost use Rattle.prune.specs.SearchSteps.{first_heavy, MayRefuse};
 ghost use Rattle.canon.specs.Canonical.{IsCanonical, canonical_auction, canonical_bidders as canonical_from};
 ghost use Rattle.canon.specs.Sameness.{IsSameAuction};
 ghost use Rattle.canon.specs.Internal.Fates.{AreFates};
@@ -76,10 +76,10 @@ pub(crate) fn named_canonical<S: GoodsSet>(
     ensures fixed { IfOk result (λ c. IsCanonical (plain_auction c.auction)) }
     ensures dummies { IfOk result (λ c. c.dummies.items ≡ kept_numbers (plain_auction auction)) }
     ensures none_refused { let a = plain_auction auction in
-        OnOk result (first_refused options a.goods a.or_atoms ≡ None) }
+        OnOk result (MayRefuse options a.goods a.or_atoms None) }
     ensures refused { let a = plain_auction auction in
-        IfErr result (λ fault. IfStepLimit fault (λ bundle. first_refused options a.goods a.or_atoms
-        ≡ Some (S.goods bundle))) }
+        IfErr result (λ fault. IfStepLimit fault (λ bundle. MayRefuse options a.goods a.or_atoms
+        (Some (S.goods bundle)))) }
     ensures fates { IfOk result (λ c. with_fates ≡ true → AreFates options.kind (plain_auction auction) c.fates) }
 {
     let (goods, or_atoms, xor_bidders) = auction.into_parts();

@@ -1,41 +1,33 @@
--- The first bundle whose search takes more steps than it may. If all together have no limit, it is the first heavy one; fewer searches of the same steps
+-- What limits may refuse. If all searches together have no limit, plain ones refuse the first heavy bundle; fewer searches of the same steps
 -- are refused nowhere where more are not.
-use Rattle.std.proofs.Common.{rules, ◌≡◌, ℕ, ◌+◌, ◌-◌, ◌<◌, ◌≤◌, Bool, true, false, cond, ◌&&◌, ltb, ◌⊎◌, inl, inr, ⊎_elim, List, [], ◌∷◌, refl, sym, ap, ◌∙◌}
-use Rattle.std.proofs.Common.{arith, Option, Some, None}
-use Rattle.std.specs.Prelude.{All, Contains, sum_by}
+use Rattle.std.proofs.Common.{rules, ◌≡◌, ℕ, ◌+◌, ◌<◌, ◌≤◌, Bool, true, false, cond, ◌&&◌, ltb, inl, inr, ⊎_elim, List, [], ◌∷◌, refl, sym, ap, ◌∙◌, subst}
+use Rattle.std.proofs.Common.{subst₂, arith, le_trans, Option, Some, None}
+use Rattle.std.specs.Prelude.{All, Contains}
 use Rattle.std.specs.List.{filter, find}
 use Rattle.std.proofs.lemmas.Bool.{cases_Bool, cases_lt, ltb-true, lt-ltb, le-ltb}
-use Rattle.std.proofs.lemmas.List.Elements.{All-nil, All-cons, All-head, All-tail}
 use Rattle.std.proofs.lemmas.List.Kept.{IsStrictlySortedBy-filter}
-use Rattle.std.proofs.lemmas.List.Sums.{sum_by-cons}
 use Rattle.goods_set.specs.Bundles.{all_bundles}
 use Rattle.goods_set.specs.Orders.{bundle_cmp}
 use Rattle.goods_set.specs.Lemmas.Orders.{bundle_cmp_strict}
 use Rattle.goods_set.specs.Lemmas.AllBundles.{all_bundles_has, all_bundles_sorted}
 use Rattle.goods_set.specs.Lemmas.Sorted.{same_from_contains}
 use Rattle.valuation.specs.declared.atom.Atom.{Atom}
+use Rattle.valuation.specs.declared.search.kind.SearchKind.{SearchKind}
+use Rattle.valuation.specs.declared.search.kind.SearchKind.TheVariants.{Plain, Bounded}
 use Rattle.valuation.specs.declared.search.options.SearchOptions.{SearchOptions}
-use Rattle.valuation.specs.SearchLimits.{plain_options, least_of, next_steps, total_after, options_after}
+use Rattle.valuation.specs.Searches.{MayTake}
+use Rattle.valuation.specs.SearchLimits.{AreOver, IsFirstOver, IsWithinLimits, plain_options, least_of, next_steps, total_after, options_after}
+use Rattle.valuation.specs.Lemmas.SearchLimits.{first_over-some, first_over-why}
 use Rattle.prune.specs.Faults.{IfStepLimit}
 use Rattle.prune.specs.declared.prune_fault.PruneFault.{PruneFault}
 use Rattle.prune.specs.declared.prune_fault.PruneFault.TheVariants.{StepLimit, Memory}
 use Rattle.prune.specs.Points.{or_points}
-use Rattle.prune.specs.SearchSteps.{greatest_price, search_steps_by, searched_bundles, first_over, first_refused, is_heavy, first_heavy, steps_at_most}
+use Rattle.prune.specs.SearchSteps.{atoms_below, greatest_price, search_steps, searched_bundles, BundleMayTake, MayRefuse, is_heavy, first_heavy}
+use Rattle.prune.specs.SearchSteps.{steps_at_most}
 use Rattle.prune.specs.Lemmas.OnBundles.{IsOnBundle}
 use Rattle.prune.specs.Lemmas.Lists.{Contains-filter, Contains-filter_parts, filter-kept, filter-lost}
-use Rattle.prune.specs.Lemmas.SearchSteps.{greatest_price-point, search_steps-point, search_steps_any_goods, search_within_bound, priced_bundle}
-
--- ---- the first search, one equation for each case
-
-pub first_over-refused : (steps : List ℕ → ℕ) (options : SearchOptions) (bundle : List ℕ) (rest : List (List ℕ)) → next_steps options < steps bundle
-    → first_over steps options (bundle ∷ rest) ≡ Some bundle
-unfolding first_over
-first_over-refused steps options bundle rest l = let t : ltb (next_steps options) (steps bundle) ≡ true = lt-ltb _ _ l in simp t
-
-pub first_over-within : (steps : List ℕ → ℕ) (options : SearchOptions) (bundle : List ℕ) (rest : List (List ℕ)) → steps bundle ≤ next_steps options
-    → first_over steps options (bundle ∷ rest) ≡ first_over steps (options_after options (steps bundle)) rest
-unfolding first_over
-first_over-within steps options bundle rest l = let t : ltb (next_steps options) (steps bundle) ≡ false = le-ltb _ _ l in simp t
+use Rattle.prune.specs.Lemmas.KeptBids.{or_points_any_goods}
+use Rattle.prune.specs.Lemmas.SearchSteps.{greatest_price-point, may_take-point, search_within_packings, points_within_bids, priced_bundle}
 
 -- ---- no limit on all together
 
@@ -43,23 +35,66 @@ find_filter : {X : Type 0} (p q : X → Bool) (xs : List X) → find p (filter q
 find_filter p q [] = refl
 find_filter p q (x ∷ xs) = search (rules, (find_filter p q xs))
 
-plain_refusals : (steps : List ℕ → ℕ) (limit : ℕ) (bundles : List (List ℕ))
-    → first_over steps (plain_options limit) bundles ≡ find (λ bundle. ltb limit (steps bundle)) bundles
-unfolding first_over
-plain_refusals steps limit [] = refl
-plain_refusals steps limit (bundle ∷ rest) = ap (cond (ltb limit (steps bundle)) (Some bundle)) (plain_refusals steps limit rest)
+-- searches of these steps refuse the first bundle whose steps are more than the limit
+module _ (steps : List ℕ → ℕ) (limit : ℕ) where
+  abbrev Takes : List ℕ → ℕ → Type 0
+  Takes bundle n = n ≡ steps bundle
 
-pub first_refused-plain : (limit goods : ℕ) (atoms : List (Atom (List ℕ))) → first_refused (plain_options limit) goods atoms ≡ first_heavy goods limit atoms
-unfolding first_refused first_heavy is_heavy
-first_refused-plain limit goods atoms = search (rules, plain_refusals, find_filter)
+  first_is : (bundles : List (List ℕ)) (refused : Option (List ℕ)) → IsFirstOver Takes (plain_options limit) bundles refused
+      → refused ≡ find (λ bundle. ltb limit (steps bundle)) bundles
+  first_is [] refused e = e
+  first_is (bundle ∷ rest) refused (inl h) =
+      let t = lt-ltb limit (steps bundle) (omega (arith, h.0.may, h.0.over)) in
+      h.1 ∙ ap (λ (b : Bool). cond b (Some bundle) (find (λ bundle. ltb limit (steps bundle)) rest)) (sym t)
+  first_is (bundle ∷ rest) refused (inr h) =
+      let t = le-ltb limit (steps bundle) (omega (arith, h.1.may, h.1.within)) in
+      first_is rest refused (subst (λ (o : SearchOptions). IsFirstOver Takes o rest refused) h.1.left h.2)
+      ∙ ap (λ (b : Bool). cond b (Some bundle) (find (λ bundle. ltb limit (steps bundle)) rest)) (sym t)
 
--- ---- the refused bundle does not depend on the number of goods
+  is_first : (bundles : List (List ℕ)) → IsFirstOver Takes (plain_options limit) bundles (find (λ bundle. ltb limit (steps bundle)) bundles)
+  is_first [] = refl
+  is_first (bundle ∷ rest) =
+      ⊎_elim
+      (λ (l : limit < steps bundle).
+      inl (record { steps = steps bundle; may = refl; over = l },
+      ap (λ (b : Bool). cond b (Some bundle) (find (λ bundle. ltb limit (steps bundle)) rest)) (lt-ltb limit (steps bundle) l)))
+      (λ (l : steps bundle ≤ limit).
+      inr (plain_options limit, record { steps = steps bundle; may = refl; within = l; left = refl },
+      subst (IsFirstOver Takes (plain_options limit) rest)
+      (ap (λ (b : Bool). cond b (Some bundle) (find (λ bundle. ltb limit (steps bundle)) rest)) (sym (le-ltb limit (steps bundle) l))) (is_first rest)))
+      (cases_lt limit (steps bundle))
 
-same_steps : (some other : List ℕ → ℕ) → ((bundle : List ℕ) → some bundle ≡ other bundle) → (bundles : List (List ℕ)) (options : SearchOptions)
-    → first_over some options bundles ≡ first_over other options bundles
-unfolding first_over
-same_steps some other e [] options = refl
-same_steps some other e (bundle ∷ rest) options = search (rules, (same_steps some other e rest (options_after options (other bundle))))
+heavy_is : (limit goods : ℕ) (atoms : List (Atom (List ℕ)))
+    → find (λ bundle. ltb limit (search_steps goods atoms bundle)) (searched_bundles goods atoms) ≡ first_heavy goods limit atoms
+unfolding first_heavy is_heavy
+heavy_is limit goods atoms = search (rules, find_filter)
+
+pub may_refuse-plain : (limit goods : ℕ) (atoms : List (Atom (List ℕ))) (refused : Option (List ℕ)) → MayRefuse (plain_options limit) goods atoms refused
+    → refused ≡ first_heavy goods limit atoms
+unfolding search_steps
+may_refuse-plain limit goods atoms refused h =
+    first_is (search_steps goods atoms) limit (searched_bundles goods atoms) refused h ∙ heavy_is limit goods atoms
+
+pub heavy-may_refuse : (limit goods : ℕ) (atoms : List (Atom (List ℕ))) → MayRefuse (plain_options limit) goods atoms (first_heavy goods limit atoms)
+unfolding search_steps
+heavy-may_refuse limit goods atoms =
+    subst (IsFirstOver (BundleMayTake Plain goods atoms) (plain_options limit) (searched_bundles goods atoms)) (heavy_is limit goods atoms)
+    (is_first (search_steps goods atoms) limit (searched_bundles goods atoms))
+
+-- ---- limits refuse some bundle, or none
+
+some_steps : (kind : SearchKind) (goods : ℕ) (atoms : List (Atom (List ℕ))) (bundle : List ℕ)
+    → BundleMayTake kind goods atoms bundle (search_steps goods atoms bundle)
+unfolding search_steps
+some_steps Plain goods atoms bundle = refl
+some_steps Bounded goods atoms bundle = (omega arith, omega (arith, search_within_packings goods atoms bundle))
+
+pub some_refused : (options : SearchOptions) (goods : ℕ) (atoms : List (Atom (List ℕ))) → (refused : Option (List ℕ)) × MayRefuse options goods atoms refused
+some_refused options goods atoms =
+    first_over-some (BundleMayTake options.kind goods atoms) (search_steps goods atoms) (some_steps options.kind goods atoms) (searched_bundles goods atoms)
+    options
+
+-- ---- what is refused does not depend on the number of goods
 
 searched_any_goods : (fewer more : ℕ) (atoms : List (Atom (List ℕ))) → All (IsOnBundle fewer) atoms → All (IsOnBundle more) atoms
     → searched_bundles fewer atoms ≡ searched_bundles more atoms
@@ -74,10 +109,12 @@ searched_any_goods fewer more atoms on there = same_from_contains bundle_cmp bun
         Contains-filter (λ bundle. ltb 0 (greatest_price atoms bundle)) (all_bundles others) bundle
         (all_bundles_has others bundle (priced_bundle atoms bundle priced others p)) priced
 
-pub first_refused_any_goods : (options : SearchOptions) (fewer more : ℕ) (atoms : List (Atom (List ℕ))) → All (IsOnBundle fewer) atoms
-    → All (IsOnBundle more) atoms → first_refused options fewer atoms ≡ first_refused options more atoms
-unfolding first_refused
-first_refused_any_goods options fewer more atoms on there = search (rules, searched_any_goods, same_steps, search_steps_any_goods)
+pub may_refuse_any_goods : (options : SearchOptions) (fewer more : ℕ) (atoms : List (Atom (List ℕ))) → All (IsOnBundle fewer) atoms
+    → All (IsOnBundle more) atoms → (refused : Option (List ℕ)) → MayRefuse options fewer atoms refused → MayRefuse options more atoms refused
+may_refuse_any_goods options fewer more atoms on there refused h =
+    subst₂ (λ (points : List (Atom (List ℕ))) (bundles : List (List ℕ)).
+    IsFirstOver (λ bundle. MayTake options.kind (atoms_below points bundle) bundle (greatest_price atoms bundle)) options bundles refused)
+    (or_points_any_goods fewer more atoms on there) (searched_any_goods fewer more atoms on there) h
 
 -- ---- fewer searches
 
@@ -114,154 +151,93 @@ record HasLess (less more : SearchOptions) : Type 0 where
   each : less.each ≡ more.each
   total : IsAtMost less.total more.total
 
-none_over : (steps : List ℕ → ℕ) (options : SearchOptions) (bundle : List ℕ) (rest : List (List ℕ)) → first_over steps options (bundle ∷ rest) ≡ None
-    → (steps bundle ≤ next_steps options) × (first_over steps (options_after options (steps bundle)) rest ≡ None)
-none_over steps options bundle rest e = search (rules, first_over-refused, first_over-within, cases_lt)
+HasLess-next : (less more : SearchOptions) → HasLess less more → next_steps less ≤ next_steps more
+HasLess-next less more k = rw k.each (least_more less.total more.total more.each k.total)
 
-fewer_searches : (few many : List ℕ → Bool) (steps others : List ℕ → ℕ)
-    → ((bundle : List ℕ) → few bundle ≡ true → (many bundle ≡ true) × (steps bundle ≡ others bundle)) → (bundles : List (List ℕ)) (less more : SearchOptions)
-    → HasLess less more → first_over others less (filter many bundles) ≡ None → first_over steps more (filter few bundles) ≡ None
-unfolding first_over
-fewer_searches few many steps others h [] less more k e = refl
-fewer_searches few many steps others h (bundle ∷ rest) less more k e =
-    ⊎_elim
-    (λ (t : few bundle ≡ true).
-    let both = h bundle t in
-    let parts = none_over others less bundle (filter many rest) (sym (ap (first_over others less) (filter-kept many bundle rest both.0)) ∙ e) in
-    let same : steps bundle ≡ others bundle = both.1 in
-    let next : least_of less.total less.each ≤ least_of more.total more.each =
-    rw k.each (least_more less.total more.total more.each k.total) in
-    let within : steps bundle ≤ next_steps more = omega (arith, parts.0) in
-    let left : HasLess (options_after less (others bundle)) (options_after more (steps bundle)) = rw same (record {
-      each = k.each;
-      total = same_after less.total more.total (others bundle) k.total;
-    }) in
-    ap (first_over steps more) (filter-kept few bundle rest t) ∙ first_over-within steps more bundle (filter few rest) within
-    ∙ fewer_searches few many steps others h rest (options_after less (others bundle)) (options_after more (steps bundle)) left parts.1)
-    (λ (t : few bundle ≡ false).
-    ap (first_over steps more) (filter-lost few bundle rest t) ∙ ⊎_elim
-    (λ (u : many bundle ≡ true).
-    let parts = none_over others less bundle (filter many rest) (sym (ap (first_over others less) (filter-kept many bundle rest u)) ∙ e) in
-    fewer_searches few many steps others h rest (options_after less (others bundle)) more (record {
-      each = k.each;
-      total = less_after less.total more.total (others bundle) k.total;
-    }) parts.1)
-    (λ (u : many bundle ≡ false).
-    fewer_searches few many steps others h rest less more k (sym (ap (first_over others less) (filter-lost many bundle rest u)) ∙ e))
-    (cases_Bool (many bundle)))
-    (cases_Bool (few bundle))
+HasLess-same : (less more after : SearchOptions) (steps : ℕ) → HasLess less more → after ≡ options_after less steps → HasLess after (options_after more steps)
+HasLess-same less more after steps k e =
+    subst (λ (o : SearchOptions). HasLess o (options_after more steps)) (sym e)
+    (record { each = k.each; total = same_after less.total more.total steps k.total })
 
--- if no bundle is refused for the bids, none is for the points
+HasLess-less : (less more after : SearchOptions) (steps : ℕ) → HasLess less more → after ≡ options_after less steps → HasLess after more
+HasLess-less less more after steps k e =
+    subst (λ (o : SearchOptions). HasLess o more) (sym e) (record { each = k.each; total = less_after less.total more.total steps k.total })
+
+module _ (few many : List ℕ → Bool) (May Other : List ℕ → ℕ → Type 0)
+    (among : (bundle : List ℕ) → few bundle ≡ true → (many bundle ≡ true) × ((steps : ℕ) → Other bundle steps → May bundle steps)) where
+  -- the first of more searches is within the limits
+  first_within : (bundle : List ℕ) (rest : List (List ℕ)) (less : SearchOptions) → many bundle ≡ true
+      → IsFirstOver Other less (filter many (bundle ∷ rest)) None
+      → (after : SearchOptions) × IsWithinLimits (Other bundle) less after × IsFirstOver Other after (filter many rest) None
+  first_within bundle rest less t h =
+      by (subst (λ (bundles : List (List ℕ)). IsFirstOver Other less bundles None) (filter-kept many bundle rest t) h)
+    where
+      by : IsFirstOver Other less (bundle ∷ filter many rest) None
+          → (after : SearchOptions) × IsWithinLimits (Other bundle) less after × IsFirstOver Other after (filter many rest) None
+      by (inl h) = let e = h.1 in absurd (cc)
+      by (inr h) = h
+
+  fewer_searches : (bundles : List (List ℕ)) (less more : SearchOptions) → HasLess less more → IsFirstOver Other less (filter many bundles) None
+      → IsFirstOver May more (filter few bundles) None
+  fewer_searches [] less more k h = refl
+  fewer_searches (bundle ∷ rest) less more k h = ⊎_elim (λ (t : few bundle ≡ true).
+      let both = among bundle t in
+      let r = first_within bundle rest less both.0 h in
+      let steps = r.1.steps in
+      subst (λ (bundles : List (List ℕ)). IsFirstOver May more bundles None) (sym (filter-kept few bundle rest t)) (inr (
+        options_after more steps,
+        record { steps = steps; may = both.1 steps r.1.may; within = le_trans r.1.within (HasLess-next less more k); left = refl },
+        fewer_searches rest r.0 (options_after more steps) (HasLess-same less more r.0 steps k r.1.left) r.2,
+      ))) (λ (t : few bundle ≡ false).
+      subst (λ (bundles : List (List ℕ)). IsFirstOver May more bundles None) (sym (filter-lost few bundle rest t)) (⊎_elim
+      (λ (u : many bundle ≡ true).
+      let r = first_within bundle rest less u h in
+      fewer_searches rest r.0 more (HasLess-less less more r.0 r.1.steps k r.1.left) r.2)
+      (λ (u : many bundle ≡ false).
+      fewer_searches rest less more k (subst (λ (bundles : List (List ℕ)). IsFirstOver Other less bundles None) (filter-lost many bundle rest u) h))
+      (cases_Bool (many bundle)))) (cases_Bool (few bundle))
+
+-- if limits may refuse no bundle for the bids, they may refuse none for the points
 pub no_refused_point : (options : SearchOptions) (goods : ℕ) (atoms : List (Atom (List ℕ))) → All (IsOnBundle goods) atoms
-    → first_refused options goods atoms ≡ None → first_refused options goods (or_points goods atoms) ≡ None
-unfolding first_refused
-no_refused_point options goods atoms on e = search (rules, fewer_searches, ltb-true, greatest_price-point, lt-ltb, search_steps-point, at_most_itself)
+    → MayRefuse options goods atoms None → MayRefuse options goods (or_points goods atoms) None
+no_refused_point options goods atoms on h =
+    let points = or_points goods atoms in
+    fewer_searches (λ bundle. ltb 0 (greatest_price points bundle)) (λ bundle. ltb 0 (greatest_price atoms bundle)) (BundleMayTake options.kind goods points)
+    (BundleMayTake options.kind goods atoms) (λ bundle t.
+    let some = ltb-true 0 (greatest_price points bundle) t in
+    (
+      lt-ltb 0 (greatest_price atoms bundle) (omega (arith, some, greatest_price-point goods atoms on bundle some)),
+      λ steps. may_take-point options.kind goods atoms on bundle some steps,
+    ))
+    (all_bundles goods) options options (record { each = refl; total = at_most_itself options.total }) h
 
 -- ---- the same of heavy bundles
 
 pub first_heavy_any_goods : (fewer more limit : ℕ) (atoms : List (Atom (List ℕ))) → All (IsOnBundle fewer) atoms → All (IsOnBundle more) atoms
     → first_heavy fewer limit atoms ≡ first_heavy more limit atoms
 first_heavy_any_goods fewer more limit atoms on there =
-    sym (first_refused-plain limit fewer atoms) ∙ first_refused_any_goods (plain_options limit) fewer more atoms on there ∙ first_refused-plain limit more atoms
+    may_refuse-plain limit more atoms (first_heavy fewer limit atoms)
+    (may_refuse_any_goods (plain_options limit) fewer more atoms on there _ (heavy-may_refuse limit fewer atoms))
 
 pub no_heavy_point : (goods limit : ℕ) (atoms : List (Atom (List ℕ))) → All (IsOnBundle goods) atoms → first_heavy goods limit atoms ≡ None
     → first_heavy goods limit (or_points goods atoms) ≡ None
 no_heavy_point goods limit atoms on e =
-    sym (first_refused-plain limit goods (or_points goods atoms))
-    ∙ no_refused_point (plain_options limit) goods atoms on (first_refused-plain limit goods atoms ∙ e)
+    sym (may_refuse-plain limit goods (or_points goods atoms) None
+    (no_refused_point (plain_options limit) goods atoms on (subst (MayRefuse (plain_options limit) goods atoms) e (heavy-may_refuse limit goods atoms))))
 
--- ---- no search is refused exactly if each is within its limit, and all together within theirs
+-- ---- what a refusal says of the packings
 
--- so many steps are at most a total, if there is one
-abbrev pub IsWithinTotal : Option ℕ → ℕ → Type 0
-IsWithinTotal total steps = (most : ℕ) → total ≡ Some most → steps ≤ most
-
-least_from : (total : Option ℕ) (each steps : ℕ) → steps ≤ each → IsWithinTotal total steps → steps ≤ least_of total each
-least_from None each steps l h = l
-least_from (Some most) each steps l h = let m : steps ≤ most = h most refl in omega arith
-
-least_each : (total : Option ℕ) (each : ℕ) → least_of total each ≤ each
-least_each None each = omega arith
-least_each (Some most) each = omega arith
-
-within_more : (total : Option ℕ) (each steps later : ℕ) → steps ≤ least_of total each → IsWithinTotal (total_after total steps) later
-    → IsWithinTotal total (steps + later)
-within_more None each steps later l h most e = absurd (cc)
-within_more (Some total) each steps later l h most e = search rules
-
-within_later : (total : Option ℕ) (steps later : ℕ) → IsWithinTotal total (steps + later) → IsWithinTotal (total_after total steps) later
-within_later None steps later h most e = absurd (cc)
-within_later (Some total) steps later h most e = search rules
-
-each_within : (steps : List ℕ → ℕ) (bundles : List (List ℕ)) (options : SearchOptions) → first_over steps options bundles ≡ None
-    → All (λ bundle. steps bundle ≤ options.each) bundles × IsWithinTotal options.total (sum_by steps bundles)
-each_within steps [] options e = (All-nil (λ (bundle : List ℕ). steps bundle ≤ options.each), λ most f. omega arith)
-each_within steps (bundle ∷ rest) options e =
-    let parts = none_over steps options bundle rest e in
-    search (rules, All-cons, least_each, sum_by-cons, within_more, (each_within steps rest (options_after options (steps bundle)) parts.1))
-
-none_from_within : (steps : List ℕ → ℕ) (bundles : List (List ℕ)) (options : SearchOptions) → All (λ bundle. steps bundle ≤ options.each) bundles
-    → IsWithinTotal options.total (sum_by steps bundles) → first_over steps options bundles ≡ None
-unfolding first_over
-none_from_within steps [] options each all = refl
-none_from_within steps (bundle ∷ rest) options each all =
-    let together : IsWithinTotal options.total (steps bundle + sum_by steps rest) = rw (sum_by-cons steps bundle rest) at all in
-    let again = none_from_within steps rest (options_after options (steps bundle)) (All-tail (λ bundle. steps bundle ≤ options.each) bundle rest each)
-    (within_later options.total (steps bundle) (sum_by steps rest) together) in
-    search (rules, least_from, All-head, first_over-within, All-tail, within_later, again)
-
-pub none_refused : (options : SearchOptions) (goods : ℕ) (atoms : List (Atom (List ℕ))) → first_refused options goods atoms ≡ None
-    → All (λ bundle. search_steps_by options.kind goods atoms bundle ≤ options.each) (searched_bundles goods atoms)
-    × IsWithinTotal options.total (sum_by (search_steps_by options.kind goods atoms) (searched_bundles goods atoms))
-unfolding first_refused
-none_refused options goods atoms = each_within (search_steps_by options.kind goods atoms) (searched_bundles goods atoms) options
-
-pub none_refused-from : (options : SearchOptions) (goods : ℕ) (atoms : List (Atom (List ℕ)))
-    → All (λ bundle. search_steps_by options.kind goods atoms bundle ≤ options.each) (searched_bundles goods atoms)
-    × IsWithinTotal options.total (sum_by (search_steps_by options.kind goods atoms) (searched_bundles goods atoms))
-    → first_refused options goods atoms ≡ None
-unfolding first_refused
-none_refused-from options goods atoms h = none_from_within (search_steps_by options.kind goods atoms) (searched_bundles goods atoms) options h.0 h.1
-
--- ---- what a refusal says of the steps
-
-least_over : (total : Option ℕ) (each steps : ℕ) → least_of total each < steps → (each < steps) ⊎ ((most : ℕ) × (total ≡ Some most) × (most < steps))
-least_over None each steps l = inl l
-least_over (Some most) each steps l = ⊎_elim (λ (m : most < steps). inr (most, refl, m)) (λ (m : steps ≤ most). inl (omega arith)) (cases_lt most steps)
-
-after_is : (total : Option ℕ) (steps left : ℕ) → total_after total steps ≡ Some left → (most : ℕ) × (total ≡ Some most) × (most ≤ steps + left)
-after_is None steps left e = absurd (cc)
-after_is (Some most) steps left e = let d : most - steps ≡ left = cc in (most, refl, omega arith)
-
--- the refused bundle's search takes more steps than one may, or all searches together take more than all may
-pub refused_over : (steps : List ℕ → ℕ) (bundles : List (List ℕ)) (options : SearchOptions) (bundle : List ℕ) → first_over steps options bundles ≡ Some bundle
-    → (options.each < steps bundle) ⊎ ((most : ℕ) × (options.total ≡ Some most) × (most < sum_by steps bundles))
-unfolding first_over
-refused_over steps [] options bundle e = absurd (cc)
-refused_over steps (first ∷ rest) options bundle e =
-    let sum = sum_by-cons steps first rest in
-    ⊎_elim
-    (λ (l : next_steps options < steps first).
-    let f : Some first ≡ Some bundle = sym (first_over-refused steps options first rest l) ∙ e in
-    let same : first ≡ bundle = cc in
-    ⊎_elim (λ (m : options.each < steps first). inl (rw (sym same) m))
-    (λ (r : (most : ℕ) × (options.total ≡ Some most) × (most < steps first)). let m : r.0 < steps first = r.2 in inr (r.0, r.1, omega arith))
-    (least_over options.total options.each (steps first) l))
-    (λ (l : steps first ≤ next_steps options).
-    ⊎_elim (λ (m : options.each < steps bundle). inl m)
-    (λ (r : (most : ℕ) × (total_after options.total (steps first) ≡ Some most) × (most < sum_by steps rest)).
-    let s = after_is options.total (steps first) r.0 r.1 in
-    let m : r.0 < sum_by steps rest = r.2 in
-    let n : s.0 ≤ steps first + r.0 = s.2 in
-    inr (s.0, s.1, omega arith))
-    (refused_over steps rest (options_after options (steps first)) bundle (sym (first_over-within steps options first rest l) ∙ e)))
-    (cases_lt (next_steps options) (steps first))
-
--- without a limit on all together, it has more packings by all bids than a search may take steps
-pub refused_load : (options : SearchOptions) (goods : ℕ) (atoms : List (Atom (List ℕ))) (bundle : List ℕ) → All (IsOnBundle goods) atoms
-    → first_refused options goods atoms ≡ Some bundle → options.total ≡ None → options.each < steps_at_most atoms bundle
-unfolding first_refused
-refused_load options goods atoms bundle on e none = search (rules, search_within_bound, refused_over)
+-- without a limit on all together, a heavy bundle has more packings by all bids than a search may take steps
+pub refused_load : (limit goods : ℕ) (atoms : List (Atom (List ℕ))) (bundle : List ℕ) → All (IsOnBundle goods) atoms
+    → first_heavy goods limit atoms ≡ Some bundle → limit < steps_at_most atoms bundle
+unfolding search_steps
+refused_load limit goods atoms bundle on e =
+    over_each (first_over-why (BundleMayTake Plain goods atoms) (search_steps goods atoms) (λ b steps same. omega (arith, same)) (searched_bundles goods atoms)
+    (plain_options limit) bundle (subst (MayRefuse (plain_options limit) goods atoms) e (heavy-may_refuse limit goods atoms)))
+  where
+    over_each : {all : ℕ} → AreOver (plain_options limit) (search_steps goods atoms bundle) all → limit < steps_at_most atoms bundle
+    over_each (inl l) = omega (arith, l, search_within_packings goods atoms bundle, points_within_bids goods atoms on bundle)
+    over_each (inr h) = let none = h.1 in absurd (cc)
 
 -- ---- a fault
 

@@ -1,5 +1,5 @@
 -- `canonical`: plain searches refuse at the first heavy bundle.
-use Rattle.canon.proofs.Common.{rules, ◌≡◌, Result, Ok, Err, sym, subst, IfErr, IsErrAnd, first_refused-plain, step_limit_weaker, PlainAuction, plain_auction}
+use Rattle.canon.proofs.Common.{rules, ◌≡◌, Result, Ok, Err, sym, subst, IfErr, IsErrAnd, may_refuse-plain, step_limit_weaker, PlainAuction, plain_auction}
 use Rattle.canon.proofs.Common.{IsSameAuction}
 use Rattle.canon.proofs.CanonicalAuctions.Sames.{HasAtoms-auction, canonical_is_same}
 use Rattle.canon.proofs.normal.auction.canonical.Goals as goal
@@ -13,7 +13,7 @@ returns-clause-same g c = subst (λ (a : PlainAuction). IsSameAuction (plain_auc
     (search (rules, canonical_is_same, HasAtoms-auction))
 
 pub returns-clause-none_heavy : goal.returns-clause-none_heavy
-returns-clause-none_heavy g c = search (rules, first_refused-plain)
+returns-clause-none_heavy g c = search (rules, may_refuse-plain)
 
 pub returns-in_err-named_canonical-clause-step_limit : goal.returns-in_err-named_canonical-clause-step_limit
-returns-in_err-named_canonical-clause-step_limit g c = search (rules, step_limit_weaker, first_refused-plain, same_fault)
+returns-in_err-named_canonical-clause-step_limit g c = search (rules, step_limit_weaker, may_refuse-plain, same_fault)

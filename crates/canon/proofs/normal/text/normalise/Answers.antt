@@ -1,6 +1,6 @@
 -- `normalise`
 use Rattle.canon.proofs.Common.{rules, plain_options, IsText, Normalises}
-use Rattle.canon.proofs.TwoFiles.Answering.{text_of_normal, same_exactly, normal_again}
+use Rattle.canon.proofs.TwoFiles.Answering.{normalised_text, same_exactly, normal_again}
 use Rattle.canon.proofs.normal.text.normalise.Goals as goal
 
 pub returns-in_err-normal-clause-answer : goal.returns-in_err-normal-clause-answer
@@ -11,7 +11,7 @@ returns-in_err-normal-clause-answer c =
 made : (c : goal.After-drop-normal-inside-3) → Normalises (plain_options c.args.limit) c.args.text.now (IsText c.in_ok-write.field-0.items)
 made c =
     let n = c.in_ok-normal.ensures in
-    search (rules, text_of_normal)
+    search (rules, normalised_text)
 
 pub returns-clause-answer : goal.returns-clause-answer
 returns-clause-answer c = made c
