@@ -41,7 +41,7 @@ pub use Rattle.std.specs.Prelude.{OnOk}
 pub use Rattle.valuation.specs.Auctions.{IsAtom, atom_of, or_atoms_of, xor_atoms_of, auction_from}
 pub use Rattle.valuation.specs.Bidders.{bidders_of, plain_auction_of}
 pub use Rattle.valuation.specs.Bounds.{IsOnGoods, rate, greatest_rate, rate_bound, IsBound, price_bound}
-pub use Rattle.valuation.specs.Internal.BestSearch.{IsPackingFrom, IsFoundFrom, IsReady, AreMade, AreSearched}
+pub use Rattle.valuation.specs.Internal.BestSearch.{IsPackingFrom, IsFoundFrom, IsReady}
 pub use Rattle.valuation.specs.Internal.Conflicts.{AreConflicts, AreHolders, IsLeft, AreFree, are_disjoint, offers_of}
 pub use Rattle.valuation.specs.Internal.Holders.{holders_at, indices_of}
 pub use Rattle.valuation.specs.Internal.Listed.{IsListed}
@@ -63,7 +63,8 @@ pub use Rattle.valuation.specs.Lemmas.Packings.{price_sum-packing, IsPacking-unl
 pub use Rattle.valuation.specs.Lemmas.Packings.{chosen_indices-best}
 pub use Rattle.valuation.specs.Lemmas.Permutations.{from_permutation}
 pub use Rattle.valuation.specs.Internal.Searches.{bound_of}
-pub use Rattle.valuation.specs.Lemmas.SearchLimits.{value_refusals, plain_value, plain_value-may}
+pub use Rattle.valuation.specs.Lemmas.SearchLimits.{AreLeft-all, AreLeft-grows, AreLeft-more, AreOver-after, AreOver-grows, AreOver-next, product-less}
+pub use Rattle.valuation.specs.Lemmas.SearchLimits.{product-sum}
 pub use Rattle.valuation.specs.Lemmas.SearchSteps.{cut_steps-zero, cut_steps-short, cut_steps-outside, cut_steps-reached, cut_steps-missed, found_indices-zero}
 pub use Rattle.valuation.specs.Lemmas.SearchSteps.{found_indices-taken, found_indices-outside, found_indices-missed, cut_steps-nil, cut_within_packings}
 pub use Rattle.valuation.specs.Lemmas.SearchSteps.{found_indices-packing}
@@ -74,10 +75,10 @@ pub use Rattle.valuation.specs.Listed.{listed, AreListsOf}
 pub use Rattle.valuation.specs.Lemmas.Inside.{atoms_at-indices_inside, indices_inside-within}
 pub use Rattle.valuation.specs.Packings.{indices_inside, is_inside_at, atom_at, count_packings, atoms_inside, numbers_at, atoms_at, price_sum, IsPackingFor}
 pub use Rattle.valuation.specs.Packings.{IsPacking}
-pub use Rattle.valuation.specs.SearchLimits.{AreOver, IsFirstOver, IsOverLimits, IsWithinLimits, bounded_options, options_after, next_steps, plain_options}
+pub use Rattle.valuation.specs.SearchLimits.{AreLeft, AreOver, IsKept, bounded_options, least_of, next_steps, options_after, total_after}
 pub use Rattle.valuation.specs.SearchSteps.{cut_steps, found_indices}
-pub use Rattle.valuation.specs.Searches.{IsBoundedCount, IsFound, IsSearchedBy, IsSearchedWithin, MayTake}
-pub use Rattle.valuation.specs.ValueSearches.{is_candidate, MayBeSearches, MayRefuseValue, ValueMayTake}
+pub use Rattle.valuation.specs.Searches.{IsFound, IsSearchedBy, IsSearchedWithin, most_steps}
+pub use Rattle.valuation.specs.ValueSearches.{is_candidate, most_of_one, most_searches, MayRefuseValue}
 pub use Rattle.valuation.specs.Values.{or_value, chosen_indices, xor_value, IsFirstBest, atoms_of, plain_atom}
 pub use Rattle.valuation.specs.declared.atom.Atom.{Atom}
 pub use Rattle.valuation.specs.declared.packing.ValueFault.{ValueFault}

@@ -16,4 +16,3 @@ pub mod Listed
 pub mod Candidates
 pub mod Choosing
 pub mod SearchesInTurn
-pub mod ValueLimits

@@ -1,6 +1,5 @@
 //! Laws of the definitions, which the check proves.
-ghost use Rattle.std.specs.Prelude.{◌≡◌, ◌↔◌, ℕ, ◌+◌, ◌*◌, ◌<◌, ◌≤◌, nat_lt, if◌then◌else◌, List, ◌∷◌, length, All, IsPermutation, IsSorted};
-ghost use Rattle.std.specs.Prelude.{Option, Some, None};
+ghost use Rattle.std.specs.Prelude.{◌≡◌, ℕ, ◌+◌, ◌<◌, ◌≤◌, List, ◌∷◌, length, All, IsPermutation, IsSorted};
 ghost use Rattle.std.specs.Cmp.{IsTotalOrder};
 ghost use Rattle.std.specs.declared.cmp.Ordering.TheVariants.{Equal};
 ghost use Rattle.goods_set.specs.Bundles.{IsInside, IsRising, AreApart};
@@ -10,10 +9,6 @@ ghost use Rattle.valuation.specs.Values.{xor_value, or_value, chosen_indices};
 ghost use Rattle.valuation.specs.Packings.{atoms_at, price_sum, count_packings, IsPacking, IsBestPacking, AreThePackings};
 ghost use Rattle.valuation.specs.Bounds.{price_bound, rate_bound, IsOnGoods};
 ghost use Rattle.valuation.specs.SearchSteps.{cut_steps, found_indices};
-ghost use Rattle.valuation.specs.SearchLimits.{AreOver, plain_options};
-ghost use Rattle.valuation.specs.Searches.{steps_per_packing};
-ghost use Rattle.valuation.specs.ValueSearches.{MayRefuseValue};
-ghost use Rattle.valuation.specs.declared.search.options.SearchOptions.{SearchOptions};
 ghost use Rattle.valuation.specs.Orders.{atom_cmp, bidder_cmp};
 ghost use Rattle.valuation.specs.Sorting.{sort_by};
 ghost use Rattle.valuation.specs.Auctions.{IsAuction, auction_from};
@@ -73,19 +68,6 @@ pub fn search_laws()
         × (price ≤ price_sum (atoms_at atoms (found_indices atoms bundle price))) }
     ensures steps { (left : List (Atom (List ℕ)) → List ℕ → ℕ) (atoms : List (Atom (List ℕ))) (bundle : List ℕ) (price : ℕ)
         → 1 + cut_steps left atoms bundle price ≤ count_packings atoms bundle }
-{}
-
-/// Limits refuse a value only if the bundle's packings, times a factor, are more than the steps of one search, or those
-/// of all searches for it are more than all may take. The plain search is refused exactly if there are more packings than
-/// its limit.
-pub fn value_refusals()
-    ensures why { (options : SearchOptions) (atoms : List (Atom (List ℕ))) (bundle refused : List ℕ)
-        → MayRefuseValue options atoms bundle (Some refused)
-        → let most = steps_per_packing * count_packings atoms bundle in
-        AreOver options most ((1 + or_value atoms bundle + length atoms) * most) }
-    ensures plain { (limit : ℕ) (atoms : List (Atom (List ℕ))) (bundle : List ℕ) (refused : Option (List ℕ))
-        → (MayRefuseValue (plain_options limit) atoms bundle refused
-        ↔ refused ≡ (if nat_lt limit (count_packings atoms bundle) then Some bundle else None)) }
 {}
 
 /// The orders of atoms and of bidders are total, and answer Equal only for equal ones.

@@ -8,8 +8,8 @@ ghost use Rattle.valuation.specs.Internal.Reaching.{ArePricesLeft, Continues};
 ghost use Rattle.valuation.specs.Packings.{count_packings, IsPackingFor, numbers_at};
 ghost use Rattle.valuation.specs.Bounds.{price_bound, rate, greatest_rate, rate_bound};
 ghost use Rattle.valuation.specs.SearchSteps.{cut_steps, found_indices};
-ghost use Rattle.valuation.specs.SearchLimits.{plain_options, bounded_options, next_steps, options_after, IsFirstOver};
-ghost use Rattle.valuation.specs.ValueSearches.{is_candidate, MayRefuseValue};
+ghost use Rattle.valuation.specs.SearchLimits.{plain_options, bounded_options, next_steps, options_after, AreLeft, AreOver};
+ghost use Rattle.valuation.specs.ValueSearches.{is_candidate, most_of_one, most_searches};
 ghost use Rattle.valuation.specs.Tables.{or_table, xor_table, is_nonzero};
 ghost use Rattle.valuation.specs.Orders.{atom_cmp, bidder_cmp};
 ghost use Rattle.valuation.specs.Sorting.{sort_by};
@@ -110,25 +110,21 @@ pub fn limits_worked()
     ensures plain_after { options_after (plain_options 5) 4 ≡ plain_options 5 }
 {}
 
-/// Of searches of so many steps each, the first that is over the limits.
-fn first_over_worked()
-    ensures all_within { IsFirstOver (λ _ steps. steps ≡ 3) (bounded_options 5 (Some 7)) ((0 ∷ []) ∷ (1 ∷ []) ∷ []) None }
-    ensures second_over { IsFirstOver (λ _ steps. steps ≡ 4) (bounded_options 5 (Some 7)) ((0 ∷ []) ∷ (1 ∷ []) ∷ [])
-        (Some (1 ∷ [])) }
-    ensures first_over { IsFirstOver (λ _ steps. steps ≡ 6) (bounded_options 5 None) ((0 ∷ []) ∷ (1 ∷ []) ∷ [])
-        (Some (0 ∷ [])) }
-    ensures not_within { ¬ IsFirstOver (λ _ steps. steps ≡ 6) (bounded_options 5 None) ((0 ∷ []) ∷ []) None }
-    ensures no_search { IsFirstOver (λ _ steps. steps ≡ 6) (bounded_options 0 None) [] None }
+/// Limits that are too low for searches of so many steps, and what searches leave of them.
+fn over_worked()
+    ensures each { AreOver (bounded_options 4 None) 5 5 }
+    ensures enough { ¬ AreOver (bounded_options 5 None) 5 9 }
+    ensures total { AreOver (bounded_options 5 (Some 8)) 5 9 }
+    ensures total_enough { ¬ AreOver (bounded_options 5 (Some 9)) 5 9 }
+    ensures left { AreLeft 4 (bounded_options 5 (Some 7)) (bounded_options 5 (Some 3)) }
+    ensures less_left { ¬ AreLeft 4 (bounded_options 5 (Some 7)) (bounded_options 5 (Some 2)) }
 {}
 
-/// Three bids have five packings: which limits refuse the value. A bounded search takes one step at least.
-fn value_refusals_worked()
-    ensures within { MayRefuseValue (plain_options 5) three_bids (0 ∷ 1 ∷ []) None }
-    ensures over { MayRefuseValue (plain_options 4) three_bids (0 ∷ 1 ∷ []) (Some (0 ∷ 1 ∷ [])) }
-    ensures not_over { ¬ MayRefuseValue (plain_options 5) three_bids (0 ∷ 1 ∷ []) (Some (0 ∷ 1 ∷ [])) }
-    ensures bounded { MayRefuseValue (bounded_options 4 None) three_bids (0 ∷ 1 ∷ []) (Some (0 ∷ 1 ∷ [])) }
-    ensures not_bounded { ¬ MayRefuseValue (bounded_options 5 None) three_bids (0 ∷ 1 ∷ []) (Some (0 ∷ 1 ∷ [])) }
-    ensures no_step { ¬ MayRefuseValue (bounded_options 0 None) three_bids (0 ∷ 1 ∷ []) None }
+/// Three bids have five packings: a bounded search takes no more steps.
+#[tactic(auto, unfolding(crate::specs::Packings::count_packings, crate::specs::Values::or_value))]
+fn value_steps_worked()
+    ensures one { most_of_one three_bids (0 ∷ 1 ∷ []) ≡ 5 }
+    ensures all { most_searches three_bids (0 ∷ 1 ∷ []) ≡ 11 }
 {}
 
 /// The bids that the search for a best packing visits.
