@@ -73,7 +73,7 @@ pub use Rattle.prune.specs.Lemmas.Lists.{zero_or_more, All-from_Contains, Contai
 pub use Rattle.prune.specs.Lemmas.Lists.{Contains-filter_parts, filter_same_on, map_same_on, find_none, found_none, map_same_at, find_alike}
 pub use Rattle.prune.specs.Lemmas.Points.{points_where-in_order, IsOrPoint-from_test, is_or_point-true, or_points_are}
 pub use Rattle.prune.specs.Lemmas.Ranges.{in_range}
-pub use Rattle.prune.specs.Lemmas.Refusals.{no_refused_point, no_heavy_point, may_refuse-plain, some_refused, step_limit_weaker}
+pub use Rattle.prune.specs.Lemmas.Refusals.{no_heavy_point, may_refuse-plain, heavy-may_refuse, step_limit_weaker}
 pub use Rattle.prune.specs.Lemmas.SearchSteps.{no_new_heavy, search_steps-point}
 pub use Rattle.prune.specs.Lemmas.Tables.{same_xor_points, same_or_points, no_xor_points}
 pub use Rattle.prune.specs.Lemmas.Values.{or_value-dominated, xor_value-bound, xor_value-member}

@@ -3,7 +3,7 @@
 ghost use Rattle.std.specs.Prelude.{◌≡◌, ◌↔◌, ℕ, List, [], ◌∷◌, ◌++◌, None, true, ◌<◌, Some, All, Contains, IsPermutation};
 ghost use Rattle.bid_file.specs.Files.{PlainBid, PlainFile, IsPlainFile};
 ghost use Rattle.valuation.specs.Auctions.{PlainAuction, IsAuction, auction_from};
-ghost use Rattle.prune.specs.SearchSteps.{first_heavy, greatest_price, is_heavy, search_steps, MayRefuse};
+ghost use Rattle.prune.specs.SearchSteps.{first_heavy, greatest_price, is_heavy, search_steps};
 ghost use Rattle.valuation.specs.declared.search.options.SearchOptions.{SearchOptions};
 ghost use Rattle.valuation.specs.SearchLimits.{plain_options};
 ghost use Rattle.canon.specs.Canonical.{IsCanonical, IsCanonicalFile, canonical_auction, canonical_text, file_from};
@@ -28,7 +28,7 @@ ghost use Rattle.canon.specs.Difference.{NoDifference};
 /// their canonical texts are equal exactly if their files have the same number of goods, the same OR value on every
 /// bundle and the same multiset of nonzero XOR valuations. So one text has one canonical text, whatever the searches and
 /// the limits. The canonical text spells the canonical file of the file that the text spells, which is the same auction;
-/// and normalising it by the same searches under the same limits may give it back, as plain ones do.
+/// and normalising it by plain searches under the same limit gives it back.
 pub fn equal_text_exactly_for_the_same_auction()
     ensures equal { (m n : SearchOptions) (one other s t : List ℕ) → Normalises m one (IsText s)
         → Normalises n other (IsText t) → (s ≡ t ↔ AreSameTexts one other) }
@@ -36,13 +36,13 @@ pub fn equal_text_exactly_for_the_same_auction()
         → Normalises n text (IsText t) → s ≡ t }
     ensures spelled { (options : SearchOptions) (text out : List ℕ) → Normalises options text (IsText out)
         → SpellsCanonicalFile text out }
-    ensures again { (options : SearchOptions) (text out : List ℕ) → Normalises options text (IsText out)
-        → Normalises options out (IsText out) }
+    ensures again { (limit : ℕ) (text out : List ℕ) → Normalises (plain_options limit) text (IsText out)
+        → Normalises (plain_options limit) out (IsText out) }
 {}
 
-/// What normalising a text gives is there for each text, each kind of search and all limits. By plain searches it is one.
+/// What normalising a text by plain searches gives is there for each text and each limit, and is one.
 pub fn each_text_has_one_outcome()
-    ensures some { (options : SearchOptions) (text : List ℕ) → IsNormalised options text }
+    ensures some { (limit : ℕ) (text : List ℕ) → IsNormalised (plain_options limit) text }
     ensures one { (limit : ℕ) (text : List ℕ) (one other : Normalised) → Normalises (plain_options limit) text one
         → Normalises (plain_options limit) text other → one ≡ other }
 {}
@@ -80,8 +80,7 @@ pub fn sameness_is_an_equivalence()
 {}
 
 /// On a bundle that the canonical auction has a price for, the plain search takes the steps that it takes in the auction.
-/// So a bundle that is over the limit in the canonical auction is over it in the auction, and if limits may refuse none
-/// there, they may refuse none here.
+/// So a bundle that is over the limit in the canonical auction is over it in the auction.
 pub fn no_new_heavy_bundle()
     ensures heavy { (cap limit : ℕ) (a : PlainAuction) → IsAuction cap a → (bundle : List ℕ)
         → is_heavy a.goods limit (canonical_auction a).or_atoms bundle ≡ true → is_heavy a.goods limit a.or_atoms bundle
@@ -91,8 +90,6 @@ pub fn no_new_heavy_bundle()
     ensures steps { (cap : ℕ) (a : PlainAuction) → IsAuction cap a → (bundle : List ℕ)
         → 0 < greatest_price (canonical_auction a).or_atoms bundle
         → search_steps a.goods (canonical_auction a).or_atoms bundle ≡ search_steps a.goods a.or_atoms bundle }
-    ensures none_refused { (options : SearchOptions) (cap : ℕ) (a : PlainAuction) → IsAuction cap a
-        → MayRefuse options a.goods a.or_atoms None → MayRefuse options a.goods (canonical_auction a).or_atoms None }
 {}
 
 /// An index that files are added to one by one, each with a text of its own, is the index of these files by these texts.

@@ -28,21 +28,21 @@ pub use Rattle.prune.specs.Lemmas.OnBundles.{IsOnBundle}
 pub use Rattle.prune.specs.Lemmas.PackingIndices.{map-reverse, reversed_within}
 pub use Rattle.prune.specs.Lemmas.Points.{xor_points_are, or_points_are}
 pub use Rattle.prune.specs.Lemmas.Ranges.{first_in_range, none_in_range, in_range}
-pub use Rattle.prune.specs.Lemmas.Refusals.{may_refuse_any_goods, first_heavy_any_goods, no_refused_point, no_heavy_point, may_refuse-plain}
-pub use Rattle.prune.specs.Lemmas.Refusals.{heavy-may_refuse, refused_load, step_limit_weaker}
+pub use Rattle.prune.specs.Lemmas.Refusals.{first_heavy-is, first_heavy_any_goods, no_heavy_point, may_refuse-plain, heavy-may_refuse, refused_load}
+pub use Rattle.prune.specs.Lemmas.Refusals.{step_limit_weaker}
 pub use Rattle.prune.specs.Lemmas.SearchSteps.{greatest_price-member, greatest_price-reached, search_steps-point, no_new_heavy, search_within_packings}
-pub use Rattle.prune.specs.Lemmas.SearchSteps.{points_within_bids, search_may_take, ordered_may, ordered_value}
+pub use Rattle.prune.specs.Lemmas.SearchSteps.{points_within_bids, ordered_most, ordered_value}
 pub use Rattle.prune.specs.Lemmas.Tables.{no_xor_points, no_or_points, same_xor_points, same_or_points}
 pub use Rattle.prune.specs.Lemmas.Values.{xor_value-member, xor_value-bound, xor_value-dominated, or_value-dominated}
 pub use Rattle.prune.specs.Points.{or_points, xor_points}
-pub use Rattle.prune.specs.SearchSteps.{atoms_below, greatest_price, is_below, in_search_order, searched_bundles, first_heavy, BundleMayTake, MayRefuse, steps_at_most}
+pub use Rattle.prune.specs.SearchSteps.{atoms_below, greatest_price, is_below, in_search_order, searched_bundles, first_heavy, most_at, MayRefuse, steps_at_most}
 pub use Rattle.prune.specs.declared.subset_index.Posting.{Posting}
 pub use Rattle.std.proofs.Common.{rules, ◌≡◌, ℕ, ◌+◌, ◌<◌, ◌≤◌, Bool, true, false, cond, ltb, ◌⊎◌, inl, inr, ⊎_elim, List, [], ◌∷◌, map, length, get_or, refl}
 pub use Rattle.std.proofs.Common.{sym, ap, ap₂, ◌∙◌, subst, arith, le_refl, Ordering, Less, Equal, Greater, is_lt, nat_cmp, leb, take, Some, None, ◌≢◌, zero}
 pub use Rattle.std.proofs.Common.{suc, append_assoc, eqb, ◌++◌, subst₂, ◌*◌, ◌%◌, ◌-◌, ◌^◌, min, drop, set, not, le_trans, le_antisymm, reverse, Err}
 pub use Rattle.std.proofs.Common.{append-nil, vec_len}
 pub use Rattle.std.proofs.lemmas.Bool.{cases_Bool, cases_lt, both_ways, false_from_ne_true, ltb-true, lt-ltb, cond-true, cond-false, cases_eq, and_parts}
-pub use Rattle.std.proofs.lemmas.Bool.{and_from, and_right, eqb-true, eq-eqb, le-leb, lt-leb, and_left, not_from_true, ltb-false, leb-true, leb-false}
+pub use Rattle.std.proofs.lemmas.Bool.{and_from, and_right, eqb-true, eq-eqb, le-leb, le-ltb, lt-leb, and_left, not_from_true, ltb-false, leb-true, leb-false}
 pub use Rattle.std.proofs.lemmas.Bool.Decides.{Decides-eqb}
 pub use Rattle.std.proofs.lemmas.Cmp.{on_total, then_total, back_total, nat_cmp_total}
 pub use Rattle.std.proofs.lemmas.Fn.{filter_same, dedup_same, always_returns_same}
@@ -75,8 +75,9 @@ pub use Rattle.std.specs.Int.RustNames.{bit_and, bit_or}
 pub use Rattle.std.specs.List.{filter, dedup, dedup_from, list_any, range_with_len, slice_get, find, swap, AllByRecursion}
 pub use Rattle.std.specs.List.Sorted.{IsSortedBy, IsSorted}
 pub use Rattle.std.specs.Ordering.{is_eq, ordering_then}
-pub use Rattle.std.specs.Prelude.{AllPairs, Contains, IsPermutation, All, is_some, Option, IfSome, Result}
-pub use Rattle.valuation.proofs.SearchesInTurn.{is_refused, is_searched, over_more, searched_more, within_more}
+pub use Rattle.std.proofs.lemmas.List.Sums.{sum_by-cons}
+pub use Rattle.std.specs.Prelude.{sum_by, AllPairs, Contains, IsPermutation, All, is_some, Option, IfSome, Result}
+pub use Rattle.valuation.proofs.SearchesInTurn.{is_refused, is_searched}
 pub use Rattle.valuation.specs.Auctions.{IsAtom}
 pub use Rattle.valuation.specs.Examples.{atom}
 pub use Rattle.valuation.specs.Lemmas.Inside.{atoms_at-indices_inside, indices_inside-within}
@@ -85,12 +86,12 @@ pub use Rattle.valuation.specs.Lemmas.Listed.{MaySearch-more}
 pub use Rattle.valuation.specs.Lemmas.Lists.{Contains-cons_cases, AllPairs-nil, AllPairs-cons, AllPairs-head, AllPairs-tail, AllPairs-map, AllPairs-append}
 pub use Rattle.valuation.specs.Lemmas.Lists.{Contains-map, Contains-unmap, map-filter}
 pub use Rattle.valuation.specs.Lemmas.OrValues.{or_value-price, or_value-filter_le, or_value-nil, or_value-rest, or_value-least, or_value-taken}
-pub use Rattle.valuation.specs.Lemmas.SearchLimits.{first_over-searched, first_over-why}
+pub use Rattle.valuation.specs.Lemmas.SearchLimits.{AreOver-after, AreOver-grows, AreOver-next, next-each}
 pub use Rattle.valuation.specs.Lemmas.XorValues.{xor_value-nil, xor_value-inside}
 pub use Rattle.valuation.specs.Packings.{atom_at, atoms_inside, atoms_at, indices_inside, is_inside_at, numbers_at}
-pub use Rattle.valuation.specs.SearchLimits.{AreOver, IsFirstOver, IsOverLimits, IsWithinLimits, bounded_options, plain_options}
+pub use Rattle.valuation.specs.SearchLimits.{AreLeft, AreOver, IsKept, least_of, next_steps, plain_options}
 pub use Rattle.valuation.specs.SearchSteps.{found_indices}
-pub use Rattle.valuation.specs.Searches.{IsFound, IsSearchedBy, IsSearchedWithin, MayTake}
+pub use Rattle.valuation.specs.Searches.{IsFound, IsSearchedBy, IsSearchedWithin, most_steps}
 pub use Rattle.valuation.specs.Values.{atoms_of, plain_atom, or_value, xor_value}
 pub use Rattle.valuation.specs.declared.atom.Atom.{Atom}
 pub use Rattle.valuation.specs.declared.packing.ValueFault.{ValueFault}

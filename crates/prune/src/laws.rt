@@ -1,12 +1,10 @@
 //! Laws of the definitions, which the check proves.
-ghost use Rattle.std.specs.Prelude.{◌≡◌, ℕ, ◌*◌, ◌<◌, ◌≤◌, ◌↔◌, true, false, IfSome, Option, Some, None, List, [], All, Contains, sum_by};
+ghost use Rattle.std.specs.Prelude.{◌≡◌, ℕ, ◌<◌, ◌≤◌, ◌↔◌, true, false, IfSome, Option, None, List, [], All, Contains};
 ghost use Rattle.goods_set.specs.Bundles.{IsBundle};
 ghost use Rattle.valuation.specs.Auctions.{IsAtom};
 ghost use Rattle.valuation.specs.declared.atom.Atom.{Atom};
 ghost use Rattle.valuation.specs.declared.search.kind.SearchKind.{SearchKind};
-ghost use Rattle.valuation.specs.declared.search.options.SearchOptions.{SearchOptions};
-ghost use Rattle.valuation.specs.SearchLimits.{AreOver, plain_options};
-ghost use Rattle.valuation.specs.Searches.{steps_per_packing};
+ghost use Rattle.valuation.specs.SearchLimits.{plain_options};
 ghost use Rattle.valuation.specs.Packings.{IsPackingFor, count_packings};
 ghost use Rattle.valuation.specs.Tables.{xor_table, or_table, is_nonzero};
 ghost use Rattle.valuation.specs.Values.{xor_value, or_value};
@@ -20,7 +18,6 @@ ghost use Rattle.prune.specs.SearchSteps.{
   search_steps,
   is_heavy,
   first_heavy,
-  searched_bundles,
   MayRefuse,
 };
 
@@ -112,23 +109,10 @@ pub fn fates_reach()
         → IfSome (xor_fate points bid) (λ index. IsPointFor points bid.bundle bid.price index) }
 {}
 
-/// If no bundle is heavy for the bids, or limits may refuse none, that holds for their points.
+/// If no bundle is heavy for the bids, none is for their points.
 pub fn none_heavy_for_points()
-    ensures heavy { (goods limit : ℕ) (atoms : List (Atom (List ℕ))) → All (IsAtom goods) atoms
+    ensures { (goods limit : ℕ) (atoms : List (Atom (List ℕ))) → All (IsAtom goods) atoms
         → first_heavy goods limit atoms ≡ None → first_heavy goods limit (or_points goods atoms) ≡ None }
-    ensures refused { (options : SearchOptions) (goods : ℕ) (atoms : List (Atom (List ℕ))) → All (IsAtom goods) atoms
-        → MayRefuse options goods atoms None → MayRefuse options goods (or_points goods atoms) None }
-{}
-
-/// Limits refuse a bundle only if a bid is there, and if its packings by the points below it, times a factor, are more
-/// than the steps of one search, or those of all bundles are more than all searches may take.
-pub fn refusals_are()
-    ensures searched { (options : SearchOptions) (goods : ℕ) (atoms : List (Atom (List ℕ))) (bundle : List ℕ)
-        → MayRefuse options goods atoms (Some bundle) → Contains (searched_bundles goods atoms) bundle }
-    ensures why { (options : SearchOptions) (goods : ℕ) (atoms : List (Atom (List ℕ))) (bundle : List ℕ)
-        → MayRefuse options goods atoms (Some bundle)
-        → let most = λ b. steps_per_packing * count_packings (atoms_below (or_points goods atoms) b) b in
-        AreOver options (most bundle) (sum_by most (searched_bundles goods atoms)) }
 {}
 
 /// Plain searches with no limit on all together refuse exactly the first heavy bundle.
@@ -137,8 +121,7 @@ pub fn refused_is_heavy()
         → (MayRefuse (plain_options limit) goods atoms refused ↔ refused ≡ first_heavy goods limit atoms) }
 {}
 
-/// The points, the first heavy bundle, and what limits may refuse, are the same for each number of goods that all bids
-/// are within.
+/// The points, and the first heavy bundle, are the same for each number of goods that all bids are within.
 pub fn goods_without_bids()
     ensures xor { (fewer more : ℕ) (atoms : List (Atom (List ℕ))) → All (IsAtom fewer) atoms → All (IsAtom more) atoms
         → xor_points fewer atoms ≡ xor_points more atoms }
@@ -146,7 +129,4 @@ pub fn goods_without_bids()
         → or_points fewer atoms ≡ or_points more atoms }
     ensures heavy { (fewer more limit : ℕ) (atoms : List (Atom (List ℕ))) → All (IsAtom fewer) atoms
         → All (IsAtom more) atoms → first_heavy fewer limit atoms ≡ first_heavy more limit atoms }
-    ensures refused { (options : SearchOptions) (fewer more : ℕ) (atoms : List (Atom (List ℕ)))
-        → All (IsAtom fewer) atoms → All (IsAtom more) atoms → (refused : Option (List ℕ))
-        → MayRefuse options fewer atoms refused → MayRefuse options more atoms refused }
 {}

@@ -2,7 +2,6 @@
 ghost use Rattle.std.specs.Prelude.{◌≡◌, ◌+◌, ◌^◌, [], ◌∷◌, true, false, Some, None, Ok};
 ghost use Rattle.valuation.specs.declared.search.kind.SearchKind.TheVariants.{Plain, Bounded};
 ghost use Rattle.valuation.specs.Examples.{atom};
-ghost use Rattle.valuation.specs.SearchLimits.{bounded_options, plain_options};
 ghost use Rattle.prune.specs.declared.subset_index.Posting.{Posting};
 ghost use Rattle.prune.specs.Fates.{best_bids, or_fate, or_fates, indices_below, xor_fate, xor_fates};
 ghost use Rattle.prune.specs.Internal.Fingerprints.{AreMarks, mark_of};
@@ -18,7 +17,7 @@ ghost use Rattle.prune.specs.SearchSteps.{
   is_heavy,
   first_heavy,
   searched_bundles,
-  MayRefuse,
+  most_at,
 };
 
 /// The XOR points: a bid is kept if no bid inside its bundle has its price.
@@ -108,21 +107,14 @@ fn orders_worked()
         ≡ atom (1 ∷ []) 4 ∷ atom (0 ∷ []) 3 ∷ [] }
 {}
 
-/// The bundles that a pruning searches, and what limits may refuse. The greatest bundle has four packings by the points
-/// below it.
-pub fn refused_worked()
+/// The bundles that a pruning searches, and how many steps a search of each kind takes at most.
+#[tactic(auto, unfolding(crate::specs::Points::points_where, crate::specs::Points::is_or_point, valuation::specs::SearchSteps::cut_steps, valuation::specs::Values::or_value, valuation::specs::Packings::count_packings))]
+pub fn searched_worked()
     ensures searched { searched_bundles 2 (atom (1 ∷ []) 4 ∷ atom (0 ∷ []) 0 ∷ atom (0 ∷ 1 ∷ []) 7 ∷ [])
         ≡ (1 ∷ []) ∷ (0 ∷ 1 ∷ []) ∷ [] }
-    ensures each_too_low { MayRefuse (plain_options 2) 2 (atom (0 ∷ []) 3 ∷ atom (1 ∷ []) 4 ∷ atom (0 ∷ 1 ∷ []) 7 ∷ [])
-        (Some (0 ∷ 1 ∷ [])) }
-    ensures each_enough { ¬ MayRefuse (plain_options 3) 2 (atom (0 ∷ []) 3 ∷ atom (1 ∷ []) 4 ∷ atom (0 ∷ 1 ∷ []) 7 ∷ [])
-        (Some (0 ∷ 1 ∷ [])) }
-    ensures bounded { MayRefuse (bounded_options 3 None) 2 (atom (0 ∷ []) 3 ∷ atom (1 ∷ []) 4 ∷ atom (0 ∷ 1 ∷ []) 7 ∷ [])
-        (Some (0 ∷ 1 ∷ [])) }
-    ensures bounded_enough { ¬ MayRefuse (bounded_options 4 None) 2 (atom (0 ∷ []) 3 ∷ atom (1 ∷ []) 4
-        ∷ atom (0 ∷ 1 ∷ []) 7 ∷ []) (Some (0 ∷ 1 ∷ [])) }
-    ensures total_too_low { ¬ MayRefuse (bounded_options 4 (Some 2)) 2 (atom (0 ∷ []) 3 ∷ atom (1 ∷ []) 4
-        ∷ atom (0 ∷ 1 ∷ []) 7 ∷ []) None }
+    ensures plain { most_at Plain 2 (atom (0 ∷ []) 3 ∷ atom (1 ∷ []) 4 ∷ atom (0 ∷ 1 ∷ []) 8 ∷ []) (0 ∷ 1 ∷ []) ≡ 1 }
+    ensures bounded { most_at Bounded 2 (atom (0 ∷ []) 3 ∷ atom (1 ∷ []) 4 ∷ atom (0 ∷ 1 ∷ []) 8 ∷ []) (0 ∷ 1 ∷ []) ≡ 4 }
+    ensures nothing_below { most_at Bounded 1 (atom (0 ∷ []) 1 ∷ []) (0 ∷ []) ≡ 1 }
 {}
 
 /// Goods near one another, and those that differ by 64 or 65, mark different bits. Some goods share one.

@@ -2,9 +2,9 @@
 -- canonical auction is the same auction.
 use Rattle.canon.proofs.Common.{◌≡◌, ℕ, List, Option, Some, None, refl, sym, ap, ◌∙◌, subst, le_refl, rules, PlainFile, IsPlainFile, Spells, first_fault}
 use Rattle.canon.proofs.Common.{spelled_file, layout, ReadFault, spells_from_no_fault, no_fault_from_spells, spells_one, PlainAuction, IsAuction, or_atoms_of}
-use Rattle.canon.proofs.Common.{auction_from, SearchOptions, IsAuction-auction_from, or_points, MayRefuse, first_heavy, plain_options, may_refuse-plain, some_refused}
+use Rattle.canon.proofs.Common.{auction_from, SearchOptions, IsAuction-auction_from, or_points, MayRefuse, first_heavy, plain_options, may_refuse-plain, heavy-may_refuse}
 use Rattle.canon.proofs.Common.{AreSameTexts, canonical_auction, file_from, canonical_file, canonical_text, Normalised, IsNoFile, ExceedsSteps, IsText}
-use Rattle.canon.proofs.Common.{no_refused_point, on_bundles, AreSameFiles, Atom, HasOutcome, IsNormalised, Normalises, SpellsCanonicalFile, unless_refused}
+use Rattle.canon.proofs.Common.{no_heavy_point, on_bundles, AreSameFiles, HasOutcome, IsNormalised, Normalises, SpellsCanonicalFile, unless_refused}
 use Rattle.cats_text.proofs.Writing.Spells as laid_out
 use Rattle.canon.proofs.CanonicalAuctions.Atoms.{HasAtoms}
 use Rattle.canon.proofs.CanonicalAuctions.Sames.{HasAtoms-auction, canonical_is_same, same_canonical, same_from_canonical, canonical_is_fixed}
@@ -72,24 +72,23 @@ pub normalised_from_text : (options : SearchOptions) (text out : List ℕ) → I
 normalised_from_text options text out n =
     record { file = n.file; spelled = n.spelled; refused = None; may = n.within_limit; is = ap IsText (sym n.is) }
 
--- each text has one outcome
-pub has_outcome : (options : SearchOptions) (text : List ℕ) → IsNormalised options text
-has_outcome options text = by (first_fault text) refl
+-- by plain searches each text has one outcome
+pub has_outcome : (limit : ℕ) (text : List ℕ) → IsNormalised (plain_options limit) text
+has_outcome limit text = by (first_fault text) refl
   where
-    of_file : (f : PlainFile) → Spells text f → (o : Option (List ℕ)) → MayRefuse options f.goods (or_atoms_of f.bids) o → IsNormalised options text
+    of_file : (f : PlainFile) → Spells text f → (o : Option (List ℕ)) → MayRefuse (plain_options limit) f.goods (or_atoms_of f.bids) o
+        → IsNormalised (plain_options limit) text
     of_file f s None m =
         record { outcome = IsText (canonical_text f); normalises = record { file = f; spelled = s; refused = None; may = m; is = refl } }
     of_file f s (Some goods) m =
         record { outcome = ExceedsSteps goods; normalises = record { file = f; spelled = s; refused = Some goods; may = m; is = refl } }
 
-    by : (o : Option ReadFault) → first_fault text ≡ o → IsNormalised options text
+    by : (o : Option ReadFault) → first_fault text ≡ o → IsNormalised (plain_options limit) text
     by None e =
         let f = spelled_file text in
-        let some = some_refused options f.goods (or_atoms_of f.bids) in
-        of_file f (spells_from_no_fault text e) some.0 some.1
+        of_file f (spells_from_no_fault text e) (first_heavy f.goods limit (or_atoms_of f.bids)) (heavy-may_refuse limit f.goods (or_atoms_of f.bids))
     by (Some fault) e = record { outcome = IsNoFile fault; normalises = e }
 
--- by plain searches it has one
 module _ (limit : ℕ) (text : List ℕ) where
   no_outcome : (fault : ReadFault) (o : Normalised) → first_fault text ≡ Some fault → HasOutcome (plain_options limit) text o → ⊥
   no_outcome fault o e n = let none = no_fault_from_spells text n.file n.spelled in absurd (cc)
@@ -114,9 +113,13 @@ module _ (limit : ℕ) (text : List ℕ) where
   one_outcome (IsText out) (ExceedsSteps goods) p q = same_outcome (IsText out) (ExceedsSteps goods) p q
   one_outcome (IsText out) (IsText other) p q = same_outcome (IsText out) (IsText other) p q
 
--- what normalising gives, normalised again
-pub normalised_again : (options : SearchOptions) (text out : List ℕ) → IsNormalText options text out → IsNormalText options out out
-normalised_again options text out n =
+-- what normalising gives spells the canonical file
+spells_out : (f : PlainFile) (out : List ℕ) → IsPlainFile f → out ≡ canonical_text f → Spells out (canonical_file f)
+spells_out f out facts is = subst (λ (t : List ℕ). Spells t (canonical_file f)) (sym is) (laid_out.layout_spells (canonical_file f) (IsPlainFile-canonical f facts))
+
+-- and is normalised by plain searches to itself
+pub normalised_again : (limit : ℕ) (text out : List ℕ) → IsNormalText (plain_options limit) text out → IsNormalText (plain_options limit) out out
+normalised_again limit text out n =
     let f = n.file in
     let facts : IsPlainFile f = n.spelled.facts in
     let atoms = HasAtoms-file f facts in
@@ -124,9 +127,10 @@ normalised_again options text out n =
     ap (λ (a : PlainAuction). a.or_atoms) (auction_from-file_from (canonical_auction (auction_from f))) in
     record {
       file = canonical_file f;
-      spelled = subst (λ (t : List ℕ). Spells t (canonical_file f)) (sym n.is) (laid_out.layout_spells (canonical_file f) (IsPlainFile-canonical f facts));
-      within_limit = subst (λ (bids : List (Atom (List ℕ))). MayRefuse options f.goods bids None) (sym ors)
-          (no_refused_point options f.goods (or_atoms_of f.bids) (on_bundles f.goods (or_atoms_of f.bids) atoms.or_atoms) n.within_limit);
+      spelled = spells_out f out facts n.is;
+      within_limit = λ _.
+          ap (first_heavy f.goods limit) ors
+          ∙ no_heavy_point f.goods limit (or_atoms_of f.bids) (on_bundles f.goods (or_atoms_of f.bids) atoms.or_atoms) (n.within_limit refl);
       is = n.is ∙ ap layout (sym (canonical_file_is_fixed f facts));
     }
 
@@ -154,10 +158,9 @@ texts_equal m n one other s t p q same =
 
 -- the text that normalising gives spells the canonical file
 pub spells_canonical : (options : SearchOptions) (text out : List ℕ) → IsNormalText options text out → SpellsCanonicalFile text out
-unfolding normalised_again
 spells_canonical options text out n = record {
   file = n.file;
   spelled = n.spelled;
-  canonical_spelled = (normalised_again options text out n).spelled;
+  canonical_spelled = spells_out n.file out n.spelled.facts n.is;
   same = canonical_file_is_same n.file n.spelled.facts;
 }

@@ -2,7 +2,7 @@
 use Rattle.canon.proofs.Common.{rules, ◌≡◌, ℕ, ◌⊎◌, inl, inr, true, List, Option, Some, None, refl, sym, ap, ◌∙◌, subst, IfSome, ◌↔◌, PlainFile, IsPlainFile}
 use Rattle.canon.proofs.Common.{Spells, layout, first_fault, is_text_kind, WantsMemory, Kind, ReadFault, IsFound, first_fault-found, spells_one, PlainAuction}
 use Rattle.canon.proofs.Common.{auction_from, SearchOptions, IsNormalFileOf, RefusesText, RefusesAuction, IsNormalFile, IsCanonical, IsCanonicalFile}
-use Rattle.canon.proofs.Common.{canonical_auction, canonical_text, file_from, IsLeastFor, IsNoFile, IsText, Normalises}
+use Rattle.canon.proofs.Common.{canonical_auction, canonical_text, file_from, IsLeastFor, IsNoFile, IsText, Normalises, plain_options}
 use Rattle.canon.proofs.Common.{refusal_by_kind, refusal_of, AreSameFiles, CanonFault, Read, StepLimit, Memory}
 use Rattle.cats_text.specs.declared.read_fault.Kind.TheVariants.{Memory as NoMemory}
 use Rattle.canon.proofs.CanonicalFiles.Files.{auction_from-file_from}
@@ -42,8 +42,10 @@ same_exactly options text out e f g s facts =
     (λ q. same_from_text f g s.facts facts (sym is ∙ q), λ q. is ∙ same_text f g s.facts facts q)
 
 -- and are normalised to themselves
-pub normal_again : (options : SearchOptions) (text out : List ℕ) → Normalises options text (IsText out) → Normalises options out (IsText out)
-normal_again options text out h = normalised_from_text options out out (normalised_again options text out (text_from_normalised options text out h))
+pub normal_again : (limit : ℕ) (text out : List ℕ) → Normalises (plain_options limit) text (IsText out) → Normalises (plain_options limit) out (IsText out)
+normal_again limit text out h =
+    let options = plain_options limit in
+    normalised_from_text options out out (normalised_again limit text out (text_from_normalised options text out h))
 
 -- ---- the file
 

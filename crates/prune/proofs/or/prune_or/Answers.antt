@@ -29,7 +29,6 @@ returns-clause-load g c =
     (λ fault. IfStepLimit fault (λ bundle. (n : ℕ) → All (IsAtom n) bids → MayRefuse c.plain.result n bids (Some (goods bundle))))
     (λ fault. IfStepLimit fault (λ bundle. c.args.limit < steps_at_most bids (goods bundle)))
     (λ fault. step_limit_weaker fault _ _ (λ bundle h.
-    refused_load c.args.limit MAX_GOODS bids (goods bundle) (on_bundles MAX_GOODS bids c.requires)
-    (sym (may_refuse-plain c.args.limit MAX_GOODS bids (Some (goods bundle))
-    (subst (λ (o : SearchOptions). MayRefuse o MAX_GOODS bids (Some (goods bundle))) c.plain.ensures
-    (h MAX_GOODS c.requires)))))) c.prune_or_by.ensures.refused
+    refused_load c.args.limit MAX_GOODS _ bids (goods bundle) (on_bundles MAX_GOODS bids c.requires)
+    (subst (λ (o : SearchOptions). MayRefuse o MAX_GOODS bids (Some (goods bundle))) c.plain.ensures (h MAX_GOODS c.requires)).over))
+    c.prune_or_by.ensures.refused

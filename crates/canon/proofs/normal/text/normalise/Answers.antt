@@ -20,4 +20,4 @@ pub returns-clause-same : goal.returns-clause-same
 returns-clause-same c = same_exactly (plain_options c.args.limit) c.args.text.now c.in_ok-write.field-0.items (made c)
 
 pub returns-clause-again : goal.returns-clause-again
-returns-clause-again c = normal_again (plain_options c.args.limit) c.args.text.now c.in_ok-write.field-0.items (made c)
+returns-clause-again c = normal_again c.args.limit c.args.text.now c.in_ok-write.field-0.items (made c)
