@@ -64,7 +64,6 @@ pub use Rattle.valuation.specs.Lemmas.Packings.{chosen_indices-best}
 pub use Rattle.valuation.specs.Lemmas.Permutations.{from_permutation}
 pub use Rattle.valuation.specs.Internal.Searches.{bound_of}
 pub use Rattle.valuation.specs.Lemmas.SearchLimits.{AreLeft-all, AreLeft-grows, AreLeft-more, AreOver-after, AreOver-grows, AreOver-next, product-less}
-pub use Rattle.valuation.specs.Lemmas.SearchLimits.{product-sum}
 pub use Rattle.valuation.specs.Lemmas.SearchSteps.{cut_steps-zero, cut_steps-short, cut_steps-outside, cut_steps-reached, cut_steps-missed, found_indices-zero}
 pub use Rattle.valuation.specs.Lemmas.SearchSteps.{found_indices-taken, found_indices-outside, found_indices-missed, cut_steps-nil, cut_within_packings}
 pub use Rattle.valuation.specs.Lemmas.SearchSteps.{found_indices-packing}
