@@ -69,7 +69,7 @@ turn_most kind goods bids done x rest kept on t k =
 
 -- ---- the limits along the loop
 
-abbrev bundles_of : List (Atom (List ℕ)) → List (List ℕ)
+abbrev pub bundles_of : List (Atom (List ℕ)) → List (List ℕ)
 bundles_of atoms = map (λ a. a.bundle) atoms
 
 -- what is left of the limits is over for the bids that are left only where the first limits are for all; and of plain searches the first heavy

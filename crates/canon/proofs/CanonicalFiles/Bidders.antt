@@ -137,6 +137,6 @@ module _ (cap : ℕ) (a : PlainAuction) (facts : IsAuction cap a) (n : ℕ) (ors
       → ((m : ℕ) → All (All (IsAtom m)) xors → map (λ v. v.items) fates.xor.items ≡ map (xor_fates m) xors) → AreFates kind a fates
   fates_parts kind fates h k = search rules
 
-  pub parts_within_limit : (options : SearchOptions) → ((m : ℕ) → All (IsAtom m) ors → MayRefuse options m ors None)
-      → MayRefuse options a.goods a.or_atoms None
-  parts_within_limit options h = subst (λ (x : PlainAuction). MayRefuse options x.goods x.or_atoms None) (sym parts) (h n made.or_atoms)
+  pub parts_refused : (options : SearchOptions) (refused : Option (List ℕ)) → ((m : ℕ) → All (IsAtom m) ors → MayRefuse options m ors refused)
+      → MayRefuse options a.goods a.or_atoms refused
+  parts_refused options refused h = subst (λ (x : PlainAuction). MayRefuse options x.goods x.or_atoms refused) (sym parts) (h n made.or_atoms)

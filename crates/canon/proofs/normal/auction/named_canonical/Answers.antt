@@ -1,7 +1,7 @@
 -- `named_canonical`: what is made of the pruned parts is the canonical auction (proofs/Bidders), so the laws of that auction are those of the result.
 use Rattle.canon.proofs.Common.{rules, sym, ap, ◌∙◌, map, subst, Global, ℕ, Vec, length-map, PlainAuction, bidders_of, atoms_of, plain_auction, IsCanonical}
-use Rattle.canon.proofs.Common.{plain_fate, Option}
-use Rattle.canon.proofs.CanonicalFiles.Bidders.{or_part, xor_part, few_bidders, canonical_parts, fates_parts, number_parts, parts_within_limit}
+use Rattle.canon.proofs.Common.{plain_fate, None, Option}
+use Rattle.canon.proofs.CanonicalFiles.Bidders.{or_part, xor_part, few_bidders, canonical_parts, fates_parts, number_parts, parts_refused}
 use Rattle.canon.proofs.CanonicalAuctions.Sames.{HasAtoms-auction, canonical_is_fixed}
 use Rattle.canon.proofs.CanonicalAuctions.Smaller.{IsAuction-canonical}
 use Rattle.canon.proofs.normal.auction.named_canonical.Goals as goal
@@ -47,5 +47,5 @@ returns-clause-fates g c = λ w.
 
 pub returns-clause-none_refused : goal.returns-clause-none_refused
 returns-clause-none_refused g c =
-    parts_within_limit g.S.GoodsSet.CAP (plain_auction c.args.auction) c.args.auction.facts _ _ _ c.into_parts-goods.ensures c.args.options
+    parts_refused g.S.GoodsSet.CAP (plain_auction c.args.auction) c.args.auction.facts _ _ _ c.into_parts-goods.ensures c.args.options None
     c.in_ok-or_points.ensures.none_refused
