@@ -89,7 +89,7 @@ pub use Rattle.valuation.specs.Lemmas.OrValues.{or_value-price, or_value-filter_
 pub use Rattle.valuation.specs.Lemmas.SearchLimits.{AreOver-after, AreOver-grows, AreOver-next, next-each}
 pub use Rattle.valuation.specs.Lemmas.XorValues.{xor_value-nil, xor_value-inside}
 pub use Rattle.valuation.specs.Packings.{atom_at, atoms_inside, atoms_at, indices_inside, is_inside_at, numbers_at}
-pub use Rattle.valuation.specs.SearchLimits.{AreLeft, AreOver, IsKept, least_of, next_steps, plain_options}
+pub use Rattle.valuation.specs.SearchLimits.{AreLeft, AreOver, IsTotalLeft, least_of, next_steps, plain_options}
 pub use Rattle.valuation.specs.SearchSteps.{found_indices}
 pub use Rattle.valuation.specs.Searches.{IsFound, IsSearchedBy, IsSearchedWithin, most_steps}
 pub use Rattle.valuation.specs.Values.{atoms_of, plain_atom, or_value, xor_value}

@@ -4,7 +4,7 @@ use Rattle.prune.proofs.Common.{rules, ◌≡◌, ℕ, ◌<◌, ◌≤◌, Bool,
 use Rattle.prune.proofs.Common.{Less, Option, find, sum_by, sum_by-cons, All, Contains, AllByRecursion, le-ltb, lt-ltb, ltb-true, All-head, All-tail, All-contains}
 use Rattle.prune.proofs.Common.{Contains-append_right, IsStrictlySortedBy-filter, all_bundles, bundle_cmp, bundle_cmp_strict, all_bundles_has}
 use Rattle.prune.proofs.Common.{all_bundles_sorted, same_from_contains, Atom, SearchKind, Plain, SearchOptions, IsAtom, or_value, most_steps, AreLeft, AreOver}
-use Rattle.prune.proofs.Common.{IsKept, least_of, next_steps, AreOver-after, AreOver-grows, AreOver-next, next-each, Contains-cons_cases, Contains-map}
+use Rattle.prune.proofs.Common.{IsTotalLeft, least_of, next_steps, AreOver-after, AreOver-grows, AreOver-next, next-each, Contains-cons_cases, Contains-map}
 use Rattle.prune.proofs.Common.{Contains-unmap, AllPairs-head, AllPairs-tail, or_value-price, or_value-filter_le, or_points, is_below, atoms_below, greatest_price}
 use Rattle.prune.proofs.Common.{searched_bundles, most_at, MayRefuse, first_heavy, first_heavy-is, IsBefore, IsInOrder, AreBestBids, IsOnBundle, Contains-head}
 use Rattle.prune.proofs.Common.{Contains-tail, Contains-filter, Contains-filter_parts, All-from_Contains, all_nonempty, on_bundles, atoms_inside}
@@ -97,7 +97,7 @@ IsWithin-start start bids best b = record {
       (sym (best_searched goods bids best (on_bundles goods bids are) b));
 }
 
-none_left : (most : ℕ) (now after : Option ℕ) → IsKept most now after → now ≡ None → after ≡ None
+none_left : (most : ℕ) (now after : Option ℕ) → IsTotalLeft most now after → now ≡ None → after ≡ None
 none_left most None after h e = h
 none_left most (Some total) after h e = absurd (cc)
 

@@ -74,7 +74,7 @@ pub use Rattle.valuation.specs.Listed.{listed, AreListsOf}
 pub use Rattle.valuation.specs.Lemmas.Inside.{atoms_at-indices_inside, indices_inside-within}
 pub use Rattle.valuation.specs.Packings.{indices_inside, is_inside_at, atom_at, count_packings, atoms_inside, numbers_at, atoms_at, price_sum, IsPackingFor}
 pub use Rattle.valuation.specs.Packings.{IsPacking}
-pub use Rattle.valuation.specs.SearchLimits.{AreLeft, AreOver, IsKept, bounded_options, least_of, next_steps, options_after, total_after}
+pub use Rattle.valuation.specs.SearchLimits.{AreLeft, AreOver, IsTotalLeft, bounded_options, least_of, next_steps, options_after, total_after}
 pub use Rattle.valuation.specs.SearchSteps.{cut_steps, found_indices}
 pub use Rattle.valuation.specs.Searches.{IsFound, IsSearchedBy, IsSearchedWithin, most_steps}
 pub use Rattle.valuation.specs.ValueSearches.{is_candidate, most_of_one, most_searches, MayRefuseValue}
