@@ -42,19 +42,18 @@ pub may_refuse-plain : (limit goods : ℕ) (atoms : List (Atom (List ℕ))) (ref
 may_refuse-plain limit goods atoms None h = sym (h refl)
 may_refuse-plain limit goods atoms (Some bundle) h = sym (h.plain refl refl)
 
-pub heavy-may_refuse : (limit goods : ℕ) (atoms : List (Atom (List ℕ))) → MayRefuse (plain_options limit) goods atoms (first_heavy goods limit atoms)
+some_heavy : (limit goods : ℕ) (atoms : List (Atom (List ℕ))) (o : Option (List ℕ)) → first_heavy goods limit atoms ≡ o
+    → MayRefuse (plain_options limit) goods atoms o
 unfolding search_steps
-heavy-may_refuse limit goods atoms = by (first_heavy goods limit atoms) refl
-  where
-    heavy : List ℕ → Bool
-    heavy bundle = ltb limit (search_steps goods atoms bundle)
+some_heavy limit goods atoms None e = λ _. e
+some_heavy limit goods atoms (Some bundle) e =
+    let found = found_some (λ b. ltb limit (search_steps goods atoms b)) (searched_bundles goods atoms) in
+    let f = subst (λ o. IfSome o (λ b. Contains (searched_bundles goods atoms) b × (ltb limit (search_steps goods atoms b) ≡ true)))
+    (first_heavy-is limit goods atoms ∙ e) found in
+    record { searched = f.0; over = inl (ltb-true limit (search_steps goods atoms bundle) f.1); plain = λ _ _. e }
 
-    by : (o : Option (List ℕ)) → first_heavy goods limit atoms ≡ o → MayRefuse (plain_options limit) goods atoms o
-    by None e = λ _. e
-    by (Some bundle) e =
-        let searched = searched_bundles goods atoms in
-        let f = subst (λ o. IfSome o (λ b. Contains searched b × (heavy b ≡ true))) (first_heavy-is limit goods atoms ∙ e) (found_some heavy searched) in
-        record { searched = f.0; over = inl (ltb-true limit (search_steps goods atoms bundle) f.1); plain = λ _ _. e }
+pub heavy-may_refuse : (limit goods : ℕ) (atoms : List (Atom (List ℕ))) → MayRefuse (plain_options limit) goods atoms (first_heavy goods limit atoms)
+heavy-may_refuse limit goods atoms = some_heavy limit goods atoms (first_heavy goods limit atoms) refl
 
 -- ---- it does not depend on the number of goods
 
