@@ -118,7 +118,7 @@ pub fn none_heavy_for_points()
 /// Plain searches with no limit on all together refuse exactly the first heavy bundle.
 pub fn refused_is_heavy()
     ensures { (limit goods : ℕ) (atoms : List (Atom (List ℕ))) (refused : Option (List ℕ))
-        → (MayRefuse (plain_options limit) goods atoms refused ↔ refused ≡ first_heavy goods limit atoms) }
+        → (MayRefuse (plain_options limit) goods atoms refused ↔ first_heavy goods limit atoms ≡ refused) }
 {}
 
 /// The points, and the first heavy bundle, are the same for each number of goods that all bids are within.

@@ -86,7 +86,7 @@ has_outcome limit text = by (first_fault text) refl
     by : (o : Option ReadFault) → first_fault text ≡ o → IsNormalised (plain_options limit) text
     by None e =
         let f = spelled_file text in
-        of_file f (spells_from_no_fault text e) (first_heavy f.goods limit (or_atoms_of f.bids)) (heavy-may_refuse limit f.goods (or_atoms_of f.bids))
+        of_file f (spells_from_no_fault text e) (first_heavy f.goods limit (or_atoms_of f.bids)) (heavy-may_refuse limit f.goods (or_atoms_of f.bids) _ refl)
     by (Some fault) e = record { outcome = IsNoFile fault; normalises = e }
 
 module _ (limit : ℕ) (text : List ℕ) where
@@ -95,7 +95,7 @@ module _ (limit : ℕ) (text : List ℕ) where
 
   heavy_outcome : (o : Normalised) (n : HasOutcome (plain_options limit) text o)
       → o ≡ unless_refused n.file (first_heavy n.file.goods limit (or_atoms_of n.file.bids))
-  heavy_outcome o n = sym n.is ∙ ap (unless_refused n.file) (may_refuse-plain limit n.file.goods (or_atoms_of n.file.bids) n.refused n.may)
+  heavy_outcome o n = sym n.is ∙ ap (unless_refused n.file) (sym (may_refuse-plain limit n.file.goods (or_atoms_of n.file.bids) n.refused n.may))
 
   same_outcome : (one other : Normalised) → HasOutcome (plain_options limit) text one → HasOutcome (plain_options limit) text other → one ≡ other
   same_outcome one other p q =

@@ -37,23 +37,21 @@ pub first_heavy-is : (limit goods : ℕ) (atoms : List (Atom (List ℕ)))
 unfolding first_heavy is_heavy
 first_heavy-is limit goods atoms = search (rules, find_filter)
 
+-- so plain searches refuse it, and nothing else
 pub may_refuse-plain : (limit goods : ℕ) (atoms : List (Atom (List ℕ))) (refused : Option (List ℕ)) → MayRefuse (plain_options limit) goods atoms refused
-    → refused ≡ first_heavy goods limit atoms
-may_refuse-plain limit goods atoms None h = sym (h refl)
-may_refuse-plain limit goods atoms (Some bundle) h = sym (h.plain refl refl)
+    → first_heavy goods limit atoms ≡ refused
+may_refuse-plain limit goods atoms None h = h refl
+may_refuse-plain limit goods atoms (Some bundle) h = h.plain refl refl
 
-some_heavy : (limit goods : ℕ) (atoms : List (Atom (List ℕ))) (o : Option (List ℕ)) → first_heavy goods limit atoms ≡ o
-    → MayRefuse (plain_options limit) goods atoms o
+pub heavy-may_refuse : (limit goods : ℕ) (atoms : List (Atom (List ℕ))) (refused : Option (List ℕ)) → first_heavy goods limit atoms ≡ refused
+    → MayRefuse (plain_options limit) goods atoms refused
 unfolding search_steps
-some_heavy limit goods atoms None e = λ _. e
-some_heavy limit goods atoms (Some bundle) e =
+heavy-may_refuse limit goods atoms None e = λ _. e
+heavy-may_refuse limit goods atoms (Some bundle) e =
     let found = found_some (λ b. ltb limit (search_steps goods atoms b)) (searched_bundles goods atoms) in
     let f = subst (λ o. IfSome o (λ b. Contains (searched_bundles goods atoms) b × (ltb limit (search_steps goods atoms b) ≡ true)))
     (first_heavy-is limit goods atoms ∙ e) found in
     record { searched = f.0; over = inl (ltb-true limit (search_steps goods atoms bundle) f.1); plain = λ _ _. e }
-
-pub heavy-may_refuse : (limit goods : ℕ) (atoms : List (Atom (List ℕ))) → MayRefuse (plain_options limit) goods atoms (first_heavy goods limit atoms)
-heavy-may_refuse limit goods atoms = some_heavy limit goods atoms (first_heavy goods limit atoms) refl
 
 -- ---- it does not depend on the number of goods
 

@@ -1,5 +1,5 @@
 -- `prune_or`: A plain pruning refuses at the first heavy bundle.
-use Rattle.prune.proofs.Common.{◌≡◌, ◌<◌, ℕ, None, Some, sym, subst, All, IfOk-weaker, IfErr-weaker, MAX_GOODS, IsAtom, SearchOptions, atoms_of, IfStepLimit}
+use Rattle.prune.proofs.Common.{◌≡◌, ◌<◌, ℕ, None, Some, subst, All, IfOk-weaker, IfErr-weaker, MAX_GOODS, IsAtom, SearchOptions, atoms_of, IfStepLimit}
 use Rattle.prune.proofs.Common.{MayRefuse, first_heavy, steps_at_most, may_refuse-plain, refused_load, step_limit_weaker, on_bundles}
 use Rattle.prune.proofs.or.prune_or.Goals as goal
 
@@ -8,8 +8,8 @@ returns-clause-none_heavy g c =
     let bids = atoms_of g.S.GoodsSet.goods c.args.atoms.items in
     IfOk-weaker c.prune_or_by.result (λ _. (n : ℕ) → All (IsAtom n) bids → MayRefuse c.plain.result n bids None)
     (λ _. (n : ℕ) → All (IsAtom n) bids → first_heavy n c.args.limit bids ≡ None)
-    (λ _ h n are. sym (may_refuse-plain c.args.limit n bids None
-    (subst (λ (o : SearchOptions). MayRefuse o n bids None) c.plain.ensures (h n are)))) c.prune_or_by.ensures.none_refused
+    (λ _ h n are. may_refuse-plain c.args.limit n bids None
+    (subst (λ (o : SearchOptions). MayRefuse o n bids None) c.plain.ensures (h n are))) c.prune_or_by.ensures.none_refused
 
 pub returns-clause-step_limit : goal.returns-clause-step_limit
 returns-clause-step_limit g c =
@@ -18,8 +18,8 @@ returns-clause-step_limit g c =
     IfErr-weaker c.prune_or_by.result
     (λ fault. IfStepLimit fault (λ bundle. (n : ℕ) → All (IsAtom n) bids → MayRefuse c.plain.result n bids (Some (goods bundle))))
     (λ fault. IfStepLimit fault (λ bundle. (n : ℕ) → All (IsAtom n) bids → first_heavy n c.args.limit bids ≡ Some (goods bundle)))
-    (λ fault. step_limit_weaker fault _ _ (λ bundle h n are. sym (may_refuse-plain c.args.limit n bids (Some (goods bundle))
-    (subst (λ (o : SearchOptions). MayRefuse o n bids (Some (goods bundle))) c.plain.ensures (h n are))))) c.prune_or_by.ensures.refused
+    (λ fault. step_limit_weaker fault _ _ (λ bundle h n are. may_refuse-plain c.args.limit n bids (Some (goods bundle))
+    (subst (λ (o : SearchOptions). MayRefuse o n bids (Some (goods bundle))) c.plain.ensures (h n are)))) c.prune_or_by.ensures.refused
 
 pub returns-clause-load : goal.returns-clause-load
 returns-clause-load g c =
