@@ -31,7 +31,7 @@ pub use Rattle.prune.specs.Lemmas.Ranges.{first_in_range, none_in_range, in_rang
 pub use Rattle.prune.specs.Lemmas.Refusals.{first_heavy-is, first_heavy_any_goods, no_heavy_point, may_refuse-plain, heavy-may_refuse, refused_load}
 pub use Rattle.prune.specs.Lemmas.Refusals.{step_limit_weaker}
 pub use Rattle.prune.specs.Lemmas.SearchSteps.{greatest_price-member, greatest_price-reached, search_steps-point, no_new_heavy, search_within_packings}
-pub use Rattle.prune.specs.Lemmas.SearchSteps.{points_within_bids, ordered_most, ordered_value}
+pub use Rattle.prune.specs.Lemmas.SearchSteps.{points_within_bids, ordered_fewest, ordered_most, ordered_value}
 pub use Rattle.prune.specs.Lemmas.Tables.{no_xor_points, no_or_points, same_xor_points, same_or_points}
 pub use Rattle.prune.specs.Lemmas.Values.{xor_value-member, xor_value-bound, xor_value-dominated, or_value-dominated}
 pub use Rattle.prune.specs.Points.{or_points, xor_points}
@@ -91,7 +91,7 @@ pub use Rattle.valuation.specs.Lemmas.XorValues.{xor_value-nil, xor_value-inside
 pub use Rattle.valuation.specs.Packings.{atom_at, atoms_inside, atoms_at, indices_inside, is_inside_at, numbers_at}
 pub use Rattle.valuation.specs.SearchLimits.{AreLeft, AreOver, IsTotalLeft, least_of, next_steps, plain_options}
 pub use Rattle.valuation.specs.SearchSteps.{found_indices}
-pub use Rattle.valuation.specs.Searches.{IsFound, IsSearchedBy, IsSearchedWithin, most_steps}
+pub use Rattle.valuation.specs.Searches.{IsFound, IsSearchedBy, IsSearchedWithin, fewest_steps, most_steps}
 pub use Rattle.valuation.specs.Values.{atoms_of, plain_atom, or_value, xor_value}
 pub use Rattle.valuation.specs.declared.atom.Atom.{Atom}
 pub use Rattle.valuation.specs.declared.packing.ValueFault.{ValueFault}

@@ -3,7 +3,7 @@
 use Rattle.prune.proofs.Common.{rules, ◌≡◌, ℕ, ◌<◌, ◌≤◌, Bool, false, cond, ltb, ⊎_elim, List, [], ◌∷◌, ◌++◌, map, refl, sym, ap, ap₂, ◌∙◌, subst, arith, Some, None}
 use Rattle.prune.proofs.Common.{Less, Option, find, sum_by, sum_by-cons, All, Contains, AllByRecursion, le-ltb, lt-ltb, ltb-true, All-head, All-tail, All-contains}
 use Rattle.prune.proofs.Common.{Contains-append_right, IsStrictlySortedBy-filter, all_bundles, bundle_cmp, bundle_cmp_strict, all_bundles_has}
-use Rattle.prune.proofs.Common.{all_bundles_sorted, same_from_contains, Atom, SearchKind, Plain, SearchOptions, IsAtom, or_value, most_steps, AreLeft, AreOver}
+use Rattle.prune.proofs.Common.{all_bundles_sorted, same_from_contains, Atom, SearchKind, Plain, SearchOptions, IsAtom, or_value, fewest_steps, most_steps, AreLeft, AreOver}
 use Rattle.prune.proofs.Common.{IsTotalLeft, least_of, next_steps, AreOver-after, AreOver-grows, AreOver-next, next-each, Contains-cons_cases, Contains-map}
 use Rattle.prune.proofs.Common.{Contains-unmap, AllPairs-head, AllPairs-tail, or_value-price, or_value-filter_le, or_points, is_below, atoms_below, greatest_price}
 use Rattle.prune.proofs.Common.{searched_bundles, most_at, MayRefuse, first_heavy, first_heavy-is, IsBefore, IsInOrder, AreBestBids, IsOnBundle, Contains-head}
@@ -122,7 +122,7 @@ module _ (start now : SearchOptions) (bids done : List (Atom (List ℕ))) (x : A
 
     -- the search of a bid is within the limits
     pub IsWithin-next : (after : SearchOptions) → AreLeft most now after
-        → (now.kind ≡ Plain → most_steps Plain (atoms_inside kept x.bundle) x.bundle x.price ≤ next_steps now) → IsWithin start after bids rest
+        → fewest_steps now.kind (atoms_inside kept x.bundle) x.bundle x.price ≤ next_steps now → IsWithin start after bids rest
     IsWithin-next after h within = record {
       kind = h.kind ∙ w.kind;
       each = h.each ∙ w.each;
@@ -131,8 +131,8 @@ module _ (start now : SearchOptions) (bids done : List (Atom (List ℕ))) (x : A
           let sum = sum_by-cons (most_at start.kind goods bids) x.bundle (bundles_of rest) in
           w.over goods are one (AreOver-after most one _ _ now after h later (omega (arith, sum, most_is goods are)));
       heavy = λ goods are e.
-          let fits = within (w.kind ∙ e) in
-          let low = le-ltb start.each (search_steps goods bids x.bundle) (omega (arith, fits, plain_is goods are, next-each now, w.each)) in
+          let same = ap (λ (kind : SearchKind). fewest_steps kind (atoms_inside kept x.bundle) x.bundle x.price) (w.kind ∙ e) in
+          let low = le-ltb start.each (search_steps goods bids x.bundle) (omega (arith, within, same, plain_is goods are, next-each now, w.each)) in
           w.heavy goods are e ∙ ap (λ (b : Bool). cond b (Some x.bundle) (find (λ b. ltb start.each (search_steps goods bids b)) (bundles_of rest))) low;
     }
 

@@ -76,7 +76,7 @@ pub use Rattle.valuation.specs.Packings.{indices_inside, is_inside_at, atom_at, 
 pub use Rattle.valuation.specs.Packings.{IsPacking}
 pub use Rattle.valuation.specs.SearchLimits.{AreLeft, AreOver, IsTotalLeft, bounded_options, least_of, next_steps, options_after, total_after}
 pub use Rattle.valuation.specs.SearchSteps.{cut_steps, found_indices}
-pub use Rattle.valuation.specs.Searches.{IsFound, IsSearchedBy, IsSearchedWithin, most_steps}
+pub use Rattle.valuation.specs.Searches.{IsFound, IsSearchedBy, IsSearchedWithin, fewest_steps, most_steps}
 pub use Rattle.valuation.specs.ValueSearches.{is_candidate, most_of_one, most_searches, MayRefuseValue}
 pub use Rattle.valuation.specs.Values.{or_value, chosen_indices, xor_value, IsFirstBest, atoms_of, plain_atom}
 pub use Rattle.valuation.specs.declared.atom.Atom.{Atom}

@@ -60,7 +60,7 @@ loop-next-preserved-then-is_dropped g c =
       finder = subst (λ zs. IsFinderOf zs c.decide.new.self) (append-nil kept)
           (subst (λ b. IsFinderOf (kept ++ cond b [] (plain_atom goods c.index.result.now ∷ [])) c.decide.new.self) dropped ready);
       kept = rw done (or_reached _ _ _ _ kept turn h.kept (sym dropped ∙ decided.answer.answer));
-      within = IsWithin-next _ _ _ _ _ _ kept turn h.kept within _ decided.left (rw c.deref-in-loop-next.ensures.value at c.in-Ok.ensures.within);
+      within = IsWithin-next _ _ _ _ _ _ kept turn h.kept within _ decided.left decided.within;
       fewer = omega (arith, h.fewer);
       wanted = c.note.ensures.wanted ∙ h.wanted;
       noted = λ w.
@@ -91,7 +91,7 @@ loop-next-preserved g c =
           moved.rest;
       finder = rw more (subst (λ b. IsFinderOf (kept ++ cond b [] (plain_atom goods c.index.result.now ∷ [])) c.decide.new.self) missed ready);
       kept = rw (done, more) (or_missed _ _ _ _ kept turn h.kept (sym missed ∙ decided.answer.answer));
-      within = IsWithin-next _ _ _ _ _ _ kept turn h.kept within _ decided.left (rw c.deref-in-loop-next.ensures.value at c.in-Ok.ensures.within);
+      within = IsWithin-next _ _ _ _ _ _ kept turn h.kept within _ decided.left decided.within;
       fewer = omega (arith, h.fewer);
       wanted = c.note.ensures.wanted ∙ h.wanted;
       noted = λ w.
