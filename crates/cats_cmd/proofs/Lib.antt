@@ -23,6 +23,8 @@ mod OutputPaths
 mod Skipping
 mod FindingNumbers
 mod Tabling
+mod Transcribing
+mod TranscribingPairs
 mod RunsOfLists
 mod RunsOfPaths
 pub mod Common

@@ -19,4 +19,6 @@ pub mod Folders
 pub mod Opening
 pub mod Openings
 pub mod Requests
+pub mod TranscriptOpenings
+pub mod Transcripts
 pub mod Internal

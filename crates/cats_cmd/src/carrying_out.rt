@@ -6,6 +6,10 @@ ghost use Rattle.cats_text.specs.Streams.{has_failed};
 ghost use Rattle.cats_cmd.specs.Inputs.{IsOpened, MayRefuse};
 ghost use Rattle.cats_cmd.specs.Internal.Carrying.{FailsToOpenPair, answer_of_run};
 ghost use Rattle.cats_cmd.specs.Opening.{Opens};
+ghost use Rattle.cats_cmd.specs.Internal.Transcribing.{Tells};
+ghost use Rattle.cats_cmd.specs.Transcripts.{RunsFile, RunsTwo};
+ghost use Rattle.cats_cmd.specs.Paths.{without_refusals};
+ghost use Rattle.cats_cmd.specs.declared.paths.Progress.TheVariants.{Silent};
 ghost use Rattle.cats_cmd.specs.Openings.{OpensFiles, OpensFor, OpensForBids, OpensOne, OpensPair, status_of_answer};
 ghost use Rattle.cats_cmd.specs.Openings.{status_of_run};
 ghost use Rattle.cats_cmd.specs.Requests.{CannotOpenOnly, CannotOpenPair, Carries, CarriesOut, RunsAt, RunsAtBoth};
@@ -132,6 +136,10 @@ fn run_at<S: Source + AllocGlobal, W: Write, E: Write>(
         request.now.prices (outcome_of (plain_request request.now) bids.now))
         (CannotOpenOnly (S.may_refuse (S.content_of source.old)) file.now) out.old out.new err.old err.new result }
     ensures opens { Opens S.content_of S.opened source.old source.new ((file.now, Anything) ∷ []) }
+    ensures told { Tells S.content_of S.opened W.contents E.contents (without_refusals Silent)
+        (λ t. (t.list ≡ []) × RunsFile (S.may_open (S.content_of source.old)) (S.may_refuse (S.content_of source.old))
+        S.Stream.remaining (S.may_find (S.content_of source.old)) (source.new ≡ source.old) (plain_request request.now)
+        file.now bids.now t) source.old source.new out.old out.new err.old err.new result }
 {
     let stream = open_only(source, file)?;
     let mut input = PricedInput::new(stream, request.prices);
@@ -157,6 +165,10 @@ fn carry_out_on_pair<S: Source + AllocGlobal, W: Write, E: Write>(
         err.old err.new result }
     ensures opens { OpensPair S.content_of S.opened S.may_open S.may_refuse S.Stream.remaining files.entry.0.now
         files.entry.1.now source.old source.new (status_of_answer result) }
+    ensures told { Tells S.content_of S.opened W.contents E.contents (without_refusals Silent)
+        (λ t. (t.list ≡ []) × RunsTwo (S.may_open (S.content_of source.old)) (S.may_refuse (S.content_of source.old))
+        S.Stream.remaining (S.may_find (S.content_of source.old)) (source.new ≡ source.old) (plain_request request.now)
+        request.now.task files.entry.0.now files.entry.1.now t) source.old source.new out.old out.new err.old err.new result }
 {
     let (left, right) = open_both(source, files.0, files.1)?;
     let mut left = PricedInput::new(left, request.prices);

@@ -3,6 +3,7 @@ use Rattle.cats_cmd.proofs.Common.{Bool, ap, answer_if_lost, plain_request, Runs
 use Rattle.cats_cmd.proofs.CarryingOut.{carried, is_priced}
 use Rattle.cats_cmd.proofs.JudgingPaths.{reports_more}
 use Rattle.cats_cmd.proofs.Sending.{pair_run}
+use Rattle.cats_cmd.proofs.TranscribingPairs.{pair_told}
 use Rattle.cats_cmd.proofs.carrying_out.carry_out_on_pair.Goals as goal
 
 pub returns-clause-carries : goal.returns-clause-carries
@@ -26,3 +27,20 @@ returns-clause-carries g c =
       answers = ap (λ (lost : Bool). answer_if_lost lost c.send_answer-sent.result) (rw (c.max.ensures, c.rounded-3.ensures, c.rounded-4.ensures) at
           c.is_lost-lost.ensures);
     }))
+
+pub returns-clause-told : goal.returns-clause-told
+returns-clause-told g c =
+    let opened = c.in_ok-left.ensures.opened in
+    rw (
+      c.ran.ensures,
+      c.answer_if_lost.ensures,
+      rw (c.max.ensures, c.rounded-3.ensures, c.rounded-4.ensures) at c.is_lost-lost.ensures,
+    )
+    (λ err_after status closes. pair_told _ _ _ _ _ _ _ _ (plain_request c.args.request.now) _ _ _ _ _ _ _ c.report_rounded.new.err _ err_after opened.2
+    c.new-left.result c.answer_on_pair-answer.new.first c.new-right.result c.answer_on_pair-answer.new.second
+    (is_priced _ _ _ c.in_ok-left.left _ c.new-left.ensures.stream c.new-left.ensures.fine c.new-left.ensures.unread opened.0)
+    (is_priced _ _ _ c.in_ok-left.right _ c.new-right.ensures.stream c.new-right.ensures.fine c.new-right.ensures.unread opened.1)
+    (rw (c.as_bytes.ensures.value, c.rounded.ensures) at c.report_rounded.ensures)
+    (rw (c.as_bytes-2.ensures.value, c.rounded-2.ensures) at c.report_rounded-2.ensures) c.send_answer-sent.result status closes c.args.request.now.task
+    (pair_run _ _ _ _ _ _ _ _ _ c.args.request.now.task c.args.request.now.options _ _ c.answer_on_pair-answer.result c.answer_on_pair-answer.ensures _
+    c.send_answer-sent.ensures))

@@ -1,0 +1,170 @@
+-- The transcript of a run on two files: from what its command answered and what was sent.
+use Rattle.cats_cmd.proofs.Common.{◌≡◌, ◌∷◌, ◌∙◌, ◌||◌, ◌&&◌, length, map, ℕ, zero, suc, Bool, true, false, List, [], Option, Some, None, Result, Ok, Err, refl, sym, inl, inr, max}
+use Rattle.cats_cmd.proofs.Common.{ap, subst, PlainFile, Memory, Only, Both, Watched, Opens, Opening, IsPriced, PricedGives, PricedRefuses, has_failed}
+use Rattle.cats_cmd.proofs.Common.{Anything, answer_if_lost, answer_of_run, is_lost, ReportsAll, rounding_lines, Silent, without_refusals, Run, RunFault}
+use Rattle.cats_cmd.proofs.Common.{Refused, Sent, TooHeavy, RunsCommand, PlainRequest, text_of, Unopened, Outcome, PricedInput, naming_outcome}
+use Rattle.cats_cmd.proofs.Common.{normalise_outcome, CommandsBoth, CommandsBy, GivesBoth, SearchOptions, Answer, Task, diff_outcome, first_refused, or_atoms_of}
+use Rattle.cats_cmd.proofs.Common.{both_ways, outcome_of_both, canonical_text}
+use Rattle.canon.specs.declared.which.Which.TheVariants.{First, Second}
+use Rattle.commands.specs.Commands.{GivesWithin}
+use Rattle.commands.specs.Pairs.{GivesDifferences}
+use Rattle.commands.specs.Outcomes.{outcome_within}
+use Rattle.requests.specs.declared.task.Task.TheVariants.{Compare}
+use Rattle.cats_cmd.specs.Internal.Transcribing.{Closes}
+use Rattle.cats_cmd.specs.TranscriptOpenings.{AFile, AHeavyFile, AsFile, Gave, GivesFile, Nothing, Unread, error_of, prints}
+use Rattle.cats_cmd.specs.TranscriptOpenings.{Opening as Opened}
+use Rattle.std.specs.Prelude.{is_none}
+use Rattle.cats_cmd.specs.Transcripts.{End, Ends, MakesBoth, MeansTwo, Printed, RunsTwo, Text, Transcribes, alone, stop}
+use Rattle.cats_cmd.proofs.Transcribing.{few_told, or_false, reports_one, some_lines}
+
+-- ---- a report that is lost
+
+-- what has failed stays so
+stays_failed : {E : Type 0} (messages : E → Option (List ℕ)) (lines : List (List ℕ)) (old new : Watched E) → ReportsAll messages lines old new
+    → has_failed old ≡ true → new ≡ old
+stays_failed messages [] old new reports failed = reports
+stays_failed messages (line ∷ lines) old new (between, inl same, rest) failed =
+    stays_failed messages lines between new rest (rw same.1 failed) ∙ same.1
+stays_failed messages (line ∷ lines) old new (between, inr works, rest) failed = absurd (both_ways (has_failed old) works.0 failed)
+
+lost_of_two : {E : Type 0} (messages : E → Option (List ℕ)) (path : List ℕ) (one other : ℕ) (between new : Watched E)
+    → ReportsAll messages (rounding_lines path other) between new → is_lost (max one other) new ≡ (is_lost one between || is_lost other new)
+lost_of_two messages path zero other between new reports = refl
+lost_of_two messages path (suc one) zero between new reports = rw reports (or_false (has_failed between))
+lost_of_two {E = E} messages path (suc one) (suc other) between new reports = go (has_failed between) refl
+  where
+    go : (failed : Bool) → has_failed between ≡ failed → has_failed new ≡ (has_failed between || has_failed new)
+    go true is = let same = ap (has_failed {T = E}) (stays_failed messages (rounding_lines path (suc other)) between new reports is) ∙ is in rw (same, is) refl
+    go false is = rw is refl
+
+some_lost : {E : Type 0} (path : List ℕ) (count : ℕ) (gave : Gave) (err : Watched E)
+    → (is_none (error_of gave) && is_lost count err) ≡ (is_none (error_of gave) && is_lost (length (rounding_lines path count)) err)
+some_lost path count gave err = ap (λ (lost : Bool). is_none (error_of gave) && lost) (some_lines path count err)
+
+-- ---- the run
+
+module _ {S H F W E : Type 0} (content_of : S → H) (opened : S → Option (List Opening)) (may_open : List ℕ → F → Type 0)
+    (may_refuse : List ℕ → Unopened → Type 0) (remaining : F → Option (List ℕ)) (may_find : List ℕ → Option (List (List ℕ)) → Type 0)
+    (contents : W → Option (List ℕ)) (messages : E → Option (List ℕ))
+    (request : PlainRequest) (task : Task) (first second : List ℕ) (old new : S) (out out_after : Watched W) (err err_left err_between err_after : Watched E)
+    (opens : Opens content_of opened old new ((first, Anything) ∷ (second, Anything) ∷ [])) (left left_after right right_after : PricedInput F)
+    (left_priced : IsPriced may_open request.prices first left) (right_priced : IsPriced may_open request.prices second right)
+    (reports_left : ReportsAll messages (rounding_lines first left_after.rounded) err err_left)
+    (reports_right : ReportsAll messages (rounding_lines second right_after.rounded) err_left err_between) where
+  abbrev refusal : PlainFile → Outcome
+  refusal = alone task request.options
+
+  abbrev lost : Bool
+  lost = is_lost (max left_after.rounded right_after.rounded) err_between
+
+  abbrev Told : ℕ → Type 0
+  Told status = Transcribes content_of opened contents messages (without_refusals Silent) (λ t. (t.list ≡ [])
+      × RunsTwo may_open may_refuse remaining may_find (new ≡ old) request task first second t) old new out out_after err err_after status
+
+  abbrev at : List ℕ → PricedInput F → Gave → Opened
+  at path after gave = record { path = path; way = Anything; gave = gave; rounded = rounding_lines path after.rounded }
+
+  -- whether what is reported of each is lost, as far as it counts
+  abbrev lost_at : Gave → PricedInput F → Watched E → Bool
+  lost_at gave after err = is_none (error_of gave) && is_lost after.rounded err
+
+  told_as : (one other : Gave) (lost : Bool) (end : End) (written : Option ℕ) (status : ℕ) → GivesFile remaining refusal left left_after one
+      → GivesFile remaining refusal right right_after other → lost ≡ (lost_at one left_after err_left || lost_at other right_after err_between)
+      → MeansTwo task (one ∷ other ∷ []) end → Ends contents messages end lost written out out_after err_between err_after status → Told status
+  told_as one other lost end written status left_given right_given loses means ends =
+      few_told content_of opened may_open may_refuse remaining may_find contents messages request (AsFile remaining refusal)
+      (λ os. MeansTwo task (map (λ o. o.gave) os)) (first ∷ second ∷ []) (new ≡ old) old new out out_after err err_between err_after
+      (at first left_after one ∷ at second right_after other ∷ []) lost end written status
+      (
+        (refl, refl, inr (record { before = left; after = left_after; opened = left_priced; reads = (left_given, refl) })),
+        (refl, refl, inr (record { before = right; after = right_after; opened = right_priced; reads = (right_given, refl) })),
+        tt,
+      ) opens
+      (lost_at one left_after err_left, lost_at other right_after err_between, err_left, loses,
+          record { between = err_left; roundings = reports_left; loses = some_lost first left_after.rounded one err_left; others = refl },
+          reports_one messages 0 2 (at second right_after other) (lost_at other right_after err_between) err_left err_between reports_right
+              (some_lost second right_after.rounded other err_between))
+      means ends
+
+  -- a fault of one of them or of both, which is then reported
+  stopped : (one other : Gave) (fault : RunFault) (status : ℕ) → GivesFile remaining refusal left left_after one
+      → GivesFile remaining refusal right right_after other → MeansTwo task (one ∷ other ∷ []) (stop (Run fault)) → out_after ≡ out
+      → Closes messages (Err (Run fault)) err_between err_after status → Told status
+  stopped one other fault status left_given right_given means silent closes =
+      told_as one other (lost_at one left_after err_left || lost_at other right_after err_between) (stop (Run fault)) None status left_given right_given refl
+      means (silent, (err_after, closes.0, refl), closes.1)
+
+  -- what is made of both, by the command
+  module _ {A : Type 0} (Gives : A → Type 0) (outcome : A → Outcome) (files : A → PlainFile × PlainFile)
+      (given : (a : A) → Gives a → GivesBoth (PricedGives remaining) (PricedRefuses remaining) (PricedGives remaining) (PricedRefuses remaining)
+      request.options left left_after right right_after (files a))
+      (both : (a : A) → Gives a → (end : End) → Printed (outcome a) end → MakesBoth task (files a).0 (files a).1 end)
+      (passes : (file : PlainFile) → first_refused request.options file.goods (or_atoms_of file.bids) ≡ None → prints (refusal file) ≡ true) where
+    abbrev Answers : Result Answer RunFault → Type 0
+    Answers answer = CommandsBoth (PricedGives remaining) (PricedRefuses remaining) (PricedGives remaining) (PricedRefuses remaining) request.options refusal
+        Gives outcome left left_after right right_after answer
+
+    both_told : (sent : Result ℕ RunFault) (status : ℕ) → RunsCommand contents Answers out out_after sent
+        → Closes messages (answer_of_run (answer_if_lost lost sent)) err_between err_after status → Told status
+    both_told (Ok own) status ran closes =
+        let made = ran.answers in
+        let file = given made.given made.gives in
+        let text = text_of ran.answer.output in
+        told_as (AFile (files made.given).0) (AFile (files made.given).1) lost (Text own text) None status (file.0.given, passes _ file.0.within)
+        (file.1.given, passes _ file.1.within) (lost_of_two messages second left_after.rounded right_after.rounded err_left err_between reports_right)
+        (inl (both made.given made.gives (Text own text) (rw (made.made, ran.is_status) refl))) (ran.sent, closes)
+    both_told (Err (Sent fault)) status ran closes =
+        let made = ran.answers in
+        let file = given made.given made.gives in
+        let end = Text ran.answer.status (text_of ran.answer.output) in
+        told_as (AFile (files made.given).0) (AFile (files made.given).1) lost end (Some fault.written) status (file.0.given, passes _ file.0.within)
+        (file.1.given, passes _ file.1.within) (lost_of_two messages second left_after.rounded right_after.rounded err_left err_between reports_right)
+        (inl (both made.given made.gives end (rw made.made refl))) (ran.sent, closes)
+    both_told (Err (Refused First fault)) status ran closes =
+        stopped (Nothing (Run (Refused Only fault))) Unread (Refused First fault) status (refl, ran.0.why) ran.0.unread
+        (Run (Refused Only fault), refl, refl) ran.1 closes
+    both_told (Err (Refused Second fault)) status ran closes =
+        stopped (AFile ran.0.left) (Nothing (Run (Refused Only fault))) (Refused Second fault) status (ran.0.given.given, passes _ ran.0.given.within)
+        (refl, ran.0.why) (Run (Refused Only fault), refl, refl) ran.1 closes
+    both_told (Err (Refused Both fault)) status ran closes =
+        let file = ran.0.given in
+        stopped (AFile ran.0.files.0) (AFile ran.0.files.1) (Refused Both fault) status (file.0.given, passes _ file.0.within)
+        (file.1.given, passes _ file.1.within) (inr (rw ran.0.memory refl)) ran.1 closes
+    both_told (Err (TooHeavy First heavy)) status ran closes =
+        let why = ran.0.why in
+        stopped (AHeavyFile why.file heavy) Unread (TooHeavy First heavy) status (why.given, why.made) ran.0.unread (Run (TooHeavy Only heavy), refl, refl)
+        ran.1 closes
+    both_told (Err (TooHeavy Second heavy)) status ran closes =
+        let why = ran.0.why in
+        stopped (AFile ran.0.left) (AHeavyFile why.file heavy) (TooHeavy Second heavy) status (ran.0.given.given, passes _ ran.0.given.within)
+        (why.given, why.made) (Run (TooHeavy Only heavy), refl, refl) ran.1 closes
+    both_told (Err fault) status ran closes = absurd ran.0
+
+-- the text of a file within the limits
+within_passes : (options : SearchOptions) (refusal : List ℕ → Outcome) (text : List ℕ) (file : PlainFile)
+    → first_refused options file.goods (or_atoms_of file.bids) ≡ None → prints (outcome_within options refusal text file) ≡ true
+within_passes options refusal text file within = rw within refl
+
+module _ {S H F W E : Type 0} (content_of : S → H) (opened : S → Option (List Opening)) (may_open : List ℕ → F → Type 0)
+    (may_refuse : List ℕ → Unopened → Type 0) (remaining : F → Option (List ℕ)) (may_find : List ℕ → Option (List (List ℕ)) → Type 0)
+    (contents : W → Option (List ℕ)) (messages : E → Option (List ℕ)) (request : PlainRequest) (first second : List ℕ) (old new : S)
+    (out out_after : Watched W) (err err_left err_between err_after : Watched E)
+    (opens : Opens content_of opened old new ((first, Anything) ∷ (second, Anything) ∷ [])) (left left_after right right_after : PricedInput F)
+    (left_priced : IsPriced may_open request.prices first left) (right_priced : IsPriced may_open request.prices second right)
+    (reports_left : ReportsAll messages (rounding_lines first left_after.rounded) err err_left)
+    (reports_right : ReportsAll messages (rounding_lines second right_after.rounded) err_left err_between) (sent : Result ℕ RunFault) (status : ℕ)
+    (closes : Closes messages (answer_of_run (answer_if_lost (is_lost (max left_after.rounded right_after.rounded) err_between) sent)) err_between err_after
+    status) where
+  pub pair_told : (task : Task) → RunsCommand contents (CommandsBy (PricedGives remaining) (PricedRefuses remaining) (PricedGives remaining)
+      (PricedRefuses remaining) task request.options left left_after right right_after) out out_after sent
+      → Transcribes content_of opened contents messages (without_refusals Silent) (λ t. (t.list ≡ [])
+      × RunsTwo may_open may_refuse remaining may_find (new ≡ old) request task first second t) old new out out_after err err_after status
+  pair_told Compare ran =
+      both_told content_of opened may_open may_refuse remaining may_find contents messages request Compare first second old new out out_after err err_left
+      err_between err_after opens left left_after right right_after left_priced right_priced reports_left reports_right _ outcome_of_both (λ files. files)
+      (λ files given. given) (λ files given end printed. printed) (within_passes request.options _ _) sent status ran closes
+  pair_told task ran =
+      both_told content_of opened may_open may_refuse remaining may_find contents messages request task first second old new out out_after err err_left
+      err_between err_after opens left left_after right right_after left_priced right_priced reports_left reports_right _ diff_outcome
+      (λ compared. (compared.0, compared.1)) (λ compared given. given.given) (λ compared given end printed. (compared.2, given.all, printed))
+      (within_passes request.options _ _) sent status ran closes
