@@ -25,6 +25,7 @@ mod FindingNumbers
 mod Tabling
 mod Transcribing
 mod TranscribingPairs
+mod TranscriptLaws
 mod RunsOfLists
 mod RunsOfPaths
 pub mod Common

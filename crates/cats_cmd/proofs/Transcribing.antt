@@ -3,7 +3,7 @@ use Rattle.cats_cmd.proofs.Common.{◌≡◌, ◌∷◌, ◌++◌, ◌∙◌, �
 use Rattle.cats_cmd.proofs.Common.{ap, subst, inr, PlainFile, Memory, Only, Watched, FinePrices, Opens, Opening, IsPriced, PricedGives, PricedRefuses}
 use Rattle.cats_cmd.proofs.Common.{Anything, answer_if_lost, answer_of_run, is_lost, ReportsAll, rounding_lines, Silent, without_refusals, Run, RunFault}
 use Rattle.cats_cmd.proofs.Common.{Refused, Sent, TooHeavy, GoodRange, BidRange, RunsAt, RunsOnFile, outcome_of, PlainRequest, text_of, Unopened, Outcome}
-use Rattle.cats_cmd.proofs.Common.{RequestError, PricedInput}
+use Rattle.cats_cmd.proofs.Common.{RequestError, PricedInput, arith, ne_eqb, lt-ltb}
 use Rattle.std.specs.Prelude.{is_none}
 use Rattle.cats_cmd.specs.Internal.Transcribing.{Closes, Tells}
 use Rattle.commands.specs.Outcomes.{LacksGood}
@@ -18,13 +18,13 @@ or_false false = refl
 -- as many lines are reported as is asked for
 pub some_lines : {E : Type 0} (path : List ℕ) (count : ℕ) (err : Watched E) → is_lost count err ≡ is_lost (length (rounding_lines path count)) err
 some_lines path zero err = refl
-some_lines path (suc count) err = refl
+some_lines path (suc count) err = rw (ne_eqb (suc count) 0 (λ none. omega (arith, none)), lt-ltb 0 (suc count) (omega arith)) refl
 
 pub reports_one : {E : Type 0} (messages : E → Option (List ℕ)) (count number : ℕ) (o : Opened) (lost : Bool) (err err_after : Watched E)
     → ReportsAll messages o.rounded err err_after → lost ≡ (is_none (error_of o.gave) && is_lost (length o.rounded) err_after)
     → ReportsFrom messages (without_refusals Silent) count number (o ∷ []) lost err err_after
 reports_one messages count number o lost err err_after reports loses =
-    (lost, false, err_after, or_false lost, record { between = err_after; roundings = reports; loses = loses; others = refl }, refl, refl)
+    (lost, false, err_after, or_false lost, record { between = err_after; roundings = reports; loses = loses; others = refl }, (refl, refl))
 
 -- one file or two, which were opened and read so
 pub few_told : {S H F W E : Type 0} (content_of : S → H) (opened : S → Option (List Opening)) (may_open : List ℕ → F → Type 0)
@@ -40,7 +40,7 @@ pub few_told : {S H F W E : Type 0} (content_of : S → H) (opened : S → Optio
 few_told content_of opened may_open may_refuse remaining may_find contents messages request Reads Means paths Untouched old new out out_after err err_between
     err_after os lost end written status are opens reports means ends = record {
       transcript = record { list = []; paths = []; openings = os; reported = os; end = end; written = written };
-      runs = (refl, are, refl, means);
+      runs = (refl, (are, refl, means));
       stays = opens.stays;
       opens = opens.more;
       lost = lost;
@@ -70,18 +70,18 @@ module _ {S H F W E : Type 0} (content_of : S → H) (opened : S → Option (Lis
 
   told_as : (gave : Gave) (lost : Bool) (end : End) (written : Option ℕ) (status : ℕ) → GivesFile remaining outcome before after gave
       → lost ≡ (is_none (error_of gave) && is_lost (length (rounding_lines path after.rounded)) err_between)
-      → MeansOne outcome (λ path bytes. LacksGood 0) (at gave ∷ []) end
+      → MeansOne outcome (λ bytes. LacksGood 0) (at gave ∷ []) end
       → Ends contents messages end lost written out out_after err_between err_after status → Told status
   told_as gave lost end written status given loses means ends =
       few_told content_of opened may_open may_refuse remaining may_find contents messages request (AsFile remaining outcome)
-      (MeansOne outcome (λ path bytes. LacksGood 0)) (path ∷ []) (new ≡ old) old new out out_after err err_between err_after (at gave ∷ []) lost end written status
+      (MeansOne outcome (λ bytes. LacksGood 0)) (path ∷ []) (new ≡ old) old new out out_after err err_between err_after (at gave ∷ []) lost end written status
       ((refl, refl, inr (record { before = before; after = after; opened = priced; reads = (given, refl) })), tt) opens
       (reports_one messages 0 1 (at gave) lost err err_between reports loses) means ends
 
   -- a fault, which is then reported
   stopped : (gave : Gave) (fault : RunFault) (status : ℕ) → GivesFile remaining outcome before after gave
       → false ≡ (is_none (error_of gave) && is_lost (length (rounding_lines path after.rounded)) err_between)
-      → MeansOne outcome (λ path bytes. LacksGood 0) (at gave ∷ []) (stop (Run fault)) → out_after ≡ out
+      → MeansOne outcome (λ bytes. LacksGood 0) (at gave ∷ []) (stop (Run fault)) → out_after ≡ out
       → Closes messages (Err (Run fault)) err_between err_after status → Told status
   stopped gave fault status given loses means silent closes =
       told_as gave false (stop (Run fault)) None status given loses means (silent, (err_after, closes.0, refl), closes.1)
@@ -92,12 +92,12 @@ module _ {S H F W E : Type 0} (content_of : S → H) (opened : S → Option (Lis
       let made = ran.answers in
       told_as (AFile made.file) lost (Text own (text_of ran.answer.output)) None status
       (made.given, ap prints made.made) (some_lines path after.rounded err_between)
-      (rw (made.made, ran.is_status) refl) (ran.sent, closes)
+      (rw (made.made, ran.is_status) refl) (ran.sent, closes.0, closes.1)
   file_told (Err (Sent fault)) status ran closes =
       let made = ran.answers in
       told_as (AFile made.file) lost (Text ran.answer.status (text_of ran.answer.output)) (Some fault.written) status
       (made.given, ap prints made.made) (some_lines path after.rounded err_between)
-      (rw made.made refl) (ran.sent, closes)
+      (rw made.made refl) (ran.sent, closes.0, closes.1)
   file_told (Err (Refused which fault)) status ran closes =
       stopped (Nothing (Run (Refused Only fault))) (Refused Only fault) status (refl, ran.0.1) refl
       (Run (Refused Only fault), refl, refl) ran.1 (rw ran.0.0 at closes)

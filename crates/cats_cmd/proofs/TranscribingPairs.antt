@@ -4,7 +4,7 @@ use Rattle.cats_cmd.proofs.Common.{ap, subst, PlainFile, Memory, Only, Both, Wat
 use Rattle.cats_cmd.proofs.Common.{Anything, answer_if_lost, answer_of_run, is_lost, ReportsAll, rounding_lines, Silent, without_refusals, Run, RunFault}
 use Rattle.cats_cmd.proofs.Common.{Refused, Sent, TooHeavy, RunsCommand, PlainRequest, text_of, Unopened, Outcome, PricedInput, naming_outcome}
 use Rattle.cats_cmd.proofs.Common.{normalise_outcome, CommandsBoth, CommandsBy, GivesBoth, SearchOptions, Answer, Task, diff_outcome, first_refused, or_atoms_of}
-use Rattle.cats_cmd.proofs.Common.{both_ways, outcome_of_both, canonical_text}
+use Rattle.cats_cmd.proofs.Common.{both_ways, outcome_of_both, canonical_text, Reports, ltb, lt-ltb, nat_tests, arith}
 use Rattle.canon.specs.declared.which.Which.TheVariants.{First, Second}
 use Rattle.commands.specs.Commands.{GivesWithin}
 use Rattle.commands.specs.Pairs.{GivesDifferences}
@@ -21,21 +21,35 @@ use Rattle.cats_cmd.proofs.Transcribing.{few_told, or_false, reports_one, some_l
 
 -- what has failed stays so
 stays_failed : {E : Type 0} (messages : E → Option (List ℕ)) (lines : List (List ℕ)) (old new : Watched E) → ReportsAll messages lines old new
-    → has_failed old ≡ true → new ≡ old
-stays_failed messages [] old new reports failed = reports
-stays_failed messages (line ∷ lines) old new (between, inl same, rest) failed =
-    stays_failed messages lines between new rest (rw same.1 failed) ∙ same.1
-stays_failed messages (line ∷ lines) old new (between, inr works, rest) failed = absurd (both_ways (has_failed old) works.0 failed)
+    → has_failed old ≡ true → has_failed new ≡ true
+stays_failed messages [] old new reports failed = rw reports failed
+stays_failed messages (line ∷ lines) old new reports failed = go reports.1
+  where
+    go : Reports messages line old reports.0 → has_failed new ≡ true
+    go (inl same) = stays_failed messages lines reports.0 new reports.2 (rw same.1 failed)
+    go (inr works) = absurd (both_ways (has_failed old) works.0 failed)
+
+unless_said : {E : Type 0} (messages : E → Option (List ℕ)) (path : List ℕ) (count : ℕ) (old new : Watched E)
+    → ReportsAll messages (rounding_lines path count) old new → ltb 0 count ≡ false → has_failed new ≡ has_failed old
+unless_said {E = E} messages path zero old new reports none = ap (has_failed {T = E}) reports
+unless_said messages path (suc count) old new reports none = absurd (both_ways (ltb 0 (suc count)) none (lt-ltb 0 (suc count) (omega arith)))
+
+one_of_two : (one other : ℕ) → ltb 0 (max one other) ≡ (ltb 0 one || ltb 0 other)
+one_of_two one other = grind (arith, nat_tests)
+
+either_lost : (one other before after : Bool) → (before ≡ true → after ≡ true) → (other ≡ false → after ≡ before)
+    → ((one || other) && after) ≡ ((one && before) || (other && after))
+either_lost false other before after stays same = refl
+either_lost true false before after stays same = rw (same refl) (or_false before)
+either_lost true true true after stays same = stays refl
+either_lost true true false after stays same = refl
 
 lost_of_two : {E : Type 0} (messages : E → Option (List ℕ)) (path : List ℕ) (one other : ℕ) (between new : Watched E)
     → ReportsAll messages (rounding_lines path other) between new → is_lost (max one other) new ≡ (is_lost one between || is_lost other new)
-lost_of_two messages path zero other between new reports = refl
-lost_of_two messages path (suc one) zero between new reports = rw reports (or_false (has_failed between))
-lost_of_two {E = E} messages path (suc one) (suc other) between new reports = go (has_failed between) refl
-  where
-    go : (failed : Bool) → has_failed between ≡ failed → has_failed new ≡ (has_failed between || has_failed new)
-    go true is = let same = ap (has_failed {T = E}) (stays_failed messages (rounding_lines path (suc other)) between new reports is) ∙ is in rw (same, is) refl
-    go false is = rw is refl
+lost_of_two messages path one other between new reports =
+    rw (one_of_two one other)
+    (either_lost (ltb 0 one) (ltb 0 other) (has_failed between) (has_failed new)
+    (stays_failed messages (rounding_lines path other) between new reports) (unless_said messages path other between new reports))
 
 some_lost : {E : Type 0} (path : List ℕ) (count : ℕ) (gave : Gave) (err : Watched E)
     → (is_none (error_of gave) && is_lost count err) ≡ (is_none (error_of gave) && is_lost (length (rounding_lines path count)) err)
@@ -77,8 +91,7 @@ module _ {S H F W E : Type 0} (content_of : S → H) (opened : S → Option (Lis
       (at first left_after one ∷ at second right_after other ∷ []) lost end written status
       (
         (refl, refl, inr (record { before = left; after = left_after; opened = left_priced; reads = (left_given, refl) })),
-        (refl, refl, inr (record { before = right; after = right_after; opened = right_priced; reads = (right_given, refl) })),
-        tt,
+        ((refl, refl, inr (record { before = right; after = right_after; opened = right_priced; reads = (right_given, refl) })), tt),
       ) opens
       (lost_at one left_after err_left, lost_at other right_after err_between, err_left, loses,
           record { between = err_left; roundings = reports_left; loses = some_lost first left_after.rounded one err_left; others = refl },
@@ -112,14 +125,14 @@ module _ {S H F W E : Type 0} (content_of : S → H) (opened : S → Option (Lis
         let text = text_of ran.answer.output in
         told_as (AFile (files made.given).0) (AFile (files made.given).1) lost (Text own text) None status (file.0.given, passes _ file.0.within)
         (file.1.given, passes _ file.1.within) (lost_of_two messages second left_after.rounded right_after.rounded err_left err_between reports_right)
-        (inl (both made.given made.gives (Text own text) (rw (made.made, ran.is_status) refl))) (ran.sent, closes)
+        (inl (both made.given made.gives (Text own text) (rw (made.made, ran.is_status) refl))) (ran.sent, closes.0, closes.1)
     both_told (Err (Sent fault)) status ran closes =
         let made = ran.answers in
         let file = given made.given made.gives in
         let end = Text ran.answer.status (text_of ran.answer.output) in
         told_as (AFile (files made.given).0) (AFile (files made.given).1) lost end (Some fault.written) status (file.0.given, passes _ file.0.within)
         (file.1.given, passes _ file.1.within) (lost_of_two messages second left_after.rounded right_after.rounded err_left err_between reports_right)
-        (inl (both made.given made.gives end (rw made.made refl))) (ran.sent, closes)
+        (inl (both made.given made.gives end (rw made.made refl))) (ran.sent, closes.0, closes.1)
     both_told (Err (Refused First fault)) status ran closes =
         stopped (Nothing (Run (Refused Only fault))) Unread (Refused First fault) status (refl, ran.0.why) ran.0.unread
         (Run (Refused Only fault), refl, refl) ran.1 closes

@@ -87,21 +87,21 @@ Printed outcome end = ⊥
 -- of one file or of one of two
 abbrev pub error_on : Which → RequestError → RequestError
 error_on which (NotOpened why) = CannotOpen which
-error_on which (Run (Refused only fault)) = Run (Refused which fault)
-error_on which (Run (TooHeavy only heavy)) = Run (TooHeavy which heavy)
+error_on which (Run (Refused _ fault)) = Run (Refused which fault)
+error_on which (Run (TooHeavy _ heavy)) = Run (TooHeavy which heavy)
 error_on which error = error
 
 abbrev pub Stops : (RequestError → End) → Gave → End → Type 0
 Stops end_of gave end = (error : RequestError) × (error_of gave ≡ Some error) × (end ≡ end_of error)
 
--- one file, by what is made of it, or of the bytes at this path
-abbrev pub MeansOne : (PlainFile → Outcome) → (List ℕ → List ℕ → Outcome) → List Opening → End → Type 0
-MeansOne of_file of_text (o ∷ []) end = Means o.gave
-  where
-    Means : Gave → Type 0
-    Means (AFile file) = Printed (of_file file) end
-    Means (AText bytes) = Printed (of_text o.path bytes) end
-    Means gave = Stops (λ error. stop (error_on Only error)) gave end
+-- one file, by what is made of it, or of its bytes
+abbrev pub MeansOf : (PlainFile → Outcome) → (List ℕ → Outcome) → Gave → End → Type 0
+MeansOf of_file of_text (AFile file) end = Printed (of_file file) end
+MeansOf of_file of_text (AText bytes) end = Printed (of_text bytes) end
+MeansOf of_file of_text gave end = Stops (λ error. stop (error_on Only error)) gave end
+
+abbrev pub MeansOne : (PlainFile → Outcome) → (List ℕ → Outcome) → List Opening → End → Type 0
+MeansOne of_file of_text (o ∷ []) end = MeansOf of_file of_text o.gave end
 MeansOne of_file of_text os end = ⊥
 
 -- how a file of two is refused alone
@@ -135,17 +135,14 @@ abbrev pub MakesOf : Task → PlainRequest → List (List ℕ × Judgement) → 
 MakesOf Duplicates request = MakesGroups (ending_of request.null) request.all
 MakesOf task request = MakesTable (ending_of request.null)
 
-abbrev pub status_of_opening : Opening → ℕ
-status_of_opening o = status_if_any (error_of o.gave)
-  where
-    status_if_any : Option RequestError → ℕ
-    status_if_any None = 0
-    status_if_any (Some error) = status_of_request_error error
+abbrev pub status_of : Option RequestError → ℕ
+status_of None = 0
+status_of (Some error) = status_of_request_error error
 
 -- all files are printed together, or memory is refused to them
 abbrev pub MeansMany : PlainRequest → Transcript → End → Type 0
 MeansMany request t (Text status text) = (length t.openings ≡ length t.paths) × (t.reported ≡ t.openings)
-    × (status ≡ fold (λ greatest o. max greatest (status_of_opening o)) 0 t.openings)
+    × (status ≡ fold (λ greatest o. max greatest (status_of (error_of o.gave))) 0 t.openings)
     × MakesOf request.task request (map (λ o. (o.path, judgement_of o.gave)) t.openings) text
 MeansMany request t end = (end ≡ stop (Run (Refused Only Memory)))
     × ((count : ℕ) × (t.reported ≡ take count t.openings))
@@ -163,17 +160,18 @@ module _ {F : Type 0} (may_open : List ℕ → F → Type 0) (may_refuse : List 
   abbrev pub IsEnded : Transcript → End → Type 0
   IsEnded t end = (t.openings ≡ []) × (t.reported ≡ []) × (t.end ≡ end)
 
-  -- a list is read before, which is refused, or `Run` goes on with its bytes
+  -- a list is read before, which is refused, or `Next` goes on with its bytes
+  abbrev pub GoesOn : List ℕ → (Option (List ℕ) → Transcript → Type 0) → Gave → Transcript → Type 0
+  GoesOn list Next (AText bytes) t = Next (Some bytes) t
+  GoesOn list Next gave t = (error : RequestError) × (error_of gave ≡ Some error) × IsEnded t (stop_at list error)
+
   abbrev pub RunsListed : Wrong → Option (List ℕ) → (Option (List ℕ) → Transcript → Type 0) → List Opening → Transcript
       → Type 0
-  RunsListed Judges None Run [] t = Run None t
-  RunsListed Judges (Some list) Run (o ∷ []) t =
-      OpensAt may_open may_refuse request.prices (AsText remaining Judges no_lines) list NoFolder o × Goes o.gave
-    where
-      Goes : Gave → Type 0
-      Goes (AText bytes) = Run (Some bytes) t
-      Goes gave = (error : RequestError) × (error_of gave ≡ Some error) × IsEnded t (stop_at list error)
-  RunsListed Judges list Run os t = ⊥
+  RunsListed Judges None Next [] t = Next None t
+  RunsListed Judges (Some list) Next (o ∷ []) t =
+      OpensAt may_open may_refuse request.prices (AsText remaining Judges no_lines) list NoFolder o
+      × GoesOn list Next o.gave t
+  RunsListed Judges list Next os t = ⊥
 
   -- one file or two
   abbrev pub RunsFew : Reading remaining → (List Opening → End → Type 0) → List (List ℕ) → Transcript → Type 0
@@ -181,16 +179,16 @@ module _ {F : Type 0} (may_open : List ℕ → F → Type 0) (may_refuse : List 
 
   abbrev pub RunsFile : List ℕ → List ℕ → Transcript → Type 0
   RunsFile file bids = RunsFew (AsFile remaining (outcome_of request bids))
-      (MeansOne (outcome_of request bids) (λ path bytes. LacksGood 0)) (file ∷ [])
+      (MeansOne (outcome_of request bids) (λ bytes. LacksGood 0)) (file ∷ [])
 
   -- a text with rounded prices is written before these are reported
   abbrev pub RunsOne : Task → List ℕ → Transcript → Type 0
   RunsOne Fault file t = (t.list ≡ [])
-      × RunsFew (AsText remaining WrongToFind no_lines) (MeansOne (outcome_of request []) fault_outcome) (file ∷ []) t
+      × RunsFew (AsText remaining WrongToFind no_lines) (MeansOne (outcome_of request []) (fault_outcome file)) (file ∷ []) t
   RunsOne Round file t = (t.list ≡ [])
       × Opens (AsText remaining (WrongToRound (fine_of request)) (lines_of_prices (fine_of request))) Anything (file ∷ [])
       t.openings × (t.reported ≡ (if is_some t.written then [] else t.openings))
-      × MeansOne (outcome_of request []) (λ path bytes. Prints 0 (rounded_text (fine_of request) bytes)) t.openings t.end
+      × MeansOne (outcome_of request []) (λ bytes. Prints 0 (rounded_text (fine_of request) bytes)) t.openings t.end
   RunsOne task file t = RunsListed WrongNumbers request.list
       (λ listed. RunsFile file (option_map_or bid_numbers listed request.bids)) t.list t
 

@@ -36,7 +36,7 @@ returns-clause-told g c =
       c.answer_if_lost.ensures,
       rw (c.max.ensures, c.rounded-3.ensures, c.rounded-4.ensures) at c.is_lost-lost.ensures,
     )
-    (λ err_after status closes. pair_told _ _ _ _ _ _ _ _ (plain_request c.args.request.now) _ _ _ _ _ _ _ c.report_rounded.new.err _ err_after opened.2
+    (λ err_after status closes. pair_told _ _ _ _ _ (g.S.Source.may_find (g.S.Source.content_of c.args.source.now)) _ _ (plain_request c.args.request.now) _ _ _ _ _ _ _ c.report_rounded.new.err _ err_after opened.2
     c.new-left.result c.answer_on_pair-answer.new.first c.new-right.result c.answer_on_pair-answer.new.second
     (is_priced _ _ _ c.in_ok-left.left _ c.new-left.ensures.stream c.new-left.ensures.fine c.new-left.ensures.unread opened.0)
     (is_priced _ _ _ c.in_ok-left.right _ c.new-right.ensures.stream c.new-right.ensures.fine c.new-right.ensures.unread opened.1)

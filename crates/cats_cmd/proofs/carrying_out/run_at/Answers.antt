@@ -3,6 +3,7 @@ use Rattle.cats_cmd.proofs.Common.{Bool, ap, answer_if_lost, outcome_of, plain_r
 use Rattle.cats_cmd.proofs.CarryingOut.{carried, is_priced}
 use Rattle.cats_cmd.proofs.Sending.{file_run}
 use Rattle.cats_cmd.proofs.Transcribing.{file_told}
+use Rattle.cats_cmd.proofs.TranscriptLaws.{silent_end}
 use Rattle.cats_cmd.proofs.carrying_out.run_at.Goals as goal
 
 pub returns-clause-runs : goal.returns-clause-runs
@@ -26,7 +27,7 @@ pub returns-clause-told : goal.returns-clause-told
 returns-clause-told g c =
     let request = c.args.request.now in
     rw (c.ran.ensures, c.answer_if_lost.ensures, rw c.rounded-2.ensures at c.is_lost-lost.ensures)
-    (λ err_after status closes. file_told _ _ _ _ _ _ _ _ (plain_request request) _ c.args.bids.now _ _ _ _ _ _ err_after c.in_ok-stream.ensures.opens
+    (λ err_after status closes. file_told _ _ _ _ _ (g.S.Source.may_find (g.S.Source.content_of c.args.source.now)) _ _ (plain_request request) _ c.args.bids.now _ _ _ _ _ _ err_after c.in_ok-stream.ensures.opens
     c.new-input.result c.answer_on_file-answer.new.input
     (is_priced _ _ _ c.in_ok-stream.stream _ c.new-input.ensures.stream c.new-input.ensures.fine c.new-input.ensures.unread c.in_ok-stream.ensures.opened)
     (rw (c.as_bytes.ensures.value, c.rounded.ensures) at c.report_rounded.ensures) c.send_answer-sent.result status
