@@ -3,7 +3,8 @@ use Rattle.cats_cmd.proofs.Common.{◌≡◌, ◌∷◌, ◌++◌, ◌∙◌, �
 use Rattle.cats_cmd.proofs.Common.{ap, subst, inr, PlainFile, Memory, Only, Watched, FinePrices, Opens, Opening, IsPriced, PricedGives, PricedRefuses}
 use Rattle.cats_cmd.proofs.Common.{Anything, answer_if_lost, answer_of_run, is_lost, ReportsAll, rounding_lines, Silent, without_refusals, Run, RunFault}
 use Rattle.cats_cmd.proofs.Common.{Refused, Sent, TooHeavy, GoodRange, BidRange, RunsAt, RunsOnFile, outcome_of, PlainRequest, text_of, Unopened, Outcome}
-use Rattle.cats_cmd.proofs.Common.{RequestError, PricedInput, arith, ne_eqb, lt-ltb}
+use Rattle.cats_cmd.proofs.Common.{RequestError, PricedInput, arith, ne_eqb, lt-ltb, inl, CannotOpen, NotOpened, IsErrAnd}
+use Rattle.cats_cmd.specs.Inputs.{MayRefuse}
 use Rattle.std.specs.Prelude.{is_none}
 use Rattle.cats_cmd.specs.Internal.Transcribing.{Closes, Tells}
 use Rattle.commands.specs.Outcomes.{LacksGood}
@@ -48,6 +49,29 @@ few_told content_of opened may_open may_refuse remaining may_find contents messa
       reports = reports;
       ends = ends;
     }
+
+-- an answer that is this error
+pub closes_error : {E : Type 0} (messages : E → Option (List ℕ)) (error : RequestError) (answer : Result ℕ RequestError)
+    → IsErrAnd answer (λ e. e ≡ error) → (err err_after : Watched E) (status : ℕ) → Closes messages answer err err_after status
+    → Closes messages (Err error) err err_after status
+closes_error messages error (Ok own) is err err_after status closes = absurd is
+closes_error messages error (Err e) is err err_after status closes = rw is at closes
+
+-- the only file could not be opened
+pub file_unopened : {S H F W E : Type 0} (content_of : S → H) (opened : S → Option (List Opening)) (may_open : List ℕ → F → Type 0)
+    (may_refuse : List ℕ → Unopened → Type 0) (remaining : F → Option (List ℕ)) (may_find : List ℕ → Option (List (List ℕ)) → Type 0)
+    (contents : W → Option (List ℕ)) (messages : E → Option (List ℕ)) (request : PlainRequest) (path bids : List ℕ) (old new : S)
+    (out : Watched W) (err err_after : Watched E) (status : ℕ) → MayRefuse may_refuse path → Opens content_of opened old new ((path, Anything) ∷ [])
+    → Closes messages (Err (CannotOpen Only)) err err_after status
+    → Transcribes content_of opened contents messages (without_refusals Silent)
+    (λ t. (t.list ≡ []) × RunsFile may_open may_refuse remaining may_find (new ≡ old) request path bids t) old new out out err err_after status
+file_unopened content_of opened may_open may_refuse remaining may_find contents messages request path bids old new out err err_after status refused opens
+    closes =
+      let o : Opened = record { path = path; way = Anything; gave = Nothing (NotOpened refused.0); rounded = [] } in
+      few_told content_of opened may_open may_refuse remaining may_find contents messages request (AsFile remaining (outcome_of request bids))
+      (MeansOne (outcome_of request bids) (λ bytes. LacksGood 0)) (path ∷ []) (new ≡ old) old new out out err err err_after (o ∷ []) false
+      (stop (CannotOpen Only)) None status ((refl, refl, inl (refused.0, refl, refl, inl refused.1)), tt) opens
+      (reports_one messages 0 1 o false err err refl refl) (NotOpened refused.0, refl, refl) (refl, (err_after, closes.0, refl), closes.1)
 
 module _ {S H F W E : Type 0} (content_of : S → H) (opened : S → Option (List Opening)) (may_open : List ℕ → F → Type 0)
     (may_refuse : List ℕ → Unopened → Type 0) (remaining : F → Option (List ℕ)) (may_find : List ℕ → Option (List (List ℕ)) → Type 0)

@@ -4,13 +4,13 @@ use Rattle.cats_cmd.proofs.Common.{ap, subst, PlainFile, Memory, Only, Both, Wat
 use Rattle.cats_cmd.proofs.Common.{Anything, answer_if_lost, answer_of_run, is_lost, ReportsAll, rounding_lines, Silent, without_refusals, Run, RunFault}
 use Rattle.cats_cmd.proofs.Common.{Refused, Sent, TooHeavy, RunsCommand, PlainRequest, text_of, Unopened, Outcome, PricedInput, naming_outcome}
 use Rattle.cats_cmd.proofs.Common.{normalise_outcome, CommandsBoth, CommandsBy, GivesBoth, SearchOptions, Answer, Task, diff_outcome, first_refused, or_atoms_of}
-use Rattle.cats_cmd.proofs.Common.{both_ways, outcome_of_both, canonical_text, Reports, ltb, lt-ltb, nat_tests, arith}
+use Rattle.cats_cmd.proofs.Common.{both_ways, outcome_of_both, canonical_text, Reports, ltb, lt-ltb, nat_tests, arith, NotOpened, CannotOpen, RequestError}
 use Rattle.canon.specs.declared.which.Which.TheVariants.{First, Second}
 use Rattle.commands.specs.Commands.{GivesWithin}
 use Rattle.commands.specs.Pairs.{GivesDifferences}
 use Rattle.commands.specs.Outcomes.{outcome_within}
 use Rattle.requests.specs.declared.task.Task.TheVariants.{Compare}
-use Rattle.cats_cmd.specs.Internal.Transcribing.{Closes}
+use Rattle.cats_cmd.specs.Internal.Transcribing.{Closes, FailsPair}
 use Rattle.cats_cmd.specs.TranscriptOpenings.{AFile, AHeavyFile, AsFile, Gave, GivesFile, Nothing, Unread, error_of, prints}
 use Rattle.cats_cmd.specs.TranscriptOpenings.{Opening as Opened}
 use Rattle.std.specs.Prelude.{is_none}
@@ -20,14 +20,16 @@ use Rattle.cats_cmd.proofs.Transcribing.{few_told, or_false, reports_one, some_l
 -- ---- a report that is lost
 
 -- what has failed stays so
+report_fails : {E : Type 0} (messages : E → Option (List ℕ)) (line : List ℕ) (old new : Watched E) → Reports messages line old new → has_failed old ≡ true
+    → has_failed new ≡ true
+report_fails messages line old new (inl same) failed = rw same.1 failed
+report_fails messages line old new (inr works) failed = absurd (both_ways (has_failed old) works.0 failed)
+
 stays_failed : {E : Type 0} (messages : E → Option (List ℕ)) (lines : List (List ℕ)) (old new : Watched E) → ReportsAll messages lines old new
     → has_failed old ≡ true → has_failed new ≡ true
 stays_failed messages [] old new reports failed = rw reports failed
-stays_failed messages (line ∷ lines) old new reports failed = go reports.1
-  where
-    go : Reports messages line old reports.0 → has_failed new ≡ true
-    go (inl same) = stays_failed messages lines reports.0 new reports.2 (rw same.1 failed)
-    go (inr works) = absurd (both_ways (has_failed old) works.0 failed)
+stays_failed messages (line ∷ lines) old new reports failed =
+    stays_failed messages lines reports.0 new reports.2 (report_fails messages line old reports.0 reports.1 failed)
 
 unless_said : {E : Type 0} (messages : E → Option (List ℕ)) (path : List ℕ) (count : ℕ) (old new : Watched E)
     → ReportsAll messages (rounding_lines path count) old new → ltb 0 count ≡ false → has_failed new ≡ has_failed old
@@ -153,10 +155,11 @@ module _ {S H F W E : Type 0} (content_of : S → H) (opened : S → Option (Lis
         (why.given, why.made) (Run (TooHeavy Only heavy), refl, refl) ran.1 closes
     both_told (Err fault) status ran closes = absurd ran.0
 
--- the text of a file within the limits
-within_passes : (options : SearchOptions) (refusal : List ℕ → Outcome) (text : List ℕ) (file : PlainFile)
-    → first_refused options file.goods (or_atoms_of file.bids) ≡ None → prints (outcome_within options refusal text file) ≡ true
-within_passes options refusal text file within = rw within refl
+-- a file within the limits is not refused
+passes : (task : Task) (options : SearchOptions) (file : PlainFile) → first_refused options file.goods (or_atoms_of file.bids) ≡ None
+    → prints (alone task options file) ≡ true
+passes Compare options file within = rw within refl
+passes task options file within = rw within refl
 
 module _ {S H F W E : Type 0} (content_of : S → H) (opened : S → Option (List Opening)) (may_open : List ℕ → F → Type 0)
     (may_refuse : List ℕ → Unopened → Type 0) (remaining : F → Option (List ℕ)) (may_find : List ℕ → Option (List (List ℕ)) → Type 0)
@@ -175,9 +178,45 @@ module _ {S H F W E : Type 0} (content_of : S → H) (opened : S → Option (Lis
   pair_told Compare ran =
       both_told content_of opened may_open may_refuse remaining may_find contents messages request Compare first second old new out out_after err err_left
       err_between err_after opens left left_after right right_after left_priced right_priced reports_left reports_right _ outcome_of_both (λ files. files)
-      (λ files given. given) (λ files given end printed. printed) (within_passes request.options _ _) sent status ran closes
+      (λ files given. given) (λ files given end printed. printed) (passes Compare request.options) sent status ran closes
   pair_told task ran =
       both_told content_of opened may_open may_refuse remaining may_find contents messages request task first second old new out out_after err err_left
       err_between err_after opens left left_after right right_after left_priced right_priced reports_left reports_right _ diff_outcome
       (λ compared. (compared.0, compared.1)) (λ compared given. given.given) (λ compared given end printed. (compared.2, given.all, printed))
-      (within_passes request.options _ _) sent status ran closes
+      (passes task request.options) sent status ran closes
+
+-- ---- a file that could not be opened
+
+-- the first of them, or the second, and then the first was opened and not read
+pub pair_unopened : {S H F W E : Type 0} (content_of : S → H) (opened : S → Option (List Opening)) (may_open : List ℕ → F → Type 0)
+    (may_refuse : List ℕ → Unopened → Type 0) (remaining : F → Option (List ℕ)) (may_find : List ℕ → Option (List (List ℕ)) → Type 0)
+    (contents : W → Option (List ℕ)) (messages : E → Option (List ℕ)) (request : PlainRequest) (task : Task) (first second : List ℕ) (old new : S)
+    (out : Watched W) (err err_after : Watched E) (status : ℕ) (error : RequestError)
+    → FailsPair content_of opened may_open may_refuse first second old new error → Closes messages (Err error) err err_after status
+    → Transcribes content_of opened contents messages (without_refusals Silent) (λ t. (t.list ≡ [])
+    × RunsTwo may_open may_refuse remaining may_find (new ≡ old) request task first second t) old new out out err err_after status
+pair_unopened content_of opened may_open may_refuse remaining may_find contents messages request task first second old new out err err_after status error
+    (inl fails) closes =
+      let refused = fails.1 in
+      let o : Opened = record { path = first; way = Anything; gave = Nothing (NotOpened refused.0); rounded = [] } in
+      few_told content_of opened may_open may_refuse remaining may_find contents messages request (AsFile remaining (alone task request.options))
+      (λ os. MeansTwo task (map (λ o. o.gave) os)) (first ∷ second ∷ []) (new ≡ old) old new out out err err err_after (o ∷ []) false
+      (stop (CannotOpen First)) None status ((refl, refl, inl (refused.0, refl, refl, inl refused.1)), tt) fails.2
+      (reports_one messages 0 1 o false err err refl refl) (refl, refl)
+      (refl, (err_after, (rw fails.0 at closes).0, refl), (rw fails.0 at closes).1)
+pair_unopened {F = F} content_of opened may_open may_refuse remaining may_find contents messages request task first second old new out err err_after status
+    error (inr fails) closes =
+      let refused = fails.1 in
+      let stream = fails.2 in
+      let input : PricedInput F = record { stream = stream.0; fine = request.prices; rounded = 0 } in
+      let one : Opened = record { path = first; way = Anything; gave = Unread; rounded = [] } in
+      let other : Opened = record { path = second; way = Anything; gave = Nothing (NotOpened refused.0); rounded = [] } in
+      few_told content_of opened may_open may_refuse remaining may_find contents messages request (AsFile remaining (alone task request.options))
+      (λ os. MeansTwo task (map (λ o. o.gave) os)) (first ∷ second ∷ []) (new ≡ old) old new out out err err err_after (one ∷ other ∷ []) false
+      (stop (CannotOpen Second)) None status
+      (
+        (refl, refl, inr (record { before = input; after = input; opened = record { opened = stream.1; fine = refl; unread = refl }; reads = (refl, refl) })),
+        ((refl, refl, inl (refused.0, refl, refl, inl refused.1)), tt),
+      ) fails.3
+      (false, false, err, refl, record { between = err; roundings = refl; loses = refl; others = refl }, reports_one messages 0 2 other false err err refl refl)
+      refl (refl, (err_after, (rw fails.0 at closes).0, refl), (rw fails.0 at closes).1)

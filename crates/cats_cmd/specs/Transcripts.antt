@@ -198,7 +198,7 @@ module _ {F : Type 0} (may_open : List ℕ → F → Type 0) (may_refuse : List 
 
   -- many, or memory is refused while folders are read
   abbrev pub RunsMany : List (List ℕ) → Transcript → Type 0
-  RunsMany files t = (Untouched × IsEnded t (stop (Run (Refused Only Memory))))
+  RunsMany files t = ((t.list ≡ [] → Untouched) × IsEnded t (stop (Run (Refused Only Memory))))
       ⊎ (AreFilesAt may_find files t.paths
       × Opens (AsFile remaining (naming_outcome request.options)) Regular t.paths t.openings × MeansMany request t t.end)
 

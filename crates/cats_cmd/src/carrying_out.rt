@@ -6,7 +6,7 @@ ghost use Rattle.cats_text.specs.Streams.{has_failed};
 ghost use Rattle.cats_cmd.specs.Inputs.{IsOpened, MayRefuse};
 ghost use Rattle.cats_cmd.specs.Internal.Carrying.{FailsToOpenPair, answer_of_run};
 ghost use Rattle.cats_cmd.specs.Opening.{Opens};
-ghost use Rattle.cats_cmd.specs.Internal.Transcribing.{Tells};
+ghost use Rattle.cats_cmd.specs.Internal.Transcribing.{FailsPair, Tells};
 ghost use Rattle.cats_cmd.specs.Transcripts.{RunsFile, RunsTwo};
 ghost use Rattle.cats_cmd.specs.Paths.{without_refusals};
 ghost use Rattle.cats_cmd.specs.declared.paths.Progress.TheVariants.{Silent};
@@ -236,6 +236,8 @@ fn open_both<S: Source>(
         × Opens S.content_of S.opened source.old source.new ((first.now, Anything) ∷ (second.now, Anything) ∷ [])) }
     ensures refused { IfErr result (λ error. FailsToOpenPair S.content_of S.opened (S.may_refuse (S.content_of source.old))
         first.now second.now source.old source.new error) }
+    ensures told { IfErr result (λ error. FailsPair S.content_of S.opened (S.may_open (S.content_of source.old))
+        (S.may_refuse (S.content_of source.old)) first.now second.now source.old source.new error) }
 {
     let left = open(source, first, Which::First)?;
     let right = open(source, second, Which::Second)?;

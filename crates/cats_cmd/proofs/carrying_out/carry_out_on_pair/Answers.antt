@@ -3,7 +3,8 @@ use Rattle.cats_cmd.proofs.Common.{Bool, ap, answer_if_lost, plain_request, Runs
 use Rattle.cats_cmd.proofs.CarryingOut.{carried, is_priced}
 use Rattle.cats_cmd.proofs.JudgingPaths.{reports_more}
 use Rattle.cats_cmd.proofs.Sending.{pair_run}
-use Rattle.cats_cmd.proofs.TranscribingPairs.{pair_told}
+use Rattle.cats_cmd.proofs.Transcribing.{closes_error}
+use Rattle.cats_cmd.proofs.TranscribingPairs.{pair_told, pair_unopened}
 use Rattle.cats_cmd.proofs.carrying_out.carry_out_on_pair.Goals as goal
 
 pub returns-clause-carries : goal.returns-clause-carries
@@ -44,3 +45,9 @@ returns-clause-told g c =
     (rw (c.as_bytes-2.ensures.value, c.rounded-2.ensures) at c.report_rounded-2.ensures) c.send_answer-sent.result status closes c.args.request.now.task
     (pair_run _ _ _ _ _ _ _ _ _ c.args.request.now.task c.args.request.now.options _ _ c.answer_on_pair-answer.result c.answer_on_pair-answer.ensures _
     c.send_answer-sent.ensures))
+
+pub returns-in_err-left-clause-told : goal.returns-in_err-left-clause-told
+returns-in_err-left-clause-told g c = λ err_after status closes.
+    pair_unopened _ _ (g.S.Source.may_open (g.S.Source.content_of c.args.source.now)) _ g.S.Stream.Read.remaining
+    (g.S.Source.may_find (g.S.Source.content_of c.args.source.now)) _ _ (plain_request c.args.request.now) c.args.request.now.task _ _ _ _ _ _ err_after status _
+    c.in_err-left.ensures.told (closes_error _ _ _ c.from_residual.ensures.1 _ err_after status closes)

@@ -2,7 +2,7 @@
 use Rattle.cats_cmd.proofs.Common.{Bool, ap, answer_if_lost, outcome_of, plain_request, RunsAt}
 use Rattle.cats_cmd.proofs.CarryingOut.{carried, is_priced}
 use Rattle.cats_cmd.proofs.Sending.{file_run}
-use Rattle.cats_cmd.proofs.Transcribing.{file_told}
+use Rattle.cats_cmd.proofs.Transcribing.{closes_error, file_told, file_unopened}
 use Rattle.cats_cmd.proofs.TranscriptLaws.{silent_end}
 use Rattle.cats_cmd.proofs.carrying_out.run_at.Goals as goal
 
@@ -33,3 +33,10 @@ returns-clause-told g c =
     (rw (c.as_bytes.ensures.value, c.rounded.ensures) at c.report_rounded.ensures) c.send_answer-sent.result status
     (file_run _ _ _ (outcome_of (plain_request request) c.args.bids.now) _ _ _ _ c.answer_on_file-answer.result c.answer_on_file-answer.ensures _
     c.send_answer-sent.ensures) closes)
+
+pub returns-in_err-stream-clause-told : goal.returns-in_err-stream-clause-told
+returns-in_err-stream-clause-told g c = λ err_after status closes.
+    let refused = c.in_err-stream.ensures.refused in
+    file_unopened _ _ (g.S.Source.may_open (g.S.Source.content_of c.args.source.now)) _ g.S.Stream.Read.remaining
+    (g.S.Source.may_find (g.S.Source.content_of c.args.source.now)) _ _ (plain_request c.args.request.now) c.args.file.now c.args.bids.now _ _ _ _ err_after
+    status refused.1 c.in_err-stream.ensures.opens (rw refused.0 at (closes_error _ _ _ c.from_residual.ensures.1 _ err_after status closes))
