@@ -83,12 +83,12 @@ no_answer : (fault : RunFault) (answer : Result ℕ RunFault) → answer ≡ Err
 no_answer fault answer failed answered = cc
 
 -- of a command on two files: if nothing may be reported, prices are read as they are written
-quiet_pair : (task : Task) (prices : Option FinePrices) → Two ≡ files_of task → reports task prices ≡ false → is_some prices ≡ false
+pub quiet_pair : (task : Task) (prices : Option FinePrices) → Two ≡ files_of task → reports task prices ≡ false → is_some prices ≡ false
 quiet_pair Compare prices two quiet = quiet
 quiet_pair Diff prices two quiet = quiet
 quiet_pair task prices two quiet = cc
 
-not_rounded : (prices : Option FinePrices) → is_some prices ≡ false → prices ≡ None
+pub not_rounded : (prices : Option FinePrices) → is_some prices ≡ false → prices ≡ None
 not_rounded None plain = refl
 not_rounded (Some fine) plain = cc
 

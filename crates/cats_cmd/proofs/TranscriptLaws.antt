@@ -2,19 +2,20 @@
 use Rattle.cats_cmd.proofs.Common.{◌≡◌, ◌≢◌, ◌≤◌, ◌∷◌, ◌∙◌, ◌⊎◌, ℕ, Bool, true, false, List, [], Option, Some, None, refl, sym, inl, inr, ap, arith, map}
 use Rattle.cats_cmd.proofs.Common.{PlainFile, PlainPlace, first_place, Watched, Outcome, finds, is_many, is_for_many_files, has_found, outcome_of}
 use Rattle.cats_cmd.proofs.Common.{outcome_of_place, PlainRequest, Files, One, Two, Many, Task, status_if_lost, Unopened, RequestError, CannotOpen, NotOpened}
-use Rattle.cats_cmd.proofs.Common.{first_difference, auction_from, both_ways, suc, AllByRecursion, FinePrices, Silent, without_refusals, rounding_lines}
+use Rattle.cats_cmd.proofs.Common.{first_difference, auction_from, both_ways, suc, AllByRecursion, FinePrices, Silent, without_refusals, rounding_lines, reports, Anything, PricedInput}
+use Rattle.requests.specs.Tasks.{files_of}
 use Rattle.std.specs.Option.{option_map_or}
 use Rattle.analysis.specs.BidNumbers.{bid_numbers}
 use Rattle.commands.specs.Outcomes.{LacksGood, compare_outcome, diff_outcome}
 use Rattle.requests.specs.declared.task.Task.TheVariants.{Fault, Round, Compare}
-use Rattle.cats_cmd.specs.TranscriptOpenings.{AFile, AsFile, AsText, AText, Gave, Nothing, GivesStream, RefusesToOpen, Unread, Wrong, WrongNumbers, no_lines}
+use Rattle.cats_cmd.specs.TranscriptOpenings.{AFile, AsFile, AsText, AText, Gave, Nothing, GivesStream, OpensFirst, RefusesToOpen, Unread, Wrong, WrongNumbers, WrongToFind, no_lines}
 use Rattle.cats_cmd.specs.TranscriptOpenings.{Opening as Opened}
 use Rattle.cats_cmd.specs.Transcripts.{End, Ends, GoesOn, MakesBoth, MeansOf, MeansOne, MeansTwo, Printed, ReportsFrom, RunsFile, RunsListed, RunsOne, RunsWith, Stop, Text}
-use Rattle.cats_cmd.specs.Transcripts.{Transcript, fine_of, stop}
+use Rattle.cats_cmd.specs.Transcripts.{Transcript, alone, fine_of, stop}
 use Rattle.rounding.specs.Texts.{rounded_text}
 use Rattle.canon.specs.declared.which.Which.TheVariants.{First, Second}
 use Rattle.cats_cmd.proofs.Common.{Run, Refused, Both, Memory}
-use Rattle.cats_cmd.proofs.AnswersOfRequests.{error_status_above}
+use Rattle.cats_cmd.proofs.AnswersOfRequests.{error_status_above, not_rounded, quiet_pair}
 use Rattle.cats_cmd.proofs.PricedInputs.{none_given}
 use Rattle.cats_cmd.proofs.AnswersShown.{command_printed, difference_printed, differences_printed, is_printed, printed}
 
@@ -109,6 +110,9 @@ silent_end contents messages task (Text own text) false None out out_after err e
 
 -- ---- reports
 
+abbrev AreFiles : List Opened → Type 0
+AreFiles os = AllByRecursion (λ o. (file : PlainFile) × (o.gave ≡ AFile file)) os
+
 abbrev IsQuiet : List Opened → Type 0
 IsQuiet os = AllByRecursion (λ o. o.rounded ≡ []) os
 
@@ -132,3 +136,88 @@ module _ {F : Type 0} (may_open : List ℕ → F → Type 0) (may_refuse : List 
   quiet_file outcome o file plain is (inl refused) = refused.2
   quiet_file outcome o file plain is (inr gives) =
       gives.reads.1 ∙ ap (rounding_lines o.path) (none_given remaining gives.before gives.after (gives.opened.fine ∙ plain) file (rw is at gives.reads.0).0)
+
+  quiet_texts : (Judges : Wrong) (file : List ℕ) (os : List Opened)
+      → OpensFirst may_open may_refuse prices (AsText remaining Judges no_lines) Anything (file ∷ []) os → IsQuiet os
+  quiet_texts Judges file [] opens = tt
+  quiet_texts Judges file (o ∷ []) opens = (quiet_text Judges o opens.0.2, tt)
+  quiet_texts Judges file (o ∷ p ∷ os) opens = absurd opens.1
+
+  quiet_files : (outcome : PlainFile → Outcome) (paths : List (List ℕ)) (os : List Opened) → prices ≡ None → AreFiles os
+      → OpensFirst may_open may_refuse prices (AsFile remaining outcome) Anything paths os → IsQuiet os
+  quiet_files outcome paths [] plain files opens = tt
+  quiet_files outcome [] (o ∷ os) plain files opens = absurd opens
+  quiet_files outcome (path ∷ paths) (o ∷ os) plain files opens =
+      (quiet_file outcome o files.0.0 plain files.0.1 opens.0.2, quiet_files outcome paths os plain files.1 opens.1)
+
+-- a text is made of files alone
+file_of_one : (outcome : PlainFile → Outcome) (gave : Gave) (own : ℕ) (text : List ℕ) → MeansOf outcome (λ bytes. LacksGood 0) gave (Text own text)
+    → (file : PlainFile) × (gave ≡ AFile file)
+file_of_one outcome (AFile file) own text means = (file, refl)
+file_of_one outcome (AText bytes) own text means = absurd means
+file_of_one outcome gave own text means = let is = means.2 in absurd (cc)
+
+files_of_one : (outcome : PlainFile → Outcome) (os : List Opened) (own : ℕ) (text : List ℕ) → MeansOne outcome (λ bytes. LacksGood 0) os (Text own text)
+    → AreFiles os
+files_of_one outcome (o ∷ []) own text means = (file_of_one outcome o.gave own text means, tt)
+files_of_one outcome os own text means = absurd means
+
+files_of_both : (task : Task) (one other : Gave) (own : ℕ) (text : List ℕ) → MeansTwo task (one ∷ other ∷ []) (Text own text)
+    → ((file : PlainFile) × (one ≡ AFile file)) × ((file : PlainFile) × (other ≡ AFile file))
+files_of_both task (AFile left) (AFile right) own text means = ((left, refl), (right, refl))
+files_of_both task (Nothing (NotOpened why)) other own text means = let is = means.1 in absurd (cc)
+files_of_both task Unread (Nothing (NotOpened why)) own text means = cc
+files_of_both task (AFile left) other own text means = let is = means.2 in absurd (cc)
+files_of_both task one Unread own text means = let is = means.2 in absurd (cc)
+files_of_both task one other own text means = absurd means
+
+no_text : (task : Task) (gave : Gave) (own : ℕ) (text : List ℕ) → MeansTwo task (gave ∷ []) (Text own text) → ⊥
+no_text task (Nothing (NotOpened why)) own text means = let is = means.1 in cc
+no_text task gave own text means = means
+
+module _ {F : Type 0} (may_open : List ℕ → F → Type 0) (may_refuse : List ℕ → Unopened → Type 0) (prices : Option FinePrices)
+    (Reads : PricedInput F → PricedInput F → Opened → Type 0) (first second : List ℕ) where
+  files_of_two : (task : Task) (os : List Opened) (own : ℕ) (text : List ℕ)
+      → OpensFirst may_open may_refuse prices Reads Anything (first ∷ second ∷ []) os → MeansTwo task (map (λ o. o.gave) os) (Text own text) → AreFiles os
+  files_of_two task [] own text opens means = absurd means
+  files_of_two task (o ∷ []) own text opens means = absurd (no_text task o.gave own text means)
+  files_of_two task (o ∷ p ∷ []) own text opens means = let both = files_of_both task o.gave p.gave own text means in (both.0, (both.1, tt))
+  files_of_two task (o ∷ p ∷ q ∷ os) own text opens means = absurd opens.1.1
+
+module _ {F : Type 0} (may_open : List ℕ → F → Type 0) (may_refuse : List ℕ → Unopened → Type 0) (remaining : F → Option (List ℕ))
+    (may_find : List ℕ → Option (List (List ℕ)) → Type 0) (Untouched : Type 0) (request : PlainRequest) (t : Transcript) (own : ℕ) (text : List ℕ)
+    (is : t.end ≡ Text own text) where
+  quiet_bids : (plain : request.prices ≡ None) (file bids : List ℕ) → RunsFile may_open may_refuse remaining may_find Untouched request file bids t
+      → IsQuiet t.reported
+  quiet_bids plain file bids ran =
+      rw ran.1 (quiet_files may_open may_refuse remaining request.prices (outcome_of request bids) (file ∷ []) t.openings plain
+      (files_of_one (outcome_of request bids) t.openings own text (rw is at ran.2)) ran.0)
+
+  quiet_goes : (plain : request.prices ≡ None) (file list : List ℕ) (gave : Gave)
+      → GoesOn may_open may_refuse remaining may_find Untouched request list
+      (OnFile may_open may_refuse remaining may_find Untouched request t file) gave t → IsQuiet t.reported
+  quiet_goes plain file list (AText bytes) ran = quiet_bids plain file (bid_numbers bytes) ran
+  quiet_goes plain file list gave ran = rw ran.2.1 tt
+
+  quiet_listed : (plain : request.prices ≡ None) (file : List ℕ) (list : Option (List ℕ)) (os : List Opened)
+      → RunsListed may_open may_refuse remaining may_find Untouched request WrongNumbers list
+      (OnFile may_open may_refuse remaining may_find Untouched request t file) os t → IsQuiet t.reported
+  quiet_listed plain file None [] ran = quiet_bids plain file request.bids ran
+  quiet_listed plain file (Some list) (o ∷ []) ran = quiet_goes plain file list o.gave ran.1
+  quiet_listed plain file list os ran = absurd ran
+
+  quiet_task : (task : Task) (file : List ℕ) → reports task request.prices ≡ false
+      → RunsOne may_open may_refuse remaining may_find Untouched request task file t → IsQuiet t.reported
+  quiet_task Fault file quiet ran = rw ran.1.1 (quiet_texts may_open may_refuse remaining request.prices WrongToFind file t.openings ran.1.0)
+  quiet_task Round file quiet ran = absurd (cc)
+  quiet_task task file quiet ran = quiet_listed (not_rounded request.prices quiet) file request.list t.list ran
+
+  pub quiet_run : (count : Files) (files : List (List ℕ)) → count ≡ files_of request.task → is_many count ≡ false → reports request.task request.prices ≡ false
+      → RunsWith may_open may_refuse remaining may_find Untouched request count files t → IsQuiet t.reported
+  quiet_run Many files so few quiet ran = absurd (cc)
+  quiet_run One (file ∷ []) so few quiet ran = quiet_task request.task file quiet ran
+  quiet_run Two (first ∷ second ∷ []) so few quiet ran =
+      rw ran.1.1 (quiet_files may_open may_refuse remaining request.prices (alone request.task request.options) (first ∷ second ∷ []) t.openings
+      (not_rounded request.prices (quiet_pair request.task request.prices so quiet))
+      (files_of_two may_open may_refuse request.prices _ first second request.task t.openings own text ran.1.0 (rw is at ran.1.2)) ran.1.0)
+  quiet_run count files so few quiet ran = rw ran.2.1 tt
