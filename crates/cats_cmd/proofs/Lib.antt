@@ -26,6 +26,7 @@ mod Tabling
 mod Transcribing
 mod TranscribingPairs
 mod TranscriptLaws
+mod TranscribingTexts
 mod RunsOfLists
 mod RunsOfPaths
 pub mod Common

@@ -3,7 +3,7 @@ use Rattle.cats_cmd.proofs.Common.{Bool, ap, answer_if_lost, outcome_of, plain_r
 use Rattle.cats_cmd.proofs.CarryingOut.{carried, is_priced}
 use Rattle.cats_cmd.proofs.Sending.{file_run}
 use Rattle.cats_cmd.proofs.Transcribing.{closes_error, file_told, file_unopened}
-use Rattle.cats_cmd.proofs.TranscriptLaws.{silent_end}
+use Rattle.cats_cmd.proofs.TranscribingTexts.{fault_told}
 use Rattle.cats_cmd.proofs.carrying_out.run_at.Goals as goal
 
 pub returns-clause-runs : goal.returns-clause-runs
