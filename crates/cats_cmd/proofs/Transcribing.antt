@@ -67,11 +67,11 @@ pub file_unopened : {S H F W E : Type 0} (content_of : S → H) (opened : S → 
     (λ t. (t.list ≡ []) × RunsFile may_open may_refuse remaining may_find (new ≡ old) request path bids t) old new out out err err_after status
 file_unopened content_of opened may_open may_refuse remaining may_find contents messages request path bids old new out err err_after status refused opens
     closes =
-      let o : Opened = record { path = path; way = Anything; gave = Nothing (NotOpened refused.0); rounded = [] } in
-      few_told content_of opened may_open may_refuse remaining may_find contents messages request (AsFile remaining (outcome_of request bids))
-      (MeansOne (outcome_of request bids) (λ bytes. LacksGood 0)) (path ∷ []) (new ≡ old) old new out out err err err_after (o ∷ []) false
-      (stop (CannotOpen Only)) None status ((refl, refl, inl (refused.0, refl, refl, inl refused.1)), tt) opens
-      (reports_one messages 0 1 o false err err refl refl) (NotOpened refused.0, refl, refl) (refl, (err_after, closes.0, refl), closes.1)
+    let o : Opened = record { path = path; way = Anything; gave = Nothing (NotOpened refused.0); rounded = [] } in
+    few_told content_of opened may_open may_refuse remaining may_find contents messages request (AsFile remaining (outcome_of request bids))
+    (MeansOne (outcome_of request bids) (λ bytes. LacksGood 0)) (path ∷ []) (new ≡ old) old new out out err err err_after (o ∷ []) false
+    (stop (CannotOpen Only)) None status ((refl, refl, inl (refused.0, refl, refl, inl refused.1)), tt) opens
+    (reports_one messages 0 1 o false err err refl refl) (NotOpened refused.0, refl, refl) (refl, (err_after, closes.0, refl), closes.1)
 
 module _ {S H F W E : Type 0} (content_of : S → H) (opened : S → Option (List Opening)) (may_open : List ℕ → F → Type 0)
     (may_refuse : List ℕ → Unopened → Type 0) (remaining : F → Option (List ℕ)) (may_find : List ℕ → Option (List (List ℕ)) → Type 0)

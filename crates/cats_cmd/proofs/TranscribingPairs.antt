@@ -90,15 +90,18 @@ module _ {S H F W E : Type 0} (content_of : S → H) (opened : S → Option (Lis
   told_as one other lost end written status left_given right_given loses means ends =
       few_told content_of opened may_open may_refuse remaining may_find contents messages request (AsFile remaining refusal)
       (λ os. MeansTwo task (map (λ o. o.gave) os)) (first ∷ second ∷ []) (new ≡ old) old new out out_after err err_between err_after
-      (at first left_after one ∷ at second right_after other ∷ []) lost end written status
-      (
+      (at first left_after one ∷ at second right_after other ∷ []) lost end written status (
         (refl, refl, inr (record { before = left; after = left_after; opened = left_priced; reads = (left_given, refl) })),
         ((refl, refl, inr (record { before = right; after = right_after; opened = right_priced; reads = (right_given, refl) })), tt),
-      ) opens
-      (lost_at one left_after err_left, lost_at other right_after err_between, err_left, loses,
-          record { between = err_left; roundings = reports_left; loses = some_lost first left_after.rounded one err_left; others = refl },
-          reports_one messages 0 2 (at second right_after other) (lost_at other right_after err_between) err_left err_between reports_right
-              (some_lost second right_after.rounded other err_between))
+      ) opens (
+        lost_at one left_after err_left,
+        lost_at other right_after err_between,
+        err_left,
+        loses,
+        record { between = err_left; roundings = reports_left; loses = some_lost first left_after.rounded one err_left; others = refl },
+        reports_one messages 0 2 (at second right_after other) (lost_at other right_after err_between) err_left err_between reports_right
+            (some_lost second right_after.rounded other err_between),
+      )
       means ends
 
   -- a fault of one of them or of both, which is then reported
@@ -197,26 +200,25 @@ pub pair_unopened : {S H F W E : Type 0} (content_of : S → H) (opened : S → 
     × RunsTwo may_open may_refuse remaining may_find (new ≡ old) request task first second t) old new out out err err_after status
 pair_unopened content_of opened may_open may_refuse remaining may_find contents messages request task first second old new out err err_after status error
     (inl fails) closes =
-      let refused = fails.1 in
-      let o : Opened = record { path = first; way = Anything; gave = Nothing (NotOpened refused.0); rounded = [] } in
-      few_told content_of opened may_open may_refuse remaining may_find contents messages request (AsFile remaining (alone task request.options))
-      (λ os. MeansTwo task (map (λ o. o.gave) os)) (first ∷ second ∷ []) (new ≡ old) old new out out err err err_after (o ∷ []) false
-      (stop (CannotOpen First)) None status ((refl, refl, inl (refused.0, refl, refl, inl refused.1)), tt) fails.2
-      (reports_one messages 0 1 o false err err refl refl) (refl, refl)
-      (refl, (err_after, (rw fails.0 at closes).0, refl), (rw fails.0 at closes).1)
+    let refused = fails.1 in
+    let o : Opened = record { path = first; way = Anything; gave = Nothing (NotOpened refused.0); rounded = [] } in
+    few_told content_of opened may_open may_refuse remaining may_find contents messages request (AsFile remaining (alone task request.options))
+    (λ os. MeansTwo task (map (λ o. o.gave) os)) (first ∷ second ∷ []) (new ≡ old) old new out out err err err_after (o ∷ []) false
+    (stop (CannotOpen First)) None status ((refl, refl, inl (refused.0, refl, refl, inl refused.1)), tt) fails.2
+    (reports_one messages 0 1 o false err err refl refl) (refl, refl)
+    (refl, (err_after, (rw fails.0 at closes).0, refl), (rw fails.0 at closes).1)
 pair_unopened {F = F} content_of opened may_open may_refuse remaining may_find contents messages request task first second old new out err err_after status
     error (inr fails) closes =
-      let refused = fails.1 in
-      let stream = fails.2 in
-      let input : PricedInput F = record { stream = stream.0; fine = request.prices; rounded = 0 } in
-      let one : Opened = record { path = first; way = Anything; gave = Unread; rounded = [] } in
-      let other : Opened = record { path = second; way = Anything; gave = Nothing (NotOpened refused.0); rounded = [] } in
-      few_told content_of opened may_open may_refuse remaining may_find contents messages request (AsFile remaining (alone task request.options))
-      (λ os. MeansTwo task (map (λ o. o.gave) os)) (first ∷ second ∷ []) (new ≡ old) old new out out err err err_after (one ∷ other ∷ []) false
-      (stop (CannotOpen Second)) None status
-      (
-        (refl, refl, inr (record { before = input; after = input; opened = record { opened = stream.1; fine = refl; unread = refl }; reads = (refl, refl) })),
-        ((refl, refl, inl (refused.0, refl, refl, inl refused.1)), tt),
-      ) fails.3
-      (false, false, err, refl, record { between = err; roundings = refl; loses = refl; others = refl }, reports_one messages 0 2 other false err err refl refl)
-      refl (refl, (err_after, (rw fails.0 at closes).0, refl), (rw fails.0 at closes).1)
+    let refused = fails.1 in
+    let stream = fails.2 in
+    let input : PricedInput F = record { stream = stream.0; fine = request.prices; rounded = 0 } in
+    let one : Opened = record { path = first; way = Anything; gave = Unread; rounded = [] } in
+    let other : Opened = record { path = second; way = Anything; gave = Nothing (NotOpened refused.0); rounded = [] } in
+    few_told content_of opened may_open may_refuse remaining may_find contents messages request (AsFile remaining (alone task request.options))
+    (λ os. MeansTwo task (map (λ o. o.gave) os)) (first ∷ second ∷ []) (new ≡ old) old new out out err err err_after (one ∷ other ∷ []) false
+    (stop (CannotOpen Second)) None status (
+      (refl, refl, inr (record { before = input; after = input; opened = record { opened = stream.1; fine = refl; unread = refl }; reads = (refl, refl) })),
+      ((refl, refl, inl (refused.0, refl, refl, inl refused.1)), tt),
+    ) fails.3
+    (false, false, err, refl, record { between = err; roundings = refl; loses = refl; others = refl }, reports_one messages 0 2 other false err err refl refl)
+    refl (refl, (err_after, (rw fails.0 at closes).0, refl), (rw fails.0 at closes).1)

@@ -41,13 +41,19 @@ module _ {S H F W E : Type 0} (content_of : S → H) (opened : S → Option (Lis
   fault_as gave end written status given means ends =
       let o : Opened = record { path = path; way = Anything; gave = gave; rounded = [] } in
       few_told content_of opened may_open may_refuse remaining may_find contents messages request (AsText remaining WrongToFind no_lines)
-      (MeansOne (outcome_of request []) (fault_outcome path)) (path ∷ []) (new ≡ old) old new out out_after err err err_after (o ∷ []) false end written status
-      ((refl, refl, inr (record {
-        before = input before;
-        after = input after;
-        opened = record { opened = is_open; fine = refl; unread = refl };
-        reads = (given, refl);
-      })), tt) opens (reports_one messages 0 1 o false err err refl (none_lost _ err)) means ends
+      (MeansOne (outcome_of request []) (fault_outcome path)) (path ∷ []) (new ≡ old) old new out out_after err err err_after (o ∷ []) false end written status (
+        (
+          refl,
+          refl,
+          inr (record {
+            before = input before;
+            after = input after;
+            opened = record { opened = is_open; fine = refl; unread = refl };
+            reads = (given, refl);
+          }),
+        ),
+        tt,
+      ) opens (reports_one messages 0 1 o false err err refl (none_lost _ err)) means ends
 
   unfound : (fault : CanonFault) → IsUnfound remaining contents path before after fault
       → GivesText remaining WrongToFind (input before) (input after) (Nothing (Run (Refused Only fault)))

@@ -249,16 +249,16 @@ module _ {S H W E : Type 0} (content_of : S → H) (opened : S → Option (List 
     (contents : W → Option (List ℕ)) (messages : E → Option (List ℕ)) (reporting : Reporting)
     (Runs : Transcript → Type 0) where
   pub record Transcribes (old new : S) (out out_after : Watched W) (err err_after : Watched E) (status : ℕ) : Type 0
-      where
-    pub transcript : Transcript
-    pub runs : Runs transcript
-    pub stays : content_of new ≡ content_of old
-    pub opens : opened new ≡ with_openings (opened old) (opened_paths (transcript.list ++ transcript.openings))
-    pub lost : Bool
-    pub between : Watched E
-    pub reports :
-        ReportsFrom messages reporting (length transcript.paths) 1 transcript.reported lost err between
-    pub ends : Ends contents messages transcript.end lost transcript.written out out_after between err_after status
+    where
+      pub transcript : Transcript
+      pub runs : Runs transcript
+      pub stays : content_of new ≡ content_of old
+      pub opens : opened new ≡ with_openings (opened old) (opened_paths (transcript.list ++ transcript.openings))
+      pub lost : Bool
+      pub between : Watched E
+      pub reports :
+          ReportsFrom messages reporting (length transcript.paths) 1 transcript.reported lost err between
+      pub ends : Ends contents messages transcript.end lost transcript.written out out_after between err_after status
 
 -- the run of a request
 module _ {S H F W E : Type 0} (content_of : S → H) (opened : S → Option (List (List ℕ × Way)))
