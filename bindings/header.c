@@ -49,7 +49,7 @@ int main(void) {
     expect(cats_duplicates(texts, 2, &out, &err), CATS_REFUSED, "", "1: line 4: NotANumber\n");
     expect(cats_duplicates(NULL, 0, &out, &err), CATS_DONE, "", "");
     expect(cats_sizes(texts + 1, 1, &out, &err), CATS_DONE,
-           "goods\tbids\tor\txor\tdummy\tkept\tkept_or\tkept_xor\tfault\tfile\n2\t2\t2\t0\t0\t2\t2\t0\t\t1\n", "");
+           "goods\tbids\tor_bids\txor_bidders\tdummies\tkept\tkept_or\tkept_xor\tfault\tfile\n2\t2\t2\t0\t0\t2\t2\t0\t\t1\n", "");
     cats_lp(text, &out, &err);
     wrong += out.needed < 9 || memcmp(space, "Maximize\n", 9) != 0;
 

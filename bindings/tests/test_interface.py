@@ -72,6 +72,14 @@ def test_another_interface(script, old, new):
         assert "--write" in found and is_storable
 
 
+def test_one_more_number(script):
+    """A number more at the end of an enum is stored as it is: programs that were compiled before go on."""
+    header = HEADER.replace("REFUSED };", "REFUSED, HEAVY };")
+    for names in (("0.2.0", "libcats.so.1"), ("0.3.0", "libcats.so.2")):
+        found, is_storable = script["judge"](header, *names, STORED)
+        assert header != HEADER and "--write" in found and is_storable
+
+
 def test_what_is_stored(script):
     """The interface of cats.h is."""
     assert script["wrong"]() == []

@@ -13,6 +13,8 @@ from yinchaku._tables import allocation_of, changes_of, differences_of, reasons_
 from yinchaku._texts import Rounding, TextOrPath, answer_on, bytes_of, limits_of, outputs_on, path_given, prices_of
 from yinchaku.errors import CatsError, NoSuchBid, NoSuchGood, RefusedText, StepLimit, error_of  # noqa: F401: for the examples
 
+__all__ = ["check", "show", "value", "revenue", "normalise", "explain", "round_prices", "lp", "compare", "diff", "duplicates", "sizes"]
+
 # Why a file cannot be opened, as the program prints it.
 REASONS = {FileNotFoundError: "no such file", PermissionError: "permission denied"}
 

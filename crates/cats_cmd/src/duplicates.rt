@@ -13,62 +13,8 @@ use cats_text::Watched;
 use commands::Input;
 use commands::faults::{RunFault, Unopened, name_bid};
 use lines::duplicates_text;
-use requests::help::{CommandHelp, FILES, TOTAL_STEPS};
 use std::alloc::{AllocError, Global};
 use std::io::Write;
-
-/// What `--help` prints of it.
-pub fn duplicates_help<'a>() -> CommandHelp<'a> {
-    CommandHelp {
-        name: "duplicates",
-        about: "Prints which of many bid files are the same auction",
-        arguments: &[("total-steps", TOTAL_STEPS), ("FILE", FILES)],
-        after: "\
-Prints the paths of the files that are one auction, each on a line, for each
-auction that two or more of them are, with an empty line between two auctions.
-For example:
-  $ cats duplicates examples/ladder.cats examples/ladder_rewritten.cats
-  examples/ladder.cats
-  examples/ladder_rewritten.cats
-
-With --all each other file that was judged is printed too, as an auction of one
-file.
-
-A folder is taken for all files below it, in the order of the bytes of their
-paths. Links, devices and FIFOs below it are left out. A folder below it that
-cannot be read is reported as a file that cannot be opened:
-  $ cats duplicates folder
-
-Only the files that 'find' finds, however many they are:
-  $ find folder -type f -name '*.cats' -print0 |
-      cats duplicates --files0-from /dev/stdin
-
-A control byte in a path is printed as \\n, \\t or \\x1b, with its two
-hexadecimal digits, and a backslash as \\\\. With -0 each path of the output is
-printed as it is, and each line ends with NUL.
-
-With --round a file whose prices were rounded is reported, as 'auction.txt:
-1288 prices rounded'.
-
-A file that is refused is reported at once, with its path before the fault, and
-the others go on. So is a list that cannot be read, and then no file is. With
---progress a line says how many files were read, after each hundred and at the
-end; on a terminal it is one line, which is replaced after each file. This
-command always uses the bounded search. A step is that of 'cats normalise
---bound'.
-
-Files that the step limit refuses are reported, and are printed too, behind the
-others, if no search is needed to find that they are one auction: they have the
-same goods, XOR bidders and OR bids, but for OR bids that a single other one
-replaces. So files with the same bids in another order are together. Even with
---all none of them is printed alone.
-
-Statuses: 0 if every file was judged, whether or not some are one auction; else
-the greatest status of those that were not: 2 for a file that is not a bid
-file, 3 for the step limit (use a greater --steps), 4, 5 and 64 as 'cats
---help' lists them",
-    }
-}
 
 /// Files in groups.
 #[derive(Drop)]

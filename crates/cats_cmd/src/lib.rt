@@ -28,7 +28,6 @@ pub mod worked;
 pub use canon::{CanonFault, Which};
 pub use commands::faults::RunFault;
 pub use commands::printed::{fault_line, status};
-pub use duplicates::duplicates_help;
 pub use one_file::{run_check, run_normalise, run_show, run_value};
 pub use program::run_cats;
 pub use two_files::run_compare;

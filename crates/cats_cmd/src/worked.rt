@@ -117,7 +117,7 @@ pub fn paths_escaped()
 pub fn table_rows()
     ensures numbers { sizes_of xor_ladder ≡ 2 ∷ 3 ∷ 1 ∷ 1 ∷ 1 ∷ [] }
     ensures no_bidders { counts_of larger_bid ≡ 3 ∷ 3 ∷ 0 ∷ [] }
-    ensures header { MakesTable Line [] (codes "goods\tbids\tor\txor\tdummy\tkept\tkept_or\tkept_xor\tfault\tfile\n") }
+    ensures header { MakesTable Line [] (codes "goods\tbids\tor_bids\txor_bidders\tdummies\tkept\tkept_or\tkept_xor\tfault\tfile\n") }
     ensures heavy { (goods : Vec ℕ Global) → goods.items ≡ 0 ∷ 1 ∷ 2 ∷ []
         → row Line (codes "a b") (IsHeavy larger_bid (record { number = 2; goods = goods; steps = 1000000; total = Some 5000000 }))
         ≡ codes "2\t3\t3\t0\t0\t\t\t\tstep limit of 1000000 (5000000 in all) at bid 2: 0,1,2\ta b\n" }

@@ -54,7 +54,7 @@ abbrev pub diff_text : PlainFile → PlainFile → PlainDifferences → List ℕ
 diff_text f g d = diff_header ++ goods_rows d.goods ++ flat_map (change_row (codes "or") f g None None) d.bundles
     ++ flat_map (bidder_rows f g) d.bidders
 
--- and of all differences
+-- the status of all differences
 abbrev pub status_of_differences : PlainDifferences → ℕ
 status_of_differences differences = if is_none_at_all differences then 0 else 1
 

@@ -22,13 +22,14 @@ count_or bids = length (filter (λ b. is_none b.dummy) bids)
 abbrev pub count_xor : ℕ → List PlainBid → ℕ
 count_xor dummy bids = length (filter (has_dummy bids) (range_with_len 0 dummy))
 
+-- a number of a file, with its title
 abbrev pub Number : Type 0
 Number = List ℕ × (PlainFile → ℕ)
 
 -- of a bid file
 abbrev pub file_numbers : List Number
-file_numbers = (codes "goods", λ f. f.goods) ∷ (codes "bids", λ f. length f.bids) ∷ (codes "or", λ f. count_or f.bids)
-    ∷ (codes "xor", λ f. count_xor f.dummy f.bids) ∷ (codes "dummy", λ f. f.dummy) ∷ []
+file_numbers = (codes "goods", λ f. f.goods) ∷ (codes "bids", λ f. length f.bids) ∷ (codes "or_bids", λ f. count_or f.bids)
+    ∷ (codes "xor_bidders", λ f. count_xor f.dummy f.bids) ∷ (codes "dummies", λ f. f.dummy) ∷ []
 
 -- of its canonical file
 abbrev pub canonical_numbers : List Number

@@ -6,20 +6,35 @@ ghost use Rattle.commands.specs.Pairs.{CommandsOnBoth};
 ghost use Rattle.requests.specs.Requests.{plain_request};
 
 use crate::answer::Answer;
-use crate::check::check;
-use crate::compare::compare;
-use crate::diff::diff;
-use crate::explain::explain;
 use crate::faults::RunFault;
 use crate::input::Input;
-use crate::lp::lp;
-use crate::normalise::normalise;
-use crate::revenue::revenue;
-use crate::show::show;
-use crate::value::value;
+use crate::{
+    check, compare, diff, duplicates, explain, fault, lp, normalise, revenue, round, show, sizes,
+    value,
+};
+use requests::help::CommandHelp;
 use requests::request::Request;
 use requests::task::Task;
 use std::alloc::Global;
+
+/// What `--help` prints of a command.
+pub fn help_of<'a>(task: Task) -> CommandHelp<'a> {
+    match task {
+        Task::Check => check::help(),
+        Task::Fault => fault::help(),
+        Task::Show => show::help(),
+        Task::Value => value::help(),
+        Task::Revenue => revenue::help(),
+        Task::Normalise => normalise::help(),
+        Task::Explain => explain::help(),
+        Task::Round => round::help(),
+        Task::Lp => lp::help(),
+        Task::Compare => compare::help(),
+        Task::Diff => diff::help(),
+        Task::Duplicates => duplicates::help(),
+        Task::Sizes => sizes::help(),
+    }
+}
 
 /// What the command of a request on one bid file makes of the file that an input gives. `bids` are those that the request
 /// names, or that its list has.
@@ -33,13 +48,18 @@ pub fn answer_on_file<I: Input>(
     ensures { Commands I.gives I.refuses (outcome_of (plain_request request.now) bids.now) input.old input.new result }
 {
     match request.task {
-        Task::Check => check(alloc, input),
-        Task::Show => show(alloc, input),
-        Task::Value => value(alloc, input, request.goods.as_slice(), request.options),
-        Task::Revenue => revenue(alloc, input, bids),
-        Task::Normalise => normalise(alloc, input, request.options),
-        Task::Explain => explain(alloc, input, request.options.each, request.options.total),
-        _ => lp(alloc, input),
+        Task::Check => check::check(alloc, input),
+        Task::Show => show::show(alloc, input),
+        Task::Value => value::value(alloc, input, request.goods.as_slice(), request.options),
+        Task::Revenue => revenue::revenue(alloc, input, bids),
+        Task::Normalise => normalise::normalise(alloc, input, request.options),
+        Task::Explain => explain::explain(
+            alloc,
+            input,
+            request.options.each,
+            request.options.total,
+        ),
+        _ => lp::lp(alloc, input),
     }
 }
 
@@ -57,7 +77,7 @@ pub fn answer_on_pair<I: Input, J: Input>(
         second.new result }
 {
     match request.task {
-        Task::Compare => compare(alloc, first, second, request.options),
-        _ => diff(alloc, first, second, request.options),
+        Task::Compare => compare::compare(alloc, first, second, request.options),
+        _ => diff::diff(alloc, first, second, request.options),
     }
 }

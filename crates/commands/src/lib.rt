@@ -6,6 +6,7 @@ pub mod check;
 pub mod command;
 pub mod compare;
 pub mod diff;
+pub mod duplicates;
 pub mod explain;
 pub mod fault;
 pub mod faults;

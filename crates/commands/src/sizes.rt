@@ -33,13 +33,13 @@ pub fn help<'a>() -> CommandHelp<'a> {
 Prints a header and a row for each file, in the order given, with tabs between
 the cells. For example:
   $ cats sizes examples/ladder.cats examples/two_bids.cats
-  goods\tbids\tor\txor\tdummy\tkept\tkept_or\tkept_xor\tfault\tfile
+  goods\tbids\tor_bids\txor_bidders\tdummies\tkept\tkept_or\tkept_xor\tfault\tfile
   2\t5\t3\t1\t1\t3\t2\t1\t\texamples/ladder.cats
   3\t2\t1\t1\t1\t2\t1\t1\t\texamples/two_bids.cats
 
-  goods, bids, dummy       as in the file
-  or                       bids without a dummy good
-  xor                      dummy goods that some bid has
+  goods, bids, dummies     as in the file
+  or_bids                  bids without a dummy good
+  xor_bidders              dummy goods that some bid has
   kept, kept_or, kept_xor  bids, OR bids and XOR bidders of the canonical file
   fault                    why the file is refused; empty if it is not
 

@@ -104,9 +104,9 @@ fn help_prints_texts(
 
 #[test]
 fn help_texts(rt: HostRuntime) -> Result<(), Fail> {
-    let help = all_help();
+    let help = all_help(rt.alloc())?;
     for command in &help {
-        let printed = help_prints_texts(rt.alloc(), &help, command)?;
+        let printed = help_prints_texts(rt.alloc(), help.as_slice(), command)?;
         assert!(rt; printed, "of {}", command.name);
     }
     Ok(())

@@ -66,7 +66,7 @@ fn fails_in(
 
 #[test]
 fn inputs_fail(rt: HostRuntime) -> Result<(), Fail> {
-    for (name, words, _, _) in &COMMANDS {
+    for (name, words, _, _) in COMMANDS {
         for prefix in prefixes(words) {
             for (text, failure, faulty_from) in &[
                 (TEXT, ErrorKind::BrokenPipe, usize::MAX),
@@ -83,7 +83,7 @@ fn inputs_fail(rt: HostRuntime) -> Result<(), Fail> {
 
 #[test]
 fn a_byte_a_call(rt: HostRuntime) -> Result<(), Fail> {
-    for (name, words, sent, _) in &COMMANDS {
+    for (name, words, sent, _) in COMMANDS {
         for prefix in prefixes(words) {
             let input = StepReader::new(TEXT.as_bytes(), 1, None);
             let out = writer(rt.alloc(), 1, CAPACITY);
@@ -115,7 +115,7 @@ fn cut_off(
 
 #[test]
 fn outputs_fail(rt: HostRuntime) -> Result<(), Fail> {
-    for (name, words, sent, _) in &COMMANDS {
+    for (name, words, sent, _) in COMMANDS {
         for prefix in prefixes(words) {
             cut_off(&rt, (*name, *words, *prefix), sent)?;
         }

@@ -4,7 +4,7 @@ use std::alloc::{AllocError, Global};
 
 /// A command's name, the words behind it, what it prints of a file as `TEXT` is, and what with `--round` of one as
 /// `FINE` is. FILE is the path of the file; of two files, OTHER is that of the second, which is the same auction.
-pub(super) static COMMANDS: [(&str, &str, &str, &str); 9] = [
+pub(super) static COMMANDS: &[(&str, &str, &str, &str)] = &[
     (
         "check",
         "FILE",

@@ -374,7 +374,7 @@ fn answers_of_each(
 fn each_command(rt: HostRuntime) -> Result<(), Fail> {
     let path = new_file(&rt, "each", LARGER_BID)?;
     let missing = new_file(&rt, "missing", MISSING)?;
-    for command in &COMMANDS {
+    for command in COMMANDS {
         answers_of_each(&rt, &rt, *command, path.as_str(), missing.as_str())?;
     }
     fs::remove_file(&rt, path.as_str())?;

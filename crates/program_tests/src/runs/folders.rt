@@ -45,7 +45,7 @@ static ROWS: [Row; 9] = [
     ),
     (
         "cats sizes @/a",
-        "goods\tbids\tor\txor\tdummy\tkept\tkept_or\tkept_xor\tfault\tfile\n\
+        "goods\tbids\tor_bids\txor_bidders\tdummies\tkept\tkept_or\tkept_xor\tfault\tfile\n\
 1\t1\t1\t0\t0\t1\t1\t0\t\t@/a/y/x\n1\t1\t1\t0\t0\t1\t1\t0\t\t@/a/z\n",
         "",
     ),

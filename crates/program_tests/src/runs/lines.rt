@@ -198,7 +198,7 @@ fn each_line_is_one_write(rt: HostRuntime) -> Result<(), Fail> {
     for (words, terminal, expected) in &ROWS {
         expect_writes(&rt, words, *terminal, expected)?;
     }
-    for (name, words, _, _) in &COMMANDS {
+    for (name, words, _, _) in COMMANDS {
         let prefix = prefixes(words).first().copied().unwrap_or("");
         let line = format!(in rt.alloc(); "cats {name} {words}")?;
         let words = words_of(rt.alloc(), line.as_str(), "bad", "bad")?;

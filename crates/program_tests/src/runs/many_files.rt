@@ -20,14 +20,14 @@ static ROWS: [Row<'static>; 23] = [
     (
         &["cats", "sizes", "same", "bidders", "same"],
         0,
-        "goods\tbids\tor\txor\tdummy\tkept\tkept_or\tkept_xor\tfault\tfile\n1\t2\t2\t0\t0\t1\t1\t0\t\tsame\n\
+        "goods\tbids\tor_bids\txor_bidders\tdummies\tkept\tkept_or\tkept_xor\tfault\tfile\n1\t2\t2\t0\t0\t1\t1\t0\t\tsame\n\
 2\t4\t1\t2\t3\t4\t1\t2\t\tbidders\n1\t2\t2\t0\t0\t1\t1\t0\t\tsame\n",
         "",
     ),
     (
         &["cats", "sizes", "--steps", "2", "bad", "sum", "one"],
         3,
-        "goods\tbids\tor\txor\tdummy\tkept\tkept_or\tkept_xor\tfault\tfile\n\
+        "goods\tbids\tor_bids\txor_bidders\tdummies\tkept\tkept_or\tkept_xor\tfault\tfile\n\
 \t\t\t\t\t\t\t\tline 2: Missing\tbad\n2\t3\t3\t0\t0\t\t\t\t\
 step limit of 2 at bid 2: 0,1\tsum\n\
 1\t1\t1\t0\t0\t1\t1\t0\t\tone\n",
@@ -36,7 +36,7 @@ step limit of 2 at bid 2: 0,1\tsum\n\
     (
         &["cats", "sizes", "none", "--progress"],
         5,
-        "goods\tbids\tor\txor\tdummy\tkept\tkept_or\tkept_xor\tfault\tfile\n\
+        "goods\tbids\tor_bids\txor_bidders\tdummies\tkept\tkept_or\tkept_xor\tfault\tfile\n\
 \t\t\t\t\t\t\t\tcannot open: no such file\tnone\n",
         "1 of 1 none\n",
     ),
@@ -50,7 +50,7 @@ step limit of 2 at bid 2: 0,1\tsum\n\
     (
         &["cats", "sizes", "--null", "same", "none", "one"],
         5,
-        "goods\tbids\tor\txor\tdummy\tkept\tkept_or\tkept_xor\tfault\tfile\0\
+        "goods\tbids\tor_bids\txor_bidders\tdummies\tkept\tkept_or\tkept_xor\tfault\tfile\0\
 1\t2\t2\t0\t0\t1\t1\t0\t\tsame\0\t\t\t\t\t\t\t\tcannot open: no such file\tnone\0\
 1\t1\t1\t0\t0\t1\t1\t0\t\tone\0",
         "",
@@ -60,7 +60,7 @@ step limit of 2 at bid 2: 0,1\tsum\n\
     (
         &["cats", "sizes", "folder", "fifo", "one", "secret", "broken"],
         5,
-        "goods\tbids\tor\txor\tdummy\tkept\tkept_or\tkept_xor\tfault\tfile\n\
+        "goods\tbids\tor_bids\txor_bidders\tdummies\tkept\tkept_or\tkept_xor\tfault\tfile\n\
 \t\t\t\t\t\t\t\tcannot open: is a folder\tfolder\n\t\t\t\t\t\t\t\tcannot open: not a file\tfifo\n\
 1\t1\t1\t0\t0\t1\t1\t0\t\tone\n\
 \t\t\t\t\t\t\t\tcannot open: permission denied\tsecret\n\t\t\t\t\t\t\t\tcannot open\tbroken\n",
@@ -135,13 +135,13 @@ none: cannot open: no such file\nbroken: cannot open\n",
     (
         &["cats", "sizes", "--files0-from", "empty list"],
         0,
-        "goods\tbids\tor\txor\tdummy\tkept\tkept_or\tkept_xor\tfault\tfile\n",
+        "goods\tbids\tor_bids\txor_bidders\tdummies\tkept\tkept_or\tkept_xor\tfault\tfile\n",
         "",
     ),
     (
         &["cats", "sizes", "--files0-from", "list with a path twice"],
         0,
-        "goods\tbids\tor\txor\tdummy\tkept\tkept_or\tkept_xor\tfault\tfile\n1\t2\t2\t0\t0\t1\t1\t0\t\tsame\n\
+        "goods\tbids\tor_bids\txor_bidders\tdummies\tkept\tkept_or\tkept_xor\tfault\tfile\n1\t2\t2\t0\t0\t1\t1\t0\t\tsame\n\
 1\t1\t1\t0\t0\t1\t1\t0\t\tother\n1\t2\t2\t0\t0\t1\t1\t0\t\tsame\n",
         "",
     ),
@@ -196,7 +196,7 @@ static TERMINAL_ROWS: [Row<'static>; 4] = [
     (
         &["cats", "sizes", "--progress", "bad"],
         2,
-        "goods\tbids\tor\txor\tdummy\tkept\tkept_or\tkept_xor\tfault\tfile\n\
+        "goods\tbids\tor_bids\txor_bidders\tdummies\tkept\tkept_or\tkept_xor\tfault\tfile\n\
 \t\t\t\t\t\t\t\tline 2: Missing\tbad\n",
         "1 of 1\n",
     ),

@@ -84,7 +84,7 @@ fn each_path_is_opened_once(rt: HostRuntime) -> Result<(), Fail> {
     for (words, status, openings) in &OPENINGS {
         opens(&rt, words, *status, openings)?;
     }
-    for (name, words, _, _) in &COMMANDS {
+    for (name, words, _, _) in COMMANDS {
         let line = format!(in rt.alloc(); "cats {name} {words}")?;
         let line = words_of(rt.alloc(), line.as_str(), "sum", "sum")?;
         let openings = match prefixes(words).len() {

@@ -89,7 +89,7 @@ fn usage_faults(rt: HostRuntime) -> Result<(), Fail> {
     for line in &WRONG_LINES {
         expect_wrong(&rt, &rt, line)?;
     }
-    for (name, words, _, _) in &COMMANDS {
+    for (name, words, _, _) in COMMANDS {
         for line in &[
             format!(in rt.alloc(); "cats {name}")?,
             format!(in rt.alloc(); "cats {name} --steps 0 {words}")?,
@@ -127,7 +127,7 @@ fn help(rt: HostRuntime) -> Result<(), Fail> {
     for line in &HELP_LINES {
         expect_help(&rt, &rt, line)?;
     }
-    for (name, _, _, _) in &COMMANDS {
+    for (name, _, _, _) in COMMANDS {
         let line = format!(in rt.alloc(); "cats {name} --help")?;
         expect_help(&rt, &rt, line.as_str())?;
     }

@@ -39,7 +39,7 @@ static ROWS: [Row<'static>; 28] = [
     (
         &["cats", "sizes", "--round", "fine", "twin"],
         0,
-        "goods\tbids\tor\txor\tdummy\tkept\tkept_or\tkept_xor\tfault\tfile\n\
+        "goods\tbids\tor_bids\txor_bidders\tdummies\tkept\tkept_or\tkept_xor\tfault\tfile\n\
         2\t3\t2\t1\t1\t3\t2\t1\t\tfine\n2\t3\t2\t1\t4\t3\t2\t1\t\ttwin\n",
         "fine: 2 prices rounded\ntwin: 1 price rounded\n",
     ),
@@ -109,7 +109,7 @@ static ROWS: [Row<'static>; 28] = [
     (
         &["cats", "sizes", "--round-exact", "twin"],
         2,
-        "goods\tbids\tor\txor\tdummy\tkept\tkept_or\tkept_xor\tfault\tfile\n\
+        "goods\tbids\tor_bids\txor_bidders\tdummies\tkept\tkept_or\tkept_xor\tfault\tfile\n\
         \t\t\t\t\t\t\t\tline 6: TooFine\ttwin\n",
         "",
     ),
@@ -188,7 +188,7 @@ static ROWS: [Row<'static>; 28] = [
     (
         &["cats", "sizes", "--round", "--steps", "2", "sum", "bad"],
         3,
-        "goods\tbids\tor\txor\tdummy\tkept\tkept_or\tkept_xor\tfault\tfile\n\
+        "goods\tbids\tor_bids\txor_bidders\tdummies\tkept\tkept_or\tkept_xor\tfault\tfile\n\
         2\t3\t3\t0\t0\t\t\t\tstep limit of 2 at bid 2: 0,1\tsum\n\t\t\t\t\t\t\t\tline 2: Missing\tbad\n",
         "sum: 1 price rounded\n",
     ),
@@ -262,7 +262,7 @@ fn each_command(rt: HostRuntime) -> Result<(), Fail> {
     let alloc = rt.alloc();
     let fine = "fine: 2 prices rounded\n";
     let twin = "twin: 1 price rounded\n";
-    for (name, words, _, printed) in &COMMANDS {
+    for (name, words, _, printed) in COMMANDS {
         let line = format!(in alloc; "cats {name} --round {words}")?;
         let there = words_of(alloc, line.as_str(), "fine", "twin")?;
         if prefixes(words).len() == 1 {
