@@ -68,7 +68,7 @@ def is_word_at(text, error):
 def printed_fault(error):
     if error is None:
         return Answer(0, b"")
-    return Answer(2, f"text:{error.line}:{error.word}: {error.kind}\n{error.hint}\n".replace("`round=True`", "`cats round`").encode())
+    return Answer(2, f"text:{error.line}:{error.word}: {error.kind}\n{error.hint}\n".replace("`round=True`", "`--round`").encode())
 
 
 def printed_revenue(found):

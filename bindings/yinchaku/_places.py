@@ -12,7 +12,7 @@ from yinchaku.errors import NO_PLACE, Place, error_of
 PLACE = re.compile(rb"1:(\d+):(\d+): .*\n(.*)\n")
 
 # What a hint says of the program, and what it says here.
-PROGRAM, PACKAGE = "`cats round`", "`round=True`"
+PROGRAM, PACKAGE = "`--round`", "`round=True`"
 
 # The words that are read in the place of a price that cannot be rounded, by the kind of its fault.
 FAULTY = {b"TooLarge": b"1000000000001", b"TooFine": b"0.0000001"}

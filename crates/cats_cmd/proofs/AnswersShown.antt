@@ -7,9 +7,10 @@ use Rattle.cats_cmd.proofs.Common.{list_cell, number_cell, price_cell, Outcome, 
 use Rattle.cats_cmd.proofs.Common.{text_unless_refused, value_text, PlainBid, PlainFile, Difference, NoDifference, Side, Exactly, PlainPlace, behind_point}
 use Rattle.cats_cmd.proofs.Common.{bids_text, digit_at, places_text, six_digits, with_place, without_zeros, Kind, PlainDifferences, PlainReason, Zero}
 use Rattle.cats_cmd.proofs.Common.{allocation_text, AllocationVerdict, Revenue, PlainRow, if_none, AreBytes, escaped, text_of_place, outcome_by, outcome_of}
-use Rattle.cats_cmd.proofs.Common.{PlainRequest}
+use Rattle.cats_cmd.proofs.Common.{PlainRequest, Hint, first_hint, hint_of, option_map_or, rows_of, sentence}
 use Rattle.cats_cmd.proofs.Common.{Task, append_assoc, codes, decimal, Option, Some, None}
 use Rattle.cats_text.specs.declared.read_fault.Kind.TheVariants as kinds
+use Rattle.commands.specs.declared.fault.rows.Hint.TheVariants as hints
 use Rattle.requests.specs.declared.task.Task.TheVariants.{Check}
 use Rattle.cats_cmd.proofs.PrintableTexts.{bytes_from, of_each}
 use Rattle.cats_cmd.proofs.ShownTexts.{Ours, Shown, is_ours, number_ours, ours, path_shown, then}
@@ -84,9 +85,20 @@ text_if_none (row ∷ rows) text is = refl
 ruleset texts = (pieces, bid_lines, side, reason, goods_if_any, text_if_none)
 
 -- of `cats fault`
-hint : (kind : Kind) → Ours (hint_of_kind kind)
-hint kinds.Header = refl
-hint kind = refl
+hint_by_kind : (kind : Kind) → Ours (hint_of_kind kind)
+hint_by_kind kinds.Header = refl
+hint_by_kind kind = refl
+
+hint_by_row : (h : Hint) → Ours (sentence h)
+hint_by_row hints.Gzip = refl
+hint_by_row h = refl
+
+hint_of_either : (found : Option Hint) (other : List ℕ) → Ours other → Ours (option_map_or sentence found other)
+hint_of_either None other is = is
+hint_of_either (Some h) other is = hint_by_row h
+
+hint : (place : PlainPlace) → Ours (hint_of place)
+hint place = hint_of_either (first_hint (rows_of place.kind) place) (hint_of_kind place.kind) (hint_by_kind place.kind)
 
 name : (kind : Kind) → Ours (name_of_kind kind)
 name kinds.Header = refl
@@ -168,7 +180,9 @@ place_shown path place bytes word =
     let shown = shown_bytes place.text in
     let front : List ℕ = codes ":" ++ decimal place.line ++ codes ":" ++ decimal place.word ++ codes ": " ++ name_of_kind place.kind
     ++ before_word place.text in
-    let back : List ℕ = behind_word place.text ++ codes "\n" ++ hint_of_kind place.kind ++ codes "\n" in
-    let same : ((escaped path ++ front) ++ escaped shown) ++ back ≡ text_of_place path place = simp append_assoc in
-    subst Shown same (then (then (then (path_shown path (bytes_from path bytes)) (ours front (simp (pieces, name, before))))
-    (path_shown shown (bytes_from shown (All-take (λ b. b < 256) 60 place.text word)))) (ours back (simp (pieces, hint))))
+    let back : List ℕ = behind_word place.text ++ codes "\n" in
+    let end : List ℕ = codes "\n" in
+    let same : ((((escaped path ++ front) ++ escaped shown) ++ back) ++ hint_of place) ++ end ≡ text_of_place path place = simp append_assoc in
+    subst Shown same (then (then (then (then (then (path_shown path (bytes_from path bytes)) (ours front (simp (pieces, name, before))))
+    (path_shown shown (bytes_from shown (All-take (λ b. b < 256) 60 place.text word)))) (ours back (simp pieces)))
+    (ours (hint_of place) (hint place))) (ours end refl))

@@ -90,7 +90,9 @@ pub use Rattle.commands.specs.Commands.{Commands, text_of}
 pub use Rattle.commands.specs.Compare.{difference_text, side_text}
 pub use Rattle.commands.specs.Diff.{diff_text, goods_rows}
 pub use Rattle.commands.specs.Explain.{explanation_text, reason_cells}
-pub use Rattle.commands.specs.Fault.{hint_of_kind}
+pub use Rattle.commands.specs.Fault.{hint_of, hint_of_kind}
+pub use Rattle.commands.specs.Hints.{first_hint, rows_of, sentence}
+pub use Rattle.commands.specs.declared.fault.rows.Hint.{Hint}
 pub use Rattle.commands.specs.FaultLines.{line_of_fault, prefix_of, text_of_canon_fault, text_of_heavy_bid, text_of_kind, text_of_unopened, total_text}
 pub use Rattle.commands.specs.Judgements.{Judgement, IsHeavy, IsJudged, IsUnjudged, JudgesInput, fault_judged}
 pub use Rattle.commands.specs.Fault.{before_word, behind_word, shown_bytes}
@@ -163,7 +165,7 @@ pub use Rattle.std.specs.Io.KnownBytes.{Consumes, Appends}
 pub use Rattle.std.specs.List.{list_all, starts_with, flat_map, AllByRecursion, AllZip, range_with_len, slice_split, All, ends_with}
 pub use Rattle.std.specs.List.Retain.{IsFiltered, DiffersFromLast}
 pub use Rattle.std.specs.List.Sorted.{IsSorted}
-pub use Rattle.std.specs.Option.{MatchOption, option_map}
+pub use Rattle.std.specs.Option.{MatchOption, option_map, option_map_or}
 pub use Rattle.std.specs.Ordering.{nat_cmp}
 pub use Rattle.std.specs.declared.cmp.Ordering.{Ordering}
 pub use Rattle.std.specs.declared.cmp.Ordering.TheVariants.{Less}

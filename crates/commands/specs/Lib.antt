@@ -14,6 +14,7 @@ pub mod Normalise
 pub mod Explain
 pub mod Compare
 pub mod Diff
+pub mod Hints
 pub mod Fault
 pub mod Round
 pub mod Inputs

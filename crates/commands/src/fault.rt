@@ -10,10 +10,19 @@ ghost use Rattle.std.specs.List.{list_all};
 ghost use Rattle.cats_text.specs.Examples.{place};
 ghost use Rattle.std.specs.Prelude.{◌≡◌, IfOk};
 ghost use Rattle.cats_text.specs.Views.{plain_place};
-ghost use Rattle.commands.specs.Fault.{hint_of_kind};
+ghost use Rattle.commands.specs.Fault.{hint_of, hint_of_kind};
 ghost use Rattle.commands.specs.Fault.{before_word, behind_word, place_text, shown_bytes};
 ghost use Rattle.commands.specs.Pieces.{text_of_pieces};
 
+mod finding;
+mod fitting;
+mod rows;
+mod sentences;
+mod tables;
+pub mod worked;
+
+use self::finding::find_hint;
+use self::sentences::sentence;
 use crate::printed::pieces::{Piece, text_of};
 use crate::printed::report::kind_name;
 use cats_text::Kind;
@@ -33,7 +42,7 @@ with its kind and the word itself; and what helps. Lines and words are counted
 from 1. 'cats --help' lists the kinds. For example:
   $ cats fault auction.txt
   auction.txt:8:2: TooFine: 0.0123456
-  a price has at most six places after the point; `cats round` rounds it
+  a price has at most six places after the point; `--round` rounds it
 
 If the file is a bid file, nothing is printed.
 
@@ -53,7 +62,7 @@ const EXTRA_BID: &str =
     "the line `bids N` says how many bid lines there are; correct it, or remove the line";
 
 const MISSING: &str =
-    "there are three header lines, and as many bid lines as `bids` says; add lines, or correct `bids`";
+    "the file seems cut: compare its length with the original; only if it is whole, correct `bids`";
 
 const TOO_LONG: &str =
     "a file has at most 2147483648 bytes; remove comments, or bids that are not needed";
@@ -113,43 +122,51 @@ fn place_pieces<'a>(path: &'a [u8], word: &'a [u8], place: &FaultPlace<'_>) -> [
         Piece::Text(word),
         Piece::Text(behind_word(place.text)),
         Piece::Text(b"\n"),
-        Piece::Text(hint(place.kind).as_bytes()),
+        Piece::Text(hint(place).as_bytes()),
         Piece::Text(b"\n"),
     ]
 }
 
+/// What helps at a place.
+fn hint(place: &FaultPlace<'_>) -> &'static str
+    ensures { result.now ≡ hint_of (plain_place place.now) }
+{
+    match find_hint(place) {
+        Some(hint) => sentence(hint),
+        None => hint_of_kind(place.kind),
+    }
+}
+
 /// The rule of a kind, and what to do about its fault.
-fn hint(kind: Kind) -> &'static str
+fn hint_of_kind(kind: Kind) -> &'static str
     ensures { result.now ≡ hint_of_kind kind }
 {
     match kind {
         Kind::Header => HEADER,
         Kind::NotANumber => {
-            "a number has digits alone, a price digits around its point; `cats round` rewrites exponents"
+            "a number has digits alone, and a price digits alone or digits around one point"
         }
         Kind::TooLarge => {
-            "at most 4096 goods, 65536 bids, 65536 dummy goods, prices up to 10^12; divide all prices"
+            "prices go up to 10^12: divide all by one power of ten; `bids` and `dummy` go up to 65536"
         }
         Kind::ExtraBid => EXTRA_BID,
         Kind::BidNumber => {
             "bids are numbered from 0, below the number that `bids` says; number the bids anew"
         }
         Kind::RepeatedNumber => "each bid line has a number of its own; number the bids anew",
-        Kind::TooFine => "a price has at most six places after the point; `cats round` rounds it",
+        Kind::TooFine => "a price has at most six places after the point; `--round` rounds it",
         Kind::GoodRange => {
-            "goods count from 0, dummy goods behind the others; correct the good, or `goods` or `dummy`"
+            "goods and then dummy goods count from 0; subtract 1 if yours count from 1, or correct `goods`"
         }
         Kind::RepeatedGood => {
             "a bid names each of its goods once; remove the good where it is repeated"
         }
         Kind::TwoDummies => {
-            "a bid names at most one dummy good, its bidder's; write a bid line for each bidder"
+            "these are two dummy goods; count goods from 0, or write a bid line for each bidder"
         }
-        Kind::EmptyBundle => {
-            "a bid names a good that is no dummy good; write its goods before `#`, or remove the bid"
-        }
+        Kind::EmptyBundle => { "no good is before `#`; write the bid's goods, or remove the bid" }
         Kind::NoEnd => {
-            "a bid line ends with the word `#`; write a space and `#` behind its last good"
+            "if the file ends here, it seems cut: compare its length with the original; `#` ends each bid"
         }
         Kind::AfterEnd => {
             "nothing is behind the `#` of a bid line; remove it, or write a line of its own for it"
@@ -165,14 +182,14 @@ fn hint(kind: Kind) -> &'static str
 pub fn places_of_faults()
     ensures word { place_text (codes "in") (codes "0.0123456") (place 8 2 (codes "0.0123456") TooFine) ≡
         codes "in:8:2: TooFine: 0.0123456\n"
-        ++ codes "a price has at most six places after the point; `cats round` rounds it\n" }
+        ++ codes "a price has at most six places after the point; `--round` rounds it\n" }
     ensures long_word { place_text (codes "in") (replicate 60 120) (place 4 1 (replicate 61 120) RepeatedNumber) ≡
         codes "in:4:1: RepeatedNumber: " ++ replicate 60 120
         ++ codes "..\neach bid line has a number of its own; number the bids anew\n" }
     ensures shown { map shown_bytes (replicate 61 120 ∷ replicate 60 120 ∷ codes "x" ∷ []) ≡
         replicate 60 120 ∷ replicate 60 120 ∷ codes "x" ∷ [] }
     ensures end { place_text (codes "in") [] (place 5 4 [] NoEnd) ≡
-        codes "in:5:4: NoEnd\na bid line ends with the word `#`; write a space and `#` behind its last good\n" }
+        codes "in:5:4: NoEnd\nif the file ends here, it seems cut: compare its length with the original; `#` ends each bid\n" }
     ensures short { list_all (λ kind. nat_le (length (hint_of_kind kind)) 100)
         (Header ∷ NotANumber ∷ TooLarge ∷ ExtraBid ∷ BidNumber ∷ RepeatedNumber ∷ TooFine ∷ NoSuchGood ∷ RepeatedGood
         ∷ TwoDummies ∷ EmptyBundle ∷ NoEnd ∷ AfterEnd ∷ Missing ∷ TooLong ∷ Device ∷ NoMemory ∷ []) ≡ true }

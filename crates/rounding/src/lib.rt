@@ -10,3 +10,5 @@ pub mod replacement;
 pub mod text;
 mod value;
 pub mod worked;
+
+pub use decimal::is_decimal;

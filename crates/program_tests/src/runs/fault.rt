@@ -20,27 +20,27 @@ static ROWS: [Row<'static>; 4] = [
         "a",
         b"goods 1\nbids 1\ndummy 0\n0 1e-7 0 #\n",
         "a:4:2: NotANumber: 1e-7\n\
-        a number has digits alone, a price digits around its point; `cats round` rewrites exponents\n",
+        a price with an exponent is read with `--round`\n",
     ),
     // behind the last word
     (
         "a",
         b"% a\ngoods 1\nbids 1\ndummy 0\n0 1 0\n",
-        "a:5:4: NoEnd\na bid line ends with the word `#`; write a space and `#` behind its last good\n",
+        "a:5:4: NoEnd\nif the file ends here, it seems cut: compare its length with the original; `#` ends each bid\n",
     ),
     // behind the last line
     (
         "a",
         b"goods 1\n",
         "a:2:1: Missing\n\
-        there are three header lines, and as many bid lines as `bids` says; add lines, or correct `bids`\n",
+        the file has one line: it seems cut, or lines end with CR: see `tr '\\r' '\\n' < F`\n",
     ),
     // the path and the word have control characters
     (
         "a\nb",
         b"\x1b[2J\n",
         "a\\nb:1:1: Header: \\x1b[2J\n\
-        header lines are `goods N`, `bids N` and `dummy N`, in this order; write `dummy 0` if there are none\n",
+        the word has bytes of no text; the file is packed, UTF-16 or damaged: `file F` says more\n",
     ),
 ];
 
