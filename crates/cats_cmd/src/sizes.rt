@@ -17,7 +17,8 @@ use std::alloc::{AllocError, Global};
 use std::io::Write;
 
 /// The line above the rows.
-const HEADER: &str = "goods\tbids\tor_bids\txor_bidders\tdummies\tkept\tkept_or\tkept_xor\tfault\tfile";
+const HEADER: &str =
+    "goods\tbids\tor_bids\txor_bidders\tdummies\tkept\tkept_or\tkept_xor\tfault\tfile";
 
 /// The rows of the paths so far.
 #[derive(Drop)]
