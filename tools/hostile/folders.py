@@ -201,6 +201,7 @@ NAMES = {
     b"\x7f\x01": rb"\x7f\x01",
     b"\xc3\xa9\xc2\x9b": b"\xc3\xa9" + rb"\xc2\x9b",
     b"\xe2\x80\xaeb": rb"\xe2\x80\xaeb",
+    b"a\xe2\x80\x8fb\xef\xbb\xbf": rb"a\xe2\x80\x8fb\xef\xbb\xbf",
     b"-0": b"-0",
 }
 
@@ -233,7 +234,8 @@ def names(folder):
     absent = [path + b"/" + name for name in NAMES]
     lines = [path + b"/" + line + b": cannot open\n" for line in NAMES.values()]
     answer = run(["duplicates", "-0", "--progress", *absent])
-    TALLY.judge(is_told(answer, DEVICE_FAILED, b"", [*lines, b"8 of 8 " + lines[-1][: -len(b": cannot open\n")]]), "names that are not there", answer)
+    counted = b"%d of %d " % (len(NAMES), len(NAMES)) + lines[-1][: -len(b": cannot open\n")]
+    TALLY.judge(is_told(answer, DEVICE_FAILED, b"", [*lines, counted]), "names that are not there", answer)
     answer = run(["duplicates", paths[0]])
     TALLY.judge(is_told(answer, 0, b"", []), "one file", answer)
 
