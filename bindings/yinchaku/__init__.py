@@ -15,10 +15,9 @@ that would change the value of a price.
 The library is looked for in the folder of this package (`libcats.so`), then in the folder that holds the package (`libcats.so`,
 `libcats.so.2`), and then where the system looks for libraries (`libcats.so.2`, `libcats.so`).
 """
-from yinchaku import _calls
 from yinchaku._auction import Auction, read, winners
 from yinchaku._bids import Bid
-from yinchaku._calls import *  # noqa: F403: the functions of the commands
+from yinchaku._calls import check, compare, diff, duplicates, explain, lp, normalise, revenue, round_prices, show, sizes, value
 from yinchaku._library import STEPS
 from yinchaku._library import check_version as _check_version
 from yinchaku._rows import Rows
@@ -31,7 +30,7 @@ _check_version(__version__)
 
 __all__ = [
     "STEPS", "read", "winners",
+    "check", "show", "value", "revenue", "normalise", "explain", "round_prices", "lp", "compare", "diff", "duplicates", "sizes",
     "Auction", "Bid", "Sizes", "Value", "XorValue", "Reason", "Rounded", "Change", "Allocation", "Verdict", "Difference", "SizesRow", "Winners", "Rows",
     "CatsError", "RefusedText", "StepLimit", "NoSuchGood", "NoSuchBid", "WrongSolution", "WantOfMemory",
 ]
-__all__ += _calls.__all__

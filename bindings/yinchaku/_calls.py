@@ -13,8 +13,6 @@ from yinchaku._tables import allocation_of, changes_of, differences_of, reasons_
 from yinchaku._texts import Rounding, TextOrPath, answer_on, bytes_of, limits_of, outputs_on, path_given, prices_of
 from yinchaku.errors import CatsError, NoSuchBid, NoSuchGood, RefusedText, StepLimit, error_of  # noqa: F401: for the examples
 
-__all__ = ["check", "show", "value", "revenue", "normalise", "explain", "round_prices", "lp", "compare", "diff", "duplicates", "sizes"]
-
 # Why a file cannot be opened, as the program prints it.
 REASONS = {FileNotFoundError: "no such file", PermissionError: "permission denied"}
 
@@ -112,13 +110,15 @@ def explain(text: TextOrPath, steps: int = STEPS, *, total: Optional[int] = None
 
 
 def lp(text: TextOrPath, *, round: Rounding = False) -> bytes:
-    """The winner determination problem of a file, as a text for solvers, in CPLEX's LP format. The variable `xN` is 1 if bid N wins.
+    """The winner determination problem of a file, as a text for solvers, in CPLEX's LP format. The variable `xN` is 1 if bid N wins. Its prices are in
+    millionths, or in units if the sum of all is 2^53 millionths or more; the first line says which.
 
     >>> print(lp(b"goods 1\\nbids 2\\ndummy 0\\n0 3 0 #\\n1 4.5 0 #\\n").decode(), end="")
+    \\ revenue in millionths
     Maximize
      revenue:
-     + 3 x0
-     + 4.5 x1
+     + 3000000 x0
+     + 4500000 x1
     Subject To
      g0:
      + x0
