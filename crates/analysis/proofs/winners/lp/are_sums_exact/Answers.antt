@@ -1,5 +1,5 @@
 -- `are_sums_exact`
-use Rattle.analysis.proofs.Common.{◌≡◌, ◌+◌, ◌≤◌, [], None, ap, arith, range_with_len, ◌∙◌, get_or_from_slice_get, PlainBid, PlainFile}
+use Rattle.analysis.proofs.Common.{◌≡◌, ℕ, ◌+◌, ◌<◌, ◌≤◌, [], None, ap, arith, subst, range_with_len, ◌∙◌, get_or_from_slice_get, PlainBid, PlainFile}
 use Rattle.analysis.proofs.Common.{seen_bid, MAX_PRICE, bid_at, revenue, sum_by_push}
 use Rattle.analysis.proofs.Explaining.KeptBids.{bid_here}
 use Rattle.analysis.proofs.Allocating.RowTexts.{range_next}
@@ -14,5 +14,6 @@ loop-number-preserved c =
     let price : (bid_at f n).price ≡ c.at.result.price =
     ap (λ (b : PlainBid). b.price)
     (get_or_from_slice_get f.bids n (seen_bid c.at.result) (record { price = 0; goods = []; dummy = None }) c.at.ensures) in
-    let most : (bid_at f n).price ≤ MAX_PRICE = (bid_here f c.requires n c.loop-number-test.true).price in
+    let within = subst (λ (m : ℕ). n < m) c.len-number-end.ensures c.loop-number-test.true in
+    let most : (bid_at f n).price ≤ MAX_PRICE = (bid_here f c.requires n within).price in
     record { sum_is = omega arith; bound = omega arith }
