@@ -8,8 +8,7 @@ pub use Rattle.std.proofs.Common.{MatchOption, IsSome, bytes_eq}
 pub use Rattle.std.proofs.Math.Bool.{and_comm}
 pub use Rattle.std.proofs.Math.Seq.{drop-length, get_or-append_seam}
 pub use Rattle.std.proofs.lemmas.Bool.{and_cases, ltb-false, and_right, or_right, le-leb, and_parts, and_from, cases_eq, eq-eqb, ne_eqb, or_left, both_ways}
-pub use Rattle.std.proofs.lemmas.Bool.{cases_Bool, false_from_ne_true, not_from_false, not_from_true, not-false, not-true, eqb-true, lt-ltb, ltb-true}
-pub use Rattle.std.proofs.lemmas.Bool.{leb-false}
+pub use Rattle.std.proofs.lemmas.Bool.{cases_Bool, false_from_ne_true, not_from_false, not_from_true, not-false, not-true, eqb-true, lt-ltb, leb-false}
 pub use Rattle.std.proofs.lemmas.Bool.{cases_lt, cond-false, cond-true, le-ltb, leb-true, lt-leb, eqb-false, ltb-true, or_cases}
 pub use Rattle.std.proofs.lemmas.Bool.Decides.{Decides-eqb}
 pub use Rattle.std.proofs.lemmas.Cmp.{back_total, nat_cmp_total, tied_itself, on_total, then_total}

@@ -1,8 +1,7 @@
 -- The winner determination problem as a text in CPLEX's LP format. There is a variable for each bid, which is 1 if the
 -- bid wins, and a row for each good and each dummy good that two bids or more have: at most one of them wins.
 use Rattle.std.specs.Prelude.{ℕ, ◌+◌, ◌-◌, ◌*◌, ◌≤◌, ◌==◌, nat_lt, if◌then◌else◌, List, [], ◌∷◌, ◌++◌, length}
-use Rattle.std.specs.Prelude.{Bool, true, false}
-use Rattle.std.specs.Prelude.{map, sum_by, All, codes, decimal}
+use Rattle.std.specs.Prelude.{map, sum_by, All, Bool, true, false, codes, decimal}
 use Rattle.std.specs.List.{filter, flat_map, list_any, range_with_len}
 use Rattle.goods_set.specs.Bundles.{has_good}
 use Rattle.bid_file.specs.Files.{PlainFile, goods_of}
