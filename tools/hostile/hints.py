@@ -2,13 +2,14 @@
 
     hints.py PROGRAM
 
-Each row has a wrong text, the place and the kind of its first fault, and words that the hint must have. Prints what is wrong and
+Each row has a wrong text, the line and the word of its first fault, its kind, and words that the hint must have. Prints what is wrong and
 'N runs, M wrong'; the status is 0 if M is 0, and else 1.
 """
 import bz2
 import gzip
 import io
 import lzma
+import re
 import subprocess
 import sys
 import tarfile
@@ -229,12 +230,20 @@ CUT = [
 ROWS = [*OTHER_FILES, *HEADER_LINES, *PRICES, *BID_LINES, *GOODS, *CUT]
 
 
+def column_of(text, place):
+    """The place `LINE:WORD` with the column in place of the word: where that begins in its line, in bytes from 1, or where the line ends."""
+    line, word = map(int, place.split(":"))
+    found = text.split(b"\n")[line - 1].removesuffix(b"\r")
+    starts = [it.start() for it in re.finditer(rb"[^ \t]+", found)]
+    return b"%d:%d" % (line, ([*starts, len(found)][word - 1] if word <= len(starts) + 1 else len(found)) + 1)
+
+
 def judge(program, it):
     """Whether the program answers the place and the kind of a row, and a hint with its words."""
     ran = subprocess.run([program, "fault", "/dev/stdin"], input=it.text, capture_output=True, timeout=SECONDS)
     TALLY.count_run()
     place, _, hint = ran.stdout.removesuffix(b"\n").partition(b"\n")
-    found = place.startswith(b"/dev/stdin:%b: %b" % (it.place.encode(), it.kind.encode())) and ran.returncode == FILE_REFUSED
+    found = place.startswith(b"/dev/stdin:%b: %b" % (column_of(it.text, it.place), it.kind.encode())) and ran.returncode == FILE_REFUSED
     helps = all(word.encode() in hint for word in it.words) and len(hint) <= LONGEST_HINT
     TALLY.judge(found and helps and not any(harm in hint for harm in HARMFUL), it.name, (ran.returncode, ran.stdout, ran.stderr))
 

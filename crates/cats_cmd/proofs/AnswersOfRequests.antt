@@ -20,10 +20,10 @@ use Rattle.cats_cmd.proofs.PricedInputs.{none_given}
 -- ---- a request
 
 -- no fault was found, if the status is not that of one
-none_printed : (path : List ℕ) (place : Option PlainPlace) (status : ℕ) (text : List ℕ) → outcome_of_place path place ≡ Prints status text
+none_printed : (path bytes : List ℕ) (place : Option PlainPlace) (status : ℕ) (text : List ℕ) → outcome_of_place path bytes place ≡ Prints status text
     → (status == 2) ≡ false → status ≤ 1
-none_printed path None status text is none = let same : 0 ≡ status = cc in omega (arith, same)
-none_printed path (Some place) status text is none = let same : 2 ≡ status = cc in absurd (both_ways (status == 2) none (eq-eqb status 2 (sym same)))
+none_printed path bytes None status text is none = let same : 0 ≡ status = cc in omega (arith, same)
+none_printed path bytes (Some place) status text is none = let same : 2 ≡ status = cc in absurd (both_ways (status == 2) none (eq-eqb status 2 (sym same)))
 
 -- the rounded text was printed, and its report is not lost
 round_printed : (lost : Bool) (status : ℕ) {sent : List ℕ} (text : List ℕ) → Prints (status_if_lost lost 0) sent ≡ Prints status text → status ≢ 5 → status ≤ 1
@@ -198,7 +198,7 @@ module _ {F W E : Type 0} (may_open : List ℕ → F → Type 0) (may_refuse : L
       → KeptBy One task request.prices err_after answer
   kept_one Fault request path err_after (Ok status) ran =
       let made = ran.0.runs in
-      ((λ few none other. inl (none_printed path (first_place made.given) status made.text made.made none)), (λ plain most. ran.1))
+      ((λ few none other. inl (none_printed path made.given (first_place made.given) status made.text made.made none)), (λ plain most. ran.1))
   kept_one Fault request path err_after (Err (Refused which fault)) ran = λ few. ran.0.runs.2
   kept_one Fault request path err_after (Err (Sent fault)) ran = λ few. tt
   kept_one Fault request path err_after (Err fault) ran = absurd ran.0.runs

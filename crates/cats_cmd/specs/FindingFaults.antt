@@ -6,6 +6,7 @@ use Rattle.cats_text.specs.declared.stream.Watched.{Watched}
 use Rattle.canon.specs.declared.canon_fault.CanonFault.{CanonFault}
 use Rattle.canon.specs.declared.canon_fault.CanonFault.TheVariants.{Read, StepLimit, Memory}
 use Rattle.canon.specs.declared.which.Which.TheVariants.{Only}
+use Rattle.commands.specs.Columns.{column_of}
 use Rattle.commands.specs.Fault.{place_text, shown_bytes}
 use Rattle.commands.specs.declared.faults.RunFault.{RunFault}
 use Rattle.commands.specs.declared.faults.RunFault.TheVariants.{Refused, Sent}
@@ -14,17 +15,18 @@ use Rattle.cats_cmd.specs.Escaping.{escaped}
 use Rattle.cats_cmd.specs.Inputs.{ReadsAll, StopsReading, WantsMemoryForBytes}
 use Rattle.cats_cmd.specs.Runs.{FailsInText, WritesText}
 
--- the place and the hint, of a file at this path
-abbrev pub text_of_place : List ℕ → PlainPlace → List ℕ
-text_of_place path place = place_text (escaped path) (escaped (shown_bytes place.text)) place
+-- the place and the hint, of the bytes of a file at this path
+abbrev pub text_of_place : List ℕ → List ℕ → PlainPlace → List ℕ
+text_of_place path bytes place =
+    place_text (escaped path) (escaped (shown_bytes place.text)) (column_of bytes place) place
 
-abbrev pub outcome_of_place : List ℕ → Option PlainPlace → Outcome
-outcome_of_place path None = Prints 0 []
-outcome_of_place path (Some place) = Prints 2 (text_of_place path place)
+abbrev pub outcome_of_place : List ℕ → List ℕ → Option PlainPlace → Outcome
+outcome_of_place path bytes None = Prints 0 []
+outcome_of_place path bytes (Some place) = Prints 2 (text_of_place path bytes place)
 
 -- of the bytes of a file at this path: their first fault, or nothing if they have none
 abbrev pub fault_outcome : List ℕ → List ℕ → Outcome
-fault_outcome path bytes = outcome_of_place path (first_place bytes)
+fault_outcome path bytes = outcome_of_place path bytes (first_place bytes)
 
 -- memory is wanted for bytes in which a bid line has begun, and for a fault's text
 abbrev pub WantsMemoryToFind : List ℕ → Type 0

@@ -12,7 +12,7 @@ use crate::run::send_text;
 use canon::CanonFault;
 use cats_text::Watched;
 use cats_text::fault_place::{FaultPlace, place_of_fault};
-use commands::fault::{fault_place_text, shown_word};
+use commands::fault::{column_of, fault_place_text, shown_word};
 use commands::faults::RunFault;
 use commands::statuses::{DONE, FILE_REFUSED};
 use std::alloc::{AllocError, Global};
@@ -42,15 +42,21 @@ fn judge(alloc: Global, path: &[u8], bytes: &[u8]) -> Result<(u8, Vec<u8>), Allo
     ensures memory { OnErr result (WantsMemoryToFind bytes.now) }
 {
     match place_of_fault(alloc, bytes)? {
-        Some(place) => Ok((FILE_REFUSED, place_text(alloc, path, &place)?)),
+        Some(place) => Ok((FILE_REFUSED, place_text(alloc, path, bytes, &place)?)),
         None => Ok((DONE, Vec::new(alloc))),
     }
 }
 
-fn place_text(alloc: Global, path: &[u8], place: &FaultPlace<'_>) -> Result<Vec<u8>, AllocError>
-    ensures { IfOk result (λ text. text.items ≡ text_of_place path.now (plain_place place.now)) }
+fn place_text(
+    alloc: Global,
+    path: &[u8],
+    bytes: &[u8],
+    place: &FaultPlace<'_>,
+) -> Result<Vec<u8>, AllocError>
+    ensures { IfOk result (λ text. text.items ≡ text_of_place path.now bytes.now (plain_place place.now)) }
 {
     let path = escaped(alloc, path)?;
     let word = escaped(alloc, shown_word(place))?;
-    fault_place_text(alloc, path.as_slice(), word.as_slice(), place)
+    let column = column_of(bytes, place);
+    fault_place_text(alloc, path.as_slice(), word.as_slice(), column, place)
 }
