@@ -4,8 +4,8 @@ use Rattle.cats_cmd.proofs.Common.{FinePrices, SearchOptions, ReadFault, or_atom
 use Rattle.cats_cmd.proofs.Common.{IsText}
 use Rattle.cats_cmd.proofs.Common.{normalised_file, refusal_of, CanonFault, Read, StepLimit, Memory, Only}
 use Rattle.cats_cmd.proofs.Common.{found_paths, HeavyBid, with_bid, IsPriced, PricedGives}
-use Rattle.cats_cmd.proofs.Common.{PricedRefuses, AddsJudgement, AddsOpened, AddsRefused, KeepsGroups, Judgement, IsHeavy, IsJudged, IsUnjudged, JudgesAs}
-use Rattle.cats_cmd.proofs.Common.{JudgesInput, NotOpened, PricedInput, Refused, files_if_heavy, files_if_judged, heavy_files, heavy_paths}
+use Rattle.cats_cmd.proofs.Common.{PricedRefuses, AddsJudgement, AddsOpened, AddsRefused, KeepsGroups, Judgement, IsHeavy, IsJudged, IsRead, IsUnjudged, JudgesAs}
+use Rattle.cats_cmd.proofs.Common.{JudgesInput, JudgesPriced, NotOpened, PricedInput, RunFault, Refused, files_if_heavy, files_if_judged, heavy_files, heavy_paths}
 use Rattle.cats_cmd.proofs.Common.{judged_files, judged_paths, paths_if_heavy, paths_if_judged, Groups, AreSameFiles, AreAlike, unsearched_text}
 use Rattle.cats_cmd.proofs.Common.{unsearched_texts_tell, canonical_texts_tell, Unopened}
 use Rattle.cats_text.specs.declared.read_fault.Kind.TheVariants.{Memory as NoMemory}
@@ -37,7 +37,7 @@ module _ {I : Type 0} (gives : I → I → PlainFile → Type 0) (refuses : I �
   pub groups_judged : (before after : Groups) (path : List ℕ) (copy : Vec ℕ Global) (number : ℕ) → copy.items ≡ path → after.heavy ≡ before.heavy
       → (file : PlainFile) → IsPlainFile file → gives old new file → AddsText before.judged.index after.judged.index (canonical_text file) number
       → normalised_file options file ≡ IsText (canonical_text file) → after.judged.found.items ≡ before.judged.found.items ++ (copy, number) ∷ []
-      → AddsOpened KeepsGroups gives refuses options path before after old new None
+      → AddsOpened KeepsGroups (JudgesInput gives refuses options) path before after old new None
   groups_judged before after path copy number is kept file facts given added within put = record {
     judgement = IsJudged file;
     judges = record {
@@ -57,7 +57,7 @@ module _ {I : Type 0} (gives : I → I → PlainFile → Type 0) (refuses : I �
 
   -- no file was given
   pub groups_unread : (groups : Groups) (path : List ℕ) (why : ReadFault) → (why.kind ≡ NoMemory → why.line ≡ 0) → refuses old new why
-      → AddsOpened KeepsGroups gives refuses options path groups groups old new (Some (Refused Only (refusal_of why)))
+      → AddsOpened KeepsGroups (JudgesInput gives refuses options) path groups groups old new (Some (Refused Only (refusal_of why)))
   groups_unread groups path why no_line refused = record {
     judgement = IsUnjudged (Refused Only (refusal_of why));
     judges = judged_unread gives refuses options old new why no_line refused;
@@ -68,7 +68,7 @@ module _ {I : Type 0} (gives : I → I → PlainFile → Type 0) (refuses : I �
   -- the file was refused
   pub groups_unmade : (before tried after : Groups) (path : List ℕ) → tried ≡ before → (file : PlainFile) → gives old new file → (fault : CanonFault)
       → RefusesAs (normalised_file options file) fault → AddsRefused path file fault tried after
-      → AddsOpened KeepsGroups gives refuses options path before after old new (Some (with_bid Only file options fault))
+      → AddsOpened KeepsGroups (JudgesInput gives refuses options) path before after old new (Some (with_bid Only file options fault))
   groups_unmade before tried after path same file given (Read why) refused adds =
       absurd (no_fault_made file (first_refused options file.goods (or_atoms_of file.bids)) why refused)
   groups_unmade before tried after path same file given (StepLimit goods) refused adds = record {
@@ -101,10 +101,26 @@ groups_heavy before after path copy number is kept file facts added put heavy js
 
 -- ---- the file at a path
 
+-- what a stream gives or refuses became of it
+pub priced_from : {F : Type 0} (remaining : F → Option (List ℕ)) (options : SearchOptions) (old new : PricedInput F) (j : Judgement)
+    → JudgesInput (PricedGives remaining) (PricedRefuses remaining) options old new j → JudgesPriced remaining options old new j
+priced_from remaining options old new (IsRead answer) judges = absurd judges
+priced_from remaining options old new judgement judges = judges
+
+pub adds_priced : {C F : Type 0} (Has : C → List (List ℕ × Judgement) → Type 0) (remaining : F → Option (List ℕ)) (options : SearchOptions) (path : List ℕ)
+    (before after : C) (old new : PricedInput F) (fault : Option RunFault)
+    → AddsOpened Has (JudgesInput (PricedGives remaining) (PricedRefuses remaining) options) path before after old new fault
+    → AddsOpened Has (JudgesPriced remaining options) path before after old new fault
+adds_priced Has remaining options path before after old new fault adds = record {
+  judgement = adds.judgement;
+  judges = priced_from remaining options old new adds.judgement adds.judges;
+  adds = adds.adds;
+  is_fault = adds.is_fault;
+}
+
 module _ {F : Type 0} (may_open : List ℕ → F → Type 0) (may_refuse : List ℕ → Unopened → Type 0) (remaining : F → Option (List ℕ))
     (options : SearchOptions) (prices : Option FinePrices) (path : List ℕ) where
-  pub opened_judges : (before after : PricedInput F) → IsPriced may_open prices path before → (j : Judgement)
-      → JudgesInput (PricedGives remaining) (PricedRefuses remaining) options before after j
+  pub opened_judges : (before after : PricedInput F) → IsPriced may_open prices path before → (j : Judgement) → JudgesPriced remaining options before after j
       → JudgesAs may_open may_refuse remaining options prices path after.rounded j
   opened_judges before after opened (IsUnjudged (NotOpened which why)) judges = absurd judges
   opened_judges before after opened judgement judges = record { before = before; after = after; opened = opened; judges = judges; count = refl }

@@ -13,7 +13,7 @@ use Rattle.canon.specs.declared.which.Which.TheVariants.{Only}
 use Rattle.rounding.specs.declared.replacement.FinePrices.{FinePrices}
 use Rattle.commands.specs.Outcomes.{Outcome, Prints}
 use Rattle.cats_cmd.specs.Escaping.{escaped}
-use Rattle.cats_cmd.specs.PricedInputs.{IsPriced, PricedGives, PricedRefuses, rounding_lines}
+use Rattle.cats_cmd.specs.PricedInputs.{IsPriced, JudgesPriced, rounding_lines}
 use Rattle.cats_cmd.specs.declared.priced_input.PricedInput.{PricedInput}
 use Rattle.cats_cmd.specs.Runs.{FailsInText, WritesText}
 use Rattle.cats_cmd.specs.Reports.{ReportsAll, is_lost, status_if_lost}
@@ -25,7 +25,7 @@ use Rattle.commands.specs.declared.faults.RunFault.{RunFault}
 use Rattle.commands.specs.declared.faults.RunFault.TheVariants.{Refused, Sent, NotOpened}
 use Rattle.commands.specs.Statuses.{status_of_fault}
 use Rattle.commands.specs.FaultLines.{line_of_fault}
-use Rattle.commands.specs.Judgements.{Judgement, IsUnjudged, JudgesInput, fault_judged}
+use Rattle.commands.specs.Judgements.{Judgement, IsUnjudged, fault_judged}
 
 -- what became of the file at a path, how many of its prices were rounded, and whether the report of that is lost
 pub record JudgedPath : Type 0 where
@@ -152,7 +152,7 @@ module _ {F : Type 0} (may_open : List ℕ → F → Type 0) (may_refuse : List 
     pub before : PricedInput F
     pub after : PricedInput F
     pub opened : IsPriced may_open prices path before
-    pub judges : JudgesInput (PricedGives remaining) (PricedRefuses remaining) options before after judgement
+    pub judges : JudgesPriced remaining options before after judgement
     pub count : rounded ≡ after.rounded
 
   abbrev pub JudgesAs : List ℕ → ℕ → Judgement → Type 0

@@ -10,7 +10,7 @@ use Rattle.commands.specs.declared.faults.RunFault.{RunFault}
 use Rattle.requests.specs.Requests.{PlainRequest}
 use Rattle.requests.specs.Tasks.{files_of, is_many}
 use Rattle.requests.specs.declared.task.Task.{Task}
-use Rattle.requests.specs.declared.task.Task.TheVariants.{Fault, Round}
+use Rattle.requests.specs.declared.task.Task.TheVariants.{Round}
 use Rattle.rounding.specs.declared.replacement.FinePrices.{FinePrices}
 use Rattle.command_line.specs.Requests.{request_of}
 
@@ -18,25 +18,12 @@ use Rattle.command_line.specs.Requests.{request_of}
 abbrev pub is_for_many_files : PlainRequest → Bool
 is_for_many_files request = is_many (files_of request.task)
 
--- whether a command line requests `duplicates` or `sizes`
+-- whether a command line requests `fault`, `duplicates` or `sizes`
 abbrev pub names_many_files : List (List ℕ) → Bool
 names_many_files words = option_map_or is_for_many_files (request_of words) false
 
--- whether a command printed the fault that it was to find, with the status of a file that is refused
-abbrev pub finds : Task → ℕ → Bool
-finds Fault status = status == 2
-finds task status = false
-
-abbrev pub has_found : ℕ → PlainRequest → Bool
-has_found status request = finds request.task status
-
--- whether a command line requests `fault`, and ended with this status
-abbrev pub names_found : ℕ → List (List ℕ) → Bool
-names_found status words = option_map_or (has_found status) (request_of words) false
-
 -- whether a command on one file or two may report something before it ends, by what becomes of prices
 abbrev pub reports : Task → Option FinePrices → Bool
-reports Fault prices = false
 reports Round prices = true
 reports task prices = is_some prices
 
@@ -44,7 +31,7 @@ reports task prices = is_some prices
 abbrev pub is_reporting : PlainRequest → Bool
 is_reporting request = is_for_many_files request || reports request.task request.prices
 
--- whether a command line requests `round`, `duplicates` or `sizes`, or that prices are rounded
+-- whether a command line requests `round`, `fault`, `duplicates` or `sizes`, or that prices are rounded
 abbrev pub names_reporting : List (List ℕ) → Bool
 names_reporting words = option_map_or is_reporting (request_of words) false
 

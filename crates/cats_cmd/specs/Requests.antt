@@ -1,7 +1,7 @@
 -- The contract of the program. It is the run of the request, on the files at its paths, what is sent where, and
 -- with which status.
 use Rattle.std.specs.Prelude.{◌≡◌, ◌⊎◌, ◌++◌, ℕ, max, Bool, true, false, List, Option, Some, Result, Ok, Err}
-use Rattle.std.specs.Prelude.{[], ◌∷◌, codes, string_bytes, unwrap_or}
+use Rattle.std.specs.Prelude.{[], ◌∷◌, codes, if◌then◌else◌, string_bytes, unwrap_or}
 use Rattle.bid_file.specs.Files.{PlainFile}
 use Rattle.cats_text.specs.Streams.{SendsWhole, SendsPart}
 use Rattle.cats_text.specs.declared.stream.Watched.{Watched}
@@ -10,8 +10,8 @@ use Rattle.canon.specs.declared.which.Which.TheVariants.{Only, First, Second}
 use Rattle.cats_cmd.specs.Duplicates.{MakesGroups}
 use Rattle.cats_cmd.specs.BidLists.{RunsOnBids}
 use Rattle.cats_cmd.specs.FileLists.{RunsAtPaths, RunsOnFiles}
-use Rattle.cats_cmd.specs.FindingFaults.{FindsFault}
-use Rattle.cats_cmd.specs.Inputs.{IsOpened, MayRefuse}
+use Rattle.cats_cmd.specs.FindingFaults.{MakesFaults, with_unplaced}
+use Rattle.cats_cmd.specs.Inputs.{IsOpened}
 use Rattle.cats_cmd.specs.PricedInputs.{IsPriced, PricedGives, PricedRefuses, rounding_lines}
 use Rattle.cats_cmd.specs.declared.priced_input.PricedInput.{PricedInput}
 use Rattle.cats_cmd.specs.Paths.{Reporting, RunsOnPaths, with_refusals, without_refusals}
@@ -21,7 +21,7 @@ use Rattle.cats_cmd.specs.SizesTables.{MakesTable}
 use Rattle.commands.specs.Outcomes.{Outcome}
 use Rattle.commands.specs.Meanings.{outcome_of}
 use Rattle.requests.specs.Requests.{PlainRequest}
-use Rattle.requests.specs.Tasks.{files_of}
+use Rattle.requests.specs.Tasks.{files_of, gives_reason}
 use Rattle.requests.specs.declared.task.Files.{Files}
 use Rattle.requests.specs.declared.task.Files.TheVariants.{One, Two, Many}
 use Rattle.requests.specs.declared.task.Task.{Task}
@@ -131,13 +131,6 @@ module _ {F W E : Type 0} (may_open : List ℕ → F → Type 0) (remaining : F 
     pub answers : answer
         ≡ answer_if_lost (is_lost (max left_after.rounded right_after.rounded) err_after) sent
 
-  -- the first fault of a stream that was opened at the path
-  pub record FindsFaultAt (path : List ℕ) (out out_after : Watched W) (answer : Result ℕ RunFault) : Type 0 where
-    pub before : Watched F
-    pub after : Watched F
-    pub opened : IsOpened may_open path before
-    pub runs : FindsFault remaining contents path before after out out_after answer
-
 module _ {F W E : Type 0} (may_open : List ℕ → F → Type 0) (may_refuse : List ℕ → Unopened → Type 0)
     (remaining : F → Option (List ℕ)) (contents : W → Option (List ℕ)) (messages : E → Option (List ℕ)) where
   -- a rounding of the stream that was opened at the path
@@ -148,10 +141,16 @@ module _ {F W E : Type 0} (may_open : List ℕ → F → Type 0) (may_refuse : L
     pub opened : IsOpened may_open path before
     pub runs : Rounds remaining contents messages fine before after out out_after err err_after answer
 
-module _ (may_refuse : List ℕ → Unopened → Type 0) where
-  -- this one of the files of a request cannot be opened. The reason is not reported
-  abbrev pub CannotOpen : Which → List ℕ → RunFault → Type 0
-  CannotOpen which file fault = (fault ≡ NotOpened which Other) × MayRefuse may_refuse file
+-- the reason that a command reports, if it reports one
+abbrev pub reason_of : Task → Unopened → Unopened
+reason_of task why = if gives_reason task then why else Other
+
+module _ (may_refuse : List ℕ → Unopened → Type 0) (task : Task) where
+  -- this one of the files of a request cannot be opened
+  pub record CannotOpen (which : Which) (file : List ℕ) (fault : RunFault) : Type 0 where
+    pub why : Unopened
+    pub is : fault ≡ NotOpened which (reason_of task why)
+    pub refused : may_refuse file why
 
   -- one of two
   abbrev pub CannotOpenPair : List ℕ → List ℕ → RunFault → Type 0
@@ -191,8 +190,6 @@ module _ {F W E : Type 0} (may_open : List ℕ → F → Type 0) (may_refuse : L
   -- the run on the only file of a request, by its command
   abbrev pub RunsOnOne : Task → PlainRequest → List ℕ → Watched W → Watched W → Watched E → Watched E
       → Result ℕ RunFault → Type 0
-  RunsOnOne Fault request path out out_after err err_after answer =
-      FindsFaultAt may_open remaining contents messages path out out_after answer × (err_after ≡ err)
   RunsOnOne Round request path out out_after err err_after answer =
       RoundsAt may_open may_refuse remaining contents messages path (unwrap_or request.prices RoundFine) out out_after
       err err_after answer
@@ -213,6 +210,8 @@ module _ {F W E : Type 0} (may_open : List ℕ → F → Type 0) (may_refuse : L
     -- by the command
     abbrev pub RunsOfFiles : Task → PlainRequest → Watched W → Watched W → Watched E → Watched E → Result ℕ RunFault
         → Type 0
+    RunsOfFiles Fault request out out_after err err_after answer =
+        RunsOnMany (λ ending. MakesFaults) with_unplaced request out out_after err err_after answer
     RunsOfFiles Duplicates request out out_after err err_after answer =
         RunsOnMany (λ ending. MakesGroups ending request.all) with_refusals request out out_after err err_after answer
     RunsOfFiles task request out out_after err err_after answer =
@@ -237,7 +236,7 @@ module _ {F W E : Type 0} (may_open : List ℕ → F → Type 0) (may_refuse : L
     abbrev pub CarriesOut : PlainRequest → Watched W → Watched W → Watched E → Watched E → Result ℕ RunFault → Type
         0
     CarriesOut request =
-        Carries (RunsFor request) (CannotOpenOf may_refuse (files_of request.task) request.files)
+        Carries (RunsFor request) (CannotOpenOf may_refuse request.task (files_of request.task) request.files)
 
     -- the request failed; its line was reported after what its run reported, and the status is its own
     pub record FailsRequest (request : PlainRequest) (out out_after : Watched W) (err err_after : Watched E) (status :

@@ -5,8 +5,7 @@ ghost use Rattle.cats_text.specs.Streams.{has_failed};
 ghost use Rattle.cats_cmd.specs.Requests.{AnswersLine, AnswersNoRequest, AnswersRequest};
 ghost use Rattle.cats_cmd.specs.Openings.{OpensFor, OpensLine};
 ghost use Rattle.requests.specs.Requests.{plain_request, texts_of};
-ghost use Rattle.cats_cmd.specs.Reports.{has_found, is_for_many_files, is_reporting, names_found, names_many_files};
-ghost use Rattle.cats_cmd.specs.Reports.{names_reporting};
+ghost use Rattle.cats_cmd.specs.Reports.{is_for_many_files, is_reporting, names_many_files, names_reporting};
 
 use crate::carrying_out::carry_out;
 use crate::lines::report_pieces;
@@ -49,8 +48,8 @@ pub fn run_cats<F: Files + AllocGlobal, W: Write, E: Write>(
     requires err_works { has_failed err.old ≡ false }
     ensures answers { AnswersLine (λ path stream. Unit {0}) (λ path why. Unit {0}) F.File.remaining W.contents E.contents
         false (λ path found. Unit {0}) (texts_of words.now) out.old out.new err.old err.new result }
-    ensures silent { names_many_files (texts_of words.now) ≡ false → names_found result (texts_of words.now) ≡ false
-        → result ≢ 0 → result ≢ 1 → result ≢ 5 → out.new ≡ out.old }
+    ensures silent { names_many_files (texts_of words.now) ≡ false → result ≢ 0 → result ≢ 1 → result ≢ 5
+        → out.new ≡ out.old }
     ensures done { names_reporting (texts_of words.now) ≡ false → result ≤ 1 → err.new ≡ err.old }
 {
     let process = Process {
@@ -65,7 +64,7 @@ pub fn run_cats<F: Files + AllocGlobal, W: Write, E: Write>(
 /// program's name, and `out` and `err` are the standard streams.
 ///
 /// A fault's line is sent to `err`. It needs no memory.
-#[tactic(auto, using(crate::proofs::AnswersOfRequests::few_files, crate::proofs::AnswersOfRequests::none_found, crate::proofs::AnswersOfRequests::quiet_request))]
+#[tactic(auto, using(crate::proofs::AnswersOfRequests::few_files, crate::proofs::AnswersOfRequests::quiet_request))]
 pub fn run_program<S: Source + AllocGlobal, W: Write, E: Write>(
     source: &mut S,
     words: &[&str],
@@ -80,8 +79,8 @@ pub fn run_program<S: Source + AllocGlobal, W: Write, E: Write>(
         (texts_of words.now) out.old out.new err.old err.new result }
     ensures opens { OpensLine S.content_of S.opened S.may_open S.may_refuse S.Stream.remaining S.may_find
         (texts_of words.now) source.old source.new result }
-    ensures silent { names_many_files (texts_of words.now) ≡ false → names_found result (texts_of words.now) ≡ false
-        → result ≢ 0 → result ≢ 1 → result ≢ 5 → out.new ≡ out.old }
+    ensures silent { names_many_files (texts_of words.now) ≡ false → result ≢ 0 → result ≢ 1 → result ≢ 5
+        → out.new ≡ out.old }
     ensures done { names_reporting (texts_of words.now) ≡ false → result ≤ 1 → err.new ≡ err.old }
 {
     match parse(source.alloc(), process.version, process.help, words) {
@@ -108,8 +107,8 @@ pub fn answer_request<S: Source + AllocGlobal, W: Write, E: Write>(
         out.old out.new err.old err.new result }
     ensures opens { OpensFor S.content_of S.opened S.may_open S.may_refuse S.Stream.remaining S.may_find
         (plain_request request.now) source.old source.new result }
-    ensures silent { is_for_many_files (plain_request request.now) ≡ false
-        → has_found result (plain_request request.now) ≡ false → result ≢ 0 → result ≢ 1 → result ≢ 5 → out.new ≡ out.old }
+    ensures silent { is_for_many_files (plain_request request.now) ≡ false → result ≢ 0 → result ≢ 1 → result ≢ 5
+        → out.new ≡ out.old }
     ensures done { is_reporting (plain_request request.now) ≡ false → result ≤ 1 → err.new ≡ err.old }
 {
     match carry_out(source, request, out, err, terminal) {

@@ -22,34 +22,36 @@ mod sentences;
 mod tables;
 pub mod worked;
 
-pub use self::column::column_of;
+pub use self::column::{column_of, place_in};
 use self::finding::find_hint;
 use self::sentences::sentence;
 use crate::printed::pieces::{Piece, text_of};
 use crate::printed::report::kind_name;
 use cats_text::Kind;
 use cats_text::fault_place::FaultPlace;
-use requests::help::CommandHelp;
+use requests::help::{CommandHelp, FILES};
 use std::alloc::{AllocError, Global};
 
 /// What `--help` prints of it.
 pub fn help<'a>() -> CommandHelp<'a> {
     CommandHelp {
         name: "fault",
-        about: "Prints where the first fault of a bid file is, and what helps",
-        arguments: &[],
+        about: "Prints where the first faults of bid files are, and what helps",
+        arguments: &[("FILE", FILES)],
         after: "\
-Prints two lines: the path of the file and the line and column of its first
-fault, with its kind and the word there; and what helps. Lines, and the bytes
-of a line, are counted from 1. 'cats --help' lists the kinds. For example:
+Prints two lines for each file that is not a bid file: its path and the line
+and column of its first fault, with its kind and the word there; and what
+helps. Lines, and the bytes of a line, are counted from 1. 'cats --help' lists
+the kinds. Of a bid file nothing is printed. For example:
   $ cats fault auction.txt
   auction.txt:8:3: TooFine: 0.0123456
   a price has at most six places after the point; `--round` rounds it
 
-If the file is a bid file, nothing is printed.
+With --round it is the first fault that is left once prices are rounded. A file
+that cannot be read is a line on standard error, and the others go on.
 
-Statuses: 0 if the file is a bid file; 2 if it is not, 4, 5 and 64 as 'cats
---help' lists them",
+Statuses: 0 if all are bid files; else the greatest of any file: 2 if it is not
+a bid file, 4, 5 and 64 as 'cats --help' lists them",
     }
 }
 
