@@ -4,8 +4,9 @@ use Rattle.cats_cmd.proofs.Common.{FinePrices, SearchOptions, ReadFault, or_atom
 use Rattle.cats_cmd.proofs.Common.{IsText}
 use Rattle.cats_cmd.proofs.Common.{normalised_file, refusal_of, CanonFault, Read, StepLimit, Memory, Only}
 use Rattle.cats_cmd.proofs.Common.{found_paths, HeavyBid, with_bid, IsPriced, PricedGives}
-use Rattle.cats_cmd.proofs.Common.{PricedRefuses, AddsJudgement, AddsOpened, AddsRefused, KeepsGroups, Judgement, IsHeavy, IsJudged, IsRead, IsUnjudged, JudgesAs}
-use Rattle.cats_cmd.proofs.Common.{JudgesInput, JudgesPriced, NotOpened, PricedInput, RunFault, Refused, files_if_heavy, files_if_judged, heavy_files, heavy_paths}
+use Rattle.cats_cmd.proofs.Common.{PricedRefuses, AddsJudgement, AddsOpened, AddsRefused, KeepsGroups, Judgement, IsHeavy, IsJudged, IsUnjudged}
+use Rattle.cats_cmd.proofs.Common.{IsRead, JudgesAs, JudgesPriced, RunFault}
+use Rattle.cats_cmd.proofs.Common.{JudgesInput, NotOpened, PricedInput, Refused, files_if_heavy, files_if_judged, heavy_files, heavy_paths}
 use Rattle.cats_cmd.proofs.Common.{judged_files, judged_paths, paths_if_heavy, paths_if_judged, Groups, AreSameFiles, AreAlike, unsearched_text}
 use Rattle.cats_cmd.proofs.Common.{unsearched_texts_tell, canonical_texts_tell, Unopened}
 use Rattle.cats_text.specs.declared.read_fault.Kind.TheVariants.{Memory as NoMemory}

@@ -33,24 +33,23 @@ module _ {S H : Type 0} (content_of : S → H) (opened : S → Option (List Open
     pub stays : content_of new ≡ content_of old
     pub more : opened new ≡ with_openings (opened old) openings
 
-  module _ (way : Way) where
-    -- it has opened the first of these paths
-    pub record OpensFirst (old new : S) (paths : List (List ℕ)) : Type 0 where
-      pub count : ℕ
-      pub opens : Opens old new (openings_of way (take count paths))
+  -- it has opened the first of these paths
+  pub record OpensFirst (way : Way) (old new : S) (paths : List (List ℕ)) : Type 0 where
+    pub count : ℕ
+    pub opens : Opens old new (openings_of way (take count paths))
 
-    -- it has opened all of these paths, or the first of them, as memory was refused to all files together
-    abbrev pub OpensEach : List (List ℕ) → S → S → ℕ → Type 0
-    OpensEach paths old new status =
-        Opens old new (openings_of way paths) ⊎ ((status ≡ 4) × OpensFirst old new paths)
+  -- it has opened all of these paths, or the first of them, as memory was refused to all files together
+  abbrev pub OpensEach : Way → List (List ℕ) → S → S → ℕ → Type 0
+  OpensEach way paths old new status =
+      Opens old new (openings_of way paths) ⊎ ((status ≡ 4) × OpensFirst way old new paths)
 
-    module _ (may_find : H → List ℕ → Option (List (List ℕ)) → Type 0) where
-      -- the files at these paths are opened
-      pub record OpensFound (paths : List (List ℕ)) (old new : S) (status : ℕ) : Type 0 where
-        pub files : List (List ℕ)
-        pub are : AreFilesAt (may_find (content_of old)) paths files
-        pub opens : OpensEach files old new status
+  module _ (may_find : H → List ℕ → Option (List (List ℕ)) → Type 0) where
+    -- the files at these paths are opened
+    pub record OpensFound (way : Way) (paths : List (List ℕ)) (old new : S) (status : ℕ) : Type 0 where
+      pub files : List (List ℕ)
+      pub are : AreFilesAt (may_find (content_of old)) paths files
+      pub opens : OpensEach way files old new status
 
-      -- they are, or memory was refused while folders were read, and nothing is opened
-      abbrev pub OpensAtPaths : List (List ℕ) → S → S → ℕ → Type 0
-      OpensAtPaths paths old new status = OpensFound paths old new status ⊎ ((status ≡ 4) × (new ≡ old))
+    -- they are, or memory was refused while folders were read, and nothing is opened
+    abbrev pub OpensAtPaths : Way → List (List ℕ) → S → S → ℕ → Type 0
+    OpensAtPaths way paths old new status = OpensFound way paths old new status ⊎ ((status ≡ 4) × (new ≡ old))

@@ -58,9 +58,9 @@ try_help = codes "\n\nFor more information, try '--help'.\n"
 abbrev pub misuse_text : Misuse → List ℕ
 misuse_text SignedNumber = codes "error: a number has digits alone, and no sign" ++ try_help
 misuse_text MoreThanOneFile =
-    codes "error: this command takes one file; 'cats duplicates' and 'cats sizes' take several" ++ try_help
+    codes "error: this command takes one file; 'cats fault', 'cats duplicates' and 'cats sizes' take several" ++ try_help
 misuse_text MoreThanTwoFiles =
-    codes "error: this command takes two files; 'cats duplicates' and 'cats sizes' take several" ++ try_help
+    codes "error: this command takes two files; 'cats fault', 'cats duplicates' and 'cats sizes' take several" ++ try_help
 misuse_text BidsTwice = codes "error: give bids, or '--bids <LIST>', and not both" ++ try_help
 misuse_text UnboundedTotal = codes "error: '--total-steps <N>' needs '--bound'" ++ try_help
 misuse_text WrongGoods = codes "error: goods are numbers up to 4095 and ranges, as in '0,2-5'" ++ try_help

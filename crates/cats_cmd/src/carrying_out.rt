@@ -71,7 +71,8 @@ fn carry_out_on_one<S: Source + AllocGlobal, W: Write, E: Write>(
     requires { has_failed out.old ≡ false }
     ensures carries { Carries (RunsOnOne (S.may_open (S.content_of source.old)) (S.may_refuse (S.content_of source.old))
         S.Stream.remaining W.contents E.contents request.now.task (plain_request request.now) file.now)
-        (CannotOpen (S.may_refuse (S.content_of source.old)) request.now.task Only file.now) out.old out.new err.old err.new result }
+        (CannotOpen (S.may_refuse (S.content_of source.old)) request.now.task Only file.now)
+        out.old out.new err.old err.new result }
     ensures opens { OpensOne S.content_of S.opened S.may_open S.may_refuse S.Stream.remaining request.now.task
         (plain_request request.now) file.now source.old source.new (status_of_run result) }
 {
@@ -96,7 +97,8 @@ fn carry_out_command<S: Source + AllocGlobal, W: Write, E: Write>(
     requires { has_failed out.old ≡ false }
     ensures carries { Carries (RunsOfCommand (S.may_open (S.content_of source.old)) (S.may_refuse (S.content_of source.old))
         S.Stream.remaining W.contents E.contents (plain_request request.now) file.now)
-        (CannotOpen (S.may_refuse (S.content_of source.old)) request.now.task Only file.now) out.old out.new err.old err.new result }
+        (CannotOpen (S.may_refuse (S.content_of source.old)) request.now.task Only file.now)
+        out.old out.new err.old err.new result }
     ensures opens { OpensForBids S.content_of S.opened S.may_open S.may_refuse S.Stream.remaining
         (way_of request.now.task) (plain_request request.now).list file.now source.old source.new (status_of_run result) }
 {
@@ -123,7 +125,8 @@ fn run_at<S: Source + AllocGlobal, W: Write, E: Write>(
     requires { has_failed out.old ≡ false }
     ensures runs { Carries (RunsAt (S.may_open (S.content_of source.old)) S.Stream.remaining W.contents E.contents file.now
         request.now.prices (outcome_of (plain_request request.now) bids.now))
-        (CannotOpen (S.may_refuse (S.content_of source.old)) request.now.task Only file.now) out.old out.new err.old err.new result }
+        (CannotOpen (S.may_refuse (S.content_of source.old)) request.now.task Only file.now)
+        out.old out.new err.old err.new result }
     ensures opens { Opens S.content_of S.opened source.old source.new ((file.now, way_of request.now.task) ∷ []) }
 {
     let stream = open(source, request.task, file, Which::Only)?;
@@ -175,7 +178,8 @@ fn run_on_many<S: Source + AllocGlobal, W: Write, E: Write>(
         S.Stream.remaining W.contents E.contents terminal (S.may_find (S.content_of source.old)) request.now.task
         (plain_request request.now) out.old out.new err.old err.new result }
     ensures opens { OpensFiles S.content_of S.opened S.may_open S.may_refuse S.Stream.remaining S.may_find
-        (way_of request.now.task) (plain_request request.now).list (plain_request request.now).files source.old source.new (status_of_run result) }
+        (way_of request.now.task) (plain_request request.now).list (plain_request request.now).files source.old source.new
+        (status_of_run result) }
 {
     match request.task {
         Task::Fault => run_on_files::<Faults, S, W, E>(source, request, terminal, out, err),

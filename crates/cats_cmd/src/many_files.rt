@@ -44,7 +44,8 @@ pub(crate) fn run_on_files<C: Collection, S: Source + AllocGlobal, W: Write, E: 
         (λ progress. record { refusals = C.refusals; progress = progress }) (plain_request request.now) out.old out.new
         err.old err.new result }
     ensures opens { OpensFiles S.content_of S.opened S.may_open S.may_refuse S.Stream.remaining S.may_find
-        (way_of request.now.task) (plain_request request.now).list (plain_request request.now).files source.old source.new (status_of_run result) }
+        (way_of request.now.task) (plain_request request.now).list (plain_request request.now).files source.old source.new
+        (status_of_run result) }
 {
     let many = many_files(request, terminal);
     let Some(list) = request.list else {
@@ -74,8 +75,8 @@ fn run_at_paths<C: Collection, S: Source + AllocGlobal, W: Write, E: Write>(
         E.contents many.options many.prices (C.Makes many.ending many.all) files
         (record { refusals = C.refusals; progress = many.progress })) (map (λ path. path.now) paths.now) out.old out.new
         err.old err.new result }
-    ensures opens { OpensAtPaths S.content_of S.opened many.way S.may_find (map (λ path. path.now) paths.now) source.old source.new
-        (status_of_run result) }
+    ensures opens { OpensAtPaths S.content_of S.opened S.may_find many.way (map (λ path. path.now) paths.now) source.old
+        source.new (status_of_run result) }
 {
     let found = files_at(&*source, source.alloc(), paths)?;
     let files = slices(source.alloc(), found.as_slice())?;

@@ -151,6 +151,10 @@ static REQUESTS: &[(&[&str], &str)] = &[
         "Request { task: Diff, files: [\"a\", \"b\"], list: None, goods: [], bids: [], prices: Some(Refuse), options: SearchOptions { kind: Bounded, each: 1000000, total: None }, progress: false, null: false, all: false }",
     ),
     (
+        &["cats", "fault", "a", "--round", "b"],
+        "Request { task: Fault, files: [\"a\", \"b\"], list: None, goods: [], bids: [], prices: Some(Round), options: SearchOptions { kind: Bounded, each: 0, total: None }, progress: false, null: false, all: false }",
+    ),
+    (
         &["cats", "sizes", "a", "--round"],
         "Request { task: Sizes, files: [\"a\"], list: None, goods: [], bids: [], prices: Some(Round), options: SearchOptions { kind: Bounded, each: 1000000, total: None }, progress: false, null: false, all: false }",
     ),
@@ -209,7 +213,7 @@ static WRONG_LINES: &[&[&str]] = &[
     &["cats", "explain", "--total-steps=0", "a"],
     &["cats", "normalise", "--bound", "--bound", "a"],
     &["cats", "normalise", "--steps", "1,000,000", "a"],
-    &["cats", "fault", "--round", "a"],
+    &["cats", "fault", "-0", "a"],
     &["cats", "round", "--round-exact", "a"],
     &["cats", "lp", "--round", "--round", "a"],
     &["cats", "show", "--round-exact=yes", "a"],

@@ -65,6 +65,6 @@ fn faults(rt: HostRuntime) -> Result<(), Fail> {
     let nothing = found(rt.alloc(), "a", faultless, false)?;
     expect(&rt, &nothing, 0, "", "");
     let failed = found(rt.alloc(), "a", faultless, true)?;
-    expect(&rt, &failed, 5, "", "Device\n");
+    expect(&rt, &failed, 5, "", "a: Device\n");
     Ok(())
 }

@@ -60,7 +60,7 @@ static ROWS: [Row<'static>; 27] = [
         &["cats", "diff", "one", "none"],
         5,
         "",
-        "second: cannot open\n",
+        "second: cannot open: no such file\n",
     ),
     (&["cats", "show", "bad"], 2, "", "line 2: Missing\n"),
     (&["cats", "check", "secret"], 5, "", "cannot open\n"),
@@ -69,6 +69,18 @@ static ROWS: [Row<'static>; 27] = [
         5,
         "",
         "first: cannot open\n",
+    ),
+    (
+        &["cats", "lp", "secret"],
+        5,
+        "",
+        "cannot open: permission denied\n",
+    ),
+    (
+        &["cats", "round", "folder"],
+        5,
+        "",
+        "cannot open: is a folder: name it to 'fault', 'duplicates' or 'sizes'\n",
     ),
     (&["cats", "value", "sum", "0-1"], 0, "or 7 2\n", ""),
     (&["cats", "revenue", "sum", "0", "1"], 0, "revenue 7\n", ""),
@@ -107,7 +119,7 @@ static ROWS: [Row<'static>; 27] = [
         &["cats", "revenue", "--bids", "bids", "none"],
         5,
         "",
-        "cannot open\n",
+        "cannot open: no such file\n",
     ),
     (
         &["cats", "revenue", "--bids", "bids", "sum", "0"],
@@ -120,14 +132,6 @@ static ROWS: [Row<'static>; 27] = [
         64,
         "",
         "error: goods are numbers up to 4095 and ranges, as in '0,2-5'\n\nFor more information, try '--help'.\n",
-    ),
-    (&["cats", "fault", "one"], 0, "", ""),
-    (
-        &["cats", "fault", "bad"],
-        2,
-        "bad:2:1: Missing\n\
-        the file has one line: it seems cut, or lines end with CR: see `tr '\\r' '\\n' < F`\n",
-        "",
     ),
     (
         &["cats", "round", "fine"],

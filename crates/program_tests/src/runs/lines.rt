@@ -94,7 +94,7 @@ static ROWS: [Row<'static>; 17] = [
         false,
         &[
             "bad: line 2: Missing\n",
-            "folder: cannot open: is a folder\n",
+            "folder: cannot open: is a folder: name it to 'fault', 'duplicates' or 'sizes'\n",
             "fifo: cannot open: not a file\n",
             "bad: line 2: Missing\n",
         ],

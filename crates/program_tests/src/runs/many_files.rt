@@ -3,7 +3,7 @@
 use super::memory::{FILES, Row, judge_rows};
 use std::test::Fail;
 
-static ROWS: [Row<'static>; 24] = [
+static ROWS: [Row<'static>; 31] = [
     (
         &["cats", "duplicates", "one", "bad", "other", "same"],
         2,
@@ -61,7 +61,8 @@ step limit of 2 at bid 2: 0,1\tsum\n\
         &["cats", "sizes", "folder", "fifo", "one", "secret", "broken"],
         5,
         "goods\tbids\tor_bids\txor_bidders\tdummies\tkept\tkept_or\tkept_xor\tfault\tfile\n\
-\t\t\t\t\t\t\t\tcannot open: is a folder\tfolder\n\t\t\t\t\t\t\t\tcannot open: not a file\tfifo\n\
+\t\t\t\t\t\t\t\tcannot open: is a folder: name it to 'fault', 'duplicates' or 'sizes'\tfolder\n\
+\t\t\t\t\t\t\t\tcannot open: not a file\tfifo\n\
 1\t1\t1\t0\t0\t1\t1\t0\t\tone\n\
 \t\t\t\t\t\t\t\tcannot open: permission denied\tsecret\n\t\t\t\t\t\t\t\tcannot open\tbroken\n",
         "",
@@ -81,7 +82,7 @@ step limit of 2 at bid 2: 0,1\tsum\n\
         ],
         5,
         "one\none\n",
-        "folder: cannot open: is a folder\nfifo: cannot open: not a file\n\
+        "folder: cannot open: is a folder: name it to 'fault', 'duplicates' or 'sizes'\nfifo: cannot open: not a file\n\
 secret: cannot open: permission denied\n\
 none: cannot open: no such file\nbroken: cannot open\n",
     ),
@@ -161,6 +162,44 @@ none: cannot open: no such file\nbroken: cannot open\n",
         5,
         "",
         "no list: cannot open: no such file\n",
+    ),
+    // faults, each below the path of its file
+    (&["cats", "fault", "one"], 0, "", ""),
+    (
+        &["cats", "fault", "bad", "one", "none", "fine"],
+        5,
+        "bad:2:1: Missing\n\
+the file has one line: it seems cut, or lines end with CR: see `tr '\\r' '\\n' < F`\n\
+fine:4:3: NotANumber: 1e-7\na price with an exponent is read with `--round`\n",
+        "none: cannot open: no such file\n",
+    ),
+    (
+        &["cats", "fault", "--progress", "--files0-from", "list"],
+        0,
+        "",
+        "3 of 3 same\n",
+    ),
+    // the fault that is left, with the word as the file has it
+    (&["cats", "fault", "--round", "fine", "one"], 0, "", ""),
+    (
+        &["cats", "fault", "fine", "--round-exact"],
+        2,
+        "fine:4:3: TooFine: 1e-7\n\
+a price has at most six places after the point; `--round` rounds it\n",
+        "",
+    ),
+    (
+        &["cats", "fault", "--round", "two prices"],
+        2,
+        "two prices:5:9: NotANumber: x\ngoods are numbers, counted from 0; write them in the place of names\n",
+        "",
+    ),
+    (
+        &["cats", "fault", "--round", "great"],
+        2,
+        "great:4:3: TooLarge: 1e13\n\
+prices go up to 10^12: divide all by one power of ten; `bids` and `dummy` go up to 65536\n",
+        "",
     ),
     (
         &["cats", "sizes"],

@@ -94,12 +94,17 @@ impl Alloc for FilesInMemory<'_> {
     }
 }
 
-pub(super) static FILES: [(&str, &[u8]); 24] = [
+pub(super) static FILES: [(&str, &[u8]); 26] = [
     ("one", b"goods 1\nbids 1\ndummy 0\n0 3 0 #\n"),
     ("same", b"goods 1\nbids 2\ndummy 0\n0 3 0 #\n1 2 0 #\n"),
     ("other", b"goods 1\nbids 1\ndummy 0\n0 4 0 #\n"),
     ("bad", b"goods 1\n"),
     ("fine", b"goods 1\nbids 1\ndummy 0\n0 1e-7 0 #\n"),
+    (
+        "two prices",
+        b"goods 1\nbids 2\ndummy 0\n0 1e3 0 #\n1 2e1 0 x #\n",
+    ),
+    ("great", b"goods 1\nbids 1\ndummy 0\n0 1e13 0 #\n"),
     (
         "sum",
         b"goods 2\nbids 3\ndummy 0\n0 3 0 #\n1 4 1 #\n2 7 0 1 #\n",

@@ -7,12 +7,12 @@ use std::process::Abort;
 use std::test::Fail;
 
 /// Command lines, each with its status and a line for each opening.
-static OPENINGS: [(&[&str], u8, &str); 15] = [
+static OPENINGS: [(&[&str], u8, &str); 16] = [
     (&["cats", "--version"], 0, ""),
     (&["cats", "check", "same", "one"], 64, ""),
     (&["cats", "check", "same"], 0, "Anything same\n"),
-    (&["cats", "fault", "bad"], 2, "Anything bad\n"),
-    (&["cats", "round", "none"], 5, "Anything none\n"),
+    (&["cats", "fault", "bad"], 2, "NoFolder bad\n"),
+    (&["cats", "round", "none"], 5, "NoFolder none\n"),
     (
         &["cats", "compare", "one", "other"],
         1,
@@ -22,13 +22,13 @@ static OPENINGS: [(&[&str], u8, &str); 15] = [
     (
         &["cats", "diff", "bad", "one"],
         2,
-        "Anything bad\nAnything one\n",
+        "NoFolder bad\nNoFolder one\n",
     ),
     // a list is opened before its file, or in place of it
     (
         &["cats", "revenue", "same", "--bids", "bids"],
         1,
-        "NoFolder bids\nAnything same\n",
+        "NoFolder bids\nNoFolder same\n",
     ),
     (
         &["cats", "revenue", "same", "--bids", "words"],
@@ -39,6 +39,11 @@ static OPENINGS: [(&[&str], u8, &str); 15] = [
         &["cats", "revenue", "same", "--bids", "none"],
         5,
         "NoFolder none\n",
+    ),
+    (
+        &["cats", "fault", "one", "bad", "one"],
+        2,
+        "NoFolder one\nNoFolder bad\nNoFolder one\n",
     ),
     // a folder, a device and a FIFO are refused
     (
@@ -87,11 +92,15 @@ fn each_path_is_opened_once(rt: HostRuntime) -> Result<(), Fail> {
     for (name, words, _, _) in COMMANDS {
         let line = format!(in rt.alloc(); "cats {name} {words}")?;
         let line = words_of(rt.alloc(), line.as_str(), "sum", "sum")?;
-        let openings = match prefixes(words).len() {
-            1 => "Anything sum\n",
-            _ => "Anything sum\nAnything sum\n",
+        let way = match *name {
+            "check" | "show" | "value" | "normalise" | "compare" => "Anything",
+            _ => "NoFolder",
         };
-        opens(&rt, line.as_slice(), 0, openings)?;
+        let openings = match prefixes(words).len() {
+            1 => format!(in rt.alloc(); "{way} sum\n")?,
+            _ => format!(in rt.alloc(); "{way} sum\n{way} sum\n")?,
+        };
+        opens(&rt, line.as_slice(), 0, openings.as_str())?;
     }
     Ok(())
 }

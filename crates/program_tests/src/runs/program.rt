@@ -162,5 +162,19 @@ fn cannot_open(rt: HostRuntime) -> Result<(), Fail> {
         let answer = run(&rt, "cats check FILE", path, "", CAPACITY, *capacity)?;
         expect(&rt, &answer, 5, "", reported);
     }
+    // the commands that say why
+    for (path, reported) in &[
+        (
+            "/tmp/cats_cmd_no_such_folder/a.cats",
+            "cannot open: no such file\n",
+        ),
+        (
+            "/tmp",
+            "cannot open: is a folder: name it to 'fault', 'duplicates' or 'sizes'\n",
+        ),
+    ] {
+        let answer = run(&rt, "cats lp FILE", path, "", CAPACITY, CAPACITY)?;
+        expect(&rt, &answer, 5, "", reported);
+    }
     Ok(())
 }
