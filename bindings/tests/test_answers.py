@@ -48,10 +48,10 @@ def function_of(call):
     return fault if call.name == "fault" else FUNCTIONS[call.name]
 
 
-def fault(text):
+def fault(text, round=False):
     """Where the first fault of a text is, and what helps."""
     try:
-        yinchaku.check(text)
+        yinchaku.check(text, round=round)
     except yinchaku.RefusedText as error:
         assert error.line is not None and is_word_at(text, error)
         return error
