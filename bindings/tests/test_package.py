@@ -5,6 +5,7 @@ import doctest
 import importlib
 import mmap
 import os
+import pathlib
 import pkgutil
 import re
 import shutil
@@ -38,6 +39,11 @@ def test_examples(name):
 
 def test_there_are_examples():
     assert sum(doctest.testmod(importlib.import_module(name)).attempted for name in MODULES) > 15
+
+
+def test_where_the_examples_are(root, library):
+    ran = subprocess.run([sys.executable, "-B", "-m", "yinchaku.examples"], env={**os.environ, "PYTHONPATH": str(library)}, stdout=subprocess.PIPE, check=True)
+    assert (pathlib.Path(os.fsdecode(ran.stdout[:-1])) / "examples/ladder.cats").samefile(root / "examples/ladder.cats")
 
 
 def test_no_name_hides_one_of_python():

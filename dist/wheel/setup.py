@@ -1,5 +1,5 @@
-"""What pyproject.toml cannot say of the wheel: it has compiled code for any Python 3, its script is a program, and PROOF is with what it says of
-itself."""
+"""What pyproject.toml cannot say of the wheel: it has compiled code for any Python 3, its script is a program, with a manual page, and PROOF is with what
+it says of itself."""
 import shutil
 from distutils.command.build_scripts import build_scripts
 
@@ -34,4 +34,4 @@ class Scripts(build_scripts):
             self.copy_file(script, self.build_dir)
 
 
-setup(scripts=["bin/cats"], distclass=Compiled, cmdclass={"bdist_wheel": Wheel, "build_scripts": Scripts})
+setup(scripts=["bin/cats"], data_files=[("share/man/man1", ["cats.1"])], distclass=Compiled, cmdclass={"bdist_wheel": Wheel, "build_scripts": Scripts})
