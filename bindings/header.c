@@ -51,7 +51,7 @@ int main(void) {
     expect(cats_sizes(texts + 1, 1, &out, &err), CATS_DONE,
            "goods\tbids\tor_bids\txor_bidders\tdummies\tkept\tkept_or\tkept_xor\tfault\tfile\n2\t2\t2\t0\t0\t2\t2\t0\t\t1\n", "");
     cats_lp(text, &out, &err);
-    wrong += out.needed < 9 || memcmp(space, "Maximize\n", 9) != 0;
+    wrong += out.needed < 9 || memcmp(space, "\\ revenue", 9) != 0;
 
     request.prices = CATS_ROUNDED;
     out.size = 9;

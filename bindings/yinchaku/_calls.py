@@ -112,13 +112,15 @@ def explain(text: TextOrPath, steps: int = STEPS, *, total: Optional[int] = None
 
 
 def lp(text: TextOrPath, *, round: Rounding = False) -> bytes:
-    """The winner determination problem of a file, as a text for solvers, in CPLEX's LP format. The variable `xN` is 1 if bid N wins.
+    """The winner determination problem of a file, as a text for solvers, in CPLEX's LP format. The variable `xN` is 1 if bid N wins. Its prices are in
+    millionths, or in units if the sum of all is 2^53 millionths or more; the first line says which.
 
     >>> print(lp(b"goods 1\\nbids 2\\ndummy 0\\n0 3 0 #\\n1 4.5 0 #\\n").decode(), end="")
+    \\ revenue in millionths
     Maximize
      revenue:
-     + 3 x0
-     + 4.5 x1
+     + 3000000 x0
+     + 4500000 x1
     Subject To
      g0:
      + x0

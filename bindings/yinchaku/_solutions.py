@@ -26,6 +26,7 @@ LAYOUTS = {
 
 # A solver calculates in doubles, and prints few digits: how far a variable may be from 0 or 1, and, in proportion, a value from the sum of prices.
 CLOSE, IN_PROPORTION = 1e-3, 1e-5
+MILLION = 1_000_000
 
 
 class Solution(NamedTuple):
@@ -35,8 +36,8 @@ class Solution(NamedTuple):
     chosen: FrozenSet[int]
 
     def has_value(self, revenue: Decimal) -> bool:
-        """Whether the value is this one. Some solvers print the negative of what is maximised."""
-        return abs(abs(self.value) - float(revenue)) <= IN_PROPORTION * max(1, float(revenue))
+        """Whether the value is this one, in units or in millionths, as the problem has it. Some solvers print the negative of what is maximised."""
+        return any(abs(abs(self.value) - wanted) <= IN_PROPORTION * max(1, wanted) for wanted in (float(revenue), float(revenue * MILLION)))
 
 
 def solution_in(text: bytes, many: int) -> Solution:

@@ -28,8 +28,9 @@ def shown(number: int) -> str:
     return f"2**{power} or more" if number > 0 else f"-2**{power} or less"
 
 
-# What is escaped in a path, beside bytes that are not UTF-8: a backslash, and what controls lines, terminals or the direction of writing.
-ESCAPED = re.compile("[\\\\\x00-\x1f\x7f-\x9f\u2028-\u202e\u2066-\u2069]")
+# What is escaped in a path, beside bytes that are not UTF-8: a backslash, what controls lines, terminals or the direction of writing, and what
+# has no width.
+ESCAPED = re.compile("[\\\\\x00-\x1f\x7f-\x9f\xad\u061c\u200b-\u200f\u2028-\u202e\u2060-\u206f\ufeff]")
 
 
 def shown_path(path: pathlib.Path) -> str:

@@ -22,6 +22,7 @@ SECONDS = 120
 # The limits of the format: docs/FORMAT.md. Prices are whole here.
 GOODS, BIDS, GREATEST_PRICE = 4096, 65_536, 1_000_000_000_000
 
+MILLION = 1_000_000
 EXPLANATION_HEADER = "bid\tdummy\tprice\tgoods\treason\tkept\tby\n"
 DIFF_HEADER = "kind\tgoods\tleft\tright\tleft_dummy\tright_dummy\tleft_bid\tright_bid\n"
 SIZES_HEADER = "goods\tbids\tor_bids\txor_bidders\tdummies\tkept\tkept_or\tkept_xor\tfault\tfile\n"
@@ -116,11 +117,11 @@ def lp_text(goods, bids, whose):
     for number, bid in enumerate(bids):
         for good in bid.goods:
             rows[good][1].append(number)
-    prices = "".join(f" + {bid.price} x{number}\n" for number, bid in enumerate(bids))
+    prices = "".join(f" + {bid.price * MILLION} x{number}\n" for number, bid in enumerate(bids))
     shared = ((name, "".join(f" + x{number}\n" for number in numbers)) for name, numbers in rows if len(numbers) > 1)
     variables = "".join(f" x{number}\n" for number in range(len(bids)))
     constraints = "".join(f" {name}:\n{terms} <= 1\n" for name, terms in shared)
-    return f"Maximize\n revenue:\n{prices}Subject To\n{constraints}Binary\n{variables}End\n"
+    return f"\\ revenue in millionths\nMaximize\n revenue:\n{prices}Subject To\n{constraints}Binary\n{variables}End\n"
 
 
 def run(words, wanted, folder):

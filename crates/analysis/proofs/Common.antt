@@ -77,7 +77,8 @@ pub use Rattle.analysis.specs.Internal.Walks.{IsKnown, IsBestAt, IsLastBest, IsN
 pub use Rattle.analysis.specs.Internal.Walks.{is_kept_bid, passed_bids, IsAt}
 pub use Rattle.analysis.specs.KeptWinners.{kept_by, named_by, with_kept_bids, AreKept, in_canonical_file, kept_as, number_kept_as, in_place_of}
 pub use Rattle.analysis.specs.LpTexts.{AreRowsMet, objective, value_of, if_none, row_term, bids_with, PlainRow, is_shared, lp_rows, row_of, row_text}
-pub use Rattle.analysis.specs.LpTexts.{price_term, binary_line}
+pub use Rattle.analysis.specs.LpTexts.{are_sums_exact, price_term, binary_line}
+pub use Rattle.analysis.specs.declared.winners.lp.TheConstants.{EXACT_SUMS}
 pub use Rattle.analysis.specs.Reasons.{IsKeptInside, IsReason, IsBestBid, best_alike, PlainReason, Keep, Zero, Same, Inside, Packing, IsKeptAs, is_kept}
 pub use Rattle.analysis.specs.Reasons.{kept_number, is_kept_as, all_apart, goods_at, reason_at, Explains, points_of, kept_bid, point_number, best_reason}
 pub use Rattle.analysis.specs.Reasons.{or_reason, xor_reason, plain_reason, reasons_of}

@@ -1,12 +1,14 @@
 -- The winner determination problem as a text in CPLEX's LP format. There is a variable for each bid, which is 1 if the
 -- bid wins, and a row for each good and each dummy good that two bids or more have: at most one of them wins.
-use Rattle.std.specs.Prelude.{ℕ, Bool, ◌+◌, ◌-◌, ◌*◌, ◌≤◌, ◌==◌, nat_lt, if◌then◌else◌, List, [], ◌∷◌, ◌++◌, length}
-use Rattle.std.specs.Prelude.{map, sum_by, All, codes, decimal}
+use Rattle.std.specs.Prelude.{ℕ, ◌+◌, ◌-◌, ◌*◌, ◌≤◌, ◌==◌, nat_lt, if◌then◌else◌, List, [], ◌∷◌, ◌++◌, length}
+use Rattle.std.specs.Prelude.{map, sum_by, All, Bool, true, false, codes, decimal}
 use Rattle.std.specs.List.{filter, flat_map, list_any, range_with_len}
 use Rattle.goods_set.specs.Bundles.{has_good}
 use Rattle.bid_file.specs.Files.{PlainFile, goods_of}
 use Rattle.cats_text.specs.Layout.{price_text}
+use Rattle.analysis.specs.Allocations.{revenue}
 use Rattle.analysis.specs.Bids.{bid_at, numbers_of}
+use Rattle.analysis.specs.declared.winners.lp.TheConstants.{EXACT_SUMS}
 
 -- a name, and the numbers of bids of which at most one wins
 pub record PlainRow : Type 0 where
@@ -46,10 +48,24 @@ AreRowsMet f winners = All (λ row. sum_by (value_of winners) row.bids ≤ 1) (l
 abbrev pub objective : PlainFile → List ℕ → ℕ
 objective f winners = sum_by (λ i. (bid_at f i).price * value_of winners i) (numbers_of f)
 
+-- whether the sum of all prices is exact in a solver's numbers
+abbrev pub are_sums_exact : PlainFile → Bool
+are_sums_exact f = nat_lt (revenue f (numbers_of f)) EXACT_SUMS
+
 -- ---- the text, with one term in each line
 
-abbrev pub price_term : ℕ → ℕ → List ℕ
-price_term price i = codes " + " ++ price_text price ++ codes " x" ++ decimal i ++ codes "\n"
+-- a comment of the format: what the prices below it are
+abbrev pub unit_line : Bool → List ℕ
+unit_line true = codes "\\ revenue in millionths\n"
+unit_line false = codes "\\ revenue in units, as sums of millionths can pass 2^53\n"
+
+-- a price in millionths if their sums are exact, and else with decimals
+abbrev pub amount_text : Bool → ℕ → List ℕ
+amount_text true price = decimal price
+amount_text false price = price_text price
+
+abbrev pub price_term : Bool → ℕ → ℕ → List ℕ
+price_term exact price i = codes " + " ++ amount_text exact price ++ codes " x" ++ decimal i ++ codes "\n"
 
 abbrev pub row_term : ℕ → List ℕ
 row_term i = codes " + x" ++ decimal i ++ codes "\n"
@@ -69,7 +85,9 @@ if_none (row ∷ rows) text = []
 -- there is no bid, a variable `none` of the price 0 has one: it is no bid, and changes nothing.
 abbrev pub lp_text : PlainFile → List ℕ
 lp_text f =
-    codes "Maximize\n revenue:\n" ++ flat_map (λ i. price_term (bid_at f i).price i) (numbers_of f)
+    unit_line (are_sums_exact f)
+    ++ codes "Maximize\n revenue:\n"
+    ++ flat_map (λ i. price_term (are_sums_exact f) (bid_at f i).price i) (numbers_of f)
     ++ if_none (lp_rows f) (codes " + 0 none\n")
     ++ codes "Subject To\n" ++ flat_map row_text (lp_rows f)
     ++ if_none (lp_rows f) (codes " none:\n + none\n <= 1\n")

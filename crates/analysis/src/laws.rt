@@ -21,7 +21,8 @@ ghost use Rattle.analysis.specs.declared.winners.allocation_verdict.AllocationVe
 ghost use Rattle.analysis.specs.Allocations.{AreWinners, IsAllocation, greatest_revenue, revenue};
 ghost use Rattle.analysis.specs.KeptWinners.{AreKept, in_canonical_file, in_place_of, kept_as, number_kept_as};
 ghost use Rattle.analysis.specs.KeptWinners.{with_kept_bids};
-ghost use Rattle.analysis.specs.LpTexts.{AreRowsMet, objective};
+ghost use Rattle.analysis.specs.LpTexts.{AreRowsMet, are_sums_exact, objective};
+ghost use Rattle.analysis.specs.declared.winners.lp.TheConstants.{EXACT_SUMS};
 ghost use Rattle.analysis.specs.BidderChanges.{AreBidderChanges, PlainBidderChange, bidder_at, lefts_of, rights_of};
 ghost use Rattle.analysis.specs.Differences.{AreAllDifferences, BeginsWith, PlainDifferences, exchanged_change};
 ghost use Rattle.analysis.specs.Differences.{exchanged_goods, is_none_at_all};
@@ -90,7 +91,8 @@ pub fn kept_bids_suffice()
 {}
 
 /// The optimum of the problem that `lp_text` prints is the greatest revenue. The choices of winners that meet all of its
-/// rows are the allocations, and the objective is their revenue.
+/// rows are the allocations, and the objective is their revenue. Where prices are printed in millionths, each revenue is
+/// exact in a solver's numbers.
 pub fn lp_is_winner_determination()
     ensures rows { (f : PlainFile) → IsPlainFile f → (winners : List ℕ) → IsAllocation f winners → AreRowsMet f winners }
     ensures allocation { (f : PlainFile) → IsPlainFile f → (winners : List ℕ) → IsBundle (length f.bids) winners
@@ -101,6 +103,7 @@ pub fn lp_is_winner_determination()
         → AreRowsMet f winners → objective f winners ≤ greatest_revenue f }
     ensures reached { (f : PlainFile) → IsPlainFile f → ((winners : List ℕ) × IsBundle (length f.bids) winners
         × AreRowsMet f winners × (objective f winners ≡ greatest_revenue f)) }
+    ensures exact { (f : PlainFile) → are_sums_exact f ≡ true → (winners : List ℕ) → objective f winners < EXACT_SUMS }
 {}
 
 /// The named bids are a rising list of the named numbers, if the file has them all.

@@ -26,7 +26,12 @@ const ARGUMENTS: &[(&str, &str)] = &[
 The goods of the bundle: numbers up to 4095, lists such
 as 0,1,2, and ranges such as 0-19",
     ),
-    ("BID", "The numbers of the bids"),
+    (
+        "BID",
+        "\
+The bids: numbers up to 65535, lists such as 0,1,2,
+and ranges such as 0-19",
+    ),
     ("bids", "The numbers of the bids are in this file"),
     (
         "bound",

@@ -11,9 +11,14 @@ use Rattle.cats_cmd.specs.declared.paths.Ending.TheVariants.{Line, Null}
 
 -- ---- characters
 
--- neither a control character, nor a separator of lines, nor a control of the direction of writing
+-- it ends a line (U+2028, U+2029), controls the direction of writing, or has no width
+abbrev pub is_invisible : ℕ → Bool
+is_invisible c = (c == 0xAD) || (c == 0x61C) || is_in_range 0x200B 0x200F c || is_in_range 0x2028 0x202E c
+    || is_in_range 0x2060 0x206F c || (c == 0xFEFF)
+
+-- neither a control character nor invisible
 abbrev pub is_printable : ℕ → Bool
-is_printable c = not (is_control c || is_in_range 0x2028 0x202E c || is_in_range 0x2066 0x2069 c)
+is_printable c = not (is_control c || is_invisible c)
 
 -- what the program prints beside bid files: printable characters, and tabs and line feeds between them
 abbrev pub is_shown : ℕ → Bool

@@ -35,7 +35,7 @@ use Rattle.command_line.specs.declared.request.NoRequest.TheVariants.{Help, Wron
 use Rattle.command_line.specs.declared.request.Misuse.{Misuse}
 use Rattle.command_line.specs.declared.request.Misuse.TheVariants.{SignedNumber, MoreThanOneFile, MoreThanTwoFiles}
 use Rattle.command_line.specs.declared.request.Misuse.TheVariants.{BidsTwice, UnboundedTotal, WrongGoods}
-use Rattle.command_line.specs.declared.request.Misuse.TheVariants.{WrongFiles}
+use Rattle.command_line.specs.declared.request.Misuse.TheVariants.{WrongBids, NoFiles, FilesTwice}
 use Rattle.cats_cmd.specs.declared.paths.Ending.{Ending}
 use Rattle.cats_cmd.specs.declared.paths.Ending.TheVariants.{Line, Null}
 use Rattle.cats_cmd.specs.declared.paths.Progress.{Progress}
@@ -50,18 +50,23 @@ use Rattle.commands.specs.Judgements.{Judgement}
 
 -- ---- a command line without a request
 
+-- the end of what is printed of a wrong line
+abbrev pub try_help : List ℕ
+try_help = codes "\n\nFor more information, try '--help'.\n"
+
 -- why a line is wrong whose words its subcommand takes
 abbrev pub misuse_text : Misuse → List ℕ
-misuse_text SignedNumber = codes "error: a number has digits alone, and no sign\n\nFor more information, try '--help'.\n"
-misuse_text MoreThanOneFile = codes "error: this command takes one file\n\nFor more information, try '--help'.\n"
-misuse_text MoreThanTwoFiles = codes "error: this command takes two files\n\nFor more information, try '--help'.\n"
-misuse_text BidsTwice =
-    codes "error: give bids, or '--bids <LIST>', and not both\n\nFor more information, try '--help'.\n"
-misuse_text UnboundedTotal = codes "error: '--total-steps <N>' needs '--bound'\n\nFor more information, try '--help'.\n"
-misuse_text WrongGoods =
-    codes "error: goods are numbers up to 4095 and ranges, as in '0,2-5'\n\nFor more information, try '--help'.\n"
-misuse_text WrongFiles =
-    codes "error: give paths, or '--files0-from <LIST>', and not both\n\nFor more information, try '--help'.\n"
+misuse_text SignedNumber = codes "error: a number has digits alone, and no sign" ++ try_help
+misuse_text MoreThanOneFile =
+    codes "error: this command takes one file; 'cats duplicates' and 'cats sizes' take several" ++ try_help
+misuse_text MoreThanTwoFiles =
+    codes "error: this command takes two files; 'cats duplicates' and 'cats sizes' take several" ++ try_help
+misuse_text BidsTwice = codes "error: give bids, or '--bids <LIST>', and not both" ++ try_help
+misuse_text UnboundedTotal = codes "error: '--total-steps <N>' needs '--bound'" ++ try_help
+misuse_text WrongGoods = codes "error: goods are numbers up to 4095 and ranges, as in '0,2-5'" ++ try_help
+misuse_text WrongBids = codes "error: bids are numbers up to 65535 and ranges, as in '0,2-5'" ++ try_help
+misuse_text NoFiles = codes "error: give paths, or '--files0-from <LIST>'" ++ try_help
+misuse_text FilesTwice = codes "error: give paths or '--files0-from <LIST>', and not both" ++ try_help
 
 module _ {W E : Type 0} (contents : W → Option (List ℕ)) (messages : E → Option (List ℕ)) where
   -- the text was written, and the status says whether all of it was

@@ -2,8 +2,8 @@
 
 ghost use Rattle.std.specs.Prelude.{◌≡◌, ◌<◌, ◌≤◌, ◌++◌, IfOk, OnOk, drop, get_or, length, take};
 ghost use Rattle.std.specs.Char.{digit_char};
-ghost use Rattle.cats_cmd.specs.Escaping.{code_at, end_of, escaped, escaped_behind, escaped_byte, hex_escape, is_printable};
-ghost use Rattle.cats_cmd.specs.Escaping.{low_bits, path_text, plain_length};
+ghost use Rattle.cats_cmd.specs.Escaping.{code_at, end_of, escaped, escaped_behind, escaped_byte, hex_escape, is_invisible};
+ghost use Rattle.cats_cmd.specs.Escaping.{is_printable, low_bits, path_text, plain_length};
 
 use crate::paths::Ending;
 use std::alloc::{AllocError, Global};
@@ -147,12 +147,26 @@ fn byte_at(bytes: &[u8], index: usize) -> u32
     }
 }
 
-/// Whether it is neither a control character, nor a separator of lines, nor a control of the direction of writing.
+/// Whether it is neither a control character nor invisible.
 fn is_printable(character: char) -> bool
     ensures { result ≡ is_printable character }
 {
-    !(character.is_control()
-        || matches!(character, '\u{2028}'..='\u{202E}' | '\u{2066}'..='\u{2069}'))
+    !(character.is_control() || is_invisible(character))
+}
+
+/// Whether it ends a line, controls the direction of writing, or has no width.
+fn is_invisible(character: char) -> bool
+    ensures { result ≡ is_invisible character }
+{
+    matches!(
+        character,
+        '\u{AD}'
+            | '\u{61C}'
+            | '\u{200B}'..='\u{200F}'
+            | '\u{2028}'..='\u{202E}'
+            | '\u{2060}'..='\u{206F}'
+            | '\u{FEFF}'
+    )
 }
 
 fn escape_byte(byte: u8, text: &mut Vec<u8>) -> Result<(), AllocError>

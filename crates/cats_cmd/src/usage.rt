@@ -56,10 +56,10 @@ pub(crate) fn misuse_text(misuse: Misuse) -> &'static str
             "error: a number has digits alone, and no sign\n\nFor more information, try '--help'.\n"
         }
         Misuse::MoreThanOneFile => {
-            "error: this command takes one file\n\nFor more information, try '--help'.\n"
+            "error: this command takes one file; 'cats duplicates' and 'cats sizes' take several\n\nFor more information, try '--help'.\n"
         }
         Misuse::MoreThanTwoFiles => {
-            "error: this command takes two files\n\nFor more information, try '--help'.\n"
+            "error: this command takes two files; 'cats duplicates' and 'cats sizes' take several\n\nFor more information, try '--help'.\n"
         }
         Misuse::BidsTwice => {
             "error: give bids, or '--bids <LIST>', and not both\n\nFor more information, try '--help'.\n"
@@ -70,8 +70,14 @@ pub(crate) fn misuse_text(misuse: Misuse) -> &'static str
         Misuse::WrongGoods => {
             "error: goods are numbers up to 4095 and ranges, as in '0,2-5'\n\nFor more information, try '--help'.\n"
         }
-        Misuse::WrongFiles => {
-            "error: give paths, or '--files0-from <LIST>', and not both\n\nFor more information, try '--help'.\n"
+        Misuse::WrongBids => {
+            "error: bids are numbers up to 65535 and ranges, as in '0,2-5'\n\nFor more information, try '--help'.\n"
+        }
+        Misuse::NoFiles => {
+            "error: give paths, or '--files0-from <LIST>'\n\nFor more information, try '--help'.\n"
+        }
+        Misuse::FilesTwice => {
+            "error: give paths or '--files0-from <LIST>', and not both\n\nFor more information, try '--help'.\n"
         }
     }
 }

@@ -100,10 +100,16 @@ pub fn paths_escaped()
     // LF, tab, escape, delete, a backslash, U+9B
     ensures controls { map escaped ((10 ∷ []) ∷ (9 ∷ []) ∷ (27 ∷ []) ∷ (127 ∷ []) ∷ (92 ∷ []) ∷ (194 ∷ 155 ∷ []) ∷ [])
         ≡ codes "\\n" ∷ codes "\\t" ∷ codes "\\x1b" ∷ codes "\\x7f" ∷ codes "\\\\" ∷ codes "\\xc2\\x9b" ∷ [] }
-    // U+2028, U+202E, U+2066, U+2069
+    // U+2028, U+202E, U+2066, U+2069, U+61C, U+200E, U+200F
     ensures directions { map escaped ((226 ∷ 128 ∷ 168 ∷ []) ∷ (226 ∷ 128 ∷ 174 ∷ []) ∷ (226 ∷ 129 ∷ 166 ∷ []) ∷
-        (226 ∷ 129 ∷ 169 ∷ []) ∷ [])
-        ≡ codes "\\xe2\\x80\\xa8" ∷ codes "\\xe2\\x80\\xae" ∷ codes "\\xe2\\x81\\xa6" ∷ codes "\\xe2\\x81\\xa9" ∷ [] }
+        (226 ∷ 129 ∷ 169 ∷ []) ∷ (216 ∷ 156 ∷ []) ∷ (226 ∷ 128 ∷ 142 ∷ []) ∷ (226 ∷ 128 ∷ 143 ∷ []) ∷ [])
+        ≡ codes "\\xe2\\x80\\xa8" ∷ codes "\\xe2\\x80\\xae" ∷ codes "\\xe2\\x81\\xa6" ∷ codes "\\xe2\\x81\\xa9"
+        ∷ codes "\\xd8\\x9c" ∷ codes "\\xe2\\x80\\x8e" ∷ codes "\\xe2\\x80\\x8f" ∷ [] }
+    // U+AD, U+200B, U+200D, U+2060, U+FEFF
+    ensures unseen { map escaped ((194 ∷ 173 ∷ []) ∷ (226 ∷ 128 ∷ 139 ∷ []) ∷ (226 ∷ 128 ∷ 141 ∷ []) ∷
+        (226 ∷ 129 ∷ 160 ∷ []) ∷ (239 ∷ 187 ∷ 191 ∷ []) ∷ [])
+        ≡ codes "\\xc2\\xad" ∷ codes "\\xe2\\x80\\x8b" ∷ codes "\\xe2\\x80\\x8d" ∷ codes "\\xe2\\x81\\xa0"
+        ∷ codes "\\xef\\xbb\\xbf" ∷ [] }
     // no UTF-8: a byte alone, a character that is cut, two that are too long, a surrogate, a number above U+10FFFF
     ensures broken { map escaped ((255 ∷ []) ∷ (195 ∷ 40 ∷ []) ∷ (192 ∷ 128 ∷ []) ∷ (224 ∷ 130 ∷ 172 ∷ []) ∷
         (237 ∷ 160 ∷ 128 ∷ [])

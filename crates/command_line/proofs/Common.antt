@@ -16,7 +16,7 @@ pub use Rattle.clap.specs.declared.error.Error.{Error}
 pub use Rattle.clap.specs.declared.error.kind.ErrorKind.{ErrorKind}
 pub use Rattle.clap.specs.declared.error.kind.ErrorKind.TheVariants.{ValueValidation}
 pub use Rattle.clap.specs.declared.parser.matches.ArgMatches.{ArgMatches}
-pub use Rattle.command_line.specs.Goods.{all_goods, ends_of, firsts, goods_of_part, joined, good_of, goods_of_word, goods_of_words}
+pub use Rattle.command_line.specs.NumberLists.{all_numbers, ends_of, firsts, joined, named_number, numbers_of_part, numbers_of_word, numbers_of_words}
 pub use Rattle.command_line.specs.Internal.Matches.{IsAnswerTo, rows_in, with_command, with_one}
 pub use Rattle.command_line.specs.Internal.Named.{AreMarked, is_among, with_all, with_named}
 pub use Rattle.command_line.specs.Commands.{cats}
@@ -29,7 +29,7 @@ pub use Rattle.requests.specs.declared.task.TaskRow.{TaskRow}
 pub use Rattle.requests.specs.declared.task.TheConstants.{TASKS}
 pub use Rattle.command_line.specs.Numbers.{begins_with_sign, limit_of, number_up_to}
 pub use Rattle.command_line.specs.declared.request.Misuse.{Misuse}
-pub use Rattle.command_line.specs.declared.request.Misuse.TheVariants.{SignedNumber, UnboundedTotal, WrongFiles}
+pub use Rattle.command_line.specs.declared.request.Misuse.TheVariants.{SignedNumber, UnboundedTotal, NoFiles}
 pub use Rattle.command_line.specs.declared.request.NoRequest.{NoRequest}
 pub use Rattle.command_line.specs.declared.request.NoRequest.TheVariants.{Help, WrongUsage, Misused, NoMemory}
 pub use Rattle.std.proofs.Common.{◌≡◌, ◌∙◌, ℕ, Bool, true, false, List, [], ◌∷◌, Option, Some, None, Result, ap, sym, subst, refl, inl, inr, ◌++◌, ◌+◌, ◌-◌}
@@ -39,15 +39,13 @@ pub use Rattle.std.proofs.lemmas.Bool.{lt-leb}
 pub use Rattle.std.proofs.lemmas.Bool.Decides.{nat_tests}
 pub use Rattle.std.proofs.lemmas.Iterator.Consumers.{map_from_collect}
 pub use Rattle.std.proofs.lemmas.Iterator.Splits.{YieldsList-from_str_split}
-pub use Rattle.std.proofs.lemmas.List.{append-nil, append_assoc, get_or-replicate, length-replicate, at_drop_more, get_or-map, map_more}
-pub use Rattle.std.proofs.lemmas.List.Elements.{filter_map-append}
+pub use Rattle.std.proofs.lemmas.List.{append-nil, append_assoc, get_or-replicate, length-replicate, at_drop_more, get_or-map}
 pub use Rattle.std.proofs.lemmas.List.Folds.{list_any-append}
 pub use Rattle.std.proofs.lemmas.List.Sums.{fold_more, fold-append, fold_push}
 pub use Rattle.std.specs.Borrow.{Bor}
-pub use Rattle.std.specs.List.{cons_option}
 pub use Rattle.std.specs.List.{list_any, range_with_len, slice_split}
 pub use Rattle.std.specs.Option.{option_map_or}
-pub use Rattle.std.specs.Prelude.{filter, filter_map, not, ◌&&◌, option_map, ◌==◌, if◌then◌else◌, option_and_then, ◌||◌, All, find, fold, unwrap_or}
+pub use Rattle.std.specs.Prelude.{filter, not, ◌&&◌, option_map, ◌==◌, if◌then◌else◌, option_and_then, ◌||◌, All, find, fold, unwrap_or}
 pub use Rattle.std.specs.Result.{result_ok}
 pub use Rattle.std.specs.Str.{bytes_eq}
 pub use Rattle.std.specs.Str.Parse.{ParsesUnsigned}

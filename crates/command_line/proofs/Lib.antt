@@ -2,7 +2,7 @@
 pub mod Common
 pub mod Answering
 pub mod FirstNames
-pub mod GoodsSoFar
+pub mod NumbersSoFar
 pub mod Reading
 pub mod Lines
 pub mod PlainWords

@@ -4,7 +4,7 @@ use Rattle.command_line.proofs.Common.{◌≡◌, ◌∙◌, ◌++◌, Bool, Lis
 use Rattle.command_line.proofs.Common.{filter, find, fold, unwrap_or, if◌then◌else◌, option_map, get_or-map, option_map_or, result_ok, check_fault}
 use Rattle.command_line.proofs.Common.{defaults_fault, level_fault, settle_fault, Kinds, or_else, Shape, built, label_of, new_shape, rows_at, Held, Text}
 use Rattle.command_line.proofs.Common.{Walk, answers_to, finished, idle, nothing_held, settled, walk_from, walked, ValueValidation, PlainRequest, Misuse}
-use Rattle.command_line.proofs.Common.{SignedNumber, UnboundedTotal, WrongFiles, cats, if_taken, request_of, requested_by, requested_in, paths_for}
+use Rattle.command_line.proofs.Common.{SignedNumber, UnboundedTotal, NoFiles, cats, if_taken, request_of, requested_by, requested_in, paths_for}
 use Rattle.command_line.proofs.Common.{begins_with_hyphen, EachRequests, Task, TaskRow, TASKS, name_of, ℕ, begins_with_sign, is_unsigned_in, unless_signed}
 use Rattle.command_line.proofs.Common.{usual}
 use Rattle.command_line.proofs.PlainWords.{ArePlain, at, hyphens, same_after}
@@ -21,7 +21,7 @@ shape_named name = unwrap_or (find (λ s. answers_to name (label_of s)) (built c
 -- what the words after the name of a command request
 abbrev pub request_by : Option Shape → List Text → Option PlainRequest
 request_by found words = if_taken (or_else (option_map_or (λ s. level_fault s [] nothing_held words false []) found []) [])
-    (result_ok (option_map_or (λ p. requested_in p.0 p.1) (option_map (λ s. rows_at s words) found) (Err WrongFiles)))
+    (result_ok (option_map_or (λ p. requested_in p.0 p.1) (option_map (λ s. rows_at s words) found) (Err NoFiles)))
 
 abbrev pub request_after : Text → List Text → Option PlainRequest
 request_after name words = request_by (find (λ s. answers_to name (label_of s)) (built cats).subs) words

@@ -1,5 +1,5 @@
 -- What a command takes, by its row of `TASKS`, and what was given to it. An option more is a row more.
-use Rattle.std.specs.Prelude.{◌&&◌, ◌||◌, ◌++◌, ℕ, Bool, true, false, not, List, [], ◌∷◌, map, filter_map, fold, pos}
+use Rattle.std.specs.Prelude.{◌&&◌, ◌||◌, ◌++◌, ℕ, Bool, true, false, not, List, [], ◌∷◌, map, fold}
 use Rattle.std.specs.Prelude.{Option, Some, None, codes, if◌then◌else◌, is_some, option_and_then, unwrap_or}
 use Rattle.std.specs.List.{list_any}
 use Rattle.std.specs.Option.{option_map_or, option_or}
@@ -8,9 +8,9 @@ use Rattle.clap.specs.Lexer.{usize_max}
 use Rattle.clap.specs.Simple.{App, Shape, new_rule, new_shape}
 use Rattle.clap.specs.Walk.{Row, Rule, all_of, first_of}
 use Rattle.clap.specs.declared.builder.action.ArgAction.TheVariants.{SetTrue}
-use Rattle.clap.specs.declared.builder.value_parser.ValueParser.TheVariants.{Signed, Unsigned}
-use Rattle.command_line.specs.Goods.{goods_of_words}
-use Rattle.command_line.specs.Numbers.{begins_with_sign, limit_of, number_up_to}
+use Rattle.clap.specs.declared.builder.value_parser.ValueParser.TheVariants.{Unsigned}
+use Rattle.command_line.specs.NumberLists.{numbers_of_words}
+use Rattle.command_line.specs.Numbers.{begins_with_sign, limit_of}
 use Rattle.requests.specs.Tasks.{is_many, name_of}
 use Rattle.requests.specs.declared.task.Files.{Files}
 use Rattle.requests.specs.declared.task.Files.TheVariants.{Two}
@@ -34,10 +34,6 @@ abbrev pub words_from : ℕ → List ℕ → Rule
 words_from least name = record (new_rule name) {
   range = Some (record { start_inclusive = least; end_inclusive = usize_max });
 }
-
--- bids have numbers of 32 bits
-abbrev pub bids : Rule
-bids = record (words_from 0 (codes "BID")) { parser = Some (Signed (pos 0) (pos 4294967295)) }
 
 -- ---- options and flags
 
@@ -97,7 +93,7 @@ arguments_of row =
     ∷ (file, not (is_many row.files))
     ∷ (second_file, is_two row.files)
     ∷ (words_from 0 (codes "GOOD"), row.goods)
-    ∷ (bids, row.bids)
+    ∷ (words_from 0 (codes "BID"), row.bids)
     ∷ (words_from 0 (codes "MORE_FILES"), has_no_other_words row)
     ∷ []
 
@@ -131,11 +127,12 @@ files_in rows = texts_in (codes "FILE") rows ++ texts_in (codes "SECOND_FILE") r
 abbrev pub list_in : List Row → Option (List ℕ)
 list_in rows = option_or (first_of (codes "files0-from") rows) (first_of (codes "bids") rows)
 
+-- a file has 4,096 goods and 65,536 bids at most, which are counted from 0
 abbrev pub goods_in : List Row → Option (List ℕ)
-goods_in rows = goods_of_words (texts_in (codes "GOOD") rows)
+goods_in rows = numbers_of_words 4095 (texts_in (codes "GOOD") rows)
 
-abbrev pub bids_in : List Row → List ℕ
-bids_in rows = filter_map (number_up_to 4294967295) (texts_in (codes "BID") rows)
+abbrev pub bids_in : List Row → Option (List ℕ)
+bids_in rows = numbers_of_words 65535 (texts_in (codes "BID") rows)
 
 -- the number that an option has
 abbrev pub number_in : List ℕ → List Row → Option ℕ

@@ -1,6 +1,6 @@
 -- What the contracts of this crate cite.
 pub mod Commands
-pub mod Goods
 pub mod Numbers
+pub mod NumberLists
 pub mod Requests
 pub mod Internal

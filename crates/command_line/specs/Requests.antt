@@ -17,7 +17,8 @@ use Rattle.command_line.specs.Commands.{is_set, list_in, options_in, prices_in}
 use Rattle.command_line.specs.Numbers.{begins_with_sign}
 use Rattle.command_line.specs.declared.request.Misuse.{Misuse}
 use Rattle.command_line.specs.declared.request.Misuse.TheVariants.{SignedNumber, MoreThanOneFile, MoreThanTwoFiles}
-use Rattle.command_line.specs.declared.request.Misuse.TheVariants.{BidsTwice, UnboundedTotal, WrongGoods, WrongFiles}
+use Rattle.command_line.specs.declared.request.Misuse.TheVariants.{BidsTwice, UnboundedTotal, WrongGoods, WrongBids}
+use Rattle.command_line.specs.declared.request.Misuse.TheVariants.{NoFiles, FilesTwice}
 use Rattle.command_line.specs.declared.request.NoRequest.{NoRequest}
 use Rattle.command_line.specs.declared.request.NoRequest.TheVariants.{Help, WrongUsage, Misused, NoMemory}
 use Rattle.requests.specs.Requests.{PlainRequest}
@@ -33,10 +34,10 @@ use Rattle.valuation.specs.declared.search.options.SearchOptions.{SearchOptions}
 -- ---- by the rows of the arguments of a command
 
 -- many files are words or a list, and not both
-abbrev pub has_wrong_files : Bool → Bool → Bool
-has_wrong_files true false = false
-has_wrong_files false true = false
-has_wrong_files words list = true
+abbrev pub misuse_of_files : Bool → Bool → Option Misuse
+misuse_of_files true true = Some FilesTwice
+misuse_of_files false false = Some NoFiles
+misuse_of_files words list = None
 
 -- what is wrong with a line that `clap` takes, if something is
 abbrev pub misuse_in : List Row → Option Misuse
@@ -46,8 +47,8 @@ misuse_in rows = if has_signed_number rows then Some SignedNumber
     else (if is_given (codes "bids") rows && is_given (codes "BID") rows then Some BidsTwice
     else (if is_given (codes "total-steps") rows && not (is_bounded rows) then Some UnboundedTotal
     else (if is_none (goods_in rows) then Some WrongGoods
-    else (if has_wrong_files (is_given (codes "FILE") rows) (is_given (codes "files0-from") rows) then Some WrongFiles
-    else None)))))
+    else (if is_none (bids_in rows) then Some WrongBids
+    else misuse_of_files (is_given (codes "FILE") rows) (is_given (codes "files0-from") rows))))))
 
 -- what a command requests by its arguments
 abbrev pub request_in : Task → List Row → PlainRequest
@@ -56,7 +57,7 @@ request_in task rows = record {
   files = files_in rows;
   list = list_in rows;
   goods = unwrap_or (goods_in rows) [];
-  bids = bids_in rows;
+  bids = unwrap_or (bids_in rows) [];
   prices = prices_in rows;
   options = options_in rows;
   progress = is_set (codes "progress") rows;
@@ -70,7 +71,7 @@ task_named name = option_map (λ row. row.task) (find (λ row. bytes_eq (name_of
 -- what the command of a name requests, or what is wrong; `clap` takes the name of no other command
 abbrev pub requested_by : Option Misuse → Option PlainRequest → Result PlainRequest Misuse
 requested_by (Some misuse) found = Err misuse
-requested_by None found = ok_or found WrongFiles
+requested_by None found = ok_or found NoFiles
 
 abbrev pub requested_in : List ℕ → List Row → Result PlainRequest Misuse
 requested_in name rows = requested_by (misuse_in rows) (option_map (λ task. request_in task rows) (task_named name))
@@ -79,7 +80,7 @@ requested_in name rows = requested_by (misuse_in rows) (option_map (λ task. req
 
 -- what a line requests that `clap` takes, or what is wrong with it
 abbrev pub requested_of : List (List ℕ) → Result PlainRequest Misuse
-requested_of words = option_map_or (λ p. requested_in p.0 p.1) (subcommand_of cats words) (Err WrongFiles)
+requested_of words = option_map_or (λ p. requested_in p.0 p.1) (subcommand_of cats words) (Err NoFiles)
 
 -- a line without a fault requests this, and another nothing
 abbrev pub if_taken : Kinds → Option PlainRequest → Option PlainRequest
@@ -92,7 +93,7 @@ request_of words = if_taken (fault_of cats words) (result_ok (requested_of words
 
 -- why a line requests nothing although `clap` takes it
 abbrev pub misuse_of : List (List ℕ) → Misuse
-misuse_of words = unwrap_or (result_err (requested_of words)) WrongFiles
+misuse_of words = unwrap_or (result_err (requested_of words)) NoFiles
 
 -- a line as words, with a space (32) between each two
 abbrev pub words_in : List ℕ → List (List ℕ)

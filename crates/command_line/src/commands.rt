@@ -3,7 +3,7 @@
 ghost use Rattle.std.specs.Prelude.{◌≡◌, IfOk, false};
 ghost use Rattle.clap.specs.Simple.{new_app};
 ghost use Rattle.clap.specs.Words.{app_of, rule_of};
-ghost use Rattle.command_line.specs.Commands.{bids, cats, file, flag, has_no_other_words, is_always_bounded};
+ghost use Rattle.command_line.specs.Commands.{cats, file, flag, has_no_other_words, is_always_bounded};
 ghost use Rattle.requests.specs.Tasks.{is_many};
 ghost use Rattle.command_line.specs.Commands.{is_two, option, second_file, shape_of, steps, total_steps, words_from};
 ghost use Rattle.command_line.specs.Internal.Matches.{has_globals, with_one};
@@ -106,7 +106,7 @@ fn task_command<'a>(
         .with(!many, file(alloc))?
         .with(is_two(row.files), second_file(alloc))?
         .with(row.goods, words_from(alloc, 0, GOOD))?
-        .with(row.bids, bids(alloc))?
+        .with(row.bids, words_from(alloc, 0, BID))?
         .with(
             has_no_other_words(row),
             words_from(alloc, 0, MORE_FILES).hide(true),
@@ -196,19 +196,12 @@ fn second_file<'a>(alloc: Global) -> Arg<'a>
     Arg::new(alloc, SECOND_FILE).required(true).value_name(FILE)
 }
 
-/// So many words, or more. `clap` takes any words as goods and as files too many, and the parser judges them.
+/// So many words, or more. `clap` takes any words as goods, bids and files too many, and the parser judges them.
 fn words_from<'a>(alloc: Global, least: usize, name: &'a str) -> Arg<'a>
     ensures rule { rule_of result ≡ words_from least name.entry.now }
     ensures local { result.global ≡ false }
 {
     Arg::new(alloc, name).num_args(least..)
-}
-
-fn bids<'a>(alloc: Global) -> Arg<'a>
-    ensures rule { rule_of result ≡ bids }
-    ensures local { result.global ≡ false }
-{
-    words_from(alloc, 0, BID).value_parser(value_parser!(u32))
 }
 
 fn option<'a>(alloc: Global, name: &'a str, value: &'a str) -> Arg<'a>

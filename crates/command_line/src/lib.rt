@@ -2,9 +2,9 @@
 #![tactic(auto)]
 
 mod commands;
-mod goods;
 pub mod help;
 pub mod laws;
+mod number_lists;
 mod parser;
 pub mod request;
 pub mod worked;

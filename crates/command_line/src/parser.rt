@@ -9,15 +9,15 @@ ghost use Rattle.command_line.specs.Commands.{bids_in, cats, files_in, goods_in,
 ghost use Rattle.command_line.specs.Commands.{is_set, is_signed, list_in, number_in, options_in, prices_in, texts_in};
 ghost use Rattle.command_line.specs.Internal.Matches.{IsAnswerTo, plain_requested, rows_in};
 ghost use Rattle.command_line.specs.Numbers.{begins_with_sign};
-ghost use Rattle.command_line.specs.Requests.{IsNoRequestOf, misuse_in, request_in, request_of, requested_in, requested_of};
-ghost use Rattle.command_line.specs.Requests.{task_named};
+ghost use Rattle.command_line.specs.Requests.{IsNoRequestOf, misuse_in, misuse_of_files, request_in, request_of};
+ghost use Rattle.command_line.specs.Requests.{requested_in, requested_of, task_named};
 ghost use Rattle.requests.specs.Requests.{plain_request, texts_of};
 
 use crate::commands::{
     ALL, BID, BIDS, BOUND, EXACT, FILE, FILES0_FROM, GOOD, MORE_FILES, NULL, PROGRESS, ROUND,
     ROUND_EXACT, SECOND_FILE, STEPS, TOTAL_STEPS, cats_command,
 };
-use crate::goods::goods_of_words;
+use crate::number_lists::numbers_of_words;
 use crate::request::{Misuse, NoRequest};
 use clap::error::ErrorKind;
 use clap::{ArgMatches, Error};
@@ -27,6 +27,11 @@ use requests::task::{TASKS, Task, name_of};
 use rounding::replacement::FinePrices;
 use std::alloc::{AllocError, Global};
 use valuation::search::SearchOptions;
+
+/// The greatest number of a good. A file has 4,096 at most, which are counted from 0.
+const MAX_GOOD: u16 = 4_095;
+/// The greatest number of a bid. A file has 65,536 at most.
+const MAX_BID: u16 = 65_535;
 
 /// Reads a command line, whose first word is the program's name. `--version` prints `version` after that name, and
 /// `--help` the texts of `help`.
@@ -79,7 +84,7 @@ fn find_request<'a>(
     let matches = cats_command(alloc, version, help)?.try_get_matches_from(words)?;
     match matches.subcommand() {
         Some((name, given)) => Ok(judge(alloc, name, given)?),
-        None => Ok(Err(Misuse::WrongFiles)),
+        None => Ok(Err(Misuse::NoFiles)),
     }
 }
 
@@ -92,13 +97,15 @@ fn judge<'a>(
     ensures { IfOk result (λ found. plain_requested found ≡ requested_in name.now (rows_in given.now)) }
 {
     let goods = find_goods(alloc, given)?;
-    if let Some(misuse) = find_misuse(given, goods.is_none()) {
+    let bids = find_bids(alloc, given)?;
+    if let Some(misuse) = find_misuse(given, goods.is_none(), bids.is_none()) {
         return Ok(Err(misuse));
     }
     let goods = goods.unwrap_or(Vec::new(alloc));
+    let bids = bids.unwrap_or(Vec::new(alloc));
     match find_task(name) {
-        Some(task) => Ok(Ok(request(alloc, task, goods, given)?)),
-        None => Ok(Err(Misuse::WrongFiles)),
+        Some(task) => Ok(Ok(request(alloc, task, goods, bids, given)?)),
+        None => Ok(Err(Misuse::NoFiles)),
     }
 }
 
@@ -111,8 +118,13 @@ fn find_task(name: &str) -> Option<Task>
 }
 
 /// What is wrong with a line that `clap` takes, if something is.
-fn find_misuse(given: &ArgMatches<'_>, has_wrong_goods: bool) -> Option<Misuse>
-    requires { has_wrong_goods ≡ is_none (goods_in (rows_in given.now)) }
+fn find_misuse(
+    given: &ArgMatches<'_>,
+    has_wrong_goods: bool,
+    has_wrong_bids: bool,
+) -> Option<Misuse>
+    requires goods { has_wrong_goods ≡ is_none (goods_in (rows_in given.now)) }
+    requires bids { has_wrong_bids ≡ is_none (bids_in (rows_in given.now)) }
     ensures { result ≡ misuse_in (rows_in given.now) }
 {
     if has_signed_number(given) {
@@ -129,21 +141,34 @@ fn find_misuse(given: &ArgMatches<'_>, has_wrong_goods: bool) -> Option<Misuse>
         Some(Misuse::UnboundedTotal)
     } else if has_wrong_goods {
         Some(Misuse::WrongGoods)
-    } else if is_given(given, FILE) == is_given(given, FILES0_FROM) {
-        Some(Misuse::WrongFiles)
+    } else if has_wrong_bids {
+        Some(Misuse::WrongBids)
     } else {
-        None
+        misuse_of_files(is_given(given, FILE), is_given(given, FILES0_FROM))
     }
 }
 
-/// What a command requests by its matches, which are not wrong, and the goods that they name.
+/// Many files are words or a list, and not both.
+fn misuse_of_files(words: bool, list: bool) -> Option<Misuse>
+    ensures { result ≡ misuse_of_files words list }
+{
+    match (words, list) {
+        (true, true) => Some(Misuse::FilesTwice),
+        (false, false) => Some(Misuse::NoFiles),
+        _ => None,
+    }
+}
+
+/// What a command requests by its matches, which are not wrong, and the goods and the bids that they name.
 fn request<'a>(
     alloc: Global,
     task: Task,
     goods: Vec<u16>,
+    bids: Vec<u32>,
     given: &ArgMatches<'a>,
 ) -> Result<Request<'a>, AllocError>
-    requires { goods.items ≡ unwrap_or (goods_in (rows_in given.now)) [] }
+    requires goods { goods.items ≡ unwrap_or (goods_in (rows_in given.now)) [] }
+    requires bids { bids.items ≡ unwrap_or (bids_in (rows_in given.now)) [] }
     ensures { IfOk result (λ request. plain_request request ≡ request_in task (rows_in given.now)) }
 {
     Ok(Request {
@@ -151,7 +176,7 @@ fn request<'a>(
         files: find_files(alloc, given)?,
         list: find_list(given),
         goods,
-        bids: find_bids(alloc, given)?,
+        bids,
         prices: find_prices(given),
         options: find_options(given),
         progress: is_set(given, PROGRESS),
@@ -178,20 +203,20 @@ fn find_list<'a>(given: &ArgMatches<'a>) -> Option<&'a str>
 fn find_goods(alloc: Global, given: &ArgMatches<'_>) -> Result<Option<Vec<u16>>, AllocError>
     ensures { IfOk result (λ goods. option_map (λ found. found.items) goods ≡ goods_in (rows_in given.now)) }
 {
-    goods_of_words(alloc, find_texts(given, GOOD))
+    numbers_of_words(alloc, find_texts(given, GOOD), MAX_GOOD)
 }
 
-/// The bids that words name. `clap` takes no word as a bid that is no number.
-fn find_bids(alloc: Global, given: &ArgMatches<'_>) -> Result<Vec<u32>, AllocError>
-    ensures { IfOk result (λ bids. bids.items ≡ bids_in (rows_in given.now)) }
+fn find_bids(alloc: Global, given: &ArgMatches<'_>) -> Result<Option<Vec<u32>>, AllocError>
+    ensures { IfOk result (λ bids. option_map (λ found. found.items) bids ≡ bids_in (rows_in given.now)) }
 {
+    let Some(numbers) = numbers_of_words(alloc, find_texts(given, BID), MAX_BID)? else {
+        return Ok(None);
+    };
     let mut bids = Vec::new(alloc);
-    for word in find_texts(given, BID) {
-        if let Ok(bid) = word.parse::<u32>() {
-            bids.push(bid)?;
-        }
+    for number in numbers.as_slice() {
+        bids.push(u32::from(*number))?;
     }
-    Ok(bids)
+    Ok(Some(bids))
 }
 
 /// What becomes of fine prices.

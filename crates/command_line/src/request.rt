@@ -30,6 +30,10 @@ pub enum Misuse {
     UnboundedTotal,
     /// A word that ought to name goods is not a list of numbers and ranges.
     WrongGoods,
-    /// It has both a list of paths and paths, or neither.
-    WrongFiles,
+    /// Nor is one that ought to name bids.
+    WrongBids,
+    /// It has neither paths nor a list of paths.
+    NoFiles,
+    /// It has both.
+    FilesTwice,
 }

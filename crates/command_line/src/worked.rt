@@ -6,11 +6,11 @@ ghost use Rattle.std.specs.List.{flat_map, list_any};
 ghost use Rattle.clap.specs.Faults.{fault_of};
 ghost use Rattle.clap.specs.declared.error.kind.ErrorKind.TheVariants.{UnknownArgument};
 ghost use Rattle.command_line.specs.Commands.{cats};
-ghost use Rattle.command_line.specs.Goods.{goods_of_word};
+ghost use Rattle.command_line.specs.NumberLists.{numbers_of_word};
 ghost use Rattle.command_line.specs.Requests.{misuse_of, request_of, usual, words_in};
 ghost use Rattle.command_line.specs.declared.request.Misuse.TheVariants.{BidsTwice, MoreThanOneFile, MoreThanTwoFiles};
 ghost use Rattle.command_line.specs.declared.request.Misuse.TheVariants.{SignedNumber, UnboundedTotal};
-ghost use Rattle.command_line.specs.declared.request.Misuse.TheVariants.{WrongFiles, WrongGoods};
+ghost use Rattle.command_line.specs.declared.request.Misuse.TheVariants.{FilesTwice, NoFiles, WrongBids, WrongGoods};
 ghost use Rattle.requests.specs.declared.task.Task.TheVariants.{Check, Compare, Diff, Duplicates, Explain};
 ghost use Rattle.requests.specs.declared.task.Task.TheVariants.{Normalise, Revenue, Show, Sizes, Value};
 ghost use Rattle.rounding.specs.declared.replacement.FinePrices.TheVariants.{Refuse, Round};
@@ -70,8 +70,8 @@ pub fn rounding()
 
 /// Bids, and the flag of `duplicates` for all files.
 pub fn bids_and_files()
-    ensures given { request_of (words_in (codes "cats revenue a 4294967295 0"))
-        ≡ Some (record (usual Revenue (codes "a" ∷ [])) { bids = 4294967295 ∷ 0 ∷ [] }) }
+    ensures given { request_of (words_in (codes "cats revenue a 65535 0,1 3-5 1"))
+        ≡ Some (record (usual Revenue (codes "a" ∷ [])) { bids = 65535 ∷ 0 ∷ 1 ∷ 3 ∷ 4 ∷ 5 ∷ [] }) }
     ensures listed { request_of (words_in (codes "cats revenue --bids l a"))
         ≡ Some (record (usual Revenue (codes "a" ∷ [])) { list = Some (codes "l") }) }
     ensures all { request_of (words_in (codes "cats duplicates a --all"))
@@ -84,9 +84,9 @@ pub fn goods()
         ≡ Some (record (usual Value (codes "a" ∷ [])) { goods = 0 ∷ 1 ∷ 2 ∷ 7 ∷ 4 ∷ 5 ∷ 6 ∷ [] }) }
     ensures again { request_of (words_in (codes "cats value a 3,0,3 0-4 2"))
         ≡ Some (record (usual Value (codes "a" ∷ [])) { goods = 3 ∷ 0 ∷ 1 ∷ 2 ∷ 4 ∷ [] }) }
-    ensures words { map goods_of_word (codes "3" ∷ codes "3-3" ∷ codes "4094-4095" ∷ codes "1,1" ∷ [])
+    ensures words { map (numbers_of_word 4095) (codes "3" ∷ codes "3-3" ∷ codes "4094-4095" ∷ codes "1,1" ∷ [])
         ≡ Some (3 ∷ []) ∷ Some (3 ∷ []) ∷ Some (4094 ∷ 4095 ∷ []) ∷ Some (1 ∷ 1 ∷ []) ∷ [] }
-    ensures wrong_words { map goods_of_word (codes "19-0" ∷ codes "0-" ∷ codes "-3" ∷ codes "1,,2" ∷ [] ∷ codes "1,"
+    ensures wrong_words { map (numbers_of_word 4095) (codes "19-0" ∷ codes "0-" ∷ codes "-3" ∷ codes "1,,2" ∷ [] ∷ codes "1,"
         ∷ codes "1-2-3" ∷ codes "+1" ∷ codes "1,+2" ∷ codes "4096" ∷ codes "0-4096" ∷ codes "65536" ∷ codes "1 2"
         ∷ codes "x" ∷ [])
         ≡ None ∷ None ∷ None ∷ None ∷ None ∷ None ∷ None ∷ None ∷ None ∷ None ∷ None ∷ None ∷ None ∷ None ∷ [] }
@@ -98,12 +98,12 @@ pub fn misused_lines()
         ∷ codes "cats normalise --steps=+5 a" ∷ codes "cats diff --total-steps=+5 a b" ∷ codes "cats value a 0 +1"
         ∷ codes "cats value a -- -0" ∷ codes "cats revenue a +0" ∷ codes "cats sizes --total-steps=5"
         ∷ codes "cats sizes --files0-from a b" ∷ codes "cats revenue a 0 --bids=l" ∷ codes "cats value a 19-0"
-        ∷ codes "cats value a 0 " ∷ codes "cats check a b" ∷ codes "cats normalise a --bound b c"
-        ∷ codes "cats diff a b c" ∷ codes "cats compare a b c d" ∷ []) in
+        ∷ codes "cats value a 0 " ∷ codes "cats revenue a 65536" ∷ codes "cats revenue a 3-0" ∷ codes "cats check a b"
+        ∷ codes "cats normalise a --bound b c" ∷ codes "cats diff a b c" ∷ codes "cats compare a b c d" ∷ []) in
         (flat_map (fault_of cats) lines ≡ []) × (list_any (λ line. is_some (request_of line)) lines ≡ false)
         × (map misuse_of lines ≡ UnboundedTotal ∷ UnboundedTotal ∷ SignedNumber ∷ SignedNumber ∷ SignedNumber
-        ∷ SignedNumber ∷ SignedNumber ∷ WrongFiles ∷ WrongFiles ∷ BidsTwice ∷ WrongGoods ∷ WrongGoods
-        ∷ MoreThanOneFile ∷ MoreThanOneFile ∷ MoreThanTwoFiles ∷ MoreThanTwoFiles ∷ []) }
+        ∷ SignedNumber ∷ SignedNumber ∷ NoFiles ∷ FilesTwice ∷ BidsTwice ∷ WrongGoods ∷ WrongGoods
+        ∷ WrongBids ∷ WrongBids ∷ MoreThanOneFile ∷ MoreThanOneFile ∷ MoreThanTwoFiles ∷ MoreThanTwoFiles ∷ []) }
 {}
 
 /// Lines that request nothing.

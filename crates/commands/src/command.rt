@@ -59,7 +59,13 @@ pub fn answer_on_file<I: Input>(
             request.options.each,
             request.options.total,
         ),
-        _ => lp::lp(alloc, input),
+        Task::Lp
+        | Task::Fault
+        | Task::Round
+        | Task::Compare
+        | Task::Diff
+        | Task::Duplicates
+        | Task::Sizes => lp::lp(alloc, input),
     }
 }
 

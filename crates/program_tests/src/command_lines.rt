@@ -226,15 +226,15 @@ fn wrong_usage(rt: HostRuntime) {
 
 /// Command lines that `clap` takes and that are wrong, and why.
 static MISUSES: &[(&[&str], Misuse)] = &[
-    (&["cats", "duplicates"], Misuse::WrongFiles),
-    (&["cats", "sizes", "--total-steps=5"], Misuse::WrongFiles),
+    (&["cats", "duplicates"], Misuse::NoFiles),
+    (&["cats", "sizes", "--total-steps=5"], Misuse::NoFiles),
     (
         &["cats", "sizes", "--files0-from", "a", "b"],
-        Misuse::WrongFiles,
+        Misuse::FilesTwice,
     ),
     (
         &["cats", "duplicates", "b", "--files0-from", "a"],
-        Misuse::WrongFiles,
+        Misuse::FilesTwice,
     ),
     (
         &["cats", "normalise", "--total-steps=5", "a"],
@@ -263,6 +263,11 @@ static MISUSES: &[(&[&str], Misuse)] = &[
         Misuse::WrongGoods,
     ),
     (&["cats", "value", "a", "b"], Misuse::WrongGoods),
+    (&["cats", "revenue", "a", "65536"], Misuse::WrongBids),
+    (&["cats", "revenue", "a", "0", "3-1"], Misuse::WrongBids),
+    (&["cats", "revenue", "a", "0,"], Misuse::WrongBids),
+    (&["cats", "revenue", "a", "x"], Misuse::WrongBids),
+    (&["cats", "revenue", "a", "0,+1"], Misuse::WrongBids),
     (&["cats", "value", "a", "0", "+1"], Misuse::SignedNumber),
     (&["cats", "value", "a", "--", "-0"], Misuse::SignedNumber),
     (&["cats", "check", "a", "b"], Misuse::MoreThanOneFile),

@@ -86,9 +86,8 @@ fn problem(rt: HostRuntime) -> Result<(), Fail> {
     let goods = file.goods();
     assert_eq!(&rt; goods, 1);
     let text = lp_text(rt.alloc(), &file)?;
-    let expected =
-        b"Maximize\n revenue:\n + 3.25 x0\n + 2 x1\nSubject To\n g0:\n + x0\n + x1\n <= 1\n\
-Binary\n x0\n x1\nEnd\n";
+    let expected = b"\\ revenue in millionths\nMaximize\n revenue:\n + 3250000 x0\n + 2000000 x1\n\
+Subject To\n g0:\n + x0\n + x1\n <= 1\nBinary\n x0\n x1\nEnd\n";
     assert!(&rt; text.as_slice() == expected.as_slice());
     Ok(())
 }

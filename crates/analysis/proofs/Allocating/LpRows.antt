@@ -8,6 +8,7 @@ use Rattle.analysis.proofs.Common.{Contains-append_right, IsBundle, IsRising, ar
 use Rattle.analysis.proofs.Common.{same_from_has, IsDummyBelow, IsPlainFile, PlainBid, PlainFile, dummy_good, goods_of, Contains-map, Contains-unmap, bid_at}
 use Rattle.analysis.proofs.Common.{All-from_Contains, Contains-filter, Contains-filter_parts, filter-kept, filter-lost, list_all_from, revenue, range_contains}
 use Rattle.analysis.proofs.Common.{numbers_of, can_all_win, can_both_win, share_dummy, PlainRow, bids_with, is_shared, lp_rows, row_of, apart_at, has_head}
+use Rattle.analysis.proofs.Common.{ltb-true, EXACT_SUMS, are_sums_exact}
 use Rattle.analysis.proofs.Common.{has_tail, AreRowsMet, objective, value_of, contains_from_has, has_from_contains, common_steps}
 use Rattle.analysis.proofs.Explaining.KeptBids.{bid_here}
 use Rattle.analysis.proofs.Allocating.Allocations.{CanWin, both_flip, pairs_from_test}
@@ -32,6 +33,16 @@ weighed p weight (x ∷ xs) = let sum = sum_by-cons (λ i. weight i * (if p i th
     let rest = weighed p weight xs in
     search (rules, filter-kept, sum_by-cons, filter-lost, cases_Bool)
 
+-- a sum over those that pass a test is at most the sum over all
+passing_at_most : (p : ℕ → Bool) (weight : ℕ → ℕ) (xs : List ℕ) → sum_by weight (filter p xs) ≤ sum_by weight xs
+passing_at_most p weight [] = omega arith
+passing_at_most p weight (x ∷ xs) = let rest = passing_at_most p weight xs in
+    let sum = sum_by-cons weight x xs in
+    ⊎_elim
+    (λ (t : p x ≡ true). let kept = ap (sum_by weight) (filter-kept p x xs t) ∙ sum_by-cons weight x (filter p xs) in omega (arith, rest, sum, kept))
+    (λ (t : p x ≡ false). let lost = ap (sum_by weight) (filter-lost p x xs t) in omega (arith, rest, sum, lost))
+    (cases_Bool (p x))
+
 -- ---- the numbers of a file's bids that pass a test
 
 module _ (f : PlainFile) where
@@ -47,6 +58,13 @@ module _ (f : PlainFile) where
       ∙ ap (sum_by price) (same_from_has (filter (has_good winners) (numbers_of f)) winners (passing_rise (has_good winners)) h.0
       (search (rules, and_parts, has-filter))
       (search (rules, has-filter, and_from, in_numbers, has_below)))
+
+  pub sums_are_exact : are_sums_exact f ≡ true → (winners : List ℕ) → objective f winners < EXACT_SUMS
+  sums_are_exact all winners = let price : ℕ → ℕ = λ i. (bid_at f i).price in
+      let sum = weighed (has_good winners) price (numbers_of f) in
+      let most = passing_at_most (has_good winners) price (numbers_of f) in
+      let less = ltb-true _ _ all in
+      omega (arith, sum, most, less)
 
 -- ---- the goods that two bids share
 

@@ -1,6 +1,6 @@
 //! Worked examples of the definitions, computed by the prover.
 
-ghost use Rattle.std.specs.Prelude.{◌≡◌, [], ◌∷◌, codes, true, false, None, Some, Ok, Err};
+ghost use Rattle.std.specs.Prelude.{◌≡◌, ◌++◌, [], ◌∷◌, codes, true, false, None, Some, Ok, Err};
 ghost use Rattle.analysis.specs.Examples.{file, or_bid, xor_bid};
 ghost use Rattle.analysis.specs.AllocationVerdicts.{allocation_text, allocation_verdict};
 ghost use Rattle.analysis.specs.Allocations.{allocations, can_both_win, greatest_revenue};
@@ -75,14 +75,21 @@ pub fn rows()
 
 /// Texts of problems.
 pub fn lp_texts()
-    ensures no_bids { lp_text (file 2 1 []) ≡ codes
-        "Maximize\n revenue:\n + 0 none\nSubject To\n none:\n + none\n <= 1\nBinary\n none\nEnd\n" }
-    ensures no_row { lp_text (file 1 0 (or_bid (0 ∷ []) 3000000 ∷ [])) ≡ codes
-        "Maximize\n revenue:\n + 3 x0\n + 0 none\nSubject To\n none:\n + none\n <= 1\nBinary\n x0\n none\nEnd\n" }
-    ensures decimals { lp_text (file 1 0 (or_bid (0 ∷ []) 3250000 ∷ or_bid (0 ∷ []) 1 ∷ [])) ≡ codes
-        "Maximize\n revenue:\n + 3.25 x0\n + 0.000001 x1\nSubject To\n g0:\n + x0\n + x1\n <= 1\nBinary\n x0\n x1\nEnd\n" }
-    ensures xor_bids { lp_text (file 2 1 (xor_bid 0 (0 ∷ []) 3000000 ∷ xor_bid 0 (1 ∷ []) 0 ∷ [])) ≡ codes
-        "Maximize\n revenue:\n + 3 x0\n + 0 x1\nSubject To\n d0:\n + x0\n + x1\n <= 1\nBinary\n x0\n x1\nEnd\n" }
+    ensures no_bids { lp_text (file 2 1 []) ≡ codes "\\ revenue in millionths\nMaximize\n revenue:\n + 0 none\n"
+        ++ codes "Subject To\n none:\n + none\n <= 1\nBinary\n none\nEnd\n" }
+    ensures no_row { lp_text (file 1 0 (or_bid (0 ∷ []) 3000000 ∷ []))
+        ≡ codes "\\ revenue in millionths\nMaximize\n revenue:\n + 3000000 x0\n + 0 none\n"
+        ++ codes "Subject To\n none:\n + none\n <= 1\nBinary\n x0\n none\nEnd\n" }
+    ensures millionths { lp_text (file 1 0 (or_bid (0 ∷ []) 3250000 ∷ or_bid (0 ∷ []) 1 ∷ []))
+        ≡ codes "\\ revenue in millionths\nMaximize\n revenue:\n + 3250000 x0\n + 1 x1\n"
+        ++ codes "Subject To\n g0:\n + x0\n + x1\n <= 1\nBinary\n x0\n x1\nEnd\n" }
+    ensures units { lp_text (file 1 0 (or_bid (0 ∷ []) 9007199254740991 ∷ or_bid (0 ∷ []) 1 ∷ []))
+        ≡ codes "\\ revenue in units, as sums of millionths can pass 2^53\n"
+        ++ codes "Maximize\n revenue:\n + 9007199254.740991 x0\n + 0.000001 x1\n"
+        ++ codes "Subject To\n g0:\n + x0\n + x1\n <= 1\nBinary\n x0\n x1\nEnd\n" }
+    ensures xor_bids { lp_text (file 2 1 (xor_bid 0 (0 ∷ []) 9007199254740991 ∷ xor_bid 0 (1 ∷ []) 0 ∷ []))
+        ≡ codes "\\ revenue in millionths\nMaximize\n revenue:\n + 9007199254740991 x0\n + 0 x1\n"
+        ++ codes "Subject To\n d0:\n + x0\n + x1\n <= 1\nBinary\n x0\n x1\nEnd\n" }
 {}
 
 /// Named bids that are an allocation, in any order and repeated.

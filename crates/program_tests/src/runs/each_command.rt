@@ -36,10 +36,10 @@ pub(super) static COMMANDS: &[(&str, &str, &str, &str)] = &[
     (
         "lp",
         "FILE",
-        "Maximize\n revenue:\n + 3 x0\n + 4 x1\n + 7 x2\n\
+        "\\ revenue in millionths\nMaximize\n revenue:\n + 3000000 x0\n + 4000000 x1\n + 7000000 x2\n\
         Subject To\n g0:\n + x0\n + x2\n <= 1\n g1:\n + x1\n + x2\n <= 1\n\
         Binary\n x0\n x1\n x2\nEnd\n",
-        "Maximize\n revenue:\n + 0.012346 x0\n + 1000 x1\n + 2 x2\n\
+        "\\ revenue in millionths\nMaximize\n revenue:\n + 12346 x0\n + 1000000000 x1\n + 2000000 x2\n\
         Subject To\n g0:\n + x0\n + x2\n <= 1\n g1:\n + x1\n + x2\n <= 1\n\
         Binary\n x0\n x1\n x2\nEnd\n",
     ),

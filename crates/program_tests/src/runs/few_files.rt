@@ -126,7 +126,7 @@ static ROWS: [Row<'static>; 27] = [
         &["cats", "fault", "bad"],
         2,
         "bad:2:1: Missing\n\
-        there are three header lines, and as many bid lines as `bids` says; add lines, or correct `bids`\n",
+        the file has one line: it seems cut, or lines end with CR: see `tr '\\r' '\\n' < F`\n",
         "",
     ),
     (

@@ -146,7 +146,7 @@ static VALUED_ROWS: [Row<'static>; 14] = [
         CAPACITY,
         64,
         "",
-        "error: this command takes one file\n\nFor more information, try '--help'.\n",
+        "error: this command takes one file; 'cats duplicates' and 'cats sizes' take several\n\nFor more information, try '--help'.\n",
     ),
     (
         "cats compare FILE FILE --bound FILE",
@@ -154,7 +154,7 @@ static VALUED_ROWS: [Row<'static>; 14] = [
         CAPACITY,
         64,
         "",
-        "error: this command takes two files\n\nFor more information, try '--help'.\n",
+        "error: this command takes two files; 'cats duplicates' and 'cats sizes' take several\n\nFor more information, try '--help'.\n",
     ),
     (
         "cats normalise FILE --total-steps=3",

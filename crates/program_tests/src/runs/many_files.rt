@@ -3,7 +3,7 @@
 use super::memory::{FILES, Row, judge_rows};
 use std::test::Fail;
 
-static ROWS: [Row<'static>; 23] = [
+static ROWS: [Row<'static>; 24] = [
     (
         &["cats", "duplicates", "one", "bad", "other", "same"],
         2,
@@ -163,10 +163,16 @@ none: cannot open: no such file\nbroken: cannot open\n",
         "no list: cannot open: no such file\n",
     ),
     (
+        &["cats", "sizes"],
+        64,
+        "",
+        "error: give paths, or '--files0-from <LIST>'\n\nFor more information, try '--help'.\n",
+    ),
+    (
         &["cats", "duplicates", "--files0-from", "list", "one"],
         64,
         "",
-        "error: give paths, or '--files0-from <LIST>', and not both\n\nFor more information, try '--help'.\n",
+        "error: give paths or '--files0-from <LIST>', and not both\n\nFor more information, try '--help'.\n",
     ),
     (
         &["cats", "duplicates", "--all", "one", "other", "same"],

@@ -16,11 +16,13 @@ static FILE: &[u8] =
     b"goods 3\nbids 4\ndummy 1\n0 10 0 1 #\n1 4.5 1 #\n2 3.25 2 3 #\n3 0.5 0 3 #\n";
 
 /// Command lines, the status, and what is printed.
-static ROWS: [(&str, u8, &str); 5] = [
+static ROWS: [(&str, u8, &str); 7] = [
     ("cats revenue FILE", 0, "revenue 0\n"),
     ("cats revenue FILE 2 0 2", 0, "revenue 13.25\n"),
     ("cats revenue FILE 3 1", 0, "revenue 5\n"),
+    ("cats revenue FILE 2,0 2", 0, "revenue 13.25\n"),
     ("cats revenue FILE 2 1 0", 1, "bids 0 and 1 share good 1\n"),
+    ("cats revenue FILE 0-2", 1, "bids 0 and 1 share good 1\n"),
     (
         "cats revenue FILE 2 3",
         1,

@@ -1,7 +1,7 @@
 -- `lp_is_winner_determination`
 use Rattle.analysis.proofs.Common.{rules, ◌∙◌}
 use Rattle.analysis.proofs.Allocating.Allocations.{revenue_at_most, winners_there}
-use Rattle.analysis.proofs.Allocating.LpRows.{all_win_from_rows, objective_is_revenue, rows_met}
+use Rattle.analysis.proofs.Allocating.LpRows.{all_win_from_rows, objective_is_revenue, rows_met, sums_are_exact}
 use Rattle.analysis.proofs.laws.lp_is_winner_determination.Goals as goal
 
 pub returns-clause-rows : goal.returns-clause-rows
@@ -25,3 +25,6 @@ returns-clause-reached c = λ f is.
       rows_met f is best.0 allocation.numbers allocation.win,
       objective_is_revenue f best.0 allocation.numbers ∙ best.1.greatest,
     )
+
+pub returns-clause-exact : goal.returns-clause-exact
+returns-clause-exact c = λ f all winners. sums_are_exact f all winners

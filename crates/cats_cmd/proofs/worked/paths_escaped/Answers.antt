@@ -15,6 +15,10 @@ pub returns-clause-directions : goal.returns-clause-directions
 unfolding encode_utf8
 returns-clause-directions c = refl
 
+pub returns-clause-unseen : goal.returns-clause-unseen
+unfolding encode_utf8
+returns-clause-unseen c = refl
+
 pub returns-clause-broken : goal.returns-clause-broken
 unfolding encode_utf8
 returns-clause-broken c = refl

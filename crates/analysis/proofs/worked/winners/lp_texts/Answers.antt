@@ -7,9 +7,13 @@ pub returns-clause-no_row : goal.returns-clause-no_row
 unfolding digits
 returns-clause-no_row c = refl
 
-pub returns-clause-decimals : goal.returns-clause-decimals
+pub returns-clause-millionths : goal.returns-clause-millionths
 unfolding digits
-returns-clause-decimals c = refl
+returns-clause-millionths c = refl
+
+pub returns-clause-units : goal.returns-clause-units
+unfolding digits
+returns-clause-units c = refl
 
 pub returns-clause-xor_bids : goal.returns-clause-xor_bids
 unfolding digits

@@ -1,6 +1,6 @@
 -- `split`
 use Rattle.command_line.proofs.Common.{map_from_collect, YieldsList-from_str_split}
-use Rattle.command_line.proofs.goods.split.Goals as goal
+use Rattle.command_line.proofs.number_lists.split.Goals as goal
 
 pub returns : goal.returns
 returns c = map_from_collect _ c.collect.ensures.ran
