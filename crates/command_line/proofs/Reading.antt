@@ -28,11 +28,9 @@ pub number_named : (E : Type 0) (most : ℕ) (text : List ℕ) (answer : Result 
 number_named E most text (Ok m) n plain parses is small =
     let same : m ≡ n = ap (λ (read : Result ℕ E). get_ok read) is in
     let value = parses.1 in
-    let less : m < 65536 = parses.0.1 in
-    rw (
-      plain,
-      Accepts-accepts false (Unsigned 0 most) text (parses.0.0, omega (arith, less, value), omega arith, omega (arith, small, same, value)),
-    ) (ap Some (sym same ∙ value))
+    let less = parses.0.1 in
+    rw (plain, Accepts-accepts false (Unsigned 0 most) text (parses.0.0, omega (arith, less), omega arith, omega (arith, small, same, value)))
+    (ap Some (sym same ∙ value))
   where
     get_ok : {E : Type 0} → Result ℕ E → ℕ
     get_ok (Ok n) = n

@@ -12,7 +12,7 @@ returns-clause-shape c =
     let many = c.is_many-many.ensures in
     let bound = ap rule_of c.long.ensures ∙ ap (λ (rule : Rule). record rule { long = Some (codes "bound") }) c.flag-5.ensures.rule in
     let zero = ap rule_of c.short.ensures ∙ ap (λ (rule : Rule). record rule { short = Some 48 }) c.flag-7.ensures.rule in
-    let hidden = ap rule_of c.hide.ensures ∙ c.words_from-3.ensures.rule in
+    let hidden = ap rule_of c.hide.ensures ∙ c.words_from-4.ensures.rule in
     let a1 = more_by c.in_ok-with.ensures.shape c.flag.ensures.rule refl (c.new.ensures.shape ∙ ap new_app c.name_of.ensures) in
     let a2 = more_by c.in_ok-with-2.ensures.shape c.flag-2.ensures.rule refl a1 in
     let a3 = more_by c.in_ok-with-3.ensures.shape c.flag-3.ensures.rule refl a2 in
@@ -29,5 +29,5 @@ returns-clause-shape c =
     let a14 = more_by c.in_ok-with-14.ensures.shape c.file.ensures.rule (ap not many) a13 in
     let a15 = more_by c.in_ok-with-15.ensures.shape c.second_file.ensures.rule c.is_two.ensures a14 in
     let a16 = more_by c.in_ok-with-16.ensures.shape c.words_from-2.ensures.rule refl a15 in
-    let a17 = more_by c.in_ok-with-17.ensures.shape c.bids.ensures.rule refl a16 in
+    let a17 = more_by c.in_ok-with-17.ensures.shape c.words_from-3.ensures.rule refl a16 in
     ap (λ (app : App). app.top) (more_by c.in_ok-draft.ensures.shape hidden c.has_no_other_words.ensures a17)
