@@ -19,7 +19,7 @@ class Command(NamedTuple):
 
 # Options for arguments of commands, and words that are behind the files.
 OPTIONS = {"Bound": "--bound", "Bounded": "--bound", "Steps": "--steps 1", "TotalSteps": "--bound --total-steps 2", "Progress": "--progress", "Null": "-0", "All": "--all"}
-BEHIND = {"Goods": ("0 1", "0 4095"), "Bids": ("1 0", "70000")}
+BEHIND = {"Goods": ("0 1", "0 4095"), "Bids": ("1 0", "65535")}
 
 
 def lines():
