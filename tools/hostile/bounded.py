@@ -3,8 +3,9 @@
     bounded.py PROGRAM GENERATE
 
 On 30 files of up to 2,000 bids the bounded search is to answer, the same as the plain one if that answers, and in as many steps as
-bounded_quickly of steps.py counts. On small files each limit is tried, beside the definitions of steps.py. Prints what is wrong, how many
-files the plain search answers, and 'N runs, M wrong'; the status is 0 if M is 0, and else 1.
+bounded_quickly of steps.py counts. On small files each limit is tried, beside the definitions of steps.py. On small texts with XOR bidders
+the canonical text is that of canonical.py, and texts are of the same auction if theirs are equal. Prints what is wrong, how many files the
+plain search answers, and 'N runs, M wrong'; the status is 0 if M is 0, and else 1.
 """
 import os
 import random
@@ -15,6 +16,7 @@ from concurrent.futures import ThreadPoolExecutor
 from functools import partial
 from typing import NamedTuple
 
+from canonical import canonical
 from steps import Bid, bounded, bounded_quickly, first_refused, or_value, plain, searches, value_searches
 from tally import KINDS, TALLY
 
@@ -42,6 +44,7 @@ FILES = (
 SMALL_GOODS, SMALL_BIDS = 6, 14
 SMALL_FILES = tuple((kind, SMALL_GOODS, SMALL_BIDS, "--seed", seed) for kind in KINDS for seed in (1, 2))
 FINE_FILES = 24
+TEXTS = 300
 
 # The files that the plain search answers.
 plainly_answered = []
@@ -213,6 +216,34 @@ def judge_commands(path, made, total, most):
             judge_run(twice, "duplicates", option, enough - 1, path, path)
 
 
+def small_text(chosen):
+    """A text of up to four goods, six bids and two XOR bidders, half of them of up to two goods and three bids."""
+    half = chosen.randint(1, 2)
+    goods, dummies = chosen.randint(1, 2 * half), chosen.randint(0, 2)
+    bids = []
+    for number in range(chosen.randint(0, 3 * half)):
+        owner = chosen.sample(range(goods, goods + dummies), chosen.randint(0, min(1, dummies)))
+        bundle = chosen.sample(range(goods), chosen.randint(1, goods))
+        bids.append("\t".join(map(str, (number, chosen.choice((0, 1, 1.5, 2, 3)), *bundle, *owner, "#"))) + "\n")
+    return "".join([f"goods {goods}\nbids {len(bids)}\ndummy {dummies}\n", *bids])
+
+
+def judge_texts(folder, seed):
+    """The canonical text of each, by both searches, and whether two that follow each other are the same auction."""
+    chosen, before = random.Random(seed), None
+    for number in range(TEXTS):
+        path, text = os.path.join(folder, f"text-{seed}-{number}"), small_text(chosen)
+        with open(path, "w", encoding="ascii") as file:
+            file.write(text)
+        wanted = canonical(text)
+        for words in (("normalise", path), ("normalise", "--bound", path)):
+            judge_run(Answer(0, wanted, ""), *words)
+        if before:
+            answer, same = run("compare", path, before[0]), wanted == before[1]
+            judge(answer[::2] == (0 if same else 1, "") and (answer.out == "same\n") == same, f"{path} with {before[0]}", answer)
+        before = path, wanted
+
+
 def judge_lines(folder):
     """A limit of all steps is for the bounded search alone."""
     path = generated(folder, "l3", 4, 4)
@@ -226,6 +257,7 @@ def main():
         work = [pool.submit(judge_file, folder, given) for given in FILES]
         small = [*(generated(folder, *given) for given in SMALL_FILES), *(fine(folder, seed) for seed in range(FINE_FILES))]
         work += [pool.submit(judge_small_file, path) for path in small]
+        work += [pool.submit(judge_texts, folder, seed) for seed in range(os.cpu_count())]
         for one in work:
             one.result()
         judge_lines(folder)

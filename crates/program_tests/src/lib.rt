@@ -1,8 +1,12 @@
 //! Tests of `commands`, `command_line` and `cats_cmd`.
 #![tactic(auto)]
 
+/// A table. The formatter leaves the rows as they are.
 #[cfg(test)]
-mod answers;
+macro_rules! rows {
+    ($($row:expr),* $(,)?) => { &[$($row),*] };
+}
+
 #[cfg(test)]
 mod command_lines;
 #[cfg(test)]

@@ -4,7 +4,6 @@ mod check;
 mod compare;
 mod devices;
 mod diff;
-mod duplicates;
 mod each_command;
 mod explanations;
 mod fault;

@@ -1,4 +1,4 @@
-//! Tests of `valuation` and `prune`: on worked rows, and beside the answers of the definitions.
+//! Tests of `valuation` and `prune`, on worked rows.
 
 mod auctions;
 pub mod bids;

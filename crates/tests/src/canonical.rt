@@ -1,4 +1,4 @@
-//! Tests of `canon`: on worked rows, and beside the answers of the definitions.
+//! Tests of `canon`, on worked rows.
 
 mod calls;
 mod comparisons;

@@ -3,7 +3,6 @@
 ghost use Rattle.std.specs.Prelude.{IfOk};
 ghost use Rattle.canon.specs.Canonical.{IsCanonicalFile};
 
-mod family;
 mod large;
 mod many;
 mod rows;

@@ -1,18 +1,20 @@
-//! Tests of the libraries up to `analysis`. Most have worked rows. Some compare answers with those of a slow program that
-//! computes the definitions.
+//! Tests of the libraries up to `analysis`. They have worked rows.
 #![tactic(auto)]
+
+/// A table. The formatter leaves the rows as they are.
+#[cfg(test)]
+macro_rules! rows {
+    ($($row:expr),* $(,)?) => { &[$($row),*] };
+}
 
 #[cfg(test)]
 mod bidders;
-mod by_definition;
 #[cfg(test)]
 mod canonical;
 #[cfg(test)]
 mod differences;
 #[cfg(test)]
 mod prices;
-#[cfg(test)]
-mod random;
 #[cfg(test)]
 mod reasons;
 #[cfg(test)]

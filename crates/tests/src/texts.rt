@@ -121,30 +121,3 @@ fn assert_outcome(
     }
     Ok(())
 }
-
-/// Asserts the faults of texts: their lines and kinds.
-fn assert_faults(
-    rt: &impl Abort,
-    alloc: Global,
-    rows: &[(&[u8], u64, Kind)],
-) -> Result<(), AllocError> {
-    for (text, line, kind) in rows {
-        let (line, kind) = (*line, *kind);
-        assert_outcome(rt, alloc, text, &Err(ReadFault { line, kind }))?;
-    }
-    Ok(())
-}
-
-/// Asserts what is written of the files of texts.
-fn assert_written(
-    rt: &impl Abort,
-    alloc: Global,
-    rows: &[(&[u8], &[u8])],
-) -> Result<(), AllocError> {
-    for (text, want) in rows {
-        let outcome = Ok(Vec::from_slice(alloc, want)?);
-        assert_outcome(rt, alloc, text, &outcome)?;
-        assert_outcome(rt, alloc, want, &outcome)?;
-    }
-    Ok(())
-}

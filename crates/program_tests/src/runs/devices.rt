@@ -1,80 +1,102 @@
 //! Every command with an input or an output that fails at each place.
 
-ghost use Rattle.std.specs.Prelude.{◌≡◌, false};
-ghost use Rattle.cats_text.specs.Streams.{has_failed};
-
-use super::each_command::{CANONICAL, COMMANDS, TEXT, prefixes};
-use super::inputs::answer_on_inputs;
-use super::streams::{
-    RunAnswer, StepReader, StepWriter, expect, expect_cut_off, stalling_writer, writer,
-};
-use cats_text::Watched;
-use std::alloc::Global;
+use super::each_command::{CANONICAL, COMMANDS, TEXT, prefixes, words_of};
+use super::inputs::{Answer, Inputs, Line, judge};
+use super::streams::{AMPLE, Ending, Limits, StepReader, input};
 use std::io::ErrorKind;
 use std::process::Abort;
 use std::test::Fail;
 
-/// What a command answers of an input: its second file, if its faults begin with this prefix, and else its first. Its other
-/// file is `CANONICAL`.
-fn answer(
-    alloc: Global,
-    command: (&str, &str, &str),
-    input: StepReader<'_>,
-    out: Watched<StepWriter>,
-) -> Result<RunAnswer, Fail>
-    requires { has_failed out ≡ false }
-{
-    let (name, words, prefix) = command;
-    let line = format!(in alloc; "cats {name} {words}")?;
-    let canonical = StepReader::new(CANONICAL.as_bytes(), 4096, None);
+/// This stream is the second file, if faults begin with this prefix, and else the first. The other file is `CANONICAL`.
+fn inputs_of<'a>(prefix: &str, stream: StepReader<'a>) -> Inputs<'a> {
+    let canonical = input(CANONICAL.as_bytes(), false);
     let (file, other) = match prefix {
-        "second: " => (canonical, input),
-        _ => (input, canonical),
+        "second: " => (canonical, stream),
+        _ => (stream, canonical),
     };
-    answer_on_inputs(alloc, line.as_str(), file, other, out)
+    Inputs { file, other }
 }
 
-const CAPACITY: usize = 4096;
+/// Texts, how their inputs fail, and how many of their first bytes have the fault of line 5.
+static FAILURES: &[(&str, ErrorKind, usize)] = rows! {
+    (TEXT, ErrorKind::BrokenPipe, usize::MAX),
+    (TEXT, ErrorKind::Interrupted, usize::MAX),
+    ("goods 2\nbids 2\ndummy 2\n0\t1\t0\t2\t#\n1\t1\t1\t2\t3\t#\n", ErrorKind::BrokenPipe, 43),
+};
 
-/// A text with a fault, which is complete in its first 43 bytes.
-const FAULTY: &str = "goods 2\nbids 2\ndummy 2\n0\t1\t0\t2\t#\n1\t1\t1\t2\t3\t#\n";
-
-/// What a command reports of an input that fails after each number of bytes of a text: its fault from so many bytes on, and
-/// else the failure.
+/// What a line reports of an input that fails after each number of bytes of a text: its fault, once it is complete, and else
+/// the failure.
 fn fails_in(
     rt: &(impl Abort + AllocGlobal),
-    command: (&str, &str, &str),
-    text: &[u8],
-    failure: ErrorKind,
-    faulty_from: usize,
+    line: &Line<'_>,
+    prefix: &str,
+    failing: &(&str, ErrorKind, usize),
 ) -> Result<(), Fail> {
-    let prefix = command.2;
+    let (text, failure, faulty_from) = *failing;
     let device = format!(in rt.alloc(); "{prefix}Device\n")?;
     let fault = format!(in rt.alloc(); "{prefix}line 5: TwoDummies\n")?;
     for count in 0..=text.len() {
-        let input = StepReader::new(&text[..count], 1, Some(failure));
-        let out = writer(rt.alloc(), CAPACITY, CAPACITY);
-        let answer = answer(rt.alloc(), command, input, out)?;
-        if count < faulty_from {
-            expect(rt, &answer, 5, "", device.as_str());
+        let stream = StepReader {
+            text: &text.as_bytes()[..count],
+            step: 1,
+            failure: Some(failure),
+        };
+        let wanted = if count < faulty_from {
+            (5, "", device.as_str())
         } else {
-            expect(rt, &answer, 2, "", fault.as_str());
-        }
+            (2, "", fault.as_str())
+        };
+        judge(rt, line, inputs_of(prefix, stream), AMPLE, wanted)?;
     }
     Ok(())
 }
 
+/// What a line answers if its output ends so after so many bytes of what it sends.
+fn cut_off(
+    rt: &(impl Abort + AllocGlobal),
+    line: &Line<'_>,
+    inputs: Inputs<'_>,
+    limits: Limits,
+    sent: &str,
+) -> Result<(), Fail> {
+    let count = limits.capacity.min(sent.len());
+    let reported = format!(in rt.alloc(); "output failed after {count} bytes\n")?;
+    let wanted: Answer<'_> = (5, sent.get(..count).unwrap_or(sent), reported.as_str());
+    judge(rt, line, inputs, limits, wanted)
+}
+
+/// What a line answers if its output takes a byte a call, and if it fails, or stalls, after each number of bytes of what it
+/// sends, or at its flush.
+fn outputs_end(
+    rt: &(impl Abort + AllocGlobal),
+    line: &Line<'_>,
+    inputs: Inputs<'_>,
+    sent: &str,
+) -> Result<(), Fail> {
+    let mut limits = AMPLE;
+    limits.ending = Ending::FailsAtFlush;
+    cut_off(rt, line, inputs, limits, sent)?;
+    for capacity in 0..sent.len() {
+        limits.capacity = capacity;
+        limits.ending = Ending::Fails;
+        cut_off(rt, line, inputs, limits, sent)?;
+        limits.ending = Ending::Stalls;
+        cut_off(rt, line, inputs, limits, sent)?;
+    }
+    limits = AMPLE;
+    limits.step = 1;
+    judge(rt, line, inputs, limits, (0, sent, ""))
+}
+
 #[test]
 fn inputs_fail(rt: HostRuntime) -> Result<(), Fail> {
-    for (name, words, _, _) in COMMANDS {
-        for prefix in prefixes(words) {
-            for (text, failure, faulty_from) in &[
-                (TEXT, ErrorKind::BrokenPipe, usize::MAX),
-                (TEXT, ErrorKind::Interrupted, usize::MAX),
-                (FAULTY, ErrorKind::BrokenPipe, 43),
-            ] {
-                let command = (*name, *words, *prefix);
-                fails_in(&rt, command, text.as_bytes(), *failure, *faulty_from)?;
+    for (name, arguments, _, _) in COMMANDS {
+        let line = format!(in rt.alloc(); "cats {name} {arguments}")?;
+        let words = words_of(rt.alloc(), line.as_str(), "FILE", "OTHER")?;
+        let line = Line::new(rt.alloc(), words.as_slice());
+        for prefix in prefixes(arguments) {
+            for failing in FAILURES {
+                fails_in(&rt, &line, prefix, failing)?;
             }
         }
     }
@@ -82,43 +104,59 @@ fn inputs_fail(rt: HostRuntime) -> Result<(), Fail> {
 }
 
 #[test]
-fn a_byte_a_call(rt: HostRuntime) -> Result<(), Fail> {
-    for (name, words, sent, _) in COMMANDS {
-        for prefix in prefixes(words) {
-            let input = StepReader::new(TEXT.as_bytes(), 1, None);
-            let out = writer(rt.alloc(), 1, CAPACITY);
-            let answer = answer(rt.alloc(), (*name, *words, *prefix), input, out)?;
-            expect(&rt, &answer, 0, sent, "");
+fn outputs_fail(rt: HostRuntime) -> Result<(), Fail> {
+    for (name, arguments, sent, _) in COMMANDS {
+        let line = format!(in rt.alloc(); "cats {name} {arguments}")?;
+        let words = words_of(rt.alloc(), line.as_str(), "FILE", "OTHER")?;
+        let line = Line::new(rt.alloc(), words.as_slice());
+        for prefix in prefixes(arguments) {
+            let stream = StepReader {
+                text: TEXT.as_bytes(),
+                step: 1,
+                failure: None,
+            };
+            outputs_end(&rt, &line, inputs_of(prefix, stream), sent)?;
         }
     }
     Ok(())
 }
 
-/// What a command reports of an output that fails, and of one that stalls, after each number of bytes of what it sends, and
-/// of one whose flush alone fails.
-fn cut_off(
-    rt: &(impl Abort + AllocGlobal),
-    command: (&str, &str, &str),
-    sent: &str,
-) -> Result<(), Fail> {
-    let alloc = rt.alloc();
-    let input = StepReader::new(TEXT.as_bytes(), 4096, None);
-    for capacity in 0..sent.len() {
-        let failed = answer(alloc, command, input, writer(alloc, CAPACITY, capacity))?;
-        expect_cut_off(rt, &failed, sent, capacity)?;
-        let stalled = answer(alloc, command, input, stalling_writer(alloc, capacity))?;
-        expect_cut_off(rt, &stalled, sent, capacity)?;
-    }
-    let unflushed = answer(alloc, command, input, writer(alloc, 0, CAPACITY))?;
-    expect_cut_off(rt, &unflushed, sent, sent.len())
-}
+/// Lines, texts whose inputs fail or end, the capacity of the output, and the answer.
+static ROWS: &[(&str, &str, bool, usize, Answer<'_>)] = rows! {
+    ("check FILE", "goods 0\nbids 0\ndummy 0\n", false, 5, (5, "goods", "output failed after 5 bytes\n")),
+    ("check FILE", "goods 0\nbids 0\ndummy 0\n", true, 4096, (5, "", "Device\n")),
+    ("check FILE", "goods 0\n", true, 4096, (5, "", "Device\n")),
+    ("check FILE", "Goods 0\n", true, 4096, (2, "", "line 1: Header\n")),
+    ("normalise FILE", "goods 0\nbids 0\ndummy 0\n", false, 5, (5, "goods", "output failed after 5 bytes\n")),
+    ("normalise FILE", "goods 0\n", true, 4096, (5, "", "Device\n")),
+    ("normalise FILE", "Goods 0\n", true, 4096, (2, "", "line 1: Header\n")),
+    // the file is read before its goods and bids are judged, and the first file before the second
+    ("value FILE 9 9", "goods 0\n", true, 4096, (5, "", "Device\n")),
+    ("revenue FILE 0", "goods 0\n", true, 4096, (5, "", "Device\n")),
+    ("round FILE", "goods 0\n", true, 4096, (5, "", "Device\n")),
+    ("compare FILE OTHER", "goods 0\n", true, 4096, (5, "", "first: Device\n")),
+    ("diff FILE OTHER", "goods 0\n", true, 4096, (5, "", "first: Device\n")),
+};
 
 #[test]
-fn outputs_fail(rt: HostRuntime) -> Result<(), Fail> {
-    for (name, words, sent, _) in COMMANDS {
-        for prefix in prefixes(words) {
-            cut_off(&rt, (*name, *words, *prefix), sent)?;
-        }
+fn faults_and_failures_in_order(rt: HostRuntime) -> Result<(), Fail> {
+    for (line, text, fails, capacity, wanted) in ROWS {
+        let stream = input(text.as_bytes(), *fails);
+        let inputs = Inputs {
+            file: stream,
+            other: stream,
+        };
+        let mut limits = AMPLE;
+        limits.capacity = *capacity;
+        let line = format!(in rt.alloc(); "cats {line}")?;
+        let words = words_of(rt.alloc(), line.as_str(), "FILE", "OTHER")?;
+        judge(
+            &rt,
+            &Line::new(rt.alloc(), words.as_slice()),
+            inputs,
+            limits,
+            *wanted,
+        )?;
     }
     Ok(())
 }

@@ -20,7 +20,7 @@ const CAPACITY: usize = 65_536;
 /// is a link to the file `b`, and `again` one to the new folder; `@list` lists the paths of `a` and `b`.
 type Row = (&'static str, &'static str, &'static str);
 
-static ROWS: [Row; 9] = [
+static ROWS: &[Row] = rows! {
     ("cats duplicates @", "@/a.b\n@/a/y/x\n@/a/z\n@/b\n", ""),
     ("cats duplicates @/", "@/a.b\n@/a/y/x\n@/a/z\n@/b\n", ""),
     // in the order of the command line
@@ -28,28 +28,14 @@ static ROWS: [Row; 9] = [
     ("cats duplicates @/a @/a/y", "@/a/y/x\n@/a/z\n@/a/y/x\n", ""),
     ("cats duplicates @/empty", "", ""),
     // links that are named are followed
-    (
-        "cats duplicates @/again/a @/link",
-        "@/again/a/y/x\n@/again/a/z\n@/link\n",
-        "",
-    ),
-    (
-        "cats duplicates @/again",
-        "@/again/a.b\n@/again/a/y/x\n@/again/a/z\n@/again/b\n",
-        "",
-    ),
-    (
-        "cats duplicates --progress --files0-from @list",
-        "@/a/y/x\n@/a/z\n@/b\n",
-        "3 of 3 @/b\n",
-    ),
-    (
-        "cats sizes @/a",
-        "goods\tbids\tor_bids\txor_bidders\tdummies\tkept\tkept_or\tkept_xor\tfault\tfile\n\
-1\t1\t1\t0\t0\t1\t1\t0\t\t@/a/y/x\n1\t1\t1\t0\t0\t1\t1\t0\t\t@/a/z\n",
-        "",
-    ),
-];
+    ("cats duplicates @/again/a @/link", "@/again/a/y/x\n@/again/a/z\n@/link\n", ""),
+    ("cats duplicates @/again", "@/again/a.b\n@/again/a/y/x\n@/again/a/z\n@/again/b\n", ""),
+    ("cats duplicates --progress --files0-from @list", "@/a/y/x\n@/a/z\n@/b\n", "3 of 3 @/b\n"),
+    ("cats sizes @/a",
+     "goods\tbids\tor_bids\txor_bidders\tdummies\tkept\tkept_or\tkept_xor\tfault\tfile\n1\t1\t1\t0\t0\t1\t1\t0\t\t\
+     @/a/y/x\n1\t1\t1\t0\t0\t1\t1\t0\t\t@/a/z\n",
+     ""),
+};
 
 #[test]
 fn folders(rt: HostRuntime) -> Result<(), Fail> {
@@ -71,7 +57,7 @@ fn folders(rt: HostRuntime) -> Result<(), Fail> {
     std::os::unix::fs::symlink(&rt, "b", link.as_str())?;
     let again = format!(in alloc; "{start}/again")?;
     std::os::unix::fs::symlink(&rt, ".", again.as_str())?;
-    for row in &ROWS {
+    for row in ROWS {
         judge_row(&rt, &rt, start.as_str(), row)?;
     }
     fs::remove_file(&rt, list.as_str())?;

@@ -8,6 +8,7 @@ ghost use Rattle.cats_text.specs.Streams.{has_failed};
 ghost use Rattle.commands.specs.declared.faults.Unopened.{Unopened};
 ghost use Rattle.commands.specs.declared.faults.Unopened.TheVariants.{NoSuchFile};
 
+use super::each_command::words_of;
 use super::opened::Openings;
 use super::streams::{RunAnswer, StepWriter, expect, text_taken, writer};
 use cats_cmd::program::{Process, run_program};
@@ -18,11 +19,14 @@ use std::alloc::{Alloc, AllocError, AllocGlobal, Global};
 use std::process::Abort;
 use std::test::Fail;
 
+/// Files with their paths.
+pub(super) type Files<'a> = &'a [(&'a str, &'a [u8])];
+
 /// Files with their paths, paths that are refused, and what was opened: as contracts list it, and as tests read it, with a
 /// line for each opening.
 #[derive(Drop)]
 pub(super) struct FilesInMemory<'a> {
-    files: &'a [(&'a str, &'a [u8])],
+    files: Files<'a>,
     refused: &'a [(&'a str, Unopened)],
     pub(super) openings: Openings,
     pub(super) lines: String,
@@ -30,10 +34,10 @@ pub(super) struct FilesInMemory<'a> {
 }
 
 impl<'a> FilesInMemory<'a> {
-    pub(super) fn new(alloc: Global, files: &'a [(&'a str, &'a [u8])]) -> FilesInMemory<'a> {
+    pub(super) fn new(alloc: Global, files: Files<'a>) -> FilesInMemory<'a> {
         FilesInMemory {
             files,
-            refused: &REFUSED,
+            refused: REFUSED,
             openings: Openings::new(),
             lines: String::new(alloc),
             alloc,
@@ -94,30 +98,23 @@ impl Alloc for FilesInMemory<'_> {
     }
 }
 
-pub(super) static FILES: [(&str, &[u8]); 24] = [
+pub(super) static FILES: Files<'_> = rows! {
     ("one", b"goods 1\nbids 1\ndummy 0\n0 3 0 #\n"),
     ("same", b"goods 1\nbids 2\ndummy 0\n0 3 0 #\n1 2 0 #\n"),
     ("other", b"goods 1\nbids 1\ndummy 0\n0 4 0 #\n"),
     ("bad", b"goods 1\n"),
     ("fine", b"goods 1\nbids 1\ndummy 0\n0 1e-7 0 #\n"),
-    (
-        "sum",
-        b"goods 2\nbids 3\ndummy 0\n0 3 0 #\n1 4 1 #\n2 7 0 1 #\n",
-    ),
-    (
-        "bidders",
-        b"goods 2\nbids 4\ndummy 3\n0 1 0 2 #\n1 1 0 4 #\n2 2 1 4 #\n3 9 1 #\n",
-    ),
+    ("sum", b"goods 2\nbids 3\ndummy 0\n0 3 0 #\n1 4 1 #\n2 7 0 1 #\n"),
+    ("bidders", b"goods 2\nbids 4\ndummy 3\n0 1 0 2 #\n1 1 0 4 #\n2 2 1 4 #\n3 9 1 #\n"),
     // lists of bids
     ("bids", b"1\r\n0\t1\n"),
     ("words", b"1 0\nx\n"),
     // lists of paths
     ("list", b"one\0other\0same\0"),
-    ("list without its last NUL", b"one\0other\0same"),
-    ("empty list", b""),
-    ("list with a path twice", b"same\0other\0same\0"),
-    ("list with an empty path", b"one\0\0same\0"),
-    ("list with LF", b"one\nother\nsame\n"),
+    ("list-without-its-last-NUL", b"one\0other\0same"),
+    ("empty-list", b""),
+    ("list-with-a-path-twice", b"same\0other\0same\0"),
+    ("list-with-an-empty-path", b"one\0\0same\0"),
     // names with LF, tab, escape, backslash, delete, U+E9, U+9B and U+202E, and in a list a byte that is no UTF-8
     ("a\nb", b"goods 1\nbids 1\ndummy 0\n0 3 0 #\n"),
     ("a\tb", b"goods 1\nbids 1\ndummy 0\n0 3 0 #\n"),
@@ -127,36 +124,73 @@ pub(super) static FILES: [(&str, &[u8]); 24] = [
     ("\u{e9}", b"goods 1\nbids 1\ndummy 0\n0 3 0 #\n"),
     ("\u{9b}2J", b"goods 1\nbids 1\ndummy 0\n0 3 0 #\n"),
     ("\u{202e}b", b"goods 1\nbids 1\ndummy 0\n0 3 0 #\n"),
-    (
-        "list of such names",
-        b"a\nb\0a\tb\0\x1b[2J\0a\\nb\0\x7f\0\xc3\xa9\0\xc2\x9b2J\0\xe2\x80\xaeb\0\x1bnone\0\xff\0",
-    ),
-];
+    ("list-of-such-names", b"a\nb\0a\tb\0\x1b[2J\0a\\nb\0\x7f\0\xc3\xa9\0\xc2\x9b2J\0\xe2\x80\xaeb\0\x1bnone\0\xff\0"),
+    ("\x1b", b"goods 1\nbids 1\ndummy 0\n0 0.5 0 \n"),
+    ("list-of-refused-names", b"\x1b\0a\nc\\\0\xff\0one\0"),
+    // the same auction in other files, and other auctions
+    ("a", b"goods 2\nbids 3\ndummy 0\n0\t3\t0\t#\n1\t4\t1\t#\n2\t7\t0\t1\t#\n"),
+    // another layout, and no dominated bid
+    ("a2", b"% a\ngoods 2\nbids 2\ndummy 0\n\n1 3.0 0 #\n0 04 1 #\n"),
+    // its bids in another order, and one of them twice
+    ("a3", b"goods 2\nbids 3\ndummy 0\n0\t7\t0\t1\t#\n1\t4\t1\t#\n2\t3\t0\t#\n"),
+    ("a4", b"goods 2\nbids 4\ndummy 0\n0\t4\t1\t#\n1\t3\t0\t#\n2\t4\t1\t#\n3\t7\t0\t1\t#\n"),
+    ("b", b"goods 2\nbids 3\ndummy 2\n0\t1\t0\t2\t#\n1\t1\t0\t3\t#\n2\t2\t1\t3\t#\n"),
+    // other dummy goods
+    ("b2", b"goods 2\nbids 3\ndummy 3\n0\t2\t1\t2\t#\n1\t1\t0\t2\t#\n2\t1\t0\t4\t#\n"),
+    ("c", b"goods 2\nbids 0\ndummy 0\n"),
+    ("c2", b"goods 2\nbids 0\ndummy 7\n"),
+    // a price, a good, a bidder and the number of goods changed
+    ("price", b"goods 2\nbids 2\ndummy 0\n0\t3.5\t0\t#\n1\t4\t1\t#\n"),
+    ("good", b"goods 2\nbids 2\ndummy 0\n0\t3\t0\t#\n1\t4\t0\t1\t#\n"),
+    ("bidder", b"goods 2\nbids 2\ndummy 1\n0\t3\t0\t2\t#\n1\t4\t1\t#\n"),
+    ("goods", b"goods 3\nbids 2\ndummy 0\n0\t3\t0\t#\n1\t4\t1\t#\n"),
+    ("empty", b""),
+};
 
-static REFUSED: [(&str, Unopened); 4] = [
+static REFUSED: &[(&str, Unopened)] = rows! {
     ("folder", Unopened::IsFolder),
     ("fifo", Unopened::NotAFile),
     ("secret", Unopened::PermissionDenied),
     ("broken", Unopened::Other),
-];
+};
 
-/// A command line's words, and what it answers: its status, its output and its faults' lines.
-pub(super) type Row<'a> = (&'a [&'a str], u8, &'a str, &'a str);
+/// What the first line of a table of `sizes` has.
+const SIZES: &str =
+    "goods\tbids\tor_bids\txor_bidders\tdummies\tkept\tkept_or\tkept_xor\tfault\tfile";
 
-/// That command lines on these files answer what their rows say.
+/// A line behind `cats`, and what it answers: its status, its output, in which `@` stands for `SIZES`, and its faults'
+/// lines.
+pub(super) type Row<'a> = (&'a str, u8, &'a str, &'a str);
+
+/// That lines on these files answer what their rows say.
 pub(super) fn judge_rows(
     rt: &(impl Abort + AllocGlobal),
-    files: &'static [(&'static str, &'static [u8])],
+    files: Files<'static>,
     rows: &[Row<'_>],
     terminal: bool,
 ) -> Result<(), Fail> {
     let alloc = rt.alloc();
     let mut source = FilesInMemory::new(alloc, files);
-    for (words, status, sent, reported) in rows {
-        let answer = answer_on(&mut source, words, writer(alloc, 4096, 4096), terminal)?;
-        expect(rt, &answer, *status, sent, reported);
+    for (line, status, sent, reported) in rows {
+        let line = format!(in alloc; "cats {line}")?;
+        let words = words_of(alloc, line.as_str(), "FILE", "OTHER")?;
+        let out = writer(alloc, 4096, 4096);
+        let answer = answer_on(&mut source, words.as_slice(), out, terminal)?;
+        let sent = sent.replace(alloc, '@', SIZES)?;
+        expect(rt, &answer, *status, sent.as_str(), reported);
     }
     Ok(())
+}
+
+/// How many writes these lines on standard error are to be: one each, and one for what `clap` says of a wrong line. On a
+/// terminal what removes a line is one too.
+fn writes_of(lines: &str) -> usize {
+    if lines.starts_with("error: ") {
+        return 1;
+    }
+    let ends = lines.bytes().filter(|byte| *byte == b'\n').count();
+    let escapes = lines.bytes().filter(|byte| *byte == b'\x1b').count();
+    ends.saturating_add(escapes / 2)
 }
 
 /// What a command line of these words answers on the files of a source.
@@ -175,9 +209,12 @@ pub(super) fn answer_on<S: Source + AllocGlobal>(
         terminal,
     };
     let status = run_program(source, words, &mut out, &mut err, &process);
+    let err = err.into_inner();
+    let line = String::from_utf8(err.taken)?;
     Ok(RunAnswer {
         status,
         sent: text_taken(out)?,
-        line: text_taken(err)?,
+        torn: err.writes != writes_of(&line),
+        line,
     })
 }

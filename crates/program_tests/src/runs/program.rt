@@ -21,6 +21,7 @@ pub fn run_words(
         status,
         sent: text_taken(out)?,
         line: text_taken(err)?,
+        torn: false,
     })
 }
 
@@ -41,30 +42,13 @@ pub(super) fn run(
 pub(super) const CAPACITY: usize = 65_536;
 
 /// Command lines that are no request.
-static WRONG_LINES: [&str; 22] = [
-    "cats",
-    "cats Check a",
-    "cats chek a",
-    "cats check --steps 5 a",
-    "cats show --steps 5 a",
-    "cats check --all a",
-    "cats value --steps 0 a",
-    "cats value --steps 1000000001 a",
-    "cats value --steps -1 a",
-    "cats value --steps 1.5 a",
-    "cats value --steps 5 --steps 6 a",
-    "cats value a --steps",
-    "cats value a 65536",
-    "cats value a -1",
-    "cats value a 0 b",
-    "cats lp --steps 5 a",
-    "cats compare a",
-    "cats diff a",
-    "cats duplicates",
-    "cats sizes",
-    "cats duplicates --steps 0 a b",
-    "cats duplicates --progress=yes a b",
-];
+static WRONG_LINES: &[&str] = rows! {
+    "cats", "cats Check a", "cats chek a", "cats check --steps 5 a", "cats show --steps 5 a", "cats check --all a",
+    "cats value --steps 0 a", "cats value --steps 1000000001 a", "cats value --steps -1 a", "cats value --steps 1.5 a",
+    "cats value --steps 5 --steps 6 a", "cats value a --steps", "cats value a 65536", "cats value a -1",
+    "cats value a 0 b", "cats lp --steps 5 a", "cats compare a", "cats diff a", "cats duplicates", "cats sizes",
+    "cats duplicates --steps 0 a b", "cats duplicates --progress=yes a b",
+};
 
 /// That a command line has this status, and that what it reported is as it should be.
 fn expect_reported(rt: &impl Abort, line: &str, answer: &RunAnswer, status: u8, reported: bool) {
@@ -86,7 +70,7 @@ fn expect_wrong(rt: &HostRuntime, abort: &impl Abort, line: &str) -> Result<(), 
 
 #[test]
 fn usage_faults(rt: HostRuntime) -> Result<(), Fail> {
-    for line in &WRONG_LINES {
+    for line in WRONG_LINES {
         expect_wrong(&rt, &rt, line)?;
     }
     for (name, words, _, _) in COMMANDS {
@@ -103,14 +87,9 @@ fn usage_faults(rt: HostRuntime) -> Result<(), Fail> {
 }
 
 /// Command lines that name help.
-static HELP_LINES: [&str; 6] = [
-    "cats --help",
-    "cats -h",
-    "cats help",
-    "cats help check",
-    "cats fault --help",
-    "cats duplicates --help",
-];
+static HELP_LINES: &[&str] = rows! {
+    "cats --help", "cats -h", "cats help", "cats help check", "cats fault --help", "cats duplicates --help",
+};
 
 /// That a command line prints help.
 fn expect_help(rt: &HostRuntime, abort: &impl Abort, line: &str) -> Result<(), Fail> {
@@ -124,7 +103,7 @@ fn expect_help(rt: &HostRuntime, abort: &impl Abort, line: &str) -> Result<(), F
 
 #[test]
 fn help(rt: HostRuntime) -> Result<(), Fail> {
-    for line in &HELP_LINES {
+    for line in HELP_LINES {
         expect_help(&rt, &rt, line)?;
     }
     for (name, _, _, _) in COMMANDS {
@@ -134,33 +113,25 @@ fn help(rt: HostRuntime) -> Result<(), Fail> {
     Ok(())
 }
 
-#[test]
-fn version(rt: HostRuntime) -> Result<(), Fail> {
-    for line in &["cats --version", "cats -V"] {
-        let answer = run(&rt, line, "", "", CAPACITY, CAPACITY)?;
-        expect(&rt, &answer, 0, "cats 0.3.0\n", "");
-        let cut_off = run(&rt, line, "", "", 3, CAPACITY)?;
-        expect(&rt, &cut_off, 5, "cat", "");
-    }
-    Ok(())
-}
+/// Lines and a path, how much standard output and standard error take, and what is answered.
+static ROWS: &[(&str, &str, usize, usize, (u8, &str, &str))] = rows! {
+    ("cats --version", "", CAPACITY, CAPACITY, (0, "cats 0.3.0\n", "")),
+    ("cats -V", "", CAPACITY, CAPACITY, (0, "cats 0.3.0\n", "")),
+    ("cats --version", "", 3, CAPACITY, (5, "cat", "")),
+    ("cats -V", "", 3, CAPACITY, (5, "cat", "")),
+    ("cats check FILE", "/tmp/cats_cmd_no_such_folder/a.cats", CAPACITY, CAPACITY, (5, "", "cannot open\n")),
+    ("cats check FILE", "/tmp/cats_cmd_no_such_folder/a.cats", CAPACITY, 0, (5, "", "")),
+    ("cats check FILE", "", CAPACITY, CAPACITY, (5, "", "cannot open\n")),
+    ("cats check FILE", "a\0b", CAPACITY, CAPACITY, (5, "", "cannot open\n")),
+    // a folder is opened, and cannot be read
+    ("cats check FILE", "/tmp", CAPACITY, CAPACITY, (5, "", "Device\n")),
+};
 
 #[test]
-fn cannot_open(rt: HostRuntime) -> Result<(), Fail> {
-    for (path, capacity, reported) in &[
-        (
-            "/tmp/cats_cmd_no_such_folder/a.cats",
-            CAPACITY,
-            "cannot open\n",
-        ),
-        ("/tmp/cats_cmd_no_such_folder/a.cats", 0, ""),
-        ("", CAPACITY, "cannot open\n"),
-        ("a\0b", CAPACITY, "cannot open\n"),
-        // a folder is opened, and cannot be read
-        ("/tmp", CAPACITY, "Device\n"),
-    ] {
-        let answer = run(&rt, "cats check FILE", path, "", CAPACITY, *capacity)?;
-        expect(&rt, &answer, 5, "", reported);
+fn version_and_paths(rt: HostRuntime) -> Result<(), Fail> {
+    for (line, path, out_capacity, err_capacity, (status, sent, reported)) in ROWS {
+        let answer = run(&rt, line, path, "", *out_capacity, *err_capacity)?;
+        expect(&rt, &answer, *status, sent, reported);
     }
     Ok(())
 }

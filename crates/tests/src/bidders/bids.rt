@@ -1,16 +1,21 @@
-//! Bids for the tests: as lists of goods, which the slow program takes, and on sets of both kinds.
+//! Bids for the tests: as lists of goods, and on sets of both kinds.
 ghost use Rattle.std.specs.Prelude.{All, IfOk};
 ghost use Rattle.bid_file.specs.declared.limits.TheConstants.{MAX_GOODS};
 ghost use Rattle.valuation.specs.Auctions.{IsAtom};
 ghost use Rattle.valuation.specs.Values.{plain_atom, atoms_of};
 
-use crate::by_definition::auction::{Bidder, ListAtom};
 use bid_file::limits::MAX_GOODS;
 use goods_set::GoodsSet;
 use goods_set::listing::goods_of;
 use std::alloc::{AllocError, Global};
 use std::process::Abort;
 use valuation::Atom;
+
+/// A bid on a bundle that is a list.
+pub type ListAtom = Atom<Vec<u16>>;
+
+/// The bids of one bidder.
+pub type Bidder = Vec<ListAtom>;
 
 /// A limit that no search of a small example reaches.
 pub const AMPLE: u64 = 1_000_000;

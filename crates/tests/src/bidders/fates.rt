@@ -1,7 +1,8 @@
 //! What becomes of best bids, on both kinds of sets. Each call is made with ample memory, so that it has to succeed.
 
-use crate::bidders::bids::{AMPLE, PricedGoods, atoms_on, bids_of, push_bid, row_on, singles};
-use crate::by_definition::auction::ListAtom;
+use crate::bidders::bids::{
+    AMPLE, ListAtom, PricedGoods, atoms_on, bids_of, push_bid, row_on, singles,
+};
 use goods_set::{GoodsSet, ListSet, WordSet};
 use prune::fates::{FateLog, prune_or_by, prune_xor_noting};
 use std::alloc::Global;
@@ -10,7 +11,7 @@ use std::test::Fail;
 use valuation::search::SearchOptions;
 
 // The best bids are on {0}, {1}, {2}, {0, 1}, {1, 2} and {0, 1, 2}. All but the last two are kept.
-const OR_BIDS: &[PricedGoods] = &[
+const OR_BIDS: &[PricedGoods] = rows! {
     (&[0, 1, 2], 12),
     (&[2], 5),
     (&[1], 4),
@@ -19,7 +20,7 @@ const OR_BIDS: &[PricedGoods] = &[
     (&[1, 2], 9),
     (&[0], 2),
     (&[1], 0),
-];
+};
 
 // What becomes of them by plain and by bounded searches: the indices of the packings that reach the prices of the last two.
 type OrFates = [Option<&'static [usize]>; 6];
@@ -49,42 +50,25 @@ fn or_fates<S: GoodsSet>(
     Ok(())
 }
 
-fn or_fates_of_both_kinds<S: GoodsSet>(rt: &impl Abort, alloc: Global) -> Result<(), Fail> {
-    or_fates::<S>(rt, alloc, SearchOptions::plain(AMPLE), &PLAIN_FATES)?;
-    let bounded = SearchOptions::bounded(AMPLE, Some(AMPLE));
-    or_fates::<S>(rt, alloc, bounded, &BOUNDED_FATES)
-}
-
 #[test]
 fn or_fates_on_both_sets(rt: HostRuntime) -> Result<(), Fail> {
-    or_fates_of_both_kinds::<ListSet>(&rt, rt.alloc())?;
-    or_fates_of_both_kinds::<WordSet<16>>(&rt, rt.alloc())
+    let bounded = SearchOptions::bounded(AMPLE, Some(AMPLE));
+    for (options, fates) in [
+        (SearchOptions::plain(AMPLE), &PLAIN_FATES),
+        (bounded, &BOUNDED_FATES),
+    ] {
+        or_fates::<ListSet>(&rt, rt.alloc(), options, fates)?;
+        or_fates::<WordSet<16>>(&rt, rt.alloc(), options, fates)?;
+    }
+    Ok(())
 }
 
 // Bids, and what becomes of the best ones: none, or the index of the first point inside the bundle with at least the price.
-static XOR_ROWS: [(&[PricedGoods], &[Option<usize>]); 3] = [
+static XOR_ROWS: &[(&[PricedGoods], &[Option<usize>])] = rows! {
     (&[(&[0], 0)], &[]),
-    (
-        &[
-            (&[0, 1, 2], 3),
-            (&[0, 2], 5),
-            (&[0, 1], 4),
-            (&[1], 4),
-            (&[0], 3),
-        ],
-        &[None, None, Some(1), None, Some(0)],
-    ),
-    (
-        &[
-            (&[0, 1, 2], 5),
-            (&[0, 2], 5),
-            (&[0, 1], 4),
-            (&[1], 4),
-            (&[0], 3),
-        ],
-        &[None, None, Some(1), None, Some(2)],
-    ),
-];
+    (&[(&[0, 1, 2], 3), (&[0, 2], 5), (&[0, 1], 4), (&[1], 4), (&[0], 3)], &[None, None, Some(1), None, Some(0)]),
+    (&[(&[0, 1, 2], 5), (&[0, 2], 5), (&[0, 1], 4), (&[1], 4), (&[0], 3)], &[None, None, Some(1), None, Some(2)]),
+};
 
 fn xor_fates<S: GoodsSet>(
     rt: &impl Abort,
@@ -97,8 +81,8 @@ fn xor_fates<S: GoodsSet>(
     Ok(log.into_fates())
 }
 
-fn xor_rows<S: GoodsSet>(rt: &impl Abort, alloc: Global) -> Result<(), Fail> {
-    for (bids, fates) in &XOR_ROWS {
+fn xor_fates_of_rows<S: GoodsSet>(rt: &impl Abort, alloc: Global) -> Result<(), Fail> {
+    for (bids, fates) in XOR_ROWS {
         let bids = bids_of(alloc, bids)?;
         let noted = xor_fates::<S>(rt, alloc, &bids, true)?;
         assert_eq!(rt; noted.as_slice(), *fates);
@@ -109,14 +93,14 @@ fn xor_rows<S: GoodsSet>(rt: &impl Abort, alloc: Global) -> Result<(), Fail> {
 
 // Bids beside 40 on single goods at a price of 1, so many that they are found by their goods. The first point inside the
 // last bundle, {2, 5}, has an earlier index than {3, 4}.
-const BESIDE_SINGLES: &[PricedGoods] = &[
+const BESIDE_SINGLES: &[PricedGoods] = rows! {
     (&[3, 4], 50),
     (&[2, 5], 50),
     (&[3, 39], 1),
     (&[2, 3, 4, 5], 50),
-];
+};
 
-fn fates_of_many<S: GoodsSet>(rt: &impl Abort, alloc: Global) -> Result<(), Fail> {
+fn xor_fates_of_many<S: GoodsSet>(rt: &impl Abort, alloc: Global) -> Result<(), Fail> {
     let mut bids = singles(alloc, 40, 1)?;
     for (goods, price) in BESIDE_SINGLES {
         push_bid(alloc, &mut bids, goods, *price)?;
@@ -128,13 +112,10 @@ fn fates_of_many<S: GoodsSet>(rt: &impl Abort, alloc: Global) -> Result<(), Fail
     Ok(())
 }
 
-fn xor_fates_of_both<S: GoodsSet>(rt: &impl Abort, alloc: Global) -> Result<(), Fail> {
-    xor_rows::<S>(rt, alloc)?;
-    fates_of_many::<S>(rt, alloc)
-}
-
 #[test]
 fn xor_fates_on_both_sets(rt: HostRuntime) -> Result<(), Fail> {
-    xor_fates_of_both::<ListSet>(&rt, rt.alloc())?;
-    xor_fates_of_both::<WordSet<64>>(&rt, rt.alloc())
+    xor_fates_of_rows::<ListSet>(&rt, rt.alloc())?;
+    xor_fates_of_rows::<WordSet<64>>(&rt, rt.alloc())?;
+    xor_fates_of_many::<ListSet>(&rt, rt.alloc())?;
+    xor_fates_of_many::<WordSet<64>>(&rt, rt.alloc())
 }

@@ -1,7 +1,7 @@
 //! Each public call once, on worked rows. Each has ample memory.
 
 use super::refusals::{expect_line, refusal_text};
-use bid_file::{BidFile, Bids, PackedFile};
+use bid_file::Bids;
 use canon::normal::{NamedFile, named_normal_file, normal_packed_file};
 use canon::{CanonFault, canonical, file_of, normal_file, normalise};
 use cats_text::packed::read_packed;
@@ -107,43 +107,10 @@ fn printed(alloc: Global, answer: Result<Vec<u8>, CanonFault>) -> Result<String,
     }
 }
 
-/// What a call answered is printed by this line.
-fn expect_printed(
-    rt: &impl Abort,
+/// The text of the file that a call answered, or why there is none.
+fn printed_file<B: Bids + Drop>(
     alloc: Global,
-    answer: Result<Vec<u8>, CanonFault>,
-    expected: &str,
-) -> Result<(), Fail> {
-    expect_line(rt, &printed(alloc, answer)?, expected);
-    Ok(())
-}
-
-#[test]
-fn canonical_texts(rt: HostRuntime) -> Result<(), Fail> {
-    for (text, limit, expected) in &[
-        (EQUAL_BIDDERS, 1, EQUAL_BIDDERS_TEXT),
-        (LARGER_BID, 3, LARGER_BID_TEXT),
-        (LARGER_BID, 2, "steps [0, 1]"),
-        ("goods 2\n", 2, "line 2: Missing"),
-    ] {
-        let answer = normalise(rt.alloc(), text.as_bytes(), *limit);
-        expect_printed(&rt, rt.alloc(), answer, expected)?;
-    }
-    Ok(())
-}
-
-/// The file that a call answered, as its text, or why there is none.
-fn printed_file(alloc: Global, answer: Result<BidFile, CanonFault>) -> Result<String, Fail> {
-    match answer {
-        Ok(file) => text_of(alloc, &file),
-        Err(fault) => refusal_text(alloc, fault),
-    }
-}
-
-/// The packed file that a call answered, as its text, or why there is none.
-fn printed_packed_file(
-    alloc: Global,
-    answer: Result<PackedFile, CanonFault>,
+    answer: Result<B, CanonFault>,
 ) -> Result<String, Fail> {
     match answer {
         Ok(file) => text_of(alloc, &file),
@@ -151,28 +118,31 @@ fn printed_packed_file(
     }
 }
 
-#[test]
-fn canonical_files(rt: HostRuntime) -> Result<(), Fail> {
-    for (limit, expected) in &[(3, LARGER_BID_TEXT), (2, "steps [0, 1]")] {
-        let file = read(rt.alloc(), LARGER_BID.as_bytes())?;
-        let answer = normal_file(rt.alloc(), &file, *limit);
-        expect_line(&rt, &printed_file(rt.alloc(), answer)?, expected);
-    }
-    Ok(())
-}
+/// Texts, the steps that a search may take, and the canonical text, or why there is none.
+static ROWS: &[(&str, u64, &str)] = rows! {
+    (EQUAL_BIDDERS, 1, EQUAL_BIDDERS_TEXT),
+    (LARGER_BID, 3, LARGER_BID_TEXT),
+    (LARGER_BID, 2, "steps [0, 1]"),
+    (FEW_OF_MANY, 3, FEW_OF_MANY_TEXT),
+    (EQUAL_SORT_KEYS, 1, EQUAL_SORT_KEYS_TEXT),
+};
 
+/// By each call.
 #[test]
-fn canonical_packed_files(rt: HostRuntime) -> Result<(), Fail> {
-    for (text, limit, expected) in &[
-        (LARGER_BID, 3, LARGER_BID_TEXT),
-        (LARGER_BID, 2, "steps [0, 1]"),
-        (FEW_OF_MANY, 3, FEW_OF_MANY_TEXT),
-        (EQUAL_SORT_KEYS, 1, EQUAL_SORT_KEYS_TEXT),
-    ] {
-        let file = read_packed(rt.alloc(), text.as_bytes())?;
-        let answer = normal_packed_file(rt.alloc(), file, SearchOptions::plain(*limit));
-        expect_line(&rt, &printed_packed_file(rt.alloc(), answer)?, expected);
+fn canonical_texts_and_files(rt: HostRuntime) -> Result<(), Fail> {
+    let alloc = rt.alloc();
+    for (text, limit, expected) in ROWS {
+        let answer = normalise(alloc, text.as_bytes(), *limit);
+        expect_line(&rt, &printed(alloc, answer)?, expected);
+        let file = read(alloc, text.as_bytes())?;
+        let answer = normal_file(alloc, &file, *limit);
+        expect_line(&rt, &printed_file(alloc, answer)?, expected);
+        let file = read_packed(alloc, text.as_bytes())?;
+        let answer = normal_packed_file(alloc, file, SearchOptions::plain(*limit));
+        expect_line(&rt, &printed_file(alloc, answer)?, expected);
     }
+    let answer = normalise(alloc, b"goods 2\n", 2);
+    expect_line(&rt, &printed(alloc, answer)?, "line 2: Missing");
     Ok(())
 }
 
@@ -192,7 +162,7 @@ fn canonical_packed_files_on_words(rt: HostRuntime) -> Result<(), Fail> {
         let expected = format!(in alloc; "{header}bids 1\ndummy 0\n0\t2\t{bundle}")?;
         let file = read_packed(alloc, text.as_bytes())?;
         let answer = normal_packed_file(alloc, file, SearchOptions::plain(1));
-        expect_line(&rt, &printed_packed_file(alloc, answer)?, &expected);
+        expect_line(&rt, &printed_file(alloc, answer)?, &expected);
     }
     Ok(())
 }

@@ -10,19 +10,8 @@ const XOR_BIDDERS: usize = 300;
 
 const BIDS: usize = GOODS + 2 * XOR_BIDDERS;
 
-/// A bid that is another one. At a price of 0 it is none.
-#[derive(Clone, Copy)]
-struct Changed {
-    number: usize,
-    bid: &'static str,
-}
-
-/// Some bids that are others, and the differences of the file from the one with these.
-#[derive(Clone, Copy)]
-struct Row {
-    changed: &'static [Changed],
-    lines: &'static str,
-}
+/// Numbers of bids with the bids that stand in their place, which at a price of 0 are none.
+type Changed = &'static [(usize, &'static str)];
 
 /// An OR bid on each good; and of each XOR bidder a bid on a good, and one on this and the next good.
 fn bid_of(alloc: Global, number: usize) -> Result<String, AllocError> {
@@ -38,84 +27,37 @@ fn bid_of(alloc: Global, number: usize) -> Result<String, AllocError> {
     Ok(format!(in alloc; "7 {good} {next} {dummy}")?)
 }
 
-fn large_text(alloc: Global, changed: &[Changed]) -> Result<String, AllocError> {
+fn large_text(alloc: Global, changed: &[(usize, &str)]) -> Result<String, AllocError> {
     let mut text = format!(in alloc; "goods {GOODS}\nbids {BIDS}\ndummy {XOR_BIDDERS}\n")?;
     for number in 0..BIDS {
-        match changed.iter().find(|other| other.number == number) {
-            Some(other) => push_bid_line(alloc, number, other.bid, &mut text)?,
+        match changed.iter().find(|other| other.0 == number) {
+            Some(other) => push_bid_line(alloc, number, other.1, &mut text)?,
             None => push_bid_line(alloc, number, &bid_of(alloc, number)?, &mut text)?,
         }
     }
     Ok(text)
 }
 
-static ROWS: [Row; 7] = [
-    Row {
-        changed: &[],
-        lines: "",
-    },
-    // another price of an OR bid
-    Row {
-        changed: &[Changed {
-            number: 200,
-            bid: "7 200",
-        }],
-        lines: "[200] Some(200500000) Some(7000000)\n",
-    },
-    // no OR bid
-    Row {
-        changed: &[Changed {
-            number: 200,
-            bid: "0 200",
-        }],
-        lines: "[200] Some(200500000) None\n",
-    },
-    // one more good in an OR bid
-    Row {
-        changed: &[Changed {
-            number: 399,
-            bid: "399.5 398 399",
-        }],
-        lines: "[399] Some(399500000) None\n[398, 399] None Some(399500000)\n",
-    },
-    // another price of a bid of an XOR bidder
-    Row {
-        changed: &[Changed {
-            number: 601,
-            bid: "8 100 101 500",
-        }],
-        lines: "bidder Some(100) Some(100)\n[100, 101] Some(7000000) Some(8000000)\n",
-    },
-    // no such bid
-    Row {
-        changed: &[Changed {
-            number: 601,
-            bid: "0 100 101 500",
-        }],
-        lines: "bidder Some(100) Some(100)\n[100, 101] Some(7000000) None\n",
-    },
-    // no such bidder
-    Row {
-        changed: &[
-            Changed {
-                number: 600,
-                bid: "0 100 500",
-            },
-            Changed {
-                number: 601,
-                bid: "0 100 101 500",
-            },
-        ],
-        lines: "bidder Some(100) None\n[100] Some(3000000) None\n[100, 101] Some(7000000) None\n",
-    },
-];
+/// Changes, and the differences of the file from the one with these.
+static ROWS: &[(Changed, &str)] = rows! {
+    (&[], ""),
+    // another price of an OR bid, none, and one more good in one
+    (&[(200, "7 200")], "[200] Some(200500000) Some(7000000)\n"),
+    (&[(200, "0 200")], "[200] Some(200500000) None\n"),
+    (&[(399, "399.5 398 399")], "[399] Some(399500000) None\n[398, 399] None Some(399500000)\n"),
+    // another price of a bid of an XOR bidder, no such bid, and no such bidder
+    (&[(601, "8 100 101 500")], "bidder Some(100) Some(100)\n[100, 101] Some(7000000) Some(8000000)\n"),
+    (&[(601, "0 100 101 500")], "bidder Some(100) Some(100)\n[100, 101] Some(7000000) None\n"),
+    (&[(600, "0 100 500"), (601, "0 100 101 500")],
+     "bidder Some(100) None\n[100] Some(3000000) None\n[100, 101] Some(7000000) None\n"),
+};
 
 #[test]
 fn one_change_in_a_large_file(rt: HostRuntime) -> Result<(), Fail> {
     let left = large_text(rt.alloc(), &[])?;
-    for row in &ROWS {
-        let right = large_text(rt.alloc(), row.changed)?;
-        expect(&rt, &left, &right, row.lines)?;
+    for (changed, lines) in ROWS {
+        let right = large_text(rt.alloc(), changed)?;
+        expect(&rt, &left, &right, lines)?;
     }
     Ok(())
 }

@@ -1,141 +1,77 @@
 //! Words in place of a price.
 
+use rounding::replacement::Replacement::{Exact, Itself, Rounded, TooFine, TooLarge};
 use rounding::replacement::{FinePrices, Replacement, replacement_of};
 use std::alloc::{AllocError, Global};
 use std::test::Fail;
 
 /// Words, and their replacements if fine prices are rounded and if they are refused.
-static WORDS: [(&[u8], Replacement, Replacement); 27] = [
-    (
-        b"1e6",
-        Replacement::Exact(1_000_000_000_000),
-        Replacement::Exact(1_000_000_000_000),
-    ),
-    (
-        b"1.02345e+06",
-        Replacement::Exact(1_023_450_000_000),
-        Replacement::Exact(1_023_450_000_000),
-    ),
-    (
-        b"1E-3",
-        Replacement::Exact(1_000),
-        Replacement::Exact(1_000),
-    ),
-    (
-        b".5",
-        Replacement::Exact(500_000),
-        Replacement::Exact(500_000),
-    ),
-    (
-        b"5.",
-        Replacement::Exact(5_000_000),
-        Replacement::Exact(5_000_000),
-    ),
-    (
-        b"0.0123456",
-        Replacement::Rounded(12_346),
-        Replacement::TooFine,
-    ),
-    (b"0.00000049", Replacement::Rounded(0), Replacement::TooFine),
-    (b"0.0000005", Replacement::Rounded(0), Replacement::TooFine),
-    (b"0.0000015", Replacement::Rounded(2), Replacement::TooFine),
-    (
-        b"0.00000250000",
-        Replacement::Rounded(2),
-        Replacement::TooFine,
-    ),
-    (
-        b"0.00000250001",
-        Replacement::Rounded(3),
-        Replacement::TooFine,
-    ),
-    (b"1e-7", Replacement::Rounded(0), Replacement::TooFine),
-    (b"0e999999999", Replacement::Exact(0), Replacement::Exact(0)),
-    (
-        b"0e-999999999",
-        Replacement::Exact(0),
-        Replacement::Exact(0),
-    ),
-    (b"1e13", Replacement::TooLarge, Replacement::TooLarge),
-    (
-        b"1e12",
-        Replacement::Exact(1_000_000_000_000_000_000),
-        Replacement::Exact(1_000_000_000_000_000_000),
-    ),
-    (
-        b"1000000000000.0000001",
-        Replacement::Rounded(1_000_000_000_000_000_000),
-        Replacement::TooLarge,
-    ),
-    (
-        b"1000000000000.0000005",
-        Replacement::Rounded(1_000_000_000_000_000_000),
-        Replacement::TooLarge,
-    ),
-    (
-        b"1000000000000.0000006",
-        Replacement::TooLarge,
-        Replacement::TooLarge,
-    ),
-    (b"1e999999999", Replacement::TooLarge, Replacement::TooLarge),
-    (
-        b"1e-99999999999999999999999999",
-        Replacement::Rounded(0),
-        Replacement::TooFine,
-    ),
-    (
-        b"1e99999999999999999999999999",
-        Replacement::TooLarge,
-        Replacement::TooLarge,
-    ),
-    (b"1,5", Replacement::Itself, Replacement::Itself),
-    (b"-1", Replacement::Itself, Replacement::Itself),
-    (b"", Replacement::Itself, Replacement::Itself),
-    (b"1e", Replacement::Itself, Replacement::Itself),
-    (b"007.5", Replacement::Itself, Replacement::Itself),
-];
+static WORDS: &[(&[u8], Replacement, Replacement)] = rows! {
+    (b"1e6", Exact(1_000_000_000_000), Exact(1_000_000_000_000)),
+    (b"1.02345e+06", Exact(1_023_450_000_000), Exact(1_023_450_000_000)),
+    (b"1E-3", Exact(1_000), Exact(1_000)),
+    (b".5", Exact(500_000), Exact(500_000)),
+    (b"5.", Exact(5_000_000), Exact(5_000_000)),
+    (b"0.0123456", Rounded(12_346), TooFine),
+    (b"0.00000049", Rounded(0), TooFine),
+    (b"0.0000005", Rounded(0), TooFine),
+    (b"0.0000015", Rounded(2), TooFine),
+    (b"0.00000250000", Rounded(2), TooFine),
+    (b"0.00000250001", Rounded(3), TooFine),
+    (b"1e-7", Rounded(0), TooFine),
+    (b"0e999999999", Exact(0), Exact(0)),
+    (b"0e-999999999", Exact(0), Exact(0)),
+    (b"1e13", TooLarge, TooLarge),
+    (b"1e12", Exact(1_000_000_000_000_000_000), Exact(1_000_000_000_000_000_000)),
+    (b"1000000000000.0000001", Rounded(1_000_000_000_000_000_000), TooLarge),
+    (b"1000000000000.0000005", Rounded(1_000_000_000_000_000_000), TooLarge),
+    (b"1000000000000.0000006", TooLarge, TooLarge),
+    (b"1e999999999", TooLarge, TooLarge),
+    (b"1e-99999999999999999999999999", Rounded(0), TooFine),
+    (b"1e99999999999999999999999999", TooLarge, TooLarge),
+    (b"1,5", Itself, Itself),
+    (b"-1", Itself, Itself),
+    (b"", Itself, Itself),
+    (b"1e", Itself, Itself),
+    (b"007.5", Itself, Itself),
+};
 
 #[test]
 fn words_and_replacements(rt: HostRuntime) -> Result<(), Fail> {
-    for (word, rounded, refused) in &WORDS {
-        assert_eq!(rt; replacement_of(word, FinePrices::Round), *rounded);
-        assert_eq!(rt; replacement_of(word, FinePrices::Refuse), *refused);
+    for (word, rounded, refused) in WORDS {
+        assert_eq!(rt;
+            replacement_of(word, FinePrices::Round),
+            *rounded,
+            "of {word:?}"
+        );
+        assert_eq!(rt;
+            replacement_of(word, FinePrices::Refuse),
+            *refused,
+            "of {word:?}"
+        );
     }
     Ok(())
 }
 
 /// A word of a one, a million zeros, and an exponent.
 fn long_word(alloc: Global, exponent: &[u8]) -> Result<Vec<u8>, AllocError> {
-    let mut word = Vec::new(alloc);
-    word.push(b'1')?;
-    for _ in 0..1_000_000 {
-        word.push(b'0')?;
-    }
+    let mut word = Vec::from_slice(alloc, b"1")?;
+    word.extend_from_slice(&vec![in alloc; b'0'; 1_000_000]?)?;
     word.extend_from_slice(exponent)?;
     Ok(word)
 }
 
+/// What such a word is followed by, and its replacement.
+static EXPONENTS: &[(&[u8], Replacement)] = rows! {
+    (b"e-1000000", Exact(1_000_000)), (b"1e-1000000", Rounded(10_000_000)), (b"5e-1000007", Rounded(1)), (b"", TooLarge),
+};
+
 #[test]
 fn long_words(rt: HostRuntime) -> Result<(), Fail> {
-    let one = long_word(rt.alloc(), b"e-1000000")?;
-    assert_eq!(rt;
-        replacement_of(&one, FinePrices::Round),
-        Replacement::Exact(1_000_000)
-    );
-    let fine = long_word(rt.alloc(), b"1e-1000000")?;
-    assert_eq!(rt;
-        replacement_of(&fine, FinePrices::Round),
-        Replacement::Rounded(10_000_000)
-    );
-    let near = long_word(rt.alloc(), b"5e-1000007")?;
-    assert_eq!(rt;
-        replacement_of(&near, FinePrices::Round),
-        Replacement::Rounded(1)
-    );
-    let large = long_word(rt.alloc(), b"")?;
-    assert_eq!(rt;
-        replacement_of(&large, FinePrices::Round),
-        Replacement::TooLarge
-    );
+    for (exponent, replacement) in EXPONENTS {
+        let word = long_word(rt.alloc(), exponent)?;
+        let found = replacement_of(&word, FinePrices::Round);
+        assert_eq!(rt; found, *replacement, "of {exponent:?}");
+    }
     Ok(())
 }

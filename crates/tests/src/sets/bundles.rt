@@ -23,42 +23,6 @@ fn expect_goods(rt: &impl Abort, goods: &[u16], expected: &[u16]) {
     assert_eq!(rt; goods, expected);
 }
 
-fn put_and_ask<S: GoodsSet>(rt: &impl Abort, alloc: Global) -> Result<(), Fail> {
-    let mut set = S::empty(alloc)?;
-    assert_eq!(rt; set.size(), 0);
-    assert!(rt; S::cap() > 9);
-    assert!(rt; set.put(5)?);
-    assert!(rt; set.put(3)?);
-    assert!(rt; !set.put(5)?);
-    assert_eq!(rt; set.size(), 2);
-    assert!(rt; set.has(3));
-    assert!(rt; !set.has(4));
-    assert_eq!(rt; set.next_from(4), Some(5));
-    assert_eq!(rt; set.next_from(6), None);
-    Ok(())
-}
-
-fn copy_and_list<S: GoodsSet>(rt: &impl Abort, alloc: Global) -> Result<(), Fail> {
-    let copy = set_of::<S>(rt, alloc, &[5, 3])?.copy()?;
-    expect_goods(rt, &goods_of(alloc, &copy)?, &[3, 5]);
-    let mut listed = [7].to_vec(alloc)?;
-    copy.list_into(&mut listed)?;
-    expect_goods(rt, &listed, &[7, 3, 5]);
-    expect_goods(rt, rising_goods(&copy, &mut listed)?, &[3, 5]);
-    if let Some(goods) = copy.as_slice() {
-        expect_goods(rt, goods, &[3, 5]);
-    }
-    Ok(())
-}
-
-fn take_a_slice<S: GoodsSet>(rt: &impl Abort, alloc: Global) -> Result<(), Fail> {
-    assert!(rt; S::cap() > 9);
-    let copied = S::from_slice(alloc, &[3, 5])?;
-    assert_eq!(rt; copied.size(), 2);
-    expect_goods(rt, &goods_of(alloc, &copied)?, &[3, 5]);
-    Ok(())
-}
-
 // Two sets: whether the first is inside the second, whether they are apart, their order, and what the second leaves of
 // the first.
 type Pair = (
@@ -70,7 +34,7 @@ type Pair = (
     &'static [u16],
 );
 
-static PAIRS: [Pair; 10] = [
+static PAIRS: &[Pair] = rows! {
     (&[], &[], true, true, Ordering::Equal, &[]),
     (&[], &[2], true, true, Ordering::Less, &[]),
     (&[4], &[4], true, false, Ordering::Equal, &[]),
@@ -80,15 +44,8 @@ static PAIRS: [Pair; 10] = [
     (&[1, 3], &[1, 2], false, false, Ordering::Greater, &[3]),
     (&[1, 3], &[2], false, true, Ordering::Greater, &[1, 3]),
     (&[0, 9], &[1, 2], false, true, Ordering::Less, &[0, 9]),
-    (
-        &[1, 3, 5],
-        &[3, 4],
-        false,
-        false,
-        Ordering::Greater,
-        &[1, 5],
-    ),
-];
+    (&[1, 3, 5], &[3, 4], false, false, Ordering::Greater, &[1, 5]),
+};
 
 // What the other set leaves of the set are these goods.
 fn expect_left<S: GoodsSet>(
@@ -114,39 +71,53 @@ fn compare_pair<S: GoodsSet>(rt: &impl Abort, alloc: Global, pair: &Pair) -> Res
 }
 
 fn compare_sets<S: GoodsSet>(rt: &impl Abort, alloc: Global) -> Result<(), Fail> {
-    for pair in &PAIRS {
+    for pair in PAIRS {
         compare_pair::<S>(rt, alloc, pair)?;
     }
     Ok(())
 }
 
 // The size and the first three goods, of 16 bits each.
-static SORT_KEYS: [(&'static [u16], u64); 5] = [
+static SORT_KEYS: &[(&'static [u16], u64)] = rows! {
     (&[], 0),
     (&[5], 0x0001_0005_0000_0000),
     (&[5, 7], 0x0002_0005_0007_0000),
     (&[5, 7, 800], 0x0003_0005_0007_0320),
     (&[0, 7, 63, 64], 0x0004_0000_0007_003f),
-];
-
-fn expect_sort_keys<S: GoodsSet>(rt: &impl Abort, alloc: Global) -> Result<(), Fail> {
-    for (goods, key) in &SORT_KEYS {
-        assert_eq!(rt; sort_key(&set_of::<S>(rt, alloc, goods)?), *key);
-    }
-    Ok(())
-}
+};
 
 fn hold_goods<S: GoodsSet>(rt: &impl Abort, alloc: Global) -> Result<(), Fail> {
-    put_and_ask::<S>(rt, alloc)?;
-    copy_and_list::<S>(rt, alloc)?;
-    take_a_slice::<S>(rt, alloc)?;
-    expect_sort_keys::<S>(rt, alloc)?;
-    compare_sets::<S>(rt, alloc)
+    let mut set = S::empty(alloc)?;
+    assert_eq!(rt; set.size(), 0);
+    assert!(rt; S::cap() > 9);
+    assert!(rt; set.put(5)?);
+    assert!(rt; set.put(3)?);
+    assert!(rt; !set.put(5)?);
+    assert_eq!(rt; set.size(), 2);
+    assert!(rt; set.has(3) && !set.has(4));
+    assert_eq!(rt; (set.next_from(4), set.next_from(6)), (Some(5), None));
+    expect_goods(
+        rt,
+        &goods_of(alloc, &S::from_slice(alloc, &[3, 5])?)?,
+        &[3, 5],
+    );
+    for (goods, key) in SORT_KEYS {
+        assert_eq!(rt; sort_key(&set_of::<S>(rt, alloc, goods)?), *key);
+    }
+    list_goods(rt, alloc, &set.copy()?)
 }
 
-#[test]
-fn lists_hold_goods(rt: HostRuntime) -> Result<(), Fail> {
-    hold_goods::<ListSet>(&rt, rt.alloc())
+// The goods 3 and 5, listed in each way.
+fn list_goods<S: GoodsSet>(rt: &impl Abort, alloc: Global, set: &S) -> Result<(), Fail> {
+    expect_goods(rt, &goods_of(alloc, set)?, &[3, 5]);
+    let mut listed = [7].to_vec(alloc)?;
+    set.list_into(&mut listed)?;
+    expect_goods(rt, &listed, &[7, 3, 5]);
+    expect_goods(rt, rising_goods(set, &mut listed)?, &[3, 5]);
+    if let Some(goods) = set.as_slice() {
+        expect_goods(rt, goods, &[3, 5]);
+    }
+    Ok(())
 }
 
 // Seventeen goods, which are more than a list keeps in itself.
@@ -154,19 +125,13 @@ const MANY: [u16; 17] = [
     1, 2, 3, 5, 8, 13, 21, 34, 55, 89, 144, 233, 377, 610, 987, 1_597, 2_584,
 ];
 
-// A set of the first eight of them, from which the others were taken.
-fn left_of_many(rt: &impl Abort, alloc: Global, many: &ListSet) -> Result<ListSet, Fail> {
-    let mut left = many.copy()?;
-    left.take_out(&ListSet::from_slice(alloc, &MANY[8..])?);
-    expect_goods(rt, &goods_of(alloc, &left)?, &MANY[..8]);
-    Ok(left)
-}
-
 // What is seen of a set is the same whether or not it has held many goods.
 fn hold_many(rt: &impl Abort, alloc: Global, many: &ListSet) -> Result<(), Fail> {
     expect_goods(rt, &goods_of(alloc, many)?, &MANY);
     expect_goods(rt, &goods_of(alloc, &many.copy()?)?, &MANY);
-    let left = left_of_many(rt, alloc, many)?;
+    let mut left = many.copy()?;
+    left.take_out(&ListSet::from_slice(alloc, &MANY[8..])?);
+    expect_goods(rt, &goods_of(alloc, &left)?, &MANY[..8]);
     let few = ListSet::from_slice(alloc, &MANY[..8])?;
     assert!(rt; left.order(&few) == Ordering::Equal);
     assert!(rt; sort_key(&left) == sort_key(&few));
@@ -187,8 +152,11 @@ fn lists_hold_many_goods(rt: HostRuntime) -> Result<(), Fail> {
 }
 
 #[test]
-fn words_hold_goods(rt: HostRuntime) -> Result<(), Fail> {
-    hold_goods::<WordSet<16>>(&rt, rt.alloc())
+fn both_sets_hold_goods(rt: HostRuntime) -> Result<(), Fail> {
+    hold_goods::<ListSet>(&rt, rt.alloc())?;
+    hold_goods::<WordSet<16>>(&rt, rt.alloc())?;
+    compare_sets::<ListSet>(&rt, rt.alloc())?;
+    compare_sets::<WordSet<16>>(&rt, rt.alloc())
 }
 
 // The set of this good alone has it, and none behind it.

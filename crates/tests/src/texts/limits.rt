@@ -6,21 +6,16 @@ use std::alloc::{AllocError, Global};
 use std::process::Abort;
 use std::test::Fail;
 
-/// The line of a bid on good 0 and a dummy of its own, with its number as its price.
-fn bid_line(alloc: Global, bid: u32) -> Result<String, AllocError> {
-    let good = bid.saturating_add(1);
-    Ok(format!(in alloc; "{bid}\t{bid}\t0\t{good}\t#\n")?)
-}
-
 /// The text of as many bids as there may be, each on good 0 and a dummy of its own, with its number as its price. The
 /// first has the number `first`, and from one to the next the number rises by `step`, going round at the end.
 fn many_bids(alloc: Global, first: u32, step: u32) -> Result<Vec<u8>, AllocError> {
-    let mut text = joined(alloc, &[b"goods 1\nbids 65536\ndummy 65536\n"])?;
+    let mut text = String::from_str(alloc, "goods 1\nbids 65536\ndummy 65536\n")?;
     for place in 0..65_536_u32 {
         let bid = first.wrapping_add(place.wrapping_mul(step)) % 65_536;
-        text.extend_from_slice(bid_line(alloc, bid)?.as_bytes())?;
+        let good = bid.saturating_add(1);
+        write!(text, "{bid}\t{bid}\t0\t{good}\t#\n")?;
     }
-    Ok(text)
+    Ok(text.into_bytes())
 }
 
 /// Asserts that these bids are read, and written by their numbers.
@@ -50,44 +45,32 @@ fn most_bids_in_any_order(rt: HostRuntime) -> Result<(), Fail> {
     Ok(())
 }
 
-/// A number behind its separator.
-fn push_number(
-    alloc: Global,
-    text: &mut Vec<u8>,
-    separator: &str,
-    number: u32,
-) -> Result<(), AllocError> {
-    let word = format!(in alloc; "{separator}{number}")?;
-    Ok(text.extend_from_slice(word.as_bytes())?)
-}
-
-/// The text of a bid on all goods, falling or rising, and behind them these bytes.
+/// The text of a bid on all goods, falling or rising, and behind them this end.
 fn all_goods(
     alloc: Global,
     separator: &str,
     falling: bool,
-    end: &[u8],
+    end: &str,
 ) -> Result<Vec<u8>, AllocError> {
-    let mut text = joined(alloc, &[b"goods 4096\nbids 1\ndummy 1\n0"])?;
-    push_number(alloc, &mut text, separator, 1)?;
+    let mut text = format!(in alloc; "goods 4096\nbids 1\ndummy 1\n0{separator}1")?;
     for place in 0..4_096_u32 {
         let good = if falling {
             4_095_u32.saturating_sub(place)
         } else {
             place
         };
-        push_number(alloc, &mut text, separator, good)?;
+        write!(text, "{separator}{good}")?;
     }
-    text.extend_from_slice(end)?;
-    Ok(text)
+    text.push_str(end)?;
+    Ok(text.into_bytes())
 }
 
 #[test]
 fn all_goods_in_falling_order(rt: HostRuntime) -> Result<(), Fail> {
-    let text = all_goods(rt.alloc(), " ", true, b" 4096 #\n")?;
-    let want = all_goods(rt.alloc(), "\t", false, b"\t4096\t#\n")?;
+    let text = all_goods(rt.alloc(), " ", true, " 4096 #\n")?;
+    let want = all_goods(rt.alloc(), "\t", false, "\t4096\t#\n")?;
     assert_bytes(&rt, &written(rt.alloc(), &text)?, &want);
-    let repeated = all_goods(rt.alloc(), " ", true, b" 2048 #\n")?;
+    let repeated = all_goods(rt.alloc(), " ", true, " 2048 #\n")?;
     assert_fault(&rt, rt.alloc(), &repeated, fault(4, Kind::RepeatedGood));
     Ok(())
 }

@@ -4,28 +4,29 @@ ghost use Rattle.std.specs.Prelude.{◌<◌, ◌^◌};
 
 use super::whole_files::CATS;
 use super::{fault, fault_of, many, outcome_of_bytes};
+use cats_text::Kind::{Header, Missing, NoEnd};
 use cats_text::{Kind, MAX_STREAM, ReadFault, Reader};
 use std::alloc::{AllocError, Global};
 use std::process::Abort;
 use std::test::Fail;
 
 /// The least and the greatest of some numbers of first bytes of `CATS`, and the line and the kind of their fault.
-static FIRST_BYTES: [(usize, usize, Option<(u64, Kind)>); 14] = [
-    (0, 0, Some((1, Kind::Missing))),
-    (1, 13, Some((2, Kind::Missing))),
-    (14, 14, Some((3, Kind::Missing))),
-    (15, 20, Some((3, Kind::Header))),
-    (21, 22, Some((4, Kind::Missing))),
-    (23, 27, Some((4, Kind::Header))),
-    (28, 29, Some((5, Kind::Missing))),
-    (30, 35, Some((5, Kind::Header))),
-    (36, 37, Some((6, Kind::Missing))),
-    (38, 38, Some((7, Kind::Missing))),
-    (39, 49, Some((7, Kind::NoEnd))),
-    (50, 51, Some((8, Kind::Missing))),
-    (52, 57, Some((8, Kind::NoEnd))),
+static FIRST_BYTES: &[(usize, usize, Option<(u64, Kind)>)] = rows! {
+    (0, 0, Some((1, Missing))),
+    (1, 13, Some((2, Missing))),
+    (14, 14, Some((3, Missing))),
+    (15, 20, Some((3, Header))),
+    (21, 22, Some((4, Missing))),
+    (23, 27, Some((4, Header))),
+    (28, 29, Some((5, Missing))),
+    (30, 35, Some((5, Header))),
+    (36, 37, Some((6, Missing))),
+    (38, 38, Some((7, Missing))),
+    (39, 49, Some((7, NoEnd))),
+    (50, 51, Some((8, Missing))),
+    (52, 57, Some((8, NoEnd))),
     (58, 59, None),
-];
+};
 
 /// Asserts the fault of so many bytes.
 fn assert_fault_of_bytes(
@@ -53,7 +54,7 @@ fn assert_first_bytes(
 
 #[test]
 fn first_bytes_of_a_file(rt: HostRuntime) -> Result<(), Fail> {
-    for (least, greatest, want) in &FIRST_BYTES {
+    for (least, greatest, want) in FIRST_BYTES {
         let want = match want {
             Some((line, kind)) => fault(*line, *kind),
             None => None,
@@ -112,56 +113,21 @@ type Answers = (
 );
 
 /// Carriage returns wait for the byte behind them; limits, faults and ends.
-static ANSWERS: [Answers; 21] = [
-    (
-        MAX_STREAM,
-        &[b"goods 0\r", b"\nbids 0\ndummy 0\n"],
-        &[None, None],
-        None,
-    ),
-    (
-        MAX_STREAM,
-        &[b"goods 0\r", b"1", b"\n"],
-        &[None, None, NOT_A_NUMBER],
-        NOT_A_NUMBER,
-    ),
+static ANSWERS: &[Answers] = rows! {
+    (MAX_STREAM, &[b"goods 0\r", b"\nbids 0\ndummy 0\n"], &[None, None], None),
+    (MAX_STREAM, &[b"goods 0\r", b"1", b"\n"], &[None, None, NOT_A_NUMBER], NOT_A_NUMBER),
     (MAX_STREAM, &[b"\r%", b" "], &[None, HEADER], HEADER),
-    (
-        MAX_STREAM,
-        &[b"\r", b"%", b"\n"],
-        &[None, None, HEADER],
-        HEADER,
-    ),
-    (
-        MAX_STREAM,
-        &[b"\r", b"\r", b"\n"],
-        &[None, None, HEADER],
-        HEADER,
-    ),
-    (
-        MAX_STREAM,
-        &[b"\r", b"", b"\n"],
-        &[None, None, None],
-        MISSING_2,
-    ),
+    (MAX_STREAM, &[b"\r", b"%", b"\n"], &[None, None, HEADER], HEADER),
+    (MAX_STREAM, &[b"\r", b"\r", b"\n"], &[None, None, HEADER], HEADER),
+    (MAX_STREAM, &[b"\r", b"", b"\n"], &[None, None, None], MISSING_2),
     (MAX_STREAM, &[b"\r"], &[None], MISSING_2),
     (MAX_STREAM, &[b"x\r"], &[None], HEADER),
     (MAX_STREAM, &[b"x\r", b"\n"], &[None, HEADER], HEADER),
     (4, &[b"goods 0\n"], &[TOO_LONG], TOO_LONG),
     (6, &[b"x y z 1", b"goods"], &[HEADER, HEADER], HEADER),
     (6, &[b"x y z 1", b""], &[HEADER, HEADER], HEADER),
-    (
-        8,
-        &[b"goods 0\n", b"", b"b"],
-        &[None, None, TOO_LONG],
-        TOO_LONG,
-    ),
-    (
-        8,
-        &[b"goods 0\n", b"b", b""],
-        &[None, TOO_LONG, TOO_LONG],
-        TOO_LONG,
-    ),
+    (8, &[b"goods 0\n", b"", b"b"], &[None, None, TOO_LONG], TOO_LONG),
+    (8, &[b"goods 0\n", b"b", b""], &[None, TOO_LONG, TOO_LONG], TOO_LONG),
     (1, &[b"x "], &[TOO_LONG], TOO_LONG),
     (2, &[b"x "], &[HEADER], HEADER),
     (0, &[b""], &[None], MISSING_1),
@@ -169,7 +135,7 @@ static ANSWERS: [Answers; 21] = [
     (MAX_STREAM, &[], &[], MISSING_1),
     (MAX_STREAM, &[b"goods 0"], &[None], MISSING_2),
     (23, &[b"goods 0\nbids 0\ndummy 0\n"], &[None], None),
-];
+};
 
 /// What a reader of this limit answers to each piece and at the end.
 fn answers(
@@ -199,7 +165,7 @@ fn assert_reported(
 
 #[test]
 fn answers_to_each_piece_and_at_the_end(rt: HostRuntime) -> Result<(), Fail> {
-    for (limit, pieces, want, end) in &ANSWERS {
+    for (limit, pieces, want, end) in ANSWERS {
         let (reported, last) = answers(rt.alloc(), (*limit).min(MAX_STREAM), pieces)?;
         assert_reported(&rt, &reported, want, pieces);
         assert_reported(&rt, &[last], &[*end], pieces);

@@ -9,7 +9,8 @@ use super::assert_bytes;
 use cats_text::Watched;
 use std::alloc::Global;
 use std::io;
-use std::io::{ErrorKind, Read, Write};
+use std::io::ErrorKind::{self, BrokenPipe, Interrupted, Other};
+use std::io::{Read, Write};
 use std::process::Abort;
 use std::test::Fail;
 
@@ -95,7 +96,7 @@ impl Write for StepWriter {
         self.flushes = self.flushes.saturating_add(1);
         if self.flush_fails {
             self.flush_fails = false;
-            return Err(io::Error::from(ErrorKind::BrokenPipe));
+            return Err(io::Error::from(BrokenPipe));
         }
         Ok(())
     }
@@ -121,33 +122,25 @@ fn writer(
     })
 }
 
-const BROKEN: Full = Full::Fails(ErrorKind::BrokenPipe);
+const BROKEN: Full = Full::Fails(BrokenPipe);
 
 /// A read into a piece of four bytes, or into none; what it answers; the piece's first byte, and whether the reader has
 /// ended and has failed, afterwards.
 type ReadStep = (bool, Result<usize, ErrorKind>, u8, bool, bool);
 
-static READS: [(Option<usize>, &[ReadStep], u64); 2] = [
-    (
-        None,
-        &[
-            (true, Ok(1), b'x', false, false),
-            (true, Ok(1), b'y', false, false),
-            (false, Ok(0), b'y', false, false),
-            (true, Ok(0), b'y', true, false),
-        ],
-        4,
-    ),
-    (
-        Some(1),
-        &[
-            (true, Ok(1), b'x', false, false),
-            (true, Err(ErrorKind::Interrupted), b'x', false, true),
-            (true, Err(ErrorKind::Other), b'x', false, true),
-        ],
-        2,
-    ),
-];
+static READS: &[(Option<usize>, &[ReadStep], u64)] = rows! {
+    (None, &[
+        (true, Ok(1), b'x', false, false),
+        (true, Ok(1), b'y', false, false),
+        (false, Ok(0), b'y', false, false),
+        (true, Ok(0), b'y', true, false),
+    ], 4),
+    (Some(1), &[
+        (true, Ok(1), b'x', false, false),
+        (true, Err(Interrupted), b'x', false, true),
+        (true, Err(Other), b'x', false, true),
+    ], 2),
+};
 
 /// Takes one step, and asserts what comes of it.
 fn assert_read(
@@ -168,7 +161,7 @@ fn assert_read(
 
 #[test]
 fn reads_pass_through_until_one_fails(rt: HostRuntime) -> Result<(), Fail> {
-    for (cut, steps, calls) in &READS {
+    for (cut, steps, calls) in READS {
         let mut input = reader(b"xy", *cut, ErrorKind::Interrupted);
         let mut piece = [0; 4];
         for step in *steps {
@@ -190,67 +183,31 @@ fn kind_of(answer: io::Result<usize>) -> Result<usize, ErrorKind> {
 /// A write of a piece, or else a flush; what it answers, a flush with 0; whether the writer has failed afterwards.
 type WriteStep = (Option<&'static [u8]>, Result<usize, ErrorKind>, bool);
 
-/// What a writer of three bytes a call does that has capacity for so many, and whose flush may fail.
-#[derive(Clone, Copy)]
-struct Writes {
-    capacity: usize,
-    full: Full,
-    flush_fails: bool,
-    steps: &'static [WriteStep],
-    /// What it takes, and how many writes and flushes reach it.
-    taken: &'static [u8],
-    writes: u64,
-    flushes: u64,
-}
+/// The capacity of a writer of three bytes a call, what it does then, and whether its flush fails; the steps; what it takes,
+/// and how many writes and flushes reach it.
+type Writes = (
+    usize,
+    Full,
+    bool,
+    &'static [WriteStep],
+    &'static [u8],
+    u64,
+    u64,
+);
 
-static WRITES: [Writes; 4] = [
-    Writes {
-        capacity: 4,
-        full: Full::Fails(ErrorKind::Interrupted),
-        flush_fails: false,
-        steps: &[
-            (Some(b"goods"), Ok(3), false),
-            (Some(b"ds"), Ok(1), false),
-            (Some(b""), Ok(0), false),
-            (Some(b"s"), Err(ErrorKind::Interrupted), true),
-            (Some(b""), Err(ErrorKind::Other), true),
-            (None, Err(ErrorKind::Other), true),
-        ],
-        taken: b"good",
-        writes: 4,
-        flushes: 0,
-    },
-    Writes {
-        capacity: 0,
-        full: Full::TakesNothing,
-        flush_fails: false,
-        steps: &[
-            (Some(b"goods"), Ok(0), true),
-            (Some(b"goods"), Err(ErrorKind::Other), true),
-        ],
-        taken: b"",
-        writes: 1,
-        flushes: 0,
-    },
-    Writes {
-        capacity: 9,
-        full: BROKEN,
-        flush_fails: false,
-        steps: &[(None, Ok(0), false)],
-        taken: b"",
-        writes: 0,
-        flushes: 1,
-    },
-    Writes {
-        capacity: 9,
-        full: BROKEN,
-        flush_fails: true,
-        steps: &[(None, Err(ErrorKind::BrokenPipe), true)],
-        taken: b"",
-        writes: 0,
-        flushes: 1,
-    },
-];
+static WRITES: &[Writes] = rows! {
+    (4, Full::Fails(Interrupted), false, &[
+        (Some(b"goods"), Ok(3), false),
+        (Some(b"ds"), Ok(1), false),
+        (Some(b""), Ok(0), false),
+        (Some(b"s"), Err(Interrupted), true),
+        (Some(b""), Err(Other), true),
+        (None, Err(Other), true),
+    ], b"good", 4, 0),
+    (0, Full::TakesNothing, false, &[(Some(b"goods"), Ok(0), true), (Some(b"goods"), Err(Other), true)], b"", 1, 0),
+    (9, BROKEN, false, &[(None, Ok(0), false)], b"", 0, 1),
+    (9, BROKEN, true, &[(None, Err(BrokenPipe), true)], b"", 0, 1),
+};
 
 /// Takes one step, and asserts what comes of it.
 fn assert_write(rt: &impl Abort, out: &mut Watched<StepWriter>, step: &WriteStep) {
@@ -264,14 +221,14 @@ fn assert_write(rt: &impl Abort, out: &mut Watched<StepWriter>, step: &WriteStep
 
 #[test]
 fn writes_pass_through_until_one_fails(rt: HostRuntime) -> Result<(), Fail> {
-    for row in &WRITES {
-        let mut out = writer(rt.alloc(), 3, row.capacity, row.full, row.flush_fails);
-        for step in row.steps {
+    for (capacity, full, flush_fails, steps, taken, writes, flushes) in WRITES {
+        let mut out = writer(rt.alloc(), 3, *capacity, *full, *flush_fails);
+        for step in *steps {
             assert_write(&rt, &mut out, step);
         }
         let inner = out.into_inner();
-        assert_bytes(&rt, &inner.taken, row.taken);
-        assert_eq!(rt; (inner.writes, inner.flushes), (row.writes, row.flushes));
+        assert_bytes(&rt, &inner.taken, taken);
+        assert_eq!(rt; (inner.writes, inner.flushes), (*writes, *flushes));
     }
     Ok(())
 }

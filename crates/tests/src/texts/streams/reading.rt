@@ -1,30 +1,28 @@
 //! What reading a stream answers that fails, ends, or gives byte by byte.
 
-ghost use Rattle.std.specs.Prelude.{◌≡◌, false};
-ghost use Rattle.cats_text.specs.Streams.{has_ended, has_failed};
-
 use super::{ByteReader, reader};
-use bid_file::BidFile;
+use bid_file::{BidFile, PackedFile};
 use cats_text::packed::{Header, check_from, read_packed_from};
 use cats_text::{Kind, MAX_STREAM, ReadFault, Watched, read_from};
 use std::io;
-use std::io::{ErrorKind, Read};
+use std::io::ErrorKind::{self, BrokenPipe, Interrupted, Other};
+use std::io::Read;
 use std::process::Abort;
-use std::test::Fail;
 
-/// A text, where and how its reader fails, and what reading it answers: the sizes of the file, or the fault.
-#[derive(Clone, Copy)]
-struct Stream {
-    text: &'static [u8],
-    cut: Option<usize>,
-    kind: ErrorKind,
-    sizes: Result<(u16, usize, u32), ReadFault>,
-    /// Whether the reader has ended, and has failed, afterwards.
-    ended: bool,
-    failed: bool,
-    /// How many reads reach it.
-    calls: u64,
-}
+/// The sizes of a file, or the fault.
+type Sizes = Result<(u16, usize, u32), ReadFault>;
+
+/// A text, and where and how its reader fails; what reading it answers; whether the reader has ended, and has failed,
+/// afterwards; and how many reads reach it.
+type Stream = (
+    &'static [u8],
+    Option<usize>,
+    ErrorKind,
+    Sizes,
+    bool,
+    bool,
+    u64,
+);
 
 const DEVICE: ReadFault = ReadFault {
     line: 0,
@@ -41,133 +39,61 @@ const REPEATED: ReadFault = ReadFault {
     kind: Kind::RepeatedNumber,
 };
 
-static STREAMS: [Stream; 7] = [
-    Stream {
-        text: b"goods 3\nbids 2\ndummy 1\n1 1 0 2 #\n0 2.5 1 0 3 #\n",
-        cut: None,
-        kind: ErrorKind::Other,
-        sizes: Ok((3, 2, 1)),
-        ended: true,
-        failed: false,
-        calls: 48,
-    },
-    Stream {
-        text: b"goods 3\nbids 2\ndummy 0\n1 1 0 #\n1 2 1 #\n",
-        cut: None,
-        kind: ErrorKind::Other,
-        sizes: Err(REPEATED),
-        ended: false,
-        failed: false,
-        calls: 33,
-    },
-    Stream {
-        text: b"goods 3\nbids 0\ndummy 1\n",
-        cut: None,
-        kind: ErrorKind::Other,
-        sizes: Ok((3, 0, 1)),
-        ended: true,
-        failed: false,
-        calls: 24,
-    },
-    Stream {
-        text: b"x y",
-        cut: None,
-        kind: ErrorKind::Other,
-        sizes: Err(HEADER),
-        ended: false,
-        failed: false,
-        calls: 2,
-    },
-    Stream {
-        text: b"goods 0\nbids 0\n",
-        cut: Some(8),
-        kind: ErrorKind::BrokenPipe,
-        sizes: Err(DEVICE),
-        ended: false,
-        failed: true,
-        calls: 9,
-    },
-    Stream {
-        text: b"goods 0\nbids 0\n",
-        cut: Some(8),
-        kind: ErrorKind::Interrupted,
-        sizes: Err(DEVICE),
-        ended: false,
-        failed: true,
-        calls: 9,
-    },
-    Stream {
-        text: b"Goods 0\n",
-        cut: Some(8),
-        kind: ErrorKind::BrokenPipe,
-        sizes: Err(HEADER),
-        ended: false,
-        failed: false,
-        calls: 6,
-    },
-];
-
-impl Stream {
-    fn reader(&self) -> Watched<ByteReader<'_>>
-        ensures works { has_failed result ≡ false }
-        ensures fresh { has_ended result ≡ false }
-    {
-        reader(self.text, self.cut, self.kind)
-    }
-}
-
-/// Asserts how reading left the reader.
-fn assert_left(rt: &impl Abort, stream: &Stream, input: Watched<ByteReader<'_>>) {
-    assert_eq!(rt;
-        (input.ended(), input.failed()),
-        (stream.ended, stream.failed)
-    );
-    assert_eq!(rt; input.into_inner().calls, stream.calls);
-}
+static STREAMS: &[Stream] = rows! {
+    (b"goods 3\nbids 2\ndummy 1\n1 1 0 2 #\n0 2.5 1 0 3 #\n", None, Other, Ok((3, 2, 1)), true, false, 48),
+    (b"goods 3\nbids 2\ndummy 0\n1 1 0 #\n1 2 1 #\n", None, Other, Err(REPEATED), false, false, 33),
+    (b"goods 3\nbids 0\ndummy 1\n", None, Other, Ok((3, 0, 1)), true, false, 24),
+    (b"x y", None, Other, Err(HEADER), false, false, 2),
+    (b"goods 0\nbids 0\n", Some(8), BrokenPipe, Err(DEVICE), false, true, 9),
+    (b"goods 0\nbids 0\n", Some(8), Interrupted, Err(DEVICE), false, true, 9),
+    (b"Goods 0\n", Some(8), BrokenPipe, Err(HEADER), false, false, 6),
+};
 
 /// The sizes of the file, or the fault.
-fn sizes(answer: Result<BidFile, ReadFault>) -> Result<(u16, usize, u32), ReadFault> {
+fn sizes(answer: Result<BidFile, ReadFault>) -> Sizes {
     let file = answer?;
     Ok((file.goods(), file.bids().len(), file.dummy()))
 }
 
-#[test]
-fn reads_until_a_fault_or_the_end(rt: HostRuntime) -> Result<(), Fail> {
-    for stream in &STREAMS {
-        let mut input = stream.reader();
-        let answer = sizes(read_from(rt.alloc(), &mut input));
-        assert_eq!(rt; answer, stream.sizes);
-        assert_left(&rt, stream, input);
-    }
-    Ok(())
+/// The same of a packed file.
+fn packed_sizes(answer: Result<PackedFile, ReadFault>) -> Sizes {
+    let file = answer?;
+    Ok((file.goods(), file.bids().len(), file.dummy()))
 }
 
 /// What the header lines said, or the fault.
-fn header_sizes(answer: Result<Header, ReadFault>) -> Result<(u16, usize, u32), ReadFault> {
+fn header_sizes(answer: Result<Header, ReadFault>) -> Sizes {
     let header = answer?;
     Ok((header.goods, header.bids as usize, header.dummy))
 }
 
-#[test]
-fn checks_as_it_reads(rt: HostRuntime) -> Result<(), Fail> {
-    for stream in &STREAMS {
-        let mut input = stream.reader();
-        let answer = header_sizes(check_from(rt.alloc(), &mut input));
-        assert_eq!(rt; answer, stream.sizes);
-        assert_left(&rt, stream, input);
-    }
-    Ok(())
+/// Asserts what a way of reading answered, and how it left the reader.
+fn assert_read(rt: &impl Abort, stream: &Stream, answer: Sizes, input: Watched<ByteReader<'_>>) {
+    let (text, _, _, sizes, ended, failed, calls) = *stream;
+    assert_eq!(rt; answer, sizes, "of {text:?}");
+    assert_eq!(rt;
+        (input.ended(), input.failed()),
+        (ended, failed),
+        "of {text:?}"
+    );
+    assert_eq!(rt; input.into_inner().calls, calls, "of {text:?}");
 }
 
 #[test]
-fn reads_to_send_as_it_reads(rt: HostRuntime) -> Result<(), Fail> {
-    for stream in &STREAMS {
-        let mut input = stream.reader();
-        let answer = read_packed_from(rt.alloc(), &mut input);
-        assert_eq!(rt; answer.err(), stream.sizes.err());
-        assert_left(&rt, stream, input);
+fn reads_until_a_fault_or_the_end(rt: HostRuntime) {
+    let alloc = rt.alloc();
+    for stream in STREAMS {
+        let (text, cut, kind, ..) = *stream;
+        let mut input = reader(text, cut, kind);
+        let answer = sizes(read_from(alloc, &mut input));
+        assert_read(&rt, stream, answer, input);
+        let mut input = reader(text, cut, kind);
+        let answer = packed_sizes(read_packed_from(alloc, &mut input));
+        assert_read(&rt, stream, answer, input);
+        let mut input = reader(text, cut, kind);
+        let answer = header_sizes(check_from(alloc, &mut input));
+        assert_read(&rt, stream, answer, input);
     }
-    Ok(())
 }
 
 /// Gives a comment in each piece, and has no end. It counts the calls.
@@ -188,12 +114,11 @@ impl Read for EndlessReader {
 }
 
 #[test]
-fn endless_stream_is_too_long(rt: HostRuntime) -> Result<(), Fail> {
+fn endless_stream_is_too_long(rt: HostRuntime) {
     let mut input = Watched::new(EndlessReader { calls: 0 });
     let answer = read_from(rt.alloc(), &mut input).err();
     let (line, kind) = (0, Kind::TooLong);
     assert_eq!(rt; answer, Some(ReadFault { line, kind }));
     assert!(rt; !input.ended());
     assert_eq!(rt; input.into_inner().calls, MAX_STREAM / 16_384 + 1);
-    Ok(())
 }

@@ -7,7 +7,6 @@ use super::{BROKEN, Full, StepWriter, writer};
 use crate::texts::assert_bytes;
 use bid_file::PackedFile;
 use cats_text::packed::{read_packed_from, send_file};
-use cats_text::price::push_price;
 use cats_text::{SendFault, Watched, send};
 use std::alloc::{AllocError, Global};
 use std::io::ErrorKind;
@@ -67,25 +66,15 @@ fn counts_what_went_out(rt: HostRuntime) {
     assert_sends(&rt, out, b"goods 0", Err(SendFault { written: 7 }));
 }
 
-/// Appends a whole number, as the price of so many whole units.
-fn push_number(text: &mut Vec<u8>, number: u32) -> Result<(), AllocError> {
-    push_price(text, u128::from(number) * 1_000_000)
-}
-
 /// The text of a file of so many bids, each on all of 4,096 goods: its lines have some 20,000 bytes.
-fn long_text(alloc: Global, bids: u32) -> Result<Vec<u8>, AllocError> {
-    let mut text = Vec::new(alloc);
-    text.extend_from_slice(b"goods 4096\nbids ")?;
-    push_number(&mut text, bids)?;
-    text.extend_from_slice(b"\ndummy 0\n")?;
+fn long_text(alloc: Global, bids: u32) -> Result<String, AllocError> {
+    let mut text = format!(in alloc; "goods 4096\nbids {bids}\ndummy 0\n")?;
     for number in 0..bids {
-        push_number(&mut text, number)?;
-        text.extend_from_slice(b"\t7.000001")?;
-        for good in 0..4096 {
-            text.push(b'\t')?;
-            push_number(&mut text, good)?;
+        write!(text, "{number}\t7.000001")?;
+        for good in 0u32..4096 {
+            write!(text, "\t{good}")?;
         }
-        text.extend_from_slice(b"\t#\n")?;
+        text.push_str("\t#\n")?;
     }
     Ok(text)
 }
@@ -109,38 +98,33 @@ fn assert_sends_file(
 #[test]
 fn sends_a_file_in_pages(rt: HostRuntime) -> Result<(), Fail> {
     let text = long_text(rt.alloc(), 9)?;
-    let file = read_packed_from(rt.alloc(), &mut Watched::new(text.as_slice()))?;
+    let text = text.as_bytes();
+    let file = read_packed_from(rt.alloc(), &mut Watched::new(text))?;
     for capacity in [0, 1, 22, 23, 20_000, 65_536, 100_000, 150_000] {
         let out = writer(rt.alloc(), 30_000, capacity, BROKEN, false);
         let written = capacity as u64;
-        assert_sends_file(&rt, out, &file, &text, Err(SendFault { written }))?;
+        assert_sends_file(&rt, out, &file, text, Err(SendFault { written }))?;
     }
     let out = writer(rt.alloc(), 30_000, text.len(), BROKEN, false);
-    assert_sends_file(&rt, out, &file, &text, Ok(()))?;
+    assert_sends_file(&rt, out, &file, text, Ok(()))?;
     let out = writer(rt.alloc(), 30_000, text.len(), BROKEN, true);
     let written = text.len() as u64;
-    assert_sends_file(&rt, out, &file, &text, Err(SendFault { written }))
+    assert_sends_file(&rt, out, &file, text, Err(SendFault { written }))
 }
 
 /// A text, and what is sent of its file: bids in order, in no order, and in order up to one that comes late.
-static SENT: [(&[u8], &[u8]); 3] = [
-    (
-        b"goods 3\nbids 2\ndummy 1\n0 1 0 2 #\n1 2.5 1 0 3 #\n",
-        b"goods 3\nbids 2\ndummy 1\n0\t1\t0\t2\t#\n1\t2.5\t0\t1\t3\t#\n",
-    ),
-    (
-        b"goods 3\nbids 2\ndummy 1\n1 1 0 2 #\n0 2.5 3 2 1 #\n",
-        b"goods 3\nbids 2\ndummy 1\n0\t2.5\t1\t2\t3\t#\n1\t1\t0\t2\t#\n",
-    ),
-    (
-        b"goods 3\nbids 4\ndummy 0\n0 1 2 #\n2 3 1 2 #\n1 2 0 #\n3 4 2 1 0 #\n",
-        b"goods 3\nbids 4\ndummy 0\n0\t1\t2\t#\n1\t2\t0\t#\n2\t3\t1\t2\t#\n3\t4\t0\t1\t2\t#\n",
-    ),
-];
+static SENT: &[(&[u8], &[u8])] = rows! {
+    (b"goods 3\nbids 2\ndummy 1\n0 1 0 2 #\n1 2.5 1 0 3 #\n",
+     b"goods 3\nbids 2\ndummy 1\n0\t1\t0\t2\t#\n1\t2.5\t0\t1\t3\t#\n"),
+    (b"goods 3\nbids 2\ndummy 1\n1 1 0 2 #\n0 2.5 3 2 1 #\n",
+     b"goods 3\nbids 2\ndummy 1\n0\t2.5\t1\t2\t3\t#\n1\t1\t0\t2\t#\n"),
+    (b"goods 3\nbids 4\ndummy 0\n0 1 2 #\n2 3 1 2 #\n1 2 0 #\n3 4 2 1 0 #\n",
+     b"goods 3\nbids 4\ndummy 0\n0\t1\t2\t#\n1\t2\t0\t#\n2\t3\t1\t2\t#\n3\t4\t0\t1\t2\t#\n"),
+};
 
 #[test]
 fn sends_what_was_read(rt: HostRuntime) -> Result<(), Fail> {
-    for (text, want) in &SENT {
+    for (text, want) in SENT {
         let file = read_packed_from(rt.alloc(), &mut Watched::new(*text))?;
         let mut out = Watched::new(Vec::new(rt.alloc()));
         send_file(rt.alloc(), &mut out, &file)??;

@@ -1,4 +1,0 @@
--- What the contracts of private functions cite, and the facts that private types keep. No public contract rests on
--- them.
-pub mod Differences
-pub mod Tables
