@@ -7,7 +7,7 @@ use Rattle.cats_cmd.proofs.Common.{list_cell, number_cell, price_cell, Outcome, 
 use Rattle.cats_cmd.proofs.Common.{text_unless_refused, value_text, PlainBid, PlainFile, Difference, NoDifference, Side, Exactly, PlainPlace, behind_point}
 use Rattle.cats_cmd.proofs.Common.{bids_text, digit_at, places_text, six_digits, with_place, without_zeros, Kind, PlainDifferences, PlainReason, Zero}
 use Rattle.cats_cmd.proofs.Common.{allocation_text, AllocationVerdict, Revenue, PlainRow, if_none, AreBytes, escaped, text_of_place, outcome_by, outcome_of}
-use Rattle.cats_cmd.proofs.Common.{PlainRequest, Hint, first_hint, hint_of, option_map_or, rows_of, sentence}
+use Rattle.cats_cmd.proofs.Common.{PlainRequest, amount_text, unit_line, Hint, first_hint, hint_of, option_map_or, rows_of, sentence}
 use Rattle.cats_cmd.proofs.Common.{Task, append_assoc, codes, decimal, Option, Some, None}
 use Rattle.cats_text.specs.declared.read_fault.Kind.TheVariants as kinds
 use Rattle.commands.specs.declared.fault.rows.Hint.TheVariants as hints
@@ -82,7 +82,15 @@ text_if_none : (rows : List PlainRow) (text : List ℕ) → Ours text → Ours (
 text_if_none [] text is = is
 text_if_none (row ∷ rows) text is = refl
 
-ruleset texts = (pieces, bid_lines, side, reason, goods_if_any, text_if_none)
+unit : (exact : Bool) → Ours (unit_line exact)
+unit true = refl
+unit false = refl
+
+amount : (exact : Bool) (price : ℕ) → Ours (amount_text exact price)
+amount true price = number_ours price
+amount false price = simp pieces
+
+ruleset texts = (pieces, bid_lines, side, reason, goods_if_any, text_if_none, unit, amount)
 
 -- of `cats fault`
 hint_by_kind : (kind : Kind) → Ours (hint_of_kind kind)

@@ -1,7 +1,7 @@
 -- The names from outside `proofs` that the proofs cite, passed on from one place. A definition that a proof unfolds comes from its own file. Declares nothing.
 pub use Rattle.analysis.specs.AllocationVerdicts.{allocation_text}
 pub use Rattle.analysis.specs.Differences.{PlainDifferences}
-pub use Rattle.analysis.specs.LpTexts.{PlainRow, if_none}
+pub use Rattle.analysis.specs.LpTexts.{amount_text, unit_line, PlainRow, if_none}
 pub use Rattle.analysis.specs.Reasons.{PlainReason, Zero}
 pub use Rattle.analysis.specs.declared.winners.allocation_verdict.AllocationVerdict.{AllocationVerdict}
 pub use Rattle.analysis.specs.declared.winners.allocation_verdict.AllocationVerdict.TheVariants.{Revenue}
