@@ -3,23 +3,18 @@ pub use Rattle.bid_file.specs.Files.{PlainBid, PlainFile, IsPlainFile, IsBid, go
 pub use Rattle.bid_file.specs.Views.{seen_bid}
 pub use Rattle.bid_file.specs.declared.bid.BidFile.{BidFile}
 pub use Rattle.bid_file.specs.declared.limits.TheConstants.{MAX_BIDS, MAX_GOODS, MAX_DUMMY, MAX_PRICE}
-pub use Rattle.cats_text.specs.FaultPlaces.{PlainPlace, place_behind, words_place, lines_place, first_place, fault_of}
-pub use Rattle.cats_text.specs.Faults.{has_bid_line, complete_fault, first_fault, fault_at, header_value, word_fault, when, has_end, is_end, header_word}
-pub use Rattle.cats_text.specs.Faults.{is_line_due, end_fault, words_fault, line_fault, lines_fault, is_final, keep_final, up_to_final, Bounds, bounds_of}
-pub use Rattle.cats_text.specs.Faults.{number_word, price_word, bid_end, header_end, good_word, bid_word, is_text_kind, IsOfText}
+pub use Rattle.cats_text.specs.FaultPlaces.{PlainPlace, Judged, judged_at, judged_then, words_judged, line_judged, lines_judged, reading, first_place, fault_of}
+pub use Rattle.cats_text.specs.Faults.{has_bid_line, complete_fault, first_fault, fault_at, is_final, keep_final, up_to_final, is_text_kind, IsOfText}
 pub use Rattle.cats_text.specs.Fed.{Fed, fed_fault}
-pub use Rattle.cats_text.specs.FileLines.{bid_of, put_slot, filled, before_end, real_goods, dummy_in, slots_of, file_of_lines, spelled_file, rising_of}
+pub use Rattle.cats_text.specs.FileLines.{file_of, spelled_file}
 pub use Rattle.cats_text.specs.Grammar.{Spells, line_number, SpellsBid, AreDistinct, SpellsNumber, significant_words, SpellsPrice}
-pub use Rattle.cats_text.specs.Internal.Kept.{whole, is_some_bid, number_alone, slot_at, arrived, AreWithin, IsPadded, arrivals_to, with_goods}
-pub use Rattle.cats_text.specs.Internal.Keywords.{keyword_text, place_value_of}
+pub use Rattle.cats_text.specs.Internal.Kept.{number_alone, slot_at, arrived, AreWithin, IsPadded, arrivals_to, with_goods}
 pub use Rattle.cats_text.specs.Internal.LeadingToken.{IsLeadingToken, IsNumberSoFar, IsPlain, IsLetter, IsKept, ends_word}
-pub use Rattle.cats_text.specs.Internal.Machine.{summary, word_from, word_with, decimal_with}
+pub use Rattle.cats_text.specs.Internal.Machine.{summary, word_from, word_with, decimal_with, place_value_of}
 pub use Rattle.cats_text.specs.Internal.Marks.{IsMarked, IsListed}
-pub use Rattle.cats_text.specs.Internal.Parsing.{Reading, word_read, line_read, is_due, number_read, price_read, price_parts, with_price, good_or_end_read}
-pub use Rattle.cats_text.specs.Internal.Parsing.{good_read, dummy_read, end_read, keyword_read, header_number_read, with_bid, drafted, bid_closed, start}
-pub use Rattle.cats_text.specs.Internal.Parsing.{is_same_keyword}
-pub use Rattle.cats_text.specs.Internal.Places.{Judged, judged_at, judged_then, words_judged, line_judged, IsFirstWord, IsFirstLine, without_return, seen}
-pub use Rattle.cats_text.specs.Internal.Progress.{Progress, Gives, Stops, progress}
+pub use Rattle.cats_text.specs.Internal.Parsing.{is_same_keyword, is_keyword_by, number_by, price_parts, price_by, ends_by, token_by, word_read, bid_closed}
+pub use Rattle.cats_text.specs.Internal.Places.{words_by, line_by, IsFirstWord, IsFirstLine, without_return, seen}
+pub use Rattle.cats_text.specs.Internal.Progress.{Gives, Stops, progress}
 pub use Rattle.cats_text.specs.Internal.Reading.{PartsAnswer, PartsAs, PackedAs, Unpacks, HasTaken, IsReading, SpellsParts, placed_fault}
 pub use Rattle.cats_text.specs.Internal.Returns.{settled, waits, carried, settle, return_byte}
 pub use Rattle.cats_text.specs.Internal.Scanning.{State, state, first_state, Scan, scan, Scans, MeetsBidLine, end_of, ArePartsOf, Finishes, IsInBidLine}
@@ -31,10 +26,14 @@ pub use Rattle.cats_text.specs.Layout.{with_place, digit_at, behind_point}
 pub use Rattle.cats_text.specs.Lines.{Word, Line, RawLine, raw_lines, with_byte, line_words, is_significant, is_blank, lines_with, words_with, with_letter}
 pub use Rattle.cats_text.specs.Lines.{begins_word, numbered, blank_returns, significant_lines, line_byte, line_count, line_ends}
 pub use Rattle.cats_text.specs.Numbers.{number_of, is_too_large, is_too_fine, price_of, whole_part, places, has_place_from, six_places, digits_alone}
-pub use Rattle.cats_text.specs.Numbers.{GREATEST_PRICE, is_number, is_digit, is_price, has_point}
+pub use Rattle.cats_text.specs.Numbers.{GREATEST_PRICE, is_number, is_digit, is_price, has_point, price_word}
+pub use Rattle.cats_text.specs.Parsing.{Reading, token_read, keyword_read, header_number_read, number_read, price_read, good_read, dummy_read, any_good_read}
+pub use Rattle.cats_text.specs.Parsing.{end_read, good_or_end_read, with_bid, drafted, header_line_read, bid_read, line_read, is_due, is_some_bid}
+pub use Rattle.cats_text.specs.Progress.{Progress, start, whole, rising_of, put_slot, filled}
 pub use Rattle.cats_text.specs.Reading.{PackedAnswer, FinishAnswer, FinishesAs, WantsMemory, FeedsAs}
 pub use Rattle.cats_text.specs.Streams.{has_failed, IsWhole, IsTextFault, FaultsAt, ReadsAs, ReadsPlainAs, ChecksAs, inner_of, Sends, SendsPart, has_ended}
 pub use Rattle.cats_text.specs.Streams.{failed_to_write, moved_nothing}
+pub use Rattle.cats_text.specs.Tokens.{Token, token_of, keyword_text, is_end, valued}
 pub use Rattle.cats_text.specs.Views.{plain_place}
 pub use Rattle.cats_text.specs.declared.fault_place.FaultPlace.{FaultPlace}
 pub use Rattle.cats_text.specs.declared.history.History.{History}

@@ -1,10 +1,6 @@
--- From words to lines: the parser gives what the definitions say. They say it of the lines and words so far.
-pub mod States
-pub mod NumbersTaken
-pub mod Headers
-pub mod Bids
-pub mod GoodsSoFar
-pub mod Goods
-pub mod Lines
+-- From words to lines: what is kept of words gives what the words give.
+pub mod Tokens
+pub mod Steps
 pub mod WholeLines
+pub mod Keeping
 pub mod BidsByNumber

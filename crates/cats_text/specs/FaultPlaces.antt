@@ -1,9 +1,11 @@
--- The place of the first fault of a text: its line, and the number and the bytes of the word that has it. The places
--- are gone through in the order of `Faults`, by its tests.
-use Rattle.std.specs.Prelude.{ℕ, suc, if◌then◌else◌, List, [], ◌∷◌, ◌++◌, length, Option, Some, None, option_map}
-use Rattle.std.specs.Option.{option_or}
+-- The reading of a text: what its lines say, or the place of its first fault. Its places are, line by line, the words of
+-- its significant lines from the left and after them the line's end; last comes the end of the input.
+use Rattle.std.specs.Prelude.{ℕ, suc, Bool, true, ◌&&◌, ◌||◌, if◌then◌else◌, List, [], ◌∷◌, length, Option, Result, Ok, Err}
+use Rattle.std.specs.Result.{result_err}
 use Rattle.cats_text.specs.Lines.{Word, Line, significant_lines, line_count}
-use Rattle.cats_text.specs.Faults.{word_fault, end_fault, is_line_due, fault_at}
+use Rattle.cats_text.specs.Tokens.{token_of}
+use Rattle.cats_text.specs.Progress.{Progress, whole, start}
+use Rattle.cats_text.specs.Parsing.{Reading, token_read, line_read, is_due}
 use Rattle.cats_text.specs.declared.read_fault.Kind.{Kind}
 use Rattle.cats_text.specs.declared.read_fault.Kind.TheVariants.{Missing}
 use Rattle.cats_text.specs.declared.read_fault.ReadFault.{ReadFault}
@@ -16,27 +18,43 @@ pub record PlainPlace : Type 0 where
   pub text : Word
   pub kind : Kind
 
--- the words before it in its line
-abbrev pub place_behind : ℕ → List Word → Word → Kind → PlainPlace
-place_behind line before text kind = record { line = line; word = suc (length before); text = text; kind = kind }
+abbrev pub Judged : Type 0
+Judged = Result Progress PlainPlace
 
--- the words from here to the line's end, and the end
-abbrev pub words_place : ℕ → List (List Word) → List Word → List Word → Option PlainPlace
-words_place line lines before [] = option_map (place_behind line before []) (end_fault lines before)
-words_place line lines before (w ∷ ws) =
-    option_or (option_map (place_behind line before w) (word_fault lines before w))
-    (words_place line lines (before ++ w ∷ []) ws)
+-- a step at the place with this line, this word and its bytes
+abbrev pub judged_at : ℕ → ℕ → Word → Reading → Judged
+judged_at line word text (Ok p) = Ok p
+judged_at line word text (Err kind) = Err (record { line = line; word = word; text = text; kind = kind })
 
--- the places from a line on, and the end of the input, the last line's number being known
-abbrev pub lines_place : ℕ → List (List Word) → List Line → Option PlainPlace
-lines_place count lines [] = if is_line_due lines then Some (place_behind (suc count) [] [] Missing) else None
-lines_place count lines (l ∷ ls) =
-    option_or (words_place l.number lines [] l.words) (lines_place count (lines ++ l.words ∷ []) ls)
+abbrev pub judged_then : Judged → (Progress → Judged) → Judged
+judged_then (Ok p) f = f p
+judged_then (Err place) f = Err place
+
+-- the words of a line from one with this number on
+abbrev pub words_judged : ℕ → ℕ → List Word → Progress → Judged
+words_judged line word [] p = Ok p
+words_judged line word (w ∷ ws) p =
+    judged_then (judged_at line word w (token_read p (token_of w))) (words_judged line (suc word) ws)
+
+-- A line; its end is judged where an LF is there, or where the input is whole.
+abbrev pub line_judged : Bool → Line → Progress → Judged
+line_judged is_whole l p =
+    judged_then (words_judged l.number 1 l.words p) (λ q. if l.ended || is_whole
+    then judged_at l.number (suc (length l.words)) [] (line_read q) else Ok q)
+
+-- The lines from one on, the last line's number being known; the end of the input is judged where the input is whole.
+abbrev pub lines_judged : Bool → ℕ → List Line → Progress → Judged
+lines_judged is_whole count [] p = if is_whole && is_due p
+    then Err (record { line = suc count; word = 1; text = []; kind = Missing }) else Ok p
+lines_judged is_whole count (l ∷ ls) p = judged_then (line_judged is_whole l p) (lines_judged is_whole count ls)
+
+abbrev pub reading : List ℕ → Judged
+reading text = lines_judged true (line_count text) (significant_lines text) (start whole)
 
 -- the place of the first fault of a text
 abbrev pub first_place : List ℕ → Option PlainPlace
-first_place text = lines_place (line_count text) [] (significant_lines text)
+first_place text = result_err (reading text)
 
 -- what is wrong at a place, without the word
 abbrev pub fault_of : PlainPlace → ReadFault
-fault_of place = fault_at place.line place.kind
+fault_of place = record { line = place.line; kind = place.kind }

@@ -2,6 +2,9 @@
 pub mod Lines
 pub mod Numbers
 pub mod Views
+pub mod Tokens
+pub mod Progress
+pub mod Parsing
 pub mod Grammar
 pub mod Faults
 pub mod FaultPlaces

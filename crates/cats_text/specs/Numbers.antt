@@ -1,8 +1,10 @@
 -- Numbers and prices as words.
 use Rattle.std.specs.Prelude.{ℕ, ◌+◌, ◌-◌, ◌*◌, ◌==◌, nat_lt, nat_le, Bool, false, not, ◌&&◌, ◌||◌, if◌then◌else◌, []}
-use Rattle.std.specs.Prelude.{◌∷◌, ◌++◌, fold, take, drop}
+use Rattle.std.specs.Prelude.{◌∷◌, ◌++◌, fold, take, drop, Option, Some, None}
 use Rattle.std.specs.List.{list_all, list_any}
 use Rattle.cats_text.specs.Lines.{Word}
+use Rattle.cats_text.specs.declared.read_fault.Kind.{Kind}
+use Rattle.cats_text.specs.declared.read_fault.Kind.TheVariants.{NotANumber, TooLarge, TooFine}
 
 abbrev pub is_digit : ℕ → Bool
 is_digit b = nat_le 48 b && nat_le b 57
@@ -59,3 +61,8 @@ six_places ds = take 6 (ds ++ 48 ∷ 48 ∷ 48 ∷ 48 ∷ 48 ∷ 48 ∷ [])
 -- the value in millionths of a price that is not too fine
 abbrev pub price_of : Word → ℕ
 price_of w = 1000000 * number_of (whole_part w) + number_of (six_places (places w))
+
+-- the fault of a word that has to be a price
+abbrev pub price_word : Word → Option Kind
+price_word w = if not (is_price w) then Some NotANumber
+    else (if is_too_large w then Some TooLarge else (if is_too_fine w then Some TooFine else None))

@@ -11,8 +11,8 @@ ghost use Rattle.cats_text.specs.Internal.Places.{
   IsFirstLine,
   without_return,
   seen,
-  line_judged,
-  words_judged,
+  line_by,
+  words_by,
   Judges,
 };
 
@@ -114,7 +114,7 @@ fn judge_words<'a>(
     number: u64,
     line: &'a [u8],
 ) -> Result<(), FaultPlace<'a>>
-    ensures { Judges (words_judged number 1 (line_words line.now)) (seen parser.old) (seen parser.new) result }
+    ensures { Judges (words_by number 1 (line_words line.now)) (seen parser.old) (seen parser.new) result }
 {
     let mut word = 1;
     let mut rest = line;
@@ -144,7 +144,7 @@ fn judge_line<'a>(
     number: u64,
     line: &'a [u8],
 ) -> Result<(), FaultPlace<'a>>
-    ensures judged { Judges (line_judged number (line_words line.now)) (seen parser.old) (seen parser.new) result }
+    ensures judged { Judges (line_by number (line_words line.now)) (seen parser.old) (seen parser.new) result }
     ensures significant { OnErr result (is_significant (line_words line.now) ≡ true) }
 {
     if !is_significant(line) {

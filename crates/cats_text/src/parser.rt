@@ -2,24 +2,29 @@
 
 ghost use Rattle.std.specs.Prelude.{◌≡◌, ◌<◌, [], length, Ok, IfOk, OnOk, OnErr};
 ghost use Rattle.std.specs.Bool.{OnTrue};
-ghost use Rattle.cats_text.specs.FileLines.{put_slot, filled};
-ghost use Rattle.cats_text.specs.Internal.Progress.{progress, Gives};
-ghost use Rattle.cats_text.specs.Internal.Parsing.{
-  start,
+ghost use Rattle.cats_text.specs.Progress.{start, put_slot, filled};
+ghost use Rattle.cats_text.specs.Parsing.{
   keyword_read,
   header_number_read,
   number_read,
   price_read,
   good_read,
   good_or_end_read,
-  word_read,
   drafted,
   with_bid,
   bid_read,
-  bid_closed,
   header_line_read,
   line_read,
   is_due,
+};
+ghost use Rattle.cats_text.specs.Internal.Progress.{progress, Gives};
+ghost use Rattle.cats_text.specs.Internal.Parsing.{
+  is_keyword_by,
+  number_by,
+  price_by,
+  token_by,
+  word_read,
+  bid_closed,
 };
 
 use crate::bids_by_number::BidsByNumber;
@@ -106,7 +111,7 @@ impl<K: Keep> Parser<K> {
     }
 
     fn take_keyword(&mut self, keyword: Keyword, word: Word) -> Result<(), Kind>
-        ensures reads { Gives (λ p. keyword_read p keyword word)
+        ensures reads { Gives (λ p. keyword_read p (is_keyword_by keyword word))
             (progress K.keep self.old) (progress K.keep self.new) result }
         ensures stage { self.new.stage ≡ self.old.stage }
     {
@@ -119,7 +124,8 @@ impl<K: Keep> Parser<K> {
     }
 
     fn take_header_number(&mut self, word: Word) -> Result<(), Kind>
-        ensures reads { Gives (λ p. header_number_read p word) (progress K.keep self.old) (progress K.keep self.new) result }
+        ensures reads { Gives (λ p. header_number_read p (number_by word))
+            (progress K.keep self.old) (progress K.keep self.new) result }
         ensures stage { self.new.stage ≡ self.old.stage }
     {
         let Word::Number(value) = word else {
@@ -140,7 +146,8 @@ impl<K: Keep> Parser<K> {
     }
 
     fn take_number(&mut self, word: Word) -> Result<(), Kind>
-        ensures reads { Gives (λ p. number_read p word) (progress K.keep self.old) (progress K.keep self.new) result }
+        ensures reads { Gives (λ p. number_read p (number_by word))
+            (progress K.keep self.old) (progress K.keep self.new) result }
         ensures stage { self.new.stage ≡ self.old.stage }
     {
         let Word::Number(value) = word else {
@@ -165,7 +172,7 @@ impl<K: Keep> Parser<K> {
     }
 
     fn take_price(&mut self, word: Word) -> Result<(), Kind>
-        ensures reads { Gives (λ p. price_read p word) (progress K.keep self.old) (progress K.keep self.new) result }
+        ensures reads { Gives (λ p. price_read p (price_by word)) (progress K.keep self.old) (progress K.keep self.new) result }
         ensures stage { self.new.stage ≡ self.old.stage }
     {
         self.draft.price = match word {
@@ -216,7 +223,8 @@ impl<K: Keep> Parser<K> {
     #[inline(always)]
     fn take_good_or_end(&mut self, word: Word) -> Result<(), Kind>
         requires { self.old.stage ≡ Stage.Bid }
-        ensures reads { Gives (λ p. good_or_end_read p word) (progress K.keep self.old) (progress K.keep self.new) result }
+        ensures reads { Gives (λ p. good_or_end_read p (token_by word))
+            (progress K.keep self.old) (progress K.keep self.new) result }
         ensures stage { self.new.stage ≡ self.old.stage }
     {
         match word {

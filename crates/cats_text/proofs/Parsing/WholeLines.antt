@@ -1,10 +1,10 @@
--- All words of a line, and all lines: the parser and the definitions agree.
-use Rattle.cats_text.proofs.Common.{◌≡◌, ℕ, suc, ◌<◌, Bool, true, false, ◌&&◌, ◌||◌, cond, List, [], ◌∷◌, ◌++◌, length, map, refl, sym, ap, subst, arith, Some}
-use Rattle.cats_text.proofs.Common.{None, Result, Ok, Err, append-nil, append_assoc, both_ways, option_or, AllByRecursion, Word, Line, words_fault, line_fault}
-use Rattle.cats_text.proofs.Common.{lines_fault, fault_at, is_line_due, Progress, Reading, word_read, line_read, is_due, Missing, ReadFault, summary}
-use Rattle.cats_text.proofs.Common.{common_steps}
-use Rattle.cats_text.proofs.Parsing.States.{IsAt, WordFollows}
-use Rattle.cats_text.proofs.Parsing.Lines.{word_step, line_step, due_step}
+-- All words of a line, and all lines: what is kept of the words gives what the words give.
+use Rattle.cats_text.proofs.Common.{◌≡◌, ℕ, suc, ◌<◌, Bool, true, false, ◌&&◌, ◌||◌, cond, List, [], ◌∷◌, length, refl, sym, ap, ◌∙◌, subst, arith, Result, Ok, Err}
+use Rattle.cats_text.proofs.Common.{both_ways, AllByRecursion, Word, Line, Token, token_of, token_by, token_read, fault_at, fault_of, PlainPlace, Judged, judged_at}
+use Rattle.cats_text.proofs.Common.{judged_then, words_judged, line_judged, lines_judged, Progress, Reading, word_read, line_read, is_due, Missing, ReadFault}
+use Rattle.cats_text.proofs.Common.{Kind, Stage, summary, common_steps, ◌≤◌, ◌⊎◌, inl, inr, ⊎_elim}
+use Rattle.cats_text.proofs.Parsing.Tokens.{IsBounded, token_same, read_same}
+use Rattle.cats_text.proofs.Parsing.Steps.{is_line_kind, KeepsLine, EndsLine, WordGives, LineGives, rank, word_gives, line_gives, token_kind}
 
 abbrev pub IsWord : Word → Type 0
 IsWord w = 0 < length w
@@ -13,27 +13,50 @@ abbrev pub reading_then : Reading → (Progress → Reading) → Reading
 reading_then (Ok p) f = f p
 reading_then (Err kind) f = Err kind
 
--- ---- the words of a line
-
+-- by what is kept of each word
 abbrev pub words_read : List Word → Progress → Reading
 words_read [] p = Ok p
 words_read (w ∷ ws) p = reading_then (word_read p (summary w)) (words_read ws)
 
-abbrev pub WordsFollow : List (List Word) → List Word → List Word → Reading → Type 0
-WordsFollow lines before ws (Ok q) = (words_fault lines before ws ≡ None) × IsAt lines (before ++ ws) q
-WordsFollow lines before ws (Err kind) = words_fault lines before ws ≡ Some kind
+-- ---- the words of a line
 
-words_after : (lines : List (List Word)) (before : List Word) (w : Word) (ws : List Word) (r : Reading) → WordFollows lines before w r
-    → ((q : Progress) → IsAt lines (before ++ w ∷ []) q → WordsFollow lines (before ++ w ∷ []) ws (words_read ws q))
-    → WordsFollow lines before (w ∷ ws) (reading_then r (words_read ws))
-words_after lines before w ws (Ok q) h next = grind (arith, common_steps, append_assoc)
-words_after lines before w ws (Err kind) h next = ap (λ o. option_or o (words_fault lines (before ++ w ∷ []) ws)) h
+-- in this line, at a fault of a line's kind or behind words
+abbrev pub InLine : ℕ → Progress → Judged → Type 0
+InLine n p (Ok q) = KeepsLine p q
+InLine n p (Err place) = (place.line ≡ n) × (is_line_kind place.kind ≡ true)
 
-pub words_step : (lines : List (List Word)) (before ws : List Word) (p : Progress) → AllByRecursion IsWord ws → IsAt lines before p
-    → WordsFollow lines before ws (words_read ws p)
-words_step lines before [] p words at = (refl, subst (λ ds. IsAt lines ds p) (sym (append-nil before)) at)
-words_step lines before ([] ∷ ws) p words at = absurd (let no : 0 < 0 = words.0 in omega arith)
-words_step lines before ((a ∷ w) ∷ ws) p words at = grind (arith, common_steps, word_step, words_after, (words_step lines (before ++ (a ∷ w) ∷ []) ws))
+keeps_both : (p q r : Progress) → KeepsLine p q → KeepsLine q r → KeepsLine p r
+keeps_both p q r h k = record { stage = k.stage ∙ h.stage; slots = k.slots ∙ h.slots; bounded = k.bounded }
+
+in_both : (n : ℕ) (p q : Progress) (j : Judged) → KeepsLine p q → InLine n q j → InLine n p j
+in_both n p q (Ok r) h k = keeps_both p q r h k
+in_both n p q (Err place) h k = k
+
+pub words_in : (n k : ℕ) (ws : List Word) (p : Progress) → IsBounded p.header → InLine n p (words_judged n k ws p)
+words_in n k [] p bounded = record { stage = refl; slots = refl; bounded = bounded }
+words_in n k (w ∷ ws) p bounded = by (token_read p (token_of w)) (word_gives p bounded (token_of w) (token_kind w))
+  where
+    by : (r : Reading) → WordGives p r → InLine n p (judged_then (judged_at n k w r) (words_judged n (suc k) ws))
+    by (Ok q) h = in_both n p q (words_judged n (suc k) ws q) h (words_in n (suc k) ws q h.bounded)
+    by (Err kind) h = (refl, h)
+
+-- the step alone, without the word
+abbrev pub kinds : Judged → Reading
+kinds (Ok q) = Ok q
+kinds (Err place) = Err place.kind
+
+pub words_same : (n k : ℕ) (ws : List Word) (p : Progress) → AllByRecursion IsWord ws → IsBounded p.header
+    → words_read ws p ≡ kinds (words_judged n k ws p)
+words_same n k [] p words bounded = refl
+words_same n k ([] ∷ ws) p words bounded = absurd (let no : 0 < 0 = words.0 in omega arith)
+words_same n k ((a ∷ w) ∷ ws) p words bounded =
+    ap (λ r. reading_then r (words_read ws)) (read_same p bounded (token_by (summary (a ∷ w))) (token_of (a ∷ w)) (token_same a w))
+    ∙ by (token_read p (token_of (a ∷ w))) (word_gives p bounded (token_of (a ∷ w)) (token_kind (a ∷ w)))
+  where
+    by : (r : Reading) → WordGives p r
+        → reading_then r (words_read ws) ≡ kinds (judged_then (judged_at n k (a ∷ w) r) (words_judged n (suc k) ws))
+    by (Ok q) h = words_same n (suc k) ws q words.1 h.bounded
+    by (Err kind) h = refl
 
 -- ---- a line
 
@@ -59,14 +82,85 @@ open_line l p = on_line l.number (words_read l.words p)
 abbrev pub IsLine : Line → Type 0
 IsLine l = (0 < length l.words) × AllByRecursion IsWord l.words
 
--- where the end of a line is judged
-abbrev pub LineIs : Bool → List (List Word) → Line → Scanned → Type 0
-LineIs whole lines l (Ok q) = (line_fault whole lines l ≡ None) × IsAt (lines ++ l.words ∷ []) [] q
-LineIs whole lines l (Err e) = line_fault whole lines l ≡ Some e
+-- the fault alone, without the word
+abbrev pub faulted : Judged → Scanned
+faulted (Ok q) = Ok q
+faulted (Err place) = Err (fault_of place)
 
-pub whole_line_step : (whole : Bool) (lines : List (List Word)) (l : Line) (p : Progress) → (l.ended || whole) ≡ true → IsLine l → IsAt lines [] p
-    → LineIs whole lines l (whole_line l p)
-whole_line_step whole lines l p judged is at = grind (arith, common_steps, line_step, words_step)
+on_same : (n : ℕ) (p : Progress) (j : Judged) → InLine n p j → on_line n (kinds j) ≡ faulted j
+on_same n p (Ok q) h = refl
+on_same n p (Err place) h = ap (λ k. Err (fault_at k place.kind)) (sym h.0)
+
+-- behind its end
+abbrev pub ended : ℕ → ℕ → Progress → Judged
+ended n k q = judged_at n k [] (line_read q)
+
+end_same : (n k : ℕ) (r : Reading) → on_line n r ≡ faulted (judged_at n k [] r)
+end_same n k (Ok q) = refl
+end_same n k (Err kind) = refl
+
+then_same : (n k : ℕ) (p : Progress) (j : Judged) → InLine n p j → on_line n (reading_then (kinds j) line_read) ≡ faulted (judged_then j (ended n k))
+then_same n k p (Ok q) h = end_same n k (line_read q)
+then_same n k p (Err place) h = on_same n p (Err place) h
+
+if_ended : (b : Bool) → b ≡ true → (l : Line) (p : Progress)
+    → judged_then (words_judged l.number 1 l.words p) (λ q. cond b (ended l.number (suc (length l.words)) q) (Ok q))
+    ≡ judged_then (words_judged l.number 1 l.words p) (ended l.number (suc (length l.words)))
+if_ended true e l p = refl
+if_ended false e l p = absurd (both_ways false refl (sym e))
+
+then_open : (j : Judged) → judged_then j (λ q. Ok q) ≡ j
+then_open (Ok q) = refl
+then_open (Err place) = refl
+
+if_open : (b : Bool) → b ≡ false → (l : Line) (p : Progress)
+    → judged_then (words_judged l.number 1 l.words p) (λ q. cond b (ended l.number (suc (length l.words)) q) (Ok q))
+    ≡ words_judged l.number 1 l.words p
+if_open true e l p = absurd (both_ways true e refl)
+if_open false e l p = then_open (words_judged l.number 1 l.words p)
+
+pub whole_line_same : (whole : Bool) (l : Line) (p : Progress) → (l.ended || whole) ≡ true → AllByRecursion IsWord l.words → IsBounded p.header
+    → whole_line l p ≡ faulted (line_judged whole l p)
+whole_line_same whole l p e is bounded =
+    ap (λ r. on_line l.number (reading_then r line_read)) (words_same l.number 1 l.words p is bounded)
+    ∙ then_same l.number (suc (length l.words)) p (words_judged l.number 1 l.words p) (words_in l.number 1 l.words p bounded)
+    ∙ sym (ap faulted (if_ended (l.ended || whole) e l p))
+
+open_line_same : (whole : Bool) (l : Line) (p : Progress) → (l.ended || whole) ≡ false → AllByRecursion IsWord l.words → IsBounded p.header
+    → open_line l p ≡ faulted (line_judged whole l p)
+open_line_same whole l p e is bounded =
+    ap (on_line l.number) (words_same l.number 1 l.words p is bounded)
+    ∙ on_same l.number p (words_judged l.number 1 l.words p) (words_in l.number 1 l.words p bounded) ∙ sym (ap faulted (if_open (l.ended || whole) e l p))
+
+-- behind a line: at most one header line more, and bids only behind a bid line
+pub record PassesLine (p q : Progress) : Type 0 where
+  pub rank : rank q.stage ≤ suc (rank p.stage)
+  pub slots : (3 ≤ rank p.stage) ⊎ (q.slots ≡ p.slots)
+  pub bounded : IsBounded q.header
+
+abbrev pub AtLine : ℕ → Progress → Judged → Type 0
+AtLine n p (Ok q) = PassesLine p q
+AtLine n p (Err place) = (place.line ≡ n) × (is_line_kind place.kind ≡ true)
+
+pub line_in : (whole : Bool) (l : Line) (p : Progress) → IsBounded p.header → AtLine l.number p (line_judged whole l p)
+line_in whole l p bounded = by (words_judged l.number 1 l.words p) (words_in l.number 1 l.words p bounded)
+  where
+    by_end : (m : Progress) → KeepsLine p m → (r : Reading) → LineGives m r → AtLine l.number p (judged_at l.number (suc (length l.words)) [] r)
+    by_end m k (Ok q) h = record {
+      rank = let le : rank q.stage ≤ suc (rank m.stage) = h.rank in let same : rank m.stage ≡ rank p.stage = ap rank k.stage in omega arith;
+      slots = ⊎_elim (λ (le : 3 ≤ rank m.stage). inl (subst (λ (s : Stage). 3 ≤ rank s) k.stage le)) (λ (e : q.slots ≡ m.slots). inr (e ∙ k.slots)) h.slots;
+      bounded = subst IsBounded (sym h.header) k.bounded;
+    }
+    by_end m k (Err kind) h = (refl, h)
+
+    at_end : (b : Bool) (m : Progress) → KeepsLine p m → AtLine l.number p (cond b (ended l.number (suc (length l.words)) m) (Ok m))
+    at_end true m k = by_end m k (line_read m) (line_gives m)
+    at_end false m k = record { rank = rw (k.stage) (omega arith); slots = inr k.slots; bounded = k.bounded }
+
+    by : (j : Judged) → InLine l.number p j
+        → AtLine l.number p (judged_then j (λ q. cond (l.ended || whole) (ended l.number (suc (length l.words)) q) (Ok q)))
+    by (Ok m) k = at_end (l.ended || whole) m k
+    by (Err place) h = h
 
 -- ---- all lines
 
@@ -80,48 +174,39 @@ abbrev pub AreEndedButLast : List Line → Type 0
 AreEndedButLast (l ∷ m ∷ ls) = (l.ended ≡ true) × AreEndedButLast (m ∷ ls)
 AreEndedButLast _ = Unit {0}
 
-abbrev pub LinesAre : Bool → ℕ → List (List Word) → List Line → Scanned → Type 0
-LinesAre whole count lines ls (Ok q) = (lines_fault whole count lines ls ≡ None)
-    × (whole ≡ true → IsAt (lines ++ map (λ l. l.words) ls) [] q × (is_line_due (lines ++ map (λ l. l.words) ls) ≡ false))
-LinesAre whole count lines ls (Err e) = lines_fault whole count lines ls ≡ Some e
-
-end_step : (whole : Bool) (count : ℕ) (lines : List (List Word)) (p : Progress) → IsAt lines [] p
-    → LinesAre whole count lines [] (cond (whole && is_due p) (Err (fault_at (suc count) Missing)) (Ok p))
-end_step false count lines p at = (refl, λ e. absurd (both_ways false refl e))
-end_step true count lines p at = grind (arith, common_steps, append-nil, due_step)
-
-judged_line : (whole : Bool) (count : ℕ) (lines : List (List Word)) (l : Line) (ls : List Line) (r : Scanned) → LineIs whole lines l r
-    → ((q : Progress) → IsAt (lines ++ l.words ∷ []) [] q → LinesAre whole count (lines ++ l.words ∷ []) ls (lines_scan whole count ls q))
-    → LinesAre whole count lines (l ∷ ls) (scanned_then r (lines_scan whole count ls))
-judged_line whole count lines l ls (Err e) h next = ap (λ o. option_or o (lines_fault whole count (lines ++ l.words ∷ []) ls)) h
-judged_line whole count lines l ls (Ok q) h next = grind (arith, common_steps, append_assoc)
-
--- the last line, without its LF, where the input goes on
-open_last : (count : ℕ) (lines : List (List Word)) (l : Line) (p : Progress) → l.ended ≡ false → IsLine l → IsAt lines [] p
-    → LinesAre false count lines (l ∷ []) (open_line l p)
-open_last count lines l p unended is at = grind (arith, common_steps, both_ways, words_step)
-
-open_is_last : (count : ℕ) (lines : List (List Word)) (l : Line) (ls : List Line) (p : Progress) → l.ended ≡ false → AreEndedButLast (l ∷ ls) → IsLine l
-    → IsAt lines [] p → LinesAre false count lines (l ∷ ls) (open_line l p)
-open_is_last count lines l [] p unended ends is at = open_last count lines l p unended is at
-open_is_last count lines l (m ∷ ls) p unended ends is at = absurd (both_ways l.ended unended ends.0)
-
 tail_ends : (l : Line) (ls : List Line) → AreEndedButLast (l ∷ ls) → AreEndedButLast ls
 tail_ends l [] e = tt
 tail_ends l (m ∷ ls) e = e.1
 
-pub lines_step : (whole : Bool) (count : ℕ) (lines : List (List Word)) (ls : List Line) (p : Progress) → AllByRecursion IsLine ls → AreEndedButLast ls
-    → IsAt lines [] p → LinesAre whole count lines ls (lines_scan whole count ls p)
-lines_step whole count lines [] p is ends at = end_step whole count lines p at
-lines_step whole count lines (l ∷ ls) p is ends at =
-    elim (l.ended || whole) as (λ b. (l.ended || whole) ≡ b
-    → LinesAre whole count lines (l ∷ ls) (cond b (scanned_then (whole_line l p) (lines_scan whole count ls)) (open_line l p))) [
-      | true ↦ λ (judged : (l.ended || whole) ≡ true). judged_line whole count lines l ls (whole_line l p) (whole_line_step whole lines l p judged is.0 at)
-          (λ q at'. lines_step whole count (lines ++ l.words ∷ []) ls q is.1 (tail_ends l ls ends) at')
-      | false ↦ λ (judged : (l.ended || whole) ≡ false). let both = neither l.ended whole judged in
-          subst (λ b. LinesAre b count lines (l ∷ ls) (open_line l p)) (sym both.1) (open_is_last count lines l ls p both.0 ends is.0 at)
-    ] refl
+pub neither : (a b : Bool) → (a || b) ≡ false → (a ≡ false) × (b ≡ false)
+neither true b e = absurd (both_ways true e refl)
+neither false b e = (refl, e)
+
+missing_same : (b : Bool) (count : ℕ) (p : Progress) → cond b (Err (fault_at (suc count) Missing)) (Ok p)
+    ≡ faulted (cond b (Err (record { line = suc count; word = 1; text = []; kind = Missing })) (Ok p))
+missing_same true count p = refl
+missing_same false count p = refl
+
+-- the last line, without its LF, where the input goes on
+last_same : (count : ℕ) (l : Line) (ls : List Line) (j : Judged) → l.ended ≡ false → AreEndedButLast (l ∷ ls)
+    → faulted j ≡ faulted (judged_then j (lines_judged false count ls))
+last_same count l [] j unended ends = ap faulted (sym (then_open j))
+last_same count l (m ∷ ls) j unended ends = absurd (both_ways l.ended unended ends.0)
+
+pub lines_same : (whole : Bool) (count : ℕ) (ls : List Line) (p : Progress) → AllByRecursion IsLine ls → AreEndedButLast ls → IsBounded p.header
+    → lines_scan whole count ls p ≡ faulted (lines_judged whole count ls p)
+lines_same whole count [] p is ends bounded = missing_same (whole && is_due p) count p
+lines_same whole count (l ∷ ls) p is ends bounded = by (l.ended || whole) refl
   where
-    neither : (a b : Bool) → (a || b) ≡ false → (a ≡ false) × (b ≡ false)
-    neither true b e = absurd (both_ways true e refl)
-    neither false b e = (refl, e)
+    rest : (n : ℕ) (j : Judged) → AtLine n p j → scanned_then (faulted j) (lines_scan whole count ls) ≡ faulted (judged_then j (lines_judged whole count ls))
+    rest n (Ok q) h = lines_same whole count ls q is.1 (tail_ends l ls ends) h.bounded
+    rest n (Err place) h = refl
+
+    by : (b : Bool) → (l.ended || whole) ≡ b
+        → cond b (scanned_then (whole_line l p) (lines_scan whole count ls)) (open_line l p) ≡ faulted (lines_judged whole count (l ∷ ls) p)
+    by true e = ap (λ r. scanned_then r (lines_scan whole count ls)) (whole_line_same whole l p e is.0.1 bounded)
+        ∙ rest l.number (line_judged whole l p) (line_in whole l p bounded)
+    by false e = let both = neither l.ended whole e in
+        open_line_same whole l p e is.0.1 bounded
+        ∙ subst (λ w. faulted (line_judged whole l p) ≡ faulted (judged_then (line_judged whole l p) (lines_judged w count ls))) (sym both.1)
+        (last_same count l ls (line_judged whole l p) both.0 ends)

@@ -1,24 +1,21 @@
 -- The scanner's answer over a text is the definitions' first fault, and over the bytes so far the fault that is complete.
 use Rattle.cats_text.proofs.Common.{rules, ◌≡◌, ℕ, suc, ◌+◌, ◌<◌, Bool, true, false, ◌||◌, cond, eqb, List, [], ◌∷◌, ◌++◌, length, filter, refl, sym, ap, ◌∙◌}
-use Rattle.cats_text.proofs.Common.{subst, arith, Some, None, Ok, Err, append-nil, both_ways, AllByRecursion, Word, RawLine, Line, raw_lines, line_words}
-use Rattle.cats_text.proofs.Common.{words_with, is_significant, is_blank, numbered, significant_lines, blank_returns, line_count, lines_with, with_byte}
-use Rattle.cats_text.proofs.Common.{significant_words, lines_fault, first_fault, is_line_due, is_final, Progress, start, Scan, first_state, and_then, scan}
-use Rattle.cats_text.proofs.Common.{byte_step, blank_step, end_step, PlainBid, Start, common_steps}
+use Rattle.cats_text.proofs.Common.{subst, arith, Option, Some, None, Ok, Err, option_map, append-nil, both_ways, result_err, AllByRecursion, Word, RawLine, Line}
+use Rattle.cats_text.proofs.Common.{raw_lines, line_words, words_with, is_significant, is_blank, numbered, significant_lines, blank_returns, line_count, lines_with}
+use Rattle.cats_text.proofs.Common.{with_byte, lines_judged, first_fault, fault_of, Judged, is_final, Progress, start, whole, Scan, first_state, and_then, scan}
+use Rattle.cats_text.proofs.Common.{byte_step, blank_step, end_step, PlainBid, PlainPlace, ReadFault, Start, common_steps}
 use Rattle.cats_text.proofs.Scanning.Lines.{scan-append, IsNoEnd, standing, fresh_outcome, lifted, quiet, from_start, byte_blank, words_blank}
-use Rattle.cats_text.proofs.Parsing.WholeLines.{words_read, on_line, reading_then, Scanned, scanned_then, lines_scan, lines_step, LinesAre, IsLine, IsWord}
-use Rattle.cats_text.proofs.Parsing.WholeLines.{AreEndedButLast}
-use Rattle.cats_text.proofs.Parsing.States.{IsAt}
-use Rattle.cats_text.proofs.Scanning.AllBytes.{text_of, text_of-lines, AreRaw, AreRaw-lines, raw_scan, whole_text, outcome, line_outcome, open_outcome}
+use Rattle.cats_text.proofs.Parsing.Tokens.{IsBounded}
+use Rattle.cats_text.proofs.Parsing.Keeping.{same_place}
+use Rattle.cats_text.proofs.Parsing.WholeLines.{words_read, on_line, reading_then, Scanned, scanned_then, lines_scan, lines_same, faulted, neither, IsLine}
+use Rattle.cats_text.proofs.Parsing.WholeLines.{AreEndedButLast, IsWord}
+use Rattle.cats_text.proofs.Scanning.AllBytes.{text_of, text_of-lines, AreRaw, AreRaw-lines, tail_raw, raw_scan, whole_text, outcome, line_outcome, open_outcome}
 use Rattle.cats_text.proofs.Scanning.AllBytes.{line_and_rest, outcome_from}
 
 -- ---- the significant lines alone
 
 abbrev kept : List Line → List Line
 kept ls = filter (λ l. is_significant l.words) ls
-
-tail_raw : (l : RawLine) (ls : List RawLine) → AreRaw (l ∷ ls) → AreRaw ls
-tail_raw l [] r = tt
-tail_raw l (m ∷ ls) r = r.2
 
 last_raw : (l : RawLine) (ls : List RawLine) → AreRaw (l ∷ ls) → l.ended ≡ false → ls ≡ []
 last_raw l [] r e = refl
@@ -27,10 +24,6 @@ last_raw l (m ∷ ls) r e = absurd (both_ways l.ended e r.1)
 scanned_same : (r : Scanned) (f g : Progress → Scanned) → ((q : Progress) → f q ≡ g q) → scanned_then r f ≡ scanned_then r g
 scanned_same (Ok q) f g h = h q
 scanned_same (Err e) f g h = refl
-
-neither : (a b : Bool) → (a || b) ≡ false → (a ≡ false) × (b ≡ false)
-neither true b e = absurd (both_ways true e refl)
-neither false b e = (refl, e)
 
 -- one line and the rest, the rest being known
 raw_line : (whole : Bool) (n : ℕ) (l : RawLine) (ls : List RawLine) (p : Progress) (count : ℕ) → AreRaw (l ∷ ls)
@@ -45,7 +38,7 @@ pub raw_scan-lines : (whole : Bool) (n : ℕ) (ls : List RawLine) (p : Progress)
 raw_scan-lines false n [] p count r c = refl
 raw_scan-lines true n [] p count r c = grind (arith, common_steps)
 raw_scan-lines whole n (l ∷ ls) p count r c =
-    raw_line whole n l ls p count r (λ q. raw_scan-lines whole (suc n) ls q count (tail_raw l ls r) (λ w. let e : suc count ≡ n + length (l ∷ ls) = c w in
+    raw_line whole n l ls p count r (λ q. raw_scan-lines whole (suc n) ls q count (tail_raw l ls r).1 (λ w. let e : suc count ≡ n + length (l ∷ ls) = c w in
     omega arith))
 
 -- ---- they are lines
@@ -73,27 +66,36 @@ ended_or_last l (m ∷ ls) n r h = r.1
 
 pub kept_ends : (n : ℕ) (ls : List RawLine) → AreRaw ls → AreEndedButLast (kept (numbered n ls))
 kept_ends n [] r = tt
-kept_ends n (l ∷ ls) r = grind (arith, common_steps, ended_or_last, ends_prefix, tail_raw, (kept_ends (suc n) ls (tail_raw l ls r)))
+kept_ends n (l ∷ ls) r = grind (arith, common_steps, ended_or_last, ends_prefix, tail_raw, (kept_ends (suc n) ls (tail_raw l ls r).1))
 
--- ---- before the first line
+-- ---- a whole text
 
-pub at_start : (k : PlainBid → PlainBid) → IsAt [] [] (start k)
-at_start k = grind (arith, common_steps)
+pub start_bounded : (k : PlainBid → PlainBid) → IsBounded (start k).header
+start_bounded k = record { goods = omega arith; bids = omega arith; dummy = omega arith }
+
+-- the reading of a text by a reader that keeps this of each bid
+abbrev pub reading_by : (PlainBid → PlainBid) → List ℕ → Judged
+reading_by k text = lines_judged true (line_count text) (significant_lines text) (start k)
 
 -- the answer for a whole text
-abbrev pub WholeIs : List ℕ → Scanned → Type 0
-WholeIs text (Ok q) = (first_fault text ≡ None) × IsAt (significant_words text) [] q × (is_line_due (significant_words text) ≡ false)
-WholeIs text (Err e) = first_fault text ≡ Some e
+abbrev pub WholeIs : (PlainBid → PlainBid) → List ℕ → Scanned → Type 0
+WholeIs k text (Ok q) = reading_by k text ≡ Ok q
+WholeIs k text (Err e) = first_fault text ≡ Some e
 
-pub whole_fault : (k : PlainBid → PlainBid) (text : List ℕ) → WholeIs text (outcome (and_then (scan (first_state k) (blank_returns text)) end_step))
-whole_fault k text = subst (WholeIs text) (sym (ap (λ bs. outcome (and_then (scan (first_state k) bs) end_step)) (sym (text_of-lines (blank_returns text)))
+fault_at_place : (o : Option PlainPlace) (place : PlainPlace) → Some place ≡ o → option_map fault_of o ≡ Some (fault_of place)
+fault_at_place o place e = sym (ap (option_map fault_of) e)
+
+pub whole_fault : (k : PlainBid → PlainBid) (text : List ℕ) → WholeIs k text (outcome (and_then (scan (first_state k) (blank_returns text)) end_step))
+whole_fault k text = subst (WholeIs k text) (sym (ap (λ bs. outcome (and_then (scan (first_state k) bs) end_step)) (sym (text_of-lines (blank_returns text)))
     ∙ whole_text 1 (start k) (raw_lines (blank_returns text)) (AreRaw-lines (blank_returns text))
-    ∙ raw_scan-lines true 1 (raw_lines (blank_returns text)) (start k) (line_count text) (AreRaw-lines (blank_returns text)) (λ e. omega arith)))
-    (search (rules, answer, lines_step, kept_are, kept_ends, AreRaw-lines, at_start))
+    ∙ raw_scan-lines true 1 (raw_lines (blank_returns text)) (start k) (line_count text) (AreRaw-lines (blank_returns text)) (λ e. omega arith)
+    ∙ lines_same true (line_count text) (significant_lines text) (start k) (kept_are 1 (raw_lines (blank_returns text)))
+    (kept_ends 1 (raw_lines (blank_returns text)) (AreRaw-lines (blank_returns text))) (start_bounded k)))
+    (answer (reading_by k text) refl)
   where
-    answer : (r : Scanned) → LinesAre true (line_count text) [] (significant_lines text) r → WholeIs text r
-    answer (Ok q) h = (h.0, (h.1 refl).0, (h.1 refl).1)
-    answer (Err e) h = h
+    answer : (j : Judged) → reading_by k text ≡ j → WholeIs k text (faulted j)
+    answer (Ok q) e = e
+    answer (Err place) e = fault_at_place _ place (sym (ap result_err e) ∙ same_place true (line_count text) (significant_lines text) k)
 
 -- ---- the bytes so far
 
@@ -179,17 +181,13 @@ open_text : (n : ℕ) (p : Progress) (ls : List RawLine) → AreRaw ls → EndsB
 open_text n p [] r b = refl
 open_text n p (l ∷ ls) r b = elim l.ended as (λ t. l.ended ≡ t → outcome (scan (standing Start n p) (l.bytes ++ cond t (10 ∷ text_of ls) (text_of ls)))
     ≡ cond (t || false) (scanned_then (line_outcome n (line_words l.bytes) p) (raw_scan false (suc n) ls)) (open_outcome n (line_words l.bytes) p)) [
-      | true ↦ λ (e : l.ended ≡ true). ap outcome (line_and_rest n p l.bytes (text_of ls) (head_raw l ls r))
+      | true ↦ λ (e : l.ended ≡ true). ap outcome (line_and_rest n p l.bytes (text_of ls) (tail_raw l ls r).0)
           ∙ outcome_from (line_outcome n (line_words l.bytes) p) (λ q. scan (standing Start (suc n) q) (text_of ls))
           ∙ scanned_same (line_outcome n (line_words l.bytes) p) (λ q. outcome (scan (standing Start (suc n) q) (text_of ls))) (raw_scan false (suc n) ls)
-          (λ q. open_text (suc n) q ls (tail_raw l ls r) (tail_blank l ls b))
+          (λ q. open_text (suc n) q ls (tail_raw l ls r).1 (tail_blank l ls b))
       | false ↦ λ (e : l.ended ≡ false). at_last l ls r b e
     ] refl
   where
-    head_raw : (l : RawLine) (ls : List RawLine) → AreRaw (l ∷ ls) → AllByRecursion IsNoEnd l.bytes
-    head_raw l [] r = r.0
-    head_raw l (m ∷ ms) r = r.0
-
     at_last : (l : RawLine) (ls : List RawLine) → AreRaw (l ∷ ls) → EndsBlank (l ∷ ls) → l.ended ≡ false
         → outcome (scan (standing Start n p) (l.bytes ++ text_of ls)) ≡ open_outcome n (line_words l.bytes) p
     at_last l [] r b e = let k = b e in
@@ -198,16 +196,24 @@ open_text n p (l ∷ ls) r b = elim l.ended as (λ t. l.ended ≡ t → outcome 
     at_last l (m ∷ ms) r b e = absurd (both_ways l.ended e r.1)
 
 -- the answer for the bytes up to a final one
+abbrev pub open_first : List ℕ → Option ReadFault
+open_first text = option_map fault_of (result_err (lines_judged false 0 (significant_lines text) (start whole)))
+
 abbrev pub OpenIs : List ℕ → Scanned → Type 0
-OpenIs text (Ok q) = lines_fault false 0 [] (significant_lines text) ≡ None
-OpenIs text (Err e) = lines_fault false 0 [] (significant_lines text) ≡ Some e
+OpenIs text (Ok q) = open_first text ≡ None
+OpenIs text (Err e) = open_first text ≡ Some e
 
 pub open_fault : (k : PlainBid → PlainBid) (text : List ℕ) → EndsFinal (blank_returns text) → OpenIs text (outcome (scan (first_state k) (blank_returns text)))
 open_fault k text f = subst (OpenIs text) (sym (ap (λ bs. outcome (scan (first_state k) bs)) (sym (text_of-lines (blank_returns text)))
     ∙ open_text 1 (start k) (raw_lines (blank_returns text)) (AreRaw-lines (blank_returns text)) (EndsBlank-lines (blank_returns text) f)
-    ∙ raw_scan-lines false 1 (raw_lines (blank_returns text)) (start k) 0 (AreRaw-lines (blank_returns text)) (λ e. absurd (both_ways false refl e))))
-    (search (rules, answer, lines_step, kept_are, kept_ends, AreRaw-lines, at_start))
+    ∙ raw_scan-lines false 1 (raw_lines (blank_returns text)) (start k) 0 (AreRaw-lines (blank_returns text)) (λ e. absurd (both_ways false refl e))
+    ∙ lines_same false 0 (significant_lines text) (start k) (kept_are 1 (raw_lines (blank_returns text)))
+    (kept_ends 1 (raw_lines (blank_returns text)) (AreRaw-lines (blank_returns text))) (start_bounded k)))
+    (answer (judged k) refl)
   where
-    answer : (r : Scanned) → LinesAre false 0 [] (significant_lines text) r → OpenIs text r
-    answer (Ok q) h = h.0
-    answer (Err e) h = h
+    judged : (PlainBid → PlainBid) → Judged
+    judged keep = lines_judged false 0 (significant_lines text) (start keep)
+
+    answer : (j : Judged) → judged k ≡ j → OpenIs text (faulted j)
+    answer (Ok q) e = sym (ap (option_map fault_of) (sym (ap result_err e) ∙ same_place false 0 (significant_lines text) k))
+    answer (Err place) e = fault_at_place _ place (sym (ap result_err e) ∙ same_place false 0 (significant_lines text) k)

@@ -3,12 +3,14 @@
 use Rattle.std.specs.Prelude.{◌≡◌, ℕ, suc, ◌<◌, ◌==◌, if◌then◌else◌, List, [], ◌∷◌, length}
 use Rattle.std.specs.Prelude.{Result, Ok, Err}
 use Rattle.cats_text.specs.Lines.{Word, RawLine, raw_lines, blank_returns, line_words, is_significant}
-use Rattle.cats_text.specs.FaultPlaces.{PlainPlace}
+use Rattle.cats_text.specs.FaultPlaces.{Judged, judged_at, judged_then}
 use Rattle.cats_text.specs.Views.{plain_place}
 use Rattle.cats_text.specs.Internal.Kept.{number_alone}
 use Rattle.cats_text.specs.Internal.Machine.{summary}
-use Rattle.cats_text.specs.Internal.Parsing.{Reading, word_read, line_read}
-use Rattle.cats_text.specs.Internal.Progress.{Progress, progress, Stops}
+use Rattle.cats_text.specs.Progress.{Progress}
+use Rattle.cats_text.specs.Parsing.{line_read}
+use Rattle.cats_text.specs.Internal.Parsing.{word_read}
+use Rattle.cats_text.specs.Internal.Progress.{progress, Stops}
 use Rattle.cats_text.specs.declared.fault_place.FaultPlace.{FaultPlace}
 use Rattle.cats_text.specs.declared.keep.BidCount.{BidCount}
 use Rattle.cats_text.specs.declared.parser.Parser.{Parser}
@@ -38,25 +40,14 @@ without_return (b ∷ c ∷ cs) = b ∷ without_return (c ∷ cs)
 abbrev pub seen : Parser BidCount → Progress
 seen p = progress (λ _. number_alone) p
 
-abbrev pub Judged : Type 0
-Judged = Result Progress PlainPlace
-
-abbrev pub judged_at : ℕ → ℕ → Word → Reading → Judged
-judged_at line word text (Ok p) = Ok p
-judged_at line word text (Err kind) = Err (record { line = line; word = word; text = text; kind = kind })
-
-abbrev pub judged_then : Judged → (Progress → Judged) → Judged
-judged_then (Ok p) f = f p
-judged_then (Err place) f = Err place
-
 -- the words from one with this number to the line's end, and the end
-abbrev pub words_judged : ℕ → ℕ → List Word → Progress → Judged
-words_judged line word [] p = judged_at line word [] (line_read p)
-words_judged line word (w ∷ ws) p =
-    judged_then (judged_at line word w (word_read p (summary w))) (words_judged line (suc word) ws)
+abbrev pub words_by : ℕ → ℕ → List Word → Progress → Judged
+words_by line word [] p = judged_at line word [] (line_read p)
+words_by line word (w ∷ ws) p =
+    judged_then (judged_at line word w (word_read p (summary w))) (words_by line (suc word) ws)
 
-abbrev pub line_judged : ℕ → List Word → Progress → Judged
-line_judged line words p = if is_significant words then words_judged line 1 words p else Ok p
+abbrev pub line_by : ℕ → List Word → Progress → Judged
+line_by line words p = if is_significant words then words_by line 1 words p else Ok p
 
 -- a call judged this, or lacked memory on a bid line
 abbrev pub Judges : (Progress → Judged) → Progress → Progress → Result (Unit {0}) FaultPlace → Type 0

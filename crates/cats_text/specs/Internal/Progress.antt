@@ -1,24 +1,11 @@
--- What the parser keeps of the lines so far. It does not depend on where it is in memory.
-use Rattle.std.specs.Prelude.{◌≡◌, ℕ, List, Option, Result, Ok, Err}
+-- What is seen of a parser, and what its calls do.
+use Rattle.std.specs.Prelude.{◌≡◌, Result, Ok, Err}
 use Rattle.bid_file.specs.Files.{PlainBid}
+use Rattle.cats_text.specs.Progress.{Progress}
 use Rattle.cats_text.specs.declared.read_fault.Kind.{Kind}
 use Rattle.cats_text.specs.declared.read_fault.Kind.TheVariants.{Memory}
-use Rattle.cats_text.specs.declared.parser.Stage.{Stage}
 use Rattle.cats_text.specs.declared.parser.Stage.TheVariants.{Bid}
-use Rattle.cats_text.specs.declared.parser.Column.{Column}
-use Rattle.cats_text.specs.declared.parser.Header.{Header}
-use Rattle.cats_text.specs.declared.parser.Draft.{Draft}
 use Rattle.cats_text.specs.declared.parser.Parser.{Parser}
-
-pub record Progress : Type 0 where
-  pub keep : PlainBid → PlainBid
-  pub stage : Stage
-  pub column : Column
-  pub header : Header
-  pub due : ℕ
-  pub slots : List (Option PlainBid)
-  pub draft : Draft
-  pub goods : List ℕ
 
 module _ {K : Type 0} (keep : PlainBid → PlainBid) where
   -- what is seen of a parser that keeps this of each bid

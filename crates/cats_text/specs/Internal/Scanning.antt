@@ -5,10 +5,11 @@ use Rattle.cats_text.specs.Lines.{is_blank}
 use Rattle.cats_text.specs.Internal.Returns.{settled, waits}
 use Rattle.cats_text.specs.Faults.{fault_at}
 use Rattle.bid_file.specs.Files.{PlainBid}
-use Rattle.cats_text.specs.FileLines.{filled}
 use Rattle.cats_text.specs.Internal.Machine.{word_from, word_with}
-use Rattle.cats_text.specs.Internal.Progress.{Progress, progress, Stops}
-use Rattle.cats_text.specs.Internal.Parsing.{Reading, start, word_read, line_read, is_due}
+use Rattle.cats_text.specs.Progress.{Progress, start, filled}
+use Rattle.cats_text.specs.Parsing.{Reading, line_read, is_due}
+use Rattle.cats_text.specs.Internal.Progress.{progress, Stops}
+use Rattle.cats_text.specs.Internal.Parsing.{word_read}
 use Rattle.cats_text.specs.declared.read_fault.Kind.{Kind}
 use Rattle.cats_text.specs.declared.read_fault.Kind.TheVariants.{Missing, Memory}
 use Rattle.cats_text.specs.declared.read_fault.ReadFault.{ReadFault}
