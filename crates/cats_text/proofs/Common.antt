@@ -99,7 +99,7 @@ pub use Rattle.std.specs.Io.KnownBytes.{Appends, Consumes}
 pub use Rattle.std.specs.List.{list_any, slice_get, find, AllByRecursion, prefix_len, position_or_len, position, sum_by, list_all}
 pub use Rattle.std.specs.List.Sorted.{IsPermutation, IsNonDecreasing}
 pub use Rattle.std.specs.Option.{option_or, option_to_list, is_some, unwrap_or}
-pub use Rattle.std.specs.Prelude.{IsErrAnd}
+pub use Rattle.std.specs.Prelude.{IsErrAnd, take_while}
 pub use Rattle.std.specs.Result.{result_err}
 pub use Rattle.std.specs.Str.{bytes_eq}
 pub use Rattle.std.specs.Str.Parse.{digits_value, digits_value_after}

@@ -2,7 +2,8 @@
 pub mod Rising
 pub mod Distinct
 pub mod Marks
-pub mod Tests
+pub mod Steps
+pub mod NumbersTaken
 pub mod BidsByNumber
 pub mod Members
 pub mod Prices

@@ -3,12 +3,12 @@ pub use Rattle.bid_file.specs.Files.{PlainFile, PlainBid, IsPlainFile, IsBid}
 pub use Rattle.bid_file.specs.declared.limits.TheConstants.{MAX_PRICE}
 pub use Rattle.cats_text.proofs.Spelling.Prices.{price_small}
 pub use Rattle.cats_text.proofs.Writing.Prices.{price_text_spells}
-pub use Rattle.cats_text.specs.Faults.{price_word, has_bid_line, first_fault}
+pub use Rattle.cats_text.specs.Faults.{has_bid_line, first_fault}
 pub use Rattle.cats_text.specs.Grammar.{Spells, SpellsPrice, SpellsBid, significant_words}
 pub use Rattle.cats_text.specs.Layout.{price_text}
 pub use Rattle.cats_text.specs.Lines.{Word, RawLine, Line, is_blank, line_byte, line_ends, blank_returns, raw_lines, with_byte, line_words, words_with}
 pub use Rattle.cats_text.specs.Lines.{with_letter, is_significant, numbered, significant_lines}
-pub use Rattle.cats_text.specs.Numbers.{is_price, is_too_large, is_too_fine, whole_part, places, has_point, is_number, digits_alone, is_digit, number_of}
+pub use Rattle.cats_text.specs.Numbers.{price_word, is_price, is_too_large, is_too_fine, whole_part, places, has_point, is_number, digits_alone, is_digit, number_of}
 pub use Rattle.cats_text.specs.Reading.{WantsMemory}
 pub use Rattle.cats_text.specs.declared.read_fault.ReadFault.{ReadFault}
 pub use Rattle.rounding.specs.Answers.{IsRounded, RoundAnswer, SpellsRounded}

@@ -1,7 +1,7 @@
 -- What is written in place of a price.
 use Rattle.std.specs.Prelude.{ℕ, ◌*◌, ◌/◌, ◌%◌, ◌==◌, nat_lt, not, is_none, if◌then◌else◌, codes}
 use Rattle.cats_text.specs.Lines.{Word}
-use Rattle.cats_text.specs.Faults.{price_word}
+use Rattle.cats_text.specs.Numbers.{price_word}
 use Rattle.cats_text.specs.Layout.{price_text}
 use Rattle.bid_file.specs.declared.limits.TheConstants.{MAX_PRICE}
 use Rattle.rounding.specs.Decimals.{is_decimal, top, bottom}

@@ -3,7 +3,7 @@
 ghost use Rattle.std.specs.Prelude.{◌≡◌, ◌⊎◌, ◌*◌, ◌<◌, ◌≤◌, ◌∷◌, ◌++◌, ℕ, List, [], true, None};
 ghost use Rattle.bid_file.specs.Files.{PlainFile};
 ghost use Rattle.bid_file.specs.declared.limits.TheConstants.{MAX_PRICE};
-ghost use Rattle.cats_text.specs.Faults.{price_word};
+ghost use Rattle.cats_text.specs.Numbers.{price_word};
 ghost use Rattle.cats_text.specs.Grammar.{Spells, SpellsPrice};
 ghost use Rattle.cats_text.specs.Layout.{price_text};
 ghost use Rattle.cats_text.specs.Lines.{Word, line_words, blank_returns};

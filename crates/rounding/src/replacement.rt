@@ -1,7 +1,7 @@
 //! `replacement_of`: what is written in place of a price.
 
 ghost use Rattle.std.specs.Prelude.{◌≡◌, is_none};
-ghost use Rattle.cats_text.specs.Faults.{price_word};
+ghost use Rattle.cats_text.specs.Numbers.{price_word};
 ghost use Rattle.cats_text.specs.Numbers.{is_price, is_too_large, is_too_fine};
 ghost use Rattle.rounding.specs.Replacements.{replacement};
 

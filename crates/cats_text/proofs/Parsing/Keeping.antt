@@ -46,7 +46,7 @@ header_blind p (Some v) = header_at p.stage p v
 
 number_blind : (p : Progress) (n : Option ℕ) → number_read (blind p) n ≡ mapped (number_read p n)
 number_blind p None = refl
-number_blind p (Some v) = mapped_if _ _ _ _ _ _ refl refl (mapped_if _ _ _ _ _ _ refl refl (mapped_if _ _ _ _ _ _ (free_same p.slots v) refl refl))
+number_blind p (Some v) = grind (arith, common_steps, free_same)
 
 price_blind : (p : Progress) (r : Result ℕ Kind) → price_read (blind p) r ≡ mapped (price_read p r)
 price_blind p (Ok v) = refl
@@ -58,8 +58,7 @@ dummy_blind p (Some e) d = mapped_cond _ (Err _) (Err _)
 
 good_blind : (p : Progress) (n : Option ℕ) → any_good_read (blind p) n ≡ mapped (any_good_read p n)
 good_blind p None = refl
-good_blind p (Some v) =
-    mapped_if _ _ _ _ _ _ refl refl (mapped_if _ _ _ _ _ _ refl (mapped_cond _ (Err _) (Ok _)) (dummy_blind p p.draft.dummy _))
+good_blind p (Some v) = grind (arith, common_steps, dummy_blind)
 
 word_at : (column : Column) (stage : Stage) (p : Progress) (t : Token) → read_at column stage (blind p) t ≡ mapped (read_at column stage p t)
 word_at First Goods p t = mapped_cond _ (Ok _) (Err _)
@@ -68,7 +67,8 @@ word_at First Dummy p t = mapped_cond _ (Ok _) (Err _)
 word_at First Bid p t = number_blind p t.number
 word_at Second Bid p t = price_blind p t.price
 word_at Second _ p t = header_blind p t.number
-word_at Later Bid p t = mapped_if _ _ _ _ _ _ refl (mapped_cond _ (Err _) (Ok _)) (good_blind p t.number)
+word_at Later Bid p t = mapped_if t.is_end t.is_end (end_read p) (any_good_read p t.number) (end_read (blind p)) (any_good_read (blind p) t.number) refl
+    (mapped_cond _ (Err _) (Ok _)) (good_blind p t.number)
 word_at _ _ p t = refl
 
 word_blind : (p : Progress) (t : Token) → token_read (blind p) t ≡ mapped (token_read p t)
@@ -82,6 +82,9 @@ put_blind : (slots : List (Option PlainBid)) (n : ℕ) (b : PlainBid) → put_sl
 put_blind slots n b = grind (arith, common_steps, map-set, map-append, length-map, alike_none)
 
 end_at : (column : Column) (stage : Stage) (p : Progress) → line_at column stage (blind p) ≡ mapped (line_at column stage p)
+end_at First Bid p = refl
+end_at Second Bid p = refl
+end_at Later Bid p = refl
 end_at Ended Bid p = ap (λ (xs : List (Option PlainBid)). Ok (record (with_bid (blind p)) { slots = xs }))
     (put_blind p.slots p.draft.number (p.keep (drafted p)))
 end_at _ _ p = refl
@@ -147,16 +150,16 @@ module _ (is_whole : Bool) (count : ℕ) (ls : List Line) (k : PlainBid → Plai
   pub same_end : (q : Progress) → judged k ≡ Ok q → (r : Progress) × (judged whole ≡ Ok r) × (r.header ≡ q.header)
   same_end q e = by (judged whole) refl
     where
-      pair : Judged
-      pair = judged (λ _. number_alone)
+      alone : Judged
+      alone = judged (λ _. number_alone)
 
-      ok_same : (a b : Progress) → pair ≡ Ok a → pair ≡ Ok b → a ≡ b
+      ok_same : (a b : Progress) → alone ≡ Ok a → alone ≡ Ok b → a ≡ b
       ok_same a b x y = cc
+
+      no : (place : PlainPlace) → None ≡ Some place → ⊥
+      no place x = cc
 
       by : (j : Judged) → judged whole ≡ j → (r : Progress) × (judged whole ≡ Ok r) × (r.header ≡ q.header)
       by (Ok r) is = (r, is, ap (λ (p : Progress). p.header)
           (ok_same (blind r) (blind q) (blind_start whole ∙ ap blinded is) (blind_start k ∙ ap blinded e)))
-      by (Err place) is = absurd (no (sym (ap result_err e) ∙ same_place ∙ ap result_err is))
-        where
-          no : None ≡ Some place → ⊥
-          no x = cc
+      by (Err place) is = absurd (no place (sym (ap result_err e) ∙ same_place ∙ ap result_err is))

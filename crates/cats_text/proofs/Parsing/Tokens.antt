@@ -93,8 +93,8 @@ pub record SameToken (t u : Token) : Type 0 where
 number_same : (w : List ℕ) (s : Word) (b : Bool) → is_number w ≡ b → b ≡ is_number_by s → Summarises w s
     → SameNumber (number_by s) (cond b (Some (number_of w)) None)
 number_same w (Number v) true t e h = h.1
-number_same w (Number v) false t e h = absurd (both_ways false refl (sym e))
-number_same w _ true t e h = absurd (both_ways false refl (sym e))
+number_same w (Number v) false t e h = absurd (both_ways false refl e)
+number_same w _ true t e h = absurd (both_ways true e refl)
 number_same w _ false t e h = tt
 
 pub token_same : (a : ℕ) (w : List ℕ) → SameToken (token_by (summary (a ∷ w))) (token_of (a ∷ w))

@@ -4,7 +4,7 @@ use Rattle.cats_text.proofs.Common.{both_ways, AllByRecursion, Word, Line, Token
 use Rattle.cats_text.proofs.Common.{judged_then, words_judged, line_judged, lines_judged, Progress, Reading, word_read, line_read, is_due, Missing, ReadFault}
 use Rattle.cats_text.proofs.Common.{Kind, Stage, summary, common_steps, ◌≤◌, ◌⊎◌, inl, inr, ⊎_elim}
 use Rattle.cats_text.proofs.Parsing.Tokens.{IsBounded, token_same, read_same}
-use Rattle.cats_text.proofs.Parsing.Steps.{is_line_kind, KeepsLine, EndsLine, WordGives, LineGives, rank, word_gives, line_gives, token_kind}
+use Rattle.cats_text.proofs.Parsing.Steps.{is_line_kind, KeepsLine, WordResult, LineGives, rank, word_gives, line_gives, token_kind}
 
 abbrev pub IsWord : Word → Type 0
 IsWord w = 0 < length w
@@ -34,11 +34,12 @@ in_both n p q (Err place) h k = k
 
 pub words_in : (n k : ℕ) (ws : List Word) (p : Progress) → IsBounded p.header → InLine n p (words_judged n k ws p)
 words_in n k [] p bounded = record { stage = refl; slots = refl; bounded = bounded }
-words_in n k (w ∷ ws) p bounded = by (token_read p (token_of w)) (word_gives p bounded (token_of w) (token_kind w))
+words_in n k (w ∷ ws) p bounded = by (token_read p (token_of w)) (word_gives p bounded (token_of w) (token_kind w)) (λ q b. words_in n (suc k) ws q b)
   where
-    by : (r : Reading) → WordGives p r → InLine n p (judged_then (judged_at n k w r) (words_judged n (suc k) ws))
-    by (Ok q) h = in_both n p q (words_judged n (suc k) ws q) h (words_in n (suc k) ws q h.bounded)
-    by (Err kind) h = (refl, h)
+    by : (r : Reading) → WordResult p r → ((q : Progress) → IsBounded q.header → InLine n q (words_judged n (suc k) ws q))
+        → InLine n p (judged_then (judged_at n k w r) (words_judged n (suc k) ws))
+    by (Ok q) h next = in_both n p q (words_judged n (suc k) ws q) h (next q h.bounded)
+    by (Err kind) h next = (refl, h)
 
 -- the step alone, without the word
 abbrev pub kinds : Judged → Reading
@@ -52,11 +53,12 @@ words_same n k ([] ∷ ws) p words bounded = absurd (let no : 0 < 0 = words.0 in
 words_same n k ((a ∷ w) ∷ ws) p words bounded =
     ap (λ r. reading_then r (words_read ws)) (read_same p bounded (token_by (summary (a ∷ w))) (token_of (a ∷ w)) (token_same a w))
     ∙ by (token_read p (token_of (a ∷ w))) (word_gives p bounded (token_of (a ∷ w)) (token_kind (a ∷ w)))
+    (λ q b. words_same n (suc k) ws q words.1 b)
   where
-    by : (r : Reading) → WordGives p r
+    by : (r : Reading) → WordResult p r → ((q : Progress) → IsBounded q.header → words_read ws q ≡ kinds (words_judged n (suc k) ws q))
         → reading_then r (words_read ws) ≡ kinds (judged_then (judged_at n k (a ∷ w) r) (words_judged n (suc k) ws))
-    by (Ok q) h = words_same n (suc k) ws q words.1 h.bounded
-    by (Err kind) h = refl
+    by (Ok q) h next = next q h.bounded
+    by (Err kind) h next = refl
 
 -- ---- a line
 
@@ -103,11 +105,11 @@ then_same : (n k : ℕ) (p : Progress) (j : Judged) → InLine n p j → on_line
 then_same n k p (Ok q) h = end_same n k (line_read q)
 then_same n k p (Err place) h = on_same n p (Err place) h
 
-if_ended : (b : Bool) → b ≡ true → (l : Line) (p : Progress)
+pub if_ended : (b : Bool) → b ≡ true → (l : Line) (p : Progress)
     → judged_then (words_judged l.number 1 l.words p) (λ q. cond b (ended l.number (suc (length l.words)) q) (Ok q))
     ≡ judged_then (words_judged l.number 1 l.words p) (ended l.number (suc (length l.words)))
 if_ended true e l p = refl
-if_ended false e l p = absurd (both_ways false refl (sym e))
+if_ended false e l p = absurd (both_ways false refl e)
 
 then_open : (j : Judged) → judged_then j (λ q. Ok q) ≡ j
 then_open (Ok q) = refl
@@ -134,7 +136,7 @@ open_line_same whole l p e is bounded =
 
 -- behind a line: at most one header line more, and bids only behind a bid line
 pub record PassesLine (p q : Progress) : Type 0 where
-  pub rank : rank q.stage ≤ suc (rank p.stage)
+  pub most : rank q.stage ≤ suc (rank p.stage)
   pub slots : (3 ≤ rank p.stage) ⊎ (q.slots ≡ p.slots)
   pub bounded : IsBounded q.header
 
@@ -147,7 +149,7 @@ line_in whole l p bounded = by (words_judged l.number 1 l.words p) (words_in l.n
   where
     by_end : (m : Progress) → KeepsLine p m → (r : Reading) → LineGives m r → AtLine l.number p (judged_at l.number (suc (length l.words)) [] r)
     by_end m k (Ok q) h = record {
-      rank = let le : rank q.stage ≤ suc (rank m.stage) = h.rank in let same : rank m.stage ≡ rank p.stage = ap rank k.stage in omega arith;
+      most = let le : rank q.stage ≤ suc (rank m.stage) = h.most in let same : rank m.stage ≡ rank p.stage = ap rank k.stage in omega arith;
       slots = ⊎_elim (λ (le : 3 ≤ rank m.stage). inl (subst (λ (s : Stage). 3 ≤ rank s) k.stage le)) (λ (e : q.slots ≡ m.slots). inr (e ∙ k.slots)) h.slots;
       bounded = subst IsBounded (sym h.header) k.bounded;
     }
@@ -155,7 +157,7 @@ line_in whole l p bounded = by (words_judged l.number 1 l.words p) (words_in l.n
 
     at_end : (b : Bool) (m : Progress) → KeepsLine p m → AtLine l.number p (cond b (ended l.number (suc (length l.words)) m) (Ok m))
     at_end true m k = by_end m k (line_read m) (line_gives m)
-    at_end false m k = record { rank = rw (k.stage) (omega arith); slots = inr k.slots; bounded = k.bounded }
+    at_end false m k = record { most = rw (k.stage) (omega arith); slots = inr k.slots; bounded = k.bounded }
 
     by : (j : Judged) → InLine l.number p j
         → AtLine l.number p (judged_then j (λ q. cond (l.ended || whole) (ended l.number (suc (length l.words)) q) (Ok q)))
@@ -196,17 +198,20 @@ last_same count l (m ∷ ls) j unended ends = absurd (both_ways l.ended unended 
 pub lines_same : (whole : Bool) (count : ℕ) (ls : List Line) (p : Progress) → AllByRecursion IsLine ls → AreEndedButLast ls → IsBounded p.header
     → lines_scan whole count ls p ≡ faulted (lines_judged whole count ls p)
 lines_same whole count [] p is ends bounded = missing_same (whole && is_due p) count p
-lines_same whole count (l ∷ ls) p is ends bounded = by (l.ended || whole) refl
+lines_same whole count (l ∷ ls) p is ends bounded = by (l.ended || whole) refl (λ q b. lines_same whole count ls q is.1 (tail_ends l ls ends) b)
   where
-    rest : (n : ℕ) (j : Judged) → AtLine n p j → scanned_then (faulted j) (lines_scan whole count ls) ≡ faulted (judged_then j (lines_judged whole count ls))
-    rest n (Ok q) h = lines_same whole count ls q is.1 (tail_ends l ls ends) h.bounded
-    rest n (Err place) h = refl
+    rest : (n : ℕ) (j : Judged) → AtLine n p j
+        → ((q : Progress) → IsBounded q.header → lines_scan whole count ls q ≡ faulted (lines_judged whole count ls q))
+        → scanned_then (faulted j) (lines_scan whole count ls) ≡ faulted (judged_then j (lines_judged whole count ls))
+    rest n (Ok q) h next = next q h.bounded
+    rest n (Err place) h next = refl
 
     by : (b : Bool) → (l.ended || whole) ≡ b
+        → ((q : Progress) → IsBounded q.header → lines_scan whole count ls q ≡ faulted (lines_judged whole count ls q))
         → cond b (scanned_then (whole_line l p) (lines_scan whole count ls)) (open_line l p) ≡ faulted (lines_judged whole count (l ∷ ls) p)
-    by true e = ap (λ r. scanned_then r (lines_scan whole count ls)) (whole_line_same whole l p e is.0.1 bounded)
-        ∙ rest l.number (line_judged whole l p) (line_in whole l p bounded)
-    by false e = let both = neither l.ended whole e in
+    by true e next = ap (λ r. scanned_then r (lines_scan whole count ls)) (whole_line_same whole l p e is.0.1 bounded)
+        ∙ rest l.number (line_judged whole l p) (line_in whole l p bounded) next
+    by false e next = let both = neither l.ended whole e in
         open_line_same whole l p e is.0.1 bounded
         ∙ subst (λ w. faulted (line_judged whole l p) ≡ faulted (judged_then (line_judged whole l p) (lines_judged w count ls))) (sym both.1)
         (last_same count l ls (line_judged whole l p) both.0 ends)

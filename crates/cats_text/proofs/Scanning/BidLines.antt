@@ -8,7 +8,7 @@ use Rattle.cats_text.proofs.Common.{blank_step, blank_step_at, words_step, next_
 use Rattle.cats_text.proofs.Common.{Start, Blank, Comment, Between, Inside, ReadFault, common_steps}
 use Rattle.cats_text.specs.declared.word.Word.{Word as Kept}
 use Rattle.cats_text.proofs.Parsing.Tokens.{IsBounded}
-use Rattle.cats_text.proofs.Parsing.Steps.{rank, WordGives, word_gives, kept_kind}
+use Rattle.cats_text.proofs.Parsing.Steps.{rank, WordResult, word_gives, kept_kind}
 use Rattle.cats_text.proofs.Parsing.WholeLines.{Scanned, PassesLine, AtLine, whole_line, line_in, whole_line_same, faulted}
 use Rattle.cats_text.proofs.Scanning.Lines.{IsNoEnd, standing, byte_letter, byte_blank, first_of_words, words_blank}
 use Rattle.cats_text.proofs.Scanning.AllBytes.{text_of, text_of-lines, AreRaw, AreRaw-lines, tail_raw, line_and_rest, then_from}
@@ -33,13 +33,14 @@ met_more s (x ∷ xs) ys (inr m) = inr (both_ok (byte_step s x) _ _ (λ t k. met
 met_split : (s : State) (xs ys : List ℕ) → MeetsBidLine s (xs ++ ys) → MeetsBidLine s xs ⊎ IsOkAnd (scan s xs) (λ t. MeetsBidLine t ys)
 met_split s [] ys m = inr m
 met_split s (x ∷ xs) ys (inl i) = inl (inl i)
-met_split s (x ∷ xs) ys (inr m) = by (byte_step s x) refl m
+met_split s (x ∷ xs) ys (inr m) = by (byte_step s x) refl m (λ t k. met_split t xs ys k)
   where
     by : (r : Scan) → byte_step s x ≡ r → IsOkAnd r (λ t. MeetsBidLine t (xs ++ ys))
+        → ((t : State) → MeetsBidLine t (xs ++ ys) → MeetsBidLine t xs ⊎ IsOkAnd (scan t xs) (λ u. MeetsBidLine u ys))
         → MeetsBidLine s (x ∷ xs) ⊎ IsOkAnd (and_then r (λ t. scan t xs)) (λ t. MeetsBidLine t ys)
-    by (Ok t) e k = ⊎_elim (λ (here : MeetsBidLine t xs). inl (inr (subst (λ (r : Scan). IsOkAnd r (λ u. MeetsBidLine u xs)) (sym e) here)))
-        (λ (later : IsOkAnd (scan t xs) (λ u. MeetsBidLine u ys)). inr later) (met_split t xs ys k)
-    by (Err c) e k = absurd k
+    by (Ok t) e k next = ⊎_elim (λ (here : MeetsBidLine t xs). inl (inr (subst (λ (r : Scan). IsOkAnd r (λ u. MeetsBidLine u xs)) (sym e) here)))
+        (λ (later : IsOkAnd (scan t xs) (λ u. MeetsBidLine u ys)). inr later) (next t k)
+    by (Err c) e k next = absurd k
 
 -- met where they end
 pub met_at_end : (s t : State) (bytes : List ℕ) → scan s bytes ≡ Ok t → IsInBidLine t → MeetsBidLine s bytes
@@ -58,35 +59,44 @@ met_at_end s t (b ∷ bs) h i = inr (step (byte_step s b) h (λ u e. met_at_end 
 
 -- ---- the bytes of a line
 
+-- a byte of a line, and the state behind it
+met_byte : (s : State) (b : ℕ) (bs : List ℕ) → eqb b 10 ≡ false → IsOkAnd (byte_step s b) (λ t. MeetsBidLine t bs)
+    → ((is_blank b ≡ true) × IsOkAnd (blank_step s) (λ t. MeetsBidLine t bs)) ⊎ ((is_blank b ≡ false) × MeetsBidLine (record s { mode = letter_mode s.mode b }) bs)
+met_byte s b bs h m = by (is_blank b) refl
+  where
+    by : (t : Bool) → is_blank b ≡ t
+        → ((is_blank b ≡ true) × IsOkAnd (blank_step s) (λ t. MeetsBidLine t bs)) ⊎ ((is_blank b ≡ false) × MeetsBidLine (record s { mode = letter_mode s.mode b }) bs)
+    by true e = inl (e, subst (λ (r : Scan). IsOkAnd r (λ u. MeetsBidLine u bs)) (byte_blank s b h e) m)
+    by false e = inr (e, subst (λ (r : Scan). IsOkAnd r (λ u. MeetsBidLine u bs)) (byte_letter s b h e) m)
+
 -- a comment goes on to the end of its line
 met_comment : (n : ℕ) (p : Progress) (bs : List ℕ) → AllByRecursion IsNoEnd bs → MeetsBidLine (standing Comment n p) bs → ⊥
 met_comment n p [] h m = m.1
 met_comment n p (b ∷ bs) h (inl i) = i.1
-met_comment n p (b ∷ bs) h (inr m) = by (is_blank b) refl
+met_comment n p (b ∷ bs) h (inr m) = ⊎_elim (λ (k : (is_blank b ≡ true) × MeetsBidLine (standing Comment n p) bs). met_comment n p bs h.1 k.1)
+    (λ (k : (is_blank b ≡ false) × MeetsBidLine (standing Comment n p) bs). met_comment n p bs h.1 k.1) (met_byte (standing Comment n p) b bs h.0 m)
+
+behind_blank : (s : State) (bs : List ℕ) → IsBounded s.progress.header
+    → ((t : State) → IsBounded t.progress.header → MeetsBidLine t bs → t.progress.stage ≡ Bid)
+    → (mode : Mode) → IsOkAnd (blank_step_at mode s) (λ u. MeetsBidLine u bs) → s.progress.stage ≡ Bid
+behind_blank s bs bounded next Start k = next (record s { mode = Blank }) bounded k
+behind_blank s bs bounded next (Inside w) k =
+    read (word_read s.progress w) (word_gives s.progress bounded (token_by w) (kept_kind w)) k
   where
-    by : (t : Bool) → is_blank b ≡ t → ⊥
-    by true e = met_comment n p bs h.1 (subst (λ (r : Scan). IsOkAnd r (λ u. MeetsBidLine u bs)) (byte_blank (standing Comment n p) b h.0 e) m)
-    by false e = met_comment n p bs h.1 (subst (λ (r : Scan). IsOkAnd r (λ u. MeetsBidLine u bs)) (byte_letter (standing Comment n p) b h.0 e) m)
+    read : (r : Reading) → WordResult s.progress r → IsOkAnd (with_reading s Between r) (λ u. MeetsBidLine u bs) → s.progress.stage ≡ Bid
+    read (Ok q) g k = sym g.stage ∙ next (record s { mode = Between; progress = q }) g.bounded k
+    read (Err kind) g k = absurd k
+behind_blank s bs bounded next _ k = next s bounded k
 
 -- the words of a line keep what line it is
 met_word : (s : State) (bs : List ℕ) → IsBounded s.progress.header → AllByRecursion IsNoEnd bs → MeetsBidLine s bs → s.progress.stage ≡ Bid
 met_word s [] bounded h m = m.0
 met_word s (b ∷ bs) bounded h (inl i) = i.0
-met_word s (b ∷ bs) bounded h (inr m) = by (is_blank b) refl
-  where
-    read : (r : Reading) → WordGives s.progress r → IsOkAnd (with_reading s Between r) (λ u. MeetsBidLine u bs) → s.progress.stage ≡ Bid
-    read (Ok q) g k = sym g.stage ∙ met_word (record s { mode = Between; progress = q }) bs g.bounded h.1 k
-    read (Err kind) g k = absurd k
-
-    blank : (mode : Mode) → IsOkAnd (blank_step_at mode s) (λ u. MeetsBidLine u bs) → s.progress.stage ≡ Bid
-    blank Start k = met_word (record s { mode = Blank }) bs bounded h.1 k
-    blank (Inside w) k = read (word_read s.progress w) (word_gives s.progress bounded (token_by w) (kept_kind w)) k
-    blank _ k = met_word s bs bounded h.1 k
-
-    by : (t : Bool) → is_blank b ≡ t → s.progress.stage ≡ Bid
-    by true e = blank s.mode (subst (λ (r : Scan). IsOkAnd r (λ u. MeetsBidLine u bs)) (byte_blank s b h.0 e) m)
-    by false e = met_word (record s { mode = letter_mode s.mode b }) bs bounded h.1
-        (subst (λ (r : Scan). IsOkAnd r (λ u. MeetsBidLine u bs)) (byte_letter s b h.0 e) m)
+met_word s (b ∷ bs) bounded h (inr m) =
+    ⊎_elim (λ (k : (is_blank b ≡ true) × IsOkAnd (blank_step s) (λ t. MeetsBidLine t bs)). behind_blank s bs bounded
+    (λ t bounded j. met_word t bs bounded h.1 j) s.mode k.1)
+    (λ (k : (is_blank b ≡ false) × MeetsBidLine (record s { mode = letter_mode s.mode b }) bs). met_word (record s { mode = letter_mode s.mode b }) bs bounded h.1 k.1)
+    (met_byte s b bs h.0 m)
 
 significant_letter : (b : ℕ) (bs : List ℕ) → is_blank b ≡ false → is_significant (line_words (b ∷ bs)) ≡ not (eqb b 37)
 significant_letter b bs e = let f = first_of_words b bs e in ap is_significant f.2
@@ -99,19 +109,19 @@ met_fresh : (m : Mode) (n : ℕ) (p : Progress) (bs : List ℕ) → IsFresh m �
     → AllByRecursion IsNoEnd bs → MeetsBidLine (standing m n p) bs → (p.stage ≡ Bid) × (is_significant (line_words bs) ≡ true)
 met_fresh m n p [] fresh step bounded h k = absurd (fresh.1 k.1)
 met_fresh m n p (b ∷ bs) fresh step bounded h (inl i) = absurd (fresh.1 i.1)
-met_fresh m n p (b ∷ bs) fresh step bounded h (inr k) = by (is_blank b) refl
+met_fresh m n p (b ∷ bs) fresh step bounded h (inr k) =
+    ⊎_elim (λ (k : (is_blank b ≡ true) × IsOkAnd (blank_step (standing m n p)) (λ t. MeetsBidLine t bs)).
+    let rest : (p.stage ≡ Bid) × (is_significant (line_words bs) ≡ true) = met_fresh Blank n p bs (λ b. refl, λ i. i) refl bounded h.1
+    (subst (λ (r : Scan). IsOkAnd r (λ u. MeetsBidLine u bs)) step k.1) in
+    (rest.0, ap is_significant (words_blank b bs k.0) ∙ rest.1))
+    (λ (k : (is_blank b ≡ false) × MeetsBidLine (standing (letter_mode m b) n p) bs). letter k.0 (eqb b 37) refl
+    (subst (λ (mode : Mode). MeetsBidLine (standing mode n p) bs) (fresh.0 b) k.1))
+    (met_byte (standing m n p) b bs h.0 k)
   where
     letter : is_blank b ≡ false → (c : Bool) → eqb b 37 ≡ c → MeetsBidLine (standing (cond c Comment (Inside (word_from b))) n p) bs
         → (p.stage ≡ Bid) × (is_significant (line_words (b ∷ bs)) ≡ true)
     letter e true c k = absurd (met_comment n p bs h.1 k)
     letter e false c k = (met_word (standing (Inside (word_from b)) n p) bs bounded h.1 k, significant_letter b bs e ∙ ap not c)
-
-    by : (t : Bool) → is_blank b ≡ t → (p.stage ≡ Bid) × (is_significant (line_words (b ∷ bs)) ≡ true)
-    by true e = let rest = met_fresh Blank n p bs (λ b. refl, λ i. i) refl bounded h.1
-        (subst (λ (r : Scan). IsOkAnd r (λ u. MeetsBidLine u bs)) (byte_blank (standing m n p) b h.0 e ∙ step) k) in
-        (rest.0, ap is_significant (words_blank b bs e) ∙ rest.1)
-    by false e = letter e (eqb b 37) refl (subst (λ (mode : Mode). MeetsBidLine (standing mode n p) bs) (fresh.0 b)
-        (subst (λ (r : Scan). IsOkAnd r (λ u. MeetsBidLine u bs)) (byte_letter (standing m n p) b h.0 e) k))
 
 met_line : (n : ℕ) (p : Progress) (bs : List ℕ) → IsBounded p.header → AllByRecursion IsNoEnd bs → MeetsBidLine (standing Start n p) bs
     → (p.stage ≡ Bid) × (is_significant (line_words bs) ≡ true)
@@ -143,10 +153,16 @@ counted_more n l ls e = rw e refl
 counted_same : (n : ℕ) (l : RawLine) (ls : List RawLine) → is_significant (line_words l.bytes) ≡ false → counted n (l ∷ ls) ≡ counted (suc n) ls
 counted_same n l ls e = rw e refl
 
-pub met_lines : (n : ℕ) (p : Progress) (ls : List RawLine) → AreRaw ls → IsBounded p.header → MeetsBidLine (standing Start n p) (text_of ls)
-    → 3 < rank p.stage + counted n ls
-met_lines n p [] r bounded m = absurd m.1
-met_lines n p (l ∷ ls) r bounded m = by l.ended refl
+-- a bid line is met behind a line of which this came out
+abbrev MeetsBehind : ℕ → List RawLine → Scanned → Type 0
+MeetsBehind n ls o = IsOkAnd (then_from o (λ q. Ok (standing Start (suc n) q))) (λ u. MeetsBidLine u (text_of ls))
+
+-- in the first line, or behind it
+met_first : (n : ℕ) (p : Progress) (l : RawLine) (ls : List RawLine) → AreRaw (l ∷ ls) → IsBounded p.header
+    → MeetsBidLine (standing Start n p) (text_of (l ∷ ls))
+    → ((q : Progress) → IsBounded q.header → MeetsBidLine (standing Start (suc n) q) (text_of ls) → 3 < rank q.stage + counted (suc n) ls)
+    → 3 < rank p.stage + counted n (l ∷ ls)
+met_first n p l ls r bounded m next = by l.ended refl
   where
     s : State
     s = standing Start n p
@@ -164,32 +180,28 @@ met_lines n p (l ∷ ls) r bounded m = by l.ended refl
         let more : counted n (l ∷ ls) ≡ suc (counted (suc n) ls) = counted_more n l ls at.1 in
         omega arith
 
-    judged : (j : Judged) → AtLine n p j → is_significant (line_words l.bytes) ≡ true
-        → IsOkAnd (then_from (faulted j) (λ q. Ok (standing Start (suc n) q))) (λ u. MeetsBidLine u (text_of ls)) → 3 < rank p.stage + counted n (l ∷ ls)
+    judged : (j : Judged) → AtLine n p j → is_significant (line_words l.bytes) ≡ true → MeetsBehind n ls (faulted j) → 3 < rank p.stage + counted n (l ∷ ls)
     judged (Ok q) at e k =
-        let rest : 3 < rank q.stage + counted (suc n) ls = met_lines (suc n) q ls raw.1 at.bounded k in
-        let le : rank q.stage ≤ suc (rank p.stage) = at.rank in
+        let rest : 3 < rank q.stage + counted (suc n) ls = next q at.bounded k in
+        let le : rank q.stage ≤ suc (rank p.stage) = at.most in
         let more : counted n (l ∷ ls) ≡ suc (counted (suc n) ls) = counted_more n l ls e in
         omega arith
     judged (Err place) at e k = absurd k
 
-    behind : (c : Bool) → is_significant (line_words l.bytes) ≡ c
-        → IsOkAnd (then_from (cond c (whole_line line p) (Ok p)) (λ q. Ok (standing Start (suc n) q))) (λ u. MeetsBidLine u (text_of ls))
-        → 3 < rank p.stage + counted n (l ∷ ls)
+    behind : (c : Bool) → is_significant (line_words l.bytes) ≡ c → MeetsBehind n ls (cond c (whole_line line p) (Ok p)) → 3 < rank p.stage + counted n (l ∷ ls)
     behind true e k = judged (line_judged true line p) (line_in true line p bounded) e
-        (subst (λ (o : Scanned). IsOkAnd (then_from o (λ q. Ok (standing Start (suc n) q))) (λ u. MeetsBidLine u (text_of ls)))
-        (whole_line_same true line p refl (words_are l.bytes) bounded) k)
+        (subst MeetsBehind n ls (whole_line_same true line p refl (words_are l.bytes) bounded) k)
     behind false e k =
-        let rest : 3 < rank p.stage + counted (suc n) ls = met_lines (suc n) p ls raw.1 bounded k in
+        let rest : 3 < rank p.stage + counted (suc n) ls = next p bounded k in
         let same : counted n (l ∷ ls) ≡ counted (suc n) ls = counted_same n l ls e in
         omega arith
 
+    at_end : (o : Scan) → scan s l.bytes ≡ o → IsOkAnd o (λ t. MeetsBidLine t []) → MeetsBidLine s l.bytes
+    at_end (Ok t) q i = met_at_end s t l.bytes q i
+    at_end (Err c) q i = absurd i
+
     last : (ls : List RawLine) → AreRaw (l ∷ ls) → l.ended ≡ false → IsOkAnd (scan s l.bytes) (λ t. MeetsBidLine t (text_of ls)) → MeetsBidLine s l.bytes
     last [] r e k = at_end (scan s l.bytes) refl k
-      where
-        at_end : (o : Scan) → scan s l.bytes ≡ o → IsOkAnd o (λ t. MeetsBidLine t []) → MeetsBidLine s l.bytes
-        at_end (Ok t) q i = met_at_end s t l.bytes q i
-        at_end (Err c) q i = absurd i
     last (m ∷ ms) r e k = absurd (both_ways l.ended e r.1)
 
     by : (t : Bool) → l.ended ≡ t → 3 < rank p.stage + counted n (l ∷ ls)
@@ -200,6 +212,11 @@ met_lines n p (l ∷ ls) r bounded m = by l.ended refl
         (subst (λ t. MeetsBidLine s (l.bytes ++ cond t (10 ∷ text_of ls) (text_of ls))) e m)))
     by false e = ⊎_elim here (λ (k : IsOkAnd (scan s l.bytes) (λ t. MeetsBidLine t (text_of ls))). here (last ls r e k))
         (met_split s l.bytes (text_of ls) (subst (λ t. MeetsBidLine s (l.bytes ++ cond t (10 ∷ text_of ls) (text_of ls))) e m))
+
+met_lines : (n : ℕ) (p : Progress) (ls : List RawLine) → AreRaw ls → IsBounded p.header → MeetsBidLine (standing Start n p) (text_of ls)
+    → 3 < rank p.stage + counted n ls
+met_lines n p [] r bounded m = absurd m.1
+met_lines n p (l ∷ ls) r bounded m = met_first n p l ls r bounded m (λ q b k. met_lines (suc n) q ls (tail_raw l ls r).1 b k)
 
 -- a bid line met in the bytes that are decided is in the text
 pub bid_line_met : (k : PlainBid → PlainBid) (text token back : List ℕ) → blank_returns text ≡ token ++ back → MeetsBidLine (first_state k) token

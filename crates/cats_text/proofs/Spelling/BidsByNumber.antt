@@ -2,8 +2,9 @@
 -- as there are places fill them all.
 use Rattle.cats_text.proofs.Common.{rules, ◌≡◌, ◌≢◌, ℕ, zero, suc, ◌+◌, ◌-◌, ◌<◌, ◌≤◌, List, [], ◌∷◌, ◌++◌, length, map, replicate, set, get_or, Option, Some}
 use Rattle.cats_text.proofs.Common.{None, refl, sym, ap, ◌∙◌, arith, length-append, get_or-set_same, get_or-set_other, cases_eq, length-replicate, length-set}
-use Rattle.cats_text.proofs.Common.{AllByRecursion, slice_get, Word, PlainBid, AreDistinct, line_number, put_slot, filled, bid_of, slots_of, common_steps}
-use Rattle.cats_text.proofs.Common.{fold}
+use Rattle.cats_text.proofs.Common.{AllByRecursion, slice_get, take_while, not, Word, PlainBid, AreDistinct, number_of, price_of, line_number, is_end, put_slot}
+use Rattle.cats_text.proofs.Common.{filled, fold, common_steps}
+use Rattle.cats_text.proofs.Spelling.Members.{bid_on}
 
 abbrev BidsByNumber : Type 0
 BidsByNumber = List (Option PlainBid)
@@ -81,6 +82,20 @@ at_full (b ∷ bs) (suc k) = at_full bs k
 at_full _ _ = refl
 
 -- ---- lines
+
+-- the words before the first `#`
+abbrev pub before_end : List Word → List Word
+before_end ws = take_while (λ w. not (is_end w)) ws
+
+-- the bid of a line's words
+abbrev pub bid_of : ℕ → List Word → PlainBid
+bid_of G [] = record { price = 0; goods = []; dummy = None }
+bid_of G (_ ∷ []) = record { price = 0; goods = []; dummy = None }
+bid_of G (_ ∷ p ∷ gs) = bid_on G (price_of p) (map number_of (before_end gs))
+
+-- the bids of lines, each at its number
+abbrev pub slots_of : ℕ → List (List Word) → BidsByNumber
+slots_of G lines = fold (λ slots l. put_slot slots (line_number l) (bid_of G l)) [] lines
 
 abbrev slots_from : ℕ → BidsByNumber → List (List Word) → BidsByNumber
 slots_from G xs lines = fold (λ slots l. put_slot slots (line_number l) (bid_of G l)) xs lines

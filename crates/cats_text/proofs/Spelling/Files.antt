@@ -1,13 +1,12 @@
 -- A text without a fault spells the file that it says, and a text that spells a file has no fault and says that file.
-use Rattle.cats_text.proofs.Common.{rules, ◌≡◌, ℕ, ◌≤◌, cond, ◌⊎◌, inl, inr, List, [], ◌∷◌, length, Option, Some, None, refl, sym, ap, ◌∙◌, subst, arith}
-use Rattle.cats_text.proofs.Common.{AllByRecursion, slice_get, Word, significant_lines, line_count, number_of, PlainFile, IsBid, IsPlainFile, Spells}
-use Rattle.cats_text.proofs.Common.{SpellsBid, SpellsNumber, line_number, significant_words, bounds_of, header_value, first_fault, filled, bid_of, slots_of}
-use Rattle.cats_text.proofs.Common.{file_of_lines, spelled_file, ReadFault, MAX_GOODS, MAX_BIDS, MAX_DUMMY, common_steps, codes}
-use Rattle.cats_text.proofs.Spelling.BidsByNumber.{FillPlaces, length_bids, bids_stand, bids_all, bids_are}
-use Rattle.cats_text.proofs.Spelling.Tests.{IsHeader, header_number}
+use Rattle.cats_text.proofs.Common.{rules, ◌≡◌, ℕ, ◌≤◌, ◌⊎◌, inl, inr, List, [], ◌∷◌, length, map, Option, Some, None, Ok, Err, refl, sym, ap, ap₂, ◌∙◌, subst}
+use Rattle.cats_text.proofs.Common.{AllByRecursion, slice_get, option_map, result_err, Word, Line, significant_lines, line_count, number_of, PlainFile, PlainBid, IsBid}
+use Rattle.cats_text.proofs.Common.{IsPlainFile, Spells, SpellsBid, line_number, significant_words, first_fault, fault_of, first_place, reading, file_of, filled}
+use Rattle.cats_text.proofs.Common.{spelled_file, Judged, Progress, PlainPlace, ReadFault, Header, MAX_GOODS, MAX_BIDS, MAX_DUMMY, common_steps, codes}
+use Rattle.cats_text.proofs.Spelling.BidsByNumber.{FillPlaces, bid_of, slots_of, length_bids, bids_stand, bids_all, bids_are}
 use Rattle.cats_text.proofs.Spelling.Goods.{IsBidLine}
-use Rattle.cats_text.proofs.Spelling.Lines.{words_from, words_none, AreBidLines, AreFileLines, lines_from, lines_none, fill_places}
-use Rattle.cats_text.proofs.Spelling.Bids.{line_is_bid, line_spells, file_bounds, spelled_line, spelled_bid}
+use Rattle.cats_text.proofs.Spelling.Lines.{AreBidLines, Reads, header_of, lines_from, lines_none, fill_places}
+use Rattle.cats_text.proofs.Spelling.Bids.{line_is_bid, line_spells, sizes, spelled_line, spelled_bid}
 
 all_same : (P Q : List Word → Type 0) → ((x : List Word) → P x → Q x) → (xs : List (List Word)) → AllByRecursion P xs → AllByRecursion Q xs
 all_same P Q h [] a = tt
@@ -20,89 +19,120 @@ all_both P Q R h (x ∷ xs) a b = (h x a.0 b.0, all_both P Q R h xs a.1 b.1)
 
 -- ---- no fault
 
+-- the file of the lines of a text
+abbrev file_with : Header → List (List Word) → PlainFile
+file_with h lines = record { goods = h.goods; dummy = h.dummy; bids = filled (slots_of h.goods lines) }
+
+module _ (text : List ℕ) (q : Progress) (is : reading text ≡ Ok q) where
+  lines : Reads (significant_words text) q
+  lines = lines_from (line_count text) q (significant_lines text) is
+
+  abbrev header : Header
+  header = header_of lines.goods lines.bids lines.dummy
+
+  fill : FillPlaces header.bids lines.bid_lines
+  fill = fill_places header lines.bid_lines lines.are
+
+  count : length (filled (slots_of header.goods lines.bid_lines)) ≡ header.bids
+  count = length_bids header.goods header.bids lines.bid_lines fill
+
+  -- as many bids as the header says
+  pub bids_counted : q.header.bids ≡ length (filled q.slots)
+  bids_counted = ap (λ (h : Header). h.bids) lines.header ∙ sym (ap (λ (xs : List (Option PlainBid)). length (filled xs)) lines.slots ∙ count)
+
+  file_is : file_with header lines.bid_lines ≡ file_of (Ok q)
+  file_is = ap₂ (λ (h : Header) (xs : List (Option PlainBid)). record { goods = h.goods; dummy = h.dummy; bids = filled xs }) (sym lines.header) (sym lines.slots)
+
+  pub spells_from_reading : Spells text (file_of (Ok q))
+  spells_from_reading = subst (Spells text) file_is (record {
+    goods = lines.goods;
+    bids = lines.bids;
+    dummy = lines.dummy;
+    bid_lines = lines.bid_lines;
+    lines_are = lines.lines_are;
+    goods_spelled = record { number = lines.goods_spelled.0; value = refl };
+    bids_spelled = record { number = lines.bids_spelled.0; value = sym count };
+    dummy_spelled = record { number = lines.dummy_spelled.0; value = refl };
+    count = fill.count ∙ sym count;
+    distinct = lines.are.distinct;
+    each = all_both (IsBidLine header) (λ l. slice_get (filled (slots_of header.goods lines.bid_lines)) (line_number l) ≡ Some (bid_of header.goods l))
+        (SpellsBid (file_with header lines.bid_lines)) (λ l b s. line_spells header (file_with header lines.bid_lines) l refl b s)
+        lines.bid_lines lines.are.each (bids_stand header.goods header.bids lines.bid_lines fill);
+    facts = record {
+      goods = lines.goods_spelled.1;
+      dummy = lines.dummy_spelled.1;
+      count = subst (λ n. n ≤ MAX_BIDS) (sym count) lines.bids_spelled.1;
+      each = bids_all header.goods (IsBid header.goods header.dummy) lines.bid_lines
+          (all_same (IsBidLine header) (λ l. IsBid header.goods header.dummy (bid_of header.goods l)) (λ l b. line_is_bid header l b)
+          lines.bid_lines lines.are.each);
+    };
+  })
+
+faultless : (j : Judged) → option_map fault_of (result_err j) ≡ None → (q : Progress) × (j ≡ Ok q)
+faultless (Ok q) e = (q, refl)
+faultless (Err place) e = absurd (cc)
+
 pub spells_from_no_fault : (text : List ℕ) → first_fault text ≡ None → Spells text (spelled_file text)
-spells_from_no_fault text none =
-    let p : AreFileLines (significant_words text) = search (rules, lines_from, words_from) in
-    let fill : FillPlaces (header_value p.b) p.bid_lines = fill_places (bounds_of p.g p.b p.d) p.bid_lines p.are in
-    let count : length (filled (slots_of (header_value p.g) p.bid_lines)) ≡ header_value p.b =
-    length_bids (header_value p.g) (header_value p.b) p.bid_lines fill in
-    let goods_value : header_value p.g ≡ number_of p.goods.number = header_number (codes "goods") MAX_GOODS p.g p.goods in
-    let bids_value : header_value p.b ≡ number_of p.bids.number = header_number (codes "bids") MAX_BIDS p.b p.bids in
-    let dummy_value : header_value p.d ≡ number_of p.dummy.number = header_number (codes "dummy") MAX_DUMMY p.d p.dummy in
-    subst (Spells text) (sym (ap file_of_lines p.lines_are)) (record {
-      goods = p.goods.number;
-      bids = p.bids.number;
-      dummy = p.dummy.number;
-      bid_lines = p.bid_lines;
-      lines_are = p.lines_are ∙ ap (λ ws. ws ∷ p.b ∷ p.d ∷ p.bid_lines) p.goods.words_are
-          ∙ ap (λ ws. (codes "goods" ∷ p.goods.number ∷ []) ∷ ws ∷ p.d ∷ p.bid_lines) p.bids.words_are
-          ∙ ap (λ ws. (codes "goods" ∷ p.goods.number ∷ []) ∷ (codes "bids" ∷ p.bids.number ∷ []) ∷ ws ∷ p.bid_lines) p.dummy.words_are;
-      goods_spelled = record { number = p.goods.spelled; value = sym goods_value };
-      bids_spelled = record { number = p.bids.spelled; value = sym bids_value ∙ sym count };
-      dummy_spelled = record { number = p.dummy.spelled; value = sym dummy_value };
-      count = fill.count ∙ sym count;
-      distinct = p.are.distinct;
-      each = all_both (IsBidLine (bounds_of p.g p.b p.d)) (λ l. slice_get (filled (slots_of (header_value p.g) p.bid_lines)) (line_number l)
-          ≡ Some (bid_of (header_value p.g) l)) (SpellsBid (file_of_lines (p.g ∷ p.b ∷ p.d ∷ p.bid_lines)))
-          (λ l q s. line_spells (bounds_of p.g p.b p.d) (file_of_lines (p.g ∷ p.b ∷ p.d ∷ p.bid_lines)) l refl q s)
-          p.bid_lines p.are.each (bids_stand (header_value p.g) (header_value p.b) p.bid_lines fill);
-      facts = record {
-        goods = subst (λ n. n ≤ MAX_GOODS) (sym goods_value) p.goods.within;
-        dummy = subst (λ n. n ≤ MAX_DUMMY) (sym dummy_value) p.dummy.within;
-        count = subst (λ n. n ≤ MAX_BIDS) (sym (count ∙ bids_value)) p.bids.within;
-        each = bids_all (header_value p.g) (IsBid (header_value p.g) (header_value p.d)) p.bid_lines
-            (all_same (IsBidLine (bounds_of p.g p.b p.d)) (λ l. IsBid (header_value p.g) (header_value p.d) (bid_of (header_value p.g) l))
-            (λ l q. line_is_bid (bounds_of p.g p.b p.d) l q) p.bid_lines p.are.each);
-      };
-    })
+spells_from_no_fault text none = let r = faultless (reading text) none in
+    subst (Spells text) (sym (ap file_of r.1)) (spells_from_reading text r.0 r.1)
 
 -- ---- a text that spells a file
-
-each_line : (f : PlainFile) (lines : List (List Word)) → IsPlainFile f → AllByRecursion (SpellsBid f) lines → AllByRecursion (IsBidLine (file_bounds f)) lines
-each_line f lines p a = all_same (SpellsBid f) (IsBidLine (file_bounds f)) (λ l s. spelled_line f l p s) lines a
 
 each_bid : (f : PlainFile) (lines : List (List Word)) → IsPlainFile f → AllByRecursion (SpellsBid f) lines
     → AllByRecursion (λ l. slice_get f.bids (line_number l) ≡ Some (bid_of f.goods l)) lines
 each_bid f lines p a = all_same (SpellsBid f) (λ l. slice_get f.bids (line_number l) ≡ Some (bid_of f.goods l)) (λ l s. spelled_bid f l p s) lines a
 
-spelled_header : (keyword : Word) (limit : ℕ) (w : Word) (n : ℕ) → SpellsNumber w n → n ≤ limit → IsHeader keyword limit (keyword ∷ w ∷ [])
-spelled_header keyword limit w n s l = record { number = w; words_are = refl; spelled = s.number; within = subst (λ m. m ≤ limit) (sym s.value) l }
-
-pub spelled_value : (keyword w : Word) (n : ℕ) → SpellsNumber w n → header_value (keyword ∷ w ∷ []) ≡ n
-spelled_value keyword w n s = ap (λ b. cond b (number_of w) 0) s.number ∙ s.value
-
-file_bid_lines : (text : List ℕ) (f : PlainFile) → (s : Spells text f) → AreBidLines (file_bounds f) s.bid_lines
-file_bid_lines text f s = record { each = each_line f s.bid_lines s.facts s.each; distinct = s.distinct; count = s.count }
-
-same_bounds : (goods bids dummy : ℕ) (f : PlainFile) → goods ≡ f.goods → bids ≡ length f.bids → dummy ≡ f.dummy
-    → file_bounds f ≡ record { goods = goods; bids = bids; dummy = dummy }
-same_bounds goods bids dummy f p q r = grind (arith, common_steps)
-
-file_lines : (text : List ℕ) (f : PlainFile) → Spells text f → AreFileLines (significant_words text)
-file_lines text f s = record {
-  g = codes "goods" ∷ s.goods ∷ [];
-  b = codes "bids" ∷ s.bids ∷ [];
-  d = codes "dummy" ∷ s.dummy ∷ [];
-  bid_lines = s.bid_lines;
-  lines_are = s.lines_are;
-  goods = search (rules, spelled_header);
-  bids = search (rules, spelled_header);
-  dummy = search (rules, spelled_header);
-  are = subst (λ h. AreBidLines h s.bid_lines) (search (rules, same_bounds, spelled_value)) (file_bid_lines text f s);
+file_bid_lines : (text : List ℕ) (f : PlainFile) → (s : Spells text f) → AreBidLines (sizes f) s.bid_lines
+file_bid_lines text f s = record {
+  each = all_same (SpellsBid f) (IsBidLine (sizes f)) (λ l b. spelled_line f l s.facts b) s.bid_lines s.each;
+  distinct = s.distinct;
+  count = s.count;
 }
 
+same_sizes : (f : PlainFile) (goods bids dummy : ℕ) → goods ≡ f.goods → bids ≡ length f.bids → dummy ≡ f.dummy
+    → sizes f ≡ record { goods = goods; bids = bids; dummy = dummy }
+same_sizes f goods bids dummy a b c = rw (a, b, c) refl
+
+within : (n m limit : ℕ) → n ≡ m → m ≤ limit → n ≤ limit
+within n m limit e l = subst (λ k. k ≤ limit) (sym e) l
+
+-- it is read without a fault
+pub reading_from_spells : (text : List ℕ) (f : PlainFile) → Spells text f → (q : Progress) × (reading text ≡ Ok q)
+reading_from_spells text f s =
+    let a : AreBidLines (header_of s.goods s.bids s.dummy) s.bid_lines = subst (λ h. AreBidLines h s.bid_lines)
+    (same_sizes f (number_of s.goods) (number_of s.bids) (number_of s.dummy) s.goods_spelled.value s.bids_spelled.value s.dummy_spelled.value)
+    (file_bid_lines text f s) in
+    lines_none (line_count text) s.goods s.bids s.dummy s.bid_lines (significant_lines text) s.lines_are
+    (s.goods_spelled.number, within _ _ _ s.goods_spelled.value s.facts.goods) (s.bids_spelled.number, within _ _ _ s.bids_spelled.value s.facts.count)
+    (s.dummy_spelled.number, within _ _ _ s.dummy_spelled.value s.facts.dummy) a
+
 pub no_fault_from_spells : (text : List ℕ) (f : PlainFile) → Spells text f → first_fault text ≡ None
-no_fault_from_spells text f s = words_none (line_count text) [] (significant_lines text) (lines_none (significant_words text) (file_lines text f s))
+no_fault_from_spells text f s = let r = reading_from_spells text f s in ap (λ j. option_map fault_of (result_err j)) r.1
+
+-- the words of a header line and the bid lines are those of the text
+same_lines : (g b d g' b' d' : Word) (rest rest' : List (List Word))
+    → (codes "goods" ∷ g ∷ []) ∷ (codes "bids" ∷ b ∷ []) ∷ (codes "dummy" ∷ d ∷ []) ∷ rest
+    ≡ (codes "goods" ∷ g' ∷ []) ∷ (codes "bids" ∷ b' ∷ []) ∷ (codes "dummy" ∷ d' ∷ []) ∷ rest' → (g ≡ g') × (d ≡ d') × (rest ≡ rest')
+same_lines g b d g' b' d' rest rest' e = (cc, cc, cc)
+
+-- two files that a text spells are the same
+pub spells_one : (text : List ℕ) (f g : PlainFile) → Spells text f → Spells text g → f ≡ g
+spells_one text f g s t =
+    let same = same_lines s.goods s.bids s.dummy t.goods t.bids t.dummy s.bid_lines t.bid_lines (sym s.lines_are ∙ t.lines_are) in
+    let goods : f.goods ≡ g.goods = sym s.goods_spelled.value ∙ ap number_of same.0 ∙ t.goods_spelled.value in
+    let dummy : f.dummy ≡ g.dummy = sym s.dummy_spelled.value ∙ ap number_of same.1 ∙ t.dummy_spelled.value in
+    let bids : f.bids ≡ g.bids = bids_of text f s ∙ ap₂ (λ (n : ℕ) (ls : List (List Word)). filled (slots_of n ls)) goods same.2 ∙ sym (bids_of text g t) in
+    file_same f g goods dummy bids
+  where
+    bids_of : (text : List ℕ) (f : PlainFile) → (s : Spells text f) → f.bids ≡ filled (slots_of f.goods s.bid_lines)
+    bids_of text f s = bids_are f.goods f.bids s.bid_lines (fill_places (sizes f) s.bid_lines (file_bid_lines text f s)) (each_bid f s.bid_lines s.facts s.each)
+
+    file_same : (f g : PlainFile) → f.goods ≡ g.goods → f.dummy ≡ g.dummy → f.bids ≡ g.bids → f ≡ g
+    file_same f g a b c = grind (arith, common_steps)
 
 -- it is the file that the text says
 pub says_spelled : (text : List ℕ) (f : PlainFile) → Spells text f → f ≡ spelled_file text
-says_spelled text f s =
-    let fill : FillPlaces (length f.bids) s.bid_lines = fill_places (file_bounds f) s.bid_lines (file_bid_lines text f s) in
-    let bids : f.bids ≡ filled (slots_of f.goods s.bid_lines) = bids_are f.goods f.bids s.bid_lines fill (each_bid f s.bid_lines s.facts s.each) in
-    search (rules, spelled_value)
-
-pub spells_one : (text : List ℕ) (f g : PlainFile) → Spells text f → Spells text g → f ≡ g
-spells_one text f g s t = says_spelled text f s ∙ sym (says_spelled text g t)
+says_spelled text f s = spells_one text f (spelled_file text) s (spells_from_no_fault text (no_fault_from_spells text f s))
 
 -- a text spells one file or has a first fault
 pub spells_or_fault : (text : List ℕ) → ((f : PlainFile) × Spells text f) ⊎ ((e : ReadFault) × (first_fault text ≡ Some e))

@@ -49,7 +49,7 @@ length_from_has (x ∷ xs) g h = omega arith
 abbrev pub real : ℕ → List ℕ → List ℕ
 real G ns = filter (λ v. ltb v G) ns
 
-has_real : (G : ℕ) (ns : List ℕ) (g : ℕ) → Has ns g → g < G → Has (real G ns) g
+pub has_real : (G : ℕ) (ns : List ℕ) (g : ℕ) → Has ns g → g < G → Has (real G ns) g
 has_real G [] g h l = absurd (has_nothing g h)
 has_real G (v ∷ vs) g h l = grind (arith, common_steps, has_cases, has_head, has_tail, ltb-false, (has_real G vs g))
 
@@ -59,19 +59,19 @@ real_has G (v ∷ vs) g = grind (arith, common_steps, has_cases, has_head, has_t
 
 -- ---- the first one from G on
 
-abbrev first_high : ℕ → List ℕ → Option ℕ
+abbrev pub first_high : ℕ → List ℕ → Option ℕ
 first_high G ns = find (λ v. leb G v) ns
 
-record IsHigh (G : ℕ) (ns : List ℕ) (v : ℕ) : Type 0 where
-  first : first_high G ns ≡ Some v
-  has : has_good ns v ≡ true
-  high : G ≤ v
+pub record IsHigh (G : ℕ) (ns : List ℕ) (v : ℕ) : Type 0 where
+  pub first : first_high G ns ≡ Some v
+  pub has : has_good ns v ≡ true
+  pub high : G ≤ v
 
-record NoneHigh (G : ℕ) (ns : List ℕ) : Type 0 where
-  first : first_high G ns ≡ None
-  low : (g : ℕ) → has_good ns g ≡ true → g < G
+pub record NoneHigh (G : ℕ) (ns : List ℕ) : Type 0 where
+  pub first : first_high G ns ≡ None
+  pub low : (g : ℕ) → has_good ns g ≡ true → g < G
 
-high_cases : (G : ℕ) (ns : List ℕ) → NoneHigh G ns ⊎ ((v : ℕ) × IsHigh G ns v)
+pub high_cases : (G : ℕ) (ns : List ℕ) → NoneHigh G ns ⊎ ((v : ℕ) × IsHigh G ns v)
 high_cases G [] = inl (record { first = refl; low = λ g h. absurd (has_nothing g h) })
 high_cases G (v ∷ vs) = grind (arith, common_steps, has_cases, has_head, has_tail, leb-false, leb-true, (high_cases G vs))
 
@@ -110,9 +110,6 @@ bid_on_same G D price ns p g = same_test (has_good ns g) (has_good (goods_of G (
 
 pub bid_on_below : (G : ℕ) (ns : List ℕ) → AreBelow G (rising_of (real G ns))
 bid_on_below G ns = all_from_has (λ g. g < G) (rising_of (real G ns)) (λ g h. (rising_has G ns g h).0)
-
-pub bid_on_real : (G : ℕ) (ns : List ℕ) (g : ℕ) → Has ns g → g < G → 0 < length (rising_of (real G ns))
-bid_on_real G ns g h l = length_from_has (rising_of (real G ns)) g (has_rising G ns g h l)
 
 pub bid_on_dummy : (G D : ℕ) (ns : List ℕ) → AreGoods G D ns → IsDummyBelow D (dummy_of G ns)
 bid_on_dummy G D ns p = grind (arith, common_steps, high_cases)
@@ -179,11 +176,11 @@ module _ (G D : ℕ) (goods : List ℕ) (dummy : Option ℕ) (ns : List ℕ)
 pub no_goods : (G D : ℕ) → AreGoods G D []
 no_goods G D = record { distinct = tt; below = λ g h. absurd (has_nothing g h); one_dummy = λ x y h k l m. absurd (has_nothing x h) }
 
-any_high : (G : ℕ) (ns : List ℕ) (g : ℕ) → Has ns g → G ≤ g → list_any (λ v. leb G v) ns ≡ true
+pub any_high : (G : ℕ) (ns : List ℕ) (g : ℕ) → Has ns g → G ≤ g → list_any (λ v. leb G v) ns ≡ true
 any_high G [] g h l = absurd (has_nothing g h)
 any_high G (v ∷ vs) g h l = grind (arith, common_steps, has_cases, leb-false, or_left, or_right, (any_high G vs g))
 
-high_any : (G : ℕ) (ns : List ℕ) → list_any (λ v. leb G v) ns ≡ true → (g : ℕ) × (G ≤ g) × Has ns g
+pub high_any : (G : ℕ) (ns : List ℕ) → list_any (λ v. leb G v) ns ≡ true → (g : ℕ) × (G ≤ g) × Has ns g
 high_any G [] h = absurd (both_ways false refl h)
 high_any G (v ∷ vs) h = ⊎_elim (λ (e : leb G v ≡ true). (v, leb-true G v e, has_head v vs))
     (λ (k : list_any (λ w. leb G w) vs ≡ true). search (rules, has_tail, (high_any G vs k))) (or_cases (leb G v) (list_any (λ w. leb G w) vs) h)

@@ -32,11 +32,13 @@ missing-found false due line p = tt
 lines-found : (is_whole : Bool) (count : ℕ) (ls : List Line) (p : Progress) → IsBounded p.header → AllByRecursion (λ l. 0 < l.number) ls
     → JudgedFound is_whole (lines_judged is_whole count ls p)
 lines-found is_whole count [] p bounded h = missing-found is_whole (is_due p) count p
-lines-found is_whole count (l ∷ ls) p bounded h = by (line_judged is_whole l p) (line_in is_whole l p bounded)
+lines-found is_whole count (l ∷ ls) p bounded h =
+    by (line_judged is_whole l p) (line_in is_whole l p bounded) (λ q b. lines-found is_whole count ls q b h.1)
   where
-    by : (j : Judged) → AtLine l.number p j → JudgedFound is_whole (judged_then j (lines_judged is_whole count ls))
-    by (Ok q) at = lines-found is_whole count ls q at.bounded h.1
-    by (Err place) at = line_kind-found is_whole place.line place.kind (subst (λ n. 0 < n) (sym at.0) h.0) at.1
+    by : (j : Judged) → AtLine l.number p j → ((q : Progress) → IsBounded q.header → JudgedFound is_whole (lines_judged is_whole count ls q))
+        → JudgedFound is_whole (judged_then j (lines_judged is_whole count ls))
+    by (Ok q) at next = next q at.bounded
+    by (Err place) at next = line_kind-found is_whole place.line place.kind (subst (λ n. 0 < n) (sym at.0) h.0) at.1
 
 -- lines are counted from 1
 numbered-pos : (n : ℕ) (ls : List RawLine) → 0 < n → AllByRecursion (λ l. 0 < l.number) (filter (λ l. is_significant l.words) (numbered n ls))

@@ -1,119 +1,136 @@
--- The place of the first fault: the parser's answers over the lines give it, and it has the first fault. The idea: each
--- step of the search is a step of the definition, at what the parser keeps of the lines and words before.
-use Rattle.cats_text.proofs.Common.{rules, ◌≡◌, ℕ, suc, ◌+◌, ◌<◌, Bool, true, false, cond, List, [], ◌∷◌, ◌++◌, length, filter, refl, sym, ap, ◌∙◌, subst}
-use Rattle.cats_text.proofs.Common.{arith, Ok, Option, Some, None, Err, option_map, append-nil, append_assoc, length-append, then_some, option_or}
-use Rattle.cats_text.proofs.Common.{AllByRecursion, Word, RawLine, Line, raw_lines, blank_returns, line_words, is_significant, numbered, significant_lines}
-use Rattle.cats_text.proofs.Common.{line_count, word_fault, end_fault, words_fault, line_fault, lines_fault, first_fault, fault_at, PlainPlace, place_behind}
-use Rattle.cats_text.proofs.Common.{words_place, lines_place, first_place, fault_of, plain_place, FaultPlace, number_alone, summary, Reading, start, word_read}
-use Rattle.cats_text.proofs.Common.{line_read, is_due, Judged, judged_at, judged_then, words_judged, line_judged, Progress, Kind, Missing, ReadFault}
-use Rattle.cats_text.proofs.Common.{common_steps}
-use Rattle.cats_text.proofs.Parsing.Lines.{word_step, line_step, due_step}
-use Rattle.cats_text.proofs.Parsing.States.{IsAt, WordFollows}
-use Rattle.cats_text.proofs.Parsing.WholeLines.{IsWord}
-use Rattle.cats_text.proofs.Texts.FirstFaults.{at_start, words_are, significant_pos}
+-- The place of the first fault: what the parser gives line by line is what the lines give.
+use Rattle.cats_text.proofs.Common.{rules, ◌≡◌, ℕ, suc, ◌+◌, ◌<◌, ◌≤◌, Bool, true, false, ◌||◌, cond, List, [], ◌∷◌, length, filter, refl, sym, ap, ◌∙◌, subst, arith}
+use Rattle.cats_text.proofs.Common.{Ok, Option, Some, None, Err, option_map, then_some, result_err, lt-ltb, ⊎_elim, AllByRecursion, Word, RawLine, Line, raw_lines}
+use Rattle.cats_text.proofs.Common.{blank_returns, line_words, is_significant, numbered, significant_lines, line_count, has_bid_line, PlainPlace, first_place, plain_place}
+use Rattle.cats_text.proofs.Common.{FaultPlace, number_alone, summary, Reading, start, token_of, token_by, token_read, line_read, is_due, Judged, judged_at, judged_then}
+use Rattle.cats_text.proofs.Common.{words_judged, line_judged, lines_judged, words_by, line_by, Progress, Kind, Missing, Stage, Bid, common_steps}
+use Rattle.cats_text.proofs.Parsing.Tokens.{IsBounded, token_same, read_same}
+use Rattle.cats_text.proofs.Parsing.Steps.{WordResult, rank, word_gives, token_kind}
+use Rattle.cats_text.proofs.Parsing.WholeLines.{IsWord, AtLine, line_in, ended, if_ended}
+use Rattle.cats_text.proofs.Parsing.Keeping.{same_place}
+use Rattle.cats_text.proofs.Texts.FirstFaults.{words_are, start_bounded}
 
--- ---- the words of a line
+-- ---- a line
 
-abbrev pub WordsPlaced : ℕ → List (List Word) → List Word → List Word → Judged → Type 0
-WordsPlaced n lines before ws (Ok q) = (words_place n lines before ws ≡ None) × IsAt (lines ++ (before ++ ws) ∷ []) [] q
-WordsPlaced n lines before ws (Err place) = words_place n lines before ws ≡ Some place
-
-end_placed : (n : ℕ) (lines : List (List Word)) (before : List Word) (p : Progress) → 0 < length before → IsAt lines before p
-    → WordsPlaced n lines before [] (judged_at n (suc (length before)) [] (line_read p))
-end_placed n lines before p some at = grind (arith, common_steps, append-nil, line_step, option_map)
-
-pub words_placed : (n : ℕ) (lines : List (List Word)) (before ws : List Word) (p : Progress) → AllByRecursion IsWord ws → 0 < length before + length ws
-    → IsAt lines before p → WordsPlaced n lines before ws (words_judged n (suc (length before)) ws p)
-words_placed n lines before [] p words some at = end_placed n lines before p (omega arith) at
-words_placed n lines before ([] ∷ ws) p words some at = absurd (let no : 0 < 0 = words.0 in omega arith)
-words_placed n lines before ((a ∷ w) ∷ ws) p words some at =
-    by_word (word_read p (summary (a ∷ w))) (word_step lines before a w p at)
-    (λ q at'. words_placed n lines (before ++ (a ∷ w) ∷ []) ws q words.1 (omega (arith, length-append before ((a ∷ w) ∷ []))) at')
+-- the end of the line is place e
+words_by_same : (n k e : ℕ) (ws : List Word) (p : Progress) → AllByRecursion IsWord ws → IsBounded p.header → e ≡ k + length ws
+    → words_by n k ws p ≡ judged_then (words_judged n k ws p) (ended n e)
+words_by_same n k e [] p words bounded is = let here : e ≡ k = omega arith in ap (λ j. judged_at n j [] (line_read p)) (sym here)
+words_by_same n k e ([] ∷ ws) p words bounded is = absurd (let no : 0 < 0 = words.0 in omega arith)
+words_by_same n k e ((a ∷ w) ∷ ws) p words bounded is =
+    ap (λ r. judged_then (judged_at n k (a ∷ w) r) (words_by n (suc k) ws)) (read_same p bounded (token_by (summary (a ∷ w))) (token_of (a ∷ w)) (token_same a w))
+    ∙ by (token_read p (token_of (a ∷ w))) (word_gives p bounded (token_of (a ∷ w)) (token_kind (a ∷ w)))
+    (λ q b. words_by_same n (suc k) e ws q words.1 b (omega arith))
   where
-    later : Option PlainPlace
-    later = words_place n lines (before ++ (a ∷ w) ∷ []) ws
+    by : (r : Reading) → WordResult p r
+        → ((q : Progress) → IsBounded q.header → words_by n (suc k) ws q ≡ judged_then (words_judged n (suc k) ws q) (ended n e))
+        → judged_then (judged_at n k (a ∷ w) r) (words_by n (suc k) ws)
+        ≡ judged_then (judged_then (judged_at n k (a ∷ w) r) (words_judged n (suc k) ws)) (ended n e)
+    by (Ok q) h next = next q h.bounded
+    by (Err kind) h next = refl
 
-    more : length (before ++ (a ∷ w) ∷ []) ≡ suc (length before)
-    more = omega (arith, length-append before ((a ∷ w) ∷ []))
+whole : (b : Bool) → (b || true) ≡ true
+whole true = refl
+whole false = refl
 
-    behind : (r : Judged) → word_fault lines before (a ∷ w) ≡ None → WordsPlaced n lines (before ++ (a ∷ w) ∷ []) ws r
-        → WordsPlaced n lines before ((a ∷ w) ∷ ws) r
-    behind (Ok q) none f = (
-      ap (λ o. option_or (option_map (place_behind n before (a ∷ w)) o) later) none ∙ f.0,
-      subst (λ ds. IsAt (lines ++ ds ∷ []) [] q) (append_assoc before ((a ∷ w) ∷ []) ws) f.1,
-    )
-    behind (Err place) none f = ap (λ o. option_or (option_map (place_behind n before (a ∷ w)) o) later) none ∙ f
+abbrev line_of : ℕ → RawLine → Line
+line_of n raw = record { number = n; words = line_words raw.bytes; ended = raw.ended }
 
-    by_word : (r : Reading) → WordFollows lines before (a ∷ w) r → ((q : Progress) → IsAt lines (before ++ (a ∷ w) ∷ []) q
-        → WordsPlaced n lines (before ++ (a ∷ w) ∷ []) ws (words_judged n (suc (length (before ++ (a ∷ w) ∷ []))) ws q))
-        → WordsPlaced n lines before ((a ∷ w) ∷ ws) (judged_then (judged_at n (suc (length before)) (a ∷ w) r) (words_judged n (suc (suc (length before))) ws))
-    by_word (Err kind) f next = ap (λ o. option_or (option_map (place_behind n before (a ∷ w)) o) later) f
-    by_word (Ok q) f next = behind (words_judged n (suc (suc (length before))) ws q) f.0
-        (subst (λ k. WordsPlaced n lines (before ++ (a ∷ w) ∷ []) ws (words_judged n (suc k) ws q)) more (next q f.1))
+line_same : (n : ℕ) (raw : RawLine) (p : Progress) → IsBounded p.header → words_by n 1 (line_words raw.bytes) p ≡ line_judged true (line_of n raw) p
+line_same n raw p bounded = words_by_same n 1 (suc (length (line_words raw.bytes))) (line_words raw.bytes) p (words_are raw.bytes) bounded (omega arith)
+    ∙ sym (if_ended (raw.ended || true) (whole raw.ended) (line_of n raw) p)
 
 -- ---- the lines so far
 
-abbrev pub kept : List Line → List Line
+abbrev kept : List Line → List Line
 kept ls = filter (λ l. is_significant l.words) ls
 
--- the search is behind significant lines, and what it finds from the next line on, which has this number, is the place
+-- the search is behind lines, and what it finds from the next line on, which has this number, is the place
 pub record IsBehind (text : List ℕ) (n : ℕ) (raws : List RawLine) (p : Progress) : Type 0 where
-  pub lines : List (List Word)
-  pub at : IsAt lines [] p
-  pub place : lines_place (line_count text) lines (kept (numbered n raws)) ≡ first_place text
+  pub bounded : IsBounded p.header
+  pub place : result_err (lines_judged true (line_count text) (kept (numbered n raws)) p) ≡ first_place text
   pub number : n + length raws ≡ suc (line_count text)
-  pub count : length lines + length (kept (numbered n raws)) ≡ length (significant_lines text)
+  pub count : rank p.stage + length (kept (numbered n raws)) ≤ length (significant_lines text)
 
 pub at_first_line : (text : List ℕ) → IsBehind text 1 (raw_lines (blank_returns text)) (start (λ _. number_alone))
-at_first_line text = record { lines = []; at = at_start (λ _. number_alone); place = refl; number = omega arith; count = omega arith }
+at_first_line text = record {
+  bounded = start_bounded (λ _. number_alone);
+  place = same_place true (line_count text) (significant_lines text) (λ _. number_alone);
+  number = omega arith;
+  count = omega arith;
+}
 
 kept_first : (n : ℕ) (raw : RawLine) (raws : List RawLine) → is_significant (line_words raw.bytes) ≡ true
-    → kept (numbered n (raw ∷ raws)) ≡ record { number = n; words = line_words raw.bytes; ended = raw.ended } ∷ kept (numbered (suc n) raws)
+    → kept (numbered n (raw ∷ raws)) ≡ line_of n raw ∷ kept (numbered (suc n) raws)
 kept_first n raw raws s = rw s refl
 
 kept_behind : (n : ℕ) (raw : RawLine) (raws : List RawLine) → is_significant (line_words raw.bytes) ≡ false
     → kept (numbered n (raw ∷ raws)) ≡ kept (numbered (suc n) raws)
 kept_behind n raw raws s = rw s refl
 
--- what the words of the next line give
-line_placed : (text : List ℕ) (n : ℕ) (raw : RawLine) (raws : List RawLine) (p : Progress) (b : IsBehind text n (raw ∷ raws) p)
-    → is_significant (line_words raw.bytes) ≡ true → WordsPlaced n b.lines [] (line_words raw.bytes) (words_judged n 1 (line_words raw.bytes) p)
-line_placed text n raw raws p b s = grind (arith, common_steps, significant_pos, words_are, words_placed)
+-- memory was lacking in a bid line
+pub line_lacks : (text : List ℕ) (n : ℕ) (raw : RawLine) (raws : List RawLine) (p : Progress) → IsBehind text n (raw ∷ raws) p → p.stage ≡ Bid
+    → is_significant (line_words raw.bytes) ≡ true → has_bid_line text ≡ true
+line_lacks text n raw raws p b stage s =
+    let three : rank p.stage ≡ 3 = ap rank stage in
+    let more : length (kept (numbered n (raw ∷ raws))) ≡ suc (length (kept (numbered (suc n) raws))) = ap (λ (ls : List Line). length ls) (kept_first n raw raws s) in
+    let count = b.count in
+    lt-ltb 3 (length (significant_lines text)) (omega arith)
 
--- the place is in the next line
-pub line_stopped : (text : List ℕ) (n : ℕ) (raw : RawLine) (raws : List RawLine) (p : Progress) (place : PlainPlace) → IsBehind text n (raw ∷ raws) p
-    → line_judged n (line_words raw.bytes) p ≡ Err place → first_place text ≡ Some place
-line_stopped text n raw raws p place b judged = elim (is_significant (line_words raw.bytes)) as
-    (λ t. is_significant (line_words raw.bytes) ≡ t → cond t (words_judged n 1 (line_words raw.bytes) p) (Ok p) ≡ Err place → first_place text ≡ Some place) [
-      | true ↦ λ (s : is_significant (line_words raw.bytes) ≡ true) (j : words_judged n 1 (line_words raw.bytes) p ≡ Err place).
-          sym b.place ∙ ap (lines_place (line_count text) b.lines) (kept_first n raw raws s)
-          ∙ ap (λ o. option_or o (lines_place (line_count text) (b.lines ++ line_words raw.bytes ∷ []) (kept (numbered (suc n) raws))))
-          (subst (WordsPlaced n b.lines [] (line_words raw.bytes)) j (line_placed text n raw raws p b s))
-      | false ↦ λ (s : is_significant (line_words raw.bytes) ≡ false) (j : Ok p ≡ Err place). absurd cc
-    ] refl judged
+module _ (text : List ℕ) (n : ℕ) (raw : RawLine) (raws : List RawLine) (p : Progress) (b : IsBehind text n (raw ∷ raws) p) where
+  abbrev rest : Progress → Judged
+  rest q = lines_judged true (line_count text) (kept (numbered (suc n) raws)) q
 
--- it is not, so the search goes on behind the line
-pub line_passed : (text : List ℕ) (n : ℕ) (raw : RawLine) (raws : List RawLine) (p q : Progress) → IsBehind text n (raw ∷ raws) p
-    → line_judged n (line_words raw.bytes) p ≡ Ok q → IsBehind text (suc n) raws q
-line_passed text n raw raws p q b judged = elim (is_significant (line_words raw.bytes)) as
-    (λ t. is_significant (line_words raw.bytes) ≡ t → cond t (words_judged n 1 (line_words raw.bytes) p) (Ok p) ≡ Ok q → IsBehind text (suc n) raws q) [
-      | true ↦ λ (s : is_significant (line_words raw.bytes) ≡ true) (j : words_judged n 1 (line_words raw.bytes) p ≡ Ok q).
-          let placed : WordsPlaced n b.lines [] (line_words raw.bytes) (Ok q) =
-          subst (WordsPlaced n b.lines [] (line_words raw.bytes)) j (line_placed text n raw raws p b s) in
-          record {
-            lines = b.lines ++ line_words raw.bytes ∷ [];
-            at = placed.1;
-            place = sym (ap (λ o. option_or o (lines_place (line_count text) (b.lines ++ line_words raw.bytes ∷ []) (kept (numbered (suc n) raws)))) placed.0)
-                ∙ sym (ap (lines_place (line_count text) b.lines) (kept_first n raw raws s)) ∙ b.place;
-            number = omega (arith, b.number);
-            count = omega (arith, b.count, ap (λ (ls : List Line). length ls) (kept_first n raw raws s), length-append b.lines (line_words raw.bytes ∷ []));
-          }
-      | false ↦ search (rules, IsAt, kept_behind)
-    ] refl judged
+  -- what the search finds in the line and behind it
+  found : is_significant (line_words raw.bytes) ≡ true → result_err (judged_then (words_by n 1 (line_words raw.bytes) p) rest) ≡ first_place text
+  found s = ap (λ j. result_err (judged_then j rest)) (line_same n raw p b.bounded)
+      ∙ sym (ap (λ ls. result_err (lines_judged true (line_count text) ls p)) (kept_first n raw raws s)) ∙ b.place
+
+  -- the place is in the next line
+  pub line_stopped : (place : PlainPlace) → line_by n (line_words raw.bytes) p ≡ Err place → first_place text ≡ Some place
+  line_stopped place judged = by (is_significant (line_words raw.bytes)) refl judged
+    where
+      by : (t : Bool) → is_significant (line_words raw.bytes) ≡ t → cond t (words_by n 1 (line_words raw.bytes) p) (Ok p) ≡ Err place
+          → first_place text ≡ Some place
+      by true s j = sym (found s) ∙ ap (λ o. result_err (judged_then o rest)) j
+      by false s j = absurd cc
+
+  -- it is not, so the search goes on behind the line
+  pub line_passed : (q : Progress) → line_by n (line_words raw.bytes) p ≡ Ok q → IsBehind text (suc n) raws q
+  line_passed q judged = by (is_significant (line_words raw.bytes)) refl judged
+    where
+      by : (t : Bool) → is_significant (line_words raw.bytes) ≡ t → cond t (words_by n 1 (line_words raw.bytes) p) (Ok p) ≡ Ok q
+          → IsBehind text (suc n) raws q
+      by true s j =
+          let at : AtLine n p (Ok q) = subst (AtLine n p) (sym (line_same n raw p b.bounded) ∙ j) (line_in true (line_of n raw) p b.bounded) in
+          let more : length (kept (numbered n (raw ∷ raws))) ≡ suc (length (kept (numbered (suc n) raws))) =
+          ap (λ (ls : List Line). length ls) (kept_first n raw raws s) in
+          let most = at.most in
+          let count = b.count in
+          let number = b.number in
+          record { bounded = at.bounded; place = sym (ap (λ o. result_err (judged_then o rest)) j) ∙ found s; number = omega arith; count = omega arith }
+      by false s j =
+          let same : kept (numbered n (raw ∷ raws)) ≡ kept (numbered (suc n) raws) = kept_behind n raw raws s in
+          let here : p ≡ q = cc in
+          let number = b.number in
+          subst (IsBehind text (suc n) raws) here (record {
+            bounded = b.bounded;
+            place = sym (ap (λ ls. result_err (lines_judged true (line_count text) ls p)) same) ∙ b.place;
+            number = omega arith;
+            count = subst (λ (ls : List Line). rank p.stage + length ls ≤ length (significant_lines text)) same b.count;
+          })
 
 -- behind the last line
-pub lines_ended : (text : List ℕ) (n : ℕ) (p : Progress) → IsBehind text n [] p → first_place text ≡ cond (is_due p) (Some (place_behind n [] [] Missing)) None
-lines_ended text n p b = grind (arith, common_steps, due_step)
+pub lines_ended : (text : List ℕ) (n : ℕ) (p : Progress) → IsBehind text n [] p
+    → first_place text ≡ cond (is_due p) (Some (record { line = n; word = 1; text = []; kind = Missing })) None
+lines_ended text n p b =
+    let last : suc (line_count text) ≡ n = let number = b.number in omega arith in
+    sym b.place ∙ by (is_due p) (suc (line_count text)) ∙ ap (λ m. cond (is_due p) (Some (record { line = m; word = 1; text = []; kind = Missing })) None) last
+  where
+    by : (d : Bool) (m : ℕ) → result_err (cond d (Err (record { line = m; word = 1; text = []; kind = Missing })) (Ok p))
+        ≡ cond d (Some (record { line = m; word = 1; text = []; kind = Missing })) None
+    by true m = refl
+    by false m = refl
 
 pub none_left : (text : List ℕ) → length text ≡ 0 → text ≡ []
 none_left [] e = refl
@@ -122,38 +139,3 @@ none_left (b ∷ bs) e = absurd (omega arith)
 pub place_if : (b : Bool) (place : FaultPlace) → option_map plain_place (then_some b place) ≡ cond b (Some (plain_place place)) None
 place_if true place = refl
 place_if false place = refl
-
--- ---- the fault at the place
-
-at_fault : (n : ℕ) (before : List Word) (text : Word) (o : Option Kind)
-    → option_map fault_of (option_map (place_behind n before text) o) ≡ option_map (fault_at n) o
-at_fault n before text None = refl
-at_fault n before text (Some kind) = refl
-
-or_fault : (n : ℕ) (before : List Word) (w : Word) (o later end : Option Kind) (place : Option PlainPlace)
-    → option_map fault_of place ≡ option_map (fault_at n) (option_or later end)
-    → option_map fault_of (option_or (option_map (place_behind n before w) o) place) ≡ option_map (fault_at n) (option_or (option_or o later) end)
-or_fault n before w None later end place e = e
-or_fault n before w (Some kind) later end place e = refl
-
-words_same : (n : ℕ) (lines : List (List Word)) (before ws : List Word)
-    → option_map fault_of (words_place n lines before ws) ≡ option_map (fault_at n) (option_or (words_fault lines before ws) (end_fault lines (before ++ ws)))
-words_same n lines before [] = grind (arith, common_steps, append-nil, at_fault, option_map)
-words_same n lines before (w ∷ ws) = grind (arith, common_steps, append_assoc, option_map, or_fault, (words_same n lines (before ++ w ∷ []) ws))
-
-line_same : (lines : List (List Word)) (l : Line) → option_map fault_of (words_place l.number lines [] l.words) ≡ line_fault true lines l
-line_same lines l = grind (arith, common_steps, option_map, words_same)
-
-lines_same : (count : ℕ) (lines : List (List Word)) (ls : List Line) → option_map fault_of (lines_place count lines ls) ≡ lines_fault true count lines ls
-lines_same count lines [] = grind (arith, common_steps, option_map)
-lines_same count lines (l ∷ ls) =
-    joined (words_place l.number lines [] l.words) (line_fault true lines l) (line_same lines l) (lines_same count (lines ++ l.words ∷ []) ls)
-  where
-    joined : (o : Option PlainPlace) (f : Option ReadFault) → option_map fault_of o ≡ f
-        → option_map fault_of (lines_place count (lines ++ l.words ∷ []) ls) ≡ lines_fault true count (lines ++ l.words ∷ []) ls
-        → option_map fault_of (option_or o (lines_place count (lines ++ l.words ∷ []) ls)) ≡ option_or f (lines_fault true count (lines ++ l.words ∷ []) ls)
-    joined None f e rest = rest ∙ ap (λ o. option_or o (lines_fault true count (lines ++ l.words ∷ []) ls)) e
-    joined (Some place) f e rest = ap (λ o. option_or o (lines_fault true count (lines ++ l.words ∷ []) ls)) e
-
-pub place_has_fault : (text : List ℕ) → option_map fault_of (first_place text) ≡ first_fault text
-place_has_fault text = lines_same (line_count text) [] (significant_lines text)
