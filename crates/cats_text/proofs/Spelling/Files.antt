@@ -91,7 +91,7 @@ file_bid_lines text f s = record {
 
 same_sizes : (f : PlainFile) (goods bids dummy : ℕ) → goods ≡ f.goods → bids ≡ length f.bids → dummy ≡ f.dummy
     → sizes f ≡ record { goods = goods; bids = bids; dummy = dummy }
-same_sizes f goods bids dummy a b c = rw (a, b, c) refl
+same_sizes f goods bids dummy a b c = grind (arith, common_steps)
 
 within : (n m limit : ℕ) → n ≡ m → m ≤ limit → n ≤ limit
 within n m limit e l = subst (λ k. k ≤ limit) (sym e) l

@@ -1,5 +1,5 @@
 -- Bid lines without a fault: a number, a price, and goods up to `#`.
-use Rattle.cats_text.proofs.Common.{rules, ◌≡◌, ℕ, suc, ◌+◌, ◌-◌, ◌<◌, ◌≤◌, Bool, true, false, not, cond, eqb, ltb, leb, ◌||◌, ◌&&◌, ⊎_elim, List, [], ◌∷◌, ◌++◌}
+use Rattle.cats_text.proofs.Common.{rules, ◌≡◌, ℕ, zero, suc, list_any, ◌+◌, ◌-◌, ◌<◌, ◌≤◌, Bool, true, false, not, cond, eqb, ltb, leb, ◌||◌, ◌&&◌, ⊎_elim, List, [], ◌∷◌, ◌++◌}
 use Rattle.cats_text.proofs.Common.{length, map, Option, Some, None, Ok, Err, refl, sym, ap, ap₂, ◌∙◌, subst, append_assoc, append-nil, arith, both_ways, leb-false}
 use Rattle.cats_text.proofs.Common.{lt-leb, ltb-true, ltb-false, lt-ltb, le-ltb, le-leb, eqb-false, ne_eqb, false_from_ne_true, and_parts, map-append, filter-append, find-append}
 use Rattle.cats_text.proofs.Common.{AllByRecursion, slice_get, find, filter, option_map, Word, is_number, number_of, is_price, is_too_large, is_too_fine, price_of}
@@ -8,7 +8,7 @@ use Rattle.cats_text.proofs.Common.{line_read, with_bid, is_some_bid, put_slot, 
 use Rattle.cats_text.proofs.Common.{Kind, Column, First, Second, Later, Ended, Bid, Draft, Header, common_steps, codes}
 use Rattle.cats_text.specs.declared.read_fault.Kind.TheVariants as kinds
 use Rattle.cats_text.proofs.Spelling.Members.{AreGoods, MayFollow, NoneHigh, IsHigh, high_cases, high_any, any_high, real, first_high, dummy_of, bid_on, no_goods, push_goods, may_follow}
-use Rattle.cats_text.proofs.Spelling.Steps.{stops, no_step, same_step, same_judged, word_ok, passed, equal_words}
+use Rattle.cats_text.proofs.Spelling.Steps.{stops, no_step, same_step, same_judged, word_ok, passed, passes, equal_words}
 
 abbrev pub numbers : List Word → List ℕ
 numbers ws = map number_of ws
@@ -39,7 +39,7 @@ low_any : (G : ℕ) (ns : List ℕ) (v : ℕ) → NoneHigh G ns → G ≤ v → 
 low_any G ns v n l = record {
   range = lt-leb (G + (v + 1)) v (omega arith);
   new = false_from_ne_true (has_good ns v) (λ h. let lt : v < G = n.low v h in absurd (omega arith));
-  one = false_from_ne_true _ (λ e. let g = high_any G ns (and_parts _ _ e).1 in let lt : g.0 < G = n.low g.0 g.2 in let le : G ≤ g.0 = g.1 in
+  one = false_from_ne_true _ (λ e. let g = high_any G ns (and_parts (leb G v) (list_any (λ w. leb G w) ns) e).1 in let lt : g.0 < G = n.low g.0 g.2 in let le : G ≤ g.0 = g.1 in
       absurd (omega arith));
 }
 
@@ -104,12 +104,12 @@ module _ (h : Header) (due : ℕ) (slots : List (Option PlainBid)) where
         by true l f = let lt : v < h.goods = ltb-true v h.goods l in record {
           range = rest.0;
           new = sym (has_filtered h.goods ns v lt) ∙ (passed (has_good (real h.goods ns) v) kinds.RepeatedGood _ q f).0;
-          one = ap (λ b. b && _) (lt-leb h.goods v lt);
+          one = ap (λ b. b && list_any (λ w. leb h.goods w) ns) (lt-leb h.goods v lt);
         }
         by false l f = high (ltb-false v h.goods l) f
 
     good_step : (ns : List ℕ) (v : ℕ) → MayFollow h.goods h.dummy ns v → good_read (behind n x ns) v ≡ Ok (behind n x (ns ++ v ∷ []))
-    good_step ns v m = ap (λ b. cond b (Err kinds.GoodRange) _) m.range ∙ by (ltb v h.goods) refl
+    good_step ns v m = passes (leb (h.goods + h.dummy) v) kinds.GoodRange _ m.range ∙ by (ltb v h.goods) refl
       where
         with_goods : List ℕ → Option ℕ → Reading
         with_goods goods dummy = Ok (record (behind n x ns) { goods = goods; draft = record { number = n; price = x; dummy = dummy } })
@@ -125,7 +125,7 @@ module _ (h : Header) (due : ℕ) (slots : List (Option PlainBid)) where
             (cond (has_good (real h.goods ns) v) (Err kinds.RepeatedGood) (Ok (record (behind n x ns) { goods = real h.goods ns ++ v ∷ [] })))
             (dummy_read (behind n x ns) (dummy_of h.goods ns) (v - h.goods)) ≡ Ok (behind n x (ns ++ v ∷ []))
         by true l = let lt : v < h.goods = ltb-true v h.goods l in
-            ap (λ b. cond b (Err kinds.RepeatedGood) (with_goods (real h.goods ns ++ v ∷ []) (dummy_of h.goods ns))) (has_filtered h.goods ns v lt ∙ m.new)
+            passes (has_good (real h.goods ns) v) kinds.RepeatedGood _ (has_filtered h.goods ns v lt ∙ m.new)
             ∙ ap₂ with_goods (sym (real_low h.goods ns v lt)) (sym (dummy_low h.goods ns v lt))
         by false l = high (ltb-false v h.goods l)
 
@@ -239,7 +239,8 @@ module _ (h : Header) (due : ℕ) (slots : List (Option PlainBid)) where
       (is, pos due t.0, leb-false h.bids (number_of w) u.0, v.0, same_step _ s v.1)
     where
       pos : (k : ℕ) → eqb k 0 ≡ false → 0 < k
-      pos k e = let ne = eqb-false k 0 e in grind (arith, common_steps)
+      pos zero e = absurd (both_ways true e refl)
+      pos (suc k) e = omega arith
 
   price_from : (p : Progress) (o : Option Kind) (x : ℕ) (s : Progress) → price_read p (valued o x) ≡ Ok s
       → (o ≡ None) × (record p { column = Later; draft = record p.draft { price = x } } ≡ s)
@@ -291,6 +292,6 @@ module _ (h : Header) (due : ℕ) (slots : List (Option PlainBid)) where
     where
       number : token_read (fresh draft) (token_of b.number) ≡ Ok (numbered draft (number_of b.number))
       number = ap (λ c. number_read (fresh draft) (cond c (Some (number_of b.number)) None)) b.number_spelled
-          ∙ ap (λ c. cond c (Err kinds.ExtraBid) _) (ne_eqb due 0 (λ e. absurd (omega arith)))
-          ∙ ap (λ c. cond c (Err kinds.BidNumber) _) (lt-leb h.bids (number_of b.number) b.number_below)
-          ∙ ap (λ c. cond c (Err kinds.RepeatedNumber) _) free
+          ∙ passes (eqb due 0) kinds.ExtraBid _ (ne_eqb due 0 (λ e. absurd (omega arith)))
+          ∙ passes (leb h.bids (number_of b.number)) kinds.BidNumber _ (lt-leb h.bids (number_of b.number) b.number_below)
+          ∙ passes (is_some_bid (slice_get slots (number_of b.number))) kinds.RepeatedNumber _ free

@@ -10,7 +10,7 @@ use Rattle.cats_text.proofs.Spelling.Marks.{AreDistinct-push}
 use Rattle.cats_text.proofs.Spelling.Members.{new_at, bid_on}
 use Rattle.cats_text.proofs.Spelling.NumbersTaken.{taken}
 use Rattle.cats_text.proofs.Spelling.BidsByNumber.{FillPlaces, bid_of, slots_of}
-use Rattle.cats_text.proofs.Spelling.Steps.{then_ok, line_ok, ok_line, end_ok, same_step, limited, IsHeader, header_from, header_none}
+use Rattle.cats_text.proofs.Spelling.Steps.{then_ok, line_ok, ok_line, end_ok, end_none, same_step, limited, IsHeader, header_from, header_none}
 use Rattle.cats_text.proofs.Spelling.Goods.{IsBidLine, EndsBid, fresh, ended, numbers, bid_line_from, bid_line_none}
 use Rattle.cats_text.proofs.Spelling.Bids.{line_bid}
 
@@ -79,7 +79,7 @@ module _ (h : Header) where
       → AreDistinct (map line_number (before ++ words_of ls)) → due ≡ length ls
       → (q : Progress) × (lines_judged true c ls (fresh h due (slots_of h.goods before) draft) ≡ Ok q)
   bid_lines_none c before [] due draft a distinct count =
-      (fresh h due (slots_of h.goods before) draft, ap (λ b. cond b (Err _) (Ok (fresh h due (slots_of h.goods before) draft))) (le-ltb 0 due (omega arith)))
+      (fresh h due (slots_of h.goods before) draft, end_none (ltb 0 due) _ (fresh h due (slots_of h.goods before) draft) (le-ltb 0 due (omega arith)))
   bid_lines_none c before (l ∷ ls) due draft a distinct count =
       let b : IsBidLine h l.words = a.0 in
       let n : ℕ = number_of b.number in
@@ -154,22 +154,22 @@ pub record Reads (lines : List (List Word)) (q : Progress) : Type 0 where
 module _ (c : ℕ) (q : Progress) where
   from_goods : (l : Line) (s : Progress) → line_judged true l (start whole) ≡ Ok s → (h : IsHeader keywords.Goods MAX_GOODS l.words) × (at Bids (number_of h.number) 0 ≡ s)
   from_goods l s e = let t = line_from keywords.Goods MAX_GOODS (start whole) goods_set l s
-      (header_from keywords.Goods MAX_GOODS (start whole) goods_set (λ t. refl) (λ t. goods_second t.number) (λ v t. refl) refl refl l.number l.words _ s) e in
+      (λ m. header_from keywords.Goods MAX_GOODS (start whole) goods_set (λ t. refl) (λ t. goods_second t.number) (λ v t. refl) refl refl l.number l.words m s) e in
       (t.0, same_step (at Bids (number_of t.0.number) 0) s t.1)
 
   from_bids : (goods : ℕ) (l : Line) (s : Progress) → line_judged true l (at Bids goods 0) ≡ Ok s
       → (h : IsHeader keywords.Bids MAX_BIDS l.words) × (at Dummy goods (number_of h.number) ≡ s)
   from_bids goods l s e = let t = line_from keywords.Bids MAX_BIDS (at Bids goods 0) (bids_set goods) l s
-      (header_from keywords.Bids MAX_BIDS (at Bids goods 0) (bids_set goods) (λ t. refl) (λ t. bids_second goods t.number) (λ v t. refl) refl refl
-      l.number l.words _ s) e in
+      (λ m. header_from keywords.Bids MAX_BIDS (at Bids goods 0) (bids_set goods) (λ t. refl) (λ t. bids_second goods t.number) (λ v t. refl) refl refl
+      l.number l.words m s) e in
       (t.0, same_step (at Dummy goods (number_of t.0.number)) s t.1)
 
   from_dummy : (goods bids : ℕ) (l : Line) (s : Progress) → line_judged true l (at Dummy goods bids) ≡ Ok s
       → (h : IsHeader keywords.Dummy MAX_DUMMY l.words)
       × (fresh (record { goods = goods; bids = bids; dummy = number_of h.number }) bids [] (start whole).draft ≡ s)
   from_dummy goods bids l s e = let t = line_from keywords.Dummy MAX_DUMMY (at Dummy goods bids) (dummy_set goods bids) l s
-      (header_from keywords.Dummy MAX_DUMMY (at Dummy goods bids) (dummy_set goods bids) (λ t. refl) (λ t. dummy_second goods bids t.number) (λ v t. refl) refl refl
-      l.number l.words _ s) e in
+      (λ m. header_from keywords.Dummy MAX_DUMMY (at Dummy goods bids) (dummy_set goods bids) (λ t. refl) (λ t. dummy_second goods bids t.number) (λ v t. refl) refl refl
+      l.number l.words m s) e in
       (t.0, same_step _ s t.1)
 
   -- a header line is still due
@@ -215,19 +215,23 @@ module _ (c : ℕ) (q : Progress) where
       let k = from_goods g t.0 t.1 in
       behind_goods g k.0 ls (subst (λ (p : Progress). lines_judged true c ls p ≡ Ok q) (sym k.1) t.2)
 
+four_parts : (a b c x y z : List Word) (r s : List (List Word)) → a ∷ b ∷ c ∷ r ≡ x ∷ y ∷ z ∷ s → (a ≡ x) × (b ≡ y) × (c ≡ z) × (r ≡ s)
+four_parts a b c x y z r s e = (cc, cc, cc, cc)
+
 -- lines of a file have no fault
 pub lines_none : (c : ℕ) (g b d : Word) (rest : List (List Word)) (ls : List Line)
     → words_of ls ≡ (codes "goods" ∷ g ∷ []) ∷ (codes "bids" ∷ b ∷ []) ∷ (codes "dummy" ∷ d ∷ []) ∷ rest
     → (is_number g ≡ true) × (number_of g ≤ MAX_GOODS) → (is_number b ≡ true) × (number_of b ≤ MAX_BIDS)
     → (is_number d ≡ true) × (number_of d ≤ MAX_DUMMY) → AreBidLines (header_of g b d) rest → (q : Progress) × (lines_judged true c ls (start whole) ≡ Ok q)
-lines_none c g b d rest [] e x y z a = absurd (cc)
-lines_none c g b d rest (k ∷ []) e x y z a = absurd (cc)
-lines_none c g b d rest (k ∷ l ∷ []) e x y z a = absurd (cc)
+lines_none c g b d rest [] e x y z a = let few : 0 ≡ suc (suc (suc (length rest))) = ap (λ (ws : List (List Word)). length ws) e in absurd (omega arith)
+lines_none c g b d rest (k ∷ []) e x y z a = let few : 1 ≡ suc (suc (suc (length rest))) = ap (λ (ws : List (List Word)). length ws) e in absurd (omega arith)
+lines_none c g b d rest (k ∷ l ∷ []) e x y z a = let few : 2 ≡ suc (suc (suc (length rest))) = ap (λ (ws : List (List Word)). length ws) e in absurd (omega arith)
 lines_none c g b d rest (k ∷ l ∷ m ∷ ls) e x y z a =
-    let goods : IsHeader keywords.Goods MAX_GOODS k.words = record { number = g; words_are = cc; spelled = x.0; within = x.1 } in
-    let bids : IsHeader keywords.Bids MAX_BIDS l.words = record { number = b; words_are = cc; spelled = y.0; within = y.1 } in
-    let dummy : IsHeader keywords.Dummy MAX_DUMMY m.words = record { number = d; words_are = cc; spelled = z.0; within = z.1 } in
-    let same : words_of ls ≡ rest = cc in
+    let parts = four_parts k.words l.words m.words _ _ _ (words_of ls) rest e in
+    let goods : IsHeader keywords.Goods MAX_GOODS k.words = record { number = g; words_are = parts.0; spelled = x.0; within = x.1 } in
+    let bids : IsHeader keywords.Bids MAX_BIDS l.words = record { number = b; words_are = parts.1; spelled = y.0; within = y.1 } in
+    let dummy : IsHeader keywords.Dummy MAX_DUMMY m.words = record { number = d; words_are = parts.2; spelled = z.0; within = z.1 } in
+    let same : words_of ls ≡ rest = parts.3 in
     let first : line_judged true k (start whole) ≡ Ok (at Bids (number_of g) 0) =
     ok_line k (start whole) (goods_set (number_of g)) _
     (header_none keywords.Goods MAX_GOODS (start whole) goods_set (λ t. refl) (λ t. goods_second t.number) (λ v t. refl) refl refl k.number k.words goods) refl in

@@ -55,6 +55,11 @@ pub passed_by : (b : Bool) (r : Reading) (kind : Kind) (q : Progress) → cond b
 passed_by true r kind q e = (refl, e)
 passed_by false r kind q e = absurd (no_step kind q e)
 
+-- or that it would pass
+pub passes : (b : Bool) (kind : Kind) (r : Reading) → b ≡ false → cond b (Err kind) r ≡ r
+passes true kind r e = absurd (both_ways true e refl)
+passes false kind r e = refl
+
 pub equal_words : (v w : Word) → bytes_eq v w ≡ true → v ≡ w
 equal_words v w h = (bytes_eq-Decides v w).0 h
 
@@ -137,6 +142,10 @@ pub ok_line : (l : Line) (p m q : Progress) → words_judged l.number 1 l.words 
 ok_line l p m q e f =
     ap (λ j. judged_then j (λ r. cond (l.ended || true) (judged_at l.number (suc (length l.words)) [] (line_read r)) (judged r))) e
     ∙ or_whole l.ended _ (judged m) ∙ ap (judged_at l.number (suc (length l.words)) []) f
+
+pub end_none : (b : Bool) (place : PlainPlace) (p : Progress) → b ≡ false → cond b (fails place) (judged p) ≡ judged p
+end_none true place p e = absurd (both_ways true e refl)
+end_none false place p e = refl
 
 pub end_ok : (b : Bool) (place : PlainPlace) (p q : Progress) → cond b (Err place) (Ok p) ≡ Ok q → (b ≡ false) × (p ≡ q)
 end_ok true place p q e = absurd (no_place place q e)
