@@ -1,8 +1,8 @@
 //! Each public call once, on worked rows. Each has ample memory.
 
 use super::refusals::{expect_line, refusal_text};
-use bid_file::{BidFile, Bids, PackedFile};
-use canon::normal::{NamedFile, named_normal_file, normal_packed_file};
+use bid_file::{BidFile, Bids};
+use canon::normal::{Canonical, canonical_file};
 use canon::{CanonFault, canonical, file_of, normal_file, normalise};
 use cats_text::packed::read_packed;
 use cats_text::{read, write};
@@ -141,12 +141,9 @@ fn printed_file(alloc: Global, answer: Result<BidFile, CanonFault>) -> Result<St
 }
 
 /// The packed file that a call answered, as its text, or why there is none.
-fn printed_packed_file(
-    alloc: Global,
-    answer: Result<PackedFile, CanonFault>,
-) -> Result<String, Fail> {
+fn printed_canonical(alloc: Global, answer: Result<Canonical, CanonFault>) -> Result<String, Fail> {
     match answer {
-        Ok(file) => text_of(alloc, &file),
+        Ok(canonical) => text_of(alloc, &canonical.file),
         Err(fault) => refusal_text(alloc, fault),
     }
 }
@@ -170,8 +167,8 @@ fn canonical_packed_files(rt: HostRuntime) -> Result<(), Fail> {
         (EQUAL_SORT_KEYS, 1, EQUAL_SORT_KEYS_TEXT),
     ] {
         let file = read_packed(rt.alloc(), text.as_bytes())?;
-        let answer = normal_packed_file(rt.alloc(), file, SearchOptions::plain(*limit));
-        expect_line(&rt, &printed_packed_file(rt.alloc(), answer)?, expected);
+        let answer = canonical_file(rt.alloc(), &file, SearchOptions::plain(*limit));
+        expect_line(&rt, &printed_canonical(rt.alloc(), answer)?, expected);
     }
     Ok(())
 }
@@ -191,21 +188,18 @@ fn canonical_packed_files_on_words(rt: HostRuntime) -> Result<(), Fail> {
         let text = format!(in alloc; "{header}bids 2\ndummy 0\n0\t1\t{bundle}1\t2\t{bundle}")?;
         let expected = format!(in alloc; "{header}bids 1\ndummy 0\n0\t2\t{bundle}")?;
         let file = read_packed(alloc, text.as_bytes())?;
-        let answer = normal_packed_file(alloc, file, SearchOptions::plain(1));
-        expect_line(&rt, &printed_packed_file(alloc, answer)?, &expected);
+        let answer = canonical_file(alloc, &file, SearchOptions::plain(1));
+        expect_line(&rt, &printed_canonical(alloc, answer)?, &expected);
     }
     Ok(())
 }
 
-/// The file that a call answered, as its text with the dummy goods behind it, or why there is none.
-fn printed_named_file(
-    alloc: Global,
-    answer: Result<NamedFile, CanonFault>,
-) -> Result<String, Fail> {
+/// The same, with the dummy goods behind the text.
+fn printed_dummies(alloc: Global, answer: Result<Canonical, CanonFault>) -> Result<String, Fail> {
     match answer {
-        Ok(named) => {
-            let text = text_of(alloc, &named.file)?;
-            let dummies = named.dummies.as_slice();
+        Ok(canonical) => {
+            let text = text_of(alloc, &canonical.file)?;
+            let dummies = canonical.dummies.as_slice();
             Ok(format!(in alloc; "{text}{dummies:?}")?)
         }
         Err(fault) => refusal_text(alloc, fault),
@@ -219,8 +213,8 @@ fn named_files(rt: HostRuntime) -> Result<(), Fail> {
         (LARGER_BID, 2, "steps [0, 1]"),
     ] {
         let file = read_packed(rt.alloc(), text.as_bytes())?;
-        let answer = named_normal_file(rt.alloc(), &file, SearchOptions::plain(*limit));
-        expect_line(&rt, &printed_named_file(rt.alloc(), answer)?, expected);
+        let answer = canonical_file(rt.alloc(), &file, SearchOptions::plain(*limit));
+        expect_line(&rt, &printed_dummies(rt.alloc(), answer)?, expected);
     }
     Ok(())
 }

@@ -7,7 +7,7 @@ ghost use Rattle.canon.specs.Canonical.{IsCanonicalFile};
 use super::refusals::{expect_line, refusal_text};
 use bid_file::BidFile;
 use canon::laws::canonical_auctions_have_canonical_files;
-use canon::normal::normal_packed_file;
+use canon::normal::canonical_file;
 use canon::{CanonFault, Verdict, Which, canonical, compare, compare_files, file_of, normal_file};
 use cats_text::packed::read_packed;
 use cats_text::read;
@@ -172,10 +172,10 @@ fn files_of_canonical_auctions_differ(rt: HostRuntime) -> Result<(), Fail> {
 /// The first difference of the canonical packed files of two texts.
 fn packed_difference(alloc: Global, left: &str, right: &str) -> Result<Verdict, Fail> {
     let one = read_packed(alloc, left.as_bytes())?;
-    let one = normal_packed_file(alloc, one, SearchOptions::plain(100))?;
+    let one = canonical_file(alloc, &one, SearchOptions::plain(100))?;
     let other = read_packed(alloc, right.as_bytes())?;
-    let other = normal_packed_file(alloc, other, SearchOptions::plain(100))?;
-    let verdict = compare_files(alloc, &one, &other)?;
+    let other = canonical_file(alloc, &other, SearchOptions::plain(100))?;
+    let verdict = compare_files(alloc, &one.file, &other.file)?;
     Ok(verdict)
 }
 

@@ -5,7 +5,7 @@ use crate::bidders::bids::AMPLE;
 use crate::random::{Sizes, next_text, up_to};
 use analysis::reasons::{Reason, explain};
 use bid_file::{BidRef, Bids, PackedFile};
-use canon::normal::normal_packed_file;
+use canon::normal::canonical_file;
 use cats_text::packed::read_packed;
 use std::alloc::{AllocError, Global};
 use std::process::Abort;
@@ -203,13 +203,9 @@ fn check_text(rt: &impl Abort, alloc: Global, text: &str) -> Result<(), Fail> {
     let goods = file.goods();
     assert_eq!(rt; u64::from(goods), GOODS);
     let reasons = explain(alloc, &file, AMPLE, None)?;
-    let normal = normal_packed_file(
-        alloc,
-        read_packed(alloc, text.as_bytes())?,
-        SearchOptions::plain(AMPLE),
-    )?;
+    let canonical = canonical_file(alloc, &file, SearchOptions::plain(AMPLE))?;
     let bids = bids_of(alloc, &file)?;
-    let normal_bids = bids_of(alloc, &normal)?;
+    let normal_bids = bids_of(alloc, &canonical.file)?;
     let all = Explained {
         bids: &bids,
         normal: &normal_bids,

@@ -1,9 +1,9 @@
--- `prune_xor_noting`: from the next one on the best bids are as they were; what is kept of those before it, the prefix, is as it should be;
+-- `decide_xor_bids`: from the next one on the best bids are as they were; what is kept of those before it, the prefix, is as it should be;
 -- and what was noted is what becomes of them, by the prefix.
-use Rattle.prune.proofs.Common.{◌≡◌, ◌≤◌, true, map, take, IfSome, atoms_of, xor_fate, IsIndexOf}
+use Rattle.prune.proofs.Common.{◌≡◌, ◌≤◌, map, take, IfSome, atoms_of, xor_fate, IsIndexOf}
 use Rattle.prune.proofs.Prefixes.{IsLeft}
 use Rattle.prune.proofs.Results.{IsXorKept}
-use Rattle.prune.proofs.xor.prune_xor_noting.Given as goal
+use Rattle.prune.proofs.xor.decide_xor_bids.Given as goal
 
 abbrev pub invariant-loop-next : goal.invariant-loop-next
 invariant-loop-next g l =
@@ -15,6 +15,5 @@ invariant-loop-next g l =
       index : IfSome l.index (IsIndexOf prefix);
       kept : IsXorKept done prefix;
       fewer : l.kept ≤ l.next;
-      wanted : l.log.wanted ≡ l.fn.log.wanted;
-      noted : l.fn.log.wanted ≡ true → l.log.fates.items ≡ map (xor_fate prefix) done;
+      noted : l.fates.items ≡ map (xor_fate prefix) done;
     }

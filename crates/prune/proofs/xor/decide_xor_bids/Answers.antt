@@ -1,15 +1,15 @@
--- `prune_xor_noting`
+-- `decide_xor_bids`
 -- A turn of the loop keeps a bid exactly if no kept bid inside its bundle dominates it, which is a turn of proofs/Results; and at the
 -- end the kept bids are the points.
 use Rattle.prune.proofs.Common.{◌<◌, ◌≤◌, cond, [], ◌∷◌, ◌++◌, append-nil, length, refl, sym, ◌∙◌, subst, take, arith, rules, ap, MAX_GOODS, atoms_of}
-use Rattle.prune.proofs.Common.{plain_atom, IsIndexOf, on_bundles, just_bundles, is_some, IfSome, xor_points, xor_fate}
+use Rattle.prune.proofs.Common.{plain_atom, IsIndexOf, on_bundles, is_some, IfSome, xor_points, xor_value, xor_fate, ArePoints}
 use Rattle.prune.proofs.Prefixes.{next_left}
 use Rattle.prune.proofs.NotedFates.{noted_all, xor_noted_dropped, xor_noted_kept}
 use Rattle.prune.proofs.FirstDominating.{is_some-first_dominating}
-use Rattle.prune.proofs.PruningLoop.{next_turn, one_done, one_kept, xor_end, dominates_is}
-use Rattle.prune.proofs.Results.{turn_positive, turn_next, xor_reached, xor_missed}
-use Rattle.prune.proofs.xor.prune_xor_noting.Goals as goal
-use Rattle.prune.proofs.xor.prune_xor_noting.Goals.{then-is_none, else-is_none}
+use Rattle.prune.proofs.PruningLoop.{next_turn, one_done, one_kept, all_done, dominates_is}
+use Rattle.prune.proofs.Results.{IsXorKept, turn_positive, turn_next, xor_done, xor_reached, xor_missed}
+use Rattle.prune.proofs.xor.decide_xor_bids.Goals as goal
+use Rattle.prune.proofs.xor.decide_xor_bids.Goals.{then-is_none, else-is_none}
 
 pub first_kept_dominating-requires-clause-next : goal.first_kept_dominating-requires-clause-next
 first_kept_dominating-requires-clause-next g c =
@@ -23,7 +23,7 @@ first_kept_dominating-requires-clause-next g c =
     let there : next < length now.items = omega (arith, c.loop-next-test.true, c.len-next-end.ensures, best.ok.0, h.left.long) in
     let turn = next_turn goods (λ s. (g.met.S.GoodsSet.is_bundle s).0) (atoms_of goods c.args.atoms.items) best.items now.items next bid
     c.in_ok-keep_best_bids.ensures.best h.left there c.index.ensures in
-    rw c.deref-in-loop-next.ensures.value (turn_next MAX_GOODS _ _ _ _ kept turn c.requires.atoms h.kept.in_order h.kept.among)
+    rw c.deref-in-loop-next.ensures.value (turn_next MAX_GOODS _ _ _ _ kept turn c.requires h.kept.in_order h.kept.among)
 
 pub first_kept_dominating-requires-clause-index : goal.first_kept_dominating-requires-clause-index
 first_kept_dominating-requires-clause-index g c = rw c.deref-in-loop-next.ensures.value c.loop-next.invariant.index
@@ -63,9 +63,8 @@ loop-next-preserved g c =
             index = rw more (subst (λ b. IfSome index (IsIndexOf (kept ++ cond b [] (plain_atom goods bid ∷ [])))) w.if-is_none.ensures indexed);
             kept = rw (done, more) (xor_missed _ _ _ _ kept turn h.kept (sym w.if-is_none.ensures ∙ reaches));
             fewer = omega (arith, h.fewer);
-            wanted = c.note.ensures.wanted ∙ h.wanted;
-            noted = λ w.
-                rw (done, more) (xor_noted_kept _ _ _ _ kept turn h.kept.among _ _ found (c.in_ok-note.ensures.noted (h.wanted ∙ w)) answer (h.noted w));
+            noted =
+                rw (done, more) (xor_noted_kept _ _ _ _ kept turn h.kept.among _ _ found c.in_ok-push.ensures.items answer h.noted);
           })
       | else-is_none w ↦
           rw (w.atoms-is, w.kept-is) (record {
@@ -74,9 +73,8 @@ loop-next-preserved g c =
                 (subst (λ b. IfSome index (IsIndexOf (kept ++ cond b [] (plain_atom goods bid ∷ [])))) w.if-is_none.ensures indexed);
             kept = rw done (xor_reached _ _ _ _ kept turn h.kept (sym w.if-is_none.ensures ∙ reaches));
             fewer = omega (arith, h.fewer);
-            wanted = c.note.ensures.wanted ∙ h.wanted;
-            noted = λ w.
-                rw done (xor_noted_dropped _ _ _ _ kept turn h.kept.among _ _ found (c.in_ok-note.ensures.noted (h.wanted ∙ w)) answer (h.noted w));
+            noted =
+                rw done (xor_noted_dropped _ _ _ _ kept turn h.kept.among _ _ found c.in_ok-push.ensures.items answer h.noted);
           })
     ]
 
@@ -87,15 +85,13 @@ returns g c =
     let best = c.keep_best_bids.new.bids in
     let h = c.loop-next.invariant in
     let all : length best.items ≤ c.loop-next.next = omega (arith, c.loop-next-test.false, c.len-next-end.ensures, best.ok.0) in
-    let done = xor_end goods bids best.items _ _ c.loop-next.next c.in_ok-keep_best_bids.ensures.best h.kept all c.truncate.ensures.items in
+    let best_are = c.in_ok-keep_best_bids.ensures.best in
+    let points = all_done goods IsXorKept (ArePoints xor_points xor_value bids) best.items _ _ c.loop-next.next h.kept all c.truncate.ensures.items
+    (xor_done bids _ _ best_are) in
     record {
-      points = λ n are. done.points n (just_bundles n bids (on_bundles n bids are));
-      values = done.values;
-      bids = done.among;
-      in_order = done.in_order;
+      points = points;
       no_longer = search rules;
-      fates = λ w n are.
-          let on = on_bundles n bids are in
-          noted_all goods xor_fate n bids (xor_points n bids) best.items _ _ c.loop-next.next _ on c.in_ok-keep_best_bids.ensures.best all
-          c.truncate.ensures.items (done.points n (just_bundles n bids on)) (h.noted w);
+      fates = λ n are.
+          noted_all goods xor_fate n bids (xor_points n bids) best.items _ _ c.loop-next.next _ (on_bundles n bids are) best_are all
+          c.truncate.ensures.items (points.points n are) h.noted;
     }

@@ -1,10 +1,10 @@
--- `prune_or_by`: from the next one on the best bids are as they were; what is kept of those before it, the prefix, is as it should be;
+-- `decide_or_bids`: from the next one on the best bids are as they were; what is kept of those before it, the prefix, is as it should be;
 -- what is left of the limits decides on those from it on; and what was noted is what becomes of those before it, by the prefix.
-use Rattle.prune.proofs.Common.{◌≡◌, ◌≤◌, true, map, drop, take, atoms_of, or_fate, plain_fate, IsFinderOf}
+use Rattle.prune.proofs.Common.{◌≡◌, ◌≤◌, map, drop, take, atoms_of, or_fate, plain_fate, IsFinderOf}
 use Rattle.prune.proofs.Prefixes.{IsLeft}
 use Rattle.prune.proofs.Refusals.{IsWithin}
 use Rattle.prune.proofs.Results.{IsOrKept}
-use Rattle.prune.proofs.or.prune_or_by.Given as goal
+use Rattle.prune.proofs.or.decide_or_bids.Given as goal
 
 abbrev pub invariant-loop-next : goal.invariant-loop-next
 invariant-loop-next g l =
@@ -18,6 +18,5 @@ invariant-loop-next g l =
       kept : IsOrKept done prefix;
       within : IsWithin l.fn.options l.finder.search.options (atoms_of goods l.fn.atoms.items) rest;
       fewer : l.kept ≤ l.next;
-      wanted : l.log.wanted ≡ l.fn.log.wanted;
-      noted : l.fn.log.wanted ≡ true → map plain_fate l.log.fates.items ≡ map (or_fate l.fn.options.kind prefix) done;
+      noted : map plain_fate l.fates.items ≡ map (or_fate l.fn.options.kind prefix) done;
     }

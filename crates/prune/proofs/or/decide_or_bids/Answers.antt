@@ -1,15 +1,15 @@
--- `prune_or_by`: A turn of the loop keeps a bid exactly if the search does not reach its price, which is a turn of proofs/Results; a search that
+-- `decide_or_bids`: A turn of the loop keeps a bid exactly if the search does not reach its price, which is a turn of proofs/Results; a search that
 -- gives up has found a heavy bundle; and at the end the kept bids are the points.
-use Rattle.prune.proofs.Common.{Err, ◌≡◌, ◌<◌, ◌≤◌, length, refl, sym, ap, ◌∙◌, subst, take, cond, [], ◌∷◌, ◌++◌, arith, append-nil, map, rules, get_or_read}
-use Rattle.prune.proofs.Common.{MAX_GOODS, SearchOptions, atoms_of, or_value, plain_atom, or_value-price, or_value-filter_le, or_fate, plain_fate, IsFinderOf}
-use Rattle.prune.proofs.Common.{on_bundles, or_points}
+use Rattle.prune.proofs.Common.{Err, ◌≡◌, ◌<◌, ◌≤◌, length, refl, sym, ap, ◌∙◌, subst, take, cond, [], ◌∷◌, ◌++◌, arith, append-nil, rules, get_or_read}
+use Rattle.prune.proofs.Common.{MAX_GOODS, SearchOptions, atoms_of, or_value, plain_atom, or_value-price, or_value-filter_le, or_fate, IsFinderOf}
+use Rattle.prune.proofs.Common.{on_bundles, or_points, ArePoints}
 use Rattle.prune.proofs.NotedFates.{noted_all, or_noted_dropped, or_noted_kept}
 use Rattle.prune.proofs.Prefixes.{next_left}
 use Rattle.prune.proofs.Pruning.{IsKept-none}
-use Rattle.prune.proofs.PruningLoop.{next_turn, one_done, one_kept, one_left, none_left, or_end, all_some}
+use Rattle.prune.proofs.PruningLoop.{next_turn, one_done, one_kept, one_left, none_left, all_done, all_some}
 use Rattle.prune.proofs.Refusals.{IsWithin, IsWithin-end, IsWithin-next, IsWithin-refused, IsWithin-start}
-use Rattle.prune.proofs.Results.{turn_next, or_more, or_reached, or_missed}
-use Rattle.prune.proofs.or.prune_or_by.Goals as goal
+use Rattle.prune.proofs.Results.{IsOrKept, turn_next, or_done, or_more, or_reached, or_missed}
+use Rattle.prune.proofs.or.decide_or_bids.Goals as goal
 
 pub decide-requires-clause-next : goal.decide-requires-clause-next
 decide-requires-clause-next g c =
@@ -20,7 +20,7 @@ decide-requires-clause-next g c =
     omega (arith, c.loop-next-test.true, c.len-next-end.ensures, c.keep_best_bids.new.bids.ok.0, h.left.long) in
     let turn = next_turn goods (λ s. (g.met.S.GoodsSet.is_bundle s).0) _ _ now.items c.loop-next.next c.index.result.now
     c.in_ok-keep_best_bids.ensures.best h.left there c.index.ensures in
-    rw c.deref-in-loop-next.ensures.value (turn_next MAX_GOODS _ _ _ _ _ turn c.requires.atoms h.kept.in_order h.kept.among)
+    rw c.deref-in-loop-next.ensures.value (turn_next MAX_GOODS _ _ _ _ _ turn c.requires h.kept.in_order h.kept.among)
 
 pub decide-requires-clause-finder : goal.decide-requires-clause-finder
 decide-requires-clause-finder g c = rw c.deref-in-loop-next.ensures.value c.loop-next.invariant.finder
@@ -36,8 +36,7 @@ loop-next-init g c =
       within = subst (λ (o : SearchOptions). IsWithin c.args.options o bids best) (sym c.in_ok-finder.ensures.options)
           (IsWithin-start c.args.options bids best c.in_ok-keep_best_bids.ensures.best);
       fewer = omega arith;
-      wanted = refl;
-      noted = λ _. ap (map plain_fate) c.requires.empty;
+      noted = search rules;
     }
 
 pub loop-next-preserved-then-is_dropped : goal.loop-next-preserved-then-is_dropped
@@ -62,10 +61,9 @@ loop-next-preserved-then-is_dropped g c =
       kept = rw done (or_reached _ _ _ _ kept turn h.kept (sym dropped ∙ decided.answer.answer));
       within = IsWithin-next _ _ _ _ _ _ kept turn h.kept within _ decided.within decided.left;
       fewer = omega (arith, h.fewer);
-      wanted = c.note.ensures.wanted ∙ h.wanted;
-      noted = λ w.
+      noted =
           rw done (or_noted_dropped _ _ _ _ kept turn h.kept.among c.args.options.kind _ h.within.kind _ _ c.in-Ok.found
-          (c.in_ok-note.ensures.noted (h.wanted ∙ w)) decided.answer.answer decided.answer.indices (h.noted w));
+          c.in_ok-push.ensures.items decided.answer.answer decided.answer.indices h.noted);
     }
 
 pub loop-next-preserved : goal.loop-next-preserved
@@ -93,10 +91,9 @@ loop-next-preserved g c =
       kept = rw (done, more) (or_missed _ _ _ _ kept turn h.kept (sym missed ∙ decided.answer.answer));
       within = IsWithin-next _ _ _ _ _ _ kept turn h.kept within _ decided.within decided.left;
       fewer = omega (arith, h.fewer);
-      wanted = c.note.ensures.wanted ∙ h.wanted;
-      noted = λ w.
+      noted =
           rw (done, more) (or_noted_kept _ _ _ _ kept turn h.kept.among c.args.options.kind _ h.within.kind _ _ c.in-Ok.found
-          (c.in_ok-note.ensures.noted (h.wanted ∙ w)) decided.answer.answer decided.answer.indices (h.noted w));
+          c.in_ok-push.ensures.items decided.answer.answer decided.answer.indices h.noted);
     }
 
 pub returns-in-Err-StepLimit-clause-refused : goal.returns-in-Err-StepLimit-clause-refused
@@ -124,20 +121,17 @@ returns g c =
     let best = c.keep_best_bids.new.bids in
     let options = c.loop-next.finder.search.options in
     let all : length best.items ≤ c.loop-next.next = omega (arith, c.loop-next-test.false, c.len-next-end.ensures, best.ok.0) in
-    let done = or_end goods bids best.items _ _ c.loop-next.next (all_some MAX_GOODS bids c.requires.atoms) c.in_ok-keep_best_bids.ensures.best h.kept all
-    c.truncate.ensures.items in
+    let best_are = c.in_ok-keep_best_bids.ensures.best in
+    let points = all_done goods IsOrKept (ArePoints or_points or_value bids) best.items _ _ c.loop-next.next h.kept all c.truncate.ensures.items
+    (or_done bids _ _ (all_some MAX_GOODS bids c.requires) best_are) in
     record {
-      points = λ n are. done.points n (on_bundles n bids are);
+      points = points;
+      no_longer = search rules;
       none_refused = λ n are.
           IsWithin-end c.args.options options bids (subst (IsWithin c.args.options options bids) (none_left goods best.items c.loop-next.next all) h.within)
           n are;
-      values = done.values;
-      bids = done.among;
-      in_order = done.in_order;
-      no_longer = search rules;
       refused = tt;
-      fates = λ w n are.
-          let on = on_bundles n bids are in
-          noted_all goods (or_fate c.args.options.kind) n bids (or_points n bids) best.items _ _ c.loop-next.next _ on c.in_ok-keep_best_bids.ensures.best all
-          c.truncate.ensures.items (done.points n on) (h.noted w);
+      fates = λ n are.
+          noted_all goods (or_fate c.args.options.kind) n bids (or_points n bids) best.items _ _ c.loop-next.next _ (on_bundles n bids are) best_are all
+          c.truncate.ensures.items (points.points n are) h.noted;
     }
