@@ -1,0 +1,7 @@
+-- `has`
+use Rattle.prune.proofs.Common.{◌≡◌, take, has_good}
+use Rattle.by_number.proofs.has.Given as goal
+
+-- whether the good is one of those so far
+abbrev pub invariant-loop-each : goal.invariant-loop-each
+invariant-loop-each l = l.found ≡ has_good (take l.each-index l.goods) l.good
