@@ -1,0 +1,24 @@
+-- Proofs that several functions of this crate cite.
+pub mod Common
+pub mod Numberings
+pub mod Bundles
+pub mod FirstWrong
+pub mod Taken
+pub mod Values
+pub mod Auctions
+pub mod Members
+pub mod Points
+pub mod Images
+pub mod Rounds
+pub mod Counts
+pub mod Places
+pub mod WholeCells
+pub mod Leaves
+pub mod Steps
+pub mod CanonicalNumbers
+pub mod Headline
+pub mod Runs
+pub mod Keys
+pub mod Bids
+pub mod Sameness
+pub mod RoundByRound

@@ -1,0 +1,33 @@
+-- Sums over the bids of a bidder, bid by bid, that wrap.
+use Rattle.renumbering.proofs.Common.{All, ap, ap₂, AreOn, arith, get_or, get_or-map, get_or_from_slice_get, length, length-map, List, map, PlainBid, slice_get}
+use Rattle.renumbering.proofs.Common.{slice_get-get_or, slice_get_within, Some, subst, sum_by, sum_by_more, sym, take, ℕ, ◌%◌, ◌+◌, ◌<◌, ◌^◌, ◌∙◌, ◌≡◌}
+
+-- the goods of the bid at an index
+pub bid_on : (n : ℕ) (bids : List PlainBid) (i : ℕ) (b : PlainBid) → AreOn n bids → slice_get bids i ≡ Some b → All (λ good. good < n) b.goods
+bid_on n bids i b h there =
+    subst (λ (c : PlainBid). All (λ good. good < n) c.goods) (get_or_from_slice_get bids i b b there) (h i b (slice_get_within bids i b there))
+
+-- the element at an index, as a loop over a slice has it
+pub there : {X : Type 0} (xs : List X) (i : ℕ) (x : X) → i < length xs → x ≡ get_or xs i x → slice_get xs i ≡ Some x
+there xs i x l e = slice_get-get_or xs i x l ∙ ap Some (sym e)
+
+-- one more element
+pub sum_more : {X Y : Type 0} (f : Y → ℕ) (seen : X → Y) (xs : List X) (i : ℕ) (x : X) → slice_get xs i ≡ Some x
+    → sum_by f (take (i + 1) (map seen xs)) ≡ sum_by f (take i (map seen xs)) + f (seen x)
+sum_more {Y = Y} f seen xs i x there =
+    let within : i < length xs = slice_get_within xs i x there in
+    let also : i < length (map seen xs) = subst (λ (n : ℕ). i < n) (sym (length-map xs seen)) within in
+    sum_by_more f (map seen xs) i (seen x) also
+    ∙ ap (λ (y : Y). sum_by f (take i (map seen xs)) + f y)
+    (get_or-map seen xs i x (seen x) within ∙ ap seen (get_or_from_slice_get xs i x x there))
+
+-- a sum that wraps, and one more
+wrapped : (start sum more : ℕ) → ((start + sum) % 2 ^ 64 + more) % 2 ^ 64 ≡ (start + (sum + more)) % 2 ^ 64
+wrapped start sum more = omega arith
+
+pub sum_wraps : {X Y : Type 0} (f : Y → ℕ) (seen : X → Y) (xs : List X) (i : ℕ) (x : X) (start before more after : ℕ) → slice_get xs i ≡ Some x
+    → before ≡ (start + sum_by f (take i (map seen xs))) % 2 ^ 64 → more ≡ f (seen x) → after ≡ (before + more) % 2 ^ 64
+    → after ≡ (start + sum_by f (take (i + 1) (map seen xs))) % 2 ^ 64
+sum_wraps f seen xs i x start before more after there so_far one total =
+    total ∙ ap₂ (λ (b m : ℕ). (b + m) % 2 ^ 64) so_far one ∙ wrapped start (sum_by f (take i (map seen xs))) (f (seen x))
+    ∙ ap (λ (all : ℕ). (start + all) % 2 ^ 64) (sym (sum_more f seen xs i x there))
