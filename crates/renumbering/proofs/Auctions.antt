@@ -1,10 +1,10 @@
 -- Auctions and files under other numbers: they keep the limits, the range of all goods changes nothing, and two numberings are joined.
-use Rattle.renumbering.proofs.Common.{All, All-map, All-weaker, AllByRecursion, ap, ap₂, arith, Atom, atom_of, auction_from, Bool, filter, fun_ext, is_dummy}
+use Rattle.renumbering.proofs.Common.{joined, All, All-map, All-weaker, AllByRecursion, ap, ap₂, arith, Atom, atom_of, auction_from, Bool, filter, fun_ext, is_dummy}
 use Rattle.renumbering.proofs.Common.{is_none, IsAtom, IsAuction, IsBid, IsBidFile, IsNumbering, length, length-map, List, map, map-id, map-map, map_same_on}
 use Rattle.renumbering.proofs.Common.{MAX_BIDS, PlainAuction, PlainBid, PlainFile, range_with_len, refl, renumbered, renumbered_atom, renumbered_atoms}
 use Rattle.renumbering.proofs.Common.{renumbered_bid, renumbered_file, rules, subst, sum_by, sum_by-cons, sym, xor_atoms_of, ℕ, [], ◌<◌, ◌∙◌, ◌∷◌, ◌≡◌, ◌≤◌}
 use Rattle.renumbering.proofs.Bundles.{IsBundle-renumbered, length-renumbered_bundle, renumbered_bundle-joined, renumbered_bundle-range}
-use Rattle.renumbering.proofs.Numberings.{joined}
+
 
 -- auctions with the same bids
 abbrev pub with_bids : ℕ → List (Atom (List ℕ)) → List (List (Atom (List ℕ))) → PlainAuction

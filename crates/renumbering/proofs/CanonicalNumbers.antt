@@ -1,5 +1,5 @@
 -- The canonical auction of a canonical auction under other numbers has the same points under these numbers, in its own order.
-use Rattle.renumbering.proofs.Common.{All, All-contains, All-from_Contains, All-head, All-map, All-tail, All-weaker, ap, Atom, bidder_cmp, Bool, both_ways}
+use Rattle.renumbering.proofs.Common.{inverse, All, All-contains, All-from_Contains, All-head, All-map, All-tail, All-weaker, ap, Atom, bidder_cmp, Bool, both_ways}
 use Rattle.renumbering.proofs.Common.{canonical_auction, canonical_bidders, cases_Bool, Contains, Contains-filter_parts, Contains-permutation, Contains-unmap}
 use Rattle.renumbering.proofs.Common.{false, filter, filter-kept, HasAtoms, is_nonzero, IsAtom, IsCanonical, IsNumbering, IsPermutation, IsPermutation-sym}
 use Rattle.renumbering.proofs.Common.{just_bundles, List, map, map-map, nat_cmp, nonzero_bidders, number_in, on_bundles, or_points, permutation-sort_by}
@@ -7,7 +7,7 @@ use Rattle.renumbering.proofs.Common.{PlainAuction, points_of_bidders, refl, ren
 use Rattle.renumbering.proofs.Common.{sym, true, xor_points, xor_points_again, xor_points_table, xor_table, ℕ, [], ⊎_elim, ◌∙◌, ◌∷◌, ◌≡◌}
 use Rattle.renumbering.proofs.Auctions.{atoms_renumbered, map_itself}
 use Rattle.renumbering.proofs.Images.{AreRenamedAtoms, images_of_map, IsRenamedAtom, IsRenamedAuction, Zip}
-use Rattle.renumbering.proofs.Numberings.{inverse, inverse_numbers}
+use Rattle.renumbering.proofs.Numberings.{inverse_numbers}
 use Rattle.renumbering.proofs.Points.{atom_back, or_points_moved, xor_points_moved}
 use Rattle.renumbering.proofs.Sameness.{zero-renumbered}
 

@@ -75,7 +75,7 @@ module _ (f g : PlainFile) (h : IsPlainFile f) (k : IsPlainFile g) (s : AreSameF
   moved_same =
       same_trans (renumbered s.numbering one) (renumbered s.numbering (auction_from f)) (auction_from g)
       (same_sym (renumbered s.numbering (auction_from f)) (renumbered s.numbering one)
-      (same_renumbered s.numbering (auction_from f) one s.numbers (HasAtoms-file f h) atoms (canonical_is_same (auction_from f) (HasAtoms-file f h)))) s.same
+      (same_renumbered s.numbering (auction_from f) one s.under.numbers (HasAtoms-file f h) atoms (canonical_is_same (auction_from f) (HasAtoms-file f h)))) s.under.same
 
   canonical_same : IsSameAuction (renumbered s.numbering one) other
   canonical_same =
@@ -84,18 +84,18 @@ module _ (f g : PlainFile) (h : IsPlainFile f) (k : IsPlainFile g) (s : AreSameF
   renamed : IsRenamedAuction (number_in s.numbering) one other
   renamed =
       subst (IsRenamedAuction (number_in s.numbering) one)
-      (same_canonical (renumbered s.numbering one) (auction_from g) (HasAtoms-renumbered s.numbering one s.numbers atoms) (HasAtoms-file g k) moved_same)
-      (canonical_renamed s.numbering one s.numbers atoms (canonical_is_fixed (auction_from f) (HasAtoms-file f h)))
+      (same_canonical (renumbered s.numbering one) (auction_from g) (HasAtoms-renumbered s.numbering one s.under.numbers atoms) (HasAtoms-file g k) moved_same)
+      (canonical_renamed s.numbering one s.under.numbers atoms (canonical_is_fixed (auction_from f) (HasAtoms-file f h)))
 
   leaves_there : (mix : ℕ → ℕ → ℕ) (path : List ℕ) (leaf : Leaf) → HasLeaf mix one path (first_colours mix one) leaf
       → HasLeaf mix other (map (number_in s.numbering) path) (first_colours mix other) leaf
   leaves_there mix path leaf there =
-      first_leaf_same mix one other s.numbering s.numbers renamed atoms (HasAtoms-canonical (auction_from g) (HasAtoms-file g k)) canonical_same path leaf there
+      first_leaf_same mix one other s.numbering s.under.numbers renamed atoms (HasAtoms-canonical (auction_from g) (HasAtoms-file g k)) canonical_same path leaf there
 
   pub exceeds_there : (mix : ℕ → ℕ → ℕ) (limit : ℕ) → ExceedsLimitOfFile mix f limit → ExceedsLimitOfFile mix g limit
   exceeds_there mix limit more = record {
     depth = more.depth;
-    more = subst (λ (steps : ℕ). limit < steps) (sym (search_steps_same mix one other s.numbering s.numbers renamed more.depth)) more.more;
+    more = subst (λ (steps : ℕ). limit < steps) (sym (search_steps_same mix one other s.numbering s.under.numbers renamed more.depth)) more.more;
   }
 
 files_sym : (f g : PlainFile) → IsPlainFile f → IsPlainFile g → AreSameFilesUpToNumbers f g → AreSameFilesUpToNumbers g f
@@ -119,7 +119,7 @@ least_same mix f g h k s t u least also =
     (neither_greater (leaf_cmp t u) (leaf_cmp u t) (leaf_total.antisymm t u) down up)
   where
     renamed_goods : f.goods ≡ g.goods
-    renamed_goods = s.same.goods
+    renamed_goods = s.under.same.goods
 
 -- the renumbered file of a file is that of each that is the same up to numbers
 pub renumbered_there : (mix : ℕ → ℕ → ℕ) (f g out : PlainFile) → IsPlainFile f → IsPlainFile g → AreSameFilesUpToNumbers f g → IsRenumberedFile mix f out
@@ -169,8 +169,7 @@ module _ (mix : ℕ → ℕ → ℕ) (f out : PlainFile) (h : IsPlainFile f) (fr
       (up_to_numbers_from_same (auction_from f) canonical (HasAtoms-file f h) (canonical_is_same (auction_from f) (HasAtoms-file f h)))
       (record {
         numbering = numbers_by_colour canonical.goods found.0;
-        numbers = colours_number canonical.goods found.0;
-        same = canonical_is_same moved moved_atoms;
+        under = record { numbers = colours_number canonical.goods found.0; same = canonical_is_same moved moved_atoms };
       }))
 
   pub canonical_out : IsCanonicalFile out
@@ -189,31 +188,30 @@ module _ (mix : ℕ → ℕ → ℕ) (f out : PlainFile) (h : IsPlainFile f) (fr
 pub renumbered_again : (mix : ℕ → ℕ → ℕ) (f out : PlainFile) → IsPlainFile f → IsRenumberedFile mix f out → IsRenumberedFile mix out out
 renumbered_again mix f out h from = renumbered_there mix f out out h (plain_out mix f out h from) (same_as_renumbered mix f out h from) from
 
+pub same_from_equal : (mix : ℕ → ℕ → ℕ) (f g s t : PlainFile) → IsPlainFile f → IsPlainFile g → IsRenumberedFile mix f s → IsRenumberedFile mix g t → s ≡ t
+    → AreSameFilesUpToNumbers f g
+same_from_equal mix f g s t h k one other e =
+    let there : AreSameFilesUpToNumbers f t = subst (AreSameFilesUpToNumbers f) e (same_as_renumbered mix f s h one) in
+    let back = files_sym g t k (plain_out mix g t k other) (same_as_renumbered mix g t k other) in
+    up_to_numbers_trans (auction_from f) (auction_from t) (auction_from g) (HasAtoms-file f h) (HasAtoms-file t (plain_out mix g t k other)) there back
+
 -- ---- texts
 
 module _ (mix : ℕ → ℕ → ℕ) (one other s t : List ℕ) (p : IsRenumberedText mix one s) (q : IsRenumberedText mix other t) where
   pub same_from_texts : s ≡ t → AreSameTextsUpToNumbers one other
   same_from_texts e =
-      let f = p.file in
-      let g = q.file in
-      let h : IsPlainFile f = p.spelled.facts in
-      let k : IsPlainFile g = q.spelled.facts in
+      let h : IsPlainFile p.file = p.spelled.facts in
+      let k : IsPlainFile q.file = q.spelled.facts in
       let left : Spells s p.renumbered =
-      subst (λ (text : List ℕ). Spells text p.renumbered) (sym p.is) (laid_out.layout_spells p.renumbered (plain_out mix f p.renumbered h p.from)) in
+      subst (λ (text : List ℕ). Spells text p.renumbered) (sym p.is) (laid_out.layout_spells p.renumbered (plain_out mix p.file p.renumbered h p.from)) in
       let right : Spells s q.renumbered =
-      subst (λ (text : List ℕ). Spells text q.renumbered) (sym q.is ∙ sym e) (laid_out.layout_spells q.renumbered (plain_out mix g q.renumbered k q.from)) in
-      let files : p.renumbered ≡ q.renumbered = spells_one s p.renumbered q.renumbered left right in
-      let there : AreSameFilesUpToNumbers f q.renumbered =
-      subst (AreSameFilesUpToNumbers f) files (same_as_renumbered mix f p.renumbered h p.from) in
-      let back : AreSameFilesUpToNumbers q.renumbered g =
-      files_sym g q.renumbered k (plain_out mix g q.renumbered k q.from) (same_as_renumbered mix g q.renumbered k q.from) in
+      subst (λ (text : List ℕ). Spells text q.renumbered) (sym q.is ∙ sym e) (laid_out.layout_spells q.renumbered (plain_out mix q.file q.renumbered k q.from)) in
       record {
-        first = f;
-        second = g;
+        first = p.file;
+        second = q.file;
         first_spelled = p.spelled;
         second_spelled = q.spelled;
-        same = up_to_numbers_trans (auction_from f) (auction_from q.renumbered) (auction_from g) (HasAtoms-file f h)
-            (HasAtoms-file q.renumbered (plain_out mix g q.renumbered k q.from)) there back;
+        same = same_from_equal mix p.file q.file p.renumbered q.renumbered h k p.from q.from (spells_one s p.renumbered q.renumbered left right);
       }
 
   pub texts_from_same : AreSameTextsUpToNumbers one other → s ≡ t

@@ -1,5 +1,5 @@
 -- The leaves of an auction are those of each renumbered one, and as many steps lead to them.
-use Rattle.renumbering.proofs.Common.{All, All-contains, All-from_Contains, ap, are_stable, arith, Atom, below_good, Bool, both_ways, canonical_auction}
+use Rattle.renumbering.proofs.Common.{joined, All, All-contains, All-from_Contains, ap, are_stable, arith, Atom, below_good, Bool, both_ways, canonical_auction}
 use Rattle.renumbering.proofs.Common.{cases_Bool, cell_size, cond, Contains, Contains-cons_cases, count_by, eqb, eqb-true, false, first_colours, get_or_past}
 use Rattle.renumbering.proofs.Common.{good_weight, has_below, HasAtoms, HasLeaf, is_before, is_cut, is_cut_by, IsAtom, IsNumbering, IsPermutation}
 use Rattle.renumbering.proofs.Common.{IsPermutation-sym, IsSameAuction, larger, largest_cut, Leaf, length-range_with_len, List, list_all_at, list_any}
@@ -9,10 +9,9 @@ use Rattle.renumbering.proofs.Common.{same_canonical, set_apart, slice_index, So
 use Rattle.renumbering.specs.Cells.{largest}
 use Rattle.renumbering.specs.Colours.{colours_after}
 use Rattle.renumbering.proofs.Auctions.{auction_alike, renumbered-joined}
-use Rattle.renumbering.proofs.Counts.{count_all, count_more}
 use Rattle.renumbering.proofs.Images.{images_of_map, images_sum, IsRenamedAuction, IsRenaming}
-use Rattle.renumbering.proofs.Numberings.{joined, joined_numbers, number_below, number_in-joined, number_kept, numbers_differ, numbers_of_range}
-use Rattle.renumbering.proofs.Places.{before_itself, lower}
+use Rattle.renumbering.proofs.Numberings.{joined_numbers, number_below, number_in-joined, number_kept, numbers_differ, numbers_of_range}
+use Rattle.renumbering.proofs.Places.{lower, rank_below}
 use Rattle.renumbering.proofs.Rounds.{at_good, largest_cut_same, Match, refined_match, set_apart_match, trace_same}
 use Rattle.renumbering.proofs.Sameness.{HasAtoms-renumbered, same_renumbered}
 use Rattle.renumbering.proofs.WholeCells.{bundles_alike, colours_number, has_whole_cell, number_is_place, same_colour}
@@ -24,14 +23,7 @@ module _ (mix : ℕ → ℕ → ℕ) (a : PlainAuction) where
   AreRanks cs = (g : ℕ) → g < a.goods → slice_index cs g < a.goods
 
   next_below : (cs : List ℕ) (g : ℕ) → g < a.goods → next_colour mix a (slice_index cs) g < a.goods
-  next_below cs g l =
-      let c : ℕ → ℕ = slice_index cs in
-      let weight : ℕ → ℕ = good_weight mix a c in
-      let long : count_by (λ (x : ℕ). true) (range_with_len 0 a.goods) ≡ a.goods = count_all (range_with_len 0 a.goods) ∙ length-range_with_len 0 a.goods in
-      let fewer : next_colour mix a c g < count_by (λ (x : ℕ). true) (range_with_len 0 a.goods) =
-      count_more (λ h. is_before (c h) (weight h) (c g) (weight g)) (λ h. true) g (λ h e. refl) (before_itself (c g) (weight g)) refl
-      (range_with_len 0 a.goods) (range_contains a.goods g l) in
-      omega arith
+  next_below cs g l = rank_below a.goods (slice_index cs) (good_weight mix a (slice_index cs)) g l
 
   next_ranks : (cs : List ℕ) → AreRanks (next_colours mix a cs)
   next_ranks cs g l =
@@ -83,17 +75,13 @@ largest_none cut size (x ∷ xs) e colour c = ⊎_elim
     ⊎_elim (λ (s : x ≡ colour). ap cut (sym s) ∙ f) (λ (d : Contains xs colour). largest_none cut size xs rest colour d) (Contains-cons_cases x xs colour c))
     (cases_Bool (cut x))
 
-neither : (x y : Bool) → cond x true y ≡ false → (x ≡ false) × (y ≡ false)
-neither true y e = absurd (both_ways true e refl)
-neither false y e = (refl, e)
-
 module _ (a : PlainAuction) (cs : List ℕ) (uncut : largest_cut a cs ≡ None) (colour : ℕ) (l : colour < a.goods) where
   abbrev cuts : Atom (List ℕ) → Bool
   cuts = is_cut_by (slice_index cs) (cell_size a.goods (slice_index cs) colour) colour
 
   none_cuts : (list_any cuts a.or_atoms ≡ false) × (list_any (list_any cuts) a.xor_bidders ≡ false)
   none_cuts =
-      neither (list_any cuts a.or_atoms) (list_any (list_any cuts) a.xor_bidders)
+      or_parts (list_any cuts a.or_atoms) (list_any (list_any cuts) a.xor_bidders)
       (largest_none (is_cut a (slice_index cs)) (cell_size a.goods (slice_index cs)) (range_with_len 0 a.goods) uncut colour (range_contains a.goods colour l))
 
   or_uncut : (s : Atom (List ℕ)) → Contains a.or_atoms s → cuts s ≡ false

@@ -1,12 +1,12 @@
 -- Numberings: each good has a number of its own, there is an inverse, and two are joined to one.
-use Rattle.renumbering.proofs.Common.{All, All-permutation, AllPairs, AllPairs-from_IsDistinct, ap, arith, cases_eq, cases_lt, common_steps, Decides-eqb}
+use Rattle.renumbering.proofs.Common.{inverse, joined, All, All-permutation, AllPairs, AllPairs-from_IsDistinct, ap, arith, cases_eq, cases_lt, common_steps, Decides-eqb}
 use Rattle.renumbering.proofs.Common.{eq-eqb, eqb, ext_get_or, get_or, get_or-map, get_or-range_with_len, get_or_default_zero, get_or_past}
 use Rattle.renumbering.proofs.Common.{IsDistinct-from_AllPairs, IsDistinct-IsPermutation, IsNumbering, IsPermutation, IsPermutation-map, IsPermutation-refl}
 use Rattle.renumbering.proofs.Common.{IsPermutation-sym, IsPermutation-trans, length, length-map, length-range_with_len, length_permutation, List, map, ne_eqb}
 use Rattle.renumbering.proofs.Common.{number_in, position_or_len, position_or_len_is, range_with_len, rules, subst, sym, ℕ, ⊎_elim, ◌+◌, ◌<◌, ◌∙◌, ◌≡◌, ◌≢◌}
 use Rattle.renumbering.proofs.Common.{◌≤◌, ◌⊎◌}
 
-range_differs : (n : ℕ) → AllPairs (λ d e. d ≢ e) (range_with_len 0 n)
+pub range_differs : (n : ℕ) → AllPairs (λ d e. d ≢ e) (range_with_len 0 n)
 range_differs n i j d l m e = grind (arith, common_steps, length-range_with_len, get_or-range_with_len)
 
 eqb_swap : (x y : ℕ) → eqb x y ≡ eqb y x
@@ -28,14 +28,6 @@ number_in-range n g =
 -- where a number is in a list
 abbrev index_of : List ℕ → ℕ → ℕ
 index_of p g = position_or_len (λ x. eqb x g) p
-
--- the good of each number
-abbrev pub inverse : ℕ → List ℕ → List ℕ
-inverse n p = map (index_of p) (range_with_len 0 n)
-
--- by one numbering, and then by the other
-abbrev pub joined : List ℕ → List ℕ → List ℕ
-joined p q = map (number_in q) p
 
 module _ (n : ℕ) (p : List ℕ) (numbers : IsNumbering n p) where
   pub length-numbering : length p ≡ n

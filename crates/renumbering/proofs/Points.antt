@@ -1,6 +1,6 @@
 -- The points of a bidder under other numbers are its points, each under them, in some order. The idea: numbered back they have the values of the bidder,
 -- which say what its points are, so no point is lost.
-use Rattle.renumbering.proofs.Common.{All, All-contains, All-weaker, AllPairs, AllPairs-map, ap, arith, Atom, atom_cmp, atom_cmp_equal, atom_cmp_total}
+use Rattle.renumbering.proofs.Common.{inverse, All, All-contains, All-weaker, AllPairs, AllPairs-map, ap, arith, Atom, atom_cmp, atom_cmp_equal, atom_cmp_total}
 use Rattle.renumbering.proofs.Common.{before_itself, Contains, Contains-unmap, get_or, is_or_point, is_xor_point, IsAtom, IsBefore, IsBundle, IsInOrder}
 use Rattle.renumbering.proofs.Common.{IsNumbering, IsPermutation, just_bundles, List, on_bundles, or_points, or_points_are_atoms, or_points_keep_values}
 use Rattle.renumbering.proofs.Common.{or_points_same, or_value, points_where-in_order, renumbered_atom, renumbered_atoms, renumbered_bundle, subst, sym}
@@ -8,7 +8,7 @@ use Rattle.renumbering.proofs.Common.{xor_points, xor_points_are_atoms, xor_poin
 use Rattle.renumbering.proofs.Auctions.{atoms_renumbered}
 use Rattle.renumbering.proofs.Bundles.{bundle_back, IsBundle-renumbered}
 use Rattle.renumbering.proofs.Members.{permutation_from_members}
-use Rattle.renumbering.proofs.Numberings.{back_and_there, inverse, inverse_numbers, there_and_back}
+use Rattle.renumbering.proofs.Numberings.{back_and_there, inverse_numbers, there_and_back}
 use Rattle.renumbering.proofs.Values.{or_value-renumbered, xor_value-renumbered}
 
 in_order_differ : (atoms : List (Atom (List ℕ))) → IsInOrder atoms → AllPairs (λ a b. a ≢ b) atoms

@@ -3,7 +3,7 @@ use Rattle.renumbering.proofs.Common.{ap, ap₂, are_stable, arith, Atom, bidder
 use Rattle.renumbering.proofs.Common.{from_point, fun_ext, get_or-map-range_with_len, get_or_past, good_weight, is_before, is_cut, is_cut_by, largest}
 use Rattle.renumbering.proofs.Common.{largest_cut, length-map-range_with_len, List, list_all, list_any, ltb, map, next_colour, next_colours, PlainAuction}
 use Rattle.renumbering.proofs.Common.{point_weight, range_with_len, refined, refl, set_apart, slice_index, subst, suc, sum_by, sym, trace, true, wrapped_sum}
-use Rattle.renumbering.proofs.Common.{zero, ℕ, [], ⊎_elim, ◌%◌, ◌+◌, ◌<◌, ◌^◌, ◌∙◌, ◌≡◌, ◌≤◌}
+use Rattle.renumbering.proofs.Common.{zero, ℕ, [], ⊎_elim, ◌%◌, ◌+◌, ◌<◌, ◌^◌, ◌∙◌, ◌≡◌, ◌≤◌, ◌&&◌, ◌||◌}
 use Rattle.renumbering.specs.Colours.{colours_after}
 use Rattle.renumbering.specs.Colours.{rounds_after}
 use Rattle.renumbering.proofs.Images.{AreRenamedAtoms, images_all, images_any, images_sum, IsRenamedAtom, IsRenamedAuction, IsRenaming, same_test}
@@ -117,7 +117,7 @@ module _ (mix : ℕ → ℕ → ℕ) (p : ℕ → ℕ) (a b : PlainAuction) (ren
 module _ (p : ℕ → ℕ) (c d : ℕ → ℕ) (match : (g : ℕ) → d (p g) ≡ c g) where
   cut_by_same : (size colour : ℕ) (s t : Atom (List ℕ)) → IsRenamedAtom p s t → is_cut_by d size colour t ≡ is_cut_by c size colour s
   cut_by_same size colour s t renamed =
-      ap (λ (some : ℕ). cond (ltb 0 some) (ltb some size) false)
+      ap (λ (some : ℕ). ltb 0 some && ltb some size)
       (images_sum (λ x y. y ≡ p x) (λ g. cond (eqb (c g) colour) 1 0) (λ g. cond (eqb (d g) colour) 1 0) (λ x y e. rw (e, match x)) s.bundle t.bundle
       renamed.goods)
 
@@ -133,8 +133,8 @@ module _ (p : ℕ → ℕ) (c d : ℕ → ℕ) (match : (g : ℕ) → d (p g) �
         let one : Atom (List ℕ) → Bool = is_cut_by c size colour in
         let other : Atom (List ℕ) → Bool = is_cut_by d size colour in
         let by = cut_by_same size colour in
-        ap (λ (k : ℕ). cond (list_any (is_cut_by d k colour) b.or_atoms) true (list_any (list_any (is_cut_by d k colour)) b.xor_bidders)) (size_same colour)
-        ∙ ap₂ (λ (x y : Bool). cond x true y) (images_any (IsRenamedAtom p) one other by a.or_atoms b.or_atoms renamed.or_atoms)
+        ap (λ (k : ℕ). list_any (is_cut_by d k colour) b.or_atoms || list_any (list_any (is_cut_by d k colour)) b.xor_bidders) (size_same colour)
+        ∙ ap₂ (λ (x y : Bool). x || y) (images_any (IsRenamedAtom p) one other by a.or_atoms b.or_atoms renamed.or_atoms)
         (images_any (AreRenamedAtoms p) (list_any one) (list_any other)
         (λ xs ys h. images_any (IsRenamedAtom p) one other by xs ys h) a.xor_bidders b.xor_bidders renamed.xor_bidders)
 

@@ -1,6 +1,6 @@
 -- The same auction up to numbers is an equivalence. The idea: an auction and its canonical one are the same under any numbering, and
 -- auctions that are the same have one canonical auction.
-use Rattle.renumbering.proofs.Common.{alike, All, All-from_Contains, All-head, All-tail, all_bundles, all_bundles_are, ap, arith, Atom, bidder_cmp, Bool}
+use Rattle.renumbering.proofs.Common.{IsSameUnder, inverse, joined, alike, All, All-from_Contains, All-head, All-tail, all_bundles, all_bundles_are, ap, arith, Atom, bidder_cmp, Bool}
 use Rattle.renumbering.proofs.Common.{both_ways, canonical_auction, cases_Bool, cond, count_by, false, false_from_ne_true, has_good, has_table, HasAtoms, is_eq}
 use Rattle.renumbering.proofs.Common.{is_nonzero, IsAtom, IsBundle, IsNumbering, IsPermutation-refl, IsSameAuction, IsSameUpToNumbers, just_bundles, List, map}
 use Rattle.renumbering.proofs.Common.{map-map, map_same_on, nat_cmp, no_xor_points, number_in, on_bundles, or_points, or_points_keep_values, or_table, or_value}
@@ -10,7 +10,7 @@ use Rattle.renumbering.proofs.Common.{sum_by-sort_by, sym, true, xor_points, xor
 use Rattle.renumbering.proofs.Common.{◌∷◌, ◌≡◌}
 use Rattle.renumbering.proofs.Auctions.{atoms_renumbered, bidders_renumbered, renumbered-joined, renumbered-range}
 use Rattle.renumbering.proofs.Bundles.{has-renumbered_bundle, IsBundle-renumbered}
-use Rattle.renumbering.proofs.Numberings.{inverse, inverse_numbers, joined, joined-inverse, joined_numbers, there_and_back}
+use Rattle.renumbering.proofs.Numberings.{inverse_numbers, joined-inverse, joined_numbers, there_and_back}
 use Rattle.renumbering.proofs.Values.{Hits, or_value-hit, xor_value-hit}
 
 tables_alike : (one other : List ℕ → ℕ) (n : ℕ) → ((bundle : List ℕ) → IsBundle n bundle → one bundle ≡ other bundle)
@@ -120,16 +120,14 @@ HasAtoms-renumbered p a numbers h = record {
 
 -- ---- the same up to numbers
 
-pub up_to_numbers_from_same : (a b : PlainAuction) → HasAtoms a → IsSameAuction a b → IsSameUpToNumbers a b
-up_to_numbers_from_same a b h s = record {
-  numbering = range_with_len 0 a.goods;
+pub under_from_same : (a b : PlainAuction) → HasAtoms a → IsSameAuction a b → IsSameUnder (range_with_len 0 a.goods) a b
+under_from_same a b h s = record {
   numbers = IsPermutation-refl (range_with_len 0 a.goods);
   same = subst (λ (c : PlainAuction). IsSameAuction c b) (sym (renumbered-range a h.or_atoms h.xor_atoms)) s;
 }
 
-pub up_to_numbers_sym : (a b : PlainAuction) → HasAtoms a → HasAtoms b → IsSameUpToNumbers a b → IsSameUpToNumbers b a
-up_to_numbers_sym a b h k s =
-    let p = s.numbering in
+pub under_sym : (p : List ℕ) (a b : PlainAuction) → HasAtoms a → HasAtoms b → IsSameUnder p a b → IsSameUnder (inverse a.goods p) b a
+under_sym p a b h k s =
     let q = inverse a.goods p in
     let back : IsNumbering a.goods q = inverse_numbers a.goods p s.numbers in
     let again : renumbered q (renumbered p a) ≡ a =
@@ -137,21 +135,29 @@ up_to_numbers_sym a b h k s =
     ∙ ap (λ (xs : List ℕ). renumbered xs a) (joined-inverse a.goods p s.numbers)
     ∙ renumbered-range a h.or_atoms h.xor_atoms in
     record {
-      numbering = q;
       numbers = subst (λ (n : ℕ). IsNumbering n q) s.same.goods back;
       same = same_sym a (renumbered q b) (subst (λ (c : PlainAuction). IsSameAuction c (renumbered q b)) again
           (same_renumbered q (renumbered p a) b back (HasAtoms-renumbered p a s.numbers h) k s.same));
     }
 
-pub up_to_numbers_trans : (a b c : PlainAuction) → HasAtoms a → HasAtoms b → IsSameUpToNumbers a b → IsSameUpToNumbers b c → IsSameUpToNumbers a c
-up_to_numbers_trans a b c h k s t =
-    let p = s.numbering in
-    let q = t.numbering in
+pub under_trans : (p q : List ℕ) (a b c : PlainAuction) → HasAtoms a → HasAtoms b → IsSameUnder p a b → IsSameUnder q b c → IsSameUnder (joined p q) a c
+under_trans p q a b c h k s t =
     let then : IsNumbering a.goods q = subst (λ (n : ℕ). IsNumbering n q) (sym s.same.goods) t.numbers in
     record {
-      numbering = joined p q;
       numbers = joined_numbers a.goods p s.numbers q then;
       same = subst (λ (d : PlainAuction). IsSameAuction d c) (renumbered-joined a.goods p s.numbers q then a)
           (same_trans (renumbered q (renumbered p a)) (renumbered q b) c
           (same_renumbered q (renumbered p a) b then (HasAtoms-renumbered p a s.numbers h) k s.same) t.same);
     }
+
+pub up_to_numbers_from_same : (a b : PlainAuction) → HasAtoms a → IsSameAuction a b → IsSameUpToNumbers a b
+up_to_numbers_from_same a b h s = record { numbering = range_with_len 0 a.goods; under = under_from_same a b h s }
+
+pub up_to_numbers_sym : (a b : PlainAuction) → HasAtoms a → HasAtoms b → IsSameUpToNumbers a b → IsSameUpToNumbers b a
+up_to_numbers_sym a b h k s = record { numbering = inverse a.goods s.numbering; under = under_sym s.numbering a b h k s.under }
+
+pub up_to_numbers_trans : (a b c : PlainAuction) → HasAtoms a → HasAtoms b → IsSameUpToNumbers a b → IsSameUpToNumbers b c → IsSameUpToNumbers a c
+up_to_numbers_trans a b c h k s t = record {
+  numbering = joined s.numbering t.numbering;
+  under = under_trans s.numbering t.numbering a b c h k s.under t.under;
+}

@@ -1,15 +1,15 @@
 -- Where a point cuts no cell, the numbers by colour of its goods are those of whole cells. So they depend on the colours alone.
-use Rattle.renumbering.proofs.Common.{and_from, and_parts, ap, ap₂, AreAbove, arith, Bool, both_ways, cases_Bool, cases_order, cell_size, cond}
+use Rattle.renumbering.proofs.Common.{inverse, and_from, and_parts, ap, ap₂, AreAbove, arith, Bool, both_ways, cases_Bool, cases_order, cell_size, cond}
 use Rattle.renumbering.proofs.Common.{contains_from_has, count_by, eq-eqb, eqb, false, filter, get_or, get_or-map-range_with_len, has-filter, has_below}
 use Rattle.renumbering.proofs.Common.{has_from_contains, has_good, is_cut_by, IsBundle, IsNumbering, IsRising, IsRising-filter, length}
-use Rattle.renumbering.proofs.Common.{length-map-range_with_len, List, lt-ltb, number_in, numbers_by_colour, range_contains, range_with_len, refl}
+use Rattle.renumbering.proofs.Common.{length-map-range_with_len, List, lt-ltb, ltb, number_in, numbers_by_colour, range_contains, range_with_len, refl}
 use Rattle.renumbering.proofs.Common.{renumbered_bundle, same_from_has, slice_index, subst, suc, sym, true, zero, ℕ, [], ⊎_elim, ◌&&◌, ◌+◌, ◌<◌, ◌∙◌, ◌≡◌, ◌≤◌}
 use Rattle.renumbering.proofs.Common.{◌⊎◌}
 use Rattle.renumbering.proofs.Bundles.{has-renumbered_bundle, IsBundle-renumbered}
 use Rattle.renumbering.proofs.Counts.{count_filter, count_more}
 use Rattle.renumbering.proofs.FirstWrong.{numbering_from_numbers}
-use Rattle.renumbering.proofs.Numberings.{back_and_there, inverse, inverse_numbers, number_below}
-use Rattle.renumbering.proofs.Places.{cells_apart, lower, lower_place, place, place_below, place_upper, places_differ}
+use Rattle.renumbering.proofs.Numberings.{back_and_there, inverse_numbers, number_below}
+use Rattle.renumbering.proofs.Places.{cells_apart, lower, lower_rank, place, place_upper, places_differ, rank_below}
 
 -- ---- the numbers by colour are a numbering
 
@@ -32,7 +32,7 @@ module _ (n : ℕ) (cs : List ℕ) where
       (record {
         below = λ k d l.
             let m : k < n = subst (λ (j : ℕ). k < j) long l in
-            subst (λ (j : ℕ). j < n) (sym (at_place k d m)) (place_below n c k m);
+            subst (λ (j : ℕ). j < n) (sym (at_place k d m)) (rank_below n c (λ h. h) k m);
         distinct = λ i j d l m e.
             let k : j < n = subst (λ (h : ℕ). j < h) long m in
             let h : i < n = omega arith in
@@ -46,8 +46,8 @@ pub same_colour : (n : ℕ) (c d : ℕ → ℕ) → ((r : ℕ) → lower n d r �
 same_colour n c d lowers sizes g x l m e =
     let one : place n c g < lower n c (c g) + cell_size n c (c g) = place_upper n c g l in
     let other : place n d x < lower n d (d x) + cell_size n d (d x) = place_upper n d x m in
-    let low : lower n c (c g) ≤ place n c g = lower_place n c g in
-    let other_low : lower n d (d x) ≤ place n d x = lower_place n d x in
+    let low : lower n c (c g) ≤ place n c g = lower_rank n c (λ h. h) g in
+    let other_low : lower n d (d x) ≤ place n d x = lower_rank n d (λ h. h) x in
     ⊎_elim (λ (same : c g ≡ d x). same)
     (λ (o : (c g < d x) ⊎ (d x < c g)). ⊎_elim
     (λ (k : c g < d x).
@@ -96,7 +96,7 @@ module _ (n : ℕ) (bundle : List ℕ) (b : IsBundle n bundle) where
       (eq-eqb (c h) (c g) same) (range_with_len 0 n) (range_contains n h l) in
       let less : some < cell_size n c (c g) = omega arith in
       absurd (both_ways (is_cut_by c (cell_size n c (c g)) (c g) (record { bundle = bundle; price = price })) uncut
-      (ap₂ (λ (x y : Bool). cond x y false) (lt-ltb 0 some positive) (lt-ltb some (cell_size n c (c g)) less)))) (cases_Bool (has_good bundle h))
+      (and_from (ltb 0 some) (ltb some (cell_size n c (c g))) (lt-ltb 0 some positive) (lt-ltb some (cell_size n c (c g)) less)))) (cases_Bool (has_good bundle h))
 
   -- ---- numbers of whole cells
 

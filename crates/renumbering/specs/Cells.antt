@@ -1,6 +1,6 @@
 -- Cells: goods of one colour. A point cuts a cell if it has some of its goods and not all. Where no cell is cut, goods of one colour always go
 -- together, so that their numbers may be exchanged.
-use Rattle.std.specs.Prelude.{ℕ, ◌+◌, ◌==◌, nat_lt, Bool, true, false, cond, List, [], ◌∷◌, map, Option, Some, None, slice_index}
+use Rattle.std.specs.Prelude.{ℕ, ◌+◌, ◌==◌, ◌&&◌, ◌||◌, nat_lt, Bool, cond, List, [], ◌∷◌, map, Option, Some, None, slice_index}
 use Rattle.std.specs.List.{range_with_len, count_by, list_any}
 use Rattle.valuation.specs.declared.atom.Atom.{Atom}
 use Rattle.valuation.specs.Auctions.{PlainAuction}
@@ -12,13 +12,13 @@ cell_size goods c colour = count_by (λ g. c g == colour) (range_with_len 0 good
 -- whether the point cuts the cell of this size
 abbrev pub is_cut_by : (ℕ → ℕ) → ℕ → ℕ → Atom (List ℕ) → Bool
 is_cut_by c size colour s =
-    let some : ℕ = count_by (λ g. c g == colour) s.bundle in cond (nat_lt 0 some) (nat_lt some size) false
+    let some : ℕ = count_by (λ g. c g == colour) s.bundle in nat_lt 0 some && nat_lt some size
 
 -- whether a point cuts the cell
 abbrev pub is_cut : PlainAuction → (ℕ → ℕ) → ℕ → Bool
 is_cut a c colour =
     let cuts : Atom (List ℕ) → Bool = is_cut_by c (cell_size a.goods c colour) colour in
-    cond (list_any cuts a.or_atoms) true (list_any (list_any cuts) a.xor_bidders)
+    list_any cuts a.or_atoms || list_any (list_any cuts) a.xor_bidders
 
 -- the larger of two cells, of as many goods the first
 abbrev pub larger : (ℕ → ℕ) → ℕ → Option ℕ → Option ℕ

@@ -34,6 +34,11 @@ abbrev pub is_before : ℕ → ℕ → ℕ → ℕ → Bool
 is_before first second other_first other_second =
     cond (nat_lt first other_first) true (cond (first == other_first) (nat_lt second other_second) false)
 
+-- for each of so many goods how many are before it by two numbers of each
+abbrev pub ranks : (ℕ → ℕ) → (ℕ → ℕ) → ℕ → List ℕ
+ranks first second n =
+    map (λ g. count_by (λ h. is_before (first h) (second h) (first g) (second g)) (range_with_len 0 n)) (range_with_len 0 n)
+
 -- the next colour of a good: how many goods are before it by colour and weight
 abbrev pub next_colour : (ℕ → ℕ → ℕ) → PlainAuction → (ℕ → ℕ) → ℕ → ℕ
 next_colour mix a c g =

@@ -1,8 +1,8 @@
 -- The search for a numbering. Below colours with a cell that is cut are those with a good of the largest such cell set apart, refined, for each of
 -- its goods in turn. Colours that cut no cell are a leaf. It numbers the goods by colour, and those of one colour as they were. The text of an auction
 -- is that of its least leaf.
-use Rattle.std.specs.Prelude.{◌≡◌, ◌≢◌, ℕ, zero, suc, ◌+◌, ◌*◌, ◌<◌, ◌==◌, cond, List, [], ◌∷◌, map, length, replicate, Option, Some, None, slice_index}
-use Rattle.std.specs.List.{range_with_len, count_by, sum_by}
+use Rattle.std.specs.Prelude.{◌≡◌, ◌≢◌, ℕ, zero, suc, ◌+◌, ◌*◌, ◌<◌, ◌==◌, cond, List, [], ◌∷◌, length, replicate, Option, Some, None, slice_index}
+use Rattle.std.specs.List.{range_with_len, sum_by}
 use Rattle.std.specs.Ordering.{nat_cmp, ordering_then}
 use Rattle.std.specs.Cmp.Lexicographic.{slice_cmp}
 use Rattle.std.specs.declared.cmp.Ordering.{Ordering}
@@ -12,26 +12,27 @@ use Rattle.valuation.specs.Auctions.{PlainAuction}
 use Rattle.valuation.specs.Orders.{bidder_cmp}
 use Rattle.canon.specs.Canonical.{canonical_auction}
 use Rattle.renumbering.specs.Cells.{largest_cut, set_apart}
-use Rattle.renumbering.specs.Colours.{is_before, refined, rounds_after, trace}
+use Rattle.renumbering.specs.Colours.{ranks, refined, rounds_after, trace}
 use Rattle.renumbering.specs.Renumbering.{renumbered}
 
 -- the goods numbered by colour, and then by their numbers so far
 abbrev pub numbers_by_colour : ℕ → List ℕ → List ℕ
-numbers_by_colour goods colours =
-    let c : ℕ → ℕ = slice_index colours in
-    map (λ g. count_by (λ h. is_before (c h) h (c g) g) (range_with_len 0 goods)) (range_with_len 0 goods)
+numbers_by_colour goods colours = ranks (slice_index colours) (λ g. g) goods
 
 -- what is read at a leaf: the traces of the colours on the way, and the canonical auction of the auction under the leaf's numbers
 pub record Leaf : Type 0 where
   pub traces : List ℕ
   pub auction : PlainAuction
 
--- by traces, and then by bidders as a canonical file has them
+-- by bidders as a canonical file has them
+abbrev pub auction_order : PlainAuction → PlainAuction → Ordering
+auction_order one other =
+    ordering_then (bidder_cmp one.or_atoms other.or_atoms) (slice_cmp bidder_cmp one.xor_bidders other.xor_bidders)
+
+-- by traces, and then by bidders
 abbrev pub leaf_cmp : Leaf → Leaf → Ordering
 leaf_cmp one other =
-    ordering_then (slice_cmp nat_cmp one.traces other.traces)
-    (ordering_then (bidder_cmp one.auction.or_atoms other.auction.or_atoms)
-    (slice_cmp bidder_cmp one.auction.xor_bidders other.auction.xor_bidders))
+    ordering_then (slice_cmp nat_cmp one.traces other.traces) (auction_order one.auction other.auction)
 
 abbrev pub leaf_of : PlainAuction → List ℕ → Leaf
 leaf_of a colours = record {
@@ -68,12 +69,16 @@ HasLeaf mix a (g ∷ path) colours leaf =
 abbrev pub first_colours : (ℕ → ℕ → ℕ) → PlainAuction → List ℕ
 first_colours mix a = refined mix a (replicate a.goods 0)
 
--- the least of all leaves
-pub record IsLeastLeaf (mix : ℕ → ℕ → ℕ) (a : PlainAuction) (leaf : Leaf) : Type 0 where
+-- the least of all leaves below colours
+pub record IsLeastBelow (mix : ℕ → ℕ → ℕ) (a : PlainAuction) (colours : List ℕ) (leaf : Leaf) : Type 0 where
   pub path : List ℕ
-  pub there : HasLeaf mix a path (first_colours mix a) leaf
-  pub least : (other_path : List ℕ) (other : Leaf) → HasLeaf mix a other_path (first_colours mix a) other
+  pub there : HasLeaf mix a path colours leaf
+  pub least : (other_path : List ℕ) (other : Leaf) → HasLeaf mix a other_path colours other
       → leaf_cmp leaf other ≢ Greater
+
+-- the least of all leaves
+abbrev pub IsLeastLeaf : (ℕ → ℕ → ℕ) → PlainAuction → Leaf → Type 0
+IsLeastLeaf mix a leaf = IsLeastBelow mix a (first_colours mix a) leaf
 
 -- ---- steps
 

@@ -6,6 +6,7 @@ pub mod Colours
 pub mod Cells
 pub mod Leaves
 pub mod RenumberedTexts
+pub mod Searches
 pub mod Examples
 pub mod Mixing
 pub mod Internal

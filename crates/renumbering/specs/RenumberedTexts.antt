@@ -13,6 +13,11 @@ pub record IsRenumberedFile (mix : ℕ → ℕ → ℕ) (f out : PlainFile) : Ty
   pub least : IsLeastLeaf mix (canonical_auction (auction_from f)) leaf
   pub is : out ≡ file_from leaf.auction
 
+-- there is one
+pub record HasRenumberedFile (mix : ℕ → ℕ → ℕ) (f : PlainFile) : Type 0 where
+  pub out : PlainFile
+  pub renumbered : IsRenumberedFile mix f out
+
 -- the layout of the renumbered file of the file that the text spells
 pub record IsRenumberedText (mix : ℕ → ℕ → ℕ) (text out : List ℕ) : Type 0 where
   pub file : PlainFile

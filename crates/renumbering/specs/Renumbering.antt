@@ -1,7 +1,7 @@
 -- Goods numbered anew: bundles, bids, auctions and files under other numbers of their goods. A numbering lists the new number of each
 -- good, and has each number of a good once. Prices, dummy goods, and the order of bids and of bidders stay.
-use Rattle.std.specs.Prelude.{ℕ, List, map, get_or, IsPermutation}
-use Rattle.std.specs.List.{range_with_len}
+use Rattle.std.specs.Prelude.{ℕ, ◌==◌, List, map, get_or, IsPermutation}
+use Rattle.std.specs.List.{position_or_len, range_with_len}
 use Rattle.std.specs.Ordering.{nat_cmp}
 use Rattle.bid_file.specs.Files.{PlainBid, PlainFile}
 use Rattle.valuation.specs.declared.atom.Atom.{Atom}
@@ -14,6 +14,14 @@ IsNumbering goods numbering = IsPermutation (range_with_len 0 goods) numbering
 -- the new number of a good; one that the list does not have keeps its number
 abbrev pub number_in : List ℕ → ℕ → ℕ
 number_in numbering good = get_or numbering good good
+
+-- by one numbering, and then by the other
+abbrev pub joined : List ℕ → List ℕ → List ℕ
+joined one other = map (number_in other) one
+
+-- the good of each number
+abbrev pub inverse : ℕ → List ℕ → List ℕ
+inverse n numbering = map (λ number. position_or_len (λ x. x == number) numbering) (range_with_len 0 n)
 
 -- the new numbers of the goods of a bundle, rising
 abbrev pub renumbered_bundle : List ℕ → List ℕ → List ℕ

@@ -7,10 +7,15 @@ use Rattle.valuation.specs.Auctions.{PlainAuction, auction_from}
 use Rattle.canon.specs.Sameness.{IsSameAuction}
 use Rattle.renumbering.specs.Renumbering.{IsNumbering, renumbered}
 
-pub record IsSameUpToNumbers (a b : PlainAuction) : Type 0 where
-  pub numbering : List ℕ
+-- the numbering makes the first auction the same as the second
+pub record IsSameUnder (numbering : List ℕ) (a b : PlainAuction) : Type 0 where
   pub numbers : IsNumbering a.goods numbering
   pub same : IsSameAuction (renumbered numbering a) b
+
+-- some numbering does
+pub record IsSameUpToNumbers (a b : PlainAuction) : Type 0 where
+  pub numbering : List ℕ
+  pub under : IsSameUnder numbering a b
 
 -- two files of such auctions
 abbrev pub AreSameFilesUpToNumbers : PlainFile → PlainFile → Type 0

@@ -1,8 +1,8 @@
 //! A file under other numbers of its goods.
 
-ghost use Rattle.std.specs.Prelude.{◌≡◌, ◌<◌, All, IfErr, IfOk, OnOk, length};
+ghost use Rattle.std.specs.Prelude.{◌≡◌, ◌<◌, All, IfErr, IfOk, OnOk, length, map};
 ghost use Rattle.renumbering.specs.Refusals.{RefusesNumbering};
-ghost use Rattle.renumbering.specs.Renumbering.{IsNumbering, renumbered_bundle, renumbered_file};
+ghost use Rattle.renumbering.specs.Renumbering.{IsNumbering, number_in, renumbered_file};
 
 use crate::renumber_fault::RenumberFault;
 use bid_file::{PackedBids, PackedFile};
@@ -19,30 +19,38 @@ pub fn renumber(
     ensures numbering { OnOk result (IsNumbering file.now.goods numbering.now) }
     ensures refused { IfErr result (λ fault. RefusesNumbering file.now.goods numbering.now fault) }
 {
+    check_numbering(alloc, file.goods(), numbering)?;
+    Ok(file_under(alloc, file, numbering)?)
+}
+
+/// The file with its goods numbered by a list that is a numbering.
+pub(crate) fn file_under(alloc: Global, file: &PackedFile, numbering: &[u16]) -> Result<PackedFile, AllocError>
+    requires { IsNumbering file.now.goods numbering.now }
+    ensures { IfOk result (λ f. f ≡ renumbered_file numbering.now file.now) }
+{
     let goods = file.goods();
-    check_numbering(alloc, goods, numbering)?;
     let held = file.bids();
     let mut bids = PackedBids::new(alloc);
     bids.reserve(held.len())?;
     let mut bundle = Vec::new(alloc);
     for number in 0..held.len() {
         let (price, goods, dummy) = held.at(number);
-        renumber_goods(numbering, goods, &mut bundle)?;
+        list_numbers(numbering, goods, &mut bundle)?;
+        bundle.sort_unstable();
         bids.push(price, bundle.as_slice(), dummy)?;
     }
     Ok(PackedFile::new(goods, file.dummy(), bids))
 }
 
-/// Puts the new numbers of the goods into a buffer, in order.
-fn renumber_goods(numbering: &[u16], goods: &[u16], bundle: &mut Vec<u16>) -> Result<(), AllocError>
+/// Puts the new numbers of the goods into a buffer.
+pub(crate) fn list_numbers(numbering: &[u16], goods: &[u16], numbers: &mut Vec<u16>) -> Result<(), AllocError>
     requires { All (λ good. good < length numbering.now) goods.now }
-    ensures { OnOk result (bundle.new.items ≡ renumbered_bundle numbering.now goods.now) }
+    ensures { OnOk result (numbers.new.items ≡ map (number_in numbering.now) goods.now) }
 {
-    bundle.clear();
+    numbers.clear();
     for good in goods {
-        bundle.push(numbering[*good as usize])?;
+        numbers.push(numbering[*good as usize])?;
     }
-    bundle.sort_unstable();
     Ok(())
 }
 

@@ -10,7 +10,7 @@ ghost use Rattle.canon.specs.Sameness.{IsSameAuction};
 ghost use Rattle.renumbering.specs.Refusals.{IsFirstWrong};
 ghost use Rattle.renumbering.specs.Renumbering.{IsNumbering, renumbered, renumbered_atoms, renumbered_bundle};
 ghost use Rattle.renumbering.specs.Renumbering.{renumbered_file};
-ghost use Rattle.renumbering.specs.RenumberedTexts.{ExceedsLimitOfFile, IsRenumberedFile, IsRenumberedText};
+ghost use Rattle.renumbering.specs.RenumberedTexts.{ExceedsLimitOfFile, HasRenumberedFile, IsRenumberedFile, IsRenumberedText};
 ghost use Rattle.renumbering.specs.SameUpToNumbers.{AreSameFilesUpToNumbers, AreSameTextsUpToNumbers, IsSameUpToNumbers};
 
 /// The headline. Two renumbered texts are equal exactly if some numbering of the goods makes the files of the texts the same
@@ -20,18 +20,20 @@ pub fn equal_text_exactly_for_the_same_auction_up_to_numbers()
         → IsRenumberedText mix other t → (s ≡ t ↔ AreSameTextsUpToNumbers one other) }
 {}
 
-/// The renumbered file is a canonical file within the limits, and is the same auction up to numbers. Files of the same
-/// auction up to numbers have one renumbered file, which is its own.
+/// Each file has one renumbered file, and files have the same one exactly if some numbering makes them the same auction.
+pub fn each_file_has_one_renumbered_file()
+    ensures there { (mix : ℕ → ℕ → ℕ) (f : PlainFile) → IsPlainFile f → HasRenumberedFile mix f }
+    ensures equal { (mix : ℕ → ℕ → ℕ) (f g s t : PlainFile) → IsPlainFile f → IsPlainFile g → IsRenumberedFile mix f s
+        → IsRenumberedFile mix g t → (s ≡ t ↔ AreSameFilesUpToNumbers f g) }
+{}
+
+/// The renumbered file is a canonical file within the limits, its own renumbered file, and the same auction up to numbers.
 pub fn renumbered_file_is_canonical()
     ensures limits { (mix : ℕ → ℕ → ℕ) (f out : PlainFile) → IsPlainFile f → IsRenumberedFile mix f out → IsPlainFile out }
     ensures canonical { (mix : ℕ → ℕ → ℕ) (f out : PlainFile) → IsPlainFile f → IsRenumberedFile mix f out
         → IsCanonicalFile out }
     ensures same { (mix : ℕ → ℕ → ℕ) (f out : PlainFile) → IsPlainFile f → IsRenumberedFile mix f out
         → AreSameFilesUpToNumbers f out }
-    ensures one { (mix : ℕ → ℕ → ℕ) (f g s t : PlainFile) → IsPlainFile f → IsPlainFile g → AreSameFilesUpToNumbers f g
-        → IsRenumberedFile mix f s → IsRenumberedFile mix g t → s ≡ t }
-    ensures of_each { (mix : ℕ → ℕ → ℕ) (f g out : PlainFile) → IsPlainFile f → IsPlainFile g
-        → AreSameFilesUpToNumbers f g → IsRenumberedFile mix f out → IsRenumberedFile mix g out }
     ensures again { (mix : ℕ → ℕ → ℕ) (f out : PlainFile) → IsPlainFile f → IsRenumberedFile mix f out
         → IsRenumberedFile mix out out }
 {}

@@ -1,9 +1,11 @@
 //! The weights of points, of bidders and of goods in one round.
 
-ghost use Rattle.std.specs.Prelude.{◌≡◌, ◌+◌, ◌%◌, ◌^◌, ◌<◌, ◌==◌, ℕ, All, IfOk, cond, length, map, slice_index};
+ghost use Rattle.std.specs.Prelude.{◌≡◌, ◌+◌, ◌%◌, ◌^◌, ◌==◌, ℕ, All, IfOk, cond, length, map, slice_index};
+ghost use Rattle.std.specs.Prelude.{◌<◌};
 ghost use Rattle.std.specs.List.{sum_by};
-ghost use Rattle.valuation.specs.Auctions.{PlainAuction};
-ghost use Rattle.canon.specs.Bidders.{AreBidders, offers};
+ghost use Rattle.valuation.specs.Auctions.{auction_from};
+ghost use Rattle.canon.specs.Bidders.{offers};
+ghost use Rattle.canon.specs.Canonical.{IsCanonicalFile};
 ghost use Rattle.renumbering.specs.Colours.{bidder_weight, from_bidder, from_point, good_weight, point_weight};
 ghost use Rattle.renumbering.specs.Internal.Rounds.{AreOn, AreOnEach};
 ghost use Rattle.renumbering.specs.Mixing.{mix_64};
@@ -14,7 +16,7 @@ use canon::comparing::{BidRun, FileBidders};
 use std::alloc::{AllocError, Global};
 
 /// The weight of a point: its price, and the colours of its goods.
-fn point_weight(price: u64, goods: &[u16], colours: &[usize]) -> u64
+fn point_weight(price: u64, goods: &[u16], colours: &[u16]) -> u64
     requires { All (λ good. good < length colours.now) goods.now }
     ensures { result ≡ point_weight mix_64 (slice_index colours.now) (record { bundle = goods.now; price = price }) }
 {
@@ -26,7 +28,7 @@ fn point_weight(price: u64, goods: &[u16], colours: &[usize]) -> u64
 }
 
 /// The weight of an XOR bidder: its points.
-fn bidder_weight(bids: &BidRun<'_, PackedFile>, colours: &[usize]) -> u64
+fn bidder_weight(bids: &BidRun<'_, PackedFile>, colours: &[u16]) -> u64
     requires { AreOn (length colours.now) bids.now }
     ensures { result ≡ bidder_weight mix_64 (slice_index colours.now) (offers bids.now) }
 {
@@ -38,21 +40,21 @@ fn bidder_weight(bids: &BidRun<'_, PackedFile>, colours: &[usize]) -> u64
     mix(1, sum)
 }
 
-/// Adds a weight to each of these goods.
-fn add_to_goods(weights: &mut [u64], goods: &[u16], weight: u64)
-    requires { All (λ good. good < length weights.old) goods.now }
-    ensures length { length weights.new ≡ length weights.old }
-    ensures sums { (g : ℕ) → slice_index weights.new g
-        ≡ (slice_index weights.old g + sum_by (λ x. cond (x == g) weight 0) goods.now) % 2 ^ 64 }
+/// Adds to the sum at each of these indices.
+pub(crate) fn add_at(sums: &mut [u64], indices: &[u16], more: u64)
+    requires { All (λ index. index < length sums.old) indices.now }
+    ensures length { length sums.new ≡ length sums.old }
+    ensures sums { (g : ℕ) → slice_index sums.new g
+        ≡ (slice_index sums.old g + sum_by (λ x. cond (x == g) more 0) indices.now) % 2 ^ 64 }
 {
-    for good in goods {
-        let place = *good as usize;
-        weights[place] = weights[place].wrapping_add(weight);
+    for index in indices {
+        let place = *index as usize;
+        sums[place] = sums[place].wrapping_add(more);
     }
 }
 
 /// Adds to each good what it has from the points of a bidder of this weight.
-fn add_bidder(weights: &mut [u64], bids: &BidRun<'_, PackedFile>, colours: &[usize], whole: u64)
+fn add_bidder(weights: &mut [u64], bids: &BidRun<'_, PackedFile>, colours: &[u16], whole: u64)
     requires same { length weights.old ≡ length colours.now }
     requires goods { AreOn (length colours.now) bids.now }
     ensures length { length weights.new ≡ length weights.old }
@@ -62,12 +64,12 @@ fn add_bidder(weights: &mut [u64], bids: &BidRun<'_, PackedFile>, colours: &[usi
     for index in 0..bids.len() {
         let bid = bids.at(index);
         let weight = mix(whole, point_weight(bid.price, bid.goods, colours));
-        add_to_goods(weights, bid.goods, weight);
+        add_at(weights, bid.goods, weight);
     }
 }
 
 /// Adds to each good what it has from XOR bidders.
-fn add_xor_bidders(weights: &mut [u64], bidders: &[BidRun<'_, PackedFile>], colours: &[usize])
+fn add_xor_bidders(weights: &mut [u64], bidders: &[BidRun<'_, PackedFile>], colours: &[u16])
     requires same { length weights.old ≡ length colours.now }
     requires goods { AreOnEach (length colours.now) bidders.now }
     ensures length { length weights.new ≡ length weights.old }
@@ -80,20 +82,16 @@ fn add_xor_bidders(weights: &mut [u64], bidders: &[BidRun<'_, PackedFile>], colo
     }
 }
 
-/// The weights of all goods.
-pub(crate) fn good_weights(
-    alloc: Global,
-    bidders: &FileBidders<'_, PackedFile>,
-    colours: &[usize],
-) -> Result<Vec<u64>, AllocError>
-    requires or_goods { AreOn (length colours.now) bidders.now.or_bids }
-    requires xor_goods { AreOnEach (length colours.now) bidders.now.xor_bidders.items }
-    ensures length { IfOk result (λ weights. length weights.items ≡ length colours.now) }
-    ensures weights { IfOk result (λ weights. (a : PlainAuction)
-        → AreBidders a bidders.now.or_bids bidders.now.xor_bidders.items
-        → (g : ℕ) → slice_index weights.items g ≡ good_weight mix_64 a (slice_index colours.now) g) }
+/// The weights of all goods of a canonical file.
+pub(crate) fn good_weights(alloc: Global, file: &PackedFile, colours: &[u16]) -> Result<Vec<u64>, AllocError>
+    requires canonical { IsCanonicalFile file.now }
+    requires long { length colours.now ≡ file.now.goods }
+    ensures length { IfOk result (λ weights. length weights.items ≡ file.now.goods) }
+    ensures weights { IfOk result (λ weights. (g : ℕ) → slice_index weights.items g
+        ≡ good_weight mix_64 (auction_from file.now) (slice_index colours.now) g) }
 {
-    let mut weights: Vec<u64> = vec![in alloc; 0; colours.len()]?;
+    let mut weights: Vec<u64> = vec![in alloc; 0; file.goods() as usize]?;
+    let bidders = FileBidders::of(alloc, file)?;
     let sums = weights.as_mut_slice();
     add_bidder(sums, &bidders.or_bids, colours, 0);
     add_xor_bidders(sums, bidders.xor_bidders.as_slice(), colours);

@@ -8,5 +8,5 @@ pub returns : goal.returns
 returns c = record {
   same = λ cap a b h s. up_to_numbers_from_same a b (HasAtoms-auction cap a h) s;
   alike = λ cap numbering a b h k numbers s. same_renumbered numbering a b numbers (HasAtoms-auction cap a h) (HasAtoms-auction cap b k) s;
-  renumbered = λ numbering a numbers. record { numbering = numbering; numbers = numbers; same = same_refl (renumbered numbering a) };
+  renumbered = λ numbering a numbers. record { numbering = numbering; under = record { numbers = numbers; same = same_refl (renumbered numbering a) } };
 }

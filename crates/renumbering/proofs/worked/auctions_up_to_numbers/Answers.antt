@@ -9,8 +9,10 @@ unfolding or_value
 returns c = record {
   exchanged = record {
     numbering = 1 ∷ 0 ∷ [];
-    numbers = numbering_from_numbers 2 (1 ∷ 0 ∷ []) (numbers_from_tests 2 (1 ∷ 0 ∷ []) (omega arith, (omega arith, tt)) (refl, (refl, tt))) refl;
-    same = record { goods = refl; or_values = refl; xor_bidders = λ table n. refl };
+    under = record {
+      numbers = numbering_from_numbers 2 (1 ∷ 0 ∷ []) (numbers_from_tests 2 (1 ∷ 0 ∷ []) (omega arith, (omega arith, tt)) (refl, (refl, tt))) refl;
+      same = record { goods = refl; or_values = refl; xor_bidders = λ table n. refl };
+    };
   };
-  goods = λ s. absurd (omega (arith, s.same.goods));
+  goods = λ s. absurd (omega (arith, s.under.same.goods));
 }

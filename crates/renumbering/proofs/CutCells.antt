@@ -1,0 +1,73 @@
+-- A cell that is cut has a good, and another.
+use Rattle.renumbering.proofs.Common.{All-contains, and_parts, ap, arith, Atom, Bool, cases_Bool, cell_size, cond, Contains, Contains-head, Contains-tail}
+use Rattle.renumbering.proofs.Common.{contains_from_has, count_by, eqb, eqb-true, false, has_below, has_from_contains, HasAtoms, IsAtom, is_cut, is_cut_by, larger}
+use Rattle.renumbering.proofs.Common.{largest_cut, List, list_any, list_any_found, ltb, ltb-true, None, Option, or_cases, PlainAuction, range_with_len}
+use Rattle.renumbering.proofs.Common.{slice_index, Some, sum_by-cons, sym, true, ℕ, [], ⊎_elim, ◌+◌, ◌<◌, ◌∙◌, ◌∷◌, ◌≡◌, ◌⊎◌, inl, inr}
+use Rattle.renumbering.specs.Cells.{largest}
+use Rattle.renumbering.proofs.Counts.{count_found}
+
+larger_cases : (size : ℕ → ℕ) (colour k : ℕ) (o : Option ℕ) → larger size colour o ≡ Some k → (colour ≡ k) ⊎ (o ≡ Some k)
+larger_cases size colour k None e = inl (cc)
+larger_cases size colour k (Some other) e =
+    by (ltb (size colour) (size other)) e
+  where
+    by : (b : Bool) → cond b (Some other) (Some colour) ≡ Some k → (colour ≡ k) ⊎ (Some other ≡ Some k)
+    by true f = inr f
+    by false f = inl (cc)
+
+largest_is : (cut : ℕ → Bool) (size : ℕ → ℕ) (colours : List ℕ) (k : ℕ) → largest cut size colours ≡ Some k → cut k ≡ true
+unfolding largest
+largest_is cut size [] k e = absurd (cc)
+largest_is cut size (x ∷ xs) k e =
+    let chosen : Bool → Option ℕ = λ (b : Bool). cond b (larger size x (largest cut size xs)) (largest cut size xs) in
+    ⊎_elim (λ (f : cut x ≡ true).
+    ⊎_elim (λ (s : x ≡ k). ap cut (sym s) ∙ f) (λ (s : largest cut size xs ≡ Some k). largest_is cut size xs k s)
+    (larger_cases size x k (largest cut size xs) (sym (ap chosen f) ∙ e)))
+    (λ (f : cut x ≡ false). largest_is cut size xs k (sym (ap chosen f) ∙ e)) (cases_Bool (cut x))
+
+-- some point has a good of the cell, and not all
+record HasSome (a : PlainAuction) (c : ℕ → ℕ) (k : ℕ) : Type 0 where
+  s : Atom (List ℕ)
+  atom : IsAtom a.goods s
+  cuts : is_cut_by c (cell_size a.goods c k) k s ≡ true
+
+has_some : (a : PlainAuction) → HasAtoms a → (c : ℕ → ℕ) (k : ℕ) → is_cut a c k ≡ true → HasSome a c k
+has_some a h c k e =
+    let cuts : Atom (List ℕ) → Bool = is_cut_by c (cell_size a.goods c k) k in
+    ⊎_elim (λ (f : list_any cuts a.or_atoms ≡ true).
+    let found = list_any_found cuts a.or_atoms f in
+    record { s = found.0; atom = All-contains (IsAtom a.goods) a.or_atoms found.0 h.or_atoms found.1; cuts = found.2 })
+    (λ (f : list_any (list_any cuts) a.xor_bidders ≡ true).
+    let bidder = list_any_found (list_any cuts) a.xor_bidders f in
+    let found = list_any_found cuts bidder.0 bidder.2 in
+    record {
+      s = found.0;
+      atom = All-contains (IsAtom a.goods) bidder.0 found.0 (All-contains (All (IsAtom a.goods)) a.xor_bidders bidder.0 h.xor_atoms bidder.1) found.1;
+      cuts = found.2;
+    })
+    (or_cases (list_any cuts a.or_atoms) (list_any (list_any cuts) a.xor_bidders) e)
+
+-- a good of the cell, which has another
+pub record HasGoods (a : PlainAuction) (cs : List ℕ) (k : ℕ) : Type 0 where
+  pub good : ℕ
+  pub below : good < a.goods
+  pub own : slice_index cs good ≡ k
+  pub more : 1 < cell_size a.goods (slice_index cs) k
+
+pub cut_cell : (a : PlainAuction) → HasAtoms a → (cs : List ℕ) (k : ℕ) → largest_cut a cs ≡ Some k → HasGoods a cs k
+cut_cell a h cs k e =
+    let c : ℕ → ℕ = slice_index cs in
+    let size : ℕ = cell_size a.goods c k in
+    let cut : is_cut a c k ≡ true = largest_is (is_cut a c) (cell_size a.goods c) (range_with_len 0 a.goods) k e in
+    let point = has_some a h c k cut in
+    let some : ℕ = count_by (λ g. eqb (c g) k) point.s.bundle in
+    let parts = and_parts (ltb 0 some) (ltb some size) point.cuts in
+    let positive : 0 < some = ltb-true 0 some parts.0 in
+    let fewer : some < size = ltb-true some size parts.1 in
+    let found = count_found (λ g. eqb (c g) k) point.s.bundle positive in
+    record {
+      good = found.0;
+      below = has_below a.goods point.s.bundle found.0 point.atom.bundle.1 (has_from_contains point.s.bundle found.0 found.1);
+      own = eqb-true (c found.0) k found.2;
+      more = omega arith;
+    }

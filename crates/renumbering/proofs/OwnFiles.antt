@@ -1,0 +1,80 @@
+-- A canonical file is the file of its auction, so that what its bids are is what the points of the auction are.
+use Rattle.renumbering.proofs.Common.{All, All-contains, All-from_Contains, All-from_recursion, ap, ap₂, AreOn, Atom, atom_of, auction_from, auction_from-file_from}
+use Rattle.renumbering.proofs.Common.{bid_from, Bool, canonical_auction, cond, Contains, Contains-map, dummy_bids, file_from, HasAtoms, HasAtoms-file, IsAtom}
+use Rattle.renumbering.proofs.Common.{IsBid-there, IsCanonical, IsCanonicalFile, IsPlainFile, length, length_bundle, List, list_any, list_any-append, map}
+use Rattle.renumbering.proofs.Common.{None, offers, Option, PlainAuction, PlainBid, PlainFile, refl, slice_get, Some, subst, sum_by, sum_by-append}
+use Rattle.renumbering.proofs.Common.{sum_by-cons, sym, ℕ, [], ◌++◌, ◌+◌, ◌<◌, ◌∙◌, ◌∷◌, ◌≡◌, ◌≤◌, ◌||◌}
+
+-- ---- the auction of a canonical file
+
+module _ (f : PlainFile) (canonical : IsCanonicalFile f) where
+  pub own_auction : IsCanonical (auction_from f)
+  own_auction = sym (auction_from-file_from (canonical_auction (auction_from f))) ∙ ap auction_from canonical
+
+  pub own_file : f ≡ file_from (auction_from f)
+  own_file = sym canonical ∙ ap file_from own_auction
+
+-- ---- over all bids
+
+module _ (h : Atom (List ℕ) → ℕ) where
+  abbrev of_bid : PlainBid → ℕ
+  of_bid b = h (atom_of b)
+
+  sum_of_bidder : (d : Option ℕ) (atoms : List (Atom (List ℕ))) → sum_by of_bid (map (bid_from d) atoms) ≡ sum_by h atoms
+  sum_of_bidder d [] = refl
+  sum_of_bidder d (a ∷ rest) =
+      sum_by-cons of_bid (bid_from d a) (map (bid_from d) rest) ∙ ap (λ (n : ℕ). h a + n) (sum_of_bidder d rest) ∙ sym (sum_by-cons h a rest)
+
+  sum_of_bidders : (d : ℕ) (bidders : List (List (Atom (List ℕ)))) → sum_by of_bid (dummy_bids d bidders) ≡ sum_by (sum_by h) bidders
+  sum_of_bidders d [] = refl
+  sum_of_bidders d (b ∷ bs) =
+      sum_by-append of_bid (map (bid_from (Some d)) b) (dummy_bids (d + 1) bs)
+      ∙ ap₂ (λ (m n : ℕ). m + n) (sum_of_bidder (Some d) b) (sum_of_bidders (d + 1) bs) ∙ sym (sum_by-cons (sum_by h) b bs)
+
+  pub sum_of_all : (a : PlainAuction) → sum_by of_bid (file_from a).bids ≡ sum_by h a.or_atoms + sum_by (sum_by h) a.xor_bidders
+  sum_of_all a =
+      sum_by-append of_bid (map (bid_from None) a.or_atoms) (dummy_bids 0 a.xor_bidders)
+      ∙ ap₂ (λ (m n : ℕ). m + n) (sum_of_bidder None a.or_atoms) (sum_of_bidders 0 a.xor_bidders)
+
+module _ (q : Atom (List ℕ) → Bool) where
+  abbrev passes : PlainBid → Bool
+  passes b = q (atom_of b)
+
+  any_of_bidder : (d : Option ℕ) (atoms : List (Atom (List ℕ))) → list_any passes (map (bid_from d) atoms) ≡ list_any q atoms
+  any_of_bidder d [] = refl
+  any_of_bidder d (a ∷ rest) = ap (λ (b : Bool). q a || b) (any_of_bidder d rest)
+
+  any_of_bidders : (d : ℕ) (bidders : List (List (Atom (List ℕ)))) → list_any passes (dummy_bids d bidders) ≡ list_any (list_any q) bidders
+  any_of_bidders d [] = refl
+  any_of_bidders d (b ∷ bs) =
+      list_any-append passes (map (bid_from (Some d)) b) (dummy_bids (d + 1) bs)
+      ∙ ap₂ (λ (x y : Bool). x || y) (any_of_bidder (Some d) b) (any_of_bidders (d + 1) bs)
+
+  pub any_of_all : (a : PlainAuction) → list_any passes (file_from a).bids ≡ (list_any q a.or_atoms || list_any (list_any q) a.xor_bidders)
+  any_of_all a =
+      list_any-append passes (map (bid_from None) a.or_atoms) (dummy_bids 0 a.xor_bidders)
+      ∙ ap₂ (λ (x y : Bool). x || y) (any_of_bidder None a.or_atoms) (any_of_bidders 0 a.xor_bidders)
+
+-- ---- the goods of bids
+
+module _ (f : PlainFile) (h : IsPlainFile f) (i : ℕ) (b : PlainBid) (there : slice_get f.bids i ≡ Some b) where
+  pub goods_below : All (λ good. good < f.goods) b.goods
+  goods_below = All-from_recursion (λ good. good < f.goods) b.goods (IsBid-there f.goods f.dummy f.bids i b h.each there).below
+
+  pub few_goods : length b.goods ≤ f.goods
+  few_goods = let bid = IsBid-there f.goods f.dummy f.bids i b h.each there in length_bundle f.goods b.goods (bid.rising, bid.below)
+
+on_from_offers : (n : ℕ) (bids : List PlainBid) (atoms : List (Atom (List ℕ))) → offers bids ≡ atoms → All (IsAtom n) atoms → AreOn n bids
+on_from_offers n bids atoms e h = All-from_Contains (λ b. All (λ good. good < n) b.goods) bids (λ b c.
+    All-from_recursion (λ good. good < n) b.goods (All-contains (IsAtom n) atoms (atom_of b) h
+    (subst (λ (xs : List (Atom (List ℕ))). Contains xs (atom_of b)) e (Contains-map atom_of bids b c))).bundle.1)
+
+module _ (f : PlainFile) (h : IsPlainFile f) where
+  pub or_bids_on : (bids : List PlainBid) → offers bids ≡ (auction_from f).or_atoms → AreOn f.goods bids
+  or_bids_on bids e = on_from_offers f.goods bids (auction_from f).or_atoms e (HasAtoms-file f h).or_atoms
+
+  pub xor_bids_on : (bidders : List (List PlainBid)) → map offers bidders ≡ (auction_from f).xor_bidders → All (AreOn f.goods) bidders
+  xor_bids_on bidders e = All-from_Contains (AreOn f.goods) bidders (λ bids c.
+      on_from_offers f.goods bids (offers bids) refl
+      (All-contains (All (IsAtom f.goods)) (auction_from f).xor_bidders (offers bids) (HasAtoms-file f h).xor_atoms
+      (subst (λ (xs : List (List (Atom (List ℕ)))). Contains xs (offers bids)) e (Contains-map offers bidders bids c))))
