@@ -5,7 +5,6 @@ use Rattle.renumbering.proofs.Common.{MAX_BIDS, PlainAuction, PlainBid, PlainFil
 use Rattle.renumbering.proofs.Common.{renumbered_bid, renumbered_file, rules, subst, sum_by, sum_by-cons, sym, xor_atoms_of, ℕ, [], ◌<◌, ◌∙◌, ◌∷◌, ◌≡◌, ◌≤◌}
 use Rattle.renumbering.proofs.Bundles.{IsBundle-renumbered, length-renumbered_bundle, renumbered_bundle-joined, renumbered_bundle-range}
 
-
 -- auctions with the same bids
 abbrev pub with_bids : ℕ → List (Atom (List ℕ)) → List (List (Atom (List ℕ))) → PlainAuction
 with_bids goods o x = record { goods = goods; or_atoms = o; xor_bidders = x }

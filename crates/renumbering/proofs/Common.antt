@@ -40,16 +40,16 @@ pub use Rattle.renumbering.specs.Internal.Rounds.{AreColours, AreOn, RefinesAs}
 pub use Rattle.renumbering.specs.Internal.Searching.{FindsLeast, IsLeastFound, IsLesser, IsRenumberedBy, seen_leaf, TakesSteps}
 pub use Rattle.renumbering.specs.Leaves.{below_good, first_colours, HasLeaf, auction_order, IsLeastBelow, IsLeastLeaf, Leaf, leaf_cmp, numbers_by_colour, refining_steps, round_steps}
 pub use Rattle.renumbering.specs.Leaves.{leaf_of, search_steps, steps_of_cell, under}
-pub use Rattle.renumbering.specs.Refusals.{AreNumbers, IsFirstWrong, IsWrongBehind}
+pub use Rattle.renumbering.specs.Refusals.{first_wrong}
 pub use Rattle.renumbering.specs.RenumberedTexts.{ExceedsLimitOfFile, HasRenumberedFile, IsRenumberedFile, IsRenumberedText}
 pub use Rattle.renumbering.specs.Renumbering.{inverse, IsNumbering, joined, number_in, renumbered, renumbered_atom, renumbered_atoms, renumbered_bid, renumbered_bundle}
 pub use Rattle.renumbering.specs.Renumbering.{renumbered_file}
 pub use Rattle.renumbering.specs.SameUpToNumbers.{AreSameFilesUpToNumbers, AreSameTextsUpToNumbers, IsSameUnder, IsSameUpToNumbers}
-pub use Rattle.std.proofs.Common.{ap, ap₂, arith, Bool, cond, eqb, Equal, false, get_or, Greater, inl, inr, is_none, le_refl, length, Less, List, ltb, map}
+pub use Rattle.std.proofs.Common.{ap, ap₂, append-nil, append_assoc, arith, Bool, cond, eqb, Equal, false, get_or, Greater, inl, inr, is_none, le_refl, length, Less, List, ltb, map}
 pub use Rattle.std.proofs.Common.{nat_cmp, None, not, Option, Ordering, refl, replicate, rules, set, Some, subst, suc, sym, take, true, zero, ℕ, [], ⊎_elim}
-pub use Rattle.std.proofs.Common.{◌%◌, ◌&&◌, ◌||◌, ◌*◌, ◌++◌, ◌+◌, ◌<◌, ◌^◌, ◌∙◌, ◌∷◌, ◌≡◌, ◌≢◌, ◌≤◌, ◌⊎◌}
+pub use Rattle.std.proofs.Common.{◌%◌, ◌&&◌, ◌||◌, ◌-◌, ◌*◌, ◌++◌, ◌+◌, ◌<◌, ◌^◌, ◌∙◌, ◌∷◌, ◌≡◌, ◌≢◌, ◌≤◌, ◌⊎◌}
 pub use Rattle.std.proofs.Math.Path.{fun_ext}
-pub use Rattle.std.proofs.lemmas.Bool.{and_from, and_parts, not-true, or_cases, or_parts, both_ways, cases_Bool, cases_eq, cases_lt, cases_order, eq-eqb, eqb-true, false_from_ne_true}
+pub use Rattle.std.proofs.lemmas.Bool.{and_from, and_parts, not-true, not_from_false, or_cases, or_parts, both_ways, cases_Bool, cases_eq, cases_lt, cases_order, eq-eqb, eqb-true, false_from_ne_true}
 pub use Rattle.std.proofs.lemmas.Bool.{le-ltb, lt-ltb, ltb-true, ne_eqb}
 pub use Rattle.std.proofs.lemmas.Bool.Decides.{Decides-eqb}
 pub use Rattle.std.proofs.lemmas.Cmp.{lists_total, nat_cmp_total, nat_list_cmp_total, on_total, then_total, tied_itself}
@@ -74,7 +74,7 @@ pub use Rattle.std.specs.Cmp.Lexicographic.{slice_cmp}
 pub use Rattle.std.specs.FinMap.{nat_cmp-IsAntisymmetric, slice_cmp-IsAntisymmetric}
 pub use Rattle.std.specs.List.{AllByRecursion, count_by, filter, list_all, list_any, position_or_len, range_with_len, slice_get, sum, sum_by}
 pub use Rattle.std.specs.Ordering.{is_eq, ordering_reverse}
-pub use Rattle.std.specs.Prelude.{All, AllPairs, Contains, IfSome, IsPermutation, IsSorted, slice_index, ◌↔◌}
+pub use Rattle.std.specs.Prelude.{All, AllPairs, Contains, IfSome, MatchOption, IsPermutation, IsSorted, slice_index, ◌↔◌}
 pub use Rattle.valuation.specs.Auctions.{atom_of, auction_from, is_dummy, IsAtom, IsAuction, PlainAuction, xor_atoms_of}
 pub use Rattle.valuation.specs.Lemmas.AuctionsOfFiles.{IsAuction-auction_from, IsBid-there}
 pub use Rattle.valuation.specs.Lemmas.Lists.{AllPairs-cons, AllPairs-head, AllPairs-map, AllPairs-nil, AllPairs-tail, Contains-cons_cases, Contains-map, Contains-unmap}

@@ -113,9 +113,12 @@ another_found f one (x ∷ xs) differ l =
     let here : cond {A = ℕ} (f x) 1 0 ≡ 1 = ap (λ (b : Bool). cond {A = ℕ} b 1 0) e in
     ⊎_elim
     (λ (s : x ≡ one).
-    let rest = count_found f xs (omega arith) in
-    (rest.0, Contains-tail x xs rest.0 rest.1, rest.2,
-    λ t. All-contains (λ y. x ≢ y) xs rest.0 (AllPairs-head (λ y z. y ≢ z) x xs differ) rest.1 (s ∙ sym t)))
+    let rest = count_found f xs (omega arith) in (
+      rest.0,
+      Contains-tail x xs rest.0 rest.1,
+      rest.2,
+      λ t. All-contains (λ y. x ≢ y) xs rest.0 (AllPairs-head (λ y z. y ≢ z) x xs differ) rest.1 (s ∙ sym t),
+    ))
     (λ (n : x ≢ one). (x, Contains-head x xs, e, n)) (cases_eq x one))
     (λ (e : f x ≡ false).
     let here : cond {A = ℕ} (f x) 1 0 ≡ 0 = ap (λ (b : Bool). cond {A = ℕ} b 1 0) e in

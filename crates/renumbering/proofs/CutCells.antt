@@ -1,6 +1,6 @@
 -- A cell that is cut has a good, and another.
-use Rattle.renumbering.proofs.Common.{All-contains, and_parts, ap, arith, Atom, Bool, cases_Bool, cell_size, cond, Contains, Contains-head, Contains-tail}
-use Rattle.renumbering.proofs.Common.{contains_from_has, count_by, eqb, eqb-true, false, has_below, has_from_contains, HasAtoms, IsAtom, is_cut, is_cut_by, larger}
+use Rattle.renumbering.proofs.Common.{All, le-ltb, lt-ltb, MatchOption, refl, suc, ◌-◌, ◌≤◌, All-contains, and_parts, ap, arith, Atom, Bool, cases_Bool, cell_size, cond, Contains, Contains-head, Contains-tail}
+use Rattle.renumbering.proofs.Common.{count_by, eqb, eqb-true, false, has_below, has_from_contains, HasAtoms, IsAtom, is_cut, is_cut_by, larger}
 use Rattle.renumbering.proofs.Common.{largest_cut, List, list_any, list_any_found, ltb, ltb-true, None, Option, or_cases, PlainAuction, range_with_len}
 use Rattle.renumbering.proofs.Common.{slice_index, Some, sum_by-cons, sym, true, ℕ, [], ⊎_elim, ◌+◌, ◌<◌, ◌∙◌, ◌∷◌, ◌≡◌, ◌⊎◌, inl, inr}
 use Rattle.renumbering.specs.Cells.{largest}
@@ -54,11 +54,10 @@ pub record HasGoods (a : PlainAuction) (cs : List ℕ) (k : ℕ) : Type 0 where
   pub own : slice_index cs good ≡ k
   pub more : 1 < cell_size a.goods (slice_index cs) k
 
-pub cut_cell : (a : PlainAuction) → HasAtoms a → (cs : List ℕ) (k : ℕ) → largest_cut a cs ≡ Some k → HasGoods a cs k
-cut_cell a h cs k e =
+has_goods : (a : PlainAuction) → HasAtoms a → (cs : List ℕ) (k : ℕ) → is_cut a (slice_index cs) k ≡ true → HasGoods a cs k
+has_goods a h cs k cut =
     let c : ℕ → ℕ = slice_index cs in
     let size : ℕ = cell_size a.goods c k in
-    let cut : is_cut a c k ≡ true = largest_is (is_cut a c) (cell_size a.goods c) (range_with_len 0 a.goods) k e in
     let point = has_some a h c k cut in
     let some : ℕ = count_by (λ g. eqb (c g) k) point.s.bundle in
     let parts = and_parts (ltb 0 some) (ltb some size) point.cuts in
@@ -71,3 +70,63 @@ cut_cell a h cs k e =
       own = eqb-true (c found.0) k found.2;
       more = omega arith;
     }
+
+pub cut_cell : (a : PlainAuction) → HasAtoms a → (cs : List ℕ) (k : ℕ) → largest_cut a cs ≡ Some k → HasGoods a cs k
+cut_cell a h cs k e =
+    has_goods a h cs k (largest_is (is_cut a (slice_index cs)) (cell_size a.goods (slice_index cs)) (range_with_len 0 a.goods) k e)
+
+-- ---- the largest
+
+module _ (a : PlainAuction) (cs : List ℕ) where
+  abbrev cut : ℕ → Bool
+  cut = is_cut a (slice_index cs)
+
+  abbrev size : ℕ → ℕ
+  size = cell_size a.goods (slice_index cs)
+
+  abbrev largest_from : ℕ → Option ℕ
+  largest_from k = largest cut size (range_with_len k (a.goods - k))
+
+  -- of the colours from k on, with its size, or 2 if there is none
+  pub record IsLargestFrom (k : ℕ) (found : Option ℕ) (least : ℕ) : Type 0 where
+    pub is : found ≡ largest_from k
+    pub size : MatchOption found (least ≡ 2) (λ cell. least ≡ size cell)
+
+  pub none_from : IsLargestFrom a.goods None 2
+  unfolding largest
+  none_from =
+      let none : a.goods - a.goods ≡ 0 = omega arith in
+      record { is = sym (ap (λ (n : ℕ). largest cut size (range_with_len a.goods n)) none); size = refl }
+
+  pub all_from : (found : Option ℕ) (least : ℕ) → IsLargestFrom 0 found least → found ≡ largest_cut a cs
+  all_from found least h = h.is
+
+  module _ (k : ℕ) (below : k < a.goods) (found : Option ℕ) (least : ℕ) (h : IsLargestFrom (k + 1) found least) where
+    one_more : largest_from k ≡ cond (cut k) (larger size k found) found
+    unfolding largest
+    one_more =
+        let more : a.goods - k ≡ suc (a.goods - (k + 1)) = omega arith in
+        ap (λ (n : ℕ). largest cut size (range_with_len k n)) more ∙ ap (λ (o : Option ℕ). cond (cut k) (larger size k o) o) (sym h.is)
+
+    pub uncut_from : cut k ≡ false → IsLargestFrom k found least
+    uncut_from e = record { is = sym (one_more ∙ ap (λ (b : Bool). cond b (larger size k found) found) e); size = h.size }
+
+    pub cut_from : cut k ≡ true → least ≤ size k → IsLargestFrom k (Some k) (size k)
+    cut_from e l = record {
+      is = sym (one_more ∙ ap (λ (b : Bool). cond b (larger size k found) found) e ∙ by found h.size);
+      size = refl;
+    }
+      where
+        by : (o : Option ℕ) → MatchOption o (least ≡ 2) (λ cell. least ≡ size cell) → larger size k o ≡ Some k
+        by None m = refl
+        by (Some other) m = ap (λ (b : Bool). cond b (Some other) (Some k)) (le-ltb (size k) (size other) (omega arith))
+
+    pub small_from : HasAtoms a → size k < least → IsLargestFrom k found least
+    small_from atoms l = ⊎_elim (λ (e : cut k ≡ true). small e) uncut_from (cases_Bool (cut k))
+      where
+        by : cut k ≡ true → (o : Option ℕ) → MatchOption o (least ≡ 2) (λ cell. least ≡ size cell) → larger size k o ≡ o
+        by e None m = let its = has_goods a atoms cs k e in absurd (omega (arith, its.more))
+        by e (Some other) m = ap (λ (b : Bool). cond b (Some other) (Some k)) (lt-ltb (size k) (size other) (omega arith))
+
+        small : cut k ≡ true → IsLargestFrom k found least
+        small e = record { is = sym (one_more ∙ ap (λ (b : Bool). cond b (larger size k found) found) e ∙ by e found h.size); size = h.size }

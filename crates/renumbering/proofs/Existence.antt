@@ -150,8 +150,11 @@ module _ (mix : ℕ → ℕ → ℕ) (a : PlainAuction) where
   rounds_over zero cs low = (low, λ g l. omega arith)
   rounds_over (suc n) cs low =
       let later = rounds_over n (next_colours mix a cs) (next_low cs) in
-      by (are_stable mix a cs) (colours_after mix a n (next_colours mix a cs)) (later.0, λ g l.
-      let one = next_grows cs low g l in let other = later.1 g l in omega arith)
+      by (are_stable mix a cs) (colours_after mix a n (next_colours mix a cs)) (
+        later.0,
+        λ g l.
+            let one = next_grows cs low g l in let other = later.1 g l in omega arith,
+      )
     where
       by : (b : Bool) (ds : List ℕ) → AreOver cs ds → AreOver cs (cond b cs ds)
       by true ds over = (low, λ g l. omega arith)
@@ -193,9 +196,11 @@ module _ (mix : ℕ → ℕ → ℕ) (a : PlainAuction) where
           ⊎_elim
           (λ (own : slice_index cs i ≡ cell).
           let lower = below i good own in
-          let lesser = lesser_leaf before.0 (under (trace mix a (below_good mix a cs i)) lower.leaf) in
-          (Some lesser.0, subst (λ (k : ℕ). IsLeastSoFar mix a cs cell k (Some lesser.0)) next
-          (take_good mix a cs cell cut i good own lower.leaf lower.least before.0 lesser.0 lesser.1 before.1)))
+          let lesser = lesser_leaf before.0 (under (trace mix a (below_good mix a cs i)) lower.leaf) in (
+            Some lesser.0,
+            subst (λ (k : ℕ). IsLeastSoFar mix a cs cell k (Some lesser.0)) next
+                (take_good mix a cs cell cut i good own lower.leaf lower.least before.0 lesser.0 lesser.1 before.1),
+          ))
           (λ (differs : slice_index cs i ≢ cell).
           (before.0, subst (λ (k : ℕ). IsLeastSoFar mix a cs cell k before.0) next (skip_good mix a cs cell cut i before.0 differs before.1)))
           (cases_eq (slice_index cs i) cell)

@@ -1,14 +1,18 @@
--- The first index at which a list is not a numbering: a numbering has none, no list has two, and numbers of goods, as many as there are goods and each
--- once, are a numbering.
-use Rattle.renumbering.proofs.Common.{All, All-contains, All-from_Contains, All-from_recursion, AllPairs, AllPairs-cons, AllPairs-head, AllPairs-nil}
-use Rattle.renumbering.proofs.Common.{AllPairs-tail, ap, ap₂, AreAbove, AreBelow, AreBelow-from_has, AreNumbers, arith, both_ways, cases_lt, Contains}
-use Rattle.renumbering.proofs.Common.{contains_from_has, false, false_from_ne_true, get_or, get_or-take, get_or_default, has_above, has_from_contains, has_good}
-use Rattle.renumbering.proofs.Common.{has_head, IsFirstWrong, IsNumbering, IsPermutation, IsPermutation-sym, IsRising, IsWrongBehind, length, length-take-le}
-use Rattle.renumbering.proofs.Common.{length_bundle, List, nat_cmp, Option, permutation-sort_by, range_with_len, refl, slice_get, slice_get-get_or}
-use Rattle.renumbering.proofs.Common.{slice_get_past, Some, sort_by, subst, suc, sym, take, take-take, true, zero, ℕ, [], ⊎_elim, ◌+◌, ◌<◌, ◌∙◌, ◌∷◌, ◌≡◌, ◌≢◌}
-use Rattle.renumbering.proofs.Common.{◌≤◌, ◌⊎◌}
+-- Numbers of goods, as many as there are goods and each once, are a numbering, and exactly a numbering is wrong at no index.
+use Rattle.renumbering.proofs.Common.{All, all_pairs_push, All-contains, All-push, AllPairs, AllPairs-head, AllPairs-tail, and_from, and_parts, ap, ap₂}
+use Rattle.renumbering.proofs.Common.{append-nil, append_assoc, AreAbove, AreBelow, AreBelow-from_has, arith, Bool, both_ways, cases_Bool, cases_lt, cond, Contains}
+use Rattle.renumbering.proofs.Common.{Contains-head, Contains-tail, contains_from_has, false, false_from_ne_true, first_wrong, get_or_default, has_above}
+use Rattle.renumbering.proofs.Common.{has_from_contains, has_good, has_head, inl, inr, IsNumbering, IsPermutation, IsPermutation-sym, IsRising, le-ltb, length}
+use Rattle.renumbering.proofs.Common.{length_bundle, List, lt-ltb, ltb, ltb-true, nat_cmp, ne_eqb, None, not, not-true, not_from_false, Option, permutation-sort_by}
+use Rattle.renumbering.proofs.Common.{range_with_len, refl, Some, sort_by, subst, suc, sym, true, zero, ℕ, [], ⊎_elim, ◌&&◌, ◌++◌, ◌+◌, ◌<◌, ◌∙◌, ◌∷◌, ◌≡◌, ◌≢◌}
+use Rattle.renumbering.proofs.Common.{◌≤◌, ◌⊎◌, ◌↔◌}
 use Rattle.renumbering.proofs.Bundles.{has-sort_by, length-sort_by, rising-insert_by}
 use Rattle.renumbering.proofs.Numberings.{below, differ, length-numbering}
+
+-- numbers of goods, each once
+pub record AreNumbers (goods : ℕ) (numbers : List ℕ) : Type 0 where
+  pub below : All (λ number. number < goods) numbers
+  pub distinct : AllPairs (λ x y. x ≢ y) numbers
 
 -- ---- numbers of goods that are as many as the goods
 
@@ -44,25 +48,6 @@ below-sorted : (goods : ℕ) (xs : List ℕ) → All (λ x. x < goods) xs → Ar
 below-sorted goods xs h =
     AreBelow-from_has goods (sort_by nat_cmp xs) (λ g k. All-contains (λ x. x < goods) xs g h (contains_from_has xs g (sym (has-sort_by xs g) ∙ k)))
 
--- no number is there again
-abbrev pub Differ : List ℕ → Type 0
-Differ [] = Unit {0}
-Differ (x ∷ xs) = (has_good xs x ≡ false) × Differ xs
-
-pairs_from_tests : (numbers : List ℕ) → Differ numbers → AllPairs (λ x y. x ≢ y) numbers
-pairs_from_tests [] h = AllPairs-nil (λ x y. x ≢ y)
-pairs_from_tests (x ∷ xs) h =
-    AllPairs-cons (λ x y. x ≢ y) x xs
-    (All-from_Contains (λ y. x ≢ y) xs (λ y c e. both_ways (has_good xs x) h.0 (subst (λ z. has_good xs z ≡ true) (sym e) (has_from_contains xs y c))))
-    (pairs_from_tests xs h.1)
-
--- numbers by tests that compute
-pub numbers_from_tests : (goods : ℕ) (numbers : List ℕ) → AreBelow goods numbers → Differ numbers → AreNumbers goods numbers
-numbers_from_tests goods numbers below differ = record {
-  below = All-from_recursion (λ x. x < goods) numbers below;
-  distinct = pairs_from_tests numbers differ;
-}
-
 pub numbering_from_numbers : (goods : ℕ) (numbers : List ℕ) → AreNumbers goods numbers → length numbers ≡ goods → IsNumbering goods numbers
 numbering_from_numbers goods numbers h e =
     let sorted = sort_by nat_cmp numbers in
@@ -79,41 +64,70 @@ no_more_numbers goods numbers h =
 
 -- ---- where a list is wrong
 
-pub numbers_from_numbering : (goods : ℕ) (numbers : List ℕ) → IsNumbering goods numbers → AreNumbers goods numbers
-numbers_from_numbering goods numbers h = record { below = below goods numbers h; distinct = differ goods numbers h }
+-- a number that is right, behind others
+pub one_more_right : (goods : ℕ) (before : List ℕ) (number : ℕ) → AreNumbers goods before → number < goods → has_good before number ≡ false
+    → AreNumbers goods (before ++ number ∷ [])
+one_more_right goods before number h below free = record {
+  below = All-push (λ x. x < goods) before number h.below below;
+  distinct = all_pairs_push (λ x y. x ≢ y) before number h.distinct
+      (λ k d l e. both_ways (has_good before number) free (has_from_contains before number (k, l, get_or_default before k number d l ∙ e)));
+}
 
--- numbers of goods, each once, are wrong nowhere
-nowhere : (goods i : ℕ) (xs : List ℕ) → i < length xs → AreNumbers goods xs → IsWrongBehind goods (take i xs) (slice_get xs i) → ⊥
-nowhere goods i xs l h w =
-    let wrong : IsWrongBehind goods (take i xs) (Some (get_or xs i 0)) =
-    subst (λ (o : Option ℕ). IsWrongBehind goods (take i xs) o) (slice_get-get_or xs i 0 l) w in
-    ⊎_elim (λ (m : goods ≤ get_or xs i 0). let n : get_or xs i 0 < goods = h.below i 0 l in omega arith)
-    (λ (c : Contains (take i xs) (get_or xs i 0)).
-    let earlier : c.0 < i = subst (λ (k : ℕ). c.0 < k) (length-take-le i xs (omega arith)) c.1 in
-    h.distinct c.0 i (get_or xs i 0) earlier l (sym (get_or-take i xs c.0 (get_or xs i 0) earlier) ∙ c.2 ∙ get_or_default xs i 0 (get_or xs i 0) l)) wrong
+right_behind : (goods : ℕ) (before numbers : List ℕ) → AreNumbers goods before → first_wrong goods before numbers ≡ None → IsNumbering goods (before ++ numbers)
+right_behind goods before [] h e =
+    subst (IsNumbering goods) (sym (append-nil before))
+    (⊎_elim
+    (λ (l : length before < goods). absurd (at_end (ltb (length before) goods) (lt-ltb (length before) goods l) e))
+    (λ (m : goods ≤ length before).
+    let most = no_more_numbers goods before h in
+    numbering_from_numbers goods before h (omega arith)) (cases_lt (length before) goods))
+  where
+    at_end : (b : Bool) → b ≡ true → cond b (Some (length before)) None ≡ None → ⊥
+    at_end true f g = absurd (cc)
+    at_end false f g = absurd (cc)
+right_behind goods before (x ∷ xs) h e =
+    by (cases_Bool (ltb x goods && not (has_good before x)))
+  where
+    rest : Option ℕ
+    rest = first_wrong goods (before ++ x ∷ []) xs
 
-pub no_wrong_index : (goods index : ℕ) (numbers : List ℕ) → IsNumbering goods numbers → IsFirstWrong goods numbers index → ⊥
-no_wrong_index goods index numbers h w = ⊎_elim
-    (λ (l : index < length numbers). nowhere goods index numbers l (numbers_from_numbering goods numbers h) w.wrong)
-    (λ (m : length numbers ≤ index).
-    let short : length (take index numbers) < goods =
-    subst (λ (o : Option ℕ). IsWrongBehind goods (take index numbers) o) (slice_get_past numbers index m) w.wrong in
-    let all : length (take index numbers) ≡ index = length-take-le index numbers w.within in
-    let long : length numbers ≡ goods = length-numbering goods numbers h in
-    omega arith) (cases_lt index (length numbers))
+    by : ((ltb x goods && not (has_good before x)) ≡ true) ⊎ ((ltb x goods && not (has_good before x)) ≡ false) → IsNumbering goods (before ++ x ∷ xs)
+    by (inl right) =
+        let parts = and_parts (ltb x goods) (not (has_good before x)) right in
+        let more = one_more_right goods before x h (ltb-true x goods parts.0) (not-true (has_good before x) parts.1) in
+        subst (IsNumbering goods) (append_assoc before (x ∷ []) xs)
+        (right_behind goods (before ++ x ∷ []) xs more (sym (ap (λ (b : Bool). cond b rest (Some (length before))) right) ∙ e))
+    by (inr wrong) = let some : Some (length before) ≡ None = sym (ap (λ (b : Bool). cond b rest (Some (length before))) wrong) ∙ e in absurd (cc)
 
-earlier_wrong : (goods i j : ℕ) (numbers : List ℕ) → i < j → IsFirstWrong goods numbers i → IsFirstWrong goods numbers j → ⊥
-earlier_wrong goods i j numbers l one other =
-    let long : length (take j numbers) ≡ j = length-take-le j numbers other.within in
-    let within : i < length (take j numbers) = omega arith in
-    let there : i < length numbers = omega (arith, other.within) in
-    let same : slice_get numbers i ≡ slice_get (take j numbers) i =
-    slice_get-get_or numbers i 0 there ∙ ap Some (sym (get_or-take j numbers i 0 l)) ∙ sym (slice_get-get_or (take j numbers) i 0 within) in
-    nowhere goods i (take j numbers) within other.right
-    (subst (λ (before : List ℕ). IsWrongBehind goods before (slice_get (take j numbers) i)) (sym (take-take i j numbers (omega arith)))
-    (subst (λ (o : Option ℕ). IsWrongBehind goods (take i numbers) o) same one.wrong))
+contains_behind : (before : List ℕ) (x : ℕ) (xs : List ℕ) → Contains (before ++ x ∷ xs) x
+contains_behind [] x xs = Contains-head x xs
+contains_behind (y ∷ ys) x xs = Contains-tail y (ys ++ x ∷ xs) x (contains_behind ys x xs)
 
-pub one_wrong_index : (goods i j : ℕ) (numbers : List ℕ) → IsFirstWrong goods numbers i → IsFirstWrong goods numbers j → i ≡ j
-one_wrong_index goods i j numbers one other =
-    ⊎_elim (λ (l : i < j). absurd (earlier_wrong goods i j numbers l one other))
-    (λ (m : j ≤ i). ⊎_elim (λ (l : j < i). absurd (earlier_wrong goods j i numbers l other one)) (λ (n : i ≤ j). omega arith) (cases_lt j i)) (cases_lt i j)
+-- a number of a list of numbers that differ is not before itself
+not_before : (before : List ℕ) (x : ℕ) (xs : List ℕ) → AllPairs (λ y z. y ≢ z) (before ++ x ∷ xs) → has_good before x ≡ false
+not_before [] x xs h = refl
+not_before (y ∷ ys) x xs h =
+    let later = not_before ys x xs (AllPairs-tail (λ y z. y ≢ z) y (ys ++ x ∷ xs) h) in
+    let differs : y ≢ x =
+    All-contains (λ z. y ≢ z) (ys ++ x ∷ xs) x (AllPairs-head (λ y z. y ≢ z) y (ys ++ x ∷ xs) h)
+    (contains_behind ys x xs) in
+    rw (ne_eqb y x differs) later
+
+none_wrong : (goods : ℕ) (before numbers : List ℕ) → AreNumbers goods (before ++ numbers) → length (before ++ numbers) ≡ goods
+    → first_wrong goods before numbers ≡ None
+none_wrong goods before [] h e =
+    let long : goods ≤ length before = omega (arith, ap (λ (xs : List ℕ). length xs) (append-nil before)) in
+    ap (λ (b : Bool). cond b (Some (length before)) None) (le-ltb (length before) goods long)
+none_wrong goods before (x ∷ xs) h e =
+    let below : x < goods = All-contains (λ y. y < goods) (before ++ x ∷ xs) x h.below (contains_behind before x xs) in
+    let right : (ltb x goods && not (has_good before x)) ≡ true =
+    and_from (ltb x goods) (not (has_good before x)) (lt-ltb x goods below) (not_from_false (has_good before x) (not_before before x xs h.distinct)) in
+    let same : (before ++ x ∷ []) ++ xs ≡ before ++ x ∷ xs = append_assoc before (x ∷ []) xs in
+    ap (λ (b : Bool). cond b (first_wrong goods (before ++ x ∷ []) xs) (Some (length before))) right
+    ∙ none_wrong goods (before ++ x ∷ []) xs (subst (AreNumbers goods) (sym same) h) (ap (λ (ys : List ℕ). length ys) same ∙ e)
+
+pub right_exactly : (goods : ℕ) (numbers : List ℕ) → (first_wrong goods [] numbers ≡ None ↔ IsNumbering goods numbers)
+right_exactly goods numbers = (
+  right_behind goods [] numbers (record { below = λ k d l. absurd (omega arith); distinct = λ i j d l m. absurd (omega arith) }),
+  λ h. none_wrong goods [] numbers (record { below = below goods numbers h; distinct = differ goods numbers h }) (length-numbering goods numbers h),
+)

@@ -22,6 +22,7 @@ pub mod CanonicalNumbers
 pub mod Headline
 pub mod Searching
 pub mod Existence
+pub mod Found
 pub mod OwnFiles
 pub mod Runs
 pub mod Ranks

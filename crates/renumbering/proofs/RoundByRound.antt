@@ -48,9 +48,9 @@ module _ (mix : ℕ → ℕ → ℕ) (a : PlainAuction) where
     unfolding colours_after rounds_after
     one_round stable e = (
       h.same ∙ ap (λ (k : ℕ). colours_after mix a k colours) left
-      ∙ ap (λ (b : Bool). cond b colours (colours_after mix a (n - (i + 1)) (next_colours mix a colours))) e,
+          ∙ ap (λ (b : Bool). cond b colours (colours_after mix a (n - (i + 1)) (next_colours mix a colours))) e,
       h.rounds ∙ ap (λ (k : ℕ). i + rounds_after mix a k colours) left
-      ∙ ap (λ (b : Bool). i + (1 + cond b 0 (rounds_after mix a (n - (i + 1)) (next_colours mix a colours)))) e,
+          ∙ ap (λ (b : Bool). i + (1 + cond b 0 (rounds_after mix a (n - (i + 1)) (next_colours mix a colours)))) e,
     )
 
     pub one_more_done : (next : List ℕ) → next ≡ next_colours mix a colours → next ≢ colours → AreAfter n first next (i + 1)
@@ -101,6 +101,7 @@ module _ (mix : ℕ → ℕ → ℕ) (a : PlainAuction) where
   all_rounds n first colours i h end before left_steps round spent =
       let none : n - i ≡ 0 = omega arith in
       let rounds : rounds_after mix a n first ≡ i + 0 = h.rounds ∙ ap (λ (k : ℕ). i + rounds_after mix a k colours) none in
-      let same : i + 0 ≡ i = omega arith in
-      (sym (h.same ∙ ap (λ (k : ℕ). colours_after mix a k colours) none),
-       spent ∙ ap (λ (k : ℕ). left_steps + k * round) (sym (rounds ∙ same)))
+      let same : i + 0 ≡ i = omega arith in (
+        sym (h.same ∙ ap (λ (k : ℕ). colours_after mix a k colours) none),
+        spent ∙ ap (λ (k : ℕ). left_steps + k * round) (sym (rounds ∙ same)),
+      )

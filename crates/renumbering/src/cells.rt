@@ -59,7 +59,11 @@ fn is_cut(file: &PackedFile, colours: &[u16], colour: u16, size: u64) -> bool
 
 /// The largest cell that a point of a canonical file cuts, of as many goods that of the least colour. Points are looked at
 /// only for cells that are large enough.
-pub(crate) fn largest_cut(alloc: Global, file: &PackedFile, colours: &[u16]) -> Result<Option<u16>, AllocError>
+pub(crate) fn largest_cut(
+    alloc: Global,
+    file: &PackedFile,
+    colours: &[u16],
+) -> Result<Option<u16>, AllocError>
     requires canonical { IsCanonicalFile file.now }
     requires colours { AreColours file.now.goods colours.now }
     ensures { IfOk result (λ cell. cell ≡ largest_cut_in (auction_from file.now) colours.now) }

@@ -24,7 +24,11 @@ pub fn renumber(
 }
 
 /// The file with its goods numbered by a list that is a numbering.
-pub(crate) fn file_under(alloc: Global, file: &PackedFile, numbering: &[u16]) -> Result<PackedFile, AllocError>
+pub(crate) fn file_under(
+    alloc: Global,
+    file: &PackedFile,
+    numbering: &[u16],
+) -> Result<PackedFile, AllocError>
     requires { IsNumbering file.now.goods numbering.now }
     ensures { IfOk result (λ f. f ≡ renumbered_file numbering.now file.now) }
 {
@@ -43,7 +47,11 @@ pub(crate) fn file_under(alloc: Global, file: &PackedFile, numbering: &[u16]) ->
 }
 
 /// Puts the new numbers of the goods into a buffer.
-pub(crate) fn list_numbers(numbering: &[u16], goods: &[u16], numbers: &mut Vec<u16>) -> Result<(), AllocError>
+pub(crate) fn list_numbers(
+    numbering: &[u16],
+    goods: &[u16],
+    numbers: &mut Vec<u16>,
+) -> Result<(), AllocError>
     requires { All (λ good. good < length numbering.now) goods.now }
     ensures { OnOk result (numbers.new.items ≡ map (number_in numbering.now) goods.now) }
 {

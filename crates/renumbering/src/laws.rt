@@ -1,13 +1,13 @@
 //! What is promised, over the definitions alone.
 
-ghost use Rattle.std.specs.Prelude.{◌≡◌, ◌↔◌, ℕ, List};
+ghost use Rattle.std.specs.Prelude.{◌≡◌, ◌↔◌, ℕ, List, [], None};
 ghost use Rattle.bid_file.specs.Files.{IsPlainFile, PlainFile};
 ghost use Rattle.valuation.specs.Auctions.{IsAuction, PlainAuction, auction_from};
 ghost use Rattle.valuation.specs.Values.{or_value, xor_value};
 ghost use Rattle.valuation.specs.declared.atom.Atom.{Atom};
 ghost use Rattle.canon.specs.Canonical.{IsCanonicalFile};
 ghost use Rattle.canon.specs.Sameness.{IsSameAuction};
-ghost use Rattle.renumbering.specs.Refusals.{IsFirstWrong};
+ghost use Rattle.renumbering.specs.Refusals.{first_wrong};
 ghost use Rattle.renumbering.specs.Renumbering.{IsNumbering, renumbered, renumbered_atoms, renumbered_bundle};
 ghost use Rattle.renumbering.specs.Renumbering.{renumbered_file};
 ghost use Rattle.renumbering.specs.RenumberedTexts.{ExceedsLimitOfFile, HasRenumberedFile, IsRenumberedFile, IsRenumberedText};
@@ -84,8 +84,7 @@ pub fn files_are_renumbered()
         ≡ renumbered numbering (auction_from f) }
 {}
 
-/// A numbering is wrong at no index, and another list at one.
-pub fn lists_have_one_first_wrong_index()
-    ensures none { (goods index : ℕ) (numbers : List ℕ) → IsNumbering goods numbers → IsFirstWrong goods numbers index → ⊥ }
-    ensures one { (goods i j : ℕ) (numbers : List ℕ) → IsFirstWrong goods numbers i → IsFirstWrong goods numbers j → i ≡ j }
+/// Exactly a numbering is wrong at no index.
+pub fn only_numberings_are_right()
+    ensures { (goods : ℕ) (numbers : List ℕ) → (first_wrong goods [] numbers ≡ None ↔ IsNumbering goods numbers) }
 {}

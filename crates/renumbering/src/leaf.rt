@@ -30,7 +30,11 @@ pub(crate) struct LeafFile {
 }
 
 /// The leaf of colours that cut no cell.
-pub(crate) fn read_leaf(alloc: Global, file: &PackedFile, colours: &[u16]) -> Result<LeafFile, AllocError>
+pub(crate) fn read_leaf(
+    alloc: Global,
+    file: &PackedFile,
+    colours: &[u16],
+) -> Result<LeafFile, AllocError>
     requires canonical { IsCanonicalFile file.now }
     requires long { length colours.now ≡ file.now.goods }
     ensures leaf { IfOk result (λ leaf. seen_leaf leaf ≡ leaf_of (auction_from file.now) colours.now) }
@@ -61,7 +65,11 @@ fn order_of_bidders(one: &[BidRun<'_, PackedFile>], other: &[BidRun<'_, PackedFi
 }
 
 /// The order of canonical files: by the OR bidder, and then by the XOR bidders.
-pub(crate) fn order_of_files(alloc: Global, one: &PackedFile, other: &PackedFile) -> Result<Ordering, AllocError>
+pub(crate) fn order_of_files(
+    alloc: Global,
+    one: &PackedFile,
+    other: &PackedFile,
+) -> Result<Ordering, AllocError>
     requires one { IsCanonicalFile one.now }
     requires other { IsCanonicalFile other.now }
     ensures { IfOk result (λ order. order ≡ auction_order (auction_from one.now) (auction_from other.now)) }
@@ -88,7 +96,11 @@ fn order_of_leaves(alloc: Global, one: &LeafFile, other: &LeafFile) -> Result<Or
 }
 
 /// The lesser of two leaves.
-pub(crate) fn lesser(alloc: Global, one: Option<LeafFile>, other: LeafFile) -> Result<LeafFile, AllocError>
+pub(crate) fn lesser(
+    alloc: Global,
+    one: Option<LeafFile>,
+    other: LeafFile,
+) -> Result<LeafFile, AllocError>
     requires one { IfSome one (λ leaf. IsCanonicalFile leaf.file) }
     requires other { IsCanonicalFile other.file }
     ensures { IfOk result (λ leaf. IsLesser one other leaf) }

@@ -29,7 +29,11 @@ pub struct Renumbered {
 
 /// The renumbered file of a canonical file, and the numbers that make it, if the whole search takes no more steps than so
 /// many. A step is one good of one point, or of the auction, that is looked at in a round.
-pub fn renumbered(alloc: Global, file: &PackedFile, steps: u64) -> Result<Renumbered, NumberingFault>
+pub fn renumbered(
+    alloc: Global,
+    file: &PackedFile,
+    steps: u64,
+) -> Result<Renumbered, NumberingFault>
     requires { IsCanonicalFile file.now }
     ensures file { IfOk result (λ r. IsRenumberedFile mix_64 file.now r.file) }
     ensures numbering { IfOk result (λ r. IsSameUnder r.numbering.items (auction_from file.now) (auction_from r.file)) }
@@ -38,7 +42,11 @@ pub fn renumbered(alloc: Global, file: &PackedFile, steps: u64) -> Result<Renumb
     let mut left = steps;
     let one_colour = vec![in alloc; 0; file.goods() as usize]?;
     let first = refine(alloc, file, one_colour, &mut left)?;
-    let LeafFile { traces: _, file, numbering } = least_below(alloc, file, &first, &mut left)?;
+    let LeafFile {
+        traces: _,
+        file,
+        numbering,
+    } = least_below(alloc, file, &first, &mut left)?;
     Ok(Renumbered { file, numbering })
 }
 

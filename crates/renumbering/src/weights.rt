@@ -83,7 +83,11 @@ fn add_xor_bidders(weights: &mut [u64], bidders: &[BidRun<'_, PackedFile>], colo
 }
 
 /// The weights of all goods of a canonical file.
-pub(crate) fn good_weights(alloc: Global, file: &PackedFile, colours: &[u16]) -> Result<Vec<u64>, AllocError>
+pub(crate) fn good_weights(
+    alloc: Global,
+    file: &PackedFile,
+    colours: &[u16],
+) -> Result<Vec<u64>, AllocError>
     requires canonical { IsCanonicalFile file.now }
     requires long { length colours.now ≡ file.now.goods }
     ensures length { IfOk result (λ weights. length weights.items ≡ file.now.goods) }

@@ -7,8 +7,8 @@ ghost use Rattle.canon.specs.Examples.{auction};
 ghost use Rattle.renumbering.specs.Cells.{largest_cut, set_apart};
 ghost use Rattle.renumbering.specs.Examples.{plain_mix};
 ghost use Rattle.renumbering.specs.Leaves.{first_colours, numbers_by_colour, search_steps};
-ghost use Rattle.renumbering.specs.Refusals.{IsFirstWrong};
-ghost use Rattle.renumbering.specs.Renumbering.{IsNumbering, renumbered, renumbered_bundle, renumbered_file};
+ghost use Rattle.renumbering.specs.Refusals.{first_wrong};
+ghost use Rattle.renumbering.specs.Renumbering.{renumbered, renumbered_bundle, renumbered_file};
 ghost use Rattle.renumbering.specs.SameUpToNumbers.{IsSameUpToNumbers};
 
 /// Goods under other numbers: those of a bundle rise, and bids and bidders stay in their order.
@@ -32,11 +32,11 @@ pub fn auctions_up_to_numbers()
 
 /// Where a list is not a numbering.
 pub fn first_wrong_indices()
-    ensures no_good { IsFirstWrong 2 (0 ∷ 2 ∷ []) 1 }
-    ensures twice { IsFirstWrong 3 (1 ∷ 1 ∷ 0 ∷ []) 1 }
-    ensures short { IsFirstWrong 3 (1 ∷ 0 ∷ []) 2 }
-    ensures long { IsFirstWrong 1 (0 ∷ 0 ∷ []) 1 }
-    ensures right { IsNumbering 3 (2 ∷ 0 ∷ 1 ∷ []) }
+    ensures no_good { first_wrong 2 [] (0 ∷ 2 ∷ []) ≡ Some 1 }
+    ensures twice { first_wrong 3 [] (1 ∷ 1 ∷ 0 ∷ []) ≡ Some 1 }
+    ensures short { first_wrong 3 [] (1 ∷ 0 ∷ []) ≡ Some 2 }
+    ensures long { first_wrong 1 [] (0 ∷ 0 ∷ []) ≡ Some 1 }
+    ensures right { first_wrong 3 [] (2 ∷ 0 ∷ 1 ∷ []) ≡ None }
 {}
 
 /// Colours, cells and numbers of three goods, of which two have one price, by a mix that is easy to follow.

@@ -1,7 +1,8 @@
--- the ranks of the keys so far
-use Rattle.std.proofs.Common.{◌≡◌, ℕ, nat_lt, map, take}
-use Rattle.std.specs.List.{count_by}
+-- `ranks`: the keys of the goods so far.
+use Rattle.std.proofs.Common.{◌≡◌, ℕ, ◌+◌, ◌*◌, ◌^◌, map}
+use Rattle.std.specs.Prelude.{slice_index}
+use Rattle.std.specs.List.{range_with_len}
 use Rattle.renumbering.proofs.ranks.ranks.Given as goal
 
-abbrev pub invariant-loop-key : goal.invariant-loop-key
-invariant-loop-key l = l.ranks.items ≡ map (λ k. count_by (λ h. nat_lt h k) l.sorted.items) (take l.key-index l.keys)
+abbrev pub invariant-loop-good : goal.invariant-loop-good
+invariant-loop-good l = l.keys.items ≡ map (λ g. slice_index l.first g * 2 ^ 64 + slice_index l.second g) (range_with_len 0 l.good)

@@ -13,18 +13,18 @@ pub point_weight-requires : goal.point_weight-requires
 point_weight-requires c =
     bid_on (length c.args.colours.now) c.args.bids.now c.loop-index.index (seen_bid c.at-bid.result) c.requires.goods c.at-bid.ensures
 
-pub add_to_goods-requires : goal.add_to_goods-requires
-add_to_goods-requires c =
+pub add_at-requires : goal.add_at-requires
+add_at-requires c =
     subst (λ (n : ℕ). All (λ good. good < n) c.at-bid.result.goods.now) (sym (c.loop-index.invariant.0 ∙ c.requires.same))
     (bid_on (length c.args.colours.now) c.args.bids.now c.loop-index.index (seen_bid c.at-bid.result) c.requires.goods c.at-bid.ensures)
 
 pub loop-index-preserved : goal.loop-index-preserved
 loop-index-preserved c = (
-  c.add_to_goods.ensures.length ∙ c.loop-index.invariant.0,
+  c.add_at.ensures.length ∙ c.loop-index.invariant.0,
   λ g. sum_wraps (from_point mix_64 (slice_index c.args.colours.now) c.args.whole g) atom_of c.args.bids.now c.loop-index.index (seen_bid c.at-bid.result)
       (slice_index c.args.weights.now g) (slice_index c.loop-index.weights g)
-      (sum_by (λ x. cond (eqb x g) c.mix-weight.result 0) c.at-bid.result.goods.now) (slice_index c.add_to_goods.new.weights g) c.at-bid.ensures
+      (sum_by (λ x. cond (eqb x g) c.mix-weight.result 0) c.at-bid.result.goods.now) (slice_index c.add_at.new.weights g) c.at-bid.ensures
       (c.loop-index.invariant.1 g)
       (ap (λ (w : ℕ). sum_by (λ x. cond (eqb x g) w 0) c.at-bid.result.goods.now)
-      (c.mix-weight.ensures ∙ ap (mix_64 c.args.whole) c.point_weight.ensures)) (c.add_to_goods.ensures.sums g),
+      (c.mix-weight.ensures ∙ ap (mix_64 c.args.whole) c.point_weight.ensures)) (c.add_at.ensures.sums g),
 )

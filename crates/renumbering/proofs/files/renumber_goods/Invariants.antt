@@ -1,7 +1,0 @@
--- `renumber_goods`: the numbers so far.
-use Rattle.std.proofs.Common.{◌≡◌, map, take}
-use Rattle.renumbering.specs.Renumbering.{number_in}
-use Rattle.renumbering.proofs.files.renumber_goods.Given as goal
-
-abbrev pub invariant-loop-good : goal.invariant-loop-good
-invariant-loop-good l = l.bundle.items ≡ map (number_in l.numbering) (take l.good-index l.goods)

@@ -1,8 +1,0 @@
--- `next_colours`: the keys of the goods so far.
-use Rattle.std.proofs.Common.{◌≡◌, ℕ, ◌+◌, ◌*◌, ◌^◌, map}
-use Rattle.std.specs.Prelude.{slice_index}
-use Rattle.std.specs.List.{range_with_len}
-use Rattle.renumbering.proofs.round.next_colours.Given as goal
-
-abbrev pub invariant-loop-good : goal.invariant-loop-good
-invariant-loop-good l = l.keys.items ≡ map (λ g. slice_index l.colours g * 2 ^ 64 + slice_index l.weights.items g) (range_with_len 0 l.good)
