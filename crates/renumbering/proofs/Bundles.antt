@@ -98,9 +98,8 @@ bundle_back p q bundle back r =
     ∙ ap (sort_by nat_cmp) (map-map (number_in q) (number_in p) bundle)
     ∙ ap (λ (f : ℕ → ℕ). sort_by nat_cmp (map f bundle)) (fun_ext back) ∙ ap (sort_by nat_cmp) (map-id bundle) ∙ sort_by-rising bundle r
 
--- the new numbers of all goods, put in order in any way
-pub bundle_in_order : (p goods moved sorted : List ℕ) (k : ℕ) → length goods ≤ k → moved ≡ map (number_in p) (take k goods) → IsPermutation moved sorted
-    → IsSorted nat_cmp sorted → sorted ≡ renumbered_bundle p goods
-bundle_in_order p goods moved sorted k l e moves up =
-    sorted_is_sort_by nat_cmp nat_cmp_total exact_unsigned moved sorted moves up
-    ∙ ap (sort_by nat_cmp) (e ∙ ap (map (number_in p)) (take_all k goods l))
+-- the new numbers of the goods, put in order in any way
+pub bundle_in_order : (p goods moved sorted : List ℕ) → moved ≡ map (number_in p) goods → IsPermutation moved sorted → IsSorted nat_cmp sorted
+    → sorted ≡ renumbered_bundle p goods
+bundle_in_order p goods moved sorted e moves up =
+    sorted_is_sort_by nat_cmp nat_cmp_total exact_unsigned moved sorted moves up ∙ ap (sort_by nat_cmp) e

@@ -6,8 +6,8 @@ pub use Rattle.canon.proofs.CanonicalAuctions.Counting.{alike, points_more, poin
 pub use Rattle.canon.proofs.CanonicalAuctions.Sames.{canonical_is_fixed, canonical_is_same, HasAtoms-canonical, same_canonical, same_sym, same_trans}
 pub use Rattle.canon.proofs.CanonicalAuctions.Smaller.{IsAuction-canonical}
 pub use Rattle.canon.proofs.CanonicalFiles.Files.{auction_from-file_from, IsPlainFile-file_from}
-pub use Rattle.canon.proofs.CanonicalFiles.Texts.{HasAtoms-file}
-pub use Rattle.canon.specs.Canonical.{canonical_auction, canonical_bidders, file_from, IsCanonical, IsCanonicalFile, nonzero_bidders, points_of_bidders}
+pub use Rattle.canon.proofs.CanonicalFiles.Texts.{canonical_file_is_fixed, HasAtoms-file}
+pub use Rattle.canon.specs.Canonical.{canonical_auction, canonical_bidders, canonical_file, file_from, IsCanonical, IsCanonicalFile, nonzero_bidders, points_of_bidders}
 pub use Rattle.canon.specs.Lemmas.Finding.{equal_from}
 pub use Rattle.canon.specs.Sameness.{has_table, IsSameAuction}
 pub use Rattle.cats_text.proofs.Spelling.Files.{spells_one}
@@ -38,14 +38,14 @@ pub use Rattle.renumbering.specs.Colours.{are_stable, bidder_weight, from_bidder
 pub use Rattle.renumbering.specs.Colours.{refined, trace, wrapped_sum}
 pub use Rattle.renumbering.specs.Internal.Rounds.{AreColours, AreOn, RefinesAs}
 pub use Rattle.renumbering.specs.Internal.Searching.{FindsLeast, IsLeastFound, IsLesser, IsRenumberedBy, seen_leaf, TakesSteps}
-pub use Rattle.renumbering.specs.Leaves.{below_good, first_colours, HasLeaf, auction_order, IsLeastBelow, IsLeastLeaf, Leaf, leaf_cmp, numbers_by_colour, refining_steps, round_steps}
+pub use Rattle.renumbering.specs.Leaves.{below_good, ExceedsLimit, first_colours, HasLeaf, auction_order, IsLeastBelow, IsLeastLeaf, Leaf, leaf_cmp, numbers_by_colour, refining_steps, round_steps}
 pub use Rattle.renumbering.specs.Leaves.{leaf_of, search_steps, steps_of_cell, under}
 pub use Rattle.renumbering.specs.Refusals.{first_wrong}
 pub use Rattle.renumbering.specs.RenumberedTexts.{ExceedsLimitOfFile, HasRenumberedFile, IsRenumberedFile, IsRenumberedText}
 pub use Rattle.renumbering.specs.Renumbering.{inverse, IsNumbering, joined, number_in, renumbered, renumbered_atom, renumbered_atoms, renumbered_bid, renumbered_bundle}
 pub use Rattle.renumbering.specs.Renumbering.{renumbered_file}
 pub use Rattle.renumbering.specs.SameUpToNumbers.{AreSameFilesUpToNumbers, AreSameTextsUpToNumbers, IsSameUnder, IsSameUpToNumbers}
-pub use Rattle.std.proofs.Common.{ap, ap₂, append-nil, append_assoc, arith, Bool, cond, eqb, Equal, false, get_or, Greater, inl, inr, is_none, le_refl, length, Less, List, ltb, map}
+pub use Rattle.std.proofs.Common.{ap, ap₂, append-nil, append_assoc, arith, Bool, cond, drop, eqb, Equal, false, get_or, Greater, inl, inr, is_none, le_refl, length, Less, List, ltb, map}
 pub use Rattle.std.proofs.Common.{nat_cmp, None, not, Option, Ordering, refl, replicate, rules, set, Some, subst, suc, sym, take, true, zero, ℕ, [], ⊎_elim}
 pub use Rattle.std.proofs.Common.{◌%◌, ◌&&◌, ◌||◌, ◌-◌, ◌*◌, ◌++◌, ◌+◌, ◌<◌, ◌^◌, ◌∙◌, ◌∷◌, ◌≡◌, ◌≢◌, ◌≤◌, ◌⊎◌}
 pub use Rattle.std.proofs.Math.Path.{fun_ext}
@@ -54,8 +54,8 @@ pub use Rattle.std.proofs.lemmas.Bool.{le-ltb, lt-ltb, ltb-true, ne_eqb}
 pub use Rattle.std.proofs.lemmas.Bool.Decides.{Decides-eqb}
 pub use Rattle.std.proofs.lemmas.Cmp.{lists_total, nat_cmp_total, nat_list_cmp_total, on_total, then_total, tied_itself}
 pub use Rattle.std.proofs.lemmas.Grind.{common_steps, get_or_default_zero}
-pub use Rattle.std.proofs.lemmas.List.{ext_get_or, get_or-map, get_or-set_other, get_or-set_same, get_or-take, get_or_default, get_or_past, length-map}
-pub use Rattle.std.proofs.lemmas.List.{length-set, length-take-le, map-append, map-id, take-take, take_all, take_more}
+pub use Rattle.std.proofs.lemmas.List.{drop_all, drop_more, ext_get_or, get_or-map, get_or-set_other, get_or-set_same, get_or-take, get_or_default, get_or_past, length-map}
+pub use Rattle.std.proofs.lemmas.List.{length-set, length-take-le, map-append, map-id, take-append-le, take-take, take_all, take_more}
 pub use Rattle.std.proofs.lemmas.List.Elements.{All-contains, All-from_recursion, All-head, All-map, All-push, All-tail, All-weaker}
 pub use Rattle.std.proofs.lemmas.List.Folds.{list_all-map, list_any-append, sum_by-zero}
 pub use Rattle.std.proofs.lemmas.List.FromFn.{get_or-map-range_with_len, get_or-range_with_len, length-map-range_with_len, length-range_with_len}
@@ -73,7 +73,7 @@ pub use Rattle.std.specs.Cmp.{IsTotalOrder}
 pub use Rattle.std.specs.Cmp.Lexicographic.{slice_cmp}
 pub use Rattle.std.specs.FinMap.{nat_cmp-IsAntisymmetric, slice_cmp-IsAntisymmetric}
 pub use Rattle.std.specs.List.{AllByRecursion, count_by, filter, list_all, list_any, position_or_len, range_with_len, slice_get, sum, sum_by}
-pub use Rattle.std.specs.Ordering.{is_eq, ordering_reverse}
+pub use Rattle.std.specs.Ordering.{is_eq, ordering_reverse, ordering_then}
 pub use Rattle.std.specs.Prelude.{All, AllPairs, Contains, IfSome, MatchOption, IsPermutation, IsSorted, slice_index, ◌↔◌}
 pub use Rattle.valuation.specs.Auctions.{atom_of, auction_from, is_dummy, IsAtom, IsAuction, PlainAuction, xor_atoms_of}
 pub use Rattle.valuation.specs.Lemmas.AuctionsOfFiles.{IsAuction-auction_from, IsBid-there}

@@ -90,16 +90,17 @@ module _ (a : PlainAuction) (cs : List ℕ) where
   -- of the colours from k on, with its size, or 2 if there is none
   pub record IsLargestFrom (k : ℕ) (found : Option ℕ) (least : ℕ) : Type 0 where
     pub is : found ≡ largest_from k
-    pub size : MatchOption found (least ≡ 2) (λ cell. least ≡ size cell)
+    pub counted : MatchOption found (least ≡ 2) (λ cell. least ≡ size cell)
 
   pub none_from : IsLargestFrom a.goods None 2
   unfolding largest
   none_from =
       let none : a.goods - a.goods ≡ 0 = omega arith in
-      record { is = sym (ap (λ (n : ℕ). largest cut size (range_with_len a.goods n)) none); size = refl }
+      record { is = sym (ap (λ (n : ℕ). largest cut size (range_with_len a.goods n)) none); counted = refl }
 
   pub all_from : (found : Option ℕ) (least : ℕ) → IsLargestFrom 0 found least → found ≡ largest_cut a cs
-  all_from found least h = h.is
+  all_from found least h =
+      let same : a.goods - 0 ≡ a.goods = omega arith in h.is ∙ ap (λ (n : ℕ). largest cut size (range_with_len 0 n)) same
 
   module _ (k : ℕ) (below : k < a.goods) (found : Option ℕ) (least : ℕ) (h : IsLargestFrom (k + 1) found least) where
     one_more : largest_from k ≡ cond (cut k) (larger size k found) found
@@ -109,12 +110,12 @@ module _ (a : PlainAuction) (cs : List ℕ) where
         ap (λ (n : ℕ). largest cut size (range_with_len k n)) more ∙ ap (λ (o : Option ℕ). cond (cut k) (larger size k o) o) (sym h.is)
 
     pub uncut_from : cut k ≡ false → IsLargestFrom k found least
-    uncut_from e = record { is = sym (one_more ∙ ap (λ (b : Bool). cond b (larger size k found) found) e); size = h.size }
+    uncut_from e = record { is = sym (one_more ∙ ap (λ (b : Bool). cond b (larger size k found) found) e); counted = h.counted }
 
     pub cut_from : cut k ≡ true → least ≤ size k → IsLargestFrom k (Some k) (size k)
     cut_from e l = record {
-      is = sym (one_more ∙ ap (λ (b : Bool). cond b (larger size k found) found) e ∙ by found h.size);
-      size = refl;
+      is = sym (one_more ∙ ap (λ (b : Bool). cond b (larger size k found) found) e ∙ by found h.counted);
+      counted = refl;
     }
       where
         by : (o : Option ℕ) → MatchOption o (least ≡ 2) (λ cell. least ≡ size cell) → larger size k o ≡ Some k
@@ -129,4 +130,4 @@ module _ (a : PlainAuction) (cs : List ℕ) where
         by e (Some other) m = ap (λ (b : Bool). cond b (Some other) (Some k)) (lt-ltb (size k) (size other) (omega arith))
 
         small : cut k ≡ true → IsLargestFrom k found least
-        small e = record { is = sym (one_more ∙ ap (λ (b : Bool). cond b (larger size k found) found) e ∙ by e found h.size); size = h.size }
+        small e = record { is = sym (one_more ∙ ap (λ (b : Bool). cond b (larger size k found) found) e ∙ by e found h.counted); counted = h.counted }

@@ -173,7 +173,7 @@ module _ (mix : ℕ → ℕ → ℕ) (a : PlainAuction) where
     least : IsLeastBelow mix a cs leaf
 
   lesser_leaf : (one : Option Leaf) (other : Leaf) → (leaf : Leaf) × IsLesserLeaf one other leaf
-  lesser_leaf None other = (other, record { is = inr refl; first = tt; second = λ g. not_greater other g })
+  lesser_leaf None other = (other, record { is = inr refl; first = tt; second = not_greater other })
   lesser_leaf (Some one) other =
       by (leaf_cmp one other) refl
     where
@@ -214,23 +214,31 @@ module _ (mix : ℕ → ℕ → ℕ) (a : PlainAuction) where
           by None its = absurd (some_found mix a cs cell cut h its)
           by (Some leaf) its = record { leaf = leaf; least = least_found mix a cs cell cut leaf its }
 
-  exists_below : HasAtoms a → (fuel : ℕ) (cs : List ℕ) → IsLow a.goods cs → a.goods * a.goods < total a.goods cs + fuel → HasLeast cs
-  exists_below h zero cs low l = let most = total_most a.goods cs low in absurd (omega arith)
-  exists_below h (suc fuel) cs low l =
+  -- each with so much fuel has one
+  abbrev AllHave : ℕ → Type 0
+  AllHave fuel = (cs : List ℕ) → IsLow a.goods cs → a.goods * a.goods < total a.goods cs + fuel → HasLeast cs
+
+  below_cell : (fuel : ℕ) → AllHave fuel → HasAtoms a → (cs : List ℕ) → IsLow a.goods cs → a.goods * a.goods < total a.goods cs + suc fuel → (cell : ℕ)
+      → largest_cut a cs ≡ Some cell → (g : ℕ) → g < a.goods → slice_index cs g ≡ cell → HasLeast (below_good mix a cs g)
+  below_cell fuel have h cs low l cell cut g m own =
+      let its = cut_cell a h cs cell cut in
+      let other = another_found (λ x. eqb (slice_index cs x) cell) g (range_with_len 0 a.goods) (range_differs a.goods) its.more in
+      let more = total_rises a.goods cs low g m other.0 (in_range a.goods other.0 other.1) (eqb-true (slice_index cs other.0) cell other.2 ∙ sym own) other.3 in
+      let over = refined_over (set_apart a.goods cs g) (apart_low a.goods cs low g m) in
+      let grown = total_grows a.goods (set_apart a.goods cs g) (below_good mix a cs g) over.1 in
+      have (below_good mix a cs g) over.0 (omega arith)
+
+  one_step : (fuel : ℕ) → AllHave fuel → HasAtoms a → AllHave (suc fuel)
+  one_step fuel have h cs low l =
       by (largest_cut a cs) refl
     where
-      below : (cell : ℕ) → largest_cut a cs ≡ Some cell → (g : ℕ) → g < a.goods → slice_index cs g ≡ cell → HasLeast (below_good mix a cs g)
-      below cell cut g m own =
-          let its = cut_cell a h cs cell cut in
-          let other = another_found (λ x. eqb (slice_index cs x) cell) g (range_with_len 0 a.goods) (range_differs a.goods) its.more in
-          let more = total_rises a.goods cs low g m other.0 (in_range a.goods other.0 other.1) (eqb-true (slice_index cs other.0) cell other.2 ∙ sym own) other.3 in
-          let over = refined_over (set_apart a.goods cs g) (apart_low a.goods cs low g m) in
-          let grown = total_grows a.goods (set_apart a.goods cs g) (below_good mix a cs g) over.1 in
-          exists_below h fuel (below_good mix a cs g) over.0 (omega arith)
-
       by : (o : Option ℕ) → largest_cut a cs ≡ o → HasLeast cs
       by None uncut = record { leaf = leaf_of a cs; least = one_leaf mix a cs (leaf_of a cs) uncut refl }
-      by (Some cell) cut = least_of_cell h cs cell cut (below cell cut)
+      by (Some cell) cut = least_of_cell h cs cell cut (below_cell fuel have h cs low l cell cut)
+
+  exists_below : HasAtoms a → (fuel : ℕ) → AllHave fuel
+  exists_below h zero cs low l = let most = total_most a.goods cs low in absurd (omega arith)
+  exists_below h (suc fuel) = one_step fuel (exists_below h fuel) h
 
 pub has_renumbered_file : (mix : ℕ → ℕ → ℕ) (f : PlainFile) → IsPlainFile f → HasRenumberedFile mix f
 has_renumbered_file mix f h =

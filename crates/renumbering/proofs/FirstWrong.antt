@@ -2,7 +2,7 @@
 use Rattle.renumbering.proofs.Common.{All, all_pairs_push, All-contains, All-push, AllPairs, AllPairs-head, AllPairs-tail, and_from, and_parts, ap, ap₂}
 use Rattle.renumbering.proofs.Common.{append-nil, append_assoc, AreAbove, AreBelow, AreBelow-from_has, arith, Bool, both_ways, cases_Bool, cases_lt, cond, Contains}
 use Rattle.renumbering.proofs.Common.{Contains-head, Contains-tail, contains_from_has, false, false_from_ne_true, first_wrong, get_or_default, has_above}
-use Rattle.renumbering.proofs.Common.{has_from_contains, has_good, has_head, inl, inr, IsNumbering, IsPermutation, IsPermutation-sym, IsRising, le-ltb, length}
+use Rattle.renumbering.proofs.Common.{has_from_contains, has_good, has_head, IsNumbering, IsPermutation, IsPermutation-sym, IsRising, le-ltb, length}
 use Rattle.renumbering.proofs.Common.{length_bundle, List, lt-ltb, ltb, ltb-true, nat_cmp, ne_eqb, None, not, not-true, not_from_false, Option, permutation-sort_by}
 use Rattle.renumbering.proofs.Common.{range_with_len, refl, Some, sort_by, subst, suc, sym, true, zero, ℕ, [], ⊎_elim, ◌&&◌, ◌++◌, ◌+◌, ◌<◌, ◌∙◌, ◌∷◌, ◌≡◌, ◌≢◌}
 use Rattle.renumbering.proofs.Common.{◌≤◌, ◌⊎◌, ◌↔◌}
@@ -86,18 +86,14 @@ right_behind goods before [] h e =
     at_end true f g = absurd (cc)
     at_end false f g = absurd (cc)
 right_behind goods before (x ∷ xs) h e =
-    by (cases_Bool (ltb x goods && not (has_good before x)))
-  where
-    rest : Option ℕ
-    rest = first_wrong goods (before ++ x ∷ []) xs
-
-    by : ((ltb x goods && not (has_good before x)) ≡ true) ⊎ ((ltb x goods && not (has_good before x)) ≡ false) → IsNumbering goods (before ++ x ∷ xs)
-    by (inl right) =
-        let parts = and_parts (ltb x goods) (not (has_good before x)) right in
-        let more = one_more_right goods before x h (ltb-true x goods parts.0) (not-true (has_good before x) parts.1) in
-        subst (IsNumbering goods) (append_assoc before (x ∷ []) xs)
-        (right_behind goods (before ++ x ∷ []) xs more (sym (ap (λ (b : Bool). cond b rest (Some (length before))) right) ∙ e))
-    by (inr wrong) = let some : Some (length before) ≡ None = sym (ap (λ (b : Bool). cond b rest (Some (length before))) wrong) ∙ e in absurd (cc)
+    let chosen : Bool → Option ℕ = λ (b : Bool). cond b (first_wrong goods (before ++ x ∷ []) xs) (Some (length before)) in
+    ⊎_elim
+    (λ (right : (ltb x goods && not (has_good before x)) ≡ true).
+    let parts = and_parts (ltb x goods) (not (has_good before x)) right in
+    let more = one_more_right goods before x h (ltb-true x goods parts.0) (not-true (has_good before x) parts.1) in
+    subst (IsNumbering goods) (append_assoc before (x ∷ []) xs) (right_behind goods (before ++ x ∷ []) xs more (sym (ap chosen right) ∙ e)))
+    (λ (wrong : (ltb x goods && not (has_good before x)) ≡ false). let some : Some (length before) ≡ None = sym (ap chosen wrong) ∙ e in absurd (cc))
+    (cases_Bool (ltb x goods && not (has_good before x)))
 
 contains_behind : (before : List ℕ) (x : ℕ) (xs : List ℕ) → Contains (before ++ x ∷ xs) x
 contains_behind [] x xs = Contains-head x xs

@@ -1,6 +1,6 @@
 -- The least leaf of an auction is that of each renumbered one, and is the same auction up to numbers. So renumbered texts are equal exactly for files that
 -- are the same up to numbers.
-use Rattle.renumbering.proofs.Common.{ap, ap₂, AreSameFilesUpToNumbers, AreSameTextsUpToNumbers, Atom, auction_from, auction_from-file_from, bidder_cmp_equal}
+use Rattle.renumbering.proofs.Common.{auction_order, ap, ap₂, AreSameFilesUpToNumbers, AreSameTextsUpToNumbers, Atom, auction_from, auction_from-file_from, bidder_cmp_equal}
 use Rattle.renumbering.proofs.Common.{bidder_cmp_total, canonical_auction, canonical_is_fixed, canonical_is_same, Equal, ExceedsLimitOfFile, file_from}
 use Rattle.renumbering.proofs.Common.{first_colours, Greater, HasAtoms, HasAtoms-canonical, HasAtoms-file, HasLeaf, IsAuction, IsAuction-auction_from}
 use Rattle.renumbering.proofs.Common.{IsAuction-canonical, IsCanonicalFile, IsLeastLeaf, IsPlainFile, IsPlainFile-file_from, IsRenumberedFile, IsRenumberedText}
@@ -9,7 +9,7 @@ use Rattle.renumbering.proofs.Common.{nat_cmp-IsAntisymmetric, nat_list_cmp_tota
 use Rattle.renumbering.proofs.Common.{PlainAuction, PlainFile, refl, renumbered, same_canonical, same_sym, same_trans, slice_cmp-IsAntisymmetric, Spells}
 use Rattle.renumbering.proofs.Common.{spells_one, subst, sym, then_parts, then_total, ℕ, [], ⊎_elim, ◌<◌, ◌↔◌, ◌∙◌, ◌∷◌, ◌≡◌, ◌≢◌}
 use Rattle.cats_text.proofs.Writing.Spells as laid_out
-use Rattle.renumbering.proofs.Auctions.{IsAuction-renumbered}
+use Rattle.renumbering.proofs.Auctions.{IsAuction-renumbered, with_bids}
 use Rattle.renumbering.proofs.CanonicalNumbers.{canonical_renamed}
 use Rattle.renumbering.proofs.Images.{IsRenamedAuction}
 use Rattle.renumbering.proofs.Leaves.{first_leaf_same}
@@ -19,27 +19,25 @@ use Rattle.renumbering.proofs.WholeCells.{colours_number}
 
 -- ---- the order of leaves
 
-leaf_total : IsTotalOrder leaf_cmp
-leaf_total =
-    then_total (on_total (λ (leaf : Leaf). leaf.traces) nat_list_cmp_total)
-    (then_total (on_total (λ (leaf : Leaf). leaf.auction.or_atoms) bidder_cmp_total)
-    (on_total (λ (leaf : Leaf). leaf.auction.xor_bidders) (lists_total bidder_cmp_total)))
+pub auction_total : IsTotalOrder auction_order
+auction_total =
+    then_total (on_total (λ (a : PlainAuction). a.or_atoms) bidder_cmp_total) (on_total (λ (a : PlainAuction). a.xor_bidders) (lists_total bidder_cmp_total))
 
-abbrev leaf_with : ℕ → List ℕ → List (Atom (List ℕ)) → List (List (Atom (List ℕ))) → Leaf
-leaf_with goods traces or_atoms xor_bidders = record {
-  traces = traces;
-  auction = record { goods = goods; or_atoms = or_atoms; xor_bidders = xor_bidders };
-}
+pub leaf_total : IsTotalOrder leaf_cmp
+leaf_total = then_total (on_total (λ (leaf : Leaf). leaf.traces) nat_list_cmp_total) (on_total (λ (leaf : Leaf). leaf.auction) auction_total)
+
+pub auction_equal : (one other : PlainAuction) → one.goods ≡ other.goods → auction_order one other ≡ Equal → one ≡ other
+auction_equal one other e f =
+    let parts = then_parts _ _ f in
+    let bids = ap₂ (with_bids one.goods) (bidder_cmp_equal one.or_atoms other.or_atoms parts.0)
+    (slice_cmp-IsAntisymmetric bidder_cmp_equal one.xor_bidders other.xor_bidders parts.1) in
+    bids ∙ ap (λ (goods : ℕ). with_bids goods other.or_atoms other.xor_bidders) e
 
 leaf_equal : (one other : Leaf) → one.auction.goods ≡ other.auction.goods → leaf_cmp one other ≡ Equal → one ≡ other
 leaf_equal one other e f =
-    let first = then_parts _ _ f in
-    let second = then_parts _ _ first.1 in
-    ap₂ (λ (goods : ℕ) (traces : List ℕ). leaf_with goods traces one.auction.or_atoms one.auction.xor_bidders) e
-    (slice_cmp-IsAntisymmetric nat_cmp-IsAntisymmetric one.traces other.traces first.0)
-    ∙ ap₂ (λ (o : List (Atom (List ℕ))) (x : List (List (Atom (List ℕ)))). leaf_with other.auction.goods other.traces o x)
-    (bidder_cmp_equal one.auction.or_atoms other.auction.or_atoms second.0)
-    (slice_cmp-IsAntisymmetric bidder_cmp_equal one.auction.xor_bidders other.auction.xor_bidders second.1)
+    let parts = then_parts _ _ f in
+    ap₂ (λ (traces : List ℕ) (a : PlainAuction). record { traces = traces; auction = a })
+    (slice_cmp-IsAntisymmetric nat_cmp-IsAntisymmetric one.traces other.traces parts.0) (auction_equal one.auction other.auction e parts.1)
 
 neither_greater : (o r : Ordering) → o ≡ ordering_reverse r → o ≢ Greater → r ≢ Greater → o ≡ Equal
 neither_greater o Less e f g = absurd (f e)

@@ -24,7 +24,8 @@ pub mod Searching
 pub mod Existence
 pub mod Found
 pub mod OwnFiles
+pub mod LeafFiles
 pub mod Runs
-pub mod Ranks
+pub mod KeyRanks
 pub mod Bids
 pub mod RoundByRound

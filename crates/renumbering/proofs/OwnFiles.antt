@@ -1,5 +1,5 @@
 -- A canonical file is the file of its auction, so that what its bids are is what the points of the auction are.
-use Rattle.renumbering.proofs.Common.{All, All-contains, All-from_Contains, All-from_recursion, ap, ap₂, AreOn, Atom, atom_of, auction_from, auction_from-file_from}
+use Rattle.renumbering.proofs.Common.{cell_size, false, get_or_from_slice_get, is_cut, is_cut_by, list_any_has, round_steps, slice_get_within, take, take_more, true, All, All-contains, All-from_Contains, All-from_recursion, ap, ap₂, AreOn, Atom, atom_of, auction_from, auction_from-file_from}
 use Rattle.renumbering.proofs.Common.{bid_from, Bool, canonical_auction, cond, Contains, Contains-map, dummy_bids, file_from, HasAtoms, HasAtoms-file, IsAtom}
 use Rattle.renumbering.proofs.Common.{IsBid-there, IsCanonical, IsCanonicalFile, IsPlainFile, length, length_bundle, List, list_any, list_any-append, map}
 use Rattle.renumbering.proofs.Common.{None, offers, Option, PlainAuction, PlainBid, PlainFile, refl, slice_get, Some, subst, sum_by, sum_by-append}
@@ -54,6 +54,34 @@ module _ (q : Atom (List ℕ) → Bool) where
   any_of_all a =
       list_any-append passes (map (bid_from None) a.or_atoms) (dummy_bids 0 a.xor_bidders)
       ∙ ap₂ (λ (x y : Bool). x || y) (any_of_bidder None a.or_atoms) (any_of_bidders 0 a.xor_bidders)
+
+any_of_file : (f : PlainFile) → IsCanonicalFile f → (q : Atom (List ℕ) → Bool) → list_any (λ b. q (atom_of b)) f.bids
+    ≡ (list_any q (auction_from f).or_atoms || list_any (list_any q) (auction_from f).xor_bidders)
+any_of_file f canonical q = ap (λ (g : PlainFile). list_any (λ b. q (atom_of b)) g.bids) (own_file f canonical) ∙ any_of_all q (auction_from f)
+
+-- a cell is cut by some bid
+pub cut_in_file : (f : PlainFile) → IsCanonicalFile f → (c : ℕ → ℕ) (colour size : ℕ) → size ≡ cell_size f.goods c colour
+    → list_any (λ b. is_cut_by c size colour (atom_of b)) f.bids ≡ is_cut (auction_from f) c colour
+cut_in_file f canonical c colour size e =
+    any_of_file f canonical (is_cut_by c size colour)
+    ∙ ap (λ (k : ℕ). list_any (is_cut_by c k colour) (auction_from f).or_atoms || list_any (list_any (is_cut_by c k colour)) (auction_from f).xor_bidders) e
+
+pub any_there : {X : Type 0} (p : X → Bool) (xs : List X) (i : ℕ) (x : X) → slice_get xs i ≡ Some x → p x ≡ true → list_any p xs ≡ true
+any_there p xs i x there e = list_any_has p xs x (i, slice_get_within xs i x there, get_or_from_slice_get xs i x x there) e
+
+pub any_more : {X : Type 0} (p : X → Bool) (xs : List X) (i : ℕ) (x : X) → slice_get xs i ≡ Some x → list_any p (take i xs) ≡ false → p x ≡ false
+    → list_any p (take (i + 1) xs) ≡ false
+any_more {X} p xs i x there none e =
+    ap (list_any p) (take_more xs i x (slice_get_within xs i x there) ∙ ap (λ (y : X). take i xs ++ y ∷ []) (get_or_from_slice_get xs i x x there))
+    ∙ list_any-append p (take i xs) (x ∷ []) ∙ ap₂ (λ (a b : Bool). a || (b || false)) none e
+
+-- the steps of a round are the goods of all bids, and of the auction
+pub steps_of_file : (f : PlainFile) → IsCanonicalFile f → f.goods + sum_by (λ b. length b.goods) f.bids ≡ round_steps (auction_from f)
+steps_of_file f canonical =
+    let all : sum_by (λ b. length b.goods) f.bids
+    ≡ sum_by (λ s. length s.bundle) (auction_from f).or_atoms + sum_by (sum_by (λ s. length s.bundle)) (auction_from f).xor_bidders =
+    ap (λ (g : PlainFile). sum_by (λ b. length b.goods) g.bids) (own_file f canonical) ∙ sum_of_all (λ s. length s.bundle) (auction_from f) in
+    omega arith
 
 -- ---- the goods of bids
 

@@ -1,5 +1,5 @@
 -- Sums over the bids of a bidder, bid by bid, that wrap.
-use Rattle.renumbering.proofs.Common.{All, ap, ap₂, AreOn, arith, get_or, get_or-map, get_or_from_slice_get, length, length-map, List, map, PlainBid, slice_get}
+use Rattle.renumbering.proofs.Common.{bidder_cmp, drop, drop_more, ordering_then, slice_cmp, ◌∷◌, Atom, from_bidder, from_point, good_weight, offers, PlainAuction, take-append-le, take_all, ◌++◌, All, ap, ap₂, AreOn, arith, get_or, get_or-map, get_or_from_slice_get, length, length-map, List, map, PlainBid, slice_get}
 use Rattle.renumbering.proofs.Common.{slice_get-get_or, slice_get_within, Some, subst, sum_by, sum_by_more, sym, take, ℕ, ◌%◌, ◌+◌, ◌<◌, ◌^◌, ◌∙◌, ◌≡◌}
 
 -- the goods of the bid at an index
@@ -31,3 +31,31 @@ pub sum_wraps : {X Y : Type 0} (f : Y → ℕ) (seen : X → Y) (xs : List X) (i
 sum_wraps f seen xs i x start before more after there so_far one total =
     total ∙ ap₂ (λ (b m : ℕ). (b + m) % 2 ^ 64) so_far one ∙ wrapped start (sum_by f (take i (map seen xs))) (f (seen x))
     ∙ ap (λ (all : ℕ). (start + all) % 2 ^ 64) (sym (sum_more f seen xs i x there))
+
+-- a slice that was written into a vector of its length
+pub written : (n : ℕ) (new rest : List ℕ) → length new ≡ n → take n (new ++ rest) ≡ new
+written n new rest e = take-append-le n new rest (omega arith) ∙ take_all n new (omega arith)
+
+-- what is added up from 0 is the weight of a good
+pub weights_are : (mix : ℕ → ℕ → ℕ) (a : PlainAuction) (or_bids : List PlainBid) (xor_bidders : List (List PlainBid)) (c : ℕ → ℕ) (g : ℕ)
+    → offers or_bids ≡ a.or_atoms → map offers xor_bidders ≡ a.xor_bidders → (start middle end : ℕ) → start ≡ 0
+    → middle ≡ (start + sum_by (from_point mix c 0 g) (offers or_bids)) % 2 ^ 64
+    → end ≡ (middle + sum_by (from_bidder mix c g) (map offers xor_bidders)) % 2 ^ 64 → end ≡ good_weight mix a c g
+weights_are mix a or_bids xor_bidders c g e f start middle end zero first second =
+    let one : ℕ = sum_by (from_point mix c 0 g) (offers or_bids) in
+    let other : ℕ = sum_by (from_bidder mix c g) (map offers xor_bidders) in
+    let all : end ≡ (one + other) % 2 ^ 64 = omega arith in
+    all ∙ ap₂ (λ (atoms : List (Atom (List ℕ))) (bidders : List (List (Atom (List ℕ)))).
+    (sum_by (from_point mix c 0 g) atoms + sum_by (from_bidder mix c g) bidders) % 2 ^ 64) e f
+
+-- what bidders from an index on answer, by the two at it
+offers_drop : (xs : List (List PlainBid)) (i : ℕ) (x : List PlainBid) → i < length xs → x ≡ get_or xs i x
+    → drop i (map offers xs) ≡ offers x ∷ drop (i + 1) (map offers xs)
+offers_drop xs i x l e =
+    drop_more (map offers xs) i (offers x) (subst (λ (n : ℕ). i < n) (sym (length-map xs offers)) l)
+    ∙ ap (λ (b : List (Atom (List ℕ))). b ∷ drop (i + 1) (map offers xs)) (get_or-map offers xs i x (offers x) l ∙ ap offers (sym e))
+
+pub bidders_drop : (one other : List (List PlainBid)) (i : ℕ) (x y : List PlainBid) → i < length one → i < length other → x ≡ get_or one i x
+    → y ≡ get_or other i y → slice_cmp bidder_cmp (drop i (map offers one)) (drop i (map offers other))
+    ≡ ordering_then (bidder_cmp (offers x) (offers y)) (slice_cmp bidder_cmp (drop (i + 1) (map offers one)) (drop (i + 1) (map offers other)))
+bidders_drop one other i x y l m e f = ap₂ (slice_cmp bidder_cmp) (offers_drop one i x l e) (offers_drop other i y m f)

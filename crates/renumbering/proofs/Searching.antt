@@ -1,5 +1,5 @@
 -- The search below colours, good by good: the steps so far, and the least leaf so far.
-use Rattle.renumbering.proofs.Common.{ap, ap₂, arith, leaf_of, nat_cmp-refl, rules, tied_itself, below_good, Bool, cases_eq, cases_lt, cases_Bool, cond, eqb, Equal, Greater, HasAtoms, HasLeaf, IfSome, inl, inr}
+use Rattle.renumbering.proofs.Common.{auction_order, nat_cmp, ordering_then, slice_cmp, ap, ap₂, arith, leaf_of, nat_cmp-refl, rules, tied_itself, below_good, Bool, cases_eq, cases_lt, cases_Bool, cond, eqb, Equal, Greater, HasAtoms, HasLeaf, IfSome, inl, inr}
 use Rattle.renumbering.proofs.Common.{IsLeastBelow, largest_cut, Leaf, leaf_cmp, LeafFile, Less, List, None, Option}
 use Rattle.renumbering.proofs.Common.{Ordering, ordering_reverse, PlainAuction, PlainFile, range_more, range_with_len, refining_steps, refl, seen_leaf, set_apart}
 use Rattle.renumbering.proofs.Common.{slice_index, Some, steps_of_cell, subst, suc, sum_by, sum_by-append, sum_by-cons, sum_by-le-sum_by, sym, TakesSteps, trace}
@@ -48,8 +48,11 @@ module _ (mix : ℕ → ℕ → ℕ) (a : PlainAuction) where
     next_steps depth i =
         let f = of_cell cs cell (good_steps cs depth) in
         let same : 0 + i ≡ i = omega arith in
+        let one : sum_by f (i ∷ []) ≡ f i + 0 = sum_by-cons f i [] in
+        let none : f i + 0 ≡ f i = omega arith in
         ap (sum_by f) (range_more 0 i) ∙ sum_by-append f (range_with_len 0 i) ((0 + i) ∷ [])
-        ∙ ap (λ (k : ℕ). sum_by f (range_with_len 0 i) + sum_by f (k ∷ [])) same ∙ omega (arith, sum_by-cons f i [])
+        ∙ ap (λ (k : ℕ). sum_by f (range_with_len 0 i) + sum_by f (k ∷ [])) same
+        ∙ ap (λ (m : ℕ). sum_by f (range_with_len 0 i) + m) (one ∙ none)
 
     deeper : (d e i : ℕ) → d ≤ e → steps_so_far d i ≤ steps_so_far e i
     deeper d e i l =
@@ -57,14 +60,14 @@ module _ (mix : ℕ → ℕ → ℕ) (a : PlainAuction) where
         (of_cell_more cs cell (good_steps cs d) (good_steps cs e) (λ g. let rest = more_depth d e (below_good mix a cs g) l in omega arith))
 
     within : (depth i n : ℕ) → i ≤ n → steps_so_far depth i ≤ steps_so_far depth n
-    within depth i zero l = let e : i ≡ 0 = omega arith in ap (steps_so_far depth) e
+    within depth i zero l = let e : i ≡ 0 = omega arith in subst (λ (k : ℕ). steps_so_far depth i ≤ steps_so_far depth k) e (omega arith)
     within depth i (suc n) l = ⊎_elim
         (λ (m : i < suc n).
         let rest = within depth i n (omega arith) in
         let same : n + 1 ≡ suc n = omega arith in
         let more = next_steps depth n in
         subst (λ (k : ℕ). steps_so_far depth i ≤ steps_so_far depth k) same (omega arith))
-        (λ (m : suc n ≤ i). let e : i ≡ suc n = omega arith in ap (steps_so_far depth) e) (cases_lt i (suc n))
+        (λ (m : suc n ≤ i). let e : i ≡ suc n = omega arith in subst (λ (k : ℕ). steps_so_far depth i ≤ steps_so_far depth k) e (omega arith)) (cases_lt i (suc n))
 
     -- so many steps at the most are spent before i
     pub record IsSpent (before left i : ℕ) : Type 0 where
@@ -140,7 +143,8 @@ pub not_greater : (leaf : Leaf) → leaf_cmp leaf leaf ≢ Greater
 not_greater leaf g = let tied : leaf_cmp leaf leaf ≡ Equal = tied_itself leaf_total leaf in absurd (cc)
 
 under_alike : (t : ℕ) (one other : Leaf) → leaf_cmp (under t one) (under t other) ≡ leaf_cmp one other
-under_alike t one other = search (rules, nat_cmp-refl)
+under_alike t one other =
+    ap (λ (o : Ordering). ordering_then (ordering_then o (slice_cmp nat_cmp one.traces other.traces)) (auction_order one.auction other.auction)) (nat_cmp-refl t)
 
 -- ---- the least leaf so far
 
@@ -191,7 +195,7 @@ module _ (mix : ℕ → ℕ → ℕ) (a : PlainAuction) (cs : List ℕ) (cell : 
           (sym (under_alike (trace mix a (below_good mix a cs i)) lower its.1.lower) ∙ sym (ap (leaf_cmp up) its.1.read) ∙ g)
 
       lesser_there : (o : Option Leaf) (leaf : Leaf) → IsLesserLeaf o up leaf → IsLeastSoFar i o → (path : List ℕ) × HasLeaf mix a path cs leaf
-      lesser_there o leaf lesser h = ⊎_elim (λ (e : o ≡ Some leaf). let old = subst (IsLeastSoFar i) e h in (old.path, old.there))
+      lesser_there o leaf lesser h = ⊎_elim (λ (e : o ≡ Some leaf). let old : IsLeastSome i leaf = subst (IsLeastSoFar i) e h in (old.path, old.there))
           (λ (e : up ≡ leaf). (i ∷ found.path, subst (HasLeaf mix a (i ∷ found.path) cs) e up_there)) lesser.is
 
       lesser_least : (o : Option Leaf) (leaf : Leaf) → IsLesserLeaf o up leaf → IsLeastSoFar i o → (g : ℕ) (others : List ℕ) (other : Leaf) → g < i
@@ -216,10 +220,7 @@ module _ (mix : ℕ → ℕ → ℕ) (a : PlainAuction) (cs : List ℕ) (cell : 
     least_found leaf h = record { path = h.path; there = h.there; least = each }
       where
         each : (path : List ℕ) (other : Leaf) → HasLeaf mix a path cs other → leaf_cmp leaf other ≢ Greater
-        each [] other its = absurd (none_and_some its.0)
-          where
-            none_and_some : largest_cut a cs ≡ None → ⊥
-            none_and_some e = absurd (cc)
+        each [] other its = let none : largest_cut a cs ≡ None = its.0 in absurd (cc)
         each (g ∷ others) other its = h.least g others other its.0.good its
 
     pub some_found : HasAtoms a → IsLeastSoFar a.goods None → ⊥
@@ -231,4 +232,4 @@ one_leaf mix a cs leaf uncut e = record { path = []; there = (uncut, e); least =
   where
     each : (path : List ℕ) (other : Leaf) → HasLeaf mix a path cs other → leaf_cmp leaf other ≢ Greater
     each [] other its = subst (λ (l : Leaf). leaf_cmp leaf l ≢ Greater) (e ∙ sym its.1) (not_greater leaf)
-    each (h ∷ path) other its = let cut = its.0.cell in absurd (cc)
+    each (h ∷ path) other its = let cut : largest_cut a cs ≡ Some (slice_index cs h) = its.0.cell in absurd (cc)

@@ -1,7 +1,8 @@
 -- Going through a list, and marking each number as taken.
-use Rattle.renumbering.proofs.Common.{ap, ap₂, arith, Bool, cases_eq, cond, drop, drop_more, false, first_wrong, get_or, get_or-set_other, get_or-set_same, has_good}
+use Rattle.renumbering.proofs.Common.{IsNumbering, refl, ap, ap₂, arith, Bool, cases_eq, cond, drop, drop_more, false, first_wrong, get_or, get_or-set_other, get_or-set_same, has_good}
 use Rattle.renumbering.proofs.Common.{has_head, le-ltb, length, length-set, length-take-le, List, lt-ltb, ltb, ne_eqb, None, not, Option, rules, set, Some, subst}
 use Rattle.renumbering.proofs.Common.{sym, take, take_all, take_more, true, ℕ, [], ⊎_elim, ◌&&◌, ◌++◌, ◌+◌, ◌<◌, ◌∙◌, ◌∷◌, ◌≡◌, ◌≢◌, ◌≤◌}
+use Rattle.renumbering.proofs.FirstWrong.{right_exactly}
 
 has-push : (xs : List ℕ) (x g : ℕ) → has_good (xs ++ x ∷ []) g ≡ has_good (x ∷ xs) g
 has-push [] x g = refl
@@ -18,8 +19,11 @@ module _ (goods : ℕ) (all : List ℕ) (index : ℕ) where
     abbrev number : ℕ
     number = get_or all index 0
 
+    abbrev behind : Option ℕ
+    behind = first_wrong goods (take (index + 1) all) (drop (index + 1) all)
+
     next : index < length all → first_wrong goods [] all
-        ≡ cond (ltb number goods && not (has_good (take index all) number)) (first_wrong goods (take (index + 1) all) (drop (index + 1) all)) (Some index)
+        ≡ cond (ltb number goods && not (has_good (take index all) number)) behind (Some index)
     next l =
         let long : length (take index all) ≡ index = length-take-le index all (omega arith) in
         h.rest ∙ ap (first_wrong goods (take index all)) (drop_more all index 0 l)
@@ -27,11 +31,11 @@ module _ (goods : ℕ) (all : List ℕ) (index : ℕ) where
         (sym (take_more all index 0 l)) long
 
     pub no_good : index < length all → goods ≤ number → first_wrong goods [] all ≡ Some index
-    no_good l m = next l ∙ ap (λ (b : Bool). cond (b && not (has_good (take index all) number)) _ (Some index)) (le-ltb number goods m)
+    no_good l m = next l ∙ ap (λ (b : Bool). cond (b && not (has_good (take index all) number)) behind (Some index)) (le-ltb number goods m)
 
     pub twice : (b : Bool) → index < length all → number < goods → get_or marks number b ≡ true → first_wrong goods [] all ≡ Some index
     twice b l below e =
-        next l ∙ ap₂ (λ (x y : Bool). cond (x && not y) _ (Some index)) (lt-ltb number goods below) (sym (h.marked number b below) ∙ e)
+        next l ∙ ap₂ (λ (x y : Bool). cond (x && not y) behind (Some index)) (lt-ltb number goods below) (sym (h.marked number b below) ∙ e)
 
     marked_set : (g : ℕ) (d : Bool) → index < length all → number < goods → g < goods → get_or (set marks number true) g d ≡ has_good (take (index + 1) all) g
     marked_set g d l below m =
@@ -45,9 +49,19 @@ module _ (goods : ℕ) (all : List ℕ) (index : ℕ) where
         get_or-set_other marks number g true d n ∙ h.marked g d m ∙ sym (push ∙ rw (ne_eqb number g (λ e. n (sym e))) refl)) (cases_eq g number)
 
     -- at the end of the list
-    pub at_end : length all ≤ index → first_wrong goods [] all ≡ cond (ltb (length all) goods) (Some (length all)) None
+    at_end : length all ≤ index → first_wrong goods [] all ≡ cond (ltb (length all) goods) (Some (length all)) None
     at_end m =
         h.rest ∙ ap₂ (λ (before rest : List ℕ). first_wrong goods before rest) (take_all index all m) (drop_all index all m)
+
+    pub too_short : length all ≤ index → length all < goods → first_wrong goods [] all ≡ Some (length all)
+    too_short m l = at_end m ∙ ap (λ (b : Bool). cond b (Some (length all)) None) (lt-ltb (length all) goods l)
+
+    pub all_right : length all ≤ index → goods ≤ length all → IsNumbering goods all
+    all_right m l = (right_exactly goods all).0 (at_end m ∙ ap (λ (b : Bool). cond b (Some (length all)) None) (le-ltb (length all) goods l))
+
+pub none_taken : (goods : ℕ) (all : List ℕ) (marks : List Bool) → length marks ≡ goods → ((g : ℕ) (d : Bool) → g < goods → get_or marks g d ≡ false)
+    → AreTaken goods all 0 marks
+none_taken goods all marks long none = record { long = long; marked = none; rest = refl }
 
 pub next_taken : (goods : ℕ) (all : List ℕ) (index : ℕ) (marks : List Bool) (b : Bool) → AreTaken goods all index marks → index < length all
     → get_or all index 0 < goods → get_or marks (get_or all index 0) b ≡ false → AreTaken goods all (index + 1) (set marks (get_or all index 0) true)

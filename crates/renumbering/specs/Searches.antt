@@ -1,5 +1,5 @@
 -- Why a search for numberings is refused.
-use Rattle.std.specs.Prelude.{◌≡◌, ℕ, ◌×◌}
+use Rattle.std.specs.Prelude.{◌≡◌, ℕ}
 use Rattle.bid_file.specs.Files.{PlainFile}
 use Rattle.canon.specs.declared.which.Which.{Which}
 use Rattle.canon.specs.declared.which.Which.TheVariants.{Only, First, Second, Both}

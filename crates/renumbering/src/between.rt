@@ -12,7 +12,7 @@ ghost use Rattle.renumbering.specs.Searches.{RefusesSearchOf};
 use crate::files::list_numbers;
 use crate::leaf::order_of_files;
 use crate::numbering_fault::NumberingFault;
-use crate::search::{Renumbered, renumbered};
+use crate::search::{RenumberedFile, renumbered};
 use bid_file::PackedFile;
 use bid_file::limits::MAX_GOODS;
 use canon::Which;
@@ -41,7 +41,7 @@ pub fn numbering_between(
 }
 
 /// By the numbers of the first file, and back from those of the second, if both have one renumbered file.
-fn join(alloc: Global, one: &Renumbered, other: &Renumbered) -> Result<Option<Vec<u16>>, AllocError>
+fn join(alloc: Global, one: &RenumberedFile, other: &RenumberedFile) -> Result<Option<Vec<u16>>, AllocError>
     requires one { IsCanonicalFile one.now.file }
     requires other { IsCanonicalFile other.now.file }
     requires goods { one.now.file.goods ≡ other.now.file.goods }

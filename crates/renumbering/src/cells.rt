@@ -5,7 +5,7 @@ ghost use Rattle.std.specs.List.{count_by};
 ghost use Rattle.bid_file.specs.Files.{IsPlainFile};
 ghost use Rattle.valuation.specs.Auctions.{auction_from};
 ghost use Rattle.canon.specs.Canonical.{IsCanonicalFile};
-ghost use Rattle.renumbering.specs.Cells.{cell_size, is_cut as is_cut_in, largest_cut as largest_cut_in, set_apart as apart_from};
+ghost use Rattle.renumbering.specs.Cells.{cell_size, is_cut_by, is_cut as is_cut_in, largest_cut as largest_cut_in, set_apart as apart_from};
 ghost use Rattle.renumbering.specs.Internal.Rounds.{AreColours};
 
 use crate::weights::add_at;
@@ -38,6 +38,15 @@ fn count_in(goods: &[u16], colours: &[u16], colour: u16) -> u64
     count
 }
 
+/// Whether a point with these goods cuts the cell of this colour, which has so many goods.
+fn cuts(goods: &[u16], colours: &[u16], colour: u16, size: u64) -> bool
+    requires { All (λ good. good < length colours.now) goods.now }
+    ensures { result ≡ is_cut_by (slice_index colours.now) size colour (record { bundle = goods.now; price = 0 }) }
+{
+    let count = count_in(goods, colours, colour);
+    0 < count && count < size
+}
+
 /// Whether a point of a canonical file cuts the cell of this colour, which has so many goods.
 fn is_cut(file: &PackedFile, colours: &[u16], colour: u16, size: u64) -> bool
     requires facts { IsPlainFile file.now }
@@ -49,8 +58,7 @@ fn is_cut(file: &PackedFile, colours: &[u16], colour: u16, size: u64) -> bool
     let bids = file.bids();
     for number in 0..bids.len() {
         let (_, goods, _) = bids.at(number);
-        let count = count_in(goods, colours, colour);
-        if 0 < count && count < size {
+        if cuts(goods, colours, colour, size) {
             return true;
         }
     }

@@ -21,4 +21,4 @@ pub use between::numbering_between;
 pub use files::renumber;
 pub use numbering_fault::NumberingFault;
 pub use renumber_fault::RenumberFault;
-pub use search::{Renumbered, renumbered};
+pub use search::{RenumberedFile, renumbered};

@@ -20,7 +20,7 @@ use std::alloc::{AllocError, Global};
 
 /// A renumbered file.
 #[derive(Drop)]
-pub struct Renumbered {
+pub struct RenumberedFile {
     /// The file.
     pub file: PackedFile,
     /// The number in it of each good of the file that it was made from.
@@ -33,7 +33,7 @@ pub fn renumbered(
     alloc: Global,
     file: &PackedFile,
     steps: u64,
-) -> Result<Renumbered, NumberingFault>
+) -> Result<RenumberedFile, NumberingFault>
     requires { IsCanonicalFile file.now }
     ensures file { IfOk result (λ r. IsRenumberedFile mix_64 file.now r.file) }
     ensures numbering { IfOk result (λ r. IsSameUnder r.numbering.items (auction_from file.now) (auction_from r.file)) }
@@ -47,7 +47,7 @@ pub fn renumbered(
         file,
         numbering,
     } = least_below(alloc, file, &first, &mut left)?;
-    Ok(Renumbered { file, numbering })
+    Ok(RenumberedFile { file, numbering })
 }
 
 /// The least leaf below colours, if the steps that are left suffice.

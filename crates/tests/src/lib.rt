@@ -16,6 +16,8 @@ mod random;
 #[cfg(test)]
 mod reasons;
 #[cfg(test)]
+mod renumbering;
+#[cfg(test)]
 mod sets;
 #[cfg(test)]
 mod texts;

@@ -23,7 +23,7 @@ loop-index-preserved c = (
   c.add_at.ensures.length ∙ c.loop-index.invariant.0,
   λ g. sum_wraps (from_point mix_64 (slice_index c.args.colours.now) c.args.whole g) atom_of c.args.bids.now c.loop-index.index (seen_bid c.at-bid.result)
       (slice_index c.args.weights.now g) (slice_index c.loop-index.weights g)
-      (sum_by (λ x. cond (eqb x g) c.mix-weight.result 0) c.at-bid.result.goods.now) (slice_index c.add_at.new.weights g) c.at-bid.ensures
+      (sum_by (λ x. cond (eqb x g) c.mix-weight.result 0) c.at-bid.result.goods.now) (slice_index c.add_at.new.sums g) c.at-bid.ensures
       (c.loop-index.invariant.1 g)
       (ap (λ (w : ℕ). sum_by (λ x. cond (eqb x g) w 0) c.at-bid.result.goods.now)
       (c.mix-weight.ensures ∙ ap (mix_64 c.args.whole) c.point_weight.ensures)) (c.add_at.ensures.sums g),

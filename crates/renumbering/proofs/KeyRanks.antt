@@ -1,6 +1,6 @@
 -- The order of goods by two numbers is that of one number, a key, and so are their ranks.
 use Rattle.renumbering.proofs.Common.{ap, ap₂, arith, Bool, cases_lt, count_by, fun_ext, in_range, inl, inr, is_before, List, lt-ltb, ltb, ltb-true, map, map-map}
-use Rattle.renumbering.proofs.Common.{All-from_Contains, map-range_with_len_more, map_same_on, range_with_len, ranks, slice_index, sym, ℕ, [], ⊎_elim, ◌*◌, ◌++◌}
+use Rattle.renumbering.proofs.Common.{All-from_Contains, length, length-map-range_with_len, map-range_with_len_more, map_same_on, range_with_len, ranks, slice_index, sym, ℕ, [], ⊎_elim, ◌*◌, ◌++◌}
 use Rattle.renumbering.proofs.Common.{◌+◌, ◌<◌, ◌^◌, ◌∙◌, ◌∷◌, ◌≡◌, ◌≤◌, ◌⊎◌}
 use Rattle.renumbering.proofs.Counts.{count_alike}
 use Rattle.renumbering.proofs.Members.{same_tests}
@@ -51,3 +51,6 @@ ranks_alike first one other n same =
     (All-from_Contains (λ g. rank n first one g ≡ rank n first other g) (range_with_len 0 n)
     (λ g c. count_alike (λ h. is_before (first h) (one h) (first g) (one g)) (λ h. is_before (first h) (other h) (first g) (other g)) (range_with_len 0 n)
     (λ h d. ap₂ (λ (x y : ℕ). is_before (first h) x (first g) y) (same h (in_range n h d)) (same g (in_range n g c)))))
+
+pub keys_long : (f : ℕ → ℕ) (keys : List ℕ) (n : ℕ) → keys ≡ map f (range_with_len 0 n) → length keys ≡ n
+keys_long f keys n made = ap (λ (xs : List ℕ). length xs) made ∙ length-map-range_with_len f 0 n

@@ -1,0 +1,3 @@
+//! Renumbered files.
+
+mod families;
