@@ -1,6 +1,6 @@
 -- The names from outside of `proofs` that the proofs cite, passed on from one place. A definition that a proof unfolds comes from its own file. Declares nothing.
 pub use Rattle.bid_file.specs.Files.{IsBid, IsBidFile, IsPlainFile, PlainBid, PlainFile}
-pub use Rattle.bid_file.specs.declared.limits.TheConstants.{MAX_BIDS}
+pub use Rattle.bid_file.specs.declared.limits.TheConstants.{MAX_BIDS, MAX_GOODS}
 pub use Rattle.canon.proofs.CanonicalAuctions.Atoms.{HasAtoms, xor_points_table}
 pub use Rattle.canon.proofs.CanonicalAuctions.Counting.{alike, points_more, points_without, same_table, skips}
 pub use Rattle.canon.proofs.CanonicalAuctions.Sames.{canonical_is_fixed, canonical_is_same, HasAtoms-canonical, same_canonical, same_sym, same_trans}
@@ -31,6 +31,9 @@ pub use Rattle.prune.specs.SearchSteps.{atoms_below, is_below}
 pub use Rattle.canon.specs.Unsearched.{unsearched_auction, unsearched_file}
 pub use Rattle.canon.specs.Bidders.{AreBidders, offers}
 pub use Rattle.renumbering.specs.declared.leaf.LeafFile.{LeafFile}
+pub use Rattle.renumbering.specs.declared.numbering_fault.NumberingFault.{NumberingFault}
+pub use Rattle.renumbering.specs.declared.numbering_fault.NumberingFault.TheVariants.{Memory, StepLimit}
+pub use Rattle.std.specs.Prelude.{Err}
 pub use Rattle.prune.specs.Lemmas.Tables.{no_xor_points}
 pub use Rattle.prune.specs.Points.{is_or_point, is_xor_point, or_points, xor_points}
 pub use Rattle.renumbering.specs.Cells.{cell_size, is_cut, is_cut_by, larger, largest, largest_cut, set_apart}
@@ -63,7 +66,7 @@ pub use Rattle.std.proofs.lemmas.List.FromFn.{map-range_with_len_more}
 pub use Rattle.std.proofs.lemmas.List.Quantifiers.{all_pairs_push}
 pub use Rattle.std.proofs.lemmas.List.Sorted.{All-permutation, Contains-permutation, IsPermutation-map, IsPermutation-refl, IsPermutation-sym}
 pub use Rattle.std.proofs.lemmas.List.Sorted.{IsPermutation-trans, length_permutation, list_any-IsPermutation, sum_by-IsPermutation}
-pub use Rattle.std.proofs.lemmas.List.Sums.{count_by-le-length, position_or_len_is, sum_by-le, sum-map, sum_by-append, sum_by-cons, sum_by-le-sum_by, sum_by_more}
+pub use Rattle.std.proofs.lemmas.List.Sums.{count_by-le-length, position_or_len_is, sum_by-le, sum_by-take-le, sum_by-take-le, sum-map, sum_by-append, sum_by-cons, sum_by-le-sum_by, sum_by_more}
 pub use Rattle.std.proofs.lemmas.Map.Keys.{IsDistinct-IsPermutation}
 pub use Rattle.std.proofs.lemmas.Map.Lookups.{exact_unsigned}
 pub use Rattle.std.proofs.lemmas.Map.Made.{AllPairs-from_IsDistinct, IsDistinct-from_AllPairs}

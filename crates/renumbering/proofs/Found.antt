@@ -1,6 +1,8 @@
 -- Leaves as the search has them, with their files.
-use Rattle.renumbering.proofs.Common.{ap, IfSome, inl, inr, IsLesser, Leaf, LeafFile, None, Option, seen_leaf, Some, subst, ⊎_elim, ◌≡◌}
-use Rattle.renumbering.proofs.Searching.{IsLesserLeaf}
+use Rattle.renumbering.proofs.Common.{ap, auction_from, below_good, eqb, FindsLeast, IfSome, inl, inr, IsLeastBelow, IsLeastFound, IsLesser, IsRenumberedBy}
+use Rattle.renumbering.proofs.Common.{largest_cut, Leaf, LeafFile, List, Memory, None, NumberingFault, Option, PlainFile, RefinesAs, refining_steps, seen_leaf}
+use Rattle.renumbering.proofs.Common.{set_apart, slice_index, Some, StepLimit, subst, trace, true, under, ℕ, ⊎_elim, ◌+◌, ◌<◌, ◌≡◌, Err}
+use Rattle.renumbering.proofs.Searching.{IsLeastSoFar, IsLesserLeaf, IsSpent, over_below, over_refining, take_good}
 
 abbrev pub seen_option : Option LeafFile → Option Leaf
 seen_option None = None
@@ -22,3 +24,23 @@ lesser_seen (Some old) other leaf lesser = record {
 -- what both have, the lesser has
 pub lesser_has : (P : LeafFile → Type 0) (one : Option LeafFile) (other leaf : LeafFile) → IsLesser one other leaf → IfSome one P → P other → P leaf
 lesser_has P one other leaf lesser h k = ⊎_elim (λ (e : one ≡ Some leaf). subst (λ (o : Option LeafFile). IfSome o P) e h) (λ (e : other ≡ leaf). subst P e k) lesser.is
+
+-- ---- refusals
+
+module _ (mix : ℕ → ℕ → ℕ) (f : PlainFile) (cs : List ℕ) (cell before left good : ℕ) (spent : IsSpent mix (auction_from f) cs cell before left good)
+    (own : eqb (slice_index cs good) cell ≡ true) (cut : largest_cut (auction_from f) cs ≡ Some cell) (below : good < f.goods)
+  where
+    pub refused_refining : (apart : List ℕ) (after last : ℕ) (fault : NumberingFault) → apart ≡ set_apart f.goods cs good
+        → RefinesAs mix (auction_from f) apart left after (Err fault) → FindsLeast mix f cs before last (Err fault)
+    refused_refining apart after last StepLimit e refused =
+        over_refining mix (auction_from f) cs cell before left good spent own cut below
+        (subst (λ (ds : List ℕ). left < refining_steps mix (auction_from f) ds) e refused)
+    refused_refining apart after last Memory e refused = tt
+
+    pub refused_below : (lower : List ℕ) (refined after last : ℕ) (fault : NumberingFault) → lower ≡ below_good mix (auction_from f) cs good
+        → left ≡ refined + refining_steps mix (auction_from f) (set_apart f.goods cs good) → FindsLeast mix f lower refined after (Err fault)
+        → FindsLeast mix f cs before last (Err fault)
+    refused_below lower refined after last StepLimit e spends refused =
+        over_below mix (auction_from f) cs cell before left good spent own cut below refined spends
+        (subst (λ (ds : List ℕ). FindsLeast mix f ds refined after (Err StepLimit)) e refused)
+    refused_below lower refined after last Memory e spends refused = tt

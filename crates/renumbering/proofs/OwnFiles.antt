@@ -1,5 +1,5 @@
 -- A canonical file is the file of its auction, so that what its bids are is what the points of the auction are.
-use Rattle.renumbering.proofs.Common.{cell_size, false, get_or_from_slice_get, is_cut, is_cut_by, list_any_has, round_steps, slice_get_within, take, take_more, true, All, All-contains, All-from_Contains, All-from_recursion, ap, ap₂, AreOn, Atom, atom_of, auction_from, auction_from-file_from}
+use Rattle.renumbering.proofs.Common.{arith, get_or, MAX_GOODS, slice_get-get_or, sum_by-le, sum_by-take-le, sum_by_more, ◌^◌, cell_size, false, get_or_from_slice_get, is_cut, is_cut_by, list_any_has, round_steps, slice_get_within, take, take_more, true, All, All-contains, All-from_Contains, All-from_recursion, ap, ap₂, AreOn, Atom, atom_of, auction_from, auction_from-file_from}
 use Rattle.renumbering.proofs.Common.{bid_from, Bool, canonical_auction, cond, Contains, Contains-map, dummy_bids, file_from, HasAtoms, HasAtoms-file, IsAtom}
 use Rattle.renumbering.proofs.Common.{IsBid-there, IsCanonical, IsCanonicalFile, IsPlainFile, length, length_bundle, List, list_any, list_any-append, map}
 use Rattle.renumbering.proofs.Common.{None, offers, Option, PlainAuction, PlainBid, PlainFile, refl, slice_get, Some, subst, sum_by, sum_by-append}
@@ -106,3 +106,20 @@ module _ (f : PlainFile) (h : IsPlainFile f) where
       on_from_offers f.goods bids (offers bids) refl
       (All-contains (All (IsAtom f.goods)) (auction_from f).xor_bidders (offers bids) (HasAtoms-file f h).xor_atoms
       (subst (λ (xs : List (List (Atom (List ℕ)))). Contains xs (offers bids)) e (Contains-map offers bidders bids c))))
+
+-- ---- the steps so far
+
+pub sum_next : {X : Type 0} (f : X → ℕ) (xs : List X) (i : ℕ) (x : X) → slice_get xs i ≡ Some x → sum_by f (take (i + 1) xs) ≡ sum_by f (take i xs) + f x
+sum_next {X} f xs i x there =
+    sum_by_more f xs i x (slice_get_within xs i x there)
+    ∙ ap (λ (y : X). sum_by f (take i xs) + f y) (get_or_from_slice_get xs i x x there)
+
+-- they fit a number of 64 bits
+pub steps_fit : (f : PlainFile) → IsPlainFile f → (i : ℕ) (b : PlainBid) → slice_get f.bids i ≡ Some b
+    → f.goods + sum_by (λ x. length x.goods) (take i f.bids) + length b.goods < 2 ^ 64
+steps_fit f h i b there =
+    let most = sum_by-le (λ x. length x.goods) MAX_GOODS f.bids (λ k d l.
+    let few = few_goods f h k (get_or f.bids k d) (slice_get-get_or f.bids k d l) in omega (arith, h.goods)) in
+    let so_far = sum_by-take-le (λ x. length x.goods) f.bids (i + 1) in
+    let next = sum_next (λ x. length x.goods) f.bids i b there in
+    omega (arith, h.goods, h.count)

@@ -2,7 +2,7 @@
 use Rattle.std.proofs.Common.{rules, ◌≡◌, ◌≢◌, ℕ, zero, suc, ◌+◌, ◌-◌, ◌*◌, ◌<◌, ◌≤◌, ⊎_elim, Bool, true, false, cond, eqb, List, length, get_or, map, refl, sym, ap, ap₂, ◌∙◌, subst, arith}
 use Rattle.std.specs.Prelude.{slice_index}
 use Rattle.std.specs.List.{list_all, range_with_len}
-use Rattle.std.proofs.Math.Nat.{mul_comm, mul-le-mul_left, suc-mul}
+use Rattle.std.proofs.Math.Nat.{mul_comm, mul-le-mul_left, mul-pos, suc-mul}
 use Rattle.std.proofs.lemmas.Bool.{both_ways, cases_Bool, eq-eqb, eqb-true}
 use Rattle.std.proofs.lemmas.List.{ext_get_or}
 use Rattle.std.proofs.lemmas.List.FromFn.{length-map-range_with_len}
@@ -10,6 +10,8 @@ use Rattle.valuation.specs.Auctions.{PlainAuction}
 use Rattle.prune.specs.Lemmas.Lists.{list_all_at, list_all_from}
 use Rattle.prune.specs.Lemmas.Ranges.{in_range, range_contains}
 use Rattle.renumbering.specs.Colours.{are_stable, colours_after, next_colour, next_colours, refined, rounds_after}
+use Rattle.renumbering.proofs.Common.{AreColours, get_or_default, refining_steps, round_steps}
+use Rattle.renumbering.proofs.Leaves.{refined_ranks}
 use Rattle.renumbering.proofs.Rounds.{at_good}
 
 module _ (mix : ℕ → ℕ → ℕ) (a : PlainAuction) where
@@ -105,3 +107,37 @@ module _ (mix : ℕ → ℕ → ℕ) (a : PlainAuction) where
         sym (h.same ∙ ap (λ (k : ℕ). colours_after mix a k colours) none),
         spent ∙ ap (λ (k : ℕ). left_steps + k * round) (sym (rounds ∙ same)),
       )
+
+-- ---- refined colours
+
+module _ (mix : ℕ → ℕ → ℕ) (a : PlainAuction) where
+  after_long : (n : ℕ) (cs : List ℕ) → length cs ≡ a.goods → length (colours_after mix a n cs) ≡ a.goods
+  unfolding colours_after
+  after_long zero cs long = long
+  after_long (suc n) cs long =
+      by (are_stable mix a cs) (colours_after mix a n (next_colours mix a cs))
+      (after_long n (next_colours mix a cs) (length-map-range_with_len (next_colour mix a (slice_index cs)) 0 a.goods))
+    where
+      by : (b : Bool) (ds : List ℕ) → length ds ≡ a.goods → length (cond b cs ds) ≡ a.goods
+      by true ds h = long
+      by false ds h = h
+
+  pub refined_colours : (cs : List ℕ) → length cs ≡ a.goods → AreColours a.goods (refined mix a cs)
+  refined_colours cs long =
+      let still = after_long a.goods cs long in
+      record {
+        long = still;
+        below = λ g d l.
+            let m : g < a.goods = omega (arith, still) in
+            subst (λ (k : ℕ). k < a.goods) (get_or_default (refined mix a cs) g 0 d l) (refined_ranks mix a cs g m);
+      }
+
+  -- refining takes a step
+  pub some_steps : (cs : List ℕ) → 0 < a.goods → 0 < refining_steps mix a cs
+  some_steps cs l =
+      mul-pos (some_rounds a.goods l) (omega arith)
+    where
+      some_rounds : (n : ℕ) → 0 < n → 0 < rounds_after mix a n cs
+      unfolding rounds_after
+      some_rounds zero m = absurd (omega arith)
+      some_rounds (suc n) m = omega arith

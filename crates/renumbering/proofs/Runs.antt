@@ -1,6 +1,8 @@
 -- Sums over the bids of a bidder, bid by bid, that wrap.
-use Rattle.renumbering.proofs.Common.{bidder_cmp, drop, drop_more, ordering_then, slice_cmp, ◌∷◌, Atom, from_bidder, from_point, good_weight, offers, PlainAuction, take-append-le, take_all, ◌++◌, All, ap, ap₂, AreOn, arith, get_or, get_or-map, get_or_from_slice_get, length, length-map, List, map, PlainBid, slice_get}
+use Rattle.renumbering.proofs.Common.{cell_size, cond, count_by, count_by-le-length, eqb, ext_get_or, length-map-range_with_len, slice_index, range_more, range_with_len, sum_by-append, sum_by-cons, wrapped_sum, [], bidder_cmp, drop, drop_more, ordering_then, slice_cmp, ◌∷◌, Atom, from_bidder, from_point, good_weight, offers, PlainAuction, take-append-le, take_all, ◌++◌, All, ap, ap₂, AreOn, arith, get_or, get_or-map, get_or_from_slice_get, length, length-map, List, map, PlainBid, slice_get}
 use Rattle.renumbering.proofs.Common.{slice_get-get_or, slice_get_within, Some, subst, sum_by, sum_by_more, sym, take, ℕ, ◌%◌, ◌+◌, ◌<◌, ◌^◌, ◌∙◌, ◌≡◌}
+use Rattle.renumbering.proofs.Rounds.{at_good}
+use Rattle.renumbering.proofs.Sameness.{count_by-map}
 
 -- the goods of the bid at an index
 pub bid_on : (n : ℕ) (bids : List PlainBid) (i : ℕ) (b : PlainBid) → AreOn n bids → slice_get bids i ≡ Some b → All (λ good. good < n) b.goods
@@ -59,3 +61,30 @@ pub bidders_drop : (one other : List (List PlainBid)) (i : ℕ) (x y : List Plai
     → y ≡ get_or other i y → slice_cmp bidder_cmp (drop i (map offers one)) (drop i (map offers other))
     ≡ ordering_then (bidder_cmp (offers x) (offers y)) (slice_cmp bidder_cmp (drop (i + 1) (map offers one)) (drop (i + 1) (map offers other)))
 bidders_drop one other i x y l m e f = ap₂ (slice_cmp bidder_cmp) (offers_drop one i x l e) (offers_drop other i y m f)
+
+-- a sum over a range that wraps, and one more
+pub wraps_next : (f : ℕ → ℕ) (i before more after : ℕ) → before ≡ wrapped_sum f (range_with_len 0 i) → more ≡ f i → after ≡ (before + more) % 2 ^ 64
+    → after ≡ wrapped_sum f (range_with_len 0 (i + 1))
+wraps_next f i before more after so_far one total =
+    let same : 0 + i ≡ i = omega arith in
+    let last : sum_by f (i ∷ []) ≡ f i + 0 = sum_by-cons f i [] in
+    let all : sum_by f (range_with_len 0 (i + 1)) ≡ sum_by f (range_with_len 0 i) + sum_by f (i ∷ []) =
+    ap (sum_by f) (range_more 0 i ∙ ap (λ (k : ℕ). range_with_len 0 i ++ k ∷ []) same) ∙ sum_by-append f (range_with_len 0 i) (i ∷ []) in
+    let sum : ℕ = sum_by f (range_with_len 0 i) in
+    let whole : sum_by f (range_with_len 0 (i + 1)) ≡ sum + f i = omega arith in
+    total ∙ ap₂ (λ (b m : ℕ). (b + m) % 2 ^ 64) so_far one ∙ wrapped_more sum (f i) ∙ ap (λ (n : ℕ). n % 2 ^ 64) (sym whole)
+  where
+    wrapped_more : (sum more : ℕ) → (sum % 2 ^ 64 + more) % 2 ^ 64 ≡ (sum + more) % 2 ^ 64
+    wrapped_more sum more = omega arith
+
+-- how many goods have a colour, counted in the list of colours
+pub sizes_are : (colours : List ℕ) (colour start end : ℕ) → start ≡ 0 → length colours < 2 ^ 64
+    → end ≡ (start + sum_by (λ x. cond (eqb x colour) 1 0) colours) % 2 ^ 64 → end ≡ cell_size (length colours) (slice_index colours) colour
+sizes_are colours colour start end zero few total =
+    let most = count_by-le-length (λ x. eqb x colour) colours in
+    let all : end ≡ count_by (λ x. eqb x colour) colours = omega arith in
+    all ∙ ap (count_by (λ x. eqb x colour)) (sym (each_good colours)) ∙ count_by-map (λ x. eqb x colour) (slice_index colours) (range_with_len 0 (length colours))
+  where
+    each_good : (xs : List ℕ) → map (slice_index xs) (range_with_len 0 (length xs)) ≡ xs
+    each_good xs = ext_get_or 0 (map (slice_index xs) (range_with_len 0 (length xs))) xs (length-map-range_with_len (slice_index xs) 0 (length xs))
+        (λ i l. at_good (slice_index xs) (length xs) i (subst (λ (n : ℕ). i < n) (length-map-range_with_len (slice_index xs) 0 (length xs)) l))

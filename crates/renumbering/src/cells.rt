@@ -1,8 +1,9 @@
 //! Cells: goods of one colour. A point cuts a cell if it has some of its goods and not all.
 
-ghost use Rattle.std.specs.Prelude.{◌≡◌, ◌<◌, ◌==◌, ℕ, All, IfOk, length, slice_index};
+ghost use Rattle.std.specs.Prelude.{◌≡◌, ◌+◌, ◌<◌, ◌≤◌, ◌==◌, ℕ, All, IfOk, cond, length, slice_index};
 ghost use Rattle.std.specs.List.{count_by};
 ghost use Rattle.bid_file.specs.Files.{IsPlainFile};
+ghost use Rattle.bid_file.specs.declared.limits.TheConstants.{MAX_GOODS};
 ghost use Rattle.valuation.specs.Auctions.{auction_from};
 ghost use Rattle.canon.specs.Canonical.{IsCanonicalFile};
 ghost use Rattle.renumbering.specs.Cells.{cell_size, is_cut_by, is_cut as is_cut_in, largest_cut as largest_cut_in, set_apart as apart_from};
@@ -89,17 +90,28 @@ pub(crate) fn largest_cut(
     Ok(largest)
 }
 
+/// The colour of a good when another is set apart, from whose cell's colour on the others move up.
+fn moved(colour: u16, good: usize, one: usize, cell: u16) -> u16
+    requires { colour < MAX_GOODS }
+    ensures { result ≡ cond (colour == cell) (cond (good == one) colour (colour + 1)) colour }
+{
+    if colour != cell || good == one {
+        colour
+    } else {
+        colour + 1
+    }
+}
+
 /// The colours with one good set apart, before the others of its cell.
 pub(crate) fn set_apart(alloc: Global, colours: &[u16], one: usize) -> Result<Vec<u16>, AllocError>
     requires one { one < length colours.now }
+    requires few { length colours.now ≤ MAX_GOODS }
     requires colours { AreColours (length colours.now) colours.now }
     ensures { IfOk result (λ apart. apart.items ≡ apart_from (length colours.now) colours.now one) }
 {
     let mut apart = Vec::with_capacity(alloc, colours.len())?;
     for good in 0..colours.len() {
-        let colour = colours[good];
-        let stays = colour != colours[one] || good == one;
-        apart.push(if stays { colour } else { colour + 1 })?;
+        apart.push(moved(colours[good], good, one, colours[one]))?;
     }
     Ok(apart)
 }

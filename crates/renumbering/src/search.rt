@@ -16,6 +16,7 @@ use crate::leaf::{LeafFile, lesser, read_leaf};
 use crate::numbering_fault::NumberingFault;
 use crate::round::{refine, trace};
 use bid_file::PackedFile;
+use bid_file::limits::MAX_GOODS;
 use std::alloc::{AllocError, Global};
 
 /// A renumbered file.
@@ -40,17 +41,19 @@ pub fn renumbered(
     ensures refused { IfErr result (λ fault. RefusesSearch mix_64 file.now steps fault) }
 {
     let mut left = steps;
-    let one_colour = vec![in alloc; 0; file.goods() as usize]?;
+    let one_colour: Vec<u16> = vec![in alloc; 0; file.goods() as usize]?;
     let first = refine(alloc, file, one_colour, &mut left)?;
+    let leaf = least_below(alloc, file, &first, &mut left)?;
     let LeafFile {
         traces: _,
         file,
         numbering,
-    } = least_below(alloc, file, &first, &mut left)?;
+    } = leaf;
     Ok(RenumberedFile { file, numbering })
 }
 
-/// The least leaf below colours, if the steps that are left suffice.
+/// The least leaf below colours, if the steps that are left suffice. It calls itself for each good of the largest cell that a
+/// point cuts, as many calls deep as goods are set apart.
 fn least_below(
     alloc: Global,
     file: &PackedFile,
@@ -61,18 +64,24 @@ fn least_below(
     requires colours { AreColours file.now.goods colours.now }
     ensures { FindsLeast mix_64 file.now colours.now left.old left.new result }
 {
-    let Some(cell) = largest_cut(alloc, file, colours)? else {
-        return Ok(read_leaf(alloc, file, colours)?);
+    prove!(file.goods() <= MAX_GOODS);
+    let found = largest_cut(alloc, file, colours)?;
+    let Some(cell) = found else {
+        let leaf = read_leaf(alloc, file, colours)?;
+        return Ok(leaf);
     };
     let mut least: Option<LeafFile> = None;
     for good in 0..colours.len() {
-        if colours[good] == cell {
-            let apart = set_apart(alloc, colours, good)?;
-            let below = refine(alloc, file, apart, left)?;
-            let trace = trace(alloc, file, &below)?;
-            let leaf = under(trace, least_below(alloc, file, &below, left)?)?;
-            least = Some(lesser(alloc, least, leaf)?);
+        if colours[good] != cell {
+            continue;
         }
+        let apart = set_apart(alloc, colours, good)?;
+        let below = refine(alloc, file, apart, left)?;
+        let sum = trace(alloc, file, &below)?;
+        let lower = least_below(alloc, file, &below, left)?;
+        let leaf = under(sum, lower)?;
+        let chosen = lesser(alloc, least, leaf)?;
+        least = Some(chosen);
     }
     let Some(leaf) = least else {
         unreachable!();
@@ -80,7 +89,7 @@ fn least_below(
     Ok(leaf)
 }
 
-/// The leaf as it is read from one step above.
+/// The leaf as it is read from one step above, by colours with this trace.
 fn under(trace: u64, mut leaf: LeafFile) -> Result<LeafFile, AllocError>
     ensures leaf { IfOk result (λ up. seen_leaf up ≡ under_step trace (seen_leaf leaf)) }
     ensures file { IfOk result (λ up. up.file ≡ leaf.file) }
