@@ -122,6 +122,15 @@ module _ (mix : ℕ → ℕ → ℕ) (a : PlainAuction) where
               let other = more_depth lower.depth depth (below_good mix a cs i) (omega arith) in
               over depth (omega (arith, h.spent, lower.steps))
 
+-- all goods are done
+pub all_spent : (mix : ℕ → ℕ → ℕ) (a : PlainAuction) (cs : List ℕ) (cell before left : ℕ) → largest_cut a cs ≡ Some cell
+    → IsSpent mix a cs cell before left a.goods → TakesSteps mix a cs (λ steps. before ≤ left + steps)
+unfolding steps_below
+all_spent mix a cs cell before left cut h =
+    let all : steps_so_far mix a cs cell h.depth a.goods ≡ steps_below mix a (suc h.depth) cs =
+    sym (ap (steps_of_cell cs a.goods (good_steps mix a cs h.depth)) cut) in
+    record { depth = suc h.depth; steps = omega (arith, h.spent, all) }
+
 -- ---- the order of leaves
 
 at_most_trans : (x y z : Leaf) → leaf_cmp x y ≢ Greater → leaf_cmp y z ≢ Greater → leaf_cmp x z ≢ Greater

@@ -7,14 +7,14 @@ use Rattle.valuation.specs.Auctions.{auction_from}
 use Rattle.canon.proofs.CanonicalFiles.Texts.{HasAtoms-file}
 use Rattle.renumbering.specs.Cells.{set_apart}
 use Rattle.renumbering.specs.Internal.Rounds.{AreColours}
-use Rattle.renumbering.specs.Internal.Searching.{IsLesser, IsRenumberedBy, seen_leaf}
-use Rattle.renumbering.specs.Leaves.{below_good, refining_steps, under}
-use Rattle.renumbering.specs.Colours.{trace}
+use Rattle.renumbering.specs.Internal.Searching.{IsRenumberedBy, seen_leaf, TakesSteps}
+use Rattle.renumbering.specs.Leaves.{below_good, IsLeastBelow, refining_steps, under}
+use Rattle.renumbering.specs.Colours.{refined, trace}
 use Rattle.renumbering.specs.Mixing.{mix_64}
 use Rattle.renumbering.proofs.Found.{lesser_has, lesser_seen, refused_below, refused_refining, seen_option}
 use Rattle.renumbering.proofs.LeafFiles.{canonical_found}
 use Rattle.renumbering.proofs.RoundByRound.{refined_colours, some_steps}
-use Rattle.renumbering.proofs.Searching.{least_found, none_spent, one_leaf, skip_good, some_found, spent_more, spent_skip, take_good}
+use Rattle.renumbering.proofs.Searching.{all_spent, IsLeastSoFar, IsLesserLeaf, IsSpent, least_found, none_spent, one_leaf, skip_good, some_found, spent_more, spent_skip, take_good}
 use Rattle.renumbering.proofs.search.+least_below.Goals as goal
 
 pub returns-in_default : goal.returns-in_default
@@ -43,3 +43,108 @@ loop-good-preserved-then-good-cell t c =
 
 pub set_apart-apart-requires-clause-colours : goal.set_apart-apart-requires-clause-colours
 set_apart-apart-requires-clause-colours t c = subst (λ (n : ℕ). AreColours n c.args.colours.now) (sym c.requires.colours.long) c.requires.colours
+
+pub set_apart-apart-requires-clause-few : goal.set_apart-apart-requires-clause-few
+set_apart-apart-requires-clause-few t c = omega (arith, c.requires.colours.long, c.goods.ensures.file.goods)
+
+pub refine-below-requires-clause-long : goal.refine-below-requires-clause-long
+refine-below-requires-clause-long t c =
+    ap (λ (xs : List ℕ). length xs) c.in_ok-apart.ensures ∙ length-map-range_with_len _ 0 (length c.args.colours.now) ∙ c.requires.colours.long
+
+-- the colours with the good set apart, by the number of goods of the file
+apart : (goods : ℕ) (colours found : List ℕ) (good : ℕ) → length colours ≡ goods → found ≡ set_apart (length colours) colours good
+    → found ≡ set_apart goods colours good
+apart goods colours found good long e = e ∙ ap (λ (n : ℕ). set_apart n colours good) long
+
+pub returns-in_err-below : goal.returns-in_err-below
+returns-in_err-below t c =
+    let h = c.loop-good.invariant in
+    refused_refining mix_64 c.args.file.now c.args.colours.now c.in-Some.cell c.args.left.now c.loop-good.left c.loop-good.good h.spent
+    (eq-eqb _ _ c.if-good-cell.false) (sym c.in_ok-found.ensures ∙ c.in-Some.is) (omega (arith, c.requires.colours.long)) c.in_ok-apart.apart.items c.refine.new.left
+    _ _ (apart c.args.file.now.goods c.args.colours.now c.in_ok-apart.apart.items c.loop-good.good c.requires.colours.long c.in_ok-apart.ensures) c.in_err-below.ensures
+
+pub least_below-lower-requires : goal.least_below-lower-requires
+least_below-lower-requires t c κs within =
+    let h = c.loop-good.invariant in
+    let a = auction_from c.args.file.now in
+    let result = c.in_ok-below.ensures in
+    let some = some_steps mix_64 a c.in_ok-apart.apart.items (omega (arith, c.requires.colours.long)) in
+    let less : c.refine.new.left < c.args.left.now = omega (arith, h.fewer, result.1) in
+    let colours : AreColours c.args.file.now.goods c.deref.result.now =
+    subst (AreColours c.args.file.now.goods) (sym (c.deref.ensures.value ∙ result.0))
+    (refined_colours mix_64 a c.in_ok-apart.apart.items
+    (ap (λ (xs : List ℕ). length xs) c.in_ok-apart.ensures ∙ length-map-range_with_len _ 0 (length c.args.colours.now) ∙ c.requires.colours.long)) in
+    search (rules, within, less, colours)
+
+pub returns-in_err-lower : goal.returns-in_err-lower
+returns-in_err-lower t c =
+    let h = c.loop-good.invariant in
+    let goods = c.args.file.now.goods in
+    let moved = apart goods c.args.colours.now c.in_ok-apart.apart.items c.loop-good.good c.requires.colours.long c.in_ok-apart.ensures in
+    let result = c.in_ok-below.ensures in
+    refused_below mix_64 c.args.file.now c.args.colours.now c.in-Some.cell c.args.left.now c.loop-good.left c.loop-good.good h.spent
+    (eq-eqb _ _ c.if-good-cell.false) (sym c.in_ok-found.ensures ∙ c.in-Some.is) (omega (arith, c.requires.colours.long)) c.deref.result.now c.refine.new.left
+    c.least_below.new.left _ _ (c.deref.ensures.value ∙ result.0 ∙ ap (λ (cs : List ℕ). refined mix_64 (auction_from c.args.file.now) cs) moved)
+    (result.1 ∙ ap (λ (cs : List ℕ). c.refine.new.left + refining_steps mix_64 (auction_from c.args.file.now) cs) moved) c.in_err-lower.ensures
+
+pub lesser-chosen-requires-clause-one : goal.lesser-chosen-requires-clause-one
+lesser-chosen-requires-clause-one t c =
+    search (rules, canonical_found, c.loop-good.invariant.numbering, c.goods.ensures.file)
+
+pub lesser-chosen-requires-clause-other : goal.lesser-chosen-requires-clause-other
+lesser-chosen-requires-clause-other t c = search (rules, canonical_found, c.goods.ensures.file)
+
+pub loop-good-preserved : goal.loop-good-preserved
+loop-good-preserved t c =
+    let h = c.loop-good.invariant in
+    let f = c.args.file.now in
+    let a = auction_from f in
+    let cs = c.args.colours.now in
+    let cell = c.in-Some.cell in
+    let i = c.loop-good.good in
+    let own = c.if-good-cell.false in
+    let cut = sym c.in_ok-found.ensures ∙ c.in-Some.is in
+    let good : i < a.goods = omega (arith, c.requires.colours.long) in
+    let moved = apart f.goods cs c.in_ok-apart.apart.items i c.requires.colours.long c.in_ok-apart.ensures in
+    let result = c.in_ok-below.ensures in
+    let below : c.in_ok-below.below.items ≡ below_good mix_64 a cs i = result.0 ∙ ap (λ (ds : List ℕ). refined mix_64 a ds) moved in
+    let steps = result.1 ∙ ap (λ (ds : List ℕ). c.refine.new.left + refining_steps mix_64 a ds) moved in
+    let lower = c.in_ok-lower.ensures in
+    let at_below = λ (P : List ℕ → Type 0) (p : P c.deref.result.now). subst P (c.deref.ensures.value ∙ below) p in
+    let chosen = c.in_ok-chosen.ensures in
+    let up : seen_leaf c.in_ok-leaf.leaf ≡ under (trace mix_64 a (below_good mix_64 a cs i)) (seen_leaf c.in_ok-lower.lower) =
+    c.in_ok-leaf.ensures.leaf
+    ∙ ap (λ (n : ℕ). under n (seen_leaf c.in_ok-lower.lower)) (c.in_ok-sum.ensures ∙ ap (trace mix_64 a) (c.deref.ensures.value ∙ below)) in
+    record {
+      least = take_good mix_64 a cs cell cut i good own (seen_leaf c.in_ok-lower.lower)
+          (at_below (λ ds. IsLeastBelow mix_64 a ds (seen_leaf c.in_ok-lower.lower)) lower.least) (seen_option c.loop-good.least) (seen_leaf c.in_ok-chosen.chosen)
+          (subst (λ l. IsLesserLeaf (seen_option c.loop-good.least) l (seen_leaf c.in_ok-chosen.chosen)) up
+          (lesser_seen c.loop-good.least c.in_ok-leaf.leaf c.in_ok-chosen.chosen chosen)) h.least;
+      numbering = lesser_has (λ l. IsRenumberedBy f l.numbering.items l.file) c.loop-good.least c.in_ok-leaf.leaf c.in_ok-chosen.chosen chosen h.numbering
+          (search (rules, lower.numbering));
+      fewer = omega (arith, h.fewer, result.1, lower.fewer);
+      spent = spent_more mix_64 a cs cell c.args.left.now c.loop-good.left i h.spent (eq-eqb _ _ own) c.refine.new.left c.least_below.new.left steps
+          (at_below (λ ds. TakesSteps mix_64 a ds (λ n. c.refine.new.left ≤ c.least_below.new.left + n)) lower.steps);
+    }
+
+pub prove-unreachable-requires : goal.prove-unreachable-requires
+prove-unreachable-requires t c =
+    let all : c.loop-good.good ≡ length c.args.colours.now = omega (arith, c.loop-good-test.false, c.loop-good.auto.good-end) in
+    search (rules, some_found, HasAtoms-file, all)
+
+pub returns : goal.returns
+returns t c =
+    let h = c.loop-good.invariant in
+    let a = auction_from c.args.file.now in
+    let cs = c.args.colours.now in
+    let all : c.loop-good.good ≡ a.goods = omega (arith, c.loop-good-test.false, c.loop-good.auto.good-end, c.requires.colours.long) in
+    let cut = sym c.in_ok-found.ensures ∙ c.in-Some.is in
+    record {
+      least = least_found mix_64 a cs c.in-Some.cell cut (seen_leaf c.in-Some-2.leaf)
+          (subst (λ n. IsLeastSoFar mix_64 a cs c.in-Some.cell n (Some (seen_leaf c.in-Some-2.leaf))) all
+          (subst (λ o. IsLeastSoFar mix_64 a cs c.in-Some.cell c.loop-good.good (seen_option o)) c.in-Some-2.is h.least));
+      numbering = subst (λ o. IfSome o (λ l. IsRenumberedBy c.args.file.now l.numbering.items l.file)) c.in-Some-2.is h.numbering;
+      fewer = h.fewer;
+      steps = all_spent mix_64 a cs c.in-Some.cell c.args.left.now c.loop-good.left cut
+          (subst (IsSpent mix_64 a cs c.in-Some.cell c.args.left.now c.loop-good.left) all h.spent);
+    }
