@@ -25,6 +25,7 @@ pub mod Existence
 pub mod Found
 pub mod OwnFiles
 pub mod LeafFiles
+pub mod Inverses
 pub mod Runs
 pub mod KeyRanks
 pub mod Bids

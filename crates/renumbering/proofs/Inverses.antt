@@ -1,0 +1,43 @@
+-- The good of each number, written one by one.
+use Rattle.renumbering.proofs.Common.{ap, arith, cases_eq, cases_lt, ext_get_or, get_or, get_or-map-range_with_len, get_or-set_other, get_or-set_same, get_or_default}
+use Rattle.renumbering.proofs.Common.{get_or_default_zero, inverse, IsNumbering, length, length-map-range_with_len, length-set, List, number_in, set, slice_index}
+use Rattle.renumbering.proofs.Common.{subst, sym, ℕ, ⊎_elim, ◌+◌, ◌<◌, ◌∙◌, ◌≡◌, ◌≢◌, ◌≤◌}
+use Rattle.renumbering.proofs.Numberings.{back_and_there, inverse_numbers, number_below, numbers_differ}
+
+-- the goods before i are at their numbers
+pub record AreAt (p goods : List ℕ) (i : ℕ) : Type 0 where
+  pub long : length goods ≡ length p
+  pub each : (g : ℕ) → g < i → slice_index goods (slice_index p g) ≡ g
+
+module _ (p : List ℕ) (numbers : IsNumbering (length p) p) where
+  at_number : (g : ℕ) → g < length p → slice_index p g ≡ number_in p g
+  at_number g l = sym (get_or_default_zero p g g l)
+
+  pub more_goods : (goods : List ℕ) (i : ℕ) → AreAt p goods i → i < length p → AreAt p (set goods (slice_index p i) i) (i + 1)
+  more_goods goods i h l = record {
+    long = length-set goods (slice_index p i) i ∙ h.long;
+    each = λ g m. ⊎_elim
+        (λ (k : g < i).
+        let differ : slice_index p g ≢ slice_index p i = λ e.
+        let same : g ≡ i = numbers_differ (length p) p numbers g i (sym (at_number g (omega arith)) ∙ e ∙ at_number i l) in omega arith in
+        get_or-set_other goods (slice_index p i) (slice_index p g) i 0 differ ∙ h.each g k)
+        (λ (k : i ≤ g).
+        let same : g ≡ i = omega arith in
+        let there : slice_index p i < length goods =
+        subst (λ (n : ℕ). slice_index p i < n) (sym h.long)
+        (subst (λ (n : ℕ). n < length p) (sym (at_number i l)) (number_below (length p) p numbers i l)) in
+        ap (λ (k : ℕ). slice_index (set goods (slice_index p i) i) (slice_index p k)) same ∙ get_or-set_same goods (slice_index p i) i 0 there ∙ sym same)
+        (cases_lt g i);
+  }
+
+  pub goods_are : (goods : List ℕ) (i : ℕ) → AreAt p goods i → length p ≤ i → goods ≡ inverse (length p) p
+  goods_are goods i h m =
+      let q = inverse (length p) p in
+      ext_get_or 0 goods q (h.long ∙ sym (length-map-range_with_len _ 0 (length p)))
+      (λ x l.
+      let below : x < length p = subst (λ (n : ℕ). x < n) h.long l in
+      let g = number_in q x in
+      let good : g < length p = number_below (length p) q (inverse_numbers (length p) p numbers) x below in
+      let there : slice_index p g ≡ x = at_number g good ∙ back_and_there (length p) p numbers x in
+      sym (ap (slice_index goods) there) ∙ h.each g (omega arith)
+      ∙ sym (get_or_default_zero q x x (subst (λ (n : ℕ). x < n) (sym (length-map-range_with_len _ 0 (length p))) below)))
