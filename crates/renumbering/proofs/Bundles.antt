@@ -4,7 +4,7 @@ use Rattle.renumbering.proofs.Common.{exact_unsigned, false, fun_ext, has_below,
 use Rattle.renumbering.proofs.Common.{IsPermutation-map, IsRising, IsSorted, length, length-map, length_permutation, List, list_all, list_any-IsPermutation}
 use Rattle.renumbering.proofs.Common.{map, map-id, map-map, nat_cmp, nat_cmp-gt, nat_cmp-lt, nat_cmp_total, ne_eqb, number_in, permutation-sort_by}
 use Rattle.renumbering.proofs.Common.{range_with_len, refl, renumbered_bundle, rules, sort_by, sort_by-same, sorted_is_sort_by, subst, sum_by-IsPermutation}
-use Rattle.renumbering.proofs.Common.{sym, take, take_all, true, ℕ, [], ⊎_elim, ◌&&◌, ◌<◌, ◌∙◌, ◌∷◌, ◌≡◌, ◌≤◌}
+use Rattle.renumbering.proofs.Common.{sym, true, ℕ, [], ◌&&◌, ◌<◌, ◌∙◌, ◌∷◌, ◌≡◌}
 use Rattle.renumbering.proofs.Numberings.{back_and_there, number_below, number_in-joined, number_in-range, numbers_differ}
 
 -- ---- lists of numbers in order

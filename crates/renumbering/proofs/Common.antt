@@ -7,7 +7,7 @@ pub use Rattle.canon.proofs.CanonicalAuctions.Sames.{canonical_is_fixed, canonic
 pub use Rattle.canon.proofs.CanonicalAuctions.Smaller.{IsAuction-canonical}
 pub use Rattle.canon.proofs.CanonicalFiles.Files.{auction_from-file_from, IsPlainFile-file_from}
 pub use Rattle.canon.proofs.CanonicalFiles.Texts.{canonical_file_is_fixed, HasAtoms-file}
-pub use Rattle.canon.specs.Canonical.{canonical_auction, canonical_bidders, canonical_file, file_from, IsCanonical, IsCanonicalFile, nonzero_bidders, points_of_bidders}
+pub use Rattle.canon.specs.Canonical.{canonical_auction, canonical_bidders, bid_from, canonical_file, dummy_bids, file_from, IsCanonical, IsCanonicalFile, nonzero_bidders, points_of_bidders}
 pub use Rattle.canon.specs.Lemmas.Finding.{equal_from}
 pub use Rattle.canon.specs.Sameness.{has_table, IsSameAuction}
 pub use Rattle.cats_text.proofs.Spelling.Files.{spells_one}
@@ -66,7 +66,7 @@ pub use Rattle.std.proofs.lemmas.List.FromFn.{map-range_with_len_more}
 pub use Rattle.std.proofs.lemmas.List.Quantifiers.{all_pairs_push}
 pub use Rattle.std.proofs.lemmas.List.Sorted.{All-permutation, Contains-permutation, IsPermutation-map, IsPermutation-refl, IsPermutation-sym}
 pub use Rattle.std.proofs.lemmas.List.Sorted.{IsPermutation-trans, length_permutation, list_any-IsPermutation, sum_by-IsPermutation}
-pub use Rattle.std.proofs.lemmas.List.Sums.{count_by-le-length, position_or_len_is, sum_by-le, sum_by-take-le, sum_by-take-le, sum-map, sum_by-append, sum_by-cons, sum_by-le-sum_by, sum_by_more}
+pub use Rattle.std.proofs.lemmas.List.Sums.{count_by-le-length, position_or_len_is, sum_by-le, sum_by-take-le, sum-map, sum_by-append, sum_by-cons, sum_by-le-sum_by, sum_by_more}
 pub use Rattle.std.proofs.lemmas.Map.Keys.{IsDistinct-IsPermutation}
 pub use Rattle.std.proofs.lemmas.Map.Lookups.{exact_unsigned}
 pub use Rattle.std.proofs.lemmas.Map.Made.{AllPairs-from_IsDistinct, IsDistinct-from_AllPairs}

@@ -1,8 +1,8 @@
 -- A cell that is cut has a good, and another.
-use Rattle.renumbering.proofs.Common.{All, le-ltb, lt-ltb, MatchOption, refl, suc, ◌-◌, ◌≤◌, All-contains, and_parts, ap, arith, Atom, Bool, cases_Bool, cell_size, cond, Contains, Contains-head, Contains-tail}
+use Rattle.renumbering.proofs.Common.{All, le-ltb, lt-ltb, MatchOption, refl, suc, ◌-◌, ◌≤◌, All-contains, and_parts, ap, arith, Atom, Bool, cases_Bool, cell_size, cond}
 use Rattle.renumbering.proofs.Common.{count_by, eqb, eqb-true, false, has_below, has_from_contains, HasAtoms, IsAtom, is_cut, is_cut_by, larger}
 use Rattle.renumbering.proofs.Common.{largest_cut, List, list_any, list_any_found, ltb, ltb-true, None, Option, or_cases, PlainAuction, range_with_len}
-use Rattle.renumbering.proofs.Common.{slice_index, Some, sum_by-cons, sym, true, ℕ, [], ⊎_elim, ◌+◌, ◌<◌, ◌∙◌, ◌∷◌, ◌≡◌, ◌⊎◌, inl, inr}
+use Rattle.renumbering.proofs.Common.{slice_index, Some, sym, true, ℕ, [], ⊎_elim, ◌+◌, ◌<◌, ◌∙◌, ◌∷◌, ◌≡◌, ◌⊎◌, inl, inr}
 use Rattle.renumbering.specs.Cells.{largest}
 use Rattle.renumbering.proofs.Counts.{count_found}
 

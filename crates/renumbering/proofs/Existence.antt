@@ -1,6 +1,6 @@
 -- There is a least leaf. With each good that is set apart the colours add up to more: they only grow, as a colour is at most the number of goods of lesser
 -- ones. But they add up to no more than the square of the number of goods.
-use Rattle.renumbering.proofs.Common.{ap, arith, are_stable, auction_from, below_good, Bool, canonical_auction, cases_eq, cond, count_by, count_by-le-length}
+use Rattle.renumbering.proofs.Common.{ap, arith, are_stable, auction_from, below_good, Bool, canonical_auction, cases_eq, cond, count_by-le-length}
 use Rattle.renumbering.proofs.Common.{eq-eqb, eqb, eqb-true, Equal, false, file_from, first_colours, good_weight, Greater, HasAtoms, HasAtoms-canonical}
 use Rattle.renumbering.proofs.Common.{HasAtoms-file, HasRenumberedFile, in_range, inl, inr, is_before, IsLeastBelow, IsPlainFile, largest_cut, le-ltb, Leaf}
 use Rattle.renumbering.proofs.Common.{leaf_cmp, leaf_of, length-range_with_len, Less, List, lt-ltb, ltb, ltb-true, ne_eqb, next_colour, next_colours, None}

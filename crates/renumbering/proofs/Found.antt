@@ -1,8 +1,8 @@
 -- Leaves as the search has them, with their files.
-use Rattle.renumbering.proofs.Common.{ap, auction_from, below_good, eqb, FindsLeast, IfSome, inl, inr, IsLeastBelow, IsLeastFound, IsLesser, IsRenumberedBy}
+use Rattle.renumbering.proofs.Common.{ap, auction_from, below_good, eqb, FindsLeast, IfSome, inl, inr, IsLesser}
 use Rattle.renumbering.proofs.Common.{largest_cut, Leaf, LeafFile, List, Memory, None, NumberingFault, Option, PlainFile, RefinesAs, refining_steps, seen_leaf}
-use Rattle.renumbering.proofs.Common.{set_apart, slice_index, Some, StepLimit, subst, trace, true, under, ℕ, ⊎_elim, ◌+◌, ◌<◌, ◌≡◌, Err}
-use Rattle.renumbering.proofs.Searching.{IsLeastSoFar, IsLesserLeaf, IsSpent, over_below, over_refining, take_good}
+use Rattle.renumbering.proofs.Common.{set_apart, slice_index, Some, StepLimit, subst, true, ℕ, ⊎_elim, ◌+◌, ◌<◌, ◌≡◌, Err}
+use Rattle.renumbering.proofs.Searching.{IsLesserLeaf, IsSpent, over_below, over_refining}
 
 abbrev pub seen_option : Option LeafFile → Option Leaf
 seen_option None = None

@@ -1,13 +1,13 @@
 -- The least leaf of an auction is that of each renumbered one, and is the same auction up to numbers. So renumbered texts are equal exactly for files that
 -- are the same up to numbers.
-use Rattle.renumbering.proofs.Common.{auction_order, ap, ap₂, AreSameFilesUpToNumbers, AreSameTextsUpToNumbers, Atom, auction_from, auction_from-file_from, bidder_cmp_equal}
+use Rattle.renumbering.proofs.Common.{auction_order, ap, ap₂, AreSameFilesUpToNumbers, AreSameTextsUpToNumbers, auction_from, auction_from-file_from, bidder_cmp_equal}
 use Rattle.renumbering.proofs.Common.{bidder_cmp_total, canonical_auction, canonical_is_fixed, canonical_is_same, Equal, ExceedsLimitOfFile, file_from}
 use Rattle.renumbering.proofs.Common.{first_colours, Greater, HasAtoms, HasAtoms-canonical, HasAtoms-file, HasLeaf, IsAuction, IsAuction-auction_from}
 use Rattle.renumbering.proofs.Common.{IsAuction-canonical, IsCanonicalFile, IsLeastLeaf, IsPlainFile, IsPlainFile-file_from, IsRenumberedFile, IsRenumberedText}
 use Rattle.renumbering.proofs.Common.{IsSameAuction, IsSameUpToNumbers, IsTotalOrder, layout, le_refl, Leaf, leaf_cmp, Less, List, lists_total, map}
 use Rattle.renumbering.proofs.Common.{nat_cmp-IsAntisymmetric, nat_list_cmp_total, number_in, numbers_by_colour, on_total, Ordering, ordering_reverse}
 use Rattle.renumbering.proofs.Common.{PlainAuction, PlainFile, refl, renumbered, same_canonical, same_sym, same_trans, slice_cmp-IsAntisymmetric, Spells}
-use Rattle.renumbering.proofs.Common.{spells_one, subst, sym, then_parts, then_total, ℕ, [], ⊎_elim, ◌<◌, ◌↔◌, ◌∙◌, ◌∷◌, ◌≡◌, ◌≢◌}
+use Rattle.renumbering.proofs.Common.{spells_one, subst, sym, then_parts, then_total, ℕ, [], ◌<◌, ◌↔◌, ◌∙◌, ◌∷◌, ◌≡◌, ◌≢◌}
 use Rattle.cats_text.proofs.Writing.Spells as laid_out
 use Rattle.renumbering.proofs.Auctions.{IsAuction-renumbered, with_bids}
 use Rattle.renumbering.proofs.CanonicalNumbers.{canonical_renamed}

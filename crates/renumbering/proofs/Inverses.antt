@@ -1,5 +1,5 @@
 -- The good of each number, written one by one.
-use Rattle.renumbering.proofs.Common.{ap, arith, cases_eq, cases_lt, ext_get_or, get_or, get_or-map-range_with_len, get_or-set_other, get_or-set_same, get_or_default}
+use Rattle.renumbering.proofs.Common.{ap, arith, cases_lt, ext_get_or, get_or-set_other, get_or-set_same}
 use Rattle.renumbering.proofs.Common.{get_or_default_zero, inverse, IsNumbering, length, length-map-range_with_len, length-set, List, number_in, set, slice_index}
 use Rattle.renumbering.proofs.Common.{subst, sym, ℕ, ⊎_elim, ◌+◌, ◌<◌, ◌∙◌, ◌≡◌, ◌≢◌, ◌≤◌}
 use Rattle.renumbering.proofs.Numberings.{back_and_there, inverse_numbers, number_below, numbers_differ}

@@ -1,11 +1,11 @@
 -- The files of leaves, and what the search of a canonical file finds and refuses.
-use Rattle.renumbering.proofs.Common.{ExceedsLimit, [], ap, ap₂, arith, Atom, auction_from, auction_from-file_from, auction_order, bidder_cmp, bidder_cmp_equal, bidder_cmp_total}
+use Rattle.renumbering.proofs.Common.{ExceedsLimit, [], ap, ap₂, arith, auction_from, auction_from-file_from, auction_order}
 use Rattle.renumbering.proofs.Common.{canonical_auction, canonical_file, canonical_file_is_fixed, canonical_is_same, Equal, ExceedsLimitOfFile, file_from}
-use Rattle.renumbering.proofs.Common.{first_colours, Greater, HasAtoms, HasAtoms-file, inl, inr, inverse, IsCanonicalFile, IsLeastBelow, IsLeastLeaf, IsLesser}
-use Rattle.renumbering.proofs.Common.{IsNumbering, IsPlainFile, IsRenumberedBy, IsRenumberedFile, IsSameAuction, IsSameUnder, IsTotalOrder, joined, Leaf, leaf_cmp}
-use Rattle.renumbering.proofs.Common.{leaf_of, LeafFile, Less, List, lists_total, None, number_in, numbers_by_colour, on_total, Option, Ordering, ordering_reverse}
-use Rattle.renumbering.proofs.Common.{PlainAuction, PlainFile, refining_steps, refl, renumbered, renumbered_file, replicate, seen_leaf, slice_cmp}
-use Rattle.renumbering.proofs.Common.{slice_cmp-IsAntisymmetric, Some, subst, sym, TakesSteps, then_parts, then_total, tied_itself, unsearched_auction, unsearched_file}
+use Rattle.renumbering.proofs.Common.{first_colours, Greater, HasAtoms-file, inl, inr, inverse, IsCanonicalFile, IsLeastLeaf, IsLesser}
+use Rattle.renumbering.proofs.Common.{IsNumbering, IsPlainFile, IsRenumberedBy, IsRenumberedFile, IsSameAuction, IsSameUnder, joined, leaf_cmp}
+use Rattle.renumbering.proofs.Common.{leaf_of, LeafFile, Less, List, None, numbers_by_colour, ordering_reverse}
+use Rattle.renumbering.proofs.Common.{PlainAuction, PlainFile, refining_steps, refl, renumbered, renumbered_file, replicate, seen_leaf}
+use Rattle.renumbering.proofs.Common.{Some, subst, sym, TakesSteps, tied_itself, unsearched_auction, unsearched_file}
 use Rattle.renumbering.proofs.Common.{ℕ, ◌+◌, ◌<◌, ◌∙◌, ◌≡◌, ◌≢◌}
 use Rattle.renumbering.proofs.Auctions.{auction_from-renumbered, IsBidFile-renumbered}
 use Rattle.renumbering.proofs.Headline.{auction_equal, auction_total, leaf_total}

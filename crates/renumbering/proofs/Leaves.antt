@@ -1,8 +1,8 @@
 -- The leaves of an auction are those of each renumbered one, and as many steps lead to them.
-use Rattle.renumbering.proofs.Common.{joined, All, All-contains, All-from_Contains, ap, are_stable, arith, Atom, below_good, Bool, both_ways, canonical_auction}
+use Rattle.renumbering.proofs.Common.{or_parts, joined, All, All-contains, All-from_Contains, ap, are_stable, arith, Atom, below_good, Bool, canonical_auction}
 use Rattle.renumbering.proofs.Common.{cases_Bool, cell_size, cond, Contains, Contains-cons_cases, count_by, eqb, eqb-true, false, first_colours, get_or_past}
-use Rattle.renumbering.proofs.Common.{good_weight, has_below, HasAtoms, HasLeaf, is_before, is_cut, is_cut_by, IsAtom, IsNumbering, IsPermutation}
-use Rattle.renumbering.proofs.Common.{IsPermutation-sym, IsSameAuction, larger, largest_cut, Leaf, length-range_with_len, List, list_all_at, list_any}
+use Rattle.renumbering.proofs.Common.{good_weight, has_below, HasAtoms, HasLeaf, is_cut, is_cut_by, IsAtom, IsNumbering, IsPermutation}
+use Rattle.renumbering.proofs.Common.{IsPermutation-sym, IsSameAuction, larger, largest_cut, Leaf, List, list_all_at, list_any}
 use Rattle.renumbering.proofs.Common.{list_any_fails, ltb, map, map_same_on, next_colour, next_colours, None, number_in, numbers_by_colour, Option}
 use Rattle.renumbering.proofs.Common.{PlainAuction, range_contains, range_with_len, refined, refl, renumbered, renumbered_atom, renumbered_atoms, replicate}
 use Rattle.renumbering.proofs.Common.{same_canonical, set_apart, slice_index, Some, subst, suc, sym, true, under, zero, ℕ, [], ⊎_elim, ◌<◌, ◌∙◌, ◌∷◌, ◌≡◌, ◌≤◌}

@@ -1,6 +1,6 @@
 -- A canonical file is the file of its auction, so that what its bids are is what the points of the auction are.
 use Rattle.renumbering.proofs.Common.{arith, get_or, MAX_GOODS, slice_get-get_or, sum_by-le, sum_by-take-le, sum_by_more, ◌^◌, cell_size, false, get_or_from_slice_get, is_cut, is_cut_by, list_any_has, round_steps, slice_get_within, take, take_more, true, All, All-contains, All-from_Contains, All-from_recursion, ap, ap₂, AreOn, Atom, atom_of, auction_from, auction_from-file_from}
-use Rattle.renumbering.proofs.Common.{bid_from, Bool, canonical_auction, cond, Contains, Contains-map, dummy_bids, file_from, HasAtoms, HasAtoms-file, IsAtom}
+use Rattle.renumbering.proofs.Common.{bid_from, Bool, canonical_auction, Contains, Contains-map, dummy_bids, file_from, HasAtoms-file, IsAtom}
 use Rattle.renumbering.proofs.Common.{IsBid-there, IsCanonical, IsCanonicalFile, IsPlainFile, length, length_bundle, List, list_any, list_any-append, map}
 use Rattle.renumbering.proofs.Common.{None, offers, Option, PlainAuction, PlainBid, PlainFile, refl, slice_get, Some, subst, sum_by, sum_by-append}
 use Rattle.renumbering.proofs.Common.{sum_by-cons, sym, ℕ, [], ◌++◌, ◌+◌, ◌<◌, ◌∙◌, ◌∷◌, ◌≡◌, ◌≤◌, ◌||◌}

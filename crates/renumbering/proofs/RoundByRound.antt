@@ -1,16 +1,16 @@
 -- Refining, round by round.
-use Rattle.std.proofs.Common.{rules, ◌≡◌, ◌≢◌, ℕ, zero, suc, ◌+◌, ◌-◌, ◌*◌, ◌<◌, ◌≤◌, ⊎_elim, Bool, true, false, cond, eqb, List, length, get_or, map, refl, sym, ap, ap₂, ◌∙◌, subst, arith}
+use Rattle.std.proofs.Common.{◌≡◌, ◌≢◌, ℕ, zero, suc, ◌+◌, ◌-◌, ◌*◌, ◌<◌, ◌≤◌, ⊎_elim, Bool, true, false, cond, eqb, List, length, refl, sym, ap, ◌∙◌, subst, arith}
 use Rattle.std.specs.Prelude.{slice_index}
-use Rattle.std.specs.List.{list_all, range_with_len}
+use Rattle.std.specs.List.{range_with_len}
 use Rattle.std.proofs.Math.Nat.{mul_comm, mul-le-mul_left, mul-pos, suc-mul}
-use Rattle.std.proofs.lemmas.Bool.{both_ways, cases_Bool, eq-eqb, eqb-true}
+use Rattle.std.proofs.lemmas.Bool.{cases_Bool, eq-eqb, eqb-true}
 use Rattle.std.proofs.lemmas.List.{ext_get_or}
 use Rattle.std.proofs.lemmas.List.FromFn.{length-map-range_with_len}
 use Rattle.valuation.specs.Auctions.{PlainAuction}
 use Rattle.prune.specs.Lemmas.Lists.{list_all_at, list_all_from}
 use Rattle.prune.specs.Lemmas.Ranges.{in_range, range_contains}
 use Rattle.renumbering.specs.Colours.{are_stable, colours_after, next_colour, next_colours, refined, rounds_after}
-use Rattle.renumbering.proofs.Common.{AreColours, get_or_default, refining_steps, round_steps}
+use Rattle.renumbering.proofs.Common.{AreColours, get_or_default, refining_steps}
 use Rattle.renumbering.proofs.Leaves.{refined_ranks}
 use Rattle.renumbering.proofs.Rounds.{at_good}
 

@@ -1,9 +1,9 @@
 -- The search below colours, good by good: the steps so far, and the least leaf so far.
-use Rattle.renumbering.proofs.Common.{auction_order, nat_cmp, ordering_then, slice_cmp, ap, ap₂, arith, leaf_of, nat_cmp-refl, rules, tied_itself, below_good, Bool, cases_eq, cases_lt, cases_Bool, cond, eqb, Equal, Greater, HasAtoms, HasLeaf, IfSome, inl, inr}
-use Rattle.renumbering.proofs.Common.{IsLeastBelow, largest_cut, Leaf, leaf_cmp, LeafFile, Less, List, None, Option}
-use Rattle.renumbering.proofs.Common.{Ordering, ordering_reverse, PlainAuction, PlainFile, range_more, range_with_len, refining_steps, refl, seen_leaf, set_apart}
+use Rattle.renumbering.proofs.Common.{auction_order, nat_cmp, ordering_then, slice_cmp, ap, arith, leaf_of, nat_cmp-refl, tied_itself, below_good, Bool, cases_lt, cond, eqb, Equal, Greater, HasAtoms, HasLeaf, IfSome}
+use Rattle.renumbering.proofs.Common.{IsLeastBelow, largest_cut, Leaf, leaf_cmp, Less, List, None, Option}
+use Rattle.renumbering.proofs.Common.{Ordering, ordering_reverse, PlainAuction, range_more, range_with_len, refining_steps, refl, set_apart}
 use Rattle.renumbering.proofs.Common.{slice_index, Some, steps_of_cell, subst, suc, sum_by, sum_by-append, sum_by-cons, sum_by-le-sum_by, sym, TakesSteps, trace}
-use Rattle.renumbering.proofs.Common.{true, false, under, auction_from, zero, ℕ, [], ⊎_elim, ◌++◌, ◌+◌, ◌<◌, ◌∙◌, ◌∷◌, ◌≡◌, ◌≢◌, ◌≤◌, ◌⊎◌}
+use Rattle.renumbering.proofs.Common.{true, false, under, zero, ℕ, [], ⊎_elim, ◌+◌, ◌<◌, ◌∙◌, ◌∷◌, ◌≡◌, ◌≢◌, ◌≤◌, ◌⊎◌}
 use Rattle.renumbering.specs.Leaves.{steps_below}
 use Rattle.renumbering.proofs.CutCells.{cut_cell}
 use Rattle.renumbering.proofs.Headline.{leaf_total}

@@ -1,5 +1,5 @@
 -- Going through a list, and marking each number as taken.
-use Rattle.renumbering.proofs.Common.{IsNumbering, refl, ap, ap₂, arith, Bool, cases_eq, cond, drop, drop_more, false, first_wrong, get_or, get_or-set_other, get_or-set_same, has_good}
+use Rattle.renumbering.proofs.Common.{drop_all, IsNumbering, refl, ap, ap₂, arith, Bool, cases_eq, cond, drop, drop_more, false, first_wrong, get_or, get_or-set_other, get_or-set_same, has_good}
 use Rattle.renumbering.proofs.Common.{has_head, le-ltb, length, length-set, length-take-le, List, lt-ltb, ltb, ne_eqb, None, not, Option, rules, set, Some, subst}
 use Rattle.renumbering.proofs.Common.{sym, take, take_all, take_more, true, ℕ, [], ⊎_elim, ◌&&◌, ◌++◌, ◌+◌, ◌<◌, ◌∙◌, ◌∷◌, ◌≡◌, ◌≢◌, ◌≤◌}
 use Rattle.renumbering.proofs.FirstWrong.{right_exactly}

@@ -1,11 +1,11 @@
 -- The OR points of a bidder are its XOR points too, as no point has the value of another inside it. So of a canonical auction under other numbers the
 -- unsearched auction is canonical.
 use Rattle.renumbering.proofs.Common.{All, All-contains, All-from_Contains, and_parts, ap, arith, Atom, atoms_below, canonical_auction, canonical_bidders, cases_lt}
-use Rattle.renumbering.proofs.Common.{Contains, Contains-filter_parts, Contains-permutation, false, HasAtoms, IsAtom, IsCanonical, IsInOrder, IsNumbering}
+use Rattle.renumbering.proofs.Common.{Contains, Contains-filter_parts, Contains-permutation, HasAtoms, IsAtom, IsCanonical, IsInOrder, IsNumbering}
 use Rattle.renumbering.proofs.Common.{IsPermutation-sym, is_below, is_inside, is_or_point, is_xor_point, just_bundles, List, map, not, on_bundles, or_points}
 use Rattle.renumbering.proofs.Common.{or_points_are, or_value, PlainAuction, points_where-in_order, renumbered, renumbered_atoms, same_in_order, subst}
-use Rattle.renumbering.proofs.Common.{sym, true, not-true, unsearched_auction, xor_kept_are_points, xor_points, xor_value, xor_value-reached, ℕ, ⊎_elim}
-use Rattle.renumbering.proofs.Common.{◌+◌, ◌<◌, ◌≡◌, ◌≤◌}
+use Rattle.renumbering.proofs.Common.{sym, not-true, unsearched_auction, xor_kept_are_points, xor_points, xor_value, xor_value-reached, ℕ, ⊎_elim}
+use Rattle.renumbering.proofs.Common.{◌<◌, ◌≡◌, ◌≤◌}
 use Rattle.renumbering.proofs.Points.{or_points_moved, xor_points_moved}
 
 module _ (n : ℕ) (atoms : List (Atom (List ℕ))) (h : All (IsAtom n) atoms) (fixed : or_points n atoms ≡ atoms) where

@@ -1,5 +1,5 @@
 -- Where a point cuts no cell, the numbers by colour of its goods are those of whole cells. So they depend on the colours alone.
-use Rattle.renumbering.proofs.Common.{inverse, and_from, and_parts, ap, ap₂, AreAbove, arith, Bool, both_ways, cases_Bool, cases_order, cell_size, cond}
+use Rattle.renumbering.proofs.Common.{inverse, and_from, and_parts, ap, AreAbove, arith, Bool, both_ways, cases_Bool, cases_order, cell_size}
 use Rattle.renumbering.proofs.Common.{contains_from_has, count_by, eq-eqb, eqb, false, filter, get_or, get_or-map-range_with_len, has-filter, has_below}
 use Rattle.renumbering.proofs.Common.{has_from_contains, has_good, is_cut_by, IsBundle, IsNumbering, IsRising, IsRising-filter, length}
 use Rattle.renumbering.proofs.Common.{length-map-range_with_len, List, lt-ltb, ltb, number_in, numbers_by_colour, range_contains, range_with_len, refl}

@@ -1,6 +1,6 @@
 -- `goods_by_number`
-use Rattle.std.proofs.Common.{rules, ◌≡◌, ℕ, List, length, arith}
-use Rattle.renumbering.proofs.Inverses.{goods_are, more_goods, no_goods}
+use Rattle.std.proofs.Common.{rules}
+use Rattle.renumbering.proofs.Inverses.{goods_are, more_goods}
 use Rattle.renumbering.proofs.between.goods_by_number.Goals as goal
 
 pub loop-good-preserved : goal.loop-good-preserved

@@ -1,7 +1,6 @@
 -- `join`
-use Rattle.std.proofs.Common.{rules, ◌≡◌, ℕ, List, length, arith, ap, subst, sym, ◌∙◌}
+use Rattle.std.proofs.Common.{rules}
 use Rattle.renumbering.proofs.LeafFiles.{equal_files, order_of_equal}
-use Rattle.renumbering.proofs.Numberings.{below, length-numbering}
 use Rattle.renumbering.proofs.between.join.Goals as goal
 
 pub returns-then-is_ne : goal.returns-then-is_ne

@@ -1,5 +1,5 @@
 -- `numbering_between`
-use Rattle.std.proofs.Common.{rules, ◌≡◌, ℕ, List, length, arith, ap, subst, sym, ◌∙◌}
+use Rattle.std.proofs.Common.{rules, arith}
 use Rattle.renumbering.proofs.Headline.{one_file}
 use Rattle.renumbering.proofs.LeafFiles.{under_between}
 use Rattle.renumbering.proofs.between.numbering_between.Goals as goal

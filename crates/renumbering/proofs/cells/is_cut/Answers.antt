@@ -1,5 +1,5 @@
 -- `is_cut`
-use Rattle.std.proofs.Common.{rules, ◌≡◌, ◌<◌, ◌≤◌, ℕ, List, Some, true, false, length, arith, ap, subst, sym, ◌∙◌}
+use Rattle.std.proofs.Common.{◌≡◌, ◌<◌, ◌≤◌, ℕ, List, Some, true, false, length, ap, subst, sym, ◌∙◌}
 use Rattle.std.specs.Prelude.{All, slice_index}
 use Rattle.std.specs.List.{slice_get}
 use Rattle.bid_file.specs.Files.{PlainBid}

@@ -1,6 +1,5 @@
 -- `largest_cut`: the largest cell that is cut, of the colours from here on.
-use Rattle.std.proofs.Common.{◌≡◌, ◌+◌, ◌-◌, ℕ, Option, Some, None}
-use Rattle.std.specs.Prelude.{slice_index}
+use Rattle.std.proofs.Common.{◌-◌}
 use Rattle.renumbering.proofs.CutCells.{IsLargestFrom}
 use Rattle.valuation.specs.Auctions.{auction_from}
 use Rattle.renumbering.proofs.cells.largest_cut.Given as goal

@@ -1,5 +1,5 @@
 -- `check_numbering`
-use Rattle.std.proofs.Common.{rules, arith}
+use Rattle.std.proofs.Common.{rules}
 use Rattle.renumbering.proofs.Taken.{all_right, next_taken, no_good, none_taken, too_short, twice}
 use Rattle.renumbering.proofs.files.check_numbering.Goals as goal
 use Rattle.renumbering.proofs.files.check_numbering.Goals.{then-number-count-via-then-number-count, then-number-count-via-else-number-count+then-index}

@@ -1,8 +1,7 @@
 -- `read_leaf`
 use Rattle.std.proofs.Common.{rules, ◌≡◌, ℕ, List, length, arith, ap, subst, sym, ◌∙◌}
-use Rattle.canon.specs.Canonical.{canonical_file}
 use Rattle.renumbering.specs.Leaves.{numbers_by_colour}
-use Rattle.renumbering.specs.Renumbering.{IsNumbering, renumbered_file}
+use Rattle.renumbering.specs.Renumbering.{IsNumbering}
 use Rattle.renumbering.proofs.LeafFiles.{leaf_is, unsearched_is}
 use Rattle.renumbering.proofs.WholeCells.{colours_number}
 use Rattle.renumbering.proofs.leaf.read_leaf.Goals as goal

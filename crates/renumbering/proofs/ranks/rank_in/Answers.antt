@@ -1,6 +1,5 @@
 -- `rank_in`
-use Rattle.std.proofs.Common.{rules, ◌≡◌, ℕ, ltb, nat_lt, arith, sym}
-use Rattle.std.specs.List.{count_by}
+use Rattle.std.proofs.Common.{rules, ltb, sym}
 use Rattle.std.proofs.lemmas.List.Sorted.{IsPartitionPoint-from_clause, IsPartitionedBy-ltb}
 use Rattle.renumbering.proofs.Counts.{count_front}
 use Rattle.renumbering.proofs.ranks.rank_in.Goals as goal

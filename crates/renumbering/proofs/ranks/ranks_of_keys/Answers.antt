@@ -1,8 +1,8 @@
 -- `ranks_of_keys`
-use Rattle.std.proofs.Common.{rules, ◌≡◌, ℕ, List, nat_lt, ltb, cond, map, ap, sym, arith}
+use Rattle.std.proofs.Common.{rules, ◌≡◌, ℕ, List, ltb, cond, map, ap}
 use Rattle.std.specs.List.{count_by}
 use Rattle.std.specs.Prelude.{IsPermutation}
-use Rattle.std.proofs.lemmas.List.Sorted.{IsNonDecreasingBy-from_sort, sum_by-IsPermutation, IsPermutation-sym}
+use Rattle.std.proofs.lemmas.List.Sorted.{IsNonDecreasingBy-from_sort, sum_by-IsPermutation}
 use Rattle.std.proofs.lemmas.Grind.{common_steps}
 use mathlib.Core.Path.{fun_ext, ◌∙◌}
 use Rattle.renumbering.proofs.ranks.ranks_of_keys.Goals as goal

@@ -1,5 +1,5 @@
 -- the ranks of the keys so far
-use Rattle.std.proofs.Common.{◌≡◌, ℕ, nat_lt, map, take}
+use Rattle.std.proofs.Common.{◌≡◌, nat_lt, map, take}
 use Rattle.std.specs.List.{count_by}
 use Rattle.renumbering.proofs.ranks.ranks_of_keys.Given as goal
 

@@ -1,5 +1,5 @@
 -- `next_colours`
-use Rattle.std.proofs.Common.{rules, ◌≡◌, ℕ, List, length, ap, ap₂, sym, ◌∙◌}
+use Rattle.std.proofs.Common.{ℕ, List, ap, ap₂, ◌∙◌}
 use Rattle.std.specs.Prelude.{slice_index}
 use Rattle.std.proofs.lemmas.Result.{IfOk-weaker}
 use Rattle.renumbering.specs.Colours.{ranks}

@@ -1,5 +1,5 @@
 -- `refine`
-use Rattle.std.proofs.Common.{rules, ◌≡◌, ◌≢◌, ℕ, List, length, arith, ap, subst, sym, ◌∙◌}
+use Rattle.std.proofs.Common.{rules, ℕ, List, length, arith, ap, ◌∙◌}
 use Rattle.valuation.specs.Auctions.{auction_from}
 use Rattle.renumbering.specs.Mixing.{mix_64}
 use Rattle.renumbering.proofs.RoundByRound.{all_found, all_rounds, none_done, one_more_done, over_limit, steps_spent}

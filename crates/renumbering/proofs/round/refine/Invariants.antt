@@ -1,5 +1,5 @@
 -- `refine`: the rounds so far, and the steps that they took.
-use Rattle.std.proofs.Common.{◌≡◌, ◌+◌, ◌*◌, length}
+use Rattle.std.proofs.Common.{◌≡◌, ◌+◌, ◌*◌}
 use Rattle.valuation.specs.Auctions.{auction_from}
 use Rattle.renumbering.specs.Mixing.{mix_64}
 use Rattle.renumbering.proofs.RoundByRound.{AreAfter}

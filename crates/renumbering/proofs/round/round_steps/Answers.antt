@@ -1,7 +1,7 @@
 -- `round_steps`
-use Rattle.std.proofs.Common.{rules, ◌≡◌, ◌+◌, ◌<◌, ◌≤◌, ◌^◌, ℕ, List, Some, length, arith, ap, subst, sym, ◌∙◌}
+use Rattle.std.proofs.Common.{◌≡◌, ◌≤◌, ℕ, List, Some, length, arith, ap, subst, sym, ◌∙◌}
 use Rattle.std.specs.List.{slice_get, sum_by}
-use Rattle.std.proofs.lemmas.List.{take, take_all}
+use Rattle.std.proofs.lemmas.List.{take_all}
 use Rattle.bid_file.specs.Files.{PlainBid}
 use Rattle.renumbering.proofs.OwnFiles.{steps_fit, steps_of_file, sum_next}
 use Rattle.renumbering.proofs.round.round_steps.Goals as goal

@@ -1,7 +1,6 @@
 -- `round_steps`: the steps so far.
 use Rattle.std.proofs.Common.{◌≡◌, ◌+◌, length, take}
 use Rattle.std.specs.List.{sum_by}
-use Rattle.bid_file.specs.Files.{PlainBid}
 use Rattle.renumbering.proofs.round.round_steps.Given as goal
 
 abbrev pub invariant-loop-number : goal.invariant-loop-number

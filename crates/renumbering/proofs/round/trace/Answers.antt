@@ -1,10 +1,9 @@
 -- `trace`
-use Rattle.std.proofs.Common.{rules, ◌≡◌, ◌+◌, ◌<◌, ◌%◌, ◌^◌, ℕ, List, length, arith, ap, ap₂, subst, sym, ◌∙◌}
+use Rattle.std.proofs.Common.{rules, ◌≡◌, ℕ, length, arith, ap, ap₂, ◌∙◌}
 use Rattle.std.specs.Prelude.{slice_index}
-use Rattle.std.specs.List.{range_with_len, sum_by}
+use Rattle.std.specs.List.{range_with_len}
 use Rattle.std.proofs.lemmas.Grind.{get_or_default_zero}
-use Rattle.valuation.specs.Auctions.{auction_from}
-use Rattle.renumbering.specs.Colours.{good_weight, wrapped_sum}
+use Rattle.renumbering.specs.Colours.{wrapped_sum}
 use Rattle.renumbering.specs.Mixing.{mix_64}
 use Rattle.renumbering.proofs.Common.{fun_ext}
 use Rattle.renumbering.proofs.Runs.{wraps_next}

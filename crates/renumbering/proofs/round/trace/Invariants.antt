@@ -1,5 +1,5 @@
 -- `trace`: the sum over the goods so far.
-use Rattle.std.proofs.Common.{◌≡◌, ℕ}
+use Rattle.std.proofs.Common.{◌≡◌}
 use Rattle.std.specs.Prelude.{slice_index}
 use Rattle.std.specs.List.{range_with_len}
 use Rattle.renumbering.specs.Colours.{wrapped_sum}

@@ -1,6 +1,6 @@
 -- `least_below`: each good of the cell adds the least leaf below it, and its steps: see proofs/Searching.
-use Rattle.std.proofs.Common.{rules, ◌≡◌, ◌≢◌, ◌≤◌, ◌<◌, ◌+◌, ℕ, List, Some, None, Option, true, eqb, length, arith, ap, refl, subst, sym, ◌∙◌, le_refl}
-use Rattle.std.specs.Prelude.{IfSome, slice_index}
+use Rattle.std.proofs.Common.{rules, ◌≡◌, ◌≤◌, ◌<◌, ◌+◌, ℕ, List, Some, true, length, arith, ap, subst, sym, ◌∙◌, le_refl}
+use Rattle.std.specs.Prelude.{IfSome}
 use Rattle.std.proofs.lemmas.Bool.{eq-eqb}
 use Rattle.std.proofs.lemmas.List.FromFn.{length-map-range_with_len}
 use Rattle.valuation.specs.Auctions.{auction_from}

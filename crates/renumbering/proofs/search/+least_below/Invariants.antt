@@ -1,8 +1,8 @@
 -- `least_below`: the least leaf below the goods so far, and the steps that were spent.
-use Rattle.std.proofs.Common.{◌≡◌, ◌≤◌, Option, Some, None}
+use Rattle.std.proofs.Common.{◌≤◌}
 use Rattle.std.specs.Prelude.{IfSome}
 use Rattle.valuation.specs.Auctions.{auction_from}
-use Rattle.renumbering.specs.Internal.Searching.{IsRenumberedBy, seen_leaf}
+use Rattle.renumbering.specs.Internal.Searching.{IsRenumberedBy}
 use Rattle.renumbering.specs.Mixing.{mix_64}
 use Rattle.renumbering.proofs.Searching.{IsLeastSoFar, IsSpent}
 use Rattle.renumbering.proofs.Found.{seen_option}

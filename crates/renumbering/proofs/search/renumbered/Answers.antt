@@ -1,5 +1,5 @@
 -- `renumbered`
-use Rattle.std.proofs.Common.{rules, ◌≡◌, ℕ, List, replicate, length, arith, ap, subst, sym, ◌∙◌}
+use Rattle.std.proofs.Common.{rules, subst, sym, ◌∙◌}
 use Rattle.valuation.specs.Auctions.{auction_from}
 use Rattle.renumbering.specs.Internal.Rounds.{AreColours}
 use Rattle.renumbering.specs.Mixing.{mix_64}

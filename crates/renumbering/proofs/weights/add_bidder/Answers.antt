@@ -1,5 +1,5 @@
 -- `add_bidder`
-use Rattle.std.proofs.Common.{◌≡◌, rules, ℕ, ◌<◌, List, cond, eqb, sym, subst, ap, ap₂, ◌∙◌}
+use Rattle.std.proofs.Common.{ℕ, ◌<◌, cond, eqb, sym, subst, ap, ◌∙◌}
 use Rattle.std.specs.Prelude.{All, length, slice_index}
 use Rattle.std.specs.List.{sum_by}
 use Rattle.bid_file.specs.Views.{seen_bid}

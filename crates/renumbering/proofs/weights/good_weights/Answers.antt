@@ -1,6 +1,6 @@
 -- `good_weights`
-use Rattle.std.proofs.Common.{rules, ◌≡◌, ℕ, List, length, arith, ap, subst, sym, ◌∙◌}
-use Rattle.std.specs.Prelude.{All, slice_index}
+use Rattle.std.proofs.Common.{rules, ◌≡◌, ℕ, List, length, ap, subst, sym, ◌∙◌}
+use Rattle.std.specs.Prelude.{slice_index}
 use Rattle.bid_file.specs.Files.{PlainBid}
 use Rattle.valuation.specs.Auctions.{auction_from}
 use Rattle.renumbering.specs.Internal.Rounds.{AreOn, AreOnEach}

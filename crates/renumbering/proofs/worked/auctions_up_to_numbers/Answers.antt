@@ -1,5 +1,5 @@
 -- `auctions_up_to_numbers`
-use Rattle.std.proofs.Common.{◌≡◌, refl, arith, [], ◌∷◌, true, false}
+use Rattle.std.proofs.Common.{refl, arith, [], ◌∷◌}
 use Rattle.valuation.specs.Values.{or_value}
 use Rattle.renumbering.proofs.FirstWrong.{right_exactly}
 use Rattle.renumbering.proofs.worked.auctions_up_to_numbers.Goals as goal
