@@ -43,10 +43,13 @@ module _ (goods : ℕ) (all : List ℕ) (index : ℕ) where
         ap (λ (xs : List ℕ). has_good xs g) (take_more all index 0 l) ∙ has-push (take index all) number g in
         ⊎_elim
         (λ (e : g ≡ number).
+        let here : get_or (set marks number true) g d ≡ has_good (number ∷ take index all) g =
         subst (λ (k : ℕ). get_or (set marks number true) k d ≡ has_good (number ∷ take index all) k) (sym e)
-        (get_or-set_same marks number true d (subst (λ (k : ℕ). number < k) (sym h.long) below) ∙ sym (has_head number (take index all))) ∙ sym push)
+        (get_or-set_same marks number true d (subst (λ (k : ℕ). number < k) (sym h.long) below) ∙ sym (has_head number (take index all))) in
+        here ∙ sym push)
         (λ (n : g ≢ number).
-        get_or-set_other marks number g true d n ∙ h.marked g d m ∙ sym (push ∙ rw (ne_eqb number g (λ e. n (sym e))) refl)) (cases_eq g number)
+        let lost : has_good (number ∷ take index all) g ≡ has_good (take index all) g = rw (ne_eqb number g (λ e. n (sym e))) refl in
+        get_or-set_other marks number g true d n ∙ h.marked g d m ∙ sym (push ∙ lost)) (cases_eq g number)
 
     -- at the end of the list
     at_end : length all ≤ index → first_wrong goods [] all ≡ cond (ltb (length all) goods) (Some (length all)) None
