@@ -82,7 +82,10 @@ pub(crate) fn largest_cut(
     let mut least = 2;
     for colour in (0..file.goods()).rev() {
         let size = sizes[colour as usize];
-        if size >= least && is_cut(file, colours, colour, size) {
+        if size < least {
+            continue;
+        }
+        if is_cut(file, colours, colour, size) {
             largest = Some(colour);
             least = size;
         }

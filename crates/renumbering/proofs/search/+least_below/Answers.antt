@@ -29,16 +29,16 @@ returns-in_default t c = record {
 pub loop-good-init : goal.loop-good-init
 loop-good-init t c = record { least = λ g l. absurd (omega arith); numbering = tt; fewer = le_refl _; spent = none_spent mix_64 _ _ _ _ }
 
-pub loop-good-preserved-then-good-cell : goal.loop-good-preserved-then-good-cell
-loop-good-preserved-then-good-cell t c =
+pub loop-good-preserved-then-colours-good-cell : goal.loop-good-preserved-then-colours-good-cell
+loop-good-preserved-then-colours-good-cell t c =
     let h = c.loop-good.invariant in
     record {
       least = skip_good mix_64 (auction_from c.args.file.now) c.args.colours.now c.in-Some.cell (sym c.in_ok-found.ensures ∙ c.in-Some.is) c.loop-good.good
-          (seen_option c.loop-good.least) c.if-good-cell.true h.least;
+          (seen_option c.loop-good.least) c.if-colours-good-cell.true h.least;
       numbering = h.numbering;
       fewer = h.fewer;
       spent = spent_skip mix_64 (auction_from c.args.file.now) c.args.colours.now c.in-Some.cell c.args.left.now c.loop-good.left c.loop-good.good h.spent
-          c.if-good-cell.true;
+          c.if-colours-good-cell.true;
     }
 
 pub set_apart-apart-requires-clause-colours : goal.set_apart-apart-requires-clause-colours
@@ -60,7 +60,7 @@ pub returns-in_err-below : goal.returns-in_err-below
 returns-in_err-below t c =
     let h = c.loop-good.invariant in
     refused_refining mix_64 c.args.file.now c.args.colours.now c.in-Some.cell c.args.left.now c.loop-good.left c.loop-good.good h.spent
-    (eq-eqb _ _ c.if-good-cell.false) (sym c.in_ok-found.ensures ∙ c.in-Some.is) (omega (arith, c.requires.colours.long)) c.in_ok-apart.apart.items c.refine.new.left
+    (eq-eqb _ _ c.if-colours-good-cell.false) (sym c.in_ok-found.ensures ∙ c.in-Some.is) (omega (arith, c.requires.colours.long)) c.in_ok-apart.apart.items c.refine.new.left
     _ _ (apart c.args.file.now.goods c.args.colours.now c.in_ok-apart.apart.items c.loop-good.good c.requires.colours.long c.in_ok-apart.ensures) c.in_err-below.ensures
 
 pub least_below-lower-requires : goal.least_below-lower-requires
@@ -83,7 +83,7 @@ returns-in_err-lower t c =
     let moved = apart goods c.args.colours.now c.in_ok-apart.apart.items c.loop-good.good c.requires.colours.long c.in_ok-apart.ensures in
     let result = c.in_ok-below.ensures in
     refused_below mix_64 c.args.file.now c.args.colours.now c.in-Some.cell c.args.left.now c.loop-good.left c.loop-good.good h.spent
-    (eq-eqb _ _ c.if-good-cell.false) (sym c.in_ok-found.ensures ∙ c.in-Some.is) (omega (arith, c.requires.colours.long)) c.deref.result.now c.refine.new.left
+    (eq-eqb _ _ c.if-colours-good-cell.false) (sym c.in_ok-found.ensures ∙ c.in-Some.is) (omega (arith, c.requires.colours.long)) c.deref.result.now c.refine.new.left
     c.least_below.new.left _ _ (c.deref.ensures.value ∙ result.0 ∙ ap (λ (cs : List ℕ). refined mix_64 (auction_from c.args.file.now) cs) moved)
     (result.1 ∙ ap (λ (cs : List ℕ). c.refine.new.left + refining_steps mix_64 (auction_from c.args.file.now) cs) moved) c.in_err-lower.ensures
 
@@ -102,7 +102,7 @@ loop-good-preserved t c =
     let cs = c.args.colours.now in
     let cell = c.in-Some.cell in
     let i = c.loop-good.good in
-    let own = c.if-good-cell.false in
+    let own = c.if-colours-good-cell.false in
     let cut = sym c.in_ok-found.ensures ∙ c.in-Some.is in
     let good : i < a.goods = omega (arith, c.requires.colours.long) in
     let moved = apart f.goods cs c.in_ok-apart.apart.items i c.requires.colours.long c.in_ok-apart.ensures in
