@@ -1,6 +1,6 @@
 //! `AuctionIndex`: the first file of each auction, among added files.
 
-mod unsearched;
+pub(crate) mod unsearched;
 
 ghost use Rattle.std.specs.Prelude.{◌≡◌, ℕ, List, cond, unwrap_or, bytes_eq, Some, IfOk, IfErr, OnOk, OnErr, false};
 ghost use Rattle.cats_text.specs.Streams.{has_ended, has_failed};

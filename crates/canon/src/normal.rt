@@ -21,6 +21,7 @@ ghost use Rattle.canon.specs.Internal.KeyedBidders.{kept_numbers};
 ghost use Rattle.canon.specs.Least.{IsLeastFor};
 ghost use Rattle.canon.specs.Sameness.{AreSameFiles};
 
+pub use crate::auction_index::unsearched::unsearched_file;
 use crate::canon_fault::CanonFault;
 use crate::normal::auction::{NamedAuction, named_canonical};
 use crate::normal::file::packed_file_of;

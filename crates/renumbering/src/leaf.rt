@@ -5,7 +5,6 @@ ghost use Rattle.std.specs.Cmp.Lexicographic.{slice_cmp};
 ghost use Rattle.valuation.specs.Auctions.{auction_from};
 ghost use Rattle.valuation.specs.Orders.{bidder_cmp};
 ghost use Rattle.canon.specs.Bidders.{offers};
-ghost use Rattle.canon.specs.Unsearched.{unsearched_file as unsearched_file_of};
 ghost use Rattle.canon.specs.Canonical.{IsCanonicalFile};
 ghost use Rattle.renumbering.specs.Internal.Searching.{IsLesser, IsRenumberedBy, seen_leaf};
 ghost use Rattle.renumbering.specs.Leaves.{auction_order, leaf_cmp, leaf_of};
@@ -15,6 +14,7 @@ use crate::ranks::numbers_by_colour;
 use bid_file::PackedFile;
 use bid_file::limits::MAX_GOODS;
 use canon::comparing::{BidRun, FileBidders};
+use canon::normal::unsearched_file;
 use std::alloc::{AllocError, Global};
 use std::cmp::Ordering;
 
@@ -27,13 +27,6 @@ pub(crate) struct LeafFile {
     pub(crate) file: PackedFile,
     /// The number of each good.
     pub(crate) numbering: Vec<u16>,
-}
-
-/// STUB
-fn unsearched_file(_alloc: Global, file: &PackedFile) -> Result<PackedFile, AllocError>
-    ensures { IfOk result (λ h. h ≡ unsearched_file_of file.now) }
-{
-    Err(AllocError)
 }
 
 /// The leaf of colours that cut no cell.

@@ -16,7 +16,7 @@ use valuation::{Auction, auction_of, on_set_for};
 /// A file of the same auction that is made without any search, so it is there for every file: its XOR bidders are
 /// canonical, and of its OR bids those are left out that a single bid replaces. So files with the same bids in another
 /// order have one such file.
-pub(crate) fn unsearched_file(alloc: Global, file: &PackedFile) -> Result<PackedFile, AllocError>
+pub fn unsearched_file(alloc: Global, file: &PackedFile) -> Result<PackedFile, AllocError>
     ensures { IfOk result (λ h. h ≡ unsearched_file_of file.now) }
 {
     prove!(file.goods() <= MAX_GOODS);
