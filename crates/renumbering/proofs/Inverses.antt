@@ -1,8 +1,8 @@
 -- The good of each number, written one by one.
 use Rattle.renumbering.proofs.Common.{ap, arith, cases_lt, ext_get_or, get_or-set_other, get_or-set_same}
-use Rattle.renumbering.proofs.Common.{get_or_default_zero, inverse, IsNumbering, length, length-map-range_with_len, length-set, List, number_in, set, slice_index}
+use Rattle.renumbering.proofs.Common.{get_or_default_zero, inverse, IsNumbering, length, length-set, List, number_in, set, slice_index}
 use Rattle.renumbering.proofs.Common.{subst, sym, ℕ, ⊎_elim, ◌+◌, ◌<◌, ◌∙◌, ◌≡◌, ◌≢◌, ◌≤◌}
-use Rattle.renumbering.proofs.Numberings.{back_and_there, inverse_numbers, number_below, numbers_differ}
+use Rattle.renumbering.proofs.Numberings.{back_and_there, inverse_numbers, length-numbering, number_below, numbers_differ}
 
 -- the goods before i are at their numbers
 pub record AreAt (p goods : List ℕ) (i : ℕ) : Type 0 where
@@ -12,6 +12,11 @@ pub record AreAt (p goods : List ℕ) (i : ℕ) : Type 0 where
 module _ (p : List ℕ) (numbers : IsNumbering (length p) p) where
   at_number : (g : ℕ) → g < length p → slice_index p g ≡ number_in p g
   at_number g l = sym (get_or_default_zero p g g l)
+
+  pub number_there : (goods : List ℕ) (i : ℕ) → AreAt p goods i → i < length p → slice_index p i < length goods
+  number_there goods i h l =
+      subst (λ (n : ℕ). slice_index p i < n) (sym h.long)
+      (subst (λ (n : ℕ). n < length p) (sym (at_number i l)) (number_below (length p) p numbers i l))
 
   pub more_goods : (goods : List ℕ) (i : ℕ) → AreAt p goods i → i < length p → AreAt p (set goods (slice_index p i) i) (i + 1)
   more_goods goods i h l = record {
@@ -23,21 +28,20 @@ module _ (p : List ℕ) (numbers : IsNumbering (length p) p) where
         get_or-set_other goods (slice_index p i) (slice_index p g) i 0 differ ∙ h.each g k)
         (λ (k : i ≤ g).
         let same : g ≡ i = omega arith in
-        let there : slice_index p i < length goods =
-        subst (λ (n : ℕ). slice_index p i < n) (sym h.long)
-        (subst (λ (n : ℕ). n < length p) (sym (at_number i l)) (number_below (length p) p numbers i l)) in
-        ap (λ (k : ℕ). slice_index (set goods (slice_index p i) i) (slice_index p k)) same ∙ get_or-set_same goods (slice_index p i) i 0 there ∙ sym same)
+        ap (λ (k : ℕ). slice_index (set goods (slice_index p i) i) (slice_index p k)) same
+        ∙ get_or-set_same goods (slice_index p i) i 0 (number_there goods i h l) ∙ sym same)
         (cases_lt g i);
   }
 
   pub goods_are : (goods : List ℕ) (i : ℕ) → AreAt p goods i → length p ≤ i → goods ≡ inverse (length p) p
   goods_are goods i h m =
-      let q = inverse (length p) p in
-      ext_get_or 0 goods q (h.long ∙ sym (length-map-range_with_len _ 0 (length p)))
+      let q : List ℕ = inverse (length p) p in
+      let long : length q ≡ length p = length-numbering (length p) q (inverse_numbers (length p) p numbers) in
+      ext_get_or 0 goods q (h.long ∙ sym long)
       (λ x l.
       let below : x < length p = subst (λ (n : ℕ). x < n) h.long l in
-      let g = number_in q x in
+      let g : ℕ = number_in q x in
       let good : g < length p = number_below (length p) q (inverse_numbers (length p) p numbers) x below in
       let there : slice_index p g ≡ x = at_number g good ∙ back_and_there (length p) p numbers x in
       sym (ap (slice_index goods) there) ∙ h.each g (omega arith)
-      ∙ sym (get_or_default_zero q x x (subst (λ (n : ℕ). x < n) (sym (length-map-range_with_len _ 0 (length p))) below)))
+      ∙ sym (get_or_default_zero q x x (subst (λ (n : ℕ). x < n) (sym long) below)))

@@ -13,8 +13,8 @@ pub loop-good-preserved : goal.loop-good-preserved
 loop-good-preserved c =
     let weight : c.index.result.now ≡ slice_index c.in_ok-weights.weights.items c.loop-good.good =
     search (rules, (get_or_default_zero c.in_ok-weights.weights.items c.loop-good.good c.index.result.now), c.in_ok-weights.ensures.length, c.requires.long) in
-    wraps_next (λ g. mix_64 (slice_index c.args.colours.now g) (slice_index c.in_ok-weights.weights.items g)) c.loop-good.good c.loop-good.sum c.mix.result _
-    c.loop-good.invariant (c.mix.ensures ∙ ap (mix_64 (slice_index c.args.colours.now c.loop-good.good)) weight) c.wrapping_add-sum.ensures
+    wraps_next (λ g. mix_64 (slice_index c.args.colours.now g) (slice_index c.in_ok-weights.weights.items g)) c.loop-good.good c.loop-good.sum c.mix-sum.result _
+    c.loop-good.invariant (c.mix-sum.ensures ∙ ap (mix_64 (slice_index c.args.colours.now c.loop-good.good)) weight) refl
 
 pub returns : goal.returns
 returns c =
