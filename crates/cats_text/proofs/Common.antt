@@ -11,13 +11,12 @@ pub use Rattle.cats_text.specs.Fed.{Fed, fed_fault}
 pub use Rattle.cats_text.specs.FileLines.{bid_of, put_slot, filled, before_end, real_goods, dummy_in, slots_of, file_of_lines, spelled_file, rising_of}
 pub use Rattle.cats_text.specs.Grammar.{Spells, line_number, SpellsBid, AreDistinct, SpellsNumber, significant_words, SpellsPrice}
 pub use Rattle.cats_text.specs.Internal.Kept.{whole, is_some_bid, number_alone, slot_at, arrived, AreWithin, IsPadded, arrivals_to, with_goods}
-pub use Rattle.cats_text.specs.Internal.Keywords.{keyword_text, place_value_of}
 pub use Rattle.cats_text.specs.Internal.LeadingToken.{IsLeadingToken, IsNumberSoFar, IsPlain, IsLetter, IsKept, ends_word}
-pub use Rattle.cats_text.specs.Internal.Machine.{summary, word_from, word_with, decimal_with}
+pub use Rattle.cats_text.specs.Internal.Machine.{summary, word_from, word_with, decimal_with, keyword_text, place_value_of}
 pub use Rattle.cats_text.specs.Internal.Marks.{IsMarked, IsListed}
 pub use Rattle.cats_text.specs.Internal.Parsing.{Reading, word_read, line_read, is_due, number_read, price_read, price_parts, with_price, good_or_end_read}
 pub use Rattle.cats_text.specs.Internal.Parsing.{good_read, dummy_read, end_read, keyword_read, header_number_read, with_bid, drafted, bid_closed, start}
-pub use Rattle.cats_text.specs.Internal.Parsing.{is_same_keyword}
+pub use Rattle.cats_text.specs.Internal.Parsing.{is_same_keyword, read_at, line_at}
 pub use Rattle.cats_text.specs.Internal.Places.{Judged, judged_at, judged_then, words_judged, line_judged, IsFirstWord, IsFirstLine, without_return, seen}
 pub use Rattle.cats_text.specs.Internal.Progress.{Progress, Gives, Stops, progress}
 pub use Rattle.cats_text.specs.Internal.Reading.{PartsAnswer, PartsAs, PackedAs, Unpacks, HasTaken, IsReading, SpellsParts, placed_fault}
@@ -63,7 +62,7 @@ pub use Rattle.core.proofs.dec2flt.DigitsLemmas.{digits_len_short}
 pub use Rattle.core.proofs.dec2flt.Eight.{lanes_are, first_other, shifted_is, eight_at, word_at, bytes_up, eight_is}
 pub use Rattle.core.proofs.slice.Flagged.{flags_from_ten}
 pub use Rattle.goods_set.specs.Bundles.{has_good, AreAbove, IsRising, AreBelow}
-pub use Rattle.goods_set.specs.Lemmas.Members.{has_head, has_tail, has_cases, has_above, same_from_has, has_below}
+pub use Rattle.goods_set.specs.Lemmas.Members.{has_head, has_tail, has_cases, has_above, same_from_has, has_below, has-filter, AreBelow-from_has}
 pub use Rattle.goods_set.specs.Lemmas.Sizes.{has-with_good, IsRising-with_good}
 pub use Rattle.std.proofs.Common.{◌≡◌, ◌<◌, ℕ, true, List, length, Option, Some, None, Result, Ok, Err, MatchOption, refl, sym, subst, inr, arith, rules, suc}
 pub use Rattle.std.proofs.Common.{zero, ◌+◌, ◌-◌, ◌≤◌, min, Bool, false, [], ◌∷◌, ◌++◌, take, ap, ◌∙◌, inl, ◌⊎◌, length-append, ◌^◌, IfSome, if◌then◌else◌}

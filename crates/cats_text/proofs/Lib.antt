@@ -1,6 +1,5 @@
 -- Proofs that several functions of this crate cite.
 pub mod Common
-pub mod Keeping
 pub mod Words
 pub mod Parsing
 pub mod Scanning

@@ -2,7 +2,6 @@
 -- them.
 pub mod LeadingToken
 pub mod Kept
-pub mod Keywords
 pub mod Machine
 pub mod Marks
 pub mod Parsing

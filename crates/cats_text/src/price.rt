@@ -3,7 +3,7 @@
 ghost use Rattle.std.specs.Prelude.{◌≡◌, ◌+◌, ◌++◌, ◌<◌, ◌≤◌, length, drop, OnOk, decimal};
 ghost use Rattle.cats_text.specs.Layout.{price_text, places_text, without_zeros};
 ghost use Rattle.cats_text.specs.declared.price.TheConstants.{MILLION, PRICE_SIZE, BEHIND};
-ghost use Rattle.cats_text.specs.Internal.Keywords.{place_value_of};
+ghost use Rattle.cats_text.specs.Internal.Machine.{place_value_of};
 ghost use Rattle.cats_text.specs.Internal.Parsing.{price_parts};
 
 use crate::read_fault::Kind;

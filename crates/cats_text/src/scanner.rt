@@ -340,7 +340,7 @@ impl<K: Keep> Scanner<K> {
     /// The end of the input: what the header lines said, and what is kept of the bids.
     pub fn finish(mut self) -> Result<(Header, K), ReadFault>
         requires { self.line < 2 ^ 64 - 2 }
-        ensures { Finishes K.bids self.waiting (state K.keep self) result }
+        ensures { Finishes K.keep K.bids self.waiting (state K.keep self) result }
     {
         if let Err(kind) = self.end() {
             return Err(ReadFault::at(self.line, kind));

@@ -1,8 +1,7 @@
 //! What the reader keeps of a word. It suffices for every test of the grammar, whatever the word's length.
 
 ghost use Rattle.std.specs.Prelude.{◌≡◌, ◌≤◌};
-ghost use Rattle.cats_text.specs.Internal.Keywords.{keyword_text};
-ghost use Rattle.cats_text.specs.Internal.Machine.{with_digit};
+ghost use Rattle.cats_text.specs.Internal.Machine.{keyword_text, with_digit};
 
 use crate::price::Decimal;
 

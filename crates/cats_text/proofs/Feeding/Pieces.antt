@@ -124,13 +124,13 @@ fed_reported k old piece count scanner (Err e) none reported = rw none (record {
 -- ---- the end of the input
 
 pub ended_parts : {K : Type 0} (bids : K → List PlainBid) (k : PlainBid → PlainBid) (limit taken : ℕ) (scanner : Scanner K) (bytes : List ℕ)
-    (answer : Result (Header × K) ReadFault) → HasTaken k limit taken scanner bytes → Finishes bids scanner.waiting (state k scanner) answer
+    (answer : Result (Header × K) ReadFault) → HasTaken k limit taken scanner bytes → Finishes k bids scanner.waiting (state k scanner) answer
     → PartsAnswer k bids bytes answer
 ended_parts bids k limit taken scanner bytes (Ok parts) kept are = at_end (end_of scanner.waiting (state k scanner)) refl are
   where
-    at_end : (r : Scan) → end_of scanner.waiting (state k scanner) ≡ r → ArePartsOf bids parts r → SpellsParts k bytes parts.0 (bids parts.1)
+    at_end : (r : Scan) → end_of scanner.waiting (state k scanner) ≡ r → ArePartsOf k bids parts r → SpellsParts k bytes parts.0 (bids parts.1)
     at_end (Ok t) e same = rw (same.0, same.1) (ends_at_parts k bytes (state k scanner) t kept.runs (ap (λ w. end_of w (state k scanner)) (sym kept.waiting)
-        ∙ e))
+        ∙ e) same.2)
     at_end (Err fault) e same = absurd same
 ended_parts bids k limit taken scanner bytes (Err e) kept (inl ends) = grind (arith, common_steps, ends_at_first_fault)
 ended_parts bids k limit taken scanner bytes (Err e) kept (inr lacks) =

@@ -1,7 +1,8 @@
 -- The goods of a bid so far: what the parser keeps of them answers the tests of the next.
-use Rattle.cats_text.proofs.Common.{◌≡◌, ◌≢◌, ℕ, ◌-◌, ◌<◌, ◌≤◌, Bool, true, false, not, ◌||◌, cond, eqb, ltb, leb, ◌⊎◌, List, [], ◌∷◌, ◌++◌, length, map, refl}
+use Rattle.cats_text.proofs.Common.{◌≡◌, ◌≢◌, ℕ, ◌-◌, ◌<◌, ◌≤◌, Bool, true, false, not, ◌&&◌, ◌||◌, cond, eqb, ltb, leb, ◌⊎◌, List, [], ◌∷◌, ◌++◌, length, map}
 use Rattle.cats_text.proofs.Common.{ap, ◌∙◌, arith, Some, None, append-nil, eqb-true, eq-eqb, ne_eqb, ltb-false, lt-ltb, le-ltb, le-leb, lt-leb, leb-true}
 use Rattle.cats_text.proofs.Common.{both_ways, false_from_ne_true, or_cases, or_right, map-append, find-append, list_any-append, filter-append, find, list_any}
+use Rattle.cats_text.proofs.Common.{has-filter, refl}
 use Rattle.cats_text.proofs.Common.{is_some, Word, number_of, has_good, has_end, is_end, before_end, real_goods, dummy_in, common_steps, filter}
 use Rattle.cats_text.proofs.Parsing.States.{HasOneDummy}
 
@@ -45,8 +46,7 @@ find_passes p (x ∷ xs) e h = grind (arith, common_steps, eq-eqb, or_right, (fi
 
 -- the real goods are those below G
 pub has_filtered : (G : ℕ) (vs : List ℕ) (v : ℕ) → v < G → has_good (filter (λ x. ltb x G) vs) v ≡ has_good vs v
-has_filtered G [] v l = refl
-has_filtered G (x ∷ xs) v l = grind (arith, common_steps, ltb-false, ne_eqb, (has_filtered G xs v l))
+has_filtered G vs v l = has-filter (λ x. ltb x G) vs v ∙ ap (λ b. b && has_good vs v) (lt-ltb v G l)
 
 -- there is a real good exactly if the list of them is not empty
 pub none_real : (G : ℕ) (vs : List ℕ) → eqb (length (filter (λ x. ltb x G) vs)) 0 ≡ not (list_any (λ x. ltb x G) vs)

@@ -1,7 +1,7 @@
 -- The words of the header lines: the parser and the definitions agree.
 use Rattle.cats_text.proofs.Common.{◌≡◌, ℕ, ◌<◌, ◌≤◌, true, false, not, cond, ltb, leb, ⊎_elim, List, [], ◌∷◌, ◌++◌, refl, sym, ap, ap₂, ◌∙◌, subst, arith}
 use Rattle.cats_text.proofs.Common.{Option, None, Ok, Err, ltb-false, lt-ltb, le-leb, both_ways, is_number, number_of, header_word, word_fault, when}
-use Rattle.cats_text.proofs.Common.{header_value, keyword_text, Progress, Reading, keyword_read, header_number_read, number_read, price_read, good_or_end_read}
+use Rattle.cats_text.proofs.Common.{header_value, keyword_text, Progress, Reading, keyword_read, header_number_read, read_at}
 use Rattle.cats_text.proofs.Common.{word_read, Kind, Keyword, Number, HELD, Stage, Goods, Bids, Dummy, Bid, Column, First, Second, Later, Ended, MAX_GOODS}
 use Rattle.cats_text.proofs.Common.{MAX_BIDS, MAX_DUMMY, common_steps}
 use Rattle.cats_text.specs.declared.read_fault.Kind.TheVariants as kinds
@@ -11,21 +11,6 @@ use Rattle.cats_text.specs.declared.word.Word.{Word}
 use Rattle.cats_text.proofs.Words.Kept.{Summarises, Holds}
 use Rattle.cats_text.proofs.Words.Tests.{IsTested, is_number_by, is_keyword_by}
 use Rattle.cats_text.proofs.Parsing.States.{IsAt, WordFollows, with_words}
-
--- ---- a word by its column, the column and the line given
-
-abbrev pub read_at : Column → Stage → Progress → Word → Reading
-read_at column stage p w = elim column [
-  | First ↦ elim stage [
-    | Goods ↦ keyword_read p keywords.Goods w
-    | Bids ↦ keyword_read p keywords.Bids w
-    | Dummy ↦ keyword_read p keywords.Dummy w
-    | Bid ↦ number_read p w
-  ]
-  | Second ↦ elim stage [ Goods ↦ header_number_read p w | Bids ↦ header_number_read p w | Dummy ↦ header_number_read p w | Bid ↦ price_read p w ]
-  | Later ↦ elim stage [ Goods ↦ Err kinds.Header | Bids ↦ Err kinds.Header | Dummy ↦ Err kinds.Header | Bid ↦ good_or_end_read p w ]
-  | Ended ↦ Err kinds.AfterEnd
-]
 
 -- ---- numbers that are held
 

@@ -1,7 +1,7 @@
 -- Words, line ends and whole lines: the parser and the definitions agree.
 use Rattle.cats_text.proofs.Common.{rules, ◌≡◌, ℕ, ◌-◌, ◌<◌, Bool, true, false, ltb, List, [], ◌∷◌, length, refl, sym, ap, ap₂, ◌∙◌, subst, arith, Ok, Err}
 use Rattle.cats_text.proofs.Common.{length-append, ltb-true, ltb-false, lt-ltb, le-ltb, fold_push, is_line_due, has_end, bid_of, Progress, Reading, word_read}
-use Rattle.cats_text.proofs.Common.{line_read, with_bid, drafted, is_due, Stage, Goods, Bids, Dummy, Bid, Column, First, Second, Later, Ended, summary}
+use Rattle.cats_text.proofs.Common.{line_at, line_read, with_bid, drafted, is_due, Stage, Goods, Bids, Dummy, Bid, Column, First, Second, Later, Ended, summary}
 use Rattle.cats_text.proofs.Common.{common_steps}
 use Rattle.cats_text.specs.declared.read_fault.Kind.TheVariants as kinds
 use Rattle.cats_text.proofs.Words.Kept.{summarises}
@@ -22,8 +22,7 @@ bid_word_step g b d lines (n ∷ x ∷ gs) a w p at =
       | true ↦ search (rules, WordFollows, read_there, ended_column, fault_named)
       | false ↦ λ (e : has_end gs ≡ false). subst (WordFollows (g ∷ b ∷ d ∷ lines) (n ∷ x ∷ gs) (a ∷ w))
           (sym (read_there Later Bid p (summary (a ∷ w)) (at.column ∙ ap ended_column e) at.stage))
-          (bid_later g b d lines n x gs (a ∷ w) (summary (a ∷ w)) p (tested a w (summary (a ∷ w)) (summarises a w)) (summarises a w)
-          (record { at = at; on = e }))
+          (bid_later g b d lines n x gs (a ∷ w) p at e (summary (a ∷ w)) (tested a w (summary (a ∷ w)) (summarises a w)) (summarises a w))
     ] refl
 
 pub word_step : (lines : List (List (List ℕ))) (words : List (List ℕ)) (a : ℕ) (w : List ℕ) (p : Progress) → IsAt lines words p
@@ -34,30 +33,6 @@ word_step (g ∷ b ∷ []) words a w p at = dummy_word g b words (a ∷ w) (summ
 word_step (g ∷ b ∷ d ∷ lines) words a w p at = bid_word_step g b d lines words a w p at
 
 -- ---- the end of a line
-
--- the end at a known column of a known line
-abbrev pub line_at : Column → Stage → Progress → Reading
-line_at column stage p = elim stage [
-  | Goods ↦ elim column [
-    | First ↦ Err kinds.Header
-    | Second ↦ Err kinds.Header
-    | Later ↦ Ok (record p { column = First; stage = Bids })
-    | Ended ↦ Err kinds.Header
-  ]
-  | Bids ↦ elim column [
-    | First ↦ Err kinds.Header
-    | Second ↦ Err kinds.Header
-    | Later ↦ Ok (record p { column = First; stage = Dummy })
-    | Ended ↦ Err kinds.Header
-  ]
-  | Dummy ↦ elim column [
-    | First ↦ Err kinds.Header
-    | Second ↦ Err kinds.Header
-    | Later ↦ Ok (record p { column = First; stage = Bid })
-    | Ended ↦ Err kinds.Header
-  ]
-  | Bid ↦ elim column [ First ↦ Err kinds.NoEnd | Second ↦ Err kinds.NoEnd | Later ↦ Err kinds.NoEnd | Ended ↦ Ok (with_bid p) ]
-]
 
 line_there : (column : Column) (stage : Stage) (p : Progress) → p.column ≡ column → p.stage ≡ stage → line_read p ≡ line_at column stage p
 line_there column stage p e f = ap₂ (λ (x : Column) (y : Stage). line_at x y p) e f

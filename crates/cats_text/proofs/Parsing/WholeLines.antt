@@ -110,6 +110,10 @@ tail_ends : (l : Line) (ls : List Line) → AreEndedButLast (l ∷ ls) → AreEn
 tail_ends l [] e = tt
 tail_ends l (m ∷ ls) e = e.1
 
+pub neither : (a b : Bool) → (a || b) ≡ false → (a ≡ false) × (b ≡ false)
+neither true b e = absurd (both_ways true e refl)
+neither false b e = (refl, e)
+
 pub lines_step : (whole : Bool) (count : ℕ) (lines : List (List Word)) (ls : List Line) (p : Progress) → AllByRecursion IsLine ls → AreEndedButLast ls
     → IsAt lines [] p → LinesAre whole count lines ls (lines_scan whole count ls p)
 lines_step whole count lines [] p is ends at = end_step whole count lines p at
@@ -121,7 +125,3 @@ lines_step whole count lines (l ∷ ls) p is ends at =
       | false ↦ λ (judged : (l.ended || whole) ≡ false). let both = neither l.ended whole judged in
           subst (λ b. LinesAre b count lines (l ∷ ls) (open_line l p)) (sym both.1) (open_is_last count lines l ls p both.0 ends is.0 at)
     ] refl
-  where
-    neither : (a b : Bool) → (a || b) ≡ false → (a ≡ false) × (b ≡ false)
-    neither true b e = absurd (both_ways true e refl)
-    neither false b e = (refl, e)

@@ -187,7 +187,7 @@ last_line n p b bytes h =
         ∙ inner (and_then (blank_step t) words_step) (suc n)
     regroup (Err e) behind = refl
 
-tail_raw : (l : RawLine) (ls : List RawLine) → AreRaw (l ∷ ls) → AllByRecursion IsNoEnd l.bytes × AreRaw ls
+pub tail_raw : (l : RawLine) (ls : List RawLine) → AreRaw (l ∷ ls) → AllByRecursion IsNoEnd l.bytes × AreRaw ls
 tail_raw l [] r = (r.0, tt)
 tail_raw l (m ∷ ls) r = (r.0, r.2)
 

@@ -1,306 +1,239 @@
--- Where the scanner is in a bid line, a fourth significant line has begun. The idea: count the lines that begin, byte by byte,
--- and the header lines that have ended by the parser's stage.
-use Rattle.cats_text.proofs.Common.{rules, ◌≡◌, ℕ, suc, ◌+◌, ◌≤◌, Option, Some, None, Bool, true, false, not, cond, eqb, ltb, ⊎_elim, List, [], ◌∷◌, ◌++◌}
-use Rattle.cats_text.proofs.Common.{length, ap, filter, refl, sym, ◌∙◌, subst, arith, Result, Ok, Err, IsOkAnd, lt-ltb, RawLine, Line, raw_lines, lines_with}
-use Rattle.cats_text.proofs.Common.{with_byte, line_words, is_significant, is_blank, numbered, blank_returns, has_bid_line, Progress, Reading, keyword_read}
-use Rattle.cats_text.proofs.Common.{header_number_read, number_read, price_parts, with_price, price_read, dummy_read, word_read, good_or_end_read, line_read}
-use Rattle.cats_text.proofs.Common.{Kind, Keyword, Number, End, PlainBid, Column, First, Second, Later, Ended, MAX_GOODS, MAX_BIDS, MAX_DUMMY, State, Scan}
-use Rattle.cats_text.proofs.Common.{and_then, byte_step, blank_step, words_step, line_step, next_line, with_reading, letter_mode, MeetsBidLine, IsInLine}
-use Rattle.cats_text.proofs.Common.{first_state, word_from, Stage, Goods, Bids, Dummy, Bid, Mode, Start, Blank, Comment, Between, Inside, common_steps}
-use Rattle.cats_text.specs.declared.read_fault.Kind.TheVariants as kinds
-use Rattle.cats_text.specs.declared.word.Keyword.{Keyword as Key}
-use Rattle.cats_text.specs.declared.word.Keyword.TheVariants as keywords
-use Rattle.cats_text.specs.declared.word.Word.TheVariants.{Decimal as Fraction}
-use Rattle.cats_text.proofs.Parsing.Headers.{read_at}
-use Rattle.cats_text.proofs.Parsing.Lines.{line_at}
-use Rattle.cats_text.specs.declared.word.Word.{Word as Kept}
-use Rattle.cats_text.proofs.Scanning.Lines.{standing, words_blank}
+-- Where the scanner is in a bid line, a fourth significant line has begun. The idea: line by line, the lines that are left and the
+-- header lines that have ended are more than three.
+use Rattle.cats_text.proofs.Common.{◌≡◌, ℕ, suc, ◌+◌, ◌<◌, ◌≤◌, Bool, true, false, not, cond, eqb, ◌⊎◌, inl, inr, ⊎_elim, List, [], ◌∷◌, ◌++◌, length, ap}
+use Rattle.cats_text.proofs.Common.{refl, sym, ◌∙◌, subst, arith, Ok, Err, IsOkAnd, lt-ltb, both_ways, append_assoc, length-append, AllByRecursion, Word}
+use Rattle.cats_text.proofs.Common.{Line, raw_lines, line_words, is_significant, is_blank, numbered, blank_returns, has_bid_line, summary, Progress, Reading}
+use Rattle.cats_text.proofs.Common.{word_read, PlainBid, State, Scan, and_then, scan, byte_step, blank_step, words_step, next_line, with_reading, letter_mode}
+use Rattle.cats_text.proofs.Common.{MeetsBidLine, IsInLine, IsInBidLine, first_state, start, word_from, Bid, Mode, Start, Blank, Comment, Between, Inside}
+use Rattle.cats_text.proofs.Common.{ReadFault, RawLine, filter, common_steps}
+use Rattle.cats_text.proofs.Words.Kept.{summary-push}
+use Rattle.cats_text.proofs.Parsing.States.{IsAt, WordFollows, stage_of}
+use Rattle.cats_text.proofs.Parsing.Lines.{word_step}
+use Rattle.cats_text.proofs.Parsing.WholeLines.{Scanned, LineIs, whole_line, whole_line_step}
+use Rattle.cats_text.proofs.Scanning.Lines.{IsNoEnd, standing, word_mode, byte_letter, byte_blank, first_of_words, words_blank}
+use Rattle.cats_text.proofs.Scanning.AllBytes.{text_of, text_of-lines, AreRaw, AreRaw-lines, tail_raw, line_and_rest, then_from}
+use Rattle.cats_text.proofs.Texts.FirstFaults.{words_are, significant_pos, at_start}
 
--- ---- how many significant lines begin in the bytes
+-- ---- bytes and more bytes
 
-abbrev next_begin : Bool → ℕ → ℕ → ℕ → ℕ
-next_begin decided b fresh later = cond (eqb b 10) fresh (cond decided later (cond (is_blank b) fresh (cond (eqb b 37) later (suc later))))
+met_now : (s : State) (ys : List ℕ) → IsInBidLine s → MeetsBidLine s ys
+met_now s [] i = i
+met_now s (b ∷ bs) i = inl i
 
--- it is known of the line so far whether it has words or is a comment, or not yet
-begins_after : Bool → List ℕ → ℕ
-begins_after decided [] = 0
-begins_after decided (b ∷ bs) = next_begin decided b (begins_after false bs) (begins_after true bs)
+both_ok : (r : Scan) (P Q : State → Type 0) → ((t : State) → P t → Q t) → IsOkAnd r P → IsOkAnd r Q
+both_ok (Ok t) P Q h p = h t p
+both_ok (Err e) P Q h p = absurd p
 
-begins-nil : (d : Bool) → begins_after d [] ≡ 0
-unfolding begins_after
-begins-nil d = refl
+met_more : (s : State) (xs ys : List ℕ) → MeetsBidLine s xs → MeetsBidLine s (xs ++ ys)
+met_more s [] ys m = met_now s ys m
+met_more s (x ∷ xs) ys (inl i) = inl i
+met_more s (x ∷ xs) ys (inr m) = inr (both_ok (byte_step s x) (λ t. MeetsBidLine t xs) (λ t. MeetsBidLine t (xs ++ ys)) (λ t k. met_more t xs ys k) m)
 
-begins-cons : (d : Bool) (b : ℕ) (bs : List ℕ) → begins_after d (b ∷ bs) ≡ next_begin d b (begins_after false bs) (begins_after true bs)
-unfolding begins_after
-begins-cons d b bs = refl
+-- met in the first bytes, or behind them
+met_split : (s : State) (xs ys : List ℕ) → MeetsBidLine s (xs ++ ys) → MeetsBidLine s xs ⊎ IsOkAnd (scan s xs) (λ t. MeetsBidLine t ys)
+met_split s [] ys m = inr m
+met_split s (x ∷ xs) ys (inl i) = inl (inl i)
+met_split s (x ∷ xs) ys (inr m) = by (byte_step s x) refl m (λ t k. met_split t xs ys k)
+  where
+    by : (r : Scan) → byte_step s x ≡ r → IsOkAnd r (λ t. MeetsBidLine t (xs ++ ys))
+        → ((t : State) → MeetsBidLine t (xs ++ ys) → MeetsBidLine t xs ⊎ IsOkAnd (scan t xs) (λ u. MeetsBidLine u ys))
+        → MeetsBidLine s (x ∷ xs) ⊎ IsOkAnd (and_then r (λ t. scan t xs)) (λ t. MeetsBidLine t ys)
+    by (Ok t) e k next = ⊎_elim (λ (here : MeetsBidLine t xs). inl (inr (subst (λ (r : Scan). IsOkAnd r (λ u. MeetsBidLine u xs)) (sym e) here)))
+        (λ (later : IsOkAnd (scan t xs) (λ u. MeetsBidLine u ys)). inr later) (next t k)
+    by (Err c) e k next = absurd k
 
-abbrev one_if : Bool → ℕ
-one_if t = cond t 1 0
+abbrev stopped : ReadFault → Scan
+stopped e = Err e
+
+-- met where they end
+pub met_at_end : (s t : State) (bytes : List ℕ) → scan s bytes ≡ Ok t → IsInBidLine t → MeetsBidLine s bytes
+met_at_end s t [] h i = grind (arith, common_steps)
+met_at_end s t (b ∷ bs) h i = inr (step (byte_step s b) h (λ u e. met_at_end u t bs e i))
+  where
+    no : (e : ReadFault) → stopped e ≡ Ok t → ⊥
+    no e q = cc
+
+    step : (r : Scan) → and_then r (λ u. scan u bs) ≡ Ok t → ((u : State) → scan u bs ≡ Ok t → MeetsBidLine u bs) → IsOkAnd r (λ u. MeetsBidLine u bs)
+    step (Ok u) e next = next u e
+    step (Err c) e next = absurd (no c e)
+
+-- ---- the bytes of a line
+
+-- behind a blank, or behind a letter
+abbrev MetByte : State → ℕ → List ℕ → Type 0
+MetByte s b bs = ((is_blank b ≡ true) × IsOkAnd (blank_step s) (λ t. MeetsBidLine t bs))
+    ⊎ ((is_blank b ≡ false) × MeetsBidLine (record s { mode = letter_mode s.mode b }) bs)
+
+met_byte : (s : State) (b : ℕ) (bs : List ℕ) → eqb b 10 ≡ false → IsOkAnd (byte_step s b) (λ t. MeetsBidLine t bs) → MetByte s b bs
+met_byte s b bs h m = by (is_blank b) refl
+  where
+    by : (t : Bool) → is_blank b ≡ t → MetByte s b bs
+    by true e = inl (e, subst (λ (r : Scan). IsOkAnd r (λ u. MeetsBidLine u bs)) (byte_blank s b h e) m)
+    by false e = inr (e, subst (λ (r : Scan). IsOkAnd r (λ u. MeetsBidLine u bs)) (byte_letter s b h e) m)
+
+-- a comment goes on to the end of its line
+met_comment : (n : ℕ) (p : Progress) (bs : List ℕ) → AllByRecursion IsNoEnd bs → MeetsBidLine (standing Comment n p) bs → ⊥
+met_comment n p [] h m = m.1
+met_comment n p (b ∷ bs) h (inl i) = i.1
+met_comment n p (b ∷ bs) h (inr m) = ⊎_elim (λ (k : (is_blank b ≡ true) × MeetsBidLine (standing Comment n p) bs). met_comment n p bs h.1 k.1)
+    (λ (k : (is_blank b ≡ false) × MeetsBidLine (standing Comment n p) bs). met_comment n p bs h.1 k.1) (met_byte (standing Comment n p) b bs h.0 m)
+
+-- the line after these is a bid line
+bid_stage : (lines : List (List Word)) → stage_of lines ≡ Bid → 3 ≤ length lines
+bid_stage (g ∷ b ∷ d ∷ lines) e = omega arith
+bid_stage [] e = absurd (cc)
+bid_stage (g ∷ []) e = absurd (cc)
+bid_stage (g ∷ b ∷ []) e = absurd (cc)
+
+module _ (n : ℕ) (lines : List (List Word)) where
+  -- behind these words and in one of which this has come, or behind a word
+  abbrev MetInLine : List ℕ → Type 0
+  MetInLine bs = (words : List Word) (w : List ℕ) (p : Progress) → IsAt lines words p → MeetsBidLine (standing (word_mode w) n p) bs → 3 ≤ length lines
+
+  behind_word : (bs : List ℕ) → MetInLine bs → (words : List Word) (w : List ℕ) (p : Progress) → IsAt lines words p
+      → IsOkAnd (blank_step (standing (word_mode w) n p)) (λ t. MeetsBidLine t bs) → 3 ≤ length lines
+  behind_word bs next words [] p at m = next words [] p at m
+  behind_word bs next words (a ∷ w) p at m = read (word_read p (summary (a ∷ w))) (word_step lines words a w p at) m
+    where
+      read : (r : Reading) → WordFollows lines words (a ∷ w) r → IsOkAnd (with_reading (standing (word_mode (a ∷ w)) n p) Between r) (λ t. MeetsBidLine t bs)
+          → 3 ≤ length lines
+      read (Ok q) f m = next (words ++ (a ∷ w) ∷ []) [] q f.1 m
+      read (Err kind) f m = absurd m
+
+  more_letters : (w : List ℕ) (b : ℕ) → letter_mode (word_mode w) b ≡ word_mode (w ++ b ∷ [])
+  more_letters [] b = refl
+  more_letters (a ∷ w) b = ap (λ s. Inside s) (sym (summary-push a w b))
+
+  met_word : (bs : List ℕ) → AllByRecursion IsNoEnd bs → MetInLine bs
+  met_word [] h words w p at m = bid_stage lines (sym at.stage ∙ m.0)
+  met_word (b ∷ bs) h words w p at (inl i) = bid_stage lines (sym at.stage ∙ i.0)
+  met_word (b ∷ bs) h words w p at (inr m) =
+      ⊎_elim (λ (k : (is_blank b ≡ true) × IsOkAnd (blank_step (standing (word_mode w) n p)) (λ t. MeetsBidLine t bs)).
+      behind_word bs (met_word bs h.1) words w p at k.1)
+      (λ (k : (is_blank b ≡ false) × MeetsBidLine (standing (letter_mode (word_mode w) b) n p) bs). met_word bs h.1 words (w ++ b ∷ []) p at
+      (subst (λ (m : Mode). MeetsBidLine (standing m n p) bs) (more_letters w b) k.1))
+      (met_byte (standing (word_mode w) n p) b bs h.0 m)
+
+significant_letter : (b : ℕ) (bs : List ℕ) → is_blank b ≡ false → is_significant (line_words (b ∷ bs)) ≡ not (eqb b 37)
+significant_letter b bs e = let f = first_of_words b bs e in ap is_significant f.2
+
+abbrev IsFresh : Mode → Type 0
+IsFresh m = ((b : ℕ) → letter_mode m b ≡ cond (eqb b 37) Comment (Inside (word_from b))) × (IsInLine m → ⊥)
+
+-- before its first word: a bid line met in it has a word
+met_fresh : (m : Mode) (n : ℕ) (lines : List (List Word)) (p : Progress) (bs : List ℕ) → IsFresh m → blank_step (standing m n p) ≡ Ok (standing Blank n p)
+    → IsAt lines [] p → AllByRecursion IsNoEnd bs → MeetsBidLine (standing m n p) bs → (3 ≤ length lines) × (is_significant (line_words bs) ≡ true)
+met_fresh m n lines p [] fresh step at h k = absurd (fresh.1 k.1)
+met_fresh m n lines p (b ∷ bs) fresh step at h (inl i) = absurd (fresh.1 i.1)
+met_fresh m n lines p (b ∷ bs) fresh step at h (inr k) =
+    ⊎_elim (λ (k : (is_blank b ≡ true) × IsOkAnd (blank_step (standing m n p)) (λ t. MeetsBidLine t bs)).
+    let rest : (3 ≤ length lines) × (is_significant (line_words bs) ≡ true) = met_fresh Blank n lines p bs (λ b. refl, λ i. i) refl at h.1
+    (subst (λ (r : Scan). IsOkAnd r (λ u. MeetsBidLine u bs)) step k.1) in
+    (rest.0, ap is_significant (words_blank b bs k.0) ∙ rest.1))
+    (λ (k : (is_blank b ≡ false) × MeetsBidLine (standing (letter_mode m b) n p) bs). letter k.0 (eqb b 37) refl
+    (subst (λ (mode : Mode). MeetsBidLine (standing mode n p) bs) (fresh.0 b) k.1))
+    (met_byte (standing m n p) b bs h.0 k)
+  where
+    letter : is_blank b ≡ false → (c : Bool) → eqb b 37 ≡ c → MeetsBidLine (standing (cond c Comment (Inside (word_from b))) n p) bs
+        → (3 ≤ length lines) × (is_significant (line_words (b ∷ bs)) ≡ true)
+    letter e true c k = absurd (met_comment n p bs h.1 k)
+    letter e false c k = (met_word n lines bs h.1 [] (b ∷ []) p at k, significant_letter b bs e ∙ ap not c)
+
+-- not in the LF behind it
+met_feed : (n : ℕ) (p : Progress) (bs : List ℕ) → MeetsBidLine (standing Start n p) (bs ++ 10 ∷ []) → MeetsBidLine (standing Start n p) bs
+met_feed n p bs m = ⊎_elim (λ (here : MeetsBidLine (standing Start n p) bs). here)
+    (λ (k : IsOkAnd (scan (standing Start n p) bs) (λ t. MeetsBidLine t (10 ∷ []))). at_end (scan (standing Start n p) bs) refl k)
+    (met_split (standing Start n p) bs (10 ∷ []) m)
+  where
+    none : (r : Scan) → IsOkAnd (and_then r next_line) (λ u. IsInBidLine u) → ⊥
+    none (Ok t) k = k.1
+    none (Err e) k = k
+
+    at_end : (r : Scan) → scan (standing Start n p) bs ≡ r → IsOkAnd r (λ t. MeetsBidLine t (10 ∷ [])) → MeetsBidLine (standing Start n p) bs
+    at_end (Ok t) e (inl i) = met_at_end (standing Start n p) t bs e i
+    at_end (Ok t) e (inr k) = absurd (none (and_then (blank_step t) words_step) k)
+    at_end (Err c) e k = absurd k
+
+-- ---- all lines
 
 abbrev counted : ℕ → List RawLine → ℕ
 counted n ls = length (filter (λ (l : Line). is_significant l.words) (numbered n ls))
 
-counted-cons : (n : ℕ) (l : RawLine) (ls : List RawLine) → counted n (l ∷ ls) ≡ one_if (is_significant (line_words l.bytes)) + counted (suc n) ls
-counted-cons n l ls = grind (arith, common_steps)
+counted_more : (n : ℕ) (l : RawLine) (ls : List RawLine) → is_significant (line_words l.bytes) ≡ true → counted n (l ∷ ls) ≡ suc (counted (suc n) ls)
+counted_more n l ls e = rw e refl
 
--- the number of the first line does not matter
-counted-from : (m n : ℕ) (ls : List RawLine) → counted m ls ≡ counted n ls
-counted-from m n [] = refl
-counted-from m n (l ∷ ls) = grind (arith, common_steps, counted-cons, (counted-from (suc m) (suc n) ls))
+counted_same : (n : ℕ) (l : RawLine) (ls : List RawLine) → is_significant (line_words l.bytes) ≡ false → counted n (l ∷ ls) ≡ counted (suc n) ls
+counted_same n l ls e = rw e refl
 
--- the lines behind the first
-abbrev behind_first : List RawLine → List RawLine
-behind_first [] = []
-behind_first (l ∷ ls) = ls
+-- a bid line is met behind a line of which this came out
+abbrev MeetsBehind : ℕ → List RawLine → Scanned → Type 0
+MeetsBehind n ls o = IsOkAnd (then_from o (λ q. Ok (standing Start (suc n) q))) (λ u. MeetsBidLine u (text_of ls))
 
-abbrev first_bytes : List RawLine → List ℕ
-first_bytes [] = []
-first_bytes (l ∷ ls) = l.bytes
-
--- the words of a line that begins with a letter are judged by that letter
-significant_letter : (b : ℕ) (bs : List ℕ) → is_blank b ≡ false → is_significant (line_words (b ∷ bs)) ≡ not (eqb b 37)
-significant_letter b bs e = search rules
-
-counted_first : (ls : List RawLine) → counted 1 ls ≡ one_if (is_significant (line_words (first_bytes ls))) + counted 1 (behind_first ls)
-counted_first [] = refl
-counted_first (l ∷ ls) = counted-cons 1 l ls ∙ ap (λ k. one_if (is_significant (line_words l.bytes)) + k) (counted-from 2 1 ls)
-
--- what the bytes begin, and what begins behind their first line
-record Begins (text : List ℕ) : Type 0 where
-  fresh : begins_after false text ≡ counted 1 (raw_lines text)
-  later : begins_after true text ≡ counted 1 (behind_first (raw_lines text))
-
-begins_lf : (b : ℕ) (bs : List ℕ) → eqb b 10 ≡ true → Begins bs → Begins (b ∷ bs)
-begins_lf b bs e h = grind (arith, common_steps, begins-cons, begins_after, counted_first)
-
-first_with : (b : ℕ) (ls : List RawLine) → first_bytes (with_byte b ls) ≡ b ∷ first_bytes ls
-first_with b [] = refl
-first_with b (l ∷ ls) = refl
-
-behind_with : (b : ℕ) (ls : List RawLine) → behind_first (with_byte b ls) ≡ behind_first ls
-behind_with b [] = refl
-behind_with b (l ∷ ls) = refl
-
-lines_other : (b : ℕ) (ls : List RawLine) → eqb b 10 ≡ false → lines_with b ls ≡ with_byte b ls
-lines_other b ls e = ap (λ t. cond t (record { bytes = []; ended = true } ∷ ls) (with_byte b ls)) e
-
-begins_other : (b : ℕ) (bs : List ℕ) → eqb b 10 ≡ false → Begins bs → Begins (b ∷ bs)
-begins_other b bs e h =
-    grind (arith, common_steps, begins-cons, begins_after, behind_with, counted_first, first_with, lines_other, significant_letter, words_blank)
-
-begins_are : (text : List ℕ) → Begins text
-begins_are [] = record { fresh = begins-nil false; later = begins-nil true }
-begins_are (b ∷ bs) = elim (eqb b 10) as (λ t. eqb b 10 ≡ t → Begins (b ∷ bs)) [
-  | true ↦ λ e. begins_lf b bs e (begins_are bs)
-  | false ↦ λ e. begins_other b bs e (begins_are bs)
-] refl
-
--- more bytes begin no fewer lines
-begins_more : (d : Bool) (xs ys : List ℕ) → begins_after d xs ≤ begins_after d (xs ++ ys)
-begins_more d [] ys = let none : begins_after d [] ≡ 0 = begins-nil d in omega arith
-begins_more d (x ∷ xs) ys = grind (arith, common_steps, begins-cons, begins_after, (begins_more false xs ys), (begins_more true xs ys))
-
--- ---- the header lines that have ended
-
-abbrev rank : Stage → ℕ
-rank Goods = 0
-rank Bids = 1
-rank Dummy = 2
-rank Bid = 3
-
--- what is read is of the same line, and as much is kept of its bid
-pub record Keeps (p : Progress) (r : Reading) : Type 0 where
-  pub same : (q : Progress) → r ≡ Ok q → q.stage ≡ p.stage
-  pub keeping : (q : Progress) → r ≡ Ok q → q.keep ≡ p.keep
-
-keeps_ok : (p q : Progress) → q.stage ≡ p.stage → q.keep ≡ p.keep → Keeps p (Ok q)
-keeps_ok p q e f = grind (arith, common_steps)
-
-keeps_err : (p : Progress) (kind : Kind) → Keeps p (Err kind)
-keeps_err p kind = grind (arith, common_steps)
-
-keeps_cond : (p : Progress) (b : Bool) (x y : Reading) → Keeps p x → Keeps p y → Keeps p (cond b x y)
-keeps_cond p true x y h k = h
-keeps_cond p false x y h k = k
-
-keeps_keyword : (p : Progress) (k : Key) (w : Kept) → Keeps p (keyword_read p k w)
-keeps_keyword p k (Keyword j n) = keeps_cond p _ _ _ (keeps_ok p _ refl refl) (keeps_err p _)
-keeps_keyword p k _ = keeps_err p _
-
-keeps_header_number : (p : Progress) (stage : Stage) (v : ℕ) → Keeps p (elim stage [
-  | Goods ↦ cond (ltb MAX_GOODS v) (Err kinds.TooLarge) (Ok (record p { column = Later; header = record p.header { goods = v } }))
-  | Bids ↦ cond (ltb MAX_BIDS v) (Err kinds.TooLarge) (Ok (record p { column = Later; header = record p.header { bids = v }; due = v }))
-  | Dummy ↦ cond (ltb MAX_DUMMY v) (Err kinds.TooLarge) (Ok (record p { column = Later; header = record p.header { dummy = v } }))
-  | Bid ↦ Err kinds.Header
-])
-keeps_header_number p Goods v = keeps_cond p _ _ _ (keeps_err p _) (keeps_ok p _ refl refl)
-keeps_header_number p Bids v = keeps_cond p _ _ _ (keeps_err p _) (keeps_ok p _ refl refl)
-keeps_header_number p Dummy v = keeps_cond p _ _ _ (keeps_err p _) (keeps_ok p _ refl refl)
-keeps_header_number p Bid v = keeps_err p _
-
-keeps_second : (p : Progress) (w : Kept) → Keeps p (header_number_read p w)
-keeps_second p (Number v) = keeps_header_number p p.stage v
-keeps_second p _ = keeps_err p _
-
-keeps_number : (p : Progress) (w : Kept) → Keeps p (number_read p w)
-keeps_number p (Number v) = grind (arith, common_steps, keeps_cond, keeps_err, keeps_ok)
-keeps_number p _ = keeps_err p _
-
-keeps_with_price : (p : Progress) (r : Result ℕ Kind) → Keeps p (with_price p r)
-keeps_with_price p (Ok m) = keeps_ok p _ refl refl
-keeps_with_price p (Err kind) = keeps_err p _
-
-keeps_price : (p : Progress) (w : Kept) → Keeps p (price_read p w)
-keeps_price p (Number v) = keeps_with_price p (price_parts v 0 false)
-keeps_price p (Fraction d) = keeps_cond p _ _ _ (keeps_err p _) (keeps_with_price p (price_parts d.whole d.millionths d.fine))
-keeps_price p _ = keeps_err p _
-
-keeps_dummy : (p : Progress) (o : Option ℕ) (d : ℕ) → Keeps p (dummy_read p o d)
-keeps_dummy p None d = keeps_ok p _ refl refl
-keeps_dummy p (Some e) d = keeps_cond p _ _ _ (keeps_err p _) (keeps_err p _)
-
-keeps_good : (p : Progress) (w : Kept) → Keeps p (good_or_end_read p w)
-keeps_good p (Number v) = grind (arith, common_steps, keeps_cond, keeps_dummy, keeps_err, keeps_ok)
-keeps_good p End = keeps_cond p _ _ _ (keeps_err p _) (keeps_ok p _ refl refl)
-keeps_good p _ = keeps_err p _
-
-keeps_at : (column : Column) (stage : Stage) (p : Progress) (w : Kept) → Keeps p (read_at column stage p w)
-keeps_at First Goods p w = keeps_keyword p keywords.Goods w
-keeps_at First Bids p w = keeps_keyword p keywords.Bids w
-keeps_at First Dummy p w = keeps_keyword p keywords.Dummy w
-keeps_at First Bid p w = keeps_number p w
-keeps_at Second Bid p w = keeps_price p w
-keeps_at Second _ p w = keeps_second p w
-keeps_at Later Bid p w = keeps_good p w
-keeps_at _ _ p w = keeps_err p _
-
--- a word keeps the line
-pub keeps_word : (p : Progress) (w : Kept) → Keeps p (word_read p w)
-keeps_word p w = keeps_at p.column p.stage p w
-
-abbrev ranked : ℕ → Reading → Type 0
-ranked k (Ok q) = rank q.stage ≤ suc k
-ranked k (Err kind) = Unit {0}
-
--- a line's end goes on by one line at most
-ranked_at : (column : Column) (stage : Stage) (p : Progress) → p.stage ≡ stage → ranked (rank stage) (line_at column stage p)
-ranked_at First Bid p e = tt
-ranked_at Second Bid p e = tt
-ranked_at Later Bid p e = tt
-ranked_at Later _ p e = omega arith
-ranked_at Ended Bid p e = subst (λ (s : Stage). rank s ≤ 4) (sym e) (omega arith)
-ranked_at _ _ p e = tt
-
-ranked_line : (p : Progress) → ranked (rank p.stage) (line_read p)
-ranked_line p = ranked_at p.column p.stage p refl
-
--- ---- lines begun and lines ended
-
-abbrev decided_in : Mode → Bool
-decided_in Start = false
-decided_in Blank = false
-decided_in _ = true
-
--- c lines have begun
-abbrev Begun : Mode → Stage → ℕ → Type 0
-Begun Between stage c = suc (rank stage) ≤ c
-Begun (Inside w) stage c = suc (rank stage) ≤ c
-Begun _ stage c = rank stage ≤ c
-
--- a step keeps the count of the lines that begin from here on
-record KeepsLineCount (c total : ℕ) (bs : List ℕ) (t : State) : Type 0 where
-  count : ℕ
-  begun : Begun t.mode t.progress.stage count
-  fewer : count + begins_after (decided_in t.mode) bs ≤ c + total
-
-abbrev Continues : ℕ → ℕ → List ℕ → Scan → Type 0
-Continues c total bs (Ok t) = KeepsLineCount c total bs t
-Continues c total bs (Err e) = Unit {0}
-
-continues_reading : (c : ℕ) (bs : List ℕ) (s : State) (r : Reading) → Keeps s.progress r → suc (rank s.progress.stage) ≤ c
-    → Continues c (begins_after true bs) bs (with_reading s Between r)
-continues_reading c bs s (Ok q) k l = record { count = c; begun = subst (λ (x : Stage). suc (rank x) ≤ c) (sym (k.same q refl)) l; fewer = omega arith }
-continues_reading c bs s (Err kind) k l = tt
-
-continues_blank : (c : ℕ) (bs : List ℕ) (m : Mode) (n : ℕ) (p : Progress) → Begun m p.stage c
-    → Continues c (begins_after (decided_in m) bs) bs (blank_step (standing m n p))
-continues_blank c bs (Inside w) n p l = continues_reading c bs (standing (Inside w) n p) (word_read p w) (keeps_word p w) l
-continues_blank c bs _ n p l = record { count = c; begun = l; fewer = omega arith }
-
-continues_line_read : (c : ℕ) (bs : List ℕ) (n : ℕ) (p : Progress) (r : Reading) → ranked (rank p.stage) r → suc (rank p.stage) ≤ c
-    → Continues c (begins_after false bs) bs (and_then (with_reading (standing Between n p) Between r) next_line)
-continues_line_read c bs n p (Ok q) k l = record { count = c; begun = omega arith; fewer = omega arith }
-continues_line_read c bs n p (Err kind) k l = tt
-
-continues_word_line : (c : ℕ) (bs : List ℕ) (n : ℕ) (w : Kept) (p : Progress) (r : Reading) → Keeps p r → suc (rank p.stage) ≤ c
-    → Continues c (begins_after false bs) bs (and_then (and_then (with_reading (standing (Inside w) n p) Between r) words_step) next_line)
-continues_word_line c bs n w p (Ok q) k l = continues_line_read c bs n q (line_read q) (ranked_line q)
-    (subst (λ (x : Stage). suc (rank x) ≤ c) (sym (k.same q refl)) l)
-continues_word_line c bs n w p (Err kind) k l = tt
-
-continues_line : (c : ℕ) (bs : List ℕ) (m : Mode) (n : ℕ) (p : Progress) → Begun m p.stage c
-    → Continues c (begins_after false bs) bs (line_step (standing m n p))
-continues_line c bs Between n p l = continues_line_read c bs n p (line_read p) (ranked_line p) l
-continues_line c bs (Inside w) n p l = continues_word_line c bs n w p (word_read p w) (keeps_word p w) l
-continues_line c bs _ n p l = record { count = c; begun = l; fewer = omega arith }
-
-continues_first : (c b : ℕ) (bs : List ℕ) (p : Progress) → rank p.stage ≤ c → (t : Bool) → (n : ℕ)
-    → KeepsLineCount c (cond t (begins_after true bs) (suc (begins_after true bs))) bs (standing (cond t Comment (Inside (word_from b))) n p)
-continues_first c b bs p l true n = record { count = c; begun = l; fewer = omega arith }
-continues_first c b bs p l false n = record { count = suc c; begun = omega arith; fewer = omega arith }
-
-abbrev letter_begins : Bool → ℕ → ℕ → ℕ
-letter_begins decided b later = cond decided later (cond (eqb b 37) later (suc later))
-
-continues_letter : (c b : ℕ) (bs : List ℕ) (m : Mode) (n : ℕ) (p : Progress) → Begun m p.stage c
-    → KeepsLineCount c (letter_begins (decided_in m) b (begins_after true bs)) bs (standing (letter_mode m b) n p)
-continues_letter c b bs Start n p l = continues_first c b bs p l (eqb b 37) n
-continues_letter c b bs Blank n p l = continues_first c b bs p l (eqb b 37) n
-continues_letter c b bs _ n p l = record { count = c; begun = l; fewer = omega arith }
-
-continues_byte : (c b : ℕ) (bs : List ℕ) (s : State) → Begun s.mode s.progress.stage c
-    → Continues c (begins_after (decided_in s.mode) (b ∷ bs)) bs (byte_step s b)
-continues_byte c b bs s l = subst (λ k. Continues c k bs (byte_step s b)) (sym (begins-cons (decided_in s.mode) b bs))
-    (elim (eqb b 10) as (λ t. Continues c
-    (cond t (begins_after false bs)
-    (cond (decided_in s.mode) (begins_after true bs)
-    (cond (is_blank b) (begins_after false bs) (cond (eqb b 37) (begins_after true bs) (suc (begins_after true bs)))))) bs
-    (cond t (line_step s) (cond (is_blank b) (blank_step s) (Ok (record s { mode = letter_mode s.mode b }))))) [
-      | true ↦ continues_line c bs s.mode s.line s.progress l
-      | false ↦ elim (is_blank b) as (λ t. Continues c
-          (cond (decided_in s.mode) (begins_after true bs)
-          (cond t (begins_after false bs) (cond (eqb b 37) (begins_after true bs) (suc (begins_after true bs))))) bs
-          (cond t (blank_step s) (Ok (record s { mode = letter_mode s.mode b })))) [
-            | true ↦ subst (λ k. Continues c k bs (blank_step s)) (by_decided (decided_in s.mode)) (continues_blank c bs s.mode s.line s.progress l)
-            | false ↦ continues_letter c b bs s.mode s.line s.progress l
-          ]
-    ])
+-- in the first line, or behind it
+met_first : (n : ℕ) (lines : List (List Word)) (p : Progress) (l : RawLine) (ls : List RawLine) → AreRaw (l ∷ ls) → IsAt lines [] p
+    → MeetsBidLine (standing Start n p) (text_of (l ∷ ls))
+    → ((more : List (List Word)) (q : Progress) → IsAt more [] q → MeetsBidLine (standing Start (suc n) q) (text_of ls) → 3 < length more + counted (suc n) ls)
+    → 3 < length lines + counted n (l ∷ ls)
+met_first n lines p l ls r at m next = by l.ended refl
   where
-    by_decided : (d : Bool) → begins_after d bs ≡ cond d (begins_after true bs) (begins_after false bs)
-    by_decided true = refl
-    by_decided false = refl
+    s : State
+    s = standing Start n p
 
-here_counts : (m : Mode) (stage : Stage) (c : ℕ) → stage ≡ Bid → IsInLine m → Begun m stage c → 4 ≤ c
-here_counts Between stage c e i l = subst (λ (s : Stage). suc (rank s) ≤ c) e l
-here_counts (Inside w) stage c e i l = subst (λ (s : Stage). suc (rank s) ≤ c) e l
-here_counts _ stage c e i l = absurd i
+    raw : AllByRecursion IsNoEnd l.bytes × AreRaw ls
+    raw = tail_raw l ls r
 
-four_begin : (bytes : List ℕ) (s : State) (c : ℕ) → Begun s.mode s.progress.stage c → MeetsBidLine s bytes → 4 ≤ c + begins_after (decided_in s.mode) bytes
-four_begin [] s c l m = let here : 4 ≤ c = here_counts s.mode s.progress.stage c m.0 m.1 l in omega arith
-four_begin (b ∷ bs) s c l m = ⊎_elim (search (rules, here_counts))
-    (λ (later : IsOkAnd (byte_step s b) (λ t. MeetsBidLine t bs)). step (byte_step s b) (continues_byte c b bs s l) later (λ t k g n. four_begin bs t k g n)) m
-  where
-    step : (r : Scan) → Continues c (begins_after (decided_in s.mode) (b ∷ bs)) bs r → IsOkAnd r (λ t. MeetsBidLine t bs)
-        → ((t : State) (k : ℕ) → Begun t.mode t.progress.stage k → MeetsBidLine t bs → 4 ≤ k + begins_after (decided_in t.mode) bs)
-        → 4 ≤ c + begins_after (decided_in s.mode) (b ∷ bs)
-    step (Ok t) g n again = let more : 4 ≤ g.count + begins_after (decided_in t.mode) bs = again t g.count g.begun n in
-        let le : g.count + begins_after (decided_in t.mode) bs ≤ c + begins_after (decided_in s.mode) (b ∷ bs) = g.fewer in omega arith
-    step (Err e) g n again = absurd n
+    line : Line
+    line = record { number = n; words = line_words l.bytes; ended = true }
+
+    here : MeetsBidLine s l.bytes → 3 < length lines + counted n (l ∷ ls)
+    here k =
+        let found = met_fresh Start n lines p l.bytes (λ b. refl, λ i. i) refl at raw.0 k in
+        let three : 3 ≤ length lines = found.0 in
+        let more : counted n (l ∷ ls) ≡ suc (counted (suc n) ls) = counted_more n l ls found.1 in
+        omega arith
+
+    judged : (o : Scanned) → LineIs true lines line o → is_significant (line_words l.bytes) ≡ true → MeetsBehind n ls o → 3 < length lines + counted n (l ∷ ls)
+    judged (Ok q) f e k =
+        let rest : 3 < length (lines ++ line_words l.bytes ∷ []) + counted (suc n) ls = next (lines ++ line_words l.bytes ∷ []) q f.1 k in
+        let more : counted n (l ∷ ls) ≡ suc (counted (suc n) ls) = counted_more n l ls e in
+        omega (arith, length-append lines (line_words l.bytes ∷ []))
+    judged (Err place) f e k = absurd k
+
+    behind : (c : Bool) → is_significant (line_words l.bytes) ≡ c → MeetsBehind n ls (cond c (whole_line line p) (Ok p)) → 3 < length lines + counted n (l ∷ ls)
+    behind true e k = judged (whole_line line p) (whole_line_step true lines line p refl (significant_pos (line_words l.bytes) e, words_are l.bytes) at) e k
+    behind false e k =
+        let rest : 3 < length lines + counted (suc n) ls = next lines p at k in
+        let same : counted n (l ∷ ls) ≡ counted (suc n) ls = counted_same n l ls e in
+        omega arith
+
+    at_end : (o : Scan) → scan s l.bytes ≡ o → IsOkAnd o (λ t. MeetsBidLine t []) → MeetsBidLine s l.bytes
+    at_end (Ok t) q i = met_at_end s t l.bytes q i
+    at_end (Err c) q i = absurd i
+
+    last : (ls : List RawLine) → AreRaw (l ∷ ls) → l.ended ≡ false → IsOkAnd (scan s l.bytes) (λ t. MeetsBidLine t (text_of ls)) → MeetsBidLine s l.bytes
+    last [] r e k = at_end (scan s l.bytes) refl k
+    last (m ∷ ms) r e k = absurd (both_ways l.ended e r.1)
+
+    by : (t : Bool) → l.ended ≡ t → 3 < length lines + counted n (l ∷ ls)
+    by true e = ⊎_elim (λ (k : MeetsBidLine s (l.bytes ++ 10 ∷ [])). here (met_feed n p l.bytes k))
+        (λ (k : IsOkAnd (scan s (l.bytes ++ 10 ∷ [])) (λ u. MeetsBidLine u (text_of ls))). behind (is_significant (line_words l.bytes)) refl
+        (subst (λ (o : Scan). IsOkAnd o (λ u. MeetsBidLine u (text_of ls))) (line_and_rest n p l.bytes [] raw.0) k))
+        (met_split s (l.bytes ++ 10 ∷ []) (text_of ls) (subst (MeetsBidLine s) (sym (append_assoc l.bytes (10 ∷ []) (text_of ls)))
+        (subst (λ t. MeetsBidLine s (l.bytes ++ cond t (10 ∷ text_of ls) (text_of ls))) e m)))
+    by false e = ⊎_elim here (λ (k : IsOkAnd (scan s l.bytes) (λ t. MeetsBidLine t (text_of ls))). here (last ls r e k))
+        (met_split s l.bytes (text_of ls) (subst (λ t. MeetsBidLine s (l.bytes ++ cond t (10 ∷ text_of ls) (text_of ls))) e m))
+
+met_lines : (n : ℕ) (lines : List (List Word)) (p : Progress) (ls : List RawLine) → AreRaw ls → IsAt lines [] p
+    → MeetsBidLine (standing Start n p) (text_of ls) → 3 < length lines + counted n ls
+met_lines n lines p [] r at m = absurd m.1
+met_lines n lines p (l ∷ ls) r at m = met_first n lines p l ls r at m (λ more q f k. met_lines (suc n) more q ls (tail_raw l ls r).1 f k)
 
 -- a bid line met in the bytes that are decided is in the text
 pub bid_line_met : (k : PlainBid → PlainBid) (text token back : List ℕ) → blank_returns text ≡ token ++ back → MeetsBidLine (first_state k) token
     → has_bid_line text ≡ true
 bid_line_met k text token back e m =
-    let four : 4 ≤ 0 + begins_after false token = four_begin token (first_state k) 0 (omega arith) m in
-    let more : begins_after false token ≤ begins_after false (token ++ back) = begins_more false token back in
-    search (rules, begins_are, lt-ltb)
+    let all : List ℕ = blank_returns text in
+    let there : MeetsBidLine (first_state k) all = subst (MeetsBidLine (first_state k)) (sym e) (met_more (first_state k) token back m) in
+    let four : 3 < 0 + counted 1 (raw_lines all) = met_lines 1 [] (start k) (raw_lines all) (AreRaw-lines all) (at_start k)
+    (subst (MeetsBidLine (first_state k)) (sym (text_of-lines all)) there) in
+    lt-ltb 3 (counted 1 (raw_lines all)) (omega arith)

@@ -130,7 +130,7 @@ abbrev pub fresh_outcome : ℕ → List Word → Progress → Scan
 fresh_outcome n ws p = cond (is_significant ws) (lifted n Between (words_read ws p)) (Ok (standing (quiet ws) n p))
 
 -- the words of a line that begins with a letter
-first_of_words : (b : ℕ) (bs : List ℕ) → is_blank b ≡ false → (t : List ℕ) × (ts : List Word) × (line_words (b ∷ bs) ≡ (b ∷ t) ∷ ts)
+pub first_of_words : (b : ℕ) (bs : List ℕ) → is_blank b ≡ false → (t : List ℕ) × (ts : List Word) × (line_words (b ∷ bs) ≡ (b ∷ t) ∷ ts)
 first_of_words b bs e =
     elim (begins_word bs) as (λ q. (t : List ℕ) × (ts : List Word)
     × (cond (is_blank b) (line_words bs) (cond q (with_letter b (line_words bs)) ((b ∷ []) ∷ line_words bs)) ≡ (b ∷ t) ∷ ts)) [

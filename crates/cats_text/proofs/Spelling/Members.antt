@@ -4,7 +4,7 @@ use Rattle.cats_text.proofs.Common.{rules, ◌≡◌, ◌≢◌, ℕ, ◌+◌, �
 use Rattle.cats_text.proofs.Common.{◌++◌, Some, length, Option, None, refl, sym, ap, ◌∙◌, subst, arith, both_ways, eqb-true, ltb-true, ltb-false, leb-true}
 use Rattle.cats_text.proofs.Common.{leb-false, or_cases, or_left, or_right, and_parts, false_from_ne_true, cases_lt, list_any-append, AllByRecursion, list_any}
 use Rattle.cats_text.proofs.Common.{find, AreBelow, IsRising, has_good, PlainBid, IsDummyBelow, dummy_good, goods_of, AreDistinct, rising_of, has_head}
-use Rattle.cats_text.proofs.Common.{has_tail, has_cases, common_steps, filter, option_map}
+use Rattle.cats_text.proofs.Common.{has_tail, has_cases, has_below, has-filter, AreBelow-from_has, and_from, lt-ltb, common_steps, filter, option_map}
 use Rattle.cats_text.proofs.Spelling.Rising.{has_rising_of, rising_of_is}
 use Rattle.cats_text.proofs.Spelling.Marks.{AreDistinct-push}
 
@@ -32,10 +32,6 @@ has_behind xs ys g h = list_any-append (λ x. eqb x g) xs ys ∙ or_right (has_g
 pub has_one : (x g : ℕ) → Has (x ∷ []) g → x ≡ g
 has_one x g h = ⊎_elim (λ (e : x ≡ g). e) (λ (k : Has [] g). absurd (has_nothing g k)) (has_cases x [] g h)
 
-pub all_from_has : (P : ℕ → Type 0) (xs : List ℕ) → ((g : ℕ) → Has xs g → P g) → AllByRecursion P xs
-all_from_has P [] h = tt
-all_from_has P (x ∷ xs) h = (h x (has_head x xs), all_from_has P xs (λ g k. h g (has_tail x xs g k)))
-
 pub has_from_all : (P : ℕ → Type 0) (xs : List ℕ) → AllByRecursion P xs → (g : ℕ) → Has xs g → P g
 has_from_all P [] a g h = absurd (has_nothing g h)
 has_from_all P (x ∷ xs) a g h = ⊎_elim (λ (e : x ≡ g). subst P e a.0) (λ (k : Has xs g). has_from_all P xs a.1 g k) (has_cases x xs g h)
@@ -50,12 +46,10 @@ abbrev pub real : ℕ → List ℕ → List ℕ
 real G ns = filter (λ v. ltb v G) ns
 
 has_real : (G : ℕ) (ns : List ℕ) (g : ℕ) → Has ns g → g < G → Has (real G ns) g
-has_real G [] g h l = absurd (has_nothing g h)
-has_real G (v ∷ vs) g h l = grind (arith, common_steps, has_cases, has_head, has_tail, ltb-false, (has_real G vs g))
+has_real G ns g h l = has-filter (λ v. ltb v G) ns g ∙ and_from (ltb g G) (has_good ns g) (lt-ltb g G l) h
 
 real_has : (G : ℕ) (ns : List ℕ) (g : ℕ) → Has (real G ns) g → (g < G) × Has ns g
-real_has G [] g = λ h. absurd (has_nothing g h)
-real_has G (v ∷ vs) g = grind (arith, common_steps, has_cases, has_head, has_tail, ltb-true, (real_has G vs g))
+real_has G ns g h = let both = and_parts (ltb g G) (has_good ns g) (sym (has-filter (λ v. ltb v G) ns g) ∙ h) in (ltb-true g G both.0, both.1)
 
 -- ---- the first one from G on
 
@@ -109,7 +103,7 @@ bid_on_same G D price ns p g = same_test (has_good ns g) (has_good (goods_of G (
     (search (rules, rising_has, dummy_has, has_append))
 
 pub bid_on_below : (G : ℕ) (ns : List ℕ) → AreBelow G (rising_of (real G ns))
-bid_on_below G ns = all_from_has (λ g. g < G) (rising_of (real G ns)) (λ g h. (rising_has G ns g h).0)
+bid_on_below G ns = AreBelow-from_has G (rising_of (real G ns)) (λ g h. (rising_has G ns g h).0)
 
 pub bid_on_real : (G : ℕ) (ns : List ℕ) (g : ℕ) → Has ns g → g < G → 0 < length (rising_of (real G ns))
 bid_on_real G ns g h l = length_from_has (rising_of (real G ns)) g (has_rising G ns g h l)
@@ -135,7 +129,7 @@ module _ (G D : ℕ) (goods : List ℕ) (dummy : Option ℕ) (ns : List ℕ)
     (rising : IsRising goods) (below : AreBelow G goods) (low : IsDummyBelow D dummy)
     (same : (g : ℕ) → has_good ns g ≡ has_good (goods ++ dummy_good G dummy) g) where
   good_low : (g : ℕ) → Has goods g → g < G
-  good_low g h = has_from_all (λ n. n < G) goods below g h
+  good_low g h = has_below G goods g below h
 
   parts : (g : ℕ) → Has ns g → Has goods g ⊎ Has (dummy_good G dummy) g
   parts g h = has_append goods (dummy_good G dummy) g (sym (same g) ∙ h)

@@ -6,19 +6,15 @@ use Rattle.cats_text.proofs.Common.{significant_words, lines_fault, first_fault,
 use Rattle.cats_text.proofs.Common.{byte_step, blank_step, end_step, PlainBid, Start, common_steps}
 use Rattle.cats_text.proofs.Scanning.Lines.{scan-append, IsNoEnd, standing, fresh_outcome, lifted, quiet, from_start, byte_blank, words_blank}
 use Rattle.cats_text.proofs.Parsing.WholeLines.{words_read, on_line, reading_then, Scanned, scanned_then, lines_scan, lines_step, LinesAre, IsLine, IsWord}
-use Rattle.cats_text.proofs.Parsing.WholeLines.{AreEndedButLast}
+use Rattle.cats_text.proofs.Parsing.WholeLines.{AreEndedButLast, neither}
 use Rattle.cats_text.proofs.Parsing.States.{IsAt}
-use Rattle.cats_text.proofs.Scanning.AllBytes.{text_of, text_of-lines, AreRaw, AreRaw-lines, raw_scan, whole_text, outcome, line_outcome, open_outcome}
-use Rattle.cats_text.proofs.Scanning.AllBytes.{line_and_rest, outcome_from}
+use Rattle.cats_text.proofs.Scanning.AllBytes.{text_of, text_of-lines, AreRaw, AreRaw-lines, tail_raw, raw_scan, whole_text, outcome, line_outcome}
+use Rattle.cats_text.proofs.Scanning.AllBytes.{open_outcome, line_and_rest, outcome_from}
 
 -- ---- the significant lines alone
 
 abbrev kept : List Line → List Line
 kept ls = filter (λ l. is_significant l.words) ls
-
-tail_raw : (l : RawLine) (ls : List RawLine) → AreRaw (l ∷ ls) → AreRaw ls
-tail_raw l [] r = tt
-tail_raw l (m ∷ ls) r = r.2
 
 last_raw : (l : RawLine) (ls : List RawLine) → AreRaw (l ∷ ls) → l.ended ≡ false → ls ≡ []
 last_raw l [] r e = refl
@@ -27,10 +23,6 @@ last_raw l (m ∷ ls) r e = absurd (both_ways l.ended e r.1)
 scanned_same : (r : Scanned) (f g : Progress → Scanned) → ((q : Progress) → f q ≡ g q) → scanned_then r f ≡ scanned_then r g
 scanned_same (Ok q) f g h = h q
 scanned_same (Err e) f g h = refl
-
-neither : (a b : Bool) → (a || b) ≡ false → (a ≡ false) × (b ≡ false)
-neither true b e = absurd (both_ways true e refl)
-neither false b e = (refl, e)
 
 -- one line and the rest, the rest being known
 raw_line : (whole : Bool) (n : ℕ) (l : RawLine) (ls : List RawLine) (p : Progress) (count : ℕ) → AreRaw (l ∷ ls)
@@ -45,7 +37,7 @@ pub raw_scan-lines : (whole : Bool) (n : ℕ) (ls : List RawLine) (p : Progress)
 raw_scan-lines false n [] p count r c = refl
 raw_scan-lines true n [] p count r c = grind (arith, common_steps)
 raw_scan-lines whole n (l ∷ ls) p count r c =
-    raw_line whole n l ls p count r (λ q. raw_scan-lines whole (suc n) ls q count (tail_raw l ls r) (λ w. let e : suc count ≡ n + length (l ∷ ls) = c w in
+    raw_line whole n l ls p count r (λ q. raw_scan-lines whole (suc n) ls q count (tail_raw l ls r).1 (λ w. let e : suc count ≡ n + length (l ∷ ls) = c w in
     omega arith))
 
 -- ---- they are lines
@@ -73,7 +65,7 @@ ended_or_last l (m ∷ ls) n r h = r.1
 
 pub kept_ends : (n : ℕ) (ls : List RawLine) → AreRaw ls → AreEndedButLast (kept (numbered n ls))
 kept_ends n [] r = tt
-kept_ends n (l ∷ ls) r = grind (arith, common_steps, ended_or_last, ends_prefix, tail_raw, (kept_ends (suc n) ls (tail_raw l ls r)))
+kept_ends n (l ∷ ls) r = grind (arith, common_steps, ended_or_last, ends_prefix, tail_raw, (kept_ends (suc n) ls (tail_raw l ls r).1))
 
 -- ---- before the first line
 
@@ -179,17 +171,13 @@ open_text : (n : ℕ) (p : Progress) (ls : List RawLine) → AreRaw ls → EndsB
 open_text n p [] r b = refl
 open_text n p (l ∷ ls) r b = elim l.ended as (λ t. l.ended ≡ t → outcome (scan (standing Start n p) (l.bytes ++ cond t (10 ∷ text_of ls) (text_of ls)))
     ≡ cond (t || false) (scanned_then (line_outcome n (line_words l.bytes) p) (raw_scan false (suc n) ls)) (open_outcome n (line_words l.bytes) p)) [
-      | true ↦ λ (e : l.ended ≡ true). ap outcome (line_and_rest n p l.bytes (text_of ls) (head_raw l ls r))
+      | true ↦ λ (e : l.ended ≡ true). ap outcome (line_and_rest n p l.bytes (text_of ls) (tail_raw l ls r).0)
           ∙ outcome_from (line_outcome n (line_words l.bytes) p) (λ q. scan (standing Start (suc n) q) (text_of ls))
           ∙ scanned_same (line_outcome n (line_words l.bytes) p) (λ q. outcome (scan (standing Start (suc n) q) (text_of ls))) (raw_scan false (suc n) ls)
-          (λ q. open_text (suc n) q ls (tail_raw l ls r) (tail_blank l ls b))
+          (λ q. open_text (suc n) q ls (tail_raw l ls r).1 (tail_blank l ls b))
       | false ↦ λ (e : l.ended ≡ false). at_last l ls r b e
     ] refl
   where
-    head_raw : (l : RawLine) (ls : List RawLine) → AreRaw (l ∷ ls) → AllByRecursion IsNoEnd l.bytes
-    head_raw l [] r = r.0
-    head_raw l (m ∷ ms) r = r.0
-
     at_last : (l : RawLine) (ls : List RawLine) → AreRaw (l ∷ ls) → EndsBlank (l ∷ ls) → l.ended ≡ false
         → outcome (scan (standing Start n p) (l.bytes ++ text_of ls)) ≡ open_outcome n (line_words l.bytes) p
     at_last l [] r b e = let k = b e in

@@ -7,9 +7,8 @@ use Rattle.cats_text.proofs.Common.{HasBids, whole, ReadFault, Header, common_st
 use Rattle.cats_text.proofs.Scanning.AllBytes.{outcome}
 use Rattle.cats_text.proofs.Texts.FirstFaults.{WholeIs, whole_fault}
 use Rattle.cats_text.proofs.Scanning.Pieces.{CompleteIs, complete_is, end_of_text, waiting, blank_returns-settled, settled-append}
-use Rattle.cats_text.proofs.Scanning.BidLines.{bid_line_met}
+use Rattle.cats_text.proofs.Scanning.BidLines.{bid_line_met, met_at_end}
 use Rattle.cats_text.proofs.Parsing.States.{IsAt, kept_slots}
-use Rattle.cats_text.proofs.Keeping.{scan_keeping, end_keeping}
 use Rattle.cats_text.proofs.Spelling.Files.{spells_from_no_fault, spelled_value}
 use Rattle.cats_text.proofs.Scanning.Lines.{scan-append}
 
@@ -83,10 +82,9 @@ bids_are_said _ p kept at due = absurd (both_ways true due refl)
 
 -- or has the sizes, and if each bid is kept whole the bids, of the file that the bytes spell
 pub ends_at_parts : (k : PlainBid → PlainBid) (bytes : List ℕ) (s t : State) → scan (first_state k) (settled bytes) ≡ ok s → end_of (waits bytes) s ≡ ok t
-    → SpellsParts k bytes t.progress.header (filled t.progress.slots)
-ends_at_parts k bytes s t h end =
+    → t.progress.keep ≡ k → SpellsParts k bytes t.progress.header (filled t.progress.slots)
+ends_at_parts k bytes s t h end kept =
     let last = whole_at_end k bytes s (ok t) h end in
-    let kept : t.progress.keep ≡ k = end_keeping (waits bytes) s t end ∙ scan_keeping (first_state k) s (settled bytes) h in
     let file : PlainFile = file_of_lines (significant_words bytes) in
     let spelled : Spells bytes file = spells_from_no_fault bytes last.0 in
     let at = subst (λ (lines : List (List Word)). IsAt lines [] t.progress) spelled.lines_are last.1 in
@@ -104,17 +102,6 @@ ends_at_parts k bytes s t h end =
 -- the machine keeps nothing before a bid line
 pub meets_bid_line : (k : PlainBid → PlainBid) (bytes : List ℕ) → MeetsBidLine (first_state k) (settled bytes) → has_bid_line bytes ≡ true
 meets_bid_line k bytes m = bid_line_met k bytes (settled bytes) (waiting (waits bytes)) (blank_returns-settled bytes) m
-
-met_at_end : (s t : State) (bytes : List ℕ) → scan s bytes ≡ ok t → IsInBidLine t → MeetsBidLine s bytes
-met_at_end s t [] h i = grind (arith, common_steps)
-met_at_end s t (b ∷ bs) h i = inr (step (byte_step s b) h (λ u e. met_at_end u t bs e i))
-  where
-    no : (e : ReadFault) → err e ≡ ok t → ⊥
-    no e q = cc
-
-    step : (r : Scan) → and_then r (λ u. scan u bs) ≡ ok t → ((u : State) → scan u bs ≡ ok t → MeetsBidLine u bs) → IsOkAnd r (λ u. MeetsBidLine u bs)
-    step (Ok u) e next = next u e
-    step (Err c) e next = absurd (no c e)
 
 -- there are bids only behind a bid line
 bids_behind : (lines : List (List Word)) (p : Progress) → IsAt lines [] p → 0 < length p.slots → 3 < length lines

@@ -5,7 +5,7 @@ use Rattle.cats_text.specs.Numbers.{GREATEST_PRICE}
 use Rattle.goods_set.specs.Bundles.{has_good}
 use Rattle.bid_file.specs.Files.{PlainBid}
 use Rattle.cats_text.specs.FileLines.{rising_of, put_slot}
-use Rattle.cats_text.specs.Internal.Keywords.{keyword_text}
+use Rattle.cats_text.specs.Internal.Machine.{keyword_text}
 use Rattle.cats_text.specs.Internal.Progress.{Progress}
 use Rattle.cats_text.specs.Internal.Kept.{is_some_bid}
 use Rattle.cats_text.specs.declared.read_fault.Kind.{Kind}
@@ -16,6 +16,7 @@ use Rattle.cats_text.specs.declared.word.Word.{Word}
 use Rattle.cats_text.specs.declared.word.Word.TheVariants as words
 use Rattle.cats_text.specs.declared.parser.Stage.{Stage}
 use Rattle.cats_text.specs.declared.parser.Stage.TheVariants.{Goods, Bids, Dummy, Bid}
+use Rattle.cats_text.specs.declared.parser.Column.{Column}
 use Rattle.cats_text.specs.declared.parser.Column.TheVariants.{First, Second, Later, Ended}
 use Rattle.bid_file.specs.declared.limits.TheConstants.{MAX_GOODS, MAX_BIDS, MAX_DUMMY}
 
@@ -109,21 +110,21 @@ good_or_end_read p _ = Err kinds.NotANumber
 
 -- ---- a word, by its column
 
-abbrev pub word_read : Progress → Word → Reading
-word_read p w = elim p.column [
-  | First ↦ elim p.stage [
+abbrev pub read_at : Column → Stage → Progress → Word → Reading
+read_at column stage p w = elim column [
+  | First ↦ elim stage [
     | Goods ↦ keyword_read p keywords.Goods w
     | Bids ↦ keyword_read p keywords.Bids w
     | Dummy ↦ keyword_read p keywords.Dummy w
     | Bid ↦ number_read p w
   ]
-  | Second ↦ elim p.stage [
+  | Second ↦ elim stage [
     | Goods ↦ header_number_read p w
     | Bids ↦ header_number_read p w
     | Dummy ↦ header_number_read p w
     | Bid ↦ price_read p w
   ]
-  | Later ↦ elim p.stage [
+  | Later ↦ elim stage [
     | Goods ↦ Err kinds.Header
     | Bids ↦ Err kinds.Header
     | Dummy ↦ Err kinds.Header
@@ -131,6 +132,9 @@ word_read p w = elim p.column [
   ]
   | Ended ↦ Err kinds.AfterEnd
 ]
+
+abbrev pub word_read : Progress → Word → Reading
+word_read p w = read_at p.column p.stage p w
 
 -- ---- the end of a line
 
@@ -145,33 +149,42 @@ with_bid p = record p {
   goods = [];
 }
 
-abbrev pub header_line_read : Progress → Stage → Reading
-header_line_read p next = elim p.column [
+abbrev pub header_line_at : Column → Progress → Stage → Reading
+header_line_at column p next = elim column [
   | First ↦ Err kinds.Header
   | Second ↦ Err kinds.Header
   | Later ↦ Ok (record p { column = First; stage = next })
   | Ended ↦ Err kinds.Header
 ]
 
-abbrev pub bid_read : Progress → Reading
-bid_read p = elim p.column [
+abbrev pub header_line_read : Progress → Stage → Reading
+header_line_read p next = header_line_at p.column p next
+
+abbrev pub bid_at : Column → Progress → Reading
+bid_at column p = elim column [
   | First ↦ Err kinds.NoEnd
   | Second ↦ Err kinds.NoEnd
   | Later ↦ Err kinds.NoEnd
   | Ended ↦ Ok (with_bid p)
 ]
 
+abbrev pub bid_read : Progress → Reading
+bid_read p = bid_at p.column p
+
 -- `#` where a good or `#` is due, and the end of the line behind it
 abbrev pub bid_closed : Progress → Reading
 bid_closed p = if length p.goods == 0 then Err kinds.EmptyBundle else Ok (with_bid p)
 
-abbrev pub line_read : Progress → Reading
-line_read p = elim p.stage [
-  | Goods ↦ header_line_read p Bids
-  | Bids ↦ header_line_read p Dummy
-  | Dummy ↦ header_line_read p Bid
-  | Bid ↦ bid_read p
+abbrev pub line_at : Column → Stage → Progress → Reading
+line_at column stage p = elim stage [
+  | Goods ↦ header_line_at column p Bids
+  | Bids ↦ header_line_at column p Dummy
+  | Dummy ↦ header_line_at column p Bid
+  | Bid ↦ bid_at column p
 ]
+
+abbrev pub line_read : Progress → Reading
+line_read p = line_at p.column p.stage p
 
 -- ---- the end of the input
 

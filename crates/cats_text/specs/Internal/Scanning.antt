@@ -152,9 +152,10 @@ abbrev pub Scans : List ℕ → State → State → Result (Unit {0}) Kind → T
 Scans bytes = Steps (λ s. MeetsBidLine s bytes) (λ s. scan s bytes)
 
 -- the header lines, and what is kept of the bids, at the end of the input
-abbrev pub ArePartsOf : {K : Type 0} → (K → List PlainBid) → Header × K → Scan → Type 0
-ArePartsOf bids parts (Ok s) = (parts.0 ≡ s.progress.header) × (bids parts.1 ≡ filled s.progress.slots)
-ArePartsOf bids parts (Err e) = ⊥
+abbrev pub ArePartsOf : {K : Type 0} → (PlainBid → PlainBid) → (K → List PlainBid) → Header × K → Scan → Type 0
+ArePartsOf keep bids parts (Ok s) =
+    (parts.0 ≡ s.progress.header) × (bids parts.1 ≡ filled s.progress.slots) × (s.progress.keep ≡ keep)
+ArePartsOf keep bids parts (Err e) = ⊥
 
 -- bids came
 abbrev pub HasBids : Scan → Type 0
@@ -162,9 +163,10 @@ HasBids (Ok s) = 0 < length s.progress.slots
 HasBids (Err e) = ⊥
 
 -- a call at the end of the input gave what the machine gives, or lacked memory in a bid line or for bids that came
-abbrev pub Finishes : {K : Type 0} → (K → List PlainBid) → Bool → State → Result (Header × K) ReadFault → Type 0
-Finishes bids waiting s (Ok parts) = ArePartsOf bids parts (end_of waiting s)
-Finishes bids waiting s (Err e) = (end_of waiting s ≡ Err e)
+abbrev pub Finishes : {K : Type 0} → (PlainBid → PlainBid) → (K → List PlainBid) → Bool → State
+    → Result (Header × K) ReadFault → Type 0
+Finishes keep bids waiting s (Ok parts) = ArePartsOf keep bids parts (end_of waiting s)
+Finishes keep bids waiting s (Err e) = (end_of waiting s ≡ Err e)
     ⊎ ((e ≡ fault_at 0 Memory) × (IsInBidLine s ⊎ HasBids (end_of waiting s)))
 
 -- What is left of a scan does to the state reached what the whole does to the first, and a CR waits at the end.
