@@ -13,11 +13,11 @@ use Rattle.analysis.specs.declared.winners.allocation_verdict.AllocationVerdict.
 use Rattle.analysis.specs.declared.winners.allocation_verdict.AllocationVerdict.TheVariants.{Revenue, SharedGood}
 use Rattle.analysis.specs.declared.winners.allocation_verdict.AllocationVerdict.TheVariants.{SharedBidder}
 
--- the first of the named numbers that the file does not have
+-- the first named number that the file does not have
 abbrev pub missing_bid : PlainFile → List ℕ → Option ℕ
 missing_bid f named = find (λ i. nat_le (length f.bids) i) named
 
--- the numbers of the named bids, rising, so each is there once
+-- the rising numbers of the named bids, each once
 abbrev pub named_bids : PlainFile → List ℕ → List ℕ
 named_bids f named = filter (has_good named) (numbers_of f)
 
@@ -57,8 +57,7 @@ abbrev pub verdict_unless : Option ℕ → AllocationVerdict → Result Allocati
 verdict_unless None verdict = Ok verdict
 verdict_unless (Some i) verdict = Err i
 
--- the verdict on named bids, in any order and with any of them repeated; or the first number that the file does not
--- have
+-- the named bids' revenue, or the first two that cannot both win; or the first missing number
 abbrev pub allocation_verdict : PlainFile → List ℕ → Result AllocationVerdict ℕ
 allocation_verdict f named =
     let winners = named_bids f named in
@@ -75,13 +74,13 @@ pub record IsFirstClash (f : PlainFile) (named : List ℕ) (i j : ℕ) : Type 0 
   pub earlier : (k l : ℕ) → Contains named k → Contains named l → k < l → (k < i) ⊎ ((k ≡ i) × (l < j))
       → can_both_win (bid_at f k) (bid_at f l) ≡ true
 
--- the least good that is in two bundles
+-- the least good of both bundles
 pub record IsLeastShared (a b : List ℕ) (good : ℕ) : Type 0 where
   pub first : has_good a good ≡ true
   pub second : has_good b good ≡ true
   pub least : (g : ℕ) → has_good a g ≡ true → has_good b g ≡ true → good ≤ g
 
--- two bids of one XOR bidder, which share no good
+-- two bids that share no good and have this dummy good
 pub record AreOneBidders (a b : PlainBid) (dummy : ℕ) : Type 0 where
   pub apart : AreApart a.goods b.goods
   pub first : a.dummy ≡ Some dummy
@@ -93,13 +92,14 @@ pub record AreOneBidders (a b : PlainBid) (dummy : ℕ) : Type 0 where
 abbrev pub pair_text : ℕ → ℕ → List ℕ
 pair_text i j = codes "bids " ++ decimal i ++ codes " and " ++ decimal j
 
+-- the line of a verdict
 abbrev pub allocation_text : AllocationVerdict → List ℕ
 allocation_text (Revenue millionths) = codes "revenue " ++ price_text millionths ++ codes "\n"
 allocation_text (SharedGood i j good) = pair_text i j ++ (codes " share good " ++ decimal good ++ codes "\n")
 allocation_text (SharedBidder i j dummy) =
     pair_text i j ++ (codes " are of one XOR bidder (dummy good " ++ decimal dummy ++ codes ")\n")
 
--- the exit status
+-- 1 if two named bids cannot both win, else 0
 abbrev pub allocation_status : AllocationVerdict → ℕ
 allocation_status (Revenue millionths) = 0
 allocation_status (SharedGood i j good) = 1

@@ -13,7 +13,7 @@ abbrev pub share_dummy : Option ℕ → Option ℕ → Bool
 share_dummy None other = false
 share_dummy (Some d) other = is_dummy d other
 
--- whether two bids can both win
+-- whether two bids share no good and no dummy good
 abbrev pub can_both_win : PlainBid → PlainBid → Bool
 can_both_win a b = are_apart a.goods b.goods && not (share_dummy a.dummy b.dummy)
 
@@ -22,16 +22,16 @@ abbrev pub can_all_win : PlainFile → List ℕ → Bool
 can_all_win f [] = true
 can_all_win f (i ∷ rest) = list_all (λ j. can_both_win (bid_at f i) (bid_at f j)) rest && can_all_win f rest
 
--- an allocation, by the numbers of the winners: they rise, each is that of a bid, and the bids can all win
+-- rising numbers of bids, each two of which can both win
 pub record IsAllocation (f : PlainFile) (winners : List ℕ) : Type 0 where
   pub numbers : IsBundle (length f.bids) winners
   pub win : can_all_win f winners ≡ true
 
--- the sum of the winners' prices, in millionths
+-- the sum of the winners' prices
 abbrev pub revenue : PlainFile → List ℕ → ℕ
 revenue f winners = sum_by (λ i. (bid_at f i).price) winners
 
--- all allocations: of all rising lists of bid numbers those whose bids can all win
+-- all allocations of a file
 abbrev pub allocations : PlainFile → List (List ℕ)
 allocations f = filter (can_all_win f) (all_bundles (length f.bids))
 
@@ -43,7 +43,7 @@ greatest (n ∷ rest) = max n (greatest rest)
 abbrev pub greatest_revenue : PlainFile → ℕ
 greatest_revenue f = greatest (map (revenue f) (allocations f))
 
--- an allocation that has it
+-- an allocation of the greatest revenue
 pub record AreWinners (f : PlainFile) (winners : List ℕ) : Type 0 where
   pub allocation : IsAllocation f winners
   pub greatest : revenue f winners ≡ greatest_revenue f

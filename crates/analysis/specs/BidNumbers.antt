@@ -7,7 +7,7 @@ use Rattle.cats_text.specs.Numbers.{digits_alone, number_of}
 use Rattle.analysis.specs.declared.winners.bid_numbers.BidNumbersFault.{BidNumbersFault}
 use Rattle.analysis.specs.declared.winners.bid_numbers.BidNumbersFault.TheVariants.{NotANumber, Memory}
 
--- the lines of a text: LF divides them
+-- the lines of a text
 abbrev pub lines_in : List ℕ → List (List ℕ)
 lines_in text = slice_split (λ b. b == 10) text
 
@@ -30,7 +30,9 @@ is_bid_number w = digits_alone w && nat_le (number_of w) 4294967295
 abbrev pub bid_number : Word → Option ℕ
 bid_number w = if is_bid_number w then Some (number_of w) else None
 
--- the number of the first line with a word that is not a number, where the first line has the number n
+-- the first line with a word that is not a bid's number
+--
+-- The first of these lines has the number n.
 abbrev pub faulty_line : ℕ → List (List ℕ) → Option ℕ
 faulty_line n [] = None
 faulty_line n (line ∷ lines) = if list_all is_bid_number (words_in line) then faulty_line (n + 1) lines else Some n
@@ -38,7 +40,7 @@ faulty_line n (line ∷ lines) = if list_all is_bid_number (words_in line) then 
 abbrev pub all_words : List (List ℕ) → List Word
 all_words lines = flat_map words_in lines
 
--- the numbers in a text
+-- the bids' numbers in a text, between blanks and line ends
 abbrev pub bid_numbers : List ℕ → List ℕ
 bid_numbers text = map number_of (all_words (lines_in text))
 
@@ -47,7 +49,7 @@ abbrev pub begins_with_number : List Word → Bool
 begins_with_number [] = false
 begins_with_number (w ∷ ws) = is_bid_number w
 
--- why a text is refused; memory is wanted for a number alone
+-- why a text gives no bids' numbers: a line has another word, or want of memory after a number
 abbrev pub RefusesNumbers : List ℕ → BidNumbersFault → Type 0
 RefusesNumbers text (NotANumber line) = faulty_line 1 (lines_in text) ≡ Some line
 RefusesNumbers text Memory = begins_with_number (all_words (lines_in text)) ≡ true

@@ -25,14 +25,14 @@ pub record AreNumbered (f : PlainFile) (bids : List NumberedBid) : Type 0 where
   pub each : (k : ℕ) (d : NumberedBid) → k < length bids
       → ((slice_index_or bids k d).number ≡ k) × (seen_bid (slice_index_or bids k d).bid ≡ bid_at f k)
 
--- the same bids in order
+-- the bids of the file f by bidder, goods, falling price and number
 pub record AreInOrder (f : PlainFile) (bids : List NumberedBid) : Type 0 where
   pub numbered : List NumberedBid
   pub are : AreNumbered f numbered
   pub same : IsPermutation numbered bids
   pub sorted : IsSortedBy (λ a b. is_lt (numbered_cmp a b)) bids
 
--- the list has the bids of a file in order, and this bid is one of them
+-- the bid is in the ordered list of a file's bids
 pub record HasBid (bids : List NumberedBid) (bid : PlainBid) : Type 0 where
   pub file : PlainFile
   pub order : AreInOrder file bids

@@ -13,13 +13,13 @@ use Rattle.valuation.specs.Orders.{bidder_cmp}
 use Rattle.valuation.specs.Sorting.{count_of, sort_by}
 use Rattle.canon.specs.PriceChanges.{PlainChange, ArePriceChanges, price_on}
 
--- a bidder of the left file, one of the right file, or one of each, and the bids in which they differ
+-- a left bidder, a right one, or both, and the bids in which they differ
 pub record PlainBidderChange : Type 0 where
   pub left : Option ℕ
   pub right : Option ℕ
   pub bids : List PlainChange
 
--- the bidder of this index
+-- the bidder at this index
 abbrev pub bidder_at : List (List (Atom (List ℕ))) → ℕ → List (Atom (List ℕ))
 bidder_at bidders index = slice_index_or bidders index []
 
@@ -34,8 +34,9 @@ is_excess bidders others index =
     let bidder = bidder_at bidders index in
     nat_lt (count_of bidder_cmp bidder others) (count_of bidder_cmp bidder (drop index bidders))
 
--- The indices of the bidders that are there more often than among the others. Of equal bidders the last ones have their
--- equals there, and the first ones are in excess.
+-- the indices of the bidders in excess, of equal ones the first
+--
+-- They are there more often than among the others. Of equal bidders the last ones have their equals there.
 abbrev pub excess_bidders : List (List (Atom (List ℕ))) → List (List (Atom (List ℕ))) → List ℕ
 excess_bidders bidders others = filter (is_excess bidders others) (range_with_len 0 (length bidders))
 
@@ -75,18 +76,19 @@ waiting_after right excess waiting [] = waiting
 waiting_after right excess waiting (bidder ∷ rest) =
     waiting_after right excess (without_partner (partner_of right excess waiting bidder) waiting) rest
 
--- those of all left bidders in excess
+-- the partner of each left bidder in excess: the first right one that waits with a bid on the rarest possible of its
+-- bundles
 abbrev pub all_partners : List (List (Atom (List ℕ))) → List (List (Atom (List ℕ))) → List (Option ℕ)
 all_partners left right = partners_of right (excess_bidders right left) (excess_bidders right left)
     (map (bidder_at left) (excess_bidders left right))
 
 -- ---- the changes
 
--- the bidders of the left file that are in the changes
+-- the indices of the left bidders in changes
 abbrev pub lefts_of : List PlainBidderChange → List ℕ
 lefts_of changes = filter_map (λ c. c.left) changes
 
--- and those of the right file
+-- the indices of the right bidders in changes
 abbrev pub rights_of : List PlainBidderChange → List ℕ
 rights_of changes = filter_map (λ c. c.right) changes
 
@@ -103,8 +105,7 @@ pub record IsBidderChange (left right : List (List (Atom (List ℕ)))) (c : Plai
   pub some : is_some c.left || is_some c.right ≡ true
   pub bids : ArePriceChanges (bids_at left c.left) (bids_at right c.right) c.bids
 
--- Each bidder in excess is in one of the changes, and no other bidder is. Those of the left file come first, in order,
--- each beside its partner, and then those of the right file that are alone, in order.
+-- each bidder in excess is in one change: left ones in order, with partners; then right ones alone, in order
 pub record AreBidderChanges (left right : List (List (Atom (List ℕ)))) (changes : List PlainBidderChange) : Type 0 where
   pub each : All (IsBidderChange left right) changes
   pub lefts : lefts_of changes ≡ excess_bidders left right

@@ -7,7 +7,7 @@ use Rattle.std.specs.Ordering.{is_eq}
 use Rattle.goods_set.specs.Orders.{bundle_cmp}
 use Rattle.bid_file.specs.Files.{PlainBid, PlainFile}
 
--- the bid of this number
+-- the bid of number i
 abbrev pub bid_at : PlainFile → ℕ → PlainBid
 bid_at f i = slice_index_or f.bids i (record { price = 0; goods = []; dummy = None })
 
@@ -29,17 +29,17 @@ abbrev pub is_better : PlainFile → ℕ → ℕ → Bool
 is_better f i j = are_alike (bid_at f i) (bid_at f j)
     && (nat_lt (bid_at f j).price (bid_at f i).price || ((bid_at f i).price == (bid_at f j).price && nat_lt i j))
 
--- no bid is better
+-- whether bid i has its bidder's highest price on its goods, and then the smallest number
 abbrev pub is_best : PlainFile → ℕ → Bool
 is_best f i = not (list_any (λ j. is_better f j i) (numbers_of f))
 
--- the number of the best of a bidder's bids on these goods, if it has one there
+-- the number of a bidder's best bid on these goods, if any
 abbrev pub best_number : PlainFile → Option ℕ → List ℕ → Option ℕ
 best_number f dummy goods =
     find (λ i. are_alike (bid_at f i) (record { price = 0; goods = goods; dummy = dummy }) && is_best f i)
     (numbers_of f)
 
--- bid j is the best of the bids of bid i's bidder on its goods
+-- bid j is the best of bid i's bidder on its goods
 pub record IsBestFor (f : PlainFile) (i j : ℕ) : Type 0 where
   pub within : j < length f.bids
   pub alike : are_alike (bid_at f j) (bid_at f i) ≡ true

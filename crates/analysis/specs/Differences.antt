@@ -7,6 +7,7 @@ use Rattle.canon.specs.Difference.{Difference}
 use Rattle.canon.specs.PriceChanges.{PlainChange, ArePriceChanges}
 use Rattle.analysis.specs.BidderChanges.{PlainBidderChange, AreBidderChanges}
 
+-- the numbers of goods, if they differ, and the changes of OR bids and of XOR bidders
 pub record PlainDifferences : Type 0 where
   -- the numbers of goods, left and right, if they differ
   pub goods : Option (ℕ × ℕ)
@@ -18,7 +19,7 @@ pub record PlainDifferences : Type 0 where
 abbrev pub no_differences : PlainDifferences
 no_differences = record { goods = None; bundles = []; bidders = [] }
 
--- whether there are none
+-- whether there is no difference
 abbrev pub is_none_at_all : PlainDifferences → Bool
 is_none_at_all d = is_none d.goods && length d.bundles == 0 && length d.bidders == 0
 
@@ -26,7 +27,7 @@ is_none_at_all d = is_none d.goods && length d.bundles == 0 && length d.bidders 
 abbrev pub goods_change : ℕ → ℕ → Option (ℕ × ℕ)
 goods_change left right = if left == right then None else Some (left, right)
 
--- what differs between two canonical auctions, in which each bidder has the bids that its values need
+-- all differences of two canonical auctions
 pub record AreAllDifferences (a b : PlainAuction) (d : PlainDifferences) : Type 0 where
   pub goods : d.goods ≡ goods_change a.goods b.goods
   pub bundles : ArePriceChanges a.or_atoms b.or_atoms d.bundles
@@ -44,7 +45,7 @@ abbrev pub IsSomeChange : List PlainBidderChange → Type 0
 IsSomeChange [] = ⊥
 IsSomeChange (c ∷ rest) = Unit {0}
 
--- the first of the differences is of the same kind as the first difference, and on the same bundle
+-- all differences begin with the kind of the first difference, and with its goods or bundle
 abbrev pub BeginsWith : Difference → PlainDifferences → Type 0
 BeginsWith canon.NoDifference d = d ≡ no_differences
 BeginsWith (canon.InGoods left right) d = d.goods ≡ Some (left, right)
@@ -53,9 +54,11 @@ BeginsWith (canon.InXor bidder left right) d = (d.goods ≡ None) × (d.bundles 
 
 -- ---- exchanging the auctions
 
+-- numbers of goods with left and right exchanged
 abbrev pub exchanged_goods : Option (ℕ × ℕ) → Option (ℕ × ℕ)
 exchanged_goods None = None
 exchanged_goods (Some numbers) = Some (numbers.1, numbers.0)
 
+-- a bundle's prices with left and right exchanged
 abbrev pub exchanged_change : PlainChange → PlainChange
 exchanged_change c = record { bundle = c.bundle; left = c.right; right = c.left }

@@ -10,19 +10,19 @@ use Rattle.analysis.specs.Bids.{numbers_of}
 use Rattle.analysis.specs.Reasons.{PlainReason, Keep, Zero, Same, Inside, Packing, is_kept, is_kept_as}
 use Rattle.analysis.specs.Reasons.{kept_number, reason_of}
 
--- each of the bids is kept
+-- each winner has the reason `Keep`
 abbrev pub AreKept : PlainFile → List ℕ → Type 0
 AreKept f winners = All (λ i. is_kept (reason_of f i) ≡ true) winners
 
--- the number of the bid whose reason is `Keep k`
+-- the number of the bid with the reason `Keep k`
 abbrev pub number_kept_as : PlainFile → ℕ → ℕ
 number_kept_as f k = unwrap_or (find (λ i. is_kept_as k (reason_of f i)) (numbers_of f)) 0
 
--- the bids of the file that these bids of its canonical file are, by rising numbers
+-- the bids of a file that these bids of its canonical file are
 abbrev pub kept_as : PlainFile → List ℕ → List ℕ
 kept_as f winners = sort_by nat_cmp (map (number_kept_as f) winners)
 
--- the bids of the canonical file that these kept bids are, by rising numbers
+-- the bids of the canonical file that these kept bids are
 abbrev pub in_canonical_file : PlainFile → List ℕ → List ℕ
 in_canonical_file f winners = sort_by nat_cmp (map (kept_number f) winners)
 
@@ -39,10 +39,10 @@ abbrev pub kept_by : PlainFile → ℕ → PlainReason → List ℕ
 kept_by f i (Same j) = named_by j (reason_of f j)
 kept_by f i reason = named_by i reason
 
--- the kept bids in the place of bid i
+-- the kept bids in the place of bid i: itself, or those of its reason
 abbrev pub in_place_of : PlainFile → ℕ → List ℕ
 in_place_of f i = kept_by f i (reason_of f i)
 
--- the winners, with kept bids in the place of each, by rising numbers
+-- the kept bids in the place of the winners
 abbrev pub with_kept_bids : PlainFile → List ℕ → List ℕ
 with_kept_bids f winners = sort_by nat_cmp (flat_map (in_place_of f) winners)

@@ -30,7 +30,7 @@ row_of f good = record { name = row_name f.goods good; bids = bids_with f good }
 abbrev pub is_shared : PlainRow → Bool
 is_shared row = nat_lt 1 (length row.bids)
 
--- the rows of all goods, and behind them of all dummy goods, that two bids or more have
+-- the goods, and then the dummy goods, that two bids or more have
 abbrev pub lp_rows : PlainFile → List PlainRow
 lp_rows f = filter is_shared (map (row_of f) (range_with_len 0 (f.goods + f.dummy)))
 
@@ -40,15 +40,15 @@ lp_rows f = filter is_shared (map (row_of f) (range_with_len 0 (f.goods + f.dumm
 abbrev pub value_of : List ℕ → ℕ → ℕ
 value_of winners i = if list_any (λ winner. winner == i) winners then 1 else 0
 
--- in each row the sum of the variables is at most 1
+-- each row has one winner at most
 abbrev pub AreRowsMet : PlainFile → List ℕ → Type 0
 AreRowsMet f winners = All (λ row. sum_by (value_of winners) row.bids ≤ 1) (lp_rows f)
 
--- the objective: the sum over all bids of price times variable
+-- the sum of price times variable, which is 1 for a winner, else 0
 abbrev pub objective : PlainFile → List ℕ → ℕ
 objective f winners = sum_by (λ i. (bid_at f i).price * value_of winners i) (numbers_of f)
 
--- whether the sum of all prices is exact in a solver's numbers
+-- whether all prices together are below 2^53 millionths; then a solver's numbers are exact (law)
 abbrev pub are_sums_exact : PlainFile → Bool
 are_sums_exact f = nat_lt (revenue f (numbers_of f)) EXACT_SUMS
 
@@ -81,6 +81,8 @@ abbrev pub if_none : List PlainRow → List ℕ → List ℕ
 if_none [] text = text
 if_none (row ∷ rows) text = []
 
+-- winner determination in CPLEX's LP format
+--
 -- Solvers, like glpsol, refuse an objective without a term and a text without a row. If there is no row, which is so if
 -- there is no bid, a variable `none` of the price 0 has one: it is no bid, and changes nothing.
 abbrev pub lp_text : PlainFile → List ℕ

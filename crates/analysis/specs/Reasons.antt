@@ -19,7 +19,7 @@ use Rattle.canon.specs.Renaming.{kept_bids, points_of_dummy}
 use Rattle.analysis.specs.declared.reasons.reason.Reason.{Reason}
 use Rattle.analysis.specs.declared.reasons.reason.Reason.TheVariants as R
 
--- a reason, without where it lies in memory
+-- why a bid is kept or dropped
 pub data PlainReason : Type 0 where
   -- it is this bid of the canonical file
   Keep : ℕ → PlainReason
@@ -32,7 +32,7 @@ pub data PlainReason : Type 0 where
   -- these bids of the OR bidder are kept, share no good, are inside its goods, and their prices add up to as much
   Packing : List ℕ → PlainReason
 
--- a reason as a reader sees it
+-- a reason of the code as a value
 abbrev pub plain_reason : Reason → PlainReason
 plain_reason (R.Keep k) = Keep k
 plain_reason R.Zero = Zero
@@ -64,15 +64,18 @@ pub record IsBestBid (f : PlainFile) (i : ℕ) : Type 0 where
   pub positive : 0 < (bid_at f i).price
   pub best : is_best f i ≡ true
 
+-- `Keep`: bid i is bid k of the canonical file, but for its dummy good
 pub record IsKeptAs (f : PlainFile) (i k : ℕ) : Type 0 where
   pub bid : IsBestBid f i
   pub is : slice_get (kept_bids f) k ≡ Some (bid_at f i)
 
+-- `Same`: bid j is the best of bid i's bidder on its goods
 pub record HasSame (f : PlainFile) (i j : ℕ) : Type 0 where
   pub positive : 0 < (bid_at f i).price
   pub another : (j == i) ≡ false
   pub best : IsBestFor f i j
 
+-- `Inside`: kept bid j of the same XOR bidder has fewer goods and at least the price
 pub record HasInside (f : PlainFile) (reasons : List PlainReason) (i j : ℕ) : Type 0 where
   pub bid : IsBestBid f i
   pub xor : is_some (bid_at f i).dummy ≡ true
@@ -87,7 +90,7 @@ pub record IsKeptInside (f : PlainFile) (reasons : List PlainReason) (goods : Li
   pub kept : is_kept (reason_at reasons j) ≡ true
   pub inside : IsInside (bid_at f j).goods goods
 
--- no two of the lists of goods share one
+-- no two of these bundles share a good
 abbrev pub all_apart : List (List ℕ) → Bool
 all_apart [] = true
 all_apart (goods ∷ rest) = list_all (are_apart goods) rest && all_apart rest
@@ -96,6 +99,7 @@ abbrev pub goods_at : PlainFile → List ℕ → List (List ℕ)
 goods_at f [] = []
 goods_at f (i ∷ rest) = (bid_at f i).goods ∷ goods_at f rest
 
+-- `Packing`: kept OR bids, disjoint and inside bid i's goods, reach its price together
 pub record HasPacking (f : PlainFile) (reasons : List PlainReason) (i : ℕ) (js : List ℕ) : Type 0 where
   pub bid : IsBestBid f i
   pub or : (bid_at f i).dummy ≡ None
@@ -145,17 +149,19 @@ best_reason f i (Some d) = xor_reason f d i (xor_fate (points_of f (Some d)) (at
 abbrev pub best_alike : PlainFile → ℕ → ℕ
 best_alike f i = unwrap_or (best_number f (bid_at f i).dummy (bid_at f i).goods) i
 
+-- why bid i is kept or dropped
 unfoldable pub reason_of : PlainFile → ℕ → PlainReason
 reason_of f i =
     if (bid_at f i).price == 0 then Zero
     else (if best_alike f i == i then best_reason f i (bid_at f i).dummy else Same (best_alike f i))
 
+-- why each bid is kept or dropped, in order of number
 abbrev pub reasons_of : PlainFile → List PlainReason
 reasons_of f = map (reason_of f) (numbers_of f)
 
 -- ---- true reasons
 
--- each bid has one reason, which is true; and each bid of the canonical file is one bid of the file
+-- each bid has one reason, a true one; each canonical bid is one bid of the file
 pub record Explains (f : PlainFile) (reasons : List PlainReason) : Type 0 where
   pub long : length reasons ≡ length f.bids
   pub each : AllByRecursion (λ i. IsReason f reasons i (reason_at reasons i)) (numbers_of f)

@@ -9,6 +9,7 @@ use Rattle.analysis.specs.declared.differences.change.Differences.{Differences}
 abbrev pub plain_bidder_change : BidderChange → PlainBidderChange
 plain_bidder_change c = record { left = c.left; right = c.right; bids = map plain_change c.bids.items }
 
+-- differences of the code as a value
 abbrev pub plain_differences : Differences → PlainDifferences
 plain_differences d = record {
   goods = d.goods;

@@ -16,7 +16,7 @@ use Rattle.canon.specs.declared.canon_fault.CanonFault.{CanonFault}
 use Rattle.canon.specs.declared.normal.named.NamedFile.{NamedFile}
 use Rattle.canon.specs.declared.canon_fault.CanonFault.TheVariants.{Read, StepLimit, Memory}
 
--- why there is no text
+-- a fault that this outcome says
 abbrev pub RefusesAs : Normalised → CanonFault → Type 0
 RefusesAs expected (Read fault) = expected ≡ IsNoFile fault
 RefusesAs expected (StepLimit goods) = expected ≡ ExceedsSteps goods.items
@@ -35,6 +35,7 @@ RefusesText options text (Read fault) = Normalises options text (IsNoFile fault)
 RefusesText options text (StepLimit goods) = Normalises options text (ExceedsSteps goods.items)
 RefusesText options text Memory = (has_bid_line text ≡ true) ⊎ SpellsFile text
 
+-- the text's outcome, as `Normalises` says
 abbrev pub NormalisesTextAs : SearchOptions → List ℕ → Result (Vec ℕ Global) CanonFault → Type 0
 NormalisesTextAs options text (Ok out) = Normalises options text (IsText out.items)
 NormalisesTextAs options text (Err fault) = RefusesText options text fault
@@ -46,6 +47,7 @@ pub record IsNormalFile (options : SearchOptions) (a : PlainAuction) (h : PlainF
   pub canonical : h ≡ file_from (canonical_auction a)
   pub within_limit : first_refused options a.goods a.or_atoms ≡ None
 
+-- the first bundle of an auction over the limits
 abbrev pub RefusesAuction : SearchOptions → PlainAuction → CanonFault → Type 0
 RefusesAuction options a (Read fault) = ⊥
 RefusesAuction options a (StepLimit goods) = first_refused options a.goods a.or_atoms ≡ Some goods.items
@@ -55,7 +57,7 @@ abbrev pub NormalisesAuctionAs : SearchOptions → PlainAuction → Result Plain
 NormalisesAuctionAs options a (Ok h) = IsNormalFile options a h
 NormalisesAuctionAs options a (Err fault) = RefusesAuction options a fault
 
--- the same of a file
+-- as `NormalisesFileAs`, of a packed file
 abbrev pub NormalisesPlainAs : SearchOptions → PlainFile → Result PlainFile CanonFault → Type 0
 NormalisesPlainAs options f r = NormalisesAuctionAs options (auction_from f) r
 
@@ -64,10 +66,11 @@ abbrev pub plain_answer : Result BidFile CanonFault → Result PlainFile CanonFa
 plain_answer (Ok h) = Ok (plain_file h)
 plain_answer (Err fault) = Err fault
 
+-- the canonical file, or the first bundle over the limits
 abbrev pub NormalisesFileAs : SearchOptions → PlainFile → Result BidFile CanonFault → Type 0
 NormalisesFileAs options f r = NormalisesPlainAs options f (plain_answer r)
 
--- an answer, without the dummy goods that it names, and without what became of the bids
+-- an answer without the names of dummy goods and without fates
 abbrev pub unnamed_answer : Result NamedFile CanonFault → Result PlainFile CanonFault
 unnamed_answer (Ok named) = Ok named.file
 unnamed_answer (Err fault) = Err fault

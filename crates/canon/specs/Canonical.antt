@@ -23,6 +23,7 @@ points_of_bidders goods bidders = map (xor_points goods) (nonzero_bidders goods 
 abbrev pub canonical_bidders : ℕ → List (List (Atom (List ℕ))) → List (List (Atom (List ℕ)))
 canonical_bidders goods bidders = sort_by bidder_cmp (points_of_bidders goods bidders)
 
+-- the OR points, and the XOR points of each XOR bidder that is not zero, in order
 abbrev pub canonical_auction : PlainAuction → PlainAuction
 canonical_auction a = record {
   goods = a.goods;
@@ -30,6 +31,7 @@ canonical_auction a = record {
   xor_bidders = canonical_bidders a.goods a.xor_bidders;
 }
 
+-- an auction that is its own canonical auction
 abbrev pub IsCanonical : PlainAuction → Type 0
 IsCanonical a = canonical_auction a ≡ a
 
@@ -43,7 +45,7 @@ abbrev pub dummy_bids : ℕ → List (List (Atom (List ℕ))) → List PlainBid
 dummy_bids d [] = []
 dummy_bids d (bidder ∷ bidders) = map (bid_from (Some d)) bidder ++ dummy_bids (d + 1) bidders
 
--- the file of an auction: the OR bidder's bids, and then each XOR bidder's with a dummy good of its own
+-- the file of an auction: OR bids first, then XOR bidder k with dummy good k
 abbrev pub file_from : PlainAuction → PlainFile
 file_from a = record {
   goods = a.goods;
@@ -51,12 +53,14 @@ file_from a = record {
   bids = map (bid_from None) a.or_atoms ++ dummy_bids 0 a.xor_bidders;
 }
 
+-- the file of the canonical auction of a file
 abbrev pub canonical_file : PlainFile → PlainFile
 canonical_file f = file_from (canonical_auction (auction_from f))
 
+-- a file that is its own canonical file
 abbrev pub IsCanonicalFile : PlainFile → Type 0
 IsCanonicalFile f = canonical_file f ≡ f
 
--- the one text of the file's auction
+-- the layout of a file's canonical file
 abbrev pub canonical_text : PlainFile → List ℕ
 canonical_text f = layout (canonical_file f)

@@ -41,6 +41,7 @@ RefusesOf options one other First fault = RefusesText options one fault
 RefusesOf options one other Second fault = SpellsWithinLimit options one × RefusesText options other fault
 RefusesOf options one other Both fault = DifferInGoods options one other × (fault ≡ Memory)
 
+-- the first difference of two texts; or the refusal of the first, else of the second
 abbrev pub ComparesAs : SearchOptions → List ℕ → List ℕ → Result Verdict (Which × CanonFault) → Type 0
 ComparesAs options one other (Ok verdict) = Differ options one other (plain_verdict verdict)
 ComparesAs options one other (Err refusal) = RefusesOf options one other refusal.0 refusal.1

@@ -14,6 +14,7 @@ use Rattle.canon.specs.Canonical.{canonical_auction}
 use Rattle.canon.specs.declared.verdict.Side.{Side}
 use Rattle.canon.specs.declared.verdict.Side.TheVariants.{Exactly, Below}
 
+-- none; or the numbers of goods; or a bundle with its OR values; or an XOR bidder with how often each auction has it
 pub data Difference : Type 0 where
   NoDifference : Difference
   -- in the numbers of goods, left and right
@@ -47,7 +48,7 @@ copies_of bidder a = count_of bidder_cmp bidder (canonical_auction a).xor_bidder
 abbrev pub bidders_of_both : PlainAuction → PlainAuction → List (List (Atom (List ℕ)))
 bidders_of_both a b = sort_by bidder_cmp ((canonical_auction a).xor_bidders ++ (canonical_auction b).xor_bidders)
 
--- the least bidder that the canonical auctions do not have equally often
+-- the least XOR bidder that the canonical auctions do not have equally often
 abbrev pub least_unequal_bidder : PlainAuction → PlainAuction → Option (List (Atom (List ℕ)))
 least_unequal_bidder a b = find (λ bidder. not (copies_of bidder a == copies_of bidder b)) (bidders_of_both a b)
 
@@ -61,11 +62,12 @@ abbrev pub or_difference : PlainAuction → PlainAuction → Option (List ℕ) �
 or_difference a b None = xor_difference a b (least_unequal_bidder a b)
 or_difference a b (Some bundle) = InOr bundle (side_of a b bundle) (side_of b a bundle)
 
+-- the first difference: in goods, else in OR values, else in XOR bidders
 abbrev pub first_difference : PlainAuction → PlainAuction → Difference
 first_difference a b =
     if a.goods == b.goods then or_difference a b (first_unequal_bundle a b) else InGoods a.goods b.goods
 
--- the same difference, seen from the other side
+-- the difference with left and right exchanged
 abbrev pub exchanged : Difference → Difference
 exchanged NoDifference = NoDifference
 exchanged (InGoods left right) = InGoods right left

@@ -17,7 +17,7 @@ use Rattle.canon.specs.Refusals.{refusal_of}
 use Rattle.canon.specs.declared.canon_fault.CanonFault.{CanonFault}
 use Rattle.valuation.specs.declared.search.options.SearchOptions.{SearchOptions}
 
--- the number, counted from 0, of the first of the files that is in the relation to the given one
+-- the number of the first file in this relation to the given one
 pub record IsFirstNumber (Related : PlainFile → PlainFile → Type 0) (files : List PlainFile) (given : PlainFile)
     (number : ℕ) : Type 0 where
   pub file : PlainFile
@@ -25,13 +25,13 @@ pub record IsFirstNumber (Related : PlainFile → PlainFile → Type 0) (files :
   pub related : Related file given
   pub first : (k : ℕ) (other : PlainFile) → k < number → slice_get files k ≡ Some other → Related other given → ⊥
 
--- the number of the first of the files that has the canonical text of the given one
+-- the number of the first file with the given one's canonical text
 abbrev pub first_number : List PlainFile → PlainFile → Option ℕ
 first_number files given = position (λ file. bytes_eq (canonical_text file) (canonical_text given)) files
 
 -- ---- an index of texts
 
--- what an index holds: texts, each with its number, and how many files were added
+-- texts with the numbers of their first files, and how many files were added
 pub record TextIndex : Type 0 where
   pub texts : List (List ℕ × ℕ)
   pub count : ℕ
@@ -40,12 +40,12 @@ pub record TextIndex : Type 0 where
 abbrev pub text_number : TextIndex → List ℕ → Option ℕ
 text_number index text = lookup (bytes_eq text) index.texts
 
--- it holds no text, and no file was added
+-- an index without texts, to which no file was added
 pub record IsEmptyIndex (index : TextIndex) : Type 0 where
   pub texts : index.texts ≡ []
   pub count : index.count ≡ 0
 
--- one more file has this text and this number: the number of the text, and if it had none, the one behind all files
+-- one file more has this text, with its first file's number, or a new one
 pub record AddsText (old new : TextIndex) (text : List ℕ) (number : ℕ) : Type 0 where
   pub found : number ≡ unwrap_or (text_number old text) old.count
   pub numbers : (other : List ℕ) → text_number new other
@@ -69,7 +69,7 @@ module _ (text_of : PlainFile → List ℕ) where
   NumbersText files text None = LacksText files text
   NumbersText files text (Some number) = IsFirstText files text number
 
-  -- it is the index of these files: each text has the number of the first of them that has it
+  -- the index of these files: each text with its first file's number
   pub record IsIndexOf (index : TextIndex) (files : List PlainFile) : Type 0 where
     pub facts : (k : ℕ) (file : PlainFile) → slice_get files k ≡ Some file → IsPlainFile file
     pub texts : (text : List ℕ) → NumbersText files text (text_number index text)
@@ -103,7 +103,7 @@ module _ {R : Type 0} (remaining : R → Option (List ℕ)) where
   AddsOrRefuses options old new bytes input (Err fault) =
       (new ≡ old) × (IsUnread bytes input fault ⊎ IsUnmade options bytes input fault)
 
-  -- reading a file and adding it
+  -- a stream was read and its file added; after a fault the index is as before
   pub record AddsStream (options : SearchOptions) (old new : TextIndex) (before after : Watched R)
       (answer : Result ℕ CanonFault) : Type 0 where
     pub bytes : List ℕ

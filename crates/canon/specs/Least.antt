@@ -20,6 +20,6 @@ pub record IsHeldBy (file other : PlainFile) : Type 0 where
   pub no_more_or_bids : length (auction_from file).or_atoms ≤ length (auction_from other).or_atoms
   pub no_more_dummies : file.dummy ≤ other.dummy
 
--- the file is held by every file of the same auction as the given one
+-- each file of the auction of `given` has all OR bids of `file`, and XOR bidders with all bids of its XOR bidders
 abbrev pub IsLeastFor : PlainFile → PlainFile → Type 0
 IsLeastFor given file = (other : PlainFile) → IsPlainFile other → AreSameFiles given other → IsHeldBy file other

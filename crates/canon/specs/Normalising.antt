@@ -10,6 +10,7 @@ use Rattle.valuation.specs.declared.search.options.SearchOptions.{SearchOptions}
 use Rattle.canon.specs.Canonical.{canonical_file, canonical_text}
 use Rattle.canon.specs.Sameness.{AreSameFiles}
 
+-- what normalising a text gives: its first fault, the first bundle over the limits, or its canonical text
 pub data Normalised : Type 0 where
   -- the text is not a bid file, by this fault
   IsNoFile : ReadFault → Normalised
@@ -22,7 +23,7 @@ abbrev pub unless_refused : PlainFile → Option (List ℕ) → Normalised
 unless_refused f None = IsText (canonical_text f)
 unless_refused f (Some goods) = ExceedsSteps goods
 
--- of a file: its canonical text, unless some bundle of the OR bidder is refused, of which the first is reported
+-- what normalising a file gives, as of a text
 abbrev pub normalised_file : SearchOptions → PlainFile → Normalised
 normalised_file options f = unless_refused f (first_refused options f.goods (or_atoms_of f.bids))
 
@@ -32,16 +33,17 @@ pub record HasOutcome (options : SearchOptions) (text : List ℕ) (outcome : Nor
   pub spelled : Spells text file
   pub is : normalised_file options file ≡ outcome
 
--- Of a text: its first fault, or else the outcome of the file that it spells. Each text has one outcome.
+-- normalising the text by some searches has this outcome; each text has one (law), and one canonical text (law)
 abbrev pub Normalises : SearchOptions → List ℕ → Normalised → Type 0
 Normalises options text (IsNoFile fault) = first_fault text ≡ Some fault
 Normalises options text outcome = HasOutcome options text outcome
 
+-- the text has an outcome
 pub record IsNormalised (options : SearchOptions) (text : List ℕ) : Type 0 where
   pub outcome : Normalised
   pub normalises : Normalises options text outcome
 
--- the second text spells the canonical file of the file that the first one spells, and this is the same auction
+-- `out` spells the canonical file of the text's file, which is the same auction
 pub record SpellsCanonicalFile (text out : List ℕ) : Type 0 where
   pub file : PlainFile
   pub spelled : Spells text file

@@ -13,11 +13,11 @@ pub record PlainChange : Type 0 where
   pub left : Option ℕ
   pub right : Option ℕ
 
--- what contracts see of a change
+-- a change of the code as a value
 abbrev pub plain_change : PriceChange → PlainChange
 plain_change c = record { bundle = c.goods.now; left = c.left; right = c.right }
 
--- the price of the first bid on the bundle, if there is one
+-- the price on a bundle, if it has a bid
 abbrev pub price_on : List (Atom (List ℕ)) → List ℕ → Option ℕ
 price_on [] bundle = None
 price_on (a ∷ rest) bundle = if is_eq (bundle_cmp a.bundle bundle) then Some a.price else price_on rest bundle
@@ -28,7 +28,7 @@ pub record IsPriceChange (left right : List (Atom (List ℕ))) (c : PlainChange)
   pub on_right : c.right ≡ price_on right c.bundle
   pub differ : c.left ≢ c.right
 
--- exactly the bundles on which the prices differ, in order, each with both prices
+-- exactly the bundles with different prices, in order, each with both
 pub record ArePriceChanges (left right : List (Atom (List ℕ))) (changes : List PlainChange) : Type 0 where
   pub in_order : AllPairs (λ c d. bundle_cmp c.bundle d.bundle ≡ Less) changes
   pub each : All (IsPriceChange left right) changes

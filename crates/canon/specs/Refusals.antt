@@ -9,6 +9,6 @@ abbrev pub refusal_by_kind : ReadFault → Kind → CanonFault
 refusal_by_kind fault NoMemory = Memory
 refusal_by_kind fault kind = Read fault
 
--- memory that a reader was refused is reported as want of memory
+-- a reader's fault as the call's own
 abbrev pub refusal_of : ReadFault → CanonFault
 refusal_of fault = refusal_by_kind fault fault.kind

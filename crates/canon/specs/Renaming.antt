@@ -21,7 +21,7 @@ points_of_dummy f d = xor_points f.goods (xor_atoms_of f.bids d)
 abbrev pub dummy_cmp : PlainFile → ℕ → ℕ → Ordering
 dummy_cmp f d e = ordering_then (bidder_cmp (points_of_dummy f d) (points_of_dummy f e)) (nat_cmp d e)
 
--- the dummy goods of the bidders that are in the canonical file, in the order in which they are there
+-- the dummy goods of f whose bidders are in the canonical file, in its order
 abbrev pub kept_dummies : PlainFile → List ℕ
 kept_dummies f = sort_by (dummy_cmp f) (filter (λ d. is_nonzero (xor_table (xor_atoms_of f.bids d) f.goods))
     (range_with_len 0 f.dummy))
@@ -34,10 +34,10 @@ named_dummy dummies (Some d) = Some (slice_index_or dummies d 0)
 abbrev pub named_bid : List ℕ → PlainBid → PlainBid
 named_bid dummies b = record { price = b.price; goods = b.goods; dummy = named_dummy dummies b.dummy }
 
--- a file with other dummy goods, each instead of the one whose place it has in the list
+-- a file with each dummy good d renamed to number d of the list
 abbrev pub with_dummies : List ℕ → PlainFile → PlainFile
 with_dummies dummies f = record { goods = f.goods; dummy = f.dummy; bids = map (named_bid dummies) f.bids }
 
--- the bids of the canonical file, with the dummy goods of the file
+-- the bids of the canonical file of f, with the dummy goods of f
 abbrev pub kept_bids : PlainFile → List PlainBid
 kept_bids f = map (named_bid (kept_dummies f)) (canonical_file f).bids

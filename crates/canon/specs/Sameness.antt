@@ -19,7 +19,7 @@ or_values a = or_table a.or_atoms a.goods
 abbrev pub has_table : ℕ → List ℕ → List (Atom (List ℕ)) → Bool
 has_table goods table bidder = is_eq (slice_cmp nat_cmp (xor_table bidder goods) table)
 
--- how many XOR bidders have this table
+-- how many XOR bidders have this table of values
 abbrev pub bidders_with : List ℕ → PlainAuction → ℕ
 bidders_with table a = count_by (has_table a.goods table) a.xor_bidders
 

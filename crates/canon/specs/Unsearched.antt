@@ -13,6 +13,7 @@ use Rattle.canon.specs.Canonical.{canonical_bidders, file_from}
 abbrev pub unreplaced_bids : PlainAuction → List (Atom (List ℕ))
 unreplaced_bids a = xor_points a.goods a.or_atoms
 
+-- the canonical XOR bidders, and the OR bids that no single bid replaces
 abbrev pub unsearched_auction : PlainAuction → PlainAuction
 unsearched_auction a = record {
   goods = a.goods;
@@ -23,6 +24,7 @@ unsearched_auction a = record {
 abbrev pub unsearched_file : PlainFile → PlainFile
 unsearched_file f = file_from (unsearched_auction (auction_from f))
 
+-- the layout of the unsearched auction; alike files share it (law)
 abbrev pub unsearched_text : PlainFile → List ℕ
 unsearched_text f = layout (unsearched_file f)
 
@@ -33,6 +35,6 @@ pub record AreAlikeAuctions (a b : PlainAuction) : Type 0 where
   pub or_bids : unreplaced_bids a ≡ unreplaced_bids b
   pub xor_bidders : canonical_bidders a.goods a.xor_bidders ≡ canonical_bidders b.goods b.xor_bidders
 
--- two files of alike auctions
+-- two files of one unsearched auction, and so of the same auction (law)
 abbrev pub AreAlike : PlainFile → PlainFile → Type 0
 AreAlike f g = AreAlikeAuctions (auction_from f) (auction_from g)

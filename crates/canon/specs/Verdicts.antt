@@ -10,13 +10,14 @@ use Rattle.canon.specs.Difference.{Difference, NoDifference, InGoods, InOr, InXo
 abbrev pub printed_atoms : List (Vec ℕ Global × ℕ) → List (Atom (List ℕ))
 printed_atoms bids = map (λ b. record { bundle = b.0.items; price = b.1 }) bids
 
+-- a verdict of the code as a value
 abbrev pub plain_verdict : Verdict → Difference
 plain_verdict Same = NoDifference
 plain_verdict (Goods left right) = InGoods left right
 plain_verdict (Or bundle left right) = InOr bundle.items left right
 plain_verdict (Xor bidder left right) = InXor (printed_atoms bidder.items) left right
 
--- a difference in a bundle or in a bidder: its verdict has their goods, and so takes memory
+-- a difference in a bundle or in a bidder, whose verdict takes memory
 abbrev pub NamesGoods : Difference → Type 0
 NamesGoods NoDifference = ⊥
 NamesGoods (InGoods left right) = ⊥

@@ -32,7 +32,7 @@ abbrev pub names_from : ℕ → List CallText → List (List ℕ)
 names_from number [] = []
 names_from number (text ∷ texts) = name_or text.name.now number ∷ names_from (suc number) texts
 
--- the name of each text, of which the first has the number 1
+-- the name of each text, or its number from 1
 abbrev pub names_of : List CallText → List (List ℕ)
 names_of texts = names_from 1 texts
 
@@ -57,7 +57,7 @@ pub record IsTextAt (texts : List CallText) (name : List ℕ) (bytes : Bor (List
 
 -- ---- what is requested
 
--- the limit on the steps of all searches of one text: 0 is no limit
+-- the limit on all steps together, as a caller writes it: 0 is none
 abbrev pub total_of : ℕ → Option ℕ
 total_of total = if total == 0 then None else Some total
 
@@ -94,8 +94,9 @@ request_with row request names options = record {
 abbrev pub request_by : TaskRow → CallRequest → List (List ℕ) → Option PlainRequest
 request_by row request names = option_map (request_with row request names) (options_of request row.bound)
 
--- the program's request on texts of these names; none if there is no such command, or if searches that are not bounded
--- are limited together
+-- the program's request that a caller makes, on files of these names
+--
+-- There is none if no command has this number, or if searches that are not bounded are limited together.
 abbrev pub request_of : CallRequest → List (List ℕ) → Option PlainRequest
 request_of request names = option_and_then (λ row. request_by row request names) (slice_get TASKS request.task)
 
@@ -141,7 +142,7 @@ Answers request texts out out_after err err_after status =
 
 -- ---- the buffers of the caller
 
--- a text is at the front of a buffer, as far as it fits, and `needed` is its length
+-- the text is at the front of the buffer, as far as it fits; `needed` is its length
 pub record Puts (text old new : List ℕ) (needed : ℕ) : Type 0 where
   pub front : new ≡ take (length old) text ++ drop (length text) old
   pub is_needed : needed ≡ length text
@@ -167,8 +168,9 @@ pub record PutsBoth (request : CallRequest) (texts : List CallText) (out out_new
   pub puts : Puts text out out_new needed
   pub puts_report : Puts report err err_new err_needed
 
--- The contract of the call: both texts are put into the buffers, or memory for one was refused, and nothing is put
--- there.
+-- `cats_call`: the program's answer to the request on these texts is put into both buffers
+--
+-- Or memory for them was refused, and nothing is put there.
 abbrev pub CallsProgram : CallRequest → List CallText → List ℕ → List ℕ → ℕ → List ℕ → List ℕ → ℕ → ℕ → Type 0
 CallsProgram request texts out out_new needed err err_new err_needed status =
     PutsBoth request texts out out_new needed err err_new err_needed status

@@ -39,12 +39,15 @@ abbrev pub groups_text : Ending → List (List (List ℕ)) → List ℕ
 groups_text ending [] = []
 groups_text ending (paths ∷ groups) = lines_of ending paths ++ after_empty_lines ending groups
 
--- the groups that are printed, in the order of the first of each: those of the files that were judged, and behind them
--- those of the files that a step limit refused, which are of two files or more
+-- the groups of paths that `cats duplicates` prints, judged files first
+--
+-- They are in the order of the first of each. Those of the files that a step limit refused are of two files or more,
+-- and with `all` the others may be of one.
 abbrev pub printed_groups : Bool → List (List ℕ × ℕ) → List (List ℕ × ℕ) → List (List (List ℕ))
 printed_groups all judged heavy =
     filter (is_printed all) (groups_of judged) ++ filter (is_printed false) (groups_of heavy)
 
+-- the text of `cats duplicates`
 abbrev pub duplicates_text : Ending → Bool → List (List ℕ × ℕ) → List (List ℕ × ℕ) → List ℕ
 duplicates_text ending all judged heavy = groups_text ending (printed_groups all judged heavy)
 

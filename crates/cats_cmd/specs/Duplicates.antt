@@ -19,14 +19,15 @@ paths_if_judged path (IsJudged file) = path ∷ []
 paths_if_judged path (IsHeavy file heavy) = []
 paths_if_judged path (IsUnjudged fault) = []
 
--- the files that were judged, and their paths, in the order of the paths
+-- the files that were judged, in order
 abbrev pub judged_files : List (List ℕ × Judgement) → List PlainFile
 judged_files judgements = flat_map (λ j. files_if_judged j.1) judgements
 
+-- the paths of judged files
 abbrev pub judged_paths : List (List ℕ × Judgement) → List (List ℕ)
 judged_paths judgements = flat_map (λ j. paths_if_judged j.0 j.1) judgements
 
--- the files that a step limit refused, and their paths
+-- the file that a step limit refused
 abbrev pub files_if_heavy : Judgement → List PlainFile
 files_if_heavy (IsJudged file) = []
 files_if_heavy (IsHeavy file heavy) = file ∷ []
@@ -40,6 +41,7 @@ paths_if_heavy path (IsUnjudged fault) = []
 abbrev pub heavy_files : List (List ℕ × Judgement) → List PlainFile
 heavy_files judgements = flat_map (λ j. files_if_heavy j.1) judgements
 
+-- the paths of files that a step limit refused
 abbrev pub heavy_paths : List (List ℕ × Judgement) → List (List ℕ)
 heavy_paths judgements = flat_map (λ j. paths_if_heavy j.0 j.1) judgements
 

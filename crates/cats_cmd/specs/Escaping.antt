@@ -20,17 +20,18 @@ is_invisible c = (c == 0xAD) || (c == 0x61C) || is_in_range 0x200B 0x200F c || i
 abbrev pub is_printable : ℕ → Bool
 is_printable c = not (is_control c || is_invisible c)
 
--- what the program prints beside bid files: printable characters, and tabs and line feeds between them
+-- a printable character, a tab or LF
 abbrev pub is_shown : ℕ → Bool
 is_shown c = is_printable c || (c == 9) || (c == 10)
 
--- the text is the UTF-8 of characters that are all of a kind
+-- the text is the UTF-8 of characters of a kind
 pub record IsTextOf (is_of_kind : ℕ → Bool) (text : List ℕ) : Type 0 where
   pub characters : List ℕ
   pub scalars : all_scalars characters ≡ true
   pub kind : All (λ c. is_of_kind c ≡ true) characters
   pub spelt : encode_utf8_all characters ≡ text
 
+-- numbers below 256
 abbrev pub AreBytes : List ℕ → Type 0
 AreBytes text = All (λ b. b < 256) text
 
@@ -58,7 +59,7 @@ plain_length bytes = let c = code_at bytes in
 
 -- ---- a path as it is printed
 
--- a byte that is a control character
+-- a byte below 32, or 127
 abbrev pub is_control_byte : ℕ → Bool
 is_control_byte b = nat_lt b 32 || (b == 127)
 
@@ -78,6 +79,7 @@ escaped_behind left [] = []
 escaped_behind left (b ∷ bs) = let now = if left == 0 then plain_length (b ∷ bs) else left in
     if now == 0 then escaped_byte b ++ escaped_behind 0 bs else b ∷ escaped_behind (now - 1) bs
 
+-- a path with all but printable characters escaped
 abbrev pub escaped : List ℕ → List ℕ
 escaped path = escaped_behind 0 path
 
@@ -104,6 +106,7 @@ reads_byte (Slash, path) b = if b == 120 then (Hex, path) else (Plain, path ++ b
 reads_byte (Hex, path) b = (Digit (digit_value b), path)
 reads_byte (Digit d, path) b = (Plain, path ++ (d * 16 + digit_value b) ∷ [])
 
+-- the path, read back from an escaped one (law)
 abbrev pub unescaped : List ℕ → List ℕ
 unescaped text = (fold reads_byte (Plain, []) text).1
 

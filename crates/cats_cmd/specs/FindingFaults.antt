@@ -14,7 +14,7 @@ use Rattle.cats_cmd.specs.Escaping.{escaped}
 use Rattle.cats_cmd.specs.Inputs.{ReadsAll, StopsReading, WantsMemoryForBytes}
 use Rattle.cats_cmd.specs.Runs.{FailsInText, WritesText}
 
--- the place and the hint, of a file at this path
+-- what `cats fault` prints of a file, with path and word escaped
 abbrev pub text_of_place : List ℕ → PlainPlace → List ℕ
 text_of_place path place = place_text (escaped path) (escaped (shown_bytes place.text)) place
 

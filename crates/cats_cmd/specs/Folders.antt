@@ -12,11 +12,11 @@ use Rattle.std.specs.Str.{is_utf8}
 abbrev pub paths_of : List (Vec ℕ Global) → List (List ℕ)
 paths_of paths = map (λ path. path.items) paths
 
--- what was found at a path, if it was a folder
+-- the files that a source found below a path, if there was a folder
 abbrev pub found_of : Option (Vec (Vec ℕ Global) Global) → Option (List (List ℕ))
 found_of found = option_map (λ files. paths_of files.items) found
 
--- a folder's path, with a slash behind it
+-- a folder's path, with one slash behind it
 abbrev pub with_slash : List ℕ → List ℕ
 with_slash folder = if ends_with nat_eq folder (47 ∷ []) then folder else folder ++ 47 ∷ []
 
@@ -26,7 +26,7 @@ BeginsWith start path = (rest : List ℕ) × (path ≡ start ++ rest)
 abbrev pub IsBelow : List ℕ → List ℕ → Type 0
 IsBelow folder path = BeginsWith (with_slash folder) path
 
--- paths below the folder, each once, in the order of their bytes
+-- paths below a folder, each once, in the order of their bytes
 pub record ListsFolder (folder : List ℕ) (files : List (List ℕ)) : Type 0 where
   pub below : All (IsBelow folder) files
   pub sorted : IsStrictlySortedBy (slice_cmp nat_cmp) files
@@ -40,11 +40,13 @@ abbrev pub files_of : List ℕ → Option (List (List ℕ)) → List (List ℕ)
 files_of path None = path ∷ []
 files_of path (Some files) = files
 
+-- the files at a path: those below a folder, or the path itself
 abbrev pub files_at : FoundAt → List (List ℕ)
 files_at at = files_of at.path at.found
 
 -- `may_find` says what may be found at a path: no folder, or which files below it.
 module _ (may_find : List ℕ → Option (List (List ℕ)) → Type 0) where
+  -- a source finds no folder at a path, or these files below one
   abbrev pub Finds : List ℕ → Option (List (List ℕ)) → Type 0
   Finds path None = may_find path None
   Finds path (Some files) = may_find path (Some files) × ListsFolder path files

@@ -11,7 +11,7 @@ abbrev pub text_read : Option FinePrices → List ℕ → List ℕ
 text_read None text = text
 text_read (Some fine) text = rounded_text fine text
 
--- the text that is read spells a file, of which a command makes this status and output
+-- of the file that a text spells, perhaps with rounded prices, a command makes this status and output
 pub record PrintsOf (outcome : PlainFile → Outcome) (fine : Option FinePrices) (text : List ℕ) (status : ℕ)
     (out : List ℕ) : Type 0 where
   pub file : PlainFile

@@ -5,11 +5,11 @@ use Rattle.cats_cmd.specs.Folders.{AreFilesAt}
 use Rattle.cats_cmd.specs.declared.source.Way.{Way}
 use Rattle.cats_cmd.specs.declared.source.Way.TheVariants.{Regular}
 
--- a path that is opened, and in which way
+-- a path, and how it is opened: whatever is there, no folder, or only a regular file
 abbrev pub Opening : Type 0
 Opening = List ℕ × Way
 
--- known openings, and then these
+-- known openings with more behind them
 abbrev pub with_openings : Option (List Opening) → List Opening → Option (List Opening)
 with_openings known more = option_map (λ before. before ++ more) known
 
@@ -19,7 +19,7 @@ regular_openings paths = map (λ path. (path, Regular)) (filter is_utf8 paths)
 
 -- `content_of` says what a source holds, and `opened` what it has opened, if that is known.
 module _ {S H : Type 0} (content_of : S → H) (opened : S → Option (List Opening)) where
-  -- the source has made these openings more, in order, with those that it refused, and holds what it held
+  -- a source has made these openings more, in order, refused ones too, and holds what it held
   pub record Opens (old new : S) (openings : List Opening) : Type 0 where
     pub stays : content_of new ≡ content_of old
     pub more : opened new ≡ with_openings (opened old) openings

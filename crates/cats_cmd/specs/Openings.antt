@@ -71,7 +71,7 @@ module _ {S H F : Type 0} (content_of : S → H) (opened : S → Option (List Op
     OpensPaths Two (first ∷ second ∷ []) request old new status = OpensPair first second old new status
     OpensPaths count paths request old new status = new ≡ old
 
-    -- the paths of a request, which ends with this status
+    -- the program opens the paths of a request, each once, in order
     abbrev pub OpensFor : PlainRequest → S → S → ℕ → Type 0
     OpensFor request = OpensPaths (files_of request.task) request.files request
 
@@ -81,6 +81,6 @@ module _ {S H F : Type 0} (content_of : S → H) (opened : S → Option (List Op
       pub asked : request_of words ≡ Some request
       pub opens : OpensFor request old new status
 
-    -- what any command line opens
+    -- the program opens the paths that a command line requests, or nothing
     abbrev pub OpensLine : List (List ℕ) → S → S → ℕ → Type 0
     OpensLine words old new status = OpensAsked words old new status ⊎ OpensNothing words old new status

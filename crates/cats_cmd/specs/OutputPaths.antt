@@ -9,7 +9,7 @@ use Rattle.cats_cmd.specs.SizesTables.{columns}
 use Rattle.cats_cmd.specs.declared.paths.Ending.{Ending}
 use Rattle.cats_cmd.specs.declared.paths.Ending.TheVariants.{Line, Null}
 
--- a path that a file may have: it is not empty, and has no NUL
+-- a path that a file may have: not empty, with no NUL
 pub record IsPath (path : List ℕ) : Type 0 where
   pub some : 0 < length path
   pub plain : All (λ b. (b == 0) ≡ false) path
@@ -36,7 +36,9 @@ is_empty line = length line == 0
 abbrev pub has_lines : List (List ℕ) → Bool
 has_lines lines = nat_lt 0 (length lines)
 
--- the lines between each two that are empty, as paths
+-- the paths in a text of `cats duplicates`, by group (law)
+--
+-- Lines that are empty divide the groups.
 abbrev pub groups_in : Ending → List ℕ → List (List (List ℕ))
 groups_in ending text = map (map (read_path ending)) (filter has_lines (slice_split is_empty (lines_in ending text)))
 
@@ -48,7 +50,9 @@ behind_tabs line zero = line
 behind_tabs [] (suc count) = []
 behind_tabs (b ∷ line) (suc count) = if b == 9 then behind_tabs line count else behind_tabs line (suc count)
 
--- the path of each row below the header, behind its cells
+-- the paths in a text of `cats sizes` (law)
+--
+-- A path is behind the cells of its row, below the header.
 abbrev pub paths_in_table : Ending → List ℕ → List (List ℕ)
 paths_in_table ending text = map (λ line. read_path ending (behind_tabs line (length columns)))
     (drop 1 (lines_in ending text))

@@ -17,10 +17,10 @@ parts_in end text = without_empty_end (slice_split (λ b. b == end) text)
 abbrev pub ended : ℕ → List (List ℕ) → List ℕ
 ended end parts = flat_map (λ part. part ++ end ∷ []) parts
 
--- the paths in a text, in which each ends with NUL
+-- the paths in a list, in which each ends with NUL
 abbrev pub paths_in : List ℕ → List (List ℕ)
 paths_in text = parts_in 0 text
 
--- the text that lists these paths
+-- the list of these paths
 abbrev pub listed : List (List ℕ) → List ℕ
 listed paths = ended 0 paths

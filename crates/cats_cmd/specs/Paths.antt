@@ -27,13 +27,14 @@ use Rattle.commands.specs.Statuses.{status_of_fault}
 use Rattle.commands.specs.FaultLines.{line_of_fault}
 use Rattle.commands.specs.Judgements.{Judgement, IsUnjudged, JudgesInput, fault_judged}
 
--- what became of the file at a path, how many of its prices were rounded, and whether the report of that is lost
+-- what became of the file at a path, its rounded prices, and whether the report on them is lost
 pub record JudgedPath : Type 0 where
   pub path : List ℕ
   pub judgement : Judgement
   pub rounded : ℕ
   pub lost : Bool
 
+-- what became of the file at a path, with no report lost
 abbrev pub judged_path : List ℕ → Judgement → ℕ → JudgedPath
 judged_path path judgement rounded = record { path = path; judgement = judgement; rounded = rounded; lost = false }
 
@@ -45,17 +46,21 @@ abbrev pub status_if : Bool → Option RunFault → ℕ
 status_if lost None = status_if_lost lost 0
 status_if lost (Some fault) = status_of_fault fault
 
+-- the status of a file: 0; 5 if a report is lost; or that of its fault
 abbrev pub status_of_path : JudgedPath → ℕ
 status_of_path judged = status_if judged.lost (fault_judged judged.judgement)
 
+-- the greatest status of judged files
 abbrev pub greatest_status : List JudgedPath → ℕ
 greatest_status judged = fold (λ greatest j. max greatest (status_of_path j)) 0 judged
 
 -- ---- what is reported
 
+-- the line that says why a file was not judged
 abbrev pub refusal_line : List ℕ → RunFault → List ℕ
 refusal_line path fault = escaped path ++ codes ": " ++ line_of_fault fault
 
+-- the line of `--progress` after a path
 abbrev pub progress_line : ℕ → ℕ → List ℕ → List ℕ
 progress_line number count path =
     decimal number ++ codes " of " ++ decimal count ++ codes " " ++ escaped path ++ codes "\n"
@@ -77,6 +82,7 @@ count_line number count = decimal number ++ codes " of " ++ decimal count ++ cod
 abbrev pub line_removal : List ℕ
 line_removal = 27 ∷ codes "[A" ++ 27 ∷ codes "[K"
 
+-- what `--progress` reports after a path
 abbrev pub progress_lines : Progress → ℕ → ℕ → List ℕ → List (List ℕ)
 progress_lines Silent number count path = []
 progress_lines Lines number count path =
@@ -94,11 +100,11 @@ pub record Reporting : Type 0 where
   pub refusals : List ℕ → Option RunFault → List (List ℕ)
   pub progress : Progress
 
--- a line for each file that was not judged
+-- a run that reports each refused file, as `duplicates`
 abbrev pub with_refusals : Progress → Reporting
 with_refusals progress = record { refusals = refusal_lines; progress = progress }
 
--- no line for it, as the text of the run has one
+-- a run that does not report refused files, as `sizes`
 abbrev pub without_refusals : Progress → Reporting
 without_refusals progress = record { refusals = λ path fault. []; progress = progress }
 
@@ -118,7 +124,7 @@ lines_from reporting count number [] = []
 lines_from reporting count number (judged ∷ rest) =
     lines_of_path reporting count number judged ++ lines_from reporting count (suc number) rest
 
--- of all paths
+-- all lines that are reported of judged files
 abbrev pub report_lines : Reporting → ℕ → List JudgedPath → List (List ℕ)
 report_lines reporting count judged = lines_from reporting count 1 judged
 
@@ -132,7 +138,7 @@ module _ {E : Type 0} (messages : E → Option (List ℕ)) (reporting : Reportin
     pub others : ReportsAll messages (reporting.refusals judged.path (fault_judged judged.judgement)
         ++ progress_lines reporting.progress number count judged.path) between new
 
-  -- of paths of which the first has this number
+  -- all lines on files were reported, from the file with this number on
   abbrev pub ReportsFrom : ℕ → List JudgedPath → Watched E → Watched E → Type 0
   ReportsFrom number [] old new = new ≡ old
   ReportsFrom number (judged ∷ rest) old new =

@@ -39,6 +39,7 @@ module _ {R : Type 0} (remaining : R → Option (List ℕ)) where
   gives_by None old new file = GivesAsWritten old new file
   gives_by (Some fine) old new file = GivesRounded fine old new file
 
+  -- the file that a stream spells, as it is or with its prices rounded
   abbrev pub PricedGives : PricedInput R → PricedInput R → PlainFile → Type 0
   PricedGives old new file = gives_by old.fine old new file
 
@@ -63,6 +64,7 @@ module _ {R : Type 0} (remaining : R → Option (List ℕ)) where
   refuses_by None old new fault = StreamRefuses remaining old new fault
   refuses_by (Some fine) old new fault = RefusesRounded fine old new fault
 
+  -- why a stream gave no file
   pub record PricedRefuses (old new : PricedInput R) (fault : ReadFault) : Type 0 where
     pub refuses : refuses_by old.fine old.stream new.stream fault
     pub count : new.rounded ≡ 0
@@ -76,6 +78,6 @@ rounded_words count = if count == 1 then codes " price rounded\n" else codes " p
 abbrev pub rounding_line : List ℕ → ℕ → List ℕ
 rounding_line path count = escaped path ++ codes ": " ++ decimal count ++ rounded_words count
 
--- of a file at this path, how many of its prices were rounded: nothing if none was
+-- the line on how many prices of a file were rounded, if any
 abbrev pub rounding_lines : List ℕ → ℕ → List (List ℕ)
 rounding_lines path count = if count == 0 then [] else rounding_line path count ∷ []

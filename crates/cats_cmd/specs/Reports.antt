@@ -14,11 +14,11 @@ use Rattle.requests.specs.declared.task.Task.TheVariants.{Fault, Round}
 use Rattle.rounding.specs.declared.replacement.FinePrices.{FinePrices}
 use Rattle.command_line.specs.Requests.{request_of}
 
--- whether each of a request's files may be refused, and the others go on
+-- whether a request is for `duplicates` or `sizes`
 abbrev pub is_for_many_files : PlainRequest → Bool
 is_for_many_files request = is_many (files_of request.task)
 
--- whether a command line requests `duplicates` or `sizes`
+-- as `is_for_many_files`, of a command line
 abbrev pub names_many_files : List (List ℕ) → Bool
 names_many_files words = option_map_or is_for_many_files (request_of words) false
 
@@ -27,10 +27,11 @@ abbrev pub finds : Task → ℕ → Bool
 finds Fault status = status == 2
 finds task status = false
 
+-- a request for `fault`, with the status of a fault that was found: 2
 abbrev pub has_found : ℕ → PlainRequest → Bool
 has_found status request = finds request.task status
 
--- whether a command line requests `fault`, and ended with this status
+-- as `has_found`, of a command line
 abbrev pub names_found : ℕ → List (List ℕ) → Bool
 names_found status words = option_map_or (has_found status) (request_of words) false
 
@@ -44,13 +45,13 @@ reports task prices = is_some prices
 abbrev pub is_reporting : PlainRequest → Bool
 is_reporting request = is_for_many_files request || reports request.task request.prices
 
--- whether a command line requests `round`, `duplicates` or `sizes`, or that prices are rounded
+-- as `is_reporting`, of a command line
 abbrev pub names_reporting : List (List ℕ) → Bool
 names_reporting words = option_map_or is_reporting (request_of words) false
 
 -- ---- a report that is lost
 
--- so many prices were changed, and standard error has failed behind the report on them
+-- some prices changed, and standard error has failed behind the report on them
 abbrev pub is_lost : {E : Type 0} → ℕ → Watched E → Bool
 is_lost changed err_after = nat_lt 0 changed && has_failed err_after
 
@@ -58,7 +59,7 @@ is_lost changed err_after = nat_lt 0 changed && has_failed err_after
 abbrev pub status_if_lost : Bool → ℕ → ℕ
 status_if_lost lost status = if lost then 5 else status
 
--- what a run answers: if it fails, no more than that
+-- what a run answers if its report on prices is lost: status 5, but a fault stays
 abbrev pub answer_if_lost : Bool → Result ℕ RunFault → Result ℕ RunFault
 answer_if_lost lost (Ok status) = Ok (status_if_lost lost status)
 answer_if_lost lost (Err fault) = Err fault
@@ -71,7 +72,7 @@ module _ {E : Type 0} (contents : E → Option (List ℕ)) where
     pub answer : Result (Unit {0}) SendFault
     pub sends : Sends contents old new text answer
 
-  -- the text was sent, or nothing, as the stream had failed before
+  -- a text was sent to standard error, or nothing, as that had failed before
   abbrev pub Reports : List ℕ → Watched E → Watched E → Type 0
   Reports text old new = ((has_failed old ≡ true) × (new ≡ old)) ⊎ ((has_failed old ≡ false) × SendsText text old new)
 

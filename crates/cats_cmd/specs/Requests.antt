@@ -74,7 +74,7 @@ module _ {W E : Type 0} (contents : W → Option (List ℕ)) (messages : E → O
     pub sends : (status ≡ 0) × SendsWhole contents out out_after text
         ⊎ (status ≡ 5) × ((written : ℕ) × SendsPart contents out out_after text written)
 
-  -- help is for the output, and what is wrong for standard error
+  -- the answer without a request: help, or what is wrong, with its status
   abbrev pub AnswersNoRequest : NoRequest → Watched W → Watched W → Watched E → Watched E → ℕ → Type 0
   AnswersNoRequest (Help text) out out_after err err_after status =
       SendsHelp (string_bytes text) out out_after status × (err_after ≡ err)
@@ -249,6 +249,7 @@ module _ {F W E : Type 0} (may_open : List ℕ → F → Type 0) (may_refuse : L
       pub reports : Reports messages (line_of_fault fault) between err_after
       pub is_status : status ≡ status_of_fault fault
 
+    -- a request's run is carried out, or its reason to stop is reported
     abbrev pub AnswersRequest : PlainRequest → Watched W → Watched W → Watched E → Watched E → ℕ → Type 0
     AnswersRequest request out out_after err err_after status =
         CarriesOut request out out_after err err_after (Ok status)
@@ -271,7 +272,7 @@ module _ {F W E : Type 0} (may_open : List ℕ → F → Type 0) (may_refuse : L
       pub unasked : IsNoRequestOf words no_request
       pub answers : AnswersNoRequest contents messages no_request out out_after err err_after status
 
-    -- the contract of the program
+    -- the program: a line with a request is answered by `AnswersRequest`, any other by `AnswersNoRequest`
     abbrev pub AnswersLine : List (List ℕ) → Watched W → Watched W → Watched E → Watched E → ℕ → Type 0
     AnswersLine words out out_after err err_after status =
         AnswersAsked words out out_after err err_after status ⊎ AnswersUnasked words out out_after err err_after status

@@ -19,7 +19,7 @@ use Rattle.cats_cmd.specs.Reports.{ReportsAll, is_lost, status_if_lost}
 use Rattle.commands.specs.declared.faults.RunFault.{RunFault}
 use Rattle.commands.specs.declared.faults.RunFault.TheVariants.{Refused, Sent}
 
--- the text with its prices rounded, with status 0, unless the report on them is lost
+-- the outcome of `cats round`, with status 5 if the report on prices is lost
 abbrev pub round_outcome : FinePrices → Bool → List ℕ → Outcome
 round_outcome fine lost bytes = Prints (status_if_lost lost 0) (rounded_text fine bytes)
 

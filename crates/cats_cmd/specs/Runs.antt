@@ -24,8 +24,9 @@ module _ {W : Type 0} (contents : W → Option (List ℕ)) where
   SendsAs status text old new (Err (Sent fault)) = SendsPart contents old new text fault.written
   SendsAs status text old new (Err fault) = ⊥
 
-  -- Sending a text, or a file's text by pages, when the run then answers this status. Memory may be refused, and then
-  -- nothing is written; it belongs to this one of the inputs.
+  -- a text made on the way is written, or its beginning, as the writer failed
+  --
+  -- The run then answers this status. Want of memory comes only before the first byte, for this one of the inputs.
   abbrev pub SendsMadeAs : Which → ℕ → List ℕ → Watched W → Watched W → Result ℕ RunFault → Type 0
   SendsMadeAs whose status text old new (Err (Refused which fault)) = (which ≡ whose) × (fault ≡ Memory) × (new ≡ old)
   SendsMadeAs whose status text old new answer = SendsAs status text old new answer
@@ -82,6 +83,7 @@ module _ {W : Type 0} (contents : W → Option (List ℕ)) (Answers : Result Ans
 
 module _ {I W : Type 0} (gives : I → I → PlainFile → Type 0) (refuses : I → I → ReadFault → Type 0)
     (contents : W → Option (List ℕ)) (outcome : PlainFile → Outcome) where
+  -- what a command on one file answers is written; after a refusal nothing is
   abbrev pub RunsOnFile : I → I → Watched W → Watched W → Result ℕ RunFault → Type 0
   RunsOnFile before after old new answer =
       RunsCommand contents (Commands gives refuses outcome before after) old new answer
@@ -97,7 +99,7 @@ module _ {I J W : Type 0} (gives_first : I → I → PlainFile → Type 0) (refu
       RunsCommand contents (CommandsOnBoth gives_first refuses_first gives_second refuses_second request first
       first_after second second_after) old new answer
 
-  -- a comparison
+  -- what `compare` answers is written; after a refusal nothing is
   abbrev pub Compares : SearchOptions → I → I → J → J → Watched W → Watched W → Result ℕ RunFault → Type 0
   Compares options first first_after second second_after old new answer =
       RunsCommand contents (ComparesFiles gives_first refuses_first gives_second refuses_second options first

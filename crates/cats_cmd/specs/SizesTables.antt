@@ -27,6 +27,7 @@ columns = number_columns ++ (codes "fault", λ j. fault_cell (fault_judged j)) �
 
 -- ---- the table
 
+-- the row of a path in the table of `cats sizes`
 abbrev pub row : Ending → List ℕ → Judgement → List ℕ
 row ending path judgement = cells (map (λ c. c.1 judgement) columns) ++ path_text ending path
 
@@ -36,5 +37,6 @@ rows_of_table ending judgements = flat_map (λ j. row ending j.0 j.1) judgements
 abbrev pub sizes_header : Ending → List ℕ
 sizes_header ending = cells (map (λ c. c.0) columns) ++ codes "file" ++ end_of ending
 
+-- the table of `cats sizes`
 abbrev pub MakesTable : Ending → List (List ℕ × Judgement) → List ℕ → Type 0
 MakesTable ending judgements text = text ≡ sizes_header ending ++ rows_of_table ending judgements

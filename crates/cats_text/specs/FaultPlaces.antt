@@ -8,6 +8,8 @@ use Rattle.cats_text.specs.declared.read_fault.Kind.{Kind}
 use Rattle.cats_text.specs.declared.read_fault.Kind.TheVariants.{Missing}
 use Rattle.cats_text.specs.declared.read_fault.ReadFault.{ReadFault}
 
+-- the place of a fault: its line, the number and the bytes of its word, and its kind
+--
 -- Lines and the words of a line are counted from 1. At the end of a line or of the input the place is behind the last
 -- word, and the text is empty.
 pub record PlainPlace : Type 0 where
@@ -33,10 +35,10 @@ lines_place count lines [] = if is_line_due lines then Some (place_behind (suc c
 lines_place count lines (l ∷ ls) =
     option_or (words_place l.number lines [] l.words) (lines_place count (lines ++ l.words ∷ []) ls)
 
--- the place of the first fault of a text
+-- the place of a text's first fault
 abbrev pub first_place : List ℕ → Option PlainPlace
 first_place text = lines_place (line_count text) [] (significant_lines text)
 
--- what is wrong at a place, without the word
+-- the fault at a place, without its word
 abbrev pub fault_of : PlainPlace → ReadFault
 fault_of place = fault_at place.line place.kind

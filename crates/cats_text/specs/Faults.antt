@@ -57,6 +57,7 @@ number_word h lines w =
     (when (nat_le h.bids (number_of w)) BidNumber
     (when (list_any (λ l. line_number l == number_of w) lines) RepeatedNumber None)))
 
+-- the fault of a word as a price: none, not a price, too large or too fine
 abbrev pub price_word : Word → Option Kind
 price_word w = when (not (is_price w)) NotANumber (when (is_too_large w) TooLarge (when (is_too_fine w) TooFine None))
 
@@ -115,6 +116,7 @@ is_line_due (_ ∷ []) = true
 is_line_due (_ ∷ _ ∷ []) = true
 is_line_due (g ∷ b ∷ d ∷ lines) = nat_lt (length lines) (header_value b)
 
+-- a fault of this kind at this line
 abbrev pub fault_at : ℕ → Kind → ReadFault
 fault_at line kind = record { line = line; kind = kind }
 
@@ -125,7 +127,7 @@ is_text_kind Device = false
 is_text_kind Memory = false
 is_text_kind kind = true
 
--- a fault of a text, at one of its lines or behind the last
+-- a fault of the text itself, at one of its lines or behind the last
 pub record IsOfText (e : ReadFault) : Type 0 where
   pub kind : is_text_kind e.kind ≡ true
   pub line : 0 < e.line
@@ -143,7 +145,7 @@ lines_fault whole count lines [] = if whole && is_line_due lines then Some (faul
 lines_fault whole count lines (l ∷ ls) =
     option_or (line_fault whole lines l) (lines_fault whole count (lines ++ l.words ∷ []) ls)
 
--- the first fault of a text
+-- a text's first fault; a text has one, or spells one file (law)
 abbrev pub first_fault : List ℕ → Option ReadFault
 first_fault text = lines_fault true (line_count text) [] (significant_lines text)
 
@@ -162,11 +164,15 @@ abbrev pub up_to_final : List ℕ → List ℕ
 up_to_final [] = []
 up_to_final (b ∷ bs) = keep_final b (up_to_final bs)
 
--- The fault that is complete in the bytes so far, whatever follows them: the first one up to their last space, tab or
--- LF, but not at the end of a line without LF, nor at the end of the input.
+-- the first fault that these bytes have, whatever follows them
+--
+-- It is the first one up to their last space, tab or LF, but not at the end of a line without LF, nor at the end of the
+-- input.
 abbrev pub complete_fault : List ℕ → Option ReadFault
 complete_fault bytes = lines_fault false 0 [] (significant_lines (up_to_final bytes))
 
--- a fourth significant line has begun: the first one that a reader keeps anything of
+-- whether a fourth significant line has begun; before it no memory is refused
+--
+-- It is the first one that a reader keeps anything of.
 abbrev pub has_bid_line : List ℕ → Bool
 has_bid_line text = nat_lt 3 (length (significant_lines text))

@@ -11,6 +11,7 @@ fed_fault limit bytes =
     if nat_le (length bytes) limit then complete_fault bytes
     else option_or (complete_fault (take limit bytes)) (Some (fault_at 0 TooLong))
 
+-- a reader: its limit, the bytes that came, and the fault that it answered
 pub record Fed : Type 0 where
   pub limit : ℕ
   pub bytes : List ℕ

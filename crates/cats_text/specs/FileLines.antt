@@ -60,6 +60,6 @@ file_of_lines (g ∷ b ∷ d ∷ lines) = record {
 }
 file_of_lines _ = record { goods = 0; dummy = 0; bids = [] }
 
--- the file that a text without a fault says
+-- the file of a text without a fault
 abbrev pub spelled_file : List ℕ → PlainFile
 spelled_file text = file_of_lines (significant_words text)

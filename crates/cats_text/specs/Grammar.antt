@@ -13,7 +13,7 @@ pub record SpellsNumber (w : Word) (n : ℕ) : Type 0 where
   pub number : is_number w ≡ true
   pub value : number_of w ≡ n
 
--- the word is a price of this value, exactly
+-- the word is a price of exactly this value
 pub record SpellsPrice (w : Word) (millionths : ℕ) : Type 0 where
   pub price : is_price w ≡ true
   pub exact : is_too_fine w ≡ false
@@ -47,7 +47,7 @@ line_number (w ∷ ws) = number_of w
 abbrev pub significant_words : List ℕ → List (List Word)
 significant_words text = map (λ l. l.words) (significant_lines text)
 
--- the text spells the file
+-- the text is this file: header lines, and a line for each bid, in any order
 pub record Spells (text : List ℕ) (f : PlainFile) : Type 0 where
   pub goods : Word
   pub bids : Word

@@ -18,7 +18,7 @@ without_zeros (b ∷ bs) = with_place b (without_zeros bs)
 abbrev pub digit_at : ℕ → ℕ → ℕ
 digit_at n place = 48 + n / place % 10
 
--- the last six digits of a number, with zeros before them where it has fewer
+-- a number's last six digits, with leading zeros
 abbrev pub six_digits : ℕ → Word
 six_digits n = map (digit_at n) (100000 ∷ 10000 ∷ 1000 ∷ 100 ∷ 10 ∷ 1 ∷ [])
 
@@ -30,8 +30,9 @@ behind_point (b ∷ bs) = 46 ∷ b ∷ bs
 abbrev pub places_text : ℕ → Word
 places_text n = behind_point (without_zeros (six_digits n))
 
--- a number of millionths: the whole part, then, where millionths are left, a point and their digits without zeros at
--- the end
+-- a price as it is written
+--
+-- Behind the whole part, if millionths are left, are a point and their digits without zeros at the end.
 abbrev pub price_text : ℕ → Word
 price_text millionths = decimal (millionths / 1000000) ++ places_text (millionths % 1000000)
 
@@ -53,5 +54,6 @@ abbrev pub bids_text : ℕ → ℕ → List PlainBid → List ℕ
 bids_text goods n [] = []
 bids_text goods n (b ∷ bs) = bid_text goods n b ++ bids_text goods (suc n) bs
 
+-- the text that is written for a file
 abbrev pub layout : PlainFile → List ℕ
 layout f = headers_text f.goods (length f.bids) f.dummy ++ bids_text f.goods 0 f.bids

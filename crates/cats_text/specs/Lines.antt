@@ -4,7 +4,7 @@
 use Rattle.std.specs.Prelude.{ℕ, suc, ◌==◌, Bool, true, false, not, ◌&&◌, ◌||◌, if◌then◌else◌, List, [], ◌∷◌, length}
 use Rattle.std.specs.Prelude.{filter}
 
--- a word is a list of bytes
+-- a list of bytes
 abbrev pub Word : Type 0
 Word = List ℕ
 
@@ -21,6 +21,7 @@ line_ends (b ∷ bs) = b == 10
 abbrev pub line_byte : ℕ → List ℕ → ℕ
 line_byte b bs = if (b == 13) && line_ends bs then 32 else b
 
+-- the text with a space for each CR that ends a line
 abbrev pub blank_returns : List ℕ → List ℕ
 blank_returns [] = []
 blank_returns (b ∷ bs) = line_byte b bs ∷ blank_returns bs
@@ -58,6 +59,7 @@ with_letter b (w ∷ ws) = (b ∷ w) ∷ ws
 abbrev pub words_with : ℕ → List ℕ → List Word → List Word
 words_with b bs ws = if is_blank b then ws else (if begins_word bs then with_letter b ws else ((b ∷ []) ∷ ws))
 
+-- the words of a line, which blanks separate
 abbrev pub line_words : List ℕ → List Word
 line_words [] = []
 line_words (b ∷ bs) = words_with b bs (line_words bs)
@@ -83,7 +85,7 @@ abbrev pub numbered : ℕ → List RawLine → List Line
 numbered n [] = []
 numbered n (l ∷ ls) = record { number = n; words = line_words l.bytes; ended = l.ended } ∷ numbered (suc n) ls
 
--- the lines that are neither empty nor comments
+-- the lines that are neither empty nor comments, with their numbers and words
 abbrev pub significant_lines : List ℕ → List Line
 significant_lines text = filter (λ l. is_significant l.words) (numbered 1 (raw_lines (blank_returns text)))
 

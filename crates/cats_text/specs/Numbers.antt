@@ -10,7 +10,7 @@ is_digit b = nat_le 48 b && nat_le b 57
 abbrev pub digits_alone : Word → Bool
 digits_alone w = list_all is_digit w
 
--- one or more digits
+-- whether a word is digits alone
 abbrev pub is_number : Word → Bool
 is_number [] = false
 is_number (b ∷ bs) = digits_alone (b ∷ bs)
@@ -31,7 +31,7 @@ abbrev pub places : Word → Word
 places [] = []
 places (b ∷ bs) = if b == 46 then bs else places bs
 
--- digits; or digits, one point, digits
+-- whether a word is digits; or digits, one point, digits
 abbrev pub is_price : Word → Bool
 is_price w = is_number (whole_part w) && (not (has_point w) || is_number (places w))
 
@@ -43,12 +43,12 @@ has_place_from n ds = list_any (λ b. not (b == 48)) (drop n ds)
 abbrev pub GREATEST_PRICE : ℕ
 GREATEST_PRICE = 1000000000000
 
--- the exact value is above the greatest price
+-- whether a price is above the greatest one
 abbrev pub is_too_large : Word → Bool
 is_too_large w = nat_lt GREATEST_PRICE (number_of (whole_part w))
     || ((number_of (whole_part w) == GREATEST_PRICE) && has_place_from 0 (places w))
 
--- there are more than six places, not counting zeros at the end
+-- whether a price has a digit other than 0 after its sixth place
 abbrev pub is_too_fine : Word → Bool
 is_too_fine w = has_place_from 6 (places w)
 
@@ -56,6 +56,6 @@ is_too_fine w = has_place_from 6 (places w)
 abbrev pub six_places : Word → Word
 six_places ds = take 6 (ds ++ 48 ∷ 48 ∷ 48 ∷ 48 ∷ 48 ∷ 48 ∷ [])
 
--- the value in millionths of a price that is not too fine
+-- a price's value; if it is too fine, that of its first six places
 abbrev pub price_of : Word → ℕ
 price_of w = 1000000 * number_of (whole_part w) + number_of (six_places (places w))

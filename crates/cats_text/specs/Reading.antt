@@ -24,17 +24,22 @@ pub record FeedsOn (old : Fed) (piece : List ℕ) (new : Fed) (r : Result (Unit 
   pub bytes : new.bytes ≡ old.bytes ++ piece
   pub answer : FeedAnswer new r
 
+-- a piece was added, and the complete fault of all bytes is answered
+--
+-- A reader that has failed repeats its fault.
 abbrev pub FeedsAs : Fed → List ℕ → Fed → Result (Unit {0}) ReadFault → Type 0
 FeedsAs old piece new r = MatchOption old.failed (FeedsOn old piece new r) (λ e. (new ≡ old) × (r ≡ Err e))
 
+-- the file that the bytes spell, or their first fault
 abbrev pub FinishAnswer : List ℕ → Result BidFile ReadFault → Type 0
 FinishAnswer bytes (Ok f) = Spells bytes (plain_file f)
 FinishAnswer bytes (Err e) = (first_fault bytes ≡ Some e) ⊎ WantsMemory bytes e
 
+-- at the end, the fault that was answered before, or else `FinishAnswer`
 abbrev pub FinishesAs : Fed → Result BidFile ReadFault → Type 0
 FinishesAs fed r = MatchOption fed.failed (FinishAnswer fed.bytes r) (λ e. r ≡ Err e)
 
--- of a file as a caller sees it
+-- as `FinishAnswer`, of a packed file
 abbrev pub PackedAnswer : List ℕ → Result PlainFile ReadFault → Type 0
 PackedAnswer bytes (Ok file) = Spells bytes file
 PackedAnswer bytes (Err e) = (first_fault bytes ≡ Some e) ⊎ WantsMemory bytes e
@@ -45,6 +50,7 @@ pub record SpellsSizes (bytes : List ℕ) (header : Header) : Type 0 where
   pub spells : Spells bytes file
   pub sizes : HasSizes header file
 
+-- as `FinishAnswer`, of the numbers in a header
 abbrev pub CheckAnswer : List ℕ → Result Header ReadFault → Type 0
 CheckAnswer bytes (Ok header) = SpellsSizes bytes header
 CheckAnswer bytes (Err e) = (first_fault bytes ≡ Some e) ⊎ WantsMemory bytes e

@@ -24,38 +24,38 @@ module _ {T : Type 0} where
   abbrev pub inner_of : Watched T → T
   inner_of w = w.inner
 
-  -- a call of it failed
+  -- whether a call of a watched reader or writer failed
   abbrev pub has_failed : Watched T → Bool
   has_failed w = w.failed
 
-  -- a read of it met its end
+  -- whether a read of a watched reader met the end
   abbrev pub has_ended : Watched T → Bool
   has_ended w = w.ended
 
--- a call that moved no byte of a piece that is not empty
+-- whether a call moved no byte of a nonempty piece
 abbrev pub moved_nothing : Result ℕ Error → List ℕ → Bool
 moved_nothing (Ok n) [] = false
 moved_nothing (Ok n) (byte ∷ piece) = n == 0
 moved_nothing (Err e) piece = false
 
--- a write that failed: it answered an error, or took nothing of a piece that is not empty
+-- whether a write answered an error or took nothing of a nonempty piece
 abbrev pub failed_to_write : Result ℕ Error → List ℕ → Bool
 failed_to_write answer piece = is_err answer || moved_nothing answer piece
 
 -- What sending a text does.
 module _ {W : Type 0} (contents : W → Option (List ℕ)) where
-  -- the whole text was sent
+  -- the whole text was written
   pub record SendsWhole (old new : Watched W) (text : List ℕ) : Type 0 where
     pub appended : Appends (contents (inner_of old)) (contents (inner_of new)) text
     pub works : has_failed new ≡ false
 
-  -- the writer failed, and so many of the first bytes of the text were sent
+  -- the writer failed, and so many first bytes of the text were written
   pub record SendsPart (old new : Watched W) (text : List ℕ) (written : ℕ) : Type 0 where
     pub within : written ≤ length text
     pub appended : Appends (contents (inner_of old)) (contents (inner_of new)) (take written text)
     pub failed : has_failed new ≡ true
 
-  -- what sending a text answers
+  -- as `SendsWhole`, or as `SendsPart` by the fault's number of bytes
   abbrev pub Sends : Watched W → Watched W → List ℕ → Result (Unit {0}) SendFault → Type 0
   Sends old new text (Ok u) = SendsWhole old new text
   Sends old new text (Err fault) = SendsPart old new text fault.written
@@ -91,6 +91,7 @@ module _ {R : Type 0} (remaining : R → Option (List ℕ)) where
     pub reads : ReadsFile bytes input file
     pub sizes : HasSizes header file
 
+  -- as `ReadsAs`, of the numbers in a header
   abbrev pub ChecksAs : List ℕ → Watched R → Result Header ReadFault → Type 0
   ChecksAs bytes input (Ok header) = ReadsSizes bytes input header
   ChecksAs bytes input (Err fault) = FaultsAt bytes input fault.line fault.kind
@@ -100,11 +101,12 @@ module _ {R : Type 0} (remaining : R → Option (List ℕ)) where
   FeedsFrom fed input (Ok u) = (fed.failed ≡ None) × (has_failed input ≡ false) × IsWhole fed.bytes input
   FeedsFrom fed input (Err fault) = FaultsAt fed.bytes input fault.line fault.kind
 
-  -- of a file as a caller sees it
+  -- as `ReadsAs`, of a packed file
   abbrev pub ReadsPlainAs : List ℕ → Watched R → Result PlainFile ReadFault → Type 0
   ReadsPlainAs bytes input (Ok file) = ReadsFile bytes input file
   ReadsPlainAs bytes input (Err fault) = FaultsAt bytes input fault.line fault.kind
 
+  -- the file that all of a stream spells; a complete fault; or `Device` if the stream failed
   abbrev pub ReadsAs : List ℕ → Watched R → Result BidFile ReadFault → Type 0
   ReadsAs bytes input (Ok file) = ReadsFile bytes input (plain_file file)
   ReadsAs bytes input (Err fault) = FaultsAt bytes input fault.line fault.kind

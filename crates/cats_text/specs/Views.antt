@@ -11,6 +11,6 @@ pub record HasSizes (header : Header) (file : PlainFile) : Type 0 where
   pub bids : header.bids ≡ length file.bids
   pub dummy : header.dummy ≡ file.dummy
 
--- the place, with the word wherever it lies in memory
+-- a place of the code as a value
 abbrev pub plain_place : FaultPlace → PlainPlace
 plain_place place = record { line = place.line; word = place.word; text = place.text.now; kind = place.kind }

@@ -66,6 +66,7 @@ abbrev pub is_two : Files → Bool
 is_two Two = true
 is_two files = false
 
+-- whether a command has limits, and no flag that chooses the search
 abbrev pub is_always_bounded : TaskRow → Bool
 is_always_bounded row = row.limits && not row.bound
 
@@ -104,7 +105,7 @@ with_argument rules argument = rules ++ (if argument.1 then argument.0 ∷ [] el
 abbrev pub shape_of : TaskRow → Shape
 shape_of row = record (new_shape (name_of row.task)) { rules = fold with_argument [] (arguments_of row) }
 
--- the program has a version, and needs a command
+-- the program's command line, as `clap` has it
 abbrev pub cats : App
 cats = record {
   top = record (new_shape (codes "cats")) { is_leaf = false; has_version = true; subcommand_required = true };

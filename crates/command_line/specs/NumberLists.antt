@@ -32,7 +32,7 @@ abbrev pub all_numbers : (List ℕ → Option (List ℕ)) → List (List ℕ) �
 all_numbers numbers_of [] = Some []
 all_numbers numbers_of (text ∷ texts) = joined (numbers_of text) (all_numbers numbers_of texts)
 
--- the parts of a word have commas (44) between them
+-- the goods or bids that a word names: numbers and ranges between commas
 abbrev pub numbers_of_word : ℕ → List ℕ → Option (List ℕ)
 numbers_of_word most word = all_numbers (numbers_of_part most) (slice_split (λ b. b == 44) word)
 

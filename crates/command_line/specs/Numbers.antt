@@ -7,7 +7,7 @@ use Rattle.clap.specs.ValueTests.{is_unsigned_in}
 abbrev pub number_up_to : ℕ → List ℕ → Option ℕ
 number_up_to most text = if is_unsigned_in 0 most text then Some (digits_value 10 (without_leading_plus text)) else None
 
--- the number of a limit, which has 64 bits
+-- the number in a limit's text
 abbrev pub limit_of : List ℕ → Option ℕ
 limit_of text = number_up_to 18446744073709551615 text
 

@@ -87,11 +87,11 @@ abbrev pub if_taken : Kinds → Option PlainRequest → Option PlainRequest
 if_taken [] found = found
 if_taken (kind ∷ kinds) found = None
 
--- What a command line requests, if it is one that `clap` takes.
+-- what a line of words requests, if it is right
 abbrev pub request_of : List (List ℕ) → Option PlainRequest
 request_of words = if_taken (fault_of cats words) (result_ok (requested_of words))
 
--- why a line requests nothing although `clap` takes it
+-- why a line that `clap` takes requests nothing
 abbrev pub misuse_of : List (List ℕ) → Misuse
 misuse_of words = unwrap_or (result_err (requested_of words)) NoFiles
 
@@ -105,14 +105,14 @@ is_shown DisplayHelp = true
 is_shown DisplayVersion = true
 is_shown kind = false
 
--- Why a line is no request: it names help or the version; `clap` refuses it; `clap` takes it and it is wrong still; or
--- memory was refused, as it may be to any line.
+-- why a line requests nothing: it names help, `clap` refuses it, `misuse_of` says why, or want of memory
 abbrev pub IsNoRequestOf : List (List ℕ) → NoRequest → Type 0
 IsNoRequestOf words (Help text) = list_any is_shown (fault_of cats words) ≡ true
 IsNoRequestOf words (WrongUsage text) = list_any (λ kind. not (is_shown kind)) (fault_of cats words) ≡ true
 IsNoRequestOf words (Misused misuse) = (fault_of cats words ≡ []) × (requested_of words ≡ Err misuse)
 IsNoRequestOf words NoMemory = Unit {0}
 
+-- want of memory, which alone may come to a right line (law)
 abbrev pub is_no_memory : NoRequest → Bool
 is_no_memory NoMemory = true
 is_no_memory answer = false
@@ -123,14 +123,15 @@ is_wrong_usage answer = false
 
 -- ---- a line with few words
 
--- How a command searches that is given no option for that. Where a flag chooses the bounded search, it is the plain
--- one.
+-- how a command searches without an option
+--
+-- Where a flag chooses the bounded search, it is the plain one.
 abbrev pub usual_options : Task → SearchOptions
 usual_options task = if list_any (bytes_eq (name_of task)) (names_with (λ row. row.bound)) then plain_options 1000000
     else bounded_options (if list_any (bytes_eq (name_of task)) (names_with (λ row. row.limits)) then 1000000 else 0)
     None
 
--- what is requested of a command with these files and nothing else
+-- what is requested of a command with these files and no option
 abbrev pub usual : Task → List (List ℕ) → PlainRequest
 usual task files = record {
   task = task;
@@ -145,7 +146,7 @@ usual task files = record {
   all = false;
 }
 
--- a number with a sign requests nothing
+-- the request, unless this number begins with a sign
 abbrev pub unless_signed : List ℕ → PlainRequest → Option PlainRequest
 unless_signed text request = if begins_with_sign text then None else Some request
 
@@ -158,12 +159,13 @@ abbrev pub is_one : Files → Bool
 is_one One = true
 is_one files = false
 
--- as many paths as a command reads: one or two, and of many two
+-- one of two paths, or both, by how many files a command reads
 abbrev pub paths_for : TaskRow → List ℕ → List ℕ → List (List ℕ)
 paths_for row first second = if is_one row.files then first ∷ [] else first ∷ second ∷ []
 
--- Each command that passes the test requests this, if these words and then its paths follow its name. A path here does
--- not begin with a hyphen.
+-- each command whose row passes the test requests this, by these words and then its paths
+--
+-- A path here does not begin with a hyphen.
 pub record EachRequests (test : TaskRow → Bool) (words : List (List ℕ))
     (request : Task → List (List ℕ) → Option PlainRequest) : Type 0 where
   pub each : (program first second : List ℕ) → begins_with_hyphen first ≡ false → begins_with_hyphen second ≡ false

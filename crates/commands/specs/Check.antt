@@ -3,6 +3,7 @@ use Rattle.std.specs.Prelude.{ℕ, List, ◌++◌, length, codes, decimal}
 use Rattle.bid_file.specs.Files.{PlainFile}
 use Rattle.commands.specs.Outcomes.{Outcome, Prints}
 
+-- what `cats check` prints of these numbers
 abbrev pub sizes_text : ℕ → ℕ → ℕ → List ℕ
 sizes_text goods bids dummy = codes "goods " ++ decimal goods ++ codes " bids " ++ decimal bids ++ codes " dummy "
     ++ decimal dummy ++ codes "\n"
@@ -11,6 +12,6 @@ sizes_text goods bids dummy = codes "goods " ++ decimal goods ++ codes " bids " 
 abbrev pub check_text : PlainFile → List ℕ
 check_text file = sizes_text file.goods (length file.bids) file.dummy
 
--- of `cats check`
+-- the outcome of `cats check`
 abbrev pub check_outcome : PlainFile → Outcome
 check_outcome file = Prints 0 (check_text file)

@@ -22,7 +22,7 @@ use Rattle.commands.specs.declared.answer.Answer.{Answer}
 use Rattle.commands.specs.declared.answer.Output.{Output}
 use Rattle.commands.specs.declared.answer.Output.TheVariants.{Text, File}
 
--- what is printed
+-- what an answer prints: its text, or the layout of its file
 abbrev pub text_of : Output → List ℕ
 text_of (Text text) = text.items
 text_of (File file) = layout file
@@ -51,7 +51,9 @@ module _ {I : Type 0} (gives : I → I → PlainFile → Type 0) (refuses : I �
   IsRefused old new (StepLimit goods) = Makes old new (ExceedsSteps goods.items)
   IsRefused old new Memory = refuses old new (fault_at 0 NoMemory) ⊎ GivesSome old new
 
-  -- the contract of a command, from its input before to that after
+  -- what a command on one input answers, or why that was refused
+  --
+  -- It goes from the input before to that after.
   abbrev pub Commands : I → I → Result Answer RunFault → Type 0
   Commands old new (Ok answer) = Makes old new (Prints answer.status (text_of answer.output))
   Commands old new (Err (Refused which fault)) = (which ≡ Only) × IsRefused old new fault

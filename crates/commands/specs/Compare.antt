@@ -28,6 +28,7 @@ abbrev pub difference_lines : List ℕ → List ℕ → List ℕ → List ℕ
 difference_lines place left right = codes "different\n" ++ place ++ codes "\nleft " ++ left ++ codes "\nright " ++ right
     ++ codes "\n"
 
+-- what `cats compare` prints of a difference
 abbrev pub difference_text : Difference → List ℕ
 difference_text NoDifference = codes "same\n"
 difference_text (InGoods left right) = difference_lines (codes "goods") (decimal left) (decimal right)
@@ -36,7 +37,7 @@ difference_text (InOr bundle left right) = difference_lines (codes "or " ++ bund
 difference_text (InXor bidder left right) = difference_lines (codes "xor" ++ bidder_text bidder) (decimal left)
     (decimal right)
 
--- the status of a comparison
+-- 0 if there is no difference, else 1
 abbrev pub status_of_difference : Difference → ℕ
 status_of_difference NoDifference = 0
 status_of_difference _ = 1
@@ -44,6 +45,6 @@ status_of_difference _ = 1
 abbrev pub outcome_of_difference : Difference → Outcome
 outcome_of_difference difference = Prints (status_of_difference difference) (difference_text difference)
 
--- of `cats compare` on two files
+-- the outcome of `cats compare`
 abbrev pub compare_outcome : PlainFile → PlainFile → Outcome
 compare_outcome left right = outcome_of_difference (first_difference (auction_from left) (auction_from right))

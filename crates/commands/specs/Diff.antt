@@ -11,7 +11,7 @@ use Rattle.analysis.specs.Bids.{best_number}
 use Rattle.commands.specs.Outputs.{list_cell, number_cell, price_cell}
 use Rattle.commands.specs.Outcomes.{Outcome, Prints}
 
--- the names of the columns
+-- the columns' names in the table of `cats diff`
 abbrev pub diff_header : List ℕ
 diff_header = codes "kind\tgoods\tleft\tright\tleft_dummy\tright_dummy\tleft_bid\tright_bid\n"
 
@@ -48,16 +48,15 @@ abbrev pub bidder_rows : PlainFile → PlainFile → PlainBidderChange → List 
 bidder_rows f g c = flat_map (change_row (codes "xor") f g (named_dummy (kept_dummies f) c.left)
     (named_dummy (kept_dummies g) c.right)) c.bids
 
--- The differences of the canonical files of two files: the numbers of goods, the OR bidders' bundles, and then the XOR
--- bidders.
+-- the table of `cats diff`: numbers of goods, then OR bundles, then XOR bidders
 abbrev pub diff_text : PlainFile → PlainFile → PlainDifferences → List ℕ
 diff_text f g d = diff_header ++ goods_rows d.goods ++ flat_map (change_row (codes "or") f g None None) d.bundles
     ++ flat_map (bidder_rows f g) d.bidders
 
--- the status of all differences
+-- 0 if there is no difference, else 1
 abbrev pub status_of_differences : PlainDifferences → ℕ
 status_of_differences differences = if is_none_at_all differences then 0 else 1
 
--- of `cats diff` on two files, whose differences are these
+-- the outcome of `cats diff` on two files with these differences
 abbrev pub diff_outcome : PlainFile × PlainFile × PlainDifferences → Outcome
 diff_outcome compared = Prints (status_of_differences compared.2) (diff_text compared.0 compared.1 compared.2)

@@ -27,17 +27,17 @@ reason_cells (Same j) = codes "same\t\t" ++ list_cell (j ∷ [])
 reason_cells (Inside j) = codes "inside\t\t" ++ list_cell (j ∷ [])
 reason_cells (Packing js) = codes "packing\t\t" ++ list_cell js
 
--- the row of the bid with this number
+-- a bid's row in the table of `cats explain`
 abbrev pub explanation_row : ℕ → PlainBid → PlainReason → List ℕ
 explanation_row number bid reason = decimal number ++ codes "\t" ++ bid_cells bid ++ codes "\t" ++ reason_cells reason
     ++ codes "\n"
 
--- the header, and the rows of the bids in order of number
+-- the table of `cats explain`, by the bids' reasons
 abbrev pub explanation_text : PlainFile → List PlainReason → List ℕ
 explanation_text file reasons = explanation_header
     ++ flat_map (λ i. explanation_row i (bid_at file i) (reason_at reasons i)) (numbers_of file)
 
--- of `cats explain`: the table of the bids with their reasons. It refuses what `cats normalise` refuses
+-- the outcome of `cats explain`, which refuses what `cats normalise` refuses
 abbrev pub explain_outcome : SearchOptions → PlainFile → Outcome
 explain_outcome options file =
     outcome_within options (exceeds_at options file) (explanation_text file (reasons_of file)) file

@@ -11,7 +11,9 @@ use Rattle.cats_text.specs.declared.read_fault.Kind.TheVariants.{TooLong, Device
 use Rattle.commands.specs.Hints.{first_hint, rows_of, sentence}
 use Rattle.commands.specs.KindNames.{name_of_kind}
 
--- at most 100 bytes
+-- the rule of a kind of fault, and a remedy
+--
+-- It has at most 100 bytes.
 abbrev pub hint_of_kind : Kind → List ℕ
 hint_of_kind Header =
     codes "header lines are `goods N`, `bids N` and `dummy N`, in this order; write `dummy 0` if there are none"
@@ -38,11 +40,11 @@ hint_of_kind Device = codes "a file is read to its end, and this read failed; gi
 hint_of_kind Memory =
     codes "reading a file takes memory, which was refused; free some, or raise its limit, as by `ulimit -v`"
 
--- what helps: the hint of the first row that fits, or else that of the kind
+-- what helps at a place: the first hint that fits, or that of the kind
 abbrev pub hint_of : PlainPlace → List ℕ
 hint_of place = option_map_or sentence (first_hint (rows_of place.kind) place) (hint_of_kind place.kind)
 
--- the bytes of a word that are printed
+-- the bytes of a word that are printed, at most 60
 abbrev pub shown_bytes : Word → List ℕ
 shown_bytes w = take 60 w
 
@@ -55,7 +57,7 @@ before_word (b ∷ bs) = codes ": "
 abbrev pub behind_word : Word → List ℕ
 behind_word w = if nat_lt 60 (length w) then codes ".." else []
 
--- of a text at a path, both the path and the bytes of the word as they are printed
+-- what `cats fault` prints: the place with its word, and what helps
 abbrev pub place_text : List ℕ → List ℕ → PlainPlace → List ℕ
 place_text path word place =
     path ++ codes ":" ++ decimal place.line ++ codes ":" ++ decimal place.word ++ codes ": " ++ name_of_kind place.kind

@@ -59,6 +59,7 @@ text_of_unopened IsFolder = codes "cannot open: is a folder"
 text_of_unopened NotAFile = codes "cannot open: not a file"
 text_of_unopened Other = codes "cannot open"
 
+-- the line that reports a fault
 abbrev pub line_of_fault : RunFault → List ℕ
 line_of_fault (NotOpened which why) = prefix_of which ++ text_of_unopened why ++ codes "\n"
 line_of_fault (Refused which fault) = prefix_of which ++ text_of_canon_fault fault ++ codes "\n"

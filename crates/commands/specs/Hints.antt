@@ -167,7 +167,7 @@ rows_of kinds.AfterEnd = BEHIND_END_HINTS
 rows_of kinds.Missing = CUT_FILE_HINTS
 rows_of kind = []
 
--- the rows of all kinds
+-- all rows of hints
 abbrev pub all_rows : List HintRow
 all_rows = HEADER_HINTS ++ NUMBER_HINTS ++ LIMIT_HINTS ++ BUNDLE_HINTS ++ CUT_LINE_HINTS ++ BEHIND_END_HINTS
     ++ CUT_FILE_HINTS
@@ -176,7 +176,9 @@ all_rows = HEADER_HINTS ++ NUMBER_HINTS ++ LIMIT_HINTS ++ BUNDLE_HINTS ++ CUT_LI
 abbrev pub first_hint : List HintRow → PlainPlace → Option Hint
 first_hint rows place = option_map (λ row. row.hint) (find (fits place) rows)
 
--- at most 100 bytes
+-- what a hint says
+--
+-- It has at most 100 bytes.
 abbrev pub sentence : Hint → List ℕ
 sentence hints.Gzip = codes "the file is packed by gzip; `zcat F | cats check /dev/stdin` reads it"
 sentence hints.Bzip2 = codes "the file is packed by bzip2; `bzcat F | cats check /dev/stdin` reads it"

@@ -10,6 +10,7 @@ use Rattle.cats_text.specs.declared.read_fault.ReadFault.{ReadFault}
 use Rattle.cats_text.specs.declared.stream.Watched.{Watched}
 
 module _ {I : Type 0} (gives : I → I → PlainFile → Type 0) (refuses : I → I → ReadFault → Type 0) where
+  -- reading an input gave this file, or this fault
   abbrev pub ReadsAs : I → I → Result PlainFile ReadFault → Type 0
   ReadsAs old new (Ok file) = gives old new file
   ReadsAs old new (Err fault) = refuses old new fault
@@ -20,6 +21,7 @@ module _ {I : Type 0} (gives : I → I → PlainFile → Type 0) (refuses : I �
     pub given : gives old new file
     pub sizes : HasSizes header file
 
+  -- reading an input gave a file with these numbers, or this fault
   abbrev pub ChecksAs : I → I → Result Header ReadFault → Type 0
   ChecksAs old new (Ok header) = GivesSizes old new header
   ChecksAs old new (Err fault) = refuses old new fault

@@ -12,6 +12,7 @@ use Rattle.commands.specs.declared.faults.HeavyBid.{HeavyBid}
 use Rattle.commands.specs.declared.faults.RunFault.{RunFault}
 use Rattle.commands.specs.declared.faults.RunFault.TheVariants.{Refused, TooHeavy}
 
+-- what became of one of many files: judged, refused by a limit at a bid, or not read
 pub data Judgement : Type 0 where
   -- this file was read, and no bundle of it is refused
   IsJudged : PlainFile → Judgement
@@ -41,6 +42,7 @@ fault_judged (IsUnjudged fault) = Some fault
 -- Reading an input gives this. Of no input but one that gives a file is a bundle refused.
 module _ {I : Type 0} (gives : I → I → PlainFile → Type 0) (refuses : I → I → ReadFault → Type 0)
     (options : SearchOptions) where
+  -- reading an input gives this judgement
   abbrev pub JudgesInput : I → I → Judgement → Type 0
   JudgesInput before after (IsJudged file) = GivesWithin gives refuses options before after file
   JudgesInput before after (IsHeavy file heavy) = gives before after file

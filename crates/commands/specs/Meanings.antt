@@ -24,6 +24,7 @@ outcome_by Normalise request bids = normalise_outcome request.options
 outcome_by Explain request bids = explain_outcome (bounded_options request.options.each request.options.total)
 outcome_by task request bids = lp_outcome
 
+-- what the command of a request makes of one file and its named bids
 abbrev pub outcome_of : PlainRequest → List ℕ → PlainFile → Outcome
 outcome_of request = outcome_by request.task request
 
@@ -35,6 +36,6 @@ own_statuses Normalise = 3 ∷ []
 own_statuses Explain = 3 ∷ []
 own_statuses task = []
 
--- the statuses that a command on one file may end with
+-- the statuses with which a command on one file may end (law)
 abbrev pub statuses_of : Task → List ℕ
 statuses_of task = 0 ∷ 2 ∷ 4 ∷ 5 ∷ own_statuses task

@@ -25,26 +25,27 @@ abbrev pub outcome_within : SearchOptions → (List ℕ → Outcome) → List �
 outcome_within options refusal text file =
     text_unless_refused refusal text (first_refused options file.goods (or_atoms_of file.bids))
 
--- of `cats normalise`: the canonical text, unless a bundle of the OR bidder is refused
+-- the outcome of `cats normalise`: the canonical text, unless the limits refuse an OR bundle
 abbrev pub normalise_outcome : SearchOptions → PlainFile → Outcome
 normalise_outcome options file = outcome_within options ExceedsSteps (canonical_text file) file
 
--- a bid of the OR bidder on the bundle of these goods
+-- a bid of the OR bidder on this bundle
 abbrev pub is_on : List ℕ → PlainBid → Bool
 is_on goods b = is_none b.dummy && pointwise nat_eq b.goods goods
 
--- the number of the first such bid
+-- the number of the OR bidder's first bid on this bundle
 abbrev pub first_bid_on : PlainFile → List ℕ → ℕ
 first_bid_on file goods = position_or_len (is_on goods) file.bids
 
--- the bundle of these goods is refused, and the bid is named
+-- the outcome that names the first bid on a refused bundle
 abbrev pub exceeds_at : SearchOptions → PlainFile → List ℕ → Outcome
 exceeds_at options file goods = ExceedsAtBid options.each options.total (first_bid_on file goods) goods
 
--- the canonical text, by a command that names the bid whose bundle is refused
+-- as `normalise_outcome`, but the bid on a refused bundle is named
 abbrev pub naming_outcome : SearchOptions → PlainFile → Outcome
 naming_outcome options file = outcome_within options (exceeds_at options file) (canonical_text file) file
 
+-- a fault that names the first bid on a refused bundle
 abbrev pub with_bid : Which → PlainFile → SearchOptions → CanonFault → RunFault
 with_bid which file options (StepLimit goods) = TooHeavy which (record {
   number = first_bid_on file goods.items;

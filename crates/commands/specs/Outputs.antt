@@ -8,7 +8,7 @@ abbrev pub list_text : {A : Type 0} → ℕ → (A → List ℕ) → List A → 
 list_text between text [] = []
 list_text between text (x ∷ xs) = text x ++ flat_map (λ y. between ∷ text y) xs
 
--- a bundle in a line: its goods with a comma (44) between each two
+-- a bundle in a line: goods with commas (44) between
 abbrev pub bundle_text : List ℕ → List ℕ
 bundle_text goods = list_text 44 decimal goods
 
@@ -16,7 +16,7 @@ bundle_text goods = list_text 44 decimal goods
 abbrev pub after_commas : List ℕ → List ℕ
 after_commas goods = flat_map (λ g. 44 ∷ decimal g) goods
 
--- a list of numbers in a table: with a space (32) between each two, as in a bid file
+-- numbers in a table: with spaces (32) between
 abbrev pub list_cell : List ℕ → List ℕ
 list_cell numbers = list_text 32 decimal numbers
 

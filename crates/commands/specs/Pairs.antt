@@ -81,7 +81,7 @@ module _ {I J : Type 0} (gives_first : I → I → PlainFile → Type 0) (refuse
 
   -- ---- a comparison
 
-  -- which files were given, and their first difference is printed
+  -- what `cats compare` answers on two inputs, or which was refused and why
   abbrev pub Compares : I → I → J → J → Result Answer RunFault → Type 0
   Compares first first_after second second_after answer =
       CommandsBoth (normalise_outcome options) (GivesBoth first first_after second second_after) outcome_of_both first
@@ -109,5 +109,6 @@ module _ {I J : Type 0} (gives_first : I → I → PlainFile → Type 0) (refuse
   CommandsBy Compare options = Compares gives_first refuses_first gives_second refuses_second options
   CommandsBy task options = Diffs gives_first refuses_first gives_second refuses_second options
 
+  -- what `compare` or `diff` answers on two inputs, as a request says
   abbrev pub CommandsOnBoth : PlainRequest → I → I → J → J → Result Answer RunFault → Type 0
   CommandsOnBoth request = CommandsBy request.task request.options

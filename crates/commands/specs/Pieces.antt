@@ -12,6 +12,6 @@ text_of_piece (Number number) = decimal number
 text_of_piece (Goods goods) = bundle_text goods.now
 text_of_piece (Price price) = price_text price
 
--- the text of one piece after the other
+-- the texts of pieces, one behind the other
 abbrev pub text_of_pieces : List Piece → List ℕ
 text_of_pieces pieces = flat_map text_of_piece pieces

@@ -10,6 +10,6 @@ abbrev pub outcome_of_verdict : Result AllocationVerdict ℕ → Outcome
 outcome_of_verdict (Err bid) = LacksBid bid
 outcome_of_verdict (Ok verdict) = Prints (allocation_status verdict) (allocation_text verdict)
 
--- of `cats revenue` on the bids of these numbers
+-- the outcome of `cats revenue` on the named bids
 abbrev pub revenue_outcome : List ℕ → PlainFile → Outcome
 revenue_outcome bids file = outcome_of_verdict (allocation_verdict file bids)

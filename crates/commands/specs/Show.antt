@@ -3,6 +3,6 @@ use Rattle.bid_file.specs.Files.{PlainFile}
 use Rattle.cats_text.specs.Layout.{layout}
 use Rattle.commands.specs.Outcomes.{Outcome, Prints}
 
--- of `cats show`
+-- the outcome of `cats show`: the layout
 abbrev pub show_outcome : PlainFile → Outcome
 show_outcome file = Prints 0 (layout file)

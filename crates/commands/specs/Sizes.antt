@@ -36,9 +36,11 @@ abbrev pub canonical_numbers : List Number
 canonical_numbers = (codes "kept", λ f. length f.bids) ∷ (codes "kept_or", λ f. count_or f.bids)
     ∷ (codes "kept_xor", λ f. count_xor f.dummy f.bids) ∷ []
 
+-- the numbers of a file in the table of `cats sizes`
 abbrev pub sizes_of : PlainFile → List ℕ
 sizes_of f = map (λ n. n.1 f) file_numbers
 
+-- as `sizes_of`, of a canonical file
 abbrev pub counts_of : PlainFile → List ℕ
 counts_of f = map (λ n. n.1 f) canonical_numbers
 
@@ -62,10 +64,13 @@ abbrev pub number_columns : List Column
 number_columns = map (λ n. (n.0, λ j. number_in (file_read j) n)) file_numbers
     ++ map (λ n. (n.0, λ j. number_in (canonical_known j) n)) canonical_numbers
 
+-- the cells of a file's numbers in the table of `cats sizes`
 abbrev pub numbers_judged : Judgement → List ℕ
 numbers_judged judgement = cells (map (λ c. c.1 judgement) number_columns)
 
--- the cells of the numbers were put behind a text, and this is why they are not known
+-- the cells of `numbers_judged` were put behind a text
+--
+-- The fault says why some are empty.
 pub record PutsNumbers {I : Type 0} (gives : I → I → PlainFile → Type 0) (refuses : I → I → ReadFault → Type 0)
     (options : SearchOptions) (before after : I) (old new : List ℕ) (fault : Option RunFault) : Type 0 where
   pub judgement : Judgement

@@ -18,6 +18,7 @@ status_of_canon_fault (Read fault) = status_of_read_fault fault.kind
 status_of_canon_fault (StepLimit goods) = 3
 status_of_canon_fault Memory = 4
 
+-- the exit status of a fault
 abbrev pub status_of_fault : RunFault → ℕ
 status_of_fault (NotOpened which why) = 5
 status_of_fault (Refused which fault) = status_of_canon_fault fault

@@ -15,7 +15,7 @@ use Rattle.valuation.specs.ValueSearches.{value_steps}
 use Rattle.valuation.specs.declared.search.options.SearchOptions.{SearchOptions}
 use Rattle.commands.specs.Outcomes.{Outcome, Prints, LacksGood, ExceedsSteps}
 
--- the bundle of these goods, in any order and with any of them repeated
+-- the bundle of named goods, some perhaps repeated
 abbrev pub bundle_from : List ℕ → List ℕ
 bundle_from goods = fold (λ bundle g. with_good g bundle) [] goods
 
@@ -89,7 +89,7 @@ value_outcome_if refuses goods file =
 abbrev pub exceeds_limits : List ℕ → SearchOptions → PlainFile → Bool
 exceeds_limits bundle options file = is_one_over options (value_steps options.kind (or_atoms_of file.bids) bundle)
 
--- of `cats value`, by searches of any kind
+-- the outcome of `cats value`, by searches of any kind
 abbrev pub value_outcome_by : List ℕ → SearchOptions → PlainFile → Outcome
 value_outcome_by goods options = value_outcome_if (exceeds_limits (bundle_from goods) options) goods
 
@@ -97,6 +97,6 @@ value_outcome_by goods options = value_outcome_if (exceeds_limits (bundle_from g
 abbrev pub exceeds_packings : List ℕ → ℕ → PlainFile → Bool
 exceeds_packings bundle limit file = nat_lt limit (count_packings (or_atoms_of file.bids) bundle)
 
--- by the plain search, which takes a step for each packing
+-- as `value_outcome_by`, by plain searches with a step for each packing
 abbrev pub value_outcome : List ℕ → ℕ → PlainFile → Outcome
 value_outcome goods limit = value_outcome_if (exceeds_packings (bundle_from goods) limit) goods

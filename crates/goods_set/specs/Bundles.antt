@@ -8,7 +8,7 @@ use Rattle.std.specs.List.{AllByRecursion, list_any, list_all, filter, find, fla
 abbrev pub AreAbove : ℕ → List ℕ → Type 0
 AreAbove g xs = AllByRecursion (λ x. g < x) xs
 
--- each member of the list is below g
+-- each good of xs is below g
 abbrev pub AreBelow : ℕ → List ℕ → Type 0
 AreBelow g xs = AllByRecursion (λ x. x < g) xs
 
@@ -17,23 +17,23 @@ abbrev pub IsRising : List ℕ → Type 0
 IsRising [] = Unit {0}
 IsRising (x ∷ xs) = AreAbove x xs × IsRising xs
 
--- a bundle over G goods
+-- xs is a bundle over G goods: it rises, each good below G
 abbrev pub IsBundle : ℕ → List ℕ → Type 0
 IsBundle G xs = IsRising xs × AreBelow G xs
 
--- whether the good g is in the list
+-- whether the good g is in xs
 abbrev pub has_good : List ℕ → ℕ → Bool
 has_good xs g = list_any (λ x. x == g) xs
 
--- whether each good of xs is in ys
+-- whether xs is a subset of ys
 abbrev pub is_inside : List ℕ → List ℕ → Bool
 is_inside xs ys = list_all (λ g. has_good ys g) xs
 
--- whether no good of xs is in ys
+-- whether xs and ys share no good
 abbrev pub are_apart : List ℕ → List ℕ → Bool
 are_apart xs ys = list_all (λ g. not (has_good ys g)) xs
 
--- each good of xs is in ys
+-- xs is a subset of ys
 abbrev pub IsInside : List ℕ → List ℕ → Type 0
 IsInside xs ys = IsTrue (is_inside xs ys)
 
@@ -45,12 +45,12 @@ AreApart xs ys = IsTrue (are_apart xs ys)
 abbrev pub without : List ℕ → List ℕ → List ℕ
 without xs ys = filter (λ g. not (has_good ys g)) xs
 
--- a rising list with the good g put in order, unless it is there
+-- a bundle with one good added
 abbrev pub with_good : ℕ → List ℕ → List ℕ
 with_good g [] = g ∷ []
 with_good g (x ∷ xs) = cond (nat_lt g x) (g ∷ (x ∷ xs)) (cond (g == x) (x ∷ xs) (x ∷ with_good g xs))
 
--- the least good of a rising list that is at least g
+-- the least good of the bundle xs from g on
 abbrev pub good_from : List ℕ → ℕ → Option ℕ
 good_from xs g = find (λ x. nat_le g x) xs
 
@@ -61,6 +61,6 @@ bundles_from zero g (suc size) = []
 bundles_from (suc n) g (suc size) = map (λ xs. g ∷ xs) (bundles_from n (g + 1) size) ++ bundles_from n (g + 1)
     (suc size)
 
--- all bundles over G goods, in order: by size, then lexicographically
+-- every bundle over G goods, once, in order
 abbrev pub all_bundles : ℕ → List (List ℕ)
 all_bundles G = flat_map (λ size. bundles_from G 0 size) (range_with_len 0 (G + 1))

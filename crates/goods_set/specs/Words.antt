@@ -11,6 +11,6 @@ word_bit ws g = bit_at (get_or ws (g / 64) 0) (g % 64)
 unfoldable pub word_goods : ℕ → List ℕ → List ℕ
 word_goods cap ws = filter (λ g. eqb (word_bit ws g) 1) (range_with_len 0 cap)
 
--- the bound on goods of n words
+-- how many goods n words of 64 bits hold, 65,536 at most
 abbrev pub word_cap : ℕ → ℕ
 word_cap n = min (64 * n) 65536

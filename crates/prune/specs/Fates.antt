@@ -13,12 +13,12 @@ use Rattle.valuation.specs.Values.{or_value}
 use Rattle.prune.specs.Points.{or_points, xor_points}
 use Rattle.prune.specs.SearchSteps.{atoms_below, greatest_price, in_search_order, is_below, searched_bundles}
 
--- the best bids, in order
+-- the bundles with a price above 0, in order, each with its greatest price
 abbrev pub best_bids : ℕ → List (Atom (List ℕ)) → List (Atom (List ℕ))
 best_bids goods atoms = map (λ bundle. record { bundle = bundle; price = greatest_price atoms bundle })
     (searched_bundles goods atoms)
 
--- the indices of the points below a bundle, rising
+-- the indices of the points on proper subsets of a bundle
 abbrev pub indices_below : List (Atom (List ℕ)) → List ℕ → List ℕ
 indices_below points bundle =
     filter (λ index. is_below (atom_at points index).bundle bundle) (range_with_len 0 (length points))
@@ -37,26 +37,29 @@ found_points kind points bundle price =
     ordered kind (numbers_at (ordered kind (indices_below points bundle))
     (found_indices (in_search_order kind (atoms_below points bundle)) bundle price))
 
--- of a best bid: none if it is kept, and else the indices of the packing that reaches its price
+-- the packing of points for which a best OR bid is dropped; none if it is kept
 unfoldable pub or_fate : SearchKind → List (Atom (List ℕ)) → Atom (List ℕ) → Option (List ℕ)
 or_fate kind points bid =
     if nat_le bid.price (or_value (atoms_below points bid.bundle) bid.bundle)
     then Some (found_points kind points bid.bundle bid.price) else None
 
+-- the fates of all best OR bids
 abbrev pub or_fates : SearchKind → ℕ → List (Atom (List ℕ)) → List (Option (List ℕ))
 or_fates kind goods atoms = map (or_fate kind (or_points goods atoms)) (best_bids goods atoms)
 
--- a fate, as a caller sees it
+-- a fate of the code as a value
 abbrev pub plain_fate : Option (Vec ℕ) → Option (List ℕ)
 plain_fate None = None
 plain_fate (Some indices) = Some indices.items
 
 -- ---- an XOR bidder
 
--- of a best bid: none if it is kept, and else the index of the first point below its bundle whose price is at least its
--- own
+-- the first point for which a best XOR bid is dropped; none if it is kept
+--
+-- This is the first one below its bundle whose price is at least its own.
 unfoldable pub xor_fate : List (Atom (List ℕ)) → Atom (List ℕ) → Option ℕ
 xor_fate points bid = find (λ index. nat_le bid.price (atom_at points index).price) (indices_below points bid.bundle)
 
+-- the fates of all best XOR bids
 abbrev pub xor_fates : ℕ → List (Atom (List ℕ)) → List (Option ℕ)
 xor_fates goods atoms = map (xor_fate (xor_points goods atoms)) (best_bids goods atoms)

@@ -8,6 +8,6 @@ use Rattle.valuation.specs.declared.atom.Atom.{Atom}
 abbrev pub IsBefore : Atom (List ℕ) → Atom (List ℕ) → Type 0
 IsBefore a b = bundle_cmp a.bundle b.bundle ≡ Less
 
--- the atoms are in order of bundles, no bundle twice
+-- the atoms are in the order of their bundles, none twice
 abbrev pub IsInOrder : List (Atom (List ℕ)) → Type 0
 IsInOrder atoms = AllPairs IsBefore atoms

@@ -18,7 +18,7 @@ is_xor_point atoms bundle =
     nat_lt 0 (xor_value atoms bundle)
     && list_all (λ good. nat_lt (xor_value atoms (without bundle (good ∷ []))) (xor_value atoms bundle)) bundle
 
--- the XOR points of a bidder, in order
+-- the XOR points of a bidder (`IsXorPoint`), in order, with their values
 abbrev pub xor_points : ℕ → List (Atom (List ℕ)) → List (Atom (List ℕ))
 xor_points goods atoms = points_where (is_xor_point atoms) (xor_value atoms) goods
 
@@ -26,20 +26,20 @@ xor_points goods atoms = points_where (is_xor_point atoms) (xor_value atoms) goo
 abbrev pub is_part : List ℕ → List ℕ → Bool
 is_part part bundle = nat_lt 0 (length part) && (is_inside part bundle && not (is_inside bundle part))
 
--- whether the value is above 0, and splitting the bundle into any two nonempty parts gives values that add up to less
+-- whether a bundle is an OR point, as `IsOrPoint` says
 unfoldable pub is_or_point : ℕ → List (Atom (List ℕ)) → List ℕ → Bool
 is_or_point goods atoms bundle =
     nat_lt 0 (or_value atoms bundle)
     && list_all (λ part. nat_lt (or_value atoms part + or_value atoms (without bundle part))
     (or_value atoms bundle)) (filter (λ part. is_part part bundle) (all_bundles goods))
 
--- the OR points of a bidder, in order
+-- the OR points of a bidder (`IsOrPoint`), in order, with their values
 abbrev pub or_points : ℕ → List (Atom (List ℕ)) → List (Atom (List ℕ))
 or_points goods atoms = points_where (is_or_point goods atoms) (or_value atoms) goods
 
 -- ---- the XOR test
 
--- the value is above 0, and each good less makes it smaller
+-- the bundle's XOR value is above 0, and smaller without any one of its goods
 pub record IsXorPoint (atoms : List (Atom (List ℕ))) (bundle : List ℕ) : Type 0 where
   pub positive : 0 < xor_value atoms bundle
   pub less : (good : ℕ) → Contains bundle good → xor_value atoms (without bundle (good ∷ [])) < xor_value atoms bundle
@@ -53,7 +53,7 @@ pub record IsPart (part bundle : List ℕ) : Type 0 where
   pub inside : IsInside part bundle
   pub proper : is_inside bundle part ≡ false
 
--- the value is above 0, and each split into two nonempty parts gives less
+-- the bundle's OR value is above 0, and above that of its parts in any split into two
 pub record IsOrPoint (atoms : List (Atom (List ℕ))) (bundle : List ℕ) : Type 0 where
   pub positive : 0 < or_value atoms bundle
   pub split : (part : List ℕ) → IsPart part bundle → or_value atoms part + or_value atoms (without bundle part)

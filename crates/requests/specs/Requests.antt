@@ -6,7 +6,7 @@ use Rattle.valuation.specs.declared.search.options.SearchOptions.{SearchOptions}
 use Rattle.requests.specs.declared.request.Request.{Request}
 use Rattle.requests.specs.declared.task.Task.{Task}
 
--- a command, the paths of its files, that of its list, and what else may come with a command
+-- a request: a command, the paths of its files and list, and its goods, bids and options
 pub record PlainRequest : Type 0 where
   pub task : Task
   pub files : List (List ℕ)
@@ -19,10 +19,11 @@ pub record PlainRequest : Type 0 where
   pub null : Bool
   pub all : Bool
 
--- the texts of the words
+-- the texts of words
 abbrev pub texts_of : List (Bor (List ℕ)) → List (List ℕ)
 texts_of = map (λ word. word.now)
 
+-- a request of the code as a value
 abbrev pub plain_request : Request → PlainRequest
 plain_request request = record {
   task = request.task;

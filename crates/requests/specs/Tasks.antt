@@ -8,6 +8,7 @@ use Rattle.requests.specs.declared.task.Task.TheVariants.{Lp, Compare, Diff, Dup
 use Rattle.requests.specs.declared.task.TaskRow.{TaskRow}
 use Rattle.requests.specs.declared.task.TheConstants.{TASKS}
 
+-- the name of a command
 abbrev pub name_of : Task → List ℕ
 name_of Check = codes "check"
 name_of Fault = codes "fault"
@@ -23,7 +24,7 @@ name_of Diff = codes "diff"
 name_of Duplicates = codes "duplicates"
 name_of Sizes = codes "sizes"
 
--- the names of the commands whose rows pass the test
+-- the names of the commands whose rows pass a test
 abbrev pub names_with : (TaskRow → Bool) → List (List ℕ)
 names_with test = map (λ row. name_of row.task) (filter test TASKS)
 
@@ -35,6 +36,7 @@ files_of Duplicates = Many
 files_of Sizes = Many
 files_of task = One
 
+-- whether a command reads many files
 abbrev pub is_many : Files → Bool
 is_many Many = true
 is_many count = false

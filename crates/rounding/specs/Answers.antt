@@ -26,7 +26,9 @@ pub record SpellsRounded (fine : FinePrices) (text : List ℕ) : Type 0 where
 abbrev pub WantsMemoryToRound : FinePrices → List ℕ → Type 0
 WantsMemoryToRound fine text = (has_bid_line text ≡ true) ⊎ SpellsRounded fine text
 
--- the rounded text and its rounded prices; or the first fault of the rounded text; or that memory was refused
+-- the rounded text and its rounded prices, or its first fault
+--
+-- Or memory was refused.
 abbrev pub RoundAnswer : FinePrices → List ℕ → Result RoundedText ReadFault → Type 0
 RoundAnswer fine text (Ok r) = IsRounded fine text r
 RoundAnswer fine text (Err e) = (first_fault (rounded_text fine text) ≡ Some e)

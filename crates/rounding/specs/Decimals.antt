@@ -40,6 +40,7 @@ has_minus (b ∷ bs) = b == 45
 abbrev pub digits : Word → Word
 digits w = whole_part (significand w) ++ places (significand w)
 
+-- digits with at most one point, perhaps an exponent, and no sign in front
 abbrev pub is_decimal : Word → Bool
 is_decimal w = is_number (digits w) && (not (has_exponent w) || is_number (without_sign (exponent w)))
 
@@ -59,19 +60,21 @@ raised w = 6 + (if has_minus (exponent w) then 0 else exponent_size w)
 abbrev pub lowered : Word → ℕ
 lowered w = length (places (significand w)) + (if has_minus (exponent w) then exponent_size w else 0)
 
--- The same as a fraction, in which one of the two powers of ten is 1. They are cut if a greater one has the same
--- replacement, by the law `laws::cut_powers`: 10^19 millionths are above the greatest price, and a number of some
--- digits is less than half of the power that has one place more than it has digits. So a long exponent makes no large
--- number.
+-- the numerator of a decimal's value in millionths, its power of ten cut: no replacement changes (law)
+--
+-- 10^19 millionths are above the greatest price, and a number of some digits is less than half of the power that has
+-- one place more than it has digits. So a long exponent makes no large number. Of the two powers one is 1.
 abbrev pub top : Word → ℕ
 top w = mantissa w * 10 ^ min 19 (raised w - lowered w)
 
+-- the denominator beside `top`, a power of ten
 abbrev pub bottom : Word → ℕ
 bottom w = 10 ^ min (suc (length (digits w))) (lowered w - raised w)
 
--- with whole powers, one of which is 1
+-- the numerator of a decimal's value in millionths
 abbrev pub exact_top : Word → ℕ
 exact_top w = mantissa w * 10 ^ (raised w - lowered w)
 
+-- the denominator beside `exact_top`, a power of ten
 abbrev pub exact_bottom : Word → ℕ
 exact_bottom w = 10 ^ (lowered w - raised w)

@@ -1,8 +1,9 @@
 -- Rounding to the nearest whole number, ties to even.
 use Rattle.std.specs.Prelude.{◌≡◌, ◌⊎◌, ℕ, ◌+◌, ◌*◌, ◌/◌, ◌%◌, ◌≤◌, ◌==◌, nat_lt, if◌then◌else◌}
 
--- The whole number m is a nearest one to the fraction n / d: twice the distance is at most 1. If it is exactly 1, then
--- m is even.
+-- m is the nearest whole number to n / d, the even one halfway
+--
+-- Twice the distance is at most 1. If it is exactly 1, then m is even.
 pub record IsNearest (n d m : ℕ) : Type 0 where
   pub above : 2 * n ≤ (2 * m + 1) * d
   pub below : 2 * m * d ≤ 2 * n + d
@@ -12,6 +13,6 @@ pub record IsNearest (n d m : ℕ) : Type 0 where
 abbrev pub step_up : ℕ → ℕ → ℕ → ℕ
 step_up whole twice d = if nat_lt d twice then 1 else (if twice == d then whole % 2 else 0)
 
--- the nearest whole number to the fraction n / d, by `laws::nearest_numbers`
+-- the nearest whole number to n / d (law)
 abbrev pub nearest : ℕ → ℕ → ℕ
 nearest n d = n / d + step_up (n / d) (2 * (n % d)) d

@@ -11,14 +11,14 @@ use Rattle.rounding.specs.declared.replacement.FinePrices.TheVariants.{Round, Re
 use Rattle.rounding.specs.declared.replacement.Replacement.{Replacement}
 use Rattle.rounding.specs.declared.replacement.Replacement.TheVariants.{Itself, Exact, Rounded, TooLarge, TooFine}
 
--- of a value of n / d millionths
+-- what replaces a value: a price, or a refusal as too large or too fine
 abbrev pub replacement_of : FinePrices → ℕ → ℕ → Replacement
 replacement_of Round n d = if nat_lt MAX_PRICE (nearest n d) then TooLarge
     else (if n % d == 0 then Exact (n / d) else Rounded (nearest n d))
 replacement_of Refuse n d = if nat_lt (MAX_PRICE * d) n then TooLarge
     else (if n % d == 0 then Exact (n / d) else TooFine)
 
--- of a word: itself, if it is read as a price without a fault, or is no decimal
+-- what replaces a word: itself, if a price or no decimal, else what replaces its value
 abbrev pub replacement : FinePrices → Word → Replacement
 replacement fine w = if is_none (price_word w) then Itself
     else (if not (is_decimal w) then Itself else replacement_of fine (top w) (bottom w))
@@ -31,5 +31,6 @@ replacement_text w (Rounded millionths) = price_text millionths
 replacement_text w TooLarge = codes "1000000000001"
 replacement_text w TooFine = codes "0.0000001"
 
+-- the bytes that replace a word; of a refusal, a word that reading refuses alike
 abbrev pub rounded_word : FinePrices → Word → Word
 rounded_word fine w = replacement_text w (replacement fine w)

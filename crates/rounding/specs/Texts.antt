@@ -32,13 +32,15 @@ behind_word (b ∷ bs) = if is_blank (line_byte b bs) then b ∷ bs else behind_
 abbrev pub from_second : List ℕ → List ℕ
 from_second line = behind_blanks (behind_word (behind_blanks line))
 
--- what is before the second word, the second word, and what is behind it
+-- what is before a line's second word
 abbrev pub before_second : List ℕ → List ℕ
 before_second line = blanks line ++ leading_word (behind_blanks line) ++ blanks (behind_word (behind_blanks line))
 
+-- a line's second word
 abbrev pub second_word : List ℕ → Word
 second_word line = leading_word (from_second line)
 
+-- what is behind a line's second word
 abbrev pub behind_second : List ℕ → List ℕ
 behind_second line = behind_word (from_second line)
 
@@ -77,6 +79,7 @@ line_text l = l.bytes ++ (if l.ended then 10 ∷ [] else [])
 abbrev pub lines_text : List RawLine → List ℕ
 lines_text ls = flat_map line_text ls
 
+-- the text with the second word of each bid line replaced
 abbrev pub rounded_text : FinePrices → List ℕ → List ℕ
 rounded_text fine text = lines_text (rounded_lines fine 0 (raw_lines text))
 
@@ -105,6 +108,6 @@ lines_changes fine number before [] = []
 lines_changes fine number before (l ∷ ls) =
     line_changes fine number before l ++ lines_changes fine (suc number) (before_next before l) ls
 
--- the prices of a text that are rounded, in order
+-- line, word and new price of each price whose value changed
 abbrev pub rounded_prices : FinePrices → List ℕ → List PlainRoundedPrice
 rounded_prices fine text = lines_changes fine 1 0 (raw_lines text)

@@ -9,19 +9,19 @@ use Rattle.goods_set.specs.Bundles.{IsBundle}
 use Rattle.bid_file.specs.Files.{PlainBid, PlainFile}
 use Rattle.bid_file.specs.declared.limits.TheConstants.{MAX_GOODS, MAX_BIDS, MAX_DUMMY, MAX_PRICE}
 
--- an atom of an auction with that many goods: it is on a bundle of some of them, at a price within the limit
+-- an atom, a bid without its number: a nonempty bundle and a price within the limit
 pub record IsAtom (goods : ℕ) (a : Atom (List ℕ)) : Type 0 where
   pub nonempty : 0 < length a.bundle
   pub bundle : IsBundle goods a.bundle
   pub price : a.price ≤ MAX_PRICE
 
--- an auction, without where it lies in memory
+-- an auction: its goods, the OR bidder's atoms, and those of each XOR bidder
 pub record PlainAuction : Type 0 where
   pub goods : ℕ
   pub or_atoms : List (Atom (List ℕ))
   pub xor_bidders : List (List (Atom (List ℕ)))
 
--- the limits that every auction keeps, for sets of goods below `cap`
+-- an auction within the limits, for sets of `cap` goods
 pub record IsAuction (cap : ℕ) (a : PlainAuction) : Type 0 where
   pub goods : a.goods ≤ MAX_GOODS
   pub fits : a.goods ≤ cap
@@ -41,15 +41,15 @@ abbrev pub is_dummy : ℕ → Option ℕ → Bool
 is_dummy d None = false
 is_dummy d (Some e) = e == d
 
--- the atoms of the bids without a dummy good
+-- the OR bidder's atoms: the bids without a dummy good
 abbrev pub or_atoms_of : List PlainBid → List (Atom (List ℕ))
 or_atoms_of bids = map atom_of (filter (λ b. is_none b.dummy) bids)
 
--- the atoms of the bids with the dummy good d
+-- the atoms of the XOR bidder d: the bids with this dummy good
 abbrev pub xor_atoms_of : List PlainBid → ℕ → List (Atom (List ℕ))
 xor_atoms_of bids d = map atom_of (filter (λ b. is_dummy d b.dummy) bids)
 
--- the auction that a file represents, its atoms in the order of the bids' numbers
+-- the auction of a file; each dummy good, used or not, is an XOR bidder
 abbrev pub auction_from : PlainFile → PlainAuction
 auction_from f = record {
   goods = f.goods;

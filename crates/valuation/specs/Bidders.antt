@@ -5,11 +5,11 @@ use Rattle.valuation.specs.declared.atom.Atom.{Atom}
 use Rattle.valuation.specs.Values.{atoms_of}
 use Rattle.valuation.specs.Auctions.{PlainAuction}
 
--- the XOR bidders, each seen as its list of atoms
+-- XOR bidders of the code as values
 abbrev pub bidders_of : {S : Type 0} → (S → List ℕ) → List (Vec (Atom S) Global) → List (List (Atom (List ℕ)))
 bidders_of goods bidders = map (λ b. atoms_of goods b.items) bidders
 
--- the auction with these lists
+-- an auction of the code as a value, by its lists
 abbrev pub plain_auction_of : {S : Type 0} → (S → List ℕ) → ℕ → List (Atom S) → List (Vec (Atom S) Global)
     → PlainAuction
 plain_auction_of goods count atoms bidders = record {

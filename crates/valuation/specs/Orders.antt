@@ -6,10 +6,10 @@ use Rattle.std.specs.declared.cmp.Ordering.{Ordering}
 use Rattle.valuation.specs.declared.atom.Atom.{Atom}
 use Rattle.goods_set.specs.Orders.{bundle_cmp}
 
--- by bundle, then by price, the smaller first
+-- the order of atoms: by bundle, then price
 abbrev pub atom_cmp : Atom (List ℕ) → Atom (List ℕ) → Ordering
 atom_cmp a b = ordering_then (bundle_cmp a.bundle b.bundle) (nat_cmp a.price b.price)
 
--- lexicographically by their lists of atoms, a proper prefix first
+-- the order of bidders: lexicographic by atoms
 abbrev pub bidder_cmp : List (Atom (List ℕ)) → List (Atom (List ℕ)) → Ordering
 bidder_cmp xs ys = slice_cmp atom_cmp xs ys

@@ -13,6 +13,6 @@ abbrev pub sort_by : {X : Type 0} → (X → X → Ordering) → List X → List
 sort_by cmp [] = []
 sort_by cmp (x ∷ xs) = insert_by cmp x (sort_by cmp xs)
 
--- how often the list has the element
+-- how often xs has the element x
 abbrev pub count_of : {X : Type 0} → (X → X → Ordering) → X → List X → ℕ
 count_of cmp x xs = count_by (λ y. is_eq (cmp x y)) xs
