@@ -33,7 +33,7 @@ int main(void) {
     wrong += cats_version() != CATS_VERSION_NUMBER || sizeof request != 56 || sizeof text != 32;
     expect(cats_check(text, &out, &err), CATS_DONE, "goods 2 bids 2 dummy 0\n", "");
     expect(cats_fault(named, &out, &err), CATS_REFUSED,
-           "one:4:2: NotANumber: 3e0\na price with an exponent is read with `--round`\n", "");
+           "one:4:3: NotANumber: 3e0\na price with an exponent is read with `--round`\n", "");
     expect(cats_show(text, &out, &err), CATS_DONE, "goods 2\nbids 2\ndummy 0\n0\t3\t0\t#\n1\t4\t1\t#\n", "");
     expect(cats_value(text, goods, 2, &out, &err), CATS_DONE, "or 7 0 1\n", "");
     expect(cats_value(text, no_good, 1, &out, &err), CATS_WRONG_USAGE, "", "good 2 out of range\n");

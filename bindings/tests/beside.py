@@ -43,7 +43,7 @@ class Call(NamedTuple):
         return " ".join([self.name, *self.options(), *map(str, self.named)])
 
     def takes(self, kind):
-        return kind in TAKEN[self.name]
+        return kind in TAKEN[self.name] or (self.name, kind) == ("fault", "round")
 
     def texts(self):
         """How many texts are tried."""
@@ -86,7 +86,7 @@ def calls_of(name, taken):
 
 CALLS = [
     *(call for name, taken in TAKEN.items() for call in calls_of(name, taken)),
-    Call("check", OTHER_PRICES),
+    Call("fault", Prices.ROUNDED), Call("fault", Prices.ROUNDED_EXACTLY), Call("check", OTHER_PRICES),
     *(Call(name, named=NAMED.get(name, ()), bound=False) for name in ("value", "normalise", "compare")),
     Call("duplicates", all=False), Call("duplicates", null=True), Call("sizes", null=True),
 ]

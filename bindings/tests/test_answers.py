@@ -48,10 +48,10 @@ def function_of(call):
     return fault if call.name == "fault" else FUNCTIONS[call.name]
 
 
-def fault(text):
+def fault(text, round=False):
     """Where the first fault of a text is, and what helps."""
     try:
-        yinchaku.check(text)
+        yinchaku.check(text, round=round)
     except yinchaku.RefusedText as error:
         assert error.line is not None and is_word_at(text, error)
         return error
@@ -59,16 +59,17 @@ def fault(text):
 
 
 def is_word_at(text, error):
-    """Whether a fault has its word, or none behind the last one of its line."""
+    """Whether a fault has its word, or none behind the last one of its line, and the column at which that begins."""
     lines = text.split(b"\n")
     words = re.split(rb"[ \t]+", re.sub(rb"\r\Z", b"", lines[error.line - 1]).strip(b" \t")) if error.line <= len(lines) else [b""]
-    return error.text == (words[error.word - 1] if error.word <= len(words) else b"")
+    line = lines[error.line - 1][error.column - 1 :] if error.line <= len(lines) else b""
+    return error.text == (words[error.word - 1] if error.word <= len(words) else b"") and (line.startswith(error.text) if error.text else line in (b"", b"\r"))
 
 
 def printed_fault(error):
     if error is None:
         return Answer(0, b"")
-    return Answer(2, f"text:{error.line}:{error.word}: {error.kind}\n{error.hint}\n".replace("`round=True`", "`--round`").encode())
+    return Answer(2, f"text:{error.line}:{error.column}: {error.kind}\n{error.hint}\n".replace("`round=True`", "`--round`").encode())
 
 
 def printed_revenue(found):

@@ -25,7 +25,7 @@ ERRORS = [
     yinchaku.NoSuchBid(65536),
     yinchaku.WrongSolution("no"),
 ]
-FIELDS = ("which", "path", "source", "kind", "line", "row", "word", "text", "hint", "bundle", "count", "good", "bid", "args", "extra")
+FIELDS = ("which", "path", "source", "kind", "line", "row", "column", "word", "text", "hint", "bundle", "count", "good", "bid", "args", "extra")
 
 
 @pytest.mark.parametrize("error", ERRORS, ids=repr)
@@ -51,7 +51,7 @@ def test_copies_have_the_place():
         if isinstance(made, bytes):
             assert len(made) < 1_000
             made = pickle.loads(made)
-        assert (made.line, made.word, made.text, str(made)) == (5, 2, b"4.5e0", "line 5: NotANumber")
+        assert (made.line, made.column, made.word, made.text, str(made)) == (5, 3, 2, b"4.5e0", "line 5: NotANumber")
         assert "`round=True`" in made.hint and "cats" not in made.hint
 
 
@@ -61,10 +61,10 @@ def test_paths(tmp_path):
     path.write_bytes(BIDS.replace(b" 4 ", b" 4e0 "))
     other.write_bytes(BIDS[:-2])
     for call in (yinchaku.check, yinchaku.read, lambda text: yinchaku.compare(text, BIDS), lambda text: yinchaku.diff(BIDS, text)):
-        assert str(refusal_of(call, path)) == f"{path}:5:2: NotANumber"
+        assert str(refusal_of(call, path)) == f"{path}:5:3: NotANumber"
     shown = str(other).replace("\n", r"\n").replace("\x1b", r"\x1b")
     refused = refusal_of(yinchaku.compare, path, other, round=True)
-    assert (refused.path, refused.which, str(refused)) == (other, "second", f"{shown}:5:4: NoEnd")
+    assert (refused.path, refused.which, str(refused)) == (other, "second", f"{shown}:5:7: NoEnd")
     assert str(pickle.loads(pickle.dumps(refused))) == str(refused)
     path.write_bytes(BIDS)
     for call, said in {
@@ -77,19 +77,20 @@ def test_paths(tmp_path):
         assert str(raised.value).startswith(said if said.startswith("first") else f"{path}: {said}")
 
 
-@pytest.mark.parametrize("text, line, word, found", [
-    (b"", 1, 1, b""),
-    (b"goods 2\nbids x", 2, 2, b"x"),
-    (BIDS.replace(b"0 #", b"0 \t\r"), 4, 4, b""),
-    (BIDS.replace(b"#\n1", b"\r\n1"), 4, 4, b""),
-    (BIDS.replace(b"#\n1", b"#\r\r\n1"), 4, 4, b"#\r"),
-    (BIDS.replace(b"bids 2", b"bids 3"), 6, 1, b""),
+@pytest.mark.parametrize("text, line, column, word, found", [
+    (b"", 1, 1, 1, b""),
+    (b"goods 2\nbids x", 2, 6, 2, b"x"),
+    (b"goods 2\nbids \t x", 2, 8, 2, b"x"),
+    (BIDS.replace(b"0 #", b"0 \t\r"), 4, 8, 4, b""),
+    (BIDS.replace(b"#\n1", b"\r\n1"), 4, 7, 4, b""),
+    (BIDS.replace(b"#\n1", b"#\r\r\n1"), 4, 7, 4, b"#\r"),
+    (BIDS.replace(b"bids 2", b"bids 3"), 6, 1, 1, b""),
 ])
-def test_places(text, line, word, found):
+def test_places(text, line, column, word, found):
     """The word is one between spaces and tabs, or the end of a line or of the text."""
     for name, call in {**OF_TEXT, "round_prices": yinchaku.round_prices}.items():
         refused, which = refusal_of(call, text), {"left": "first", "right": "second"}.get(name.split(" ")[-1])
-        assert (refused.which, refused.line, refused.word, refused.text) == (which, line, word, found)
+        assert (refused.which, refused.line, refused.column, refused.word, refused.text) == (which, line, column, word, found)
 
 
 @pytest.mark.parametrize("price, good, exact, word, kind", [
@@ -107,6 +108,7 @@ def test_places_in_rounded_texts(price, good, exact, word, kind):
     for refused in (refusal_of(yinchaku.round_prices, text, exact), refusal_of(yinchaku.diff, BIDS, text, round="exact" if exact else True)):
         assert (refused.line, refused.word, refused.kind) == (5, word, kind)
         assert refused.text == (price if word == 2 else good) and refused.hint
+        assert refused.column == (3 if word == 2 else 4 + len(price))
 
 
 def test_process_pool():

@@ -63,9 +63,9 @@ def test_duplicates_of_folders(program, folder):
     found = ["\n".join(yinchaku.errors.shown_path(it) for it in group if it is not BIDS) for group in groups]
     assert found == printed[:-1].split("\n\n")
     assert [given for given, _ in refused] == [folder / "a/c/wrong", folder / "no file", b"no file", folder / "none"]
-    assert list(map(str, dict(refused[:2]).values())) == [f"{folder}/a/c/wrong:5:4: NoEnd", f"{folder}/no file:1:1: Missing"]
+    assert list(map(str, dict(refused[:2]).values())) == [f"{folder}/a/c/wrong:5:7: NoEnd", f"{folder}/no file:1:1: Missing"]
     assert [type(error) for _, error in refused[2:]] == [yinchaku.RefusedText, FileNotFoundError] and refused[2][1].path is None
-    with pytest.raises(yinchaku.RefusedText, match="^.*/a/c/wrong:5:4: NoEnd$") as raised:
+    with pytest.raises(yinchaku.RefusedText, match="^.*/a/c/wrong:5:7: NoEnd$") as raised:
         yinchaku.duplicates(folder)
     assert raised.value.source == raised.value.path == folder / "a/c/wrong"
 

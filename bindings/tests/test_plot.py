@@ -275,8 +275,8 @@ def test_command(command, folder, library):
 
 def test_command_on_a_refused_file(command, folder, library):
     for kind, *files in (["bids", "two/d.cats"], ["difference", "one/a.cats", "two/d.cats"], ["goods", "two/d.cats"], ["conflicts", "two/d.cats"]):
-        assert command(kind, *files, "-o", "it.svg") == (2, ["two/d.cats:4:2: NotANumber"])
-    assert run_python(library, folder, "-m", "yinchaku.plot", "bids", "two/d.cats", "-o", "it.svg") == (2, "", ["two/d.cats:4:2: NotANumber"])
+        assert command(kind, *files, "-o", "it.svg") == (2, ["two/d.cats:4:3: NotANumber"])
+    assert run_python(library, folder, "-m", "yinchaku.plot", "bids", "two/d.cats", "-o", "it.svg") == (2, "", ["two/d.cats:4:3: NotANumber"])
     assert not (folder / "it.svg").exists()
     assert command("sizes", ".", "none.cats", "-o", "all.png") == (5, ["two/d.cats: line 4: NotANumber", "none.cats: cannot open: no such file"])
     assert command("sizes", "one/a.cats", "two", "-o", "two.pdf") == (2, ["two/d.cats: line 4: NotANumber"])

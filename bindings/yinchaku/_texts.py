@@ -11,7 +11,7 @@ from typing import IO, Any, Callable, Iterable, List, Literal, Optional, Sequenc
 
 from yinchaku._bids import plain
 from yinchaku._library import NO_TOTAL, STEPS, Prices, Status, Task, call
-from yinchaku._places import place_in, place_in_rounded
+from yinchaku._places import place_in
 from yinchaku.errors import CatsError, NoSuchBid, NoSuchGood, Place, RefusedText, error_of, shown
 
 
@@ -131,11 +131,7 @@ def last_line(printed: bytes) -> bytes:
 
 def finder(text: bytes, line: Optional[int], prices: Prices) -> Optional[Callable[[], Place]]:
     """What finds the place of the first fault of a text that is read so, which is on this line. Without a line it has none."""
-    if line is None:
-        return None
-    if prices == Prices.AS_WRITTEN:
-        return partial(place_in, text)
-    return partial(place_in_rounded, text, line, prices)
+    return None if line is None else partial(place_in, text, prices)
 
 
 def numbers_of(bits: int, lacking: Callable[[int], CatsError], numbers: Iterable[int]) -> List[int]:

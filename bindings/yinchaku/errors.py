@@ -46,12 +46,13 @@ def escaped(found: Match[str]) -> str:
 class Place(NamedTuple):
     """Where a fault is in its line, and what helps: fields of RefusedText."""
 
+    column: Optional[int]
     word: Optional[int]
     text: Optional[bytes]
     hint: Optional[str]
 
 
-NO_PLACE = Place(None, None, None)
+NO_PLACE = Place(None, None, None, None)
 
 
 class HeavyBid(NamedTuple):
@@ -86,10 +87,10 @@ class CatsError(Exception):
 
 
 class RefusedText(CatsError):
-    """A text is not a bid file, or is longer than is read: the fault has a `kind`, and a `line` if it belongs to one. `word` is the number of its
-    word in the line, from 1, and `text` has the bytes of that word, none at the end of the line or text. `hint` says what helps.
-    These three are looked up in the text when one is first read, and are None if the text is too long. `row` is the row of `from_bids`, from 0, that
-    the line was written of, and else None."""
+    """A text is not a bid file, or is longer than is read: the fault has a `kind`, and a `line` if it belongs to one. `column` is its place in the
+    line, in bytes from 1, as editors count, and `word` the number of its word, from 1. `text` has the bytes of that word, none at the end of the
+    line or text. `hint` says what helps. These four are looked up in the text when one is first read, and are None if the text is too long. `row` is
+    the row of `from_bids`, from 0, that the line was written of, and else None."""
 
     def __init__(self, kind: str, line: Optional[int] = None, which: Optional[str] = None) -> None:
         super().__init__(f"line {line}: {kind}" if line is not None else kind, which)
@@ -102,14 +103,18 @@ class RefusedText(CatsError):
         self._place = NO_PLACE
 
     def __str__(self) -> str:
-        """With a path its place, as that of the program's `fault`. Without memory the word is not looked up."""
+        """With a path its place, as that of the program's `fault`. Without memory the column is not looked up."""
         if self.path is None or self.line is None:
             return super().__str__()
         try:
-            word = self.word
+            column = self.column
         except MemoryError:
-            word = None
-        return f"{shown_path(self.path)}:{self.line}:{'' if word is None else f'{word}:'} {self.kind}"
+            column = None
+        return f"{shown_path(self.path)}:{self.line}:{'' if column is None else f'{column}:'} {self.kind}"
+
+    @property
+    def column(self) -> Optional[int]:
+        return self._found().column
 
     @property
     def word(self) -> Optional[int]:

@@ -181,7 +181,7 @@ def lists(folder):
     # lists that are not read, and words that are not UTF-8
     for words, status, line in (
         (["sizes", "--files0-from", names + b"/none"], DEVICE_FAILED, names + b"/none: cannot open: no such file\n"),
-        (["duplicates", "--files0-from", folder_of_files], DEVICE_FAILED, folder_of_files + b": cannot open: is a folder\n"),
+        (["duplicates", "--files0-from", folder_of_files], DEVICE_FAILED, folder_of_files + b": cannot open: is a folder: name it to 'fault', 'duplicates' or 'sizes'\n"),
         (["sizes", one, b"\xff", b"\xfe"], WRONG_USAGE, b"argument 3 is not UTF-8; with --files0-from LIST, "),
         ([b"\xc3", one], WRONG_USAGE, b"argument 1 is not UTF-8; with --files0-from LIST, "),
     ):
@@ -347,7 +347,7 @@ def unread(folder):
         return (DEVICE_FAILED, b"".join(it + b"\n" for it in files), path + b": cannot open: " + why + b"\n")
 
     own = (0, b"".join(path + b"\n" for path in paths), b"")
-    denied, is_folder = b"permission denied", b"is a folder"
+    denied, is_folder = b"permission denied", b"is a folder: name it to 'fault', 'duplicates' or 'sizes'"
     folders = [refusal(path, is_folder) for path in (top, top + b"/b")]
     for call, rest, wanted in (
         ("folder", False, folders),

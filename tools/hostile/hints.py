@@ -2,23 +2,29 @@
 
     hints.py PROGRAM
 
-Each row has a wrong text, the place and the kind of its first fault, and words that the hint must have. Prints what is wrong and
-'N runs, M wrong'; the status is 0 if M is 0, and else 1.
+Each row has a wrong text, the line and the word of its first fault, its kind, and words that the hint must have. Then many files, a folder, and
+paths at which nothing can be read. Prints what is wrong and 'N runs, M wrong'; the status is 0 if M is 0, and else 1.
 """
 import bz2
 import gzip
 import io
 import lzma
+import os
+import re
+import shutil
 import subprocess
 import sys
 import tarfile
+import tempfile
 import zipfile
 from typing import NamedTuple
 
 from tally import TALLY
 
 SECONDS = 60
-FILE_REFUSED = 2
+FILE_REFUSED, DEVICE_FAILED = 2, 5
+# Who may not read all files.
+NOBODY = 65534
 LONGEST_HINT = 100
 
 # What no hint of a cut line may say: the bid would be one on fewer goods.
@@ -229,19 +235,84 @@ CUT = [
 ROWS = [*OTHER_FILES, *HEADER_LINES, *PRICES, *BID_LINES, *GOODS, *CUT]
 
 
+def column_of(text, place):
+    """The place `LINE:WORD` with the column in place of the word: where that begins in its line, in bytes from 1, or where the line ends."""
+    number, word = map(int, place.split(":"))
+    line = [*text.split(b"\n"), b""][number - 1].removesuffix(b"\r")
+    starts = [*(it.start() for it in re.finditer(rb"[^ \t]+", line)), len(line)]
+    return b"%d:%d" % (number, starts[min(word, len(starts)) - 1] + 1)
+
+
 def judge(program, it):
     """Whether the program answers the place and the kind of a row, and a hint with its words."""
     ran = subprocess.run([program, "fault", "/dev/stdin"], input=it.text, capture_output=True, timeout=SECONDS)
     TALLY.count_run()
     place, _, hint = ran.stdout.removesuffix(b"\n").partition(b"\n")
-    found = place.startswith(b"/dev/stdin:%b: %b" % (it.place.encode(), it.kind.encode())) and ran.returncode == FILE_REFUSED
+    found = place.startswith(b"/dev/stdin:%b: %b" % (column_of(it.text, it.place), it.kind.encode())) and ran.returncode == FILE_REFUSED
     helps = all(word.encode() in hint for word in it.words) and len(hint) <= LONGEST_HINT
     TALLY.judge(found and helps and not any(harm in hint for harm in HARMFUL), it.name, (ran.returncode, ran.stdout, ran.stderr))
+
+
+# Files of a folder, each with the place of its fault, if it has one, behind its path.
+FILES = {
+    "a good one": (WHOLE, None),
+    "comma": (HEADER + b"0 71,2 0 #\n1 7 1 #\n", b"4:3: NotANumber: 71,2"),
+    "below/cut": (HEADER + FIRST, b"5:1: Missing"),
+    "below/good": (WHOLE, None),
+    "below/header": (b"goods 4 bids 2\n", b"1:9: Header: bids"),
+    "spaces": (HEADER + b"  0\t 5  0 x #\n1 7 1 #\n", b"4:11: NotANumber: x"),
+}
+IS_FOLDER = b"cannot open: is a folder: name it to 'fault', 'duplicates' or 'sizes'\n"
+# The words of a line on these files, the files whose faults are printed, standard error, and the status.
+LINES = [
+    (("fault", "a good one", "below/good"), (), b"", 0),
+    (("fault", "a good one", "comma", "below/good", "spaces"), ("comma", "spaces"), b"", FILE_REFUSED),
+    (("fault", "below"), ("below/cut", "below/header"), b"", FILE_REFUSED),
+    (("fault", "comma", "none", "below/", "a good one"), ("comma", "below/cut", "below/header"), b"none: cannot open: no such file\n", DEVICE_FAILED),
+    (("fault", "locked", "spaces"), ("spaces",), b"locked: cannot open: permission denied\n", DEVICE_FAILED),
+    (("lp", "none"), (), b"none: cannot open: no such file\n", DEVICE_FAILED),
+    (("explain", "locked"), (), b"locked: cannot open: permission denied\n", DEVICE_FAILED),
+    (("diff", "a good one", "below"), (), b"below: " + IS_FOLDER, DEVICE_FAILED),
+    (("check", "none"), (), b"cannot open\n", DEVICE_FAILED),
+]
+
+
+def leave_root():
+    os.setgroups([])
+    os.setgid(NOBODY)
+    os.setuid(NOBODY)
+
+
+def judge_line(program, folder, words, faulty, err, status):
+    """Whether each place is below the path of its own file, each with a hint behind it, and nothing is printed of the others."""
+    ran = subprocess.run([program, *words], cwd=folder, capture_output=True, timeout=SECONDS, preexec_fn=None if os.getuid() else leave_root)
+    TALLY.count_run()
+    lines = ran.stdout.splitlines()
+    places = [name.encode() + b":" + FILES[name][1] for name in faulty]
+    hints = [hint for hint in lines[1::2] if 0 < len(hint) <= LONGEST_HINT and b":" not in hint.split(b" ")[0]]
+    found = lines[::2] == places and len(hints) == len(places)
+    TALLY.judge(found and ran.stderr == err and ran.returncode == status, words, (ran.returncode, ran.stdout, ran.stderr))
+
+
+def judge_lines(program):
+    with tempfile.TemporaryDirectory() as folder:
+        os.chmod(folder, 0o755)
+        for name, text in [*((name, text) for name, (text, _) in FILES.items()), ("locked", WHOLE)]:
+            path = os.path.join(folder, name)
+            os.makedirs(os.path.dirname(path), exist_ok=True)
+            with open(path, "wb") as file:
+                file.write(text)
+        os.chmod(os.path.join(folder, "locked"), 0)
+        copy = shutil.copy(program, folder)
+        os.chmod(copy, 0o755)
+        for it in LINES:
+            judge_line(copy, folder, *it)
 
 
 def main():
     for it in ROWS:
         judge(sys.argv[1], it)
+    judge_lines(sys.argv[1])
     return TALLY.status()
 
 

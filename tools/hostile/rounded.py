@@ -37,9 +37,8 @@ FLAGS = {
 FILES, GOODS, BIDS = 300, 8, 20
 
 
-# The commands that read a file as it is, and those on one file, on two, and on many that may round its prices.
-UNROUNDED = ("fault", "round")
-ON_FILE, ON_PAIR, ON_FILES = ([it for it in LINES if it.files == many and it.words[0] not in UNROUNDED] for many in (1, 2, 0))
+# The commands on one file, on two, and on many that may round its prices.
+ON_FILE, ON_PAIR, ON_FILES = ([it for it in LINES if it.files == many and it.words[0] != "round"] for many in (1, 2, 0))
 
 
 @lru_cache(maxsize=None)
@@ -210,6 +209,15 @@ def wanted_of_files(command, roundings, folder, copies):
     return with_counts(Answer(status, out, b""), command, roundings, refusals)
 
 
+def check_faults(flags, roundings, listed):
+    """`fault` prints the place of each fault that is left in a rounded text, and nothing else."""
+    answer = run(["fault", *flags, "--files0-from", "/dev/stdin"], listed)
+    found = {path: b"line %b: %b\n" % (line, kind) for path, line, kind in re.findall(rb"(?m)^(.*):(\d+):\d+: (\w+)", answer.out)}
+    wanted = {path: rounding.err for path, rounding in roundings.items() if rounding.status}
+    is_right = found == wanted and answer.out.count(b"\n") == 2 * len(wanted)
+    judge(f"fault {flags}", Answer(FILE_REFUSED if wanted else 0, answer.out if is_right else b"..", b""), answer)
+
+
 def check_files(folder):
     found = folder_of_files(folder)
     listed = b"".join(path + b"\0" for path in found)
@@ -219,9 +227,10 @@ def check_files(folder):
         with tempfile.TemporaryDirectory() as copies:
             for path, rounding in roundings.items():
                 write_file(path.replace(folder, os.fsencode(copies)), rounding.out)
-            for command in (it.words for it in ON_FILES):
+            for command in (it.words for it in ON_FILES if it.words[0] != "fault"):
                 wanted = wanted_of_files(command, roundings, folder, os.fsencode(copies))
                 judge(f"{command} {flags}", wanted, run([*command, *flags, "--files0-from", "/dev/stdin"], listed))
+        check_faults(flags, roundings, listed)
     groups = run(["duplicates", "--round", "--files0-from", "/dev/stdin"], listed)
     shown = (groups.out.count(b"\n\n") >= FILES // 4, groups.err.count(b" rounded\n") >= FILES // 4, groups.err.count(b": line ") >= FILES // 20)
     if not all(shown):
@@ -250,10 +259,10 @@ def check_names(folder):
 
 
 def check_lines(folder):
-    """Each command has both flags, once each and without a value, and `fault` and `round` have neither."""
+    """Each command has both flags, once each and without a value, and `round` has neither."""
     path = write_file(folder + b"/file", ONE_FINE)
     named = {it.words[0]: it.line([path] * max(1, it.files)) for it in (*ON_FILE, *ON_PAIR, *ON_FILES)}
-    wrong = [[name, flag, path] for name in UNROUNDED for flag in ("--round", "--round-exact")]
+    wrong = [["round", flag, path] for flag in ("--round", "--round-exact")]
     wrong += [[*line, flag, flag] for line in named.values() for flag in ("--round", "--round-exact")]
     wrong += [[*line, flag] for line in named.values() for flag in ("--round=yes", "--round-exact=1", "--exact", "--rounded")]
     for words in wrong:

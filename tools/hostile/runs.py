@@ -263,11 +263,16 @@ def writes(one, piece, rest):
     TALLY.judge(not one.own.err or 0 <= len(one.own.err) - last <= piece, f"{one}: a write of standard error never failed", last)
 
 
+# The commands that do not say why a file cannot be opened.
+WITHOUT_REASON = ("check", "show", "value", "normalise", "compare")
+
+
 def opens(one):
     """Each file cannot be opened, though it is there."""
-    for number, which in enumerate(prefixes(one), 1):
+    for number, (which, path) in enumerate(zip(prefixes(one), one.files), 1):
         answer = run(one.words(), call="open", number=number)
-        wanted = Answer(DEVICE_FAILED, b"", which + b"cannot open\n", 1)
+        begins = which if one.command[0] in WITHOUT_REASON else os.fsencode(path) + b": "
+        wanted = Answer(DEVICE_FAILED, b"", begins + b"cannot open\n", 1)
         TALLY.judge(answer == wanted, f"{one}: open {number}", answer)
 
 
@@ -346,16 +351,17 @@ def fifos(one, piece):
 
 # What is in place of a file, and what is reported of it: a directory, and a device that gives nothing.
 NO_FILES = {"/": (DEVICE_FAILED, b"Device\n"), "/dev/null": (FILE_REFUSED, b"line 1: Missing\n")}
+# What is reported of a directory by commands that say why a file cannot be opened.
+IS_FOLDER = b"/: cannot open: is a folder: name it to 'fault', 'duplicates' or 'sizes'\n"
 
 
 def other_inputs(one, at, path):
-    """Something else is in place of a file. What is not a bid file has its fault on the output of `fault`."""
+    """Something else is in place of a file. If it cannot be opened, none is read."""
     status, line = NO_FILES[path]
-    if one.command == ("fault",) and status == FILE_REFUSED:
-        return
+    line = one.counts(at) + prefixes(one)[at] + line if path != "/" or one.command[0] in WITHOUT_REASON else IS_FOLDER
     files = [*one.files[:at], path, *one.files[at + 1 :]]
     answer = run(one.words(files))
-    TALLY.judge(answer == Answer(status, b"", one.counts(at) + prefixes(one)[at] + line), f"{one}: {path} as file {at + 1}", answer)
+    TALLY.judge(answer == Answer(status, b"", line), f"{one}: {path} as file {at + 1}", answer)
 
 
 def refused_cases(folder):
@@ -364,7 +370,7 @@ def refused_cases(folder):
     nothing = write_file(folder, "nothing", header(0, 0, 0))
     fine = write_file(folder, "fine", SIX_DIGITS)
     ended = os.path.getsize(nothing) + 1
-    one_file = [case((name,), (faulty,)) for name, many in NAMES.items() if many == 1 and name not in ("fault", "round")]
+    one_file = [case((name,), (faulty,)) for name, many in NAMES.items() if many == 1 and name != "round"]
     pairs = {(faulty, nothing): (FAULT_AT, 0), (nothing, faulty): (ended, FAULT_AT)}
     compared = {case((name,), pair): counts for name, many in NAMES.items() if many == 2 for pair, counts in pairs.items()}
     # to round prices the whole file is read

@@ -2,28 +2,22 @@
 -- `round`, `duplicates`, `sizes` and rounded prices are reported on before they end, or a list of bids that is refused.
 use Rattle.cats_cmd.proofs.Common.{◌≡◌, ◌≢◌, ℕ, List, [], ◌∷◌, Option, None, Some, Result, Ok, Err, Bool, false, ◌∙◌, arith, ◌≤◌, refl, sym, ⊎_elim, ◌⊎◌, inl}
 use Rattle.cats_cmd.proofs.Common.{inr}
-use Rattle.cats_cmd.proofs.Common.{◌==◌, ◌||◌, both_ways, eq-eqb, PlainPlace, first_place, Kind, Device, Watched, CanonFault, Read, StepLimit, Memory, Commands}
-use Rattle.cats_cmd.proofs.Common.{Prints, CommandsOnBoth, Answer, outcome_of_place, PricedGives, PricedRefuses, RunsOnBids, outcome_of, FinePrices, is_some}
-use Rattle.cats_cmd.proofs.Common.{AnswersRequest, CarriesOut, RunsAt, RunsAtBoth, RunsFor, RunsOnOne, RunsWith, FailsRequest, RunsCommand}
-use Rattle.cats_cmd.proofs.Common.{status_of_canon_fault, status_of_read_fault, Reports, line_of_fault, has_found, is_for_many_files, is_reporting}
-use Rattle.cats_cmd.proofs.Common.{finds, is_many, reports, names_found, names_many_files, names_reporting, status_of_fault, RunFault}
+use Rattle.cats_cmd.proofs.Common.{◌||◌, Kind, Device, Watched, CanonFault, Read, StepLimit, Memory, Commands}
+use Rattle.cats_cmd.proofs.Common.{Prints, CommandsOnBoth, Answer, PricedGives, PricedRefuses, RunsOnBids, outcome_of, FinePrices, is_some}
+use Rattle.cats_cmd.proofs.Common.{AnswersRequest, CarriesOut, RunsAt, RunsAtBoth, RunsFor, RunsOnOne, RunsWith, FailsRequest, RunsCommand, line_of_failure}
+use Rattle.cats_cmd.proofs.Common.{status_of_canon_fault, status_of_read_fault, Reports, is_for_many_files, is_reporting}
+use Rattle.cats_cmd.proofs.Common.{is_many, reports, names_many_files, names_reporting, status_of_fault, RunFault}
 use Rattle.cats_cmd.proofs.Common.{Refused, Sent, PlainRequest, Files, One, Two, Many, Task, request_of, Unopened}
 use Rattle.cats_cmd.proofs.Common.{RunsOnFile, RunsOnPair, answer_if_lost, is_lost, max, true, length, rounded_prices, status_if_lost, unwrap_or}
 use Rattle.cats_text.specs.declared.read_fault.Kind.TheVariants.{Memory as NoMemory}
 use Rattle.requests.specs.Tasks.{files_of}
-use Rattle.requests.specs.declared.task.Task.TheVariants.{Fault, Round, Compare, Diff}
+use Rattle.requests.specs.declared.task.Task.TheVariants.{Round, Compare, Diff}
 use Rattle.rounding.specs.declared.replacement.FinePrices.TheVariants.{Round as RoundFine}
 use Rattle.cats_cmd.proofs.AnswersShown.{command_printed, printed}
 use Rattle.cats_cmd.proofs.Sending.{pair_facts}
 use Rattle.cats_cmd.proofs.PricedInputs.{none_given}
 
 -- ---- a request
-
--- no fault was found, if the status is not that of one
-none_printed : (path : List ℕ) (place : Option PlainPlace) (status : ℕ) (text : List ℕ) → outcome_of_place path place ≡ Prints status text
-    → (status == 2) ≡ false → status ≤ 1
-none_printed path None status text is none = let same : 0 ≡ status = cc in omega (arith, same)
-none_printed path (Some place) status text is none = let same : 2 ≡ status = cc in absurd (both_ways (status == 2) none (eq-eqb status 2 (sym same)))
 
 -- the rounded text was printed, and its report is not lost
 round_printed : (lost : Bool) (status : ℕ) {sent : List ℕ} (text : List ℕ) → Prints (status_if_lost lost 0) sent ≡ Prints status text → status ≢ 5 → status ≤ 1
@@ -34,10 +28,6 @@ round_printed false status text is other = let same : 0 ≡ status = cc in omega
 pub few_files : (words : List (List ℕ)) (request : PlainRequest) → request_of words ≡ Some request → names_many_files words ≡ false
     → is_for_many_files request ≡ false
 few_files words request asked few = rw asked at few
-
-pub none_found : (words : List (List ℕ)) (request : PlainRequest) (status : ℕ) → request_of words ≡ Some request → names_found status words ≡ false
-    → has_found status request ≡ false
-none_found words request status asked none = rw asked at none
 
 pub quiet_request : (words : List (List ℕ)) (request : PlainRequest) → request_of words ≡ Some request → names_reporting words ≡ false
     → is_reporting request ≡ false
@@ -180,30 +170,24 @@ module _ {F W E : Type 0} (may_open : List ℕ → F → Type 0) (may_refuse : L
 
   -- ---- any request
 
-  -- A request for one or two files that answered has the status 0 or 1, or has written nothing, unless it has found a fault. It has reported
-  -- nothing, unless it is one that reports. One that failed has written nothing, unless its output failed.
+  -- A request for one or two files that answered has the status 0 or 1, or has written nothing. It has reported nothing, unless it is one that
+  -- reports. One that failed has written nothing, unless its output failed.
   abbrev KeptBy : Files → Task → Option FinePrices → Watched E → Result ℕ RunFault → Type 0
   KeptBy count task prices err_after (Ok status) =
-      (is_many count ≡ false → finds task status ≡ false → status ≢ 5 → (status ≤ 1) ⊎ (out_after ≡ out))
+      (is_many count ≡ false → status ≢ 5 → (status ≤ 1) ⊎ (out_after ≡ out))
       × ((is_many count || reports task prices) ≡ false → status ≤ 1 → err_after ≡ err)
   KeptBy count task prices err_after (Err fault) = is_many count ≡ false → IsSilent fault out out_after
 
   kept_few : (count : Files) (task : Task) (prices : Option FinePrices) (err_after : Watched E) (answer : Result ℕ RunFault)
       → ((is_many count || reports task prices) ≡ false → is_some prices ≡ false) → Kept prices err_after answer → KeptBy count task prices err_after answer
-  kept_few count task prices err_after (Ok status) plain kept = ((λ few none. kept.0), (λ quiet. kept.1 (plain quiet)))
+  kept_few count task prices err_after (Ok status) plain kept = ((λ few. kept.0), (λ quiet. kept.1 (plain quiet)))
   kept_few count task prices err_after (Err fault) plain kept = λ few. kept
 
   kept_one : (task : Task) (request : PlainRequest) (path : List ℕ) (err_after : Watched E) (answer : Result ℕ RunFault)
       → RunsOnOne may_open may_refuse remaining contents messages task request path out out_after err err_after answer
       → KeptBy One task request.prices err_after answer
-  kept_one Fault request path err_after (Ok status) ran =
-      let made = ran.0.runs in
-      ((λ few none other. inl (none_printed path (first_place made.given) status made.text made.made none)), (λ plain most. ran.1))
-  kept_one Fault request path err_after (Err (Refused which fault)) ran = λ few. ran.0.runs.2
-  kept_one Fault request path err_after (Err (Sent fault)) ran = λ few. tt
-  kept_one Fault request path err_after (Err fault) ran = absurd ran.0.runs
   kept_one Round request path err_after (Ok status) ran = (
-    (λ few none other. inl (round_printed (is_lost (length (rounded_prices (unwrap_or request.prices RoundFine) ran.runs.given)) err_after) status
+    (λ few other. inl (round_printed (is_lost (length (rounded_prices (unwrap_or request.prices RoundFine) ran.runs.given)) err_after) status
         ran.runs.text ran.runs.made other)),
     (λ plain most. absurd (cc)),
   )
@@ -215,14 +199,14 @@ module _ {F W E : Type 0} (may_open : List ℕ → F → Type 0) (may_refuse : L
 
   unfit : (count : Files) (request : PlainRequest) (err_after : Watched E) (answer : Result ℕ RunFault)
       → (answer ≡ Ok 64) × (out_after ≡ out) × (err_after ≡ err) → KeptBy count request.task request.prices err_after answer
-  unfit count request err_after (Ok status) ran = ((λ few none other. inr ran.1), (λ quiet most. ran.2))
+  unfit count request err_after (Ok status) ran = ((λ few other. inr ran.1), (λ quiet most. ran.2))
   unfit count request err_after (Err fault) ran = absurd (no_answer fault 64 (sym ran.0))
 
   kept_with : (count : Files) (files : List (List ℕ)) (request : PlainRequest) (err_after : Watched E) (answer : Result ℕ RunFault)
       → count ≡ files_of request.task
       → RunsWith may_open may_refuse remaining contents messages terminal may_find count files request out out_after err err_after answer
       → KeptBy count request.task request.prices err_after answer
-  kept_with Many files request err_after (Ok status) is ran = ((λ few none other. absurd (cc)), (λ quiet most. absurd (cc)))
+  kept_with Many files request err_after (Ok status) is ran = ((λ few other. absurd (cc)), (λ quiet most. absurd (cc)))
   kept_with Many files request err_after (Err fault) is ran = λ few. absurd (cc)
   kept_with One (file ∷ []) request err_after answer is ran = kept_one request.task request file err_after answer ran
   kept_with Two (first ∷ second ∷ []) request err_after answer is ran =
@@ -257,12 +241,12 @@ module _ {F W E : Type 0} (may_open : List ℕ → F → Type 0) (may_refuse : L
     abbrev Answered : Type 0
     Answered = AnswersRequest may_open may_refuse remaining contents messages terminal may_find request out out_after err err_after status
 
-    -- a status but 0, 1 and 5 says that nothing was written, unless a fault was found
-    pub silent_answer : Answered → is_for_many_files request ≡ false → has_found status request ≡ false → status ≢ 0 → status ≢ 1 → status ≢ 5 → out_after ≡ out
-    silent_answer (inl carried) few none a b c =
+    -- a status but 0, 1 and 5 says that nothing was written
+    pub silent_answer : Answered → is_for_many_files request ≡ false → status ≢ 0 → status ≢ 1 → status ≢ 5 → out_after ≡ out
+    silent_answer (inl carried) few a b c =
         ⊎_elim (λ (most : status ≤ 1). absurd (omega (arith, most, a, b))) (λ (silent : out_after ≡ out). silent)
-        ((kept_for request err_after (Ok status) (answered request err_after status carried)).0 few none c)
-    silent_answer (inr s) few none a b c =
+        ((kept_for request err_after (Ok status) (answered request err_after status carried)).0 few c)
+    silent_answer (inr s) few a b c =
         silent_unless_failed s.fault out out_after (silent_request request s.between s.fault s.carries few) (λ five. c (s.is_status ∙ five))
 
     -- the statuses 0 and 1 say that nothing was reported
@@ -271,6 +255,6 @@ module _ {F W E : Type 0} (may_open : List ℕ → F → Type 0) (may_refuse : L
     done_answer (inr s) few most = let least = fault_status_above s.fault in let is = s.is_status in absurd (omega (arith, least, is, most))
 
   pub failed_request : (request : PlainRequest) (fault : RunFault) (between err_after : Watched E) (status : ℕ) → Carried request between (Err fault)
-      → Reports messages (line_of_fault fault) between err_after → status ≡ status_of_fault fault → Failed request err_after status
+      → Reports messages (line_of_failure request fault) between err_after → status ≡ status_of_fault fault → Failed request err_after status
   failed_request request fault between err_after status carries reports is =
       record { fault = fault; between = between; carries = carries; reports = reports; is_status = is }

@@ -183,14 +183,14 @@ explanation_shown file reasons = ours (explanation_text file reasons) (simp text
 pub diff_shown : (f g : PlainFile) (d : PlainDifferences) → Shown (diff_text f g d)
 diff_shown f g d = (printed _ _ _ (differences_printed f g d) refl).1
 
-pub place_shown : (path : List ℕ) (place : PlainPlace) → AreBytes path → AreBytes place.text → Shown (text_of_place path place)
-place_shown path place bytes word =
+pub place_shown : (path : List ℕ) (column : ℕ) (place : PlainPlace) → AreBytes path → AreBytes place.text → Shown (text_of_place path column place)
+place_shown path column place bytes word =
     let shown = shown_bytes place.text in
-    let front : List ℕ = codes ":" ++ decimal place.line ++ codes ":" ++ decimal place.word ++ codes ": " ++ name_of_kind place.kind
+    let front : List ℕ = codes ":" ++ decimal place.line ++ codes ":" ++ decimal column ++ codes ": " ++ name_of_kind place.kind
     ++ before_word place.text in
     let back : List ℕ = behind_word place.text ++ codes "\n" in
     let end : List ℕ = codes "\n" in
-    let same : ((((escaped path ++ front) ++ escaped shown) ++ back) ++ hint_of place) ++ end ≡ text_of_place path place = simp append_assoc in
+    let same : ((((escaped path ++ front) ++ escaped shown) ++ back) ++ hint_of place) ++ end ≡ text_of_place path column place = simp append_assoc in
     subst Shown same (then (then (then (then (then (path_shown path (bytes_from path bytes)) (ours front (simp (pieces, name, before))))
     (path_shown shown (bytes_from shown (All-take (λ b. b < 256) 60 place.text word)))) (ours back (simp pieces)))
     (ours (hint_of place) (hint place))) (ours end refl))

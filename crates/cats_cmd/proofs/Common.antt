@@ -30,7 +30,7 @@ pub use Rattle.cats_cmd.specs.Duplicates.{paths_if_judged}
 pub use Rattle.cats_cmd.specs.Escaping.{AreBytes, escaped, code_at, escaped_behind, escaped_byte, is_plain, is_printable, plain_length, end_of, path_text}
 pub use Rattle.cats_cmd.specs.Escaping.{IsTextOf, Plain, Reading, hex_escape, is_control_byte, reads_byte, unescaped, is_shown}
 pub use Rattle.cats_cmd.specs.FileLists.{IsUnread, ReadsList, RunsAtPaths, RunsOnList}
-pub use Rattle.cats_cmd.specs.FindingFaults.{outcome_of_place, text_of_place}
+pub use Rattle.cats_cmd.specs.FindingFaults.{fault_text, faults_text, text_of_fault, text_of_place}
 pub use Rattle.cats_cmd.specs.Folders.{Finds, FindsAt, FoundAt, AreFilesAt, files_at, files_of, found_of, paths_of, BeginsWith, IsBelow, ListsFolder}
 pub use Rattle.cats_cmd.specs.Folders.{with_slash}
 pub use Rattle.cats_cmd.specs.Inputs.{IsOpened, ReadsBytes, IsUnreadStream, StopsReading, WantsMemoryForBytes, ReadsAll}
@@ -38,21 +38,21 @@ pub use Rattle.cats_cmd.specs.Internal.Carrying.{IsButForText}
 pub use Rattle.cats_cmd.specs.Internal.Gathering.{Gathers, GathersNext}
 pub use Rattle.cats_cmd.specs.Internal.Judging.{KeepsNumbers, AddsJudgement, AddsOpened, AddsRefused, KeepsGroups, AddsPath, HasJudged, JudgesAllAs}
 pub use Rattle.cats_cmd.specs.Internal.Judging.{OpensAllAs}
-pub use Rattle.cats_cmd.specs.Internal.Roundings.{RoundsText}
+pub use Rattle.cats_cmd.specs.Internal.Roundings.{RoundsText, judged_of}
 pub use Rattle.cats_cmd.specs.Internal.Walking.{WalksBelow, StaysBelow}
-pub use Rattle.cats_cmd.specs.Opening.{Opening, Opens, regular_openings, with_openings}
+pub use Rattle.cats_cmd.specs.Opening.{Opening, Opens, openings_of, with_openings}
 pub use Rattle.cats_cmd.specs.OutputPaths.{has_lines, IsPath, behind_tabs, end_byte, groups_in, is_empty, paths_in_table, read_path}
 pub use Rattle.cats_cmd.specs.PathLists.{ended, parts_in, paths_in, without_empty_end}
 pub use Rattle.cats_cmd.specs.Paths.{removal_lines, progress_lines, ReportsFrom, ReportsPath}
 pub use Rattle.cats_cmd.specs.Paths.{JudgesAs, JudgedPath, Judges, Reporting, greatest_status}
 pub use Rattle.cats_cmd.specs.Paths.{judgement_at, lines_from, lines_of_path, report_lines, status_of_path, without_refusals, BeginsPaths, MakesOfPaths}
 pub use Rattle.cats_cmd.specs.Paths.{RunsOnPaths, outcome_of_paths, progress_line, refusal_line, status_if, is_counted}
-pub use Rattle.cats_cmd.specs.PricedInputs.{PricedGives, PricedRefuses, IsPriced, rounded_words, rounding_lines, gives_by}
-pub use Rattle.cats_cmd.specs.Reports.{Reports, has_found, is_for_many_files, is_reporting, finds, reports, names_found, names_many_files}
+pub use Rattle.cats_cmd.specs.PricedInputs.{PricedGives, PricedRefuses, IsPriced, JudgesPriced, rounded_words, rounding_lines, gives_by}
+pub use Rattle.cats_cmd.specs.Reports.{Reports, is_for_many_files, is_reporting, reports, names_many_files}
 pub use Rattle.cats_cmd.specs.Reports.{names_reporting, ReportsAll, SendsText}
 pub use Rattle.cats_cmd.specs.Reports.{answer_if_lost, is_lost, status_if_lost}
 pub use Rattle.cats_cmd.specs.Requests.{AnswersNoRequest, AnswersRequest, Carries, CarriesOut, RunsAt, RunsAtBoth, RunsFor, RunsOfCommand, RunsOnOne}
-pub use Rattle.cats_cmd.specs.Requests.{RunsWith, FailsRequest}
+pub use Rattle.cats_cmd.specs.Requests.{RunsWith, FailsRequest, line_of_failure}
 pub use Rattle.cats_cmd.specs.Rounding.{IsUnrounded, Rounds}
 pub use Rattle.cats_cmd.specs.Runs.{RunsCommand, SendsAs, RunsOnFile, RunsOnPair, SendsAnswer, SendsMadeAs, WritesText}
 pub use Rattle.cats_cmd.specs.SizesTables.{fault_cell, without_end, MakesTable, columns, rows_of_table, sizes_header, row}
@@ -63,7 +63,8 @@ pub use Rattle.cats_cmd.specs.declared.paths.Ending.TheVariants.{Line, Null}
 pub use Rattle.cats_cmd.specs.declared.paths.Progress.TheVariants.{Silent}
 pub use Rattle.cats_cmd.specs.declared.priced_input.PricedInput.{PricedInput}
 pub use Rattle.commands.specs.declared.faults.Unopened.{Unopened}
-pub use Rattle.cats_cmd.specs.declared.source.Way.TheVariants.{Anything, NoFolder, Regular}
+pub use Rattle.cats_cmd.specs.declared.source.Way.{Way}
+pub use Rattle.cats_cmd.specs.declared.source.Way.TheVariants.{NoFolder}
 pub use Rattle.cats_text.proofs.Spelling.Files.{spells_from_no_fault}
 pub use Rattle.cats_text.proofs.Texts.FaultKinds.{IsFaultOfBytes, first_fault-of_bytes}
 pub use Rattle.cats_text.specs.FaultPlaces.{PlainPlace, first_place}
@@ -94,7 +95,7 @@ pub use Rattle.commands.specs.Fault.{hint_of, hint_of_kind}
 pub use Rattle.commands.specs.Hints.{first_hint, rows_of, sentence}
 pub use Rattle.commands.specs.declared.fault.rows.Hint.{Hint}
 pub use Rattle.commands.specs.FaultLines.{line_of_fault, prefix_of, text_of_canon_fault, text_of_heavy_bid, text_of_kind, text_of_unopened, total_text}
-pub use Rattle.commands.specs.Judgements.{Judgement, IsHeavy, IsJudged, IsUnjudged, JudgesInput, fault_judged}
+pub use Rattle.commands.specs.Judgements.{Judgement, IsHeavy, IsJudged, IsRead, IsUnjudged, JudgesInput, fault_judged}
 pub use Rattle.commands.specs.Fault.{before_word, behind_word, shown_bytes}
 pub use Rattle.commands.specs.KindNames.{name_of_kind}
 pub use Rattle.commands.specs.Normalise.{with_bid}
@@ -140,6 +141,7 @@ pub use Rattle.std.proofs.lemmas.Bool.Decides.{nat_tests, Decides-eqb}
 pub use Rattle.std.proofs.lemmas.Grind.{flat_map-append}
 pub use Rattle.std.proofs.lemmas.Iterator.Consumers.{YieldsList-at, YieldsList-end}
 pub use Rattle.std.proofs.lemmas.Iterator.Splits.{YieldsList-from_slice_split}
+pub use Rattle.std.proofs.lemmas.List.{flat_map_more}
 pub use Rattle.std.proofs.lemmas.List.{append_assoc, drop-drop, take_all, map-append, map_push, length-map, length-set, get_or-set_same, get_or-set_other}
 pub use Rattle.std.proofs.lemmas.List.{get_or-map, map-set, take_more, length-take-le, take-map, take-append-le, get_or_append_left}
 pub use Rattle.std.proofs.lemmas.List.Elements.{All-take, All-nil, All-push, All-from_recursion, filter_more, filter_passes, filter-append, All-weaker}

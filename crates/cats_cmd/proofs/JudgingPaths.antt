@@ -76,7 +76,7 @@ reports_push messages reporting count number (i ∷ js) j a b c before now =
 -- ---- the paths so far
 
 module _ {C F E : Type 0} (Has : C → List (List ℕ × Judgement) → Type 0) (may_open : List ℕ → F → Type 0) (may_refuse : List ℕ → Unopened → Type 0)
-    (remaining : F → Option (List ℕ)) (options : SearchOptions) (prices : Option FinePrices) (messages : E → Option (List ℕ))
+    (remaining : F → Option (List ℕ)) (options : Option SearchOptions) (prices : Option FinePrices) (messages : E → Option (List ℕ))
     (reporting : Reporting) (count : ℕ) (err : Watched E) where
   pub none_judged : (kept : C) → Has kept [] → HasJudged Has may_open may_refuse remaining options prices messages reporting count [] kept err err 0
   none_judged kept has = record {
@@ -125,7 +125,7 @@ so_many : (paths : List (Bor (List ℕ))) (i : ℕ) → i < length paths → len
 so_many paths i l = length-map (take i paths) (λ (p : Bor (List ℕ)). p.now) ∙ length-take-le i paths (omega (arith, l))
 
 module _ {C F E : Type 0} (Has : C → List (List ℕ × Judgement) → Type 0) (may_open : List ℕ → F → Type 0) (may_refuse : List ℕ → Unopened → Type 0)
-    (remaining : F → Option (List ℕ)) (options : SearchOptions) (prices : Option FinePrices) (messages : E → Option (List ℕ))
+    (remaining : F → Option (List ℕ)) (options : Option SearchOptions) (prices : Option FinePrices) (messages : E → Option (List ℕ))
     (reporting : Reporting) (paths : List (Bor (List ℕ))) (err : Watched E)
     (i : ℕ) (kept : C) (greatest : ℕ) (before : Watched E)
     (h : HasJudged Has may_open may_refuse remaining options prices messages reporting (length paths) (map (λ p. p.now) (take i paths))

@@ -1,7 +1,7 @@
 -- Paths that were opened, and more of them behind these.
 use Rattle.cats_cmd.proofs.Common.{◌≡◌, ℕ, ◌+◌, ◌<◌, List, [], ◌∷◌, ◌++◌, length, map, get_or, take, refl, sym, ap, ◌∙◌, append-nil, Option, Some, None}
 use Rattle.cats_cmd.proofs.Common.{filter, Result, Ok, Err, IsErr, IsUtf8, is_utf8, AllocError, append_assoc, take-map, filter-append, false_from_ne_true}
-use Rattle.cats_cmd.proofs.Common.{IsUtf8-from_is_utf8, OpensAllAs, Opens, regular_openings, with_openings, Bor, Opening, Regular, map-append}
+use Rattle.cats_cmd.proofs.Common.{IsUtf8-from_is_utf8, OpensAllAs, Opens, openings_of, with_openings, Bor, Opening, Way, map-append}
 use Rattle.cats_cmd.proofs.JudgingPaths.{one_more_path}
 
 with_more : (known : Option (List Opening)) (some more : List Opening) → with_openings (with_openings known some) more ≡ with_openings known (some ++ more)
@@ -23,34 +23,35 @@ module _ {S H : Type 0} (content_of : S → H) (opened : S → Option (List Open
     more = later.more ∙ ap (λ (known : Option (List Opening)). with_openings known more) first.more ∙ with_more (opened old) some more;
   }
 
-  -- one more of many paths
-  pub opens_next : (old between new : S) (paths : List (Bor (List ℕ))) (i : ℕ) (d : Bor (List ℕ)) → i < length paths
-      → Opens content_of opened old between (regular_openings (map (λ p. p.now) (take i paths)))
-      → Opens content_of opened between new (regular_openings ((get_or paths i d).now ∷ []))
-      → Opens content_of opened old new (regular_openings (map (λ p. p.now) (take (i + 1) paths)))
-  opens_next old between new paths i d l first later =
-      let before = map (λ (p : Bor (List ℕ)). p.now) (take i paths) in
-      let one = (get_or paths i d).now ∷ [] in
-      rw (
-        one_more_path paths i d l,
-        filter-append is_utf8 before one,
-        map-append {B = Opening} (λ p. (p, Regular)) (filter is_utf8 before) (filter is_utf8 one),
-      )
-      (opens_then old between new (regular_openings before) (regular_openings one) first later)
+  module _ (way : Way) where
+    -- one more of many paths
+    pub opens_next : (old between new : S) (paths : List (Bor (List ℕ))) (i : ℕ) (d : Bor (List ℕ)) → i < length paths
+        → Opens content_of opened old between (openings_of way (map (λ p. p.now) (take i paths)))
+        → Opens content_of opened between new (openings_of way ((get_or paths i d).now ∷ []))
+        → Opens content_of opened old new (openings_of way (map (λ p. p.now) (take (i + 1) paths)))
+    opens_next old between new paths i d l first later =
+        let before = map (λ (p : Bor (List ℕ)). p.now) (take i paths) in
+        let one = (get_or paths i d).now ∷ [] in
+        rw (
+          one_more_path paths i d l,
+          filter-append is_utf8 before one,
+          map-append {B = Opening} (λ p. (p, way)) (filter is_utf8 before) (filter is_utf8 one),
+        )
+        (opens_then old between new (openings_of way before) (openings_of way one) first later)
 
-  -- memory was refused behind one of them
-  pub opens_some : (old between new : S) (paths : List (Bor (List ℕ))) (i : ℕ) (d : Bor (List ℕ)) → i < length paths
-      → Opens content_of opened old between (regular_openings (map (λ p. p.now) (take i paths)))
-      → Opens content_of opened between new (regular_openings ((get_or paths i d).now ∷ []))
-      → (answer : Result ℕ AllocError) → IsErr answer → OpensAllAs content_of opened (map (λ p. p.now) paths) old new answer
-  opens_some old between new paths i d l first later (Ok status) is = cc
-  opens_some old between new paths i d l first later (Err e) is = record {
-    count = i + 1;
-    opens = rw (take-map (λ (p : Bor (List ℕ)). p.now) (i + 1) paths) (opens_next old between new paths i d l first later);
-  }
+    -- memory was refused behind one of them
+    pub opens_some : (old between new : S) (paths : List (Bor (List ℕ))) (i : ℕ) (d : Bor (List ℕ)) → i < length paths
+        → Opens content_of opened old between (openings_of way (map (λ p. p.now) (take i paths)))
+        → Opens content_of opened between new (openings_of way ((get_or paths i d).now ∷ []))
+        → (answer : Result ℕ AllocError) → IsErr answer → OpensAllAs content_of opened way (map (λ p. p.now) paths) old new answer
+    opens_some old between new paths i d l first later (Ok status) is = cc
+    opens_some old between new paths i d l first later (Err e) is = record {
+      count = i + 1;
+      opens = rw (take-map (λ (p : Bor (List ℕ)). p.now) (i + 1) paths) (opens_next old between new paths i d l first later);
+    }
 
 -- ---- the path of one file
 
-module _ {S H : Type 0} (content_of : S → H) (opened : S → Option (List Opening)) where
-  pub opens_broken : (source : S) (path : List ℕ) → (IsUtf8 path → ⊥) → Opens content_of opened source source (regular_openings (path ∷ []))
+module _ {S H : Type 0} (content_of : S → H) (opened : S → Option (List Opening)) (way : Way) where
+  pub opens_broken : (source : S) (path : List ℕ) → (IsUtf8 path → ⊥) → Opens content_of opened source source (openings_of way (path ∷ []))
   opens_broken source path broken = rw (false_from_ne_true (is_utf8 path) (λ e. broken (IsUtf8-from_is_utf8 path e))) (opens_none content_of opened source)

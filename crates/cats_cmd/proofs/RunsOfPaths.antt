@@ -6,7 +6,7 @@ use Rattle.cats_cmd.proofs.Common.{outcome_of_paths, SendsAs, RunFault, Refused,
 use Rattle.cats_cmd.proofs.Sending.{wrote}
 
 module _ {F W E : Type 0} (may_open : List ℕ → F → Type 0) (may_refuse : List ℕ → Unopened → Type 0) (remaining : F → Option (List ℕ))
-    (contents : W → Option (List ℕ)) (messages : E → Option (List ℕ)) (options : SearchOptions) (prices : Option FinePrices)
+    (contents : W → Option (List ℕ)) (messages : E → Option (List ℕ)) (options : Option SearchOptions) (prices : Option FinePrices)
     (Makes : List (List ℕ × Judgement) → List ℕ → Type 0)
     (paths : List (List ℕ)) (reporting : Reporting) (err err_after : Watched E) where
   -- memory was refused after the first of the paths

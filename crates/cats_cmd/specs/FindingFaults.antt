@@ -1,56 +1,49 @@
--- What `cats fault` does. It reads bytes, and sends where their first fault is, with what helps against it.
-use Rattle.std.specs.Prelude.{◌≡◌, ◌⊎◌, ℕ, true, List, [], Option, Some, None, is_some, Result, Ok, Err}
+-- What `cats fault` prints and reports. It prints where the first fault of each text is, with what helps against it.
+use Rattle.std.specs.Prelude.{◌≡◌, ◌==◌, ℕ, Bool, not, false, List, [], if◌then◌else◌, Option, Some, Ok}
+use Rattle.std.specs.List.{flat_map}
+use Rattle.std.specs.Option.{option_map_or}
 use Rattle.cats_text.specs.FaultPlaces.{PlainPlace, first_place}
-use Rattle.cats_text.specs.Faults.{has_bid_line}
-use Rattle.cats_text.specs.declared.stream.Watched.{Watched}
-use Rattle.canon.specs.declared.canon_fault.CanonFault.{CanonFault}
-use Rattle.canon.specs.declared.canon_fault.CanonFault.TheVariants.{Read, StepLimit, Memory}
-use Rattle.canon.specs.declared.which.Which.TheVariants.{Only}
+use Rattle.canon.specs.declared.canon_fault.CanonFault.TheVariants.{Read}
+use Rattle.commands.specs.Columns.{column_of, place_in}
 use Rattle.commands.specs.Fault.{place_text, shown_bytes}
+use Rattle.commands.specs.Judgements.{Judgement, IsRead}
 use Rattle.commands.specs.declared.faults.RunFault.{RunFault}
-use Rattle.commands.specs.declared.faults.RunFault.TheVariants.{Refused, Sent}
-use Rattle.commands.specs.Outcomes.{Outcome, Prints}
+use Rattle.commands.specs.declared.faults.RunFault.TheVariants.{Refused}
 use Rattle.cats_cmd.specs.Escaping.{escaped}
-use Rattle.cats_cmd.specs.Inputs.{ReadsAll, StopsReading, WantsMemoryForBytes}
-use Rattle.cats_cmd.specs.Runs.{FailsInText, WritesText}
+use Rattle.cats_cmd.specs.Paths.{Reporting, refusal_lines}
+use Rattle.cats_cmd.specs.declared.paths.Progress.{Progress}
 
--- what `cats fault` prints of a file, with path and word escaped
-abbrev pub text_of_place : List ℕ → PlainPlace → List ℕ
-text_of_place path place = place_text (escaped path) (escaped (shown_bytes place.text)) place
+-- ---- what is printed
 
-abbrev pub outcome_of_place : List ℕ → Option PlainPlace → Outcome
-outcome_of_place path None = Prints 0 []
-outcome_of_place path (Some place) = Prints 2 (text_of_place path place)
+-- what `cats fault` prints of a file: a place at this column and the hint, with path and word escaped
+abbrev pub text_of_place : List ℕ → ℕ → PlainPlace → List ℕ
+text_of_place path column place = place_text (escaped path) (escaped (shown_bytes place.text)) column place
 
--- of the bytes of a file at this path: their first fault, or nothing if they have none
-abbrev pub fault_outcome : List ℕ → List ℕ → Outcome
-fault_outcome path bytes = outcome_of_place path (first_place bytes)
+-- of the bytes of a file at this path, of which a text is judged that has its first fault at this place
+abbrev pub text_of_fault : List ℕ → List ℕ → PlainPlace → List ℕ
+text_of_fault path bytes place = text_of_place path (column_of bytes place) (place_in bytes place)
 
--- memory is wanted for bytes in which a bid line has begun, and for a fault's text
-abbrev pub WantsMemoryToFind : List ℕ → Type 0
-WantsMemoryToFind bytes = (has_bid_line bytes ≡ true) ⊎ (is_some (first_place bytes) ≡ true)
+-- of the file at a path: of one without a fault, or that was not read, nothing
+abbrev pub fault_text : List ℕ → Judgement → List ℕ
+fault_text path (IsRead (Ok texts)) = option_map_or (text_of_fault path texts.0) (first_place texts.1) []
+fault_text path judgement = []
 
--- ---- the run
+abbrev pub faults_text : List (List ℕ × Judgement) → List ℕ
+faults_text judgements = flat_map (λ j. fault_text j.0 j.1) judgements
 
-module _ {R W : Type 0} (remaining : R → Option (List ℕ)) (contents : W → Option (List ℕ)) (path : List ℕ) where
-  -- memory is refused to find the first fault of the bytes that were read, or for its text
-  pub record WantsMemoryForPlace (old new : Watched R) : Type 0 where
-    pub bytes : List ℕ
-    pub all : ReadsAll remaining old new bytes
-    pub wants : WantsMemoryToFind bytes
+abbrev pub MakesFaults : List (List ℕ × Judgement) → List ℕ → Type 0
+MakesFaults judgements text = text ≡ faults_text judgements
 
-  -- why nothing is known of the file
-  abbrev pub IsUnfound : Watched R → Watched R → CanonFault → Type 0
-  IsUnfound old new (Read fault) = StopsReading remaining old new fault.line fault.kind
-  IsUnfound old new (StepLimit goods) = ⊥
-  IsUnfound old new Memory = WantsMemoryForBytes remaining old new ⊎ WantsMemoryForPlace old new
+-- ---- what is reported
 
-  -- the contract of the run, from its input and its output before to those after it
-  abbrev pub FindsFault : Watched R → Watched R → Watched W → Watched W → Result ℕ RunFault → Type 0
-  FindsFault old new out out_after (Ok status) =
-      WritesText contents (ReadsAll remaining old new) (fault_outcome path) out out_after status
-  FindsFault old new out out_after (Err (Refused which fault)) =
-      (which ≡ Only) × IsUnfound old new fault × (out_after ≡ out)
-  FindsFault old new out out_after (Err (Sent fault)) =
-      FailsInText contents (ReadsAll remaining old new) (fault_outcome path) out out_after fault.written
-  FindsFault old new out out_after (Err fault) = ⊥
+-- it is a fault of a text, which has a place there
+abbrev pub is_placed : Option RunFault → Bool
+is_placed (Some (Refused which (Read fault))) = not (fault.line == 0)
+is_placed fault = false
+
+-- a line for each file that was not read
+abbrev pub unplaced_lines : List ℕ → Option RunFault → List (List ℕ)
+unplaced_lines path fault = if is_placed fault then [] else refusal_lines path fault
+
+abbrev pub with_unplaced : Progress → Reporting
+with_unplaced progress = record { refusals = unplaced_lines; progress = progress }

@@ -9,11 +9,6 @@ use Rattle.cats_text.specs.declared.limits.TheConstants.{MAX_STREAM}
 use Rattle.cats_text.specs.declared.stream.Watched.{Watched}
 use Rattle.cats_text.specs.Faults.{fault_at}
 use Rattle.cats_text.specs.declared.read_fault.ReadFault.{ReadFault}
-use Rattle.commands.specs.declared.faults.Unopened.{Unopened}
-
--- a file at this path may be refused, for some reason
-abbrev pub MayRefuse : (List ℕ → Unopened → Type 0) → List ℕ → Type 0
-MayRefuse may_refuse path = (why : Unopened) × may_refuse path why
 
 -- a stream that was opened at this path and that no call has failed or ended yet
 pub record IsOpened {R : Type 0} (may_open : List ℕ → R → Type 0) (path : List ℕ) (stream : Watched R) : Type 0 where

@@ -1,9 +1,12 @@
 -- What a source has opened: each path once, in the order of the request, and in which way.
-use Rattle.std.specs.Prelude.{◌≡◌, ◌⊎◌, ◌++◌, ℕ, List, filter, map, take, Option, option_map}
+use Rattle.std.specs.Prelude.{◌≡◌, ◌⊎◌, ◌++◌, ℕ, List, filter, map, take, Option, option_map, if◌then◌else◌}
 use Rattle.std.specs.Str.{is_utf8}
+use Rattle.requests.specs.Tasks.{gives_reason}
+use Rattle.requests.specs.declared.task.Task.{Task}
+use Rattle.requests.specs.declared.task.Task.TheVariants.{Duplicates, Sizes}
 use Rattle.cats_cmd.specs.Folders.{AreFilesAt}
 use Rattle.cats_cmd.specs.declared.source.Way.{Way}
-use Rattle.cats_cmd.specs.declared.source.Way.TheVariants.{Regular}
+use Rattle.cats_cmd.specs.declared.source.Way.TheVariants.{Anything, NoFolder, Regular}
 
 -- a path, and how it is opened: whatever is there, no folder, or only a regular file
 abbrev pub Opening : Type 0
@@ -13,9 +16,15 @@ Opening = List ℕ × Way
 abbrev pub with_openings : Option (List Opening) → List Opening → Option (List Opening)
 with_openings known more = option_map (λ before. before ++ more) known
 
--- each of many paths is opened as that of a regular file. One that is not UTF-8 is not opened
-abbrev pub regular_openings : List (List ℕ) → List Opening
-regular_openings paths = map (λ path. (path, Regular)) (filter is_utf8 paths)
+-- each of many paths is opened in this way. One that is not UTF-8 is not opened
+abbrev pub openings_of : Way → List (List ℕ) → List Opening
+openings_of way paths = map (λ path. (path, way)) (filter is_utf8 paths)
+
+-- how a command opens its files. Some open whatever is there, and do not say why that fails; the others open no folder
+abbrev pub way_of : Task → Way
+way_of Duplicates = Regular
+way_of Sizes = Regular
+way_of task = if gives_reason task then NoFolder else Anything
 
 -- `content_of` says what a source holds, and `opened` what it has opened, if that is known.
 module _ {S H : Type 0} (content_of : S → H) (opened : S → Option (List Opening)) where
@@ -25,22 +34,22 @@ module _ {S H : Type 0} (content_of : S → H) (opened : S → Option (List Open
     pub more : opened new ≡ with_openings (opened old) openings
 
   -- it has opened the first of these paths
-  pub record OpensFirst (old new : S) (paths : List (List ℕ)) : Type 0 where
+  pub record OpensFirst (way : Way) (old new : S) (paths : List (List ℕ)) : Type 0 where
     pub count : ℕ
-    pub opens : Opens old new (regular_openings (take count paths))
+    pub opens : Opens old new (openings_of way (take count paths))
 
   -- it has opened all of these paths, or the first of them, as memory was refused to all files together
-  abbrev pub OpensEach : List (List ℕ) → S → S → ℕ → Type 0
-  OpensEach paths old new status =
-      Opens old new (regular_openings paths) ⊎ ((status ≡ 4) × OpensFirst old new paths)
+  abbrev pub OpensEach : Way → List (List ℕ) → S → S → ℕ → Type 0
+  OpensEach way paths old new status =
+      Opens old new (openings_of way paths) ⊎ ((status ≡ 4) × OpensFirst way old new paths)
 
   module _ (may_find : H → List ℕ → Option (List (List ℕ)) → Type 0) where
     -- the files at these paths are opened
-    pub record OpensFound (paths : List (List ℕ)) (old new : S) (status : ℕ) : Type 0 where
+    pub record OpensFound (way : Way) (paths : List (List ℕ)) (old new : S) (status : ℕ) : Type 0 where
       pub files : List (List ℕ)
       pub are : AreFilesAt (may_find (content_of old)) paths files
-      pub opens : OpensEach files old new status
+      pub opens : OpensEach way files old new status
 
     -- they are, or memory was refused while folders were read, and nothing is opened
-    abbrev pub OpensAtPaths : List (List ℕ) → S → S → ℕ → Type 0
-    OpensAtPaths paths old new status = OpensFound paths old new status ⊎ ((status ≡ 4) × (new ≡ old))
+    abbrev pub OpensAtPaths : Way → List (List ℕ) → S → S → ℕ → Type 0
+    OpensAtPaths way paths old new status = OpensFound way paths old new status ⊎ ((status ≡ 4) × (new ≡ old))

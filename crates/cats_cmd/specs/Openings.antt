@@ -8,12 +8,13 @@ use Rattle.requests.specs.Tasks.{files_of}
 use Rattle.requests.specs.declared.task.Files.{Files}
 use Rattle.requests.specs.declared.task.Files.TheVariants.{One, Two, Many}
 use Rattle.requests.specs.declared.task.Task.{Task}
-use Rattle.requests.specs.declared.task.Task.TheVariants.{Fault, Round}
+use Rattle.requests.specs.declared.task.Task.TheVariants.{Round}
 use Rattle.cats_cmd.specs.FileLists.{ReadsList}
-use Rattle.cats_cmd.specs.Opening.{Opening, Opens, OpensAtPaths}
+use Rattle.cats_cmd.specs.Opening.{Opening, Opens, OpensAtPaths, way_of}
 use Rattle.cats_cmd.specs.PathLists.{paths_in}
 use Rattle.commands.specs.declared.faults.Unopened.{Unopened}
-use Rattle.cats_cmd.specs.declared.source.Way.TheVariants.{Anything, NoFolder}
+use Rattle.cats_cmd.specs.declared.source.Way.{Way}
+use Rattle.cats_cmd.specs.declared.source.Way.TheVariants.{NoFolder}
 
 -- the status that a run comes to
 abbrev pub status_of_run : Result ℕ RunFault → ℕ
@@ -24,23 +25,22 @@ module _ {S H F : Type 0} (content_of : S → H) (opened : S → Option (List Op
     (may_open : H → List ℕ → F → Type 0) (may_refuse : H → List ℕ → Unopened → Type 0)
     (remaining : F → Option (List ℕ)) where
   -- both files are opened, or only the first, which is refused
-  abbrev pub OpensPair : List ℕ → List ℕ → S → S → ℕ → Type 0
-  OpensPair first second old new status =
-      Opens content_of opened old new ((first, Anything) ∷ (second, Anything) ∷ [])
-      ⊎ ((status ≡ 5) × Opens content_of opened old new ((first, Anything) ∷ []))
+  abbrev pub OpensPair : Way → List ℕ → List ℕ → S → S → ℕ → Type 0
+  OpensPair way first second old new status =
+      Opens content_of opened old new ((first, way) ∷ (second, way) ∷ [])
+      ⊎ ((status ≡ 5) × Opens content_of opened old new ((first, way) ∷ []))
 
   -- the list of the bids, if there is one, and then the file, unless the list is refused
-  abbrev pub OpensForBids : Option (List ℕ) → List ℕ → S → S → ℕ → Type 0
-  OpensForBids (Some list) file old new status =
-      Opens content_of opened old new ((list, NoFolder) ∷ (file, Anything) ∷ [])
+  abbrev pub OpensForBids : Way → Option (List ℕ) → List ℕ → S → S → ℕ → Type 0
+  OpensForBids way (Some list) file old new status =
+      Opens content_of opened old new ((list, NoFolder) ∷ (file, way) ∷ [])
       ⊎ ((2 ≤ status) × Opens content_of opened old new ((list, NoFolder) ∷ []))
-  OpensForBids None file old new status = Opens content_of opened old new ((file, Anything) ∷ [])
+  OpensForBids way None file old new status = Opens content_of opened old new ((file, way) ∷ [])
 
   -- the only file of a request, with its list
   abbrev pub OpensOne : Task → PlainRequest → List ℕ → S → S → ℕ → Type 0
-  OpensOne Fault request file old new status = Opens content_of opened old new ((file, Anything) ∷ [])
-  OpensOne Round request file old new status = Opens content_of opened old new ((file, Anything) ∷ [])
-  OpensOne task request file old new status = OpensForBids request.list file old new status
+  OpensOne Round request file old new status = Opens content_of opened old new ((file, NoFolder) ∷ [])
+  OpensOne task request file old new status = OpensForBids (way_of request.task) request.list file old new status
 
   -- the line has no request, or memory was refused, and nothing is opened
   abbrev pub OpensNothing : List (List ℕ) → S → S → ℕ → Type 0
@@ -49,26 +49,27 @@ module _ {S H F : Type 0} (content_of : S → H) (opened : S → Option (List Op
   module _ (may_find : H → List ℕ → Option (List (List ℕ)) → Type 0) where
     -- the list was read from a stream that the source might open at first, and the files at the paths in it
     -- are opened
-    pub record OpensListed (list : List ℕ) (first old new : S) (status : ℕ) : Type 0 where
+    pub record OpensListed (way : Way) (list : List ℕ) (first old new : S) (status : ℕ) : Type 0 where
       pub bytes : List ℕ
       pub reads : ReadsList (may_open (content_of first)) (may_refuse (content_of first)) remaining list bytes
-      pub opens : OpensAtPaths content_of opened may_find (paths_in bytes) old new status
+      pub opens : OpensAtPaths content_of opened may_find way (paths_in bytes) old new status
 
     -- the list is opened, and then the files at the paths in it, unless it is not read or memory is refused for them
-    pub record OpensList (list : List ℕ) (old new : S) (status : ℕ) : Type 0 where
+    pub record OpensList (way : Way) (list : List ℕ) (old new : S) (status : ℕ) : Type 0 where
       pub between : S
       pub opens : Opens content_of opened old between ((list, NoFolder) ∷ [])
-      pub rest : OpensListed list old between new status ⊎ ((2 ≤ status) × (new ≡ between))
+      pub rest : OpensListed way list old between new status ⊎ ((2 ≤ status) × (new ≡ between))
 
-    abbrev pub OpensFiles : Option (List ℕ) → List (List ℕ) → S → S → ℕ → Type 0
-    OpensFiles None paths old new status = OpensAtPaths content_of opened may_find paths old new status
-    OpensFiles (Some list) paths old new status = OpensList list old new status
+    abbrev pub OpensFiles : Way → Option (List ℕ) → List (List ℕ) → S → S → ℕ → Type 0
+    OpensFiles way None paths old new status = OpensAtPaths content_of opened may_find way paths old new status
+    OpensFiles way (Some list) paths old new status = OpensList way list old new status
 
     -- these paths of a request whose command reads so many files; none, if there are more or fewer
     abbrev pub OpensPaths : Files → List (List ℕ) → PlainRequest → S → S → ℕ → Type 0
-    OpensPaths Many paths request old new status = OpensFiles request.list paths old new status
+    OpensPaths Many paths request old new status = OpensFiles (way_of request.task) request.list paths old new status
     OpensPaths One (file ∷ []) request old new status = OpensOne request.task request file old new status
-    OpensPaths Two (first ∷ second ∷ []) request old new status = OpensPair first second old new status
+    OpensPaths Two (first ∷ second ∷ []) request old new status =
+        OpensPair (way_of request.task) first second old new status
     OpensPaths count paths request old new status = new ≡ old
 
     -- the program opens the paths of a request, each once, in order

@@ -13,7 +13,7 @@ use Rattle.canon.specs.declared.which.Which.TheVariants.{Only}
 use Rattle.rounding.specs.declared.replacement.FinePrices.{FinePrices}
 use Rattle.commands.specs.Outcomes.{Outcome, Prints}
 use Rattle.cats_cmd.specs.Escaping.{escaped}
-use Rattle.cats_cmd.specs.PricedInputs.{IsPriced, PricedGives, PricedRefuses, rounding_lines}
+use Rattle.cats_cmd.specs.PricedInputs.{IsPriced, JudgesPriced, rounding_lines}
 use Rattle.cats_cmd.specs.declared.priced_input.PricedInput.{PricedInput}
 use Rattle.cats_cmd.specs.Runs.{FailsInText, WritesText}
 use Rattle.cats_cmd.specs.Reports.{ReportsAll, is_lost, status_if_lost}
@@ -25,7 +25,7 @@ use Rattle.commands.specs.declared.faults.RunFault.{RunFault}
 use Rattle.commands.specs.declared.faults.RunFault.TheVariants.{Refused, Sent, NotOpened}
 use Rattle.commands.specs.Statuses.{status_of_fault}
 use Rattle.commands.specs.FaultLines.{line_of_fault}
-use Rattle.commands.specs.Judgements.{Judgement, IsUnjudged, JudgesInput, fault_judged}
+use Rattle.commands.specs.Judgements.{Judgement, IsUnjudged, fault_judged}
 
 -- what became of the file at a path, its rounded prices, and whether the report on them is lost
 pub record JudgedPath : Type 0 where
@@ -152,13 +152,13 @@ IsUnopened may_refuse path why = may_refuse path why ⊎ ((why ≡ Other) × (Is
 
 module _ {F : Type 0} (may_open : List ℕ → F → Type 0) (may_refuse : List ℕ → Unopened → Type 0) (remaining : F
     → Option (List ℕ))
-    (options : SearchOptions) (prices : Option FinePrices) where
+    (options : Option SearchOptions) (prices : Option FinePrices) where
   -- this became of a stream that was opened at the path
   pub record JudgesOpened (path : List ℕ) (judgement : Judgement) (rounded : ℕ) : Type 0 where
     pub before : PricedInput F
     pub after : PricedInput F
     pub opened : IsPriced may_open prices path before
-    pub judges : JudgesInput (PricedGives remaining) (PricedRefuses remaining) options before after judgement
+    pub judges : JudgesPriced remaining options before after judgement
     pub count : rounded ≡ after.rounded
 
   abbrev pub JudgesAs : List ℕ → ℕ → Judgement → Type 0
@@ -177,7 +177,7 @@ pub record Made : Type 0 where
   pub text : List ℕ
 
 module _ {F E : Type 0} (may_open : List ℕ → F → Type 0) (may_refuse : List ℕ → Unopened → Type 0)
-    (remaining : F → Option (List ℕ)) (messages : E → Option (List ℕ)) (options : SearchOptions)
+    (remaining : F → Option (List ℕ)) (messages : E → Option (List ℕ)) (options : Option SearchOptions)
     (prices : Option FinePrices) (reporting : Reporting) where
   -- this became of the files at these paths, which are the first of so many, and it was reported
   pub record JudgesPaths (count : ℕ) (paths : List (List ℕ)) (err err_after : Watched E)
@@ -201,7 +201,7 @@ outcome_of_paths made = Prints (greatest_status made.judged) made.text
 -- `Makes` says which text is made of what became of the files
 module _ {F W E : Type 0} (may_open : List ℕ → F → Type 0) (may_refuse : List ℕ → Unopened → Type 0)
     (remaining : F → Option (List ℕ)) (contents : W → Option (List ℕ)) (messages : E → Option (List ℕ))
-    (options : SearchOptions) (prices : Option FinePrices)
+    (options : Option SearchOptions) (prices : Option FinePrices)
     (Makes : List (List ℕ × Judgement) → List ℕ → Type 0) (paths : List (List ℕ)) (reporting : Reporting) where
   pub record MakesOfPaths (err err_after : Watched E) (made : Made) : Type 0 where
     pub judges : JudgesPaths may_open may_refuse remaining messages options prices reporting (length paths) paths err

@@ -1,15 +1,18 @@
 -- A stream of which a bid file is read, with its prices as they are written, or rounded.
-use Rattle.std.specs.Prelude.{◌≡◌, ◌⊎◌, ◌++◌, ◌==◌, ℕ, List, [], ◌∷◌, length, Option, Some, None, codes, decimal}
-use Rattle.std.specs.Prelude.{if◌then◌else◌}
+use Rattle.std.specs.Prelude.{◌≡◌, ◌⊎◌, ◌++◌, ◌==◌, ℕ, false, List, [], ◌∷◌, length, Option, Some, None}
+use Rattle.std.specs.Prelude.{Result, Ok, Err, codes, decimal, if◌then◌else◌}
 use Rattle.bid_file.specs.Files.{PlainFile}
 use Rattle.cats_text.specs.Faults.{fault_at, first_fault}
 use Rattle.cats_text.specs.Grammar.{Spells}
+use Rattle.cats_text.specs.Streams.{has_ended, has_failed}
 use Rattle.cats_text.specs.declared.read_fault.Kind.TheVariants.{Memory}
 use Rattle.cats_text.specs.declared.read_fault.ReadFault.{ReadFault}
 use Rattle.cats_text.specs.declared.stream.Watched.{Watched}
 use Rattle.commands.specs.Inputs.{StreamGives, StreamRefuses}
+use Rattle.commands.specs.Judgements.{Judgement, IsRead, JudgesInput}
 use Rattle.rounding.specs.Texts.{rounded_prices, rounded_text}
 use Rattle.rounding.specs.declared.replacement.FinePrices.{FinePrices}
+use Rattle.valuation.specs.declared.search.options.SearchOptions.{SearchOptions}
 use Rattle.cats_cmd.specs.Escaping.{escaped}
 use Rattle.cats_cmd.specs.Inputs.{IsOpened, ReadsAll, StopsReading, WantsMemoryForBytes}
 use Rattle.cats_cmd.specs.declared.priced_input.PricedInput.{PricedInput}
@@ -20,6 +23,10 @@ pub record IsPriced {R : Type 0} (may_open : List ℕ → R → Type 0) (prices 
   pub opened : IsOpened may_open path input.stream
   pub fine : input.fine ≡ prices
   pub unread : input.rounded ≡ 0
+
+-- no call has failed or ended the stream yet
+abbrev pub IsReady : {R : Type 0} → PricedInput R → Type 0
+IsReady input = (has_failed input.stream ≡ false) × (has_ended input.stream ≡ false) × (input.rounded ≡ 0)
 
 module _ {R : Type 0} (remaining : R → Option (List ℕ)) where
   -- ---- the file that was given, and how many of its prices have another value than is written
@@ -68,6 +75,30 @@ module _ {R : Type 0} (remaining : R → Option (List ℕ)) where
   pub record PricedRefuses (old new : PricedInput R) (fault : ReadFault) : Type 0 where
     pub refuses : refuses_by old.fine old.stream new.stream fault
     pub count : new.rounded ≡ 0
+
+  -- ---- all bytes, and the text that is judged
+
+  -- the text that is judged of bytes
+  abbrev pub judged_text : Option FinePrices → List ℕ → List ℕ
+  judged_text None bytes = bytes
+  judged_text (Some fine) bytes = rounded_text fine bytes
+
+  pub record ReadsTexts (old new : PricedInput R) (bytes judged : List ℕ) : Type 0 where
+    pub all : ReadsAll remaining old.stream new.stream bytes
+    pub is_judged : judged ≡ judged_text old.fine bytes
+
+  abbrev pub AnswersTexts : PricedInput R → PricedInput R → Result (List ℕ × List ℕ) ReadFault → Type 0
+  AnswersTexts old new (Ok texts) = ReadsTexts old new texts.0 texts.1
+  AnswersTexts old new (Err fault) = StopsReading remaining old.stream new.stream fault.line fault.kind
+      ⊎ WantsMemoryToRead old.stream new.stream fault
+
+  -- ---- what became of it
+
+  -- a file is made and searched so; or no file is made, and the text alone is judged
+  abbrev pub JudgesPriced : Option SearchOptions → PricedInput R → PricedInput R → Judgement → Type 0
+  JudgesPriced (Some options) old new judgement = JudgesInput PricedGives PricedRefuses options old new judgement
+  JudgesPriced None old new (IsRead answer) = AnswersTexts old new answer × (new.rounded ≡ 0)
+  JudgesPriced None old new judgement = ⊥
 
 -- ---- what is reported
 

@@ -1,5 +1,5 @@
 -- What a request reports before it ends, what is lost of it, and what is sent to standard error.
-use Rattle.std.specs.Prelude.{◌≡◌, ◌⊎◌, ◌==◌, ◌&&◌, ◌||◌, ℕ, Bool, true, false, List, [], ◌∷◌, Option, Result, Ok}
+use Rattle.std.specs.Prelude.{◌≡◌, ◌⊎◌, ◌&&◌, ◌||◌, ℕ, Bool, true, false, List, [], ◌∷◌, Option, Result, Ok}
 use Rattle.std.specs.Prelude.{Err}
 use Rattle.std.specs.Prelude.{if◌then◌else◌, is_some, nat_lt}
 use Rattle.std.specs.Option.{option_map_or}
@@ -10,11 +10,11 @@ use Rattle.commands.specs.declared.faults.RunFault.{RunFault}
 use Rattle.requests.specs.Requests.{PlainRequest}
 use Rattle.requests.specs.Tasks.{files_of, is_many}
 use Rattle.requests.specs.declared.task.Task.{Task}
-use Rattle.requests.specs.declared.task.Task.TheVariants.{Fault, Round}
+use Rattle.requests.specs.declared.task.Task.TheVariants.{Round}
 use Rattle.rounding.specs.declared.replacement.FinePrices.{FinePrices}
 use Rattle.command_line.specs.Requests.{request_of}
 
--- whether a request is for `duplicates` or `sizes`
+-- whether a request is for `fault`, `duplicates` or `sizes`
 abbrev pub is_for_many_files : PlainRequest → Bool
 is_for_many_files request = is_many (files_of request.task)
 
@@ -22,22 +22,8 @@ is_for_many_files request = is_many (files_of request.task)
 abbrev pub names_many_files : List (List ℕ) → Bool
 names_many_files words = option_map_or is_for_many_files (request_of words) false
 
--- whether a command printed the fault that it was to find, with the status of a file that is refused
-abbrev pub finds : Task → ℕ → Bool
-finds Fault status = status == 2
-finds task status = false
-
--- a request for `fault`, with the status of a fault that was found: 2
-abbrev pub has_found : ℕ → PlainRequest → Bool
-has_found status request = finds request.task status
-
--- as `has_found`, of a command line
-abbrev pub names_found : ℕ → List (List ℕ) → Bool
-names_found status words = option_map_or (has_found status) (request_of words) false
-
 -- whether a command on one file or two may report something before it ends, by what becomes of prices
 abbrev pub reports : Task → Option FinePrices → Bool
-reports Fault prices = false
 reports Round prices = true
 reports task prices = is_some prices
 

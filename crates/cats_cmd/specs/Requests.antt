@@ -1,7 +1,7 @@
 -- The contract of the program. It is the run of the request, on the files at its paths, what is sent where, and
 -- with which status.
-use Rattle.std.specs.Prelude.{◌≡◌, ◌⊎◌, ◌++◌, ℕ, max, Bool, true, false, List, Option, Some, Result, Ok, Err}
-use Rattle.std.specs.Prelude.{[], ◌∷◌, codes, string_bytes, unwrap_or}
+use Rattle.std.specs.Prelude.{◌≡◌, ◌⊎◌, ◌++◌, ℕ, max, Bool, true, false, List, Option, Some, None, Result, Ok, Err}
+use Rattle.std.specs.Prelude.{[], ◌∷◌, codes, if◌then◌else◌, string_bytes, unwrap_or}
 use Rattle.bid_file.specs.Files.{PlainFile}
 use Rattle.cats_text.specs.Streams.{SendsWhole, SendsPart}
 use Rattle.cats_text.specs.declared.stream.Watched.{Watched}
@@ -10,18 +10,19 @@ use Rattle.canon.specs.declared.which.Which.TheVariants.{Only, First, Second}
 use Rattle.cats_cmd.specs.Duplicates.{MakesGroups}
 use Rattle.cats_cmd.specs.BidLists.{RunsOnBids}
 use Rattle.cats_cmd.specs.FileLists.{RunsAtPaths, RunsOnFiles}
-use Rattle.cats_cmd.specs.FindingFaults.{FindsFault}
-use Rattle.cats_cmd.specs.Inputs.{IsOpened, MayRefuse}
+use Rattle.cats_cmd.specs.FindingFaults.{MakesFaults, with_unplaced}
+use Rattle.cats_cmd.specs.Inputs.{IsOpened}
 use Rattle.cats_cmd.specs.PricedInputs.{IsPriced, PricedGives, PricedRefuses, rounding_lines}
 use Rattle.cats_cmd.specs.declared.priced_input.PricedInput.{PricedInput}
-use Rattle.cats_cmd.specs.Paths.{Reporting, RunsOnPaths, with_refusals, without_refusals}
+use Rattle.cats_cmd.specs.Paths.{Reporting, RunsOnPaths, refusal_line, with_refusals, without_refusals}
 use Rattle.cats_cmd.specs.Rounding.{Rounds}
 use Rattle.cats_cmd.specs.Runs.{RunsOnFile, RunsOnPair}
 use Rattle.cats_cmd.specs.SizesTables.{MakesTable}
 use Rattle.commands.specs.Outcomes.{Outcome}
 use Rattle.commands.specs.Meanings.{outcome_of}
 use Rattle.requests.specs.Requests.{PlainRequest}
-use Rattle.requests.specs.Tasks.{files_of}
+use Rattle.valuation.specs.declared.search.options.SearchOptions.{SearchOptions}
+use Rattle.requests.specs.Tasks.{files_of, gives_reason}
 use Rattle.requests.specs.declared.task.Files.{Files}
 use Rattle.requests.specs.declared.task.Files.TheVariants.{One, Two, Many}
 use Rattle.requests.specs.declared.task.Task.{Task}
@@ -58,9 +59,9 @@ try_help = codes "\n\nFor more information, try '--help'.\n"
 abbrev pub misuse_text : Misuse → List ℕ
 misuse_text SignedNumber = codes "error: a number has digits alone, and no sign" ++ try_help
 misuse_text MoreThanOneFile =
-    codes "error: this command takes one file; 'cats duplicates' and 'cats sizes' take several" ++ try_help
+    codes "error: this command takes one file; 'cats fault', 'cats duplicates' and 'cats sizes' take several" ++ try_help
 misuse_text MoreThanTwoFiles =
-    codes "error: this command takes two files; 'cats duplicates' and 'cats sizes' take several" ++ try_help
+    codes "error: this command takes two files; 'cats fault', 'cats duplicates' and 'cats sizes' take several" ++ try_help
 misuse_text BidsTwice = codes "error: give bids, or '--bids <LIST>', and not both" ++ try_help
 misuse_text UnboundedTotal = codes "error: '--total-steps <N>' needs '--bound'" ++ try_help
 misuse_text WrongGoods = codes "error: goods are numbers up to 4095 and ranges, as in '0,2-5'" ++ try_help
@@ -131,13 +132,6 @@ module _ {F W E : Type 0} (may_open : List ℕ → F → Type 0) (remaining : F 
     pub answers : answer
         ≡ answer_if_lost (is_lost (max left_after.rounded right_after.rounded) err_after) sent
 
-  -- the first fault of a stream that was opened at the path
-  pub record FindsFaultAt (path : List ℕ) (out out_after : Watched W) (answer : Result ℕ RunFault) : Type 0 where
-    pub before : Watched F
-    pub after : Watched F
-    pub opened : IsOpened may_open path before
-    pub runs : FindsFault remaining contents path before after out out_after answer
-
 module _ {F W E : Type 0} (may_open : List ℕ → F → Type 0) (may_refuse : List ℕ → Unopened → Type 0)
     (remaining : F → Option (List ℕ)) (contents : W → Option (List ℕ)) (messages : E → Option (List ℕ)) where
   -- a rounding of the stream that was opened at the path
@@ -148,10 +142,28 @@ module _ {F W E : Type 0} (may_open : List ℕ → F → Type 0) (may_refuse : L
     pub opened : IsOpened may_open path before
     pub runs : Rounds remaining contents messages fine before after out out_after err err_after answer
 
-module _ (may_refuse : List ℕ → Unopened → Type 0) where
-  -- this one of the files of a request cannot be opened. The reason is not reported
-  abbrev pub CannotOpen : Which → List ℕ → RunFault → Type 0
-  CannotOpen which file fault = (fault ≡ NotOpened which Other) × MayRefuse may_refuse file
+-- the reason that a command reports, if it reports one
+abbrev pub reason_of : Task → Unopened → Unopened
+reason_of task why = if gives_reason task then why else Other
+
+-- the path of one of a request's files
+abbrev pub path_of : Which → List (List ℕ) → List ℕ
+path_of Second (first ∷ second ∷ []) = second
+path_of which (first ∷ rest) = first
+path_of which [] = []
+
+-- the line on a request that failed; a command that says why a file cannot be opened names the file
+abbrev pub line_of_failure : PlainRequest → RunFault → List ℕ
+line_of_failure request (NotOpened which why) = if gives_reason request.task
+    then refusal_line (path_of which request.files) (NotOpened Only why) else line_of_fault (NotOpened which why)
+line_of_failure request fault = line_of_fault fault
+
+module _ (may_refuse : List ℕ → Unopened → Type 0) (task : Task) where
+  -- this one of the files of a request cannot be opened
+  pub record CannotOpen (which : Which) (file : List ℕ) (fault : RunFault) : Type 0 where
+    pub why : Unopened
+    pub is : fault ≡ NotOpened which (reason_of task why)
+    pub refused : may_refuse file why
 
   -- one of two
   abbrev pub CannotOpenPair : List ℕ → List ℕ → RunFault → Type 0
@@ -191,8 +203,6 @@ module _ {F W E : Type 0} (may_open : List ℕ → F → Type 0) (may_refuse : L
   -- the run on the only file of a request, by its command
   abbrev pub RunsOnOne : Task → PlainRequest → List ℕ → Watched W → Watched W → Watched E → Watched E
       → Result ℕ RunFault → Type 0
-  RunsOnOne Fault request path out out_after err err_after answer =
-      FindsFaultAt may_open remaining contents messages path out out_after answer × (err_after ≡ err)
   RunsOnOne Round request path out out_after err err_after answer =
       RoundsAt may_open may_refuse remaining contents messages path (unwrap_or request.prices RoundFine) out out_after
       err err_after answer
@@ -201,22 +211,26 @@ module _ {F W E : Type 0} (may_open : List ℕ → F → Type 0) (may_refuse : L
 
   -- `terminal` says whether standard error is a terminal.
   module _ (terminal : Bool) (may_find : List ℕ → Option (List (List ℕ)) → Type 0) where
-    -- the run on many files, where `Makes` says which text is made of what became of them
-    abbrev pub RunsOnMany : (Ending → List (List ℕ × Judgement) → List ℕ → Type 0) → (Progress → Reporting)
-        → PlainRequest → Watched W → Watched W → Watched E → Watched E → Result ℕ RunFault → Type 0
-    RunsOnMany Makes reporting request out out_after err err_after answer =
+    -- the run on many files, which are searched so, or not; `Makes` says which text is made of what became of them
+    abbrev pub RunsOnMany : Option SearchOptions → (Ending → List (List ℕ × Judgement) → List ℕ → Type 0)
+        → (Progress → Reporting) → PlainRequest → Watched W → Watched W → Watched E → Watched E → Result ℕ RunFault
+        → Type 0
+    RunsOnMany options Makes reporting request out out_after err err_after answer =
         RunsOnFiles may_open may_refuse remaining messages
-        (RunsAtPaths may_find (λ paths. RunsOnPaths may_open may_refuse remaining contents messages request.options
+        (RunsAtPaths may_find (λ paths. RunsOnPaths may_open may_refuse remaining contents messages options
         request.prices (Makes (ending_of request.null)) paths (reporting (progress_of terminal request.progress))))
         request.list request.files out out_after err err_after answer
 
     -- by the command
     abbrev pub RunsOfFiles : Task → PlainRequest → Watched W → Watched W → Watched E → Watched E → Result ℕ RunFault
         → Type 0
+    RunsOfFiles Fault request out out_after err err_after answer =
+        RunsOnMany None (λ ending. MakesFaults) with_unplaced request out out_after err err_after answer
     RunsOfFiles Duplicates request out out_after err err_after answer =
-        RunsOnMany (λ ending. MakesGroups ending request.all) with_refusals request out out_after err err_after answer
+        RunsOnMany (Some request.options) (λ ending. MakesGroups ending request.all) with_refusals request out out_after
+        err err_after answer
     RunsOfFiles task request out out_after err err_after answer =
-        RunsOnMany MakesTable without_refusals request out out_after err err_after answer
+        RunsOnMany (Some request.options) MakesTable without_refusals request out out_after err err_after answer
 
     -- the run on these files of a request whose command reads so many. If there are more or fewer, that is wrong usage
     abbrev pub RunsWith : Files → List (List ℕ) → PlainRequest → Watched W → Watched W → Watched E → Watched E
@@ -237,16 +251,16 @@ module _ {F W E : Type 0} (may_open : List ℕ → F → Type 0) (may_refuse : L
     abbrev pub CarriesOut : PlainRequest → Watched W → Watched W → Watched E → Watched E → Result ℕ RunFault → Type
         0
     CarriesOut request =
-        Carries (RunsFor request) (CannotOpenOf may_refuse (files_of request.task) request.files)
+        Carries (RunsFor request) (CannotOpenOf may_refuse request.task (files_of request.task) request.files)
 
-    -- the request failed; its line was reported after what its run reported, and the status is its own
+    -- the request failed; why was reported after what its run reported, and the status is its own
     pub record FailsRequest (request : PlainRequest) (out out_after : Watched W) (err err_after : Watched E) (status :
         ℕ)
         : Type 0 where
       pub fault : RunFault
       pub between : Watched E
       pub carries : CarriesOut request out out_after err between (Err fault)
-      pub reports : Reports messages (line_of_fault fault) between err_after
+      pub reports : Reports messages (line_of_failure request fault) between err_after
       pub is_status : status ≡ status_of_fault fault
 
     -- a request's run is carried out, or its reason to stop is reported

@@ -5,17 +5,16 @@ ghost use Rattle.canon.specs.declared.which.Which.TheVariants.{Only};
 ghost use Rattle.cats_text.specs.Streams.{has_failed};
 ghost use Rattle.cats_cmd.specs.Inputs.{IsOpened};
 ghost use Rattle.cats_cmd.specs.Internal.Carrying.{FailsToOpenPair};
-ghost use Rattle.cats_cmd.specs.Opening.{Opens};
+ghost use Rattle.cats_cmd.specs.Opening.{Opens, way_of};
 ghost use Rattle.cats_cmd.specs.Openings.{OpensFiles, OpensFor, OpensForBids, OpensOne, OpensPair, status_of_run};
 ghost use Rattle.cats_cmd.specs.Requests.{CannotOpenPair, Carries, CarriesOut, RunsAt, RunsAtBoth, CannotOpen};
-ghost use Rattle.cats_cmd.specs.Requests.{RunsOfCommand, RunsOfFiles, RunsOnOne};
-ghost use Rattle.cats_cmd.specs.declared.source.Way.TheVariants.{Anything};
+ghost use Rattle.cats_cmd.specs.Requests.{RunsOfCommand, RunsOfFiles, RunsOnOne, reason_of};
 ghost use Rattle.commands.specs.Meanings.{outcome_of};
 ghost use Rattle.requests.specs.Requests.{plain_request};
 
 use crate::bid_list::read_bids;
 use crate::duplicates::Groups;
-use crate::fault::run_fault;
+use crate::fault::Faults;
 use crate::many_files::{refuse_list, run_on_files};
 use crate::priced_input::{PricedInput, report_rounded};
 use crate::round::run_round;
@@ -28,7 +27,7 @@ use commands::command::{answer_on_file, answer_on_pair};
 use commands::faults::{RunFault, Unopened};
 use commands::statuses::WRONG_USAGE;
 use requests::request::Request;
-use requests::task::{Files, Task, files_of};
+use requests::task::{Files, Task, files_of, gives_reason};
 use rounding::replacement::FinePrices;
 use std::alloc::AllocGlobal;
 use std::io::Write;
@@ -72,17 +71,14 @@ fn carry_out_on_one<S: Source + AllocGlobal, W: Write, E: Write>(
     requires { has_failed out.old ≡ false }
     ensures carries { Carries (RunsOnOne (S.may_open (S.content_of source.old)) (S.may_refuse (S.content_of source.old))
         S.Stream.remaining W.contents E.contents request.now.task (plain_request request.now) file.now)
-        (CannotOpen (S.may_refuse (S.content_of source.old)) Only file.now) out.old out.new err.old err.new result }
+        (CannotOpen (S.may_refuse (S.content_of source.old)) request.now.task Only file.now)
+        out.old out.new err.old err.new result }
     ensures opens { OpensOne S.content_of S.opened S.may_open S.may_refuse S.Stream.remaining request.now.task
         (plain_request request.now) file.now source.old source.new (status_of_run result) }
 {
     match request.task {
-        Task::Fault => {
-            let mut input = open(source, file, Which::Only)?;
-            run_fault(source.alloc(), &mut input, file.as_bytes(), out)
-        }
         Task::Round => {
-            let mut input = open(source, file, Which::Only)?;
+            let mut input = open(source, request.task, file, Which::Only)?;
             let fine = request.prices.unwrap_or(FinePrices::Round);
             run_round(source.alloc(), &mut input, fine, out, err)
         }
@@ -101,9 +97,10 @@ fn carry_out_command<S: Source + AllocGlobal, W: Write, E: Write>(
     requires { has_failed out.old ≡ false }
     ensures carries { Carries (RunsOfCommand (S.may_open (S.content_of source.old)) (S.may_refuse (S.content_of source.old))
         S.Stream.remaining W.contents E.contents (plain_request request.now) file.now)
-        (CannotOpen (S.may_refuse (S.content_of source.old)) Only file.now) out.old out.new err.old err.new result }
+        (CannotOpen (S.may_refuse (S.content_of source.old)) request.now.task Only file.now)
+        out.old out.new err.old err.new result }
     ensures opens { OpensForBids S.content_of S.opened S.may_open S.may_refuse S.Stream.remaining
-        (plain_request request.now).list file.now source.old source.new (status_of_run result) }
+        (way_of request.now.task) (plain_request request.now).list file.now source.old source.new (status_of_run result) }
 {
     let Some(list) = request.list else {
         return run_at(source, request, request.bids.as_slice(), file, out, err);
@@ -128,10 +125,11 @@ fn run_at<S: Source + AllocGlobal, W: Write, E: Write>(
     requires { has_failed out.old ≡ false }
     ensures runs { Carries (RunsAt (S.may_open (S.content_of source.old)) S.Stream.remaining W.contents E.contents file.now
         request.now.prices (outcome_of (plain_request request.now) bids.now))
-        (CannotOpen (S.may_refuse (S.content_of source.old)) Only file.now) out.old out.new err.old err.new result }
-    ensures opens { Opens S.content_of S.opened source.old source.new ((file.now, Anything) ∷ []) }
+        (CannotOpen (S.may_refuse (S.content_of source.old)) request.now.task Only file.now)
+        out.old out.new err.old err.new result }
+    ensures opens { Opens S.content_of S.opened source.old source.new ((file.now, way_of request.now.task) ∷ []) }
 {
-    let stream = open(source, file, Which::Only)?;
+    let stream = open(source, request.task, file, Which::Only)?;
     let mut input = PricedInput::new(stream, request.prices);
     let answer = answer_on_file(source.alloc(), request, bids, &mut input);
     let sent = send_answer(source.alloc(), out, answer, Which::Only);
@@ -151,12 +149,12 @@ fn carry_out_on_pair<S: Source + AllocGlobal, W: Write, E: Write>(
     requires { has_failed out.old ≡ false }
     ensures carries { Carries (RunsAtBoth (S.may_open (S.content_of source.old)) S.Stream.remaining W.contents E.contents
         files.entry.0.now files.entry.1.now (plain_request request.now))
-        (CannotOpenPair (S.may_refuse (S.content_of source.old)) files.entry.0.now files.entry.1.now) out.old out.new
-        err.old err.new result }
-    ensures opens { OpensPair S.content_of S.opened S.may_open S.may_refuse S.Stream.remaining files.entry.0.now
-        files.entry.1.now source.old source.new (status_of_run result) }
+        (CannotOpenPair (S.may_refuse (S.content_of source.old)) request.now.task files.entry.0.now files.entry.1.now)
+        out.old out.new err.old err.new result }
+    ensures opens { OpensPair S.content_of S.opened S.may_open S.may_refuse S.Stream.remaining
+        (way_of request.now.task) files.entry.0.now files.entry.1.now source.old source.new (status_of_run result) }
 {
-    let (left, right) = open_both(source, files.0, files.1)?;
+    let (left, right) = open_both(source, request.task, files.0, files.1)?;
     let mut left = PricedInput::new(left, request.prices);
     let mut right = PricedInput::new(right, request.prices);
     let answer = answer_on_pair(source.alloc(), request, &mut left, &mut right);
@@ -180,9 +178,11 @@ fn run_on_many<S: Source + AllocGlobal, W: Write, E: Write>(
         S.Stream.remaining W.contents E.contents terminal (S.may_find (S.content_of source.old)) request.now.task
         (plain_request request.now) out.old out.new err.old err.new result }
     ensures opens { OpensFiles S.content_of S.opened S.may_open S.may_refuse S.Stream.remaining S.may_find
-        (plain_request request.now).list (plain_request request.now).files source.old source.new (status_of_run result) }
+        (way_of request.now.task) (plain_request request.now).list (plain_request request.now).files source.old source.new
+        (status_of_run result) }
 {
     match request.task {
+        Task::Fault => run_on_files::<Faults, S, W, E>(source, request, terminal, out, err),
         Task::Duplicates => run_on_files::<Groups, S, W, E>(source, request, terminal, out, err),
         _ => run_on_files::<Table, S, W, E>(source, request, terminal, out, err),
     }
@@ -191,28 +191,57 @@ fn run_on_many<S: Source + AllocGlobal, W: Write, E: Write>(
 /// Opens the files of a request for two, the second unless the first is refused.
 fn open_both<S: Source>(
     source: &mut S,
+    task: Task,
     first: &str,
     second: &str,
 ) -> Result<(Watched<S::Stream>, Watched<S::Stream>), RunFault>
     ensures opened { IfOk result (λ both. IsOpened (S.may_open (S.content_of source.old)) first.now both.0
         × IsOpened (S.may_open (S.content_of source.old)) second.now both.1
-        × Opens S.content_of S.opened source.old source.new ((first.now, Anything) ∷ (second.now, Anything) ∷ [])) }
+        × Opens S.content_of S.opened source.old source.new
+        ((first.now, way_of task) ∷ (second.now, way_of task) ∷ [])) }
     ensures refused { IfErr result (λ fault. FailsToOpenPair S.content_of S.opened (S.may_refuse (S.content_of source.old))
-        first.now second.now source.old source.new fault) }
+        task first.now second.now source.old source.new fault) }
 {
-    let left = open(source, first, Which::First)?;
-    let right = open(source, second, Which::Second)?;
+    let left = open(source, task, first, Which::First)?;
+    let right = open(source, task, second, Which::Second)?;
     Ok((left, right))
 }
 
 /// Opens a file of a request for one or two.
-fn open<S: Source>(source: &mut S, path: &str, which: Which) -> Result<Watched<S::Stream>, RunFault>
+fn open<S: Source>(
+    source: &mut S,
+    task: Task,
+    path: &str,
+    which: Which,
+) -> Result<Watched<S::Stream>, RunFault>
     ensures opened { IfOk result (IsOpened (S.may_open (S.content_of source.old)) path.now) }
-    ensures refused { IfErr result (CannotOpen (S.may_refuse (S.content_of source.old)) which path.now) }
-    ensures opens { Opens S.content_of S.opened source.old source.new ((path.now, Anything) ∷ []) }
+    ensures refused { IfErr result (CannotOpen (S.may_refuse (S.content_of source.old)) task which path.now) }
+    ensures opens { Opens S.content_of S.opened source.old source.new ((path.now, way_of task) ∷ []) }
 {
-    match source.open(path, Way::Anything) {
+    match source.open(path, way_of(task)) {
         Ok(stream) => Ok(Watched::new(stream)),
-        Err(_) => Err(RunFault::NotOpened(which, Unopened::Other)),
+        Err(why) => Err(RunFault::NotOpened(which, reason_of(task, why))),
+    }
+}
+
+/// The reason that a command reports, if it reports one.
+fn reason_of(task: Task, why: Unopened) -> Unopened
+    ensures { result ≡ reason_of task why }
+{
+    if gives_reason(task) {
+        why
+    } else {
+        Unopened::Other
+    }
+}
+
+/// How a command opens its files.
+pub(crate) fn way_of(task: Task) -> Way
+    ensures { result ≡ way_of task }
+{
+    match task {
+        Task::Duplicates | Task::Sizes => Way::Regular,
+        _ if gives_reason(task) => Way::NoFolder,
+        _ => Way::Anything,
     }
 }

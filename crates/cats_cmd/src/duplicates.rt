@@ -7,6 +7,7 @@ ghost use Rattle.cats_cmd.specs.Paths.{refusal_lines};
 ghost use Rattle.cats_cmd.specs.Reports.{ReportsAll};
 
 use crate::paths::{Collection, Ending, ManyFiles, report_if_refused};
+use crate::priced_input::PricedInput;
 use bid_file::PackedFile;
 use canon::{AuctionIndex, CanonFault, Which};
 use cats_text::Watched;
@@ -14,7 +15,7 @@ use commands::Input;
 use commands::faults::{RunFault, Unopened, name_bid};
 use lines::duplicates_text;
 use std::alloc::{AllocError, Global};
-use std::io::Write;
+use std::io::{Read, Write};
 
 /// Files in groups.
 #[derive(Drop)]
@@ -61,9 +62,12 @@ impl Groups {
 }
 
 impl Collection for Groups {
+    ghost use Rattle.std.specs.Prelude.{Some};
     ghost use Rattle.cats_cmd.specs.Duplicates.{MakesGroups};
     ghost use Rattle.cats_cmd.specs.Internal.Judging.{KeepsGroups};
     ghost use Rattle.cats_cmd.specs.Paths.{refusal_lines};
+
+    ghost searched = { λ options. Some options };
 
     ghost has = { λ ending groups judgements. KeepsGroups groups judgements };
 
@@ -84,11 +88,11 @@ impl Collection for Groups {
         }
     }
 
-    fn add<I: Input>(
+    fn add<R: Read>(
         &mut self,
         alloc: Global,
         path: &[u8],
-        input: &mut I,
+        input: &mut PricedInput<R>,
         many: ManyFiles,
     ) -> Result<Option<RunFault>, AllocError> {
         let file = match input.read_file(alloc) {

@@ -1,56 +1,112 @@
-//! `cats fault`: where the first fault of a file is, and what helps against it.
+//! `cats fault`: where the first fault of each file is, and what helps against it.
 
-ghost use Rattle.std.specs.Prelude.{◌≡◌, IfOk, OnErr, false};
-ghost use Rattle.cats_text.specs.Streams.{has_ended, has_failed};
+ghost use Rattle.std.specs.Prelude.{◌≡◌, ◌++◌, OnOk};
 ghost use Rattle.cats_text.specs.Views.{plain_place};
-ghost use Rattle.commands.specs.Outcomes.{Prints};
-ghost use Rattle.cats_cmd.specs.FindingFaults.{FindsFault, WantsMemoryToFind, fault_outcome, text_of_place};
+ghost use Rattle.cats_cmd.specs.FindingFaults.{is_placed, text_of_fault};
 
-use crate::bytes::read_bytes;
 use crate::escaping::escaped;
-use crate::run::send_text;
+use crate::paths::{Collection, Ending, ManyFiles, report_if_refused};
+use crate::priced_input::PricedInput;
 use canon::CanonFault;
-use cats_text::Watched;
 use cats_text::fault_place::{FaultPlace, place_of_fault};
-use commands::fault::{fault_place_text, shown_word};
-use commands::faults::RunFault;
-use commands::statuses::{DONE, FILE_REFUSED};
+use cats_text::{ReadFault, Watched};
+use commands::fault::{column_of, fault_place_text, place_in, shown_word};
+use commands::faults::{RunFault, Unopened};
 use std::alloc::{AllocError, Global};
 use std::io::{Read, Write};
 
-/// Reads the text of a file at this path, and sends the place of its first fault with a hint, with status 2. Of a bid file
-/// nothing is sent.
-pub(crate) fn run_fault<R: Read, W: Write>(
-    alloc: Global,
-    input: &mut Watched<R>,
-    path: &[u8],
-    out: &mut Watched<W>,
-) -> Result<u8, RunFault>
-    requires input_works { has_failed input.old ≡ false }
-    requires input_fresh { has_ended input.old ≡ false }
-    requires out_works { has_failed out.old ≡ false }
-    ensures { FindsFault R.remaining W.contents path.now input.old input.new out.old out.new result }
-{
-    let bytes = read_bytes(alloc, input).map_err(CanonFault::from)?;
-    let (status, text) = judge(alloc, path, bytes.as_slice())?;
-    send_text(out, status, text.as_slice())
+/// What is printed of the files so far.
+#[derive(Drop)]
+pub(crate) struct Faults {
+    text: Vec<u8>,
 }
 
-/// The status, and the text of the first fault.
-fn judge(alloc: Global, path: &[u8], bytes: &[u8]) -> Result<(u8, Vec<u8>), AllocError>
-    ensures prints { IfOk result (λ answer. fault_outcome path.now bytes.now ≡ Prints answer.0 answer.1.items) }
-    ensures memory { OnErr result (WantsMemoryToFind bytes.now) }
-{
-    match place_of_fault(alloc, bytes)? {
-        Some(place) => Ok((FILE_REFUSED, place_text(alloc, path, &place)?)),
-        None => Ok((DONE, Vec::new(alloc))),
+impl Collection for Faults {
+    ghost use Rattle.std.specs.Prelude.{◌≡◌, None};
+    ghost use Rattle.cats_cmd.specs.FindingFaults.{MakesFaults, faults_text, unplaced_lines};
+
+    ghost searched = { λ options. None };
+
+    ghost has = { λ ending faults judgements. faults.text.items ≡ faults_text judgements };
+
+    ghost Makes = { λ ending all. MakesFaults };
+
+    ghost refusals = { unplaced_lines };
+
+    fn none(alloc: Global) -> Faults {
+        Faults {
+            text: Vec::new(alloc),
+        }
+    }
+
+    fn add<R: Read>(
+        &mut self,
+        alloc: Global,
+        path: &[u8],
+        input: &mut PricedInput<R>,
+        _many: ManyFiles,
+    ) -> Result<Option<RunFault>, AllocError> {
+        let texts = match input.read_texts(alloc) {
+            Ok(texts) => texts,
+            Err(fault) => return Ok(Some(RunFault::from(CanonFault::from(fault)))),
+        };
+        let Some(place) = place_of_fault(alloc, texts.judged())? else {
+            return Ok(None);
+        };
+        push_fault(alloc, &mut self.text, path, texts.bytes(), &place)?;
+        Ok(Some(RunFault::from(CanonFault::Read(ReadFault {
+            line: place.line,
+            kind: place.kind,
+        }))))
+    }
+
+    /// It has no text.
+    fn add_unopened(
+        &mut self,
+        _alloc: Global,
+        _path: &[u8],
+        _why: Unopened,
+        _ending: Ending,
+    ) -> Result<(), AllocError> {
+        Ok(())
+    }
+
+    fn report_refusal<E: Write>(path: &[u8], fault: &Option<RunFault>, err: &mut Watched<E>) {
+        if !is_placed(fault) {
+            report_if_refused(path, fault, err);
+        }
+    }
+
+    fn text(&self, alloc: Global, _many: ManyFiles) -> Result<Vec<u8>, AllocError> {
+        Vec::from_slice(alloc, self.text.as_slice())
     }
 }
 
-fn place_text(alloc: Global, path: &[u8], place: &FaultPlace<'_>) -> Result<Vec<u8>, AllocError>
-    ensures { IfOk result (λ text. text.items ≡ text_of_place path.now (plain_place place.now)) }
+/// Whether it is a fault of a text, which has a place there.
+fn is_placed(fault: &Option<RunFault>) -> bool
+    ensures { result ≡ is_placed fault.now }
 {
+    match fault {
+        Some(RunFault::Refused(_, CanonFault::Read(fault))) => fault.line != 0,
+        _ => false,
+    }
+}
+
+/// Puts the place of the fault of a file's bytes, and the hint, behind the text.
+fn push_fault(
+    alloc: Global,
+    text: &mut Vec<u8>,
+    path: &[u8],
+    bytes: &[u8],
+    place: &FaultPlace<'_>,
+) -> Result<(), AllocError>
+    ensures { OnOk result (text.new.items ≡ text.old.items ++ text_of_fault path.now bytes.now (plain_place place.now)) }
+{
+    let place = place_in(bytes, place);
     let path = escaped(alloc, path)?;
-    let word = escaped(alloc, shown_word(place))?;
-    fault_place_text(alloc, path.as_slice(), word.as_slice(), place)
+    let word = escaped(alloc, shown_word(&place))?;
+    let column = column_of(bytes, &place);
+    let lines = fault_place_text(alloc, path.as_slice(), word.as_slice(), column, &place)?;
+    text.extend_from_slice(lines.as_slice())?;
+    Ok(())
 }

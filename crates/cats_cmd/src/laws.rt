@@ -74,8 +74,8 @@ pub fn printed_answers_are_shown<I: Input, J: Input>()
     ensures comparisons { (request : PlainRequest) (first first_after : I) (second second_after : J) (answer : Answer)
         → CommandsOnBoth I.gives I.refuses J.gives J.refuses request first first_after second second_after (Ok answer)
         → IsTextOf is_shown (text_of answer.output) }
-    ensures fault { (path : List ℕ) (place : PlainPlace) → AreBytes path → AreBytes place.text
-        → IsTextOf is_shown (text_of_place path place) }
+    ensures fault { (path : List ℕ) (column : ℕ) (place : PlainPlace) → AreBytes path → AreBytes place.text
+        → IsTextOf is_shown (text_of_place path column place) }
 {}
 
 /// So are these texts of any bundle, verdict, difference, reasons and differences.

@@ -4,7 +4,7 @@ ghost use Rattle.std.specs.Prelude.{◌≡◌, ◌∷◌, [], map, IfErr, IfOk, 
 ghost use Rattle.cats_text.specs.Streams.{has_failed};
 ghost use Rattle.cats_cmd.specs.FileLists.{IsUnread, ReadsList, RunsAtPaths};
 ghost use Rattle.cats_cmd.specs.Internal.Carrying.{many_files};
-ghost use Rattle.cats_cmd.specs.Opening.{Opens, OpensAtPaths};
+ghost use Rattle.cats_cmd.specs.Opening.{Opens, OpensAtPaths, way_of};
 ghost use Rattle.cats_cmd.specs.Openings.{OpensFiles, status_of_run};
 ghost use Rattle.cats_cmd.specs.Paths.{RunsOnPaths, refusal_line};
 ghost use Rattle.cats_cmd.specs.Requests.{RunsOnMany};
@@ -14,6 +14,7 @@ ghost use Rattle.cats_cmd.specs.declared.source.Way.TheVariants.{NoFolder};
 ghost use Rattle.commands.specs.Statuses.{status_of_fault};
 
 use crate::bytes::read_bytes;
+use crate::carrying_out::way_of;
 use crate::folders::{files_at, slices};
 use crate::path_list::split_paths;
 use crate::paths::{
@@ -39,11 +40,12 @@ pub(crate) fn run_on_files<C: Collection, S: Source + AllocGlobal, W: Write, E: 
     requires { has_failed out.old ≡ false }
     ensures runs { RunsOnMany (S.may_open (S.content_of source.old)) (S.may_refuse (S.content_of source.old))
         S.Stream.remaining W.contents E.contents terminal (S.may_find (S.content_of source.old))
-        (λ ending. C.Makes ending request.now.all)
+        (C.searched request.now.options) (λ ending. C.Makes ending request.now.all)
         (λ progress. record { refusals = C.refusals; progress = progress }) (plain_request request.now) out.old out.new
         err.old err.new result }
     ensures opens { OpensFiles S.content_of S.opened S.may_open S.may_refuse S.Stream.remaining S.may_find
-        (plain_request request.now).list (plain_request request.now).files source.old source.new (status_of_run result) }
+        (way_of request.now.task) (plain_request request.now).list (plain_request request.now).files source.old source.new
+        (status_of_run result) }
 {
     let many = many_files(request, terminal);
     let Some(list) = request.list else {
@@ -70,11 +72,11 @@ fn run_at_paths<C: Collection, S: Source + AllocGlobal, W: Write, E: Write>(
     requires { has_failed out.old ≡ false }
     ensures runs { RunsAtPaths (S.may_find (S.content_of source.old)) (λ files. RunsOnPaths
         (S.may_open (S.content_of source.old)) (S.may_refuse (S.content_of source.old)) S.Stream.remaining W.contents
-        E.contents many.options many.prices (C.Makes many.ending many.all) files
+        E.contents (C.searched many.options) many.prices (C.Makes many.ending many.all) files
         (record { refusals = C.refusals; progress = many.progress })) (map (λ path. path.now) paths.now) out.old out.new
         err.old err.new result }
-    ensures opens { OpensAtPaths S.content_of S.opened S.may_find (map (λ path. path.now) paths.now) source.old source.new
-        (status_of_run result) }
+    ensures opens { OpensAtPaths S.content_of S.opened S.may_find many.way (map (λ path. path.now) paths.now) source.old
+        source.new (status_of_run result) }
 {
     let found = files_at(&*source, source.alloc(), paths)?;
     let files = slices(source.alloc(), found.as_slice())?;
@@ -112,6 +114,7 @@ fn many_files(request: &Request<'_>, terminal: bool) -> ManyFiles
         ending,
         prices: request.prices,
         all: request.all,
+        way: way_of(request.task),
     }
 }
 

@@ -4,7 +4,8 @@ ghost use Rattle.std.specs.Prelude.{◌≡◌, ◌++◌, ℕ, Bool, List, Option
 ghost use Rattle.std.specs.Prelude.{false};
 ghost use Rattle.cats_text.specs.Streams.{has_failed};
 ghost use Rattle.cats_cmd.specs.Inputs.{IsOpened};
-ghost use Rattle.cats_cmd.specs.Opening.{Opens, OpensEach, regular_openings};
+ghost use Rattle.cats_cmd.specs.PricedInputs.{IsReady, JudgesPriced};
+ghost use Rattle.cats_cmd.specs.Opening.{Opens, OpensEach, openings_of};
 ghost use Rattle.cats_cmd.specs.Openings.{status_of_run};
 ghost use Rattle.cats_cmd.specs.Internal.Judging.{OpensAllAs};
 ghost use Rattle.cats_cmd.specs.Paths.{IsUnopened, RunsOnPaths, count_line, progress_line};
@@ -19,6 +20,7 @@ ghost use Rattle.commands.specs.declared.faults.RunFault.TheVariants.{NotOpened}
 ghost use Rattle.canon.specs.declared.which.Which.TheVariants.{Only};
 ghost use Rattle.commands.specs.Judgements.{Judgement, IsUnjudged};
 ghost use Rattle.commands.specs.declared.faults.RunFault.{RunFault};
+ghost use Rattle.valuation.specs.declared.search.options.SearchOptions.{SearchOptions};
 
 use crate::lines::{LineBuffer, report};
 use crate::priced_input::{PricedInput, report_rounded};
@@ -26,13 +28,12 @@ use crate::run::{is_lost, send_text, status_if_lost};
 use crate::source::{Source, Way};
 use canon::Which;
 use cats_text::Watched;
-use commands::Input;
 use commands::faults::{RunFault, Unopened};
 use commands::printed::{fault_pieces, status};
 use commands::statuses::DONE;
 use rounding::replacement::FinePrices;
 use std::alloc::{AllocError, AllocGlobal, Global};
-use std::io::Write;
+use std::io::{Read, Write};
 use valuation::search::SearchOptions;
 
 /// How a run on many files reads them, reports and prints.
@@ -46,6 +47,8 @@ pub struct ManyFiles {
     pub prices: Option<FinePrices>,
     /// Whether `duplicates` prints the files too that are the only ones of their auction.
     pub all: bool,
+    /// How each file is opened.
+    pub way: Way,
 }
 
 /// How it is reported how many files were read.
@@ -81,6 +84,8 @@ const REMOVAL: &str = "\x1b[A\x1b[K";
 
 /// What a run makes of the files at some paths, which are judged one after the other.
 pub(crate) trait Collection: Sized + Drop {
+    ghost searched: { SearchOptions → Option SearchOptions };
+
     ghost has: { Ending → Self → List (List ℕ × Judgement) → Type 0 };
 
     ghost Makes: { Ending → Bool → List (List ℕ × Judgement) → List ℕ → Type 0 };
@@ -92,16 +97,16 @@ pub(crate) trait Collection: Sized + Drop {
         ensures { (ending : Ending) → has ending result [] };
 
     /// Judges the file at one more path, and answers why it is not judged.
-    fn add<I: Input>(
+    fn add<R: Read>(
         &mut self,
         alloc: Global,
         path: &[u8],
-        input: &mut I,
+        input: &mut PricedInput<R>,
         many: ManyFiles,
     ) -> Result<Option<RunFault>, AllocError>
-        requires { I.is_ready input.old }
-        ensures { IfOk result (AddsOpened (has many.ending) I.gives I.refuses many.options path.now self.old self.new
-            input.old input.new) };
+        requires { IsReady input.old }
+        ensures { IfOk result (AddsOpened (has many.ending) (JudgesPriced R.remaining (searched many.options)) path.now
+            self.old self.new input.old input.new) };
 
     /// Adds a path at which no file was opened, for this reason.
     fn add_unopened(
@@ -138,11 +143,11 @@ pub(crate) fn run_on_paths<C: Collection, S: Source + AllocGlobal, W: Write, E: 
     err: &mut Watched<E>,
 ) -> Result<u8, RunFault>
     requires { has_failed out.old ≡ false }
-    ensures runs { RunsOnPaths (S.may_open (S.content_of source.old))
-        (S.may_refuse (S.content_of source.old)) S.Stream.remaining W.contents E.contents many.options many.prices
-        (C.Makes many.ending many.all) (map (λ path. path.now) paths.now)
+    ensures runs { RunsOnPaths (S.may_open (S.content_of source.old)) (S.may_refuse (S.content_of source.old))
+        S.Stream.remaining W.contents E.contents (C.searched many.options) many.prices (C.Makes many.ending many.all)
+        (map (λ path. path.now) paths.now)
         (record { refusals = C.refusals; progress = many.progress }) out.old out.new err.old err.new result }
-    ensures opens { OpensEach S.content_of S.opened (map (λ path. path.now) paths.now) source.old source.new
+    ensures opens { OpensEach S.content_of S.opened many.way (map (λ path. path.now) paths.now) source.old source.new
         (status_of_run result) }
 {
     let mut collection = C::none(source.alloc());
@@ -161,10 +166,11 @@ fn judge_all<C: Collection, S: Source + AllocGlobal, E: Write>(
 ) -> Result<u8, AllocError>
     requires { C.has many.ending collection.old [] }
     ensures judges { JudgesAllAs (C.has many.ending) (S.may_open (S.content_of source.old))
-        (S.may_refuse (S.content_of source.old)) S.Stream.remaining many.options many.prices E.contents
+        (S.may_refuse (S.content_of source.old)) S.Stream.remaining (C.searched many.options) many.prices E.contents
         (map (λ path. path.now) paths.now) (record { refusals = C.refusals; progress = many.progress }) collection.new
         err.old err.new result }
-    ensures opens { OpensAllAs S.content_of S.opened (map (λ path. path.now) paths.now) source.old source.new result }
+    ensures opens { OpensAllAs S.content_of S.opened many.way (map (λ path. path.now) paths.now) source.old source.new
+        result }
 {
     let mut greatest = DONE;
     let count = paths.len();
@@ -190,10 +196,10 @@ fn judge_path<C: Collection, S: Source + AllocGlobal, E: Write>(
     err: &mut Watched<E>,
 ) -> Result<u8, AllocError>
     ensures adds { AddsPathAs (C.has many.ending) (S.may_open (S.content_of source.old))
-        (S.may_refuse (S.content_of source.old)) S.Stream.remaining many.options many.prices E.contents
+        (S.may_refuse (S.content_of source.old)) S.Stream.remaining (C.searched many.options) many.prices E.contents
         (record { refusals = C.refusals; progress = many.progress }) turn.now.count turn.now.number turn.now.path.now
         collection.old collection.new err.old err.new result }
-    ensures opens { Opens S.content_of S.opened source.old source.new (regular_openings (turn.now.path.now ∷ [])) }
+    ensures opens { Opens S.content_of S.opened source.old source.new (openings_of many.way (turn.now.path.now ∷ [])) }
 {
     let (fault, rounded) = judge(source, collection, turn.path, many)?;
     remove_progress(many.progress, turn.number, err);
@@ -222,11 +228,11 @@ fn judge<C: Collection, S: Source + AllocGlobal>(
     many: ManyFiles,
 ) -> Result<(Option<RunFault>, usize), AllocError>
     ensures adds { IfOk result (λ judged. AddsFile (C.has many.ending) (S.may_open (S.content_of source.old))
-        (S.may_refuse (S.content_of source.old)) S.Stream.remaining many.options many.prices
+        (S.may_refuse (S.content_of source.old)) S.Stream.remaining (C.searched many.options) many.prices
         path.now collection.old collection.new judged.1 judged.0) }
-    ensures opens { Opens S.content_of S.opened source.old source.new (regular_openings (path.now ∷ [])) }
+    ensures opens { Opens S.content_of S.opened source.old source.new (openings_of many.way (path.now ∷ [])) }
 {
-    match open_path(source, path) {
+    match open_path(source, path, many.way) {
         Ok(stream) => {
             let mut input = PricedInput::new(stream, many.prices);
             let fault = collection.add(source.alloc(), path, &mut input, many)?;
@@ -239,16 +245,20 @@ fn judge<C: Collection, S: Source + AllocGlobal>(
     }
 }
 
-/// Opens the regular file at a path. There is none at a path that is not UTF-8, as the library opens no such path.
-fn open_path<S: Source>(source: &mut S, path: &[u8]) -> Result<Watched<S::Stream>, Unopened>
+/// Opens the file at a path. There is none at a path that is not UTF-8, as the library opens no such path.
+fn open_path<S: Source>(
+    source: &mut S,
+    path: &[u8],
+    way: Way,
+) -> Result<Watched<S::Stream>, Unopened>
     ensures opened { IfOk result (IsOpened (S.may_open (S.content_of source.old)) path.now) }
     ensures refused { IfErr result (IsUnopened (S.may_refuse (S.content_of source.old)) path.now) }
-    ensures opens { Opens S.content_of S.opened source.old source.new (regular_openings (path.now ∷ [])) }
+    ensures opens { Opens S.content_of S.opened source.old source.new (openings_of way (path.now ∷ [])) }
 {
     let Ok(path) = str::from_utf8(path) else {
         return Err(Unopened::Other);
     };
-    match source.open(path, Way::Regular) {
+    match source.open(path, way) {
         Ok(stream) => Ok(Watched::new(stream)),
         Err(why) => Err(why),
     }

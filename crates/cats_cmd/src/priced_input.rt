@@ -2,8 +2,8 @@
 
 ghost use Rattle.std.specs.Prelude.{◌≡◌, false};
 ghost use Rattle.cats_text.specs.Streams.{has_ended, has_failed};
-ghost use Rattle.cats_cmd.specs.Internal.Roundings.{ReadsRounded};
-ghost use Rattle.cats_cmd.specs.PricedInputs.{rounded_words, rounding_line, rounding_lines};
+ghost use Rattle.cats_cmd.specs.Internal.Roundings.{ReadsRounded, judged_of, plain_texts};
+ghost use Rattle.cats_cmd.specs.PricedInputs.{AnswersTexts, IsReady, rounded_words, rounding_line, rounding_lines};
 ghost use Rattle.cats_cmd.specs.Reports.{Reports, ReportsAll};
 
 use crate::bytes::read_bytes;
@@ -28,12 +28,9 @@ pub(crate) struct PricedInput<R> {
 }
 
 impl<R: Read> Input for PricedInput<R> {
-    ghost use Rattle.std.specs.Prelude.{◌≡◌, false};
-    ghost use Rattle.cats_text.specs.Streams.{has_ended, has_failed};
-    ghost use Rattle.cats_cmd.specs.PricedInputs.{PricedGives, PricedRefuses};
+    ghost use Rattle.cats_cmd.specs.PricedInputs.{IsReady, PricedGives, PricedRefuses};
 
-    ghost is_ready = { λ input. (has_failed input.stream ≡ false) × (has_ended input.stream ≡ false)
-        × (input.rounded ≡ 0) };
+    ghost is_ready = { IsReady };
 
     ghost gives = { PricedGives R.remaining };
 
@@ -79,6 +76,55 @@ impl<R> PricedInput<R> {
         ensures { result ≡ self.now.rounded }
     {
         self.rounded
+    }
+}
+
+impl<R: Read> PricedInput<R> {
+    /// Reads all bytes, and answers them with the text that is judged.
+    pub(crate) fn read_texts(&mut self, alloc: Global) -> Result<Texts, ReadFault>
+        requires { IsReady self.old }
+        ensures texts { AnswersTexts R.remaining self.old self.new (plain_texts result) }
+        ensures rounded { self.new.rounded ≡ 0 }
+    {
+        let bytes = read_bytes(alloc, &mut self.stream)?;
+        let Some(fine) = self.fine else {
+            return Ok(Texts {
+                bytes,
+                rounded: None,
+            });
+        };
+        match round_prices(alloc, bytes.as_slice(), fine) {
+            Ok(rounded) => Ok(Texts {
+                bytes,
+                rounded: Some(rounded.text),
+            }),
+            Err(AllocError) => Err(ReadFault::whole(Kind::Memory)),
+        }
+    }
+}
+
+/// All bytes of a stream, and these with rounded prices, if prices are rounded.
+#[derive(Drop)]
+pub(crate) struct Texts {
+    bytes: Vec<u8>,
+    rounded: Option<Vec<u8>>,
+}
+
+impl Texts {
+    pub(crate) fn bytes(&self) -> &[u8]
+        ensures { result.now ≡ self.now.bytes.items }
+    {
+        self.bytes.as_slice()
+    }
+
+    /// The text that is judged.
+    pub(crate) fn judged(&self) -> &[u8]
+        ensures { result.now ≡ judged_of self.now }
+    {
+        match &self.rounded {
+            Some(text) => text.as_slice(),
+            None => self.bytes.as_slice(),
+        }
     }
 }
 

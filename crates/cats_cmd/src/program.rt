@@ -2,23 +2,26 @@
 
 ghost use Rattle.std.specs.Prelude.{◌≡◌, ◌≢◌, ◌≤◌, false};
 ghost use Rattle.cats_text.specs.Streams.{has_failed};
-ghost use Rattle.cats_cmd.specs.Requests.{AnswersLine, AnswersNoRequest, AnswersRequest};
+ghost use Rattle.cats_cmd.specs.Requests.{AnswersLine, AnswersNoRequest, AnswersRequest, line_of_failure, path_of};
 ghost use Rattle.cats_cmd.specs.Openings.{OpensFor, OpensLine};
 ghost use Rattle.requests.specs.Requests.{plain_request, texts_of};
-ghost use Rattle.cats_cmd.specs.Reports.{has_found, is_for_many_files, is_reporting, names_found, names_many_files};
-ghost use Rattle.cats_cmd.specs.Reports.{names_reporting};
+ghost use Rattle.cats_cmd.specs.Reports.{Reports, is_for_many_files, is_reporting, names_many_files, names_reporting};
 
 use crate::carrying_out::carry_out;
 use crate::lines::report_pieces;
+use crate::paths::report_refusal;
 use crate::source::{Source, SystemFiles};
 use crate::usage::{misuse_text, with_escaped_words};
+use canon::Which;
 use cats_text::{Watched, send};
 use command_line::help::VERSION;
 use command_line::request::{NoRequest, parse};
+use commands::faults::RunFault;
 use commands::printed::{fault_pieces, status};
 use commands::statuses::{DEVICE_FAILED, DONE, NO_MEMORY, WRONG_USAGE};
 use requests::help::CommandHelp;
 use requests::request::Request;
+use requests::task::gives_reason;
 use std::alloc::AllocGlobal;
 use std::io::Write;
 use std::rt::Files;
@@ -49,8 +52,8 @@ pub fn run_cats<F: Files + AllocGlobal, W: Write, E: Write>(
     requires err_works { has_failed err.old ≡ false }
     ensures answers { AnswersLine (λ path stream. Unit {0}) (λ path why. Unit {0}) F.File.remaining W.contents E.contents
         false (λ path found. Unit {0}) (texts_of words.now) out.old out.new err.old err.new result }
-    ensures silent { names_many_files (texts_of words.now) ≡ false → names_found result (texts_of words.now) ≡ false
-        → result ≢ 0 → result ≢ 1 → result ≢ 5 → out.new ≡ out.old }
+    ensures silent { names_many_files (texts_of words.now) ≡ false → result ≢ 0 → result ≢ 1 → result ≢ 5
+        → out.new ≡ out.old }
     ensures done { names_reporting (texts_of words.now) ≡ false → result ≤ 1 → err.new ≡ err.old }
 {
     let process = Process {
@@ -65,7 +68,7 @@ pub fn run_cats<F: Files + AllocGlobal, W: Write, E: Write>(
 /// program's name, and `out` and `err` are the standard streams.
 ///
 /// A fault's line is sent to `err`. It needs no memory.
-#[tactic(auto, using(crate::proofs::AnswersOfRequests::few_files, crate::proofs::AnswersOfRequests::none_found, crate::proofs::AnswersOfRequests::quiet_request))]
+#[tactic(auto, using(crate::proofs::AnswersOfRequests::few_files, crate::proofs::AnswersOfRequests::quiet_request))]
 pub fn run_program<S: Source + AllocGlobal, W: Write, E: Write>(
     source: &mut S,
     words: &[&str],
@@ -80,8 +83,8 @@ pub fn run_program<S: Source + AllocGlobal, W: Write, E: Write>(
         (texts_of words.now) out.old out.new err.old err.new result }
     ensures opens { OpensLine S.content_of S.opened S.may_open S.may_refuse S.Stream.remaining S.may_find
         (texts_of words.now) source.old source.new result }
-    ensures silent { names_many_files (texts_of words.now) ≡ false → names_found result (texts_of words.now) ≡ false
-        → result ≢ 0 → result ≢ 1 → result ≢ 5 → out.new ≡ out.old }
+    ensures silent { names_many_files (texts_of words.now) ≡ false → result ≢ 0 → result ≢ 1 → result ≢ 5
+        → out.new ≡ out.old }
     ensures done { names_reporting (texts_of words.now) ≡ false → result ≤ 1 → err.new ≡ err.old }
 {
     match parse(source.alloc(), process.version, process.help, words) {
@@ -108,16 +111,45 @@ pub fn answer_request<S: Source + AllocGlobal, W: Write, E: Write>(
         out.old out.new err.old err.new result }
     ensures opens { OpensFor S.content_of S.opened S.may_open S.may_refuse S.Stream.remaining S.may_find
         (plain_request request.now) source.old source.new result }
-    ensures silent { is_for_many_files (plain_request request.now) ≡ false
-        → has_found result (plain_request request.now) ≡ false → result ≢ 0 → result ≢ 1 → result ≢ 5 → out.new ≡ out.old }
+    ensures silent { is_for_many_files (plain_request request.now) ≡ false → result ≢ 0 → result ≢ 1 → result ≢ 5
+        → out.new ≡ out.old }
     ensures done { is_reporting (plain_request request.now) ≡ false → result ≤ 1 → err.new ≡ err.old }
 {
     match carry_out(source, request, out, err, terminal) {
         Ok(status) => status,
         Err(fault) => {
-            report_pieces(err, &fault_pieces(&fault));
+            report_failure(request, &fault, err);
             status(&fault)
         }
+    }
+}
+
+/// Reports why a request failed. A command that says why a file cannot be opened names it.
+fn report_failure<E: Write>(request: &Request<'_>, fault: &RunFault, err: &mut Watched<E>)
+    ensures { Reports E.contents (line_of_failure (plain_request request.now) fault.now) err.old err.new }
+{
+    if let RunFault::NotOpened(which, why) = fault {
+        if gives_reason(request.task) {
+            let path = path_of(request.files.as_slice(), *which);
+            report_refusal(
+                err,
+                path.as_bytes(),
+                &RunFault::NotOpened(Which::Only, *why),
+            );
+            return;
+        }
+    }
+    report_pieces(err, &fault_pieces(fault));
+}
+
+/// The path of one of a request's files.
+fn path_of<'a>(files: &[&'a str], which: Which) -> &'a str
+    ensures { result.now ≡ path_of which (texts_of files.now) }
+{
+    match (which, files) {
+        (Which::Second, [_, second]) => second,
+        (_, [first, ..]) => first,
+        _ => "",
     }
 }
 

@@ -7,14 +7,14 @@ ghost use Rattle.cats_cmd.specs.SizesTables.{fault_cell};
 
 use crate::escaping::{push_end, push_path};
 use crate::paths::{Collection, Ending, ManyFiles};
+use crate::priced_input::PricedInput;
 use canon::Which;
 use cats_text::Watched;
-use commands::Input;
 use commands::faults::{RunFault, Unopened};
 use commands::printed::fault_line;
 use commands::sizes::{NO_NUMBERS, push_numbers};
 use std::alloc::{AllocError, Global};
-use std::io::Write;
+use std::io::{Read, Write};
 
 /// The line above the rows.
 const HEADER: &str =
@@ -27,8 +27,10 @@ pub(crate) struct Table {
 }
 
 impl Collection for Table {
-    ghost use Rattle.std.specs.Prelude.{◌≡◌, []};
+    ghost use Rattle.std.specs.Prelude.{◌≡◌, [], Some};
     ghost use Rattle.cats_cmd.specs.SizesTables.{MakesTable, rows_of_table};
+
+    ghost searched = { λ options. Some options };
 
     ghost has = { λ ending table judgements. table.rows.items ≡ rows_of_table ending judgements };
 
@@ -42,11 +44,11 @@ impl Collection for Table {
         }
     }
 
-    fn add<I: Input>(
+    fn add<R: Read>(
         &mut self,
         alloc: Global,
         path: &[u8],
-        input: &mut I,
+        input: &mut PricedInput<R>,
         many: ManyFiles,
     ) -> Result<Option<RunFault>, AllocError> {
         let mut cells = Vec::new(alloc);

@@ -86,7 +86,7 @@ arguments_of row =
     ∷ (steps, row.limits)
     ∷ (total_steps, row.limits)
     ∷ (flag (codes "progress"), is_many row.files)
-    ∷ (null, is_many row.files)
+    ∷ (null, row.null)
     ∷ (flag (codes "all"), row.all)
     ∷ (option (codes "files0-from"), is_many row.files)
     ∷ (option (codes "bids"), row.bids)

@@ -98,7 +98,7 @@ fn task_command<'a>(
         .with(row.limits, steps(alloc))?
         .with(row.limits, total_steps(alloc))?
         .with(many, flag(alloc, PROGRESS))?
-        .with(many, flag(alloc, NULL).short('0'))?
+        .with(row.null, flag(alloc, NULL).short('0'))?
         .with(row.all, flag(alloc, ALL))?
         .with(many, option(alloc, FILES0_FROM, "LIST"))?
         .with(row.bids, option(alloc, BIDS, "LIST"))?

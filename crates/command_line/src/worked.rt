@@ -11,7 +11,7 @@ ghost use Rattle.command_line.specs.Requests.{misuse_of, request_of, usual, word
 ghost use Rattle.command_line.specs.declared.request.Misuse.TheVariants.{BidsTwice, MoreThanOneFile, MoreThanTwoFiles};
 ghost use Rattle.command_line.specs.declared.request.Misuse.TheVariants.{SignedNumber, UnboundedTotal};
 ghost use Rattle.command_line.specs.declared.request.Misuse.TheVariants.{FilesTwice, NoFiles, WrongBids, WrongGoods};
-ghost use Rattle.requests.specs.declared.task.Task.TheVariants.{Check, Compare, Diff, Duplicates, Explain};
+ghost use Rattle.requests.specs.declared.task.Task.TheVariants.{Check, Compare, Diff, Duplicates, Explain, Fault};
 ghost use Rattle.requests.specs.declared.task.Task.TheVariants.{Normalise, Revenue, Show, Sizes, Value};
 ghost use Rattle.rounding.specs.declared.replacement.FinePrices.TheVariants.{Refuse, Round};
 ghost use Rattle.valuation.specs.SearchLimits.{bounded_options, plain_options};
@@ -63,9 +63,11 @@ pub fn rounding()
     ensures both { map (λ line. request_of (words_in line))
         (codes "cats check --round --round-exact a" ∷ codes "cats show --round-exact a --round" ∷ [])
         ≡ map (λ task. Some (record (usual task (codes "a" ∷ [])) { prices = Some Refuse })) (Check ∷ Show ∷ []) }
-    ensures refused { map (λ line. fault_of cats (words_in line)) (codes "cats fault --round a"
-        ∷ codes "cats round --round a" ∷ codes "cats fault --round-exact a" ∷ codes "cats round --round-exact a" ∷ [])
-        ≡ (UnknownArgument ∷ []) ∷ (UnknownArgument ∷ []) ∷ (UnknownArgument ∷ []) ∷ (UnknownArgument ∷ []) ∷ [] }
+    ensures fault { request_of (words_in (codes "cats fault a --round b"))
+        ≡ Some (record (usual Fault (codes "a" ∷ codes "b" ∷ [])) { prices = Some Round }) }
+    ensures refused { map (λ line. fault_of cats (words_in line)) (codes "cats fault -0 a"
+        ∷ codes "cats round --round a" ∷ codes "cats round --round-exact a" ∷ [])
+        ≡ (UnknownArgument ∷ []) ∷ (UnknownArgument ∷ []) ∷ (UnknownArgument ∷ []) ∷ [] }
 {}
 
 /// Bids, and the flag of `duplicates` for all files.

@@ -1,5 +1,6 @@
 -- Proofs that several functions cite, here and in the crates above.
 pub mod Common
+mod Columns
 pub mod Lines
 pub mod Explanations
 pub mod ComparedFiles

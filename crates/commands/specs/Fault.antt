@@ -57,9 +57,9 @@ before_word (b ∷ bs) = codes ": "
 abbrev pub behind_word : Word → List ℕ
 behind_word w = if nat_lt 60 (length w) then codes ".." else []
 
--- what `cats fault` prints: the place with its word, and what helps
-abbrev pub place_text : List ℕ → List ℕ → PlainPlace → List ℕ
-place_text path word place =
-    path ++ codes ":" ++ decimal place.line ++ codes ":" ++ decimal place.word ++ codes ": " ++ name_of_kind place.kind
+-- what `cats fault` prints: the place at this column with its word, and what helps
+abbrev pub place_text : List ℕ → List ℕ → ℕ → PlainPlace → List ℕ
+place_text path word column place =
+    path ++ codes ":" ++ decimal place.line ++ codes ":" ++ decimal column ++ codes ": " ++ name_of_kind place.kind
     ++ before_word place.text ++ word ++ behind_word place.text ++ codes "\n"
     ++ hint_of place ++ codes "\n"

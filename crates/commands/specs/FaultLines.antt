@@ -55,7 +55,7 @@ text_of_heavy_bid heavy = codes "step limit of " ++ decimal heavy.steps ++ total
 abbrev pub text_of_unopened : Unopened → List ℕ
 text_of_unopened NoSuchFile = codes "cannot open: no such file"
 text_of_unopened PermissionDenied = codes "cannot open: permission denied"
-text_of_unopened IsFolder = codes "cannot open: is a folder"
+text_of_unopened IsFolder = codes "cannot open: is a folder: name it to 'fault', 'duplicates' or 'sizes'"
 text_of_unopened NotAFile = codes "cannot open: not a file"
 text_of_unopened Other = codes "cannot open"
 

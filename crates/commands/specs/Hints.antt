@@ -1,4 +1,4 @@
--- Hints of `cats fault` by what stands at a place, by the tables of `src/fault/tables.rt`.
+-- Hints of `cats fault` by what is at a place, by the tables of `src/fault/tables.rt`.
 use Rattle.std.specs.Prelude.{ℕ, ◌==◌, nat_eq, nat_le, Bool, true, ◌&&◌, List, [], ◌∷◌, ◌++◌, length, drop, find}
 use Rattle.std.specs.Prelude.{Option, codes, nat_lt, option_map}
 use Rattle.std.specs.Char.{is_ascii_alphabetic}

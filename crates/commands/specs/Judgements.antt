@@ -1,10 +1,12 @@
 -- What became of one of many files.
-use Rattle.std.specs.Prelude.{◌≡◌, Option, Some, None, Err}
+use Rattle.std.specs.Prelude.{◌≡◌, ℕ, List, Option, Some, None, Result, Ok, Err, option_map}
 use Rattle.bid_file.specs.Files.{PlainFile}
+use Rattle.cats_text.specs.FaultPlaces.{fault_of, first_place}
 use Rattle.cats_text.specs.declared.read_fault.ReadFault.{ReadFault}
 use Rattle.valuation.specs.declared.search.options.SearchOptions.{SearchOptions}
 use Rattle.canon.specs.Canonical.{canonical_file}
-use Rattle.canon.specs.declared.canon_fault.CanonFault.TheVariants.{StepLimit}
+use Rattle.canon.specs.Refusals.{refusal_of}
+use Rattle.canon.specs.declared.canon_fault.CanonFault.TheVariants.{Read, StepLimit}
 use Rattle.canon.specs.declared.which.Which.TheVariants.{Only}
 use Rattle.commands.specs.Commands.{Commands, GivesWithin, outcome_of_heavy_bid}
 use Rattle.commands.specs.Normalise.{naming_outcome, normalise_outcome}
@@ -20,24 +22,34 @@ pub data Judgement : Type 0 where
   IsHeavy : PlainFile → HeavyBid → Judgement
   -- no file was read, or memory was refused, for this fault
   IsUnjudged : RunFault → Judgement
+  -- no file was made: these are all bytes, and the text that is judged of them; or they were not read, for this fault
+  IsRead : Result (List ℕ × List ℕ) ReadFault → Judgement
 
 -- the file, if it was read
 abbrev pub file_read : Judgement → Option PlainFile
 file_read (IsJudged file) = Some file
 file_read (IsHeavy file heavy) = Some file
 file_read (IsUnjudged fault) = None
+file_read (IsRead answer) = None
 
 -- its canonical file, if no step limit stopped it
 abbrev pub canonical_known : Judgement → Option PlainFile
 canonical_known (IsJudged file) = Some (canonical_file file)
 canonical_known (IsHeavy file heavy) = None
 canonical_known (IsUnjudged fault) = None
+canonical_known (IsRead answer) = None
 
--- why the file was not judged
+-- why bytes are not a bid file, or were not read
+abbrev pub fault_read : Result (List ℕ × List ℕ) ReadFault → Option RunFault
+fault_read (Ok texts) = option_map (λ place. Refused Only (Read (fault_of place))) (first_place texts.1)
+fault_read (Err fault) = Some (Refused Only (refusal_of fault))
+
+-- why the file was not judged, or has a fault
 abbrev pub fault_judged : Judgement → Option RunFault
 fault_judged (IsJudged file) = None
 fault_judged (IsHeavy file heavy) = Some (TooHeavy Only heavy)
 fault_judged (IsUnjudged fault) = Some fault
+fault_judged (IsRead answer) = fault_read answer
 
 -- Reading an input gives this. Of no input but one that gives a file is a bundle refused.
 module _ {I : Type 0} (gives : I → I → PlainFile → Type 0) (refuses : I → I → ReadFault → Type 0)
@@ -51,3 +63,4 @@ module _ {I : Type 0} (gives : I → I → PlainFile → Type 0) (refuses : I �
   JudgesInput before after (IsUnjudged (TooHeavy which heavy)) = ⊥
   JudgesInput before after (IsUnjudged fault) =
       Commands gives refuses (normalise_outcome options) before after (Err fault)
+  JudgesInput before after (IsRead answer) = ⊥

@@ -15,6 +15,7 @@ pub mod Explain
 pub mod Compare
 pub mod Diff
 pub mod Hints
+pub mod Columns
 pub mod Fault
 pub mod Round
 pub mod Inputs

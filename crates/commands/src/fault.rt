@@ -14,6 +14,7 @@ ghost use Rattle.commands.specs.Fault.{hint_of, hint_of_kind};
 ghost use Rattle.commands.specs.Fault.{before_word, behind_word, place_text, shown_bytes};
 ghost use Rattle.commands.specs.Pieces.{text_of_pieces};
 
+mod column;
 mod finding;
 mod fitting;
 mod rows;
@@ -21,33 +22,36 @@ mod sentences;
 mod tables;
 pub mod worked;
 
+pub use self::column::{column_of, place_in};
 use self::finding::find_hint;
 use self::sentences::sentence;
 use crate::printed::pieces::{Piece, text_of};
 use crate::printed::report::kind_name;
 use cats_text::Kind;
 use cats_text::fault_place::FaultPlace;
-use requests::help::CommandHelp;
+use requests::help::{CommandHelp, FILES};
 use std::alloc::{AllocError, Global};
 
 /// What `--help` prints of it.
 pub fn help<'a>() -> CommandHelp<'a> {
     CommandHelp {
         name: "fault",
-        about: "Prints where the first fault of a bid file is, and what helps",
-        arguments: &[],
+        about: "Prints where the first faults of bid files are, and what helps",
+        arguments: &[("FILE", FILES)],
         after: "\
-Prints two lines: the path, the line and the word of the file's first fault,
-with its kind and the word itself; and what helps. Lines and words are counted
-from 1. 'cats --help' lists the kinds. For example:
+Prints two lines for each file that is not a bid file: its path and the line
+and column of its first fault, with its kind and the word there; and what
+helps. Lines, and the bytes of a line, are counted from 1. 'cats --help' lists
+the kinds. Of a bid file nothing is printed. For example:
   $ cats fault auction.txt
-  auction.txt:8:2: TooFine: 0.0123456
+  auction.txt:8:3: TooFine: 0.0123456
   a price has at most six places after the point; `--round` rounds it
 
-If the file is a bid file, nothing is printed.
+With --round it is the first fault that is left once prices are rounded. A file
+that cannot be read is a line on standard error, and the others go on.
 
-Statuses: 0 if the file is a bid file; 2 if it is not, 4, 5 and 64 as 'cats
---help' lists them",
+Statuses: 0 if all are bid files; else the greatest of any file: 2 if it is not
+a bid file, 4, 5 and 64 as 'cats --help' lists them",
     }
 }
 
@@ -94,28 +98,35 @@ fn behind_word(text: &[u8]) -> &'static [u8]
     if text.len() > SHOWN_BYTES { b".." } else { b"" }
 }
 
-/// The place and the hint, each a line with its LF. The path is escaped already, and the word is `shown_word`, escaped.
+/// The place, which is at this column, and the hint, each a line with its LF. The path is escaped already, and the word is
+/// `shown_word`, escaped.
 pub fn fault_place_text<'a>(
     alloc: Global,
     path: &'a [u8],
     word: &'a [u8],
+    column: u64,
     place: &FaultPlace<'_>,
 ) -> Result<Vec<u8>, AllocError>
-    ensures { IfOk result (λ text. text.items ≡ place_text path.now word.now (plain_place place.now)) }
+    ensures { IfOk result (λ text. text.items ≡ place_text path.now word.now column (plain_place place.now)) }
 {
-    text_of(alloc, &place_pieces(path, word, place))
+    text_of(alloc, &place_pieces(path, word, column, place))
 }
 
 /// They, in pieces.
-fn place_pieces<'a>(path: &'a [u8], word: &'a [u8], place: &FaultPlace<'_>) -> [Piece<'a>; 13]
-    ensures { text_of_pieces result ≡ place_text path.now word.now (plain_place place.now) }
+fn place_pieces<'a>(
+    path: &'a [u8],
+    word: &'a [u8],
+    column: u64,
+    place: &FaultPlace<'_>,
+) -> [Piece<'a>; 13]
+    ensures { text_of_pieces result ≡ place_text path.now word.now column (plain_place place.now) }
 {
     [
         Piece::Text(path),
         Piece::Text(b":"),
         Piece::Number(place.line),
         Piece::Text(b":"),
-        Piece::Number(place.word),
+        Piece::Number(column),
         Piece::Text(b": "),
         Piece::Text(kind_name(place.kind).as_bytes()),
         Piece::Text(before_word(place.text)),
@@ -180,16 +191,16 @@ fn hint_of_kind(kind: Kind) -> &'static str
 
 /// The place of a fault and what helps: of a word, of a word that is printed in part, and of a line's end.
 pub fn places_of_faults()
-    ensures word { place_text (codes "in") (codes "0.0123456") (place 8 2 (codes "0.0123456") TooFine) ≡
-        codes "in:8:2: TooFine: 0.0123456\n"
+    ensures word { place_text (codes "in") (codes "0.0123456") 3 (place 8 2 (codes "0.0123456") TooFine) ≡
+        codes "in:8:3: TooFine: 0.0123456\n"
         ++ codes "a price has at most six places after the point; `--round` rounds it\n" }
-    ensures long_word { place_text (codes "in") (replicate 60 120) (place 4 1 (replicate 61 120) RepeatedNumber) ≡
+    ensures long_word { place_text (codes "in") (replicate 60 120) 1 (place 4 1 (replicate 61 120) RepeatedNumber) ≡
         codes "in:4:1: RepeatedNumber: " ++ replicate 60 120
         ++ codes "..\neach bid line has a number of its own; number the bids anew\n" }
     ensures shown { map shown_bytes (replicate 61 120 ∷ replicate 60 120 ∷ codes "x" ∷ []) ≡
         replicate 60 120 ∷ replicate 60 120 ∷ codes "x" ∷ [] }
-    ensures end { place_text (codes "in") [] (place 5 4 [] NoEnd) ≡
-        codes "in:5:4: NoEnd\nif the file ends here, it seems cut: compare its length with the original; `#` ends each bid\n" }
+    ensures end { place_text (codes "in") [] 6 (place 5 4 [] NoEnd) ≡
+        codes "in:5:6: NoEnd\nif the file ends here, it seems cut: compare its length with the original; `#` ends each bid\n" }
     ensures short { list_all (λ kind. nat_le (length (hint_of_kind kind)) 100)
         (Header ∷ NotANumber ∷ TooLarge ∷ ExtraBid ∷ BidNumber ∷ RepeatedNumber ∷ TooFine ∷ NoSuchGood ∷ RepeatedGood
         ∷ TwoDummies ∷ EmptyBundle ∷ NoEnd ∷ AfterEnd ∷ Missing ∷ TooLong ∷ Device ∷ NoMemory ∷ []) ≡ true }

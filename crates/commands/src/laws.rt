@@ -1,7 +1,8 @@
 //! Laws of what the commands print.
 
-ghost use Rattle.std.specs.Prelude.{◌≡◌, ◌<◌, ◌↔◌, ℕ, Contains, Err, List, Ok, Some, length, true};
+ghost use Rattle.std.specs.Prelude.{◌≡◌, ◌<◌, ◌≤◌, ◌↔◌, ℕ, Contains, Err, List, Ok, Some, drop, length, take, true};
 ghost use Rattle.bid_file.specs.Files.{IsPlainFile, PlainFile};
+ghost use Rattle.cats_text.specs.Lines.{begins_word, line_words};
 ghost use Rattle.valuation.specs.Auctions.{auction_from, or_atoms_of};
 ghost use Rattle.valuation.specs.declared.search.options.SearchOptions.{SearchOptions};
 ghost use Rattle.prune.specs.SearchSteps.{first_refused};
@@ -11,6 +12,7 @@ ghost use Rattle.analysis.specs.Bids.{bid_at};
 ghost use Rattle.analysis.specs.Differences.{AreAllDifferences, PlainDifferences};
 ghost use Rattle.analysis.specs.Reasons.{Explains, PlainReason};
 ghost use Rattle.commands.specs.Explain.{explanation_text};
+ghost use Rattle.commands.specs.Columns.{bytes_before};
 ghost use Rattle.commands.specs.Commands.{Commands};
 ghost use Rattle.commands.specs.Outcomes.{Prints};
 ghost use Rattle.commands.specs.Compare.{compare_outcome};
@@ -58,4 +60,16 @@ pub fn zero_exactly_for_the_same_auction()
         → IsPlainFile right
         → AreAllDifferences (auction_from (canonical_file left)) (auction_from (canonical_file right)) differences
         → diff_outcome (left, right, differences) ≡ Prints status text → (status ≡ 0 ↔ AreSameFiles left right) }
+{}
+
+/// A column has the words of its line before it that it says, and the others from it on. The first of these begins there;
+/// without one the line ends there.
+pub fn words_begin_at_columns()
+    ensures before { (line : List ℕ) (words : ℕ)
+        → line_words (take (bytes_before words line) line) ≡ take words (line_words line) }
+    ensures behind { (line : List ℕ) (words : ℕ)
+        → line_words (drop (bytes_before words line) line) ≡ drop words (line_words line) }
+    ensures begins { (line : List ℕ) (words : ℕ) → words < length (line_words line)
+        → begins_word (drop (bytes_before words line) line) ≡ true }
+    ensures end { (line : List ℕ) (words : ℕ) → length (line_words line) ≤ words → bytes_before words line ≡ length line }
 {}

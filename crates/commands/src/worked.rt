@@ -51,7 +51,7 @@ pub fn fault_lines()
         ∷ codes "want of memory\n" ∷ codes "want of memory\n" ∷ codes "good 2 out of range\n"
         ∷ codes "bid 17 out of range\n"
         ∷ codes "output failed after 5 bytes\n" ∷ codes "cannot open: no such file\n"
-        ∷ codes "cannot open: permission denied\n" ∷ codes "cannot open: is a folder\n"
+        ∷ codes "cannot open: permission denied\n" ∷ codes "cannot open: is a folder: name it to 'fault', 'duplicates' or 'sizes'\n"
         ∷ codes "cannot open: not a file\n" ∷ codes "cannot open\n" ∷ codes "first: cannot open\n" ∷ [] }
 {}
 

@@ -56,6 +56,7 @@ static REQUESTS: &[(&str, &str)] = rows! {
     ("cats revenue a --round-exact", "Revenue [\"a\"] None [] [] Some(Refuse) Bounded 0 None false false false"),
     ("cats diff --round --round-exact a b",
      "Diff [\"a\", \"b\"] None [] [] Some(Refuse) Bounded 1000000 None false false false"),
+    ("cats fault a --round b", "Fault [\"a\", \"b\"] None [] [] Some(Round) Bounded 0 None false false false"),
     ("cats sizes a --round", "Sizes [\"a\"] None [] [] Some(Round) Bounded 1000000 None false false false"),
 };
 
@@ -114,7 +115,7 @@ static WRONG_LINES: &[&str] = rows! {
     "cats duplicates --files0-from=a --files0-from=b", "cats sizes --files0-from", "cats sizes -0 --null a",
     "cats normalise -0 a", "cats check --files0-from a", "cats explain --bound --bound a", "cats check --bound a",
     "cats check --total-steps=5 a", "cats explain --total-steps=0 a", "cats normalise --bound --bound a",
-    "cats normalise --steps 1,000,000 a", "cats fault --round a", "cats round --round-exact a",
+    "cats normalise --steps 1,000,000 a", "cats fault -0 a", "cats round --round-exact a",
     "cats lp --round --round a", "cats show --round-exact=yes a",
 };
 

@@ -30,6 +30,7 @@ names_with test = map (λ row. name_of row.task) (filter test TASKS)
 
 -- how many files a command reads
 abbrev pub files_of : Task → Files
+files_of Fault = Many
 files_of Compare = Two
 files_of Diff = Two
 files_of Duplicates = Many
@@ -40,3 +41,12 @@ files_of task = One
 abbrev pub is_many : Files → Bool
 is_many Many = true
 is_many count = false
+
+-- whether a command says why a file cannot be opened
+abbrev pub gives_reason : Task → Bool
+gives_reason Check = false
+gives_reason Show = false
+gives_reason Value = false
+gives_reason Normalise = false
+gives_reason Compare = false
+gives_reason task = true

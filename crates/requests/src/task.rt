@@ -1,7 +1,7 @@
 //! The commands, as a table. The code and the definitions read it, so a new command is a variant, a name and a row.
 
 ghost use Rattle.std.specs.Prelude.{◌≡◌};
-ghost use Rattle.requests.specs.Tasks.{files_of, name_of};
+ghost use Rattle.requests.specs.Tasks.{files_of, gives_reason, name_of};
 
 /// What a command does.
 #[derive(Clone, Copy, PartialEq, Eq, Debug)]
@@ -48,11 +48,13 @@ pub struct TaskRow {
     pub exact: bool,
     /// The flag for the files too that are the only ones of their auction.
     pub all: bool,
+    /// The flag for NUL after each path of the output.
+    pub null: bool,
 }
 
 /// A command on one text, which takes nothing else.
 const ON_TEXT: TaskRow = TaskRow {
-    task: Task::Fault,
+    task: Task::Round,
     files: Files::One,
     rounding: false,
     limits: false,
@@ -61,6 +63,7 @@ const ON_TEXT: TaskRow = TaskRow {
     bids: false,
     exact: false,
     all: false,
+    null: false,
 };
 
 /// A command on one bid file.
@@ -83,7 +86,8 @@ pub const TASKS: [TaskRow; 13] = [
     },
     TaskRow {
         task: Task::Fault,
-        ..ON_TEXT
+        files: Files::Many,
+        ..ON_FILE
     },
     TaskRow {
         task: Task::Show,
@@ -133,11 +137,13 @@ pub const TASKS: [TaskRow; 13] = [
         task: Task::Duplicates,
         files: Files::Many,
         all: true,
+        null: true,
         ..SEARCH
     },
     TaskRow {
         task: Task::Sizes,
         files: Files::Many,
+        null: true,
         ..SEARCH
     },
 ];
@@ -169,7 +175,17 @@ pub fn files_of(task: Task) -> Files
 {
     match task {
         Task::Compare | Task::Diff => Files::Two,
-        Task::Duplicates | Task::Sizes => Files::Many,
+        Task::Fault | Task::Duplicates | Task::Sizes => Files::Many,
         _ => Files::One,
     }
+}
+
+/// Whether a command says why a file cannot be opened.
+pub fn gives_reason(task: Task) -> bool
+    ensures { result ≡ gives_reason task }
+{
+    !matches!(
+        task,
+        Task::Check | Task::Show | Task::Value | Task::Normalise | Task::Compare
+    )
 }

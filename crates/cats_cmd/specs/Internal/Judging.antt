@@ -2,7 +2,6 @@
 use Rattle.std.specs.Prelude.{◌≡◌, ℕ, Bool, List, [], ◌∷◌, ◌++◌, length, map, Option, Result, Ok, Err}
 use Rattle.std.specs.declared.alloc.AllocError.{AllocError}
 use Rattle.cats_text.specs.declared.stream.Watched.{Watched}
-use Rattle.cats_text.specs.declared.read_fault.ReadFault.{ReadFault}
 use Rattle.bid_file.specs.Files.{PlainFile}
 use Rattle.rounding.specs.declared.replacement.FinePrices.{FinePrices}
 use Rattle.valuation.specs.declared.search.options.SearchOptions.{SearchOptions}
@@ -13,7 +12,8 @@ use Rattle.canon.specs.Unsearched.{AreAlike, unsearched_text}
 use Rattle.cats_cmd.specs.DuplicateTexts.{found_paths}
 use Rattle.cats_cmd.specs.Duplicates.{FindsNumbers, heavy_files, heavy_paths, judged_files, judged_paths}
 use Rattle.cats_cmd.specs.declared.duplicates.Groups.{Groups}
-use Rattle.cats_cmd.specs.Opening.{Opening, Opens, OpensFirst, regular_openings}
+use Rattle.cats_cmd.specs.Opening.{Opening, Opens, OpensFirst, openings_of}
+use Rattle.cats_cmd.specs.declared.source.Way.{Way}
 use Rattle.commands.specs.declared.faults.HeavyBid.{HeavyBid}
 use Rattle.canon.specs.declared.canon_fault.CanonFault.{CanonFault}
 use Rattle.canon.specs.declared.canon_fault.CanonFault.TheVariants.{StepLimit}
@@ -23,7 +23,7 @@ use Rattle.cats_cmd.specs.Paths.{Reporting, ReportsPath, greatest_status, judgem
 use Rattle.cats_cmd.specs.Paths.{status_if}
 use Rattle.cats_cmd.specs.Reports.{ReportsAll}
 use Rattle.commands.specs.declared.faults.Unopened.{Unopened}
-use Rattle.commands.specs.Judgements.{Judgement, IsHeavy, IsUnjudged, JudgesInput, fault_judged}
+use Rattle.commands.specs.Judgements.{Judgement, IsHeavy, IsUnjudged, fault_judged}
 use Rattle.commands.specs.declared.faults.RunFault.{RunFault}
 
 -- an index of files at some paths by a text of each, and what was found of them
@@ -62,16 +62,15 @@ module _ {C : Type 0} (Has : C → List (List ℕ × Judgement) → Type 0) wher
   AddsRefusedTo path file fault old new = (why : RunFault) → AddsJudgement path (IsUnjudged why) old new
 
   -- the stream was judged, and this is why it was not
-  pub record AddsOpened {I : Type 0} (gives : I → I → PlainFile → Type 0) (refuses : I → I → ReadFault → Type 0)
-      (options : SearchOptions) (path : List ℕ) (old new : C) (before after : I) (fault : Option RunFault)
-      : Type 0 where
+  pub record AddsOpened {I : Type 0} (judged : I → I → Judgement → Type 0) (path : List ℕ) (old new : C)
+      (before after : I) (fault : Option RunFault) : Type 0 where
     pub judgement : Judgement
-    pub judges : JudgesInput gives refuses options before after judgement
+    pub judges : judged before after judgement
     pub adds : AddsJudgement path judgement old new
     pub is_fault : fault ≡ fault_judged judgement
 
   module _ {F : Type 0} (may_open : List ℕ → F → Type 0) (may_refuse : List ℕ → Unopened → Type 0)
-      (remaining : F → Option (List ℕ)) (options : SearchOptions) (prices : Option FinePrices) where
+      (remaining : F → Option (List ℕ)) (options : Option SearchOptions) (prices : Option FinePrices) where
     -- the file at the path was judged, and so many of its prices were rounded
     pub record AddsFile (path : List ℕ) (old new : C) (rounded : ℕ) (fault : Option RunFault) : Type 0 where
       pub judgement : Judgement
@@ -121,7 +120,7 @@ abbrev pub AddsRefused : List ℕ → PlainFile → CanonFault → Groups → Gr
 AddsRefused path file fault old new = AddsRefusedTo KeepsGroups path file fault old new
 
 -- all paths were opened, or, when memory is refused, the first of them
-abbrev pub OpensAllAs : {S H : Type 0} → (S → H) → (S → Option (List Opening)) → List (List ℕ) → S → S
+abbrev pub OpensAllAs : {S H : Type 0} → (S → H) → (S → Option (List Opening)) → Way → List (List ℕ) → S → S
     → Result ℕ AllocError → Type 0
-OpensAllAs content_of opened paths old new (Ok greatest) = Opens content_of opened old new (regular_openings paths)
-OpensAllAs content_of opened paths old new (Err e) = OpensFirst content_of opened old new paths
+OpensAllAs content_of opened way paths old new (Ok greatest) = Opens content_of opened old new (openings_of way paths)
+OpensAllAs content_of opened way paths old new (Err e) = OpensFirst content_of opened way old new paths

@@ -13,6 +13,63 @@ use super::rows::{At, Bytes, Ends, HintRow, Starts, Test, Words};
 use cats_text::fault_place::FaultPlace;
 use rounding::is_decimal;
 
+/// What the text of a linear program begins with.
+const LINEAR_PROGRAMS: &[&[u8]] = &[
+    b"Maximize",
+    b"maximize",
+    b"MAXIMIZE",
+    b"Minimize",
+    b"minimize",
+    b"MINIMIZE",
+    b"Max",
+    b"max",
+    b"Min",
+    b"min",
+];
+
+/// The words of a header line with capitals.
+const CAPITALS: &[&[u8]] = &[b"Goods", b"Bids", b"Dummy", b"GOODS", b"BIDS", b"DUMMY"];
+
+/// Numbers that are not finite, as programs print them.
+const NOT_FINITE: &[&[u8]] = &[
+    b"nan",
+    b"NaN",
+    b"NAN",
+    b"-nan",
+    b"inf",
+    b"Inf",
+    b"INF",
+    b"+inf",
+    b"-inf",
+    b"Infinity",
+    b"-Infinity",
+    b"infinity",
+];
+
+/// Words for a missing value.
+const MISSING: &[&[u8]] = &[
+    b"NA", b"N/A", b"na", b"n/a", b"null", b"NULL", b"None", b"none", b"nil", b"-", b"?",
+];
+
+/// What lines of a conflict of git begin with.
+const CONFLICTS: &[&[u8]] = &[b"<<<<<<<", b"|||||||", b"=======", b">>>>>>>"];
+
+/// The words of a header line, in each way of writing.
+const KEYWORDS: &[&[u8]] = &[
+    b"goods", b"bids", b"dummy", b"Goods", b"Bids", b"Dummy", b"GOODS", b"BIDS", b"DUMMY",
+];
+
+/// The currencies dollar, euro, pound and yen, also in other encodings.
+const CURRENCIES: &[&[u8]] = &[
+    b"$",
+    b"\xe2\x82\xac",
+    b"\xc2\xa3",
+    b"\xc2\xa5",
+    b"\xa3",
+    b"\xa5",
+    b"\x80",
+];
+
 fn is_at(at: At, line: u64, word: u64) -> bool
     ensures { result ≡ is_at at line word }
 {
@@ -62,51 +119,12 @@ fn is_among(word: &[u8], it: Words) -> bool
     match it {
         Words::JsonList => is_one_of(word, &[b"["]),
         Words::Pointer => is_one_of(word, &[b"version"]),
-        Words::LinearProgram => is_one_of(
-            word,
-            &[
-                b"Maximize",
-                b"maximize",
-                b"MAXIMIZE",
-                b"Minimize",
-                b"minimize",
-                b"MINIMIZE",
-                b"Max",
-                b"max",
-                b"Min",
-                b"min",
-            ],
-        ),
+        Words::LinearProgram => is_one_of(word, LINEAR_PROGRAMS),
         Words::Mps => is_one_of(word, &[b"NAME", b"ROWS", b"OBJSENSE"]),
         Words::Keyword => is_one_of(word, &[b"goods", b"bids", b"dummy"]),
-        Words::Capital => is_one_of(
-            word,
-            &[b"Goods", b"Bids", b"Dummy", b"GOODS", b"BIDS", b"DUMMY"],
-        ),
-        Words::NotFinite => is_one_of(
-            word,
-            &[
-                b"nan",
-                b"NaN",
-                b"NAN",
-                b"-nan",
-                b"inf",
-                b"Inf",
-                b"INF",
-                b"+inf",
-                b"-inf",
-                b"Infinity",
-                b"-Infinity",
-                b"infinity",
-            ],
-        ),
-        Words::Missing => is_one_of(
-            word,
-            &[
-                b"NA", b"N/A", b"na", b"n/a", b"null", b"NULL", b"None", b"none", b"nil", b"-",
-                b"?",
-            ],
-        ),
+        Words::Capital => is_one_of(word, CAPITALS),
+        Words::NotFinite => is_one_of(word, NOT_FINITE),
+        Words::Missing => is_one_of(word, MISSING),
         Words::NoPrice => is_one_of(word, &[b"#"]),
         Words::MinusOne => is_one_of(word, &[b"-1"]),
     }
@@ -125,22 +143,13 @@ fn begins_by(word: &[u8], it: Starts) -> bool
         Starts::Wide => begins_with_one(word, &[b"\xff\xfe", b"\xfe\xff"]),
         Starts::WideLittle => begins_with_one(word, &[b"g\x00"]),
         Starts::WideBig => begins_with_one(word, &[b"\x00g"]),
-        Starts::Conflict => begins_with_one(
-            word,
-            &[b"<<<<<<<", b"|||||||", b"=======", b">>>>>>>"],
-        ),
+        Starts::Conflict => begins_with_one(word, CONFLICTS),
         Starts::RichText => begins_with_one(word, &[b"{\x5crtf"]),
         Starts::Json => begins_with_one(word, &[b"{", b"[{", b"[[", b"[\x22", b"[0", b"[1"]),
         Starts::Page => begins_with_one(word, &[b"<"]),
         Starts::Answer => begins_with_one(word, &[b"HTTP/", b"404:", b"403:", b"500:"]),
         Starts::CommentedProgram => begins_with_one(word, &[b"\x5c", b"max:", b"min:"]),
-        Starts::Keyword => begins_with_one(
-            word,
-            &[
-                b"goods", b"bids", b"dummy", b"Goods", b"Bids", b"Dummy", b"GOODS", b"BIDS",
-                b"DUMMY",
-            ],
-        ),
+        Starts::Keyword => begins_with_one(word, KEYWORDS),
         Starts::Comment => begins_with_one(word, &[b"#", b"//", b";", b"--", b"/*"]),
         Starts::Quote => begins_with_one(word, &[b"\x22", b"'"]),
         Starts::CommentBehind => begins_with_one(word, &[b"%", b"#", b"//", b";"]),
@@ -150,18 +159,7 @@ fn begins_by(word: &[u8], it: Starts) -> bool
         Starts::RemarkToo => begins_with_one(word, &[b"#"]),
         Starts::Hexadecimal => begins_with_one(word, &[b"0x", b"0X"]),
         Starts::Sign => begins_with_one(word, &[b"-", b"+", b"\xe2\x88\x92", b"\xe2\x80\x93"]),
-        Starts::Currency => begins_with_one(
-            word,
-            &[
-                b"$",
-                b"\xe2\x82\xac",
-                b"\xc2\xa3",
-                b"\xc2\xa5",
-                b"\xa3",
-                b"\xa5",
-                b"\x80",
-            ],
-        ),
+        Starts::Currency => begins_with_one(word, CURRENCIES),
         Starts::Bracket => begins_with_one(word, &[b"{", b"[", b"("]),
     }
 }
@@ -171,18 +169,7 @@ fn ends_by(word: &[u8], it: Ends) -> bool
 {
     match it {
         Ends::NoBlank => ends_with_one(word, &[b"#"]),
-        Ends::Currency => ends_with_one(
-            word,
-            &[
-                b"$",
-                b"\xe2\x82\xac",
-                b"\xc2\xa3",
-                b"\xc2\xa5",
-                b"\xa3",
-                b"\xa5",
-                b"\x80",
-            ],
-        ),
+        Ends::Currency => ends_with_one(word, CURRENCIES),
         Ends::BracketBehind => ends_with_one(word, &[b"}", b"]", b")"]),
     }
 }

@@ -99,7 +99,8 @@ fn unopened(why: Unopened) -> &'static str
     match why {
         Unopened::NoSuchFile => "cannot open: no such file",
         Unopened::PermissionDenied => "cannot open: permission denied",
-        Unopened::IsFolder => "cannot open: is a folder",
+        Unopened::IsFolder =>
+            "cannot open: is a folder: name it to 'fault', 'duplicates' or 'sizes'",
         Unopened::NotAFile => "cannot open: not a file",
         Unopened::Other => "cannot open",
     }

@@ -15,18 +15,18 @@ fn found(alloc: Global, path: &str, text: &[u8], fails: bool) -> Result<RunAnswe
 /// A path with its text, and what is printed.
 type Row<'a> = (&'a str, &'a [u8], &'a str);
 
-static ROWS: [Row<'static>; 4] = [
+static ROWS: [Row<'static>; 6] = [
     (
         "a",
         b"goods 1\nbids 1\ndummy 0\n0 1e-7 0 #\n",
-        "a:4:2: NotANumber: 1e-7\n\
+        "a:4:3: NotANumber: 1e-7\n\
         a price with an exponent is read with `--round`\n",
     ),
     // behind the last word
     (
         "a",
         b"% a\ngoods 1\nbids 1\ndummy 0\n0 1 0\n",
-        "a:5:4: NoEnd\nif the file ends here, it seems cut: compare its length with the original; `#` ends each bid\n",
+        "a:5:6: NoEnd\nif the file ends here, it seems cut: compare its length with the original; `#` ends each bid\n",
     ),
     // behind the last line
     (
@@ -34,6 +34,17 @@ static ROWS: [Row<'static>; 4] = [
         b"goods 1\n",
         "a:2:1: Missing\n\
         the file has one line: it seems cut, or lines end with CR: see `tr '\\r' '\\n' < F`\n",
+    ),
+    // behind a tab and blanks, and before a CR
+    (
+        "a",
+        b"goods 1\r\nbids 1\r\ndummy 0\r\n0\t  1  0,1 #\r\n",
+        "a:4:8: NotANumber: 0,1\ngoods have blanks between them, not commas; write `0 2 3` for `0,2,3`\n",
+    ),
+    (
+        "a",
+        b"goods 1\r\nbids 1\r\ndummy 0\r\n0 1 0 \r\n",
+        "a:4:7: NoEnd\nif the file ends here, it seems cut: compare its length with the original; `#` ends each bid\n",
     ),
     // the path and the word have control characters
     (
@@ -54,6 +65,6 @@ fn faults(rt: HostRuntime) -> Result<(), Fail> {
     let nothing = found(rt.alloc(), "a", faultless, false)?;
     expect(&rt, &nothing, 0, "", "");
     let failed = found(rt.alloc(), "a", faultless, true)?;
-    expect(&rt, &failed, 5, "", "Device\n");
+    expect(&rt, &failed, 5, "", "a: Device\n");
     Ok(())
 }

@@ -31,7 +31,8 @@ static ROWS: &[(&str, usize, usize, (u8, &str, &str))] = rows! {
     ("cats compare @other /tmp/cats_cmd_no_such_folder/a.cats", CAPACITY, CAPACITY, (5, "", "second: cannot open\n")),
     ("cats compare /tmp/cats_cmd_no_such_folder/a.cats /tmp/cats_cmd_no_such_folder/b.cats", CAPACITY, CAPACITY,
      (5, "", "first: cannot open\n")),
-    ("cats diff @other /tmp/cats_cmd_no_such_folder/a.cats", CAPACITY, CAPACITY, (5, "", "second: cannot open\n")),
+    ("cats diff @other /tmp/cats_cmd_no_such_folder/a.cats", CAPACITY, CAPACITY,
+     (5, "", "/tmp/cats_cmd_no_such_folder/a.cats: cannot open: no such file\n")),
     // files, a device without an end, and a path below a file
     ("cats duplicates @one /dev/zero @other @one", CAPACITY, CAPACITY,
      (5, "@one\n@one\n", "/dev/zero: cannot open: not a file\n@other: line 3: Missing\n")),

@@ -127,7 +127,7 @@ fn run_answer(
     })
 }
 
-/// What the run answers that a request stands for, if it is one of the five that are promised by themselves.
+/// What the run of a request answers, if it is one of the five that are promised by themselves.
 fn answer_of_run(
     alloc: Global,
     request: &Request<'_>,
@@ -193,8 +193,8 @@ enum Place {
     BidLine,
 }
 
-/// The text of a notation: `{g b d}` stands for the three header lines with these numbers, and `[n p g ..]` for a bid line,
-/// its words joined by tabs. Other bytes are themselves.
+/// The text of a notation: `{g b d}` means the three header lines with these numbers, and `[n p g ..]` a bid line, its words
+/// joined by tabs. Other bytes are themselves.
 fn spell(alloc: Global, notation: &[u8]) -> Result<Vec<u8>, AllocError> {
     let mut text = Vec::new(alloc);
     let mut place = Place::Outside;

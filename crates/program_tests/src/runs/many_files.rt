@@ -22,12 +22,14 @@ static ROWS: &[Row<'_>] = rows! {
     ("duplicates -0 one other", 0, "", ""),
     // a row for each path, also of those that are refused
     ("sizes folder fifo one secret broken", 5,
-     "@\n\t\t\t\t\t\t\t\tcannot open: is a folder\tfolder\n\t\t\t\t\t\t\t\tcannot open: not a file\tfifo\n1\t1\t1\t0\t\
-     0\t1\t1\t0\t\tone\n\t\t\t\t\t\t\t\tcannot open: permission denied\tsecret\n\t\t\t\t\t\t\t\tcannot open\tbroken\n",
+     "@\n\t\t\t\t\t\t\t\tcannot open: is a folder: name it to 'fault', 'duplicates' or 'sizes'\tfolder\n\
+     \t\t\t\t\t\t\t\tcannot open: not a file\tfifo\n1\t1\t1\t0\t0\t1\t1\t0\t\tone\n\
+     \t\t\t\t\t\t\t\tcannot open: permission denied\tsecret\n\t\t\t\t\t\t\t\tcannot open\tbroken\n",
      ""),
     // a reason for each path that is refused
     ("duplicates one folder fifo secret none broken one", 5, "one\none\n",
-     "folder: cannot open: is a folder\nfifo: cannot open: not a file\nsecret: cannot open: permission denied\n\
+     "folder: cannot open: is a folder: name it to 'fault', 'duplicates' or 'sizes'\nfifo: cannot open: not a file\n\
+     secret: cannot open: permission denied\n\
      none: cannot open: no such file\nbroken: cannot open\n"),
     ("sizes --files0-from secret", 5, "", "secret: cannot open: permission denied\n"),
     // names that are escaped on both streams, and are not with -0
@@ -44,13 +46,30 @@ static ROWS: &[Row<'_>] = rows! {
      "@\n1\t2\t2\t0\t0\t1\t1\t0\t\tsame\n1\t1\t1\t0\t0\t1\t1\t0\t\tother\n1\t2\t2\t0\t0\t1\t1\t0\t\tsame\n", ""),
     ("duplicates --files0-from list-with-an-empty-path", 5, "one\nsame\n", ": cannot open: no such file\n"),
     ("sizes --files0-from no-list", 5, "", "no-list: cannot open: no such file\n"),
+    // faults, each below the path of its file
+    ("fault one", 0, "", ""),
+    ("fault bad one none fine", 5,
+     "bad:2:1: Missing\nthe file has one line: it seems cut, or lines end with CR: see `tr '\\r' '\\n' < F`\n\
+     fine:4:3: NotANumber: 1e-7\na price with an exponent is read with `--round`\n",
+     "none: cannot open: no such file\n"),
+    ("fault --progress --files0-from list", 0, "", "3 of 3 same\n"),
+    // the fault that is left, with the word as the file has it
+    ("fault --round fine one", 0, "", ""),
+    ("fault fine --round-exact", 2,
+     "fine:4:3: TooFine: 1e-7\na price has at most six places after the point; `--round` rounds it\n", ""),
+    ("fault --round two-prices", 2,
+     "two-prices:5:9: NotANumber: x\ngoods are numbers, counted from 0; write them in the place of names\n", ""),
+    ("fault --round great", 2,
+     "great:4:3: TooLarge: 1e13\nprices go up to 10^12: divide all by one power of ten; `bids` and `dummy` go up to 65536\n",
+     ""),
     ("sizes", 64, "", "error: give paths, or '--files0-from <LIST>'\n\nFor more information, try '--help'.\n"),
     ("duplicates --files0-from list one", 64, "",
      "error: give paths or '--files0-from <LIST>', and not both\n\nFor more information, try '--help'.\n"),
     ("duplicates --all one other same", 0, "one\nsame\n\nother\n", ""),
     // refused files, and paths to be escaped
     ("duplicates bad folder one fifo bad", 5, "",
-     "bad: line 2: Missing\nfolder: cannot open: is a folder\nfifo: cannot open: not a file\nbad: line 2: Missing\n"),
+     "bad: line 2: Missing\nfolder: cannot open: is a folder: name it to 'fault', 'duplicates' or 'sizes'\n\
+     fifo: cannot open: not a file\nbad: line 2: Missing\n"),
     ("duplicates --progress --files0-from list-of-refused-names", 5, "",
      "\\x1b: line 4: NoEnd\na\\nc\\\\: cannot open: no such file\n\\xff: cannot open\n4 of 4 one\n"),
     ("sizes --files0-from a\tc", 5, "", "a\\tc: cannot open: no such file\n"),

@@ -104,6 +104,8 @@ pub(super) static FILES: Files<'_> = rows! {
     ("other", b"goods 1\nbids 1\ndummy 0\n0 4 0 #\n"),
     ("bad", b"goods 1\n"),
     ("fine", b"goods 1\nbids 1\ndummy 0\n0 1e-7 0 #\n"),
+    ("two-prices", b"goods 1\nbids 2\ndummy 0\n0 1e3 0 #\n1 2e1 0 x #\n"),
+    ("great", b"goods 1\nbids 1\ndummy 0\n0 1e13 0 #\n"),
     ("sum", b"goods 2\nbids 3\ndummy 0\n0 3 0 #\n1 4 1 #\n2 7 0 1 #\n"),
     ("bidders", b"goods 2\nbids 4\ndummy 3\n0 1 0 2 #\n1 1 0 4 #\n2 2 1 4 #\n3 9 1 #\n"),
     // lists of bids
@@ -158,8 +160,7 @@ static REFUSED: &[(&str, Unopened)] = rows! {
 const SIZES: &str =
     "goods\tbids\tor_bids\txor_bidders\tdummies\tkept\tkept_or\tkept_xor\tfault\tfile";
 
-/// A line behind `cats`, and what it answers: its status, its output, in which `@` stands for `SIZES`, and its faults'
-/// lines.
+/// A line behind `cats`, and what it answers: its status, its output, in which `@` means `SIZES`, and its faults' lines.
 pub(super) type Row<'a> = (&'a str, u8, &'a str, &'a str);
 
 /// That lines on these files answer what their rows say.

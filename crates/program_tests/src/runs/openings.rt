@@ -11,15 +11,16 @@ static OPENINGS: &[(&str, u8, &str)] = rows! {
     ("--version", 0, ""),
     ("check same one", 64, ""),
     ("check same", 0, "Anything same\n"),
-    ("fault bad", 2, "Anything bad\n"),
-    ("round none", 5, "Anything none\n"),
+    ("fault bad", 2, "NoFolder bad\n"),
+    ("round none", 5, "NoFolder none\n"),
     ("compare one other", 1, "Anything one\nAnything other\n"),
     ("compare none one", 5, "Anything none\n"),
-    ("diff bad one", 2, "Anything bad\nAnything one\n"),
+    ("diff bad one", 2, "NoFolder bad\nNoFolder one\n"),
     // a list is opened before its file, or in place of it
-    ("revenue same --bids bids", 1, "NoFolder bids\nAnything same\n"),
+    ("revenue same --bids bids", 1, "NoFolder bids\nNoFolder same\n"),
     ("revenue same --bids words", 2, "NoFolder words\n"),
     ("revenue same --bids none", 5, "NoFolder none\n"),
+    ("fault one bad one", 2, "NoFolder one\nNoFolder bad\nNoFolder one\n"),
     // a folder, a device and a FIFO are refused
     ("sizes same fifo same", 5, "Regular same\nRegular fifo\nRegular same\n"),
     ("duplicates --files0-from list", 0, "NoFolder list\nRegular one\nRegular other\nRegular same\n"),
@@ -53,11 +54,15 @@ fn each_path_is_opened_once(rt: HostRuntime) -> Result<(), Fail> {
     }
     for (name, words, _, _) in COMMANDS {
         let line = format!(in rt.alloc(); "{name} {words}")?;
-        let openings = match prefixes(words).len() {
-            1 => "Anything sum\n",
-            _ => "Anything sum\nAnything sum\n",
+        let way = match *name {
+            "check" | "show" | "value" | "normalise" | "compare" => "Anything",
+            _ => "NoFolder",
         };
-        opens(&rt, line.as_str(), 0, openings)?;
+        let openings = match prefixes(words).len() {
+            1 => format!(in rt.alloc(); "{way} sum\n")?,
+            _ => format!(in rt.alloc(); "{way} sum\n{way} sum\n")?,
+        };
+        opens(&rt, line.as_str(), 0, openings.as_str())?;
     }
     Ok(())
 }

@@ -123,8 +123,10 @@ static ROWS: &[(&str, &str, usize, usize, (u8, &str, &str))] = rows! {
     ("cats check FILE", "/tmp/cats_cmd_no_such_folder/a.cats", CAPACITY, 0, (5, "", "")),
     ("cats check FILE", "", CAPACITY, CAPACITY, (5, "", "cannot open\n")),
     ("cats check FILE", "a\0b", CAPACITY, CAPACITY, (5, "", "cannot open\n")),
-    // a folder is opened, and cannot be read
+    // a folder is opened, and cannot be read, or it is said what takes one
     ("cats check FILE", "/tmp", CAPACITY, CAPACITY, (5, "", "Device\n")),
+    ("cats lp FILE", "/tmp", CAPACITY, CAPACITY,
+     (5, "", "/tmp: cannot open: is a folder: name it to 'fault', 'duplicates' or 'sizes'\n")),
 };
 
 #[test]

@@ -10,7 +10,7 @@ const XOR_BIDDERS: usize = 300;
 
 const BIDS: usize = GOODS + 2 * XOR_BIDDERS;
 
-/// Numbers of bids with the bids that stand in their place, which at a price of 0 are none.
+/// Numbers of bids with the bids that are there then, of which one at a price of 0 is left out.
 type Changed = &'static [(usize, &'static str)];
 
 /// An OR bid on each good; and of each XOR bidder a bid on a good, and one on this and the next good.

@@ -11,7 +11,7 @@ use Rattle.requests.specs.Tasks.{files_of}
 use Rattle.requests.specs.declared.task.Files.{Files}
 use Rattle.requests.specs.declared.task.Files.TheVariants.{One}
 use Rattle.requests.specs.declared.task.Task.{Task}
-use Rattle.requests.specs.declared.task.Task.TheVariants.{Fault, Round}
+use Rattle.requests.specs.declared.task.Task.TheVariants.{Round}
 use Rattle.requests.specs.declared.task.TaskRow.{TaskRow}
 use Rattle.requests.specs.declared.task.TheConstants.{TASKS}
 use Rattle.valuation.specs.declared.search.options.SearchOptions.{SearchOptions}
@@ -86,26 +86,24 @@ module _ (request : CallRequest) (text : CallText) (asked : PlainRequest) (out o
       out_after err err_after (Ok status)) is run)
   on_bids (Some list) bids path none is run = cc
 
-  on_one : (task : Task) (path : List ℕ) → task ≢ Fault → task ≢ Round → asked.list ≡ None → asked.bids ≡ request.bids.now
+  on_one : (task : Task) (path : List ℕ) → task ≢ Round → asked.list ≡ None → asked.bids ≡ request.bids.now
       → RunsOnOne (IsTextAt (text ∷ [])) (λ name why. why ≡ NoSuchFile) left_of printed_of printed_of task asked path out out_after err err_after
       (Ok status) → Printed
-  on_one Fault path fault round none bids run = absurd (fault refl)
-  on_one Round path fault round none bids run = absurd (round refl)
-  on_one task path fault round none bids run = on_bids asked.list asked.bids path none bids run
+  on_one Round path round none bids run = absurd (round refl)
+  on_one task path round none bids run = on_bids asked.list asked.bids path none bids run
 
   abbrev Ran : Files → List (List ℕ) → Type 0
   Ran count files =
       RunsWith (IsTextAt (text ∷ [])) (λ name why. why ≡ NoSuchFile) left_of printed_of printed_of false (λ name found. found ≡ None) count files asked out
       out_after err err_after (Ok status)
 
-  ran : (name : List ℕ) → IsOnText request name asked → files_of asked.task ≡ One → asked.task ≢ Fault → asked.task ≢ Round
-      → Ran (files_of asked.task) asked.files → Printed
-  ran name on one fault round run =
-      on_one asked.task name fault round on.list on.bids (subst (Ran One) on.files (subst (λ (count : Files). Ran count asked.files) one run))
+  ran : (name : List ℕ) → IsOnText request name asked → files_of asked.task ≡ One → asked.task ≢ Round → Ran (files_of asked.task) asked.files → Printed
+  ran name on one round run =
+      on_one asked.task name round on.list on.bids (subst (Ran One) on.files (subst (λ (count : Files). Ran count asked.files) one run))
 
-  answered : request_of request (names_of (text ∷ [])) ≡ Some asked → files_of asked.task ≡ One → asked.task ≢ Fault → asked.task ≢ Round
+  answered : request_of request (names_of (text ∷ [])) ≡ Some asked → files_of asked.task ≡ One → asked.task ≢ Round
       → Answers request (text ∷ []) out out_after err err_after status → Printed
-  answered is one fault round (inl call) = by (same_Some call.asked asked (sym call.is_request ∙ is)) call.answers
+  answered is one round (inl call) = by (same_Some call.asked asked (sym call.is_request ∙ is)) call.answers
     where
       name : List ℕ
       name = name_or text.name.now 1
@@ -116,20 +114,20 @@ module _ (request : CallRequest) (text : CallText) (asked : PlainRequest) (out o
       by : call.asked ≡ asked
           → AnswersRequest (IsTextAt (text ∷ [])) (λ name why. why ≡ NoSuchFile) left_of printed_of printed_of false (λ name found. found ≡ None)
           call.asked out out_after err err_after status → Printed
-      by same (inl (inl runs)) = ran name (by_row request name asked (slice_get TASKS request.task) is) one fault round (rw same at runs)
+      by same (inl (inl runs)) = ran name (by_row request name asked (slice_get TASKS request.task) is) one round (rw same at runs)
       by same (inl (inr failed)) = absurd (no_status failed.fault failed.is)
       by same (inr fails) = absurd (omega (arith, success, fails.is_status, fault_fails fails.fault))
-  answered is one fault round (inr (inl wrong)) = absurd (omega (arith, success, wrong.is_status))
-  answered is one fault round (inr (inr unasked)) = absurd (omega (arith, success, unasked.0))
+  answered is one round (inr (inl wrong)) = absurd (omega (arith, success, wrong.is_status))
+  answered is one round (inr (inr unasked)) = absurd (omega (arith, success, unasked.0))
 
 pub returns : goal.returns
-returns c request text asked out out_new needed err err_new err_needed status is one fault round (inl both) success =
+returns c request text asked out out_new needed err err_new err_needed status is one round (inl both) success =
     let printed = both.prints in (
       both.text,
       both.puts,
       rw printed.is_text
-          (answered request text asked printed.out printed.out_after printed.err printed.err_after status success printed.empty.0 is one fault round
+          (answered request text asked printed.out printed.out_after printed.err printed.err_after status success printed.empty.0 is one round
           printed.answers),
     )
-returns c request text asked out out_new needed err err_new err_needed status is one fault round (inr memory) success =
+returns c request text asked out out_new needed err err_new err_needed status is one round (inr memory) success =
     absurd (omega (arith, success, memory.0))

@@ -1,18 +1,6 @@
 -- `carry_out_on_one`
-use Rattle.cats_cmd.proofs.Common.{refl, inl}
+use Rattle.cats_cmd.proofs.Common.{inl}
 use Rattle.cats_cmd.proofs.carrying_out.carry_out_on_one.Goals as goal
-
-pub returns-in_ok-input-in-Fault-clause-carries : goal.returns-in_ok-input-in-Fault-clause-carries
-returns-in_ok-input-in-Fault-clause-carries g c =
-    rw c.in-Fault.is (inl (
-      record {
-        before = c.in_ok-input-in-Fault.input;
-        after = c.run_fault.new.input;
-        opened = c.in_ok-input-in-Fault.ensures.opened;
-        runs = rw c.as_bytes.ensures.value at c.run_fault.ensures;
-      },
-      refl,
-    ))
 
 pub returns-in_ok-input-in-Round-clause-carries : goal.returns-in_ok-input-in-Round-clause-carries
 returns-in_ok-input-in-Round-clause-carries g c =

@@ -14,7 +14,7 @@ pub loop-number-preserved : goal.loop-number-preserved
 loop-number-preserved g c = record {
   judged = path_more _ _ _ _ _ _ _ _ c.args.paths.now _ c.loop-number.number _ _ _ c.loop-number.invariant.judged nowhere c.loop-number-test.true _
       c.in_ok-status.status _ _ (rw c.loop-number.invariant.opens.stays at c.in_ok-status.ensures.adds) c.max-greatest.ensures;
-  opens = opens_next _ _ _ _ _ c.args.paths.now c.loop-number.number nowhere c.loop-number-test.true c.loop-number.invariant.opens c.judge_path.ensures.opens;
+  opens = opens_next _ _ _ _ _ _ c.args.paths.now c.loop-number.number nowhere c.loop-number-test.true c.loop-number.invariant.opens c.judge_path.ensures.opens;
 }
 
 pub returns-clause-judges : goal.returns-clause-judges
@@ -28,5 +28,5 @@ returns-in_err-status-clause-judges g c =
 
 pub returns-in_err-status-clause-opens : goal.returns-in_err-status-clause-opens
 returns-in_err-status-clause-opens g c =
-    opens_some _ _ _ _ _ c.args.paths.now c.loop-number.number nowhere c.loop-number-test.true c.loop-number.invariant.opens c.judge_path.ensures.opens _
+    opens_some _ _ _ _ _ _ c.args.paths.now c.loop-number.number nowhere c.loop-number-test.true c.loop-number.invariant.opens c.judge_path.ensures.opens _
     c.from_residual.ensures.0

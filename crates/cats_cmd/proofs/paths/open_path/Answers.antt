@@ -4,7 +4,7 @@ use Rattle.cats_cmd.proofs.Opening.{opens_broken}
 use Rattle.cats_cmd.proofs.paths.open_path.Goals as goal
 
 pub returns-in_default-clause-opens : goal.returns-in_default-clause-opens
-returns-in_default-clause-opens g c = opens_broken _ _ _ c.args.path.now c.in_default.ensures.cases.0
+returns-in_default-clause-opens g c = opens_broken _ _ _ _ c.args.path.now c.in_default.ensures.cases.0
 
 pub returns-in-Ok-open-clause-opens : goal.returns-in-Ok-open-clause-opens
 returns-in-Ok-open-clause-opens g c =

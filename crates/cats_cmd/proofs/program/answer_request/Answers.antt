@@ -12,7 +12,7 @@ returns-in-Ok-clause-done g c = done_answer _ _ _ _ _ _ _ _ _ _ (plain_request c
 pub returns-in-Err : goal.returns-in-Err
 returns-in-Err g c =
     let request = plain_request c.args.request.now in
-    let failed = failed_request _ _ _ _ _ _ _ _ _ _ request c.in-Err.fault _ _ _ c.in-Err.ensures.carries (rw c.fault_pieces.ensures at c.report_pieces.ensures)
+    let failed = failed_request _ _ _ _ _ _ _ _ _ _ request c.in-Err.fault _ _ _ c.in-Err.ensures.carries c.report_failure.ensures
     c.status.ensures in
     record {
       answers = inr failed;

@@ -1,5 +1,5 @@
 -- `is_tar`
-use Rattle.commands.proofs.Common.{◌≡◌, ◌<◌, ℕ, List, [], ◌∷◌, length, take, true, arith, lt-ltb}
+use Rattle.commands.proofs.Common.{◌≡◌, ◌<◌, ℕ, List, [], ◌∷◌, length, take, arith, lt-ltb}
 use Rattle.std.proofs.lemmas.List.{length-drop, take_all}
 use Rattle.std.specs.List.{starts_with}
 use Rattle.std.specs.Prelude.{◌-◌, ◌&&◌, Bool, drop, nat_eq, nat_lt}
