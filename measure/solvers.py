@@ -1,4 +1,4 @@
-"""Measures what solvers take for the problem that `cats lp` prints of a file, and for that of its canonical text. Makes the table of docs/SOLVERS.md.
+"""Measures what solvers take for the problem that `cats lp` prints of a file, and for that of its canonical text. Makes the table of measure/RESULTS.md.
 
     solvers.py PROGRAM GENERATE [PLOT]
 
