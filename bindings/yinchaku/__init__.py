@@ -20,8 +20,9 @@ from yinchaku._bids import Bid
 from yinchaku._calls import check, compare, diff, duplicates, explain, lp, normalise, revenue, round_prices, show, sizes, value
 from yinchaku._library import STEPS
 from yinchaku._library import check_version as _check_version
+from yinchaku._publish import publish
 from yinchaku._rows import Rows
-from yinchaku._tables import Allocation, Change, Difference, Reason, Rounded, Sizes, SizesRow, Value, Verdict, Winners, XorValue
+from yinchaku._tables import Allocation, Change, Difference, PublishRow, Reason, Rounded, Sizes, SizesRow, Value, Verdict, Winners, XorValue
 from yinchaku.errors import CatsError, NoSuchBid, NoSuchGood, RefusedText, StepLimit, WantOfMemory, WrongSolution
 
 __version__ = "0.3.0"
@@ -30,7 +31,8 @@ _check_version(__version__)
 
 __all__ = [
     "STEPS", "read", "winners",
-    "check", "show", "value", "revenue", "normalise", "explain", "round_prices", "lp", "compare", "diff", "duplicates", "sizes",
-    "Auction", "Bid", "Sizes", "Value", "XorValue", "Reason", "Rounded", "Change", "Allocation", "Verdict", "Difference", "SizesRow", "Winners", "Rows",
+    "check", "show", "value", "revenue", "normalise", "explain", "round_prices", "lp", "compare", "diff", "duplicates", "sizes", "publish",
+    "Auction", "Bid", "Sizes", "Value", "XorValue", "Reason", "Rounded", "Change", "Allocation", "Verdict", "Difference", "SizesRow", "PublishRow",
+    "Winners", "Rows",
     "CatsError", "RefusedText", "StepLimit", "NoSuchGood", "NoSuchBid", "WrongSolution", "WantOfMemory",
 ]

@@ -34,6 +34,22 @@ class SizesRow(NamedTuple):
     file: Optional[pathlib.Path] = None
 
 
+class PublishRow(NamedTuple):
+    """What `publish` did with a file: `text` is the path of its text below the folder, or None if none was written, and `same_as` the first file that
+    is the same auction, or None for it. `goods` and `bids` are the file's, `kept` the bids of its canonical file, `rounded` the prices that `round`
+    changed, and `zeroed` those of them that became 0. `fault` says why there is no text: then numbers that are not known are None."""
+
+    text: Optional[pathlib.Path]
+    same_as: Optional[pathlib.Path]
+    goods: Optional[int]
+    bids: Optional[int]
+    kept: Optional[int]
+    rounded: Optional[int]
+    zeroed: Optional[int]
+    fault: Optional[str]
+    file: pathlib.Path
+
+
 class XorValue(NamedTuple):
     """What the XOR bidder with this dummy good offers for a bundle: its greatest price, and the first bid of this price, or None if no bid is
     inside the bundle."""
