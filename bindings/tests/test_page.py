@@ -9,6 +9,9 @@ import pytest
 
 PAGES = [pathlib.Path(__file__).resolve().parent.parent.parent / f"docs/{name}.md" for name in ("PYTHON", "RECIPES")]
 
+# dask warns of workers that take long to end, as they do on a machine with other work.
+QUIET = {"DASK_LOGGING__DISTRIBUTED": "error"}
+
 # A fenced block: its language, the package that it needs, if any, and its text.
 BLOCK = re.compile(r"^```(\w+) ?(\w*)\n(.*?)^```\n", re.M | re.S)
 
@@ -29,7 +32,7 @@ def test_page(needed, script, shown, root, library, tmp_path):
         pytest.importorskip(needed)
     (tmp_path / "examples").symlink_to(root / "examples")
     ran = subprocess.run(
-        [sys.executable, "-B", "-c", script], cwd=tmp_path, env={**os.environ, "PYTHONPATH": str(library)},
+        [sys.executable, "-B", "-c", script], cwd=tmp_path, env={**os.environ, **QUIET, "PYTHONPATH": str(library)},
         stdin=subprocess.DEVNULL, stdout=subprocess.PIPE, stderr=subprocess.STDOUT, universal_newlines=True,
     )
     assert ran.stdout == shown

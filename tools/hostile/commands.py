@@ -18,7 +18,10 @@ class Command(NamedTuple):
 
 
 # Options for arguments of commands, and words that are behind the files.
-OPTIONS = {"Bound": "--bound", "Bounded": "--bound", "Steps": "--steps 1", "TotalSteps": "--bound --total-steps 2", "Progress": "--progress", "Null": "-0", "All": "--all"}
+OPTIONS = {
+    "Bound": "--bound", "Bounded": "--bound", "Steps": "--steps 1", "TotalSteps": "--bound --total-steps 2", "Progress": "--progress", "Null": "-0",
+    "All": "--all", "Times": "--times 1000",
+}
 BEHIND = {"Goods": ("0 1", "0 4095"), "Bids": ("1 0", "65535")}
 
 

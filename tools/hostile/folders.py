@@ -7,6 +7,7 @@ The words are those of runs.py. Prints what is wrong and 'N runs, M wrong'; the 
 """
 import os
 import resource
+import select
 import socket
 import stat
 import sys
@@ -412,8 +413,11 @@ def terminal(path):
     for words, wanted in rows:
         master, slave = os.openpty()
         tty.setraw(slave)
-        answer = ended(*start(words, err=slave))
-        TALLY.judge(os.read(master, PIPE) == wanted, f"{words} on a terminal", answer)
+        answer, said = ended(*start(words, err=slave)), b""
+        # a terminal may pass on each line by itself
+        while select.select([master], [], [], 0.2 if len(said) >= len(wanted) else 5)[0]:
+            said += os.read(master, PIPE)
+        TALLY.judge(said == wanted, f"{words} on a terminal", (said, answer))
         os.close(slave)
         os.close(master)
 

@@ -5,8 +5,8 @@
 The commands on one file read texts of many forms, most of which have prices with exponents or finer places, and some of which are refused. Those
 on two files read pairs of these. `duplicates` and `sizes` read 300 files of tools/generate --kind with prices as `%g` prints them, some of which
 are the same auction only once they are rounded. What is printed and the status have to be those of the rounded texts, but for the line on
-standard error that says how many prices were rounded: as many as `cats round` reports. Prints what is wrong and 'N runs, M wrong'; the status is
-0 if M is 0, and else 1.
+standard error that says how many prices were rounded, and how many of them to 0: as many as `cats round` reports. Prints what is wrong and
+'N runs, M wrong'; the status is 0 if M is 0, and else 1.
 """
 import os
 import random
@@ -48,9 +48,11 @@ def rounding_of(text, exact):
 
 
 def report(path, rounding):
-    """The line that says how many prices of the file at a path were rounded, if its rounded text is a bid file and one was."""
+    """The line that says how many prices of the file at a path were rounded, and how many to 0, if its rounded text is a bid file and one was."""
     many = 0 if rounding.status else rounding.err.count(b"\n")
-    return b"" if many == 0 else path + b": %d price%s rounded\n" % (many, b"" if many == 1 else b"s")
+    zeroed = rounding.err.count(b" rounded to 0\n")
+    behind = b", %d to 0" % zeroed if zeroed else b""
+    return b"" if many == 0 else path + b": %d price%s rounded%s\n" % (many, b"" if many == 1 else b"s", behind)
 
 
 # ---- one file
@@ -232,7 +234,7 @@ def check_files(folder):
                 judge(f"{command} {flags}", wanted, run([*command, *flags, "--files0-from", "/dev/stdin"], listed))
         check_faults(flags, roundings, listed)
     groups = run(["duplicates", "--round", "--files0-from", "/dev/stdin"], listed)
-    shown = (groups.out.count(b"\n\n") >= FILES // 4, groups.err.count(b" rounded\n") >= FILES // 4, groups.err.count(b": line ") >= FILES // 20)
+    shown = (groups.out.count(b"\n\n") >= FILES // 4, groups.err.count(b" rounded") >= FILES // 4, groups.err.count(b": line ") >= FILES // 20)
     if not all(shown):
         sys.exit(f"rounded.py makes files that show too little: {shown}")
 
@@ -248,11 +250,11 @@ def check_names(folder):
     """A path is escaped in the line on its prices."""
     one = write_file(folder + b"/one", ONE_FINE)
     for name, shown in NAMES.items():
-        path, line = write_file(folder + b"/" + name, TWO_FINE), folder + b"/" + shown + b": 2 prices rounded\n"
+        path, line = write_file(folder + b"/" + name, TWO_FINE), folder + b"/" + shown + b": 2 prices rounded, 1 to 0\n"
         rows = (
             (["check", "--round", path], b"goods 1 bids 2 dummy 0\n", line),
             (["compare", "--round", path, path], b"same\n", 2 * line),
-            (["duplicates", "-0", "--round", path, one], b"", line + one + b": 1 price rounded\n"),
+            (["duplicates", "-0", "--round", path, one], b"", line + one + b": 1 price rounded, 1 to 0\n"),
         )
         for words, out, err in rows:
             judge(f"{words}", Answer(0, out, err), run(words))
@@ -264,7 +266,7 @@ def check_lines(folder):
     named = {it.words[0]: it.line([path] * max(1, it.files)) for it in (*ON_FILE, *ON_PAIR, *ON_FILES)}
     wrong = [["round", flag, path] for flag in ("--round", "--round-exact")]
     wrong += [[*line, flag, flag] for line in named.values() for flag in ("--round", "--round-exact")]
-    wrong += [[*line, flag] for line in named.values() for flag in ("--round=yes", "--round-exact=1", "--exact", "--rounded")]
+    wrong += [[*line, flag] for line in named.values() for flag in ("--round=yes", "--round-exact=1", "--exact", "--rounded", "--times=10")]
     for words in wrong:
         answer = run(words)
         is_refused = answer.err.startswith(b"error: ")

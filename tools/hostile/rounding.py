@@ -1,4 +1,4 @@
-"""Compares the built program's `cats round` with Python's `decimal`.
+"""Compares the built program's `cats round`, with and without --times, with Python's `decimal`.
 
     rounding.py PROGRAM [full]
 
@@ -71,12 +71,13 @@ def price_text(value):
     return whole.lstrip("0").rjust(1, "0") + ("." + places if places else "")
 
 
-def price_of(word, exact):
+def price_of(word, exact, tens=0):
     if not DECIMAL.fullmatch(word):
         return Price(fault="NotANumber")
     value = value_of(word)
-    if VALID.fullmatch(word) and value <= GREATEST:
+    if tens == 0 and VALID.fullmatch(word) and value <= GREATEST:
         return Price(word)
+    value = value.scaleb(tens)
     if value > (GREATEST if exact else GREATEST + 1):
         return Price(fault="TooLarge")
     nearest = value.quantize(MILLIONTH)
@@ -127,8 +128,8 @@ RETURNS = Form(blanks=(" ",), ends=("\r\n",), extra=("", "% 1e6"))
 class Text:
     """A text, and what should become of it. A bid's price is the only thing that may be replaced."""
 
-    def __init__(self, form, exact, choose):
-        self.form, self.exact, self.choose = form, exact, choose
+    def __init__(self, form, exact, choose, tens=0):
+        self.form, self.exact, self.choose, self.tens = form, exact, choose, tens
         self.source, self.rounded, self.reports = [], [], []
         self.lines, self.fault = 0, ""
 
@@ -151,7 +152,7 @@ class Text:
         self.extra_lines()
         behind = self.pick(self.form.blanks) + self.joined([*goods, "#"], "") + self.pick(self.form.margins)
         before = self.joined([number]) + self.pick(self.form.blanks)
-        self.put(before, word, price_of(word, self.exact), behind + self.pick(self.form.ends))
+        self.put(before, word, price_of(word, self.exact, self.tens), behind + self.pick(self.form.ends))
 
     def extra_lines(self):
         while self.form.extra and self.choose.random() < 0.15:
@@ -182,9 +183,9 @@ def latin(text):
     return text.encode("latin-1")
 
 
-def text_of(words, form, exact, choose, end=None):
+def text_of(words, form, exact, choose, end=None, tens=0):
     """A text with a bid for each of the words, in any order of their numbers."""
-    text = Text(form, exact, choose)
+    text = Text(form, exact, choose, tens)
     goods = choose.randrange(2, 40)
     text.plain_line("goods", goods)
     text.plain_line("bids", len(words))
@@ -201,7 +202,7 @@ def text_of(words, form, exact, choose, end=None):
 
 
 def compare(what, text):
-    options = ["--exact"] if text.exact else []
+    options = [*["--exact"] * text.exact, *["--times", str(10**text.tens)] * (text.tens > 0)]
     answer = run(["round", *options, "/dev/stdin"], latin("".join(text.source)))
     judge(" ".join(["round", *options, what]), text.wanted(), answer)
     return answer
@@ -292,23 +293,23 @@ def check_rows():
 
 # ---- what is compared
 
-def taken_and_refused(words, exact):
-    faults = [price_of(word, exact).fault for word in words]
+def taken_and_refused(words, exact, tens):
+    faults = [price_of(word, exact, tens).fault for word in words]
     return [[word for word, fault in zip(words, faults) if bool(fault) == is_refused] for is_refused in (False, True)]
 
 
-def many_words(words, exact, form, seed):
+def many_words(words, exact, form, seed, tens=0):
     """All words that are taken, in few files, each of which is rounded once more; and those that are refused, each after some others."""
     choose = random.Random(seed)
-    taken, refused = taken_and_refused(words, exact)
+    taken, refused = taken_and_refused(words, exact, tens)
     for at in range(0, len(taken), MOST_BIDS):
-        answer = compare(f"{len(taken)} words", text_of(taken[at : at + MOST_BIDS], form, exact, choose))
+        answer = compare(f"{len(taken)} words", text_of(taken[at : at + MOST_BIDS], form, exact, choose, tens=tens))
         twice = run(["round", *(["--exact"] if exact else []), "/dev/stdin"], answer.out)
         judge("its output once more", Answer(0, answer.out, b""), twice)
     texts = []
     for word in refused:
         some = choose.sample(taken, min(len(taken), choose.randrange(3)))
-        texts.append((word, text_of([*some, word, *some[:1]], form, exact, choose)))
+        texts.append((word, text_of([*some, word, *some[:1]], form, exact, choose, tens=tens)))
     with ThreadPoolExecutor(os.cpu_count()) as pool:
         list(pool.map(lambda it: compare(*it), texts))
 
@@ -354,6 +355,24 @@ def check_long_words():
             compare(f"a word of {len(word)} bytes, {word[:20]}..{word[-20:]}", text_of(["1.5", word, "1e3"], PLAIN, exact, choose))
 
 
+# What `--times` names, and what it does not. Zeros may be before a number.
+POWERS = [str(10**tens) for tens in range(13)]
+NO_POWERS = ["0", "2", "11", "20", "101", "1000000000001", "10000000000000", "1" + "0" * 30, "1e6", "10.", "+10", "-1", " 10", "", "x"]
+
+
+def check_powers():
+    choose = random.Random(9)
+    for tens, power in enumerate(POWERS):
+        text = text_of(["2.5", "0", "1e-13", "3e-18"], PLAIN, False, choose, tens=tens)
+        source = latin("".join(text.source))
+        for words in (["--times", power], ["--times=000" + power]):
+            judge(f"round {words}", text.wanted() if tens else run(["round", "/dev/stdin"], source), run(["round", *words, "/dev/stdin"], source))
+    for word in NO_POWERS:
+        answer = run(["round", "--times=" + word, "/dev/stdin"], b"")
+        is_refused = answer.err.startswith(b"error: ")
+        judge(f"round --times={word}", Answer(64, b"", answer.err if is_refused else b"error: .."), answer)
+
+
 HEADER = "goods 2\nbids 2\ndummy 0\n"
 
 # Texts that are not made of bids alone, with what is printed of each: its rounded text, or a line. `round` reads no price in a header,
@@ -395,10 +414,13 @@ def main():
     check_other_texts()
     check_forms()
     check_long_words()
+    check_powers()
     choose = random.Random(4)
     words = some_of([*(random_word(choose) for _ in range(RANDOM_WORDS)), *(aimed_word(choose) for _ in range(AIMED_WORDS))])
     for exact, form in ((False, MIXED), (True, PLAIN)):
         many_words(words, exact, form, 5)
+    for exact, tens in ((False, 6), (True, 1), (False, 12)):
+        many_words(words[:: 1 + tens], exact, MIXED, 6, tens)
     return TALLY.status()
 
 

@@ -60,9 +60,9 @@ class Case(NamedTuple):
         return [*self.command, *(files or self.files), *self.goods]
 
     def counts(self, many):
-        """What `--round` reports of the first so many files: how many prices of each were rounded."""
+        """What `--round` reports of the first so many files: how many prices of each were rounded, and became 0."""
         lines = self.own.err.splitlines(True) if "--round" in self.command else []
-        return b"".join([line for line in lines if line.endswith(b" rounded\n")][:many])
+        return b"".join([line for line in lines if b" rounded" in line][:many])
 
     def __str__(self):
         return " ".join([*self.command, *map(os.path.basename, self.files), *self.goods])

@@ -12,8 +12,9 @@ use Rattle.command_line.specs.declared.request.NoRequest.TheVariants.{NoMemory}
 use Rattle.requests.specs.Requests.{PlainRequest}
 use Rattle.requests.specs.declared.task.TaskRow.{TaskRow}
 use Rattle.requests.specs.declared.task.TheConstants.{TASKS}
-use Rattle.rounding.specs.declared.replacement.FinePrices.{FinePrices}
+use Rattle.rounding.specs.Replacements.{price_rule}
 use Rattle.rounding.specs.declared.replacement.FinePrices.TheVariants.{Round, Refuse}
+use Rattle.rounding.specs.declared.replacement.PriceRule.{PriceRule}
 use Rattle.valuation.specs.SearchLimits.{bounded_options, plain_options}
 use Rattle.valuation.specs.declared.search.options.SearchOptions.{SearchOptions}
 use Rattle.cats_cmd.specs.Requests.{AnswersNoRequest, AnswersRequest}
@@ -61,9 +62,10 @@ pub record IsTextAt (texts : List CallText) (name : List ℕ) (bytes : Bor (List
 abbrev pub total_of : ℕ → Option ℕ
 total_of total = if total == 0 then None else Some total
 
--- what becomes of fine prices, if prices are rounded
-abbrev pub prices_of : ℕ → Option FinePrices
-prices_of prices = if prices == 0 then None else if prices == 1 then Some Round else Some Refuse
+-- what becomes of each price, if prices are rounded
+abbrev pub prices_of : ℕ → Option PriceRule
+prices_of prices = if prices == 0 then None
+    else if prices == 1 then Some (price_rule Round 0) else Some (price_rule Refuse 0)
 
 -- plain searches have no limit of all together
 abbrev pub plain_unless : Option ℕ → ℕ → Option SearchOptions

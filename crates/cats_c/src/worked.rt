@@ -2,6 +2,7 @@
 
 ghost use Rattle.std.specs.Prelude.{◌≡◌, [], ◌∷◌, Some, None, codes, false, map, option_map, true};
 ghost use Rattle.requests.specs.Tasks.{name_of};
+ghost use Rattle.rounding.specs.Replacements.{price_rule};
 ghost use Rattle.rounding.specs.declared.replacement.FinePrices.TheVariants.{Refuse, Round};
 ghost use Rattle.valuation.specs.SearchLimits.{bounded_options, plain_options};
 ghost use Rattle.cats_c.specs.Calls.{names_of, request_of, total_of};
@@ -36,7 +37,8 @@ pub fn requests()
     ensures all { option_map (λ request. request.all) (request_of (asked 11 0 true 0) []) ≡ Some true }
     ensures progress { option_map (λ request. request.progress) (request_of (asked 11 0 true 0) []) ≡ Some false }
     ensures prices { map (λ prices. option_map (λ request. request.prices) (request_of (asked 7 prices true 0) []))
-        (0 ∷ 1 ∷ 2 ∷ 3 ∷ []) ≡ Some None ∷ Some (Some Round) ∷ Some (Some Refuse) ∷ Some (Some Refuse) ∷ [] }
+        (0 ∷ 1 ∷ 2 ∷ 3 ∷ []) ≡ Some None ∷ Some (Some (price_rule Round 0))
+        ∷ Some (Some (price_rule Refuse 0)) ∷ Some (Some (price_rule Refuse 0)) ∷ [] }
 {}
 
 /// How the searches go. A command that lets the caller choose them has no limit of all plain ones together, and another one

@@ -3,7 +3,7 @@
 use Rattle.cats_cmd.proofs.Common.{◌≡◌, ◌≢◌, ℕ, List, [], ◌∷◌, Option, None, Some, Result, Ok, Err, Bool, false, ◌∙◌, arith, ◌≤◌, refl, sym, ⊎_elim, ◌⊎◌, inl}
 use Rattle.cats_cmd.proofs.Common.{inr}
 use Rattle.cats_cmd.proofs.Common.{◌||◌, Kind, Device, Watched, CanonFault, Read, StepLimit, Memory, Commands}
-use Rattle.cats_cmd.proofs.Common.{Prints, CommandsOnBoth, Answer, PricedGives, PricedRefuses, RunsOnBids, outcome_of, FinePrices, is_some}
+use Rattle.cats_cmd.proofs.Common.{Prints, CommandsOnBoth, Answer, PricedGives, PricedRefuses, RunsOnBids, outcome_of, PriceRule, is_some}
 use Rattle.cats_cmd.proofs.Common.{AnswersRequest, CarriesOut, RunsAt, RunsAtBoth, RunsFor, RunsOnOne, RunsWith, FailsRequest, RunsCommand, line_of_failure}
 use Rattle.cats_cmd.proofs.Common.{status_of_canon_fault, status_of_read_fault, Reports, is_for_many_files, is_reporting}
 use Rattle.cats_cmd.proofs.Common.{is_many, reports, names_many_files, names_reporting, status_of_fault, RunFault}
@@ -12,6 +12,7 @@ use Rattle.cats_cmd.proofs.Common.{RunsOnFile, RunsOnPair, answer_if_lost, is_lo
 use Rattle.cats_text.specs.declared.read_fault.Kind.TheVariants.{Memory as NoMemory}
 use Rattle.requests.specs.Tasks.{files_of}
 use Rattle.requests.specs.declared.task.Task.TheVariants.{Round, Compare, Diff}
+use Rattle.rounding.specs.Replacements.{price_rule}
 use Rattle.rounding.specs.declared.replacement.FinePrices.TheVariants.{Round as RoundFine}
 use Rattle.cats_cmd.proofs.AnswersShown.{command_printed, printed}
 use Rattle.cats_cmd.proofs.Sending.{pair_facts}
@@ -77,27 +78,27 @@ no_answer : (fault : RunFault) (status : ℕ) → Ok status ≡ Err fault → �
 no_answer fault status is = cc
 
 -- of a command on two files: if nothing may be reported, prices are read as they are written
-quiet_pair : (task : Task) (prices : Option FinePrices) → Two ≡ files_of task → reports task prices ≡ false → is_some prices ≡ false
+quiet_pair : (task : Task) (prices : Option PriceRule) → Two ≡ files_of task → reports task prices ≡ false → is_some prices ≡ false
 quiet_pair Compare prices two quiet = quiet
 quiet_pair Diff prices two quiet = quiet
 quiet_pair task prices two quiet = cc
 
-not_rounded : (prices : Option FinePrices) → is_some prices ≡ false → prices ≡ None
+not_rounded : (prices : Option PriceRule) → is_some prices ≡ false → prices ≡ None
 not_rounded None plain = refl
-not_rounded (Some fine) plain = cc
+not_rounded (Some rule) plain = cc
 
 module _ {F W E : Type 0} (may_open : List ℕ → F → Type 0) (may_refuse : List ℕ → Unopened → Type 0) (remaining : F → Option (List ℕ))
     (contents : W → Option (List ℕ)) (messages : E → Option (List ℕ)) (terminal : Bool)
     (may_find : List ℕ → Option (List (List ℕ)) → Type 0) (out out_after : Watched W) (err : Watched E) where
   -- A run on one or two files that answered has the status 0 or 1, or 5, or has written nothing, and has reported nothing if prices are not
   -- rounded. One that failed has written nothing, unless its output failed.
-  abbrev Kept : Option FinePrices → Watched E → Result ℕ RunFault → Type 0
+  abbrev Kept : Option PriceRule → Watched E → Result ℕ RunFault → Type 0
   Kept prices err_after (Ok status) =
       (status ≢ 5 → (status ≤ 1) ⊎ (out_after ≡ out)) × (is_some prices ≡ false → status ≤ 1 → err_after ≡ err)
   Kept prices err_after (Err fault) = IsSilent fault out out_after
 
   -- whether its report is lost or not
-  kept_if_lost : (prices : Option FinePrices) (err_after : Watched E) (lost : Bool) (status : ℕ) → status ≤ 1
+  kept_if_lost : (prices : Option PriceRule) (err_after : Watched E) (lost : Bool) (status : ℕ) → status ≤ 1
       → (is_some prices ≡ false → err_after ≡ err) → Kept prices err_after (answer_if_lost lost (Ok status))
   kept_if_lost prices err_after true status most quiet = ((λ other. absurd (other refl)), (λ plain few. absurd (omega (arith, few))))
   kept_if_lost prices err_after false status most quiet = ((λ other. inl most), (λ plain few. quiet plain))
@@ -111,15 +112,15 @@ module _ {F W E : Type 0} (may_open : List ℕ → F → Type 0) (may_refuse : L
 
     kept_sent : (bids : List ℕ) (answer sent : Result ℕ RunFault) (ran : RunsOnNumbers bids answer)
         → RunsOnFile (PricedGives remaining) (PricedRefuses remaining) contents (outcome_of request bids) ran.before ran.after out out_after sent
-        → Kept request.prices err_after (answer_if_lost (is_lost ran.after.rounded err_after) sent)
+        → Kept request.prices err_after (answer_if_lost (is_lost ran.after.rounded.count err_after) sent)
     kept_sent bids answer (Err fault) ran runs =
         silent_run contents (Commands (PricedGives remaining) (PricedRefuses remaining) (outcome_of request bids) ran.before ran.after) out out_after fault runs
     kept_sent bids answer (Ok status) ran runs =
         let made = runs.answers in
         let most = (printed _ _ _ (command_printed request bids made.file) made.made).0 in
         let is = runs.is_status in
-        kept_if_lost request.prices err_after (is_lost ran.after.rounded err_after) status (omega (arith, most, is))
-        (λ plain. rw (none_given remaining ran.before ran.after (ran.opened.fine ∙ not_rounded request.prices plain) made.file made.given) at ran.reports)
+        kept_if_lost request.prices err_after (is_lost ran.after.rounded.count err_after) status (omega (arith, most, is))
+        (λ plain. rw (none_given remaining ran.before ran.after (ran.opened.rule ∙ not_rounded request.prices plain) made.file made.given) at ran.reports)
 
     kept_at : (bids : List ℕ) (answer : Result ℕ RunFault) → RunsOnNumbers bids answer → Kept request.prices err_after answer
     kept_at bids answer ran = rw ran.answers (kept_sent bids answer ran.sent ran ran.runs)
@@ -146,7 +147,7 @@ module _ {F W E : Type 0} (may_open : List ℕ → F → Type 0) (may_refuse : L
       (ran : RanOnPair first second request err_after answer)
       → RunsOnPair (PricedGives remaining) (PricedRefuses remaining) (PricedGives remaining) (PricedRefuses remaining) contents request ran.left
       ran.left_after ran.right ran.right_after out out_after sent
-      → Kept request.prices err_after (answer_if_lost (is_lost (max ran.left_after.rounded ran.right_after.rounded) err_after) sent)
+      → Kept request.prices err_after (answer_if_lost (is_lost (max ran.left_after.rounded.count ran.right_after.rounded.count) err_after) sent)
   sent_both first second request err_after answer (Err fault) ran runs =
       silent_run contents (CommandsOnBoth (PricedGives remaining) (PricedRefuses remaining) (PricedGives remaining) (PricedRefuses remaining)
       request ran.left ran.left_after ran.right ran.right_after) out out_after fault runs
@@ -156,11 +157,12 @@ module _ {F W E : Type 0} (may_open : List ℕ → F → Type 0) (may_refuse : L
       let made = facts.made runs.answer runs.answers in
       let most = made.printed.0 in
       let is = runs.is_status in
-      kept_if_lost request.prices err_after (is_lost (max ran.left_after.rounded ran.right_after.rounded) err_after) status (omega (arith, most, is))
+      kept_if_lost request.prices err_after (is_lost (max ran.left_after.rounded.count ran.right_after.rounded.count) err_after) status
+      (omega (arith, most, is))
       (λ plain.
       let written = not_rounded request.prices plain in
-      let one = none_given remaining ran.left ran.left_after (ran.left_opened.fine ∙ written) made.files.0 made.given.0.given in
-      let other = none_given remaining ran.right ran.right_after (ran.right_opened.fine ∙ written) made.files.1 made.given.1.given in
+      let one = none_given remaining ran.left ran.left_after (ran.left_opened.rule ∙ written) made.files.0 made.given.0.given in
+      let other = none_given remaining ran.right ran.right_after (ran.right_opened.rule ∙ written) made.files.1 made.given.1.given in
       rw other at (rw one at ran.reports))
 
   kept_both : (first second : List ℕ) (request : PlainRequest) (err_after : Watched E) (answer : Result ℕ RunFault)
@@ -172,13 +174,13 @@ module _ {F W E : Type 0} (may_open : List ℕ → F → Type 0) (may_refuse : L
 
   -- A request for one or two files that answered has the status 0 or 1, or has written nothing. It has reported nothing, unless it is one that
   -- reports. One that failed has written nothing, unless its output failed.
-  abbrev KeptBy : Files → Task → Option FinePrices → Watched E → Result ℕ RunFault → Type 0
+  abbrev KeptBy : Files → Task → Option PriceRule → Watched E → Result ℕ RunFault → Type 0
   KeptBy count task prices err_after (Ok status) =
       (is_many count ≡ false → status ≢ 5 → (status ≤ 1) ⊎ (out_after ≡ out))
       × ((is_many count || reports task prices) ≡ false → status ≤ 1 → err_after ≡ err)
   KeptBy count task prices err_after (Err fault) = is_many count ≡ false → IsSilent fault out out_after
 
-  kept_few : (count : Files) (task : Task) (prices : Option FinePrices) (err_after : Watched E) (answer : Result ℕ RunFault)
+  kept_few : (count : Files) (task : Task) (prices : Option PriceRule) (err_after : Watched E) (answer : Result ℕ RunFault)
       → ((is_many count || reports task prices) ≡ false → is_some prices ≡ false) → Kept prices err_after answer → KeptBy count task prices err_after answer
   kept_few count task prices err_after (Ok status) plain kept = ((λ few. kept.0), (λ quiet. kept.1 (plain quiet)))
   kept_few count task prices err_after (Err fault) plain kept = λ few. kept
@@ -187,7 +189,7 @@ module _ {F W E : Type 0} (may_open : List ℕ → F → Type 0) (may_refuse : L
       → RunsOnOne may_open may_refuse remaining contents messages task request path out out_after err err_after answer
       → KeptBy One task request.prices err_after answer
   kept_one Round request path err_after (Ok status) ran = (
-    (λ few other. inl (round_printed (is_lost (length (rounded_prices (unwrap_or request.prices RoundFine) ran.runs.given)) err_after) status
+    (λ few other. inl (round_printed (is_lost (length (rounded_prices (unwrap_or request.prices (price_rule RoundFine 0)) ran.runs.given)) err_after) status
         ran.runs.text ran.runs.made other)),
     (λ plain most. absurd (cc)),
   )

@@ -48,6 +48,8 @@ pub use Rattle.cats_cmd.specs.Paths.{JudgesAs, JudgedPath, Judges, Reporting, gr
 pub use Rattle.cats_cmd.specs.Paths.{judgement_at, lines_from, lines_of_path, report_lines, status_of_path, without_refusals, BeginsPaths, MakesOfPaths}
 pub use Rattle.cats_cmd.specs.Paths.{RunsOnPaths, outcome_of_paths, progress_line, refusal_line, status_if, is_counted}
 pub use Rattle.cats_cmd.specs.PricedInputs.{PricedGives, PricedRefuses, IsPriced, JudgesPriced, rounded_words, rounding_lines, gives_by}
+pub use Rattle.cats_cmd.specs.PricedInputs.{none_rounded, rounded_count, zeroed_words}
+pub use Rattle.cats_cmd.specs.declared.priced_input.RoundedCount.{RoundedCount}
 pub use Rattle.cats_cmd.specs.Reports.{Reports, is_for_many_files, is_reporting, reports, names_many_files}
 pub use Rattle.cats_cmd.specs.Reports.{names_reporting, ReportsAll, SendsText}
 pub use Rattle.cats_cmd.specs.Reports.{answer_if_lost, is_lost, status_if_lost}
@@ -124,7 +126,7 @@ pub use Rattle.prune.specs.SearchSteps.{first_refused}
 pub use Rattle.rounding.specs.Answers.{IsRounded}
 pub use Rattle.rounding.specs.Texts.{rounded_prices, rounded_text}
 pub use Rattle.rounding.specs.Views.{plain_change, plain_changes}
-pub use Rattle.rounding.specs.declared.replacement.FinePrices.{FinePrices}
+pub use Rattle.rounding.specs.declared.replacement.PriceRule.{PriceRule}
 pub use Rattle.rounding.specs.declared.text.RoundedPrice.{RoundedPrice}
 pub use Rattle.rounding.specs.declared.text.RoundedText.{RoundedText}
 pub use Rattle.std.proofs.Common.{◌≡◌, ◌≢◌, ℕ, List, [], Option, None, Some, Result, Ok, Err, Bool, false, ◌∙◌, arith, ◌≤◌, refl, sym, ⊎_elim, ◌⊎◌, inl, inr}

@@ -1,6 +1,6 @@
 -- The file at one path: what reading its input says of it, in the words of the run.
 use Rattle.cats_cmd.proofs.Common.{◌≡◌, ℕ, List, [], ◌∷◌, ◌++◌, Option, None, Some, refl, Global, Vec, PlainFile, IsPlainFile}
-use Rattle.cats_cmd.proofs.Common.{FinePrices, SearchOptions, ReadFault, or_atoms_of, first_refused, RefusesAs, canonical_text, AddsText}
+use Rattle.cats_cmd.proofs.Common.{PriceRule, SearchOptions, ReadFault, or_atoms_of, first_refused, RefusesAs, canonical_text, AddsText}
 use Rattle.cats_cmd.proofs.Common.{IsText}
 use Rattle.cats_cmd.proofs.Common.{normalised_file, refusal_of, CanonFault, Read, StepLimit, Memory, Only, Which}
 use Rattle.cats_cmd.proofs.Common.{found_paths, HeavyBid, with_bid, IsPriced, PricedGives}
@@ -131,7 +131,7 @@ none_unopened remaining None before after which why judges = judges
 none_unopened remaining (Some options) before after which why judges = judges
 
 module _ {F : Type 0} (may_open : List ℕ → F → Type 0) (may_refuse : List ℕ → Unopened → Type 0) (remaining : F → Option (List ℕ))
-    (options : Option SearchOptions) (prices : Option FinePrices) (path : List ℕ) where
+    (options : Option SearchOptions) (prices : Option PriceRule) (path : List ℕ) where
   pub opened_judges : (before after : PricedInput F) → IsPriced may_open prices path before → (j : Judgement) → JudgesPriced remaining options before after j
       → JudgesAs may_open may_refuse remaining options prices path after.rounded j
   opened_judges before after opened (IsUnjudged (NotOpened which why)) judges = absurd (none_unopened remaining options before after which why judges)

@@ -2,7 +2,8 @@
 -- were rounded, a status that may be the greatest, and its lines.
 use Rattle.cats_cmd.proofs.Common.{◌≡◌, ℕ, suc, ◌+◌, ◌<◌, ◌≤◌, max, List, [], ◌∷◌, ◌++◌, length, map, get_or, take, refl, sym, ap, ◌∙◌, subst, arith}
 use Rattle.cats_cmd.proofs.Common.{Option, Result, Ok, Err, IsErr, Bor, AllByRecursion, flat_map, AllocError, append-nil, append_assoc, map-append, take_more}
-use Rattle.cats_cmd.proofs.Common.{length-map, length-take-le, take-map, take_all, fold_push, Watched, FinePrices, SearchOptions, AddsPath, HasJudged}
+use Rattle.cats_cmd.proofs.Common.{RoundedCount}
+use Rattle.cats_cmd.proofs.Common.{length-map, length-take-le, take-map, take_all, fold_push, Watched, PriceRule, SearchOptions, AddsPath, HasJudged}
 use Rattle.cats_cmd.proofs.Common.{JudgesAllAs}
 use Rattle.cats_cmd.proofs.Common.{Judges, Reporting, ReportsFrom, ReportsPath, greatest_status, judgement_at, lines_from, lines_of_path, report_lines}
 use Rattle.cats_cmd.proofs.Common.{status_of_path, without_refusals, removal_lines, rounding_lines, progress_lines, fault_judged, is_lost, Bool}
@@ -44,7 +45,7 @@ path_reported messages first then more last a b c d e one two three four =
 
 -- the same, until its rounded prices were reported, and then
 pub path_reports : {E : Type 0} (messages : E → Option (List ℕ)) (reporting : Reporting) (count number : ℕ) (path : List ℕ) (judgement : Judgement)
-    (fault : Option RunFault) → fault ≡ fault_judged judgement → (rounded : ℕ) (lost : Bool) (a b c d e : Watched E) → lost ≡ is_lost rounded c
+    (fault : Option RunFault) → fault ≡ fault_judged judgement → (rounded : RoundedCount) (lost : Bool) (a b c d e : Watched E) → lost ≡ is_lost rounded.count c
     → ReportsAll messages (removal_lines reporting.progress number) a b → ReportsAll messages (rounding_lines path rounded) b c
     → ReportsAll messages (reporting.refusals path fault) c d → ReportsAll messages (progress_lines reporting.progress number count path) d e
     → ReportsPath messages reporting count number (record { path = path; judgement = judgement; rounded = rounded; lost = lost }) a e
@@ -76,7 +77,7 @@ reports_push messages reporting count number (i ∷ js) j a b c before now =
 -- ---- the paths so far
 
 module _ {C F E : Type 0} (Has : C → List (List ℕ × Judgement) → Type 0) (may_open : List ℕ → F → Type 0) (may_refuse : List ℕ → Unopened → Type 0)
-    (remaining : F → Option (List ℕ)) (options : Option SearchOptions) (prices : Option FinePrices) (messages : E → Option (List ℕ))
+    (remaining : F → Option (List ℕ)) (options : Option SearchOptions) (prices : Option PriceRule) (messages : E → Option (List ℕ))
     (reporting : Reporting) (count : ℕ) (err : Watched E) where
   pub none_judged : (kept : C) → Has kept [] → HasJudged Has may_open may_refuse remaining options prices messages reporting count [] kept err err 0
   none_judged kept has = record {
@@ -125,7 +126,7 @@ so_many : (paths : List (Bor (List ℕ))) (i : ℕ) → i < length paths → len
 so_many paths i l = length-map (take i paths) (λ (p : Bor (List ℕ)). p.now) ∙ length-take-le i paths (omega (arith, l))
 
 module _ {C F E : Type 0} (Has : C → List (List ℕ × Judgement) → Type 0) (may_open : List ℕ → F → Type 0) (may_refuse : List ℕ → Unopened → Type 0)
-    (remaining : F → Option (List ℕ)) (options : Option SearchOptions) (prices : Option FinePrices) (messages : E → Option (List ℕ))
+    (remaining : F → Option (List ℕ)) (options : Option SearchOptions) (prices : Option PriceRule) (messages : E → Option (List ℕ))
     (reporting : Reporting) (paths : List (Bor (List ℕ))) (err : Watched E)
     (i : ℕ) (kept : C) (greatest : ℕ) (before : Watched E)
     (h : HasJudged Has may_open may_refuse remaining options prices messages reporting (length paths) (map (λ p. p.now) (take i paths))

@@ -25,6 +25,7 @@ mod FindingNumbers
 mod Tabling
 mod RunsOfLists
 mod RunsOfPaths
+mod Multiplying
 pub mod Common
 pub mod Sending
 pub mod OneText

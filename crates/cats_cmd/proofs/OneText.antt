@@ -1,7 +1,7 @@
 -- The run on the only text of a name, if it ends in success: all of the text is read, and what is made of it is printed.
 use Rattle.cats_cmd.proofs.Common.{◌≡◌, ◌<◌, ◌++◌, ◌∙◌, ℕ, Bool, List, Option, Some, None, Result, Ok, Err, arith, refl, sym, ap, subst, append-nil}
 use Rattle.cats_cmd.proofs.Common.{PlainFile, CanonFault, Read, StepLimit, Memory, Kind, Device, status_of_canon_fault, status_of_read_fault, Watched}
-use Rattle.cats_cmd.proofs.Common.{inner_of, SendsWhole, FinePrices, Outcome, Commands, text_of, RunFault, Refused}
+use Rattle.cats_cmd.proofs.Common.{inner_of, SendsWhole, PriceRule, Outcome, Commands, text_of, RunFault, Refused}
 use Rattle.cats_cmd.proofs.Common.{IsPriced, PricedGives, PricedRefuses, gives_by, PricedInput, answer_if_lost, is_lost}
 use Rattle.cats_cmd.proofs.Common.{status_of_fault, RunsAt, RunsOnFile}
 use Rattle.std.specs.Io.KnownBytes.{Consumes, IsAtEnd}
@@ -37,21 +37,21 @@ module _ {F : Type 0} (remaining : F → Option (List ℕ)) (text : List ℕ) wh
   whole None came consumed end = absurd consumed
   whole (Some left) came consumed end = sym (consumed ∙ ap (λ (rest : List ℕ). came ++ rest) end ∙ append-nil came)
 
-  file_read : (fine : Option FinePrices) (before after : PricedInput F) (file : PlainFile) → remaining (inner_of before.stream) ≡ Some text
-      → gives_by remaining fine before after file → Spells (text_read fine text) file
+  file_read : (rule : Option PriceRule) (before after : PricedInput F) (file : PlainFile) → remaining (inner_of before.stream) ≡ Some text
+      → gives_by remaining rule before after file → Spells (text_read rule text) file
   file_read None before after file opened given =
       let read = given.given in
       subst (λ (bytes : List ℕ). Spells bytes file)
       (whole (remaining (inner_of after.stream)) read.bytes (rw opened at read.consumes) read.reads.whole.at_end) read.reads.spelled
-  file_read (Some fine) before after file opened given =
-      subst (λ (bytes : List ℕ). Spells (text_read (Some fine) bytes) file)
+  file_read (Some rule) before after file opened given =
+      subst (λ (bytes : List ℕ). Spells (text_read (Some rule) bytes) file)
       (whole (remaining (inner_of after.stream)) given.bytes (rw opened at given.all.consumes) given.all.at_end) given.spells
 
 -- ---- the run
 
 module _ {F W E : Type 0} (may_open : List ℕ → F → Type 0) (remaining : F → Option (List ℕ)) (contents : W → Option (List ℕ))
     (messages : E → Option (List ℕ)) (path text : List ℕ) (only : (stream : F) → may_open path stream → remaining stream ≡ Some text)
-    (prices : Option FinePrices) (outcome : PlainFile → Outcome) (out out_after : Watched W) (err err_after : Watched E) (status : ℕ)
+    (prices : Option PriceRule) (outcome : PlainFile → Outcome) (out out_after : Watched W) (err err_after : Watched E) (status : ℕ)
     (success : status < 2) where
   abbrev Printed : Type 0
   Printed = (printed : List ℕ) × PrintsOf outcome prices text status printed × SendsWhole contents out out_after printed
@@ -59,16 +59,16 @@ module _ {F W E : Type 0} (may_open : List ℕ → F → Type 0) (remaining : F 
   sent_text : (before after : PricedInput F) → IsPriced may_open prices path before
       → WritesAnswer contents (Commands (PricedGives remaining) (PricedRefuses remaining) outcome before after) out out_after status → Printed
   sent_text before after opened written =
-      let fine = opened.fine in
+      let rule = opened.rule in
       let made = written.answers in
-      let file = rw fine at (file_read remaining text before.fine before after made.file (only (inner_of before.stream) opened.opened.opened) made.given) in
+      let file = rw rule at (file_read remaining text before.rule before after made.file (only (inner_of before.stream) opened.opened.opened) made.given) in
       (text_of written.answer.output, record { file = made.file; spelled = file; made = rw written.is_status made.made }, written.sent)
 
   pub run_prints : RunsAt may_open remaining contents messages path prices outcome out out_after err err_after (Ok status) → Printed
   run_prints run = by run.sent run.answers run.runs
     where
       lost : Bool
-      lost = is_lost run.after.rounded err_after
+      lost = is_lost run.after.rounded.count err_after
 
       by : (sent : Result ℕ RunFault) → Ok status ≡ answer_if_lost lost sent
           → RunsOnFile (PricedGives remaining) (PricedRefuses remaining) contents outcome run.before run.after out out_after sent → Printed

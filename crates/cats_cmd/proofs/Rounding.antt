@@ -1,6 +1,6 @@
 -- `cats round`: the prices that were reported so far, and the ways in which the run ends.
 use Rattle.cats_cmd.proofs.Common.{◌≡◌, ◌<◌, ◌+◌, ℕ, List, [], ◌∷◌, length, take, map, get_or, refl, Option, Result, Ok, Err, inl, inr, IsErrAnd, map-append}
-use Rattle.cats_cmd.proofs.Common.{take_more, Watched, ReadFault, refusal_of, Only, IsRounded, rounded_text, plain_change, plain_changes, FinePrices}
+use Rattle.cats_cmd.proofs.Common.{take_more, Watched, ReadFault, refusal_of, Only, IsRounded, rounded_text, plain_change, plain_changes, PriceRule}
 use Rattle.cats_cmd.proofs.Common.{RoundedPrice, RoundedText, IsUnreadStream, ReadsAll, rounded_line, IsUnrounded, Rounds, SendsAs, Reports, ReportsAll}
 use Rattle.cats_cmd.proofs.Common.{RunFault, Refused, Sent}
 use Rattle.cats_cmd.proofs.JudgingPaths.{reports_more}
@@ -11,15 +11,15 @@ use Rattle.rounding.specs.Answers.{RoundAnswer, WantsMemoryToRound}
 
 -- ---- why a text is not rounded
 
-module _ (P : CanonFault → Type 0) (fine : FinePrices) (text : List ℕ)
-    (first : (fault : ReadFault) → first_fault (rounded_text fine text) ≡ Some fault → P (Read fault)) (memory : WantsMemoryToRound fine text → P Memory)
+module _ (P : CanonFault → Type 0) (rule : PriceRule) (text : List ℕ)
+    (first : (fault : ReadFault) → first_fault (rounded_text rule text) ≡ Some fault → P (Read fault)) (memory : WantsMemoryToRound rule text → P Memory)
   where
-    by_kind : (why : ReadFault) (kind : Kind) → why.kind ≡ kind → first_fault (rounded_text fine text) ≡ Some why → P (refusal_by_kind why kind)
-    by_kind why NoMemory is found = absurd ((rw found at (first_fault-of_bytes (rounded_text fine text))).1 is)
+    by_kind : (why : ReadFault) (kind : Kind) → why.kind ≡ kind → first_fault (rounded_text rule text) ≡ Some why → P (refusal_by_kind why kind)
+    by_kind why NoMemory is found = absurd ((rw found at (first_fault-of_bytes (rounded_text rule text))).1 is)
     by_kind why kind is found = first why found
 
     -- the rounded text has a fault, or memory is refused
-    pub rounding_refused : (why : ReadFault) → RoundAnswer fine text (Err why) → P (refusal_of why)
+    pub rounding_refused : (why : ReadFault) → RoundAnswer rule text (Err why) → P (refusal_of why)
     rounding_refused why (inl found) = by_kind why why.kind refl found
     rounding_refused why (inr wants) = rw wants.0 (memory wants.1)
 
@@ -39,26 +39,26 @@ reported_more messages prices i d l a b c before now =
 
 -- ---- the run
 
-module _ {R W E : Type 0} (remaining : R → Option (List ℕ)) (contents : W → Option (List ℕ)) (messages : E → Option (List ℕ)) (fine : FinePrices)
+module _ {R W E : Type 0} (remaining : R → Option (List ℕ)) (contents : W → Option (List ℕ)) (messages : E → Option (List ℕ)) (rule : PriceRule)
     (old new : Watched R) where
   pub round_unread : (out : Watched W) (err : Watched E) (fault : ReadFault) → IsUnreadStream remaining old new fault
-      → Rounds remaining contents messages fine old new out out err err (Err (Refused Only (refusal_of fault)))
+      → Rounds remaining contents messages rule old new out out err err (Err (Refused Only (refusal_of fault)))
   round_unread out err fault unread =
-      let refused = unread_stream remaining old new (IsUnrounded remaining contents messages fine old new) (λ f s. inl s) inl fault unread in
+      let refused = unread_stream remaining old new (IsUnrounded remaining contents messages rule old new) (λ f s. inl s) inl fault unread in
       record { only = refl; refused = refused; silent = refl; quiet = refl }
 
   -- the output failed in the text
   pub round_unsent : (out out_after : Watched W) (err : Watched E) (bytes : List ℕ) → ReadsAll remaining old new bytes → (rounded : RoundedText)
-      → IsRounded fine bytes rounded → (fault : RunFault) → SendsAs contents 0 (rounded_text fine bytes) out out_after (Err fault)
+      → IsRounded rule bytes rounded → (fault : RunFault) → SendsAs contents 0 (rounded_text rule bytes) out out_after (Err fault)
       → (answer : Result ℕ RunFault) → IsErrAnd answer (λ reported. reported ≡ fault)
-      → Rounds remaining contents messages fine old new out out_after err err answer
+      → Rounds remaining contents messages rule old new out out_after err err answer
   round_unsent out out_after err bytes all rounded r (Sent fault) sends (Ok status) is = absurd is
   round_unsent out out_after err bytes all rounded r (Sent fault) sends (Err reported) is = rw is (record {
     fails = record {
       given = bytes;
       reads = record { all = all; file = r.file; spells = rw r.text_is at r.spells };
       status = 0;
-      text = rounded_text fine bytes;
+      text = rounded_text rule bytes;
       made = refl;
       sent = sends;
     };

@@ -1,12 +1,12 @@
 -- The run of many files: the text that is made of them is sent, or memory was refused to all of them together.
-use Rattle.cats_cmd.proofs.Common.{◌≡◌, ℕ, List, Option, Result, Ok, Err, length, map, refl, sym, ap, arith, IsErrAnd, take_all, Watched, FinePrices}
+use Rattle.cats_cmd.proofs.Common.{◌≡◌, ℕ, List, Option, Result, Ok, Err, length, map, refl, sym, ap, arith, IsErrAnd, take_all, Watched, PriceRule}
 use Rattle.cats_cmd.proofs.Common.{SearchOptions}
 use Rattle.cats_cmd.proofs.Common.{Memory, Only, HasJudged, Prints, BeginsPaths, Judgement, MakesOfPaths, Reporting, RunsOnPaths, judgement_at}
 use Rattle.cats_cmd.proofs.Common.{outcome_of_paths, SendsAs, RunFault, Refused, Sent, Unopened}
 use Rattle.cats_cmd.proofs.Sending.{wrote}
 
 module _ {F W E : Type 0} (may_open : List ℕ → F → Type 0) (may_refuse : List ℕ → Unopened → Type 0) (remaining : F → Option (List ℕ))
-    (contents : W → Option (List ℕ)) (messages : E → Option (List ℕ)) (options : Option SearchOptions) (prices : Option FinePrices)
+    (contents : W → Option (List ℕ)) (messages : E → Option (List ℕ)) (options : Option SearchOptions) (prices : Option PriceRule)
     (Makes : List (List ℕ × Judgement) → List ℕ → Type 0)
     (paths : List (List ℕ)) (reporting : Reporting) (err err_after : Watched E) where
   -- memory was refused after the first of the paths

@@ -10,11 +10,12 @@ use Rattle.canon.specs.declared.canon_fault.CanonFault.{CanonFault}
 use Rattle.canon.specs.declared.canon_fault.CanonFault.TheVariants.{Memory}
 use Rattle.canon.specs.declared.which.Which.{Which}
 use Rattle.canon.specs.declared.which.Which.TheVariants.{Only}
-use Rattle.rounding.specs.declared.replacement.FinePrices.{FinePrices}
+use Rattle.rounding.specs.declared.replacement.PriceRule.{PriceRule}
 use Rattle.commands.specs.Outcomes.{Outcome, Prints}
 use Rattle.cats_cmd.specs.Escaping.{escaped}
-use Rattle.cats_cmd.specs.PricedInputs.{IsPriced, JudgesPriced, rounding_lines}
+use Rattle.cats_cmd.specs.PricedInputs.{IsPriced, JudgesPriced, none_rounded, rounding_lines}
 use Rattle.cats_cmd.specs.declared.priced_input.PricedInput.{PricedInput}
+use Rattle.cats_cmd.specs.declared.priced_input.RoundedCount.{RoundedCount}
 use Rattle.cats_cmd.specs.Runs.{FailsInText, WritesText}
 use Rattle.cats_cmd.specs.Reports.{ReportsAll, is_lost, status_if_lost}
 use Rattle.cats_cmd.specs.declared.paths.Progress.{Progress}
@@ -31,11 +32,11 @@ use Rattle.commands.specs.Judgements.{Judgement, IsUnjudged, fault_judged}
 pub record JudgedPath : Type 0 where
   pub path : List ℕ
   pub judgement : Judgement
-  pub rounded : ℕ
+  pub rounded : RoundedCount
   pub lost : Bool
 
 -- what became of the file at a path, with no report lost
-abbrev pub judged_path : List ℕ → Judgement → ℕ → JudgedPath
+abbrev pub judged_path : List ℕ → Judgement → RoundedCount → JudgedPath
 judged_path path judgement rounded = record { path = path; judgement = judgement; rounded = rounded; lost = false }
 
 abbrev pub judgement_at : JudgedPath → List ℕ × Judgement
@@ -109,7 +110,7 @@ abbrev pub without_refusals : Progress → Reporting
 without_refusals progress = record { refusals = λ path fault. []; progress = progress }
 
 -- of the path with this number, among so many: how many prices of its file were rounded, and why it was not judged
-abbrev pub lines_on : Reporting → ℕ → ℕ → List ℕ → ℕ → Option RunFault → List (List ℕ)
+abbrev pub lines_on : Reporting → ℕ → ℕ → List ℕ → RoundedCount → Option RunFault → List (List ℕ)
 lines_on reporting count number path rounded fault = removal_lines reporting.progress number
     ++ rounding_lines path rounded ++ reporting.refusals path fault
     ++ progress_lines reporting.progress number count path
@@ -134,7 +135,7 @@ module _ {E : Type 0} (messages : E → Option (List ℕ)) (reporting : Reportin
     pub between : Watched E
     pub roundings : ReportsAll messages
         (removal_lines reporting.progress number ++ rounding_lines judged.path judged.rounded) old between
-    pub loses : judged.lost ≡ is_lost judged.rounded between
+    pub loses : judged.lost ≡ is_lost judged.rounded.count between
     pub others : ReportsAll messages (reporting.refusals judged.path (fault_judged judged.judgement)
         ++ progress_lines reporting.progress number count judged.path) between new
 
@@ -152,18 +153,18 @@ IsUnopened may_refuse path why = may_refuse path why ⊎ ((why ≡ Other) × (Is
 
 module _ {F : Type 0} (may_open : List ℕ → F → Type 0) (may_refuse : List ℕ → Unopened → Type 0) (remaining : F
     → Option (List ℕ))
-    (options : Option SearchOptions) (prices : Option FinePrices) where
+    (options : Option SearchOptions) (prices : Option PriceRule) where
   -- this became of a stream that was opened at the path
-  pub record JudgesOpened (path : List ℕ) (judgement : Judgement) (rounded : ℕ) : Type 0 where
+  pub record JudgesOpened (path : List ℕ) (judgement : Judgement) (rounded : RoundedCount) : Type 0 where
     pub before : PricedInput F
     pub after : PricedInput F
     pub opened : IsPriced may_open prices path before
     pub judges : JudgesPriced remaining options before after judgement
     pub count : rounded ≡ after.rounded
 
-  abbrev pub JudgesAs : List ℕ → ℕ → Judgement → Type 0
+  abbrev pub JudgesAs : List ℕ → RoundedCount → Judgement → Type 0
   JudgesAs path rounded (IsUnjudged (NotOpened which why)) =
-      (which ≡ Only) × IsUnopened may_refuse path why × (rounded ≡ 0)
+      (which ≡ Only) × IsUnopened may_refuse path why × (rounded ≡ none_rounded)
   JudgesAs path rounded judgement = JudgesOpened path judgement rounded
 
   abbrev pub Judges : JudgedPath → Type 0
@@ -178,7 +179,7 @@ pub record Made : Type 0 where
 
 module _ {F E : Type 0} (may_open : List ℕ → F → Type 0) (may_refuse : List ℕ → Unopened → Type 0)
     (remaining : F → Option (List ℕ)) (messages : E → Option (List ℕ)) (options : Option SearchOptions)
-    (prices : Option FinePrices) (reporting : Reporting) where
+    (prices : Option PriceRule) (reporting : Reporting) where
   -- this became of the files at these paths, which are the first of so many, and it was reported
   pub record JudgesPaths (count : ℕ) (paths : List (List ℕ)) (err err_after : Watched E)
       (judged : List JudgedPath) : Type 0 where
@@ -201,7 +202,7 @@ outcome_of_paths made = Prints (greatest_status made.judged) made.text
 -- `Makes` says which text is made of what became of the files
 module _ {F W E : Type 0} (may_open : List ℕ → F → Type 0) (may_refuse : List ℕ → Unopened → Type 0)
     (remaining : F → Option (List ℕ)) (contents : W → Option (List ℕ)) (messages : E → Option (List ℕ))
-    (options : Option SearchOptions) (prices : Option FinePrices)
+    (options : Option SearchOptions) (prices : Option PriceRule)
     (Makes : List (List ℕ × Judgement) → List ℕ → Type 0) (paths : List (List ℕ)) (reporting : Reporting) where
   pub record MakesOfPaths (err err_after : Watched E) (made : Made) : Type 0 where
     pub judges : JudgesPaths may_open may_refuse remaining messages options prices reporting (length paths) paths err

@@ -11,7 +11,7 @@ use Rattle.requests.specs.Requests.{PlainRequest}
 use Rattle.requests.specs.Tasks.{files_of, is_many}
 use Rattle.requests.specs.declared.task.Task.{Task}
 use Rattle.requests.specs.declared.task.Task.TheVariants.{Round}
-use Rattle.rounding.specs.declared.replacement.FinePrices.{FinePrices}
+use Rattle.rounding.specs.declared.replacement.PriceRule.{PriceRule}
 use Rattle.command_line.specs.Requests.{request_of}
 
 -- whether a request is for `fault`, `duplicates` or `sizes`
@@ -23,7 +23,7 @@ abbrev pub names_many_files : List (List ℕ) → Bool
 names_many_files words = option_map_or is_for_many_files (request_of words) false
 
 -- whether a command on one file or two may report something before it ends, by what becomes of prices
-abbrev pub reports : Task → Option FinePrices → Bool
+abbrev pub reports : Task → Option PriceRule → Bool
 reports Round prices = true
 reports task prices = is_some prices
 

@@ -27,7 +27,8 @@ use Rattle.requests.specs.declared.task.Files.{Files}
 use Rattle.requests.specs.declared.task.Files.TheVariants.{One, Two, Many}
 use Rattle.requests.specs.declared.task.Task.{Task}
 use Rattle.requests.specs.declared.task.Task.TheVariants.{Fault, Round, Duplicates}
-use Rattle.rounding.specs.declared.replacement.FinePrices.{FinePrices}
+use Rattle.rounding.specs.declared.replacement.PriceRule.{PriceRule}
+use Rattle.rounding.specs.Replacements.{price_rule}
 use Rattle.rounding.specs.declared.replacement.FinePrices.TheVariants.{Round as RoundFine}
 use Rattle.cats_cmd.specs.Reports.{Reports, ReportsAll, SendsText, answer_if_lost, is_lost}
 use Rattle.command_line.specs.Requests.{IsNoRequestOf, request_of}
@@ -35,8 +36,8 @@ use Rattle.command_line.specs.declared.request.NoRequest.{NoRequest}
 use Rattle.command_line.specs.declared.request.NoRequest.TheVariants.{Help, WrongUsage, Misused, NoMemory}
 use Rattle.command_line.specs.declared.request.Misuse.{Misuse}
 use Rattle.command_line.specs.declared.request.Misuse.TheVariants.{SignedNumber, MoreThanOneFile, MoreThanTwoFiles}
-use Rattle.command_line.specs.declared.request.Misuse.TheVariants.{BidsTwice, UnboundedTotal, WrongGoods}
-use Rattle.command_line.specs.declared.request.Misuse.TheVariants.{WrongBids, NoFiles, FilesTwice}
+use Rattle.command_line.specs.declared.request.Misuse.TheVariants.{BidsTwice, UnboundedTotal, WrongTimes}
+use Rattle.command_line.specs.declared.request.Misuse.TheVariants.{WrongGoods, WrongBids, NoFiles, FilesTwice}
 use Rattle.cats_cmd.specs.declared.paths.Ending.{Ending}
 use Rattle.cats_cmd.specs.declared.paths.Ending.TheVariants.{Line, Null}
 use Rattle.cats_cmd.specs.declared.paths.Progress.{Progress}
@@ -64,6 +65,7 @@ misuse_text MoreThanTwoFiles =
     codes "error: this command takes two files; 'cats fault', 'cats duplicates' and 'cats sizes' take several" ++ try_help
 misuse_text BidsTwice = codes "error: give bids, or '--bids <LIST>', and not both" ++ try_help
 misuse_text UnboundedTotal = codes "error: '--total-steps <N>' needs '--bound'" ++ try_help
+misuse_text WrongTimes = codes "error: '--times <N>' is a power of ten, from 1 to 1000000000000" ++ try_help
 misuse_text WrongGoods = codes "error: goods are numbers up to 4095 and ranges, as in '0,2-5'" ++ try_help
 misuse_text WrongBids = codes "error: bids are numbers up to 65535 and ranges, as in '0,2-5'" ++ try_help
 misuse_text NoFiles = codes "error: give paths, or '--files0-from <LIST>'" ++ try_help
@@ -104,7 +106,7 @@ module _ {F W E : Type 0} (may_open : List ℕ → F → Type 0) (remaining : F 
     (contents : W → Option (List ℕ)) (messages : E → Option (List ℕ)) where
   -- a run on a stream that was opened at the path, with its prices read so; how many were rounded is reported, or the
   -- status says that this is lost
-  pub record RunsAt (path : List ℕ) (prices : Option FinePrices) (outcome : PlainFile → Outcome)
+  pub record RunsAt (path : List ℕ) (prices : Option PriceRule) (outcome : PlainFile → Outcome)
       (out out_after : Watched W) (err err_after : Watched E) (answer : Result ℕ RunFault) : Type 0 where
     pub before : PricedInput F
     pub after : PricedInput F
@@ -113,7 +115,7 @@ module _ {F W E : Type 0} (may_open : List ℕ → F → Type 0) (remaining : F 
     pub runs : RunsOnFile (PricedGives remaining) (PricedRefuses remaining) contents outcome before after out out_after
         sent
     pub reports : ReportsAll messages (rounding_lines path after.rounded) err err_after
-    pub answers : answer ≡ answer_if_lost (is_lost after.rounded err_after) sent
+    pub answers : answer ≡ answer_if_lost (is_lost after.rounded.count err_after) sent
 
   -- a run on the streams that were opened at the two paths
   pub record RunsAtBoth (first second : List ℕ) (request : PlainRequest) (out out_after : Watched W)
@@ -130,17 +132,17 @@ module _ {F W E : Type 0} (may_open : List ℕ → F → Type 0) (remaining : F 
     pub reports : ReportsAll messages
         (rounding_lines first left_after.rounded ++ rounding_lines second right_after.rounded) err err_after
     pub answers : answer
-        ≡ answer_if_lost (is_lost (max left_after.rounded right_after.rounded) err_after) sent
+        ≡ answer_if_lost (is_lost (max left_after.rounded.count right_after.rounded.count) err_after) sent
 
 module _ {F W E : Type 0} (may_open : List ℕ → F → Type 0) (may_refuse : List ℕ → Unopened → Type 0)
     (remaining : F → Option (List ℕ)) (contents : W → Option (List ℕ)) (messages : E → Option (List ℕ)) where
   -- a rounding of the stream that was opened at the path
-  pub record RoundsAt (path : List ℕ) (fine : FinePrices) (out out_after : Watched W) (err err_after : Watched E)
+  pub record RoundsAt (path : List ℕ) (rule : PriceRule) (out out_after : Watched W) (err err_after : Watched E)
       (answer : Result ℕ RunFault) : Type 0 where
     pub before : Watched F
     pub after : Watched F
     pub opened : IsOpened may_open path before
-    pub runs : Rounds remaining contents messages fine before after out out_after err err_after answer
+    pub runs : Rounds remaining contents messages rule before after out out_after err err_after answer
 
 -- the reason that a command reports, if it reports one
 abbrev pub reason_of : Task → Unopened → Unopened
@@ -204,8 +206,8 @@ module _ {F W E : Type 0} (may_open : List ℕ → F → Type 0) (may_refuse : L
   abbrev pub RunsOnOne : Task → PlainRequest → List ℕ → Watched W → Watched W → Watched E → Watched E
       → Result ℕ RunFault → Type 0
   RunsOnOne Round request path out out_after err err_after answer =
-      RoundsAt may_open may_refuse remaining contents messages path (unwrap_or request.prices RoundFine) out out_after
-      err err_after answer
+      RoundsAt may_open may_refuse remaining contents messages path
+      (unwrap_or request.prices (price_rule RoundFine 0)) out out_after err err_after answer
   RunsOnOne task request path out out_after err err_after answer =
       RunsOfCommand request path out out_after err err_after answer
 

@@ -9,7 +9,7 @@ use Rattle.canon.specs.declared.which.Which.{Which}
 use Rattle.canon.specs.declared.which.Which.TheVariants.{Only}
 use Rattle.rounding.specs.Answers.{WantsMemoryToRound}
 use Rattle.rounding.specs.Texts.{rounded_prices, rounded_text}
-use Rattle.rounding.specs.declared.replacement.FinePrices.{FinePrices}
+use Rattle.rounding.specs.declared.replacement.PriceRule.{PriceRule}
 use Rattle.commands.specs.Round.{rounded_line}
 use Rattle.cats_cmd.specs.Inputs.{ReadsAll, StopsReading, WantsMemoryForBytes}
 use Rattle.cats_cmd.specs.PricedInputs.{HasRoundedFault}
@@ -20,35 +20,35 @@ use Rattle.commands.specs.declared.faults.RunFault.{RunFault}
 use Rattle.commands.specs.declared.faults.RunFault.TheVariants.{Refused, Sent}
 
 -- the outcome of `cats round`, with status 5 if the report on prices is lost
-abbrev pub round_outcome : FinePrices → Bool → List ℕ → Outcome
-round_outcome fine lost bytes = Prints (status_if_lost lost 0) (rounded_text fine bytes)
+abbrev pub round_outcome : PriceRule → Bool → List ℕ → Outcome
+round_outcome rule lost bytes = Prints (status_if_lost lost 0) (rounded_text rule bytes)
 
 -- ---- the run
 
 module _ {R W E : Type 0} (remaining : R → Option (List ℕ)) (contents : W → Option (List ℕ))
-    (messages : E → Option (List ℕ)) (fine : FinePrices) where
+    (messages : E → Option (List ℕ)) (rule : PriceRule) where
   -- the bytes that were read, with their prices rounded, spell a file
   pub record ReadsRoundable (old new : Watched R) (bytes : List ℕ) : Type 0 where
     pub all : ReadsAll remaining old new bytes
     pub file : PlainFile
-    pub spells : Spells (rounded_text fine bytes) file
+    pub spells : Spells (rounded_text rule bytes) file
 
   -- and the prices whose values changed were reported
   pub record ReadsAndReports (old new : Watched R) (err err_after : Watched E) (bytes : List ℕ) : Type 0 where
     pub reads : ReadsRoundable old new bytes
-    pub reports : ReportsAll messages (map rounded_line (rounded_prices fine bytes)) err err_after
+    pub reports : ReportsAll messages (map rounded_line (rounded_prices rule bytes)) err err_after
 
   -- memory is refused to round the bytes that were read: a bid line has begun, or the rounded text spells a file
   pub record WantsMemoryForRounding (old new : Watched R) : Type 0 where
     pub bytes : List ℕ
     pub all : ReadsAll remaining old new bytes
-    pub wants : WantsMemoryToRound fine bytes
+    pub wants : WantsMemoryToRound rule bytes
 
   -- Why the file was refused: the stream failed or was too long, or the rounded text has a fault, or memory was
   -- refused, to the bytes as they came or to their rounding.
   abbrev pub IsUnrounded : Watched R → Watched R → CanonFault → Type 0
   IsUnrounded old new (Read fault) =
-      StopsReading remaining old new fault.line fault.kind ⊎ HasRoundedFault remaining fine old new fault
+      StopsReading remaining old new fault.line fault.kind ⊎ HasRoundedFault remaining rule old new fault
   IsUnrounded old new (StepLimit goods) = ⊥
   IsUnrounded old new Memory = WantsMemoryForBytes remaining old new ⊎ WantsMemoryForRounding old new
 
@@ -63,7 +63,7 @@ module _ {R W E : Type 0} (remaining : R → Option (List ℕ)) (contents : W �
   -- the text was written in part, as the output failed, and nothing was reported
   pub record FailsInRounding (old new : Watched R) (out out_after : Watched W) (err err_after : Watched E)
       (written : ℕ) : Type 0 where
-    pub fails : FailsInText contents (ReadsRoundable old new) (round_outcome fine false) out out_after written
+    pub fails : FailsInText contents (ReadsRoundable old new) (round_outcome rule false) out out_after written
     pub quiet : err_after ≡ err
 
   -- the contract of the run, from its input, its output and standard error before to those after it
@@ -71,7 +71,7 @@ module _ {R W E : Type 0} (remaining : R → Option (List ℕ)) (contents : W �
       → Type 0
   Rounds old new out out_after err err_after (Ok status) =
       WritesText contents (ReadsAndReports old new err err_after)
-      (λ bytes. round_outcome fine (is_lost (length (rounded_prices fine bytes)) err_after) bytes) out out_after status
+      (λ bytes. round_outcome rule (is_lost (length (rounded_prices rule bytes)) err_after) bytes) out out_after status
   Rounds old new out out_after err err_after (Err (Refused which fault)) =
       RefusesRounding old new out out_after err err_after which fault
   Rounds old new out out_after err err_after (Err (Sent fault)) =

@@ -28,9 +28,15 @@ use commands::faults::{RunFault, Unopened};
 use commands::statuses::WRONG_USAGE;
 use requests::request::Request;
 use requests::task::{Files, Task, files_of, gives_reason};
-use rounding::replacement::FinePrices;
+use rounding::replacement::{FinePrices, PriceRule};
 use std::alloc::AllocGlobal;
 use std::io::Write;
+
+/// What becomes of each price by `cats round` without an option.
+const ROUNDED: PriceRule = PriceRule {
+    fine: FinePrices::Round,
+    tens: 0,
+};
 
 /// `err` is for requests that report faults and go on, or that report how many prices were rounded.
 pub(crate) fn carry_out<S: Source + AllocGlobal, W: Write, E: Write>(
@@ -79,8 +85,8 @@ fn carry_out_on_one<S: Source + AllocGlobal, W: Write, E: Write>(
     match request.task {
         Task::Round => {
             let mut input = open(source, request.task, file, Which::Only)?;
-            let fine = request.prices.unwrap_or(FinePrices::Round);
-            run_round(source.alloc(), &mut input, fine, out, err)
+            let rule = request.prices.unwrap_or(ROUNDED);
+            run_round(source.alloc(), &mut input, rule, out, err)
         }
         _ => carry_out_command(source, request, file, out, err),
     }
@@ -134,7 +140,7 @@ fn run_at<S: Source + AllocGlobal, W: Write, E: Write>(
     let answer = answer_on_file(source.alloc(), request, bids, &mut input);
     let sent = send_answer(source.alloc(), out, answer, Which::Only);
     report_rounded(file.as_bytes(), input.rounded(), err);
-    let lost = is_lost(input.rounded(), err);
+    let lost = is_lost(input.rounded().count, err);
     answer_if_lost(lost, sent)
 }
 
@@ -161,7 +167,7 @@ fn carry_out_on_pair<S: Source + AllocGlobal, W: Write, E: Write>(
     let sent = send_answer(source.alloc(), out, answer, Which::Both);
     report_rounded(files.0.as_bytes(), left.rounded(), err);
     report_rounded(files.1.as_bytes(), right.rounded(), err);
-    let lost = is_lost(left.rounded().max(right.rounded()), err);
+    let lost = is_lost(left.rounded().count.max(right.rounded().count), err);
     answer_if_lost(lost, sent)
 }
 

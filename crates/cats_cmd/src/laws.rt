@@ -1,11 +1,12 @@
 //! Laws of what the runs read and print.
 
 ghost use Rattle.std.specs.List.{All, flat_map};
-ghost use Rattle.std.specs.Prelude.{◌≡◌, ◌==◌, ℕ, Bool, List, None, Ok, map, false};
+ghost use Rattle.std.specs.Prelude.{◌≡◌, ◌==◌, ◌*◌, ℕ, Bool, List, None, Ok, map, false};
 ghost use Rattle.bid_file.specs.Files.{PlainFile};
 ghost use Rattle.cats_text.specs.FaultPlaces.{PlainPlace};
 ghost use Rattle.requests.specs.Requests.{PlainRequest};
 ghost use Rattle.analysis.specs.AllocationVerdicts.{allocation_text};
+ghost use Rattle.analysis.specs.Allocations.{greatest_revenue, revenue};
 ghost use Rattle.analysis.specs.Differences.{PlainDifferences};
 ghost use Rattle.analysis.specs.Reasons.{PlainReason};
 ghost use Rattle.analysis.specs.declared.winners.allocation_verdict.AllocationVerdict.{AllocationVerdict};
@@ -26,12 +27,15 @@ ghost use Rattle.cats_cmd.specs.OutputPaths.{IsPath, groups_in, paths_in_table};
 ghost use Rattle.cats_cmd.specs.PathLists.{listed, paths_in};
 ghost use Rattle.cats_cmd.specs.Paths.{JudgedPath, progress_line, refusal_line, report_lines};
 ghost use Rattle.cats_cmd.specs.Paths.{without_refusals};
-ghost use Rattle.cats_cmd.specs.PricedInputs.{PricedGives, PricedRefuses, rounding_lines};
+ghost use Rattle.cats_cmd.specs.PricedInputs.{PricedGives, PricedRefuses, none_rounded, rounding_lines};
 ghost use Rattle.cats_cmd.specs.declared.priced_input.PricedInput.{PricedInput};
 ghost use Rattle.cats_cmd.specs.SizesTables.{MakesTable};
 ghost use Rattle.cats_cmd.specs.declared.paths.Ending.{Ending};
 ghost use Rattle.cats_cmd.specs.declared.paths.Ending.TheVariants.{Line};
 ghost use Rattle.cats_cmd.specs.declared.paths.Progress.TheVariants.{Silent};
+ghost use Rattle.rounding.specs.Multiplied.{times_file};
+ghost use Rattle.valuation.specs.Auctions.{or_atoms_of, xor_atoms_of};
+ghost use Rattle.valuation.specs.Values.{or_value, xor_value};
 ghost use Rattle.valuation.specs.declared.search.options.SearchOptions.{SearchOptions};
 ghost use Rattle.commands.specs.FaultLines.{line_of_fault};
 ghost use Rattle.commands.specs.Judgements.{Judgement, JudgesInput};
@@ -114,7 +118,19 @@ pub fn tables_report_roundings()
 /// No price of a file is rounded whose prices are read as they are written.
 pub fn written_prices_are_not_rounded<R: Read>()
     ensures { (options : SearchOptions) (before after : PricedInput R) (judgement : Judgement)
-        → before.fine ≡ None
+        → before.rule ≡ None
         → JudgesInput (PricedGives R.remaining) (PricedRefuses R.remaining) options before after judgement
-        → after.rounded ≡ 0 }
+        → after.rounded ≡ none_rounded }
+{}
+
+/// In a file whose prices are multiplied, as `cats round --times` prints it of a bid file, what is offered for a bundle and
+/// what bids bring is so many times as much.
+pub fn values_are_multiplied()
+    ensures or { (n : ℕ) (f : PlainFile) (bundle : List ℕ)
+        → or_value (or_atoms_of (times_file n f).bids) bundle ≡ n * or_value (or_atoms_of f.bids) bundle }
+    ensures xor { (n : ℕ) (f : PlainFile) (d : ℕ) (bundle : List ℕ)
+        → xor_value (xor_atoms_of (times_file n f).bids d) bundle ≡ n * xor_value (xor_atoms_of f.bids d) bundle }
+    ensures revenue { (n : ℕ) (f : PlainFile) (winners : List ℕ)
+        → revenue (times_file n f) winners ≡ n * revenue f winners }
+    ensures greatest { (n : ℕ) (f : PlainFile) → greatest_revenue (times_file n f) ≡ n * greatest_revenue f }
 {}

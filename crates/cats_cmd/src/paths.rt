@@ -23,7 +23,7 @@ ghost use Rattle.commands.specs.declared.faults.RunFault.{RunFault};
 ghost use Rattle.valuation.specs.declared.search.options.SearchOptions.{SearchOptions};
 
 use crate::lines::{LineBuffer, report};
-use crate::priced_input::{PricedInput, report_rounded};
+use crate::priced_input::{NONE_ROUNDED, PricedInput, RoundedCount, report_rounded};
 use crate::run::{is_lost, send_text, status_if_lost};
 use crate::source::{Source, Way};
 use canon::Which;
@@ -31,7 +31,7 @@ use cats_text::Watched;
 use commands::faults::{RunFault, Unopened};
 use commands::printed::{fault_pieces, status};
 use commands::statuses::DONE;
-use rounding::replacement::FinePrices;
+use rounding::replacement::PriceRule;
 use std::alloc::{AllocError, AllocGlobal, Global};
 use std::io::{Read, Write};
 use valuation::search::SearchOptions;
@@ -43,8 +43,8 @@ pub struct ManyFiles {
     pub options: SearchOptions,
     pub progress: Progress,
     pub ending: Ending,
-    /// What becomes of fine prices, if prices are rounded.
-    pub prices: Option<FinePrices>,
+    /// What becomes of each price, if prices are rounded.
+    pub prices: Option<PriceRule>,
     /// Whether `duplicates` prints the files too that are the only ones of their auction.
     pub all: bool,
     /// How each file is opened.
@@ -204,7 +204,7 @@ fn judge_path<C: Collection, S: Source + AllocGlobal, E: Write>(
     let (fault, rounded) = judge(source, collection, turn.path, many)?;
     remove_progress(many.progress, turn.number, err);
     report_rounded(turn.path, rounded, err);
-    let lost = is_lost(rounded, err);
+    let lost = is_lost(rounded.count, err);
     C::report_refusal(turn.path, &fault, err);
     report_progress(many.progress, turn, err);
     Ok(status_if(lost, &fault))
@@ -226,7 +226,7 @@ fn judge<C: Collection, S: Source + AllocGlobal>(
     collection: &mut C,
     path: &[u8],
     many: ManyFiles,
-) -> Result<(Option<RunFault>, usize), AllocError>
+) -> Result<(Option<RunFault>, RoundedCount), AllocError>
     ensures adds { IfOk result (λ judged. AddsFile (C.has many.ending) (S.may_open (S.content_of source.old))
         (S.may_refuse (S.content_of source.old)) S.Stream.remaining (C.searched many.options) many.prices
         path.now collection.old collection.new judged.1 judged.0) }
@@ -240,7 +240,7 @@ fn judge<C: Collection, S: Source + AllocGlobal>(
         }
         Err(why) => {
             collection.add_unopened(source.alloc(), path, why, many.ending)?;
-            Ok((Some(RunFault::NotOpened(Which::Only, why)), 0))
+            Ok((Some(RunFault::NotOpened(Which::Only, why)), NONE_ROUNDED))
         }
     }
 }

@@ -3,7 +3,10 @@
 ghost use Rattle.std.specs.Prelude.{◌≡◌, false};
 ghost use Rattle.cats_text.specs.Streams.{has_ended, has_failed};
 ghost use Rattle.cats_cmd.specs.Internal.Roundings.{ReadsRounded, judged_of, plain_texts};
-ghost use Rattle.cats_cmd.specs.PricedInputs.{AnswersTexts, IsReady, rounded_words, rounding_line, rounding_lines};
+ghost use Rattle.cats_cmd.specs.Internal.Gathering.{Gathers};
+ghost use Rattle.cats_cmd.specs.PricedInputs.{AnswersTexts, IsReady, none_rounded, rounded_count, rounded_words};
+ghost use Rattle.cats_cmd.specs.PricedInputs.{rounding_line, rounding_lines, zeroed_words};
+ghost use Rattle.rounding.specs.Views.{plain_changes};
 ghost use Rattle.cats_cmd.specs.Reports.{Reports, ReportsAll};
 
 use crate::bytes::read_bytes;
@@ -12,8 +15,8 @@ use bid_file::PackedFile;
 use cats_text::packed::{Header, check, read_packed};
 use cats_text::{Kind, ReadFault, Watched};
 use commands::Input;
-use rounding::replacement::FinePrices;
-use rounding::text::round_prices;
+use rounding::replacement::PriceRule;
+use rounding::text::{RoundedPrice, round_prices};
 use std::alloc::{AllocError, Global};
 use std::io::{Read, Write};
 
@@ -21,11 +24,24 @@ use std::io::{Read, Write};
 #[derive(Drop)]
 pub(crate) struct PricedInput<R> {
     stream: Watched<R>,
-    /// What becomes of fine prices, if prices are rounded.
-    fine: Option<FinePrices>,
-    /// How many prices of the file that was given have another value than is written.
-    rounded: usize,
+    /// What becomes of each price, if prices are rounded.
+    rule: Option<PriceRule>,
+    /// How many prices of the file that was given were rounded.
+    rounded: RoundedCount,
 }
+
+/// How many prices have another value than is written.
+#[derive(Clone, Copy)]
+pub struct RoundedCount {
+    pub count: usize,
+    /// How many of them are 0 now.
+    pub zeroed: usize,
+}
+
+pub(crate) const NONE_ROUNDED: RoundedCount = RoundedCount {
+    count: 0,
+    zeroed: 0,
+};
 
 impl<R: Read> Input for PricedInput<R> {
     ghost use Rattle.cats_cmd.specs.PricedInputs.{IsReady, PricedGives, PricedRefuses};
@@ -37,20 +53,20 @@ impl<R: Read> Input for PricedInput<R> {
     ghost refuses = { PricedRefuses R.remaining };
 
     fn read_file(&mut self, alloc: Global) -> Result<PackedFile, ReadFault> {
-        let Some(fine) = self.fine else {
+        let Some(rule) = self.rule else {
             return self.stream.read_file(alloc);
         };
-        let (text, rounded) = read_rounded(alloc, &mut self.stream, fine)?;
+        let (text, rounded) = read_rounded(alloc, &mut self.stream, rule)?;
         let file = read_packed(alloc, text.as_slice())?;
         self.rounded = rounded;
         Ok(file)
     }
 
     fn read_sizes(&mut self, alloc: Global) -> Result<Header, ReadFault> {
-        let Some(fine) = self.fine else {
+        let Some(rule) = self.rule else {
             return self.stream.read_sizes(alloc);
         };
-        let (text, rounded) = read_rounded(alloc, &mut self.stream, fine)?;
+        let (text, rounded) = read_rounded(alloc, &mut self.stream, rule)?;
         let header = check(alloc, text.as_slice())?;
         self.rounded = rounded;
         Ok(header)
@@ -59,20 +75,20 @@ impl<R: Read> Input for PricedInput<R> {
 
 impl<R> PricedInput<R> {
     /// A stream of which nothing was read.
-    pub(crate) fn new(stream: Watched<R>, fine: Option<FinePrices>) -> PricedInput<R>
+    pub(crate) fn new(stream: Watched<R>, rule: Option<PriceRule>) -> PricedInput<R>
         ensures stream { result.stream ≡ stream }
-        ensures fine { result.fine ≡ fine }
-        ensures unread { result.rounded ≡ 0 }
+        ensures rule { result.rule ≡ rule }
+        ensures unread { result.rounded ≡ none_rounded }
     {
         PricedInput {
             stream,
-            fine,
-            rounded: 0,
+            rule,
+            rounded: NONE_ROUNDED,
         }
     }
 
     /// How many prices of the file that was given were rounded.
-    pub(crate) fn rounded(&self) -> usize
+    pub(crate) fn rounded(&self) -> RoundedCount
         ensures { result ≡ self.now.rounded }
     {
         self.rounded
@@ -84,16 +100,16 @@ impl<R: Read> PricedInput<R> {
     pub(crate) fn read_texts(&mut self, alloc: Global) -> Result<Texts, ReadFault>
         requires { IsReady self.old }
         ensures texts { AnswersTexts R.remaining self.old self.new (plain_texts result) }
-        ensures rounded { self.new.rounded ≡ 0 }
+        ensures rounded { self.new.rounded ≡ none_rounded }
     {
         let bytes = read_bytes(alloc, &mut self.stream)?;
-        let Some(fine) = self.fine else {
+        let Some(rule) = self.rule else {
             return Ok(Texts {
                 bytes,
                 rounded: None,
             });
         };
-        match round_prices(alloc, bytes.as_slice(), fine) {
+        match round_prices(alloc, bytes.as_slice(), rule) {
             Ok(rounded) => Ok(Texts {
                 bytes,
                 rounded: Some(rounded.text),
@@ -128,41 +144,73 @@ impl Texts {
     }
 }
 
-/// Reads all bytes of a stream, and rounds their prices. It answers how many have another value now.
+/// Reads all bytes of a stream, and rounds their prices. It answers how many were rounded.
 fn read_rounded<R: Read>(
     alloc: Global,
     stream: &mut Watched<R>,
-    fine: FinePrices,
-) -> Result<(Vec<u8>, usize), ReadFault>
+    rule: PriceRule,
+) -> Result<(Vec<u8>, RoundedCount), ReadFault>
     requires works { has_failed stream.old ≡ false }
     requires fresh { has_ended stream.old ≡ false }
-    ensures { ReadsRounded R.remaining fine stream.old stream.new result }
+    ensures { ReadsRounded R.remaining rule stream.old stream.new result }
 {
     let bytes = read_bytes(alloc, stream)?;
-    match round_prices(alloc, bytes.as_slice(), fine) {
-        Ok(rounded) => Ok((rounded.text, rounded.prices.len())),
+    match round_prices(alloc, bytes.as_slice(), rule) {
+        Ok(rounded) => {
+            let count = rounded_count(rounded.prices.as_slice());
+            Ok((rounded.text, count))
+        }
         Err(AllocError) => Err(ReadFault::whole(Kind::Memory)),
     }
 }
 
-/// Reports how many prices of the file at this path were rounded, if any was.
-pub(crate) fn report_rounded<E: Write>(path: &[u8], count: usize, err: &mut Watched<E>)
-    ensures { ReportsAll E.contents (rounding_lines path.now count) err.old err.new }
+/// How many prices were rounded, and how many of them are 0 now.
+fn rounded_count(prices: &[RoundedPrice]) -> RoundedCount
+    ensures { result ≡ rounded_count (plain_changes prices.now) }
 {
-    if count > 0 {
-        report_rounded_count(path, count, err);
+    let mut zeroed = 0;
+    for price in prices {
+        if price.price == 0 {
+            zeroed += 1;
+        }
+    }
+    RoundedCount {
+        count: prices.len(),
+        zeroed,
     }
 }
 
-fn report_rounded_count<E: Write>(path: &[u8], count: usize, err: &mut Watched<E>)
-    ensures { Reports E.contents (rounding_line path.now count) err.old err.new }
+/// Reports how many prices of the file at this path were rounded, if any was.
+pub(crate) fn report_rounded<E: Write>(path: &[u8], rounded: RoundedCount, err: &mut Watched<E>)
+    ensures { ReportsAll E.contents (rounding_lines path.now rounded) err.old err.new }
+{
+    if rounded.count > 0 {
+        report_rounded_count(path, rounded, err);
+    }
+}
+
+fn report_rounded_count<E: Write>(path: &[u8], rounded: RoundedCount, err: &mut Watched<E>)
+    ensures { Reports E.contents (rounding_line path.now rounded) err.old err.new }
 {
     let mut line = LineBuffer::new();
     line.push_escaped(err, path);
     line.push(err, b": ");
-    line.push_number(err, count as u64);
-    line.push(err, rounded_words(count).as_bytes());
+    line.push_number(err, rounded.count as u64);
+    line.push(err, rounded_words(rounded.count).as_bytes());
+    push_zeroed(&mut line, err, rounded.zeroed);
+    line.push(err, b"\n");
     line.send(err);
+}
+
+/// How many of them are 0 now, if any.
+fn push_zeroed<E: Write>(line: &mut LineBuffer, err: &mut Watched<E>, zeroed: usize)
+    ensures { Gathers E.contents (zeroed_words zeroed) line.old line.new err.old err.new }
+{
+    if zeroed > 0 {
+        line.push(err, b", ");
+        line.push_number(err, zeroed as u64);
+        line.push(err, b" to 0");
+    }
 }
 
 /// What is behind the number.
@@ -170,8 +218,8 @@ fn rounded_words(count: usize) -> &'static str
     ensures { result.now ≡ rounded_words count }
 {
     if count == 1 {
-        " price rounded\n"
+        " price rounded"
     } else {
-        " prices rounded\n"
+        " prices rounded"
     }
 }

@@ -16,7 +16,7 @@ use cats_text::Watched;
 use commands::faults::RunFault;
 use commands::round::price_pieces;
 use commands::statuses::DONE;
-use rounding::replacement::FinePrices;
+use rounding::replacement::PriceRule;
 use rounding::text::{RoundedPrice, RoundedText, round};
 use std::alloc::Global;
 use std::io::{Read, Write};
@@ -29,20 +29,20 @@ use std::io::{Read, Write};
 pub(crate) fn run_round<R: Read, W: Write, E: Write>(
     alloc: Global,
     input: &mut Watched<R>,
-    fine: FinePrices,
+    rule: PriceRule,
     out: &mut Watched<W>,
     err: &mut Watched<E>,
 ) -> Result<u8, RunFault>
     requires input_works { has_failed input.old ≡ false }
     requires input_fresh { has_ended input.old ≡ false }
     requires out_works { has_failed out.old ≡ false }
-    ensures { Rounds R.remaining W.contents E.contents fine input.old input.new out.old out.new err.old err.new result }
+    ensures { Rounds R.remaining W.contents E.contents rule input.old input.new out.old out.new err.old err.new result }
 {
     let text = match read_bytes(alloc, input) {
         Ok(text) => text,
         Err(fault) => return Err(RunFault::from(CanonFault::from(fault))),
     };
-    let rounded = round_bytes(alloc, text.as_slice(), fine)?;
+    let rounded = round_bytes(alloc, text.as_slice(), rule)?;
     let status = send_text(out, DONE, rounded.text.as_slice())?;
     report_prices(rounded.prices.as_slice(), err);
     let lost = is_lost(rounded.prices.len(), err);
@@ -50,10 +50,10 @@ pub(crate) fn run_round<R: Read, W: Write, E: Write>(
 }
 
 /// The text with its prices rounded. If memory is refused to the rounding, the run answers that memory was refused.
-fn round_bytes(alloc: Global, text: &[u8], fine: FinePrices) -> Result<RoundedText, CanonFault>
-    ensures { RoundsText fine text.now result }
+fn round_bytes(alloc: Global, text: &[u8], rule: PriceRule) -> Result<RoundedText, CanonFault>
+    ensures { RoundsText rule text.now result }
 {
-    match round(alloc, text, fine) {
+    match round(alloc, text, rule) {
         Ok(rounded) => Ok(rounded),
         Err(fault) => Err(CanonFault::from(fault)),
     }

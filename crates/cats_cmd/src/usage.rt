@@ -67,6 +67,9 @@ pub(crate) fn misuse_text(misuse: Misuse) -> &'static str
         Misuse::UnboundedTotal => {
             "error: '--total-steps <N>' needs '--bound'\n\nFor more information, try '--help'.\n"
         }
+        Misuse::WrongTimes => {
+            "error: '--times <N>' is a power of ten, from 1 to 1000000000000\n\nFor more information, try '--help'.\n"
+        }
         Misuse::WrongGoods => {
             "error: goods are numbers up to 4095 and ranges, as in '0,2-5'\n\nFor more information, try '--help'.\n"
         }

@@ -21,7 +21,10 @@ ghost use Rattle.cats_cmd.specs.Paths.{with_refusals, without_refusals};
 ghost use Rattle.commands.specs.Sizes.{counts_of, sizes_of};
 ghost use Rattle.cats_cmd.specs.SizesTables.{MakesTable, row};
 ghost use Rattle.cats_cmd.specs.Rounding.{round_outcome};
-ghost use Rattle.cats_cmd.specs.PricedInputs.{PricedGives, PricedRefuses, rounding_lines};
+ghost use Rattle.cats_cmd.specs.PricedInputs.{PricedGives, PricedRefuses, counted, none_rounded, rounded_count};
+ghost use Rattle.cats_cmd.specs.PricedInputs.{rounding_lines};
+ghost use Rattle.rounding.specs.Texts.{rounded_prices};
+ghost use Rattle.rounding.specs.Replacements.{price_rule};
 ghost use Rattle.rounding.specs.declared.replacement.FinePrices.TheVariants.{Refuse, Round};
 ghost use Rattle.cats_cmd.specs.Runs.{SendsMadeAs};
 ghost use Rattle.cats_cmd.specs.Reports.{Reports, answer_if_lost, is_lost};
@@ -37,33 +40,33 @@ ghost use Rattle.commands.specs.Judgements.{IsJudged, IsHeavy, IsUnjudged};
 /// not judged, and, with progress, how many were read. On a terminal the line of progress is taken away before anything else
 /// is printed. Of 250 files that is reported after the hundredth, the two hundredth and the last.
 pub fn paths_reported()
-    ensures reason { report_lines (with_refusals Silent) 2 (judged_path (codes "a") (IsUnjudged (NotOpened Only NoSuchFile)) 0 ∷
-        judged_path (codes "b") (IsJudged larger_bid) 0 ∷ [])
+    ensures reason { report_lines (with_refusals Silent) 2 (judged_path (codes "a") (IsUnjudged (NotOpened Only NoSuchFile)) none_rounded ∷
+        judged_path (codes "b") (IsJudged larger_bid) none_rounded ∷ [])
         ≡ codes "a: cannot open: no such file\n" ∷ [] }
-    ensures progress { report_lines (with_refusals Lines) 2 (judged_path (codes "a") (IsUnjudged (NotOpened Only NoSuchFile)) 0 ∷
-        judged_path (codes "b") (IsJudged larger_bid) 0 ∷ [])
+    ensures progress { report_lines (with_refusals Lines) 2 (judged_path (codes "a") (IsUnjudged (NotOpened Only NoSuchFile)) none_rounded ∷
+        judged_path (codes "b") (IsJudged larger_bid) none_rounded ∷ [])
         ≡ codes "a: cannot open: no such file\n" ∷ codes "2 of 2 b\n" ∷ [] }
     ensures rounded { (goods : Vec ℕ Global) → goods.items ≡ 0 ∷ 1 ∷ 2 ∷ []
         → report_lines (with_refusals Lines) 2
-        (judged_path (codes "a") (IsHeavy larger_bid (record { number = 2; goods = goods; steps = 1000000; total = None })) 1 ∷
-        judged_path (codes "b") (IsJudged larger_bid) 1288 ∷ [])
+        (judged_path (codes "a") (IsHeavy larger_bid (record { number = 2; goods = goods; steps = 1000000; total = None })) (counted 1 0) ∷
+        judged_path (codes "b") (IsJudged larger_bid) (counted 1288 0) ∷ [])
         ≡ codes "a: 1 price rounded\n" ∷ codes "a: step limit of 1000000 at bid 2: 0,1,2\n" ∷ codes "b: 1288 prices rounded\n"
         ∷ codes "2 of 2 b\n" ∷ [] }
     ensures counted { map (λ number. progress_lines Lines number 250 (codes "a")) (1 ∷ 99 ∷ 100 ∷ 200 ∷ 249 ∷ 250 ∷ [])
         ≡ [] ∷ [] ∷ (codes "100 of 250 a\n" ∷ []) ∷ (codes "200 of 250 a\n" ∷ []) ∷ []
         ∷ (codes "250 of 250 a\n" ∷ []) ∷ [] }
-    ensures terminal { report_lines (with_refusals Terminal) 2 (judged_path (codes "a") (IsJudged larger_bid) 0 ∷
-        judged_path (codes "b") (IsUnjudged (NotOpened Only NoSuchFile)) 0 ∷ [])
+    ensures terminal { report_lines (with_refusals Terminal) 2 (judged_path (codes "a") (IsJudged larger_bid) none_rounded ∷
+        judged_path (codes "b") (IsUnjudged (NotOpened Only NoSuchFile)) none_rounded ∷ [])
         ≡ codes "1 of 2\n" ∷ (27 ∷ 91 ∷ 65 ∷ 27 ∷ 91 ∷ 75 ∷ []) ∷ codes "b: cannot open: no such file\n" ∷ codes "2 of 2\n" ∷ [] }
-    ensures status { greatest_status (judged_path (codes "a") (IsUnjudged (NotOpened Only NoSuchFile)) 0 ∷
-        judged_path (codes "b") (IsJudged larger_bid) 0 ∷ []) ≡ 5 }
+    ensures status { greatest_status (judged_path (codes "a") (IsUnjudged (NotOpened Only NoSuchFile)) none_rounded ∷
+        judged_path (codes "b") (IsJudged larger_bid) none_rounded ∷ []) ≡ 5 }
     ensures lost { (goods : Vec ℕ Global) → map status_of_path (
-        record { path = codes "a"; judgement = IsJudged larger_bid; rounded = 1; lost = true } ∷
-        record { path = codes "b"; judgement = IsJudged larger_bid; rounded = 1; lost = false } ∷
+        record { path = codes "a"; judgement = IsJudged larger_bid; rounded = counted 1 0; lost = true } ∷
+        record { path = codes "b"; judgement = IsJudged larger_bid; rounded = counted 1 0; lost = false } ∷
         record {
           path = codes "c";
           judgement = IsHeavy larger_bid (record { number = 2; goods = goods; steps = 1; total = None });
-          rounded = 1;
+          rounded = counted 1 0;
           lost = true;
         } ∷ []) ≡ 5 ∷ 0 ∷ 3 ∷ [] }
     ensures judged { judged_paths ((codes "a", IsUnjudged (NotOpened Only NoSuchFile)) ∷ (codes "b", IsJudged larger_bid) ∷ [])
@@ -133,13 +136,13 @@ pub fn table_rows()
         codes "\t\t\t\t\t\t\t\tcannot open: no such file\ta\n" ∷ codes "\t\t\t\t\t\t\t\tcannot open\ta\n"
         ∷ codes "\t\t\t\t\t\t\t\tline 7: TwoDummies\ta\n" ∷ codes "\t\t\t\t\t\t\t\twant of memory\ta\n" ∷ [] }
     ensures reported { report_lines (without_refusals Lines) 2
-        (judged_path (codes "a") (IsUnjudged (NotOpened Only NoSuchFile)) 0 ∷ judged_path (codes "b") (IsJudged larger_bid) 2 ∷ [])
+        (judged_path (codes "a") (IsUnjudged (NotOpened Only NoSuchFile)) none_rounded ∷ judged_path (codes "b") (IsJudged larger_bid) (counted 2 0) ∷ [])
         ≡ codes "b: 2 prices rounded\n" ∷ codes "2 of 2 b\n" ∷ [] }
 {}
 
 /// What `cats round` makes of bytes.
 pub fn rounded_texts()
-    ensures { map (λ lost. round_outcome Round lost (codes "goods 1\nbids 1\ndummy 0\n0 0.0123456 0 #\n")) (false ∷ true ∷ [])
+    ensures { map (λ lost. round_outcome (price_rule Round 0) lost (codes "goods 1\nbids 1\ndummy 0\n0 0.0123456 0 #\n")) (false ∷ true ∷ [])
         ≡ Prints 0 (codes "goods 1\nbids 1\ndummy 0\n0 0.012346 0 #\n") ∷
         Prints 5 (codes "goods 1\nbids 1\ndummy 0\n0 0.012346 0 #\n") ∷ [] }
 {}
@@ -157,36 +160,41 @@ pub fn reports_lost()
 /// Standard error fails in the line on a file's price. Then that report is lost, and the line on progress is not sent.
 pub fn report_of_path_lost()
     ensures lost { ReportsFrom known (with_refusals Lines) 1 1
-        (record { path = codes "a"; judgement = IsJudged larger_bid; rounded = 1; lost = true } ∷ [])
+        (record { path = codes "a"; judgement = IsJudged larger_bid; rounded = counted 1 0; lost = true } ∷ [])
         (watched [] false false) (watched (codes "a: 1") true false) }
     ensures kept { ReportsFrom known (with_refusals Lines) 1 1
-        (record { path = codes "a"; judgement = IsJudged larger_bid; rounded = 1; lost = false } ∷ [])
+        (record { path = codes "a"; judgement = IsJudged larger_bid; rounded = counted 1 0; lost = false } ∷ [])
         (watched [] false false) (watched (codes "a: 1") true false) → ⊥ }
     ensures later { ReportsFrom known (with_refusals Lines) 1 1
-        (record { path = codes "a"; judgement = IsJudged larger_bid; rounded = 1; lost = false } ∷ [])
+        (record { path = codes "a"; judgement = IsJudged larger_bid; rounded = counted 1 0; lost = false } ∷ [])
         (watched [] false false) (watched (codes "a: 1 price rounded\n1 of") true false) }
 {}
 
-/// What is reported of a file of which no price was rounded, one, and more.
+/// What is reported of a file of which no price was rounded, one, and more, and some to 0. A price that is written as 0 is
+/// none of them.
 pub fn roundings_reported()
-    ensures { map (rounding_lines (codes "a\\b")) (0 ∷ 1 ∷ 1288 ∷ []) ≡
-        [] ∷ (codes "a\\\\b: 1 price rounded\n" ∷ []) ∷ (codes "a\\\\b: 1288 prices rounded\n" ∷ []) ∷ [] }
+    ensures counted { rounded_count (rounded_prices (price_rule Round 0)
+        (codes "goods 1\nbids 4\ndummy 0\n0 1e-7 0 #\n1 0.0123456 0 #\n2 0 0 #\n3 0e5 0 #\n")) ≡ counted 2 1 }
+    ensures lines { map (rounding_lines (codes "a\\b")) (none_rounded ∷ counted 1 0 ∷ counted 1288 0 ∷ counted 3 1 ∷ counted 1 1 ∷ []) ≡
+        [] ∷ (codes "a\\\\b: 1 price rounded\n" ∷ []) ∷ (codes "a\\\\b: 1288 prices rounded\n" ∷ [])
+        ∷ (codes "a\\\\b: 3 prices rounded, 1 to 0\n" ∷ []) ∷ (codes "a\\\\b: 1 price rounded, 1 to 0\n" ∷ []) ∷ [] }
 {}
 
 /// A text in which one price is finer than a millionth. If that is rounded, a file is given, and one price was rounded, not
 /// none; else its line is refused.
 pub fn fine_price_read()
     ensures rounded { PricedGives known
-        (record { stream = watched (codes "goods 1\nbids 1\ndummy 0\n0 0.0123456 0 #\n") false false; fine = Some Round; rounded = 0 })
-        (record { stream = watched [] false true; fine = Some Round; rounded = 1 })
+        (record { stream = watched (codes "goods 1\nbids 1\ndummy 0\n0 0.0123456 0 #\n") false false; rule = Some (price_rule Round 0); rounded = none_rounded })
+        (record { stream = watched [] false true; rule = Some (price_rule Round 0); rounded = counted 1 0 })
         (record { goods = 1; dummy = 0; bids = record { price = 12346; goods = 0 ∷ []; dummy = None } ∷ [] }) }
     ensures counted { PricedGives known
-        (record { stream = watched (codes "goods 1\nbids 1\ndummy 0\n0 0.0123456 0 #\n") false false; fine = Some Round; rounded = 0 })
-        (record { stream = watched [] false true; fine = Some Round; rounded = 0 })
+        (record { stream = watched (codes "goods 1\nbids 1\ndummy 0\n0 0.0123456 0 #\n") false false; rule = Some (price_rule Round 0); rounded = none_rounded })
+        (record { stream = watched [] false true; rule = Some (price_rule Round 0); rounded = none_rounded })
         (record { goods = 1; dummy = 0; bids = record { price = 12346; goods = 0 ∷ []; dummy = None } ∷ [] }) → ⊥ }
     ensures refused { PricedRefuses known
-        (record { stream = watched (codes "goods 1\nbids 1\ndummy 0\n0 0.0123456 0 #\n") false false; fine = Some Refuse; rounded = 0 })
-        (record { stream = watched [] false true; fine = Some Refuse; rounded = 0 }) (record { line = 4; kind = TooFine }) }
+        (record { stream = watched (codes "goods 1\nbids 1\ndummy 0\n0 0.0123456 0 #\n") false false; rule = Some (price_rule Refuse 0); rounded = none_rounded })
+        (record { stream = watched [] false true; rule = Some (price_rule Refuse 0); rounded = none_rounded })
+        (record { line = 4; kind = TooFine }) }
 {}
 
 /// What becomes of a line for standard error: it is sent, and nothing else is; after a failure nothing is.

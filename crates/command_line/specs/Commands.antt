@@ -10,14 +10,16 @@ use Rattle.clap.specs.Walk.{Row, Rule, all_of, first_of}
 use Rattle.clap.specs.declared.builder.action.ArgAction.TheVariants.{SetTrue}
 use Rattle.clap.specs.declared.builder.value_parser.ValueParser.TheVariants.{Unsigned}
 use Rattle.command_line.specs.NumberLists.{numbers_of_words}
-use Rattle.command_line.specs.Numbers.{begins_with_sign, limit_of}
+use Rattle.command_line.specs.Numbers.{begins_with_sign, limit_of, tens_of}
 use Rattle.requests.specs.Tasks.{is_many, name_of}
 use Rattle.requests.specs.declared.task.Files.{Files}
 use Rattle.requests.specs.declared.task.Files.TheVariants.{Two}
 use Rattle.requests.specs.declared.task.TaskRow.{TaskRow}
 use Rattle.requests.specs.declared.task.TheConstants.{TASKS}
+use Rattle.rounding.specs.Replacements.{price_rule}
 use Rattle.rounding.specs.declared.replacement.FinePrices.{FinePrices}
 use Rattle.rounding.specs.declared.replacement.FinePrices.TheVariants.{Refuse, Round}
+use Rattle.rounding.specs.declared.replacement.PriceRule.{PriceRule}
 use Rattle.valuation.specs.SearchLimits.{bounded_options, plain_options}
 use Rattle.valuation.specs.declared.search.options.SearchOptions.{SearchOptions}
 
@@ -48,6 +50,10 @@ steps = record (option (codes "steps")) { defaults = codes "1000000" ∷ []; par
 -- the limit of all searches together is from 1 to 1,000,000,000,000; there is none if it is not given
 abbrev pub total_steps : Rule
 total_steps = record (option (codes "total-steps")) { parser = Some (Unsigned 1 1000000000000) }
+
+-- all prices are multiplied by a number from 1 to 1,000,000,000,000
+abbrev pub times : Rule
+times = record (option (codes "times")) { parser = Some (Unsigned 1 1000000000000) }
 
 abbrev pub flag : List ℕ → Rule
 flag name = record (new_rule name) { long = Some name; action = Some SetTrue }
@@ -81,6 +87,7 @@ arguments_of row =
     (flag (codes "round"), row.rounding)
     ∷ (flag (codes "round-exact"), row.rounding)
     ∷ (flag (codes "exact"), row.exact)
+    ∷ (times, row.times)
     ∷ (flag (codes "bound"), row.bound)
     ∷ (always_bound, is_always_bounded row)
     ∷ (steps, row.limits)
@@ -145,10 +152,22 @@ is_true text = bytes_eq text (codes "true")
 abbrev pub is_set : List ℕ → List Row → Bool
 is_set name rows = option_map_or is_true (first_of name rows) false
 
+-- by which power of ten prices are multiplied, if the number is one; by 1 if there is none
+abbrev pub tens_in : List Row → Option ℕ
+tens_in rows = tens_of (unwrap_or (number_in (codes "times") rows) 1)
+
 -- what becomes of fine prices: `--round-exact`, and `--exact` of `round`, are stricter than `--round`
-abbrev pub prices_in : List Row → Option FinePrices
-prices_in rows = if is_set (codes "round-exact") rows || is_set (codes "exact") rows then Some Refuse
-    else (if is_set (codes "round") rows then Some Round else None)
+abbrev pub fine_in : List Row → FinePrices
+fine_in rows = if is_set (codes "round-exact") rows || is_set (codes "exact") rows then Refuse else Round
+
+-- whether something is said of prices
+abbrev pub names_prices : List Row → Bool
+names_prices rows = is_set (codes "round-exact") rows || (is_set (codes "exact") rows
+    || (is_set (codes "round") rows || is_given (codes "times") rows))
+
+-- what becomes of each price
+abbrev pub prices_in : List Row → Option PriceRule
+prices_in rows = if names_prices rows then Some (price_rule (fine_in rows) (unwrap_or (tens_in rows) 0)) else None
 
 -- The search is the bounded one if the flag that chooses it is given. A command without it always uses that search.
 abbrev pub is_bounded : List Row → Bool
@@ -167,4 +186,4 @@ is_signed name rows = list_any begins_with_sign (texts_in name rows)
 
 abbrev pub has_signed_number : List Row → Bool
 has_signed_number rows = is_signed (codes "steps") rows || (is_signed (codes "total-steps") rows
-    || (is_signed (codes "GOOD") rows || is_signed (codes "BID") rows))
+    || (is_signed (codes "times") rows || (is_signed (codes "GOOD") rows || is_signed (codes "BID") rows)))

@@ -13,11 +13,12 @@ use Rattle.clap.specs.Walk.{Row}
 use Rattle.clap.specs.declared.error.kind.ErrorKind.{ErrorKind}
 use Rattle.clap.specs.declared.error.kind.ErrorKind.TheVariants.{DisplayHelp, DisplayVersion}
 use Rattle.command_line.specs.Commands.{bids_in, cats, files_in, goods_in, has_signed_number, is_bounded, is_given}
-use Rattle.command_line.specs.Commands.{is_set, list_in, options_in, prices_in}
+use Rattle.command_line.specs.Commands.{is_set, list_in, options_in, prices_in, tens_in}
 use Rattle.command_line.specs.Numbers.{begins_with_sign}
 use Rattle.command_line.specs.declared.request.Misuse.{Misuse}
 use Rattle.command_line.specs.declared.request.Misuse.TheVariants.{SignedNumber, MoreThanOneFile, MoreThanTwoFiles}
-use Rattle.command_line.specs.declared.request.Misuse.TheVariants.{BidsTwice, UnboundedTotal, WrongGoods, WrongBids}
+use Rattle.command_line.specs.declared.request.Misuse.TheVariants.{BidsTwice, UnboundedTotal, WrongTimes}
+use Rattle.command_line.specs.declared.request.Misuse.TheVariants.{WrongGoods, WrongBids}
 use Rattle.command_line.specs.declared.request.Misuse.TheVariants.{NoFiles, FilesTwice}
 use Rattle.command_line.specs.declared.request.NoRequest.{NoRequest}
 use Rattle.command_line.specs.declared.request.NoRequest.TheVariants.{Help, WrongUsage, Misused, NoMemory}
@@ -46,9 +47,10 @@ misuse_in rows = if has_signed_number rows then Some SignedNumber
     then Some (if is_given (codes "SECOND_FILE") rows then MoreThanTwoFiles else MoreThanOneFile)
     else (if is_given (codes "bids") rows && is_given (codes "BID") rows then Some BidsTwice
     else (if is_given (codes "total-steps") rows && not (is_bounded rows) then Some UnboundedTotal
+    else (if is_none (tens_in rows) then Some WrongTimes
     else (if is_none (goods_in rows) then Some WrongGoods
     else (if is_none (bids_in rows) then Some WrongBids
-    else misuse_of_files (is_given (codes "FILE") rows) (is_given (codes "files0-from") rows))))))
+    else misuse_of_files (is_given (codes "FILE") rows) (is_given (codes "files0-from") rows)))))))
 
 -- what a command requests by its arguments
 abbrev pub request_in : Task → List Row → PlainRequest

@@ -5,7 +5,7 @@ ghost use Rattle.clap.specs.Simple.{new_app};
 ghost use Rattle.clap.specs.Words.{app_of, rule_of};
 ghost use Rattle.command_line.specs.Commands.{cats, file, flag, has_no_other_words, is_always_bounded};
 ghost use Rattle.requests.specs.Tasks.{is_many};
-ghost use Rattle.command_line.specs.Commands.{is_two, option, second_file, shape_of, steps, total_steps, words_from};
+ghost use Rattle.command_line.specs.Commands.{is_two, option, second_file, shape_of, steps, times, total_steps, words_from};
 ghost use Rattle.command_line.specs.Internal.Matches.{has_globals, with_one};
 
 use crate::help::{argument_text, find_help};
@@ -44,6 +44,8 @@ pub(crate) const BIDS: &str = "bids";
 pub(crate) const ALL: &str = "all";
 /// The flag of `cats round` that refuses a price which would be rounded.
 pub(crate) const EXACT: &str = "exact";
+/// The option of `cats round` that multiplies prices.
+pub(crate) const TIMES: &str = "times";
 /// The flag for prices as `cats round` prints them.
 pub(crate) const ROUND: &str = "round";
 /// The flag for prices as `cats round --exact` prints them.
@@ -53,6 +55,8 @@ pub(crate) const ROUND_EXACT: &str = "round-exact";
 const MAX_STEPS: i64 = 1_000_000_000;
 /// The most steps that a command line may allow all searches together.
 const MAX_TOTAL_STEPS: i64 = 1_000_000_000_000;
+/// The greatest factor of prices that a command line may name.
+const MAX_TIMES: i64 = 1_000_000_000_000;
 /// The steps that a search may make if the command line names no limit.
 const DEFAULT_STEPS: &str = "1000000";
 
@@ -90,6 +94,7 @@ fn task_command<'a>(
         .with(row.rounding, flag(alloc, ROUND))?
         .with(row.rounding, flag(alloc, ROUND_EXACT))?
         .with(row.exact, flag(alloc, EXACT))?
+        .with(row.times, times(alloc))?
         .with(row.bound, flag(alloc, BOUND))?
         .with(
             is_always_bounded(row),
@@ -225,6 +230,14 @@ fn total_steps<'a>(alloc: Global) -> Arg<'a>
     ensures local { result.global ≡ false }
 {
     option(alloc, TOTAL_STEPS, "N").value_parser(value_parser!(u64).range(1..=MAX_TOTAL_STEPS))
+}
+
+/// `clap` takes any number up to the greatest one, and the parser judges whether it is a power of ten.
+fn times<'a>(alloc: Global) -> Arg<'a>
+    ensures rule { rule_of result ≡ times }
+    ensures local { result.global ≡ false }
+{
+    option(alloc, TIMES, "N").value_parser(value_parser!(u64).range(1..=MAX_TIMES))
 }
 
 fn flag<'a>(alloc: Global, name: &'a str) -> Arg<'a>

@@ -11,6 +11,7 @@ ghost use Rattle.command_line.specs.declared.request.NoRequest.{NoRequest};
 ghost use Rattle.requests.specs.Requests.{PlainRequest};
 ghost use Rattle.requests.specs.Tasks.{is_many, name_of};
 ghost use Rattle.requests.specs.declared.task.TheConstants.{TASKS};
+ghost use Rattle.rounding.specs.Replacements.{price_rule};
 ghost use Rattle.rounding.specs.declared.replacement.FinePrices.TheVariants.{Refuse, Round};
 ghost use Rattle.valuation.specs.SearchLimits.{bounded_options};
 
@@ -26,11 +27,13 @@ pub fn paths_after_hyphens()
 pub fn options()
     ensures { EachRequests (λ row. true) [] (λ task paths. Some (usual task paths))
         × EachRequests (λ row. row.rounding) (codes "--round" ∷ [])
-        (λ task paths. Some (record (usual task paths) { prices = Some Round }))
+        (λ task paths. Some (record (usual task paths) { prices = Some (price_rule Round 0) }))
         × EachRequests (λ row. row.rounding) (codes "--round-exact" ∷ [])
-        (λ task paths. Some (record (usual task paths) { prices = Some Refuse }))
+        (λ task paths. Some (record (usual task paths) { prices = Some (price_rule Refuse 0) }))
         × EachRequests (λ row. row.exact) (codes "--exact" ∷ [])
-        (λ task paths. Some (record (usual task paths) { prices = Some Refuse }))
+        (λ task paths. Some (record (usual task paths) { prices = Some (price_rule Refuse 0) }))
+        × EachRequests (λ row. row.times) (codes "--times=1000000" ∷ [])
+        (λ task paths. Some (record (usual task paths) { prices = Some (price_rule Round 6) }))
         × EachRequests (λ row. row.limits) (codes "--bound" ∷ [])
         (λ task paths. Some (record (usual task paths) { options = bounded_options 1000000 None }))
         × EachRequests (λ row. is_many row.files) (codes "--progress" ∷ [])

@@ -5,17 +5,18 @@ ghost use Rattle.std.specs.List.{list_any};
 ghost use Rattle.std.specs.Option.{option_map_or};
 ghost use Rattle.clap.specs.Faults.{fault_of};
 ghost use Rattle.clap.specs.Words.{HasKind, first_of, kind_of};
-ghost use Rattle.command_line.specs.Commands.{bids_in, cats, files_in, goods_in, has_signed_number, is_bounded, is_given};
-ghost use Rattle.command_line.specs.Commands.{is_set, is_signed, list_in, number_in, options_in, prices_in, texts_in};
+ghost use Rattle.command_line.specs.Commands.{bids_in, cats, files_in, fine_in, goods_in, has_signed_number};
+ghost use Rattle.command_line.specs.Commands.{is_bounded, is_given, is_set, is_signed, list_in, names_prices, number_in};
+ghost use Rattle.command_line.specs.Commands.{options_in, prices_in, tens_in, texts_in};
 ghost use Rattle.command_line.specs.Internal.Matches.{IsAnswerTo, plain_requested, rows_in};
-ghost use Rattle.command_line.specs.Numbers.{begins_with_sign};
+ghost use Rattle.command_line.specs.Numbers.{begins_with_sign, tens_of};
 ghost use Rattle.command_line.specs.Requests.{IsNoRequestOf, misuse_in, misuse_of_files, request_in, request_of};
 ghost use Rattle.command_line.specs.Requests.{requested_in, requested_of, task_named};
 ghost use Rattle.requests.specs.Requests.{plain_request, texts_of};
 
 use crate::commands::{
     ALL, BID, BIDS, BOUND, EXACT, FILE, FILES0_FROM, GOOD, MORE_FILES, NULL, PROGRESS, ROUND,
-    ROUND_EXACT, SECOND_FILE, STEPS, TOTAL_STEPS, cats_command,
+    ROUND_EXACT, SECOND_FILE, STEPS, TIMES, TOTAL_STEPS, cats_command,
 };
 use crate::number_lists::numbers_of_words;
 use crate::request::{Misuse, NoRequest};
@@ -24,7 +25,7 @@ use clap::{ArgMatches, Error};
 use requests::help::CommandHelp;
 use requests::request::Request;
 use requests::task::{TASKS, Task, name_of};
-use rounding::replacement::FinePrices;
+use rounding::replacement::{FinePrices, PriceRule};
 use std::alloc::{AllocError, Global};
 use valuation::search::SearchOptions;
 
@@ -139,6 +140,8 @@ fn find_misuse(
         Some(Misuse::BidsTwice)
     } else if is_given(given, TOTAL_STEPS) && !is_bounded(given) {
         Some(Misuse::UnboundedTotal)
+    } else if find_tens(given).is_none() {
+        Some(Misuse::WrongTimes)
     } else if has_wrong_goods {
         Some(Misuse::WrongGoods)
     } else if has_wrong_bids {
@@ -219,16 +222,67 @@ fn find_bids(alloc: Global, given: &ArgMatches<'_>) -> Result<Option<Vec<u32>>, 
     Ok(Some(bids))
 }
 
-/// What becomes of fine prices.
-fn find_prices(given: &ArgMatches<'_>) -> Option<FinePrices>
+/// What becomes of each price.
+fn find_prices(given: &ArgMatches<'_>) -> Option<PriceRule>
     ensures { result ≡ prices_in (rows_in given.now) }
 {
-    if is_set(given, ROUND_EXACT) || is_set(given, EXACT) {
-        Some(FinePrices::Refuse)
-    } else if is_set(given, ROUND) {
-        Some(FinePrices::Round)
+    if names_prices(given) {
+        Some(PriceRule {
+            fine: find_fine(given),
+            tens: find_tens(given).unwrap_or(0),
+        })
     } else {
         None
+    }
+}
+
+/// Whether something is said of prices.
+fn names_prices(given: &ArgMatches<'_>) -> bool
+    ensures { result ≡ names_prices (rows_in given.now) }
+{
+    is_set(given, ROUND_EXACT)
+        || is_set(given, EXACT)
+        || is_set(given, ROUND)
+        || is_given(given, TIMES)
+}
+
+/// What becomes of fine prices.
+fn find_fine(given: &ArgMatches<'_>) -> FinePrices
+    ensures { result ≡ fine_in (rows_in given.now) }
+{
+    if is_set(given, ROUND_EXACT) || is_set(given, EXACT) {
+        FinePrices::Refuse
+    } else {
+        FinePrices::Round
+    }
+}
+
+/// By which power of ten prices are multiplied, if the number is one.
+fn find_tens(given: &ArgMatches<'_>) -> Option<u8>
+    ensures { result ≡ tens_in (rows_in given.now) }
+{
+    tens_of(find_number(given, TIMES).unwrap_or(1))
+}
+
+/// Which power of ten a number is.
+fn tens_of(number: u64) -> Option<u8>
+    ensures { result ≡ tens_of number }
+{
+    match number {
+        1 => Some(0),
+        10 => Some(1),
+        100 => Some(2),
+        1_000 => Some(3),
+        10_000 => Some(4),
+        100_000 => Some(5),
+        1_000_000 => Some(6),
+        10_000_000 => Some(7),
+        100_000_000 => Some(8),
+        1_000_000_000 => Some(9),
+        10_000_000_000 => Some(10),
+        100_000_000_000 => Some(11),
+        1_000_000_000_000 => Some(12),
+        _ => None,
     }
 }
 
@@ -268,6 +322,7 @@ fn has_signed_number(given: &ArgMatches<'_>) -> bool
 {
     is_signed(given, STEPS)
         || is_signed(given, TOTAL_STEPS)
+        || is_signed(given, TIMES)
         || is_signed(given, GOOD)
         || is_signed(given, BID)
 }

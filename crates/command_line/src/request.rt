@@ -28,6 +28,8 @@ pub enum Misuse {
     BidsTwice,
     /// It has a limit of all searches together, and not the bounded search, which alone has such a limit.
     UnboundedTotal,
+    /// The factor of prices is not a power of ten.
+    WrongTimes,
     /// A word that ought to name goods is not a list of numbers and ranges.
     WrongGoods,
     /// Nor is one that ought to name bids.

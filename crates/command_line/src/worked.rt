@@ -7,12 +7,16 @@ ghost use Rattle.clap.specs.Faults.{fault_of};
 ghost use Rattle.clap.specs.declared.error.kind.ErrorKind.TheVariants.{UnknownArgument};
 ghost use Rattle.command_line.specs.Commands.{cats};
 ghost use Rattle.command_line.specs.NumberLists.{numbers_of_word};
+ghost use Rattle.command_line.specs.Numbers.{tens_of};
 ghost use Rattle.command_line.specs.Requests.{misuse_of, request_of, usual, words_in};
 ghost use Rattle.command_line.specs.declared.request.Misuse.TheVariants.{BidsTwice, MoreThanOneFile, MoreThanTwoFiles};
 ghost use Rattle.command_line.specs.declared.request.Misuse.TheVariants.{SignedNumber, UnboundedTotal};
 ghost use Rattle.command_line.specs.declared.request.Misuse.TheVariants.{FilesTwice, NoFiles, WrongBids, WrongGoods};
+ghost use Rattle.command_line.specs.declared.request.Misuse.TheVariants.{WrongTimes};
 ghost use Rattle.requests.specs.declared.task.Task.TheVariants.{Check, Compare, Diff, Duplicates, Explain, Fault};
 ghost use Rattle.requests.specs.declared.task.Task.TheVariants.{Normalise, Revenue, Show, Sizes, Value};
+ghost use Rattle.requests.specs.declared.task.Task.TheVariants.{Round as RoundText};
+ghost use Rattle.rounding.specs.Replacements.{price_rule};
 ghost use Rattle.rounding.specs.declared.replacement.FinePrices.TheVariants.{Refuse, Round};
 ghost use Rattle.valuation.specs.SearchLimits.{bounded_options, plain_options};
 
@@ -51,23 +55,35 @@ pub fn limits()
 /// The flags that round prices. With both of them the exact one holds.
 pub fn rounding()
     ensures value { request_of (words_in (codes "cats value a --round 3"))
-        ≡ Some (record (usual Value (codes "a" ∷ [])) { goods = 3 ∷ []; prices = Some Round }) }
+        ≡ Some (record (usual Value (codes "a" ∷ [])) { goods = 3 ∷ []; prices = Some (price_rule Round 0) }) }
     ensures revenue { request_of (words_in (codes "cats revenue --round a 3"))
-        ≡ Some (record (usual Revenue (codes "a" ∷ [])) { bids = 3 ∷ []; prices = Some Round }) }
+        ≡ Some (record (usual Revenue (codes "a" ∷ [])) { bids = 3 ∷ []; prices = Some (price_rule Round 0) }) }
     ensures diff { request_of (words_in (codes "cats diff a b --round"))
-        ≡ Some (record (usual Diff (codes "a" ∷ codes "b" ∷ [])) { prices = Some Round }) }
+        ≡ Some (record (usual Diff (codes "a" ∷ codes "b" ∷ [])) { prices = Some (price_rule Round 0) }) }
     ensures duplicates { request_of (words_in (codes "cats duplicates --round a"))
-        ≡ Some (record (usual Duplicates (codes "a" ∷ [])) { prices = Some Round }) }
+        ≡ Some (record (usual Duplicates (codes "a" ∷ [])) { prices = Some (price_rule Round 0) }) }
     ensures sizes { request_of (words_in (codes "cats sizes --files0-from=l --round"))
-        ≡ Some (record (usual Sizes []) { list = Some (codes "l"); prices = Some Round }) }
+        ≡ Some (record (usual Sizes []) { list = Some (codes "l"); prices = Some (price_rule Round 0) }) }
     ensures both { map (λ line. request_of (words_in line))
         (codes "cats check --round --round-exact a" ∷ codes "cats show --round-exact a --round" ∷ [])
-        ≡ map (λ task. Some (record (usual task (codes "a" ∷ [])) { prices = Some Refuse })) (Check ∷ Show ∷ []) }
+        ≡ map (λ task. Some (record (usual task (codes "a" ∷ [])) { prices = Some (price_rule Refuse 0) })) (Check ∷ Show ∷ []) }
     ensures fault { request_of (words_in (codes "cats fault a --round b"))
-        ≡ Some (record (usual Fault (codes "a" ∷ codes "b" ∷ [])) { prices = Some Round }) }
+        ≡ Some (record (usual Fault (codes "a" ∷ codes "b" ∷ [])) { prices = Some (price_rule Round 0) }) }
     ensures refused { map (λ line. fault_of cats (words_in line)) (codes "cats fault -0 a"
         ∷ codes "cats round --round a" ∷ codes "cats round --round-exact a" ∷ [])
         ≡ (UnknownArgument ∷ []) ∷ (UnknownArgument ∷ []) ∷ (UnknownArgument ∷ []) ∷ [] }
+{}
+
+/// The factor of prices, which is a power of ten.
+pub fn factors()
+    ensures rounded { request_of (words_in (codes "cats round --times 1000000 a"))
+        ≡ Some (record (usual RoundText (codes "a" ∷ [])) { prices = Some (price_rule Round 6) }) }
+    ensures exact { request_of (words_in (codes "cats round a --exact --times=1000000000000"))
+        ≡ Some (record (usual RoundText (codes "a" ∷ [])) { prices = Some (price_rule Refuse 12) }) }
+    ensures once { request_of (words_in (codes "cats round --times=1 a"))
+        ≡ Some (record (usual RoundText (codes "a" ∷ [])) { prices = Some (price_rule Round 0) }) }
+    ensures powers { map tens_of (0 ∷ 1 ∷ 2 ∷ 10 ∷ 11 ∷ 20 ∷ 100 ∷ 1000000000000 ∷ 10000000000000 ∷ [])
+        ≡ None ∷ Some 0 ∷ None ∷ Some 1 ∷ None ∷ None ∷ Some 2 ∷ Some 12 ∷ None ∷ [] }
 {}
 
 /// Bids, and the flag of `duplicates` for all files.
@@ -100,12 +116,14 @@ pub fn misused_lines()
         ∷ codes "cats normalise --steps=+5 a" ∷ codes "cats diff --total-steps=+5 a b" ∷ codes "cats value a 0 +1"
         ∷ codes "cats value a -- -0" ∷ codes "cats revenue a +0" ∷ codes "cats sizes --total-steps=5"
         ∷ codes "cats sizes --files0-from a b" ∷ codes "cats revenue a 0 --bids=l" ∷ codes "cats value a 19-0"
+        ∷ codes "cats round --times=+10 a" ∷ codes "cats round a --times 20"
         ∷ codes "cats value a 0 " ∷ codes "cats revenue a 65536" ∷ codes "cats revenue a 3-0" ∷ codes "cats check a b"
         ∷ codes "cats normalise a --bound b c" ∷ codes "cats diff a b c" ∷ codes "cats compare a b c d" ∷ []) in
         (flat_map (fault_of cats) lines ≡ []) × (list_any (λ line. is_some (request_of line)) lines ≡ false)
         × (map misuse_of lines ≡ UnboundedTotal ∷ UnboundedTotal ∷ SignedNumber ∷ SignedNumber ∷ SignedNumber
-        ∷ SignedNumber ∷ SignedNumber ∷ NoFiles ∷ FilesTwice ∷ BidsTwice ∷ WrongGoods ∷ WrongGoods
-        ∷ WrongBids ∷ WrongBids ∷ MoreThanOneFile ∷ MoreThanOneFile ∷ MoreThanTwoFiles ∷ MoreThanTwoFiles ∷ []) }
+        ∷ SignedNumber ∷ SignedNumber ∷ NoFiles ∷ FilesTwice ∷ BidsTwice ∷ WrongGoods ∷ SignedNumber
+        ∷ WrongTimes ∷ WrongGoods ∷ WrongBids ∷ WrongBids ∷ MoreThanOneFile ∷ MoreThanOneFile ∷ MoreThanTwoFiles
+        ∷ MoreThanTwoFiles ∷ []) }
 {}
 
 /// Lines that request nothing.
@@ -113,6 +131,7 @@ pub fn wrong_lines()
     ensures { map (λ line. request_of (words_in line)) (codes "cats" ∷ codes "cats check" ∷ codes "cats Check a"
         ∷ codes "cats check --help" ∷ codes "cats value --steps 0 a" ∷ codes "cats value a 65536"
         ∷ codes "cats sizes -0 --null a" ∷ codes "cats explain --bound --bound a" ∷ codes "cats explain --total-steps=0 a"
-        ∷ codes "cats sizes" ∷ codes "cats diff a" ∷ [])
-        ≡ None ∷ None ∷ None ∷ None ∷ None ∷ None ∷ None ∷ None ∷ None ∷ None ∷ None ∷ [] }
+        ∷ codes "cats sizes" ∷ codes "cats diff a" ∷ codes "cats round --times=0 a" ∷ codes "cats check --times=10 a"
+        ∷ codes "cats round --times=10000000000000 a" ∷ codes "cats round --times=1e6 a" ∷ [])
+        ≡ None ∷ None ∷ None ∷ None ∷ None ∷ None ∷ None ∷ None ∷ None ∷ None ∷ None ∷ None ∷ None ∷ None ∷ None ∷ [] }
 {}

@@ -15,7 +15,12 @@ pub fn help<'a>() -> CommandHelp<'a> {
     CommandHelp {
         name: "round",
         about: "Prints a bid file with prices rounded, and reports which changed",
-        arguments: &[],
+        arguments: &[(
+            "times",
+            "\
+Multiplies all prices by N before they are rounded: a
+power of ten, from 1 to 1000000000000",
+        )],
         after: "\
 Prints the text of a bid file in which each price that is a decimal, such as
 1.02345e+06, .5 or 0.0123456, is written so that it is read: rounded to the
@@ -27,6 +32,11 @@ Each price whose value changed is one line on standard error:
   line 8: 0.0123456 rounded to 0.012346
 If there is no such line, each price has the value that it had. With --exact, a
 price that would be rounded is refused as TooFine, and nothing is printed.
+
+With --times N all prices are multiplied by N first, valid ones too. So prices
+of a few millionths become numbers that stay as they are. Revenues are N times
+as large then, and auctions that are compared need the same N:
+  $ cats round --times 100000 examples/six_digits.cats
 
 The output is always a bid file. If the text with its prices rounded is not
 one, its first fault is reported as by 'cats check', and nothing is printed.

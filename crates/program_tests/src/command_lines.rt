@@ -52,12 +52,18 @@ static REQUESTS: &[(&str, &str)] = rows! {
     ("cats sizes --bound a", "Sizes [\"a\"] None [] [] None Bounded 1000000 None false false false"),
     ("cats explain --total-steps=1000000000000 a",
      "Explain [\"a\"] None [] [] None Bounded 1000000 Some(1000000000000) false false false"),
-    ("cats check --round a", "Check [\"a\"] None [] [] Some(Round) Bounded 0 None false false false"),
-    ("cats revenue a --round-exact", "Revenue [\"a\"] None [] [] Some(Refuse) Bounded 0 None false false false"),
+    ("cats check --round a",
+     "Check [\"a\"] None [] [] Some(PriceRule { fine: Round, tens: 0 }) Bounded 0 None false false false"),
+    ("cats revenue a --round-exact",
+     "Revenue [\"a\"] None [] [] Some(PriceRule { fine: Refuse, tens: 0 }) Bounded 0 None false false false"),
     ("cats diff --round --round-exact a b",
-     "Diff [\"a\", \"b\"] None [] [] Some(Refuse) Bounded 1000000 None false false false"),
-    ("cats fault a --round b", "Fault [\"a\", \"b\"] None [] [] Some(Round) Bounded 0 None false false false"),
-    ("cats sizes a --round", "Sizes [\"a\"] None [] [] Some(Round) Bounded 1000000 None false false false"),
+     "Diff [\"a\", \"b\"] None [] [] Some(PriceRule { fine: Refuse, tens: 0 }) Bounded 1000000 None false false false"),
+    ("cats fault a --round b",
+     "Fault [\"a\", \"b\"] None [] [] Some(PriceRule { fine: Round, tens: 0 }) Bounded 0 None false false false"),
+    ("cats round --exact --times 100 a",
+     "Round [\"a\"] None [] [] Some(PriceRule { fine: Refuse, tens: 2 }) Bounded 0 None false false false"),
+    ("cats sizes a --round",
+     "Sizes [\"a\"] None [] [] Some(PriceRule { fine: Round, tens: 0 }) Bounded 1000000 None false false false"),
 };
 
 /// That a line is this request.
@@ -116,7 +122,8 @@ static WRONG_LINES: &[&str] = rows! {
     "cats normalise -0 a", "cats check --files0-from a", "cats explain --bound --bound a", "cats check --bound a",
     "cats check --total-steps=5 a", "cats explain --total-steps=0 a", "cats normalise --bound --bound a",
     "cats normalise --steps 1,000,000 a", "cats fault -0 a", "cats round --round-exact a",
-    "cats lp --round --round a", "cats show --round-exact=yes a",
+    "cats lp --round --round a", "cats show --round-exact=yes a", "cats round --times=0 a", "cats check --times=10 a",
+    "cats round --times=10000000000000 a", "cats round --times 1e6 a",
 };
 
 /// Command lines that `clap` takes and that are wrong, and why.
@@ -131,6 +138,9 @@ static MISUSES: &[(&str, Misuse)] = rows! {
     ("cats normalise --steps=+5 a", Misuse::SignedNumber),
     ("cats explain --total-steps +5 a", Misuse::SignedNumber),
     ("cats sizes --steps=+5", Misuse::SignedNumber),
+    ("cats round a --times 20", Misuse::WrongTimes),
+    ("cats round --times=999999999999 --exact a", Misuse::WrongTimes),
+    ("cats round --times=+10 a", Misuse::SignedNumber),
     ("cats value a 4096", Misuse::WrongGoods),
     ("cats value a 0-65535,0-65535", Misuse::WrongGoods),
     ("cats value a b", Misuse::WrongGoods),

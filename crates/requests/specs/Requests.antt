@@ -1,7 +1,7 @@
 -- Requests, with the texts and numbers that they hold.
 use Rattle.std.specs.Prelude.{ℕ, Bool, List, map, Option, option_map}
 use Rattle.std.specs.Borrow.{Bor}
-use Rattle.rounding.specs.declared.replacement.FinePrices.{FinePrices}
+use Rattle.rounding.specs.declared.replacement.PriceRule.{PriceRule}
 use Rattle.valuation.specs.declared.search.options.SearchOptions.{SearchOptions}
 use Rattle.requests.specs.declared.request.Request.{Request}
 use Rattle.requests.specs.declared.task.Task.{Task}
@@ -13,7 +13,7 @@ pub record PlainRequest : Type 0 where
   pub list : Option (List ℕ)
   pub goods : List ℕ
   pub bids : List ℕ
-  pub prices : Option FinePrices
+  pub prices : Option PriceRule
   pub options : SearchOptions
   pub progress : Bool
   pub null : Bool

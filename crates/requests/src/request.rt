@@ -1,7 +1,7 @@
 //! `Request`: a command, with all that may come with one.
 
 use crate::task::Task;
-use rounding::replacement::FinePrices;
+use rounding::replacement::PriceRule;
 use valuation::search::SearchOptions;
 
 /// What the program has to do. What a command does not take has no effect on it.
@@ -16,8 +16,8 @@ pub struct Request<'a> {
     pub goods: Vec<u16>,
     /// The bids of `revenue`, by their numbers.
     pub bids: Vec<u32>,
-    /// What becomes of prices that are finer than a millionth, if prices are rounded.
-    pub prices: Option<FinePrices>,
+    /// What becomes of each price, if prices are rounded.
+    pub prices: Option<PriceRule>,
     /// How each file is searched, and how many steps its searches may take.
     pub options: SearchOptions,
     /// Whether it is reported how many files were read.

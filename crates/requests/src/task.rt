@@ -46,6 +46,8 @@ pub struct TaskRow {
     pub bids: bool,
     /// The flag that refuses a price which would be rounded.
     pub exact: bool,
+    /// The option that multiplies prices.
+    pub times: bool,
     /// The flag for the files too that are the only ones of their auction.
     pub all: bool,
     /// The flag for NUL after each path of the output.
@@ -62,6 +64,7 @@ const ON_TEXT: TaskRow = TaskRow {
     goods: false,
     bids: false,
     exact: false,
+    times: false,
     all: false,
     null: false,
 };
@@ -116,6 +119,7 @@ pub const TASKS: [TaskRow; 13] = [
     TaskRow {
         task: Task::Round,
         exact: true,
+        times: true,
         ..ON_TEXT
     },
     TaskRow {

@@ -1,10 +1,10 @@
 -- Rounding over whole numbers: the nearest number, and powers of ten that are cut.
 use Rattle.rounding.proofs.Common.{rules, ◌≡◌, ℕ, suc, ◌+◌, ◌-◌, ◌*◌, ◌/◌, ◌%◌, ◌^◌, ◌<◌, ◌≤◌, min, true, false, eqb, ltb, is_none, refl, sym, ap, ◌∙◌, arith}
-use Rattle.rounding.proofs.Common.{◌⊎◌, if◌then◌else◌, inl, ⊎_elim, inr, lt-ltb, le-ltb, cases_lt, cases_order, eqb-true, eqb-false, ltb-true, ltb-false, Word}
-use Rattle.rounding.proofs.Common.{ne_eqb, cases_Bool, mul-le, div-add-mod', mod_below, le-div, pow-le-pow_right, pow-succ', one-le-pow, mod-eq_of_lt, top}
-use Rattle.rounding.proofs.Common.{div-eq_of_lt, mul-div_cancel, mul-mod_left, price_word, MAX_PRICE, is_decimal, bottom, exact_top, exact_bottom, IsNearest}
-use Rattle.rounding.proofs.Common.{nearest, replacement, replacement_of, FinePrices, Round, Refuse, Replacement, Itself, Exact, Rounded, TooLarge, TooFine}
-use Rattle.rounding.proofs.Common.{common_steps}
+use Rattle.rounding.proofs.Common.{◌⊎◌, if◌then◌else◌, inl, ⊎_elim, inr, lt-ltb, le-ltb, cases_lt, cases_order, eqb-true, eqb-false, ltb-true, ltb-false}
+use Rattle.rounding.proofs.Common.{Word, ne_eqb, cases_Bool, mul-le, div-add-mod', mod_below, le-div, pow-le-pow_right, pow-succ', one-le-pow, mod-eq_of_lt}
+use Rattle.rounding.proofs.Common.{top, div-eq_of_lt, mul-div_cancel, mul-mod_left, price_word, MAX_PRICE, is_decimal, bottom, exact_top, exact_bottom}
+use Rattle.rounding.proofs.Common.{IsNearest, nearest, replacement, replacement_of, FinePrices, Round, Refuse, Replacement, Itself, Exact, Rounded, TooLarge}
+use Rattle.rounding.proofs.Common.{TooFine, common_steps, PriceRule, is_kept, mantissa, raised, lowered, pow-add, and_parts, subst}
 use Rattle.rounding.proofs.Worth.{value_below, decimal_digits}
 
 -- ---- the nearest number
@@ -91,21 +91,71 @@ cut_both fine n size a b small = ⊎_elim (search (rules, once, cut_down)) (sear
     once : (n : ℕ) → n * 10 ^ 0 ≡ n
     once n = omega arith
 
-pub powers_cut : (fine : FinePrices) (w : Word) → is_decimal w ≡ true
-    → replacement_of fine (top w) (bottom w) ≡ replacement_of fine (exact_top w) (exact_bottom w)
-powers_cut fine w h = grind (arith, common_steps, cut_both, decimal_digits, value_below)
+pub powers_cut : (fine : FinePrices) (tens : ℕ) (w : Word) → is_decimal w ≡ true
+    → replacement_of fine (top tens w) (bottom tens w) ≡ replacement_of fine (exact_top tens w) (exact_bottom tens w)
+powers_cut fine tens w h = grind (arith, common_steps, cut_both, decimal_digits, value_below)
+
+-- ---- a value times a power of ten
+
+powers_multiply : (a b t : ℕ) → 10 ^ ((a + t) - b) * 10 ^ (b - a) ≡ 10 ^ t * 10 ^ (a - b) * 10 ^ (b - (a + t))
+powers_multiply a b t = sym (pow-add 10 ((a + t) - b) (b - a)) ∙ ap (λ k. 10 ^ k) sum ∙ pow-add 10 (t + (a - b)) (b - (a + t))
+    ∙ ap (λ k. k * 10 ^ (b - (a + t))) (pow-add 10 t (a - b))
+  where
+    sum : ((a + t) - b) + (b - a) ≡ (t + (a - b)) + (b - (a + t))
+    sum = omega arith
+
+multiplied : (m a b t c d : ℕ) → a * b ≡ t * c * d → m * a * b ≡ t * (m * c) * d
+multiplied m a b t c d e = let more : m * (a * b) ≡ m * (t * c * d) = ap (λ k. m * k) e in omega (arith, more)
+
+more_raised : (tens : ℕ) (w : Word) → raised 0 w + tens ≡ raised tens w
+more_raised tens w = omega arith
+
+pub tens_multiply : (tens : ℕ) (w : Word) → exact_top tens w * exact_bottom 0 w ≡ 10 ^ tens * exact_top 0 w * exact_bottom tens w
+tens_multiply tens w = subst
+    (λ k. mantissa w * 10 ^ (k - lowered w) * exact_bottom 0 w ≡ 10 ^ tens * exact_top 0 w * 10 ^ (lowered w - k)) (more_raised tens w)
+    (multiplied (mantissa w) (10 ^ ((raised 0 w + tens) - lowered w)) (exact_bottom 0 w) (10 ^ tens) (10 ^ (raised 0 w - lowered w))
+    (10 ^ (lowered w - (raised 0 w + tens))) (powers_multiply (raised 0 w) (lowered w) tens))
 
 -- ---- whole numbers of millionths
 
-power_some : (k : ℕ) → 0 < 10 ^ k
+pub power_some : (k : ℕ) → 0 < 10 ^ k
 power_some k = omega (arith, one-le-pow k 10 (omega arith))
 
-replaced : (fine : FinePrices) (w : Word) → is_none (price_word w) ≡ false → is_decimal w ≡ true → replacement fine w ≡ replacement_of fine (top w) (bottom w)
-replaced fine w p h = rw p (rw h refl)
+cancelled : (a b k : ℕ) → 0 < k → a * k ≡ b * k → a ≡ b
+cancelled a b k some e = sym (mul-div_cancel a some) ∙ ap (λ n. n / k) e ∙ mul-div_cancel b some
 
-pub whole_kept : (fine : FinePrices) (w : Word) (m : ℕ) → is_decimal w ≡ true → exact_top w ≡ m * exact_bottom w → m ≤ MAX_PRICE
-    → (replacement fine w ≡ Itself) ⊎ (replacement fine w ≡ Exact m)
-whole_kept fine w m h e l =
-    let is : replacement_of fine (top w) (bottom w) ≡ Exact m = search (rules, powers_cut, whole, power_some) in
-    ⊎_elim (λ (p : is_none (price_word w) ≡ true). inl (rw p refl)) (λ (p : is_none (price_word w) ≡ false). inr (replaced fine w p h ∙ is))
-    (cases_Bool (is_none (price_word w)))
+-- a decimal that is worth so many millionths, times the power of ten
+whole_top : (tens : ℕ) (w : Word) (m : ℕ) → 10 ^ tens * exact_top 0 w ≡ m * exact_bottom 0 w → exact_top tens w ≡ m * exact_bottom tens w
+whole_top tens w m e = cancelled (exact_top tens w) (m * exact_bottom tens w) (exact_bottom 0 w) (power_some (lowered w - raised 0 w))
+    (tens_multiply tens w ∙ ap (λ k. k * exact_bottom tens w) e ∙ turned m (exact_bottom 0 w) (exact_bottom tens w))
+  where
+    turned : (a b c : ℕ) → a * b * c ≡ a * c * b
+    turned a b c = omega arith
+
+pub replaced : (rule : PriceRule) (w : Word) → is_kept rule w ≡ false → is_decimal w ≡ true
+    → replacement rule w ≡ replacement_of rule.fine (exact_top rule.tens w) (exact_bottom rule.tens w)
+replaced rule w k h = rw k (rw h (powers_cut rule.fine rule.tens w h))
+
+-- what replaces so many millionths
+whole_of : ℕ → Replacement
+whole_of m = if ltb MAX_PRICE m then TooLarge else Exact m
+
+whole_any : (fine : FinePrices) (m d : ℕ) → 0 < d → replacement_of fine (m * d) d ≡ whole_of m
+unfolding whole_of
+whole_any fine m d some = grind (arith, common_steps, above, cases_lt, le-ltb, lt-ltb, mul-le, whole)
+
+pub whole_replaced : (rule : PriceRule) (w : Word) (m : ℕ) → is_kept rule w ≡ false → is_decimal w ≡ true
+    → 10 ^ rule.tens * exact_top 0 w ≡ m * exact_bottom 0 w → replacement rule w ≡ (if ltb MAX_PRICE m then TooLarge else Exact m)
+unfolding whole_of
+whole_replaced rule w m k h e = replaced rule w k h ∙ ap (λ n. replacement_of rule.fine n (exact_bottom rule.tens w)) (whole_top rule.tens w m e)
+    ∙ whole_any rule.fine m (exact_bottom rule.tens w) (power_some (lowered w - raised rule.tens w))
+
+pub kept_itself : (rule : PriceRule) (w : Word) → is_kept rule w ≡ true → (rule.tens ≡ 0) × (replacement rule w ≡ Itself)
+kept_itself rule w k = (eqb-true rule.tens 0 ((and_parts (eqb rule.tens 0) (is_none (price_word w)) k).0), rw k refl)
+
+pub whole_kept : (rule : PriceRule) (w : Word) (m : ℕ) → is_decimal w ≡ true → 10 ^ rule.tens * exact_top 0 w ≡ m * exact_bottom 0 w → m ≤ MAX_PRICE
+    → (replacement rule w ≡ Exact m) ⊎ ((rule.tens ≡ 0) × (replacement rule w ≡ Itself))
+whole_kept rule w m h e l = ⊎_elim
+    (λ (k : is_kept rule w ≡ true). inr (kept_itself rule w k))
+    (λ (k : is_kept rule w ≡ false). inl (whole_replaced rule w m k h e ∙ ap (λ v. if v then TooLarge else Exact m) (le-ltb MAX_PRICE m l)))
+    (cases_Bool (is_kept rule w))

@@ -6,5 +6,8 @@ pub mod Worth
 pub mod Deciding
 pub mod TextLines
 pub mod Exactness
+pub mod PriceValues
 pub mod FileLines
+pub mod RoundedWords
+pub mod RoundedFiles
 pub mod Headers

@@ -4,7 +4,7 @@ use Rattle.rounding.proofs.Common.{drop, refl, sym, ap, ◌∙◌, ⊎_elim, ari
 use Rattle.rounding.proofs.Common.{drop_all, front_rest, bool_byte, RawLine, raw_lines, blank_returns, line_words, is_significant, replacement, from_second}
 use Rattle.rounding.proofs.Common.{replacement_text, before_second, second_word, leading_word, behind_word, with_rounded, rounded_text, rounded_prices, Rounded}
 use Rattle.rounding.proofs.Common.{rounded_lines, rounded_line, lines_text, line_text, lines_changes, line_changes, change_by, PlainRoundedPrice, before_next}
-use Rattle.rounding.proofs.Common.{is_significant_line, plain_changes, RoundedPrice, first_line, behind_line, has_line_end, FinePrices, Replacement}
+use Rattle.rounding.proofs.Common.{is_significant_line, plain_changes, RoundedPrice, first_line, behind_line, has_line_end, PriceRule, Replacement}
 use Rattle.rounding.proofs.Common.{common_steps}
 use Rattle.rounding.proofs.Words.{second_both, second_taken, drop_more}
 use Rattle.rounding.proofs.Spans.{IsCutIn, line_cut}
@@ -14,15 +14,15 @@ use Rattle.rounding.proofs.Spans.{IsCutIn, line_cut}
 pub second_from : (l : List ℕ) (k : ℕ) → k ≡ length (before_second l) → take (length l - k) (drop k l) ≡ from_second l
 second_from l k e = take_rest l k ∙ ap (λ n. drop n l) e ∙ front_rest l (before_second l) (from_second l) (sym (second_both l))
 
-pub bid_line_text : (fine : FinePrices) (l word behind t0 t1 t2 t3 : List ℕ) (k : ℕ) (r : Replacement) → k ≡ length (before_second l)
-    → word ≡ leading_word (take (length l - k) (drop k l)) → behind ≡ behind_word (take (length l - k) (drop k l)) → r ≡ replacement fine word
-    → t1 ≡ t0 ++ take k l → t2 ≡ t1 ++ replacement_text word r → t3 ≡ t2 ++ behind → t3 ≡ t0 ++ with_rounded fine l
-bid_line_text fine l word behind t0 t1 t2 t3 k r ek ew eb er e1 e2 e3 = grind (arith, common_steps, append_assoc, second_from, second_taken)
+pub bid_line_text : (rule : PriceRule) (l word behind t0 t1 t2 t3 : List ℕ) (k : ℕ) (r : Replacement) → k ≡ length (before_second l)
+    → word ≡ leading_word (take (length l - k) (drop k l)) → behind ≡ behind_word (take (length l - k) (drop k l)) → r ≡ replacement rule word
+    → t1 ≡ t0 ++ take k l → t2 ≡ t1 ++ replacement_text word r → t3 ≡ t2 ++ behind → t3 ≡ t0 ++ with_rounded rule l
+bid_line_text rule l word behind t0 t1 t2 t3 k r ek ew eb er e1 e2 e3 = grind (arith, common_steps, append_assoc, second_from, second_taken)
 
-pub bid_line_change : (fine : FinePrices) (l word : List ℕ) (k number : ℕ) (r : Replacement) → k ≡ length (before_second l)
-    → word ≡ leading_word (take (length l - k) (drop k l)) → r ≡ replacement fine word
-    → change_by number word r ≡ change_by number (second_word l) (replacement fine (second_word l))
-bid_line_change fine l word k number r ek ew er = grind (arith, common_steps, second_from)
+pub bid_line_change : (rule : PriceRule) (l word : List ℕ) (k number : ℕ) (r : Replacement) → k ≡ length (before_second l)
+    → word ≡ leading_word (take (length l - k) (drop k l)) → r ≡ replacement rule word
+    → change_by number word r ≡ change_by number (second_word l) (replacement rule (second_word l))
+bid_line_change rule l word k number r ek ew er = grind (arith, common_steps, second_from)
 
 pub no_change : (number : ℕ) (word : Word) (r : Replacement) → ((price : ℕ) → r ≡ Rounded price → ⊥) → change_by number word r ≡ []
 no_change number word (Rounded p) h = absurd (h p refl)
@@ -77,49 +77,49 @@ cut_line text line start count next l ec el en =
     (cases_lt (start + count) (length text))
 
 -- what is written of the first line of a text
-pub record IsFirstLine (fine : FinePrices) (t : List ℕ) (before number : ℕ) (t0 t2 : List ℕ) (p0 p1 : List PlainRoundedPrice) : Type 0 where
-  pub text_is : t2 ≡ t0 ++ line_text (rounded_line fine before (first_raw t))
-  pub prices_are : p1 ≡ p0 ++ line_changes fine number before (first_raw t)
+pub record IsFirstLine (rule : PriceRule) (t : List ℕ) (before number : ℕ) (t0 t2 : List ℕ) (p0 p1 : List PlainRoundedPrice) : Type 0 where
+  pub text_is : t2 ≡ t0 ++ line_text (rounded_line rule before (first_raw t))
+  pub prices_are : p1 ≡ p0 ++ line_changes rule number before (first_raw t)
 
-pub first_written : (fine : FinePrices) (t line t0 t1 t2 : List ℕ) (p0 p1 : List PlainRoundedPrice) (before number : ℕ) (significant is_bid ended : Bool)
+pub first_written : (rule : PriceRule) (t line t0 t1 t2 : List ℕ) (p0 p1 : List PlainRoundedPrice) (before number : ℕ) (significant is_bid ended : Bool)
     → line ≡ first_line t → ended ≡ has_line_end t → significant ≡ is_significant (line_words (blank_returns line)) → is_bid ≡ (leb 3 before && significant)
-    → t1 ≡ t0 ++ (if is_bid then with_rounded fine line else line) → t2 ≡ t1 ++ (if ended then 10 ∷ [] else [])
-    → p1 ≡ p0 ++ (if is_bid then change_by number (second_word line) (replacement fine (second_word line)) else [])
-    → IsFirstLine fine t before number t0 t2 p0 p1
-first_written fine t line t0 t1 t2 p0 p1 before number significant is_bid ended el ee es ei e1 e2 ep = grind (arith, common_steps, append_assoc)
+    → t1 ≡ t0 ++ (if is_bid then with_rounded rule line else line) → t2 ≡ t1 ++ (if ended then 10 ∷ [] else [])
+    → p1 ≡ p0 ++ (if is_bid then change_by number (second_word line) (replacement rule (second_word line)) else [])
+    → IsFirstLine rule t before number t0 t2 p0 p1
+first_written rule t line t0 t1 t2 p0 p1 before number significant is_bid ended el ee es ei e1 e2 ep = grind (arith, common_steps, append_assoc)
 
 -- so much is written, and the rest of the text is still to come
-pub record IsWritten (fine : FinePrices) (text : List ℕ) (start number before : ℕ) (written : List ℕ) (prices : List PlainRoundedPrice) : Type 0 where
-  pub text_is : written ++ lines_text (rounded_lines fine before (raw_lines (drop start text))) ≡ rounded_text fine text
-  pub prices_are : prices ++ lines_changes fine number before (raw_lines (drop start text)) ≡ rounded_prices fine text
+pub record IsWritten (rule : PriceRule) (text : List ℕ) (start number before : ℕ) (written : List ℕ) (prices : List PlainRoundedPrice) : Type 0 where
+  pub text_is : written ++ lines_text (rounded_lines rule before (raw_lines (drop start text))) ≡ rounded_text rule text
+  pub prices_are : prices ++ lines_changes rule number before (raw_lines (drop start text)) ≡ rounded_prices rule text
 
 next_before : (before : ℕ) (l : RawLine) (significant : Bool) (more : ℕ) → significant ≡ is_significant_line l → more ≡ (if significant then 1 else 0)
     → before + more ≡ before_next before l
 next_before before l significant more es em = grind (arith, common_steps)
 
-pub line_more : (fine : FinePrices) (text t0 t2 : List ℕ) (p0 p1 : List PlainRoundedPrice) (start next number before more : ℕ) (significant : Bool)
-    → start < length text → drop next text ≡ behind_line (drop start text) → IsFirstLine fine (drop start text) before number t0 t2 p0 p1
+pub line_more : (rule : PriceRule) (text t0 t2 : List ℕ) (p0 p1 : List PlainRoundedPrice) (start next number before more : ℕ) (significant : Bool)
+    → start < length text → drop next text ≡ behind_line (drop start text) → IsFirstLine rule (drop start text) before number t0 t2 p0 p1
     → significant ≡ is_significant_line (first_raw (drop start text)) → more ≡ (if significant then 1 else 0)
-    → IsWritten fine text start number before t0 p0 → IsWritten fine text next (number + 1) (before + more) t2 p1
-line_more fine text t0 t2 p0 p1 start next number before more significant l en f es em w =
+    → IsWritten rule text start number before t0 p0 → IsWritten rule text next (number + 1) (before + more) t2 p1
+line_more rule text t0 t2 p0 p1 start next number before more significant l en f es em w =
     let some : 0 < length (drop start text) = omega (arith, length-drop start text) in
     let split : raw_lines (drop start text) ≡ first_raw (drop start text) ∷ raw_lines (behind_line (drop start text)) = first_of_lines (drop start text) some in
     let after : before + more ≡ before_next before (first_raw (drop start text)) = next_before before (first_raw (drop start text)) significant more es em in
     let one : number + 1 ≡ suc number = omega arith in
     record {
-      text_is = ap (λ (t : List ℕ). t2 ++ lines_text (rounded_lines fine (before + more) (raw_lines t))) en
-          ∙ ap (λ n. t2 ++ lines_text (rounded_lines fine n (raw_lines (behind_line (drop start text))))) after
-          ∙ ap (λ (t : List ℕ). t ++ lines_text (rounded_lines fine (before_next before (first_raw (drop start text)))
-          (raw_lines (behind_line (drop start text))))) f.text_is ∙ append_assoc t0 (line_text (rounded_line fine before (first_raw (drop start text))))
-          (lines_text (rounded_lines fine (before_next before (first_raw (drop start text))) (raw_lines (behind_line (drop start text)))))
-          ∙ ap (λ (ls : List RawLine). t0 ++ lines_text (rounded_lines fine before ls)) (sym split) ∙ w.text_is;
-      prices_are = ap (λ (t : List ℕ). p1 ++ lines_changes fine (number + 1) (before + more) (raw_lines t)) en
-          ∙ ap (λ n. p1 ++ lines_changes fine (number + 1) n (raw_lines (behind_line (drop start text)))) after
-          ∙ ap (λ n. p1 ++ lines_changes fine n (before_next before (first_raw (drop start text))) (raw_lines (behind_line (drop start text)))) one
-          ∙ ap (λ (ps : List PlainRoundedPrice). ps ++ lines_changes fine (suc number) (before_next before (first_raw (drop start text)))
-          (raw_lines (behind_line (drop start text)))) f.prices_are ∙ append_assoc p0 (line_changes fine number before (first_raw (drop start text)))
-          (lines_changes fine (suc number) (before_next before (first_raw (drop start text))) (raw_lines (behind_line (drop start text))))
-          ∙ ap (λ (ls : List RawLine). p0 ++ lines_changes fine number before ls) (sym split) ∙ w.prices_are;
+      text_is = ap (λ (t : List ℕ). t2 ++ lines_text (rounded_lines rule (before + more) (raw_lines t))) en
+          ∙ ap (λ n. t2 ++ lines_text (rounded_lines rule n (raw_lines (behind_line (drop start text))))) after
+          ∙ ap (λ (t : List ℕ). t ++ lines_text (rounded_lines rule (before_next before (first_raw (drop start text)))
+          (raw_lines (behind_line (drop start text))))) f.text_is ∙ append_assoc t0 (line_text (rounded_line rule before (first_raw (drop start text))))
+          (lines_text (rounded_lines rule (before_next before (first_raw (drop start text))) (raw_lines (behind_line (drop start text)))))
+          ∙ ap (λ (ls : List RawLine). t0 ++ lines_text (rounded_lines rule before ls)) (sym split) ∙ w.text_is;
+      prices_are = ap (λ (t : List ℕ). p1 ++ lines_changes rule (number + 1) (before + more) (raw_lines t)) en
+          ∙ ap (λ n. p1 ++ lines_changes rule (number + 1) n (raw_lines (behind_line (drop start text)))) after
+          ∙ ap (λ n. p1 ++ lines_changes rule n (before_next before (first_raw (drop start text))) (raw_lines (behind_line (drop start text)))) one
+          ∙ ap (λ (ps : List PlainRoundedPrice). ps ++ lines_changes rule (suc number) (before_next before (first_raw (drop start text)))
+          (raw_lines (behind_line (drop start text)))) f.prices_are ∙ append_assoc p0 (line_changes rule number before (first_raw (drop start text)))
+          (lines_changes rule (suc number) (before_next before (first_raw (drop start text))) (raw_lines (behind_line (drop start text))))
+          ∙ ap (λ (ls : List RawLine). p0 ++ lines_changes rule number before ls) (sym split) ∙ w.prices_are;
     }
 
 -- ---- one for true

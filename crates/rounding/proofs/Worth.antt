@@ -205,26 +205,26 @@ pub decimal_digits : (w s a b : Word) → is_decimal w ≡ true → s ≡ signif
 decimal_digits w s a b h es ea eb = grind (arith, common_steps, and_parts, digits_are)
 
 -- the parts of a word and its powers of ten, as the code has them
-pub record IsSplit (w s a b x : Word) (up down : ℕ) : Type 0 where
+pub record IsSplit (tens : ℕ) (w s a b x : Word) (up down : ℕ) : Type 0 where
   pub significand_is : s ≡ significand w
   pub whole_is : a ≡ whole_part s
   pub places_are : b ≡ places s
   pub exponent_is : x ≡ exponent w
-  pub up_is : up ≡ min 19 (shift_up x (length b))
-  pub down_is : down ≡ min (suc (length a + length b)) (shift_down x (length b))
+  pub up_is : up ≡ min 19 (shift_up tens x (length b))
+  pub down_is : down ≡ min (suc (length a + length b)) (shift_down tens x (length b))
 
 places_in : (w s b : Word) → s ≡ significand w → b ≡ places s → length b ≡ length (places (significand w))
 places_in w s b es eb = ap length (eb ∙ ap places es)
 
-bottom_is : (w s a b x : Word) (up down : ℕ) → IsSplit w s a b x up down → 10 ^ down ≡ bottom w
-bottom_is w s a b x up down h = grind (arith, common_steps, digits_are, places_in)
+bottom_is : (tens : ℕ) (w s a b x : Word) (up down : ℕ) → IsSplit tens w s a b x up down → 10 ^ down ≡ bottom tens w
+bottom_is tens w s a b x up down h = grind (arith, common_steps, digits_are, places_in)
 
-top_is : (w s a b x : Word) (up down : ℕ) → IsSplit w s a b x up down → number_of (a ++ b) * 10 ^ up ≡ top w
-top_is w s a b x up down h = search (rules, digits_are, places_in)
+top_is : (tens : ℕ) (w s a b x : Word) (up down : ℕ) → IsSplit tens w s a b x up down → number_of (a ++ b) * 10 ^ up ≡ top tens w
+top_is tens w s a b x up down h = search (rules, digits_are, places_in)
 
-pub cut_in : (w s a b x : Word) (up down : ℕ) (v : Value) → IsSplit w s a b x up down → 0 < down → Holds v (number_of (a ++ b)) (10 ^ down)
-    → Holds v (top w) (bottom w)
-cut_in w s a b x up down v h some held =
+pub cut_in : (tens : ℕ) (w s a b x : Word) (up down : ℕ) (v : Value) → IsSplit tens w s a b x up down → 0 < down → Holds v (number_of (a ++ b)) (10 ^ down)
+    → Holds v (top tens w) (bottom tens w)
+cut_in tens w s a b x up down v h some held =
     let none : up ≡ 0 = search (rules, no_up) in
     search (rules, once, held_of, top_is, bottom_is, none)
   where
@@ -234,7 +234,7 @@ cut_in w s a b x up down v h some held =
     once : (n : ℕ) → n * 10 ^ 0 ≡ n
     once n = omega arith
 
-pub raised_in : (w s a b x : Word) (up down leading number whole : ℕ) → IsSplit w s a b x up down → down ≤ 0
+pub raised_in : (tens : ℕ) (w s a b x : Word) (up down leading number whole : ℕ) → IsSplit tens w s a b x up down → down ≤ 0
     → leading ≡ min (suc MAX_PRICE) (value 0 a) → number ≡ min (suc MAX_PRICE) (value leading b) → whole ≡ min (suc MAX_PRICE) (number * 10 ^ up)
-    → Holds (record { whole = whole; rest = Nothing }) (top w) (bottom w)
-raised_in w s a b x up down leading number whole h none ef en ew = grind (arith, common_steps, bottom_is, held_of, raised_value, top_is)
+    → Holds (record { whole = whole; rest = Nothing }) (top tens w) (bottom tens w)
+raised_in tens w s a b x up down leading number whole h none ef en ew = grind (arith, common_steps, bottom_is, held_of, raised_value, top_is)

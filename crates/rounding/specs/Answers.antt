@@ -7,29 +7,29 @@ use Rattle.cats_text.specs.declared.read_fault.ReadFault.{ReadFault}
 use Rattle.cats_text.specs.declared.read_fault.Kind.TheVariants.{Memory as NoMemory}
 use Rattle.rounding.specs.Texts.{rounded_text, rounded_prices}
 use Rattle.rounding.specs.Views.{plain_changes}
-use Rattle.rounding.specs.declared.replacement.FinePrices.{FinePrices}
+use Rattle.rounding.specs.declared.replacement.PriceRule.{PriceRule}
 use Rattle.rounding.specs.declared.text.RoundedText.{RoundedText}
 
 -- the rounded text, which spells a file, and the prices that were rounded
-pub record IsRounded (fine : FinePrices) (text : List ℕ) (r : RoundedText) : Type 0 where
-  pub text_is : r.text.items ≡ rounded_text fine text
-  pub prices_are : plain_changes r.prices.items ≡ rounded_prices fine text
+pub record IsRounded (rule : PriceRule) (text : List ℕ) (r : RoundedText) : Type 0 where
+  pub text_is : r.text.items ≡ rounded_text rule text
+  pub prices_are : plain_changes r.prices.items ≡ rounded_prices rule text
   pub file : PlainFile
   pub spells : Spells r.text.items file
 
 -- the rounded text spells some file
-pub record SpellsRounded (fine : FinePrices) (text : List ℕ) : Type 0 where
+pub record SpellsRounded (rule : PriceRule) (text : List ℕ) : Type 0 where
   pub file : PlainFile
-  pub spells : Spells (rounded_text fine text) file
+  pub spells : Spells (rounded_text rule text) file
 
 -- memory is refused only if a bid line has begun, as in reading the text, or if the rounded text spells a file
-abbrev pub WantsMemoryToRound : FinePrices → List ℕ → Type 0
-WantsMemoryToRound fine text = (has_bid_line text ≡ true) ⊎ SpellsRounded fine text
+abbrev pub WantsMemoryToRound : PriceRule → List ℕ → Type 0
+WantsMemoryToRound rule text = (has_bid_line text ≡ true) ⊎ SpellsRounded rule text
 
 -- the rounded text and its rounded prices, or its first fault
 --
 -- Or memory was refused.
-abbrev pub RoundAnswer : FinePrices → List ℕ → Result RoundedText ReadFault → Type 0
-RoundAnswer fine text (Ok r) = IsRounded fine text r
-RoundAnswer fine text (Err e) = (first_fault (rounded_text fine text) ≡ Some e)
-    ⊎ ((e ≡ fault_at 0 NoMemory) × WantsMemoryToRound fine text)
+abbrev pub RoundAnswer : PriceRule → List ℕ → Result RoundedText ReadFault → Type 0
+RoundAnswer rule text (Ok r) = IsRounded rule text r
+RoundAnswer rule text (Err e) = (first_fault (rounded_text rule text) ≡ Some e)
+    ⊎ ((e ≡ fault_at 0 NoMemory) × WantsMemoryToRound rule text)

@@ -46,35 +46,36 @@ is_decimal w = is_number (digits w) && (not (has_exponent w) || is_number (witho
 
 -- ---- the value of a decimal
 
--- The number that the digits spell. In millionths the value is this number, ten times as large as often as `raised`
--- says, and a tenth as large as often as `lowered` says.
+-- The number that the digits spell. In millionths the value times a power of ten is this number, ten times as large as
+-- often as `raised` says, and a tenth as large as often as `lowered` says.
 abbrev pub mantissa : Word → ℕ
 mantissa w = number_of (digits w)
 
 abbrev pub exponent_size : Word → ℕ
 exponent_size w = number_of (without_sign (exponent w))
 
-abbrev pub raised : Word → ℕ
-raised w = 6 + (if has_minus (exponent w) then 0 else exponent_size w)
+abbrev pub raised : ℕ → Word → ℕ
+raised tens w = 6 + tens + (if has_minus (exponent w) then 0 else exponent_size w)
 
 abbrev pub lowered : Word → ℕ
 lowered w = length (places (significand w)) + (if has_minus (exponent w) then exponent_size w else 0)
 
--- the numerator of a decimal's value in millionths, its power of ten cut: no replacement changes (law)
+-- the numerator, in millionths, of a decimal's value times a power of ten, its powers of ten cut: no replacement
+-- changes (law)
 --
 -- 10^19 millionths are above the greatest price, and a number of some digits is less than half of the power that has
 -- one place more than it has digits. So a long exponent makes no large number. Of the two powers one is 1.
-abbrev pub top : Word → ℕ
-top w = mantissa w * 10 ^ min 19 (raised w - lowered w)
+abbrev pub top : ℕ → Word → ℕ
+top tens w = mantissa w * 10 ^ min 19 (raised tens w - lowered w)
 
 -- the denominator beside `top`, a power of ten
-abbrev pub bottom : Word → ℕ
-bottom w = 10 ^ min (suc (length (digits w))) (lowered w - raised w)
+abbrev pub bottom : ℕ → Word → ℕ
+bottom tens w = 10 ^ min (suc (length (digits w))) (lowered w - raised tens w)
 
--- the numerator of a decimal's value in millionths
-abbrev pub exact_top : Word → ℕ
-exact_top w = mantissa w * 10 ^ (raised w - lowered w)
+-- the numerator, in millionths, of a decimal's value times a power of ten
+abbrev pub exact_top : ℕ → Word → ℕ
+exact_top tens w = mantissa w * 10 ^ (raised tens w - lowered w)
 
 -- the denominator beside `exact_top`, a power of ten
-abbrev pub exact_bottom : Word → ℕ
-exact_bottom w = 10 ^ (lowered w - raised w)
+abbrev pub exact_bottom : ℕ → Word → ℕ
+exact_bottom tens w = 10 ^ (lowered w - raised tens w)

@@ -4,7 +4,7 @@ use Rattle.std.specs.List.{flat_map}
 use Rattle.cats_text.specs.Lines.{Word, RawLine, is_blank, line_byte, blank_returns, raw_lines, line_words}
 use Rattle.cats_text.specs.Lines.{is_significant}
 use Rattle.rounding.specs.Replacements.{replacement, rounded_word}
-use Rattle.rounding.specs.declared.replacement.FinePrices.{FinePrices}
+use Rattle.rounding.specs.declared.replacement.PriceRule.{PriceRule}
 use Rattle.rounding.specs.declared.replacement.Replacement.{Replacement}
 use Rattle.rounding.specs.declared.replacement.Replacement.TheVariants.{Itself, Exact, Rounded, TooLarge, TooFine}
 
@@ -58,17 +58,17 @@ abbrev pub before_next : ℕ → RawLine → ℕ
 before_next before l = if is_significant_line l then suc before else before
 
 -- the line with its second word rounded
-abbrev pub with_rounded : FinePrices → List ℕ → List ℕ
-with_rounded fine line = before_second line ++ rounded_word fine (second_word line) ++ behind_second line
+abbrev pub with_rounded : PriceRule → List ℕ → List ℕ
+with_rounded rule line = before_second line ++ rounded_word rule (second_word line) ++ behind_second line
 
 -- so many significant lines are before it
-abbrev pub rounded_line : FinePrices → ℕ → RawLine → RawLine
-rounded_line fine before l =
-    record { bytes = if is_bid_line before l then with_rounded fine l.bytes else l.bytes; ended = l.ended }
+abbrev pub rounded_line : PriceRule → ℕ → RawLine → RawLine
+rounded_line rule before l =
+    record { bytes = if is_bid_line before l then with_rounded rule l.bytes else l.bytes; ended = l.ended }
 
-abbrev pub rounded_lines : FinePrices → ℕ → List RawLine → List RawLine
-rounded_lines fine before [] = []
-rounded_lines fine before (l ∷ ls) = rounded_line fine before l ∷ rounded_lines fine (before_next before l) ls
+abbrev pub rounded_lines : PriceRule → ℕ → List RawLine → List RawLine
+rounded_lines rule before [] = []
+rounded_lines rule before (l ∷ ls) = rounded_line rule before l ∷ rounded_lines rule (before_next before l) ls
 
 -- ---- texts
 
@@ -80,8 +80,8 @@ abbrev pub lines_text : List RawLine → List ℕ
 lines_text ls = flat_map line_text ls
 
 -- the text with the second word of each bid line replaced
-abbrev pub rounded_text : FinePrices → List ℕ → List ℕ
-rounded_text fine text = lines_text (rounded_lines fine 0 (raw_lines text))
+abbrev pub rounded_text : PriceRule → List ℕ → List ℕ
+rounded_text rule text = lines_text (rounded_lines rule 0 (raw_lines text))
 
 -- ---- rounded prices
 
@@ -99,15 +99,15 @@ change_by line w TooLarge = []
 change_by line w TooFine = []
 
 -- of the line with this number, before which there are so many significant lines
-abbrev pub line_changes : FinePrices → ℕ → ℕ → RawLine → List PlainRoundedPrice
-line_changes fine number before l = if is_bid_line before l
-    then change_by number (second_word l.bytes) (replacement fine (second_word l.bytes)) else []
+abbrev pub line_changes : PriceRule → ℕ → ℕ → RawLine → List PlainRoundedPrice
+line_changes rule number before l = if is_bid_line before l
+    then change_by number (second_word l.bytes) (replacement rule (second_word l.bytes)) else []
 
-abbrev pub lines_changes : FinePrices → ℕ → ℕ → List RawLine → List PlainRoundedPrice
-lines_changes fine number before [] = []
-lines_changes fine number before (l ∷ ls) =
-    line_changes fine number before l ++ lines_changes fine (suc number) (before_next before l) ls
+abbrev pub lines_changes : PriceRule → ℕ → ℕ → List RawLine → List PlainRoundedPrice
+lines_changes rule number before [] = []
+lines_changes rule number before (l ∷ ls) =
+    line_changes rule number before l ++ lines_changes rule (suc number) (before_next before l) ls
 
 -- line, word and new price of each price whose value changed
-abbrev pub rounded_prices : FinePrices → List ℕ → List PlainRoundedPrice
-rounded_prices fine text = lines_changes fine 1 0 (raw_lines text)
+abbrev pub rounded_prices : PriceRule → List ℕ → List PlainRoundedPrice
+rounded_prices rule text = lines_changes rule 1 0 (raw_lines text)

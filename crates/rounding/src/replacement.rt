@@ -3,7 +3,7 @@
 ghost use Rattle.std.specs.Prelude.{◌≡◌, is_none};
 ghost use Rattle.cats_text.specs.Faults.{price_word};
 ghost use Rattle.cats_text.specs.Numbers.{is_price, is_too_large, is_too_fine};
-ghost use Rattle.rounding.specs.Replacements.{replacement};
+ghost use Rattle.rounding.specs.Replacements.{is_kept, replacement};
 
 use crate::decimal::{is_decimal, places, whole_part};
 use crate::digits::{has_place, held_number, is_number};
@@ -19,12 +19,21 @@ pub enum FinePrices {
     Refuse,
 }
 
+/// What becomes of each price of a text.
+#[derive(Clone, Copy, PartialEq, Eq, Debug, Drop)]
+pub struct PriceRule {
+    /// What becomes of a decimal that is no whole number of millionths.
+    pub fine: FinePrices,
+    /// By which power of ten it is multiplied before. If by none, a valid price stays as it is.
+    pub tens: u8,
+}
+
 /// What is written in place of a word that has to be a price.
 #[derive(Clone, Copy, PartialEq, Eq, Debug, Drop)]
 pub enum Replacement {
-    /// The word itself: it is a price that is read exactly, or no decimal.
+    /// The word itself: it is a price that is read exactly and not multiplied, or no decimal.
     Itself,
-    /// The price of so many millionths, which the word is worth exactly.
+    /// The price of so many millionths, which the word is worth exactly, times the power of ten.
     Exact(u64),
     /// The price of so many millionths, to which the word was rounded.
     Rounded(u64),
@@ -71,15 +80,23 @@ fn is_exact_price(word: &[u8]) -> bool
     is_price(word) && !is_too_large(word) && !is_too_fine(word)
 }
 
-/// What is written in place of a word that has to be a price.
-pub fn replacement_of(word: &[u8], fine: FinePrices) -> Replacement
-    ensures { result ≡ replacement fine word.now }
+/// Whether a word is a price that stays as it is.
+fn is_kept(word: &[u8], rule: PriceRule) -> bool
+    ensures { result ≡ is_kept rule word.now }
 {
-    if is_exact_price(word) || !is_decimal(word) {
+    rule.tens == 0 && is_exact_price(word)
+}
+
+/// What is written in place of a word that has to be a price.
+pub fn replacement_of(word: &[u8], rule: PriceRule) -> Replacement
+    ensures { result ≡ replacement rule word.now }
+{
+    if is_kept(word, rule) || !is_decimal(word) {
         return Replacement::Itself;
     }
-    match fine {
-        FinePrices::Round => value_of(word).rounded(),
-        FinePrices::Refuse => value_of(word).exact(),
+    let value = value_of(word, rule.tens);
+    match rule.fine {
+        FinePrices::Round => value.rounded(),
+        FinePrices::Refuse => value.exact(),
     }
 }

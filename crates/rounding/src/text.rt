@@ -22,7 +22,7 @@ ghost use Rattle.rounding.specs.Views.{plain_changes};
 ghost use Rattle.rounding.specs.Internal.RawTexts.{first_line};
 
 use crate::line::{is_significant, second_start, split_word};
-use crate::replacement::{FinePrices, Replacement, replacement_of};
+use crate::replacement::{PriceRule, Replacement, replacement_of};
 use cats_text::packed::check;
 use cats_text::price::push_price;
 use cats_text::{Kind, ReadFault};
@@ -72,15 +72,15 @@ impl RoundedText {
         alloc: Global,
         line: &[u8],
         number: u64,
-        fine: FinePrices,
+        rule: PriceRule,
     ) -> Result<(), AllocError>
-        ensures text { OnOk result (self.new.text.items ≡ self.old.text.items ++ with_rounded fine line.now) }
+        ensures text { OnOk result (self.new.text.items ≡ self.old.text.items ++ with_rounded rule line.now) }
         ensures prices { OnOk result (plain_changes self.new.prices.items ≡ plain_changes self.old.prices.items
-            ++ change_by number (second_word line.now) (replacement fine (second_word line.now))) }
+            ++ change_by number (second_word line.now) (replacement rule (second_word line.now))) }
     {
         let start = second_start(line);
         let (word, behind) = split_word(&line[start..]);
-        let replacement = replacement_of(word, fine);
+        let replacement = replacement_of(word, rule);
         self.text.extend_from_slice(&line[..start])?;
         push_replacement(&mut self.text, word, replacement)?;
         self.text.extend_from_slice(behind)?;
@@ -103,15 +103,15 @@ impl RoundedText {
         line: &[u8],
         is_bid: bool,
         number: u64,
-        fine: FinePrices,
+        rule: PriceRule,
     ) -> Result<(), AllocError>
         ensures text { OnOk result (self.new.text.items ≡ self.old.text.items
-            ++ (if is_bid then with_rounded fine line.now else line.now)) }
+            ++ (if is_bid then with_rounded rule line.now else line.now)) }
         ensures prices { OnOk result (plain_changes self.new.prices.items ≡ plain_changes self.old.prices.items
-            ++ (if is_bid then change_by number (second_word line.now) (replacement fine (second_word line.now)) else [])) }
+            ++ (if is_bid then change_by number (second_word line.now) (replacement rule (second_word line.now)) else [])) }
     {
         if is_bid {
-            self.push_bid_line(alloc, line, number, fine)
+            self.push_bid_line(alloc, line, number, rule)
         } else {
             self.text.extend_from_slice(line)
         }
@@ -149,9 +149,9 @@ fn line_length(text: &[u8]) -> usize
 }
 
 /// The text with its prices rounded, whether or not it is a bid file then.
-pub fn round_prices(alloc: Global, text: &[u8], fine: FinePrices) -> Result<RoundedText, AllocError>
-    ensures text { IfOk result (λ r. r.text.items ≡ rounded_text fine text.now) }
-    ensures prices { IfOk result (λ r. plain_changes r.prices.items ≡ rounded_prices fine text.now) }
+pub fn round_prices(alloc: Global, text: &[u8], rule: PriceRule) -> Result<RoundedText, AllocError>
+    ensures text { IfOk result (λ r. r.text.items ≡ rounded_text rule text.now) }
+    ensures prices { IfOk result (λ r. plain_changes r.prices.items ≡ rounded_prices rule text.now) }
 {
     let mut rounded = RoundedText {
         text: Vec::new(alloc),
@@ -165,7 +165,7 @@ pub fn round_prices(alloc: Global, text: &[u8], fine: FinePrices) -> Result<Roun
         let line = &text[start..end];
         let significant = is_significant(line);
         let is_bid = is_bid_line(before, significant);
-        rounded.push_line(alloc, line, is_bid, number, fine)?;
+        rounded.push_line(alloc, line, is_bid, number, rule)?;
         push_end(&mut rounded.text, end < text.len())?;
         start = text.len().min(end + 1);
         number += 1;
@@ -189,9 +189,9 @@ fn has_bid_line(text: &[u8]) -> bool
 }
 
 /// Judges a text in which no bid line has begun. No byte of it changes, so its fault needs no memory.
-fn round_header(alloc: Global, text: &[u8], fine: FinePrices) -> Result<RoundedText, ReadFault>
+fn round_header(alloc: Global, text: &[u8], rule: PriceRule) -> Result<RoundedText, ReadFault>
     requires { has_bid_line text.now ≡ false }
-    ensures { RoundAnswer fine text.now result }
+    ensures { RoundAnswer rule text.now result }
 {
     check(alloc, text)?;
     match Vec::from_slice(alloc, text) {
@@ -205,13 +205,13 @@ fn round_header(alloc: Global, text: &[u8], fine: FinePrices) -> Result<RoundedT
 
 /// Rounds the prices of a text, and judges whether what it gives is a bid file. No bid of it is kept. Memory is refused
 /// only if a bid line has begun, or if the rounded text is a bid file.
-pub fn round(alloc: Global, text: &[u8], fine: FinePrices) -> Result<RoundedText, ReadFault>
-    ensures { RoundAnswer fine text.now result }
+pub fn round(alloc: Global, text: &[u8], rule: PriceRule) -> Result<RoundedText, ReadFault>
+    ensures { RoundAnswer rule text.now result }
 {
     if !has_bid_line(text) {
-        return round_header(alloc, text, fine);
+        return round_header(alloc, text, rule);
     }
-    let Ok(rounded) = round_prices(alloc, text, fine) else {
+    let Ok(rounded) = round_prices(alloc, text, rule) else {
         return Err(ReadFault::whole(Kind::Memory));
     };
     check(alloc, &rounded.text)?;

@@ -19,7 +19,7 @@ const HELD: u64 = MAX_PRICE + 1;
 /// Above this power of ten every number but 0 is above the greatest price.
 const GREATEST_POWER: u64 = 19;
 
-/// The power of ten of millionths in a unit.
+/// The power of ten that is the number of millionths in a unit.
 const MILLIONTHS: u64 = 6;
 
 /// A value in millionths: its whole part, held at a bound above the greatest price, and what is left.
@@ -137,41 +137,52 @@ struct Shift {
     down: u64,
 }
 
-/// The powers of a decimal that has these bytes behind its exponent's mark, and so many digits, of which some are
-/// behind the point. The size of the exponent is held at a bound above which it changes neither.
-fn shift_of(exponent: &[u8], places: u64, size: u64, limit: u64) -> Shift
+/// The powers of a decimal that is multiplied by ten so often. It has these bytes behind its exponent's mark, and so many
+/// digits, of which some are behind the point. The size of the exponent is held at a bound above which it changes neither.
+fn shift_of(exponent: &[u8], tens: u8, places: u64, size: u64, limit: u64) -> Shift
     requires places { places ≤ size }
     requires size { size ≤ limit }
     requires limit { limit < 2 ^ 63 }
-    ensures up { result.up ≡ min 19 (shift_up exponent.now places) }
-    ensures down { result.down ≡ min (suc size) (shift_down exponent.now places) }
+    ensures up { result.up ≡ min 19 (shift_up tens exponent.now places) }
+    ensures down { result.down ≡ min (suc size) (shift_down tens exponent.now places) }
 {
-    let power = held_number(without_sign(exponent), 0, limit + GREATEST_POWER + 1);
+    let millionths = MILLIONTHS + u64::from(tens);
+    let power = held_number(
+        without_sign(exponent),
+        0,
+        limit + millionths + GREATEST_POWER + 1,
+    );
     if has_minus(exponent) {
         let lowered = places.saturating_add(power);
         return Shift {
-            up: GREATEST_POWER.min(MILLIONTHS.saturating_sub(lowered)),
-            down: (size + 1).min(lowered.saturating_sub(MILLIONTHS)),
+            up: GREATEST_POWER.min(millionths.saturating_sub(lowered)),
+            down: (size + 1).min(lowered.saturating_sub(millionths)),
         };
     }
-    let raised = MILLIONTHS + power;
+    let raised = millionths + power;
     Shift {
         up: GREATEST_POWER.min(raised.saturating_sub(places)),
         down: (size + 1).min(places.saturating_sub(raised)),
     }
 }
 
-/// The value of a decimal.
-pub fn value_of(word: &[u8]) -> Value
+/// The value of a decimal that is multiplied by ten so often.
+pub fn value_of(word: &[u8], tens: u8) -> Value
     requires { is_decimal word.now ≡ true }
-    ensures value { Holds result (top word.now) (bottom word.now) }
+    ensures value { Holds result (top tens word.now) (bottom tens word.now) }
     ensures bound { result.whole ≤ HELD }
 {
     let significand = significand(word);
     let whole = whole_part(significand);
     let places = places(significand);
     let size = (whole.len() + places.len()) as u64;
-    let shift = shift_of(exponent(word), places.len() as u64, size, word.len() as u64);
+    let shift = shift_of(
+        exponent(word),
+        tens,
+        places.len() as u64,
+        size,
+        word.len() as u64,
+    );
     if shift.down > 0 {
         return cut_value(whole, places, shift.down);
     }

@@ -7,7 +7,7 @@ ghost use Rattle.cats_c.specs.Calls.{options_of, prices_of, request_by, request_
 use crate::call::CallRequest;
 use requests::request::Request;
 use requests::task::{TASKS, TaskRow};
-use rounding::replacement::FinePrices;
+use rounding::replacement::{FinePrices, PriceRule};
 use std::alloc::{AllocError, Global};
 use valuation::search::SearchOptions;
 
@@ -71,15 +71,16 @@ fn paths_of<'a>(alloc: Global, names: &'a [String]) -> Result<Vec<&'a str>, Allo
     Ok(paths)
 }
 
-/// What becomes of fine prices, if prices are rounded.
-fn prices_of(prices: u8) -> Option<FinePrices>
+/// What becomes of each price, if prices are rounded.
+fn prices_of(prices: u8) -> Option<PriceRule>
     ensures { result ≡ prices_of prices }
 {
-    match prices {
-        AS_WRITTEN => None,
-        ROUNDED => Some(FinePrices::Round),
-        _ => Some(FinePrices::Refuse),
-    }
+    let fine = match prices {
+        AS_WRITTEN => return None,
+        ROUNDED => FinePrices::Round,
+        _ => FinePrices::Refuse,
+    };
+    Some(PriceRule { fine, tens: 0 })
 }
 
 /// How the files are searched: by bounded searches, unless the command lets the caller choose and the caller chooses plain

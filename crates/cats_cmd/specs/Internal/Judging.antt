@@ -3,7 +3,7 @@ use Rattle.std.specs.Prelude.{◌≡◌, ℕ, Bool, List, [], ◌∷◌, ◌++�
 use Rattle.std.specs.declared.alloc.AllocError.{AllocError}
 use Rattle.cats_text.specs.declared.stream.Watched.{Watched}
 use Rattle.bid_file.specs.Files.{PlainFile}
-use Rattle.rounding.specs.declared.replacement.FinePrices.{FinePrices}
+use Rattle.rounding.specs.declared.replacement.PriceRule.{PriceRule}
 use Rattle.valuation.specs.declared.search.options.SearchOptions.{SearchOptions}
 use Rattle.canon.specs.FirstNumbers.{IsIndexOf, TextIndex}
 use Rattle.canon.specs.Canonical.{canonical_text}
@@ -11,6 +11,7 @@ use Rattle.canon.specs.Sameness.{AreSameFiles}
 use Rattle.canon.specs.Unsearched.{AreAlike, unsearched_text}
 use Rattle.cats_cmd.specs.DuplicateTexts.{found_paths}
 use Rattle.cats_cmd.specs.Duplicates.{FindsNumbers, heavy_files, heavy_paths, judged_files, judged_paths}
+use Rattle.cats_cmd.specs.declared.priced_input.RoundedCount.{RoundedCount}
 use Rattle.cats_cmd.specs.declared.duplicates.Groups.{Groups}
 use Rattle.cats_cmd.specs.Opening.{Opening, Opens, OpensFirst, openings_of}
 use Rattle.cats_cmd.specs.declared.source.Way.{Way}
@@ -70,9 +71,9 @@ module _ {C : Type 0} (Has : C → List (List ℕ × Judgement) → Type 0) wher
     pub is_fault : fault ≡ fault_judged judgement
 
   module _ {F : Type 0} (may_open : List ℕ → F → Type 0) (may_refuse : List ℕ → Unopened → Type 0)
-      (remaining : F → Option (List ℕ)) (options : Option SearchOptions) (prices : Option FinePrices) where
+      (remaining : F → Option (List ℕ)) (options : Option SearchOptions) (prices : Option PriceRule) where
     -- the file at the path was judged, and so many of its prices were rounded
-    pub record AddsFile (path : List ℕ) (old new : C) (rounded : ℕ) (fault : Option RunFault) : Type 0 where
+    pub record AddsFile (path : List ℕ) (old new : C) (rounded : RoundedCount) (fault : Option RunFault) : Type 0 where
       pub judgement : Judgement
       pub judges : JudgesAs may_open may_refuse remaining options prices path rounded judgement
       pub adds : AddsJudgement path judgement old new
@@ -82,7 +83,7 @@ module _ {C : Type 0} (Has : C → List (List ℕ × Judgement) → Type 0) wher
     pub record AddsPath {E : Type 0} (messages : E → Option (List ℕ)) (reporting : Reporting) (count number : ℕ)
         (path : List ℕ) (old new : C) (err err_after : Watched E) (status : ℕ) : Type 0 where
       pub judgement : Judgement
-      pub rounded : ℕ
+      pub rounded : RoundedCount
       pub lost : Bool
       pub judges : JudgesAs may_open may_refuse remaining options prices path rounded judgement
       pub adds : AddsJudgement path judgement old new

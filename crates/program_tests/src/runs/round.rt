@@ -26,6 +26,16 @@ static TEXTS: &[Row<'_>] = rows! {
     ("round --exact FILE", &[b"{1 1 0}0 1e-7 0 #\n"], 2, "", "line 4: TooFine\n"),
     ("round --exact FILE", &[b"{1 1 0}0 1000000000000.0000001 0 #\n"], 2, "", "line 4: TooLarge\n"),
     ("round --exact FILE", &[b"{1 1 0}0 1.5e1 0 #\n"], 0, "{1 1 0}0 15 0 #\n", ""),
+    // prices are multiplied first, valid ones too
+    ("round --times 1000000 FILE", &[b"{1 3 0}0 2e-06 0 #\n1 0.0000031 0 #\n2 1.0000000000006 0 #\n"], 0,
+     "{1 3 0}0 2 0 #\n1 3.1 0 #\n2 1000000.000001 0 #\n", "line 6: 1.0000000000006 rounded to 1000000.000001\n"),
+    ("round --times=10 FILE", &[b"% 1e3\n{1 1 0}0\t007.50 0 #\r"], 0, "% 1e3\n{1 1 0}0\t75 0 #\r", ""),
+    ("round --times=1 FILE", &[b"{1 1 0}0\t007.50 0 #\n"], 0, "{1 1 0}0\t007.50 0 #\n", ""),
+    ("round --times=100 --exact FILE", &[b"{1 1 0}0 0.00000001 0 #\n"], 0, "{1 1 0}0 0.000001 0 #\n", ""),
+    ("round --exact --times=10 FILE", &[b"{1 1 0}0 0.00000001 0 #\n"], 2, "", "line 4: TooFine\n"),
+    ("round --times=10 FILE", &[b"{1 1 0}0 100000000001 0 #\n"], 2, "", "line 4: TooLarge\n"),
+    ("round --times=20 FILE", &[b"{1 1 0}0 1 0 #\n"], 64, "",
+     "error: '--times <N>' is a power of ten, from 1 to 1000000000000\n\nFor more information, try '--help'.\n"),
 };
 
 #[test]

@@ -36,7 +36,7 @@ static ROWS: &[Row<'_>] = rows! {
     ("show --round exponents", 0, "goods 1\nbids 1\ndummy 0\n0\t15\t0\t#\n", ""),
     ("show --round-exact exponents", 0, "goods 1\nbids 1\ndummy 0\n0\t15\t0\t#\n", ""),
     ("compare --round exponents fine", 1, "different\ngoods\nleft 1\nright 2\n", "fine: 2 prices rounded\n"),
-    ("check --round a\nb", 0, "goods 1 bids 1 dummy 0\n", "a\\nb: 1 price rounded\n"),
+    ("check --round a\nb", 0, "goods 1 bids 1 dummy 0\n", "a\\nb: 1 price rounded, 1 to 0\n"),
     // with both flags the exact one holds
     ("check --round-exact fine", 2, "", "line 4: TooFine\n"),
     ("value --round --round-exact fine 0", 2, "", "line 4: TooFine\n"),
@@ -72,9 +72,9 @@ static ROWS: &[Row<'_>] = rows! {
     ("diff --round twin a\nb", 1,
      "kind\tgoods\tleft\tright\tleft_dummy\tright_dummy\tleft_bid\tright_bid\ngoods\t\t2\t1\t\t\t\t\n\
      or\t0\t0.012346\t\t\t\t1\t\nor\t1\t1000\t\t\t\t2\t\nxor\t0 1\t2\t\t3\t\t0\t\n",
-     "twin: 1 price rounded\na\\nb: 1 price rounded\n"),
+     "twin: 1 price rounded\na\\nb: 1 price rounded, 1 to 0\n"),
     ("sizes --round --progress fine a\nb", 0, "@\n2\t3\t2\t1\t1\t3\t2\t1\t\tfine\n1\t1\t1\t0\t0\t0\t0\t0\t\ta\\nb\n",
-     "fine: 2 prices rounded\na\\nb: 1 price rounded\n2 of 2 a\\nb\n"),
+     "fine: 2 prices rounded\na\\nb: 1 price rounded, 1 to 0\n2 of 2 a\\nb\n"),
     // without a flag prices are read as they are written
     ("check fine", 2, "", "line 4: TooFine\n"),
     ("check exponents", 2, "", "line 4: NotANumber\n"),
@@ -148,7 +148,7 @@ fn streams_fail_around_rounding(rt: HostRuntime) -> Result<(), Fail> {
     let path = format!(in rt.alloc(); "/tmp/cats_rounded_{id}.cats")?;
     fs::write(&rt, path.as_str(), "goods 1\nbids 1\ndummy 0\n0 1e-7 0 #\n")?;
     let reported = format!(in rt.alloc();
-        "{path}: 1 price rounded\noutput failed after 5 bytes\n"
+        "{path}: 1 price rounded, 1 to 0\noutput failed after 5 bytes\n"
     )?;
     let line = "cats check --round FILE";
     let cut_off = run(&rt, line, path.as_str(), "", 5, CAPACITY)?;

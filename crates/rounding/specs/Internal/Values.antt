@@ -22,12 +22,12 @@ pub record Holds (v : Value) (n d : ℕ) : Type 0 where
   pub bottom : 0 < d
   pub rest : IsRest v.rest (n % d) d
 
--- by which powers of ten the number that the digits spell is raised and lowered, to be millionths: of the bytes behind
--- the exponent's mark, and of how many digits are behind the point
-abbrev pub shift_up : Word → ℕ → ℕ
-shift_up x places = (6 + (if has_minus x then 0 else number_of (without_sign x)))
+-- by which powers of ten the number that the digits spell is raised and lowered, to be millionths of the value times a
+-- power of ten: of the bytes behind the exponent's mark, and of how many digits are behind the point
+abbrev pub shift_up : ℕ → Word → ℕ → ℕ
+shift_up tens x places = (6 + tens + (if has_minus x then 0 else number_of (without_sign x)))
     - (places + (if has_minus x then number_of (without_sign x) else 0))
 
-abbrev pub shift_down : Word → ℕ → ℕ
-shift_down x places = (places + (if has_minus x then number_of (without_sign x) else 0))
-    - (6 + (if has_minus x then 0 else number_of (without_sign x)))
+abbrev pub shift_down : ℕ → Word → ℕ → ℕ
+shift_down tens x places = (places + (if has_minus x then number_of (without_sign x) else 0))
+    - (6 + tens + (if has_minus x then 0 else number_of (without_sign x)))

@@ -1,5 +1,6 @@
 //! Whole texts.
 
+use crate::prices::{REFUSED, ROUNDED, multiplied};
 use cats_text::Kind;
 use rounding::replacement::FinePrices;
 use rounding::text::{round, round_prices};
@@ -14,7 +15,7 @@ static WANT: &[u8] =
 
 #[test]
 fn prices_of_a_text(rt: HostRuntime) -> Result<(), Fail> {
-    match round(rt.alloc(), TEXT, FinePrices::Round) {
+    match round(rt.alloc(), TEXT, ROUNDED) {
         Ok(rounded) => {
             assert!(rt; rounded.text.as_slice() == WANT);
             assert_eq!(rt; rounded.prices.len(), 1);
@@ -24,7 +25,7 @@ fn prices_of_a_text(rt: HostRuntime) -> Result<(), Fail> {
         }
         Err(fault) => assert_eq!(rt; fault.line, 1_000),
     }
-    match round(rt.alloc(), TEXT, FinePrices::Refuse) {
+    match round(rt.alloc(), TEXT, REFUSED) {
         Ok(_) => assert!(rt; false),
         Err(fault) => {
             assert_eq!(rt; fault.line, 9);
@@ -37,15 +38,31 @@ fn prices_of_a_text(rt: HostRuntime) -> Result<(), Fail> {
 /// A text that is no bid file, and what it becomes.
 static NO_FILE: &[u8] = b"goods 2\nbids 1\ndummy 0\n0 1e-7 9 #\n1 2.5e0 x";
 
-static ROUNDED: &[u8] = b"goods 2\nbids 1\ndummy 0\n0 0 9 #\n1 2.5 x";
+static WITH_PRICES: &[u8] = b"goods 2\nbids 1\ndummy 0\n0 0 9 #\n1 2.5 x";
 
 #[test]
 fn prices_of_any_text(rt: HostRuntime) -> Result<(), Fail> {
-    let rounded = round_prices(rt.alloc(), NO_FILE, FinePrices::Round)?;
-    assert!(rt; rounded.text.as_slice() == ROUNDED);
+    let rounded = round_prices(rt.alloc(), NO_FILE, ROUNDED)?;
+    assert!(rt; rounded.text.as_slice() == WITH_PRICES);
     assert_eq!(rt; rounded.prices.len(), 1);
     assert_eq!(rt; rounded.prices[0].line, 4);
     assert_eq!(rt; rounded.prices[0].price, 0);
     assert!(rt; rounded.prices[0].word.as_slice() == b"1e-7".as_slice());
+    Ok(())
+}
+
+/// A text with prices of a few millionths, and what a million times each of them gives.
+static SMALL: &[u8] =
+    b"goods 2\nbids 3\ndummy 0\n0 2e-06 0 #\n1\t0.0000031 1 #\n2 1.0000000000006 0 1 #\n";
+
+static MILLIONS: &[u8] = b"goods 2\nbids 3\ndummy 0\n0 2 0 #\n1\t3.1 1 #\n2 1000000.000001 0 1 #\n";
+
+#[test]
+fn a_million_times_the_prices(rt: HostRuntime) -> Result<(), Fail> {
+    let rounded = round_prices(rt.alloc(), SMALL, multiplied(FinePrices::Round, 6))?;
+    assert!(rt; rounded.text.as_slice() == MILLIONS);
+    assert_eq!(rt; rounded.prices.len(), 1);
+    assert_eq!(rt; rounded.prices[0].line, 6);
+    assert_eq!(rt; rounded.prices[0].price, 1_000_000_000_001);
     Ok(())
 }

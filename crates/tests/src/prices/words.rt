@@ -1,5 +1,6 @@
 //! Words in place of a price.
 
+use crate::prices::{REFUSED, ROUNDED, multiplied};
 use rounding::replacement::Replacement::{Exact, Itself, Rounded, TooFine, TooLarge};
 use rounding::replacement::{FinePrices, Replacement, replacement_of};
 use std::alloc::{AllocError, Global};
@@ -39,13 +40,41 @@ static WORDS: &[(&[u8], Replacement, Replacement)] = rows! {
 #[test]
 fn words_and_replacements(rt: HostRuntime) -> Result<(), Fail> {
     for (word, rounded, refused) in WORDS {
+        assert_eq!(rt; replacement_of(word, ROUNDED), *rounded, "of {word:?}");
+        assert_eq!(rt; replacement_of(word, REFUSED), *refused, "of {word:?}");
+    }
+    Ok(())
+}
+
+/// Powers of ten, words that are multiplied by them, and their replacements.
+static PRODUCTS: &[(u8, &[u8], Replacement, Replacement)] = rows! {
+    (6, b"0.0000031", Exact(3_100_000), Exact(3_100_000)),
+    (6, b"3.14159e-05", Exact(31_415_900), Exact(31_415_900)),
+    (6, b"5e-13", Rounded(0), TooFine),
+    (6, b"15e-13", Rounded(2), TooFine),
+    (6, b"1000000", Exact(1_000_000_000_000_000_000), Exact(1_000_000_000_000_000_000)),
+    (6, b"1000000.000000000000499", Rounded(1_000_000_000_000_000_000), TooLarge),
+    (6, b"1000001", TooLarge, TooLarge),
+    (6, b"1,5", Itself, Itself),
+    (12, b"1e-18", Exact(1), Exact(1)),
+    (12, b"1.000001", TooLarge, TooLarge),
+    (1, b"007.50", Exact(75_000_000), Exact(75_000_000)),
+    (1, b"0", Exact(0), Exact(0)),
+    (255, b"1e-243", Exact(1_000_000_000_000_000_000), Exact(1_000_000_000_000_000_000)),
+    (255, b"5e-262", Rounded(0), TooFine),
+    (255, b"1e-99999999999999999999999999", Rounded(0), TooFine),
+};
+
+#[test]
+fn products_and_replacements(rt: HostRuntime) -> Result<(), Fail> {
+    for (tens, word, rounded, refused) in PRODUCTS {
         assert_eq!(rt;
-            replacement_of(word, FinePrices::Round),
+            replacement_of(word, multiplied(FinePrices::Round, *tens)),
             *rounded,
             "of {word:?}"
         );
         assert_eq!(rt;
-            replacement_of(word, FinePrices::Refuse),
+            replacement_of(word, multiplied(FinePrices::Refuse, *tens)),
             *refused,
             "of {word:?}"
         );
@@ -70,7 +99,7 @@ static EXPONENTS: &[(&[u8], Replacement)] = rows! {
 fn long_words(rt: HostRuntime) -> Result<(), Fail> {
     for (exponent, replacement) in EXPONENTS {
         let word = long_word(rt.alloc(), exponent)?;
-        let found = replacement_of(&word, FinePrices::Round);
+        let found = replacement_of(&word, ROUNDED);
         assert_eq!(rt; found, *replacement, "of {exponent:?}");
     }
     Ok(())

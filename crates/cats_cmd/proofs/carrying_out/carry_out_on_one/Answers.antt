@@ -8,5 +8,5 @@ returns-in_ok-input-in-Round-clause-carries g c =
       before = c.in_ok-input-in-Round.input;
       after = c.run_round.new.input;
       opened = c.in_ok-input-in-Round.ensures.opened;
-      runs = rw c.unwrap_or-fine.ensures at c.run_round.ensures;
+      runs = rw c.unwrap_or-rule.ensures at c.run_round.ensures;
     }))

@@ -14,8 +14,8 @@ returns-clause-carries g c =
       left_after = c.answer_on_pair-answer.new.first;
       right = c.new-right.result;
       right_after = c.answer_on_pair-answer.new.second;
-      left_opened = is_priced _ _ _ c.in_ok-left.left _ c.new-left.ensures.stream c.new-left.ensures.fine c.new-left.ensures.unread opened.0;
-      right_opened = is_priced _ _ _ c.in_ok-left.right _ c.new-right.ensures.stream c.new-right.ensures.fine c.new-right.ensures.unread opened.1;
+      left_opened = is_priced _ _ _ c.in_ok-left.left _ c.new-left.ensures.stream c.new-left.ensures.rule c.new-left.ensures.unread opened.0;
+      right_opened = is_priced _ _ _ c.in_ok-left.right _ c.new-right.ensures.stream c.new-right.ensures.rule c.new-right.ensures.unread opened.1;
       sent = c.send_answer-sent.result;
       runs = pair_run _ _ _ _ _ _ _ _ _ request.task request.options _ _ c.answer_on_pair-answer.result c.answer_on_pair-answer.ensures _
           c.send_answer-sent.ensures;

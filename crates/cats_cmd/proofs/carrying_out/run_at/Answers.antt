@@ -10,7 +10,7 @@ returns-clause-runs g c =
     rw c.answer_if_lost.ensures (inl (record {
       before = c.new-input.result;
       after = c.answer_on_file-answer.new.input;
-      opened = is_priced _ _ _ c.in_ok-stream.stream _ c.new-input.ensures.stream c.new-input.ensures.fine c.new-input.ensures.unread
+      opened = is_priced _ _ _ c.in_ok-stream.stream _ c.new-input.ensures.stream c.new-input.ensures.rule c.new-input.ensures.unread
           c.in_ok-stream.ensures.opened;
       sent = c.send_answer-sent.result;
       runs = file_run _ _ _ (outcome_of (plain_request request) c.args.bids.now) _ _ _ _ c.answer_on_file-answer.result

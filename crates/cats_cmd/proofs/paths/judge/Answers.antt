@@ -10,7 +10,7 @@ returns-in_ok-fault-in-Ok-clause-adds g c =
     record {
       judgement = a.judgement;
       judges = rw c.rounded.ensures (opened_judges _ _ _ _ _ _ _ _
-          (is_priced _ _ _ c.in-Ok.stream _ c.new-input.ensures.stream c.new-input.ensures.fine c.new-input.ensures.unread c.in-Ok.ensures.opened)
+          (is_priced _ _ _ c.in-Ok.stream _ c.new-input.ensures.stream c.new-input.ensures.rule c.new-input.ensures.unread c.in-Ok.ensures.opened)
           a.judgement a.judges);
       adds = a.adds;
       is_fault = a.is_fault;

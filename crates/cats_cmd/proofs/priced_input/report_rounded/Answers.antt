@@ -2,7 +2,7 @@
 use Rattle.cats_cmd.proofs.Common.{refl, arith, ne_eqb}
 use Rattle.cats_cmd.proofs.priced_input.report_rounded.Goals as goal
 
-pub returns-then-count-gt0 : goal.returns-then-count-gt0
-returns-then-count-gt0 g c =
-    let some = c.if-count-gt0.true in
-    rw (ne_eqb c.args.count 0 (λ none. omega (arith, some, none))) (_, c.report_rounded_count.ensures, refl)
+pub returns-then-rounded-gt0 : goal.returns-then-rounded-gt0
+returns-then-rounded-gt0 g c =
+    let some = c.if-rounded-gt0.true in
+    rw (ne_eqb c.args.rounded.count 0 (λ none. omega (arith, some, none))) (_, c.report_rounded_count.ensures, refl)

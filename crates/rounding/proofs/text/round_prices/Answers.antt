@@ -13,9 +13,9 @@ loop-start-preserved c =
     let ended = ltb (start + count) (length text) in
     let cut : IsCut text line start (start + count) c.min-start.result ended =
     cut_line text line start count c.min-start.result c.loop-start-test.true c.line_length.ensures.count refl c.min-start.ensures in
-    let first : IsFirstLine c.args.fine (drop start text) c.loop-start.before c.loop-start.number c.loop-start.rounded.text.items c.push_end.new.text.items
+    let first : IsFirstLine c.args.rule (drop start text) c.loop-start.before c.loop-start.number c.loop-start.rounded.text.items c.push_end.new.text.items
     (plain_changes c.loop-start.rounded.prices.items) (plain_changes c.push_line.new.self.prices.items) =
-    first_written c.args.fine (drop start text) line c.loop-start.rounded.text.items c.push_line.new.self.text.items c.push_end.new.text.items
+    first_written c.args.rule (drop start text) line c.loop-start.rounded.text.items c.push_line.new.self.text.items c.push_end.new.text.items
     (plain_changes c.loop-start.rounded.prices.items) (plain_changes c.push_line.new.self.prices.items) c.loop-start.before c.loop-start.number
     c.is_significant-significant.result c.is_bid_line-is_bid.result ended cut.line_is cut.ended_is
     c.is_significant-significant.ensures c.is_bid_line-is_bid.ensures c.in_ok-push_line.ensures.text c.in_ok-push_end.ensures c.in_ok-push_line.ensures.prices
@@ -24,7 +24,7 @@ loop-start-preserved c =
       omega (arith, c.min-start.ensures, c.loop-start-test.true),
       omega (arith, c.min-start.ensures, c.loop-start-test.true, c.loop-start.invariant.1),
       omega (arith, c.min-start.ensures, c.loop-start-test.true, c.loop-start.invariant.2),
-      line_more c.args.fine text c.loop-start.rounded.text.items c.push_end.new.text.items (plain_changes c.loop-start.rounded.prices.items)
+      line_more c.args.rule text c.loop-start.rounded.text.items c.push_end.new.text.items (plain_changes c.loop-start.rounded.prices.items)
           (plain_changes c.push_line.new.self.prices.items) start c.min-start.result c.loop-start.number c.loop-start.before c.from-before.result
           c.is_significant-significant.result c.loop-start-test.true cut.next_is first
           (c.is_significant-significant.ensures ∙ ap (λ (l : List ℕ). is_significant (line_words (blank_returns l))) cut.line_is)

@@ -5,7 +5,7 @@ use Rattle.rounding.proofs.text.round_prices.Given as goal
 
 abbrev pub invariant-loop-start : goal.invariant-loop-start
 invariant-loop-start l = (l.start ≤ length l.text) × (l.number ≤ l.start + 1) × (l.before ≤ l.start)
-    × IsWritten l.fine l.text l.start l.number l.before l.rounded.text.items (plain_changes l.rounded.prices.items)
+    × IsWritten l.rule l.text l.start l.number l.before l.rounded.text.items (plain_changes l.rounded.prices.items)
 
 abbrev pub decreases-loop-start : goal.decreases-loop-start
 decreases-loop-start l = length l.text - l.start

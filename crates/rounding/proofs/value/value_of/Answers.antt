@@ -11,7 +11,7 @@ cut_value-requires-clause-digits c = grind (arith, common_steps, decimal_digits)
 
 pub returns-then-shift-gt0-clause-value : goal.returns-then-shift-gt0-clause-value
 returns-then-shift-gt0-clause-value c =
-    cut_in c.args.word.now c.significand-significand.result.now c.whole_part-whole.result.now c.places-places.result.now c.exponent.result.now
+    cut_in c.args.tens c.args.word.now c.significand-significand.result.now c.whole_part-whole.result.now c.places-places.result.now c.exponent.result.now
     c.shift_of-shift.result.up c.shift_of-shift.result.down c.cut_value.result (search rules) c.if-shift-gt0.true c.cut_value.ensures
 
 pub returns-clause-value : goal.returns-clause-value

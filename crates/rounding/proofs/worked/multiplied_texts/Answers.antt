@@ -1,0 +1,8 @@
+-- `multiplied_texts`
+use Rattle.rounding.proofs.Common.{refl}
+use Rattle.std.specs.Fmt.{digits}
+use Rattle.rounding.proofs.worked.multiplied_texts.Goals as goal
+
+pub returns-clause-text : goal.returns-clause-text
+unfolding digits
+returns-clause-text c = refl
