@@ -47,7 +47,8 @@ enum cats_task {
     CATS_COMPARE = 9,
     CATS_DIFF = 10,
     CATS_DUPLICATES = 11,
-    CATS_SIZES = 12
+    CATS_SIZES = 12,
+    CATS_PUBLISH = 13
 };
 
 // What a call returns: the status of the program. Of several texts it is the greatest of any.

@@ -108,7 +108,7 @@ def printed_compare(verdict):
 
 
 # What is tried in another file, as the function of the package does not answer what the one of the library does.
-ELSEWHERE = {"duplicates": "test_many.py"}
+ELSEWHERE = {"duplicates": "test_many.py", "publish": "test_publish.py"}
 TRIED = [call for call in CALLS if call.name not in ELSEWHERE and call.bound and not call.null]
 
 PRINTED = {

@@ -31,6 +31,7 @@ class Task(enum.IntEnum):
     DIFF = 10
     DUPLICATES = 11
     SIZES = 12
+    PUBLISH = 13
 
 
 class Status(enum.IntEnum):

@@ -235,8 +235,8 @@ def names(folder):
     absent = [path + b"/" + name for name in NAMES]
     lines = [path + b"/" + line + b": cannot open\n" for line in NAMES.values()]
     answer = run(["duplicates", "-0", "--progress", *absent])
-    counted = b"%d of %d " % (len(NAMES), len(NAMES)) + lines[-1][: -len(b": cannot open\n")]
-    TALLY.judge(is_told(answer, DEVICE_FAILED, b"", [*lines, counted]), "names that are not there", answer)
+    read = [b"%d of %d " % (number, len(NAMES)) + line.removesuffix(b": cannot open\n") + b"\n" for number, line in enumerate(lines, 1)]
+    TALLY.judge(is_told(answer, DEVICE_FAILED, b"", [it for both in zip(read, lines) for it in both]), "names that are not there", answer)
     answer = run(["duplicates", paths[0]])
     TALLY.judge(is_told(answer, 0, b"", []), "one file", answer)
 
@@ -403,12 +403,13 @@ def alike(folder):
 
 
 def terminal(path):
-    """If standard error is a terminal, one line says how many files were read, and is gone before a fault is printed."""
-    removal = b"\x1b[A\x1b[K"
+    """If standard error is a terminal, one line says which file is read, and is gone before a fault is printed."""
+    read = b"\x1b[?7l%d of %d %s\x1b[?7h\n\x1b[A\x1b[K"
+    refused, absent, there = b"/nothing: cannot open: no such file\n", b"/nothing", os.fsencode(path)
     rows = (
-        (["duplicates", "--progress", path, "/nothing", path], b"1 of 3\n" + removal + b"/nothing: cannot open: no such file\n2 of 3\n" + removal + b"3 of 3\n"),
-        (["sizes", "--progress", "/nothing"], b"1 of 1\n"),
-        (["duplicates", "/nothing", path], b"/nothing: cannot open: no such file\n"),
+        (["duplicates", "--progress", path, "/nothing", path], read % (1, 3, there) + read % (2, 3, absent) + refused + read % (3, 3, there)),
+        (["sizes", "--progress", "/nothing"], read % (1, 1, absent)),
+        (["duplicates", "/nothing", path], refused),
     )
     for words, wanted in rows:
         master, slave = os.openpty()

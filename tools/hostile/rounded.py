@@ -184,12 +184,12 @@ def folder_of_files(folder):
 
 
 def with_counts(own, command, roundings, refusals):
-    """Standard error of a run on many files: of each how many prices were rounded, why it was refused, and how many were read."""
+    """Standard error of a run on many files: of each that it is read, how many prices were rounded, and why it was refused."""
     lines = []
     for number, (path, rounding) in enumerate(roundings.items(), 1):
-        lines += [report(path, rounding), refusals.get(path, b"") if command[0] == "duplicates" else b""]
-        if "--progress" in command and (number % 100 == 0 or number == len(roundings)):
+        if "--progress" in command:
             lines.append(b"%d of %d %s\n" % (number, len(roundings), path))
+        lines += [report(path, rounding), refusals.get(path, b"") if command[0] == "duplicates" else b""]
     return own._replace(err=b"".join(lines))
 
 

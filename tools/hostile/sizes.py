@@ -183,7 +183,7 @@ def judge_files(folder):
         write(folder, str(2000 + number), text_of(2, [Bid(1 + 2 * number, (1,)), Bid(5, (0, 1))], MANY_XOR))
     paths = [str(number) for number in range(3000)]
     groups = "\n".join(f"{2 * number}\n{2000 + number}\n" for number in range(1000))
-    progress = "".join(f"{number} of 3000 {number - 1}\n" for number in range(100, 3001, 100))
+    progress = "".join(f"{number} of 3000 {number - 1}\n" for number in range(1, 3001))
     run(["duplicates", *paths], (0, groups, ""), folder)
     run(["duplicates", "--progress", *paths], (0, groups, progress), folder)
     below = sorted(sorted((f"./{2 * number}", f"./{2000 + number}")) for number in range(1000))

@@ -23,6 +23,8 @@ mod OutputPaths
 mod Skipping
 mod FindingNumbers
 mod Tabling
+mod Storing
+mod PlacingTexts
 mod RunsOfLists
 mod RunsOfPaths
 mod Multiplying

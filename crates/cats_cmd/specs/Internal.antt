@@ -4,4 +4,5 @@ pub mod Carrying
 pub mod Gathering
 pub mod Judging
 pub mod Roundings
+pub mod TextNumbers
 pub mod Walking

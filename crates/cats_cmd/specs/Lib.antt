@@ -16,6 +16,9 @@ pub mod FileLists
 pub mod BidLists
 pub mod FindingFaults
 pub mod Folders
+pub mod Stores
+pub mod TextPaths
+pub mod Publishing
 pub mod Opening
 pub mod Openings
 pub mod Requests

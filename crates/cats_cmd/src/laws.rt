@@ -27,6 +27,8 @@ ghost use Rattle.cats_cmd.specs.OutputPaths.{IsPath, groups_in, paths_in_table};
 ghost use Rattle.cats_cmd.specs.PathLists.{listed, paths_in};
 ghost use Rattle.cats_cmd.specs.Paths.{JudgedPath, progress_line, refusal_line, report_lines};
 ghost use Rattle.cats_cmd.specs.Paths.{without_refusals};
+ghost use Rattle.cats_cmd.specs.Folders.{AreFilesAt};
+ghost use Rattle.cats_cmd.specs.TextPaths.{AreTextPlaces, PlacedText};
 ghost use Rattle.cats_cmd.specs.PricedInputs.{PricedGives, PricedRefuses, none_rounded, rounding_lines};
 ghost use Rattle.cats_cmd.specs.declared.priced_input.PricedInput.{PricedInput};
 ghost use Rattle.cats_cmd.specs.SizesTables.{MakesTable};
@@ -41,6 +43,7 @@ ghost use Rattle.commands.specs.FaultLines.{line_of_fault};
 ghost use Rattle.commands.specs.Judgements.{Judgement, JudgesInput};
 ghost use Rattle.commands.specs.declared.faults.RunFault.{RunFault};
 
+use crate::source::Source;
 use commands::Input;
 use std::io::Read;
 
@@ -113,6 +116,13 @@ pub fn table_paths_are_read_back()
 pub fn tables_report_roundings()
     ensures { (count : ℕ) (judged : List JudgedPath) → report_lines (without_refusals Silent) count judged
         ≡ flat_map (λ j. rounding_lines j.path j.rounded) judged }
+{}
+
+/// The files whose texts are placed are those of a run on many files.
+pub fn placed_files_are_those_of_a_run<S: Source>()
+    ensures { (source : S) (paths : List (List ℕ)) (places : List PlacedText)
+        → AreTextPlaces (S.may_find (S.content_of source)) paths places
+        → AreFilesAt (S.may_find (S.content_of source)) paths (map (λ p. p.file) places) }
 {}
 
 /// No price of a file is rounded whose prices are read as they are written.

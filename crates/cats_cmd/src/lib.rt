@@ -21,9 +21,11 @@ mod round;
 mod run;
 mod sizes;
 pub mod source;
+mod text_paths;
 mod two_files;
 mod usage;
 pub mod worked;
+mod writing;
 
 pub use canon::{CanonFault, Which};
 pub use commands::faults::RunFault;

@@ -1,6 +1,6 @@
--- `split_at_nul`
+-- `split_at`
 use Rattle.cats_cmd.proofs.Common.{◌≡◌}
-use Rattle.cats_cmd.proofs.path_list.split_at_nul.Given as goal
+use Rattle.cats_cmd.proofs.path_list.split_at.Given as goal
 
 -- the parts so far are those that the loop has had
 abbrev pub invariant-loop-part : goal.invariant-loop-part

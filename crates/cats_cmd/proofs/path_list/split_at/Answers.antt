@@ -1,6 +1,6 @@
--- `split_at_nul`
+-- `split_at`
 use Rattle.cats_cmd.proofs.Common.{rules, tests, ap, map, ◌∙◌, YieldsList-at, YieldsList-end, YieldsList-from_slice_split}
-use Rattle.cats_cmd.proofs.path_list.split_at_nul.Goals as goal
+use Rattle.cats_cmd.proofs.path_list.split_at.Goals as goal
 
 pub returns : goal.returns
 returns c =

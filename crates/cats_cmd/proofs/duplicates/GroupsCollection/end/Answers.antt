@@ -1,7 +1,7 @@
--- `GroupsCollection::text`
+-- `GroupsCollection::end`
 use Rattle.cats_cmd.proofs.Common.{AreSameFiles, AreAlike}
 use Rattle.cats_cmd.proofs.FindingNumbers.{numbers_within}
-use Rattle.cats_cmd.proofs.duplicates.GroupsCollection.text.Goals as goal
+use Rattle.cats_cmd.proofs.duplicates.GroupsCollection.end.Goals as goal
 
 pub duplicates_text-requires-clause-judged : goal.duplicates_text-requires-clause-judged
 duplicates_text-requires-clause-judged c =
