@@ -89,6 +89,7 @@ request_with row request names options = record {
   progress = false;
   null = request.null;
   all = request.all;
+  folder = None;
 }
 
 abbrev pub request_by : TaskRow → CallRequest → List (List ℕ) → Option PlainRequest

@@ -23,6 +23,9 @@ mod OutputPaths
 mod Skipping
 mod FindingNumbers
 mod Tabling
+mod Storing
+mod PlacingTexts
+mod Publishing
 mod RunsOfLists
 mod RunsOfPaths
 pub mod Common

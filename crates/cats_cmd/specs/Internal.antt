@@ -4,4 +4,6 @@ pub mod Carrying
 pub mod Gathering
 pub mod Judging
 pub mod Roundings
+pub mod Publishing
+pub mod TextNumbers
 pub mod Walking

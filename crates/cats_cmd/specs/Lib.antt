@@ -16,6 +16,10 @@ pub mod FileLists
 pub mod BidLists
 pub mod FindingFaults
 pub mod Folders
+pub mod Stores
+pub mod TextPaths
+pub mod Publishing
+pub mod PublishRuns
 pub mod Opening
 pub mod Openings
 pub mod Requests

@@ -14,7 +14,9 @@ use Rattle.cats_cmd.specs.FindingFaults.{MakesFaults, with_unplaced}
 use Rattle.cats_cmd.specs.Inputs.{IsOpened}
 use Rattle.cats_cmd.specs.PricedInputs.{IsPriced, PricedGives, PricedRefuses, rounding_lines}
 use Rattle.cats_cmd.specs.declared.priced_input.PricedInput.{PricedInput}
-use Rattle.cats_cmd.specs.Paths.{Reporting, RunsOnPaths, refusal_line, with_refusals, without_refusals}
+use Rattle.cats_cmd.specs.Paths.{PrintsNothing, PrintsOnly, Reporting, RunsOnPaths, refusal_line, with_refusals}
+use Rattle.cats_cmd.specs.Paths.{without_refusals}
+use Rattle.cats_cmd.specs.Stores.{Text}
 use Rattle.cats_cmd.specs.Rounding.{Rounds}
 use Rattle.cats_cmd.specs.Runs.{RunsOnFile, RunsOnPair}
 use Rattle.cats_cmd.specs.SizesTables.{MakesTable}
@@ -211,26 +213,30 @@ module _ {F W E : Type 0} (may_open : List ℕ → F → Type 0) (may_refuse : L
 
   -- `terminal` says whether standard error is a terminal.
   module _ (terminal : Bool) (may_find : List ℕ → Option (List (List ℕ)) → Type 0) where
-    -- the run on many files, which are searched so, or not; `Makes` says which text is made of what became of them
-    abbrev pub RunsOnMany : Option SearchOptions → (Ending → List (List ℕ × Judgement) → List ℕ → Type 0)
-        → (Progress → Reporting) → PlainRequest → Watched W → Watched W → Watched E → Watched E → Result ℕ RunFault
-        → Type 0
-    RunsOnMany options Makes reporting request out out_after err err_after answer =
+    -- The run on many files, which are searched so, or not at all. `Makes` says what is printed of what became of them,
+    -- and `Shows` what is so far.
+    abbrev pub RunsOnMany : Option SearchOptions → (List (List ℕ × Judgement) → List ℕ → List Text → Type 0)
+        → (List (List ℕ × Judgement) → List ℕ → List Text → Type 0) → (Progress → Reporting) → PlainRequest → Watched W
+        → Watched W → Watched E → Watched E → Result ℕ RunFault → Type 0
+    RunsOnMany options Shows Makes reporting request out out_after err err_after answer =
         RunsOnFiles may_open may_refuse remaining messages
         (RunsAtPaths may_find (λ paths. RunsOnPaths may_open may_refuse remaining contents messages options
-        request.prices (Makes (ending_of request.null)) paths (reporting (progress_of terminal request.progress))))
+        request.prices Shows (λ written. Unit {0}) paths (reporting (progress_of terminal request.progress)) Makes))
         request.list request.files out out_after err err_after answer
 
     -- by the command
     abbrev pub RunsOfFiles : Task → PlainRequest → Watched W → Watched W → Watched E → Watched E → Result ℕ RunFault
         → Type 0
     RunsOfFiles Fault request out out_after err err_after answer =
-        RunsOnMany None (λ ending. MakesFaults) with_unplaced request out out_after err err_after answer
+        RunsOnMany None PrintsNothing (PrintsOnly MakesFaults) with_unplaced request out out_after err err_after answer
     RunsOfFiles Duplicates request out out_after err err_after answer =
-        RunsOnMany (Some request.options) (λ ending. MakesGroups ending request.all) with_refusals request out out_after
-        err err_after answer
+        RunsOnMany (Some request.options) PrintsNothing
+        (PrintsOnly (MakesGroups (ending_of request.null) request.all)) with_refusals request out out_after
+            err err_after
+        answer
     RunsOfFiles task request out out_after err err_after answer =
-        RunsOnMany (Some request.options) MakesTable without_refusals request out out_after err err_after answer
+        RunsOnMany (Some request.options) (PrintsOnly (MakesTable (ending_of request.null)))
+        (PrintsOnly (MakesTable (ending_of request.null))) without_refusals request out out_after err err_after answer
 
     -- the run on these files of a request whose command reads so many. If there are more or fewer, that is wrong usage
     abbrev pub RunsWith : Files → List (List ℕ) → PlainRequest → Watched W → Watched W → Watched E → Watched E

@@ -16,6 +16,7 @@ use crate::bid_list::read_bids;
 use crate::duplicates::Groups;
 use crate::fault::Faults;
 use crate::many_files::{refuse_list, run_on_files};
+use crate::publishing::run_publish;
 use crate::priced_input::{PricedInput, report_rounded};
 use crate::round::run_round;
 use crate::run::{answer_if_lost, is_lost, send_answer};
@@ -184,6 +185,7 @@ fn run_on_many<S: Source + AllocGlobal, W: Write, E: Write>(
     match request.task {
         Task::Fault => run_on_files::<Faults, S, W, E>(source, request, terminal, out, err),
         Task::Duplicates => run_on_files::<Groups, S, W, E>(source, request, terminal, out, err),
+        Task::Publish => run_publish(source, request, terminal, out, err),
         _ => run_on_files::<Table, S, W, E>(source, request, terminal, out, err),
     }
 }
@@ -240,7 +242,7 @@ pub(crate) fn way_of(task: Task) -> Way
     ensures { result ≡ way_of task }
 {
     match task {
-        Task::Duplicates | Task::Sizes => Way::Regular,
+        Task::Duplicates | Task::Sizes | Task::Publish => Way::Regular,
         _ if gives_reason(task) => Way::NoFolder,
         _ => Way::Anything,
     }

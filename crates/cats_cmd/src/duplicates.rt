@@ -6,16 +6,18 @@ ghost use Rattle.std.specs.Prelude.{OnOk};
 ghost use Rattle.cats_cmd.specs.Paths.{refusal_lines};
 ghost use Rattle.cats_cmd.specs.Reports.{ReportsAll};
 
-use crate::paths::{Collection, Ending, ManyFiles, report_if_refused};
+use crate::paths::{Added, Collection, ManyFiles, report_if_refused};
 use crate::priced_input::PricedInput;
+use crate::source::Source;
 use bid_file::PackedFile;
 use canon::{AuctionIndex, CanonFault, Which};
 use cats_text::Watched;
 use commands::Input;
 use commands::faults::{RunFault, Unopened, name_bid};
 use lines::duplicates_text;
-use std::alloc::{AllocError, Global};
+use std::alloc::{AllocError, AllocGlobal, Global};
 use std::io::{Read, Write};
+use valuation::search::SearchOptions;
 
 /// Files in groups.
 #[derive(Drop)]
@@ -35,7 +37,9 @@ pub(crate) struct Groups {
 
 impl Groups {
     ghost use Rattle.bid_file.specs.Files.{IsPlainFile};
-    ghost use Rattle.cats_cmd.specs.Internal.Judging.{AddsRefused};
+    ghost use Rattle.std.specs.Prelude.{IfOk, Some};
+    ghost use Rattle.cats_cmd.specs.Internal.Judging.{AddsRefused, AddsStream, KeepsGroups};
+    ghost use Rattle.cats_cmd.specs.PricedInputs.{IsReady, JudgesPriced};
 
     /// Adds a file for this fault, which it was refused for, if a step limit refused it.
     fn add_refused(
@@ -59,24 +63,57 @@ impl Groups {
             CanonFault::Memory => Ok(()),
         }
     }
+
+    /// Adds the file at a path, and answers why it is not judged.
+    fn add_file<R: Read>(
+        &mut self,
+        alloc: Global,
+        path: &[u8],
+        input: &mut PricedInput<R>,
+        options: SearchOptions,
+    ) -> Result<Option<RunFault>, AllocError>
+        requires { IsReady input.old }
+        ensures { IfOk result (AddsStream KeepsGroups (JudgesPriced R.remaining (Some options)) path.now self.old self.new
+            input.old input.new) }
+    {
+        let file = match input.read_file(alloc) {
+            Ok(file) => file,
+            Err(fault) => {
+                return Ok(Some(RunFault::from(CanonFault::from(fault))));
+            }
+        };
+        match self.judged.index.add(alloc, &file, options) {
+            Ok(number) => {
+                let path = Vec::from_slice(alloc, path)?;
+                self.judged.found.push((path, number))?;
+                Ok(None)
+            }
+            Err(fault) => {
+                self.add_refused(alloc, path, &file, &fault)?;
+                Ok(Some(name_bid(Which::Only, &file, options, fault)))
+            }
+        }
+    }
 }
 
 impl Collection for Groups {
     ghost use Rattle.std.specs.Prelude.{Some};
     ghost use Rattle.cats_cmd.specs.Duplicates.{MakesGroups};
     ghost use Rattle.cats_cmd.specs.Internal.Judging.{KeepsGroups};
-    ghost use Rattle.cats_cmd.specs.Paths.{refusal_lines};
+    ghost use Rattle.cats_cmd.specs.Paths.{PrintsNothing, PrintsOnly, refusal_lines};
 
     ghost searched = { λ options. Some options };
 
-    ghost has = { λ ending groups judgements. KeepsGroups groups judgements };
+    ghost keeps = { KeepsGroups };
 
-    ghost Makes = { MakesGroups };
+    ghost Shows = { λ many. PrintsNothing };
+
+    ghost Makes = { λ many. PrintsOnly (MakesGroups many.ending many.all) };
 
     ghost refusals = { refusal_lines };
 
-    fn none(alloc: Global) -> Groups {
-        Groups {
+    fn begin(alloc: Global, _many: ManyFiles<'_>) -> Result<(Groups, Vec<u8>), AllocError> {
+        let groups = Groups {
             judged: NumberedFiles {
                 index: AuctionIndex::new(alloc),
                 found: Vec::new(alloc),
@@ -85,44 +122,32 @@ impl Collection for Groups {
                 index: AuctionIndex::new(alloc),
                 found: Vec::new(alloc),
             },
-        }
+        };
+        Ok((groups, Vec::new(alloc)))
     }
 
-    fn add<R: Read>(
+    fn add<S: Source + AllocGlobal>(
         &mut self,
-        alloc: Global,
+        source: &mut S,
         path: &[u8],
-        input: &mut PricedInput<R>,
-        many: ManyFiles,
-    ) -> Result<Option<RunFault>, AllocError> {
-        let file = match input.read_file(alloc) {
-            Ok(file) => file,
-            Err(fault) => {
-                return Ok(Some(RunFault::from(CanonFault::from(fault))));
-            }
-        };
-        match self.judged.index.add(alloc, &file, many.options) {
-            Ok(number) => {
-                let path = Vec::from_slice(alloc, path)?;
-                self.judged.found.push((path, number))?;
-                Ok(None)
-            }
-            Err(fault) => {
-                self.add_refused(alloc, path, &file, &fault)?;
-                Ok(Some(name_bid(Which::Only, &file, many.options, fault)))
-            }
-        }
+        input: &mut PricedInput<S::Stream>,
+        many: ManyFiles<'_>,
+    ) -> Result<Added, AllocError> {
+        let alloc = source.alloc();
+        let fault = self.add_file(alloc, path, input, many.options)?;
+        let text = Vec::new(alloc);
+        Ok(Added { fault, text })
     }
 
     /// No group has it.
     fn add_unopened(
         &mut self,
-        _alloc: Global,
+        alloc: Global,
         _path: &[u8],
         _why: Unopened,
-        _ending: Ending,
-    ) -> Result<(), AllocError> {
-        Ok(())
+        _many: ManyFiles<'_>,
+    ) -> Result<Vec<u8>, AllocError> {
+        Ok(Vec::new(alloc))
     }
 
     fn report_refusal<E: Write>(path: &[u8], fault: &Option<RunFault>, err: &mut Watched<E>)
@@ -131,7 +156,7 @@ impl Collection for Groups {
         report_if_refused(path, fault, err);
     }
 
-    fn text(&self, alloc: Global, many: ManyFiles) -> Result<Vec<u8>, AllocError> {
+    fn end(&self, alloc: Global, many: ManyFiles<'_>) -> Result<Vec<u8>, AllocError> {
         let judged = self.judged.found.as_slice();
         let heavy = self.heavy.found.as_slice();
         duplicates_text(alloc, judged, heavy, many.ending, many.all)

@@ -1,7 +1,7 @@
 //! Laws of what the runs read and print.
 
 ghost use Rattle.std.specs.List.{All, flat_map};
-ghost use Rattle.std.specs.Prelude.{◌≡◌, ◌==◌, ℕ, Bool, List, None, Ok, map, false};
+ghost use Rattle.std.specs.Prelude.{◌≡◌, ◌==◌, ℕ, Bool, List, [], None, Ok, Some, map, false, slice_get};
 ghost use Rattle.bid_file.specs.Files.{PlainFile};
 ghost use Rattle.cats_text.specs.FaultPlaces.{PlainPlace};
 ghost use Rattle.requests.specs.Requests.{PlainRequest};
@@ -26,6 +26,12 @@ ghost use Rattle.cats_cmd.specs.OutputPaths.{IsPath, groups_in, paths_in_table};
 ghost use Rattle.cats_cmd.specs.PathLists.{listed, paths_in};
 ghost use Rattle.cats_cmd.specs.Paths.{JudgedPath, progress_line, refusal_line, report_lines};
 ghost use Rattle.cats_cmd.specs.Paths.{without_refusals};
+ghost use Rattle.cats_cmd.specs.Folders.{AreFilesAt};
+ghost use Rattle.cats_cmd.specs.TextPaths.{AreTextPlaces, PlacedText};
+ghost use Rattle.canon.specs.Canonical.{canonical_text};
+ghost use Rattle.cats_cmd.specs.Duplicates.{judged_files};
+ghost use Rattle.cats_cmd.specs.Publishing.{HasSameText, same_as, text_if};
+ghost use Rattle.commands.specs.Judgements.{IsPublished, Publishing};
 ghost use Rattle.cats_cmd.specs.PricedInputs.{PricedGives, PricedRefuses, rounding_lines};
 ghost use Rattle.cats_cmd.specs.declared.priced_input.PricedInput.{PricedInput};
 ghost use Rattle.cats_cmd.specs.SizesTables.{MakesTable};
@@ -37,6 +43,7 @@ ghost use Rattle.commands.specs.FaultLines.{line_of_fault};
 ghost use Rattle.commands.specs.Judgements.{Judgement, JudgesInput};
 ghost use Rattle.commands.specs.declared.faults.RunFault.{RunFault};
 
+use crate::source::Source;
 use commands::Input;
 use std::io::Read;
 
@@ -109,6 +116,28 @@ pub fn table_paths_are_read_back()
 pub fn tables_report_roundings()
     ensures { (count : ℕ) (judged : List JudgedPath) → report_lines (without_refusals Silent) count judged
         ≡ flat_map (λ j. rounding_lines j.path j.rounded) judged }
+{}
+
+/// The file that a row names in `same_as` has the text of the row's file.
+pub fn same_as_has_the_text()
+    ensures { (before : List (List ℕ × Judgement)) (file : PlainFile) (path : List ℕ) → same_as before file ≡ Some path
+        → HasSameText before file path }
+{}
+
+/// Without `--all` no text is written for a file if one before it has the same text: two rows with a text are different
+/// auctions.
+pub fn texts_are_of_different_auctions()
+    ensures { (folder : List ℕ) (places : List PlacedText) (before : List (List ℕ × Judgement)) (file other : PlainFile)
+        (publishing : Publishing) (number : ℕ) → slice_get (judged_files before) number ≡ Some other
+        → canonical_text other ≡ canonical_text file
+        → text_if folder false places before (IsPublished file publishing) ≡ [] }
+{}
+
+/// The files whose texts are placed are those of a run on many files.
+pub fn placed_files_are_those_of_a_run<S: Source>()
+    ensures { (source : S) (paths : List (List ℕ)) (places : List PlacedText)
+        → AreTextPlaces (S.may_find (S.content_of source)) paths places
+        → AreFilesAt (S.may_find (S.content_of source)) paths (map (λ p. p.file) places) }
 {}
 
 /// No price of a file is rounded whose prices are read as they are written.

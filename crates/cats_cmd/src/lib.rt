@@ -17,13 +17,17 @@ mod path_list;
 mod paths;
 mod priced_input;
 pub mod program;
+mod publish;
+mod publishing;
 mod round;
 mod run;
 mod sizes;
 pub mod source;
+mod text_paths;
 mod two_files;
 mod usage;
 pub mod worked;
+mod writing;
 
 pub use canon::{CanonFault, Which};
 pub use commands::faults::RunFault;

@@ -13,7 +13,7 @@ use cats_text::packed::{Header, check, read_packed};
 use cats_text::{Kind, ReadFault, Watched};
 use commands::Input;
 use rounding::replacement::FinePrices;
-use rounding::text::round_prices;
+use rounding::text::{RoundedPrice, round_prices};
 use std::alloc::{AllocError, Global};
 use std::io::{Read, Write};
 
@@ -25,6 +25,8 @@ pub(crate) struct PricedInput<R> {
     fine: Option<FinePrices>,
     /// How many prices of the file that was given have another value than is written.
     rounded: usize,
+    /// How many of these are 0.
+    zeroed: usize,
 }
 
 impl<R: Read> Input for PricedInput<R> {
@@ -40,9 +42,10 @@ impl<R: Read> Input for PricedInput<R> {
         let Some(fine) = self.fine else {
             return self.stream.read_file(alloc);
         };
-        let (text, rounded) = read_rounded(alloc, &mut self.stream, fine)?;
+        let (text, counts) = read_rounded(alloc, &mut self.stream, fine)?;
         let file = read_packed(alloc, text.as_slice())?;
-        self.rounded = rounded;
+        self.rounded = counts.rounded;
+        self.zeroed = counts.zeroed;
         Ok(file)
     }
 
@@ -50,9 +53,10 @@ impl<R: Read> Input for PricedInput<R> {
         let Some(fine) = self.fine else {
             return self.stream.read_sizes(alloc);
         };
-        let (text, rounded) = read_rounded(alloc, &mut self.stream, fine)?;
+        let (text, counts) = read_rounded(alloc, &mut self.stream, fine)?;
         let header = check(alloc, text.as_slice())?;
-        self.rounded = rounded;
+        self.rounded = counts.rounded;
+        self.zeroed = counts.zeroed;
         Ok(header)
     }
 }
@@ -68,6 +72,7 @@ impl<R> PricedInput<R> {
             stream,
             fine,
             rounded: 0,
+            zeroed: 0,
         }
     }
 
@@ -76,6 +81,13 @@ impl<R> PricedInput<R> {
         ensures { result ≡ self.now.rounded }
     {
         self.rounded
+    }
+
+    /// How many of these became 0.
+    pub(crate) fn zeroed(&self) -> usize
+        ensures { result ≡ self.now.zeroed }
+    {
+        self.zeroed
     }
 }
 
@@ -133,16 +145,33 @@ fn read_rounded<R: Read>(
     alloc: Global,
     stream: &mut Watched<R>,
     fine: FinePrices,
-) -> Result<(Vec<u8>, usize), ReadFault>
+) -> Result<(Vec<u8>, Counts), ReadFault>
     requires works { has_failed stream.old ≡ false }
     requires fresh { has_ended stream.old ≡ false }
     ensures { ReadsRounded R.remaining fine stream.old stream.new result }
 {
     let bytes = read_bytes(alloc, stream)?;
     match round_prices(alloc, bytes.as_slice(), fine) {
-        Ok(rounded) => Ok((rounded.text, rounded.prices.len())),
+        Ok(rounded) => {
+            let counts = Counts {
+                rounded: rounded.prices.len(),
+                zeroed: count_zeroed(rounded.prices.as_slice()),
+            };
+            Ok((rounded.text, counts))
+        }
         Err(AllocError) => Err(ReadFault::whole(Kind::Memory)),
     }
+}
+
+/// How many prices have another value than is written, and how many of these are 0.
+#[derive(Clone, Copy)]
+struct Counts {
+    rounded: usize,
+    zeroed: usize,
+}
+
+fn count_zeroed(prices: &[RoundedPrice]) -> usize {
+    prices.iter().filter(|price| price.price == 0).count()
 }
 
 /// Reports how many prices of the file at this path were rounded, if any was.

@@ -1,6 +1,6 @@
 //! Worked examples of what the runs print. The prover computes them.
 
-ghost use Rattle.std.specs.Prelude.{◌≡◌, ℕ, [], ◌∷◌, map, codes, Vec, Ok, Err, Some, None, true, false};
+ghost use Rattle.std.specs.Prelude.{◌≡◌, ◌++◌, ℕ, [], ◌∷◌, map, codes, Vec, Ok, Err, Some, None, true, false};
 ghost use Rattle.std.specs.Global.{Global};
 ghost use Rattle.cats_text.specs.declared.read_fault.Kind.TheVariants.{TooFine, TwoDummies};
 ghost use Rattle.commands.specs.Examples.{larger_bid, xor_ladder};
@@ -10,12 +10,13 @@ ghost use Rattle.cats_cmd.specs.DuplicateTexts.{duplicates_text};
 ghost use Rattle.cats_cmd.specs.Escaping.{escaped};
 ghost use Rattle.cats_cmd.specs.Duplicates.{heavy_paths, judged_paths};
 ghost use Rattle.cats_cmd.specs.Folders.{ListsFolder, files_at, with_slash};
+ghost use Rattle.cats_cmd.specs.TextPaths.{Collides, leads_below, own_name, text_places_at};
 ghost use Rattle.cats_cmd.specs.Opening.{with_openings};
 ghost use Rattle.std.specs.List.{flat_map};
 ghost use Rattle.cats_cmd.specs.PathLists.{paths_in};
 ghost use Rattle.cats_cmd.specs.declared.paths.Ending.TheVariants.{Line, Null};
 ghost use Rattle.cats_cmd.specs.declared.paths.Progress.TheVariants.{Silent, Lines, Terminal};
-ghost use Rattle.cats_cmd.specs.Paths.{greatest_status, judged_path, progress_lines};
+ghost use Rattle.cats_cmd.specs.Paths.{greatest_status, judged_path};
 ghost use Rattle.cats_cmd.specs.Paths.{ReportsFrom, report_lines, status_of_path};
 ghost use Rattle.cats_cmd.specs.Paths.{with_refusals, without_refusals};
 ghost use Rattle.commands.specs.Sizes.{counts_of, sizes_of};
@@ -33,28 +34,27 @@ ghost use Rattle.canon.specs.declared.canon_fault.CanonFault.TheVariants.{Read, 
 ghost use Rattle.commands.specs.declared.faults.RunFault.TheVariants.{Refused, Sent, NotOpened};
 ghost use Rattle.commands.specs.Judgements.{IsJudged, IsHeavy, IsUnjudged};
 
-/// What `cats duplicates` reports of two paths: how many prices of each were rounded, then the reason for the one that was
-/// not judged, and, with progress, how many were read. On a terminal the line of progress is taken away before anything else
-/// is printed. Of 250 files that is reported after the hundredth, the two hundredth and the last.
+/// What `cats duplicates` reports of two paths: with progress, that each is read, how many prices of each were rounded, and
+/// the reason for the one that was not judged. On a terminal the line of progress is taken away before anything else is
+/// printed.
 pub fn paths_reported()
     ensures reason { report_lines (with_refusals Silent) 2 (judged_path (codes "a") (IsUnjudged (NotOpened Only NoSuchFile)) 0 ∷
         judged_path (codes "b") (IsJudged larger_bid) 0 ∷ [])
         ≡ codes "a: cannot open: no such file\n" ∷ [] }
     ensures progress { report_lines (with_refusals Lines) 2 (judged_path (codes "a") (IsUnjudged (NotOpened Only NoSuchFile)) 0 ∷
         judged_path (codes "b") (IsJudged larger_bid) 0 ∷ [])
-        ≡ codes "a: cannot open: no such file\n" ∷ codes "2 of 2 b\n" ∷ [] }
+        ≡ codes "1 of 2 a\n" ∷ codes "a: cannot open: no such file\n" ∷ codes "2 of 2 b\n" ∷ [] }
     ensures rounded { (goods : Vec ℕ Global) → goods.items ≡ 0 ∷ 1 ∷ 2 ∷ []
         → report_lines (with_refusals Lines) 2
         (judged_path (codes "a") (IsHeavy larger_bid (record { number = 2; goods = goods; steps = 1000000; total = None })) 1 ∷
         judged_path (codes "b") (IsJudged larger_bid) 1288 ∷ [])
-        ≡ codes "a: 1 price rounded\n" ∷ codes "a: step limit of 1000000 at bid 2: 0,1,2\n" ∷ codes "b: 1288 prices rounded\n"
-        ∷ codes "2 of 2 b\n" ∷ [] }
-    ensures counted { map (λ number. progress_lines Lines number 250 (codes "a")) (1 ∷ 99 ∷ 100 ∷ 200 ∷ 249 ∷ 250 ∷ [])
-        ≡ [] ∷ [] ∷ (codes "100 of 250 a\n" ∷ []) ∷ (codes "200 of 250 a\n" ∷ []) ∷ []
-        ∷ (codes "250 of 250 a\n" ∷ []) ∷ [] }
+        ≡ codes "1 of 2 a\n" ∷ codes "a: 1 price rounded\n" ∷ codes "a: step limit of 1000000 at bid 2: 0,1,2\n"
+        ∷ codes "2 of 2 b\n" ∷ codes "b: 1288 prices rounded\n" ∷ [] }
     ensures terminal { report_lines (with_refusals Terminal) 2 (judged_path (codes "a") (IsJudged larger_bid) 0 ∷
-        judged_path (codes "b") (IsUnjudged (NotOpened Only NoSuchFile)) 0 ∷ [])
-        ≡ codes "1 of 2\n" ∷ (27 ∷ 91 ∷ 65 ∷ 27 ∷ 91 ∷ 75 ∷ []) ∷ codes "b: cannot open: no such file\n" ∷ codes "2 of 2\n" ∷ [] }
+        judged_path (codes "b\n") (IsUnjudged (NotOpened Only NoSuchFile)) 0 ∷ [])
+        ≡ (27 ∷ codes "[?7l1 of 2 a" ++ 27 ∷ codes "[?7h\n") ∷ (27 ∷ 91 ∷ 65 ∷ 27 ∷ 91 ∷ 75 ∷ [])
+        ∷ (27 ∷ codes "[?7l2 of 2 b\\n" ++ 27 ∷ codes "[?7h\n") ∷ (27 ∷ 91 ∷ 65 ∷ 27 ∷ 91 ∷ 75 ∷ [])
+        ∷ codes "b\\n: cannot open: no such file\n" ∷ [] }
     ensures status { greatest_status (judged_path (codes "a") (IsUnjudged (NotOpened Only NoSuchFile)) 0 ∷
         judged_path (codes "b") (IsJudged larger_bid) 0 ∷ []) ≡ 5 }
     ensures lost { (goods : Vec ℕ Global) → map status_of_path (
@@ -134,7 +134,7 @@ pub fn table_rows()
         ∷ codes "\t\t\t\t\t\t\t\tline 7: TwoDummies\ta\n" ∷ codes "\t\t\t\t\t\t\t\twant of memory\ta\n" ∷ [] }
     ensures reported { report_lines (without_refusals Lines) 2
         (judged_path (codes "a") (IsUnjudged (NotOpened Only NoSuchFile)) 0 ∷ judged_path (codes "b") (IsJudged larger_bid) 2 ∷ [])
-        ≡ codes "b: 2 prices rounded\n" ∷ codes "2 of 2 b\n" ∷ [] }
+        ≡ codes "1 of 2 a\n" ∷ codes "2 of 2 b\n" ∷ codes "b: 2 prices rounded\n" ∷ [] }
 {}
 
 /// What `cats round` makes of bytes.
@@ -154,17 +154,18 @@ pub fn reports_lost()
     ensures kept { map (answer_if_lost false) (Ok 0 ∷ Ok 1 ∷ []) ≡ Ok 0 ∷ Ok 1 ∷ [] }
 {}
 
-/// Standard error fails in the line on a file's price. Then that report is lost, and the line on progress is not sent.
+/// Standard error fails in the line on a file's price. Then that report is lost. It is not where the next file is named.
 pub fn report_of_path_lost()
     ensures lost { ReportsFrom known (with_refusals Lines) 1 1
         (record { path = codes "a"; judgement = IsJudged larger_bid; rounded = 1; lost = true } ∷ [])
-        (watched [] false false) (watched (codes "a: 1") true false) }
+        (watched [] false false) (watched (codes "1 of 1 a\na: 1") true false) }
     ensures kept { ReportsFrom known (with_refusals Lines) 1 1
         (record { path = codes "a"; judgement = IsJudged larger_bid; rounded = 1; lost = false } ∷ [])
-        (watched [] false false) (watched (codes "a: 1") true false) → ⊥ }
-    ensures later { ReportsFrom known (with_refusals Lines) 1 1
-        (record { path = codes "a"; judgement = IsJudged larger_bid; rounded = 1; lost = false } ∷ [])
-        (watched [] false false) (watched (codes "a: 1 price rounded\n1 of") true false) }
+        (watched [] false false) (watched (codes "1 of 1 a\na: 1") true false) → ⊥ }
+    ensures later { ReportsFrom known (with_refusals Lines) 2 1
+        (record { path = codes "a"; judgement = IsJudged larger_bid; rounded = 1; lost = false } ∷
+        record { path = codes "b"; judgement = IsJudged larger_bid; rounded = 0; lost = false } ∷ [])
+        (watched [] false false) (watched (codes "1 of 2 a\na: 1 price rounded\n2 of") true false) }
 {}
 
 /// What is reported of a file of which no price was rounded, one, and more.
@@ -229,6 +230,24 @@ pub fn paths_opened()
     ensures known { with_openings (Some ((codes "a", Anything) ∷ [])) ((codes "b", Regular) ∷ (codes "a", NoFolder) ∷ [])
         ≡ Some ((codes "a", Anything) ∷ (codes "b", Regular) ∷ (codes "a", NoFolder) ∷ []) }
     ensures unknown { with_openings None ((codes "b", Regular) ∷ []) ≡ None }
+{}
+
+/// Where texts are written: below a folder that is named the file's path, and else its own name. A path that leads out is
+/// refused, and so are two paths that are the same, or of which one is that of a folder in the other.
+pub fn texts_placed()
+    ensures names { map own_name (codes "a/b.txt" ∷ codes "b" ∷ codes "/x/y z\n" ∷ codes "a/" ∷ codes "a/.." ∷ [])
+        ≡ codes "b.txt" ∷ codes "b" ∷ codes "y z\n" ∷ [] ∷ codes ".." ∷ [] }
+    ensures places { flat_map text_places_at
+        (record { path = codes "d"; found = Some (codes "d/a/0.txt" ∷ codes "d/b/0.txt" ∷ []) }
+        ∷ record { path = codes "x/1.txt"; found = None } ∷ record { path = codes "e/"; found = Some (codes "e/2" ∷ []) } ∷ [])
+        ≡ record { file = codes "d/a/0.txt"; text = codes "a/0.txt" } ∷ record { file = codes "d/b/0.txt"; text = codes "b/0.txt" }
+        ∷ record { file = codes "x/1.txt"; text = codes "1.txt" } ∷ record { file = codes "e/2"; text = codes "2" } ∷ [] }
+    ensures below { map leads_below (codes "a" ∷ codes "a b/c\n" ∷ codes "..." ∷ codes "../a" ∷ codes "a/../b" ∷ codes "a//b" ∷ codes "."
+        ∷ codes "/a" ∷ [] ∷ [])
+        ≡ true ∷ true ∷ true ∷ false ∷ false ∷ false ∷ false ∷ false ∷ false ∷ [] }
+    ensures same { Collides (codes "a" ∷ codes "b" ∷ codes "a" ∷ []) 0 2 }
+    ensures folder { Collides (codes "a/b" ∷ codes "a" ∷ []) 1 0 }
+    ensures apart { Collides (codes "a-b" ∷ codes "a" ∷ []) 1 0 → ⊥ }
 {}
 
 /// The files at paths: a file itself, the files below a folder, and none of an empty folder. Below a folder the paths begin

@@ -23,6 +23,9 @@ use Rattle.valuation.specs.declared.search.options.SearchOptions.{SearchOptions}
 
 -- ---- words
 
+abbrev pub folder : Rule
+folder = record (new_rule (codes "DIR")) { required = true }
+
 abbrev pub file : Rule
 file = record (new_rule (codes "FILE")) { required = true }
 
@@ -90,6 +93,7 @@ arguments_of row =
     ∷ (flag (codes "all"), row.all)
     ∷ (option (codes "files0-from"), is_many row.files)
     ∷ (option (codes "bids"), row.bids)
+    ∷ (folder, row.folder)
     ∷ (words_from 1 (codes "FILE"), is_many row.files)
     ∷ (file, not (is_many row.files))
     ∷ (second_file, is_two row.files)

@@ -3,7 +3,7 @@
 ghost use Rattle.std.specs.Prelude.{◌≡◌, IfOk, false};
 ghost use Rattle.clap.specs.Simple.{new_app};
 ghost use Rattle.clap.specs.Words.{app_of, rule_of};
-ghost use Rattle.command_line.specs.Commands.{cats, file, flag, has_no_other_words, is_always_bounded};
+ghost use Rattle.command_line.specs.Commands.{cats, file, flag, folder, has_no_other_words, is_always_bounded};
 ghost use Rattle.requests.specs.Tasks.{is_many};
 ghost use Rattle.command_line.specs.Commands.{is_two, option, second_file, shape_of, steps, total_steps, words_from};
 ghost use Rattle.command_line.specs.Internal.Matches.{has_globals, with_one};
@@ -14,6 +14,8 @@ use requests::help::CommandHelp;
 use requests::task::{Files, TASKS, TaskRow, name_of};
 use std::alloc::{AllocError, Global};
 
+/// The folder in which texts are written.
+pub(crate) const DIR: &str = "DIR";
 /// The one file, or the first of two, or many.
 pub(crate) const FILE: &str = "FILE";
 /// The second of two files.
@@ -102,6 +104,7 @@ fn task_command<'a>(
         .with(row.all, flag(alloc, ALL))?
         .with(many, option(alloc, FILES0_FROM, "LIST"))?
         .with(row.bids, option(alloc, BIDS, "LIST"))?
+        .with(row.folder, folder(alloc))?
         .with(many, words_from(alloc, 1, FILE))?
         .with(!many, file(alloc))?
         .with(is_two(row.files), second_file(alloc))?
@@ -180,6 +183,13 @@ impl<'a, 'h> Draft<'a, 'h> {
             help: self.help,
         })
     }
+}
+
+fn folder<'a>(alloc: Global) -> Arg<'a>
+    ensures rule { rule_of result ≡ folder }
+    ensures local { result.global ≡ false }
+{
+    Arg::new(alloc, DIR).required(true)
 }
 
 fn file<'a>(alloc: Global) -> Arg<'a>

@@ -12,7 +12,7 @@ ghost use Rattle.command_line.specs.declared.request.Misuse.TheVariants.{BidsTwi
 ghost use Rattle.command_line.specs.declared.request.Misuse.TheVariants.{SignedNumber, UnboundedTotal};
 ghost use Rattle.command_line.specs.declared.request.Misuse.TheVariants.{FilesTwice, NoFiles, WrongBids, WrongGoods};
 ghost use Rattle.requests.specs.declared.task.Task.TheVariants.{Check, Compare, Diff, Duplicates, Explain, Fault};
-ghost use Rattle.requests.specs.declared.task.Task.TheVariants.{Normalise, Revenue, Show, Sizes, Value};
+ghost use Rattle.requests.specs.declared.task.Task.TheVariants.{Normalise, Publish, Revenue, Show, Sizes, Value};
 ghost use Rattle.rounding.specs.declared.replacement.FinePrices.TheVariants.{Refuse, Round};
 ghost use Rattle.valuation.specs.SearchLimits.{bounded_options, plain_options};
 
@@ -26,6 +26,10 @@ pub fn lines()
         ≡ Some (record (usual Duplicates (codes "a" ∷ codes "b" ∷ [])) { null = true }) }
     ensures sizes { request_of (words_in (codes "cats sizes --progress --files0-from=l"))
         ≡ Some (record (usual Sizes []) { list = Some (codes "l"); progress = true }) }
+    ensures publish { request_of (words_in (codes "cats publish d a --all b"))
+        ≡ Some (record (usual Publish (codes "d" ∷ codes "a" ∷ codes "b" ∷ [])) { all = true }) }
+    ensures published { request_of (words_in (codes "cats publish d --files0-from=l"))
+        ≡ Some (record (usual Publish (codes "d" ∷ [])) { list = Some (codes "l") }) }
 {}
 
 /// The flag and the limits, in any order.
@@ -113,6 +117,6 @@ pub fn wrong_lines()
     ensures { map (λ line. request_of (words_in line)) (codes "cats" ∷ codes "cats check" ∷ codes "cats Check a"
         ∷ codes "cats check --help" ∷ codes "cats value --steps 0 a" ∷ codes "cats value a 65536"
         ∷ codes "cats sizes -0 --null a" ∷ codes "cats explain --bound --bound a" ∷ codes "cats explain --total-steps=0 a"
-        ∷ codes "cats sizes" ∷ codes "cats diff a" ∷ [])
-        ≡ None ∷ None ∷ None ∷ None ∷ None ∷ None ∷ None ∷ None ∷ None ∷ None ∷ None ∷ [] }
+        ∷ codes "cats sizes" ∷ codes "cats diff a" ∷ codes "cats publish d" ∷ [])
+        ≡ None ∷ None ∷ None ∷ None ∷ None ∷ None ∷ None ∷ None ∷ None ∷ None ∷ None ∷ None ∷ [] }
 {}

@@ -54,4 +54,5 @@ asked task options = record {
   progress = false;
   null = false;
   all = false;
+  folder = None;
 }

@@ -9,7 +9,10 @@ use Rattle.canon.specs.declared.canon_fault.CanonFault.TheVariants.{Read, StepLi
 use Rattle.canon.specs.declared.which.Which.{Which}
 use Rattle.canon.specs.declared.which.Which.TheVariants.{Only, First, Second, Both}
 use Rattle.commands.specs.declared.faults.RunFault.{RunFault}
-use Rattle.commands.specs.declared.faults.RunFault.TheVariants.{NotOpened, Refused, TooHeavy, GoodRange, BidRange, Sent}
+use Rattle.commands.specs.declared.faults.Unwritten.{Unwritten}
+use Rattle.commands.specs.declared.faults.Unwritten.TheVariants.{Exists, NoSpace, NotAFolder}
+use Rattle.commands.specs.declared.faults.Unwritten.TheVariants.{PermissionDenied as Denied, Other as OtherUnwritten}
+use Rattle.commands.specs.declared.faults.RunFault.TheVariants.{NotOpened, Refused, TooHeavy, GoodRange, BidRange, Sent, NotWritten}
 use Rattle.commands.specs.declared.faults.Unopened.{Unopened}
 use Rattle.commands.specs.declared.faults.Unopened.TheVariants.{NoSuchFile, PermissionDenied, IsFolder, NotAFile, Other}
 use Rattle.commands.specs.declared.faults.HeavyBid.{HeavyBid}
@@ -59,6 +62,13 @@ text_of_unopened IsFolder = codes "cannot open: is a folder: name it to 'fault',
 text_of_unopened NotAFile = codes "cannot open: not a file"
 text_of_unopened Other = codes "cannot open"
 
+abbrev pub text_of_unwritten : Unwritten → List ℕ
+text_of_unwritten Exists = codes "cannot write: it exists already"
+text_of_unwritten Denied = codes "cannot write: permission denied"
+text_of_unwritten NoSpace = codes "cannot write: no space"
+text_of_unwritten NotAFolder = codes "cannot write: not a folder"
+text_of_unwritten OtherUnwritten = codes "cannot write"
+
 -- the line that reports a fault
 abbrev pub line_of_fault : RunFault → List ℕ
 line_of_fault (NotOpened which why) = prefix_of which ++ text_of_unopened why ++ codes "\n"
@@ -67,3 +77,4 @@ line_of_fault (TooHeavy which heavy) = prefix_of which ++ text_of_heavy_bid heav
 line_of_fault (GoodRange good) = codes "good " ++ decimal good ++ codes " out of range\n"
 line_of_fault (BidRange bid) = codes "bid " ++ decimal bid ++ codes " out of range\n"
 line_of_fault (Sent fault) = codes "output failed after " ++ decimal fault.written ++ codes " bytes\n"
+line_of_fault (NotWritten why) = text_of_unwritten why ++ codes "\n"

@@ -37,8 +37,8 @@ With --round a file whose prices were rounded is reported, as 'auction.txt:
 
 A file that is refused is reported at once, with its path before the fault, and
 the others go on. So is a list that cannot be read, and then no file is. With
---progress a line says how many files were read, after each hundred and at the
-end; on a terminal it is one line, which is replaced after each file. This
+--progress a line says before each file which one is read, as '3 of 479
+folder/0002.txt'; on a terminal it is removed once the file is read. This
 command always uses the bounded search. A step is that of 'cats normalise
 --bound'.
 

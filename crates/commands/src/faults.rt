@@ -34,6 +34,19 @@ pub enum Unopened {
     Other,
 }
 
+/// Why a text could not be written.
+#[derive(Clone, Copy, PartialEq, Eq, Debug)]
+pub enum Unwritten {
+    /// Something is at its path, which is not replaced.
+    Exists,
+    PermissionDenied,
+    NoSpace,
+    /// What should be a folder on its path is none, or is a link.
+    NotAFolder,
+    /// For a reason that has no name here.
+    Other,
+}
+
 /// Why a run failed.
 #[derive(PartialEq, Eq, Debug, Drop)]
 pub enum RunFault {
@@ -49,6 +62,8 @@ pub enum RunFault {
     BidRange(u32),
     /// The output failed.
     Sent(SendFault),
+    /// The text of a file could not be written.
+    NotWritten(Unwritten),
 }
 
 /// The fault of a run of one file.

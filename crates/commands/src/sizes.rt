@@ -43,13 +43,12 @@ the cells. For example:
   kept, kept_or, kept_xor  bids, OR bids and XOR bidders of the canonical file
   fault                    why the file is refused; empty if it is not
 
-The table is printed once all files were read. A file that is refused has a row
-too, and the others go on. Its numbers are empty; if only the step limit stops
-it, just those of its canonical file. On standard error is nothing but what
---round and --progress report, and why a list of paths cannot be read. This
-command always uses the bounded search. A step is that of 'cats normalise
---bound'. 'cats help duplicates' says how paths are printed, and what these two
-report.
+A row is printed when its file ends. A file that is refused has a row too, and
+the others go on. Its numbers are empty; if only the step limit stops it, just
+those of its canonical file. On standard error is nothing but what --round and
+--progress report, and why a list of paths cannot be read. This command always
+uses the bounded search. A step is that of 'cats normalise --bound'. 'cats help
+duplicates' says how paths are printed, and what these two report.
 
 All files below a folder, in the order of the bytes of their paths:
   $ cats sizes folder > sizes.tsv

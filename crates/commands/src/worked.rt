@@ -29,7 +29,8 @@ ghost use Rattle.commands.specs.FaultLines.{line_of_fault};
 ghost use Rattle.commands.specs.Outputs.{bundle_text, list_cell};
 ghost use Rattle.commands.specs.Statuses.{status_of_fault};
 ghost use Rattle.commands.specs.declared.faults.RunFault.TheVariants.{Refused, TooHeavy, GoodRange, BidRange, Sent};
-ghost use Rattle.commands.specs.declared.faults.RunFault.TheVariants.{NotOpened};
+ghost use Rattle.commands.specs.declared.faults.RunFault.TheVariants.{NotOpened, NotWritten};
+ghost use Rattle.commands.specs.declared.faults.Unwritten.TheVariants.{Exists, NoSpace};
 ghost use Rattle.commands.specs.declared.faults.Unopened.TheVariants.{NoSuchFile, PermissionDenied, IsFolder, NotAFile};
 ghost use Rattle.commands.specs.declared.faults.Unopened.TheVariants.{Other};
 
@@ -44,7 +45,8 @@ pub fn fault_lines()
         ∷ Refused First (Read (record { line = 0; kind = NoMemory }))
         ∷ Refused Both Memory ∷ Refused Only Memory ∷ GoodRange 2 ∷ BidRange 17
         ∷ Sent (record { written = 5 }) ∷ NotOpened Only NoSuchFile ∷ NotOpened Only PermissionDenied
-        ∷ NotOpened Only IsFolder ∷ NotOpened Only NotAFile ∷ NotOpened Only Other ∷ NotOpened First Other ∷ []) ≡
+        ∷ NotOpened Only IsFolder ∷ NotOpened Only NotAFile ∷ NotOpened Only Other ∷ NotOpened First Other
+        ∷ NotWritten Exists ∷ NotWritten NoSpace ∷ []) ≡
         codes "line 5: TwoDummies\n" ∷ codes "first: line 5: TwoDummies\n"
         ∷ codes "second: line 12: NoEnd\n" ∷ codes "TooLong\n"
         ∷ codes "second: Device\n" ∷ codes "first: want of memory\n"
@@ -52,7 +54,8 @@ pub fn fault_lines()
         ∷ codes "bid 17 out of range\n"
         ∷ codes "output failed after 5 bytes\n" ∷ codes "cannot open: no such file\n"
         ∷ codes "cannot open: permission denied\n" ∷ codes "cannot open: is a folder: name it to 'fault', 'duplicates' or 'sizes'\n"
-        ∷ codes "cannot open: not a file\n" ∷ codes "cannot open\n" ∷ codes "first: cannot open\n" ∷ [] }
+        ∷ codes "cannot open: not a file\n" ∷ codes "cannot open\n" ∷ codes "first: cannot open\n"
+        ∷ codes "cannot write: it exists already\n" ∷ codes "cannot write: no space\n" ∷ [] }
 {}
 
 /// The statuses of these faults.
@@ -63,8 +66,8 @@ pub fn fault_statuses()
         ∷ Refused Second (Read (record { line = 0; kind = Device }))
         ∷ Refused First (Read (record { line = 0; kind = NoMemory }))
         ∷ Refused Both Memory ∷ Refused Only Memory ∷ GoodRange 2 ∷ BidRange 17
-        ∷ Sent (record { written = 5 }) ∷ NotOpened Only NoSuchFile ∷ []) ≡
-        2 ∷ 2 ∷ 5 ∷ 4 ∷ 4 ∷ 4 ∷ 64 ∷ 64 ∷ 5 ∷ 5 ∷ [] }
+        ∷ Sent (record { written = 5 }) ∷ NotOpened Only NoSuchFile ∷ NotWritten NoSpace ∷ []) ≡
+        2 ∷ 2 ∷ 5 ∷ 4 ∷ 4 ∷ 4 ∷ 64 ∷ 64 ∷ 5 ∷ 5 ∷ 5 ∷ [] }
 {}
 
 /// How a step limit is reported, whatever vector holds the goods, and its status.

@@ -24,6 +24,9 @@ pub struct Request<'a> {
     pub progress: bool,
     /// Whether each path of the output ends with NUL.
     pub null: bool,
-    /// Whether `duplicates` prints the files too that are the only ones of their auction.
+    /// Whether `duplicates` prints the files too that are the only ones of their auction, and `publish` writes one text
+    /// for each file.
     pub all: bool,
+    /// The folder in which `publish` writes texts.
+    pub folder: Option<&'a str>,
 }

@@ -19,6 +19,7 @@ pub enum Task {
     Diff,
     Duplicates,
     Sizes,
+    Publish,
 }
 
 /// How many files a command reads.
@@ -50,6 +51,8 @@ pub struct TaskRow {
     pub all: bool,
     /// The flag for NUL after each path of the output.
     pub null: bool,
+    /// The folder in which texts are written.
+    pub folder: bool,
 }
 
 /// A command on one text, which takes nothing else.
@@ -64,6 +67,7 @@ const ON_TEXT: TaskRow = TaskRow {
     exact: false,
     all: false,
     null: false,
+    folder: false,
 };
 
 /// A command on one bid file.
@@ -79,7 +83,7 @@ const SEARCH: TaskRow = TaskRow {
 };
 
 /// The commands, as the help lists them. A caller in C names a command by its place here, counted from 0.
-pub const TASKS: [TaskRow; 13] = [
+pub const TASKS: [TaskRow; 14] = [
     TaskRow {
         task: Task::Check,
         ..ON_FILE
@@ -146,6 +150,13 @@ pub const TASKS: [TaskRow; 13] = [
         null: true,
         ..SEARCH
     },
+    TaskRow {
+        task: Task::Publish,
+        files: Files::Many,
+        all: true,
+        folder: true,
+        ..SEARCH
+    },
 ];
 
 /// The name of a command.
@@ -166,6 +177,7 @@ pub fn name_of(task: Task) -> &'static str
         Task::Diff => "diff",
         Task::Duplicates => "duplicates",
         Task::Sizes => "sizes",
+        Task::Publish => "publish",
     }
 }
 
@@ -175,7 +187,7 @@ pub fn files_of(task: Task) -> Files
 {
     match task {
         Task::Compare | Task::Diff => Files::Two,
-        Task::Fault | Task::Duplicates | Task::Sizes => Files::Many,
+        Task::Fault | Task::Duplicates | Task::Sizes | Task::Publish => Files::Many,
         _ => Files::One,
     }
 }

@@ -57,6 +57,7 @@ fn request_by<'a>(
         progress: false,
         null: request.null,
         all: request.all,
+        folder: None,
     }))
 }
 

@@ -4,10 +4,10 @@ ghost use Rattle.std.specs.Prelude.{◌≡◌, ◌++◌, IfOk, codes};
 ghost use Rattle.commands.specs.KindNames.{name_of_kind};
 ghost use Rattle.commands.specs.Pieces.{text_of_piece, text_of_pieces};
 ghost use Rattle.commands.specs.FaultLines.{line_of_fault, prefix_of, rest_text, text_of_canon_fault, text_of_heavy_bid};
-ghost use Rattle.commands.specs.FaultLines.{text_of_read_fault, text_of_unopened, total_text};
+ghost use Rattle.commands.specs.FaultLines.{text_of_read_fault, text_of_unopened, text_of_unwritten, total_text};
 ghost use Rattle.commands.specs.Statuses.{status_of_fault, status_of_canon_fault, status_of_read_fault};
 
-use crate::faults::{HeavyBid, RunFault, Unopened};
+use crate::faults::{HeavyBid, RunFault, Unopened, Unwritten};
 use crate::printed::pieces::{NOTHING, Piece, line_pieces, text_of};
 use crate::statuses::{DEVICE_FAILED, FILE_REFUSED, NO_MEMORY, STEPS_EXCEEDED, WRONG_USAGE};
 use canon::{CanonFault, Which};
@@ -29,7 +29,7 @@ pub fn status(fault: &RunFault) -> u8
         RunFault::Refused(_, fault) => canon_status(fault),
         RunFault::TooHeavy(_, _) => STEPS_EXCEEDED,
         RunFault::GoodRange(_) | RunFault::BidRange(_) => WRONG_USAGE,
-        RunFault::Sent(_) => DEVICE_FAILED,
+        RunFault::Sent(_) | RunFault::NotWritten(_) => DEVICE_FAILED,
     }
 }
 
@@ -80,6 +80,7 @@ pub fn fault_pieces(fault: &RunFault) -> [Piece<'_>; 14]
             let written = Piece::Number(fault.written);
             line_pieces("", "output failed after ", written, " bytes", "")
         }
+        RunFault::NotWritten(why) => text_pieces("", unwritten(*why)),
     }
 }
 
@@ -103,6 +104,18 @@ fn unopened(why: Unopened) -> &'static str
             "cannot open: is a folder: name it to 'fault', 'duplicates' or 'sizes'",
         Unopened::NotAFile => "cannot open: not a file",
         Unopened::Other => "cannot open",
+    }
+}
+
+fn unwritten(why: Unwritten) -> &'static str
+    ensures { result.now ≡ text_of_unwritten why }
+{
+    match why {
+        Unwritten::Exists => "cannot write: it exists already",
+        Unwritten::PermissionDenied => "cannot write: permission denied",
+        Unwritten::NoSpace => "cannot write: no space",
+        Unwritten::NotAFolder => "cannot write: not a folder",
+        Unwritten::Other => "cannot write",
     }
 }
 

@@ -25,9 +25,10 @@ returns-clause-shape c =
     let a10 = more_by c.in_ok-with-10.ensures.shape c.flag-8.ensures.rule refl a9 in
     let a11 = more_by c.in_ok-with-11.ensures.shape c.option.ensures.rule many a10 in
     let a12 = more_by c.in_ok-with-12.ensures.shape c.option-2.ensures.rule refl a11 in
-    let a13 = more_by c.in_ok-with-13.ensures.shape c.words_from.ensures.rule many a12 in
-    let a14 = more_by c.in_ok-with-14.ensures.shape c.file.ensures.rule (ap not many) a13 in
-    let a15 = more_by c.in_ok-with-15.ensures.shape c.second_file.ensures.rule c.is_two.ensures a14 in
-    let a16 = more_by c.in_ok-with-16.ensures.shape c.words_from-2.ensures.rule refl a15 in
-    let a17 = more_by c.in_ok-with-17.ensures.shape c.words_from-3.ensures.rule refl a16 in
-    ap (λ (app : App). app.top) (more_by c.in_ok-draft.ensures.shape hidden c.has_no_other_words.ensures a17)
+    let a13 = more_by c.in_ok-with-13.ensures.shape c.folder.ensures.rule refl a12 in
+    let a14 = more_by c.in_ok-with-14.ensures.shape c.words_from.ensures.rule many a13 in
+    let a15 = more_by c.in_ok-with-15.ensures.shape c.file.ensures.rule (ap not many) a14 in
+    let a16 = more_by c.in_ok-with-16.ensures.shape c.second_file.ensures.rule c.is_two.ensures a15 in
+    let a17 = more_by c.in_ok-with-17.ensures.shape c.words_from-2.ensures.rule refl a16 in
+    let a18 = more_by c.in_ok-with-18.ensures.shape c.words_from-3.ensures.rule refl a17 in
+    ap (λ (app : App). app.top) (more_by c.in_ok-draft.ensures.shape hidden c.has_no_other_words.ensures a18)

@@ -1,0 +1,96 @@
+-- What `cats publish` prints and writes. It prints a header, and a row for each path; and it writes the canonical text
+-- of
+-- each auction once, or with `--all` that of each file.
+use Rattle.std.specs.Prelude.{◌≡◌, ◌&&◌, ◌||◌, ◌++◌, ℕ, Bool, List, [], ◌∷◌, length, map, codes, decimal, is_none}
+use Rattle.std.specs.Prelude.{slice_get}
+use Rattle.std.specs.Prelude.{Option, Some, None, option_and_then, option_map, unwrap_or, if◌then◌else◌}
+use Rattle.bid_file.specs.Files.{PlainFile}
+use Rattle.canon.specs.Canonical.{canonical_file, canonical_text}
+use Rattle.canon.specs.FirstNumbers.{first_number}
+use Rattle.cats_cmd.specs.Duplicates.{judged_files, judged_paths}
+use Rattle.cats_cmd.specs.Escaping.{escaped}
+use Rattle.cats_cmd.specs.SizesTables.{fault_cell}
+use Rattle.cats_cmd.specs.Stores.{Text, path_in}
+use Rattle.cats_cmd.specs.TextPaths.{PlacedText}
+use Rattle.commands.specs.Judgements.{Judgement, IsPublished, Publishing, canonical_known, fault_judged, file_read}
+use Rattle.commands.specs.Outputs.{number_cell}
+use Rattle.commands.specs.Sizes.{cells}
+
+-- the path of the text of the file with this number
+abbrev pub text_path : List PlacedText → ℕ → List ℕ
+text_path places number = unwrap_or (option_map (λ p. p.text) (slice_get places number)) []
+
+-- the path of the first file before it that is the same auction
+abbrev pub same_as : List (List ℕ × Judgement) → PlainFile → Option (List ℕ)
+same_as before file = option_and_then (slice_get (judged_paths before)) (first_number (judged_files before) file)
+
+-- a file that was judged before, at this path, has the same canonical text (law)
+pub record HasSameText (before : List (List ℕ × Judgement)) (file : PlainFile) (path : List ℕ) : Type 0 where
+  pub number : ℕ
+  pub other : PlainFile
+  pub there : slice_get (judged_paths before) number ≡ Some path
+  pub is : slice_get (judged_files before) number ≡ Some other
+  pub same : canonical_text other ≡ canonical_text file
+
+-- Files are published into a folder, all of them or one of each auction, and this is where the text of each is written.
+module _ (folder : List ℕ) (all : Bool) (places : List PlacedText) where
+  -- whether the text of a file is written, unless that fails
+  abbrev pub is_wanted : List (List ℕ × Judgement) → PlainFile → Bool
+  is_wanted before file = all || is_none (first_number (judged_files before) file)
+
+  -- the text that was written for a file, if one was
+  abbrev pub text_if : List (List ℕ × Judgement) → Judgement → List Text
+  text_if before (IsPublished file publishing) = if is_wanted before file && is_none publishing.unwritten
+      then (path_in folder (text_path places (length before)), canonical_text file) ∷ [] else []
+  text_if before judgement = []
+
+  -- ---- rows
+
+  -- the path of its text below the folder, if it was written
+  abbrev pub text_cell : List (List ℕ × Judgement) → Judgement → List ℕ
+  text_cell before (IsPublished file publishing) = if is_wanted before file && is_none publishing.unwritten
+      then escaped (text_path places (length before)) else []
+  text_cell before judgement = []
+
+  abbrev pub same_cell : List (List ℕ × Judgement) → Judgement → List ℕ
+  same_cell before (IsPublished file publishing) = escaped (unwrap_or (same_as before file) [])
+  same_cell before judgement = []
+
+  abbrev pub rounded_cell : (Publishing → ℕ) → Judgement → List ℕ
+  rounded_cell count (IsPublished file publishing) = decimal (count publishing)
+  rounded_cell count judgement = []
+
+  abbrev pub goods_cell : Option PlainFile → List ℕ
+  goods_cell file = number_cell (option_map (λ f. f.goods) file)
+
+  abbrev pub bids_cell : Option PlainFile → List ℕ
+  bids_cell file = number_cell (option_map (λ f. length f.bids) file)
+
+  -- the row of a path, behind those of the paths before it
+  abbrev pub publish_row : List (List ℕ × Judgement) → List ℕ → Judgement → List ℕ
+  publish_row before path judgement = cells (escaped path ∷ text_cell before judgement ∷ same_cell before judgement
+      ∷ goods_cell (file_read judgement) ∷ bids_cell (file_read judgement) ∷ bids_cell (canonical_known judgement)
+      ∷ rounded_cell (λ p. p.rounded) judgement ∷ rounded_cell (λ p. p.zeroed) judgement ∷ [])
+      ++ fault_cell (fault_judged judgement) ++ codes "\n"
+
+  abbrev pub rows_behind : List (List ℕ × Judgement) → List (List ℕ × Judgement) → List ℕ
+  rows_behind before [] = []
+  rows_behind before (j ∷ rest) = publish_row before j.0 j.1 ++ rows_behind (before ++ j ∷ []) rest
+
+  abbrev pub texts_behind : List (List ℕ × Judgement) → List (List ℕ × Judgement) → List Text
+  texts_behind before [] = []
+  texts_behind before (j ∷ rest) = text_if before j.1 ++ texts_behind (before ++ j ∷ []) rest
+
+  -- ---- all
+
+  -- the texts that are written for files, each the canonical text of its row's file
+  abbrev pub publish_texts : List (List ℕ × Judgement) → List Text
+  publish_texts judgements = texts_behind [] judgements
+
+  abbrev pub publish_header : List ℕ
+  publish_header = codes "file\ttext\tsame_as\tgoods\tbids\tkept\trounded\tzeroed\tfault\n"
+
+  -- the table of `cats publish`, and the texts of its rows
+  pub record Publishes (judgements : List (List ℕ × Judgement)) (printed : List ℕ) (written : List Text) : Type 0 where
+    pub table : printed ≡ publish_header ++ rows_behind [] judgements
+    pub texts : written ≡ publish_texts judgements
