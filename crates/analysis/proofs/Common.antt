@@ -27,6 +27,7 @@ pub use Rattle.std.proofs.lemmas.List.Elements.{Contains-append_left, Contains-a
 pub use Rattle.std.proofs.lemmas.List.Elements.{recursion_from_All, filter_more}
 pub use Rattle.std.proofs.lemmas.List.Filters.{dedup_is}
 pub use Rattle.std.proofs.lemmas.List.Folds.{list_any_none}
+pub use Rattle.std.proofs.lemmas.Simd.{map-map}
 pub use Rattle.std.proofs.lemmas.List.FromFn.{fill_by_all, get_or-range_with_len, length-range_with_len, get_or-map-range_with_len, length-map-range_with_len}
 pub use Rattle.std.proofs.lemmas.List.Kept.{Contains-dedup_nat, Contains-from_dedup, AllPairs-from_increasing, AllPairs-filter}
 pub use Rattle.std.proofs.lemmas.List.Sorted.{IsPermutation-trans, length_permutation, searchable_from_sorted, IsPartitionPoint-from_clause, All-permutation}
@@ -72,7 +73,7 @@ pub use Rattle.analysis.specs.Internal.NumberLines.{RefusesLine}
 pub use Rattle.analysis.specs.Internal.Orders.{NeverFall}
 pub use Rattle.analysis.specs.Internal.Partners.{IsRarest, TakesPartner, ArePartners, IsCandidate, IsRarestIfAny, rarer_candidate}
 pub use Rattle.analysis.specs.Internal.RowTexts.{instead}
-pub use Rattle.analysis.specs.Internal.Starts.{IsNamedCanonical, AreStarts}
+pub use Rattle.analysis.specs.Internal.Starts.{IsCanonicalOf, AreStarts}
 pub use Rattle.analysis.specs.Internal.Walks.{IsKnown, IsBestAt, IsLastBest, IsNext, best_after, dummy_of, is_kept_atom, HasPassed, IsNextBest, is_best_of}
 pub use Rattle.analysis.specs.Internal.Walks.{is_kept_bid, passed_bids, IsAt}
 pub use Rattle.analysis.specs.KeptWinners.{kept_by, named_by, with_kept_bids, AreKept, in_canonical_file, kept_as, number_kept_as, in_place_of}
@@ -116,7 +117,7 @@ pub use Rattle.canon.specs.Lemmas.Renaming.{kept_dummies-has, filter-map, kept_d
 pub use Rattle.canon.specs.PriceChanges.{PlainChange, ArePriceChanges, price_on, IsPriceChange}
 pub use Rattle.canon.specs.Renaming.{kept_bids, kept_dummies, named_bid, named_dummy, points_of_dummy}
 pub use Rattle.canon.specs.Sameness.{AreSameFiles, IsSameAuction}
-pub use Rattle.canon.specs.declared.normal.named.NamedFile.{NamedFile}
+pub use Rattle.canon.specs.declared.normal.Canonical.{Canonical}
 pub use Rattle.cats_text.specs.Lines.{Word}
 pub use Rattle.cats_text.specs.Numbers.{digits_alone, number_of}
 pub use Rattle.goods_set.specs.Bundles.{without, AreAbove, AreBelow, IsBundle, IsRising, all_bundles, are_apart, has_good, IsInside, is_inside}

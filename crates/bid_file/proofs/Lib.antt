@@ -1,2 +1,3 @@
 -- Proofs that several functions of this crate cite.
 pub mod Spans
+pub mod Orders

@@ -1,2 +1,3 @@
 -- The facts that private types keep. No public contract rests on them.
 pub mod Packed
+pub mod KeyedNumbers

@@ -2,7 +2,7 @@
 pub use Rattle.bid_file.specs.Files.{PlainFile, IsPlainFile, PlainBid, IsDummyBelow, IsBid, IsBidFile}
 pub use Rattle.bid_file.specs.Views.{seen_bid, plain_file}
 pub use Rattle.bid_file.specs.declared.limits.TheConstants.{MAX_GOODS, MAX_DUMMY}
-pub use Rattle.canon.specs.Answers.{RefusesAs, RefusesText, RefusesAuction, IsNormalFile, NormalisesPlainAs}
+pub use Rattle.canon.specs.Answers.{RefusesAs, RefusesText, RefusesAuction, IsNormalFile, NormalisesPlainAs, AreFates}
 pub use Rattle.canon.specs.Bidders.{offers}
 pub use Rattle.canon.specs.Canonical.{points_of_bidders, canonical_auction, canonical_file, bid_from, dummy_bids, file_from, canonical_bidders, canonical_text}
 pub use Rattle.canon.specs.Canonical.{IsCanonical, IsCanonicalFile}
@@ -13,7 +13,6 @@ pub use Rattle.canon.specs.FirstNumbers.{AddsStream, AddsText, IsEmptyIndex, IsF
 pub use Rattle.canon.specs.FirstNumbers.{first_number, text_number}
 pub use Rattle.canon.specs.Internal.BidderBids.{HasBidders, leading, AreBidsOf, IsFirstBidder}
 pub use Rattle.canon.specs.Internal.BidderKeys.{bidder_key}
-pub use Rattle.canon.specs.Internal.Fates.{AreFates}
 pub use Rattle.canon.specs.Internal.KeyedBidders.{NumberedBidder, numbered_points, numbered_cmp, kept_numbers, numbered_from, points_of_numbered}
 pub use Rattle.canon.specs.Internal.KeyedBidders.{keyed_bidders, keyed_bidder}
 pub use Rattle.canon.specs.Internal.OrBids.{HasOrBids}
@@ -40,7 +39,7 @@ pub use Rattle.canon.specs.Unsearched.{unsearched_auction, AreAlike, AreAlikeAuc
 pub use Rattle.canon.specs.Verdicts.{NamesGoods, plain_verdict, printed_atoms}
 pub use Rattle.canon.specs.declared.canon_fault.CanonFault.{CanonFault}
 pub use Rattle.canon.specs.declared.canon_fault.CanonFault.TheVariants.{Read, StepLimit, Memory}
-pub use Rattle.canon.specs.declared.normal.explained.BidderFates.{BidderFates}
+pub use Rattle.canon.specs.declared.normal.BidderFates.{BidderFates}
 pub use Rattle.canon.specs.declared.verdict.Side.{Side}
 pub use Rattle.canon.specs.declared.verdict.Side.TheVariants.{Exactly, Below}
 pub use Rattle.canon.specs.declared.verdict.Verdict.{Verdict}

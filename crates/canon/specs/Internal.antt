@@ -2,7 +2,6 @@
 -- them.
 pub mod BidderBids
 pub mod BidderKeys
-pub mod Fates
 pub mod KeyedBidders
 pub mod OrBids
 pub mod PriceWalks

@@ -13,7 +13,7 @@ ghost use Rattle.canon.specs.Internal.TextNumbers.{number_of};
 
 use crate::auction_index::unsearched::unsearched_file;
 use crate::canon_fault::CanonFault;
-use crate::normal::named_normal_file;
+use crate::normal::canonical_file;
 use bid_file::PackedFile;
 use cats_text::packed::read_packed_from;
 use cats_text::{Watched, write};
@@ -73,8 +73,8 @@ impl AuctionIndex {
         let Some(count) = self.count.checked_add(1) else {
             return Err(CanonFault::Memory);
         };
-        let normal = named_normal_file(alloc, file, options)?;
-        let text = write(alloc, &normal.file)?;
+        let canonical = canonical_file(alloc, file, options)?;
+        let text = write(alloc, &canonical.file)?;
         let number = number_text(&mut self.numbers, text, self.count)?;
         self.count = count;
         Ok(number)

@@ -2,38 +2,52 @@
 
 mod atom_order;
 pub(crate) mod auction;
-mod explained;
 pub(crate) mod file;
 mod keyed_bidder;
-mod named;
 pub(crate) mod text;
 
-ghost use Rattle.std.specs.Prelude.{◌≡◌, ◌≤◌, true, None, IfOk, IfErr, OnOk};
+ghost use Rattle.std.specs.Prelude.{◌≡◌, ◌≤◌, IfOk};
 ghost use Rattle.bid_file.specs.Views.{plain_file};
+ghost use Rattle.valuation.specs.Auctions.{auction_from};
 ghost use Rattle.valuation.specs.SearchLimits.{plain_options};
-ghost use Rattle.valuation.specs.Views.{plain_auction};
-ghost use Rattle.prune.specs.SearchSteps.{first_refused};
-ghost use Rattle.canon.specs.Answers.{NormalisesAuctionAs, NormalisesFileAs, NormalisesPlainAs, RefusesAuction};
-ghost use Rattle.canon.specs.Answers.{unnamed_answer};
-ghost use Rattle.canon.specs.Canonical.{IsCanonical, IsCanonicalFile, canonical_auction};
-ghost use Rattle.canon.specs.Internal.Fates.{AreFates};
-ghost use Rattle.canon.specs.Internal.KeyedBidders.{kept_numbers};
+ghost use Rattle.canon.specs.Answers.{AreFates, NormalisesFileAs, NormalisesPlainAs, file_answer};
+ghost use Rattle.canon.specs.Canonical.{IsCanonicalFile};
 ghost use Rattle.canon.specs.Least.{IsLeastFor};
+ghost use Rattle.canon.specs.Renaming.{kept_dummies};
 ghost use Rattle.canon.specs.Sameness.{AreSameFiles};
 
 use crate::canon_fault::CanonFault;
-use crate::normal::auction::{NamedAuction, named_canonical};
+use crate::normal::auction::canonicalise;
 use crate::normal::file::packed_file_of;
+use bid_file::limits::MAX_GOODS;
 use bid_file::{BidFile, PackedFile, pack};
-pub use explained::{BidderFates, explained_normal_file};
 use goods_set::GoodsSet;
 use goods_set::listing::goods_of;
-pub use named::{NamedFile, named_normal_file};
 use prune::PruneFault;
 use std::alloc::Global;
-use std::mem;
 use valuation::search::SearchOptions;
 use valuation::{Auction, auction_of, on_set_for};
+
+/// The canonical file of a file, which bidder is which, and what becomes of the bids.
+#[derive(Drop)]
+pub struct Canonical {
+    /// The canonical file.
+    pub file: PackedFile,
+    /// For each of its dummy goods the one of the same bidder in the file. Equal bidders keep their order.
+    pub dummies: Vec<u32>,
+    /// What becomes of the best bids of each bidder of the file.
+    pub fates: BidderFates,
+}
+
+/// What becomes of the best bids of each bidder of a file.
+#[derive(Drop)]
+pub struct BidderFates {
+    /// Of the OR bidder's best bids, in order: none if the bid is kept, and else the indices, among the points, of the
+    /// packing that reaches its price.
+    pub or: Vec<Option<Vec<usize>>>,
+    /// Of each dummy good's bidder the same: the index of the first point inside the bundle with at least its price.
+    pub xor: Vec<Vec<Option<usize>>>,
+}
 
 /// The canonical file of a file: the file of its canonical auction. `limit` bounds each plain search that decides on a
 /// bundle of the OR bidder.
@@ -44,81 +58,45 @@ pub fn normal_file(alloc: Global, file: &BidFile, limit: u64) -> Result<BidFile,
     ensures least { IfOk result (λ h. IsLeastFor (plain_file file.now) (plain_file h)) }
 {
     let packed = pack(alloc, file)?;
-    let normal = normal_packed_file(alloc, packed, SearchOptions::plain(limit))?;
-    Ok(normal.to_file(alloc)?)
+    let canonical = canonical_file(alloc, &packed, SearchOptions::plain(limit))?;
+    Ok(canonical.file.to_file(alloc)?)
 }
 
-/// The canonical file of a packed file, as `normal_file`, by searches of any kind: all kinds give the same file. The
-/// file is given up before its auction is made canonical.
-pub fn normal_packed_file(
+/// The canonical file of a packed file, as `normal_file`, by searches of any kind, which bidder is which, and what becomes
+/// of the bids. All kinds of searches give the same file.
+pub fn canonical_file(
     alloc: Global,
-    file: PackedFile,
+    file: &PackedFile,
     options: SearchOptions,
-) -> Result<PackedFile, CanonFault>
-    ensures answer { NormalisesPlainAs options file result }
-    ensures canonical { IfOk result (λ h. IsCanonicalFile h) }
+) -> Result<Canonical, CanonFault>
+    ensures answer { NormalisesPlainAs options file.now (file_answer result) }
+    ensures canonical { IfOk result (λ c. IsCanonicalFile c.file) }
+    ensures dummies { IfOk result (λ c. c.dummies.items ≡ kept_dummies file.now) }
+    ensures fates { IfOk result (λ c. AreFates options.kind (auction_from file.now) c.fates) }
 {
-    on_set_for!(&file, normal_file_on(alloc, file, options))
+    prove!(file.goods() <= MAX_GOODS);
+    on_set_for!(file, canonical_file_on(alloc, file, options))
 }
 
-/// The canonical file of a packed file, by sets of one kind.
-fn normal_file_on<S: GoodsSet>(
+/// The same by sets of one kind.
+fn canonical_file_on<S: GoodsSet>(
     alloc: Global,
-    file: PackedFile,
+    file: &PackedFile,
     options: SearchOptions,
-) -> Result<PackedFile, CanonFault>
-    requires { file.goods ≤ S.CAP }
-    ensures answer { NormalisesPlainAs options file result }
-    ensures canonical { IfOk result (λ h. IsCanonicalFile h) }
+) -> Result<Canonical, CanonFault>
+    requires { file.now.goods ≤ S.CAP }
+    ensures answer { NormalisesPlainAs options file.now (file_answer result) }
+    ensures canonical { IfOk result (λ c. IsCanonicalFile c.file) }
+    ensures dummies { IfOk result (λ c. c.dummies.items ≡ kept_dummies file.now) }
+    ensures fates { IfOk result (λ c. AreFates options.kind (auction_from file.now) c.fates) }
 {
-    let auction: Auction<S> = auction_of(alloc, &file)?;
-    mem::drop(file);
-    let named = normal_auction_file(alloc, auction, options, false)?;
-    Ok(named.file)
-}
-
-/// The canonical file of an auction, which bidder is which, and what became of the best bids, if that is wanted.
-pub(crate) fn normal_auction_file<S: GoodsSet>(
-    alloc: Global,
-    auction: Auction<S>,
-    options: SearchOptions,
-    with_fates: bool,
-) -> Result<NamedFile, CanonFault>
-    ensures answer { NormalisesAuctionAs options (plain_auction auction) (unnamed_answer result) }
-    ensures dummies { IfOk result (λ e. e.dummies.items ≡ kept_numbers (plain_auction auction)) }
-    ensures canonical { IfOk result (λ e. IsCanonicalFile e.file) }
-    ensures fates { IfOk result (λ e. with_fates ≡ true → AreFates options.kind (plain_auction auction) e.fates) }
-{
-    let NamedAuction {
-        auction,
-        dummies,
-        fates,
-    } = canonical_within_limits(alloc, auction, options, with_fates)?;
-    let file = packed_file_of(alloc, &auction)?;
-    Ok(NamedFile {
-        file,
-        dummies,
-        fates,
-    })
-}
-
-/// The canonical auction, if no bundle is refused.
-fn canonical_within_limits<S: GoodsSet>(
-    alloc: Global,
-    auction: Auction<S>,
-    options: SearchOptions,
-    with_fates: bool,
-) -> Result<NamedAuction<S>, CanonFault>
-    ensures canonical { IfOk result (λ c. plain_auction c.auction ≡ canonical_auction (plain_auction auction)) }
-    ensures fixed { IfOk result (λ c. IsCanonical (plain_auction c.auction)) }
-    ensures dummies { IfOk result (λ c. c.dummies.items ≡ kept_numbers (plain_auction auction)) }
-    ensures within_limits { let a = plain_auction auction in
-        OnOk result (first_refused options a.goods a.or_atoms ≡ None) }
-    ensures refused { IfErr result (λ fault. RefusesAuction options (plain_auction auction) fault) }
-    ensures fates { IfOk result (λ c. with_fates ≡ true → AreFates options.kind (plain_auction auction) c.fates) }
-{
-    match named_canonical(alloc, auction, options, with_fates) {
-        Ok(canonical) => Ok(canonical),
+    let auction: Auction<S> = auction_of(alloc, file)?;
+    match canonicalise(alloc, auction, options) {
+        Ok(canonical) => Ok(Canonical {
+            file: packed_file_of(alloc, &canonical.auction)?,
+            dummies: canonical.dummies,
+            fates: canonical.fates,
+        }),
         Err(PruneFault::StepLimit { bundle }) => Err(CanonFault::StepLimit {
             goods: goods_of(alloc, &bundle)?,
         }),

@@ -16,11 +16,11 @@ kept_count f =
     ap (λ (b : PlainAuction). length b.xor_bidders) (auction_from-file_from a)
     ∙ sym (ap (length {A = List (Atom (List ℕ))}) (points_of_kept_dummies f)) ∙ length-map (kept_dummies f) (points_of_dummy f)
 
-pub compared_plain : (c : ComparedFile) → IsComparedFile c → IsPlainFile c.named.file
-compared_plain c is = subst (λ (h : PlainFile). IsPlainFile h) (sym is.named.canonical) (IsPlainFile-canonical c.file is.plain)
+pub compared_plain : (c : ComparedFile) → IsComparedFile c → IsPlainFile c.canonical.file
+compared_plain c is = subst (λ (h : PlainFile). IsPlainFile h) (sym is.canonical.file) (IsPlainFile-canonical c.file is.plain)
 
-pub compared_canonical : (c : ComparedFile) → IsComparedFile c → IsCanonicalFile c.named.file
-compared_canonical c is = subst (λ (h : PlainFile). IsCanonicalFile h) (sym is.named.canonical) (canonical_file_is_fixed c.file is.plain)
+pub compared_canonical : (c : ComparedFile) → IsComparedFile c → IsCanonicalFile c.canonical.file
+compared_canonical c is = subst (λ (h : PlainFile). IsCanonicalFile h) (sym is.canonical.file) (canonical_file_is_fixed c.file is.plain)
 
 -- ---- the bidders of the changes
 

@@ -27,7 +27,7 @@ use crate::printed::cells::{push_list, push_number, push_number_cell, push_price
 use crate::statuses::{DIFFERENT, DONE};
 use analysis::differences::{BidderChange, Differences, all_differences};
 use canon::comparing::PriceChange;
-use canon::normal::named_normal_file;
+use canon::normal::canonical_file;
 use canon::{CanonFault, Which};
 use requests::help::{CommandHelp, TOTAL_STEPS};
 use sides::{ComparedFile, Side, Sides};
@@ -111,8 +111,8 @@ fn read_compared<I: Input>(
     ensures compared { IfOk result IsComparedFile }
 {
     let file = of(which, input.read_file(alloc).map_err(CanonFault::from))?;
-    match named_normal_file(alloc, &file, options) {
-        Ok(named) => Ok(ComparedFile { file, named }),
+    match canonical_file(alloc, &file, options) {
+        Ok(canonical) => Ok(ComparedFile { file, canonical }),
         Err(fault) => Err(name_bid(which, &file, options, fault)),
     }
 }
@@ -157,7 +157,7 @@ fn differences_text(
     requires right { IsComparedFile right.now }
     ensures { IfOk result (λ t. PrintsDifferences left.now.file right.now.file t.0 t.1.items) }
 {
-    let differences = all_differences(alloc, &left.named.file, &right.named.file)?;
+    let differences = all_differences(alloc, &left.canonical.file, &right.canonical.file)?;
     if differences.is_empty() {
         return Ok((DONE, Vec::from_slice(alloc, HEADER)?));
     }

@@ -18,7 +18,7 @@ use crate::faults::RunFault;
 use crate::input::Input;
 use bid_file::PackedFile;
 use canon::CanonFault;
-use canon::normal::normal_packed_file;
+use canon::normal::canonical_file;
 use requests::help::CommandHelp;
 use std::alloc::Global;
 use valuation::search::SearchOptions;
@@ -66,7 +66,7 @@ pub fn normalise<I: Input>(
     Ok(done(Output::File(read_canonical(alloc, input, options)?)))
 }
 
-/// The canonical file of the file that an input gives, which is given up for it.
+/// The canonical file of the file that an input gives.
 pub(crate) fn read_canonical<I: Input>(
     alloc: Global,
     input: &mut I,
@@ -78,7 +78,7 @@ pub(crate) fn read_canonical<I: Input>(
     ensures canonical { IfOk result IsCanonicalFile }
 {
     let file = input.read_file(alloc)?;
-    normal_packed_file(alloc, file, options)
+    Ok(canonical_file(alloc, &file, options)?.file)
 }
 
 /// What `cats normalise` and `cats explain` make of two files: the same limits refuse one of them.

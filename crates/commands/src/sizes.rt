@@ -16,7 +16,7 @@ ghost use Rattle.commands.specs.Sizes.{PutsNumbers};
 
 use crate::faults::{RunFault, name_bid};
 use crate::input::Input;
-use canon::normal::named_normal_file;
+use canon::normal::canonical_file;
 use canon::{CanonFault, Which};
 use count::{push_counts, push_sizes};
 use requests::help::{CommandHelp, FILES, TOTAL_STEPS};
@@ -86,10 +86,10 @@ pub fn push_numbers<I: Input>(
     };
     let mut sizes = Vec::new(alloc);
     push_sizes(alloc, &mut sizes, &file)?;
-    match named_normal_file(alloc, &file, options) {
-        Ok(named) => {
+    match canonical_file(alloc, &file, options) {
+        Ok(canonical) => {
             text.extend_from_slice(sizes.as_slice())?;
-            push_counts(alloc, text, &named.file)?;
+            push_counts(alloc, text, &canonical.file)?;
             Ok(None)
         }
         Err(CanonFault::StepLimit { goods }) => {

@@ -6,6 +6,7 @@ pub mod laws;
 mod least;
 mod list_set;
 pub mod listing;
+mod lists;
 pub mod mask;
 mod set;
 mod sort_keys;
@@ -13,6 +14,7 @@ mod word_set;
 pub mod worked;
 
 pub use list_set::ListSet;
+pub use lists::{has_good, is_subset, order_of_bundles};
 pub use set::GoodsSet;
-pub use sort_keys::sort_key;
+pub use sort_keys::{key_of_goods, sort_key};
 pub use word_set::WordSet;

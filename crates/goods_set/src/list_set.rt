@@ -11,24 +11,10 @@ ghost use Rattle.goods_set.specs.Lemmas.BundleFacts.{IsBundle-prop};
 
 use crate::list_set::few::FewGoods;
 use crate::list_set::goods::{Goods, Held};
+use crate::lists::{has_good, index_of, is_subset, order_of_bundles};
 use crate::set::GoodsSet;
-use crate::sort_keys::key_of_goods;
 use std::alloc::{AllocError, Global};
 use std::cmp::Ordering;
-
-/// A list of no more goods than these is searched one by one.
-const LOOKED_AT: usize = 64;
-
-// Whether the good is one of these.
-fn is_among(goods: &[u16], good: u16) -> bool
-    ensures { result ≡ has_good goods.now good }
-{
-    let mut found = false;
-    for each in goods {
-        found |= *each == good;
-    }
-    found
-}
 
 /// A set of goods as the rising list of them: for few goods, of any number below 65,536. Up to 11 take no memory of
 /// their own.
@@ -45,17 +31,6 @@ impl ListSet {
         ensures { result.goods ≡ rising }
     {
         ListSet { goods: rising }
-    }
-
-    // Where the good is, or else where it goes.
-    fn index_of(&self, good: u16) -> Result<usize, usize>
-        ensures { MatchResult result
-            (λ i. has_good self.now.goods good ≡ true)
-            (λ i. (i ≤ length self.now.goods)
-            × (has_good self.now.goods good ≡ false)
-            × (insert self.now.goods i good ≡ with_good good self.now.goods)) }
-    {
-        self.goods.as_slice().binary_search(&good)
     }
 
     // How many goods are below a bound.
@@ -117,7 +92,7 @@ impl GoodsSet for ListSet {
     }
 
     fn put(&mut self, good: u16) -> Result<bool, AllocError> {
-        match self.index_of(good) {
+        match index_of(self.goods.as_slice(), good) {
             Ok(_) => Ok(false),
             Err(index) => {
                 self.goods.insert(index, good)?;
@@ -126,15 +101,8 @@ impl GoodsSet for ListSet {
         }
     }
 
-    // Among few goods all are looked at, since no branch but the loop's depends on them: a search takes
-    // one for each step, and it is seldom foreseen.
     fn has(&self, good: u16) -> bool {
-        let goods = self.goods.as_slice();
-        if goods.len() <= LOOKED_AT {
-            is_among(goods, good)
-        } else {
-            self.index_of(good).is_ok()
-        }
+        has_good(self.goods.as_slice(), good)
     }
 
     fn size(&self) -> usize {
@@ -155,13 +123,7 @@ impl GoodsSet for ListSet {
     }
 
     fn is_inside(&self, other: &ListSet) -> bool {
-        let own = self.goods.as_slice();
-        let others = other.goods.as_slice();
-        // A set is inside one that is not larger only where the two are the same.
-        if own.len() >= others.len() {
-            return own == others;
-        }
-        own.iter().all(|good| other.has(*good))
+        is_subset(self.goods.as_slice(), other.goods.as_slice())
     }
 
     fn is_apart(&self, other: &ListSet) -> bool {
@@ -173,15 +135,7 @@ impl GoodsSet for ListSet {
     }
 
     fn order(&self, other: &ListSet) -> Ordering {
-        let own = self.goods.as_slice();
-        let others = other.goods.as_slice();
-        match key_of_goods(own).cmp(&key_of_goods(others)) {
-            Ordering::Equal => {
-                let sizes = own.len().cmp(&others.len());
-                sizes.then_with(|| own.cmp(others))
-            }
-            unequal => unequal,
-        }
+        order_of_bundles(self.goods.as_slice(), other.goods.as_slice())
     }
 
     fn copy(&self) -> Result<ListSet, AllocError> {

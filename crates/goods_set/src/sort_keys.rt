@@ -1,4 +1,4 @@
-//! The sort keys of sets, compared before their goods. They are only for speed: the order of sets doesn't
+//! The sort keys of bundles, compared before their goods. They are only for speed: the order of bundles doesn't
 //! depend on it.
 ghost use Rattle.std.specs.Prelude.{◌≡◌, ℕ, ◌+◌, List, length, get_or};
 ghost use Rattle.std.specs.List.{slice_get};
@@ -28,8 +28,9 @@ fn good_at(goods: &[u16], index: usize) -> u16
     }
 }
 
-/// The sort key of the set of these goods.
-pub(crate) fn key_of_goods(goods: &[u16]) -> u64
+/// How many goods a bundle has and the first three of them, as one number: bundles with different keys are in the order of
+/// these.
+pub fn key_of_goods(goods: &[u16]) -> u64
     ensures { result ≡ sort_key_of goods.now }
 {
     key_from(

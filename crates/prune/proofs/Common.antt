@@ -34,7 +34,7 @@ pub use Rattle.prune.specs.Lemmas.SearchSteps.{greatest_price-member, greatest_p
 pub use Rattle.prune.specs.Lemmas.SearchSteps.{search_within_bound, ordered_value}
 pub use Rattle.prune.specs.Lemmas.Tables.{no_xor_points, no_or_points, same_xor_points, same_or_points}
 pub use Rattle.prune.specs.Lemmas.Values.{xor_value-member, xor_value-bound, xor_value-dominated, or_value-dominated}
-pub use Rattle.prune.specs.Points.{or_points, xor_points}
+pub use Rattle.prune.specs.Points.{or_points, xor_points, ArePoints}
 pub use Rattle.prune.specs.SearchSteps.{atoms_below, greatest_price, is_below, in_search_order, searched_bundles, first_heavy, first_refused, steps_at_most}
 pub use Rattle.prune.specs.declared.subset_index.Posting.{Posting}
 pub use Rattle.std.proofs.Common.{rules, ◌≡◌, ℕ, ◌+◌, ◌<◌, ◌≤◌, Bool, true, false, cond, ltb, ◌⊎◌, inl, inr, ⊎_elim, List, [], ◌∷◌, map, length, get_or, refl}

@@ -5,7 +5,7 @@ use Rattle.prune.proofs.Common.{All, list_any, cases_lt, le-leb, lt-leb, map-app
 use Rattle.prune.proofs.Common.{All-weaker, filter_passes, IsRising, is_inside, IsInside, Atom, IsAtom, atoms_of, xor_value, plain_atom, xor_value-nil}
 use Rattle.prune.proofs.Common.{xor_value-inside, list_any_filter, dominates, AreBestBids, atoms_inside}
 use Rattle.prune.proofs.Pruning.{HasRisingBundle}
-use Rattle.prune.proofs.Results.{IsTurn, IsXorKept, IsOrKept, AreXorPoints, AreOrPoints, xor_done, or_done}
+use Rattle.prune.proofs.Results.{IsTurn}
 use Rattle.prune.proofs.Prefixes.{IsLeft, next_parts, next_taken, next_drop}
 
 -- ---- atoms of the code
@@ -37,19 +37,12 @@ one_kept {S} goods now after kept index bid is e = search (rules, map_push)
 
 -- ---- the loop's end
 
-pub xor_end : {S : Type 0} (goods : S → List ℕ) (bids : List (Atom (List ℕ))) (best kept result : List (Atom S)) (index : ℕ)
-    → AreBestBids bids (atoms_of goods best) → IsXorKept (atoms_of goods (take index best)) (atoms_of goods kept) → length best ≤ index → result ≡ kept
-    → AreXorPoints bids (atoms_of goods result)
-xor_end {S} goods bids best kept result index b k l e =
-    let all = subst (λ (zs : List (Atom S)). IsXorKept (atoms_of goods zs) (atoms_of goods kept)) (take_all index best l) k in
-    rw e (xor_done bids (atoms_of goods best) (atoms_of goods kept) b all)
-
-pub or_end : {S : Type 0} (goods : S → List ℕ) (bids : List (Atom (List ℕ))) (best kept result : List (Atom S)) (index : ℕ)
-    → All (λ a. 0 < length a.bundle) bids → AreBestBids bids (atoms_of goods best)
-    → IsOrKept (atoms_of goods (take index best)) (atoms_of goods kept) → length best ≤ index → result ≡ kept → AreOrPoints bids (atoms_of goods result)
-or_end {S} goods bids best kept result index some b k l e =
-    let all = subst (λ (zs : List (Atom S)). IsOrKept (atoms_of goods zs) (atoms_of goods kept)) (take_all index best l) k in
-    rw e (or_done bids (atoms_of goods best) (atoms_of goods kept) some b all)
+-- what is kept of all best bids is right, once none is left
+pub all_done : {S : Type 0} (goods : S → List ℕ) (Keeps : List (Atom (List ℕ)) → List (Atom (List ℕ)) → Type 0) (P : List (Atom (List ℕ)) → Type 0)
+    (best kept result : List (Atom S)) (index : ℕ) → Keeps (atoms_of goods (take index best)) (atoms_of goods kept) → length best ≤ index → result ≡ kept
+    → (Keeps (atoms_of goods best) (atoms_of goods kept) → P (atoms_of goods kept)) → P (atoms_of goods result)
+all_done {S} goods Keeps P best kept result index k l e done =
+    rw e (done (subst (λ (zs : List (Atom S)). Keeps (atoms_of goods zs) (atoms_of goods kept)) (take_all index best l) k))
 
 -- ---- an atom of a list of atoms inside a bundle has a price
 

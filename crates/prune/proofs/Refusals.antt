@@ -42,13 +42,14 @@ best_searched goods bids best on b =
 -- ---- the steps of a turn
 
 pub turn_steps : (kind : SearchKind) (goods : ℕ) (bids done : List (Atom (List ℕ))) (x : Atom (List ℕ)) (rest kept : List (Atom (List ℕ)))
-    → All (IsOnBundle goods) bids → IsTurn bids done x rest → IsOrKept done kept
+    → All (IsAtom goods) bids → IsTurn bids done x rest → IsOrKept done kept
     → 1 + steps_with (bound_of kind) (in_search_order kind (atoms_inside kept x.bundle)) x.bundle x.price ≡ search_steps_by kind goods bids x.bundle
 unfolding search_steps_by
-turn_steps kind goods bids done x rest kept on t k =
+turn_steps kind goods bids done x rest kept are t k =
     let best = done ++ x ∷ rest in
     let f = completion or_value or_value-price or_more or_value-filter_le (x ∷ rest) done kept t.best.in_order t.rising k in
-    let points : f.0 ≡ or_points goods bids = (or_done bids best f.0 (all_nonempty goods bids on) t.best f.1.kept).points goods on in
+    let points : f.0 ≡ or_points goods bids = (or_done bids best f.0 (all_nonempty goods bids (on_bundles goods bids are)) t.best f.1.kept).points
+    goods are in
     let here : Contains best x = Contains-append_right done (x ∷ rest) x (Contains-head x rest) in
     let price : greatest_price bids x.bundle ≡ x.price = best_price bids best t.best x here in
     let later : All (IsBefore x) rest = behind_next done x rest t.best.in_order in
@@ -80,7 +81,7 @@ now_steps : (start now : SearchOptions) (goods : ℕ) (bids done : List (Atom (L
     → All (IsAtom goods) bids → IsTurn bids done x rest → IsOrKept done kept → now.kind ≡ start.kind
     → steps_for now.kind kept x.bundle x.price ≡ search_steps_by start.kind goods bids x.bundle
 now_steps start now goods bids done x rest kept are t k e =
-    turn_steps now.kind goods bids done x rest kept (on_bundles goods bids are) t k ∙ ap (λ (kind : SearchKind). search_steps_by kind goods bids x.bundle) e
+    turn_steps now.kind goods bids done x rest kept are t k ∙ ap (λ (kind : SearchKind). search_steps_by kind goods bids x.bundle) e
 
 module _ (start now : SearchOptions) (bids done : List (Atom (List ℕ))) (x : Atom (List ℕ)) (rest kept : List (Atom (List ℕ)))
     (t : IsTurn bids done x rest) (k : IsOrKept done kept) (w : IsWithin start now bids (x ∷ rest))

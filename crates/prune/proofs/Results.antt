@@ -7,7 +7,7 @@ use Rattle.prune.proofs.Common.{or_value-taken, or_value-price, or_value-filter_
 use Rattle.prune.proofs.Common.{zero_or_more, Contains-head, Contains-filter_parts, All-from_Contains, filter_same_on, IsAtom, ComesNext, IsBehind, IsBefore}
 use Rattle.prune.proofs.Common.{IsInOrder, same_bundle_same_atom, xor_value-member, xor_value-bound, xor_value-dominated, or_value-dominated}
 use Rattle.prune.proofs.Common.{xor_kept_are_points, xor_points_same, or_kept_are_points, or_points_same, greatest_price-member, greatest_price-reached}
-use Rattle.prune.proofs.Common.{AreBestBids}
+use Rattle.prune.proofs.Common.{AreBestBids, ArePoints, on_bundles, just_bundles}
 use Rattle.prune.proofs.Pruning.{HasRisingBundle, IsKept, IsKept-reached, IsKept-missed, inside_below, before_next, rising_prefix}
 
 -- ---- values grow with the list
@@ -120,13 +120,7 @@ all_dominated : (value : List ℕ → ℕ) (bids best : List (Atom (List ℕ))) 
     → All (λ a. a.price ≤ value a.bundle) bids
 all_dominated value bids best b dominated = search (rules, All-from_Contains, All-contains, zero_or_more)
 
-pub record AreXorPoints (bids kept : List (Atom (List ℕ))) : Type 0 where
-  pub in_order : IsInOrder kept
-  pub among : All (Contains bids) kept
-  pub values : (bundle : List ℕ) → xor_value kept bundle ≡ xor_value bids bundle
-  pub points : (goods : ℕ) → All (λ a. IsBundle goods a.bundle) bids → kept ≡ xor_points goods bids
-
-pub xor_done : (bids best kept : List (Atom (List ℕ))) → AreBestBids bids best → IsXorKept best kept → AreXorPoints bids kept
+pub xor_done : (bids best kept : List (Atom (List ℕ))) → AreBestBids bids best → IsXorKept best kept → ArePoints xor_points xor_value bids kept
 xor_done bids best kept b k =
     let among = kept_among bids best kept b k.among in
     let values : (bundle : List ℕ) → xor_value kept bundle ≡ xor_value bids bundle = λ bundle. le_antisymm
@@ -137,19 +131,15 @@ xor_done bids best kept b k =
       in_order = k.in_order;
       among = among;
       values = values;
-      points = λ goods on.
+      points = λ goods are.
+          let on = just_bundles goods bids (on_bundles goods bids are) in
           xor_kept_are_points goods kept k.in_order
           (All-weaker (Contains bids) (λ a. IsBundle goods a.bundle) (λ a c. All-contains (λ a. IsBundle goods a.bundle) bids a on c) kept among) k.short
           ∙ xor_points_same goods kept bids (λ bundle _. values bundle);
     }
 
-pub record AreOrPoints (bids kept : List (Atom (List ℕ))) : Type 0 where
-  pub in_order : IsInOrder kept
-  pub among : All (Contains bids) kept
-  pub values : (bundle : List ℕ) → or_value kept bundle ≡ or_value bids bundle
-  pub points : (goods : ℕ) → All (IsOnBundle goods) bids → kept ≡ or_points goods bids
-
-pub or_done : (bids best kept : List (Atom (List ℕ))) → All (λ a. 0 < length a.bundle) bids → AreBestBids bids best → IsOrKept best kept → AreOrPoints bids kept
+pub or_done : (bids best kept : List (Atom (List ℕ))) → All (λ a. 0 < length a.bundle) bids → AreBestBids bids best → IsOrKept best kept
+    → ArePoints or_points or_value bids kept
 or_done bids best kept some b k =
     let among = kept_among bids best kept b k.among in
     let some_kept = All-weaker (Contains bids) (λ a. 0 < length a.bundle) (λ a c. All-contains (λ a. 0 < length a.bundle) bids a some c) kept among in
@@ -161,7 +151,8 @@ or_done bids best kept some b k =
       in_order = k.in_order;
       among = among;
       values = values;
-      points = λ goods on.
+      points = λ goods are.
+          let on = on_bundles goods bids are in
           or_kept_are_points goods kept k.in_order (All-weaker (Contains bids) (IsOnBundle goods) (λ a c. All-contains (IsOnBundle goods) bids a on c) kept
           among) k.short ∙ or_points_same goods kept bids (λ bundle _. values bundle);
     }

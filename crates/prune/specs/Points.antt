@@ -1,10 +1,12 @@
 -- Points: the atoms that a bidder's values need. They are chosen by values over the list of all bundles; the code drops
 -- bids by containment and by a search over the bids that it kept.
-use Rattle.std.specs.Prelude.{ℕ, ◌+◌, ◌<◌, Bool, ◌&&◌, not, nat_lt, map, List, [], ◌∷◌, length, Contains}
+use Rattle.std.specs.Prelude.{ℕ, ◌+◌, ◌<◌, Bool, ◌&&◌, not, nat_lt, map, List, [], ◌∷◌, length, All, Contains}
 use Rattle.std.specs.List.{list_all, filter}
 use Rattle.valuation.specs.declared.atom.Atom.{Atom}
+use Rattle.valuation.specs.Auctions.{IsAtom}
 use Rattle.valuation.specs.Values.{xor_value, or_value}
 use Rattle.goods_set.specs.Bundles.{is_inside, without, all_bundles, IsRising, IsInside}
+use Rattle.prune.specs.InOrder.{IsInOrder}
 use Rattle.std.proofs.Common.{◌≡◌, false}
 
 -- the bundles over so many goods that pass the test, in order, each as an atom at its value
@@ -58,3 +60,13 @@ pub record IsOrPoint (atoms : List (Atom (List ℕ))) (bundle : List ℕ) : Type
   pub positive : 0 < or_value atoms bundle
   pub split : (part : List ℕ) → IsPart part bundle → or_value atoms part + or_value atoms (without bundle part)
       < or_value atoms bundle
+
+-- ---- what a pruning keeps
+
+-- of the bids the points by these values, for each number of goods that the bids are within
+pub record ArePoints (points_of : ℕ → List (Atom (List ℕ)) → List (Atom (List ℕ)))
+    (value_of : List (Atom (List ℕ)) → List ℕ → ℕ) (bids kept : List (Atom (List ℕ))) : Type 0 where
+  pub points : (goods : ℕ) → All (IsAtom goods) bids → kept ≡ points_of goods bids
+  pub values : (bundle : List ℕ) → value_of kept bundle ≡ value_of bids bundle
+  pub among : All (Contains bids) kept
+  pub in_order : IsInOrder kept

@@ -3,7 +3,7 @@
 
 mod best;
 mod commonness;
-pub mod fates;
+mod decided;
 mod fingerprints;
 pub mod laws;
 mod or;
@@ -15,6 +15,7 @@ mod subset_index;
 pub mod worked;
 mod xor;
 
-pub use or::prune_or;
+pub use decided::Decided;
+pub use or::{decide_or_bids, prune_or};
 pub use prune_fault::PruneFault;
-pub use xor::prune_xor;
+pub use xor::{decide_xor_bids, prune_xor};

@@ -13,7 +13,6 @@ ghost use Rattle.std.specs.Prelude.{
   Contains,
   IfOk,
   IfSome,
-  OnOk,
   is_some,
   vec_len,
 };
@@ -23,10 +22,10 @@ ghost use Rattle.valuation.specs.Values.{atoms_of, plain_atom, xor_value};
 ghost use Rattle.prune.specs.Fates.{xor_fates};
 ghost use Rattle.prune.specs.InOrder.{IsInOrder};
 ghost use Rattle.prune.specs.Internal.Listings.{dominates, first_dominating_index, ComesNext, IsIndexOf};
-ghost use Rattle.prune.specs.Points.{xor_points};
+ghost use Rattle.prune.specs.Points.{xor_points, ArePoints};
 
 use crate::best::keep_best_bids;
-use crate::fates::FateLog;
+use crate::decided::Decided;
 use crate::prefix::move_to_prefix;
 use crate::subset_index::SubsetIndex;
 use goods_set::GoodsSet;
@@ -106,44 +105,38 @@ pub fn prune_xor<S: GoodsSet>(
     ensures in_order { IfOk result (λ points. IsInOrder (atoms_of S.goods points.items)) }
     ensures no_longer { IfOk result (λ points. vec_len points ≤ vec_len atoms) }
 {
-    let mut log = FateLog::new(alloc, false);
-    prune_xor_noting(alloc, atoms, &mut log)
+    Ok(decide_xor_bids(alloc, atoms)?.points)
 }
 
-/// The same. It notes in a new log what becomes of each best bid.
-pub fn prune_xor_noting<S: GoodsSet>(
+/// The same bids, and of each best bid that is not kept the index of the first of them that is inside its bundle and has at
+/// least its price.
+pub fn decide_xor_bids<S: GoodsSet>(
     alloc: Global,
     mut atoms: Vec<Atom<S>>,
-    log: &mut FateLog<Option<usize>>,
-) -> Result<Vec<Atom<S>>, AllocError>
-    requires empty { log.old.fates.items ≡ [] }
-    requires atoms { All (IsAtom MAX_GOODS) (atoms_of S.goods atoms.items) }
-    // For each number of goods that the bids are within.
+) -> Result<Decided<S, Option<usize>>, AllocError>
+    requires { All (IsAtom MAX_GOODS) (atoms_of S.goods atoms.items) }
     ensures points { let bids = atoms_of S.goods atoms.items in
-        IfOk result (λ points. (goods : ℕ) → All (IsAtom goods) bids
-        → atoms_of S.goods points.items ≡ xor_points goods bids) }
-    ensures values { let bids = atoms_of S.goods atoms.items in
-        IfOk result (λ points. (bundle : List ℕ)
-        → xor_value (atoms_of S.goods points.items) bundle ≡ xor_value bids bundle) }
-    ensures bids { let bids = atoms_of S.goods atoms.items in
-        IfOk result (λ points. All (Contains bids) (atoms_of S.goods points.items)) }
-    ensures in_order { IfOk result (λ points. IsInOrder (atoms_of S.goods points.items)) }
-    ensures no_longer { IfOk result (λ points. vec_len points ≤ vec_len atoms) }
+        IfOk result (λ decided. ArePoints xor_points xor_value bids (atoms_of S.goods decided.points.items)) }
+    ensures no_longer { IfOk result (λ decided. vec_len decided.points ≤ vec_len atoms) }
+    // For each number of goods that the bids are within.
     ensures fates { let bids = atoms_of S.goods atoms.items in
-        OnOk result (log.old.wanted ≡ true → (goods : ℕ) → All (IsAtom goods) bids
-        → log.new.fates.items ≡ xor_fates goods bids) }
+        IfOk result (λ decided. (goods : ℕ) → All (IsAtom goods) bids → decided.fates.items ≡ xor_fates goods bids) }
 {
     keep_best_bids(alloc, &mut atoms)?;
     let mut index = index_of_many(alloc, &atoms)?;
+    let mut fates = Vec::with_capacity(alloc, atoms.len())?;
     let mut kept = 0;
     for next in 0..atoms.len() {
         let found = first_kept_dominating(&mut index, &atoms[..kept], &atoms[next])?;
-        log.note(found)?;
+        fates.push(found)?;
         if found.is_none() {
             move_to_prefix(&mut atoms, kept, next);
             kept += 1;
         }
     }
     atoms.truncate(kept);
-    Ok(atoms)
+    Ok(Decided {
+        points: atoms,
+        fates,
+    })
 }

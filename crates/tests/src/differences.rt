@@ -11,7 +11,7 @@ use crate::bidders::bids::AMPLE;
 use analysis::differences::{BidderChange, Differences, all_differences};
 use bid_file::PackedFile;
 use canon::comparing::PriceChange;
-use canon::normal::normal_packed_file;
+use canon::normal;
 use cats_text::packed::read_packed;
 use std::alloc::{AllocError, Global};
 use std::process::Abort;
@@ -48,7 +48,7 @@ fn canonical_file(alloc: Global, text: &str) -> Result<PackedFile, Fail>
     ensures { IfOk result (λ file. IsCanonicalFile file) }
 {
     let file = read_packed(alloc, text.as_bytes())?;
-    Ok(normal_packed_file(alloc, file, SearchOptions::plain(AMPLE))?)
+    Ok(normal::canonical_file(alloc, &file, SearchOptions::plain(AMPLE))?.file)
 }
 
 fn push_changes(

@@ -2,7 +2,7 @@
 
 use analysis::reasons::explain;
 use canon::CanonFault;
-use canon::normal::normal_packed_file;
+use canon::normal::canonical_file;
 use cats_text::packed::read_packed;
 use std::process::Abort;
 use std::test::Fail;
@@ -61,7 +61,7 @@ fn step_limit(rt: HostRuntime) -> Result<(), Fail> {
     assert_eq!(&rt; goods, 2);
     let refused = explain(rt.alloc(), &file, 1, None);
     assert!(&rt; refused_goods(refused.err()) == Some(2));
-    let normal = normal_packed_file(rt.alloc(), file, SearchOptions::bounded(1, None));
+    let normal = canonical_file(rt.alloc(), &file, SearchOptions::bounded(1, None));
     assert!(&rt; refused_goods(normal.err()) == Some(2));
     Ok(())
 }

@@ -17,6 +17,7 @@ pub use Rattle.std.proofs.Math.ListN.{get_or-eq_default}
 pub use Rattle.std.proofs.lemmas.Bool.{and_from, and_parts, both_ways, cases_eq, eq-eqb, eqb-true, ne_eqb, or_cases, or_left, or_right, cases_lt, le-leb}
 pub use Rattle.std.proofs.lemmas.Bool.{lt-leb, cases_Bool, leb-true, false_from_ne_true, lt-ltb, le-ltb, ltb-true, leb-false, ltb-false}
 pub use Rattle.std.proofs.lemmas.Cmp.{on_total, then_total, back_total, nat_cmp_total}
+pub use Rattle.std.proofs.lemmas.Fn.{filter_same}
 pub use Rattle.std.proofs.lemmas.Grind.{common_steps, get_or-set_at}
 pub use Rattle.std.proofs.lemmas.List.{length_push, get_or_push, get_or_append_left, drop_all, map_push, map-id, take-append-drop, get_or_default, drop_more}
 pub use Rattle.std.proofs.lemmas.List.{length-map, get_or-map, map-set, take_all, take_more, length-drop, get_or-drop, length-set, get_or-set_other}
@@ -42,9 +43,8 @@ pub use Rattle.valuation.specs.Auctions.{IsAtom, atom_of, or_atoms_of, xor_atoms
 pub use Rattle.valuation.specs.Bidders.{bidders_of, plain_auction_of}
 pub use Rattle.valuation.specs.Bounds.{IsOnGoods, rate, greatest_rate, rate_bound, IsBound, price_bound}
 pub use Rattle.valuation.specs.Internal.BestSearch.{IsPackingFrom, IsFoundFrom, IsReady}
-pub use Rattle.valuation.specs.Internal.Conflicts.{AreConflicts, AreHolders, IsLeft, AreFree, are_disjoint, offers_of}
+pub use Rattle.valuation.specs.Internal.Conflicts.{AreConflicts, AreHolders, IsLeft, AreFree, are_disjoint}
 pub use Rattle.valuation.specs.Internal.Holders.{holders_at, indices_of}
-pub use Rattle.valuation.specs.Internal.Listed.{IsListed}
 pub use Rattle.valuation.specs.Lemmas.Atoms.{get_or-atoms_of, length-atoms_of}
 pub use Rattle.valuation.specs.Lemmas.AuctionsOfFiles.{or_atoms_of-more, xor_bidders-more, IsBid-there, or_atoms_of-same, xor_bidders-same}
 pub use Rattle.valuation.specs.Lemmas.AuctionsOfFiles.{IsAuction-auction_from}
@@ -70,8 +70,8 @@ pub use Rattle.valuation.specs.Lemmas.SearchSteps.{found_indices-packing}
 pub use Rattle.valuation.specs.Lemmas.Searches.{searched, search-refused}
 pub use Rattle.valuation.specs.Lemmas.Sorting.{sorted_is_sort_by, permutation-sort_by, sorted-sort_by, sorted_same}
 pub use Rattle.valuation.specs.Lemmas.XorValues.{xor_value-nil, xor_value-inside, xor_value-outside, xor_value-grows, xor_value-permutation}
-pub use Rattle.valuation.specs.Listed.{listed, AreListsOf}
 pub use Rattle.valuation.specs.Lemmas.Inside.{atoms_at-indices_inside, indices_inside-within}
+pub use Rattle.valuation.specs.Offers.{offers_of}
 pub use Rattle.valuation.specs.Packings.{indices_inside, is_inside_at, atom_at, count_packings, atoms_inside, numbers_at, atoms_at, price_sum, IsPackingFor}
 pub use Rattle.valuation.specs.Packings.{IsPacking}
 pub use Rattle.valuation.specs.SearchLimits.{is_one_over, options_after, options_after_all, next_steps, total_after}

@@ -12,10 +12,10 @@ pub mod Rates
 pub mod FewerAtoms
 pub mod PricesLeft
 pub mod RatesSoFar
-pub mod Listed
 pub mod Candidates
 pub mod Choosing
 pub mod LargestFirst
 pub mod SearchesInTurn
 pub mod SearchesForValue
 pub mod ValueStepsCounted
+pub mod BidsRead

@@ -36,6 +36,10 @@ pub record IsAuction (cap : ℕ) (a : PlainAuction) : Type 0 where
 abbrev pub atom_of : PlainBid → Atom (List ℕ)
 atom_of b = record { bundle = b.goods; price = b.price }
 
+-- what offers an atom: the bid of a bidder, by its dummy good
+abbrev pub bid_from : Option ℕ → Atom (List ℕ) → PlainBid
+bid_from dummy a = record { price = a.price; goods = a.bundle; dummy = dummy }
+
 -- whether the dummy good is d
 abbrev pub is_dummy : ℕ → Option ℕ → Bool
 is_dummy d None = false

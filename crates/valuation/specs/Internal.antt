@@ -5,4 +5,3 @@ pub mod Reaching
 pub mod BestSearch
 pub mod Searches
 pub mod Conflicts
-pub mod Listed

@@ -4,7 +4,6 @@ pub mod AuctionsOfFiles
 pub mod Bounds
 pub mod Inside
 pub mod Limits
-pub mod Listed
 pub mod Lists
 pub mod OrValues
 pub mod Orders

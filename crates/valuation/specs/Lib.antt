@@ -10,7 +10,8 @@ pub mod Auctions
 pub mod Bidders
 pub mod Searches
 pub mod ValueSearches
-pub mod Listed
+pub mod Numbers
+pub mod Offers
 pub mod Views
 pub mod Examples
 pub mod Sorting

@@ -5,15 +5,15 @@ mod atom;
 mod auction;
 mod from_file;
 pub mod laws;
+mod offers;
 mod packing;
 pub mod search;
-mod set_choice;
 pub mod worked;
 mod xor;
 
 pub use atom::Atom;
 pub use auction::Auction;
 pub use from_file::auction_of;
+pub use offers::{Offer, offers_at, pack_atoms, push_atoms};
 pub use packing::{Packing, ValueFault, or_value};
-pub use set_choice::has_sparse_bids;
 pub use xor::xor_value;

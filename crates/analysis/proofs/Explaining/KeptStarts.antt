@@ -5,7 +5,7 @@ use Rattle.analysis.proofs.Common.{get_or_append_left, get_or_default, length-ap
 use Rattle.analysis.proofs.Common.{Contains-append_cases, Contains-get_or, slice_get-get_or, slice_get_within, get_or_from_slice_get, PlainFile, IsPlainFile}
 use Rattle.analysis.proofs.Common.{MAX_BIDS, atom_at, Contains-cons_cases, Contains-unmap, Contains-nil, bid_from, canonical_file, kept_bids, kept_dummies}
 use Rattle.analysis.proofs.Common.{named_bid, named_dummy, points_of_dummy, kept_dummies-below, points_of_kept_dummies, IsPlainFile-canonical, kept_bid}
-use Rattle.analysis.proofs.Common.{points_of, AreStarts, same_Some, get_or-append-add, NamedFile, IsNamedCanonical}
+use Rattle.analysis.proofs.Common.{points_of, AreStarts, same_Some, get_or-append-add, Canonical, IsCanonicalOf}
 use Rattle.analysis.proofs.Explaining.KeptBids.{bids_of_dummy, kept_bids_are, or_points_of}
 use Rattle.analysis.proofs.Explaining.KeptPoints.{IsKeptBidder}
 
@@ -104,7 +104,7 @@ more_starts f k from starts c next h some below = search (rules, length-set, get
 
 -- ---- the bidder of a bid of the canonical file
 
-module _ {f : PlainFile} {named : NamedFile} (is : IsNamedCanonical f named) (k : ℕ) {b : PlainBid} (there : slice_get named.file.bids k ≡ Some b) where
+module _ {f : PlainFile} {named : Canonical} (is : IsCanonicalOf f named) (k : ℕ) {b : PlainBid} (there : slice_get named.file.bids k ≡ Some b) where
   canonical : slice_get (canonical_file f).bids k ≡ Some b
   canonical = subst (λ (g : PlainFile). slice_get g.bids k ≡ Some b) is.file there
 
@@ -136,5 +136,5 @@ module _ {f : PlainFile} {named : NamedFile} (is : IsNamedCanonical f named) (k 
     pub in_file : c < f.dummy
     in_file = (kept_dummies-below f c (e, among, name_is)).0
 
-pub named_count : (f : PlainFile) (named : NamedFile) → IsNamedCanonical f named → length named.file.bids ≡ length (kept_bids f)
+pub named_count : (f : PlainFile) (named : Canonical) → IsCanonicalOf f named → length named.file.bids ≡ length (kept_bids f)
 named_count f named is = search (rules, length-map)

@@ -6,7 +6,7 @@ use Rattle.analysis.proofs.Common.{length-map-range_with_len, slice_get_within, 
 use Rattle.analysis.proofs.Common.{MAX_BIDS, Bounded, atom_of, xor_atoms_of, atom_at, sort_by, best_bids, numbers_at, filter-kept, filter-lost, bid_at, Keep}
 use Rattle.analysis.proofs.Common.{Inside, Packing, IsKeptAs, best_reason, kept_number, or_reason, point_number, points_of, xor_reason, HasPassed, IsNextBest}
 use Rattle.analysis.proofs.Common.{is_kept_atom, is_kept_bid, passed_bids, NumberedBid, Known, Walk, plain_fate, xor_fates, count_by-le-length, map_same_on}
-use Rattle.analysis.proofs.Common.{IsKnown}
+use Rattle.analysis.proofs.Common.{IsKnown, range_with_len, map-map}
 use Rattle.prune.specs.Fates.{or_fate, xor_fate}
 use Rattle.analysis.specs.Reasons.{reason_of}
 use Rattle.analysis.proofs.Explaining.BestBids.{alike_from, length_of}
@@ -115,13 +115,16 @@ module _ {known : Known} {index : ℕ} {n : NumberedBid} {walk : Walk} (best : I
     pub in_file : d < f.dummy
     in_file = subst (IsDummyBelow f.dummy) xor (next_below best)
 
+    listed : map (λ v. v.items) lists ≡ map (λ d. xor_fates f.goods (xor_atoms_of f.bids d)) (range_with_len 0 f.dummy)
+    listed = is.fates.xor ∙ map-map (xor_fates f.goods) (xor_atoms_of f.bids) (range_with_len 0 f.dummy)
+
     pub xor_long : d < length lists
-    xor_long = search (rules, length-map, length-map-range_with_len, is, in_file)
+    xor_long = search (rules, length-map, length-map-range_with_len, listed, in_file)
 
     module _ {r : Vec (Option ℕ) Global} (there : r ≡ get_or lists d r) where
       pub xor_list : r.items ≡ xor_fates f.goods (xor_atoms_of f.bids d)
       xor_list = let one = get_or-map-range_with_len (λ d. xor_fates f.goods (xor_atoms_of f.bids d)) 0 f.dummy d d [] in_file (omega arith) in
-          search (rules, is, xor_long, get_or-map)
+          search (rules, listed, xor_long, get_or-map)
 
       pub xor_within : walk.passed < length r.items
       xor_within = (xor_here r.items d xor xor_list).0

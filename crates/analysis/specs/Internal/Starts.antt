@@ -3,14 +3,14 @@ use Rattle.std.specs.Prelude.{◌≡◌, ℕ, ◌≤◌, List, length, slice_ind
 use Rattle.bid_file.specs.Files.{PlainFile, IsPlainFile}
 use Rattle.canon.specs.Canonical.{canonical_file}
 use Rattle.canon.specs.Renaming.{kept_dummies}
-use Rattle.canon.specs.declared.normal.named.NamedFile.{NamedFile}
+use Rattle.canon.specs.declared.normal.Canonical.{Canonical}
 use Rattle.analysis.specs.Reasons.{kept_bid}
 
 -- the canonical file of the file, and for each of its dummy goods that of the same bidder in the file
-pub record IsNamedCanonical (f : PlainFile) (named : NamedFile) : Type 0 where
+pub record IsCanonicalOf (f : PlainFile) (c : Canonical) : Type 0 where
   pub plain : IsPlainFile f
-  pub file : named.file ≡ canonical_file f
-  pub dummies : named.dummies.items ≡ kept_dummies f
+  pub file : c.file ≡ canonical_file f
+  pub dummies : c.dummies.items ≡ kept_dummies f
 
 -- from this bid of the canonical file on, the bid at the start is the first of the dummy good's bidder
 pub record IsStart (f : PlainFile) (from d start j : ℕ) : Type 0 where

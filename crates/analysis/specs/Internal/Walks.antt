@@ -1,14 +1,15 @@
 -- The walk over a file's bids in order: which best bids it has passed, and which of them are kept.
-use Rattle.std.specs.Prelude.{◌≡◌, ℕ, ◌-◌, ◌<◌, Bool, true, ◌==◌, ◌&&◌, nat_lt, if◌then◌else◌, List, length, map, take}
+use Rattle.std.specs.Prelude.{◌≡◌, ℕ, ◌-◌, ◌<◌, Bool, true, ◌==◌, ◌&&◌, nat_lt, if◌then◌else◌, List, length, take}
 use Rattle.std.specs.Prelude.{slice_get, slice_index_or, Option, Some, None, is_none}
-use Rattle.std.specs.List.{filter, range_with_len}
+use Rattle.std.specs.List.{filter}
 use Rattle.std.specs.Ordering.{is_eq}
 use Rattle.bid_file.specs.Files.{PlainFile, IsPlainFile}
 use Rattle.bid_file.specs.Views.{seen_bid}
 use Rattle.valuation.specs.declared.atom.Atom.{Atom}
 use Rattle.valuation.specs.declared.search.kind.SearchKind.TheVariants.{Bounded}
-use Rattle.valuation.specs.Auctions.{atom_of, or_atoms_of, xor_atoms_of}
-use Rattle.prune.specs.Fates.{or_fate, or_fates, plain_fate, xor_fate, xor_fates}
+use Rattle.valuation.specs.Auctions.{atom_of, auction_from}
+use Rattle.prune.specs.Fates.{or_fate, xor_fate}
+use Rattle.canon.specs.Answers.{AreFates}
 use Rattle.analysis.specs.Bids.{bid_at, bidder_of, is_best, IsBestFor}
 use Rattle.analysis.specs.Reasons.{points_of}
 use Rattle.analysis.specs.BidOrders.{AreInOrder, key_cmp}
@@ -20,11 +21,7 @@ use Rattle.analysis.specs.declared.reasons.walk.Walk.{Walk}
 pub record IsKnown (known : Known) : Type 0 where
   pub plain : IsPlainFile known.file.now
   pub order : AreInOrder known.file.now known.bids.items
-  pub or : map plain_fate known.fates.or.items
-      ≡ or_fates Bounded known.file.now.goods (or_atoms_of known.file.now.bids)
-  pub xor : map (λ fates. fates.items) known.fates.xor.items
-      ≡ map (λ d. xor_fates known.file.now.goods (xor_atoms_of known.file.now.bids d))
-      (range_with_len 0 known.file.now.dummy)
+  pub fates : AreFates Bounded (auction_from known.file.now) known.fates
   pub starts : AreStarts known.file.now 0 known.starts.items
 
 -- this bid is next in order

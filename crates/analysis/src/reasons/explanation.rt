@@ -14,13 +14,13 @@ use crate::reasons::starts::starts_of;
 use crate::reasons::walk::{Known, all_reasons};
 use bid_file::PackedFile;
 use canon::CanonFault;
-use canon::normal::explained_normal_file;
+use canon::normal::canonical_file;
 use std::alloc::Global;
 use valuation::search::SearchOptions;
 
 /// For each bid of a file, in the order of numbers, why it is in the canonical file or is not, by bounded searches.
 /// `limit` bounds the steps of each search that decides on a bundle of the OR bidder, and `total` those of all together,
-/// as in `normal_packed_file`; the same files are refused.
+/// as in `canonical_file`; the same files are refused.
 pub fn explain(
     alloc: Global,
     file: &PackedFile,
@@ -34,12 +34,12 @@ pub fn explain(
         OnOk result (first_refused (bounded_options limit total) f.goods (or_atoms_of f.bids) ≡ None) }
     ensures refused { IfErr result (λ fault. RefusesAuction (bounded_options limit total) (auction_from file.now) fault) }
 {
-    let explained = explained_normal_file(alloc, file, SearchOptions::bounded(limit, total))?;
-    let starts = starts_of(alloc, file, &explained)?;
+    let canonical = canonical_file(alloc, file, SearchOptions::bounded(limit, total))?;
+    let starts = starts_of(alloc, file, &canonical)?;
     let known = Known {
         file,
         bids: bids_in_order(alloc, file)?,
-        fates: explained.fates,
+        fates: canonical.fates,
         starts,
     };
     Ok(all_reasons(alloc, &known)?)

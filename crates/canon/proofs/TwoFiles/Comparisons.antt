@@ -97,6 +97,11 @@ pub normal_unread : (options : SearchOptions) (text : List ℕ) (why : ReadFault
 normal_unread options text why h (Ok file) is = absurd is
 normal_unread options text why h (Err fault) is = subst (RefusesText options text) (sym is) (unread_text options text why h)
 
+pub normal_refused : (options : SearchOptions) (text : List ℕ) (f : PlainFile) → Spells text f → (fault : CanonFault)
+    → NormalisesPlainAs options f (Err fault) → (r : Result PlainFile CanonFault) → IsErrAnd r (λ why. why ≡ fault) → ReadsNormalAs options text r
+normal_refused options text f s fault n (Ok file) is = absurd is
+normal_refused options text f s fault n (Err why) is = subst (RefusesText options text) (sym is) (normal_from_file options text f s (Err fault) n)
+
 pub normal_of : (options : SearchOptions) (text : List ℕ) (r : Result PlainFile CanonFault) (h : PlainFile) → ReadsNormalAs options text r → r ≡ Ok h
     → IsNormalFileOf options text h
 normal_of options text r h n e = subst (ReadsNormalAs options text) e n

@@ -1,8 +1,7 @@
 //! What of a file needs no search.
 
 ghost use Rattle.std.specs.Prelude.{◌≡◌, ◌≤◌, IfOk};
-ghost use Rattle.valuation.specs.Views.{plain_auction};
-ghost use Rattle.canon.specs.Unsearched.{unsearched_auction as unsearched, unsearched_file as unsearched_file_of};
+ghost use Rattle.canon.specs.Unsearched.{unsearched_file as unsearched_file_of};
 
 use crate::normal::auction::canonical_bidders;
 use crate::normal::file::packed_file_of;
@@ -32,19 +31,8 @@ fn unsearched_file_on<S: GoodsSet>(
     ensures { IfOk result (λ h. h ≡ unsearched_file_of file.now) }
 {
     let auction: Auction<S> = auction_of(alloc, file)?;
-    let auction = unsearched_auction(alloc, auction)?;
-    packed_file_of(alloc, &auction)
-}
-
-/// The unsearched auction of an auction, which it uses up.
-fn unsearched_auction<S: GoodsSet>(
-    alloc: Global,
-    auction: Auction<S>,
-) -> Result<Auction<S>, AllocError>
-    ensures { IfOk result (λ u. plain_auction u ≡ unsearched (plain_auction auction)) }
-{
     let (goods, or_atoms, xor_bidders) = auction.into_parts();
     let or_bids = prune_xor(alloc, or_atoms)?;
-    let xor = canonical_bidders(alloc, xor_bidders, false)?;
-    Ok(Auction::new(goods, or_bids, xor.bidders))
+    let xor = canonical_bidders(alloc, xor_bidders)?;
+    packed_file_of(alloc, &Auction::new(goods, or_bids, xor.bidders))
 }

@@ -1,6 +1,6 @@
 //! The canonical auction, and which bidder is which.
 
-ghost use Rattle.std.specs.Prelude.{◌≡◌, ◌≤◌, ℕ, true, None, Some, [], All, IfOk, IfErr, OnOk, length, map};
+ghost use Rattle.std.specs.Prelude.{◌≡◌, ◌≤◌, ℕ, None, Some, All, IfOk, IfErr, OnOk, length, map};
 ghost use Rattle.bid_file.specs.declared.limits.TheConstants.{MAX_GOODS, MAX_DUMMY};
 ghost use Rattle.valuation.specs.Auctions.{IsAtom};
 ghost use Rattle.valuation.specs.Bidders.{bidders_of};
@@ -11,37 +11,34 @@ ghost use Rattle.prune.specs.Faults.{IfStepLimit};
 ghost use Rattle.prune.specs.SearchSteps.{first_heavy, first_refused};
 ghost use Rattle.canon.specs.Canonical.{IsCanonical, canonical_auction, canonical_bidders as canonical_from};
 ghost use Rattle.canon.specs.Sameness.{IsSameAuction};
-ghost use Rattle.canon.specs.Internal.Fates.{AreFates};
+ghost use Rattle.canon.specs.Answers.{AreFates};
 ghost use Rattle.canon.specs.Internal.KeyedBidders.{kept_numbers, keyed_bidders, numbered_cmp, numbered_points};
 
-use crate::normal::explained::BidderFates;
+use crate::normal::BidderFates;
 use crate::normal::keyed_bidder::KeyedBidder;
 use goods_set::GoodsSet;
-use prune::PruneFault;
-use prune::fates::{FateLog, prune_or_by, prune_xor_noting};
+use prune::{PruneFault, decide_or_bids, decide_xor_bids};
 use std::alloc::{AllocError, Global};
 use valuation::search::SearchOptions;
 use valuation::{Atom, Auction};
 
-/// A canonical auction, and which bidder is which.
+/// A canonical auction, which bidder is which, and what becomes of the best bids.
 #[derive(Drop)]
-pub(crate) struct NamedAuction<S: GoodsSet> {
-    /// The canonical auction.
+pub(crate) struct CanonicalAuction<S: GoodsSet> {
     pub(crate) auction: Auction<S>,
     /// For each of its XOR bidders the number of the bidder that it is of, counted from 0.
     pub(crate) dummies: Vec<u32>,
-    /// What became of the best bids, if that is wanted.
     pub(crate) fates: BidderFates,
 }
 
 /// The canonical XOR bidders of an auction, and which is which.
 #[derive(Drop)]
-pub(crate) struct NamedBidders<S: GoodsSet> {
+pub(crate) struct CanonicalBidders<S: GoodsSet> {
     /// The atoms of each bidder.
     pub(crate) bidders: Vec<Vec<Atom<S>>>,
     /// For each the number of the bidder that it is of, counted from 0.
     pub(crate) dummies: Vec<u32>,
-    /// What became of the best bids of each bidder of the auction, if that is wanted.
+    /// What becomes of the best bids of each bidder of the auction.
     pub(crate) fates: Vec<Vec<Option<usize>>>,
 }
 
@@ -61,17 +58,16 @@ pub fn canonical<S: GoodsSet>(
         IfErr result (λ fault. IfStepLimit fault (λ bundle. first_heavy a.goods limit a.or_atoms
         ≡ Some (S.goods bundle))) }
 {
-    Ok(named_canonical(alloc, auction, SearchOptions::plain(limit), false)?.auction)
+    Ok(canonicalise(alloc, auction, SearchOptions::plain(limit))?.auction)
 }
 
-/// The canonical auction of an auction, as `canonical`, by searches of any kind, which bidder is which, and what became of
-/// the best bids, if that is wanted.
-pub(crate) fn named_canonical<S: GoodsSet>(
+/// The canonical auction of an auction, as `canonical`, by searches of any kind, which bidder is which, and what becomes of
+/// the best bids.
+pub(crate) fn canonicalise<S: GoodsSet>(
     alloc: Global,
     auction: Auction<S>,
     options: SearchOptions,
-    with_fates: bool,
-) -> Result<NamedAuction<S>, PruneFault<S>>
+) -> Result<CanonicalAuction<S>, PruneFault<S>>
     ensures canonical { IfOk result (λ c. plain_auction c.auction ≡ canonical_auction (plain_auction auction)) }
     ensures fixed { IfOk result (λ c. IsCanonical (plain_auction c.auction)) }
     ensures dummies { IfOk result (λ c. c.dummies.items ≡ kept_numbers (plain_auction auction)) }
@@ -80,32 +76,27 @@ pub(crate) fn named_canonical<S: GoodsSet>(
     ensures refused { let a = plain_auction auction in
         IfErr result (λ fault. IfStepLimit fault (λ bundle. first_refused options a.goods a.or_atoms
         ≡ Some (S.goods bundle))) }
-    ensures fates { IfOk result (λ c. with_fates ≡ true → AreFates options.kind (plain_auction auction) c.fates) }
+    ensures fates { IfOk result (λ c. AreFates options.kind (plain_auction auction) c.fates) }
 {
     let (goods, or_atoms, xor_bidders) = auction.into_parts();
-    let mut or_log = FateLog::new(alloc, with_fates);
-    let or_points = prune_or_by(alloc, or_atoms, options, &mut or_log)?;
-    let xor = canonical_bidders(alloc, xor_bidders, with_fates)?;
-    let auction = Auction::new(goods, or_points, xor.bidders);
-    let dummies = xor.dummies;
-    let fates = BidderFates {
-        or: or_log.into_fates(),
-        xor: xor.fates,
-    };
-    Ok(NamedAuction {
-        auction,
-        dummies,
-        fates,
+    let or = decide_or_bids(alloc, or_atoms, options)?;
+    let xor = canonical_bidders(alloc, xor_bidders)?;
+    Ok(CanonicalAuction {
+        auction: Auction::new(goods, or.points, xor.bidders),
+        dummies: xor.dummies,
+        fates: BidderFates {
+            or: or.fates,
+            xor: xor.fates,
+        },
     })
 }
 
-/// The canonical XOR bidders of those of an auction, which is which, and what became of their best bids, if that is
-/// wanted. It searches nothing.
+/// The canonical XOR bidders of those of an auction, which is which, and what becomes of their best bids. It searches
+/// nothing.
 pub(crate) fn canonical_bidders<S: GoodsSet>(
     alloc: Global,
     bidders: Vec<Vec<Atom<S>>>,
-    with_fates: bool,
-) -> Result<NamedBidders<S>, AllocError>
+) -> Result<CanonicalBidders<S>, AllocError>
     requires few { length bidders.items ≤ MAX_DUMMY }
     requires atoms { All (All (IsAtom MAX_GOODS)) (bidders_of S.goods bidders.items) }
     // For each number of goods that the atoms are within.
@@ -116,48 +107,45 @@ pub(crate) fn canonical_bidders<S: GoodsSet>(
         IfOk result (λ named. (goods : ℕ) → All (All (IsAtom goods)) atoms
         → named.dummies.items ≡ map (λ b. b.number) (sort_by numbered_cmp (numbered_points goods atoms))) }
     ensures fates { let atoms = bidders_of S.goods bidders.items in
-        IfOk result (λ named. with_fates ≡ true → (goods : ℕ) → All (All (IsAtom goods)) atoms
+        IfOk result (λ named. (goods : ℕ) → All (All (IsAtom goods)) atoms
         → map (λ own. own.items) named.fates.items ≡ map (xor_fates goods) atoms) }
 {
-    let mut log = FateLog::new(alloc, with_fates);
-    let mut keyed = points_of_each(alloc, bidders, &mut log)?;
+    let (mut keyed, fates) = points_of_each(alloc, bidders)?;
     sort_bidders(&mut keyed);
     let dummies = dummies_of(alloc, &keyed)?;
     let bidders = without_keys(alloc, keyed)?;
-    Ok(NamedBidders {
+    Ok(CanonicalBidders {
         bidders,
         dummies,
-        fates: log.into_fates(),
+        fates,
     })
 }
 
-/// The points of each bidder that has any, with its number. It notes in a new log what becomes of the best bids of each.
+/// The points of each bidder that has any, with its number, and what becomes of the best bids of each bidder.
 fn points_of_each<S: GoodsSet>(
     alloc: Global,
     bidders: Vec<Vec<Atom<S>>>,
-    log: &mut FateLog<Vec<Option<usize>>>,
-) -> Result<Vec<KeyedBidder<S>>, AllocError>
-    requires empty { log.old.fates.items ≡ [] }
+) -> Result<(Vec<KeyedBidder<S>>, Vec<Vec<Option<usize>>>), AllocError>
     requires few { length bidders.items ≤ MAX_DUMMY }
     requires atoms { All (All (IsAtom MAX_GOODS)) (bidders_of S.goods bidders.items) }
     // For each number of goods that the atoms are within.
     ensures points { let atoms = bidders_of S.goods bidders.items in
-        IfOk result (λ points. (goods : ℕ) → All (All (IsAtom goods)) atoms
-        → keyed_bidders points.items ≡ numbered_points goods atoms) }
+        IfOk result (λ made. (goods : ℕ) → All (All (IsAtom goods)) atoms
+        → keyed_bidders made.0.items ≡ numbered_points goods atoms) }
     ensures fates { let atoms = bidders_of S.goods bidders.items in
-        OnOk result (log.old.wanted ≡ true → (goods : ℕ) → All (All (IsAtom goods)) atoms
-        → map (λ own. own.items) log.new.fates.items ≡ map (xor_fates goods) atoms) }
+        IfOk result (λ made. (goods : ℕ) → All (All (IsAtom goods)) atoms
+        → map (λ own. own.items) made.1.items ≡ map (xor_fates goods) atoms) }
 {
     let mut points = Vec::with_capacity(alloc, bidders.len())?;
+    let mut fates = Vec::with_capacity(alloc, bidders.len())?;
     for (dummy, bidder) in bidders.into_iter().enumerate() {
-        let mut own_log = FateLog::new(alloc, log.is_wanted());
-        let own = prune_xor_noting(alloc, bidder, &mut own_log)?;
-        log.note(own_log.into_fates())?;
-        if !own.is_empty() {
-            points.push(KeyedBidder::new(dummy as u32, own))?;
+        let own = decide_xor_bids(alloc, bidder)?;
+        fates.push(own.fates)?;
+        if !own.points.is_empty() {
+            points.push(KeyedBidder::new(dummy as u32, own.points))?;
         }
     }
-    Ok(points)
+    Ok((points, fates))
 }
 
 /// Puts the bidders in the order of their lists of atoms, and equal ones in that of their numbers.

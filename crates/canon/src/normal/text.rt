@@ -11,7 +11,7 @@ ghost use Rattle.canon.specs.Normalising.{IsText, Normalises};
 ghost use Rattle.canon.specs.Sameness.{AreSameFiles};
 
 use crate::canon_fault::CanonFault;
-use crate::normal::normal_packed_file;
+use crate::normal::canonical_file;
 use bid_file::PackedFile;
 use cats_text::packed::read_packed;
 use cats_text::write;
@@ -40,5 +40,5 @@ pub(crate) fn read_normal(
     ensures { ReadsNormalAs options text.now result }
 {
     let file = read_packed(alloc, text)?;
-    normal_packed_file(alloc, file, options)
+    Ok(canonical_file(alloc, &file, options)?.file)
 }

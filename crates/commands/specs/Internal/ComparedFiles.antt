@@ -5,21 +5,21 @@ use Rattle.bid_file.specs.Files.{PlainFile, IsPlainFile}
 use Rattle.valuation.specs.Auctions.{auction_from}
 use Rattle.canon.specs.Canonical.{canonical_file}
 use Rattle.canon.specs.Renaming.{kept_dummies}
-use Rattle.canon.specs.declared.normal.named.NamedFile.{NamedFile}
+use Rattle.canon.specs.declared.normal.Canonical.{Canonical}
 use Rattle.analysis.specs.Differences.{PlainDifferences, AreAllDifferences}
 use Rattle.commands.specs.Diff.{diff_text}
 use Rattle.commands.specs.Diff.{status_of_differences}
 use Rattle.commands.specs.declared.diff.sides.ComparedFile.{ComparedFile}
 
--- the canonical file of this file, with its names
-pub record IsNamed (file : PlainFile) (named : NamedFile) : Type 0 where
-  pub canonical : named.file ≡ canonical_file file
-  pub dummies : named.dummies.items ≡ kept_dummies file
+-- the canonical file of this file, with its dummy goods
+pub record IsCanonicalOf (file : PlainFile) (c : Canonical) : Type 0 where
+  pub file : c.file ≡ canonical_file file
+  pub dummies : c.dummies.items ≡ kept_dummies file
 
 -- a file, and its canonical file
 pub record IsComparedFile (c : ComparedFile) : Type 0 where
   pub plain : IsPlainFile c.file
-  pub named : IsNamed c.file c.named
+  pub canonical : IsCanonicalOf c.file c.canonical
 
 -- this status and this text are those of all differences of the canonical files
 pub record PrintsDifferences (left right : PlainFile) (status : ℕ) (text : List ℕ) : Type 0 where

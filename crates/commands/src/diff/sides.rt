@@ -2,14 +2,14 @@
 
 use analysis::reasons::{NumberedBid, bids_in_order, number_of};
 use bid_file::{BidRef, PackedFile};
-use canon::normal::NamedFile;
+use canon::normal::Canonical;
 use std::alloc::{AllocError, Global};
 
 /// A bid file, and its canonical file with the dummy goods that the bidders have in the bid file.
 #[derive(Drop)]
 pub(crate) struct ComparedFile {
     pub file: PackedFile,
-    pub named: NamedFile,
+    pub canonical: Canonical,
 }
 
 /// One of the files, and its bids in order.
@@ -53,7 +53,7 @@ impl<'a> Side<'a> {
         ensures { result ≡ named_dummy (kept_dummies (file_of self.now)) bidder }
     {
         let index = bidder?;
-        Some(self.compared.named.dummies[index as usize])
+        Some(self.compared.canonical.dummies[index as usize])
     }
 
     /// The number of the best bid of a bidder on these goods, if it has one there, at this price.

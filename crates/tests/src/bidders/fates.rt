@@ -4,7 +4,7 @@ use crate::bidders::bids::{
     AMPLE, ListAtom, PricedGoods, atoms_on, bids_of, push_bid, row_on, singles,
 };
 use goods_set::{GoodsSet, ListSet, WordSet};
-use prune::fates::{FateLog, prune_or_by, prune_xor_noting};
+use prune::{decide_or_bids, decide_xor_bids};
 use std::alloc::Global;
 use std::process::Abort;
 use std::test::Fail;
@@ -35,10 +35,11 @@ fn or_fates<S: GoodsSet>(
     options: SearchOptions,
     expected: &OrFates,
 ) -> Result<(), Fail> {
-    let mut log = FateLog::new(alloc, true);
     let bids = row_on::<S>(rt, alloc, OR_BIDS)?;
-    assert!(rt; prune_or_by(alloc, bids, options, &mut log).is_ok());
-    let fates = log.into_fates();
+    let Ok(decided) = decide_or_bids(alloc, bids, options) else {
+        panic!(rt; "no limit is reached");
+    };
+    let fates = decided.fates;
     assert_eq!(rt; fates.len(), expected.len());
     for (fate, indices) in fates.iter().zip(expected.iter()) {
         match (fate, indices) {
@@ -74,19 +75,15 @@ fn xor_fates<S: GoodsSet>(
     rt: &impl Abort,
     alloc: Global,
     bids: &[ListAtom],
-    wanted: bool,
 ) -> Result<Vec<Option<usize>>, Fail> {
-    let mut log = FateLog::new(alloc, wanted);
-    prune_xor_noting(alloc, atoms_on::<S>(rt, alloc, bids)?, &mut log)?;
-    Ok(log.into_fates())
+    Ok(decide_xor_bids(alloc, atoms_on::<S>(rt, alloc, bids)?)?.fates)
 }
 
 fn xor_fates_of_rows<S: GoodsSet>(rt: &impl Abort, alloc: Global) -> Result<(), Fail> {
     for (bids, fates) in XOR_ROWS {
         let bids = bids_of(alloc, bids)?;
-        let noted = xor_fates::<S>(rt, alloc, &bids, true)?;
-        assert_eq!(rt; noted.as_slice(), *fates);
-        assert!(rt; xor_fates::<S>(rt, alloc, &bids, false)?.is_empty());
+        let found = xor_fates::<S>(rt, alloc, &bids)?;
+        assert_eq!(rt; found.as_slice(), *fates);
     }
     Ok(())
 }
@@ -105,10 +102,10 @@ fn xor_fates_of_many<S: GoodsSet>(rt: &impl Abort, alloc: Global) -> Result<(), 
     for (goods, price) in BESIDE_SINGLES {
         push_bid(alloc, &mut bids, goods, *price)?;
     }
-    let noted = xor_fates::<S>(rt, alloc, &bids, true)?;
+    let found = xor_fates::<S>(rt, alloc, &bids)?;
     let expected = [None, None, Some(3), Some(40)];
-    assert_eq!(rt; noted.len(), 44);
-    assert_eq!(rt; &noted[40..], &expected[..]);
+    assert_eq!(rt; found.len(), 44);
+    assert_eq!(rt; &found[40..], &expected[..]);
     Ok(())
 }
 

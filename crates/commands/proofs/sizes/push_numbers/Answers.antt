@@ -8,16 +8,16 @@ returns-in-Err g c =
     (numbers_unread _ _ _ _ _ _ _ (rw (c.in_ok-extend_from_slice-in-Err.ensures.items, c.as_bytes.ensures.value)) c.in-Err.fault c.in-Err.ensures.memory
     c.in-Err.ensures.answer)
 
-pub returns-in-Ok-named_normal_file : goal.returns-in-Ok-named_normal_file
-returns-in-Ok-named_normal_file g c =
-    let normal = c.in-Ok-named_normal_file.ensures.answer in
+pub returns-in-Ok-canonical_file : goal.returns-in-Ok-canonical_file
+returns-in-Ok-canonical_file g c =
+    let normal = c.in-Ok-canonical_file.ensures.answer in
     numbers_within _ _ _ _ _ _ _
     c.in-Ok.file c.in-Ok.ensures.answer normal.within_limit
     (rw (
-      c.in_ok-push_counts-in-Ok-named_normal_file.ensures,
+      c.in_ok-push_counts-in-Ok-canonical_file.ensures,
       normal.canonical,
       sizes_put _ _ _ _ _ _ c.new-sizes.ensures.items c.in_ok-push_sizes.ensures c.as_slice.ensures.value
-          c.in_ok-extend_from_slice-in-Ok-named_normal_file.ensures.items,
+          c.in_ok-extend_from_slice-in-Ok-canonical_file.ensures.items,
     ))
 
 pub returns-in-Err-StepLimit : goal.returns-in-Err-StepLimit
@@ -35,7 +35,7 @@ returns-in-Err-StepLimit g c =
 
 pub returns : goal.returns
 returns g c =
-    rw c.from-in-Err-named_normal_file.ensures
+    rw c.from-in-Err-canonical_file.ensures
     (numbers_unmade _ _ _ _ _ _ _
     c.in-Ok.file c.in-Ok.ensures.answer
-    (rw (c.in_ok-extend_from_slice-in-Err-named_normal_file.ensures.items, c.as_bytes-in-Err-named_normal_file.ensures.value)))
+    (rw (c.in_ok-extend_from_slice-in-Err-canonical_file.ensures.items, c.as_bytes-in-Err-canonical_file.ensures.value)))

@@ -8,7 +8,7 @@ pub overflow_cast-k : goal.overflow_cast-k
 overflow_cast-k c = search (rules, kept_count, named_count, c.requires.plain, c.requires, c.len-count.ensures, c.loop-behind-test.true)
 
 pub index-requires : goal.index-requires
-index-requires c = search (rules, name_there, c.requires, c.at.ensures, c.in-Some.is, c.args.named.now.dummies.ok)
+index-requires c = search (rules, name_there, c.requires, c.at.ensures, c.in-Some.is, c.args.canonical.now.dummies.ok)
 
 pub index_mut-requires : goal.index_mut-requires
 index_mut-requires c = search (rules, in_file, c.requires, c.at.ensures, c.in-Some.is, c.index.ensures, c.loop-behind.invariant.long, c.loop-behind.starts.ok)

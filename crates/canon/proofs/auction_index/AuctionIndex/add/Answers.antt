@@ -7,7 +7,7 @@ use Rattle.canon.proofs.auction_index.AuctionIndex.add.Goals as goal
 
 pub returns-clause-added : goal.returns-clause-added
 returns-clause-added c =
-    let made = text_of_normal c.args.options c.args.file.now c.in_ok-normal.normal.file c.in_ok-normal.ensures.answer _ c.in_ok-text.ensures.layout in
+    let made = text_of_normal c.args.options c.args.file.now c.in_ok-canonical.canonical.file c.in_ok-canonical.ensures.answer _ c.in_ok-text.ensures.layout in
     let is = (text_of_file c.args.options c.args.file.now c.in_ok-text.text.items made).1 in
     let counted : c.in-Some.count ≡ c.self.inside.count + 1 = grind (arith, c.in-Some.is, c.in-Some.ensures) in
     let new = c.number_text.new.numbers.entries in

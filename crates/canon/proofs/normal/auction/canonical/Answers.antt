@@ -9,11 +9,11 @@ same_fault (Ok a) fault P is h = tt
 same_fault (Err why) fault P is h = subst P (sym is) h
 
 pub returns-clause-same : goal.returns-clause-same
-returns-clause-same g c = subst (λ (a : PlainAuction). IsSameAuction (plain_auction c.args.auction) a) (sym c.in_ok-named_canonical.ensures.canonical)
+returns-clause-same g c = subst (λ (a : PlainAuction). IsSameAuction (plain_auction c.args.auction) a) (sym c.in_ok-canonicalise.ensures.canonical)
     (search (rules, canonical_is_same, HasAtoms-auction))
 
 pub returns-clause-none_heavy : goal.returns-clause-none_heavy
 returns-clause-none_heavy g c = search (rules, first_refused-plain)
 
-pub returns-in_err-named_canonical-clause-step_limit : goal.returns-in_err-named_canonical-clause-step_limit
-returns-in_err-named_canonical-clause-step_limit g c = search (rules, step_limit_weaker, first_refused-plain, same_fault)
+pub returns-in_err-canonicalise-clause-step_limit : goal.returns-in_err-canonicalise-clause-step_limit
+returns-in_err-canonicalise-clause-step_limit g c = search (rules, step_limit_weaker, first_refused-plain, same_fault)

@@ -1,6 +1,6 @@
 -- `points_of_each`: the points so far are those of the bidders that are done: the next bidder adds its points, or nothing where it has none.
 use Rattle.canon.proofs.Common.{rules, arith, ℕ, ◌+◌, length, map, refl, sym, ap, ap₂, ◌∙◌, Global, common_steps, All, Vec, eqb-true, eqb-false}
-use Rattle.canon.proofs.Common.{nil_from_length, length-map, length_push, map_push, MAX_GOODS, Atom, IsAtom, atoms_of, keyed_bidder, Option}
+use Rattle.canon.proofs.Common.{nil_from_length, length-map, length_push, map_push, MAX_GOODS, Atom, IsAtom, atoms_of, keyed_bidder}
 use Rattle.canon.proofs.CanonicalFiles.Bidders.{positive, fewer_done, bidder_next, bidder_taken, points_pushed, points_skipped, points_done, fates_pushed}
 use Rattle.canon.proofs.CanonicalFiles.Bidders.{fates_done}
 use Rattle.canon.proofs.normal.auction.points_of_each.Goals as goal
@@ -8,8 +8,8 @@ use Rattle.canon.proofs.normal.auction.points_of_each.Goals as goal
 pub loop-dummy-init : goal.loop-dummy-init
 loop-dummy-init g c = search rules
 
-pub prune_xor_noting-requires-clause-atoms : goal.prune_xor_noting-requires-clause-atoms
-prune_xor_noting-requires-clause-atoms g c =
+pub decide_xor_bids-requires : goal.decide_xor_bids-requires
+decide_xor_bids-requires g c =
     bidder_next g.S.GoodsSet.goods c.args.bidders.items (map (λ p. p.1) c.loop-dummy.yielded) _ _ _ c.in-Some.bidder c.loop-dummy.invariant.all
     refl c.in-Some.ensures.steps.0.0 (All (IsAtom MAX_GOODS)) c.requires.atoms
 
@@ -28,15 +28,12 @@ loop-dummy-preserved g c =
       points = λ n atoms.
           points_skipped g.S.GoodsSet.goods c.args.bidders.items (map (λ p. p.1) c.loop-dummy.yielded) _ _ _ c.in-Some.bidder h.all grown step.0.0
           keyed_bidder n atoms c.loop-dummy.points.items
-          c.in_ok-own.own
-          (c.in_ok-own.ensures.points n) (h.points n atoms)
-          (omega (arith, eqb-true _ 0 (sym c.is_empty.ensures ∙ c.if-not-is_empty.false), c.in_ok-own.own.ok.0));
-      wanted = c.note.ensures.wanted ∙ h.wanted;
-      fates = λ w n atoms.
-          let on = c.new-own_log.ensures.wanted ∙ c.is_wanted.ensures ∙ h.wanted ∙ w in
+          c.in_ok-own.own.points
+          (c.in_ok-own.ensures.points.points n) (h.points n atoms)
+          (omega (arith, eqb-true _ 0 (sym c.is_empty.ensures ∙ c.if-not-is_empty.false), c.in_ok-own.own.points.ok.0));
+      fates = λ n atoms.
           fates_pushed g.S.GoodsSet.goods c.args.bidders.items (map (λ p. p.1) c.loop-dummy.yielded) _ _ _ c.in-Some.bidder h.all grown step.0.0
-          n atoms _ _ c.into_fates.result (c.in_ok-note.ensures.noted (h.wanted ∙ w))
-          (λ are. ap (λ (v : Vec (Option ℕ) Global). v.items) c.into_fates.ensures ∙ c.in_ok-own.ensures.fates on n are) (h.fates w n atoms);
+          n atoms _ _ c.in_ok-own.own.fates c.in_ok-push.ensures.items (c.in_ok-own.ensures.fates n) (h.fates n atoms);
     }
 
 pub returns-clause-points : goal.returns-clause-points
@@ -45,8 +42,8 @@ returns-clause-points g c = search (rules, nil_from_length, points_done)
 pub returns-clause-fates : goal.returns-clause-fates
 returns-clause-fates g c = search (rules, nil_from_length, fates_done)
 
-pub loop-dummy-preserved-in-Continue-branch-4 : goal.loop-dummy-preserved-in-Continue-branch-4
-loop-dummy-preserved-in-Continue-branch-4 g c =
+pub loop-dummy-preserved-in-Continue-branch-5 : goal.loop-dummy-preserved-in-Continue-branch-5
+loop-dummy-preserved-in-Continue-branch-5 g c =
     let step = c.in-Some.ensures.steps in
     let h = c.loop-dummy.invariant in
     let some = eqb-false _ 0 (sym c.is_empty.ensures ∙ c.if-not-is_empty.true) in
@@ -59,17 +56,15 @@ loop-dummy-preserved-in-Continue-branch-4 g c =
       points = λ n atoms.
           points_pushed g.S.GoodsSet.goods c.args.bidders.items (map (λ p. p.1) c.loop-dummy.yielded) _ _ _ c.in-Some.bidder h.all grown step.0.0
           keyed_bidder n atoms c.loop-dummy.points.items
-          c.in_ok-own.own
-          (c.in_ok-own.ensures.points n) (h.points n atoms) c.push.new.self.items c.new.result c.in-Some.dummy c.in_ok-push.ensures.items number
+          c.in_ok-own.own.points
+          (c.in_ok-own.ensures.points.points n) (h.points n atoms) c.push-2.new.self.items c.new.result c.in-Some.dummy
+          c.in_ok-push-2.ensures.items number
           (ap₂ (λ (d : ℕ) (v : Vec (Atom _) Global). record {
             number = d;
             atoms = atoms_of g.S.GoodsSet.goods v.items;
           }) c.new.ensures.dummy c.new.ensures.atoms)
-          (positive (length c.in_ok-own.own.items) (λ e. some (omega (arith, e, c.in_ok-own.own.ok.0))));
-      wanted = c.note.ensures.wanted ∙ h.wanted;
-      fates = λ w n atoms.
-          let on = c.new-own_log.ensures.wanted ∙ c.is_wanted.ensures ∙ h.wanted ∙ w in
+          (positive (length c.in_ok-own.own.points.items) (λ e. some (omega (arith, e, c.in_ok-own.own.points.ok.0))));
+      fates = λ n atoms.
           fates_pushed g.S.GoodsSet.goods c.args.bidders.items (map (λ p. p.1) c.loop-dummy.yielded) _ _ _ c.in-Some.bidder h.all grown step.0.0
-          n atoms _ _ c.into_fates.result (c.in_ok-note.ensures.noted (h.wanted ∙ w))
-          (λ are. ap (λ (v : Vec (Option ℕ) Global). v.items) c.into_fates.ensures ∙ c.in_ok-own.ensures.fates on n are) (h.fates w n atoms);
+          n atoms _ _ c.in_ok-own.own.fates c.in_ok-push.ensures.items (c.in_ok-own.ensures.fates n) (h.fates n atoms);
     }
