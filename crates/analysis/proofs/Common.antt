@@ -57,7 +57,8 @@ pub use Rattle.analysis.specs.AllocationVerdicts.{allocation_verdict, missing_bi
 pub use Rattle.analysis.specs.Allocations.{allocations, greatest, AreWinners, IsAllocation, can_all_win, can_both_win, greatest_revenue, revenue, share_dummy}
 pub use Rattle.analysis.specs.BidNumbers.{all_words, begins_with_number, bid_number, bid_numbers, faulty_line, is_gap, is_word, RefusesNumbers, is_bid_number}
 pub use Rattle.analysis.specs.BidNumbers.{lines_in, words_in}
-pub use Rattle.analysis.specs.BidOrders.{numbered_cmp, AreInOrder}
+pub use Rattle.bid_file.specs.Numbers.{AreInOrder, bid_of, bidder_and_bundle_cmp, number_cmp}
+pub use Rattle.bid_file.proofs.Orders.{number_cmp_total}
 pub use Rattle.analysis.specs.BidderChanges.{PlainBidderChange, IsBidderChange, AreBidderChanges, bidder_at, bids_at, bidders_on, excess_bidders, is_excess}
 pub use Rattle.analysis.specs.BidderChanges.{lefts_of, partner_of, partners_of, rights_of, waiting_after, without_partner, with_left, rarer}
 pub use Rattle.analysis.specs.Bids.{bid_at, numbers_of, is_best, bidder_of, are_alike, is_better, IsBestFor, best_number}
@@ -73,9 +74,7 @@ pub use Rattle.analysis.specs.Internal.NumberLines.{RefusesLine}
 pub use Rattle.analysis.specs.Internal.Orders.{NeverFall}
 pub use Rattle.analysis.specs.Internal.Partners.{IsRarest, TakesPartner, ArePartners, IsCandidate, IsRarestIfAny, rarer_candidate}
 pub use Rattle.analysis.specs.Internal.RowTexts.{instead}
-pub use Rattle.analysis.specs.Internal.Starts.{IsCanonicalOf, AreStarts}
-pub use Rattle.analysis.specs.Internal.Walks.{IsKnown, IsBestAt, IsLastBest, IsNext, best_after, dummy_of, is_kept_atom, HasPassed, IsNextBest, is_best_of}
-pub use Rattle.analysis.specs.Internal.Walks.{is_kept_bid, passed_bids, IsAt}
+pub use Rattle.analysis.specs.Internal.Decided.{HaveDroppedReasons, best_bids, dropped_reason, is_kept_atom}
 pub use Rattle.analysis.specs.KeptWinners.{kept_by, named_by, with_kept_bids, AreKept, in_canonical_file, kept_as, number_kept_as, in_place_of}
 pub use Rattle.analysis.specs.LpTexts.{AreRowsMet, objective, value_of, if_none, row_term, bids_with, PlainRow, is_shared, lp_rows, row_of, row_text}
 pub use Rattle.analysis.specs.LpTexts.{are_sums_exact, price_term, binary_line}
@@ -87,10 +86,7 @@ pub use Rattle.analysis.specs.Views.{plain_bidder_change}
 pub use Rattle.analysis.specs.declared.differences.holders.Candidate.{Candidate}
 pub use Rattle.analysis.specs.declared.differences.holders.Holders.{Holders}
 pub use Rattle.analysis.specs.declared.differences.partners.Partners.{Partners}
-pub use Rattle.analysis.specs.declared.reasons.best.NumberedBid.{NumberedBid}
 pub use Rattle.analysis.specs.declared.reasons.reason.Reason.{Reason}
-pub use Rattle.analysis.specs.declared.reasons.walk.Known.{Known}
-pub use Rattle.analysis.specs.declared.reasons.walk.Walk.{Walk}
 pub use Rattle.analysis.specs.declared.winners.allocation_verdict.AllocationVerdict.{AllocationVerdict}
 pub use Rattle.analysis.specs.declared.winners.allocation_verdict.AllocationVerdict.TheVariants.{SharedBidder, SharedGood, Revenue}
 pub use Rattle.analysis.specs.declared.winners.bid_numbers.BidNumbersFault.{BidNumbersFault}
@@ -105,7 +101,7 @@ pub use Rattle.canon.proofs.CanonicalFiles.Texts.{HasAtoms-file, IsPlainFile-can
 pub use Rattle.canon.proofs.TwoFiles.Differences.{at_same_goods, at_other_goods, same_from_no_difference, no_difference_from_same}
 pub use Rattle.canon.proofs.Walks.PriceWalks.{are_all}
 pub use Rattle.canon.specs.Bidders.{AreBidders, offers}
-pub use Rattle.canon.specs.Canonical.{file_from, points_of_bidders, IsCanonicalFile, canonical_file, IsCanonical, canonical_auction, bid_from, dummy_bids}
+pub use Rattle.canon.specs.Canonical.{file_from, points_of_bidders, IsCanonicalFile, canonical_file, IsCanonical, canonical_auction, dummy_bids}
 pub use Rattle.canon.specs.Difference.{Difference, first_difference, first_unequal_bundle, least_unequal_bidder, or_difference, xor_difference}
 pub use Rattle.canon.specs.Lemmas.BidderDifferences.{least_uneven, least_uneven_is, all_even}
 pub use Rattle.canon.specs.Lemmas.CanonicalOrders.{bidders_ordered, or_atoms_in_order, each_in_order}
@@ -113,11 +109,13 @@ pub use Rattle.canon.specs.Lemmas.Finding.{counted_is_there}
 pub use Rattle.canon.specs.Lemmas.FirstChanges.{first_change_found, same_bids}
 pub use Rattle.canon.specs.Lemmas.OrDifferences.{are_unequal, equal_test, ArePoints}
 pub use Rattle.canon.specs.Lemmas.PriceChanges.{IsEarlier}
-pub use Rattle.canon.specs.Lemmas.Renaming.{kept_dummies-has, filter-map, kept_dummies-differ, points_of_kept_dummies, kept_dummies-below}
+pub use Rattle.canon.specs.Lemmas.Renaming.{then_equal, kept_dummies-has, filter-map, kept_dummies-differ, points_of_kept_dummies, kept_dummies-below}
 pub use Rattle.canon.specs.PriceChanges.{PlainChange, ArePriceChanges, price_on, IsPriceChange}
 pub use Rattle.canon.specs.Renaming.{kept_bids, kept_dummies, named_bid, named_dummy, points_of_dummy}
 pub use Rattle.canon.specs.Sameness.{AreSameFiles, IsSameAuction}
-pub use Rattle.canon.specs.declared.normal.Canonical.{Canonical}
+pub use Rattle.canon.specs.Decisions.{AreDecided, IsKeptBidder, best_fate_of, fate_in, file_fate, is_of, kept_in, numbers_of_bidder}
+pub use Rattle.canon.specs.declared.normal.decisions.Decisions.{Decisions}
+pub use Rattle.canon.specs.declared.normal.decisions.KeptBidder.{KeptBidder}
 pub use Rattle.cats_text.specs.Lines.{Word}
 pub use Rattle.cats_text.specs.Numbers.{digits_alone, number_of}
 pub use Rattle.goods_set.specs.Bundles.{without, AreAbove, AreBelow, IsBundle, IsRising, all_bundles, are_apart, has_good, IsInside, is_inside}
@@ -129,7 +127,8 @@ pub use Rattle.goods_set.specs.Lemmas.Orders.{nat_cmp-gt, nat_cmp-lt, bundle_cmp
 pub use Rattle.goods_set.specs.Lemmas.Words.{range_rises}
 pub use Rattle.goods_set.specs.Orders.{bundle_cmp}
 pub use Rattle.prune.proofs.Pruning.{behind_next}
-pub use Rattle.prune.specs.Fates.{plain_fate, xor_fates, best_bids, indices_below}
+pub use Rattle.prune.specs.BidFates.{PlainFate, fate_by, or_outcome, xor_outcome}
+pub use Rattle.prune.specs.Fates.{indices_below}
 pub use Rattle.prune.specs.InOrder.{IsInOrder, IsBefore}
 pub use Rattle.prune.specs.Lemmas.Fates.{or_fate-reaches, indices_below-within}
 pub use Rattle.prune.specs.Lemmas.InOrder.{before_itself, before_not_inside, same_in_order}
@@ -146,7 +145,7 @@ pub use Rattle.prune.specs.Lemmas.Tables.{no_xor_points}
 pub use Rattle.prune.specs.Lemmas.Values.{or_value-filter_on, xor_value-reached, xor_value-member}
 pub use Rattle.prune.specs.Points.{xor_points, or_points, is_or_point}
 pub use Rattle.prune.specs.SearchSteps.{atoms_below, greatest_price, is_below}
-pub use Rattle.valuation.specs.Auctions.{IsAuction, auction_from, PlainAuction, atom_of, IsAtom, is_dummy, or_atoms_of, xor_atoms_of}
+pub use Rattle.valuation.specs.Auctions.{IsAuction, auction_from, PlainAuction, atom_of, IsAtom, is_dummy, or_atoms_of, xor_atoms_of, bid_from}
 pub use Rattle.valuation.specs.Lemmas.AuctionsOfFiles.{IsBid-there, IsAuction-auction_from}
 pub use Rattle.valuation.specs.Lemmas.Lists.{AllPairs-nil, AllPairs-cons, AllPairs-head, AllPairs-tail, Contains-cons_cases, Contains-map, Contains-unmap}
 pub use Rattle.valuation.specs.Lemmas.Lists.{le_or_lt, AllPairs-map, AllPairs-append}
@@ -163,3 +162,7 @@ pub use Rattle.valuation.specs.declared.atom.Atom.{Atom}
 pub use Rattle.valuation.specs.declared.search.kind.SearchKind.{SearchKind}
 pub use Rattle.valuation.specs.declared.search.kind.SearchKind.TheVariants.{Bounded}
 pub use denote.Param.Members.{Mut}
+pub use Rattle.std.specs.Cmp.Lexicographic.{options_total}
+pub use Rattle.std.specs.Option.{option_cmp}
+pub use Rattle.valuation.specs.Numbers.{atom_by_number, atoms_by_number}
+pub use Rattle.valuation.specs.declared.search.kind.SearchKind.TheVariants.{Plain}

@@ -1,4 +1,4 @@
--- Reasons: why each bid is kept or dropped, by one walk over the bids in order.
+-- Reasons: why each bid is kept or dropped, by what becomes of the bids in order.
 pub mod BestBids
 pub mod KeptBidsLists
 pub mod KeptBidsBest
@@ -9,8 +9,5 @@ pub mod BestNumbers
 pub mod Packings
 pub mod KeptPoints
 pub mod TrueReasons
-pub mod Passed
-pub mod KeptStarts
-pub mod NextBest
-pub mod Turning
+pub mod Decided
 pub mod Reasoned

@@ -1,7 +1,6 @@
 -- What the contracts of private functions cite. No public contract rests on them.
 pub mod Deciding
-pub mod Starts
-pub mod Walks
+pub mod Decided
 pub mod BidsByGood
 pub mod FirstHolders
 pub mod NumberLines

@@ -3,9 +3,7 @@
 mod best;
 mod explanation;
 mod reason;
-mod starts;
-mod walk;
 
-pub use best::{NumberedBid, bids_in_order, number_of};
+pub use best::number_of;
 pub use explanation::explain;
 pub use reason::Reason;

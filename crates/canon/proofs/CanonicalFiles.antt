@@ -2,6 +2,3 @@
 pub mod Files
 pub mod Texts
 pub mod Filing
-pub mod Numbering
-pub mod Bidders
-pub mod BidderKeys

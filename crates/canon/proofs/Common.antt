@@ -2,9 +2,9 @@
 pub use Rattle.bid_file.specs.Files.{PlainFile, IsPlainFile, PlainBid, IsDummyBelow, IsBid, IsBidFile}
 pub use Rattle.bid_file.specs.Views.{seen_bid, plain_file}
 pub use Rattle.bid_file.specs.declared.limits.TheConstants.{MAX_GOODS, MAX_DUMMY}
-pub use Rattle.canon.specs.Answers.{RefusesAs, RefusesText, RefusesAuction, IsNormalFile, NormalisesPlainAs, AreFates}
+pub use Rattle.canon.specs.Answers.{RefusesAs, RefusesText, RefusesAuction, IsNormalFile, NormalisesPlainAs}
 pub use Rattle.canon.specs.Bidders.{offers}
-pub use Rattle.canon.specs.Canonical.{points_of_bidders, canonical_auction, canonical_file, bid_from, dummy_bids, file_from, canonical_bidders, canonical_text}
+pub use Rattle.canon.specs.Canonical.{points_of_bidders, canonical_auction, canonical_file, dummy_bids, file_from, canonical_bidders, canonical_text}
 pub use Rattle.canon.specs.Canonical.{IsCanonical, IsCanonicalFile}
 pub use Rattle.canon.specs.Comparing.{ComparesAs, Differ, IsNormalFileOf, ReadsNormalAs, RefusesOf, SpellsWithinLimit}
 pub use Rattle.canon.specs.Difference.{Difference, NoDifference, first_difference, first_unequal_bundle, least_unequal_bidder, or_difference, xor_difference}
@@ -12,9 +12,9 @@ pub use Rattle.canon.specs.Difference.{InGoods, copies_of, exchanged, InOr, InXo
 pub use Rattle.canon.specs.FirstNumbers.{AddsStream, AddsText, IsEmptyIndex, IsFirstNumber, IsFirstText, IsIndexOf, LacksText, NumbersText, TextIndex}
 pub use Rattle.canon.specs.FirstNumbers.{first_number, text_number}
 pub use Rattle.canon.specs.Internal.BidderBids.{HasBidders, leading, AreBidsOf, IsFirstBidder}
-pub use Rattle.canon.specs.Internal.BidderKeys.{bidder_key}
-pub use Rattle.canon.specs.Internal.KeyedBidders.{NumberedBidder, numbered_points, numbered_cmp, kept_numbers, numbered_from, points_of_numbered}
-pub use Rattle.canon.specs.Internal.KeyedBidders.{keyed_bidders, keyed_bidder}
+pub use Rattle.canon.specs.Internal.KeptBidders.{AreXorNumbers, gathered_auction, kept_cmp}
+pub use Rattle.canon.specs.Decisions.{AreDecided, AreDecidedBy, IsKeptBidder, bidder_points, best_fate_of, fate_in, file_fate, is_of, kept_in}
+pub use Rattle.canon.specs.Decisions.{numbers_of_bidder}
 pub use Rattle.canon.specs.Internal.OrBids.{HasOrBids}
 pub use Rattle.canon.specs.Internal.PriceWalks.{changes_of, side_at, if_differs, on_both, only_left, only_right}
 pub use Rattle.canon.specs.Internal.TextNumbers.{number_of}
@@ -27,7 +27,7 @@ pub use Rattle.canon.specs.Lemmas.OrDifferences.{are_unequal, equal_from_test, u
 pub use Rattle.canon.specs.Lemmas.OrDifferences.{ArePoints, equal_test, in_order}
 pub use Rattle.canon.specs.Lemmas.PriceChanges.{AreLater, IsBehind, price_here, price_behind, no_price, past_change, past_same}
 pub use Rattle.canon.specs.Lemmas.Renaming.{map-sorted, filter-map, sort_by-map, then_not_less, then_equal, dummy_cmp_total, nonzero_dummies, has_value}
-pub use Rattle.canon.specs.Lemmas.Renaming.{points_of_nonzero, range_differs}
+pub use Rattle.canon.specs.Lemmas.Renaming.{points_of_nonzero, points_of_kept_dummies, range_differs}
 pub use Rattle.canon.specs.Lemmas.TextMaps.{same_order, updated}
 pub use Rattle.canon.specs.Normalising.{Normalised, IsNoFile, ExceedsSteps, IsText, HasOutcome, IsNormalised, Normalises, SpellsCanonicalFile, unless_refused}
 pub use Rattle.canon.specs.Normalising.{normalised_file}
@@ -39,7 +39,6 @@ pub use Rattle.canon.specs.Unsearched.{unsearched_auction, AreAlike, AreAlikeAuc
 pub use Rattle.canon.specs.Verdicts.{NamesGoods, plain_verdict, printed_atoms}
 pub use Rattle.canon.specs.declared.canon_fault.CanonFault.{CanonFault}
 pub use Rattle.canon.specs.declared.canon_fault.CanonFault.TheVariants.{Read, StepLimit, Memory}
-pub use Rattle.canon.specs.declared.normal.BidderFates.{BidderFates}
 pub use Rattle.canon.specs.declared.verdict.Side.{Side}
 pub use Rattle.canon.specs.declared.verdict.Side.TheVariants.{Exactly, Below}
 pub use Rattle.canon.specs.declared.verdict.Verdict.{Verdict}
@@ -61,10 +60,7 @@ pub use Rattle.goods_set.specs.Bundles.{AreBelow, all_bundles, IsBundle, IsInsid
 pub use Rattle.goods_set.specs.Lemmas.AllBundles.{all_bundles_has}
 pub use Rattle.goods_set.specs.Lemmas.Members.{AreBelow-higher, inside_refl}
 pub use Rattle.goods_set.specs.Lemmas.Orders.{nat_cmp-lt, nat_cmp-gt, nat_cmp-refl, bundle_cmp_total, bundle_cmp_equal}
-pub use Rattle.goods_set.specs.Lemmas.SortKeys.{order_by_key}
 pub use Rattle.goods_set.specs.Orders.{bundle_cmp}
-pub use Rattle.goods_set.specs.SortKeys.{sort_key_of}
-pub use Rattle.prune.specs.Fates.{or_fates, plain_fate, xor_fates}
 pub use Rattle.prune.specs.InOrder.{IsBefore, IsInOrder}
 pub use Rattle.prune.specs.Lemmas.InOrder.{before_itself}
 pub use Rattle.prune.specs.Lemmas.KeptBids.{just_bundles, or_points_are_atoms, or_points_again, xor_points_are_atoms, xor_points_again, on_bundles}
@@ -81,9 +77,11 @@ pub use Rattle.prune.specs.Points.{xor_points, or_points, is_or_point}
 pub use Rattle.prune.specs.SearchSteps.{first_refused}
 pub use Rattle.std.proofs.Common.{◌≡◌, ℕ, List, ◌+◌, ◌<◌, ◌≤◌, Bool, true, false, cond, ⊎_elim, [], ◌∷◌, refl, sym, ap, ◌∙◌, subst, arith, le_antisymm}
 pub use Rattle.std.proofs.Common.{nat_cmp, rules, length, map, None, ap₂, Ordering, Less, Equal, Greater, Some, ◌++◌, append_assoc, Global, zero, suc, Option}
-pub use Rattle.std.proofs.Common.{is_none, drop, get_or, take, le_refl, ◌⊎◌, inl, inr, IfSome, eqb, Result, Ok, Err, ◌≢◌, unwrap_or, bytes_eq, not, ◌-◌}
+pub use Rattle.std.proofs.Common.{is_none, drop, get_or, take, is_some, le_refl, ◌⊎◌, inl, inr, IfSome, eqb, Result, Ok, Err, ◌≢◌, unwrap_or, bytes_eq, not}
+pub use Rattle.std.proofs.Common.{◌-◌}
 pub use Rattle.std.proofs.Math.Seq.{take-append_seam, drop-append_seam}
-pub use Rattle.std.proofs.lemmas.Bool.{cases_Bool, both_ways, false_from_ne_true, cond-true, cond-false, eq-eqb, ne_eqb, eqb-true, eqb-false, not_from_true}
+pub use Rattle.std.proofs.lemmas.Bool.{cases_Bool, cases_lt, leb-true, le-leb, lt-leb, both_ways, false_from_ne_true, cond-true, cond-false, eq-eqb, ne_eqb}
+pub use Rattle.std.proofs.lemmas.Bool.{eqb-true, eqb-false, not_from_true}
 pub use Rattle.std.proofs.lemmas.Bool.Decides.{Decides-eqb}
 pub use Rattle.std.proofs.lemmas.Cmp.{tied_itself, nat_list_cmp_total, nat_cmp_total, on_total, then_total, nat_list_eq_equiv}
 pub use Rattle.std.proofs.lemmas.Fn.{always_returns_same}
@@ -119,7 +117,9 @@ pub use Rattle.std.specs.Option.{option_eq, option_or}
 pub use Rattle.std.specs.Ordering.{is_eq, ordering_then, is_lt, ordering_reverse, match_ordering}
 pub use Rattle.std.specs.Prelude.{All, Contains, sum_by, remove, Vec, IsPermutation, ◌↔◌, IfOk, IfErr, OnErr, MatchOption, IsErrAnd, AllPairs, OnOk}
 pub use Rattle.std.specs.Vec.Iter.{into_iter_items}
-pub use Rattle.valuation.specs.Auctions.{IsAtom, PlainAuction, auction_from, xor_atoms_of, IsAuction, atom_of, is_dummy, or_atoms_of}
+pub use Rattle.valuation.specs.Auctions.{IsAtom, PlainAuction, auction_from, xor_atoms_of, IsAuction, atom_of, is_dummy, or_atoms_of, bid_from}
+pub use Rattle.valuation.specs.Numbers.{atom_by_number, atoms_by_number}
+pub use Rattle.bid_file.specs.Numbers.{AreInOrder, bid_of, gathered, number_cmp}
 pub use Rattle.valuation.specs.Bidders.{bidders_of}
 pub use Rattle.valuation.specs.Lemmas.Atoms.{length-atoms_of, drop-atoms_of}
 pub use Rattle.valuation.specs.Lemmas.AuctionsOfFiles.{count_atoms, IsAuction-auction_from}
@@ -137,3 +137,27 @@ pub use Rattle.valuation.specs.Views.{plain_auction}
 pub use Rattle.valuation.specs.declared.atom.Atom.{Atom}
 pub use Rattle.valuation.specs.declared.search.kind.SearchKind.{SearchKind}
 pub use Rattle.valuation.specs.declared.search.options.SearchOptions.{SearchOptions}
+pub use Rattle.std.proofs.Math.Path.{fun_ext}
+pub use Rattle.std.proofs.Common.{ltb, leb, ◌&&◌}
+pub use Rattle.std.proofs.lemmas.List.Elements.{All-map, All-push, filter_passes}
+pub use Rattle.std.proofs.lemmas.List.FromFn.{get_or-map-range_with_len}
+pub use Rattle.std.proofs.lemmas.List.Kept.{AllPairs-filter}
+pub use Rattle.std.proofs.lemmas.List.Sorted.{sorted_far, IsPermutation-cons, IsPermutation-refl, IsPermutation-trans, IsPermutation-insert}
+pub use Rattle.std.proofs.lemmas.List.Sums.{length-filter}
+pub use Rattle.std.specs.Option.{option_cmp}
+pub use Rattle.prune.specs.BidFates.{AreNumbersInOrder, PlainFate, Zero, Same, best_alike, fate_by, is_kept, kept_by, or_outcome, xor_outcome, or_fate_of}
+pub use Rattle.prune.specs.BidFates.{xor_fate_of}
+pub use Rattle.prune.specs.Lemmas.KeptBids.{or_points_same}
+pub use Rattle.prune.specs.Lemmas.SearchSteps.{greatest_price-bound, greatest_price-member}
+pub use Rattle.prune.specs.SearchSteps.{greatest_price, atoms_below, in_search_order, first_over}
+pub use Rattle.valuation.specs.Lemmas.AuctionsOfFiles.{IsAtom-bids}
+pub use Rattle.valuation.specs.Lemmas.OrValues.{or_value-permutation}
+pub use Rattle.valuation.specs.Lemmas.XorValues.{xor_value-permutation}
+pub use Rattle.valuation.specs.Searches.{bound_of}
+pub use Rattle.std.proofs.lemmas.List.Elements.{Contains-get_or}
+pub use Rattle.canon.specs.declared.normal.decisions.KeptBidder.{KeptBidder}
+pub use Rattle.prune.specs.Lemmas.Ranges.{range_more}
+pub use Rattle.prune.specs.Points.{ArePoints as ArePointsBy}
+pub use Rattle.std.specs.Cmp.Lexicographic.{options_total}
+pub use Rattle.valuation.specs.declared.search.kind.SearchKind.TheVariants.{Plain}
+pub use Rattle.std.proofs.lemmas.List.{take-append-drop, get_or_default}

@@ -4,3 +4,4 @@ pub mod CanonicalAuctions
 pub mod CanonicalFiles
 pub mod Walks
 pub mod TwoFiles
+pub mod Deciding

@@ -1,6 +1,6 @@
 -- What the calls answer. It depends on what normalising gives. Want of memory may come in the place of each
 -- answer.
-use Rattle.std.specs.Prelude.{◌≡◌, ◌⊎◌, ℕ, true, List, map, Result, Ok, Err, Some, None, Vec}
+use Rattle.std.specs.Prelude.{◌≡◌, ◌⊎◌, ℕ, true, List, Result, Ok, Err, Some, None, Vec}
 use Rattle.std.specs.Global.{Global}
 use Rattle.bid_file.specs.Files.{PlainFile}
 use Rattle.bid_file.specs.Views.{plain_file}
@@ -8,14 +8,11 @@ use Rattle.bid_file.specs.declared.bid.BidFile.{BidFile}
 use Rattle.cats_text.specs.Faults.{has_bid_line}
 use Rattle.cats_text.specs.Grammar.{Spells}
 use Rattle.valuation.specs.Auctions.{PlainAuction, auction_from}
-use Rattle.prune.specs.Fates.{or_fates, plain_fate, xor_fates}
 use Rattle.prune.specs.SearchSteps.{first_refused}
-use Rattle.valuation.specs.declared.search.kind.SearchKind.{SearchKind}
 use Rattle.valuation.specs.declared.search.options.SearchOptions.{SearchOptions}
 use Rattle.canon.specs.Canonical.{canonical_auction, file_from}
 use Rattle.canon.specs.Normalising.{Normalised, IsNoFile, ExceedsSteps, IsText, Normalises}
 use Rattle.canon.specs.declared.canon_fault.CanonFault.{CanonFault}
-use Rattle.canon.specs.declared.normal.BidderFates.{BidderFates}
 use Rattle.canon.specs.declared.normal.Canonical.{Canonical}
 use Rattle.canon.specs.declared.canon_fault.CanonFault.TheVariants.{Read, StepLimit, Memory}
 
@@ -77,8 +74,3 @@ NormalisesFileAs options f r = NormalisesPlainAs options f (plain_answer r)
 abbrev pub file_answer : Result Canonical CanonFault → Result PlainFile CanonFault
 file_answer (Ok c) = Ok c.file
 file_answer (Err fault) = Err fault
-
--- what becomes of the best bids of the OR bidder, by searches of a kind, and of each XOR bidder
-pub record AreFates (kind : SearchKind) (a : PlainAuction) (fates : BidderFates) : Type 0 where
-  pub or : map plain_fate fates.or.items ≡ or_fates kind a.goods a.or_atoms
-  pub xor : map (λ own. own.items) fates.xor.items ≡ map (xor_fates a.goods) a.xor_bidders

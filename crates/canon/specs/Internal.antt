@@ -1,8 +1,7 @@
 -- What the contracts of private functions cite, and the facts that private types keep. No public contract rests on
 -- them.
 pub mod BidderBids
-pub mod BidderKeys
-pub mod KeyedBidders
+pub mod KeptBidders
 pub mod OrBids
 pub mod PriceWalks
 pub mod TextNumbers

@@ -3,6 +3,7 @@ pub mod Sameness
 pub mod Canonical
 pub mod Unsearched
 pub mod Renaming
+pub mod Decisions
 pub mod Normalising
 pub mod Answers
 pub mod Least

@@ -1,6 +1,6 @@
 //! The first difference of two canonical files, and what their bids differ in.
 
-mod bid_order;
+pub(crate) mod bid_order;
 mod bid_run;
 mod bundles;
 pub(crate) mod comparison;

@@ -5,13 +5,11 @@ pub use Rattle.analysis.proofs.Comparing.LawsLists.{Contains-filter_map, there_i
 pub use Rattle.analysis.proofs.Explaining.BestBids.{alike_from, one_key}
 pub use Rattle.analysis.proofs.Explaining.KeptBidsBest.{best-once, one_key_sym, none_is, some_is}
 pub use Rattle.analysis.proofs.Explaining.TrueReasons.{reasons_explain}
-pub use Rattle.analysis.specs.BidOrders.{AreInOrder}
 pub use Rattle.analysis.specs.BidderChanges.{PlainBidderChange, AreBidderChanges, bidder_at, bids_at, excess_bidders, is_excess, rights_of}
 pub use Rattle.analysis.specs.Bids.{bid_at, are_alike, is_best, numbers_of, best_number, IsBestFor}
 pub use Rattle.analysis.specs.Differences.{AreAllDifferences, PlainDifferences, is_none_at_all}
 pub use Rattle.analysis.specs.Reasons.{Zero, plain_reason, reason_at, reasons_of}
 pub use Rattle.analysis.specs.Views.{plain_bidder_change}
-pub use Rattle.analysis.specs.declared.reasons.best.NumberedBid.{NumberedBid}
 pub use Rattle.analysis.specs.declared.reasons.reason.Reason.{Reason}
 pub use Rattle.bid_file.specs.Files.{PlainBid, PlainFile, IsDummyBelow, IsPlainFile}
 pub use Rattle.bid_file.specs.Views.{seen_bid}

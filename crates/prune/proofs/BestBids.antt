@@ -1,183 +1,210 @@
--- Bids sorted by bundle and by falling price: the first on each bundle are the best.
-use Rattle.prune.proofs.Common.{rules, ◌≡◌, ℕ, ◌+◌, ◌<◌, ◌≤◌, Bool, true, false, cond, ltb, ◌⊎◌, inl, inr, ⊎_elim, List, [], ◌∷◌, map, length, get_or, refl}
-use Rattle.prune.proofs.Common.{sym, ap, ap₂, ◌∙◌, subst, arith, le_refl, Ordering, Less, Equal, Greater, is_lt, AllPairs, Contains, IsPermutation}
-use Rattle.prune.proofs.Common.{IsTotalOrder, filter, dedup, dedup_from, IsSortedBy, is_eq, ordering_then, cases_Bool, cases_lt, both_ways, false_from_ne_true}
-use Rattle.prune.proofs.Common.{ltb-true, lt-ltb, cond-true, cond-false, on_total, then_total, back_total, nat_cmp_total, length-map, get_or-map, All-head}
-use Rattle.prune.proofs.Common.{All-tail, All-from_recursion, IsStrictlySortedBy-dedup, Contains-from_dedup, sorted_far, ranks_by, Contains-permutation}
-use Rattle.prune.proofs.Common.{IsPermutation-sym, IsPermutation-map, IsInside, is_inside, inside_refl, bundle_cmp, bundle_cmp_total, bundle_cmp_refl}
-use Rattle.prune.proofs.Common.{bundle_cmp_equal, nat_cmp-lt, Atom, Contains-cons_cases, AllPairs-nil, AllPairs-cons, AllPairs-head, AllPairs-tail}
-use Rattle.prune.proofs.Common.{AllPairs-map, map-filter, Contains-nil, Contains-head, Contains-tail, Contains-filter, Contains-filter_parts}
-use Rattle.prune.proofs.Common.{All-from_Contains, IsBefore, IsInOrder, bid_cmp, AreBestBids}
-use Rattle.std.specs.List.Sorted.{IsStrictlySortedBy}
-
-abbrev pub is_bid_before : Atom (List ℕ) → Atom (List ℕ) → Bool
-is_bid_before a b = is_lt (bid_cmp a b)
-
-abbrev pub is_same_bundle : Atom (List ℕ) → Atom (List ℕ) → Bool
-is_same_bundle a b = is_eq (bundle_cmp a.bundle b.bundle)
-
-abbrev pub is_in_bundle : Atom (List ℕ) → Atom (List ℕ) → Bool
-is_in_bundle a b = is_inside a.bundle b.bundle
-
-abbrev pub has_price : Atom (List ℕ) → Bool
-has_price a = ltb 0 a.price
-
-pub bid_cmp_total : IsTotalOrder bid_cmp
-bid_cmp_total = then_total (on_total (λ (a : Atom (List ℕ)). a.bundle) bundle_cmp_total) (back_total (on_total (λ (a : Atom (List ℕ)). a.price) nat_cmp_total))
-
-on_bundles_total : IsTotalOrder (λ (a b : Atom (List ℕ)). bundle_cmp a.bundle b.bundle)
-on_bundles_total = on_total (λ (a : Atom (List ℕ)). a.bundle) bundle_cmp_total
+-- Bids in order, one after another: the first on each bundle is the best there, and the code knows which one that is.
+use Rattle.prune.proofs.Common.{rules, ◌≡◌, ℕ, ◌<◌, ◌≤◌, Bool, true, false, ltb, eqb, ◌⊎◌, inl, inr, ⊎_elim, List, [], ◌∷◌, ◌++◌, map, refl, sym, ap, ◌∙◌}
+use Rattle.prune.proofs.Common.{subst, arith, Ordering, Less, Equal, Greater, nat_cmp, Some, None, Option, All, AllPairs, Contains, filter, find, is_eq}
+use Rattle.prune.proofs.Common.{ordering_then, cases_Bool, cases_lt, both_ways, ltb-true, lt-ltb, and_parts, and_from, eqb-true, eq-eqb}
+use Rattle.prune.proofs.Common.{All-nil, All-push, All-contains, AllPairs-filter, AllPairs-map, Contains-append_left, Contains-push, bundle_cmp}
+use Rattle.prune.proofs.Common.{bundle_cmp_total, bundle_cmp_refl, bundle_cmp_equal, Atom, Contains-map, Contains-unmap, Contains-head, Contains-filter}
+use Rattle.prune.proofs.Common.{Contains-filter_parts, All-from_Contains, IsBefore, IsInOrder, bid_cmp, AreBestBids}
+use Rattle.std.proofs.lemmas.List.Elements.{filter-append}
+use Rattle.std.proofs.lemmas.List.Folds.{find-append}
+use Rattle.std.specs.Option.{unwrap_or}
+use Rattle.valuation.specs.Lemmas.Orders.{then_parts}
+use Rattle.bid_file.specs.Files.{PlainBid}
+use Rattle.bid_file.specs.Numbers.{bid_of}
+use Rattle.prune.specs.BidFates.{AreNumbersInOrder, IsNumberBefore, best_alike}
+use Rattle.prune.specs.Internal.BestBids.{are_alike, best_of, first_after, is_best_by, is_best_of, lesser_by}
+use Rattle.prune.specs.Lemmas.Lists.{find_none, find_first_of}
+use Rattle.valuation.specs.Numbers.{atoms_by_number, atom_by_number}
+use Rattle.prune.proofs.Pruning.{before_next}
 
 -- ---- the order
 
-bundle_first : (o p : Ordering) → is_lt (ordering_then o p) ≡ false → is_lt o ≡ false
-bundle_first Less p e = e
-bundle_first Equal p e = refl
-bundle_first Greater p e = refl
+then_less : (o p : Ordering) → ordering_then o p ≡ Less → (o ≡ Less) ⊎ ((o ≡ Equal) × (p ≡ Less))
+then_less Less p e = inl refl
+then_less Equal p e = inr (refl, e)
+then_less Greater p e = absurd (cc)
 
--- of two bids on one bundle the one that does not come first has no greater price
-not_before_price : (a b : Atom (List ℕ)) → bundle_cmp a.bundle b.bundle ≡ Equal → is_bid_before a b ≡ false → a.price ≤ b.price
-not_before_price a b e n = search (rules, nat_cmp-lt, both_ways, cases_lt)
+nat_less : (m n : ℕ) → nat_cmp m n ≡ Less → m < n
+nat_less m n e = ⊎_elim (λ (l : m < n). l) (λ (l : n ≤ m). absurd (search rules)) (cases_lt m n)
 
-equal_from_test : (a b : Atom (List ℕ)) → is_same_bundle a b ≡ true → bundle_cmp a.bundle b.bundle ≡ Equal
-equal_from_test a b t = search rules
+nat_equal : (m n : ℕ) → nat_cmp m n ≡ Equal → m ≡ n
+nat_equal m n e = search rules
 
--- what does not come before a bid is inside its bundle only if the two are the same
-inside_is_same : (earlier later : Atom (List ℕ)) → (IsInside later.bundle earlier.bundle → (bundle_cmp later.bundle earlier.bundle ≡ Less)
-    ⊎ (later.bundle ≡ earlier.bundle)) → is_bid_before later earlier ≡ false → is_in_bundle later earlier ≡ is_same_bundle later earlier
-inside_is_same earlier later ordered n =
-    search (rules, cases_Bool, both_ways, bundle_cmp_refl, false_from_ne_true, bundle_cmp_equal, equal_from_test, inside_refl)
+equal_from_test : (o : Ordering) → is_eq o ≡ true → o ≡ Equal
+equal_from_test Less e = absurd (cc)
+equal_from_test Equal e = refl
+equal_from_test Greater e = absurd (cc)
 
--- ---- what `dedup` keeps
+module _ (bids : List PlainBid) where
+  abbrev compared : ℕ → ℕ → Ordering
+  compared m n = bundle_cmp (bid_of bids m).goods (bid_of bids n).goods
 
-abbrev NotBefore : Atom (List ℕ) → Atom (List ℕ) → Type 0
-NotBefore earlier later = is_bid_before later earlier ≡ false
+  -- of two bids in order the second is on a later bundle, or on the same one and at no greater price
+  pub before_cases : (m n : ℕ) → IsNumberBefore bids m n
+      → (compared m n ≡ Less) ⊎ ((compared m n ≡ Equal) × ((bid_of bids n).price ≤ (bid_of bids m).price) × (m ≡ n → ⊥))
+  before_cases m n h =
+      ⊎_elim
+      (λ (l : bid_cmp (atom_by_number bids m) (atom_by_number bids n) ≡ Less). ⊎_elim (λ (l : compared m n ≡ Less). inl l)
+      (λ (e : (compared m n ≡ Equal) × (nat_cmp (bid_of bids n).price (bid_of bids m).price ≡ Less)).
+      let less : (bid_of bids n).price < (bid_of bids m).price = nat_less _ _ e.1 in
+      inr (e.0, omega arith, λ same. let p : (bid_of bids m).price ≡ (bid_of bids n).price = ap (λ k. (bid_of bids k).price) same in omega arith))
+      (then_less _ _ l))
+      (λ (e : (bid_cmp (atom_by_number bids m) (atom_by_number bids n) ≡ Equal) × (nat_cmp m n ≡ Less)).
+      let parts = then_parts _ _ e.0 in
+      let less : m < n = nat_less m n e.1 in
+      let price : (bid_of bids n).price ≡ (bid_of bids m).price = nat_equal _ _ parts.1 in
+      inr (parts.0, omega arith, λ same. omega arith))
+      (then_less _ _ h)
 
-skip_second : (R : Atom (List ℕ) → Atom (List ℕ) → Type 0) (k x : Atom (List ℕ)) (xs : List (Atom (List ℕ))) → AllPairs R (k ∷ (x ∷ xs)) → AllPairs R (k ∷ xs)
-skip_second R k x xs h = AllPairs-cons R k xs (All-tail (R k) x xs (AllPairs-head R k (x ∷ xs) h))
-    (AllPairs-tail R x xs (AllPairs-tail R k (x ∷ xs) h))
+  -- ---- the first on the goods of the last bid
 
--- two tests that say the same of each element and an earlier one keep the same
-module _ (p q : Atom (List ℕ) → Atom (List ℕ) → Bool) where
-  abbrev Agree : Atom (List ℕ) → Atom (List ℕ) → Type 0
-  Agree earlier later = p later earlier ≡ q later earlier
+  -- these of the bids are done, and this is the first on the bundle of the last one
+  pub record IsFirstOn (numbers passed : List ℕ) (first : ℕ) : Type 0 where
+    pub own : find (λ m. are_alike bids m first) numbers ≡ Some first
+    pub there : Contains passed first
+    pub last : All (λ m. (compared m first ≡ Less) ⊎ (compared m first ≡ Equal)) passed
 
-  dedup_from_agree : (k : Atom (List ℕ)) (xs : List (Atom (List ℕ))) → AllPairs Agree (k ∷ xs) → dedup_from p k xs ≡ dedup_from q k xs
-  dedup_from_agree k [] h = refl
-  dedup_from_agree k (x ∷ xs) h =
-      ap₂ (λ (same other : List (Atom (List ℕ))). cond (p x k) same (k ∷ other)) (dedup_from_agree k xs (skip_second Agree k x xs h))
-      (dedup_from_agree x xs (AllPairs-tail Agree k (x ∷ xs) h))
-      ∙ ap (λ b. cond b (dedup_from q k xs) (k ∷ dedup_from q x xs)) (All-head (Agree k) x xs (AllPairs-head Agree k (x ∷ xs) h))
+  abbrev pub IsFirst : List ℕ → List ℕ → Option ℕ → Type 0
+  IsFirst numbers passed None = passed ≡ []
+  IsFirst numbers passed (Some first) = IsFirstOn numbers passed first
 
-  dedup_agree : (xs : List (Atom (List ℕ))) → AllPairs Agree xs → dedup p xs ≡ dedup q xs
-  dedup_agree [] h = refl
-  dedup_agree (x ∷ xs) h = dedup_from_agree x xs h
+  module _ (numbers : List ℕ) (order : AreNumbersInOrder bids numbers) where
+    module _ (passed rest : List ℕ) (n : ℕ) (parts : numbers ≡ passed ++ n ∷ rest) where
+      before : All (λ m. IsNumberBefore bids m n) passed
+      before = before_next (IsNumberBefore bids) passed n rest (subst (λ zs. AllPairs (IsNumberBefore bids) zs) parts order)
 
-first_kept : (k : Atom (List ℕ)) (xs : List (Atom (List ℕ))) → Contains (dedup_from is_same_bundle k xs) k
-first_kept k [] = Contains-head k []
-first_kept k (x ∷ xs) =
-    elim (is_same_bundle x k) as (λ b. Contains (cond b (dedup_from is_same_bundle k xs) (k ∷ dedup_from is_same_bundle x xs)) k) [
-      | true ↦ first_kept k xs
-      | false ↦ Contains-head k (dedup_from is_same_bundle x xs)
-    ]
+      -- the bid is on a later bundle
+      on_new : All (λ m. compared m n ≡ Less) passed → IsFirstOn numbers (passed ++ n ∷ []) n
+      on_new later =
+          let test : ℕ → Bool = λ m. are_alike bids m n in
+          let none : find test passed ≡ None =
+          find_none test passed (λ m c. ap is_eq (All-contains (λ m. compared m n ≡ Less) passed m later c)) in
+          let this : test n ≡ true = ap is_eq (bundle_cmp_refl (bid_of bids n).goods) in
+          record {
+            own = ap (find test) parts ∙ find-append test passed (n ∷ rest) ∙ rw (none, this) refl;
+            there = Contains-push passed n;
+            last = All-push (λ m. (compared m n ≡ Less) ⊎ (compared m n ≡ Equal)) passed n
+                (All-from_Contains (λ m. (compared m n ≡ Less) ⊎ (compared m n ≡ Equal)) passed (λ m c. inl (All-contains (λ m. compared m n ≡ Less) passed m later c)))
+                (inr (bundle_cmp_refl (bid_of bids n).goods));
+          }
 
-abbrev Dominated : List (Atom (List ℕ)) → Atom (List ℕ) → Type 0
-Dominated best a = (b : Atom (List ℕ)) × Contains best b × (b.bundle ≡ a.bundle) × (a.price ≤ b.price)
+      -- the bid is on the last bundle
+      on_same : (first : ℕ) → IsFirstOn numbers passed first → compared first n ≡ Equal → IsFirstOn numbers (passed ++ n ∷ []) first
+      on_same first h e = record {
+        own = h.own;
+        there = Contains-append_left passed (n ∷ []) first h.there;
+        last = All-push (λ m. (compared m first ≡ Less) ⊎ (compared m first ≡ Equal)) passed n h.last
+            (inr (ap (bundle_cmp (bid_of bids n).goods) (bundle_cmp_equal _ _ e) ∙ bundle_cmp_refl (bid_of bids n).goods));
+      }
 
-dominated_from : (k : Atom (List ℕ)) (xs : List (Atom (List ℕ))) → AllPairs NotBefore (k ∷ xs) → (x : Atom (List ℕ)) → (k ≡ x) ⊎ Contains xs x
-    → Dominated (dedup_from is_same_bundle k xs) x
-dominated_from k xs s x (inl e) =
-    (k, first_kept k xs, ap (λ (z : Atom (List ℕ)). z.bundle) e, subst (λ (z : Atom (List ℕ)). z.price ≤ k.price) e (le_refl k.price))
-dominated_from k [] s x (inr c) = absurd (Contains-nil x c)
-dominated_from k (y ∷ ys) s x (inr c) =
-    elim (cases_Bool (is_same_bundle y k)) [
-      | inl t ↦
-          subst (λ (zs : List (Atom (List ℕ))). Dominated zs x)
-          (sym (cond-true (is_same_bundle y k) (dedup_from is_same_bundle k ys) (k ∷ dedup_from is_same_bundle y ys) t))
-          (⊎_elim
-          (λ (e : y ≡ x).
-          let same : bundle_cmp y.bundle k.bundle ≡ Equal = equal_from_test y k t in
-          let price : y.price ≤ k.price = not_before_price y k same (AllPairs-head NotBefore k (y ∷ ys) s 0 y (omega arith)) in
-          subst (λ (z : Atom (List ℕ)). Dominated (dedup_from is_same_bundle k ys) z) e (
-            k,
-            first_kept k ys,
-            sym (bundle_cmp_equal y.bundle k.bundle same),
-            price,
-          ))
-          (λ (d : Contains ys x). dominated_from k ys (skip_second NotBefore k y ys s) x (inr d))
-          (Contains-cons_cases y ys x c))
-      | inr t ↦
-          subst (λ (zs : List (Atom (List ℕ))). Dominated zs x)
-          (sym (cond-false (is_same_bundle y k) (dedup_from is_same_bundle k ys) (k ∷ dedup_from is_same_bundle y ys) t))
-          (let r = dominated_from y ys (AllPairs-tail NotBefore k (y ∷ ys) s) x (Contains-cons_cases y ys x c) in
-          (r.0, Contains-tail k (dedup_from is_same_bundle y ys) r.0 r.1, r.2, r.3))
-    ]
+      later_than : (first : ℕ) → IsFirstOn numbers passed first → are_alike bids first n ≡ false → All (λ m. compared m n ≡ Less) passed
+      later_than first h apart =
+          let l : compared first n ≡ Less =
+          ⊎_elim (λ (l : compared first n ≡ Less). l) (λ (e : (compared first n ≡ Equal) × ((bid_of bids n).price ≤ (bid_of bids first).price) × (first ≡ n → ⊥)).
+          absurd (both_ways (are_alike bids first n) apart (ap is_eq e.0)))
+          (before_cases first n (All-contains (λ m. IsNumberBefore bids m n) passed first before h.there)) in
+          All-from_Contains (λ m. compared m n ≡ Less) passed (λ m c. ⊎_elim
+          (λ (k : compared m first ≡ Less). bundle_cmp_total.trans (bid_of bids m).goods (bid_of bids first).goods (bid_of bids n).goods k l)
+          (λ (k : compared m first ≡ Equal). bundle_cmp_total.congr (bid_of bids m).goods (bid_of bids first).goods (bid_of bids n).goods k ∙ l)
+          (All-contains (λ m. (compared m first ≡ Less) ⊎ (compared m first ≡ Equal)) passed m h.last c))
 
-dominated : (xs : List (Atom (List ℕ))) → AllPairs NotBefore xs → (x : Atom (List ℕ)) → Contains xs x → Dominated (dedup is_same_bundle xs) x
-dominated [] s x c = absurd (Contains-nil x c)
-dominated (y ∷ ys) s x c = dominated_from y ys s x (Contains-cons_cases y ys x c)
+      pub first_next : (first : Option ℕ) → IsFirst numbers passed first → IsFirstOn numbers (passed ++ n ∷ []) (first_after bids first n)
+      first_next None h = on_new (subst (λ zs. All (λ m. compared m n ≡ Less) zs) (sym h) (All-nil (λ m. compared m n ≡ Less)))
+      first_next (Some first) h =
+          ⊎_elim (λ (t : are_alike bids first n ≡ true). rw t (on_same first h (equal_from_test _ t)))
+          (λ (t : are_alike bids first n ≡ false). rw t (on_new (later_than first h t)))
+          (cases_Bool (are_alike bids first n))
 
-pairs_from_sorted : (xs : List (Atom (List ℕ))) → IsStrictlySortedBy (λ (a b : Atom (List ℕ)). bundle_cmp a.bundle b.bundle) xs → IsInOrder xs
-unfolding IsStrictlySortedBy
-pairs_from_sorted [] s = AllPairs-nil IsBefore
-pairs_from_sorted (x ∷ xs) s = AllPairs-cons IsBefore x xs (All-from_recursion (IsBefore x) xs s.0) (pairs_from_sorted xs s.1)
+      -- it is the best on the goods of the bid
+      first_is_best : (first : Option ℕ) → IsFirst numbers passed first → first_after bids first n ≡ best_alike bids numbers n
+      first_is_best first h =
+          sym (ap (λ o. unwrap_or o n) (ap (λ (gs : List ℕ). find (λ m. is_eq (bundle_cmp (bid_of bids m).goods gs)) numbers) (sym (first_goods first))
+          ∙ (first_next first h).own))
+        where
+          first_goods : (first : Option ℕ) → (bid_of bids (first_after bids first n)).goods ≡ (bid_of bids n).goods
+          first_goods None = refl
+          first_goods (Some first) =
+              ⊎_elim (λ (t : are_alike bids first n ≡ true). rw t (bundle_cmp_equal _ _ (equal_from_test _ t)))
+              (λ (t : are_alike bids first n ≡ false). rw t refl)
+              (cases_Bool (are_alike bids first n))
 
--- ---- the best bids
+      -- so it says whether the bid is the best there, and what becomes of it if it is not
+      pub best_by_first : (first : Option ℕ) → IsFirst numbers passed first → is_best_by bids (first_after bids first n) n ≡ is_best_of bids numbers n
+      best_by_first first h = ap (λ m. is_best_by bids m n) (first_is_best first h)
 
-pub best_from_sorted : (bids sorted : List (Atom (List ℕ))) → IsPermutation (filter has_price bids) sorted → IsSortedBy is_bid_before sorted
-    → AreBestBids bids (dedup is_same_bundle sorted)
-best_from_sorted bids sorted p up =
-    let back : (b : Atom (List ℕ)) → Contains (dedup is_same_bundle sorted) b → Contains bids b × (has_price b ≡ true) =
-    λ b c. Contains-filter_parts has_price bids b
-    (Contains-permutation sorted (filter has_price bids) b (IsPermutation-sym (filter has_price bids) sorted p)
-    (Contains-from_dedup is_same_bundle sorted b c)) in
-    let pairs : AllPairs NotBefore sorted = λ i j d l m. sorted_far is_bid_before (ranks_by bid_cmp_total (λ (a : Atom (List ℕ)). a)) sorted up i j d
-    (omega arith) m in
-    record {
-      in_order = pairs_from_sorted (dedup is_same_bundle sorted)
-          (IsStrictlySortedBy-dedup on_bundles_total (λ a b. refl) sorted (λ k d l m. bundle_first _ _ (up k d l m)));
-      among = All-from_Contains (Contains bids) (dedup is_same_bundle sorted) (λ b c. (back b c).0);
-      positive = All-from_Contains (λ b. 0 < b.price) (dedup is_same_bundle sorted) (λ b c. ltb-true 0 b.price (back b c).1);
-      dominates = All-from_Contains (λ a. 0 < a.price → Dominated (dedup is_same_bundle sorted) a) bids
-          (λ a c l. dominated sorted pairs a (Contains-permutation (filter has_price bids) sorted a p
-          (Contains-filter has_price bids a c (lt-ltb 0 a.price l))));
-    }
+      pub lesser_by_first : (first : Option ℕ) → IsFirst numbers passed first
+          → lesser_by bids (first_after bids first n) n ≡ lesser_by bids (best_alike bids numbers n) n
+      lesser_by_first first h = ap (λ m. lesser_by bids m n) (first_is_best first h)
 
--- ---- bids of the code, seen by the goods of their sets
+    -- ---- the best bids
 
-module _ {X : Type 0} (seen : X → Atom (List ℕ)) where
-  map-dedup_from : (same : Atom (List ℕ) → Atom (List ℕ) → Bool) (k : X) (xs : List X) → map seen (dedup_from (λ x y. same (seen x) (seen y)) k xs)
-      ≡ dedup_from same (seen k) (map seen xs)
-  map-dedup_from same k [] = refl
-  map-dedup_from same k (x ∷ xs) = search (rules, (map-dedup_from same k xs), (map-dedup_from same x xs))
+    -- the best bid on the goods of one of these
+    best_there : (n : ℕ) → Contains numbers n → (m : ℕ) × (find (λ m. are_alike bids m n) numbers ≡ Some m) × Contains numbers m
+        × ((bid_of bids m).goods ≡ (bid_of bids n).goods) × ((m ≡ n) ⊎ IsNumberBefore bids m n)
+    best_there n c =
+        let r = find_first_of (IsNumberBefore bids) (λ m. are_alike bids m n) numbers order n c (ap is_eq (bundle_cmp_refl (bid_of bids n).goods)) in
+        (r.0, r.1, r.2, bundle_cmp_equal _ _ (equal_from_test _ r.3), r.4)
 
-  map-dedup : (same : Atom (List ℕ) → Atom (List ℕ) → Bool) (xs : List X) → map seen (dedup (λ x y. same (seen x) (seen y)) xs) ≡ dedup same (map seen xs)
-  map-dedup same [] = refl
-  map-dedup same (x ∷ xs) = map-dedup_from same x xs
+    best_same : (m n : ℕ) → Contains numbers n → (bid_of bids m).goods ≡ (bid_of bids n).goods → best_alike bids numbers m ≡ best_alike bids numbers n
+    best_same m n c e =
+        let r = best_there n c in
+        let there = ap (λ (gs : List ℕ). find (λ k. is_eq (bundle_cmp (bid_of bids k).goods gs)) numbers) e ∙ r.1 in
+        ap (λ o. unwrap_or o m) there ∙ sym (ap (λ o. unwrap_or o n) r.1)
 
-  map-sorted : (lt : Atom (List ℕ) → Atom (List ℕ) → Bool) (xs : List X) → IsSortedBy (λ x y. lt (seen x) (seen y)) xs → IsSortedBy lt (map seen xs)
-  map-sorted lt [] up k d l m = absurd (omega arith)
-  map-sorted lt (x ∷ xs) up k d l m =
-      let long = length-map (x ∷ xs) seen in
-      let here : k < length (x ∷ xs) = omega arith in
-      let next : k + 1 < length (x ∷ xs) = omega arith in
-      subst (λ (a : Atom (List ℕ)). lt a (get_or (map seen (x ∷ xs)) k d) ≡ false) (sym (get_or-map seen (x ∷ xs) (k + 1) x d next))
-      (subst (λ (b : Atom (List ℕ)). lt (seen (get_or (x ∷ xs) (k + 1) x)) b ≡ false) (sym (get_or-map seen (x ∷ xs) k x d here)) (up k x l next))
+    abbrev IsBestNumber : ℕ → Type 0
+    IsBestNumber n = Contains numbers n × (0 < (bid_of bids n).price) × (best_alike bids numbers n ≡ n)
 
-  pub best_from_steps : (bids priced sorted best : List X)
-      → ((later earlier : X) → IsInside (seen later).bundle (seen earlier).bundle → (bundle_cmp (seen later).bundle (seen earlier).bundle ≡ Less)
-      ⊎ ((seen later).bundle ≡ (seen earlier).bundle))
-      → priced ≡ filter (λ x. has_price (seen x)) bids → IsPermutation priced sorted → IsSortedBy (λ x y. is_bid_before (seen x) (seen y)) sorted
-      → best ≡ dedup (λ x y. is_in_bundle (seen x) (seen y)) sorted → AreBestBids (map seen bids) (map seen best)
-  best_from_steps bids priced sorted best ordered e p up d =
-      let moved : IsPermutation (filter has_price (map seen bids)) (map seen sorted) =
-      subst (λ (zs : List (Atom (List ℕ))). IsPermutation zs (map seen sorted)) (ap (map seen) e ∙ map-filter seen has_price bids)
-      (IsPermutation-map seen priced sorted p) in
-      let pairs : AllPairs (λ earlier later. is_bid_before (seen later) (seen earlier) ≡ false) sorted =
-      λ i j z l m. sorted_far (λ x y. is_bid_before (seen x) (seen y)) (ranks_by bid_cmp_total seen) sorted up i j z (omega arith) m in
-      let agree : AllPairs (Agree is_in_bundle is_same_bundle) (map seen sorted) =
-      AllPairs-map (λ earlier later. is_bid_before (seen later) (seen earlier) ≡ false) (Agree is_in_bundle is_same_bundle) seen
-      (λ earlier later n. inside_is_same (seen earlier) (seen later) (ordered later earlier) n) sorted pairs in
-      subst (λ (zs : List (Atom (List ℕ))). AreBestBids (map seen bids) zs)
-      (sym (ap (map seen) d ∙ map-dedup is_in_bundle sorted ∙ dedup_agree is_in_bundle is_same_bundle (map seen sorted) agree))
-      (best_from_sorted (map seen bids) (map seen sorted) moved (map-sorted is_bid_before sorted up))
+    best_parts : (n : ℕ) → Contains (filter (is_best_of bids numbers) numbers) n → IsBestNumber n
+    best_parts n c =
+        let t = Contains-filter_parts (is_best_of bids numbers) numbers n c in
+        let both = and_parts (ltb 0 (bid_of bids n).price) (eqb (best_alike bids numbers n) n) t.1 in
+        (t.0, ltb-true 0 (bid_of bids n).price both.0, eqb-true (best_alike bids numbers n) n both.1)
+
+    before_strictly : (m n : ℕ) → IsNumberBefore bids m n → IsBestNumber m → IsBestNumber n → compared m n ≡ Less
+    before_strictly m n h a b =
+        ⊎_elim (λ (l : compared m n ≡ Less). l)
+        (λ (e : (compared m n ≡ Equal) × ((bid_of bids n).price ≤ (bid_of bids m).price) × (m ≡ n → ⊥)).
+        absurd (e.2 (sym a.2 ∙ best_same m n b.0 (bundle_cmp_equal _ _ e.0) ∙ b.2)))
+        (before_cases m n h)
+
+    abbrev Dominated : ℕ → Type 0
+    Dominated n = 0 < (bid_of bids n).price → (b : Atom (List ℕ)) × Contains (best_of bids numbers numbers) b × (b.bundle ≡ (bid_of bids n).goods)
+        × ((bid_of bids n).price ≤ b.price)
+
+    dominated : (n : ℕ) → Contains numbers n → Dominated n
+    dominated n c l =
+        let r = best_there n c in
+        let price : (bid_of bids n).price ≤ (bid_of bids r.0).price =
+        ⊎_elim (λ (e : r.0 ≡ n). let p : (bid_of bids r.0).price ≡ (bid_of bids n).price = ap (λ k. (bid_of bids k).price) e in omega arith)
+        (λ (b : IsNumberBefore bids r.0 n). ⊎_elim
+        (λ (less : compared r.0 n ≡ Less). absurd (let same = ap (λ (gs : List ℕ). bundle_cmp gs (bid_of bids n).goods) r.3
+        ∙ bundle_cmp_refl (bid_of bids n).goods in cc))
+        (λ (e : (compared r.0 n ≡ Equal) × ((bid_of bids n).price ≤ (bid_of bids r.0).price) × (r.0 ≡ n → ⊥)). e.1)
+        (before_cases r.0 n b)) r.4 in
+        let same = best_same r.0 n c r.3 ∙ ap (λ o. unwrap_or o n) r.1 in
+        let best = and_from (ltb 0 (bid_of bids r.0).price) (eqb (best_alike bids numbers r.0) r.0) (lt-ltb 0 (bid_of bids r.0).price (omega arith))
+        (eq-eqb (best_alike bids numbers r.0) r.0 same) in
+        (atom_by_number bids r.0, Contains-map (atom_by_number bids) (filter (is_best_of bids numbers) numbers) r.0
+        (Contains-filter (is_best_of bids numbers) numbers r.0 r.2 best), r.3, price)
+
+    pub best_are : AreBestBids (atoms_by_number bids numbers) (best_of bids numbers numbers)
+    best_are =
+        let given = atoms_by_number bids numbers in
+        let kept = filter (is_best_of bids numbers) numbers in
+        let all : All IsBestNumber kept = All-from_Contains IsBestNumber kept best_parts in
+        let pairs : AllPairs (IsNumberBefore bids) kept = AllPairs-filter (IsNumberBefore bids) (is_best_of bids numbers) numbers order in
+        record {
+          in_order = AllPairs-map (λ m n. compared m n ≡ Less) IsBefore (atom_by_number bids) (λ m n l. l) kept
+              (λ i j d l m. before_strictly _ _ (pairs i j d l m) (all i d (omega arith)) (all j d m));
+          among = All-from_Contains (Contains given) (best_of bids numbers numbers) (λ a c.
+              let r = Contains-unmap (atom_by_number bids) kept a c in
+              subst (Contains given) (sym r.2) (Contains-map (atom_by_number bids) numbers r.0 (best_parts r.0 r.1).0));
+          positive = All-from_Contains (λ b. 0 < b.price) (best_of bids numbers numbers) (λ a c.
+              let r = Contains-unmap (atom_by_number bids) kept a c in
+              subst (λ (z : Atom (List ℕ)). 0 < z.price) (sym r.2) (best_parts r.0 r.1).1);
+          dominates = All-from_Contains (λ a. 0 < a.price → (b : Atom (List ℕ)) × Contains (best_of bids numbers numbers) b × (b.bundle ≡ a.bundle)
+              × (a.price ≤ b.price)) given (λ a c.
+              let r = Contains-unmap (atom_by_number bids) numbers a c in
+              subst (λ (z : Atom (List ℕ)). 0 < z.price → (b : Atom (List ℕ)) × Contains (best_of bids numbers numbers) b × (b.bundle ≡ z.bundle)
+              × (z.price ≤ b.price)) (sym r.2) (dominated r.0 r.1));
+        }

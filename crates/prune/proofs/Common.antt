@@ -9,13 +9,14 @@ pub use Rattle.goods_set.specs.Lemmas.Sizes.{IsNextGood, good_from-Some, good_fr
 pub use Rattle.goods_set.specs.Lemmas.Sorted.{same_from_contains}
 pub use Rattle.goods_set.specs.Lemmas.Words.{range_has, range_rises}
 pub use Rattle.goods_set.specs.Orders.{bundle_cmp}
-pub use Rattle.prune.specs.Fates.{best_bids, indices_below, plain_fate, ordered, or_fate, xor_fate}
+pub use Rattle.prune.specs.Fates.{indices_below, ordered, or_fate, xor_fate}
 pub use Rattle.prune.specs.Faults.{IfStepLimit}
-pub use Rattle.prune.specs.InOrder.{IsBefore, IsInOrder}
-pub use Rattle.prune.specs.Internal.BestBids.{bid_cmp, AreBestBids}
+pub use Rattle.prune.specs.InOrder.{bid_cmp, IsBefore, IsInOrder}
+pub use Rattle.prune.specs.Internal.BestBids.{AreBestBids}
 pub use Rattle.prune.specs.Internal.Fingerprints.{AreMarks, mark_of}
 pub use Rattle.prune.specs.Internal.Listings.{indices_at, dominates, dominates_at, first_dominating_index, listed_at, AreListed, MayBePosting}
-pub use Rattle.prune.specs.Internal.Listings.{IsListed, IsPosting, IsBehind, ComesNext, lists_of, indices_of, IsIndexOf}
+pub use Rattle.prune.specs.Internal.Kept.{kept_atoms}
+pub use Rattle.prune.specs.Internal.Listings.{IsListed, IsPosting, lists_of, indices_of, IsIndexOf}
 pub use Rattle.prune.specs.Internal.Reaching.{found_inside, steps_for, IsFinderOf}
 pub use Rattle.prune.specs.Lemmas.Fates.{or_fate-push, xor_fate-push, atoms_below-push, or_fate-reaches, xor_fate-reaches}
 pub use Rattle.prune.specs.Lemmas.InOrder.{before_not_inside, same_bundle_same_atom}
@@ -53,7 +54,7 @@ pub use Rattle.std.proofs.lemmas.List.{drop_all, map-set, get_or_read, length-ta
 pub use Rattle.std.proofs.lemmas.List.Edits.{swap_is}
 pub use Rattle.std.proofs.lemmas.List.Elements.{All-head, All-tail, All-from_recursion, All-contains, filter_more, Contains-get_or, All-append, All-weaker}
 pub use Rattle.std.proofs.lemmas.List.Elements.{Contains-append_left, Contains-push, Contains-append_right, Contains-push_cases, All-push, All-nil, All-cons}
-pub use Rattle.std.proofs.lemmas.List.Elements.{filter_passes}
+pub use Rattle.std.proofs.lemmas.List.Elements.{filter_passes, All-filter}
 pub use Rattle.std.proofs.lemmas.List.FromFn.{fill_by_all}
 pub use Rattle.std.proofs.lemmas.List.Kept.{IsStrictlySortedBy-dedup, Contains-from_dedup, AllPairs-from_increasing, AllPairs-filter}
 pub use Rattle.std.proofs.lemmas.List.Kept.{IsStrictlySortedBy-filter}
@@ -81,7 +82,6 @@ pub use Rattle.valuation.specs.Auctions.{IsAtom}
 pub use Rattle.valuation.specs.Examples.{atom}
 pub use Rattle.valuation.specs.Lemmas.Inside.{atoms_at-indices_inside, indices_inside-within}
 pub use Rattle.valuation.specs.Lemmas.Atoms.{length-atoms_of, get_or-atoms_of}
-pub use Rattle.valuation.specs.Lemmas.Listed.{MaySearch-more}
 pub use Rattle.valuation.specs.Lemmas.Lists.{Contains-cons_cases, AllPairs-nil, AllPairs-cons, AllPairs-head, AllPairs-tail, AllPairs-map, AllPairs-append}
 pub use Rattle.valuation.specs.Lemmas.Lists.{Contains-map, Contains-unmap, map-filter}
 pub use Rattle.valuation.specs.Lemmas.OrValues.{or_value-price, or_value-filter_le, or_value-nil, or_value-rest, or_value-least, or_value-taken}

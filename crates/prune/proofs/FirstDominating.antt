@@ -2,9 +2,12 @@
 use Rattle.prune.proofs.Common.{rules, ◌≡◌, ℕ, ◌+◌, ◌<◌, ◌≤◌, Bool, true, false, leb, List, [], length, get_or, take, refl, sym, ap, ◌∙◌, arith, common_steps}
 use Rattle.prune.proofs.Common.{Some, None, All, AllPairs, Contains, is_some, list_any, range_with_len, cases_lt, cases_eq, both_ways, and_parts}
 use Rattle.prune.proofs.Common.{false_from_ne_true, get_or-take, get_or_default, length-take, take-map, All-contains, fill_by_all, IsRising, has_good}
-use Rattle.prune.proofs.Common.{good_from, IsNextGood, good_from-Some, Atom, atoms_of, Posting, indices_at, is_inside_at, dominates, dominates_at}
+use Rattle.prune.proofs.Common.{good_from, IsNextGood, good_from-Some, Atom, AreMarks, subst, Posting, indices_at, is_inside_at, dominates, dominates_at}
 use Rattle.prune.proofs.Common.{first_dominating_index, listed_at, AreListed, atom_at, MayBePosting, is_some-find_map, first_in_range}
-use Rattle.prune.proofs.Common.{none_in_range}
+use Rattle.prune.proofs.Common.{none_in_range, in_range, IfSome, Option}
+use Rattle.prune.specs.Lemmas.Lists.{found_some}
+use Rattle.bid_file.specs.Files.{PlainBid}
+use Rattle.valuation.specs.Numbers.{atoms_by_number}
 use Rattle.prune.proofs.ListedAtoms.{listed_before, postings_right}
 
 -- there is one exactly if an atom dominates the bid
@@ -13,6 +16,14 @@ pub is_some-first_dominating : (atoms : List (Atom (List ℕ))) (bundle : List �
 is_some-first_dominating atoms bundle price =
     is_some-find_map (dominates bundle price) (atom_at atoms) (range_with_len 0 (length atoms))
     ∙ ap (list_any (dominates bundle price)) (sym (fill_by_all (atom_at atoms) atoms (length atoms) (record { bundle = []; price = 0 }) refl (λ k l. refl)))
+
+pub dominating_within : (atoms : List (Atom (List ℕ))) (bundle : List ℕ) (price index : ℕ) → first_dominating_index atoms bundle price ≡ Some index
+    → index < length atoms
+dominating_within atoms bundle price index e =
+    let test = dominates_at atoms bundle price in
+    let found = subst (λ (o : Option ℕ). IfSome o (λ k. Contains (range_with_len 0 (length atoms)) k × (test k ≡ true))) e
+    (found_some test (range_with_len 0 (length atoms))) in
+    in_range (length atoms) index found.0
 
 -- ---- among indices that rise
 
@@ -67,9 +78,15 @@ module _ (lists : List (List Posting)) (atoms : List (Atom (List ℕ))) (bundle 
 
 -- ---- what is listed of the first so many atoms
 
-pub postings_before : {S : Type 0} (goods : S → List ℕ) (lists : List (List Posting)) (atoms : List (Atom S)) (good first : ℕ)
-    (postings : List Posting) → AreListed lists (atoms_of goods atoms) → postings ≡ listed_at lists good
-    → All (MayBePosting (atoms_of goods (take first atoms))) postings
-postings_before goods lists atoms good first postings a e k d l within =
-    let right = postings_right lists (atoms_of goods atoms) good postings a e k d l in
-    grind (arith, common_steps, length-take, take-map, get_or-take, right)
+pub postings_before : (bids : List PlainBid) (numbers : List ℕ) (lists : List (List Posting)) (good first : ℕ) (postings : List Posting)
+    → AreListed lists (atoms_by_number bids numbers) → postings ≡ listed_at lists good
+    → All (MayBePosting (atoms_by_number bids (take first numbers))) postings
+postings_before bids numbers lists good first postings a e k d l within =
+    let right = postings_right lists (atoms_by_number bids numbers) good postings a e k d l in
+    let same : atom_at (atoms_by_number bids (take first numbers)) (get_or postings k d).index ≡ atom_at (atoms_by_number bids numbers) (get_or postings k d).index =
+    grind (arith, common_steps, length-take, take-map, get_or-take, within) in
+    record {
+      within = within;
+      rising = subst (λ (b : Atom (List ℕ)). IsRising b.bundle) (sym same) right.rising;
+      marks = subst (λ (b : Atom (List ℕ)). AreMarks b.bundle (get_or postings k d).fingerprint) (sym same) right.marks;
+    }

@@ -8,8 +8,10 @@ pub mod ListedAtoms
 pub mod WrittenPostings
 pub mod Results
 pub mod Refusals
-pub mod Prefixes
 pub mod PruningLoop
+pub mod HeldFates
+pub mod PackedAtoms
 pub mod NotedFates
 pub mod WorkedPostings
-pub mod SearchedIndices
+pub mod SearchedNumbers
+pub mod SortedAtoms

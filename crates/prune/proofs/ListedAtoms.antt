@@ -201,8 +201,8 @@ module _ (lists more : List (List Posting)) (atoms : List (Atom (List ℕ))) (go
     here = subst (λ n. Contains (indices_at more good) n) index (subst (λ (zs : List Posting). Contains (map index_of zs) new.index) (sym there)
         (subst (λ (zs : List ℕ). Contains zs new.index) (sym (map_push index_of (listed_at lists good) new)) (Contains-push (indices_at lists good) new.index)))
 
-    pub AreListed-more : (a : Atom (List ℕ)) → has_good a.bundle good ≡ true → AreMarks a.bundle new.fingerprint → AreListed more (atoms ++ a ∷ [])
-    AreListed-more a has marks =
+    pub AreListed-more : (a : Atom (List ℕ)) → has_good a.bundle good ≡ true → IsRising a.bundle → AreMarks a.bundle new.fingerprint → AreListed more (atoms ++ a ∷ [])
+    AreListed-more a has rising marks =
         let long = length_push atoms a in
         record {
           each = λ spot l.
@@ -222,10 +222,12 @@ module _ (lists more : List (List Posting)) (atoms : List (Atom (List ℕ))) (go
               let l : posting.index < length atoms = r.within in
               record {
                 within = omega (arith, l, long);
+                rising = subst (λ (b : Atom (List ℕ)). IsRising b.bundle) (sym (before posting.index l)) r.rising;
                 marks = subst (λ (b : Atom (List ℕ)). AreMarks b.bundle posting.fingerprint) (sym (before posting.index l)) r.marks;
               })
               (λ (k : (g ≡ good) × (new ≡ posting)). subst (λ (z : Posting). IsPosting (atoms ++ a ∷ []) z) k.1 (record {
                 within = omega (arith, index, long);
+                rising = subst (λ (b : Atom (List ℕ)). IsRising b.bundle) (sym (ap (atom_at (atoms ++ a ∷ [])) index ∙ last)) rising;
                 marks = subst (λ (b : Atom (List ℕ)). AreMarks b.bundle new.fingerprint) (sym (ap (atom_at (atoms ++ a ∷ [])) index ∙ last)) marks;
               }))
               (posting_cases g posting c);

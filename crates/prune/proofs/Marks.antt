@@ -3,17 +3,14 @@ use Rattle.prune.proofs.Common.{rules, ◌≡◌, ◌≢◌, ℕ, ◌+◌, ◌*�
 use Rattle.prune.proofs.Common.{common_steps, [], ◌∷◌, ◌++◌, length, get_or, take, refl, sym, ap, ◌∙◌, subst, arith, bit_at, bit_not, trailing_zeros, w128}
 use Rattle.prune.proofs.Common.{bit_and, bit_or, cases_eq, eq-eqb, both_ways, take_more, and_le_l, bit_at-lt, bit_at_and, bit_at_not, bit_at-zero}
 use Rattle.prune.proofs.Common.{bit_at-trailing_zeros, bit_at_set_same, bit_at_set_other, IsInside, has_good, AreMarks, mark_of, has_head, has_tail, has_cases}
-use Rattle.prune.proofs.Common.{inside_at}
+use Rattle.prune.proofs.Common.{inside_at, cases_Bool, cases_lt, ltb-true, false_from_ne_true, is_inside}
+use Rattle.goods_set.specs.Lemmas.Members.{inside_from}
+use Rattle.std.proofs.lemmas.Nat.Bits.{bit_at_above}
 
 -- ---- the bit of a good
 
-one_of : (b c : Bool) (x y z : ℕ) → x < 128 → y < 128 → z < 128 → cond b x (cond c y z) < 128
-one_of true c x y z l m n = l
-one_of false true x y z l m n = m
-one_of false false x y z l m n = n
-
 pub mark_below : (good : ℕ) → mark_of good < 128
-mark_below good = search (rules, one_of)
+mark_below good = search (rules, cases_Bool, ltb-true)
 
 -- ---- one good more
 
@@ -65,22 +62,36 @@ marks_more bits mark xs i l e old = grind (arith, common_steps, take_more, one_m
 
 -- ---- the test `marks & !others == 0`
 
-pub may_be_subset : (bits others : ℕ) (xs ys : List ℕ) → bits < 2 ^ 128 → others < 2 ^ 128 → AreMarks xs bits → AreMarks ys others → IsInside xs ys
-    → eqb (bit_and bits (bit_not w128 others)) 0 ≡ true
-may_be_subset bits others xs ys fits fit is are inside =
-    ⊎_elim (λ (none : rest ≡ 0). eq-eqb rest 0 none) (λ (some : rest ≡ 0 → ⊥). absurd (clash some)) (cases_eq rest 0)
-  where
-    rest : ℕ
-    rest = bit_and bits (bit_not w128 others)
+module _ (bits others : ℕ) (xs ys : List ℕ) (fits : bits < 2 ^ 128) (fit : others < 2 ^ 128) (is : AreMarks xs bits) (are : AreMarks ys others) where
+  abbrev rest : ℕ
+  rest = bit_and bits (bit_not w128 others)
 
-    clash : (rest ≡ 0 → ⊥) → ⊥
-    clash some =
-        let small : rest ≤ bits = and_le_l bits (bit_not w128 others) in
-        let k : ℕ = trailing_zeros w128 rest in
-        let t = bit_at-trailing_zeros w128 rest (omega arith) (omega arith) in
-        let both : min (bit_at bits k) (bit_at (bit_not w128 others) k) ≡ 1 = sym (bit_at_and bits (bit_not w128 others) k) ∙ t.1 in
-        let turned : bit_at (bit_not w128 others) k ≡ 1 - bit_at others k = bit_at_not w128 others k fit t.0 in
-        let own : bit_at bits k < 2 = bit_at-lt bits k in
-        let r = is.only k (omega arith) in
-        let theirs : bit_at others k ≡ 1 = ap (bit_at others) (sym r.2) ∙ are.each r.0 (inside_at xs ys r.0 inside r.1) in
-        omega arith
+  -- a mark that is missing says that a good is
+  pub not_inside_by_marks : (rest ≡ 0 → ⊥) → is_inside xs ys ≡ false
+  not_inside_by_marks some = false_from_ne_true (is_inside xs ys) (λ inside.
+      let small : rest ≤ bits = and_le_l bits (bit_not w128 others) in
+      let k : ℕ = trailing_zeros w128 rest in
+      let t = bit_at-trailing_zeros w128 rest (omega arith) (omega arith) in
+      let both : min (bit_at bits k) (bit_at (bit_not w128 others) k) ≡ 1 = sym (bit_at_and bits (bit_not w128 others) k) ∙ t.1 in
+      let turned : bit_at (bit_not w128 others) k ≡ 1 - bit_at others k = bit_at_not w128 others k fit t.0 in
+      let own : bit_at bits k < 2 = bit_at-lt bits k in
+      let r = is.only k (omega arith) in
+      let theirs : bit_at others k ≡ 1 = ap (bit_at others) (sym r.2) ∙ are.each r.0 (inside_at xs ys r.0 inside r.1) in
+      omega arith)
+
+  -- a good whose mark is below 64 is its own mark
+  own_mark : (good : ℕ) → mark_of good < 64 → mark_of good ≡ good
+  own_mark good l = search (rules, cases_Bool)
+
+  -- if none is, and all goods have marks of their own, they are among the others
+  pub inside_by_marks : rest ≡ 0 → bits < 2 ^ 64 → is_inside xs ys ≡ true
+  inside_by_marks none small = inside_from xs ys (λ g h.
+      let k : ℕ = mark_of g in
+      let own : bit_at bits k ≡ 1 = is.each g h in
+      let low : k < 64 = ⊎_elim (λ (l : k < 64). l) (λ (l : 64 ≤ k). let zero = bit_at_above bits 64 k small l in absurd (omega arith)) (cases_lt k 64) in
+      let both : min (bit_at bits k) (bit_at (bit_not w128 others) k) ≡ 0 =
+      sym (bit_at_and bits (bit_not w128 others) k) ∙ ap (λ n. bit_at n k) none ∙ bit_at-zero k in
+      let turned : bit_at (bit_not w128 others) k ≡ 1 - bit_at others k = bit_at_not w128 others k fit (omega arith) in
+      let r = are.only k (omega arith) in
+      let same : r.0 ≡ g = sym (own_mark r.0 (omega (arith, r.2))) ∙ r.2 ∙ own_mark g low in
+      subst (λ n. has_good ys n ≡ true) same r.1)

@@ -2,7 +2,7 @@
 -- its price. The idea: a later bid is below no earlier one, so what was decided stays right, and a pruning that is broken off
 -- could be completed without a change below the bundles that it saw.
 use Rattle.prune.proofs.Common.{rules, ◌≡◌, ℕ, ◌<◌, ◌≤◌, Bool, false, not, ⊎_elim, List, [], ◌∷◌, ◌++◌, refl, sym, ap, ◌∙◌, subst, le_trans, append_assoc, All}
-use Rattle.prune.proofs.Common.{Contains, filter, cases_lt, and_left, and_right, false_from_ne_true, not_from_true, All-nil, All-cons, All-head, All-tail}
+use Rattle.prune.proofs.Common.{AllPairs, Contains, filter, cases_lt, and_left, and_right, false_from_ne_true, not_from_true, All-nil, All-cons, All-head, All-tail}
 use Rattle.prune.proofs.Common.{All-push, All-contains, All-weaker, Contains-append_left, Contains-push, Contains-append_right, all_pairs_push, IsRising}
 use Rattle.prune.proofs.Common.{is_inside, IsInside, inside_refl, Atom, AllPairs-nil, AllPairs-head, AllPairs-tail, is_below, atoms_below, atoms_below-push}
 use Rattle.prune.proofs.Common.{All-from_Contains, Contains-head, IsBefore, IsInOrder, before_not_inside}
@@ -20,15 +20,14 @@ pub rising_prefix : (prefix back : List (Atom (List ℕ))) → All HasRisingBund
 rising_prefix prefix back h =
     All-from_Contains HasRisingBundle prefix (λ a c. All-contains HasRisingBundle (prefix ++ back) a h (Contains-append_left prefix back a c))
 
--- in a list in order the atoms before one are less, and those behind it are not
-pub before_next : (prefix : List (Atom (List ℕ))) (x : Atom (List ℕ)) (back : List (Atom (List ℕ))) → IsInOrder (prefix ++ x ∷ back)
-    → All (λ a. IsBefore a x) prefix
-before_next [] x back order = All-nil (λ a. IsBefore a x)
-before_next (y ∷ prefix) x back order =
-    All-cons (λ a. IsBefore a x) y prefix
-    (All-contains (IsBefore y) (prefix ++ x ∷ back) x (AllPairs-head IsBefore y (prefix ++ x ∷ back) order)
+-- in a list in order the elements before one are less, and those behind it are not
+pub before_next : {X : Type 0} (R : X → X → Type 0) (prefix : List X) (x : X) (back : List X) → AllPairs R (prefix ++ x ∷ back) → All (λ a. R a x) prefix
+before_next R [] x back order = All-nil (λ a. R a x)
+before_next R (y ∷ prefix) x back order =
+    All-cons (λ a. R a x) y prefix
+    (All-contains (R y) (prefix ++ x ∷ back) x (AllPairs-head R y (prefix ++ x ∷ back) order)
     (Contains-append_right prefix (x ∷ back) x (Contains-head x back)))
-    (before_next prefix x back (AllPairs-tail IsBefore y (prefix ++ x ∷ back) order))
+    (before_next R prefix x back (AllPairs-tail R y (prefix ++ x ∷ back) order))
 
 pub behind_next : (prefix : List (Atom (List ℕ))) (x : Atom (List ℕ)) (back : List (Atom (List ℕ))) → IsInOrder (prefix ++ x ∷ back) → All (IsBefore x) back
 behind_next [] x back order = AllPairs-head IsBefore x back order
@@ -120,7 +119,7 @@ module _ (value : List (Atom (List ℕ)) → List ℕ → ℕ)
         (λ (l : value (atoms_below kept x.bundle) x.bundle < x.price).
         let first : All HasRisingBundle done = rising_prefix done (x ∷ rest) rising in
         let r : HasRisingBundle x = All-contains HasRisingBundle (done ++ x ∷ rest) x rising (Contains-append_right done (x ∷ rest) x (Contains-head x rest)) in
-        let before : All (λ a. IsBefore a x) done = before_next done x rest order in
+        let before : All (λ a. IsBefore a x) done = before_next IsBefore done x rest order in
         let c = completion rest (done ++ x ∷ []) (kept ++ x ∷ []) order' rising' (IsKept-missed done kept x first r before k l) in (
           c.0,
           record {

@@ -4,7 +4,7 @@ use Rattle.prune.proofs.Common.{rules, ◌≡◌, ℕ, ◌<◌, ◌≤◌, Bool,
 use Rattle.prune.proofs.Common.{Contains, filter, leb-true, leb-false, All-contains, All-weaker, Contains-append_left, Contains-append_right, IsBundle}
 use Rattle.prune.proofs.Common.{is_inside, IsInside, without, inside_refl, Atom, xor_value, or_value, or_value-nil, or_value-rest, or_value-least}
 use Rattle.prune.proofs.Common.{or_value-taken, or_value-price, or_value-filter_le, xor_points, or_points, IsOnBundle, is_below, atoms_below, greatest_price}
-use Rattle.prune.proofs.Common.{zero_or_more, Contains-head, Contains-filter_parts, All-from_Contains, filter_same_on, IsAtom, ComesNext, IsBehind, IsBefore}
+use Rattle.prune.proofs.Common.{zero_or_more, Contains-head, Contains-filter_parts, All-from_Contains, filter_same_on, IsAtom, IsBefore}
 use Rattle.prune.proofs.Common.{IsInOrder, same_bundle_same_atom, xor_value-member, xor_value-bound, xor_value-dominated, or_value-dominated}
 use Rattle.prune.proofs.Common.{xor_kept_are_points, xor_points_same, or_kept_are_points, or_points_same, greatest_price-member, greatest_price-reached}
 use Rattle.prune.proofs.Common.{AreBestBids, ArePoints, on_bundles, just_bundles}
@@ -39,13 +39,7 @@ pub record IsTurn (bids done : List (Atom (List ℕ))) (x : Atom (List ℕ)) (re
   pub rising : All HasRisingBundle (done ++ x ∷ rest)
 
 pub turn_before : (bids done : List (Atom (List ℕ))) (x : Atom (List ℕ)) (rest : List (Atom (List ℕ))) → IsTurn bids done x rest → All (λ a. IsBefore a x) done
-turn_before bids done x rest t = before_next done x rest t.best.in_order
-
--- the bid comes behind all kept ones
-pub turn_behind : (bids done : List (Atom (List ℕ))) (x : Atom (List ℕ)) (rest kept : List (Atom (List ℕ))) → IsTurn bids done x rest → All (Contains done) kept
-    → IsBehind x.bundle kept
-turn_behind bids done x rest kept t among =
-    All-weaker (Contains done) (λ a. IsBefore a x) (λ a c. All-contains (λ a. IsBefore a x) done a (turn_before bids done x rest t) c) kept among
+turn_before bids done x rest t = before_next IsBefore done x rest t.best.in_order
 
 pub turn_rising : (bids done : List (Atom (List ℕ))) (x : Atom (List ℕ)) (rest : List (Atom (List ℕ))) → IsTurn bids done x rest → HasRisingBundle x
 turn_rising bids done x rest t = All-contains HasRisingBundle (done ++ x ∷ rest) x t.rising (Contains-append_right done (x ∷ rest) x (Contains-head x rest))
@@ -70,19 +64,6 @@ turn_inside bids done x rest kept t among =
 pub turn_below : (bids done : List (Atom (List ℕ))) (x : Atom (List ℕ)) (rest kept : List (Atom (List ℕ))) → IsTurn bids done x rest → All (Contains done) kept
     → filter (λ a. is_inside a.bundle x.bundle) kept ≡ atoms_below kept x.bundle
 turn_below bids done x rest kept t among = search (rules, filter_same_on, turn_inside)
-
--- the bid comes next
-pub turn_next : (n : ℕ) (bids done : List (Atom (List ℕ))) (x : Atom (List ℕ)) (rest kept : List (Atom (List ℕ))) → IsTurn bids done x rest
-    → All (IsAtom n) bids → IsInOrder kept → All (Contains done) kept → ComesNext kept x.bundle
-turn_next n bids done x rest kept t are order among = record {
-  in_order = order;
-  behind = turn_behind bids done x rest kept t among;
-  some = (All-contains (IsAtom n) bids x are (turn_among bids done x rest t)).nonempty;
-  each = All-weaker (Contains done) (λ a. 0 < length a.bundle)
-      (λ a c. (All-contains (IsAtom n) bids a are (All-contains (Contains bids) (done ++ x ∷ rest) a t.best.among
-      (Contains-append_left done (x ∷ rest) a c))).nonempty)
-      kept among;
-}
 
 pub xor_reached : (bids done : List (Atom (List ℕ))) (x : Atom (List ℕ)) (rest kept : List (Atom (List ℕ))) → IsTurn bids done x rest → IsXorKept done kept
     → true ≡ leb x.price (xor_value (filter (λ a. is_inside a.bundle x.bundle) kept) x.bundle) → IsXorKept (done ++ x ∷ []) kept

@@ -1,8 +1,7 @@
 -- What becomes of a bidder's best bids: one on each bundle with a price above 0, in order, at the greatest price there.
 -- A best bid is kept as a point, or the points below its bundle reach its price. Points are named by their indices
 -- among the bidder's points, which are in order.
-use Rattle.std.specs.Prelude.{ℕ, nat_le, if◌then◌else◌, Option, Some, None, List, map, length, reverse}
-use Rattle.std.specs.Global.{Vec}
+use Rattle.std.specs.Prelude.{ℕ, nat_le, if◌then◌else◌, Option, Some, None, List, length, reverse}
 use Rattle.std.specs.List.{filter, find, range_with_len}
 use Rattle.valuation.specs.declared.atom.Atom.{Atom}
 use Rattle.valuation.specs.declared.search.kind.SearchKind.{SearchKind}
@@ -10,13 +9,7 @@ use Rattle.valuation.specs.declared.search.kind.SearchKind.TheVariants.{Plain, B
 use Rattle.valuation.specs.Packings.{atom_at, numbers_at}
 use Rattle.valuation.specs.SearchSteps.{found_indices}
 use Rattle.valuation.specs.Values.{or_value}
-use Rattle.prune.specs.Points.{or_points, xor_points}
-use Rattle.prune.specs.SearchSteps.{atoms_below, greatest_price, in_search_order, is_below, searched_bundles}
-
--- the bundles with a price above 0, in order, each with its greatest price
-abbrev pub best_bids : ℕ → List (Atom (List ℕ)) → List (Atom (List ℕ))
-best_bids goods atoms = map (λ bundle. record { bundle = bundle; price = greatest_price atoms bundle })
-    (searched_bundles goods atoms)
+use Rattle.prune.specs.SearchSteps.{atoms_below, in_search_order, is_below}
 
 -- the indices of the points on proper subsets of a bundle
 abbrev pub indices_below : List (Atom (List ℕ)) → List ℕ → List ℕ
@@ -43,15 +36,6 @@ or_fate kind points bid =
     if nat_le bid.price (or_value (atoms_below points bid.bundle) bid.bundle)
     then Some (found_points kind points bid.bundle bid.price) else None
 
--- the fates of all best OR bids
-abbrev pub or_fates : SearchKind → ℕ → List (Atom (List ℕ)) → List (Option (List ℕ))
-or_fates kind goods atoms = map (or_fate kind (or_points goods atoms)) (best_bids goods atoms)
-
--- a fate of the code as a value
-abbrev pub plain_fate : Option (Vec ℕ) → Option (List ℕ)
-plain_fate None = None
-plain_fate (Some indices) = Some indices.items
-
 -- ---- an XOR bidder
 
 -- the first point for which a best XOR bid is dropped; none if it is kept
@@ -59,7 +43,3 @@ plain_fate (Some indices) = Some indices.items
 -- This is the first one below its bundle whose price is at least its own.
 unfoldable pub xor_fate : List (Atom (List ℕ)) → Atom (List ℕ) → Option ℕ
 xor_fate points bid = find (λ index. nat_le bid.price (atom_at points index).price) (indices_below points bid.bundle)
-
--- the fates of all best XOR bids
-abbrev pub xor_fates : ℕ → List (Atom (List ℕ)) → List (Option ℕ)
-xor_fates goods atoms = map (xor_fate (xor_points goods atoms)) (best_bids goods atoms)

@@ -2,5 +2,7 @@
 -- them.
 pub mod BestBids
 pub mod Fingerprints
+pub mod HeldFates
+pub mod Kept
 pub mod Listings
 pub mod Reaching

@@ -5,6 +5,7 @@ pub mod KeptBids
 pub mod Lists
 pub mod OnBundles
 pub mod PackingIndices
+pub mod Permuted
 pub mod Points
 pub mod Ranges
 pub mod Refusals

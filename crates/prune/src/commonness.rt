@@ -1,14 +1,12 @@
-//! How common each good is among atoms. This is only for speed: it decides at which good an atom is listed, and no clause
+//! How common each good is among bids. This is only for speed: it decides at which good a bid is listed, and no clause
 //! depends on that.
 ghost use Rattle.std.specs.Prelude.{◌≡◌, ◌<◌, true, length};
 ghost use Rattle.goods_set.specs.Bundles.{has_good};
 
-use goods_set::GoodsSet;
-use goods_set::listing::rising_goods;
+use bid_file::{PackedBids, bid_of};
 use std::alloc::{AllocError, Global};
-use valuation::Atom;
 
-/// No more than about so many atoms are counted: they show the rare goods of a bundle nearly as well as all would.
+/// No more than about so many bids are counted: they show the rare goods of a bundle nearly as well as all would.
 const SAMPLE: usize = 1_024;
 
 /// Counts each of the goods once more.
@@ -23,18 +21,21 @@ fn count_goods(counts: &mut Vec<u32>, goods: &[u16]) -> Result<(), AllocError> {
     Ok(())
 }
 
-/// How many atoms of a sample have each good.
-pub fn goods_counts<S: GoodsSet>(alloc: Global, atoms: &[Atom<S>]) -> Result<Vec<u32>, AllocError> {
+/// How many bids of a sample have each good.
+pub fn goods_counts(
+    alloc: Global,
+    bids: &PackedBids,
+    numbers: &[u32],
+) -> Result<Vec<u32>, AllocError> {
     let mut counts = Vec::new(alloc);
-    let mut buffer = Vec::new(alloc);
-    let step = atoms.len() / SAMPLE + 1;
-    for atom in atoms.iter().step_by(step) {
-        count_goods(&mut counts, rising_goods(&atom.bundle, &mut buffer)?)?;
+    let step = numbers.len() / SAMPLE + 1;
+    for number in numbers.iter().step_by(step) {
+        count_goods(&mut counts, bid_of(bids, *number).goods)?;
     }
     Ok(counts)
 }
 
-/// The first of the rarest of the goods, by how many atoms have each.
+/// The first of the rarest of the goods, by how many bids have each.
 pub fn rarest(counts: &[u32], goods: &[u16]) -> u16
     requires { 0 < length goods.now }
     ensures { has_good goods.now result ≡ true }

@@ -1,7 +1,10 @@
 //! Fingerprints of bundles. Most bundles that are not inside another are rejected without reading their goods.
-ghost use Rattle.std.specs.Prelude.{◌≡◌, ℕ, true, List};
-ghost use Rattle.goods_set.specs.Bundles.{IsInside};
+ghost use Rattle.std.specs.Prelude.{◌≡◌, ℕ, IfSome, List};
+ghost use Rattle.goods_set.specs.Bundles.{is_inside};
 ghost use Rattle.prune.specs.Internal.Fingerprints.{AreMarks, mark_of};
+
+/// Each good below this number has a bit of its own.
+const OWN_MARKS: u16 = 64;
 
 /// A multiplier that spreads goods near one another, and those at equal distances.
 const MIXER: u16 = 40_503;
@@ -10,16 +13,10 @@ const MIXER: u16 = 40_503;
 fn mark_of(good: u16) -> u32
     ensures { result ≡ mark_of good }
 {
-    let mixed = good.wrapping_mul(MIXER);
-    let group = (mixed / 16) % 64;
-    let spread = u32::from(mixed / 1024);
-    if group == 0 {
-        96 + spread % 32
-    } else if group < 8 {
-        64 + spread % 32
-    } else {
-        spread
+    if good < OWN_MARKS {
+        return u32::from(good);
     }
+    64 + u32::from(good.wrapping_mul(MIXER) / 1024)
 }
 
 /// The fingerprint of a bundle with these goods: each marks one of 128 bits.
@@ -33,10 +30,18 @@ pub fn fingerprint(goods: &[u16]) -> u128
     marks
 }
 
-/// Whether a bundle may be inside another, by the fingerprints of both: it is not where a mark is missing in the other's.
-pub fn may_be_subset(marks: u128, others: u128) -> bool
-    ensures { (goods other : List ℕ) → AreMarks goods marks → AreMarks other others → IsInside goods other
-        → result ≡ true }
+/// Whether a bundle is inside another, if the fingerprints of both show it: it is not if a mark is missing in the
+/// other's, and else it is if all its goods have bits of their own.
+#[inline(always)]
+pub fn is_inside_by_marks(marks: u128, others: u128) -> Option<bool>
+    ensures { (goods other : List ℕ) → AreMarks goods marks → AreMarks other others
+        → IfSome result (λ is. is ≡ is_inside goods other) }
 {
-    marks & !others == 0
+    if marks & !others != 0 {
+        return Some(false);
+    }
+    if marks <= u128::from(u64::MAX) {
+        return Some(true);
+    }
+    None
 }

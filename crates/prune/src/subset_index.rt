@@ -1,9 +1,13 @@
-//! `SubsetIndex`: the kept atoms. Those inside a bundle are found by its goods.
+//! `SubsetIndex`: the kept bids. Those inside a bundle are found by its goods.
 ghost use Rattle.std.specs.Prelude.{◌≡◌, ℕ, List, ◌+◌, ◌<◌, ◌≤◌, false, true, map, length, All, AllPairs, IfOk, OnOk, []};
 ghost use Rattle.std.specs.Prelude.{◌∷◌, ◌++◌, cond, is_some};
 ghost use Rattle.std.specs.List.{filter};
+ghost use Rattle.goods_set.specs.Bundles.{IsRising};
+ghost use Rattle.bid_file.specs.Views.{seen_bid};
+ghost use Rattle.bid_file.specs.declared.limits.TheConstants.{MAX_GOODS};
+ghost use Rattle.valuation.specs.Auctions.{IsAtom, atom_of};
 ghost use Rattle.prune.specs.Internal.Fingerprints.{AreMarks};
-ghost use Rattle.valuation.specs.Values.{atoms_of, plain_atom};
+ghost use Rattle.prune.specs.Internal.Kept.{kept_atoms};
 ghost use Rattle.valuation.specs.declared.atom.Atom.{Atom};
 ghost use Rattle.prune.specs.Internal.Listings.{
   indices_of,
@@ -19,120 +23,124 @@ ghost use Rattle.prune.specs.Internal.Listings.{
 ghost use Rattle.valuation.specs.Packings.{atom_at, indices_inside, is_inside_at};
 
 use crate::commonness::{goods_counts, rarest};
-use crate::fingerprints::{fingerprint, may_be_subset};
-use goods_set::GoodsSet;
-use goods_set::listing::rising_goods;
+use crate::fingerprints::{fingerprint, is_inside_by_marks};
+use crate::kept::KeptBids;
+use bid_file::{BidRef, PackedBids};
+use goods_set::is_subset;
 use std::alloc::{AllocError, Global};
-use valuation::Atom;
 
-/// An atom as it is listed at a good. Searches read many of these, and so each is kept small: an index takes 4 bytes, and
-/// the price is read from the atom. The fingerprint rules out most atoms that are not inside a bundle before they are read,
+/// A bid as it is listed at a good. Searches read many of these, and so each is kept small: an index takes 4 bytes, and
+/// the price is read from the bid. The fingerprint rules out most bids that are not inside a bundle before they are read,
 /// which mostly means waiting for memory.
 #[derive(Drop)]
 struct Posting {
-    /// The index of the atom.
+    /// The index of the bid among the kept ones.
     index: u32,
     /// The fingerprint of its bundle.
     fingerprint: u128,
 }
 
-/// Lists atoms, each at one of its goods, so that those inside a bundle are found through the bundle's goods. The atoms
-/// themselves are given with each call: those kept so far, in order. For speed alone an atom is listed at its rarest good,
+/// Lists bids, each at one of its goods, so that those inside a bundle are found through the bundle's goods. The bids
+/// themselves are given with each call: those kept so far, in order. For speed alone a bid is listed at its rarest good,
 /// and fingerprints are compared before bundles.
 #[derive(Drop)]
 pub struct SubsetIndex {
     alloc: Global,
-    /// For each good the atoms that are listed there.
+    /// For each good the bids that are listed there.
     lists: Vec<Vec<Posting>>,
-    /// How common each good is among all atoms that may be kept.
+    /// How common each good is among all bids that may be kept.
     counts: Vec<u32>,
-    /// A buffer for the goods of an atom.
-    buffer: Vec<u16>,
 }
 
-/// Whether the atom that is listed at a good is inside the bundle.
+/// Whether the bid that is listed at a good is inside the bundle with these goods.
 #[inline(always)]
-fn is_inside<S: GoodsSet>(kept: &[Atom<S>], posting: &Posting, bundle: &S, marks: u128) -> bool
-    requires listed { IsPosting (atoms_of S.goods kept.now) posting.now }
-    requires marks { AreMarks (S.goods bundle.now) marks }
-    ensures { result ≡ is_inside_at (atoms_of S.goods kept.now) (S.goods bundle.now) posting.now.index }
+fn is_inside(kept: KeptBids<'_>, posting: &Posting, goods: &[u16], marks: u128) -> bool
+    requires listed { IsPosting (kept_atoms kept) posting.now }
+    requires goods { IsRising goods.now }
+    requires marks { AreMarks goods.now marks }
+    ensures { result ≡ is_inside_at (kept_atoms kept.entry) goods.now posting.now.index }
 {
-    if !may_be_subset(posting.fingerprint, marks) {
-        return false;
+    match is_inside_by_marks(posting.fingerprint, marks) {
+        Some(is_inside) => is_inside,
+        None => is_subset(kept.at(posting.index as usize).goods, goods),
     }
-    kept[posting.index as usize].bundle.is_inside(bundle)
 }
 
-/// Whether the atom that is listed at a good is inside the bundle and has at least the price. Fingerprints
-/// are compared before prices: most rule the atom out, and a test that mostly has the same result costs less.
+/// Whether the bid that is listed at a good is inside the bundle with these goods and has at least the price. Fingerprints
+/// are compared before prices: most rule the bid out, and a test that mostly has the same result costs less.
 #[inline(always)]
-fn is_dominating<S: GoodsSet>(
-    kept: &[Atom<S>],
+fn is_dominating(
+    kept: KeptBids<'_>,
     posting: &Posting,
-    bundle: &S,
+    goods: &[u16],
     marks: u128,
     price: u64,
 ) -> bool
-    requires listed { IsPosting (atoms_of S.goods kept.now) posting.now }
-    requires marks { AreMarks (S.goods bundle.now) marks }
-    ensures { result ≡ dominates_at (atoms_of S.goods kept.now) (S.goods bundle.now) price posting.now.index }
+    requires listed { IsPosting (kept_atoms kept) posting.now }
+    requires goods { IsRising goods.now }
+    requires marks { AreMarks goods.now marks }
+    ensures { result ≡ dominates_at (kept_atoms kept.entry) goods.now price posting.now.index }
 {
-    if !may_be_subset(posting.fingerprint, marks) {
-        return false;
+    match is_inside_by_marks(posting.fingerprint, marks) {
+        Some(false) => false,
+        Some(true) => price <= kept.at(posting.index as usize).price,
+        None => {
+            let bid = kept.at(posting.index as usize);
+            price <= bid.price && is_subset(bid.goods, goods)
+        }
     }
-    let atom = &kept[posting.index as usize];
-    price <= atom.price && atom.bundle.is_inside(bundle)
 }
 
-/// Adds to `found` the indices of the listed atoms that are inside the bundle.
-fn find_inside_among<S: GoodsSet>(
+/// Adds to `found` the indices of the listed bids that are inside the bundle with these goods.
+fn find_inside_among(
     postings: &[Posting],
-    kept: &[Atom<S>],
-    bundle: &S,
+    kept: KeptBids<'_>,
+    goods: &[u16],
     marks: u128,
-    found: &mut Vec<usize>,
+    found: &mut Vec<u32>,
 ) -> Result<(), AllocError>
-    requires listed { All (IsPosting (atoms_of S.goods kept.now)) postings.now }
-    requires marks { AreMarks (S.goods bundle.now) marks }
-    ensures { let inside = is_inside_at (atoms_of S.goods kept.now) (S.goods bundle.now) in
+    requires listed { All (IsPosting (kept_atoms kept)) postings.now }
+    requires goods { IsRising goods.now }
+    requires marks { AreMarks goods.now marks }
+    ensures { let inside = is_inside_at (kept_atoms kept.entry) goods.now in
         OnOk result (found.new.items ≡ found.old.items ++ filter inside (indices_of postings.now)) }
 {
     for posting in postings {
-        if is_inside(kept, posting, bundle, marks) {
-            found.push(posting.index as usize)?;
+        if is_inside(kept, posting, goods, marks) {
+            found.push(posting.index)?;
         }
     }
     Ok(())
 }
 
-/// The index of the first of the listed atoms that is among these atoms, is inside the bundle and has at least the price, or
-/// the number of atoms if there is none.
-fn first_dominating_among<S: GoodsSet>(
+/// The index of the first of the listed bids that is among these bids, is inside the bundle with these goods and has at
+/// least the price, or the number of bids if there is none.
+fn first_dominating_among(
     postings: &[Posting],
-    kept: &[Atom<S>],
-    bundle: &S,
+    kept: KeptBids<'_>,
+    goods: &[u16],
     marks: u128,
     price: u64,
 ) -> usize
-    requires listed { All (MayBePosting (atoms_of S.goods kept.now)) postings.now }
+    requires listed { All (MayBePosting (kept_atoms kept)) postings.now }
     requires rising { AllPairs (λ one other. one < other) (indices_of postings.now) }
-    requires marks { AreMarks (S.goods bundle.now) marks }
-    ensures within { result ≤ length kept.now }
-    ensures found { result < length kept.now
-        → dominates_at (atoms_of S.goods kept.now) (S.goods bundle.now) price result ≡ true }
-    ensures none { let dominating = dominates_at (atoms_of S.goods kept.now) (S.goods bundle.now) price in
+    requires goods { IsRising goods.now }
+    requires marks { AreMarks goods.now marks }
+    ensures within { result ≤ length kept.entry.numbers.now }
+    ensures found { result < length kept.entry.numbers.now → dominates_at (kept_atoms kept.entry) goods.now price result ≡ true }
+    ensures none { let dominating = dominates_at (kept_atoms kept.entry) goods.now price in
         All (λ index. index < result → dominating index ≡ false) (indices_of postings.now) }
 {
     for posting in postings {
         let index = posting.index as usize;
-        if index >= kept.len() {
+        if index >= kept.numbers.len() {
             break;
         }
-        if is_dominating(kept, posting, bundle, marks, price) {
+        if is_dominating(kept, posting, goods, marks, price) {
             return index;
         }
     }
-    kept.len()
+    kept.numbers.len()
 }
 
 /// What is listed at the good.
@@ -145,32 +153,35 @@ fn postings_at(lists: &[Vec<Posting>], good: u16) -> &[Posting]
     }
 }
 
-/// The index of the first kept atom inside the bid's bundle, which has these goods, with at least its price.
-fn first_dominating_listed<S: GoodsSet>(
+/// The index of the first kept bid inside the bundle with these goods that has at least the price.
+fn first_dominating_listed(
     lists: &[Vec<Posting>],
-    kept: &[Atom<S>],
-    bid: &Atom<S>,
+    kept: KeptBids<'_>,
     goods: &[u16],
+    price: u64,
 ) -> Option<usize>
-    requires goods { goods.now ≡ S.goods bid.now.bundle }
-    requires listed { AreListed (lists_of lists.now) (atoms_of S.goods kept.now) }
-    ensures { result
-        ≡ first_dominating_index (atoms_of S.goods kept.now) (S.goods bid.now.bundle) bid.now.price }
+    requires goods { IsRising goods.now }
+    requires listed { AreListed (lists_of lists.now) (kept_atoms kept) }
+    ensures { result ≡ first_dominating_index (kept_atoms kept.entry) goods.now price }
 {
     let marks = fingerprint(goods);
-    let mut first = kept.len();
+    let mut first = kept.numbers.len();
     for good in goods {
+        let earlier = KeptBids {
+            bids: kept.bids,
+            numbers: &kept.numbers[..first],
+        };
         let postings = postings_at(lists, *good);
-        first = first_dominating_among(postings, &kept[..first], &bid.bundle, marks, bid.price);
+        first = first_dominating_among(postings, earlier, goods, marks, price);
     }
-    if first < kept.len() {
+    if first < kept.numbers.len() {
         return Some(first);
     }
     None
 }
 
-/// Lists the next kept atom, whose bundle has these goods, at the rarest of them. An index past the numbers of 4 bytes is
-/// refused as memory is; a file has far fewer bids.
+/// Lists the next kept bid, on these goods, at the rarest of them. An index past the numbers of 4 bytes is refused as
+/// memory is; a file has far fewer bids.
 fn list_at_rarest(
     alloc: Global,
     lists: &mut Vec<Vec<Posting>>,
@@ -178,7 +189,8 @@ fn list_at_rarest(
     index: usize,
     goods: &[u16],
 ) -> Result<(), AllocError>
-    requires { 0 < length goods.now }
+    requires some { 0 < length goods.now }
+    requires rising { IsRising goods.now }
     ensures { OnOk result ((kept : List (Atom (List ℕ))) (atom : Atom (List ℕ)) → atom.bundle ≡ goods.now
         → index ≡ length kept → AreListed (lists_of lists.old.items) kept
         → AreListed (lists_of lists.new.items) (kept ++ atom ∷ [])) }
@@ -199,67 +211,70 @@ fn list_at_rarest(
 }
 
 impl SubsetIndex {
-    /// The index of those of these atoms that will be kept. None is kept so far.
-    pub fn of<S: GoodsSet>(alloc: Global, atoms: &[Atom<S>]) -> Result<SubsetIndex, AllocError>
+    /// The index of those of these bids that will be kept. None is kept so far.
+    pub fn of(
+        alloc: Global,
+        bids: &PackedBids,
+        numbers: &[u32],
+    ) -> Result<SubsetIndex, AllocError>
         ensures { IfOk result (λ index. IsIndexOf [] index) }
     {
         Ok(SubsetIndex {
             alloc,
             lists: Vec::new(alloc),
-            counts: goods_counts(alloc, atoms)?,
-            buffer: Vec::new(alloc),
+            counts: goods_counts(alloc, bids, numbers)?,
         })
     }
 
-    /// Adds the next kept atom, whose bundle has these goods.
+    /// Adds the next kept bid, on these goods.
     pub fn keep(&mut self, index: usize, goods: &[u16]) -> Result<(), AllocError>
-        requires { 0 < length goods.now }
+        requires some { 0 < length goods.now }
+        requires rising { IsRising goods.now }
         ensures { OnOk result ((kept : List (Atom (List ℕ))) (atom : Atom (List ℕ)) → atom.bundle ≡ goods.now
             → index ≡ length kept → IsIndexOf kept self.old → IsIndexOf (kept ++ atom ∷ []) self.new) }
     {
         list_at_rarest(self.alloc, &mut self.lists, &self.counts, index, goods)
     }
 
-    /// Replaces the indices by those of the kept atoms inside the bundle, which has these goods.
-    pub fn find_inside<S: GoodsSet>(
+    /// Replaces the indices by those of the kept bids inside the bundle with these goods.
+    pub fn find_inside(
         &self,
-        kept: &[Atom<S>],
-        bundle: &S,
+        kept: KeptBids<'_>,
         goods: &[u16],
-        indices: &mut Vec<usize>,
+        indices: &mut Vec<u32>,
     ) -> Result<(), AllocError>
-        requires goods { goods.now ≡ S.goods bundle.now }
-        requires index { IsIndexOf (atoms_of S.goods kept.now) self.now }
-        ensures { OnOk result (indices.new.items ≡ indices_inside (atoms_of S.goods kept.now) (S.goods bundle.now)) }
+        requires goods { IsRising goods.now }
+        requires index { IsIndexOf (kept_atoms kept) self.now }
+        ensures { OnOk result (indices.new.items ≡ indices_inside (kept_atoms kept.entry) goods.now) }
     {
         let marks = fingerprint(goods);
         indices.clear();
         for good in goods {
             let postings = postings_at(&self.lists, *good);
-            find_inside_among(postings, kept, bundle, marks, indices)?;
+            find_inside_among(postings, kept, goods, marks, indices)?;
         }
         indices.sort_unstable();
         Ok(())
     }
 
-    /// The index of the first kept atom inside the bid's bundle with at least its price. If there is none, the bid is the
+    /// The index of the first kept bid inside the bid's bundle with at least its price. If there is none, the bid is the
     /// next one that is kept.
-    pub fn decide<S: GoodsSet>(
+    pub fn decide(
         &mut self,
-        kept: &[Atom<S>],
-        bid: &Atom<S>,
+        kept: KeptBids<'_>,
+        bid: &BidRef<'_>,
     ) -> Result<Option<usize>, AllocError>
-        requires some { 0 < length (S.goods bid.now.bundle) }
-        requires index { IsIndexOf (atoms_of S.goods kept.now) self.old }
+        requires bid { IsAtom MAX_GOODS (atom_of (seen_bid bid.now)) }
+        requires index { IsIndexOf (kept_atoms kept) self.old }
         ensures index { IfOk result (λ found. IsIndexOf
-            (atoms_of S.goods kept.now ++ cond (is_some found) [] (plain_atom S.goods bid.now ∷ [])) self.new) }
+            (kept_atoms kept.entry ++ cond (is_some found) [] (atom_of (seen_bid bid.now) ∷ [])) self.new) }
         ensures found { IfOk result (λ found. found
-            ≡ first_dominating_index (atoms_of S.goods kept.now) (S.goods bid.now.bundle) bid.now.price) }
+            ≡ first_dominating_index (kept_atoms kept.entry) bid.now.goods.now bid.now.price) }
     {
-        let goods = rising_goods(&bid.bundle, &mut self.buffer)?;
-        let found = first_dominating_listed(&self.lists, kept, bid, goods);
+        let found = first_dominating_listed(&self.lists, kept, bid.goods, bid.price);
         if found.is_none() {
-            list_at_rarest(self.alloc, &mut self.lists, &self.counts, kept.len(), goods)?;
+            let index = kept.numbers.len();
+            list_at_rarest(self.alloc, &mut self.lists, &self.counts, index, bid.goods)?;
         }
         Ok(found)
     }

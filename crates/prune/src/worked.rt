@@ -1,10 +1,23 @@
 //! Worked examples of the definitions, which the check computes.
-ghost use Rattle.std.specs.Prelude.{◌≡◌, ◌+◌, ◌^◌, [], ◌∷◌, length, true, false, Some, None, Ok};
+ghost use Rattle.std.specs.Prelude.{◌≡◌, ◌+◌, ◌^◌, [], ◌∷◌, length, map, true, false, Some, None, Ok};
 ghost use Rattle.valuation.specs.declared.search.kind.SearchKind.TheVariants.{Plain, Bounded};
 ghost use Rattle.valuation.specs.Examples.{atom};
 ghost use Rattle.valuation.specs.SearchLimits.{plain_options};
 ghost use Rattle.prune.specs.declared.subset_index.Posting.{Posting};
-ghost use Rattle.prune.specs.Fates.{best_bids, or_fate, or_fates, indices_below, xor_fate, xor_fates};
+ghost use Rattle.prune.specs.BidFates.{
+  best_alike,
+  kept_by,
+  or_fate_of,
+  xor_fate_of,
+  IsNumberBefore,
+  Inside,
+  Kept,
+  Packing,
+  Same,
+  Zero,
+};
+ghost use Rattle.prune.specs.Examples.{offering};
+ghost use Rattle.prune.specs.Fates.{or_fate, indices_below, xor_fate};
 ghost use Rattle.prune.specs.Internal.Fingerprints.{AreMarks, mark_of};
 ghost use Rattle.prune.specs.Internal.Listings.{IsListed, IsPosting, AreListed};
 ghost use Rattle.prune.specs.Points.{xor_points, or_points};
@@ -85,8 +98,6 @@ pub fn steps_worked()
 /// What becomes of best bids. A plain search finds the first points that reach the price, a bounded search the last.
 #[tactic(auto, unfolding(crate::specs::Points::points_where, crate::specs::Points::is_or_point, crate::specs::Points::is_xor_point, crate::specs::Fates::found_points, crate::specs::Fates::or_fate, crate::specs::Fates::xor_fate, valuation::specs::SearchSteps::found_indices, valuation::specs::Values::or_value, valuation::specs::Values::xor_value))]
 pub fn fates_worked()
-    ensures best { best_bids 2 (atom (1 ∷ []) 4 ∷ atom (0 ∷ []) 0 ∷ atom (1 ∷ []) 5 ∷ atom (0 ∷ 1 ∷ []) 2 ∷ [])
-        ≡ atom (1 ∷ []) 5 ∷ atom (0 ∷ 1 ∷ []) 2 ∷ [] }
     ensures below { indices_below (atom (0 ∷ []) 3 ∷ atom (2 ∷ []) 5 ∷ atom (0 ∷ 1 ∷ []) 8 ∷ atom (1 ∷ []) 4 ∷ [])
         (0 ∷ 1 ∷ []) ≡ 0 ∷ 3 ∷ [] }
     ensures plain { or_fate Plain (atom (0 ∷ []) 3 ∷ atom (1 ∷ []) 4 ∷ atom (2 ∷ []) 5 ∷ []) (atom (0 ∷ 1 ∷ 2 ∷ []) 7)
@@ -94,13 +105,36 @@ pub fn fates_worked()
     ensures bounded { or_fate Bounded (atom (0 ∷ []) 3 ∷ atom (1 ∷ []) 4 ∷ atom (2 ∷ []) 5 ∷ []) (atom (0 ∷ 1 ∷ 2 ∷ []) 7)
         ≡ Some (1 ∷ 2 ∷ []) }
     ensures kept { or_fate Plain (atom (0 ∷ []) 3 ∷ atom (1 ∷ []) 4 ∷ []) (atom (0 ∷ 1 ∷ []) 8) ≡ None }
-    ensures or_bids { or_fates Plain 2 (atom (0 ∷ 1 ∷ []) 7 ∷ atom (1 ∷ []) 4 ∷ atom (0 ∷ []) 3 ∷ atom (0 ∷ []) 2 ∷ [])
-        ≡ None ∷ None ∷ Some (0 ∷ 1 ∷ []) ∷ [] }
     ensures first { xor_fate (atom (0 ∷ []) 5 ∷ atom (1 ∷ []) 6 ∷ []) (atom (0 ∷ 1 ∷ []) 4) ≡ Some 0 }
     ensures enough { xor_fate (atom (0 ∷ []) 5 ∷ atom (1 ∷ []) 6 ∷ []) (atom (0 ∷ 1 ∷ []) 6) ≡ Some 1 }
     ensures higher { xor_fate (atom (0 ∷ []) 5 ∷ atom (1 ∷ []) 6 ∷ []) (atom (0 ∷ 1 ∷ []) 7) ≡ None }
-    ensures xor_bids { xor_fates 2 (atom (0 ∷ 1 ∷ []) 6 ∷ atom (1 ∷ []) 6 ∷ atom (0 ∷ []) 5 ∷ [])
-        ≡ None ∷ None ∷ Some 1 ∷ [] }
+{}
+
+/// The order of bids by their numbers, and the best of those on the same goods.
+pub fn numbers_worked()
+    ensures by_bundle { IsNumberBefore (offering (atom (1 ∷ []) 4 ∷ atom (0 ∷ []) 3 ∷ [])) 1 0 }
+    ensures by_price { IsNumberBefore (offering (atom (0 ∷ []) 2 ∷ atom (0 ∷ []) 3 ∷ [])) 1 0 }
+    ensures by_number { IsNumberBefore (offering (atom (0 ∷ []) 3 ∷ atom (0 ∷ []) 3 ∷ [])) 0 1 }
+    ensures never_itself { ¬ IsNumberBefore (offering (atom (0 ∷ []) 3 ∷ [])) 0 0 }
+    ensures best { best_alike (offering (atom (0 ∷ []) 2 ∷ atom (0 ∷ []) 3 ∷ atom (1 ∷ []) 3 ∷ [])) (1 ∷ 0 ∷ 2 ∷ []) 0 ≡ 1 }
+    ensures best_itself { best_alike (offering (atom (0 ∷ []) 2 ∷ atom (0 ∷ []) 3 ∷ atom (1 ∷ []) 3 ∷ [])) (1 ∷ 0 ∷ 2 ∷ []) 2
+        ≡ 2 }
+{}
+
+/// What becomes of bids that are given by their numbers, if some of these are kept.
+#[tactic(auto, unfolding(crate::specs::Fates::found_points, crate::specs::Fates::or_fate, crate::specs::Fates::xor_fate, valuation::specs::SearchSteps::found_indices, valuation::specs::Values::or_value, valuation::specs::Values::xor_value))]
+pub fn bid_fates_worked()
+    ensures or_bids { let bids = offering (atom (0 ∷ 1 ∷ []) 7 ∷ atom (1 ∷ []) 4 ∷ atom (0 ∷ []) 3 ∷ atom (0 ∷ []) 2
+        ∷ atom (1 ∷ []) 0 ∷ []) in map (or_fate_of Plain bids (2 ∷ 3 ∷ 1 ∷ 4 ∷ 0 ∷ []) (2 ∷ 1 ∷ [])) (2 ∷ 3 ∷ 1 ∷ 4 ∷ 0 ∷ [])
+        ≡ Kept ∷ Same 2 ∷ Kept ∷ Zero ∷ Packing (2 ∷ 1 ∷ []) ∷ [] }
+    ensures last_reach { let bids = offering (atom (0 ∷ []) 3 ∷ atom (1 ∷ []) 4 ∷ atom (2 ∷ []) 5 ∷ atom (0 ∷ 1 ∷ 2 ∷ []) 7 ∷ []) in
+        or_fate_of Bounded bids (0 ∷ 1 ∷ 2 ∷ 3 ∷ []) (0 ∷ 1 ∷ 2 ∷ []) 3 ≡ Packing (1 ∷ 2 ∷ []) }
+    ensures xor_bids { let bids = offering (atom (0 ∷ 1 ∷ []) 6 ∷ atom (1 ∷ []) 6 ∷ atom (0 ∷ []) 5 ∷ atom (0 ∷ 1 ∷ []) 6 ∷ []) in
+        map (xor_fate_of bids (2 ∷ 1 ∷ 0 ∷ 3 ∷ []) (2 ∷ 1 ∷ [])) (2 ∷ 1 ∷ 0 ∷ 3 ∷ []) ≡ Kept ∷ Kept ∷ Inside 1 ∷ Same 0 ∷ [] }
+    ensures worthless { let bids = offering (atom (0 ∷ []) 0 ∷ atom (0 ∷ []) 0 ∷ []) in
+        map (xor_fate_of bids (0 ∷ 1 ∷ []) []) (0 ∷ 1 ∷ []) ≡ Zero ∷ Zero ∷ [] }
+    ensures kept { let bids = offering (atom (0 ∷ 1 ∷ []) 6 ∷ atom (1 ∷ []) 6 ∷ atom (0 ∷ []) 5 ∷ []) in
+        kept_by (xor_fate_of bids (2 ∷ 1 ∷ 0 ∷ []) (2 ∷ 1 ∷ [])) (2 ∷ 1 ∷ 0 ∷ []) ≡ 2 ∷ 1 ∷ [] }
 {}
 
 /// The steps of the searches of each kind.
@@ -147,14 +181,16 @@ pub fn refused_worked()
     ensures worthless { first_refused (plain_options 0) 1 (atom (0 ∷ []) 0 ∷ []) ≡ None }
 {}
 
-/// Goods near one another, and those that differ by 64 or 65, mark different bits. Some goods share one.
+/// A good below 64 marks a bit of its own. Goods near one another, and those that differ by 64 or 65, mark different bits,
+/// and some share one.
 fn fingerprints_worked()
-    ensures highest { mark_of 0 ≡ 96 }
-    ensures low { mark_of 1 ≡ 39 }
-    ensures high { mark_of 2 ≡ 79 }
-    ensures by_64 { mark_of 65 ≡ 10 }
-    ensures by_65 { mark_of 66 ≡ 50 }
-    ensures shared { mark_of 90 ≡ mark_of 1 }
+    ensures first { mark_of 0 ≡ 0 }
+    ensures last_own { mark_of 63 ≡ 63 }
+    ensures high { mark_of 64 ≡ 99 }
+    ensures next { mark_of 65 ≡ 74 }
+    ensures by_64 { mark_of 128 ≡ 70 }
+    ensures by_65 { mark_of 129 ≡ 110 }
+    ensures shared { mark_of 153 ≡ mark_of 64 }
     ensures no_goods { AreMarks [] 0 }
     ensures one_good { AreMarks (5 ∷ []) 32 }
     ensures one_lacks { ¬ AreMarks (5 ∷ 65 ∷ []) 32 }
@@ -163,27 +199,27 @@ fn fingerprints_worked()
 
 /// An index is listed at a good of the bundle.
 fn listed_worked()
-    ensures one { let it : Posting = record { index = 0; fingerprint = 2 ^ 96 } in
+    ensures one { let it : Posting = record { index = 0; fingerprint = 1 } in
         IsListed ((it ∷ []) ∷ []) (0 ∷ []) 0 }
-    ensures other_good { let it : Posting = record { index = 0; fingerprint = 2 ^ 96 } in
+    ensures other_good { let it : Posting = record { index = 0; fingerprint = 1 } in
         ¬ IsListed ((it ∷ []) ∷ []) (1 ∷ []) 0 }
-    ensures other_index { let it : Posting = record { index = 0; fingerprint = 2 ^ 96 } in
+    ensures other_index { let it : Posting = record { index = 0; fingerprint = 1 } in
         ¬ IsListed ((it ∷ []) ∷ []) (0 ∷ []) 1 }
 {}
 
 /// What is listed is the index of an atom, with the fingerprint of its bundle.
 fn posting_worked()
-    ensures right { IsPosting (atom (0 ∷ []) 5 ∷ []) (record { index = 0; fingerprint = 2 ^ 96 }) }
-    ensures no_atom { ¬ IsPosting (atom (0 ∷ []) 5 ∷ []) (record { index = 1; fingerprint = 2 ^ 96 }) }
+    ensures right { IsPosting (atom (0 ∷ []) 5 ∷ []) (record { index = 0; fingerprint = 1 }) }
+    ensures no_atom { ¬ IsPosting (atom (0 ∷ []) 5 ∷ []) (record { index = 1; fingerprint = 1 }) }
     ensures no_mark { ¬ IsPosting (atom (0 ∷ []) 5 ∷ []) (record { index = 0; fingerprint = 0 }) }
 {}
 
 /// Each atom is listed, and nothing else.
 fn postings_worked()
     ensures none_yet { AreListed [] [] }
-    ensures one { let it : Posting = record { index = 0; fingerprint = 2 ^ 96 } in
+    ensures one { let it : Posting = record { index = 0; fingerprint = 1 } in
         AreListed ((it ∷ []) ∷ []) (atom (0 ∷ []) 5 ∷ []) }
     ensures nowhere { ¬ AreListed [] (atom (0 ∷ []) 5 ∷ []) }
-    ensures too_many { let it : Posting = record { index = 0; fingerprint = 2 ^ 96 } in
+    ensures too_many { let it : Posting = record { index = 0; fingerprint = 1 } in
         ¬ AreListed ((it ∷ []) ∷ []) [] }
 {}

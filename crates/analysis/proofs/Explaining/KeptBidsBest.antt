@@ -6,13 +6,10 @@ use Rattle.analysis.proofs.Common.{ltb-true, lt-ltb, not_from_false, not-true, f
 use Rattle.analysis.proofs.Common.{PlainFile, Atom, atom_of, is_dummy, Contains-map, Contains-unmap, greatest_price, All-from_Contains, Contains-filter}
 use Rattle.analysis.proofs.Common.{bid_at, Contains-filter_parts, list_any_fails, greatest_price-member, greatest_price-bound, greatest_price-reached}
 use Rattle.analysis.proofs.Common.{bidder_of, are_alike, is_better, is_best, numbers_of, or_right, range_contains, in_range, common_steps}
-use Rattle.analysis.proofs.Explaining.BestBids.{HaveOneKey, one_key, alike_from}
+use Rattle.analysis.proofs.Explaining.BestBids.{HaveOneKey, one_key, alike_from, same_bidder}
 use Rattle.analysis.proofs.Explaining.KeptBidsLists.{first_index}
 
 -- ---- bids
-
-pub same_bidder : (o p : Option ℕ) → bidder_of o ≡ bidder_of p → o ≡ p
-same_bidder o p e = search rules
 
 pub same_bid : (a b : PlainBid) → HaveOneKey a b → a.price ≡ b.price → a ≡ b
 same_bid a b h e = search (rules, same_bidder)

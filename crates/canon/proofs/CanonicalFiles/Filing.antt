@@ -1,19 +1,21 @@
 -- The file of an auction is made bidder by bidder.
-use Rattle.canon.proofs.Common.{◌≡◌, ℕ, ◌+◌, ◌<◌, ◌≤◌, List, [], ◌∷◌, ◌++◌, length, map, drop, get_or, Option, Some, sym, ap, ◌∙◌, subst, append_assoc, Global}
-use Rattle.canon.proofs.Common.{rules, Vec, drop-map, drop_more, append-nil, drop_all, length-map, PlainBid, PlainFile, IsBidFile, IsPlainFile, Atom}
-use Rattle.canon.proofs.Common.{PlainAuction, IsAuction, drop-atoms_of, bidders_of, atoms_of, bid_from, dummy_bids, file_from}
+use Rattle.canon.proofs.Common.{◌≡◌, ℕ, ◌+◌, ◌<◌, ◌≤◌, List, ◌∷◌, ◌++◌, length, map, drop, get_or, Option, Some, sym, ap, ◌∙◌, subst, append_assoc, map-map}
+use Rattle.canon.proofs.Common.{rules, drop-map, drop_more, append-nil, drop_all, PlainBid, PlainFile, IsBidFile, IsPlainFile, Atom, gathered, atom_by_number}
+use Rattle.canon.proofs.Common.{PlainAuction, IsAuction, atoms_by_number, bid_from, dummy_bids, file_from}
 use Rattle.canon.proofs.CanonicalFiles.Files.{IsPlainFile-file_from}
 
--- the bidder at an index, and those behind it
-pub next_bidder : {S : Type 0} (goods : S → List ℕ) (bidders : List (Vec (Atom S) Global)) (i : ℕ) (b : Vec (Atom S) Global)
-    → i < length bidders → b ≡ get_or bidders i b → drop i (bidders_of goods bidders) ≡ atoms_of goods b.items ∷ drop (i + 1) (bidders_of goods bidders)
-next_bidder {S} goods bidders i b l e = search (rules, drop-map, drop_more)
-
 -- one more bidder, and one less to come
-pub one_more_bidder : {S : Type 0} (goods : S → List ℕ) (old new : List PlainBid) (bidders : List (Vec (Atom S) Global)) (i : ℕ) (b : Vec (Atom S) Global)
-    → i < length bidders → b ≡ get_or bidders i b → new ≡ old ++ map (bid_from (Some i)) (atoms_of goods b.items)
-    → new ++ dummy_bids (i + 1) (drop (i + 1) (bidders_of goods bidders)) ≡ old ++ dummy_bids i (drop i (bidders_of goods bidders))
-one_more_bidder {S} goods old new bidders i b l e more = search (rules, append_assoc, next_bidder)
+pub one_more_bidder : {X : Type 0} (seen : X → List (Atom (List ℕ))) (old new : List PlainBid) (bidders : List X) (i : ℕ) (b : X)
+    → i < length bidders → b ≡ get_or bidders i b → new ≡ old ++ map (bid_from (Some i)) (seen b)
+    → new ++ dummy_bids (i + 1) (drop (i + 1) (map seen bidders)) ≡ old ++ dummy_bids i (drop i (map seen bidders))
+one_more_bidder {X} seen old new bidders i b l e more =
+    let next : drop i (map seen bidders) ≡ seen b ∷ drop (i + 1) (map seen bidders) = search (rules, drop-map, drop_more) in
+    search (rules, append_assoc, next)
+
+-- the bids of these numbers, as a bidder's
+pub gathered_are : (bids : List PlainBid) (numbers : List ℕ) (dummy : Option ℕ)
+    → gathered bids numbers dummy ≡ map (bid_from dummy) (atoms_by_number bids numbers)
+gathered_are bids numbers dummy = sym (map-map (bid_from dummy) (atom_by_number bids) numbers)
 
 pub all_bidders : (done all : List PlainBid) (i : ℕ) (bidders : List (List (Atom (List ℕ)))) → length bidders ≤ i → done ++ dummy_bids i (drop i bidders) ≡ all
     → done ≡ all
@@ -29,7 +31,3 @@ pub file_limits : (cap : ℕ) (a : PlainAuction) → IsAuction cap a → (goods 
     → bids ≡ (file_from a).bids → IsBidFile goods dummy bids
 file_limits cap a facts goods dummy bids e f h =
     subst (λ (x : PlainFile). IsPlainFile x) (sym (file_parts a goods dummy bids e f h)) (IsPlainFile-file_from cap a facts)
-
-pub length-bidders : {S : Type 0} (goods : S → List ℕ) (bidders : List (Vec (Atom S) Global)) (all : List (List (Atom (List ℕ))))
-    → bidders_of goods bidders ≡ all → length bidders ≡ length all
-length-bidders {S} goods bidders all e = sym (length-map bidders (λ (v : Vec (Atom S) Global). atoms_of goods v.items)) ∙ ap length e

@@ -1,10 +1,10 @@
 -- The two files that are compared, and which bids of them the differences name.
 use Rattle.std.specs.Prelude.{ℕ, List, Option, Some, None, All, Contains, length}
 use Rattle.bid_file.specs.Files.{PlainFile, IsDummyBelow}
+use Rattle.bid_file.specs.Numbers.{AreInOrder}
 use Rattle.canon.specs.Renaming.{kept_dummies, named_dummy}
 use Rattle.analysis.specs.BidderChanges.{PlainBidderChange}
 use Rattle.canon.specs.PriceChanges.{PlainChange}
-use Rattle.analysis.specs.BidOrders.{AreInOrder}
 use Rattle.commands.specs.Internal.ComparedFiles.{IsComparedFile}
 use Rattle.commands.specs.declared.diff.sides.Side.{Side}
 use Rattle.commands.specs.declared.diff.sides.Sides.{Sides}
@@ -15,7 +15,7 @@ file_of side = side.compared.now.file
 
 pub record IsSide (side : Side) : Type 0 where
   pub compared : IsComparedFile side.compared.now
-  pub order : AreInOrder (file_of side) side.bids.items
+  pub order : AreInOrder (file_of side).bids side.numbers.items
 
 pub record AreSides (sides : Sides) : Type 0 where
   pub left : IsSide sides.left

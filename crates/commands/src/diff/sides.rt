@@ -1,7 +1,7 @@
 //! The two files that `cats diff` compares. In each the number of a bid is found among its bids in order.
 
-use analysis::reasons::{NumberedBid, bids_in_order, number_of};
-use bid_file::{BidRef, PackedFile};
+use analysis::reasons::number_of;
+use bid_file::{BidRef, PackedFile, order_of_bids};
 use canon::normal::Canonical;
 use std::alloc::{AllocError, Global};
 
@@ -12,11 +12,11 @@ pub(crate) struct ComparedFile {
     pub canonical: Canonical,
 }
 
-/// One of the files, and its bids in order.
+/// One of the files, and the numbers of its bids, in order.
 #[derive(Drop)]
 pub(crate) struct Side<'a> {
     compared: &'a ComparedFile,
-    bids: Vec<NumberedBid<'a>>,
+    numbers: Vec<u32>,
 }
 
 /// Both files.
@@ -42,7 +42,7 @@ impl<'a> Side<'a> {
     {
         Ok(Side {
             compared,
-            bids: bids_in_order(alloc, &compared.file)?,
+            numbers: order_of_bids(alloc, &compared.file)?,
         })
     }
 
@@ -73,6 +73,6 @@ impl<'a> Side<'a> {
             goods,
             dummy,
         };
-        Some(number_of(&self.bids, &bid))
+        Some(number_of(&self.compared.file, &self.numbers, &bid))
     }
 }

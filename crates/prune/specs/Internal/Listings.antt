@@ -2,15 +2,12 @@
 use Rattle.std.specs.Prelude.{◌≡◌, ℕ, ◌<◌, Bool, ◌&&◌, true, nat_le, map, slice_index_or, List, []}
 use Rattle.std.specs.Prelude.{length}
 use Rattle.std.specs.Prelude.{Option, All, AllPairs, Contains}
-use Rattle.std.proofs.Common.{Less}
 use Rattle.std.specs.Global.{Vec}
 use Rattle.std.specs.List.{find, range_with_len}
 use Rattle.valuation.specs.declared.atom.Atom.{Atom}
-use Rattle.goods_set.specs.Bundles.{has_good, is_inside}
-use Rattle.goods_set.specs.Orders.{bundle_cmp}
+use Rattle.goods_set.specs.Bundles.{IsRising, has_good, is_inside}
 use Rattle.prune.specs.Internal.Fingerprints.{AreMarks}
 use Rattle.valuation.specs.Packings.{atom_at}
-use Rattle.prune.specs.InOrder.{IsInOrder}
 use Rattle.prune.specs.declared.subset_index.Posting.{Posting}
 use Rattle.prune.specs.declared.subset_index.SubsetIndex.{SubsetIndex}
 
@@ -51,12 +48,12 @@ pub record IsListed (lists : List (List Posting)) (bundle : List ℕ) (index : �
 -- what is listed is one of the atoms, with the fingerprint of its bundle
 pub record IsPosting (atoms : List (Atom (List ℕ))) (posting : Posting) : Type 0 where
   pub within : posting.index < length atoms
+  pub rising : IsRising (atom_at atoms posting.index).bundle
   pub marks : AreMarks (atom_at atoms posting.index).bundle posting.fingerprint
 
 -- the same, if it is one of the atoms
 abbrev pub MayBePosting : List (Atom (List ℕ)) → Posting → Type 0
-MayBePosting atoms posting =
-    posting.index < length atoms → AreMarks (atom_at atoms posting.index).bundle posting.fingerprint
+MayBePosting atoms posting = posting.index < length atoms → IsPosting atoms posting
 
 -- each atom is listed at one of its goods and at no other good, in order, and nothing else is listed
 pub record AreListed (lists : List (List Posting)) (atoms : List (Atom (List ℕ))) : Type 0 where
@@ -69,18 +66,3 @@ pub record AreListed (lists : List (List Posting)) (atoms : List (Atom (List ℕ
 
 abbrev pub IsIndexOf : List (Atom (List ℕ)) → SubsetIndex → Type 0
 IsIndexOf atoms index = AreListed (lists_of index.lists.items) atoms
-
--- the bundle comes behind those of all atoms
-abbrev pub IsBehind : List ℕ → List (Atom (List ℕ)) → Type 0
-IsBehind bundle atoms = All (λ a. bundle_cmp a.bundle bundle ≡ Less) atoms
-
--- each atom has a good
-abbrev pub HaveGoods : List (Atom (List ℕ)) → Type 0
-HaveGoods atoms = All (λ a. 0 < length a.bundle) atoms
-
--- a bid on the bundle may be the next one that is kept
-pub record ComesNext (kept : List (Atom (List ℕ))) (bundle : List ℕ) : Type 0 where
-  pub in_order : IsInOrder kept
-  pub behind : IsBehind bundle kept
-  pub some : 0 < length bundle
-  pub each : HaveGoods kept

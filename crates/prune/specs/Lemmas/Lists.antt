@@ -93,6 +93,19 @@ found_none p (y ∷ ys) e x c =
     (λ (t : p y ≡ false). ⊎_elim (λ (d : y ≡ x). ap p (sym d) ∙ t) (λ (d : Contains ys x). found_none p ys (simp t at e) x d) (Contains-cons_cases y ys x c))
     (cases_Bool (p y))
 
+-- one that passes is the one that is found, or behind it
+pub find_first_of : {X : Type 0} (R : X → X → Type 0) (p : X → Bool) (xs : List X) → AllPairs R xs → (y : X) → Contains xs y → p y ≡ true
+    → (x : X) × (find p xs ≡ Some x) × Contains xs x × (p x ≡ true) × ((x ≡ y) ⊎ R x y)
+find_first_of R p [] s y c t = absurd (Contains-nil y c)
+find_first_of R p (z ∷ zs) s y c t =
+    ⊎_elim (λ (e : p z ≡ true). (z, simp e refl, Contains-head z zs, e, ⊎_elim (λ (d : z ≡ y). inl d)
+    (λ (d : Contains zs y). inr (All-contains (R z) zs y (AllPairs-head R z zs s) d)) (Contains-cons_cases z zs y c)))
+    (λ (e : p z ≡ false).
+    let d : Contains zs y = ⊎_elim (λ (d : z ≡ y). absurd (both_ways (p z) e (ap p d ∙ t))) (λ (d : Contains zs y). d) (Contains-cons_cases z zs y c) in
+    let r = find_first_of R p zs (AllPairs-tail R z zs s) y d t in
+    (r.0, simp e r.1, Contains-tail z zs r.0 r.2, r.3, r.4))
+    (cases_Bool (p z))
+
 -- what is found is the first of those that pass
 find_of_passing : {X : Type 0} (p : X → Bool) (xs : List X) → find p xs ≡ find (λ x. true) (filter p xs)
 find_of_passing p [] = refl

@@ -64,7 +64,7 @@ module _ (bids : List PlainBid) (i : ℕ) (b : PlainBid) (l : i < length bids) (
 IsAtom-bid : (G D : ℕ) (b : PlainBid) → IsBid G D b → IsAtom G (atom_of b)
 IsAtom-bid G D b h = record { nonempty = h.goods; bundle = (h.rising, h.below); price = h.price }
 
-IsAtom-bids : (G D : ℕ) (bids : List PlainBid) (p : PlainBid → Bool) → AllByRecursion (IsBid G D) bids → All (IsAtom G) (map atom_of (filter p bids))
+pub IsAtom-bids : (G D : ℕ) (bids : List PlainBid) (p : PlainBid → Bool) → AllByRecursion (IsBid G D) bids → All (IsAtom G) (map atom_of (filter p bids))
 IsAtom-bids G D bids p h =
     All-map (IsAtom G) atom_of (filter p bids)
     (All-filter p (λ b. IsAtom G (atom_of b)) bids (All-weaker (IsBid G D) (λ b. IsAtom G (atom_of b)) (IsAtom-bid G D) bids

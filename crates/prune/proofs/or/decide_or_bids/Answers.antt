@@ -1,137 +1,183 @@
--- `decide_or_bids`: A turn of the loop keeps a bid exactly if the search does not reach its price, which is a turn of proofs/Results; a search that
--- gives up has found a heavy bundle; and at the end the kept bids are the points.
-use Rattle.prune.proofs.Common.{Err, ◌≡◌, ◌<◌, ◌≤◌, length, refl, sym, ap, ◌∙◌, subst, take, cond, [], ◌∷◌, ◌++◌, arith, append-nil, rules, get_or_read}
-use Rattle.prune.proofs.Common.{MAX_GOODS, SearchOptions, atoms_of, or_value, plain_atom, or_value-price, or_value-filter_le, or_fate, IsFinderOf}
-use Rattle.prune.proofs.Common.{on_bundles, or_points, ArePoints}
-use Rattle.prune.proofs.NotedFates.{noted_all, or_noted_dropped, or_noted_kept}
-use Rattle.prune.proofs.Prefixes.{next_left}
+-- `decide_or_bids`: a bid that is not the best on its goods changes nothing. A best one is kept exactly if the search does not reach its price, which is a
+-- turn of proofs/Results; a search that gives up has found a refused bundle; and at the end the kept bids are the points.
+use Rattle.prune.proofs.Common.{Err, ◌≡◌, ℕ, ◌+◌, ◌<◌, true, false, leb, List, [], ◌∷◌, ◌++◌, length, take, drop, get_or, cond, refl, sym, ap, ◌∙◌, subst}
+use Rattle.prune.proofs.Common.{arith, append-nil, take_all, drop_all, map_push, is_some, MAX_GOODS, SearchOptions, Atom, IsAtom, or_value, or_points}
+use Rattle.prune.proofs.Common.{or_fate, ArePoints, IsFinderOf, SearchKind, numbers_at, found_inside, or_value-price, or_value-filter_le, all_nonempty, on_bundles}
+use Rattle.bid_file.specs.Files.{PlainBid}
+use Rattle.bid_file.specs.Views.{seen_bid}
+use Rattle.valuation.specs.Auctions.{atom_of}
+use Rattle.valuation.specs.Numbers.{atom_by_number, atoms_by_number}
+use Rattle.prune.specs.BidFates.{Kept, Packing, PlainFate, or_outcome}
+use Rattle.prune.specs.Internal.BestBids.{best_of, is_best_of}
+use Rattle.prune.proofs.BestBids.{IsFirst, best_are, best_by_first, first_next, lesser_by_first}
+use Rattle.prune.proofs.NotedFates.{found_is_fate, missed_is_fate, none_lesser, noted_dropped, noted_kept, noted_lesser, or_push}
 use Rattle.prune.proofs.Pruning.{IsKept-none}
-use Rattle.prune.proofs.PruningLoop.{next_turn, one_done, one_kept, one_left, none_left, all_done, all_some}
+use Rattle.prune.proofs.PruningLoop.{best_left, best_one, kept_on_goods, lesser_left, lesser_one, next_left, next_parts, next_taken, next_turn, number_is_atom}
 use Rattle.prune.proofs.Refusals.{IsWithin, IsWithin-end, IsWithin-next, IsWithin-refused, IsWithin-start}
-use Rattle.prune.proofs.Results.{IsOrKept, turn_next, or_done, or_more, or_reached, or_missed}
+use Rattle.prune.proofs.Results.{IsOrKept, or_done, or_more, or_reached, or_missed}
 use Rattle.prune.proofs.or.decide_or_bids.Goals as goal
-
-pub decide-requires-clause-next : goal.decide-requires-clause-next
-decide-requires-clause-next g c =
-    let goods = g.S.GoodsSet.goods in
-    let h = c.loop-next.invariant in
-    let now = c.loop-next.atoms in
-    let there : c.loop-next.next < length now.items =
-    omega (arith, c.loop-next-test.true, c.len-next-end.ensures, c.keep_best_bids.new.bids.ok.0, h.left.long) in
-    let turn = next_turn goods (λ s. (g.met.S.GoodsSet.is_bundle s).0) _ _ now.items c.loop-next.next c.index.result.now
-    c.in_ok-keep_best_bids.ensures.best h.left there c.index.ensures in
-    rw c.deref-in-loop-next.ensures.value (turn_next MAX_GOODS _ _ _ _ _ turn c.requires h.kept.in_order h.kept.among)
-
-pub decide-requires-clause-finder : goal.decide-requires-clause-finder
-decide-requires-clause-finder g c = rw c.deref-in-loop-next.ensures.value c.loop-next.invariant.finder
+use Rattle.prune.proofs.or.decide_or_bids.Goals.{in-Ok-Some+in_ok-push-in-Ok-Some, in-Ok-None+in_ok-push-in-Ok-None+in_ok-push-in-Ok-None-2}
 
 pub loop-next-init : goal.loop-next-init
-loop-next-init g c =
-    let bids = atoms_of g.S.GoodsSet.goods c.args.atoms.items in
-    let best = atoms_of g.S.GoodsSet.goods c.keep_best_bids.new.bids.items in
-    record {
-      left = record { long = refl; rest = refl };
+loop-next-init c =
+    let given = atoms_by_number c.args.bids.now c.args.numbers.now in
+    rw c.new-kept.ensures.items (record {
+      first = refl;
       finder = c.in_ok-finder.ensures.finder;
       kept = IsKept-none or_value or_value-price or_more or_value-filter_le;
-      within = subst (λ (o : SearchOptions). IsWithin c.args.options o bids best) (sym c.in_ok-finder.ensures.options)
-          (IsWithin-start c.args.options bids best c.in_ok-keep_best_bids.ensures.best);
-      fewer = omega arith;
-      noted = search rules;
+      within = subst (λ (o : SearchOptions). IsWithin c.args.options o given (best_of c.args.bids.now c.args.numbers.now c.args.numbers.now))
+          (sym c.in_ok-finder.ensures.options) (IsWithin-start c.args.options given _ (best_are c.args.bids.now c.args.numbers.now c.requires.order));
+      noted = record { fates = sym (append-nil c.args.fates.now); chosen = refl };
+    })
+
+pub loop-next-preserved-then-not-branch : goal.loop-next-preserved-then-not-branch
+loop-next-preserved-then-not-branch c =
+    let bids = c.args.bids.now in
+    let numbers = c.args.numbers.now in
+    let h = c.loop-next.invariant in
+    let i = c.loop-next.next-index in
+    let n = get_or numbers i 0 in
+    let passed = take i numbers in
+    let rest = drop (i + 1) numbers in
+    let parts = next_parts numbers i 0 c.loop-next-test.true in
+    let taken = next_taken numbers i 0 c.loop-next-test.true in
+    let left = next_left numbers i 0 c.loop-next-test.true in
+    let first = c.loop-next.first in
+    let found = c.in_ok-is_best.ensures in
+    let lesser : is_best_of bids numbers n ≡ false =
+    sym (found.best ∙ best_by_first bids numbers c.requires.order passed rest n parts first h.first) ∙ c.if-not-branch.true in
+    record {
+      first = rw taken (subst (IsFirst bids numbers (passed ++ n ∷ [])) (sym found.first)
+          (first_next bids numbers c.requires.order passed rest n parts first h.first));
+      finder = h.finder;
+      kept = rw (taken, lesser_one bids numbers passed n lesser) h.kept;
+      within = subst (IsWithin c.args.options c.loop-next.finder.search.options (atoms_by_number bids numbers))
+          (ap (best_of bids numbers) left ∙ lesser_left bids numbers rest n lesser) h.within;
+      noted = rw (taken, found.fates, lesser_by_first bids numbers c.requires.order passed rest n parts first h.first)
+          (noted_lesser bids numbers _ _ c.args.fates.now passed n _ _ h.noted lesser);
     }
 
-pub loop-next-preserved-then-is_dropped : goal.loop-next-preserved-then-is_dropped
-loop-next-preserved-then-is_dropped g c =
-    let goods = g.S.GoodsSet.goods in
+pub decide-requires-clause-bid : goal.decide-requires-clause-bid
+decide-requires-clause-bid c =
+    subst (IsAtom MAX_GOODS) (sym (ap atom_of c.bid_of.ensures))
+    (number_is_atom MAX_GOODS c.args.bids.now c.args.numbers.now c.loop-next.next-index c.requires.atoms c.loop-next-test.true)
+
+pub decide-requires-clause-kept : goal.decide-requires-clause-kept
+decide-requires-clause-kept c =
+    let bids = c.args.bids.now in
+    let numbers = c.args.numbers.now in
     let h = c.loop-next.invariant in
-    let now = c.loop-next.atoms in
-    let there : c.loop-next.next < length now.items =
-    omega (arith, c.loop-next-test.true, c.len-next-end.ensures, c.keep_best_bids.new.bids.ok.0, h.left.long) in
-    let turn = next_turn goods (λ s. (g.met.S.GoodsSet.is_bundle s).0) _ _ now.items c.loop-next.next c.index.result.now
-    c.in_ok-keep_best_bids.ensures.best h.left there c.index.ensures in
-    let kept = atoms_of goods (take c.loop-next.kept now.items) in
-    let within = subst (IsWithin _ _ _) (one_left goods _ _ _ _ h.left there c.index.ensures) h.within in
-    let done = one_done goods _ _ _ _ h.left there c.index.ensures in
-    let decided = rw c.deref-in-loop-next.ensures.value at c.in-Ok.ensures.decided in
-    let ready = rw c.deref-in-loop-next.ensures.value at c.in-Ok.ensures.finder in
-    let dropped = sym c.is_some-is_dropped.ensures ∙ c.if-is_dropped.true in
-    record {
-      left = next_left _ _ _ _ h.left there c.index.ensures now.items refl refl;
-      finder = subst (λ zs. IsFinderOf zs c.decide.new.self) (append-nil kept)
-          (subst (λ b. IsFinderOf (kept ++ cond b [] (plain_atom goods c.index.result.now ∷ [])) c.decide.new.self) dropped ready);
-      kept = rw done (or_reached _ _ _ _ kept turn h.kept (sym dropped ∙ decided.answer.answer));
-      within = IsWithin-next _ _ _ _ _ _ kept turn h.kept within _ decided.within decided.left;
-      fewer = omega (arith, h.fewer);
-      noted =
-          rw done (or_noted_dropped _ _ _ _ kept turn h.kept.among c.args.options.kind _ h.within.kind _ _ c.in-Ok.found
-          c.in_ok-push.ensures.items decided.answer.answer decided.answer.indices h.noted);
-    }
+    let i = c.loop-next.next-index in
+    let n = get_or numbers i 0 in
+    let parts = next_parts numbers i 0 c.loop-next-test.true in
+    let best : is_best_of bids numbers n ≡ true =
+    sym (c.in_ok-is_best.ensures.best ∙ best_by_first bids numbers c.requires.order (take i numbers) (drop (i + 1) numbers) n parts c.loop-next.first h.first)
+    ∙ c.if-not-branch.false in
+    let turn = next_turn bids numbers MAX_GOODS c.requires.order c.requires.atoms (take i numbers) (drop (i + 1) numbers) n parts best in
+    rw c.deref.ensures.value (kept_on_goods MAX_GOODS _ _ (atoms_by_number bids c.loop-next.kept.items) _ _ c.requires.atoms turn h.kept.among)
+
+pub decide-requires-clause-finder : goal.decide-requires-clause-finder
+decide-requires-clause-finder c = rw c.deref.ensures.value c.loop-next.invariant.finder
+
+pub returns-clause-points : goal.returns-clause-points
+returns-clause-points c =
+    let bids = c.args.bids.now in
+    let numbers = c.args.numbers.now in
+    let given = atoms_by_number bids numbers in
+    let all = take_all c.loop-next.next-index numbers (omega (arith, c.loop-next-test.false)) in
+    or_done given (best_of bids numbers numbers) _ (all_nonempty MAX_GOODS given (on_bundles MAX_GOODS given c.requires.atoms))
+    (best_are bids numbers c.requires.order)
+    (subst (λ zs. IsOrKept (best_of bids numbers zs) (atoms_by_number bids c.loop-next.kept.items)) all c.loop-next.invariant.kept)
+
+pub returns-clause-none_refused : goal.returns-clause-none_refused
+returns-clause-none_refused c = λ n are.
+    let bids = c.args.bids.now in
+    let numbers = c.args.numbers.now in
+    let given = atoms_by_number bids numbers in
+    let none = drop_all c.loop-next.next-index numbers (omega (arith, c.loop-next-test.false)) in
+    IsWithin-end c.args.options c.loop-next.finder.search.options given
+    (subst (λ zs. IsWithin c.args.options c.loop-next.finder.search.options given (best_of bids numbers zs)) none c.loop-next.invariant.within) n are
 
 pub loop-next-preserved : goal.loop-next-preserved
-loop-next-preserved g c =
-    let goods = g.S.GoodsSet.goods in
+loop-next-preserved c =
+    let bids = c.args.bids.now in
+    let numbers = c.args.numbers.now in
+    let given = atoms_by_number bids numbers in
+    let kind = c.args.options.kind in
     let h = c.loop-next.invariant in
-    let now = c.loop-next.atoms in
-    let there : c.loop-next.next < length now.items =
-    omega (arith, c.loop-next-test.true, c.len-next-end.ensures, c.keep_best_bids.new.bids.ok.0, h.left.long) in
-    let turn = next_turn goods (λ s. (g.met.S.GoodsSet.is_bundle s).0) _ _ now.items c.loop-next.next c.index.result.now
-    c.in_ok-keep_best_bids.ensures.best h.left there c.index.ensures in
-    let kept = atoms_of goods (take c.loop-next.kept now.items) in
-    let within = subst (IsWithin _ _ _) (one_left goods _ _ _ _ h.left there c.index.ensures) h.within in
-    let done = one_done goods _ _ _ _ h.left there c.index.ensures in
-    let decided = rw c.deref-in-loop-next.ensures.value at c.in-Ok.ensures.decided in
-    let ready = rw c.deref-in-loop-next.ensures.value at c.in-Ok.ensures.finder in
-    let missed = sym c.is_some-is_dropped.ensures ∙ c.if-is_dropped.false in
-    let after = c.move_to_prefix.new.elements in
-    let moved = c.move_to_prefix.ensures in
-    let more = one_kept goods now.items after.items c.loop-next.kept _ _ c.index.ensures moved.prefix in
-    record {
-      left = next_left _ _ _ _ h.left there c.index.ensures after.items (omega (arith, moved.len, after.ok.0, now.ok.0))
-          moved.rest;
-      finder = rw more (subst (λ b. IsFinderOf (kept ++ cond b [] (plain_atom goods c.index.result.now ∷ [])) c.decide.new.self) missed ready);
-      kept = rw (done, more) (or_missed _ _ _ _ kept turn h.kept (sym missed ∙ decided.answer.answer));
-      within = IsWithin-next _ _ _ _ _ _ kept turn h.kept within _ decided.within decided.left;
-      fewer = omega (arith, h.fewer);
-      noted =
-          rw (done, more) (or_noted_kept _ _ _ _ kept turn h.kept.among c.args.options.kind _ h.within.kind _ _ c.in-Ok.found
-          c.in_ok-push.ensures.items decided.answer.answer decided.answer.indices h.noted);
-    }
+    let i = c.loop-next.next-index in
+    let n = get_or numbers i 0 in
+    let x = atom_by_number bids n in
+    let passed = take i numbers in
+    let rest = drop (i + 1) numbers in
+    let parts = next_parts numbers i 0 c.loop-next-test.true in
+    let taken = next_taken numbers i 0 c.loop-next-test.true in
+    let left = next_left numbers i 0 c.loop-next-test.true in
+    let first = c.loop-next.first in
+    let kept = c.loop-next.kept.items in
+    let points = atoms_by_number bids kept in
+    let now = c.loop-next.finder.search.options in
+    let best : is_best_of bids numbers n ≡ true =
+    sym (c.in_ok-is_best.ensures.best ∙ best_by_first bids numbers c.requires.order passed rest n parts first h.first) ∙ c.if-not-branch.false in
+    let turn = next_turn bids numbers MAX_GOODS c.requires.order c.requires.atoms passed rest n parts best in
+    let within = subst (IsWithin c.args.options now given) (ap (best_of bids numbers) left ∙ best_left bids numbers rest n best) h.within in
+    let first_done : IsFirst bids numbers (take (i + 1) numbers) c.is_best.new.first = rw taken (subst (IsFirst bids numbers (passed ++ n ∷ []))
+    (sym c.in_ok-is_best.ensures.first) (first_next bids numbers c.requires.order passed rest n parts first h.first)) in
+    let same : c.is_best.new.fates ≡ c.loop-next.fates =
+    c.in_ok-is_best.ensures.fates ∙ ap (λ (zs : List PlainFate). c.loop-next.fates ++ zs)
+    (lesser_by_first bids numbers c.requires.order passed rest n parts first h.first ∙ none_lesser bids numbers n best) ∙ append-nil c.loop-next.fates in
+    let bid : atom_of (seen_bid c.bid_of.result) ≡ x = ap atom_of c.bid_of.ensures in
+    let goods = ap (λ (b : PlainBid). b.goods) c.bid_of.ensures in
+    let price = ap (λ (b : PlainBid). b.price) c.bid_of.ensures in
+    elim c.match-decide-2.branch [
+      | in-Ok-Some+in_ok-push-in-Ok-Some w ↦
+          let decided = rw (c.deref.ensures.value, bid, goods, price) at w.in-Ok-Some.ensures.decided in
+          let ready = rw (c.deref.ensures.value, bid) at w.in-Ok-Some.ensures.finder in
+          let reached = decided.answer.answer in
+          let found = subst (λ (k : SearchKind). w.in-Ok-Some.packing.items ≡ numbers_at kept (found_inside k points x.bundle x.price)) h.within.kind
+          decided.answer.numbers in
+          rw (w.fates-is, w.kept-is) (record {
+            first = first_done;
+            finder = subst (λ zs. IsFinderOf zs c.decide.new.self) (append-nil points) ready;
+            kept = rw (taken, best_one bids numbers passed n best) (or_reached given _ x _ points turn h.kept reached);
+            within = IsWithin-next _ _ given _ x _ points turn h.kept within _ decided.within decided.left;
+            noted = rw (taken, w.in_ok-push-in-Ok-Some.ensures, same) (noted_dropped bids numbers _ (or_push bids numbers kind) c.args.fates.now passed n kept
+                _ h.noted best _ (ap Packing found ∙ sym (ap (or_outcome kept) (found_is_fate given _ x _ points turn h.kept.among kind reached))) refl);
+          })
+      | in-Ok-None+in_ok-push-in-Ok-None+in_ok-push-in-Ok-None-2 w ↦
+          let decided = rw (c.deref.ensures.value, bid, goods, price) at w.in-Ok-None.ensures.decided in
+          let ready = rw (c.deref.ensures.value, bid) at w.in-Ok-None.ensures.finder in
+          let missed = decided.answer.answer in
+          let more = w.in_ok-push-in-Ok-None-2.ensures.items in
+          let pushed = map_push (atom_by_number bids) kept n in
+          rw (w.fates-is, w.kept-is) (record {
+            first = first_done;
+            finder = rw (more, pushed) ready;
+            kept = rw (taken, best_one bids numbers passed n best, more, pushed) (or_missed given _ x _ points turn h.kept missed);
+            within = IsWithin-next _ _ given _ x _ points turn h.kept within _ decided.within decided.left;
+            noted = rw (taken, more, w.in_ok-push-in-Ok-None.ensures, same) (noted_kept bids numbers _ (or_push bids numbers kind) c.args.fates.now passed n
+                kept _ h.noted given _ turn best (sym (ap (or_outcome kept) (missed_is_fate given _ x _ points turn h.kept.among kind missed))));
+          })
+    ]
 
 pub returns-in-Err-StepLimit-clause-refused : goal.returns-in-Err-StepLimit-clause-refused
-returns-in-Err-StepLimit-clause-refused g c =
-    let goods = g.S.GoodsSet.goods in
+returns-in-Err-StepLimit-clause-refused c =
+    let bids = c.args.bids.now in
+    let numbers = c.args.numbers.now in
+    let given = atoms_by_number bids numbers in
     let h = c.loop-next.invariant in
-    let now = c.loop-next.atoms in
-    let there : c.loop-next.next < length now.items =
-    omega (arith, c.loop-next-test.true, c.len-next-end.ensures, c.keep_best_bids.new.bids.ok.0, h.left.long) in
-    let turn = next_turn goods (λ s. (g.met.S.GoodsSet.is_bundle s).0) _ _ now.items c.loop-next.next c.index.result.now
-    c.in_ok-keep_best_bids.ensures.best h.left there c.index.ensures in
-    let within = subst (IsWithin _ _ _) (one_left goods _ _ _ _ h.left there c.index.ensures) h.within in
-    let decided = rw c.deref-in-loop-next.ensures.value at c.in-Err-StepLimit.ensures.decided in
+    let i = c.loop-next.next-index in
+    let n = get_or numbers i 0 in
+    let passed = take i numbers in
+    let rest = drop (i + 1) numbers in
+    let parts = next_parts numbers i 0 c.loop-next-test.true in
+    let best : is_best_of bids numbers n ≡ true =
+    sym (c.in_ok-is_best.ensures.best ∙ best_by_first bids numbers c.requires.order passed rest n parts c.loop-next.first h.first) ∙ c.if-not-branch.false in
+    let turn = next_turn bids numbers MAX_GOODS c.requires.order c.requires.atoms passed rest n parts best in
+    let within = subst (IsWithin c.args.options c.loop-next.finder.search.options given)
+    (ap (best_of bids numbers) (next_left numbers i 0 c.loop-next-test.true) ∙ best_left bids numbers rest n best) h.within in
+    let goods = ap (λ (b : PlainBid). b.goods) c.bid_of.ensures in
+    let price = ap (λ (b : PlainBid). b.price) c.bid_of.ensures in
+    let decided = rw (c.deref.ensures.value, ap atom_of c.bid_of.ensures, goods, price) at c.in-Err-StepLimit.ensures.decided in
     let over = decided.step_limit (ap Err c.in-Err-StepLimit.field-0-is) in
-    let removed = c.swap_remove-bundle.result in
-    let read : c.index.result.now ≡ removed =
-    get_or_read now.items _ c.index.result.now there c.index.ensures removed ∙ sym c.swap_remove-bundle.ensures.value in
-    rw (sym read) (IsWithin-refused _ _ _ _ _ _ _ turn h.kept within over)
-
-pub returns : goal.returns
-returns g c =
-    let goods = g.S.GoodsSet.goods in
-    let bids = atoms_of goods c.args.atoms.items in
-    let h = c.loop-next.invariant in
-    let best = c.keep_best_bids.new.bids in
-    let options = c.loop-next.finder.search.options in
-    let all : length best.items ≤ c.loop-next.next = omega (arith, c.loop-next-test.false, c.len-next-end.ensures, best.ok.0) in
-    let best_are = c.in_ok-keep_best_bids.ensures.best in
-    let points = all_done goods IsOrKept (ArePoints or_points or_value bids) best.items _ _ c.loop-next.next h.kept all c.truncate.ensures.items
-    (or_done bids _ _ (all_some MAX_GOODS bids c.requires) best_are) in
-    record {
-      points = points;
-      no_longer = search rules;
-      none_refused = λ n are.
-          IsWithin-end c.args.options options bids (subst (IsWithin c.args.options options bids) (none_left goods best.items c.loop-next.next all) h.within)
-          n are;
-      refused = tt;
-      fates = λ n are.
-          noted_all goods (or_fate c.args.options.kind) n bids (or_points n bids) best.items _ _ c.loop-next.next _ (on_bundles n bids are) best_are all
-          c.truncate.ensures.items (points.points n are) h.noted;
-    }
+    IsWithin-refused _ _ given _ (atom_by_number bids n) _ (atoms_by_number bids c.loop-next.kept.items) turn h.kept within over

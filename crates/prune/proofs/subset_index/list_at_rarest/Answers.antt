@@ -1,5 +1,5 @@
 -- `list_at_rarest`
-use Rattle.prune.proofs.Common.{rules, arith, ◌≡◌, ◌++◌, ◌<◌, ℕ, length, sym, ap, ◌∙◌, subst, set, List, [], ◌∷◌, has_good, AreMarks, Posting}
+use Rattle.prune.proofs.Common.{rules, arith, ◌≡◌, ◌++◌, ◌<◌, ℕ, length, sym, ap, ◌∙◌, subst, set, List, [], ◌∷◌, has_good, IsRising, AreMarks, Posting}
 use Rattle.prune.proofs.Common.{lists_of}
 use Rattle.prune.proofs.Common.{listed_at}
 use Rattle.prune.proofs.ListedAtoms.{AreListed-more}
@@ -24,4 +24,5 @@ returns c = λ kept atom e i h.
     AreListed-more (lists_of c.args.lists.now.items) _ kept good posting h
     (λ k n. listed-set_other vectors good c.push-2.new.self k n ∙ c.loop-alloc.invariant k) there i atom
     (ap (has_good atom.bundle) same ∙ ap (λ (zs : List ℕ). has_good zs c.rarest.result) e ∙ c.rarest.ensures)
+    (subst (λ (zs : List ℕ). IsRising zs) (sym e) c.requires.rising)
     (subst (λ (zs : List ℕ). AreMarks zs c.fingerprint.result) (sym e) c.fingerprint.ensures)

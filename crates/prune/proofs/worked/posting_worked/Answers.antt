@@ -7,4 +7,4 @@ pub returns-clause-right : goal.returns-clause-right
 returns-clause-right c = listed_rightly
 
 pub returns-clause-no_mark : goal.returns-clause-no_mark
-returns-clause-no_mark c h = let marked = h.marks.each 0 refl in absurd (omega (arith, marked, bit_at-zero 96))
+returns-clause-no_mark c h = let marked = h.marks.each 0 refl in absurd (omega (arith, marked, bit_at-zero 0))

@@ -13,9 +13,9 @@ none_yet = search rules
 
 pub returns-clause-one : goal.returns-clause-one
 returns-clause-one c =
-    let it : Posting = record { index = 0; fingerprint = 2 ^ 96 } in
-    AreListed-more [] ((it ∷ []) ∷ []) [] 0 it none_yet (elsewhere it) refl refl (atom (0 ∷ []) 5) refl listed_rightly.marks
+    let it : Posting = record { index = 0; fingerprint = 1 } in
+    AreListed-more [] ((it ∷ []) ∷ []) [] 0 it none_yet (elsewhere it) refl refl (atom (0 ∷ []) 5) refl listed_rightly.rising listed_rightly.marks
 
 pub returns-clause-too_many : goal.returns-clause-too_many
-returns-clause-too_many c h = let it : Posting = record { index = 0; fingerprint = 2 ^ 96 } in
+returns-clause-too_many c h = let it : Posting = record { index = 0; fingerprint = 1 } in
     absurd (omega (arith, (h.right 0 it (0, omega arith, refl)).within))
