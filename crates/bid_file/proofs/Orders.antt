@@ -1,8 +1,9 @@
 -- The order of keyed numbers: behind the right keys it is the order of the numbers.
-use Rattle.std.proofs.Common.{◌≡◌, ℕ, ◌+◌, ◌<◌, List, [], ◌∷◌, Ordering, Less, Equal, Greater, length, map, refl, sym, ap, ap₂, ◌∙◌, subst, arith, None}
+use Rattle.std.proofs.Common.{rules, ◌≡◌, ℕ, ◌+◌, ◌<◌, List, [], ◌∷◌, Ordering, Less, Equal, Greater, length, map, get_or, refl, sym, ap, ap₂, ◌∙◌, subst, arith, nat_cmp, None}
 use Rattle.std.specs.Prelude.{All, IsSorted}
 use Rattle.std.specs.List.{range_with_len}
 use Rattle.std.specs.Ordering.{is_lt, ordering_then}
+use Rattle.std.specs.Option.{option_cmp}
 use Rattle.std.specs.Cmp.{IsTotalOrder}
 use Rattle.std.specs.Cmp.Lexicographic.{options_total}
 use Rattle.std.proofs.lemmas.Cmp.{back_total, nat_cmp_total, on_total, then_total}
@@ -10,12 +11,14 @@ use Rattle.std.proofs.lemmas.List.{get_or-map, length-map}
 use Rattle.std.proofs.lemmas.List.Elements.{All-from_recursion}
 use Rattle.std.proofs.lemmas.List.FromFn.{get_or-map-range_with_len, length-map-range_with_len}
 use Rattle.goods_set.specs.Bundles.{AreBelow}
+use Rattle.goods_set.specs.Orders.{bundle_cmp}
+use Rattle.goods_set.specs.SortKeys.{sort_key_of}
 use Rattle.goods_set.specs.Lemmas.Members.{AreBelow-higher}
 use Rattle.goods_set.specs.Lemmas.Orders.{bundle_cmp_total}
 use Rattle.goods_set.specs.Lemmas.SortKeys.{order_by_key}
 use Rattle.bid_file.specs.Files.{IsBid, IsPlainFile, PlainBid, PlainFile}
 use Rattle.bid_file.specs.Internal.KeyedNumbers.{keyed, keyed_cmp}
-use Rattle.bid_file.specs.Numbers.{bid_of, bidder_and_bundle_cmp, number_cmp}
+use Rattle.bid_file.specs.Numbers.{bid_of, bidder_and_bundle_cmp, best_first_cmp, number_cmp}
 use Rattle.bid_file.specs.declared.numbers.KeyedNumber.{KeyedNumber}
 
 bidder_and_bundle_cmp_total : IsTotalOrder bidder_and_bundle_cmp

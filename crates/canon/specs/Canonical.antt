@@ -1,12 +1,11 @@
 -- The canonical auction, and the file of an auction. Of the OR bidder and of each XOR bidder the points stay, the bids
 -- that the values alone determine; XOR bidders of value zero are dropped, and the others are in the order of their
 -- lists of bids, equal ones beside one another.
-use Rattle.std.specs.Prelude.{◌≡◌, ℕ, ◌+◌, List, [], ◌∷◌, ◌++◌, map, filter, length, Some, None}
+use Rattle.std.specs.Prelude.{◌≡◌, ℕ, ◌+◌, List, [], ◌∷◌, ◌++◌, map, filter, length, Option, Some, None}
 use Rattle.bid_file.specs.Files.{PlainBid, PlainFile}
 use Rattle.cats_text.specs.Layout.{layout}
 use Rattle.valuation.specs.declared.atom.Atom.{Atom}
 use Rattle.valuation.specs.Auctions.{PlainAuction, auction_from}
-pub use Rattle.valuation.specs.Auctions.{bid_from}
 use Rattle.valuation.specs.Orders.{bidder_cmp}
 use Rattle.valuation.specs.Sorting.{sort_by}
 use Rattle.valuation.specs.Tables.{xor_table, is_nonzero}
@@ -37,6 +36,9 @@ abbrev pub IsCanonical : PlainAuction → Type 0
 IsCanonical a = canonical_auction a ≡ a
 
 -- ---- files
+
+abbrev pub bid_from : Option ℕ → Atom (List ℕ) → PlainBid
+bid_from dummy a = record { price = a.price; goods = a.bundle; dummy = dummy }
 
 -- the bids of these bidders, with the dummy goods from d on
 abbrev pub dummy_bids : ℕ → List (List (Atom (List ℕ))) → List PlainBid

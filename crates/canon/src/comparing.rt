@@ -8,7 +8,7 @@ mod file_bidders;
 mod price_walk;
 mod xor_bidders;
 
+pub use bid_order::order_of_bundles;
 pub use bid_run::BidRun;
 pub use file_bidders::FileBidders;
-pub use goods_set::order_of_bundles;
 pub use price_walk::{PriceChange, price_changes};

@@ -23,14 +23,14 @@ use crate::input::Input;
 use bid_file::PackedFile;
 use bundles::bundle_of;
 use canon::CanonFault;
-use goods_set::{GoodsSet, ListSet};
+use goods_set::GoodsSet;
 use goods_set::listing::goods_of;
 use lines::{push_or_line, push_xor_lines};
 use numbers::bid_numbers;
 use requests::help::CommandHelp;
 use std::alloc::Global;
 use valuation::search::{SearchOptions, or_value_by};
-use valuation::{Auction, Packing, ValueFault, auction_of};
+use valuation::{Auction, Packing, ValueFault, auction_of, on_set_for};
 
 /// What `--help` prints of it.
 pub fn help<'a>() -> CommandHelp<'a> {
@@ -85,7 +85,7 @@ pub fn value<I: Input>(
     if let Some(good) = first_missing(goods, file.goods()) {
         return Err(RunFault::GoodRange(good));
     }
-    let text = text_of_values::<ListSet>(alloc, &file, goods, options)?;
+    let text = text_on_sets(alloc, &file, goods, options)?;
     Ok(done(Output::Text(text)))
 }
 
@@ -94,6 +94,21 @@ fn first_missing(goods: &[u16], count: u16) -> Option<u16>
     ensures { result ≡ missing_good count goods.now }
 {
     goods.iter().copied().find(|good| *good >= count)
+}
+
+/// The values of the bundle of these goods, as they are printed, by the kind of sets that suits the file's bids.
+fn text_on_sets(
+    alloc: Global,
+    file: &PackedFile,
+    goods: &[u16],
+    options: SearchOptions,
+) -> Result<Vec<u8>, CanonFault>
+    requires facts { IsPlainFile file.now }
+    requires there { missing_good file.now.goods goods.now ≡ None }
+    ensures { MakesAs (values_unless (exceeds_limits (bundle_from goods.now) options file.now)
+        (bundle_from goods.now) file.now) result }
+{
+    on_set_for!(file, text_of_values(alloc, file, goods, options))
 }
 
 /// The values of the bundle of these goods, as they are printed.

@@ -16,5 +16,5 @@ pub mod worked;
 pub use list_set::ListSet;
 pub use lists::{has_good, is_subset, order_of_bundles};
 pub use set::GoodsSet;
-pub use sort_keys::{key_of_goods, sort_key};
+pub use sort_keys::key_of_goods;
 pub use word_set::WordSet;

@@ -1,10 +1,7 @@
 //! The sort keys of bundles, compared before their goods. They are only for speed: the order of bundles doesn't
 //! depend on it.
-ghost use Rattle.std.specs.Prelude.{◌≡◌, ℕ, ◌+◌, List, length, get_or};
-ghost use Rattle.std.specs.List.{slice_get};
+ghost use Rattle.std.specs.Prelude.{◌≡◌, ℕ, List, length, get_or};
 ghost use Rattle.goods_set.specs.SortKeys.{sort_key_of};
-
-use crate::set::GoodsSet;
 
 /// The sort key of a set of this size with these first goods, 0 in place of those that it lacks.
 fn key_from(size: usize, first: u16, second: u16, third: u16) -> u64
@@ -38,35 +35,5 @@ pub fn key_of_goods(goods: &[u16]) -> u64
         good_at(goods, 0),
         good_at(goods, 1),
         good_at(goods, 2),
-    )
-}
-
-/// The good of the set that comes behind this one.
-fn good_behind<S: GoodsSet>(set: &S, good: Option<u16>) -> Option<u16>
-    ensures { (index : ℕ) → good ≡ slice_get (S.goods set.now) index
-        → result ≡ slice_get (S.goods set.now) (index + 1) }
-{
-    match good {
-        Some(good) => set.next_from(u32::from(good) + 1),
-        None => None,
-    }
-}
-
-/// How many goods a set has and the first three of them, as one number: sets with different keys are in the order of
-/// these.
-pub fn sort_key<S: GoodsSet>(set: &S) -> u64
-    ensures { result ≡ sort_key_of (S.goods set.now) }
-{
-    if let Some(goods) = set.as_slice() {
-        return key_of_goods(goods);
-    }
-    let first = set.next_from(0);
-    let second = good_behind(set, first);
-    let third = good_behind(set, second);
-    key_from(
-        set.size(),
-        first.unwrap_or(0),
-        second.unwrap_or(0),
-        third.unwrap_or(0),
     )
 }

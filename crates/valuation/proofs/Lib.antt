@@ -1,5 +1,10 @@
 -- Proofs that several functions of this crate cite.
 pub mod Common
+pub mod Covers
+pub mod OpenBids
+pub mod LaterBids
+pub mod Kept
+pub mod ValueRefused
 pub mod ConflictMasks
 pub mod AllHolders
 pub mod FirstBestAtoms
@@ -12,10 +17,6 @@ pub mod Rates
 pub mod FewerAtoms
 pub mod PricesLeft
 pub mod RatesSoFar
-pub mod Candidates
 pub mod Choosing
-pub mod LargestFirst
 pub mod SearchesInTurn
-pub mod SearchesForValue
-pub mod ValueStepsCounted
 pub mod BidsRead

@@ -2,6 +2,6 @@
 -- them.
 pub mod Holders
 pub mod Reaching
-pub mod BestSearch
+pub mod ValueSearch
 pub mod Searches
 pub mod Conflicts

@@ -1,8 +1,18 @@
--- The file of an auction is made bidder by bidder.
+-- The file of an auction is made bid by bid: one more atom of a bidder, and one more bidder.
 use Rattle.canon.proofs.Common.{◌≡◌, ℕ, ◌+◌, ◌<◌, ◌≤◌, List, [], ◌∷◌, ◌++◌, length, map, drop, get_or, Option, Some, sym, ap, ◌∙◌, subst, append_assoc, Global}
 use Rattle.canon.proofs.Common.{rules, Vec, drop-map, drop_more, append-nil, drop_all, length-map, PlainBid, PlainFile, IsBidFile, IsPlainFile, Atom}
 use Rattle.canon.proofs.Common.{PlainAuction, IsAuction, drop-atoms_of, bidders_of, atoms_of, bid_from, dummy_bids, file_from}
 use Rattle.canon.proofs.CanonicalFiles.Files.{IsPlainFile-file_from}
+
+-- one more bid, and one atom less to come
+pub one_more_bid : {S : Type 0} (goods : S → List ℕ) (dummy : Option ℕ) (old new : List PlainBid) (bundle : List ℕ) (atoms : List (Atom S)) (i : ℕ) (a : Atom S)
+    → i < length atoms → a ≡ get_or atoms i a → bundle ≡ goods a.bundle → new ≡ old ++ bid_from dummy (record { bundle = bundle; price = a.price }) ∷ []
+    → new ++ map (bid_from dummy) (drop (i + 1) (atoms_of goods atoms)) ≡ old ++ map (bid_from dummy) (drop i (atoms_of goods atoms))
+one_more_bid goods dummy old new bundle atoms i a l e its more = search (rules, append_assoc, drop-atoms_of)
+
+-- none is to come
+pub all_bids : {X Y : Type 0} (done : List Y) (f : X → Y) (xs : List X) (i : ℕ) (all : List Y) → length xs ≤ i → done ++ map f (drop i xs) ≡ all → done ≡ all
+all_bids {X} {Y} done f xs i all l h = search (rules, append-nil, drop_all)
 
 -- the bidder at an index, and those behind it
 pub next_bidder : {S : Type 0} (goods : S → List ℕ) (bidders : List (Vec (Atom S) Global)) (i : ℕ) (b : Vec (Atom S) Global)

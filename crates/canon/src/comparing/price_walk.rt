@@ -9,9 +9,9 @@ ghost use Rattle.canon.specs.Bidders.{offers};
 ghost use Rattle.canon.specs.Internal.PriceWalks.{IsFirstBundle};
 ghost use Rattle.canon.specs.PriceChanges.{ArePriceChanges, plain_change};
 
+use crate::comparing::bid_order::order_of_bundles;
 use crate::comparing::bid_run::BidRun;
 use bid_file::Bids;
-use goods_set::order_of_bundles;
 use std::alloc::{AllocError, Global};
 
 /// A bundle on which one of two lists of bids has a bid, and the other has none or one at another price.

@@ -1,14 +1,16 @@
 //! The file of an auction.
 
-ghost use Rattle.std.specs.Prelude.{◌≡◌, IfOk};
+ghost use Rattle.std.specs.Prelude.{◌≡◌, ◌++◌, IfOk, OnOk, map};
 ghost use Rattle.bid_file.specs.Views.{plain_file};
+ghost use Rattle.valuation.specs.Values.{atoms_of};
 ghost use Rattle.valuation.specs.Views.{plain_auction};
-ghost use Rattle.canon.specs.Canonical.{file_from};
+ghost use Rattle.canon.specs.Canonical.{bid_from, file_from};
 
 use bid_file::{BidFile, PackedBids, PackedFile};
 use goods_set::GoodsSet;
+use goods_set::listing::rising_goods;
 use std::alloc::{AllocError, Global};
-use valuation::{Auction, push_atoms};
+use valuation::{Atom, Auction};
 
 /// The file of any auction, canonical or not: the OR bidder's atoms are bids without a dummy good, and those of the XOR
 /// bidders have the dummy goods 0, 1, and so on.
@@ -30,10 +32,10 @@ pub(crate) fn packed_file_of<S: GoodsSet>(
     let mut bids = PackedBids::new(alloc);
     bids.reserve(count_atoms(auction))?;
     let mut bundle = Vec::new(alloc);
-    push_atoms(&mut bids, &mut bundle, auction.or_atoms(), None)?;
+    push_bids(&mut bids, &mut bundle, auction.or_atoms(), None)?;
     for (dummy, bidder) in bidders.iter().enumerate() {
         let atoms = bidder.as_slice();
-        push_atoms(&mut bids, &mut bundle, atoms, Some(dummy as u32))?;
+        push_bids(&mut bids, &mut bundle, atoms, Some(dummy as u32))?;
     }
     Ok(PackedFile::new(auction.goods(), bidders.len() as u32, bids))
 }
@@ -45,4 +47,20 @@ fn count_atoms<S: GoodsSet>(auction: &Auction<S>) -> usize {
         count = count.saturating_add(bidder.len());
     }
     count
+}
+
+/// Appends a bid for each atom, all with the same dummy good.
+fn push_bids<S: GoodsSet>(
+    bids: &mut PackedBids,
+    bundle: &mut Vec<u16>,
+    atoms: &[Atom<S>],
+    dummy: Option<u32>,
+) -> Result<(), AllocError>
+    ensures { OnOk result (bids.new ≡ bids.old ++ map (bid_from dummy) (atoms_of S.goods atoms.now)) }
+{
+    for atom in atoms {
+        let goods = rising_goods(&atom.bundle, bundle)?;
+        bids.push(atom.price, goods, dummy)?;
+    }
+    Ok(())
 }

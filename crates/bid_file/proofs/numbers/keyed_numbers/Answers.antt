@@ -1,6 +1,7 @@
 -- `keyed_numbers`
-use Rattle.std.proofs.Common.{◌∙◌, ◌∷◌, ◌++◌, [], ℕ, List, Option, ap, ap₂, sym, arith}
+use Rattle.std.proofs.Common.{◌≡◌, ◌∙◌, ◌∷◌, ◌++◌, [], ℕ, List, Option, ap, ap₂, map, sym, arith}
 use Rattle.std.proofs.lemmas.List.FromFn.{map-range_with_len_more}
+use Rattle.std.specs.List.{range_with_len}
 use Rattle.goods_set.specs.SortKeys.{sort_key_of}
 use Rattle.bid_file.specs.Files.{PlainBid}
 use Rattle.bid_file.specs.Internal.KeyedNumbers.{keyed}

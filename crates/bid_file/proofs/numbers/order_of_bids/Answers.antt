@@ -1,5 +1,5 @@
 -- `order_of_bids`: the keyed numbers are sorted: see proofs/Orders.
-use Rattle.std.proofs.Common.{rules, ◌≡◌, ◌∙◌, List, ap, length, map, subst, subst₂, sym}
+use Rattle.std.proofs.Common.{rules, ◌≡◌, ◌∙◌, ℕ, List, ap, length, map, subst, subst₂, sym}
 use Rattle.std.specs.Prelude.{All, IsPermutation, IsSorted}
 use Rattle.std.specs.List.{range_with_len}
 use Rattle.std.specs.Ordering.{is_lt}
@@ -30,6 +30,5 @@ returns c =
     record {
       all = subst₂ IsPermutation (ap (map (λ (k : KeyedNumber). k.number)) keys ∙ numbers_of_keyed file.bids _) (sym numbers)
           (IsPermutation-map (λ (k : KeyedNumber). k.number) _ sorted moves);
-      in_order = subst (IsSorted (number_cmp file.bids)) (sym numbers)
-          (sorted_numbers file.bids sorted (All-permutation (IsKeyed file.bids) _ sorted moves are) up);
+      in_order = subst (IsSorted (number_cmp file.bids)) (sym numbers) (sorted_numbers file.bids sorted (All-permutation (IsKeyed file.bids) _ sorted moves are) up);
     }

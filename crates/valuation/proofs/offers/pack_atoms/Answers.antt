@@ -1,5 +1,5 @@
 -- `pack_atoms`
-use Rattle.valuation.proofs.Common.{rules, ◌≡◌, ◌∷◌, [], List, ℕ, Option, map, refl, ap, Atom}
+use Rattle.valuation.proofs.Common.{rules, ◌≡◌, ◌∙◌, ◌∷◌, [], List, ℕ, Option, map, refl, ap, Atom}
 use Rattle.valuation.specs.Auctions.{atom_of, bid_from}
 use Rattle.valuation.proofs.offers.pack_atoms.Goals as goal
 
