@@ -4,7 +4,6 @@ pub mod Covers
 pub mod OpenBids
 pub mod LaterBids
 pub mod Kept
-pub mod ValueRefused
 pub mod ConflictMasks
 pub mod AllHolders
 pub mod FirstBestAtoms
