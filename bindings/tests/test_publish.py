@@ -3,6 +3,7 @@ import errno
 import os
 import pathlib
 import stat
+import threading
 
 import pytest
 from texts import BIDS
@@ -57,6 +58,16 @@ def test_files_that_are_refused(folder, tmp_path):
     assert [(row.goods, row.bids, row.fault) for row in rows if row.fault] == [(row.goods, row.bids, row.fault) for row in sizes if row.fault]
     assert [row.fault and row.fault[:10] for row in rows] == ["cannot ope", "line 5: To", "step limit", None]
     assert texts_below(tmp_path / "texts") == {"c/0000.txt": yinchaku.normalise(SAME)}
+
+
+@pytest.mark.parametrize("given, fault", [(SAME, None), (TINY, "line 5: TooFine")])
+def test_a_file_is_read_once(tmp_path, given, fault):
+    os.mkfifo(tmp_path / "fifo")
+    writer = threading.Thread(target=(tmp_path / "fifo").write_bytes, args=(given,))
+    writer.start()
+    rows = list(yinchaku.publish(tmp_path / "fifo", tmp_path / "texts"))
+    writer.join()
+    assert [(row.text is None, row.fault) for row in rows] == [(fault is not None, fault)]
 
 
 @pytest.mark.parametrize("named", [["a", "b"], ["a/0000.txt", "b/0000.txt"], ["b", "b"]])

@@ -225,9 +225,13 @@ def sizes_row(given: TextOrPath, limits: Tuple[int, int], prices: Prices) -> Siz
     try:
         text = bytes_of(given)
     except OSError as error:
-        reason = REASONS.get(type(error), error.strerror or str(error))
-        return SizesRow._make([*[None] * 8, f"cannot open: {reason}", path])
+        return SizesRow._make([*[None] * 8, unopened(error), path])
     status, out, err = call(Task.SIZES, [text], prices, limits)
     if not out:
         raise error_of(status, err)
     return row_of_sizes(out, path)
+
+
+def unopened(error: OSError) -> str:
+    """Why a file cannot be read, as the program prints it."""
+    return f"cannot open: {REASONS.get(type(error), error.strerror or str(error))}"

@@ -9,11 +9,11 @@ import secrets
 from typing import Any, Dict, Iterable, Iterator, List, NamedTuple, Optional, Union
 
 from yinchaku._auction import Auction
-from yinchaku._calls import REASONS, sizes_row
+from yinchaku._calls import REASONS, sizes_row, unopened
 from yinchaku._files import ONE, files_below
 from yinchaku._library import STEPS
 from yinchaku._tables import PublishRow
-from yinchaku._texts import Rounding, limits_of, path_of, prices_of
+from yinchaku._texts import Rounding, bytes_of, limits_of, path_of, prices_of
 from yinchaku.errors import CatsError
 
 AnyPath = Union["os.PathLike[str]", "os.PathLike[bytes]"]
@@ -98,11 +98,17 @@ def rows_of(
 ) -> Iterator[PublishRow]:
     first_files: Dict[bytes, pathlib.Path] = {}
     for file, text in places:
+        # a file is read once: a FIFO has nothing the second time
         try:
-            auction = Auction(file, round=round)
+            content = bytes_of(file)
+        except OSError as error:
+            yield PublishRow(None, None, None, None, None, None, None, unopened(error), file)
+            continue
+        try:
+            auction = Auction(content, round=round)
             canonical = auction.normalise(steps, total=total)
-        except (CatsError, OSError):
-            sizes = sizes_row(file, limits_of(steps, total), prices_of(round))
+        except CatsError:
+            sizes = sizes_row(content, limits_of(steps, total), prices_of(round))
             yield PublishRow(None, None, sizes.goods, sizes.bids, None, None, None, sizes.fault, file)
             continue
         first, is_first = first_files.get(canonical.text), canonical.text not in first_files
