@@ -40,7 +40,7 @@ pub use Rattle.canon.specs.Unsearched.{unsearched_auction, AreAlike, AreAlikeAuc
 pub use Rattle.canon.specs.Verdicts.{NamesGoods, plain_verdict, printed_atoms}
 pub use Rattle.canon.specs.declared.canon_fault.CanonFault.{CanonFault}
 pub use Rattle.canon.specs.declared.canon_fault.CanonFault.TheVariants.{Read, StepLimit, Memory}
-pub use Rattle.canon.specs.declared.normal.explained.BidderFates.{BidderFates}
+pub use Rattle.canon.specs.declared.normal.named.BidderFates.{BidderFates}
 pub use Rattle.canon.specs.declared.verdict.Side.{Side}
 pub use Rattle.canon.specs.declared.verdict.Side.TheVariants.{Exactly, Below}
 pub use Rattle.canon.specs.declared.verdict.Verdict.{Verdict}

@@ -26,7 +26,7 @@ use valuation::search::SearchOptions;
 /// The auctions of the files that were added. It keeps one text for each auction, in order, so no texts can be made that
 /// take long to find. It keeps no file.
 ///
-/// The files of one index are all added by `add` and `add_from`, or all by `add_unsearched`.
+/// The files of one index are all added by `add`, `add_text` and `add_from`, or all by `add_unsearched`.
 #[derive(Drop)]
 pub struct AuctionIndex {
     /// Each text, with the number of the first file that has it.
@@ -94,6 +94,20 @@ impl AuctionIndex {
         };
         let file = unsearched_file(alloc, file)?;
         let text = write(alloc, &file)?;
+        let number = number_text(&mut self.numbers, text, self.count)?;
+        self.count = count;
+        Ok(number)
+    }
+
+    /// Adds a file by its canonical text, as `add`.
+    pub fn add_text(&mut self, alloc: Global, text: &[u8]) -> Result<usize, AllocError>
+        ensures added { IfOk result (AddsText self.old self.new text.now) }
+        ensures unchanged { OnErr result (self.new ≡ self.old) }
+    {
+        let Some(count) = self.count.checked_add(1) else {
+            return Err(AllocError);
+        };
+        let text = Vec::from_slice(alloc, text)?;
         let number = number_text(&mut self.numbers, text, self.count)?;
         self.count = count;
         Ok(number)

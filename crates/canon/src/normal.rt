@@ -2,7 +2,6 @@
 
 mod atom_order;
 pub(crate) mod auction;
-mod explained;
 pub(crate) mod file;
 mod keyed_bidder;
 mod named;
@@ -25,10 +24,9 @@ use crate::canon_fault::CanonFault;
 use crate::normal::auction::{NamedAuction, named_canonical};
 use crate::normal::file::packed_file_of;
 use bid_file::{BidFile, PackedFile, pack};
-pub use explained::{BidderFates, explained_normal_file};
 use goods_set::GoodsSet;
 use goods_set::listing::goods_of;
-pub use named::{NamedFile, named_normal_file};
+pub use named::{BidderFates, NamedFile, explained_normal_file, named_normal_file};
 use prune::PruneFault;
 use std::alloc::Global;
 use std::mem;

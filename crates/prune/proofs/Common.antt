@@ -1,6 +1,6 @@
 -- The names from outside `proofs` that the proofs cite, passed on from one place. A definition that a proof unfolds comes from its own file. Declares nothing.
 pub use Rattle.bid_file.specs.declared.limits.TheConstants.{MAX_GOODS}
-pub use Rattle.goods_set.specs.Bundles.{IsInside, is_inside, IsRising, has_good, good_from, AreAbove, all_bundles, IsBundle, without}
+pub use Rattle.goods_set.specs.Bundles.{IsInside, is_inside, IsRising, has_good, good_from, AreAbove, all_bundles}
 pub use Rattle.goods_set.specs.Lemmas.AllBundles.{all_bundles_has, all_bundles_sorted}
 pub use Rattle.goods_set.specs.Lemmas.Members.{inside_refl, has_cases, has-filter, AreAbove-from_has, IsRising-filter, same_from_has, inside_at, has_head}
 pub use Rattle.goods_set.specs.Lemmas.Members.{has_tail}
@@ -19,8 +19,8 @@ pub use Rattle.prune.specs.Internal.Listings.{IsListed, IsPosting, IsBehind, Com
 pub use Rattle.prune.specs.Internal.Reaching.{found_inside, steps_for, IsFinderOf}
 pub use Rattle.prune.specs.Lemmas.Fates.{or_fate-push, xor_fate-push, atoms_below-push, or_fate-reaches, xor_fate-reaches}
 pub use Rattle.prune.specs.Lemmas.InOrder.{before_not_inside, same_bundle_same_atom}
-pub use Rattle.prune.specs.Lemmas.KeptBids.{contains_from_has, has_from_contains, all_nonempty, on_bundles, xor_kept_are_points, xor_points_same}
-pub use Rattle.prune.specs.Lemmas.KeptBids.{or_kept_are_points, or_points_same, xor_points_any_goods, or_points_any_goods, just_bundles, xor_points_are_atoms}
+pub use Rattle.prune.specs.Lemmas.KeptBids.{contains_from_has, has_from_contains, on_bundles, xor_is_value, or_is_value, xor_points_same}
+pub use Rattle.prune.specs.Lemmas.KeptBids.{or_points_same, xor_points_any_goods, or_points_any_goods, just_bundles, xor_points_are_atoms}
 pub use Rattle.prune.specs.Lemmas.KeptBids.{or_points_are_atoms, xor_points_keep_values, or_points_keep_values, xor_points_again, or_points_again}
 pub use Rattle.prune.specs.Lemmas.Lists.{Contains-nil, Contains-head, Contains-tail, Contains-filter, Contains-filter_parts, All-from_Contains}
 pub use Rattle.prune.specs.Lemmas.Lists.{is_some-find_map, filter_same_on, find_filter, map_same_on, list_any_filter, zero_or_more}
@@ -33,8 +33,8 @@ pub use Rattle.prune.specs.Lemmas.Refusals.{no_heavy_point, none_refused, none_r
 pub use Rattle.prune.specs.Lemmas.SearchSteps.{greatest_price-member, greatest_price-reached, search_steps-point, no_new_heavy, search_within_packings}
 pub use Rattle.prune.specs.Lemmas.SearchSteps.{search_within_bound, ordered_value}
 pub use Rattle.prune.specs.Lemmas.Tables.{no_xor_points, no_or_points, same_xor_points, same_or_points}
-pub use Rattle.prune.specs.Lemmas.Values.{xor_value-member, xor_value-bound, xor_value-dominated, or_value-dominated}
-pub use Rattle.prune.specs.Points.{or_points, xor_points}
+pub use Rattle.prune.specs.Lemmas.ValuePoints.{IsValue, kept_are_points, points_same}
+pub use Rattle.prune.specs.Points.{or_points, xor_points, points_where}
 pub use Rattle.prune.specs.SearchSteps.{atoms_below, greatest_price, is_below, in_search_order, searched_bundles, first_heavy, first_refused, steps_at_most}
 pub use Rattle.prune.specs.declared.subset_index.Posting.{Posting}
 pub use Rattle.std.proofs.Common.{rules, ◌≡◌, ℕ, ◌+◌, ◌<◌, ◌≤◌, Bool, true, false, cond, ltb, ◌⊎◌, inl, inr, ⊎_elim, List, [], ◌∷◌, map, length, get_or, refl}
@@ -84,7 +84,6 @@ pub use Rattle.valuation.specs.Lemmas.Atoms.{length-atoms_of, get_or-atoms_of}
 pub use Rattle.valuation.specs.Lemmas.Listed.{MaySearch-more}
 pub use Rattle.valuation.specs.Lemmas.Lists.{Contains-cons_cases, AllPairs-nil, AllPairs-cons, AllPairs-head, AllPairs-tail, AllPairs-map, AllPairs-append}
 pub use Rattle.valuation.specs.Lemmas.Lists.{Contains-map, Contains-unmap, map-filter}
-pub use Rattle.valuation.specs.Lemmas.OrValues.{or_value-price, or_value-filter_le, or_value-nil, or_value-rest, or_value-least, or_value-taken}
 pub use Rattle.valuation.specs.Lemmas.SearchLimits.{is_one_over-one, options_after_all-one}
 pub use Rattle.valuation.specs.Lemmas.XorValues.{xor_value-nil, xor_value-inside}
 pub use Rattle.valuation.specs.Packings.{atom_at, atoms_inside, atoms_at, indices_inside, is_inside_at, numbers_at}

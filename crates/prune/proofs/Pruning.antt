@@ -2,10 +2,10 @@
 -- its price. The idea: a later bid is below no earlier one, so what was decided stays right, and a pruning that is broken off
 -- could be completed without a change below the bundles that it saw.
 use Rattle.prune.proofs.Common.{rules, ◌≡◌, ℕ, ◌<◌, ◌≤◌, Bool, false, not, ⊎_elim, List, [], ◌∷◌, ◌++◌, refl, sym, ap, ◌∙◌, subst, le_trans, append_assoc, All}
-use Rattle.prune.proofs.Common.{Contains, filter, cases_lt, and_left, and_right, false_from_ne_true, not_from_true, All-nil, All-cons, All-head, All-tail}
+use Rattle.prune.proofs.Common.{Contains, cases_lt, and_left, and_right, false_from_ne_true, not_from_true, All-nil, All-cons, All-head, All-tail}
 use Rattle.prune.proofs.Common.{All-push, All-contains, All-weaker, Contains-append_left, Contains-push, Contains-append_right, all_pairs_push, IsRising}
-use Rattle.prune.proofs.Common.{is_inside, IsInside, inside_refl, Atom, AllPairs-nil, AllPairs-head, AllPairs-tail, is_below, atoms_below, atoms_below-push}
-use Rattle.prune.proofs.Common.{All-from_Contains, Contains-head, IsBefore, IsInOrder, before_not_inside}
+use Rattle.prune.proofs.Common.{is_inside, inside_refl, Atom, AllPairs-nil, AllPairs-head, AllPairs-tail, is_below, atoms_below, atoms_below-push}
+use Rattle.prune.proofs.Common.{IsValue, All-from_Contains, Contains-head, IsBefore, IsInOrder, before_not_inside}
 
 abbrev pub HasRisingBundle : Atom (List ℕ) → Type 0
 HasRisingBundle a = IsRising a.bundle
@@ -51,90 +51,86 @@ inside_below kept x rising r before = search (rules, All-from_Contains, false_fr
 
 -- ---- the pruning by a value
 
-module _ (value : List (Atom (List ℕ)) → List ℕ → ℕ)
-    (member : (atoms : List (Atom (List ℕ))) (a : Atom (List ℕ)) → Contains atoms a → (bundle : List ℕ) → IsInside a.bundle bundle
-    → a.price ≤ value atoms bundle)
-    (more : (atoms : List (Atom (List ℕ))) (a : Atom (List ℕ)) (bundle : List ℕ) → value atoms bundle ≤ value (atoms ++ a ∷ []) bundle)
-    (fewer : (p : Atom (List ℕ) → Bool) (atoms : List (Atom (List ℕ))) (bundle : List ℕ) → value (filter p atoms) bundle ≤ value atoms bundle)
-  where
-    -- what is kept of the bids that are done
-    pub record IsKept (done kept : List (Atom (List ℕ))) : Type 0 where
-      pub in_order : IsInOrder kept
-      pub among : All (Contains done) kept
-      pub short : All (λ b. value (atoms_below kept b.bundle) b.bundle < b.price) kept
-      pub dominated : All (λ a. a.price ≤ value kept a.bundle) done
+module _ {X : Type 0} {On : ℕ → Atom (List ℕ) → Type 0} {value : List (Atom (List ℕ)) → List ℕ → ℕ} {Splits : List ℕ → X → Type 0}
+    {worth : (List ℕ → ℕ) → List ℕ → X → ℕ} {passes : ℕ → List (Atom (List ℕ)) → List ℕ → Bool} (V : IsValue On value Splits worth passes) where
+  -- what is kept of the bids that are done
+  pub record IsKept (done kept : List (Atom (List ℕ))) : Type 0 where
+    pub in_order : IsInOrder kept
+    pub among : All (Contains done) kept
+    pub short : All (λ b. value (atoms_below kept b.bundle) b.bundle < b.price) kept
+    pub dominated : All (λ a. a.price ≤ value kept a.bundle) done
 
-    pub IsKept-none : IsKept [] []
-    IsKept-none = record {
-      in_order = AllPairs-nil IsBefore;
-      among = All-nil (Contains []);
-      short = All-nil (λ b. value (atoms_below [] b.bundle) b.bundle < b.price);
-      dominated = All-nil (λ a. a.price ≤ value [] a.bundle);
-    }
+  pub IsKept-none : IsKept [] []
+  IsKept-none = record {
+    in_order = AllPairs-nil IsBefore;
+    among = All-nil (Contains []);
+    short = All-nil (λ b. value (atoms_below [] b.bundle) b.bundle < b.price);
+    dominated = All-nil (λ a. a.price ≤ value [] a.bundle);
+  }
 
-    -- the price is reached, and the bid is dropped
-    pub IsKept-reached : (done kept : List (Atom (List ℕ))) (x : Atom (List ℕ)) → IsKept done kept → x.price ≤ value (atoms_below kept x.bundle) x.bundle
-        → IsKept (done ++ x ∷ []) kept
-    IsKept-reached done kept x k l = record {
-      in_order = k.in_order;
-      among = All-weaker (Contains done) (Contains (done ++ x ∷ [])) (λ a c. Contains-append_left done (x ∷ []) a c) kept k.among;
-      short = k.short;
-      dominated = All-push (λ a. a.price ≤ value kept a.bundle) done x k.dominated (le_trans l (fewer (λ a. is_below a.bundle x.bundle) kept x.bundle));
-    }
+  -- the price is reached, and the bid is dropped
+  pub IsKept-reached : (done kept : List (Atom (List ℕ))) (x : Atom (List ℕ)) → IsKept done kept → x.price ≤ value (atoms_below kept x.bundle) x.bundle
+      → IsKept (done ++ x ∷ []) kept
+  IsKept-reached done kept x k l = record {
+    in_order = k.in_order;
+    among = All-weaker (Contains done) (Contains (done ++ x ∷ [])) (λ a c. Contains-append_left done (x ∷ []) a c) kept k.among;
+    short = k.short;
+    dominated = All-push (λ a. a.price ≤ value kept a.bundle) done x k.dominated (le_trans l (V.fewer (λ a. is_below a.bundle x.bundle) kept x.bundle));
+  }
 
-    -- it is not, and the bid stays
-    pub IsKept-missed : (done kept : List (Atom (List ℕ))) (x : Atom (List ℕ)) → All HasRisingBundle done → HasRisingBundle x → All (λ a. IsBefore a x) done
-        → IsKept done kept → value (atoms_below kept x.bundle) x.bundle < x.price → IsKept (done ++ x ∷ []) (kept ++ x ∷ [])
-    IsKept-missed done kept x rising r before k l = record {
-      in_order = all_pairs_push IsBefore kept x k.in_order (λ i d m. All-contains (λ a. IsBefore a x) done _ before (k.among i d m));
-      among = All-push (Contains (done ++ x ∷ [])) kept x
-          (All-weaker (Contains done) (Contains (done ++ x ∷ [])) (λ a c. Contains-append_left done (x ∷ []) a c) kept k.among) (Contains-push done x);
-      short = All-push (λ b. value (atoms_below (kept ++ x ∷ []) b.bundle) b.bundle < b.price) kept x
-          (All-from_Contains (λ b. value (atoms_below (kept ++ x ∷ []) b.bundle) b.bundle < b.price) kept (λ b c.
-          let there = All-contains (Contains done) kept b k.among c in
-          let same = atoms_below-push kept x b.bundle (later_not_below b x (All-contains HasRisingBundle done b rising there) r
-          (All-contains (λ a. IsBefore a x) done b before there)) in
-          subst (λ (zs : List (Atom (List ℕ))). value zs b.bundle < b.price) (sym same)
-          (All-contains (λ b. value (atoms_below kept b.bundle) b.bundle < b.price) kept b k.short c)))
-          (subst (λ (zs : List (Atom (List ℕ))). value zs x.bundle < x.price) (sym (atoms_below-push kept x x.bundle (not_below_itself x.bundle))) l);
-      dominated = All-push (λ a. a.price ≤ value (kept ++ x ∷ []) a.bundle) done x
-          (All-weaker (λ a. a.price ≤ value kept a.bundle) (λ a. a.price ≤ value (kept ++ x ∷ []) a.bundle) (λ a h. le_trans h (more kept x a.bundle)) done
-          k.dominated)
-          (member (kept ++ x ∷ []) x (Contains-push kept x) x.bundle (inside_refl x.bundle));
-    }
+  -- it is not, and the bid stays
+  pub IsKept-missed : (done kept : List (Atom (List ℕ))) (x : Atom (List ℕ)) → All HasRisingBundle done → HasRisingBundle x → All (λ a. IsBefore a x) done
+      → IsKept done kept → value (atoms_below kept x.bundle) x.bundle < x.price → IsKept (done ++ x ∷ []) (kept ++ x ∷ [])
+  IsKept-missed done kept x rising r before k l = record {
+    in_order = all_pairs_push IsBefore kept x k.in_order (λ i d m. All-contains (λ a. IsBefore a x) done _ before (k.among i d m));
+    among = All-push (Contains (done ++ x ∷ [])) kept x
+        (All-weaker (Contains done) (Contains (done ++ x ∷ [])) (λ a c. Contains-append_left done (x ∷ []) a c) kept k.among) (Contains-push done x);
+    short = All-push (λ b. value (atoms_below (kept ++ x ∷ []) b.bundle) b.bundle < b.price) kept x
+        (All-from_Contains (λ b. value (atoms_below (kept ++ x ∷ []) b.bundle) b.bundle < b.price) kept (λ b c.
+        let there = All-contains (Contains done) kept b k.among c in
+        let same = atoms_below-push kept x b.bundle (later_not_below b x (All-contains HasRisingBundle done b rising there) r
+        (All-contains (λ a. IsBefore a x) done b before there)) in
+        subst (λ (zs : List (Atom (List ℕ))). value zs b.bundle < b.price) (sym same)
+        (All-contains (λ b. value (atoms_below kept b.bundle) b.bundle < b.price) kept b k.short c)))
+        (subst (λ (zs : List (Atom (List ℕ))). value zs x.bundle < x.price) (sym (atoms_below-push kept x x.bundle (not_below_itself x.bundle))) l);
+    dominated = All-push (λ a. a.price ≤ value (kept ++ x ∷ []) a.bundle) done x
+        (All-weaker (λ a. a.price ≤ value kept a.bundle) (λ a. a.price ≤ value (kept ++ x ∷ []) a.bundle) (λ a h. le_trans h (V.more kept x a.bundle)) done
+        k.dominated)
+        (V.member (kept ++ x ∷ []) x (Contains-push kept x) x.bundle (inside_refl x.bundle));
+  }
 
-    -- what a completed pruning keeps: below a bundle that no later bid is below, what was kept so far
-    pub record IsCompleted (done rest so_far final : List (Atom (List ℕ))) : Type 0 where
-      pub kept : IsKept (done ++ rest) final
-      pub below : (bundle : List ℕ) → All (λ a. is_below a.bundle bundle ≡ false) rest → atoms_below final bundle ≡ atoms_below so_far bundle
+  -- what a completed pruning keeps: below a bundle that no later bid is below, what was kept so far
+  pub record IsCompleted (done rest so_far final : List (Atom (List ℕ))) : Type 0 where
+    pub kept : IsKept (done ++ rest) final
+    pub below : (bundle : List ℕ) → All (λ a. is_below a.bundle bundle ≡ false) rest → atoms_below final bundle ≡ atoms_below so_far bundle
 
-    pub completion : (rest done kept : List (Atom (List ℕ))) → IsInOrder (done ++ rest) → All HasRisingBundle (done ++ rest) → IsKept done kept
-        → (final : List (Atom (List ℕ))) × IsCompleted done rest kept final
-    completion [] done kept order rising k =
-        (kept, record { kept = subst (λ (zs : List (Atom (List ℕ))). IsKept zs kept) (sym (append_nil done)) k; below = λ bundle h. refl })
-    completion (x ∷ rest) done kept order rising k =
-        let e : (done ++ x ∷ []) ++ rest ≡ done ++ x ∷ rest = append_assoc done (x ∷ []) rest in
-        let order' = subst (λ (zs : List (Atom (List ℕ))). IsInOrder zs) (sym e) order in
-        let rising' = subst (λ (zs : List (Atom (List ℕ))). All HasRisingBundle zs) (sym e) rising in
-        ⊎_elim
-        (λ (l : value (atoms_below kept x.bundle) x.bundle < x.price).
-        let first : All HasRisingBundle done = rising_prefix done (x ∷ rest) rising in
-        let r : HasRisingBundle x = All-contains HasRisingBundle (done ++ x ∷ rest) x rising (Contains-append_right done (x ∷ rest) x (Contains-head x rest)) in
-        let before : All (λ a. IsBefore a x) done = before_next done x rest order in
-        let c = completion rest (done ++ x ∷ []) (kept ++ x ∷ []) order' rising' (IsKept-missed done kept x first r before k l) in (
-          c.0,
-          record {
-            kept = subst (λ (zs : List (Atom (List ℕ))). IsKept zs c.0) e c.1.kept;
-            below = λ bundle h. c.1.below bundle (All-tail (λ a. is_below a.bundle bundle ≡ false) x rest h)
-                ∙ atoms_below-push kept x bundle (All-head (λ a. is_below a.bundle bundle ≡ false) x rest h);
-          },
-        ))
-        (λ (l : x.price ≤ value (atoms_below kept x.bundle) x.bundle).
-        let c = completion rest (done ++ x ∷ []) kept order' rising' (IsKept-reached done kept x k l) in (
-          c.0,
-          record {
-            kept = subst (λ (zs : List (Atom (List ℕ))). IsKept zs c.0) e c.1.kept;
-            below = λ bundle h. c.1.below bundle (All-tail (λ a. is_below a.bundle bundle ≡ false) x rest h);
-          },
-        ))
-        (cases_lt (value (atoms_below kept x.bundle) x.bundle) x.price)
+  pub completion : (rest done kept : List (Atom (List ℕ))) → IsInOrder (done ++ rest) → All HasRisingBundle (done ++ rest) → IsKept done kept
+      → (final : List (Atom (List ℕ))) × IsCompleted done rest kept final
+  completion [] done kept order rising k =
+      (kept, record { kept = subst (λ (zs : List (Atom (List ℕ))). IsKept zs kept) (sym (append_nil done)) k; below = λ bundle h. refl })
+  completion (x ∷ rest) done kept order rising k =
+      let e : (done ++ x ∷ []) ++ rest ≡ done ++ x ∷ rest = append_assoc done (x ∷ []) rest in
+      let order' = subst (λ (zs : List (Atom (List ℕ))). IsInOrder zs) (sym e) order in
+      let rising' = subst (λ (zs : List (Atom (List ℕ))). All HasRisingBundle zs) (sym e) rising in
+      ⊎_elim
+      (λ (l : value (atoms_below kept x.bundle) x.bundle < x.price).
+      let first : All HasRisingBundle done = rising_prefix done (x ∷ rest) rising in
+      let r : HasRisingBundle x = All-contains HasRisingBundle (done ++ x ∷ rest) x rising (Contains-append_right done (x ∷ rest) x (Contains-head x rest)) in
+      let before : All (λ a. IsBefore a x) done = before_next done x rest order in
+      let c = completion rest (done ++ x ∷ []) (kept ++ x ∷ []) order' rising' (IsKept-missed done kept x first r before k l) in (
+        c.0,
+        record {
+          kept = subst (λ (zs : List (Atom (List ℕ))). IsKept zs c.0) e c.1.kept;
+          below = λ bundle h. c.1.below bundle (All-tail (λ a. is_below a.bundle bundle ≡ false) x rest h)
+              ∙ atoms_below-push kept x bundle (All-head (λ a. is_below a.bundle bundle ≡ false) x rest h);
+        },
+      ))
+      (λ (l : x.price ≤ value (atoms_below kept x.bundle) x.bundle).
+      let c = completion rest (done ++ x ∷ []) kept order' rising' (IsKept-reached done kept x k l) in (
+        c.0,
+        record {
+          kept = subst (λ (zs : List (Atom (List ℕ))). IsKept zs c.0) e c.1.kept;
+          below = λ bundle h. c.1.below bundle (All-tail (λ a. is_below a.bundle bundle ≡ false) x rest h);
+        },
+      ))
+      (cases_lt (value (atoms_below kept x.bundle) x.bundle) x.price)

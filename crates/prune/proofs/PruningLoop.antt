@@ -2,10 +2,10 @@
 -- by the goods of their sets.
 use Rattle.prune.proofs.Common.{rules, ◌≡◌, ℕ, ◌+◌, ◌<◌, ◌≤◌, leb, List, [], ◌∷◌, ◌++◌, length, take, drop, get_or, sym, ap, ◌∙◌, subst, arith, common_steps}
 use Rattle.prune.proofs.Common.{All, list_any, cases_lt, le-leb, lt-leb, map-append, map_push, drop_all, take_all, All-nil, All-cons, All-head, All-tail}
-use Rattle.prune.proofs.Common.{All-weaker, filter_passes, IsRising, is_inside, IsInside, Atom, IsAtom, atoms_of, xor_value, plain_atom, xor_value-nil}
-use Rattle.prune.proofs.Common.{xor_value-inside, list_any_filter, dominates, AreBestBids, atoms_inside}
-use Rattle.prune.proofs.Pruning.{HasRisingBundle}
-use Rattle.prune.proofs.Results.{IsTurn, IsXorKept, IsOrKept, AreXorPoints, AreOrPoints, xor_done, or_done}
+use Rattle.prune.proofs.Common.{filter_passes, IsRising, is_inside, IsInside, Atom, atoms_of, xor_value, plain_atom, xor_value-nil}
+use Rattle.prune.proofs.Common.{xor_value-inside, list_any_filter, dominates, AreBestBids, atoms_inside, IsValue, Bool}
+use Rattle.prune.proofs.Pruning.{HasRisingBundle, IsKept}
+use Rattle.prune.proofs.Results.{IsTurn, ArePoints, all_done}
 use Rattle.prune.proofs.Prefixes.{IsLeft, next_parts, next_taken, next_drop}
 
 -- ---- atoms of the code
@@ -37,19 +37,14 @@ one_kept {S} goods now after kept index bid is e = search (rules, map_push)
 
 -- ---- the loop's end
 
-pub xor_end : {S : Type 0} (goods : S → List ℕ) (bids : List (Atom (List ℕ))) (best kept result : List (Atom S)) (index : ℕ)
-    → AreBestBids bids (atoms_of goods best) → IsXorKept (atoms_of goods (take index best)) (atoms_of goods kept) → length best ≤ index → result ≡ kept
-    → AreXorPoints bids (atoms_of goods result)
-xor_end {S} goods bids best kept result index b k l e =
-    let all = subst (λ (zs : List (Atom S)). IsXorKept (atoms_of goods zs) (atoms_of goods kept)) (take_all index best l) k in
-    rw e (xor_done bids (atoms_of goods best) (atoms_of goods kept) b all)
-
-pub or_end : {S : Type 0} (goods : S → List ℕ) (bids : List (Atom (List ℕ))) (best kept result : List (Atom S)) (index : ℕ)
-    → All (λ a. 0 < length a.bundle) bids → AreBestBids bids (atoms_of goods best)
-    → IsOrKept (atoms_of goods (take index best)) (atoms_of goods kept) → length best ≤ index → result ≡ kept → AreOrPoints bids (atoms_of goods result)
-or_end {S} goods bids best kept result index some b k l e =
-    let all = subst (λ (zs : List (Atom S)). IsOrKept (atoms_of goods zs) (atoms_of goods kept)) (take_all index best l) k in
-    rw e (or_done bids (atoms_of goods best) (atoms_of goods kept) some b all)
+module _ {X : Type 0} {On : ℕ → Atom (List ℕ) → Type 0} {value : List (Atom (List ℕ)) → List ℕ → ℕ} {Splits : List ℕ → X → Type 0}
+    {worth : (List ℕ → ℕ) → List ℕ → X → ℕ} {passes : ℕ → List (Atom (List ℕ)) → List ℕ → Bool} (V : IsValue On value Splits worth passes) where
+  pub loop_end : {S : Type 0} (goods : S → List ℕ) (n : ℕ) (bids : List (Atom (List ℕ))) (best kept result : List (Atom S)) (index : ℕ) → All (On n) bids
+      → AreBestBids bids (atoms_of goods best) → IsKept V (atoms_of goods (take index best)) (atoms_of goods kept) → length best ≤ index → result ≡ kept
+      → ArePoints V bids (atoms_of goods result)
+  loop_end {S} goods n bids best kept result index on b k l e =
+      let all = subst (λ (zs : List (Atom S)). IsKept V (atoms_of goods zs) (atoms_of goods kept)) (take_all index best l) k in
+      rw e (all_done V n bids (atoms_of goods best) (atoms_of goods kept) on b all)
 
 -- ---- an atom of a list of atoms inside a bundle has a price
 
@@ -66,9 +61,6 @@ pub dominates_is : (price : ℕ) (bundle : List ℕ) (kept : List (Atom (List �
 dominates_is price bundle kept l =
     list_any_filter (λ (a : Atom (List ℕ)). leb price a.price) (λ (a : Atom (List ℕ)). is_inside a.bundle bundle) kept
     ∙ price_reached price l bundle (atoms_inside kept bundle) (filter_passes (λ a. is_inside a.bundle bundle) kept)
-
-pub all_some : (n : ℕ) (bids : List (Atom (List ℕ))) → All (IsAtom n) bids → All (λ a. 0 < length a.bundle) bids
-all_some n bids are = All-weaker (IsAtom n) (λ a. 0 < length a.bundle) (λ a i. i.nonempty) bids are
 
 -- ---- the bids that are left
 

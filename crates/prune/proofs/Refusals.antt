@@ -3,16 +3,16 @@
 use Rattle.prune.proofs.Common.{rules, ◌≡◌, ℕ, ◌+◌, ◌<◌, false, true, ltb, ⊎_elim, List, [], ◌∷◌, ◌++◌, map, sym, ap, ap₂, ◌∙◌, subst, arith, Some, None, Less}
 use Rattle.prune.proofs.Common.{All, Contains, AllByRecursion, lt-ltb, ltb-false, ltb-true, All-head, All-tail, All-contains, Contains-append_right}
 use Rattle.prune.proofs.Common.{IsStrictlySortedBy-filter, all_bundles, bundle_cmp, bundle_cmp_strict, all_bundles_has, all_bundles_sorted, same_from_contains}
-use Rattle.prune.proofs.Common.{Atom, SearchKind, SearchOptions, IsAtom, or_value, bound_of, is_one_over, options_after, options_after_all, is_one_over-one}
-use Rattle.prune.proofs.Common.{options_after_all-one, Contains-cons_cases, Contains-map, Contains-unmap, AllPairs-head, AllPairs-tail, or_value-price}
-use Rattle.prune.proofs.Common.{or_value-filter_le, or_points, is_below, atoms_below, greatest_price, in_search_order, searched_bundles, IsBefore, IsInOrder}
-use Rattle.prune.proofs.Common.{AreBestBids, IsOnBundle, Contains-head, Contains-tail, Contains-filter, Contains-filter_parts, All-from_Contains, all_nonempty}
-use Rattle.prune.proofs.Common.{on_bundles, first_over-refused, first_over-within, atoms_inside, steps_for}
+use Rattle.prune.proofs.Common.{Atom, SearchKind, SearchOptions, IsAtom, bound_of, is_one_over, options_after, options_after_all, is_one_over-one}
+use Rattle.prune.proofs.Common.{options_after_all-one, Contains-cons_cases, Contains-map, Contains-unmap, AllPairs-head, AllPairs-tail}
+use Rattle.prune.proofs.Common.{or_points, is_below, atoms_below, greatest_price, in_search_order, searched_bundles, IsBefore, IsInOrder}
+use Rattle.prune.proofs.Common.{AreBestBids, IsOnBundle, Contains-head, Contains-tail, Contains-filter, Contains-filter_parts, All-from_Contains}
+use Rattle.prune.proofs.Common.{on_bundles, or_is_value, first_over-refused, first_over-within, atoms_inside, steps_for}
 use Rattle.std.specs.List.Sorted.{IsStrictlySortedBy}
 use Rattle.valuation.specs.SearchSteps.{cut_steps as steps_with}
 use Rattle.prune.specs.SearchSteps.{search_steps_by, first_over, first_refused}
-use Rattle.prune.proofs.Pruning.{HasRisingBundle, completion, later_not_below, not_below_itself, behind_next}
-use Rattle.prune.proofs.Results.{IsTurn, IsOrKept, turn_below, or_more, or_done, best_on, best_price}
+use Rattle.prune.proofs.Pruning.{HasRisingBundle, IsKept, completion, later_not_below, not_below_itself, behind_next}
+use Rattle.prune.proofs.Results.{IsTurn, turn_below, all_done, best_on, best_price}
 
 -- ---- the best bids are on the searched bundles
 
@@ -42,13 +42,13 @@ best_searched goods bids best on b =
 -- ---- the steps of a turn
 
 pub turn_steps : (kind : SearchKind) (goods : ℕ) (bids done : List (Atom (List ℕ))) (x : Atom (List ℕ)) (rest kept : List (Atom (List ℕ)))
-    → All (IsOnBundle goods) bids → IsTurn bids done x rest → IsOrKept done kept
+    → All (IsOnBundle goods) bids → IsTurn bids done x rest → IsKept or_is_value done kept
     → 1 + steps_with (bound_of kind) (in_search_order kind (atoms_inside kept x.bundle)) x.bundle x.price ≡ search_steps_by kind goods bids x.bundle
 unfolding search_steps_by
 turn_steps kind goods bids done x rest kept on t k =
     let best = done ++ x ∷ rest in
-    let f = completion or_value or_value-price or_more or_value-filter_le (x ∷ rest) done kept t.best.in_order t.rising k in
-    let points : f.0 ≡ or_points goods bids = (or_done bids best f.0 (all_nonempty goods bids on) t.best f.1.kept).points goods on in
+    let f = completion or_is_value (x ∷ rest) done kept t.best.in_order t.rising k in
+    let points : f.0 ≡ or_points goods bids = (all_done or_is_value goods bids best f.0 on t.best f.1.kept).points goods on in
     let here : Contains best x = Contains-append_right done (x ∷ rest) x (Contains-head x rest) in
     let price : greatest_price bids x.bundle ≡ x.price = best_price bids best t.best x here in
     let later : All (IsBefore x) rest = behind_next done x rest t.best.in_order in
@@ -77,13 +77,13 @@ IsWithin-start start bids best b = search (rules, best_searched, on_bundles)
 
 -- the steps of the turn by the kind that is kept
 now_steps : (start now : SearchOptions) (goods : ℕ) (bids done : List (Atom (List ℕ))) (x : Atom (List ℕ)) (rest kept : List (Atom (List ℕ)))
-    → All (IsAtom goods) bids → IsTurn bids done x rest → IsOrKept done kept → now.kind ≡ start.kind
+    → All (IsAtom goods) bids → IsTurn bids done x rest → IsKept or_is_value done kept → now.kind ≡ start.kind
     → steps_for now.kind kept x.bundle x.price ≡ search_steps_by start.kind goods bids x.bundle
 now_steps start now goods bids done x rest kept are t k e =
     turn_steps now.kind goods bids done x rest kept (on_bundles goods bids are) t k ∙ ap (λ (kind : SearchKind). search_steps_by kind goods bids x.bundle) e
 
 module _ (start now : SearchOptions) (bids done : List (Atom (List ℕ))) (x : Atom (List ℕ)) (rest kept : List (Atom (List ℕ)))
-    (t : IsTurn bids done x rest) (k : IsOrKept done kept) (w : IsWithin start now bids (x ∷ rest))
+    (t : IsTurn bids done x rest) (k : IsKept or_is_value done kept) (w : IsWithin start now bids (x ∷ rest))
   where
     -- the search of a bid is within the limits
     pub IsWithin-next : (after : SearchOptions) → is_one_over now (steps_for now.kind kept x.bundle x.price ∷ []) ≡ false

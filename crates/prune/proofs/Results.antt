@@ -1,35 +1,14 @@
 -- What a pruning that is done has kept: the points, with the values of all bids. A turn on one more best bid keeps this of the bids
 -- so far, and in the end the best bids are done, which have the points and the values of all.
 use Rattle.prune.proofs.Common.{rules, ◌≡◌, ℕ, ◌<◌, ◌≤◌, Bool, true, false, leb, List, [], ◌∷◌, ◌++◌, length, sym, ap, ◌∙◌, subst, arith, le_antisymm, All}
-use Rattle.prune.proofs.Common.{Contains, filter, leb-true, leb-false, All-contains, All-weaker, Contains-append_left, Contains-append_right, IsBundle}
-use Rattle.prune.proofs.Common.{is_inside, IsInside, without, inside_refl, Atom, xor_value, or_value, or_value-nil, or_value-rest, or_value-least}
-use Rattle.prune.proofs.Common.{or_value-taken, or_value-price, or_value-filter_le, xor_points, or_points, IsOnBundle, is_below, atoms_below, greatest_price}
-use Rattle.prune.proofs.Common.{zero_or_more, Contains-head, Contains-filter_parts, All-from_Contains, filter_same_on, IsAtom, ComesNext, IsBehind, IsBefore}
-use Rattle.prune.proofs.Common.{IsInOrder, same_bundle_same_atom, xor_value-member, xor_value-bound, xor_value-dominated, or_value-dominated}
-use Rattle.prune.proofs.Common.{xor_kept_are_points, xor_points_same, or_kept_are_points, or_points_same, greatest_price-member, greatest_price-reached}
-use Rattle.prune.proofs.Common.{AreBestBids}
+use Rattle.prune.proofs.Common.{Contains, filter, leb-true, leb-false, All-contains, All-weaker, Contains-append_left, Contains-append_right}
+use Rattle.prune.proofs.Common.{is_inside, inside_refl, Atom}
+use Rattle.prune.proofs.Common.{is_below, atoms_below, greatest_price}
+use Rattle.prune.proofs.Common.{zero_or_more, Contains-head, All-from_Contains, filter_same_on, IsAtom, ComesNext, IsBehind, IsBefore}
+use Rattle.prune.proofs.Common.{IsInOrder, same_bundle_same_atom}
+use Rattle.prune.proofs.Common.{greatest_price-member, greatest_price-reached}
+use Rattle.prune.proofs.Common.{AreBestBids, IsValue, kept_are_points, points_same, points_where}
 use Rattle.prune.proofs.Pruning.{HasRisingBundle, IsKept, IsKept-reached, IsKept-missed, inside_below, before_next, rising_prefix}
-
--- ---- values grow with the list
-
-pub xor_more : (atoms : List (Atom (List ℕ))) (a : Atom (List ℕ)) (bundle : List ℕ) → xor_value atoms bundle ≤ xor_value (atoms ++ a ∷ []) bundle
-xor_more atoms a bundle =
-    xor_value-bound atoms bundle (xor_value (atoms ++ a ∷ []) bundle) (search (rules, All-from_Contains, xor_value-member, Contains-append_left))
-
-pub xor_fewer : (p : Atom (List ℕ) → Bool) (atoms : List (Atom (List ℕ))) (bundle : List ℕ) → xor_value (filter p atoms) bundle ≤ xor_value atoms bundle
-xor_fewer p atoms bundle =
-    xor_value-bound (filter p atoms) bundle (xor_value atoms bundle) (All-from_Contains (λ b. IsInside b.bundle bundle → b.price ≤ xor_value atoms bundle)
-    (filter p atoms) (λ b c i. xor_value-member atoms b (Contains-filter_parts p atoms b c).0 bundle i))
-
-pub or_more : (atoms : List (Atom (List ℕ))) (a : Atom (List ℕ)) (bundle : List ℕ) → or_value atoms bundle ≤ or_value (atoms ++ a ∷ []) bundle
-or_more [] a bundle = omega (arith, or_value-nil bundle)
-or_more (b ∷ rest) a bundle = search (rules, or_value-least, or_value-rest, or_value-taken, (or_more rest a bundle), (or_more rest a (without bundle b.bundle)))
-
-abbrev pub IsXorKept : List (Atom (List ℕ)) → List (Atom (List ℕ)) → Type 0
-IsXorKept done kept = IsKept xor_value xor_value-member xor_more xor_fewer done kept
-
-abbrev pub IsOrKept : List (Atom (List ℕ)) → List (Atom (List ℕ)) → Type 0
-IsOrKept done kept = IsKept or_value or_value-price or_more or_value-filter_le done kept
 
 -- ---- one bid more
 
@@ -84,87 +63,50 @@ turn_next n bids done x rest kept t are order among = record {
       kept among;
 }
 
-pub xor_reached : (bids done : List (Atom (List ℕ))) (x : Atom (List ℕ)) (rest kept : List (Atom (List ℕ))) → IsTurn bids done x rest → IsXorKept done kept
-    → true ≡ leb x.price (xor_value (filter (λ a. is_inside a.bundle x.bundle) kept) x.bundle) → IsXorKept (done ++ x ∷ []) kept
-xor_reached bids done x rest kept t k e =
-    IsKept-reached xor_value xor_value-member xor_more xor_fewer done kept x k (subst (λ (zs : List (Atom (List ℕ))). x.price ≤ xor_value zs x.bundle)
-    (turn_below bids done x rest kept t k.among) (leb-true _ _ (sym e)))
-
-pub xor_missed : (bids done : List (Atom (List ℕ))) (x : Atom (List ℕ)) (rest kept : List (Atom (List ℕ))) → IsTurn bids done x rest → IsXorKept done kept
-    → false ≡ leb x.price (xor_value (filter (λ a. is_inside a.bundle x.bundle) kept) x.bundle) → IsXorKept (done ++ x ∷ []) (kept ++ x ∷ [])
-xor_missed bids done x rest kept t k e =
-    IsKept-missed xor_value xor_value-member xor_more xor_fewer done kept x (rising_prefix done (x ∷ rest) t.rising) (turn_rising bids done x rest t)
-    (turn_before bids done x rest t) k
-    (subst (λ (zs : List (Atom (List ℕ))). xor_value zs x.bundle < x.price) (turn_below bids done x rest kept t k.among) (leb-false _ _ (sym e)))
-
-pub or_reached : (bids done : List (Atom (List ℕ))) (x : Atom (List ℕ)) (rest kept : List (Atom (List ℕ))) → IsTurn bids done x rest → IsOrKept done kept
-    → true ≡ leb x.price (or_value (filter (λ a. is_inside a.bundle x.bundle) kept) x.bundle) → IsOrKept (done ++ x ∷ []) kept
-or_reached bids done x rest kept t k e =
-    IsKept-reached or_value or_value-price or_more or_value-filter_le done kept x k (subst (λ (zs : List (Atom (List ℕ))). x.price ≤ or_value zs x.bundle)
-    (turn_below bids done x rest kept t k.among) (leb-true _ _ (sym e)))
-
-pub or_missed : (bids done : List (Atom (List ℕ))) (x : Atom (List ℕ)) (rest kept : List (Atom (List ℕ))) → IsTurn bids done x rest → IsOrKept done kept
-    → false ≡ leb x.price (or_value (filter (λ a. is_inside a.bundle x.bundle) kept) x.bundle) → IsOrKept (done ++ x ∷ []) (kept ++ x ∷ [])
-or_missed bids done x rest kept t k e =
-    IsKept-missed or_value or_value-price or_more or_value-filter_le done kept x (rising_prefix done (x ∷ rest) t.rising) (turn_rising bids done x rest t)
-    (turn_before bids done x rest t) k
-    (subst (λ (zs : List (Atom (List ℕ))). or_value zs x.bundle < x.price) (turn_below bids done x rest kept t k.among) (leb-false _ _ (sym e)))
-
 -- ---- all bids are done
-
-kept_among : (bids best kept : List (Atom (List ℕ))) → AreBestBids bids best → All (Contains best) kept → All (Contains bids) kept
-kept_among bids best kept b among = All-weaker (Contains best) (Contains bids) (λ a c. All-contains (Contains bids) best a b.among c) kept among
 
 -- each bid is dominated by what is kept
 all_dominated : (value : List ℕ → ℕ) (bids best : List (Atom (List ℕ))) → AreBestBids bids best → All (λ a. a.price ≤ value a.bundle) best
     → All (λ a. a.price ≤ value a.bundle) bids
 all_dominated value bids best b dominated = search (rules, All-from_Contains, All-contains, zero_or_more)
 
-pub record AreXorPoints (bids kept : List (Atom (List ℕ))) : Type 0 where
-  pub in_order : IsInOrder kept
-  pub among : All (Contains bids) kept
-  pub values : (bundle : List ℕ) → xor_value kept bundle ≡ xor_value bids bundle
-  pub points : (goods : ℕ) → All (λ a. IsBundle goods a.bundle) bids → kept ≡ xor_points goods bids
+module _ {X : Type 0} {On : ℕ → Atom (List ℕ) → Type 0} {value : List (Atom (List ℕ)) → List ℕ → ℕ} {Splits : List ℕ → X → Type 0}
+    {worth : (List ℕ → ℕ) → List ℕ → X → ℕ} {passes : ℕ → List (Atom (List ℕ)) → List ℕ → Bool} (V : IsValue On value Splits worth passes) where
+  -- the kept bids reach the price of the next one
+  pub bid_reached : (bids done : List (Atom (List ℕ))) (x : Atom (List ℕ)) (rest kept : List (Atom (List ℕ))) → IsTurn bids done x rest → IsKept V done kept
+      → true ≡ leb x.price (value (filter (λ a. is_inside a.bundle x.bundle) kept) x.bundle) → IsKept V (done ++ x ∷ []) kept
+  bid_reached bids done x rest kept t k e =
+      IsKept-reached V done kept x k (subst (λ (zs : List (Atom (List ℕ))). x.price ≤ value zs x.bundle)
+      (turn_below bids done x rest kept t k.among) (leb-true _ _ (sym e)))
 
-pub xor_done : (bids best kept : List (Atom (List ℕ))) → AreBestBids bids best → IsXorKept best kept → AreXorPoints bids kept
-xor_done bids best kept b k =
-    let among = kept_among bids best kept b k.among in
-    let values : (bundle : List ℕ) → xor_value kept bundle ≡ xor_value bids bundle = λ bundle. le_antisymm
-    (xor_value-dominated bids kept (All-weaker (Contains bids) (λ a. a.price ≤ xor_value bids a.bundle)
-    (λ a c. xor_value-member bids a c a.bundle (inside_refl a.bundle)) kept among) bundle)
-    (xor_value-dominated kept bids (all_dominated (xor_value kept) bids best b k.dominated) bundle) in
-    record {
-      in_order = k.in_order;
-      among = among;
-      values = values;
-      points = λ goods on.
-          xor_kept_are_points goods kept k.in_order
-          (All-weaker (Contains bids) (λ a. IsBundle goods a.bundle) (λ a c. All-contains (λ a. IsBundle goods a.bundle) bids a on c) kept among) k.short
-          ∙ xor_points_same goods kept bids (λ bundle _. values bundle);
-    }
+  pub bid_missed : (bids done : List (Atom (List ℕ))) (x : Atom (List ℕ)) (rest kept : List (Atom (List ℕ))) → IsTurn bids done x rest → IsKept V done kept
+      → false ≡ leb x.price (value (filter (λ a. is_inside a.bundle x.bundle) kept) x.bundle) → IsKept V (done ++ x ∷ []) (kept ++ x ∷ [])
+  bid_missed bids done x rest kept t k e =
+      IsKept-missed V done kept x (rising_prefix done (x ∷ rest) t.rising) (turn_rising bids done x rest t) (turn_before bids done x rest t) k
+      (subst (λ (zs : List (Atom (List ℕ))). value zs x.bundle < x.price) (turn_below bids done x rest kept t k.among) (leb-false _ _ (sym e)))
 
-pub record AreOrPoints (bids kept : List (Atom (List ℕ))) : Type 0 where
-  pub in_order : IsInOrder kept
-  pub among : All (Contains bids) kept
-  pub values : (bundle : List ℕ) → or_value kept bundle ≡ or_value bids bundle
-  pub points : (goods : ℕ) → All (IsOnBundle goods) bids → kept ≡ or_points goods bids
+  -- all bids are done
+  pub record ArePoints (bids kept : List (Atom (List ℕ))) : Type 0 where
+    pub in_order : IsInOrder kept
+    pub among : All (Contains bids) kept
+    pub values : (bundle : List ℕ) → value kept bundle ≡ value bids bundle
+    pub points : (goods : ℕ) → All (On goods) bids → kept ≡ points_where (passes goods bids) (value bids) goods
 
-pub or_done : (bids best kept : List (Atom (List ℕ))) → All (λ a. 0 < length a.bundle) bids → AreBestBids bids best → IsOrKept best kept → AreOrPoints bids kept
-or_done bids best kept some b k =
-    let among = kept_among bids best kept b k.among in
-    let some_kept = All-weaker (Contains bids) (λ a. 0 < length a.bundle) (λ a c. All-contains (λ a. 0 < length a.bundle) bids a some c) kept among in
-    let values : (bundle : List ℕ) → or_value kept bundle ≡ or_value bids bundle = λ bundle. le_antisymm
-    (or_value-dominated bids some kept (All-weaker (Contains bids) (λ a. a.price ≤ or_value bids a.bundle)
-    (λ a c. or_value-price bids a c a.bundle (inside_refl a.bundle)) kept among) bundle)
-    (or_value-dominated kept some_kept bids (all_dominated (or_value kept) bids best b k.dominated) bundle) in
-    record {
-      in_order = k.in_order;
-      among = among;
-      values = values;
-      points = λ goods on.
-          or_kept_are_points goods kept k.in_order (All-weaker (Contains bids) (IsOnBundle goods) (λ a c. All-contains (IsOnBundle goods) bids a on c) kept
-          among) k.short ∙ or_points_same goods kept bids (λ bundle _. values bundle);
-    }
+  pub all_done : (n : ℕ) (bids best kept : List (Atom (List ℕ))) → All (On n) bids → AreBestBids bids best → IsKept V best kept → ArePoints bids kept
+  all_done n bids best kept on b k =
+      let among = All-weaker (Contains best) (Contains bids) (λ a c. All-contains (Contains bids) best a b.among c) kept k.among in
+      let kept_on : (goods : ℕ) → All (On goods) bids → All (On goods) kept =
+      λ goods o. All-weaker (Contains bids) (On goods) (λ a c. All-contains (On goods) bids a o c) kept among in
+      let values : (bundle : List ℕ) → value kept bundle ≡ value bids bundle = λ bundle. le_antisymm
+      (V.dominated n bids kept on (All-weaker (Contains bids) (λ a. a.price ≤ value bids a.bundle)
+      (λ a c. V.member bids a c a.bundle (inside_refl a.bundle)) kept among) bundle)
+      (V.dominated n kept bids (kept_on n on) (all_dominated (value kept) bids best b k.dominated) bundle) in
+      record {
+        in_order = k.in_order;
+        among = among;
+        values = values;
+        points = λ goods o. kept_are_points V goods kept k.in_order (kept_on goods o) k.short ∙ points_same V goods kept bids (λ bundle _. values bundle);
+      }
 
 -- ---- heavy bundles
 

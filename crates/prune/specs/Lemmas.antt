@@ -10,4 +10,5 @@ pub mod Ranges
 pub mod Refusals
 pub mod SearchSteps
 pub mod Tables
+pub mod ValuePoints
 pub mod Values

@@ -42,7 +42,7 @@ pub use Rattle.valuation.specs.Auctions.{IsAtom, atom_of, or_atoms_of, xor_atoms
 pub use Rattle.valuation.specs.Bidders.{bidders_of, plain_auction_of}
 pub use Rattle.valuation.specs.Bounds.{IsOnGoods, rate, greatest_rate, rate_bound, IsBound, price_bound}
 pub use Rattle.valuation.specs.Internal.BestSearch.{IsPackingFrom, IsFoundFrom, IsReady}
-pub use Rattle.valuation.specs.Internal.Conflicts.{AreConflicts, AreHolders, IsLeft, AreFree, are_disjoint, offers_of}
+pub use Rattle.valuation.specs.Internal.Conflicts.{AreConflicts, KnowsHolders, AreHolders, IsLeft, AreFree, AreSharing, AreAll, are_disjoint, offers_of}
 pub use Rattle.valuation.specs.Internal.Holders.{holders_at, indices_of}
 pub use Rattle.valuation.specs.Internal.Listed.{IsListed}
 pub use Rattle.valuation.specs.Lemmas.Atoms.{get_or-atoms_of, length-atoms_of}
@@ -85,6 +85,7 @@ pub use Rattle.valuation.specs.declared.atom.Atom.{Atom}
 pub use Rattle.valuation.specs.declared.packing.ValueFault.{ValueFault}
 pub use Rattle.valuation.specs.declared.packing.ValueFault.TheVariants.{StepLimit}
 pub use Rattle.valuation.specs.declared.search.conflicts.Conflicts.{Conflicts}
+pub use Rattle.valuation.specs.declared.search.holders.Holders.{Holders}
 pub use Rattle.valuation.specs.declared.search.kind.SearchKind.{SearchKind}
 pub use Rattle.valuation.specs.declared.search.kind.SearchKind.TheVariants.{Plain, Bounded}
 pub use Rattle.valuation.specs.declared.search.options.SearchOptions.{SearchOptions}

@@ -1,6 +1,7 @@
 -- Proofs that several functions of this crate cite.
 pub mod Common
 pub mod ConflictMasks
+pub mod Sharing
 pub mod AllHolders
 pub mod FirstBestAtoms
 pub mod Placing

@@ -3,7 +3,7 @@ use Rattle.std.specs.Prelude.{◌≡◌, map}
 use Rattle.valuation.specs.Auctions.{PlainAuction}
 use Rattle.valuation.specs.declared.search.kind.SearchKind.{SearchKind}
 use Rattle.prune.specs.Fates.{or_fates, plain_fate, xor_fates}
-use Rattle.canon.specs.declared.normal.explained.BidderFates.{BidderFates}
+use Rattle.canon.specs.declared.normal.named.BidderFates.{BidderFates}
 
 -- those of the OR bidder, by searches of a kind, and of each XOR bidder
 pub record AreFates (kind : SearchKind) (a : PlainAuction) (fates : BidderFates) : Type 0 where

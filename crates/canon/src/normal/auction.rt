@@ -14,8 +14,8 @@ ghost use Rattle.canon.specs.Sameness.{IsSameAuction};
 ghost use Rattle.canon.specs.Internal.Fates.{AreFates};
 ghost use Rattle.canon.specs.Internal.KeyedBidders.{kept_numbers, keyed_bidders, numbered_cmp, numbered_points};
 
-use crate::normal::explained::BidderFates;
 use crate::normal::keyed_bidder::KeyedBidder;
+use crate::normal::named::BidderFates;
 use goods_set::GoodsSet;
 use prune::PruneFault;
 use prune::fates::{FateLog, prune_or_by, prune_xor_noting};

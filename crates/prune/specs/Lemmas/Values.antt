@@ -1,10 +1,10 @@
 -- Lemmas on values: of lists of which one dominates the other, and of the atoms of a list that matter for a bundle.
-use Rattle.std.proofs.Common.{rules, ◌≡◌, ℕ, ◌<◌, ◌≤◌, max, Bool, true, false, ◌⊎◌, inl, inr, ⊎_elim, List, [], ◌∷◌, length, sym, ◌∙◌, arith}
+use Rattle.std.proofs.Common.{rules, ◌≡◌, ℕ, ◌<◌, ◌≤◌, max, Bool, true, false, ◌⊎◌, inl, inr, ⊎_elim, List, [], ◌∷◌, ◌++◌, length, sym, ◌∙◌, arith}
 use Rattle.std.proofs.Common.{le_trans, le_refl, le_antisymm}
 use Rattle.std.specs.Prelude.{All, Contains}
 use Rattle.std.specs.List.{filter}
 use Rattle.std.proofs.lemmas.Bool.{cases_Bool}
-use Rattle.std.proofs.lemmas.List.Elements.{All-head, All-tail, All-contains}
+use Rattle.std.proofs.lemmas.List.Elements.{All-head, All-tail, All-contains, Contains-append_left}
 use Rattle.goods_set.specs.Bundles.{is_inside, IsInside, without}
 use Rattle.goods_set.specs.Lemmas.Members.{inside_trans, without_inside}
 use Rattle.valuation.specs.declared.atom.Atom.{Atom}
@@ -28,6 +28,16 @@ pub xor_value-bound : (atoms : List (Atom (List ℕ))) (bundle : List ℕ) (n : 
 xor_value-bound [] bundle n h = omega (arith, xor_value-nil bundle)
 xor_value-bound (a ∷ rest) bundle n h =
     search (rules, xor_value-least, All-tail, All-head, (xor_value-bound rest bundle n (All-tail (λ a. IsInside a.bundle bundle → a.price ≤ n) a rest h)))
+
+-- values grow with the list
+pub xor_value-more : (atoms : List (Atom (List ℕ))) (a : Atom (List ℕ)) (bundle : List ℕ) → xor_value atoms bundle ≤ xor_value (atoms ++ a ∷ []) bundle
+xor_value-more atoms a bundle =
+    xor_value-bound atoms bundle (xor_value (atoms ++ a ∷ []) bundle) (search (rules, All-from_Contains, xor_value-member, Contains-append_left))
+
+pub xor_value-fewer : (p : Atom (List ℕ) → Bool) (atoms : List (Atom (List ℕ))) (bundle : List ℕ) → xor_value (filter p atoms) bundle ≤ xor_value atoms bundle
+xor_value-fewer p atoms bundle =
+    xor_value-bound (filter p atoms) bundle (xor_value atoms bundle) (All-from_Contains (λ b. IsInside b.bundle bundle → b.price ≤ xor_value atoms bundle)
+    (filter p atoms) (λ b c i. xor_value-member atoms b (Contains-filter_parts p atoms b c).0 bundle i))
 
 -- if each atom is dominated on its own bundle by another list, so is each value
 pub xor_value-dominated : (other atoms : List (Atom (List ℕ))) → All (λ a. a.price ≤ xor_value other a.bundle) atoms → (bundle : List ℕ)
@@ -78,6 +88,17 @@ xor_value-filter_on p atoms bundle h =
     bundle i)))
 
 -- ---- OR
+
+pub or_value-more : (atoms : List (Atom (List ℕ))) (a : Atom (List ℕ)) (bundle : List ℕ) → or_value atoms bundle ≤ or_value (atoms ++ a ∷ []) bundle
+or_value-more [] a bundle = omega (arith, or_value-nil bundle)
+or_value-more (b ∷ rest) a bundle = search (
+  rules,
+  or_value-least,
+  or_value-rest,
+  or_value-taken,
+  (or_value-more rest a bundle),
+  (or_value-more rest a (without bundle b.bundle)),
+)
 
 -- if each atom is dominated on its own bundle by another list, so is each value
 pub or_value-dominated : (other : List (Atom (List ℕ))) → All (λ a. 0 < length a.bundle) other → (atoms : List (Atom (List ℕ)))

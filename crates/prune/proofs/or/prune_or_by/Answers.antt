@@ -1,14 +1,14 @@
 -- `prune_or_by`: A turn of the loop keeps a bid exactly if the search does not reach its price, which is a turn of proofs/Results; a search that
 -- gives up has found a heavy bundle; and at the end the kept bids are the points.
 use Rattle.prune.proofs.Common.{Err, ◌≡◌, ◌<◌, ◌≤◌, length, refl, sym, ap, ◌∙◌, subst, take, cond, [], ◌∷◌, ◌++◌, arith, append-nil, map, rules, get_or_read}
-use Rattle.prune.proofs.Common.{MAX_GOODS, SearchOptions, atoms_of, or_value, plain_atom, or_value-price, or_value-filter_le, or_fate, plain_fate, IsFinderOf}
+use Rattle.prune.proofs.Common.{MAX_GOODS, SearchOptions, atoms_of, plain_atom, or_is_value, or_fate, plain_fate, IsFinderOf}
 use Rattle.prune.proofs.Common.{on_bundles, or_points}
 use Rattle.prune.proofs.NotedFates.{noted_all, or_noted_dropped, or_noted_kept}
 use Rattle.prune.proofs.Prefixes.{next_left}
 use Rattle.prune.proofs.Pruning.{IsKept-none}
-use Rattle.prune.proofs.PruningLoop.{next_turn, one_done, one_kept, one_left, none_left, or_end, all_some}
+use Rattle.prune.proofs.PruningLoop.{next_turn, one_done, one_kept, one_left, none_left, loop_end}
 use Rattle.prune.proofs.Refusals.{IsWithin, IsWithin-end, IsWithin-next, IsWithin-refused, IsWithin-start}
-use Rattle.prune.proofs.Results.{turn_next, or_more, or_reached, or_missed}
+use Rattle.prune.proofs.Results.{turn_next, bid_reached, bid_missed}
 use Rattle.prune.proofs.or.prune_or_by.Goals as goal
 
 pub decide-requires-clause-next : goal.decide-requires-clause-next
@@ -32,7 +32,7 @@ loop-next-init g c =
     record {
       left = record { long = refl; rest = refl };
       finder = c.in_ok-finder.ensures.finder;
-      kept = IsKept-none or_value or_value-price or_more or_value-filter_le;
+      kept = IsKept-none or_is_value;
       within = subst (λ (o : SearchOptions). IsWithin c.args.options o bids best) (sym c.in_ok-finder.ensures.options)
           (IsWithin-start c.args.options bids best c.in_ok-keep_best_bids.ensures.best);
       fewer = omega arith;
@@ -59,7 +59,7 @@ loop-next-preserved-then-is_dropped g c =
       left = next_left _ _ _ _ h.left there c.index.ensures now.items refl refl;
       finder = subst (λ zs. IsFinderOf zs c.decide.new.self) (append-nil kept)
           (subst (λ b. IsFinderOf (kept ++ cond b [] (plain_atom goods c.index.result.now ∷ [])) c.decide.new.self) dropped ready);
-      kept = rw done (or_reached _ _ _ _ kept turn h.kept (sym dropped ∙ decided.answer.answer));
+      kept = rw done (bid_reached or_is_value _ _ _ _ kept turn h.kept (sym dropped ∙ decided.answer.answer));
       within = IsWithin-next _ _ _ _ _ _ kept turn h.kept within _ decided.within decided.left;
       fewer = omega (arith, h.fewer);
       wanted = c.note.ensures.wanted ∙ h.wanted;
@@ -90,7 +90,7 @@ loop-next-preserved g c =
       left = next_left _ _ _ _ h.left there c.index.ensures after.items (omega (arith, moved.len, after.ok.0, now.ok.0))
           moved.rest;
       finder = rw more (subst (λ b. IsFinderOf (kept ++ cond b [] (plain_atom goods c.index.result.now ∷ [])) c.decide.new.self) missed ready);
-      kept = rw (done, more) (or_missed _ _ _ _ kept turn h.kept (sym missed ∙ decided.answer.answer));
+      kept = rw (done, more) (bid_missed or_is_value _ _ _ _ kept turn h.kept (sym missed ∙ decided.answer.answer));
       within = IsWithin-next _ _ _ _ _ _ kept turn h.kept within _ decided.within decided.left;
       fewer = omega (arith, h.fewer);
       wanted = c.note.ensures.wanted ∙ h.wanted;
@@ -124,8 +124,8 @@ returns g c =
     let best = c.keep_best_bids.new.bids in
     let options = c.loop-next.finder.search.options in
     let all : length best.items ≤ c.loop-next.next = omega (arith, c.loop-next-test.false, c.len-next-end.ensures, best.ok.0) in
-    let done = or_end goods bids best.items _ _ c.loop-next.next (all_some MAX_GOODS bids c.requires.atoms) c.in_ok-keep_best_bids.ensures.best h.kept all
-    c.truncate.ensures.items in
+    let done = loop_end or_is_value goods MAX_GOODS bids best.items _ _ c.loop-next.next (on_bundles MAX_GOODS bids c.requires.atoms)
+    c.in_ok-keep_best_bids.ensures.best h.kept all c.truncate.ensures.items in
     record {
       points = λ n are. done.points n (on_bundles n bids are);
       none_refused = λ n are.

@@ -2,12 +2,12 @@
 -- A turn of the loop keeps a bid exactly if no kept bid inside its bundle dominates it, which is a turn of proofs/Results; and at the
 -- end the kept bids are the points.
 use Rattle.prune.proofs.Common.{◌<◌, ◌≤◌, cond, [], ◌∷◌, ◌++◌, append-nil, length, refl, sym, ◌∙◌, subst, take, arith, rules, ap, MAX_GOODS, atoms_of}
-use Rattle.prune.proofs.Common.{plain_atom, IsIndexOf, on_bundles, just_bundles, is_some, IfSome, xor_points, xor_fate}
+use Rattle.prune.proofs.Common.{plain_atom, IsIndexOf, on_bundles, just_bundles, is_some, IfSome, xor_points, xor_fate, xor_is_value}
 use Rattle.prune.proofs.Prefixes.{next_left}
 use Rattle.prune.proofs.NotedFates.{noted_all, xor_noted_dropped, xor_noted_kept}
 use Rattle.prune.proofs.FirstDominating.{is_some-first_dominating}
-use Rattle.prune.proofs.PruningLoop.{next_turn, one_done, one_kept, xor_end, dominates_is}
-use Rattle.prune.proofs.Results.{turn_positive, turn_next, xor_reached, xor_missed}
+use Rattle.prune.proofs.PruningLoop.{next_turn, one_done, one_kept, loop_end, dominates_is}
+use Rattle.prune.proofs.Results.{turn_positive, turn_next, bid_reached, bid_missed}
 use Rattle.prune.proofs.xor.prune_xor_noting.Goals as goal
 use Rattle.prune.proofs.xor.prune_xor_noting.Goals.{then-is_none, else-is_none}
 
@@ -61,7 +61,7 @@ loop-next-preserved g c =
               now.ok.0,
             )) moved.rest;
             index = rw more (subst (λ b. IfSome index (IsIndexOf (kept ++ cond b [] (plain_atom goods bid ∷ [])))) w.if-is_none.ensures indexed);
-            kept = rw (done, more) (xor_missed _ _ _ _ kept turn h.kept (sym w.if-is_none.ensures ∙ reaches));
+            kept = rw (done, more) (bid_missed xor_is_value _ _ _ _ kept turn h.kept (sym w.if-is_none.ensures ∙ reaches));
             fewer = omega (arith, h.fewer);
             wanted = c.note.ensures.wanted ∙ h.wanted;
             noted = λ w.
@@ -72,7 +72,7 @@ loop-next-preserved g c =
             left = next_left best.items now.items next bid h.left there c.index.ensures now.items refl refl;
             index = subst (λ zs. IfSome index (IsIndexOf zs)) (append-nil kept)
                 (subst (λ b. IfSome index (IsIndexOf (kept ++ cond b [] (plain_atom goods bid ∷ [])))) w.if-is_none.ensures indexed);
-            kept = rw done (xor_reached _ _ _ _ kept turn h.kept (sym w.if-is_none.ensures ∙ reaches));
+            kept = rw done (bid_reached xor_is_value _ _ _ _ kept turn h.kept (sym w.if-is_none.ensures ∙ reaches));
             fewer = omega (arith, h.fewer);
             wanted = c.note.ensures.wanted ∙ h.wanted;
             noted = λ w.
@@ -87,7 +87,9 @@ returns g c =
     let best = c.keep_best_bids.new.bids in
     let h = c.loop-next.invariant in
     let all : length best.items ≤ c.loop-next.next = omega (arith, c.loop-next-test.false, c.len-next-end.ensures, best.ok.0) in
-    let done = xor_end goods bids best.items _ _ c.loop-next.next c.in_ok-keep_best_bids.ensures.best h.kept all c.truncate.ensures.items in
+    let done = loop_end xor_is_value goods MAX_GOODS bids best.items _ _ c.loop-next.next
+    (just_bundles MAX_GOODS bids (on_bundles MAX_GOODS bids c.requires.atoms))
+    c.in_ok-keep_best_bids.ensures.best h.kept all c.truncate.ensures.items in
     record {
       points = λ n are. done.points n (just_bundles n bids (on_bundles n bids are));
       values = done.values;
