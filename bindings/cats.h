@@ -33,7 +33,7 @@
 extern "C" {
 #endif
 
-// The commands of the program, each as the function of its name below.
+// The commands of the program, each as the function of its name below. CATS_PUBLISH, which writes into a folder, has none.
 enum cats_task {
     CATS_CHECK = 0,
     CATS_FAULT = 1,
@@ -47,7 +47,8 @@ enum cats_task {
     CATS_COMPARE = 9,
     CATS_DIFF = 10,
     CATS_DUPLICATES = 11,
-    CATS_SIZES = 12
+    CATS_SIZES = 12,
+    CATS_PUBLISH = 13
 };
 
 // What a call returns: the status of the program. Of several texts it is the greatest of any.
@@ -67,8 +68,10 @@ enum cats_prices {
     CATS_ROUNDED_EXACTLY = 2 // the same, but refused if the value of a price would change: `--round-exact`, and `--exact` of CATS_ROUND
 };
 
-// A limit of steps that is seldom reached, which the program has without `--steps`; and no limit of the steps of all searches together.
+// A limit of steps that is seldom reached, which the program has without `--steps`; that of the steps of all searches together, which it has
+// without `--total-steps` where it always uses the bounded search; and no such limit.
 #define CATS_STEPS 1000000
+#define CATS_TOTAL 50000000
 #define CATS_NO_TOTAL 0
 
 // What is requested. What a task does not take has no effect on it.
@@ -84,6 +87,7 @@ struct cats_request {
     bool bound;     // whether the search is the bounded one: `--bound`; with a total it has to be; some tasks have no other
     bool all;       // whether CATS_DUPLICATES writes the names too of texts that are the same auction as no other: `--all`
     bool null;      // whether names end with NUL in what CATS_DUPLICATES and CATS_SIZES write: `--null`
+    bool table;     // whether CATS_DUPLICATES writes a table with a row for each text: `--table`
 };
 
 // A text, and its name in UTF-8. If that is empty, the name is the number of the text, from 1.
@@ -105,11 +109,17 @@ uint8_t cats_call(const struct cats_request *request, const struct cats_text *te
 
 // ---- The rest is no part of the library, but makes its call. Here a pointer may be null if its length, count or size is 0.
 
-// A request with the usual values: CATS_STEPS, CATS_NO_TOTAL, the bounded search, prices as they are written, and no goods or bids.
+// The usual total of a task: CATS_TOTAL of those that always use the bounded search, and CATS_NO_TOTAL of the others.
+static inline uint64_t cats_total_of(enum cats_task task) {
+    bool is_limited = task == CATS_EXPLAIN || task == CATS_DIFF || task == CATS_DUPLICATES || task == CATS_SIZES || task == CATS_PUBLISH;
+    return is_limited ? CATS_TOTAL : CATS_NO_TOTAL;
+}
+
+// A request with the usual values: CATS_STEPS, cats_total_of, the bounded search, prices as they are written, and no goods or bids.
 static inline struct cats_request cats_request_of(enum cats_task task) {
     static const uint16_t goods[1] = {0};
     static const uint32_t bids[1] = {0};
-    struct cats_request request = {goods, 0, bids, 0, CATS_STEPS, CATS_NO_TOTAL, (uint8_t)task, CATS_AS_WRITTEN, true, false, false};
+    struct cats_request request = {goods, 0, bids, 0, CATS_STEPS, cats_total_of(task), (uint8_t)task, CATS_AS_WRITTEN, true, false, false, false};
     return request;
 }
 

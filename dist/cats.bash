@@ -9,7 +9,7 @@ _cats() {
         help) if ((COMP_CWORD > 2)); then return; else command=''; fi ;;
     esac
     help=$(command cats ${command:+"$command"} --help 2> /dev/null) || return
-    # What a word stands for is in the usage, as `compare [OPTIONS] <FILE> <FILE>`, or beside its option, as `--steps <N>`.
+    # What a word stands for is in the usage, as `publish [OPTIONS] <DIR> [FILE]...`, or beside its option, as `--steps <N>`.
     usage=${help#*'Usage: cats '}
     read -ra usage <<< "${usage/ '[OPTIONS]'/}"
     for ((at = 2; at < COMP_CWORD; at++)); do
@@ -32,7 +32,7 @@ _cats() {
         _cats_words "$(sed -n '/^Options:/,/^$/s/^ \{2,\}\(-.\)\{0,1\}[, ]*\(--[a-z0-9-]*\).*/\1 \2/p' <<< "$help")"
     elif [[ ! $command ]]; then
         _cats_words "$(sed -n '/^Commands:/,/^$/s/^  \([a-z]*\) .*/\1/p' <<< "$help")"
-    elif [[ ${usage[operands + 1]} == '<FILE>' || (! $is_listed && ${usage[*]} == *'[FILE]...') ]]; then
+    elif [[ ${usage[operands + 1]} == '<FILE>' || ${usage[operands + 1]} == '<DIR>' || (! $is_listed && ${usage[*]} == *'[FILE]...') ]]; then
         _cats_paths
     fi
 }

@@ -16,7 +16,7 @@ function __cats_takes_path
             set at (math $at + 1)
         end
     end
-    test "$usage[-1]" = '[FILE]...'; and not string match -q -- "$list*" $words; or test "$usage[$at]" = '<FILE>'
+    test "$usage[-1]" = '[FILE]...'; and not string match -q -- "$list*" $words; or contains -- "$usage[$at]" '<FILE>' '<DIR>'
 end
 
 complete -c cats -f

@@ -38,6 +38,7 @@ class Call(NamedTuple):
     bound: bool = True
     all: bool = True
     null: bool = False
+    table: bool = False
 
     def __str__(self):
         return " ".join([self.name, *self.options(), *map(str, self.named)])
@@ -57,7 +58,7 @@ class Call(NamedTuple):
         """Those of the program."""
         exactly, rounds = ("--exact", None) if self.name == "round" else ("--round-exact", "--round")
         found = {False: [], True: [rounds], "exact": [exactly]}[self.rounding()]
-        found += ["--bound"] * (self.bound and self.takes("steps")) + ["--all"] * (self.all and self.takes("all")) + ["-0"] * self.null
+        found += ["--bound"] * (self.bound and self.takes("steps")) + ["--all"] * (self.all and self.takes("all")) + ["-0"] * self.null + ["--table"] * self.table
         return found + ["--steps", str(self.steps)] * (self.steps != STEPS) + ["--total-steps", str(self.total)] * (self.total != NO_TOTAL)
 
     def words_of_package(self):
@@ -88,7 +89,7 @@ CALLS = [
     *(call for name, taken in TAKEN.items() for call in calls_of(name, taken)),
     Call("fault", Prices.ROUNDED), Call("fault", Prices.ROUNDED_EXACTLY), Call("check", OTHER_PRICES),
     *(Call(name, named=NAMED.get(name, ()), bound=False) for name in ("value", "normalise", "compare")),
-    Call("duplicates", all=False), Call("duplicates", null=True), Call("sizes", null=True),
+    Call("duplicates", all=False), Call("duplicates", null=True), Call("duplicates", table=True), Call("duplicates", null=True, table=True), Call("sizes", null=True),
 ]
 
 

@@ -7,8 +7,10 @@ from texts import BIDS
 import yinchaku
 from yinchaku._library import Task
 
-# The function of each command, by its name. Of `fault` there is none.
-FUNCTIONS = {it.name.lower(): getattr(yinchaku, "round_prices" if it == Task.ROUND else it.name.lower(), None) for it in Task}
+# The function of each command on texts, by its name. Of `fault` there is none. `publish`, which takes paths alone, is tried in test_publish.py.
+FUNCTIONS = {
+    it.name.lower(): getattr(yinchaku, "round_prices" if it == Task.ROUND else it.name.lower(), None) for it in Task if it != Task.PUBLISH
+}
 
 # The names of what a function takes.
 TAKEN = {name: set(inspect.signature(function).parameters) if function else set() for name, function in FUNCTIONS.items()}

@@ -108,8 +108,8 @@ def printed_compare(verdict):
 
 
 # What is tried in another file, as the function of the package does not answer what the one of the library does.
-ELSEWHERE = {"duplicates": "test_many.py"}
-TRIED = [call for call in CALLS if call.name not in ELSEWHERE and call.bound and not call.null]
+ELSEWHERE = {"duplicates": "test_many.py", "publish": "test_publish.py"}
+TRIED = [call for call in CALLS if call.name not in ELSEWHERE and call.bound and not call.null and not call.table]
 
 PRINTED = {
     "check": lambda sizes: Answer(0, b"goods %d bids %d dummy %d\n" % sizes),
@@ -160,9 +160,9 @@ def printed_limit(call, error):
     goods = ",".join(map(str, error.bundle))
     if error.bid is None:
         return f"step limit at {goods}\n"
-    in_all = "" if call.total == NO_TOTAL else f" ({call.total} in all)"
+    total, limit = ("", call.steps) if call.total == NO_TOTAL else ("total ", call.total)
     rest = f",.. ({error.count} goods)" if error.count > 20 else ""
-    return f"step limit of {call.steps}{in_all} at bid {error.bid}: {goods}{rest}\n"
+    return f"{total}step limit of {limit} at bid {error.bid}: {goods}{rest}\n"
 
 
 def prefix_of(error):

@@ -19,8 +19,9 @@ ERRORS = [
     yinchaku.WantOfMemory("want of memory", "first"),
     yinchaku.StepLimit((0, 12)),
     yinchaku.StepLimit((), "first"),
-    yinchaku.StepLimit((0, 12), "second", HeavyBid(3, 2, 1_000, 5_000)),
-    yinchaku.StepLimit(tuple(range(20)), None, HeavyBid(0, 58, 1, None)),
+    yinchaku.StepLimit((0, 12), "second", HeavyBid(3, 2, 5_000, True)),
+    yinchaku.StepLimit((0, 12), "first", HeavyBid(3, 2, 1_000, False)),
+    yinchaku.StepLimit(tuple(range(20)), None, HeavyBid(0, 58, 1, False)),
     yinchaku.NoSuchGood(7),
     yinchaku.NoSuchBid(65536),
     yinchaku.WrongSolution("no"),
@@ -127,7 +128,7 @@ def test_messages():
         raise ERRORS[3]
     assert list(map(str, ERRORS)) == [
         "no", "TooLong", "second: line 1: Header", "first: want of memory", "step limit at 0,12", "first: step limit at ",
-        "second: step limit of 1000 (5000 in all) at bid 3: 0,12",
+        "second: total step limit of 5000 at bid 3: 0,12", "first: step limit of 1000 at bid 3: 0,12",
         "step limit of 1 at bid 0: 0,1,2,3,4,5,6,7,8,9,10,11,12,13,14,15,16,17,18,19,.. (58 goods)",
         "good 7 out of range", "bid 65536 out of range", "no",
     ]
@@ -149,7 +150,7 @@ def test_named_bids(goods):
         assert (raised.value.bid, raised.value.count, raised.value.bundle) == (0, goods, tuple(range(min(goods, 20))))
     shown = ",".join(map(str, range(min(goods, 20)))) + (f",.. ({goods} goods)" if goods > 20 else "")
     assert str(alone.value) == f"step limit of 0 at bid 0: {shown}"
-    assert str(second.value) == f"second: step limit of 0 (7 in all) at bid 0: {shown}"
+    assert str(second.value) == f"second: step limit of 0 at bid 0: {shown}"
     with pytest.raises(yinchaku.StepLimit) as other:
         yinchaku.normalise(one_bid(goods), 0)
     assert (other.value.bid, other.value.count, other.value.bundle) == (None, goods, tuple(range(goods)))

@@ -2,10 +2,12 @@
 import errno
 import os
 import pathlib
+import shutil
 import stat
 import threading
 
 import pytest
+from beside import run_program
 from texts import BIDS
 
 import yinchaku
@@ -32,7 +34,7 @@ def test_publish(folder, tmp_path):
     to = tmp_path / "new" / "texts"
     rows = list(yinchaku.publish(folder, to, round=True))
     assert [row.file for row in rows] == [folder / name for name in ("a/0000.txt", "a/line\nfeed", "b/0000.txt", "b/c/0000.txt")]
-    assert [row[:-1] for row in rows] == [
+    assert [row[1:] for row in rows] == [
         (pathlib.Path("a/0000.txt"), None, 2, 1, 1, 0, 0, None),
         (None, None, None, None, None, None, None, "line 1: Header"),
         (pathlib.Path("b/0000.txt"), None, 2, 2, 1, 1, 1, None),
@@ -42,6 +44,24 @@ def test_publish(folder, tmp_path):
     mask = os.umask(0)
     os.umask(mask)
     assert stat.S_IMODE((to / "a/0000.txt").stat().st_mode) == 0o666 & ~mask
+
+
+@pytest.mark.parametrize("every", [False, True])
+def test_the_table_of_the_program(program, folder, tmp_path, every):
+    """The program prints the same columns and rows, and writes the same texts."""
+    (tmp_path / "by_program/b").mkdir(parents=True)
+    (tmp_path / "by_program/b/c").write_bytes(b"mine")
+    shutil.copytree(tmp_path / "by_program", tmp_path / "by_package")
+    words = ["--round", "--total-steps", "1", *["--all"] * every, tmp_path / "by_program", folder, folder / "none"]
+    header, *lines = run_program(program, ["publish", *map(str, words)]).out.decode().splitlines()
+    rows = list(yinchaku.publish([folder, folder / "none"], tmp_path / "by_package", total=1, round=True, all=every))
+    assert header.split("\t") == list(yinchaku.PublishRow._fields)
+    assert [line.split("\t") for line in lines] == [[printed_cell(cell) for cell in row] for row in rows] and len(rows) == 5
+    assert texts_below(tmp_path / "by_program") == texts_below(tmp_path / "by_package")
+
+
+def printed_cell(cell):
+    return "" if cell is None else yinchaku.errors.shown_path(cell) if isinstance(cell, pathlib.Path) else str(cell)
 
 
 def test_all(folder, tmp_path):
@@ -56,7 +76,7 @@ def test_files_that_are_refused(folder, tmp_path):
     rows = list(yinchaku.publish([folder / "none", folder / "b"], tmp_path / "texts", total=1))
     sizes = list(yinchaku.sizes([folder / "none", folder / "b"], total=1))
     assert [(row.goods, row.bids, row.fault) for row in rows if row.fault] == [(row.goods, row.bids, row.fault) for row in sizes if row.fault]
-    assert [row.fault and row.fault[:10] for row in rows] == ["cannot ope", "line 5: To", "step limit", None]
+    assert [row.fault and row.fault[:10] for row in rows] == ["cannot ope", "line 5: To", "total step", None]
     assert texts_below(tmp_path / "texts") == {"c/0000.txt": yinchaku.normalise(SAME)}
 
 
@@ -72,34 +92,48 @@ def test_a_file_is_read_once(tmp_path, given, fault):
 
 @pytest.mark.parametrize("named", [["a", "b"], ["a/0000.txt", "b/0000.txt"], ["b", "b"]])
 def test_texts_of_one_path(folder, tmp_path, named):
-    with pytest.raises(FileExistsError, match="0000.txt"):
+    with pytest.raises(ValueError, match="0000.txt"):
         yinchaku.publish([folder / name for name in named], tmp_path / "texts")
     assert not (tmp_path / "texts").exists()
 
 
 def test_a_text_below_another_one(folder, tmp_path):
     (folder / "c").write_bytes(OTHER)
-    with pytest.raises(FileExistsError, match="below"):
+    with pytest.raises(ValueError, match="below that of"):
         yinchaku.publish([folder / "c", folder / "b"], tmp_path / "texts")
+    with pytest.raises(ValueError, match="below the folder"):
+        yinchaku.publish(folder / "none" / "..", tmp_path / "texts")
     assert not (tmp_path / "texts").exists()
 
 
 def test_nothing_is_replaced(folder, tmp_path):
-    """A path at which something is, be it a link that leads nowhere; and a link to a folder, which may lead out."""
-    outside = tmp_path / "outside"
-    outside.mkdir()
+    """A path at which something is, be it a link that leads nowhere."""
     for make in (lambda path: path.write_bytes(b"mine"), lambda path: path.symlink_to("nowhere"), lambda path: path.mkdir()):
         to = tmp_path / f"texts{len(list(tmp_path.iterdir()))}"
         (to / "b").mkdir(parents=True)
         make(to / "b/0000.txt")
-        with pytest.raises(FileExistsError, match="nothing is replaced"):
+        with pytest.raises(FileExistsError, match="it exists already"):
             yinchaku.publish(folder, to)
-    (to / "a").symlink_to(outside)
-    with pytest.raises(FileExistsError, match="no link is followed"):
-        yinchaku.publish(folder / ".." / "given", to)
-    assert list(outside.iterdir()) == []
-    with pytest.raises(FileExistsError):
-        yinchaku.publish(folder, folder / "a/0000.txt")
+        assert [path.name for path in to.rglob("*")] == ["b", "0000.txt"]
+
+
+@pytest.mark.parametrize("below", ["", "/texts"])
+def test_what_is_no_folder(folder, tmp_path, below):
+    with pytest.raises(NotADirectoryError, match="not a folder"):
+        yinchaku.publish(folder, f"{folder / 'a/0000.txt'}{below}")
+    assert (folder / "a/0000.txt").read_bytes() == OTHER
+
+
+def test_no_link_is_followed(folder, tmp_path):
+    """A link to a folder may lead out, and a file is no folder: such texts are not written, and the others are."""
+    (tmp_path / "outside").mkdir()
+    (tmp_path / "texts/b").mkdir(parents=True)
+    (tmp_path / "texts/a").symlink_to(tmp_path / "outside")
+    (tmp_path / "texts/b/c").write_bytes(b"mine")
+    rows = list(yinchaku.publish(folder, tmp_path / "texts", all=True, round=True))
+    assert [row.fault for row in rows] == ["cannot write: not a folder", "line 1: Header", None, "cannot write: not a folder"]
+    assert list((tmp_path / "outside").iterdir()) == []
+    assert texts_below(tmp_path / "texts") == {"b/0000.txt": yinchaku.normalise(SAME), "b/c": b"mine"}
 
 
 def test_what_comes_meanwhile_stays(folder, tmp_path):

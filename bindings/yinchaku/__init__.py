@@ -9,8 +9,9 @@ released during a call.
 Sizes(goods=3, bids=2, dummies=1)
 
 All searches are bounded, as those of the program with `--bound`. `steps` is the most steps of one search, and `total` those of all searches
-of one text together, if it is not None. With `round` a text is read as `round_prices` prints it, and with `round="exact"` it is refused if
-that would change the value of a price.
+of one text together, if it is not None. Both are as in the program if they are not given: `total` is TOTAL of `explain`, `diff`, `duplicates`,
+`sizes`, `publish` and `winners`, and None of the others. With `round` a text is read as `round_prices` prints it, and with `round="exact"` it
+is refused if that would change the value of a price.
 
 The library is looked for in the folder of this package (`libcats.so`), then in the folder that holds the package (`libcats.so`,
 `libcats.so.2`), and then where the system looks for libraries (`libcats.so.2`, `libcats.so`).
@@ -18,7 +19,7 @@ The library is looked for in the folder of this package (`libcats.so`), then in 
 from yinchaku._auction import Auction, read, winners
 from yinchaku._bids import Bid
 from yinchaku._calls import check, compare, diff, duplicates, explain, lp, normalise, revenue, round_prices, show, sizes, value
-from yinchaku._library import STEPS
+from yinchaku._library import STEPS, TOTAL
 from yinchaku._library import check_version as _check_version
 from yinchaku._publish import publish
 from yinchaku._rows import Rows
@@ -30,7 +31,7 @@ __version__ = "0.3.0"
 _check_version(__version__)
 
 __all__ = [
-    "STEPS", "read", "winners",
+    "STEPS", "TOTAL", "read", "winners",
     "check", "show", "value", "revenue", "normalise", "explain", "round_prices", "lp", "compare", "diff", "duplicates", "sizes", "publish",
     "Auction", "Bid", "Sizes", "Value", "XorValue", "Reason", "Rounded", "Change", "Allocation", "Verdict", "Difference", "SizesRow", "PublishRow",
     "Winners", "Rows",

@@ -8,7 +8,7 @@ from typing import Any, Dict, Iterable, List, Optional, Sequence, Tuple, Type, T
 
 from yinchaku._bids import HEADER_LINES, Bid, BidLike, bid_lines, bid_of, written
 from yinchaku._calls import check, compare, diff, explain, lp, normalise, revenue, value
-from yinchaku._library import STEPS, Prices, Task
+from yinchaku._library import STEPS, TOTAL, Prices, Task
 from yinchaku._rows import Rows
 from yinchaku._solutions import solution_in
 from yinchaku._tables import Allocation, Change, Difference, Reason, SizesRow, Value, Winners, changes_of, row_of_sizes
@@ -99,7 +99,7 @@ class Auction(HasText):
         """The canonical auction, whose text is the canonical text."""
         return Auction(normalise(self, steps, total=total))
 
-    def explain(self, steps: int = STEPS, *, total: Optional[int] = None) -> Rows[Reason]:
+    def explain(self, steps: int = STEPS, *, total: Optional[int] = TOTAL) -> Rows[Reason]:
         """For each bid, in order of number, why the canonical text has it or not."""
         return explain(self, steps, total=total)
 
@@ -111,7 +111,7 @@ class Auction(HasText):
         """The winner determination problem, as a text for solvers."""
         return lp(self)
 
-    def winners(self, solution: TextOrPath, steps: int = STEPS, *, canonical: bool = False, total: Optional[int] = None) -> Winners:
+    def winners(self, solution: TextOrPath, steps: int = STEPS, *, canonical: bool = False, total: Optional[int] = TOTAL) -> Winners:
         """The bids that win by a solver's solution of `lp()`, or, if `canonical`, of `normalise().lp()`. WrongSolution: it is none of these."""
         bids: Sequence[int] = self._kept(steps, total) if canonical else range(self._sizes.bids)
         try:
@@ -133,7 +133,7 @@ class Auction(HasText):
         found = [(row.kept, row.bid) for row in self.explain(steps, total=total) if row.kept is not None]
         return [bid for _, bid in sorted(found)]
 
-    def sizes(self, steps: int = STEPS, *, total: Optional[int] = None) -> SizesRow:
+    def sizes(self, steps: int = STEPS, *, total: Optional[int] = TOTAL) -> SizesRow:
         """The sizes of the auction and of its canonical auction."""
         return row_of_sizes(answer_on(Task.SIZES, [self], False, limits_of(steps, total)), self._path)
 
@@ -141,7 +141,7 @@ class Auction(HasText):
         """Whether the other file is the same auction."""
         return compare(self, other, steps, total=total).same
 
-    def diff(self, other: TextOrPath, steps: int = STEPS, *, total: Optional[int] = None) -> Rows[Difference]:
+    def diff(self, other: TextOrPath, steps: int = STEPS, *, total: Optional[int] = TOTAL) -> Rows[Difference]:
         """All differences from the other file. There is none exactly if it is the same auction."""
         return diff(self, other, steps, total=total)
 
@@ -188,7 +188,7 @@ def read(path_or_bytes: TextOrPath, *, round: Rounding = False) -> Auction:
 
 
 def winners(
-    text: TextOrPath, solution: TextOrPath, steps: int = STEPS, *, canonical: bool = False, total: Optional[int] = None, round: Rounding = False
+    text: TextOrPath, solution: TextOrPath, steps: int = STEPS, *, canonical: bool = False, total: Optional[int] = TOTAL, round: Rounding = False
 ) -> Winners:
     """The bids of a file that win by a solver's solution of its problem, as `lp` prints it, or, if `canonical`, of that of its canonical text; and
     the exact sum of their prices. The solution is a file of cbc, glpsol (by `-w` or `-o`), HiGHS, SCIP, CPLEX or Gurobi.

@@ -6,7 +6,7 @@ import pathlib
 from typing import Any, Dict, Iterable, Iterator, List, Optional, Tuple, Union
 
 from yinchaku._files import Given, texts_in
-from yinchaku._library import STEPS, Prices, Task, call
+from yinchaku._library import STEPS, TOTAL, Prices, Task, call
 from yinchaku._rows import Rows
 from yinchaku._tables import Allocation, Difference, Reason, Rounded, Sizes, SizesRow, Value, Verdict
 from yinchaku._tables import allocation_of, changes_of, differences_of, reasons_of, row_of_sizes, sizes_of, value_of, verdict_of
@@ -97,7 +97,7 @@ def normalise(text: TextOrPath, steps: int = STEPS, *, total: Optional[int] = No
     return answer_on(Task.NORMALISE, [text], round, limits_of(steps, total))
 
 
-def explain(text: TextOrPath, steps: int = STEPS, *, total: Optional[int] = None, round: Rounding = False) -> Rows[Reason]:
+def explain(text: TextOrPath, steps: int = STEPS, *, total: Optional[int] = TOTAL, round: Rounding = False) -> Rows[Reason]:
     """For each bid, in order of number, why the canonical text has it or not.
 
     >>> for row in explain(b"goods 2\\nbids 3\\ndummy 0\\n0 3 0 #\\n1 4 1 #\\n2 7 0 1 #\\n"):
@@ -161,7 +161,7 @@ def compare(
 
 
 def diff(
-    left: TextOrPath, right: TextOrPath, steps: int = STEPS, *, total: Optional[int] = None, round: Rounding = False
+    left: TextOrPath, right: TextOrPath, steps: int = STEPS, *, total: Optional[int] = TOTAL, round: Rounding = False
 ) -> Rows[Difference]:
     """All differences of two auctions: each bundle on which a bidder's prices differ. There is none exactly if they are the same.
 
@@ -175,7 +175,7 @@ def diff(
 
 
 def duplicates(
-    texts: Union[Given, Iterable[Given]], steps: int = STEPS, *, total: Optional[int] = None, round: Rounding = False, all: bool = False,
+    texts: Union[Given, Iterable[Given]], steps: int = STEPS, *, total: Optional[int] = TOTAL, round: Rounding = False, all: bool = False,
     refused: Optional[List[Tuple[Any, Exception]]] = None,
 ) -> List[Tuple[Union[Given, pathlib.Path], ...]]:
     """The texts that are the same auction, in groups of two or more, in the order of their first ones. With `all` a text that is alone is a group
@@ -207,7 +207,7 @@ def duplicates(
 
 
 def sizes(
-    texts: Union[Given, Iterable[Given]], steps: int = STEPS, *, total: Optional[int] = None, round: Rounding = False
+    texts: Union[Given, Iterable[Given]], steps: int = STEPS, *, total: Optional[int] = TOTAL, round: Rounding = False
 ) -> Iterator[SizesRow]:
     """A row for each text, made when it is taken: its sizes, and those of its canonical file, or why it is refused. A folder is the files below it.
 

@@ -11,6 +11,9 @@ from typing import Any, List, Sequence, Tuple
 # The limit on the steps of each search, if none is given: CATS_STEPS.
 STEPS = 1_000_000
 
+# That of all searches of a text together, of the functions whose program has one if none is given: CATS_TOTAL.
+TOTAL = 50_000_000
+
 # What the library takes for no limit on the steps of all searches of a text: CATS_NO_TOTAL.
 NO_TOTAL = 0
 
@@ -31,6 +34,7 @@ class Task(enum.IntEnum):
     DIFF = 10
     DUPLICATES = 11
     SIZES = 12
+    PUBLISH = 13
 
 
 class Status(enum.IntEnum):
@@ -60,7 +64,7 @@ def struct(**fields: Any) -> Any:
 # What is requested, and a text with its name: `struct cats_request` and `struct cats_text`.
 Request = struct(
     goods=POINTER(c_uint16), goods_count=c_size_t, bids=POINTER(c_uint32), bids_count=c_size_t, steps=c_uint64, total=c_uint64, task=c_uint8,
-    prices=c_uint8, bound=c_bool, all=c_bool, null=c_bool,
+    prices=c_uint8, bound=c_bool, all=c_bool, null=c_bool, table=c_bool,
 )
 Text = struct(bytes=c_char_p, length=c_size_t, name=c_char_p, name_length=c_size_t)
 
@@ -123,7 +127,7 @@ class Frame:
     so it is used again."""
 
     def __init__(self, size: int = ROOM, err_size: int = ROOM) -> None:
-        self.request = Request((c_uint16 * 1)(), 0, (c_uint32 * 1)(), 0, STEPS, NO_TOTAL, 0, 0, True, False, False)
+        self.request = Request((c_uint16 * 1)(), 0, (c_uint32 * 1)(), 0, STEPS, NO_TOTAL, 0, 0, True, False, False, False)
         texts = (Text * 2)(Text(b"", 0, b"", 0), Text(b"", 0, b"", 0))
         # the pointer and the length of each text in these, by which they are set in less time than as fields
         self.texts = [(c_char_p.from_buffer(texts, at), c_size_t.from_buffer(texts, at + Text.length.offset)) for at in (0, sizeof(Text))]

@@ -35,10 +35,12 @@ class SizesRow(NamedTuple):
 
 
 class PublishRow(NamedTuple):
-    """What `publish` did with a file: `text` is the path of its text below the folder, or None if none was written, and `same_as` the first file that
-    is the same auction, or None for it. `goods` and `bids` are the file's, `kept` the bids of its canonical file, `rounded` the prices that `round`
-    changed, and `zeroed` those of them that became 0. `fault` says why there is no text: then numbers that are not known are None."""
+    """What `publish` did with the file at the path `file`, with the columns of the program: `text` is the path of its text below the folder, or None
+    if none was written, and `same_as` the first file that is the same auction, or None for it. `goods` and `bids` are the file's, `kept` the bids of
+    its canonical file, `rounded` the prices that `round` changed, and `zeroed` those of them that became 0. `fault` says why there is no text: then
+    numbers that are not known are None."""
 
+    file: pathlib.Path
     text: Optional[pathlib.Path]
     same_as: Optional[pathlib.Path]
     goods: Optional[int]
@@ -47,7 +49,6 @@ class PublishRow(NamedTuple):
     rounded: Optional[int]
     zeroed: Optional[int]
     fault: Optional[str]
-    file: pathlib.Path
 
 
 class XorValue(NamedTuple):

@@ -9,7 +9,7 @@ from typing import Any, Callable, Match, NamedTuple, Optional, Tuple
 from yinchaku._library import Status
 
 # The line of a step limit, by a call that names the bid, as the program prints it.
-HEAVY = re.compile(r"(?:(first|second): )?step limit of (\d+)(?: \((\d+) in all\))? at bid (\d+): ([\d,]*)(?:,\.\. \((\d+) goods\))?")
+HEAVY = re.compile(r"(?:(first|second): )?(total )?step limit of (\d+) at bid (\d+): ([\d,]*)(?:,\.\. \((\d+) goods\))?")
 
 # That of any other fault.
 FAULT = re.compile(r"(?:(first|second): )?(?:line (\d+): (\w+)|step limit at ([\d,]*)|(good|bid) (\d+) out of range|(want of memory)|(\w+))")
@@ -56,12 +56,13 @@ NO_PLACE = Place(None, None, None, None)
 
 
 class HeavyBid(NamedTuple):
-    """The first bid on a bundle whose search is over a limit: its number, how many goods it has, and the limits."""
+    """The first bid on a bundle whose search is over a limit: its number, how many goods it has, and the limit that is met, of one search or of all
+    together."""
 
     bid: int
     goods_count: int
-    steps: int
-    total: Optional[int]
+    limit: int
+    is_total: bool
 
 
 class CatsError(Exception):
@@ -161,9 +162,9 @@ def step_limit_text(bundle: Tuple[int, ...], heavy: Optional[HeavyBid]) -> str:
     goods = ",".join(map(str, bundle))
     if heavy is None:
         return f"step limit at {goods}"
-    total = "" if heavy.total is None else f" ({heavy.total} in all)"
+    total = "total " if heavy.is_total else ""
     rest = f",.. ({heavy.goods_count} goods)" if heavy.goods_count > len(bundle) else ""
-    return f"step limit of {heavy.steps}{total} at bid {heavy.bid}: {goods}{rest}"
+    return f"{total}step limit of {heavy.limit} at bid {heavy.bid}: {goods}{rest}"
 
 
 class NoSuchGood(CatsError):
@@ -199,10 +200,10 @@ def bundle_of(goods: str) -> Tuple[int, ...]:
     return tuple(int(good) for good in goods.split(",") if good)
 
 
-def heavy_error_of(which: Optional[str], steps: str, total: Optional[str], bid: str, goods: str, count: Optional[str]) -> StepLimit:
+def heavy_error_of(which: Optional[str], total: Optional[str], limit: str, bid: str, goods: str, count: Optional[str]) -> StepLimit:
     """The exception for a step limit whose line names the bid."""
     bundle = bundle_of(goods)
-    return StepLimit(bundle, which, HeavyBid(int(bid), int(count) if count else len(bundle), int(steps), int(total) if total else None))
+    return StepLimit(bundle, which, HeavyBid(int(bid), int(count) if count else len(bundle), int(limit), bool(total)))
 
 
 def error_of(status: int, printed: bytes) -> CatsError:

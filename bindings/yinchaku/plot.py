@@ -19,7 +19,7 @@ from yinchaku._bids import Bid
 from yinchaku._drawing import BLACK, BLUE, GREEN, GREY, HEIGHT, ORANGE, PURPLE, SKY, VERMILION, WHITE, WIDTH, Style
 from yinchaku._drawing import axes_of, draw_boxes, draw_counts, draw_diagonal, draw_matrix, draw_points, part, use_whole_numbers, with_legend
 from yinchaku._files import ONE
-from yinchaku._library import STEPS, Status
+from yinchaku._library import STEPS, TOTAL, Status
 from yinchaku._tables import Difference, Reason, SizesRow
 from yinchaku._texts import Rounding, TextOrPath, path_given
 from yinchaku.errors import CatsError, StepLimit, WantOfMemory, shown_path
@@ -67,7 +67,7 @@ CELLS = (WHITE, BLUE, ORANGE, GREY)
 # ---- the pictures
 
 def bids(
-    given: Union[TextOrPath, Iterable[Reason]], ax: Any = None, *, steps: int = STEPS, total: Optional[int] = None, round: Rounding = False
+    given: Union[TextOrPath, Iterable[Reason]], ax: Any = None, *, steps: int = STEPS, total: Optional[int] = TOTAL, round: Rounding = False
 ) -> Any:
     """The price of each bid against its number of goods: kept bids, and dropped ones by reason, side by side. Rows are those of `explain`."""
     rows = rows_of(given, lambda text: _calls.explain(text, steps, total=total, round=round))
@@ -82,7 +82,7 @@ def bids(
 
 
 def goods(
-    given: Union[TextOrPath, Iterable[Reason]], ax: Any = None, *, steps: int = STEPS, total: Optional[int] = None, round: Rounding = False
+    given: Union[TextOrPath, Iterable[Reason]], ax: Any = None, *, steps: int = STEPS, total: Optional[int] = TOTAL, round: Rounding = False
 ) -> Any:
     """How many bids have each good: of all bids, and of those that the canonical text has. Rows are those of `explain`, of which the goods go up to the
     last that a bid has."""
@@ -103,7 +103,7 @@ def goods(
 
 def difference(
     left: Union[TextOrPath, Iterable[Difference]], right: Optional[TextOrPath] = None, ax: Any = None, *, steps: int = STEPS,
-    total: Optional[int] = None, round: Rounding = False,
+    total: Optional[int] = TOTAL, round: Rounding = False,
 ) -> Any:
     """The bundles on which bidders' prices differ: the price on the left against that on the right, at 0 if there is none. Rows, without `right`, are
     those of `diff`."""
@@ -124,7 +124,7 @@ def difference(
 
 
 def sizes(
-    given: Union[TextOrPath, Iterable[TextOrPath], Iterable[SizesRow]], ax: Any = None, *, steps: int = STEPS, total: Optional[int] = None,
+    given: Union[TextOrPath, Iterable[TextOrPath], Iterable[SizesRow]], ax: Any = None, *, steps: int = STEPS, total: Optional[int] = TOTAL,
     round: Rounding = False,
 ) -> Any:
     """Two pictures of many files: a box for each folder on the shares of kept bids; and the rows times columns of each problem, after against before. A
@@ -149,7 +149,7 @@ def sizes(
 
 
 def conflicts(
-    given: Union[TextOrPath, Iterable[Bid], Iterable[Reason]], ax: Any = None, *, steps: int = STEPS, total: Optional[int] = None, round: Rounding = False
+    given: Union[TextOrPath, Iterable[Bid], Iterable[Reason]], ax: Any = None, *, steps: int = STEPS, total: Optional[int] = TOTAL, round: Rounding = False
 ) -> Any:
     """Which bids of the canonical text share goods, as a matrix in its order, of at most 2,000 bids. Rows are those of `explain`, of which the kept
     ones are drawn, or bids, which are drawn in their order."""
@@ -267,7 +267,8 @@ def parsed(words: Optional[Sequence[str]]) -> argparse.Namespace:
     parser.add_argument("-o", "--output", required=True, metavar="PICTURE", help="what is written: .svg, .png, .pdf")
     parser.add_argument("--round", action="store_true", help="read prices as they are rounded to the nearest millionth")
     parser.add_argument("--steps", type=int, default=STEPS, metavar="N", help="the most steps of one search (default: 1000000)")
-    parser.add_argument("--total-steps", type=int, dest="total", metavar="N", help="the most steps of all searches of a file")
+    total = "the most steps of all searches of a file (default: 50000000)"
+    parser.add_argument("--total-steps", type=int, dest="total", default=TOTAL, metavar="N", help=total)
     given = parser.parse_args(words)
     wanted = KINDS[given.kind][1]
     if wanted and len(given.files) != wanted:
@@ -290,7 +291,8 @@ def draw(given: argparse.Namespace, ax: Any) -> int:
 
 
 def status_of_row(row: SizesRow) -> int:
-    begins = {"cannot open": UNREADABLE, "want of memory": Status.WANT_OF_MEMORY, "step limit": Status.STEP_LIMIT}
+    begins = {"cannot open": UNREADABLE, "want of memory": Status.WANT_OF_MEMORY}
+    begins.update({"step limit": Status.STEP_LIMIT, "total step limit": Status.STEP_LIMIT})
     return next((int(status) for text, status in begins.items() if (row.fault or "").startswith(text)), int(Status.REFUSED))
 
 

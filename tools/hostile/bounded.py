@@ -77,10 +77,10 @@ def refused(goods, before=""):
 
 
 def refused_bid(goods, path, option, limit, before=""):
-    """What is answered of it by a command that names the limits and the first bid on the bundle."""
-    limits = f"{STEPS} ({limit} in all)" if option == "--total-steps" else limit
+    """What is answered of it by a command that names the limit that is met and the first bid on the bundle."""
+    met = "total step limit" if option == "--total-steps" else "step limit"
     number = [bid.goods for bid in or_bids(path, SMALL_GOODS)].index(frozenset(goods))
-    return Answer(STEP_LIMIT, "", f"{before}step limit of {limits} at bid {number}: {','.join(map(str, goods))}\n")
+    return Answer(STEP_LIMIT, "", f"{before}{met} of {limit} at bid {number}: {','.join(map(str, goods))}\n")
 
 
 def generated(folder, kind, goods, bids, *more):
@@ -214,6 +214,21 @@ def judge_commands(path, made, total, most):
             judge_run(named(), "explain", option, enough - 1, path)
             twice = Answer(STEP_LIMIT, f"{path}\n{path}\n", 2 * named(f"{path}: ").err)
             judge_run(twice, "duplicates", option, enough - 1, path, path)
+        judge_publishing(path, option, enough, named if enough > 1 else None)
+
+
+def judge_publishing(path, option, enough, named):
+    """The text is written with enough steps, and with less the row says how many the limit is."""
+    with tempfile.TemporaryDirectory() as texts:
+        own = run("publish", f"{texts}/own", path)
+        judge_run(own, "publish", option, enough, f"{texts}/enough", path)
+        judge(own.status == 0 and os.listdir(f"{texts}/enough") == [os.path.basename(path)], f"the text of {path}", own)
+        if named:
+            header, row = own.out.splitlines(True)
+            goods, bids = row.split("\t")[3:5]
+            wanted = f"{header}{path}\t\t\t{goods}\t{bids}\t\t\t\t{named().err}"
+            judge_run(Answer(STEP_LIMIT, wanted, ""), "publish", option, enough - 1, f"{texts}/less", path)
+            judge(os.listdir(f"{texts}/less") == [], f"no text of {path}", own)
 
 
 def small_text(chosen):

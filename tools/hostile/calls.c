@@ -2,7 +2,7 @@
 //
 // The environment says what happens:
 //   FAULTS_CALL    allocation, read, write, open, or denied: an opening that fails for want of permission; folder: the opening of
-//                  a folder; names: the reading of its names; or look: a look at what is at a path
+//                  a folder; names: the reading of its names; look: a look at what is at a path; or sync, link, mkdir, unlink
 //   FAULTS_NUMBER  which of these calls fails, counted from 1
 //   FAULTS_REST    set: all after it fail too
 //   FAULTS_PIECE   the most bytes that a read or a write moves
@@ -96,4 +96,20 @@ struct statx;
 
 int statx(int folder, const char *path, int flags, unsigned int mask, struct statx *found) {
     return fails("look", EACCES) ? -1 : (int)syscall(SYS_statx, folder, path, flags, mask, found);
+}
+
+int fsync(int file) {
+    return fails("sync", EIO) ? -1 : (int)syscall(SYS_fsync, file);
+}
+
+int link(const char *from, const char *to) {
+    return fails("link", EPERM) ? -1 : (int)syscall(SYS_linkat, AT_FDCWD, from, AT_FDCWD, to, 0);
+}
+
+int mkdir(const char *path, mode_t mode) {
+    return fails("mkdir", EACCES) ? -1 : (int)syscall(SYS_mkdirat, AT_FDCWD, path, mode);
+}
+
+int unlink(const char *path) {
+    return fails("unlink", EBUSY) ? -1 : (int)syscall(SYS_unlinkat, AT_FDCWD, path, 0);
 }

@@ -26,9 +26,12 @@ BEHIND = {"Goods": ("0 1", "0 4095"), "Bids": ("1 0", "65535")}
 
 
 def lines():
-    """Command lines of each command of the program: without options, with each that has a row above, and with each word behind the files."""
+    """Command lines of each command of the program that writes into no folder: without options, with each that has a row above, and with each word
+    behind the files."""
     for name, arguments in runpy.run_path(str(pathlib.Path(__file__).resolve().parents[2] / "docs/tables"))["commands"]():
         named = arguments.split(", ")
+        if "Folder" in named:
+            continue
         files = 0 if "Files" in named else named.count("File") + named.count("SecondFile")
         behind = next((BEHIND[it] for it in named if it in BEHIND), ("",))
         options = [OPTIONS[it] if "Bound" in named else OPTIONS[it].removeprefix("--bound ") for it in named if it in OPTIONS]

@@ -82,10 +82,19 @@ def reads(one, piece):
     TALLY.judge(answer == one.own, f"{one}: no read of {piece} bytes", answer)
 
 
-def is_whole_run_refused(answer):
-    """Whether the run ended for want of memory, before a file was read or when all were."""
+def begins_table(one, out):
+    """Whether these are the first rows of the run, whole, of which some may say that memory was refused."""
+    header, *rows = one.own.out.splitlines(True)
+    known = [(header,), *((row, refused_row(path, WANT)) for row, path in zip(rows, one.files))]
+    printed = out.splitlines(True)
+    return len(printed) <= len(known) and all(line in allowed for line, allowed in zip(printed, known))
+
+
+def is_whole_run_refused(one, answer):
+    """Whether the run ended for want of memory, before a file was read, when all were, or, of a table, behind any of its rows."""
     lines = answer.err.splitlines(True)
-    return answer.status == NO_MEMORY and answer.out == b"" and bool(lines) and lines[-1] == WANT
+    is_begun = answer.out == b"" or (makes_table(one) and begins_table(one, answer.out))
+    return answer.status == NO_MEMORY and is_begun and bool(lines) and lines[-1] == WANT
 
 
 def memory(one, rest):
@@ -100,7 +109,7 @@ def memory(one, rest):
         if not answer.failures:
             break
         printed = answer.printed()
-        is_right = is_whole_run_refused(answer) or printed == one.own.printed() or printed in refused
+        is_right = is_whole_run_refused(one, answer) or printed == one.own.printed() or printed in refused
         TALLY.judge(is_right, f"{what} {number}", answer)
         whats.add(printed)
     TALLY.judge(answer.printed() == one.own.printed(), f"{what}: none", answer)
@@ -235,8 +244,8 @@ def names(folder):
     absent = [path + b"/" + name for name in NAMES]
     lines = [path + b"/" + line + b": cannot open\n" for line in NAMES.values()]
     answer = run(["duplicates", "-0", "--progress", *absent])
-    counted = b"%d of %d " % (len(NAMES), len(NAMES)) + lines[-1][: -len(b": cannot open\n")]
-    TALLY.judge(is_told(answer, DEVICE_FAILED, b"", [*lines, counted]), "names that are not there", answer)
+    read = [b"%d of %d " % (number, len(NAMES)) + line.removesuffix(b": cannot open\n") + b"\n" for number, line in enumerate(lines, 1)]
+    TALLY.judge(is_told(answer, DEVICE_FAILED, b"", [it for both in zip(read, lines) for it in both]), "names that are not there", answer)
     answer = run(["duplicates", paths[0]])
     TALLY.judge(is_told(answer, 0, b"", []), "one file", answer)
 
@@ -403,12 +412,13 @@ def alike(folder):
 
 
 def terminal(path):
-    """If standard error is a terminal, one line says how many files were read, and is gone before a fault is printed."""
-    removal = b"\x1b[A\x1b[K"
+    """If standard error is a terminal, one line says which file is read, and is gone before a fault is printed."""
+    read = b"\x1b[?7l%d of %d %s\x1b[?7h\n\x1b[A\x1b[K"
+    refused, absent, there = b"/nothing: cannot open: no such file\n", b"/nothing", os.fsencode(path)
     rows = (
-        (["duplicates", "--progress", path, "/nothing", path], b"1 of 3\n" + removal + b"/nothing: cannot open: no such file\n2 of 3\n" + removal + b"3 of 3\n"),
-        (["sizes", "--progress", "/nothing"], b"1 of 1\n"),
-        (["duplicates", "/nothing", path], b"/nothing: cannot open: no such file\n"),
+        (["duplicates", "--progress", path, "/nothing", path], read % (1, 3, there) + read % (2, 3, absent) + refused + read % (3, 3, there)),
+        (["sizes", "--progress", "/nothing"], read % (1, 1, absent)),
+        (["duplicates", "/nothing", path], refused),
     )
     for words, wanted in rows:
         master, slave = os.openpty()

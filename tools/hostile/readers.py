@@ -1,4 +1,4 @@
-"""Reads the tables of `cats explain`, `cats diff` and `cats sizes` by other programs.
+"""Reads the tables of `cats explain`, `cats diff`, `cats sizes` and `cats publish` by other programs.
 
     readers.py PROGRAM EXAMPLES
 
@@ -104,9 +104,11 @@ def tables():
     """The name of each table, and its text. They run in a folder of files."""
     for name, bids in {"reasons": REASONS, "lists": LISTS, "other": OTHER}.items():
         Path(name).write_text(bid_file(bids), encoding="ascii")
-    Path("names").mkdir()
-    for name in NAMES:
-        Path("names", name).write_text(bid_file(LISTS), encoding="ascii")
+    for folder in ("names", "given/names"):
+        Path(folder).mkdir(parents=True)
+        for name in NAMES:
+            Path(folder, name).write_text(bid_file(LISTS), encoding="ascii")
+    Path("given/rounded").write_text(bid_file(["1e-7 0 #", "0.0123456 1 #"]), encoding="ascii")
     for name, text in FAULTS.items():
         Path(name).write_text(text, encoding="ascii")
     for name in ("reasons", "lists", EXAMPLES / "packing.cats", EXAMPLES / "twelve_bids.cats"):
@@ -116,6 +118,8 @@ def tables():
         yield f"diff {left} {right}", cats("diff", left, right)
     yield "sizes", cats("sizes", "--steps", "1000", "reasons", "names", EXAMPLES, *FAULTS)
     yield "sizes --total-steps", cats("sizes", "--total-steps", "3", "step_limit", "lists")
+    yield "publish", cats("publish", "--round", "--steps", "1000", "texts", "given", EXAMPLES, *FAULTS)
+    yield "publish --all", cats("publish", "--round", "--all", "all texts", "given")
 
 
 def kinds(texts):

@@ -3,7 +3,7 @@
     rounded.py PROGRAM GENERATE [full]
 
 The commands on one file read texts of many forms, most of which have prices with exponents or finer places, and some of which are refused. Those
-on two files read pairs of these. `duplicates` and `sizes` read 300 files of tools/generate --kind with prices as `%g` prints them, some of which
+on two files read pairs of these. `duplicates`, `sizes` and `publish` read 300 files of tools/generate --kind with prices as `%g` prints them, some of which
 are the same auction only once they are rounded. What is printed and the status have to be those of the rounded texts, but for the line on
 standard error that says how many prices were rounded, and how many of them to 0: as many as `cats round` reports. Prints what is wrong and
 'N runs, M wrong'; the status is 0 if M is 0, and else 1.
@@ -184,12 +184,12 @@ def folder_of_files(folder):
 
 
 def with_counts(own, command, roundings, refusals):
-    """Standard error of a run on many files: of each how many prices were rounded, why it was refused, and how many were read."""
+    """Standard error of a run on many files: of each that it is read, how many prices were rounded, and why it was refused."""
     lines = []
     for number, (path, rounding) in enumerate(roundings.items(), 1):
-        lines += [report(path, rounding), refusals.get(path, b"") if command[0] == "duplicates" else b""]
-        if "--progress" in command and (number % 100 == 0 or number == len(roundings)):
+        if "--progress" in command:
             lines.append(b"%d of %d %s\n" % (number, len(roundings), path))
+        lines += [report(path, rounding), refusals.get(path, b"") if command[0] == "duplicates" else b""]
     return own._replace(err=b"".join(lines))
 
 
@@ -220,6 +220,43 @@ def check_faults(flags, roundings, listed):
     judge(f"fault {flags}", Answer(FILE_REFUSED if wanted else 0, answer.out if is_right else b"..", b""), answer)
 
 
+def published(words, to, files):
+    """What `publish` answers, and the texts that it writes."""
+    answer = run(["publish", *words, to, "--files0-from", "/dev/stdin"], files)
+    texts = {}
+    for name in os.listdir(to):
+        with open(to + b"/" + name, "rb") as file:
+            texts[name] = file.read()
+    return answer, texts
+
+
+def wanted_row(row, rounding):
+    """The row of a file by that of its rounded copy: of one that is judged, how many prices were rounded, and how many to 0, are known."""
+    cells = row.split(b"\t")
+    if cells[6]:
+        cells[6:8] = b"%d" % rounding.err.count(b"\n"), b"%d" % rounding.err.count(b" rounded to 0\n")
+    return b"\t".join(cells)
+
+
+def check_texts_of_files(flags, roundings, listed, folder, copies):
+    """`publish` writes the texts of the rounded copies, and has their rows."""
+    with tempfile.TemporaryDirectory() as texts:
+        judged = b"".join(path.replace(folder, copies) + b"\0" for path, rounding in roundings.items() if not rounding.status)
+        own, own_texts = published([], os.fsencode(texts) + b"/own", judged)
+        answer, found = published(flags, os.fsencode(texts) + b"/found", listed)
+    header, *rows = own.out.replace(copies, folder).splitlines()
+    rows = {row.split(b"\t")[0]: row for row in rows}
+    lines = [header]
+    for path, rounding in roundings.items():
+        refused = path + 8 * b"\t" + rounding.err.removesuffix(b"\n")
+        lines.append(refused if rounding.status else wanted_row(rows[path], rounding))
+    refused = any(rounding.status for rounding in roundings.values())
+    status = max(own.status, FILE_REFUSED if refused else 0)
+    out = b"".join(line + b"\n" for line in lines)
+    judge(f"publish {flags}", with_counts(Answer(status, out, b""), ("publish",), roundings, {}), answer)
+    judge(f"the texts of publish {flags}", Answer(0, repr(own_texts).encode(), b""), Answer(0, repr(found).encode(), b""))
+
+
 def check_files(folder):
     found = folder_of_files(folder)
     listed = b"".join(path + b"\0" for path in found)
@@ -232,6 +269,7 @@ def check_files(folder):
             for command in (it.words for it in ON_FILES if it.words[0] != "fault"):
                 wanted = wanted_of_files(command, roundings, folder, os.fsencode(copies))
                 judge(f"{command} {flags}", wanted, run([*command, *flags, "--files0-from", "/dev/stdin"], listed))
+            check_texts_of_files(flags, roundings, listed, folder, os.fsencode(copies))
         check_faults(flags, roundings, listed)
     groups = run(["duplicates", "--round", "--files0-from", "/dev/stdin"], listed)
     shown = (groups.out.count(b"\n\n") >= FILES // 4, groups.err.count(b" rounded") >= FILES // 4, groups.err.count(b": line ") >= FILES // 20)

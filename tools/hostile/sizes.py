@@ -173,6 +173,18 @@ def bids_on(count, size):
     return [Bid(1 + chosen.randrange(GREATEST_PRICE), bundle) for bundle in chosen.sample(sorted(bundles), count)]
 
 
+def judge_texts(folder):
+    """The texts of the 3,000 files: those of the first 2,000, each once."""
+    rows = [f"{number}\t{number}\t\t2\t2\t2\t0\t0\t\n" for number in range(2000)]
+    rows += [f"{2000 + number}\t\t{2 * number}\t2\t2\t2\t0\t0\t\n" for number in range(1000)]
+    header = "file\ttext\tsame_as\tgoods\tbids\tkept\trounded\tzeroed\tfault\n"
+    with tempfile.TemporaryDirectory() as texts:
+        run(["publish", texts, "--files0-from", "list"], (0, "".join([header, *rows]), ""), folder)
+        run(["duplicates", texts], (0, "", ""), folder)
+        found = sorted(os.listdir(texts), key=int)
+        TALLY.judge(found == [str(number) for number in range(2000)], "the texts of the 3,000 files", len(found))
+
+
 def judge_files(folder):
     """3,000 files, of which the last 1,000 are rewritings of others, also by their folder, and then one file 70,000 times; all listed too, and
     one file 300,000 times, whose paths are more than one command takes."""
@@ -183,7 +195,7 @@ def judge_files(folder):
         write(folder, str(2000 + number), text_of(2, [Bid(1 + 2 * number, (1,)), Bid(5, (0, 1))], MANY_XOR))
     paths = [str(number) for number in range(3000)]
     groups = "\n".join(f"{2 * number}\n{2000 + number}\n" for number in range(1000))
-    progress = "".join(f"{number} of 3000 {number - 1}\n" for number in range(100, 3001, 100))
+    progress = "".join(f"{number} of 3000 {number - 1}\n" for number in range(1, 3001))
     run(["duplicates", *paths], (0, groups, ""), folder)
     run(["duplicates", "--progress", *paths], (0, groups, progress), folder)
     below = sorted(sorted((f"./{2 * number}", f"./{2000 + number}")) for number in range(1000))
@@ -191,6 +203,7 @@ def judge_files(folder):
     run(["duplicates", *["0"] * 70_000], (0, "0\n" * 70_000, ""), folder)
     write(folder, "list", "".join(path + "\0" for path in paths))
     run(["duplicates", "--progress", "--files0-from", "list"], (0, groups, progress), folder)
+    judge_texts(folder)
     write(folder, "list", "\0".join(["./0"] * 300_000))
     run(["duplicates", "--files0-from", "list"], (0, "./0\n" * 300_000, ""), folder)
 

@@ -75,6 +75,12 @@ Prints the files too that are the only ones of
 their auction",
     ),
     (
+        "table",
+        "\
+Prints a table: for each file its group, the first
+file of that, and why it was refused",
+    ),
+    (
         "files0-from",
         "The paths are in this file, each with NUL after it",
     ),

@@ -91,6 +91,8 @@ request_with row request names options = record {
   progress = false;
   null = request.null;
   all = request.all;
+  table = request.table;
+  folder = None;
 }
 
 abbrev pub request_by : TaskRow → CallRequest → List (List ℕ) → Option PlainRequest
@@ -124,8 +126,8 @@ pub record AnswersCall (request : CallRequest) (texts : List CallText) (out out_
   pub asked : PlainRequest
   pub is_request : request_of request (names_of texts) ≡ Some asked
   pub answers : AnswersRequest (IsTextAt texts) (λ name why. why ≡ NoSuchFile) (λ stream. Some stream.now)
-      (λ printed. Some printed.items) (λ printed. Some printed.items) false (λ name found. found ≡ None) asked out
-      out_after err err_after status
+      (λ printed. Some printed.items) (λ printed. Some printed.items) false (λ name found. found ≡ None)
+      (λ path why. Unit {0}) None None asked out out_after err err_after status
 
 -- it is no request of the program, or a name is not UTF-8
 pub record IsWrongCall (request : CallRequest) (texts : List CallText) (out out_after err err_after : Output)

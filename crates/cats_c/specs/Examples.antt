@@ -23,4 +23,5 @@ asked task prices bound total = record {
   bound = bound;
   all = true;
   null = true;
+  table = true;
 }

@@ -38,6 +38,8 @@ pub struct CallRequest<'a> {
     pub all: bool,
     /// Whether names end with NUL in what `duplicates` and `sizes` print.
     pub null: bool,
+    /// Whether `duplicates` prints a table with a row for each text.
+    pub table: bool,
 }
 
 /// A text of a caller in C.

@@ -20,6 +20,7 @@ static NORMALISE: CallRequest<'static> = CallRequest {
     bound: true,
     all: false,
     null: false,
+    table: false,
 };
 
 #[test]

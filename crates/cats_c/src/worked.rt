@@ -35,6 +35,7 @@ pub fn requests()
     ensures list { option_map (λ request. request.list) (request_of (asked 4 0 true 0) []) ≡ Some None }
     ensures null { option_map (λ request. request.null) (request_of (asked 12 0 true 0) []) ≡ Some true }
     ensures all { option_map (λ request. request.all) (request_of (asked 11 0 true 0) []) ≡ Some true }
+    ensures table { option_map (λ request. request.table) (request_of (asked 11 0 true 0) []) ≡ Some true }
     ensures progress { option_map (λ request. request.progress) (request_of (asked 11 0 true 0) []) ≡ Some false }
     ensures prices { map (λ prices. option_map (λ request. request.prices) (request_of (asked 7 prices true 0) []))
         (0 ∷ 1 ∷ 2 ∷ 3 ∷ []) ≡ Some None ∷ Some (Some (price_rule Round 0))

@@ -4,10 +4,12 @@ use Rattle.cats_cmd.proofs.Common.{◌≡◌, ◌≢◌, ℕ, List, [], ◌∷�
 use Rattle.cats_cmd.proofs.Common.{inr}
 use Rattle.cats_cmd.proofs.Common.{◌||◌, Kind, Device, Watched, CanonFault, Read, StepLimit, Memory, Commands}
 use Rattle.cats_cmd.proofs.Common.{Prints, CommandsOnBoth, Answer, PricedGives, PricedRefuses, RunsOnBids, outcome_of, PriceRule, is_some}
-use Rattle.cats_cmd.proofs.Common.{AnswersRequest, CarriesOut, RunsAt, RunsAtBoth, RunsFor, RunsOnOne, RunsWith, FailsRequest, RunsCommand, line_of_failure}
+use Rattle.cats_cmd.proofs.Common.{AnswersRequest, CarriesOut, RunsAt, RunsAtBoth, RunsFor, RunsOnOne, RunsOnTwo, RunsWith, FailsRequest, RunsCommand}
+use Rattle.cats_cmd.proofs.Common.{line_of_failure}
+use Rattle.cats_cmd.proofs.Common.{NamesFolders}
 use Rattle.cats_cmd.proofs.Common.{status_of_canon_fault, status_of_read_fault, Reports, is_for_many_files, is_reporting}
 use Rattle.cats_cmd.proofs.Common.{is_many, reports, names_many_files, names_reporting, status_of_fault, RunFault}
-use Rattle.cats_cmd.proofs.Common.{Refused, Sent, PlainRequest, Files, One, Two, Many, Task, request_of, Unopened}
+use Rattle.cats_cmd.proofs.Common.{Refused, Sent, PlainRequest, Files, One, Two, Many, Task, request_of, Text, Unopened, Unwritten}
 use Rattle.cats_cmd.proofs.Common.{RunsOnFile, RunsOnPair, answer_if_lost, is_lost, max, true, length, rounded_prices, status_if_lost, unwrap_or}
 use Rattle.cats_text.specs.declared.read_fault.Kind.TheVariants.{Memory as NoMemory}
 use Rattle.requests.specs.Tasks.{files_of}
@@ -17,6 +19,9 @@ use Rattle.rounding.specs.declared.replacement.FinePrices.TheVariants.{Round as 
 use Rattle.cats_cmd.proofs.AnswersShown.{command_printed, printed}
 use Rattle.cats_cmd.proofs.Sending.{pair_facts}
 use Rattle.cats_cmd.proofs.PricedInputs.{none_given}
+use Rattle.cats_cmd.proofs.QuietFolders.{quiet_rows}
+pub use Rattle.cats_cmd.proofs.Statuses.{fault_status_above}
+use Rattle.cats_cmd.specs.ComparedFolders.{ComparesFolders, FoundFolders, RunsBelow, RunsOnFolders, takes_folders}
 
 -- ---- a request
 
@@ -47,23 +52,6 @@ silent_run : {W : Type 0} (contents : W → Option (List ℕ)) (Answers : Result
 silent_run contents Answers old new (Sent fault) ran = tt
 silent_run contents Answers old new fault ran = ran.1
 
--- ---- faults
-
-read_status_above : (kind : Kind) → 2 ≤ status_of_read_fault kind
-read_status_above Device = omega arith
-read_status_above NoMemory = omega arith
-read_status_above kind = omega arith
-
-canon_status_above : (fault : CanonFault) → 2 ≤ status_of_canon_fault fault
-canon_status_above (Read fault) = read_status_above fault.kind
-canon_status_above (StepLimit goods) = omega arith
-canon_status_above Memory = omega arith
-
--- no fault has the status of an answer
-pub fault_status_above : (fault : RunFault) → 2 ≤ status_of_fault fault
-fault_status_above (Refused which fault) = canon_status_above fault
-fault_status_above fault = omega arith
-
 silent_unless_failed : {W : Type 0} (fault : RunFault) (old new : Watched W) → IsSilent fault old new → (status_of_fault fault ≡ 5 → ⊥) → new ≡ old
 silent_unless_failed (Sent fault) old new silent failed = absurd (failed refl)
 silent_unless_failed fault old new silent failed = silent
@@ -89,7 +77,8 @@ not_rounded (Some rule) plain = cc
 
 module _ {F W E : Type 0} (may_open : List ℕ → F → Type 0) (may_refuse : List ℕ → Unopened → Type 0) (remaining : F → Option (List ℕ))
     (contents : W → Option (List ℕ)) (messages : E → Option (List ℕ)) (terminal : Bool)
-    (may_find : List ℕ → Option (List (List ℕ)) → Type 0) (out out_after : Watched W) (err : Watched E) where
+    (may_find : List ℕ → Option (List (List ℕ)) → Type 0) (may_not_write : List ℕ → Unwritten → Type 0)
+    (known known_after : Option (List Text)) (out out_after : Watched W) (err : Watched E) where
   -- A run on one or two files that answered has the status 0 or 1, or 5, or has written nothing, and has reported nothing if prices are not
   -- rounded. One that failed has written nothing, unless its output failed.
   abbrev Kept : Option PriceRule → Watched E → Result ℕ RunFault → Type 0
@@ -173,66 +162,111 @@ module _ {F W E : Type 0} (may_open : List ℕ → F → Type 0) (may_refuse : L
   -- ---- any request
 
   -- A request for one or two files that answered has the status 0 or 1, or has written nothing. It has reported nothing, unless it is one that
-  -- reports. One that failed has written nothing, unless its output failed.
-  abbrev KeptBy : Files → Task → Option PriceRule → Watched E → Result ℕ RunFault → Type 0
-  KeptBy count task prices err_after (Ok status) =
-      (is_many count ≡ false → status ≢ 5 → (status ≤ 1) ⊎ (out_after ≡ out))
+  -- reports. One that failed has written nothing, unless its output failed. What is `Loud` may have written in each case.
+  abbrev KeptBy : Type 0 → Files → Task → Option PriceRule → Watched E → Result ℕ RunFault → Type 0
+  KeptBy Loud count task prices err_after (Ok status) =
+      (is_many count ≡ false → status ≢ 5 → ((status ≤ 1) ⊎ (out_after ≡ out)) ⊎ Loud)
       × ((is_many count || reports task prices) ≡ false → status ≤ 1 → err_after ≡ err)
-  KeptBy count task prices err_after (Err fault) = is_many count ≡ false → IsSilent fault out out_after
+  KeptBy Loud count task prices err_after (Err fault) = is_many count ≡ false → IsSilent fault out out_after ⊎ Loud
 
-  kept_few : (count : Files) (task : Task) (prices : Option PriceRule) (err_after : Watched E) (answer : Result ℕ RunFault)
-      → ((is_many count || reports task prices) ≡ false → is_some prices ≡ false) → Kept prices err_after answer → KeptBy count task prices err_after answer
-  kept_few count task prices err_after (Ok status) plain kept = ((λ few. kept.0), (λ quiet. kept.1 (plain quiet)))
-  kept_few count task prices err_after (Err fault) plain kept = λ few. kept
+  kept_few : (Loud : Type 0) (count : Files) (task : Task) (prices : Option PriceRule) (err_after : Watched E) (answer : Result ℕ RunFault)
+      → ((is_many count || reports task prices) ≡ false → is_some prices ≡ false) → Kept prices err_after answer
+      → KeptBy Loud count task prices err_after answer
+  kept_few Loud count task prices err_after (Ok status) plain kept = ((λ few other. inl (kept.0 other)), (λ quiet. kept.1 (plain quiet)))
+  kept_few Loud count task prices err_after (Err fault) plain kept = λ few. inl kept
 
-  kept_one : (task : Task) (request : PlainRequest) (path : List ℕ) (err_after : Watched E) (answer : Result ℕ RunFault)
+  kept_one : (Loud : Type 0) (task : Task) (request : PlainRequest) (path : List ℕ) (err_after : Watched E) (answer : Result ℕ RunFault)
       → RunsOnOne may_open may_refuse remaining contents messages task request path out out_after err err_after answer
-      → KeptBy One task request.prices err_after answer
-  kept_one Round request path err_after (Ok status) ran = (
-    (λ few other. inl (round_printed (is_lost (length (rounded_prices (unwrap_or request.prices (price_rule RoundFine 0)) ran.runs.given)) err_after) status
-        ran.runs.text ran.runs.made other)),
+      → KeptBy Loud One task request.prices err_after answer
+  kept_one Loud Round request path err_after (Ok status) ran = (
+    (λ few other. inl (inl (round_printed (is_lost (length (rounded_prices (unwrap_or request.prices
+        (price_rule RoundFine 0)) ran.runs.given)) err_after) status
+        ran.runs.text ran.runs.made other))),
     (λ plain most. absurd (cc)),
   )
-  kept_one Round request path err_after (Err (Refused which fault)) ran = λ few. ran.runs.silent
-  kept_one Round request path err_after (Err (Sent fault)) ran = λ few. tt
-  kept_one Round request path err_after (Err fault) ran = absurd ran.runs
-  kept_one task request path err_after answer ran =
-      kept_few One task request.prices err_after answer (λ quiet. quiet) (kept_on path request err_after request.list answer ran)
+  kept_one Loud Round request path err_after (Err (Refused which fault)) ran = λ few. inl ran.runs.silent
+  kept_one Loud Round request path err_after (Err (Sent fault)) ran = λ few. inl tt
+  kept_one Loud Round request path err_after (Err fault) ran = absurd ran.runs
+  kept_one Loud task request path err_after answer ran =
+      kept_few Loud One task request.prices err_after answer (λ quiet. quiet) (kept_on path request err_after request.list answer ran)
 
-  unfit : (count : Files) (request : PlainRequest) (err_after : Watched E) (answer : Result ℕ RunFault)
-      → (answer ≡ Ok 64) × (out_after ≡ out) × (err_after ≡ err) → KeptBy count request.task request.prices err_after answer
-  unfit count request err_after (Ok status) ran = ((λ few other. inr ran.1), (λ quiet most. ran.2))
-  unfit count request err_after (Err fault) ran = absurd (no_answer fault 64 (sym ran.0))
+  unfit : (Loud : Type 0) (count : Files) (request : PlainRequest) (err_after : Watched E) (answer : Result ℕ RunFault)
+      → (answer ≡ Ok 64) × (out_after ≡ out) × (err_after ≡ err) → KeptBy Loud count request.task request.prices err_after answer
+  unfit Loud count request err_after (Ok status) ran = ((λ few other. inl (inr ran.1)), (λ quiet most. ran.2))
+  unfit Loud count request err_after (Err fault) ran = absurd (no_answer fault 64 (sym ran.0))
+
+  -- ---- two folders
+
+  module _ (first second : List ℕ) (request : PlainRequest) (files : request.files ≡ first ∷ second ∷ []) (takes : takes_folders request.task ≡ true)
+      (two : Two ≡ files_of request.task) (err_after : Watched E) where
+    abbrev RanOnFolders : Result ℕ RunFault → Type 0
+    RanOnFolders answer =
+        RunsOnFolders may_open may_refuse remaining contents messages request may_find first second out out_after err err_after answer
+
+    quiet_below : (folders : FoundFolders) (status : ℕ)
+        → RunsBelow may_open may_refuse remaining contents messages request folders out out_after err err_after (Ok status)
+        → reports request.task request.prices ≡ false → status ≤ 1 → err_after ≡ err
+    quiet_below folders status (inl ran) quiet most =
+        let written = not_rounded request.prices (quiet_pair request.task request.prices two quiet) in
+        quiet_rows may_open may_refuse remaining request folders messages written ran.runs.rows err err_after ran.runs.judges.each
+        (rw ran.runs.is_status at most) ran.runs.judges.reports
+    quiet_below folders status (inr wants) quiet most = wants.quiet
+
+    kept_folders : (answer : Result ℕ RunFault) → RanOnFolders answer
+        → KeptBy (ComparesFolders may_find request) Two request.task request.prices err_after answer
+    kept_folders (Ok status) (inl ran) = (
+      (λ few other. inr (record { takes = takes; first = first; second = second; is = files; folders = ran.folders; finds = ran.finds })),
+      (λ quiet most. quiet_below ran.folders status ran.runs quiet most),
+    )
+    kept_folders (Err fault) (inl ran) =
+        λ few. inr (record { takes = takes; first = first; second = second; is = files; folders = ran.folders; finds = ran.finds })
+    kept_folders (Ok status) (inr wants) = ((λ few other. inl (inr wants.silent)), (λ quiet most. wants.quiet))
+    kept_folders (Err fault) (inr wants) = λ few. inl (silent_if_same fault out out_after wants.silent)
+
+  kept_two : (first second : List ℕ) (request : PlainRequest) (err_after : Watched E) (answer : Result ℕ RunFault)
+      → request.files ≡ first ∷ second ∷ [] → Two ≡ files_of request.task
+      → RunsOnTwo may_open may_refuse remaining contents messages may_find first second request out out_after err err_after answer
+      → KeptBy (ComparesFolders may_find request) Two request.task request.prices err_after answer
+  kept_two first second request err_after answer files two (inl ran) = kept_folders first second request files ran.0 two err_after answer ran.1
+  kept_two first second request err_after answer files two (inr ran) =
+      kept_few (ComparesFolders may_find request) Two request.task request.prices err_after answer (quiet_pair request.task request.prices two)
+      (kept_both first second request err_after answer ran.1)
 
   kept_with : (count : Files) (files : List (List ℕ)) (request : PlainRequest) (err_after : Watched E) (answer : Result ℕ RunFault)
-      → count ≡ files_of request.task
-      → RunsWith may_open may_refuse remaining contents messages terminal may_find count files request out out_after err err_after answer
-      → KeptBy count request.task request.prices err_after answer
-  kept_with Many files request err_after (Ok status) is ran = ((λ few other. absurd (cc)), (λ quiet most. absurd (cc)))
-  kept_with Many files request err_after (Err fault) is ran = λ few. absurd (cc)
-  kept_with One (file ∷ []) request err_after answer is ran = kept_one request.task request file err_after answer ran
-  kept_with Two (first ∷ second ∷ []) request err_after answer is ran =
-      kept_few Two request.task request.prices err_after answer (quiet_pair request.task request.prices is)
-      (kept_both first second request err_after answer ran)
-  kept_with count files request err_after answer is ran = unfit count request err_after answer ran
+      → count ≡ files_of request.task → request.files ≡ files
+      → RunsWith may_open may_refuse remaining contents messages terminal may_find may_not_write known known_after count files request out out_after err
+      err_after answer
+      → KeptBy (ComparesFolders may_find request) count request.task request.prices err_after answer
+  kept_with Many files request err_after (Ok status) is named ran = ((λ few other. absurd (cc)), (λ quiet most. absurd (cc)))
+  kept_with Many files request err_after (Err fault) is named ran = λ few. absurd (cc)
+  kept_with One (file ∷ []) request err_after answer is named ran =
+      kept_one (ComparesFolders may_find request) request.task request file err_after answer ran
+  kept_with Two (first ∷ second ∷ []) request err_after answer is named ran = kept_two first second request err_after answer named is ran
+  kept_with count files request err_after answer is named ran = unfit (ComparesFolders may_find request) count request err_after answer ran
 
   abbrev Ran : PlainRequest → Watched E → Result ℕ RunFault → Type 0
-  Ran request err_after answer = RunsFor may_open may_refuse remaining contents messages terminal may_find request out out_after err err_after answer
+  Ran request err_after answer =
+      RunsFor may_open may_refuse remaining contents messages terminal may_find
+      may_not_write known known_after request out out_after err err_after answer
 
   abbrev Carried : PlainRequest → Watched E → Result ℕ RunFault → Type 0
-  Carried request err_after answer = CarriesOut may_open may_refuse remaining contents messages terminal may_find request out out_after err err_after answer
+  Carried request err_after answer =
+      CarriesOut may_open may_refuse remaining contents messages terminal may_find
+      may_not_write known known_after request out out_after err err_after answer
 
   abbrev Failed : PlainRequest → Watched E → ℕ → Type 0
-  Failed request err_after status = FailsRequest may_open may_refuse remaining contents messages terminal may_find request out out_after err err_after status
+  Failed request err_after status =
+      FailsRequest may_open may_refuse remaining contents messages terminal may_find
+      may_not_write known known_after request out out_after err err_after status
 
   kept_for : (request : PlainRequest) (err_after : Watched E) (answer : Result ℕ RunFault) → Ran request err_after answer
-      → KeptBy (files_of request.task) request.task request.prices err_after answer
-  kept_for request err_after answer ran = kept_with (files_of request.task) request.files request err_after answer refl ran
+      → KeptBy (ComparesFolders may_find request) (files_of request.task) request.task request.prices err_after answer
+  kept_for request err_after answer ran = kept_with (files_of request.task) request.files request err_after answer refl refl ran
 
   silent_request : (request : PlainRequest) (err_after : Watched E) (fault : RunFault) → Carried request err_after (Err fault)
-      → is_for_many_files request ≡ false → IsSilent fault out out_after
+      → is_for_many_files request ≡ false → IsSilent fault out out_after ⊎ ComparesFolders may_find request
   silent_request request err_after fault (inl ran) few = kept_for request err_after (Err fault) ran few
-  silent_request request err_after fault (inr failed) few = silent_if_same fault out out_after failed.silent
+  silent_request request err_after fault (inr failed) few = inl (silent_if_same fault out out_after failed.silent)
 
   -- a request that answers has run
   answered : (request : PlainRequest) (err_after : Watched E) (status : ℕ) → Carried request err_after (Ok status) → Ran request err_after (Ok status)
@@ -241,15 +275,20 @@ module _ {F W E : Type 0} (may_open : List ℕ → F → Type 0) (may_refuse : L
 
   module _ (request : PlainRequest) (err_after : Watched E) (status : ℕ) where
     abbrev Answered : Type 0
-    Answered = AnswersRequest may_open may_refuse remaining contents messages terminal may_find request out out_after err err_after status
+    Answered =
+        AnswersRequest may_open may_refuse remaining contents messages terminal may_find
+        may_not_write known known_after request out out_after err err_after status
 
-    -- a status but 0, 1 and 5 says that nothing was written
-    pub silent_answer : Answered → is_for_many_files request ≡ false → status ≢ 0 → status ≢ 1 → status ≢ 5 → out_after ≡ out
+    -- a status but 0, 1 and 5 says that nothing was written, or that two folders were compared
+    pub silent_answer : Answered → is_for_many_files request ≡ false → status ≢ 0 → status ≢ 1 → status ≢ 5
+        → (out_after ≡ out) ⊎ ComparesFolders may_find request
     silent_answer (inl carried) few a b c =
-        ⊎_elim (λ (most : status ≤ 1). absurd (omega (arith, most, a, b))) (λ (silent : out_after ≡ out). silent)
+        ⊎_elim (λ (kept : (status ≤ 1) ⊎ (out_after ≡ out)). inl (⊎_elim (λ (most : status ≤ 1). absurd (omega (arith, most, a, b)))
+        (λ (silent : out_after ≡ out). silent) kept)) (λ (loud : ComparesFolders may_find request). inr loud)
         ((kept_for request err_after (Ok status) (answered request err_after status carried)).0 few c)
     silent_answer (inr s) few a b c =
-        silent_unless_failed s.fault out out_after (silent_request request s.between s.fault s.carries few) (λ five. c (s.is_status ∙ five))
+        ⊎_elim (λ (silent : IsSilent s.fault out out_after). inl (silent_unless_failed s.fault out out_after silent (λ five. c (s.is_status ∙ five))))
+        (λ (loud : ComparesFolders may_find request). inr loud) (silent_request request s.between s.fault s.carries few)
 
     -- the statuses 0 and 1 say that nothing was reported
     pub done_answer : Answered → is_reporting request ≡ false → status ≤ 1 → err_after ≡ err
@@ -260,3 +299,13 @@ module _ {F W E : Type 0} (may_open : List ℕ → F → Type 0) (may_refuse : L
       → Reports messages (line_of_failure request fault) between err_after → status ≡ status_of_fault fault → Failed request err_after status
   failed_request request fault between err_after status carries reports is =
       record { fault = fault; between = between; carries = carries; reports = reports; is_status = is }
+
+-- what a request has written is what its line has
+pub silent_line : (Silent : Type 0) (may_find : List ℕ → Option (List (List ℕ)) → Type 0) (words : List (List ℕ)) (request : PlainRequest) (status : ℕ)
+    → request_of words ≡ Some request
+    → (is_for_many_files request ≡ false → status ≢ 0 → status ≢ 1 → status ≢ 5 → Silent ⊎ ComparesFolders may_find request)
+    → names_many_files words ≡ false → status ≢ 0 → status ≢ 1 → status ≢ 5 → Silent ⊎ NamesFolders may_find words
+silent_line Silent may_find words request status asked silent few a b c =
+    ⊎_elim (λ (quiet : Silent). inl quiet)
+    (λ (compares : ComparesFolders may_find request). inr (record { request = request; asked = asked; compares = compares }))
+    (silent (few_files words request asked few) a b c)

@@ -37,24 +37,31 @@ pub use Rattle.cats_cmd.specs.Inputs.{IsOpened, ReadsBytes, IsUnreadStream, Stop
 pub use Rattle.cats_cmd.specs.Internal.Carrying.{IsButForText}
 pub use Rattle.cats_cmd.specs.Internal.Gathering.{Gathers, GathersNext}
 pub use Rattle.cats_cmd.specs.Internal.Judging.{KeepsNumbers, AddsJudgement, AddsOpened, AddsRefused, KeepsGroups, AddsPath, HasJudged, JudgesAllAs}
+pub use Rattle.cats_cmd.specs.Internal.Judging.{AddsStream, AddsFile, BeginsRun, KeepsFaults, SendsNext, ShowsNext, StopsAtPath}
 pub use Rattle.cats_cmd.specs.Internal.Judging.{OpensAllAs}
 pub use Rattle.cats_cmd.specs.Internal.Roundings.{RoundsText, judged_of}
 pub use Rattle.cats_cmd.specs.Internal.Walking.{WalksBelow, StaysBelow}
-pub use Rattle.cats_cmd.specs.Opening.{Opening, Opens, openings_of, with_openings}
+pub use Rattle.cats_cmd.specs.Openings.{status_of_run}
+pub use Rattle.cats_cmd.specs.Opening.{KeepsFiles, Opening, Opens, OpensEach, OpensFirst, openings_of, with_openings}
 pub use Rattle.cats_cmd.specs.OutputPaths.{has_lines, IsPath, behind_tabs, end_byte, groups_in, is_empty, paths_in_table, read_path}
 pub use Rattle.cats_cmd.specs.PathLists.{ended, parts_in, paths_in, without_empty_end}
+pub use Rattle.cats_cmd.specs.Stores.{Attempt, IsUnwritten, Text, WritesEach, text_unless, texts_written, with_texts}
+pub use Rattle.cats_cmd.specs.declared.paths.Judged.{Judged}
+pub use Rattle.cats_cmd.specs.Paths.{EndsOnPaths, FailsRun, FailsOnPaths, JudgesPaths, Made, RefusesPaths, ShowsOfPaths, bytes_counted, turn_text, unwrapped}
+pub use Rattle.cats_cmd.specs.Paths.{wrapped}
+pub use Rattle.cats_cmd.specs.Paths.{PrintsNothing, PrintsOnly}
 pub use Rattle.cats_cmd.specs.Paths.{removal_lines, progress_lines, ReportsFrom, ReportsPath}
 pub use Rattle.cats_cmd.specs.Paths.{JudgesAs, JudgedPath, Judges, Reporting, greatest_status}
 pub use Rattle.cats_cmd.specs.Paths.{judgement_at, lines_from, lines_of_path, report_lines, status_of_path, without_refusals, BeginsPaths, MakesOfPaths}
-pub use Rattle.cats_cmd.specs.Paths.{RunsOnPaths, outcome_of_paths, progress_line, refusal_line, status_if, is_counted}
-pub use Rattle.cats_cmd.specs.PricedInputs.{PricedGives, PricedRefuses, IsPriced, JudgesPriced, rounded_words, rounding_lines, gives_by}
+pub use Rattle.cats_cmd.specs.Paths.{RunsOnPaths, outcome_of_paths, progress_line, refusal_line, status_if}
+pub use Rattle.cats_cmd.specs.PricedInputs.{PricedGives, PricedRefuses, IsPriced, JudgesPriced, JudgesStream, rounded_words, rounding_lines, gives_by}
 pub use Rattle.cats_cmd.specs.PricedInputs.{none_rounded, rounded_count, zeroed_words}
 pub use Rattle.cats_cmd.specs.declared.priced_input.RoundedCount.{RoundedCount}
 pub use Rattle.cats_cmd.specs.Reports.{Reports, is_for_many_files, is_reporting, reports, names_many_files}
 pub use Rattle.cats_cmd.specs.Reports.{names_reporting, ReportsAll, SendsText}
 pub use Rattle.cats_cmd.specs.Reports.{answer_if_lost, is_lost, status_if_lost}
 pub use Rattle.cats_cmd.specs.Requests.{AnswersNoRequest, AnswersRequest, Carries, CarriesOut, RunsAt, RunsAtBoth, RunsFor, RunsOfCommand, RunsOnOne}
-pub use Rattle.cats_cmd.specs.Requests.{RunsWith, FailsRequest, line_of_failure}
+pub use Rattle.cats_cmd.specs.Requests.{NamesFolders, RunsOnTwo, RunsWith, FailsRequest, line_of_failure}
 pub use Rattle.cats_cmd.specs.Rounding.{IsUnrounded, Rounds}
 pub use Rattle.cats_cmd.specs.Runs.{RunsCommand, SendsAs, RunsOnFile, RunsOnPair, SendsAnswer, SendsMadeAs, WritesText}
 pub use Rattle.cats_cmd.specs.SizesTables.{fault_cell, without_end, MakesTable, columns, rows_of_table, sizes_header, row}
@@ -96,8 +103,9 @@ pub use Rattle.commands.specs.Explain.{explanation_text, reason_cells}
 pub use Rattle.commands.specs.Fault.{hint_of, hint_of_kind}
 pub use Rattle.commands.specs.Hints.{first_hint, rows_of, sentence}
 pub use Rattle.commands.specs.declared.fault.rows.Hint.{Hint}
-pub use Rattle.commands.specs.FaultLines.{line_of_fault, prefix_of, text_of_canon_fault, text_of_heavy_bid, text_of_kind, text_of_unopened, total_text}
-pub use Rattle.commands.specs.Judgements.{Judgement, IsHeavy, IsJudged, IsRead, IsUnjudged, JudgesInput, fault_judged}
+pub use Rattle.commands.specs.FaultLines.{line_of_fault, prefix_of, text_of_canon_fault, text_of_heavy_bid, text_of_kind, text_of_unopened, text_of_unwritten}
+pub use Rattle.commands.specs.FaultLines.{text_of_limit}
+pub use Rattle.commands.specs.Judgements.{Judgement, IsHeavy, IsJudged, IsPublished, IsRead, IsUnjudged, JudgesInput, fault_judged}
 pub use Rattle.commands.specs.Fault.{before_word, behind_word, shown_bytes}
 pub use Rattle.commands.specs.KindNames.{name_of_kind}
 pub use Rattle.commands.specs.Normalise.{with_bid}
@@ -120,8 +128,11 @@ pub use Rattle.commands.specs.Statuses.{status_of_canon_fault, status_of_fault, 
 pub use Rattle.commands.specs.Value.{value_text, bundle_from}
 pub use Rattle.commands.specs.declared.answer.Answer.{Answer}
 pub use Rattle.commands.specs.declared.faults.HeavyBid.{HeavyBid}
+pub use Rattle.commands.specs.declared.faults.Limit.{Limit}
+pub use Rattle.commands.specs.declared.faults.Limit.TheVariants.{OfEach, OfAll}
 pub use Rattle.commands.specs.declared.faults.RunFault.{RunFault}
-pub use Rattle.commands.specs.declared.faults.RunFault.TheVariants.{NotOpened, Refused, Sent, TooHeavy, GoodRange, BidRange}
+pub use Rattle.commands.specs.declared.faults.RunFault.TheVariants.{NotOpened, NotWritten, Refused, Sent, TooHeavy, GoodRange, BidRange}
+pub use Rattle.commands.specs.declared.faults.Unwritten.{Unwritten}
 pub use Rattle.prune.specs.SearchSteps.{first_refused}
 pub use Rattle.rounding.specs.Answers.{IsRounded}
 pub use Rattle.rounding.specs.Texts.{rounded_prices, rounded_text}

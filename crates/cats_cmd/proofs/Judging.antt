@@ -4,8 +4,8 @@ use Rattle.cats_cmd.proofs.Common.{PriceRule, SearchOptions, ReadFault, or_atoms
 use Rattle.cats_cmd.proofs.Common.{IsText}
 use Rattle.cats_cmd.proofs.Common.{normalised_file, refusal_of, CanonFault, Read, StepLimit, Memory, Only, Which}
 use Rattle.cats_cmd.proofs.Common.{found_paths, HeavyBid, with_bid, IsPriced, PricedGives}
-use Rattle.cats_cmd.proofs.Common.{PricedRefuses, AddsJudgement, AddsOpened, AddsRefused, KeepsGroups, Judgement, IsHeavy, IsJudged, IsUnjudged}
-use Rattle.cats_cmd.proofs.Common.{JudgesAs, JudgesPriced, RunFault, append-nil, fault_text, faults_text, flat_map_more, ◌∙◌}
+use Rattle.cats_cmd.proofs.Common.{PricedRefuses, AddsJudgement, AddsStream, AddsRefused, KeepsGroups, Judgement, IsHeavy, IsJudged, IsUnjudged}
+use Rattle.cats_cmd.proofs.Common.{JudgesAs, JudgesPriced, JudgesStream, IsPublished, RunFault, append-nil, fault_text, faults_text, flat_map_more, ◌∙◌}
 use Rattle.cats_cmd.proofs.Common.{JudgesInput, NotOpened, PricedInput, Refused, files_if_heavy, files_if_judged, heavy_files, heavy_paths}
 use Rattle.cats_cmd.proofs.Common.{judged_files, judged_paths, paths_if_heavy, paths_if_judged, Groups, AreSameFiles, AreAlike, unsearched_text}
 use Rattle.cats_cmd.proofs.Common.{unsearched_texts_tell, canonical_texts_tell, Unopened}
@@ -13,21 +13,29 @@ use Rattle.cats_text.specs.declared.read_fault.Kind.TheVariants.{Memory as NoMem
 use Rattle.cats_cmd.proofs.Skipping.{groups_skip}
 use Rattle.cats_cmd.proofs.FindingNumbers.{judgement_more, judgement_skipped, numbers_more}
 use Rattle.commands.proofs.Judging.{heavy_bid, judged_heavy, judged_unmade, judged_unread}
+use Rattle.canon.specs.Answers.{RefusesAuction}
+use Rattle.valuation.specs.Auctions.{auction_from}
 use Rattle.canon.specs.Normalising.{ExceedsSteps, IsNoFile, unless_refused}
 
 -- ---- refused bundles, by what normalising a file gives
 
-text_within_limit : (file : PlainFile) (heavy : Option (List ℕ)) (text : List ℕ) → unless_refused file heavy ≡ IsText text → heavy ≡ None
+pub text_within_limit : (file : PlainFile) (heavy : Option (List ℕ)) (text : List ℕ) → unless_refused file heavy ≡ IsText text → heavy ≡ None
 text_within_limit file None text is = refl
 text_within_limit file (Some goods) text is = cc
 
-no_fault_made : (file : PlainFile) (heavy : Option (List ℕ)) (why : ReadFault) → unless_refused file heavy ≡ IsNoFile why → ⊥
+pub no_fault_made : (file : PlainFile) (heavy : Option (List ℕ)) (why : ReadFault) → unless_refused file heavy ≡ IsNoFile why → ⊥
 no_fault_made file None why is = cc
 no_fault_made file (Some goods) why is = cc
 
-refused_bundle : (file : PlainFile) (heavy : Option (List ℕ)) (goods : List ℕ) → unless_refused file heavy ≡ ExceedsSteps goods → heavy ≡ Some goods
+pub refused_bundle : (file : PlainFile) (heavy : Option (List ℕ)) (goods : List ℕ) → unless_refused file heavy ≡ ExceedsSteps goods → heavy ≡ Some goods
 refused_bundle file None goods is = cc
 refused_bundle file (Some heavy) goods is = cc
+
+pub refused_auction : (options : SearchOptions) (file : PlainFile) (fault : CanonFault) → RefusesAs (normalised_file options file) fault
+    → RefusesAuction options (auction_from file) fault
+refused_auction options file (Read why) refused = no_fault_made file (first_refused options file.goods (or_atoms_of file.bids)) why refused
+refused_auction options file (StepLimit goods) refused = refused_bundle file (first_refused options file.goods (or_atoms_of file.bids)) goods.items refused
+refused_auction options file Memory refused = tt
 
 -- ---- one input
 
@@ -38,7 +46,7 @@ module _ {I : Type 0} (gives : I → I → PlainFile → Type 0) (refuses : I �
   pub groups_judged : (before after : Groups) (path : List ℕ) (copy : Vec ℕ Global) (number : ℕ) → copy.items ≡ path → after.heavy ≡ before.heavy
       → (file : PlainFile) → IsPlainFile file → gives old new file → AddsText before.judged.index after.judged.index (canonical_text file) number
       → normalised_file options file ≡ IsText (canonical_text file) → after.judged.found.items ≡ before.judged.found.items ++ (copy, number) ∷ []
-      → AddsOpened KeepsGroups (JudgesInput gives refuses options) path before after old new None
+      → AddsStream KeepsGroups (JudgesInput gives refuses options) path before after old new None
   groups_judged before after path copy number is kept file facts given added within put = record {
     judgement = IsJudged file;
     judges = record {
@@ -58,7 +66,7 @@ module _ {I : Type 0} (gives : I → I → PlainFile → Type 0) (refuses : I �
 
   -- no file was given
   pub groups_unread : (groups : Groups) (path : List ℕ) (why : ReadFault) → (why.kind ≡ NoMemory → why.line ≡ 0) → refuses old new why
-      → AddsOpened KeepsGroups (JudgesInput gives refuses options) path groups groups old new (Some (Refused Only (refusal_of why)))
+      → AddsStream KeepsGroups (JudgesInput gives refuses options) path groups groups old new (Some (Refused Only (refusal_of why)))
   groups_unread groups path why no_line refused = record {
     judgement = IsUnjudged (Refused Only (refusal_of why));
     judges = judged_unread gives refuses options old new why no_line refused;
@@ -69,7 +77,7 @@ module _ {I : Type 0} (gives : I → I → PlainFile → Type 0) (refuses : I �
   -- the file was refused
   pub groups_unmade : (before tried after : Groups) (path : List ℕ) → tried ≡ before → (file : PlainFile) → gives old new file → (fault : CanonFault)
       → RefusesAs (normalised_file options file) fault → AddsRefused path file fault tried after
-      → AddsOpened KeepsGroups (JudgesInput gives refuses options) path before after old new (Some (with_bid Only file options fault))
+      → AddsStream KeepsGroups (JudgesInput gives refuses options) path before after old new (Some (with_bid Only file options fault))
   groups_unmade before tried after path same file given (Read why) refused adds =
       absurd (no_fault_made file (first_refused options file.goods (or_atoms_of file.bids)) why refused)
   groups_unmade before tried after path same file given (StepLimit goods) refused adds = record {
@@ -115,8 +123,8 @@ faults_kept text path j js nothing is = faults_more text text path j js (rw (not
 
 pub adds_priced : {C F : Type 0} (Has : C → List (List ℕ × Judgement) → Type 0) (remaining : F → Option (List ℕ)) (options : SearchOptions) (path : List ℕ)
     (before after : C) (old new : PricedInput F) (fault : Option RunFault)
-    → AddsOpened Has (JudgesInput (PricedGives remaining) (PricedRefuses remaining) options) path before after old new fault
-    → AddsOpened Has (JudgesPriced remaining (Some options)) path before after old new fault
+    → AddsStream Has (JudgesInput (PricedGives remaining) (PricedRefuses remaining) options) path before after old new fault
+    → AddsStream Has (JudgesPriced remaining (Some options)) path before after old new fault
 adds_priced Has remaining options path before after old new fault adds = record {
   judgement = adds.judgement;
   judges = adds.judges;
@@ -124,15 +132,33 @@ adds_priced Has remaining options path before after old new fault adds = record 
   is_fault = adds.is_fault;
 }
 
+-- what was not published is judged as it is
+pub priced_stream : {F : Type 0} (remaining : F → Option (List ℕ)) (options : Option SearchOptions) (old new : PricedInput F) (j : Judgement)
+    → JudgesPriced remaining options old new j → JudgesStream remaining options old new j
+priced_stream remaining None old new (IsPublished file publishing) judges = absurd judges
+priced_stream remaining (Some options) old new (IsPublished file publishing) judges = absurd judges
+priced_stream remaining options old new judgement judges = judges
+
+pub stream_of_priced : {C F : Type 0} (Has : C → List (List ℕ × Judgement) → Type 0) (remaining : F → Option (List ℕ)) (options : Option SearchOptions)
+    (path : List ℕ) (before after : C) (old new : PricedInput F) (fault : Option RunFault)
+    → AddsStream Has (JudgesPriced remaining options) path before after old new fault
+    → AddsStream Has (JudgesStream remaining options) path before after old new fault
+stream_of_priced Has remaining options path before after old new fault adds = record {
+  judgement = adds.judgement;
+  judges = priced_stream remaining options old new adds.judgement adds.judges;
+  adds = adds.adds;
+  is_fault = adds.is_fault;
+}
+
 -- a file that was opened is not one that could not be
 none_unopened : {F : Type 0} (remaining : F → Option (List ℕ)) (options : Option SearchOptions) (before after : PricedInput F) (which : Which) (why : Unopened)
-    → JudgesPriced remaining options before after (IsUnjudged (NotOpened which why)) → ⊥
+    → JudgesStream remaining options before after (IsUnjudged (NotOpened which why)) → ⊥
 none_unopened remaining None before after which why judges = judges
 none_unopened remaining (Some options) before after which why judges = judges
 
 module _ {F : Type 0} (may_open : List ℕ → F → Type 0) (may_refuse : List ℕ → Unopened → Type 0) (remaining : F → Option (List ℕ))
     (options : Option SearchOptions) (prices : Option PriceRule) (path : List ℕ) where
-  pub opened_judges : (before after : PricedInput F) → IsPriced may_open prices path before → (j : Judgement) → JudgesPriced remaining options before after j
+  pub opened_judges : (before after : PricedInput F) → IsPriced may_open prices path before → (j : Judgement) → JudgesStream remaining options before after j
       → JudgesAs may_open may_refuse remaining options prices path after.rounded j
   opened_judges before after opened (IsUnjudged (NotOpened which why)) judges = absurd (none_unopened remaining options before after which why judges)
   opened_judges before after opened judgement judges = record { before = before; after = after; opened = opened; judges = judges; count = refl }

@@ -1,12 +1,17 @@
 -- Proofs that several functions of this crate cite.
 mod AnswersOfRequests
 mod CarryingOut
+mod ComparedRows
+mod ComparingFolders
 mod FaultTexts
 mod ReadingBack
 mod PrintableTexts
 mod ShownTexts
 mod AnswersShown
 mod Grouping
+mod GroupTables
+mod GroupRows
+mod GroupLaws
 mod PricedInputs
 mod ReadingBytes
 mod Rounding
@@ -23,6 +28,15 @@ mod OutputPaths
 mod Skipping
 mod FindingNumbers
 mod Tabling
+mod Statuses
+mod Storing
+mod PlacingTexts
+mod PublishRuns
+mod PublishedRows
+mod FirstAuctions
+mod PublishingFiles
+mod QuietFolders
+mod SameFolders
 mod RunsOfLists
 mod RunsOfPaths
 mod Multiplying

@@ -1,7 +1,8 @@
 -- Paths that were opened, and more of them behind these.
 use Rattle.cats_cmd.proofs.Common.{◌≡◌, ℕ, ◌+◌, ◌<◌, List, [], ◌∷◌, ◌++◌, length, map, get_or, take, refl, sym, ap, ◌∙◌, append-nil, Option, Some, None}
-use Rattle.cats_cmd.proofs.Common.{filter, Result, Ok, Err, IsErr, IsUtf8, is_utf8, AllocError, append_assoc, take-map, filter-append, false_from_ne_true}
-use Rattle.cats_cmd.proofs.Common.{IsUtf8-from_is_utf8, OpensAllAs, Opens, openings_of, with_openings, Bor, Opening, Way, map-append}
+use Rattle.cats_cmd.proofs.Common.{◌≤◌, inl, inr, Judged, KeepsFiles, OpensFirst, RunFault, status_of_fault}
+use Rattle.cats_cmd.proofs.Common.{filter, Result, Ok, Err, IsErrAnd, IsUtf8, is_utf8, append_assoc, take-map, filter-append, false_from_ne_true}
+use Rattle.cats_cmd.proofs.Common.{IsUtf8-from_is_utf8, OpensAllAs, Opens, OpensEach, openings_of, with_openings, Bor, Opening, Way, map-append}
 use Rattle.cats_cmd.proofs.JudgingPaths.{one_more_path}
 
 with_more : (known : Option (List Opening)) (some more : List Opening) → with_openings (with_openings known some) more ≡ with_openings known (some ++ more)
@@ -23,6 +24,30 @@ module _ {S H : Type 0} (content_of : S → H) (opened : S → Option (List Open
     more = later.more ∙ ap (λ (known : Option (List Opening)). with_openings known more) first.more ∙ with_more (opened old) some more;
   }
 
+  pub opens_first_none : (way : Way) (source : S) (paths : List (List ℕ)) → OpensFirst content_of opened way source source paths
+  opens_first_none way source paths = record { count = 0; opens = opens_none source }
+
+  -- then files and openings stayed what they were
+  pub opens_kept : (old between new : S) (some : List Opening) → Opens content_of opened old between some → KeepsFiles content_of opened between new
+      → Opens content_of opened old new some
+  opens_kept old between new some first kept = record { stays = kept.content ∙ first.stays; more = kept.known ∙ first.more }
+
+  -- they did before
+  opens_behind : (old between new : S) (some : List Opening) → KeepsFiles content_of opened old between → Opens content_of opened between new some
+      → Opens content_of opened old new some
+  opens_behind old between new some kept later = record {
+    stays = later.stays ∙ kept.content;
+    more = later.more ∙ ap (λ (known : Option (List Opening)). with_openings known some) kept.known;
+  }
+
+  pub each_behind : (way : Way) (paths : List (List ℕ)) (old between new : S) (status : ℕ) → KeepsFiles content_of opened old between
+      → OpensEach content_of opened way paths between new status → OpensEach content_of opened way paths old new status
+  each_behind way paths old between new status kept (inl all) = inl (opens_behind old between new (openings_of way paths) kept all)
+  each_behind way paths old between new status kept (inr (least, first)) = inr (
+    least,
+    record { count = first.count; opens = opens_behind old between new (openings_of way (take first.count paths)) kept first.opens },
+  )
+
   module _ (way : Way) where
     -- one more of many paths
     pub opens_next : (old between new : S) (paths : List (Bor (List ℕ))) (i : ℕ) (d : Bor (List ℕ)) → i < length paths
@@ -39,16 +64,20 @@ module _ {S H : Type 0} (content_of : S → H) (opened : S → Option (List Open
         )
         (opens_then old between new (openings_of way before) (openings_of way one) first later)
 
-    -- memory was refused behind one of them
+    -- the run was stopped behind one of them
     pub opens_some : (old between new : S) (paths : List (Bor (List ℕ))) (i : ℕ) (d : Bor (List ℕ)) → i < length paths
         → Opens content_of opened old between (openings_of way (map (λ p. p.now) (take i paths)))
         → Opens content_of opened between new (openings_of way ((get_or paths i d).now ∷ []))
-        → (answer : Result ℕ AllocError) → IsErr answer → OpensAllAs content_of opened way (map (λ p. p.now) paths) old new answer
-    opens_some old between new paths i d l first later (Ok status) is = cc
-    opens_some old between new paths i d l first later (Err e) is = record {
-      count = i + 1;
-      opens = rw (take-map (λ (p : Bor (List ℕ)). p.now) (i + 1) paths) (opens_next old between new paths i d l first later);
-    }
+        → (answer : Result Judged RunFault) → IsErrAnd answer (λ fault. 4 ≤ status_of_fault fault)
+        → OpensAllAs content_of opened way (map (λ p. p.now) paths) old new answer
+    opens_some old between new paths i d l first later (Ok judged) is = absurd is
+    opens_some old between new paths i d l first later (Err fault) is = (
+      is,
+      record {
+        count = i + 1;
+        opens = rw (take-map (λ (p : Bor (List ℕ)). p.now) (i + 1) paths) (opens_next old between new paths i d l first later);
+      },
+    )
 
 -- ---- the path of one file
 

@@ -3,7 +3,13 @@ use Rattle.cats_cmd.proofs.Common.{◌≡◌, ℕ, ◌<◌, ◌==◌, ◌||◌, 
 use Rattle.cats_cmd.proofs.Common.{nat_tests, All-weaker, duplicates_text, groups_text, lines_of, printed_groups, AreBytes, IsTextOf, end_of, escaped}
 use Rattle.cats_cmd.proofs.Common.{is_printable, is_shown, path_text, Judgement, progress_line, refusal_line, line_of_fault, MakesTable, row}
 use Rattle.cats_cmd.proofs.Common.{sizes_header, Line, RunFault, codes, decimal}
-use Rattle.cats_cmd.proofs.FaultTexts.{Plain, fault_line}
+use Rattle.cats_cmd.proofs.Common.{MatchOption, Option, None, Some, and_from, cond_both, fault_cell, fault_judged, fold, is_some, list_all-append, option_map}
+use Rattle.cats_cmd.proofs.Common.{◌∙◌}
+use Rattle.cats_cmd.proofs.FaultTexts.{Plain, fault_line, fault_plain}
+use Rattle.cats_cmd.proofs.GroupTables.{Step, opened}
+use Rattle.cats_cmd.specs.DuplicatesTables.{FileGroup, GroupKey, MakesGroupTable, group_cells, group_of, group_row, group_with, groups_among, key_of, same_key}
+use Rattle.cats_cmd.specs.DuplicatesTables.{shown, table_header, with_file}
+use Rattle.std.specs.Prelude.{find, option_and_then}
 use Rattle.cats_cmd.proofs.OutputPaths.{printed_all, words_of, words_plain}
 use Rattle.cats_cmd.proofs.PrintableTexts.{are_bytes, bytes_from, list_all-from_All, ascii_text, is_ascii, list_all-decimal, no_text, printable, text_behind}
 
@@ -100,3 +106,56 @@ table_shown js text are makes =
     subst Shown (sym makes) (then (ours (sizes_header Line) refl)
     (flat_shown (λ (j : List ℕ × Judgement). are_bytes j.0) (λ j. row Line j.0 j.1) (λ j. row_shown j.0 j.1) js
     (list_all-from_All (λ (j : List ℕ × Judgement). AreBytes j.0) (λ j. are_bytes j.0) (λ j. bytes_from j.0) js are)))
+
+-- ---- the table of groups
+
+abbrev has_bytes : FileGroup → Bool
+has_bytes group = are_bytes group.first
+
+abbrev HaveBytes : List FileGroup → Type 0
+HaveBytes groups = list_all has_bytes groups ≡ true
+
+bytes_step : (groups : List FileGroup) (path : List ℕ) (key : Option GroupKey) → are_bytes path ≡ true → HaveBytes groups
+    → HaveBytes (with_file groups path key)
+bytes_step groups path None bytes have = have
+bytes_step groups path (Some key) bytes have =
+    cond_both (is_some (group_with groups key)) groups (groups ++ opened groups path key ∷ []) HaveBytes (λ there. have)
+    (λ none. list_all-append has_bytes groups (opened groups path key ∷ [])
+    ∙ and_from (list_all has_bytes groups) (list_all has_bytes (opened groups path key ∷ [])) have (and_from (are_bytes path) true bytes refl))
+
+bytes_all : (groups : List FileGroup) (js : List (List ℕ × Judgement)) → list_all (λ j. are_bytes j.0) js ≡ true → HaveBytes groups
+    → HaveBytes (fold Step groups js)
+bytes_all groups [] are have = have
+bytes_all groups (j ∷ js) are have =
+    let both = and_parts (are_bytes j.0) (list_all (λ j. are_bytes j.0) js) are in
+    bytes_all (Step groups j) js both.1 (bytes_step groups j.0 (key_of j.1) both.0 have)
+
+found_has : {X : Type 0} (p q : X → Bool) (xs : List X) → list_all q xs ≡ true → MatchOption (find p xs) (Unit {0}) (λ x. q x ≡ true)
+found_has p q [] are = tt
+found_has {X} p q (x ∷ xs) are =
+    let both = and_parts (q x) (list_all q xs) are in
+    cond_both (p x) (Some x) (find p xs) (λ (found : Option X). MatchOption found (Unit {0}) (λ x. q x ≡ true)) (λ yes. both.0)
+    (λ no. found_has p q xs both.1)
+
+group_shown : (path : List ℕ) → are_bytes path ≡ true → (group : Option FileGroup) → MatchOption group (Unit {0}) (λ g. has_bytes g ≡ true)
+    → Shown (group_cells Line path (option_map shown group))
+group_shown path bytes None has = then (ours (codes "\t") refl) (then (path_shown path bytes) (ours (codes "\t") refl))
+group_shown path bytes (Some group) has =
+    then (then (number group.number) (ours (codes "\t") refl)) (then (path_shown group.first has) (ours (codes "\t") refl))
+
+of_key : (groups : List FileGroup) (key : Option GroupKey) → HaveBytes groups
+    → MatchOption (option_and_then (group_with groups) key) (Unit {0}) (λ g. has_bytes g ≡ true)
+of_key groups None have = tt
+of_key groups (Some key) have = found_has (λ g. same_key g.key key) has_bytes groups have
+
+group_row_shown : (groups : List FileGroup) → HaveBytes groups → (path : List ℕ) (j : Judgement) → are_bytes path ≡ true → Shown (group_row Line groups path j)
+group_row_shown groups have path j bytes =
+    then (then (then (group_shown path bytes (group_of groups j) (of_key groups (key_of j) have)) (then (path_shown path bytes) (ours (codes "\t") refl)))
+    (plain_shown (fault_cell (fault_judged j)) (fault_plain (fault_judged j)))) (ours (codes "\n") refl)
+
+pub group_table_shown : (js : List (List ℕ × Judgement)) (text : List ℕ) → All (λ j. AreBytes j.0) js → MakesGroupTable Line js text → Shown text
+group_table_shown js text are makes =
+    let of = list_all-from_All (λ (j : List ℕ × Judgement). AreBytes j.0) (λ j. are_bytes j.0) (λ j. bytes_from j.0) js are in
+    subst Shown (sym makes) (then (ours (table_header Line) refl)
+    (flat_shown (λ (j : List ℕ × Judgement). are_bytes j.0) (λ j. group_row Line (groups_among js) j.0 j.1)
+    (λ j. group_row_shown (groups_among js) (bytes_all [] js of refl) j.0 j.1) js of))

@@ -56,7 +56,7 @@ all_after : (p : Vec ℕ Global) (ps : List (Vec ℕ Global)) → AllByRecursion
 all_after p [] after = tt
 all_after p (q ∷ ps) after = (after.0, all_after p ps after.1)
 
-rising : (ps : List (Vec ℕ Global)) → IsStrictlySortedBy before ps → IsStrictlySortedBy (slice_cmp nat_cmp) (paths_of ps)
+pub rising : (ps : List (Vec ℕ Global)) → IsStrictlySortedBy before ps → IsStrictlySortedBy (slice_cmp nat_cmp) (paths_of ps)
 unfolding IsStrictlySortedBy
 rising [] rise = tt
 rising (p ∷ ps) rise = (all_after p ps rise.0, rising ps rise.1)

@@ -7,19 +7,21 @@ use Rattle.canon.specs.Sameness.{AreSameFiles}
 use Rattle.canon.specs.Unsearched.{AreAlike}
 use Rattle.cats_cmd.specs.DuplicateTexts.{duplicates_text}
 use Rattle.cats_cmd.specs.declared.paths.Ending.{Ending}
-use Rattle.commands.specs.Judgements.{Judgement, IsJudged, IsHeavy, IsUnjudged, IsRead}
+use Rattle.commands.specs.Judgements.{Judgement, IsJudged, IsHeavy, IsUnjudged, IsPublished, IsRead}
 
 abbrev pub files_if_judged : Judgement → List PlainFile
 files_if_judged (IsJudged file) = file ∷ []
 files_if_judged (IsHeavy file heavy) = []
 files_if_judged (IsUnjudged fault) = []
 files_if_judged (IsRead answer) = []
+files_if_judged (IsPublished file publishing) = file ∷ []
 
 abbrev pub paths_if_judged : List ℕ → Judgement → List (List ℕ)
 paths_if_judged path (IsJudged file) = path ∷ []
 paths_if_judged path (IsHeavy file heavy) = []
 paths_if_judged path (IsUnjudged fault) = []
 paths_if_judged path (IsRead answer) = []
+paths_if_judged path (IsPublished file publishing) = path ∷ []
 
 -- the files that were judged, in order
 abbrev pub judged_files : List (List ℕ × Judgement) → List PlainFile
@@ -35,12 +37,14 @@ files_if_heavy (IsJudged file) = []
 files_if_heavy (IsHeavy file heavy) = file ∷ []
 files_if_heavy (IsUnjudged fault) = []
 files_if_heavy (IsRead answer) = []
+files_if_heavy (IsPublished file publishing) = []
 
 abbrev pub paths_if_heavy : List ℕ → Judgement → List (List ℕ)
 paths_if_heavy path (IsJudged file) = []
 paths_if_heavy path (IsHeavy file heavy) = path ∷ []
 paths_if_heavy path (IsUnjudged fault) = []
 paths_if_heavy path (IsRead answer) = []
+paths_if_heavy path (IsPublished file publishing) = []
 
 abbrev pub heavy_files : List (List ℕ × Judgement) → List PlainFile
 heavy_files judgements = flat_map (λ j. files_if_heavy j.1) judgements

@@ -1,5 +1,5 @@
 -- Runs on many files. Their paths are words of the command line, or are in a list of paths.
-use Rattle.std.specs.Prelude.{◌≡◌, ◌⊎◌, ℕ, List, Option, Some, None, Result, Ok, Err}
+use Rattle.std.specs.Prelude.{◌≡◌, ◌⊎◌, ℕ, List, [], Option, Some, None, Result, Ok, Err}
 use Rattle.cats_text.specs.declared.read_fault.ReadFault.{ReadFault}
 use Rattle.cats_text.specs.declared.stream.Watched.{Watched}
 use Rattle.canon.specs.declared.canon_fault.CanonFault.TheVariants.{Read, Memory}
@@ -9,6 +9,7 @@ use Rattle.cats_cmd.specs.Inputs.{IsOpened, ReadsAll, StopsReading, WantsMemoryF
 use Rattle.cats_cmd.specs.PathLists.{paths_in}
 use Rattle.cats_cmd.specs.Paths.{refusal_line}
 use Rattle.cats_cmd.specs.Reports.{Reports}
+use Rattle.cats_cmd.specs.Stores.{Attempt}
 use Rattle.commands.specs.declared.faults.Unopened.{Unopened}
 use Rattle.commands.specs.declared.faults.RunFault.{RunFault}
 use Rattle.commands.specs.declared.faults.RunFault.TheVariants.{Refused, NotOpened}
@@ -53,24 +54,30 @@ pub record RefusesList {W E : Type 0} (messages : E → Option (List ℕ)) (Unre
   pub silent : out_after ≡ out
   pub is_status : status ≡ status_of_fault fault
 
--- `Runs` is the run on some files.
-module _ {W E : Type 0} (may_find : List ℕ → Option (List (List ℕ)) → Type 0)
-    (Runs : List (List ℕ) → Watched W → Watched W → Watched E → Watched E → Result ℕ RunFault → Type 0) where
-  -- the run is on the files at these paths
-  pub record RunsOnFound (paths : List (List ℕ)) (out out_after : Watched W) (err err_after : Watched E)
-      (answer : Result ℕ RunFault) : Type 0 where
-    pub files : List (List ℕ)
-    pub are : AreFilesAt may_find paths files
-    pub runs : Runs files out out_after err err_after answer
+-- `Wrote` says which texts were written, and `Runs` is the run on some files.
+module _ {W E : Type 0} (Wrote : List Attempt → Type 0) where
+  -- memory was refused before anything was printed, reported or written
+  abbrev pub WantsMemoryFirst : Watched W → Watched W → Watched E → Watched E → Result ℕ RunFault → Type 0
+  WantsMemoryFirst out out_after err err_after answer = (answer ≡ Err (Refused Only Memory)) × (out_after ≡ out)
+      × (err_after ≡ err) × Wrote []
 
-  -- it is, or memory was refused while folders were read, and nothing was written or reported
-  abbrev pub RunsAtPaths : List (List ℕ) → Watched W → Watched W → Watched E → Watched E → Result ℕ RunFault → Type 0
-  RunsAtPaths paths out out_after err err_after answer = RunsOnFound paths out out_after err err_after answer
-      ⊎ ((answer ≡ Err (Refused Only Memory)) × (out_after ≡ out) × (err_after ≡ err))
+  module _ (may_find : List ℕ → Option (List (List ℕ)) → Type 0)
+      (Runs : List (List ℕ) → Watched W → Watched W → Watched E → Watched E → Result ℕ RunFault → Type 0) where
+    -- the run is on the files at these paths
+    pub record RunsOnFound (paths : List (List ℕ)) (out out_after : Watched W) (err err_after : Watched E)
+        (answer : Result ℕ RunFault) : Type 0 where
+      pub files : List (List ℕ)
+      pub are : AreFilesAt may_find paths files
+      pub runs : Runs files out out_after err err_after answer
+
+    -- it is, or memory was refused while folders were read
+    abbrev pub RunsAtPaths : List (List ℕ) → Watched W → Watched W → Watched E → Watched E → Result ℕ RunFault → Type 0
+    RunsAtPaths paths out out_after err err_after answer = RunsOnFound paths out out_after err err_after answer
+        ⊎ WantsMemoryFirst out out_after err err_after answer
 
 -- `Runs` is the run on the files at some paths.
 module _ {F W E : Type 0} (may_open : List ℕ → F → Type 0) (may_refuse : List ℕ → Unopened → Type 0)
-    (remaining : F → Option (List ℕ)) (messages : E → Option (List ℕ))
+    (remaining : F → Option (List ℕ)) (messages : E → Option (List ℕ)) (Wrote : List Attempt → Type 0)
     (Runs : List (List ℕ) → Watched W → Watched W → Watched E → Watched E → Result ℕ RunFault → Type 0) where
   -- the list was read, and the run is on the paths in it
   pub record RunsOnListed (list : List ℕ) (out out_after : Watched W) (err err_after : Watched E)
@@ -82,7 +89,8 @@ module _ {F W E : Type 0} (may_open : List ℕ → F → Type 0) (may_refuse : L
   abbrev pub RunsOnList : List ℕ → Watched W → Watched W → Watched E → Watched E → Result ℕ RunFault → Type 0
   RunsOnList list out out_after err err_after (Ok status) =
       RunsOnListed list out out_after err err_after (Ok status)
-      ⊎ RefusesList messages (IsUnread may_open may_refuse remaining list) list out out_after err err_after status
+      ⊎ (RefusesList messages (IsUnread may_open may_refuse remaining list) list out out_after err err_after status
+      × Wrote [])
   RunsOnList list out out_after err err_after (Err fault) = RunsOnListed list out out_after err err_after (Err fault)
 
   -- the run on the paths in the list, or else on those that are given

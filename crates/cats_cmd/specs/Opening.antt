@@ -1,9 +1,9 @@
 -- What a source has opened: each path once, in the order of the request, and in which way.
-use Rattle.std.specs.Prelude.{◌≡◌, ◌⊎◌, ◌++◌, ℕ, List, filter, map, take, Option, option_map, if◌then◌else◌}
+use Rattle.std.specs.Prelude.{◌≡◌, ◌≤◌, ◌⊎◌, ◌++◌, ℕ, List, filter, map, take, Option, option_map, if◌then◌else◌}
 use Rattle.std.specs.Str.{is_utf8}
 use Rattle.requests.specs.Tasks.{gives_reason}
 use Rattle.requests.specs.declared.task.Task.{Task}
-use Rattle.requests.specs.declared.task.Task.TheVariants.{Duplicates, Sizes}
+use Rattle.requests.specs.declared.task.Task.TheVariants.{Duplicates, Sizes, Publish}
 use Rattle.cats_cmd.specs.Folders.{AreFilesAt}
 use Rattle.cats_cmd.specs.declared.source.Way.{Way}
 use Rattle.cats_cmd.specs.declared.source.Way.TheVariants.{Anything, NoFolder, Regular}
@@ -24,6 +24,7 @@ openings_of way paths = map (λ path. (path, way)) (filter is_utf8 paths)
 abbrev pub way_of : Task → Way
 way_of Duplicates = Regular
 way_of Sizes = Regular
+way_of Publish = Regular
 way_of task = if gives_reason task then NoFolder else Anything
 
 -- `content_of` says what a source holds, and `opened` what it has opened, if that is known.
@@ -33,15 +34,20 @@ module _ {S H : Type 0} (content_of : S → H) (opened : S → Option (List Open
     pub stays : content_of new ≡ content_of old
     pub more : opened new ≡ with_openings (opened old) openings
 
+  -- it holds what it held, and has opened what it had
+  pub record KeepsFiles (old new : S) : Type 0 where
+    pub content : content_of new ≡ content_of old
+    pub known : opened new ≡ opened old
+
   -- it has opened the first of these paths
   pub record OpensFirst (way : Way) (old new : S) (paths : List (List ℕ)) : Type 0 where
     pub count : ℕ
     pub opens : Opens old new (openings_of way (take count paths))
 
-  -- it has opened all of these paths, or the first of them, as memory was refused to all files together
+  -- it has opened all of these paths, or the first of them, as the run was stopped
   abbrev pub OpensEach : Way → List (List ℕ) → S → S → ℕ → Type 0
   OpensEach way paths old new status =
-      Opens old new (openings_of way paths) ⊎ ((status ≡ 4) × OpensFirst way old new paths)
+      Opens old new (openings_of way paths) ⊎ ((4 ≤ status) × OpensFirst way old new paths)
 
   module _ (may_find : H → List ℕ → Option (List (List ℕ)) → Type 0) where
     -- the files at these paths are opened

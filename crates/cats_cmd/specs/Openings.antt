@@ -1,5 +1,5 @@
 -- Which paths a command line opens, each once, in which order and way.
-use Rattle.std.specs.Prelude.{◌≡◌, ◌≤◌, ◌⊎◌, ℕ, List, [], ◌∷◌, Option, Some, None, Result, Ok, Err}
+use Rattle.std.specs.Prelude.{◌≡◌, ◌≤◌, ◌⊎◌, ℕ, true, List, [], ◌∷◌, Option, Some, None, Result, Ok, Err}
 use Rattle.commands.specs.Statuses.{status_of_fault}
 use Rattle.commands.specs.declared.faults.RunFault.{RunFault}
 use Rattle.command_line.specs.Requests.{request_of}
@@ -9,6 +9,7 @@ use Rattle.requests.specs.declared.task.Files.{Files}
 use Rattle.requests.specs.declared.task.Files.TheVariants.{One, Two, Many}
 use Rattle.requests.specs.declared.task.Task.{Task}
 use Rattle.requests.specs.declared.task.Task.TheVariants.{Round}
+use Rattle.cats_cmd.specs.ComparedFolders.{AreFiles, OpensFolders, takes_folders}
 use Rattle.cats_cmd.specs.FileLists.{ReadsList}
 use Rattle.cats_cmd.specs.Opening.{Opening, Opens, OpensAtPaths, way_of}
 use Rattle.cats_cmd.specs.PathLists.{paths_in}
@@ -64,12 +65,19 @@ module _ {S H F : Type 0} (content_of : S → H) (opened : S → Option (List Op
     OpensFiles way None paths old new status = OpensAtPaths content_of opened may_find way paths old new status
     OpensFiles way (Some list) paths old new status = OpensList way list old new status
 
+    -- the files below two folders, if the command takes folders, and else both files
+    abbrev pub OpensTwo : List ℕ → List ℕ → PlainRequest → S → S → ℕ → Type 0
+    OpensTwo first second request old new status = (takes_folders request.task ≡ true)
+        × OpensFolders content_of opened may_open may_refuse remaining may_find request first second old new status
+        ⊎ AreFiles (may_find (content_of old)) request.task first second
+        × OpensPair (way_of request.task) first second old new status
+
     -- these paths of a request whose command reads so many files; none, if there are more or fewer
     abbrev pub OpensPaths : Files → List (List ℕ) → PlainRequest → S → S → ℕ → Type 0
     OpensPaths Many paths request old new status = OpensFiles (way_of request.task) request.list paths old new status
     OpensPaths One (file ∷ []) request old new status = OpensOne request.task request file old new status
     OpensPaths Two (first ∷ second ∷ []) request old new status =
-        OpensPair (way_of request.task) first second old new status
+        OpensTwo first second request old new status
     OpensPaths count paths request old new status = new ≡ old
 
     -- the program opens the paths of a request, each once, in order

@@ -1,5 +1,6 @@
--- The contract of a run on many files. It has what became of each file, what is reported, and the text that is sent.
-use Rattle.std.specs.Prelude.{◌≡◌, ◌⊎◌, ◌==◌, ◌||◌, ◌%◌, nat_lt, if◌then◌else◌, ℕ, suc, max, Bool, false}
+-- The contract of a run on many files. It has what became of each file, what is reported, and what is printed and
+-- written.
+use Rattle.std.specs.Prelude.{◌≡◌, ◌⊎◌, ◌-◌, ◌^◌, ℕ, suc, max, min, Bool, false, slice_get}
 use Rattle.std.specs.Prelude.{List, [], ◌∷◌, ◌++◌, length, fold, map, take}
 use Rattle.std.specs.Prelude.{Option, Some, None, Result, Ok, Err, codes, decimal}
 use Rattle.std.specs.List.{AllByRecursion}
@@ -13,10 +14,12 @@ use Rattle.canon.specs.declared.which.Which.TheVariants.{Only}
 use Rattle.rounding.specs.declared.replacement.PriceRule.{PriceRule}
 use Rattle.commands.specs.Outcomes.{Outcome, Prints}
 use Rattle.cats_cmd.specs.Escaping.{escaped}
-use Rattle.cats_cmd.specs.PricedInputs.{IsPriced, JudgesPriced, none_rounded, rounding_lines}
+use Rattle.cats_cmd.specs.PricedInputs.{IsPriced, JudgesStream, none_rounded, rounding_lines}
 use Rattle.cats_cmd.specs.declared.priced_input.PricedInput.{PricedInput}
 use Rattle.cats_cmd.specs.declared.priced_input.RoundedCount.{RoundedCount}
-use Rattle.cats_cmd.specs.Runs.{FailsInText, WritesText}
+use Rattle.cats_cmd.specs.Runs.{WritesText}
+use Rattle.cats_cmd.specs.Stores.{Attempt}
+use Rattle.cats_text.specs.Streams.{SendsPart, SendsWhole}
 use Rattle.cats_cmd.specs.Reports.{ReportsAll, is_lost, status_if_lost}
 use Rattle.cats_cmd.specs.declared.paths.Progress.{Progress}
 use Rattle.cats_cmd.specs.declared.paths.Progress.TheVariants.{Silent, Lines, Terminal}
@@ -61,40 +64,44 @@ greatest_status judged = fold (λ greatest j. max greatest (status_of_path j)) 0
 abbrev pub refusal_line : List ℕ → RunFault → List ℕ
 refusal_line path fault = escaped path ++ codes ": " ++ line_of_fault fault
 
--- the line of `--progress` after a path
+-- which file is read, and of how many it is
+abbrev pub turn_text : ℕ → ℕ → List ℕ → List ℕ
+turn_text number count path = decimal number ++ codes " of " ++ decimal count ++ codes " " ++ escaped path
+
+-- the line of `--progress` before the file at a path is read
 abbrev pub progress_line : ℕ → ℕ → List ℕ → List ℕ
-progress_line number count path =
-    decimal number ++ codes " of " ++ decimal count ++ codes " " ++ escaped path ++ codes "\n"
+progress_line number count path = turn_text number count path ++ codes "\n"
+
+-- what keeps a terminal from wrapping a line that is too long, and what ends that
+abbrev pub unwrapped : List ℕ
+unwrapped = 27 ∷ codes "[?7l"
+
+abbrev pub wrapped : List ℕ
+wrapped = 27 ∷ codes "[?7h"
+
+-- the same on a terminal, so that it is one line there
+abbrev pub terminal_line : ℕ → ℕ → List ℕ → List ℕ
+terminal_line number count path = unwrapped ++ turn_text number count path ++ wrapped ++ codes "\n"
 
 abbrev pub refusal_lines : List ℕ → Option RunFault → List (List ℕ)
 refusal_lines path None = []
 refusal_lines path (Some fault) = refusal_line path fault ∷ []
 
--- whether it is reported how many files were read, after the one with this number among so many: after each hundredth,
--- and after the last
-abbrev pub is_counted : ℕ → ℕ → Bool
-is_counted number count = (number % 100 == 0) || (number == count)
-
--- what a terminal shows: no path, so that it is one line there
-abbrev pub count_line : ℕ → ℕ → List ℕ
-count_line number count = decimal number ++ codes " of " ++ decimal count ++ codes "\n"
-
 -- what removes the line above: the cursor moves up, and the line is erased
 abbrev pub line_removal : List ℕ
 line_removal = 27 ∷ codes "[A" ++ 27 ∷ codes "[K"
 
--- what `--progress` reports after a path
+-- what `--progress` reports before a path
 abbrev pub progress_lines : Progress → ℕ → ℕ → List ℕ → List (List ℕ)
 progress_lines Silent number count path = []
-progress_lines Lines number count path =
-    if is_counted number count then progress_line number count path ∷ [] else []
-progress_lines Terminal number count path = count_line number count ∷ []
+progress_lines Lines number count path = progress_line number count path ∷ []
+progress_lines Terminal number count path = terminal_line number count path ∷ []
 
--- before the path with this number, a terminal shows how many were read
-abbrev pub removal_lines : Progress → ℕ → List (List ℕ)
-removal_lines Silent number = []
-removal_lines Lines number = []
-removal_lines Terminal number = if nat_lt 1 number then line_removal ∷ [] else []
+-- once its file is read, a terminal no longer shows the path
+abbrev pub removal_lines : Progress → List (List ℕ)
+removal_lines Silent = []
+removal_lines Lines = []
+removal_lines Terminal = line_removal ∷ []
 
 -- what a run reports: of a path, why its file was not judged, and how many files were read
 pub record Reporting : Type 0 where
@@ -109,11 +116,11 @@ with_refusals progress = record { refusals = refusal_lines; progress = progress 
 abbrev pub without_refusals : Progress → Reporting
 without_refusals progress = record { refusals = λ path fault. []; progress = progress }
 
--- of the path with this number, among so many: how many prices of its file were rounded, and why it was not judged
+-- of the path with this number, among so many: that it is read, how many prices of its file were rounded, and why it
+-- was not judged
 abbrev pub lines_on : Reporting → ℕ → ℕ → List ℕ → RoundedCount → Option RunFault → List (List ℕ)
-lines_on reporting count number path rounded fault = removal_lines reporting.progress number
-    ++ rounding_lines path rounded ++ reporting.refusals path fault
-    ++ progress_lines reporting.progress number count path
+lines_on reporting count number path rounded fault = progress_lines reporting.progress number count path
+    ++ removal_lines reporting.progress ++ rounding_lines path rounded ++ reporting.refusals path fault
 
 abbrev pub lines_of_path : Reporting → ℕ → ℕ → JudgedPath → List (List ℕ)
 lines_of_path reporting count number judged =
@@ -130,14 +137,13 @@ abbrev pub report_lines : Reporting → ℕ → List JudgedPath → List (List �
 report_lines reporting count judged = lines_from reporting count 1 judged
 
 module _ {E : Type 0} (messages : E → Option (List ℕ)) (reporting : Reporting) (count : ℕ) where
-  -- of the path with this number, how many of its prices were rounded, unless that is lost, and then the rest
+  -- of the path with this number, up to how many of its prices were rounded, unless that is lost, and then the rest
   pub record ReportsPath (number : ℕ) (judged : JudgedPath) (old new : Watched E) : Type 0 where
     pub between : Watched E
-    pub roundings : ReportsAll messages
-        (removal_lines reporting.progress number ++ rounding_lines judged.path judged.rounded) old between
+    pub roundings : ReportsAll messages (progress_lines reporting.progress number count judged.path
+        ++ removal_lines reporting.progress ++ rounding_lines judged.path judged.rounded) old between
     pub loses : judged.lost ≡ is_lost judged.rounded.count between
-    pub others : ReportsAll messages (reporting.refusals judged.path (fault_judged judged.judgement)
-        ++ progress_lines reporting.progress number count judged.path) between new
+    pub others : ReportsAll messages (reporting.refusals judged.path (fault_judged judged.judgement)) between new
 
   -- all lines on files were reported, from the file with this number on
   abbrev pub ReportsFrom : ℕ → List JudgedPath → Watched E → Watched E → Type 0
@@ -159,7 +165,7 @@ module _ {F : Type 0} (may_open : List ℕ → F → Type 0) (may_refuse : List 
     pub before : PricedInput F
     pub after : PricedInput F
     pub opened : IsPriced may_open prices path before
-    pub judges : JudgesPriced remaining options before after judgement
+    pub judges : JudgesStream remaining options before after judgement
     pub count : rounded ≡ after.rounded
 
   abbrev pub JudgesAs : List ℕ → RoundedCount → Judgement → Type 0
@@ -172,10 +178,11 @@ module _ {F : Type 0} (may_open : List ℕ → F → Type 0) (may_refuse : List 
 
 -- ---- the files at all paths
 
--- what became of the file at each path, and the text that is made of them
+-- what became of the file at each path, what is printed of them, and the texts that were to be written
 pub record Made : Type 0 where
   pub judged : List JudgedPath
   pub text : List ℕ
+  pub attempts : List Attempt
 
 module _ {F E : Type 0} (may_open : List ℕ → F → Type 0) (may_refuse : List ℕ → Unopened → Type 0)
     (remaining : F → Option (List ℕ)) (messages : E → Option (List ℕ)) (options : Option SearchOptions)
@@ -188,41 +195,99 @@ module _ {F E : Type 0} (may_open : List ℕ → F → Type 0) (may_refuse : Lis
     pub reports : ReportsAll messages (report_lines reporting count judged) err err_after
     pub each_reports : ReportsFrom messages reporting count 1 judged err err_after
 
-  -- this became of the files at the first so many of the paths
-  pub record BeginsPaths (paths : List (List ℕ)) (err err_after : Watched E) : Type 0 where
+  -- the file at the path behind so many was named, or nothing was reported of it
+  abbrev pub BeginsNext : List (List ℕ) → ℕ → Watched E → Watched E → Type 0
+  BeginsNext paths count err err_after = (err_after ≡ err) ⊎ ((path : List ℕ) × (slice_get paths count ≡ Some path)
+      × ReportsAll messages (progress_lines reporting.progress (suc count) (length paths) path) err err_after)
+
+  -- this became of the files at the first of the paths, and the next may have been begun
+  pub record BeginsPaths (paths : List (List ℕ)) (err err_after : Watched E) (judged : List JudgedPath) : Type 0 where
     pub count : ℕ
-    pub judged : List JudgedPath
-    pub judges : JudgesPaths (length paths) (take count paths) err err_after judged
+    pub between : Watched E
+    pub judges : JudgesPaths (length paths) (take count paths) err between judged
+    pub begins : BeginsNext paths count between err_after
 
 -- ---- the run
 
 abbrev pub outcome_of_paths : Made → Outcome
 outcome_of_paths made = Prints (greatest_status made.judged) made.text
 
--- `Makes` says which text is made of what became of the files
+-- how many bytes were written, as far as it is counted
+abbrev pub bytes_counted : ℕ → ℕ
+bytes_counted count = min count (2 ^ 64 - 1)
+
+-- so is printed, and no text is written
+abbrev pub PrintsOnly : (List (List ℕ × Judgement) → List ℕ → Type 0) → List (List ℕ × Judgement) → List ℕ
+    → List Attempt → Type 0
+PrintsOnly Makes judgements printed attempts = Makes judgements printed × (attempts ≡ [])
+
+-- nothing is printed yet
+abbrev pub PrintsNothing : List (List ℕ × Judgement) → List ℕ → List Attempt → Type 0
+PrintsNothing = PrintsOnly (λ judgements text. text ≡ [])
+
+-- `Shows` says what is printed and written of what became of the first files, and `Wrote` which texts were written.
 module _ {F W E : Type 0} (may_open : List ℕ → F → Type 0) (may_refuse : List ℕ → Unopened → Type 0)
     (remaining : F → Option (List ℕ)) (contents : W → Option (List ℕ)) (messages : E → Option (List ℕ))
     (options : Option SearchOptions) (prices : Option PriceRule)
-    (Makes : List (List ℕ × Judgement) → List ℕ → Type 0) (paths : List (List ℕ)) (reporting : Reporting) where
-  pub record MakesOfPaths (err err_after : Watched E) (made : Made) : Type 0 where
-    pub judges : JudgesPaths may_open may_refuse remaining messages options prices reporting (length paths) paths err
-        err_after made.judged
-    pub makes : Makes (map judgement_at made.judged) made.text
+    (Shows : List (List ℕ × Judgement) → List ℕ → List Attempt → Type 0) (Wrote : List Attempt → Type 0)
+    (paths : List (List ℕ)) (reporting : Reporting) where
+  -- this was made of the files at the first of the paths
+  pub record ShowsOfPaths (err err_after : Watched E) (made : Made) : Type 0 where
+    pub begins : BeginsPaths may_open may_refuse remaining messages options prices reporting paths err err_after
+        made.judged
+    pub shows : Shows (map judgement_at made.judged) made.text made.attempts
+    pub wrote : Wrote made.attempts
 
-  -- memory was refused to all files together: nothing was written, and the paths after some were not opened
+  -- memory was refused to all files together; what was made of the first of them is printed
   pub record RefusesPaths (out out_after : Watched W) (err err_after : Watched E) (which : Which) (fault : CanonFault)
       : Type 0 where
     pub only : which ≡ Only
     pub memory : fault ≡ Memory
-    pub silent : out_after ≡ out
-    pub begins : BeginsPaths may_open may_refuse remaining messages options prices reporting paths err err_after
+    pub made : Made
+    pub shows : ShowsOfPaths err err_after made
+    pub sends : SendsWhole contents out out_after made.text
 
-  -- the contract of the run, from its output and standard error before to those after it
-  abbrev pub RunsOnPaths : Watched W → Watched W → Watched E → Watched E → Result ℕ RunFault → Type 0
-  RunsOnPaths out out_after err err_after (Ok status) =
-      WritesText contents (MakesOfPaths err err_after) outcome_of_paths out out_after status
-  RunsOnPaths out out_after err err_after (Err (Refused which fault)) =
-      RefusesPaths out out_after err err_after which fault
-  RunsOnPaths out out_after err err_after (Err (Sent fault)) =
-      FailsInText contents (MakesOfPaths err err_after) outcome_of_paths out out_after fault.written
-  RunsOnPaths out out_after err err_after (Err fault) = ⊥
+  -- the output failed in what was made of the first of the files
+  pub record FailsOnPaths (out out_after : Watched W) (err err_after : Watched E) (written : ℕ) : Type 0 where
+    pub made : Made
+    pub shows : ShowsOfPaths err err_after made
+    pub count : ℕ
+    pub is_counted : written ≡ bytes_counted count
+    pub sent : SendsPart contents out out_after made.text count
+
+  -- a run ends so before all files were judged
+  abbrev pub EndsOnPaths : Watched W → Watched W → Watched E → Watched E → RunFault → Type 0
+  EndsOnPaths out out_after err err_after (Refused which fault) = RefusesPaths out out_after err err_after which fault
+  EndsOnPaths out out_after err err_after (Sent fault) = FailsOnPaths out out_after err err_after fault.written
+  EndsOnPaths out out_after err err_after fault = ⊥
+
+  -- `Makes` says what is printed and written of what became of all files.
+  module _ (Makes : List (List ℕ × Judgement) → List ℕ → List Attempt → Type 0) where
+    pub record MakesOfPaths (err err_after : Watched E) (made : Made) : Type 0 where
+      pub judges : JudgesPaths may_open may_refuse remaining messages options prices reporting (length paths) paths err
+          err_after made.judged
+      pub makes : Makes (map judgement_at made.judged) made.text made.attempts
+      pub wrote : Wrote made.attempts
+
+    -- the output failed in what was made of all files
+    pub record FailsAtEnd (out out_after : Watched W) (err err_after : Watched E) (written : ℕ) : Type 0 where
+      pub made : Made
+      pub makes : MakesOfPaths err err_after made
+      pub count : ℕ
+      pub is_counted : written ≡ bytes_counted count
+      pub sent : SendsPart contents out out_after made.text count
+
+    -- a run ends with this fault
+    abbrev pub FailsRun : Watched W → Watched W → Watched E → Watched E → RunFault → Type 0
+    FailsRun out out_after err err_after (Refused which fault) =
+        RefusesPaths out out_after err err_after which fault
+        ⊎ ((which ≡ Only) × (fault ≡ Memory) × (out_after ≡ out) × (err_after ≡ err) × Wrote [])
+    FailsRun out out_after err err_after (Sent fault) = FailsOnPaths out out_after err err_after fault.written
+        ⊎ FailsAtEnd out out_after err err_after fault.written
+    FailsRun out out_after err err_after fault = ⊥
+
+    -- the contract of the run, from its output and standard error before to those after it
+    abbrev pub RunsOnPaths : Watched W → Watched W → Watched E → Watched E → Result ℕ RunFault → Type 0
+    RunsOnPaths out out_after err err_after (Ok status) =
+        WritesText contents (MakesOfPaths err err_after) outcome_of_paths out out_after status
+    RunsOnPaths out out_after err err_after (Err fault) = FailsRun out out_after err err_after fault

@@ -9,7 +9,7 @@ use Rattle.cats_text.specs.declared.read_fault.Kind.TheVariants.{Memory}
 use Rattle.cats_text.specs.declared.read_fault.ReadFault.{ReadFault}
 use Rattle.cats_text.specs.declared.stream.Watched.{Watched}
 use Rattle.commands.specs.Inputs.{StreamGives, StreamRefuses}
-use Rattle.commands.specs.Judgements.{Judgement, IsRead, JudgesInput}
+use Rattle.commands.specs.Judgements.{Judgement, IsJudged, IsPublished, IsRead, JudgesInput}
 use Rattle.rounding.specs.Texts.{PlainRoundedPrice, rounded_prices, rounded_text}
 use Rattle.rounding.specs.declared.replacement.PriceRule.{PriceRule}
 use Rattle.valuation.specs.declared.search.options.SearchOptions.{SearchOptions}
@@ -112,6 +112,13 @@ module _ {R : Type 0} (remaining : R → Option (List ℕ)) where
   JudgesPriced (Some options) old new judgement = JudgesInput PricedGives PricedRefuses options old new judgement
   JudgesPriced None old new (IsRead answer) = AnswersTexts old new answer × (new.rounded ≡ none_rounded)
   JudgesPriced None old new judgement = ⊥
+
+  -- the same, and how many prices of a published file were rounded, and how many of them to 0
+  abbrev pub JudgesStream : Option SearchOptions → PricedInput R → PricedInput R → Judgement → Type 0
+  JudgesStream options old new (IsPublished file publishing) =
+      JudgesPriced options old new (IsJudged file) × (publishing.rounded ≡ new.rounded.count)
+      × (publishing.zeroed ≡ new.rounded.zeroed)
+  JudgesStream options old new judgement = JudgesPriced options old new judgement
 
 -- ---- what is reported
 

@@ -14,7 +14,7 @@ use Rattle.requests.specs.declared.task.Task.TheVariants.{Round}
 use Rattle.rounding.specs.declared.replacement.PriceRule.{PriceRule}
 use Rattle.command_line.specs.Requests.{request_of}
 
--- whether a request is for `fault`, `duplicates` or `sizes`
+-- whether a request is for `fault`, `duplicates`, `sizes` or `publish`
 abbrev pub is_for_many_files : PlainRequest → Bool
 is_for_many_files request = is_many (files_of request.task)
 

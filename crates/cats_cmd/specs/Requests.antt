@@ -8,13 +8,18 @@ use Rattle.cats_text.specs.declared.stream.Watched.{Watched}
 use Rattle.canon.specs.declared.which.Which.{Which}
 use Rattle.canon.specs.declared.which.Which.TheVariants.{Only, First, Second}
 use Rattle.cats_cmd.specs.Duplicates.{MakesGroups}
+use Rattle.cats_cmd.specs.DuplicatesTables.{MakesGroupTable}
 use Rattle.cats_cmd.specs.BidLists.{RunsOnBids}
+use Rattle.cats_cmd.specs.ComparedFolders.{AreFiles, ComparesFolders, RunsOnFolders, takes_folders}
 use Rattle.cats_cmd.specs.FileLists.{RunsAtPaths, RunsOnFiles}
 use Rattle.cats_cmd.specs.FindingFaults.{MakesFaults, with_unplaced}
 use Rattle.cats_cmd.specs.Inputs.{IsOpened}
 use Rattle.cats_cmd.specs.PricedInputs.{IsPriced, PricedGives, PricedRefuses, rounding_lines}
 use Rattle.cats_cmd.specs.declared.priced_input.PricedInput.{PricedInput}
-use Rattle.cats_cmd.specs.Paths.{Reporting, RunsOnPaths, refusal_line, with_refusals, without_refusals}
+use Rattle.cats_cmd.specs.Paths.{PrintsNothing, PrintsOnly, Reporting, RunsOnPaths, refusal_line, with_refusals}
+use Rattle.cats_cmd.specs.Paths.{without_refusals}
+use Rattle.cats_cmd.specs.PublishRuns.{PublishesAtPaths}
+use Rattle.cats_cmd.specs.Stores.{Attempt, Text, WritesEach}
 use Rattle.cats_cmd.specs.Rounding.{Rounds}
 use Rattle.cats_cmd.specs.Runs.{RunsOnFile, RunsOnPair}
 use Rattle.cats_cmd.specs.SizesTables.{MakesTable}
@@ -26,7 +31,7 @@ use Rattle.requests.specs.Tasks.{files_of, gives_reason}
 use Rattle.requests.specs.declared.task.Files.{Files}
 use Rattle.requests.specs.declared.task.Files.TheVariants.{One, Two, Many}
 use Rattle.requests.specs.declared.task.Task.{Task}
-use Rattle.requests.specs.declared.task.Task.TheVariants.{Fault, Round, Duplicates}
+use Rattle.requests.specs.declared.task.Task.TheVariants.{Fault, Round, Duplicates, Publish}
 use Rattle.rounding.specs.declared.replacement.PriceRule.{PriceRule}
 use Rattle.rounding.specs.Replacements.{price_rule}
 use Rattle.rounding.specs.declared.replacement.FinePrices.TheVariants.{Round as RoundFine}
@@ -44,6 +49,7 @@ use Rattle.cats_cmd.specs.declared.paths.Progress.{Progress}
 use Rattle.cats_cmd.specs.declared.paths.Progress.TheVariants.{Silent, Lines, Terminal as OnTerminal}
 use Rattle.commands.specs.declared.faults.RunFault.{RunFault}
 use Rattle.commands.specs.declared.faults.Unopened.{Unopened}
+use Rattle.commands.specs.declared.faults.Unwritten.{Unwritten}
 use Rattle.commands.specs.declared.faults.RunFault.TheVariants.{NotOpened}
 use Rattle.commands.specs.declared.faults.Unopened.TheVariants.{Other}
 use Rattle.commands.specs.Statuses.{status_of_fault}
@@ -60,9 +66,9 @@ try_help = codes "\n\nFor more information, try '--help'.\n"
 abbrev pub misuse_text : Misuse → List ℕ
 misuse_text SignedNumber = codes "error: a number has digits alone, and no sign" ++ try_help
 misuse_text MoreThanOneFile =
-    codes "error: this command takes one file; 'cats fault', 'cats duplicates' and 'cats sizes' take several" ++ try_help
+    codes "error: this command takes one file; 'cats fault', 'cats duplicates', 'cats sizes' and 'cats publish' take several" ++ try_help
 misuse_text MoreThanTwoFiles =
-    codes "error: this command takes two files; 'cats fault', 'cats duplicates' and 'cats sizes' take several" ++ try_help
+    codes "error: this command takes two files; 'cats fault', 'cats duplicates', 'cats sizes' and 'cats publish' take several" ++ try_help
 misuse_text BidsTwice = codes "error: give bids, or '--bids <LIST>', and not both" ++ try_help
 misuse_text UnboundedTotal = codes "error: '--total-steps <N>' needs '--bound'" ++ try_help
 misuse_text WrongTimes = codes "error: '--times <N>' is a power of ten, from 1 to 1000000000000" ++ try_help
@@ -171,11 +177,15 @@ module _ (may_refuse : List ℕ → Unopened → Type 0) (task : Task) where
   abbrev pub CannotOpenPair : List ℕ → List ℕ → RunFault → Type 0
   CannotOpenPair first second fault = CannotOpen First first fault ⊎ CannotOpen Second second fault
 
+  -- one of two that are taken for files
+  abbrev pub CannotOpenTwo : (List ℕ → Option (List (List ℕ)) → Type 0) → List ℕ → List ℕ → RunFault → Type 0
+  CannotOpenTwo may_find first second fault = AreFiles may_find task first second × CannotOpenPair first second fault
+
   -- one of these files; of many files none, as the request goes on with the others
-  abbrev pub CannotOpenOf : Files → List (List ℕ) → RunFault → Type 0
-  CannotOpenOf One (file ∷ []) fault = CannotOpen Only file fault
-  CannotOpenOf Two (first ∷ second ∷ []) fault = CannotOpenPair first second fault
-  CannotOpenOf count files fault = ⊥
+  abbrev pub CannotOpenOf : (List ℕ → Option (List (List ℕ)) → Type 0) → Files → List (List ℕ) → RunFault → Type 0
+  CannotOpenOf may_find One (file ∷ []) fault = CannotOpen Only file fault
+  CannotOpenOf may_find Two (first ∷ second ∷ []) fault = CannotOpenTwo may_find first second fault
+  CannotOpenOf may_find count files fault = ⊥
 
 module _ {W E : Type 0} (Runs : Watched W → Watched W → Watched E → Watched E → Result ℕ RunFault → Type 0)
     (Cannot : RunFault → Type 0) (out out_after : Watched W) (err err_after : Watched E) (answer : Result ℕ RunFault)
@@ -211,28 +221,68 @@ module _ {F W E : Type 0} (may_open : List ℕ → F → Type 0) (may_refuse : L
   RunsOnOne task request path out out_after err err_after answer =
       RunsOfCommand request path out out_after err err_after answer
 
-  -- `terminal` says whether standard error is a terminal.
-  module _ (terminal : Bool) (may_find : List ℕ → Option (List (List ℕ)) → Type 0) where
-    -- the run on many files, which are searched so, or not; `Makes` says which text is made of what became of them
-    abbrev pub RunsOnMany : Option SearchOptions → (Ending → List (List ℕ × Judgement) → List ℕ → Type 0)
-        → (Progress → Reporting) → PlainRequest → Watched W → Watched W → Watched E → Watched E → Result ℕ RunFault
-        → Type 0
-    RunsOnMany options Makes reporting request out out_after err err_after answer =
-        RunsOnFiles may_open may_refuse remaining messages
-        (RunsAtPaths may_find (λ paths. RunsOnPaths may_open may_refuse remaining contents messages options
-        request.prices (Makes (ending_of request.null)) paths (reporting (progress_of terminal request.progress))))
+  -- the run on two paths: on the files below, if folders are at both and the command takes folders
+  abbrev pub RunsOnTwo : (List ℕ → Option (List (List ℕ)) → Type 0) → List ℕ → List ℕ → PlainRequest → Watched W
+      → Watched W
+      → Watched E → Watched E → Result ℕ RunFault → Type 0
+  RunsOnTwo may_find first second request out out_after err err_after answer = (takes_folders request.task ≡ true)
+      × RunsOnFolders may_open may_refuse remaining contents messages request may_find first second out out_after err
+      err_after answer
+      ⊎ AreFiles may_find request.task first second
+      × RunsAtBoth may_open remaining contents messages first second request out out_after err err_after answer
+
+  -- `terminal` says whether standard error is a terminal, and `known` which texts the place of all files has, before
+  -- and after.
+  module _ (terminal : Bool) (may_find : List ℕ → Option (List (List ℕ)) → Type 0)
+      (may_not_write : List ℕ → Unwritten → Type 0) (known known_after : Option (List Text)) where
+    abbrev pub Wrote : List Attempt → Type 0
+    Wrote = WritesEach may_not_write known known_after
+
+    -- The run on many files, which are searched so, or not at all. `Makes` says what is printed of what became of them,
+    -- and `Shows` what is so far.
+    abbrev pub RunsOnMany : Option SearchOptions → (List (List ℕ × Judgement) → List ℕ → List Attempt → Type 0)
+        → (List (List ℕ × Judgement) → List ℕ → List Attempt → Type 0) → (Progress → Reporting) → PlainRequest
+        → Watched W → Watched W → Watched E → Watched E → Result ℕ RunFault → Type 0
+    RunsOnMany options Shows Makes reporting request out out_after err err_after answer =
+        RunsOnFiles may_open may_refuse remaining messages Wrote
+        (RunsAtPaths Wrote may_find (λ paths. RunsOnPaths may_open may_refuse remaining contents messages options
+        request.prices Shows Wrote paths (reporting (progress_of terminal request.progress)) Makes))
         request.list request.files out out_after err err_after answer
+
+    -- the run of `cats publish`
+    abbrev pub RunsPublish : PlainRequest → Watched W → Watched W → Watched E → Watched E → Result ℕ RunFault → Type 0
+    RunsPublish request out out_after err err_after answer =
+        RunsOnFiles may_open may_refuse remaining messages Wrote
+        (PublishesAtPaths may_open may_refuse remaining contents messages may_not_write known known_after
+        request.options request.prices request.all (without_refusals (progress_of terminal request.progress))
+        (unwrap_or request.folder []) may_find)
+        request.list request.files out out_after err err_after answer
+
+    -- the groups of `cats duplicates`, or with `--table` its table
+    abbrev pub RunsOfDuplicates : Bool → PlainRequest → Watched W → Watched W → Watched E → Watched E
+        → Result ℕ RunFault
+        → Type 0
+    RunsOfDuplicates false request out out_after err err_after answer =
+        RunsOnMany (Some request.options) PrintsNothing
+        (PrintsOnly (MakesGroups (ending_of request.null) request.all)) with_refusals request out out_after err
+        err_after answer
+    RunsOfDuplicates true request out out_after err err_after answer =
+        RunsOnMany (Some request.options) (PrintsOnly (MakesGroupTable (ending_of request.null)))
+        (PrintsOnly (MakesGroupTable
+        (ending_of request.null))) without_refusals request out out_after err err_after answer
 
     -- by the command
     abbrev pub RunsOfFiles : Task → PlainRequest → Watched W → Watched W → Watched E → Watched E → Result ℕ RunFault
         → Type 0
     RunsOfFiles Fault request out out_after err err_after answer =
-        RunsOnMany None (λ ending. MakesFaults) with_unplaced request out out_after err err_after answer
+        RunsOnMany None PrintsNothing (PrintsOnly MakesFaults) with_unplaced request out out_after err err_after answer
     RunsOfFiles Duplicates request out out_after err err_after answer =
-        RunsOnMany (Some request.options) (λ ending. MakesGroups ending request.all) with_refusals request out out_after
-        err err_after answer
+        RunsOfDuplicates request.table request out out_after err err_after answer
+    RunsOfFiles Publish request out out_after err err_after answer =
+        RunsPublish request out out_after err err_after answer
     RunsOfFiles task request out out_after err err_after answer =
-        RunsOnMany (Some request.options) MakesTable without_refusals request out out_after err err_after answer
+        RunsOnMany (Some request.options) (PrintsOnly (MakesTable (ending_of request.null)))
+        (PrintsOnly (MakesTable (ending_of request.null))) without_refusals request out out_after err err_after answer
 
     -- the run on these files of a request whose command reads so many. If there are more or fewer, that is wrong usage
     abbrev pub RunsWith : Files → List (List ℕ) → PlainRequest → Watched W → Watched W → Watched E → Watched E
@@ -242,7 +292,7 @@ module _ {F W E : Type 0} (may_open : List ℕ → F → Type 0) (may_refuse : L
     RunsWith One (file ∷ []) request out out_after err err_after answer =
         RunsOnOne request.task request file out out_after err err_after answer
     RunsWith Two (first ∷ second ∷ []) request out out_after err err_after answer =
-        RunsAtBoth may_open remaining contents messages first second request out out_after err err_after answer
+        RunsOnTwo may_find first second request out out_after err err_after answer
     RunsWith count files request out out_after err err_after answer =
         (answer ≡ Ok 64) × (out_after ≡ out) × (err_after ≡ err)
 
@@ -253,7 +303,7 @@ module _ {F W E : Type 0} (may_open : List ℕ → F → Type 0) (may_refuse : L
     abbrev pub CarriesOut : PlainRequest → Watched W → Watched W → Watched E → Watched E → Result ℕ RunFault → Type
         0
     CarriesOut request =
-        Carries (RunsFor request) (CannotOpenOf may_refuse request.task (files_of request.task) request.files)
+        Carries (RunsFor request) (CannotOpenOf may_refuse request.task may_find (files_of request.task) request.files)
 
     -- the request failed; why was reported after what its run reported, and the status is its own
     pub record FailsRequest (request : PlainRequest) (out out_after : Watched W) (err err_after : Watched E) (status :
@@ -292,3 +342,9 @@ module _ {F W E : Type 0} (may_open : List ℕ → F → Type 0) (may_refuse : L
     abbrev pub AnswersLine : List (List ℕ) → Watched W → Watched W → Watched E → Watched E → ℕ → Type 0
     AnswersLine words out out_after err err_after status =
         AnswersAsked words out out_after err err_after status ⊎ AnswersUnasked words out out_after err err_after status
+
+-- the line has a request whose command takes folders, on two paths at which folders may be found
+pub record NamesFolders (may_find : List ℕ → Option (List (List ℕ)) → Type 0) (words : List (List ℕ)) : Type 0 where
+  pub request : PlainRequest
+  pub asked : request_of words ≡ Some request
+  pub compares : ComparesFolders may_find request

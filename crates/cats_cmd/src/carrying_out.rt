@@ -6,17 +6,22 @@ ghost use Rattle.cats_text.specs.Streams.{has_failed};
 ghost use Rattle.cats_cmd.specs.Inputs.{IsOpened};
 ghost use Rattle.cats_cmd.specs.Internal.Carrying.{FailsToOpenPair};
 ghost use Rattle.cats_cmd.specs.Opening.{Opens, way_of};
-ghost use Rattle.cats_cmd.specs.Openings.{OpensFiles, OpensFor, OpensForBids, OpensOne, OpensPair, status_of_run};
-ghost use Rattle.cats_cmd.specs.Requests.{CannotOpenPair, Carries, CarriesOut, RunsAt, RunsAtBoth, CannotOpen};
-ghost use Rattle.cats_cmd.specs.Requests.{RunsOfCommand, RunsOfFiles, RunsOnOne, reason_of};
+ghost use Rattle.cats_cmd.specs.Openings.{OpensFiles, OpensFor, OpensForBids, OpensOne, OpensPair, OpensTwo};
+ghost use Rattle.cats_cmd.specs.Openings.{status_of_run};
+ghost use Rattle.cats_cmd.specs.Requests.{CannotOpen, CannotOpenPair, CannotOpenTwo, Carries, CarriesOut, RunsAt};
+ghost use Rattle.cats_cmd.specs.Requests.{RunsAtBoth, RunsOfCommand, RunsOfDuplicates, RunsOfFiles, RunsOnOne, RunsOnTwo};
+ghost use Rattle.cats_cmd.specs.Requests.{reason_of};
 ghost use Rattle.commands.specs.Meanings.{outcome_of};
 ghost use Rattle.requests.specs.Requests.{plain_request};
 
 use crate::bid_list::read_bids;
+use crate::compare_folders::{Folder, Folders, compare_folders, find_both, takes_folders};
 use crate::duplicates::Groups;
+use crate::duplicates::table::GroupTable;
 use crate::fault::Faults;
 use crate::many_files::{refuse_list, run_on_files};
 use crate::priced_input::{PricedInput, report_rounded};
+use crate::publishing::run_publish;
 use crate::round::run_round;
 use crate::run::{answer_if_lost, is_lost, send_answer};
 use crate::sizes::Table;
@@ -48,7 +53,8 @@ pub(crate) fn carry_out<S: Source + AllocGlobal, W: Write, E: Write>(
 ) -> Result<u8, RunFault>
     requires { has_failed out.old ≡ false }
     ensures carries { CarriesOut (S.may_open (S.content_of source.old)) (S.may_refuse (S.content_of source.old))
-        S.Stream.remaining W.contents E.contents terminal (S.may_find (S.content_of source.old)) (plain_request request.now)
+        S.Stream.remaining W.contents E.contents terminal (S.may_find (S.content_of source.old))
+        (S.may_not_write (S.content_of source.old)) (S.texts source.old) (S.texts source.new) (plain_request request.now)
         out.old out.new err.old err.new result }
     ensures opens { OpensFor S.content_of S.opened S.may_open S.may_refuse S.Stream.remaining S.may_find
         (plain_request request.now) source.old source.new (status_of_run result) }
@@ -60,7 +66,7 @@ pub(crate) fn carry_out<S: Source + AllocGlobal, W: Write, E: Write>(
             _ => Ok(WRONG_USAGE),
         },
         Files::Two => match request.files.as_slice() {
-            [first, second] => carry_out_on_pair(source, request, (first, second), out, err),
+            [first, second] => carry_out_on_two(source, request, (first, second), out, err),
             _ => Ok(WRONG_USAGE),
         },
     }
@@ -144,6 +150,41 @@ fn run_at<S: Source + AllocGlobal, W: Write, E: Write>(
     answer_if_lost(lost, sent)
 }
 
+/// The request on two paths. Of two folders `compare` compares the files below.
+fn carry_out_on_two<S: Source + AllocGlobal, W: Write, E: Write>(
+    source: &mut S,
+    request: &Request<'_>,
+    files: (&str, &str),
+    out: &mut Watched<W>,
+    err: &mut Watched<E>,
+) -> Result<u8, RunFault>
+    requires { has_failed out.old ≡ false }
+    ensures carries { Carries (RunsOnTwo (S.may_open (S.content_of source.old)) (S.may_refuse (S.content_of source.old))
+        S.Stream.remaining W.contents E.contents (S.may_find (S.content_of source.old)) files.entry.0.now files.entry.1.now
+        (plain_request request.now)) (CannotOpenTwo (S.may_refuse (S.content_of source.old)) request.now.task
+        (S.may_find (S.content_of source.old)) files.entry.0.now files.entry.1.now) out.old out.new err.old err.new result }
+    ensures opens { OpensTwo S.content_of S.opened S.may_open S.may_refuse S.Stream.remaining S.may_find files.entry.0.now
+        files.entry.1.now (plain_request request.now) source.old source.new (status_of_run result) }
+{
+    if !takes_folders(request.task) {
+        return carry_out_on_pair(source, request, files, out, err);
+    }
+    let Some((left, right)) = find_both(&*source, source.alloc(), files.0, files.1)? else {
+        return carry_out_on_pair(source, request, files, out, err);
+    };
+    let folders = Folders {
+        left: Folder {
+            path: files.0.as_bytes(),
+            files: left.as_slice(),
+        },
+        right: Folder {
+            path: files.1.as_bytes(),
+            files: right.as_slice(),
+        },
+    };
+    compare_folders(source, request, folders, out, err)
+}
+
 /// Opens both files of a request for two, runs on them, and reports how many of their prices were rounded.
 fn carry_out_on_pair<S: Source + AllocGlobal, W: Write, E: Write>(
     source: &mut S,
@@ -181,7 +222,8 @@ fn run_on_many<S: Source + AllocGlobal, W: Write, E: Write>(
 ) -> Result<u8, RunFault>
     requires { has_failed out.old ≡ false }
     ensures runs { RunsOfFiles (S.may_open (S.content_of source.old)) (S.may_refuse (S.content_of source.old))
-        S.Stream.remaining W.contents E.contents terminal (S.may_find (S.content_of source.old)) request.now.task
+        S.Stream.remaining W.contents E.contents terminal (S.may_find (S.content_of source.old))
+        (S.may_not_write (S.content_of source.old)) (S.texts source.old) (S.texts source.new) request.now.task
         (plain_request request.now) out.old out.new err.old err.new result }
     ensures opens { OpensFiles S.content_of S.opened S.may_open S.may_refuse S.Stream.remaining S.may_find
         (way_of request.now.task) (plain_request request.now).list (plain_request request.now).files source.old source.new
@@ -189,8 +231,33 @@ fn run_on_many<S: Source + AllocGlobal, W: Write, E: Write>(
 {
     match request.task {
         Task::Fault => run_on_files::<Faults, S, W, E>(source, request, terminal, out, err),
-        Task::Duplicates => run_on_files::<Groups, S, W, E>(source, request, terminal, out, err),
+        Task::Duplicates => run_duplicates(source, request, terminal, out, err),
+        Task::Publish => run_publish(source, request, terminal, out, err),
         _ => run_on_files::<Table, S, W, E>(source, request, terminal, out, err),
+    }
+}
+
+/// The run of `cats duplicates`.
+fn run_duplicates<S: Source + AllocGlobal, W: Write, E: Write>(
+    source: &mut S,
+    request: &Request<'_>,
+    terminal: bool,
+    out: &mut Watched<W>,
+    err: &mut Watched<E>,
+) -> Result<u8, RunFault>
+    requires { has_failed out.old ≡ false }
+    ensures runs { RunsOfDuplicates (S.may_open (S.content_of source.old)) (S.may_refuse (S.content_of source.old))
+        S.Stream.remaining W.contents E.contents terminal (S.may_find (S.content_of source.old))
+        (S.may_not_write (S.content_of source.old)) (S.texts source.old) (S.texts source.new) request.now.table
+        (plain_request request.now) out.old out.new err.old err.new result }
+    ensures opens { OpensFiles S.content_of S.opened S.may_open S.may_refuse S.Stream.remaining S.may_find
+        (way_of request.now.task) (plain_request request.now).list (plain_request request.now).files source.old source.new
+        (status_of_run result) }
+{
+    if request.table {
+        run_on_files::<GroupTable, S, W, E>(source, request, terminal, out, err)
+    } else {
+        run_on_files::<Groups, S, W, E>(source, request, terminal, out, err)
     }
 }
 
@@ -246,7 +313,7 @@ pub(crate) fn way_of(task: Task) -> Way
     ensures { result ≡ way_of task }
 {
     match task {
-        Task::Duplicates | Task::Sizes => Way::Regular,
+        Task::Duplicates | Task::Sizes | Task::Publish => Way::Regular,
         _ if gives_reason(task) => Way::NoFolder,
         _ => Way::Anything,
     }

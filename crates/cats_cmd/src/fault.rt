@@ -5,14 +5,15 @@ ghost use Rattle.cats_text.specs.Views.{plain_place};
 ghost use Rattle.cats_cmd.specs.FindingFaults.{is_placed, text_of_fault};
 
 use crate::escaping::escaped;
-use crate::paths::{Collection, Ending, ManyFiles, report_if_refused};
+use crate::paths::{Added, Collection, ManyFiles, report_if_refused};
 use crate::priced_input::PricedInput;
+use crate::source::Source;
 use canon::CanonFault;
 use cats_text::fault_place::{FaultPlace, place_of_fault};
 use cats_text::{ReadFault, Watched};
 use commands::fault::{column_of, fault_place_text, place_in, shown_word};
 use commands::faults::{RunFault, Unopened};
-use std::alloc::{AllocError, Global};
+use std::alloc::{AllocError, AllocGlobal, Global};
 use std::io::{Read, Write};
 
 /// What is printed of the files so far.
@@ -21,31 +22,22 @@ pub(crate) struct Faults {
     text: Vec<u8>,
 }
 
-impl Collection for Faults {
-    ghost use Rattle.std.specs.Prelude.{◌≡◌, None};
-    ghost use Rattle.cats_cmd.specs.FindingFaults.{MakesFaults, faults_text, unplaced_lines};
+impl Faults {
+    ghost use Rattle.std.specs.Prelude.{IfOk, None};
+    ghost use Rattle.cats_cmd.specs.Internal.Judging.{AddsStream, KeepsFaults};
+    ghost use Rattle.cats_cmd.specs.PricedInputs.{IsReady, JudgesPriced};
 
-    ghost searched = { λ options. None };
-
-    ghost has = { λ ending faults judgements. faults.text.items ≡ faults_text judgements };
-
-    ghost Makes = { λ ending all. MakesFaults };
-
-    ghost refusals = { unplaced_lines };
-
-    fn none(alloc: Global) -> Faults {
-        Faults {
-            text: Vec::new(alloc),
-        }
-    }
-
-    fn add<R: Read>(
+    /// Adds the file at a path, and answers its fault.
+    fn add_file<R: Read>(
         &mut self,
         alloc: Global,
         path: &[u8],
         input: &mut PricedInput<R>,
-        _many: ManyFiles,
-    ) -> Result<Option<RunFault>, AllocError> {
+    ) -> Result<Option<RunFault>, AllocError>
+        requires { IsReady input.old }
+        ensures { IfOk result (AddsStream KeepsFaults (JudgesPriced R.remaining None) path.now self.old self.new input.old
+            input.new) }
+    {
         let texts = match input.read_texts(alloc) {
             Ok(texts) => texts,
             Err(fault) => return Ok(Some(RunFault::from(CanonFault::from(fault)))),
@@ -59,16 +51,53 @@ impl Collection for Faults {
             kind: place.kind,
         }))))
     }
+}
+
+impl Collection for Faults {
+    ghost use Rattle.std.specs.Prelude.{None};
+    ghost use Rattle.cats_cmd.specs.FindingFaults.{MakesFaults, unplaced_lines};
+    ghost use Rattle.cats_cmd.specs.Internal.Judging.{KeepsFaults};
+    ghost use Rattle.cats_cmd.specs.Paths.{PrintsNothing, PrintsOnly};
+
+    ghost searched = { λ options. None };
+
+    ghost keeps = { KeepsFaults };
+
+    ghost Shows = { λ many. PrintsNothing };
+
+    ghost Makes = { λ many. PrintsOnly MakesFaults };
+
+    ghost refusals = { unplaced_lines };
+
+    fn begin(alloc: Global, _many: ManyFiles<'_>) -> Result<(Faults, Vec<u8>), AllocError> {
+        let faults = Faults {
+            text: Vec::new(alloc),
+        };
+        Ok((faults, Vec::new(alloc)))
+    }
+
+    fn add<S: Source + AllocGlobal>(
+        &mut self,
+        source: &mut S,
+        path: &[u8],
+        input: &mut PricedInput<S::Stream>,
+        _many: ManyFiles<'_>,
+    ) -> Result<Added, AllocError> {
+        let alloc = source.alloc();
+        let fault = self.add_file(alloc, path, input)?;
+        let text = Vec::new(alloc);
+        Ok(Added { fault, text })
+    }
 
     /// It has no text.
     fn add_unopened(
         &mut self,
-        _alloc: Global,
+        alloc: Global,
         _path: &[u8],
         _why: Unopened,
-        _ending: Ending,
-    ) -> Result<(), AllocError> {
-        Ok(())
+        _many: ManyFiles<'_>,
+    ) -> Result<Vec<u8>, AllocError> {
+        Ok(Vec::new(alloc))
     }
 
     fn report_refusal<E: Write>(path: &[u8], fault: &Option<RunFault>, err: &mut Watched<E>) {
@@ -77,7 +106,7 @@ impl Collection for Faults {
         }
     }
 
-    fn text(&self, alloc: Global, _many: ManyFiles) -> Result<Vec<u8>, AllocError> {
+    fn end(&self, alloc: Global, _many: ManyFiles<'_>) -> Result<Vec<u8>, AllocError> {
         Vec::from_slice(alloc, self.text.as_slice())
     }
 }

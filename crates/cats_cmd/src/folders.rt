@@ -26,7 +26,7 @@ pub(crate) fn files_at<S: Source>(
 }
 
 /// The files below the folder at a path, if there is one.
-fn find_at<S: Source>(
+pub(crate) fn find_at<S: Source>(
     source: &S,
     alloc: Global,
     path: &[u8],

@@ -1,8 +1,11 @@
 //! Laws of what the runs read and print.
 
-ghost use Rattle.std.specs.List.{All, flat_map};
-ghost use Rattle.std.specs.Prelude.{◌≡◌, ◌==◌, ◌*◌, ℕ, Bool, List, None, Ok, map, false};
-ghost use Rattle.bid_file.specs.Files.{PlainFile};
+ghost use Rattle.std.specs.List.{All, AllByRecursion, flat_map};
+ghost use Rattle.cats_cmd.specs.ComparedFolders.{ArePathsBelow, ComparedPath, FoundFolders, IsIn, IsSameBelow, IsSameRow};
+ghost use Rattle.cats_cmd.specs.ComparedFolders.{JudgesRow, status_of_rows};
+ghost use Rattle.std.specs.Prelude.{◌≡◌, ◌⊎◌, ◌==◌, ◌*◌, ◌+◌, ◌↔◌, ℕ, Bool, List, [], None, Ok, Some, map, false, slice_get};
+ghost use Rattle.std.specs.Prelude.{is_some, true};
+ghost use Rattle.bid_file.specs.Files.{IsPlainFile, PlainFile};
 ghost use Rattle.cats_text.specs.FaultPlaces.{PlainPlace};
 ghost use Rattle.requests.specs.Requests.{PlainRequest};
 ghost use Rattle.analysis.specs.AllocationVerdicts.{allocation_text};
@@ -27,6 +30,16 @@ ghost use Rattle.cats_cmd.specs.OutputPaths.{IsPath, groups_in, paths_in_table};
 ghost use Rattle.cats_cmd.specs.PathLists.{listed, paths_in};
 ghost use Rattle.cats_cmd.specs.Paths.{JudgedPath, progress_line, refusal_line, report_lines};
 ghost use Rattle.cats_cmd.specs.Paths.{without_refusals};
+ghost use Rattle.cats_cmd.specs.Folders.{AreFilesAt};
+ghost use Rattle.cats_cmd.specs.TextPaths.{AreTextPlaces, PlacedText};
+ghost use Rattle.canon.specs.Canonical.{canonical_text};
+ghost use Rattle.cats_cmd.specs.Duplicates.{judged_files};
+ghost use Rattle.cats_cmd.specs.Publishing.{HasSameText, same_as, attempt_if};
+ghost use Rattle.canon.specs.Sameness.{AreSameFiles};
+ghost use Rattle.canon.specs.Unsearched.{AreAlike};
+ghost use Rattle.cats_cmd.specs.DuplicatesTables.{FileGroup, MakesGroupTable, first_path, group_of, groups_among, key_of};
+ghost use Rattle.commands.specs.declared.faults.HeavyBid.{HeavyBid};
+ghost use Rattle.commands.specs.Judgements.{IsHeavy, IsJudged, IsPublished, Publishing};
 ghost use Rattle.cats_cmd.specs.PricedInputs.{PricedGives, PricedRefuses, none_rounded, rounding_lines};
 ghost use Rattle.cats_cmd.specs.declared.priced_input.PricedInput.{PricedInput};
 ghost use Rattle.cats_cmd.specs.SizesTables.{MakesTable};
@@ -41,6 +54,7 @@ ghost use Rattle.commands.specs.FaultLines.{line_of_fault};
 ghost use Rattle.commands.specs.Judgements.{Judgement, JudgesInput};
 ghost use Rattle.commands.specs.declared.faults.RunFault.{RunFault};
 
+use crate::source::Source;
 use commands::Input;
 use std::io::Read;
 
@@ -59,7 +73,7 @@ pub fn escaped_path_is_read_back()
 {}
 
 /// Beside bid files, what the program prints of faults and paths is characters that are printable, tabs and line feeds:
-/// the lines of faults, those that name a path, the groups of `cats duplicates`, and the table of `cats sizes`.
+/// the lines of faults, those that name a path, the groups of `cats duplicates` and its table, and that of `cats sizes`.
 pub fn printed_lines_are_shown()
     ensures faults { (error : RunFault) → IsTextOf is_shown (line_of_fault error) }
     ensures refusals { (path : List ℕ) (error : RunFault) → AreBytes path → IsTextOf is_shown (refusal_line path error) }
@@ -69,6 +83,8 @@ pub fn printed_lines_are_shown()
         → All (λ f. AreBytes f.0) heavy → IsTextOf is_shown (duplicates_text Line all judged heavy) }
     ensures tables { (judgements : List (List ℕ × Judgement)) (text : List ℕ) → All (λ j. AreBytes j.0) judgements
         → MakesTable Line judgements text → IsTextOf is_shown text }
+    ensures group_tables { (judgements : List (List ℕ × Judgement)) (text : List ℕ) → All (λ j. AreBytes j.0) judgements
+        → MakesGroupTable Line judgements text → IsTextOf is_shown text }
 {}
 
 /// So is what the commands on one or two files print, and `cats fault`.
@@ -108,11 +124,57 @@ pub fn table_paths_are_read_back()
         → paths_in_table ending text ≡ map (λ j. j.0) judgements }
 {}
 
+/// In the table of `cats duplicates --table` files are in one group exactly if they are judged ones that are the same
+/// auction, or ones that a step limit refused and that are alike.
+pub fn groups_are_auctions()
+    ensures judged { (groups : List FileGroup) (group : FileGroup) (file other : PlainFile) → IsPlainFile file
+        → IsPlainFile other → group_of groups (IsJudged file) ≡ Some group
+        → (group_of groups (IsJudged other) ≡ Some group ↔ AreSameFiles file other) }
+    ensures refused { (groups : List FileGroup) (group : FileGroup) (file other : PlainFile) (heavy bid : HeavyBid)
+        → IsPlainFile file → IsPlainFile other → group_of groups (IsHeavy file heavy) ≡ Some group
+        → (group_of groups (IsHeavy other bid) ≡ Some group ↔ AreAlike file other) }
+    ensures apart { (groups : List FileGroup) (group : FileGroup) (file other : PlainFile) (heavy : HeavyBid)
+        → group_of groups (IsJudged file) ≡ Some group → group_of groups (IsHeavy other heavy) ≡ Some group → ⊥ }
+{}
+
+/// Its groups are numbered from 1, each has the path of the first of its files, and each file that was read is in one.
+pub fn groups_have_first_files()
+    ensures numbers { (judgements : List (List ℕ × Judgement)) (index : ℕ) (group : FileGroup)
+        → slice_get (groups_among judgements) index ≡ Some group → group.number ≡ index + 1 }
+    ensures firsts { (judgements : List (List ℕ × Judgement)) (judgement : Judgement) (group : FileGroup)
+        → group_of (groups_among judgements) judgement ≡ Some group
+        → first_path judgements judgement ≡ Some group.first }
+    ensures each { (judgements : List (List ℕ × Judgement)) → All (λ j. is_some (key_of j.1) ≡ true
+        → is_some (group_of (groups_among judgements) j.1) ≡ true) judgements }
+{}
+
 /// Of files, `cats sizes` reports without `--progress` only how many of their prices were rounded: its table says why a
 /// file was not judged.
 pub fn tables_report_roundings()
     ensures { (count : ℕ) (judged : List JudgedPath) → report_lines (without_refusals Silent) count judged
         ≡ flat_map (λ j. rounding_lines j.path j.rounded) judged }
+{}
+
+/// The file that a row names in `same_as` has the text of the row's file.
+pub fn same_as_has_the_text()
+    ensures { (before : List (List ℕ × Judgement)) (file : PlainFile) (path : List ℕ) → same_as before file ≡ Some path
+        → HasSameText before file path }
+{}
+
+/// Without `--all` no text is written for a file if one before it has the same text: two rows with a text are different
+/// auctions.
+pub fn texts_are_of_different_auctions()
+    ensures { (folder : List ℕ) (places : List PlacedText) (before : List (List ℕ × Judgement)) (file other : PlainFile)
+        (publishing : Publishing) (number : ℕ) → slice_get (judged_files before) number ≡ Some other
+        → canonical_text other ≡ canonical_text file
+        → attempt_if folder false places before (IsPublished file publishing) ≡ [] }
+{}
+
+/// The files whose texts are placed are those of a run on many files.
+pub fn placed_files_are_those_of_a_run<S: Source>()
+    ensures { (source : S) (paths : List (List ℕ)) (places : List PlacedText)
+        → AreTextPlaces (S.may_find (S.content_of source)) paths places
+        → AreFilesAt (S.may_find (S.content_of source)) paths (map (λ p. p.file) places) }
 {}
 
 /// No price of a file is rounded whose prices are read as they are written.
@@ -133,4 +195,18 @@ pub fn values_are_multiplied()
     ensures revenue { (n : ℕ) (f : PlainFile) (winners : List ℕ)
         → revenue (times_file n f) winners ≡ n * revenue f winners }
     ensures greatest { (n : ℕ) (f : PlainFile) → greatest_revenue (times_file n f) ≡ n * greatest_revenue f }
+{}
+
+/// Of two folders `cats compare` ends with 0 exactly if all files are the same auction, and no report on prices is lost.
+/// Then each path below one of them is below the other too, and the files there are the same auction.
+pub fn same_folders_are_the_same_auctions<S: Source>()
+    ensures status { (rows : List ComparedPath) → status_of_rows rows ≡ 0 → AllByRecursion IsSameRow rows }
+    ensures rows { (rows : List ComparedPath) → AllByRecursion IsSameRow rows → status_of_rows rows ≡ 0 }
+    ensures auctions { (source : S) (request : PlainRequest) (folders : FoundFolders) (rows : List ComparedPath)
+        → ArePathsBelow folders (map (λ r. r.path) rows)
+        → AllByRecursion (JudgesRow (S.may_open (S.content_of source)) (S.may_refuse (S.content_of source))
+        S.Stream.remaining request folders) rows → status_of_rows rows ≡ 0
+        → (path : List ℕ) → IsIn folders.left path ⊎ IsIn folders.right path
+        → IsSameBelow (S.may_open (S.content_of source)) (S.may_refuse (S.content_of source)) S.Stream.remaining request
+        folders path }
 {}

@@ -4,6 +4,7 @@
 mod bid_list;
 mod bytes;
 mod carrying_out;
+mod compare_folders;
 mod duplicates;
 mod escaping;
 mod fault;
@@ -17,13 +18,17 @@ mod path_list;
 mod paths;
 mod priced_input;
 pub mod program;
+mod publish;
+mod publishing;
 mod round;
 mod run;
 mod sizes;
 pub mod source;
+mod text_paths;
 mod two_files;
 mod usage;
 pub mod worked;
+mod writing;
 
 pub use canon::{CanonFault, Which};
 pub use commands::faults::RunFault;

@@ -10,6 +10,7 @@ ghost use Rattle.cats_cmd.specs.Paths.{RunsOnPaths, refusal_line};
 ghost use Rattle.cats_cmd.specs.Requests.{RunsOnMany};
 ghost use Rattle.requests.specs.Requests.{plain_request, texts_of};
 ghost use Rattle.cats_cmd.specs.Reports.{Reports};
+ghost use Rattle.cats_cmd.specs.Stores.{WritesEach};
 ghost use Rattle.cats_cmd.specs.declared.source.Way.TheVariants.{NoFolder};
 ghost use Rattle.commands.specs.Statuses.{status_of_fault};
 
@@ -40,7 +41,9 @@ pub(crate) fn run_on_files<C: Collection, S: Source + AllocGlobal, W: Write, E: 
     requires { has_failed out.old ≡ false }
     ensures runs { RunsOnMany (S.may_open (S.content_of source.old)) (S.may_refuse (S.content_of source.old))
         S.Stream.remaining W.contents E.contents terminal (S.may_find (S.content_of source.old))
-        (C.searched request.now.options) (λ ending. C.Makes ending request.now.all)
+        (S.may_not_write (S.content_of source.old)) (S.texts source.old) (S.texts source.new)
+        (C.searched (plain_request request.now).options) (C.Shows (many_files terminal (plain_request request.now)))
+        (C.Makes (many_files terminal (plain_request request.now)))
         (λ progress. record { refusals = C.refusals; progress = progress }) (plain_request request.now) out.old out.new
         err.old err.new result }
     ensures opens { OpensFiles S.content_of S.opened S.may_open S.may_refuse S.Stream.remaining S.may_find
@@ -65,18 +68,20 @@ pub(crate) fn run_on_files<C: Collection, S: Source + AllocGlobal, W: Write, E: 
 fn run_at_paths<C: Collection, S: Source + AllocGlobal, W: Write, E: Write>(
     source: &mut S,
     paths: &[&[u8]],
-    many: ManyFiles,
+    many: ManyFiles<'_>,
     out: &mut Watched<W>,
     err: &mut Watched<E>,
 ) -> Result<u8, RunFault>
     requires { has_failed out.old ≡ false }
-    ensures runs { RunsAtPaths (S.may_find (S.content_of source.old)) (λ files. RunsOnPaths
+    ensures runs { RunsAtPaths (WritesEach (S.may_not_write (S.content_of source.old)) (S.texts source.old)
+        (S.texts source.new)) (S.may_find (S.content_of source.old)) (λ files. RunsOnPaths
         (S.may_open (S.content_of source.old)) (S.may_refuse (S.content_of source.old)) S.Stream.remaining W.contents
-        E.contents (C.searched many.options) many.prices (C.Makes many.ending many.all) files
-        (record { refusals = C.refusals; progress = many.progress })) (map (λ path. path.now) paths.now) out.old out.new
-        err.old err.new result }
-    ensures opens { OpensAtPaths S.content_of S.opened S.may_find many.way (map (λ path. path.now) paths.now) source.old
-        source.new (status_of_run result) }
+        E.contents (C.searched many.entry.options) many.entry.prices (C.Shows many.entry)
+        (WritesEach (S.may_not_write (S.content_of source.old)) (S.texts source.old) (S.texts source.new)) files
+        (record { refusals = C.refusals; progress = many.entry.progress }) (C.Makes many.entry))
+        (map (λ path. path.now) paths.now) out.old out.new err.old err.new result }
+    ensures opens { OpensAtPaths S.content_of S.opened S.may_find many.entry.way (map (λ path. path.now) paths.now)
+        source.old source.new (status_of_run result) }
 {
     let found = files_at(&*source, source.alloc(), paths)?;
     let files = slices(source.alloc(), found.as_slice())?;
@@ -84,7 +89,7 @@ fn run_at_paths<C: Collection, S: Source + AllocGlobal, W: Write, E: Write>(
 }
 
 /// Words as paths.
-fn paths_of<'a>(alloc: Global, words: &[&'a str]) -> Result<Vec<&'a [u8]>, AllocError>
+pub(crate) fn paths_of<'a>(alloc: Global, words: &[&'a str]) -> Result<Vec<&'a [u8]>, AllocError>
     ensures { IfOk result (λ paths. map (λ path. path.now) paths.items ≡ texts_of words.now) }
 {
     let mut paths = Vec::with_capacity(alloc, words.len())?;
@@ -95,7 +100,7 @@ fn paths_of<'a>(alloc: Global, words: &[&'a str]) -> Result<Vec<&'a [u8]>, Alloc
 }
 
 /// How a run on many files reads them and reports.
-fn many_files(request: &Request<'_>, terminal: bool) -> ManyFiles
+pub(crate) fn many_files<'a>(request: &Request<'_>, terminal: bool) -> ManyFiles<'a>
     ensures { result ≡ many_files terminal (plain_request request.now) }
 {
     let ending = if request.null {
@@ -115,6 +120,7 @@ fn many_files(request: &Request<'_>, terminal: bool) -> ManyFiles
         prices: request.prices,
         all: request.all,
         way: way_of(request.task),
+        target: None,
     }
 }
 
@@ -128,6 +134,7 @@ pub(crate) fn read_list<S: Source + AllocGlobal>(
     ensures unread { IfErr result (IsUnread (S.may_open (S.content_of source.old)) (S.may_refuse (S.content_of source.old))
         S.Stream.remaining list.now) }
     ensures opens { Opens S.content_of S.opened source.old source.new ((list.now, NoFolder) ∷ []) }
+    ensures unwritten { S.texts source.new ≡ S.texts source.old }
 {
     let mut input = match open_file(source, list) {
         Ok(input) => input,

@@ -1,8 +1,10 @@
 //! The program `cats`, but for its process. It has a command line, two output streams and an exit status.
 
-ghost use Rattle.std.specs.Prelude.{◌≡◌, ◌≢◌, ◌≤◌, false};
+ghost use Rattle.std.specs.Prelude.{◌≡◌, ◌≢◌, ◌≤◌, ◌⊎◌, None, false};
 ghost use Rattle.cats_text.specs.Streams.{has_failed};
-ghost use Rattle.cats_cmd.specs.Requests.{AnswersLine, AnswersNoRequest, AnswersRequest, line_of_failure, path_of};
+ghost use Rattle.cats_cmd.specs.ComparedFolders.{ComparesFolders};
+ghost use Rattle.cats_cmd.specs.Requests.{AnswersLine, AnswersNoRequest, AnswersRequest, NamesFolders, line_of_failure};
+ghost use Rattle.cats_cmd.specs.Requests.{path_of};
 ghost use Rattle.cats_cmd.specs.Openings.{OpensFor, OpensLine};
 ghost use Rattle.requests.specs.Requests.{plain_request, texts_of};
 ghost use Rattle.cats_cmd.specs.Reports.{Reports, is_for_many_files, is_reporting, names_many_files, names_reporting};
@@ -51,9 +53,10 @@ pub fn run_cats<F: Files + AllocGlobal, W: Write, E: Write>(
     requires out_works { has_failed out.old ≡ false }
     requires err_works { has_failed err.old ≡ false }
     ensures answers { AnswersLine (λ path stream. Unit {0}) (λ path why. Unit {0}) F.File.remaining W.contents E.contents
-        false (λ path found. Unit {0}) (texts_of words.now) out.old out.new err.old err.new result }
+        false (λ path found. Unit {0}) (λ path why. Unit {0}) None None (texts_of words.now) out.old out.new err.old err.new
+        result }
     ensures silent { names_many_files (texts_of words.now) ≡ false → result ≢ 0 → result ≢ 1 → result ≢ 5
-        → out.new ≡ out.old }
+        → (out.new ≡ out.old) ⊎ NamesFolders (λ path found. Unit {0}) (texts_of words.now) }
     ensures done { names_reporting (texts_of words.now) ≡ false → result ≤ 1 → err.new ≡ err.old }
 {
     let process = Process {
@@ -80,11 +83,12 @@ pub fn run_program<S: Source + AllocGlobal, W: Write, E: Write>(
     requires err_works { has_failed err.old ≡ false }
     ensures answers { AnswersLine (S.may_open (S.content_of source.old)) (S.may_refuse (S.content_of source.old))
         S.Stream.remaining W.contents E.contents process.now.terminal (S.may_find (S.content_of source.old))
-        (texts_of words.now) out.old out.new err.old err.new result }
+        (S.may_not_write (S.content_of source.old)) (S.texts source.old) (S.texts source.new) (texts_of words.now)
+        out.old out.new err.old err.new result }
     ensures opens { OpensLine S.content_of S.opened S.may_open S.may_refuse S.Stream.remaining S.may_find
         (texts_of words.now) source.old source.new result }
     ensures silent { names_many_files (texts_of words.now) ≡ false → result ≢ 0 → result ≢ 1 → result ≢ 5
-        → out.new ≡ out.old }
+        → (out.new ≡ out.old) ⊎ NamesFolders (S.may_find (S.content_of source.old)) (texts_of words.now) }
     ensures done { names_reporting (texts_of words.now) ≡ false → result ≤ 1 → err.new ≡ err.old }
 {
     match parse(source.alloc(), process.version, process.help, words) {
@@ -107,12 +111,13 @@ pub fn answer_request<S: Source + AllocGlobal, W: Write, E: Write>(
 ) -> u8
     requires out_works { has_failed out.old ≡ false }
     ensures answers { AnswersRequest (S.may_open (S.content_of source.old)) (S.may_refuse (S.content_of source.old))
-        S.Stream.remaining W.contents E.contents terminal (S.may_find (S.content_of source.old)) (plain_request request.now)
+        S.Stream.remaining W.contents E.contents terminal (S.may_find (S.content_of source.old))
+        (S.may_not_write (S.content_of source.old)) (S.texts source.old) (S.texts source.new) (plain_request request.now)
         out.old out.new err.old err.new result }
     ensures opens { OpensFor S.content_of S.opened S.may_open S.may_refuse S.Stream.remaining S.may_find
         (plain_request request.now) source.old source.new result }
     ensures silent { is_for_many_files (plain_request request.now) ≡ false → result ≢ 0 → result ≢ 1 → result ≢ 5
-        → out.new ≡ out.old }
+        → (out.new ≡ out.old) ⊎ ComparesFolders (S.may_find (S.content_of source.old)) (plain_request request.now) }
     ensures done { is_reporting (plain_request request.now) ≡ false → result ≤ 1 → err.new ≡ err.old }
 {
     match carry_out(source, request, out, err, terminal) {

@@ -56,10 +56,10 @@ pub(crate) fn misuse_text(misuse: Misuse) -> &'static str
             "error: a number has digits alone, and no sign\n\nFor more information, try '--help'.\n"
         }
         Misuse::MoreThanOneFile => {
-            "error: this command takes one file; 'cats fault', 'cats duplicates' and 'cats sizes' take several\n\nFor more information, try '--help'.\n"
+            "error: this command takes one file; 'cats fault', 'cats duplicates', 'cats sizes' and 'cats publish' take several\n\nFor more information, try '--help'.\n"
         }
         Misuse::MoreThanTwoFiles => {
-            "error: this command takes two files; 'cats fault', 'cats duplicates' and 'cats sizes' take several\n\nFor more information, try '--help'.\n"
+            "error: this command takes two files; 'cats fault', 'cats duplicates', 'cats sizes' and 'cats publish' take several\n\nFor more information, try '--help'.\n"
         }
         Misuse::BidsTwice => {
             "error: give bids, or '--bids <LIST>', and not both\n\nFor more information, try '--help'.\n"

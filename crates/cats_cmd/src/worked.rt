@@ -1,21 +1,25 @@
 //! Worked examples of what the runs print. The prover computes them.
 
-ghost use Rattle.std.specs.Prelude.{◌≡◌, ℕ, [], ◌∷◌, map, codes, Vec, Ok, Err, Some, None, true, false};
+ghost use Rattle.std.specs.Prelude.{◌≡◌, ◌++◌, ℕ, [], ◌∷◌, map, codes, Vec, Ok, Err, Some, None, true, false};
 ghost use Rattle.std.specs.Global.{Global};
+ghost use Rattle.bid_file.specs.Files.{PlainFile};
 ghost use Rattle.cats_text.specs.declared.read_fault.Kind.TheVariants.{TooFine, TwoDummies};
 ghost use Rattle.commands.specs.Examples.{larger_bid, xor_ladder};
 ghost use Rattle.commands.specs.Outcomes.{Prints};
 ghost use Rattle.cats_text.specs.Examples.{known, watched};
+ghost use Rattle.cats_cmd.specs.ComparedFolders.{compared_path, compared_table, opened_at, status_of_rows};
+ghost use Rattle.cats_cmd.specs.declared.compare_folders.PathVerdict.TheVariants.{Different, Left, Right, Same, Unjudged};
 ghost use Rattle.cats_cmd.specs.DuplicateTexts.{duplicates_text};
 ghost use Rattle.cats_cmd.specs.Escaping.{escaped};
 ghost use Rattle.cats_cmd.specs.Duplicates.{heavy_paths, judged_paths};
 ghost use Rattle.cats_cmd.specs.Folders.{ListsFolder, files_at, with_slash};
+ghost use Rattle.cats_cmd.specs.TextPaths.{Collides, leads_below, own_name, text_places_at};
 ghost use Rattle.cats_cmd.specs.Opening.{with_openings};
 ghost use Rattle.std.specs.List.{flat_map};
 ghost use Rattle.cats_cmd.specs.PathLists.{paths_in};
 ghost use Rattle.cats_cmd.specs.declared.paths.Ending.TheVariants.{Line, Null};
 ghost use Rattle.cats_cmd.specs.declared.paths.Progress.TheVariants.{Silent, Lines, Terminal};
-ghost use Rattle.cats_cmd.specs.Paths.{greatest_status, judged_path, progress_lines};
+ghost use Rattle.cats_cmd.specs.Paths.{greatest_status, judged_path};
 ghost use Rattle.cats_cmd.specs.Paths.{ReportsFrom, report_lines, status_of_path};
 ghost use Rattle.cats_cmd.specs.Paths.{with_refusals, without_refusals};
 ghost use Rattle.commands.specs.Sizes.{counts_of, sizes_of};
@@ -31,33 +35,38 @@ ghost use Rattle.cats_cmd.specs.Reports.{Reports, answer_if_lost, is_lost};
 ghost use Rattle.commands.specs.declared.faults.Unopened.TheVariants.{NoSuchFile};
 ghost use Rattle.commands.specs.declared.faults.Unopened.TheVariants.{Other};
 ghost use Rattle.cats_cmd.specs.declared.source.Way.TheVariants.{Anything, NoFolder, Regular};
-ghost use Rattle.canon.specs.declared.which.Which.TheVariants.{Only};
+ghost use Rattle.canon.specs.declared.which.Which.TheVariants.{First, Only, Second};
 ghost use Rattle.canon.specs.declared.canon_fault.CanonFault.TheVariants.{Read, Memory};
+ghost use Rattle.commands.specs.declared.faults.Limit.TheVariants.{OfAll, OfEach};
 ghost use Rattle.commands.specs.declared.faults.RunFault.TheVariants.{Refused, Sent, NotOpened};
 ghost use Rattle.commands.specs.Judgements.{IsJudged, IsHeavy, IsUnjudged};
+ghost use Rattle.commands.specs.declared.faults.Unwritten.TheVariants.{Exists, NoSpace};
+ghost use Rattle.canon.specs.Canonical.{canonical_text};
+ghost use Rattle.cats_cmd.specs.Examples.{HasSizes, one_before, published, two_places};
+ghost use Rattle.cats_cmd.specs.Publishing.{IsForPublishing, attempt_if, attempts_behind, publish_row};
+ghost use Rattle.cats_cmd.specs.Stores.{texts_written};
 
-/// What `cats duplicates` reports of two paths: how many prices of each were rounded, then the reason for the one that was
-/// not judged, and, with progress, how many were read. On a terminal the line of progress is taken away before anything else
-/// is printed. Of 250 files that is reported after the hundredth, the two hundredth and the last.
+/// What `cats duplicates` reports of two paths: with progress, that each is read, how many prices of each were rounded, and
+/// the reason for the one that was not judged. On a terminal the line of progress is taken away before anything else is
+/// printed.
 pub fn paths_reported()
     ensures reason { report_lines (with_refusals Silent) 2 (judged_path (codes "a") (IsUnjudged (NotOpened Only NoSuchFile)) none_rounded ∷
         judged_path (codes "b") (IsJudged larger_bid) none_rounded ∷ [])
         ≡ codes "a: cannot open: no such file\n" ∷ [] }
     ensures progress { report_lines (with_refusals Lines) 2 (judged_path (codes "a") (IsUnjudged (NotOpened Only NoSuchFile)) none_rounded ∷
         judged_path (codes "b") (IsJudged larger_bid) none_rounded ∷ [])
-        ≡ codes "a: cannot open: no such file\n" ∷ codes "2 of 2 b\n" ∷ [] }
+        ≡ codes "1 of 2 a\n" ∷ codes "a: cannot open: no such file\n" ∷ codes "2 of 2 b\n" ∷ [] }
     ensures rounded { (goods : Vec ℕ Global) → goods.items ≡ 0 ∷ 1 ∷ 2 ∷ []
         → report_lines (with_refusals Lines) 2
-        (judged_path (codes "a") (IsHeavy larger_bid (record { number = 2; goods = goods; steps = 1000000; total = None })) (counted 1 0) ∷
+        (judged_path (codes "a") (IsHeavy larger_bid (record { number = 2; goods = goods; limit = OfEach 1000000 })) (counted 1 0) ∷
         judged_path (codes "b") (IsJudged larger_bid) (counted 1288 0) ∷ [])
-        ≡ codes "a: 1 price rounded\n" ∷ codes "a: step limit of 1000000 at bid 2: 0,1,2\n" ∷ codes "b: 1288 prices rounded\n"
-        ∷ codes "2 of 2 b\n" ∷ [] }
-    ensures counted { map (λ number. progress_lines Lines number 250 (codes "a")) (1 ∷ 99 ∷ 100 ∷ 200 ∷ 249 ∷ 250 ∷ [])
-        ≡ [] ∷ [] ∷ (codes "100 of 250 a\n" ∷ []) ∷ (codes "200 of 250 a\n" ∷ []) ∷ []
-        ∷ (codes "250 of 250 a\n" ∷ []) ∷ [] }
+        ≡ codes "1 of 2 a\n" ∷ codes "a: 1 price rounded\n" ∷ codes "a: step limit of 1000000 at bid 2: 0,1,2\n"
+        ∷ codes "2 of 2 b\n" ∷ codes "b: 1288 prices rounded\n" ∷ [] }
     ensures terminal { report_lines (with_refusals Terminal) 2 (judged_path (codes "a") (IsJudged larger_bid) none_rounded ∷
-        judged_path (codes "b") (IsUnjudged (NotOpened Only NoSuchFile)) none_rounded ∷ [])
-        ≡ codes "1 of 2\n" ∷ (27 ∷ 91 ∷ 65 ∷ 27 ∷ 91 ∷ 75 ∷ []) ∷ codes "b: cannot open: no such file\n" ∷ codes "2 of 2\n" ∷ [] }
+        judged_path (codes "b\n") (IsUnjudged (NotOpened Only NoSuchFile)) none_rounded ∷ [])
+        ≡ (27 ∷ codes "[?7l1 of 2 a" ++ 27 ∷ codes "[?7h\n") ∷ (27 ∷ 91 ∷ 65 ∷ 27 ∷ 91 ∷ 75 ∷ [])
+        ∷ (27 ∷ codes "[?7l2 of 2 b\\n" ++ 27 ∷ codes "[?7h\n") ∷ (27 ∷ 91 ∷ 65 ∷ 27 ∷ 91 ∷ 75 ∷ [])
+        ∷ codes "b\\n: cannot open: no such file\n" ∷ [] }
     ensures status { greatest_status (judged_path (codes "a") (IsUnjudged (NotOpened Only NoSuchFile)) none_rounded ∷
         judged_path (codes "b") (IsJudged larger_bid) none_rounded ∷ []) ≡ 5 }
     ensures lost { (goods : Vec ℕ Global) → map status_of_path (
@@ -65,7 +74,7 @@ pub fn paths_reported()
         record { path = codes "b"; judgement = IsJudged larger_bid; rounded = counted 1 0; lost = false } ∷
         record {
           path = codes "c";
-          judgement = IsHeavy larger_bid (record { number = 2; goods = goods; steps = 1; total = None });
+          judgement = IsHeavy larger_bid (record { number = 2; goods = goods; limit = OfEach 1 });
           rounded = counted 1 0;
           lost = true;
         } ∷ []) ≡ 5 ∷ 0 ∷ 3 ∷ [] }
@@ -73,7 +82,7 @@ pub fn paths_reported()
         ≡ codes "b" ∷ [] }
     ensures heavy { (goods : Vec ℕ Global) → heavy_paths ((codes "a", IsUnjudged (NotOpened Only NoSuchFile)) ∷
         (codes "b", IsJudged larger_bid) ∷
-        (codes "c", IsHeavy larger_bid (record { number = 2; goods = goods; steps = 1000000; total = None })) ∷ [])
+        (codes "c", IsHeavy larger_bid (record { number = 2; goods = goods; limit = OfEach 1000000 })) ∷ [])
         ≡ codes "c" ∷ [] }
 {}
 
@@ -128,8 +137,8 @@ pub fn table_rows()
     ensures no_bidders { counts_of larger_bid ≡ 3 ∷ 3 ∷ 0 ∷ [] }
     ensures header { MakesTable Line [] (codes "goods\tbids\tor_bids\txor_bidders\tdummies\tkept\tkept_or\tkept_xor\tfault\tfile\n") }
     ensures heavy { (goods : Vec ℕ Global) → goods.items ≡ 0 ∷ 1 ∷ 2 ∷ []
-        → row Line (codes "a b") (IsHeavy larger_bid (record { number = 2; goods = goods; steps = 1000000; total = Some 5000000 }))
-        ≡ codes "2\t3\t3\t0\t0\t\t\t\tstep limit of 1000000 (5000000 in all) at bid 2: 0,1,2\ta b\n" }
+        → row Line (codes "a b") (IsHeavy larger_bid (record { number = 2; goods = goods; limit = OfAll 5000000 }))
+        ≡ codes "2\t3\t3\t0\t0\t\t\t\ttotal step limit of 5000000 at bid 2: 0,1,2\ta b\n" }
     ensures refused { map (λ error. row Line (codes "a") (IsUnjudged error))
         (NotOpened Only NoSuchFile ∷ NotOpened Only Other ∷ Refused Only (Read (record { kind = TwoDummies; line = 7 }))
         ∷ Refused Only Memory ∷ []) ≡
@@ -137,7 +146,7 @@ pub fn table_rows()
         ∷ codes "\t\t\t\t\t\t\t\tline 7: TwoDummies\ta\n" ∷ codes "\t\t\t\t\t\t\t\twant of memory\ta\n" ∷ [] }
     ensures reported { report_lines (without_refusals Lines) 2
         (judged_path (codes "a") (IsUnjudged (NotOpened Only NoSuchFile)) none_rounded ∷ judged_path (codes "b") (IsJudged larger_bid) (counted 2 0) ∷ [])
-        ≡ codes "b: 2 prices rounded\n" ∷ codes "2 of 2 b\n" ∷ [] }
+        ≡ codes "1 of 2 a\n" ∷ codes "2 of 2 b\n" ∷ codes "b: 2 prices rounded\n" ∷ [] }
 {}
 
 /// What `cats round` makes of bytes.
@@ -157,17 +166,18 @@ pub fn reports_lost()
     ensures kept { map (answer_if_lost false) (Ok 0 ∷ Ok 1 ∷ []) ≡ Ok 0 ∷ Ok 1 ∷ [] }
 {}
 
-/// Standard error fails in the line on a file's price. Then that report is lost, and the line on progress is not sent.
+/// Standard error fails in the line on a file's price. Then that report is lost. It is not where the next file is named.
 pub fn report_of_path_lost()
     ensures lost { ReportsFrom known (with_refusals Lines) 1 1
         (record { path = codes "a"; judgement = IsJudged larger_bid; rounded = counted 1 0; lost = true } ∷ [])
-        (watched [] false false) (watched (codes "a: 1") true false) }
+        (watched [] false false) (watched (codes "1 of 1 a\na: 1") true false) }
     ensures kept { ReportsFrom known (with_refusals Lines) 1 1
         (record { path = codes "a"; judgement = IsJudged larger_bid; rounded = counted 1 0; lost = false } ∷ [])
-        (watched [] false false) (watched (codes "a: 1") true false) → ⊥ }
-    ensures later { ReportsFrom known (with_refusals Lines) 1 1
-        (record { path = codes "a"; judgement = IsJudged larger_bid; rounded = counted 1 0; lost = false } ∷ [])
-        (watched [] false false) (watched (codes "a: 1 price rounded\n1 of") true false) }
+        (watched [] false false) (watched (codes "1 of 1 a\na: 1") true false) → ⊥ }
+    ensures later { ReportsFrom known (with_refusals Lines) 2 1
+        (record { path = codes "a"; judgement = IsJudged larger_bid; rounded = counted 1 0; lost = false } ∷
+        record { path = codes "b"; judgement = IsJudged larger_bid; rounded = none_rounded; lost = false } ∷ [])
+        (watched [] false false) (watched (codes "1 of 2 a\na: 1 price rounded\n2 of") true false) }
 {}
 
 /// What is reported of a file of which no price was rounded, one, and more, and some to 0. A price that is written as 0 is
@@ -239,6 +249,24 @@ pub fn paths_opened()
     ensures unknown { with_openings None ((codes "b", Regular) ∷ []) ≡ None }
 {}
 
+/// Where texts are written: below a folder that is named the file's path, and else its own name. A path that leads out is
+/// refused, and so are two paths that are the same, or of which one is that of a folder in the other.
+pub fn texts_placed()
+    ensures names { map own_name (codes "a/b.txt" ∷ codes "b" ∷ codes "/x/y z\n" ∷ codes "a/" ∷ codes "a/.." ∷ [])
+        ≡ codes "b.txt" ∷ codes "b" ∷ codes "y z\n" ∷ [] ∷ codes ".." ∷ [] }
+    ensures places { flat_map text_places_at
+        (record { path = codes "d"; found = Some (codes "d/a/0.txt" ∷ codes "d/b/0.txt" ∷ []) }
+        ∷ record { path = codes "x/1.txt"; found = None } ∷ record { path = codes "e/"; found = Some (codes "e/2" ∷ []) } ∷ [])
+        ≡ record { file = codes "d/a/0.txt"; text = codes "a/0.txt" } ∷ record { file = codes "d/b/0.txt"; text = codes "b/0.txt" }
+        ∷ record { file = codes "x/1.txt"; text = codes "1.txt" } ∷ record { file = codes "e/2"; text = codes "2" } ∷ [] }
+    ensures below { map leads_below (codes "a" ∷ codes "a b/c\n" ∷ codes "..." ∷ codes "../a" ∷ codes "a/../b" ∷ codes "a//b" ∷ codes "."
+        ∷ codes "/a" ∷ [] ∷ [])
+        ≡ true ∷ true ∷ true ∷ false ∷ false ∷ false ∷ false ∷ false ∷ false ∷ [] }
+    ensures same { Collides (codes "a" ∷ codes "b" ∷ codes "a" ∷ []) 0 2 }
+    ensures folder { Collides (codes "a/b" ∷ codes "a" ∷ []) 1 0 }
+    ensures apart { Collides (codes "a-b" ∷ codes "a" ∷ []) 1 0 → ⊥ }
+{}
+
 /// The files at paths: a file itself, the files below a folder, and none of an empty folder. Below a folder the paths begin
 /// with its own, with a slash behind it unless it has one.
 pub fn folders_found()
@@ -251,4 +279,52 @@ pub fn folders_found()
     ensures unordered { ListsFolder (codes "f") (codes "f/a/b" ∷ codes "f/a.b" ∷ []) → ⊥ }
     ensures twice { ListsFolder (codes "f") (codes "f/a" ∷ codes "f/a" ∷ []) → ⊥ }
     ensures elsewhere { ListsFolder (codes "f") (codes "g/a" ∷ []) → ⊥ }
+{}
+
+/// The table of `cats compare` on two folders, its status, and the files that are opened: both of a path, or the first alone
+/// if it is refused, and none that is alone.
+pub fn folders_compared()
+    ensures rows { compared_table false (compared_path (codes "a") Same ∷ compared_path (codes "b/c") Different
+        ∷ compared_path (codes "d\te") Left ∷ compared_path (codes "f") Right ∷ [])
+        ≡ codes "file\tverdict\tfault\nb/c\tdifferent\t\nd\\te\tleft\t\nf\tright\t\n" }
+    ensures all { compared_table true (compared_path (codes "a") Same ∷ []) ≡ codes "file\tverdict\tfault\na\tsame\t\n" }
+    ensures fault { compared_table false (compared_path (codes "a") (Unjudged (NotOpened Second Other)) ∷ [])
+        ≡ codes "file\tverdict\tfault\na\t\tsecond: cannot open\n" }
+    ensures statuses { map status_of_rows ([] ∷ (compared_path (codes "a") Same ∷ [])
+        ∷ (compared_path (codes "a") Left ∷ compared_path (codes "b") Same ∷ []) ∷ (compared_path (codes "a") Right ∷ [])
+        ∷ (compared_path (codes "a") Different ∷ compared_path (codes "b") (Unjudged (NotOpened Second Other)) ∷ []) ∷ [])
+        ≡ 0 ∷ 0 ∷ 1 ∷ 1 ∷ 5 ∷ [] }
+    ensures opened { flat_map (λ verdict. opened_at (codes "1/a") (codes "2/a") verdict) (Same ∷ Left ∷ Right
+        ∷ Unjudged (NotOpened First Other) ∷ Unjudged (NotOpened Second Other) ∷ [])
+        ≡ codes "1/a" ∷ codes "2/a" ∷ codes "1/a" ∷ codes "1/a" ∷ codes "2/a" ∷ [] }
+{}
+
+/// The rows of `cats publish`, and the texts that were to be written: of a first file, of one that is the same auction, with
+/// `--all` too, of one whose text could not be written, and of files that were refused.
+pub fn files_published()
+    ensures first { (file : PlainFile) → HasSizes file 2 3 1
+        → publish_row (codes "out") false two_places [] (codes "x/a") (published file 0 0 None) ≡ codes "x/a\ta\t\t2\t3\t1\t0\t0\t\n" }
+    ensures unwritten { (file : PlainFile) → HasSizes file 2 3 1
+        → publish_row (codes "out") false two_places [] (codes "x/a") (published file 0 0 (Some NoSpace))
+        ≡ codes "x/a\t\t\t2\t3\t1\t0\t0\tcannot write: no space\n" }
+    ensures same { (file : PlainFile) → HasSizes file 2 3 1
+        → publish_row (codes "out") false two_places (one_before file) (codes "x\nb") (published file 5 4 None)
+        ≡ codes "x\\nb\t\tx/a\t2\t3\t1\t5\t4\t\n" }
+    ensures all { (file : PlainFile) → HasSizes file 2 3 1
+        → publish_row (codes "out") true two_places (one_before file) (codes "x/b") (published file 5 4 None)
+        ≡ codes "x/b\tb\tx/a\t2\t3\t1\t5\t4\t\n" }
+    ensures texts { (file : PlainFile) → attempts_behind (codes "out") false two_places [] (one_before file)
+        ≡ record { path = codes "out/a"; text = canonical_text file; unwritten = None } ∷ [] }
+    ensures unwanted { (file : PlainFile)
+        → attempt_if (codes "out") false two_places (one_before file) (published file 5 4 None) ≡ [] }
+    ensures no_reason { (file : PlainFile)
+        → IsForPublishing (codes "out") false two_places (one_before file) (published file 5 4 (Some NoSpace)) → ⊥ }
+    ensures unpublished { (file : PlainFile) → IsForPublishing (codes "out") false two_places [] (IsJudged file) → ⊥ }
+    ensures heavy { (goods : Vec ℕ Global) → goods.items ≡ 0 ∷ 1 ∷ 2 ∷ [] → publish_row [] false [] [] (codes "a")
+        (IsHeavy larger_bid (record { number = 2; goods = goods; limit = OfEach 1000000 }))
+        ≡ codes "a\t\t\t2\t3\t\t\t\tstep limit of 1000000 at bid 2: 0,1,2\n" }
+    ensures refused { publish_row [] false [] [] (codes "a") (IsUnjudged (NotOpened Only NoSuchFile))
+        ≡ codes "a\t\t\t\t\t\t\t\tcannot open: no such file\n" }
+    ensures written { texts_written (record { path = codes "a"; text = codes "b"; unwritten = Some Exists }
+        ∷ record { path = codes "c"; text = codes "d"; unwritten = None } ∷ []) ≡ (codes "c", codes "d") ∷ [] }
 {}

@@ -25,6 +25,9 @@ use Rattle.valuation.specs.declared.search.options.SearchOptions.{SearchOptions}
 
 -- ---- words
 
+abbrev pub folder : Rule
+folder = record (new_rule (codes "DIR")) { required = true }
+
 abbrev pub file : Rule
 file = record (new_rule (codes "FILE")) { required = true }
 
@@ -50,6 +53,10 @@ steps = record (option (codes "steps")) { defaults = codes "1000000" ∷ []; par
 -- the limit of all searches together is from 1 to 1,000,000,000,000; there is none if it is not given
 abbrev pub total_steps : Rule
 total_steps = record (option (codes "total-steps")) { parser = Some (Unsigned 1 1000000000000) }
+
+-- the same of a command that always uses the bounded search: it is 50,000,000 if it is not given
+abbrev pub usual_total_steps : Rule
+usual_total_steps = record total_steps { defaults = codes "50000000" ∷ [] }
 
 -- all prices are multiplied by a number from 1 to 1,000,000,000,000
 abbrev pub times : Rule
@@ -91,12 +98,15 @@ arguments_of row =
     ∷ (flag (codes "bound"), row.bound)
     ∷ (always_bound, is_always_bounded row)
     ∷ (steps, row.limits)
-    ∷ (total_steps, row.limits)
+    ∷ (total_steps, row.bound)
+    ∷ (usual_total_steps, is_always_bounded row)
     ∷ (flag (codes "progress"), is_many row.files)
     ∷ (null, row.null)
     ∷ (flag (codes "all"), row.all)
+    ∷ (flag (codes "table"), row.table)
     ∷ (option (codes "files0-from"), is_many row.files)
     ∷ (option (codes "bids"), row.bids)
+    ∷ (folder, row.folder)
     ∷ (words_from 1 (codes "FILE"), is_many row.files)
     ∷ (file, not (is_many row.files))
     ∷ (second_file, is_two row.files)

@@ -1,7 +1,7 @@
 -- What a command line requests, and what it is if it requests nothing.
 use Rattle.std.specs.Prelude.{◌≡◌, ◌==◌, ◌&&◌, ◌++◌, ℕ, Bool, true, false, not, All, List, [], ◌∷◌, filter, find}
 use Rattle.std.specs.Prelude.{Option, Some, None, Result, Err, codes, if◌then◌else◌, is_none, ok_or, option_map}
-use Rattle.std.specs.Prelude.{unwrap_or}
+use Rattle.std.specs.Prelude.{drop, slice_get, unwrap_or}
 use Rattle.std.specs.Option.{option_map_or}
 use Rattle.std.specs.List.{list_any, slice_split}
 use Rattle.std.specs.Result.{result_err, result_ok}
@@ -9,7 +9,7 @@ use Rattle.std.specs.Str.{bytes_eq}
 use Rattle.clap.specs.Faults.{fault_of}
 use Rattle.clap.specs.Kinds.{Kinds}
 use Rattle.clap.specs.Simple.{subcommand_of}
-use Rattle.clap.specs.Walk.{Row}
+use Rattle.clap.specs.Walk.{Row, first_of}
 use Rattle.clap.specs.declared.error.kind.ErrorKind.{ErrorKind}
 use Rattle.clap.specs.declared.error.kind.ErrorKind.TheVariants.{DisplayHelp, DisplayVersion}
 use Rattle.command_line.specs.Commands.{bids_in, cats, files_in, goods_in, has_signed_number, is_bounded, is_given}
@@ -65,6 +65,8 @@ request_in task rows = record {
   progress = is_set (codes "progress") rows;
   null = is_set (codes "null") rows;
   all = is_set (codes "all") rows;
+  table = is_set (codes "table") rows;
+  folder = first_of (codes "DIR") rows;
 }
 
 abbrev pub task_named : List ℕ → Option Task
@@ -127,17 +129,21 @@ is_wrong_usage answer = false
 
 -- how a command searches without an option
 --
--- Where a flag chooses the bounded search, it is the plain one.
+-- Where a flag chooses the bounded search, it is the plain one. Where it always is the bounded one, all searches of a
+-- file have a limit together.
 abbrev pub usual_options : Task → SearchOptions
 usual_options task = if list_any (bytes_eq (name_of task)) (names_with (λ row. row.bound)) then plain_options 1000000
-    else bounded_options (if list_any (bytes_eq (name_of task)) (names_with (λ row. row.limits)) then 1000000 else 0)
-    None
+    else if list_any (bytes_eq (name_of task)) (names_with (λ row. row.limits))
+    then bounded_options 1000000 (Some 50000000) else bounded_options 0 None
 
--- what is requested of a command with these files and no option
+abbrev pub takes_folder : Task → Bool
+takes_folder task = list_any (bytes_eq (name_of task)) (names_with (λ row. row.folder))
+
+-- what is requested of a command with these paths and no option; the first may be that of a folder for texts
 abbrev pub usual : Task → List (List ℕ) → PlainRequest
-usual task files = record {
+usual task paths = record {
   task = task;
-  files = files;
+  files = if takes_folder task then drop 1 paths else paths;
   list = None;
   goods = [];
   bids = [];
@@ -146,6 +152,8 @@ usual task files = record {
   progress = false;
   null = false;
   all = false;
+  table = false;
+  folder = if takes_folder task then slice_get paths 0 else None;
 }
 
 -- the request, unless this number begins with a sign

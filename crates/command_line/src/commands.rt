@@ -3,9 +3,10 @@
 ghost use Rattle.std.specs.Prelude.{◌≡◌, IfOk, false};
 ghost use Rattle.clap.specs.Simple.{new_app};
 ghost use Rattle.clap.specs.Words.{app_of, rule_of};
-ghost use Rattle.command_line.specs.Commands.{cats, file, flag, has_no_other_words, is_always_bounded};
+ghost use Rattle.command_line.specs.Commands.{cats, file, flag, folder, has_no_other_words, is_always_bounded};
 ghost use Rattle.requests.specs.Tasks.{is_many};
-ghost use Rattle.command_line.specs.Commands.{is_two, option, second_file, shape_of, steps, times, total_steps, words_from};
+ghost use Rattle.command_line.specs.Commands.{is_two, option, second_file, shape_of, steps, times, total_steps};
+ghost use Rattle.command_line.specs.Commands.{usual_total_steps, words_from};
 ghost use Rattle.command_line.specs.Internal.Matches.{has_globals, with_one};
 
 use crate::help::{argument_text, find_help};
@@ -14,6 +15,8 @@ use requests::help::CommandHelp;
 use requests::task::{Files, TASKS, TaskRow, name_of};
 use std::alloc::{AllocError, Global};
 
+/// The folder in which texts are written.
+pub(crate) const DIR: &str = "DIR";
 /// The one file, or the first of two, or many.
 pub(crate) const FILE: &str = "FILE";
 /// The second of two files.
@@ -42,6 +45,8 @@ pub(crate) const FILES0_FROM: &str = "files0-from";
 pub(crate) const BIDS: &str = "bids";
 /// The flag for the files too that are the only ones of their auction.
 pub(crate) const ALL: &str = "all";
+/// The flag for a table in the place of groups.
+pub(crate) const TABLE: &str = "table";
 /// The flag of `cats round` that refuses a price which would be rounded.
 pub(crate) const EXACT: &str = "exact";
 /// The option of `cats round` that multiplies prices.
@@ -59,6 +64,9 @@ const MAX_TOTAL_STEPS: i64 = 1_000_000_000_000;
 const MAX_TIMES: i64 = 1_000_000_000_000;
 /// The steps that a search may make if the command line names no limit.
 const DEFAULT_STEPS: &str = "1000000";
+/// The steps that all searches of a file may make together if the command line names no limit, of a command that always
+/// uses the bounded search.
+const DEFAULT_TOTAL_STEPS: &str = "50000000";
 
 /// The command of the program. `--version` prints this version after the program's name, and `--help` these texts.
 pub(crate) fn cats_command<'a>(
@@ -90,23 +98,24 @@ fn task_command<'a>(
     ensures local { IfOk result (λ command. has_globals command ≡ false) }
 {
     let many = is_many(row.files);
+    let bounded = is_always_bounded(row);
     let draft = Draft::new(alloc, name_of(row.task), help)
         .with(row.rounding, flag(alloc, ROUND))?
         .with(row.rounding, flag(alloc, ROUND_EXACT))?
         .with(row.exact, flag(alloc, EXACT))?
         .with(row.times, times(alloc))?
         .with(row.bound, flag(alloc, BOUND))?
-        .with(
-            is_always_bounded(row),
-            flag(alloc, ALWAYS_BOUND).long(BOUND),
-        )?
+        .with(bounded, flag(alloc, ALWAYS_BOUND).long(BOUND))?
         .with(row.limits, steps(alloc))?
-        .with(row.limits, total_steps(alloc))?
+        .with(row.bound, total_steps(alloc))?
+        .with(bounded, usual_total_steps(alloc))?
         .with(many, flag(alloc, PROGRESS))?
         .with(row.null, flag(alloc, NULL).short('0'))?
         .with(row.all, flag(alloc, ALL))?
+        .with(row.table, flag(alloc, TABLE))?
         .with(many, option(alloc, FILES0_FROM, "LIST"))?
         .with(row.bids, option(alloc, BIDS, "LIST"))?
+        .with(row.folder, folder(alloc))?
         .with(many, words_from(alloc, 1, FILE))?
         .with(!many, file(alloc))?
         .with(is_two(row.files), second_file(alloc))?
@@ -187,6 +196,13 @@ impl<'a, 'h> Draft<'a, 'h> {
     }
 }
 
+fn folder<'a>(alloc: Global) -> Arg<'a>
+    ensures rule { rule_of result ≡ folder }
+    ensures local { result.global ≡ false }
+{
+    Arg::new(alloc, DIR).required(true)
+}
+
 fn file<'a>(alloc: Global) -> Arg<'a>
     ensures rule { rule_of result ≡ file }
     ensures local { result.global ≡ false }
@@ -230,6 +246,13 @@ fn total_steps<'a>(alloc: Global) -> Arg<'a>
     ensures local { result.global ≡ false }
 {
     option(alloc, TOTAL_STEPS, "N").value_parser(value_parser!(u64).range(1..=MAX_TOTAL_STEPS))
+}
+
+fn usual_total_steps<'a>(alloc: Global) -> Arg<'a>
+    ensures rule { rule_of result ≡ usual_total_steps }
+    ensures local { result.global ≡ false }
+{
+    total_steps(alloc).default_value(DEFAULT_TOTAL_STEPS)
 }
 
 /// `clap` takes any number up to the greatest one, and the parser judges whether it is a power of ten.

@@ -35,13 +35,17 @@ pub fn options()
         × EachRequests (λ row. row.times) (codes "--times=1000000" ∷ [])
         (λ task paths. Some (record (usual task paths) { prices = Some (price_rule Round 6) }))
         × EachRequests (λ row. row.limits) (codes "--bound" ∷ [])
-        (λ task paths. Some (record (usual task paths) { options = bounded_options 1000000 None }))
+        (λ task paths. Some (record (usual task paths) {
+          options = bounded_options 1000000 (usual_options task).total;
+        }))
         × EachRequests (λ row. is_many row.files) (codes "--progress" ∷ [])
         (λ task paths. Some (record (usual task paths) { progress = true }))
         × EachRequests (λ row. row.null) (codes "--null" ∷ [])
         (λ task paths. Some (record (usual task paths) { null = true }))
         × EachRequests (λ row. row.all) (codes "--all" ∷ [])
         (λ task paths. Some (record (usual task paths) { all = true }))
+        × EachRequests (λ row. row.table) (codes "--table" ∷ [])
+        (λ task paths. Some (record (usual task paths) { table = true }))
         × ((list : List ℕ) → EachRequests (λ row. row.bids) ((codes "--bids=" ++ list) ∷ [])
         (λ task paths. Some (record (usual task paths) { list = Some list }))) }
 {}

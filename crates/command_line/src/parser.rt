@@ -15,8 +15,8 @@ ghost use Rattle.command_line.specs.Requests.{requested_in, requested_of, task_n
 ghost use Rattle.requests.specs.Requests.{plain_request, texts_of};
 
 use crate::commands::{
-    ALL, BID, BIDS, BOUND, EXACT, FILE, FILES0_FROM, GOOD, MORE_FILES, NULL, PROGRESS, ROUND,
-    ROUND_EXACT, SECOND_FILE, STEPS, TIMES, TOTAL_STEPS, cats_command,
+    ALL, BID, BIDS, BOUND, DIR, EXACT, FILE, FILES0_FROM, GOOD, MORE_FILES, NULL, PROGRESS, ROUND,
+    ROUND_EXACT, SECOND_FILE, STEPS, TABLE, TIMES, TOTAL_STEPS, cats_command,
 };
 use crate::number_lists::numbers_of_words;
 use crate::request::{Misuse, NoRequest};
@@ -185,6 +185,8 @@ fn request<'a>(
         progress: is_set(given, PROGRESS),
         null: is_set(given, NULL),
         all: is_set(given, ALL),
+        table: is_set(given, TABLE),
+        folder: find_text(given, DIR),
     })
 }
 

@@ -1,7 +1,7 @@
 //! Worked rows of the definitions, computed by the prover: what command lines request.
 #![tactic(auto, unfolding(clap::proofs::OnLiterals::clap_on_literals))]
 
-ghost use Rattle.std.specs.Prelude.{◌≡◌, [], ◌∷◌, None, Some, codes, false, is_some, map, true};
+ghost use Rattle.std.specs.Prelude.{◌≡◌, [], ◌∷◌, None, Some, codes, false, is_some, map, option_map, true};
 ghost use Rattle.std.specs.List.{flat_map, list_any};
 ghost use Rattle.clap.specs.Faults.{fault_of};
 ghost use Rattle.clap.specs.declared.error.kind.ErrorKind.TheVariants.{UnknownArgument};
@@ -14,7 +14,7 @@ ghost use Rattle.command_line.specs.declared.request.Misuse.TheVariants.{SignedN
 ghost use Rattle.command_line.specs.declared.request.Misuse.TheVariants.{FilesTwice, NoFiles, WrongBids, WrongGoods};
 ghost use Rattle.command_line.specs.declared.request.Misuse.TheVariants.{WrongTimes};
 ghost use Rattle.requests.specs.declared.task.Task.TheVariants.{Check, Compare, Diff, Duplicates, Explain, Fault};
-ghost use Rattle.requests.specs.declared.task.Task.TheVariants.{Normalise, Revenue, Show, Sizes, Value};
+ghost use Rattle.requests.specs.declared.task.Task.TheVariants.{Normalise, Publish, Revenue, Show, Sizes, Value};
 ghost use Rattle.requests.specs.declared.task.Task.TheVariants.{Round as RoundText};
 ghost use Rattle.rounding.specs.Replacements.{price_rule};
 ghost use Rattle.rounding.specs.declared.replacement.FinePrices.TheVariants.{Refuse, Round};
@@ -30,6 +30,10 @@ pub fn lines()
         ≡ Some (record (usual Duplicates (codes "a" ∷ codes "b" ∷ [])) { null = true }) }
     ensures sizes { request_of (words_in (codes "cats sizes --progress --files0-from=l"))
         ≡ Some (record (usual Sizes []) { list = Some (codes "l"); progress = true }) }
+    ensures publish { request_of (words_in (codes "cats publish d a --all b"))
+        ≡ Some (record (usual Publish (codes "d" ∷ codes "a" ∷ codes "b" ∷ [])) { all = true }) }
+    ensures published { request_of (words_in (codes "cats publish d --files0-from=l"))
+        ≡ Some (record (usual Publish (codes "d" ∷ [])) { list = Some (codes "l") }) }
 {}
 
 /// The flag and the limits, in any order.
@@ -48,6 +52,13 @@ pub fn limits()
         ∷ codes "cats duplicates a --total-steps=5" ∷ codes "cats sizes a" ∷ [])
         ≡ map (λ line. request_of (words_in line)) (codes "cats explain --bound a" ∷ codes "cats diff a --bound b"
         ∷ codes "cats duplicates --bound a --total-steps=5" ∷ codes "cats sizes a --bound" ∷ []) }
+    ensures usual { map (λ line. option_map (λ request. request.options) (request_of (words_in line)))
+        (codes "cats explain a" ∷ codes "cats diff a b" ∷ codes "cats duplicates a" ∷ codes "cats sizes a --bound"
+        ∷ codes "cats publish d a" ∷ codes "cats normalise a --bound" ∷ codes "cats compare a b" ∷ [])
+        ≡ Some (bounded_options 1000000 (Some 50000000)) ∷ Some (bounded_options 1000000 (Some 50000000))
+        ∷ Some (bounded_options 1000000 (Some 50000000)) ∷ Some (bounded_options 1000000 (Some 50000000))
+        ∷ Some (bounded_options 1000000 (Some 50000000)) ∷ Some (bounded_options 1000000 None)
+        ∷ Some (plain_options 1000000) ∷ [] }
     ensures sizes { request_of (words_in (codes "cats sizes a --total-steps=5 --steps=7"))
         ≡ Some (record (usual Sizes (codes "a" ∷ [])) { options = bounded_options 7 (Some 5) }) }
 {}
@@ -86,7 +97,7 @@ pub fn factors()
         ≡ None ∷ Some 0 ∷ None ∷ Some 1 ∷ None ∷ None ∷ Some 2 ∷ Some 12 ∷ None ∷ [] }
 {}
 
-/// Bids, and the flag of `duplicates` for all files.
+/// Bids, and the flags of `duplicates` for all files and for a table.
 pub fn bids_and_files()
     ensures given { request_of (words_in (codes "cats revenue a 65535 0,1 3-5 1"))
         ≡ Some (record (usual Revenue (codes "a" ∷ [])) { bids = 65535 ∷ 0 ∷ 1 ∷ 3 ∷ 4 ∷ 5 ∷ [] }) }
@@ -94,6 +105,8 @@ pub fn bids_and_files()
         ≡ Some (record (usual Revenue (codes "a" ∷ [])) { list = Some (codes "l") }) }
     ensures all { request_of (words_in (codes "cats duplicates a --all"))
         ≡ Some (record (usual Duplicates (codes "a" ∷ [])) { all = true }) }
+    ensures table { request_of (words_in (codes "cats duplicates --table a --all b"))
+        ≡ Some (record (usual Duplicates (codes "a" ∷ codes "b" ∷ [])) { all = true; table = true }) }
 {}
 
 /// Goods are numbers, lists and ranges. Each is there once, where it is named first.
@@ -131,7 +144,8 @@ pub fn wrong_lines()
     ensures { map (λ line. request_of (words_in line)) (codes "cats" ∷ codes "cats check" ∷ codes "cats Check a"
         ∷ codes "cats check --help" ∷ codes "cats value --steps 0 a" ∷ codes "cats value a 65536"
         ∷ codes "cats sizes -0 --null a" ∷ codes "cats explain --bound --bound a" ∷ codes "cats explain --total-steps=0 a"
-        ∷ codes "cats sizes" ∷ codes "cats diff a" ∷ codes "cats round --times=0 a" ∷ codes "cats check --times=10 a"
+        ∷ codes "cats sizes" ∷ codes "cats diff a" ∷ codes "cats publish d" ∷ codes "cats round --times=0 a" ∷ codes "cats check --times=10 a"
         ∷ codes "cats round --times=10000000000000 a" ∷ codes "cats round --times=1e6 a" ∷ [])
-        ≡ None ∷ None ∷ None ∷ None ∷ None ∷ None ∷ None ∷ None ∷ None ∷ None ∷ None ∷ None ∷ None ∷ None ∷ None ∷ [] }
+        ≡ None ∷ None ∷ None ∷ None ∷ None ∷ None ∷ None ∷ None ∷ None ∷ None ∷ None ∷ None ∷ None ∷ None ∷ None ∷ None
+        ∷ [] }
 {}

@@ -45,12 +45,12 @@ pub use Rattle.commands.specs.Commands.{text_of, GivesWithin, ReadsCanonical}
 pub use Rattle.commands.specs.Compare.{bidder_text}
 pub use Rattle.commands.specs.Diff.{bid_number, bidder_rows, change_row}
 pub use Rattle.commands.specs.Explain.{explanation_row, explanation_header}
-pub use Rattle.commands.specs.FaultLines.{rest_text, text_of_heavy_bid, total_text, text_of_kind}
+pub use Rattle.commands.specs.FaultLines.{rest_text, text_of_heavy_bid, text_of_limit, text_of_kind}
 pub use Rattle.commands.specs.Internal.ComparedFiles.{IsComparedFile, PrintsDifferences}
 pub use Rattle.commands.specs.Internal.Pairs.{of_file}
 pub use Rattle.commands.specs.Internal.Sides.{IsBidOf, IsOfBidders, IsOfBids, file_of}
 pub use Rattle.commands.specs.KindNames.{name_of_kind}
-pub use Rattle.commands.specs.Normalise.{with_bid}
+pub use Rattle.commands.specs.Normalise.{limit_met, with_bid}
 pub use Rattle.commands.specs.Value.{missing_good}
 pub use Rattle.commands.specs.Outcomes.{Outcome, Prints}
 pub use Rattle.commands.specs.Normalise.{naming_outcome, normalise_outcome, exceeds_at, text_unless_refused, first_bid_on, is_on}

@@ -1,12 +1,12 @@
 -- What became of a file, by what reading it and making its canonical file answer.
 use Rattle.commands.proofs.Common.{◌≡◌, ℕ, Some, Global, Vec, refl, ap, ap₂, subst, inl, inr, PlainFile, Kind, ReadFault, fault_at, or_atoms_of}
 use Rattle.commands.proofs.Common.{SearchOptions, first_refused, refusal_by_kind, refusal_of, Memory, Only, HeavyBid, Refused, first_bid_on, exceeds_at}
-use Rattle.commands.proofs.Common.{text_unless_refused, canonical_text, Judgement, IsHeavy, IsUnjudged, JudgesInput}
+use Rattle.commands.proofs.Common.{limit_met, text_unless_refused, canonical_text, Judgement, IsHeavy, IsUnjudged, JudgesInput}
 use Rattle.cats_text.specs.declared.read_fault.Kind.TheVariants.{Memory as NoMemory}
 
 -- the bid that is named for the bundle of these goods
 abbrev pub heavy_bid : SearchOptions → PlainFile → Vec ℕ Global → HeavyBid
-heavy_bid options file goods = record { number = first_bid_on file goods.items; goods = goods; steps = options.each; total = options.total }
+heavy_bid options file goods = record { number = first_bid_on file goods.items; goods = goods; limit = limit_met options file goods.items }
 
 module _ {I : Type 0} (gives : I → I → PlainFile → Type 0) (refuses : I → I → ReadFault → Type 0) (options : SearchOptions) (before after : I) where
   abbrev Judged : Judgement → Type 0

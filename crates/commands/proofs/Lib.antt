@@ -13,5 +13,6 @@ mod BestPlaces
 mod Printing
 mod Pairing
 mod NamedBids
+mod MetLimits
 pub mod Judging
 mod Sizing

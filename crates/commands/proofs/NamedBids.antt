@@ -6,7 +6,7 @@ use Rattle.commands.proofs.Common.{search_steps_by, searched_bundles, first_bid_
 use Rattle.prune.specs.SearchSteps.{first_over, first_refused}
 use Rattle.commands.proofs.BidNumbers.{first_within}
 
-over_is_searched : (steps : List ℕ → ℕ) (options : SearchOptions) (bundles : List (List ℕ)) (bundle : List ℕ)
+pub over_is_searched : (steps : List ℕ → ℕ) (options : SearchOptions) (bundles : List (List ℕ)) (bundle : List ℕ)
     → first_over steps options bundles ≡ Some bundle → Contains bundles bundle
 unfolding first_over
 over_is_searched steps options [] bundle e = absurd cc

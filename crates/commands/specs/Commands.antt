@@ -27,9 +27,9 @@ abbrev pub text_of : Output → List ℕ
 text_of (Text text) = text.items
 text_of (File file) = layout file
 
--- the bid that is named, and its bundle
+-- the limit and the bid that are named, and its bundle
 abbrev pub outcome_of_heavy_bid : HeavyBid → Outcome
-outcome_of_heavy_bid heavy = ExceedsAtBid heavy.steps heavy.total heavy.number heavy.goods.items
+outcome_of_heavy_bid heavy = ExceedsAtBid heavy.limit heavy.number heavy.goods.items
 
 -- An input that gives a file, of which `outcome` says what is made.
 module _ {I : Type 0} (gives : I → I → PlainFile → Type 0) (refuses : I → I → ReadFault → Type 0)

@@ -54,4 +54,6 @@ asked task options = record {
   progress = false;
   null = false;
   all = false;
+  table = false;
+  folder = None;
 }

@@ -4,3 +4,4 @@ pub mod Sides
 pub mod Pairs
 pub mod Searches
 pub mod Values
+pub mod WiderTotals

@@ -12,7 +12,14 @@ use Rattle.commands.specs.Commands.{Commands, GivesWithin, outcome_of_heavy_bid}
 use Rattle.commands.specs.Normalise.{naming_outcome, normalise_outcome}
 use Rattle.commands.specs.declared.faults.HeavyBid.{HeavyBid}
 use Rattle.commands.specs.declared.faults.RunFault.{RunFault}
-use Rattle.commands.specs.declared.faults.RunFault.TheVariants.{Refused, TooHeavy}
+use Rattle.commands.specs.declared.faults.RunFault.TheVariants.{NotWritten, Refused, TooHeavy}
+use Rattle.commands.specs.declared.faults.Unwritten.{Unwritten}
+
+-- how many prices of a published file were rounded, how many of these became 0, and why its text was not written
+pub record Publishing : Type 0 where
+  pub rounded : ℕ
+  pub zeroed : ℕ
+  pub unwritten : Option Unwritten
 
 -- what became of one of many files: judged, refused by a limit at a bid, or not read
 pub data Judgement : Type 0 where
@@ -24,6 +31,8 @@ pub data Judgement : Type 0 where
   IsUnjudged : RunFault → Judgement
   -- no file was made: these are all bytes, and the text that is judged of them; or they were not read, for this fault
   IsRead : Result (List ℕ × List ℕ) ReadFault → Judgement
+  -- this file was judged as `IsJudged`, to be published
+  IsPublished : PlainFile → Publishing → Judgement
 
 -- the file, if it was read
 abbrev pub file_read : Judgement → Option PlainFile
@@ -31,6 +40,7 @@ file_read (IsJudged file) = Some file
 file_read (IsHeavy file heavy) = Some file
 file_read (IsUnjudged fault) = None
 file_read (IsRead answer) = None
+file_read (IsPublished file publishing) = Some file
 
 -- its canonical file, if no step limit stopped it
 abbrev pub canonical_known : Judgement → Option PlainFile
@@ -38,6 +48,7 @@ canonical_known (IsJudged file) = Some (canonical_file file)
 canonical_known (IsHeavy file heavy) = None
 canonical_known (IsUnjudged fault) = None
 canonical_known (IsRead answer) = None
+canonical_known (IsPublished file publishing) = Some (canonical_file file)
 
 -- why bytes are not a bid file, or were not read
 abbrev pub fault_read : Result (List ℕ × List ℕ) ReadFault → Option RunFault
@@ -50,6 +61,7 @@ fault_judged (IsJudged file) = None
 fault_judged (IsHeavy file heavy) = Some (TooHeavy Only heavy)
 fault_judged (IsUnjudged fault) = Some fault
 fault_judged (IsRead answer) = fault_read answer
+fault_judged (IsPublished file publishing) = option_map NotWritten publishing.unwritten
 
 -- Reading an input gives this. Of no input but one that gives a file is a bundle refused.
 module _ {I : Type 0} (gives : I → I → PlainFile → Type 0) (refuses : I → I → ReadFault → Type 0)
@@ -64,3 +76,4 @@ module _ {I : Type 0} (gives : I → I → PlainFile → Type 0) (refuses : I �
   JudgesInput before after (IsUnjudged fault) =
       Commands gives refuses (normalise_outcome options) before after (Err fault)
   JudgesInput before after (IsRead answer) = ⊥
+  JudgesInput before after (IsPublished file publishing) = ⊥

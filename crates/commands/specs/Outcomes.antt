@@ -1,5 +1,6 @@
 -- What a command makes of its files. It is a text with a status, or why there is none.
-use Rattle.std.specs.Prelude.{ℕ, List, Option}
+use Rattle.std.specs.Prelude.{ℕ, List}
+use Rattle.commands.specs.declared.faults.Limit.{Limit}
 
 pub data Outcome : Type 0 where
   -- this status, and this text on the output
@@ -10,6 +11,6 @@ pub data Outcome : Type 0 where
   LacksBid : ℕ → Outcome
   -- a search on the bundle of these goods takes more steps than its limits leave
   ExceedsSteps : List ℕ → Outcome
-  -- the same, by a command that names the bid: the limits of each search and of all together, the number of the first
-  -- bid of the OR bidder on the bundle, and its goods
-  ExceedsAtBid : ℕ → Option ℕ → ℕ → List ℕ → Outcome
+  -- the same, by a command that names the bid: the limit that is met, the number of the first bid of the OR bidder on
+  -- the bundle, and its goods
+  ExceedsAtBid : Limit → ℕ → List ℕ → Outcome

@@ -7,6 +7,7 @@ use Rattle.canon.specs.declared.canon_fault.CanonFault.{CanonFault}
 use Rattle.canon.specs.declared.canon_fault.CanonFault.TheVariants.{Read, StepLimit, Memory}
 use Rattle.commands.specs.declared.faults.RunFault.{RunFault}
 use Rattle.commands.specs.declared.faults.RunFault.TheVariants.{NotOpened, Refused, TooHeavy, GoodRange, BidRange, Sent}
+use Rattle.commands.specs.declared.faults.RunFault.TheVariants.{NotWritten}
 
 abbrev pub status_of_read_fault : Kind → ℕ
 status_of_read_fault Device = 5
@@ -26,3 +27,4 @@ status_of_fault (TooHeavy which heavy) = 3
 status_of_fault (GoodRange good) = 64
 status_of_fault (BidRange bid) = 64
 status_of_fault (Sent fault) = 5
+status_of_fault (NotWritten why) = 5

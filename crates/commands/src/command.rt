@@ -9,8 +9,8 @@ use crate::answer::Answer;
 use crate::faults::RunFault;
 use crate::input::Input;
 use crate::{
-    check, compare, diff, duplicates, explain, fault, lp, normalise, revenue, round, show, sizes,
-    value,
+    check, compare, diff, duplicates, explain, fault, lp, normalise, publish, revenue, round, show,
+    sizes, value,
 };
 use requests::help::CommandHelp;
 use requests::request::Request;
@@ -33,6 +33,7 @@ pub fn help_of<'a>(task: Task) -> CommandHelp<'a> {
         Task::Diff => diff::help(),
         Task::Duplicates => duplicates::help(),
         Task::Sizes => sizes::help(),
+        Task::Publish => publish::help(),
     }
 }
 
@@ -65,7 +66,8 @@ pub fn answer_on_file<I: Input>(
         | Task::Compare
         | Task::Diff
         | Task::Duplicates
-        | Task::Sizes => lp::lp(alloc, input),
+        | Task::Sizes
+        | Task::Publish => lp::lp(alloc, input),
     }
 }
 

@@ -34,7 +34,19 @@ pub fn help<'a>() -> CommandHelp<'a> {
     CommandHelp {
         name: "compare",
         about: "Prints 'same', or where the auctions of two files differ first",
-        arguments: &[],
+        arguments: &[
+            ("FILE", "The path of a bid file, or of a folder"),
+            (
+                "SECOND_FILE",
+                "The path of a bid file, or of a folder if the first is",
+            ),
+            (
+                "all",
+                "\
+Of two folders, prints the files too that are the
+same auction",
+            ),
+        ],
         after: "\
 Prints 'same', or 'different' and where the two first differ: in their goods,
 in the OR value of a bundle, or in how often they have an XOR bidder. For
@@ -42,13 +54,24 @@ example:
   $ cats compare examples/ladder.cats examples/ladder_rewritten.cats
   same
 
+Of two folders it compares the files that have the same path below each, and
+prints a header and a row for each that is not the same auction or is only in
+one folder; with --all, for each path. The cells, with tabs between them:
+  file      the path below the folders
+  verdict   'same', 'different', 'left' if the file is only in the first
+            folder, 'right' if it is only in the second; empty with a fault
+  fault     what 'cats compare' reports of the two files, if one is refused
+Links, devices and FIFOs below a folder are left out. For example:
+  $ cats compare version1 version2
+
 A step is that of 'cats normalise': each file is normalised first, and --bound
 does what it does there. A fault's line begins with 'first: ' or 'second: '.
 'cats diff' prints all differences.
 
 Statuses: 0 for the same auction, 1 for different ones; 2 if a file is not a
 bid file; 3 for the step limit: use --bound, and then a greater --steps; 4, 5
-and 64 as 'cats --help' lists them",
+and 64 as 'cats --help' lists them. Of two folders, the greatest of the rows'
+statuses, 1 for a file that is only in one",
     }
 }
 

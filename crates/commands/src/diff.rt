@@ -113,7 +113,10 @@ fn read_compared<I: Input>(
     let file = of(which, input.read_file(alloc).map_err(CanonFault::from))?;
     match named_normal_file(alloc, &file, options) {
         Ok(named) => Ok(ComparedFile { file, named }),
-        Err(fault) => Err(name_bid(which, &file, options, fault)),
+        Err(fault) => {
+            let named = name_bid(alloc, which, &file, options, fault);
+            Err(of(which, named.map_err(CanonFault::from))?)
+        }
     }
 }
 

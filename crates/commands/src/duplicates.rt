@@ -19,6 +19,21 @@ For example:
 With --all each other file that was judged is printed too, as an auction of one
 file.
 
+With --table a header and a row for each file are printed in the place of these
+lines, in the order given, with tabs between the cells:
+  $ cats duplicates --table examples/ladder.cats examples/two_bids.cats
+  group\tfirst\tfile\tfault
+  1\texamples/ladder.cats\texamples/ladder.cats\t
+  2\texamples/two_bids.cats\texamples/two_bids.cats\t
+
+  group  a number for each auction, from 1; empty if the file was not read
+  first  the first file of the group, or the file itself if it is in none
+  fault  why the file is refused; empty if it is not
+
+So all but the first file of each group are those of the rows whose first is
+not file. A row is printed when its file ends. A file that is refused has a row
+too, in the place of a line on standard error. --all changes nothing then.
+
 A folder is taken for all files below it, in the order of the bytes of their
 paths. Links, devices and FIFOs below it are left out. A folder below it that
 cannot be read is reported as a file that cannot be opened:
@@ -30,15 +45,15 @@ Only the files that 'find' finds, however many they are:
 
 A control byte in a path is printed as \\n, \\t or \\x1b, with its two
 hexadecimal digits, and a backslash as \\\\. With -0 each path of the output is
-printed as it is, and each line ends with NUL.
+printed as it is, and each line ends with NUL; each cell of a table, too.
 
 With --round a file whose prices were rounded is reported, as 'auction.txt:
 1288 prices rounded'.
 
 A file that is refused is reported at once, with its path before the fault, and
 the others go on. So is a list that cannot be read, and then no file is. With
---progress a line says how many files were read, after each hundred and at the
-end; on a terminal it is one line, which is replaced after each file. This
+--progress a line says before each file which one is read, as '3 of 479
+folder/0002.txt'; on a terminal it is removed once the file is read. This
 command always uses the bounded search. A step is that of 'cats normalise
 --bound'.
 

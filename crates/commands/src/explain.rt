@@ -80,7 +80,7 @@ pub(crate) fn explain<I: Input>(
         Ok(reasons) => reasons,
         Err(fault) => {
             let options = SearchOptions::bounded(steps, total);
-            return Err(name_bid(Which::Only, &file, options, fault));
+            return Err(name_bid(alloc, Which::Only, &file, options, fault)?);
         }
     };
     let text = explanation_text(alloc, &file, reasons.as_slice())?;

@@ -10,16 +10,23 @@ use cats_text::SendFault;
 pub use heavy_bid::name_bid;
 use std::alloc::AllocError;
 
+/// A limit of steps.
+#[derive(Clone, Copy, PartialEq, Eq, Debug)]
+pub enum Limit {
+    /// The most steps of each search.
+    OfEach(u64),
+    /// The most steps of all searches together.
+    OfAll(u64),
+}
+
 /// The bundle of a bid on which a search takes more steps than its limits leave.
 #[derive(PartialEq, Eq, Debug, Drop)]
 pub struct HeavyBid {
     /// The number of the first bid of the OR bidder on this bundle.
     pub number: u64,
     pub goods: Vec<u16>,
-    /// The most steps of each search.
-    pub steps: u64,
-    /// The most steps of all searches together, if they have such a limit.
-    pub total: Option<u64>,
+    /// The limit that is met.
+    pub limit: Limit,
 }
 
 /// Why a file could not be opened.
@@ -31,6 +38,19 @@ pub enum Unopened {
     /// It is neither a regular file nor a folder.
     NotAFile,
     /// For a reason that has no name here, or that is not reported.
+    Other,
+}
+
+/// Why a text could not be written.
+#[derive(Clone, Copy, PartialEq, Eq, Debug)]
+pub enum Unwritten {
+    /// Something is at its path, which is not replaced.
+    Exists,
+    PermissionDenied,
+    NoSpace,
+    /// What should be a folder on its path is none, or is a link.
+    NotAFolder,
+    /// For a reason that has no name here.
     Other,
 }
 
@@ -49,6 +69,8 @@ pub enum RunFault {
     BidRange(u32),
     /// The output failed.
     Sent(SendFault),
+    /// The text of a file could not be written.
+    NotWritten(Unwritten),
 }
 
 /// The fault of a run of one file.

@@ -15,6 +15,7 @@ pub mod laws;
 pub mod lp;
 pub mod normalise;
 pub mod printed;
+pub mod publish;
 pub mod revenue;
 pub mod round;
 pub mod show;

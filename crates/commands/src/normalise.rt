@@ -2,9 +2,9 @@
 
 ghost use Rattle.std.specs.Prelude.{◌≡◌, ◌++◌, [], ◌∷◌, None, Some, codes};
 ghost use Rattle.valuation.specs.SearchLimits.{bounded_options, plain_options};
-ghost use Rattle.valuation.specs.declared.search.kind.SearchKind.TheVariants.{Bounded};
 ghost use Rattle.commands.specs.Examples.{asked, crossing_bids, larger_bid, repeated_bundle, xor_ladder};
 ghost use Rattle.commands.specs.Outcomes.{ExceedsAtBid, ExceedsSteps, Prints};
+ghost use Rattle.commands.specs.declared.faults.Limit.TheVariants.{OfAll, OfEach};
 ghost use Rattle.commands.specs.Normalise.{exceeds_at, first_bid_on, naming_outcome};
 ghost use Rattle.commands.specs.Meanings.{outcome_of};
 ghost use Rattle.requests.specs.declared.task.Task.TheVariants.{Explain, Normalise};
@@ -89,7 +89,8 @@ pub fn canonical_files()
     ensures reasons { outcome_of (asked Explain (plain_options 3)) [] larger_bid
         ≡ Prints 0 (codes "bid\tdummy\tprice\tgoods\treason\tkept\tby\n0\t\t3\t0\tkeep\t0\t\n1\t\t4\t1\tkeep\t1\t\n"
         ++ codes "2\t\t7\t0 1\tpacking\t\t0 1\n") }
-    ensures unexplained { outcome_of (asked Explain (plain_options 1)) [] larger_bid ≡ ExceedsAtBid 1 None 2 (0 ∷ 1 ∷ []) }
+    ensures unexplained { outcome_of (asked Explain (plain_options 1)) [] larger_bid
+        ≡ ExceedsAtBid (OfEach 1) 2 (0 ∷ 1 ∷ []) }
     ensures text_of_both { outcome_of (asked Normalise (plain_options 1000)) [] xor_ladder
         ≡ Prints 0 (codes "goods 2\nbids 3\ndummy 1\n0\t1.5\t1\t#\n1\t5\t0\t2\t#\n2\t6\t0\t1\t2\t#\n") }
     ensures reasons_of_both { outcome_of (asked Explain (plain_options 1000)) [] xor_ladder
@@ -109,10 +110,13 @@ pub fn limits_of_searches()
         ≡ Prints 0 (codes "goods 3\nbids 3\ndummy 0\n0\t4\t0\t1\t#\n1\t4\t1\t2\t#\n2\t7\t0\t1\t2\t#\n") }
 {}
 
-/// The bid that is named: not that of an XOR bidder, and the first of two.
+/// The bid that is named: not that of an XOR bidder, and the first of two. And the limit that is met: of the goods 0 and 1
+/// of the file `larger_bid` the search takes 3 steps, after one for each good.
 pub fn named_bids()
     ensures first { first_bid_on repeated_bundle (0 ∷ 1 ∷ []) ≡ 2 }
-    ensures limits { exceeds_at (record { kind = Bounded; each = 5; total = Some 7 }) repeated_bundle (0 ∷ [])
-        ≡ ExceedsAtBid 5 (Some 7) 1 (0 ∷ []) }
-    ensures in_a_diff { naming_outcome (bounded_options 1 (Some 5)) larger_bid ≡ ExceedsAtBid 1 (Some 5) 2 (0 ∷ 1 ∷ []) }
+    ensures bid { exceeds_at (bounded_options 5 (Some 7)) repeated_bundle (0 ∷ []) ≡ ExceedsAtBid (OfAll 7) 1 (0 ∷ []) }
+    ensures of_each { naming_outcome (bounded_options 2 (Some 5)) larger_bid ≡ ExceedsAtBid (OfEach 2) 2 (0 ∷ 1 ∷ []) }
+    ensures of_all { naming_outcome (bounded_options 3 (Some 4)) larger_bid ≡ ExceedsAtBid (OfAll 4) 2 (0 ∷ 1 ∷ []) }
+    ensures of_both { naming_outcome (bounded_options 2 (Some 4)) larger_bid ≡ ExceedsAtBid (OfEach 2) 2 (0 ∷ 1 ∷ []) }
+    ensures each_above_all { naming_outcome (bounded_options 2 (Some 1)) larger_bid ≡ ExceedsAtBid (OfAll 1) 1 (1 ∷ []) }
 {}

@@ -2,13 +2,14 @@
 
 mod count;
 
-ghost use Rattle.std.specs.Prelude.{◌≡◌, ℕ, None, Vec, codes};
+ghost use Rattle.std.specs.Prelude.{◌≡◌, ℕ, Vec, codes};
 ghost use Rattle.std.specs.Global.{Global};
 ghost use Rattle.cats_text.specs.declared.read_fault.Kind.TheVariants.{TwoDummies};
 ghost use Rattle.canon.specs.declared.canon_fault.CanonFault.TheVariants.{Read};
 ghost use Rattle.commands.specs.Examples.{larger_bid, xor_ladder};
 ghost use Rattle.commands.specs.Judgements.{IsHeavy, IsJudged, IsUnjudged};
 ghost use Rattle.commands.specs.Sizes.{numbers_judged};
+ghost use Rattle.commands.specs.declared.faults.Limit.TheVariants.{OfEach};
 ghost use Rattle.commands.specs.declared.faults.RunFault.TheVariants.{Refused};
 ghost use Rattle.canon.specs.declared.which.Which.TheVariants.{Only};
 ghost use Rattle.std.specs.Prelude.{IfOk};
@@ -43,13 +44,12 @@ the cells. For example:
   kept, kept_or, kept_xor  bids, OR bids and XOR bidders of the canonical file
   fault                    why the file is refused; empty if it is not
 
-The table is printed once all files were read. A file that is refused has a row
-too, and the others go on. Its numbers are empty; if only the step limit stops
-it, just those of its canonical file. On standard error is nothing but what
---round and --progress report, and why a list of paths cannot be read. This
-command always uses the bounded search. A step is that of 'cats normalise
---bound'. 'cats help duplicates' says how paths are printed, and what these two
-report.
+A row is printed when its file ends. A file that is refused has a row too, and
+the others go on. Its numbers are empty; if only the step limit stops it, just
+those of its canonical file. On standard error is nothing but what --round and
+--progress report, and why a list of paths cannot be read. This command always
+uses the bounded search. A step is that of 'cats normalise --bound'. 'cats help
+duplicates' says how paths are printed, and what these two report.
 
 All files below a folder, in the order of the bytes of their paths:
   $ cats sizes folder > sizes.tsv
@@ -96,7 +96,8 @@ pub fn push_numbers<I: Input>(
             text.extend_from_slice(sizes.as_slice())?;
             text.extend_from_slice(NO_COUNTS.as_bytes())?;
             let fault = CanonFault::StepLimit { goods };
-            Ok(Some(name_bid(Which::Only, &file, options, fault)))
+            let why = name_bid(alloc, Which::Only, &file, options, fault)?;
+            Ok(Some(why))
         }
         // a file that was read is refused for nothing else
         Err(_) => {
@@ -110,7 +111,7 @@ pub fn push_numbers<I: Input>(
 pub fn numbers_of_rows()
     ensures judged { numbers_judged (IsJudged larger_bid) ≡ codes "2\t3\t3\t0\t0\t2\t2\t0\t" }
     ensures heavy { (goods : Vec ℕ Global)
-        → numbers_judged (IsHeavy xor_ladder (record { number = 2; goods = goods; steps = 1; total = None }))
+        → numbers_judged (IsHeavy xor_ladder (record { number = 2; goods = goods; limit = OfEach 1 }))
         ≡ codes "2\t3\t1\t1\t1\t\t\t\t" }
     ensures refused { numbers_judged (IsUnjudged (Refused Only (Read (record { kind = TwoDummies; line = 7 })))) ≡ codes "\t\t\t\t\t\t\t\t" }
 {}

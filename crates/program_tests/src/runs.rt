@@ -2,6 +2,7 @@
 
 mod check;
 mod compare;
+mod compared_folders;
 mod devices;
 mod diff;
 mod each_command;
@@ -19,6 +20,7 @@ mod normalise;
 mod opened;
 mod openings;
 mod program;
+mod publish;
 mod revenue;
 mod round;
 mod rounded;

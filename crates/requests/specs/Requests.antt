@@ -6,7 +6,7 @@ use Rattle.valuation.specs.declared.search.options.SearchOptions.{SearchOptions}
 use Rattle.requests.specs.declared.request.Request.{Request}
 use Rattle.requests.specs.declared.task.Task.{Task}
 
--- a request: a command, the paths of its files and list, and its goods, bids and options
+-- a request: a command, the paths of its files, list and folder, and its goods, bids and options
 pub record PlainRequest : Type 0 where
   pub task : Task
   pub files : List (List ℕ)
@@ -18,6 +18,8 @@ pub record PlainRequest : Type 0 where
   pub progress : Bool
   pub null : Bool
   pub all : Bool
+  pub table : Bool
+  pub folder : Option (List ℕ)
 
 -- the texts of words
 abbrev pub texts_of : List (Bor (List ℕ)) → List (List ℕ)
@@ -36,4 +38,6 @@ plain_request request = record {
   progress = request.progress;
   null = request.null;
   all = request.all;
+  table = request.table;
+  folder = option_map (λ folder. folder.now) request.folder;
 }

@@ -4,7 +4,7 @@ use Rattle.requests.specs.declared.task.Files.{Files}
 use Rattle.requests.specs.declared.task.Files.TheVariants.{One, Two, Many}
 use Rattle.requests.specs.declared.task.Task.{Task}
 use Rattle.requests.specs.declared.task.Task.TheVariants.{Check, Fault, Show, Value, Revenue, Normalise, Explain, Round}
-use Rattle.requests.specs.declared.task.Task.TheVariants.{Lp, Compare, Diff, Duplicates, Sizes}
+use Rattle.requests.specs.declared.task.Task.TheVariants.{Lp, Compare, Diff, Duplicates, Sizes, Publish}
 use Rattle.requests.specs.declared.task.TaskRow.{TaskRow}
 use Rattle.requests.specs.declared.task.TheConstants.{TASKS}
 
@@ -23,6 +23,7 @@ name_of Compare = codes "compare"
 name_of Diff = codes "diff"
 name_of Duplicates = codes "duplicates"
 name_of Sizes = codes "sizes"
+name_of Publish = codes "publish"
 
 -- the names of the commands whose rows pass a test
 abbrev pub names_with : (TaskRow → Bool) → List (List ℕ)
@@ -35,6 +36,7 @@ files_of Compare = Two
 files_of Diff = Two
 files_of Duplicates = Many
 files_of Sizes = Many
+files_of Publish = Many
 files_of task = One
 
 -- whether a command reads many files

@@ -17,7 +17,7 @@ pub struct CommandHelp<'a> {
 /// What the option says of a subcommand that always uses the bounded search.
 pub const TOTAL_STEPS: &str = "\
 The most steps of all searches together, from 1 to
-1000000000000 [no limit by default]";
+1000000000000";
 
 /// What is said of the paths of many files.
 pub const FILES: &str = "\

@@ -24,6 +24,11 @@ pub struct Request<'a> {
     pub progress: bool,
     /// Whether each path of the output ends with NUL.
     pub null: bool,
-    /// Whether `duplicates` prints the files too that are the only ones of their auction.
+    /// Whether `duplicates` prints the files too that are the only ones of their auction, `publish` writes one text for
+    /// each file, and `compare` prints the files too that are the same auction in two folders.
     pub all: bool,
+    /// Whether `duplicates` prints a table with a row for each path, in the place of groups.
+    pub table: bool,
+    /// The folder in which `publish` writes texts.
+    pub folder: Option<&'a str>,
 }

@@ -19,6 +19,7 @@ pub enum Task {
     Diff,
     Duplicates,
     Sizes,
+    Publish,
 }
 
 /// How many files a command reads.
@@ -48,10 +49,14 @@ pub struct TaskRow {
     pub exact: bool,
     /// The option that multiplies prices.
     pub times: bool,
-    /// The flag for the files too that are the only ones of their auction.
+    /// The flag for the files too that are the only ones of their auction, or the same auction in two folders.
     pub all: bool,
+    /// The flag for a table in the place of groups.
+    pub table: bool,
     /// The flag for NUL after each path of the output.
     pub null: bool,
+    /// The folder in which texts are written.
+    pub folder: bool,
 }
 
 /// A command on one text, which takes nothing else.
@@ -66,7 +71,9 @@ const ON_TEXT: TaskRow = TaskRow {
     exact: false,
     times: false,
     all: false,
+    table: false,
     null: false,
+    folder: false,
 };
 
 /// A command on one bid file.
@@ -82,7 +89,7 @@ const SEARCH: TaskRow = TaskRow {
 };
 
 /// The commands, as the help lists them. A caller in C names a command by its place here, counted from 0.
-pub const TASKS: [TaskRow; 13] = [
+pub const TASKS: [TaskRow; 14] = [
     TaskRow {
         task: Task::Check,
         ..ON_FILE
@@ -130,6 +137,7 @@ pub const TASKS: [TaskRow; 13] = [
         task: Task::Compare,
         files: Files::Two,
         bound: true,
+        all: true,
         ..SEARCH
     },
     TaskRow {
@@ -141,6 +149,7 @@ pub const TASKS: [TaskRow; 13] = [
         task: Task::Duplicates,
         files: Files::Many,
         all: true,
+        table: true,
         null: true,
         ..SEARCH
     },
@@ -148,6 +157,13 @@ pub const TASKS: [TaskRow; 13] = [
         task: Task::Sizes,
         files: Files::Many,
         null: true,
+        ..SEARCH
+    },
+    TaskRow {
+        task: Task::Publish,
+        files: Files::Many,
+        all: true,
+        folder: true,
         ..SEARCH
     },
 ];
@@ -170,6 +186,7 @@ pub fn name_of(task: Task) -> &'static str
         Task::Diff => "diff",
         Task::Duplicates => "duplicates",
         Task::Sizes => "sizes",
+        Task::Publish => "publish",
     }
 }
 
@@ -179,7 +196,7 @@ pub fn files_of(task: Task) -> Files
 {
     match task {
         Task::Compare | Task::Diff => Files::Two,
-        Task::Fault | Task::Duplicates | Task::Sizes => Files::Many,
+        Task::Fault | Task::Duplicates | Task::Sizes | Task::Publish => Files::Many,
         _ => Files::One,
     }
 }

@@ -57,6 +57,8 @@ fn request_by<'a>(
         progress: false,
         null: request.null,
         all: request.all,
+        table: request.table,
+        folder: None,
     }))
 }
 

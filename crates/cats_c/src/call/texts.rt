@@ -6,7 +6,7 @@ ghost use Rattle.cats_c.specs.Calls.{IsNumberOf, name_or};
 
 use crate::call::CallText;
 use cats_cmd::source::{Source, Way};
-use commands::faults::Unopened;
+use commands::faults::{Unopened, Unwritten};
 use itoa::Buffer;
 use std::alloc::{Alloc, AllocError, Global};
 
@@ -51,6 +51,10 @@ impl<'b, 'a> Source for Texts<'b, 'a> {
 
     ghost opened = { λ source. None };
 
+    ghost may_not_write = { λ texts path why. Unit {0} };
+
+    ghost texts = { λ source. None };
+
     fn open(&mut self, path: &str, _way: Way) -> Result<&'a [u8], Unopened> {
         let Some(number) = find_from(self.texts, self.next, path.as_bytes()) else {
             return Err(Unopened::NoSuchFile);
@@ -61,6 +65,25 @@ impl<'b, 'a> Source for Texts<'b, 'a> {
 
     fn find(&self, _alloc: Global, _path: &str) -> Result<Option<Vec<Vec<u8>>>, AllocError> {
         Ok(None)
+    }
+
+    /// Nothing is written.
+    fn make_folder(&mut self, _folder: &str) -> Result<(), Unwritten> {
+        Err(Unwritten::Other)
+    }
+
+    fn is_taken(&self, _alloc: Global, _folder: &str, _path: &str) -> Result<bool, AllocError> {
+        Ok(false)
+    }
+
+    fn write_new(
+        &mut self,
+        _alloc: Global,
+        _folder: &str,
+        _path: &str,
+        _text: &[u8],
+    ) -> Result<Result<(), Unwritten>, AllocError> {
+        Ok(Err(Unwritten::Other))
     }
 }
 

@@ -1,5 +1,5 @@
 -- The parts of carrying out a request.
-use Rattle.std.specs.Prelude.{◌≡◌, ◌⊎◌, ℕ, Bool, true, List, [], ◌∷◌, Option}
+use Rattle.std.specs.Prelude.{◌≡◌, ◌⊎◌, ℕ, Bool, true, List, [], ◌∷◌, Option, None}
 use Rattle.requests.specs.Requests.{PlainRequest}
 use Rattle.requests.specs.declared.task.Task.{Task}
 use Rattle.command_line.specs.Requests.{is_wrong_usage}
@@ -25,6 +25,7 @@ many_files terminal request = record {
   prices = request.prices;
   all = request.all;
   way = way_of request.task;
+  target = None;
 }
 
 -- one of two files cannot be opened: the second, or the first, and then the second was not opened

@@ -4,10 +4,10 @@ ghost use Rattle.std.specs.Prelude.{◌≡◌, ◌++◌, IfOk, codes};
 ghost use Rattle.commands.specs.KindNames.{name_of_kind};
 ghost use Rattle.commands.specs.Pieces.{text_of_piece, text_of_pieces};
 ghost use Rattle.commands.specs.FaultLines.{line_of_fault, prefix_of, rest_text, text_of_canon_fault, text_of_heavy_bid};
-ghost use Rattle.commands.specs.FaultLines.{text_of_read_fault, text_of_unopened, total_text};
+ghost use Rattle.commands.specs.FaultLines.{text_of_limit, text_of_read_fault, text_of_unopened, text_of_unwritten};
 ghost use Rattle.commands.specs.Statuses.{status_of_fault, status_of_canon_fault, status_of_read_fault};
 
-use crate::faults::{HeavyBid, RunFault, Unopened};
+use crate::faults::{HeavyBid, Limit, RunFault, Unopened, Unwritten};
 use crate::printed::pieces::{NOTHING, Piece, line_pieces, text_of};
 use crate::statuses::{DEVICE_FAILED, FILE_REFUSED, NO_MEMORY, STEPS_EXCEEDED, WRONG_USAGE};
 use canon::{CanonFault, Which};
@@ -29,7 +29,7 @@ pub fn status(fault: &RunFault) -> u8
         RunFault::Refused(_, fault) => canon_status(fault),
         RunFault::TooHeavy(_, _) => STEPS_EXCEEDED,
         RunFault::GoodRange(_) | RunFault::BidRange(_) => WRONG_USAGE,
-        RunFault::Sent(_) => DEVICE_FAILED,
+        RunFault::Sent(_) | RunFault::NotWritten(_) => DEVICE_FAILED,
     }
 }
 
@@ -80,6 +80,7 @@ pub fn fault_pieces(fault: &RunFault) -> [Piece<'_>; 14]
             let written = Piece::Number(fault.written);
             line_pieces("", "output failed after ", written, " bytes", "")
         }
+        RunFault::NotWritten(why) => text_pieces("", unwritten(*why)),
     }
 }
 
@@ -106,6 +107,18 @@ fn unopened(why: Unopened) -> &'static str
     }
 }
 
+fn unwritten(why: Unwritten) -> &'static str
+    ensures { result.now ≡ text_of_unwritten why }
+{
+    match why {
+        Unwritten::Exists => "cannot write: it exists already",
+        Unwritten::PermissionDenied => "cannot write: permission denied",
+        Unwritten::NoSpace => "cannot write: no space",
+        Unwritten::NotAFolder => "cannot write: not a folder",
+        Unwritten::Other => "cannot write",
+    }
+}
+
 fn canon_pieces<'a>(prefix: &'static str, fault: &'a CanonFault) -> [Piece<'a>; 14]
     ensures { text_of_pieces result ≡ prefix.now ++ text_of_canon_fault fault.now ++ codes "\n" }
 {
@@ -123,15 +136,12 @@ fn heavy_pieces<'a>(prefix: &'static str, heavy: &'a HeavyBid) -> [Piece<'a>; 14
     ensures { text_of_pieces result ≡ prefix.now ++ text_of_heavy_bid heavy.now ++ codes "\n" }
 {
     let goods = heavy.goods.as_slice();
-    let (before_total, total, behind_total) = total_pieces(heavy.total);
+    let (limit, steps) = limit_pieces(heavy.limit);
     let (before_count, count, behind_count) = rest_pieces(goods.len());
     [
         Piece::Text(prefix.as_bytes()),
-        Piece::Text(b"step limit of "),
-        Piece::Number(heavy.steps),
-        before_total,
-        total,
-        behind_total,
+        limit,
+        steps,
         Piece::Text(b" at bid "),
         Piece::Number(heavy.number),
         Piece::Text(b": "),
@@ -140,20 +150,19 @@ fn heavy_pieces<'a>(prefix: &'static str, heavy: &'a HeavyBid) -> [Piece<'a>; 14
         count,
         behind_count,
         Piece::Text(b"\n"),
+        NOTHING,
+        NOTHING,
+        NOTHING,
     ]
 }
 
-/// The limit of all searches together, if there is one.
-fn total_pieces<'a>(total: Option<u64>) -> (Piece<'a>, Piece<'a>, Piece<'a>)
-    ensures { text_of_piece result.0 ++ text_of_piece result.1 ++ text_of_piece result.2 ≡ total_text total }
+/// The limit of each search, or of all together.
+fn limit_pieces<'a>(limit: Limit) -> (Piece<'a>, Piece<'a>)
+    ensures { text_of_piece result.0 ++ text_of_piece result.1 ≡ text_of_limit limit }
 {
-    match total {
-        None => (NOTHING, NOTHING, NOTHING),
-        Some(total) => (
-            Piece::Text(b" ("),
-            Piece::Number(total),
-            Piece::Text(b" in all)"),
-        ),
+    match limit {
+        Limit::OfEach(steps) => (Piece::Text(b"step limit of "), Piece::Number(steps)),
+        Limit::OfAll(steps) => (Piece::Text(b"total step limit of "), Piece::Number(steps)),
     }
 }
 

@@ -131,11 +131,12 @@ static REFUSALS: &[Row<'_>] = rows! {
     ("diff --steps 2 FILE OTHER", &[SINGLES, LARGER_BID], 3, "", "second: step limit of 2 at bid 2: 0,1\n"),
     ("diff --steps 3 FILE OTHER", &[LARGER_BID, SINGLES], 0, HEADER, ""),
     ("diff --steps=2 OTHER FILE", &[LARGER_BID, NOTHING], 3, "", "second: step limit of 2 at bid 2: 0,1\n"),
-    // both limits are named
-    ("diff --steps 1 --total-steps 5 FILE OTHER", &[LARGER_BID, LADDER], 3, "",
-     "first: step limit of 1 (5 in all) at bid 2: 0,1\n"),
-    ("diff --steps 1 --total-steps 5 FILE OTHER", &[LADDER, LARGER_BID], 3, "",
-     "second: step limit of 1 (5 in all) at bid 2: 0,1\n"),
+    // the limit that is met is named
+    ("diff --steps 1 --total-steps 5 FILE OTHER", &[LARGER_BID, LADDER], 3, "", "first: step limit of 1 at bid 2: 0,1\n"),
+    ("diff --steps 1 --total-steps 5 FILE OTHER", &[LADDER, LARGER_BID], 3, "", "second: step limit of 1 at bid 2: 0,1\n"),
+    ("diff --steps 2 --total-steps 4 FILE OTHER", &[LARGER_BID, LADDER], 3, "", "first: step limit of 2 at bid 2: 0,1\n"),
+    ("diff --steps 3 --total-steps 4 FILE OTHER", &[LARGER_BID, LADDER], 3, "", "first: total step limit of 4 at bid 2: 0,1\n"),
+    ("diff --total-steps 4 FILE OTHER", &[LADDER, LARGER_BID], 3, "", "second: total step limit of 4 at bid 2: 0,1\n"),
 };
 
 #[test]

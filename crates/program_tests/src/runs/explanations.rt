@@ -43,6 +43,8 @@ static REFUSALS: &[Row<'_>] = rows! {
     ("explain --steps 1 FILE", &[LARGER_BID], 3, "", "step limit of 1 at bid 2: 0,1\n"),
     ("explain --steps 3 FILE", &[TRIPLE_REACHED], 3, "", "step limit of 3 at bid 3: 0,1,2\n"),
     ("explain --steps 2 FILE", &[LARGER_BID], 3, "", "step limit of 2 at bid 2: 0,1\n"),
+    ("explain --total-steps 4 FILE", &[LARGER_BID], 3, "", "total step limit of 4 at bid 2: 0,1\n"),
+    ("explain --steps 3 --total-steps 4 FILE", &[LARGER_BID], 3, "", "total step limit of 4 at bid 2: 0,1\n"),
     ("explain --steps 1 FILE", &[b"{2 2 2}0 1 0 2 #\n1 1 1 2 3 #\n"], 2, "", "line 5: TwoDummies\n"),
     ("explain --steps 1 FILE", &[b""], 2, "", "line 1: Missing\n"),
 };

@@ -30,7 +30,7 @@ static ROWS: &[Row] = rows! {
     // links that are named are followed
     ("cats duplicates @/again/a @/link", "@/again/a/y/x\n@/again/a/z\n@/link\n", ""),
     ("cats duplicates @/again", "@/again/a.b\n@/again/a/y/x\n@/again/a/z\n@/again/b\n", ""),
-    ("cats duplicates --progress --files0-from @list", "@/a/y/x\n@/a/z\n@/b\n", "3 of 3 @/b\n"),
+    ("cats duplicates --progress --files0-from @list", "@/a/y/x\n@/a/z\n@/b\n", "1 of 3 @/a/y/x\n2 of 3 @/a/z\n3 of 3 @/b\n"),
     ("cats sizes @/a",
      "goods\tbids\tor_bids\txor_bidders\tdummies\tkept\tkept_or\tkept_xor\tfault\tfile\n1\t1\t1\t0\t0\t1\t1\t0\t\t\
      @/a/y/x\n1\t1\t1\t0\t0\t1\t1\t0\t\t@/a/z\n",

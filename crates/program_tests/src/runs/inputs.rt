@@ -13,7 +13,7 @@ use cats_cmd::{run_check, run_compare, run_normalise, run_show, run_value};
 use cats_text::Watched;
 use command_line::help::VERSION;
 use command_line::request::parse;
-use commands::faults::{RunFault, Unopened};
+use commands::faults::{RunFault, Unopened, Unwritten};
 use commands::printed::{fault_line, status};
 use requests::request::Request;
 use requests::task::Task;
@@ -59,12 +59,34 @@ impl<'a> Source for TwoStreams<'a> {
 
     ghost opened = { λ _. None };
 
+    ghost may_not_write = { λ _ _ _. Unit {0} };
+
+    ghost texts = { λ _. None };
+
     fn open(&mut self, path: &str, _way: Way) -> Result<StepReader<'a>, Unopened> {
         Ok(self.inputs.at(path))
     }
 
     fn find(&self, _alloc: Global, _path: &str) -> Result<Option<Vec<Vec<u8>>>, AllocError> {
         Ok(None)
+    }
+
+    fn make_folder(&mut self, _folder: &str) -> Result<(), Unwritten> {
+        Err(Unwritten::Other)
+    }
+
+    fn is_taken(&self, _alloc: Global, _folder: &str, _path: &str) -> Result<bool, AllocError> {
+        Ok(false)
+    }
+
+    fn write_new(
+        &mut self,
+        _alloc: Global,
+        _folder: &str,
+        _path: &str,
+        _text: &[u8],
+    ) -> Result<Result<(), Unwritten>, AllocError> {
+        Ok(Err(Unwritten::Other))
     }
 }
 

@@ -5,7 +5,7 @@ use std::test::Fail;
 
 static ROWS: &[Row<'_>] = rows! {
     ("duplicates one bad other same", 2, "one\nsame\n", "bad: line 2: Missing\n"),
-    ("duplicates --progress none one", 5, "", "none: cannot open: no such file\n2 of 2 one\n"),
+    ("duplicates --progress none one", 5, "", "1 of 2 none\nnone: cannot open: no such file\n2 of 2 one\n"),
     ("duplicates one", 0, "", ""),
     ("sizes same bidders same", 0,
      "@\n1\t2\t2\t0\t0\t1\t1\t0\t\tsame\n2\t4\t1\t2\t3\t4\t1\t2\t\tbidders\n1\t2\t2\t0\t0\t1\t1\t0\t\tsame\n", ""),
@@ -52,7 +52,7 @@ static ROWS: &[Row<'_>] = rows! {
      "bad:2:1: Missing\nthe file has one line: it seems cut, or lines end with CR: see `tr '\\r' '\\n' < F`\n\
      fine:4:3: NotANumber: 1e-7\na price with an exponent is read with `--round`\n",
      "none: cannot open: no such file\n"),
-    ("fault --progress --files0-from list", 0, "", "3 of 3 same\n"),
+    ("fault --progress --files0-from list", 0, "", "1 of 3 one\n2 of 3 other\n3 of 3 same\n"),
     // the fault that is left, with the word as the file has it
     ("fault --round fine one", 0, "", ""),
     ("fault fine --round-exact", 2,
@@ -71,7 +71,8 @@ static ROWS: &[Row<'_>] = rows! {
      "bad: line 2: Missing\nfolder: cannot open: is a folder: name it to 'fault', 'duplicates' or 'sizes'\n\
      fifo: cannot open: not a file\nbad: line 2: Missing\n"),
     ("duplicates --progress --files0-from list-of-refused-names", 5, "",
-     "\\x1b: line 4: NoEnd\na\\nc\\\\: cannot open: no such file\n\\xff: cannot open\n4 of 4 one\n"),
+     "1 of 4 \\x1b\n\\x1b: line 4: NoEnd\n2 of 4 a\\nc\\\\\na\\nc\\\\: cannot open: no such file\n\
+     3 of 4 \\xff\n\\xff: cannot open\n4 of 4 one\n"),
     ("sizes --files0-from a\tc", 5, "", "a\\tc: cannot open: no such file\n"),
     // the same auction in other files, and other auctions
     ("duplicates a b", 0, "", ""),
@@ -90,20 +91,33 @@ static ROWS: &[Row<'_>] = rows! {
     ("duplicates --all --steps 2 a b a3", 3, "b\n\na\na3\n",
      "a: step limit of 2 at bid 2: 0,1\na3: step limit of 2 at bid 0: 0,1\n"),
     ("duplicates --all --steps 2 a b", 3, "b\n", "a: step limit of 2 at bid 2: 0,1\n"),
+    // a table of groups, of judged files and of refused ones that are alike
+    ("duplicates --table a b a2 bad none b2", 5,
+     "group\tfirst\tfile\tfault\n1\ta\ta\t\n2\tb\tb\t\n1\ta\ta2\t\n\tbad\tbad\tline 2: Missing\n\
+     \tnone\tnone\tcannot open: no such file\n2\tb\tb2\t\n",
+     ""),
+    ("duplicates --all --table --steps 2 --progress a c a3 c2", 3,
+     "group\tfirst\tfile\tfault\n1\ta\ta\tstep limit of 2 at bid 2: 0,1\n2\tc\tc\t\n\
+     1\ta\ta3\tstep limit of 2 at bid 0: 0,1\n2\tc\tc2\t\n",
+     "1 of 4 a\n2 of 4 c\n3 of 4 a3\n4 of 4 c2\n"),
+    ("duplicates -0 --table one bad same", 2,
+     "group\0first\0file\0fault\01\0one\0one\0\0\0bad\0bad\0line 2: Missing\01\0one\0same\0\0", ""),
+    ("duplicates --table --files0-from empty-list", 0, "group\tfirst\tfile\tfault\n", ""),
     // one file alone
     ("duplicates a", 0, "", ""),
     ("duplicates none bad", 5, "", "none: cannot open: no such file\nbad: line 2: Missing\n"),
-    ("duplicates --progress a bad a2", 2, "a\na2\n", "bad: line 2: Missing\n3 of 3 a2\n"),
+    ("duplicates --progress a bad a2", 2, "a\na2\n", "1 of 3 a\n2 of 3 bad\nbad: line 2: Missing\n3 of 3 a2\n"),
     ("duplicates a a2 --steps=3", 0, "a\na2\n", ""),
-    ("duplicates c a c2 --progress", 0, "c\nc2\n", "3 of 3 c2\n"),
+    ("duplicates c a c2 --progress", 0, "c\nc2\n", "1 of 3 c\n2 of 3 a\n3 of 3 c2\n"),
 };
 
 /// The same if standard error is a terminal.
 static TERMINAL_ROWS: &[Row<'_>] = rows! {
     ("duplicates --progress one none same bad", 5, "one\nsame\n",
-     "1 of 4\n\x1b[A\x1b[Knone: cannot open: no such file\n2 of 4\n\x1b[A\x1b[K3 of 4\n\
-     \x1b[A\x1b[Kbad: line 2: Missing\n4 of 4\n"),
-    ("sizes --progress bad", 2, "@\n\t\t\t\t\t\t\t\tline 2: Missing\tbad\n", "1 of 1\n"),
+     "\x1b[?7l1 of 4 one\x1b[?7h\n\x1b[A\x1b[K\x1b[?7l2 of 4 none\x1b[?7h\n\x1b[A\x1b[Knone: cannot open: no such file\n\
+     \x1b[?7l3 of 4 same\x1b[?7h\n\x1b[A\x1b[K\x1b[?7l4 of 4 bad\x1b[?7h\n\x1b[A\x1b[Kbad: line 2: Missing\n"),
+    ("sizes --progress bad", 2, "@\n\t\t\t\t\t\t\t\tline 2: Missing\tbad\n",
+     "\x1b[?7l1 of 1 bad\x1b[?7h\n\x1b[A\x1b[K"),
     ("duplicates one bad", 2, "", "bad: line 2: Missing\n"),
     ("check one", 0, "goods 1 bids 1 dummy 0\n", ""),
 };

@@ -2,8 +2,10 @@
 //! command line, and what it opens.
 
 ghost use Rattle.std.specs.Borrow.{Bor};
-ghost use Rattle.std.specs.List.{Any};
-ghost use Rattle.std.specs.Prelude.{◌≡◌, ◌⊎◌, ℕ, IfErr, IfOk, List, None, Some, false};
+ghost use Rattle.std.specs.List.{Any, list_any};
+ghost use Rattle.std.specs.Str.{bytes_eq};
+ghost use Rattle.commands.specs.declared.faults.Unwritten.TheVariants.{Exists};
+ghost use Rattle.std.specs.Prelude.{◌≡◌, ◌⊎◌, ℕ, IfErr, IfOk, List, None, Some, false, map};
 ghost use Rattle.cats_text.specs.Streams.{has_failed};
 ghost use Rattle.commands.specs.declared.faults.Unopened.{Unopened};
 ghost use Rattle.commands.specs.declared.faults.Unopened.TheVariants.{NoSuchFile};
@@ -12,9 +14,9 @@ use super::each_command::words_of;
 use super::opened::Openings;
 use super::streams::{RunAnswer, StepWriter, expect, text_taken, writer};
 use cats_cmd::program::{Process, run_program};
-use cats_cmd::source::{Source, Way};
+use cats_cmd::source::{Source, Way, path_in};
 use cats_text::Watched;
-use commands::faults::Unopened;
+use commands::faults::{Unopened, Unwritten};
 use std::alloc::{Alloc, AllocError, AllocGlobal, Global};
 use std::process::Abort;
 use std::test::Fail;
@@ -30,6 +32,8 @@ pub(super) struct FilesInMemory<'a> {
     refused: &'a [(&'a str, Unopened)],
     pub(super) openings: Openings,
     pub(super) lines: String,
+    /// The texts that were written, each with its path.
+    pub(super) texts: Vec<(Vec<u8>, Vec<u8>)>,
     alloc: Global,
 }
 
@@ -40,6 +44,7 @@ impl<'a> FilesInMemory<'a> {
             refused: REFUSED,
             openings: Openings::new(),
             lines: String::new(alloc),
+            texts: Vec::new(alloc),
             alloc,
         }
     }
@@ -79,6 +84,10 @@ impl<'a> Source for FilesInMemory<'a> {
 
     ghost opened = { λ source. Some source.openings.list };
 
+    ghost may_not_write = { λ _ _ why. why ≡ Exists };
+
+    ghost texts = { λ source. Some (map (λ t. (t.0.items, t.1.items)) source.texts.items) };
+
     fn open(&mut self, path: &str, way: Way) -> Result<&'a [u8], Unopened> {
         self.openings.note(&[way], path.as_bytes());
         let _ = write!(self.lines, "{way:?} {path}\n");
@@ -88,6 +97,39 @@ impl<'a> Source for FilesInMemory<'a> {
     fn find(&self, _alloc: Global, _path: &str) -> Result<Option<Vec<Vec<u8>>>, AllocError> {
         Ok(None)
     }
+
+    /// Any folder is there.
+    fn make_folder(&mut self, _folder: &str) -> Result<(), Unwritten> {
+        Ok(())
+    }
+
+    fn is_taken(&self, alloc: Global, folder: &str, path: &str) -> Result<bool, AllocError> {
+        let path = path_in(alloc, folder.as_bytes(), path.as_bytes())?;
+        Ok(has_text(self.texts.as_slice(), path.as_slice()))
+    }
+
+    fn write_new(
+        &mut self,
+        alloc: Global,
+        folder: &str,
+        path: &str,
+        text: &[u8],
+    ) -> Result<Result<(), Unwritten>, AllocError> {
+        let path = path_in(alloc, folder.as_bytes(), path.as_bytes())?;
+        if has_text(self.texts.as_slice(), path.as_slice()) {
+            return Ok(Err(Unwritten::Exists));
+        }
+        let text = Vec::from_slice(alloc, text)?;
+        self.texts.push((path, text))?;
+        Ok(Ok(()))
+    }
+}
+
+/// Whether a text was written at a path.
+fn has_text(texts: &[(Vec<u8>, Vec<u8>)], path: &[u8]) -> bool
+    ensures { result ≡ list_any (λ t. bytes_eq t.0.items path.now) texts.now }
+{
+    texts.iter().any(|text| text.0.as_slice() == path)
 }
 
 impl Alloc for FilesInMemory<'_> {
@@ -184,14 +226,14 @@ pub(super) fn judge_rows(
 }
 
 /// How many writes these lines on standard error are to be: one each, and one for what `clap` says of a wrong line. On a
-/// terminal what removes a line is one too.
+/// terminal a line on progress has two codes with ESC, and what removes it has two, and is a write too.
 fn writes_of(lines: &str) -> usize {
     if lines.starts_with("error: ") {
         return 1;
     }
     let ends = lines.bytes().filter(|byte| *byte == b'\n').count();
     let escapes = lines.bytes().filter(|byte| *byte == b'\x1b').count();
-    ends.saturating_add(escapes / 2)
+    ends.saturating_add(escapes / 4)
 }
 
 /// What a command line of these words answers on the files of a source.

@@ -61,7 +61,7 @@ static ROWS: &[Row<'_>] = rows! {
      "@\n2\t3\t3\t0\t0\t\t\t\tstep limit of 2 at bid 2: 0,1\tsum\n\t\t\t\t\t\t\t\tline 2: Missing\tbad\n",
      "sum: 1 price rounded\n"),
     ("duplicates --round --progress fine twin", 0, "fine\ntwin\n",
-     "fine: 2 prices rounded\ntwin: 1 price rounded\n2 of 2 twin\n"),
+     "1 of 2 fine\nfine: 2 prices rounded\n2 of 2 twin\ntwin: 1 price rounded\n"),
     // a list of bids is read as it is
     ("revenue --round --bids bids fine", 0, "revenue 1000.012346\n", "fine: 2 prices rounded\n"),
     ("revenue --round --bids words fine", 2, "", "words: line 2: NotANumber\n"),
@@ -74,7 +74,7 @@ static ROWS: &[Row<'_>] = rows! {
      or\t0\t0.012346\t\t\t\t1\t\nor\t1\t1000\t\t\t\t2\t\nxor\t0 1\t2\t\t3\t\t0\t\n",
      "twin: 1 price rounded\na\\nb: 1 price rounded, 1 to 0\n"),
     ("sizes --round --progress fine a\nb", 0, "@\n2\t3\t2\t1\t1\t3\t2\t1\t\tfine\n1\t1\t1\t0\t0\t0\t0\t0\t\ta\\nb\n",
-     "fine: 2 prices rounded\na\\nb: 1 price rounded, 1 to 0\n2 of 2 a\\nb\n"),
+     "1 of 2 fine\nfine: 2 prices rounded\n2 of 2 a\\nb\na\\nb: 1 price rounded, 1 to 0\n"),
     // without a flag prices are read as they are written
     ("check fine", 2, "", "line 4: TooFine\n"),
     ("check exponents", 2, "", "line 4: NotANumber\n"),
@@ -83,9 +83,11 @@ static ROWS: &[Row<'_>] = rows! {
 /// The same if standard error is a terminal.
 static TERMINAL_ROWS: &[Row<'_>] = rows! {
     ("duplicates --round --progress fine twin", 0, "fine\ntwin\n",
-     "fine: 2 prices rounded\n1 of 2\n\x1b[A\x1b[Ktwin: 1 price rounded\n2 of 2\n"),
+     "\x1b[?7l1 of 2 fine\x1b[?7h\n\x1b[A\x1b[Kfine: 2 prices rounded\n\
+     \x1b[?7l2 of 2 twin\x1b[?7h\n\x1b[A\x1b[Ktwin: 1 price rounded\n"),
     ("duplicates --round --progress fine bad", 2, "",
-     "fine: 2 prices rounded\n1 of 2\n\x1b[A\x1b[Kbad: line 2: Missing\n2 of 2\n"),
+     "\x1b[?7l1 of 2 fine\x1b[?7h\n\x1b[A\x1b[Kfine: 2 prices rounded\n\
+     \x1b[?7l2 of 2 bad\x1b[?7h\n\x1b[A\x1b[Kbad: line 2: Missing\n"),
 };
 
 #[test]

@@ -94,7 +94,8 @@ module _ (request : CallRequest) (text : CallText) (asked : PlainRequest) (out o
 
   abbrev Ran : Files → List (List ℕ) → Type 0
   Ran count files =
-      RunsWith (IsTextAt (text ∷ [])) (λ name why. why ≡ NoSuchFile) left_of printed_of printed_of false (λ name found. found ≡ None) count files asked out
+      RunsWith (IsTextAt (text ∷ [])) (λ name why. why ≡ NoSuchFile) left_of printed_of printed_of false (λ name found. found ≡ None)
+      (λ path why. Unit {0}) None None count files asked out
       out_after err err_after (Ok status)
 
   ran : (name : List ℕ) → IsOnText request name asked → files_of asked.task ≡ One → asked.task ≢ Round → Ran (files_of asked.task) asked.files → Printed
@@ -113,6 +114,7 @@ module _ (request : CallRequest) (text : CallText) (asked : PlainRequest) (out o
 
       by : call.asked ≡ asked
           → AnswersRequest (IsTextAt (text ∷ [])) (λ name why. why ≡ NoSuchFile) left_of printed_of printed_of false (λ name found. found ≡ None)
+          (λ path why. Unit {0}) None None
           call.asked out out_after err err_after status → Printed
       by same (inl (inl runs)) = ran name (by_row request name asked (slice_get TASKS request.task) is) one round (rw same at runs)
       by same (inl (inr failed)) = absurd (no_status failed.fault failed.is)

@@ -1,5 +1,5 @@
 -- `printed_lines_are_shown`
-use Rattle.cats_cmd.proofs.ShownTexts.{duplicates_shown, fault_shown, progress_shown, refusal_shown, table_shown}
+use Rattle.cats_cmd.proofs.ShownTexts.{duplicates_shown, fault_shown, group_table_shown, progress_shown, refusal_shown, table_shown}
 use Rattle.cats_cmd.proofs.laws.printed_lines_are_shown.Goals as goal
 
 pub returns-clause-faults : goal.returns-clause-faults
@@ -16,3 +16,6 @@ returns-clause-groups c = duplicates_shown
 
 pub returns-clause-tables : goal.returns-clause-tables
 returns-clause-tables c = table_shown
+
+pub returns-clause-group_tables : goal.returns-clause-group_tables
+returns-clause-group_tables c = group_table_shown

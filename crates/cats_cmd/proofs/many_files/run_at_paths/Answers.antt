@@ -2,6 +2,14 @@
 use Rattle.cats_cmd.proofs.Common.{inl, map}
 use Rattle.cats_cmd.proofs.many_files.run_at_paths.Goals as goal
 
+pub returns-clause-runs : goal.returns-clause-runs
+returns-clause-runs g c =
+    inl (record {
+      files = map (λ path. path.now) c.as_slice-2.result.now;
+      are = rw (c.as_slice-2.ensures.value, c.in_ok-files.ensures, c.as_slice.ensures.value) c.in_ok-found.ensures;
+      runs = c.run_on_paths.ensures.runs;
+    })
+
 pub returns-clause-opens : goal.returns-clause-opens
 returns-clause-opens g c =
     inl (record {

@@ -1,7 +1,12 @@
 -- `run_program`
-use Rattle.cats_cmd.proofs.Common.{inr, refl, texts_of}
+use Rattle.cats_cmd.proofs.Common.{inr, plain_request, refl, texts_of}
+use Rattle.cats_cmd.proofs.AnswersOfRequests.{silent_line}
 use Rattle.cats_cmd.proofs.Unasked.{still_unasked, unasked_status}
 use Rattle.cats_cmd.proofs.program.run_program.Goals as goal
+
+pub returns-in-Ok-clause-silent : goal.returns-in-Ok-clause-silent
+returns-in-Ok-clause-silent g c =
+    silent_line _ _ (texts_of c.args.words.now) (plain_request c.in-Ok.request) _ c.in-Ok.ensures.request c.answer_request.ensures.silent
 
 pub returns-in-Err-clause-answers : goal.returns-in-Err-clause-answers
 returns-in-Err-clause-answers g c =

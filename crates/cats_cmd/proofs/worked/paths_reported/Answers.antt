@@ -12,10 +12,6 @@ pub returns-clause-rounded : goal.returns-clause-rounded
 unfolding digits encode_utf8
 returns-clause-rounded c = λ goods are. rw are refl
 
-pub returns-clause-counted : goal.returns-clause-counted
-unfolding digits encode_utf8
-returns-clause-counted c = refl
-
 pub returns-clause-terminal : goal.returns-clause-terminal
 unfolding digits encode_utf8
 returns-clause-terminal c = refl

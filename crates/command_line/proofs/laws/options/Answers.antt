@@ -16,5 +16,6 @@ returns c = (
   each _ _ _ (λ program first second. refl),
   each _ _ _ (λ program first second. refl),
   each _ _ _ (λ program first second. refl),
+  each _ _ _ (λ program first second. refl),
   λ list. each _ _ _ (λ program first second. refl),
 )

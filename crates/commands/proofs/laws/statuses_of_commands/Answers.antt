@@ -22,7 +22,7 @@ status_in (Prints status text) = status
 status_in (LacksGood good) = 64
 status_in (LacksBid bid) = 64
 status_in (ExceedsSteps goods) = 3
-status_in (ExceedsAtBid steps total number goods) = 3
+status_in (ExceedsAtBid limit number goods) = 3
 
 -- a test, which is computed where the list is known
 abbrev Has : List ℕ → ℕ → Type 0

@@ -9,4 +9,4 @@ use Rattle.commands.proofs.normalise.named_bids.Goals as goal
 
 pub returns : goal.returns
 unfolding first_refused first_over search_steps_by cut_steps found_indices points_where is_or_point or_value rate_bound greatest_rate
-returns c = record { first = refl; limits = refl; in_a_diff = refl }
+returns c = record { first = refl; bid = refl; of_each = refl; of_all = refl; of_both = refl; each_above_all = refl }

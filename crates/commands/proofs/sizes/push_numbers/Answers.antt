@@ -31,7 +31,7 @@ returns-in-Err-StepLimit g c =
       sizes_put _ _ _ _ _ _ c.new-sizes.ensures.items c.in_ok-push_sizes.ensures c.as_slice-in-Err-StepLimit.ensures.value
           c.in_ok-extend_from_slice-in-Err-StepLimit.ensures.items,
     ))
-    _ (rw c.in-Err-StepLimit.field-0-is at c.name_bid.ensures)
+    _ (c.in_ok-why-in-Err-StepLimit.ensures (rw c.in-Err-StepLimit.field-0-is at c.in-Err-StepLimit.ensures.answer))
 
 pub returns : goal.returns
 returns g c =

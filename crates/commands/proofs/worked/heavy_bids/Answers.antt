@@ -6,8 +6,8 @@ use Rattle.commands.proofs.worked.heavy_bids.Goals as goal
 pub returns : goal.returns
 unfolding digits
 returns c = record {
-  one_limit = λ goods is. rw is refl;
-  two_limits = λ goods is. rw is refl;
+  of_each = λ goods is. rw is refl;
+  of_all = λ goods is. rw is refl;
   twenty = λ goods is. rw is refl;
   more = λ goods is. rw is refl;
   status = λ goods. refl;

@@ -1,0 +1,2 @@
+-- Proofs that several functions of this crate cite.
+pub mod TextsInMemory

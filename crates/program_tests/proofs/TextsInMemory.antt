@@ -1,0 +1,37 @@
+-- The texts of files in memory, as contracts list them.
+use Rattle.std.proofs.Common.{◌≡◌, ◌||◌, ℕ, Bool, true, false, List, [], ◌∷◌, ◌++◌, map, refl, sym, ap, ap₂, ◌∙◌, Some, Vec, Global}
+use Rattle.std.proofs.lemmas.List.{map-append}
+use Rattle.std.specs.List.{list_any}
+use Rattle.std.specs.Str.{bytes_eq}
+use Rattle.cats_cmd.specs.Stores.{MayHave}
+use Rattle.commands.specs.declared.faults.Unwritten.{Unwritten}
+use Rattle.commands.specs.declared.faults.Unwritten.TheVariants.{Exists}
+
+abbrev pub Entry : Type 0
+Entry = Vec ℕ Global × Vec ℕ Global
+
+abbrev pub shown : Entry → List ℕ × List ℕ
+shown t = (t.0.items, t.1.items)
+
+abbrev pub finds : List ℕ → List Entry → Bool
+finds path texts = list_any {X = Entry} (λ t. bytes_eq t.0.items path) texts
+
+-- a path is found among them as among their vectors
+any_shown : (path : List ℕ) (texts : List Entry) → list_any {X = List ℕ × List ℕ} (λ t. bytes_eq t.0 path) (map shown texts) ≡ finds path texts
+any_shown path [] = refl
+any_shown path (t ∷ texts) = ap (λ (b : Bool). bytes_eq t.0.items path || b) (any_shown path texts)
+
+pub lacks : (path other : List ℕ) (texts seen : List Entry) (found : Bool) → other ≡ path → seen ≡ texts → found ≡ finds other seen → found ≡ false
+    → list_any {X = List ℕ × List ℕ} (λ t. bytes_eq t.0 path) (map shown texts) ≡ false
+lacks path other texts seen found is_path is_seen is none =
+    any_shown path texts ∙ sym (is ∙ ap₂ (λ (p : List ℕ) (ts : List Entry). finds p ts) is_path is_seen) ∙ none
+
+pub may_have : (path other : List ℕ) (texts seen : List Entry) (found : Bool) → other ≡ path → seen ≡ texts → found ≡ finds other seen
+    → MayHave (λ (path : List ℕ) (why : Unwritten). why ≡ Exists) (Some (map shown texts)) path found
+may_have path other texts seen true is_path is_seen is = refl
+may_have path other texts seen false is_path is_seen is = lacks path other texts seen false is_path is_seen is refl
+
+pub more_shown : (path text : List ℕ) (texts new : List Entry) (p t : Vec ℕ Global) → new ≡ texts ++ (p, t) ∷ [] → p.items ≡ path → t.items ≡ text
+    → map shown new ≡ map shown texts ++ (path, text) ∷ []
+more_shown path text texts new p t is is_path is_text =
+    ap (map shown) is ∙ map-append shown texts ((p, t) ∷ []) ∙ ap₂ (λ (a b : List ℕ). map shown texts ++ (a, b) ∷ []) is_path is_text

@@ -1,0 +1,97 @@
+//! `cats compare` on two folders, on new ones.
+
+use super::program::run_words;
+use super::streams::expect;
+use std::process::Abort;
+use std::test::Fail;
+use std::{fs, process};
+
+/// The folders, each with its path in the new one, those above first.
+static FOLDERS: [&str; 6] = ["", "/1", "/1/a", "/2", "/2/a", "/3"];
+
+const FIVE: &str = "goods 1\nbids 1\ndummy 0\n0 5 0 #\n";
+
+/// The same auction, with a bid more that is dominated.
+const FIVE_AGAIN: &str = "goods 1\nbids 2\ndummy 0\n0 5 0 #\n1 4 0 #\n";
+
+const FOUR: &str = "goods 1\nbids 1\ndummy 0\n0 4 0 #\n";
+
+const FINE: &str = "goods 1\nbids 1\ndummy 0\n0 5.00000001 0 #\n";
+
+const BAD: &str = "goods 1\nbids 1\ndummy 0\n0 x 0 #\n";
+
+/// The files. In the order of the bytes of their paths `a.b` comes before what is in `a`.
+static FILES: [(&str, &str); 13] = [
+    ("/1/a.b", FIVE),
+    ("/2/a.b", FIVE_AGAIN),
+    ("/1/a/x", FIVE),
+    ("/2/a/x", FOUR),
+    ("/1/a/y", FIVE),
+    ("/2/a/z", FIVE),
+    ("/1/b\tc", FIVE),
+    ("/2/b\tc", BAD),
+    ("/1/d", FINE),
+    ("/2/d", FIVE),
+    ("/3/a.b", FOUR),
+    ("/3/b\tc", FIVE),
+    ("/3/d", FIVE),
+];
+
+/// A command line, and what it answers: its status, its output and what it reports. `@` is the path of the new folder.
+type Row = (&'static str, u8, &'static str, &'static str);
+
+static ROWS: &[Row] = rows! {
+    // one folder twice, with a slash and without
+    ("cats compare @/3 @/3/", 0, "file\tverdict\tfault\n", ""),
+    ("cats compare --all @/3/ @/3", 0, "file\tverdict\tfault\na.b\tsame\t\nb\\tc\tsame\t\nd\tsame\t\n", ""),
+    ("cats compare @/1 @/2", 2,
+     "file\tverdict\tfault\na/x\tdifferent\t\na/y\tleft\t\na/z\tright\t\nb\\tc\t\tsecond: line 4: NotANumber\n\
+     d\t\tfirst: line 4: TooFine\n", ""),
+    ("cats compare --all @/1/a @/2/a", 1, "file\tverdict\tfault\nx\tdifferent\t\ny\tleft\t\nz\tright\t\n", ""),
+    // each file of a pair is named where its prices are rounded
+    ("cats compare --all --round @/1 @/3", 1,
+     "file\tverdict\tfault\na.b\tdifferent\t\na/x\tleft\t\na/y\tleft\t\nb\\tc\tsame\t\nd\tsame\t\n",
+     "@/1/d: 1 price rounded\n"),
+    // a limit is one of each pair
+    ("cats compare --all --bound --steps 1 --total-steps 5 @/3 @/3", 0,
+     "file\tverdict\tfault\na.b\tsame\t\nb\\tc\tsame\t\nd\tsame\t\n", ""),
+    // a folder and a file, and two files
+    ("cats compare @/3 @/3/d", 5, "", "first: Device\n"),
+    ("cats compare --all @/3/d @/3/d", 0, "same\n", ""),
+};
+
+#[test]
+fn compared_folders(rt: HostRuntime) -> Result<(), Fail> {
+    let alloc = rt.alloc();
+    let id = process::id(rt.process());
+    let start = format!(in alloc; "/tmp/cats_compared_{id}")?;
+    for folder in &FOLDERS {
+        let path = format!(in alloc; "{start}{folder}")?;
+        fs::create_dir(&rt, path.as_str())?;
+    }
+    for (file, text) in &FILES {
+        let path = format!(in alloc; "{start}{file}")?;
+        fs::write(&rt, path.as_str(), *text)?;
+    }
+    for row in ROWS {
+        judge_row(&rt, &rt, start.as_str(), row)?;
+    }
+    fs::remove_dir_all(&rt, start.as_str())?;
+    Ok(())
+}
+
+fn judge_row(rt: &HostRuntime, abort: &impl Abort, start: &str, row: &Row) -> Result<(), Fail> {
+    let alloc = rt.alloc();
+    let line = row.0.replace(alloc, '@', start)?;
+    let sent = row.2.replace(alloc, '@', start)?;
+    let reported = row.3.replace(alloc, '@', start)?;
+    let mut words = Vec::new(alloc);
+    for word in line.split(' ') {
+        words.push(word)?;
+    }
+    let answer = run_words(rt, words.as_slice(), CAPACITY, CAPACITY)?;
+    expect(abort, &answer, row.1, sent.as_str(), reported.as_str());
+    Ok(())
+}
+
+const CAPACITY: usize = 65_536;
