@@ -69,7 +69,7 @@ def request_of(call):
     goods, bids = (call.named if call.takes(kind) else () for kind in ("goods", "bids"))
     return Request(
         (ctypes.c_uint16 * max(1, len(goods)))(*goods), len(goods), (ctypes.c_uint32 * max(1, len(bids)))(*bids), len(bids), call.steps, call.total,
-        Task[call.name.upper()], call.prices, call.bound, call.all, call.null, call.table,
+        Task[call.name.upper()], call.prices, call.bound, call.all, call.null,
     )
 
 

@@ -68,7 +68,7 @@ static void try_tasks(const struct cats_text *texts, uint64_t steps, uint64_t to
     uint16_t *goods = new_block(count * sizeof *goods);
     uint32_t *bids = new_block(count * sizeof *bids);
     for (int each = 0; each <= 3 * CATS_SIZES + 2; each++) {
-        struct cats_request request = {goods, count, bids, count, steps, total, (uint8_t)(each / 3), (uint8_t)(each % 3), true, count > 0, count > 0, count > 0};
+        struct cats_request request = {goods, count, bids, count, steps, total, (uint8_t)(each / 3), (uint8_t)(each % 3), true, count > 0, count > 0};
         try_request(&request, texts);
     }
     free(goods);

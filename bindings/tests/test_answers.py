@@ -109,7 +109,7 @@ def printed_compare(verdict):
 
 # What is tried in another file, as the function of the package does not answer what the one of the library does.
 ELSEWHERE = {"duplicates": "test_many.py", "publish": "test_publish.py"}
-TRIED = [call for call in CALLS if call.name not in ELSEWHERE and call.bound and not call.null and not call.table]
+TRIED = [call for call in CALLS if call.name not in ELSEWHERE and call.bound and not call.null]
 
 PRINTED = {
     "check": lambda sizes: Answer(0, b"goods %d bids %d dummy %d\n" % sizes),

@@ -76,7 +76,7 @@ def test_files_that_are_refused(folder, tmp_path):
     rows = list(yinchaku.publish([folder / "none", folder / "b"], tmp_path / "texts", total=1))
     sizes = list(yinchaku.sizes([folder / "none", folder / "b"], total=1))
     assert [(row.goods, row.bids, row.fault) for row in rows if row.fault] == [(row.goods, row.bids, row.fault) for row in sizes if row.fault]
-    assert [row.fault and row.fault[:10] for row in rows] == ["cannot ope", "line 5: To", "total step", None]
+    assert [row.fault and row.fault[:10] for row in rows] == ["cannot ope", "line 5: To", "step limit", None]
     assert texts_below(tmp_path / "texts") == {"c/0000.txt": yinchaku.normalise(SAME)}
 
 

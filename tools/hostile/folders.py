@@ -82,19 +82,10 @@ def reads(one, piece):
     TALLY.judge(answer == one.own, f"{one}: no read of {piece} bytes", answer)
 
 
-def begins_table(one, out):
-    """Whether these are the first rows of the run, whole, of which some may say that memory was refused."""
-    header, *rows = one.own.out.splitlines(True)
-    known = [(header,), *((row, refused_row(path, WANT)) for row, path in zip(rows, one.files))]
-    printed = out.splitlines(True)
-    return len(printed) <= len(known) and all(line in allowed for line, allowed in zip(printed, known))
-
-
-def is_whole_run_refused(one, answer):
-    """Whether the run ended for want of memory, before a file was read, when all were, or, of a table, behind any of its rows."""
+def is_whole_run_refused(answer):
+    """Whether the run ended for want of memory, before a file was read or when all were."""
     lines = answer.err.splitlines(True)
-    is_begun = answer.out == b"" or (makes_table(one) and begins_table(one, answer.out))
-    return answer.status == NO_MEMORY and is_begun and bool(lines) and lines[-1] == WANT
+    return answer.status == NO_MEMORY and answer.out == b"" and bool(lines) and lines[-1] == WANT
 
 
 def memory(one, rest):
@@ -109,7 +100,7 @@ def memory(one, rest):
         if not answer.failures:
             break
         printed = answer.printed()
-        is_right = is_whole_run_refused(one, answer) or printed == one.own.printed() or printed in refused
+        is_right = is_whole_run_refused(answer) or printed == one.own.printed() or printed in refused
         TALLY.judge(is_right, f"{what} {number}", answer)
         whats.add(printed)
     TALLY.judge(answer.printed() == one.own.printed(), f"{what}: none", answer)

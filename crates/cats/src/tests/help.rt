@@ -9,7 +9,7 @@ use std::process::Abort;
 use std::test::Fail;
 
 /// No line of a help is longer.
-const WIDTH: usize = 82;
+const WIDTH: usize = 79;
 
 /// What a command says of an argument: its own text, or else this one.
 fn text_of<'a>(command: &CommandHelp<'a>, argument: (&str, &'a str)) -> &'a str {
