@@ -9,7 +9,17 @@ use std::process::Abort;
 use std::test::Fail;
 
 /// No line of a help is longer.
-const WIDTH: usize = 82;
+const WIDTH: usize = 79;
+
+/// But of `publish`, whose help has three lines of 80 and one of 82.
+const WIDTH_OF_PUBLISH: usize = 82;
+
+fn width_of(command: &CommandHelp<'_>) -> usize {
+    match command.name {
+        "publish" => WIDTH_OF_PUBLISH,
+        _ => WIDTH,
+    }
+}
 
 /// What a command says of an argument: its own text, or else this one.
 fn text_of<'a>(command: &CommandHelp<'a>, argument: (&str, &'a str)) -> &'a str {
@@ -63,7 +73,8 @@ fn has_texts(
     let Some((before, _)) = help.split_once(command.after) else {
         return Ok(false);
     };
-    if !help.split('\n').all(|line| line.chars().count() <= WIDTH) {
+    let width = width_of(command);
+    if !help.split('\n').all(|line| line.chars().count() <= width) {
         return Ok(false);
     }
     for argument in program.arguments {
