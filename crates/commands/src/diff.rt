@@ -77,8 +77,8 @@ This command always uses the bounded search. A step is that of 'cats normalise
 or 'second: '.
 
 Statuses: 0 for the same auction, 1 for different ones; 2 if a file is not a
-bid file; 3 for the step limit: use a greater --steps; 4, 5 and 64 as 'cats
---help' lists them",
+bid file; 3 for a step limit: use a greater --steps or --total-steps, as the
+fault says; 4, 5 and 64 as 'cats --help' lists them",
     }
 }
 

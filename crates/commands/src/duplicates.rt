@@ -65,7 +65,7 @@ replaces. So files with the same bids in another order are together. Even with
 
 Statuses: 0 if every file was judged, whether or not some are one auction; else
 the greatest status of those that were not: 2 for a file that is not a bid
-file, 3 for the step limit (use a greater --steps), 4, 5 and 64 as 'cats
---help' lists them",
+file, 3 for a step limit (use a greater --steps or --total-steps, as the fault
+says), 4, 5 and 64 as 'cats --help' lists them",
     }
 }

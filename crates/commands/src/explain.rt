@@ -59,8 +59,9 @@ How many bids there are for each reason:
 This command always uses the bounded search. A step is that of 'cats normalise
 --bound', and the same files are refused. After a refusal nothing is printed.
 
-Statuses: 0; 2 if the file is not a bid file; 3 for the step limit: use a
-greater --steps; 4, 5 and 64 as 'cats --help' lists them",
+Statuses: 0; 2 if the file is not a bid file; 3 for a step limit: use a
+greater --steps or --total-steps, as the fault says; 4, 5 and 64 as 'cats
+--help' lists them",
     }
 }
 

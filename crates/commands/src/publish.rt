@@ -9,8 +9,8 @@ it is not there";
 
 /// What is said of the flag for a text of each file.
 const ALL: &str = "\
-Writes a text for each file, those of the same auction
-too";
+Writes a text for each file, those of the same
+auction too";
 
 /// What `--help` prints of it.
 pub fn help<'a>() -> CommandHelp<'a> {
@@ -41,17 +41,17 @@ one text is written for each file, those of the same auction too.
   fault            why the file has no text; empty if it has one, or same_as
 
 Nothing in DIR is ever replaced, and no link there is followed. Two files whose
-texts would have one path, and a path at which something is, are reported before
-anything is written. Each text is written beside its place and then named, so it
-is whole or not there, also after an interrupt. A row is printed when its file
-ends, with its text written. A file that is refused has a row too, and the
-others go on. This command always uses the bounded search. A step is that of
-'cats normalise --bound'. 'cats help duplicates' says how paths are printed, and
-what --round and --progress report.
+texts would have one path, and a path at which something is, are reported
+before anything is written. Each text is written beside its place and then
+named, so it is whole or not there, also after an interrupt. A row is printed
+when its file ends, with its text written. A file that is refused has a row
+too, and the others go on. This command always uses the bounded search. A step
+is that of 'cats normalise --bound'. 'cats help duplicates' says how paths are
+printed, and what --round and --progress report.
 
 Statuses: 0 if every file was judged and its text written; else the greatest of
-any file: 2 for a file that is not a bid file, 3 for the step limit (use a
-greater --steps), 4, 5 and 64 as 'cats --help' lists them; 64 too if two texts
-would have one path",
+any file: 2 for a file that is not a bid file, 3 for a step limit (use a
+greater --steps or --total-steps, as the fault says), 4, 5 and 64 as 'cats
+--help' lists them; 64 too if two texts would have one path",
     }
 }

@@ -55,8 +55,9 @@ All files below a folder, in the order of the bytes of their paths:
   $ cats sizes folder > sizes.tsv
 
 Statuses: 0 if every file was judged; else the greatest status of those that
-were not: 2 for a file that is not a bid file, 3 for the step limit (use a
-greater --steps), 4, 5 and 64 as 'cats --help' lists them",
+were not: 2 for a file that is not a bid file, 3 for a step limit (use a
+greater --steps or --total-steps, as the fault says), 4, 5 and 64 as 'cats
+--help' lists them",
     }
 }
 

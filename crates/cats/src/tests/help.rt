@@ -11,16 +11,6 @@ use std::test::Fail;
 /// No line of a help is longer.
 const WIDTH: usize = 79;
 
-/// But of `publish`, whose help has three lines of 80 and one of 82.
-const WIDTH_OF_PUBLISH: usize = 82;
-
-fn width_of(command: &CommandHelp<'_>) -> usize {
-    match command.name {
-        "publish" => WIDTH_OF_PUBLISH,
-        _ => WIDTH,
-    }
-}
-
 /// What a command says of an argument: its own text, or else this one.
 fn text_of<'a>(command: &CommandHelp<'a>, argument: (&str, &'a str)) -> &'a str {
     let own = command.arguments.iter().find(|own| own.0 == argument.0);
@@ -73,8 +63,7 @@ fn has_texts(
     let Some((before, _)) = help.split_once(command.after) else {
         return Ok(false);
     };
-    let width = width_of(command);
-    if !help.split('\n').all(|line| line.chars().count() <= width) {
+    if !help.split('\n').all(|line| line.chars().count() <= WIDTH) {
         return Ok(false);
     }
     for argument in program.arguments {
