@@ -75,6 +75,7 @@ pub use Rattle.prune.specs.Lemmas.Lists.{Contains-filter_parts, filter_same_on, 
 pub use Rattle.prune.specs.Lemmas.Points.{points_where-in_order, IsOrPoint-from_test, is_or_point-true, or_points_are}
 pub use Rattle.prune.specs.Lemmas.Ranges.{in_range}
 pub use Rattle.prune.specs.Lemmas.Refusals.{no_refused_point, no_heavy_point, first_refused-plain, step_limit_weaker}
+pub use Rattle.prune.specs.Lemmas.SameBids.{first_refused-same_bids}
 pub use Rattle.prune.specs.Lemmas.SearchSteps.{no_new_heavy, search_steps-point}
 pub use Rattle.prune.specs.Lemmas.Tables.{same_xor_points, same_or_points, no_xor_points}
 pub use Rattle.prune.specs.Lemmas.Values.{or_value-dominated, xor_value-bound, xor_value-member}

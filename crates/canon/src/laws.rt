@@ -131,6 +131,15 @@ pub fn files_with_the_same_bids_are_alike()
         → AreAlike f g }
 {}
 
+/// Files with the same bids are refused at the same bundle, if they are, by searches of one kind under the same limits. So of
+/// such files either each is judged or none is.
+pub fn files_with_the_same_bids_are_refused_alike()
+    ensures { (options : SearchOptions) (f g : PlainFile) → IsPlainFile f → IsPlainFile g → f.goods ≡ g.goods
+        → ((bid : PlainBid) → (Contains f.bids bid ↔ Contains g.bids bid))
+        → first_refused options f.goods (auction_from f).or_atoms
+        ≡ first_refused options g.goods (auction_from g).or_atoms }
+{}
+
 /// A file is alike with its dummy goods exchanged for one another.
 pub fn files_with_dummy_goods_exchanged_are_alike()
     ensures { (f : PlainFile) (dummies : List ℕ) → IsPlainFile f → IsPermutation (range_with_len 0 f.dummy) dummies

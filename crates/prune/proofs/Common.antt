@@ -30,6 +30,7 @@ pub use Rattle.prune.specs.Lemmas.Points.{xor_points_are, or_points_are}
 pub use Rattle.prune.specs.Lemmas.Ranges.{first_in_range, none_in_range, in_range}
 pub use Rattle.prune.specs.Lemmas.Refusals.{first_over-refused, first_over-within, first_refused_any_goods, first_heavy_any_goods, no_refused_point}
 pub use Rattle.prune.specs.Lemmas.Refusals.{no_heavy_point, none_refused, none_refused-from, first_refused-plain, refused_load, step_limit_weaker}
+pub use Rattle.prune.specs.Lemmas.SameBids.{first_refused-same_bids}
 pub use Rattle.prune.specs.Lemmas.SearchSteps.{greatest_price-member, greatest_price-reached, search_steps-point, no_new_heavy, search_within_packings}
 pub use Rattle.prune.specs.Lemmas.SearchSteps.{search_within_bound, ordered_value}
 pub use Rattle.prune.specs.Lemmas.Tables.{no_xor_points, no_or_points, same_xor_points, same_or_points}

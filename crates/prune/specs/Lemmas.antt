@@ -8,6 +8,7 @@ pub mod PackingIndices
 pub mod Points
 pub mod Ranges
 pub mod Refusals
+pub mod SameBids
 pub mod SearchSteps
 pub mod Tables
 pub mod ValuePoints

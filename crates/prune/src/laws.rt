@@ -148,3 +148,10 @@ pub fn goods_without_bids()
         → All (IsAtom fewer) atoms → All (IsAtom more) atoms
         → first_refused options fewer atoms ≡ first_refused options more atoms }
 {}
+
+/// Lists with the same bids, in any order and any of them more than once, are refused at the same bundle, if they are.
+pub fn same_bids_are_refused_alike()
+    ensures { (options : SearchOptions) (goods : ℕ) (one other : List (Atom (List ℕ))) → All (IsAtom goods) one
+        → All (IsAtom goods) other → ((a : Atom (List ℕ)) → (Contains one a ↔ Contains other a))
+        → first_refused options goods one ≡ first_refused options goods other }
+{}

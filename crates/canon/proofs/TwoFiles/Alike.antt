@@ -1,6 +1,6 @@
 -- Alike files. The idea: OR values depend on the bids that no single bid replaces alone, since any other may be taken for one inside its
 -- bundle with at least its price; and what needs no search depends on the XOR values of the bids alone, which neither their order nor their
--- repetition changes.
+-- repetition changes. Nor do these change which bundle a search is refused at.
 use Rattle.canon.proofs.Common.{◌≡◌, ℕ, ◌<◌, ◌≤◌, List, length, map, Bool, refl, sym, ap, ◌∙◌, subst, arith, le_antisymm, is_none, rules, All, Contains, ◌↔◌}
 use Rattle.canon.proofs.Common.{filter, All-contains, All-weaker, PlainBid, PlainFile, IsPlainFile, Spells, spells_one, IsBundle, IsInside, inside_refl, Atom}
 use Rattle.canon.proofs.Common.{IsAtom, PlainAuction, atom_of, auction_from, xor_atoms_of, IsAuction-auction_from, Contains-map, Contains-unmap}
@@ -8,8 +8,9 @@ use Rattle.canon.proofs.Common.{or_value-price, bidder_cmp, sort_by, xor_table, 
 use Rattle.canon.proofs.Common.{xor_points_keep_values, xor_points_same, All-from_Contains, Contains-filter, Contains-filter_parts, filter_same_on}
 use Rattle.canon.proofs.Common.{map_same_on, or_value-dominated, xor_value-bound, xor_value-member, xor_points, points_of_bidders, has_value, nonzero_dummies}
 use Rattle.canon.proofs.Common.{points_of_nonzero, points_of_dummy, AreSameFiles, IsSameAuction, AreAlike, AreAlikeAuctions, unsearched_auction}
-use Rattle.canon.proofs.Common.{unsearched_file, unsearched_text}
+use Rattle.canon.proofs.Common.{unsearched_file, unsearched_text, SearchOptions, first_refused, first_refused-same_bids}
 use Rattle.cats_text.proofs.Writing.Spells as laid_out
+use Rattle.prune.specs.Lemmas.OnBundles.{IsOnBundle}
 use Rattle.canon.proofs.CanonicalAuctions.Atoms.{HasAtoms, xor_points_atoms}
 use Rattle.canon.proofs.CanonicalAuctions.Sames.{canonical_is_same, same_sym, same_trans}
 use Rattle.canon.proofs.CanonicalAuctions.Smaller.{IsAuction-unsearched}
@@ -91,18 +92,24 @@ unsearched_texts_tell f g h k = search (rules, alike_from_one, one_from_texts, o
 
 -- ---- the same bids
 
--- the XOR value of the bids that pass a test is no greater, where each of the bids is among others
+-- the atoms of the bids that pass a test, where each of the bids is among others
+atoms_among : (p : PlainBid → Bool) (one other : List PlainBid) → ((bid : PlainBid) → Contains one bid → Contains other bid) → (a : Atom (List ℕ))
+    → Contains (map atom_of (filter p one)) a → Contains (map atom_of (filter p other)) a
+atoms_among p one other among a c =
+    let more : List (Atom (List ℕ)) = map atom_of (filter p other) in
+    let bid = Contains-unmap atom_of (filter p one) a c in
+    let parts = Contains-filter_parts p one bid.0 bid.1 in
+    let there : Contains more (atom_of bid.0) = Contains-map atom_of (filter p other) bid.0 (Contains-filter p other bid.0 (among bid.0 parts.0) parts.1) in
+    subst (λ (x : Atom (List ℕ)). Contains more x) (sym bid.2) there
+
+-- their XOR value is no greater
 values_of_some : (p : PlainBid → Bool) (one other : List PlainBid) → ((bid : PlainBid) → Contains one bid → Contains other bid) → (bundle : List ℕ)
     → xor_value (map atom_of (filter p one)) bundle ≤ xor_value (map atom_of (filter p other)) bundle
 values_of_some p one other among bundle =
     let atoms : List (Atom (List ℕ)) = map atom_of (filter p one) in
     let more : List (Atom (List ℕ)) = map atom_of (filter p other) in
     xor_value-bound atoms bundle (xor_value more bundle) (All-from_Contains (λ a. IsInside a.bundle bundle → a.price ≤ xor_value more bundle) atoms
-    (λ a c i.
-    let bid = Contains-unmap atom_of (filter p one) a c in
-    let parts = Contains-filter_parts p one bid.0 bid.1 in
-    let there : Contains more (atom_of bid.0) = Contains-map atom_of (filter p other) bid.0 (Contains-filter p other bid.0 (among bid.0 parts.0) parts.1) in
-    xor_value-member more a (subst (λ (x : Atom (List ℕ)). Contains more x) (sym bid.2) there) bundle i))
+    (λ a c i. xor_value-member more a (atoms_among p one other among a c) bundle i))
 
 module _ (goods dummy : ℕ) (one other : List PlainBid) (same : (bid : PlainBid) → (Contains one bid ↔ Contains other bid)) where
   abbrev f : PlainFile
@@ -131,3 +138,17 @@ pub alike_by_bids : (f g : PlainFile) → f.goods ≡ g.goods → f.dummy ≡ g.
 alike_by_bids f g e d same =
     subst (λ n. AreAlike f (record { goods = n; dummy = g.dummy; bids = g.bids })) e
     (subst (λ n. AreAlike f (record { goods = f.goods; dummy = n; bids = g.bids })) d (alike f.goods f.dummy f.bids g.bids same))
+
+-- ---- and they are refused alike
+
+pub refused_by_bids : (options : SearchOptions) (f g : PlainFile) → IsPlainFile f → IsPlainFile g → f.goods ≡ g.goods
+    → ((bid : PlainBid) → (Contains f.bids bid ↔ Contains g.bids bid))
+    → first_refused options f.goods (auction_from f).or_atoms ≡ first_refused options g.goods (auction_from g).or_atoms
+refused_by_bids options f g h k e same =
+    let one : List (Atom (List ℕ)) = (auction_from f).or_atoms in
+    let other : List (Atom (List ℕ)) = (auction_from g).or_atoms in
+    let on : All (IsOnBundle f.goods) one = on_bundles f.goods one (HasAtoms-file f h).or_atoms in
+    let there : All (IsOnBundle g.goods) other = on_bundles g.goods other (HasAtoms-file g k).or_atoms in
+    first_refused-same_bids f.goods one other on (subst (λ n. All (IsOnBundle n) other) (sym e) there)
+    (λ a. (atoms_among (λ b. is_none b.dummy) f.bids g.bids (λ bid. (same bid).0) a, atoms_among (λ b. is_none b.dummy) g.bids f.bids (λ bid. (same bid).1) a))
+    options ∙ ap (λ n. first_refused options n other) e

@@ -55,7 +55,7 @@ first_refused-plain limit goods atoms = search (rules, plain_refusals, find_filt
 
 -- ---- the refused bundle does not depend on the number of goods
 
-same_steps : (some other : List ℕ → ℕ) → ((bundle : List ℕ) → some bundle ≡ other bundle) → (bundles : List (List ℕ)) (options : SearchOptions)
+pub same_steps : (some other : List ℕ → ℕ) → ((bundle : List ℕ) → some bundle ≡ other bundle) → (bundles : List (List ℕ)) (options : SearchOptions)
     → first_over some options bundles ≡ first_over other options bundles
 unfolding first_over
 same_steps some other e [] options = refl
