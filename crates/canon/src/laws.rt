@@ -131,8 +131,8 @@ pub fn files_with_the_same_bids_are_alike()
         → AreAlike f g }
 {}
 
-/// Files with the same bids are refused at the same bundle, if they are, by searches of one kind under the same limits. So of
-/// such files either each is judged or none is.
+/// Files with the same bids are refused at the same bundle, if they are, by searches of one kind under the same limits.
+/// So of such files either each is judged or none is.
 pub fn files_with_the_same_bids_are_refused_alike()
     ensures { (options : SearchOptions) (f g : PlainFile) → IsPlainFile f → IsPlainFile g → f.goods ≡ g.goods
         → ((bid : PlainBid) → (Contains f.bids bid ↔ Contains g.bids bid))
