@@ -39,6 +39,9 @@ paths. Links, devices and FIFOs below it are left out. A folder below it that
 cannot be read is reported as a file that cannot be opened:
   $ cats duplicates folder
 
+A FIFO or a device that is named is read, as the output of a program by 'cats
+duplicates <(zcat one.gz) <(zcat other.gz)'. In a list of paths it is refused.
+
 Only the files that 'find' finds, however many they are:
   $ find folder -type f -name '*.cats' -print0 |
       cats duplicates --files0-from /dev/stdin
