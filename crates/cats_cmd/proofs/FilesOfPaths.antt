@@ -1,9 +1,11 @@
--- The files at paths: each path adds its own behind those of the paths before it.
-use Rattle.cats_cmd.proofs.Common.{◌≡◌, inl, inr, ℕ, ◌+◌, ◌<◌, length, get_or, take, List, [], ◌∷◌, ◌++◌, map, refl, sym, ap, ◌∙◌, subst, Option, Some, None}
-use Rattle.cats_cmd.proofs.Common.{Result, Ok, Err, append-nil, Bor, Global, IfOk, AllocError, flat_map, IsUtf8, is_utf8, false_from_ne_true, map-append}
-use Rattle.cats_cmd.proofs.Common.{map_push, All-nil, All-push, flat_map-append, IsUtf8-from_is_utf8, is_utf8-from_IsUtf8, Finds, FindsAt, FoundAt, AreFilesAt}
-use Rattle.cats_cmd.proofs.Common.{files_at, files_of, found_of, paths_of, Vec}
+-- The files at paths: each path adds its own behind those of the paths before it. And how each file is opened.
+use Rattle.cats_cmd.proofs.Common.{◌≡◌, inl, inr, ℕ, ◌+◌, ◌<◌, ◌≤◌, length, get_or, take, List, [], ◌∷◌, ◌++◌, map, refl, sym, ap, ap₂, ◌∙◌, subst, Option, Some}
+use Rattle.cats_cmd.proofs.Common.{None, Result, Ok, Err, append-nil, append_assoc, take_all, Bor, Global, IfOk, AllocError, flat_map, IsUtf8, is_utf8}
+use Rattle.cats_cmd.proofs.Common.{false_from_ne_true, map-append, map_push, All-nil, All-push, flat_map-append, IsUtf8-from_is_utf8, is_utf8-from_IsUtf8}
+use Rattle.cats_cmd.proofs.Common.{Finds, FindsAt, FoundAt, AreFilesAt, AreMadeAt, files_at, files_of, found_of, paths_of, Vec, FilePath, Opening, Way, in_way}
+use Rattle.cats_cmd.proofs.Common.{opening_of, openings_at, openings_found}
 use Rattle.cats_cmd.proofs.JudgingPaths.{one_more_path}
+use Rattle.std.proofs.lemmas.List.{map_more}
 
 module _ (may_find : List ℕ → Option (List (List ℕ)) → Type 0) where
   -- what is found at a path that is text
@@ -19,27 +21,73 @@ module _ (may_find : List ℕ → Option (List (List ℕ)) → Type 0) where
   pub found_at_none : (path : List ℕ) → (IsUtf8 path → ⊥) → FindsAt may_find path None
   found_at_none path broken = inr (false_from_ne_true (is_utf8 path) (λ e. broken (IsUtf8-from_is_utf8 path e)))
 
-  pub no_paths : AreFilesAt may_find [] []
-  no_paths = record { found = []; of_paths = refl; finds = All-nil (λ (f : FoundAt). FindsAt may_find f.path f.found); is = refl }
+  module _ {A : Type 0} (made_of : FoundAt → List A) where
+    pub none_made : AreMadeAt may_find made_of [] []
+    none_made = record { found = []; of_paths = refl; finds = All-nil (λ (f : FoundAt). FindsAt may_find f.path f.found); is = refl }
 
-  one_more : (paths files : List (List ℕ)) (path : List ℕ) (found : Option (List (List ℕ))) → AreFilesAt may_find paths files
-      → FindsAt may_find path found → AreFilesAt may_find (paths ++ path ∷ []) (files ++ files_of path found)
-  one_more paths files path found so_far finds =
-      let at : FoundAt = record { path = path; found = found } in
-      record {
-        found = so_far.found ++ at ∷ [];
-        of_paths = map_push (λ (f : FoundAt). f.path) so_far.found at ∙ ap (λ (ps : List (List ℕ)). ps ++ path ∷ []) so_far.of_paths;
-        finds = All-push (λ (f : FoundAt). FindsAt may_find f.path f.found) so_far.found at so_far.finds finds;
-        is = ap (λ (fs : List (List ℕ)). fs ++ files_of path found) so_far.is
-            ∙ ap (λ (fs : List (List ℕ)). flat_map files_at so_far.found ++ fs) (sym (append-nil (files_of path found)))
-            ∙ sym (flat_map-append files_at so_far.found (at ∷ []));
-      }
+    one_more : (paths : List (List ℕ)) (made : List A) (at : FoundAt) → AreMadeAt may_find made_of paths made → FindsAt may_find at.path at.found
+        → AreMadeAt may_find made_of (paths ++ at.path ∷ []) (made ++ made_of at)
+    one_more paths made at so_far finds = record {
+      found = so_far.found ++ at ∷ [];
+      of_paths = map_push (λ (f : FoundAt). f.path) so_far.found at ∙ ap (λ (ps : List (List ℕ)). ps ++ at.path ∷ []) so_far.of_paths;
+      finds = All-push (λ (f : FoundAt). FindsAt may_find f.path f.found) so_far.found at so_far.finds finds;
+      is = ap (λ (all : List A). all ++ made_of at) so_far.is
+          ∙ ap (λ (all : List A). flat_map made_of so_far.found ++ all) (sym (append-nil (made_of at)))
+          ∙ sym (flat_map-append made_of so_far.found (at ∷ []));
+    }
 
-  -- the files of one more path are kept behind those of the paths before it
-  pub next_files : (paths : List (Bor (List ℕ))) (i : ℕ) (d : Bor (List ℕ)) → i < length paths → (files mine all : List (Vec ℕ Global))
-      → AreFilesAt may_find (map (λ p. p.now) (take i paths)) (paths_of files) → (found : Option (List (List ℕ)))
-      → FindsAt may_find (get_or paths i d).now found → paths_of mine ≡ files_of (get_or paths i d).now found → all ≡ files ++ mine
-      → AreFilesAt may_find (map (λ p. p.now) (take (i + 1) paths)) (paths_of all)
-  next_files paths i d l files mine all so_far found finds same is =
-      rw (one_more_path paths i d l, is, map-append (λ (f : Vec ℕ Global). f.items) files mine, same)
-      (one_more (map (λ (p : Bor (List ℕ)). p.now) (take i paths)) (paths_of files) (get_or paths i d).now found so_far finds)
+    -- what is made of one more path is behind what is made of the paths before it
+    pub next_made : (paths : List (Bor (List ℕ))) (i : ℕ) (d : Bor (List ℕ)) → i < length paths → (before after : List A)
+        → AreMadeAt may_find made_of (map (λ p. p.now) (take i paths)) before → (found : Option (List (List ℕ)))
+        → FindsAt may_find (get_or paths i d).now found
+        → after ≡ before ++ made_of (record { path = (get_or paths i d).now; found = found })
+        → AreMadeAt may_find made_of (map (λ p. p.now) (take (i + 1) paths)) after
+    next_made paths i d l before after so_far found finds is =
+        rw (one_more_path paths i d l, is)
+        (one_more (map (λ (p : Bor (List ℕ)). p.now) (take i paths)) before (record { path = (get_or paths i d).now; found = found }) so_far finds)
+
+-- ---- the files below one folder
+
+-- `plain` says what is kept of a file, and `wanted` what is to be
+module _ {X Y A : Type 0} (plain : Y → A) (wanted : X → A) (files : List X) (i : ℕ) (first : List Y) where
+  -- one more of them
+  pub next_below : (d : X) → i < length files → (before after : List Y) (one : Y) → after ≡ before ++ one ∷ [] → plain one ≡ wanted (get_or files i d)
+      → map plain before ≡ map plain first ++ map wanted (take i files) → map plain after ≡ map plain first ++ map wanted (take (i + 1) files)
+  next_below d l before after one is same so_far =
+      rw (is, map-append plain before (one ∷ []), so_far, map_more wanted files i d l, same)
+      (append_assoc (map plain first) (map wanted (take i files)) (wanted (get_or files i d) ∷ []))
+
+  -- these were all
+  pub all_below : (after : List Y) → length files ≤ i → map plain after ≡ map plain first ++ map wanted (take i files)
+      → map plain after ≡ map plain first ++ map wanted files
+  all_below after most is = rw (take_all i files most) at is
+
+-- ---- how they are opened
+
+paths_in_way : (way : Way) (paths : List (List ℕ)) → map (λ (o : Opening). o.0) (in_way way paths) ≡ paths
+paths_in_way way [] = refl
+paths_in_way way (path ∷ paths) = ap (λ (ps : List (List ℕ)). path ∷ ps) (paths_in_way way paths)
+
+paths_found : (way : Way) (path : List ℕ) (found : Option (List (List ℕ))) → map (λ (o : Opening). o.0) (openings_found way path found) ≡ files_of path found
+paths_found way path None = refl
+paths_found way path (Some files) = paths_in_way _ files
+
+paths_opened : (way : Way) (found : List FoundAt) → map (λ (o : Opening). o.0) (flat_map (openings_at way) found) ≡ flat_map files_at found
+paths_opened way [] = refl
+paths_opened way (at ∷ found) =
+    map-append (λ (o : Opening). o.0) (openings_at way at) (flat_map (openings_at way) found)
+    ∙ ap₂ (λ (xs ys : List (List ℕ)). xs ++ ys) (paths_found way at.path at.found) (paths_opened way found)
+
+pub paths_to_open : (files : List FilePath) → map (λ (o : Opening). o.0) (map opening_of files) ≡ map (λ file. file.path.now) files
+paths_to_open [] = refl
+paths_to_open (file ∷ files) = ap (λ (ps : List (List ℕ)). file.path.now ∷ ps) (paths_to_open files)
+
+-- what is opened at paths are the files at these paths
+pub files_opened : (may_find : List ℕ → Option (List (List ℕ)) → Type 0) (way : Way) (paths : List (List ℕ)) (files : List FilePath)
+    → AreMadeAt may_find (openings_at way) paths (map opening_of files) → AreFilesAt may_find paths (map (λ file. file.path.now) files)
+files_opened may_find way paths files h = record {
+  found = h.found;
+  of_paths = h.of_paths;
+  finds = h.finds;
+  is = sym (paths_to_open files) ∙ ap (map (λ (o : Opening). o.0)) h.is ∙ paths_opened way h.found;
+}

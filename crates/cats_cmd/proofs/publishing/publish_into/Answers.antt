@@ -22,5 +22,5 @@ returns-in-Some-2-clause-runs g c =
 
 pub returns-clause-opens : goal.returns-clause-opens
 returns-clause-opens g c =
-    each_behind _ _ _ _ _ _ _ _ c.find_unwritten.ensures.files
+    each_behind _ _ _ _ _ _ _ c.find_unwritten.ensures.files
     (rw (c.as_slice-2.ensures.value, c.in_ok-files.ensures) at c.run_on_paths.ensures.opens)
