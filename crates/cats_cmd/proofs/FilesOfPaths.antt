@@ -1,11 +1,12 @@
 -- The files at paths: each path adds its own behind those of the paths before it. And how each file is opened.
-use Rattle.cats_cmd.proofs.Common.{◌≡◌, inl, inr, ℕ, ◌+◌, ◌<◌, ◌≤◌, length, get_or, take, List, [], ◌∷◌, ◌++◌, map, refl, sym, ap, ap₂, ◌∙◌, subst, Option, Some}
-use Rattle.cats_cmd.proofs.Common.{None, Result, Ok, Err, append-nil, append_assoc, take_all, Bor, Global, IfOk, AllocError, flat_map, IsUtf8, is_utf8}
+use Rattle.cats_cmd.proofs.Common.{◌≡◌, inl, inr, ℕ, ◌+◌, ◌<◌, ◌≤◌, length, get_or, take, List, [], ◌∷◌, ◌++◌, map, refl, sym, ap, ap₂, ◌∙◌, subst, Option}
+use Rattle.cats_cmd.proofs.Common.{Some, None, Result, Ok, Err, append-nil, append_assoc, take_all, Bor, Global, IfOk, AllocError, flat_map, IsUtf8, is_utf8}
 use Rattle.cats_cmd.proofs.Common.{false_from_ne_true, map-append, map_push, All-nil, All-push, flat_map-append, IsUtf8-from_is_utf8, is_utf8-from_IsUtf8}
 use Rattle.cats_cmd.proofs.Common.{Finds, FindsAt, FoundAt, AreFilesAt, AreMadeAt, files_at, files_of, found_of, paths_of, Vec, FilePath, Opening, Way, in_way}
 use Rattle.cats_cmd.proofs.Common.{opening_of, openings_at, openings_found}
 use Rattle.cats_cmd.proofs.JudgingPaths.{one_more_path}
-use Rattle.std.proofs.lemmas.List.{map_more}
+use Rattle.cats_cmd.specs.declared.source.Way.TheVariants.{Regular}
+use Rattle.std.proofs.lemmas.Simd.{map-map}
 
 module _ (may_find : List ℕ → Option (List (List ℕ)) → Type 0) where
   -- what is found at a path that is text
@@ -48,21 +49,29 @@ module _ (may_find : List ℕ → Option (List (List ℕ)) → Type 0) where
 
 -- ---- the files below one folder
 
--- `plain` says what is kept of a file, and `wanted` what is to be
-module _ {X Y A : Type 0} (plain : Y → A) (wanted : X → A) (files : List X) (i : ℕ) (first : List Y) where
+-- `plain` says what is kept of a file, and `kept` what is to be kept of a path
+module _ {Y A : Type 0} (plain : Y → A) (kept : List ℕ → A) (first : List Y) where
   -- one more of them
-  pub next_below : (d : X) → i < length files → (before after : List Y) (one : Y) → after ≡ before ++ one ∷ [] → plain one ≡ wanted (get_or files i d)
-      → map plain before ≡ map plain first ++ map wanted (take i files) → map plain after ≡ map plain first ++ map wanted (take (i + 1) files)
-  next_below d l before after one is same so_far =
-      rw (is, map-append plain before (one ∷ []), so_far, map_more wanted files i d l, same)
-      (append_assoc (map plain first) (map wanted (take i files)) (wanted (get_or files i d) ∷ []))
+  pub next_below : (done : List (Vec ℕ Global)) (path : Vec ℕ Global) (before after : List Y) (one : Y) → after ≡ before ++ one ∷ []
+      → plain one ≡ kept path.items → map plain before ≡ map plain first ++ map (λ p. kept p.items) done
+      → map plain after ≡ map plain first ++ map (λ p. kept p.items) (done ++ path ∷ [])
+  next_below done path before after one is same so_far =
+      rw (is, map-append plain before (one ∷ []), so_far, map-append (λ (p : Vec ℕ Global). kept p.items) done (path ∷ []), same)
+      (append_assoc (map plain first) (map (λ p. kept p.items) done) (kept path.items ∷ []))
 
   -- these were all
-  pub all_below : (after : List Y) → length files ≤ i → map plain after ≡ map plain first ++ map wanted (take i files)
-      → map plain after ≡ map plain first ++ map wanted files
-  all_below after most is = rw (take_all i files most) at is
+  pub all_below : (files : List (Vec ℕ Global)) (after : List Y) → map plain after ≡ map plain first ++ map (λ p. kept p.items) files
+      → map plain after ≡ map plain first ++ map kept (paths_of files)
+  all_below files after is = rw (map-map kept (λ (p : Vec ℕ Global). p.items) files) is
 
 -- ---- how they are opened
+
+-- the files below a folder were taken one by one, and these were all
+pub openings_below : (way : Way) (path : List ℕ) (found : Option (List (List ℕ))) (done rest : List (Vec ℕ Global)) (first after : List Opening)
+    → found ≡ Some (paths_of (done ++ rest)) → rest ≡ [] → after ≡ first ++ map (λ p. (p.items, Regular)) done
+    → after ≡ first ++ openings_found way path found
+openings_below way path found done rest first after is none all =
+    rw (is, none, append-nil done, map-map {C = Opening} (λ (p : List ℕ). (p, Regular)) (λ (p : Vec ℕ Global). p.items) done) all
 
 paths_in_way : (way : Way) (paths : List (List ℕ)) → map (λ (o : Opening). o.0) (in_way way paths) ≡ paths
 paths_in_way way [] = refl

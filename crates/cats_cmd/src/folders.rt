@@ -49,7 +49,8 @@ fn push_found(
 {
     let Some(below) = found else {
         let path = Vec::from_slice(alloc, path)?;
-        return files.push(FoundFile { path, way });
+        files.push(FoundFile { path, way })?;
+        return Ok(());
     };
     for path in below {
         files.push(FoundFile {

@@ -197,7 +197,8 @@ pub(crate) fn run_on_paths<C: Collection, S: Source + AllocGlobal, W: Write, E: 
         (WritesEach (S.may_not_write (S.content_of source.old)) (S.texts source.old) (S.texts source.new))
         (map (λ file. file.path.now) paths.now) (record { refusals = C.refusals; progress = many.entry.progress })
         (C.Makes many.entry) out.old out.new err.old err.new result }
-    ensures opens { OpensEach S.content_of S.opened (map opening_of paths.now) source.old source.new (status_of_run result) }
+    ensures opens { OpensEach S.content_of S.opened (map opening_of paths.now) source.old source.new
+        (status_of_run result) }
 {
     let (mut collection, head) = C::begin(source.alloc(), many)?;
     let sent = send_next(out, 0, head.as_slice())?;
@@ -232,8 +233,8 @@ fn judge_all<C: Collection, S: Source + AllocGlobal, W: Write, E: Write>(
         (WritesEach (S.may_not_write (S.content_of source.old)) (S.texts source.old) (S.texts source.new))
         (S.may_open (S.content_of source.old)) (S.may_refuse (S.content_of source.old)) S.Stream.remaining
         (C.searched work.now.many.options) work.now.many.prices W.contents E.contents
-        (record { refusals = C.refusals; progress = work.now.many.progress }) (map (λ file. file.path.now) work.now.paths.now)
-        collection.new start out.new err.old err.new result }
+        (record { refusals = C.refusals; progress = work.now.many.progress })
+        (map (λ file. file.path.now) work.now.paths.now) collection.new start out.new err.old err.new result }
     ensures opens { OpensAllAs S.content_of S.opened (map opening_of work.now.paths.now) source.old source.new result }
 {
     let mut greatest = DONE;
@@ -289,7 +290,8 @@ fn judge_path<C: Collection, S: Source + AllocGlobal, E: Write>(
         (S.may_refuse (S.content_of source.old)) S.Stream.remaining (C.searched many.entry.options) many.entry.prices
         E.contents (record { refusals = C.refusals; progress = many.entry.progress }) turn.now.count turn.now.number
         turn.now.path.now collection.old collection.new err.old err.new result }
-    ensures opens { Opens S.content_of S.opened source.old source.new (openings_of ((turn.now.path.now, turn.now.way) ∷ [])) }
+    ensures opens { Opens S.content_of S.opened source.old source.new
+        (openings_of ((turn.now.path.now, turn.now.way) ∷ [])) }
 {
     report_progress(many.progress, turn, err);
     let (added, rounded) = judge(source, collection, turn, many)?;
@@ -323,7 +325,8 @@ fn judge<C: Collection, S: Source + AllocGlobal>(
         (S.may_refuse (S.content_of source.old)) S.Stream.remaining (C.searched many.entry.options) many.entry.prices
         turn.now.path.now collection.old collection.new judged.1 judged.0.fault judged.0.text.items) }
     ensures unwritten { OnErr result (S.texts source.new ≡ S.texts source.old) }
-    ensures opens { Opens S.content_of S.opened source.old source.new (openings_of ((turn.now.path.now, turn.now.way) ∷ [])) }
+    ensures opens { Opens S.content_of S.opened source.old source.new
+        (openings_of ((turn.now.path.now, turn.now.way) ∷ [])) }
 {
     let path = turn.path;
     match open_path(source, path, turn.way) {

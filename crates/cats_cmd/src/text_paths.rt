@@ -32,8 +32,8 @@ pub(crate) enum Misplaced {
     Collision(usize, usize),
 }
 
-/// The files at paths, each with the path of its text: its own name, or, if a folder is at the path, its path below that. What
-/// is at a path itself is opened in this way.
+/// The files at paths, each with the path of its text: its own name, or, if a folder is at the path, its path below that.
+/// What is at a path itself is opened in this way.
 pub(crate) fn text_places_at<S: Source>(
     source: &S,
     alloc: Global,

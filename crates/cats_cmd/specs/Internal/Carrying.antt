@@ -18,8 +18,8 @@ abbrev pub IsButForText : NoRequest → NoRequest → Type 0
 IsButForText (WrongUsage text) answer = is_wrong_usage answer ≡ true
 IsButForText no_request answer = answer ≡ no_request
 
--- how a run on many files opens what is at its paths: those that are named, if it is no folder, and those in a list only
--- if it is regular
+-- how a run on many files opens what is at its paths: at those that are named whatever is no folder, and at those in a
+-- list only regular files
 abbrev pub way_at_paths : Option (List ℕ) → Way
 way_at_paths None = NoFolder
 way_at_paths (Some list) = Regular

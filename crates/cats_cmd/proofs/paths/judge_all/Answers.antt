@@ -1,12 +1,13 @@
 -- `judge_all`
-use Rattle.cats_cmd.proofs.Common.{[], FilePath, NoFolder, Ok, Err, arith, refl}
+use Rattle.cats_cmd.proofs.Common.{[], FilePath, Ok, Err, arith, refl}
 use Rattle.cats_cmd.proofs.RunsOfPaths.{sends_same}
 use Rattle.cats_cmd.proofs.JudgingPaths.{all_ended, all_judged, fault_above, first_judged, none_judged, path_more, path_unsent, sent_status}
 use Rattle.cats_cmd.proofs.Opening.{opens_next, opens_none, opens_some}
+use Rattle.cats_cmd.specs.declared.source.Way.TheVariants.{Anything}
 use Rattle.cats_cmd.proofs.paths.judge_all.Goals as goal
 
 abbrev nowhere : FilePath
-nowhere = record { path = record { ref_ptr = (0, 0); now = [] }; way = NoFolder }
+nowhere = record { path = record { ref_ptr = (0, 0); now = [] }; way = Anything }
 
 pub loop-number-init : goal.loop-number-init
 loop-number-init g c = record {

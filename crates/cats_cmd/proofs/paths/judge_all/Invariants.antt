@@ -1,5 +1,6 @@
 -- `judge_all`
-use Rattle.cats_cmd.proofs.Common.{◌≡◌, false, ℕ, List, map, take, length, has_failed, BeginsRun, HasJudged, Opens, Watched, opening_of, openings_of, WritesEach}
+use Rattle.cats_cmd.proofs.Common.{◌≡◌, false, ℕ, List, map, take, length, has_failed, BeginsRun, HasJudged, Opens, Watched, opening_of, openings_of}
+use Rattle.cats_cmd.proofs.Common.{WritesEach}
 use Rattle.cats_cmd.proofs.paths.judge_all.Given as goal
 
 -- the files at the paths so far were judged, what is printed of them was sent, and these paths were opened
