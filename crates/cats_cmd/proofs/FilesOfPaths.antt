@@ -49,20 +49,10 @@ module _ (may_find : List ℕ → Option (List (List ℕ)) → Type 0) where
 
 -- ---- the files below one folder
 
--- `plain` says what is kept of a file, and `kept` what is to be kept of a path
-module _ {Y A : Type 0} (plain : Y → A) (kept : List ℕ → A) (first : List Y) where
-  -- one more of them
-  pub next_below : (done : List (Vec ℕ Global)) (path : Vec ℕ Global) (before after : List Y) (one : Y) → after ≡ before ++ one ∷ []
-      → plain one ≡ kept path.items → map plain before ≡ map plain first ++ map (λ p. kept p.items) done
-      → map plain after ≡ map plain first ++ map (λ p. kept p.items) (done ++ path ∷ [])
-  next_below done path before after one is same so_far =
-      rw (is, map-append plain before (one ∷ []), so_far, map-append (λ (p : Vec ℕ Global). kept p.items) done (path ∷ []), same)
-      (append_assoc (map plain first) (map (λ p. kept p.items) done) (kept path.items ∷ []))
-
-  -- these were all
-  pub all_below : (files : List (Vec ℕ Global)) (after : List Y) → map plain after ≡ map plain first ++ map (λ p. kept p.items) files
-      → map plain after ≡ map plain first ++ map kept (paths_of files)
-  all_below files after is = rw (map-map kept (λ (p : Vec ℕ Global). p.items) files) is
+-- what is kept of each of them was kept one by one
+pub all_below : {A : Type 0} (kept : List ℕ → A) (files : List (Vec ℕ Global)) (i : ℕ) (first after : List A) → length files ≤ i
+    → after ≡ first ++ map (λ p. kept p.items) (take i files) → after ≡ first ++ map kept (paths_of files)
+all_below kept files i first after most is = rw (map-map kept (λ (p : Vec ℕ Global). p.items) files) (rw (take_all i files most) at is)
 
 -- ---- how they are opened
 

@@ -1,7 +1,7 @@
 -- The texts of the files at paths: each path adds its own behind those of the paths before it. And texts with their numbers.
 use Rattle.cats_cmd.proofs.Common.{◌≡◌, ◌⊎◌, inl, inr, ℕ, ◌+◌, ◌<◌, suc, zero, length, get_or, take, drop, List, [], ◌∷◌, ◌++◌, map, refl, sym, ap, ◌∙◌, subst}
 use Rattle.cats_cmd.proofs.Common.{Option, Some, None, flat_map, Global, Vec, arith, true, false, cond, Bool, ⊎_elim, cases_Bool}
-use Rattle.cats_cmd.proofs.Common.{ap₂, AreFilesAt, files_at, files_of, paths_of, All, FoundAt, FilePath, Opening, opening_of}
+use Rattle.cats_cmd.proofs.Common.{ap₂, AreFilesAt, files_at, files_of, All, All-push, FoundAt, FilePath, Opening, opening_of}
 use Rattle.cats_cmd.proofs.Common.{map-append}
 use Rattle.cats_cmd.proofs.Common.{take_more, take_all, length-append, length-take-le, ◌≤◌}
 use Rattle.cats_cmd.proofs.Common.{slice_get_within, take-append_seam, get_or-append_seam, append_assoc, length-map, BeginsWith, nat_cmp, slice_cmp}

@@ -1,14 +1,11 @@
 -- `text_places_at`
 use Rattle.cats_cmd.proofs.Common.{ℕ, List, [], Bor, found_of, openings_at}
-use Rattle.cats_cmd.proofs.FilesOfPaths.{next_made, none_made}
+use Rattle.cats_cmd.proofs.FilesOfPaths.{next_made}
 use Rattle.cats_cmd.specs.TextPaths.{text_places_at}
 use Rattle.cats_cmd.proofs.text_paths.text_places_at.Goals as goal
 
 abbrev nowhere : Bor (List ℕ)
 nowhere = record { ref_ptr = (0, 0); now = [] }
-
-pub loop-path-init : goal.loop-path-init
-loop-path-init g c = record { places = none_made _ text_places_at; openings = none_made _ (openings_at c.args.way) }
 
 pub loop-path-preserved : goal.loop-path-preserved
 loop-path-preserved g c =
