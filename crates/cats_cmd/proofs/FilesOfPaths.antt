@@ -1,7 +1,7 @@
 -- The files at paths: each path adds its own behind those of the paths before it. And how each file is opened.
 use Rattle.cats_cmd.proofs.Common.{◌≡◌, inl, inr, ℕ, ◌+◌, ◌<◌, ◌≤◌, length, get_or, take, List, [], ◌∷◌, ◌++◌, map, refl, sym, ap, ap₂, ◌∙◌, subst, Option}
-use Rattle.cats_cmd.proofs.Common.{Some, None, Result, Ok, Err, append-nil, append_assoc, take_all, Bor, Global, IfOk, AllocError, flat_map, IsUtf8, is_utf8}
-use Rattle.cats_cmd.proofs.Common.{false_from_ne_true, map-append, map_push, All-nil, All-push, flat_map-append, IsUtf8-from_is_utf8, is_utf8-from_IsUtf8}
+use Rattle.cats_cmd.proofs.Common.{Some, None, Result, Ok, Err, append-nil, take_all, Bor, Global, IfOk, AllocError, flat_map, IsUtf8, is_utf8}
+use Rattle.cats_cmd.proofs.Common.{false_from_ne_true, map-append, map_push, All-push, flat_map-append, IsUtf8-from_is_utf8, is_utf8-from_IsUtf8}
 use Rattle.cats_cmd.proofs.Common.{Finds, FindsAt, FoundAt, AreFilesAt, AreMadeAt, files_at, files_of, found_of, paths_of, Vec, FilePath, Opening, Way, in_way}
 use Rattle.cats_cmd.proofs.Common.{opening_of, openings_at, openings_found}
 use Rattle.cats_cmd.proofs.JudgingPaths.{one_more_path}
@@ -23,9 +23,6 @@ module _ (may_find : List ℕ → Option (List (List ℕ)) → Type 0) where
   found_at_none path broken = inr (false_from_ne_true (is_utf8 path) (λ e. broken (IsUtf8-from_is_utf8 path e)))
 
   module _ {A : Type 0} (made_of : FoundAt → List A) where
-    pub none_made : AreMadeAt may_find made_of [] []
-    none_made = record { found = []; of_paths = refl; finds = All-nil (λ (f : FoundAt). FindsAt may_find f.path f.found); is = refl }
-
     one_more : (paths : List (List ℕ)) (made : List A) (at : FoundAt) → AreMadeAt may_find made_of paths made → FindsAt may_find at.path at.found
         → AreMadeAt may_find made_of (paths ++ at.path ∷ []) (made ++ made_of at)
     one_more paths made at so_far finds = record {

@@ -1,7 +1,7 @@
 -- Paths that were opened, and more of them behind these.
 use Rattle.cats_cmd.proofs.Common.{◌≡◌, ℕ, ◌+◌, ◌<◌, List, [], ◌∷◌, ◌++◌, length, map, get_or, take, refl, sym, ap, ◌∙◌, append-nil, Option, Some, None}
 use Rattle.cats_cmd.proofs.Common.{◌≤◌, inl, inr, Judged, KeepsFiles, OpensFirst, RunFault, status_of_fault}
-use Rattle.cats_cmd.proofs.Common.{filter, Result, Ok, Err, IsErrAnd, IsUtf8, is_utf8, append_assoc, take-map, filter-append, false_from_ne_true}
+use Rattle.cats_cmd.proofs.Common.{Result, Ok, Err, IsErrAnd, IsUtf8, is_utf8, append_assoc, take-map, filter-append, false_from_ne_true}
 use Rattle.cats_cmd.proofs.Common.{IsUtf8-from_is_utf8, OpensAllAs, Opens, OpensEach, openings_of, with_openings, FilePath, Opening, Way, opening_of}
 use Rattle.std.proofs.lemmas.List.{map_more}
 

@@ -7,7 +7,7 @@ use Rattle.cats_cmd.proofs.Common.{take_more, take_all, length-append, length-ta
 use Rattle.cats_cmd.proofs.Common.{slice_get_within, take-append_seam, get_or-append_seam, append_assoc, length-map, BeginsWith, nat_cmp, slice_cmp}
 use Rattle.cats_cmd.proofs.FilesOfPaths.{paths_to_open}
 use Rattle.cats_cmd.specs.Internal.TextNumbers.{IsBelowOne, IsNumberOf, NumbersTexts, number_in, place_openings, plain_places}
-use Rattle.cats_cmd.specs.TextPaths.{AreSeparate, AreTextPlaces, Collides, IsAtOrBelow, LeadsOut, PlacedText, leads_below, path_below, text_places_at}
+use Rattle.cats_cmd.specs.TextPaths.{AreSeparate, AreTextPlaces, Collides, IsAtOrBelow, LeadsOut, PlacedText, leads_below, text_places_at}
 use Rattle.cats_cmd.specs.TextPaths.{text_places_of, texts_at}
 use Rattle.cats_cmd.specs.declared.text_paths.TextPlace.{TextPlace}
 use Rattle.std.specs.BTreeMap.{BTreeMap}
