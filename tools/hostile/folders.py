@@ -12,11 +12,13 @@ import socket
 import stat
 import sys
 import tempfile
+import threading
 import tty
 from concurrent.futures import ThreadPoolExecutor
 from itertools import count
 
-from runs import BIDDERS, DEVICE_FAILED, LADDER, LARGER_BID, NO_MEMORY, PIECE, PIPE, SINGLES, Answer, Case, case, ended, full, header, reads_of, run, start, write_file
+from runs import BIDDERS, DEVICE_FAILED, FILE_REFUSED, LADDER, LARGER_BID, NO_MEMORY, PIECE, PIPE, SINGLES, Answer, Case, case, ended, feed, full, header, reads_of
+from runs import run, start, write_file
 from tally import TALLY, some_of
 
 STEP_LIMIT, WRONG_USAGE = 3, 64
@@ -129,7 +131,7 @@ def writes(one):
 def other_inputs(one):
     """A device that gives nothing and a path where nothing is are among the files."""
     for path, status, line in (
-        ("/dev/null", DEVICE_FAILED, b"cannot open: not a file\n"),
+        ("/dev/null", FILE_REFUSED, b"line 1: Missing\n"),
         ("/nothing", DEVICE_FAILED, b"cannot open: no such file\n"),
     ):
         for at in range(len(one.files) + 1):
@@ -321,15 +323,26 @@ def trees(folder):
     for link in (again, again + b"/"):
         judge_paths([link + b"/a"], files_below(link + b"/a"))
     judge_paths([tree + b"/link to a folder", tree + b"/link"], [*files_below(tree + b"/link to a folder"), tree + b"/link"])
-    judge_paths([tree + b"/a/fifo", tree + b"/a/z"], [tree + b"/a/fifo", tree + b"/a/z"], {tree + b"/a/fifo": b"cannot open: not a file\n"})
-    # no folder is looked for at a path that is not UTF-8
+    # no folder is looked for at a path that is not UTF-8, and no FIFO is opened that a list names
+    fifo = tree + b"/a/fifo"
     with open(path, "wb") as file:
-        file.write(tree + b"/a\0" + tree + b"/\xfe\0" + again)
+        file.write(tree + b"/a\0" + tree + b"/\xfe\0" + fifo + b"\0" + again)
     turned = files_below(again)
     refused.update({path: b"cannot open\n" for path in turned if not is_utf8(path)})
-    judge_paths(["--files0-from", path], [*inner, tree + b"/\xfe", *turned], refused)
+    refused[fifo] = b"cannot open: not a file\n"
+    judge_paths(["--files0-from", path], [*inner, tree + b"/\xfe", fifo, *turned], refused)
+    named(fifo, tree + b"/b")
     if os.geteuid() != 0:
         locked(tree + b"/a")
+
+
+def named(fifo, same):
+    """A FIFO on the line is read, as a file with the same text is."""
+    for command in ("duplicates", "sizes"):
+        own = run([command, same, same])
+        threading.Thread(target=feed, args=(fifo, LADDER.encode(), 7), daemon=True).start()
+        answer = run([command, fifo, same])
+        TALLY.judge(answer == own._replace(out=own.out.replace(same, fifo, 1)), f"{command} of a FIFO", answer)
 
 
 def locked(folder):
@@ -361,7 +374,7 @@ def unread(folder):
     folders = [refusal(path, is_folder) for path in (top, top + b"/b")]
     for call, rest, wanted in (
         ("folder", False, folders),
-        ("folder", True, [refusal(path, denied) for path in (top, top + b"/b")]),
+        ("folder", True, [folders[0], refusal(top + b"/b", denied)]),
         ("names", False, folders),
         ("look", False, [own, folders[1], *(refusal(path, denied) for path in paths)]),
     ):

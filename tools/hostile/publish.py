@@ -23,7 +23,7 @@ from typing import NamedTuple
 
 from canonical import canonical
 from folders import NAMES, WRONG_USAGE
-from runs import BIDDERS, DEVICE_FAILED, FILE_REFUSED, LADDER, LARGER_BID, NO_MEMORY, ONE_BIDDER, PROGRAM, SECONDS, SINGLES, TOGETHER, Answer, header, run
+from runs import BIDDERS, DEVICE_FAILED, FILE_REFUSED, LADDER, LARGER_BID, NO_MEMORY, ONE_BIDDER, PROGRAM, SECONDS, SINGLES, TOGETHER, Answer, feed, header, run
 from tally import FULL, TALLY, some_of
 
 HEADER = b"file\ttext\tsame_as\tgoods\tbids\tkept\trounded\tzeroed\tfault\n"
@@ -216,8 +216,8 @@ def odd_names(place, _):
     judge_run("names that are escaped", [to, given], wanted_of(given, files), to)
     judge_run("a name that is escaped", [to + b"\x1b", given + b"/a\nb"], wanted_of(given, {b"a\nb": files[b"a\nb"]}), to + b"\x1b")
     judge_refusal("a text with such a name", [to, given + b"/a\nb"], DEVICE_FAILED, to + rb"/a\nb: " + EXISTS + b"\n", to, found_in(to))
-    fifo = b"\t" * 8 + b"cannot open: not a file\n"
-    judge_run("a FIFO", [to + b" 2", given + b"/fifo"], Wanted(DEVICE_FAILED, HEADER + given + b"/fifo" + fifo, {}), to + b" 2")
+    threading.Thread(target=feed, args=(given + b"/fifo", LADDER.encode(), 7), daemon=True).start()
+    judge_run("a FIFO", [to + b" 2", given + b"/fifo"], wanted_of(given, {b"fifo": LADDER}), to + b" 2")
     bytes_alone = place + b"/bytes"
     make_files(bytes_alone, {b"\xff": LADDER, b"\xfe/f": LADDER, b"f": LADDER})
     own = wanted_of(bytes_alone, {b"f": LADDER})

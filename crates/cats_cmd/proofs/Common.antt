@@ -31,21 +31,22 @@ pub use Rattle.cats_cmd.specs.Escaping.{AreBytes, escaped, code_at, escaped_behi
 pub use Rattle.cats_cmd.specs.Escaping.{IsTextOf, Plain, Reading, hex_escape, is_control_byte, reads_byte, unescaped, is_shown}
 pub use Rattle.cats_cmd.specs.FileLists.{IsUnread, ReadsList, RunsAtPaths, RunsOnList}
 pub use Rattle.cats_cmd.specs.FindingFaults.{fault_text, faults_text, text_of_fault, text_of_place}
-pub use Rattle.cats_cmd.specs.Folders.{Finds, FindsAt, FoundAt, AreFilesAt, files_at, files_of, found_of, paths_of, BeginsWith, IsBelow, ListsFolder}
+pub use Rattle.cats_cmd.specs.Folders.{Finds, FindsAt, FoundAt, AreFilesAt, AreMadeAt, files_at, files_of, found_of, paths_of, BeginsWith, IsBelow, ListsFolder}
 pub use Rattle.cats_cmd.specs.Folders.{with_slash}
 pub use Rattle.cats_cmd.specs.Inputs.{IsOpened, ReadsBytes, IsUnreadStream, StopsReading, WantsMemoryForBytes, ReadsAll}
 pub use Rattle.cats_cmd.specs.Internal.Carrying.{IsButForText}
 pub use Rattle.cats_cmd.specs.Internal.Gathering.{Gathers, GathersNext}
 pub use Rattle.cats_cmd.specs.Internal.Judging.{KeepsNumbers, AddsJudgement, AddsOpened, AddsRefused, KeepsGroups, AddsPath, HasJudged, JudgesAllAs}
 pub use Rattle.cats_cmd.specs.Internal.Judging.{AddsStream, AddsFile, BeginsRun, KeepsFaults, SendsNext, ShowsNext, StopsAtPath}
-pub use Rattle.cats_cmd.specs.Internal.Judging.{OpensAllAs}
+pub use Rattle.cats_cmd.specs.Internal.Judging.{OpensAllAs, opening_of}
 pub use Rattle.cats_cmd.specs.Internal.Roundings.{RoundsText, judged_of}
 pub use Rattle.cats_cmd.specs.Internal.Walking.{WalksBelow, StaysBelow}
 pub use Rattle.cats_cmd.specs.Openings.{status_of_run}
-pub use Rattle.cats_cmd.specs.Opening.{KeepsFiles, Opening, Opens, OpensEach, OpensFirst, openings_of, with_openings}
+pub use Rattle.cats_cmd.specs.Opening.{KeepsFiles, Opening, Opens, OpensEach, OpensFirst, in_way, openings_at, openings_found, openings_of, with_openings}
 pub use Rattle.cats_cmd.specs.OutputPaths.{has_lines, IsPath, behind_tabs, end_byte, groups_in, is_empty, paths_in_table, read_path}
 pub use Rattle.cats_cmd.specs.PathLists.{ended, parts_in, paths_in, without_empty_end}
 pub use Rattle.cats_cmd.specs.Stores.{Attempt, IsUnwritten, Text, WritesEach, text_unless, texts_written, with_texts}
+pub use Rattle.cats_cmd.specs.declared.paths.FilePath.{FilePath}
 pub use Rattle.cats_cmd.specs.declared.paths.Judged.{Judged}
 pub use Rattle.cats_cmd.specs.Paths.{EndsOnPaths, FailsRun, FailsOnPaths, JudgesPaths, Made, RefusesPaths, ShowsOfPaths, bytes_counted, turn_text, unwrapped}
 pub use Rattle.cats_cmd.specs.Paths.{wrapped}

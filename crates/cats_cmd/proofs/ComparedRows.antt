@@ -3,10 +3,10 @@ use Rattle.cats_cmd.proofs.Common.{◌≡◌, ◌==◌, ℕ, ◌≤◌, ◌<◌,
 use Rattle.cats_cmd.proofs.Common.{cond}
 use Rattle.cats_cmd.proofs.Common.{Bool, true, false, Result, Ok, Err, Option, PricedGives, PricedRefuses, Answer, RunFault, NotOpened, Only, Refused, Sent}
 use Rattle.cats_cmd.proofs.Common.{Memory, Watched, Unopened, PlainRequest, SendsNext, SendsPart, SendsWhole, IsErrAnd, bytes_counted, append_assoc, append-nil}
-use Rattle.cats_cmd.proofs.Common.{AllByRecursion, map-append, length-append, fold_push, filter, filter-append, is_utf8, Opening, Opens, openings_of, paths_of}
+use Rattle.cats_cmd.proofs.Common.{AllByRecursion, map-append, length-append, fold_push, Opening, Opens, in_way, openings_of, paths_of}
 use Rattle.cats_cmd.proofs.Common.{Vec, Global, get_or, get_or-map, length-map, take-map}
 use Rattle.cats_cmd.proofs.JudgingPaths.{all_push, counted_then, sent_part, sent_then}
-use Rattle.cats_cmd.proofs.Opening.{opens_none, opens_then}
+use Rattle.cats_cmd.proofs.Opening.{opens_none, openings_more}
 use Rattle.cats_cmd.specs.ComparedFolders.{ArePathsBelow, ComparedPath, FoundFolders, JudgesRow, JudgesRows, OpensRows, ReportsRow, ReportsRows, RunsBelow}
 use Rattle.cats_cmd.specs.ComparedFolders.{RunsOnRows, compared_header, compared_table, opened_at, row_of, status_of_rows, status_of_verdict, verdict_of}
 use Rattle.cats_cmd.specs.Internal.Comparing.{AddsRow, HasCompared}
@@ -178,7 +178,7 @@ module _ {S H F : Type 0} (content_of : S → H) (opened : S → Option (List Op
   pub row_opened : (old new : S) (row : ComparedPath)
       → JudgesRow (may_open (content_of old)) (may_refuse (content_of old)) remaining request folders row
       → Opens content_of opened old new
-      (openings_of Regular (opened_at (path_in folders.left.path row.path) (path_in folders.right.path row.path) row.verdict))
+      (openings_of (in_way Regular (opened_at (path_in folders.left.path row.path) (path_in folders.right.path row.path) row.verdict)))
       → OpensSome (row.path ∷ []) old new
   row_opened old new row judges opens =
       let files = opened_at (path_in folders.left.path row.path) (path_in folders.right.path row.path) row.verdict in
@@ -186,7 +186,7 @@ module _ {S H F : Type 0} (content_of : S → H) (opened : S → Option (List Op
         rows = row ∷ [];
         of_paths = refl;
         each = (judges, tt);
-        opens = subst (λ (fs : List (List ℕ)). Opens content_of opened old new (openings_of Regular fs)) (sym (append-nil files)) opens;
+        opens = subst (λ (fs : List (List ℕ)). Opens content_of opened old new (openings_of (in_way Regular fs))) (sym (append-nil files)) opens;
       }
 
   pub opens_row : (paths : List (List ℕ)) (path : List ℕ) (old between new : S) → OpensSome paths old between → OpensSome (path ∷ []) between new
@@ -204,10 +204,9 @@ module _ {S H F : Type 0} (content_of : S → H) (opened : S → Option (List Op
             (rw first.opens.stays at then.each);
         opens = rw (
           flat_map-append files first.rows then.rows,
-          filter-append is_utf8 one other,
-          map-append {B = Opening} (λ p. (p, Regular)) (filter is_utf8 one) (filter is_utf8 other),
+          map-append {B = Opening} (λ p. (p, Regular)) one other,
         )
-            (opens_then content_of opened old between new (openings_of Regular one) (openings_of Regular other) first.opens then.opens);
+            (openings_more content_of opened old between new (in_way Regular one) (in_way Regular other) first.opens then.opens);
       }
 
 -- ---- as the code has them

@@ -4,7 +4,7 @@ use Rattle.cats_cmd.proofs.Common.{◌≡◌, ℕ, suc, ◌+◌, ◌<◌, ◌≤
 use Rattle.cats_cmd.proofs.Common.{Option, Some, Result, Ok, Err, Bor, AllByRecursion, flat_map, append-nil, append_assoc, map-append, take_more, length-append}
 use Rattle.cats_cmd.proofs.Common.{length-map, length-take-le, take-map, take_all, take-append-add, fold_push, Watched, PriceRule, SearchOptions, AddsPath}
 use Rattle.cats_cmd.proofs.Common.{Appends-trans, BeginsRun, EndsOnPaths, FailsOnPaths, HasJudged, Judged, JudgesAllAs, JudgesPaths, Made, RefusesPaths}
-use Rattle.cats_cmd.proofs.Common.{RoundedCount}
+use Rattle.cats_cmd.proofs.Common.{FilePath, RoundedCount}
 use Rattle.cats_cmd.proofs.Common.{Judges, Reporting, ReportsFrom, ReportsPath, greatest_status, judgement_at, lines_from, lines_of_path, report_lines}
 use Rattle.cats_cmd.proofs.Common.{status_of_path, without_refusals, removal_lines, rounding_lines, progress_lines, fault_judged, is_lost, Bool, bytes_counted}
 use Rattle.cats_cmd.proofs.Common.{Silent, JudgedPath, Judgement, ReportsAll, RunFault, Sent, Unopened, Only, Memory, SendFault, SendsNext, SendsPart}
@@ -12,6 +12,7 @@ use Rattle.cats_cmd.proofs.Common.{SendsWhole}
 use Rattle.cats_cmd.proofs.Common.{StopsAtPath, Attempt, Text, Unwritten, WritesEach, inner_of, option_map, IsErrAnd, status_of_fault, status_of_run}
 use Rattle.cats_cmd.proofs.Storing.{wrote_none, wrote_nothing, wrote_then}
 use Rattle.std.specs.Prelude.{slice_get}
+use Rattle.std.proofs.lemmas.List.{map_more}
 use Rattle.std.proofs.lemmas.Option.{slice_get-get_or, slice_get-map}
 
 pub all_push : {X : Type 0} (P : X → Type 0) (xs : List X) (x : X) → AllByRecursion P xs → P x → AllByRecursion P (xs ++ x ∷ [])
@@ -219,31 +220,34 @@ pub one_more_path : (paths : List (Bor (List ℕ))) (i : ℕ) (d : Bor (List ℕ
 one_more_path paths i d l = ap (map (λ (p : Bor (List ℕ)). p.now)) (take_more paths i d l)
     ∙ map-append (λ (p : Bor (List ℕ)). p.now) (take i paths) (get_or paths i d ∷ [])
 
-so_many : (paths : List (Bor (List ℕ))) (i : ℕ) → i < length paths → length (map (λ (p : Bor (List ℕ)). p.now) (take i paths)) ≡ i
-so_many paths i l = length-map (take i paths) (λ (p : Bor (List ℕ)). p.now) ∙ length-take-le i paths (omega (arith, l))
+abbrev path_at : FilePath → List ℕ
+path_at file = file.path.now
+
+so_many : (paths : List FilePath) (i : ℕ) → i < length paths → length (map path_at (take i paths)) ≡ i
+so_many paths i l = length-map (take i paths) path_at ∙ length-take-le i paths (omega (arith, l))
 
 module _ {C F W E : Type 0} {may_not_write : List ℕ → Unwritten → Type 0} (Has : C → List (List ℕ × Judgement) → Type 0)
     (Shows : List (List ℕ × Judgement) → List ℕ → List Attempt → Type 0)
     (first known : Option (List Text)) (may_open : List ℕ → F → Type 0) (may_refuse : List ℕ → Unopened → Type 0)
     (remaining : F → Option (List ℕ)) (options : Option SearchOptions) (prices : Option PriceRule) (contents : W → Option (List ℕ))
-    (messages : E → Option (List ℕ)) (reporting : Reporting) (paths : List (Bor (List ℕ))) (out : Watched W) (err : Watched E)
+    (messages : E → Option (List ℕ)) (reporting : Reporting) (paths : List FilePath) (out : Watched W) (err : Watched E)
     (i : ℕ) (kept : C) (greatest sent : ℕ) (between : Watched W) (before : Watched E)
     (h : HasJudged Has Shows (WritesEach may_not_write first known) may_open may_refuse remaining options prices contents messages reporting (length paths)
-    (map (λ p. p.now) (take i paths)) kept out between err before greatest sent) where
+    (map path_at (take i paths)) kept out between err before greatest sent) where
   -- these were all
   pub all_judged : length paths ≤ i → (judged : Judged) → judged.greatest ≡ greatest → judged.sent ≡ sent
       → JudgesAllAs Has Shows (WritesEach may_not_write first known) may_open may_refuse remaining options prices contents messages reporting
-      (map (λ p. p.now) paths) kept out
+      (map path_at paths) kept out
       between err before (Ok judged)
-  all_judged most judged g s = rw (g, s, length-map paths (λ (p : Bor (List ℕ)). p.now)) (rw (take_all i paths most) at h)
+  all_judged most judged g s = rw (g, s, length-map paths path_at) (rw (take_all i paths most) at h)
 
-  module _ (now : Option (List Text)) (d : Bor (List ℕ)) (l : i < length paths) (after : Watched E) where
+  module _ (now : Option (List Text)) (d : FilePath) (l : i < length paths) (after : Watched E) where
     -- memory was refused at the next path
     pub first_judged : StopsAtPath Has Shows (WritesEach may_not_write known now) may_open may_refuse remaining options prices messages reporting
         (length paths) (i + 1)
-        (get_or paths i d).now before after
+        (get_or paths i d).path.now before after
         → RefusesPaths may_open may_refuse remaining contents messages options prices Shows (WritesEach may_not_write first now)
-        (map (λ p. p.now) paths) reporting out between err
+        (map path_at paths) reporting out between err
         after Only Memory
     first_judged stops = record {
       only = refl;
@@ -253,8 +257,8 @@ module _ {C F W E : Type 0} {may_not_write : List ℕ → Unwritten → Type 0} 
         begins = record {
           count = i;
           between = before;
-          judges = rw (length-map paths (λ (p : Bor (List ℕ)). p.now), take-map (λ (p : Bor (List ℕ)). p.now) i paths) h.judges;
-          begins = inr ((get_or paths i d).now, next_there, rw (length-map paths (λ (p : Bor (List ℕ)). p.now), next_number) stops.named);
+          judges = rw (length-map paths path_at, take-map path_at i paths) h.judges;
+          begins = inr ((get_or paths i d).path.now, next_there, rw (length-map paths path_at, next_number) stops.named);
         };
         shows = h.shows;
         wrote = subst (λ (known : Option (List Text)). WritesEach may_not_write first known h.made.attempts) (wrote_none known now stops.wrote) h.wrote;
@@ -264,34 +268,34 @@ module _ {C F W E : Type 0} {may_not_write : List ℕ → Unwritten → Type 0} 
       next_number : suc i ≡ i + 1
       next_number = omega arith
 
-      next_there : slice_get (map (λ (p : Bor (List ℕ)). p.now) paths) i ≡ Some (get_or paths i d).now
-      next_there = slice_get-map (λ (p : Bor (List ℕ)). p.now) paths i ∙ ap (option_map (λ (p : Bor (List ℕ)). p.now)) (slice_get-get_or paths i d l)
+      next_there : slice_get (map path_at paths) i ≡ Some (get_or paths i d).path.now
+      next_there = slice_get-map path_at paths i ∙ ap (option_map path_at) (slice_get-get_or paths i d l)
 
     module _ (more : C) (status : ℕ) (text : List ℕ)
         (a : AddsPath Has Shows (WritesEach may_not_write known now) may_open may_refuse remaining options prices messages reporting (length paths) (i + 1)
-        (get_or paths i d).now kept more before after status text) where
+        (get_or paths i d).path.now kept more before after status text) where
       added : AddsPath Has Shows (WritesEach may_not_write known now) may_open may_refuse remaining options prices messages reporting (length paths)
-          (length (map (λ (p : Bor (List ℕ)). p.now) (take i paths)) + 1) (get_or paths i d).now kept more before after status text
+          (length (map path_at (take i paths)) + 1) (get_or paths i d).path.now kept more before after status text
       added = rw (so_many paths i l) a
 
       pub path_more : (out_after : Watched W) (all last : ℕ) → SendsNext contents sent text between out_after (Ok all) → last ≡ max greatest status
           → HasJudged Has Shows (WritesEach may_not_write first now) may_open may_refuse remaining options prices contents messages reporting (length paths)
-          (map (λ p. p.now) (take (i + 1) paths)) more out out_after err after last all
+          (map path_at (take (i + 1) paths)) more out out_after err after last all
       path_more out_after all last sends is =
-          rw is (rw (one_more_path paths i d l) (judged_more Has Shows first may_open may_refuse remaining options prices contents messages reporting
-          (length paths) out err known now (map (λ (p : Bor (List ℕ)). p.now) (take i paths)) kept more greatest sent between before after
-          (get_or paths i d).now status text h added out_after all sends))
+          rw is (rw (map_more path_at paths i d l) (judged_more Has Shows first may_open may_refuse remaining options prices contents messages reporting
+          (length paths) out err known now (map path_at (take i paths)) kept more greatest sent between before after
+          (get_or paths i d).path.now status text h added out_after all sends))
 
       -- the output failed
       pub path_unsent : (out_after : Watched W) (fault : RunFault) → SendsNext contents sent text between out_after (Err fault)
           → EndsOnPaths may_open may_refuse remaining contents messages options prices Shows (WritesEach may_not_write first now)
-          (map (λ p. p.now) paths) reporting out out_after
+          (map path_at paths) reporting out out_after
           err after fault
       path_unsent out_after (Sent fault) sends =
           failed_more Has Shows first may_open may_refuse remaining options prices contents messages reporting
-          (length paths) out err known now (map (λ (p : Bor (List ℕ)). p.now) (take i paths)) kept more greatest sent between before after
-          (get_or paths i d).now status text h added (map (λ (p : Bor (List ℕ)). p.now) paths) (sym (length-map paths (λ (p : Bor (List ℕ)). p.now)))
-          (rw (so_many paths i l) (take-map (λ (p : Bor (List ℕ)). p.now) (i + 1) paths ∙ one_more_path paths i d l)) out_after fault sends
+          (length paths) out err known now (map path_at (take i paths)) kept more greatest sent between before after
+          (get_or paths i d).path.now status text h added (map path_at paths) (sym (length-map paths path_at))
+          (rw (so_many paths i l) (take-map path_at (i + 1) paths ∙ map_more path_at paths i d l)) out_after fault sends
       path_unsent out_after fault sends = absurd sends
 
 module _ {C F W E : Type 0} (Has : C → List (List ℕ × Judgement) → Type 0) (Shows : List (List ℕ × Judgement) → List ℕ → List Attempt → Type 0)

@@ -1,9 +1,9 @@
 -- Paths that were opened, and more of them behind these.
 use Rattle.cats_cmd.proofs.Common.{◌≡◌, ℕ, ◌+◌, ◌<◌, List, [], ◌∷◌, ◌++◌, length, map, get_or, take, refl, sym, ap, ◌∙◌, append-nil, Option, Some, None}
 use Rattle.cats_cmd.proofs.Common.{◌≤◌, inl, inr, Judged, KeepsFiles, OpensFirst, RunFault, status_of_fault}
-use Rattle.cats_cmd.proofs.Common.{filter, Result, Ok, Err, IsErrAnd, IsUtf8, is_utf8, append_assoc, take-map, filter-append, false_from_ne_true}
-use Rattle.cats_cmd.proofs.Common.{IsUtf8-from_is_utf8, OpensAllAs, Opens, OpensEach, openings_of, with_openings, Bor, Opening, Way, map-append}
-use Rattle.cats_cmd.proofs.JudgingPaths.{one_more_path}
+use Rattle.cats_cmd.proofs.Common.{Result, Ok, Err, IsErrAnd, IsUtf8, is_utf8, append_assoc, take-map, filter-append, false_from_ne_true}
+use Rattle.cats_cmd.proofs.Common.{IsUtf8-from_is_utf8, OpensAllAs, Opens, OpensEach, openings_of, with_openings, FilePath, Opening, Way, opening_of}
+use Rattle.std.proofs.lemmas.List.{map_more}
 
 with_more : (known : Option (List Opening)) (some more : List Opening) → with_openings (with_openings known some) more ≡ with_openings known (some ++ more)
 with_more None some more = refl
@@ -24,8 +24,8 @@ module _ {S H : Type 0} (content_of : S → H) (opened : S → Option (List Open
     more = later.more ∙ ap (λ (known : Option (List Opening)). with_openings known more) first.more ∙ with_more (opened old) some more;
   }
 
-  pub opens_first_none : (way : Way) (source : S) (paths : List (List ℕ)) → OpensFirst content_of opened way source source paths
-  opens_first_none way source paths = record { count = 0; opens = opens_none source }
+  pub opens_first_none : (source : S) (openings : List Opening) → OpensFirst content_of opened source source openings
+  opens_first_none source openings = record { count = 0; opens = opens_none source }
 
   -- then files and openings stayed what they were
   pub opens_kept : (old between new : S) (some : List Opening) → Opens content_of opened old between some → KeepsFiles content_of opened between new
@@ -40,47 +40,42 @@ module _ {S H : Type 0} (content_of : S → H) (opened : S → Option (List Open
     more = later.more ∙ ap (λ (known : Option (List Opening)). with_openings known some) kept.known;
   }
 
-  pub each_behind : (way : Way) (paths : List (List ℕ)) (old between new : S) (status : ℕ) → KeepsFiles content_of opened old between
-      → OpensEach content_of opened way paths between new status → OpensEach content_of opened way paths old new status
-  each_behind way paths old between new status kept (inl all) = inl (opens_behind old between new (openings_of way paths) kept all)
-  each_behind way paths old between new status kept (inr (least, first)) = inr (
+  pub each_behind : (openings : List Opening) (old between new : S) (status : ℕ) → KeepsFiles content_of opened old between
+      → OpensEach content_of opened openings between new status → OpensEach content_of opened openings old new status
+  each_behind openings old between new status kept (inl all) = inl (opens_behind old between new (openings_of openings) kept all)
+  each_behind openings old between new status kept (inr (least, first)) = inr (
     least,
-    record { count = first.count; opens = opens_behind old between new (openings_of way (take first.count paths)) kept first.opens },
+    record { count = first.count; opens = opens_behind old between new (openings_of (take first.count openings)) kept first.opens },
   )
 
-  module _ (way : Way) where
-    -- one more of many paths
-    pub opens_next : (old between new : S) (paths : List (Bor (List ℕ))) (i : ℕ) (d : Bor (List ℕ)) → i < length paths
-        → Opens content_of opened old between (openings_of way (map (λ p. p.now) (take i paths)))
-        → Opens content_of opened between new (openings_of way ((get_or paths i d).now ∷ []))
-        → Opens content_of opened old new (openings_of way (map (λ p. p.now) (take (i + 1) paths)))
-    opens_next old between new paths i d l first later =
-        let before = map (λ (p : Bor (List ℕ)). p.now) (take i paths) in
-        let one = (get_or paths i d).now ∷ [] in
-        rw (
-          one_more_path paths i d l,
-          filter-append is_utf8 before one,
-          map-append {B = Opening} (λ p. (p, way)) (filter is_utf8 before) (filter is_utf8 one),
-        )
-        (opens_then old between new (openings_of way before) (openings_of way one) first later)
+  -- more of many openings
+  pub openings_more : (old between new : S) (some more : List Opening) → Opens content_of opened old between (openings_of some)
+      → Opens content_of opened between new (openings_of more) → Opens content_of opened old new (openings_of (some ++ more))
+  openings_more old between new some more first later =
+      rw (filter-append (λ (o : Opening). is_utf8 o.0) some more) (opens_then old between new (openings_of some) (openings_of more) first later)
 
-    -- the run was stopped behind one of them
-    pub opens_some : (old between new : S) (paths : List (Bor (List ℕ))) (i : ℕ) (d : Bor (List ℕ)) → i < length paths
-        → Opens content_of opened old between (openings_of way (map (λ p. p.now) (take i paths)))
-        → Opens content_of opened between new (openings_of way ((get_or paths i d).now ∷ []))
-        → (answer : Result Judged RunFault) → IsErrAnd answer (λ fault. 4 ≤ status_of_fault fault)
-        → OpensAllAs content_of opened way (map (λ p. p.now) paths) old new answer
-    opens_some old between new paths i d l first later (Ok judged) is = absurd is
-    opens_some old between new paths i d l first later (Err fault) is = (
-      is,
-      record {
-        count = i + 1;
-        opens = rw (take-map (λ (p : Bor (List ℕ)). p.now) (i + 1) paths) (opens_next old between new paths i d l first later);
-      },
-    )
+  -- one more of many files
+  pub opens_next : (old between new : S) (files : List FilePath) (i : ℕ) (d : FilePath) → i < length files
+      → Opens content_of opened old between (openings_of (map opening_of (take i files)))
+      → Opens content_of opened between new (openings_of (opening_of (get_or files i d) ∷ []))
+      → Opens content_of opened old new (openings_of (map opening_of (take (i + 1) files)))
+  opens_next old between new files i d l first later =
+      rw (map_more opening_of files i d l) (openings_more old between new (map opening_of (take i files)) (opening_of (get_or files i d) ∷ []) first later)
+
+  -- the run was stopped behind one of them
+  pub opens_some : (old between new : S) (files : List FilePath) (i : ℕ) (d : FilePath) → i < length files
+      → Opens content_of opened old between (openings_of (map opening_of (take i files)))
+      → Opens content_of opened between new (openings_of (opening_of (get_or files i d) ∷ []))
+      → (answer : Result Judged RunFault) → IsErrAnd answer (λ fault. 4 ≤ status_of_fault fault)
+      → OpensAllAs content_of opened (map opening_of files) old new answer
+  opens_some old between new files i d l first later (Ok judged) is = absurd is
+  opens_some old between new files i d l first later (Err fault) is = (
+    is,
+    record { count = i + 1; opens = rw (take-map opening_of (i + 1) files) (opens_next old between new files i d l first later) },
+  )
 
 -- ---- the path of one file
 
 module _ {S H : Type 0} (content_of : S → H) (opened : S → Option (List Opening)) (way : Way) where
-  pub opens_broken : (source : S) (path : List ℕ) → (IsUtf8 path → ⊥) → Opens content_of opened source source (openings_of way (path ∷ []))
+  pub opens_broken : (source : S) (path : List ℕ) → (IsUtf8 path → ⊥) → Opens content_of opened source source (openings_of ((path, way) ∷ []))
   opens_broken source path broken = rw (false_from_ne_true (is_utf8 path) (λ e. broken (IsUtf8-from_is_utf8 path e))) (opens_none content_of opened source)

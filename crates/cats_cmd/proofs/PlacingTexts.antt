@@ -1,13 +1,13 @@
 -- The texts of the files at paths: each path adds its own behind those of the paths before it. And texts with their numbers.
 use Rattle.cats_cmd.proofs.Common.{◌≡◌, ◌⊎◌, inl, inr, ℕ, ◌+◌, ◌<◌, suc, zero, length, get_or, take, drop, List, [], ◌∷◌, ◌++◌, map, refl, sym, ap, ◌∙◌, subst}
-use Rattle.cats_cmd.proofs.Common.{Option, Some, None, append-nil, Bor, flat_map, Global, Vec, arith, true, false, cond, Bool, ⊎_elim, cases_Bool}
-use Rattle.cats_cmd.proofs.Common.{ap₂, AreFilesAt, files_at, files_of, paths_of, map_push, All, All-nil, All-push, flat_map-append, FindsAt, FoundAt}
+use Rattle.cats_cmd.proofs.Common.{Option, Some, None, flat_map, Global, Vec, arith, true, false, cond, Bool, ⊎_elim, cases_Bool}
+use Rattle.cats_cmd.proofs.Common.{ap₂, AreFilesAt, files_at, files_of, All, All-push, FoundAt, FilePath, Opening, opening_of}
 use Rattle.cats_cmd.proofs.Common.{map-append}
 use Rattle.cats_cmd.proofs.Common.{take_more, take_all, length-append, length-take-le, ◌≤◌}
 use Rattle.cats_cmd.proofs.Common.{slice_get_within, take-append_seam, get_or-append_seam, append_assoc, length-map, BeginsWith, nat_cmp, slice_cmp}
-use Rattle.cats_cmd.proofs.JudgingPaths.{one_more_path}
-use Rattle.cats_cmd.specs.Internal.TextNumbers.{IsBelowOne, IsNumberOf, NumbersTexts, number_in, plain_places}
-use Rattle.cats_cmd.specs.TextPaths.{AreSeparate, AreTextPlaces, Collides, IsAtOrBelow, LeadsOut, PlacedText, leads_below, path_below, text_places_at}
+use Rattle.cats_cmd.proofs.FilesOfPaths.{paths_to_open}
+use Rattle.cats_cmd.specs.Internal.TextNumbers.{IsBelowOne, IsNumberOf, NumbersTexts, number_in, place_openings, plain_places}
+use Rattle.cats_cmd.specs.TextPaths.{AreSeparate, AreTextPlaces, Collides, IsAtOrBelow, LeadsOut, PlacedText, leads_below, text_places_at}
 use Rattle.cats_cmd.specs.TextPaths.{text_places_of, texts_at}
 use Rattle.cats_cmd.specs.declared.text_paths.TextPlace.{TextPlace}
 use Rattle.std.specs.BTreeMap.{BTreeMap}
@@ -18,33 +18,6 @@ use Rattle.std.proofs.lemmas.Bool.{cases_lt, false≢true}
 use Rattle.std.proofs.lemmas.List.{length-take}
 use Rattle.std.proofs.lemmas.Option.{get_or_from_slice_get, slice_get-get_or, slice_get-map}
 use Rattle.std.proofs.lemmas.Slice.Eq.{bytes_eq-Decides}
-
-module _ (may_find : List ℕ → Option (List (List ℕ)) → Type 0) where
-  pub no_text_places : AreTextPlaces may_find [] []
-  no_text_places = record { found = []; of_paths = refl; finds = All-nil (λ (f : FoundAt). FindsAt may_find f.path f.found); is = refl }
-
-  one_more : (paths : List (List ℕ)) (places : List PlacedText) (path : List ℕ) (found : Option (List (List ℕ))) → AreTextPlaces may_find paths places
-      → FindsAt may_find path found → AreTextPlaces may_find (paths ++ path ∷ []) (places ++ text_places_of path found)
-  one_more paths places path found so_far finds =
-      let at : FoundAt = record { path = path; found = found } in
-      record {
-        found = so_far.found ++ at ∷ [];
-        of_paths = map_push (λ (f : FoundAt). f.path) so_far.found at ∙ ap (λ (ps : List (List ℕ)). ps ++ path ∷ []) so_far.of_paths;
-        finds = All-push (λ (f : FoundAt). FindsAt may_find f.path f.found) so_far.found at so_far.finds finds;
-        is = ap (λ (ps : List PlacedText). ps ++ text_places_of path found) so_far.is
-            ∙ ap (λ (ps : List PlacedText). flat_map text_places_at so_far.found ++ ps) (sym (append-nil (text_places_of path found)))
-            ∙ sym (flat_map-append text_places_at so_far.found (at ∷ []));
-      }
-
-  -- the files of one more path are behind those of the paths before it
-  pub next_text_places : (paths : List (Bor (List ℕ))) (i : ℕ) (d : Bor (List ℕ)) → i < length paths → (before after : List TextPlace)
-      → AreTextPlaces may_find (map (λ p. p.now) (take i paths)) (plain_places before) → (found : Option (List (List ℕ)))
-      → FindsAt may_find (get_or paths i d).now found
-      → plain_places after ≡ plain_places before ++ text_places_of (get_or paths i d).now found
-      → AreTextPlaces may_find (map (λ p. p.now) (take (i + 1) paths)) (plain_places after)
-  next_text_places paths i d l before after so_far found finds same =
-      rw (one_more_path paths i d l, same)
-      (one_more (map (λ (p : Bor (List ℕ)). p.now) (take i paths)) (plain_places before) (get_or paths i d).now found so_far finds)
 
 -- ---- the files
 
@@ -71,35 +44,18 @@ files_placed may_find paths places h = record {
   is = ap (λ (ps : List PlacedText). map (λ p. p.file) ps) h.is ∙ placed_files h.found;
 }
 
--- ---- the files below one folder
+-- ---- what is kept of them
 
 abbrev placed : TextPlace → PlacedText
 placed p = record { file = p.file.items; text = p.text.items }
 
--- one more of the files below a folder
-pub next_below : (path : List ℕ) (files : List (Vec ℕ Global)) (i : ℕ) (d : Vec ℕ Global) → i < length files
-    → (first before after : List TextPlace) (place : TextPlace) → after ≡ before ++ place ∷ [] → place.file.items ≡ (get_or files i d).items
-    → place.text.items ≡ path_below path (get_or files i d).items
-    → plain_places before ≡ plain_places first ++ map (λ file. record { file = file.items; text = path_below path file.items }) (take i files)
-    → plain_places after ≡ plain_places first ++ map (λ file. record { file = file.items; text = path_below path file.items }) (take (i + 1) files)
-next_below path files i d l first before after place is file text so_far =
-    let f : Vec ℕ Global → PlacedText = λ file. record { file = file.items; text = path_below path file.items } in
-    let one : placed place ≡ f (get_or files i d) = rw (file, text) refl in
-    rw (is, map-append placed before (place ∷ []), so_far, take_more files i d l, map-append f (take i files) (get_or files i d ∷ []), one)
-    (append_assoc (plain_places first) (map f (take i files)) (f (get_or files i d) ∷ []))
-
-abbrev below_as : List ℕ → List ℕ → PlacedText
-below_as path file = record { file = file; text = path_below path file }
-
-all_below : (path : List ℕ) (files : List (Vec ℕ Global)) → map (λ file. below_as path file.items) files ≡ map (below_as path) (paths_of files)
-all_below path [] = refl
-all_below path (file ∷ files) = ap (λ (ps : List PlacedText). below_as path file.items ∷ ps) (all_below path files)
-
--- these were all
-pub found_below : (path : List ℕ) (files : List (Vec ℕ Global)) (i : ℕ) (first after : List TextPlace) → length files ≤ i
-    → plain_places after ≡ plain_places first ++ map (λ file. record { file = file.items; text = path_below path file.items }) (take i files)
-    → plain_places after ≡ plain_places first ++ text_places_of path (Some (paths_of files))
-found_below path files i first after most is = rw (sym (all_below path files)) (rw (take_all i files most) at is)
+-- the files that are opened are those of the places
+pub placed_opened : (files : List FilePath) (places : List TextPlace) → map opening_of files ≡ place_openings places
+    → map (λ file. file.path.now) files ≡ map (λ (p : PlacedText). p.file) (plain_places places)
+placed_opened files places same = sym (paths_to_open files) ∙ ap (map (λ (o : Opening). o.0)) same ∙ back places where
+  back : (places : List TextPlace) → map (λ (o : Opening). o.0) (place_openings places) ≡ map (λ (p : PlacedText). p.file) (plain_places places)
+  back [] = refl
+  back (place ∷ places) = ap (λ (ps : List (List ℕ)). place.file.items ∷ ps) (back places)
 
 -- ---- texts by their numbers
 

@@ -1,9 +1,9 @@
 -- Where texts can be written. And a run that publishes files, or refuses them.
 use Rattle.cats_cmd.proofs.Common.{◌≡◌, ◌+◌, ◌≤◌, ℕ, length, take, List, [], Option, Some, None, inl, inr, refl, Result, Bool, All, All-push, take_all, Bor}
 use Rattle.cats_cmd.proofs.Common.{IsUtf8}
-use Rattle.cats_cmd.proofs.Common.{map, option_map, unwrap_or, PriceRule, Reporting, RunFault, SearchOptions, Text, Unopened, Unwritten, Watched, OpensEach}
-use Rattle.cats_cmd.proofs.Common.{Opening, Way}
-use Rattle.cats_cmd.proofs.PlacingTexts.{files_placed, take_next}
+use Rattle.cats_cmd.proofs.Common.{option_map, unwrap_or, PriceRule, Reporting, RunFault, SearchOptions, Text, Unopened, Unwritten, Watched, OpensEach}
+use Rattle.cats_cmd.proofs.Common.{AreMadeAt, Opening, Way, openings_at}
+use Rattle.cats_cmd.proofs.PlacingTexts.{take_next}
 use Rattle.cats_cmd.specs.Internal.PublishRuns.{PublishesInto}
 use Rattle.cats_cmd.specs.Opening.{OpensAtPaths}
 use Rattle.cats_cmd.specs.PublishRuns.{AreFree, PublishesAtPaths}
@@ -44,11 +44,8 @@ module _ {F W E : Type 0} (may_open : List ℕ → F → Type 0) (may_refuse : L
   published found paths places are same (inr memory) = inr memory
 
 pub opens_placed : {S H : Type 0} (content_of : S → H) (opened : S → Option (List Opening)) (may_find : H → List ℕ → Option (List (List ℕ)) → Type 0)
-    (way : Way) (old new : S) (status : ℕ) (found paths : List (List ℕ)) (places : List PlacedText) → AreTextPlaces (may_find (content_of old)) found places
-    → found ≡ paths → OpensEach content_of opened way (map (λ p. p.file) places) old new status
+    (way : Way) (old new : S) (status : ℕ) (found paths : List (List ℕ)) (openings : List Opening)
+    → AreMadeAt (may_find (content_of old)) (openings_at way) found openings → found ≡ paths → OpensEach content_of opened openings old new status
     → OpensAtPaths content_of opened may_find way paths old new status
-opens_placed content_of opened may_find way old new status found paths places are same opens = inl (record {
-  files = map (λ p. p.file) places;
-  are = rw same at (files_placed (may_find (content_of old)) found places are);
-  opens = opens;
-})
+opens_placed content_of opened may_find way old new status found paths openings are same opens =
+    inl (record { openings = openings; are = rw same at are; opens = opens })

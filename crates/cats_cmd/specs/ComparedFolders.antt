@@ -27,7 +27,7 @@ use Rattle.requests.specs.declared.task.Task.{Task}
 use Rattle.requests.specs.declared.task.Task.TheVariants.{Compare}
 use Rattle.cats_cmd.specs.Escaping.{escaped}
 use Rattle.cats_cmd.specs.Folders.{Finds}
-use Rattle.cats_cmd.specs.Opening.{Opening, Opens, openings_of}
+use Rattle.cats_cmd.specs.Opening.{Opening, Opens, in_way, openings_of}
 use Rattle.cats_cmd.specs.Paths.{IsUnopened, bytes_counted}
 use Rattle.cats_cmd.specs.PricedInputs.{IsPriced, PricedGives, PricedRefuses, none_rounded, rounding_lines}
 use Rattle.cats_cmd.specs.Reports.{ReportsAll, is_lost, status_if_lost}
@@ -367,7 +367,7 @@ module _ {S H F : Type 0} (content_of : S → H) (opened : S → Option (List Op
     pub of_paths : map (λ r. r.path) rows ≡ paths
     pub each : AllByRecursion (JudgesRow (may_open (content_of old)) (may_refuse (content_of old)) remaining request
         folders) rows
-    pub opens : Opens content_of opened old new (openings_of Regular (opened_files folders rows))
+    pub opens : Opens content_of opened old new (openings_of (in_way Regular (opened_files folders rows)))
 
   -- of all paths, or of the first, as the run was stopped
   abbrev pub OpensEachRow : List (List ℕ) → S → S → ℕ → Type 0

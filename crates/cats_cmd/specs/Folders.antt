@@ -56,9 +56,13 @@ module _ (may_find : List ℕ → Option (List (List ℕ)) → Type 0) where
   FindsAt path None = may_find path None ⊎ (is_utf8 path ≡ false)
   FindsAt path (Some files) = (is_utf8 path ≡ true) × may_find path (Some files) × ListsFolder path files
 
-  -- the files at these paths, in the order of the paths
-  pub record AreFilesAt (paths files : List (List ℕ)) : Type 0 where
+  -- what is made of these paths, in their order, and of what is found at each
+  pub record AreMadeAt {A : Type 0} (made_of : FoundAt → List A) (paths : List (List ℕ)) (made : List A) : Type 0 where
     pub found : List FoundAt
     pub of_paths : map (λ f. f.path) found ≡ paths
     pub finds : All (λ f. FindsAt f.path f.found) found
-    pub is : files ≡ flat_map files_at found
+    pub is : made ≡ flat_map made_of found
+
+  -- the files at these paths, in the order of the paths
+  abbrev pub AreFilesAt : List (List ℕ) → List (List ℕ) → Type 0
+  AreFilesAt paths files = AreMadeAt files_at paths files

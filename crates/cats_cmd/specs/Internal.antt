@@ -2,6 +2,7 @@
 -- them.
 pub mod Carrying
 pub mod Comparing
+pub mod Finding
 pub mod Gathering
 pub mod GroupTables
 pub mod Judging

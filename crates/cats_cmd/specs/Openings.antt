@@ -15,7 +15,7 @@ use Rattle.cats_cmd.specs.Opening.{Opening, Opens, OpensAtPaths, way_of}
 use Rattle.cats_cmd.specs.PathLists.{paths_in}
 use Rattle.commands.specs.declared.faults.Unopened.{Unopened}
 use Rattle.cats_cmd.specs.declared.source.Way.{Way}
-use Rattle.cats_cmd.specs.declared.source.Way.TheVariants.{NoFolder}
+use Rattle.cats_cmd.specs.declared.source.Way.TheVariants.{NoFolder, Regular}
 
 -- the status that a run comes to
 abbrev pub status_of_run : Result ℕ RunFault → ℕ
@@ -48,22 +48,23 @@ module _ {S H F : Type 0} (content_of : S → H) (opened : S → Option (List Op
   OpensNothing words old new status = ((request_of words ≡ None) ⊎ (status ≡ 4)) × (new ≡ old)
 
   module _ (may_find : H → List ℕ → Option (List (List ℕ)) → Type 0) where
-    -- the list was read from a stream that the source might open at first, and the files at the paths in it
+    -- the list was read from a stream that the source might open at first, and the regular files at the paths in it
     -- are opened
-    pub record OpensListed (way : Way) (list : List ℕ) (first old new : S) (status : ℕ) : Type 0 where
+    pub record OpensListed (list : List ℕ) (first old new : S) (status : ℕ) : Type 0 where
       pub bytes : List ℕ
       pub reads : ReadsList (may_open (content_of first)) (may_refuse (content_of first)) remaining list bytes
-      pub opens : OpensAtPaths content_of opened may_find way (paths_in bytes) old new status
+      pub opens : OpensAtPaths content_of opened may_find Regular (paths_in bytes) old new status
 
     -- the list is opened, and then the files at the paths in it, unless it is not read or memory is refused for them
-    pub record OpensList (way : Way) (list : List ℕ) (old new : S) (status : ℕ) : Type 0 where
+    pub record OpensList (list : List ℕ) (old new : S) (status : ℕ) : Type 0 where
       pub between : S
       pub opens : Opens content_of opened old between ((list, NoFolder) ∷ [])
-      pub rest : OpensListed way list old between new status ⊎ ((2 ≤ status) × (new ≡ between))
+      pub rest : OpensListed list old between new status ⊎ ((2 ≤ status) × (new ≡ between))
 
-    abbrev pub OpensFiles : Way → Option (List ℕ) → List (List ℕ) → S → S → ℕ → Type 0
-    OpensFiles way None paths old new status = OpensAtPaths content_of opened may_find way paths old new status
-    OpensFiles way (Some list) paths old new status = OpensList way list old new status
+    -- at the paths that are named whatever is no folder is opened, and at those in a list only regular files
+    abbrev pub OpensFiles : Option (List ℕ) → List (List ℕ) → S → S → ℕ → Type 0
+    OpensFiles None paths old new status = OpensAtPaths content_of opened may_find NoFolder paths old new status
+    OpensFiles (Some list) paths old new status = OpensList list old new status
 
     -- the files below two folders, if the command takes folders, and else both files
     abbrev pub OpensTwo : List ℕ → List ℕ → PlainRequest → S → S → ℕ → Type 0
@@ -74,7 +75,7 @@ module _ {S H F : Type 0} (content_of : S → H) (opened : S → Option (List Op
 
     -- these paths of a request whose command reads so many files; none, if there are more or fewer
     abbrev pub OpensPaths : Files → List (List ℕ) → PlainRequest → S → S → ℕ → Type 0
-    OpensPaths Many paths request old new status = OpensFiles (way_of request.task) request.list paths old new status
+    OpensPaths Many paths request old new status = OpensFiles request.list paths old new status
     OpensPaths One (file ∷ []) request old new status = OpensOne request.task request file old new status
     OpensPaths Two (first ∷ second ∷ []) request old new status =
         OpensTwo first second request old new status

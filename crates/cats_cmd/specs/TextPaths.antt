@@ -2,8 +2,8 @@
 use Rattle.std.specs.Prelude.{◌≡◌, ◌⊎◌, ◌++◌, ◌||◌, ◌==◌, ◌-◌, ℕ, Bool, not, false, List, [], ◌∷◌, drop, length}
 use Rattle.std.specs.Prelude.{map}
 use Rattle.std.specs.Prelude.{Option, Some, None, bytes_eq, codes, slice_get, unwrap_or}
-use Rattle.std.specs.List.{All, flat_map, list_all, slice_split}
-use Rattle.cats_cmd.specs.Folders.{BeginsWith, FindsAt, FoundAt, with_slash}
+use Rattle.std.specs.List.{list_all, slice_split}
+use Rattle.cats_cmd.specs.Folders.{AreMadeAt, BeginsWith, FoundAt, with_slash}
 
 -- a file, and the path of its text below the folder of all texts
 pub record PlacedText : Type 0 where
@@ -32,11 +32,8 @@ text_places_at at = text_places_of at.path at.found
 
 module _ (may_find : List ℕ → Option (List (List ℕ)) → Type 0) where
   -- these are the files at these paths, each with the path of its text
-  pub record AreTextPlaces (paths : List (List ℕ)) (places : List PlacedText) : Type 0 where
-    pub found : List FoundAt
-    pub of_paths : map (λ f. f.path) found ≡ paths
-    pub finds : All (λ f. FindsAt may_find f.path f.found) found
-    pub is : places ≡ flat_map text_places_at found
+  abbrev pub AreTextPlaces : List (List ℕ) → List PlacedText → Type 0
+  AreTextPlaces paths places = AreMadeAt may_find text_places_at paths places
 
 -- the paths of the texts
 abbrev pub texts_at : List PlacedText → List (List ℕ)

@@ -226,8 +226,7 @@ fn run_on_many<S: Source + AllocGlobal, W: Write, E: Write>(
         (S.may_not_write (S.content_of source.old)) (S.texts source.old) (S.texts source.new) request.now.task
         (plain_request request.now) out.old out.new err.old err.new result }
     ensures opens { OpensFiles S.content_of S.opened S.may_open S.may_refuse S.Stream.remaining S.may_find
-        (way_of request.now.task) (plain_request request.now).list (plain_request request.now).files source.old source.new
-        (status_of_run result) }
+        (plain_request request.now).list (plain_request request.now).files source.old source.new (status_of_run result) }
 {
     match request.task {
         Task::Fault => run_on_files::<Faults, S, W, E>(source, request, terminal, out, err),
@@ -251,8 +250,7 @@ fn run_duplicates<S: Source + AllocGlobal, W: Write, E: Write>(
         (S.may_not_write (S.content_of source.old)) (S.texts source.old) (S.texts source.new) request.now.table
         (plain_request request.now) out.old out.new err.old err.new result }
     ensures opens { OpensFiles S.content_of S.opened S.may_open S.may_refuse S.Stream.remaining S.may_find
-        (way_of request.now.task) (plain_request request.now).list (plain_request request.now).files source.old source.new
-        (status_of_run result) }
+        (plain_request request.now).list (plain_request request.now).files source.old source.new (status_of_run result) }
 {
     if request.table {
         run_on_files::<GroupTable, S, W, E>(source, request, terminal, out, err)
@@ -308,13 +306,13 @@ fn reason_of(task: Task, why: Unopened) -> Unopened
     }
 }
 
-/// How a command opens its files.
-pub(crate) fn way_of(task: Task) -> Way
+/// How a command opens one file or two.
+fn way_of(task: Task) -> Way
     ensures { result ≡ way_of task }
 {
-    match task {
-        Task::Duplicates | Task::Sizes | Task::Publish => Way::Regular,
-        _ if gives_reason(task) => Way::NoFolder,
-        _ => Way::Anything,
+    if gives_reason(task) {
+        Way::NoFolder
+    } else {
+        Way::Anything
     }
 }

@@ -13,7 +13,7 @@ ghost use Rattle.cats_cmd.specs.ComparedFolders.{takes_folders, word_of};
 ghost use Rattle.cats_cmd.specs.Folders.{paths_of};
 ghost use Rattle.cats_cmd.specs.Internal.Comparing.{AddsRow, FindsBoth, ListsBoth, OpensFor, OpensNeither, plain_folders};
 ghost use Rattle.cats_cmd.specs.Inputs.{IsOpened};
-ghost use Rattle.cats_cmd.specs.Opening.{Opens, openings_of};
+ghost use Rattle.cats_cmd.specs.Opening.{Opens, in_way, openings_of};
 ghost use Rattle.cats_cmd.specs.Openings.{status_of_run};
 ghost use Rattle.cats_cmd.specs.PricedInputs.{none_rounded};
 ghost use Rattle.cats_cmd.specs.TextPaths.{path_below};
@@ -263,7 +263,7 @@ fn open_files<S: Source>(
 ) -> Result<(Watched<S::Stream>, Watched<S::Stream>), RunFault>
     ensures opened { IfOk result (λ both. IsOpened (S.may_open (S.content_of source.old)) first.now both.0
         × IsOpened (S.may_open (S.content_of source.old)) second.now both.1
-        × Opens S.content_of S.opened source.old source.new (openings_of Regular (first.now ∷ second.now ∷ []))) }
+        × Opens S.content_of S.opened source.old source.new (openings_of (in_way Regular (first.now ∷ second.now ∷ [])))) }
     ensures refused { IfErr result (OpensNeither S.content_of S.opened first.now second.now
         (S.may_refuse (S.content_of source.old)) source.old source.new) }
 {

@@ -4,7 +4,7 @@ ghost use Rattle.std.specs.Prelude.{◌≡◌, ◌∷◌, [], map, IfErr, IfOk, 
 ghost use Rattle.cats_text.specs.Streams.{has_failed};
 ghost use Rattle.cats_cmd.specs.FileLists.{IsUnread, ReadsList, RunsAtPaths};
 ghost use Rattle.cats_cmd.specs.Internal.Carrying.{many_files};
-ghost use Rattle.cats_cmd.specs.Opening.{Opens, OpensAtPaths, way_of};
+ghost use Rattle.cats_cmd.specs.Opening.{Opens, OpensAtPaths};
 ghost use Rattle.cats_cmd.specs.Openings.{OpensFiles, status_of_run};
 ghost use Rattle.cats_cmd.specs.Paths.{RunsOnPaths, refusal_line};
 ghost use Rattle.cats_cmd.specs.Requests.{RunsOnMany};
@@ -15,13 +15,12 @@ ghost use Rattle.cats_cmd.specs.declared.source.Way.TheVariants.{NoFolder};
 ghost use Rattle.commands.specs.Statuses.{status_of_fault};
 
 use crate::bytes::read_bytes;
-use crate::carrying_out::way_of;
-use crate::folders::{files_at, slices};
+use crate::folders::{file_paths, files_at};
 use crate::path_list::split_paths;
 use crate::paths::{
     Collection, Ending, ManyFiles, Progress, open_file, report_refusal, run_on_paths,
 };
-use crate::source::Source;
+use crate::source::{Source, Way};
 use canon::{CanonFault, Which};
 use cats_text::Watched;
 use commands::faults::RunFault;
@@ -47,8 +46,7 @@ pub(crate) fn run_on_files<C: Collection, S: Source + AllocGlobal, W: Write, E: 
         (λ progress. record { refusals = C.refusals; progress = progress }) (plain_request request.now) out.old out.new
         err.old err.new result }
     ensures opens { OpensFiles S.content_of S.opened S.may_open S.may_refuse S.Stream.remaining S.may_find
-        (way_of request.now.task) (plain_request request.now).list (plain_request request.now).files source.old source.new
-        (status_of_run result) }
+        (plain_request request.now).list (plain_request request.now).files source.old source.new (status_of_run result) }
 {
     let many = many_files(request, terminal);
     let Some(list) = request.list else {
@@ -83,8 +81,8 @@ fn run_at_paths<C: Collection, S: Source + AllocGlobal, W: Write, E: Write>(
     ensures opens { OpensAtPaths S.content_of S.opened S.may_find many.entry.way (map (λ path. path.now) paths.now)
         source.old source.new (status_of_run result) }
 {
-    let found = files_at(&*source, source.alloc(), paths)?;
-    let files = slices(source.alloc(), found.as_slice())?;
+    let found = files_at(&*source, source.alloc(), paths, many.way)?;
+    let files = file_paths(source.alloc(), found.as_slice())?;
     run_on_paths::<C, S, W, E>(source, files.as_slice(), many, out, err)
 }
 
@@ -113,13 +111,18 @@ pub(crate) fn many_files<'a>(request: &Request<'_>, terminal: bool) -> ManyFiles
         (true, true) => Progress::Terminal,
         (false, true) => Progress::Lines,
     };
+    // a list may have FIFOs that nobody named
+    let way = match request.list {
+        None => Way::NoFolder,
+        Some(_) => Way::Regular,
+    };
     ManyFiles {
         options: request.options,
         progress,
         ending,
         prices: request.prices,
         all: request.all,
-        way: way_of(request.task),
+        way,
         target: None,
     }
 }

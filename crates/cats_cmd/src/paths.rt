@@ -6,7 +6,7 @@ ghost use Rattle.canon.specs.declared.which.Which.TheVariants.{Only};
 ghost use Rattle.cats_cmd.specs.Inputs.{IsOpened};
 ghost use Rattle.cats_cmd.specs.Internal.Gathering.{Gathers};
 ghost use Rattle.cats_cmd.specs.Internal.Judging.{AddsFile, AddsJudgement, AddsOpened, AddsPathAs, BeginsRun, HasSome};
-ghost use Rattle.cats_cmd.specs.Internal.Judging.{JudgesAllAs, OpensAllAs, SendsNext, ShowsNext};
+ghost use Rattle.cats_cmd.specs.Internal.Judging.{JudgesAllAs, OpensAllAs, SendsNext, ShowsNext, opening_of};
 ghost use Rattle.cats_cmd.specs.Opening.{KeepsFiles, Opens, OpensEach, openings_of};
 ghost use Rattle.cats_cmd.specs.Openings.{status_of_run};
 ghost use Rattle.cats_cmd.specs.Paths.{IsUnopened, RunsOnPaths, progress_line, progress_lines, refusal_line};
@@ -48,7 +48,7 @@ pub struct ManyFiles<'a> {
     /// Whether `duplicates` prints the files too that are the only ones of their auction, and `publish` writes one text
     /// for each file.
     pub all: bool,
-    /// How each file is opened.
+    /// How what is at a path is opened, if no folder is found there. Of the files below one, only regular ones are.
     pub way: Way,
     /// Where texts are written, if they are.
     pub target: Option<Target<'a>>,
@@ -81,10 +81,18 @@ pub enum Ending {
     Null,
 }
 
-/// One of many paths: its number, counted from 1, and how many there are.
+/// The path of a file, and how it is opened.
+#[derive(Clone, Copy)]
+pub(crate) struct FilePath<'a> {
+    pub(crate) path: &'a [u8],
+    pub(crate) way: Way,
+}
+
+/// One of many paths: how it is opened, its number, counted from 1, and how many there are.
 #[derive(Clone, Copy)]
 struct Turn<'a> {
     path: &'a [u8],
+    way: Way,
     number: usize,
     count: usize,
 }
@@ -177,7 +185,7 @@ struct Judged {
 /// reported that prices were rounded.
 pub(crate) fn run_on_paths<C: Collection, S: Source + AllocGlobal, W: Write, E: Write>(
     source: &mut S,
-    paths: &[&[u8]],
+    paths: &[FilePath<'_>],
     many: ManyFiles<'_>,
     out: &mut Watched<W>,
     err: &mut Watched<E>,
@@ -187,9 +195,9 @@ pub(crate) fn run_on_paths<C: Collection, S: Source + AllocGlobal, W: Write, E: 
         (S.may_refuse (S.content_of source.old)) S.Stream.remaining W.contents E.contents (C.searched many.entry.options)
         many.entry.prices (C.Shows many.entry)
         (WritesEach (S.may_not_write (S.content_of source.old)) (S.texts source.old) (S.texts source.new))
-        (map (λ path. path.now) paths.now) (record { refusals = C.refusals; progress = many.entry.progress })
+        (map (λ file. file.path.now) paths.now) (record { refusals = C.refusals; progress = many.entry.progress })
         (C.Makes many.entry) out.old out.new err.old err.new result }
-    ensures opens { OpensEach S.content_of S.opened many.entry.way (map (λ path. path.now) paths.now) source.old source.new
+    ensures opens { OpensEach S.content_of S.opened (map opening_of paths.now) source.old source.new
         (status_of_run result) }
 {
     let (mut collection, head) = C::begin(source.alloc(), many)?;
@@ -204,7 +212,7 @@ pub(crate) fn run_on_paths<C: Collection, S: Source + AllocGlobal, W: Write, E: 
 /// The paths of a run, how it reads them, and how many bytes were sent before the first is read.
 #[derive(Clone, Copy)]
 struct Work<'a> {
-    paths: &'a [&'a [u8]],
+    paths: &'a [FilePath<'a>],
     many: ManyFiles<'a>,
     sent: u64,
 }
@@ -225,18 +233,18 @@ fn judge_all<C: Collection, S: Source + AllocGlobal, W: Write, E: Write>(
         (WritesEach (S.may_not_write (S.content_of source.old)) (S.texts source.old) (S.texts source.new))
         (S.may_open (S.content_of source.old)) (S.may_refuse (S.content_of source.old)) S.Stream.remaining
         (C.searched work.now.many.options) work.now.many.prices W.contents E.contents
-        (record { refusals = C.refusals; progress = work.now.many.progress }) (map (λ path. path.now) work.now.paths.now)
-        collection.new start out.new err.old err.new result }
-    ensures opens { OpensAllAs S.content_of S.opened work.now.many.way (map (λ path. path.now) work.now.paths.now)
-        source.old source.new result }
+        (record { refusals = C.refusals; progress = work.now.many.progress })
+        (map (λ file. file.path.now) work.now.paths.now) collection.new start out.new err.old err.new result }
+    ensures opens { OpensAllAs S.content_of S.opened (map opening_of work.now.paths.now) source.old source.new result }
 {
     let mut greatest = DONE;
     let mut sent = work.sent;
     let count = work.paths.len();
-    for (number, path) in work.paths.iter().enumerate() {
+    for (number, file) in work.paths.iter().enumerate() {
         let number = number + 1;
         let turn = Turn {
-            path,
+            path: file.path,
+            way: file.way,
             number,
             count,
         };
@@ -282,10 +290,11 @@ fn judge_path<C: Collection, S: Source + AllocGlobal, E: Write>(
         (S.may_refuse (S.content_of source.old)) S.Stream.remaining (C.searched many.entry.options) many.entry.prices
         E.contents (record { refusals = C.refusals; progress = many.entry.progress }) turn.now.count turn.now.number
         turn.now.path.now collection.old collection.new err.old err.new result }
-    ensures opens { Opens S.content_of S.opened source.old source.new (openings_of many.entry.way (turn.now.path.now ∷ [])) }
+    ensures opens { Opens S.content_of S.opened source.old source.new
+        (openings_of ((turn.now.path.now, turn.now.way) ∷ [])) }
 {
     report_progress(many.progress, turn, err);
-    let (added, rounded) = judge(source, collection, turn.path, many)?;
+    let (added, rounded) = judge(source, collection, turn, many)?;
     remove_progress(many.progress, err);
     report_rounded(turn.path, rounded, err);
     let lost = is_lost(rounded.count, err);
@@ -307,18 +316,20 @@ fn status_if(lost: bool, fault: &Option<RunFault>) -> u8
 fn judge<C: Collection, S: Source + AllocGlobal>(
     source: &mut S,
     collection: &mut C,
-    path: &[u8],
+    turn: &Turn<'_>,
     many: ManyFiles<'_>,
 ) -> Result<(Added, RoundedCount), AllocError>
     ensures adds { IfOk result (λ judged. AddsFile C.keeps (C.Shows many.entry)
         (WritesEach (S.may_not_write (S.content_of source.old)) (S.texts source.old) (S.texts source.new))
         (S.may_open (S.content_of source.old))
         (S.may_refuse (S.content_of source.old)) S.Stream.remaining (C.searched many.entry.options) many.entry.prices
-        path.now collection.old collection.new judged.1 judged.0.fault judged.0.text.items) }
+        turn.now.path.now collection.old collection.new judged.1 judged.0.fault judged.0.text.items) }
     ensures unwritten { OnErr result (S.texts source.new ≡ S.texts source.old) }
-    ensures opens { Opens S.content_of S.opened source.old source.new (openings_of many.entry.way (path.now ∷ [])) }
+    ensures opens { Opens S.content_of S.opened source.old source.new
+        (openings_of ((turn.now.path.now, turn.now.way) ∷ [])) }
 {
-    match open_path(source, path, many.way) {
+    let path = turn.path;
+    match open_path(source, path, turn.way) {
         Ok(stream) => {
             let mut input = PricedInput::new(stream, many.prices);
             let added = collection.add(source, path, &mut input, many)?;
@@ -340,7 +351,7 @@ pub(crate) fn open_path<S: Source>(
 ) -> Result<Watched<S::Stream>, Unopened>
     ensures opened { IfOk result (IsOpened (S.may_open (S.content_of source.old)) path.now) }
     ensures refused { IfErr result (IsUnopened (S.may_refuse (S.content_of source.old)) path.now) }
-    ensures opens { Opens S.content_of S.opened source.old source.new (openings_of way (path.now ∷ [])) }
+    ensures opens { Opens S.content_of S.opened source.old source.new (openings_of ((path.now, way) ∷ [])) }
     ensures unwritten { S.texts source.new ≡ S.texts source.old }
 {
     let Ok(path) = str::from_utf8(path) else {

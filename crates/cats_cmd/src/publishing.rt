@@ -4,8 +4,9 @@
 ghost use Rattle.std.specs.Prelude.{◌≡◌, IfOk, Some, false, map};
 ghost use Rattle.cats_text.specs.Streams.{has_failed};
 ghost use Rattle.cats_cmd.specs.Internal.PublishRuns.{FindsTaken, FindsUnwritten, IsTakenAt, PublishesInto};
-ghost use Rattle.cats_cmd.specs.Internal.TextNumbers.{FindsMisplaced, plain_places};
-ghost use Rattle.cats_cmd.specs.Opening.{KeepsFiles, OpensEach, way_of};
+ghost use Rattle.cats_cmd.specs.Internal.Judging.{opening_of};
+ghost use Rattle.cats_cmd.specs.Internal.TextNumbers.{FindsMisplaced, place_openings, plain_places};
+ghost use Rattle.cats_cmd.specs.Opening.{KeepsFiles, OpensEach};
 ghost use Rattle.cats_cmd.specs.Openings.{OpensFiles, status_of_run};
 ghost use Rattle.cats_cmd.specs.Paths.{without_refusals};
 ghost use Rattle.cats_cmd.specs.PublishRuns.{NamesMisplaced, collision_line, file_of, outside_line};
@@ -17,7 +18,7 @@ ghost use Rattle.requests.specs.Requests.{plain_request};
 use crate::lines::LineBuffer;
 use crate::many_files::{many_files, paths_of, read_list, refuse_list};
 use crate::path_list::split_paths;
-use crate::paths::{ManyFiles, Target, report_refusal, run_on_paths};
+use crate::paths::{FilePath, ManyFiles, Target, report_refusal, run_on_paths};
 use crate::publish::Publisher;
 use crate::source::Source;
 use crate::text_paths::{Misplaced, TextPlace, find_misplaced, text_places_at};
@@ -43,14 +44,13 @@ pub(crate) fn run_publish<S: Source + AllocGlobal, W: Write, E: Write>(
         (S.may_not_write (S.content_of source.old)) (S.texts source.old) (S.texts source.new) (plain_request request.now)
         out.old out.new err.old err.new result }
     ensures opens { OpensFiles S.content_of S.opened S.may_open S.may_refuse S.Stream.remaining S.may_find
-        (way_of request.now.task) (plain_request request.now).list (plain_request request.now).files source.old source.new
-        (status_of_run result) }
+        (plain_request request.now).list (plain_request request.now).files source.old source.new (status_of_run result) }
 {
     let many = many_files(request, terminal);
     let folder = request.folder.unwrap_or("");
     let Some(list) = request.list else {
         let paths = paths_of(source.alloc(), request.files.as_slice())?;
-        let places = text_places_at(&*source, source.alloc(), paths.as_slice())?;
+        let places = text_places_at(&*source, source.alloc(), paths.as_slice(), many.way)?;
         let target = Target {
             folder,
             places: places.as_slice(),
@@ -60,7 +60,7 @@ pub(crate) fn run_publish<S: Source + AllocGlobal, W: Write, E: Write>(
     match read_list(source, list) {
         Ok(text) => {
             let paths = split_paths(source.alloc(), text.as_slice())?;
-            let places = text_places_at(&*source, source.alloc(), paths.as_slice())?;
+            let places = text_places_at(&*source, source.alloc(), paths.as_slice(), many.way)?;
             let target = Target {
                 folder,
                 places: places.as_slice(),
@@ -84,8 +84,8 @@ fn publish_into<S: Source + AllocGlobal, W: Write, E: Write>(
         S.Stream.remaining W.contents E.contents (S.may_not_write (S.content_of source.old)) (S.texts source.old)
         (S.texts source.new) many.entry.options many.entry.prices many.entry.all (without_refusals many.entry.progress)
         target.entry.folder.now (plain_places target.entry.places.now) out.old out.new err.old err.new result }
-    ensures opens { OpensEach S.content_of S.opened many.entry.way (map (λ p. p.file) (plain_places target.entry.places.now))
-        source.old source.new (status_of_run result) }
+    ensures opens { OpensEach S.content_of S.opened (place_openings target.entry.places.now) source.old source.new
+        (status_of_run result) }
 {
     let alloc = source.alloc();
     if let Some(misplaced) = find_misplaced(alloc, target.places)? {
@@ -159,12 +159,15 @@ fn is_taken_at<S: Source>(
 }
 
 /// The paths of the files, as those who only read them take them.
-fn files_of(alloc: Global, places: &[TextPlace]) -> Result<Vec<&[u8]>, AllocError>
-    ensures { IfOk result (λ files. map (λ file. file.now) files.items ≡ map (λ p. p.file) (plain_places places.now)) }
+fn files_of(alloc: Global, places: &[TextPlace]) -> Result<Vec<FilePath<'_>>, AllocError>
+    ensures { IfOk result (λ files. map opening_of files.items ≡ place_openings places.now) }
 {
     let mut files = Vec::with_capacity(alloc, places.len())?;
     for place in places {
-        files.push(place.file.as_slice())?;
+        files.push(FilePath {
+            path: place.file.as_slice(),
+            way: place.way,
+        })?;
     }
     Ok(files)
 }

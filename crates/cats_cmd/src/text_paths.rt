@@ -3,21 +3,23 @@
 
 ghost use Rattle.std.specs.Prelude.{◌≡◌, ◌++◌, IfOk, OnOk, drop, length, map};
 ghost use Rattle.std.specs.List.{list_all};
-ghost use Rattle.cats_cmd.specs.Folders.{found_of, with_slash};
+ghost use Rattle.cats_cmd.specs.Folders.{AreMadeAt, found_of, with_slash};
+ghost use Rattle.cats_cmd.specs.Opening.{openings_at, openings_found};
 ghost use Rattle.cats_cmd.specs.TextPaths.{AreTextPlaces, is_name, leads_below, own_name, text_places_of, texts_at};
 ghost use Rattle.cats_cmd.specs.Internal.TextNumbers.{FindsCollision, FindsMisplaced, FindsOutside, IsBelowOne};
-ghost use Rattle.cats_cmd.specs.Internal.TextNumbers.{NumbersOrCollides, NumbersTexts, plain_places};
+ghost use Rattle.cats_cmd.specs.Internal.TextNumbers.{NumbersOrCollides, NumbersTexts, place_openings, plain_places};
 
 use crate::folders::find_at;
 use crate::path_list::split_at;
-use crate::source::Source;
+use crate::source::{Source, Way};
 use std::alloc::{AllocError, Global};
 use std::collections::BTreeMap;
 
-/// A file, and the path of its text below the folder of all texts.
+/// A file, how it is opened, and the path of its text below the folder of all texts.
 #[derive(Drop)]
 pub struct TextPlace {
     pub file: Vec<u8>,
+    pub way: Way,
     pub text: Vec<u8>,
 }
 
@@ -31,43 +33,55 @@ pub(crate) enum Misplaced {
 }
 
 /// The files at paths, each with the path of its text: its own name, or, if a folder is at the path, its path below that.
+/// What is at a path itself is opened in this way.
 pub(crate) fn text_places_at<S: Source>(
     source: &S,
     alloc: Global,
     paths: &[&[u8]],
+    way: Way,
 ) -> Result<Vec<TextPlace>, AllocError>
-    ensures { IfOk result (λ places. AreTextPlaces (S.may_find (S.content_of source.now)) (map (λ path. path.now) paths.now)
-        (plain_places places.items)) }
+    ensures places { IfOk result (λ places. AreTextPlaces (S.may_find (S.content_of source.now))
+        (map (λ path. path.now) paths.now) (plain_places places.items)) }
+    ensures openings { IfOk result (λ places. AreMadeAt (S.may_find (S.content_of source.now)) (openings_at way)
+        (map (λ path. path.now) paths.now) (place_openings places.items)) }
 {
     let mut places = Vec::new(alloc);
     for path in paths {
         let found = find_at(source, alloc, path)?;
-        push_found(alloc, &mut places, path, found)?;
+        push_found(alloc, &mut places, path, way, found)?;
     }
     Ok(places)
 }
 
-/// Puts the files at a path behind the others: those that were found below a folder, or the path itself.
+/// Puts the files at a path behind the others: those that were found below a folder, of which only regular ones are opened,
+/// or the path itself.
 fn push_found(
     alloc: Global,
     places: &mut Vec<TextPlace>,
     path: &[u8],
+    way: Way,
     found: Option<Vec<Vec<u8>>>,
 ) -> Result<(), AllocError>
-    ensures { OnOk result (plain_places places.new.items ≡ plain_places places.old.items
+    ensures places { OnOk result (plain_places places.new.items ≡ plain_places places.old.items
         ++ text_places_of path.now (found_of found)) }
+    ensures openings { OnOk result (place_openings places.new.items ≡ place_openings places.old.items
+        ++ openings_found way path.now (found_of found)) }
 {
     let Some(files) = found else {
         let file = Vec::from_slice(alloc, path)?;
         let text = own_name(alloc, path)?;
-        places.push(TextPlace { file, text })?;
+        places.push(TextPlace { file, way, text })?;
         return Ok(());
     };
     let start = length_with_slash(path);
     for file in files.as_slice() {
         let text = Vec::from_slice(alloc, behind(file.as_slice(), start))?;
         let file = Vec::from_slice(alloc, file.as_slice())?;
-        places.push(TextPlace { file, text })?;
+        places.push(TextPlace {
+            file,
+            way: Way::Regular,
+            text,
+        })?;
     }
     Ok(())
 }

@@ -1,5 +1,5 @@
 -- The parts of carrying out a request.
-use Rattle.std.specs.Prelude.{◌≡◌, ◌⊎◌, ℕ, Bool, true, List, [], ◌∷◌, Option, None}
+use Rattle.std.specs.Prelude.{◌≡◌, ◌⊎◌, ℕ, Bool, true, List, [], ◌∷◌, Option, Some, None}
 use Rattle.requests.specs.Requests.{PlainRequest}
 use Rattle.requests.specs.declared.task.Task.{Task}
 use Rattle.command_line.specs.Requests.{is_wrong_usage}
@@ -9,12 +9,20 @@ use Rattle.commands.specs.declared.faults.RunFault.{RunFault}
 use Rattle.cats_cmd.specs.Opening.{Opening, Opens, way_of}
 use Rattle.cats_cmd.specs.Requests.{CannotOpenPair, ending_of, progress_of}
 use Rattle.cats_cmd.specs.declared.paths.ManyFiles.{ManyFiles}
+use Rattle.cats_cmd.specs.declared.source.Way.{Way}
+use Rattle.cats_cmd.specs.declared.source.Way.TheVariants.{NoFolder, Regular}
 use Rattle.commands.specs.declared.faults.Unopened.{Unopened}
 
 -- the same answer to a line without a request, but for the text of a wrong usage
 abbrev pub IsButForText : NoRequest → NoRequest → Type 0
 IsButForText (WrongUsage text) answer = is_wrong_usage answer ≡ true
 IsButForText no_request answer = answer ≡ no_request
+
+-- how a run on many files opens what is at its paths: at those that are named whatever is no folder, and at those in a
+-- list only regular files
+abbrev pub way_at_paths : Option (List ℕ) → Way
+way_at_paths None = NoFolder
+way_at_paths (Some list) = Regular
 
 -- how a run on many files reads them and reports
 abbrev pub many_files : Bool → PlainRequest → ManyFiles
@@ -24,7 +32,7 @@ many_files terminal request = record {
   ending = ending_of request.null;
   prices = request.prices;
   all = request.all;
-  way = way_of request.task;
+  way = way_at_paths request.list;
   target = None;
 }
 

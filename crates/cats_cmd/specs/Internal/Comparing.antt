@@ -11,7 +11,7 @@ use Rattle.cats_cmd.specs.ComparedFolders.{JudgesRows}
 use Rattle.cats_cmd.specs.ComparedFolders.{LacksFolder, ReportsRow, compared_table, opened_at, row_of, status_of_rows}
 use Rattle.cats_cmd.specs.ComparedFolders.{status_of_verdict}
 use Rattle.cats_cmd.specs.Folders.{Finds, ListsFolder, paths_of}
-use Rattle.cats_cmd.specs.Opening.{Opening, Opens, openings_of}
+use Rattle.cats_cmd.specs.Opening.{Opening, Opens, in_way, openings_of}
 use Rattle.cats_cmd.specs.Paths.{bytes_counted}
 use Rattle.cats_cmd.specs.declared.compare_folders.Folder.{Folder}
 use Rattle.cats_cmd.specs.declared.compare_folders.Folders.{Folders}
@@ -41,7 +41,8 @@ pub record ListsBoth (folders : FoundFolders) : Type 0 where
 -- the second file is not opened if the first is refused
 module _ {S H : Type 0} (content_of : S → H) (opened : S → Option (List Opening)) (first second : List ℕ) where
   abbrev pub OpensFor : PathVerdict → S → S → Type 0
-  OpensFor verdict old new = Opens content_of opened old new (openings_of Regular (opened_at first second verdict))
+  OpensFor verdict old new =
+      Opens content_of opened old new (openings_of (in_way Regular (opened_at first second verdict)))
 
   pub record OpensNeither (may_refuse : List ℕ → Unopened → Type 0) (old new : S) (fault : RunFault) : Type 0 where
     pub fails : FailsToOpenBoth may_refuse first second fault

@@ -17,13 +17,13 @@ use Rattle.cats_cmd.specs.declared.duplicates.Groups.{Groups}
 use Rattle.cats_cmd.specs.declared.fault.Faults.{Faults}
 use Rattle.cats_cmd.specs.FindingFaults.{faults_text}
 use Rattle.cats_cmd.specs.Opening.{Opening, Opens, OpensFirst, openings_of}
-use Rattle.cats_cmd.specs.declared.source.Way.{Way}
 use Rattle.commands.specs.declared.faults.HeavyBid.{HeavyBid}
 use Rattle.canon.specs.declared.canon_fault.CanonFault.{CanonFault}
 use Rattle.canon.specs.declared.canon_fault.CanonFault.TheVariants.{StepLimit}
 use Rattle.cats_cmd.specs.Paths.{EndsOnPaths, JudgesAs, JudgesPaths, Made, Reporting, ReportsPath, greatest_status}
 use Rattle.cats_cmd.specs.Paths.{bytes_counted, judgement_at, lines_on, progress_lines, status_if}
 use Rattle.cats_cmd.specs.Stores.{Attempt}
+use Rattle.cats_cmd.specs.declared.paths.FilePath.{FilePath}
 use Rattle.cats_cmd.specs.declared.paths.Judged.{Judged}
 use Rattle.cats_text.specs.Streams.{SendsPart, SendsWhole}
 use Rattle.commands.specs.Statuses.{status_of_fault}
@@ -184,9 +184,13 @@ module _ {W : Type 0} (contents : W → Option (List ℕ)) where
 abbrev pub AddsRefused : List ℕ → PlainFile → CanonFault → Groups → Groups → Type 0
 AddsRefused path file fault old new = AddsRefusedTo KeepsGroups path file fault old new
 
--- all paths were opened, or, when the run is stopped, the first of them
-abbrev pub OpensAllAs : {S H : Type 0} → (S → H) → (S → Option (List Opening)) → Way → List (List ℕ) → S → S
+-- the path of a file, and how it is opened
+abbrev pub opening_of : FilePath → Opening
+opening_of file = (file.path.now, file.way)
+
+-- all openings were made, or, when the run is stopped, the first of them
+abbrev pub OpensAllAs : {S H : Type 0} → (S → H) → (S → Option (List Opening)) → List Opening → S → S
     → Result Judged RunFault → Type 0
-OpensAllAs content_of opened way paths old new (Ok judged) = Opens content_of opened old new (openings_of way paths)
-OpensAllAs content_of opened way paths old new (Err fault) =
-    (4 ≤ status_of_fault fault) × OpensFirst content_of opened way old new paths
+OpensAllAs content_of opened openings old new (Ok judged) = Opens content_of opened old new (openings_of openings)
+OpensAllAs content_of opened openings old new (Err fault) =
+    (4 ≤ status_of_fault fault) × OpensFirst content_of opened old new openings

@@ -6,6 +6,7 @@ use Rattle.std.specs.BTreeMap.{BTreeMap, get_by}
 use Rattle.std.specs.Cmp.Lexicographic.{slice_cmp}
 use Rattle.std.specs.Global.{Global}
 use Rattle.std.specs.Ordering.{nat_cmp}
+use Rattle.cats_cmd.specs.Opening.{Opening}
 use Rattle.cats_cmd.specs.TextPaths.{AreSeparate, Collides, LeadsOut, PlacedText, leads_below}
 use Rattle.std.specs.List.{All}
 use Rattle.cats_cmd.specs.declared.text_paths.Misplaced.{Misplaced}
@@ -15,6 +16,10 @@ use Rattle.cats_cmd.specs.declared.text_paths.TextPlace.{TextPlace}
 -- files in memory, each with the path of its text
 abbrev pub plain_places : List TextPlace → List PlacedText
 plain_places places = map (λ p. record { file = p.file.items; text = p.text.items }) places
+
+-- the files, and how each is opened
+abbrev pub place_openings : List TextPlace → List Opening
+place_openings places = map (λ p. (p.file.items, p.way)) places
 
 -- the number that a map has for a text
 abbrev pub number_in : BTreeMap (Vec ℕ Global) ℕ → List ℕ → Option ℕ

@@ -33,9 +33,9 @@ static ROWS: &[(&str, usize, usize, (u8, &str, &str))] = rows! {
      (5, "", "first: cannot open\n")),
     ("cats diff @other /tmp/cats_cmd_no_such_folder/a.cats", CAPACITY, CAPACITY,
      (5, "", "/tmp/cats_cmd_no_such_folder/a.cats: cannot open: no such file\n")),
-    // files, a device without an end, and a path below a file
-    ("cats duplicates @one /dev/zero @other @one", CAPACITY, CAPACITY,
-     (5, "@one\n@one\n", "/dev/zero: cannot open: not a file\n@other: line 3: Missing\n")),
+    // files, a device that gives nothing, and a path below a file
+    ("cats duplicates @one /dev/null @other @one", CAPACITY, CAPACITY,
+     (2, "@one\n@one\n", "/dev/null: line 1: Missing\n@other: line 3: Missing\n")),
     ("cats duplicates @one @one/b", CAPACITY, CAPACITY, (5, "", "@one/b: cannot open\n")),
     ("cats duplicates @other @one @one", CAPACITY, 0, (2, "@one\n@one\n", "")),
     ("cats duplicates @one @one", 4, CAPACITY, (5, "/tmp", "output failed after 4 bytes\n")),

@@ -5,7 +5,7 @@ ghost use Rattle.std.specs.Borrow.{Bor};
 ghost use Rattle.std.specs.List.{Any, list_any};
 ghost use Rattle.std.specs.Str.{bytes_eq};
 ghost use Rattle.commands.specs.declared.faults.Unwritten.TheVariants.{Exists};
-ghost use Rattle.std.specs.Prelude.{◌≡◌, ◌⊎◌, ℕ, IfErr, IfOk, List, None, Some, false, map};
+ghost use Rattle.std.specs.Prelude.{◌≡◌, ◌⊎◌, if◌then◌else◌, ℕ, IfErr, IfOk, List, [], ◌∷◌, None, Some, codes, false, map};
 ghost use Rattle.cats_text.specs.Streams.{has_failed};
 ghost use Rattle.commands.specs.declared.faults.Unopened.{Unopened};
 ghost use Rattle.commands.specs.declared.faults.Unopened.TheVariants.{NoSuchFile};
@@ -80,7 +80,8 @@ impl<'a> Source for FilesInMemory<'a> {
 
     ghost may_refuse = { λ content path why. Any (λ r. (r.0.now ≡ path) × (r.1 ≡ why)) content.1 ⊎ (why ≡ NoSuchFile) };
 
-    ghost may_find = { λ _ _ found. found ≡ None };
+    ghost may_find = { λ _ path found. found
+        ≡ (if bytes_eq path (codes "tree") then Some (codes "tree/one" ∷ []) else None) };
 
     ghost opened = { λ source. Some source.openings.list };
 
@@ -94,8 +95,14 @@ impl<'a> Source for FilesInMemory<'a> {
         self.find_file(path)
     }
 
-    fn find(&self, _alloc: Global, _path: &str) -> Result<Option<Vec<Vec<u8>>>, AllocError> {
-        Ok(None)
+    /// One folder is there, with one file.
+    fn find(&self, alloc: Global, path: &str) -> Result<Option<Vec<Vec<u8>>>, AllocError> {
+        if path != "tree" {
+            return Ok(None);
+        }
+        let mut files = Vec::new(alloc);
+        files.push(Vec::from_slice(alloc, b"tree/one")?)?;
+        Ok(Some(files))
     }
 
     /// Any folder is there.
@@ -144,6 +151,7 @@ pub(super) static FILES: Files<'_> = rows! {
     ("one", b"goods 1\nbids 1\ndummy 0\n0 3 0 #\n"),
     ("same", b"goods 1\nbids 2\ndummy 0\n0 3 0 #\n1 2 0 #\n"),
     ("other", b"goods 1\nbids 1\ndummy 0\n0 4 0 #\n"),
+    ("tree/one", b"goods 1\nbids 1\ndummy 0\n0 3 0 #\n"),
     ("bad", b"goods 1\n"),
     ("fine", b"goods 1\nbids 1\ndummy 0\n0 1e-7 0 #\n"),
     ("two-prices", b"goods 1\nbids 2\ndummy 0\n0 1e3 0 #\n1 2e1 0 x #\n"),

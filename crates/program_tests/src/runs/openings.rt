@@ -21,8 +21,11 @@ static OPENINGS: &[(&str, u8, &str)] = rows! {
     ("revenue same --bids words", 2, "NoFolder words\n"),
     ("revenue same --bids none", 5, "NoFolder none\n"),
     ("fault one bad one", 2, "NoFolder one\nNoFolder bad\nNoFolder one\n"),
-    // a folder, a device and a FIFO are refused
-    ("sizes same fifo same", 5, "Regular same\nRegular fifo\nRegular same\n"),
+    // what is named may be a device or a FIFO; what is below a folder, or in a list, is opened if it is a regular file
+    ("sizes same fifo same", 5, "NoFolder same\nNoFolder fifo\nNoFolder same\n"),
+    ("duplicates same tree one", 0, "NoFolder same\nRegular tree/one\nNoFolder one\n"),
+    ("publish to same tree", 0, "NoFolder same\nRegular tree/one\n"),
+    ("fault --files0-from list", 0, "NoFolder list\nRegular one\nRegular other\nRegular same\n"),
     ("duplicates --files0-from list", 0, "NoFolder list\nRegular one\nRegular other\nRegular same\n"),
     ("sizes --files0-from folder", 5, "NoFolder folder\n"),
     ("sizes --files0-from empty-list", 0, "NoFolder empty-list\n"),

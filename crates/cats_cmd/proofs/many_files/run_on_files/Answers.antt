@@ -9,7 +9,7 @@ pub returns-in_ok-paths-in-Ok-clause-runs : goal.returns-in_ok-paths-in-Ok-claus
 returns-in_ok-paths-in-Ok-clause-runs g c =
     rw c.in-Some.is (list_run _ _ _ _ _ _ c.in-Some.list.now c.in-Ok.text.items c.in-Ok.ensures.read _
     (ap (map (λ path. path.now)) c.as_slice-in-Ok-2.ensures.value ∙ c.in_ok-paths-in-Ok.ensures ∙ ap paths_in c.as_slice-in-Ok.ensures.value)
-    _ _ _ _ _ (rw (c.in-Ok.ensures.opens.stays, c.in-Ok.ensures.unwritten, c.many_files-many.ensures) at c.run_at_paths-in-Ok.ensures.runs))
+    _ _ _ _ _ (rw (c.in-Ok.ensures.opens.stays, c.in-Ok.ensures.unwritten, c.many_files-many.ensures, c.in-Some.is) at c.run_at_paths-in-Ok.ensures.runs))
 
 -- memory was refused for the paths in the list
 pub returns-in_err-paths-in-Ok-clause-runs : goal.returns-in_err-paths-in-Ok-clause-runs

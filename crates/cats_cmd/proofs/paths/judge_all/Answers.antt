@@ -1,12 +1,13 @@
 -- `judge_all`
-use Rattle.cats_cmd.proofs.Common.{ℕ, List, [], Bor, Ok, Err, arith, refl}
+use Rattle.cats_cmd.proofs.Common.{[], FilePath, Ok, Err, arith, refl}
 use Rattle.cats_cmd.proofs.RunsOfPaths.{sends_same}
 use Rattle.cats_cmd.proofs.JudgingPaths.{all_ended, all_judged, fault_above, first_judged, none_judged, path_more, path_unsent, sent_status}
 use Rattle.cats_cmd.proofs.Opening.{opens_next, opens_none, opens_some}
+use Rattle.cats_cmd.specs.declared.source.Way.TheVariants.{Anything}
 use Rattle.cats_cmd.proofs.paths.judge_all.Goals as goal
 
-abbrev nowhere : Bor (List ℕ)
-nowhere = record { ref_ptr = (0, 0); now = [] }
+abbrev nowhere : FilePath
+nowhere = record { path = record { ref_ptr = (0, 0); now = [] }; way = Anything }
 
 pub loop-number-init : goal.loop-number-init
 loop-number-init g c = record {
@@ -27,7 +28,7 @@ loop-number-preserved g c =
           (Ok c.in_ok-sent.sent) c.as_slice.ensures.value c.in_ok-sent.ensures)
           c.max-greatest.ensures;
       works = c.in_ok-sent.ensures.1.works;
-      opens = opens_next _ _ _ _ _ _ paths number nowhere c.loop-number-test.true c.loop-number.invariant.opens c.judge_path.ensures.opens;
+      opens = opens_next _ _ _ _ _ paths number nowhere c.loop-number-test.true c.loop-number.invariant.opens c.judge_path.ensures.opens;
     }
 
 pub returns-clause-judges : goal.returns-clause-judges
@@ -47,7 +48,7 @@ returns-in_err-status-clause-judges g c =
 
 pub returns-in_err-status-clause-opens : goal.returns-in_err-status-clause-opens
 returns-in_err-status-clause-opens g c =
-    opens_some _ _ _ _ _ _ c.args.work.now.paths.now c.loop-number.number nowhere c.loop-number-test.true c.loop-number.invariant.opens
+    opens_some _ _ _ _ _ c.args.work.now.paths.now c.loop-number.number nowhere c.loop-number-test.true c.loop-number.invariant.opens
     c.judge_path.ensures.opens _ (fault_above _ (omega arith) _ c.from_residual.ensures.1)
 
 pub returns-in_err-sent-clause-judges : goal.returns-in_err-sent-clause-judges
@@ -64,5 +65,5 @@ returns-in_err-sent-clause-judges g c =
 
 pub returns-in_err-sent-clause-opens : goal.returns-in_err-sent-clause-opens
 returns-in_err-sent-clause-opens g c =
-    opens_some _ _ _ _ _ _ c.args.work.now.paths.now c.loop-number.number nowhere c.loop-number-test.true c.loop-number.invariant.opens
+    opens_some _ _ _ _ _ c.args.work.now.paths.now c.loop-number.number nowhere c.loop-number-test.true c.loop-number.invariant.opens
     c.judge_path.ensures.opens _ (fault_above _ (sent_status _ _ _ _ _ _ c.in_err-sent.ensures) _ c.from_residual-in_err-sent.ensures.1)

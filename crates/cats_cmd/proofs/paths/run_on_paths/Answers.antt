@@ -16,7 +16,7 @@ returns-in_err-sent-clause-runs g c =
 
 pub returns-in_err-sent-clause-opens : goal.returns-in_err-sent-clause-opens
 returns-in_err-sent-clause-opens g c =
-    inr (run_above _ (sent_status _ _ _ _ _ _ c.in_err-sent.ensures) _ c.from_residual-in_err-sent.ensures.1, opens_first_none _ _ _ _ _)
+    inr (run_above _ (sent_status _ _ _ _ _ _ c.in_err-sent.ensures) _ c.from_residual-in_err-sent.ensures.1, opens_first_none _ _ _ _)
 
 pub returns-in_err-text-clause-runs : goal.returns-in_err-text-clause-runs
 returns-in_err-text-clause-runs g c =

@@ -10,16 +10,16 @@ pub returns-in_default-clause-runs : goal.returns-in_default-clause-runs
 returns-in_default-clause-runs g c =
     let into : c.unwrap_or-folder.result.now ≡ unwrap_or (option_map (λ f. f.now) c.args.request.now.folder) [] =
     ap (λ folder. folder.now) c.unwrap_or-folder.ensures ∙ folder_if c.args.request.now.folder _ refl in
-    rw c.in_default.is (published _ _ _ _ _ _ _ _ _ _ _ _ _ _ _ _ _ _ _ _ _ _ c.in_ok-places.ensures
+    rw c.in_default.is (published _ _ _ _ _ _ _ _ _ _ _ _ _ _ _ _ _ _ _ _ _ _ c.in_ok-places.ensures.places
     (ap (map (λ path. path.now)) c.as_slice-in_default.ensures.value ∙ c.in_ok-paths.ensures ∙ ap texts_of c.as_slice.ensures.value)
     (rw (c.many_files-many.ensures, c.as_slice-in_default-2.ensures.value, into) at
     c.publish_into.ensures.runs))
 
 pub returns-in_default-clause-opens : goal.returns-in_default-clause-opens
 returns-in_default-clause-opens g c =
-    rw c.in_default.is (opens_placed _ _ _ _ _ _ _ _ _ _ c.in_ok-places.ensures
+    rw c.in_default.is (opens_placed _ _ _ _ _ _ _ _ _ _ (rw (c.many_files-many.ensures, c.in_default.is) at c.in_ok-places.ensures.openings)
     (ap (map (λ path. path.now)) c.as_slice-in_default.ensures.value ∙ c.in_ok-paths.ensures ∙ ap texts_of c.as_slice.ensures.value)
-    (rw (c.many_files-many.ensures, c.as_slice-in_default-2.ensures.value) at c.publish_into.ensures.opens))
+    (rw c.as_slice-in_default-2.ensures.value at c.publish_into.ensures.opens))
 
 -- memory was refused for the paths in the list
 pub returns-in_err-paths-in-Ok-clause-runs : goal.returns-in_err-paths-in-Ok-clause-runs
@@ -40,7 +40,7 @@ returns-in_ok-places-in-Ok-clause-runs g c =
     let same =
     ap (map (λ path. path.now)) c.as_slice-in-Ok-2.ensures.value ∙ c.in_ok-paths-in-Ok.ensures ∙ ap paths_in c.as_slice-in-Ok.ensures.value in
     rw c.in-Some.is (list_run _ _ _ _ _ _ c.in-Some.list.now c.in-Ok.text.items c.in-Ok.ensures.read _ refl _ _ _ _ _
-    (published _ _ _ _ _ _ _ _ _ _ _ _ _ _ _ _ _ _ _ _ _ _ (rw c.in-Ok.ensures.opens.stays at c.in_ok-places-in-Ok.ensures) same
+    (published _ _ _ _ _ _ _ _ _ _ _ _ _ _ _ _ _ _ _ _ _ _ (rw c.in-Ok.ensures.opens.stays at c.in_ok-places-in-Ok.ensures.places) same
     (rw (
       c.in-Ok.ensures.opens.stays,
       c.in-Ok.ensures.unwritten,
@@ -59,8 +59,8 @@ returns-in_ok-places-in-Ok-clause-opens g c =
       rest = inl (record {
         bytes = c.in-Ok.text.items;
         reads = c.in-Ok.ensures.read;
-        opens = opens_placed _ _ _ _ _ _ _ _ _ _ c.in_ok-places-in-Ok.ensures same
-            (rw (c.many_files-many.ensures, c.as_slice-in-Ok-3.ensures.value) at c.publish_into-in-Ok.ensures.opens);
+        opens = opens_placed _ _ _ _ _ _ _ _ _ _ (rw (c.many_files-many.ensures, c.in-Some.is) at c.in_ok-places-in-Ok.ensures.openings) same
+            (rw c.as_slice-in-Ok-3.ensures.value at c.publish_into-in-Ok.ensures.opens);
       });
     })
 
