@@ -374,7 +374,7 @@ def unread(folder):
     folders = [refusal(path, is_folder) for path in (top, top + b"/b")]
     for call, rest, wanted in (
         ("folder", False, folders),
-        ("folder", True, [folders[0], refusal(top + b"/b", denied)]),
+        ("folder", True, [refusal(path, denied) for path in (top, top + b"/b")]),
         ("names", False, folders),
         ("look", False, [own, folders[1], *(refusal(path, denied) for path in paths)]),
     ):

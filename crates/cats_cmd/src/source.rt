@@ -164,7 +164,7 @@ fn open<F: Files>(files: &F, path: &str) -> Result<F::File, Unopened> {
 fn open_file<F: Files>(files: &F, path: &str) -> Result<F::File, Unopened> {
     let file = open(files, path)?;
     match file.metadata() {
-        Ok(metadata) if metadata.is_dir() => Err(Unopened::IsFolder),
+        Ok(metadata) if metadata.is_dir() => Err(folder_reason(files, path)),
         _ => Ok(file),
     }
 }
