@@ -1,8 +1,12 @@
--- The texts of files in memory, as contracts list them.
+-- The texts of files in memory, as contracts list them, and the folder that is there.
 use Rattle.std.proofs.Common.{◌≡◌, ◌||◌, ℕ, Bool, true, false, List, [], ◌∷◌, ◌++◌, map, refl, sym, ap, ap₂, ◌∙◌, Some, Vec, Global}
+use Rattle.std.proofs.Common.{codes}
 use Rattle.std.proofs.lemmas.List.{map-append}
+use Rattle.std.proofs.lemmas.List.Elements.{All-nil, All-push}
 use Rattle.std.specs.List.{list_any}
+use Rattle.std.specs.List.Sorted.{IsStrictlySortedBy}
 use Rattle.std.specs.Str.{bytes_eq}
+use Rattle.cats_cmd.specs.Folders.{IsBelow, ListsFolder}
 use Rattle.cats_cmd.specs.Stores.{MayHave}
 use Rattle.commands.specs.declared.faults.Unwritten.{Unwritten}
 use Rattle.commands.specs.declared.faults.Unwritten.TheVariants.{Exists}
@@ -35,3 +39,10 @@ pub more_shown : (path text : List ℕ) (texts new : List Entry) (p t : Vec ℕ 
     → map shown new ≡ map shown texts ++ (path, text) ∷ []
 more_shown path text texts new p t is is_path is_text =
     ap (map shown) is ∙ map-append shown texts ((p, t) ∷ []) ∙ ap₂ (λ (a b : List ℕ). map shown texts ++ (a, b) ∷ []) is_path is_text
+
+-- the file below the folder
+pub lists_tree : (path file : List ℕ) → path ≡ codes "tree" → file ≡ codes "tree/one" → ListsFolder path (file ∷ [])
+unfolding IsStrictlySortedBy
+lists_tree path file is is_file =
+    let below = IsBelow (codes "tree") in
+    rw (is, is_file) (record { below = All-push below [] (codes "tree/one") (All-nil below) (codes "one", refl); sorted = (tt, tt) })
