@@ -5,7 +5,7 @@ ghost use Rattle.std.specs.Borrow.{Bor};
 ghost use Rattle.std.specs.List.{Any, list_any};
 ghost use Rattle.std.specs.Str.{bytes_eq};
 ghost use Rattle.commands.specs.declared.faults.Unwritten.TheVariants.{Exists};
-ghost use Rattle.std.specs.Prelude.{◌≡◌, ◌⊎◌, if◌then◌else◌, ℕ, IfErr, IfOk, List, [], ◌∷◌, None, Some, codes, false, map};
+ghost use Rattle.std.specs.Prelude.{◌≡◌, ◌⊎◌, ℕ, IfErr, IfOk, List, [], ◌∷◌, None, Some, codes, false, map};
 ghost use Rattle.cats_text.specs.Streams.{has_failed};
 ghost use Rattle.commands.specs.declared.faults.Unopened.{Unopened};
 ghost use Rattle.commands.specs.declared.faults.Unopened.TheVariants.{NoSuchFile};
@@ -80,8 +80,8 @@ impl<'a> Source for FilesInMemory<'a> {
 
     ghost may_refuse = { λ content path why. Any (λ r. (r.0.now ≡ path) × (r.1 ≡ why)) content.1 ⊎ (why ≡ NoSuchFile) };
 
-    ghost may_find = { λ _ path found. found
-        ≡ (if bytes_eq path (codes "tree") then Some (codes "tree/one" ∷ []) else None) };
+    ghost may_find = { λ _ path found. (found ≡ None)
+        ⊎ ((path ≡ codes "tree") × (found ≡ Some (codes "tree/one" ∷ []))) };
 
     ghost opened = { λ source. Some source.openings.list };
 
@@ -100,8 +100,9 @@ impl<'a> Source for FilesInMemory<'a> {
         if path != "tree" {
             return Ok(None);
         }
+        let file = Vec::from_slice(alloc, b"tree/one")?;
         let mut files = Vec::new(alloc);
-        files.push(Vec::from_slice(alloc, b"tree/one")?)?;
+        files.push(file)?;
         Ok(Some(files))
     }
 
