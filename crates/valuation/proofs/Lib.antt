@@ -20,4 +20,5 @@ pub mod PricesLeft
 pub mod RatesSoFar
 pub mod Listed
 pub mod Choosing
+pub mod Deciding
 pub mod SearchesInTurn
