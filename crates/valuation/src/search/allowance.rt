@@ -3,7 +3,7 @@ ghost use Rattle.std.specs.Prelude.{◌≡◌, ◌+◌, ◌<◌, true, false, if
 ghost use Rattle.valuation.specs.Internal.ValueSearch.{charge_if};
 
 /// So many goods are looked at for a step.
-const GOODS_A_STEP: usize = 1_000;
+pub(crate) const GOODS_A_STEP: usize = 1_000;
 
 /// The steps that are left, if they have a limit.
 #[derive(Clone, Copy, Debug, Drop)]
