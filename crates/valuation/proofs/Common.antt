@@ -62,8 +62,7 @@ pub use Rattle.valuation.specs.Lemmas.Packings.{chosen_indices-nil, chosen_indic
 pub use Rattle.valuation.specs.Lemmas.Packings.{price_sum-packing, IsPacking-unleft, IsPacking-none, price_sum-chosen}
 pub use Rattle.valuation.specs.Lemmas.Packings.{chosen_indices-best}
 pub use Rattle.valuation.specs.Lemmas.Permutations.{from_permutation}
-pub use Rattle.valuation.specs.Lemmas.SearchLimits.{is_one_over-first, is_one_over-later, is_one_over-none, options_after_all-cons, options_after_all-none}
-pub use Rattle.valuation.specs.Lemmas.SearchLimits.{options_after_all-one, is_one_over-one, is_one_over-cons, is_one_over-append}
+pub use Rattle.valuation.specs.Lemmas.SearchLimits.{options_after_all-one, is_one_over-one}
 pub use Rattle.valuation.specs.Lemmas.SearchSteps.{cut_steps-zero, cut_steps-short, cut_steps-outside, cut_steps-reached, cut_steps-missed, found_indices-zero}
 pub use Rattle.valuation.specs.Lemmas.SearchSteps.{found_indices-taken, found_indices-outside, found_indices-missed, cut_steps-nil, cut_within_packings}
 pub use Rattle.valuation.specs.Lemmas.SearchSteps.{found_indices-packing}
