@@ -14,7 +14,7 @@ ghost use Rattle.cats_cmd.specs.Escaping.{escaped};
 ghost use Rattle.cats_cmd.specs.Duplicates.{heavy_paths, judged_paths};
 ghost use Rattle.cats_cmd.specs.Folders.{ListsFolder, files_at, with_slash};
 ghost use Rattle.cats_cmd.specs.TextPaths.{Collides, leads_below, own_name, text_places_at};
-ghost use Rattle.cats_cmd.specs.Opening.{with_openings};
+ghost use Rattle.cats_cmd.specs.Opening.{openings_at, with_openings};
 ghost use Rattle.std.specs.List.{flat_map};
 ghost use Rattle.cats_cmd.specs.PathLists.{paths_in};
 ghost use Rattle.cats_cmd.specs.declared.paths.Ending.TheVariants.{Line, Null};
@@ -242,11 +242,14 @@ pub fn paths_listed()
         ∷ ([] ∷ []) ∷ (codes "a" ∷ codes "a" ∷ []) ∷ (codes "a\nb" ∷ []) ∷ [] ∷ [] }
 {}
 
-/// What a source has opened: known openings and more of them, or unknown ones.
+/// What a source has opened: known openings and more of them, or unknown ones; and how what is at two paths is opened.
 pub fn paths_opened()
     ensures known { with_openings (Some ((codes "a", Anything) ∷ [])) ((codes "b", Regular) ∷ (codes "a", NoFolder) ∷ [])
         ≡ Some ((codes "a", Anything) ∷ (codes "b", Regular) ∷ (codes "a", NoFolder) ∷ []) }
     ensures unknown { with_openings None ((codes "b", Regular) ∷ []) ≡ None }
+    ensures found { flat_map (openings_at NoFolder) (record { path = codes "a"; found = None }
+        ∷ record { path = codes "d"; found = Some (codes "d/b" ∷ codes "d/c" ∷ []) } ∷ [])
+        ≡ (codes "a", NoFolder) ∷ (codes "d/b", Regular) ∷ (codes "d/c", Regular) ∷ [] }
 {}
 
 /// Where texts are written: below a folder that is named the file's path, and else its own name. A path that leads out is
