@@ -10,7 +10,7 @@ mod places;
 mod streams;
 mod whole_files;
 
-use bid_file::BidFile;
+use bid_file::{BidFile, Bids};
 use cats_text::packed::read_packed;
 use cats_text::{Kind, MAX_STREAM, ReadFault, Reader, read, write};
 use std::alloc::{AllocError, Global};
@@ -42,6 +42,11 @@ fn sizes(alloc: Global, text: &[u8]) -> Result<(u16, usize, u32), ReadFault> {
     Ok((file.goods(), file.bids().len(), file.dummy()))
 }
 
+/// Asserts the numbers of goods, bids and dummies of a file.
+fn assert_sizes<B: Bids>(rt: &impl Abort, file: &B, want: (u16, usize, u32)) {
+    assert_eq!(rt; (file.goods(), file.len(), file.dummy()), want);
+}
+
 /// The text of the file that a text spells.
 fn written(alloc: Global, text: &[u8]) -> Result<Vec<u8>, Fail> {
     let file = read(alloc, text)?;
@@ -65,6 +70,17 @@ fn many(alloc: Global, byte: u8, count: usize) -> Result<Vec<u8>, AllocError> {
 /// Asserts that these are the bytes.
 fn assert_bytes(rt: &impl Abort, bytes: &[u8], want: &[u8]) {
     assert_eq!(rt; bytes, want);
+}
+
+/// Asserts what is written of a file.
+fn assert_written<B: Bids>(
+    rt: &impl Abort,
+    alloc: Global,
+    file: &B,
+    want: &[u8],
+) -> Result<(), Fail> {
+    assert_bytes(rt, &write(alloc, file)?, want);
+    Ok(())
 }
 
 /// Asserts that this is the fault of a text, or that it has none.

@@ -66,6 +66,15 @@ pub fn singles(alloc: Global, count: u16, price: u64) -> Result<Bidder, AllocErr
     Ok(bids)
 }
 
+/// So many bids on good 0, each at a price of 1.
+pub fn alike(alloc: Global, count: u16) -> Result<Bidder, AllocError> {
+    let mut bids = Vec::new(alloc);
+    for _bid in 0..count {
+        push_bid(alloc, &mut bids, &[0], 1)?;
+    }
+    Ok(bids)
+}
+
 /// The goods below `count`.
 pub fn goods_below(alloc: Global, count: u16) -> Result<Vec<u16>, AllocError> {
     (0..count).collect(alloc)

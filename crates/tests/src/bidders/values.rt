@@ -1,7 +1,7 @@
 //! Values, on both kinds of sets. Each call is made with ample memory, so that it has to succeed.
 
 use crate::bidders::bids::{
-    LADDER, PricedGoods, TRIPLE, atoms_on, bundle_of, goods_below, push_bid, row_on, singles,
+    LADDER, ListAtom, PricedGoods, TRIPLE, alike, atoms_on, bundle_of, goods_below, row_on, singles,
 };
 use bid_file::limits::MAX_PRICE;
 use goods_set::{GoodsSet, ListSet, WordSet};
@@ -68,11 +68,17 @@ fn or_row<S: GoodsSet>(rt: &impl Abort, alloc: Global, row: &OrRow) -> Result<()
     Ok(())
 }
 
+fn xor_row<S: GoodsSet>(rt: &impl Abort, alloc: Global, row: &XorRow) -> Result<(), Fail> {
+    let (bids, goods, wanted) = *row;
+    let atoms = row_on::<S>(rt, alloc, bids)?;
+    let bundle = bundle_of::<S>(rt, alloc, goods)?;
+    assert_eq!(rt; xor_value(&atoms, &bundle), wanted, "of {bids:?}");
+    Ok(())
+}
+
 fn values_of_rows<S: GoodsSet>(rt: &impl Abort, alloc: Global) -> Result<(), Fail> {
-    for (bids, goods, found) in XOR_ROWS {
-        let atoms = row_on::<S>(rt, alloc, bids)?;
-        let bundle = bundle_of::<S>(rt, alloc, goods)?;
-        assert!(rt; xor_value(&atoms, &bundle) == *found, "of {bids:?}");
+    for row in XOR_ROWS {
+        xor_row::<S>(rt, alloc, row)?;
     }
     for row in OR_ROWS {
         or_row::<S>(rt, alloc, row)?;
@@ -93,19 +99,45 @@ fn expect_step_limit(rt: &impl Abort, answer: Result<Packing, ValueFault>) {
     assert_eq!(rt; fault, ValueFault::StepLimit);
 }
 
+// The search found this value, and these indices of the atoms.
+fn expect_packing(
+    rt: &impl Abort,
+    answer: Result<Packing, ValueFault>,
+    value: u128,
+    members: &[usize],
+) {
+    let packing = answer.expect(rt, "a value");
+    assert_eq!(rt;
+        (packing.value, packing.members.as_slice()),
+        (value, members)
+    );
+}
+
+// The bids and the goods, and the limits within which nothing is found and the packing is.
+fn expect_least_limit<S: GoodsSet>(
+    rt: &impl Abort,
+    alloc: Global,
+    (bids, goods): (&[ListAtom], &[u16]),
+    limits: (u64, u64),
+    (value, members): (u128, &[usize]),
+) -> Result<(), Fail> {
+    let atoms = atoms_on::<S>(rt, alloc, bids)?;
+    let bundle = bundle_of::<S>(rt, alloc, goods)?;
+    expect_step_limit(rt, or_value(alloc, &atoms, &bundle, limits.0));
+    let answer = or_value(alloc, &atoms, &bundle, limits.1);
+    expect_packing(rt, answer, value, members);
+    Ok(())
+}
+
 const ALL_PLACES: &[usize] = &[
     0, 1, 2, 3, 4, 5, 6, 7, 8, 9, 10, 11, 12, 13, 14, 15, 16, 17, 18,
 ];
 
+// There are 2 to the 19 packings.
 fn greatest_prices<S: GoodsSet>(rt: &impl Abort, alloc: Global) -> Result<(), Fail> {
-    let atoms = atoms_on::<S>(rt, alloc, &singles(alloc, 19, MAX_PRICE)?)?;
-    let bundle = bundle_of::<S>(rt, alloc, &goods_below(alloc, 19)?)?;
-    // 2 to the 19 packings
-    let packing = or_value(alloc, &atoms, &bundle, 524_288).expect(rt, "a value");
-    assert_eq!(rt; packing.value, 19_000_000_000_000_000_000);
-    assert_eq!(rt; packing.members.as_slice(), ALL_PLACES);
-    expect_step_limit(rt, or_value(alloc, &atoms, &bundle, 524_287));
-    Ok(())
+    let (bids, goods) = (singles(alloc, 19, MAX_PRICE)?, goods_below(alloc, 19)?);
+    let found = (19_000_000_000_000_000_000, ALL_PLACES);
+    expect_least_limit::<S>(rt, alloc, (&bids, &goods), (524_287, 524_288), found)
 }
 
 // The sum is above what 64 bits hold.
@@ -136,19 +168,17 @@ fn search_stops_at_its_limit(rt: HostRuntime) -> Result<(), Fail> {
 }
 
 // Of so many bids on one good a packing has one or none, and the last is the one that is chosen.
-fn many_alike<S: GoodsSet>(rt: &impl Abort, alloc: Global, count: usize) -> Result<(), Fail> {
-    assert!(rt; count > 0 && count < 10_000);
-    let mut bids = Vec::new(alloc);
-    for _i in 0..count {
-        push_bid(alloc, &mut bids, &[0], 1)?;
-    }
-    let atoms = atoms_on::<S>(rt, alloc, &bids)?;
-    let bundle = bundle_of::<S>(rt, alloc, &[0, 1])?;
-    let packing = or_value(alloc, &atoms, &bundle, count as u64 + 1).expect(rt, "a value");
-    assert_eq!(rt; packing.value, 1);
-    assert_eq!(rt; packing.members.as_slice(), [count - 1].as_slice());
-    expect_step_limit(rt, or_value(alloc, &atoms, &bundle, count as u64));
-    Ok(())
+fn many_alike<S: GoodsSet>(rt: &impl Abort, alloc: Global, count: u16) -> Result<(), Fail> {
+    let bids = alike(alloc, count)?;
+    let packings = u64::from(count) + 1;
+    let last = usize::from(count.saturating_sub(1));
+    expect_least_limit::<S>(
+        rt,
+        alloc,
+        (&bids, &[0, 1]),
+        (packings - 1, packings),
+        (1, &[last]),
+    )
 }
 
 // Up to 128 bids have a row each, more have a mask for each good, and more than 4,096 have masks that grow.

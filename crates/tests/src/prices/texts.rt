@@ -1,10 +1,29 @@
 //! Whole texts.
 
 use crate::prices::{REFUSED, ROUNDED, multiplied};
-use cats_text::Kind;
+use cats_text::Kind::TooFine;
+use cats_text::ReadFault;
 use rounding::replacement::FinePrices;
-use rounding::text::{round, round_prices};
+use rounding::text::{RoundedText, round, round_prices};
+use std::process::Abort;
 use std::test::Fail;
+
+/// Asserts what a text became, and the line, the price and the word of its one price that was rounded.
+fn assert_rounded(
+    rt: &impl Abort,
+    rounded: &RoundedText,
+    text: &[u8],
+    line: u64,
+    (price, word): (u64, &[u8]),
+) {
+    assert!(rt; rounded.text.as_slice() == text);
+    assert_eq!(rt; rounded.prices.len(), 1);
+    let one = &rounded.prices[0];
+    assert_eq!(rt;
+        (one.line, one.price, one.word.as_slice()),
+        (line, price, word)
+    );
+}
 
 /// A text with CR and LF, comments, tabs, and no LF at its end, and what it becomes.
 static TEXT: &[u8] =
@@ -15,23 +34,11 @@ static WANT: &[u8] =
 
 #[test]
 fn prices_of_a_text(rt: HostRuntime) -> Result<(), Fail> {
-    match round(rt.alloc(), TEXT, ROUNDED) {
-        Ok(rounded) => {
-            assert!(rt; rounded.text.as_slice() == WANT);
-            assert_eq!(rt; rounded.prices.len(), 1);
-            assert_eq!(rt; rounded.prices[0].line, 9);
-            assert_eq!(rt; rounded.prices[0].price, 12_346);
-            assert!(rt; rounded.prices[0].word.as_slice() == b"0.0123456".as_slice());
-        }
-        Err(fault) => assert_eq!(rt; fault.line, 1_000),
-    }
-    match round(rt.alloc(), TEXT, REFUSED) {
-        Ok(_) => assert!(rt; false),
-        Err(fault) => {
-            assert_eq!(rt; fault.line, 9);
-            assert!(rt; fault.kind == Kind::TooFine);
-        }
-    }
+    let rounded = round(rt.alloc(), TEXT, ROUNDED)?;
+    assert_rounded(&rt, &rounded, WANT, 9, (12_346, b"0.0123456"));
+    let (line, kind) = (9, TooFine);
+    let refused = round(rt.alloc(), TEXT, REFUSED).err();
+    assert_eq!(rt; refused, Some(ReadFault { line, kind }));
     Ok(())
 }
 
@@ -43,11 +50,7 @@ static WITH_PRICES: &[u8] = b"goods 2\nbids 1\ndummy 0\n0 0 9 #\n1 2.5 x";
 #[test]
 fn prices_of_any_text(rt: HostRuntime) -> Result<(), Fail> {
     let rounded = round_prices(rt.alloc(), NO_FILE, ROUNDED)?;
-    assert!(rt; rounded.text.as_slice() == WITH_PRICES);
-    assert_eq!(rt; rounded.prices.len(), 1);
-    assert_eq!(rt; rounded.prices[0].line, 4);
-    assert_eq!(rt; rounded.prices[0].price, 0);
-    assert!(rt; rounded.prices[0].word.as_slice() == b"1e-7".as_slice());
+    assert_rounded(&rt, &rounded, WITH_PRICES, 4, (0, b"1e-7"));
     Ok(())
 }
 
@@ -60,9 +63,7 @@ static MILLIONS: &[u8] = b"goods 2\nbids 3\ndummy 0\n0 2 0 #\n1\t3.1 1 #\n2 1000
 #[test]
 fn a_million_times_the_prices(rt: HostRuntime) -> Result<(), Fail> {
     let rounded = round_prices(rt.alloc(), SMALL, multiplied(FinePrices::Round, 6))?;
-    assert!(rt; rounded.text.as_slice() == MILLIONS);
-    assert_eq!(rt; rounded.prices.len(), 1);
-    assert_eq!(rt; rounded.prices[0].line, 6);
-    assert_eq!(rt; rounded.prices[0].price, 1_000_000_000_001);
+    let word = b"1.0000000000006";
+    assert_rounded(&rt, &rounded, MILLIONS, 6, (1_000_000_000_001, word));
     Ok(())
 }

@@ -60,13 +60,22 @@ fn expect_left<S: GoodsSet>(
     Ok(())
 }
 
+// Whether the set is inside the other, whether they are apart, and their order.
+fn expect_relation<S: GoodsSet>(
+    rt: &impl Abort,
+    set: &S,
+    other: &S,
+    relation: (bool, bool, Ordering),
+) {
+    let found = (set.is_inside(other), set.is_apart(other), set.order(other));
+    assert_eq!(rt; found, relation);
+}
+
 fn compare_pair<S: GoodsSet>(rt: &impl Abort, alloc: Global, pair: &Pair) -> Result<(), Fail> {
     let (goods, others, inside, apart, order, left) = *pair;
     let set = set_of::<S>(rt, alloc, goods)?;
     let other = set_of::<S>(rt, alloc, others)?;
-    assert!(rt; set.is_inside(&other) == inside);
-    assert!(rt; set.is_apart(&other) == apart);
-    assert!(rt; set.order(&other) == order);
+    expect_relation(rt, &set, &other, (inside, apart, order));
     expect_left(rt, alloc, set, &other, left)
 }
 
@@ -128,16 +137,16 @@ const MANY: [u16; 17] = [
 // What is seen of a set is the same whether or not it has held many goods.
 fn hold_many(rt: &impl Abort, alloc: Global, many: &ListSet) -> Result<(), Fail> {
     expect_goods(rt, &goods_of(alloc, many)?, &MANY);
-    expect_goods(rt, &goods_of(alloc, &many.copy()?)?, &MANY);
     let mut left = many.copy()?;
+    expect_goods(rt, &goods_of(alloc, &left)?, &MANY);
     left.take_out(&ListSet::from_slice(alloc, &MANY[8..])?);
     expect_goods(rt, &goods_of(alloc, &left)?, &MANY[..8]);
     let few = ListSet::from_slice(alloc, &MANY[..8])?;
-    assert!(rt; left.order(&few) == Ordering::Equal);
-    assert!(rt; sort_key(&left) == sort_key(&few));
-    assert!(rt; left.is_inside(&few) && few.is_inside(&left));
-    assert!(rt; few.is_inside(many) && !many.is_inside(&few));
-    assert!(rt; few.order(many) == Ordering::Less);
+    assert_eq!(rt; sort_key(&left), sort_key(&few));
+    expect_relation(rt, &left, &few, (true, false, Ordering::Equal));
+    expect_relation(rt, &few, &left, (true, false, Ordering::Equal));
+    expect_relation(rt, &few, many, (true, false, Ordering::Less));
+    expect_relation(rt, many, &few, (false, false, Ordering::Greater));
     expect_left(rt, alloc, few, &left, &[])
 }
 
@@ -189,8 +198,8 @@ fn words_past_the_last_lanes_count(rt: HostRuntime) -> Result<(), Fail> {
     let mut both = set_of::<WordSet<17>>(&rt, alloc, &[3, 1_087])?;
     let three = set_of::<WordSet<17>>(&rt, alloc, &[3])?;
     let last = set_of::<WordSet<17>>(&rt, alloc, &[1_087])?;
-    assert!(rt; !both.is_inside(&three));
-    assert!(rt; !both.is_apart(&last));
+    expect_relation(&rt, &both, &three, (false, false, Ordering::Greater));
+    expect_relation(&rt, &both, &last, (false, false, Ordering::Greater));
     both.take_out(&last);
     expect_goods(&rt, &goods_of(alloc, &both)?, &[3]);
     Ok(())
@@ -199,8 +208,7 @@ fn words_past_the_last_lanes_count(rt: HostRuntime) -> Result<(), Fail> {
 #[test]
 fn sixty_four_words(rt: HostRuntime) -> Result<(), Fail> {
     let set = set_of::<WordSet<64>>(&rt, rt.alloc(), &[4_095, 0])?;
-    assert_eq!(rt; set.size(), 2);
-    assert_eq!(rt; set.next_from(1), Some(4_095));
-    assert_eq!(rt; set.next_from(4_096), None);
+    let found = (set.size(), set.next_from(1), set.next_from(4_096));
+    assert_eq!(rt; found, (2, Some(4_095), None));
     Ok(())
 }

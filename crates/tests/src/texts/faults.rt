@@ -6,6 +6,8 @@ use cats_text::Kind::{
     RepeatedGood, RepeatedNumber, TooFine, TooLarge, TwoDummies,
 };
 use cats_text::{Kind, ReadFault, SendFault};
+use std::alloc::{AllocError, Global};
+use std::process::Abort;
 use std::test::Fail;
 
 /// Texts, and the lines and kinds of their faults: in the header, behind other headers and bids, and where a number is above
@@ -113,16 +115,25 @@ static BID_LINES: &[(&[u8], Kind)] = rows! {
     (b"0 1 0\r #", NotANumber),
 };
 
+/// Asserts that a text is refused, by each way of reading it.
+fn assert_refused(
+    rt: &impl Abort,
+    alloc: Global,
+    text: &[u8],
+    line: u64,
+    kind: Kind,
+) -> Result<(), AllocError> {
+    assert_outcome(rt, alloc, text, &Err(ReadFault { line, kind }))
+}
+
 #[test]
 fn faults_of_texts(rt: HostRuntime) -> Result<(), Fail> {
     for (text, line, kind) in TEXTS {
-        let (line, kind) = (*line, *kind);
-        assert_outcome(&rt, rt.alloc(), text, &Err(ReadFault { line, kind }))?;
+        assert_refused(&rt, rt.alloc(), text, *line, *kind)?;
     }
     for (line, kind) in BID_LINES {
         let text = joined(rt.alloc(), &[b"goods 2\nbids 1\ndummy 0\n", line, b"\n"])?;
-        let (line, kind) = (4, *kind);
-        assert_outcome(&rt, rt.alloc(), &text, &Err(ReadFault { line, kind }))?;
+        assert_refused(&rt, rt.alloc(), &text, 4, *kind)?;
     }
     Ok(())
 }

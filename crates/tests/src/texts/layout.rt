@@ -3,11 +3,10 @@
 ghost use Rattle.std.specs.Prelude.{◌≡◌, IfOk};
 ghost use Rattle.bid_file.specs.Files.{plain_bid};
 
-use super::assert_bytes;
+use super::{assert_bytes, assert_sizes, assert_written};
 use bid_file::{Bid, BidFile};
 use cats_text::packed::read_packed;
 use cats_text::price::push_price;
-use cats_text::write;
 use std::alloc::{AllocError, Global};
 use std::test::Fail;
 
@@ -25,10 +24,8 @@ fn bid(alloc: Global, price: u64, goods: &[u16], dummy: Option<u32>) -> Result<B
 #[test]
 fn minimal_file(rt: HostRuntime) -> Result<(), Fail> {
     let file = BidFile::new(0, 0, Vec::new(rt.alloc()));
-    assert_eq!(rt; (file.goods(), file.bids().len(), file.dummy()), (0, 0, 0));
-    let text = write(rt.alloc(), &file)?;
-    assert_bytes(&rt, &text, b"goods 0\nbids 0\ndummy 0\n");
-    Ok(())
+    assert_sizes(&rt, &file, (0, 0, 0));
+    assert_written(&rt, rt.alloc(), &file, b"goods 0\nbids 0\ndummy 0\n")
 }
 
 #[test]
@@ -38,13 +35,8 @@ fn cats_layout(rt: HostRuntime) -> Result<(), Fail> {
     bids.push(bid(rt.alloc(), 7_500_000, &[1], None)?)?;
     let file = BidFile::new(3, 1, bids);
     let want = b"goods 3\nbids 2\ndummy 1\n0\t20\t0\t2\t3\t#\n1\t7.5\t1\t#\n";
-    assert_bytes(&rt, &write(rt.alloc(), &file)?, want);
-    assert_bytes(
-        &rt,
-        &write(rt.alloc(), &read_packed(rt.alloc(), want)?)?,
-        want,
-    );
-    Ok(())
+    assert_written(&rt, rt.alloc(), &file, want)?;
+    assert_written(&rt, rt.alloc(), &read_packed(rt.alloc(), want)?, want)
 }
 
 #[test]

@@ -1,9 +1,9 @@
 //! Files that are accepted, and how they are written.
 
-use super::{assert_bytes, assert_outcome, sizes};
+use super::{assert_bytes, assert_outcome, assert_sizes, assert_written, sizes};
 use bid_file::{Bid, PackedBids, PackedFile};
 use cats_text::packed::check;
-use cats_text::{Kind, MAX_STREAM, ReadFault, Reader, Watched, read, read_from, send, write};
+use cats_text::{Kind, MAX_STREAM, ReadFault, Reader, Watched, read, read_from, send};
 use std::alloc::Global;
 use std::process::Abort;
 use std::test::Fail;
@@ -114,12 +114,10 @@ fn bids_as_values(rt: HostRuntime) -> Result<(), Fail> {
 fn pieces_and_streams(rt: HostRuntime) -> Result<(), Fail> {
     let mut reader = Reader::new(rt.alloc(), MAX_STREAM);
     reader.feed(CATS)?;
-    assert_eq!(rt; reader.finish()?.bids().len(), 2);
+    assert_sizes(&rt, &reader.finish()?, (3, 2, 1));
     let mut input = Watched::new(CATS);
-    let file = read_from(rt.alloc(), &mut input)?;
-    let reported = (file.bids().len(), input.ended(), input.failed());
-    assert_eq!(rt; reported, (2, true, false));
-    assert!(rt; input.into_inner().is_empty());
+    assert_sizes(&rt, &read_from(rt.alloc(), &mut input)?, (3, 2, 1));
+    assert!(rt; input.ended() && !input.failed() && input.into_inner().is_empty());
     let mut out = Watched::new(Vec::new(rt.alloc()));
     send(&mut out, CATS)?;
     assert_bytes(&rt, &out.into_inner(), CATS);
@@ -137,7 +135,6 @@ fn makes_a_packed_file(rt: HostRuntime) -> Result<(), Fail> {
     let (price, goods, dummy) = bids.at(1);
     assert_eq!(rt; (price, goods.len(), dummy), (7_000_000, 1, None));
     let file = PackedFile::new(3, 1, bids);
-    assert_eq!(rt; (file.goods(), file.dummy(), file.bids().len()), (3, 1, 2));
-    assert_bytes(&rt, &write(alloc, &file)?, WRITTEN_CATS);
-    Ok(())
+    assert_sizes(&rt, &file, (3, 2, 1));
+    assert_written(&rt, alloc, &file, WRITTEN_CATS)
 }

@@ -70,13 +70,11 @@ fn header_sizes(answer: Result<Header, ReadFault>) -> Sizes {
 /// Asserts what a way of reading answered, and how it left the reader.
 fn assert_read(rt: &impl Abort, stream: &Stream, answer: Sizes, input: Watched<ByteReader<'_>>) {
     let (text, _, _, sizes, ended, failed, calls) = *stream;
-    assert_eq!(rt; answer, sizes, "of {text:?}");
-    assert_eq!(rt;
-        (input.ended(), input.failed()),
-        (ended, failed),
+    let left = (input.ended(), input.failed(), input.into_inner().calls);
+    assert!(rt;
+        answer == sizes && left == (ended, failed, calls),
         "of {text:?}"
     );
-    assert_eq!(rt; input.into_inner().calls, calls, "of {text:?}");
 }
 
 #[test]

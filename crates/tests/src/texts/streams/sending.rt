@@ -20,9 +20,11 @@ fn assert_sent(rt: &impl Abort, inner: &StepWriter, text: &[u8], answer: Result<
         Ok(()) => all,
         Err(fault) => fault.written,
     };
-    assert_eq!(rt; inner.taken.len() as u64, written);
-    assert!(rt; text.starts_with(&inner.taken));
-    assert_eq!(rt; inner.flushes, if written == all { 1 } else { 0 });
+    let is_right = inner.taken.len() as u64 == written && text.starts_with(&inner.taken);
+    assert!(rt;
+        is_right && inner.flushes == u64::from(written == all),
+        "{written} bytes"
+    );
 }
 
 /// Asserts what a writer makes of a text that is sent.
