@@ -111,16 +111,26 @@ fn requests(rt: HostRuntime) -> Result<(), Fail> {
     Ok(())
 }
 
+/// That a line has the right answer.
+fn expect_right(
+    rt: &impl Abort,
+    line: &str,
+    answer: &Result<Request<'_>, NoRequest>,
+    is_right: bool,
+) {
+    assert!(rt; is_right, "of {line}: {answer:?}");
+}
+
 #[test]
 fn help_and_version(rt: HostRuntime) {
     let alloc = rt.alloc();
     let help = parse(alloc, VERSION, &[], &["cats", "help", "check"]);
     let is_help = matches!(&help, Err(NoRequest::Help(text)) if text.contains("Usage: cats check"));
-    assert!(rt; is_help, "{help:?}");
+    expect_right(&rt, "help check", &help, is_help);
     let version = parse(alloc, "1.2 (test)", &[], &["cats", "--version"]);
     let is_version =
         matches!(&version, Err(NoRequest::Help(text)) if text.as_str() == "cats 1.2 (test)\n");
-    assert!(rt; is_version, "{version:?}");
+    expect_right(&rt, "--version", &version, is_version);
 }
 
 /// Command lines that are no request: among them two lists, a list without its path, and `-0` twice.
@@ -172,21 +182,24 @@ static MISUSES: &[(&str, Misuse)] = rows! {
 #[test]
 fn wrong_lines(rt: HostRuntime) -> Result<(), Fail> {
     let nothing = parse(rt.alloc(), VERSION, &[], &[]);
-    assert!(rt;
-        matches!(&nothing, Err(NoRequest::WrongUsage(_))),
-        "{nothing:?}"
-    );
+    let is_wrong = matches!(&nothing, Err(NoRequest::WrongUsage(_)));
+    expect_right(&rt, "", &nothing, is_wrong);
     for line in WRONG_LINES {
         let words = words_of(rt.alloc(), line)?;
         let answer = parse(rt.alloc(), VERSION, &[], words.as_slice());
         let is_wrong = matches!(&answer, Err(NoRequest::WrongUsage(text)) if !text.is_empty());
-        assert!(rt; is_wrong, "of {line}: {answer:?}");
+        expect_right(&rt, line, &answer, is_wrong);
     }
+    Ok(())
+}
+
+#[test]
+fn misused_lines(rt: HostRuntime) -> Result<(), Fail> {
     for (line, misuse) in MISUSES {
         let words = words_of(rt.alloc(), line)?;
         let answer = parse(rt.alloc(), VERSION, &[], words.as_slice());
         let is_misuse = matches!(&answer, Err(NoRequest::Misused(why)) if why == misuse);
-        assert!(rt; is_misuse, "of {line}: {answer:?}");
+        expect_right(&rt, line, &answer, is_misuse);
     }
     Ok(())
 }

@@ -16,6 +16,7 @@ mod lines;
 mod lp;
 mod many_files;
 mod memory;
+mod new_folder;
 mod normalise;
 mod opened;
 mod openings;

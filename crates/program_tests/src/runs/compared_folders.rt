@@ -1,10 +1,8 @@
 //! `cats compare` on two folders, on new ones.
 
-use super::program::run_words;
-use super::streams::expect;
-use std::process::Abort;
+use super::new_folder::{Row, folder_with, judge_rows};
+use std::fs;
 use std::test::Fail;
-use std::{fs, process};
 
 /// The folders, each with its path in the new one, those above first.
 static FOLDERS: [&str; 6] = ["", "/1", "/1/a", "/2", "/2/a", "/3"];
@@ -37,9 +35,6 @@ static FILES: [(&str, &str); 13] = [
     ("/3/d", FIVE),
 ];
 
-/// A command line, and what it answers: its status, its output and what it reports. `@` is the path of the new folder.
-type Row = (&'static str, u8, &'static str, &'static str);
-
 static ROWS: &[Row] = rows! {
     // one folder twice, with a slash and without
     ("cats compare @/3 @/3/", 0, "file\tverdict\tfault\n", ""),
@@ -62,36 +57,8 @@ static ROWS: &[Row] = rows! {
 
 #[test]
 fn compared_folders(rt: HostRuntime) -> Result<(), Fail> {
-    let alloc = rt.alloc();
-    let id = process::id(rt.process());
-    let start = format!(in alloc; "/tmp/cats_compared_{id}")?;
-    for folder in &FOLDERS {
-        let path = format!(in alloc; "{start}{folder}")?;
-        fs::create_dir(&rt, path.as_str())?;
-    }
-    for (file, text) in &FILES {
-        let path = format!(in alloc; "{start}{file}")?;
-        fs::write(&rt, path.as_str(), *text)?;
-    }
-    for row in ROWS {
-        judge_row(&rt, &rt, start.as_str(), row)?;
-    }
+    let start = folder_with(&rt, "compared", &FOLDERS, &FILES)?;
+    judge_rows(&rt, &rt, start.as_str(), ROWS)?;
     fs::remove_dir_all(&rt, start.as_str())?;
     Ok(())
 }
-
-fn judge_row(rt: &HostRuntime, abort: &impl Abort, start: &str, row: &Row) -> Result<(), Fail> {
-    let alloc = rt.alloc();
-    let line = row.0.replace(alloc, '@', start)?;
-    let sent = row.2.replace(alloc, '@', start)?;
-    let reported = row.3.replace(alloc, '@', start)?;
-    let mut words = Vec::new(alloc);
-    for word in line.split(' ') {
-        words.push(word)?;
-    }
-    let answer = run_words(rt, words.as_slice(), CAPACITY, CAPACITY)?;
-    expect(abort, &answer, row.1, sent.as_str(), reported.as_str());
-    Ok(())
-}
-
-const CAPACITY: usize = 65_536;

@@ -2,12 +2,12 @@
 
 use super::each_command::words_of;
 use super::memory::{Files, FilesInMemory, answer_on};
-use super::program::run_words;
-use super::streams::{RunAnswer, expect, writer};
+use super::new_folder::{self, folder_with, judge_rows};
+use super::streams::{expect, writer};
 use std::alloc::{AllocError, AllocGlobal, Global};
+use std::fs;
 use std::process::Abort;
 use std::test::Fail;
-use std::{fs, process};
 
 static FILES: Files<'_> = rows! {
     ("x/one", b"goods 1\nbids 2\ndummy 0\n0 3 0 #\n1 2 0 #\n"),
@@ -93,48 +93,36 @@ fn files_are_published(rt: HostRuntime) -> Result<(), Fail> {
     Ok(())
 }
 
-const CAPACITY: usize = 65_536;
+/// The folders and the files of a new folder, those above first: two files of one auction.
+static FOLDERS: [&str; 4] = ["", "/in", "/in/a", "/in/b"];
 
-/// A line, in which `@` is the path of a new folder with the files `in/a/z` and `in/b/z` of one auction, and what is
-/// answered.
-static LINES: &[(&str, u8, &str, &str)] = rows! {
-    ("cats publish @/out @/in", 0, "\n@/in/a/z\ta/z\t\t1\t1\t1\t0\t0\t\n@/in/b/z\t\t@/in/a/z\t1\t1\t1\t0\t0\t\n", ""),
+static NEW_FILES: [(&str, &str); 2] = [("/in/a/z", SAME), ("/in/b/z", SAME)];
+
+const SAME: &str = "goods 1\nbids 1\ndummy 0\n0 3 0 #\n";
+
+static LINES: &[new_folder::Row] = rows! {
+    ("cats publish @/out @/in", 0,
+     "file\ttext\tsame_as\tgoods\tbids\tkept\trounded\tzeroed\tfault\n\
+     @/in/a/z\ta/z\t\t1\t1\t1\t0\t0\t\n@/in/b/z\t\t@/in/a/z\t1\t1\t1\t0\t0\t\n", ""),
     ("cats publish @/out @/in", 5, "", "@/out/a/z: cannot write: it exists already\n"),
-    ("cats publish @/out @/in/b", 0, "\n@/in/b/z\tz\t\t1\t1\t1\t0\t0\t\n", ""),
+    ("cats publish @/out @/in/b", 0,
+     "file\ttext\tsame_as\tgoods\tbids\tkept\trounded\tzeroed\tfault\n@/in/b/z\tz\t\t1\t1\t1\t0\t0\t\n", ""),
     ("cats publish @/deep/out @/in --all", 0,
-     "\n@/in/a/z\ta/z\t\t1\t1\t1\t0\t0\t\n@/in/b/z\tb/z\t@/in/a/z\t1\t1\t1\t0\t0\t\n", ""),
+     "file\ttext\tsame_as\tgoods\tbids\tkept\trounded\tzeroed\tfault\n\
+     @/in/a/z\ta/z\t\t1\t1\t1\t0\t0\t\n@/in/b/z\tb/z\t@/in/a/z\t1\t1\t1\t0\t0\t\n", ""),
     ("cats publish @/out/z @/in", 5, "", "@/out/z: cannot write: not a folder\n"),
     ("cats publish @/else @/in/a @/in/b", 64, "",
      "@/in/b/z: cannot write: its text would be at or below that of @/in/a/z\n"),
 };
 
-fn answer_in(rt: &HostRuntime, line: &str) -> Result<RunAnswer, Fail> {
-    let words = words_of(rt.alloc(), line, "", "")?;
-    run_words(rt, words.as_slice(), CAPACITY, CAPACITY)
-}
-
 #[test]
 fn folders_are_published(rt: HostRuntime) -> Result<(), Fail> {
-    let alloc = rt.alloc();
-    let id = process::id(rt.process());
-    let start = format!(in alloc; "/tmp/cats_publish_{id}")?;
-    for name in ["a", "b"] {
-        let folder = format!(in alloc; "{start}/in/{name}")?;
-        fs::create_dir_all(&rt, folder.as_str())?;
-        let file = format!(in alloc; "{folder}/z")?;
-        fs::write(&rt, file.as_str(), "goods 1\nbids 1\ndummy 0\n0 3 0 #\n")?;
-    }
-    for (line, status, sent, reported) in LINES {
-        let answer = answer_in(&rt, line.replace(alloc, '@', start.as_str())?.as_str())?;
-        let sent = sent.replace(alloc, '@', start.as_str())?;
-        let head = if sent.is_empty() { "" } else { HEADER };
-        let sent = format!(in alloc; "{head}{sent}")?;
-        let reported = reported.replace(alloc, '@', start.as_str())?;
-        expect(&rt, &answer, *status, sent.as_str(), reported.as_str());
-    }
-    let text = format!(in alloc; "{start}/out/a/z")?;
-    let text = fs::read_to_string(&rt, text.as_str())?;
+    let start = folder_with(&rt, "publish", &FOLDERS, &NEW_FILES)?;
+    let start = start.as_str();
+    judge_rows(&rt, &rt, start, LINES)?;
+    let path = format!(in rt.alloc(); "{start}/out/a/z")?;
+    let text = fs::read_to_string(&rt, path.as_str())?;
     assert!(&rt; text.as_str() == "goods 1\nbids 1\ndummy 0\n0\t3\t0\t#\n");
-    fs::remove_dir_all(&rt, start.as_str())?;
+    fs::remove_dir_all(&rt, start)?;
     Ok(())
 }
