@@ -3,7 +3,8 @@
 use crate::prices::{REFUSED, ROUNDED, multiplied};
 use cats_text::Kind;
 use rounding::replacement::FinePrices;
-use rounding::text::{round, round_prices};
+use rounding::rounder::Rounder;
+use rounding::text::{RoundedText, round, round_prices};
 use std::test::Fail;
 
 /// A text with CR and LF, comments, tabs, and no LF at its end, and what it becomes.
@@ -32,6 +33,24 @@ fn prices_of_a_text(rt: HostRuntime) -> Result<(), Fail> {
             assert!(rt; fault.kind == Kind::TooFine);
         }
     }
+    Ok(())
+}
+
+#[test]
+fn prices_of_a_text_in_pieces(rt: HostRuntime) -> Result<(), Fail> {
+    let mut rounder = Rounder::new(rt.alloc(), ROUNDED);
+    let mut rounded = RoundedText::new(rt.alloc());
+    rounder.push(rt.alloc(), b"goods 2\nbids 2\ndummy 0\n0 0.00", &mut rounded)?;
+    assert!(rt; rounded.text.as_slice() == b"goods 2\nbids 2\ndummy 0\n".as_slice());
+    rounded.clear();
+    rounder.push(rt.alloc(), b"00015 1 #\n", &mut rounded)?;
+    rounder.push(rt.alloc(), b"1 2e0 0 #\r", &mut rounded)?;
+    rounder.finish(rt.alloc(), &mut rounded)?;
+    assert!(rt; rounded.text.as_slice() == b"0 0.000002 1 #\n1 2 0 #\r".as_slice());
+    assert_eq!(rt; rounded.prices.len(), 1);
+    assert_eq!(rt; rounded.prices[0].line, 4);
+    assert_eq!(rt; rounded.prices[0].price, 2);
+    assert!(rt; rounded.prices[0].word.as_slice() == b"0.0000015".as_slice());
     Ok(())
 }
 
